@@ -130,7 +130,7 @@ sdws_length (y ∷ ys) zero x (suc j) same = refl
 sdws_length (y ∷ ys) (suc k) x zero same = refl
 sdws_length (y ∷ ys) (suc k) x (suc j) same = sdws_length ys k x j same
 
-relink_there : (st : Storage) (c : CutDescriptor) (ds : List CutDescriptor) → AreThere st ds
+pub relink_there : (st : Storage) (c : CutDescriptor) (ds : List CutDescriptor) → AreThere st ds
     → AreThere (with_relink st c) ds
 relink_there st c [] h = tt
 relink_there st c (d ∷ ds) h = (

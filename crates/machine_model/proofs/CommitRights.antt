@@ -180,7 +180,7 @@ from_quota ns d next amount = record { each = λ u n less h. map_from change uid
 -- ---- the commands
 
 -- pages that are cut leave the tree, the principals and the numbers
-record LeavesNames (old now : Storage) : Type 0 where
+pub record LeavesNames (old now : Storage) : Type 0 where
   pub nodes : now.accounts.nodes ≡ old.accounts.nodes
   pub whos : now.whos ≡ old.whos
   pub known : now.links.known ≡ old.links.known
@@ -225,7 +225,7 @@ cut_names st u p at ptw.Null = record { nodes = refl; whos = refl; known = refl 
 cut_names st u p at (ptw.Out n) = record { nodes = refl; whos = refl; known = refl }
 cut_names st u p at (ptw.Here f) = record { nodes = refl; whos = refl; known = refl }
 
-truncated_names : (st : Storage) (u words : ℕ) → LeavesNames st (with_truncated st u words)
+pub truncated_names : (st : Storage) (u words : ℕ) → LeavesNames st (with_truncated st u words)
 truncated_names st u words = by (eqb (words % 1024) 0)
   where
     by : (b : Bool) → LeavesNames st (without_pages (cond b st (with_cut st u (words / 1024) (words % 1024)
@@ -238,7 +238,7 @@ truncated_names st u words = by (eqb (words % 1024) 0)
         (pages_names (with_cut st u (words / 1024) (words % 1024) (word_of st.ast u (words / 1024))) u
         (pages_past st u words))
 
-inactive_names : (old st : Storage) (u : ℕ) → LeavesNames old st → LeavesNames old (inactive_if st u)
+pub inactive_names : (old st : Storage) (u : ℕ) → LeavesNames old st → LeavesNames old (inactive_if st u)
 inactive_names old st u h = by (is_active st.ast u)
   where
     by : (b : Bool) → LeavesNames old (cond b (with_inactive st u) st)

@@ -130,7 +130,7 @@ pub record SameNames (s t : State) : Type 0 where
   pub known : t.store.links.known ≡ s.store.links.known
   pub processors : t.processors ≡ s.processors
 
-on : (s t u : State) → SameNames s t → SameNames t u → SameNames s u
+pub on : (s t u : State) → SameNames s t → SameNames t u → SameNames s u
 on s t u a b = record {
   nodes = b.nodes ∙ a.nodes;
   whos = b.whos ∙ a.whos;
@@ -145,14 +145,14 @@ names_kept s t same h = subst (λ (ns : List Node). HoldEntitled ns t.store.whos
     t.processors) (sym same.known)
     (subst (HoldEntitled s.store.accounts.nodes s.store.whos s.store.links.known) (sym same.processors) h)))
 
-one_taken : (s : State) (c : ℕ) (a : Aim) (w : What) (f : ℕ) → SameNames s (take_one s c a w f)
+pub one_taken : (s : State) (c : ℕ) (a : Aim) (w : What) (f : ℕ) → SameNames s (take_one s c a w f)
 one_taken s c a w f = by (bound_page (frame_in s.store.pages f))
   where
     by : (x : Option (ℕ × ℕ)) → SameNames s (record (take_one s c a w f) { store = leaving_if s.store f x })
     by None = record { nodes = refl; whos = refl; known = refl; processors = refl }
     by (Some page) = record { nodes = refl; whos = refl; known = refl; processors = refl }
 
-all_taken : (s : State) (c : ℕ) (a : Aim) (w : What) (fs : List ℕ) (pairs : List (ℕ × ℕ))
+pub all_taken : (s : State) (c : ℕ) (a : Aim) (w : What) (fs : List ℕ) (pairs : List (ℕ × ℕ))
     → SameNames s (took s c a w fs pairs)
 all_taken s c a w fs pairs = let like = took_like s c a w fs pairs in record {
   nodes = ap (λ (x : AccountMaps). x.nodes) like.accounts;
@@ -166,11 +166,11 @@ all_gone s [] = record { nodes = refl; whos = refl; known = refl; processors = r
 all_gone s (d ∷ ds) = on s (seg_gone s d) (segs_gone s (d ∷ ds))
     (record { nodes = refl; whos = refl; known = refl; processors = refl }) (all_gone (seg_gone s d) ds)
 
-is_emptied : (s : State) (c u : ℕ) → SameNames s (emptied s c u)
+pub is_emptied : (s : State) (c u : ℕ) → SameNames s (emptied s c u)
 is_emptied s c u = on s (segs_gone s (cut_of_owner s.owner)) (emptied s c u) (all_gone s (cut_of_owner s.owner))
     (record { nodes = refl; whos = refl; known = refl; processors = refl })
 
-segment : (s : State) (c u : ℕ) (fs : List ℕ) (pairs : List (ℕ × ℕ)) → SameNames s (segment_taken s c u fs pairs)
+pub segment : (s : State) (c u : ℕ) (fs : List ℕ) (pairs : List (ℕ × ℕ)) → SameNames s (segment_taken s c u fs pairs)
 segment s c u [] [] = is_emptied s c u
 segment s c u [] (x ∷ xs) = all_taken s c (aim.Deactivating u) (what.Seg u) [] (x ∷ xs)
 segment s c u (f ∷ fs) pairs = all_taken s c (aim.Deactivating u) (what.Seg u) (f ∷ fs) pairs
@@ -182,31 +182,31 @@ one_back s f = by (bound_page (frame_in s.store.pages f))
     by None = record { nodes = refl; whos = refl; known = refl; processors = refl }
     by (Some page) = record { nodes = refl; whos = refl; known = refl; processors = refl }
 
-all_pages_back : (s : State) (fs : List ℕ) → SameNames s (pages_back s fs)
+pub all_pages_back : (s : State) (fs : List ℕ) → SameNames s (pages_back s fs)
 all_pages_back s [] = record { nodes = refl; whos = refl; known = refl; processors = refl }
 all_pages_back s (f ∷ fs) = on s (page_back s f) (pages_back s (f ∷ fs)) (one_back s f)
     (all_pages_back (page_back s f) fs)
 
-all_segs_back : (s : State) (ds : List CutDescriptor) → SameNames s (segs_back s ds)
+pub all_segs_back : (s : State) (ds : List CutDescriptor) → SameNames s (segs_back s ds)
 all_segs_back s [] = record { nodes = refl; whos = refl; known = refl; processors = refl }
 all_segs_back s (d ∷ ds) = on s (seg_back s d) (segs_back s (d ∷ ds))
     (record { nodes = refl; whos = refl; known = refl; processors = refl }) (all_segs_back (seg_back s d) ds)
 
-hand : (s : State) (pool : ℕ) (chain : List ℕ) → SameNames s (with_store s (with_hand_moved s.store pool chain))
+pub hand : (s : State) (pool : ℕ) (chain : List ℕ) → SameNames s (with_store s (with_hand_moved s.store pool chain))
 hand s pool chain = by (first_off_chain s.store.ast pool chain)
   where
     by : (x : Option ℕ) → SameNames s (with_store s (record s.store { ast = hand_past s.store.ast pool x }))
     by None = record { nodes = refl; whos = refl; known = refl; processors = refl }
     by (Some place) = record { nodes = refl; whos = refl; known = refl; processors = refl }
 
-page_left : (s : State) (f : ℕ) → SameNames s (page_done s f)
+pub page_left : (s : State) (f : ℕ) → SameNames s (page_done s f)
 page_left s f = by (left_of (words_in s.store.pages f))
   where
     by : (how : Left) → SameNames s (record (page_done s f) { store = with_left s.store f how (page_in s.store f) })
     by left.Released = record { nodes = refl; whos = refl; known = refl; processors = refl }
     by left.Kept = record { nodes = refl; whos = refl; known = refl; processors = refl }
 
-evicted : (s : State) (c f : ℕ) → SameNames s (eviction_done s c f)
+pub evicted : (s : State) (c f : ℕ) → SameNames s (eviction_done s c f)
 evicted s c f = by (left_of (words_in s.store.pages f))
   where
     by : (how : Left) → SameNames s (record (eviction_done s c f) {

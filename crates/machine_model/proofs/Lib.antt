@@ -55,6 +55,7 @@ pub mod LookLaws
 pub mod LoopLaws
 pub mod MoveAsks
 pub mod MoveSeen
+pub mod NumberLaws
 pub mod OffChain
 pub mod OneProcess
 pub mod OuterLaws
@@ -72,12 +73,15 @@ pub mod OutlineWaits
 pub mod OwnedLaws
 pub mod OwnerLaws
 pub mod PageShown
+pub mod PathsKept
 pub mod Places
 pub mod PoolRoom
 pub mod QuotaTotals
 pub mod RankLaws
+pub mod ReadKept
 pub mod ReadLaws
 pub mod Replies
+pub mod Returnable
 pub mod RuleKept
 pub mod RuleLaws
 pub mod RulesKept

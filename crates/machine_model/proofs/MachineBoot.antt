@@ -6,6 +6,7 @@ use Rattle.std.proofs.lemmas.Bool.Decides.{eqb_tells}
 use Rattle.std.proofs.lemmas.List.{get_or-replicate}
 use Rattle.script.specs.Forms.{BeginsWithInitializer, IsPlan}
 use Rattle.script.specs.Plans.{Plan, ProcessPlan}
+use Rattle.processor.specs.declared.Transfer.{Transfer}
 use Rattle.custody_model.specs.Custody.{has, range}
 use Rattle.machine_model.specs.Boot.{booted, first_run}
 use Rattle.machine_model.specs.Custodial.{AreDistinct}
@@ -25,6 +26,10 @@ module _ (p : Plan) (words : List (List ℕ)) (disks : List (List (List ℕ))) (
   -- no processor has a process
   nobody : (d k : ℕ) → (cpu_at (replicate p.processors no_processor) d).process ≡ Some k → ⊥
   nobody d k h = none_some (sym (ap (λ (x : Processor). x.cpu.process) (at_fill p.processors no_processor d)) ∙ h)
+
+  reads_nothing : (d : ℕ) (t : Transfer) → (cpu_at (replicate p.processors no_processor) d).transfer ≡ Some t → ⊥
+  reads_nothing d t h =
+      none_some (sym (ap (λ (x : Processor). x.cpu.transfer) (at_fill p.processors no_processor d)) ∙ h)
 
   goes : (k : ℕ) → k < length p.processes → (run_at (replicate (length p.processes) first_run) k).ended ≡ false
   goes k h = ap (λ (r : Run). r.ended) (get_or-replicate (length p.processes) k first_run no_run h)
@@ -74,5 +79,6 @@ module _ (p : Plan) (words : List (List ℕ)) (disks : List (List (List ℕ))) (
       pools = refl;
     };
     entitled = record { each = λ d k h. absurd (nobody d k h) };
+    reading = record { each = λ d t h. absurd (reads_nothing d t h) };
     working = none_work (booted p words disks) refl;
   }

@@ -16,7 +16,8 @@ use Rattle.machine_model.proofs.PoolsKept.{SamePools, pools_kept}
 use Rattle.machine_model.proofs.RulesKept.{action_can}
 use Rattle.machine_model.proofs.ScheduleKept.{schedule_kept}
 use Rattle.machine_model.proofs.StepAsks.{Rests, step_asks}
-use Rattle.machine_model.proofs.StepGoes.{comes, may_schedule, may_work}
+use Rattle.machine_model.proofs.ReadKept.{IsPast, is_past, reading_kept}
+use Rattle.machine_model.proofs.StepGoes.{comes, may_read, may_schedule, may_work}
 use Rattle.machine_model.proofs.StepKept.{CanDo, after_keeps}
 use Rattle.machine_model.proofs.StepKnows.{Knows, step_knows}
 use Rattle.machine_model.proofs.WorkStep.{work_kept}
@@ -31,18 +32,18 @@ module _ (s : State) (c : ℕ) (o : Outcome) (all : KeepsAll s) (there : c < len
   entitles _ kept = tt
 
   -- an action that may be done, of which the rules know what they do
-  done : (a : act.Action) → CanDo s c o a → Rests s c o a → Knows s c a
-      → KeepsAll (after s c a o)
-  done a can rests knows = record {
+  done : (a : act.Action) → CanDo s c o a → Knows s c a → IsPast s c a → KeepsAll (after s c a o)
+  done a can knows past = record {
     machine = record {
       keeps = keeps;
       script = subst IsPlan (sym pools.plan) m.script;
-      come = comes s c o m there a rests knows;
-      scheduled = schedule_kept s c o m.scheduled there a (may_schedule s c o m there a can rests knows);
+      come = comes s c o m there all.reading a can knows;
+      scheduled = schedule_kept s c o m.scheduled there a (may_schedule s c o m there all.reading a can knows);
       pools = pools.sizes ∙ (m.pools ∙ ap (λ (p : Plan). p.pools) (sym pools.plan));
     };
     entitled = entitled_kept s c o m.keeps there all.entitled a can (entitles a keeps);
-    working = work_kept s c o m all.working a (may_work s c o m there a can rests knows) keeps;
+    reading = reading_kept s c o m there all.reading a (may_read s c o m there all.reading a can knows past) keeps;
+    working = work_kept s c o m all.working a (may_work s c o m there all.reading a can knows) keeps;
   }
     where
       keeps : Keeps (after s c a o)
@@ -51,10 +52,10 @@ module _ (s : State) (c : ℕ) (o : Outcome) (all : KeepsAll s) (there : c < len
       pools : SamePools s (after s c a o)
       pools = pools_kept s c a o
 
-  -- Each step keeps the whole promise, whichever processor makes it: where a page can't be read in and where a command
-  -- takes effect what is left of the premises is given.
+  -- Each step keeps the whole promise, whichever processor makes it: where a command takes effect what is left of the
+  -- premises is given.
   pub step_keeps_all : Says s c o (action_of s c) → Rests s c o (action_of s c)
       → KeepsAll (after s c (action_of s c) o)
   step_keeps_all says rests = done (action_of s c)
-      (action_can s c o m.keeps there (step_asks s c o m there all.entitled all.working says rests)) rests
-      (step_knows s c o m there all.working)
+      (action_can s c o m.keeps there (step_asks s c o m there all.entitled all.reading all.working says rests))
+      (step_knows s c o m there all.working) (is_past s c)

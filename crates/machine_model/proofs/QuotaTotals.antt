@@ -222,7 +222,7 @@ pub node_found : (ns : List Node) (path : List (List ℕ)) (n : Node) → node_a
 unfolding node_at
 node_found ns path n h = walked_found ns (walk_in ns path) n h
 
-only_found : (r : Result Node Reply) (n : Node) → only_segment r ≡ Ok n → (r ≡ Ok n) × (n.directory ≡ false)
+pub only_found : (r : Result Node Reply) (n : Node) → only_segment r ≡ Ok n → (r ≡ Ok n) × (n.directory ≡ false)
 only_found (Err e) n h = absurd (let no : Err e ≡ Ok n = h in cc)
 only_found (Ok m) n h = by m.directory refl h
   where

@@ -76,7 +76,7 @@ all_cut : (s : State) (c : ℕ) (a : Aim) (w : What) (pairs : List (ℕ × ℕ))
 all_cut s c a w [] = still refl refl refl refl
 all_cut s c a w (x ∷ xs) = sits_on (still refl refl refl refl) (all_cut (cut_one s c a w x) c a w xs)
 
-all_taken : (s : State) (c : ℕ) (a : Aim) (w : What) (fs : List ℕ) (pairs : List (ℕ × ℕ))
+pub all_taken : (s : State) (c : ℕ) (a : Aim) (w : What) (fs : List ℕ) (pairs : List (ℕ × ℕ))
     → Sits s (took s c a w fs pairs)
 all_taken s c a w fs pairs = sits_on (taken s c a w fs) (all_cut (take_all s c a w fs) c a w pairs)
 
@@ -84,10 +84,10 @@ all_gone : (s : State) (ds : List CutDescriptor) → Sits s (segs_gone s ds)
 all_gone s [] = still refl refl refl refl
 all_gone s (d ∷ ds) = sits_on (still refl refl refl refl) (all_gone (seg_gone s d) ds)
 
-is_emptied : (s : State) (c u : ℕ) → Sits s (emptied s c u)
+pub is_emptied : (s : State) (c u : ℕ) → Sits s (emptied s c u)
 is_emptied s c u = sits_on (all_gone s (cut_of_owner s.owner)) (still refl refl refl refl)
 
-segment : (s : State) (c u : ℕ) (fs : List ℕ) (pairs : List (ℕ × ℕ)) → Sits s (segment_taken s c u fs pairs)
+pub segment : (s : State) (c u : ℕ) (fs : List ℕ) (pairs : List (ℕ × ℕ)) → Sits s (segment_taken s c u fs pairs)
 segment s c u [] [] = is_emptied s c u
 segment s c u [] (x ∷ xs) = all_taken s c (aim.Deactivating u) (what.Seg u) [] (x ∷ xs)
 segment s c u (f ∷ fs) pairs = all_taken s c (aim.Deactivating u) (what.Seg u) (f ∷ fs) pairs

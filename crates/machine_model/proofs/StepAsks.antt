@@ -47,6 +47,7 @@ use Rattle.machine_model.specs.Holding.{seen}
 use Rattle.machine_model.specs.Jobs.{are_zeros, left_of}
 use Rattle.machine_model.specs.Keeps.{Keeps}
 use Rattle.machine_model.specs.Promise.{IsMachine}
+use Rattle.machine_model.specs.Reading.{IsReading, Wants}
 use Rattle.machine_model.specs.Reads.{cpu_at, cut_of_owner, descriptor_of, flat_of, frames_of_owner, is_due}
 use Rattle.machine_model.specs.Reads.{next_command}
 use Rattle.machine_model.specs.Reads.{or_zero, process_at, processor_at}
@@ -64,6 +65,7 @@ use Rattle.machine_model.proofs.RuleKept.{process_here}
 use Rattle.machine_model.proofs.SaysLaws.{deactivated_says, eviction_failed_says, evicted_says, evicting_says}
 use Rattle.machine_model.proofs.SaysLaws.{page_failed_says}
 use Rattle.machine_model.proofs.SaysLaws.{page_left_says, read_says, started_says}
+use Rattle.machine_model.proofs.ReadKept.{read_fails}
 use Rattle.machine_model.proofs.ScheduleKept.{IsAnswering}
 use Rattle.tree_model.specs.Tree.{Node, node_in}
 use Rattle.custody_model.specs.Allowed.{superior_in}
@@ -95,6 +97,15 @@ pub record ReadsFor (s : State) (c : ℕ) : Type 0 where
   pub its : (cpu_at s.processors c).process ≡ Some (process_at s c)
   pub may : MayFailBy s.store (process_at s c) (next_command s (process_at s c))
 
+-- each that has a transfer under way does
+pub reads_for : (s : State) (c : ℕ) (t : Transfer) → Keeps s → IsReading s
+    → (cpu_at s.processors c).transfer ≡ Some t → ReadsFor s c
+reads_for s c t keeps reading mine = let r = reading.each c t mine in let same = ap or_zero r.its in record {
+  its = r.its ∙ ap (λ (x : ℕ). Some x) (sym same);
+  may = read_fails s c t keeps mine (process_at s c) (next_command s (process_at s c))
+      (subst (λ (j : ℕ). Wants s.store.accounts.nodes s.store.links.known j t (next_command s j)) (sym same) r.wants);
+}
+
 pub reads_answering : (s : State) (c : ℕ) → IsMachine s → c < length s.processors → ReadsFor s c → IsAnswering s c
 reads_answering s c m there r = let one = speaks s c (process_at s c) m there r.its in record {
   process = process_at s c;
@@ -105,9 +116,8 @@ reads_answering s c m there r = let one = speaks s c (process_at s c) m there r.
       one.0 (subst (MayFailBy s.store (process_at s c)) one.1.next r.may);
 }
 
--- Where a page can't be read in, that the failure may be told; of a command that takes from use, that it is out of use.
+-- Of a command that takes from use, that it is out of use.
 abbrev pub Rests : State → ℕ → Outcome → act.Action → Type 0
-Rests s c o (act.EndTransfer t) = o.failed ≡ true → ReadsFor s c
 Rests s c o act.Commit = RestsCommit s c (next_command s (process_at s c))
 Rests s c o _ = Unit {0}
 
@@ -168,7 +178,7 @@ release_may s f u p k bound released = record {
     zeros false e i = absurd (let none : left.Kept ≡ left.Released = i in cc)
 
 module _ (s : State) (c : ℕ) (o : Outcome) (m : IsMachine s) (there : c < length s.processors)
-    (entitled : IsEntitledToAll s) (working : IsWorking s) where
+    (entitled : IsEntitledToAll s) (reading : IsReading s) (working : IsWorking s) where
   abbrev p : Processor
   p = processor_at s.processors c
 
@@ -409,7 +419,7 @@ module _ (s : State) (c : ℕ) (o : Outcome) (m : IsMachine s) (there : c < leng
   transfer_follows : (x : Option Transfer) → p.cpu.transfer ≡ x → Follows s c o (transfer_or s c p x)
   transfer_follows (Some t) e = λ says rests. record {
     well = λ h. (says.never_less, read_says s c o t m.keeps says h);
-    ill = λ h. (let r = rests h in let one = speaks s c k m there r.its in
+    ill = λ h. (let r = reads_for s c t m.keeps reading e in let one = speaks s c k m there r.its in
         (read_asks s c o t one.0 m.keeps one.1 (subst (MayFailBy s.store k) one.1.next r.may) (says.counted h)
         (failed_says s c o t m.keeps says h)).0);
   }

@@ -7,13 +7,15 @@ use Rattle.machine_model.specs.Actions as act
 use Rattle.machine_model.specs.After.{Outcome, after}
 use Rattle.machine_model.specs.Foreseen.{AllCome, Comes, MayAnswer}
 use Rattle.machine_model.specs.Promise.{IsMachine}
-use Rattle.machine_model.specs.Reads.{cpu_at, or_zero, process_at, run_at}
+use Rattle.machine_model.specs.Reading.{IsReading}
+use Rattle.machine_model.specs.Reads.{cpu_at, process_at, run_at}
 use Rattle.machine_model.specs.Scheduled.{MayRun}
 use Rattle.machine_model.specs.State.{State}
 use Rattle.machine_model.specs.Steps.{is_its_end, transfer_failed, transferred, with_faults}
 use Rattle.machine_model.proofs.ComingKept.{all_come, come_same, tells}
+use Rattle.machine_model.proofs.ReadKept.{IsPast, MayRead}
 use Rattle.machine_model.proofs.ScheduleKept.{IsAnswering, MaySchedule}
-use Rattle.machine_model.proofs.StepAsks.{Rests, reads_answering}
+use Rattle.machine_model.proofs.StepAsks.{reads_answering, reads_for}
 use Rattle.machine_model.proofs.StepKept.{CanDo, due_other, empty_other, online_other}
 use Rattle.machine_model.proofs.StepKnows.{AnswersOne, Knows}
 use Rattle.machine_model.proofs.TransferKept.{reader_no_owner}
@@ -47,118 +49,152 @@ answering s c a = record {
   more = ap is_its_end a.speaks.next ∙ a.more;
 }
 
-module _ (s : State) (c : ℕ) (o : Outcome) (m : IsMachine s) (there : c < length s.processors) where
-  pub may_schedule : (a : act.Action) → CanDo s c o a → Rests s c o a → Knows s c a → MaySchedule s c o a
-  may_schedule act.IsStopped can rests knows = tt
-  may_schedule act.HasEnded can rests knows = tt
-  may_schedule (act.Waits why) can rests knows = tt
-  may_schedule act.Online can rests knows = tt
-  may_schedule (act.Clear w) can rests knows = tt
-  may_schedule (act.EndTransfer t) can rests knows = λ e. reads_answering s c m there (rests e)
-  may_schedule (act.Load n) can rests knows = can
-  may_schedule act.Leave can rests knows = (can.process, can.its)
-  may_schedule (act.FillSeg n) can rests knows = tt
-  may_schedule (act.FillPage f r) can rests knows = tt
-  may_schedule (act.Through f r) can rests knows = answering s c knows.one
-  may_schedule (act.Plain r) can rests knows = answering s c knows.one
-  may_schedule act.TakeSupervisor can rests knows = tt
-  may_schedule (act.Answer r) can rests knows = answering s c knows
-  may_schedule act.GiveUp can rests knows = tt
-  may_schedule (act.Activate u place) can rests knows = tt
-  may_schedule (act.Connect n u) can rests knows = tt
-  may_schedule (act.Create f u p r) can rests knows = answering s c knows
-  may_schedule (act.Start f u p) can rests knows = tt
-  may_schedule (act.Evict f) can rests knows = tt
-  may_schedule (act.Empty u) can rests knows = tt
-  may_schedule (act.EmptyVictim pool chain u) can rests knows = tt
-  may_schedule (act.TakeAway fs pairs w) can rests knows = tt
-  may_schedule (act.Signal w) can rests knows = tt
-  may_schedule (act.FinishEviction f) can rests knows = λ e. answering s c knows
-  may_schedule (act.FinishPage f) can rests knows = λ e. answering s c knows.1
-  may_schedule (act.Deactivate u) can rests knows = tt
-  may_schedule act.Commit can rests knows = (process_at s c, knows.1.its, knows.1.known)
+module _ (s : State) (c : ℕ) (o : Outcome) (m : IsMachine s) (there : c < length s.processors) (reading : IsReading s)
+  where
+    pub may_schedule : (a : act.Action) → CanDo s c o a → Knows s c a → MaySchedule s c o a
+    may_schedule act.IsStopped can knows = tt
+    may_schedule act.HasEnded can knows = tt
+    may_schedule (act.Waits why) can knows = tt
+    may_schedule act.Online can knows = tt
+    may_schedule (act.Clear w) can knows = tt
+    may_schedule (act.EndTransfer t) can knows =
+        λ e. reads_answering s c m there (reads_for s c t m.keeps reading can.mine)
+    may_schedule (act.Load n) can knows = can
+    may_schedule act.Leave can knows = (can.process, can.its)
+    may_schedule (act.FillSeg n) can knows = tt
+    may_schedule (act.FillPage f r) can knows = tt
+    may_schedule (act.Through f r) can knows = answering s c knows.one
+    may_schedule (act.Plain r) can knows = answering s c knows.one
+    may_schedule act.TakeSupervisor can knows = tt
+    may_schedule (act.Answer r) can knows = answering s c knows
+    may_schedule act.GiveUp can knows = tt
+    may_schedule (act.Activate u place) can knows = tt
+    may_schedule (act.Connect n u) can knows = tt
+    may_schedule (act.Create f u p r) can knows = answering s c knows
+    may_schedule (act.Start f u p) can knows = tt
+    may_schedule (act.Evict f) can knows = tt
+    may_schedule (act.Empty u) can knows = tt
+    may_schedule (act.EmptyVictim pool chain u) can knows = tt
+    may_schedule (act.TakeAway fs pairs w) can knows = tt
+    may_schedule (act.Signal w) can knows = tt
+    may_schedule (act.FinishEviction f) can knows = λ e. answering s c knows
+    may_schedule (act.FinishPage f) can knows = λ e. answering s c knows.1
+    may_schedule (act.Deactivate u) can knows = tt
+    may_schedule act.Commit can knows = (process_at s c, knows.1.its, knows.1.known)
 
-  pub may_work : (a : act.Action) → CanDo s c o a → Rests s c o a → Knows s c a → MayWork s c o a
-  may_work act.IsStopped can rests knows = tt
-  may_work act.HasEnded can rests knows = tt
-  may_work (act.Waits why) can rests knows = tt
-  may_work act.Online can rests knows = online_other s c m.keeps can
-  may_work (act.Clear w) can rests knows = due_other s c w m.keeps can
-  may_work (act.EndTransfer t) can rests knows = (
-    reader_no_owner s c t m.keeps can.mine,
-    can.mine,
-    λ e. (let its = (rests e).its in its ∙ ap (λ (x : ℕ). Some x) (sym (ap or_zero its))),
-  )
-  may_work (act.Load n) can rests knows = empty_other s c m.keeps can.1
-  may_work act.Leave can rests knows = can.other
-  may_work (act.FillSeg n) can rests knows = can.other
-  may_work (act.FillPage f r) can rests knows = can.1
-  may_work (act.Through f r) can rests knows = (knows.other, knows.one.speaks.its)
-  may_work (act.Plain r) can rests knows = (knows.other, knows.one.speaks.its)
-  may_work act.TakeSupervisor can rests knows = tt
-  may_work (act.Answer r) can rests knows = tt
-  may_work act.GiveUp can rests knows = tt
-  may_work (act.Activate u place) can rests knows = knows
-  may_work (act.Connect n u) can rests knows = knows
-  may_work (act.Create f u p r) can rests knows = tt
-  may_work (act.Start f u p) can rests knows = tt
-  may_work (act.Evict f) can rests knows = knows
-  may_work (act.Empty u) can rests knows = knows
-  may_work (act.EmptyVictim pool chain u) can rests knows = knows
-  may_work (act.TakeAway fs pairs w) can rests knows = knows
-  may_work (act.Signal w) can rests knows = can.owner
-  may_work (act.FinishEviction f) can rests knows = tt
-  may_work (act.FinishPage f) can rests knows = knows.0
-  may_work (act.Deactivate u) can rests knows = tt
-  may_work act.Commit can rests knows = tt
+    pub may_work : (a : act.Action) → CanDo s c o a → Knows s c a → MayWork s c o a
+    may_work act.IsStopped can knows = tt
+    may_work act.HasEnded can knows = tt
+    may_work (act.Waits why) can knows = tt
+    may_work act.Online can knows = online_other s c m.keeps can
+    may_work (act.Clear w) can knows = due_other s c w m.keeps can
+    may_work (act.EndTransfer t) can knows = (
+      reader_no_owner s c t m.keeps can.mine,
+      can.mine,
+      λ e. (reads_for s c t m.keeps reading can.mine).its,
+    )
+    may_work (act.Load n) can knows = empty_other s c m.keeps can.1
+    may_work act.Leave can knows = can.other
+    may_work (act.FillSeg n) can knows = can.other
+    may_work (act.FillPage f r) can knows = can.1
+    may_work (act.Through f r) can knows = (knows.other, knows.one.speaks.its)
+    may_work (act.Plain r) can knows = (knows.other, knows.one.speaks.its)
+    may_work act.TakeSupervisor can knows = tt
+    may_work (act.Answer r) can knows = tt
+    may_work act.GiveUp can knows = tt
+    may_work (act.Activate u place) can knows = knows
+    may_work (act.Connect n u) can knows = knows
+    may_work (act.Create f u p r) can knows = tt
+    may_work (act.Start f u p) can knows = tt
+    may_work (act.Evict f) can knows = knows
+    may_work (act.Empty u) can knows = knows
+    may_work (act.EmptyVictim pool chain u) can knows = knows
+    may_work (act.TakeAway fs pairs w) can knows = (knows.0, knows.1, knows.2, knows.3, can.can.pairs_are)
+    may_work (act.Signal w) can knows = can.owner
+    may_work (act.FinishEviction f) can knows = tt
+    may_work (act.FinishPage f) can knows = knows.0
+    may_work (act.Deactivate u) can knows = tt
+    may_work act.Commit can knows = tt
 
-  come_end : (t : Transfer) → (o.failed ≡ true → IsAnswering s c) → AllCome (after s c (act.EndTransfer t) o)
-  unfolding after
-  come_end t may = by o.failed refl
-    where
-      by : (f : Bool) → o.failed ≡ f
-          → AllCome (cond f (transfer_failed s c t o.faults) (transferred (with_faults s o.faults) c t))
-      by true e = all_come s c (act.EndTransfer t) (record { failed = true; faults = o.faults }) m.script m.come
-          (λ h. may_answer s c (may e).process m there (may e).its)
-      by false e = come_same s (transferred (with_faults s o.faults) c t) refl refl m.come
+    come_end : (t : Transfer) → (o.failed ≡ true → IsAnswering s c) → AllCome (after s c (act.EndTransfer t) o)
+    unfolding after
+    come_end t may = by o.failed refl
+      where
+        by : (f : Bool) → o.failed ≡ f
+            → AllCome (cond f (transfer_failed s c t o.faults) (transferred (with_faults s o.faults) c t))
+        by true e = all_come s c (act.EndTransfer t) (record { failed = true; faults = o.faults }) m.script m.come
+            (λ h. may_answer s c (may e).process m there (may e).its)
+        by false e = come_same s (transferred (with_faults s o.faults) c t) refl refl m.come
 
-  quiet : (a : act.Action) → tells a ≡ false → AllCome (after s c a o)
-  quiet a off = all_come s c a o m.script m.come (λ h. absurd (let none : true ≡ false = sym h ∙ off in cc))
+    quiet : (a : act.Action) → tells a ≡ false → AllCome (after s c a o)
+    quiet a off = all_come s c a o m.script m.come (λ h. absurd (let none : true ≡ false = sym h ∙ off in cc))
 
-  -- so each process still comes to a command
-  pub comes : (a : act.Action) → Rests s c o a → Knows s c a → AllCome (after s c a o)
-  comes (act.EndTransfer t) rests knows = come_end t (λ e. reads_answering s c m there (rests e))
-  comes (act.Through f r) rests knows = all_come s c (act.Through f r) o m.script m.come
-      (λ h. may_answer s c (process_at s c) m there knows.one.speaks.its)
-  comes (act.Plain r) rests knows = all_come s c (act.Plain r) o m.script m.come
-      (λ h. may_answer s c (process_at s c) m there knows.one.speaks.its)
-  comes (act.Answer r) rests knows = all_come s c (act.Answer r) o m.script m.come
-      (λ h. may_answer s c (process_at s c) m there knows.speaks.its)
-  comes (act.Create f u p r) rests knows = all_come s c (act.Create f u p r) o m.script m.come
-      (λ h. may_answer s c (process_at s c) m there knows.speaks.its)
-  comes (act.FinishEviction f) rests knows = all_come s c (act.FinishEviction f) o m.script m.come
-      (λ h. may_answer s c (process_at s c) m there knows.speaks.its)
-  comes (act.FinishPage f) rests knows = all_come s c (act.FinishPage f) o m.script m.come
-      (λ h. may_answer s c (process_at s c) m there knows.1.speaks.its)
-  comes act.Commit rests knows = all_come s c act.Commit o m.script m.come
-      (λ h. may_answer s c (process_at s c) m there knows.1.its)
-  comes act.IsStopped rests knows = quiet act.IsStopped refl
-  comes act.HasEnded rests knows = quiet act.HasEnded refl
-  comes (act.Waits why) rests knows = quiet (act.Waits why) refl
-  comes act.Online rests knows = quiet act.Online refl
-  comes (act.Clear w) rests knows = quiet (act.Clear w) refl
-  comes (act.Load n) rests knows = quiet (act.Load n) refl
-  comes act.Leave rests knows = quiet act.Leave refl
-  comes (act.FillSeg n) rests knows = quiet (act.FillSeg n) refl
-  comes (act.FillPage f r) rests knows = quiet (act.FillPage f r) refl
-  comes act.TakeSupervisor rests knows = quiet act.TakeSupervisor refl
-  comes act.GiveUp rests knows = quiet act.GiveUp refl
-  comes (act.Activate u place) rests knows = quiet (act.Activate u place) refl
-  comes (act.Connect n u) rests knows = quiet (act.Connect n u) refl
-  comes (act.Start f u p) rests knows = quiet (act.Start f u p) refl
-  comes (act.Evict f) rests knows = quiet (act.Evict f) refl
-  comes (act.Empty u) rests knows = quiet (act.Empty u) refl
-  comes (act.EmptyVictim pool chain u) rests knows = quiet (act.EmptyVictim pool chain u) refl
-  comes (act.TakeAway fs pairs w) rests knows = quiet (act.TakeAway fs pairs w) refl
-  comes (act.Signal w) rests knows = quiet (act.Signal w) refl
-  comes (act.Deactivate u) rests knows = quiet (act.Deactivate u) refl
+    -- so each process still comes to a command
+    pub comes : (a : act.Action) → CanDo s c o a → Knows s c a → AllCome (after s c a o)
+    comes (act.EndTransfer t) can knows =
+        come_end t (λ e. reads_answering s c m there (reads_for s c t m.keeps reading can.mine))
+    comes (act.Through f r) can knows = all_come s c (act.Through f r) o m.script m.come
+        (λ h. may_answer s c (process_at s c) m there knows.one.speaks.its)
+    comes (act.Plain r) can knows = all_come s c (act.Plain r) o m.script m.come
+        (λ h. may_answer s c (process_at s c) m there knows.one.speaks.its)
+    comes (act.Answer r) can knows = all_come s c (act.Answer r) o m.script m.come
+        (λ h. may_answer s c (process_at s c) m there knows.speaks.its)
+    comes (act.Create f u p r) can knows = all_come s c (act.Create f u p r) o m.script m.come
+        (λ h. may_answer s c (process_at s c) m there knows.speaks.its)
+    comes (act.FinishEviction f) can knows = all_come s c (act.FinishEviction f) o m.script m.come
+        (λ h. may_answer s c (process_at s c) m there knows.speaks.its)
+    comes (act.FinishPage f) can knows = all_come s c (act.FinishPage f) o m.script m.come
+        (λ h. may_answer s c (process_at s c) m there knows.1.speaks.its)
+    comes act.Commit can knows = all_come s c act.Commit o m.script m.come
+        (λ h. may_answer s c (process_at s c) m there knows.1.its)
+    comes act.IsStopped can knows = quiet act.IsStopped refl
+    comes act.HasEnded can knows = quiet act.HasEnded refl
+    comes (act.Waits why) can knows = quiet (act.Waits why) refl
+    comes act.Online can knows = quiet act.Online refl
+    comes (act.Clear w) can knows = quiet (act.Clear w) refl
+    comes (act.Load n) can knows = quiet (act.Load n) refl
+    comes act.Leave can knows = quiet act.Leave refl
+    comes (act.FillSeg n) can knows = quiet (act.FillSeg n) refl
+    comes (act.FillPage f r) can knows = quiet (act.FillPage f r) refl
+    comes act.TakeSupervisor can knows = quiet act.TakeSupervisor refl
+    comes act.GiveUp can knows = quiet act.GiveUp refl
+    comes (act.Activate u place) can knows = quiet (act.Activate u place) refl
+    comes (act.Connect n u) can knows = quiet (act.Connect n u) refl
+    comes (act.Start f u p) can knows = quiet (act.Start f u p) refl
+    comes (act.Evict f) can knows = quiet (act.Evict f) refl
+    comes (act.Empty u) can knows = quiet (act.Empty u) refl
+    comes (act.EmptyVictim pool chain u) can knows = quiet (act.EmptyVictim pool chain u) refl
+    comes (act.TakeAway fs pairs w) can knows = quiet (act.TakeAway fs pairs w) refl
+    comes (act.Signal w) can knows = quiet (act.Signal w) refl
+    comes (act.Deactivate u) can knows = quiet (act.Deactivate u) refl
+
+    -- what it reads it was asked for
+    pub may_read : (a : act.Action) → CanDo s c o a → Knows s c a → IsPast s c a → MayRead s c o a
+    may_read act.IsStopped can knows past = tt
+    may_read act.HasEnded can knows past = tt
+    may_read (act.Waits why) can knows past = tt
+    may_read act.Online can knows past = tt
+    may_read (act.Clear w) can knows past = tt
+    may_read (act.EndTransfer t) can knows past = can.mine
+    may_read (act.Load n) can knows past = past
+    may_read act.Leave can knows past = past
+    may_read (act.FillSeg n) can knows past = tt
+    may_read (act.FillPage f r) can knows past = tt
+    may_read (act.Through f r) can knows past = (past, knows.one.speaks.its)
+    may_read (act.Plain r) can knows past = (past, knows.one.speaks.its)
+    may_read act.TakeSupervisor can knows past = tt
+    may_read (act.Answer r) can knows past = (past, knows.speaks.its)
+    may_read act.GiveUp can knows past = tt
+    may_read (act.Activate u place) can knows past = tt
+    may_read (act.Connect n u) can knows past = tt
+    may_read (act.Create f u p r) can knows past = (past, knows.speaks.its)
+    may_read (act.Start f u p) can knows past = (knows.1.its, (knows.0, knows.1.next, knows.2))
+    may_read (act.Evict f) can knows past = tt
+    may_read (act.Empty u) can knows past = tt
+    may_read (act.EmptyVictim pool chain u) can knows past = tt
+    may_read (act.TakeAway fs pairs w) can knows past = tt
+    may_read (act.Signal w) can knows past = tt
+    may_read (act.FinishEviction f) can knows past = (past, knows.speaks.its)
+    may_read (act.FinishPage f) can knows past = (past, knows.1.speaks.its)
+    may_read (act.Deactivate u) can knows past = tt
+    may_read act.Commit can knows past = (past, knows.1.its)

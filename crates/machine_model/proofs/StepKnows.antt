@@ -38,7 +38,7 @@ use Rattle.storage_ops.specs.Shown.{is_refusal}
 use Rattle.processor.specs.declared.Move.{Move}
 use Rattle.machine_model.proofs.FailLaws.{fails_more}
 use Rattle.machine_model.proofs.KeepLaws.{IsNoOwner}
-use Rattle.machine_model.proofs.LookFacts.{FindsActive, FindsFull, FindsTaken, FindsVictim}
+use Rattle.machine_model.proofs.LookFacts.{FindsActive, FindsFull, FindsOut, FindsTaken, FindsVictim}
 use Rattle.machine_model.proofs.WorkStep.{Looks}
 
 -- a processor's process comes to a command that isn't its end
@@ -59,6 +59,7 @@ Knows s c (act.Answer r) = AnswersOne s c
 Knows s c (act.Activate u place) = IsLooking s c
 Knows s c (act.Connect n u) = IsLooking s c
 Knows s c (act.Create f u p r) = AnswersOne s c
+Knows s c (act.Start f u q) = (x : Command) × Speaks s c (process_at s c) x × FindsOut s (process_at s c) x f u q
 Knows s c (act.Evict f) = Looks s c (λ x. FindsFull s (process_at s c) x f)
 Knows s c (act.Empty u) = Looks s c (λ x. FindsActive s (process_at s c) x u)
 Knows s c (act.EmptyVictim pool chain u) = Looks s c (λ x. FindsVictim s (process_at s c) x pool chain u)
@@ -196,7 +197,7 @@ module _ (s : State) (c : ℕ) (o : Outcome) (m : IsMachine s) (there : c < leng
       look_knows (act.FinishPage f) h = absurd h
       look_knows (act.Waits why) h = tt
       look_knows act.GiveUp h = tt
-      look_knows (act.Start f u q) h = tt
+      look_knows (act.Start f u q) h = (cmd, sp, h)
       look_knows act.IsStopped h = tt
       look_knows act.HasEnded h = tt
       look_knows act.Online h = tt

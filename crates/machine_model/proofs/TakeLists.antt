@@ -83,7 +83,7 @@ frames_once (ptw.Here g ∷ ws) one = (
         absurd (let no : zero ≡ suc at.0 = one zero (suc at.0) g refl at.1 in omega (arith, no))
 
 -- the word of a page from a number on
-dropped_word : (ws : List Ptw) (low q : ℕ) → get_or (drop low ws) q ptw.Null ≡ get_or ws (low + q) ptw.Null
+pub dropped_word : (ws : List Ptw) (low q : ℕ) → get_or (drop low ws) q ptw.Null ≡ get_or ws (low + q) ptw.Null
 dropped_word ws zero q = let same : q ≡ 0 + q = omega arith in ap (λ (i : ℕ). get_or ws i ptw.Null) same
 dropped_word [] (suc low) q = refl
 dropped_word (w ∷ ws) (suc low) q = dropped_word ws low q

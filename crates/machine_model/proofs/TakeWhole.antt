@@ -59,7 +59,7 @@ one_of v u h = cc
 -- ---- what is listed
 
 -- the frame of a page that is here is listed
-frame_listed : (ws : List Ptw) (q f : ℕ) → get_or ws q ptw.Null ≡ ptw.Here f → has (frames_in ws) f ≡ true
+pub frame_listed : (ws : List Ptw) (q f : ℕ) → get_or ws q ptw.Null ≡ ptw.Here f → has (frames_in ws) f ≡ true
 frame_listed [] q f h = absurd (let no : ptw.Null ≡ ptw.Here f = h in cc)
 frame_listed (w ∷ ws) zero f h = list_any-append (λ y. eqb y f) (here_in w) (frames_in ws)
     ∙ ap (λ (b : Bool). b || has (frames_in ws) f)
@@ -84,7 +84,7 @@ some_pair (x ∷ xs) k n h = by (is_trailer k n x) refl (some_pair xs k n)
         let all = sum in omega (arith, none, all, h))
 
 -- each descriptor that leads to a segment is one of its trailers
-trailer_listed : (s : State) (u k n : ℕ) → Keeps s → is_active s.store.ast u ≡ true → (seen s).linked k n ≡ Some u
+pub trailer_listed : (s : State) (u k n : ℕ) → Keeps s → is_active s.store.ast u ≡ true → (seen s).linked k n ≡ Some u
     → has_pair (trailers_in s.store u) k n ≡ true
 trailer_listed s u k n keeps active linked = ap (λ (xs : List (ℕ × ℕ)). has_pair xs k n) listed
     ∙ some_pair (trailers_of s.store.links.trailers place) k n
@@ -127,7 +127,7 @@ take_has s c a w (f ∷ fs) g h = take_has (take_one s c a w f) c a w fs g (by h
       | inr d ↦ inr d
     ]
 
-note_at : (s : State) (k n : ℕ) (x : ℕ × ℕ) (y : Sdw) → is_cut_at k n (note_of s.store x.0 x.1 y) ≡ is_pair k n x
+pub note_at : (s : State) (k n : ℕ) (x : ℕ × ℕ) (y : Sdw) → is_cut_at k n (note_of s.store x.0 x.1 y) ≡ is_pair k n x
 note_at s k n x sdw.Fault = refl
 note_at s k n x (sdw.Present aste m pages) = refl
 
@@ -162,17 +162,17 @@ leaving_rest : (st : Storage) (f : ℕ) (o : Option (ℕ × ℕ)) → ((leaving_
 leaving_rest st f None = (refl, refl, refl)
 leaving_rest st f (Some page) = (refl, refl, refl)
 
-abbrev RestIs : State → State → Type 0
+abbrev pub RestIs : State → State → Type 0
 RestIs s now = (now.store.pages ≡ s.store.pages) × (now.store.links ≡ s.store.links)
     × (now.store.ast.entries ≡ s.store.ast.entries)
 
-take_rest : (s : State) (c : ℕ) (a : Aim) (w : What) (fs : List ℕ) → RestIs s (take_all s c a w fs)
+pub take_rest : (s : State) (c : ℕ) (a : Aim) (w : What) (fs : List ℕ) → RestIs s (take_all s c a w fs)
 take_rest s c a w [] = (refl, refl, refl)
 take_rest s c a w (f ∷ fs) = let rest = take_rest (take_one s c a w f) c a w fs in
     let one = leaving_rest s.store f (bound_page (frame_in s.store.pages f)) in
     (rest.0 ∙ one.0, rest.1 ∙ one.1, rest.2 ∙ one.2)
 
-cut_pages : (s : State) (c : ℕ) (a : Aim) (w : What) (xs : List (ℕ × ℕ))
+pub cut_pages : (s : State) (c : ℕ) (a : Aim) (w : What) (xs : List (ℕ × ℕ))
     → (cut_all s c a w xs).store.pages ≡ s.store.pages
 cut_pages s c a w [] = refl
 cut_pages s c a w (x ∷ xs) = cut_pages (cut_one s c a w x) c a w xs
@@ -183,7 +183,7 @@ cut_frames s c a w [] = refl
 cut_frames s c a w (x ∷ xs) = cut_frames (cut_one s c a w x) c a w xs
 
 -- a descriptor that still leads to a segment led there before
-cut_linked : (s : State) (c : ℕ) (a : Aim) (w : What) (xs : List (ℕ × ℕ)) → ArePairs (seen s).linked w xs
+pub cut_linked : (s : State) (c : ℕ) (a : Aim) (w : What) (xs : List (ℕ × ℕ)) → ArePairs (seen s).linked w xs
     → (k n u : ℕ) → (seen (cut_all s c a w xs)).linked k n ≡ Some u → (seen s).linked k n ≡ Some u
 cut_linked s c a w [] are k n u h = h
 cut_linked s c a w (x ∷ xs) are k n u h = by_places (λ (o : Option ℕ). o ≡ Some u → (seen s).linked k n ≡ Some u)

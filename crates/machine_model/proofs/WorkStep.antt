@@ -1,6 +1,7 @@
 -- After each action the owner's job rests on what it rested on, or has another.
 use Rattle.std.proofs.Common.{◌≡◌, ◌≢◌, ℕ, Bool, true, false, not, ◌&&◌, cond, eqb, is_some, List, [], ◌∷◌, ◌++◌}
 use Rattle.std.proofs.Common.{set, Option, Some, None, ◌⊎◌, inl, inr, refl, sym, ap, subst, ◌∙◌}
+use Rattle.std.proofs.lemmas.Bool.Decides.{eqb_tells}
 use Rattle.std.proofs.lemmas.List.{get_or-set_other, get_or-set_same}
 use Rattle.std.specs.Prelude.{◌%◌}
 use Rattle.script.specs.declared.commands.Reference.{Reference}
@@ -62,7 +63,7 @@ use Rattle.machine_model.specs.Jobs.{page_done, page_in, segment_taken, signalle
 use Rattle.machine_model.specs.Jobs.{victim_taken, with_hand_moved, without_first_frame, write_failed}
 use Rattle.machine_model.specs.Keeps.{Keeps}
 use Rattle.machine_model.specs.Promise.{IsMachine}
-use Rattle.machine_model.specs.Reads.{cpu_at, flat_of, frame_reading, frames_from, is_active}
+use Rattle.machine_model.specs.Reads.{cpu_at, cut_of_owner, flat_of, frame_reading, frames_from, is_active}
 use Rattle.machine_model.specs.Reads.{next_command, no_processor, no_run, or_zero, process_at, run_at}
 use Rattle.machine_model.specs.Reads.{trailers_in}
 use Rattle.machine_model.specs.Said.{without_left}
@@ -71,18 +72,21 @@ use Rattle.machine_model.specs.State.{Owner, State, Storage}
 use Rattle.machine_model.specs.Steps.{fault_told, frame_lost, looking, pages_after, told, transfer_failed}
 use Rattle.machine_model.specs.Steps.{transferred, with_faults, with_pages, with_store}
 use Rattle.machine_model.specs.Whole.{TakenWhole, goes_in, going_for}
-use Rattle.machine_model.specs.Working.{FailsIn, IsLeaf, IsWorking, MayFailBy, TakesSome}
+use Rattle.machine_model.specs.Working.{AreNumbered, FailsIn, IsLeaf, IsWorking, MayFailBy, TakesSome}
 use Rattle.machine_model.proofs.EmptyAsks.{segment_inferiors, unread_any}
 use Rattle.machine_model.proofs.FlatAlike.{append_assoc}
 use Rattle.machine_model.proofs.KeepLaws.{IsNoOwner}
+use Rattle.machine_model.proofs.NumberLaws.{cut_less_frame, cut_signalled, took_numbered}
 use Rattle.machine_model.proofs.OutlineTake.{HasTakenFrames, LooksLike, took_like, took_owner}
 use Rattle.machine_model.proofs.OwnedLaws.{IsIdle}
 use Rattle.machine_model.proofs.RuleKept.{IsLooking}
 use Rattle.machine_model.proofs.SaysLaws.{left_flat}
 use Rattle.machine_model.proofs.ScheduleKept.{told_seats}
 use Rattle.machine_model.proofs.StepKept.{IsMine}
+use Rattle.machine_model.proofs.TakeLists.{segment_takes}
 use Rattle.machine_model.proofs.TakeWhole.{begun_whole}
 use Rattle.machine_model.proofs.TieLaws.{none_some}
+use Rattle.machine_model.proofs.TookKept.{ArePairs}
 use Rattle.machine_model.proofs.WholeLaws.{started_spares, whole_idle}
 use Rattle.machine_model.proofs.WorkKept.{AllSpare, IsLess, fails_in_less, fails_less, whole_on}
 
@@ -93,14 +97,17 @@ none_work now none = record {
   whole = whole_idle now (ap going_for none);
   leaf = λ u h. absurd (none_some (sym (ap going_for none) ∙ h));
   fails = λ o h. absurd (none_some (sym none ∙ h));
+  numbered = subst (λ (o : Option Owner). AreNumbered now.store.links.known (cut_of_owner o)) (sym none) tt;
 }
 
 some_same : {A : Type 0} (x y : A) → Some x ≡ Some y → x ≡ y
 some_same x y h = cc
 
 -- an owner that looks
-pub looking_work : (now : State) (q : Owner) → now.owner ≡ Some q → q.phase ≡ phase.Looking → IsWorking now
-looking_work now q mine looks = record {
+pub looking_work : (now : State) (q : Owner) → now.owner ≡ Some q → q.phase ≡ phase.Looking
+    → AreNumbered now.store.links.known (cut_of_owner now.owner) → IsWorking now
+looking_work now q mine looks numbered = record {
+  numbered = numbered;
   whole = whole_idle now (ap going_for mine ∙ ap goes_in looks);
   leaf = λ u h. absurd (none_some (sym (ap going_for mine ∙ ap goes_in looks) ∙ h));
   fails = λ o h. subst (λ (x : Phase). FailsIn x now.store (process_at now o.cpu)
@@ -134,6 +141,8 @@ leaf_like old now u nodes active h = record {
 
 pub leaves_work : (s now : State) → Keeps s → Keeps now → IsWorking s → Leaves s now → IsWorking now
 leaves_work s now k kept w l = record {
+  numbered = subst (λ (x : List (List (Option ℕ))). AreNumbered x (cut_of_owner now.owner)) (sym l.less.known)
+      (subst (λ (x : Option Owner). AreNumbered s.store.links.known (cut_of_owner x)) (sym l.owner) w.numbered);
   whole = record {
     whole = λ u h. (let goes = ap going_for (sym l.owner) ∙ h in
         whole_on s now l.more u k kept l.plan l.book (w.whole.whole u goes) (l.spares u goes));
@@ -198,9 +207,11 @@ module _ (s : State) (c u : ℕ) (k : Keeps s) (idle : IsIdle s.owner) (none : g
   -- where something is taken
   took_work : (fs : List ℕ) (pairs : List (ℕ × ℕ)) → (fs ≢ []) ⊎ (pairs ≢ [])
       → TakenWhole (took s c (aim.Deactivating u) (what.Seg u) fs pairs)
+      → AreNumbered s.store.links.known (cut_of_owner (took s c (aim.Deactivating u) (what.Seg u) fs pairs).owner)
       → IsWorking (took s c (aim.Deactivating u) (what.Seg u) fs pairs)
-  took_work fs pairs some whole = record {
+  took_work fs pairs some whole numbered = record {
     whole = whole;
+    numbered = subst (λ (x : List (List (Option ℕ))). AreNumbered x (cut_of_owner now.owner)) (sym like.known) numbered;
     leaf = λ v h. subst (IsLeaf now.store) (some_same u v (sym (ap going_for has.owner) ∙ h))
         (leaf_like s.store now.store u (ap (λ (a : AccountMaps). a.nodes) like.accounts)
         (λ x. ap (λ (es : List (Option Segment)). list_any (is_for x) es) like.entries)
@@ -228,14 +239,23 @@ module _ (s : State) (c u : ℕ) (k : Keeps s) (idle : IsIdle s.owner) (none : g
       has = took_owner s c (aim.Deactivating u) (what.Seg u) fs pairs idle.frames some
 
   by_lists : (fs : List ℕ) (pairs : List (ℕ × ℕ)) → TakenWhole (segment_taken s c u fs pairs)
+      → AreNumbered s.store.links.known (cut_of_owner (took s c (aim.Deactivating u) (what.Seg u) fs pairs).owner)
       → IsWorking (segment_taken s c u fs pairs)
-  by_lists [] [] whole = looking_work (emptied s c u) (looking c) refl refl
-  by_lists [] (x ∷ xs) whole = took_work [] (x ∷ xs) (inr (λ e. (let no_one : x ∷ xs ≡ [] = e in cc))) whole
-  by_lists (f ∷ fs) pairs whole = took_work (f ∷ fs) pairs (inl (λ e. (let no_one : f ∷ fs ≡ [] = e in cc))) whole
+  by_lists [] [] whole numbered = looking_work (emptied s c u) (looking c) refl refl tt
+  by_lists [] (x ∷ xs) whole numbered =
+      took_work [] (x ∷ xs) (inr (λ e. (let no_one : x ∷ xs ≡ [] = e in cc))) whole numbered
+  by_lists (f ∷ fs) pairs whole numbered =
+      took_work (f ∷ fs) pairs (inl (λ e. (let no_one : f ∷ fs ≡ [] = e in cc))) whole numbered
+
+  own : eqb u u ≡ true
+  own = elim (eqb_tells u u) [ inl e ↦ e.0 | inr n ↦ absurd (n.1 refl) ]
 
   pub begun_work : IsWorking (deactivation_begun s c u)
   begun_work = by_lists (frames_from s.store.ast u 0) (trailers_in s.store u)
       (begun_whole s c u k idle none active (unread_any s.store.pages.core u unread))
+      (took_numbered s c (aim.Deactivating u) (what.Seg u) (frames_from s.store.ast u 0) (trailers_in s.store u) k
+      (subst (AreNumbered s.store.links.known) (sym idle.cut) tt)
+      (segment_takes s (aim.Deactivating u) (what.Seg u) u 0 k idle own (λ gs cs. refl)).pairs_are)
 
 -- ---- the owner goes on
 
@@ -263,6 +283,7 @@ module _ (s : State) (c : ℕ) (k : Keeps s) (w : IsWorking s) where
     };
     leaf = λ u h. w.leaf u (sym (goes_signalled s.owner) ∙ h);
     fails = λ q h. by s.owner refl q h;
+    numbered = subst (AreNumbered s.store.links.known) (sym (cut_signalled s.owner)) w.numbered;
   }
     where
       by : (o : Option Owner) → s.owner ≡ o → (q : Owner) → owner_signalled o ≡ Some q
@@ -300,6 +321,7 @@ module _ (s : State) (c : ℕ) (k : Keeps s) (w : IsWorking s) where
     leaf = λ u h. leaf_like s.store now.store u (nodes_left how f (page_in s.store f)) (λ v. refl)
         (w.leaf u (sym (goes_less s.owner) ∙ h));
     fails = λ q h. by s.owner refl q h;
+    numbered = subst (AreNumbered s.store.links.known) (sym (cut_less_frame s.owner)) w.numbered;
   }
     where
       now : State
@@ -363,7 +385,7 @@ MayWork s c o (act.Evict f) = Looks s c (λ x. FindsFull s (process_at s c) x f)
 MayWork s c o (act.Empty u) = Looks s c (λ x. FindsActive s (process_at s c) x u)
 MayWork s c o (act.EmptyVictim pool chain u) = Looks s c (λ x. FindsVictim s (process_at s c) x pool chain u)
 MayWork s c o (act.TakeAway fs pairs w) = IsLooking s c × IsIdle s.owner × ((fs ≢ []) ⊎ (pairs ≢ []))
-    × TakesSome (next_command s (process_at s c))
+    × TakesSome (next_command s (process_at s c)) × ArePairs (seen s).linked w pairs
 MayWork s c o (act.Signal w) = IsMine s c
 MayWork s c o (act.FinishPage f) = IsMine s c
 MayWork s c o _ = Unit {0}
@@ -557,15 +579,17 @@ module _ (s : State) (c : ℕ) (o : Outcome) (m : IsMachine s) (w : IsWorking s)
   work_kept (act.Through f r) may kept = other_told (with_pages s.store (pages_after s.store.pages f r)) (Some f)
       (word_reply (old_word s.store.pages f r) r.kind) may.0 may.1 (pages_less f r) (λ u. refl) kept
   work_kept (act.Plain r) may kept = other_told s.store None r may.0 may.1 (same_less s.store) (λ u. refl) kept
-  work_kept act.TakeSupervisor may kept = looking_work _ (looking c) refl refl
+  work_kept act.TakeSupervisor may kept = looking_work _ (looking c) refl refl tt
   work_kept (act.Answer r) may kept = none_work _ refl
   work_kept act.GiveUp may kept = none_work _ refl
-  work_kept (act.Activate u place) may kept = looking_work _ may.owner.owner may.owner.mine may.looks
-  work_kept (act.Connect n u) may kept = looking_work _ may.owner.owner may.owner.mine may.looks
+  work_kept (act.Activate u place) may kept = looking_work _ may.owner.owner may.owner.mine may.looks w.numbered
+  work_kept (act.Connect n u) may kept = looking_work _ may.owner.owner may.owner.mine may.looks w.numbered
   work_kept (act.Create f u p r) may kept = none_work _ refl
   work_kept (act.Start f u p) may kept = none_work _ refl
   work_kept (act.Evict f) may kept = record {
     whole = whole_idle (eviction_begun s c f) refl;
+    numbered = subst (λ (x : List (List (Option ℕ))). AreNumbered x (cut_of_owner s.owner)) (sym (taking_less f).known)
+        w.numbered;
     leaf = λ u h. absurd (none_some h);
     fails = λ q h. subst (λ (y : Owner). FailsIn y.phase (eviction_begun s c f).store (process_at s y.cpu)
         (next_command s (process_at s y.cpu))) (some_same _ q h)
@@ -582,6 +606,10 @@ module _ (s : State) (c : ℕ) (o : Outcome) (m : IsMachine s) (w : IsWorking s)
   work_kept (act.TakeAway fs pairs v) may kept = let has = took_owner s c aim.Committing v fs pairs may.1.frames may.2
       in record {
         whole = whole_idle (took s c aim.Committing v fs pairs) (ap going_for has.owner);
+        numbered = subst (λ (x : List (List (Option ℕ))). AreNumbered x
+            (cut_of_owner (took s c aim.Committing v fs pairs).owner))
+            (sym (took_like s c aim.Committing v fs pairs).known)
+            (took_numbered s c aim.Committing v fs pairs keeps w.numbered may.4);
         leaf = λ u h. absurd (none_some (sym (ap going_for has.owner) ∙ h));
         fails = λ q h. subst (λ (y : Owner). FailsIn y.phase (took s c aim.Committing v fs pairs).store
             (process_at (took s c aim.Committing v fs pairs) y.cpu)
@@ -595,8 +623,8 @@ module _ (s : State) (c : ℕ) (o : Outcome) (m : IsMachine s) (w : IsWorking s)
       }
   work_kept (act.Signal v) may kept = signal_work s c keeps w v kept
   work_kept (act.FinishEviction f) may kept = by_end o (eviction_done (with_faults s o.faults) c f)
-      (write_failed s c o.faults) kept (λ h. looking_work _ (looking c) refl refl) (λ e h. none_work _ refl)
+      (write_failed s c o.faults) kept (λ h. looking_work _ (looking c) refl refl tt) (λ e h. none_work _ refl)
   work_kept (act.FinishPage f) may kept = by_end o (page_done (with_faults s o.faults) f)
       (write_failed s c o.faults) kept (λ h. page_work s c keeps w f o.faults h) (λ e h. none_work _ refl)
-  work_kept (act.Deactivate u) may kept = looking_work _ (looking c) refl refl
+  work_kept (act.Deactivate u) may kept = looking_work _ (looking c) refl refl tt
   work_kept act.Commit may kept = commits (next_command s (process_at s c))

@@ -17,8 +17,10 @@ pub mod Outline
 pub mod OutlineKept
 pub mod Outlined
 pub mod Promise
+pub mod Reading
 pub mod Reads
 pub mod Refusal
+pub mod Returned
 pub mod Runs
 pub mod Said
 pub mod Scheduled

@@ -4,6 +4,7 @@ use Rattle.script.specs.Forms.{IsPlan}
 use Rattle.machine_model.specs.Entitled.{IsEntitledToAll}
 use Rattle.machine_model.specs.Foreseen.{AllCome}
 use Rattle.machine_model.specs.Keeps.{Keeps}
+use Rattle.machine_model.specs.Reading.{IsReading}
 use Rattle.machine_model.specs.Scheduled.{IsScheduled}
 use Rattle.machine_model.specs.State.{State}
 use Rattle.machine_model.specs.Working.{IsWorking}
@@ -17,8 +18,10 @@ pub record IsMachine (s : State) : Type 0 where
   pub scheduled : IsScheduled s
   pub pools : s.store.ast.sizes ≡ s.plan.pools
 
--- What a machine keeps from step to step: that, with what its processors hold and what the owner's job rests on.
+-- What a machine keeps from step to step: that, with what its processors hold, what they read pages for, and what the
+-- owner's job rests on.
 pub record KeepsAll (s : State) : Type 0 where
   pub machine : IsMachine s
   pub entitled : IsEntitledToAll s
+  pub reading : IsReading s
   pub working : IsWorking s

@@ -1,6 +1,7 @@
 -- What the owner's job rests on: while it makes room, that a drive's failure may be told of its command, and that the
 -- segment that it makes inactive is a leaf that it took whole; otherwise, that its command is one that takes.
-use Rattle.std.specs.Prelude.{◌≡◌, ◌≢◌, ◌⊎◌, ◌<◌, ◌≤◌, ◌*◌, ℕ, Bool, true, false, List, Option, Some, None, Ok}
+use Rattle.std.specs.Prelude.{◌≡◌, ◌≢◌, ◌⊎◌, ◌<◌, ◌≤◌, ◌*◌, ℕ, Bool, true, false, List, [], ◌∷◌, Option, Some}
+use Rattle.std.specs.Prelude.{None, Ok}
 use Rattle.script.specs.References.{reference_of}
 use Rattle.script.specs.declared.commands.Command.{Command}
 use Rattle.script.specs.declared.commands.Command.TheVariants as command
@@ -15,7 +16,8 @@ use Rattle.machine_model.specs.declared.Aim.{Aim}
 use Rattle.machine_model.specs.declared.Aim.TheVariants as aim
 use Rattle.machine_model.specs.declared.Phase.{Phase}
 use Rattle.machine_model.specs.declared.Phase.TheVariants as phase
-use Rattle.machine_model.specs.Reads.{is_active, next_command, process_at}
+use Rattle.machine_model.specs.Reads.{cut_of_owner, is_active, next_command, process_at}
+use Rattle.machine_model.specs.declared.CutDescriptor.{CutDescriptor}
 use Rattle.machine_model.specs.State.{Owner, State, Storage}
 use Rattle.machine_model.specs.Whole.{TakenWhole, going_for}
 
@@ -65,8 +67,16 @@ pub record IsLeaf (st : Storage) (u : ℕ) : Type 0 where
   pub active : is_active st.ast u ≡ true
   pub inferiors : (v : ℕ) → is_active st.ast v ≡ true → superior_in (node_in st.accounts.nodes v) ≢ Some u
 
+-- each of some descriptors is of a number by which its process knows its segment
+abbrev pub AreNumbered : List (List (Option ℕ)) → List CutDescriptor → Type 0
+AreNumbered numbers [] = Unit {0}
+AreNumbered numbers (d ∷ ds) =
+    (uid_of (kst_at numbers d.process) d.number ≡ Some d.uid) × AreNumbered numbers ds
+
 pub record IsWorking (s : State) : Type 0 where
   pub whole : TakenWhole s
+  -- what the job has cut may be connected again
+  pub numbered : AreNumbered s.store.links.known (cut_of_owner s.owner)
   pub leaf : (u : ℕ) → going_for s.owner ≡ Some u → IsLeaf s.store u
   pub fails : (o : Owner) → s.owner ≡ Some o
       → FailsIn o.phase s.store (process_at s o.cpu) (next_command s (process_at s o.cpu))

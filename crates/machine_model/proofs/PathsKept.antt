@@ -1,0 +1,248 @@
+-- A path that leads to a segment leads to it still where other nodes come or go, and where what is changed of a node is
+-- neither its place nor its name.
+use Rattle.std.proofs.Common.{◌≡◌, ◌≢◌, ◌<◌, ℕ, Bool, true, false, not, cond, eqb, List, [], ◌∷◌, map}
+use Rattle.std.proofs.Common.{Option, Some, None, ◌⊎◌, inl, inr, refl, sym, ap, subst, ◌∙◌, arith}
+use Rattle.std.specs.Prelude.{Ok, Err}
+use Rattle.std.proofs.lemmas.Bool.Decides.{eqb_tells}
+use Rattle.book.specs.declared.replies.Reply.TheVariants as reply
+use Rattle.tree_model.specs.Tree.{Node, Walk, LeadsTo, Missing, InSegment, branch_in, has_directory, is_branch, node_in}
+use Rattle.tree_model.specs.Tree.{onward, walk_from, walk_in, without_node}
+use Rattle.tree_model.specs.Trees.{AreBelow, IsTree, Joins}
+use Rattle.tree_model.proofs.Finds.{IsMember, branch_found, found_member, found_passes}
+use Rattle.tree_model.proofs.TreeLaws.{lies, only_branch}
+use Rattle.flat_model.specs.Branches.{node_at, only_segment, segment_at, there_or, walked}
+use Rattle.flat_model.proofs.RemoveLaws.{directory_gone, node_left}
+use Rattle.machine_model.proofs.QuotaTotals.{found_uid, only_found, there_found}
+use Rattle.machine_model.proofs.TieLaws.{none_some}
+
+no_and : {b : Bool} → b ≡ true → b ≡ false → ⊥
+no_and t f = let none : true ≡ false = sym t ∙ f in cc
+
+-- a path that led to a segment leads to it
+pub record PathsStay (old now : List Node) (u : ℕ) : Type 0 where
+  pub each : (path : List (List ℕ)) (n : Node) → segment_at old path ≡ Ok n → n.uid ≡ u
+      → (m : Node) × (segment_at now path ≡ Ok m) × (m.uid ≡ u)
+
+pub paths_same : (ns : List Node) (u : ℕ) → PathsStay ns ns u
+paths_same ns u = record { each = λ path n h e. (n, h, e) }
+
+-- ---- where each step of a walk stays
+
+-- a name in a directory leads to the same node
+abbrev Follows : List Node → ℕ → List ℕ → Node → Type 0
+Follows now d name m = (x : Node) × (branch_in now d name ≡ Some x) × (x.uid ≡ m.uid) × (x.directory ≡ m.directory)
+
+walked_uid : (ns : List Node) (w : Walk) (n : Node) → walked ns w ≡ Ok n → w ≡ LeadsTo n.uid
+walked_uid ns (LeadsTo u) n h =
+    ap (λ (x : ℕ). LeadsTo x) (sym (found_uid ns u n (there_found (node_in ns u) n h)))
+walked_uid ns Missing n h = absurd (let no : Err reply.NoPath ≡ Ok n = h in cc)
+walked_uid ns InSegment n h = absurd (let no : Err reply.NotDir ≡ Ok n = h in cc)
+
+module _ (old now : List Node) (u : ℕ) (Stays : ℕ → Type 0) (end : Stays u)
+    (up : (d : ℕ) (name : List ℕ) (m : Node) → branch_in old d name ≡ Some m → Stays d)
+    (follows : (d : ℕ) (name : List ℕ) (m : Node) → branch_in old d name ≡ Some m → Stays m.uid
+    → Follows now d name m) where
+  walk_stays : (names : List (List ℕ)) (d : ℕ) (b : Bool) → walk_from old d b names ≡ LeadsTo u
+      → (walk_from now d b names ≡ LeadsTo u) × Stays d
+  walk_stays [] d b h = (h, subst Stays (let same : u ≡ d = cc in same) end)
+  walk_stays (name ∷ names) d b h = by b (branch_in old d name) refl
+      (λ m i. walk_stays names m.uid m.directory i) h
+    where
+      by : (x : Bool) (o : Option Node) → branch_in old d name ≡ o
+          → ((m : Node) → walk_from old m.uid m.directory names ≡ LeadsTo u
+          → (walk_from now m.uid m.directory names ≡ LeadsTo u) × Stays m.uid)
+          → onward (λ n. walk_from old n.uid n.directory names) x o ≡ LeadsTo u
+          → (onward (λ n. walk_from now n.uid n.directory names) x (branch_in now d name) ≡ LeadsTo u) × Stays d
+      by false o e on i = absurd (let no : InSegment ≡ LeadsTo u = i in cc)
+      by true None e on i = absurd (let no : Missing ≡ LeadsTo u = i in cc)
+      by true (Some m) e on i = let rest = on m i in let x = follows d name m e rest.1 in (
+        ap (λ (o : Option Node). onward (λ n. walk_from now n.uid n.directory names) true o) x.1
+            ∙ ((λ j. walk_from now (x.2 j) (x.3 j) names) ∙ rest.0),
+        up d name m e,
+      )
+
+  -- so does the path, where the node is there
+  path_stays : ((n : Node) → node_in old u ≡ Some n → n.directory ≡ false
+      → (m : Node) × (node_in now u ≡ Some m) × (m.directory ≡ false)) → PathsStay old now u
+  unfolding node_at
+  path_stays there = record { each = each }
+    where
+      each : (path : List (List ℕ)) (n : Node) → segment_at old path ≡ Ok n → n.uid ≡ u
+          → (m : Node) × (segment_at now path ≡ Ok m) × (m.uid ≡ u)
+      each path n h e = let both = only_found (node_at old path) n h in
+          let was = walked_uid old (walk_in old path) n both.0 in
+          let walk = walk_stays path 1 true (was ∙ ap (λ (x : ℕ). LeadsTo x) e) in
+          let at = there n (here path n h e was both.0) both.1 in (
+            at.0,
+            ap (λ (w : Walk). only_segment (walked now w)) walk.0
+                ∙ (ap (λ (o : Option Node). only_segment (there_or o)) at.1
+                ∙ ap (λ (b : Bool). cond b (Err reply.IsDir) (Ok at.0)) at.2),
+            found_uid now u at.0 at.1,
+          )
+        where
+          here : (path : List (List ℕ)) (n : Node) → segment_at old path ≡ Ok n → n.uid ≡ u
+              → walk_in old path ≡ LeadsTo n.uid → walked old (walk_in old path) ≡ Ok n → node_in old u ≡ Some n
+          here path n h e was found = there_found (node_in old u) n
+              (ap (λ (x : ℕ). there_or (node_in old x)) (sym e) ∙ (ap (walked old) (sym was) ∙ found))
+
+-- ---- nodes change, but for place and name
+
+-- what is changed of a node is neither its uid, its superior and its name, nor whether it is a directory
+pub record KeepsName (change : Node → Node) : Type 0 where
+  pub uid : (n : Node) → (change n).uid ≡ n.uid
+  pub superior : (n : Node) → (change n).superior ≡ n.superior
+  pub name : (n : Node) → (change n).name ≡ n.name
+  pub directory : (n : Node) → (change n).directory ≡ n.directory
+
+module _ (change : Node → Node) (same : KeepsName change) where
+  branch_same : (d : ℕ) (name : List ℕ) (n : Node) → is_branch d name (change n) ≡ is_branch d name n
+  branch_same d name n = λ i. is_branch d name (record n { superior = same.superior n i; name = same.name n i })
+
+  branch_map : (ns : List Node) (d : ℕ) (name : List ℕ) (m : Node) → branch_in ns d name ≡ Some m
+      → branch_in (map change ns) d name ≡ Some (change m)
+  branch_map [] d name m h = absurd (none_some h)
+  branch_map (n ∷ ns) d name m h = by (is_branch d name n) refl h (branch_map ns d name m)
+    where
+      by : (b : Bool) → is_branch d name n ≡ b → cond b (Some n) (branch_in ns d name) ≡ Some m
+          → (branch_in ns d name ≡ Some m → branch_in (map change ns) d name ≡ Some (change m))
+          → branch_in (map change (n ∷ ns)) d name ≡ Some (change m)
+      by true e i rest = ap (λ (b : Bool). cond b (Some (change n)) (branch_in (map change ns) d name))
+          (branch_same d name n ∙ e) ∙ ap (λ (x : Node). Some (change x)) (let is : n ≡ m = cc in is)
+      by false e i rest = ap (λ (b : Bool). cond b (Some (change n)) (branch_in (map change ns) d name))
+          (branch_same d name n ∙ e) ∙ rest i
+
+  node_map : (ns : List Node) (u : ℕ) (m : Node) → node_in ns u ≡ Some m → node_in (map change ns) u ≡ Some (change m)
+  node_map [] u m h = absurd (none_some h)
+  node_map (n ∷ ns) u m h = by (eqb n.uid u) refl h (node_map ns u m)
+    where
+      by : (b : Bool) → eqb n.uid u ≡ b → cond b (Some n) (node_in ns u) ≡ Some m
+          → (node_in ns u ≡ Some m → node_in (map change ns) u ≡ Some (change m))
+          → node_in (map change (n ∷ ns)) u ≡ Some (change m)
+      by true e i rest = ap (λ (b : Bool). cond b (Some (change n)) (node_in (map change ns) u))
+          (ap (λ (x : ℕ). eqb x u) (same.uid n) ∙ e) ∙ ap (λ (x : Node). Some (change x)) (let is : n ≡ m = cc in is)
+      by false e i rest = ap (λ (b : Bool). cond b (Some (change n)) (node_in (map change ns) u))
+          (ap (λ (x : ℕ). eqb x u) (same.uid n) ∙ e) ∙ rest i
+
+  pub paths_changed : (ns : List Node) (u : ℕ) → PathsStay ns (map change ns) u
+  paths_changed ns u = path_stays ns (map change ns) u (λ d. Unit {0}) tt (λ d name m h. tt)
+      (λ d name m h e. (change m, branch_map ns d name m h, same.uid m, same.directory m))
+      (λ n h dir. (change n, node_map ns u n h, same.directory n ∙ dir))
+
+-- ---- a node more
+
+is_here : (ns : List Node) (d : ℕ) (name : List ℕ) (m : Node) → branch_in ns d name ≡ Some m
+    → IsMember m ns × (is_branch d name m ≡ true)
+is_here ns d name m h = (
+  found_member (is_branch d name) ns m (sym (branch_found d name ns) ∙ h),
+  found_passes (is_branch d name) ns m (sym (branch_found d name ns) ∙ h),
+)
+
+joined_below : (ns : List Node) (o : Option ℕ) (n : Node) → Joins ns o n → AreBelow n.uid ns
+joined_below ns None n j = rw j.first tt
+joined_below ns (Some s) n j = j.later
+
+node_below : (v : ℕ) (ns : List Node) (u : ℕ) (m : Node) → AreBelow v ns → node_in ns u ≡ Some m → u < v
+node_below v [] u m b h = absurd (none_some h)
+node_below v (n ∷ ns) u m b h = elim (eqb_tells n.uid u) [
+  | inl e ↦ subst (λ (x : ℕ). x < v) e.1 b.0
+  | inr o ↦ node_below v ns u m b.1 (sym (ap (λ (x : Bool). cond x (Some n) (node_in ns u)) o.0) ∙ h)
+]
+
+pub paths_more : (ns : List Node) (n : Node) (u : ℕ) → IsTree (n ∷ ns) → PathsStay ns (n ∷ ns) u
+paths_more ns n u tree = path_stays ns (n ∷ ns) u (λ d. Unit {0}) tt (λ d name m h. tt)
+    (λ d name m h e. follows d name m h (is_branch d name n) refl)
+    (λ m h dir. (m, ap (λ (b : Bool). cond b (Some n) (node_in ns u)) (other m h) ∙ h, dir))
+  where
+    follows : (d : ℕ) (name : List ℕ) (m : Node) → branch_in ns d name ≡ Some m → (b : Bool) → is_branch d name n ≡ b
+        → Follows (n ∷ ns) d name m
+    follows d name m h false e = (m, ap (λ (b : Bool). cond b (Some n) (branch_in ns d name)) e ∙ h, refl, refl)
+    follows d name m h true e = let first = ap (λ (b : Bool). cond b (Some n) (branch_in ns d name)) e in
+        let here = is_here ns d name m h in
+        let same = only_branch (n ∷ ns) tree d name n m first (inr here.0) here.1 in
+        (n, first, ap (λ (x : Node). x.uid) same, ap (λ (x : Node). x.directory) same)
+
+    other : (m : Node) → node_in ns u ≡ Some m → eqb n.uid u ≡ false
+    other m h = elim (eqb_tells n.uid u) [
+      | inl e ↦ absurd (let less = node_below n.uid ns u m (joined_below ns n.superior n tree.0) h in
+          let same = e.1 in omega (arith, less, same))
+      | inr o ↦ o.0
+    ]
+
+-- ---- a node less
+
+-- the directory that a node of a tree lies in is an older one
+has_above : (ns : List Node) (m : Node) (s : ℕ) → IsTree ns → IsMember m ns → m.superior ≡ Some s
+    → (has_directory ns s ≡ true) × (s < m.uid)
+has_above [] m s tree here is = absurd here
+has_above (n ∷ ns) m s tree here is = by here (λ e. has_above ns m s tree.1 e is)
+  where
+    below : (v : ℕ) (xs : List Node) → AreBelow v xs → has_directory xs s ≡ true → s < v
+    below v [] b e = absurd (no_and e refl)
+    below v (x ∷ xs) b e = elim (eqb_tells x.uid s) [
+      | inl i ↦ subst (λ (y : ℕ). y < v) i.1 b.0
+      | inr o ↦ below v xs b.1 (sym (ap (λ (y : Bool). cond y x.directory (has_directory xs s)) o.0) ∙ e)
+    ]
+
+    past : has_directory ns s ≡ true → has_directory (n ∷ ns) s ≡ true
+    past e = elim (eqb_tells n.uid s) [
+      | inl i ↦ absurd (let less = below n.uid ns (joined_below ns n.superior n tree.0) e in
+          let same = i.1 in omega (arith, less, same))
+      | inr o ↦ ap (λ (y : Bool). cond y n.directory (has_directory ns s)) o.0 ∙ e
+    ]
+
+    first : (o : Option ℕ) → Joins ns o n → o ≡ Some s → (has_directory (n ∷ ns) s ≡ true) × (s < n.uid)
+    first None j e = absurd (none_some e)
+    first (Some x) j e = let same : x ≡ s = cc in let dir = subst (λ (y : ℕ). has_directory ns y ≡ true) same j.below in
+        (past dir, below n.uid ns j.later dir)
+
+    by : (m ≡ n) ⊎ IsMember m ns → (IsMember m ns → (has_directory ns s ≡ true) × (s < m.uid))
+        → (has_directory (n ∷ ns) s ≡ true) × (s < m.uid)
+    by (inl e) rest = let at = first n.superior tree.0 (ap (λ (x : Node). x.superior) (sym e) ∙ is) in
+        (at.0, subst (λ (x : Node). s < x.uid) (sym e) at.1)
+    by (inr e) rest = let at = rest e in (past at.0, at.1)
+
+member_left : (ns : List Node) (v : ℕ) (m : Node) → IsMember m ns → m.uid ≢ v → IsMember m (without_node ns v)
+member_left [] v m here other = absurd here
+member_left (n ∷ ns) v m here other = by (eqb n.uid v) refl here (λ e. member_left ns v m e other)
+  where
+    by : (b : Bool) → eqb n.uid v ≡ b → (m ≡ n) ⊎ IsMember m ns → (IsMember m ns → IsMember m (without_node ns v))
+        → IsMember m (cond (not b) (n ∷ without_node ns v) (without_node ns v))
+    by false e (inl i) rest = inl i
+    by false e (inr i) rest = inr (rest i)
+    by true e (inl i) rest = absurd (elim (eqb_tells n.uid v) [
+      | inl same ↦ other (ap (λ (x : Node). x.uid) i ∙ same.1)
+      | inr o ↦ no_and e o.0
+    ])
+    by true e (inr i) rest = rest i
+
+branch_left : (ns : List Node) (v d : ℕ) (name : List ℕ) (m : Node) → branch_in ns d name ≡ Some m → m.uid ≢ v
+    → branch_in (without_node ns v) d name ≡ Some m
+branch_left [] v d name m h other = absurd (none_some h)
+branch_left (n ∷ ns) v d name m h other = by (eqb n.uid v) (is_branch d name n) refl refl h
+    (λ e. branch_left ns v d name m e other)
+  where
+    by : (a b : Bool) → eqb n.uid v ≡ a → is_branch d name n ≡ b → cond b (Some n) (branch_in ns d name) ≡ Some m
+        → (branch_in ns d name ≡ Some m → branch_in (without_node ns v) d name ≡ Some m)
+        → branch_in (cond (not a) (n ∷ without_node ns v) (without_node ns v)) d name ≡ Some m
+    by false true e i x rest = ap (λ (b : Bool). cond b (Some n) (branch_in (without_node ns v) d name)) i ∙ x
+    by false false e i x rest = ap (λ (b : Bool). cond b (Some n) (branch_in (without_node ns v) d name)) i ∙ rest x
+    by true false e i x rest = rest x
+    by true true e i x rest = absurd (elim (eqb_tells n.uid v) [
+      | inl same ↦ other (sym (ap (λ (y : Node). y.uid) (let is : n ≡ m = cc in is)) ∙ same.1)
+      | inr o ↦ no_and e o.0
+    ])
+
+-- Another node is gone, and what is left is a tree.
+pub paths_less : (ns : List Node) (v u : ℕ) → IsTree ns → IsTree (without_node ns v) → u ≢ v
+    → PathsStay ns (without_node ns v) u
+paths_less ns v u tree left other = path_stays ns (without_node ns v) u (λ d. d ≢ v) other up
+    (λ d name m h n. (m, branch_left ns v d name m h n, refl, refl))
+    (λ m h dir. (m, node_left ns v u other ∙ h, dir))
+  where
+    -- nothing lies in the node that is gone
+    up : (d : ℕ) (name : List ℕ) (m : Node) → branch_in ns d name ≡ Some m → d ≢ v
+    up d name m h same = let here = is_here ns d name m h in let is = (lies d name m here.1).0 in
+        let was = has_above ns m d tree here.0 is in
+        let now = has_above (without_node ns v) m d left (member_left ns v m here.0
+        (λ e. (let less = was.1 in omega (arith, less, same, e)))) is in
+        no_and (subst (λ (x : ℕ). has_directory (without_node ns v) x ≡ true) same now.0) (directory_gone ns v)

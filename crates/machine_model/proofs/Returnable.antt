@@ -1,0 +1,262 @@
+-- What the owner's job has taken may come back: its pages one after the other, and then its descriptors.
+use Rattle.std.proofs.Common.{◌≡◌, ◌<◌, ℕ, suc, Bool, true, false, ◌||◌, List, [], ◌∷◌, length, Option, Some, None}
+use Rattle.std.proofs.Common.{inr, refl, sym, ap, subst, ◌∙◌}
+use Rattle.std.proofs.lemmas.List.{length-set}
+use Rattle.core_map.specs.declared.Frame.{Frame}
+use Rattle.core_map.specs.declared.Frame.TheVariants as frame
+use Rattle.core_map.specs.CoreMap.{bound_page, frame_at, is_bound}
+use Rattle.page_table.specs.declared.Ptw.{Ptw}
+use Rattle.page_table.specs.declared.Ptw.TheVariants as ptw
+use Rattle.page_control.specs.Plain.{frame_in}
+use Rattle.descriptor_seg.specs.declared.Sdw.{Sdw}
+use Rattle.descriptor_seg.specs.declared.Sdw.TheVariants as sdw
+use Rattle.seg_control.specs.Control.{leads, leads_at, place_of, sdws_at, word_of}
+use Rattle.custody_model.specs.Custody.{has, is_going_descriptor}
+use Rattle.machine_model.specs.declared.CutDescriptor.{CutDescriptor}
+use Rattle.machine_model.specs.Chains.{page_at}
+use Rattle.machine_model.specs.Custodial.{AreApart, AreDistinct, has_cut, names}
+use Rattle.machine_model.specs.Holding.{led_to, seen}
+use Rattle.machine_model.specs.Jobs.{here_if, page_or_zero, with_here, with_relink}
+use Rattle.machine_model.specs.Keeps.{AreThere, HadRights, Keeps}
+use Rattle.machine_model.specs.Reads.{cut_of_owner, descriptor_of, frames_of_owner}
+use Rattle.machine_model.specs.Returned.{IsLeaving, IsRelinkable, MayComeBack, MayRelink, with_all_here}
+use Rattle.machine_model.specs.Seen.{cut_uid, descriptor_use, is_cut_at}
+use Rattle.machine_model.specs.State.{State, Storage}
+use Rattle.machine_model.specs.Working.{AreNumbered, IsWorking}
+use Rattle.machine_model.proofs.ActiveSeen.{active_place}
+use Rattle.machine_model.proofs.BackKept.{relink_there}
+use Rattle.machine_model.proofs.ChainLaws.{going_word, has_head, has_tail}
+use Rattle.machine_model.proofs.ListLaws.{map_list}
+use Rattle.machine_model.proofs.OwnedLaws.{cut_at_same}
+use Rattle.machine_model.proofs.Places.{by_places}
+use Rattle.machine_model.proofs.TakeSeen.{descriptors_put, not_null, words_put}
+use Rattle.machine_model.proofs.TieLaws.{none_some}
+
+no_and : {b : Bool} → b ≡ true → b ≡ false → ⊥
+no_and t f = let none : true ≡ false = sym t ∙ f in cc
+
+or_parts : (a b : Bool) → (a || b) ≡ false → (a ≡ false) × (b ≡ false)
+or_parts false b h = (refl, h)
+or_parts true b h = absurd (let none : true ≡ false = h in cc)
+
+or_right : (a b : Bool) → b ≡ true → (a || b) ≡ true
+or_right true b h = refl
+or_right false b h = h
+
+-- ---- pages
+
+-- a frame has a page whose word says that it leaves it
+record Leaves (st : Storage) (f : ℕ) : Type 0 where
+  page : ℕ × ℕ
+  bound : bound_page (frame_in st.pages f) ≡ Some page
+  word : word_of st.ast page.0 page.1 ≡ ptw.Leaving f
+
+abbrev AllLeave : Storage → List ℕ → Type 0
+AllLeave st [] = Unit {0}
+AllLeave st (f ∷ fs) = Leaves st f × AllLeave st fs
+
+bound_is : (x : Frame) (page : ℕ × ℕ) → bound_page x ≡ Some page → is_bound x ≡ true
+bound_is frame.Free page e = absurd (none_some e)
+bound_is (frame.Started u p) page e = absurd (none_some e)
+bound_is (frame.Bound u p used modified) page e = refl
+
+leaving_is : (st : Storage) (f : ℕ) → Leaves st f → IsLeaving st f
+leaving_is st f h = record {
+  bound = bound_is (frame_at st.pages.core f) h.page h.bound;
+  leaving = ap (λ (page : ℕ × ℕ). word_of st.ast page.0 page.1) (ap page_or_zero h.bound) ∙ h.word;
+}
+
+here_is : (st : Storage) (f : ℕ) (page : ℕ × ℕ) → bound_page (frame_in st.pages f) ≡ Some page
+    → with_here st f ≡ here_if st f (Some page)
+here_is st f page e = ap (here_if st f) e
+
+-- the others still leave once the page of one frame is back
+others_leave : (st : Storage) (f : ℕ) (fs : List ℕ) → length st.ast.tables ≡ length st.ast.entries
+    → (h : Leaves st f) → has fs f ≡ false → AllLeave st fs → AllLeave (here_if st f (Some h.page)) fs
+others_leave st f [] tables h once all = tt
+others_leave st f (g ∷ gs) tables h once all = (
+  record { page = all.0.page; bound = all.0.bound; word = still },
+  others_leave st f gs tables h (or_parts _ _ once).1 all.1,
+)
+  where
+    other : all.0.page.0 ≡ h.page.0 → all.0.page.1 ≡ h.page.1 → ⊥
+    other a b = let both : ptw.Leaving g ≡ ptw.Leaving f = sym all.0.word
+        ∙ (ap (λ (x : ℕ). word_of st.ast x all.0.page.1) a ∙ (ap (λ (x : ℕ). word_of st.ast h.page.0 x) b ∙ h.word)) in
+        let same : g ≡ f = cc in no_and (subst (λ (x : ℕ). has (g ∷ gs) x ≡ true) same (has_head g gs)) once
+
+    still : word_of (here_if st f (Some h.page)).ast all.0.page.0 all.0.page.1 ≡ ptw.Leaving g
+    still = words_put st.ast h.page.0 h.page.1 (ptw.Here f) tables
+        (not_null (word_of st.ast h.page.0 h.page.1) (ptw.Leaving f) f h.word (inr refl)) all.0.page.0 all.0.page.1
+        ∙ by_places (λ (x : Ptw). x ≡ ptw.Leaving g) (λ x y. word_of st.ast x y) h.page.0 h.page.1 (ptw.Here f)
+        all.0.page.0 all.0.page.1 (λ a b. absurd (other a b)) (λ m. all.0.word)
+
+all_come_back : (st : Storage) (fs : List ℕ) → length st.ast.tables ≡ length st.ast.entries → AreDistinct fs
+    → AllLeave st fs → MayComeBack st fs
+all_come_back st [] tables once all = tt
+all_come_back st (f ∷ fs) tables once all = (
+  leaving_is st f all.0,
+  subst (λ (x : Storage). MayComeBack x fs) (sym (here_is st f all.0.page all.0.bound))
+      (all_come_back (here_if st f (Some all.0.page)) fs
+      (length-set st.ast.tables (place_of st.ast.entries all.0.page.0) _ ∙ tables) once.1
+      (others_leave st f fs tables all.0 once.0 all.1)),
+)
+
+-- ---- descriptors
+
+abbrev AllRelinkable : Storage → List CutDescriptor → Type 0
+AllRelinkable st [] = Unit {0}
+AllRelinkable st (d ∷ ds) = IsRelinkable st d × AllRelinkable st ds
+
+-- the others may still come back once one descriptor is
+others_relink : (st : Storage) (d : CutDescriptor) (ds : List CutDescriptor) → d.process < length st.links.descriptors
+    → d.number < length (sdws_at st.links.descriptors d.process) → has_cut ds d.process d.number ≡ false
+    → AllRelinkable st ds → AllRelinkable (with_relink st d) ds
+others_relink st d [] outer inner apart all = tt
+others_relink st d (e ∷ es) outer inner apart all = (
+  record {
+    process = all.0.process;
+    active = all.0.active;
+    known = all.0.known;
+    cut = still;
+    right = all.0.right;
+  },
+  others_relink st d es outer inner parts.1 all.1,
+)
+  where
+    parts : (is_cut_at d.process d.number e ≡ false) × (has_cut es d.process d.number ≡ false)
+    parts = or_parts (is_cut_at d.process d.number e) (has_cut es d.process d.number) apart
+
+    word : Sdw
+    word = sdw.Present (place_of st.ast.entries d.uid) d.mode d.pages
+
+    still : leads_at (with_relink st d).links.descriptors e.process e.number ≡ None
+    still = ap leads (descriptors_put st.links (with_relink st d).links.trailers d.process d.number word outer inner
+        e.process e.number)
+        ∙ by_places (λ (x : Sdw). leads x ≡ None) (λ a b. descriptor_of st.links a b) d.process d.number word
+        e.process e.number
+        (λ a b. absurd (no_and (ap (λ (x : ℕ). is_cut_at x d.number e) (sym a)
+        ∙ (ap (λ (y : ℕ). is_cut_at e.process y e) (sym b) ∙ cut_at_same e)) parts.0))
+        (λ m. all.0.cut)
+
+all_relink : (st : Storage) (ds : List CutDescriptor) → AreApart ds → AreThere st ds → AllRelinkable st ds
+    → MayRelink st ds
+all_relink st [] apart there all = tt
+all_relink st (d ∷ ds) apart there all = (
+  all.0,
+  all_relink (with_relink st d) ds apart.1 (relink_there st d ds there.1)
+      (others_relink st d ds there.0.0 there.0.1 apart.0 all.1),
+)
+
+-- ---- page tables alone differ once the pages are back
+
+abbrev with_tables : Storage → List (List Ptw) → Storage
+with_tables st tables = record st { ast = record st.ast { tables = tables } }
+
+here_tables : (st : Storage) (f : ℕ) (o : Option (ℕ × ℕ)) → (tables : List (List Ptw))
+    × (here_if st f o ≡ with_tables st tables)
+here_tables st f None = (st.ast.tables, refl)
+here_tables st f (Some page) = ((here_if st f (Some page)).ast.tables, refl)
+
+all_here_tables : (st : Storage) (fs : List ℕ) → (tables : List (List Ptw))
+    × (with_all_here st fs ≡ with_tables st tables)
+all_here_tables st [] = (st.ast.tables, refl)
+all_here_tables st (f ∷ fs) = let rest = all_here_tables (with_here st f) fs in (
+  rest.0,
+  rest.1 ∙ ap (λ (x : Storage). with_tables x rest.0)
+      (here_tables st f (bound_page (frame_in st.pages f))).1,
+)
+
+relink_tables : (st : Storage) (tables : List (List Ptw)) (ds : List CutDescriptor) → AllRelinkable st ds
+    → AllRelinkable (with_tables st tables) ds
+relink_tables st tables [] all = tt
+relink_tables st tables (d ∷ ds) all = (
+  record {
+    process = all.0.process;
+    active = all.0.active;
+    known = all.0.known;
+    cut = all.0.cut;
+    right = all.0.right;
+  },
+  relink_tables st tables ds all.1,
+)
+
+there_tables : (st : Storage) (tables : List (List Ptw)) (ds : List CutDescriptor) → AreThere st ds
+    → AreThere (with_tables st tables) ds
+there_tables st tables [] there = tt
+there_tables st tables (d ∷ ds) there = (there.0, there_tables st tables ds there.1)
+
+-- ---- what a machine keeps of them
+
+module _ (s : State) (keeps : Keeps s) where
+  frame_leaves : (f : ℕ) → has (frames_of_owner s.owner) f ≡ true → Leaves s.store f
+  frame_leaves f h = record {
+    page = page_at (seen s) f;
+    bound = sym (map_list bound_page s.store.pages.core.frames f frame.Free)
+        ∙ keeps.book.tied.back f (page_at (seen s) f).0 (page_at (seen s) f).1 (ap names word);
+    word = word;
+  }
+    where
+      word : word_of s.store.ast (page_at (seen s) f).0 (page_at (seen s) f).1 ≡ ptw.Leaving f
+      word = going_word (seen s) f keeps.book (keeps.book.going_owned.frames f ∙ h)
+
+  frames_leave : (fs : List ℕ) → ((f : ℕ) → has fs f ≡ true → Leaves s.store f) → AllLeave s.store fs
+  frames_leave [] each = tt
+  frames_leave (f ∷ fs) each = (each f (has_head f fs), frames_leave fs (λ g h. each g (has_tail f fs g h)))
+
+  -- The pages that the owner's job took may come back, one after the other.
+  pub pages_return : MayComeBack s.store (frames_of_owner s.owner)
+  pages_return = all_come_back s.store (frames_of_owner s.owner) keeps.store.kept.places keeps.book.going_owned.once
+      (frames_leave (frames_of_owner s.owner) frame_leaves)
+
+  -- a descriptor that was cut leads to no segment
+  unlinked : (k n : ℕ) → has_cut (cut_of_owner s.owner) k n ≡ true → (seen s).linked k n ≡ None
+  unlinked k n h = by ((seen s).linked k n) refl
+    where
+      by : (x : Option ℕ) → (seen s).linked k n ≡ x → x ≡ None
+      by None e = refl
+      by (Some u) e = let going = keeps.book.going_owned.cuts k n ∙ h in
+          absurd (let no : false ≡ true = sym (ap (λ (o : Option ℕ). is_going_descriptor (descriptor_use o
+          (cut_uid (cut_of_owner s.owner) k n))) e) ∙ going in cc)
+
+  -- and to no place
+  leads_nowhere : (k n : ℕ) → (seen s).linked k n ≡ None → leads_at s.store.links.descriptors k n ≡ None
+  leads_nowhere k n h = by (descriptor_of s.store.links k n) refl
+    where
+      by : (x : Sdw) → descriptor_of s.store.links k n ≡ x → leads x ≡ None
+      by sdw.Fault e = refl
+      by (sdw.Present aste mode pages) e = let at = keeps.store.kept.linked.known k n aste (ap leads e) in
+          absurd (none_some (sym (sym (ap (led_to s.store.ast.entries) e) ∙ h) ∙ at.active))
+
+  relinkable : (ds : List CutDescriptor) → AreThere s.store ds
+      → HadRights s.store.accounts.nodes s.store.whos ds → AreNumbered s.store.links.known ds
+      → ((k n : ℕ) → has_cut ds k n ≡ true → (seen s).linked k n ≡ None) → AllRelinkable s.store ds
+  relinkable [] there rights numbered none = tt
+  relinkable (d ∷ ds) there rights numbered none = (
+    record {
+      process = subst (λ (n : ℕ). d.process < n) keeps.store.kept.linked.lists.processes there.0.0;
+      active = (place_of s.store.ast.entries d.uid, (active_place s.store.ast d.uid there.0.2).1);
+      known = numbered.0;
+      cut = leads_nowhere d.process d.number (none d.process d.number
+          (ap (λ (b : Bool). b || has_cut ds d.process d.number) (cut_at_same d)));
+      right = record { mode_is = λ n h. rights.modes 0 d n refl h; pages_are = λ n h. rights.lengths 0 d n refl h };
+    },
+    relinkable ds there.1
+        (record {
+          modes = λ i e n at h. rights.modes (suc i) e n at h;
+          lengths = λ i e n at h. rights.lengths (suc i) e n at h;
+        })
+        numbered.1 (λ k n h. none k n (or_right (is_cut_at k n d) (has_cut ds k n) h)),
+  )
+
+  -- The descriptors that it cut may come back after them.
+  pub descriptors_return : IsWorking s
+      → MayRelink (with_all_here s.store (frames_of_owner s.owner)) (cut_of_owner s.owner)
+  descriptors_return working = subst (λ (x : Storage). MayRelink x (cut_of_owner s.owner)) (sym here.1)
+      (all_relink (with_tables s.store here.0) (cut_of_owner s.owner) keeps.book.going_owned.apart
+      (there_tables s.store here.0 (cut_of_owner s.owner) keeps.cut)
+      (relink_tables s.store here.0 (cut_of_owner s.owner)
+      (relinkable (cut_of_owner s.owner) keeps.cut keeps.rights working.numbered unlinked)))
+    where
+      here : (tables : List (List Ptw)) × (with_all_here s.store (frames_of_owner s.owner)
+          ≡ with_tables s.store tables)
+      here = all_here_tables s.store (frames_of_owner s.owner)
