@@ -50,7 +50,7 @@ use Rattle.machine_model.proofs.TransferKept.{kept_with}
 -- ---- frames that are freed
 
 -- a function of frames, once each of some frames has None
-abbrev freed : (ℕ → Option (ℕ × ℕ)) → List ℕ → ℕ → Option (ℕ × ℕ)
+abbrev pub freed : (ℕ → Option (ℕ × ℕ)) → List ℕ → ℕ → Option (ℕ × ℕ)
 freed b [] = b
 freed b (f ∷ fs) = freed (at_put b f None) fs
 
@@ -58,14 +58,14 @@ freed_length : (pages : Plain) (fs : List ℕ) → length (frames_freed pages fs
 freed_length pages [] = refl
 freed_length pages (f ∷ fs) = freed_length (framed pages f frame.Free) fs ∙ length-set pages.core.frames f frame.Free
 
-freed_bound : (pages : Plain) (fs : List ℕ) → ((f : ℕ) → has fs f ≡ true → f < length pages.core.frames) → (g : ℕ)
+pub freed_bound : (pages : Plain) (fs : List ℕ) → ((f : ℕ) → has fs f ≡ true → f < length pages.core.frames) → (g : ℕ)
     → binding_at (bindings (frames_freed pages fs).core) g ≡ freed (λ h. binding_at (bindings pages.core) h) fs g
 freed_bound pages [] within g = refl
 freed_bound pages (f ∷ fs) within g = freed_bound (framed pages f frame.Free) fs
     (λ h e. subst (λ (n : ℕ). h < n) (sym (length-set pages.core.frames f frame.Free)) (within h (has_tail f fs h e))) g
     ∙ (λ i. freed (λ h. bound_put pages.core f frame.Free (within f (has_head f fs)) h i) fs g)
 
-freed_reads : (pages : Plain) (fs : List ℕ) → ((f : ℕ) → has fs f ≡ true → f < length pages.core.frames) → (g : ℕ)
+pub freed_reads : (pages : Plain) (fs : List ℕ) → ((f : ℕ) → has fs f ≡ true → f < length pages.core.frames) → (g : ℕ)
     → read_at (reads_of (frames_freed pages fs).core) g ≡ freed (λ h. read_at (reads_of pages.core) h) fs g
 freed_reads pages [] within g = refl
 freed_reads pages (f ∷ fs) within g = freed_reads (framed pages f frame.Free) fs
@@ -81,12 +81,12 @@ freed_none b (f ∷ fs) none g = (λ i. freed (λ h. unread_put b f (none f (has
 
 -- ---- the chain, as custody sees it
 
-gones_bound : (v : Seen) (fs : List ℕ) → (gones v fs).bound ≡ freed v.bound fs
+pub gones_bound : (v : Seen) (fs : List ℕ) → (gones v fs).bound ≡ freed v.bound fs
 gones_bound v [] = refl
 gones_bound v (f ∷ fs) = gones_bound (gone v f (page_at v f).0 (page_at v f).1 ptw.Null (without_frame v.owner)) fs
 
 -- what pages that leave their frames don't change
-record IsAlike (v now : Seen) : Type 0 where
+pub record IsAlike (v now : Seen) : Type 0 where
   pub plan : now.plan ≡ v.plan
   pub reads : now.reads ≡ v.reads
   pub active : now.active ≡ v.active
@@ -95,7 +95,7 @@ record IsAlike (v now : Seen) : Type 0 where
   pub processors : now.processors ≡ v.processors
   pub runs : now.runs ≡ v.runs
 
-gones_alike : (v : Seen) (fs : List ℕ) → IsAlike v (gones v fs)
+pub gones_alike : (v : Seen) (fs : List ℕ) → IsAlike v (gones v fs)
 gones_alike v [] = record {
   plan = refl;
   reads = refl;
@@ -116,7 +116,7 @@ gones_alike v (f ∷ fs) = let rest = gones_alike
       runs = rest.runs;
     }
 
-segs_alike : (v : Seen) (ds : List CutDescriptor) → IsAlike v (gone_segs v ds)
+pub segs_alike : (v : Seen) (ds : List CutDescriptor) → IsAlike v (gone_segs v ds)
 segs_alike v [] = record {
   plan = refl;
   reads = refl;
@@ -136,7 +136,7 @@ segs_alike v (d ∷ ds) = let rest = segs_alike (gone_seg v d (without_cut v.own
   runs = rest.runs;
 }
 
-segs_bound : (v : Seen) (ds : List CutDescriptor) → (gone_segs v ds).bound ≡ v.bound
+pub segs_bound : (v : Seen) (ds : List CutDescriptor) → (gone_segs v ds).bound ≡ v.bound
 segs_bound v [] = refl
 segs_bound v (d ∷ ds) = segs_bound (gone_seg v d (without_cut v.owner)) ds
 
@@ -152,15 +152,15 @@ append_nil : (es : List Entry) → es ++ [] ≡ es
 append_nil [] = refl
 append_nil (e ∷ es) = ap (λ (t : List Entry). e ∷ t) (append_nil es)
 
-abbrev gone_entry : ℕ → Entry
+abbrev pub gone_entry : ℕ → Entry
 gone_entry f = entry.GonePage f
 
-gones_entries : (v : Seen) (fs : List ℕ) → (gones v fs).entries ≡ v.entries ++ map gone_entry fs
+pub gones_entries : (v : Seen) (fs : List ℕ) → (gones v fs).entries ≡ v.entries ++ map gone_entry fs
 gones_entries v [] = sym (append_nil v.entries)
 gones_entries v (f ∷ fs) = gones_entries (gone v f (page_at v f).0 (page_at v f).1 ptw.Null (without_frame v.owner)) fs
     ∙ append_assoc v.entries (entry.GonePage f ∷ []) (map gone_entry fs)
 
-segs_entries : (v : Seen) (ds : List CutDescriptor) → (gone_segs v ds).entries ≡ v.entries ++ map cut_entry ds
+pub segs_entries : (v : Seen) (ds : List CutDescriptor) → (gone_segs v ds).entries ≡ v.entries ++ map cut_entry ds
 segs_entries v [] = sym (append_nil v.entries)
 segs_entries v (d ∷ ds) = segs_entries (gone_seg v d (without_cut v.owner)) ds
     ∙ append_assoc v.entries (cut_entry d ∷ []) (map cut_entry ds)

@@ -41,6 +41,8 @@ pub mod InsideLaws
 pub mod JobAsks
 pub mod JobKept
 pub mod JobLaws
+pub mod JustLaws
+pub mod JustTaken
 pub mod KeepLaws
 pub mod KeptLaws
 pub mod LackLaws
@@ -102,6 +104,7 @@ pub mod MachineKept
 pub mod MachineBoot
 pub mod CommitAsks
 pub mod ForeseeLaws
+pub mod CommitRests
 pub mod CommitRights
 pub mod StepKept
 pub mod StepLaws

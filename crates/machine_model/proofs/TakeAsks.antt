@@ -37,7 +37,7 @@ own n = elim (eqb_tells n n) [ inl e ↦ e.0 | inr m ↦ absurd (m.1 refl) ]
 
 module _ (s : State) (k : ℕ) (keeps : Keeps s) (idle : IsIdle s.owner) where
   -- where no page is taken
-  no_pages : (w : What) → CanTakeAll (seen s) aim.Committing w []
+  pub no_pages : (w : What) → CanTakeAll (seen s) aim.Committing w []
   no_pages w = record {
     here = λ f h. absurd (let none : false ≡ true = h in cc);
     once = tt;

@@ -28,6 +28,7 @@ pub mod Seen
 pub mod Shutdown
 pub mod State
 pub mod Steps
+pub mod Taking
 pub mod Turns
 pub mod Whole
 pub mod Working

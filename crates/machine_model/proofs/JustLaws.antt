@@ -1,0 +1,196 @@
+-- What a command's job has taken stays just what it takes, entry by entry, while the others go on.
+use Rattle.std.proofs.Common.{◌≡◌, ℕ, true, false, List, [], ◌∷◌, ◌++◌, Option, Some, None, refl, sym, ap, subst, ◌∙◌}
+use Rattle.script.specs.Plans.{Plan}
+use Rattle.script.specs.declared.commands.Command.{Command}
+use Rattle.script.specs.declared.commands.Command.TheVariants as command
+use Rattle.book.specs.declared.entries.Entry.{Entry}
+use Rattle.book.specs.declared.entries.Entry.TheVariants as entry
+use Rattle.tree_model.specs.Tree.{Node}
+use Rattle.flat_model.specs.Branches.{node_at}
+use Rattle.flat_model.specs.Legal.{store_after}
+use Rattle.flat_model.specs.Store.{Store}
+use Rattle.known_segs.specs.Known.{uid_of}
+use Rattle.seg_control.specs.Control.{kst_at}
+use Rattle.custody_model.specs.declared.DescriptorUse.{DescriptorUse}
+use Rattle.custody_model.specs.declared.FrameUse.{FrameUse}
+use Rattle.custody_model.specs.declared.FrameUse.TheVariants as frame
+use Rattle.custody_model.specs.Clean.{custody_after}
+use Rattle.custody_model.specs.Custody.{Custody, is_going_descriptor, is_going_frame, leads_to, page_of}
+use Rattle.custody_model.specs.Next.{custody_next, with_frame}
+use Rattle.custody_model.proofs.CleanLaws.{custody_after-push}
+use Rattle.machine_model.specs.declared.Aim.{Aim}
+use Rattle.machine_model.specs.declared.Aim.TheVariants as aim
+use Rattle.machine_model.specs.declared.Phase.{Phase}
+use Rattle.machine_model.specs.declared.Phase.TheVariants as phase
+use Rattle.machine_model.specs.Holding.{holding}
+use Rattle.machine_model.specs.Keeps.{Keeps}
+use Rattle.machine_model.specs.Reads.{or_zero}
+use Rattle.machine_model.specs.Refusal.{uid_of_command, uid_of_node}
+use Rattle.machine_model.specs.State.{State, Storage}
+use Rattle.machine_model.specs.Taking.{GoesJust, IsAlone, IsTakenBy, IsTakenFor, TakenIn, TakenTo, TakesDescriptor}
+use Rattle.machine_model.specs.Taking.{TakesPage}
+use Rattle.machine_model.proofs.FlatAlike.{append_assoc, append_nil}
+use Rattle.machine_model.proofs.Places.{by_place}
+use Rattle.machine_model.proofs.TieLaws.{none_some, page_is}
+
+-- an entry takes nothing, lets nothing go, and brings no page that is taken
+abbrev pub Stays : (ℕ → ℕ → Type 0) → Entry → Type 0
+Stays Page (entry.Here f v q) = Page v q → ⊥
+Stays Page (entry.Start f v q) = ⊥
+Stays Page (entry.Connect k n v) = ⊥
+Stays Page (entry.Take f) = ⊥
+Stays Page (entry.Cut k n) = ⊥
+Stays Page (entry.GonePage f) = ⊥
+Stays Page (entry.BackPage f) = ⊥
+Stays Page (entry.GoneSeg k n) = ⊥
+Stays Page (entry.BackSeg k n) = ⊥
+Stays Page _ = Unit {0}
+
+abbrev pub AllStay : (ℕ → ℕ → Type 0) → List Entry → Type 0
+AllStay Page [] = Unit {0}
+AllStay Page (e ∷ es) = Stays Page e × AllStay Page es
+
+module _ (Page : ℕ → ℕ → Type 0) (Descriptor : ℕ → ℕ → ℕ → Type 0) where
+  -- one frame is used otherwise, and isn't on its way out
+  frame_just : (c : Custody) (f : ℕ) (x : FrameUse) → GoesJust c Page Descriptor → is_going_frame x ≡ false
+      → ((u q : ℕ) → page_of x ≡ Some (u, q) → Page u q → ⊥) → GoesJust (with_frame c f x) Page Descriptor
+  frame_just c f x j off none = record {
+    pages = λ g u q. by_place (λ (y : FrameUse). page_of y ≡ Some (u, q) → Page u q → is_going_frame y ≡ true)
+        c.frame f x g (λ e h i. absurd (none u q h i)) (λ n. j.pages g u q);
+    its_pages = λ g u q. by_place (λ (y : FrameUse). page_of y ≡ Some (u, q) → is_going_frame y ≡ true → Page u q)
+        c.frame f x g (λ e h i. absurd (let no : true ≡ false = sym i ∙ off in cc)) (λ n. j.its_pages g u q);
+    descriptors = j.descriptors;
+    its_descriptors = j.its_descriptors;
+  }
+
+  seat_just : (c e : Custody) → e.frame ≡ c.frame → e.descriptor ≡ c.descriptor → GoesJust c Page Descriptor
+      → GoesJust e Page Descriptor
+  seat_just c e f d j = record {
+    pages = subst (λ (x : ℕ → FrameUse). (g u q : ℕ) → page_of (x g) ≡ Some (u, q) → Page u q
+        → is_going_frame (x g) ≡ true) (sym f) j.pages;
+    its_pages = subst (λ (x : ℕ → FrameUse). (g u q : ℕ) → page_of (x g) ≡ Some (u, q)
+        → is_going_frame (x g) ≡ true → Page u q) (sym f) j.its_pages;
+    descriptors = subst (λ (x : ℕ → ℕ → DescriptorUse). (k n u : ℕ) → leads_to (x k n) ≡ Some u → Descriptor k n u
+        → is_going_descriptor (x k n) ≡ true) (sym d) j.descriptors;
+    its_descriptors = subst (λ (x : ℕ → ℕ → DescriptorUse). (k n u : ℕ) → leads_to (x k n) ≡ Some u
+        → is_going_descriptor (x k n) ≡ true → Descriptor k n u) (sym d) j.its_descriptors;
+  }
+
+  just_next : (p : Plan) (s : Store) (c : Custody) (e : Entry) → GoesJust c Page Descriptor → Stays Page e
+      → GoesJust (custody_next p s c e) Page Descriptor
+  unfolding custody_next
+  just_next p s c (entry.Do k i d f r) j h = seat_just c (custody_next p s c (entry.Do k i d f r)) refl refl j
+  just_next p s c (entry.Release v q) j h = j
+  just_next p s c (entry.Fault k) j h = j
+  just_next p s c (entry.Online d) j h = seat_just c (custody_next p s c (entry.Online d)) refl refl j
+  just_next p s c (entry.Load d k) j h = seat_just c (custody_next p s c (entry.Load d k)) refl refl j
+  just_next p s c (entry.Leave d) j h = seat_just c (custody_next p s c (entry.Leave d)) refl refl j
+  just_next p s c (entry.Activate v) j h = seat_just c (custody_next p s c (entry.Activate v)) refl refl j
+  just_next p s c (entry.Deactivate v) j h = seat_just c (custody_next p s c (entry.Deactivate v)) refl refl j
+  just_next p s c (entry.Start f v q) j h = absurd h
+  just_next p s c (entry.Lose f) j h = frame_just c f frame.Free j refl (λ u q e. absurd (none_some e))
+  just_next p s c (entry.Here f v q) j h = frame_just c f (frame.Current v q) j refl
+      (λ u p e i. h (let same = page_is v q u p e in
+      subst (λ (x : ℕ). Page x q) (sym same.0) (subst (Page u) (sym same.1) i)))
+  just_next p s c (entry.Connect k n v) j h = absurd h
+  just_next p s c (entry.Take f) j h = absurd h
+  just_next p s c (entry.Cut k n) j h = absurd h
+  just_next p s c (entry.Signal d x) j h = seat_just c (custody_next p s c (entry.Signal d x)) refl refl j
+  just_next p s c (entry.Clear d x) j h = seat_just c (custody_next p s c (entry.Clear d x)) refl refl j
+  just_next p s c (entry.FillSeg d n) j h = seat_just c (custody_next p s c (entry.FillSeg d n)) refl refl j
+  just_next p s c (entry.FillPage d f) j h = seat_just c (custody_next p s c (entry.FillPage d f)) refl refl j
+  just_next p s c (entry.GonePage f) j h = absurd h
+  just_next p s c (entry.BackPage f) j h = absurd h
+  just_next p s c (entry.GoneSeg k n) j h = absurd h
+  just_next p s c (entry.BackSeg k n) j h = absurd h
+
+  just_list : (p : Plan) (es more : List Entry) → GoesJust (custody_after p es) Page Descriptor → AllStay Page more
+      → GoesJust (custody_after p (es ++ more)) Page Descriptor
+  just_list p es [] j stay =
+      subst (λ (xs : List Entry). GoesJust (custody_after p xs) Page Descriptor) (sym (append_nil es)) j
+  just_list p es (e ∷ more) j stay = subst (λ (xs : List Entry). GoesJust (custody_after p xs) Page Descriptor)
+      (append_assoc es (e ∷ []) more)
+      (just_list p (es ++ e ∷ []) more (subst (λ (c : Custody). GoesJust c Page Descriptor)
+      (sym (custody_after-push p es e)) (just_next p (store_after p es) (custody_after p es) e j stay.0)) stay.1)
+
+  -- what goes is just that still
+  pub just_on : (s now : State) (more : List Entry) → Keeps s → Keeps now → now.plan ≡ s.plan
+      → now.entries ≡ s.entries ++ more → GoesJust (holding s) Page Descriptor → AllStay Page more
+      → GoesJust (holding now) Page Descriptor
+  just_on s now more k kept plan entries j stay = subst (λ (c : Custody). GoesJust c Page Descriptor)
+      (sym (kept.book.held ∙ λ i. custody_after (plan i) (entries i)))
+      (just_list s.plan s.entries more
+      (subst (λ (c : Custody). GoesJust c Page Descriptor) k.book.held j) stay)
+
+  -- a page that is being read isn't taken
+  pub started_free : (c : Custody) (f v q : ℕ) → GoesJust c Page Descriptor → c.frame f ≡ frame.Started v q
+      → Page v q → ⊥
+  started_free c f v q j started h = let going = j.pages f v q (ap page_of started) h in
+      let no : false ≡ true = sym (ap is_going_frame started) ∙ going in cc
+
+-- ---- the segment of the command
+
+-- it is the same where the tree and the numbers are
+pub same_uid : (old now : Storage) (k : ℕ) (c : Command) → now.accounts.nodes ≡ old.accounts.nodes
+    → now.links.known ≡ old.links.known → uid_of_command now k c ≡ uid_of_command old k c
+same_uid old now k c nodes known = by c
+  where
+    path_same : (path : List (List ℕ)) → uid_of_node (node_at now.accounts.nodes path)
+        ≡ uid_of_node (node_at old.accounts.nodes path)
+    path_same path = ap (λ (ns : List Node). uid_of_node (node_at ns path)) nodes
+
+    by : (x : Command) → uid_of_command now k x ≡ uid_of_command old k x
+    by (command.Initiate path) = path_same path
+    by (command.Terminate n) = ap (λ (x : List (List (Option ℕ))). or_zero (uid_of (kst_at x k) n)) known
+    by (command.Acl path row m) = path_same path
+    by (command.Length path pages) = path_same path
+    by (command.Truncate path words) = path_same path
+    by (command.Delete path) = path_same path
+    by (command.Move path amount) = path_same path
+    by (command.Status path) = path_same path
+    by (command.MkDir path volume) = refl
+    by (command.MkSeg path pages volume) = refl
+    by command.End = refl
+    by (command.Read n w) = refl
+    by (command.Write n w v) = refl
+    by (command.Add n w v) = refl
+    by (command.Await n w v t) = refl
+
+alone_same : (old now : List Node) (u : ℕ) (c : Command) → now ≡ old → IsAlone old u c → IsAlone now u c
+alone_same old now u c same h = subst (λ (ns : List Node). IsAlone ns u c) (sym same) h
+
+-- ---- what a job has taken
+
+-- steps that leave the tree, the numbers and what is taken
+pub record LeavesTaken (s now : State) : Type 1 where
+  pub nodes : now.store.accounts.nodes ≡ s.store.accounts.nodes
+  pub known : now.store.links.known ≡ s.store.links.known
+  pub just : (Page : ℕ → ℕ → Type 0) (Descriptor : ℕ → ℕ → ℕ → Type 0) → GoesJust (holding s) Page Descriptor
+      → GoesJust (holding now) Page Descriptor
+
+taken_for : (s now : State) (k : ℕ) (c : Command) → LeavesTaken s now → IsTakenFor s k c → IsTakenFor now k c
+taken_for s now k c l h = record {
+  just = subst (λ (u : ℕ). GoesJust (holding now) (TakesPage c u) (TakesDescriptor c k u)) (sym same)
+      (l.just (TakesPage c (uid_of_command s.store k c)) (TakesDescriptor c k (uid_of_command s.store k c)) h.just);
+  alone = subst (λ (u : ℕ). IsAlone now.store.accounts.nodes u c) (sym same)
+      (alone_same s.store.accounts.nodes now.store.accounts.nodes (uid_of_command s.store k c) c l.nodes h.alone);
+}
+  where
+    same : uid_of_command now.store k c ≡ uid_of_command s.store k c
+    same = same_uid s.store now.store k c l.nodes l.known
+
+taken_by : (s now : State) (k : ℕ) (x : Option Command) → LeavesTaken s now → IsTakenBy s k x → IsTakenBy now k x
+taken_by s now k None l h = tt
+taken_by s now k (Some c) l h = taken_for s now k c l h
+
+taken_to : (a : Aim) (s now : State) (k : ℕ) (x : Option Command) → LeavesTaken s now → TakenTo a s k x
+    → TakenTo a now k x
+taken_to aim.Evicting s now k x l h = tt
+taken_to (aim.Deactivating u) s now k x l h = tt
+taken_to aim.Committing s now k x l h = taken_by s now k x l h
+
+pub taken_in : (ph : Phase) (s now : State) (k : ℕ) (x : Option Command) → LeavesTaken s now → TakenIn ph s k x
+    → TakenIn ph now k x
+taken_in phase.Looking s now k x l h = tt
+taken_in (phase.Taken a w) s now k x l h = taken_to a s now k x l h
+taken_in (phase.Waiting a w) s now k x l h = taken_to a s now k x l h

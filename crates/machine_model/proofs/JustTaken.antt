@@ -1,0 +1,520 @@
+-- A look takes for a tree command just what the command takes.
+use Rattle.std.proofs.Common.{◌≡◌, ◌≢◌, ◌<◌, ◌≤◌, ℕ, zero, suc, ◌+◌, ◌-◌, ◌/◌, Bool, true, false, ◌||◌, cond, eqb}
+use Rattle.std.proofs.Common.{List, [], ◌∷◌, ◌++◌, map, length, drop, get_or, Option, Some, None, ◌⊎◌, inl, inr, refl}
+use Rattle.std.proofs.Common.{sym}
+use Rattle.std.proofs.Common.{ap, subst, ◌∙◌, arith}
+use Rattle.std.specs.Prelude.{nat_le}
+use Rattle.std.specs.List.{filter, list_any, range_with_len}
+use Rattle.std.proofs.lemmas.Bool.Decides.{eqb_tells, leb_tells}
+use Rattle.std.proofs.lemmas.List.Folds.{list_any-append}
+use Rattle.script.specs.declared.commands.Command.{Command}
+use Rattle.script.specs.declared.commands.Command.TheVariants as command
+use Rattle.accounts.specs.Maps.{AccountMaps}
+use Rattle.tree_model.specs.Tree.{is_inferior}
+use Rattle.assoc_mem.specs.declared.What.{What}
+use Rattle.assoc_mem.specs.declared.What.TheVariants as what
+use Rattle.page_table.specs.declared.Ptw.{Ptw}
+use Rattle.page_table.specs.declared.Ptw.TheVariants as ptw
+use Rattle.descriptor_seg.specs.declared.Sdw.{Sdw}
+use Rattle.descriptor_seg.specs.declared.Sdw.TheVariants as sdw
+use Rattle.core_map.specs.CoreMap.{Core, frame_at, reads_of, started_page}
+use Rattle.core_map.specs.declared.Frame.TheVariants as frame
+use Rattle.page_control.specs.Plain.{Plain, binding_at, bindings}
+use Rattle.seg_control.specs.Control.{sdws_at, table_of}
+use Rattle.seg_control.specs.Kept.{read_at}
+use Rattle.custody_model.specs.Custody.{has, is_going_descriptor, is_going_frame, leads_to, page_of}
+use Rattle.custody_model.specs.Next.{at_put_two}
+use Rattle.machine_model.specs.declared.Aim.{Aim}
+use Rattle.machine_model.specs.declared.Aim.TheVariants as aim
+use Rattle.machine_model.specs.declared.CutDescriptor.{CutDescriptor}
+use Rattle.machine_model.specs.Actions.{descriptors_taken, first_taken, frame_read_from, frames_taken}
+use Rattle.machine_model.specs.Changes.{cut}
+use Rattle.machine_model.specs.Custodial.{KeepsBook, has_cut, names}
+use Rattle.machine_model.specs.Holding.{led_to, seen}
+use Rattle.machine_model.specs.Jobs.{cut_all, cut_one, note_of, take_all, take_one, took}
+use Rattle.machine_model.specs.Keeps.{Keeps}
+use Rattle.machine_model.specs.Reads.{cut_of_owner, descriptor_of, frame_reading, frames_from, frames_of_owner}
+use Rattle.machine_model.specs.Reads.{is_active, is_connected, is_page_of, trailers_in}
+use Rattle.machine_model.specs.Refusal.{refusal_of, uid_of_command}
+use Rattle.machine_model.specs.Seen.{Seen, bound_use, cut_uid, descriptor_use, frame_use, is_cut_at, shown}
+use Rattle.machine_model.specs.State.{State}
+use Rattle.machine_model.specs.Taking.{GoesJust, IsAlone, IsTakenFor, TakesDescriptor, TakesPage}
+use Rattle.machine_model.proofs.ChainLaws.{names_uid}
+use Rattle.machine_model.proofs.CommandFacts.{delete_stands}
+use Rattle.machine_model.proofs.FindLaws.{position_none}
+use Rattle.machine_model.proofs.JustLaws.{same_uid}
+use Rattle.machine_model.proofs.ListLaws.{map_list}
+use Rattle.machine_model.proofs.LookFacts.{FindsTaken}
+use Rattle.machine_model.proofs.OutlineTake.{LooksLike, took_like}
+use Rattle.machine_model.proofs.OwnedLaws.{IsIdle, cut_at_tells}
+use Rattle.machine_model.proofs.Places.{by_places}
+use Rattle.machine_model.proofs.TakeLists.{dropped_word, frame_word, trailers_taken}
+use Rattle.machine_model.proofs.TakeSeen.{cut_one_seen, linked_within}
+use Rattle.machine_model.proofs.TakeWhole.{RestIs, cut_linked, cut_pages, frame_listed, note_at, take_rest}
+use Rattle.machine_model.proofs.TakeWhole.{trailer_listed}
+use Rattle.machine_model.proofs.TieLaws.{none_some, page_is}
+use Rattle.machine_model.proofs.TookKept.{ArePairs, CanTook, has_pair, is_pair, note_is, pairs_kept, took_keeps}
+use Rattle.machine_model.proofs.TransferKept.{active_at}
+
+no_and : {b : Bool} → b ≡ true → b ≡ false → ⊥
+no_and t f = let none : true ≡ false = sym t ∙ f in cc
+
+or_cases : (a b : Bool) → (a || b) ≡ true → (a ≡ true) ⊎ (b ≡ true)
+or_cases true b h = inl refl
+or_cases false b h = inr h
+
+or_moved : (a b c : Bool) → ((a || (b || false)) || c) ≡ (a || (b || c))
+or_moved true b c = refl
+or_moved false true c = refl
+or_moved false false c = refl
+
+or_false : (a : Bool) → a ≡ (a || false)
+or_false true = refl
+or_false false = refl
+
+uid_same : (v u : ℕ) → Some v ≡ Some u → v ≡ u
+uid_same v u h = cc
+
+own : (n : ℕ) → eqb n n ≡ true
+own n = elim (eqb_tells n n) [ inl e ↦ e.0 | inr m ↦ absurd (m.1 refl) ]
+
+or_second : (a : Bool) {b : Bool} → b ≡ true → (a || b) ≡ true
+or_second true h = refl
+or_second false h = h
+
+pair_own : (k n m : ℕ) → n ≡ m → is_pair k n (k, m) ≡ true
+pair_own k n m same = rw (own k) (ap (λ (x : ℕ). eqb m x) same ∙ own m)
+
+pair_tells : (k n : ℕ) (x : ℕ × ℕ) → is_pair k n x ≡ true → (x.0 ≡ k) × (x.1 ≡ n)
+pair_tells k n x h = elim (eqb_tells x.0 k) [
+  | inl e ↦ elim (eqb_tells x.1 n) [
+    | inl i ↦ (e.1, i.1)
+    | inr m ↦ absurd (no_and h (rw (e.0, m.0) refl))
+  ]
+  | inr m ↦ absurd (no_and h (rw m.0 refl))
+]
+
+-- ---- what the owner has taken
+
+take_has : (s : State) (c : ℕ) (a : Aim) (w : What) (fs : List ℕ) (g : ℕ)
+    → has (frames_of_owner (take_all s c a w fs).owner) g ≡ (has (frames_of_owner s.owner) g || has fs g)
+take_has s c a w [] g = or_false (has (frames_of_owner s.owner) g)
+take_has s c a w (f ∷ fs) g = take_has (take_one s c a w f) c a w fs g
+    ∙ (ap (λ (b : Bool). b || has fs g) (list_any-append (λ y. eqb y g) (frames_of_owner s.owner) (f ∷ []))
+    ∙ or_moved (has (frames_of_owner s.owner) g) (eqb f g) (has fs g))
+
+take_cut : (s : State) (c : ℕ) (a : Aim) (w : What) (fs : List ℕ)
+    → cut_of_owner (take_all s c a w fs).owner ≡ cut_of_owner s.owner
+take_cut s c a w [] = refl
+take_cut s c a w (f ∷ fs) = take_cut (take_one s c a w f) c a w fs
+
+cut_frames : (s : State) (c : ℕ) (a : Aim) (w : What) (xs : List (ℕ × ℕ))
+    → frames_of_owner (cut_all s c a w xs).owner ≡ frames_of_owner s.owner
+cut_frames s c a w [] = refl
+cut_frames s c a w (x ∷ xs) = cut_frames (cut_one s c a w x) c a w xs
+
+cut_has : (s : State) (c : ℕ) (a : Aim) (w : What) (xs : List (ℕ × ℕ)) (k n : ℕ)
+    → has_cut (cut_of_owner (cut_all s c a w xs).owner) k n ≡ (has_cut (cut_of_owner s.owner) k n || has_pair xs k n)
+cut_has s c a w [] k n = or_false (has_cut (cut_of_owner s.owner) k n)
+cut_has s c a w (x ∷ xs) k n = cut_has (cut_one s c a w x) c a w xs k n
+    ∙ (ap (λ (b : Bool). b || has_pair xs k n) (list_any-append (is_cut_at k n) (cut_of_owner s.owner) (d ∷ []))
+    ∙ (or_moved (has_cut (cut_of_owner s.owner) k n) (is_cut_at k n d) (has_pair xs k n)
+    ∙ ap (λ (b : Bool). has_cut (cut_of_owner s.owner) k n || (b || has_pair xs k n))
+    (note_at s k n x (descriptor_of s.store.links x.0 x.1))))
+  where
+    d : CutDescriptor
+    d = note_of s.store x.0 x.1 (descriptor_of s.store.links x.0 x.1)
+
+-- each of some descriptors led to its segment
+abbrev NotesLed : (ℕ → ℕ → Option ℕ) → List CutDescriptor → Type 0
+NotesLed linked [] = Unit {0}
+NotesLed linked (d ∷ ds) = (linked d.process d.number ≡ Some d.uid) × NotesLed linked ds
+
+notes_push : (linked : ℕ → ℕ → Option ℕ) (ds : List CutDescriptor) (d : CutDescriptor) → NotesLed linked ds
+    → linked d.process d.number ≡ Some d.uid → NotesLed linked (ds ++ d ∷ [])
+notes_push linked [] d led h = (h, tt)
+notes_push linked (x ∷ xs) d led h = (led.0, notes_push linked xs d led.1 h)
+
+notes_led : (linked : ℕ → ℕ → Option ℕ) (ds : List CutDescriptor) (k n u : ℕ) → NotesLed linked ds
+    → cut_uid ds k n ≡ Some u → linked k n ≡ Some u
+notes_led linked [] k n u led h = absurd (none_some h)
+notes_led linked (d ∷ ds) k n u led h = by (is_cut_at k n d) refl h (λ i. notes_led linked ds k n u led.1 i)
+  where
+    by : (b : Bool) → is_cut_at k n d ≡ b → cond b (Some d.uid) (cut_uid ds k n) ≡ Some u
+        → (cut_uid ds k n ≡ Some u → linked k n ≡ Some u) → linked k n ≡ Some u
+    by true e i rest = let at = cut_at_tells k n d e in
+        (λ j. linked (at.0 j) (at.1 j)) ∙ (led.0 ∙ i)
+    by false e i rest = rest i
+
+cut_notes : (s : State) (c : ℕ) (a : Aim) (w : What) (xs : List (ℕ × ℕ)) (linked : ℕ → ℕ → Option ℕ)
+    → ArePairs (seen s).linked w xs → ((k n u : ℕ) → (seen s).linked k n ≡ Some u → linked k n ≡ Some u)
+    → NotesLed linked (cut_of_owner s.owner) → NotesLed linked (cut_of_owner (cut_all s c a w xs).owner)
+cut_notes s c a w [] linked are less led = led
+cut_notes s c a w (x ∷ xs) linked are less led = cut_notes (cut_one s c a w x) c a w xs linked
+    (subst (λ (v : Seen). ArePairs v.linked w xs) (sym one)
+    (subst (λ (l : ℕ → ℕ → Option ℕ). ArePairs l w xs)
+    (λ i. at_put_two (seen s).linked (sym note.0 i) (sym note.1 i) None)
+    (pairs_kept (seen s).linked w x.0 x.1 xs are.1 are.2)))
+    (subst (λ (v : Seen). (k n u : ℕ) → v.linked k n ≡ Some u → linked k n ≡ Some u) (sym one)
+    (λ k n u. by_places (λ (o : Option ℕ). o ≡ Some u → linked k n ≡ Some u) (seen s).linked
+    d.process d.number None k n (λ e i h. absurd (none_some h)) (λ m h. less k n u h)))
+    (notes_push linked (cut_of_owner s.owner) d led
+    ((λ i. linked (note.0 i) (note.1 i)) ∙ (less x.0 x.1 are.0.0 are.0.1 ∙ ap (λ (v : ℕ). Some v) (sym note.2))))
+  where
+    d : CutDescriptor
+    d = note_of s.store x.0 x.1 (descriptor_of s.store.links x.0 x.1)
+
+    note : (d.process ≡ x.0) × (d.number ≡ x.1) × (d.uid ≡ are.0.0)
+    note = note_is s x.0 x.1 are.0.0 (descriptor_of s.store.links x.0 x.1) are.0.1
+
+    one : seen (cut_one s c a w x) ≡ cut (seen s) c a w d
+    one = cut_one_seen s c a w x are.0.0 are.0.1
+
+-- ---- what goes is what was listed
+
+bound_page_is : (page : ℕ × ℕ) (w : Ptw) → page_of (bound_use page w) ≡ Some page
+bound_page_is page ptw.Null = refl
+bound_page_is page (ptw.Out r) = refl
+bound_page_is page (ptw.Here f) = refl
+bound_page_is page (ptw.Leaving f) = refl
+
+-- the pages and descriptors that are listed are these
+pub record AreListed (s : State) (fs : List ℕ) (xs : List (ℕ × ℕ)) (Page : ℕ → ℕ → Type 0)
+    (Descriptor : ℕ → ℕ → ℕ → Type 0) : Type 0 where
+  pub pages : (f u q : ℕ) → (seen s).words u q ≡ ptw.Here f → Page u q → has fs f ≡ true
+  pub its_pages : (f u q : ℕ) → has fs f ≡ true → (seen s).bound f ≡ Some (u, q) → Page u q
+  pub unread : (f u q : ℕ) → (seen s).reads f ≡ Some (u, q) → Page u q → ⊥
+  pub descriptors : (k n u : ℕ) → (seen s).linked k n ≡ Some u → Descriptor k n u → has_pair xs k n ≡ true
+  pub its_descriptors : (k n u : ℕ) → has_pair xs k n ≡ true → (seen s).linked k n ≡ Some u → Descriptor k n u
+
+module _ (s : State) (c : ℕ) (a : Aim) (w : What) (fs : List ℕ) (xs : List (ℕ × ℕ)) (Page : ℕ → ℕ → Type 0)
+    (Descriptor : ℕ → ℕ → ℕ → Type 0) (k : Keeps s) (idle : IsIdle s.owner) (can : CanTook s a w fs xs)
+    (l : AreListed s fs xs Page Descriptor) where
+  abbrev mid : State
+  mid = take_all s c a w fs
+
+  abbrev now : State
+  now = took s c a w fs xs
+
+  book : KeepsBook (seen now)
+  book = (took_keeps s c a w fs xs k.store.kept.places k.book can).book
+
+  first : RestIs s mid
+  first = take_rest s c a w fs
+
+  mid_linked : (seen mid).linked ≡ (seen s).linked
+  mid_linked = λ i j n. led_to (first.2 i) (descriptor_of (first.1 i) j n)
+
+  pages_same : now.store.pages ≡ s.store.pages
+  pages_same = cut_pages mid c a w xs ∙ first.0
+
+  bound_same : (f : ℕ) → (seen now).bound f ≡ (seen s).bound f
+  bound_same f = ap (λ (p : Plain). binding_at (bindings p.core) f) pages_same
+
+  reads_same : (f : ℕ) → (seen now).reads f ≡ (seen s).reads f
+  reads_same f = ap (λ (p : Plain). read_at (reads_of p.core) f) pages_same
+
+  frames_go : (f : ℕ) → is_going_frame ((shown (seen now)).frame f) ≡ has fs f
+  frames_go f = book.going_owned.frames f ∙ (ap (λ (gs : List ℕ). has gs f) (cut_frames mid c a w xs)
+      ∙ (take_has s c a w fs f ∙ ap (λ (gs : List ℕ). has gs f || has fs f) idle.frames))
+
+  descriptors_go : (j n : ℕ) → is_going_descriptor ((shown (seen now)).descriptor j n) ≡ has_pair xs j n
+  descriptors_go j n = book.going_owned.cuts j n ∙ (cut_has mid c a w xs j n
+      ∙ ap (λ (ds : List CutDescriptor). has_cut ds j n || has_pair xs j n) (take_cut s c a w fs ∙ idle.cut))
+
+  -- the page of a frame, before and after
+  page_by : (f u q : ℕ) → page_of ((shown (seen now)).frame f) ≡ Some (u, q)
+      → ((seen s).bound f ≡ Some (u, q)) ⊎ ((seen s).reads f ≡ Some (u, q))
+  page_by f u q h = by ((seen s).bound f) ((seen s).reads f) refl refl
+      ((λ i. page_of (frame_use (seen now).words (sym (bound_same f) i) (sym (reads_same f) i))) ∙ h)
+    where
+      by : (x y : Option (ℕ × ℕ)) → (seen s).bound f ≡ x → (seen s).reads f ≡ y
+          → page_of (frame_use (seen now).words x y) ≡ Some (u, q)
+          → ((seen s).bound f ≡ Some (u, q)) ⊎ ((seen s).reads f ≡ Some (u, q))
+      by None None b r e = absurd (none_some e)
+      by None (Some page) b r e = inr (r ∙ e)
+      by (Some page) y b r e = inl (b ∙ (sym (bound_page_is page ((seen now).words page.0 page.1)) ∙ e))
+
+  frame_here : (f u q : ℕ) (y : Ptw) → Page u q → (seen s).bound f ≡ Some (u, q) → (seen s).words u q ≡ y
+      → names y ≡ Some f → has fs f ≡ true
+  frame_here f u q ptw.Null p b e h = absurd (none_some h)
+  frame_here f u q (ptw.Out r) p b e h = absurd (none_some h)
+  frame_here f u q (ptw.Here g) p b e h = l.pages f u q (e ∙ ap (λ (x : ℕ). ptw.Here x) (uid_same g f h)) p
+  frame_here f u q (ptw.Leaving g) p b e h = absurd (let no : true ≡ false =
+      sym (ap (λ (x : Option (ℕ × ℕ)). is_going_frame (frame_use (seen s).words x ((seen s).reads f))) b
+      ∙ ap (λ (x : Ptw). is_going_frame (bound_use (u, q) x)) e)
+      ∙ (k.book.going_owned.frames f ∙ ap (λ (gs : List ℕ). has gs f) idle.frames) in cc)
+
+  -- where a descriptor led before it was cut, if it was
+  linked_by : (j n u : ℕ) → leads_to ((shown (seen now)).descriptor j n) ≡ Some u
+      → is_going_descriptor ((shown (seen now)).descriptor j n) ≡ false → (seen s).linked j n ≡ Some u
+  linked_by j n u h off = by ((seen now).linked j n) (cut_uid (cut_of_owner now.owner) j n) refl refl h off
+    where
+      by : (x y : Option ℕ) → (seen now).linked j n ≡ x → cut_uid (cut_of_owner now.owner) j n ≡ y
+          → leads_to (descriptor_use x y) ≡ Some u → is_going_descriptor (descriptor_use x y) ≡ false
+          → (seen s).linked j n ≡ Some u
+      by None None e d g i = absurd (none_some g)
+      by None (Some v) e d g i = absurd (no_and refl i)
+      by (Some v) y e d g i = ap (λ (f : ℕ → ℕ → Option ℕ). f j n) (sym mid_linked)
+          ∙ cut_linked mid c a w xs (subst (λ (f : ℕ → ℕ → Option ℕ). ArePairs f w xs) (sym mid_linked) can.pairs_are)
+          j n u (e ∙ g)
+
+  -- a descriptor that was cut led to what is remembered of it
+  cut_led : (j n u : ℕ) → leads_to ((shown (seen now)).descriptor j n) ≡ Some u
+      → is_going_descriptor ((shown (seen now)).descriptor j n) ≡ true → (seen s).linked j n ≡ Some u
+  cut_led j n u h on = notes_led (seen s).linked (cut_of_owner now.owner) j n u led (by ((seen now).linked j n)
+      (cut_uid (cut_of_owner now.owner) j n) refl refl h on)
+    where
+      by : (x y : Option ℕ) → (seen now).linked j n ≡ x → cut_uid (cut_of_owner now.owner) j n ≡ y
+          → leads_to (descriptor_use x y) ≡ Some u → is_going_descriptor (descriptor_use x y) ≡ true
+          → cut_uid (cut_of_owner now.owner) j n ≡ Some u
+      by None None e d g i = absurd (none_some g)
+      by None (Some v) e d g i = d ∙ g
+      by (Some v) y e d g i = absurd (no_and i refl)
+
+      led : NotesLed (seen s).linked (cut_of_owner now.owner)
+      led = subst (λ (f : ℕ → ℕ → Option ℕ). NotesLed f (cut_of_owner now.owner)) mid_linked
+          (cut_notes mid c a w xs (seen mid).linked
+          (subst (λ (f : ℕ → ℕ → Option ℕ). ArePairs f w xs) (sym mid_linked) can.pairs_are) (λ i m v e. e)
+          (subst (NotesLed (seen mid).linked) (sym (take_cut s c a w fs ∙ idle.cut)) tt))
+
+  -- So what goes then is just what is listed.
+  pub took_just : GoesJust (shown (seen now)) Page Descriptor
+  took_just = record {
+    pages = λ f u q h p. frames_go f ∙ elim (page_by f u q h) [
+      | inl b ↦ frame_here f u q ((seen s).words u q) p b refl (k.book.tied.named f u q b)
+      | inr r ↦ absurd (l.unread f u q r p)
+    ];
+    its_pages = λ f u q h on. (let listed = sym (frames_go f) ∙ on in elim (page_by f u q h) [
+      | inl b ↦ l.its_pages f u q listed b
+      | inr r ↦ absurd (none_some (sym (k.book.tied.unbound f u q r) ∙ can.bound f listed))
+    ]);
+    descriptors = λ j n u h p. by j n u h p (is_going_descriptor ((shown (seen now)).descriptor j n)) refl;
+    its_descriptors = λ j n u h on. l.its_descriptors j n u (sym (descriptors_go j n) ∙ on) (cut_led j n u h on);
+  }
+    where
+      by : (j n u : ℕ) → leads_to ((shown (seen now)).descriptor j n) ≡ Some u → Descriptor j n u → (b : Bool)
+          → is_going_descriptor ((shown (seen now)).descriptor j n) ≡ b → b ≡ true
+      by j n u h p true e = refl
+      by j n u h p false e = sym e ∙ (descriptors_go j n ∙ l.descriptors j n u (linked_by j n u h e) p)
+
+-- ---- the lists of a command
+
+no_page : (f : ℕ) → has [] f ≡ true → ⊥
+no_page f h = no_and h refl
+
+-- no page of the segment from a number on is being read
+unread_from : (core : Core) (u low f q : ℕ) → frame_reading core u (λ p. nat_le low p) ≡ None
+    → read_at (reads_of core) f ≡ Some (u, q) → low ≤ q → ⊥
+unread_from core u low f q h e le = no_and passes (position_none
+    (λ x. is_page_of u (λ p. nat_le low p) (started_page x)) core.frames frame.Free f h refl)
+  where
+    above : nat_le low q ≡ true
+    above = elim (leb_tells low q) [ inl i ↦ i.0 | inr m ↦ (let lt = m.1 in absurd (omega (arith, lt, le))) ]
+
+    passes : is_page_of u (λ p. nat_le low p) (started_page (frame_at core f)) ≡ true
+    passes = ap (is_page_of u (λ p. nat_le low p)) (sym (map_list started_page core.frames f frame.Free) ∙ e)
+        ∙ rw (own u, above) refl
+
+module _ (s : State) (k : ℕ) (keeps : Keeps s) where
+  -- the pages of a segment from a number on
+  pages_from : (u low f q : ℕ) → (seen s).words u q ≡ ptw.Here f → low ≤ q
+      → has (frames_from s.store.ast u low) f ≡ true
+  pages_from u low f q h le = frame_listed (drop low (table_of s.store.ast u)) (q - low) f
+      (dropped_word (table_of s.store.ast u) low (q - low)
+      ∙ (ap (λ (i : ℕ). get_or (table_of s.store.ast u) i ptw.Null)
+      (let same : low + (q - low) ≡ q = omega (arith, le) in same) ∙ h))
+
+  from_pages : (u low f v q : ℕ) → has (frames_from s.store.ast u low) f ≡ true → (seen s).bound f ≡ Some (v, q)
+      → (v ≡ u) × (low ≤ q)
+  from_pages u low f v q h bound = let at = frame_word (drop low (table_of s.store.ast u)) f h in
+      let is = keeps.book.tied.back f u (low + at.0)
+      (ap names (sym (dropped_word (table_of s.store.ast u) low at.0) ∙ at.1)) in
+      let same = page_is v q u (low + at.0) (sym bound ∙ is) in
+      (same.0, (let b = same.1 in omega (arith, b)))
+
+  -- the descriptors of a segment
+  linked_active : (j n u : ℕ) → (seen s).linked j n ≡ Some u → is_active s.store.ast u ≡ true
+  linked_active j n u h = by (descriptor_of s.store.links j n) h
+    where
+      by : (x : Sdw) → led_to s.store.ast.entries x ≡ Some u → is_active s.store.ast u ≡ true
+      by sdw.Fault e = absurd (none_some e)
+      by (sdw.Present aste mode pages) e = active_at s.store.ast aste u e
+
+  trailers_all : (u j n v : ℕ) → (seen s).linked j n ≡ Some v → v ≡ u
+      → has_pair (trailers_in s.store u) j n ≡ true
+  trailers_all u j n v h same = let is = h ∙ ap (λ (x : ℕ). Some x) same in
+      trailer_listed s u j n keeps (linked_active j n u is) is
+
+  pair_named : (w : What) (xs : List (ℕ × ℕ)) (j n v : ℕ) → ArePairs (seen s).linked w xs → has_pair xs j n ≡ true
+      → (seen s).linked j n ≡ Some v → names_uid w v ≡ true
+  pair_named w [] j n v are h l = absurd (no_and h refl)
+  pair_named w (x ∷ xs) j n v are h l = elim (or_cases (is_pair j n x) (has_pair xs j n) h) [
+    | inl e ↦ (let at = pair_tells j n x e in
+        let same = uid_same are.0.0 v (sym are.0.1 ∙ ((λ i. (seen s).linked (at.0 i) (at.1 i)) ∙ l)) in
+        ap (names_uid w) (sym same) ∙ are.0.2)
+    | inr e ↦ pair_named w xs j n v are.2 e l
+  ]
+
+  trailers_its : (u j n v : ℕ) → has_pair (trailers_in s.store u) j n ≡ true → (seen s).linked j n ≡ Some v → v ≡ u
+  trailers_its u j n v h l = elim (eqb_tells v u) [
+    | inl e ↦ e.1
+    | inr m ↦ absurd (no_and (pair_named (what.Seg u) (trailers_in s.store u) j n v
+        (trailers_taken s (what.Seg u) u keeps (own u)) h l) m.0)
+  ]
+
+  -- the descriptors of a process
+  is_linked : (j n v : ℕ) → (seen s).linked j n ≡ Some v → is_connected (descriptor_of s.store.links j n) ≡ true
+  is_linked j n v h = by (descriptor_of s.store.links j n) h
+    where
+      by : (x : Sdw) → led_to s.store.ast.entries x ≡ Some v → is_connected x ≡ true
+      by sdw.Fault e = absurd (none_some e)
+      by (sdw.Present aste mode pages) e = refl
+
+  -- each process has 256 descriptors
+  number_within : (j n v : ℕ) → (seen s).linked j n ≡ Some v → n < 256
+  number_within j n v h = subst (λ (x : ℕ). n < x) (keeps.store.kept.linked.lists.words j
+      (subst (λ (x : ℕ). j < x) keeps.store.kept.linked.lists.processes within.0)) within.1
+    where
+      within : (j < length s.store.links.descriptors) × (n < length (sdws_at s.store.links.descriptors j))
+      within = linked_within s.store.links j n
+          (λ e. none_some (sym (ap (led_to s.store.ast.entries) e) ∙ h))
+
+  one_all : (number n v : ℕ) → (seen s).linked k n ≡ Some v → n ≡ number
+      → has_pair (cond (is_connected (descriptor_of s.store.links k number)) ((k, number) ∷ []) []) k n ≡ true
+  one_all number n v h same = ap (λ (b : Bool). has_pair (cond b ((k, number) ∷ []) []) k n)
+      (ap (λ (x : ℕ). is_connected (descriptor_of s.store.links k x)) (sym same) ∙ is_linked k n v h)
+      ∙ ap (λ (b : Bool). b || false) (pair_own k n number same)
+
+  one_its : (number j n : ℕ) (b : Bool) → has_pair (cond b ((k, number) ∷ []) []) j n ≡ true
+      → (j ≡ k) × (n ≡ number)
+  one_its number j n false h = absurd (no_and h refl)
+  one_its number j n true h = elim (or_cases (is_pair j n (k, number)) false h) [
+    | inl e ↦ (let at = pair_tells j n (k, number) e in (sym at.0, sym at.1))
+    | inr e ↦ absurd (no_and e refl)
+  ]
+
+  end_all : (from count n v : ℕ) → (seen s).linked k n ≡ Some v → from ≤ n → n < from + count
+      → has_pair (map (λ i. (k, i)) (filter (λ i. is_connected (descriptor_of s.store.links k i))
+      (range_with_len from count))) k n ≡ true
+  end_all from zero n v h low high = absurd (omega (arith, low, high))
+  end_all from (suc count) n v h low high = by (is_connected (descriptor_of s.store.links k from)) refl
+      (eqb_tells from n) (λ a b. end_all (from + 1) count n v h a b)
+    where
+      rest : List (ℕ × ℕ)
+      rest = map (λ i. (k, i)) (filter (λ i. is_connected (descriptor_of s.store.links k i))
+          (range_with_len (from + 1) count))
+
+      by : (b : Bool) → is_connected (descriptor_of s.store.links k from) ≡ b
+          → ((eqb from n ≡ true) × (from ≡ n)) ⊎ ((eqb from n ≡ false) × (from ≢ n))
+          → (from + 1 ≤ n → n < from + 1 + count → has_pair rest k n ≡ true)
+          → has_pair (map (λ i. (k, i)) (cond b (from ∷ filter (λ i. is_connected (descriptor_of s.store.links k i))
+          (range_with_len (from + 1) count)) (filter (λ i. is_connected (descriptor_of s.store.links k i))
+          (range_with_len (from + 1) count)))) k n ≡ true
+      by true e (inl same) later = ap (λ (b : Bool). b || has_pair rest k n) (pair_own k n from (sym same.1))
+      by true e (inr other) later = or_second (is_pair k n (k, from)) (later
+          (let ne = other.1 in omega (arith, low, ne)) (omega (arith, high)))
+      by false e (inl same) later = absurd (no_and (is_linked k n v h)
+          (ap (λ (x : ℕ). is_connected (descriptor_of s.store.links k x)) (sym same.1) ∙ e))
+      by false e (inr other) later = later
+          (let ne = other.1 in omega (arith, low, ne)) (omega (arith, high))
+
+  end_its : (is : List ℕ) (j n : ℕ) → has_pair (map (λ i. (k, i)) is) j n ≡ true → j ≡ k
+  end_its [] j n h = absurd (no_and h refl)
+  end_its (i ∷ is) j n h = elim (or_cases (is_pair j n (k, i)) (has_pair (map (λ x. (k, x)) is) j n) h) [
+    | inl e ↦ sym (pair_tells j n (k, i) e).0
+    | inr e ↦ end_its is j n e
+  ]
+
+  -- The lists that a look finds for a command are just what it takes.
+  pub command_lists : (cmd : Command) (u : ℕ) → u ≡ uid_of_command s.store k cmd
+      → frame_read_from s.store.pages.core u (first_taken cmd) ≡ None
+      → AreListed s (frames_taken s.store u (first_taken cmd)) (descriptors_taken s.store k u cmd)
+      (TakesPage cmd u) (TakesDescriptor cmd k u)
+  command_lists (command.Acl path row m) u is unread = record {
+    pages = λ f v q h p. absurd p;
+    its_pages = λ f v q h b. absurd (no_page f h);
+    unread = λ f v q h p. p;
+    descriptors = λ j n v h same. trailers_all u j n v h same;
+    its_descriptors = λ j n v h l. trailers_its u j n v h l;
+  }
+  command_lists (command.Delete path) u is unread = record {
+    pages = λ f v q h same. pages_from u 0 f q (ap (λ (x : ℕ). (seen s).words x q) (sym same) ∙ h) (omega arith);
+    its_pages = λ f v q h b. (from_pages u 0 f v q h b).0;
+    unread = λ f v q h same. unread_from s.store.pages.core u 0 f q unread
+        (h ∙ ap (λ (x : ℕ). Some (x, q)) same) (omega arith);
+    descriptors = λ j n v h same. trailers_all u j n v h same;
+    its_descriptors = λ j n v h l. trailers_its u j n v h l;
+  }
+  command_lists (command.Truncate path words) u is unread = record {
+    pages = λ f v q h p. pages_from u (words / 1024) f q (ap (λ (x : ℕ). (seen s).words x q) (sym p.0) ∙ h) p.1;
+    its_pages = λ f v q h b. from_pages u (words / 1024) f v q h b;
+    unread = λ f v q h p. unread_from s.store.pages.core u (words / 1024) f q unread
+        (h ∙ ap (λ (x : ℕ). Some (x, q)) p.0) p.1;
+    descriptors = λ j n v h p. absurd p;
+    its_descriptors = λ j n v h l. absurd (no_and h refl);
+  }
+  command_lists (command.Terminate number) u is unread = record {
+    pages = λ f v q h p. absurd p;
+    its_pages = λ f v q h b. absurd (no_page f h);
+    unread = λ f v q h p. p;
+    descriptors = λ j n v h p. subst (λ (x : ℕ). has_pair (descriptors_taken s.store k u (command.Terminate number)) x n
+        ≡ true) (sym p.0) (one_all number n v (ap (λ (x : ℕ). (seen s).linked x n) (sym p.0) ∙ h) p.1);
+    its_descriptors = λ j n v h l. one_its number j n (is_connected (descriptor_of s.store.links k number)) h;
+  }
+  command_lists command.End u is unread = record {
+    pages = λ f v q h p. absurd p;
+    its_pages = λ f v q h b. absurd (no_page f h);
+    unread = λ f v q h p. p;
+    descriptors = λ j n v h same. subst (λ (x : ℕ). has_pair (descriptors_taken s.store k u command.End) x n ≡ true)
+        (sym same) (end_all 0 256 n v (ap (λ (x : ℕ). (seen s).linked x n) (sym same) ∙ h) (omega arith)
+        (number_within j n v h));
+    its_descriptors = λ j n v h l. end_its _ j n h;
+  }
+  command_lists cmd u is unread = record {
+    pages = λ f v q h p. absurd p;
+    its_pages = λ f v q h b. absurd (no_page f h);
+    unread = λ f v q h p. p;
+    descriptors = λ j n v h p. absurd p;
+    its_descriptors = λ j n v h l. absurd (no_and h refl);
+  }
+
+  -- a node that a `delete` isn't refused for has no inferior
+  alone_found : (cmd : Command) → refusal_of s k cmd ≡ None
+      → IsAlone s.store.accounts.nodes (uid_of_command s.store k cmd) cmd
+  alone_found (command.Delete path) stands = let leads_there = delete_stands s k keeps path stands in
+      ap (λ (u : ℕ). list_any (is_inferior u) s.store.accounts.nodes) leads_there.uid ∙ leads_there.empty
+  alone_found cmd stands = tt
+
+-- ---- the look
+
+module _ (s : State) (c k : ℕ) (cmd : Command) (w : What) (fs : List ℕ) (pairs : List (ℕ × ℕ)) (keeps : Keeps s)
+    (idle : IsIdle s.owner) (finds : FindsTaken s k cmd fs pairs) (can : CanTook s aim.Committing w fs pairs) where
+  lists : AreListed s fs pairs (TakesPage cmd (uid_of_command s.store k cmd))
+      (TakesDescriptor cmd k (uid_of_command s.store k cmd))
+  lists = subst (λ (x : List ℕ). AreListed s x pairs (TakesPage cmd (uid_of_command s.store k cmd))
+      (TakesDescriptor cmd k (uid_of_command s.store k cmd))) (sym finds.frames)
+      (subst (λ (x : List (ℕ × ℕ)). AreListed s
+      (frames_taken s.store (uid_of_command s.store k cmd) (first_taken cmd)) x
+      (TakesPage cmd (uid_of_command s.store k cmd)) (TakesDescriptor cmd k (uid_of_command s.store k cmd)))
+      (sym finds.descriptors) (command_lists s k keeps cmd (uid_of_command s.store k cmd) refl finds.unread))
+
+  -- What a look takes for a command is just what the command takes.
+  pub look_taken : IsTakenFor (took s c aim.Committing w fs pairs) k cmd
+  look_taken = record {
+    just = subst (λ (u : ℕ). GoesJust (shown (seen now)) (TakesPage cmd u) (TakesDescriptor cmd k u)) (sym same)
+        (took_just s c aim.Committing w fs pairs (TakesPage cmd (uid_of_command s.store k cmd))
+        (TakesDescriptor cmd k (uid_of_command s.store k cmd)) keeps idle can lists);
+    alone = subst (λ (u : ℕ). IsAlone now.store.accounts.nodes u cmd) (sym same)
+        (subst (λ (a : AccountMaps). IsAlone a.nodes (uid_of_command s.store k cmd) cmd) (sym like.accounts)
+        (alone_found s k keeps cmd finds.stands));
+  }
+    where
+      now : State
+      now = took s c aim.Committing w fs pairs
+
+      like : LooksLike s now
+      like = took_like s c aim.Committing w fs pairs
+
+      same : uid_of_command now.store k cmd ≡ uid_of_command s.store k cmd
+      same = same_uid s.store now.store k cmd (ap (λ (a : AccountMaps). a.nodes) like.accounts) like.known
