@@ -12,7 +12,11 @@ use Rattle.machine_model.specs.Reads.{cpu_at, process_at, run_at}
 use Rattle.machine_model.specs.Scheduled.{MayRun}
 use Rattle.machine_model.specs.State.{State}
 use Rattle.machine_model.specs.Steps.{is_its_end, transfer_failed, transferred, with_faults}
+use Rattle.machine_model.specs.Jobs.{took}
+use Rattle.machine_model.specs.Taking.{IsTakenBy}
+use Rattle.machine_model.specs.declared.Aim.TheVariants as aim
 use Rattle.machine_model.proofs.ComingKept.{all_come, come_same, tells}
+use Rattle.machine_model.proofs.JustTaken.{look_taken}
 use Rattle.machine_model.proofs.ReadKept.{IsPast, MayRead}
 use Rattle.machine_model.proofs.ScheduleKept.{IsAnswering, MaySchedule}
 use Rattle.machine_model.proofs.StepAsks.{reads_answering, reads_for}
@@ -109,7 +113,15 @@ module _ (s : State) (c : ℕ) (o : Outcome) (m : IsMachine s) (there : c < leng
     may_work (act.Evict f) can knows = knows
     may_work (act.Empty u) can knows = knows
     may_work (act.EmptyVictim pool chain u) can knows = knows
-    may_work (act.TakeAway fs pairs w) can knows = (knows.0, knows.1, knows.2, knows.3, can.can.pairs_are)
+    may_work (act.TakeAway fs pairs w) can knows = (
+      knows.0,
+      knows.1,
+      knows.2,
+      knows.3,
+      can.can.pairs_are,
+      subst (IsTakenBy (took s c aim.Committing w fs pairs) (process_at s c)) (sym knows.4.next)
+          (look_taken s c (process_at s c) knows.4.command w fs pairs m.keeps knows.1 knows.4.finds can.can),
+    )
     may_work (act.Signal w) can knows = can.owner
     may_work (act.FinishEviction f) can knows = tt
     may_work (act.FinishPage f) can knows = knows.0

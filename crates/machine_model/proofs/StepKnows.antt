@@ -39,7 +39,7 @@ use Rattle.processor.specs.declared.Move.{Move}
 use Rattle.machine_model.proofs.FailLaws.{fails_more}
 use Rattle.machine_model.proofs.KeepLaws.{IsNoOwner}
 use Rattle.machine_model.proofs.LookFacts.{FindsActive, FindsFull, FindsOut, FindsTaken, FindsVictim}
-use Rattle.machine_model.proofs.WorkStep.{Looks}
+use Rattle.machine_model.proofs.WorkStep.{IsEmptying, Looks}
 
 -- a processor's process comes to a command that isn't its end
 pub record AnswersOne (s : State) (c : ℕ) : Type 0 where
@@ -51,6 +51,12 @@ pub record AnswersOne (s : State) (c : ℕ) : Type 0 where
 pub record RunsAlone (s : State) (c : ℕ) : Type 0 where
   pub other : IsNoOwner s c
   pub one : AnswersOne s c
+
+-- a look finds that the next command takes these
+pub record FindsFor (s : State) (c : ℕ) (fs : List ℕ) (pairs : List (ℕ × ℕ)) : Type 0 where
+  pub command : Command
+  pub next : next_command s (process_at s c) ≡ Some command
+  pub finds : FindsTaken s (process_at s c) command fs pairs
 
 abbrev pub Knows : State → ℕ → act.Action → Type 0
 Knows s c (act.Through f r) = RunsAlone s c
@@ -64,9 +70,9 @@ Knows s c (act.Evict f) = Looks s c (λ x. FindsFull s (process_at s c) x f)
 Knows s c (act.Empty u) = Looks s c (λ x. FindsActive s (process_at s c) x u)
 Knows s c (act.EmptyVictim pool chain u) = Looks s c (λ x. FindsVictim s (process_at s c) x pool chain u)
 Knows s c (act.TakeAway fs pairs w) = IsLooking s c × IsIdle s.owner × ((fs ≢ []) ⊎ (pairs ≢ []))
-    × TakesSome (next_command s (process_at s c))
+    × TakesSome (next_command s (process_at s c)) × FindsFor s c fs pairs
 Knows s c (act.FinishEviction f) = AnswersOne s c
-Knows s c (act.FinishPage f) = IsMine s c × AnswersOne s c
+Knows s c (act.FinishPage f) = IsEmptying s c × AnswersOne s c
 Knows s c act.Commit = (x : Command) × Speaks s c (process_at s c) x
 Knows s c _ = Unit {0}
 
@@ -189,6 +195,7 @@ module _ (s : State) (c : ℕ) (o : Outcome) (m : IsMachine s) (there : c < leng
         h.2,
         subst TakesSome (sym sp.next)
             (takes_some cmd fs pairs h.0 h.2),
+        record { command = cmd; next = sp.next; finds = h.0 },
       )
       look_knows act.Commit h = (cmd, sp)
       look_knows (act.Through f r) h = absurd h
@@ -232,7 +239,7 @@ module _ (s : State) (c : ℕ) (o : Outcome) (m : IsMachine s) (there : c < leng
         (next_command s (process_at s q.owner.cpu))) e (working.fails q.owner q.mine))
     finish_knows q its (aim.Deactivating u) w e [] = tt
     finish_knows q its (aim.Deactivating u) w e (f ∷ fs) = (
-      q,
+      record { owner = q; uid = u; what = w; waits = e },
       fails_knows q its
           (subst (λ (y : Phase). FailsIn y s.store (process_at s q.owner.cpu)
           (next_command s (process_at s q.owner.cpu))) e (working.fails q.owner q.mine)),

@@ -72,9 +72,11 @@ use Rattle.machine_model.specs.State.{Owner, State, Storage}
 use Rattle.machine_model.specs.Steps.{fault_told, frame_lost, looking, pages_after, told, transfer_failed}
 use Rattle.machine_model.specs.Steps.{transferred, with_faults, with_pages, with_store}
 use Rattle.machine_model.specs.Whole.{TakenWhole, goes_in, going_for}
+use Rattle.machine_model.specs.Taking.{GoesJust, IsTakenBy, TakenIn}
 use Rattle.machine_model.specs.Working.{AreNumbered, FailsIn, IsLeaf, IsWorking, MayFailBy, TakesSome}
 use Rattle.machine_model.proofs.EmptyAsks.{segment_inferiors, unread_any}
 use Rattle.machine_model.proofs.FlatAlike.{append_assoc}
+use Rattle.machine_model.proofs.JustLaws.{AllStay, LeavesTaken, just_on, started_free, taken_in}
 use Rattle.machine_model.proofs.KeepLaws.{IsNoOwner}
 use Rattle.machine_model.proofs.NumberLaws.{cut_less_frame, cut_signalled, took_numbered}
 use Rattle.machine_model.proofs.OutlineTake.{HasTakenFrames, LooksLike, took_like, took_owner}
@@ -98,6 +100,7 @@ none_work now none = record {
   leaf = λ u h. absurd (none_some (sym (ap going_for none) ∙ h));
   fails = λ o h. absurd (none_some (sym none ∙ h));
   numbered = subst (λ (o : Option Owner). AreNumbered now.store.links.known (cut_of_owner o)) (sym none) tt;
+  taken = λ o h. absurd (none_some (sym none ∙ h));
 }
 
 some_same : {A : Type 0} (x y : A) → Some x ≡ Some y → x ≡ y
@@ -113,13 +116,15 @@ looking_work now q mine looks numbered = record {
   fails = λ o h. subst (λ (x : Phase). FailsIn x now.store (process_at now o.cpu)
       (next_command now (process_at now o.cpu)))
       (sym (ap (λ (x : Owner). x.phase) (some_same o q (sym h ∙ mine)) ∙ looks)) tt;
+  taken = λ o h. subst (λ (x : Phase). TakenIn x now (process_at now o.cpu) (next_command now (process_at now o.cpu)))
+      (sym (ap (λ (x : Owner). x.phase) (some_same o q (sym h ∙ mine)) ∙ looks)) tt;
 }
 
 -- ---- another processor's action
 
 -- It leaves the owner, the tree, the numbers and what is active; the owner's process comes to the same command; and its
--- entries bring nothing of a segment that is going.
-pub record Leaves (s now : State) : Type 0 where
+-- entries bring nothing of a segment that is going, and nothing that is taken for a command.
+pub record Leaves (s now : State) : Type 1 where
   pub owner : now.owner ≡ s.owner
   pub plan : now.plan ≡ s.plan
   pub less : IsLess s.store now.store
@@ -127,6 +132,8 @@ pub record Leaves (s now : State) : Type 0 where
   pub more : List Entry
   pub book : now.entries ≡ s.entries ++ more
   pub spares : (u : ℕ) → going_for s.owner ≡ Some u → AllSpare u more
+  pub stays : (Page : ℕ → ℕ → Type 0) (Descriptor : ℕ → ℕ → ℕ → Type 0) → GoesJust (holding s) Page Descriptor
+      → AllStay Page more
   pub process : (o : Owner) → s.owner ≡ Some o → process_at now o.cpu ≡ process_at s o.cpu
   pub next : (o : Owner) → s.owner ≡ Some o → next_command now (process_at s o.cpu)
       ≡ next_command s (process_at s o.cpu)
@@ -153,6 +160,15 @@ leaves_work s now k kept w l = record {
       (subst (λ (x : Option Command). FailsIn o.phase now.store (process_at s o.cpu) x) (sym (l.next o was))
       (fails_in_less o.phase s.store now.store (process_at s o.cpu) (next_command s (process_at s o.cpu)) l.less
       (w.fails o was))));
+  taken = λ o h. (let was = sym l.owner ∙ h in
+      subst (λ (j : ℕ). TakenIn o.phase now j (next_command now j)) (sym (l.process o was))
+      (subst (λ (x : Option Command). TakenIn o.phase now (process_at s o.cpu) x) (sym (l.next o was))
+      (taken_in o.phase s now (process_at s o.cpu) (next_command s (process_at s o.cpu)) (record {
+        nodes = l.less.nodes;
+        known = l.less.known;
+        just = λ Page Descriptor j. just_on Page Descriptor s now l.more k kept l.plan l.book j
+            (l.stays Page Descriptor j);
+      }) (w.taken o was))));
 }
 
 same_less : (st : Storage) → IsLess st st
@@ -168,8 +184,9 @@ module _ (s : State) (c : ℕ) (k : Keeps s) (w : IsWorking s) (other : IsNoOwne
   -- one that changes nothing but itself, the ready list and the book
   seat_work : (now : State) (p : Processor) (e : Entry) → Keeps now → now.owner ≡ s.owner → now.plan ≡ s.plan
       → now.store ≡ s.store → now.runs ≡ s.runs → now.processors ≡ set s.processors c p
-      → now.entries ≡ s.entries ++ e ∷ [] → ((u : ℕ) → AllSpare u (e ∷ [])) → IsWorking now
-  seat_work now p e kept owner plan store runs ps book spares = leaves_work s now k kept w (record {
+      → now.entries ≡ s.entries ++ e ∷ [] → ((u : ℕ) → AllSpare u (e ∷ []))
+      → ((Page : ℕ → ℕ → Type 0) → AllStay Page (e ∷ [])) → IsWorking now
+  seat_work now p e kept owner plan store runs ps book spares stays = leaves_work s now k kept w (record {
     owner = owner;
     plan = plan;
     less = subst (IsLess s.store) (sym store) (same_less s.store);
@@ -177,6 +194,7 @@ module _ (s : State) (c : ℕ) (k : Keeps s) (w : IsWorking s) (other : IsNoOwne
     more = e ∷ [];
     book = book;
     spares = λ u h. spares u;
+    stays = λ Page Descriptor j. stays Page;
     process = λ q h. ap or_zero (ap (λ (x : List Processor). (cpu_at x q.cpu).process) ps ∙ set_process p q h);
     next = λ q h. (λ i. command_at (plan i) (process_at s q.cpu) (run_at (runs i) (process_at s q.cpu)).place);
   })
@@ -227,6 +245,8 @@ module _ (s : State) (c u : ℕ) (k : Keeps s) (idle : IsIdle s.owner) (none : g
           known = like.known;
           filed = λ v q e. (λ i. is_filed (like.accounts i) (ap (λ (x : Plain). x.vtocs) like.pages i) v q) ∙ e;
         }) fails)));
+    taken = λ q h. subst (λ (x : Owner). TakenIn x.phase now (process_at now x.cpu)
+        (next_command now (process_at now x.cpu))) (some_same _ q (sym has.owner ∙ h)) tt;
   }
     where
       now : State
@@ -259,6 +279,13 @@ module _ (s : State) (c u : ℕ) (k : Keeps s) (idle : IsIdle s.owner) (none : g
 
 -- ---- the owner goes on
 
+-- the owner makes a segment inactive, and every processor has been told
+pub record IsEmptying (s : State) (c : ℕ) : Type 0 where
+  pub owner : IsMine s c
+  pub uid : ℕ
+  pub what : What
+  pub waits : owner.owner.phase ≡ phase.Waiting (aim.Deactivating uid) what
+
 module _ (s : State) (c : ℕ) (k : Keeps s) (w : IsWorking s) where
   goes_signalled : (o : Option Owner) → going_for (owner_signalled o) ≡ going_for o
   goes_signalled None = refl
@@ -275,6 +302,12 @@ module _ (s : State) (c : ℕ) (k : Keeps s) (w : IsWorking s) where
   fails_signalled (phase.Taken a v) st j y h = h
   fails_signalled (phase.Waiting a v) st j y h = h
 
+  taken_signalled : (x : Phase) (now : State) (j : ℕ) (y : Option Command) → TakenIn x now j y
+      → TakenIn (phase_signalled x) now j y
+  taken_signalled phase.Looking now j y h = h
+  taken_signalled (phase.Taken a v) now j y h = h
+  taken_signalled (phase.Waiting a v) now j y h = h
+
   signal_work : (what : What) → Keeps (signalled s c what) → IsWorking (signalled s c what)
   signal_work what kept = record {
     whole = record {
@@ -284,8 +317,32 @@ module _ (s : State) (c : ℕ) (k : Keeps s) (w : IsWorking s) where
     leaf = λ u h. w.leaf u (sym (goes_signalled s.owner) ∙ h);
     fails = λ q h. by s.owner refl q h;
     numbered = subst (AreNumbered s.store.links.known) (sym (cut_signalled s.owner)) w.numbered;
+    taken = λ q h. takes s.owner refl q h;
   }
     where
+      left : LeavesTaken s (signalled s c what)
+      left = record {
+        nodes = refl;
+        known = refl;
+        just = λ Page Descriptor j. just_on Page Descriptor s (signalled s c what) (entry.Signal c what ∷ []) k kept refl
+            refl j (tt, tt);
+      }
+
+      takes : (o : Option Owner) → s.owner ≡ o → (q : Owner) → owner_signalled o ≡ Some q
+          → TakenIn q.phase (signalled s c what) (process_at (signalled s c what) q.cpu)
+          (next_command (signalled s c what) (process_at (signalled s c what) q.cpu))
+      takes None e q h = absurd (none_some h)
+      takes (Some x) e q h = subst (λ (y : Owner). TakenIn y.phase (signalled s c what)
+          (process_at (signalled s c what) y.cpu)
+          (next_command (signalled s c what) (process_at (signalled s c what) y.cpu)))
+          (some_same _ q h)
+          (subst (λ (j : ℕ). TakenIn (phase_signalled x.phase) (signalled s c what) j
+          (next_command (signalled s c what) j))
+          (sym (ap or_zero ((told_seats s c what).process x.cpu)))
+          (taken_signalled x.phase (signalled s c what) (process_at s x.cpu) (next_command s (process_at s x.cpu))
+          (taken_in x.phase s (signalled s c what) (process_at s x.cpu) (next_command s (process_at s x.cpu)) left
+          (w.taken x e))))
+
       by : (o : Option Owner) → s.owner ≡ o → (q : Owner) → owner_signalled o ≡ Some q
           → FailsIn q.phase s.store (process_at (signalled s c what) q.cpu)
           (next_command (signalled s c what) (process_at (signalled s c what) q.cpu))
@@ -311,9 +368,9 @@ module _ (s : State) (c : ℕ) (k : Keeps s) (w : IsWorking s) where
   nodes_left left.Released f page = refl
   nodes_left left.Kept f page = refl
 
-  page_work : (f faults : ℕ) → Keeps (page_done (with_faults s faults) f)
+  page_work : (f faults : ℕ) → IsEmptying s c → Keeps (page_done (with_faults s faults) f)
       → IsWorking (page_done (with_faults s faults) f)
-  page_work f faults kept = record {
+  page_work f faults emptying kept = record {
     whole = record {
       whole = λ u h. whole_on s now (entries_left f how (page_in s.store f)) u k kept refl refl
           (w.whole.whole u (sym (goes_less s.owner) ∙ h)) (spares_left u f how (page_in s.store f));
@@ -322,10 +379,20 @@ module _ (s : State) (c : ℕ) (k : Keeps s) (w : IsWorking s) where
         (w.leaf u (sym (goes_less s.owner) ∙ h));
     fails = λ q h. by s.owner refl q h;
     numbered = subst (AreNumbered s.store.links.known) (sym (cut_less_frame s.owner)) w.numbered;
+    taken = λ q h. takes s.owner refl q h;
   }
     where
       now : State
       now = page_done (with_faults s faults) f
+
+      takes : (o : Option Owner) → s.owner ≡ o → (q : Owner) → without_first_frame o ≡ Some q
+          → TakenIn q.phase now (process_at s q.cpu) (next_command s (process_at s q.cpu))
+      takes None e q h = absurd (none_some h)
+      takes (Some x) e q h = subst (λ (y : Owner). TakenIn y.phase now (process_at s y.cpu)
+          (next_command s (process_at s y.cpu))) (some_same _ q h)
+          (subst (λ (y : Phase). TakenIn y now (process_at s x.cpu) (next_command s (process_at s x.cpu)))
+          (sym (ap (λ (y : Owner). y.phase) (some_same x emptying.owner.owner (sym e ∙ emptying.owner.mine))
+          ∙ emptying.waits)) tt)
 
       how : Left
       how = left_of (words_in s.store.pages f)
@@ -386,8 +453,9 @@ MayWork s c o (act.Empty u) = Looks s c (λ x. FindsActive s (process_at s c) x 
 MayWork s c o (act.EmptyVictim pool chain u) = Looks s c (λ x. FindsVictim s (process_at s c) x pool chain u)
 MayWork s c o (act.TakeAway fs pairs w) = IsLooking s c × IsIdle s.owner × ((fs ≢ []) ⊎ (pairs ≢ []))
     × TakesSome (next_command s (process_at s c)) × ArePairs (seen s).linked w pairs
+    × IsTakenBy (took s c aim.Committing w fs pairs) (process_at s c) (next_command s (process_at s c))
 MayWork s c o (act.Signal w) = IsMine s c
-MayWork s c o (act.FinishPage f) = IsMine s c
+MayWork s c o (act.FinishPage f) = IsEmptying s c
 MayWork s c o _ = Unit {0}
 
 by_end : (o : Outcome) (well ill : State) → Keeps (cond o.failed ill well) → (Keeps well → IsWorking well)
@@ -418,6 +486,7 @@ module _ (s : State) (c : ℕ) (o : Outcome) (m : IsMachine s) (w : IsWorking s)
     more = entry.Do (process_at s c) (run_at s.runs (process_at s c)).place c f r ∷ [];
     book = refl;
     spares = λ u h. (tt, tt);
+    stays = λ Page Descriptor j. (tt, tt);
     process = λ q h. ap or_zero (set_process s c keeps w other _ q h);
     next = λ q h. other_next s c keeps w other q _ h m its;
   })
@@ -529,8 +598,10 @@ module _ (s : State) (c : ℕ) (o : Outcome) (m : IsMachine s) (w : IsWorking s)
   work_kept (act.Waits why) may kept = w
   work_kept act.Online may kept =
       seat_work s c keeps w may _ _ (entry.Online c) kept refl refl refl refl refl refl (λ u. (tt, tt))
+      (λ Page. (tt, tt))
   work_kept (act.Clear v) may kept =
       seat_work s c keeps w may _ _ (entry.Clear c v) kept refl refl refl refl refl refl (λ u. (tt, tt))
+      (λ Page. (tt, tt))
   work_kept (act.EndTransfer t) may kept = by_end o (transferred (with_faults s o.faults) c t)
       (transfer_failed s c t o.faults) kept
       (λ kept_well. leaves_work s (transferred (with_faults s o.faults) c t) keeps kept_well w (record {
@@ -543,6 +614,10 @@ module _ (s : State) (c : ℕ) (o : Outcome) (m : IsMachine s) (w : IsWorking s)
         spares = λ u h. (
           started_spares (holding s) u t.frame t.uid t.page (w.whole.whole u h)
               (was_started t may.1),
+          tt,
+        );
+        stays = λ Page Descriptor j. (
+          started_free Page Descriptor (holding s) t.frame t.uid t.page j (was_started t may.1),
           tt,
         );
         process = λ q h. ap or_zero (set_process s c keeps w may.0 _ q h);
@@ -560,6 +635,7 @@ module _ (s : State) (c : ℕ) (o : Outcome) (m : IsMachine s) (w : IsWorking s)
             ∙ append_assoc s.entries (entry.Lose t.frame ∷ []) (entry.Fault (Some (process_at s c))
             ∷ entry.Do (told_process t) (run_at s.runs (told_process t)).place c None reply.Device ∷ []);
         spares = λ u h. (tt, (tt, (tt, tt)));
+        stays = λ Page Descriptor j. (tt, (tt, (tt, tt)));
         process = λ q h. ap or_zero (ap (λ (x : Processor). x.cpu.process)
             (get_or-set_other (frame_lost s c t).processors c q.cpu _ no_processor (may.0 q h))
             ∙ set_process s c keeps w may.0 _ q h);
@@ -570,12 +646,16 @@ module _ (s : State) (c : ℕ) (o : Outcome) (m : IsMachine s) (w : IsWorking s)
       }))
   work_kept (act.Load n) may kept =
       seat_work s c keeps w may _ _ (entry.Load c n) kept refl refl refl refl refl refl (λ u. (tt, tt))
+      (λ Page. (tt, tt))
   work_kept act.Leave may kept =
       seat_work s c keeps w may _ _ (entry.Leave c) kept refl refl refl refl refl refl (λ u. (tt, tt))
+      (λ Page. (tt, tt))
   work_kept (act.FillSeg n) may kept =
       seat_work s c keeps w may _ _ (entry.FillSeg c n) kept refl refl refl refl refl refl (λ u. (tt, tt))
+      (λ Page. (tt, tt))
   work_kept (act.FillPage f r) may kept =
       seat_work s c keeps w may _ _ (entry.FillPage c f) kept refl refl refl refl refl refl (λ u. (tt, tt))
+      (λ Page. (tt, tt))
   work_kept (act.Through f r) may kept = other_told (with_pages s.store (pages_after s.store.pages f r)) (Some f)
       (word_reply (old_word s.store.pages f r) r.kind) may.0 may.1 (pages_less f r) (λ u. refl) kept
   work_kept (act.Plain r) may kept = other_told s.store None r may.0 may.1 (same_less s.store) (λ u. refl) kept
@@ -596,6 +676,8 @@ module _ (s : State) (c : ℕ) (o : Outcome) (m : IsMachine s) (w : IsWorking s)
         (subst (MayFailBy (eviction_begun s c f).store (process_at s c)) (sym may.next)
         (fails_less s.store (eviction_begun s c f).store (process_at s c) (Some may.command)
         (taking_less f) (page_fails s (process_at s c) may.command keeps may.finds.uid may.finds.page may.finds.case)));
+    taken = λ q h. subst (λ (y : Owner). TakenIn y.phase (eviction_begun s c f) (process_at s y.cpu)
+        (next_command s (process_at s y.cpu))) (some_same _ q h) tt;
   }
   work_kept (act.Empty u) may kept = begun_work s c u keeps may.idle (looking_goes s c may.looking) may.finds.active
       may.finds.unread (λ v h i. length_inferiors u may v
@@ -620,11 +702,22 @@ module _ (s : State) (c : ℕ) (o : Outcome) (m : IsMachine s) (w : IsWorking s)
             (took_like s c aim.Committing v fs pairs).processors))
             (subst TakesSome (λ i. command_at (sym (took_like s c aim.Committing v fs pairs).plan i) (process_at s c)
             (run_at (sym (took_like s c aim.Committing v fs pairs).runs i) (process_at s c)).place) may.3));
+        taken = λ q h. subst (λ (y : Owner). TakenIn y.phase (took s c aim.Committing v fs pairs)
+            (process_at (took s c aim.Committing v fs pairs) y.cpu)
+            (next_command (took s c aim.Committing v fs pairs) (process_at (took s c aim.Committing v fs pairs) y.cpu)))
+            (some_same _ q (sym has.owner ∙ h))
+            (subst (λ (j : ℕ). IsTakenBy (took s c aim.Committing v fs pairs) j
+            (next_command (took s c aim.Committing v fs pairs) j))
+            (sym (ap (λ (ps : List Processor). or_zero (cpu_at ps c).process)
+            (took_like s c aim.Committing v fs pairs).processors))
+            (subst (IsTakenBy (took s c aim.Committing v fs pairs) (process_at s c))
+            (λ i. command_at (sym (took_like s c aim.Committing v fs pairs).plan i) (process_at s c)
+            (run_at (sym (took_like s c aim.Committing v fs pairs).runs i) (process_at s c)).place) may.5));
       }
   work_kept (act.Signal v) may kept = signal_work s c keeps w v kept
   work_kept (act.FinishEviction f) may kept = by_end o (eviction_done (with_faults s o.faults) c f)
       (write_failed s c o.faults) kept (λ h. looking_work _ (looking c) refl refl tt) (λ e h. none_work _ refl)
   work_kept (act.FinishPage f) may kept = by_end o (page_done (with_faults s o.faults) f)
-      (write_failed s c o.faults) kept (λ h. page_work s c keeps w f o.faults h) (λ e h. none_work _ refl)
+      (write_failed s c o.faults) kept (λ h. page_work s c keeps w f o.faults may h) (λ e h. none_work _ refl)
   work_kept (act.Deactivate u) may kept = looking_work _ (looking c) refl refl tt
   work_kept act.Commit may kept = commits (next_command s (process_at s c))

@@ -1,5 +1,6 @@
 -- What the owner's job rests on: while it makes room, that a drive's failure may be told of its command, and that the
--- segment that it makes inactive is a leaf that it took whole; otherwise, that its command is one that takes.
+-- segment that it makes inactive is a leaf that it took whole; otherwise, that its command is one that takes, and that
+-- it took just that.
 use Rattle.std.specs.Prelude.{◌≡◌, ◌≢◌, ◌⊎◌, ◌<◌, ◌≤◌, ◌*◌, ℕ, Bool, true, false, List, [], ◌∷◌, Option, Some}
 use Rattle.std.specs.Prelude.{None, Ok}
 use Rattle.script.specs.References.{reference_of}
@@ -19,6 +20,7 @@ use Rattle.machine_model.specs.declared.Phase.TheVariants as phase
 use Rattle.machine_model.specs.Reads.{cut_of_owner, is_active, next_command, process_at}
 use Rattle.machine_model.specs.declared.CutDescriptor.{CutDescriptor}
 use Rattle.machine_model.specs.State.{Owner, State, Storage}
+use Rattle.machine_model.specs.Taking.{TakenIn}
 use Rattle.machine_model.specs.Whole.{TakenWhole, going_for}
 
 -- a reference is to a word of a segment that is there
@@ -80,3 +82,5 @@ pub record IsWorking (s : State) : Type 0 where
   pub leaf : (u : ℕ) → going_for s.owner ≡ Some u → IsLeaf s.store u
   pub fails : (o : Owner) → s.owner ≡ Some o
       → FailsIn o.phase s.store (process_at s o.cpu) (next_command s (process_at s o.cpu))
+  pub taken : (o : Owner) → s.owner ≡ Some o
+      → TakenIn o.phase s (process_at s o.cpu) (next_command s (process_at s o.cpu))
