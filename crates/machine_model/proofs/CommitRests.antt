@@ -84,7 +84,7 @@ none_listed : (fs : List ℕ) → ((f : ℕ) → has fs f ≡ true → ⊥) → 
 none_listed [] none = refl
 none_listed (f ∷ fs) none = absurd (none f (has_head f fs))
 
-none_cut : (ds : List CutDescriptor) → ((k n : ℕ) → has_cut ds k n ≡ true → ⊥) → ds ≡ []
+pub none_cut : (ds : List CutDescriptor) → ((k n : ℕ) → has_cut ds k n ≡ true → ⊥) → ds ≡ []
 none_cut [] none = refl
 none_cut (d ∷ ds) none = absurd (none d.process d.number
     (ap (λ (b : Bool). b || has_cut ds d.process d.number) (cut_at_same d)))
@@ -107,7 +107,7 @@ module _ (s : State) (k : ℕ) (cmd : Command) (keeps : Keeps s) (h : IsTakenFor
       let at = going_page ((shown (seen s)).frame f) going in (at.0, at.1, at.2, going)
 
   -- a descriptor that it cut led to a segment
-  cut_led : (j n : ℕ) → has_cut (cut_of_owner s.owner) j n ≡ true
+  pub cut_led : (j n : ℕ) → has_cut (cut_of_owner s.owner) j n ≡ true
       → (u : ℕ) × (leads_to ((shown (seen s)).descriptor j n) ≡ Some u)
       × (is_going_descriptor ((shown (seen s)).descriptor j n) ≡ true)
   cut_led j n listed = let going = keeps.book.going_owned.cuts j n ∙ listed in
@@ -122,7 +122,7 @@ module _ (s : State) (k : ℕ) (cmd : Command) (keeps : Keeps s) (h : IsTakenFor
     ap (λ (x : Option ℕ). is_going_descriptor (descriptor_use x (cut_uid (cut_of_owner s.owner) j n))) e,
   )
 
-path_uid : (s : State) (path : List (List ℕ)) (n : Node) → Keeps s → node_at (flat_of s).nodes path ≡ Ok n
+pub path_uid : (s : State) (path : List (List ℕ)) (n : Node) → Keeps s → node_at (flat_of s).nodes path ≡ Ok n
     → uid_at_path s.store path ≡ n.uid
 path_uid s path n keeps h = ap uid_of_node (ap (λ (ns : List Node). node_at ns path)
     (sym keeps.faithful.tree.nodes) ∙ h)
@@ -206,7 +206,7 @@ page_cases words (Some page) y u h =
     by (ptw.Leaving f) e = e
 
 -- the use of a frame with a page
-page_bound : (words : ℕ → ℕ → Ptw) (page : ℕ × ℕ) (y : Option (ℕ × ℕ))
+pub page_bound : (words : ℕ → ℕ → Ptw) (page : ℕ × ℕ) (y : Option (ℕ × ℕ))
     → page_of (frame_use words (Some page) y) ≡ Some page
 page_bound words page y = by (words page.0 page.1)
   where

@@ -75,6 +75,7 @@ pub mod OutlineWaits
 pub mod OwnedLaws
 pub mod OwnerLaws
 pub mod PageShown
+pub mod PagesCut
 pub mod PathsKept
 pub mod Places
 pub mod PoolRoom
@@ -119,6 +120,7 @@ pub mod TookKept
 pub mod TransferKept
 pub mod TransferLaws
 pub mod TruncateKept
+pub mod TruncateRests
 pub mod Truncation
 pub mod TwoTransfers
 pub mod Victims

@@ -1,0 +1,262 @@
+-- Pages are cut off one after the other: which frames are bound then, which pages are being read into them, and which
+-- words the pages have.
+use Rattle.std.proofs.Common.{◌≡◌, ◌≢◌, ◌<◌, ℕ, Bool, true, false, ◌||◌, cond, eqb, List, [], ◌∷◌, length, Option, None}
+use Rattle.std.proofs.Common.{◌⊎◌, inl, inr, refl, sym, ap, subst, ◌∙◌}
+use Rattle.std.proofs.lemmas.Bool.Decides.{eqb_tells}
+use Rattle.std.proofs.lemmas.List.{length-set}
+use Rattle.core_map.specs.declared.Frame.TheVariants as frame
+use Rattle.core_map.specs.CoreMap.{reads_of}
+use Rattle.page_table.specs.declared.Ptw.{Ptw}
+use Rattle.page_table.specs.declared.Ptw.TheVariants as ptw
+use Rattle.page_control.specs.Plain.{binding_at, bindings}
+use Rattle.active_segs.specs.declared.Entry.{Entry}
+use Rattle.seg_control.specs.Control.{Links, place_of, word_of}
+use Rattle.seg_control.specs.Kept.{read_at}
+use Rattle.custody_model.specs.Custody.{has}
+use Rattle.custody_model.specs.Next.{at_put_two}
+use Rattle.machine_model.specs.Commits.{without_page, without_pages}
+use Rattle.machine_model.specs.State.{Storage}
+use Rattle.machine_model.proofs.Places.{by_places}
+use Rattle.machine_model.proofs.SeenLaws.{bound_put, reads_put}
+use Rattle.machine_model.proofs.TakeSeen.{words_put}
+
+no_and : {b : Bool} → b ≡ true → b ≡ false → ⊥
+no_and t f = let none : true ≡ false = sym t ∙ f in cc
+
+-- what is seen of a store
+abbrev pub bound_in : Storage → ℕ → Option (ℕ × ℕ)
+bound_in st f = binding_at (bindings st.pages.core) f
+
+abbrev pub read_in : Storage → ℕ → Option (ℕ × ℕ)
+read_in st f = read_at (reads_of st.pages.core) f
+
+abbrev pub word_in : Storage → ℕ → ℕ → Ptw
+word_in st v q = word_of st.ast v q
+
+-- as many page tables as places, and each word that leaves a frame names one that is there
+pub record HasPlaces (st : Storage) : Type 0 where
+  pub tables : length st.ast.tables ≡ length st.ast.entries
+  pub within : (v q f : ℕ) → word_in st v q ≡ ptw.Leaving f → f < length st.pages.core.frames
+
+-- ---- one page
+
+-- a word leaves a frame
+abbrev pub is_left_by : Ptw → ℕ → Bool
+is_left_by ptw.Null g = false
+is_left_by (ptw.Out r) g = false
+is_left_by (ptw.Here f) g = false
+is_left_by (ptw.Leaving f) g = eqb g f
+
+-- page p of segment u, whose word this was, is cut off
+pub record IsCutOff (old now : Storage) (u p : ℕ) (w : Ptw) : Type 0 where
+  pub bound : (g : ℕ) → bound_in now g ≡ cond (is_left_by w g) None (bound_in old g)
+  pub reads : (g : ℕ) → read_in now g ≡ cond (is_left_by w g) None (read_in old g)
+  pub words : (v q : ℕ) → word_in now v q ≡ at_put_two (λ x y. word_in old x y) u p ptw.Null v q
+  pub places : now.ast.entries ≡ old.ast.entries
+  pub links : now.links ≡ old.links
+  pub frames : length now.pages.core.frames ≡ length old.pages.core.frames
+  pub tables : length now.ast.tables ≡ length old.ast.tables
+
+null_put : (st : Storage) (u p : ℕ) → word_in st u p ≡ ptw.Null → (v q : ℕ)
+    → word_in st v q ≡ at_put_two (λ x y. word_in st x y) u p ptw.Null v q
+null_put st u p e v q = by_places (λ (x : Ptw). word_in st v q ≡ x) (λ x y. word_in st x y) u p ptw.Null v q
+    (λ a b. (λ i. word_in st (a i) (b i)) ∙ e) (λ m. refl)
+
+pub page_cut_off : (st : Storage) (u p : ℕ) (w : Ptw) → HasPlaces st → word_in st u p ≡ w
+    → IsCutOff st (without_page st u p w) u p w
+page_cut_off st u p ptw.Null has_places e = record {
+  bound = λ g. refl;
+  reads = λ g. refl;
+  words = null_put st u p e;
+  places = refl;
+  links = refl;
+  frames = refl;
+  tables = refl;
+}
+page_cut_off st u p (ptw.Out r) has_places e = record {
+  bound = λ g. refl;
+  reads = λ g. refl;
+  words = words_put st.ast u p ptw.Null has_places.tables
+      (λ i. (let no : ptw.Out r ≡ ptw.Null = sym e ∙ i in cc));
+  places = refl;
+  links = refl;
+  frames = refl;
+  tables = length-set st.ast.tables (place_of st.ast.entries u) _;
+}
+page_cut_off st u p (ptw.Here f) has_places e = record {
+  bound = λ g. refl;
+  reads = λ g. refl;
+  words = words_put st.ast u p ptw.Null has_places.tables
+      (λ i. (let no : ptw.Here f ≡ ptw.Null = sym e ∙ i in cc));
+  places = refl;
+  links = refl;
+  frames = refl;
+  tables = length-set st.ast.tables (place_of st.ast.entries u) _;
+}
+page_cut_off st u p (ptw.Leaving f) has_places e = record {
+  bound = bound_put st.pages.core f frame.Free (has_places.within u p f e);
+  reads = reads_put st.pages.core f frame.Free (has_places.within u p f e);
+  words = words_put st.ast u p ptw.Null has_places.tables
+      (λ i. (let no : ptw.Leaving f ≡ ptw.Null = sym e ∙ i in cc));
+  places = refl;
+  links = refl;
+  frames = length-set st.pages.core.frames f frame.Free;
+  tables = length-set st.ast.tables (place_of st.ast.entries u) _;
+}
+
+-- a word that leaves a frame then left it before
+cut_leaving : (old now : Storage) (u p : ℕ) (w : Ptw) (v q f : ℕ) → IsCutOff old now u p w
+    → word_in now v q ≡ ptw.Leaving f → word_in old v q ≡ ptw.Leaving f
+cut_leaving old now u p w v q f c e = by_places (λ (x : Ptw). x ≡ ptw.Leaving f → word_in old v q ≡ ptw.Leaving f)
+    (λ x y. word_in old x y) u p ptw.Null v q
+    (λ a b i. absurd (let no : ptw.Null ≡ ptw.Leaving f = i in cc)) (λ m i. i) (sym (c.words v q) ∙ e)
+
+pub cut_places : (old now : Storage) (u p : ℕ) (w : Ptw) → HasPlaces old → IsCutOff old now u p w → HasPlaces now
+cut_places old now u p w h c = record {
+  tables = c.tables ∙ (h.tables ∙ ap (λ (es : List (Option Entry)). length es) (sym c.places));
+  within = λ v q f e. subst (λ (n : ℕ). f < n) (sym c.frames) (h.within v q f (cut_leaving old now u p w v q f c e));
+}
+
+-- ---- many pages
+
+-- these pages of segment u are cut off
+pub record AreCutOff (old now : Storage) (u : ℕ) (ps : List ℕ) : Type 0 where
+  -- the word of any other page is as it was
+  pub words : (v q : ℕ) → (v ≡ u → has ps q ≡ false) → word_in now v q ≡ word_in old v q
+  pub nulls : (q : ℕ) → has ps q ≡ true → word_in now u q ≡ ptw.Null
+  -- a frame that none of them leaves is as it was, and one that one of them leaves is free
+  pub bound : (g : ℕ) → ((q : ℕ) → has ps q ≡ true → word_in old u q ≢ ptw.Leaving g) → bound_in now g ≡ bound_in old g
+  pub left : (g q : ℕ) → has ps q ≡ true → word_in old u q ≡ ptw.Leaving g → bound_in now g ≡ None
+  pub free : (g : ℕ) → bound_in old g ≡ None → bound_in now g ≡ None
+  pub reads : (g : ℕ) → ((q : ℕ) → word_in old u q ≡ ptw.Leaving g → read_in old g ≡ None)
+      → read_in now g ≡ read_in old g
+  pub places : now.ast.entries ≡ old.ast.entries
+  pub links : now.links ≡ old.links
+
+leaves_is : (w : Ptw) (g : ℕ) → is_left_by w g ≡ true → w ≡ ptw.Leaving g
+leaves_is ptw.Null g h = absurd (no_and h refl)
+leaves_is (ptw.Out r) g h = absurd (no_and h refl)
+leaves_is (ptw.Here f) g h = absurd (no_and h refl)
+leaves_is (ptw.Leaving f) g h = elim (eqb_tells g f) [
+  | inl e ↦ ap (λ (x : ℕ). ptw.Leaving x) (sym e.1)
+  | inr n ↦ absurd (no_and h n.0)
+]
+
+is_leaves : (w : Ptw) (g : ℕ) → w ≡ ptw.Leaving g → is_left_by w g ≡ true
+is_leaves w g e = ap (λ (x : Ptw). is_left_by x g) e ∙ elim (eqb_tells g g) [ inl i ↦ i.0 | inr n ↦ absurd (n.1 refl) ]
+
+has_parts : (p : ℕ) (ps : List ℕ) (q : ℕ) → has (p ∷ ps) q ≡ false → (p ≢ q) × (has ps q ≡ false)
+has_parts p ps q h = elim (eqb_tells p q) [
+  | inl e ↦ absurd (let no : true ≡ false = sym (ap (λ (b : Bool). b || has ps q) e.0) ∙ h in cc)
+  | inr n ↦ (n.1, sym (ap (λ (b : Bool). b || has ps q) n.0) ∙ h)
+]
+
+has_head : (p : ℕ) (ps : List ℕ) → has (p ∷ ps) p ≡ true
+has_head p ps = elim (eqb_tells p p) [ inl e ↦ ap (λ (b : Bool). b || has ps p) e.0 | inr n ↦ absurd (n.1 refl) ]
+
+has_later : (p : ℕ) (ps : List ℕ) (q : ℕ) → has ps q ≡ true → has (p ∷ ps) q ≡ true
+has_later p ps q h = by (eqb p q)
+  where
+    by : (b : Bool) → (b || has ps q) ≡ true
+    by true = refl
+    by false = h
+
+-- it is the first, or one of the others
+has_cases : (p : ℕ) (ps : List ℕ) (q : ℕ) → has (p ∷ ps) q ≡ true → (has ps q ≡ true) ⊎ ((p ≡ q) × (has ps q ≡ false))
+has_cases p ps q h = by (has ps q) refl
+  where
+    by : (b : Bool) → has ps q ≡ b → (has ps q ≡ true) ⊎ ((p ≡ q) × (has ps q ≡ false))
+    by true e = inl e
+    by false e = elim (eqb_tells p q) [
+      | inl i ↦ inr (i.1, e)
+      | inr n ↦ absurd (no_and h (ap (λ (b : Bool). b || has ps q) n.0 ∙ e))
+    ]
+
+module _ (st : Storage) (u p : ℕ) (ps : List ℕ) (now : Storage)
+    (one : IsCutOff st (without_page st u p (word_in st u p)) u p (word_in st u p))
+    (rest : AreCutOff (without_page st u p (word_in st u p)) now u ps) where
+  abbrev mid : Storage
+  mid = without_page st u p (word_in st u p)
+
+  other_word : (v q : ℕ) → (v ≡ u → q ≡ p → ⊥) → word_in mid v q ≡ word_in st v q
+  other_word v q n = one.words v q ∙ by_places (λ (x : Ptw). x ≡ word_in st v q) (λ x y. word_in st x y) u p ptw.Null v q
+      (λ a b. absurd (n a b)) (λ m. refl)
+
+  this_word : word_in mid u p ≡ ptw.Null
+  this_word = one.words u p ∙ by_places (λ (x : Ptw). x ≡ ptw.Null) (λ x y. word_in st x y) u p ptw.Null u p
+      (λ a b. refl) (λ m. absurd (m refl refl))
+
+  was_leaving : (q g : ℕ) → word_in mid u q ≡ ptw.Leaving g → word_in st u q ≡ ptw.Leaving g
+  was_leaving q g e = cut_leaving st mid u p (word_in st u p) u q g one e
+
+  bound_by : (g : ℕ) (b : Bool) → is_left_by (word_in st u p) g ≡ b → bound_in mid g ≡ cond b None (bound_in st g)
+  bound_by g b e = one.bound g ∙ ap (λ (x : Bool). cond x None (bound_in st g)) e
+
+  reads_by : (g : ℕ) (b : Bool) → is_left_by (word_in st u p) g ≡ b → read_in mid g ≡ cond b None (read_in st g)
+  reads_by g b e = one.reads g ∙ ap (λ (x : Bool). cond x None (read_in st g)) e
+
+  free_mid : (g : ℕ) → bound_in st g ≡ None → bound_in mid g ≡ None
+  free_mid g e = by (is_left_by (word_in st u p) g) refl
+    where
+      by : (b : Bool) → is_left_by (word_in st u p) g ≡ b → bound_in mid g ≡ None
+      by true i = bound_by g true i
+      by false i = bound_by g false i ∙ e
+
+  bound_mid : (g : ℕ) → word_in st u p ≢ ptw.Leaving g → bound_in mid g ≡ bound_in st g
+  bound_mid g n = by (is_left_by (word_in st u p) g) refl
+    where
+      by : (b : Bool) → is_left_by (word_in st u p) g ≡ b → bound_in mid g ≡ bound_in st g
+      by true i = absurd (n (leaves_is (word_in st u p) g i))
+      by false i = bound_by g false i
+
+  reads_mid : (g : ℕ) → ((q : ℕ) → word_in st u q ≡ ptw.Leaving g → read_in st g ≡ None)
+      → read_in mid g ≡ read_in st g
+  reads_mid g h = by (is_left_by (word_in st u p) g) refl
+    where
+      by : (b : Bool) → is_left_by (word_in st u p) g ≡ b → read_in mid g ≡ read_in st g
+      by true i = reads_by g true i ∙ sym (h p (leaves_is (word_in st u p) g i))
+      by false i = reads_by g false i
+
+  next_cut_off : AreCutOff st now u (p ∷ ps)
+  next_cut_off = record {
+    words = λ v q n. rest.words v q (λ e. (has_parts p ps q (n e)).1)
+        ∙ other_word v q (λ a b. (has_parts p ps q (n a)).0 (sym b));
+    nulls = λ q i. elim (has_cases p ps q i) [
+      | inl e ↦ rest.nulls q e
+      | inr e ↦ rest.words u q (λ x. e.1) ∙ (ap (λ (x : ℕ). word_in mid u x) (sym e.0) ∙ this_word)
+    ];
+    bound = λ g n. rest.bound g (λ q i e. n q (has_later p ps q i) (was_leaving q g e))
+        ∙ bound_mid g (n p (has_head p ps));
+    left = λ g q i e. elim (eqb_tells p q) [
+      | inl same ↦ rest.free g (bound_by g true (is_leaves (word_in st u p) g
+          (ap (λ (x : ℕ). word_in st u x) same.1 ∙ e)))
+      | inr other ↦ elim (has_cases p ps q i) [
+        | inl y ↦ rest.left g q y (other_word u q (λ a b. other.1 (sym b)) ∙ e)
+        | inr y ↦ absurd (other.1 y.0)
+      ]
+    ];
+    free = λ g e. rest.free g (free_mid g e);
+    reads = λ g h. rest.reads g (λ q e. reads_mid g h ∙ h q (was_leaving q g e)) ∙ reads_mid g h;
+    places = rest.places ∙ one.places;
+    links = rest.links ∙ one.links;
+  }
+
+-- Pages are cut off, one after the other.
+pub pages_cut_off : (st : Storage) (u : ℕ) (ps : List ℕ) → HasPlaces st → AreCutOff st (without_pages st u ps) u ps
+pages_cut_off st u [] h = record {
+  words = λ v q n. refl;
+  nulls = λ q i. absurd (no_and i refl);
+  bound = λ g n. refl;
+  left = λ g q i e. absurd (no_and i refl);
+  free = λ g e. e;
+  reads = λ g i. refl;
+  places = refl;
+  links = refl;
+}
+pages_cut_off st u (p ∷ ps) h = next_cut_off st u p ps
+    (without_pages (without_page st u p (word_in st u p)) u ps) one
+    (pages_cut_off (without_page st u p (word_in st u p)) u ps
+    (cut_places st (without_page st u p (word_in st u p)) u p (word_in st u p) h one))
+  where
+    one : IsCutOff st (without_page st u p (word_in st u p)) u p (word_in st u p)
+    one = page_cut_off st u p (word_in st u p) h refl

@@ -1,0 +1,946 @@
+-- What a `truncate` must have out of use is so where it takes effect: the pages that it cuts off are those that its job
+-- took, and the one that keeps a word is here again.
+use Rattle.std.proofs.Common.{◌≡◌, ◌≢◌, ◌<◌, ◌≤◌, ◌*◌, ℕ, zero, suc, ◌+◌, ◌-◌, ◌/◌, ◌%◌, Bool, true, false, not, ◌&&◌, ◌||◌}
+use Rattle.std.proofs.Common.{cond, eqb, List, [], ◌∷◌, ◌++◌, length, take, replicate, get_or, set, Option, Some, None, ◌⊎◌}
+use Rattle.std.proofs.Common.{inl, inr, refl, sym, ap, subst, ◌∙◌, arith}
+use Rattle.std.specs.Prelude.{nat_le, nat_lt, Result, Ok, Err}
+use Rattle.std.specs.List.{list_all, range_with_len}
+use Rattle.std.proofs.lemmas.Bool.Decides.{eqb_tells, leb_tells}
+use Rattle.std.proofs.lemmas.List.{get_or-set_same, get_or_past, length-set}
+use Rattle.mnames.specs.declared.paths.Path.{Path}
+use Rattle.script.specs.declared.commands.Command.TheVariants as command
+use Rattle.book.specs.declared.replies.Reply.{Reply}
+use Rattle.tree_model.specs.Tree.{Node}
+use Rattle.core_map.specs.declared.Frame.{Frame}
+use Rattle.core_map.specs.declared.Frame.TheVariants as frame
+use Rattle.core_map.specs.CoreMap.{after_reference, bound_page, frame_at, reads_of, started_page}
+use Rattle.page_table.specs.declared.Ptw.{Ptw}
+use Rattle.page_table.specs.declared.Ptw.TheVariants as ptw
+use Rattle.page_control.specs.Effects.{cut}
+use Rattle.page_control.specs.Plain.{binding_at, bindings, frame_in, words_in}
+use Rattle.seg_control.specs.Control.{place_of, table_of, word_of}
+use Rattle.seg_control.specs.Kept.{read_at}
+use Rattle.flat_model.specs.Branches.{node_at, segment_at}
+use Rattle.flat_model.specs.Pages.{is_zero_page, without_words}
+use Rattle.flat_model.specs.Sizes.{is_lost}
+use Rattle.flat_model.proofs.ZeroLaws.{zero_words}
+use Rattle.custody_model.specs.declared.FrameUse.TheVariants as frame_use
+use Rattle.custody_model.specs.Custody.{has, is_going_descriptor, is_going_frame, page_of}
+use Rattle.custody_model.specs.Effects.{LosesNoPage, OfNode}
+use Rattle.custody_model.specs.Next.{at_put, at_put_two}
+use Rattle.machine_model.specs.declared.CutDescriptor.{CutDescriptor}
+use Rattle.machine_model.specs.Chains.{page_at, page_or_zero, without_frame}
+use Rattle.machine_model.specs.Commits.{first_past, pages_past, stays, with_cut, with_cut_in, without_page}
+use Rattle.machine_model.specs.Custodial.{AreDistinct, has_cut, names}
+use Rattle.machine_model.specs.Holding.{seen}
+use Rattle.machine_model.specs.Jobs.{are_zeros, here_if, page_in, with_here}
+use Rattle.machine_model.specs.Keeps.{Keeps}
+use Rattle.machine_model.specs.Reads.{cut_of_owner, flat_of, frames_of_owner, is_active, process_at}
+use Rattle.machine_model.specs.Refusal.{uid_of_command}
+use Rattle.machine_model.specs.Seen.{Seen, bound_use, read_use, shown}
+use Rattle.machine_model.specs.Seen.{frame_use as use_of}
+use Rattle.machine_model.specs.State.{State, Storage}
+use Rattle.machine_model.specs.Steps.{with_owner, with_pages}
+use Rattle.machine_model.specs.Taking.{IsTakenFor}
+use Rattle.machine_model.proofs.ChainLaws.{going_word, has_head, has_tail}
+use Rattle.machine_model.proofs.CommitAsks.{IsOut, RestsTruncate}
+use Rattle.machine_model.proofs.CommitKept.{effected}
+use Rattle.machine_model.proofs.CommitRests.{cut_led, none_cut, page_bound, path_uid}
+use Rattle.machine_model.proofs.FinishKept.{bound_within}
+use Rattle.machine_model.proofs.ListLaws.{map_list}
+use Rattle.machine_model.proofs.PagesCut.{AreCutOff, HasPlaces, IsCutOff, bound_in, cut_places, page_cut_off}
+use Rattle.machine_model.proofs.PagesCut.{pages_cut_off, read_in, word_in}
+use Rattle.machine_model.proofs.PageShown.{bound_word}
+use Rattle.machine_model.proofs.Places.{by_place, by_places}
+use Rattle.machine_model.proofs.QuotaTotals.{only_found}
+use Rattle.machine_model.proofs.SeenLaws.{bound_put, reads_put}
+use Rattle.machine_model.proofs.TakeSeen.{binding_is, words_put}
+use Rattle.machine_model.proofs.TieLaws.{none_some, page_is}
+use Rattle.machine_model.proofs.TruncateKept.{QuietWords, all_left, cut_store, leaf, leaves, segment}
+use Rattle.machine_model.proofs.TransferKept.{active_at}
+use Rattle.machine_model.proofs.WordLaws.{word_within}
+
+no_and : {b : Bool} → b ≡ true → b ≡ false → ⊥
+no_and t f = let none : true ≡ false = sym t ∙ f in cc
+
+uid_same : (v u : ℕ) → Some v ≡ Some u → v ≡ u
+uid_same v u h = cc
+
+-- ---- numbers in a row
+
+range_has : (from n q : ℕ) → from ≤ q → q < from + n → has (range_with_len from n) q ≡ true
+range_has from zero q low high = absurd (omega (arith, low, high))
+range_has from (suc n) q low high = by (eqb_tells from q) (λ a b. range_has (from + 1) n q a b)
+  where
+    by : ((eqb from q ≡ true) × (from ≡ q)) ⊎ ((eqb from q ≡ false) × (from ≢ q))
+        → (from + 1 ≤ q → q < from + 1 + n → has (range_with_len (from + 1) n) q ≡ true)
+        → (eqb from q || has (range_with_len (from + 1) n) q) ≡ true
+    by (inl e) rest = ap (λ (b : Bool). b || has (range_with_len (from + 1) n) q) e.0
+    by (inr m) rest = ap (λ (b : Bool). b || has (range_with_len (from + 1) n) q) m.0
+        ∙ rest (let ne = m.1 in omega (arith, low, ne)) (omega (arith, high))
+
+has_range : (from n q : ℕ) → has (range_with_len from n) q ≡ true → from ≤ q
+has_range from zero q h = absurd (no_and h refl)
+has_range from (suc n) q h = by (eqb_tells from q) (λ a. has_range (from + 1) n q a)
+  where
+    by : ((eqb from q ≡ true) × (from ≡ q)) ⊎ ((eqb from q ≡ false) × (from ≢ q))
+        → (has (range_with_len (from + 1) n) q ≡ true → from + 1 ≤ q) → from ≤ q
+    by (inl e) rest = let same = e.1 in omega (arith, same)
+    by (inr m) rest = let more = rest (sym (ap (λ (b : Bool). b || has (range_with_len (from + 1) n) q) m.0) ∙ h) in
+        omega (arith, more)
+
+-- ---- the page that the words cut
+
+-- a reference leaves the page of a frame
+bound_after : (x : Frame) (wrote : Bool) → bound_page (after_reference x wrote) ≡ bound_page x
+bound_after frame.Free wrote = refl
+bound_after (frame.Started u p) wrote = refl
+bound_after (frame.Bound u p used modified) wrote = refl
+
+started_after : (x : Frame) (wrote : Bool) → started_page (after_reference x wrote) ≡ started_page x
+started_after frame.Free wrote = refl
+started_after (frame.Started u p) wrote = refl
+started_after (frame.Bound u p used modified) wrote = refl
+
+-- what cutting one page changes: its word, and its frame where it is all zeros then
+record IsBegun (st now : Storage) (u p : ℕ) : Type 0 where
+  words : (v q : ℕ) → (v ≡ u → q ≡ p → ⊥) → word_in now v q ≡ word_in st v q
+  bound : (g : ℕ) → word_in st u p ≢ ptw.Leaving g → bound_in now g ≡ bound_in st g
+  reads : (g : ℕ) → (word_in st u p ≡ ptw.Leaving g → read_in st g ≡ None) → read_in now g ≡ read_in st g
+  leaving : (g : ℕ) → word_in now u p ≡ ptw.Leaving g → word_in st u p ≡ ptw.Leaving g
+  places : now.ast.entries ≡ st.ast.entries
+  links : now.links ≡ st.links
+  has_places : HasPlaces now
+
+begun_same : (st : Storage) (u p : ℕ) → HasPlaces st → IsBegun st st u p
+begun_same st u p h = record {
+  words = λ v q n. refl;
+  bound = λ g n. refl;
+  reads = λ g i. refl;
+  leaving = λ g e. e;
+  places = refl;
+  links = refl;
+  has_places = h;
+}
+
+module _ (st : Storage) (u p at f : ℕ) (h : HasPlaces st) (leaving : word_in st u p ≡ ptw.Leaving f)
+    (tie : bound_in st f ≡ Some (u, p)) where
+  abbrev now : Storage
+  now = with_pages st (cut st.pages f at)
+
+  within : f < length st.pages.core.frames
+  within = h.within u p f leaving
+
+  bound_same : (g : ℕ) → bound_in now g ≡ bound_in st g
+  bound_same g = bound_put st.pages.core f (after_reference (frame_in st.pages f) true) within g
+      ∙ by_place (λ (x : Option (ℕ × ℕ)). x ≡ bound_in st g) (λ i. bound_in st i) f
+      (bound_page (after_reference (frame_in st.pages f) true)) g
+      (λ e. bound_after (frame_in st.pages f) true
+      ∙ (sym (map_list bound_page st.pages.core.frames f frame.Free) ∙ ap (bound_in st) (sym e))) (λ n. refl)
+
+  reads_same : (g : ℕ) → read_in now g ≡ read_in st g
+  reads_same g = reads_put st.pages.core f (after_reference (frame_in st.pages f) true) within g
+      ∙ by_place (λ (x : Option (ℕ × ℕ)). x ≡ read_in st g) (λ i. read_in st i) f
+      (started_page (after_reference (frame_in st.pages f) true)) g
+      (λ e. started_after (frame_in st.pages f) true
+      ∙ (sym (map_list started_page st.pages.core.frames f frame.Free) ∙ ap (read_in st) (sym e))) (λ n. refl)
+
+  places_now : HasPlaces now
+  places_now = record {
+    tables = h.tables;
+    within = λ v q g e. subst (λ (n : ℕ). g < n) (sym (length-set st.pages.core.frames f _)) (h.within v q g e);
+  }
+
+  -- it is stored no more
+  abbrev gone_store : Storage
+  gone_store = without_page now u p (ptw.Leaving f)
+
+  gone : IsCutOff now gone_store u p (ptw.Leaving f)
+  gone = page_cut_off now u p (ptw.Leaving f) places_now leaving
+
+  gone_begun : IsBegun st gone_store u p
+  gone_begun = record {
+    words = λ v q n. gone.words v q ∙ by_places (λ (x : Ptw). x ≡ word_in st v q) (λ x y. word_in st x y) u p ptw.Null
+        v q (λ a b. absurd (n a b)) (λ m. refl);
+    bound = λ g n. gone.bound g ∙ (elim (eqb_tells g f) [
+      | inl e ↦ absurd (n (leaving ∙ ap (λ (x : ℕ). ptw.Leaving x) (sym e.1)))
+      | inr m ↦ ap (λ (b : Bool). cond b None (bound_in now g)) m.0 ∙ bound_same g
+    ]);
+    reads = λ g i. gone.reads g ∙ (elim (eqb_tells g f) [
+      | inl e ↦ ap (λ (b : Bool). cond b None (read_in now g)) e.0
+          ∙ sym (i (leaving ∙ ap (λ (x : ℕ). ptw.Leaving x) (sym e.1)))
+      | inr m ↦ ap (λ (b : Bool). cond b None (read_in now g)) m.0 ∙ reads_same g
+    ]);
+    leaving = λ g e. absurd (let no : ptw.Null ≡ ptw.Leaving g = sym gone_word ∙ e in cc);
+    places = gone.places;
+    links = gone.links;
+    has_places = cut_places now gone_store u p (ptw.Leaving f) places_now gone;
+  }
+    where
+      gone_word : word_in gone_store u p ≡ ptw.Null
+      gone_word = gone.words u p ∙ by_places (λ (x : Ptw). x ≡ ptw.Null) (λ x y. word_in st x y) u p ptw.Null u p
+          (λ a b. refl) (λ m. absurd (m refl refl))
+
+  gone_null : word_in gone_store u p ≡ ptw.Null
+  gone_null = gone.words u p ∙ by_places (λ (x : Ptw). x ≡ ptw.Null) (λ x y. word_in st x y) u p ptw.Null u p
+      (λ a b. refl) (λ m. absurd (m refl refl))
+
+  gone_free : bound_in gone_store f ≡ None
+  gone_free = gone.bound f ∙ elim (eqb_tells f f) [
+    | inl e ↦ ap (λ (b : Bool). cond b None (bound_in now f)) e.0
+    | inr m ↦ absurd (m.1 refl)
+  ]
+
+  -- it is here again
+  here_word : (v q : ℕ) → word_in (here_if now f (Some (u, p))) v q
+      ≡ at_put_two (λ x y. word_in st x y) u p (ptw.Here f) v q
+  here_word = words_put st.ast u p (ptw.Here f) h.tables
+      (λ i. (let no : ptw.Leaving f ≡ ptw.Null = sym leaving ∙ i in cc))
+
+  here_is : with_here now f ≡ here_if now f (Some (u, p))
+  here_is = ap (here_if now f) (sym (map_list bound_page now.pages.core.frames f frame.Free) ∙ (bound_same f ∙ tie))
+
+  here_this : word_in (here_if now f (Some (u, p))) u p ≡ ptw.Here f
+  here_this = here_word u p ∙ by_places (λ (x : Ptw). x ≡ ptw.Here f) (λ x y. word_in st x y) u p (ptw.Here f) u p
+      (λ a b. refl) (λ m. absurd (m refl refl))
+
+  here_begun : IsBegun st (here_if now f (Some (u, p))) u p
+  here_begun = record {
+    words = λ v q n. here_word v q ∙ by_places (λ (x : Ptw). x ≡ word_in st v q) (λ x y. word_in st x y) u p
+        (ptw.Here f) v q (λ a b. absurd (n a b)) (λ m. refl);
+    bound = λ g n. bound_same g;
+    reads = λ g i. reads_same g;
+    leaving = λ g e. absurd (let no : ptw.Here f ≡ ptw.Leaving g = sym here_this ∙ e in cc);
+    places = refl;
+    links = refl;
+    has_places = record {
+      tables = length-set st.ast.tables (place_of st.ast.entries u) _ ∙ h.tables;
+      within = λ v q g e. subst (λ (n : ℕ). g < n) (sym (length-set st.pages.core.frames f _))
+          (by_places (λ (x : Ptw). x ≡ ptw.Leaving g → g < length st.pages.core.frames) (λ x y. word_in st x y) u p
+          (ptw.Here f) v q (λ a b i. absurd (let no : ptw.Here f ≡ ptw.Leaving g = i in cc)) (λ m i. h.within v q g i)
+          (sym (here_word v q) ∙ e));
+    };
+  }
+
+-- the page that the words cut: as it was where no frame has it, stored no more, or here again
+record IsCut (st now : Storage) (u p at : ℕ) : Type 0 where
+  begun : IsBegun st now u p
+  quiet : ((f : ℕ) → word_in st u p ≢ ptw.Leaving f) → word_in now u p ≡ word_in st u p
+  zeros : (f : ℕ) → word_in st u p ≡ ptw.Leaving f → are_zeros (words_in (cut st.pages f at) f) ≡ true
+      → (word_in now u p ≡ ptw.Null) × (bound_in now f ≡ None)
+  kept : (f : ℕ) → word_in st u p ≡ ptw.Leaving f → are_zeros (words_in (cut st.pages f at) f) ≡ false
+      → (word_in now u p ≡ ptw.Here f) × (bound_in now f ≡ bound_in st f)
+
+leaving_same : (f g : ℕ) → ptw.Leaving f ≡ ptw.Leaving g → f ≡ g
+leaving_same f g e = cc
+
+page_cut : (st : Storage) (u p at : ℕ) → HasPlaces st
+    → ((f : ℕ) → word_in st u p ≡ ptw.Leaving f → bound_in st f ≡ Some (u, p))
+    → IsCut st (with_cut st u p at (word_in st u p)) u p at
+page_cut st u p at h tie = by (word_in st u p) refl
+  where
+    same : (w : Ptw) → word_in st u p ≡ w → ((f : ℕ) → w ≢ ptw.Leaving f) → IsCut st st u p at
+    same w e n = record {
+      begun = begun_same st u p h;
+      quiet = λ i. refl;
+      zeros = λ f i z. absurd (n f (sym e ∙ i));
+      kept = λ f i z. absurd (n f (sym e ∙ i));
+    }
+
+    by : (w : Ptw) → word_in st u p ≡ w → IsCut st (with_cut st u p at w) u p at
+    by ptw.Null e = same ptw.Null e (λ f i. (let no : ptw.Null ≡ ptw.Leaving f = i in cc))
+    by (ptw.Out r) e = same (ptw.Out r) e (λ f i. (let no : ptw.Out r ≡ ptw.Leaving f = i in cc))
+    by (ptw.Here f) e = same (ptw.Here f) e (λ g i. (let no : ptw.Here f ≡ ptw.Leaving g = i in cc))
+    by (ptw.Leaving f) e = cases (are_zeros (words_in (cut st.pages f at) f)) refl
+      where
+        its : (g : ℕ) → word_in st u p ≡ ptw.Leaving g → f ≡ g
+        its g i = leaving_same f g (sym e ∙ i)
+
+        cases : (b : Bool) → are_zeros (words_in (cut st.pages f at) f) ≡ b
+            → IsCut st (cond b (without_page (with_pages st (cut st.pages f at)) u p (ptw.Leaving f))
+            (with_here (with_pages st (cut st.pages f at)) f)) u p at
+        cases true z = record {
+          begun = gone_begun st u p at f h e (tie f e);
+          quiet = λ n. absurd (n f e);
+          zeros = λ g i y. (
+            gone_null st u p at f h e (tie f e),
+            ap (bound_in (gone_store st u p at f h e (tie f e))) (sym (its g i)) ∙ gone_free st u p at f h e (tie f e),
+          );
+          kept = λ g i y. absurd (no_and (ap (λ (x : ℕ). are_zeros (words_in (cut st.pages x at) x)) (sym (its g i)) ∙ z)
+              y);
+        }
+        cases false z = subst (λ (x : Storage). IsCut st x u p at) (sym (here_is st u p at f h e (tie f e))) (record {
+          begun = here_begun st u p at f h e (tie f e);
+          quiet = λ n. absurd (n f e);
+          zeros = λ g i y. absurd (no_and y (ap (λ (x : ℕ). are_zeros (words_in (cut st.pages x at) x)) (sym (its g i))
+              ∙ z));
+          kept = λ g i y. (
+            here_this st u p at f h e (tie f e) ∙ ap (λ (x : ℕ). ptw.Here x) (its g i),
+            bound_same st u p at f h e (tie f e) g,
+          );
+        })
+
+-- ---- the frames that the job took, as custody sees them go or come back
+
+-- a page that stays keeps its frame
+leaf_bound : (v : Seen) (f : ℕ) (b : Bool) (g : ℕ) → g ≢ f → (leaf v f b).bound g ≡ v.bound g
+leaf_bound v f true g n = refl
+leaf_bound v f false g n = by_place (λ (x : Option (ℕ × ℕ)). x ≡ v.bound g) v.bound f None g
+    (λ e. absurd (n e)) (λ m. refl)
+
+leaf_free : (v : Seen) (f : ℕ) → (leaf v f false).bound f ≡ None
+leaf_free v f = by_place (λ (x : Option (ℕ × ℕ)). x ≡ None) v.bound f None f (λ e. refl) (λ m. absurd (m refl))
+
+left_bound : (v : Seen) (test : ℕ → Bool) (fs : List ℕ) (g : ℕ)
+    → (leaves v test fs).bound g ≡ cond (has fs g && not (test g)) None (v.bound g)
+left_bound v test [] g = refl
+left_bound v test (f ∷ fs) g = left_bound (leaf v f (test f)) test fs g ∙ by (eqb_tells f g)
+  where
+    stays_or_free : (b x : Bool) (y : Option (ℕ × ℕ)) → (b ≡ true → y ≡ v.bound g) → (b ≡ false → y ≡ None)
+        → cond (x && not b) None y ≡ cond (not b) None (v.bound g)
+    stays_or_free true true y a z = a refl
+    stays_or_free true false y a z = a refl
+    stays_or_free false true y a z = refl
+    stays_or_free false false y a z = z refl
+
+    leaf_kept : (b : Bool) → b ≡ true → (leaf v f b).bound g ≡ v.bound g
+    leaf_kept true e = refl
+    leaf_kept false e = absurd (no_and e refl)
+
+    leaf_gone : (b : Bool) → b ≡ false → f ≡ g → (leaf v f b).bound g ≡ None
+    leaf_gone true e i = absurd (no_and refl e)
+    leaf_gone false e i = ap (leaf v f false).bound (sym i) ∙ leaf_free v f
+
+    by : ((eqb f g ≡ true) × (f ≡ g)) ⊎ ((eqb f g ≡ false) × (f ≢ g))
+        → cond (has fs g && not (test g)) None ((leaf v f (test f)).bound g)
+        ≡ cond ((eqb f g || has fs g) && not (test g)) None (v.bound g)
+    by (inl e) = stays_or_free (test g) (has fs g) ((leaf v f (test f)).bound g)
+        (λ i. leaf_kept (test f) (ap test e.1 ∙ i)) (λ i. leaf_gone (test f) (ap test e.1 ∙ i) e.1)
+        ∙ ap (λ (b : Bool). cond ((b || has fs g) && not (test g)) None (v.bound g)) (sym e.0)
+    by (inr m) = ap (cond (has fs g && not (test g)) None) (leaf_bound v f (test f) g (λ e. m.1 (sym e)))
+        ∙ ap (λ (b : Bool). cond ((b || has fs g) && not (test g)) None (v.bound g)) (sym m.0)
+
+-- the word of a page that no frame of theirs has
+leaf_word : (v : Seen) (f : ℕ) (b : Bool) (w q : ℕ) → (w ≡ (page_at v f).0 → q ≡ (page_at v f).1 → ⊥)
+    → (leaf v f b).words w q ≡ v.words w q
+leaf_word v f true w q n = by_places (λ (x : Ptw). x ≡ v.words w q) v.words (page_at v f).0 (page_at v f).1 (ptw.Here f)
+    w q (λ a b. absurd (n a b)) (λ m. refl)
+leaf_word v f false w q n = by_places (λ (x : Ptw). x ≡ v.words w q) v.words (page_at v f).0 (page_at v f).1 ptw.Null
+    w q (λ a b. absurd (n a b)) (λ m. refl)
+
+leaf_this : (v : Seen) (f : ℕ) (b : Bool) (w q : ℕ) → w ≡ (page_at v f).0 → q ≡ (page_at v f).1
+    → (leaf v f b).words w q ≡ cond b (ptw.Here f) ptw.Null
+leaf_this v f true w q a b = by_places (λ (x : Ptw). x ≡ ptw.Here f) v.words (page_at v f).0 (page_at v f).1 (ptw.Here f)
+    w q (λ i j. refl) (λ m. absurd (m a b))
+leaf_this v f false w q a b = by_places (λ (x : Ptw). x ≡ ptw.Null) v.words (page_at v f).0 (page_at v f).1 ptw.Null
+    w q (λ i j. refl) (λ m. absurd (m a b))
+
+-- each of some frames has a page of its own
+record HavePages (v : Seen) (fs : List ℕ) (page : ℕ → ℕ × ℕ) : Type 0 where
+  once : AreDistinct fs
+  each : (f : ℕ) → has fs f ≡ true → page_at v f ≡ page f
+  alone : (f g : ℕ) → has fs f ≡ true → has fs g ≡ true → (page f).0 ≡ (page g).0 → (page f).1 ≡ (page g).1 → f ≡ g
+
+next_pages : (v : Seen) (f : ℕ) (fs : List ℕ) (page : ℕ → ℕ × ℕ) (b : Bool) → HavePages v (f ∷ fs) page
+    → HavePages (leaf v f b) fs page
+next_pages v f fs page b h = record {
+  once = h.once.1;
+  each = λ g i. ap page_or_zero (leaf_bound v f b g
+      (λ e. no_and (subst (λ (x : ℕ). has fs x ≡ true) e i) h.once.0)) ∙ h.each g (has_tail f fs g i);
+  alone = λ g i x y. h.alone g i (has_tail f fs g x) (has_tail f fs i y);
+}
+
+left_other : (v : Seen) (test : ℕ → Bool) (fs : List ℕ) (page : ℕ → ℕ × ℕ) (w q : ℕ) → HavePages v fs page
+    → ((f : ℕ) → has fs f ≡ true → (page f).0 ≡ w → (page f).1 ≡ q → ⊥) → (leaves v test fs).words w q ≡ v.words w q
+left_other v test [] page w q h n = refl
+left_other v test (f ∷ fs) page w q h n = left_other (leaf v f (test f)) test fs page w q (next_pages v f fs page
+    (test f) h) (λ g i. n g (has_tail f fs g i))
+    ∙ leaf_word v f (test f) w q (λ a b. n f (has_head f fs)
+    (ap (λ (x : ℕ × ℕ). x.0) (sym (h.each f (has_head f fs))) ∙ sym a)
+    (ap (λ (x : ℕ × ℕ). x.1) (sym (h.each f (has_head f fs))) ∙ sym b))
+
+left_this : (v : Seen) (test : ℕ → Bool) (fs : List ℕ) (page : ℕ → ℕ × ℕ) (f : ℕ) → HavePages v fs page
+    → has fs f ≡ true → (leaves v test fs).words (page f).0 (page f).1 ≡ cond (test f) (ptw.Here f) ptw.Null
+left_this v test [] page f h i = absurd (no_and i refl)
+left_this v test (g ∷ gs) page f h i = by (eqb_tells g f)
+    (λ x. left_this (leaf v g (test g)) test gs page f (next_pages v g gs page (test g) h) x)
+  where
+    later : g ≢ f → has gs f ≡ true
+    later n = elim (eqb_tells g f) [
+      | inl e ↦ absurd (n e.1)
+      | inr m ↦ sym (ap (λ (b : Bool). b || has gs f) m.0) ∙ i
+    ]
+
+    by : ((eqb g f ≡ true) × (g ≡ f)) ⊎ ((eqb g f ≡ false) × (g ≢ f))
+        → (has gs f ≡ true → (leaves (leaf v g (test g)) test gs).words (page f).0 (page f).1
+        ≡ cond (test f) (ptw.Here f) ptw.Null)
+        → (leaves (leaf v g (test g)) test gs).words (page f).0 (page f).1 ≡ cond (test f) (ptw.Here f) ptw.Null
+    by (inr m) rest = rest (later m.1)
+    by (inl e) rest = left_other (leaf v g (test g)) test gs page (page f).0 (page f).1
+        (next_pages v g gs page (test g) h)
+        (λ j x a b. no_and (subst (λ (y : ℕ). has gs y ≡ true) (h.alone j f (has_tail g gs j x) i a b ∙ sym e.1) x)
+        h.once.0)
+        ∙ (leaf_this v g (test g) (page f).0 (page f).1 (its (λ (x : ℕ × ℕ). x.0)) (its (λ (x : ℕ × ℕ). x.1))
+        ∙ ap (λ (x : ℕ). cond (test x) (ptw.Here x) ptw.Null) e.1)
+      where
+        its : (part : ℕ × ℕ → ℕ) → part (page f) ≡ part (page_at v g)
+        its part = ap (λ (x : ℕ). part (page x)) (sym e.1) ∙ ap part (sym (h.each g (has_head g gs)))
+
+left_reads : (v : Seen) (test : ℕ → Bool) (fs : List ℕ) → (leaves v test fs).reads ≡ v.reads
+left_reads v test [] = refl
+left_reads v test (f ∷ fs) = left_reads (leaf v f (test f)) test fs ∙ by (test f)
+  where
+    by : (b : Bool) → (leaf v f b).reads ≡ v.reads
+    by true = refl
+    by false = refl
+
+-- ---- a page that keeps a word
+
+zeros_after : (n : ℕ) → are_zeros (replicate n 0) ≡ true
+zeros_after zero = refl
+zeros_after (suc n) = zeros_after n
+
+zeros_cut : (ws : List ℕ) (at n : ℕ) → ((i : ℕ) → i < at → get_or ws i 0 ≡ 0)
+    → are_zeros (take at ws ++ replicate n 0) ≡ true
+zeros_cut ws zero n zero_is = zeros_after n
+zeros_cut [] (suc at) n zero_is = zeros_after n
+zeros_cut (w ∷ ws) (suc at) n zero_is = ap (λ (x : ℕ). eqb x 0 && are_zeros (take at ws ++ replicate n 0))
+    (zero_is zero (omega arith))
+    ∙ zeros_cut ws at n (λ i less. zero_is (suc i) (omega (arith, less)))
+
+-- a page in a frame whose words before an offset are zeros is all zeros once it is cut there
+cut_zeros : (st : Storage) (f at : ℕ) → ((i : ℕ) → i < at → get_or (words_in st.pages f) i 0 ≡ 0)
+    → are_zeros (words_in (cut st.pages f at) f) ≡ true
+cut_zeros st f at zero_is = elim (leb_tells (length st.pages.frames) f) [
+  | inl e ↦ ap are_zeros (get_or_past (set st.pages.frames f _) f []
+      (subst (λ (n : ℕ). n ≤ f) (sym (length-set st.pages.frames f _)) e.1))
+  | inr m ↦ ap are_zeros (get_or-set_same st.pages.frames f _ [] m.1)
+      ∙ zeros_cut (words_in st.pages f) at (1024 - at) zero_is
+]
+
+-- ---- the command
+
+lt_tells : (a b : ℕ) → ((nat_lt a b ≡ true) × (a < b)) ⊎ ((nat_lt a b ≡ false) × (b ≤ a))
+lt_tells a b = elim (leb_tells (suc a) b) [
+  | inl e ↦ (let le = e.1 in inl (e.0, omega (arith, le)))
+  | inr m ↦ (let lt = m.1 in inr (m.0, omega (arith, lt)))
+]
+
+module _ (s : State) (c : ℕ) (path : Path) (size : ℕ) (keeps : Keeps s)
+    (h : IsTakenFor s (process_at s c) (command.Truncate path size)) where
+  abbrev u : ℕ
+  u = segment s c (process_at s c) path size
+
+  abbrev st : Storage
+  st = s.store
+
+  abbrev p : ℕ
+  p = size / 1024
+
+  abbrev at : ℕ
+  at = size % 1024
+
+  abbrev first : ℕ
+  first = first_past size
+
+  abbrev ps : List ℕ
+  ps = pages_past st u size
+
+  abbrev fs : List ℕ
+  fs = frames_of_owner s.owner
+
+  abbrev test : ℕ → Bool
+  test = stays st size
+
+  abbrev mid : Storage
+  mid = cond (eqb at 0) st (with_cut st u p at (word_in st u p))
+
+  -- ---- what the job took
+
+  word_bound : (v q f : ℕ) → word_in st v q ≡ ptw.Leaving f → (seen s).bound f ≡ Some (v, q)
+  word_bound v q f e = keeps.book.tied.back f v q (ap names e)
+
+  word_taken : (v q f : ℕ) → word_in st v q ≡ ptw.Leaving f → (has fs f ≡ true) × (v ≡ u) × (p ≤ q)
+  word_taken v q f e = let its = h.just.its_pages f v q page going in
+      (sym (keeps.book.going_owned.frames f) ∙ going, its.0, its.1)
+    where
+      page : page_of ((shown (seen s)).frame f) ≡ Some (v, q)
+      page = ap (λ (x : Option (ℕ × ℕ)). page_of (use_of (seen s).words x ((seen s).reads f))) (word_bound v q f e)
+          ∙ page_bound (seen s).words (v, q) ((seen s).reads f)
+
+      going : is_going_frame ((shown (seen s)).frame f) ≡ true
+      going = ap (λ (x : Option (ℕ × ℕ)). is_going_frame (use_of (seen s).words x ((seen s).reads f)))
+          (word_bound v q f e) ∙ ap (λ (x : Ptw). is_going_frame (bound_use (v, q) x)) e
+
+  frame_word : (f q : ℕ) → (seen s).bound f ≡ Some (u, q) → p ≤ q → word_in st u q ≡ ptw.Leaving f
+  frame_word f q e le = subst (λ (x : Option (ℕ × ℕ)). word_in st (page_or_zero x).0 (page_or_zero x).1 ≡ ptw.Leaving f)
+      e (going_word (seen s) f keeps.book (h.just.pages f u q
+      (ap (λ (x : Option (ℕ × ℕ)). page_of (use_of (seen s).words x ((seen s).reads f))) e
+      ∙ page_bound (seen s).words (u, q) ((seen s).reads f)) (refl, le)))
+
+  not_here : (f q : ℕ) → word_in st u q ≡ ptw.Here f → p ≤ q → ⊥
+  not_here f q e le = let no : ptw.Here f ≡ ptw.Leaving f = sym e
+      ∙ frame_word f q (keeps.book.tied.back f u q (ap names e)) le in cc
+
+  not_read : (f q : ℕ) → (seen s).reads f ≡ Some (u, q) → p ≤ q → ⊥
+  not_read f q e le = no_and (h.just.pages f u q (ap page_of is) (refl, le)) (ap is_going_frame is)
+    where
+      is : (shown (seen s)).frame f ≡ frame_use.Started u q
+      is = ap (λ (x : Option (ℕ × ℕ)). use_of (seen s).words x ((seen s).reads f))
+          (keeps.book.tied.unbound f u q e) ∙ ap read_use e
+
+  -- a frame that it took
+  record IsMine (f : ℕ) : Type 0 where
+    page : ℕ
+    its : page_at (seen s) f ≡ (u, page)
+    bound : (seen s).bound f ≡ Some (u, page)
+    word : word_in st u page ≡ ptw.Leaving f
+    past : p ≤ page
+
+  mine : (f : ℕ) → has fs f ≡ true → IsMine f
+  mine f e = record {
+    page = (page_at (seen s) f).1;
+    its = λ i. (taken.1 i, (page_at (seen s) f).1);
+    bound = word_bound (page_at (seen s) f).0 (page_at (seen s) f).1 f word
+        ∙ (λ i. Some (taken.1 i, (page_at (seen s) f).1));
+    word = ap (λ (x : ℕ). word_in st x (page_at (seen s) f).1) (sym taken.1) ∙ word;
+    past = taken.2;
+  }
+    where
+      word : word_in st (page_at (seen s) f).0 (page_at (seen s) f).1 ≡ ptw.Leaving f
+      word = going_word (seen s) f keeps.book (keeps.book.going_owned.frames f ∙ e)
+
+      taken : (has fs f ≡ true) × ((page_at (seen s) f).0 ≡ u) × (p ≤ (page_at (seen s) f).1)
+      taken = word_taken (page_at (seen s) f).0 (page_at (seen s) f).1 f word
+
+  have_pages : HavePages (seen s) fs (λ f. page_at (seen s) f)
+  have_pages = record {
+    once = keeps.book.going_owned.once;
+    each = λ f i. refl;
+    alone = λ f g i j a b. leaving_same f g (sym (going_word (seen s) f keeps.book
+        (keeps.book.going_owned.frames f ∙ i)) ∙ ((λ t. word_in st (a t) (b t))
+        ∙ going_word (seen s) g keeps.book (keeps.book.going_owned.frames g ∙ j)));
+  }
+
+  has_places : HasPlaces st
+  has_places = record {
+    tables = keeps.store.kept.places;
+    within = λ v q f e. bound_within s f (v, q) (word_bound v q f e);
+  }
+
+  -- ---- which pages are past the words
+
+  first_low : p ≤ first
+  first_low = omega arith
+
+  in_past : (q : ℕ) → first ≤ q → word_in st u q ≢ ptw.Null → has ps q ≡ true
+  in_past q le n = let inner = (word_within st.ast u q n).1 in
+      range_has first (length (table_of st.ast u) - first) q le (omega (arith, inner, le))
+
+  past_in : (q : ℕ) → has ps q ≡ true → first ≤ q
+  past_in q i = has_range first (length (table_of st.ast u) - first) q i
+
+  page_is_its : (f : ℕ) → has fs f ≡ true → (m : IsMine f) → (page_in st f).1 ≡ m.page
+  page_is_its f e m = ap (λ (x : Option (ℕ × ℕ)). (page_or_zero x).1) (sym (binding_is s f) ∙ m.bound)
+
+  -- a page past the words doesn't stay; the one that they cut does where it has a word that isn't zero then
+  test_past : (f : ℕ) → has fs f ≡ true → (m : IsMine f) → first ≤ m.page → test f ≡ false
+  test_past f e m le = ap (λ (b : Bool). b && not (are_zeros (words_in (cut st.pages f at) f)))
+      (off (lt_tells (1024 * (page_in st f).1) size))
+    where
+      off : ((nat_lt (1024 * (page_in st f).1) size ≡ true) × (1024 * (page_in st f).1 < size))
+          ⊎ ((nat_lt (1024 * (page_in st f).1) size ≡ false) × (size ≤ 1024 * (page_in st f).1))
+          → nat_lt (1024 * (page_in st f).1) size ≡ false
+      off (inl x) = let lt = x.1 in let same = page_is_its f e m in absurd (omega (arith, lt, same, le))
+      off (inr x) = x.0
+
+  test_cut : (f : ℕ) → has fs f ≡ true → (m : IsMine f) → m.page ≡ p → at ≢ 0
+      → test f ≡ not (are_zeros (words_in (cut st.pages f at) f))
+  test_cut f e m is n = ap (λ (b : Bool). b && not (are_zeros (words_in (cut st.pages f at) f)))
+      (on (lt_tells (1024 * (page_in st f).1) size))
+    where
+      on : ((nat_lt (1024 * (page_in st f).1) size ≡ true) × (1024 * (page_in st f).1 < size))
+          ⊎ ((nat_lt (1024 * (page_in st f).1) size ≡ false) × (size ≤ 1024 * (page_in st f).1))
+          → nat_lt (1024 * (page_in st f).1) size ≡ true
+      on (inl x) = x.0
+      on (inr x) = let le = x.1 in let same = page_is_its f e m in absurd (n (omega (arith, le, same, is)))
+
+  -- ---- the store, once the page that the words cut is cut
+
+  cut_in : at ≢ 0 → IsCut st mid u p at
+  cut_in n = subst (λ (x : Storage). IsCut st x u p at) (sym is) (page_cut st u p at has_places
+      (λ f e. word_bound u p f e))
+    where
+      off : eqb at 0 ≡ false
+      off = elim (eqb_tells at 0) [ inl e ↦ absurd (n e.1) | inr m ↦ m.0 ]
+
+      is : mid ≡ with_cut st u p at (word_in st u p)
+      is = ap (λ (b : Bool). cond b st (with_cut st u p at (word_in st u p))) off
+
+  mid_same : at ≡ 0 → mid ≡ st
+  mid_same e = ap (λ (b : Bool). cond b st (with_cut st u p at (word_in st u p))) on
+    where
+      on : eqb at 0 ≡ true
+      on = elim (eqb_tells at 0) [ inl i ↦ i.0 | inr m ↦ absurd (m.1 e) ]
+
+  begun : IsBegun st mid u p
+  begun = elim (eqb_tells at 0) [
+    | inl e ↦ subst (λ (x : Storage). IsBegun st x u p) (sym (mid_same e.1)) (begun_same st u p has_places)
+    | inr m ↦ (cut_in m.1).begun
+  ]
+
+  mid_leaving : (q g : ℕ) → word_in mid u q ≡ ptw.Leaving g → word_in st u q ≡ ptw.Leaving g
+  mid_leaving q g e = elim (eqb_tells q p) [
+    | inl i ↦ ap (λ (x : ℕ). word_in st u x) i.1
+        ∙ begun.leaving g (ap (λ (x : ℕ). word_in mid u x) (sym i.1) ∙ e)
+    | inr m ↦ sym (begun.words u q (λ a b. m.1 b)) ∙ e
+  ]
+
+  -- a page past the words has the word that it had
+  mid_past : (q : ℕ) → first ≤ q → word_in mid u q ≡ word_in st u q
+  mid_past q le = elim (eqb_tells q p) [
+    | inl i ↦ ap (λ (x : Storage). word_in x u q) (mid_same (let same = i.1 in omega (arith, same, le)))
+    | inr m ↦ begun.words u q (λ a b. m.1 b)
+  ]
+
+  over : AreCutOff mid (cut_store s c (process_at s c) path size) u ps
+  over = pages_cut_off mid u ps begun.has_places
+
+  -- ---- frames
+
+  abbrev cut_off : Storage
+  cut_off = cut_store s c (process_at s c) path size
+
+  unread : (f : ℕ) → word_in st u p ≡ ptw.Leaving f → read_in st f ≡ None
+  unread f e = not_started f u p (word_bound u p f e)
+    where
+      not_started : (f v q : ℕ) → (seen s).bound f ≡ Some (v, q) → read_in st f ≡ None
+      not_started f v q b = by (read_in st f) refl
+        where
+          by : (x : Option (ℕ × ℕ)) → read_in st f ≡ x → x ≡ None
+          by None i = refl
+          by (Some page) i = absurd (none_some (sym (keeps.book.tied.unbound f page.0 page.1 i) ∙ b))
+
+  reads_now : (g : ℕ) → read_in cut_off g ≡ read_in st g
+  reads_now g = over.reads g (λ q e. mid_read ∙ still q (mid_leaving q g e)) ∙ mid_read
+    where
+      still : (q : ℕ) → word_in st u q ≡ ptw.Leaving g → read_in st g ≡ None
+      still q e = by (read_in st g) refl
+        where
+          by : (x : Option (ℕ × ℕ)) → read_in st g ≡ x → x ≡ None
+          by None i = refl
+          by (Some page) i = absurd (none_some (sym (keeps.book.tied.unbound g page.0 page.1 i) ∙ word_bound u q g e))
+
+      mid_read : read_in mid g ≡ read_in st g
+      mid_read = begun.reads g (λ e. still p e)
+
+  -- where the page of a frame that the job took is then
+  record IsLeft (f : ℕ) (m : IsMine f) : Type 0 where
+    bound : bound_in cut_off f ≡ cond (not (test f)) None (bound_in st f)
+    word : word_in cut_off u m.page ≡ cond (test f) (ptw.Here f) ptw.Null
+
+  left_past : (f : ℕ) → has fs f ≡ true → (m : IsMine f) → first ≤ m.page → IsLeft f m
+  left_past f e m le = record {
+    bound = over.left f m.page listed (mid_past m.page le ∙ m.word)
+        ∙ ap (λ (b : Bool). cond (not b) None (bound_in st f)) (sym off);
+    word = over.nulls m.page listed ∙ ap (λ (b : Bool). cond b (ptw.Here f) ptw.Null) (sym off);
+  }
+    where
+      off : test f ≡ false
+      off = test_past f e m le
+
+      listed : has ps m.page ≡ true
+      listed = in_past m.page le (λ n. (let no : ptw.Leaving f ≡ ptw.Null = sym m.word ∙ n in cc))
+
+  left_cut : (f : ℕ) → has fs f ≡ true → (m : IsMine f) → m.page < first → IsLeft f m
+  left_cut f e m lt = by (are_zeros (words_in (cut st.pages f at) f)) refl
+    where
+      some : at ≢ 0
+      some z = let past = m.past in omega (arith, lt, past, z)
+
+      is : m.page ≡ p
+      is = let past = m.past in omega (arith, lt, past)
+
+      c_in : IsCut st mid u p at
+      c_in = cut_in some
+
+      word : word_in st u p ≡ ptw.Leaving f
+      word = ap (λ (x : ℕ). word_in st u x) (sym is) ∙ m.word
+
+      told : test f ≡ not (are_zeros (words_in (cut st.pages f at) f))
+      told = test_cut f e m is some
+
+      -- it isn't past the words
+      unlisted : has ps m.page ≡ false
+      unlisted = none (has ps m.page) refl
+        where
+          none : (b : Bool) → has ps m.page ≡ b → b ≡ false
+          none false i = refl
+          none true i = absurd (let le = past_in m.page i in omega (arith, le, lt))
+
+      same_word : word_in cut_off u m.page ≡ word_in mid u p
+      same_word = over.words u m.page (λ i. unlisted) ∙ ap (λ (x : ℕ). word_in mid u x) is
+
+      by : (b : Bool) → are_zeros (words_in (cut st.pages f at) f) ≡ b → IsLeft f m
+      by true z = record {
+        bound = over.free f (c_in.zeros f word z).1
+            ∙ ap (λ (b : Bool). cond (not b) None (bound_in st f)) (sym off);
+        word = same_word ∙ ((c_in.zeros f word z).0 ∙ ap (λ (b : Bool). cond b (ptw.Here f) ptw.Null) (sym off));
+      }
+        where
+          off : test f ≡ false
+          off = told ∙ ap not z
+      by false z = record {
+        bound = over.bound f stays_on ∙ ((c_in.kept f word z).1
+            ∙ ap (λ (b : Bool). cond (not b) None (bound_in st f)) (sym on));
+        word = same_word ∙ ((c_in.kept f word z).0 ∙ ap (λ (b : Bool). cond b (ptw.Here f) ptw.Null) (sym on));
+      }
+        where
+          on : test f ≡ true
+          on = told ∙ ap not z
+
+          stays_on : (q : ℕ) → has ps q ≡ true → word_in mid u q ≢ ptw.Leaving f
+          stays_on q i w = let was = word_bound u q f (mid_leaving q f w) in
+              let same = (page_is u q u m.page (sym was ∙ m.bound)).1 in
+              let le = past_in q i in omega (arith, same, le, lt)
+
+  is_left : (f : ℕ) → has fs f ≡ true → (m : IsMine f) → IsLeft f m
+  is_left f e m = elim (leb_tells first m.page) [
+    | inl x ↦ left_past f e m x.1
+    | inr x ↦ left_cut f e m x.1
+  ]
+
+  bound_now : (g : ℕ) → bound_in cut_off g ≡ (all_left s c (process_at s c) path size).bound g
+  bound_now g = by (has fs g) refl ∙ sym (left_bound (seen s) test fs g)
+    where
+      by : (b : Bool) → has fs g ≡ b → bound_in cut_off g ≡ cond (has fs g && not (test g)) None ((seen s).bound g)
+      by true e = (is_left g e (mine g e)).bound
+          ∙ ap (λ (b : Bool). cond (b && not (test g)) None ((seen s).bound g)) (sym e)
+      by false e = over.bound g (λ q i w. no_and (word_taken u q g (mid_leaving q g w)).0 e)
+          ∙ (begun.bound g (λ w. no_and (word_taken u p g w).0 e)
+          ∙ ap (λ (b : Bool). cond (b && not (test g)) None ((seen s).bound g)) (sym e))
+
+  -- ---- words
+
+  -- no frame that the job took has the page
+  left_same : (w q : ℕ) → ((f : ℕ) → word_in st w q ≢ ptw.Leaving f)
+      → (all_left s c (process_at s c) path size).words w q ≡ word_in st w q
+  left_same w q n = left_other (seen s) test fs (λ f. page_at (seen s) f) w q have_pages
+      (λ f i a b. n f ((λ t. word_in st (sym a t) (sym b t))
+      ∙ going_word (seen s) f keeps.book (keeps.book.going_owned.frames f ∙ i)))
+
+  left_its : (f : ℕ) → has fs f ≡ true → (m : IsMine f)
+      → (all_left s c (process_at s c) path size).words u m.page ≡ cond (test f) (ptw.Here f) ptw.Null
+  left_its f e m = (λ t. (all_left s c (process_at s c) path size).words (sym m.its t).0 (sym m.its t).1)
+      ∙ left_this (seen s) test fs (λ g. page_at (seen s) g) f have_pages e
+
+  reads_none : (f q : ℕ) → p ≤ q → (all_left s c (process_at s c) path size).reads f ≡ Some (u, q) → ⊥
+  reads_none f q le e = not_read f q (ap (λ (x : ℕ → Option (ℕ × ℕ)). x f) (sym (left_reads (seen s) test fs)) ∙ e) le
+
+  -- a page of another segment, or before the words, is as it was
+  word_elsewhere : (w q : ℕ) → (w ≡ u → q < p) → word_in cut_off w q ≡ word_in st w q
+  word_elsewhere w q n = over.words w q (λ e. none (has ps q) refl (n e))
+      ∙ begun.words w q (λ a b. (let lt = n a in omega (arith, lt, b)))
+    where
+      none : (b : Bool) → has ps q ≡ b → q < p → b ≡ false
+      none false i lt = refl
+      none true i lt = absurd (let le = past_in q i in let low = first_low in omega (arith, le, low, lt))
+
+  -- a page of the segment that is in no frame
+  quiet_word : (q : ℕ) → p ≤ q → ((f : ℕ) → word_in st u q ≢ ptw.Leaving f) → names (word_in st u q) ≡ None
+      → (word_in cut_off u q ≡ word_in st u q) ⊎ (word_in cut_off u q ≡ ptw.Null)
+  quiet_word q le n none = by (has ps q) refl
+    where
+      mid_word : word_in mid u q ≡ word_in st u q
+      mid_word = elim (eqb_tells q p) [
+        | inl i ↦ elim (eqb_tells at 0) [
+          | inl z ↦ ap (λ (x : Storage). word_in x u q) (mid_same z.1)
+          | inr m ↦ ap (λ (x : ℕ). word_in mid u x) i.1
+              ∙ ((cut_in m.1).quiet (λ f e. n f (ap (λ (x : ℕ). word_in st u x) i.1 ∙ e))
+              ∙ ap (λ (x : ℕ). word_in st u x) (sym i.1))
+        ]
+        | inr m ↦ begun.words u q (λ a b. m.1 b)
+      ]
+
+      by : (b : Bool) → has ps q ≡ b → (word_in cut_off u q ≡ word_in st u q) ⊎ (word_in cut_off u q ≡ ptw.Null)
+      by true i = inr (over.nulls q i)
+      by false i = inl (over.words u q (λ e. i) ∙ mid_word)
+
+  abbrev IsQuiet : ℕ → ℕ → Type 0
+  IsQuiet w q = (word_in cut_off w q ≡ (all_left s c (process_at s c) path size).words w q)
+      ⊎ ((names ((all_left s c (process_at s c) path size).words w q) ≡ None) × (names (word_in cut_off w q) ≡ None)
+      × ((f : ℕ) → (all_left s c (process_at s c) path size).reads f ≢ Some (w, q)))
+
+  quiet_past : (q : ℕ) → p ≤ q → (x : Ptw) → word_in st u q ≡ x → IsQuiet u q
+  quiet_past q le ptw.Null e = elim (quiet_word q le none (ap names e)) [
+    | inl i ↦ inl (i ∙ sym (left_same u q none))
+    | inr i ↦ inl (i ∙ (sym e ∙ sym (left_same u q none)))
+  ]
+    where
+      none : (f : ℕ) → word_in st u q ≢ ptw.Leaving f
+      none f i = let no : ptw.Null ≡ ptw.Leaving f = sym e ∙ i in cc
+  quiet_past q le (ptw.Out r) e = elim (quiet_word q le none (ap names e)) [
+    | inl i ↦ inl (i ∙ sym (left_same u q none))
+    | inr i ↦ inr (ap names (left_same u q none ∙ e), ap names i, λ f. reads_none f q le)
+  ]
+    where
+      none : (f : ℕ) → word_in st u q ≢ ptw.Leaving f
+      none f i = let no : ptw.Out r ≡ ptw.Leaving f = sym e ∙ i in cc
+  quiet_past q le (ptw.Here f) e = absurd (not_here f q e le)
+  quiet_past q le (ptw.Leaving f) e = inl (subst (λ (x : ℕ). word_in cut_off u x
+      ≡ (all_left s c (process_at s c) path size).words u x) same
+      ((is_left f listed (mine f listed)).word ∙ sym (left_its f listed (mine f listed))))
+    where
+      listed : has fs f ≡ true
+      listed = (word_taken u q f e).0
+
+      same : (mine f listed).page ≡ q
+      same = (page_is u (mine f listed).page u q (sym (mine f listed).bound ∙ word_bound u q f e)).1
+
+  quiet_now : QuietWords (all_left s c (process_at s c) path size) (λ w q. word_in cut_off w q)
+  quiet_now = record { each = λ w q. elim (eqb_tells w u) [
+    | inl e ↦ elim (leb_tells p q) [
+      | inl x ↦ subst (λ (v : ℕ). IsQuiet v q) (sym e.1) (quiet_past q x.1 (word_in st u q) refl)
+      | inr x ↦ inl (word_elsewhere w q (λ i. x.1) ∙ sym (left_same w q (λ f i. (let lt = x.1 in
+          let le = (word_taken w q f i).2 in omega (arith, lt, le)))))
+    ]
+    | inr m ↦ inl (word_elsewhere w q (λ i. absurd (m.1 i)) ∙ sym (left_same w q (λ f i. m.1 (word_taken w q f i).1)))
+  ] }
+
+  -- ---- what is lost is in no frame
+
+  abbrev words : ℕ → ℕ → ℕ
+  words = without_words (flat_of s).words u size
+
+  lost_by : (q : ℕ) (a b z : Bool) → nat_le size (1024 * q) ≡ a → nat_lt size (1024 * q + 1024) ≡ b
+      → is_zero_page words u q ≡ z → (a || (b && z)) ≡ false → is_lost words u size q ≡ false
+  lost_by q a b z x y w e = (λ i. x i || (y i && w i)) ∙ e
+
+  -- a page before the words is whole
+  whole_before : (q : ℕ) → q < p → is_lost words u size q ≡ false
+  whole_before q less = lost_by q false false (is_zero_page words u q) (elim (leb_tells size (1024 * q)) [
+    | inl e ↦ (let le = e.1 in absurd (omega (arith, le, less)))
+    | inr m ↦ m.0
+  ]) (elim (lt_tells size (1024 * q + 1024)) [
+    | inl e ↦ (let lt = e.1 in absurd (omega (arith, lt, less)))
+    | inr m ↦ m.0
+  ]) refl refl
+
+  -- the page that the words cut keeps a word where it stays
+  kept_word : (f : ℕ) → (seen s).bound f ≡ Some (u, p) → are_zeros (words_in (cut st.pages f at) f) ≡ false
+      → is_zero_page words u p ≡ false
+  kept_word f bound nonzero = by (is_zero_page words u p) refl
+    where
+      active : is_active st.ast u ≡ true
+      active = let place = keeps.store.kept.paged.bound f u p bound in active_at st.ast place.0 u place.1
+
+      zero_before : is_zero_page words u p ≡ true → (i : ℕ) → i < at → get_or (words_in st.pages f) i 0 ≡ 0
+      zero_before z i less = ap (λ (x : ℕ). get_or (words_in st.pages f) x 0)
+          (let same : i ≡ (1024 * p + i) % 1024 = omega (arith, less) in same)
+          ∙ (sym (bound_word s keeps u active f (1024 * p + i)
+          (bound ∙ ap (λ (x : ℕ). Some (u, x)) (let same : p ≡ (1024 * p + i) / 1024 = omega (arith, less) in same)))
+          ∙ (sym (ap (λ (b : Bool). cond b 0 ((flat_of s).words u (1024 * p + i))) before)
+          ∙ zero_words words u p i z (omega (arith, less))))
+        where
+          before : (eqb u u && nat_le size (1024 * p + i)) ≡ false
+          before = elim (leb_tells size (1024 * p + i)) [
+            | inl e ↦ (let le = e.1 in absurd (omega (arith, le, less)))
+            | inr m ↦ ap (λ (b : Bool). eqb u u && b) m.0 ∙ off (eqb u u)
+          ]
+            where
+              off : (b : Bool) → (b && false) ≡ false
+              off true = refl
+              off false = refl
+
+      by : (b : Bool) → is_zero_page words u p ≡ b → b ≡ false
+      by false e = refl
+      by true e = absurd (no_and (cut_zeros st f at (zero_before e)) nonzero)
+
+  -- a page that is in a frame then isn't lost
+  stays_whole : (f q : ℕ) → has fs f ≡ true → (m : IsMine f) → m.page ≡ q → test f ≡ true
+      → is_lost words u size q ≡ false
+  stays_whole f q e m is on = elim (leb_tells first q) [
+    | inl x ↦ absurd (no_and on (test_past f e m (let le = x.1 in omega (arith, le, is))))
+    | inr x ↦ (let lt = x.1 in let past = m.past in let same : q ≡ p = omega (arith, lt, past, is) in
+        subst (λ (j : ℕ). is_lost words u size j ≡ false) (sym same)
+        (cut_whole (is ∙ same) (λ z. (omega (arith, lt, past, is, z)))))
+  ]
+    where
+      cut_whole : m.page ≡ p → at ≢ 0 → is_lost words u size p ≡ false
+      cut_whole same some = lost_by p false true false (elim (leb_tells size (1024 * p)) [
+        | inl i ↦ (let le = i.1 in absurd (some (omega (arith, le))))
+        | inr i ↦ i.0
+      ]) (elim (lt_tells size (1024 * p + 1024)) [
+        | inl i ↦ i.0
+        | inr i ↦ (let le = i.1 in absurd (omega (arith, le)))
+      ]) (kept_word f (m.bound ∙ ap (λ (x : ℕ). Some (u, x)) same) nonzero) refl
+        where
+          nonzero : are_zeros (words_in (cut st.pages f at) f) ≡ false
+          nonzero = by (are_zeros (words_in (cut st.pages f at) f)) refl
+            where
+              by : (b : Bool) → are_zeros (words_in (cut st.pages f at) f) ≡ b → b ≡ false
+              by false i = refl
+              by true i = absurd (no_and on (test_cut f e m same some ∙ ap not i))
+
+  bound_whole : (f q : ℕ) → (seen s).bound f ≡ Some (u, q) → (has fs f ≡ true → test f ≡ true)
+      → is_lost words u size q ≡ false
+  bound_whole f q bound stays_on = elim (leb_tells p q) [
+    | inl x ↦ (let listed = (word_taken u q f (frame_word f q bound x.1)).0 in
+        stays_whole f q listed (mine f listed)
+        (page_is u (mine f listed).page u q (sym (mine f listed).bound ∙ bound)).1 (stays_on listed))
+    | inr x ↦ whole_before q x.1
+  ]
+
+  -- a frame that is bound then was bound so, and isn't one that the job took and let go
+  bound_was : (f q : ℕ) → bound_in cut_off f ≡ Some (u, q)
+      → ((seen s).bound f ≡ Some (u, q)) × (has fs f ≡ true → test f ≡ true)
+  bound_was f q e = by (has fs f) (test f) refl refl (sym (bound_now f ∙ left_bound (seen s) test fs f) ∙ e)
+    where
+      by : (a b : Bool) → has fs f ≡ a → test f ≡ b
+          → cond (has fs f && not (test f)) None ((seen s).bound f) ≡ Some (u, q)
+          → ((seen s).bound f ≡ Some (u, q)) × (has fs f ≡ true → test f ≡ true)
+      by true true i j x = (sym (λ t. cond (i t && not (j t)) None ((seen s).bound f)) ∙ x, λ y. j)
+      by true false i j x =
+          absurd (none_some (sym (λ t. cond (i t && not (j t)) None ((seen s).bound f)) ∙ x))
+      by false b i j x = (
+        sym (ap (λ (y : Bool). cond (y && not (test f)) None ((seen s).bound f)) i) ∙ x,
+        λ y. absurd (no_and y i),
+      )
+
+  loses_none : LosesNoPage (flat_of s) (shown (seen (with_owner (effected s (process_at s c)
+      (command.Truncate path size)) None))) u size
+  loses_none f q e = by (bound_in cut_off f) (read_in cut_off f) refl refl e
+    where
+      by : (x y : Option (ℕ × ℕ)) → bound_in cut_off f ≡ x → read_in cut_off f ≡ y
+          → page_of (use_of (λ v r. word_in cut_off v r) x y) ≡ Some (u, q) → is_lost words u size q ≡ false
+      by None None b r i = absurd (none_some i)
+      by None (Some page) b r i = elim (leb_tells p q) [
+        | inl x ↦ absurd (not_read f q (sym (reads_now f) ∙ (r ∙ i)) x.1)
+        | inr x ↦ whole_before q x.1
+      ]
+      by (Some page) y b r i = let was = bound_was f q (b ∙ (sym (page_bound (λ v r. word_in cut_off v r) page y) ∙ i)) in
+          bound_whole f q was.0 was.1
+
+  out : IsOut s c (command.Truncate path size)
+  out = by (segment_at (flat_of s).nodes path) refl
+    where
+      by : (x : Result Node Reply) → segment_at (flat_of s).nodes path ≡ x
+          → OfNode (λ n. LosesNoPage (flat_of s) (shown (seen (with_owner (effected s (process_at s c)
+          (command.Truncate path size)) None))) n.uid size) x
+      by (Err r) e = tt
+      by (Ok n) e = subst (λ (v : ℕ). LosesNoPage (flat_of s) (shown (seen (with_owner (effected s (process_at s c)
+          (command.Truncate path size)) None))) v size)
+          (path_uid s path n keeps (only_found (node_at (flat_of s).nodes path) n e).0) loses_none
+
+  -- So a `truncate` may take effect.
+  pub truncate_rests : RestsTruncate s c path size
+  truncate_rests = record {
+    cut = none_cut (cut_of_owner s.owner) (λ j n e. (let led = cut_led s (process_at s c)
+        (command.Truncate path size) keeps h j n e in h.just.its_descriptors j n led.0 led.1 led.2));
+    bound = bound_now;
+    reads = reads_now;
+    words = quiet_now;
+    places = over.places ∙ begun.places;
+    links = over.links ∙ begun.links;
+    out = out;
+  }
