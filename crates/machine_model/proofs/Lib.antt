@@ -103,6 +103,7 @@ pub mod StepGoes
 pub mod EntitledKept
 pub mod MachineKept
 pub mod MachineBoot
+pub mod CommandRests
 pub mod CommitAsks
 pub mod ForeseeLaws
 pub mod CommitRests

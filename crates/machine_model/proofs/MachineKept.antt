@@ -15,7 +15,7 @@ use Rattle.machine_model.specs.Reads.{next_command, process_at}
 use Rattle.machine_model.proofs.PoolsKept.{SamePools, pools_kept}
 use Rattle.machine_model.proofs.RulesKept.{action_can}
 use Rattle.machine_model.proofs.ScheduleKept.{schedule_kept}
-use Rattle.machine_model.proofs.StepAsks.{Rests, step_asks}
+use Rattle.machine_model.proofs.StepAsks.{step_asks}
 use Rattle.machine_model.proofs.ReadKept.{IsPast, is_past, reading_kept}
 use Rattle.machine_model.proofs.StepGoes.{comes, may_read, may_schedule, may_work}
 use Rattle.machine_model.proofs.StepKept.{CanDo, after_keeps}
@@ -52,10 +52,8 @@ module _ (s : State) (c : ℕ) (o : Outcome) (all : KeepsAll s) (there : c < len
       pools : SamePools s (after s c a o)
       pools = pools_kept s c a o
 
-  -- Each step keeps the whole promise, whichever processor makes it: where a command takes effect what is left of the
-  -- premises is given.
-  pub step_keeps_all : Says s c o (action_of s c) → Rests s c o (action_of s c)
-      → KeepsAll (after s c (action_of s c) o)
-  step_keeps_all says rests = done (action_of s c)
-      (action_can s c o m.keeps there (step_asks s c o m there all.entitled all.reading all.working says rests))
+  -- Each step keeps the whole promise, whichever processor makes it.
+  pub step_keeps_all : Says s c o (action_of s c) → KeepsAll (after s c (action_of s c) o)
+  step_keeps_all says = done (action_of s c)
+      (action_can s c o m.keeps there (step_asks s c o m there all.entitled all.reading all.working says))
       (step_knows s c o m there all.working) (is_past s c)

@@ -10,7 +10,7 @@ use Rattle.page_table.specs.declared.Ptw.{Ptw}
 use Rattle.page_table.specs.declared.Ptw.TheVariants as ptw
 use Rattle.page_control.specs.Plain.{binding_at, bindings}
 use Rattle.active_segs.specs.declared.Entry.{Entry}
-use Rattle.seg_control.specs.Control.{Links, place_of, word_of}
+use Rattle.seg_control.specs.Control.{place_of, word_of}
 use Rattle.seg_control.specs.Kept.{read_at}
 use Rattle.custody_model.specs.Custody.{has}
 use Rattle.custody_model.specs.Next.{at_put_two}
@@ -179,8 +179,8 @@ module _ (st : Storage) (u p : ℕ) (ps : List ℕ) (now : Storage)
   mid = without_page st u p (word_in st u p)
 
   other_word : (v q : ℕ) → (v ≡ u → q ≡ p → ⊥) → word_in mid v q ≡ word_in st v q
-  other_word v q n = one.words v q ∙ by_places (λ (x : Ptw). x ≡ word_in st v q) (λ x y. word_in st x y) u p ptw.Null v q
-      (λ a b. absurd (n a b)) (λ m. refl)
+  other_word v q n = one.words v q ∙ by_places (λ (x : Ptw). x ≡ word_in st v q) (λ x y. word_in st x y) u p ptw.Null
+      v q (λ a b. absurd (n a b)) (λ m. refl)
 
   this_word : word_in mid u p ≡ ptw.Null
   this_word = one.words u p ∙ by_places (λ (x : Ptw). x ≡ ptw.Null) (λ x y. word_in st x y) u p ptw.Null u p

@@ -1,5 +1,5 @@
 -- What a step asks, along the rules in their order, follows from the whole promise and from what the calls of the store
--- say, but for a few facts that are left.
+-- say.
 use Rattle.std.proofs.Common.{◌≡◌, ◌<◌, ℕ, ◌+◌, ◌*◌, Bool, true, false, not, ◌&&◌, cond, eqb, List, [], ◌∷◌}
 use Rattle.std.proofs.Common.{get_or, length, position, Option, Some, None, inl, inr, refl, sym, ap, subst, ◌∙◌}
 use Rattle.std.proofs.Common.{arith, zero, suc}
@@ -11,6 +11,7 @@ use Rattle.script.specs.declared.commands.Command.{Command}
 use Rattle.script.specs.declared.commands.Reference.{Reference}
 use Rattle.assoc_mem.specs.declared.HeldSeg.{HeldSeg}
 use Rattle.assoc_mem.specs.declared.What.{What}
+use Rattle.assoc_mem.specs.declared.What.TheVariants as what
 use Rattle.assoc_mem.specs.Held.{frame_of, seg_of}
 use Rattle.page_table.specs.declared.Ptw.{Ptw}
 use Rattle.page_table.specs.declared.Ptw.TheVariants as ptw
@@ -73,11 +74,14 @@ use Rattle.flat_model.specs.Store.{Store}
 use Rattle.machine_model.specs.Jobs.{write_failed}
 use Rattle.machine_model.specs.Keeps.{StoreSays}
 use Rattle.machine_model.specs.Whole.{aimed_at, goes_in, going_for}
+use Rattle.machine_model.specs.Taking.{IsTakenBy, TakenIn}
 use Rattle.machine_model.specs.Working.{FailsBy, FailsIn, IsLeaf, IsWorking, MayFailBy, TakesSome}
 use Rattle.machine_model.proofs.ActiveKept.{segs_are_gone}
 use Rattle.machine_model.proofs.ChainLaws.{GoesOn}
-use Rattle.machine_model.proofs.CommitAsks.{RestsCommit, commit_asks, look_plainly, taken_plainly}
+use Rattle.machine_model.proofs.CommandRests.{commit_rests}
+use Rattle.machine_model.proofs.CommitAsks.{commit_asks, look_plainly, taken_plainly}
 use Rattle.machine_model.proofs.JobAsks.{read_asks, write_asks}
+use Rattle.machine_model.proofs.JustTaken.{look_taken}
 use Rattle.machine_model.specs.Steps.{is_its_end}
 use Rattle.machine_model.proofs.FailLaws.{fails_more}
 use Rattle.machine_model.proofs.SaysLaws.{failed_says}
@@ -86,11 +90,12 @@ use Rattle.machine_model.proofs.SaysLaws.{gone_is}
 use Rattle.machine_model.proofs.WholeKept.{may_deactivate}
 use Rattle.machine_model.proofs.SpeakLaws.{Speaks, speaks}
 use Rattle.machine_model.proofs.StepKept.{CanFailWrite, IsMine}
-use Rattle.machine_model.proofs.TakeAsks.{take_asks}
+use Rattle.machine_model.proofs.TakeAsks.{no_pages, take_asks}
+use Rattle.machine_model.proofs.TookKept.{CanTook}
 use Rattle.machine_model.proofs.TieLaws.{none_some}
 use Rattle.machine_model.proofs.TransferKept.{active_at}
 
--- ---- what is left
+-- ---- a page is read
 
 -- a processor that reads has a process, of whose command a drive's failure may be told
 pub record ReadsFor (s : State) (c : ℕ) : Type 0 where
@@ -116,13 +121,8 @@ reads_answering s c m there r = let one = speaks s c (process_at s c) m there r.
       one.0 (subst (MayFailBy s.store (process_at s c)) one.1.next r.may);
 }
 
--- Of a command that takes from use, that it is out of use.
-abbrev pub Rests : State → ℕ → Outcome → act.Action → Type 0
-Rests s c o act.Commit = RestsCommit s c (next_command s (process_at s c))
-Rests s c o _ = Unit {0}
-
 abbrev Follows : State → ℕ → Outcome → act.Action → Type 0
-Follows s c o a = Says s c o a → Rests s c o a → Asks s c o a
+Follows s c o a = Says s c o a → Asks s c o a
 
 pick : (s : State) (c : ℕ) (o : Outcome) (b : Bool) (x y : act.Action) → (b ≡ true → Follows s c o x)
     → (b ≡ false → Follows s c o y) → Follows s c o (cond b x y)
@@ -188,13 +188,13 @@ module _ (s : State) (c : ℕ) (o : Outcome) (m : IsMachine s) (there : c < leng
   -- ---- a processor that runs its process by itself
 
   take_follows : (x : Option Owner) → Follows s c o (take_or_wait x)
-  take_follows None says rests = tt
-  take_follows (Some q) says rests = tt
+  take_follows None says = tt
+  take_follows (Some q) says = tt
 
   module _ (cmd : Command) (sp : Speaks s c k cmd) (r : Reference) (is : reference_of cmd ≡ Some r) where
     descriptor_follows : (y : Sdw) → Follows s c o (by_move s.owner r (by_descriptor y))
     descriptor_follows sdw.Fault = take_follows s.owner
-    descriptor_follows (sdw.Present aste mode pages) = λ says rests. tt
+    descriptor_follows (sdw.Present aste mode pages) = λ says. tt
 
     held_follows : (h : HeldSeg) → seg_of p.cpu.assoc r.number ≡ Some h
         → Follows s c o (by_move s.owner r (by_held p.cpu.assoc (λ u q. word_of s.store.ast u q) r h))
@@ -207,17 +207,17 @@ module _ (s : State) (c : ℕ) (o : Outcome) (m : IsMachine s) (there : c < leng
           where
             by : (b : Bool) → eqb (new_word 0 r.kind) 0 ≡ b
                 → Follows s c o (by_move s.owner r (cond b (move.Plain (word_reply 0 r.kind)) move.Fault))
-            by true i = λ says rests. zero_asks s c m.keeps entitled cmd sp r is h held on short e i
+            by true i = λ says. zero_asks s c m.keeps entitled cmd sp r is h held on short e i
             by false i = take_follows s.owner
         word_follows on short (ptw.Out n) e = take_follows s.owner
-        word_follows on short (ptw.Here f) e = λ says rests. tt
+        word_follows on short (ptw.Here f) e = λ says. tt
         word_follows on short (ptw.Leaving f) e = take_follows s.owner
 
         page_follows : permits h.mode r.kind ≡ true → nat_le (1024 * h.pages) r.offset ≡ false → (x : Option ℕ)
             → frame_of p.cpu.assoc h.uid (r.offset / 1024) ≡ x
             → Follows s c o (by_move s.owner r
             (by_page x (word_of s.store.ast h.uid (r.offset / 1024)) r.kind))
-        page_follows on short (Some f) e = λ says rests.
+        page_follows on short (Some f) e = λ says.
             through_asks s c m.keeps entitled cmd sp r is h held on short o f e says
         page_follows on short None e = word_follows on short (word_of s.store.ast h.uid (r.offset / 1024)) refl
 
@@ -225,7 +225,7 @@ module _ (s : State) (c : ℕ) (o : Outcome) (m : IsMachine s) (there : c < leng
             → Follows s c o (by_move s.owner r (cond b (move.Plain reply.Length)
             (by_page (frame_of p.cpu.assoc h.uid (r.offset / 1024))
             (word_of s.store.ast h.uid (r.offset / 1024)) r.kind)))
-        length_follows on true e = λ says rests. too_long_asks s c m.keeps entitled cmd sp r is h held on e
+        length_follows on true e = λ says. too_long_asks s c m.keeps entitled cmd sp r is h held on e
         length_follows on false e = page_follows on e (frame_of p.cpu.assoc h.uid (r.offset / 1024)) refl
 
         permit : (b : Bool) → permits h.mode r.kind ≡ b
@@ -233,7 +233,7 @@ module _ (s : State) (c : ℕ) (o : Outcome) (m : IsMachine s) (there : c < leng
             (cond (nat_le (1024 * h.pages) r.offset) (move.Plain reply.Length)
             (by_page (frame_of p.cpu.assoc h.uid (r.offset / 1024))
             (word_of s.store.ast h.uid (r.offset / 1024)) r.kind))))
-        permit false e = λ says rests. no_access_asks s c m.keeps entitled cmd sp r is h held e
+        permit false e = λ says. no_access_asks s c m.keeps entitled cmd sp r is h held e
         permit true e = length_follows e (nat_le (1024 * h.pages) r.offset) refl
 
     refer_follows : Follows s c o (by_move s.owner r (move_of s p.cpu k r))
@@ -264,10 +264,10 @@ module _ (s : State) (c : ℕ) (o : Outcome) (m : IsMachine s) (there : c < leng
   run_follows None e = by s.ready
     where
       by : (xs : List ℕ) → Follows s c o (load_or_idle s xs)
-      by [] says rests = tt
-      by (n ∷ ns) says rests = tt
+      by [] says = tt
+      by (n ∷ ns) says = tt
   run_follows (Some n) e = pick s c o (has_had_its_turn p && not (is_empty s.ready)) act.Leave
-      (come_to s p.cpu n (next_command s n)) (λ h says rests. tt)
+      (come_to s p.cpu n (next_command s n)) (λ h says. tt)
       (λ h. subst (λ (j : ℕ). Follows s c o (come_to s p.cpu j (next_command s j))) (ap or_zero e)
       (come_follows (some_of p.cpu.process n e) (next_command s k) refl))
 
@@ -277,40 +277,48 @@ module _ (s : State) (c : ℕ) (o : Outcome) (m : IsMachine s) (there : c < leng
     idle : IsIdle s.owner
     idle = look_idle s c o m.keeps there l
 
+    -- a look that finds nothing to take takes nothing
+    takes_nothing : CanTook s aim.Committing what.All [] []
+    takes_nothing = record {
+      pages = no_pages s k m.keeps idle what.All;
+      bound = λ f h. absurd (let none : false ≡ true = h in cc);
+      pairs_are = tt;
+    }
+
     look_follows : (a : act.Action) → LookFinds s k cmd a → Follows s c o a
-    look_follows (act.Waits why) h says rests = tt
-    look_follows (act.Answer r) h says rests = answer_asks s c o m idle cmd sp r h
-    look_follows act.GiveUp h says rests = tt
-    look_follows (act.Activate u place) h says rests = activate_asks s c o m idle cmd sp u place h says
-    look_follows (act.Connect n u) h says rests = connect_asks s c o m idle cmd sp n u h says
-    look_follows (act.Create f u q r) h says rests = create_asks s c o m idle cmd sp f u q r h says
-    look_follows (act.Start f u q) h says rests = started_says s c o f u q m.keeps says
-    look_follows (act.Evict f) h says rests = evicting_says s c o f m.keeps says idle.cut
-    look_follows (act.Empty u) h says rests =
+    look_follows (act.Waits why) h says = tt
+    look_follows (act.Answer r) h says = answer_asks s c o m idle cmd sp r h
+    look_follows act.GiveUp h says = tt
+    look_follows (act.Activate u place) h says = activate_asks s c o m idle cmd sp u place h says
+    look_follows (act.Connect n u) h says = connect_asks s c o m idle cmd sp n u h says
+    look_follows (act.Create f u q r) h says = create_asks s c o m idle cmd sp f u q r h says
+    look_follows (act.Start f u q) h says = started_says s c o f u q m.keeps says
+    look_follows (act.Evict f) h says = evicting_says s c o f m.keeps says idle.cut
+    look_follows (act.Empty u) h says =
         length_asks s c o k u cmd m.keeps idle (look_still s c o m.keeps there l) h says
-    look_follows (act.EmptyVictim pool chain u) h says rests =
+    look_follows (act.EmptyVictim pool chain u) h says =
         victim_asks s c o k pool chain u cmd m.keeps idle (look_still s c o m.keeps there l) h says
-    look_follows (act.TakeAway fs pairs w) h says rests =
+    look_follows (act.TakeAway fs pairs w) h says =
         take_asks s k m.keeps idle c o cmd w fs pairs h.0 h.1 says
-    look_follows act.Commit h says rests = subst (AsksCommit s c k) (sym sp.next)
+    look_follows act.Commit h says = subst (AsksCommit s c k) (sym sp.next)
         (commit_asks s c o m.keeps cmd sp (look_plainly s c m.keeps idle.frames cmd h) says
-        (subst (RestsCommit s c) sp.next rests))
-    look_follows act.IsStopped h says rests = tt
-    look_follows act.HasEnded h says rests = tt
-    look_follows act.Online h says rests = tt
-    look_follows (act.Clear w) h says rests = tt
-    look_follows (act.EndTransfer t) h says rests = absurd h
-    look_follows (act.Load n) h says rests = tt
-    look_follows act.Leave h says rests = tt
-    look_follows (act.FillSeg n) h says rests = tt
-    look_follows (act.FillPage f r) h says rests = tt
-    look_follows (act.Through f r) h says rests = absurd h
-    look_follows (act.Plain r) h says rests = absurd h
-    look_follows act.TakeSupervisor h says rests = tt
-    look_follows (act.Signal w) h says rests = tt
-    look_follows (act.FinishEviction f) h says rests = absurd h
-    look_follows (act.FinishPage f) h says rests = absurd h
-    look_follows (act.Deactivate u) h says rests = absurd h
+        (commit_rests s c m.keeps cmd (look_taken s c k cmd what.All [] [] m.keeps idle h takes_nothing)))
+    look_follows act.IsStopped h says = tt
+    look_follows act.HasEnded h says = tt
+    look_follows act.Online h says = tt
+    look_follows (act.Clear w) h says = tt
+    look_follows (act.EndTransfer t) h says = absurd h
+    look_follows (act.Load n) h says = tt
+    look_follows act.Leave h says = tt
+    look_follows (act.FillSeg n) h says = tt
+    look_follows (act.FillPage f r) h says = tt
+    look_follows (act.Through f r) h says = absurd h
+    look_follows (act.Plain r) h says = absurd h
+    look_follows act.TakeSupervisor h says = tt
+    look_follows (act.Signal w) h says = tt
+    look_follows (act.FinishEviction f) h says = absurd h
+    look_follows (act.FinishPage f) h says = absurd h
+    look_follows (act.Deactivate u) h says = absurd h
 
   -- ---- what was taken goes
 
@@ -326,6 +334,12 @@ module _ (s : State) (c : ℕ) (o : Outcome) (m : IsMachine s) (there : c < leng
   fails_by a w x = subst (λ (j : ℕ). FailsBy a s.store (process_at s j) (next_command s (process_at s j))) x.owner.same
       (subst (λ (y : Phase). FailsIn y s.store (process_at s x.owner.owner.cpu)
       (next_command s (process_at s x.owner.owner.cpu))) x.waits (working.fails x.owner.owner x.owner.mine))
+
+  -- what the owner took for its command is just what it takes
+  taken_by : (w : What) (x : HasWaited s c aim.Committing w) → IsTakenBy s k (next_command s k)
+  taken_by w x = subst (λ (j : ℕ). IsTakenBy s (process_at s j) (next_command s (process_at s j))) x.owner.same
+      (subst (λ (y : Phase). TakenIn y s (process_at s x.owner.owner.cpu)
+      (next_command s (process_at s x.owner.owner.cpu))) x.waits (working.taken x.owner.owner x.owner.mine))
 
   write_follows : (x : Option Command) → next_command s k ≡ x → p.cpu.process ≡ Some k → MayFailBy s.store k x
       → o.failed ≡ true → Rose s.faults o.faults → StoreSays (write_failed s c o.faults)
@@ -345,8 +359,8 @@ module _ (s : State) (c : ℕ) (o : Outcome) (m : IsMachine s) (there : c < leng
 
   finish_follows : (a : Aim) (w : What) (x : HasWaited s c a w) → p.cpu.process ≡ Some k → (fs : List ℕ)
       → x.owner.owner.frames ≡ fs → Follows s c o (finish_of a fs)
-  finish_follows aim.Evicting w x its [] e says rests = tt
-  finish_follows aim.Evicting w x its (f ∷ fs) e says rests = record {
+  finish_follows aim.Evicting w x its [] e says = tt
+  finish_follows aim.Evicting w x its (f ∷ fs) e says = record {
     well = λ h. (
       says.never_less,
       release_may s f (page_at (seen s) f).0 (page_at (seen s) f).1 m.keeps
@@ -356,7 +370,7 @@ module _ (s : State) (c : ℕ) (o : Outcome) (m : IsMachine s) (there : c < leng
     ill = λ h. (write_follows (next_command s k) refl its (fails_by aim.Evicting w x) h (says.counted h)
         (eviction_failed_says s c o f m.keeps h says)).0;
   }
-  finish_follows (aim.Deactivating u) w x its [] e says rests = record {
+  finish_follows (aim.Deactivating u) w x its [] e says = record {
     may = may_deactivate s u m.keeps working.whole (aim_of (aim.Deactivating u) w x)
         (ap frames_of_owner x.owner.mine ∙ e)
         (segs_are_gone s (cut_of_owner s.owner) m.keeps.book
@@ -371,7 +385,7 @@ module _ (s : State) (c : ℕ) (o : Outcome) (m : IsMachine s) (there : c < leng
     where
       leaf : IsLeaf s.store u
       leaf = working.leaf u (aim_of (aim.Deactivating u) w x)
-  finish_follows (aim.Deactivating u) w x its (f ∷ fs) e says rests = record {
+  finish_follows (aim.Deactivating u) w x its (f ∷ fs) e says = record {
     well = λ h. (
       says.never_less,
       release_may s f (page_at (seen s) f).0 (page_at (seen s) f).1 m.keeps
@@ -381,23 +395,23 @@ module _ (s : State) (c : ℕ) (o : Outcome) (m : IsMachine s) (there : c < leng
     ill = λ h. (write_follows (next_command s k) refl its (fails_by (aim.Deactivating u) w x) h (says.counted h)
         (page_failed_says s c o f m.keeps h says)).0;
   }
-  finish_follows aim.Committing w x its fs e says rests = let one = speaks s c k m there its in
+  finish_follows aim.Committing w x its fs e says = let one = speaks s c k m there its in
       subst (AsksCommit s c k) (sym one.1.next) (commit_asks s c o m.keeps one.0 one.1
       (taken_plainly s c one.0 (subst TakesSome one.1.next (fails_by aim.Committing w x))) says
-      (subst (RestsCommit s c) one.1.next rests))
+      (commit_rests s c m.keeps one.0 (subst (IsTakenBy s k) one.1.next (taken_by w x))))
 
   phase_follows : (q : IsMine s c) → p.cpu.process ≡ Some k → (x : Phase) → q.owner.phase ≡ x
       → Follows s c o (go_on_with s k q.owner x)
   phase_follows q its phase.Looking e = let one = speaks s c k m there its in
       subst (λ (y : Option Command). Follows s c o (look_of s k y)) (sym one.1.next)
       (look_follows (record { owner = q; looks = e }) one.0 one.1 (look_of s k (Some one.0)) (look_finds s k one.0))
-  phase_follows q its (phase.Taken a w) e = λ says rests. tt
+  phase_follows q its (phase.Taken a w) e = λ says. tt
   phase_follows q its (phase.Waiting a w) e = by (position is_due s.processors) refl
     where
       by : (x : Option ℕ) → position is_due s.processors ≡ x
           → Follows s c o (once_cleared x (finish_of a q.owner.frames))
       by None h = finish_follows a w (record { owner = q; waits = e; cleared = h }) its q.owner.frames refl
-      by (Some d) h = λ says rests. tt
+      by (Some d) h = λ says. tt
 
   -- ---- the rules in their order
 
@@ -417,7 +431,7 @@ module _ (s : State) (c : ℕ) (o : Outcome) (m : IsMachine s) (there : c < leng
           (process_here s c o m.keeps there (record { owner = q; mine = e; same = is })) q.phase refl
 
   transfer_follows : (x : Option Transfer) → p.cpu.transfer ≡ x → Follows s c o (transfer_or s c p x)
-  transfer_follows (Some t) e = λ says rests. record {
+  transfer_follows (Some t) e = λ says. record {
     well = λ h. (says.never_less, read_says s c o t m.keeps says h);
     ill = λ h. (let r = reads_for s c t m.keeps reading e in let one = speaks s c k m there r.its in
         (read_asks s c o t one.0 m.keeps one.1 (subst (MayFailBy s.store k) one.1.next r.may) (says.counted h)
@@ -426,13 +440,13 @@ module _ (s : State) (c : ℕ) (o : Outcome) (m : IsMachine s) (there : c < leng
   transfer_follows None e = owner_follows s.owner refl
 
   clear_follows : (x : Option What) → Follows s c o (clear_or s c p x)
-  clear_follows (Some w) = λ says rests. tt
+  clear_follows (Some w) = λ says. tt
   clear_follows None = transfer_follows p.cpu.transfer refl
 
   -- What a step asks follows.
   pub step_asks : Follows s c o (action_of s c)
   unfolding action_of
-  step_asks = pick s c o s.stopped act.IsStopped _ (λ h says rests. tt)
-      (λ h. pick s c o (is_over s) act.HasEnded _ (λ e says rests. tt)
-      (λ e. pick s c o (not p.cpu.online) act.Online _ (λ off says rests. tt)
+  step_asks = pick s c o s.stopped act.IsStopped _ (λ h says. tt)
+      (λ h. pick s c o (is_over s) act.HasEnded _ (λ e says. tt)
+      (λ e. pick s c o (not p.cpu.online) act.Online _ (λ off says. tt)
       (λ on. clear_follows p.cpu.due)))

@@ -1,10 +1,12 @@
 -- What a `truncate` must have out of use is so where it takes effect: the pages that it cuts off are those that its job
 -- took, and the one that keeps a word is here again.
-use Rattle.std.proofs.Common.{◌≡◌, ◌≢◌, ◌<◌, ◌≤◌, ◌*◌, ℕ, zero, suc, ◌+◌, ◌-◌, ◌/◌, ◌%◌, Bool, true, false, not, ◌&&◌, ◌||◌}
-use Rattle.std.proofs.Common.{cond, eqb, List, [], ◌∷◌, ◌++◌, length, take, replicate, get_or, set, Option, Some, None, ◌⊎◌}
+use Rattle.std.proofs.Common.{◌≡◌, ◌≢◌, ◌<◌, ◌≤◌, ◌*◌, ℕ, zero, suc, ◌+◌, ◌-◌, ◌/◌, ◌%◌, Bool, true, false, not, ◌&&◌}
+use Rattle.std.proofs.Common.{◌||◌}
+use Rattle.std.proofs.Common.{cond, eqb, List, [], ◌∷◌, ◌++◌, length, take, replicate, get_or, set, Option, Some, None}
+use Rattle.std.proofs.Common.{◌⊎◌}
 use Rattle.std.proofs.Common.{inl, inr, refl, sym, ap, subst, ◌∙◌, arith}
 use Rattle.std.specs.Prelude.{nat_le, nat_lt, Result, Ok, Err}
-use Rattle.std.specs.List.{list_all, range_with_len}
+use Rattle.std.specs.List.{range_with_len}
 use Rattle.std.proofs.lemmas.Bool.Decides.{eqb_tells, leb_tells}
 use Rattle.std.proofs.lemmas.List.{get_or-set_same, get_or_past, length-set}
 use Rattle.mnames.specs.declared.paths.Path.{Path}
@@ -13,30 +15,27 @@ use Rattle.book.specs.declared.replies.Reply.{Reply}
 use Rattle.tree_model.specs.Tree.{Node}
 use Rattle.core_map.specs.declared.Frame.{Frame}
 use Rattle.core_map.specs.declared.Frame.TheVariants as frame
-use Rattle.core_map.specs.CoreMap.{after_reference, bound_page, frame_at, reads_of, started_page}
+use Rattle.core_map.specs.CoreMap.{after_reference, bound_page, started_page}
 use Rattle.page_table.specs.declared.Ptw.{Ptw}
 use Rattle.page_table.specs.declared.Ptw.TheVariants as ptw
 use Rattle.page_control.specs.Effects.{cut}
-use Rattle.page_control.specs.Plain.{binding_at, bindings, frame_in, words_in}
-use Rattle.seg_control.specs.Control.{place_of, table_of, word_of}
-use Rattle.seg_control.specs.Kept.{read_at}
+use Rattle.page_control.specs.Plain.{frame_in, words_in}
+use Rattle.seg_control.specs.Control.{place_of, table_of}
 use Rattle.flat_model.specs.Branches.{node_at, segment_at}
 use Rattle.flat_model.specs.Pages.{is_zero_page, without_words}
 use Rattle.flat_model.specs.Sizes.{is_lost}
 use Rattle.flat_model.proofs.ZeroLaws.{zero_words}
 use Rattle.custody_model.specs.declared.FrameUse.TheVariants as frame_use
-use Rattle.custody_model.specs.Custody.{has, is_going_descriptor, is_going_frame, page_of}
+use Rattle.custody_model.specs.Custody.{has, is_going_frame, page_of}
 use Rattle.custody_model.specs.Effects.{LosesNoPage, OfNode}
-use Rattle.custody_model.specs.Next.{at_put, at_put_two}
-use Rattle.machine_model.specs.declared.CutDescriptor.{CutDescriptor}
-use Rattle.machine_model.specs.Chains.{page_at, page_or_zero, without_frame}
-use Rattle.machine_model.specs.Commits.{first_past, pages_past, stays, with_cut, with_cut_in, without_page}
-use Rattle.machine_model.specs.Custodial.{AreDistinct, has_cut, names}
+use Rattle.custody_model.specs.Next.{at_put_two}
+use Rattle.machine_model.specs.Chains.{page_at, page_or_zero}
+use Rattle.machine_model.specs.Commits.{first_past, pages_past, stays, with_cut, without_page}
+use Rattle.machine_model.specs.Custodial.{AreDistinct, names}
 use Rattle.machine_model.specs.Holding.{seen}
 use Rattle.machine_model.specs.Jobs.{are_zeros, here_if, page_in, with_here}
 use Rattle.machine_model.specs.Keeps.{Keeps}
 use Rattle.machine_model.specs.Reads.{cut_of_owner, flat_of, frames_of_owner, is_active, process_at}
-use Rattle.machine_model.specs.Refusal.{uid_of_command}
 use Rattle.machine_model.specs.Seen.{Seen, bound_use, read_use, shown}
 use Rattle.machine_model.specs.Seen.{frame_use as use_of}
 use Rattle.machine_model.specs.State.{State, Storage}
@@ -266,7 +265,8 @@ page_cut st u p at h tie = by (word_in st u p) refl
             gone_null st u p at f h e (tie f e),
             ap (bound_in (gone_store st u p at f h e (tie f e))) (sym (its g i)) ∙ gone_free st u p at f h e (tie f e),
           );
-          kept = λ g i y. absurd (no_and (ap (λ (x : ℕ). are_zeros (words_in (cut st.pages x at) x)) (sym (its g i)) ∙ z)
+          kept = λ g i y. absurd (no_and
+              (ap (λ (x : ℕ). are_zeros (words_in (cut st.pages x at) x)) (sym (its g i)) ∙ z)
               y);
         }
         cases false z = subst (λ (x : Storage). IsCut st x u p at) (sym (here_is st u p at f h e (tie f e))) (record {
@@ -330,8 +330,8 @@ leaf_word v f false w q n = by_places (λ (x : Ptw). x ≡ v.words w q) v.words 
 
 leaf_this : (v : Seen) (f : ℕ) (b : Bool) (w q : ℕ) → w ≡ (page_at v f).0 → q ≡ (page_at v f).1
     → (leaf v f b).words w q ≡ cond b (ptw.Here f) ptw.Null
-leaf_this v f true w q a b = by_places (λ (x : Ptw). x ≡ ptw.Here f) v.words (page_at v f).0 (page_at v f).1 (ptw.Here f)
-    w q (λ i j. refl) (λ m. absurd (m a b))
+leaf_this v f true w q a b = by_places (λ (x : Ptw). x ≡ ptw.Here f) v.words (page_at v f).0 (page_at v f).1
+    (ptw.Here f) w q (λ i j. refl) (λ m. absurd (m a b))
 leaf_this v f false w q a b = by_places (λ (x : Ptw). x ≡ ptw.Null) v.words (page_at v f).0 (page_at v f).1 ptw.Null
     w q (λ i j. refl) (λ m. absurd (m a b))
 
@@ -798,14 +798,16 @@ module _ (s : State) (c : ℕ) (path : Path) (size : ℕ) (keeps : Keeps s)
       same = (page_is u (mine f listed).page u q (sym (mine f listed).bound ∙ word_bound u q f e)).1
 
   quiet_now : QuietWords (all_left s c (process_at s c) path size) (λ w q. word_in cut_off w q)
-  quiet_now = record { each = λ w q. elim (eqb_tells w u) [
-    | inl e ↦ elim (leb_tells p q) [
-      | inl x ↦ subst (λ (v : ℕ). IsQuiet v q) (sym e.1) (quiet_past q x.1 (word_in st u q) refl)
-      | inr x ↦ inl (word_elsewhere w q (λ i. x.1) ∙ sym (left_same w q (λ f i. (let lt = x.1 in
-          let le = (word_taken w q f i).2 in omega (arith, lt, le)))))
-    ]
-    | inr m ↦ inl (word_elsewhere w q (λ i. absurd (m.1 i)) ∙ sym (left_same w q (λ f i. m.1 (word_taken w q f i).1)))
-  ] }
+  quiet_now = record {
+    each = λ w q. elim (eqb_tells w u) [
+      | inl e ↦ elim (leb_tells p q) [
+        | inl x ↦ subst (λ (v : ℕ). IsQuiet v q) (sym e.1) (quiet_past q x.1 (word_in st u q) refl)
+        | inr x ↦ inl (word_elsewhere w q (λ i. x.1) ∙ sym (left_same w q (λ f i. (let lt = x.1 in
+            let le = (word_taken w q f i).2 in omega (arith, lt, le)))))
+      ]
+      | inr m ↦ inl (word_elsewhere w q (λ i. absurd (m.1 i)) ∙ sym (left_same w q (λ f i. m.1 (word_taken w q f i).1)))
+    ];
+  }
 
   -- ---- what is lost is in no frame
 
@@ -918,7 +920,8 @@ module _ (s : State) (c : ℕ) (path : Path) (size : ℕ) (keeps : Keeps s)
         | inl x ↦ absurd (not_read f q (sym (reads_now f) ∙ (r ∙ i)) x.1)
         | inr x ↦ whole_before q x.1
       ]
-      by (Some page) y b r i = let was = bound_was f q (b ∙ (sym (page_bound (λ v r. word_in cut_off v r) page y) ∙ i)) in
+      by (Some page) y b r i = let was = bound_was f q (b ∙ (sym (page_bound (λ v j. word_in cut_off v j) page y)
+          ∙ i)) in
           bound_whole f q was.0 was.1
 
   out : IsOut s c (command.Truncate path size)

@@ -324,8 +324,8 @@ module _ (s : State) (c : ℕ) (k : Keeps s) (w : IsWorking s) where
       left = record {
         nodes = refl;
         known = refl;
-        just = λ Page Descriptor j. just_on Page Descriptor s (signalled s c what) (entry.Signal c what ∷ []) k kept refl
-            refl j (tt, tt);
+        just = λ Page Descriptor j. just_on Page Descriptor s (signalled s c what) (entry.Signal c what ∷ []) k kept
+            refl refl j (tt, tt);
       }
 
       takes : (o : Option Owner) → s.owner ≡ o → (q : Owner) → owner_signalled o ≡ Some q
