@@ -33,7 +33,7 @@ or_parts true b h = absurd (let no : true ≡ false = h in cc)
 -- ---- where something is found
 
 module _ {X : Type 0} (p : X → Bool) where
-  none_length : (xs : List X) → list_any p xs ≡ false → position_or_len p xs ≡ length xs
+  pub none_length : (xs : List X) → list_any p xs ≡ false → position_or_len p xs ≡ length xs
   none_length [] h = refl
   none_length (x ∷ xs) h = let parts = or_parts (p x) (list_any p xs) h in let ih = none_length xs parts.1 in
       ap (λ (b : Bool). cond (not b) (1 + position_or_len p xs) 0) parts.0

@@ -51,6 +51,7 @@ pub mod LeafLaws
 pub mod LeaveSeen
 pub mod LeftLaws
 pub mod ListLaws
+pub mod ListSizes
 pub mod LookAsks
 pub mod LookFacts
 pub mod LookLaws

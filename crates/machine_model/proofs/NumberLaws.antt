@@ -1,5 +1,6 @@
 -- What a job cuts is known by its number to its process, and is so still once it is cut.
-use Rattle.std.proofs.Common.{◌≡◌, ℕ, List, [], ◌∷◌, ◌++◌, Option, Some, None, refl, sym, ap, subst, ◌∙◌}
+use Rattle.std.proofs.Common.{◌≡◌, ◌≤◌, ◌+◌, ℕ, arith, length, List, [], ◌∷◌, ◌++◌, Option, Some, None, refl, sym, ap, subst, ◌∙◌}
+use Rattle.std.proofs.lemmas.List.{length-append}
 use Rattle.assoc_mem.specs.declared.What.{What}
 use Rattle.descriptor_seg.specs.declared.Sdw.{Sdw}
 use Rattle.descriptor_seg.specs.declared.Sdw.TheVariants as sdw
@@ -13,10 +14,11 @@ use Rattle.machine_model.specs.Holding.{led_to, seen}
 use Rattle.machine_model.specs.Jobs.{cut_all, cut_one, note_of, owner_signalled, take_all, take_one, took}
 use Rattle.machine_model.specs.Jobs.{without_first_frame}
 use Rattle.machine_model.specs.Keeps.{Keeps}
-use Rattle.machine_model.specs.Reads.{cut_of_owner, descriptor_of}
+use Rattle.machine_model.specs.Reads.{cut_of_owner, descriptor_of, frames_of_owner}
 use Rattle.machine_model.specs.Seen.{Seen}
 use Rattle.machine_model.specs.State.{Owner, State}
-use Rattle.machine_model.specs.Working.{AreNumbered}
+use Rattle.machine_model.specs.Working.{AreNumbered, OwnsFew}
+use Rattle.machine_model.proofs.OwnedLaws.{IsIdle}
 use Rattle.machine_model.proofs.Places.{by_places}
 use Rattle.machine_model.proofs.TakeSeen.{cut_one_seen}
 use Rattle.machine_model.proofs.TakeWhole.{RestIs, take_rest}
@@ -101,3 +103,45 @@ cut_signalled (Some q) = refl
 pub cut_less_frame : (o : Option Owner) → cut_of_owner (without_first_frame o) ≡ cut_of_owner o
 cut_less_frame None = refl
 cut_less_frame (Some q) = refl
+
+-- ---- how much a job has taken
+
+take_long : (s : State) (c : ℕ) (a : Aim) (w : What) (fs : List ℕ)
+    → length (frames_of_owner (take_all s c a w fs).owner) ≡ length (frames_of_owner s.owner) + length fs
+take_long s c a w [] = omega arith
+take_long s c a w (f ∷ fs) = let rest = take_long (take_one s c a w f) c a w fs in
+    let one = length-append (frames_of_owner s.owner) (f ∷ []) in omega (arith, rest, one)
+
+cut_long : (s : State) (c : ℕ) (a : Aim) (w : What) (xs : List (ℕ × ℕ))
+    → length (cut_of_owner (cut_all s c a w xs).owner) ≡ length (cut_of_owner s.owner) + length xs
+cut_long s c a w [] = omega arith
+cut_long s c a w (x ∷ xs) = let rest = cut_long (cut_one s c a w x) c a w xs in
+    let one = length-append (cut_of_owner s.owner) (note_of s.store x.0 x.1
+    (descriptor_of s.store.links x.0 x.1) ∷ []) in omega (arith, rest, one)
+
+cut_frames : (s : State) (c : ℕ) (a : Aim) (w : What) (xs : List (ℕ × ℕ))
+    → frames_of_owner (cut_all s c a w xs).owner ≡ frames_of_owner s.owner
+cut_frames s c a w [] = refl
+cut_frames s c a w (x ∷ xs) = cut_frames (cut_one s c a w x) c a w xs
+
+pub took_few : (s : State) (c : ℕ) (a : Aim) (w : What) (fs : List ℕ) (pairs : List (ℕ × ℕ)) → IsIdle s.owner
+    → length fs + length pairs ≤ 288 → OwnsFew (took s c a w fs pairs).owner
+took_few s c a w fs pairs idle few = let x = take_long s c a w fs in
+    let y = cut_long (take_all s c a w fs) c a w pairs in
+    let z = ap (λ (gs : List ℕ). length gs) (cut_frames (take_all s c a w fs) c a w pairs) in
+    let v = ap (λ (gs : List ℕ). length gs) idle.frames in
+    let t = ap (λ (ds : List CutDescriptor). length ds) (take_cut s c a w fs ∙ idle.cut) in
+    omega (arith, x, y, z, v, t, few)
+
+pub signalled_few : (o : Option Owner) → OwnsFew o → OwnsFew (owner_signalled o)
+signalled_few None h = h
+signalled_few (Some q) h = h
+
+pub less_few : (o : Option Owner) → OwnsFew o → OwnsFew (without_first_frame o)
+less_few None h = h
+less_few (Some q) h = by q.frames h
+  where
+    by : (fs : List ℕ) → length fs + length q.cut ≤ 288
+        → OwnsFew (without_first_frame (Some (record q { frames = fs })))
+    by [] e = e
+    by (f ∷ fs) e = omega (arith, e)

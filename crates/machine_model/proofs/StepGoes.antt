@@ -15,6 +15,12 @@ use Rattle.machine_model.specs.Steps.{is_its_end, transfer_failed, transferred, 
 use Rattle.machine_model.specs.Jobs.{took}
 use Rattle.machine_model.specs.Taking.{IsTakenBy}
 use Rattle.machine_model.specs.declared.Aim.TheVariants as aim
+use Rattle.std.proofs.Common.{◌+◌, ◌≤◌, List, arith}
+use Rattle.script.specs.declared.commands.Command.{Command}
+use Rattle.machine_model.specs.Keeps.{Keeps}
+use Rattle.machine_model.specs.Refusal.{uid_of_command}
+use Rattle.machine_model.proofs.ListSizes.{command_few}
+use Rattle.machine_model.proofs.LookFacts.{FindsTaken}
 use Rattle.machine_model.proofs.ComingKept.{all_come, come_same, tells}
 use Rattle.machine_model.proofs.JustTaken.{look_taken}
 use Rattle.machine_model.proofs.ReadKept.{IsPast, MayRead}
@@ -52,6 +58,13 @@ answering s c a = record {
   known = a.speaks.known;
   more = ap is_its_end a.speaks.next ∙ a.more;
 }
+
+-- what a look takes is few
+few_taken : (s : State) (k : ℕ) (cmd : Command) (fs : List ℕ) (pairs : List (ℕ × ℕ)) → Keeps s
+    → FindsTaken s k cmd fs pairs → length fs + length pairs ≤ 288
+few_taken s k cmd fs pairs keeps finds = let a = ap (λ (x : List ℕ). length x) finds.frames in
+    let b = ap (λ (x : List (ℕ × ℕ)). length x) finds.descriptors in
+    let few = command_few s k (uid_of_command s.store k cmd) cmd keeps in omega (arith, a, b, few)
 
 module _ (s : State) (c : ℕ) (o : Outcome) (m : IsMachine s) (there : c < length s.processors) (reading : IsReading s)
   where
@@ -121,6 +134,7 @@ module _ (s : State) (c : ℕ) (o : Outcome) (m : IsMachine s) (there : c < leng
       can.can.pairs_are,
       subst (IsTakenBy (took s c aim.Committing w fs pairs) (process_at s c)) (sym knows.4.next)
           (look_taken s c (process_at s c) knows.4.command w fs pairs m.keeps knows.1 knows.4.finds can.can),
+      few_taken s (process_at s c) knows.4.command fs pairs m.keeps knows.4.finds,
     )
     may_work (act.Signal w) can knows = can.owner
     may_work (act.FinishEviction f) can knows = tt

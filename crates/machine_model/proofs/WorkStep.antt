@@ -2,7 +2,10 @@
 use Rattle.std.proofs.Common.{◌≡◌, ◌≢◌, ℕ, Bool, true, false, not, ◌&&◌, cond, eqb, is_some, List, [], ◌∷◌, ◌++◌}
 use Rattle.std.proofs.Common.{set, Option, Some, None, ◌⊎◌, inl, inr, refl, sym, ap, subst, ◌∙◌}
 use Rattle.std.proofs.lemmas.Bool.Decides.{eqb_tells}
-use Rattle.std.proofs.lemmas.List.{get_or-set_other, get_or-set_same}
+use Rattle.std.proofs.lemmas.List.{get_or-set_other, get_or-set_same, length-append}
+use Rattle.std.proofs.Common.{◌≤◌, ◌+◌, arith, length}
+use Rattle.machine_model.specs.declared.CutDescriptor.{CutDescriptor}
+use Rattle.machine_model.specs.Reads.{frames_of_owner}
 use Rattle.std.specs.Prelude.{◌%◌}
 use Rattle.script.specs.declared.commands.Reference.{Reference}
 use Rattle.vtoc.specs.Vtoc.{Entry as VtocEntry}
@@ -73,12 +76,14 @@ use Rattle.machine_model.specs.Steps.{fault_told, frame_lost, looking, pages_aft
 use Rattle.machine_model.specs.Steps.{transferred, with_faults, with_pages, with_store}
 use Rattle.machine_model.specs.Whole.{TakenWhole, goes_in, going_for}
 use Rattle.machine_model.specs.Taking.{GoesJust, IsTakenBy, TakenIn}
-use Rattle.machine_model.specs.Working.{AreNumbered, FailsIn, IsLeaf, IsWorking, MayFailBy, TakesSome}
+use Rattle.machine_model.specs.Working.{AreNumbered, OwnsFew, FailsIn, IsLeaf, IsWorking, MayFailBy, TakesSome}
 use Rattle.machine_model.proofs.EmptyAsks.{segment_inferiors, unread_any}
 use Rattle.machine_model.proofs.FlatAlike.{append_assoc}
 use Rattle.machine_model.proofs.JustLaws.{AllStay, LeavesTaken, just_on, started_free, taken_in}
 use Rattle.machine_model.proofs.KeepLaws.{IsNoOwner}
-use Rattle.machine_model.proofs.NumberLaws.{cut_less_frame, cut_signalled, took_numbered}
+use Rattle.machine_model.proofs.ListSizes.{frames_from_few, trailers_few}
+use Rattle.machine_model.proofs.NumberLaws.{cut_less_frame, cut_signalled, less_few, signalled_few, took_few}
+use Rattle.machine_model.proofs.NumberLaws.{took_numbered}
 use Rattle.machine_model.proofs.OutlineTake.{HasTakenFrames, LooksLike, took_like, took_owner}
 use Rattle.machine_model.proofs.OwnedLaws.{IsIdle}
 use Rattle.machine_model.proofs.RuleKept.{IsLooking}
@@ -101,6 +106,7 @@ none_work now none = record {
   fails = λ o h. absurd (none_some (sym none ∙ h));
   numbered = subst (λ (o : Option Owner). AreNumbered now.store.links.known (cut_of_owner o)) (sym none) tt;
   taken = λ o h. absurd (none_some (sym none ∙ h));
+  few = subst OwnsFew (sym none) (omega arith);
 }
 
 some_same : {A : Type 0} (x y : A) → Some x ≡ Some y → x ≡ y
@@ -108,8 +114,9 @@ some_same x y h = cc
 
 -- an owner that looks
 pub looking_work : (now : State) (q : Owner) → now.owner ≡ Some q → q.phase ≡ phase.Looking
-    → AreNumbered now.store.links.known (cut_of_owner now.owner) → IsWorking now
-looking_work now q mine looks numbered = record {
+    → AreNumbered now.store.links.known (cut_of_owner now.owner) → OwnsFew now.owner → IsWorking now
+looking_work now q mine looks numbered few = record {
+  few = few;
   numbered = numbered;
   whole = whole_idle now (ap going_for mine ∙ ap goes_in looks);
   leaf = λ u h. absurd (none_some (sym (ap going_for mine ∙ ap goes_in looks) ∙ h));
@@ -148,6 +155,7 @@ leaf_like old now u nodes active h = record {
 
 pub leaves_work : (s now : State) → Keeps s → Keeps now → IsWorking s → Leaves s now → IsWorking now
 leaves_work s now k kept w l = record {
+  few = subst OwnsFew (sym l.owner) w.few;
   numbered = subst (λ (x : List (List (Option ℕ))). AreNumbered x (cut_of_owner now.owner)) (sym l.less.known)
       (subst (λ (x : Option Owner). AreNumbered s.store.links.known (cut_of_owner x)) (sym l.owner) w.numbered);
   whole = record {
@@ -226,8 +234,10 @@ module _ (s : State) (c u : ℕ) (k : Keeps s) (idle : IsIdle s.owner) (none : g
   took_work : (fs : List ℕ) (pairs : List (ℕ × ℕ)) → (fs ≢ []) ⊎ (pairs ≢ [])
       → TakenWhole (took s c (aim.Deactivating u) (what.Seg u) fs pairs)
       → AreNumbered s.store.links.known (cut_of_owner (took s c (aim.Deactivating u) (what.Seg u) fs pairs).owner)
+      → OwnsFew (took s c (aim.Deactivating u) (what.Seg u) fs pairs).owner
       → IsWorking (took s c (aim.Deactivating u) (what.Seg u) fs pairs)
-  took_work fs pairs some whole numbered = record {
+  took_work fs pairs some whole numbered few = record {
+    few = few;
     whole = whole;
     numbered = subst (λ (x : List (List (Option ℕ))). AreNumbered x (cut_of_owner now.owner)) (sym like.known) numbered;
     leaf = λ v h. subst (IsLeaf now.store) (some_same u v (sym (ap going_for has.owner) ∙ h))
@@ -260,12 +270,13 @@ module _ (s : State) (c u : ℕ) (k : Keeps s) (idle : IsIdle s.owner) (none : g
 
   by_lists : (fs : List ℕ) (pairs : List (ℕ × ℕ)) → TakenWhole (segment_taken s c u fs pairs)
       → AreNumbered s.store.links.known (cut_of_owner (took s c (aim.Deactivating u) (what.Seg u) fs pairs).owner)
+      → OwnsFew (took s c (aim.Deactivating u) (what.Seg u) fs pairs).owner
       → IsWorking (segment_taken s c u fs pairs)
-  by_lists [] [] whole numbered = looking_work (emptied s c u) (looking c) refl refl tt
-  by_lists [] (x ∷ xs) whole numbered =
-      took_work [] (x ∷ xs) (inr (λ e. (let no_one : x ∷ xs ≡ [] = e in cc))) whole numbered
-  by_lists (f ∷ fs) pairs whole numbered =
-      took_work (f ∷ fs) pairs (inl (λ e. (let no_one : f ∷ fs ≡ [] = e in cc))) whole numbered
+  by_lists [] [] whole numbered few = looking_work (emptied s c u) (looking c) refl refl tt (omega arith)
+  by_lists [] (x ∷ xs) whole numbered few =
+      took_work [] (x ∷ xs) (inr (λ e. (let no_one : x ∷ xs ≡ [] = e in cc))) whole numbered few
+  by_lists (f ∷ fs) pairs whole numbered few =
+      took_work (f ∷ fs) pairs (inl (λ e. (let no_one : f ∷ fs ≡ [] = e in cc))) whole numbered few
 
   own : eqb u u ≡ true
   own = elim (eqb_tells u u) [ inl e ↦ e.0 | inr n ↦ absurd (n.1 refl) ]
@@ -276,6 +287,8 @@ module _ (s : State) (c u : ℕ) (k : Keeps s) (idle : IsIdle s.owner) (none : g
       (took_numbered s c (aim.Deactivating u) (what.Seg u) (frames_from s.store.ast u 0) (trailers_in s.store u) k
       (subst (AreNumbered s.store.links.known) (sym idle.cut) tt)
       (segment_takes s (aim.Deactivating u) (what.Seg u) u 0 k idle own (λ gs cs. refl)).pairs_are)
+      (took_few s c (aim.Deactivating u) (what.Seg u) (frames_from s.store.ast u 0) (trailers_in s.store u) idle
+      (let a = frames_from_few s u 0 k in let b = trailers_few s u k in omega (arith, a, b)))
 
 -- ---- the owner goes on
 
@@ -317,6 +330,7 @@ module _ (s : State) (c : ℕ) (k : Keeps s) (w : IsWorking s) where
     leaf = λ u h. w.leaf u (sym (goes_signalled s.owner) ∙ h);
     fails = λ q h. by s.owner refl q h;
     numbered = subst (AreNumbered s.store.links.known) (sym (cut_signalled s.owner)) w.numbered;
+    few = signalled_few s.owner w.few;
     taken = λ q h. takes s.owner refl q h;
   }
     where
@@ -379,6 +393,7 @@ module _ (s : State) (c : ℕ) (k : Keeps s) (w : IsWorking s) where
         (w.leaf u (sym (goes_less s.owner) ∙ h));
     fails = λ q h. by s.owner refl q h;
     numbered = subst (AreNumbered s.store.links.known) (sym (cut_less_frame s.owner)) w.numbered;
+    few = less_few s.owner w.few;
     taken = λ q h. takes s.owner refl q h;
   }
     where
@@ -454,6 +469,7 @@ MayWork s c o (act.EmptyVictim pool chain u) = Looks s c (λ x. FindsVictim s (p
 MayWork s c o (act.TakeAway fs pairs w) = IsLooking s c × IsIdle s.owner × ((fs ≢ []) ⊎ (pairs ≢ []))
     × TakesSome (next_command s (process_at s c)) × ArePairs (seen s).linked w pairs
     × IsTakenBy (took s c aim.Committing w fs pairs) (process_at s c) (next_command s (process_at s c))
+    × (length fs + length pairs ≤ 288)
 MayWork s c o (act.Signal w) = IsMine s c
 MayWork s c o (act.FinishPage f) = IsEmptying s c
 MayWork s c o _ = Unit {0}
@@ -567,6 +583,10 @@ module _ (s : State) (c : ℕ) (o : Outcome) (m : IsMachine s) (w : IsWorking s)
   leaving_nodes st f None = (refl, refl)
   leaving_nodes st f (Some page) = (refl, refl)
 
+  one_few : (f : ℕ) → length (frames_of_owner s.owner) + length (cut_of_owner s.owner) ≤ 0
+      → length (frames_of_owner s.owner ++ f ∷ []) + length (cut_of_owner s.owner) ≤ 288
+  one_few f none = let one = length-append (frames_of_owner s.owner) (f ∷ []) in omega (arith, one, none)
+
   taking_less : (f : ℕ) → IsLess s.store (eviction_begun s c f).store
   taking_less f = record {
     nodes = (leaving_nodes (with_choice s.store f) f _).0;
@@ -659,15 +679,17 @@ module _ (s : State) (c : ℕ) (o : Outcome) (m : IsMachine s) (w : IsWorking s)
   work_kept (act.Through f r) may kept = other_told (with_pages s.store (pages_after s.store.pages f r)) (Some f)
       (word_reply (old_word s.store.pages f r) r.kind) may.0 may.1 (pages_less f r) (λ u. refl) kept
   work_kept (act.Plain r) may kept = other_told s.store None r may.0 may.1 (same_less s.store) (λ u. refl) kept
-  work_kept act.TakeSupervisor may kept = looking_work _ (looking c) refl refl tt
+  work_kept act.TakeSupervisor may kept = looking_work _ (looking c) refl refl tt (omega arith)
   work_kept (act.Answer r) may kept = none_work _ refl
   work_kept act.GiveUp may kept = none_work _ refl
-  work_kept (act.Activate u place) may kept = looking_work _ may.owner.owner may.owner.mine may.looks w.numbered
-  work_kept (act.Connect n u) may kept = looking_work _ may.owner.owner may.owner.mine may.looks w.numbered
+  work_kept (act.Activate u place) may kept = looking_work _ may.owner.owner may.owner.mine may.looks w.numbered w.few
+  work_kept (act.Connect n u) may kept = looking_work _ may.owner.owner may.owner.mine may.looks w.numbered w.few
   work_kept (act.Create f u p r) may kept = none_work _ refl
   work_kept (act.Start f u p) may kept = none_work _ refl
   work_kept (act.Evict f) may kept = record {
     whole = whole_idle (eviction_begun s c f) refl;
+    few = let a = ap (λ (fs : List ℕ). length fs) may.idle.frames in
+        let b = ap (λ (ds : List CutDescriptor). length ds) may.idle.cut in one_few f (omega (arith, a, b));
     numbered = subst (λ (x : List (List (Option ℕ))). AreNumbered x (cut_of_owner s.owner)) (sym (taking_less f).known)
         w.numbered;
     leaf = λ u h. absurd (none_some h);
@@ -688,6 +710,7 @@ module _ (s : State) (c : ℕ) (o : Outcome) (m : IsMachine s) (w : IsWorking s)
   work_kept (act.TakeAway fs pairs v) may kept = let has = took_owner s c aim.Committing v fs pairs may.1.frames may.2
       in record {
         whole = whole_idle (took s c aim.Committing v fs pairs) (ap going_for has.owner);
+        few = took_few s c aim.Committing v fs pairs may.1 may.6;
         numbered = subst (λ (x : List (List (Option ℕ))). AreNumbered x
             (cut_of_owner (took s c aim.Committing v fs pairs).owner))
             (sym (took_like s c aim.Committing v fs pairs).known)
@@ -716,8 +739,8 @@ module _ (s : State) (c : ℕ) (o : Outcome) (m : IsMachine s) (w : IsWorking s)
       }
   work_kept (act.Signal v) may kept = signal_work s c keeps w v kept
   work_kept (act.FinishEviction f) may kept = by_end o (eviction_done (with_faults s o.faults) c f)
-      (write_failed s c o.faults) kept (λ h. looking_work _ (looking c) refl refl tt) (λ e h. none_work _ refl)
+      (write_failed s c o.faults) kept (λ h. looking_work _ (looking c) refl refl tt (omega arith)) (λ e h. none_work _ refl)
   work_kept (act.FinishPage f) may kept = by_end o (page_done (with_faults s o.faults) f)
       (write_failed s c o.faults) kept (λ h. page_work s c keeps w f o.faults may h) (λ e h. none_work _ refl)
-  work_kept (act.Deactivate u) may kept = looking_work _ (looking c) refl refl tt
+  work_kept (act.Deactivate u) may kept = looking_work _ (looking c) refl refl tt (omega arith)
   work_kept act.Commit may kept = commits (next_command s (process_at s c))

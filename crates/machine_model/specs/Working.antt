@@ -2,7 +2,7 @@
 -- segment that it makes inactive is a leaf that it took whole; otherwise, that its command is one that takes, and that
 -- it took just that.
 use Rattle.std.specs.Prelude.{◌≡◌, ◌≢◌, ◌⊎◌, ◌<◌, ◌≤◌, ◌*◌, ℕ, Bool, true, false, List, [], ◌∷◌, Option, Some}
-use Rattle.std.specs.Prelude.{None, Ok}
+use Rattle.std.specs.Prelude.{◌+◌, length, None, Ok}
 use Rattle.script.specs.References.{reference_of}
 use Rattle.script.specs.declared.commands.Command.{Command}
 use Rattle.script.specs.declared.commands.Command.TheVariants as command
@@ -17,7 +17,7 @@ use Rattle.machine_model.specs.declared.Aim.{Aim}
 use Rattle.machine_model.specs.declared.Aim.TheVariants as aim
 use Rattle.machine_model.specs.declared.Phase.{Phase}
 use Rattle.machine_model.specs.declared.Phase.TheVariants as phase
-use Rattle.machine_model.specs.Reads.{cut_of_owner, is_active, next_command, process_at}
+use Rattle.machine_model.specs.Reads.{cut_of_owner, frames_of_owner, is_active, next_command, process_at}
 use Rattle.machine_model.specs.declared.CutDescriptor.{CutDescriptor}
 use Rattle.machine_model.specs.State.{Owner, State, Storage}
 use Rattle.machine_model.specs.Taking.{TakenIn}
@@ -75,8 +75,13 @@ AreNumbered numbers [] = Unit {0}
 AreNumbered numbers (d ∷ ds) =
     (uid_of (kst_at numbers d.process) d.number ≡ Some d.uid) × AreNumbered numbers ds
 
+-- a job takes at the most the 256 pages of a segment and a descriptor of each of 32 processes
+abbrev pub OwnsFew : Option Owner → Type 0
+OwnsFew o = length (frames_of_owner o) + length (cut_of_owner o) ≤ 288
+
 pub record IsWorking (s : State) : Type 0 where
   pub whole : TakenWhole s
+  pub few : OwnsFew s.owner
   -- what the job has cut may be connected again
   pub numbered : AreNumbered s.store.links.known (cut_of_owner s.owner)
   pub leaf : (u : ℕ) → going_for s.owner ≡ Some u → IsLeaf s.store u

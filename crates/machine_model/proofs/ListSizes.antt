@@ -1,0 +1,245 @@
+-- How much a job takes at the most of a segment: each of its pages, 256 at the most, and a descriptor of each process,
+-- 32 at the most.
+use Rattle.std.proofs.Common.{◌≡◌, ◌<◌, ◌≤◌, ℕ, Bool, true, false, ◌||◌, cond, eqb, is_some, length, map}
+use Rattle.std.proofs.Common.{List, [], ◌∷◌, Option, Some, None, inl, inr, refl, sym, ap, subst, ◌∙◌, arith}
+use Rattle.std.proofs.Common.{◌+◌, ◌/◌, zero, suc, drop}
+use Rattle.std.specs.List.{filter, position_or_len, range_with_len}
+use Rattle.std.proofs.lemmas.List.{get_or_past}
+use Rattle.std.proofs.lemmas.List.FromFn.{length-range_with_len}
+use Rattle.script.specs.declared.commands.Command.{Command}
+use Rattle.script.specs.declared.commands.Command.TheVariants as command
+use Rattle.trailers.specs.Trailer.{trailers_of}
+use Rattle.machine_model.specs.Actions.{descriptors_taken, first_taken, frames_taken}
+use Rattle.std.specs.List.{AllByRecursion, IsDistinct, list_any}
+use Rattle.std.specs.Prelude.{nat_le}
+use Rattle.std.proofs.lemmas.Bool.Decides.{eqb_tells}
+use Rattle.std.proofs.lemmas.List.{length-map}
+use Rattle.std.proofs.lemmas.Map.Steps.{length-le_from_distinct_below}
+use Rattle.assoc_mem.specs.declared.What.TheVariants as what
+use Rattle.tree_model.specs.Tree.{Node, node_in, pool_for, pool_of}
+use Rattle.known_segs.specs.Known.{uid_of}
+use Rattle.page_table.specs.declared.Ptw.{Ptw}
+use Rattle.page_table.specs.declared.Ptw.TheVariants as ptw
+use Rattle.descriptor_seg.specs.declared.Sdw.{Sdw}
+use Rattle.descriptor_seg.specs.declared.Sdw.TheVariants as sdw
+use Rattle.active_segs.specs.Active.{uid_at}
+use Rattle.seg_control.specs.Control.{Links, is_for, kst_at, leads, place_of, table_of}
+use Rattle.seg_control.specs.Kept.{IsKnownAt}
+use Rattle.seg_control.proofs.Chains.{words_few}
+use Rattle.storage_ops.specs.Shown.{is_there}
+use Rattle.custody_model.specs.Custody.{is_uid}
+use Rattle.machine_model.specs.Holding.{led_to, seen}
+use Rattle.machine_model.specs.Keeps.{Keeps}
+use Rattle.machine_model.specs.Reads.{connected_of, descriptor_of, frames_from, frames_in, is_active, is_connected}
+use Rattle.machine_model.specs.Reads.{trailers_in}
+use Rattle.machine_model.specs.State.{State}
+use Rattle.machine_model.proofs.ActiveSeen.{active_place, none_length}
+use Rattle.machine_model.proofs.ListLaws.{within_by}
+use Rattle.machine_model.proofs.TakeLists.{trailers_taken}
+use Rattle.machine_model.proofs.TieLaws.{none_some}
+use Rattle.machine_model.proofs.TookKept.{ArePairs, has_pair, is_pair}
+
+-- ---- pages
+
+-- at most one frame a word
+pub frames_few : (ws : List Ptw) → length (frames_in ws) ≤ length ws
+frames_few [] = omega arith
+frames_few (ptw.Null ∷ ws) = let rest = frames_few ws in omega (arith, rest)
+frames_few (ptw.Out r ∷ ws) = let rest = frames_few ws in omega (arith, rest)
+frames_few (ptw.Here f ∷ ws) = let rest = frames_few ws in omega (arith, rest)
+frames_few (ptw.Leaving f ∷ ws) = let rest = frames_few ws in omega (arith, rest)
+
+pool_small : (n : Node) → pool_of n < 4
+pool_small n = by n.directory
+  where
+    small : (a b d : Bool) → cond a 0 (cond b 1 (cond d 2 3)) < 4
+    small true b d = omega arith
+    small false true d = omega arith
+    small false false true = omega arith
+    small false false false = omega arith
+
+    by : (b : Bool) → cond b 0 (pool_for n.pages) < 4
+    by true = omega arith
+    by false = small (nat_le n.pages 4) (nat_le n.pages 16) (nat_le n.pages 64)
+
+module _ (s : State) (u : ℕ) (k : Keeps s) (active : is_active s.store.ast u ≡ true) where
+  abbrev place : ℕ
+  place = place_of s.store.ast.entries u
+
+  its_place : uid_at s.store.ast.entries place ≡ Some u
+  its_place = (active_place s.store.ast u active).1
+
+  -- the page table of an active segment has 256 words at the most
+  pub table_few : length (table_of s.store.ast u) ≤ 256
+  table_few = by (node_in s.store.accounts.nodes u) refl
+    where
+      there : is_there s.store.accounts.nodes u ≡ true
+      there = k.store.counted.active.there place u its_place
+
+      by : (x : Option Node) → node_in s.store.accounts.nodes u ≡ x → length (table_of s.store.ast u) ≤ 256
+      by None e = absurd (let no : false ≡ true = sym (ap is_some e) ∙ there in cc)
+      by (Some n) e = let long = k.store.kept.sized (pool_of n) place (pool_small n)
+          (k.store.counted.active.pools place u n its_place e) in
+          subst (λ (x : ℕ). x ≤ 256) (sym long) (words_few (pool_of n) (pool_small n))
+
+  -- so it has 256 pages at the most in frames
+  pub pages_few : length (frames_from s.store.ast u 0) ≤ 256
+  pages_few = let words = frames_few (table_of s.store.ast u) in let few = table_few in omega (arith, words, few)
+
+  -- ---- descriptors
+
+  -- a descriptor that leads to a segment is of a number by which its process knows it
+  known_as : (j n : ℕ) → (seen s).linked j n ≡ Some u → uid_of (kst_at s.store.links.known j) n ≡ Some u
+  known_as j n h = by (descriptor_of s.store.links j n) refl
+    where
+      by : (x : Sdw) → descriptor_of s.store.links j n ≡ x → uid_of (kst_at s.store.links.known j) n ≡ Some u
+      by sdw.Fault e = absurd (none_some (sym (ap (led_to s.store.ast.entries) e) ∙ h))
+      by (sdw.Present aste mode pages) e = at.known_as ∙ (sym at.active
+          ∙ (sym (ap (led_to s.store.ast.entries) e) ∙ h))
+        where
+          at : IsKnownAt s.store.ast.entries s.store.links.known j n aste
+          at = k.store.kept.linked.known j n aste (ap leads e)
+
+  -- its process is one of 32
+  process_small : (j n : ℕ) → (seen s).linked j n ≡ Some u → j < 32
+  process_small j n h = let few = k.store.kept.linked.lists.few in omega (arith, few, outer)
+    where
+      outer : j < length s.store.links.known
+      outer = within_by s.store.links.known j [] (λ e. none_some
+          (sym (ap (λ (x : List (Option ℕ)). uid_of x n) e) ∙ known_as j n h))
+
+  uid_same : (v : ℕ) → is_uid u (Some v) ≡ true → v ≡ u
+  uid_same v e = elim (eqb_tells v u) [
+    | inl y ↦ y.1
+    | inr n ↦ absurd (let no : true ≡ false = sym e ∙ n.0 in cc)
+  ]
+
+  -- no other one of them is of the same process
+  apart : (x : ℕ × ℕ) (xs : List (ℕ × ℕ)) → (seen s).linked x.0 x.1 ≡ Some u → has_pair xs x.0 x.1 ≡ false
+      → ArePairs (seen s).linked (what.Seg u) xs → AllByRecursion (λ y. eqb x.0 y ≡ false) (map (λ y. y.0) xs)
+  apart x [] leads_there other are = tt
+  apart x (y ∷ ys) leads_there other are = (
+    elim (eqb_tells x.0 y.0) [
+      | inl e ↦ absurd (one e.1)
+      | inr n ↦ n.0
+    ],
+    apart x ys leads_there (later (is_pair x.0 x.1 y) (has_pair ys x.0 x.1) other) are.2,
+  )
+    where
+      later : (a b : Bool) → (a || b) ≡ false → b ≡ false
+      later true b h = absurd (let no : true ≡ false = h in cc)
+      later false b h = h
+
+      first : (a b : Bool) → (a || b) ≡ false → a ≡ false
+      first true b h = absurd (let no : true ≡ false = h in cc)
+      first false b h = refl
+
+      its : (seen s).linked y.0 y.1 ≡ Some u
+      its = are.0.1 ∙ ap (λ (v : ℕ). Some v) (uid_same are.0.0 are.0.2)
+
+      one : x.0 ≡ y.0 → ⊥
+      one e = elim (eqb_tells y.0 x.0) [
+        | inl a ↦ elim (eqb_tells y.1 x.1) [
+          | inl b ↦ (let passes : is_pair x.0 x.1 y ≡ true = rw (a.0, b.0) refl in
+              let none : true ≡ false = sym passes ∙ first (is_pair x.0 x.1 y) (has_pair ys x.0 x.1) other in cc)
+          | inr b ↦ b.1 (k.store.kept.linked.each x.0 y.1 x.1 u
+              (ap (λ (j : ℕ). uid_of (kst_at s.store.links.known j) y.1) e ∙ known_as y.0 y.1 its)
+              (known_as x.0 x.1 leads_there))
+        ]
+        | inr a ↦ a.1 (sym e)
+      ]
+
+  distinct : (xs : List (ℕ × ℕ)) → ArePairs (seen s).linked (what.Seg u) xs → IsDistinct eqb (map (λ y. y.0) xs)
+  unfolding IsDistinct
+  distinct [] are = tt
+  distinct (x ∷ xs) are = (
+    apart x xs (are.0.1 ∙ ap (λ (v : ℕ). Some v) (uid_same are.0.0 are.0.2)) are.1 are.2,
+    distinct xs are.2,
+  )
+
+  below : (xs : List (ℕ × ℕ)) → ArePairs (seen s).linked (what.Seg u) xs → (q : ℕ)
+      → list_any (eqb q) (map (λ y. y.0) xs) ≡ true → q < 32
+  below [] are q h = absurd (let no : false ≡ true = h in cc)
+  below (x ∷ xs) are q h = elim (eqb_tells q x.0) [
+    | inl e ↦ subst (λ (j : ℕ). j < 32) (sym e.1) (process_small x.0 x.1
+        (are.0.1 ∙ ap (λ (v : ℕ). Some v) (uid_same are.0.0 are.0.2)))
+    | inr n ↦ below xs are.2 q (ap (λ (b : Bool). b || list_any (eqb q) (map (λ y. y.0) xs)) (sym n.0) ∙ h)
+  ]
+
+  own : eqb u u ≡ true
+  own = elim (eqb_tells u u) [ inl e ↦ e.0 | inr n ↦ absurd (n.1 refl) ]
+
+  -- so 32 descriptors at the most lead to it
+  pub descriptors_few : length (trailers_in s.store u) ≤ 32
+  descriptors_few = let are = trailers_taken s (what.Seg u) u k own in
+      let few = length-le_from_distinct_below (map (λ (y : ℕ × ℕ). y.0) (trailers_in s.store u)) 32
+      (distinct (trailers_in s.store u) are) (below (trailers_in s.store u) are) in
+      let long = length-map (trailers_in s.store u) (λ (y : ℕ × ℕ). y.0) in omega (arith, few, long)
+
+-- ---- where it may be inactive
+
+pub filter_few : {A : Type 0} (test : A → Bool) (xs : List A) → length (filter test xs) ≤ length xs
+filter_few test [] = omega arith
+filter_few test (x ∷ xs) = by (test x) (filter_few test xs)
+  where
+    by : (b : Bool) → length (filter test xs) ≤ length xs
+        → length (cond b (x ∷ filter test xs) (filter test xs)) ≤ suc (length xs)
+    by true rest = omega (arith, rest)
+    by false rest = omega (arith, rest)
+
+drop_few : {A : Type 0} (n : ℕ) (xs : List A) → length (drop n xs) ≤ length xs
+drop_few zero xs = omega arith
+drop_few (suc n) [] = omega arith
+drop_few (suc n) (x ∷ xs) = let rest = drop_few n xs in omega (arith, rest)
+
+-- a segment that isn't active has no page table
+no_table : (s : State) (u : ℕ) → Keeps s → is_active s.store.ast u ≡ false → table_of s.store.ast u ≡ []
+unfolding place_of
+no_table s u k off = get_or_past s.store.ast.tables (position_or_len (is_for u) s.store.ast.entries) []
+    (let long = none_length (is_for u) s.store.ast.entries off in let tables = k.store.kept.places in
+    omega (arith, long, tables))
+
+-- of each segment 256 pages at the most are in frames, from whichever page on
+pub frames_from_few : (s : State) (u low : ℕ) → Keeps s → length (frames_from s.store.ast u low) ≤ 256
+frames_from_few s u low k = by (is_active s.store.ast u) refl
+  where
+    words : length (frames_from s.store.ast u low) ≤ length (table_of s.store.ast u)
+    words = let a = frames_few (drop low (table_of s.store.ast u)) in let b = drop_few low (table_of s.store.ast u) in
+        omega (arith, a, b)
+
+    by : (b : Bool) → is_active s.store.ast u ≡ b → length (frames_from s.store.ast u low) ≤ 256
+    by true e = let a = words in let b = table_few s u k e in omega (arith, a, b)
+    by false e = let a = words in let b : length (table_of s.store.ast u) ≡ 0 = ap length (no_table s u k e) in
+        omega (arith, a, b)
+
+-- 32 descriptors at the most lead to it
+pub trailers_few : (s : State) (u : ℕ) → Keeps s → length (trailers_in s.store u) ≤ 32
+trailers_few s u k = by (is_active s.store.ast u) refl
+  where
+    by : (b : Bool) → is_active s.store.ast u ≡ b → length (trailers_in s.store u) ≤ 32
+    by true e = descriptors_few s u k e
+    by false e = let none : length (trailers_in s.store u) ≡ 0 = ap (λ (x : Bool). length
+        (cond x (trailers_of s.store.links.trailers (place_of s.store.ast.entries u)) [])) e in omega (arith, none)
+
+-- a process has 256 descriptors
+pub connected_few : (links : Links) (k : ℕ) → length (connected_of links k) ≤ 256
+connected_few links k = let pair : ℕ → ℕ × ℕ = λ n. (k, n) in let a = length-map (filter (λ n. is_connected (descriptor_of links k n)) (range_with_len 0 256))
+    pair in
+    let b = filter_few (λ n. is_connected (descriptor_of links k n)) (range_with_len 0 256) in
+    let c = length-range_with_len 0 256 in omega (arith, a, b, c)
+
+-- A command takes 288 pages and descriptors at the most.
+pub command_few : (s : State) (k u : ℕ) (cmd : Command) → Keeps s
+    → length (frames_taken s.store u (first_taken cmd)) + length (descriptors_taken s.store k u cmd) ≤ 288
+command_few s k u (command.Acl path row m) keeps = let a = trailers_few s u keeps in omega (arith, a)
+command_few s k u (command.Delete path) keeps = let a = trailers_few s u keeps in
+    let b = frames_from_few s u 0 keeps in omega (arith, a, b)
+command_few s k u (command.Truncate path words) keeps =
+    let b = frames_from_few s u (words / 1024) keeps in omega (arith, b)
+command_few s k u (command.Terminate n) keeps = by (is_connected (descriptor_of s.store.links k n))
+  where
+    by : (b : Bool) → 0 + length {A = ℕ × ℕ} (cond b ((k, n) ∷ []) []) ≤ 288
+    by true = omega arith
+    by false = omega arith
+command_few s k u command.End keeps = let a = connected_few s.store.links k in omega (arith, a)
+command_few s k u _ keeps = omega arith
