@@ -5,6 +5,7 @@ pub mod ActiveLaws
 pub mod ActiveSeen
 pub mod AnswerLaws
 pub mod BackKept
+pub mod BookAfter
 pub mod BookNext
 pub mod BootKept
 pub mod ChainFacts

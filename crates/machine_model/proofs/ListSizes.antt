@@ -223,7 +223,8 @@ trailers_few s u k = by (is_active s.store.ast u) refl
 
 -- a process has 256 descriptors
 pub connected_few : (links : Links) (k : ℕ) → length (connected_of links k) ≤ 256
-connected_few links k = let pair : ℕ → ℕ × ℕ = λ n. (k, n) in let a = length-map (filter (λ n. is_connected (descriptor_of links k n)) (range_with_len 0 256))
+connected_few links k = let pair : ℕ → ℕ × ℕ = λ n. (k, n) in
+    let a = length-map (filter (λ n. is_connected (descriptor_of links k n)) (range_with_len 0 256))
     pair in
     let b = filter_few (λ n. is_connected (descriptor_of links k n)) (range_with_len 0 256) in
     let c = length-range_with_len 0 256 in omega (arith, a, b, c)

@@ -60,7 +60,7 @@ answering s c a = record {
 }
 
 -- what a look takes is few
-few_taken : (s : State) (k : ℕ) (cmd : Command) (fs : List ℕ) (pairs : List (ℕ × ℕ)) → Keeps s
+pub few_taken : (s : State) (k : ℕ) (cmd : Command) (fs : List ℕ) (pairs : List (ℕ × ℕ)) → Keeps s
     → FindsTaken s k cmd fs pairs → length fs + length pairs ≤ 288
 few_taken s k cmd fs pairs keeps finds = let a = ap (λ (x : List ℕ). length x) finds.frames in
     let b = ap (λ (x : List (ℕ × ℕ)). length x) finds.descriptors in

@@ -739,7 +739,8 @@ module _ (s : State) (c : ℕ) (o : Outcome) (m : IsMachine s) (w : IsWorking s)
       }
   work_kept (act.Signal v) may kept = signal_work s c keeps w v kept
   work_kept (act.FinishEviction f) may kept = by_end o (eviction_done (with_faults s o.faults) c f)
-      (write_failed s c o.faults) kept (λ h. looking_work _ (looking c) refl refl tt (omega arith)) (λ e h. none_work _ refl)
+      (write_failed s c o.faults) kept (λ h. looking_work _ (looking c) refl refl tt (omega arith))
+      (λ e h. none_work _ refl)
   work_kept (act.FinishPage f) may kept = by_end o (page_done (with_faults s o.faults) f)
       (write_failed s c o.faults) kept (λ h. page_work s c keeps w f o.faults may h) (λ e h. none_work _ refl)
   work_kept (act.Deactivate u) may kept = looking_work _ (looking c) refl refl tt (omega arith)

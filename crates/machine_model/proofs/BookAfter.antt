@@ -1,0 +1,316 @@
+-- A step appends 320 entries to the book at the most, in room that was there.
+use Rattle.std.proofs.Common.{◌≡◌, ◌≤◌, ◌<◌, ℕ, ◌+◌, ◌-◌, Bool, true, false, cond, List, [], ◌∷◌, ◌++◌, length, map}
+use Rattle.std.proofs.Common.{Option}
+use Rattle.std.proofs.Common.{Some, None, refl, sym, ap, ◌∙◌, arith}
+use Rattle.std.proofs.lemmas.List.{length-append, length-map}
+use Rattle.script.specs.declared.commands.Command.{Command}
+use Rattle.script.specs.declared.commands.Command.TheVariants as command
+use Rattle.assoc_mem.specs.declared.What.{What}
+use Rattle.assoc_mem.specs.declared.What.TheVariants as what
+use Rattle.book.specs.declared.entries.Entry.{Entry}
+use Rattle.book.specs.declared.entries.Entry.TheVariants as entry
+use Rattle.book.specs.declared.replies.Reply.TheVariants as reply
+use Rattle.page_control.specs.declared.Left.{Left}
+use Rattle.page_control.specs.declared.Left.TheVariants as left
+use Rattle.page_control.specs.Plain.{words_in}
+use Rattle.active_segs.specs.Victim.{first_off_chain, hand_past}
+use Rattle.machine_model.specs.declared.Aim.{Aim}
+use Rattle.machine_model.specs.declared.Aim.TheVariants as aim
+use Rattle.machine_model.specs.declared.CutDescriptor.{CutDescriptor}
+use Rattle.machine_model.specs.Actions as act
+use Rattle.machine_model.specs.Actions.{action_of}
+use Rattle.machine_model.specs.After.{Outcome, after}
+use Rattle.machine_model.specs.Commits.{committed, committed_at, cut_entry, frame_entry, gone_entries, inactive_entries}
+use Rattle.machine_model.specs.Commits.{left_after, with_effect}
+use Rattle.machine_model.specs.Jobs.{cut_all, cut_one, deactivation_begun, emptied, entries_left, eviction_done}
+use Rattle.machine_model.specs.Jobs.{left_of}
+use Rattle.machine_model.specs.Jobs.{page_back, page_done}
+use Rattle.machine_model.specs.Jobs.{page_in, pages_back, seg_back, seg_gone, segment_taken, segs_back, segs_gone}
+use Rattle.machine_model.specs.Jobs.{take_all, take_one, took, victim_taken, write_failed}
+use Rattle.machine_model.specs.Keeps.{Keeps}
+use Rattle.machine_model.specs.Promise.{KeepsAll}
+use Rattle.machine_model.specs.Reads.{cut_of_owner, frames_from, frames_of_owner, is_active, next_command, process_at}
+use Rattle.machine_model.specs.Reads.{trailers_in}
+use Rattle.machine_model.specs.Refusal.{reply_of, uid_of_command}
+use Rattle.machine_model.specs.State.{State, Storage}
+use Rattle.machine_model.specs.Steps.{booked, fault_told, frame_lost, page_created, page_made, told, transfer_failed}
+use Rattle.machine_model.specs.Steps.{transferred, with_faults, with_store}
+use Rattle.machine_model.specs.Working.{OwnsFew}
+use Rattle.machine_model.proofs.FlatAlike.{append_assoc, append_nil}
+use Rattle.machine_model.proofs.ListSizes.{frames_from_few, trailers_few}
+use Rattle.machine_model.proofs.StepGoes.{few_taken}
+use Rattle.machine_model.proofs.StepKnows.{Knows, step_knows}
+
+-- entries more, n at the most, in room that was there
+pub record HasBooked (s now : State) (n : ℕ) : Type 0 where
+  pub more : List Entry
+  pub entries : now.entries ≡ s.entries ++ more
+  pub spare : now.spare ≡ s.spare - length more
+  pub few : length more ≤ n
+
+booked_none : (s now : State) → now.entries ≡ s.entries → now.spare ≡ s.spare → HasBooked s now 0
+booked_none s now entries spare = record {
+  more = [];
+  entries = entries ∙ sym (append_nil s.entries);
+  spare = let same = spare in omega (arith, same);
+  few = omega arith;
+}
+
+booked_on : (s mid now : State) (m n : ℕ) → HasBooked s mid m → HasBooked mid now n → HasBooked s now (m + n)
+booked_on s mid now m n a b = record {
+  more = a.more ++ b.more;
+  entries = b.entries ∙ (ap (λ (es : List Entry). es ++ b.more) a.entries ∙ append_assoc s.entries a.more b.more);
+  spare = let long = length-append a.more b.more in let x = a.spare in let y = b.spare in omega (arith, long, x, y);
+  few = let long = length-append a.more b.more in let x = a.few in let y = b.few in omega (arith, long, x, y);
+}
+
+booked_less : (s now : State) (m n : ℕ) → HasBooked s now m → m ≤ n → HasBooked s now n
+booked_less s now m n a le = record {
+  more = a.more;
+  entries = a.entries;
+  spare = a.spare;
+  few = let x = a.few in omega (arith, x, le);
+}
+
+-- some entries, and whatever else
+one_booked : (s now : State) (es : List Entry) → now.entries ≡ s.entries ++ es → now.spare ≡ s.spare - length es
+    → HasBooked s now (length es)
+one_booked s now es entries spare = record { more = es; entries = entries; spare = spare; few = omega arith }
+
+-- ---- what a job takes, lets go, and gives back
+
+all_taken : (s : State) (c : ℕ) (a : Aim) (w : What) (fs : List ℕ) → HasBooked s (take_all s c a w fs) (length fs)
+all_taken s c a w [] = booked_none s s refl refl
+all_taken s c a w (f ∷ fs) = booked_less s (take_all s c a w (f ∷ fs)) (1 + length fs) (length (f ∷ fs))
+    (booked_on s (take_one s c a w f) (take_all s c a w (f ∷ fs)) 1 (length fs)
+    (one_booked s (take_one s c a w f) (entry.Take f ∷ []) refl refl) (all_taken (take_one s c a w f) c a w fs))
+    (omega arith)
+
+all_cut : (s : State) (c : ℕ) (a : Aim) (w : What) (xs : List (ℕ × ℕ)) → HasBooked s (cut_all s c a w xs) (length xs)
+all_cut s c a w [] = booked_none s s refl refl
+all_cut s c a w (x ∷ xs) = booked_less s (cut_all s c a w (x ∷ xs)) (1 + length xs) (length (x ∷ xs))
+    (booked_on s (cut_one s c a w x) (cut_all s c a w (x ∷ xs)) 1 (length xs)
+    (one_booked s (cut_one s c a w x) (entry.Cut x.0 x.1 ∷ []) refl refl) (all_cut (cut_one s c a w x) c a w xs))
+    (omega arith)
+
+took_booked : (s : State) (c : ℕ) (a : Aim) (w : What) (fs : List ℕ) (xs : List (ℕ × ℕ))
+    → HasBooked s (took s c a w fs xs) (length fs + length xs)
+took_booked s c a w fs xs = booked_on s (take_all s c a w fs) (took s c a w fs xs) (length fs) (length xs)
+    (all_taken s c a w fs) (all_cut (take_all s c a w fs) c a w xs)
+
+all_gone : (s : State) (ds : List CutDescriptor) → HasBooked s (segs_gone s ds) (length ds)
+all_gone s [] = booked_none s s refl refl
+all_gone s (d ∷ ds) = booked_less s (segs_gone s (d ∷ ds)) (1 + length ds) (length (d ∷ ds))
+    (booked_on s (seg_gone s d) (segs_gone s (d ∷ ds)) 1 (length ds)
+    (one_booked s (seg_gone s d) (entry.GoneSeg d.process d.number ∷ []) refl refl) (all_gone (seg_gone s d) ds))
+    (omega arith)
+
+emptied_booked : (s : State) (c u : ℕ) → HasBooked s (emptied s c u) (length (cut_of_owner s.owner) + 1)
+emptied_booked s c u = booked_on s (segs_gone s (cut_of_owner s.owner)) (emptied s c u)
+    (length (cut_of_owner s.owner)) 1
+    (all_gone s (cut_of_owner s.owner))
+    (one_booked (segs_gone s (cut_of_owner s.owner)) (emptied s c u) (entry.Deactivate u ∷ []) refl refl)
+
+segment_booked : (s : State) (c u : ℕ) (fs : List ℕ) (xs : List (ℕ × ℕ)) → OwnsFew s.owner
+    → length fs + length xs ≤ 288 → HasBooked s (segment_taken s c u fs xs) 320
+segment_booked s c u [] [] owns few = booked_less s (emptied s c u) (length (cut_of_owner s.owner) + 1) 320
+    (emptied_booked s c u) (omega (arith, owns))
+segment_booked s c u [] (x ∷ xs) owns few = booked_less s (took s c (aim.Deactivating u) (what.Seg u) [] (x ∷ xs)) _ 320
+    (took_booked s c (aim.Deactivating u) (what.Seg u) [] (x ∷ xs)) (omega (arith, few))
+segment_booked s c u (f ∷ fs) xs owns few = booked_less s (took s c (aim.Deactivating u) (what.Seg u) (f ∷ fs) xs) _ 320
+    (took_booked s c (aim.Deactivating u) (what.Seg u) (f ∷ fs) xs) (omega (arith, few))
+
+all_back : (s : State) (fs : List ℕ) → HasBooked s (pages_back s fs) (length fs)
+all_back s [] = booked_none s s refl refl
+all_back s (f ∷ fs) = booked_less s (pages_back s (f ∷ fs)) (1 + length fs) (length (f ∷ fs))
+    (booked_on s (page_back s f) (pages_back s (f ∷ fs)) 1 (length fs)
+    (one_booked s (page_back s f) (entry.BackPage f ∷ []) refl refl) (all_back (page_back s f) fs)) (omega arith)
+
+all_linked : (s : State) (ds : List CutDescriptor) → HasBooked s (segs_back s ds) (length ds)
+all_linked s [] = booked_none s s refl refl
+all_linked s (d ∷ ds) = booked_less s (segs_back s (d ∷ ds)) (1 + length ds) (length (d ∷ ds))
+    (booked_on s (seg_back s d) (segs_back s (d ∷ ds)) 1 (length ds)
+    (one_booked s (seg_back s d) (entry.BackSeg d.process d.number ∷ []) refl refl) (all_linked (seg_back s d) ds))
+    (omega arith)
+
+failed_booked : (s : State) (c faults : ℕ) → OwnsFew s.owner → HasBooked s (write_failed s c faults) 320
+failed_booked s c faults few = booked_less s (write_failed s c faults) _ 320
+    (booked_on s told_of (write_failed s c faults) 1 _
+    (one_booked s told_of (entry.Fault (Some (process_at s c)) ∷ []) refl refl)
+    (booked_on told_of (pages_back told_of fs) (write_failed s c faults) (length fs) _ (all_back told_of fs)
+    (booked_on (pages_back told_of fs) back (write_failed s c faults) (length ds) 1
+    (all_linked (pages_back told_of fs) ds)
+    (one_booked back (write_failed s c faults) (entry.Do (process_at back c) _ c None reply.Device ∷ []) refl refl))))
+    (omega (arith, few))
+  where
+    fs : List ℕ
+    fs = frames_of_owner s.owner
+
+    ds : List CutDescriptor
+    ds = cut_of_owner s.owner
+
+    told_of : State
+    told_of = fault_told s (Some (process_at s c)) faults
+
+    back : State
+    back = segs_back (pages_back told_of fs) ds
+
+left_long : (f : ℕ) (how : Left) (page : ℕ × ℕ) → length (entries_left f how page) ≤ 2
+left_long f left.Released page = omega arith
+left_long f left.Kept page = omega arith
+
+gone_booked : (s now : State) (f : ℕ) → now.entries ≡ s.entries ++ entries_left f (left_of (words_in s.store.pages f))
+    (page_in s.store f) → now.spare ≡ s.spare - length (entries_left f (left_of (words_in s.store.pages f))
+    (page_in s.store f)) → HasBooked s now 320
+gone_booked s now f entries spare = booked_less s now _ 320 (one_booked s now (entries_left f
+    (left_of (words_in s.store.pages f)) (page_in s.store f)) entries spare)
+    (let few = left_long f (left_of (words_in s.store.pages f)) (page_in s.store f) in omega (arith, few))
+
+-- ---- a command
+
+inactive_long : (st : Storage) (u : ℕ) (c : Command) → length (inactive_entries st u c) ≤ 1
+inactive_long st u (command.Delete path) = by (is_active st.ast u)
+  where
+    by : (b : Bool) → length (cond b (entry.Deactivate u ∷ []) []) ≤ 1
+    by true = omega arith
+    by false = omega arith
+inactive_long st u _ = omega arith
+
+gone_long : (s : State) (u : ℕ) (c : Command) → OwnsFew s.owner → length (gone_entries s u c) ≤ 289
+gone_long s u c few = let a = length-map (frames_of_owner s.owner) (frame_entry s.store c) in
+    let b = length-map (cut_of_owner s.owner) cut_entry in
+    let d = inactive_long s.store u c in
+    let e = length-append (map (frame_entry s.store c) (frames_of_owner s.owner))
+    (map cut_entry (cut_of_owner s.owner) ++ inactive_entries s.store u c) in
+    let g = length-append (map cut_entry (cut_of_owner s.owner)) (inactive_entries s.store u c) in
+    omega (arith, a, b, d, e, g, few)
+
+-- a process that leaves
+left_booked : (s x : State) (c : ℕ) (cmd : Command) (n : ℕ) → HasBooked s x n
+    → HasBooked s (left_after x c cmd) (n + 1)
+left_booked s x c command.End n h = booked_on s x (left_after x c command.End) n 1 h
+    (one_booked x (left_after x c command.End) (entry.Leave c ∷ []) refl refl)
+left_booked s x c _ n h = booked_less s x n (n + 1) h (omega arith)
+
+commit_booked : (s : State) (c k : ℕ) (cmd : Command) → OwnsFew s.owner → HasBooked s (committed s c k cmd) 320
+commit_booked s c k cmd few = booked_less s (committed s c k cmd) _ 320 (record {
+  more = done.more;
+  entries = done.entries;
+  spare = done.spare;
+  few = done.few;
+}) (let long = gone_long s u cmd few in omega (arith, long))
+  where
+    u : ℕ
+    u = uid_of_command s.store k cmd
+
+    now : State
+    now = booked (with_store s (with_effect s.store k u (frames_of_owner s.owner) cmd)) (gone_entries s u cmd)
+
+    done : HasBooked s (left_after (told now c None (reply_of s k cmd)) c cmd) ((length (gone_entries s u cmd) + 1) + 1)
+    done = left_booked s (told now c None (reply_of s k cmd)) c cmd (length (gone_entries s u cmd) + 1)
+        (booked_on s now (told now c None (reply_of s k cmd)) (length (gone_entries s u cmd)) 1
+        (one_booked s now (gone_entries s u cmd) refl refl)
+        (one_booked now (told now c None (reply_of s k cmd)) (entry.Do (process_at now c) _ c None _ ∷ []) refl refl))
+
+committed_booked : (s : State) (c : ℕ) (x : Option Command) → OwnsFew s.owner → HasBooked s (committed_at s c x) 320
+committed_booked s c None few = booked_less s s 0 320 (booked_none s s refl refl) (omega arith)
+committed_booked s c (Some cmd) few = commit_booked s c (process_at s c) cmd few
+
+-- ---- each action
+
+module _ (s : State) (c : ℕ) (o : Outcome) (keeps : Keeps s) (few : OwnsFew s.owner) where
+  none : (now : State) → now.entries ≡ s.entries → now.spare ≡ s.spare → HasBooked s now 320
+  none now entries spare = booked_less s now 0 320 (booked_none s now entries spare) (omega arith)
+
+  some : (now : State) (es : List Entry) → now.entries ≡ s.entries ++ es → now.spare ≡ s.spare - length es
+      → length es ≤ 320 → HasBooked s now 320
+  some now es entries spare le = booked_less s now (length es) 320 (one_booked s now es entries spare) le
+
+  by_end : (well ill : State) → HasBooked s well 320 → HasBooked s ill 320 → HasBooked s (cond o.failed ill well) 320
+  by_end well ill a b = by o.failed
+    where
+      by : (f : Bool) → HasBooked s (cond f ill well) 320
+      by true = b
+      by false = a
+
+  victim_booked : (pool : ℕ) (chain : List ℕ) (u : ℕ) → HasBooked s (victim_taken s c pool chain u) 320
+  victim_booked pool chain u = by (first_off_chain s.store.ast pool chain)
+    where
+      by : (x : Option ℕ) → HasBooked s (deactivation_begun (with_store s (record s.store {
+        ast = hand_past s.store.ast pool x;
+      })) c u) 320
+      by None = segment_booked s c u (frames_from s.store.ast u 0) (trailers_in s.store u) few
+          (let a = frames_from_few s u 0 keeps in let b = trailers_few s u keeps in omega (arith, a, b))
+      by (Some place) = moved (segment_booked (with_store s (record s.store {
+        ast = hand_past s.store.ast pool (Some place);
+      })) c u (frames_from s.store.ast u 0) (trailers_in s.store u) few
+          (let a = frames_from_few s u 0 keeps in let b = trailers_few s u keeps in omega (arith, a, b)))
+        where
+          moved : HasBooked (with_store s (record s.store { ast = hand_past s.store.ast pool (Some place) }))
+              (deactivation_begun (with_store s (record s.store { ast = hand_past s.store.ast pool (Some place) })) c u)
+              320
+              → HasBooked s (deactivation_begun (with_store s (record s.store {
+                ast = hand_past s.store.ast pool (Some place);
+              })) c u) 320
+          moved h = record { more = h.more; entries = h.entries; spare = h.spare; few = h.few }
+
+  action_booked : (a : act.Action) → Knows s c a → HasBooked s (after s c a o) 320
+  unfolding after
+  action_booked act.IsStopped k = none s refl refl
+  action_booked act.HasEnded k = none s refl refl
+  action_booked (act.Waits why) k = none s refl refl
+  action_booked act.Online k = some _ (entry.Online c ∷ []) refl refl (omega arith)
+  action_booked (act.Clear w) k = some _ (entry.Clear c w ∷ []) refl refl (omega arith)
+  action_booked (act.EndTransfer t) k = by_end (transferred (with_faults s o.faults) c t)
+      (transfer_failed s c t o.faults)
+      (some _ (entry.Here t.frame t.uid t.page ∷ []) refl refl (omega arith))
+      (booked_less s (transfer_failed s c t o.faults) 3 320
+      (booked_on s (frame_lost s c t) (transfer_failed s c t o.faults) 1 2
+      (one_booked s (frame_lost s c t) (entry.Lose t.frame ∷ []) refl refl)
+      (booked_on (frame_lost s c t) lost (transfer_failed s c t o.faults) 1 1
+      (one_booked (frame_lost s c t) lost (entry.Fault (Some (process_at s c)) ∷ []) refl refl)
+      (one_booked lost (transfer_failed s c t o.faults) (entry.Do (process_at lost c) _ c None reply.Device ∷ []) refl
+      refl))) (omega arith))
+    where
+      lost : State
+      lost = fault_told (frame_lost s c t) (Some (process_at s c)) o.faults
+  action_booked (act.Load n) k = some _ (entry.Load c n ∷ []) refl refl (omega arith)
+  action_booked act.Leave k = some _ (entry.Leave c ∷ []) refl refl (omega arith)
+  action_booked (act.FillSeg n) k = some _ (entry.FillSeg c n ∷ []) refl refl (omega arith)
+  action_booked (act.FillPage f r) k = some _ (entry.FillPage c f ∷ []) refl refl (omega arith)
+  action_booked (act.Through f r) k = some _ (entry.Do (process_at s c) _ c (Some f) _ ∷ []) refl refl (omega arith)
+  action_booked (act.Plain r) k = some _ (entry.Do (process_at s c) _ c None r ∷ []) refl refl (omega arith)
+  action_booked act.TakeSupervisor k = none _ refl refl
+  action_booked (act.Answer r) k = some _ (entry.Do (process_at s c) _ c None r ∷ []) refl refl (omega arith)
+  action_booked act.GiveUp k = none _ refl refl
+  action_booked (act.Activate u place) k = some _ (entry.Activate u ∷ []) refl refl (omega arith)
+  action_booked (act.Connect n u) k = some _ (entry.Connect (process_at s c) n u ∷ []) refl refl (omega arith)
+  action_booked (act.Create f u q r) k = booked_less s (page_created s c f u q r) 2 320
+      (booked_on s (page_made s f u q r) (page_created s c f u q r) 1 1
+      (one_booked s (page_made s f u q r) (entry.Here f u q ∷ []) refl refl)
+      (one_booked (page_made s f u q r) (page_created s c f u q r) (entry.Do (process_at s c) _ c None _ ∷ []) refl
+      refl))
+      (omega arith)
+  action_booked (act.Start f u q) k = some _ (entry.Start f u q ∷ []) refl refl (omega arith)
+  action_booked (act.Evict f) k = some _ (entry.Take f ∷ []) refl refl (omega arith)
+  action_booked (act.Empty u) k = segment_booked s c u (frames_from s.store.ast u 0) (trailers_in s.store u) few
+      (let a = frames_from_few s u 0 keeps in let b = trailers_few s u keeps in omega (arith, a, b))
+  action_booked (act.EmptyVictim pool chain u) k = victim_booked pool chain u
+  action_booked (act.TakeAway fs pairs w) k = booked_less s (took s c aim.Committing w fs pairs) _ 320
+      (took_booked s c aim.Committing w fs pairs)
+      (let le = few_taken s (process_at s c) k.4.command fs pairs keeps k.4.finds in omega (arith, le))
+  action_booked (act.Signal w) k = some _ (entry.Signal c w ∷ []) refl refl (omega arith)
+  action_booked (act.FinishEviction f) k = by_end (eviction_done (with_faults s o.faults) c f)
+      (write_failed s c o.faults) (gone_booked s (eviction_done (with_faults s o.faults) c f) f refl refl)
+      (failed_booked s c o.faults few)
+  action_booked (act.FinishPage f) k = by_end (page_done (with_faults s o.faults) f)
+      (write_failed s c o.faults) (gone_booked s (page_done (with_faults s o.faults) f) f refl refl)
+      (failed_booked s c o.faults few)
+  action_booked (act.Deactivate u) k = booked_less s (emptied s c u) _ 320 (emptied_booked s c u) (omega (arith, few))
+  action_booked act.Commit k = committed_booked s c (next_command s (process_at s c)) few
+
+-- A step appends 320 entries at the most, and there is room for so many less.
+pub entries_after : (s : State) (c : ℕ) (o : Outcome) → KeepsAll s → c < length s.processors
+    → HasBooked s (after s c (action_of s c) o) 320
+entries_after s c o all there = action_booked s c o all.machine.keeps all.working.few (action_of s c)
+    (step_knows s c o all.machine there all.working)
