@@ -19,7 +19,7 @@ use Rattle.machine_model.proofs.TieLaws.{none_some}
 
 -- ---- the first of a list turned round
 
-turned : (x : ℕ) (xs : List ℕ) → reverse (x ∷ xs) ≡ reverse xs ++ x ∷ []
+pub turned : (x : ℕ) (xs : List ℕ) → reverse (x ∷ xs) ≡ reverse xs ++ x ∷ []
 turned x xs = reverse_onto xs x []
 
 -- none of some numbers passes

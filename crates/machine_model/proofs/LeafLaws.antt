@@ -155,7 +155,7 @@ module _ (entries : List (Option Entry)) (tree : IsTree entries) where
 
 -- ---- the victim of a pool
 
-off_used : (chain : List ℕ) (o : Option Entry) → off_chain chain o ≡ true → (u : ℕ) × (uid_in o ≡ Some u)
+pub off_used : (chain : List ℕ) (o : Option Entry) → off_chain chain o ≡ true → (u : ℕ) × (uid_in o ≡ Some u)
 off_used chain None h = absurd (let none : false ≡ true = h in cc)
 off_used chain (Some e) h = (e.uid, refl)
 

@@ -36,6 +36,7 @@ pub mod FinishKept
 pub mod FlatAlike
 pub mod FirstSteps
 pub mod FrameLaws
+pub mod FrameSeen
 pub mod GoesLaws
 pub mod HeldLaws
 pub mod InsideLaws
@@ -126,9 +127,11 @@ pub mod TruncateKept
 pub mod TruncateRests
 pub mod Truncation
 pub mod TwoTransfers
+pub mod VictimLaws
 pub mod Victims
 pub mod VisitKept
 pub mod WaitForTransfer
+pub mod WantLaws
 pub mod WholeKept
 pub mod WholeLaws
 pub mod WordLaws

@@ -124,7 +124,7 @@ module _ (s : State) (c : ℕ) (o : Outcome) (m : IsMachine s) (idle : IsIdle s.
   -- ---- a segment becomes active
 
   -- what a command is about is there
-  about_there : (u : ℕ) → IsAbout s k cmd u → is_some (node_in nodes u) ≡ true
+  pub about_there : (u : ℕ) → IsAbout s k cmd u → is_some (node_in nodes u) ≡ true
   about_there u h = elim h.case [
     | inl x ↦ (let inside = inside_is s k x.0 keeps x.3 in
         subst (λ (v : ℕ). is_some (node_in nodes v) ≡ true) x.2
@@ -173,13 +173,13 @@ module _ (s : State) (c : ℕ) (o : Outcome) (m : IsMachine s) (idle : IsIdle s.
             | inr y ↦ absurd (let none : true ≡ false = sym e ∙ y.0 in cc)
           ]
 
-  free_within : (pool place : ℕ) → free_place s.store.ast pool ≡ Some place → place < length s.store.ast.entries
+  pub free_within : (pool place : ℕ) → free_place s.store.ast pool ≡ Some place → place < length s.store.ast.entries
   free_within pool place h = let at = (in_range_is (first_of s.store.ast.sizes pool) _ place
       (found_member (λ q. is_none (entry_at s.store.ast.entries q)) (places_in s.store.ast pool) place h)).1 in
       let part = pool_part s.store.ast.sizes pool in let all = keeps.store.places in
       omega (arith, at, part, all)
 
-  free_is : (pool place : ℕ) → free_place s.store.ast pool ≡ Some place → entry_at s.store.ast.entries place ≡ None
+  pub free_is : (pool place : ℕ) → free_place s.store.ast pool ≡ Some place → entry_at s.store.ast.entries place ≡ None
   free_is pool place h = none_is (entry_at s.store.ast.entries place)
       (find_true (λ q. is_none (entry_at s.store.ast.entries q)) (places_in s.store.ast pool) place h)
     where
@@ -262,7 +262,7 @@ module _ (s : State) (c : ℕ) (o : Outcome) (m : IsMachine s) (idle : IsIdle s.
 
   -- ---- a page of a segment that is connected
 
-  page_active : (r : Reference) (u p : ℕ) → FindsPage s k cmd r u p → is_active s.store.ast u ≡ true
+  pub page_active : (r : Reference) (u p : ℕ) → FindsPage s k cmd r u p → is_active s.store.ast u ≡ true
   page_active r u p finds = subst (λ (v : ℕ). is_active s.store.ast v ≡ true) same
       (active_at s.store.ast finds.aste at.uid at.active)
     where

@@ -190,6 +190,7 @@ pub record FindsAll (s : State) (k : ℕ) (cmd : Command) : Type 0 where
 pub record FindsNoFrame (s : State) : Type 0 where
   pub full : least_free_frame s.store.pages.core ≡ None
   pub choice : clock_choice s.store.pages.core ≡ None
+  pub unread : position is_started s.store.pages.core.frames ≡ None
 
 -- a full pool has nothing but links of the chain
 pub record FindsNoVictim (s : State) (k : ℕ) (cmd : Command) : Type 0 where
@@ -254,7 +255,7 @@ module _ (s : State) (k : ℕ) (cmd : Command) where
     evict_finds None e full unread = by (position is_started core.frames) refl
       where
         by : (y : Option ℕ) → position is_started core.frames ≡ y → LookFinds s k cmd (unless_read y act.GiveUp)
-        by None i = inr (inl (record { full = full; choice = e }))
+        by None i = inr (inl (record { full = full; choice = e; unread = i }))
         by (Some f) i = started_found f i
 
     room_finds : (into : ℕ → act.Action)

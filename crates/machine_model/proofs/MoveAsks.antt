@@ -158,7 +158,7 @@ cut_active st (d ∷ ds) k n u h e = by (is_cut_at k n d) e (cut_active st ds k 
     by false i rest = rest i
 
 -- what a descriptor leads to, or led to until it was cut, is active
-descriptor_active : (s : State) (k n u : ℕ) → Keeps s → leads_to ((shown (seen s)).descriptor k n) ≡ Some u
+pub descriptor_active : (s : State) (k n u : ℕ) → Keeps s → leads_to ((shown (seen s)).descriptor k n) ≡ Some u
     → is_active s.store.ast u ≡ true
 descriptor_active s k n u keeps h = by (descriptor_of s.store.links k n) refl h
   where
@@ -179,7 +179,7 @@ descriptor_active s k n u keeps h = by (descriptor_of s.store.links k n) refl h
     by (sdw.Present aste m pages) e i = led (uid_at s.store.ast.entries aste) aste refl i
 
 -- the principals of the script are those of the store
-who_is : (s : State) (keeps : Keeps s) (k : ℕ) → who_at s.store.whos k ≡ who_of s.plan k
+pub who_is : (s : State) (keeps : Keeps s) (k : ℕ) → who_at s.store.whos k ≡ who_of s.plan k
 who_is s keeps k = ap (λ (ws : List Who). who_at ws k) keeps.faithful.script.whos ∙ map_who s.plan.processes k
   where
     map_who : (ps : List ProcessPlan) (j : ℕ) → who_at (map (λ x. x.who) ps) j

@@ -1,0 +1,97 @@
+-- What the outline of a machine shows of a page: whether it is in a frame, and whether it is stored.
+use Rattle.std.proofs.Common.{◌≡◌, ℕ, Bool, true, false, ◌&&◌, eqb, List, Option, Some, None, is_some, inl, inr, refl}
+use Rattle.std.proofs.Common.{map, sym, ap, ◌∙◌}
+use Rattle.std.specs.List.{list_any, position_or_len}
+use Rattle.std.proofs.lemmas.Bool.Decides.{eqb_tells}
+use Rattle.core_map.specs.CoreMap.{bound_page}
+use Rattle.core_map.specs.declared.Frame.{Frame}
+use Rattle.core_map.specs.declared.Frame.TheVariants as frame
+use Rattle.page_control.specs.Plain.{frame_in as store_frame}
+use Rattle.page_control.specs.Tied.{has_record}
+use Rattle.seg_control.specs.Control.{word_of}
+use Rattle.storage_ops.specs.Shown.{is_filed}
+use Rattle.machine_model.specs.Custodial.{names}
+use Rattle.machine_model.specs.Finishing.{page_of}
+use Rattle.machine_model.specs.Holding.{seen}
+use Rattle.machine_model.specs.Keeps.{Keeps}
+use Rattle.machine_model.specs.Measures.{is_here, is_of}
+use Rattle.machine_model.specs.Outline.{frame_in}
+use Rattle.machine_model.specs.Outlined.{bare, outline_of}
+use Rattle.machine_model.specs.Reads.{is_active}
+use Rattle.machine_model.specs.State.{State}
+use Rattle.machine_model.proofs.ActiveSeen.{any_at, some_within}
+use Rattle.machine_model.proofs.OutlineReads.{map_at}
+use Rattle.machine_model.proofs.PageShown.{stored_is}
+use Rattle.machine_model.proofs.TieLaws.{none_some, page_is}
+use Rattle.machine_model.proofs.WordLaws.{found}
+
+no_and : {b : Bool} → b ≡ true → b ≡ false → ⊥
+no_and t f = let none : true ≡ false = sym t ∙ f in cc
+
+of_page : (u p : ℕ) (x : Frame) → is_of u p x ≡ true → page_of x ≡ Some (u, p)
+of_page u p frame.Free h = absurd (let none : false ≡ true = h in cc)
+of_page u p (frame.Started v q) h = absurd (let none : false ≡ true = h in cc)
+of_page u p (frame.Bound v q used modified) h = elim (eqb_tells v u) [
+  | inl e ↦ elim (eqb_tells q p) [
+    | inl i ↦ (λ j. Some (e.1 j, i.1 j))
+    | inr n ↦ absurd (no_and h (rw (e.0, n.0) refl))
+  ]
+  | inr n ↦ absurd (no_and h (rw n.0 refl))
+]
+
+page_of_it : (u p : ℕ) (x : Frame) → page_of x ≡ Some (u, p) → is_of u p x ≡ true
+page_of_it u p frame.Free h = absurd (none_some h)
+page_of_it u p (frame.Started v q) h = absurd (none_some h)
+page_of_it u p (frame.Bound v q used modified) h = by (page_is v q u p h)
+  where
+    by : (v ≡ u) × (q ≡ p) → (eqb v u && eqb q p) ≡ true
+    by both = elim (eqb_tells v u) [
+      | inl e ↦ elim (eqb_tells q p) [ inl i ↦ rw (e.0, i.0) refl | inr n ↦ absurd (n.1 both.1) ]
+      | inr n ↦ absurd (n.1 both.0)
+    ]
+
+bare_page : (x : Frame) → page_of (bare x) ≡ bound_page x
+bare_page frame.Free = refl
+bare_page (frame.Started u p) = refl
+bare_page (frame.Bound u p used modified) = refl
+
+module _ (s : State) where
+  pub frame_outlined : (f : ℕ) → frame_in (outline_of s).frames f ≡ bare (store_frame s.store.pages f)
+  unfolding outline_of
+  frame_outlined f = map_at bare s.store.pages.core.frames f frame.Free
+
+  pub bound_outlined : (f : ℕ) → page_of (frame_in (outline_of s).frames f) ≡ (seen s).bound f
+  bound_outlined f = ap page_of (frame_outlined f) ∙ (bare_page (store_frame s.store.pages f)
+      ∙ sym (map_at bound_page s.store.pages.core.frames f frame.Free))
+
+  -- a page that is in a frame, and a frame that has it
+  here_bound : (u p : ℕ) → is_here (outline_of s).frames u p ≡ true → (f : ℕ) × ((seen s).bound f ≡ Some (u, p))
+  unfolding is_here
+  here_bound u p h = (
+    position_or_len (is_of u p) (outline_of s).frames,
+    sym (bound_outlined _) ∙ of_page u p _ (found (is_of u p) (outline_of s).frames frame.Free
+        (some_within (is_of u p) (outline_of s).frames h)),
+  )
+
+  bound_here : (f u p : ℕ) → (seen s).bound f ≡ Some (u, p) → is_here (outline_of s).frames u p ≡ true
+  unfolding is_here
+  bound_here f u p h = any_at (is_of u p) (outline_of s).frames f frame.Free
+      (page_of_it u p _ (bound_outlined f ∙ h)) refl
+
+  module _ (k : Keeps s) (u p : ℕ) where
+    pub named_here : (f : ℕ) → names (word_of s.store.ast u p) ≡ Some f → is_here (outline_of s).frames u p ≡ true
+    named_here f h = bound_here f u p (k.book.tied.back f u p h)
+
+    pub not_here : names (word_of s.store.ast u p) ≡ None → is_here (outline_of s).frames u p ≡ false
+    not_here h = by (is_here (outline_of s).frames u p) refl
+      where
+        by : (b : Bool) → is_here (outline_of s).frames u p ≡ b → b ≡ false
+        by false e = refl
+        by true e = let at = here_bound u p e in
+            absurd (none_some (sym h ∙ k.book.tied.named at.0 u p at.1))
+
+    -- a page of an active segment is stored where its word says that it has a record
+    pub stored_outlined : is_active s.store.ast u ≡ true
+        → (outline_of s).stored u p ≡ has_record (word_of s.store.ast u p)
+    unfolding outline_of
+    stored_outlined active = sym (k.faithful.pages.stored u p) ∙ stored_is s k u active p
