@@ -81,7 +81,7 @@ all_cut s c a w (pair ∷ pairs) =
     chained s (cut_one s c a w pair) (cut_all (cut_one s c a w pair) c a w pairs) (same_runs refl refl)
     (all_cut (cut_one s c a w pair) c a w pairs)
 
-all_taken : (s : State) (c : ℕ) (a : Aim) (w : What) (fs : List ℕ) (pairs : List (ℕ × ℕ))
+pub all_taken : (s : State) (c : ℕ) (a : Aim) (w : What) (fs : List ℕ) (pairs : List (ℕ × ℕ))
     → SameRuns s (took s c a w fs pairs)
 all_taken s c a w fs pairs =
     chained s (take_all s c a w fs) (took s c a w fs pairs) (taken s c a w fs)
@@ -97,7 +97,7 @@ is_emptied s c uid =
     chained s (segs_gone s (cut_of_owner s.owner)) (emptied s c uid) (all_gone s (cut_of_owner s.owner))
     (same_runs refl refl)
 
-segment : (s : State) (c uid : ℕ) (fs : List ℕ) (pairs : List (ℕ × ℕ)) → SameRuns s (segment_taken s c uid fs pairs)
+pub segment : (s : State) (c uid : ℕ) (fs : List ℕ) (pairs : List (ℕ × ℕ)) → SameRuns s (segment_taken s c uid fs pairs)
 segment s c uid [] [] = is_emptied s c uid
 segment s c uid [] (pair ∷ pairs) = all_taken s c (aim.Deactivating uid) (what.Seg uid) [] (pair ∷ pairs)
 segment s c uid (f ∷ fs) pairs = all_taken s c (aim.Deactivating uid) (what.Seg uid) (f ∷ fs) pairs

@@ -52,11 +52,13 @@ pub mod LateWord
 pub mod LeafLaws
 pub mod LeaveSeen
 pub mod LeftLaws
+pub mod LinkSeen
 pub mod ListLaws
 pub mod ListSizes
 pub mod LookAsks
 pub mod LookFacts
 pub mod LookLaws
+pub mod LookSeen
 pub mod LoopLaws
 pub mod MoveAsks
 pub mod MoveSeen

@@ -218,7 +218,7 @@ module _ (s : State) (c : ℕ) (o : Outcome) (m : IsMachine s) (idle : IsIdle s.
   -- ---- a descriptor is connected
 
   -- a number that a process knows is one of its 256
-  known_within : (n u : ℕ) → uid_of (kst_at s.store.links.known k) n ≡ Some u
+  pub known_within : (n u : ℕ) → uid_of (kst_at s.store.links.known k) n ≡ Some u
       → (k < length s.store.links.known) × (n < 256)
   known_within n u h = (outer, subst (λ (x : ℕ). n < x) (keeps.store.kept.linked.lists.numbers k outer) inner)
     where

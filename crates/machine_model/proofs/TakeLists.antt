@@ -128,15 +128,21 @@ pages_taken s a w u low k idle named aimed = record {
     frame_named (what.Seg v) e f h = ap (λ (o : Option (ℕ × ℕ)). is_uid v (uid_of_page o))
         (bound_shown (seen s) f ∙ bound_at f h) ∙ e
 
-pub pages_bound : (s : State) (u low : ℕ) → Keeps s → (f : ℕ) → has (frames_from s.store.ast u low) f ≡ true
-    → (seen s).bound f ≡ Some (page_at (seen s) f)
-pages_bound s u low k f h = is ∙ ap (λ (x : Option (ℕ × ℕ)). Some (page_or_zero x)) (sym is)
+-- a frame that is listed has a page of the segment
+pub listed_bound : (s : State) (u low : ℕ) → Keeps s → (f : ℕ) → has (frames_from s.store.ast u low) f ≡ true
+    → (q : ℕ) × ((seen s).bound f ≡ Some (u, q))
+listed_bound s u low k f h = (
+  low + at.0,
+  k.book.tied.back f u (low + at.0) (ap names (sym (dropped_word (table_of s.store.ast u) low at.0) ∙ at.1)),
+)
   where
     at : (q : ℕ) × (get_or (drop low (table_of s.store.ast u)) q ptw.Null ≡ ptw.Here f)
     at = frame_word (drop low (table_of s.store.ast u)) f h
 
-    is : (seen s).bound f ≡ Some (u, low + at.0)
-    is = k.book.tied.back f u (low + at.0) (ap names (sym (dropped_word (table_of s.store.ast u) low at.0) ∙ at.1))
+pub pages_bound : (s : State) (u low : ℕ) → Keeps s → (f : ℕ) → has (frames_from s.store.ast u low) f ≡ true
+    → (seen s).bound f ≡ Some (page_at (seen s) f)
+pages_bound s u low k f h = let is = (listed_bound s u low k f h).1 in
+    is ∙ ap (λ (x : Option (ℕ × ℕ)). Some (page_or_zero x)) (sym is)
 
 -- ---- descriptors
 

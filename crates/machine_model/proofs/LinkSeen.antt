@@ -1,0 +1,101 @@
+-- Whether the descriptor of a processor's next command is connected, while a job takes pages and descriptors.
+use Rattle.std.proofs.Common.{◌≡◌, ◌≢◌, ℕ, Bool, true, false, List, [], ◌∷◌, Option, Some, None, refl, sym, ap, subst, ◌∙◌}
+use Rattle.script.specs.References.{reference_of}
+use Rattle.script.specs.declared.commands.Command.{Command}
+use Rattle.script.specs.declared.commands.Reference.{Reference}
+use Rattle.script.specs.Plans.{command_at}
+use Rattle.assoc_mem.specs.declared.What.{What}
+use Rattle.assoc_mem.specs.declared.What.TheVariants as what
+use Rattle.core_map.specs.CoreMap.{bound_page}
+use Rattle.page_control.specs.Plain.{frame_in}
+use Rattle.descriptor_seg.specs.declared.Sdw.{Sdw}
+use Rattle.descriptor_seg.specs.declared.Sdw.TheVariants as sdw
+use Rattle.seg_control.specs.Control.{Links, leads, leads_at}
+use Rattle.seg_control.specs.Effects.{cut_one as descriptor_cut, unlinked}
+use Rattle.trailers.specs.Trailer.{cut_off as trailer_gone}
+use Rattle.machine_model.specs.declared.Aim.{Aim}
+use Rattle.machine_model.specs.declared.Aim.TheVariants as aim
+use Rattle.machine_model.specs.declared.CutDescriptor.{CutDescriptor}
+use Rattle.machine_model.specs.Foreseen.{KeepsLink}
+use Rattle.machine_model.specs.Jobs.{cut_all, cut_one, leaving_if, seg_gone, segment_taken, segs_gone, take_all, take_one}
+use Rattle.machine_model.specs.Jobs.{took}
+use Rattle.machine_model.specs.Outline.{Runner}
+use Rattle.machine_model.specs.Outlined.{around, is_linked, reference_in, runner_by}
+use Rattle.machine_model.specs.Reads.{cpu_at, cut_of_owner, descriptor_of, is_connected, next_command, processor_at, run_at}
+use Rattle.machine_model.specs.State.{State, Storage}
+use Rattle.machine_model.proofs.ComingKept.{SameRuns}
+use Rattle.machine_model.proofs.Places.{by_places}
+use Rattle.machine_model.proofs.TakeSeen.{descriptors_put, linked_within}
+use Rattle.machine_model.proofs.TieLaws.{none_some}
+
+-- a descriptor that faults goes on doing so
+abbrev pub StillFaults : Links → Links → Type 0
+StillFaults old now = (k n : ℕ) → descriptor_of old k n ≡ sdw.Fault → descriptor_of now k n ≡ sdw.Fault
+
+cut_faults : (links : Links) (k n : ℕ) → StillFaults links (descriptor_cut links k n)
+cut_faults links k n i j h = by (descriptor_of links k n) refl
+  where
+    by : (x : Sdw) → descriptor_of links k n ≡ x → descriptor_of (unlinked links k n (leads x)) i j ≡ sdw.Fault
+    by sdw.Fault e = h
+    by (sdw.Present aste m pages) e = let within = linked_within links k n (λ f. none_some (sym (ap leads f)
+        ∙ ap leads e)) in
+        descriptors_put links (trailer_gone links.trailers aste k n) k n sdw.Fault within.0 within.1 i j
+        ∙ by_places (λ y. y ≡ sdw.Fault) (λ a b. descriptor_of links a b) k n sdw.Fault i j (λ a b. refl) (λ m. h)
+
+take_faults : (s : State) (c : ℕ) (a : Aim) (w : What) (fs : List ℕ)
+    → StillFaults s.store.links (take_all s c a w fs).store.links
+take_faults s c a w [] k n h = h
+take_faults s c a w (f ∷ fs) k n h = take_faults (take_one s c a w f) c a w fs k n
+    (by (bound_page (frame_in s.store.pages f)))
+  where
+    by : (o : Option (ℕ × ℕ)) → descriptor_of (leaving_if s.store f o).links k n ≡ sdw.Fault
+    by None = h
+    by (Some page) = h
+
+cuts_faults : (s : State) (c : ℕ) (a : Aim) (w : What) (pairs : List (ℕ × ℕ))
+    → StillFaults s.store.links (cut_all s c a w pairs).store.links
+cuts_faults s c a w [] k n h = h
+cuts_faults s c a w (x ∷ xs) k n h = cuts_faults (cut_one s c a w x) c a w xs k n
+    (cut_faults s.store.links x.0 x.1 k n h)
+
+took_faults : (s : State) (c : ℕ) (a : Aim) (w : What) (fs : List ℕ) (pairs : List (ℕ × ℕ))
+    → StillFaults s.store.links (took s c a w fs pairs).store.links
+took_faults s c a w fs pairs k n h =
+    cuts_faults (take_all s c a w fs) c a w pairs k n (take_faults s c a w fs k n h)
+
+gone_faults : (s : State) (ds : List CutDescriptor) → StillFaults s.store.links (segs_gone s ds).store.links
+gone_faults s [] k n h = h
+gone_faults s (d ∷ ds) k n h = gone_faults (seg_gone s d) ds k n h
+
+pub segment_faults : (s : State) (c u : ℕ) (fs : List ℕ) (pairs : List (ℕ × ℕ))
+    → StillFaults s.store.links (segment_taken s c u fs pairs).store.links
+segment_faults s c u [] [] k n h = gone_faults s (cut_of_owner s.owner) k n h
+segment_faults s c u [] (x ∷ xs) k n h = took_faults s c (aim.Deactivating u) (what.Seg u) [] (x ∷ xs) k n h
+segment_faults s c u (f ∷ fs) pairs k n h = took_faults s c (aim.Deactivating u) (what.Seg u) (f ∷ fs) pairs k n h
+
+-- ---- the next command's
+
+module _ (s t : State) (c k : ℕ) (its : (cpu_at s.processors c).process ≡ Some k) (same : SameRuns s t) where
+  same_next : next_command t k ≡ next_command s k
+  same_next = λ i. command_at (same.plan i) k (run_at (same.runs i) k).place
+
+  link_of : (u : State) → (next_command u k ≡ next_command s k)
+      → (runner_by (around u) (processor_at s.processors c) (cpu_at s.processors c).process).linked
+      ≡ is_linked (around u) k (reference_in (next_command s k))
+  link_of u next = ap (λ (o : Option ℕ). (runner_by (around u) (processor_at s.processors c) o).linked) its
+      ∙ ap (λ (x : Option Command). is_linked (around u) k (reference_in x)) next
+
+  -- of a command without a reference none is
+  pub tree_link : (cmd : Command) → next_command s k ≡ Some cmd → reference_of cmd ≡ None → KeepsLink s t c
+  tree_link cmd next none = (link_of t same_next ∙ off t) ∙ sym (link_of s refl ∙ off s)
+    where
+      off : (u : State) → is_linked (around u) k (reference_in (next_command s k)) ≡ false
+      off u = ap (is_linked (around u) k) (ap reference_in next ∙ none)
+
+  -- one that faults does so still
+  pub fault_link : (cmd : Command) (r : Reference) → next_command s k ≡ Some cmd → reference_of cmd ≡ Some r
+      → descriptor_of s.store.links k r.number ≡ sdw.Fault → descriptor_of t.store.links k r.number ≡ sdw.Fault
+      → KeepsLink s t c
+  fault_link cmd r next is was now = (link_of t same_next ∙ (ap (is_linked (around t) k) (ap reference_in next ∙ is)
+      ∙ ap is_connected now))
+      ∙ sym (link_of s refl ∙ (ap (is_linked (around s) k) (ap reference_in next ∙ is) ∙ ap is_connected was))

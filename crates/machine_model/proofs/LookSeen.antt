@@ -1,0 +1,584 @@
+-- A look of the owner finds what its outline asks of its actions.
+use Rattle.std.proofs.Common.{◌≡◌, ◌≢◌, ◌<◌, ◌≤◌, ℕ, zero, suc, Bool, true, false, not, cond, ◌&&◌, ◌||◌, eqb, List, []}
+use Rattle.std.proofs.Common.{◌∷◌, length, get_or, map, position, is_some, Option, Some, None, Result, Ok, Err, Contains}
+use Rattle.std.proofs.Common.{◌⊎◌, inl, inr, refl, sym, ap, subst, ◌∙◌, arith}
+use Rattle.std.specs.Prelude.{◌/◌, ◌%◌}
+use Rattle.std.specs.List.{list_any, position_or_len}
+use Rattle.std.proofs.lemmas.List.{length-map}
+use Rattle.std.proofs.lemmas.Bool.Decides.{eqb_tells}
+use Rattle.script.specs.References.{new_word, reference_of}
+use Rattle.script.specs.declared.commands.Command.{Command}
+use Rattle.script.specs.declared.commands.Command.TheVariants as command
+use Rattle.script.specs.declared.commands.Reference.{Reference}
+use Rattle.book.specs.declared.replies.Reply.{Reply}
+use Rattle.tree_model.specs.Tree.{Node, node_in}
+use Rattle.tree_model.proofs.Finds.{found_member}
+use Rattle.dir_tree.specs.Nodes.{chain_of}
+use Rattle.flat_model.specs.Branches.{segment_at}
+use Rattle.core_map.specs.CoreMap.{is_free, least_free_frame}
+use Rattle.core_map.specs.declared.Frame.{Frame}
+use Rattle.core_map.specs.declared.Frame.TheVariants as frame
+use Rattle.page_table.specs.declared.Ptw.{Ptw}
+use Rattle.page_table.specs.declared.Ptw.TheVariants as ptw
+use Rattle.page_control.specs.Plain.{frame_in as store_frame}
+use Rattle.page_control.specs.Tied.{has_record}
+use Rattle.descriptor_seg.specs.declared.Sdw.{Sdw}
+use Rattle.descriptor_seg.specs.declared.Sdw.TheVariants as sdw
+use Rattle.active_segs.specs.declared.Entry.{Entry}
+use Rattle.active_segs.specs.Active.{entry_at, uid_at, uid_in}
+use Rattle.active_segs.specs.Victim.{off_chain, victim_of}
+use Rattle.known_segs.specs.Known.{uid_of as known_of}
+use Rattle.flat_model.specs.Store.{known_uid}
+use Rattle.seg_control.specs.Control.{kst_at, place_of, word_of}
+use Rattle.custody_model.specs.Custody.{has}
+use Rattle.processor.specs.declared.Transfer.{Transfer}
+use Rattle.machine_model.specs.declared.Aim.TheVariants as aim
+use Rattle.machine_model.specs.declared.Phase.TheVariants as phase
+use Rattle.machine_model.specs.Actions as act
+use Rattle.machine_model.specs.Actions.{pool_of_node}
+use Rattle.machine_model.specs.After.{no_call}
+use Rattle.machine_model.specs.Custodial.{IsOwned, is_out, names}
+use Rattle.machine_model.specs.Finishing.{AreOf, CanActivate, CanEmpty, CanEvict, CanStart, IsIn, IsWantedPage}
+use Rattle.machine_model.specs.Finishing.{is_bound, is_wanted_here, page_of, uid_of}
+use Rattle.machine_model.specs.Foreseen.{IsLook, IsPlaced, KeepsLink, MayAnswer, MayConnect, MayEmpty, WantsPage}
+use Rattle.machine_model.specs.Foreseen.{HasDescriptor, lack_of}
+use Rattle.machine_model.specs.Holding.{seen}
+use Rattle.machine_model.specs.Jobs.{deactivation_begun, took, victim_taken, with_hand_moved}
+use Rattle.machine_model.specs.Keeps.{Keeps}
+use Rattle.machine_model.specs.Measures.{has_free, is_here, page_fits, want_lack}
+use Rattle.machine_model.specs.Measures.{chain_of as wanted_chain}
+use Rattle.machine_model.specs.Outline.{Want, Refer, Truncate, Length, Runner, Look, frame_in, runner_at, want_at}
+use Rattle.machine_model.specs.Outlined.{Around, around, bare, cut_page, is_linked, outline_of, reference_in, want_by}
+use Rattle.machine_model.specs.Outlined.{want_lengthened, want_of, want_truncated}
+use Rattle.machine_model.specs.Promise.{IsMachine}
+use Rattle.machine_model.specs.Reads.{cpu_at, descriptor_of, first_inactive, flat_of, frames_from, free_place, is_active}
+use Rattle.machine_model.specs.Reads.{is_connected}
+use Rattle.machine_model.specs.Reads.{next_command, or_zero, process_at, processor_at, trailers_in}
+use Rattle.machine_model.specs.Refusal.{outside_refusal, refusal_of, uid_of_command, uid_of_number}
+use Rattle.machine_model.specs.Seen.{shown}
+use Rattle.machine_model.specs.State.{Owner, State}
+use Rattle.machine_model.specs.Steps.{with_store}
+use Rattle.machine_model.proofs.ActiveSeen.{active_place, some_within}
+use Rattle.machine_model.proofs.ChainFacts.{chain_active, first_there}
+use Rattle.machine_model.proofs.ComingKept.{SameRuns, all_taken, segment}
+use Rattle.machine_model.proofs.CommandFacts.{LeadsToSegment, length_stands, truncate_stands}
+use Rattle.machine_model.proofs.FindLaws.{choice_bound, find_true, free_frame, position_at, position_none}
+use Rattle.machine_model.proofs.ForeseeLaws.{has_answer, waits_reading}
+use Rattle.machine_model.proofs.FrameSeen.{bound_outlined, frame_outlined, named_here, not_here, stored_outlined}
+use Rattle.machine_model.proofs.InsideLaws.{inside_is}
+use Rattle.machine_model.proofs.LinkSeen.{fault_link, segment_faults, tree_link}
+use Rattle.machine_model.proofs.ListLaws.{within_by}
+use Rattle.machine_model.proofs.ListSizes.{frames_from_few}
+use Rattle.machine_model.proofs.LookAsks.{about_there, free_is, free_within, known_within, page_active}
+use Rattle.machine_model.proofs.LookFacts.{FindsActive, FindsAll, FindsCut, FindsFull, FindsLink, FindsNoFrame}
+use Rattle.machine_model.proofs.LookFacts.{FindsNoVictim, FindsOut}
+use Rattle.machine_model.proofs.LookFacts.{FindsPage, FindsPlace, FindsVictim, IsAbout, IsInside, LookFinds, look_finds}
+use Rattle.machine_model.proofs.OutlineJob.{in_look}
+use Rattle.machine_model.proofs.OutlineReads.{at_outline, seen_reading}
+use Rattle.machine_model.proofs.OwnedLaws.{IsIdle}
+use Rattle.machine_model.proofs.OwnerLaws.{bound_here, looking_idle}
+use Rattle.machine_model.proofs.SpeakLaws.{Speaks}
+use Rattle.machine_model.proofs.TakeLists.{listed_bound}
+use Rattle.machine_model.proofs.ChainLaws.{has_head, has_tail}
+use Rattle.machine_model.proofs.TieLaws.{none_some}
+use Rattle.machine_model.proofs.TransferKept.{active_at}
+use Rattle.machine_model.proofs.VictimLaws.{chain_few, has_victim, member_contains, one_read, victim_is_off}
+use Rattle.machine_model.proofs.WantLaws.{linked_here, refer_wants, want_here}
+use Rattle.machine_model.proofs.WordLaws.{found}
+
+no_and : {b : Bool} → b ≡ true → b ≡ false → ⊥
+no_and t f = let none : true ≡ false = sym t ∙ f in cc
+
+-- ---- frames
+
+bare_free : (x : Frame) → is_free (bare x) ≡ is_free x
+bare_free frame.Free = refl
+bare_free (frame.Started u p) = refl
+bare_free (frame.Bound u p used modified) = refl
+
+none_free : (fs : List Frame) → ((i : ℕ) → is_free (get_or fs i (frame.Started 0 0)) ≡ false)
+    → list_any is_free (map bare fs) ≡ false
+none_free [] h = refl
+none_free (x ∷ xs) h = ap (λ (b : Bool). b || list_any is_free (map bare xs)) (bare_free x ∙ h zero)
+    ∙ none_free xs (λ i. h (suc i))
+
+pub long_frames : (s : State) → length (outline_of s).frames ≡ length s.store.pages.core.frames
+unfolding outline_of
+long_frames s = length-map s.store.pages.core.frames bare
+
+pub full_outlined : (s : State) → least_free_frame s.store.pages.core ≡ None → has_free (outline_of s).frames ≡ false
+unfolding has_free outline_of
+full_outlined s h = none_free s.store.pages.core.frames
+    (λ i. position_none is_free s.store.pages.core.frames (frame.Started 0 0) i h refl)
+
+page_bound : (x : Frame) (page : ℕ × ℕ) → page_of x ≡ Some page → is_bound x ≡ true
+page_bound frame.Free page h = absurd (none_some h)
+page_bound (frame.Started u p) page h = absurd (none_some h)
+page_bound (frame.Bound u p used modified) page h = refl
+
+module _ (s : State) (k : Keeps s) where
+  -- a bound frame
+  pub bound_within : (f : ℕ) (page : ℕ × ℕ) → (seen s).bound f ≡ Some page → f < length (outline_of s).frames
+  bound_within f page h = within_by (outline_of s).frames f frame.Free (λ e. none_some (sym (ap page_of e)
+      ∙ (bound_outlined s f ∙ h)))
+
+  pub bound_there : (f : ℕ) (page : ℕ × ℕ) → (seen s).bound f ≡ Some page
+      → is_bound (frame_in (outline_of s).frames f) ≡ true
+  bound_there f page h = page_bound (frame_in (outline_of s).frames f) page (bound_outlined s f ∙ h)
+
+  place_is : (u : ℕ) → is_active s.store.ast u ≡ true
+      → uid_in (entry_at (outline_of s).entries (place_of s.store.ast.entries u)) ≡ Some u
+  unfolding outline_of
+  place_is u active = (active_place s.store.ast u active).1
+
+  -- the frames of the pages of an active segment
+  pub are_of : (u : ℕ) → is_active s.store.ast u ≡ true → (fs : List ℕ)
+      → ((f : ℕ) → has fs f ≡ true → has (frames_from s.store.ast u 0) f ≡ true)
+      → AreOf (outline_of s) (place_of s.store.ast.entries u) fs
+  are_of u active [] h = tt
+  are_of u active (f ∷ fs) h = let at = listed_bound s u 0 k f (h f (has_head f fs)) in (
+    (
+      bound_within f (u, at.0) at.1,
+      bound_there f (u, at.0) at.1,
+      ap uid_of (bound_outlined s f ∙ at.1) ∙ sym (place_is u active),
+    ),
+    are_of u active fs (λ g i. h g (has_tail f fs g i)),
+  )
+
+-- ---- what the owner wants
+
+module _ (s : State) (c : ℕ) (m : IsMachine s) (cmd : Command) (sp : Speaks s c (process_at s c) cmd)
+    (q : Owner) (mine : s.owner ≡ Some q) (looks : q.phase ≡ phase.Looking) (same : q.cpu ≡ c) where
+  abbrev k : ℕ
+  k = process_at s c
+
+  abbrev keeps : Keeps s
+  keeps = m.keeps
+
+  abbrev nodes : List Node
+  nodes = s.store.accounts.nodes
+
+  look : IsIn (outline_of s) c Look
+  look = subst (λ (d : ℕ). IsIn (outline_of s) d Look) same (in_look s q mine looks)
+
+  idle : IsIdle s.owner
+  idle = subst IsIdle (sym mine) (looking_idle (shown (seen s)) q
+      (subst (IsOwned (shown (seen s))) mine keeps.book.going_owned) looks)
+
+  reading_none : (runner_at (outline_of s).runners c).reading ≡ None
+  reading_none = ap (λ (x : Runner). x.reading) (at_outline s c)
+      ∙ (seen_reading (around s) (processor_at s.processors c)
+      ∙ subst (λ (d : ℕ). (cpu_at s.processors d).transfer ≡ None) same (keeps.at_work q mine).idle)
+
+  want_is : want_at (outline_of s) c ≡ want_by (around s) k cmd (reference_of cmd)
+  want_is = want_here s c k sp.its ∙ ap (want_of (around s) k) sp.next
+
+  linked_is : (runner_at (outline_of s).runners c).linked ≡ is_linked (around s) k (reference_of cmd)
+  linked_is = linked_here s c k sp.its ∙ ap (λ (x : Option Command). is_linked (around s) k (reference_in x)) sp.next
+
+  lack_by : (w : Want) (l : Bool) → want_at (outline_of s) c ≡ w → (runner_at (outline_of s).runners c).linked ≡ l
+      → lack_of s c ≡ want_lack (outline_of s) w l None
+  lack_by w l e f = λ i. want_lack (outline_of s) (e i) (f i) (reading_none i)
+
+  -- ---- by the kinds of commands
+
+  makes_of : Reference → Bool
+  makes_of r = not (eqb (new_word 0 r.kind) 0)
+
+  refer_want : (r : Reference) → reference_of cmd ≡ Some r → outside_refusal s k r ≡ None → (u : ℕ)
+      → uid_of_number s.store k r.number ≡ u
+      → want_at (outline_of s) c ≡ Refer (chain_of nodes u) u (r.offset / 1024) (makes_of r)
+  unfolding makes_of
+  refer_want r is inside u e = want_is ∙ (ap (want_by (around s) k cmd) is
+      ∙ refer_wants s k keeps r u (subst (IsInside s k r) e (inside_is s k r keeps inside)))
+
+  linked_by : (r : Reference) (b : Bool) → reference_of cmd ≡ Some r
+      → is_connected (descriptor_of s.store.links k r.number) ≡ b → (runner_at (outline_of s).runners c).linked ≡ b
+  linked_by r b is h = linked_is ∙ (ap (is_linked (around s) k) is ∙ h)
+
+  truncate_leads : (path : List (List ℕ)) (words : ℕ) → cmd ≡ command.Truncate path words → refusal_of s k cmd ≡ None
+      → LeadsToSegment s path
+  truncate_leads path words is stands = truncate_stands s k keeps path words
+      (subst (λ (x : Command). refusal_of s k x ≡ None) is stands)
+
+  same_path : (path : List (List ℕ)) (n : Node) → segment_at (flat_of s).nodes path ≡ Ok n
+      → segment_at nodes path ≡ Ok n
+  same_path path n h = ap (λ (ns : List Node). segment_at ns path) (sym keeps.faithful.tree.nodes) ∙ h
+
+  truncate_want : (path : List (List ℕ)) (words : ℕ) → cmd ≡ command.Truncate path words → refusal_of s k cmd ≡ None
+      → (u : ℕ) → uid_of_command s.store k cmd ≡ u
+      → want_at (outline_of s) c ≡ Truncate (chain_of nodes u) u (cut_page words)
+  truncate_want path words is stands u e = want_is
+      ∙ (ap (λ (x : Command). want_by (around s) k x (reference_of x)) is
+      ∙ (ap (want_truncated nodes words) (same_path path leads.node leads.found)
+      ∙ ap (λ (v : ℕ). Truncate (chain_of nodes v) v (cut_page words))
+      (sym leads.uid ∙ (sym (ap (uid_of_command s.store k) is) ∙ e))))
+    where
+      leads : LeadsToSegment s path
+      leads = truncate_leads path words is stands
+
+  length_want : (path : List (List ℕ)) (pages : ℕ) → cmd ≡ command.Length path pages → refusal_of s k cmd ≡ None
+      → (u : ℕ) → uid_of_command s.store k cmd ≡ u → want_at (outline_of s) c ≡ Length u
+  length_want path pages is stands u e = want_is
+      ∙ (ap (λ (x : Command). want_by (around s) k x (reference_of x)) is
+      ∙ (ap want_lengthened (same_path path leads.node leads.found)
+      ∙ ap (λ (v : ℕ). Length v) (sym leads.uid ∙ (sym (ap (uid_of_command s.store k) is) ∙ e))))
+    where
+      leads : LeadsToSegment s path
+      leads = length_stands s k keeps path pages (subst (λ (x : Command). refusal_of s k x ≡ None) is stands)
+
+  about_chain : (u : ℕ) → IsAbout s k cmd u → wanted_chain (want_at (outline_of s) c) ≡ chain_of nodes u
+  about_chain u h = elim h.case [
+    | inl x ↦ ap wanted_chain (refer_want x.0 x.1 x.3 u x.2)
+    | inr x ↦ ap wanted_chain (truncate_want x.0 x.1 x.2 x.3 u x.4)
+  ]
+
+  -- ---- a page that is wanted
+
+  -- it is wanted of an active segment, and its want is this
+  record HasWant (u p : ℕ) : Type 0 where
+    active : is_active s.store.ast u ≡ true
+    wants : IsWantedPage (want_at (outline_of s) c) (runner_at (outline_of s).runners c).linked u p
+    here : is_wanted_here (outline_of s).frames (want_at (outline_of s) c) ≡ is_here (outline_of s).frames u p
+    lacks : ((makes : Bool) → page_fits (outline_of s) None u p makes ≡ false) → lack_of s c ≡ 1
+
+  page_want : (r : Reference) (u p : ℕ) → FindsPage s k cmd r u p
+      → want_at (outline_of s) c ≡ Refer (chain_of nodes u) u p (makes_of r)
+  page_want r u p finds = refer_want r finds.is finds.inside u finds.uid
+      ∙ ap (λ (x : ℕ). Refer (chain_of nodes u) u x (makes_of r)) finds.page
+
+  page_linked : (r : Reference) (u p : ℕ) → FindsPage s k cmd r u p
+      → (runner_at (outline_of s).runners c).linked ≡ true
+  page_linked r u p finds = linked_by r true finds.is (ap is_connected finds.linked)
+
+  cut_want : (u p : ℕ) → FindsCut s k cmd u p
+      → want_at (outline_of s) c ≡ Truncate (chain_of nodes u) u (Some p)
+  cut_want u p finds = truncate_want finds.path finds.words finds.is finds.stands u finds.uid
+      ∙ (ap (λ (b : Bool). Truncate (chain_of nodes u) u (cond b None (Some (finds.words / 1024)))) finds.cuts
+      ∙ ap (λ (x : ℕ). Truncate (chain_of nodes u) u (Some x)) finds.page)
+
+  has_want : (u p : ℕ) → ((r : Reference) × FindsPage s k cmd r u p) ⊎ FindsCut s k cmd u p → HasWant u p
+  has_want u p (inl x) = record {
+    active = page_active s c (no_call s) m idle cmd sp x.0 u p x.1;
+    wants = subst (λ (w : Want). IsWantedPage w (runner_at (outline_of s).runners c).linked u p)
+        (sym (page_want x.0 u p x.1)) (page_linked x.0 u p x.1, refl, refl);
+    here = ap (is_wanted_here (outline_of s).frames) (page_want x.0 u p x.1);
+    lacks = λ h. lack_by (Refer (chain_of nodes u) u p (makes_of x.0)) true (page_want x.0 u p x.1)
+        (page_linked x.0 u p x.1) ∙ ap (λ (b : Bool). cond {A = ℕ} (true && b) 0 1) (h (makes_of x.0));
+  }
+  has_want u p (inr x) = record {
+    active = chain_active nodes keeps.store.accounts.tree s.store.ast u x.chain;
+    wants = subst (λ (w : Want). IsWantedPage w (runner_at (outline_of s).runners c).linked u p)
+        (sym (cut_want u p x)) (refl, refl);
+    here = ap (is_wanted_here (outline_of s).frames) (cut_want u p x);
+    lacks = λ h. lack_by (Truncate (chain_of nodes u) u (Some p)) (runner_at (outline_of s).runners c).linked
+        (cut_want u p x) refl ∙ ap (λ (b : Bool). cond {A = ℕ} (true && b) 0 1) (h false);
+  }
+
+  out_fits : (u p : ℕ) (makes : Bool) → is_active s.store.ast u ≡ true
+      → is_out (word_of s.store.ast u p) ≡ true → page_fits (outline_of s) None u p makes ≡ false
+  out_fits u p makes active out = ap (λ (b : Bool). b || (false || (not ((outline_of s).stored u p) && not makes)))
+      (not_here s keeps u p (nowhere (word_of s.store.ast u p) out))
+      ∙ ap (λ (b : Bool). not b && not makes) (stored_outlined s keeps u p active
+      ∙ has_one (word_of s.store.ast u p) out)
+    where
+      nowhere : (w : Ptw) → is_out w ≡ true → names w ≡ None
+      nowhere ptw.Null h = refl
+      nowhere (ptw.Out n) h = refl
+      nowhere (ptw.Here f) h = absurd (let none : false ≡ true = h in cc)
+      nowhere (ptw.Leaving f) h = absurd (let none : false ≡ true = h in cc)
+
+      has_one : (w : Ptw) → is_out w ≡ true → has_record w ≡ true
+      has_one ptw.Null h = absurd (let none : false ≡ true = h in cc)
+      has_one (ptw.Out n) h = refl
+      has_one (ptw.Here f) h = refl
+      has_one (ptw.Leaving f) h = refl
+
+  -- ---- the actions
+
+  start_finds : (f u p : ℕ) → FindsOut s k cmd f u p → CanStart (outline_of s) c f u p
+  start_finds f u p finds = record {
+    look = look;
+    free = frame_outlined s f ∙ ap bare (is_free_is (store_frame s.store.pages f)
+        (position_at is_free s.store.pages.core.frames frame.Free f finds.frame).1);
+    within = subst (λ (n : ℕ). f < n) (sym (long_frames s)) (free_frame s.store.pages.core f finds.frame).0;
+    lacks = want.lacks (λ makes. out_fits u p makes want.active finds.out);
+    wants = want.wants;
+  }
+    where
+      want : HasWant u p
+      want = has_want u p finds.case
+
+      is_free_is : (x : Frame) → is_free x ≡ true → x ≡ frame.Free
+      is_free_is frame.Free h = refl
+      is_free_is (frame.Started v p) h = absurd (let none : false ≡ true = h in cc)
+      is_free_is (frame.Bound v p used modified) h = absurd (let none : false ≡ true = h in cc)
+
+  evict_finds : (f : ℕ) → FindsFull s k cmd f → CanEvict (outline_of s) c f
+  evict_finds f finds = record {
+    look = look;
+    full = full_outlined s finds.full;
+    within = bound_within s keeps f bound.0 bound.1;
+    bound = bound_there s keeps f bound.0 bound.1;
+    away = (has_want finds.uid finds.page finds.case).here ∙ not_here s keeps finds.uid finds.page
+        (nowhere (word_of s.store.ast finds.uid finds.page) refl);
+  }
+    where
+      bound : (page : ℕ × ℕ) × ((seen s).bound f ≡ Some page)
+      bound = choice_bound s.store.pages.core f finds.choice
+
+      at : (g : ℕ) → names (word_of s.store.ast finds.uid finds.page) ≡ Some g → ⊥
+      at g h = finds.away g (bound_here (seen s) g finds.uid finds.page keeps.book idle.frames
+          (keeps.book.tied.back g finds.uid finds.page h))
+
+      nowhere : (w : Ptw) → word_of s.store.ast finds.uid finds.page ≡ w
+          → names (word_of s.store.ast finds.uid finds.page) ≡ None
+      nowhere ptw.Null e = ap names e
+      nowhere (ptw.Out n) e = ap names e
+      nowhere (ptw.Here g) e = absurd (at g (ap names e))
+      nowhere (ptw.Leaving g) e = absurd (at g (ap names e))
+
+  -- all is there for a reference
+  all_fits : (h : FindsAll s k cmd) (w : Ptw)
+      → word_of s.store.ast h.uid (h.reference.offset / 1024) ≡ w
+      → page_fits (outline_of s) None h.uid (h.reference.offset / 1024) (makes_of h.reference) ≡ true
+  unfolding makes_of
+  all_fits h ptw.Null e = ap (λ (b : Bool). is_here (outline_of s).frames h.uid (h.reference.offset / 1024)
+      || (false || (not b && not (not (eqb (new_word 0 h.reference.kind) 0)))))
+      (stored_outlined s keeps h.uid (h.reference.offset / 1024)
+      (page_active s c (no_call s) m idle cmd sp h.reference h.uid (h.reference.offset / 1024) h.finds)
+      ∙ ap has_record e)
+      ∙ (ap (λ (b : Bool). is_here (outline_of s).frames h.uid (h.reference.offset / 1024) || not (not b)) (h.kept e)
+      ∙ or_true (is_here (outline_of s).frames h.uid (h.reference.offset / 1024)))
+    where
+      or_true : (b : Bool) → (b || true) ≡ true
+      or_true true = refl
+      or_true false = refl
+  all_fits h (ptw.Out n) e = absurd (no_and (ap is_out e) h.out)
+  all_fits h (ptw.Here f) e = ap (λ (b : Bool). b || (false || (not ((outline_of s).stored h.uid
+      (h.reference.offset / 1024)) && not (makes_of h.reference))))
+      (named_here s keeps h.uid (h.reference.offset / 1024) f (ap names e))
+  all_fits h (ptw.Leaving f) e = ap (λ (b : Bool). b || (false || (not ((outline_of s).stored h.uid
+      (h.reference.offset / 1024)) && not (makes_of h.reference))))
+      (named_here s keeps h.uid (h.reference.offset / 1024) f (ap names e))
+
+  all_finds : FindsAll s k cmd → WantsPage s c × (lack_of s c ≡ 0)
+  all_finds h = (
+    record {
+      chain = chain_of nodes h.uid;
+      uid = h.uid;
+      page = h.reference.offset / 1024;
+      makes = makes_of h.reference;
+      want = page_want h.reference h.uid (h.reference.offset / 1024) h.finds;
+    },
+    lack_by (Refer (chain_of nodes h.uid) h.uid (h.reference.offset / 1024) (makes_of h.reference)) true
+        (page_want h.reference h.uid (h.reference.offset / 1024) h.finds)
+        (page_linked h.reference h.uid (h.reference.offset / 1024) h.finds)
+        ∙ ap (λ (b : Bool). cond {A = ℕ} (true && b) 0 1) (all_fits h _ refl),
+  )
+
+  first_idle : (chain : List ℕ) (v : ℕ) → first_inactive s.store.ast chain ≡ Some v → is_active s.store.ast v ≡ false
+  first_idle chain v h = off (is_active s.store.ast v)
+      (find_true (λ w. not (is_active s.store.ast w)) chain v h)
+    where
+      off : (b : Bool) → not b ≡ true → b ≡ false
+      off false e = refl
+      off true e = absurd (let none : false ≡ true = e in cc)
+
+  activate_finds : (u place : ℕ) → FindsPlace s k cmd u place → CanActivate (outline_of s) c place u
+  unfolding outline_of
+  activate_finds u place finds = record {
+    look = look;
+    member = subst (λ (xs : List ℕ). Contains xs u)
+        (finds.link.chain_is ∙ sym (about_chain finds.link.about finds.link.case))
+        (member_contains finds.chain u
+        (found_member (λ w. not (is_active s.store.ast w)) finds.chain u finds.link.first));
+    idle = first_idle finds.chain u finds.link.first;
+    free = free_is s c (no_call s) m idle cmd sp _ place finds.free;
+    within = free_within s c (no_call s) m idle cmd sp _ place finds.free;
+  }
+
+  connect_finds : (n u : ℕ) → FindsLink s k cmd n u → MayConnect s c n
+  connect_finds n u finds = record {
+    wants = record {
+      chain = chain_of nodes u;
+      uid = u;
+      page = finds.reference.offset / 1024;
+      makes = makes_of finds.reference;
+      want = refer_want finds.reference finds.is finds.inside u uid_is;
+    };
+    reference = finds.reference;
+    number = finds.number;
+    process = k;
+    placed = record {
+      here = sp.its;
+      only = λ d other e. other (m.scheduled.alone d c k e sp.its);
+    };
+    next = ap reference_in sp.next ∙ finds.is;
+    there = record {
+      process = subst (λ (x : ℕ). k < x) (sym keeps.store.kept.linked.lists.processes) within.0;
+      number = subst (λ (x : ℕ). n < x) (sym (keeps.store.kept.linked.lists.words k within.0)) within.1;
+    };
+    within = sp.there;
+    off = linked_by finds.reference false finds.is (ap is_connected (ap (descriptor_of s.store.links k) finds.number
+        ∙ finds.fault));
+  }
+    where
+      uid_is : uid_of_number s.store k finds.reference.number ≡ u
+      uid_is = ap (uid_of_number s.store k) finds.number ∙ finds.uid
+
+      inside : IsInside s k finds.reference u
+      inside = subst (IsInside s k finds.reference) uid_is (inside_is s k finds.reference keeps finds.inside)
+
+      within : (k < length s.store.links.known) × (n < 256)
+      within = known_within s c (no_call s) m idle cmd sp n u
+          (ap (λ (x : List (List (Option ℕ))). known_of (kst_at x k) n) (sym keeps.faithful.known)
+          ∙ subst (λ (x : ℕ). known_uid (flat_of s) k x ≡ Some u) finds.number inside.known)
+
+  -- ---- a segment is emptied
+
+  empty_can : (u : ℕ) → is_active s.store.ast u ≡ true
+      → off_chain (wanted_chain (want_at (outline_of s) c)) (entry_at s.store.ast.entries
+      (place_of s.store.ast.entries u)) ≡ true → CanEmpty (outline_of s) c (place_of s.store.ast.entries u)
+  unfolding outline_of
+  empty_can u active off = record {
+    look = look;
+    off = off;
+    within = (active_place s.store.ast u active).0;
+  }
+
+  may_empty : (t : State) (u : ℕ) → is_active s.store.ast u ≡ true
+      → off_chain (wanted_chain (want_at (outline_of s) c)) (entry_at s.store.ast.entries
+      (place_of s.store.ast.entries u)) ≡ true → KeepsLink s t c → MayEmpty s t c u
+  may_empty t u active off link = record {
+    can = empty_can u active off;
+    of_it = are_of s keeps u active (frames_from s.store.ast u 0) (λ f h. h);
+    few = frames_from_few s u 0 keeps;
+    link = link;
+  }
+
+  empty_finds : (u : ℕ) → FindsActive s k cmd u → MayEmpty s (deactivation_begun s c u) c u
+  empty_finds u finds = may_empty (deactivation_begun s c u) u finds.active
+      (ap (λ (w : Want). off_chain (wanted_chain w) (entry_at s.store.ast.entries (place_of s.store.ast.entries u)))
+      (length_want finds.path finds.pages finds.is finds.stands u finds.uid)
+      ∙ used (entry_at s.store.ast.entries (place_of s.store.ast.entries u)) (active_place s.store.ast u finds.active).1)
+      (tree_link s (deactivation_begun s c u) c k sp.its
+      (segment s c u (frames_from s.store.ast u 0) (trailers_in s.store u)) cmd sp.next
+      (ap reference_of finds.is))
+    where
+      used : (o : Option Entry) → uid_in o ≡ Some u → off_chain [] o ≡ true
+      used None h = absurd (none_some h)
+      used (Some e) h = refl
+
+  victim_finds : (pool : ℕ) (chain : List ℕ) (u : ℕ) → FindsVictim s k cmd pool chain u
+      → MayEmpty s (victim_taken s c pool chain u) c u
+  victim_finds pool chain u finds = by (entry_at s.store.ast.entries finds.place) refl off_there
+    where
+      victim : victim_of s.store.ast pool (chain_of nodes finds.link.about) ≡ Some finds.place
+      victim = ap (victim_of s.store.ast pool) (sym finds.link.chain_is) ∙ finds.victim
+
+      off_there : off_chain (chain_of nodes finds.link.about) (entry_at s.store.ast.entries finds.place) ≡ true
+      off_there = victim_is_off s keeps finds.link.about pool finds.place victim
+
+      runs : SameRuns s (victim_taken s c pool chain u)
+      runs = let begun = segment (with_store s (with_hand_moved s.store pool chain)) c u
+          (frames_from (with_hand_moved s.store pool chain).ast u 0)
+          (trailers_in (with_hand_moved s.store pool chain) u) in
+          record { plan = begun.plan; runs = begun.runs }
+
+      link : KeepsLink s (victim_taken s c pool chain u) c
+      link = elim finds.link.case.case [
+        | inl x ↦ fault_link s (victim_taken s c pool chain u) c k sp.its runs cmd x.0 sp.next x.1 x.4
+            (segment_faults (with_store s (with_hand_moved s.store pool chain)) c u
+            (frames_from (with_hand_moved s.store pool chain).ast u 0)
+            (trailers_in (with_hand_moved s.store pool chain) u) k x.0.number x.4)
+        | inr x ↦ tree_link s (victim_taken s c pool chain u) c k sp.its runs cmd sp.next (ap reference_of x.2)
+      ]
+
+      by : (o : Option Entry) → entry_at s.store.ast.entries finds.place ≡ o
+          → off_chain (chain_of nodes finds.link.about) (entry_at s.store.ast.entries finds.place) ≡ true
+          → MayEmpty s (victim_taken s c pool chain u) c u
+      by None e off = absurd (no_and off (ap (off_chain (chain_of nodes finds.link.about)) e))
+      by (Some x) e off = may_empty (victim_taken s c pool chain u) u active
+          (ap (λ (xs : List ℕ). off_chain xs (entry_at s.store.ast.entries (place_of s.store.ast.entries u)))
+          (about_chain finds.link.about finds.link.case)
+          ∙ (ap (λ (p : ℕ). off_chain (chain_of nodes finds.link.about) (entry_at s.store.ast.entries p)) place_same
+          ∙ off)) link
+        where
+          at : uid_at s.store.ast.entries finds.place ≡ Some u
+          at = ap uid_in e ∙ ap (λ (v : ℕ). Some v) (sym (finds.uid ∙ ap or_zero (ap uid_in e)))
+
+          active : is_active s.store.ast u ≡ true
+          active = active_at s.store.ast finds.place u at
+
+          place_same : place_of s.store.ast.entries u ≡ finds.place
+          place_same = keeps.store.kept.tree.once (place_of s.store.ast.entries u) finds.place u
+              (active_place s.store.ast u active).1 at
+
+  -- ---- nothing is lacking that could be had
+
+  no_victim : FindsNoVictim s k cmd → ⊥
+  no_victim h = by (node_in nodes h.wanted) refl (first_there nodes keeps.store.accounts.tree s.store.ast h.link.about
+      h.wanted (about_there s c (no_call s) m idle cmd sp h.link.about h.link.case) first)
+    where
+      first : first_inactive s.store.ast (chain_of nodes h.link.about) ≡ Some h.wanted
+      first = ap (first_inactive s.store.ast) (sym h.link.chain_is) ∙ h.link.first
+
+      by : (x : Option Node) → node_in nodes h.wanted ≡ x → is_some x ≡ true → ⊥
+      by None e i = let none : false ≡ true = i in cc
+      by (Some n) e i = has_victim s m h.link.about h.wanted first n e
+          (ap (λ (y : Option Node). free_place s.store.ast (pool_of_node y)) (sym e) ∙ h.full)
+          (ap (λ (y : Option Node). victim_of s.store.ast (pool_of_node y) (chain_of nodes h.link.about)) (sym e)
+          ∙ (ap (victim_of s.store.ast (pool_of_node (node_in nodes h.wanted))) (sym h.link.chain_is) ∙ h.victim))
+
+  no_frame : FindsNoFrame s → ⊥
+  no_frame h = one_read s.store.pages.core (let sizes = keeps.sizes.frames in let four = m.script.frames.0 in
+      omega (arith, sizes, four)) h.full h.choice h.unread
+
+  -- ---- the whole
+
+  may : MayAnswer s c
+  may = has_answer s c m sp.there (ap (λ (x : Option ℕ). is_some x) sp.its)
+
+  looks_like : (a : act.Action) → LookFinds s k cmd a → IsLook s c a
+  looks_like (act.Waits (act.ForTransfer f)) h = waits_reading s k cmd f h
+  looks_like (act.Waits (act.ForOwner d)) h = absurd h
+  looks_like (act.Waits (act.ForClear d)) h = absurd h
+  looks_like (act.Waits (act.WhileIdle n)) h = absurd h
+  looks_like (act.Answer r) h = may
+  looks_like act.GiveUp (inl h) = all_finds h
+  looks_like act.GiveUp (inr (inl h)) = absurd (no_frame h)
+  looks_like act.GiveUp (inr (inr h)) = absurd (no_victim h)
+  looks_like (act.Activate u place) h = activate_finds u place h
+  looks_like (act.Connect n u) h = connect_finds n u h
+  looks_like (act.Create f u p r) h = may
+  looks_like (act.Start f u p) h = start_finds f u p h
+  looks_like (act.Evict f) h = evict_finds f h
+  looks_like (act.Empty u) h = empty_finds u h
+  looks_like (act.EmptyVictim pool chain u) h = victim_finds pool chain u h
+  looks_like (act.TakeAway fs pairs w) h = (
+    h.2,
+    tree_link s (took s c aim.Committing w fs pairs) c k sp.its (all_taken s c aim.Committing w fs pairs) cmd sp.next
+        h.0.tree,
+  )
+  looks_like act.Commit h = may
+  looks_like act.IsStopped h = absurd h
+  looks_like act.HasEnded h = absurd h
+  looks_like act.Online h = absurd h
+  looks_like (act.Clear w) h = absurd h
+  looks_like (act.EndTransfer t) h = absurd h
+  looks_like (act.Load n) h = absurd h
+  looks_like act.Leave h = absurd h
+  looks_like (act.FillSeg n) h = absurd h
+  looks_like (act.FillPage f r) h = absurd h
+  looks_like (act.Through f r) h = absurd h
+  looks_like (act.Plain r) h = absurd h
+  looks_like act.TakeSupervisor h = absurd h
+  looks_like (act.Signal w) h = absurd h
+  looks_like (act.FinishEviction f) h = absurd h
+  looks_like (act.FinishPage f) h = absurd h
+  looks_like (act.Deactivate u) h = absurd h
+
+  pub look_seen : IsLook s c (act.look_of s k (next_command s k))
+  look_seen = subst (λ (x : Option Command). IsLook s c (act.look_of s k x)) (sym sp.next)
+      (looks_like (act.look_of s k (Some cmd)) (look_finds s k cmd))
