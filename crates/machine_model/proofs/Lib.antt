@@ -88,6 +88,7 @@ pub mod QuotaTotals
 pub mod RankLaws
 pub mod ReadKept
 pub mod ReadLaws
+pub mod ReleaseSeen
 pub mod Replies
 pub mod Returnable
 pub mod RuleKept

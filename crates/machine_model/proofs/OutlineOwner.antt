@@ -245,7 +245,7 @@ module _ (s : State) (o : Owner) (out : Outcome) (f : Foresees s o.cpu) (rule : 
       by true = works _ rule (failed_goal (stage_of s.store.ast.entries o.frames (phase.Waiting aim.Evicting w))
           (in_stage s o (phase.Waiting aim.Evicting w) owner waits) due)
       by false = works _ rule (eviction_outlined (with_faults s out.faults) o w g fs owner waits frames due
-          (f.leaves g))
+          (f.leaves o g fs owner frames))
 
   finish_page : (uid : ℕ) (w : What) (fs : List ℕ) (g : ℕ) → o.phase ≡ phase.Waiting (aim.Deactivating uid) w
       → o.frames ≡ g ∷ fs → dues (outline_of s).runners ≡ 0 → Goal s o.cpu out (act.FinishPage g)
@@ -258,7 +258,7 @@ module _ (s : State) (o : Owner) (out : Outcome) (f : Foresees s o.cpu) (rule : 
           (phase.Waiting (aim.Deactivating uid) w))
           (in_stage s o (phase.Waiting (aim.Deactivating uid) w) owner waits) due)
       by false = works _ rule (page_outlined (with_faults s out.faults) o uid w g fs owner waits frames due
-          (f.leaves g))
+          (f.leaves o g fs owner frames))
 
   finish_goal : (a : Aim) (w : What) (fs : List ℕ) → o.phase ≡ phase.Waiting a w → o.frames ≡ fs
       → dues (outline_of s).runners ≡ 0 → Goal s o.cpu out (act.finish_of a fs)

@@ -267,5 +267,5 @@ run_goal s c o f rest own (Some k) process =
         → Goal s c o (cond b act.Leave (act.come_to s (cpu_at s.processors c) k (next_command s k)))
     by true turn = leave_outlined s c (leaves_rule s c k rest own process turn) (going_on s c may) (free_of s c rest)
     by false turn = command_goal s c k o (commands_rule s c k rest own process turn) process may (next_command s k) refl
-        (λ none is. f.enters none (ap (λ (j : ℕ). act.come_to s (cpu_at s.processors c) j (next_command s j)) at_k
+        (λ none is. f.enters none rest.transfer (ap (λ (j : ℕ). act.come_to s (cpu_at s.processors c) j (next_command s j)) at_k
         ∙ is))

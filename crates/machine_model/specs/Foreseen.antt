@@ -1,6 +1,6 @@
 -- What each action of a processor must find, so that its step is one of the outline. That the machine keeps its
 -- promise gives these facts; here they stand as the loop that makes it end asks for them (own).
-use Rattle.std.specs.Prelude.{◌≡◌, ◌≢◌, ◌⊎◌, ℕ, ◌<◌, ◌≤◌, Bool, true, false, length, is_some, slice_get, List, []}
+use Rattle.std.specs.Prelude.{◌≡◌, ◌≢◌, ◌⊎◌, ℕ, ◌<◌, ◌≤◌, Bool, true, false, length, is_some, slice_get, List, [], ◌∷◌}
 use Rattle.std.specs.Prelude.{Some}
 use Rattle.std.specs.Prelude.{None, slice_index_or}
 use Rattle.script.specs.Forms.{weight}
@@ -174,8 +174,9 @@ pub record Foresees (s : State) (c : ℕ) : Type 0 where
   pub evicts : (o : Owner) (w : What) → s.owner ≡ Some o → o.phase ≡ phase.Waiting aim.Evicting w → o.frames ≢ []
   pub looks : (o : Owner) → s.owner ≡ Some o → o.phase ≡ phase.Looking → o.cpu ≡ c
       → IsLook s c (act.look_of s (process_at s c) (next_command s (process_at s c)))
-  pub leaves : (f : ℕ) → MayRelease (outline_of s) f (stored_then s f)
+  pub leaves : (o : Owner) (f : ℕ) (fs : List ℕ) → s.owner ≡ Some o → o.frames ≡ f ∷ fs
+      → MayRelease (outline_of s) f (stored_then s f)
   -- a processor that takes the supervisor needs it
-  pub enters : s.owner ≡ None
+  pub enters : s.owner ≡ None → (cpu_at s.processors c).transfer ≡ None
       → act.come_to s (cpu_at s.processors c) (process_at s c) (next_command s (process_at s c)) ≡ act.TakeSupervisor
       → MayEnter s c

@@ -1,0 +1,145 @@
+-- Once a page has left its frame, just that page may be stored no more.
+use Rattle.std.proofs.Common.{◌≡◌, ◌≢◌, ◌<◌, ℕ, zero, suc, Bool, true, false, ◌&&◌, cond, eqb, is_some, List, [], ◌∷◌}
+use Rattle.std.proofs.Common.{get_or, set, Option, Some, None, ◌⊎◌, inl, inr, refl, sym, ap, subst, ◌∙◌}
+use Rattle.std.proofs.lemmas.Bool.Decides.{eqb_tells}
+use Rattle.vtoc.specs.Vtoc.{Entry, entry_at, record_at, records_in, with_record}
+use Rattle.page_control.specs.declared.Home.{Home}
+use Rattle.page_control.specs.declared.Left.{Left}
+use Rattle.page_control.specs.declared.Left.TheVariants as left
+use Rattle.page_control.specs.Picture.{is_filed_at}
+use Rattle.page_control.specs.Plain.{words_in}
+use Rattle.page_control.specs.Tied.{uid_at, vtoc_in}
+use Rattle.storage_ops.specs.Shown.{home_of, is_filed, is_there}
+use Rattle.custody_model.specs.Custody.{has, is_going_frame}
+use Rattle.machine_model.specs.Finishing.{MayRelease, page_of}
+use Rattle.machine_model.specs.Foreseen.{stored_then}
+use Rattle.machine_model.specs.Holding.{seen}
+use Rattle.machine_model.specs.Jobs.{left_of, page_in, page_or_zero, with_left}
+use Rattle.machine_model.specs.Keeps.{Keeps}
+use Rattle.machine_model.specs.Outline.{frame_in}
+use Rattle.machine_model.specs.Outlined.{outline_of}
+use Rattle.machine_model.specs.Reads.{frames_of_owner, home_in}
+use Rattle.machine_model.specs.Seen.{shown}
+use Rattle.machine_model.specs.State.{State, Storage}
+use Rattle.machine_model.proofs.ChainLaws.{has_head}
+use Rattle.machine_model.proofs.FrameSeen.{bound_outlined}
+use Rattle.machine_model.proofs.TieLaws.{none_some}
+use Rattle.machine_model.specs.State.{Owner}
+use Rattle.machine_model.specs.Seen.{frame_use, read_use}
+use Rattle.core_map.specs.CoreMap.{bound_page}
+use Rattle.core_map.specs.declared.Frame.TheVariants as frame
+use Rattle.machine_model.proofs.ListLaws.{map_list}
+
+no_and : {b : Bool} → b ≡ true → b ≡ false → ⊥
+no_and t f = let none : true ≡ false = sym t ∙ f in cc
+
+-- an element of a list after one of them changed is as it was, or it is that one
+set_either : {A : Type 0} (xs : List A) (i : ℕ) (y : A) (j : ℕ) (d : A)
+    → (get_or (set xs i y) j d ≡ get_or xs j d) ⊎ ((j ≡ i) × (get_or (set xs i y) j d ≡ y))
+set_either [] i y j d = inl refl
+set_either (x ∷ xs) zero y zero d = inr (refl, refl)
+set_either (x ∷ xs) zero y (suc j) d = inl refl
+set_either (x ∷ xs) (suc i) y zero d = inl refl
+set_either (x ∷ xs) (suc i) y (suc j) d = elim (set_either xs i y j d) [
+  | inl e ↦ inl e
+  | inr e ↦ inr (ap (λ (n : ℕ). suc n) e.0, e.1)
+]
+
+-- ---- file maps
+
+module _ (vtocs : List (List (Option Entry))) (home : Home) (p : ℕ) where
+  abbrev now : List (List (Option Entry))
+  now = set vtocs home.volume (set (vtoc_in vtocs home.volume) home.entry
+      (with_record (entry_at (vtoc_in vtocs home.volume) home.entry) p None))
+
+  entry_other : (x : Option Entry) (q : ℕ) → q ≢ p
+      → get_or (records_in (with_record x p None)) q None ≡ get_or (records_in x) q None
+  entry_other None q n = refl
+  entry_other (Some e) q n = elim (set_either e.records p None q None) [
+    | inl same ↦ same
+    | inr is ↦ absurd (n is.0)
+  ]
+
+  table_other : (e q : ℕ) → (e ≡ home.entry → q ≢ p)
+      → record_at (set (vtoc_in vtocs home.volume) home.entry
+      (with_record (entry_at (vtoc_in vtocs home.volume) home.entry) p None)) e q
+      ≡ record_at (vtoc_in vtocs home.volume) e q
+  table_other e q n = elim (set_either (vtoc_in vtocs home.volume) home.entry
+      (with_record (entry_at (vtoc_in vtocs home.volume) home.entry) p None) e None) [
+        | inl same ↦ ap (λ (x : Option Entry). get_or (records_in x) q None) same
+        | inr is ↦ ap (λ (x : Option Entry). get_or (records_in x) q None) is.1
+            ∙ (entry_other (entry_at (vtoc_in vtocs home.volume) home.entry) q (n is.0)
+            ∙ ap (λ (i : ℕ). get_or (records_in (entry_at (vtoc_in vtocs home.volume) i)) q None) (sym is.0))
+      ]
+
+  filed_other : (at : Home) (q : ℕ) → (at.volume ≡ home.volume → at.entry ≡ home.entry → q ≢ p)
+      → is_filed_at now at q ≡ is_filed_at vtocs at q
+  unfolding is_filed_at
+  filed_other at q n = elim (set_either vtocs home.volume (set (vtoc_in vtocs home.volume) home.entry
+      (with_record (entry_at (vtoc_in vtocs home.volume) home.entry) p None)) at.volume []) [
+        | inl same ↦ ap (λ (t : List (Option Entry)). is_some (record_at t at.entry q)) same
+        | inr is ↦ ap (λ (t : List (Option Entry)). is_some (record_at t at.entry q)) is.1
+            ∙ (ap (λ (x : Option ℕ). is_some x) (table_other at.entry q (n is.0))
+            ∙ ap (λ (v : ℕ). is_some (record_at (vtoc_in vtocs v) at.entry q)) (sym is.0))
+      ]
+
+-- ---- a page
+
+module _ (s : State) (k : Keeps s) (f u p : ℕ) (here : page_in s.store f ≡ (u, p))
+    (there : is_there s.store.accounts.nodes u ≡ true) where
+  others : (how : Left) (v q : ℕ) → (v ≡ u → q ≢ p)
+      → is_filed (with_left s.store f how (u, p)).accounts (with_left s.store f how (u, p)).pages.vtocs v q
+      ≡ is_filed s.store.accounts s.store.pages.vtocs v q
+  unfolding is_filed
+  others left.Kept v q n = refl
+  others left.Released v q n = by (is_there s.store.accounts.nodes v) refl
+    where
+      by : (b : Bool) → is_there s.store.accounts.nodes v ≡ b
+          → (b && is_filed_at (now s.store.pages.vtocs (home_in s.store u) p) (home_of s.store.accounts v) q)
+          ≡ (b && is_filed_at s.store.pages.vtocs (home_of s.store.accounts v) q)
+      by false e = refl
+      by true e = filed_other s.store.pages.vtocs (home_in s.store u) p (home_of s.store.accounts v) q
+          (λ a b. n (same a b))
+        where
+          same : (home_of s.store.accounts v).volume ≡ (home_in s.store u).volume
+              → (home_of s.store.accounts v).entry ≡ (home_in s.store u).entry → v ≡ u
+          same a b = let mine = k.store.counted.housed.homes v e in
+              let its = k.store.counted.housed.homes u there in
+              let one : Some v ≡ Some u = sym mine
+              ∙ (λ i. uid_at s.store.pages.vtocs (record { volume = a i; entry = b i })) ∙ its in cc
+
+  pub releases : page_of (frame_in (outline_of s).frames f) ≡ Some (u, p)
+      → MayRelease (outline_of s) f (stored_then s f)
+  unfolding outline_of
+  releases is = record {
+    others = λ v q n. ap (λ (page : ℕ × ℕ). is_filed
+        (with_left s.store f (left_of (words_in s.store.pages f)) page).accounts
+        (with_left s.store f (left_of (words_in s.store.pages f)) page).pages.vtocs v q) here
+        ∙ others (left_of (words_in s.store.pages f)) v q (λ a b. n (is ∙ (λ i. Some (sym a i, sym b i))));
+  }
+
+bound_is_there : (s : State) → Keeps s → (f u p : ℕ) → (seen s).bound f ≡ Some (u, p)
+    → is_there s.store.accounts.nodes u ≡ true
+bound_is_there s k f u p h = let active = k.store.kept.paged.bound f u p h in
+    k.store.counted.active.there active.0 u active.1
+
+-- each page that the owner has taken may leave its frame
+pub leaves_may : (s : State) → Keeps s → (o : Owner) (f : ℕ) (fs : List ℕ) → s.owner ≡ Some o → o.frames ≡ f ∷ fs
+    → MayRelease (outline_of s) f (stored_then s f)
+leaves_may s k o f fs mine frames = by ((seen s).bound f) refl going
+  where
+    going : is_going_frame ((shown (seen s)).frame f) ≡ true
+    going = k.book.going_owned.frames f ∙ (ap (λ (x : Option Owner). has (frames_of_owner x) f) mine
+        ∙ (ap (λ (xs : List ℕ). has xs f) frames ∙ has_head f fs))
+
+    read : (y : Option (ℕ × ℕ)) → is_going_frame (read_use y) ≡ false
+    read None = refl
+    read (Some page) = refl
+
+    by : (x : Option (ℕ × ℕ)) → (seen s).bound f ≡ x
+        → is_going_frame (frame_use (seen s).words x ((seen s).reads f)) ≡ true
+        → MayRelease (outline_of s) f (stored_then s f)
+    by None e h = absurd (no_and h (read ((seen s).reads f)))
+    by (Some page) e h = releases s k f page.0 page.1 (ap page_or_zero (sym (map_list bound_page
+        s.store.pages.core.frames f frame.Free) ∙ e)) (bound_is_there s k f page.0 page.1 e)
+        (bound_outlined s f ∙ e)
