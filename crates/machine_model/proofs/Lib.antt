@@ -74,6 +74,7 @@ pub mod OutlineJob
 pub mod OutlineLoss
 pub mod OutlineOwner
 pub mod OutlineReads
+pub mod OutlineSeen
 pub mod OutlineStep
 pub mod OutlineTake
 pub mod OutlineWaits
@@ -106,6 +107,7 @@ pub mod StepAsks
 pub mod StepKnows
 pub mod PoolsKept
 pub mod StepGoes
+pub mod EnterSeen
 pub mod EntitledKept
 pub mod MachineKept
 pub mod MachineBoot

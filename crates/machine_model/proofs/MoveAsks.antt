@@ -224,7 +224,7 @@ module _ (s : State) (c : ℕ) (keeps : Keeps s) (entitled : IsEntitledToAll s) 
       its_segs = subst (λ (x : Option ℕ). AreOfProcess (shown (seen s)).descriptor x
           (cpu_at s.processors c).assoc.segs) speaks.its (keeps.book.holding_right c).segs
 
-  known : known_uid t k r.number ≡ Some h.uid
+  pub known : known_uid t k r.number ≡ Some h.uid
   known = ap (λ (x : List (List (Option ℕ))). uid_of (kst_at x k) r.number) keeps.faithful.known
       ∙ (ap (uid_of (kst_at s.store.links.known k)) (sym number_same) ∙ right.stands)
 

@@ -7,6 +7,7 @@ pub mod Commits
 pub mod Custodial
 pub mod Entitled
 pub mod Finishing
+pub mod Fitting
 pub mod Foreseen
 pub mod Holding
 pub mod Jobs

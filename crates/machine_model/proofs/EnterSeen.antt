@@ -1,0 +1,247 @@
+-- A processor that takes the supervisor needs it: its command is no reference, or the tables lack something for it.
+use Rattle.std.proofs.Common.{◌≡◌, ◌≢◌, ◌<◌, ℕ, Bool, true, false, not, cond, ◌&&◌, ◌||◌, eqb, length, List, Option, Some}
+use Rattle.std.proofs.Common.{None, is_some, ◌⊎◌, inl, inr, refl, sym, ap, subst, ◌∙◌, nat_le, ◌*◌}
+use Rattle.std.specs.Prelude.{◌/◌}
+use Rattle.script.specs.References.{new_word, permits, reference_of}
+use Rattle.script.specs.declared.commands.Command.{Command}
+use Rattle.script.specs.declared.commands.Reference.{Reference}
+use Rattle.script.specs.declared.commands.RefKind.{RefKind}
+use Rattle.assoc_mem.specs.Held.{frame_of, seg_of}
+use Rattle.assoc_mem.specs.declared.HeldSeg.{HeldSeg}
+use Rattle.known_segs.specs.Known.{uid_of}
+use Rattle.page_table.specs.declared.Ptw.{Ptw}
+use Rattle.page_table.specs.declared.Ptw.TheVariants as ptw
+use Rattle.page_control.specs.Tied.{has_record}
+use Rattle.descriptor_seg.specs.declared.Sdw.{Sdw}
+use Rattle.descriptor_seg.specs.declared.Sdw.TheVariants as sdw
+use Rattle.seg_control.specs.Control.{kst_at, sdws_at, word_of}
+use Rattle.processor.specs.declared.Move.{Move}
+use Rattle.processor.specs.declared.Move.TheVariants as move
+use Rattle.processor.specs.declared.Transfer.{Transfer}
+use Rattle.processor.specs.Moves.{by_descriptor, by_held, by_page, by_seg, by_word}
+use Rattle.book.specs.declared.replies.Reply.TheVariants as reply
+use Rattle.flat_model.specs.Commands.{is_end}
+use Rattle.flat_model.specs.References.{word_reply}
+use Rattle.machine_model.specs.Actions as act
+use Rattle.machine_model.specs.Custodial.{is_out, names}
+use Rattle.machine_model.specs.Entitled.{IsEntitledToAll}
+use Rattle.machine_model.specs.Foreseen.{MayAnswer, MayEnter, MayLose, WantsPage, lack_of}
+use Rattle.machine_model.specs.Holding.{seen}
+use Rattle.machine_model.specs.Keeps.{Keeps}
+use Rattle.machine_model.specs.Measures.{is_here, page_fits, want_lack}
+use Rattle.machine_model.specs.Outline.{Want, Refer, Truncate, Length, Other, Runner, runner_at, want_at}
+use Rattle.machine_model.specs.Outlined.{around, is_linked, outline_of, reference_in, runner_by, want_by, want_of}
+use Rattle.machine_model.specs.Outlined.{want_of_reference}
+use Rattle.machine_model.specs.Promise.{IsMachine}
+use Rattle.machine_model.specs.Reading.{IsReading}
+use Rattle.machine_model.specs.Reads.{cpu_at, descriptor_of, flat_of, frames_of_owner, is_active, is_connected}
+use Rattle.machine_model.specs.Reads.{next_command, or_zero, process_at, processor_at}
+use Rattle.machine_model.specs.State.{Owner, State}
+use Rattle.machine_model.specs.Working.{MayFailBy}
+use Rattle.machine_model.proofs.FailLaws.{fails_more}
+use Rattle.machine_model.proofs.FrameSeen.{not_here, stored_outlined}
+use Rattle.machine_model.proofs.MoveAsks.{held_active, known}
+use Rattle.machine_model.proofs.OutlineReads.{at_outline, seen_reading}
+use Rattle.machine_model.proofs.OwnerLaws.{bound_here}
+use Rattle.machine_model.proofs.SpeakLaws.{Speaks, speaks}
+use Rattle.machine_model.proofs.StepAsks.{ReadsFor, reads_for}
+use Rattle.machine_model.proofs.StepGoes.{may_answer}
+use Rattle.machine_model.proofs.TieLaws.{none_some}
+use Rattle.machine_model.proofs.WantLaws.{IsReferring, linked_here, refers, tree_wants, want_here}
+
+no_and : {b : Bool} → b ≡ true → b ≡ false → ⊥
+no_and t f = let none : true ≡ false = sym t ∙ f in cc
+
+is_refer : Want → Bool
+is_refer (Refer chain uid page makes) = true
+is_refer _ = false
+
+is_take : act.Action → Bool
+is_take act.TakeSupervisor = true
+is_take _ = false
+
+is_fault : Move → Bool
+is_fault move.Fault = true
+is_fault _ = false
+
+-- a move by which the supervisor is taken is a fault
+take_faults : (o : Option Owner) (r : Reference) (x : Move) → act.by_move o r x ≡ act.TakeSupervisor → x ≡ move.Fault
+unfolding is_take
+take_faults o r move.FillSeg h = absurd (let none : false ≡ true = ap is_take h in cc)
+take_faults o r (move.FillPage f) h = absurd (let none : false ≡ true = ap is_take h in cc)
+take_faults o r (move.Through f) h = absurd (let none : false ≡ true = ap is_take h in cc)
+take_faults o r (move.Plain answer) h = absurd (let none : false ≡ true = ap is_take h in cc)
+take_faults o r move.Fault h = refl
+
+module _ (s : State) (c : ℕ) (m : IsMachine s) (entitled : IsEntitledToAll s) (none : s.owner ≡ None)
+    (rest : (cpu_at s.processors c).transfer ≡ None) (cmd : Command) (sp : Speaks s c (process_at s c) cmd)
+    (r : Reference) (is : reference_of cmd ≡ Some r) where
+  abbrev k : ℕ
+  k = process_at s c
+
+  abbrev keeps : Keeps s
+  keeps = m.keeps
+
+  -- no page of a word that faults fits
+  word_lacks : (u p : ℕ) (makes : Bool) (w : Ptw) → is_active s.store.ast u ≡ true → word_of s.store.ast u p ≡ w
+      → not (eqb (new_word 0 r.kind) 0) ≡ makes → by_word w r.kind ≡ move.Fault
+      → page_fits (outline_of s) None u p makes ≡ false
+  unfolding is_fault
+  word_lacks u p makes ptw.Null active e same h = ap (λ (b : Bool). b || (false || (not ((outline_of s).stored u p)
+      && not makes))) (not_here s keeps u p (ap names e))
+      ∙ (ap (λ (b : Bool). not ((outline_of s).stored u p) && not b) (sym same)
+      ∙ by (eqb (new_word 0 r.kind) 0) h)
+    where
+      and_false : (b : Bool) → (b && false) ≡ false
+      and_false true = refl
+      and_false false = refl
+
+      by : (b : Bool) → cond b (move.Plain (word_reply 0 r.kind)) move.Fault ≡ move.Fault
+          → (not ((outline_of s).stored u p) && not (not b)) ≡ false
+      by true i = absurd (let no_fault : false ≡ true = ap is_fault i in cc)
+      by false i = and_false (not ((outline_of s).stored u p))
+  word_lacks u p makes (ptw.Out n) active e same h = ap (λ (b : Bool). b || (false || (not ((outline_of s).stored u p)
+      && not makes))) (not_here s keeps u p (ap names e))
+      ∙ ap (λ (b : Bool). not b && not makes) (stored_outlined s keeps u p active ∙ ap has_record e)
+  word_lacks u p makes (ptw.Here f) active e same h = absurd (let no_fault : false ≡ true = ap is_fault h in cc)
+  word_lacks u p makes (ptw.Leaving f) active e same h = absurd (let here : ptw.Leaving f ≡ ptw.Here f =
+      sym e ∙ bound_here (seen s) f u p keeps.book (ap frames_of_owner none)
+      (keeps.book.tied.back f u p (ap names e)) in let off : true ≡ false = ap is_leaving here in cc)
+    where
+      is_leaving : Ptw → Bool
+      is_leaving (ptw.Leaving g) = true
+      is_leaving _ = false
+
+  module _ (chain : List ℕ) (u p : ℕ) (makes : Bool)
+      (to : IsReferring s.store.accounts.nodes s.store.links.known k r chain u p makes) where
+    held_same : (e : HeldSeg) → seg_of (cpu_at s.processors c).assoc r.number ≡ Some e → e.uid ≡ u
+    held_same e h = let one : Some e.uid ≡ Some u =
+        sym (known s c keeps entitled cmd sp r is e h)
+        ∙ (ap (λ (x : List (List (Option ℕ))). uid_of (kst_at x k) r.number) keeps.faithful.known ∙ to.stands) in cc
+
+    held_lacks : (e : HeldSeg) → seg_of (cpu_at s.processors c).assoc r.number ≡ Some e
+        → by_held (cpu_at s.processors c).assoc (word_of s.store.ast) r e ≡ move.Fault
+        → page_fits (outline_of s) None u p makes ≡ false
+    unfolding is_fault
+    held_lacks e h i = by (not (permits e.mode r.kind)) (nat_le (1024 * e.pages) r.offset)
+        (frame_of (cpu_at s.processors c).assoc e.uid (r.offset / 1024)) i
+      where
+        by : (a b : Bool) (o : Option ℕ) → cond a (move.Plain reply.NoAccess) (cond b (move.Plain reply.Length)
+            (by_page o (word_of s.store.ast e.uid (r.offset / 1024)) r.kind)) ≡ move.Fault
+            → page_fits (outline_of s) None u p makes ≡ false
+        by true b o j = absurd (let no_fault : false ≡ true = ap is_fault j in cc)
+        by false true o j = absurd (let no_fault : false ≡ true = ap is_fault j in cc)
+        by false false (Some f) j = absurd (let no_fault : false ≡ true = ap is_fault j in cc)
+        by false false None j = (λ n. page_fits (outline_of s) None (sym (held_same e h) n) (sym to.page_is n) makes)
+            ∙ word_lacks e.uid (r.offset / 1024) makes (word_of s.store.ast e.uid (r.offset / 1024))
+            (held_active s c keeps entitled cmd sp r is e h) refl to.makes_is j
+
+    -- a fault where all is there that the reference wants
+    lacking : act.move_of s (cpu_at s.processors c) k r ≡ move.Fault
+        → (is_connected (descriptor_of s.store.links k r.number) && page_fits (outline_of s) None u p makes) ≡ false
+    unfolding is_fault
+    lacking h = by (seg_of (cpu_at s.processors c).assoc r.number) refl h
+      where
+        and_false : (b : Bool) → (b && false) ≡ false
+        and_false true = refl
+        and_false false = refl
+
+        seg : (w : Sdw) → descriptor_of s.store.links k r.number ≡ w
+            → is_fault (by_descriptor w) ≡ true
+            → (is_connected (descriptor_of s.store.links k r.number) && page_fits (outline_of s) None u p makes)
+            ≡ false
+        seg sdw.Fault e i = ap (λ (x : Sdw). is_connected x && page_fits (outline_of s) None u p makes) e
+        seg (sdw.Present aste mode pages) e i = absurd (let no_fault : false ≡ true = i in cc)
+
+        by : (o : Option HeldSeg) → seg_of (cpu_at s.processors c).assoc r.number ≡ o
+            → by_seg (cpu_at s.processors c).assoc (sdws_at s.store.links.descriptors k) (word_of s.store.ast) r o
+            ≡ move.Fault
+            → (is_connected (descriptor_of s.store.links k r.number) && page_fits (outline_of s) None u p makes)
+            ≡ false
+        by None e i = seg (descriptor_of s.store.links k r.number) refl (ap is_fault i)
+        by (Some x) e i = ap (λ (b : Bool). is_connected (descriptor_of s.store.links k r.number) && b)
+            (held_lacks x e i) ∙ and_false (is_connected (descriptor_of s.store.links k r.number))
+
+  -- ---- a reference that faults
+
+  want_is : want_at (outline_of s) c ≡ want_of_reference (around s) k r
+  want_is = want_here s c k sp.its ∙ (ap (want_of (around s) k) sp.next ∙ ap (want_by (around s) k cmd) is)
+
+  linked_is : (runner_at (outline_of s).runners c).linked ≡ is_connected (descriptor_of s.store.links k r.number)
+  linked_is = linked_here s c k sp.its ∙ (ap (λ (x : Option Command). is_linked (around s) k (reference_in x)) sp.next
+      ∙ ap (is_linked (around s) k) is)
+
+  reading_none : (runner_at (outline_of s).runners c).reading ≡ None
+  reading_none = ap (λ (x : Runner). x.reading) (at_outline s c)
+      ∙ (seen_reading (around s) (processor_at s.processors c) ∙ rest)
+
+  reference_enters : act.move_of s (cpu_at s.processors c) k r ≡ move.Fault → MayEnter s c
+  unfolding is_refer
+  reference_enters h = by (want_of_reference (around s) k r) refl
+    where
+      by : (w : Want) → want_of_reference (around s) k r ≡ w → MayEnter s c
+      by (Refer chain u p makes) e = inl (
+        record { chain = chain; uid = u; page = p; makes = makes; want = want_is ∙ e },
+        (λ i. want_lack (outline_of s) ((want_is ∙ e) i) (linked_is i) (reading_none i))
+            ∙ ap (λ (b : Bool). cond {A = ℕ} b 0 1) (lacking chain u p makes
+            (refers s k r chain u p makes e) h),
+      )
+      by (Truncate chain u cut) e = inr (λ xs v q b i. (let off : false ≡ true = ap is_refer (sym (want_is ∙ e) ∙ i) in cc))
+      by (Length u) e = inr (λ xs v q b i. (let off : false ≡ true = ap is_refer (sym (want_is ∙ e) ∙ i) in cc))
+      by Other e = inr (λ xs v q b i. (let off : false ≡ true = ap is_refer (sym (want_is ∙ e) ∙ i) in cc))
+
+module _ (s : State) (c : ℕ) (m : IsMachine s) (entitled : IsEntitledToAll s) (there : c < length s.processors) where
+  -- a processor without a process wants nothing
+  nothing_wanted : (cpu_at s.processors c).process ≡ None → want_at (outline_of s) c ≡ Other
+  nothing_wanted none = ap (λ (x : Runner). x.want) (at_outline s c)
+      ∙ ap (λ (o : Option ℕ). (runner_by (around s) (processor_at s.processors c) o).want) none
+
+  pub may_enter : s.owner ≡ None → (cpu_at s.processors c).transfer ≡ None
+      → act.come_to s (cpu_at s.processors c) (process_at s c) (next_command s (process_at s c)) ≡ act.TakeSupervisor
+      → MayEnter s c
+  unfolding is_refer
+  may_enter none rest takes = by (cpu_at s.processors c).process refl
+    where
+      command_enters : (cmd : Command) → Speaks s c (process_at s c) cmd → (x : Option Reference)
+          → reference_of cmd ≡ x → act.refer_or_take s (cpu_at s.processors c) (process_at s c) x ≡ act.TakeSupervisor
+          → MayEnter s c
+      command_enters cmd sp None is h = inr (λ xs v q b i. tree_wants s.store.accounts.nodes cmd xs v q b
+          (sym (want_here s c (process_at s c) sp.its ∙ (ap (want_of (around s) (process_at s c)) sp.next
+          ∙ ap (want_by (around s) (process_at s c) cmd) is)) ∙ i))
+      command_enters cmd sp (Some r) is h = reference_enters s c m entitled none rest cmd sp r is
+          (take_faults s.owner r (act.move_of s (cpu_at s.processors c) (process_at s c) r) h)
+
+      its : (k : ℕ) → (cpu_at s.processors c).process ≡ Some k
+          → (cpu_at s.processors c).process ≡ Some (process_at s c)
+      its k e = e ∙ ap (λ (x : Option ℕ). Some (or_zero x)) (sym e)
+
+      by : (x : Option ℕ) → (cpu_at s.processors c).process ≡ x → MayEnter s c
+      by None e = inr (λ xs v q b i. (let off : false ≡ true = ap is_refer (sym (nothing_wanted e) ∙ i) in cc))
+      by (Some k) e = let one = speaks s c (process_at s c) m there (its k e) in
+          command_enters one.0 one.1 (reference_of one.0) refl
+          (ap (act.come_to s (cpu_at s.processors c) (process_at s c)) (sym one.1.next) ∙ takes)
+
+  -- a transfer that fails is for a command that isn't the end of its process
+  pub may_lose : IsReading s → is_some (cpu_at s.processors c).transfer ≡ true → MayLose s c
+  may_lose reading h = by (cpu_at s.processors c).transfer refl h
+    where
+      by : (x : Option Transfer) → (cpu_at s.processors c).transfer ≡ x → is_some x ≡ true → MayLose s c
+      by None e i = absurd (let none : false ≡ true = i in cc)
+      by (Some t) e i = record {
+        process = may.process;
+        command = may.command;
+        can = may.can;
+        placed = record {
+          here = may.can.process;
+          only = λ d other is. other (m.scheduled.alone d c may.process is may.can.process);
+        };
+        more = fails_more s may.process (flat_of s) m.keeps.faithful may.command
+            (subst (MayFailBy s.store may.process) may.can.on.next
+            (subst (λ (j : ℕ). MayFailBy s.store j (next_command s j)) (ap or_zero may.can.process) reads.may));
+      }
+        where
+          reads : ReadsFor s c
+          reads = reads_for s c t m.keeps reading e
+
+          may : MayAnswer s c
+          may = may_answer s c (process_at s c) m there reads.its

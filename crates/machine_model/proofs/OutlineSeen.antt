@@ -1,0 +1,326 @@
+-- The outline of a machine that keeps its promise is kept: its sizes, and whoever is waited for is there.
+use Rattle.std.proofs.Common.{◌≡◌, ◌≢◌, ◌<◌, ◌≤◌, ℕ, ◌+◌, zero, suc, Bool, true, false, ◌||◌, eqb, length, List, [], ◌∷◌, sum, map}
+use Rattle.std.proofs.Common.{get_or, Contains, Option, Some, None, Result, Ok, Err, is_some, ◌⊎◌, inl, inr, refl, sym, ap}
+use Rattle.std.proofs.Common.{subst, ◌∙◌, arith, cond, not, nat_le, ◌*◌}
+use Rattle.std.specs.List.{IsDistinct, AllByRecursion, list_any}
+use Rattle.std.proofs.lemmas.Bool.Decides.{eqb_tells}
+use Rattle.std.proofs.lemmas.Map.Steps.{length-le_from_distinct_below}
+use Rattle.script.specs.Forms.{ArePools}
+use Rattle.script.specs.References.{permits, reference_of}
+use Rattle.script.specs.declared.commands.Command.{Command}
+use Rattle.script.specs.declared.commands.Command.TheVariants as command
+use Rattle.script.specs.declared.commands.Reference.{Reference}
+use Rattle.book.specs.declared.replies.Reply.{Reply}
+use Rattle.assoc_mem.specs.declared.What.{What}
+use Rattle.mnames.specs.declared.principals.Who.{Who}
+use Rattle.tree_model.specs.Access.{access_of}
+use Rattle.tree_model.specs.Tree.{Node, node_in}
+use Rattle.tree_model.specs.Trees.{IsTree}
+use Rattle.known_segs.specs.Known.{uid_of}
+use Rattle.seg_control.specs.Control.{kst_at}
+use Rattle.flat_model.specs.Branches.{segment_at}
+use Rattle.storage_ops.specs.Shown.{who_at}
+use Rattle.core_map.specs.CoreMap.{started_page}
+use Rattle.core_map.specs.declared.Frame.{Frame}
+use Rattle.core_map.specs.declared.Frame.TheVariants as frame
+use Rattle.custody_model.specs.Custody.{has}
+use Rattle.processor.specs.declared.Transfer.{Transfer}
+use Rattle.page_control.specs.Plain.{frame_in as store_frame}
+use Rattle.machine_model.specs.Custodial.{AreDistinct, waits_for}
+use Rattle.machine_model.specs.Finishing.{IsIn}
+use Rattle.machine_model.specs.Fitting.{IsFitting}
+use Rattle.machine_model.specs.Holding.{seen}
+use Rattle.machine_model.specs.Keeps.{Keeps}
+use Rattle.machine_model.specs.Keeps.{IsAtWork as AtWork}
+use Rattle.machine_model.specs.Measures.{chain_of, dues}
+use Rattle.machine_model.specs.Outline.{Keeper, Want, Refer, Truncate, Length, Other, Runner, Stage, Look, no_runner, runner_at}
+use Rattle.machine_model.specs.Outline.{frame_in, want_at}
+use Rattle.machine_model.specs.Outlined.{Around, around, bare, keeper_of, outline_of, runner_by, stage_of, want_by, want_in}
+use Rattle.machine_model.specs.Outlined.{want_known, want_lengthened, want_of, want_of_command, want_truncated}
+use Rattle.machine_model.specs.OutlineKept.{AreTied, EndsChain, FitsStage, HasJob, HasSizes, IsAtWork, IsKept}
+use Rattle.machine_model.specs.Promise.{IsMachine}
+use Rattle.machine_model.specs.Reading.{IsReading}
+use Rattle.machine_model.specs.Reads.{cpu_at, next_command, no_processor, processor_at}
+use Rattle.machine_model.specs.State.{Owner, State}
+use Rattle.machine_model.specs.declared.Processor.{Processor}
+use Rattle.machine_model.proofs.FrameSeen.{frame_outlined}
+use Rattle.machine_model.proofs.ListLaws.{map_list, within_by}
+use Rattle.machine_model.proofs.LookSeen.{long_frames}
+use Rattle.machine_model.proofs.OutlineOwner.{count_zero}
+use Rattle.machine_model.proofs.OutlineReads.{at_outline, long_outline, seen_due, seen_online, seen_reading, seen_running}
+use Rattle.machine_model.proofs.TieLaws.{none_some, page_is}
+use Rattle.machine_model.proofs.VictimLaws.{chain_ends, chain_few}
+
+no_and : {b : Bool} → b ≡ true → b ≡ false → ⊥
+no_and t f = let none : true ≡ false = sym t ∙ f in cc
+
+-- ---- sizes
+
+sum_four : (a b c d : ℕ) → sum (a ∷ b ∷ c ∷ d ∷ []) ≡ a + b + c + d
+sum_four a b c d = omega arith
+
+places_few : (pools : List ℕ) → ArePools pools → sum pools ≤ 1024
+places_few [] h = absurd h
+places_few (a ∷ []) h = absurd h
+places_few (a ∷ b ∷ []) h = absurd h
+places_few (a ∷ b ∷ c ∷ []) h = absurd h
+places_few (a ∷ b ∷ c ∷ d ∷ []) h = let few : a + b + c + d ≤ 1024 = h.4 in let all = sum_four a b c d in omega (arith, few, all)
+places_few (a ∷ b ∷ c ∷ d ∷ e ∷ rest) h = absurd h
+
+distinct_of : (xs : List ℕ) → AreDistinct xs → IsDistinct eqb xs
+unfolding IsDistinct
+distinct_of [] h = tt
+distinct_of (x ∷ xs) h = (apart xs h.0, distinct_of xs h.1)
+  where
+    apart : (ys : List ℕ) → has ys x ≡ false → AllByRecursion (λ y. eqb x y ≡ false) ys
+    apart [] i = tt
+    apart (y ∷ ys) i = elim (eqb_tells y x) [
+      | inl e ↦ absurd (no_and (ap (λ (b : Bool). b || has ys x) e.0) i)
+      | inr n ↦ (
+          elim (eqb_tells x y) [ inl e ↦ absurd (n.1 (sym e.1)) | inr o ↦ o.0 ],
+          apart ys (sym (ap (λ (b : Bool). b || has ys x) n.0) ∙ i),
+        )
+    ]
+
+any_turned : (xs : List ℕ) (q : ℕ) → list_any (eqb q) xs ≡ true → has xs q ≡ true
+any_turned [] q h = h
+any_turned (x ∷ xs) q h = elim (eqb_tells q x) [
+  | inl e ↦ elim (eqb_tells x q) [
+    | inl i ↦ ap (λ (b : Bool). b || has xs q) i.0
+    | inr n ↦ absurd (n.1 (sym e.1))
+  ]
+  | inr n ↦ or_last (eqb x q) (any_turned xs q (sym (ap (λ (b : Bool). b || list_any (eqb q) xs) n.0) ∙ h))
+]
+  where
+    or_last : (a : Bool) → has xs q ≡ true → (a || has xs q) ≡ true
+    or_last true i = refl
+    or_last false i = i
+
+-- a want of a tree
+record IsShort (w : Want) : Type 0 where
+  few : length (chain_of w) ≤ 10
+  ends : EndsChain w
+
+module _ (nodes : List Node) (t : IsTree nodes) where
+  none_short : IsShort Other
+  none_short = record { few = omega arith; ends = tt }
+
+  known_short : (who : Who) (r : Reference) (x : Option ℕ) → IsShort (want_known nodes who r x)
+  known_short who r None = none_short
+  known_short who r (Some u) = by (node_in nodes u)
+    where
+      by : (y : Option Node) → IsShort (want_in nodes who r y)
+      by None = none_short
+      by (Some n) = test (not (permits (access_of who n.rows) r.kind)) (nat_le (1024 * n.pages) r.offset)
+          (Refer _ n.uid _ _) (record { few = chain_few nodes t n.uid; ends = chain_ends nodes t n.uid })
+        where
+          test : (a b : Bool) (w : Want) → IsShort w → IsShort (cond a Other (cond b Other w))
+          test true b w h = none_short
+          test false true w h = none_short
+          test false false w h = h
+
+  command_short : (c : Command) → IsShort (want_of_command nodes c)
+  command_short (command.Truncate path words) = by (segment_at nodes path)
+    where
+      by : (x : Result Node Reply) → IsShort (want_truncated nodes words x)
+      by (Err e) = none_short
+      by (Ok n) = record { few = chain_few nodes t n.uid; ends = chain_ends nodes t n.uid }
+  command_short (command.Length path pages) = by (segment_at nodes path)
+    where
+      by : (x : Result Node Reply) → IsShort (want_lengthened x)
+      by (Err e) = none_short
+      by (Ok n) = record { few = omega arith; ends = tt }
+  command_short (command.MkDir path volume) = none_short
+  command_short (command.MkSeg path pages volume) = none_short
+  command_short (command.Delete path) = none_short
+  command_short (command.Acl path row m) = none_short
+  command_short (command.Initiate path) = none_short
+  command_short (command.Terminate n) = none_short
+  command_short (command.Move path amount) = none_short
+  command_short (command.Status path) = none_short
+  command_short (command.Read n w) = none_short
+  command_short (command.Write n w x) = none_short
+  command_short (command.Add n w x) = none_short
+  command_short (command.Await n w x n2) = none_short
+  command_short command.End = none_short
+
+module _ (s : State) (m : IsMachine s) where
+  abbrev keeps : Keeps s
+  keeps = m.keeps
+
+  want_short : (k : ℕ) (x : Option Command) → IsShort (want_of (around s) k x)
+  want_short k None = none_short s.store.accounts.nodes keeps.store.accounts.tree
+  want_short k (Some c) = by (reference_of c)
+    where
+      by : (r : Option Reference) → IsShort (want_by (around s) k c r)
+      by None = command_short s.store.accounts.nodes keeps.store.accounts.tree c
+      by (Some r) = known_short s.store.accounts.nodes keeps.store.accounts.tree (who_at s.store.whos k) r
+          (uid_of (kst_at s.store.links.known k) r.number)
+
+  short_at : (c : ℕ) → IsShort (want_at (outline_of s) c)
+  short_at c = subst (λ (x : Runner). IsShort x.want) (sym (at_outline s c)) (by (cpu_at s.processors c).process)
+    where
+      by : (o : Option ℕ) → IsShort (runner_by (around s) (processor_at s.processors c) o).want
+      by None = none_short s.store.accounts.nodes keeps.store.accounts.tree
+      by (Some k) = want_short k (next_command s k)
+
+  ready_few : length s.ready ≤ 32
+  ready_few = let few = length-le_from_distinct_below s.ready (length s.plan.processes)
+      (distinct_of s.ready m.scheduled.once)
+      (λ q h. (m.scheduled.waiting q (any_turned s.ready q h)).planned) in let most = m.script.processes in
+      omega (arith, few, most)
+
+  pub sizes_seen : HasSizes (outline_of s)
+  unfolding outline_of
+  sizes_seen = record {
+    few_runners = let long = long_outline s in let same = keeps.sizes.processors in
+        let few = m.script.processors.1 in omega (arith, long, same, few);
+    some_runner = let long = long_outline s in let same = keeps.sizes.processors in
+        let some = m.script.processors.0 in omega (arith, long, same, some);
+    few_entries = let places = keeps.store.places in let same = ap (λ (xs : List ℕ). sum xs) m.pools in
+        let few = places_few s.plan.pools m.script.pools in omega (arith, places, same, few);
+    few_ready = ready_few;
+    few_links = λ c. (short_at c).few;
+    chains = λ c. (short_at c).ends;
+  }
+
+-- ---- processors and frames
+
+started_tells : (x : Frame) (u p : ℕ) → bare x ≡ frame.Started u p → started_page x ≡ Some (u, p)
+started_tells frame.Free u p h = absurd (let off : None ≡ Some (u, p) = ap started_page h in none_some off)
+started_tells (frame.Started v q) u p h = ap started_page h
+started_tells (frame.Bound v q used modified) u p h =
+    absurd (let off : None ≡ Some (u, p) = ap started_page h in none_some off)
+
+page_started : (x : Frame) (u p : ℕ) → started_page x ≡ Some (u, p) → bare x ≡ frame.Started u p
+page_started frame.Free u p h = absurd (none_some h)
+page_started (frame.Started v q) u p h = let both = page_is v q u p h in λ i. frame.Started (both.0 i) (both.1 i)
+page_started (frame.Bound v q used modified) u p h = absurd (none_some h)
+
+module _ (s : State) (k : Keeps s) where
+  abbrev runner : ℕ → Runner
+  runner c = runner_at (outline_of s).runners c
+
+  reading_is : (c : ℕ) → (runner c).reading ≡ (cpu_at s.processors c).transfer
+  reading_is c = ap (λ (x : Runner). x.reading) (at_outline s c)
+      ∙ seen_reading (around s) (processor_at s.processors c)
+
+  running_is : (c : ℕ) → (runner c).running ≡ is_some (cpu_at s.processors c).process
+  running_is c = ap (λ (x : Runner). x.running) (at_outline s c)
+      ∙ seen_running (around s) (processor_at s.processors c)
+
+  online_is : (c : ℕ) → (runner c).online ≡ (cpu_at s.processors c).online
+  online_is c = ap (λ (x : Runner). x.online) (at_outline s c) ∙ seen_online (around s) (processor_at s.processors c)
+
+  due_is : (c : ℕ) → (runner c).due ≡ is_some (cpu_at s.processors c).due
+  due_is c = ap (λ (x : Runner). x.due) (at_outline s c) ∙ seen_due (around s) (processor_at s.processors c)
+
+  reads_is : (f : ℕ) → (seen s).reads f ≡ started_page (store_frame s.store.pages f)
+  reads_is f = map_list started_page s.store.pages.core.frames f frame.Free
+
+  there_by : (c : ℕ) (t : Transfer) → (cpu_at s.processors c).transfer ≡ Some t → c < length s.processors
+  there_by c t h = within_by s.processors c no_processor (λ e. none_some
+      (sym (ap (λ (p : Processor). p.cpu.transfer) e) ∙ h))
+
+  has_process_by : (o : Option ℕ) → is_some o ≡ true → (j : ℕ) × (o ≡ Some j)
+  has_process_by None h = absurd (let none : false ≡ true = h in cc)
+  has_process_by (Some j) h = (j, refl)
+
+  pub tied_seen : IsMachine s → IsReading s → AreTied (outline_of s).runners (outline_of s).frames
+  tied_seen m reading = record {
+    runners_online = λ c h. (let its = has_process_by (cpu_at s.processors c).process (sym (running_is c) ∙ h) in
+        online_is c ∙ m.scheduled.online c its.0 its.1);
+    readers_run = λ c r h. running_is c ∙ ap (λ (x : Option ℕ). is_some x)
+        (reading.each c r (sym (reading_is c) ∙ h)).its;
+    started = λ f u p h. (let at = k.book.under_way.reader f u p (reads_is f
+        ∙ started_tells (store_frame s.store.pages f) u p (sym (frame_outlined s f) ∙ h)) in (
+          at.0,
+          subst (λ (n : ℕ). at.0 < n) (sym (long_outline s)) (there_by at.0 _ at.1),
+          reading_is at.0 ∙ at.1,
+        ));
+    read = λ d r h. (let at = k.book.under_way.reading d r (sym (reading_is d) ∙ h) in
+        let is = frame_outlined s r.frame
+        ∙ page_started (store_frame s.store.pages r.frame) r.uid r.page (sym (reads_is r.frame) ∙ at) in (
+          is,
+          within_by (outline_of s).frames r.frame frame.Free (λ e.
+              none_some (let off : None ≡ Some (r.uid, r.page) = ap started_page (sym e ∙ is) in off)),
+        ));
+    one_reader = λ d e r q h i same. k.book.under_way.alone d e r q (sym (reading_is d) ∙ h) (sym (reading_is e) ∙ i)
+        same;
+  }
+
+  -- while nobody waits for a clear none is due
+  pub none_due : waits_for s.owner ≡ None → dues (outline_of s).runners ≡ 0
+  unfolding dues
+  none_due none = count_zero (λ (x : Runner). x.due) (outline_of s).runners no_runner
+      (λ c. due_is c ∙ by c (cpu_at s.processors c).due refl)
+    where
+      by : (c : ℕ) (x : Option What) → (cpu_at s.processors c).due ≡ x → is_some x ≡ false
+      by c None e = refl
+      by c (Some w) e = absurd (none_some (sym none ∙ k.book.going_owned.due c w e))
+
+-- ---- the job
+
+module _ (s : State) (c : ℕ) (stage : Stage) where
+  -- the owner of an outline is that of the machine
+  record IsSeenIn : Type 0 where
+    owner : Owner
+    mine : s.owner ≡ Some owner
+    cpu : owner.cpu ≡ c
+    stage_is : stage_of s.store.ast.entries owner.frames owner.phase ≡ stage
+
+  seen_in : IsIn (outline_of s) c stage → IsSeenIn
+  unfolding outline_of
+  seen_in h = by s.owner refl h
+    where
+      by : (o : Option Owner) → s.owner ≡ o → keeper_of s.store.ast.entries o
+          ≡ Some (record { cpu = c; stage = stage }) → IsSeenIn
+      by None e i = absurd (none_some i)
+      by (Some q) e i = record {
+        owner = q;
+        mine = e;
+        cpu = ap cpu_or i;
+        stage_is = ap stage_or i;
+      }
+        where
+          cpu_or : Option Keeper → ℕ
+          cpu_or None = 0
+          cpu_or (Some x) = x.cpu
+
+          stage_or : Option Keeper → Stage
+          stage_or None = Look
+          stage_or (Some x) = x.stage
+
+no_owner : (s : State) → (outline_of s).owner ≡ None → s.owner ≡ None
+unfolding outline_of
+no_owner s h = by s.owner h
+  where
+    by : (o : Option Owner) → keeper_of s.store.ast.entries o ≡ None → o ≡ None
+    by None i = refl
+    by (Some q) i = absurd (none_some (sym i))
+
+pub job_seen : (s : State) → IsMachine s → IsFitting s → HasJob (outline_of s)
+job_seen s m fitting = record {
+  at_work = λ c stage h. (let is = seen_in s c stage h in
+      let work = subst (λ (d : ℕ). AtWork (processor_at s.processors d)) is.cpu (m.keeps.at_work is.owner is.mine) in
+      record {
+        within = subst (λ (n : ℕ). c < n) (sym (long_outline s)) (within_by s.processors c no_processor
+            (λ e. (let off : false ≡ true = sym (ap (λ (p : Processor). p.cpu.online) e) ∙ work.online in cc)));
+        running = running_is s m.keeps c ∙ work.busy;
+        clear = due_is s m.keeps c ∙ ap (λ (x : Option What). is_some x) work.clear;
+        idle = reading_is s m.keeps c ∙ work.idle;
+      });
+  fits = λ c stage h. (let is = seen_in s c stage h in
+      subst (λ (d : ℕ). FitsStage (outline_of s) (want_at (outline_of s) d) stage) is.cpu
+      (subst (FitsStage (outline_of s) (want_at (outline_of s) is.owner.cpu)) is.stage_is
+      (fitting.fits is.owner is.mine)));
+  quiet = λ none. none_due s m.keeps (ap waits_for (no_owner s none));
+}
+
+-- the whole
+pub kept_seen : (s : State) → IsMachine s → IsReading s → IsFitting s → IsKept (outline_of s)
+kept_seen s m reading fitting = record {
+  sizes = sizes_seen s m;
+  tied = tied_seen s m.keeps m reading;
+  job = job_seen s m fitting;
+}
