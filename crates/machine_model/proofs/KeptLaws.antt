@@ -435,7 +435,8 @@ look_kept s c k sizes lt h none =
 -- Each step keeps what is true of an outline. That the sizes stay, and that what a command's effect leaves is kept, is
 -- the machine's to say.
 pub step_keeps : (s : Outline) (c : ℕ) (turn : Turn) (t : Outline) → IsKept s → c < length s.runners → HasSizes t
-    → (IsAnswered s c t → IsKept t) → (IsReplied s c t → IsKept t) → Step s c turn t → IsKept t
+    → (IsAnswered s c t → IsKept t) → (rule_of s c ≡ Commands → IsReplied s c t → IsKept t) → Step s c turn t
+    → IsKept t
 step_keeps s c turn t k lt sizes given told (ends ended) = k
 step_keeps s c turn t k lt sizes given told (comes h) =
     one_kept s (with_runner s c (record (runner_at s.runners c) { online = true })) c
@@ -478,7 +479,7 @@ step_keeps s c turn t k lt sizes given told (fills x h filled) =
     (λ d. filled.due ∙ d)
     (tied_same s.runners (set s.runners c x) s.frames
     (ties_set s.runners c x lt (λ d. filled.online ∙ d) filled.running filled.reading) k.tied)
-step_keeps s c turn t k lt sizes given told (replies _ h replied) = told replied
+step_keeps s c turn t k lt sizes given told (replies _ h replied) = told h replied
 step_keeps s c turn t k lt sizes given told (faults chain uid page makes h none want lacks) =
     look_kept s c k sizes lt h none
 step_keeps s c turn t k lt sizes given told (enters h none want) = look_kept s c k sizes lt h none

@@ -113,6 +113,7 @@ pub mod MachineKept
 pub mod MachineBoot
 pub mod CommandRests
 pub mod CommitAsks
+pub mod ForeseeAll
 pub mod ForeseeLaws
 pub mod CommitRests
 pub mod CommitRights

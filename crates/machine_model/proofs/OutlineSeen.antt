@@ -291,7 +291,7 @@ module _ (s : State) (c : ℕ) (stage : Stage) where
           stage_or None = Look
           stage_or (Some x) = x.stage
 
-no_owner : (s : State) → (outline_of s).owner ≡ None → s.owner ≡ None
+pub no_owner : (s : State) → (outline_of s).owner ≡ None → s.owner ≡ None
 unfolding outline_of
 no_owner s h = by s.owner h
   where

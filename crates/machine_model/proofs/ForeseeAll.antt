@@ -1,0 +1,58 @@
+-- A machine that keeps its promise finds what its actions ask of its outline.
+use Rattle.std.proofs.Common.{◌≡◌, ◌≢◌, ◌<◌, ℕ, length, suc, List, [], ◌∷◌, Option, Some, None, refl, sym, ap, subst, ◌∙◌, arith}
+use Rattle.assoc_mem.specs.declared.What.{What}
+use Rattle.custody_model.specs.Custody.{Custody}
+use Rattle.machine_model.specs.declared.Aim.TheVariants as aim
+use Rattle.machine_model.specs.declared.Phase.{Phase}
+use Rattle.machine_model.specs.declared.Phase.TheVariants as phase
+use Rattle.machine_model.specs.Actions as act
+use Rattle.machine_model.specs.Custodial.{FitsPhase, IsShaped}
+use Rattle.machine_model.specs.Entitled.{IsEntitledToAll}
+use Rattle.machine_model.specs.Fitting.{IsFitting}
+use Rattle.machine_model.specs.Foreseen.{Foresees, IsLook}
+use Rattle.machine_model.specs.Keeps.{Keeps}
+use Rattle.machine_model.specs.Promise.{IsMachine}
+use Rattle.machine_model.specs.Reading.{IsReading}
+use Rattle.machine_model.specs.Reads.{cpu_at, next_command, or_zero, process_at, processor_at}
+use Rattle.machine_model.specs.State.{Owner, State}
+use Rattle.machine_model.proofs.EnterSeen.{may_enter, may_lose}
+use Rattle.machine_model.proofs.ForeseeLaws.{has_answer, looks_empty, off_quiet}
+use Rattle.machine_model.proofs.LookSeen.{look_seen}
+use Rattle.machine_model.proofs.OutlineSeen.{kept_seen}
+use Rattle.machine_model.proofs.ReleaseSeen.{leaves_may}
+use Rattle.machine_model.proofs.SpeakLaws.{speaks}
+use Rattle.std.proofs.Common.{Bool, true, false, is_some}
+use Rattle.machine_model.specs.Keeps.{IsAtWork}
+
+some_of : (x : Option ℕ) → is_some x ≡ true → x ≡ Some (or_zero x)
+some_of None h = absurd (let none : false ≡ true = h in cc)
+some_of (Some n) h = refl
+
+module _ (s : State) (c : ℕ) (m : IsMachine s) (entitled : IsEntitledToAll s) (reading : IsReading s)
+    (fitting : IsFitting s) (there : c < length s.processors) where
+  -- an eviction has its frame
+  evicts : (o : Owner) (w : What) → s.owner ≡ Some o → o.phase ≡ phase.Waiting aim.Evicting w → o.frames ≢ []
+  evicts o w mine waits none = let shape : FitsPhase (phase.Waiting aim.Evicting w) o.frames o.cut =
+      subst (λ (x : Phase). FitsPhase x o.frames o.cut) waits
+      (subst IsShaped mine m.keeps.book.going_owned.shaped) in
+      let no_one : suc 0 ≡ 0 = sym (ap (λ (xs : List ℕ). length xs) shape.1) ∙ ap (λ (xs : List ℕ). length xs) none in
+      omega (arith, no_one)
+
+  looks : (o : Owner) → s.owner ≡ Some o → o.phase ≡ phase.Looking → o.cpu ≡ c
+      → IsLook s c (act.look_of s (process_at s c) (next_command s (process_at s c)))
+  looks o mine is same = let one = speaks s c (process_at s c) m there (some_of (cpu_at s.processors c).process
+      (subst (λ (d : ℕ). IsAtWork (processor_at s.processors d)) same (m.keeps.at_work o mine)).busy) in
+      look_seen s c m one.0 one.1 o mine is same
+
+  pub foresees : Foresees s c
+  foresees = record {
+    kept = kept_seen s m reading fitting;
+    quiet = off_quiet s m.keeps;
+    answers = has_answer s c m there;
+    loses = may_lose s c m entitled there reading;
+    looking = looks_empty s m.keeps;
+    evicts = evicts;
+    looks = looks;
+    leaves = leaves_may s m.keeps;
+    enters = may_enter s c m entitled there;
+  }
