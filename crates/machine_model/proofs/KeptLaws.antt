@@ -198,7 +198,7 @@ spared_started_set frames w (g ∷ gs) f x lt started h = (
 
 -- ---- stages
 
-fits_alike : (s t : Outline) (w v : Want) (work : Work) → v ≡ w → t.frames ≡ s.frames → t.entries ≡ s.entries
+pub fits_alike : (s t : Outline) (w v : Want) (work : Work) → v ≡ w → t.frames ≡ s.frames → t.entries ≡ s.entries
     → FitsWork s w work → FitsWork t v work
 fits_alike s t w v (EvictFrame f) want frames entries h = rw (want, frames) h
 fits_alike s t w v (EmptyPlace place rest) want frames entries h = rw (want, frames, entries) h

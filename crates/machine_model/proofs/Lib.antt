@@ -33,6 +33,7 @@ pub mod FailedRead
 pub mod FailedShutdown
 pub mod FindLaws
 pub mod FinishKept
+pub mod FitsKept
 pub mod FlatAlike
 pub mod FirstSteps
 pub mod FrameLaws

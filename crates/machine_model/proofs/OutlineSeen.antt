@@ -201,7 +201,7 @@ module _ (s : State) (k : Keeps s) where
   abbrev runner : ℕ → Runner
   runner c = runner_at (outline_of s).runners c
 
-  reading_is : (c : ℕ) → (runner c).reading ≡ (cpu_at s.processors c).transfer
+  pub reading_is : (c : ℕ) → (runner c).reading ≡ (cpu_at s.processors c).transfer
   reading_is c = ap (λ (x : Runner). x.reading) (at_outline s c)
       ∙ seen_reading (around s) (processor_at s.processors c)
 

@@ -1,0 +1,177 @@
+-- What a job has taken isn't what its command wants, after each step.
+use Rattle.std.proofs.Common.{◌≡◌, ◌≢◌, ◌<◌, ◌≤◌, ℕ, zero, suc, Bool, true, false, not, ◌&&◌, cond, eqb, is_some, length}
+use Rattle.std.proofs.Common.{List, [], ◌∷◌, get_or, map, set, Option, Some, None, ◌⊎◌, inl, inr, refl, sym, ap, subst, ◌∙◌}
+use Rattle.std.proofs.lemmas.Bool.Decides.{eqb_tells}
+use Rattle.std.proofs.lemmas.List.{get_or-set_other}
+use Rattle.mnames.specs.declared.principals.Who.{Who}
+use Rattle.script.specs.Plans.{command_at}
+use Rattle.script.specs.References.{alters, reference_of}
+use Rattle.script.specs.declared.commands.Command.{Command}
+use Rattle.script.specs.declared.commands.Reference.{Reference}
+use Rattle.script.specs.declared.commands.RefKind.{RefKind}
+use Rattle.book.specs.declared.replies.Reply.{Reply}
+use Rattle.assoc_mem.specs.declared.What.{What}
+use Rattle.tree_model.specs.Tree.{Node, node_in}
+use Rattle.known_segs.specs.Known.{uid_of}
+use Rattle.seg_control.specs.Control.{kst_at}
+use Rattle.storage_ops.specs.Shown.{who_at}
+use Rattle.core_map.specs.CoreMap.{after_reference}
+use Rattle.core_map.specs.declared.Frame.{Frame}
+use Rattle.core_map.specs.declared.Frame.TheVariants as frame
+use Rattle.active_segs.specs.declared.Entry.{Entry as Segment}
+use Rattle.page_control.specs.Plain.{Plain}
+use Rattle.processor.specs.declared.Move.{Move}
+use Rattle.processor.specs.declared.Move.TheVariants as move
+use Rattle.processor.specs.declared.Transfer.{Transfer}
+use Rattle.machine_model.specs.declared.Aim.{Aim}
+use Rattle.machine_model.specs.declared.Aim.TheVariants as aim
+use Rattle.machine_model.specs.declared.Phase.{Phase}
+use Rattle.machine_model.specs.declared.Phase.TheVariants as phase
+use Rattle.machine_model.specs.declared.Processor.{Processor}
+use Rattle.machine_model.specs.declared.Run.{Run}
+use Rattle.machine_model.specs.Actions as act
+use Rattle.machine_model.specs.Actions.{action_of, is_over}
+use Rattle.machine_model.specs.After.{Outcome, after}
+use Rattle.machine_model.specs.Custodial.{waits_for, waits_in}
+use Rattle.machine_model.specs.Finishing.{Commands, IsReplied, Works, owns, rule_of}
+use Rattle.machine_model.specs.Fitting.{IsFitting}
+use Rattle.machine_model.specs.Keeps.{Keeps}
+use Rattle.machine_model.specs.Measures.{chain_of}
+use Rattle.machine_model.specs.Outline.{Other, Outline, Runner, Stage, Want, runner_at, want_at}
+use Rattle.machine_model.specs.Outlined.{Around, around, bare, outline_of, runner_by, stage_of, want_by, want_known, want_of}
+use Rattle.machine_model.specs.Outlined.{want_of_command, work_of}
+use Rattle.machine_model.specs.OutlineKept.{AreSpared, FitsStage, FitsWork}
+use Rattle.machine_model.specs.Promise.{IsMachine}
+use Rattle.machine_model.specs.Reads.{cpu_at, next_command, no_processor, no_run, process_at, processor_at, run_at}
+use Rattle.machine_model.specs.State.{Owner, State, Storage}
+use Rattle.machine_model.specs.Steps.{old_word, pages_after}
+use Rattle.page_control.specs.Effects.{referred, word_put}
+use Rattle.script.specs.References.{new_word}
+use Rattle.std.specs.Prelude.{◌%◌}
+use Rattle.machine_model.proofs.KeepLaws.{IsNoOwner}
+use Rattle.machine_model.proofs.KeptLaws.{fits_alike, step_keeps}
+use Rattle.machine_model.proofs.ListLaws.{map_list}
+use Rattle.machine_model.proofs.OutlineReads.{at_outline, is_owner, seen_owns, set_map}
+use Rattle.machine_model.proofs.OutlineSeen.{none_due, reading_is}
+use Rattle.machine_model.proofs.RuleLaws.{tells}
+use Rattle.machine_model.proofs.TieLaws.{none_some}
+use Rattle.machine_model.proofs.WantLaws.{want_here}
+
+no_and : {b : Bool} → b ≡ true → b ≡ false → ⊥
+no_and t f = let none : true ≡ false = sym t ∙ f in cc
+
+-- ---- what stays
+
+abbrev pub entries_of : State → List (Option Segment)
+entries_of s = s.store.ast.entries
+
+-- the frames and the active segments of an outline, and what a processor wants, are as before
+pub record StaysFor (s now : State) (d : ℕ) : Type 0 where
+  pub frames : (outline_of now).frames ≡ (outline_of s).frames
+  pub entries : entries_of now ≡ entries_of s
+  pub want : want_at (outline_of now) d ≡ want_at (outline_of s) d
+
+outline_entries : (s now : State) → entries_of now ≡ entries_of s → (outline_of now).entries ≡ (outline_of s).entries
+unfolding outline_of
+outline_entries s now same = same
+
+work_stays : (s now : State) (d : ℕ) (fs : List ℕ) (a : Aim) → StaysFor s now d
+    → FitsWork (outline_of s) (want_at (outline_of s) d) (work_of (entries_of s) fs a)
+    → FitsWork (outline_of now) (want_at (outline_of now) d) (work_of (entries_of now) fs a)
+work_stays s now d fs a stays h = subst (λ (es : List (Option Segment)). FitsWork (outline_of now)
+    (want_at (outline_of now) d) (work_of es fs a)) (sym stays.entries)
+    (fits_alike (outline_of s) (outline_of now) (want_at (outline_of s) d) (want_at (outline_of now) d)
+    (work_of (entries_of s) fs a) stays.want stays.frames (outline_entries s now stays.entries) h)
+
+-- an owner whose work stays goes on
+pub fits_on : (s now : State) → Keeps now → IsFitting s → now.owner ≡ s.owner
+    → ((q : Owner) → s.owner ≡ Some q → StaysFor s now q.cpu) → IsFitting now
+fits_on s now kept fitting owner stays = record { fits = λ q h. by q h q.phase refl }
+  where
+    by : (q : Owner) → now.owner ≡ Some q → (x : Phase) → q.phase ≡ x
+        → FitsStage (outline_of now) (want_at (outline_of now) q.cpu) (stage_of (entries_of now) q.frames q.phase)
+    by q h phase.Looking e = subst (λ (x : Phase). FitsStage (outline_of now) (want_at (outline_of now) q.cpu)
+        (stage_of (entries_of now) q.frames x)) (sym e)
+        (none_due now kept (ap waits_for h ∙ ap waits_in e))
+    by q h (phase.Taken a w) e = subst (λ (x : Phase). FitsStage (outline_of now) (want_at (outline_of now) q.cpu)
+        (stage_of (entries_of now) q.frames x)) (sym e)
+        (work_stays s now q.cpu q.frames a (stays q (sym owner ∙ h))
+        (subst (λ (x : Phase). FitsStage (outline_of s) (want_at (outline_of s) q.cpu)
+        (stage_of (entries_of s) q.frames x)) e (fitting.fits q (sym owner ∙ h))))
+    by q h (phase.Waiting a w) e = subst (λ (x : Phase). FitsStage (outline_of now) (want_at (outline_of now) q.cpu)
+        (stage_of (entries_of now) q.frames x)) (sym e)
+        (work_stays s now q.cpu q.frames a (stays q (sym owner ∙ h))
+        (subst (λ (x : Phase). FitsStage (outline_of s) (want_at (outline_of s) q.cpu)
+        (stage_of (entries_of s) q.frames x)) e (fitting.fits q (sym owner ∙ h))))
+
+pub none_fits : (now : State) → now.owner ≡ None → IsFitting now
+none_fits now none = record { fits = λ q h. absurd (none_some (sym none ∙ h)) }
+
+-- ---- what a process wants
+
+-- the tree, the principals and the numbers are as before
+record SameAround (s now : State) : Type 0 where
+  nodes : now.store.accounts.nodes ≡ s.store.accounts.nodes
+  whos : now.store.whos ≡ s.store.whos
+  known : now.store.links.known ≡ s.store.links.known
+
+module _ (s now : State) (same : SameAround s now) where
+  want_same : (k : ℕ) (x : Option Command) → want_of (around now) k x ≡ want_of (around s) k x
+  want_same k None = refl
+  want_same k (Some c) = by (reference_of c)
+    where
+      by : (r : Option Reference) → want_by (around now) k c r ≡ want_by (around s) k c r
+      by None = ap (λ (ns : List Node). want_of_command ns c) same.nodes
+      by (Some r) = λ i. want_known (same.nodes i) (who_at (same.whos i) k) r
+          (uid_of (kst_at (same.known i) k) r.number)
+
+  -- a processor that stays, and whose process comes to the same command, wants the same
+  want_stays : (d : ℕ) → (cpu_at now.processors d).process ≡ (cpu_at s.processors d).process
+      → ((k : ℕ) → (cpu_at s.processors d).process ≡ Some k → next_command now k ≡ next_command s k)
+      → want_at (outline_of now) d ≡ want_at (outline_of s) d
+  want_stays d process next = by (cpu_at s.processors d).process refl
+    where
+      nothing : (u : State) → (cpu_at u.processors d).process ≡ None → want_at (outline_of u) d ≡ Other
+      nothing u none = ap (λ (x : Runner). x.want) (at_outline u d)
+          ∙ ap (λ (o : Option ℕ). (runner_by (around u) (processor_at u.processors d) o).want) none
+
+      by : (x : Option ℕ) → (cpu_at s.processors d).process ≡ x → want_at (outline_of now) d ≡ want_at (outline_of s) d
+      by None e = nothing now (process ∙ e) ∙ sym (nothing s e)
+      by (Some k) e = want_here now d k (process ∙ e) ∙ (want_same k (next_command now k)
+          ∙ (ap (want_of (around s) k) (next k e) ∙ sym (want_here s d k e)))
+
+-- ---- another processor than the owner's
+
+bare_after : (x : Frame) (b : Bool) → bare (after_reference x b) ≡ bare x
+bare_after frame.Free b = refl
+bare_after (frame.Started u p) b = refl
+bare_after (frame.Bound u p used modified) b = refl
+
+set_same : {A : Type 0} (xs : List A) (i : ℕ) (d : A) → set xs i (get_or xs i d) ≡ xs
+set_same [] i d = refl
+set_same (x ∷ xs) zero d = refl
+set_same (x ∷ xs) (suc i) d = ap (λ (ys : List _). x ∷ ys) (set_same xs i d)
+
+bare_frames : (fs : List Frame) (f : ℕ) (b : Bool) → map bare (set fs f (after_reference (get_or fs f frame.Free) b))
+    ≡ map bare fs
+bare_frames fs f b = set_map bare fs f (after_reference (get_or fs f frame.Free) b)
+    ∙ (ap (λ (y : Frame). set (map bare fs) f y) (bare_after (get_or fs f frame.Free) b ∙ sym (bare_at fs f))
+    ∙ set_same (map bare fs) f frame.Free)
+  where
+    bare_at : (xs : List Frame) (i : ℕ) → get_or (map bare xs) i frame.Free ≡ bare (get_or xs i frame.Free)
+    bare_at xs i = map_list bare xs i frame.Free
+
+pages_frames : (s : State) (f : ℕ) (r : Reference)
+    → map bare (pages_after s.store.pages f r).core.frames ≡ map bare s.store.pages.core.frames
+pages_frames s f r = by (alters r.kind)
+  where
+    by : (b : Bool) → map bare (cond b (word_put s.store.pages f (r.offset % 1024)
+        (new_word (old_word s.store.pages f r) r.kind)) (referred s.store.pages f false)).core.frames
+        ≡ map bare s.store.pages.core.frames
+    by true = bare_frames s.store.pages.core.frames f true
+    by false = bare_frames s.store.pages.core.frames f false
+
+frames_by : (s now : State) → map bare now.store.pages.core.frames ≡ map bare s.store.pages.core.frames
+    → (outline_of now).frames ≡ (outline_of s).frames
+unfolding outline_of
+frames_by s now same = same
