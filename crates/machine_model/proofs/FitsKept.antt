@@ -42,9 +42,12 @@ use Rattle.machine_model.specs.Outlined.{Around, around, bare, outline_of, runne
 use Rattle.machine_model.specs.Outlined.{want_of_command, work_of}
 use Rattle.machine_model.specs.OutlineKept.{AreSpared, FitsStage, FitsWork}
 use Rattle.machine_model.specs.Promise.{IsMachine}
-use Rattle.machine_model.specs.Reads.{cpu_at, next_command, no_processor, no_run, process_at, processor_at, run_at}
+use Rattle.machine_model.specs.Reads.{cpu_at, next_command, no_processor, no_run, or_zero, process_at, processor_at, run_at}
 use Rattle.machine_model.specs.State.{Owner, State, Storage}
-use Rattle.machine_model.specs.Steps.{old_word, pages_after}
+use Rattle.active_segs.specs.Active.{ActiveSegs}
+use Rattle.machine_model.specs.Steps.{old_word, pages_after, told, with_pages, with_store}
+use Rattle.machine_model.specs.Working.{IsWorking}
+use Rattle.machine_model.proofs.WorkStep.{other_next, set_process}
 use Rattle.page_control.specs.Effects.{referred, word_put}
 use Rattle.script.specs.References.{new_word}
 use Rattle.std.specs.Prelude.{◌%◌}
@@ -175,3 +178,110 @@ frames_by : (s now : State) → map bare now.store.pages.core.frames ≡ map bar
     → (outline_of now).frames ≡ (outline_of s).frames
 unfolding outline_of
 frames_by s now same = same
+
+module _ (s : State) (c : ℕ) (o : Outcome) (m : IsMachine s) (working : IsWorking s) (fitting : IsFitting s)
+    (other : IsNoOwner s c) where
+  -- a processor that changes nothing but itself, the ready list and the book
+  seat_fits : (now : State) (p : Processor) → Keeps now → now.owner ≡ s.owner → now.plan ≡ s.plan
+      → now.store ≡ s.store → now.runs ≡ s.runs → now.processors ≡ set s.processors c p → IsFitting now
+  seat_fits now p kept owner plan store runs ps = fits_on s now kept fitting owner (λ q h. record {
+    frames = frames_by s now (ap (λ (st : Storage). map bare st.pages.core.frames) store);
+    entries = ap (λ (st : Storage). st.ast.entries) store;
+    want = want_stays s now (record {
+      nodes = ap (λ (st : Storage). st.accounts.nodes) store;
+      whos = ap (λ (st : Storage). st.whos) store;
+      known = ap (λ (st : Storage). st.links.known) store;
+    }) q.cpu (ap (λ (x : List Processor). (cpu_at x q.cpu).process) ps
+        ∙ set_process s c m.keeps working other p q h)
+        (λ k e. (λ i. command_at (plan i) k (run_at (runs i) k).place));
+  })
+
+  -- one that answers its process's next command
+  told_fits : (st : Storage) (f : Option ℕ) (r : Reply)
+      → (cpu_at s.processors c).process ≡ Some (process_at s c)
+      → map bare st.pages.core.frames ≡ map bare s.store.pages.core.frames → st.ast ≡ s.store.ast
+      → st.accounts.nodes ≡ s.store.accounts.nodes → st.whos ≡ s.store.whos → st.links.known ≡ s.store.links.known
+      → Keeps (told (with_store s st) c f r) → IsFitting (told (with_store s st) c f r)
+  told_fits st f r its frames ast nodes whos known kept = fits_on s (told (with_store s st) c f r) kept fitting refl
+      (λ q h. record {
+        frames = frames_by s (told (with_store s st) c f r) frames;
+        entries = ap (λ (x : ActiveSegs). x.entries) ast;
+        want = want_stays s (told (with_store s st) c f r) (record { nodes = nodes; whos = whos; known = known; })
+            q.cpu (set_process s c m.keeps working other _ q h)
+            (λ k e. subst (λ (j : ℕ). next_command (told (with_store s st) c f r) j ≡ next_command s j)
+            (ap or_zero e) (other_next s c m.keeps working other q _ h m its));
+      })
+
+  abbrev Fits : act.Action → Type 0
+  Fits a = Keeps (after s c a o) → IsFitting (after s c a o)
+
+  pick : (b : Bool) (x y : act.Action) → (b ≡ true → Fits x) → (b ≡ false → Fits y) → Fits (cond b x y)
+  pick true x y f g = f refl
+  pick false x y f g = g refl
+
+  abbrev p : Processor
+  p = processor_at s.processors c
+
+  module _ (q : Owner) (mine : s.owner ≡ Some q) (rest : p.cpu.transfer ≡ None) where
+    take_fits : (x : Option Owner) → s.owner ≡ x → Fits (act.take_or_wait x)
+    unfolding after
+    take_fits None e kept = absurd (none_some (sym e ∙ mine))
+    take_fits (Some v) e kept = fitting
+
+    move_fits : p.cpu.process ≡ Some (process_at s c) → (r : Reference) (x : Move) → Fits (act.by_move s.owner r x)
+    unfolding after
+    move_fits its r move.FillSeg kept = seat_fits _ _ kept refl refl refl refl refl
+    move_fits its r (move.FillPage f) kept = seat_fits _ _ kept refl refl refl refl refl
+    move_fits its r (move.Through f) kept = told_fits (with_pages s.store (pages_after s.store.pages f r)) (Some f) _ its
+        (pages_frames s f r) refl refl refl refl kept
+    move_fits its r (move.Plain answer) kept = told_fits s.store None answer its refl refl refl refl refl kept
+    move_fits its r move.Fault kept = take_fits s.owner refl kept
+
+    come_fits : p.cpu.process ≡ Some (process_at s c) → (x : Option Command)
+        → Fits (act.come_to s p.cpu (process_at s c) x)
+    come_fits its None kept = take_fits s.owner refl kept
+    come_fits its (Some cmd) kept = by (reference_of cmd) kept
+      where
+        by : (y : Option Reference) → Fits (act.refer_or_take s p.cpu (process_at s c) y)
+        by None = take_fits s.owner refl
+        by (Some r) = move_fits its r (act.move_of s p.cpu (process_at s c) r)
+
+    run_fits : (x : Option ℕ) → p.cpu.process ≡ x → Fits (act.run_process s p x)
+    unfolding after
+    run_fits None e kept = by s.ready kept
+      where
+        by : (xs : List ℕ) → Fits (act.load_or_idle s xs)
+        by [] i = fitting
+        by (k ∷ ks) i = seat_fits _ _ i refl refl refl refl refl
+    run_fits (Some n) e kept = pick (act.has_had_its_turn p && not (act.is_empty s.ready)) act.Leave
+        (act.come_to s p.cpu n (next_command s n))
+        (λ h i. seat_fits _ _ i refl refl refl refl refl)
+        (λ h. subst (λ (j : ℕ). Fits (act.come_to s p.cpu j (next_command s j))) (ap or_zero e)
+        (come_fits (e ∙ ap (λ (x : Option ℕ). Some (or_zero x)) (sym e)) (next_command s (process_at s c)))) kept
+
+    own_fits : (x : Option Owner) → s.owner ≡ x → Fits (act.own_or_run s c p x)
+    own_fits None e kept = absurd (none_some (sym e ∙ mine))
+    own_fits (Some v) e kept = pick (eqb v.cpu c) (act.go_on_with s (or_zero p.cpu.process) v v.phase)
+        (act.run_process s p p.cpu.process)
+        (λ h. absurd (elim (eqb_tells v.cpu c) [
+          | inl y ↦ other v e y.1
+          | inr n ↦ no_and h n.0
+        ]))
+        (λ h. run_fits p.cpu.process refl) kept
+
+    transfer_fits : (x : Option Transfer) → p.cpu.transfer ≡ x → Fits (act.transfer_or s c p x)
+    transfer_fits (Some t) e kept = absurd (none_some (sym rest ∙ e))
+    transfer_fits None e kept = own_fits s.owner refl kept
+
+    clear_fits : (x : Option What) → Fits (act.clear_or s c p x)
+    unfolding after
+    clear_fits (Some w) kept = seat_fits _ _ kept refl refl refl refl refl
+    clear_fits None kept = transfer_fits p.cpu.transfer refl kept
+
+    -- a processor that doesn't own the supervisor, and reads nothing, leaves the job as it was
+    pub other_fits : Fits (action_of s c)
+    unfolding after action_of
+    other_fits = pick s.stopped act.IsStopped _ (λ h kept. fitting)
+        (λ h. pick (is_over s) act.HasEnded _ (λ e kept. fitting)
+        (λ e. pick (not p.cpu.online) act.Online _ (λ off kept. seat_fits _ _ kept refl refl refl refl refl)
+        (λ on. clear_fits p.cpu.due)))

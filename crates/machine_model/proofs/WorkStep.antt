@@ -184,7 +184,7 @@ same_less st = record { nodes = refl; known = refl; filed = λ u q h. h }
 
 module _ (s : State) (c : ℕ) (k : Keeps s) (w : IsWorking s) (other : IsNoOwner s c) where
   -- one processor changes alone
-  set_process : (p : Processor) (q : Owner) → s.owner ≡ Some q → (cpu_at (set s.processors c p) q.cpu).process
+  pub set_process : (p : Processor) (q : Owner) → s.owner ≡ Some q → (cpu_at (set s.processors c p) q.cpu).process
       ≡ (cpu_at s.processors q.cpu).process
   set_process p q h = ap (λ (x : Processor). x.cpu.process)
       (get_or-set_other s.processors c q.cpu p no_processor (other q h))
@@ -217,7 +217,7 @@ module _ (s : State) (c : ℕ) (k : Keeps s) (w : IsWorking s) (other : IsNoOwne
       some_of None e = absurd (let none : false ≡ true = e in cc)
       some_of (Some n) e = refl
 
-  other_next : (q : Owner) (run : Run) → s.owner ≡ Some q → IsMachine s
+  pub other_next : (q : Owner) (run : Run) → s.owner ≡ Some q → IsMachine s
       → (cpu_at s.processors c).process ≡ Some (process_at s c)
       → command_at s.plan (process_at s q.cpu) (run_at (set s.runs (process_at s c) run) (process_at s q.cpu)).place
       ≡ next_command s (process_at s q.cpu)
