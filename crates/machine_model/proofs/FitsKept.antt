@@ -33,15 +33,18 @@ use Rattle.machine_model.specs.Actions as act
 use Rattle.machine_model.specs.Actions.{action_of, is_over}
 use Rattle.machine_model.specs.After.{Outcome, after}
 use Rattle.machine_model.specs.Custodial.{waits_for, waits_in}
+use Rattle.machine_model.specs.Entitled.{IsEntitledToAll}
 use Rattle.machine_model.specs.Finishing.{Commands, IsReplied, Works, owns, rule_of}
 use Rattle.machine_model.specs.Fitting.{IsFitting}
 use Rattle.machine_model.specs.Keeps.{Keeps}
 use Rattle.machine_model.specs.Measures.{chain_of}
 use Rattle.machine_model.specs.Outline.{Other, Outline, Runner, Stage, Want, runner_at, want_at}
-use Rattle.machine_model.specs.Outlined.{Around, around, bare, outline_of, runner_by, stage_of, want_by, want_known, want_of}
+use Rattle.machine_model.specs.Outlined.{Around, around, bare, keeper_of, outline_of, runner_by, stage_of, want_by, want_known, want_of}
 use Rattle.machine_model.specs.Outlined.{want_of_command, work_of}
-use Rattle.machine_model.specs.OutlineKept.{AreSpared, FitsStage, FitsWork}
+use Rattle.machine_model.specs.OutlineKept.{FitsStage, FitsWork, IsKept}
 use Rattle.machine_model.specs.Promise.{IsMachine}
+use Rattle.machine_model.specs.Reading.{IsReading}
+use Rattle.machine_model.specs.Turns.{turn_of}
 use Rattle.machine_model.specs.Reads.{cpu_at, next_command, no_processor, no_run, or_zero, process_at, processor_at, run_at}
 use Rattle.machine_model.specs.State.{Owner, State, Storage}
 use Rattle.active_segs.specs.Active.{ActiveSegs}
@@ -51,11 +54,14 @@ use Rattle.machine_model.proofs.WorkStep.{other_next, set_process}
 use Rattle.page_control.specs.Effects.{referred, word_put}
 use Rattle.script.specs.References.{new_word}
 use Rattle.std.specs.Prelude.{◌%◌}
+use Rattle.machine_model.proofs.ForeseeAll.{foresees}
 use Rattle.machine_model.proofs.KeepLaws.{IsNoOwner}
 use Rattle.machine_model.proofs.KeptLaws.{fits_alike, step_keeps}
 use Rattle.machine_model.proofs.ListLaws.{map_list}
-use Rattle.machine_model.proofs.OutlineReads.{at_outline, is_owner, seen_owns, set_map}
-use Rattle.machine_model.proofs.OutlineSeen.{none_due, reading_is}
+use Rattle.machine_model.proofs.OutlineJob.{in_job}
+use Rattle.machine_model.proofs.OutlineOwner.{step_outlined}
+use Rattle.machine_model.proofs.OutlineReads.{at_outline, is_owner, long_outline, seen_owns, set_map}
+use Rattle.machine_model.proofs.OutlineSeen.{kept_seen, no_owner, none_due, reading_is, sizes_seen}
 use Rattle.machine_model.proofs.RuleLaws.{tells}
 use Rattle.machine_model.proofs.TieLaws.{none_some}
 use Rattle.machine_model.proofs.WantLaws.{want_here}
@@ -285,3 +291,66 @@ module _ (s : State) (c : ℕ) (o : Outcome) (m : IsMachine s) (working : IsWork
         (λ h. pick (is_over s) act.HasEnded _ (λ e kept. fitting)
         (λ e. pick (not p.cpu.online) act.Online _ (λ off kept. seat_fits _ _ kept refl refl refl refl refl)
         (λ on. clear_fits p.cpu.due)))
+
+-- ---- each step
+
+outline_none : (s : State) → s.owner ≡ None → (outline_of s).owner ≡ None
+unfolding outline_of
+outline_none s none = ap (keeper_of s.store.ast.entries) none
+
+stopped_fits : (s : State) (c : ℕ) (o : Outcome) → IsFitting s → s.stopped ≡ true
+    → IsFitting (after s c (action_of s c) o)
+unfolding after action_of
+stopped_fits s c o fitting e = subst (λ (b : Bool). IsFitting (after s c (cond b act.IsStopped (cond (is_over s)
+    act.HasEnded (cond (not (processor_at s.processors c).cpu.online) act.Online (act.clear_or s c
+    (processor_at s.processors c) (processor_at s.processors c).cpu.due)))) o)) (sym e) fitting
+
+module _ (s : State) (c : ℕ) (o : Outcome) (m : IsMachine s) (entitled : IsEntitledToAll s) (reading : IsReading s)
+    (working : IsWorking s) (fitting : IsFitting s) (there : c < length s.processors) where
+  abbrev now : State
+  now = after s c (action_of s c) o
+
+  -- a processor to which a command falls owns nothing and reads nothing
+  rest_of : rule_of (outline_of s) c ≡ Commands → (cpu_at s.processors c).transfer ≡ None
+  rest_of h = by (cpu_at s.processors c).transfer (ap (λ (x : Option Transfer). is_some x)
+      (sym (reading_is s m.keeps c)) ∙ (tells (outline_of s) c Commands h).1)
+    where
+      by : (x : Option Transfer) → is_some x ≡ false → x ≡ None
+      by None e = refl
+      by (Some t) e = absurd (let none : true ≡ false = e in cc)
+
+  no_owner_of : rule_of (outline_of s) c ≡ Commands → IsNoOwner s c
+  no_owner_of h q mine same = no_and (ap (λ (x : Option Owner). is_owner x c) mine ∙ elim (eqb_tells q.cpu c) [
+    | inl e ↦ e.0
+    | inr n ↦ absurd (n.1 same)
+  ]) (sym (seen_owns s c) ∙ (tells (outline_of s) c Commands h).2)
+
+  -- What a job has taken fits after each step.
+  pub fits_kept : IsMachine now → IsReading now → IsFitting now
+  fits_kept after_m after_reading = by s.stopped refl
+    where
+      none_owns : s.owner ≡ None → (outline_of now).owner ≡ (outline_of s).owner → now.owner ≡ None
+      none_owns none same = no_owner now (same ∙ outline_none s none)
+
+      replied : rule_of (outline_of s) c ≡ Commands → IsReplied (outline_of s) c (outline_of now) → IsFitting now
+      replied h i = owned s.owner refl
+        where
+          owned : (x : Option Owner) → s.owner ≡ x → IsFitting now
+          owned None e = none_fits now (none_owns e i.owner)
+          owned (Some q) e = other_fits s c o m working fitting (no_owner_of h) q e (rest_of h) after_m.keeps
+
+      on : s.stopped ≡ false → IsFitting now
+      on going = record {
+        fits = λ q h. kept.job.fits q.cpu (stage_of now.store.ast.entries q.frames q.phase) (in_job now q h);
+      }
+        where
+          kept : IsKept (outline_of now)
+          kept = step_keeps (outline_of s) c (turn_of (action_of s c)) (outline_of now) (kept_seen s m reading fitting)
+              (subst (λ (n : ℕ). c < n) (sym (long_outline s)) there) (sizes_seen now after_m)
+              (λ i. kept_seen now after_m after_reading (none_fits now (no_owner now i.owner)))
+              (λ h i. kept_seen now after_m after_reading (replied h i))
+              (step_outlined s c o going (foresees s c m entitled reading fitting there))
+
+      by : (b : Bool) → s.stopped ≡ b → IsFitting now
+      by true e = stopped_fits s c o fitting e
+      by false e = on e

@@ -16,6 +16,7 @@ use Rattle.machine_model.specs.Reads.{cpu_at, no_processor, no_run, run_at}
 use Rattle.machine_model.specs.Scheduled.{HasTurn, IsScheduled}
 use Rattle.machine_model.specs.declared.Processor.{Processor}
 use Rattle.machine_model.specs.declared.Run.{Run}
+use Rattle.machine_model.proofs.FitsKept.{none_fits}
 use Rattle.machine_model.proofs.BootKept.{at_fill, boot_keeps}
 use Rattle.machine_model.proofs.ComingLaws.{booted_come}
 use Rattle.machine_model.proofs.ScheduleLaws.{in_range, range_once}
@@ -81,4 +82,5 @@ module _ (p : Plan) (words : List (List ℕ)) (disks : List (List (List ℕ))) (
     entitled = record { each = λ d k h. absurd (nobody d k h) };
     reading = record { each = λ d t h. absurd (reads_nothing d t h) };
     working = none_work (booted p words disks) refl;
+    fitting = none_fits (booted p words disks) refl;
   }

@@ -15,12 +15,23 @@ use Rattle.machine_model.specs.Reads.{next_command, process_at}
 use Rattle.machine_model.proofs.PoolsKept.{SamePools, pools_kept}
 use Rattle.machine_model.proofs.RulesKept.{action_can}
 use Rattle.machine_model.proofs.ScheduleKept.{schedule_kept}
+use Rattle.machine_model.proofs.FitsKept.{fits_kept}
 use Rattle.machine_model.proofs.StepAsks.{step_asks}
+use Rattle.machine_model.specs.Entitled.{IsEntitledToAll}
+use Rattle.machine_model.specs.Reading.{IsReading}
+use Rattle.machine_model.specs.Working.{IsWorking}
 use Rattle.machine_model.proofs.ReadKept.{IsPast, is_past, reading_kept}
 use Rattle.machine_model.proofs.StepGoes.{comes, may_read, may_schedule, may_work}
 use Rattle.machine_model.proofs.StepKept.{CanDo, after_keeps}
 use Rattle.machine_model.proofs.StepKnows.{Knows, step_knows}
 use Rattle.machine_model.proofs.WorkStep.{work_kept}
+
+-- what is kept by each action
+record KeepsMost (now : State) : Type 0 where
+  machine : IsMachine now
+  entitled : IsEntitledToAll now
+  reading : IsReading now
+  working : IsWorking now
 
 module _ (s : State) (c : ℕ) (o : Outcome) (all : KeepsAll s) (there : c < length s.processors) where
   abbrev m : IsMachine s
@@ -32,7 +43,7 @@ module _ (s : State) (c : ℕ) (o : Outcome) (all : KeepsAll s) (there : c < len
   entitles _ kept = tt
 
   -- an action that may be done, of which the rules know what they do
-  done : (a : act.Action) → CanDo s c o a → Knows s c a → IsPast s c a → KeepsAll (after s c a o)
+  done : (a : act.Action) → CanDo s c o a → Knows s c a → IsPast s c a → KeepsMost (after s c a o)
   done a can knows past = record {
     machine = record {
       keeps = keeps;
@@ -54,6 +65,15 @@ module _ (s : State) (c : ℕ) (o : Outcome) (all : KeepsAll s) (there : c < len
 
   -- Each step keeps the whole promise, whichever processor makes it.
   pub step_keeps_all : Says s c o (action_of s c) → KeepsAll (after s c (action_of s c) o)
-  step_keeps_all says = done (action_of s c)
-      (action_can s c o m.keeps there (step_asks s c o m there all.entitled all.reading all.working says))
-      (step_knows s c o m there all.working) (is_past s c)
+  step_keeps_all says = record {
+    machine = most.machine;
+    entitled = most.entitled;
+    reading = most.reading;
+    working = most.working;
+    fitting = fits_kept s c o m all.entitled all.reading all.working all.fitting there most.machine most.reading;
+  }
+    where
+      most : KeepsMost (after s c (action_of s c) o)
+      most = done (action_of s c)
+          (action_can s c o m.keeps there (step_asks s c o m there all.entitled all.reading all.working says))
+          (step_knows s c o m there all.working) (is_past s c)

@@ -2,6 +2,7 @@
 use Rattle.std.specs.Prelude.{◌≡◌}
 use Rattle.script.specs.Forms.{IsPlan}
 use Rattle.machine_model.specs.Entitled.{IsEntitledToAll}
+use Rattle.machine_model.specs.Fitting.{IsFitting}
 use Rattle.machine_model.specs.Foreseen.{AllCome}
 use Rattle.machine_model.specs.Keeps.{Keeps}
 use Rattle.machine_model.specs.Reading.{IsReading}
@@ -18,10 +19,11 @@ pub record IsMachine (s : State) : Type 0 where
   pub scheduled : IsScheduled s
   pub pools : s.store.ast.sizes ≡ s.plan.pools
 
--- What a machine keeps from step to step: that, with what its processors hold, what they read pages for, and what the
--- owner's job rests on.
+-- What a machine keeps from step to step: that, with what its processors hold, what they read pages for, what the
+-- owner's job rests on, and that what it took isn't what its command wants.
 pub record KeepsAll (s : State) : Type 0 where
   pub machine : IsMachine s
   pub entitled : IsEntitledToAll s
   pub reading : IsReading s
   pub working : IsWorking s
+  pub fitting : IsFitting s
