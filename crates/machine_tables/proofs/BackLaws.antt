@@ -8,7 +8,7 @@ use Rattle.machine_model.specs.Reads.{cut_of_owner, frames_of_owner}
 use Rattle.machine_model.specs.State.{Owner, State}
 use Rattle.machine_tables.specs.Owned.{HasOwner}
 use Rattle.machine_tables.specs.Parts.{KeepsSeats}
-use Rattle.machine_tables.specs.Returned.{MayComeBack, MayRelink}
+use Rattle.machine_model.specs.Returned.{MayComeBack, MayRelink}
 use Rattle.machine_tables.proofs.JobLaws.{cut_same, cuts_after, frames_next, no_cut, no_cut_left, no_frame}
 use Rattle.machine_tables.proofs.JobLaws.{owner_left}
 use Rattle.machine_tables.proofs.JobLaws.{owner_less}

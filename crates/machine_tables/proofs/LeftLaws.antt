@@ -13,7 +13,7 @@ use Rattle.machine_model.specs.Reads.{cut_of_owner, frames_of_owner}
 use Rattle.machine_model.specs.State.{State, Storage}
 use Rattle.machine_model.specs.Steps.{booked}
 use Rattle.machine_tables.specs.Parts.{Parts, with_state}
-use Rattle.machine_tables.specs.Returned.{MayRelink, with_all_here}
+use Rattle.machine_model.specs.Returned.{MayRelink, with_all_here}
 
 -- ---- pages of zeros
 

@@ -16,6 +16,7 @@ pub mod ReadyLaws
 pub mod RefusalLaws
 pub mod RightLaws
 pub mod RuleLaws
+pub mod ShownLaws
 pub mod SignalLaws
 pub mod TakeLaws
 pub mod TookLaws

@@ -19,7 +19,7 @@ twice (Started uid page) = refl
 twice (Bound uid page used true) = refl
 twice (Bound uid page used false) = refl
 
-bound_within : (s : Plain) (f : ℕ) → is_bound (frame_in s f) ≡ true → f < length s.core.frames
+pub bound_within : (s : Plain) (f : ℕ) → is_bound (frame_in s f) ≡ true → f < length s.core.frames
 bound_within s f e = elim (cases_lt f (length s.core.frames)) [
   | inl lt ↦ lt
   | inr past ↦ let z : false ≡ true = sym (ap is_bound (get_or_past s.core.frames f Free past)) ∙ e in cc z

@@ -15,7 +15,8 @@ ghost use Rattle.machine_model.specs.Steps.{booked, with_faults, with_owner, wit
 ghost use Rattle.machine_tables.specs.Owned.{HasOwner};
 ghost use Rattle.machine_tables.specs.Parts.{KeepsSeats, outcome_of, with_accounts, with_accounts_in};
 ghost use Rattle.machine_tables.specs.Parts.{with_drives, with_state};
-ghost use Rattle.machine_tables.specs.Returned.{IsLeaving, IsRelinkable, MayComeBack, MayFail, MayRelink};
+ghost use Rattle.machine_model.specs.Returned.{IsLeaving, IsRelinkable, MayComeBack, MayRelink};
+ghost use Rattle.machine_tables.specs.Returned.{MayFail};
 
 use crate::tables::Tables;
 use book::{Entry, Reply};

@@ -1,24 +1,29 @@
 //! What the store of the tables promises.
 
-ghost use Rattle.std.specs.Prelude.{◌≡◌};
+ghost use Rattle.std.specs.Prelude.{◌≡◌, sum_by};
 ghost use Rattle.seg_control.specs.Kept.{IsKept};
 ghost use Rattle.storage_ops.specs.Shown.{IsStore};
+ghost use Rattle.machine_model.specs.Keeps.{AreAccounts};
 
 use crate::tables::Tables;
 use volumes::Drive;
 
 impl<D: Drive> Tables<D> {
     /// These tables. What their store promises between calls is told here: page tables, frames and file maps agree,
-    /// descriptors and trailers do, what is active is in the tree, and the running counts are the counts from scratch.
-    /// (Source: own.)
+    /// descriptors and trailers do, what is active is in the tree, which is one, no account is charged for more than
+    /// its quota, the running counts are the counts from scratch, and each failure of a drive is counted. (Source:
+    /// own.)
     pub fn look(&self) -> &Tables<D>
         ensures same { result.now ≡ self.now }
         ensures kept { IsKept self.now.state.store.pages self.now.state.store.ast self.now.state.store.links }
         ensures counted { IsStore self.now.state.store.pages self.now.state.store.ast self.now.state.store.links
             self.now.state.store.accounts self.now.state.store.whos }
+        ensures accounts { AreAccounts self.now.state.store.accounts }
+        ensures faults { self.now.state.faults ≡ sum_by D.faults self.now.drives }
     {
         let segs = self.store.segs();
         let _pages = segs.pages();
+        let _root = self.store.accounts().root();
         self
     }
 }
