@@ -170,8 +170,8 @@ module _ {D : Type 0} (t : Parts D) (c : ℕ) (sound : IsSound t) (there : c < l
       some_is : {a b : ℕ} → Some a ≡ Some b → a ≡ b
       some_is h = cc
 
--- a page whose frame isn't held isn't found
-and_both : (a b c d : ℕ) → (eqb a c && eqb b d) ≡ true → (a ≡ c) × (b ≡ d)
+-- two tests that pass
+pub and_both : (a b c d : ℕ) → (eqb a c && eqb b d) ≡ true → (a ≡ c) × (b ≡ d)
 and_both a b c d h = elim (eqb_tells a c) [
   | inl y ↦ elim (eqb_tells b d) [
     | inl z ↦ (y.1, z.1)
@@ -180,6 +180,7 @@ and_both a b c d h = elim (eqb_tells a c) [
   | inr m ↦ absurd (let no : false ≡ true = sym (rw m.0 refl) ∙ h in cc)
 ]
 
+-- a page whose frame isn't held isn't found
 page_new : (bound : ℕ → Option (ℕ × ℕ)) (es : List HeldPage) (u p f : ℕ) → AreHeldPages bound es
     → ((g : ℕ) → bound g ≡ Some (u, p) → g ≡ f) → has (map (λ e. e.frame) es) f ≡ false → find (is_page u p) es ≡ None
 page_new bound [] u p f held once h = refl

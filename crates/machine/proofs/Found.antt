@@ -1,13 +1,27 @@
 -- What the rules found where they choose an action of the supervisor's owner, or the end of a transfer.
-use Rattle.std.proofs.Common.{◌≡◌, ◌<◌, ℕ, length, Bool, true, false, not, ◌&&◌, cond, eqb, List, [], ◌∷◌, position}
-use Rattle.std.proofs.Common.{Option, Some}
-use Rattle.std.proofs.Common.{None, inl, inr, refl, sym, subst, ◌∙◌}
+use Rattle.std.proofs.Common.{◌≡◌, ◌<◌, ℕ, ◌*◌, length, Bool, true, false, not, ◌&&◌, cond, eqb, List, [], ◌∷◌}
+use Rattle.std.proofs.Common.{position, Option, Some}
+use Rattle.std.proofs.Common.{None, inl, inr, refl, sym, ap, subst, ◌∙◌}
+use Rattle.std.specs.Prelude.{◌/◌, nat_le}
+use Rattle.std.specs.List.{find}
+use Rattle.std.specs.Option.{option_map}
 use Rattle.std.proofs.lemmas.Bool.Decides.{eqb_tells}
+use Rattle.assoc_mem.specs.declared.HeldPage.{HeldPage}
+use Rattle.assoc_mem.specs.declared.HeldSeg.{HeldSeg}
+use Rattle.assoc_mem.specs.Held.{frame_of, is_page, seg_of}
+use Rattle.book.specs.declared.replies.Reply.TheVariants as reply
+use Rattle.descriptor_seg.specs.declared.Sdw.{Sdw}
+use Rattle.descriptor_seg.specs.declared.Sdw.TheVariants as sdw
+use Rattle.page_table.specs.declared.Ptw.{Ptw}
+use Rattle.page_table.specs.declared.Ptw.TheVariants as ptw
+use Rattle.flat_model.specs.References.{word_reply}
+use Rattle.script.specs.References.{new_word, permits}
+use Rattle.seg_control.specs.Control.{sdws_at, word_of}
+use Rattle.processor.specs.Moves.{by_descriptor, by_held, by_page, by_seg, by_word}
 use Rattle.script.specs.References.{reference_of}
 use Rattle.script.specs.declared.commands.Command.{Command}
 use Rattle.script.specs.declared.commands.Reference.{Reference}
 use Rattle.assoc_mem.specs.declared.What.{What}
-use Rattle.processor.specs.declared.Move.{Move}
 use Rattle.processor.specs.declared.Move.TheVariants as move
 use Rattle.processor.specs.declared.Transfer.{Transfer}
 use Rattle.machine_model.specs.declared.Aim.{Aim}
@@ -21,13 +35,17 @@ use Rattle.machine_model.specs.Actions.{is_empty, is_over, load_or_idle, look_of
 use Rattle.machine_model.specs.Actions.{refer_or_take, run_process, take_or_wait, transfer_or}
 use Rattle.machine_model.specs.After.{no_call}
 use Rattle.machine_model.specs.Promise.{IsMachine}
-use Rattle.machine_model.specs.Reads.{is_due, next_command, process_at, processor_at}
+use Rattle.machine_model.specs.Custodial.{AreHeldPages}
+use Rattle.machine_model.specs.Holding.{seen}
+use Rattle.machine_model.specs.Reads.{descriptor_of, is_due, next_command, process_at, processor_at}
 use Rattle.machine_model.specs.State.{Owner, State}
 use Rattle.machine_model.proofs.LookFacts.{LookFinds, look_finds}
 use Rattle.machine_model.proofs.RuleKept.{HasWaited, IsLooking, look_idle, process_here}
 use Rattle.machine_model.proofs.SpeakLaws.{speaks}
 use Rattle.machine_model.proofs.StepKept.{IsMine}
+use Rattle.machine_model.proofs.TieLaws.{none_some}
 use Rattle.machine_model.proofs.WorkStep.{Looks}
+use Rattle.machine.proofs.AloneLaws.{and_both}
 
 -- the owner looks, and the look comes to this action
 abbrev pub Looked : State → ℕ → act.Action → Type 0
@@ -39,8 +57,9 @@ pub record Waited (s : State) (c : ℕ) (a : Aim) (IsLeft : List ℕ → Type 0)
   pub waited : HasWaited s c a what
   pub left : IsLeft waited.owner.owner.frames
 
--- what the owner of the supervisor found, and a processor with a transfer
+-- what the owner of the supervisor found, a processor with a transfer, and one that refers to a page that it holds
 abbrev pub Found : State → ℕ → act.Action → Type 0
+Found s c (act.Through f r) = (u : ℕ) × ((seen s).bound f ≡ Some (u, r.offset / 1024))
 Found s c (act.EndTransfer t) = (processor_at s.processors c).cpu.transfer ≡ Some t
 Found s c (act.Activate u place) = Looked s c (act.Activate u place)
 Found s c (act.Connect n u) = Looked s c (act.Connect n u)
@@ -61,6 +80,18 @@ pick : (s : State) (c : ℕ) (b : Bool) (x y : act.Action) → (b ≡ true → F
 pick s c true x y f g = f refl
 pick s c false x y f g = g refl
 
+-- the frame of a page that is held has the page
+page_held : (bound : ℕ → Option (ℕ × ℕ)) (es : List HeldPage) (u q f : ℕ)
+    → option_map (λ e. e.frame) (find (is_page u q) es) ≡ Some f → AreHeldPages bound es → bound f ≡ Some (u, q)
+page_held bound [] u q f h all = absurd (none_some h)
+page_held bound (e ∷ es) u q f h all = by (is_page u q e) refl h (λ i. page_held bound es u q f i all.1)
+  where
+    by : (b : Bool) → is_page u q e ≡ b → option_map (λ x. x.frame) (cond b (Some e) (find (is_page u q) es)) ≡ Some f
+        → (option_map (λ x. x.frame) (find (is_page u q) es) ≡ Some f → bound f ≡ Some (u, q)) → bound f ≡ Some (u, q)
+    by true i same rest = let frame : e.frame ≡ f = cc in let both = and_both e.uid e.page u q i in
+        ap bound (sym frame) ∙ (all.0 ∙ λ j. Some (both.0 j, both.1 j))
+    by false i same rest = rest same
+
 module _ (s : State) (c : ℕ) (m : IsMachine s) (there : c < length s.processors) where
   abbrev p : Processor
   p = processor_at s.processors c
@@ -72,12 +103,53 @@ module _ (s : State) (c : ℕ) (m : IsMachine s) (there : c < length s.processor
   take_found None = tt
   take_found (Some q) = tt
 
-  move_found : (r : Reference) (x : Move) → Found s c (by_move s.owner r x)
-  move_found r (move.FillSeg) = tt
-  move_found r (move.FillPage f) = tt
-  move_found r (move.Through f) = tt
-  move_found r (move.Plain answer) = tt
-  move_found r (move.Fault) = take_found s.owner
+  module _ (r : Reference) where
+    descriptor_found : (x : Sdw) → Found s c (by_move s.owner r (by_descriptor x))
+    descriptor_found sdw.Fault = take_found s.owner
+    descriptor_found (sdw.Present aste mode pages) = tt
+
+    word_found : (w : Ptw) → Found s c (by_move s.owner r (by_word w r.kind))
+    word_found ptw.Null = by (eqb (new_word 0 r.kind) 0)
+      where
+        by : (b : Bool) → Found s c (by_move s.owner r (cond b (move.Plain (word_reply 0 r.kind)) move.Fault))
+        by true = tt
+        by false = take_found s.owner
+    word_found (ptw.Out n) = take_found s.owner
+    word_found (ptw.Here f) = tt
+    word_found (ptw.Leaving f) = take_found s.owner
+
+    page_found : (h : HeldSeg) (x : Option ℕ) → frame_of p.cpu.assoc h.uid (r.offset / 1024) ≡ x
+        → Found s c (by_move s.owner r (by_page x (word_of s.store.ast h.uid (r.offset / 1024)) r.kind))
+    page_found h (Some f) e = (
+      h.uid,
+      page_held (seen s).bound p.cpu.assoc.pages h.uid (r.offset / 1024) f e (m.keeps.book.holding_right c).pages,
+    )
+    page_found h None e = word_found (word_of s.store.ast h.uid (r.offset / 1024))
+
+    held_found : (h : HeldSeg)
+        → Found s c (by_move s.owner r (by_held p.cpu.assoc (λ u q. word_of s.store.ast u q) r h))
+    held_found h = permit (permits h.mode r.kind)
+      where
+        within : (b : Bool) → Found s c (by_move s.owner r (cond b (move.Plain reply.Length)
+            (by_page (frame_of p.cpu.assoc h.uid (r.offset / 1024)) (word_of s.store.ast h.uid (r.offset / 1024))
+            r.kind)))
+        within true = tt
+        within false = page_found h (frame_of p.cpu.assoc h.uid (r.offset / 1024)) refl
+
+        permit : (b : Bool) → Found s c (by_move s.owner r (cond (not b) (move.Plain reply.NoAccess)
+            (cond (nat_le (1024 * h.pages) r.offset) (move.Plain reply.Length)
+            (by_page (frame_of p.cpu.assoc h.uid (r.offset / 1024)) (word_of s.store.ast h.uid (r.offset / 1024))
+            r.kind))))
+        permit false = tt
+        permit true = within (nat_le (1024 * h.pages) r.offset)
+
+    move_found : (n : ℕ) → Found s c (by_move s.owner r (move_of s p.cpu n r))
+    move_found n = by (seg_of p.cpu.assoc r.number)
+      where
+        by : (x : Option HeldSeg) → Found s c (by_move s.owner r (by_seg p.cpu.assoc
+            (sdws_at s.store.links.descriptors n) (λ u q. word_of s.store.ast u q) r x))
+        by None = descriptor_found (descriptor_of s.store.links n r.number)
+        by (Some h) = held_found h
 
   run_found : (x : Option ℕ) → Found s c (run_process s p x)
   run_found None = by s.ready
@@ -90,7 +162,7 @@ module _ (s : State) (c : ℕ) (m : IsMachine s) (there : c < length s.processor
     where
       refer : (x : Option Reference) → Found s c (refer_or_take s p.cpu n x)
       refer None = take_found s.owner
-      refer (Some r) = move_found r (move_of s p.cpu n r)
+      refer (Some r) = move_found r n
 
       come : (x : Option Command) → Found s c (come_to s p.cpu n x)
       come None = take_found s.owner
@@ -119,7 +191,7 @@ module _ (s : State) (c : ℕ) (m : IsMachine s) (there : c < length s.processor
     look_found (act.TakeAway fs pairs w) h = looks h
     look_found (act.Answer r) h = tt
     look_found act.Commit h = tt
-    look_found (act.Through f r) h = tt
+    look_found (act.Through f r) h = absurd h
     look_found (act.Plain r) h = tt
     look_found (act.FinishEviction f) h = absurd h
     look_found (act.FinishPage f) h = absurd h

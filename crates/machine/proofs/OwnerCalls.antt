@@ -18,7 +18,9 @@ use Rattle.machine_model.specs.Actions.{Action, action_of}
 use Rattle.machine_model.specs.After.{after, no_call}
 use Rattle.machine_model.specs.Custodial.{is_out as is_away}
 use Rattle.machine_model.specs.Keeps.{Keeps}
-use Rattle.machine_model.specs.Reads.{cpu_at, flat_of, is_active, or_zero, process_at}
+use Rattle.machine_model.specs.Actions.{any_page}
+use Rattle.machine_model.specs.Reads.{cpu_at, flat_of, frame_reading, is_active, or_zero, process_at}
+use Rattle.machine_model.proofs.OwnedLaws.{IsIdle}
 use Rattle.machine_model.specs.Refusal.{uid_of_number}
 use Rattle.machine_model.specs.Said.{shown_after}
 use Rattle.machine_model.specs.State.{State, Storage}
@@ -94,7 +96,7 @@ out_is (ptw.Out r) h = refl
 out_is (ptw.Here f) h = absurd (let no : false ≡ true = h in cc)
 out_is (ptw.Leaving f) h = absurd (let no : false ≡ true = h in cc)
 
-free_is : (x : Frame) → is_free x ≡ true → x ≡ frame.Free
+pub free_is : (x : Frame) → is_free x ≡ true → x ≡ frame.Free
 free_is frame.Free h = refl
 free_is (frame.Started u p) h = absurd (let no : false ≡ true = h in cc)
 free_is (frame.Bound u p used modified) h = absurd (let no : false ≡ true = h in cc)
@@ -287,19 +289,22 @@ module _ {D : Type 0} (t : Parts D) (c : ℕ) (sound : IsSound t) (there : c < l
       bound_is (frame.Started u p) page e = absurd (none_some e)
       bound_is (frame.Bound u p used modified) page e = refl
 
+  pub evict_doing : Evicts → (f : ℕ) → clock_choice s.store.pages.core ≡ Some f → action_of s c ≡ act.Evict f
+  evict_doing h f choice = subst (λ (g : ℕ). action_of s c ≡ act.Evict g) (same (sym (chosen h).1 ∙ choice))
+      (chosen h).2
+    where
+      same : {a b : ℕ} → Some a ≡ Some b → a ≡ b
+      same e = cc
+
   pub evict_sound : Evicts → (f : ℕ) → clock_choice s.store.pages.core ≡ Some f
       → (now : Parts D) → now ≡ with_state t (eviction_begun s c f)
       → IsKept now.state.store.pages now.state.store.ast now.state.store.links
       → IsStore now.state.store.pages now.state.store.ast now.state.store.links now.state.store.accounts
       now.state.store.whos → IsSound now
   unfolding after
-  evict_sound h f choice = kept_through (act.Evict f) (eviction_begun s c f) refl
-      (subst (λ (g : ℕ). action_of s c ≡ act.Evict g) (same (sym (chosen h).1 ∙ choice)) (chosen h).2) refl tt
+  evict_sound h f choice = kept_through (act.Evict f) (eviction_begun s c f) refl (evict_doing h f choice) refl tt
       (then_as s.store (with_choice s.store f) (with_leaving (with_choice s.store f) f) (choice_as s.store f)
       (leaving_as (with_choice s.store f) f))
-    where
-      same : {a b : ℕ} → Some a ≡ Some b → a ≡ b
-      same e = cc
 
   -- ---- a segment is emptied, for its length
 
@@ -317,16 +322,36 @@ module _ {D : Type 0} (t : Parts D) (c : ℕ) (sound : IsSound t) (there : c < l
     pub descriptors : length (trailers_in s.store u) ≤ 32
     pub bare : is_bare (frames_from s.store.ast u 0) (trailers_in s.store u) ≡ true → IsEmptied s.store u
 
-  pub emptiable : (u : ℕ) → action_of s c ≡ act.Empty u → IsEmptiable u
-  emptiable u doing = record {
-    active = active_there s.store u l.finds.active;
-    owner = owned l.looking.owner;
-    frames = l.idle.frames;
-    cut = l.idle.cut;
-    pages = pages_few s u keeps l.finds.active;
-    descriptors = descriptors_few s u keeps l.finds.active;
+  -- a segment without active inferiors, of which nothing is being read
+  pub emptiable_by : (u : ℕ) → IsIdle s.owner → HasOwner s.owner → is_active s.store.ast u ≡ true
+      → frame_reading s.store.pages.core u any_page ≡ None
+      → ((v : ℕ) → is_active s.store.ast v ≡ true → superior_in (node_in (flat_of s).nodes v) ≢ Some u)
+      → IsEmptiable u
+  emptiable_by u idle owner active unread inferiors = record {
+    active = active_there s.store u active;
+    owner = owner;
+    frames = idle.frames;
+    cut = idle.cut;
+    pages = pages_few s u keeps active;
+    descriptors = descriptors_few s u keeps active;
     bare = λ h. by (frames_from s.store.ast u 0) (trailers_in s.store u) h refl refl;
   }
+    where
+      below : (v : ℕ) → is_active s.store.ast v ≡ true → superior_in (node_in s.store.accounts.nodes v) ≢ Some u
+      below v there_active h = inferiors v there_active
+          (ap (λ (ns : List Node). superior_in (node_in ns v)) keeps.faithful.tree.nodes ∙ h)
+
+      by : (fs : List ℕ) (xs : List (ℕ × ℕ)) → is_bare fs xs ≡ true → frames_from s.store.ast u 0 ≡ fs
+          → trailers_in s.store u ≡ xs → IsEmptied s.store u
+      by [] [] h none none_cut = emptied s u keeps (nothing_whole s c u keeps idle active
+          (unread_any s.store.pages.core u unread) none none_cut) idle.frames active below
+      by [] (x ∷ xs) h none none_cut = absurd (let no : false ≡ true = h in cc)
+      by (f ∷ fs) xs h none none_cut = absurd (let no : false ≡ true = h in cc)
+
+  pub emptiable : (u : ℕ) → action_of s c ≡ act.Empty u → IsEmptiable u
+  emptiable u doing = emptiable_by u l.idle (owned l.looking.owner) l.finds.active l.finds.unread
+      (λ v active. segment_inferiors s u leads_there.node keeps
+      (ap (node_in s.store.accounts.nodes) (sym same) ∙ leads_there.there) leads_there.segment v)
     where
       l : Looked s c (act.Empty u)
       l = empty_looked u doing
@@ -337,18 +362,6 @@ module _ {D : Type 0} (t : Parts D) (c : ℕ) (sound : IsSound t) (there : c < l
 
       same : leads_there.node.uid ≡ u
       same = sym leads_there.uid ∙ (sym (ap (uid_of_command s.store (process_at s c)) l.finds.is) ∙ l.finds.uid)
-
-      inferiors : (v : ℕ) → is_active s.store.ast v ≡ true → superior_in (node_in s.store.accounts.nodes v) ≢ Some u
-      inferiors v active h = segment_inferiors s u leads_there.node keeps
-          (ap (node_in s.store.accounts.nodes) (sym same) ∙ leads_there.there) leads_there.segment v
-          (ap (λ (ns : List Node). superior_in (node_in ns v)) keeps.faithful.tree.nodes ∙ h)
-
-      by : (fs : List ℕ) (xs : List (ℕ × ℕ)) → is_bare fs xs ≡ true → frames_from s.store.ast u 0 ≡ fs
-          → trailers_in s.store u ≡ xs → IsEmptied s.store u
-      by [] [] h none none_cut = emptied s u keeps (nothing_whole s c u keeps l.idle l.finds.active
-          (unread_any s.store.pages.core u l.finds.unread) none none_cut) l.idle.frames l.finds.active inferiors
-      by [] (x ∷ xs) h none none_cut = absurd (let no : false ≡ true = h in cc)
-      by (f ∷ fs) xs h none none_cut = absurd (let no : false ≡ true = h in cc)
 
   pub empty_sound : (u : ℕ) → action_of s c ≡ act.Empty u
       → (now : Parts D) → now ≡ with_state t (deactivation_begun s c u)

@@ -33,7 +33,7 @@ use Rattle.machine_model.proofs.TookKept.{ArePairs, has_pair, is_pair}
 -- ---- pages
 
 -- at most one frame a word
-frames_few : (ws : List Ptw) → length (frames_in ws) ≤ length ws
+pub frames_few : (ws : List Ptw) → length (frames_in ws) ≤ length ws
 frames_few [] = omega arith
 frames_few (ptw.Null ∷ ws) = let rest = frames_few ws in omega (arith, rest)
 frames_few (ptw.Out r ∷ ws) = let rest = frames_few ws in omega (arith, rest)
@@ -61,7 +61,7 @@ module _ (s : State) (u : ℕ) (k : Keeps s) (active : is_active s.store.ast u �
   its_place = (active_place s.store.ast u active).1
 
   -- the page table of an active segment has 256 words at the most
-  table_few : length (table_of s.store.ast u) ≤ 256
+  pub table_few : length (table_of s.store.ast u) ≤ 256
   table_few = by (node_in s.store.accounts.nodes u) refl
     where
       there : is_there s.store.accounts.nodes u ≡ true

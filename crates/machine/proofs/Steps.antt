@@ -1,5 +1,5 @@
 -- A machine keeps its promise through an action of a step, where the calls of its store do what they say.
-use Rattle.std.proofs.Common.{◌≡◌, ◌<◌, ℕ, length, sym, ap, subst, ◌∙◌}
+use Rattle.std.proofs.Common.{◌≡◌, ◌<◌, ◌≤◌, ℕ, length, sym, ap, subst, ◌∙◌}
 use Rattle.script.specs.Plans.{Plan}
 use Rattle.machine_model.specs.Actions.{Action, action_of}
 use Rattle.machine_model.specs.After.{Outcome, after}
@@ -10,7 +10,9 @@ use Rattle.machine_model.proofs.MachineKept.{step_keeps_all}
 use Rattle.machine_model.proofs.PoolsKept.{pools_kept}
 use Rattle.machine_model.proofs.StepAsks.{Rests}
 use Rattle.machine_tables.specs.Parts.{Parts}
-use Rattle.machine.specs.Promise.{IsSound}
+use Rattle.machine.specs.Promise.{IsSound, taken_in}
+use Rattle.machine.proofs.FewTaken.{few_after}
+use Rattle.machine.proofs.Found.{found_of}
 
 -- the tables after an action, and the promise that they keep
 pub sound_after : {D : Type 0} (t u : Parts D) (c : ℕ) (o : Outcome) (a : Action) → IsSound t
@@ -23,4 +25,6 @@ sound_after t u c o a sound there doing says rests state room = record {
       (subst (λ (x : Action). Rests t.state c o x) (sym doing) rests)));
   room = room ∙ (sound.room ∙ ap (λ (p : Plan). length p.processes)
       (sym (ap (λ (s : State). s.plan) state ∙ (pools_kept t.state c a o).plan)));
+  few = subst (λ (s : State). taken_in s ≤ 288) (sym state) (few_after t.state c o sound.keeps.machine.keeps sound.few a
+      (found_of t.state c sound.keeps.machine there a doing));
 }

@@ -1,6 +1,8 @@
--- What the end of a transfer asks, and that the machine keeps its promise through it, where the drives count their
--- failures and a failure of it may be told.
+-- What the end of a transfer asks, and that the machine keeps its promise through it, however the call of the drive
+-- ended.
 use Rattle.std.proofs.Common.{◌≡◌, ◌<◌, ◌≤◌, ℕ, Bool, true, false, cond, length, Some, subst}
+use Rattle.std.specs.Prelude.{Err, Ok, OnErr, Result}
+use Rattle.site_io.specs.Faults.{Rose}
 use Rattle.core_map.specs.declared.Frame.TheVariants as frame
 use Rattle.core_map.specs.CoreMap.{frame_at}
 use Rattle.active_segs.specs.Active.{IsActive}
@@ -10,13 +12,12 @@ use Rattle.storage_ops.specs.Shown.{IsStore}
 use Rattle.processor.specs.declared.Transfer.{Transfer}
 use Rattle.machine_model.specs.Actions as act
 use Rattle.machine_model.specs.Actions.{action_of}
-use Rattle.machine_model.specs.After.{Outcome, after}
+use Rattle.machine_model.specs.After.{Outcome, after, by_outcome}
 use Rattle.machine_model.specs.Keeps.{Keeps}
 use Rattle.machine_model.specs.Reads.{processor_at}
 use Rattle.machine_model.specs.State.{State, Storage}
 use Rattle.machine_model.specs.Steps.{transfer_failed, transferred, with_faults}
-use Rattle.machine_model.proofs.StepAsks.{ReadsFor}
-use Rattle.machine_tables.specs.Parts.{Parts}
+use Rattle.machine_tables.specs.Parts.{Parts, outcome_of}
 use Rattle.machine.specs.Promise.{IsSound}
 use Rattle.machine.proofs.Found.{found_of}
 use Rattle.machine.proofs.ReadStays.{active_there, brought_as, lost_as, page_within, started}
@@ -63,16 +64,16 @@ module _ {D : Type 0} (t : Parts D) (c : ℕ) (sound : IsSound t) (there : c < l
       by true h = lost_as s c x keeps mine
       by false h = brought_as s c x keeps mine h.0
 
-  pub end_sound : (o : Outcome) → s.faults ≤ o.faults → (o.failed ≡ true → s.faults < o.faults)
-      → (o.failed ≡ true → ReadsFor s c) → (now : Parts D) → now.state ≡ after s c (act.EndTransfer x) o
-      → now.room ≡ t.room → IsKeptStore now.state.store → IsSound now
-  end_sound o never_less counted reads now state room kept = sound_after t now c o (act.EndTransfer x) sound there doing
+  pub end_sound : (o : Outcome) → s.faults ≤ o.faults → (o.failed ≡ true → Rose s.faults o.faults)
+      → (now : Parts D) → now.state ≡ after s c (act.EndTransfer x) o → now.room ≡ t.room
+      → IsKeptStore now.state.store → IsSound now
+  end_sound o never_less counted now state room kept = sound_after t now c o (act.EndTransfer x) sound there doing
       (record {
         store = kept_as s.store after_it.store shows keeps.store now_kept.0 now_kept.1;
         shown = λ f h. faithful_as s.store after_it.store shows s.plan f h;
         never_less = never_less;
         counted = counted;
-      }) reads state room
+      }) tt state room
     where
       after_it : State
       after_it = after s c (act.EndTransfer x) o
@@ -82,3 +83,29 @@ module _ {D : Type 0} (t : Parts D) (c : ℕ) (sound : IsSound t) (there : c < l
 
       shows : ShowsAs s.store after_it.store
       shows = ends_as o now_kept
+
+  -- by how the call ended
+  pub transfer_after : {E : Type 0} (r : Result (Unit {0}) E) (now : Parts D)
+      → now.state ≡ by_outcome (outcome_of r now.state.faults) (transferred (with_faults s now.state.faults) c x)
+      (transfer_failed s c x now.state.faults)
+      → now.state ≡ after s c (act.EndTransfer x) (outcome_of r now.state.faults)
+  unfolding after
+  transfer_after (Ok u) now h = h
+  transfer_after (Err e) now h = h
+
+  pub transfer_sound : {E : Type 0} (r : Result (Unit {0}) E) (now : Parts D)
+      → now.state ≡ by_outcome (outcome_of r now.state.faults) (transferred (with_faults s now.state.faults) c x)
+      (transfer_failed s c x now.state.faults)
+      → (s.faults ≤ now.state.faults) × OnErr r (Rose s.faults now.state.faults) → now.room ≡ t.room
+      → IsKeptStore now.state.store → IsSound now
+  transfer_sound r now state counts room kept = end_sound (outcome_of r now.state.faults)
+      (less r) (counted r counts.1) now (transfer_after r now state) room kept
+    where
+      less : {E : Type 0} (y : Result (Unit {0}) E) → s.faults ≤ (outcome_of y now.state.faults).faults
+      less (Ok u) = counts.0
+      less (Err e) = counts.0
+
+      counted : {E : Type 0} (y : Result (Unit {0}) E) → OnErr y (Rose s.faults now.state.faults)
+          → (outcome_of y now.state.faults).failed ≡ true → Rose s.faults (outcome_of y now.state.faults).faults
+      counted (Ok u) h failed = absurd (let no : false ≡ true = failed in cc)
+      counted (Err e) h failed = h

@@ -1,79 +1,42 @@
 //! What a processor does without the supervisor.
 
-ghost use Rattle.std.specs.Prelude.{◌≡◌, ◌<◌, ◌+◌, ◌^◌, length, None, Some};
-ghost use Rattle.machine_model.specs.Actions.{Clear, FillPage, FillSeg, Leave, Load, Online, Plain, action_of};
+ghost use Rattle.std.specs.Prelude.{◌≡◌, ◌<◌, ◌≤◌, length, Some};
+ghost use Rattle.flat_model.specs.References.{word_reply};
+ghost use Rattle.machine_model.specs.Actions.{Clear, FillPage, FillSeg, Leave, Load, Online, Plain, Through};
+ghost use Rattle.machine_model.specs.Actions.{action_of};
 ghost use Rattle.machine_model.specs.Reads.{cpu_at, processor_at};
-ghost use Rattle.machine_model.specs.Steps.{came_online, cleared_at, left_at, loaded, page_filled, seg_filled, told};
-ghost use Rattle.machine_tables.specs.Parts.{with_state};
+ghost use Rattle.machine.specs.Turns.{IsBusy, IsTurn};
 
 use crate::machine::Machine;
+use crate::turn::Turn;
 use assoc_mem::What;
 use book::Reply;
-use script::Reference;
+use mword::Word;
+use script::{RefKind, Reference};
+use site_io::Point;
 use volumes::Drive;
 
+/// What a reference is answered that finds this word in its frame.
+fn word_reply(old: Word, kind: &RefKind) -> Reply
+    ensures { result ≡ word_reply old kind.now }
+{
+    match kind {
+        RefKind::Write(_) => Reply::Done,
+        RefKind::Read | RefKind::Add(_) => Reply::Word(kind.new_word(old)),
+    }
+}
+
 impl<D: Drive> Machine<D> {
-    /// Processor `c` takes part from now on. (Source: own.)
-    pub(crate) fn come_online(&mut self, c: u32)
-        requires doing { action_of self.old.state c ≡ Online }
-        requires there { c < length self.old.state.processors }
-        requires room { 0 < self.old.state.spare }
-        ensures { self.new ≡ with_state self.old (came_online self.old.state c) }
+    /// The process of processor `c`, which has one.
+    pub(crate) fn busy(&self, c: u32) -> u32
+        requires busy { IsBusy self.now.state c }
+        requires there { c < length self.now.state.processors }
+        ensures { (cpu_at self.now.state.processors c).process ≡ Some result }
     {
-        self.tables.come_online(c);
-    }
-
-    /// Processor `c` drops what it is to drop. (Source: Bensoussan, Clingen and Daley 1972.)
-    pub(crate) fn clear(&mut self, c: u32, what: What)
-        requires doing { action_of self.old.state c ≡ Clear what }
-        requires there { c < length self.old.state.processors }
-        requires room { 0 < self.old.state.spare }
-        ensures { self.new ≡ with_state self.old (cleared_at self.old.state c what) }
-    {
-        self.tables.clear(c, what);
-    }
-
-    /// Processor `c` loads the process at the front of the ready list. (Source: Corbató 1968.)
-    pub(crate) fn load(&mut self, c: u32, process: u32)
-        requires doing { action_of self.old.state c ≡ Load process }
-        requires there { c < length self.old.state.processors }
-        requires room { 0 < self.old.state.spare }
-        ensures { self.new ≡ with_state self.old (loaded self.old.state c process) }
-    {
-        self.tables.load(c, process);
-    }
-
-    /// Processor `c` gives its process up, which has had its turn or has ended. (Source: Corbató 1968.)
-    pub(crate) fn leave(&mut self, c: u32, process: u32)
-        requires doing { action_of self.old.state c ≡ Leave }
-        requires process { (cpu_at self.old.state.processors c).process ≡ Some process }
-        requires there { c < length self.old.state.processors }
-        requires room { 0 < self.old.state.spare }
-        ensures { self.new ≡ with_state self.old (left_at self.old.state c) }
-    {
-        self.tables.leave(c, process);
-    }
-
-    /// Processor `c` takes in the descriptor of a number of its process. (Source: Bensoussan, Clingen and Daley 1972.)
-    pub(crate) fn fill_seg(&mut self, c: u32, process: u32, number: u32)
-        requires doing { action_of self.old.state c ≡ FillSeg number }
-        requires process { (cpu_at self.old.state.processors c).process ≡ Some process }
-        requires there { c < length self.old.state.processors }
-        requires room { 0 < self.old.state.spare }
-        ensures { self.new ≡ with_state self.old (seg_filled self.old.state c number) }
-    {
-        self.tables.fill_seg(c, process, number);
-    }
-
-    /// Processor `c` takes in the page table word of a reference's page, which is in this frame. (Source: Bensoussan,
-    /// Clingen and Daley 1972.)
-    pub(crate) fn fill_page(&mut self, c: u32, frame: u32, reference: Reference)
-        requires doing { action_of self.old.state c ≡ FillPage frame reference }
-        requires there { c < length self.old.state.processors }
-        requires room { 0 < self.old.state.spare }
-        ensures { self.new ≡ with_state self.old (page_filled self.old.state c frame reference) }
-    {
-        self.tables.fill_page(c, frame, reference);
+        match self.tables.processors()[c as usize].cpu.process {
+            Some(process) => process,
+            None => unreachable!(),
+        }
     }
 
     /// How many entries the book has, which is more than the commands that processor `c` has answered since it loaded
@@ -85,17 +48,108 @@ impl<D: Drive> Machine<D> {
     {
         self.tables.book().len()
     }
+}
+
+impl<D: Drive> Machine<D> {
+    /// Processor `c` takes part from now on. (Source: own.)
+    pub(crate) fn come_online(&mut self, c: u32) -> Turn
+        requires doing { action_of self.old.state c ≡ Online }
+        requires there { c < length self.old.state.processors }
+        requires room { 320 ≤ self.old.state.spare }
+        ensures { IsTurn D.plan D.places self.old self.new c result }
+    {
+        self.tables.come_online(c);
+        Turn::Moved(Point::Online)
+    }
+
+    /// Processor `c` drops what it is to drop. (Source: Bensoussan, Clingen and Daley 1972.)
+    pub(crate) fn clear(&mut self, c: u32, what: What) -> Turn
+        requires doing { action_of self.old.state c ≡ Clear what }
+        requires there { c < length self.old.state.processors }
+        requires room { 320 ≤ self.old.state.spare }
+        ensures { IsTurn D.plan D.places self.old self.new c result }
+    {
+        self.tables.clear(c, what);
+        Turn::Moved(Point::Other)
+    }
+
+    /// Processor `c` loads the process at the front of the ready list. (Source: Corbató 1968.)
+    pub(crate) fn load(&mut self, c: u32, process: u32) -> Turn
+        requires doing { action_of self.old.state c ≡ Load process }
+        requires there { c < length self.old.state.processors }
+        requires room { 320 ≤ self.old.state.spare }
+        ensures { IsTurn D.plan D.places self.old self.new c result }
+    {
+        self.tables.load(c, process);
+        Turn::Moved(Point::Loaded(process))
+    }
+
+    /// Processor `c` gives its process up, which has had its turn or has ended. (Source: Corbató 1968.)
+    pub(crate) fn leave(&mut self, c: u32) -> Turn
+        requires doing { action_of self.old.state c ≡ Leave }
+        requires there { c < length self.old.state.processors }
+        requires room { 320 ≤ self.old.state.spare }
+        ensures { IsTurn D.plan D.places self.old self.new c result }
+    {
+        let process = self.busy(c);
+        self.tables.leave(c, process);
+        Turn::Moved(Point::Other)
+    }
+}
+
+impl<D: Drive> Machine<D> {
+    /// Processor `c` takes in the descriptor of a number of its process. (Source: Bensoussan, Clingen and Daley 1972.)
+    pub(crate) fn fill_seg(&mut self, c: u32, number: u32) -> Turn
+        requires doing { action_of self.old.state c ≡ FillSeg number }
+        requires there { c < length self.old.state.processors }
+        requires room { 320 ≤ self.old.state.spare }
+        ensures { IsTurn D.plan D.places self.old self.new c result }
+    {
+        let process = self.busy(c);
+        self.tables.fill_seg(c, process, number);
+        Turn::Moved(Point::Other)
+    }
+
+    /// Processor `c` takes in the page table word of a reference's page, which is in this frame. (Source: Bensoussan,
+    /// Clingen and Daley 1972.)
+    pub(crate) fn fill_page(&mut self, c: u32, frame: u32, reference: Reference) -> Turn
+        requires doing { action_of self.old.state c ≡ FillPage frame reference }
+        requires there { c < length self.old.state.processors }
+        requires room { 320 ≤ self.old.state.spare }
+        ensures { IsTurn D.plan D.places self.old self.new c result }
+    {
+        self.tables.fill_page(c, frame, reference);
+        Turn::Moved(Point::Other)
+    }
 
     /// Processor `c` answers the next command of its process by itself, through no frame: a reference that what it
     /// holds refuses, or one to a page that stays all zeros. (Source: Bensoussan, Clingen and Daley 1972.)
-    pub(crate) fn answer(&mut self, c: u32, process: u32, reply: Reply)
+    pub(crate) fn answer(&mut self, c: u32, reply: Reply) -> Turn
         requires doing { action_of self.old.state c ≡ Plain reply }
-        requires process { (cpu_at self.old.state.processors c).process ≡ Some process }
         requires there { c < length self.old.state.processors }
-        requires room { 0 < self.old.state.spare }
-        ensures { self.new ≡ with_state self.old (told self.old.state c None reply) }
+        requires room { 320 ≤ self.old.state.spare }
+        ensures { IsTurn D.plan D.places self.old self.new c result }
     {
+        let process = self.busy(c);
         let _entries = self.entries(c, process);
         self.tables.tell(c, process, None, reply);
+        Turn::Moved(Point::Other)
+    }
+
+    /// Processor `c` reads or writes the word of a reference in this frame, with the marks that go with it, and answers
+    /// it. (Source: Bensoussan, Clingen and Daley 1972.)
+    pub(crate) fn through(&mut self, c: u32, frame: u32, reference: Reference) -> Turn
+        requires doing { action_of self.old.state c ≡ Through frame reference }
+        requires there { c < length self.old.state.processors }
+        requires room { 320 ≤ self.old.state.spare }
+        ensures { IsTurn D.plan D.places self.old self.new c result }
+    {
+        let process = self.busy(c);
+        let _entries = self.entries(c, process);
+        let word = self.tables.reach(frame, &reference);
+        let reply = word_reply(word, &reference.kind);
+        self.tables.tell(c, process, Some(frame), reply);
+        let _tables = self.tables.look();
+        Turn::Moved(Point::Answered(process))
     }
 }

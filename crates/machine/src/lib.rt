@@ -3,8 +3,11 @@
 #![tactic(auto)]
 
 mod alone;
+mod finishing;
 mod looking;
 mod machine;
 mod owning;
+mod turn;
 
 pub use machine::Machine;
+pub use turn::Turn;

@@ -1,27 +1,39 @@
 //! What a look for the next command does that ends at once.
 
-ghost use Rattle.std.specs.Prelude.{◌≡◌, ◌<◌, length, Some};
-ghost use Rattle.machine_model.specs.Actions.{Answer, action_of};
-ghost use Rattle.machine_model.specs.Reads.{cpu_at};
-ghost use Rattle.machine_model.specs.Steps.{answered};
-ghost use Rattle.machine_tables.specs.Parts.{with_state};
+ghost use Rattle.std.specs.Prelude.{◌≡◌, ◌<◌, ◌≤◌, length};
+ghost use Rattle.machine_model.specs.Actions.{Answer, GiveUp, action_of};
+ghost use Rattle.machine.specs.Turns.{IsTurn};
 
 use crate::machine::Machine;
+use crate::turn::Turn;
 use book::Reply;
+use site_io::Point;
 use volumes::Drive;
 
 impl<D: Drive> Machine<D> {
     /// The owner's look finds what refuses the next command of its process: processor `c` answers it and gives the
     /// supervisor up. (Source: own.)
-    pub(crate) fn refuse(&mut self, c: u32, process: u32, reply: Reply)
+    pub(crate) fn refuse(&mut self, c: u32, reply: Reply) -> Turn
         requires doing { action_of self.old.state c ≡ Answer reply }
-        requires process { (cpu_at self.old.state.processors c).process ≡ Some process }
         requires there { c < length self.old.state.processors }
-        requires room { 0 < self.old.state.spare }
-        ensures { self.new ≡ with_state self.old (answered self.old.state c reply) }
+        requires room { 320 ≤ self.old.state.spare }
+        ensures { IsTurn D.plan D.places self.old self.new c result }
     {
+        let process = self.busy(c);
         let _entries = self.entries(c, process);
         self.tables.tell(c, process, None, reply);
         self.tables.give_up();
+        Turn::Moved(Point::Other)
+    }
+
+    /// Processor `_c`, which owns the supervisor and found nothing to do, gives it up. (Source: own.)
+    pub(crate) fn give_up(&mut self, _c: u32) -> Turn
+        requires doing { action_of self.old.state _c ≡ GiveUp }
+        requires there { _c < length self.old.state.processors }
+        requires room { 320 ≤ self.old.state.spare }
+        ensures { IsTurn D.plan D.places self.old self.new _c result }
+    {
+        self.tables.give_up();
+        Turn::Moved(Point::Other)
     }
 }

@@ -1,13 +1,24 @@
+use Rattle.std.proofs.Common.{◌≤◌, arith}
 use Rattle.machine.proofs.OwnerCalls.{deactivate_sound, inactive_emptied, inactive_owner}
+use Rattle.machine.proofs.StepDone.{deactivate_turn}
 use Rattle.machine.proofs.machine.Machine.deactivate.Goals as goal
 
 pub deactivate-requires-clause-owner : goal.deactivate-requires-clause-owner
-deactivate-requires-clause-owner g c = inactive_owner _ c.args.c c.self.invariant
-    (rw c.self.view_is c.requires.there) c.args.uid (rw c.self.view_is c.requires.doing)
+deactivate-requires-clause-owner g c = inactive_owner _ c.args.c c.self.invariant (rw c.self.view_is c.requires.there)
+    c.args.uid (rw c.self.view_is c.requires.doing)
 
 pub deactivate-requires-clause-empty : goal.deactivate-requires-clause-empty
 deactivate-requires-clause-empty g c = inactive_emptied _ c.args.c c.self.invariant
     (rw c.self.view_is c.requires.there) c.args.uid (rw c.self.view_is c.requires.doing)
+
+pub deactivate-requires-clause-room : goal.deactivate-requires-clause-room
+deactivate-requires-clause-room g c = let few = c.self.invariant.few in
+    let room : 320 ≤ c.self.inside.tables.state.spare = rw c.self.view_is c.requires.room in
+    omega (arith, few, room)
+
+pub returns : goal.returns
+returns g c = rw (← c.self.view_is) (deactivate_turn _ _ _ _ c.args.c c.args.uid (rw c.self.view_is c.requires.doing)
+    c.deactivate.ensures)
 
 pub invariant_of-self : goal.invariant_of-self
 invariant_of-self g c = deactivate_sound _ c.args.c c.self.invariant (rw c.self.view_is c.requires.there) c.args.uid

@@ -1,19 +1,32 @@
+use Rattle.machine_model.specs.Actions as act
 use Rattle.machine.proofs.AloneLaws.{number_there, process_known, seg_not_held}
+use Rattle.machine.proofs.Busy.{busy_for}
 use Rattle.machine.proofs.Quiet.{fill_seg_sound}
+use Rattle.machine.proofs.StepDone.{fill_seg_turn}
 use Rattle.machine.proofs.machine.Machine.fill_seg.Goals as goal
 
-pub invariant_of-self : goal.invariant_of-self
-invariant_of-self g c = rw c.fill_seg.ensures (fill_seg_sound _ c.args.c c.self.invariant
-    (rw c.self.view_is c.requires.there) c.args.number (rw c.self.view_is c.requires.doing))
+pub busy-process-requires-clause-busy : goal.busy-process-requires-clause-busy
+busy-process-requires-clause-busy g c = rw (← c.self.view_is)
+    (busy_for _ c.args.c c.self.invariant (rw c.self.view_is c.requires.there) (act.FillSeg c.args.number)
+    (rw c.self.view_is c.requires.doing))
 
 pub fill_seg-requires-clause-known : goal.fill_seg-requires-clause-known
 fill_seg-requires-clause-known g c = process_known _ c.args.c c.self.invariant (rw c.self.view_is c.requires.there)
-    c.args.process (rw c.self.view_is c.requires.process)
+    c.busy-process.result (rw c.self.view_is c.busy-process.ensures)
 
 pub fill_seg-requires-clause-number : goal.fill_seg-requires-clause-number
 fill_seg-requires-clause-number g c = number_there _ c.args.c c.self.invariant (rw c.self.view_is c.requires.there)
-    c.args.process c.args.number (rw c.self.view_is c.requires.process) (rw c.self.view_is c.requires.doing)
+    c.busy-process.result c.args.number (rw c.self.view_is c.busy-process.ensures)
+    (rw c.self.view_is c.requires.doing)
 
 pub fill_seg-requires-clause-new : goal.fill_seg-requires-clause-new
 fill_seg-requires-clause-new g c = seg_not_held _ c.args.c c.self.invariant (rw c.self.view_is c.requires.there)
     c.args.number (rw c.self.view_is c.requires.doing)
+
+pub returns : goal.returns
+returns g c = rw (← c.self.view_is) (fill_seg_turn _ _ _ _ c.args.c c.args.number (rw c.self.view_is c.requires.doing)
+    c.fill_seg.ensures)
+
+pub invariant_of-self : goal.invariant_of-self
+invariant_of-self g c = rw c.fill_seg.ensures (fill_seg_sound _ c.args.c c.self.invariant
+    (rw c.self.view_is c.requires.there) c.args.number (rw c.self.view_is c.requires.doing))

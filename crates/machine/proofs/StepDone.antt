@@ -1,0 +1,269 @@
+-- What a step has done, by what the call for its action says.
+use Rattle.std.proofs.Common.{◌≡◌, ◌≤◌, ℕ, true, false, length, map, List, [], ◌∷◌, Some, None, refl}
+use Rattle.std.proofs.Common.{sym, ap, subst, ◌∙◌, arith}
+use Rattle.std.specs.Prelude.{Err, Ok, OnErr, Result}
+use Rattle.site_io.specs.Faults.{Rose}
+use Rattle.site_io.specs.declared.gate.Point.TheVariants as point
+use Rattle.processor.specs.declared.Transfer.{Transfer}
+use Rattle.assoc_mem.specs.declared.What.{What}
+use Rattle.assoc_mem.specs.declared.What.TheVariants as what
+use Rattle.book.specs.declared.replies.Reply.{Reply}
+use Rattle.script.specs.declared.commands.Reference.{Reference}
+use Rattle.page_control.specs.Drives.{CallsDrive}
+use Rattle.machine_model.specs.declared.Aim.{Aim}
+use Rattle.machine_model.specs.declared.Aim.TheVariants as aim
+use Rattle.machine_model.specs.declared.CutDescriptor.{CutDescriptor}
+use Rattle.machine_model.specs.Actions as act
+use Rattle.machine_model.specs.Actions.{action_of}
+use Rattle.machine_model.specs.After.{after, no_call}
+use Rattle.machine_model.specs.Jobs.{cut_all, cut_one, deactivation_begun, emptied, eviction_begun, seg_gone, segs_gone}
+use Rattle.machine_model.specs.Jobs.{segment_taken, signalled, take_all, take_one, took}
+use Rattle.machine_model.specs.Reads.{cpu_at, cut_of_owner, frames_from, or_zero, process_at, trailers_in}
+use Rattle.machine_model.specs.State.{State}
+use Rattle.machine_model.specs.Steps.{answered, came_online, cleared_at, connected_to, left_at, loaded, looking}
+use Rattle.machine_model.specs.Steps.{page_filled, seg_filled, started, told, told_by, went_through, with_owner}
+use Rattle.machine_tables.specs.Parts.{Parts, outcome_of, with_state}
+use Rattle.machine.specs.Turns.{IsStep, IsTurn, turn_of, why_by}
+use Rattle.machine.specs.declared.turn.Turn.TheVariants as turn
+
+-- ---- the drives' count stays
+
+take_faults : (s : State) (c : ℕ) (a : Aim) (w : What) (fs : List ℕ) → (take_all s c a w fs).faults ≡ s.faults
+take_faults s c a w [] = refl
+take_faults s c a w (f ∷ fs) = take_faults (take_one s c a w f) c a w fs
+
+cut_faults : (s : State) (c : ℕ) (a : Aim) (w : What) (xs : List (ℕ × ℕ)) → (cut_all s c a w xs).faults ≡ s.faults
+cut_faults s c a w [] = refl
+cut_faults s c a w (x ∷ xs) = cut_faults (cut_one s c a w x) c a w xs
+
+pub took_faults : (s : State) (c : ℕ) (a : Aim) (w : What) (fs : List ℕ) (xs : List (ℕ × ℕ))
+    → (took s c a w fs xs).faults ≡ s.faults
+took_faults s c a w fs xs = cut_faults (take_all s c a w fs) c a w xs ∙ take_faults s c a w fs
+
+gone_faults : (s : State) (ds : List CutDescriptor) → (segs_gone s ds).faults ≡ s.faults
+gone_faults s [] = refl
+gone_faults s (d ∷ ds) = gone_faults (seg_gone s d) ds
+
+pub segment_faults : (s : State) (c u : ℕ) (fs : List ℕ) (xs : List (ℕ × ℕ))
+    → (segment_taken s c u fs xs).faults ≡ s.faults
+segment_faults s c u [] [] = gone_faults s (cut_of_owner s.owner)
+segment_faults s c u [] (x ∷ xs) = took_faults s c (aim.Deactivating u) (what.Seg u) [] (x ∷ xs)
+segment_faults s c u (f ∷ fs) xs = took_faults s c (aim.Deactivating u) (what.Seg u) (f ∷ fs) xs
+
+-- ---- a step
+
+module _ {D Plan : Type 0} (plan : D → Plan) (places : D → ℕ) (old new : Parts D) (c : ℕ) where
+  abbrev s : State
+  s = old.state
+
+  -- a call that leaves the drives as they are
+  pub still_step : (a : act.Action) → action_of s c ≡ a → new.state ≡ after s c a (no_call s)
+      → new.state.faults ≡ s.faults → new.drives ≡ old.drives → new.room ≡ old.room → IsStep plan places old new c
+  still_step a doing done faults drives room = record {
+    outcome = no_call s;
+    done = done ∙ ap (λ (y : act.Action). after s c y (no_call s)) (sym doing);
+    rose = λ h. absurd (let no : false ≡ true = h in cc);
+    grows = omega (arith, faults);
+    plans = ap (map plan) drives;
+    stores = ap (map places) drives;
+    count = ap (λ (ds : List D). length ds) drives;
+    room = room;
+  }
+
+  quiet_step : (a : act.Action) (x : State) → action_of s c ≡ a → x ≡ after s c a (no_call s) → x.faults ≡ s.faults
+      → new ≡ with_state old x → IsStep plan places old new c
+  quiet_step a x doing same faults is = still_step a doing
+      (ap (λ (t : Parts D). t.state) is ∙ same)
+      (ap (λ (t : Parts D). t.state.faults) is ∙ faults) (ap (λ (t : Parts D). t.drives) is)
+      (ap (λ (t : Parts D). t.room) is)
+
+  -- a call of one drive
+  pub drive_step : {T E : Type 0} (faults : D → ℕ) (a : act.Action) (v : ℕ) (r : Result T E) → action_of s c ≡ a
+      → new.state ≡ after s c a (outcome_of r new.state.faults)
+      → CallsDrive plan places faults old.drives new.drives v r
+      → (s.faults ≤ new.state.faults) × OnErr r (Rose s.faults new.state.faults) → new.room ≡ old.room
+      → IsStep plan places old new c
+  drive_step faults a v r doing done call counts room = record {
+    outcome = outcome_of r new.state.faults;
+    done = done ∙ ap (λ (y : act.Action). after s c y (outcome_of r new.state.faults)) (sym doing);
+    rose = rose r counts.1;
+    grows = counts.0;
+    plans = call.plans;
+    stores = call.stores;
+    count = call.count;
+    room = room;
+  }
+    where
+      rose : {T E : Type 0} (y : Result T E) → OnErr y (Rose s.faults new.state.faults)
+          → (outcome_of y new.state.faults).failed ≡ true → Rose s.faults new.state.faults
+      rose (Ok x) h failed = absurd (let no : false ≡ true = failed in cc)
+      rose (Err e) h failed = h
+
+  quiet_turn : (a : act.Action) (x : State) → action_of s c ≡ a → x ≡ after s c a (no_call s) → x.faults ≡ s.faults
+      → new ≡ with_state old x → IsTurn plan places old new c (turn_of s c a)
+  quiet_turn a x doing same faults is = record {
+    step = quiet_step a x doing same faults is;
+    answer_is = ap (turn_of s c) (sym doing);
+  }
+
+  drive_turn : {T E : Type 0} (faults : D → ℕ) (a : act.Action) (v : ℕ) (r : Result T E) → action_of s c ≡ a
+      → new.state ≡ after s c a (outcome_of r new.state.faults)
+      → CallsDrive plan places faults old.drives new.drives v r
+      → (s.faults ≤ new.state.faults) × OnErr r (Rose s.faults new.state.faults) → new.room ≡ old.room
+      → IsTurn plan places old new c (turn_of s c a)
+  drive_turn faults a v r doing done call counts room = record {
+    step = drive_step faults a v r doing done call counts room;
+    answer_is = ap (turn_of s c) (sym doing);
+  }
+
+  -- ---- without the supervisor
+
+  pub online_turn : action_of s c ≡ act.Online → new ≡ with_state old (came_online s c) → IsTurn plan places old new c
+      (turn.Moved point.Online)
+  unfolding after
+  online_turn doing = quiet_turn act.Online (came_online s c) doing refl refl
+
+  pub clear_turn : (w : What) → action_of s c ≡ act.Clear w → new ≡ with_state old (cleared_at s c w)
+      → IsTurn plan places old new c (turn.Moved point.Other)
+  unfolding after
+  clear_turn w doing = quiet_turn (act.Clear w) (cleared_at s c w) doing refl refl
+
+  pub load_turn : (k : ℕ) → action_of s c ≡ act.Load k → new ≡ with_state old (loaded s c k)
+      → IsTurn plan places old new c (turn.Moved (point.Loaded k))
+  unfolding after
+  load_turn k doing = quiet_turn (act.Load k) (loaded s c k) doing refl refl
+
+  pub leave_turn : action_of s c ≡ act.Leave → new ≡ with_state old (left_at s c) → IsTurn plan places old new c
+      (turn.Moved point.Other)
+  unfolding after
+  leave_turn doing = quiet_turn act.Leave (left_at s c) doing refl refl
+
+  pub fill_seg_turn : (n : ℕ) → action_of s c ≡ act.FillSeg n → new ≡ with_state old (seg_filled s c n)
+      → IsTurn plan places old new c (turn.Moved point.Other)
+  unfolding after
+  fill_seg_turn n doing = quiet_turn (act.FillSeg n) (seg_filled s c n) doing refl refl
+
+  pub fill_page_turn : (f : ℕ) (r : Reference) → action_of s c ≡ act.FillPage f r
+      → new ≡ with_state old (page_filled s c f r) → IsTurn plan places old new c (turn.Moved point.Other)
+  unfolding after
+  fill_page_turn f r doing = quiet_turn (act.FillPage f r) (page_filled s c f r) doing refl refl
+
+  gone_turn : (f : ℕ) (r : Reference) → action_of s c ≡ act.Through f r
+      → new ≡ with_state old (went_through s c f r)
+      → IsTurn plan places old new c (turn.Moved (point.Answered (process_at s c)))
+  unfolding after
+  gone_turn f r doing = quiet_turn (act.Through f r) (went_through s c f r) doing refl refl
+
+  pub through_turn : (f k : ℕ) (r : Reference) → (cpu_at s.processors c).process ≡ Some k
+      → action_of s c ≡ act.Through f r → new ≡ with_state old (went_through s c f r)
+      → IsTurn plan places old new c (turn.Moved (point.Answered k))
+  through_turn f k r its doing is = subst (λ (j : ℕ). IsTurn plan places old new c (turn.Moved (point.Answered j)))
+      (ap or_zero its) (gone_turn f r doing is)
+
+  told_turn : (r : Reply) → action_of s c ≡ act.Plain r → new ≡ with_state old (told s c None r)
+      → IsTurn plan places old new c (turn.Moved point.Other)
+  unfolding after
+  told_turn r doing = quiet_turn (act.Plain r) (told s c None r) doing refl refl
+
+  pub plain_turn : (k : ℕ) (r : Reply) → (cpu_at s.processors c).process ≡ Some k → action_of s c ≡ act.Plain r
+      → new ≡ with_state old (told_by s c k None r) → IsTurn plan places old new c (turn.Moved point.Other)
+  plain_turn k r its doing is = told_turn r doing
+      (is ∙ ap (λ (j : ℕ). with_state old (told_by s c j None r)) (sym (ap or_zero its)))
+
+  -- ---- the owner's looks
+
+  pub take_turn : action_of s c ≡ act.TakeSupervisor → new ≡ with_state old (with_owner s (Some (looking c)))
+      → IsTurn plan places old new c (turn.Moved point.Other)
+  unfolding after
+  take_turn doing = quiet_turn act.TakeSupervisor (with_owner s (Some (looking c))) doing refl refl
+
+  answered_turn : (r : Reply) → action_of s c ≡ act.Answer r → new ≡ with_state old (answered s c r)
+      → IsTurn plan places old new c (turn.Moved point.Other)
+  unfolding after
+  answered_turn r doing = quiet_turn (act.Answer r) (answered s c r) doing refl refl
+
+  pub answer_turn : (k : ℕ) (r : Reply) → (cpu_at s.processors c).process ≡ Some k → action_of s c ≡ act.Answer r
+      → new ≡ with_state old (with_owner (told_by s c k None r) None)
+      → IsTurn plan places old new c (turn.Moved point.Other)
+  answer_turn k r its doing is = answered_turn r doing
+      (is ∙ ap (λ (j : ℕ). with_state old (with_owner (told_by s c j None r) None)) (sym (ap or_zero its)))
+
+  pub give_up_turn : action_of s c ≡ act.GiveUp → new ≡ with_state old (with_owner s None)
+      → IsTurn plan places old new c (turn.Moved point.Other)
+  unfolding after
+  give_up_turn doing = quiet_turn act.GiveUp (with_owner s None) doing refl refl
+
+  pub connect_turn : (n u : ℕ) → action_of s c ≡ act.Connect n u → new ≡ with_state old (connected_to s c n u)
+      → IsTurn plan places old new c (turn.Moved point.Other)
+  unfolding after
+  connect_turn n u doing = quiet_turn (act.Connect n u) (connected_to s c n u) doing refl refl
+
+  pub start_turn : (f u p : ℕ) → action_of s c ≡ act.Start f u p → new ≡ with_state old (started s c f u p)
+      → IsTurn plan places old new c (turn.Moved point.Other)
+  unfolding after
+  start_turn f u p doing = quiet_turn (act.Start f u p) (started s c f u p) doing refl refl
+
+  -- ---- what is taken
+
+  pub evict_turn : (f : ℕ) → action_of s c ≡ act.Evict f → new ≡ with_state old (eviction_begun s c f)
+      → IsTurn plan places old new c (turn.Moved point.Other)
+  unfolding after
+  evict_turn f doing = quiet_turn (act.Evict f) (eviction_begun s c f) doing refl refl
+
+  pub empty_turn : (u : ℕ) → action_of s c ≡ act.Empty u → new ≡ with_state old (deactivation_begun s c u)
+      → IsTurn plan places old new c (turn.Moved point.Other)
+  unfolding after
+  empty_turn u doing = quiet_turn (act.Empty u) (deactivation_begun s c u) doing refl
+      (segment_faults s c u (frames_from s.store.ast u 0) (trailers_in s.store u))
+
+  -- ---- the phases that follow
+
+  pub signal_turn : (w : What) → action_of s c ≡ act.Signal w → new ≡ with_state old (signalled s c w)
+      → IsTurn plan places old new c (turn.Moved point.Signalled)
+  unfolding after
+  signal_turn w doing = quiet_turn (act.Signal w) (signalled s c w) doing refl refl
+
+  pub deactivate_turn : (u : ℕ) → action_of s c ≡ act.Deactivate u → new ≡ with_state old (emptied s c u)
+      → IsTurn plan places old new c (turn.Moved point.Other)
+  unfolding after
+  deactivate_turn u doing = quiet_turn (act.Deactivate u) (emptied s c u) doing refl
+      (gone_faults s (cut_of_owner s.owner))
+
+  -- ---- calls of a drive
+
+  pub transfer_turn : {T E : Type 0} (faults : D → ℕ) (x : Transfer) (v : ℕ) (r : Result T E)
+      → action_of s c ≡ act.EndTransfer x → new.state ≡ after s c (act.EndTransfer x) (outcome_of r new.state.faults)
+      → CallsDrive plan places faults old.drives new.drives v r
+      → (s.faults ≤ new.state.faults) × OnErr r (Rose s.faults new.state.faults) → new.room ≡ old.room
+      → IsTurn plan places old new c (turn.Moved point.Other)
+  transfer_turn faults x v r doing = drive_turn faults (act.EndTransfer x) v r doing
+
+  pub eviction_turn : {T E : Type 0} (faults : D → ℕ) (f : ℕ) (v : ℕ) (r : Result T E)
+      → action_of s c ≡ act.FinishEviction f
+      → new.state ≡ after s c (act.FinishEviction f) (outcome_of r new.state.faults)
+      → CallsDrive plan places faults old.drives new.drives v r
+      → (s.faults ≤ new.state.faults) × OnErr r (Rose s.faults new.state.faults) → new.room ≡ old.room
+      → IsTurn plan places old new c (turn.Moved point.Other)
+  eviction_turn faults f v r doing = drive_turn faults (act.FinishEviction f) v r doing
+
+  pub page_turn : {T E : Type 0} (faults : D → ℕ) (f : ℕ) (v : ℕ) (r : Result T E) → action_of s c ≡ act.FinishPage f
+      → new.state ≡ after s c (act.FinishPage f) (outcome_of r new.state.faults)
+      → CallsDrive plan places faults old.drives new.drives v r
+      → (s.faults ≤ new.state.faults) × OnErr r (Rose s.faults new.state.faults) → new.room ≡ old.room
+      → IsTurn plan places old new c (turn.Moved point.Other)
+  page_turn faults f v r doing = drive_turn faults (act.FinishPage f) v r doing
+
+  -- ---- nothing is done
+
+  pub stopped_turn : action_of s c ≡ act.IsStopped → new ≡ old → IsTurn plan places old new c turn.Stopped
+  unfolding after
+  stopped_turn doing = quiet_turn act.IsStopped s doing refl refl
+
+  pub ended_turn : action_of s c ≡ act.HasEnded → new ≡ old → IsTurn plan places old new c turn.Ended
+  unfolding after
+  ended_turn doing = quiet_turn act.HasEnded s doing refl refl
+
+  pub waits_turn : (w : act.Why) → action_of s c ≡ act.Waits w → new ≡ old
+      → IsTurn plan places old new c (turn.Waits (why_by w))
+  unfolding after
+  waits_turn w doing = quiet_turn (act.Waits w) s doing refl refl

@@ -1,0 +1,54 @@
+use Rattle.machine_model.specs.Actions as act
+use Rattle.machine.proofs.AloneLaws.{place_room, released_room, run_there}
+use Rattle.machine.proofs.Busy.{busy_for}
+use Rattle.machine.proofs.DriveCounts.{call_counts}
+use Rattle.machine.proofs.StepDone.{transfer_turn}
+use Rattle.machine.proofs.TransferCalls.{ending, transfer_after, transfer_sound}
+use Rattle.machine.proofs.machine.Machine.end_transfer.Goals as goal
+
+pub busy-process-requires-clause-busy : goal.busy-process-requires-clause-busy
+busy-process-requires-clause-busy g c = rw (← c.self.view_is)
+    (busy_for _ c.args.c c.self.invariant (rw c.self.view_is c.requires.there) (act.EndTransfer c.args.transfer)
+    (rw c.self.view_is c.requires.doing))
+
+pub end_transfer-read-requires-clause-active : goal.end_transfer-read-requires-clause-active
+end_transfer-read-requires-clause-active g c =
+    (ending _ c.args.c c.self.invariant (rw c.self.view_is c.requires.there) c.args.transfer
+    (rw c.self.view_is c.requires.doing)).active
+
+pub end_transfer-read-requires-clause-page : goal.end_transfer-read-requires-clause-page
+end_transfer-read-requires-clause-page g c = (ending _ c.args.c c.self.invariant (rw c.self.view_is c.requires.there)
+    c.args.transfer (rw c.self.view_is c.requires.doing)).page
+
+pub end_transfer-read-requires-clause-started : goal.end_transfer-read-requires-clause-started
+end_transfer-read-requires-clause-started g c =
+    (ending _ c.args.c c.self.invariant (rw c.self.view_is c.requires.there) c.args.transfer
+    (rw c.self.view_is c.requires.doing)).started
+
+pub end_transfer-read-requires-clause-run : goal.end_transfer-read-requires-clause-run
+end_transfer-read-requires-clause-run g c = run_there _ c.args.c c.self.invariant c.busy-process.result
+    (rw c.self.view_is c.busy-process.ensures)
+
+pub end_transfer-read-requires-clause-place : goal.end_transfer-read-requires-clause-place
+end_transfer-read-requires-clause-place g c = place_room _ c.args.c c.self.invariant c.busy-process.result
+    (rw c.self.view_is c.busy-process.ensures) (rw c.self.view_is c.requires.there)
+
+pub end_transfer-read-requires-clause-ready : goal.end_transfer-read-requires-clause-ready
+end_transfer-read-requires-clause-ready g c = released_room _ c.args.c c.self.invariant c.busy-process.result
+    (rw c.self.view_is c.busy-process.ensures) _
+
+pub returns : goal.returns
+returns g c = rw (← c.self.view_is) (transfer_turn _ _ _ c.end_transfer-read.new.self c.args.c _ c.args.transfer _
+    c.end_transfer-read.result (rw c.self.view_is c.requires.doing) (transfer_after _ c.args.c c.self.invariant
+    (rw c.self.view_is c.requires.there) c.args.transfer (rw c.self.view_is c.requires.doing)
+    c.end_transfer-read.result c.end_transfer-read.new.self c.end_transfer-read.ensures.state)
+    c.end_transfer-read.ensures.drives (call_counts _ _ _ _ _ _ c.end_transfer-read.result _ _
+    c.end_transfer-read.ensures.drives c.look-before.ensures.faults c.look-tables.ensures.faults)
+    c.end_transfer-read.ensures.room)
+
+pub invariant_of-self : goal.invariant_of-self
+invariant_of-self g c = transfer_sound _ c.args.c c.self.invariant (rw c.self.view_is c.requires.there)
+    c.args.transfer (rw c.self.view_is c.requires.doing) c.end_transfer-read.result _
+    c.end_transfer-read.ensures.state (call_counts _ _ _ _ _ _ c.end_transfer-read.result _ _
+    c.end_transfer-read.ensures.drives c.look-before.ensures.faults c.look-tables.ensures.faults)
+    c.end_transfer-read.ensures.room (c.look-tables.ensures.kept, c.look-tables.ensures.counted)

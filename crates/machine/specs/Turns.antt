@@ -1,0 +1,58 @@
+-- What a step of a processor does, and what it is answered (own).
+use Rattle.std.specs.Prelude.{◌≡◌, ◌≤◌, ℕ, true, length, map, Some}
+use Rattle.site_io.specs.Faults.{Rose}
+use Rattle.site_io.specs.declared.gate.Point.{Point}
+use Rattle.site_io.specs.declared.gate.Point.TheVariants as point
+use Rattle.machine_model.specs.Actions as act
+use Rattle.machine_model.specs.Actions.{action_of}
+use Rattle.machine_model.specs.After.{Outcome, after}
+use Rattle.machine_model.specs.Reads.{cpu_at, process_at}
+use Rattle.machine_model.specs.State.{State}
+use Rattle.machine_tables.specs.Parts.{Parts}
+use Rattle.machine_tables.specs.declared.action.Why.{Why}
+use Rattle.machine_tables.specs.declared.action.Why.TheVariants as why
+use Rattle.machine.specs.declared.turn.Turn.{Turn}
+use Rattle.machine.specs.declared.turn.Turn.TheVariants as turn
+
+-- Processor c has done its one action, as the rules give it, and nothing else. If a call of a drive failed, the drives
+-- count more failures than before. The drives' plans and places stay, and so does the room of the ready list.
+pub record IsStep {D Plan : Type 0} (plan : D → Plan) (places : D → ℕ) (old new : Parts D) (c : ℕ) : Type 0 where
+  pub outcome : Outcome
+  pub done : new.state ≡ after old.state c (action_of old.state c) outcome
+  pub rose : outcome.failed ≡ true → Rose old.state.faults new.state.faults
+  pub grows : old.state.faults ≤ new.state.faults
+  pub plans : map plan new.drives ≡ map plan old.drives
+  pub stores : map places new.drives ≡ map places old.drives
+  pub count : length new.drives ≡ length old.drives
+  pub room : new.room ≡ old.room
+
+-- a processor has a process
+abbrev pub IsBusy : State → ℕ → Type 0
+IsBusy s c = (cpu_at s.processors c).process ≡ Some (process_at s c)
+
+abbrev pub why_by : act.Why → Why
+why_by (act.ForOwner cpu) = why.ForOwner cpu
+why_by (act.ForClear cpu) = why.ForClear cpu
+why_by (act.ForTransfer frame) = why.ForTransfer frame
+why_by (act.WhileIdle busy) = why.WhileIdle busy
+
+-- where a processor stands after an action
+abbrev pub point_of : State → ℕ → act.Action → Point
+point_of s c act.Online = point.Online
+point_of s c (act.Load process) = point.Loaded process
+point_of s c (act.Through frame reference) = point.Answered (process_at s c)
+point_of s c (act.Signal what) = point.Signalled
+point_of s c _ = point.Other
+
+-- what a step with this action is answered
+abbrev pub turn_of : State → ℕ → act.Action → Turn
+turn_of s c act.IsStopped = turn.Stopped
+turn_of s c act.HasEnded = turn.Ended
+turn_of s c (act.Waits reason) = turn.Waits (why_by reason)
+turn_of s c a = turn.Moved (point_of s c a)
+
+-- Processor c has made its step, and this is what it is answered.
+pub record IsTurn {D Plan : Type 0} (plan : D → Plan) (places : D → ℕ) (old new : Parts D) (c : ℕ) (answer : Turn)
+    : Type 0 where
+  pub step : IsStep plan places old new c
+  pub answer_is : answer ≡ turn_of old.state c (action_of old.state c)

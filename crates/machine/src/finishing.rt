@@ -1,0 +1,29 @@
+//! What ends with a call of a drive, which may fail.
+
+ghost use Rattle.std.specs.Prelude.{◌≡◌, ◌<◌, ◌≤◌, length};
+ghost use Rattle.machine_model.specs.Actions.{EndTransfer, action_of};
+ghost use Rattle.machine.specs.Turns.{IsTurn};
+
+use crate::machine::Machine;
+use crate::turn::Turn;
+use processor::Transfer;
+use site_io::Point;
+use volumes::Drive;
+
+impl<D: Drive> Machine<D> {
+    /// The transfer of processor `c` ends: the page is in its frame; or, where the drive failed, the frame is free, and
+    /// the process is told of the failure and answered. It costs one read of the drive. (Source: own.)
+    pub(crate) fn end_transfer(&mut self, c: u32, transfer: Transfer) -> Turn
+        requires doing { action_of self.old.state c ≡ EndTransfer transfer }
+        requires there { c < length self.old.state.processors }
+        requires room { 320 ≤ self.old.state.spare }
+        ensures { IsTurn D.plan D.places self.old self.new c result }
+    {
+        let process = self.busy(c);
+        let _entries = self.entries(c, process);
+        let _before = self.tables.look();
+        let _read = self.tables.end_transfer(c, process, transfer);
+        let _tables = self.tables.look();
+        Turn::Moved(Point::Other)
+    }
+}
