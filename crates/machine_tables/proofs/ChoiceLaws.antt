@@ -12,7 +12,7 @@ use Rattle.machine_model.specs.Jobs.{page_in, page_or_zero}
 use Rattle.machine_model.specs.State.{Storage}
 use Rattle.machine_tables.specs.Taken.{AreHere}
 
-bound_is : (x : Frame) → is_bound x ≡ true → bound_page x ≡ Some (page_or_zero (bound_page x))
+pub bound_is : (x : Frame) → is_bound x ≡ true → bound_page x ≡ Some (page_or_zero (bound_page x))
 bound_is Free h = absurd (let no : false ≡ true = h in cc)
 bound_is (Started u p) h = absurd (let no : false ≡ true = h in cc)
 bound_is (Bound u p used modified) h = refl

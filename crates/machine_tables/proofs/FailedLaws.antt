@@ -1,15 +1,12 @@
--- The write of a page failed: what was taken is back, and the accounts are as before.
+-- The write of a page failed: what was taken is back.
 use Rattle.std.proofs.Common.{◌≡◌, ℕ, List, [], ◌∷◌, Option, Some, None, refl, sym, ap, subst, ◌∙◌}
 use Rattle.std.specs.Prelude.{Result, Err}
-use Rattle.core_map.specs.CoreMap.{bound_page}
 use Rattle.page_control.specs.declared.Left.{Left}
-use Rattle.page_control.specs.Plain.{frame_in}
-use Rattle.storage_ops.specs.Paged.{IsSettled}
 use Rattle.machine_model.specs.declared.CutDescriptor.{CutDescriptor}
 use Rattle.machine_model.specs.After.{by_outcome}
-use Rattle.machine_model.specs.Jobs.{here_if, page_back, pages_back, seg_back, segs_back, write_failed}
+use Rattle.machine_model.specs.Jobs.{page_back, pages_back, seg_back, segs_back, write_failed}
 use Rattle.machine_model.specs.Reads.{cut_of_owner, frames_of_owner, process_at}
-use Rattle.machine_model.specs.State.{State, Storage}
+use Rattle.machine_model.specs.State.{State}
 use Rattle.machine_model.specs.Steps.{fault_told}
 use Rattle.machine_tables.specs.Parts.{Parts, outcome_of, with_drives, with_state}
 
@@ -21,30 +18,11 @@ faults_segs : (s : State) (ds : List CutDescriptor) → (segs_back s ds).faults 
 faults_segs s [] = refl
 faults_segs s (d ∷ ds) = faults_segs (seg_back s d) ds
 
-here_accounts : (st : Storage) (f : ℕ) (o : Option (ℕ × ℕ)) → (here_if st f o).accounts ≡ st.accounts
-here_accounts st f None = refl
-here_accounts st f (Some page) = refl
-
-accounts_pages : (s : State) (fs : List ℕ) → (pages_back s fs).store.accounts ≡ s.store.accounts
-accounts_pages s [] = refl
-accounts_pages s (f ∷ fs) = accounts_pages (page_back s f) fs
-    ∙ here_accounts s.store f (bound_page (frame_in s.store.pages f))
-
-accounts_segs : (s : State) (ds : List CutDescriptor) → (segs_back s ds).store.accounts ≡ s.store.accounts
-accounts_segs s [] = refl
-accounts_segs s (d ∷ ds) = accounts_segs (seg_back s d) ds
-
 failed_faults : (s : State) (c faults : ℕ) → (write_failed s c faults).faults ≡ faults
 failed_faults s c faults =
     let told = fault_told s (Some (process_at s c)) faults in
     faults_segs (pages_back told (frames_of_owner s.owner)) (cut_of_owner s.owner)
     ∙ faults_pages told (frames_of_owner s.owner)
-
-failed_accounts : (s : State) (c faults : ℕ) → (write_failed s c faults).store.accounts ≡ s.store.accounts
-failed_accounts s c faults =
-    let told = fault_told s (Some (process_at s c)) faults in
-    accounts_segs (pages_back told (frames_of_owner s.owner)) (cut_of_owner s.owner)
-    ∙ accounts_pages told (frames_of_owner s.owner)
 
 failed_state : {D : Type 0} (old mid new : Parts D) (c faults : ℕ) (drives : List D)
     → mid ≡ with_drives old drives faults
@@ -65,13 +43,3 @@ failed_outcome old mid new c faults drives done r e ill is failed =
     state ∙ ap (write_failed old.state c) same
     ∙ ap (λ (x : Result Left _). by_outcome (outcome_of x new.state.faults) done
     (write_failed old.state c new.state.faults)) (sym ill)
-
--- its accounts
-pub failed_settled : {D E : Type 0} (old mid new : Parts D) (c faults uid : ℕ) (drives : List D) (r : Result Left E)
-    (e : E) → r ≡ Err e → mid ≡ with_drives old drives faults
-    → new ≡ with_state mid (write_failed mid.state c mid.state.faults)
-    → IsSettled old.state.store.accounts new.state.store.accounts uid r
-failed_settled old mid new c faults uid drives r e ill is failed =
-    subst (IsSettled old.state.store.accounts new.state.store.accounts uid) (sym ill)
-    (ap (λ (x : State). x.store.accounts) (failed_state old mid new c faults drives is failed)
-    ∙ failed_accounts old.state c faults)

@@ -8,12 +8,15 @@ use Rattle.book.specs.declared.entries.Entry.{Entry}
 use Rattle.mword.specs.Words.{AreZero}
 use Rattle.page_control.specs.declared.Left.{Left}
 use Rattle.page_control.specs.declared.Left.TheVariants.{Kept, Released}
-use Rattle.machine_model.specs.Jobs.{are_zeros, left_of, page_back, pages_back}
+use Rattle.accounts.specs.Maps.{AccountMaps, HasColumns}
+use Rattle.storage_ops.specs.Paged.{IsSettled}
+use Rattle.machine_model.specs.Jobs.{are_zeros, left_of, page_back, page_in, pages_back, with_left}
 use Rattle.machine_model.specs.Reads.{cut_of_owner, frames_of_owner}
 use Rattle.machine_model.specs.State.{State, Storage}
-use Rattle.machine_model.specs.Steps.{booked}
-use Rattle.machine_tables.specs.Parts.{Parts, with_state}
 use Rattle.machine_model.specs.Returned.{MayRelink, with_all_here}
+use Rattle.machine_model.specs.Steps.{booked, with_store}
+use Rattle.machine_tables.specs.Parts.{Parts, with_accounts, with_drives, with_state}
+use Rattle.machine_tables.proofs.ColumnLaws.{settled_is}
 
 -- ---- pages of zeros
 
@@ -52,6 +55,22 @@ left_is (Ok Kept) ws zeros = by (are_zeros ws) refl
     by : (b : Bool) → are_zeros ws ≡ b → Kept ≡ cond b Released Kept
     by false e = refl
     by true e = absurd (let no = zeros.1 (zeros_from ws e) in cc)
+
+-- a page that has left its frame, and what its account is then
+pub left_exact : {D E : Type 0} (old new : Parts D) (f : ℕ) (r : Result Left E) → HasColumns old.state.store.accounts
+    → HasColumns new.state.store.accounts
+    → IsSettled old.state.store.accounts new.state.store.accounts (page_in old.state.store f).0 r
+    → IfOk r (λ left. new ≡ with_drives (with_state old (with_store old.state (with_accounts
+    (with_left old.state.store f left (page_in old.state.store f)) new.state.store.accounts))) new.drives
+    new.state.faults)
+    → IfOk r (λ left. new ≡ with_drives (with_state old (with_store old.state
+    (with_left old.state.store f left (page_in old.state.store f)))) new.drives new.state.faults)
+left_exact old new f (Err e) before after settled is = tt
+left_exact {D} {E} old new f (Ok how) before after settled is =
+    is ∙ ap (λ (a : AccountMaps). with_drives (with_state old (with_store old.state (with_accounts
+    (with_left old.state.store f how (page_in old.state.store f)) a))) new.drives new.state.faults)
+    (settled_is {E = E} old.state.store.accounts new.state.store.accounts (page_in old.state.store f).0 (Ok how) how
+    refl before after settled)
 
 -- ---- two entries
 

@@ -1,11 +1,16 @@
+pub mod AboutLaws
 pub mod ActiveLaws
 pub mod BackLaws
 pub mod ChoiceLaws
+pub mod ClaimLaws
+pub mod ColumnLaws
 pub mod CommandLaws
+pub mod CreateLaws
 pub mod CutLaws
 pub mod FailedLaws
 pub mod FrameLaws
 pub mod JobLaws
+pub mod JoinLaws
 pub mod LeftLaws
 pub mod LinkLaws
 pub mod MoveLaws
@@ -20,3 +25,4 @@ pub mod ShownLaws
 pub mod SignalLaws
 pub mod TakeLaws
 pub mod TookLaws
+pub mod VisitLaws

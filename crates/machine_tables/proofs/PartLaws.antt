@@ -1,7 +1,10 @@
 -- Tables of which a loop changes the machine's state alone.
-use Rattle.std.proofs.Common.{◌≡◌, sym, ap, ◌∙◌}
-use Rattle.machine_model.specs.State.{State}
-use Rattle.machine_tables.specs.Parts.{Parts, with_state}
+use Rattle.std.proofs.Common.{◌≡◌, ℕ, List, sym, ap, ◌∙◌}
+use Rattle.std.specs.Prelude.{sum_by}
+use Rattle.storage_ops.specs.Shown.{Storage as Stored}
+use Rattle.machine_model.specs.State.{State, Storage}
+use Rattle.machine_model.specs.Steps.{with_store}
+use Rattle.machine_tables.specs.Parts.{Parts, shown, with_state, with_stored}
 
 pub rest_next : {D : Type 0} (s t first : Parts D) (x : State) → s ≡ with_state first s.state → t ≡ with_state s x
     → t ≡ with_state first t.state
@@ -15,3 +18,16 @@ state_of s t x is = ap (λ (y : Parts _). y.state) is
 pub rest_end : {D : Type 0} (s first : Parts D) (x : State) → s ≡ with_state first s.state → s.state ≡ x
     → s ≡ with_state first x
 rest_end s first x rest is = rest ∙ ap (with_state first) is
+
+-- the same tables over another store, whose drives are as before
+pub stored_is : {D : Type 0} (pages : D → List (List ℕ)) (faults : D → ℕ) (x now : Parts D) (t u : Stored D)
+    (change : Storage → Storage) → x ≡ now → x ≡ with_stored x pages faults t
+    → shown pages u ≡ change (shown pages t) → u.segs.pages.volumes.drives ≡ t.segs.pages.volumes.drives
+    → with_stored x pages faults u ≡ with_state now (with_store now.state (change now.state.store))
+stored_is {D} pages faults x now t u change view is changed drives =
+    (λ i. record {
+      state = record x.state { store = changed i; faults = sum_by faults (drives i) };
+      room = x.room;
+      drives = drives i;
+    })
+    ∙ ap (λ (y : Parts D). with_state y (with_store y.state (change y.state.store))) (sym is ∙ view)

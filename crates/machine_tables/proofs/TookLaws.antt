@@ -30,13 +30,13 @@ leaving_links : (st : Storage) (f : ℕ) (o : Option (ℕ × ℕ)) → (leaving_
 leaving_links st f None = refl
 leaving_links st f (Some page) = refl
 
-entries_still : (s : State) (c : ℕ) (a : Aim) (w : What) (fs : List ℕ)
+pub entries_still : (s : State) (c : ℕ) (a : Aim) (w : What) (fs : List ℕ)
     → (take_all s c a w fs).store.ast.entries ≡ s.store.ast.entries
 entries_still s c a w [] = refl
 entries_still s c a w (f ∷ fs) = entries_still (take_one s c a w f) c a w fs
     ∙ leaving_entries s.store f (bound_page (frame_in s.store.pages f))
 
-links_still : (s : State) (c : ℕ) (a : Aim) (w : What) (fs : List ℕ)
+pub links_still : (s : State) (c : ℕ) (a : Aim) (w : What) (fs : List ℕ)
     → (take_all s c a w fs).store.links ≡ s.store.links
 links_still s c a w [] = refl
 links_still s c a w (f ∷ fs) = links_still (take_one s c a w f) c a w fs

@@ -1,4 +1,7 @@
+pub mod Activated
+pub mod Claimed
 pub mod Held
+pub mod Made
 pub mod Meant
 pub mod Owned
 pub mod Parts

@@ -1,5 +1,6 @@
 -- What the tables of a machine have.
-use Rattle.std.specs.Prelude.{◌≡◌, ℕ, true, false, length, replicate, List, [], None, Result, Ok, Err}
+use Rattle.std.specs.Prelude.{◌≡◌, ℕ, true, false, length, replicate, sum_by, List, [], None, Result, Ok}
+use Rattle.std.specs.Prelude.{Err}
 use Rattle.script.specs.Plans.{Plan}
 use Rattle.accounts.specs.Maps.{AccountMaps}
 use Rattle.custody_model.specs.Custody.{ready_at_first}
@@ -32,10 +33,6 @@ with_drives t drives faults = record t { state = with_faults t.state faults; dri
 abbrev pub with_accounts : Storage → AccountMaps → Storage
 with_accounts st accounts = record st { accounts = accounts }
 
--- a state with other accounts
-abbrev pub with_accounts_in : State → AccountMaps → State
-with_accounts_in s accounts = with_store s (with_accounts s.store accounts)
-
 -- all but the book, the store and the owner is as it was
 abbrev pub KeepsSeats : State → State → Type 0
 KeepsSeats old new =
@@ -54,6 +51,14 @@ shown pages t = record {
   ast = t.segs.ast;
   links = t.segs.links;
   whos = t.whos;
+}
+
+-- the same tables over another store
+abbrev pub with_stored : {D : Type 0} → Parts D → (D → List (List ℕ)) → (D → ℕ) → Stored D → Parts D
+with_stored x pages faults t = record {
+  state = record x.state { store = shown pages t; faults = sum_by faults t.segs.pages.volumes.drives };
+  room = x.room;
+  drives = t.segs.pages.volumes.drives;
 }
 
 -- before the first entry, over a store: each process at its first command, and no processor takes part

@@ -1,4 +1,4 @@
-ghost use Rattle.std.specs.Prelude.{◌≡◌, ◌<◌, ◌≤◌, ◌+◌, length, Some, not, true, [], ◌∷◌, if◌then◌else◌};
+ghost use Rattle.std.specs.Prelude.{◌≡◌, ◌<◌, ◌≤◌, ◌+◌, length, Some, not, true};
 ghost use Rattle.page_table.specs.declared.Ptw.TheVariants.{Here};
 ghost use Rattle.active_segs.specs.Active.{IsActive};
 ghost use Rattle.machine_model.specs.Actions.{first_taken, is_empty, what_taken};
@@ -7,6 +7,7 @@ ghost use Rattle.machine_model.specs.declared.Aim.TheVariants.{Deactivating};
 ghost use Rattle.machine_model.specs.Jobs.{cut_all, deactivation_begun, took};
 ghost use Rattle.machine_model.specs.Reads.{cut_of_owner, descriptor_of, frames_from, frames_of_owner};
 ghost use Rattle.machine_model.specs.Reads.{here_in, is_connected, trailers_in};
+ghost use Rattle.machine_tables.specs.Claimed.{number_in};
 ghost use Rattle.machine_tables.specs.Owned.{HasOwner};
 ghost use Rattle.machine_tables.specs.Parts.{with_state};
 ghost use Rattle.machine_tables.specs.Taken.{IsEmptied, is_bare};
@@ -31,7 +32,7 @@ pub(crate) fn first_taken(command: &Command) -> Option<u32>
 }
 
 /// What is signalled for a tree command of this segment.
-fn what_taken(uid: u32, command: &Command) -> What
+pub(crate) fn what_taken(uid: u32, command: &Command) -> What
     ensures { result ≡ what_taken uid command.now }
 {
     match command {
@@ -135,15 +136,15 @@ impl<D: Drive> Tables<D> {
     }
 
     /// The owner cuts a number of a process, if it leads to a segment.
-    fn cut_number(&mut self, c: u32, aim: Aim, what: What, process: u32, number: u32)
+    pub(crate) fn cut_number(&mut self, c: u32, aim: Aim, what: What, process: u32, number: u32)
         requires process { process < length self.old.state.store.links.known }
         requires number { number < 256 }
         requires owner { HasOwner self.old.state.owner }
-        requires few { length (cut_of_owner self.old.state.owner) < 256 }
-        requires room { 0 < self.old.state.spare }
+        requires few { length (cut_of_owner self.old.state.owner)
+            + length (number_in self.old.state.store.links process number) ≤ 256 }
+        requires room { length (number_in self.old.state.store.links process number) ≤ self.old.state.spare }
         ensures { self.new ≡ with_state self.old (cut_all self.old.state c aim what
-            (if is_connected (descriptor_of self.old.state.store.links process number)
-            then (process, number) ∷ [] else [])) }
+            (number_in self.old.state.store.links process number)) }
     {
         if self.is_connected(process, number) {
             self.cut_one(c, aim, what, process, number);

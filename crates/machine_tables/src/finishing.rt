@@ -13,7 +13,7 @@ ghost use Rattle.machine_model.specs.Jobs.{without_first_frame, write_failed};
 ghost use Rattle.machine_model.specs.Reads.{cut_of_owner, frames_of_owner, home_in};
 ghost use Rattle.machine_model.specs.Steps.{booked, with_faults, with_owner, with_store};
 ghost use Rattle.machine_tables.specs.Owned.{HasOwner};
-ghost use Rattle.machine_tables.specs.Parts.{KeepsSeats, outcome_of, with_accounts, with_accounts_in};
+ghost use Rattle.machine_tables.specs.Parts.{KeepsSeats, outcome_of, with_accounts};
 ghost use Rattle.machine_tables.specs.Parts.{with_drives, with_state};
 ghost use Rattle.machine_model.specs.Returned.{IsLeaving, IsRelinkable, MayComeBack, MayRelink};
 ghost use Rattle.machine_tables.specs.Returned.{MayFail};
@@ -27,7 +27,7 @@ use volumes::Drive;
 
 impl<D: Drive> Tables<D> {
     /// The page in a frame, which was on its way out, is here again.
-    fn bring_back(&mut self, f: u32)
+    pub(crate) fn bring_back(&mut self, f: u32)
         requires bound { is_bound (frame_at self.old.state.store.pages.core f) ≡ true }
         requires leaving { word_of self.old.state.store.ast (page_in self.old.state.store f).0
             (page_in self.old.state.store f).1 ≡ Leaving f }
@@ -110,7 +110,7 @@ impl<D: Drive> Tables<D> {
 impl<D: Drive> Tables<D> {
     /// The page in a frame, which is on its way out, leaves it, unless the drive fails. What its accounts are then is
     /// told by `settled`.
-    fn let_go(&mut self, f: u32) -> Result<Left, Failed>
+    fn empty_frame(&mut self, f: u32) -> Result<Left, Failed>
         requires { IsLeaving self.old.state.store f }
         ensures how { IfOk result (λ left. left ≡ left_of (words_in self.old.state.store.pages f)) }
         ensures ok { IfOk result (λ left. self.new ≡ with_drives (with_state self.old (with_store self.old.state
@@ -125,6 +125,23 @@ impl<D: Drive> Tables<D> {
         let (uid, _number) = self.page_in(f);
         let home = self.home(uid);
         self.store.evict(uid, home, f)
+    }
+
+    /// The page in a frame, which is on its way out, leaves it, unless the drive fails.
+    pub(crate) fn let_go(&mut self, f: u32) -> Result<Left, Failed>
+        requires { IsLeaving self.old.state.store f }
+        ensures how { IfOk result (λ left. left ≡ left_of (words_in self.old.state.store.pages f)) }
+        ensures ok { IfOk result (λ left. self.new ≡ with_drives (with_state self.old (with_store self.old.state
+            (with_left self.old.state.store f left (page_in self.old.state.store f))))
+            self.new.drives self.new.state.faults) }
+        ensures err { OnErr result (self.new ≡ with_drives self.old self.new.drives self.new.state.faults) }
+        ensures drives { CallsDrive D.plan D.places D.faults self.old.drives self.new.drives
+            (home_in self.old.state.store (page_in self.old.state.store f).0).volume result }
+    {
+        let _before = self.accounts();
+        let left = self.empty_frame(f);
+        let _after = self.accounts();
+        left
     }
 
     /// What was taken comes back, and the process is answered; the drives have counted the failure.
@@ -151,7 +168,7 @@ impl<D: Drive> Tables<D> {
     }
 
     /// Books that a page has left its frame, and that it is stored no more, where it was released.
-    fn book_gone(&mut self, f: u32, uid: u32, page: u32, left: Left)
+    pub(crate) fn book_gone(&mut self, f: u32, uid: u32, page: u32, left: Left)
         requires { 2 ≤ self.old.state.spare }
         ensures { self.new ≡ with_state self.old (booked self.old.state (entries_left f left (uid, page))) }
     {
@@ -164,8 +181,8 @@ impl<D: Drive> Tables<D> {
 
 impl<D: Drive> Tables<D> {
     /// The page in a frame, which the owner took first, leaves it; a job that makes a segment inactive goes on with the
-    /// next. Where the drive fails all that was taken comes back, and the process is answered. What the accounts are
-    /// then is told by `settled`. (Source: Bensoussan, Clingen and Daley 1972.)
+    /// next. Where the drive fails all that was taken comes back, and the process is answered. (Source: Bensoussan,
+    /// Clingen and Daley 1972.)
     ///
     /// # Errors
     /// `Failed` exactly where the drive failed.
@@ -173,11 +190,9 @@ impl<D: Drive> Tables<D> {
         requires leaving { IsLeaving self.old.state.store f }
         requires failing { MayFail self.old c process }
         ensures state { self.new.state ≡ by_outcome (outcome_of result self.new.state.faults)
-            (with_accounts_in (page_done (with_faults self.old.state self.new.state.faults) f)
-            self.new.state.store.accounts) (write_failed self.old.state c self.new.state.faults) }
+            (page_done (with_faults self.old.state self.new.state.faults) f)
+            (write_failed self.old.state c self.new.state.faults) }
         ensures room { self.new.room ≡ self.old.room }
-        ensures settled { IsSettled self.old.state.store.accounts self.new.state.store.accounts
-            (page_in self.old.state.store f).0 result }
         ensures drives { CallsDrive D.plan D.places D.faults self.old.drives self.new.drives
             (home_in self.old.state.store (page_in self.old.state.store f).0).volume result }
     {
@@ -194,8 +209,7 @@ impl<D: Drive> Tables<D> {
     }
 
     /// The page in a frame, which the owner took to evict it, leaves it, and the owner looks again. Where the drive
-    /// fails the page comes back, and the process is answered. What the accounts are then is told by `settled`.
-    /// (Source: Bensoussan, Clingen and Daley 1972.)
+    /// fails the page comes back, and the process is answered. (Source: Bensoussan, Clingen and Daley 1972.)
     ///
     /// # Errors
     /// `Failed` exactly where the drive failed.
@@ -203,11 +217,9 @@ impl<D: Drive> Tables<D> {
         requires leaving { IsLeaving self.old.state.store f }
         requires failing { MayFail self.old c process }
         ensures state { self.new.state ≡ by_outcome (outcome_of result self.new.state.faults)
-            (with_accounts_in (eviction_done (with_faults self.old.state self.new.state.faults) c f)
-            self.new.state.store.accounts) (write_failed self.old.state c self.new.state.faults) }
+            (eviction_done (with_faults self.old.state self.new.state.faults) c f)
+            (write_failed self.old.state c self.new.state.faults) }
         ensures room { self.new.room ≡ self.old.room }
-        ensures settled { IsSettled self.old.state.store.accounts self.new.state.store.accounts
-            (page_in self.old.state.store f).0 result }
         ensures drives { CallsDrive D.plan D.places D.faults self.old.drives self.new.drives
             (home_in self.old.state.store (page_in self.old.state.store f).0).volume result }
     {

@@ -6,12 +6,16 @@
 //! Costs: a call changes a processor, the book and at most one table. None but `reserve` takes memory.
 #![tactic(auto)]
 
+mod about;
 mod action;
+mod activating;
 mod answering;
 mod chains;
 mod choosing;
+mod claiming;
 mod commands;
 mod connecting;
+mod creating;
 mod emptying;
 mod ending;
 mod finishing;
@@ -29,6 +33,7 @@ mod taking;
 mod transfers;
 mod tree_looks;
 mod turns;
+mod visiting;
 
 pub use action::{Action, Why};
 pub use owner::{Holder, Job};

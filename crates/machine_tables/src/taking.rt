@@ -1,5 +1,7 @@
 ghost use Rattle.std.specs.Prelude.{◌≡◌, ◌<◌, ◌≤◌, ◌+◌, ℕ, [], length, Some, None, true, IfSome, IfNone, IsSome};
 ghost use Rattle.std.specs.List.{list_any};
+ghost use Rattle.accounts.specs.Maps.{HasColumns};
+ghost use Rattle.tree_model.specs.Trees.{IsTree};
 ghost use Rattle.core_map.specs.CoreMap.{bound_page, frame_at, is_bound};
 ghost use Rattle.core_map.specs.Clock.{clock_choice};
 ghost use Rattle.page_table.specs.declared.Ptw.TheVariants.{Here};
@@ -17,6 +19,7 @@ ghost use Rattle.machine_tables.specs.Parts.{with_state};
 ghost use Rattle.machine_tables.specs.Taken.{AreHere, IsOldest, LeavesPast};
 
 use crate::tables::Tables;
+use accounts::Accounts;
 use assoc_mem::What;
 use book::Entry;
 use descriptor_seg::Sdw;
@@ -37,6 +40,17 @@ impl<D: Drive> Tables<D> {
         let segs = self.store.segs();
         let _pages = segs.pages();
         segs
+    }
+
+    /// The accounts, with what is true of them between calls.
+    pub(crate) fn accounts(&self) -> &Accounts
+        ensures accounts { result.now ≡ self.now.state.store.accounts }
+        ensures columns { HasColumns self.now.state.store.accounts }
+        ensures tree { IsTree self.now.state.store.accounts.nodes }
+    {
+        let accounts = self.store.accounts();
+        let _root = accounts.root();
+        accounts
     }
 
     /// The place in which an active segment is.
@@ -65,7 +79,7 @@ impl<D: Drive> Tables<D> {
     }
 
     /// The page in a frame is on its way out.
-    fn send_off(&mut self, f: u32)
+    pub(crate) fn send_off(&mut self, f: u32)
         requires bound { is_bound (frame_at self.old.state.store.pages.core f) ≡ true }
         requires here { word_of self.old.state.store.ast (page_in self.old.state.store f).0
             (page_in self.old.state.store f).1 ≡ Here f }

@@ -1,13 +1,8 @@
-use Rattle.std.proofs.Common.{◌≡◌, subst}
-use Rattle.std.specs.Prelude.{IfOk}
-use Rattle.page_control.specs.Plain.{words_in}
-use Rattle.machine_model.specs.Jobs.{left_of}
-use Rattle.machine_tables.specs.Parts.{Parts}
-use Rattle.machine_tables.proofs.LeftLaws.{left_is}
+use Rattle.std.proofs.Common.{rules}
+use Rattle.machine_tables.proofs.LeftLaws.{left_exact}
 use Rattle.machine_tables.proofs.tables.Tables.let_go.Goals as goal
 
-pub returns-clause-how : goal.returns-clause-how
-returns-clause-how g c =
-    subst (λ (t : Parts g.row.D.Denot). IfOk c.evict.result (λ left. left
-    ≡ left_of (words_in t.state.store.pages c.args.f))) c.self.view_is
-    (left_is c.evict.result _ c.evict.ensures.zeros)
+pub returns-clause-ok : goal.returns-clause-ok
+returns-clause-ok g c = left_exact c.args.self.now c.empty_frame-left.new.self c.args.f c.empty_frame-left.result
+    c.accounts-before.ensures.columns c.accounts-after.ensures.columns c.empty_frame-left.ensures.settled
+    c.empty_frame-left.ensures.ok

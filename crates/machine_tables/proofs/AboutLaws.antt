@@ -1,0 +1,38 @@
+-- What a path leads to, by its walk.
+use Rattle.std.proofs.Common.{◌≡◌, ℕ, true, false, is_some, List, Option, Some, None, refl, sym, ap, ◌∙◌}
+use Rattle.std.specs.Prelude.{Result, Ok, Err}
+use Rattle.dir_tree.specs.Nodes.{path_answer}
+use Rattle.dir_tree.specs.declared.node.PathFault.{PathFault}
+use Rattle.tree_model.specs.Tree.{InSegment, LeadsTo, Missing, Node, Walk, node_in, walk_in}
+use Rattle.flat_model.specs.Branches.{node_at, there_or, walked}
+use Rattle.machine_model.specs.Refusal.{uid_of_node}
+use Rattle.machine_model.proofs.QuotaTotals.{found_uid}
+
+led_to : (ns : List Node) (w : Walk) (u : ℕ) → Ok u ≡ path_answer w → is_some (node_in ns u) ≡ true
+    → u ≡ uid_of_node (walked ns w)
+led_to ns (LeadsTo v) u is there = by (node_in ns v) refl
+  where
+    same : u ≡ v
+    same = cc
+
+    by : (x : Option Node) → node_in ns v ≡ x → u ≡ uid_of_node (there_or x)
+    by None e = absurd (let no : false ≡ true = sym (ap (λ (x : Option Node). is_some x) e)
+        ∙ (ap (λ (v : ℕ). is_some (node_in ns v)) (sym same) ∙ there) in cc)
+    by (Some n) e = same ∙ sym (found_uid ns v n e)
+led_to ns Missing u is there = absurd cc
+led_to ns InSegment u is there = absurd cc
+
+led_nowhere : (ns : List Node) (w : Walk) (e : PathFault) → Err e ≡ path_answer w → 0 ≡ uid_of_node (walked ns w)
+led_nowhere ns (LeadsTo v) e is = absurd cc
+led_nowhere ns Missing e is = refl
+led_nowhere ns InSegment e is = refl
+
+pub path_leads : (ns : List Node) (path : List (List ℕ)) (u : ℕ) → Ok u ≡ path_answer (walk_in ns path)
+    → is_some (node_in ns u) ≡ true → u ≡ uid_of_node (node_at ns path)
+unfolding node_at
+path_leads ns path u is there = led_to ns (walk_in ns path) u is there
+
+pub path_fails : (ns : List Node) (path : List (List ℕ)) (e : PathFault) → Err e ≡ path_answer (walk_in ns path)
+    → 0 ≡ uid_of_node (node_at ns path)
+unfolding node_at
+path_fails ns path e is = led_nowhere ns (walk_in ns path) e is

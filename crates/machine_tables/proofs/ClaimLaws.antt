@@ -1,0 +1,238 @@
+-- What a claim of a tree command names stays while pages are taken, and the descriptors of a process are cut in order.
+use Rattle.std.proofs.Common.{◌≡◌, ◌≢◌, ◌+◌, ◌-◌, ◌<◌, ◌≤◌, ℕ, suc, zero, Bool, true, false, ◌||◌, cond, is_some}
+use Rattle.std.proofs.Common.{length}
+use Rattle.std.proofs.Common.{List, [], ◌∷◌, ◌++◌, map, get_or, set, Option, Some, None, refl, sym, ap, subst, ◌∙◌}
+use Rattle.std.proofs.Common.{arith}
+use Rattle.std.proofs.Common.{inl, inr, length-append}
+use Rattle.std.specs.Prelude.{filter, nat_le}
+use Rattle.std.specs.List.{range_with_len}
+use Rattle.std.proofs.lemmas.Bool.Decides.{nat_tests}
+use Rattle.std.proofs.lemmas.Bool.{cases_lt}
+use Rattle.std.proofs.lemmas.List.{get_or-set_other, get_or-set_same, get_or_past, length-set}
+use Rattle.assoc_mem.specs.declared.What.{What}
+use Rattle.script.specs.Forms.{is_command}
+use Rattle.script.specs.declared.commands.Command.{Command}
+use Rattle.script.specs.declared.commands.Command.TheVariants as command
+use Rattle.descriptor_seg.specs.declared.Sdw.{Sdw}
+use Rattle.descriptor_seg.specs.declared.Sdw.TheVariants.{Fault, Present}
+use Rattle.descriptor_seg.specs.Descriptors.{sdw_at}
+use Rattle.seg_control.specs.Control.{Links, leads_at, sdws_at}
+use Rattle.seg_control.specs.Effects.{unlinked}
+use Rattle.machine_model.specs.declared.Aim.{Aim}
+use Rattle.machine_model.specs.Actions.{frames_taken}
+use Rattle.machine_model.specs.Jobs.{cut_all, cut_one, note_of, take_all, took}
+use Rattle.machine_model.specs.Reads.{connected_of, cut_of_owner, descriptor_of, is_connected, trailers_in}
+use Rattle.machine_model.specs.State.{State, Storage}
+use Rattle.machine_model.proofs.TieLaws.{none_some}
+use Rattle.machine_tables.specs.declared.claiming.Cuts.{Cuts}
+use Rattle.machine_tables.specs.declared.claiming.Cuts.TheVariants as cuts
+use Rattle.machine_tables.specs.Claimed.{IsNumber, cuts_in, number_in}
+use Rattle.machine_tables.specs.Owned.{HasOwner}
+use Rattle.machine_tables.specs.Parts.{Parts, with_state}
+use Rattle.machine_tables.proofs.TakeLaws.{owner_still, room_less}
+use Rattle.machine_tables.proofs.TookLaws.{cut_still, links_still, trailers_still}
+
+-- ---- while pages are taken
+
+pub cuts_still : (s : State) (c : ℕ) (a : Aim) (w : What) (fs : List ℕ) (k uid : ℕ) (x : Cuts)
+    → cuts_in (take_all s c a w fs).store k uid x ≡ cuts_in s.store k uid x
+cuts_still s c a w fs k uid cuts.Nothing = refl
+cuts_still s c a w fs k uid cuts.Trailers = trailers_still s c a w fs uid
+cuts_still s c a w fs k uid (cuts.Number n) = ap (λ (ls : Links). number_in ls k n) (links_still s c a w fs)
+cuts_still s c a w fs k uid cuts.All = ap (λ (ls : Links). connected_of ls k) (links_still s c a w fs)
+
+-- what the cuts ask, once the pages are taken
+pub record CanCutClaim (t : State) (k uid : ℕ) (x : Cuts) : Type 0 where
+  pub knows : k < length t.store.links.known
+  pub owner : HasOwner t.owner
+  pub few : length (cut_of_owner t.owner) + length (cuts_in t.store k uid x) ≤ 256
+  pub room : length (cuts_in t.store k uid x) ≤ t.spare
+
+pub claim_after : (s t : State) (c : ℕ) (a : Aim) (w : What) (fs : List ℕ) (k uid : ℕ) (x : Cuts)
+    → t ≡ take_all s c a w fs → k < length s.store.links.known → HasOwner s.owner
+    → length (cut_of_owner s.owner) + length (cuts_in s.store k uid x) ≤ 256
+    → length fs + length (cuts_in s.store k uid x) ≤ s.spare → CanCutClaim t k uid x
+claim_after s t c a w fs k uid x is knows owner few room = subst (λ (y : State). CanCutClaim y k uid x) (sym is)
+    (record {
+      knows = subst (λ (ls : Links). k < length ls.known) (sym (links_still s c a w fs)) knows;
+      owner = owner_still s c a w fs owner;
+      few = let cut = ap length (cut_still s c a w fs) in let all = ap length (cuts_still s c a w fs k uid x) in
+          omega (arith, cut, all, few);
+      room = let spent = room_less s c a w fs (omega (arith, room)) in
+          let all = ap length (cuts_still s c a w fs k uid x) in omega (arith, spent, all, room);
+    })
+
+pub claim_is : {D : Type 0} (old mid new : Parts D) (c : ℕ) (a : Aim) (w : What) (fs : List ℕ) (k uid : ℕ) (x : Cuts)
+    → mid ≡ with_state old (take_all old.state c a w fs)
+    → new ≡ with_state mid (cut_all mid.state c a w (cuts_in mid.state.store k uid x))
+    → new ≡ with_state old (took old.state c a w fs (cuts_in old.state.store k uid x))
+claim_is old mid new c a w fs k uid x took cut =
+    cut ∙ ap (λ (y : Parts _). with_state y (cut_all y.state c a w (cuts_in y.state.store k uid x))) took
+    ∙ ap (λ (pairs : List (ℕ × ℕ)). with_state old (cut_all (take_all old.state c a w fs) c a w pairs))
+    (cuts_still old.state c a w fs k uid x)
+
+-- ---- the descriptors of a process, in order
+
+cut_all-append : (s : State) (c : ℕ) (a : Aim) (w : What) (xs ys : List (ℕ × ℕ))
+    → cut_all s c a w (xs ++ ys) ≡ cut_all (cut_all s c a w xs) c a w ys
+cut_all-append s c a w [] ys = refl
+cut_all-append s c a w (x ∷ xs) ys = cut_all-append (cut_one s c a w x) c a w xs ys
+
+abbrev pub connected_in : Links → ℕ → List ℕ → List (ℕ × ℕ)
+connected_in links k ns = map (λ n. (k, n)) (filter (λ n. is_connected (descriptor_of links k n)) ns)
+
+-- those from a number on
+abbrev pub connected_from : Links → ℕ → ℕ → List (ℕ × ℕ)
+connected_from links k n = connected_in links k (range_with_len n (256 - n))
+
+one_connected : (links : Links) (k n : ℕ) (ns : List ℕ)
+    → connected_in links k (n ∷ ns) ≡ number_in links k n ++ connected_in links k ns
+one_connected links k n ns = by (is_connected (descriptor_of links k n)) refl
+  where
+    by : (b : Bool) → is_connected (descriptor_of links k n) ≡ b
+        → map (λ m. (k, m)) (cond b (n ∷ filter (λ m. is_connected (descriptor_of links k m)) ns)
+        (filter (λ m. is_connected (descriptor_of links k m)) ns))
+        ≡ cond b ((k, n) ∷ []) [] ++ connected_in links k ns
+    by true e = refl
+    by false e = refl
+
+pub next_connected : (links : Links) (k n : ℕ) → n < 256
+    → connected_from links k n ≡ number_in links k n ++ connected_from links k (n + 1)
+next_connected links k n lt =
+    let one : 256 - n ≡ suc (256 - (n + 1)) = omega (arith, lt) in
+    ap (λ (m : ℕ). connected_in links k (range_with_len n m)) one
+    ∙ one_connected links k n (range_with_len (n + 1) (256 - (n + 1)))
+
+pub none_connected : (links : Links) (k n : ℕ) → 256 ≤ n → connected_from links k n ≡ []
+none_connected links k n le =
+    let none : 256 - n ≡ zero = omega (arith, le) in
+    ap (λ (m : ℕ). connected_in links k (range_with_len n m)) none
+
+-- a cut leaves the other numbers of the process
+word_left : (words : List Sdw) (n m : ℕ) → n ≢ m → sdw_at (set words n Fault) m ≡ sdw_at words m
+word_left words n m ne = get_or-set_other words n m Fault Fault (λ e. ne (sym e))
+
+number_left : (links : Links) (k n m : ℕ) → n ≢ m
+    → descriptor_of (unlinked links k n (leads_at links.descriptors k n)) k m ≡ descriptor_of links k m
+number_left links k n m ne = by (leads_at links.descriptors k n)
+  where
+    here : (place : ℕ) → descriptor_of (unlinked links k n (Some place)) k m ≡ descriptor_of links k m
+    here place = elim (cases_lt k (length links.descriptors)) [
+      | inl lt ↦ ap (λ (words : List Sdw). sdw_at words m)
+          (get_or-set_same links.descriptors k (set (sdws_at links.descriptors k) n Fault) [] lt)
+          ∙ word_left (sdws_at links.descriptors k) n m ne
+      | inr le ↦ ap (λ (words : List Sdw). sdw_at words m)
+          (get_or_past (set links.descriptors k (set (sdws_at links.descriptors k) n Fault)) k []
+          (let long = length-set links.descriptors k (set (sdws_at links.descriptors k) n Fault) in
+          omega (arith, long, le)) ∙ sym (get_or_past links.descriptors k [] le))
+    ]
+
+    by : (o : Option ℕ) → descriptor_of (unlinked links k n o) k m ≡ descriptor_of links k m
+    by None = refl
+    by (Some place) = here place
+
+rest_left : (links : Links) (k n from count : ℕ) → n < from
+    → connected_in (unlinked links k n (leads_at links.descriptors k n)) k (range_with_len from count)
+    ≡ connected_in links k (range_with_len from count)
+rest_left links k n from zero lt = refl
+rest_left links k n from (suc count) lt =
+    one_connected (unlinked links k n (leads_at links.descriptors k n)) k from (range_with_len (from + 1) count)
+    ∙ (ap (λ (x : Sdw). cond (is_connected x) ((k, from) ∷ []) [] ++ connected_in
+    (unlinked links k n (leads_at links.descriptors k n)) k (range_with_len (from + 1) count))
+    (number_left links k n from (λ e. (omega (arith, e, lt))))
+    ∙ (ap (λ (xs : List (ℕ × ℕ)). number_in links k from ++ xs)
+    (rest_left links k n (from + 1) count (omega (arith, lt)))
+    ∙ sym (one_connected links k from (range_with_len (from + 1) count))))
+
+-- once a number is cut, if it was connected, the rest is left
+pub from_left : (s : State) (c : ℕ) (a : Aim) (w : What) (k n : ℕ)
+    → connected_from (cut_all s c a w (number_in s.store.links k n)).store.links k (n + 1)
+    ≡ connected_from s.store.links k (n + 1)
+from_left s c a w k n = by (is_connected (descriptor_of s.store.links k n))
+  where
+    by : (b : Bool) → connected_from (cut_all s c a w (cond b ((k, n) ∷ []) [])).store.links k (n + 1)
+        ≡ connected_from s.store.links k (n + 1)
+    by true = rest_left s.store.links k n (n + 1) (256 - (n + 1)) (omega arith)
+    by false = refl
+
+-- so far as the numbers of a process are cut, the rest leads to the same
+pub record CutsAllOn (now first : State) (c : ℕ) (a : Aim) (w : What) (k n : ℕ) : Type 0 where
+  pub same : cut_all now c a w (connected_from now.store.links k n)
+      ≡ cut_all first c a w (connected_of first.store.links k)
+  pub knows : k < length now.store.links.known
+  pub owner : HasOwner now.owner
+  pub few : length (cut_of_owner now.owner) + length (connected_from now.store.links k n) ≤ 256
+  pub room : length (connected_from now.store.links k n) ≤ now.spare
+
+pub number_few : (s first : State) (c : ℕ) (a : Aim) (w : What) (k n : ℕ) → CutsAllOn s first c a w k n → n < 256
+    → (length (cut_of_owner s.owner) + length (number_in s.store.links k n) ≤ 256)
+    × (length (number_in s.store.links k n) ≤ s.spare)
+number_few s first c a w k n on lt =
+    let all = ap length (next_connected s.store.links k n lt) in
+    let both = length-append (number_in s.store.links k n) (connected_from s.store.links k (n + 1)) in
+    let few = on.few in
+    let room = on.room in
+    (omega (arith, all, both, few), omega (arith, all, both, room))
+
+-- what a cut leaves of the rest
+one_owner : (s : State) (c : ℕ) (a : Aim) (w : What) (xs : List (ℕ × ℕ)) → HasOwner s.owner
+    → HasOwner (cut_all s c a w xs).owner
+one_owner s c a w [] has = has
+one_owner s c a w (x ∷ xs) has = one_owner (cut_one s c a w x) c a w xs (λ none. none_some (sym none))
+
+cuts_more : (s : State) (c : ℕ) (a : Aim) (w : What) (xs : List (ℕ × ℕ))
+    → length (cut_of_owner (cut_all s c a w xs).owner) ≡ length (cut_of_owner s.owner) + length xs
+cuts_more s c a w [] = omega arith
+cuts_more s c a w (x ∷ xs) =
+    let rest = cuts_more (cut_one s c a w x) c a w xs in
+    let one = length-append (cut_of_owner s.owner)
+    (note_of s.store x.0 x.1 (descriptor_of s.store.links x.0 x.1) ∷ []) in omega (arith, rest, one)
+
+cuts_spent : (s : State) (c : ℕ) (a : Aim) (w : What) (xs : List (ℕ × ℕ)) → length xs ≤ s.spare
+    → (cut_all s c a w xs).spare + length xs ≡ s.spare
+cuts_spent s c a w [] le = omega arith
+cuts_spent s c a w (x ∷ xs) le =
+    let rest = cuts_spent (cut_one s c a w x) c a w xs (omega (arith, le)) in omega (arith, rest, le)
+
+known_unlinked : (links : Links) (k n : ℕ) (o : Option ℕ) → (unlinked links k n o).known ≡ links.known
+known_unlinked links k n None = refl
+known_unlinked links k n (Some place) = refl
+
+cuts_known : (s : State) (c : ℕ) (a : Aim) (w : What) (xs : List (ℕ × ℕ))
+    → (cut_all s c a w xs).store.links.known ≡ s.store.links.known
+cuts_known s c a w [] = refl
+cuts_known s c a w (x ∷ xs) = cuts_known (cut_one s c a w x) c a w xs
+    ∙ known_unlinked s.store.links x.0 x.1 (leads_at s.store.links.descriptors x.0 x.1)
+
+pub number_next : (s t first : State) (c : ℕ) (a : Aim) (w : What) (k n : ℕ) → CutsAllOn s first c a w k n → n < 256
+    → t ≡ cut_all s c a w (number_in s.store.links k n) → CutsAllOn t first c a w k (n + 1)
+number_next s t first c a w k n on lt is = subst (λ (x : State). CutsAllOn x first c a w k (n + 1)) (sym is) (
+    let xs = number_in s.store.links k n in
+    let all = next_connected s.store.links k n lt in
+    let left = from_left s c a w k n in
+    let count = ap length all ∙ length-append xs (connected_from s.store.links k (n + 1)) in
+    let less = ap length left in
+    let few = on.few in
+    let room = on.room in
+    let more = cuts_more s c a w xs in
+    let spent = cuts_spent s c a w xs (omega (arith, count, room)) in
+    record {
+      same = ap (cut_all (cut_all s c a w xs) c a w) left
+          ∙ (sym (cut_all-append s c a w xs (connected_from s.store.links k (n + 1)))
+          ∙ (ap (cut_all s c a w) (sym all) ∙ on.same));
+      knows = subst (λ (ks : List (List (Option ℕ))). k < length ks) (sym (cuts_known s c a w xs)) on.knows;
+      owner = one_owner s c a w xs on.owner;
+      few = omega (arith, count, less, few, more);
+      room = omega (arith, count, less, room, spent);
+    })
+
+pub numbers_end : (s first : State) (c : ℕ) (a : Aim) (w : What) (k n : ℕ) → CutsAllOn s first c a w k n → 256 ≤ n
+    → s ≡ cut_all first c a w (connected_of first.store.links k)
+numbers_end s first c a w k n on le =
+    ap (cut_all s c a w) (sym (none_connected s.store.links k n le)) ∙ on.same
+
+-- ---- numbers
+
+pub terminate_small : (volumes number : ℕ) → is_command volumes (command.Terminate number) ≡ true → number < 256
+unfolding is_command
+terminate_small volumes number h = let le : nat_le number 255 ≡ true = h in grind (arith, nat_tests)

@@ -1,0 +1,131 @@
+-- The accounts' lists, by what is told of each segment.
+use Rattle.std.proofs.Common.{◌≡◌, ◌≢◌, ℕ, suc, ◌<◌, true, false, eqb, List, [], ◌∷◌, length, get_or, ext_get_or}
+use Rattle.std.proofs.Common.{if◌then◌else◌, inl, inr, refl, sym, ap, subst, ◌∙◌, arith}
+use Rattle.std.specs.Prelude.{Result, Ok}
+use Rattle.std.proofs.lemmas.Bool.{cases_Bool, cases_eq, ne_eqb}
+use Rattle.accounts.specs.Maps.{AccountMaps, HasColumns, Recounts, count_of}
+use Rattle.tree_model.specs.Tree.{Node}
+use Rattle.tree_model.specs.Trees.{has_segment}
+use Rattle.quota_cells.specs.Accounts.{has, look, with_value}
+use Rattle.quota_cells.specs.Cells.{IsRising}
+use Rattle.quota_cells.proofs.ColumnLaws.{length_with, look_with, look_with_other}
+use Rattle.quota_cells.proofs.PlaceLaws.{has_at, look_at}
+use Rattle.page_control.specs.declared.Left.{Left}
+use Rattle.page_control.specs.declared.Left.TheVariants.{Kept, Released}
+use Rattle.storage_ops.specs.Paged.{IsSettled}
+use Rattle.machine_model.specs.Jobs.{accounts_left}
+
+-- ---- rising uids
+
+rising_rest : (k : ℕ) (ks : List ℕ) → IsRising (k ∷ ks) → IsRising ks
+rising_rest k ks up i j lt within = up (suc i) (suc j) (omega arith) (omega arith)
+
+place_in : (ks : List ℕ) (u : ℕ) → has ks u ≡ true → (i : ℕ) × (i < length ks) × (get_or ks i 0 ≡ u)
+place_in [] u h = absurd (let no : false ≡ true = h in cc)
+place_in (k ∷ ks) u h = elim (cases_eq k u) [
+  | inl same ↦ (0, omega arith, same)
+  | inr other ↦ (let far : eqb k u ≡ false = ne_eqb k u other in
+      let rest = place_in ks u (rw far at h) in
+      let within = rest.1 in (suc rest.0, omega (arith, within), rest.2))
+]
+
+rest_more : (k u : ℕ) (ks : List ℕ) → IsRising (k ∷ ks) → has ks u ≡ true → k < u
+rest_more k u ks up h =
+    let at = place_in ks u h in
+    let within = at.1 in
+    subst (λ (x : ℕ). k < x) at.2 (up 0 (suc at.0) (omega arith) (omega (arith, within)))
+
+first_once : (k : ℕ) (ks : List ℕ) → IsRising (k ∷ ks) → has ks k ≡ false
+first_once k ks up = elim (cases_Bool (has ks k)) [
+  | inl is ↦ (let less = rest_more k k ks up is in absurd (omega (arith, less)))
+  | inr isnt ↦ isnt
+]
+
+first_less : (x y : ℕ) (xs ys : List ℕ) → IsRising (y ∷ ys) → has (x ∷ xs) x ≡ has (y ∷ ys) x → x ≢ y → y < x
+first_less x y xs ys up same other =
+    let there : has (y ∷ ys) x ≡ true = sym same ∙ has_at (x ∷ xs) 0 (omega arith) in
+    let far : eqb y x ≡ false = ne_eqb y x (λ q. other (sym q)) in
+    rest_more y x ys up (rw far at there)
+
+same_first : (x y : ℕ) (xs ys : List ℕ) → IsRising (x ∷ xs) → IsRising (y ∷ ys)
+    → ((u : ℕ) → has (x ∷ xs) u ≡ has (y ∷ ys) u) → x ≡ y
+same_first x y xs ys ux uy same = elim (cases_eq x y) [
+  | inl is ↦ is
+  | inr isnt ↦ (let more = first_less x y xs ys uy (same x) isnt in
+      let less = first_less y x ys xs ux (sym (same y)) (λ q. isnt (sym q)) in absurd (omega (arith, more, less)))
+]
+
+same_rest : (x y : ℕ) (xs ys : List ℕ) → IsRising (x ∷ xs) → IsRising (y ∷ ys) → x ≡ y
+    → ((u : ℕ) → has (x ∷ xs) u ≡ has (y ∷ ys) u) → (u : ℕ) → has xs u ≡ has ys u
+same_rest x y xs ys ux uy first same u = elim (cases_eq x u) [
+  | inl is ↦ ap (has xs) (sym is) ∙ (first_once x xs ux ∙ (sym (first_once y ys uy) ∙ ap (has ys) (sym first ∙ is)))
+  | inr isnt ↦ (let far : eqb x u ≡ false = ne_eqb x u isnt in
+      let past : eqb y u ≡ false = ne_eqb y u (λ q. isnt (first ∙ q)) in
+      let both : has (x ∷ xs) u ≡ has (y ∷ ys) u = same u in rw (far, past) at both)
+]
+
+-- the same uids stand in the same order
+pub rising_same : (xs ys : List ℕ) → IsRising xs → IsRising ys → ((u : ℕ) → has xs u ≡ has ys u) → xs ≡ ys
+rising_same [] [] ux uy same = refl
+rising_same [] (y ∷ ys) ux uy same =
+    absurd (let no : false ≡ true = same y ∙ has_at (y ∷ ys) 0 (omega arith) in cc)
+rising_same (x ∷ xs) [] ux uy same =
+    absurd (let no : false ≡ true = sym (same x) ∙ has_at (x ∷ xs) 0 (omega arith) in cc)
+rising_same (x ∷ xs) (y ∷ ys) ux uy same =
+    let first = same_first x y xs ys ux uy same in
+    let rest = rising_same xs ys (rising_rest x xs ux) (rising_rest y ys uy) (same_rest x y xs ys ux uy first same) in
+    λ i. first i ∷ rest i
+
+-- the values beside them are those that are told
+pub columns_same : (ks vs ws : List ℕ) → IsRising ks → length vs ≡ length ks → length ws ≡ length ks
+    → ((u : ℕ) → has ks u ≡ true → look ks vs u ≡ look ks ws u) → vs ≡ ws
+columns_same ks vs ws up long many same = ext_get_or 0 vs ws (long ∙ sym many) (λ i lt.
+    (let within : i < length ks = omega (arith, long) in
+    sym (look_at ks vs i up within) ∙ (same (get_or ks i 0) (has_at ks i within) ∙ look_at ks ws i up within)))
+
+-- ---- the accounts
+
+pub segments_same : (old new : AccountMaps) → HasColumns old → HasColumns new → new.nodes ≡ old.nodes
+    → new.segments ≡ old.segments
+segments_same old new before after nodes = rising_same new.segments old.segments after.rising before.rising
+    (λ u. after.segments u ∙ (ap (λ (ns : List Node). has_segment ns u) nodes ∙ sym (before.segments u)))
+
+-- one count is told
+pub recounted : (old new : AccountMaps) (seg count : ℕ) → HasColumns old → HasColumns new
+    → Recounts old new seg count
+    → new ≡ record old { counts = with_value old.segments old.counts seg count }
+recounted old new seg count before after told = (λ i. record {
+  nodes = told.nodes i;
+  entries = told.entries i;
+  next = told.next i;
+  segments = segments i;
+  counts = counts i;
+})
+  where
+    segments : new.segments ≡ old.segments
+    segments = segments_same old new before after told.nodes
+
+    beside : (u : ℕ) → has old.segments u ≡ true → (if eqb seg u then count else count_of old u)
+        ≡ look old.segments (with_value old.segments old.counts seg count) u
+    beside u there = elim (cases_eq seg u) [
+      | inl is ↦ sym (look_with old.segments old.counts seg count u before.counted
+          (subst (λ (x : ℕ). has old.segments x ≡ true) (sym is) there))
+      | inr isnt ↦ (let far : eqb seg u ≡ false = ne_eqb seg u isnt in
+          rw far (sym (look_with_other old.segments old.counts seg count u isnt)))
+    ]
+
+    counts : new.counts ≡ with_value old.segments old.counts seg count
+    counts = columns_same old.segments new.counts (with_value old.segments old.counts seg count) before.rising
+        (after.counted ∙ ap length segments)
+        (length_with old.segments old.counts seg count ∙ before.counted)
+        (λ u there. ap (λ (ks : List ℕ). look ks new.counts u) (sym segments) ∙ (told.counts u ∙ beside u there))
+
+-- the accounts once a page has left its frame
+pub settled_is : {E : Type 0} (old new : AccountMaps) (uid : ℕ) (r : Result Left E) (how : Left) → r ≡ Ok how
+    → HasColumns old → HasColumns new → IsSettled old new uid r → new ≡ accounts_left old uid how
+settled_is {E} old new uid r how is before after settled =
+    by how (subst (IsSettled {E = E} old new uid) is settled)
+  where
+    by : (x : Left) → IsSettled {E = E} old new uid (Ok x) → new ≡ accounts_left old uid x
+    by Kept same = same
+    by Released told = recounted old new uid _ before after told

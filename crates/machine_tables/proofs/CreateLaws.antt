@@ -1,0 +1,72 @@
+-- A page that is made: what the store asks, and what the tables have then.
+use Rattle.std.proofs.Common.{◌≡◌, ◌<◌, ℕ, ◌*◌, ◌+◌, List, Option, Some, None, refl, sym, ap, subst, ◌∙◌, arith}
+use Rattle.std.specs.Prelude.{Result, Ok}
+use Rattle.script.specs.Plans.{Plan}
+use Rattle.script.specs.declared.commands.Reference.{Reference}
+use Rattle.book.specs.declared.replies.Reply.{Reply}
+use Rattle.book.specs.declared.replies.Reply.TheVariants as reply
+use Rattle.accounts.specs.Maps.{AccountMaps, HasColumns, count_of}
+use Rattle.known_segs.specs.Known.{uid_of}
+use Rattle.tree_model.specs.Tree.{Node, node_in}
+use Rattle.flat_model.specs.References.{room_reply}
+use Rattle.flat_model.specs.Store.{Store}
+use Rattle.seg_control.specs.Control.{kst_at}
+use Rattle.storage_ops.specs.Paged.{IsKnownAs, IsPageMade, MayCreate, done_or}
+use Rattle.storage_ops.specs.Shown.{Shows, Storage as Stored, pages_of}
+use Rattle.machine_model.specs.Keeps.{IsFaithful}
+use Rattle.machine_model.specs.Steps.{charged, with_created}
+use Rattle.machine_model.specs.State.{Storage}
+use Rattle.machine_model.proofs.QuotaTotals.{found_uid}
+use Rattle.machine_tables.specs.Made.{HasPlace}
+use Rattle.machine_tables.specs.Parts.{shown}
+use Rattle.machine_tables.proofs.ColumnLaws.{recounted}
+use Rattle.machine_tables.proofs.RefusalLaws.{shows_of}
+
+pub may_create : {D : Type 0} (drive : D → List (List ℕ)) (t : Stored D) (k f : ℕ) (r : Reference)
+    → HasPlace (shown drive t) k f r → MayCreate t k r.number r.offset f
+may_create drive t k f r h = record {
+  uid = h.uid;
+  known = h.known;
+  active = h.active;
+  within = h.within;
+  null = h.null;
+  frame = h.frame;
+  free = h.free;
+}
+
+-- the page is made where there is room for it
+pub made_surely : {D : Type 0} (drive : D → List (List ℕ)) (t : Stored D) (st : Storage) (k f : ℕ) (r : Reference)
+    (p : Plan) (flat : Store) (result : Result (Unit {0}) Reply) → shown drive t ≡ st → (h : HasPlace st k f r)
+    → IsFaithful p flat st
+    → ((n : Node) → node_in flat.nodes h.uid ≡ Some n → room_reply p flat n reply.Done ≡ reply.Done)
+    → ((q : Plan) (s : Store) (n : Node) → Shows drive q s t → IsKnownAs s k r.number n
+    → result ≡ done_or (room_reply q s n reply.Done))
+    → result ≡ Ok tt
+made_surely drive t st k f r p flat result is h faithful room answer = by (node_in flat.nodes h.uid) refl
+  where
+    by : (x : Option Node) → node_in flat.nodes h.uid ≡ x → result ≡ Ok tt
+    by None e =
+        let none = ap pages_of (ap (λ (ns : List Node). node_in ns h.uid) (sym faithful.tree.nodes) ∙ e) in
+        let within = h.within in absurd (omega (arith, none, within))
+    by (Some n) e =
+        let own : n.uid ≡ h.uid = found_uid flat.nodes h.uid n e in
+        answer p flat n (shows_of drive p flat t (subst (IsFaithful p flat) (sym is) faithful)) (record {
+          known = ap (λ (x : List (List (Option ℕ))). uid_of (kst_at x k) r.number) faithful.known
+              ∙ (h.known ∙ ap (λ (u : ℕ). Some u) (sym own));
+          there = ap (node_in flat.nodes) own ∙ e;
+        }) ∙ ap done_or (room n e)
+
+-- what the store has then
+pub created_is : {D : Type 0} (drive : D → List (List ℕ)) (t u : Stored D) (uid p f at w : ℕ)
+    → HasColumns t.accounts → HasColumns u.accounts → IsPageMade drive t u uid p f at w
+    → shown drive u ≡ with_created (shown drive t) f uid p at w
+created_is drive t u uid p f at w before after made = (λ i. record {
+  accounts = accounts i;
+  pages = made.pages i;
+  ast = made.word i;
+  links = made.links i;
+  whos = made.whos i;
+})
+  where
+    accounts : u.accounts ≡ charged t.accounts uid
+    accounts = recounted t.accounts u.accounts uid (count_of t.accounts uid + 1) before after made.charged

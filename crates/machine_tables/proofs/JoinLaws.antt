@@ -1,0 +1,268 @@
+-- The next segment of the chain of a node: which it is, its pool, and what becomes of it.
+use Rattle.std.proofs.Common.{◌≡◌, ℕ, suc, zero, ◌+◌, ◌-◌, ◌<◌, ◌≤◌, Bool, true, false, not, cond, is_none, is_some}
+use Rattle.std.proofs.Common.{List, [], ◌∷◌, length, map, get_or, Option, Some, None, refl, sym, ap, subst, ◌∙◌, arith}
+use Rattle.std.specs.Prelude.{IsSome}
+use Rattle.std.specs.List.{find, range_with_len}
+use Rattle.std.proofs.lemmas.List.{get_or-map, length-map}
+use Rattle.std.proofs.lemmas.List.FromFn.{get_or-range_with_len, length-range_with_len}
+use Rattle.accounts.specs.Maps.{AccountMaps}
+use Rattle.dir_tree.specs.Nodes.{chain_of}
+use Rattle.tree_model.specs.Tree.{Node, node_in}
+use Rattle.tree_model.specs.Trees.{IsTree}
+use Rattle.active_segs.specs.declared.Entry.{Entry}
+use Rattle.active_segs.specs.Active.{ActiveSegs, IsFull, IsLeastFree, entry_at}
+use Rattle.active_segs.specs.Pool.{IsInPool, first_of, size_of}
+use Rattle.active_segs.specs.Victim.{HasOneOffChain, first_off_chain, hand_moved, hand_past}
+use Rattle.page_control.specs.declared.Home.{Home}
+use Rattle.page_control.specs.Tied.{map_at}
+use Rattle.seg_control.specs.declared.Link.{Link}
+use Rattle.seg_control.specs.Control.{place_of}
+use Rattle.seg_control.specs.Kept.{IsInactive}
+use Rattle.seg_control.specs.Next.{AreActive, IsFirstInactive, link_at, made_active, no_link, superior_of}
+use Rattle.seg_control.specs.Next.{table_for, uids_of, words_in}
+use Rattle.storage_ops.specs.Connecting.{HasOneToGo, IsChainDown, link_of}
+use Rattle.storage_ops.specs.Shown.{IsStore, home_of, is_there}
+use Rattle.storage_ops.proofs.ChainDown.{link_pool, link_superior, link_there}
+use Rattle.storage_ops.proofs.NodeLaws.{found_there}
+use Rattle.machine_model.specs.Actions.{pool_of_node}
+use Rattle.machine_model.specs.Jobs.{with_hand_moved}
+use Rattle.machine_model.specs.Reads.{first_inactive, frames_from, free_place, is_active, or_zero}
+use Rattle.machine_model.specs.Reads.{superior_of_node, trailers_in}
+use Rattle.machine_model.specs.State.{Storage}
+use Rattle.machine_model.specs.Steps.{with_active}
+use Rattle.machine_model.proofs.ActiveSeen.{active_place}
+use Rattle.machine_model.proofs.FindLaws.{find_true}
+use Rattle.machine_model.proofs.TieLaws.{none_some}
+use Rattle.machine_model.proofs.TransferKept.{active_at}
+use Rattle.machine_tables.specs.Activated.{FindsFull, JoinsAt, links_of, wanted_pool}
+use Rattle.machine_tables.specs.Taken.{IsEmptied, is_bare}
+
+-- ---- what is found in a list
+
+module _ (p : ℕ → Bool) where
+  find_at : (xs : List ℕ) (i : ℕ) → i < length xs → p (get_or xs i 0) ≡ true
+      → ((j : ℕ) → j < i → p (get_or xs j 0) ≡ false) → find p xs ≡ Some (get_or xs i 0)
+  find_at [] i lt here before = absurd (omega (arith, lt))
+  find_at (x ∷ xs) zero lt here before = ap (λ (b : Bool). cond b (Some x) (find p xs)) here
+  find_at (x ∷ xs) (suc i) lt here before = ap (λ (b : Bool). cond b (Some x) (find p xs)) (before 0 (omega arith))
+      ∙ find_at xs i (omega (arith, lt)) here (λ j less. before (suc j) (omega (arith, less)))
+
+  find_none : (xs : List ℕ) → ((j : ℕ) → j < length xs → p (get_or xs j 0) ≡ false) → find p xs ≡ None
+  find_none [] none = refl
+  find_none (x ∷ xs) none = ap (λ (b : Bool). cond b (Some x) (find p xs)) (none 0 (omega arith))
+      ∙ find_none xs (λ j less. none (suc j) (omega (arith, less)))
+
+  find_in : (a n q : ℕ) → find p (range_with_len a n) ≡ Some q → (a ≤ q) × (q < a + n)
+  find_in a zero q h = absurd (none_some h)
+  find_in a (suc n) q h = by (p a) h (find_in (a + 1) n q)
+    where
+      by : (b : Bool) → cond b (Some a) (find p (range_with_len (a + 1) n)) ≡ Some q
+          → (find p (range_with_len (a + 1) n) ≡ Some q → (a + 1 ≤ q) × (q < a + 1 + n)) → (a ≤ q) × (q < a + suc n)
+      by true e rest = let same : a ≡ q = cc in (omega (arith, same), omega (arith, same))
+      by false e rest = let both = rest e in let low = both.0 in let high = both.1 in
+          (omega (arith, low), omega (arith, high))
+
+-- ---- the free place of a pool
+
+some_is : (o : Option Entry) → IsSome o → is_none o ≡ false
+some_is None h = absurd (let no : false ≡ true = h in cc)
+some_is (Some e) h = refl
+
+least_is : (ast : ActiveSegs) (pool place : ℕ) → IsLeastFree ast pool place → free_place ast pool ≡ Some place
+least_is ast pool place least =
+    let from = least.in_pool.from in
+    let to = least.in_pool.to in
+    let long : (low + many) - low ≡ many = omega arith in
+    let count : length places ≡ many = length-range_with_len low ((low + many) - low) ∙ long in
+    let at : get_or places (place - low) 0 ≡ place =
+    get_or-range_with_len low ((low + many) - low) (place - low) 0 (omega (arith, from, to)) ∙ omega (arith, from) in
+    find_at (λ q. is_none (entry_at ast.entries q)) places (place - low) (omega (arith, from, to, count))
+    (ap (λ (q : ℕ). is_none (entry_at ast.entries q)) at ∙ ap (λ (e : Option Entry). is_none e) least.free)
+    (λ j less. (let here : get_or places j 0 ≡ low + j =
+    get_or-range_with_len low ((low + many) - low) j 0 (omega (arith, from, to, less)) in
+    ap (λ (q : ℕ). is_none (entry_at ast.entries q)) here
+    ∙ some_is (entry_at ast.entries (low + j)) (least.least (low + j)
+    (record { from = omega arith; to = omega (arith, from, to, less) }) (omega (arith, from, less)))))
+    ∙ ap (λ (q : ℕ). Some q) at
+  where
+    low : ℕ
+    low = first_of ast.sizes pool
+
+    many : ℕ
+    many = size_of ast.sizes pool
+
+    places : List ℕ
+    places = range_with_len low ((low + many) - low)
+
+not_full : (ast : ActiveSegs) (pool : ℕ) (o : Option ℕ) → free_place ast pool ≡ o → IsSome o → IsFull ast pool → ⊥
+not_full ast pool None e free full = let no : false ≡ true = free in cc
+not_full ast pool (Some q) e free full =
+    let inside = find_in (λ x. is_none (entry_at ast.entries x)) low ((low + many) - low) q e in
+    let from = inside.0 in
+    let to = inside.1 in
+    let none = find_true (λ x. is_none (entry_at ast.entries x)) (range_with_len low ((low + many) - low)) q e in
+    let some = some_is (entry_at ast.entries q)
+    (full q (record { from = from; to = omega (arith, to) })) in
+    let no : true ≡ false = sym none ∙ some in cc
+  where
+    low : ℕ
+    low = first_of ast.sizes pool
+
+    many : ℕ
+    many = size_of ast.sizes pool
+
+-- ---- the chain of a node
+
+idle_is : (ast : ActiveSegs) (u : ℕ) → IsInactive ast.entries u → is_active ast u ≡ false
+idle_is ast u idle = by (is_active ast u) refl
+  where
+    by : (b : Bool) → is_active ast u ≡ b → b ≡ false
+    by false e = refl
+    by true e = absurd (idle.nowhere (place_of ast.entries u) (active_place ast u e).1)
+
+same_uids : (a : AccountMaps) (us : List ℕ) → uids_of (map (link_of a) us) ≡ us
+same_uids a [] = refl
+same_uids a (u ∷ us) = ap (λ (vs : List ℕ). u ∷ vs) (same_uids a us)
+
+module _ (st new : Storage) (of : ℕ) (h : IsStore st.pages st.ast st.links st.accounts st.whos)
+    (t : IsTree st.accounts.nodes) (there : is_there st.accounts.nodes of ≡ true) where
+  abbrev a : AccountMaps
+  a = st.accounts
+
+  abbrev uids : List ℕ
+  uids = chain_of a.nodes of
+
+  abbrev chain : List Link
+  chain = links_of st of
+
+  down : IsChainDown a chain
+  down = record { uid = of; there = there; links = refl }
+
+  same_length : length chain ≡ length uids
+  same_length = length-map uids (link_of a)
+
+  link_is : (i : ℕ) → i < length chain → link_at chain i ≡ link_of a (get_or uids i 0)
+  link_is i lt = get_or-map (link_of a) uids i 0 no_link (omega (arith, lt, same_length))
+
+  uid_is : (i : ℕ) → i < length chain → (link_at chain i).uid ≡ get_or uids i 0
+  uid_is i lt = ap (λ (l : Link). l.uid) (link_is i lt)
+
+  home_is : (i : ℕ) → i < length chain → (link_at chain i).home ≡ home_of a (link_at chain i).uid
+  home_is i lt = ap (λ (l : Link). l.home) (link_is i lt) ∙ ap (home_of a) (sym (uid_is i lt))
+
+  node_is : (i : ℕ) → i < length chain → (n : Node) × (node_in a.nodes (link_at chain i).uid ≡ Some n)
+  node_is i lt = found_there a.nodes (link_at chain i).uid
+      (link_there st.pages st.ast st.links a st.whos chain h t down i lt)
+
+  first_is : (i : ℕ) → IsFirstInactive st.ast.entries chain i → first_inactive st.ast uids ≡ Some (link_at chain i).uid
+  first_is i first =
+      let within = first.within in
+      find_at (λ u. not (is_active st.ast u)) uids i (omega (arith, within, same_length))
+      (ap (λ (u : ℕ). not (is_active st.ast u)) (sym (uid_is i within))
+      ∙ ap not (idle_is st.ast (link_at chain i).uid first.inactive))
+      (λ j less. (let active = first.before j less in
+      ap (λ (u : ℕ). not (is_active st.ast u)) (sym (uid_is j (omega (arith, less, within))))
+      ∙ ap not (active_at st.ast active.0 (link_at chain j).uid active.1)))
+      ∙ ap (λ (u : ℕ). Some u) (sym (uid_is i within))
+
+  pool_is : (i : ℕ) → IsFirstInactive st.ast.entries chain i → (link_at chain i).pool ≡ wanted_pool st of
+  pool_is i first =
+      let found = node_is i first.within in
+      link_pool st.pages st.ast st.links a st.whos chain h t down i found.0 first.within found.1
+      ∙ sym (ap (λ (o : Option ℕ). pool_of_node (node_in a.nodes (or_zero o))) (first_is i first)
+      ∙ ap pool_of_node found.1)
+
+  -- ---- it becomes active
+
+  pub joined_place : (place i : ℕ) → JoinsAt st new chain place i → free_place st.ast (wanted_pool st of) ≡ Some place
+  joined_place place i joins = ap (free_place st.ast) (sym (pool_is i joins.first))
+      ∙ least_is st.ast (link_at chain i).pool place joins.least
+
+  pub joined_is : (place i uid : ℕ) → JoinsAt st new chain place i → first_inactive st.ast uids ≡ Some uid
+      → new ≡ with_active st uid place
+  joined_is place i uid joins wanted = joins.effect ∙ (λ k. record st {
+    ast = made_active st.ast place (same k) (superior k)
+        (table_for (map_at st.pages.vtocs (home k)) (words_in (pool k)));
+  })
+    where
+      within : i < length chain
+      within = joins.first.within
+
+      found : (n : Node) × (node_in a.nodes (link_at chain i).uid ≡ Some n)
+      found = node_is i within
+
+      one : {x y : ℕ} → Some x ≡ Some y → x ≡ y
+      one e = cc
+
+      same : (link_at chain i).uid ≡ uid
+      same = one (sym (first_is i joins.first) ∙ wanted)
+
+      at : node_in a.nodes uid ≡ Some found.0
+      at = ap (node_in a.nodes) (sym same) ∙ found.1
+
+      superior : superior_of chain i ≡ superior_of_node (node_in a.nodes uid)
+      superior = sym (link_superior st.pages st.ast st.links a st.whos chain h t down i found.0 within found.1)
+          ∙ sym (ap superior_of_node at)
+
+      home : (link_at chain i).home ≡ home_of a uid
+      home = home_is i within ∙ ap (home_of a) same
+
+      pool : (link_at chain i).pool ≡ pool_of_node (node_in a.nodes uid)
+      pool = link_pool st.pages st.ast st.links a st.whos chain h t down i found.0 within found.1
+          ∙ sym (ap pool_of_node at)
+
+  -- where its pool has a free place, no other segment has to go
+  pub no_victim : (i : ℕ) → IsFirstInactive st.ast.entries chain i → IsSome (free_place st.ast (wanted_pool st of))
+      → IsFull st.ast (link_at chain i).pool → ⊥
+  no_victim i first free full = not_full st.ast (wanted_pool st of) (free_place st.ast (wanted_pool st of)) refl free
+      (subst (IsFull st.ast) (pool_is i first) full)
+
+  pub free_to_go : IsSome (free_place st.ast (wanted_pool st of)) → HasOneToGo st.ast chain
+  free_to_go free = record { off = λ i first full. absurd (no_victim i first free full) }
+
+  -- ---- its pool is full
+
+  pub off_to_go : HasOneOffChain st.ast (wanted_pool st of) uids → HasOneToGo st.ast chain
+  off_to_go off = record {
+    off = λ i first full. subst (λ (us : List ℕ). HasOneOffChain st.ast (link_at chain i).pool us)
+        (sym (same_uids a uids))
+        (subst (λ (pool : ℕ). HasOneOffChain st.ast pool uids) (sym (pool_is i first)) off);
+  }
+
+  pub passed_is : (i : ℕ) → FindsFull st new chain i → new ≡ with_hand_moved st (wanted_pool st of) uids
+  passed_is i finds = finds.effect ∙ (λ k. record st {
+    ast = hand_moved st.ast (pool_is i finds.first k) (same_uids a uids k);
+  })
+
+  -- one of the chain isn't active
+  pub not_whole : AreActive st.ast.entries chain → IsSome (first_inactive st.ast uids) → ⊥
+  not_whole all some = by (first_inactive st.ast uids) none some
+    where
+      none : first_inactive st.ast uids ≡ None
+      none = find_none (λ u. not (is_active st.ast u)) uids (λ j less. (let within : j < length chain =
+          omega (arith, less, same_length) in let active = all.each j within in
+          ap (λ (u : ℕ). not (is_active st.ast u)) (sym (uid_is j within))
+          ∙ ap not (active_at st.ast active.0 (link_at chain j).uid active.1)))
+
+      by : (o : Option ℕ) → o ≡ None → IsSome o → ⊥
+      by None e some = let no : false ≡ true = some in cc
+      by (Some u) e some = none_some (sym e)
+
+-- a victim of which there is nothing to take is empty after the hand has moved too
+pub bare_after : (st : Storage) (pool : ℕ) (us : List ℕ) (uid : ℕ)
+    → (is_bare (frames_from st.ast uid 0) (trailers_in st uid) ≡ true → IsEmptied st uid)
+    → is_bare (frames_from (with_hand_moved st pool us).ast uid 0) (trailers_in (with_hand_moved st pool us) uid) ≡ true
+    → IsEmptied (with_hand_moved st pool us) uid
+bare_after st pool us uid empty = by (first_off_chain st.ast pool us)
+  where
+    by : (o : Option ℕ) → is_bare (frames_from (hand_past st.ast pool o) uid 0)
+        (trailers_in (record st { ast = hand_past st.ast pool o }) uid) ≡ true
+        → IsEmptied (record st { ast = hand_past st.ast pool o }) uid
+    by None bare = empty bare
+    by (Some place) bare = let e = empty bare in record {
+      active = e.active;
+      leaf = e.leaf;
+      away = e.away;
+      idle = e.idle;
+      cut = e.cut;
+    }

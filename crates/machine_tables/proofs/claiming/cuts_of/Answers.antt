@@ -1,0 +1,9 @@
+use Rattle.std.proofs.Common.{◌≡◌, true, subst}
+use Rattle.script.specs.Forms.{is_command}
+use Rattle.script.specs.declared.commands.Command.{Command}
+use Rattle.machine_tables.proofs.ClaimLaws.{terminate_small}
+use Rattle.machine_tables.proofs.claiming.cuts_of.Goals as goal
+
+pub returns-in-Terminate-clause-number : goal.returns-in-Terminate-clause-number
+returns-in-Terminate-clause-number c = λ volumes h. terminate_small volumes c.in-Terminate.number
+    (subst (λ (x : Command). is_command volumes x ≡ true) c.in-Terminate.is h)

@@ -1,0 +1,26 @@
+use Rattle.std.proofs.Common.{rules}
+use Rattle.machine_tables.proofs.ClaimLaws.{number_few, number_next, numbers_end}
+use Rattle.machine_tables.proofs.PartLaws.{rest_end, rest_next, state_of}
+use Rattle.machine_tables.proofs.tables.Tables.cut_connected.Goals as goal
+
+pub cut_number-requires-clause-few : goal.cut_number-requires-clause-few
+cut_number-requires-clause-few g c = (number_few c.loop-number.self.state c.args.self.now.state c.args.c c.args.aim
+    c.args.what c.args.process c.loop-number.number c.loop-number.invariant.on c.loop-number-test.true).0
+
+pub cut_number-requires-clause-room : goal.cut_number-requires-clause-room
+cut_number-requires-clause-room g c = (number_few c.loop-number.self.state c.args.self.now.state c.args.c c.args.aim
+    c.args.what c.args.process c.loop-number.number c.loop-number.invariant.on c.loop-number-test.true).1
+
+pub loop-number-preserved : goal.loop-number-preserved
+loop-number-preserved g c = record {
+  on = number_next c.loop-number.self.state c.cut_number.new.self.state c.args.self.now.state c.args.c c.args.aim
+      c.args.what c.args.process c.loop-number.number c.loop-number.invariant.on c.loop-number-test.true
+      (state_of c.loop-number.self c.cut_number.new.self _ c.cut_number.ensures);
+  rest = rest_next c.loop-number.self c.cut_number.new.self c.args.self.now _ c.loop-number.invariant.rest
+      c.cut_number.ensures;
+}
+
+pub returns : goal.returns
+returns g c = rest_end c.loop-number.self c.args.self.now _ c.loop-number.invariant.rest
+    (numbers_end c.loop-number.self.state c.args.self.now.state c.args.c c.args.aim c.args.what c.args.process
+    c.loop-number.number c.loop-number.invariant.on c.loop-number-test.false)

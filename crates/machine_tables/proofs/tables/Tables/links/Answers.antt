@@ -1,0 +1,22 @@
+use Rattle.std.proofs.Common.{◌≡◌, ◌<◌, ℕ, List, length, get_or, ap, subst, ◌∙◌}
+use Rattle.accounts.specs.Maps.{AccountMaps}
+use Rattle.dir_tree.specs.Nodes.{chain_of}
+use Rattle.storage_ops.specs.Shown.{is_there}
+use Rattle.storage_ops.proofs.ChainDown.{chain_there}
+use Rattle.machine_model.specs.State.{Storage}
+use Rattle.machine_tables.specs.Parts.{Parts}
+use Rattle.machine_tables.proofs.tables.Tables.links.Goals as goal
+
+pub link-requires : goal.link-requires
+link-requires g c =
+    let st : Storage = c.args.self.now.state.store in
+    let i : ℕ = c.loop-uid.uid-index in
+    let items : c.as_slice-uid-items.result.now ≡ chain_of st.accounts.nodes c.args.of =
+    c.as_slice-uid-items.ensures.value ∙ (c.chain-chain.ensures.chain
+    ∙ ap (λ (a : AccountMaps). chain_of a.nodes c.args.of) c.accounts.ensures.accounts) in
+    let lt : i < length (chain_of st.accounts.nodes c.args.of) =
+    subst (λ (xs : List ℕ). i < length xs) items c.loop-uid-test.true in
+    ap (λ (t : Parts g.row.D.Denot). is_there t.state.store.accounts.nodes
+    (get_or c.as_slice-uid-items.result.now i 0)) c.self.view_is
+    ∙ (ap (λ (xs : List ℕ). is_there st.accounts.nodes (get_or xs i 0)) items
+    ∙ chain_there st.accounts.nodes c.accounts.ensures.tree c.args.of c.requires i lt)

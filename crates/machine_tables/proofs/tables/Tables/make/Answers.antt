@@ -1,0 +1,39 @@
+use Rattle.std.proofs.Common.{◌≡◌, ℕ, Some, refl, ap, subst, sym, ◌∙◌}
+use Rattle.std.specs.Prelude.{◌/◌, ◌%◌}
+use Rattle.accounts.specs.Maps.{HasColumns}
+use Rattle.known_segs.specs.Known.{uid_of}
+use Rattle.seg_control.specs.Control.{kst_at}
+use Rattle.machine_model.specs.Reads.{flat_of}
+use Rattle.machine_model.specs.State.{State, Storage}
+use Rattle.machine_model.specs.Steps.{with_created, with_store}
+use Rattle.machine_tables.specs.Parts.{Parts, shown, with_state}
+use Rattle.machine_tables.proofs.CreateLaws.{created_is, made_surely}
+use Rattle.machine_tables.proofs.PartLaws.{stored_is}
+use Rattle.machine_tables.proofs.tables.Tables.make.Goals as goal
+
+pub unreachable-requires : goal.unreachable-requires
+unreachable-requires g c =
+    let s : State = c.args.self.now.state in
+    let inner : shown g.D.Drive.pages c.self.inside.store ≡ s.store =
+    ap (λ (t : Parts g.row.D.Denot). t.state.store) c.self.view_is in
+    let done = made_surely g.D.Drive.pages c.self.inside.store s.store c.args.process c.args.f c.args.reference.now
+    s.plan (flat_of s) c.create-made.result inner c.requires.place c.requires.faithful c.requires.room
+    c.create-made.ensures.answer in
+    let no = sym c.in-Err.is ∙ done in cc
+
+pub returns-clause-made : goal.returns-clause-made
+returns-clause-made g c = λ uid known.
+    let s : State = c.args.self.now.state in
+    let p : ℕ = c.args.reference.now.offset / 1024 in
+    let at : ℕ = c.args.reference.now.offset % 1024 in
+    let inner : shown g.D.Drive.pages c.self.inside.store ≡ s.store =
+    ap (λ (t : Parts g.row.D.Denot). t.state.store) c.self.view_is in
+    let made = c.in-Ok.ensures.made uid (subst (λ (st : Storage). uid_of (kst_at st.links.known c.args.process)
+    c.args.reference.now.number ≡ Some uid) (sym inner) known) in
+    stored_is g.D.Drive.pages g.D.Drive.faults _ c.args.self.now c.self.inside.store c.create-made.new.self
+    (λ st. with_created st c.args.f uid p at c.new_word-word.result) c.self.view_is refl
+    (created_is g.D.Drive.pages c.self.inside.store c.create-made.new.self uid p c.args.f at c.new_word-word.result
+    (subst (λ (st : Storage). HasColumns st.accounts) (sym inner) c.accounts-before.ensures.columns)
+    c.accounts-after.ensures.columns made) made.drives
+    ∙ ap (λ (w : ℕ). with_state c.args.self.now (with_store s (with_created s.store c.args.f uid p at w)))
+    c.new_word-word.ensures
