@@ -10,7 +10,6 @@ use Rattle.machine_model.specs.After.{after, no_call}
 use Rattle.machine_model.specs.Keeps.{AreAccounts, IsFaithful, StoreKept}
 use Rattle.machine_model.specs.Said.{shown_after}
 use Rattle.machine_model.specs.State.{State, Storage}
-use Rattle.machine_model.proofs.StepAsks.{Rests}
 use Rattle.machine_tables.specs.Parts.{Parts}
 use Rattle.machine.specs.Promise.{IsSound}
 use Rattle.machine.proofs.Steps.{sound_after}
@@ -26,12 +25,12 @@ abbrev pub HasPlaces : Storage → Type 0
 HasPlaces st = length st.ast.entries ≡ sum st.ast.sizes
 
 pub changed_sound : {D : Type 0} (t now : Parts D) (c : ℕ) (a : act.Action) → IsSound t
-    → c < length t.state.processors → action_of t.state c ≡ a → Rests t.state c (no_call t.state) a
+    → c < length t.state.processors → action_of t.state c ≡ a
     → now.state ≡ after t.state c a (no_call t.state) → now.room ≡ t.room
     → HasPlaces (after t.state c a (no_call t.state)).store → IsStoreOf now.state.store
     → ((x : Store) → IsFaithful t.state.plan x t.state.store
     → IsFaithful t.state.plan (shown_after t.state c (no_call t.state) a x) now.state.store) → IsSound now
-changed_sound t now c a sound there doing rests state room places told shown =
+changed_sound t now c a sound there doing state room places told shown =
     sound_after t now c (no_call t.state) a sound there doing (record {
       store = subst (λ (v : State). StoreKept v.store) state (record {
         kept = told.kept;
@@ -44,4 +43,4 @@ changed_sound t now c a sound there doing rests state room places told shown =
           state (shown x h);
       never_less = omega arith;
       counted = λ h. absurd (let no : false ≡ true = h in cc);
-    }) rests state room
+    }) state room

@@ -22,7 +22,6 @@ use Rattle.machine_model.specs.Said.{left_page, shown_after, without_left}
 use Rattle.machine_model.specs.State.{State, Storage}
 use Rattle.machine_model.specs.Steps.{with_faults}
 use Rattle.machine_model.proofs.Returnable.{descriptors_return, pages_return}
-use Rattle.machine_model.proofs.StepAsks.{Rests}
 use Rattle.machine_tables.specs.Owned.{HasOwner}
 use Rattle.machine_tables.specs.Parts.{Parts, outcome_of}
 use Rattle.machine_tables.specs.Returned.{MayFail}
@@ -57,7 +56,7 @@ module _ {D : Type 0} (t : Parts D) (c : ℕ) (sound : IsSound t) (there : c < l
     place = place_room t c sound k its there;
     count = count;
     ready = released_room t c sound k its (next_command s k);
-    room = let few = sound.few in omega (arith, few, room);
+    room = let few = sound.keeps.working.few in omega (arith, few, room);
   }
 
   first_leaves : (f : ℕ) (rest : List ℕ) → frames_of_owner s.owner ≡ f ∷ rest → IsLeaving s.store f
@@ -100,11 +99,11 @@ module _ {D : Type 0} (t : Parts D) (c : ℕ) (sound : IsSound t) (there : c < l
     gone = with_left s.store f (left_of (words_in s.store.pages f)) (page_in s.store f)
 
     left_sound : (done : State) (n : ℕ) → after s c a (well n) ≡ done → done.store ≡ gone
-        → ((x : Store) → shown_after s c (well n) a x ≡ left_page s f x) → s.faults ≤ n → Rests s c (well n) a
+        → ((x : Store) → shown_after s c (well n) a x ≡ left_page s f x) → s.faults ≤ n
         → (now : Parts D) → now.state ≡ done
         → ((p : Plan) (x : Store) → IsFaithful p x s.store → IsFaithful p (left_page s f x) now.state.store)
         → now.room ≡ t.room → IsStoreOf now.state.store → IsSound now
-    left_sound done n is store shown_is never_less rests now state shown room told =
+    left_sound done n is store shown_is never_less now state shown room told =
         sound_after t now c (well n) a sound there doing (record {
           store = subst (λ (v : State). StoreKept v.store) (state ∙ sym is) (record {
             kept = told.kept;
@@ -118,13 +117,13 @@ module _ {D : Type 0} (t : Parts D) (c : ℕ) (sound : IsSound t) (there : c < l
               (shown s.plan x h));
           never_less = never_less;
           counted = λ h. absurd (let no : false ≡ true = h in cc);
-        }) rests (state ∙ sym is) room
+        }) (state ∙ sym is) room
 
     failed_sound : (n : ℕ) → after s c a (ill n) ≡ write_failed s c n
-        → ((x : Store) → shown_after s c (ill n) a x ≡ x) → s.faults ≤ n → Rose s.faults n → Rests s c (ill n) a
+        → ((x : Store) → shown_after s c (ill n) a x ≡ x) → s.faults ≤ n → Rose s.faults n
         → (now : Parts D) → now.state ≡ write_failed s c n → now.room ≡ t.room → IsStoreOf now.state.store
         → IsSound now
-    failed_sound n is shown_is never_less rose rests now state room told =
+    failed_sound n is shown_is never_less rose now state room told =
         sound_after t now c (ill n) a sound there doing (record {
           store = subst (λ (v : State). StoreKept v.store) (sym is) (kept_as s.store (write_failed s c n).store
               (failed_as s c n) keeps.store
@@ -136,7 +135,7 @@ module _ {D : Type 0} (t : Parts D) (c : ℕ) (sound : IsSound t) (there : c < l
               (faithful_as s.store (write_failed s c n).store (failed_as s c n) s.plan x h));
           never_less = never_less;
           counted = λ h. rose;
-        }) rests (state ∙ sym is) room
+        }) (state ∙ sym is) room
 
   -- what the flat store is told to be where the page left
   shown_told : (f : ℕ) (left : Left) (now : Parts D) → left ≡ left_of (words_in s.store.pages f)
@@ -167,9 +166,9 @@ module _ {D : Type 0} (t : Parts D) (c : ℕ) (sound : IsSound t) (there : c < l
   unfolding after
   page_sound f doing (Ok left) now state how shown counts room told =
       left_sound (act.FinishPage f) doing f (page_done (with_faults s now.state.faults) f) now.state.faults refl refl
-      (λ x. refl) counts.0 tt now state (shown_told f left now how shown) room told
+      (λ x. refl) counts.0 now state (shown_told f left now how shown) room told
   page_sound f doing (Err e) now state how shown counts room told =
-      failed_sound (act.FinishPage f) doing f now.state.faults refl (λ x. refl) counts.0 counts.1 tt now state room told
+      failed_sound (act.FinishPage f) doing f now.state.faults refl (λ x. refl) counts.0 counts.1 now state room told
 
   pub eviction_after : {E : Type 0} (f : ℕ) (r : Result Left E) (now : Parts D)
       → now.state ≡ by_outcome (outcome_of r now.state.faults) (eviction_done (with_faults s now.state.faults) c f)
@@ -191,7 +190,7 @@ module _ {D : Type 0} (t : Parts D) (c : ℕ) (sound : IsSound t) (there : c < l
   unfolding after
   eviction_sound f doing (Ok left) now state how shown counts room told =
       left_sound (act.FinishEviction f) doing f (eviction_done (with_faults s now.state.faults) c f) now.state.faults
-      refl refl (λ x. refl) counts.0 tt now state (shown_told f left now how shown) room told
+      refl refl (λ x. refl) counts.0 now state (shown_told f left now how shown) room told
   eviction_sound f doing (Err e) now state how shown counts room told =
-      failed_sound (act.FinishEviction f) doing f now.state.faults refl (λ x. refl) counts.0 counts.1 tt now state room
+      failed_sound (act.FinishEviction f) doing f now.state.faults refl (λ x. refl) counts.0 counts.1 now state room
       told

@@ -94,7 +94,7 @@ module _ {D : Type 0} (t : Parts D) (c : ℕ) (sound : IsSound t) (there : c < l
       now.state.store.whos → IsSound now
   unfolding after
   activate_sound u place doing = kept_through t c sound there (act.Activate u place) (activated_at s u place) refl doing
-      refl tt (active_as s.store u place)
+      refl (active_as s.store u place)
 
   -- ---- the victim of a pool
 
@@ -133,4 +133,4 @@ module _ {D : Type 0} (t : Parts D) (c : ℕ) (sound : IsSound t) (there : c < l
     unfolding after
     victim_sound = kept_through t c sound there (act.EmptyVictim pool chain u) (victim_taken s c pool chain u) refl
         doing
-        refl tt (victim_as s c pool chain u)
+        refl (victim_as s c pool chain u)

@@ -5,7 +5,6 @@ pub mod Changed
 pub mod CountedLaws
 pub mod DriveCounts
 pub mod EmptiedFacts
-pub mod FewTaken
 pub mod FinishCalls
 pub mod Found
 pub mod JoinCalls

@@ -31,7 +31,6 @@ use Rattle.machine_model.proofs.FindLaws.{free_frame, position_at, unread_page}
 use Rattle.machine_model.proofs.InsideLaws.{inside_is}
 use Rattle.machine_model.proofs.ListLaws.{map_list, within_by}
 use Rattle.machine_model.proofs.LookFacts.{IsInside}
-use Rattle.machine_model.proofs.StepAsks.{Rests}
 use Rattle.machine_model.proofs.TieLaws.{none_some}
 use Rattle.machine_model.proofs.WordLaws.{word_within}
 use Rattle.seg_control.specs.Control.{is_for}
@@ -114,13 +113,13 @@ module _ {D : Type 0} (t : Parts D) (c : ℕ) (sound : IsSound t) (there : c < l
 
   -- the machine after an action that makes no call of a drive, and shows what it showed
   pub kept_through : (a : Action) (v : State) → v ≡ after s c a (no_call s) → action_of s c ≡ a
-      → shown_after s c (no_call s) a ≡ (λ x. x) → Rests s c (no_call s) a
+      → shown_after s c (no_call s) a ≡ (λ x. x)
       → ShowsAs s.store v.store → (now : Parts D) → now ≡ with_state t v
       → IsKept now.state.store.pages now.state.store.ast now.state.store.links
       → IsStore now.state.store.pages now.state.store.ast now.state.store.links now.state.store.accounts
       now.state.store.whos → IsSound now
-  kept_through a v is doing same rests shows now now_is kept counted = stays_sound t now c a sound there doing
-      same rests (ap (λ (u : Parts D). u.state) now_is ∙ is) (ap (λ (u : Parts D). u.room) now_is)
+  kept_through a v is doing same shows now now_is kept counted = stays_sound t now c a sound there doing
+      same (ap (λ (u : Parts D). u.state) now_is ∙ is) (ap (λ (u : Parts D). u.room) now_is)
       kept counted (subst (λ (u : Parts D). ShowsAs s.store u.state.store) (sym now_is) shows)
 
   -- ---- a page is read in
@@ -159,7 +158,7 @@ module _ {D : Type 0} (t : Parts D) (c : ℕ) (sound : IsSound t) (there : c < l
       → IsStore now.state.store.pages now.state.store.ast now.state.store.links now.state.store.accounts
       now.state.store.whos → IsSound now
   unfolding after
-  start_sound f u p doing = kept_through (act.Start f u p) (started s c f u p) refl doing refl tt (record {
+  start_sound f u p doing = kept_through (act.Start f u p) (started s c f u p) refl doing refl (record {
     accounts = refl;
     known = refl;
     whos = refl;
@@ -205,7 +204,7 @@ module _ {D : Type 0} (t : Parts D) (c : ℕ) (sound : IsSound t) (there : c < l
       → IsStore now.state.store.pages now.state.store.ast now.state.store.links now.state.store.accounts
       now.state.store.whos → IsSound now
   unfolding after
-  connect_sound n u doing = kept_through (act.Connect n u) (connected_to s c n u) refl doing refl tt (record {
+  connect_sound n u doing = kept_through (act.Connect n u) (connected_to s c n u) refl doing refl (record {
     accounts = refl;
     known = refl;
     whos = refl;
@@ -244,7 +243,7 @@ module _ {D : Type 0} (t : Parts D) (c : ℕ) (sound : IsSound t) (there : c < l
       → IsStore now.state.store.pages now.state.store.ast now.state.store.links now.state.store.accounts
       now.state.store.whos → IsSound now
   unfolding after
-  deactivate_sound u doing = kept_through (act.Deactivate u) (segment_emptied s c u) refl doing refl tt
+  deactivate_sound u doing = kept_through (act.Deactivate u) (segment_emptied s c u) refl doing refl
       (emptied_as s c u)
 
   -- ---- the clock's choice goes
@@ -302,7 +301,7 @@ module _ {D : Type 0} (t : Parts D) (c : ℕ) (sound : IsSound t) (there : c < l
       → IsStore now.state.store.pages now.state.store.ast now.state.store.links now.state.store.accounts
       now.state.store.whos → IsSound now
   unfolding after
-  evict_sound h f choice = kept_through (act.Evict f) (eviction_begun s c f) refl (evict_doing h f choice) refl tt
+  evict_sound h f choice = kept_through (act.Evict f) (eviction_begun s c f) refl (evict_doing h f choice) refl
       (then_as s.store (with_choice s.store f) (with_leaving (with_choice s.store f) f) (choice_as s.store f)
       (leaving_as (with_choice s.store f) f))
 
@@ -369,4 +368,4 @@ module _ {D : Type 0} (t : Parts D) (c : ℕ) (sound : IsSound t) (there : c < l
       → IsStore now.state.store.pages now.state.store.ast now.state.store.links now.state.store.accounts
       now.state.store.whos → IsSound now
   unfolding after
-  empty_sound u doing = kept_through (act.Empty u) (deactivation_begun s c u) refl doing refl tt (begun_as s c u)
+  empty_sound u doing = kept_through (act.Empty u) (deactivation_begun s c u) refl doing refl (begun_as s c u)

@@ -1,9 +1,16 @@
 -- The promise reads neither how much room the book has nor whether the machine was stopped.
-use Rattle.std.proofs.Common.{ℕ, Bool}
+use Rattle.std.proofs.Common.{ℕ, Bool, Option, Some, None}
+use Rattle.script.specs.declared.commands.Command.{Command}
+use Rattle.machine_model.specs.declared.Aim.{Aim}
+use Rattle.machine_model.specs.declared.Aim.TheVariants as aim
+use Rattle.machine_model.specs.declared.Phase.{Phase}
+use Rattle.machine_model.specs.declared.Phase.TheVariants as phase
 use Rattle.machine_model.specs.Foreseen.{AllCome}
 use Rattle.machine_model.specs.Keeps.{Keeps}
 use Rattle.machine_model.specs.Promise.{IsMachine, KeepsAll}
+use Rattle.machine_model.specs.Reads.{next_command, process_at}
 use Rattle.machine_model.specs.State.{State}
+use Rattle.machine_model.specs.Taking.{IsTakenBy, TakenIn, TakenTo}
 use Rattle.machine_model.specs.Working.{IsWorking}
 use Rattle.machine_tables.specs.Parts.{Parts, with_state}
 use Rattle.machine.specs.Promise.{IsSound}
@@ -42,12 +49,36 @@ module _ (s : State) (spare : ℕ) (stopped : Bool) where
     pools = h.pools;
   }
 
+  command_still : (k : ℕ) (c : Option Command) → IsTakenBy s k c → IsTakenBy now k c
+  command_still k None h = tt
+  command_still k (Some c) h = record {
+    just = record {
+      pages = h.just.pages;
+      its_pages = h.just.its_pages;
+      descriptors = h.just.descriptors;
+      its_descriptors = h.just.its_descriptors;
+    };
+    alone = h.alone;
+  }
+
+  by_aim : (a : Aim) (k : ℕ) (c : Option Command) → TakenTo a s k c → TakenTo a now k c
+  by_aim aim.Evicting k c h = tt
+  by_aim (aim.Deactivating u) k c h = tt
+  by_aim aim.Committing k c h = command_still k c h
+
+  taken_still : (p : Phase) (k : ℕ) (c : Option Command) → TakenIn p s k c → TakenIn p now k c
+  taken_still phase.Looking k c h = tt
+  taken_still (phase.Taken a w) k c h = by_aim a k c h
+  taken_still (phase.Waiting a w) k c h = by_aim a k c h
+
   working_still : IsWorking s → IsWorking now
   working_still h = record {
     whole = record { whole = h.whole.whole };
+    few = h.few;
     numbered = h.numbered;
     leaf = h.leaf;
     fails = h.fails;
+    taken = λ o own. taken_still o.phase (process_at s o.cpu) (next_command s (process_at s o.cpu)) (h.taken o own);
   }
 
   still : KeepsAll s → KeepsAll now
@@ -64,5 +95,4 @@ pub rest_sound : {D : Type 0} (t : Parts D) (spare : ℕ) (stopped : Bool) → I
 rest_sound t spare stopped sound = record {
   keeps = still t.state spare stopped sound.keeps;
   room = sound.room;
-  few = sound.few;
 }

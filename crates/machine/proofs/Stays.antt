@@ -22,7 +22,6 @@ use Rattle.machine_model.specs.After.{after, no_call}
 use Rattle.machine_model.specs.Keeps.{AreAccounts, IsFaithful, StoreKept}
 use Rattle.machine_model.specs.Said.{shown_after}
 use Rattle.machine_model.specs.State.{State, Storage}
-use Rattle.machine_model.proofs.StepAsks.{Rests}
 use Rattle.machine_tables.specs.Parts.{Parts}
 use Rattle.machine.specs.Promise.{IsSound}
 use Rattle.machine.proofs.Steps.{sound_after}
@@ -105,12 +104,11 @@ module _ (old new : Storage) (w : ShowsAs old new) where
 -- The machine keeps its promise through such a call.
 pub stays_sound : {D : Type 0} (t u : Parts D) (c : ℕ) (a : Action) → IsSound t → c < length t.state.processors
     → action_of t.state c ≡ a → shown_after t.state c (no_call t.state) a ≡ (λ x. x)
-    → Rests t.state c (no_call t.state) a
     → u.state ≡ after t.state c a (no_call t.state) → u.room ≡ t.room
     → IsKept u.state.store.pages u.state.store.ast u.state.store.links
     → IsStore u.state.store.pages u.state.store.ast u.state.store.links u.state.store.accounts u.state.store.whos
     → ShowsAs t.state.store u.state.store → IsSound u
-stays_sound t u c a sound there doing same rests state room kept counted shows =
+stays_sound t u c a sound there doing same state room kept counted shows =
     sound_after t u c (no_call t.state) a sound there doing (record {
       store = subst (λ (s : State). StoreKept s.store) state
           (kept_as t.state.store u.state.store shows sound.keeps.machine.keeps.store kept counted);
@@ -120,7 +118,7 @@ stays_sound t u c a sound there doing same rests state room kept counted shows =
           (faithful_as t.state.store u.state.store shows t.state.plan x h));
       never_less = omega arith;
       counted = λ h. absurd (let no : false ≡ true = h in cc);
-    }) rests state room
+    }) state room
 
 -- ---- frames
 

@@ -8,23 +8,17 @@ use Rattle.machine_model.specs.Said.{Says}
 use Rattle.machine_model.specs.State.{State}
 use Rattle.machine_model.proofs.MachineKept.{step_keeps_all}
 use Rattle.machine_model.proofs.PoolsKept.{pools_kept}
-use Rattle.machine_model.proofs.StepAsks.{Rests}
 use Rattle.machine_tables.specs.Parts.{Parts}
-use Rattle.machine.specs.Promise.{IsSound, taken_in}
-use Rattle.machine.proofs.FewTaken.{few_after}
-use Rattle.machine.proofs.Found.{found_of}
+use Rattle.machine.specs.Promise.{IsSound}
 
 -- the tables after an action, and the promise that they keep
 pub sound_after : {D : Type 0} (t u : Parts D) (c : ℕ) (o : Outcome) (a : Action) → IsSound t
-    → c < length t.state.processors → action_of t.state c ≡ a → Says t.state c o a → Rests t.state c o a
+    → c < length t.state.processors → action_of t.state c ≡ a → Says t.state c o a
     → u.state ≡ after t.state c a o → u.room ≡ t.room → IsSound u
-sound_after t u c o a sound there doing says rests state room = record {
+sound_after t u c o a sound there doing says state room = record {
   keeps = subst KeepsAll (sym state) (subst (λ (x : Action). KeepsAll (after t.state c x o)) doing
       (step_keeps_all t.state c o sound.keeps there
-      (subst (λ (x : Action). Says t.state c o x) (sym doing) says)
-      (subst (λ (x : Action). Rests t.state c o x) (sym doing) rests)));
+      (subst (λ (x : Action). Says t.state c o x) (sym doing) says)));
   room = room ∙ (sound.room ∙ ap (λ (p : Plan). length p.processes)
       (sym (ap (λ (s : State). s.plan) state ∙ (pools_kept t.state c a o).plan)));
-  few = subst (λ (s : State). taken_in s ≤ 288) (sym state) (few_after t.state c o sound.keeps.machine.keeps sound.few a
-      (found_of t.state c sound.keeps.machine there a doing));
 }

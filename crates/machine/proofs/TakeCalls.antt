@@ -26,4 +26,4 @@ module _ {D : Type 0} (t : Parts D) (c : ℕ) (sound : IsSound t) (there : c < l
       now.state.store.whos → IsSound now
   unfolding after
   take_away_sound fs xs w doing = kept_through t c sound there (act.TakeAway fs xs w) (took s c aim.Committing w fs xs)
-      refl doing refl tt (took_as s c aim.Committing w fs xs)
+      refl doing refl (took_as s c aim.Committing w fs xs)

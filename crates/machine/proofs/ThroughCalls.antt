@@ -49,7 +49,7 @@ module _ {D : Type 0} (t : Parts D) (c : ℕ) (sound : IsSound t) (there : c < l
       → ((x : Store) → IsFaithful s.plan x s.store → IsFaithful s.plan (through s f r x) now.state.store)
       → IsSound now
   unfolding after
-  went_sound now is told shown = changed_sound t now c (act.Through f r) sound there doing tt
+  went_sound now is told shown = changed_sound t now c (act.Through f r) sound there doing
       (ap (λ (u : Parts D). u.state) is) (ap (λ (u : Parts D). u.room) is) keeps.store.places told shown
 
   -- the word is read or written, and then the process is answered

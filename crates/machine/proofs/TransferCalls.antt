@@ -73,7 +73,7 @@ module _ {D : Type 0} (t : Parts D) (c : ℕ) (sound : IsSound t) (there : c < l
         shown = λ f h. faithful_as s.store after_it.store shows s.plan f h;
         never_less = never_less;
         counted = counted;
-      }) tt state room
+      }) state room
     where
       after_it : State
       after_it = after s c (act.EndTransfer x) o

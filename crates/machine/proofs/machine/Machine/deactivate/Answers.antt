@@ -12,7 +12,7 @@ deactivate-requires-clause-empty g c = inactive_emptied _ c.args.c c.self.invari
     (rw c.self.view_is c.requires.there) c.args.uid (rw c.self.view_is c.requires.doing)
 
 pub deactivate-requires-clause-room : goal.deactivate-requires-clause-room
-deactivate-requires-clause-room g c = let few = c.self.invariant.few in
+deactivate-requires-clause-room g c = let few = c.self.invariant.keeps.working.few in
     let room : 320 ≤ c.self.inside.tables.state.spare = rw c.self.view_is c.requires.room in
     omega (arith, few, room)
 
