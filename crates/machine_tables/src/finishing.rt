@@ -5,12 +5,16 @@ ghost use Rattle.page_control.specs.Drives.{CallsDrive};
 ghost use Rattle.page_control.specs.Plain.{words_in};
 ghost use Rattle.page_control.specs.declared.Left.TheVariants.{Released};
 ghost use Rattle.seg_control.specs.Control.{word_of};
+ghost use Rattle.script.specs.Plans.{Plan};
+ghost use Rattle.flat_model.specs.Store.{Store as Flat};
 ghost use Rattle.storage_ops.specs.Paged.{IsSettled};
 ghost use Rattle.machine_model.specs.After.{by_outcome};
 ghost use Rattle.machine_model.specs.Jobs.{eviction_done, left_of, page_done, page_in, pages_back, segs_back};
 ghost use Rattle.machine_model.specs.Jobs.{entries_left, with_here, with_left, with_relink};
 ghost use Rattle.machine_model.specs.Jobs.{without_first_frame, write_failed};
+ghost use Rattle.machine_model.specs.Keeps.{IsFaithful};
 ghost use Rattle.machine_model.specs.Reads.{cut_of_owner, frames_of_owner, home_in};
+ghost use Rattle.machine_model.specs.Said.{without_left};
 ghost use Rattle.machine_model.specs.Steps.{booked, with_faults, with_owner, with_store};
 ghost use Rattle.machine_tables.specs.Owned.{HasOwner};
 ghost use Rattle.machine_tables.specs.Parts.{KeepsSeats, outcome_of, with_accounts};
@@ -119,6 +123,8 @@ impl<D: Drive> Tables<D> {
         ensures err { OnErr result (self.new ≡ with_drives self.old self.new.drives self.new.state.faults) }
         ensures settled { IsSettled self.old.state.store.accounts self.new.state.store.accounts
             (page_in self.old.state.store f).0 result }
+        ensures shown { IfOk result (λ left. (p : Plan) (t : Flat) → IsFaithful p t self.old.state.store
+            → IsFaithful p (without_left left (page_in self.old.state.store f) t) self.new.state.store) }
         ensures drives { CallsDrive D.plan D.places D.faults self.old.drives self.new.drives
             (home_in self.old.state.store (page_in self.old.state.store f).0).volume result }
     {
@@ -135,6 +141,8 @@ impl<D: Drive> Tables<D> {
             (with_left self.old.state.store f left (page_in self.old.state.store f))))
             self.new.drives self.new.state.faults) }
         ensures err { OnErr result (self.new ≡ with_drives self.old self.new.drives self.new.state.faults) }
+        ensures shown { IfOk result (λ left. (p : Plan) (t : Flat) → IsFaithful p t self.old.state.store
+            → IsFaithful p (without_left left (page_in self.old.state.store f) t) self.new.state.store) }
         ensures drives { CallsDrive D.plan D.places D.faults self.old.drives self.new.drives
             (home_in self.old.state.store (page_in self.old.state.store f).0).volume result }
     {
@@ -193,6 +201,9 @@ impl<D: Drive> Tables<D> {
             (page_done (with_faults self.old.state self.new.state.faults) f)
             (write_failed self.old.state c self.new.state.faults) }
         ensures room { self.new.room ≡ self.old.room }
+        ensures how { IfOk result (λ left. left ≡ left_of (words_in self.old.state.store.pages f)) }
+        ensures shown { IfOk result (λ left. (p : Plan) (t : Flat) → IsFaithful p t self.old.state.store
+            → IsFaithful p (without_left left (page_in self.old.state.store f) t) self.new.state.store) }
         ensures drives { CallsDrive D.plan D.places D.faults self.old.drives self.new.drives
             (home_in self.old.state.store (page_in self.old.state.store f).0).volume result }
     {
@@ -220,6 +231,9 @@ impl<D: Drive> Tables<D> {
             (eviction_done (with_faults self.old.state self.new.state.faults) c f)
             (write_failed self.old.state c self.new.state.faults) }
         ensures room { self.new.room ≡ self.old.room }
+        ensures how { IfOk result (λ left. left ≡ left_of (words_in self.old.state.store.pages f)) }
+        ensures shown { IfOk result (λ left. (p : Plan) (t : Flat) → IsFaithful p t self.old.state.store
+            → IsFaithful p (without_left left (page_in self.old.state.store f) t) self.new.state.store) }
         ensures drives { CallsDrive D.plan D.places D.faults self.old.drives self.new.drives
             (home_in self.old.state.store (page_in self.old.state.store f).0).volume result }
     {
