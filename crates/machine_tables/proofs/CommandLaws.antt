@@ -55,6 +55,12 @@ number_small volumes (command.Add n o w) r h e = small_in n o _ r (and_parts _ _
 number_small volumes (command.Await n o w t) r h e = small_in n o _ r (and_parts _ _ h).0 refl e
 number_small volumes c r h e = cc
 
+pub number_ended : (volumes : ℕ) (c : Command) (n : ℕ) → c ≡ command.Terminate n → is_command volumes c ≡ true
+    → n < 256
+unfolding is_command
+number_ended volumes c n is ranges =
+    let le : nat_le n 255 ≡ true = sym (ap (is_command volumes) is) ∙ ranges in grind (arith, nat_tests)
+
 by_command : (p : Plan) (k place : ℕ) (o : Option Command) → IsPlan p → command_at p k place ≡ o
     → IfSome (refers o) (λ r. r.number < 256)
 by_command p k place None plan at = tt
@@ -75,3 +81,13 @@ pub come_to_refers : (s : State) (cpu : Cpu) (k : ℕ) (o : Option Command)
     → come_to s cpu k o ≡ refer_or_take s cpu k (refers o)
 come_to_refers s cpu k None = refl
 come_to_refers s cpu k (Some c) = refl
+
+pub ranges_of : (p now : Plan) (k place : ℕ) → now ≡ p → IsPlan p → (c : Command) → command_at now k place ≡ Some c
+    → is_command (length p.volumes) c ≡ true
+ranges_of p now k place same plan c at =
+    command_ranges p k place c plan (ap (λ (q : Plan). command_at q k place) (sym same) ∙ at)
+
+-- what follows from a fact about what is there
+pub if_some_then : {X : Type 0} {P Q : X → Type 0} (o : Option X) → ((x : X) → P x → Q x) → IfSome o P → IfSome o Q
+if_some_then None f h = h
+if_some_then (Some x) f h = f x h

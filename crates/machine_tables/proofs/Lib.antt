@@ -1,6 +1,8 @@
 pub mod AboutLaws
 pub mod ActiveLaws
+pub mod AwayLaws
 pub mod BackLaws
+pub mod ChangeLooks
 pub mod ChoiceLaws
 pub mod ClaimLaws
 pub mod ColumnLaws
@@ -13,9 +15,13 @@ pub mod JobLaws
 pub mod JoinLaws
 pub mod LeftLaws
 pub mod LinkLaws
+pub mod LookLaws
 pub mod MoveLaws
 pub mod PageLaws
 pub mod PartLaws
+pub mod PoolLaws
+pub mod RangeLaws
+pub mod ReachLaws
 pub mod ReadingLaws
 pub mod ReadyLaws
 pub mod RefusalLaws
@@ -25,4 +31,5 @@ pub mod ShownLaws
 pub mod SignalLaws
 pub mod TakeLaws
 pub mod TookLaws
+pub mod VictimLaws
 pub mod VisitLaws

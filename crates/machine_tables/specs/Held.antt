@@ -1,6 +1,7 @@
 -- What a processor takes in of a descriptor, by the active segments.
 use Rattle.std.specs.Prelude.{◌≡◌, ◌<◌, ℕ, length, List, Option, Some, IfSome}
 use Rattle.mnames.specs.declared.modes.Mode.TheVariants as mode
+use Rattle.script.specs.Forms.{IsPlan}
 use Rattle.assoc_mem.specs.Held.{Held, seg_of}
 use Rattle.assoc_mem.specs.declared.HeldSeg.{HeldSeg}
 use Rattle.active_segs.specs.declared.Entry.{Entry}
@@ -8,6 +9,7 @@ use Rattle.active_segs.specs.Active.{ActiveSegs, uid_at}
 use Rattle.descriptor_seg.specs.declared.Sdw.{Sdw}
 use Rattle.descriptor_seg.specs.declared.Sdw.TheVariants as sdw
 use Rattle.processor.specs.Moves.{IsLongEnough}
+use Rattle.machine_model.specs.Keeps.{Keeps}
 use Rattle.machine_model.specs.Reads.{cpu_at, or_zero}
 use Rattle.machine_model.specs.State.{State}
 
@@ -20,11 +22,19 @@ held_by entries n (sdw.Present aste m pages) =
 abbrev pub AreLong : ActiveSegs → Held → Type 0
 AreLong ast held = (number : ℕ) → IfSome (seg_of held number) (IsLongEnough ast)
 
--- What the choice for a processor asks: it is one of the script's, its process is one of the store's, and the segments
--- whose descriptors it holds are active.
+-- What a look of the owner asks: the machine keeps its promise, and the pools of the active segment table are those of
+-- its script.
+pub record MayLook (s : State) : Type 0 where
+  pub keeps : Keeps s
+  pub script : IsPlan s.plan
+  pub pools : s.store.ast.sizes ≡ s.plan.pools
+
+-- What the choice for a processor asks: it is one of the script's, its process is one of the store's, the segments
+-- whose descriptors it holds are active, and its owner may look.
 pub record MayChoose (s : State) (c : ℕ) : Type 0 where
   pub processor : c < length s.processors
   pub count : length s.processors ≡ s.plan.processors
   pub run : (k : ℕ) → (cpu_at s.processors c).process ≡ Some k → k < length s.runs
   pub known : (k : ℕ) → (cpu_at s.processors c).process ≡ Some k → k < length s.store.links.known
   pub held : AreLong s.store.ast (cpu_at s.processors c).assoc
+  pub looks : MayLook s

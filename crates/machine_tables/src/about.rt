@@ -20,7 +20,7 @@ impl<D: Drive> Tables<D> {
     }
 
     /// What a number of a process stands for, and 0 where it stands for nothing.
-    fn uid_of_number(&self, process: u32, number: u32) -> u32
+    pub(crate) fn uid_of_number(&self, process: u32, number: u32) -> u32
         requires { process < length self.now.state.store.links.known }
         ensures { result ≡ uid_of_number self.now.state.store process number }
     {

@@ -55,8 +55,6 @@ pub enum Action {
     GiveUp,
     /// A segment becomes active in a place.
     Activate {
-        /// The segment whose chain is to become active.
-        of: u32,
         /// The segment.
         uid: u32,
         /// The place.

@@ -1,13 +1,16 @@
 //! Which segments of a chain of superiors are active, and which segment has to go where a pool is full.
 
-ghost use Rattle.std.specs.Prelude.{◌≡◌, ◌<◌, ℕ, Some, true, length, if◌then◌else◌};
+ghost use Rattle.std.specs.Prelude.{◌≡◌, ◌<◌, ℕ, Some, true, length, if◌then◌else◌, IfNone};
+ghost use Rattle.tree_model.specs.Tree.{node_in};
 ghost use Rattle.dir_tree.specs.Nodes.{chain_of};
 ghost use Rattle.active_segs.specs.Victim.{HasItsSuperiors, HasOneOffChain, victim_of};
-ghost use Rattle.active_segs.specs.Active.{uid_at};
+ghost use Rattle.active_segs.specs.Active.{IsActive, IsFull, uid_at};
 ghost use Rattle.storage_ops.specs.Shown.{is_there};
-ghost use Rattle.machine_model.specs.Actions.{Commit, Empty, empty_victim, empty_when_read};
-ghost use Rattle.machine_model.specs.Reads.{first_inactive, is_active, or_zero};
-ghost use Rattle.machine_tables.specs.Meant.{meant};
+ghost use Rattle.machine_model.specs.Actions.{Action as Rule, Commit, Empty, activate_in, empty_victim};
+ghost use Rattle.machine_model.specs.Actions.{empty_when_read, pool_of_node, with_chain};
+ghost use Rattle.machine_model.specs.Reads.{first_inactive, free_place, is_active, or_zero};
+ghost use Rattle.machine_tables.specs.Held.{MayLook};
+ghost use Rattle.machine_tables.specs.Meant.{meant, unless_first};
 ghost use Rattle.machine_tables.specs.Reading.{AreRead};
 
 use crate::action::Action;
@@ -32,8 +35,9 @@ fn first_inactive(ast: &Ast, chain: &[u32]) -> Option<u32>
 
 impl<D: Drive> Tables<D> {
     /// Whether a segment is active.
-    fn is_active(&self, uid: u32) -> bool
-        ensures { result ≡ is_active self.now.state.store.ast uid }
+    pub(crate) fn is_active(&self, uid: u32) -> bool
+        ensures tells { result ≡ is_active self.now.state.store.ast uid }
+        ensures active { result ≡ true → IsActive self.now.state.store.ast.entries uid }
     {
         is_active(self.segs().ast(), uid)
     }
@@ -90,6 +94,55 @@ impl<D: Drive> Tables<D> {
             Some(first) => first,
             None => Action::EmptyVictim { pool, of, uid },
         }
+    }
+
+    /// The pool of the active segment table that has the page table of a node.
+    fn pool(&self, uid: u32) -> u32
+        requires { is_there self.now.state.store.accounts.nodes uid ≡ true }
+        ensures pool { result ≡ pool_of_node (node_in self.now.state.store.accounts.nodes uid) }
+        ensures few { result < 4 }
+    {
+        self.store.link(uid).pool
+    }
+
+    /// The least free place of a pool. It reads a few words.
+    fn free_place(&self, pool: u32) -> Option<u32>
+        requires { pool < 4 }
+        ensures place { result ≡ free_place self.now.state.store.ast pool }
+        ensures full { IfNone result (IsFull self.now.state.store.ast pool) }
+    {
+        self.segs().ast().free_in(pool)
+    }
+
+    /// What is done for the first segment that isn't active of a node's chain: it becomes active in a free place of its
+    /// pool, or the pool's victim is emptied first.
+    fn activate_link(&self, of: u32, uid: u32) -> Action
+        requires looks { MayLook self.now.state }
+        requires there { is_there self.now.state.store.accounts.nodes of ≡ true }
+        requires first { first_inactive self.now.state.store.ast
+            (chain_of self.now.state.store.accounts.nodes of) ≡ Some uid }
+        ensures { (k : ℕ) → meant self.now.state k result ≡ activate_in self.now.state.store
+            (pool_of_node (node_in self.now.state.store.accounts.nodes uid))
+            (chain_of self.now.state.store.accounts.nodes of) uid
+            (free_place self.now.state.store.ast (pool_of_node (node_in self.now.state.store.accounts.nodes uid))) }
+    {
+        let pool = self.pool(uid);
+        match self.free_place(pool) {
+            Some(place) => Action::Activate { uid, place },
+            None => self.empty_victim(of, pool),
+        }
+    }
+
+    /// What is done for the chain of a node, where a segment of it isn't active. The chain has ten links at the most.
+    pub(crate) fn first_link(&self, of: u32) -> Option<Action>
+        requires looks { MayLook self.now.state }
+        requires there { is_there self.now.state.store.accounts.nodes of ≡ true }
+        ensures first { (k : ℕ) (otherwise : Rule) → unless_first self.now.state k result otherwise
+            ≡ with_chain self.now.state.store of otherwise }
+        ensures whole { IfNone result (is_active self.now.state.store.ast of ≡ true) }
+    {
+        let uid = self.first_inactive(of)?;
+        Some(self.activate_link(of, uid))
     }
 
     /// What is done for a segment that must not be active: it is emptied, or a page of it that is being read in is

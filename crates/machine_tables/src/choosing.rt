@@ -1,6 +1,6 @@
 //! What a processor does in its next step, by the rules in their order.
 
-ghost use Rattle.std.specs.Prelude.{◌≡◌, ◌<◌, ℕ, length, Some, count_by};
+ghost use Rattle.std.specs.Prelude.{◌≡◌, ◌<◌, ℕ, length, Some, count_by, IfNone, IsSome};
 ghost use Rattle.std.specs.List.{list_any};
 ghost use Rattle.machine_model.specs.Actions.{action_of, by_move, come_to, has_had_its_turn, has_process, is_over};
 ghost use Rattle.machine_model.specs.Actions.{load_or_idle, move_of, own_or_run, run_process, take_or_wait};
@@ -167,7 +167,8 @@ impl<D: Drive> Tables<D> {
     /// supervisor and is to look.
     fn own_or_run(&self, c: u32) -> Option<Action>
         requires may { MayChoose self.now.state c }
-        ensures { or_look self.now.state (process_at self.now.state c) result ≡ own_or_run self.now.state c
+        ensures looks { IfNone result (IsSome (cpu_at self.now.state.processors c).process) }
+        ensures rule { or_look self.now.state (process_at self.now.state c) result ≡ own_or_run self.now.state c
             (processor_at self.now.state.processors c) self.now.state.owner }
     {
         match self.job.holder() {
@@ -180,7 +181,8 @@ impl<D: Drive> Tables<D> {
     /// on with its process or its job.
     fn work(&self, c: u32) -> Option<Action>
         requires may { MayChoose self.now.state c }
-        ensures { or_look self.now.state (process_at self.now.state c) result ≡ rule_of self.now.state c
+        ensures looks { IfNone result (IsSome (cpu_at self.now.state.processors c).process) }
+        ensures rule { or_look self.now.state (process_at self.now.state c) result ≡ rule_of self.now.state c
             (processor_at self.now.state.processors c) }
     {
         let cpu = self.cpu(c);
@@ -195,11 +197,11 @@ impl<D: Drive> Tables<D> {
     }
 
     /// What processor `c` does in its next step, by the rules in their order; `None` exactly where it owns the
-    /// supervisor and is to look for what the next command of its process wants. It goes round the processors. (Source:
-    /// Bensoussan, Clingen and Daley 1972; Corbató 1968; the steps are own.)
-    pub fn by_rules(&self, c: u32) -> Option<Action>
+    /// supervisor and is to look for what the next command of its process wants. It goes round the processors.
+    pub(crate) fn by_rules(&self, c: u32) -> Option<Action>
         requires may { MayChoose self.now.state c }
-        ensures { or_look self.now.state (process_at self.now.state c) result ≡ action_of self.now.state c }
+        ensures looks { IfNone result (IsSome (cpu_at self.now.state.processors c).process) }
+        ensures rule { or_look self.now.state (process_at self.now.state c) result ≡ action_of self.now.state c }
     {
         if self.stopped {
             Some(Action::IsStopped)

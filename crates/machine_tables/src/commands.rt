@@ -1,7 +1,7 @@
 //! The command that a process comes to.
 
-ghost use Rattle.std.specs.Prelude.{◌≡◌, ◌<◌, length, Some, None, IfSome, IfNone};
-ghost use Rattle.script.specs.Forms.{IsPlan};
+ghost use Rattle.std.specs.Prelude.{◌≡◌, ◌<◌, length, true, Some, None, IfSome, IfNone};
+ghost use Rattle.script.specs.Forms.{IsPlan, is_command};
 ghost use Rattle.machine_model.specs.Reads.{next_command};
 ghost use Rattle.machine_tables.specs.Meant.{refers};
 
@@ -17,6 +17,7 @@ impl<D: Drive> Tables<D> {
         ensures some { IfSome result (λ c. next_command self.now.state process ≡ Some c.now) }
         ensures none { IfNone result (next_command self.now.state process ≡ None) }
         ensures plan { IsPlan self.now.state.plan }
+        ensures ranges { IfSome result (λ c. is_command (length self.now.state.plan.volumes) c.now ≡ true) }
     {
         let _count = self.book.script().processes();
         let run = self.runs[process as usize];

@@ -22,6 +22,7 @@ mod finishing;
 mod frames;
 mod looking;
 mod looks;
+mod next_looks;
 mod owner;
 mod owning;
 mod paging;

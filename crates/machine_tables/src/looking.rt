@@ -1,14 +1,17 @@
-//! What the owner of the supervisor does for the page of a reference.
+//! What the owner of the supervisor does for a reference.
 
-ghost use Rattle.std.specs.Prelude.{◌≡◌, ◌<◌, ◌==◌, ℕ, length};
+ghost use Rattle.std.specs.Prelude.{◌≡◌, ◌<◌, ◌==◌, ℕ, length, None};
 ghost use Rattle.script.specs.References.{new_word};
 ghost use Rattle.page_table.specs.declared.Ptw.TheVariants.{Null};
+ghost use Rattle.descriptor_seg.specs.declared.Sdw.TheVariants.{Fault};
 ghost use Rattle.active_segs.specs.Active.{IsActive};
 ghost use Rattle.seg_control.specs.Control.{table_of};
-ghost use Rattle.machine_model.specs.Actions.{Create, Start, create_unless, look_at_page, look_at_word, room_for};
+ghost use Rattle.machine_model.specs.Actions.{Create, Start, create_unless, look_at_descriptor, look_at_page};
+ghost use Rattle.machine_model.specs.Actions.{look_at_word, look_for_reference, room_for};
 ghost use Rattle.machine_model.specs.Keeps.{IsFaithful};
-ghost use Rattle.machine_model.specs.Reads.{flat_of};
-ghost use Rattle.machine_model.specs.Refusal.{outside_refusal, room_refusal};
+ghost use Rattle.machine_model.specs.Reads.{descriptor_of, flat_of};
+ghost use Rattle.machine_model.specs.Refusal.{outside_refusal, room_refusal, uid_of_number};
+ghost use Rattle.machine_tables.specs.Held.{MayLook};
 ghost use Rattle.machine_tables.specs.Meant.{meant};
 ghost use Rattle.machine_tables.specs.Reading.{AreRead};
 
@@ -135,6 +138,59 @@ impl<D: Drive> Tables<D> {
             Ptw::Null => self.look_at_null(process, reference, uid, page),
             Ptw::Out(_) => self.begin_reading(uid, page),
             Ptw::Here(_) | Ptw::Leaving(_) => Action::GiveUp,
+        }
+    }
+}
+
+impl<D: Drive> Tables<D> {
+    /// What the owner does for a reference whose number leads nowhere: the chain of its segment becomes active, and
+    /// then the number is connected.
+    fn look_at_fault(&self, process: u32, reference: &Reference, uid: u32) -> Action
+        requires looks { MayLook self.now.state }
+        requires inside { outside_refusal self.now.state process reference.now ≡ None }
+        requires uid { uid ≡ uid_of_number self.now.state.store process reference.now.number }
+        ensures { (k : ℕ) → meant self.now.state k result
+            ≡ look_at_descriptor self.now.state process reference.now uid Fault }
+    {
+        match self.first_link(uid) {
+            Some(first) => first,
+            None => Action::Connect {
+                number: reference.number,
+                uid,
+            },
+        }
+    }
+
+    /// What the owner does for a reference that nothing refuses before its page is looked at.
+    fn look_inside(&self, process: u32, reference: Reference) -> Action
+        requires looks { MayLook self.now.state }
+        requires known { process < length self.now.state.store.links.known }
+        requires number { reference.number < 256 }
+        requires inside { outside_refusal self.now.state process reference ≡ None }
+        ensures { (k : ℕ) → meant self.now.state k result ≡ look_at_descriptor self.now.state process reference
+            (uid_of_number self.now.state.store process reference.number)
+            (descriptor_of self.now.state.store.links process reference.number) }
+    {
+        let uid = self.uid_of_number(process, reference.number);
+        if self.is_connected(process, reference.number) {
+            self.look_at_page(process, reference, uid, reference.offset / 1024)
+        } else {
+            self.look_at_fault(process, &reference, uid)
+        }
+    }
+
+    /// What the owner does for a reference of a process: it is refused, its segment becomes active and is connected, or
+    /// its page is brought. The look goes up the chain of the segment's superiors, and round the processors.
+    pub(crate) fn look_for_reference(&self, process: u32, reference: Reference) -> Action
+        requires looks { MayLook self.now.state }
+        requires known { process < length self.now.state.store.links.known }
+        requires number { reference.number < 256 }
+        ensures { (k : ℕ) → meant self.now.state k result
+            ≡ look_for_reference self.now.state process reference }
+    {
+        match self.outside_refusal(process, &reference) {
+            Some(refused) => Action::Answer(refused),
+            None => self.look_inside(process, reference),
         }
     }
 }

@@ -2,12 +2,12 @@ use Rattle.std.proofs.Common.{◌∙◌, rules}
 use Rattle.machine_tables.proofs.RuleLaws.{over_rule, stopped_rule, work_rule}
 use Rattle.machine_tables.proofs.tables.Tables.by_rules.Goals as goal
 
-pub returns-then-self : goal.returns-then-self
-returns-then-self g c = stopped_rule c.args.self.now.state c.args.c (search rules)
+pub returns-then-self-clause-rule : goal.returns-then-self-clause-rule
+returns-then-self-clause-rule g c = stopped_rule c.args.self.now.state c.args.c (search rules)
 
-pub returns-then-is_over : goal.returns-then-is_over
-returns-then-is_over g c = over_rule c.args.self.now.state c.args.c (search rules) (search rules)
+pub returns-then-is_over-clause-rule : goal.returns-then-is_over-clause-rule
+returns-then-is_over-clause-rule g c = over_rule c.args.self.now.state c.args.c (search rules) (search rules)
 
-pub returns-else-is_over : goal.returns-else-is_over
-returns-else-is_over g c =
-    c.work.ensures ∙ work_rule c.args.self.now.state c.args.c (search rules) (search rules)
+pub returns-else-is_over-clause-rule : goal.returns-else-is_over-clause-rule
+returns-else-is_over-clause-rule g c =
+    c.work.ensures.rule ∙ work_rule c.args.self.now.state c.args.c (search rules) (search rules)

@@ -1,0 +1,159 @@
+-- What a tree command must have out of use: pages that are here, and descriptors that lead to a segment.
+use Rattle.std.proofs.Common.{◌≡◌, ◌≢◌, ℕ, zero, suc, ◌+◌, ◌<◌, ◌≤◌, Bool, true, false, not, ◌||◌, ◌&&◌, cond, eqb}
+use Rattle.std.proofs.Common.{List, [], ◌∷◌, ◌++◌, map, length, get_or, drop, refl, sym, ap, ◌∙◌}
+use Rattle.std.proofs.Common.{arith, inl, inr}
+use Rattle.std.specs.Prelude.{◌/◌, ◌%◌, IfSome, IfNone}
+use Rattle.std.specs.List.{filter, range_with_len}
+use Rattle.std.proofs.lemmas.Bool.Decides.{eqb_tells}
+use Rattle.script.specs.declared.commands.Command.{Command}
+use Rattle.assoc_mem.specs.declared.What.{What}
+use Rattle.page_table.specs.declared.Ptw.{Ptw}
+use Rattle.page_table.specs.declared.Ptw.TheVariants as ptw
+use Rattle.page_control.specs.Tied.{is_out}
+use Rattle.active_segs.specs.Active.{ActiveSegs}
+use Rattle.trailers.specs.Trailer.{trailers_of}
+use Rattle.core_map.specs.CoreMap.{Core}
+use Rattle.seg_control.specs.Control.{place_of, table_of, word_of}
+use Rattle.machine_model.specs.Actions as act
+use Rattle.machine_model.specs.Actions.{bring_cut, descriptors_taken, first_taken, frames_taken, is_empty, room_for}
+use Rattle.machine_model.specs.Actions.{take_or_commit, what_taken, with_cut_page}
+use Rattle.machine_model.specs.Reads.{frames_from, frames_in, here_in, is_active, next_command, trailers_in}
+use Rattle.machine_model.specs.Refusal.{uid_of_command}
+use Rattle.machine_model.specs.State.{State, Storage}
+use Rattle.machine_model.proofs.ActiveSeen.{inactive_blank}
+use Rattle.machine_tables.specs.Meant.{taken_for}
+use Rattle.machine_tables.specs.Taken.{is_bare}
+
+-- ---- of a segment that isn't active there is nothing
+
+blank_frames : (ws : List Ptw) (low : ℕ) → ((q : ℕ) → get_or ws q ptw.Null ≡ ptw.Null) → frames_in (drop low ws) ≡ []
+blank_frames [] zero h = refl
+blank_frames [] (suc low) h = refl
+blank_frames (w ∷ ws) zero h = ap (λ (x : Ptw). here_in x ++ frames_in ws) (h 0)
+    ∙ blank_frames ws zero (λ q. h (suc q))
+blank_frames (w ∷ ws) (suc low) h = blank_frames ws low (λ q. h (suc q))
+
+pub no_frames : (ast : ActiveSegs) (u low : ℕ) → length ast.tables ≡ length ast.entries → is_active ast u ≡ false
+    → false ≡ not (is_empty (frames_from ast u low))
+no_frames ast u low tables off = sym (ap (λ (xs : List ℕ). not (is_empty xs))
+    (blank_frames (table_of ast u) low (inactive_blank ast u tables off)))
+
+pub no_trailers : (st : Storage) (u : ℕ) → is_active st.ast u ≡ false → false ≡ not (is_bare [] (trailers_in st u))
+no_trailers st u off = sym (ap (λ (b : Bool). not (is_bare []
+    (cond b (trailers_of st.links.trailers (place_of st.ast.entries u)) []))) off)
+
+-- ---- the descriptors of a process
+
+module _ (k : ℕ) (test : ℕ → Bool) where
+  abbrev pairs : ℕ → ℕ → List (ℕ × ℕ)
+  pairs from n = map (λ x. (k, x)) (filter test (range_with_len from n))
+
+  pub some_pair : (from n i : ℕ) → from ≤ i → i < from + n → test i ≡ true
+      → not (is_bare [] (pairs from n)) ≡ true
+  some_pair from zero i a b h = absurd (omega (arith, a, b))
+  some_pair from (suc n) i a b h = by (test from) refl (λ c. some_pair (from + 1) n i c (omega (arith, b)) h)
+    where
+      by : (t : Bool) → test from ≡ t → (from + 1 ≤ i → not (is_bare [] (pairs (from + 1) n)) ≡ true)
+          → not (is_bare [] (map (λ x. (k, x)) (cond t (from ∷ filter test (range_with_len (from + 1) n))
+          (filter test (range_with_len (from + 1) n))))) ≡ true
+      by true e rest = refl
+      by false e rest = elim (eqb_tells i from) [
+        | inl same ↦ absurd (let no : true ≡ false = sym h ∙ ap test same.1 ∙ e in cc)
+        | inr m ↦ (let other = m.1 in rest (omega (arith, a, other)))
+      ]
+
+  pub no_pair : (from n : ℕ) → ((i : ℕ) → i < from + n → test i ≡ false) → pairs from n ≡ []
+  no_pair from zero off = refl
+  no_pair from (suc n) off =
+      ap (λ (t : Bool). map (λ (x : ℕ). (k, x)) (cond t (from ∷ filter test (range_with_len (from + 1) n))
+      (filter test (range_with_len (from + 1) n)))) (off from (omega arith))
+      ∙ no_pair (from + 1) n (λ i lt. off i (omega (arith, lt)))
+
+  pub no_pairs : (n : ℕ) → ((i : ℕ) → i < n → test i ≡ false) → false ≡ not (is_bare [] (pairs 0 n))
+  no_pairs n off = sym (ap (λ (xs : List (ℕ × ℕ)). not (is_bare [] xs))
+      (no_pair 0 n (λ i lt. off i (omega (arith, lt)))))
+
+-- none of the numbers up to the next passes
+pub none_next : (test : ℕ → Bool) (n : ℕ) → ((i : ℕ) → i < n → test i ≡ false) → test n ≡ false → (i : ℕ)
+    → i < n + 1 → test i ≡ false
+none_next test n before here i lt = elim (eqb_tells i n) [
+  | inl e ↦ ap test e.1 ∙ here
+  | inr m ↦ (let other = m.1 in before i (omega (arith, lt, other)))
+]
+
+-- ---- taken, or done at once
+
+not_bare : (fs : List ℕ) (pairs : List (ℕ × ℕ)) → (not (is_empty fs) || not (is_bare [] pairs)) ≡ true
+    → (w : What) → act.TakeAway fs pairs w ≡ take_or_commit fs pairs w
+not_bare [] [] h w = absurd (let no : false ≡ true = h in cc)
+not_bare [] (x ∷ xs) h w = refl
+not_bare (f ∷ fs) pairs h w = refl
+
+bare : (fs : List ℕ) (pairs : List (ℕ × ℕ)) → not (is_empty fs) ≡ false → not (is_bare [] pairs) ≡ false
+    → (w : What) → act.Commit ≡ take_or_commit fs pairs w
+bare [] [] a b w = refl
+bare [] (x ∷ xs) a b w = absurd (let no : true ≡ false = b in cc)
+bare (f ∷ fs) pairs a b w = absurd (let no : true ≡ false = a in cc)
+
+module _ (s : State) (k u : ℕ) (c : Command) where
+  abbrev frames : List ℕ
+  frames = frames_taken s.store u (first_taken c)
+
+  abbrev descriptors : List (ℕ × ℕ)
+  descriptors = descriptors_taken s.store k u c
+
+  pub taken_away : u ≡ uid_of_command s.store k c → next_command s k ≡ Some c
+      → (not (is_empty frames) || not (is_bare [] descriptors)) ≡ true
+      → taken_for s.store k (next_command s k) ≡ take_or_commit frames descriptors (what_taken u c)
+  taken_away is next some =
+      ap (taken_for s.store k) next
+      ∙ ap (λ (v : ℕ). act.TakeAway (frames_taken s.store v (first_taken c)) (descriptors_taken s.store k v c)
+      (what_taken v c)) (sym is)
+      ∙ not_bare frames descriptors some (what_taken u c)
+
+  pub committed : (not (is_empty frames) || not (is_bare [] descriptors)) ≡ false
+      → act.Commit ≡ take_or_commit frames descriptors (what_taken u c)
+  committed none = both (not (is_empty frames)) (not (is_bare [] descriptors)) refl refl none
+    where
+      both : (a b : Bool) → not (is_empty frames) ≡ a → not (is_bare [] descriptors) ≡ b → (a || b) ≡ false
+          → act.Commit ≡ take_or_commit frames descriptors (what_taken u c)
+      both true b d e h = absurd (let no : true ≡ false = h in cc)
+      both false b d e h = bare frames descriptors d (e ∙ h) (what_taken u c)
+
+-- ---- the page that is cut
+
+module _ (st : Storage) (u words : ℕ) (otherwise : act.Action) where
+  abbrev page : ℕ
+  page = words / 1024
+
+  abbrev core : Core
+  core = st.pages.core
+
+  brought : (w : Ptw) → is_out w ≡ true
+      → room_for core u page (λ f. act.Start f u page) ≡ bring_cut core u page w otherwise
+  brought ptw.Null h = absurd (let no : false ≡ true = h in cc)
+  brought (ptw.Out r) h = refl
+  brought (ptw.Here f) h = absurd (let no : false ≡ true = h in cc)
+  brought (ptw.Leaving f) h = absurd (let no : false ≡ true = h in cc)
+
+  left : (w : Ptw) → is_out w ≡ false → otherwise ≡ bring_cut core u page w otherwise
+  left ptw.Null h = refl
+  left (ptw.Out r) h = absurd (let no : true ≡ false = h in cc)
+  left (ptw.Here f) h = refl
+  left (ptw.Leaving f) h = refl
+
+  pub cut_brought : (words % 1024 ≢ 0) → is_out (word_of st.ast u page) ≡ true
+      → room_for core u page (λ f. act.Start f u page) ≡ with_cut_page st u words otherwise
+  cut_brought cuts out = brought (word_of st.ast u page) out
+      ∙ sym (ap (λ (b : Bool). cond b otherwise (bring_cut core u page (word_of st.ast u page) otherwise)) off)
+    where
+      off : eqb (words % 1024) 0 ≡ false
+      off = elim (eqb_tells (words % 1024) 0) [ inl e ↦ absurd (cuts e.1) | inr m ↦ m.0 ]
+
+  pub cut_left : (words % 1024 ≢ 0 → is_out (word_of st.ast u page) ≡ false)
+      → otherwise ≡ with_cut_page st u words otherwise
+  cut_left away = elim (eqb_tells (words % 1024) 0) [
+    | inl e ↦ sym (ap (λ (b : Bool). cond b otherwise (bring_cut core u page (word_of st.ast u page) otherwise)) e.0)
+    | inr m ↦ left (word_of st.ast u page) (away m.1)
+        ∙ sym (ap (λ (b : Bool). cond b otherwise (bring_cut core u page (word_of st.ast u page) otherwise)) m.0)
+  ]

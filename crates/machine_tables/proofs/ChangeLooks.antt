@@ -1,0 +1,59 @@
+-- The look for a tree command that nothing refuses, by the command.
+use Rattle.std.proofs.Common.{◌≡◌, ◌≢◌, ℕ, true, is_some, cond, List, None, refl, sym, ap, subst, ◌∙◌}
+use Rattle.script.specs.declared.commands.Command.{Command}
+use Rattle.script.specs.declared.commands.Command.TheVariants as command
+use Rattle.storage_ops.specs.Shown.{is_there}
+use Rattle.machine_model.specs.Actions as act
+use Rattle.machine_model.specs.Actions.{empty_when_read, look_to_change, look_to_take, with_chain, with_cut_page}
+use Rattle.machine_model.specs.Keeps.{Keeps}
+use Rattle.machine_model.specs.Reads.{is_active}
+use Rattle.machine_model.specs.Refusal.{refusal_of, uid_of_command}
+use Rattle.machine_model.specs.State.{State, Storage}
+use Rattle.machine_model.proofs.CommandFacts.{truncate_stands}
+
+-- the segment of a `truncate` that nothing refuses is there
+pub truncate_there : (s : State) (k : ℕ) → Keeps s → (path : List (List ℕ)) (words : ℕ) (c : Command)
+    → c ≡ command.Truncate path words → refusal_of s k c ≡ None → (u : ℕ) → u ≡ uid_of_command s.store k c
+    → is_there s.store.accounts.nodes u ≡ true
+truncate_there s k keeps path words c is stands u its =
+    let leads = truncate_stands s k keeps path words (subst (λ (x : Command). refusal_of s k x ≡ None) is stands) in
+    subst (λ (v : ℕ). is_there s.store.accounts.nodes v ≡ true)
+    (sym (its ∙ ap (uid_of_command s.store k) is ∙ leads.uid)) (ap is_some leads.there)
+
+module _ (st : Storage) (k : ℕ) where
+  pub changes_truncate : (path : List (List ℕ)) (words : ℕ) (c : Command) → c ≡ command.Truncate path words
+      → (u v : ℕ) → u ≡ v
+      → with_chain st u (with_cut_page st u words (look_to_take st k u c)) ≡ look_to_change st k v c
+  changes_truncate path words c is u v same =
+      ap (λ (x : Command). with_chain st u (with_cut_page st u words (look_to_take st k u x))) is
+      ∙ ap (λ (w : ℕ). look_to_change st k w (command.Truncate path words)) same ∙ ap (look_to_change st k v) (sym is)
+
+  pub changes_length : (path : List (List ℕ)) (pages : ℕ) (c : Command) → c ≡ command.Length path pages
+      → (u v : ℕ) → u ≡ v
+      → cond (is_active st.ast u) (empty_when_read st.pages.core u (act.Empty u)) act.Commit ≡ look_to_change st k v c
+  changes_length path pages c is u v same =
+      ap (λ (w : ℕ). look_to_change st k w (command.Length path pages)) same ∙ ap (look_to_change st k v) (sym is)
+
+  by_itself : (u : ℕ) (c : Command) → ((path : List (List ℕ)) (words : ℕ) → c ≢ command.Truncate path words)
+      → ((path : List (List ℕ)) (pages : ℕ) → c ≢ command.Length path pages)
+      → look_to_take st k u c ≡ look_to_change st k u c
+  by_itself u (command.Truncate path words) a b = absurd (a path words refl)
+  by_itself u (command.Length path pages) a b = absurd (b path pages refl)
+  by_itself u (command.MkDir path volume) a b = refl
+  by_itself u (command.MkSeg path pages volume) a b = refl
+  by_itself u (command.Initiate path) a b = refl
+  by_itself u (command.Terminate number) a b = refl
+  by_itself u (command.Acl path row m) a b = refl
+  by_itself u (command.Delete path) a b = refl
+  by_itself u (command.Move path amount) a b = refl
+  by_itself u (command.Status path) a b = refl
+  by_itself u command.End a b = refl
+  by_itself u (command.Read n o) a b = refl
+  by_itself u (command.Write n o w) a b = refl
+  by_itself u (command.Add n o w) a b = refl
+  by_itself u (command.Await n o w t) a b = refl
+
+  pub changes_else : (c : Command) → ((path : List (List ℕ)) (words : ℕ) → c ≢ command.Truncate path words)
+      → ((path : List (List ℕ)) (pages : ℕ) → c ≢ command.Length path pages) → (u v : ℕ) → u ≡ v
+      → look_to_take st k u c ≡ look_to_change st k v c
+  changes_else c a b u v same = by_itself u c a b ∙ ap (λ (w : ℕ). look_to_change st k w c) same

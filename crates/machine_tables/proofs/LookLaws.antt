@@ -1,0 +1,39 @@
+-- What a look asks of the chain of a node: its first link that isn't active is there, and a full pool has a victim.
+use Rattle.std.proofs.Common.{◌≡◌, ℕ, true, Option, Some, sym, subst}
+use Rattle.std.proofs.Common.{List}
+use Rattle.script.specs.Forms.{ArePools}
+use Rattle.tree_model.specs.Tree.{node_in}
+use Rattle.dir_tree.specs.Nodes.{chain_of}
+use Rattle.active_segs.specs.Active.{IsFull}
+use Rattle.active_segs.specs.Victim.{HasItsSuperiors, HasOneOffChain}
+use Rattle.storage_ops.specs.Shown.{is_there}
+use Rattle.machine_model.specs.Actions.{pool_of_node}
+use Rattle.machine_model.specs.Keeps.{StoreKept}
+use Rattle.machine_model.specs.Reads.{first_inactive}
+use Rattle.machine_model.specs.State.{State, Storage}
+use Rattle.machine_model.proofs.ChainFacts.{first_there}
+use Rattle.machine_tables.specs.Held.{MayLook}
+use Rattle.machine_tables.proofs.VictimLaws.{chain_one_off, chain_superiors}
+
+module _ (s : State) (u : ℕ) where
+  abbrev st : Storage
+  st = s.store
+
+  pub link_superiors : MayLook s → HasItsSuperiors st.ast.entries (chain_of st.accounts.nodes u)
+  link_superiors h = chain_superiors st.pages st.ast st.links st.accounts st.whos h.keeps.store.counted
+      h.keeps.store.accounts.tree u
+
+  pub link_there : (v : ℕ) → MayLook s → is_there st.accounts.nodes u ≡ true
+      → first_inactive st.ast (chain_of st.accounts.nodes u) ≡ Some v → is_there st.accounts.nodes v ≡ true
+  link_there v h there first =
+      first_there st.accounts.nodes h.keeps.store.accounts.tree st.ast u v there first
+
+  pub link_victim : (v : ℕ) → MayLook s → is_there st.accounts.nodes u ≡ true
+      → first_inactive st.ast (chain_of st.accounts.nodes u) ≡ Some v → (pool : ℕ)
+      → pool ≡ pool_of_node (node_in st.accounts.nodes v) → IsFull st.ast pool
+      → HasOneOffChain st.ast pool (chain_of st.accounts.nodes u)
+  link_victim v h there first pool is full =
+      subst (λ (q : ℕ). HasOneOffChain st.ast q (chain_of st.accounts.nodes u)) (sym is)
+      (chain_one_off st.pages st.ast st.links st.accounts st.whos h.keeps.store.counted h.keeps.store.accounts.tree u
+      h.keeps.store.kept.tree (subst ArePools (sym h.pools) h.script.pools) there v first
+      (subst (IsFull st.ast) is full))

@@ -1,0 +1,114 @@
+-- Pools of the active segment table: the least free place of one, which pool a node's page table is of, and what the
+-- pools of a script have.
+use Rattle.std.proofs.Common.{◌≡◌, ◌≢◌, ℕ, zero, suc, ◌+◌, ◌-◌, ◌<◌, ◌≤◌, Bool, true, false, cond, is_none, List, []}
+use Rattle.std.proofs.Common.{◌∷◌, Option, Some, None, refl, sym, ap, subst, ◌∙◌, arith, inl, inr}
+use Rattle.std.specs.Prelude.{IfSome, IsNone, IsSome, nat_le, ◌↔◌}
+use Rattle.std.specs.List.{find, range_with_len}
+use Rattle.std.proofs.lemmas.Bool.Decides.{eqb_tells}
+use Rattle.script.specs.Forms.{ArePools}
+use Rattle.tree_model.specs.Tree.{Node, pool_for}
+use Rattle.active_segs.specs.declared.Entry.{Entry}
+use Rattle.active_segs.specs.Active.{ActiveSegs, IsFull, IsLeastFree, entry_at}
+use Rattle.active_segs.specs.Pool.{first_of, size_of}
+use Rattle.storage_ops.specs.Connecting.{pool_in}
+use Rattle.machine_model.specs.Actions.{pool_of_node}
+use Rattle.machine_model.specs.Reads.{free_place}
+
+-- ---- what is found among numbers in order
+
+module _ (test : ℕ → Bool) where
+  first_in : (from n place : ℕ) → from ≤ place → place < from + n → test place ≡ true
+      → ((q : ℕ) → from ≤ q → q < place → test q ≡ false) → find test (range_with_len from n) ≡ Some place
+  first_in from zero place a b h before = absurd (omega (arith, a, b))
+  first_in from (suc n) place a b h before = elim (eqb_tells from place) [
+    | inl e ↦ ap (λ (t : Bool). cond t (Some from) (find test (range_with_len (from + 1) n))) (ap test e.1 ∙ h)
+        ∙ ap (λ (x : ℕ). Some x) e.1
+    | inr m ↦ (let other = m.1 in
+        ap (λ (t : Bool). cond t (Some from) (find test (range_with_len (from + 1) n)))
+        (before from (omega arith) (omega (arith, a, other)))
+        ∙ first_in (from + 1) n place (omega (arith, a, other)) (omega (arith, b)) h
+        (λ q c d. before q (omega (arith, c)) d))
+  ]
+
+  none_in : (from n : ℕ) → ((q : ℕ) → from ≤ q → q < from + n → test q ≡ false)
+      → find test (range_with_len from n) ≡ None
+  none_in from zero off = refl
+  none_in from (suc n) off =
+      ap (λ (t : Bool). cond t (Some from) (find test (range_with_len (from + 1) n)))
+      (off from (omega arith) (omega arith))
+      ∙ none_in (from + 1) n (λ q c d. off q (omega (arith, c)) (omega (arith, d)))
+
+used_is : (o : Option Entry) → IsSome o → is_none o ≡ false
+used_is None h = absurd (let no : false ≡ true = h in cc)
+used_is (Some e) h = refl
+
+module _ (ast : ActiveSegs) (pool : ℕ) where
+  abbrev first : ℕ
+  first = first_of ast.sizes pool
+
+  abbrev size : ℕ
+  size = size_of ast.sizes pool
+
+  -- the least free place of a pool, however it is told
+  least_free : (place : ℕ) → IsLeastFree ast pool place → free_place ast pool ≡ Some place
+  least_free place h = (let from = h.in_pool.from in let to = h.in_pool.to in
+      first_in (λ q. is_none (entry_at ast.entries q)) first (first + size - first) place from
+      (omega (arith, from, to)) (ap is_none h.free)
+      (λ q a b. used_is (entry_at ast.entries q)
+      (h.least q (record { from = a; to = omega (arith, b, to) }) b)))
+
+  full_none : IsFull ast pool → free_place ast pool ≡ None
+  full_none h = none_in (λ q. is_none (entry_at ast.entries q)) first (first + size - first)
+      (λ q a b. used_is (entry_at ast.entries q) (h q (record { from = a; to = omega (arith, a, b) })))
+
+  pub free_told : (found : ActiveSegs) (o : Option ℕ) → found ≡ ast → IfSome o (IsLeastFree found pool)
+      → (IsNone o ↔ IsFull found pool) → o ≡ free_place ast pool
+  free_told found (Some place) same some none =
+      sym (least_free place (subst (λ (a : ActiveSegs). IsLeastFree a pool place) same some))
+  free_told found None same some none =
+      sym (full_none (subst (λ (a : ActiveSegs). IsFull a pool) same (none.0 refl)))
+
+-- ---- the pool of a node
+
+pub pool_same : (o : Option Node) → pool_in o ≡ pool_of_node o
+pool_same None = refl
+pool_same (Some n) = refl
+
+pub pool_few : (o : Option Node) → pool_of_node o < 4
+pool_few None = omega arith
+pool_few (Some n) = dir n.directory
+  where
+    small : (a b d : Bool) → cond a 0 (cond b 1 (cond d 2 3)) < 4
+    small true b d = omega arith
+    small false true d = omega arith
+    small false false true = omega arith
+    small false false false = omega arith
+
+    dir : (b : Bool) → cond b 0 (pool_for n.pages) < 4
+    dir true = omega arith
+    dir false = small (nat_le n.pages 4) (nat_le n.pages 16) (nat_le n.pages 64)
+
+-- ---- the pools of a script
+
+-- the first pool has twelve places and more
+pub first_many : (sizes : List ℕ) → ArePools sizes → 12 ≤ size_of sizes 0
+first_many [] h = absurd h
+first_many (a ∷ []) h = absurd h
+first_many (a ∷ b ∷ []) h = absurd h
+first_many (a ∷ b ∷ c ∷ []) h = absurd h
+first_many (a ∷ b ∷ c ∷ d ∷ []) h = h.0
+first_many (a ∷ b ∷ c ∷ d ∷ e ∷ rest) h = absurd h
+
+-- each other pool has some, after those of the first
+pub others_some : (sizes : List ℕ) (pool : ℕ) → ArePools sizes → pool < 4 → pool ≢ 0
+    → (1 ≤ size_of sizes pool) × (size_of sizes 0 ≤ first_of sizes pool)
+others_some [] pool h few other = absurd h
+others_some (a ∷ []) pool h few other = absurd h
+others_some (a ∷ b ∷ []) pool h few other = absurd h
+others_some (a ∷ b ∷ c ∷ []) pool h few other = absurd h
+others_some (a ∷ b ∷ c ∷ d ∷ e ∷ rest) pool h few other = absurd h
+others_some (a ∷ b ∷ c ∷ d ∷ []) zero h few other = absurd (other refl)
+others_some (a ∷ b ∷ c ∷ d ∷ []) (suc zero) h few other = (h.1, omega arith)
+others_some (a ∷ b ∷ c ∷ d ∷ []) (suc (suc zero)) h few other = (h.2, omega arith)
+others_some (a ∷ b ∷ c ∷ d ∷ []) (suc (suc (suc zero))) h few other = (h.3, omega arith)
+others_some (a ∷ b ∷ c ∷ d ∷ []) (suc (suc (suc (suc n)))) h few other = absurd (omega (arith, few))

@@ -1,0 +1,69 @@
+-- A command of the script is in its ranges by the drives that there are.
+use Rattle.std.proofs.Common.{◌≡◌, ◌≢◌, ℕ, zero, suc, ◌-◌, ◌<◌, ◌≤◌, Bool, true, false, ◌&&◌, is_some, List, [], ◌∷◌}
+use Rattle.std.proofs.Common.{map, length, get_or, Option, Some, None, Ok, Err, refl, sym, ap, subst, ◌∙◌, arith}
+use Rattle.std.proofs.Common.{inl, inr}
+use Rattle.std.specs.Prelude.{Result, IfOk, nat_le, nat_lt, slice_get}
+use Rattle.std.specs.List.{list_all}
+use Rattle.std.proofs.lemmas.Bool.{and_parts, cases_lt}
+use Rattle.std.proofs.lemmas.Bool.Decides.{leb_tells, nat_tests}
+use Rattle.std.proofs.lemmas.List.{get_or_past, length-map}
+use Rattle.script.specs.Forms.{IsPlan, is_command, is_from, is_path, is_volume}
+use Rattle.script.specs.Plans.{Plan}
+use Rattle.script.specs.declared.commands.Command.{Command}
+use Rattle.script.specs.declared.commands.Command.TheVariants as command
+use Rattle.script.specs.declared.plan.VolumeLine.{VolumeLine}
+use Rattle.flat_model.specs.Store.{records_in, records_of}
+use Rattle.volumes.specs.Volumes.{HasParts}
+use Rattle.page_control.specs.Counts.{size}
+
+and_more : (a b d : Bool) → (b ≡ true → d ≡ true) → (a && b) ≡ true → (a && d) ≡ true
+and_more true b d more h = more h
+and_more false b d more h = h
+
+lt_more : (v few most : ℕ) → few ≤ most → nat_lt v few ≡ true → nat_lt v most ≡ true
+lt_more v few most le h = grind (arith, nat_tests)
+
+-- a command that is in its ranges stays so where there are more volumes
+pub more_volumes : (few most : ℕ) (c : Command) → few ≤ most → is_command few c ≡ true → is_command most c ≡ true
+unfolding is_command
+more_volumes few most (command.MkDir path volume) le h = and_more (is_path path) (nat_lt volume few)
+    (nat_lt volume most) (lt_more volume few most le) h
+more_volumes few most (command.MkSeg path pages volume) le h = and_more (is_path path)
+    (is_from 1 256 pages && nat_lt volume few) (is_from 1 256 pages && nat_lt volume most)
+    (and_more (is_from 1 256 pages) (nat_lt volume few) (nat_lt volume most) (lt_more volume few most le)) h
+more_volumes few most c le h = h
+
+no_and : {b : Bool} → b ≡ true → b ≡ false → ⊥
+no_and t f = let no : true ≡ false = sym t ∙ f in cc
+
+some_records : (v : VolumeLine) → is_volume v ≡ true → 1 ≤ v.records
+unfolding is_volume
+some_records v h = elim (leb_tells 1 v.records) [
+  | inl e ↦ e.1
+  | inr m ↦ absurd (no_and (and_parts _ _ (and_parts _ _ (and_parts _ _ h).1).0).0 m.0)
+]
+
+records_some : (vs : List VolumeLine) (v : ℕ) → list_all is_volume vs ≡ true → v < length vs
+    → 1 ≤ records_in (slice_get vs v)
+records_some [] v h lt = absurd (omega (arith, lt))
+records_some (x ∷ vs) zero h lt = some_records x (and_parts _ _ h).0
+records_some (x ∷ vs) (suc v) h lt = records_some vs v (and_parts _ _ h).1 (omega (arith, lt))
+
+-- there is a drive for each volume of the script
+pub drive_each : {D : Type 0} (pages : D → List (List ℕ)) (drives : List D) (p : Plan) (records : List (List Bool))
+    (vtocs : List (List (Option _))) → IsPlan p → ((v : ℕ) → records_of p v ≡ size records v)
+    → HasParts (map pages drives) records vtocs → length p.volumes ≤ length drives
+drive_each pages drives p records vtocs plan same parts =
+    elim (cases_lt (length p.volumes - 1) (length records)) [
+      | inl lt ↦ (omega (arith, lt, all))
+      | inr past ↦ (let none : size records (length p.volumes - 1) ≡ 0 =
+          ap length (get_or_past records (length p.volumes - 1) [] past) in
+          let some = records_some p.volumes (length p.volumes - 1) plan.volumes
+          (let least = plan.some in omega (arith, least)) in
+          let is = same (length p.volumes - 1) in
+          absurd (omega (arith, none, some, is)))
+    ]
+  where
+    all : length records ≡ length drives
+    all = sym (length-map records length) ∙ ap length parts.sizes ∙ length-map (map pages drives) length
+        ∙ length-map drives pages

@@ -1,0 +1,76 @@
+-- What a reference goes to that nothing refuses before its page is looked at: its segment is there, and where its
+-- number is connected the segment is active, with a word for the page in its page table.
+use Rattle.std.proofs.Common.{◌≡◌, ℕ, Bool, true, false, is_some, length, ◌<◌, ◌≤◌, ◌*◌, Option, Some, None, refl, sym}
+use Rattle.std.proofs.Common.{ap, subst, ◌∙◌, arith}
+use Rattle.std.specs.Prelude.{◌/◌}
+use Rattle.script.specs.declared.commands.Reference.{Reference}
+use Rattle.tree_model.specs.Tree.{Node, node_in, pool_of}
+use Rattle.descriptor_seg.specs.declared.Sdw.{Sdw}
+use Rattle.descriptor_seg.specs.declared.Sdw.TheVariants as sdw
+use Rattle.active_segs.specs.Active.{IsActive, uid_at}
+use Rattle.active_segs.specs.Pool.{IsInPool}
+use Rattle.seg_control.specs.Control.{leads, place_of, table_of}
+use Rattle.seg_control.specs.Kept.{IsKept}
+use Rattle.storage_ops.specs.Shown.{is_there, pages_of}
+use Rattle.storage_ops.proofs.PageFacts.{directory_found, room_of}
+use Rattle.machine_model.specs.Actions as act
+use Rattle.machine_model.specs.Actions.{look_at_descriptor, look_at_page, with_chain}
+use Rattle.machine_model.specs.Keeps.{Keeps}
+use Rattle.machine_model.specs.Reads.{descriptor_of, is_connected, or_zero}
+use Rattle.machine_model.specs.Refusal.{outside_refusal, uid_of_number}
+use Rattle.machine_model.specs.State.{State, Storage}
+use Rattle.machine_model.proofs.InsideLaws.{inside_is}
+use Rattle.machine_model.proofs.LookFacts.{IsInside}
+use Rattle.machine_tables.proofs.LinkLaws.{place_found}
+
+-- a number that is connected stands for an active segment
+pub connected_active : (st : Storage) (k n : ℕ) → IsKept st.pages st.ast st.links
+    → is_connected (descriptor_of st.links k n) ≡ true → IsActive st.ast.entries (uid_of_number st k n)
+connected_active st k n kept h = by (descriptor_of st.links k n) refl h
+  where
+    by : (x : Sdw) → descriptor_of st.links k n ≡ x → is_connected x ≡ true
+        → IsActive st.ast.entries (uid_of_number st k n)
+    by sdw.Fault e i = absurd (let no : false ≡ true = i in cc)
+    by (sdw.Present aste m pages) e i = let at = kept.linked.known k n aste (ap leads e) in
+        (aste, at.active ∙ ap (λ (u : ℕ). Some u) (sym (ap or_zero at.known_as)))
+
+module _ (s : State) (k : ℕ) (r : Reference) (keeps : Keeps s) (within : outside_refusal s k r ≡ None) where
+  abbrev u : ℕ
+  u = uid_of_number s.store k r.number
+
+  inside : IsInside s k r u
+  inside = inside_is s k r keeps within
+
+  its_node : node_in s.store.accounts.nodes u ≡ Some inside.node
+  its_node = sym (ap (λ ns. node_in ns u) keeps.faithful.tree.nodes) ∙ inside.there
+
+  -- its segment is there
+  pub segment_there : is_there s.store.accounts.nodes u ≡ true
+  segment_there = ap is_some its_node
+
+  -- its page has a word in the page table
+  pub page_there : IsActive s.store.ast.entries u → r.offset / 1024 < length (table_of s.store.ast u)
+  page_there active =
+      let at = place_found s.store.ast active.0 u keeps.store.kept.tree active.1 in
+      let here : uid_at s.store.ast.entries (place_of s.store.ast.entries u) ≡ Some u =
+      subst (λ (place : ℕ). uid_at s.store.ast.entries place ≡ Some u) (sym at) active.1 in
+      let room = room_of inside.node
+      (subst (λ (n : Option Node). pages_of n ≤ 256) its_node (keeps.store.counted.counted.most u))
+      (λ d. sym (ap pages_of its_node) ∙ keeps.store.counted.counted.flat u
+      (directory_found s.store.accounts.nodes u inside.node its_node ∙ d)) in
+      let long = keeps.store.kept.sized (pool_of inside.node) (place_of s.store.ast.entries u) room.1
+      (keeps.store.counted.active.pools (place_of s.store.ast.entries u) u inside.node here its_node) in
+      let less = inside.within in
+      let few = room.0 in
+      omega (arith, long, less, few)
+
+-- the look by the descriptor
+pub present_looks : (s : State) (k : ℕ) (r : Reference) (u : ℕ) (x : Sdw) → is_connected x ≡ true
+    → look_at_page s k r u (r.offset / 1024) ≡ look_at_descriptor s k r u x
+present_looks s k r u sdw.Fault h = absurd (let no : false ≡ true = h in cc)
+present_looks s k r u (sdw.Present aste m pages) h = refl
+
+pub fault_looks : (s : State) (k : ℕ) (r : Reference) (u : ℕ) (x : Sdw) → is_connected x ≡ false
+    → look_at_descriptor s k r u sdw.Fault ≡ look_at_descriptor s k r u x
+fault_looks s k r u sdw.Fault h = refl
+fault_looks s k r u (sdw.Present aste m pages) h = absurd (let no : true ≡ false = h in cc)

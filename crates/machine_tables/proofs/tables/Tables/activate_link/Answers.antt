@@ -1,0 +1,15 @@
+use Rattle.std.proofs.Common.{rules}
+use Rattle.machine_tables.specs.Held.{MayLook}
+use Rattle.machine_tables.proofs.LookLaws.{link_superiors, link_there, link_victim}
+use Rattle.machine_tables.proofs.tables.Tables.activate_link.Goals as goal
+
+pub pool-pool-requires : goal.pool-pool-requires
+pool-pool-requires g c = link_there c.args.self.now.state c.args.of c.args.uid c.requires.looks c.requires.there
+    c.requires.first
+
+pub empty_victim-requires-clause-off : goal.empty_victim-requires-clause-off
+empty_victim-requires-clause-off g c = link_victim c.args.self.now.state c.args.of c.args.uid c.requires.looks
+    c.requires.there c.requires.first c.pool-pool.result (search rules) (search rules)
+
+pub empty_victim-requires-clause-superiors : goal.empty_victim-requires-clause-superiors
+empty_victim-requires-clause-superiors g c = link_superiors c.args.self.now.state c.args.of c.requires.looks

@@ -1,0 +1,10 @@
+use Rattle.std.proofs.Common.{◌∙◌, rules, sym}
+use Rattle.seg_control.specs.Control.{place_of}
+use Rattle.machine_model.proofs.ActiveSeen.{active_place}
+use Rattle.machine_tables.proofs.tables.Tables.is_active.Goals as goal
+
+pub returns-clause-active : goal.returns-clause-active
+returns-clause-active g c = λ h. (
+  place_of c.args.self.now.state.store.ast.entries c.args.uid,
+  (active_place c.args.self.now.state.store.ast c.args.uid (search rules)).1,
+)
