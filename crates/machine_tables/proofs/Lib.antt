@@ -10,6 +10,7 @@ pub mod CommandLaws
 pub mod CreateLaws
 pub mod CutLaws
 pub mod FailedLaws
+pub mod FirstLaws
 pub mod FrameLaws
 pub mod JobLaws
 pub mod JoinLaws

@@ -61,6 +61,10 @@ with_stored x pages faults t = record {
   drives = t.segs.pages.volumes.drives;
 }
 
+-- so many frames of zeros
+abbrev pub first_words : ℕ → List (List ℕ)
+first_words frames = replicate frames (replicate 1024 0)
+
 -- before the first entry, over a store: each process at its first command, and no processor takes part
 abbrev pub first_state : Plan → Storage → ℕ → ℕ → State
 first_state p st spare faults = record {

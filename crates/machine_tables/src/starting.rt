@@ -1,10 +1,12 @@
-ghost use Rattle.std.specs.Prelude.{◌≡◌, ◌<◌, ◌≤◌, ◌∷◌, [], length, replicate, IfOk};
+ghost use Rattle.std.specs.Prelude.{◌≡◌, ◌<◌, ◌≤◌, ◌∷◌, [], length, map, replicate, IfOk};
 ghost use Rattle.std.specs.List.{sum_by};
 ghost use Rattle.custody_model.specs.Custody.{range, ready_at_first};
-ghost use Rattle.machine_model.specs.Boot.{first_run};
+ghost use Rattle.storage_ops.specs.Shown.{AreFresh};
+ghost use Rattle.machine_model.specs.Boot.{first_run, first_store};
+ghost use Rattle.machine_model.specs.Keeps.{StoreSays};
 ghost use Rattle.machine_model.specs.Reads.{no_processor};
 ghost use Rattle.traffic.specs.Queue.{Queue};
-ghost use Rattle.machine_tables.specs.Parts.{first_state, shown};
+ghost use Rattle.machine_tables.specs.Parts.{first_state, first_words, shown};
 
 use crate::owner::Job;
 use crate::tables::{NoMemory, Tables};
@@ -15,7 +17,7 @@ use script::Script;
 use std::alloc::Global;
 use storage_ops::Store;
 use traffic::Ready;
-use volumes::Drive;
+use volumes::{Drive, Volumes};
 
 /// A processor that takes no part yet.
 fn idle() -> Processor
@@ -116,5 +118,26 @@ impl<D: Drive> Tables<D> {
             stopped: false,
             visited: 0,
         })
+    }
+    /// The tables of a script before its first entry, over volumes of the script's sizes with nothing of them in use:
+    /// the root alone, every frame free and of zeros, nothing active, known or connected, and no processor takes part.
+    /// It takes all the memory that they ever have, but for the entries of the book.
+    ///
+    /// # Errors
+    /// `NoMemory` is want of memory. (Source: own.)
+    pub fn boot(alloc: Global, script: Script, volumes: Volumes<D>) -> Result<Tables<D>, NoMemory>
+        requires count { length volumes.drives ≡ length script.volumes }
+        requires fresh { AreFresh script volumes.records volumes.vtocs }
+        ensures state { IfOk result (λ t. t.state ≡ first_state script (first_store script (first_words script.frames)
+            (map D.pages volumes.drives)) t.state.spare (sum_by D.faults volumes.drives)) }
+        ensures says { IfOk result (λ t. StoreSays t.state) }
+        ensures room { IfOk result (λ t. t.room ≡ length script.processes) }
+        ensures drives { IfOk result (λ t. t.drives ≡ volumes.drives) }
+    {
+        let _parts = volumes.count();
+        let store = Store::new(alloc, &script, volumes)?;
+        let tables = Tables::new(alloc, script, store)?;
+        let _says = tables.look();
+        Ok(tables)
     }
 }

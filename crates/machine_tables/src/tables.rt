@@ -15,6 +15,12 @@ use volumes::Drive;
 #[derive(Clone, Copy, Debug, PartialEq, Eq)]
 pub struct NoMemory;
 
+impl From<storage_ops::NoMemory> for NoMemory {
+    fn from(_: storage_ops::NoMemory) -> Self {
+        NoMemory
+    }
+}
+
 /// What a machine has between two steps, side by side (Bensoussan, Clingen and Daley 1972; Corbató 1968).
 #[derive(Drop)]
 pub struct Tables<D: Drive> {

@@ -1,0 +1,159 @@
+-- The tables at first: a store of the root alone on volumes of which nothing is in use.
+use Rattle.std.proofs.Common.{◌≡◌, ℕ, zero, suc, ◌+◌, Bool, true, false, List, [], ◌∷◌, map, length, get_or, set, sum}
+use Rattle.std.proofs.Common.{replicate, Option, Some, None, refl, sym, ap, subst, ◌∙◌, arith}
+use Rattle.std.specs.Prelude.{slice_get}
+use Rattle.std.proofs.lemmas.List.{length-map, length-replicate}
+use Rattle.mnames.specs.declared.principals.Who.{Who}
+use Rattle.script.specs.Plans.{Plan}
+use Rattle.script.specs.declared.plan.VolumeLine.{VolumeLine}
+use Rattle.accounts.specs.Maps.{AccountMaps, root_alone}
+use Rattle.tree_model.specs.Tree.{Node}
+use Rattle.flat_model.specs.Store.{Store, boot, entries_in, entries_of, records_in, records_of}
+use Rattle.flat_model.proofs.BookLaws.{store_after-nil}
+use Rattle.vtoc.specs.Vtoc.{Entry as VtocEntry, entry_at, fresh_entry}
+use Rattle.bitmap.specs.Bitmap.{in_use}
+use Rattle.core_map.specs.declared.Frame.TheVariants as frame
+use Rattle.volumes.specs.Volumes.{HasParts, Vols}
+use Rattle.active_segs.specs.declared.Entry.{Entry}
+use Rattle.active_segs.specs.Active.{ActiveSegs, no_segments}
+use Rattle.page_control.specs.Effects.{after_asked}
+use Rattle.page_control.specs.Plain.{Plain, plain}
+use Rattle.page_control.specs.Tied.{vtoc_in}
+use Rattle.seg_control.specs.Control.{Links}
+use Rattle.seg_control.specs.Effects.{no_links}
+use Rattle.seg_control.specs.Kept.{IsKept}
+use Rattle.storage_ops.specs.Shown.{AreFresh, IsStore, Shows, Storage as Stored, empty_frames}
+use Rattle.machine_model.specs.Boot.{first_pages, first_store, first_vtocs, unused_entries, unused_records}
+use Rattle.machine_model.specs.Keeps.{AreAccounts, IsConserved, IsFaithful, StoreKept, StoreSays}
+use Rattle.machine_model.specs.State.{State, Storage}
+use Rattle.machine_model.proofs.FlatAlike.{conserved_by}
+use Rattle.machine_model.proofs.TieLaws.{none_some}
+use Rattle.machine_tables.specs.Parts.{first_state, first_words, shown}
+
+-- ---- lists of nothing
+
+none_used : (xs : List Bool) (n : ℕ) → n ≡ length xs → ((r : ℕ) → in_use xs r ≡ false) → xs ≡ replicate n false
+none_used [] zero e off = refl
+none_used [] (suc n) e off = absurd (omega (arith, e))
+none_used (x ∷ xs) zero e off = absurd (omega (arith, e))
+none_used (x ∷ xs) (suc n) e off = λ i. off 0 i ∷ none_used xs n (omega (arith, e)) (λ r. off (suc r)) i
+
+none_entered : (xs : List (Option VtocEntry)) (n : ℕ) → n ≡ length xs → ((r : ℕ) → entry_at xs r ≡ None)
+    → xs ≡ replicate n None
+none_entered [] zero e off = refl
+none_entered [] (suc n) e off = absurd (omega (arith, e))
+none_entered (x ∷ xs) zero e off = absurd (omega (arith, e))
+none_entered (x ∷ xs) (suc n) e off = λ i. off 0 i ∷ none_entered xs n (omega (arith, e)) (λ r. off (suc r)) i
+
+records_are : (vs : List VolumeLine) (flags : List (List Bool)) → length flags ≡ length vs
+    → ((v : ℕ) → records_in (slice_get vs v) ≡ length (get_or flags v []))
+    → ((v r : ℕ) → in_use (get_or flags v []) r ≡ false) → flags ≡ unused_records vs
+records_are [] [] e long off = refl
+records_are [] (f ∷ fs) e long off = absurd (omega (arith, e))
+records_are (x ∷ vs) [] e long off = absurd (omega (arith, e))
+records_are (x ∷ vs) (f ∷ fs) e long off = λ i. none_used f x.records (long 0) (off 0) i
+    ∷ records_are vs fs (omega (arith, e)) (λ v. long (suc v)) (λ v. off (suc v)) i
+
+entries_are : (vs : List VolumeLine) (vtocs : List (List (Option VtocEntry))) → length vtocs ≡ length vs
+    → ((v : ℕ) → entries_in (slice_get vs v) ≡ length (get_or vtocs v []))
+    → ((v r : ℕ) → entry_at (get_or vtocs v []) r ≡ None) → vtocs ≡ map unused_entries vs
+entries_are [] [] e long off = refl
+entries_are [] (f ∷ fs) e long off = absurd (omega (arith, e))
+entries_are (x ∷ vs) [] e long off = absurd (omega (arith, e))
+entries_are (x ∷ vs) (f ∷ fs) e long off = λ i. none_entered f x.entries (long 0) (off 0) i
+    ∷ entries_are vs fs (omega (arith, e)) (λ v. long (suc v)) (λ v. off (suc v)) i
+
+-- the root has the first entry of the first volume
+with_root : List (List (Option VtocEntry)) → List (List (Option VtocEntry))
+with_root vtocs = set vtocs 0 (set (vtoc_in vtocs 0) 0 (fresh_entry 1))
+
+root_in : (vs : List VolumeLine) → with_root (map unused_entries vs) ≡ first_vtocs vs
+unfolding with_root
+root_in [] = refl
+root_in (v ∷ vs) = refl
+
+-- ---- the store
+
+module _ {D : Type 0} (pages : D → List (List ℕ)) (p : Plan) (v : Vols D)
+    (count : length v.drives ≡ length p.volumes) (fresh : AreFresh p v.records v.vtocs)
+    (parts : HasParts (map pages v.drives) v.records v.vtocs) where
+  records_first : v.records ≡ unused_records p.volumes
+  records_first = records_are p.volumes v.records long fresh.records fresh.unused
+    where
+      long : length v.records ≡ length p.volumes
+      long = sym (length-map v.records length) ∙ ap length parts.sizes ∙ length-map (map pages v.drives) length
+          ∙ length-map v.drives pages ∙ count
+
+  vtocs_first : with_root v.vtocs ≡ first_vtocs p.volumes
+  vtocs_first = ap with_root (entries_are p.volumes v.vtocs
+      (parts.tables ∙ length-map v.drives pages ∙ count) fresh.entries fresh.free) ∙ root_in p.volumes
+
+  pages_first : after_asked (plain pages (empty_frames p.frames v)) 0 1 (Some 0)
+      ≡ first_pages p (first_words p.frames) (map pages v.drives)
+  unfolding with_root
+  pages_first = λ i. record {
+    core = record { frames = replicate p.frames frame.Free; hand = 0 };
+    frames = first_words p.frames;
+    disks = map pages v.drives;
+    records = records_first i;
+    vtocs = vtocs_first i;
+  }
+
+  pub store_first : (t : Stored D) → t.accounts ≡ root_alone 0 0 p.quota
+      → plain pages t.segs.pages ≡ after_asked (plain pages (empty_frames p.frames v)) 0 1 (Some 0)
+      → t.segs.ast ≡ no_segments p.pools → t.segs.links ≡ no_links (sum p.pools) (length p.processes)
+      → t.whos ≡ map (λ x. x.who) p.processes
+      → shown pages t ≡ first_store p (first_words p.frames) (map pages v.drives)
+  store_first t accounts paged ast links whos = λ i. record {
+    accounts = accounts i;
+    pages = (paged ∙ pages_first) i;
+    ast = ast i;
+    links = links i;
+    whos = whos i;
+  }
+
+-- ---- what it says
+
+module _ (p : Plan) (st : Storage) (spare faults : ℕ) where
+  abbrev s : State
+  s = first_state p st spare faults
+
+  boot_total : sum (map (λ n. n.quota) (boot p).nodes) ≡ p.quota
+  unfolding boot
+  boot_total = omega arith
+
+  pub says_first : IsKept st.pages st.ast st.links → IsStore st.pages st.ast st.links st.accounts st.whos
+      → AreAccounts st.accounts → length st.ast.entries ≡ sum st.ast.sizes → IsFaithful p (boot p) st
+      → length st.pages.core.frames ≡ p.frames → StoreSays s
+  says_first kept counted accounts places faithful frames = record {
+    store = record { kept = kept; counted = counted; accounts = accounts; places = places };
+    faithful = subst (λ (t : Store). IsFaithful p t st) (sym (store_after-nil p)) faithful;
+    rights = record {
+      modes = λ i d n h at. absurd (none_some h);
+      lengths = λ i d n h at. absurd (none_some h);
+    };
+    cut = tt;
+    conserved = subst (IsConserved p) (sym (store_after-nil p))
+        (conserved_by p (boot p) st faithful accounts boot_total);
+    frames = frames;
+  }
+
+module _ {D : Type 0} (pages : D → List (List ℕ)) (p : Plan) (v : Vols D) (t : Stored D) (s : State)
+    (spare faults : ℕ) (is : s ≡ first_state p (shown pages t) spare faults) where
+  pub says_boot : IsKept s.store.pages s.store.ast s.store.links
+      → IsStore s.store.pages s.store.ast s.store.links s.store.accounts s.store.whos → AreAccounts s.store.accounts
+      → Shows pages p (boot p) t → t.segs.ast ≡ no_segments p.pools
+      → plain pages t.segs.pages ≡ after_asked (plain pages (empty_frames p.frames v)) 0 1 (Some 0) → StoreSays s
+  says_boot kept counted accounts shows ast paged = subst StoreSays (sym is) (says_first p (shown pages t) spare faults
+      (subst (λ (x : State). IsKept x.store.pages x.store.ast x.store.links) is kept)
+      (subst (λ (x : State). IsStore x.store.pages x.store.ast x.store.links x.store.accounts x.store.whos) is counted)
+      (subst (λ (x : State). AreAccounts x.store.accounts) is accounts)
+      (subst (λ (a : ActiveSegs). length a.entries ≡ sum a.sizes) (sym ast) places)
+      (record { tree = shows.tree; known = shows.known; pages = shows.pages; script = shows.script })
+      (ap (λ (x : Plain). length x.core.frames) paged ∙ length-replicate p.frames frame.Free))
+    where
+      places : length (no_segments p.pools).entries ≡ sum p.pools
+      places = length-replicate (sum p.pools) none
+        where
+          none : Option Entry
+          none = None

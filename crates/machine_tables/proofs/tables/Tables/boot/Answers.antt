@@ -1,0 +1,26 @@
+use Rattle.std.proofs.Common.{List, ap, map, ◌∙◌}
+use Rattle.std.specs.List.{sum_by}
+use Rattle.machine_model.specs.Boot.{first_store}
+use Rattle.machine_model.specs.State.{Storage}
+use Rattle.machine_tables.specs.Parts.{first_state, first_words}
+use Rattle.machine_tables.proofs.FirstLaws.{says_boot, store_first}
+use Rattle.machine_tables.proofs.tables.Tables.boot.Goals as goal
+
+pub returns-clause-state : goal.returns-clause-state
+returns-clause-state g c =
+    c.in_ok-tables.ensures.state
+    ∙ ap (λ (st : Storage). first_state c.args.script st c.in_ok-tables.tables.state.spare
+    (sum_by g.D.Drive.faults c.in_ok-store.store.segs.pages.volumes.drives))
+    (store_first g.D.Drive.pages c.args.script c.args.volumes c.requires.count c.requires.fresh
+    c.count-parts.ensures.parts c.in_ok-store.store c.in_ok-store.ensures.accounts c.in_ok-store.ensures.pages
+    c.in_ok-store.ensures.inactive c.in_ok-store.ensures.links c.in_ok-store.ensures.whos)
+    ∙ ap (λ (ds : List g.row.D.Denot). first_state c.args.script
+    (first_store c.args.script (first_words c.args.script.frames) (map g.D.Drive.pages c.args.volumes.drives))
+    c.in_ok-tables.tables.state.spare (sum_by g.D.Drive.faults ds)) c.in_ok-store.ensures.drives
+
+pub returns-clause-says : goal.returns-clause-says
+returns-clause-says g c =
+    says_boot g.D.Drive.pages c.args.script c.args.volumes c.in_ok-store.store c.in_ok-tables.tables.state
+    c.in_ok-tables.tables.state.spare _ c.in_ok-tables.ensures.state c.look-says.ensures.kept
+    c.look-says.ensures.counted c.look-says.ensures.accounts c.in_ok-store.ensures.shown
+    c.in_ok-store.ensures.inactive c.in_ok-store.ensures.pages
