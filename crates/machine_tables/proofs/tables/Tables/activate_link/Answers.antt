@@ -1,5 +1,4 @@
 use Rattle.std.proofs.Common.{rules}
-use Rattle.machine_tables.specs.Held.{MayLook}
 use Rattle.machine_tables.proofs.LookLaws.{link_superiors, link_there, link_victim}
 use Rattle.machine_tables.proofs.tables.Tables.activate_link.Goals as goal
 
