@@ -4,6 +4,7 @@ use Rattle.std.proofs.Common.{replicate, Option, Some, None, refl, sym, ap, subs
 use Rattle.std.specs.Prelude.{slice_get}
 use Rattle.std.proofs.lemmas.List.{length-map, length-replicate}
 use Rattle.mnames.specs.declared.principals.Who.{Who}
+use Rattle.script.specs.Forms.{IsPlan}
 use Rattle.script.specs.Plans.{Plan}
 use Rattle.script.specs.declared.plan.VolumeLine.{VolumeLine}
 use Rattle.accounts.specs.Maps.{AccountMaps, root_alone}
@@ -23,11 +24,16 @@ use Rattle.seg_control.specs.Control.{Links}
 use Rattle.seg_control.specs.Effects.{no_links}
 use Rattle.seg_control.specs.Kept.{IsKept}
 use Rattle.storage_ops.specs.Shown.{AreFresh, IsStore, Shows, Storage as Stored, empty_frames}
-use Rattle.machine_model.specs.Boot.{first_pages, first_store, first_vtocs, unused_entries, unused_records}
+use Rattle.machine_model.specs.Boot.{booted, first_pages, first_store, first_vtocs, unused_entries, unused_records}
+use Rattle.machine_model.specs.Foreseen.{AllCome}
 use Rattle.machine_model.specs.Keeps.{AreAccounts, IsConserved, IsFaithful, StoreKept, StoreSays}
+use Rattle.machine_model.specs.Promise.{KeepsAll}
 use Rattle.machine_model.specs.State.{State, Storage}
 use Rattle.machine_model.proofs.FlatAlike.{conserved_by}
+use Rattle.machine_model.proofs.MachineBoot.{boot_keeps_all}
 use Rattle.machine_model.proofs.TieLaws.{none_some}
+use Rattle.machine_model.proofs.TransferKept.{kept_with}
+use Rattle.machine_model.proofs.WorkStep.{none_work}
 use Rattle.machine_tables.specs.Parts.{first_state, first_words, shown}
 
 -- ---- lists of nothing
@@ -157,3 +163,42 @@ module _ {D : Type 0} (pages : D → List (List ℕ)) (p : Plan) (v : Vols D) (t
         where
           none : Option Entry
           none = None
+
+-- ---- the promise
+
+module _ (p : Plan) (words : List (List ℕ)) (disks : List (List (List ℕ))) (spare faults : ℕ) (script : IsPlan p) where
+  abbrev first : State
+  first = first_state p (first_store p words disks) spare faults
+
+  come_first : AllCome (booted p words disks) → AllCome first
+  unfolding AllCome
+  come_first h = h
+
+  keeps_first : StoreSays first → KeepsAll first
+  keeps_first says = record {
+    machine = record {
+      keeps = kept_with first booting.machine.keeps.book says (omega arith) booting.machine.keeps.sizes.processors
+          booting.machine.keeps.sizes.processes (λ o h. absurd (none_some h));
+      script = script;
+      come = come_first booting.machine.come;
+      scheduled = booting.machine.scheduled;
+      pools = refl;
+    };
+    entitled = booting.entitled;
+    reading = booting.reading;
+    working = none_work first refl;
+  }
+    where
+      booting : KeepsAll (booted p words disks)
+      booting = boot_keeps_all p words disks script (record {
+        store = says.store;
+        faithful = says.faithful;
+        rights = says.rights;
+        cut = says.cut;
+        conserved = says.conserved;
+        frames = says.frames;
+      })
+
+  -- Tables at first keep the whole promise, where their store does.
+  pub first_keeps : (s : State) → s ≡ first → StoreSays s → KeepsAll s
+  first_keeps s is says = subst KeepsAll (sym is) (keeps_first (subst StoreSays is says))

@@ -90,8 +90,8 @@ module _ (ns : List Node) (t : IsNodeTree ns) (u : ℕ) where
         i,
         omega (arith, lt),
         let same : Some (get_or (chain_of ns u) i 0) ≡ Some s =
-        sym (chain_next ns t u i lt) ∙ ap (superior_in ns) is ∙ e in
-        cc,
+            sym (chain_next ns t u i lt) ∙ ap (superior_in ns) is ∙ e in
+            cc,
       )
 
 -- ---- what is active of it
@@ -164,10 +164,10 @@ module _ (now : Plain) (ast : ActiveSegs) (links : Links) (a : AccountMaps) (who
 
         last : v ≡ u
         last = elim (link_is a.nodes t u v here) [
-              | inl dir ↦ absurd (other (ap (λ (b : Bool). cond b 0 (pool_for n.pages))
-                  (sym (directory_found a.nodes v n node) ∙ dir)))
-              | inr same ↦ same
-            ]
+          | inl dir ↦ absurd (other (ap (λ (b : Bool). cond b 0 (pool_for n.pages))
+              (sym (directory_found a.nodes v n node) ∙ dir)))
+          | inr same ↦ same
+        ]
 
         no_link : (e : Entry) → entry_at ast.entries place ≡ Some e → IsAt (chain_of a.nodes u) e.uid → ⊥
         no_link e at link =

@@ -56,8 +56,8 @@ impl<D: Drive> Tables<D> {
         count_busy(&self.processors) as u32
     }
 
-    /// Whether no process is ready or running.
-    fn is_over(&self) -> bool
+    /// Whether no process is ready or running. It goes round the processors. (Source: own.)
+    pub fn is_over(&self) -> bool
         ensures { result ≡ is_over self.now.state }
     {
         self.ready.front().is_none() && !some_busy(&self.processors)

@@ -9,7 +9,7 @@ use machine_model::{Processor, Run};
 use std::marker::Model;
 use storage_ops::Store;
 use traffic::Ready;
-use volumes::Drive;
+use volumes::{Drive, Volumes};
 
 /// There is no memory for more entries of the book. (Source: own.)
 #[derive(Clone, Copy, Debug, PartialEq, Eq)]
@@ -102,6 +102,15 @@ impl<D: Drive> Tables<D> {
         ensures drives { result.now.segs.pages.volumes.drives ≡ self.now.drives }
     {
         &self.store
+    }
+
+    /// The volumes: their drives, which records of them are in use, and their VTOCs. (Source: own.)
+    pub fn volumes(&self) -> &Volumes<D>
+        ensures drives { result.now.drives ≡ self.now.drives }
+        ensures records { result.now.records ≡ self.now.state.store.pages.records }
+        ensures vtocs { result.now.vtocs ≡ self.now.state.store.pages.vtocs }
+    {
+        self.store.segs().pages().volumes()
     }
 
     /// The processors. (Source: own.)
