@@ -3,6 +3,7 @@ pub mod BackStays
 pub mod Busy
 pub mod Changed
 pub mod CountedLaws
+pub mod CreateCalls
 pub mod DriveCounts
 pub mod EmptiedFacts
 pub mod FinishCalls
@@ -12,7 +13,6 @@ pub mod OwnerCalls
 pub mod Quiet
 pub mod ReadStays
 pub mod RestLaws
-pub mod Sizes
 pub mod Stays
 pub mod StepDone
 pub mod Steps

@@ -62,7 +62,7 @@ use Rattle.machine_model.specs.Refusal.{refusal_of, uid_of_command}
 use Rattle.machine_model.proofs.CommandFacts.{LeadsToSegment, length_stands}
 use Rattle.machine_model.proofs.EmptyAsks.{segment_inferiors, unread_any}
 use Rattle.machine_model.proofs.TakeWhole.{nothing_whole}
-use Rattle.machine.proofs.Sizes.{descriptors_few, pages_few}
+use Rattle.machine_model.proofs.ListSizes.{descriptors_few, pages_few}
 use Rattle.machine.proofs.TakingStays.{begun_as}
 use Rattle.std.proofs.Common.{◌∷◌, ◌≤◌, ◌≢◌}
 use Rattle.machine_tables.specs.Parts.{Parts, with_state}
@@ -248,17 +248,15 @@ module _ {D : Type 0} (t : Parts D) (c : ℕ) (sound : IsSound t) (there : c < l
 
   -- ---- the clock's choice goes
 
-  -- the frame that the clock chooses, where the rules come to that
+  -- the rules come to the clock's choice of a frame
   abbrev pub Evicts : Type 0
-  Evicts = IsSomeAnd (clock_choice s.store.pages.core) (λ f. action_of s c ≡ act.Evict f)
+  Evicts = action_of s c ≡ act.Evict (or_zero (clock_choice s.store.pages.core))
 
   chosen : Evicts → (f : ℕ) × (clock_choice s.store.pages.core ≡ Some f) × (action_of s c ≡ act.Evict f)
-  chosen h = by (clock_choice s.store.pages.core) refl h
+  chosen h = (or_zero (clock_choice s.store.pages.core), l.finds.choice, h)
     where
-      by : (x : Option ℕ) → clock_choice s.store.pages.core ≡ x → IsSomeAnd x (λ f. action_of s c ≡ act.Evict f)
-          → (f : ℕ) × (clock_choice s.store.pages.core ≡ Some f) × (action_of s c ≡ act.Evict f)
-      by None e i = absurd i
-      by (Some f) e i = (f, e, i)
+      l : Looked s c (act.Evict (or_zero (clock_choice s.store.pages.core)))
+      l = found_of s c sound.keeps.machine there (act.Evict (or_zero (clock_choice s.store.pages.core))) h
 
   evict_looked : (h : Evicts) → Looked s c (act.Evict (chosen h).0)
   evict_looked h = found_of s c sound.keeps.machine there (act.Evict (chosen h).0) (chosen h).2

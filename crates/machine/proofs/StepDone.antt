@@ -17,13 +17,14 @@ use Rattle.machine_model.specs.Actions as act
 use Rattle.machine_model.specs.Actions.{action_of}
 use Rattle.machine_model.specs.After.{after, no_call}
 use Rattle.machine_model.specs.Jobs.{cut_all, cut_one, deactivation_begun, emptied, eviction_begun, seg_gone, segs_gone}
-use Rattle.machine_model.specs.Jobs.{segment_taken, signalled, take_all, take_one, took}
-use Rattle.machine_model.specs.Reads.{cpu_at, cut_of_owner, frames_from, or_zero, process_at, trailers_in}
+use Rattle.machine_model.specs.Jobs.{segment_taken, signalled, take_all, take_one, took, victim_taken, with_hand_moved}
+use Rattle.machine_model.specs.Reads.{cpu_at, cut_of_owner, frames_from, next_command, or_zero, process_at, trailers_in}
 use Rattle.machine_model.specs.State.{State}
-use Rattle.machine_model.specs.Steps.{answered, came_online, cleared_at, connected_to, left_at, loaded, looking}
-use Rattle.machine_model.specs.Steps.{page_filled, seg_filled, started, told, told_by, went_through, with_owner}
+use Rattle.machine_model.specs.Steps.{activated_at, answered, came_online, cleared_at, connected_to, left_at, loaded, looking}
+use Rattle.machine_model.specs.Steps.{page_created, page_filled, with_store, seg_filled, started, told, told_by, went_through, with_owner}
+use Rattle.machine_tables.specs.Claimed.{frames_for, pairs_for, took_for, what_for}
 use Rattle.machine_tables.specs.Parts.{Parts, outcome_of, with_state}
-use Rattle.machine.specs.Turns.{IsStep, IsTurn, turn_of, why_by}
+use Rattle.machine.specs.Turns.{IfStill, IsStep, IsTurn, turn_of, why_by}
 use Rattle.machine.specs.declared.turn.Turn.TheVariants as turn
 
 -- ---- the drives' count stays
@@ -49,6 +50,13 @@ pub segment_faults : (s : State) (c u : ℕ) (fs : List ℕ) (xs : List (ℕ × 
 segment_faults s c u [] [] = gone_faults s (cut_of_owner s.owner)
 segment_faults s c u [] (x ∷ xs) = took_faults s c (aim.Deactivating u) (what.Seg u) [] (x ∷ xs)
 segment_faults s c u (f ∷ fs) xs = took_faults s c (aim.Deactivating u) (what.Seg u) (f ∷ fs) xs
+
+victim_faults : (s : State) (c pool : ℕ) (chain : List ℕ) (u : ℕ)
+    → (victim_taken s c pool chain u).faults ≡ s.faults
+victim_faults s c pool chain u = segment_faults moved c u (frames_from moved.store.ast u 0) (trailers_in moved.store u)
+  where
+    moved : State
+    moved = with_store s (with_hand_moved s.store pool chain)
 
 -- ---- a step
 
@@ -99,21 +107,25 @@ module _ {D Plan : Type 0} (plan : D → Plan) (places : D → ℕ) (old new : P
       rose (Ok x) h failed = absurd (let no : false ≡ true = failed in cc)
       rose (Err e) h failed = h
 
-  quiet_turn : (a : act.Action) (x : State) → action_of s c ≡ a → x ≡ after s c a (no_call s) → x.faults ≡ s.faults
+  quiet_turn : (a : act.Action) (x : State) → (new ≡ with_state old x → IfStill (turn_of s c a) (new ≡ old))
+      → action_of s c ≡ a → x ≡ after s c a (no_call s) → x.faults ≡ s.faults
       → new ≡ with_state old x → IsTurn plan places old new c (turn_of s c a)
-  quiet_turn a x doing same faults is = record {
+  quiet_turn a x still doing same faults is = record {
     step = quiet_step a x doing same faults is;
     answer_is = ap (turn_of s c) (sym doing);
+    still = still is;
   }
 
-  drive_turn : {T E : Type 0} (faults : D → ℕ) (a : act.Action) (v : ℕ) (r : Result T E) → action_of s c ≡ a
+  drive_turn : {T E : Type 0} (faults : D → ℕ) (a : act.Action) (v : ℕ) (r : Result T E)
+      → IfStill (turn_of s c a) (new ≡ old) → action_of s c ≡ a
       → new.state ≡ after s c a (outcome_of r new.state.faults)
       → CallsDrive plan places faults old.drives new.drives v r
       → (s.faults ≤ new.state.faults) × OnErr r (Rose s.faults new.state.faults) → new.room ≡ old.room
       → IsTurn plan places old new c (turn_of s c a)
-  drive_turn faults a v r doing done call counts room = record {
+  drive_turn faults a v r still doing done call counts room = record {
     step = drive_step faults a v r doing done call counts room;
     answer_is = ap (turn_of s c) (sym doing);
+    still = still;
   }
 
   -- ---- without the supervisor
@@ -121,38 +133,38 @@ module _ {D Plan : Type 0} (plan : D → Plan) (places : D → ℕ) (old new : P
   pub online_turn : action_of s c ≡ act.Online → new ≡ with_state old (came_online s c) → IsTurn plan places old new c
       (turn.Moved point.Online)
   unfolding after
-  online_turn doing = quiet_turn act.Online (came_online s c) doing refl refl
+  online_turn doing = quiet_turn act.Online (came_online s c) (λ h. tt) doing refl refl
 
   pub clear_turn : (w : What) → action_of s c ≡ act.Clear w → new ≡ with_state old (cleared_at s c w)
       → IsTurn plan places old new c (turn.Moved point.Other)
   unfolding after
-  clear_turn w doing = quiet_turn (act.Clear w) (cleared_at s c w) doing refl refl
+  clear_turn w doing = quiet_turn (act.Clear w) (cleared_at s c w) (λ h. tt) doing refl refl
 
   pub load_turn : (k : ℕ) → action_of s c ≡ act.Load k → new ≡ with_state old (loaded s c k)
       → IsTurn plan places old new c (turn.Moved (point.Loaded k))
   unfolding after
-  load_turn k doing = quiet_turn (act.Load k) (loaded s c k) doing refl refl
+  load_turn k doing = quiet_turn (act.Load k) (loaded s c k) (λ h. tt) doing refl refl
 
   pub leave_turn : action_of s c ≡ act.Leave → new ≡ with_state old (left_at s c) → IsTurn plan places old new c
       (turn.Moved point.Other)
   unfolding after
-  leave_turn doing = quiet_turn act.Leave (left_at s c) doing refl refl
+  leave_turn doing = quiet_turn act.Leave (left_at s c) (λ h. tt) doing refl refl
 
   pub fill_seg_turn : (n : ℕ) → action_of s c ≡ act.FillSeg n → new ≡ with_state old (seg_filled s c n)
       → IsTurn plan places old new c (turn.Moved point.Other)
   unfolding after
-  fill_seg_turn n doing = quiet_turn (act.FillSeg n) (seg_filled s c n) doing refl refl
+  fill_seg_turn n doing = quiet_turn (act.FillSeg n) (seg_filled s c n) (λ h. tt) doing refl refl
 
   pub fill_page_turn : (f : ℕ) (r : Reference) → action_of s c ≡ act.FillPage f r
       → new ≡ with_state old (page_filled s c f r) → IsTurn plan places old new c (turn.Moved point.Other)
   unfolding after
-  fill_page_turn f r doing = quiet_turn (act.FillPage f r) (page_filled s c f r) doing refl refl
+  fill_page_turn f r doing = quiet_turn (act.FillPage f r) (page_filled s c f r) (λ h. tt) doing refl refl
 
   gone_turn : (f : ℕ) (r : Reference) → action_of s c ≡ act.Through f r
       → new ≡ with_state old (went_through s c f r)
       → IsTurn plan places old new c (turn.Moved (point.Answered (process_at s c)))
   unfolding after
-  gone_turn f r doing = quiet_turn (act.Through f r) (went_through s c f r) doing refl refl
+  gone_turn f r doing = quiet_turn (act.Through f r) (went_through s c f r) (λ h. tt) doing refl refl
 
   pub through_turn : (f k : ℕ) (r : Reference) → (cpu_at s.processors c).process ≡ Some k
       → action_of s c ≡ act.Through f r → new ≡ with_state old (went_through s c f r)
@@ -163,7 +175,7 @@ module _ {D Plan : Type 0} (plan : D → Plan) (places : D → ℕ) (old new : P
   told_turn : (r : Reply) → action_of s c ≡ act.Plain r → new ≡ with_state old (told s c None r)
       → IsTurn plan places old new c (turn.Moved point.Other)
   unfolding after
-  told_turn r doing = quiet_turn (act.Plain r) (told s c None r) doing refl refl
+  told_turn r doing = quiet_turn (act.Plain r) (told s c None r) (λ h. tt) doing refl refl
 
   pub plain_turn : (k : ℕ) (r : Reply) → (cpu_at s.processors c).process ≡ Some k → action_of s c ≡ act.Plain r
       → new ≡ with_state old (told_by s c k None r) → IsTurn plan places old new c (turn.Moved point.Other)
@@ -175,12 +187,12 @@ module _ {D Plan : Type 0} (plan : D → Plan) (places : D → ℕ) (old new : P
   pub take_turn : action_of s c ≡ act.TakeSupervisor → new ≡ with_state old (with_owner s (Some (looking c)))
       → IsTurn plan places old new c (turn.Moved point.Other)
   unfolding after
-  take_turn doing = quiet_turn act.TakeSupervisor (with_owner s (Some (looking c))) doing refl refl
+  take_turn doing = quiet_turn act.TakeSupervisor (with_owner s (Some (looking c))) (λ h. tt) doing refl refl
 
   answered_turn : (r : Reply) → action_of s c ≡ act.Answer r → new ≡ with_state old (answered s c r)
       → IsTurn plan places old new c (turn.Moved point.Other)
   unfolding after
-  answered_turn r doing = quiet_turn (act.Answer r) (answered s c r) doing refl refl
+  answered_turn r doing = quiet_turn (act.Answer r) (answered s c r) (λ h. tt) doing refl refl
 
   pub answer_turn : (k : ℕ) (r : Reply) → (cpu_at s.processors c).process ≡ Some k → action_of s c ≡ act.Answer r
       → new ≡ with_state old (with_owner (told_by s c k None r) None)
@@ -191,42 +203,74 @@ module _ {D Plan : Type 0} (plan : D → Plan) (places : D → ℕ) (old new : P
   pub give_up_turn : action_of s c ≡ act.GiveUp → new ≡ with_state old (with_owner s None)
       → IsTurn plan places old new c (turn.Moved point.Other)
   unfolding after
-  give_up_turn doing = quiet_turn act.GiveUp (with_owner s None) doing refl refl
+  give_up_turn doing = quiet_turn act.GiveUp (with_owner s None) (λ h. tt) doing refl refl
 
   pub connect_turn : (n u : ℕ) → action_of s c ≡ act.Connect n u → new ≡ with_state old (connected_to s c n u)
       → IsTurn plan places old new c (turn.Moved point.Other)
   unfolding after
-  connect_turn n u doing = quiet_turn (act.Connect n u) (connected_to s c n u) doing refl refl
+  connect_turn n u doing = quiet_turn (act.Connect n u) (connected_to s c n u) (λ h. tt) doing refl refl
 
   pub start_turn : (f u p : ℕ) → action_of s c ≡ act.Start f u p → new ≡ with_state old (started s c f u p)
       → IsTurn plan places old new c (turn.Moved point.Other)
   unfolding after
-  start_turn f u p doing = quiet_turn (act.Start f u p) (started s c f u p) doing refl refl
+  start_turn f u p doing = quiet_turn (act.Start f u p) (started s c f u p) (λ h. tt) doing refl refl
 
   -- ---- what is taken
 
   pub evict_turn : (f : ℕ) → action_of s c ≡ act.Evict f → new ≡ with_state old (eviction_begun s c f)
       → IsTurn plan places old new c (turn.Moved point.Other)
   unfolding after
-  evict_turn f doing = quiet_turn (act.Evict f) (eviction_begun s c f) doing refl refl
+  evict_turn f doing = quiet_turn (act.Evict f) (eviction_begun s c f) (λ h. tt) doing refl refl
 
   pub empty_turn : (u : ℕ) → action_of s c ≡ act.Empty u → new ≡ with_state old (deactivation_begun s c u)
       → IsTurn plan places old new c (turn.Moved point.Other)
   unfolding after
-  empty_turn u doing = quiet_turn (act.Empty u) (deactivation_begun s c u) doing refl
+  empty_turn u doing = quiet_turn (act.Empty u) (deactivation_begun s c u) (λ h. tt) doing refl
       (segment_faults s c u (frames_from s.store.ast u 0) (trailers_in s.store u))
+
+  pub take_away_turn : (k : ℕ) → action_of s c ≡ act.TakeAway (frames_for s.store k (next_command s k))
+      (pairs_for s.store k (next_command s k)) (what_for s.store k (next_command s k))
+      → new ≡ with_state old (took_for s c k (next_command s k)) → IsTurn plan places old new c (turn.Moved point.Other)
+  unfolding after
+  take_away_turn k doing = quiet_turn (act.TakeAway fs xs w) (took s c aim.Committing w fs xs) (λ h. tt) doing refl
+      (took_faults s c aim.Committing w fs xs)
+    where
+      fs : List ℕ
+      fs = frames_for s.store k (next_command s k)
+
+      xs : List (ℕ × ℕ)
+      xs = pairs_for s.store k (next_command s k)
+
+      w : What
+      w = what_for s.store k (next_command s k)
+
+  pub create_turn : (f u p : ℕ) (r : Reference) → action_of s c ≡ act.Create f u p r
+      → new ≡ with_state old (page_created s c f u p r) → IsTurn plan places old new c (turn.Moved point.Other)
+  unfolding after
+  create_turn f u p r doing = quiet_turn (act.Create f u p r) (page_created s c f u p r) (λ h. tt) doing refl refl
+
+  pub activate_turn : (u place : ℕ) → action_of s c ≡ act.Activate u place
+      → new ≡ with_state old (activated_at s u place) → IsTurn plan places old new c (turn.Moved point.Other)
+  unfolding after
+  activate_turn u place doing = quiet_turn (act.Activate u place) (activated_at s u place) (λ h. tt) doing refl refl
+
+  pub victim_turn : (pool : ℕ) (chain : List ℕ) (u : ℕ) → action_of s c ≡ act.EmptyVictim pool chain u
+      → new ≡ with_state old (victim_taken s c pool chain u) → IsTurn plan places old new c (turn.Moved point.Other)
+  unfolding after
+  victim_turn pool chain u doing = quiet_turn (act.EmptyVictim pool chain u) (victim_taken s c pool chain u) (λ h. tt)
+      doing refl (victim_faults s c pool chain u)
 
   -- ---- the phases that follow
 
   pub signal_turn : (w : What) → action_of s c ≡ act.Signal w → new ≡ with_state old (signalled s c w)
       → IsTurn plan places old new c (turn.Moved point.Signalled)
   unfolding after
-  signal_turn w doing = quiet_turn (act.Signal w) (signalled s c w) doing refl refl
+  signal_turn w doing = quiet_turn (act.Signal w) (signalled s c w) (λ h. tt) doing refl refl
 
   pub deactivate_turn : (u : ℕ) → action_of s c ≡ act.Deactivate u → new ≡ with_state old (emptied s c u)
       → IsTurn plan places old new c (turn.Moved point.Other)
   unfolding after
-  deactivate_turn u doing = quiet_turn (act.Deactivate u) (emptied s c u) doing refl
+  deactivate_turn u doing = quiet_turn (act.Deactivate u) (emptied s c u) (λ h. tt) doing refl
       (gone_faults s (cut_of_owner s.owner))
 
   -- ---- calls of a drive
@@ -236,7 +280,7 @@ module _ {D Plan : Type 0} (plan : D → Plan) (places : D → ℕ) (old new : P
       → CallsDrive plan places faults old.drives new.drives v r
       → (s.faults ≤ new.state.faults) × OnErr r (Rose s.faults new.state.faults) → new.room ≡ old.room
       → IsTurn plan places old new c (turn.Moved point.Other)
-  transfer_turn faults x v r doing = drive_turn faults (act.EndTransfer x) v r doing
+  transfer_turn faults x v r doing = drive_turn faults (act.EndTransfer x) v r tt doing
 
   pub eviction_turn : {T E : Type 0} (faults : D → ℕ) (f : ℕ) (v : ℕ) (r : Result T E)
       → action_of s c ≡ act.FinishEviction f
@@ -244,26 +288,26 @@ module _ {D Plan : Type 0} (plan : D → Plan) (places : D → ℕ) (old new : P
       → CallsDrive plan places faults old.drives new.drives v r
       → (s.faults ≤ new.state.faults) × OnErr r (Rose s.faults new.state.faults) → new.room ≡ old.room
       → IsTurn plan places old new c (turn.Moved point.Other)
-  eviction_turn faults f v r doing = drive_turn faults (act.FinishEviction f) v r doing
+  eviction_turn faults f v r doing = drive_turn faults (act.FinishEviction f) v r tt doing
 
   pub page_turn : {T E : Type 0} (faults : D → ℕ) (f : ℕ) (v : ℕ) (r : Result T E) → action_of s c ≡ act.FinishPage f
       → new.state ≡ after s c (act.FinishPage f) (outcome_of r new.state.faults)
       → CallsDrive plan places faults old.drives new.drives v r
       → (s.faults ≤ new.state.faults) × OnErr r (Rose s.faults new.state.faults) → new.room ≡ old.room
       → IsTurn plan places old new c (turn.Moved point.Other)
-  page_turn faults f v r doing = drive_turn faults (act.FinishPage f) v r doing
+  page_turn faults f v r doing = drive_turn faults (act.FinishPage f) v r tt doing
 
   -- ---- nothing is done
 
   pub stopped_turn : action_of s c ≡ act.IsStopped → new ≡ old → IsTurn plan places old new c turn.Stopped
   unfolding after
-  stopped_turn doing = quiet_turn act.IsStopped s doing refl refl
+  stopped_turn doing = quiet_turn act.IsStopped s (λ h. h) doing refl refl
 
   pub ended_turn : action_of s c ≡ act.HasEnded → new ≡ old → IsTurn plan places old new c turn.Ended
   unfolding after
-  ended_turn doing = quiet_turn act.HasEnded s doing refl refl
+  ended_turn doing = quiet_turn act.HasEnded s (λ h. h) doing refl refl
 
   pub waits_turn : (w : act.Why) → action_of s c ≡ act.Waits w → new ≡ old
       → IsTurn plan places old new c (turn.Waits (why_by w))
   unfolding after
-  waits_turn w doing = quiet_turn (act.Waits w) s doing refl refl
+  waits_turn w doing = quiet_turn (act.Waits w) s (λ h. h) doing refl refl

@@ -51,8 +51,14 @@ turn_of s c act.HasEnded = turn.Ended
 turn_of s c (act.Waits reason) = turn.Waits (why_by reason)
 turn_of s c a = turn.Moved (point_of s c a)
 
--- Processor c has made its step, and this is what it is answered.
+-- a fact, where the answer says that nothing was done
+abbrev pub IfStill : Turn → Type 0 → Type 0
+IfStill (turn.Moved point) x = Unit {0}
+IfStill _ x = x
+
+-- Processor c has made its step, and this is what it is answered; nothing changes where nothing is done.
 pub record IsTurn {D Plan : Type 0} (plan : D → Plan) (places : D → ℕ) (old new : Parts D) (c : ℕ) (answer : Turn)
     : Type 0 where
   pub step : IsStep plan places old new c
   pub answer_is : answer ≡ turn_of old.state c (action_of old.state c)
+  pub still : IfStill answer (new ≡ old)

@@ -1,7 +1,7 @@
 //! What ends with a call of a drive, which may fail.
 
 ghost use Rattle.std.specs.Prelude.{◌≡◌, ◌<◌, ◌≤◌, length};
-ghost use Rattle.machine_model.specs.Actions.{EndTransfer, action_of};
+ghost use Rattle.machine_model.specs.Actions.{EndTransfer, FinishEviction, FinishPage, action_of};
 ghost use Rattle.machine.specs.Turns.{IsTurn};
 
 use crate::machine::Machine;
@@ -23,6 +23,40 @@ impl<D: Drive> Machine<D> {
         let _entries = self.entries(c, process);
         let _before = self.tables.look();
         let _read = self.tables.end_transfer(c, process, transfer);
+        let _tables = self.tables.look();
+        Turn::Moved(Point::Other)
+    }
+
+    /// The page in a frame, which processor `c` took to evict it, leaves it, and the owner looks again; or, where the
+    /// drive failed, the page is here again, and the process is told of the failure and answered. It costs one write of
+    /// the drive at the most. (Source: Bensoussan, Clingen and Daley 1972.)
+    pub(crate) fn finish_eviction(&mut self, c: u32, frame: u32) -> Turn
+        requires doing { action_of self.old.state c ≡ FinishEviction frame }
+        requires there { c < length self.old.state.processors }
+        requires room { 320 ≤ self.old.state.spare }
+        ensures { IsTurn D.plan D.places self.old self.new c result }
+    {
+        let process = self.busy(c);
+        let _entries = self.entries(c, process);
+        let _before = self.tables.look();
+        let _gone = self.tables.finish_eviction(c, process, frame);
+        let _tables = self.tables.look();
+        Turn::Moved(Point::Other)
+    }
+
+    /// The page in a frame leaves it that processor `c` took first of a segment's; or, where the drive failed, all that
+    /// was taken is here again, and the process is told of the failure and answered. It costs one write of the drive at
+    /// the most. (Source: Bensoussan, Clingen and Daley 1972.)
+    pub(crate) fn finish_page(&mut self, c: u32, frame: u32) -> Turn
+        requires doing { action_of self.old.state c ≡ FinishPage frame }
+        requires there { c < length self.old.state.processors }
+        requires room { 320 ≤ self.old.state.spare }
+        ensures { IsTurn D.plan D.places self.old self.new c result }
+    {
+        let process = self.busy(c);
+        let _entries = self.entries(c, process);
+        let _before = self.tables.look();
+        let _gone = self.tables.finish_page(c, process, frame);
         let _tables = self.tables.look();
         Turn::Moved(Point::Other)
     }

@@ -6,6 +6,7 @@ mod alone;
 mod finishing;
 mod looking;
 mod machine;
+mod making;
 mod owning;
 mod turn;
 

@@ -1,10 +1,11 @@
 //! What the owner of the supervisor does: it takes pages and descriptors, has the other processors drop them, and lets
 //! them go.
 
-ghost use Rattle.std.specs.Prelude.{◌≡◌, ◌<◌, ◌≤◌, length, IsSomeAnd};
+ghost use Rattle.std.specs.Prelude.{◌≡◌, ◌<◌, ◌≤◌, length};
 ghost use Rattle.core_map.specs.Clock.{clock_choice};
 ghost use Rattle.machine_model.specs.Actions.{Connect, Deactivate, Empty, Evict, Signal, Start};
 ghost use Rattle.machine_model.specs.Actions.{TakeSupervisor, action_of};
+ghost use Rattle.machine_model.specs.Reads.{or_zero};
 ghost use Rattle.machine.specs.Turns.{IsTurn};
 
 use crate::machine::Machine;
@@ -85,8 +86,7 @@ impl<D: Drive> Machine<D> {
     /// Processor `c`, which owns the supervisor, takes the page in the frame that the clock chooses. (Source: Corbató
     /// 1968.)
     pub(crate) fn evict(&mut self, c: u32) -> Turn
-        requires doing { IsSomeAnd (clock_choice self.old.state.store.pages.core)
-            (λ f. action_of self.old.state c ≡ Evict f) }
+        requires doing { action_of self.old.state c ≡ Evict (or_zero (clock_choice self.old.state.store.pages.core)) }
         requires there { c < length self.old.state.processors }
         requires room { 320 ≤ self.old.state.spare }
         ensures { IsTurn D.plan D.places self.old self.new c result }
