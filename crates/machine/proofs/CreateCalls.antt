@@ -1,5 +1,6 @@
 -- What the call asks that makes a page for a reference, and that the machine keeps its promise through it.
-use Rattle.std.proofs.Common.{◌≡◌, ◌≢◌, ◌<◌, ◌*◌, ℕ, Bool, true, false, not, ◌&&◌, cond, eqb, length, Option, Some, None}
+use Rattle.std.proofs.Common.{◌≡◌, ◌≢◌, ◌<◌, ◌*◌, ℕ, Bool, true, false, not, ◌&&◌, cond, eqb, length, Option, Some}
+use Rattle.std.proofs.Common.{None}
 use Rattle.std.proofs.Common.{List, refl, sym, ap, subst, ◌∙◌, inl, inr}
 use Rattle.std.specs.Prelude.{◌/◌}
 use Rattle.std.proofs.lemmas.Bool.Decides.{eqb_tells}
@@ -18,17 +19,18 @@ use Rattle.page_control.specs.Tied.{has_record}
 use Rattle.active_segs.specs.Active.{IsActive}
 use Rattle.seg_control.specs.Control.{kst_at, leads, word_of}
 use Rattle.seg_control.specs.Kept.{IsKnownAt}
-use Rattle.storage_ops.specs.Shown.{pages_in, pages_of}
+use Rattle.storage_ops.specs.Shown.{pages_of}
 use Rattle.flat_model.specs.Pages.{is_stored}
-use Rattle.flat_model.specs.References.{after_reference, is_used_up, is_volume_full, room_reply, stores_page, word_reply}
-use Rattle.flat_model.specs.Store.{Store, known_uid}
+use Rattle.flat_model.specs.References.{after_reference, is_used_up, is_volume_full, room_reply, stores_page}
+use Rattle.flat_model.specs.References.{word_reply}
+use Rattle.flat_model.specs.Store.{Store}
 use Rattle.machine_model.specs.Actions as act
 use Rattle.machine_model.specs.Actions.{action_of}
 use Rattle.machine_model.specs.After.{after}
 use Rattle.machine_model.specs.Keeps.{IsFaithful, Keeps}
 use Rattle.machine_model.specs.Reads.{cpu_at, flat_of, is_active, or_zero, process_at}
 use Rattle.machine_model.specs.Refusal.{is_of_room, only, room_refusal}
-use Rattle.machine_model.specs.State.{State, Storage}
+use Rattle.machine_model.specs.State.{State}
 use Rattle.machine_model.specs.Steps.{page_created}
 use Rattle.machine_model.proofs.FindLaws.{free_frame, position_at}
 use Rattle.machine_model.proofs.InsideLaws.{due_is, inside_is}

@@ -37,7 +37,6 @@ use Rattle.seg_control.specs.Control.{is_for}
 use Rattle.flat_model.specs.Store.{known_uid}
 use Rattle.core_map.specs.CoreMap.{is_bound}
 use Rattle.std.specs.List.{list_any}
-use Rattle.std.specs.Prelude.{IsSomeAnd}
 use Rattle.core_map.specs.Clock.{clock_choice}
 use Rattle.page_control.specs.Plain.{binding_at, bindings}
 use Rattle.machine_model.specs.declared.Aim.TheVariants as aim

@@ -20,8 +20,10 @@ use Rattle.machine_model.specs.Jobs.{cut_all, cut_one, deactivation_begun, empti
 use Rattle.machine_model.specs.Jobs.{segment_taken, signalled, take_all, take_one, took, victim_taken, with_hand_moved}
 use Rattle.machine_model.specs.Reads.{cpu_at, cut_of_owner, frames_from, next_command, or_zero, process_at, trailers_in}
 use Rattle.machine_model.specs.State.{State}
-use Rattle.machine_model.specs.Steps.{activated_at, answered, came_online, cleared_at, connected_to, left_at, loaded, looking}
-use Rattle.machine_model.specs.Steps.{page_created, page_filled, with_store, seg_filled, started, told, told_by, went_through, with_owner}
+use Rattle.machine_model.specs.Steps.{activated_at, answered, came_online, cleared_at, connected_to, left_at, loaded}
+use Rattle.machine_model.specs.Steps.{looking}
+use Rattle.machine_model.specs.Steps.{page_created, page_filled, with_store, seg_filled, started, told, told_by}
+use Rattle.machine_model.specs.Steps.{went_through, with_owner}
 use Rattle.machine_tables.specs.Claimed.{frames_for, pairs_for, took_for, what_for}
 use Rattle.machine_tables.specs.Parts.{Parts, outcome_of, with_state}
 use Rattle.machine.specs.Turns.{IfStill, IsStep, IsTurn, turn_of, why_by}

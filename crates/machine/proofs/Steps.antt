@@ -1,5 +1,5 @@
 -- A machine keeps its promise through an action of a step, where the calls of its store do what they say.
-use Rattle.std.proofs.Common.{◌≡◌, ◌<◌, ◌≤◌, ℕ, length, sym, ap, subst, ◌∙◌}
+use Rattle.std.proofs.Common.{◌≡◌, ◌<◌, ℕ, length, sym, ap, subst, ◌∙◌}
 use Rattle.script.specs.Plans.{Plan}
 use Rattle.machine_model.specs.Actions.{Action, action_of}
 use Rattle.machine_model.specs.After.{Outcome, after}

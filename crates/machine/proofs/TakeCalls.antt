@@ -1,12 +1,12 @@
 -- What the call asks that takes what a tree command must have out of use, and that the machine keeps its promise
 -- through it.
-use Rattle.std.proofs.Common.{◌≡◌, ◌≢◌, ◌<◌, ◌≤◌, ◌+◌, ℕ, zero, suc, Bool, true, false, cond, length, List, [], ◌∷◌, drop}
+use Rattle.std.proofs.Common.{◌≡◌, ◌≢◌, ◌<◌, ◌≤◌, ◌+◌, ℕ, zero, suc, Bool, true, false, cond, length, List, [], ◌∷◌}
+use Rattle.std.proofs.Common.{drop}
 use Rattle.std.proofs.Common.{Option, Some, None, ◌⊎◌, inl, inr, refl, sym, ap, subst, ◌∙◌, arith}
 use Rattle.std.specs.List.{position_or_len}
 use Rattle.std.proofs.lemmas.List.{get_or_past}
 use Rattle.script.specs.declared.commands.Command.{Command}
 use Rattle.script.specs.declared.commands.Command.TheVariants as command
-use Rattle.assoc_mem.specs.declared.What.{What}
 use Rattle.trailers.specs.Trailer.{trailers_of}
 use Rattle.page_table.specs.declared.Ptw.{Ptw}
 use Rattle.active_segs.specs.Active.{IsActive}
@@ -17,9 +17,8 @@ use Rattle.machine_model.specs.declared.Aim.TheVariants as aim
 use Rattle.machine_model.specs.Actions as act
 use Rattle.machine_model.specs.Actions.{action_of, descriptors_taken, first_taken, frames_taken}
 use Rattle.machine_model.specs.After.{after, no_call}
-use Rattle.machine_model.specs.Jobs.{took}
 use Rattle.machine_model.specs.Keeps.{Keeps}
-use Rattle.machine_model.specs.Reads.{cpu_at, cut_of_owner, frames_from, frames_in, frames_of_owner, is_active}
+use Rattle.machine_model.specs.Reads.{cpu_at, cut_of_owner, frames_in, frames_of_owner, is_active}
 use Rattle.machine_model.specs.Reads.{is_connected, descriptor_of, next_command, or_zero, process_at, trailers_in}
 use Rattle.machine_model.specs.Refusal.{uid_of_command}
 use Rattle.machine_model.specs.State.{State, Storage}

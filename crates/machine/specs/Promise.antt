@@ -1,5 +1,5 @@
 -- What a machine keeps between any two steps (own).
-use Rattle.std.specs.Prelude.{◌≡◌, ℕ, length}
+use Rattle.std.specs.Prelude.{◌≡◌, length}
 use Rattle.machine_model.specs.Promise.{KeepsAll}
 use Rattle.machine_tables.specs.Parts.{Parts}
 

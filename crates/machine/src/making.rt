@@ -17,7 +17,14 @@ impl<D: Drive> Machine<D> {
     /// Processor `c`, which owns the supervisor, makes page `page` of an active segment in the free frame `frame`, all
     /// zeros but the word that the reference of its process leaves there, answers it, and gives the supervisor up. The
     /// account of the segment is charged for the page. (Source: Organick 1972.)
-    pub(crate) fn create(&mut self, c: u32, frame: u32, uid: u32, page: u32, reference: Reference) -> Turn
+    pub(crate) fn create(
+        &mut self,
+        c: u32,
+        frame: u32,
+        uid: u32,
+        page: u32,
+        reference: Reference,
+    ) -> Turn
         requires doing { action_of self.old.state c ≡ Create frame uid page reference }
         requires there { c < length self.old.state.processors }
         requires room { 320 ≤ self.old.state.spare }

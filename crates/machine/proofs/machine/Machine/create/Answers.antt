@@ -25,14 +25,17 @@ create-requires-clause-page g c = made_page _ c.args.c c.self.invariant (rw c.se
     c.args.frame c.args.uid c.args.page c.args.reference (rw c.self.view_is c.requires.doing)
 
 pub create-requires-clause-run : goal.create-requires-clause-run
-create-requires-clause-run g c = run_there _ c.args.c c.self.invariant c.busy-process.result (rw c.self.view_is c.busy-process.ensures)
+create-requires-clause-run g c = run_there _ c.args.c c.self.invariant c.busy-process.result
+    (rw c.self.view_is c.busy-process.ensures)
 
 pub create-requires-clause-place : goal.create-requires-clause-place
-create-requires-clause-place g c = place_room _ c.args.c c.self.invariant c.busy-process.result (rw c.self.view_is c.busy-process.ensures)
+create-requires-clause-place g c = place_room _ c.args.c c.self.invariant c.busy-process.result
+    (rw c.self.view_is c.busy-process.ensures)
     (rw c.self.view_is c.requires.there)
 
 pub create-requires-clause-ready : goal.create-requires-clause-ready
-create-requires-clause-ready g c = released_room _ c.args.c c.self.invariant c.busy-process.result (rw c.self.view_is c.busy-process.ensures) _
+create-requires-clause-ready g c = released_room _ c.args.c c.self.invariant c.busy-process.result
+    (rw c.self.view_is c.busy-process.ensures) _
 
 pub returns : goal.returns
 returns g c = rw (← c.self.view_is) (create_turn _ _ _ c.create.new.self c.args.c

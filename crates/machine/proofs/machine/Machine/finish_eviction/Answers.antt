@@ -13,13 +13,16 @@ busy-process-requires-clause-busy g c = rw (← c.self.view_is)
     (rw c.self.view_is c.requires.doing))
 
 pub finish_eviction-gone-requires-clause-leaving : goal.finish_eviction-gone-requires-clause-leaving
-finish_eviction-gone-requires-clause-leaving g c = eviction_leaves _ c.args.c c.self.invariant (rw c.self.view_is c.requires.there)
+finish_eviction-gone-requires-clause-leaving g c = eviction_leaves _ c.args.c c.self.invariant
+    (rw c.self.view_is c.requires.there)
     c.args.frame (rw c.self.view_is c.requires.doing)
 
 pub finish_eviction-gone-requires-clause-failing : goal.finish_eviction-gone-requires-clause-failing
-finish_eviction-gone-requires-clause-failing g c = may_fail _ c.args.c c.self.invariant (rw c.self.view_is c.requires.there)
+finish_eviction-gone-requires-clause-failing g c = may_fail _ c.args.c c.self.invariant
+    (rw c.self.view_is c.requires.there)
     c.busy-process.result (rw c.self.view_is c.busy-process.ensures)
-    (eviction_owner _ c.args.c c.self.invariant (rw c.self.view_is c.requires.there) c.args.frame (rw c.self.view_is c.requires.doing))
+    (eviction_owner _ c.args.c c.self.invariant (rw c.self.view_is c.requires.there) c.args.frame
+    (rw c.self.view_is c.requires.doing))
     (let count : (processor_at c.self.inside.tables.state.processors c.args.c).count < c.entries-entries.result
     = rw c.self.view_is c.entries-entries.ensures.count in
     let fits = c.entries-entries.type_inv in omega (arith, count, fits))
@@ -27,7 +30,8 @@ finish_eviction-gone-requires-clause-failing g c = may_fail _ c.args.c c.self.in
 
 pub returns : goal.returns
 returns g c = rw (← c.self.view_is) (eviction_turn _ _ _ c.finish_eviction-gone.new.self c.args.c _ c.args.frame _
-    c.finish_eviction-gone.result (rw c.self.view_is c.requires.doing) (eviction_after _ c.args.c c.self.invariant (rw c.self.view_is c.requires.there)
+    c.finish_eviction-gone.result (rw c.self.view_is c.requires.doing) (eviction_after _ c.args.c c.self.invariant
+    (rw c.self.view_is c.requires.there)
     c.args.frame c.finish_eviction-gone.result c.finish_eviction-gone.new.self c.finish_eviction-gone.ensures.state)
     c.finish_eviction-gone.ensures.drives (call_counts _ _ _ _ _ _ c.finish_eviction-gone.result _ _
     c.finish_eviction-gone.ensures.drives c.look-before.ensures.faults c.look-tables.ensures.faults)
@@ -35,8 +39,10 @@ returns g c = rw (← c.self.view_is) (eviction_turn _ _ _ c.finish_eviction-gon
 
 pub invariant_of-self : goal.invariant_of-self
 invariant_of-self g c = eviction_sound _ c.args.c c.self.invariant (rw c.self.view_is c.requires.there)
-    c.args.frame (rw c.self.view_is c.requires.doing) c.finish_eviction-gone.result c.finish_eviction-gone.new.self c.finish_eviction-gone.ensures.state
-    c.finish_eviction-gone.ensures.how c.finish_eviction-gone.ensures.shown (call_counts _ _ _ _ _ _ c.finish_eviction-gone.result _ _
+    c.args.frame (rw c.self.view_is c.requires.doing) c.finish_eviction-gone.result c.finish_eviction-gone.new.self
+    c.finish_eviction-gone.ensures.state
+    c.finish_eviction-gone.ensures.how c.finish_eviction-gone.ensures.shown
+    (call_counts _ _ _ _ _ _ c.finish_eviction-gone.result _ _
     c.finish_eviction-gone.ensures.drives c.look-before.ensures.faults c.look-tables.ensures.faults)
     c.finish_eviction-gone.ensures.room (record {
       kept = c.look-tables.ensures.kept;

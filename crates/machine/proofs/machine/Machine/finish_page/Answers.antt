@@ -13,13 +13,15 @@ busy-process-requires-clause-busy g c = rw (← c.self.view_is)
     (rw c.self.view_is c.requires.doing))
 
 pub finish_page-gone-requires-clause-leaving : goal.finish_page-gone-requires-clause-leaving
-finish_page-gone-requires-clause-leaving g c = page_leaves _ c.args.c c.self.invariant (rw c.self.view_is c.requires.there)
+finish_page-gone-requires-clause-leaving g c = page_leaves _ c.args.c c.self.invariant
+    (rw c.self.view_is c.requires.there)
     c.args.frame (rw c.self.view_is c.requires.doing)
 
 pub finish_page-gone-requires-clause-failing : goal.finish_page-gone-requires-clause-failing
 finish_page-gone-requires-clause-failing g c = may_fail _ c.args.c c.self.invariant (rw c.self.view_is c.requires.there)
     c.busy-process.result (rw c.self.view_is c.busy-process.ensures)
-    (page_owner _ c.args.c c.self.invariant (rw c.self.view_is c.requires.there) c.args.frame (rw c.self.view_is c.requires.doing))
+    (page_owner _ c.args.c c.self.invariant (rw c.self.view_is c.requires.there) c.args.frame
+    (rw c.self.view_is c.requires.doing))
     (let count : (processor_at c.self.inside.tables.state.processors c.args.c).count < c.entries-entries.result
     = rw c.self.view_is c.entries-entries.ensures.count in
     let fits = c.entries-entries.type_inv in omega (arith, count, fits))
@@ -27,7 +29,8 @@ finish_page-gone-requires-clause-failing g c = may_fail _ c.args.c c.self.invari
 
 pub returns : goal.returns
 returns g c = rw (← c.self.view_is) (page_turn _ _ _ c.finish_page-gone.new.self c.args.c _ c.args.frame _
-    c.finish_page-gone.result (rw c.self.view_is c.requires.doing) (page_after _ c.args.c c.self.invariant (rw c.self.view_is c.requires.there)
+    c.finish_page-gone.result (rw c.self.view_is c.requires.doing) (page_after _ c.args.c c.self.invariant
+    (rw c.self.view_is c.requires.there)
     c.args.frame c.finish_page-gone.result c.finish_page-gone.new.self c.finish_page-gone.ensures.state)
     c.finish_page-gone.ensures.drives (call_counts _ _ _ _ _ _ c.finish_page-gone.result _ _
     c.finish_page-gone.ensures.drives c.look-before.ensures.faults c.look-tables.ensures.faults)
@@ -35,8 +38,10 @@ returns g c = rw (← c.self.view_is) (page_turn _ _ _ c.finish_page-gone.new.se
 
 pub invariant_of-self : goal.invariant_of-self
 invariant_of-self g c = page_sound _ c.args.c c.self.invariant (rw c.self.view_is c.requires.there)
-    c.args.frame (rw c.self.view_is c.requires.doing) c.finish_page-gone.result c.finish_page-gone.new.self c.finish_page-gone.ensures.state
-    c.finish_page-gone.ensures.how c.finish_page-gone.ensures.shown (call_counts _ _ _ _ _ _ c.finish_page-gone.result _ _
+    c.args.frame (rw c.self.view_is c.requires.doing) c.finish_page-gone.result c.finish_page-gone.new.self
+    c.finish_page-gone.ensures.state
+    c.finish_page-gone.ensures.how c.finish_page-gone.ensures.shown (call_counts _ _ _ _ _ _ c.finish_page-gone.result
+    _ _
     c.finish_page-gone.ensures.drives c.look-before.ensures.faults c.look-tables.ensures.faults)
     c.finish_page-gone.ensures.room (record {
       kept = c.look-tables.ensures.kept;

@@ -1,17 +1,19 @@
 use Rattle.std.proofs.Common.{◌≤◌, arith, sym}
 use Rattle.machine.proofs.AloneLaws.{process_known, run_there}
-use Rattle.machine.proofs.OwnerCalls.{owned}
 use Rattle.machine.proofs.StepDone.{take_away_turn}
-use Rattle.machine.proofs.TakeCalls.{take_busy, take_doing, take_frames, take_owner, take_pairs, take_room, take_segment}
+use Rattle.machine.proofs.TakeCalls.{take_busy, take_doing, take_frames, take_owner, take_pairs, take_room}
+use Rattle.machine.proofs.TakeCalls.{take_segment}
 use Rattle.machine.proofs.TakeCalls.{take_sound}
 use Rattle.machine.proofs.machine.Machine.take_away.Goals as goal
 
 pub busy-process-requires-clause-busy : goal.busy-process-requires-clause-busy
 busy-process-requires-clause-busy g c = rw (← c.self.view_is)
-    (take_busy _ c.args.c c.self.invariant (rw c.self.view_is c.requires.there) (rw c.self.view_is (sym c.requires.doing)))
+    (take_busy _ c.args.c c.self.invariant (rw c.self.view_is c.requires.there)
+    (rw c.self.view_is (sym c.requires.doing)))
 
 pub take_away-requires-clause-run : goal.take_away-requires-clause-run
-take_away-requires-clause-run g c = run_there _ c.args.c c.self.invariant c.busy-process.result (rw c.self.view_is c.busy-process.ensures)
+take_away-requires-clause-run g c = run_there _ c.args.c c.self.invariant c.busy-process.result
+    (rw c.self.view_is c.busy-process.ensures)
 
 pub take_away-requires-clause-knows : goal.take_away-requires-clause-knows
 take_away-requires-clause-knows g c = process_known _ c.args.c c.self.invariant (rw c.self.view_is c.requires.there)
@@ -40,8 +42,10 @@ take_away-requires-clause-room g c = take_room _ c.args.c c.self.invariant (rw c
 
 pub returns : goal.returns
 returns g c = rw (← c.self.view_is) (take_away_turn _ _ _ c.take_away.new.self c.args.c c.busy-process.result
-    (take_doing _ c.args.c c.self.invariant (rw c.self.view_is c.requires.there) c.busy-process.result (rw c.self.view_is c.busy-process.ensures) (rw c.self.view_is (sym c.requires.doing))) c.take_away.ensures)
+    (take_doing _ c.args.c c.self.invariant (rw c.self.view_is c.requires.there) c.busy-process.result
+    (rw c.self.view_is c.busy-process.ensures) (rw c.self.view_is (sym c.requires.doing))) c.take_away.ensures)
 
 pub invariant_of-self : goal.invariant_of-self
 invariant_of-self g c = take_sound _ c.args.c c.self.invariant (rw c.self.view_is c.requires.there)
-    c.busy-process.result (rw c.self.view_is c.busy-process.ensures) (rw c.self.view_is (sym c.requires.doing)) c.take_away.new.self c.take_away.ensures c.look-tables.ensures.kept c.look-tables.ensures.counted
+    c.busy-process.result (rw c.self.view_is c.busy-process.ensures) (rw c.self.view_is (sym c.requires.doing))
+    c.take_away.new.self c.take_away.ensures c.look-tables.ensures.kept c.look-tables.ensures.counted

@@ -1,0 +1,9 @@
+use Rattle.std.proofs.Common.{sym, subst}
+use Rattle.machine_tables.specs.Parts.{Parts}
+use Rattle.machine.specs.Promise.{IsSound}
+use Rattle.machine.proofs.RestLaws.{rest_sound}
+use Rattle.machine.proofs.machine.Machine.reserve.Goals as goal
+
+pub invariant_of-self : goal.invariant_of-self
+invariant_of-self g c = subst (λ (t : Parts g.row.D.Denot). IsSound t) (sym c.reserve.ensures.rest)
+    (rest_sound _ _ _ c.self.invariant)
