@@ -2,6 +2,7 @@ pub mod AloneLaws
 pub mod BackStays
 pub mod Busy
 pub mod Changed
+pub mod ChoiceCalls
 pub mod CountedLaws
 pub mod CreateCalls
 pub mod DriveCounts

@@ -1,0 +1,179 @@
+-- What the choice of a processor's action asks follows from the promise.
+use Rattle.std.proofs.Common.{◌≡◌, ◌<◌, ◌≤◌, ◌+◌, ◌^◌, ℕ, true, false, is_some, length, List, [], Option, Some, None}
+use Rattle.std.proofs.Common.{refl, sym, ap, subst, ◌∙◌, arith}
+use Rattle.std.specs.Prelude.{IfSome}
+use Rattle.std.specs.List.{find}
+use Rattle.assoc_mem.specs.declared.HeldSeg.{HeldSeg}
+use Rattle.assoc_mem.specs.Held.{is_number, seg_of}
+use Rattle.tree_model.specs.Tree.{Node, node_in, pool_of}
+use Rattle.active_segs.specs.Active.{IsActive, table_at, uid_at}
+use Rattle.custody_model.specs.Custody.{leads_to}
+use Rattle.seg_control.specs.Control.{place_of}
+use Rattle.storage_ops.specs.Shown.{pages_of}
+use Rattle.storage_ops.proofs.PageFacts.{directory_found, room_of}
+use Rattle.processor.specs.Moves.{IsLongEnough}
+use Rattle.machine_model.specs.Custodial.{AreHeldSegs, AreOfProcess}
+use Rattle.machine_model.specs.Entitled.{IsEntitled}
+use Rattle.machine_model.specs.Holding.{seen}
+use Rattle.machine_model.specs.Keeps.{Keeps}
+use Rattle.machine_model.specs.Reads.{cpu_at, is_active}
+use Rattle.machine_model.specs.Seen.{shown}
+use Rattle.machine_model.specs.State.{State}
+use Rattle.machine_model.proofs.ActiveSeen.{active_place}
+use Rattle.machine_model.proofs.PageShown.{active_there}
+use Rattle.machine_model.proofs.TieLaws.{none_some}
+use Rattle.machine_tables.specs.Held.{AreLong, MayChoose}
+use Rattle.machine_tables.specs.Parts.{Parts}
+use Rattle.machine.specs.Promise.{IsSound}
+use Rattle.machine.proofs.AloneLaws.{process_known, run_there}
+use Rattle.descriptor_seg.specs.declared.Sdw.{Sdw}
+use Rattle.descriptor_seg.specs.declared.Sdw.TheVariants as sdw
+use Rattle.custody_model.specs.declared.DescriptorUse.{DescriptorUse}
+use Rattle.machine_model.specs.Entitled.{AreEntitled}
+use Rattle.machine_model.specs.Holding.{led_to}
+use Rattle.machine_model.specs.Keeps.{AreThere}
+use Rattle.machine_model.specs.Reads.{cut_of_owner, descriptor_of}
+use Rattle.machine_model.specs.Seen.{cut_uid, cut_use, descriptor_use, is_cut_at}
+use Rattle.machine_model.specs.State.{Storage}
+use Rattle.machine_model.specs.declared.CutDescriptor.{CutDescriptor}
+use Rattle.machine_model.proofs.TransferKept.{active_at}
+use Rattle.std.proofs.Common.{◌∷◌, Bool, cond}
+
+-- each of some entries has a property
+abbrev AllSegs : (HeldSeg → Type 0) → List HeldSeg → Type 0
+AllSegs P [] = Unit {0}
+AllSegs P (e ∷ es) = P e × AllSegs P es
+
+-- a descriptor that is found is one of those held
+seg_found : (P : HeldSeg → Type 0) (es : List HeldSeg) (n : ℕ) (e : HeldSeg) → find (is_number n) es ≡ Some e
+    → AllSegs P es → P e
+seg_found P [] n e h all = absurd (none_some h)
+seg_found P (x ∷ xs) n e h all = by (is_number n x) h (λ i. seg_found P xs n e i all.1)
+  where
+    by : (b : Bool) → cond b (Some x) (find (is_number n) xs) ≡ Some e → (find (is_number n) xs ≡ Some e → P e) → P e
+    by true i rest = let same : x ≡ e = cc in subst P same all.0
+    by false i rest = rest i
+
+entitled_all : (s : State) (k : ℕ) (es : List HeldSeg)
+    → AreEntitled s.store.accounts.nodes s.store.whos s.store.links.known k es
+    → AllSegs (IsEntitled s.store.accounts.nodes s.store.whos s.store.links.known k) es
+entitled_all s k [] h = tt
+entitled_all s k (e ∷ es) h = (h.0, entitled_all s k es h.1)
+
+leads_all : (d : ℕ → ℕ → DescriptorUse) (k : ℕ) (es : List HeldSeg) → AreHeldSegs d k es
+    → AllSegs (λ e. leads_to (d k e.number) ≡ Some e.uid) es
+leads_all d k [] h = tt
+leads_all d k (e ∷ es) h = (h.0, leads_all d k es h.1)
+
+-- what was cut is active still
+cut_active : (st : Storage) (ds : List CutDescriptor) (k n u : ℕ) → AreThere st ds → cut_uid ds k n ≡ Some u
+    → is_active st.ast u ≡ true
+cut_active st [] k n u h e = absurd (none_some e)
+cut_active st (d ∷ ds) k n u h e = by (is_cut_at k n d) e (cut_active st ds k n u h.1)
+  where
+    by : (b : Bool) → cond b (Some d.uid) (cut_uid ds k n) ≡ Some u
+        → (cut_uid ds k n ≡ Some u → is_active st.ast u ≡ true) → is_active st.ast u ≡ true
+    by true i rest = let same : d.uid ≡ u = cc in subst (λ (v : ℕ). is_active st.ast v ≡ true) same h.0.2
+    by false i rest = rest i
+
+-- what a descriptor leads to, or led to until it was cut, is active
+descriptor_active : (s : State) (k n u : ℕ) → Keeps s → leads_to ((shown (seen s)).descriptor k n) ≡ Some u
+    → is_active s.store.ast u ≡ true
+descriptor_active s k n u keeps h = by (descriptor_of s.store.links k n) refl h
+  where
+    cut_one : (x : Option ℕ) → cut_uid (cut_of_owner s.owner) k n ≡ x → leads_to (cut_use x) ≡ Some u
+        → is_active s.store.ast u ≡ true
+    cut_one None e i = absurd (none_some i)
+    cut_one (Some v) e i = cut_active s.store (cut_of_owner s.owner) k n u keeps.cut (e ∙ i)
+
+    led : (x : Option ℕ) (aste : ℕ) → uid_at s.store.ast.entries aste ≡ x
+        → leads_to (descriptor_use x (cut_uid (cut_of_owner s.owner) k n)) ≡ Some u → is_active s.store.ast u ≡ true
+    led None aste e i = cut_one (cut_uid (cut_of_owner s.owner) k n) refl i
+    led (Some v) aste e i = active_at s.store.ast aste u (e ∙ i)
+
+    by : (x : Sdw) → descriptor_of s.store.links k n ≡ x
+        → leads_to (descriptor_use (led_to s.store.ast.entries x) (cut_uid (cut_of_owner s.owner) k n)) ≡ Some u
+        → is_active s.store.ast u ≡ true
+    by sdw.Fault e i = cut_one (cut_uid (cut_of_owner s.owner) k n) refl i
+    by (sdw.Present aste m pages) e i = led (uid_at s.store.ast.entries aste) aste refl i
+
+module _ {D : Type 0} (t : Parts D) (c : ℕ) (sound : IsSound t) (there : c < length t.state.processors) where
+  abbrev s : State
+  s = t.state
+
+  abbrev keeps : Keeps s
+  keeps = sound.keeps.machine.keeps
+
+  abbrev segs : List HeldSeg
+  segs = (cpu_at s.processors c).assoc.segs
+
+  -- what a processor holds of a segment
+  module _ (k : ℕ) (its : (cpu_at s.processors c).process ≡ Some k) (n : ℕ) (h : HeldSeg)
+      (held : find (is_number n) segs ≡ Some h) where
+    right : IsEntitled s.store.accounts.nodes s.store.whos s.store.links.known k h
+    right = seg_found (IsEntitled s.store.accounts.nodes s.store.whos s.store.links.known k) segs n h held
+        (entitled_all s k segs (sound.keeps.entitled.each c k its))
+
+    its_segs : AreHeldSegs (shown (seen s)).descriptor k segs
+    its_segs = subst (λ (x : Option ℕ). AreOfProcess (shown (seen s)).descriptor x segs) its
+        (keeps.book.holding_right c).segs
+
+    active : is_active s.store.ast h.uid ≡ true
+    active = descriptor_active s k h.number h.uid keeps
+        (seg_found (λ e. leads_to ((shown (seen s)).descriptor k e.number) ≡ Some e.uid) segs n h held
+        (leads_all (shown (seen s)).descriptor k segs its_segs))
+
+    long : (place : ℕ) → uid_at s.store.ast.entries place ≡ Some h.uid
+        → h.pages ≤ length (table_at s.store.ast.tables place)
+    long place at = by (node_in s.store.accounts.nodes h.uid) refl (active_there s keeps h.uid active)
+      where
+        by : (x : Option Node) → node_in s.store.accounts.nodes h.uid ≡ x → is_some x ≡ true
+            → h.pages ≤ length (table_at s.store.ast.tables place)
+        by None e i = absurd (let no : false ≡ true = i in cc)
+        by (Some node) e i =
+            let pages = right.pages node e in
+            let room = room_of node most flat in
+            let fits = room.0 in
+            let size = keeps.store.kept.sized (pool_of node) place room.1
+            (keeps.store.counted.active.pools place h.uid node at e) in
+            omega (arith, pages, fits, size)
+          where
+            most : node.pages ≤ 256
+            most = subst (λ (y : Option Node). pages_of y ≤ 256) e (keeps.store.counted.counted.most h.uid)
+
+            flat : node.directory ≡ true → node.pages ≡ 0
+            flat is = sym (ap pages_of e) ∙ keeps.store.counted.counted.flat h.uid
+                (directory_found s.store.accounts.nodes h.uid node e ∙ is)
+
+    long_enough : IsLongEnough s.store.ast h
+    long_enough = record {
+      active = (place_of s.store.ast.entries h.uid, (active_place s.store.ast h.uid active).1);
+      long = long;
+    }
+
+  held_long : AreLong s.store.ast (cpu_at s.processors c).assoc
+  held_long n = by (find (is_number n) segs) refl
+    where
+      nothing : (cpu_at s.processors c).process ≡ None → segs ≡ []
+      nothing none = subst (λ (x : Option ℕ). AreOfProcess (shown (seen s)).descriptor x segs) none
+          (keeps.book.holding_right c).segs
+
+      of_process : (h : HeldSeg) → find (is_number n) segs ≡ Some h → (x : Option ℕ)
+          → (cpu_at s.processors c).process ≡ x → IsLongEnough s.store.ast h
+      of_process h e None none = absurd (none_some (sym (ap (λ (es : List HeldSeg). find (is_number n) es)
+          (nothing none)) ∙ e))
+      of_process h e (Some k) its = long_enough k its n h e
+
+      by : (x : Option HeldSeg) → find (is_number n) segs ≡ x → IfSome x (IsLongEnough s.store.ast)
+      by None e = tt
+      by (Some h) e = of_process h e (cpu_at s.processors c).process refl
+
+  pub may_choose : MayChoose s c
+  may_choose = record {
+    processor = there;
+    count = keeps.sizes.processors;
+    run = run_there t c sound;
+    known = process_known t c sound there;
+    held = held_long;
+    looks = record { keeps = keeps; script = sound.keeps.machine.script; pools = sound.keeps.machine.pools };
+  }
