@@ -1,5 +1,6 @@
 pub mod Activated
 pub mod Claimed
+pub mod Committed
 pub mod Held
 pub mod Made
 pub mod Meant

@@ -14,6 +14,7 @@ mod chains;
 mod choosing;
 mod claiming;
 mod commands;
+mod committing;
 mod connecting;
 mod creating;
 mod emptying;

@@ -1,0 +1,245 @@
+-- What a tree command changes of a store, exactly.
+use Rattle.std.proofs.Common.{◌≡◌, ℕ, Bool, true, false, not, cond, eqb, List, [], ◌∷◌, length, map, set}
+use Rattle.std.proofs.Common.{Option, None, refl, sym, ap, subst, ◌∙◌}
+use Rattle.std.specs.Prelude.{ℤ, Result, Ok, Err}
+use Rattle.std.specs.Int.{is_positive}
+use Rattle.std.specs.Int.RustNames.{unsigned_abs}
+use Rattle.mnames.specs.declared.modes.Mode.{Mode}
+use Rattle.mnames.specs.declared.rows.Row.{Row as Named}
+use Rattle.script.specs.Plans.{Plan}
+use Rattle.script.specs.declared.commands.Command.TheVariants as command
+use Rattle.book.specs.declared.replies.Reply.{Reply}
+use Rattle.book.specs.declared.replies.Reply.TheVariants as reply
+use Rattle.accounts.specs.Maps.{AccountMaps, Changes, HasColumns, count_of}
+use Rattle.quota_cells.specs.Accounts.{look}
+use Rattle.known_segs.specs.Known.{number_for, with_number}
+use Rattle.tree_model.specs.Quotas.{getter_of, giver_of}
+use Rattle.tree_model.specs.Tree.{Node, above}
+use Rattle.tree_model.specs.Trees.{has_segment}
+use Rattle.flat_model.specs.Branches.{branch_at, directory_at, node_at, only_directory, only_segment, segment_at}
+use Rattle.flat_model.specs.Commands.{takes_effect}
+use Rattle.flat_model.specs.Naming.{after_initiate, after_terminate, initiate_of, initiate_reply, initiated}
+use Rattle.flat_model.specs.Rights.{nodes_moved, row_with}
+use Rattle.flat_model.specs.Store.{Store}
+use Rattle.seg_control.specs.Control.{Links, kst_at}
+use Rattle.storage_ops.specs.Cut.{Commits, HasLengthSet}
+use Rattle.storage_ops.specs.Shown.{HasMoved, HasRowSet, Shows, Storage as Stored, answered, with_known}
+use Rattle.storage_ops.proofs.Alike.{Keeps, keeps_length, keeps_moved, keeps_one, keeps_rows}
+use Rattle.storage_ops.proofs.Changed.{segment_refuses}
+use Rattle.tree_model.specs.Access.{with_row as with_row_of}
+use Rattle.machine_model.specs.Commits.{with_effect}
+use Rattle.machine_model.specs.Keeps.{IsFaithful}
+use Rattle.machine_model.specs.Refusal.{uid_at_path, uid_of_command, uid_of_node}
+use Rattle.machine_model.specs.State.{Storage}
+use Rattle.machine_tables.specs.Committed.{IsCommitted, TakesEffect}
+use Rattle.machine_tables.specs.Parts.{shown}
+use Rattle.machine_tables.proofs.ColumnLaws.{columns_same, rising_same}
+use Rattle.machine_tables.proofs.RefusalLaws.{shows_of}
+
+-- ---- what a path leads to
+
+leads_to : (ns : List Node) (path : List (List ℕ)) (n : Node) → node_at ns path ≡ Ok n
+    → uid_of_node (node_at ns path) ≡ n.uid
+leads_to ns path n h = ap uid_of_node h
+
+segment_node : (ns : List Node) (path : List (List ℕ)) (n : Node) → segment_at ns path ≡ Ok n → node_at ns path ≡ Ok n
+segment_node ns path n h = by (node_at ns path) refl h
+  where
+    kind : (b : Bool) (m : Node) → cond b (Err reply.IsDir) (Ok m) ≡ Ok n → m ≡ n
+    kind true m e = absurd (let no : Err reply.IsDir ≡ Ok n = e in cc)
+    kind false m e = let both : ◌≡◌ {A = Result Node Reply} (Ok m) (Ok n) = e in cc
+
+    by : (x : Result Node Reply) → node_at ns path ≡ x → only_segment x ≡ Ok n → node_at ns path ≡ Ok n
+    by (Ok m) e i = e ∙ ap (λ (x : Node). Ok x) (kind m.directory m i)
+    by (Err r) e i = absurd (let no : Err r ≡ Ok n = i in cc)
+
+pub segment_uid : (ns : List Node) (path : List (List ℕ)) (n : Node) → segment_at ns path ≡ Ok n
+    → uid_of_node (node_at ns path) ≡ n.uid
+segment_uid ns path n h = leads_to ns path n (segment_node ns path n h)
+
+branch_node : (ns : List Node) (path : List (List ℕ)) (n : Node) → branch_at ns path ≡ Ok n → node_at ns path ≡ Ok n
+branch_node ns [] n h = absurd (let no : Err reply.Root ≡ Ok n = h in cc)
+branch_node ns (name ∷ names) n h = h
+
+pub branch_uid : (ns : List Node) (path : List (List ℕ)) (n : Node) → branch_at ns path ≡ Ok n
+    → uid_of_node (node_at ns path) ≡ n.uid
+branch_uid ns path n h = leads_to ns path n (branch_node ns path n h)
+
+directory_uid : (ns : List Node) (path : List (List ℕ)) (n : Node) → directory_at ns path ≡ Ok n
+    → uid_of_node (node_at ns path) ≡ n.uid
+directory_uid ns path n h = branch_uid ns path n (by (branch_at ns path) refl h)
+  where
+    kind : (b : Bool) (m : Node) → cond b (Ok m) (Err reply.IsSeg) ≡ Ok n → m ≡ n
+    kind true m e = let both : ◌≡◌ {A = Result Node Reply} (Ok m) (Ok n) = e in cc
+    kind false m e = absurd (let no : Err reply.IsSeg ≡ Ok n = e in cc)
+
+    by : (x : Result Node Reply) → branch_at ns path ≡ x → only_directory reply.IsSeg x ≡ Ok n
+        → branch_at ns path ≡ Ok n
+    by (Ok m) e i = e ∙ ap (λ (x : Node). Ok x) (kind m.directory m i)
+    by (Err r) e i = absurd (let no : Err r ≡ Ok n = i in cc)
+
+-- ---- nodes are changed
+
+segments_kept : (f : Node → Node) → Keeps f → (ns : List Node) (u : ℕ) → has_segment (map f ns) u ≡ has_segment ns u
+segments_kept f keeps [] u = refl
+segments_kept f keeps (n ∷ ns) u =
+    ap (λ (v : ℕ). cond (eqb v u) (not (f n).directory) (has_segment (map f ns) u)) (keeps.uid n)
+    ∙ (ap (λ (b : Bool). cond (eqb n.uid u) (not b) (has_segment (map f ns) u)) (keeps.kind n)
+    ∙ ap (cond (eqb n.uid u) (not n.directory)) (segments_kept f keeps ns u))
+
+pub changed_nodes : (old new : AccountMaps) (f : Node → Node) → Keeps f → HasColumns old → HasColumns new
+    → Changes old new (map f old.nodes) → new ≡ record old { nodes = map f old.nodes }
+changed_nodes old new f keeps before after told = (λ i. record {
+  nodes = told.nodes i;
+  entries = told.entries i;
+  next = told.next i;
+  segments = segments i;
+  counts = counts i;
+})
+  where
+    segments : new.segments ≡ old.segments
+    segments = rising_same new.segments old.segments after.rising before.rising
+        (λ u. after.segments u ∙ (ap (λ (ns : List Node). has_segment ns u) told.nodes
+        ∙ (segments_kept f keeps old.nodes u ∙ sym (before.segments u))))
+
+    counts : new.counts ≡ old.counts
+    counts = columns_same old.segments new.counts old.counts before.rising (after.counted ∙ ap length segments)
+        before.counted (λ u there. ap (λ (ks : List ℕ). look ks new.counts u) (sym segments) ∙ told.counts u)
+
+-- a store with other accounts
+accounts_shown : {D : Type 0} (drive : D → List (List ℕ)) (t u : Stored D) (a : AccountMaps)
+    → u ≡ record t { accounts = u.accounts } → u.accounts ≡ a
+    → shown drive u ≡ record (shown drive t) { accounts = a }
+accounts_shown drive t u a rest is = ap (shown drive) rest
+    ∙ ap (λ (x : AccountMaps). record (shown drive t) { accounts = x }) is
+
+pub row_committed : {D : Type 0} (drive : D → List (List ℕ)) (t u : Stored D) (k : ℕ) (path : List (List ℕ))
+    (row : Named) (m : Mode) (r : Reply) → HasColumns t.accounts → HasColumns u.accounts
+    → Commits drive t u k (command.Acl path row m) r
+    → (takes_effect r ≡ true → HasRowSet t.accounts u.accounts path (row_with row m))
+    → u ≡ record t { accounts = u.accounts } → TakesEffect drive t u k (command.Acl path row m) r
+row_committed drive t u k path row m r before after does done rest frames = record {
+  does = does;
+  exact = λ p flat faithful takes. (let set = done takes in
+      accounts_shown drive t u (record t.accounts { nodes = map (changing set.node.uid) t.accounts.nodes }) rest
+      (changed_nodes t.accounts u.accounts (changing set.node.uid) (keeps_one set.node.uid
+      (λ n. record n { rows = with_row_of (row_with row m) n.rows }) (keeps_rows (with_row_of (row_with row m))))
+      before after set.effect)
+      ∙ ap (λ (v : ℕ). with_effect (shown drive t) k v frames (command.Acl path row m))
+      (sym (segment_uid t.accounts.nodes path set.node set.found)));
+  drives = ap (λ (x : Stored _). x.segs.pages.volumes.drives) rest;
+}
+  where
+    changing : ℕ → Node → Node
+    changing v n = cond (eqb n.uid v) (record n { rows = with_row_of (row_with row m) n.rows }) n
+
+pub length_committed : {D : Type 0} (drive : D → List (List ℕ)) (t u : Stored D) (k : ℕ) (path : List (List ℕ))
+    (pages : ℕ) (r : Reply) → HasColumns t.accounts → HasColumns u.accounts
+    → Commits drive t u k (command.Length path pages) r
+    → (takes_effect r ≡ true → HasLengthSet t.accounts u.accounts path pages)
+    → u ≡ record t { accounts = u.accounts } → TakesEffect drive t u k (command.Length path pages) r
+length_committed drive t u k path pages r before after does done rest frames = record {
+  does = does;
+  exact = λ p flat faithful takes. (let set = done takes in
+      accounts_shown drive t u (record t.accounts { nodes = map (changing set.node.uid) t.accounts.nodes }) rest
+      (changed_nodes t.accounts u.accounts (changing set.node.uid) (keeps_one set.node.uid
+      (λ n. record n { pages = pages }) (keeps_length pages)) before after set.effect)
+      ∙ ap (λ (v : ℕ). with_effect (shown drive t) k v frames (command.Length path pages))
+      (sym (segment_uid t.accounts.nodes path set.node set.found)));
+  drives = ap (λ (x : Stored _). x.segs.pages.volumes.drives) rest;
+}
+  where
+    changing : ℕ → Node → Node
+    changing v n = cond (eqb n.uid v) (record n { pages = pages }) n
+
+pub move_committed : {D : Type 0} (drive : D → List (List ℕ)) (t u : Stored D) (k : ℕ) (path : List (List ℕ))
+    (amount : ℤ) (r : Reply) → HasColumns t.accounts → HasColumns u.accounts
+    → Commits drive t u k (command.Move path amount) r
+    → (takes_effect r ≡ true → HasMoved t.accounts u.accounts path amount)
+    → u ≡ record t { accounts = u.accounts } → TakesEffect drive t u k (command.Move path amount) r
+move_committed drive t u k path amount r before after does done rest frames = record {
+  does = does;
+  exact = λ p flat faithful takes. (let set = done takes in
+      accounts_shown drive t u (record t.accounts { nodes = nodes_moved t.accounts.nodes set.node.uid amount }) rest
+      (changed_nodes t.accounts u.accounts _ (keeps_moved
+      (giver_of (above t.accounts.nodes) set.node.uid (is_positive amount))
+      (getter_of (above t.accounts.nodes) set.node.uid (is_positive amount)) (unsigned_abs amount))
+      before after set.effect)
+      ∙ ap (λ (v : ℕ). with_effect (shown drive t) k v frames (command.Move path amount))
+      (sym (directory_uid t.accounts.nodes path set.node set.found)));
+  drives = ap (λ (x : Stored _). x.segs.pages.volumes.drives) rest;
+}
+
+-- ---- numbers
+
+-- a store whose processes know segments by other numbers
+known_shown : {D : Type 0} (drive : D → List (List ℕ)) (t u : Stored D) (known : List (List (Option ℕ)))
+    → u ≡ with_known t u.segs.links.known → u.segs.links.known ≡ known
+    → shown drive u ≡ record (shown drive t) { links = record t.segs.links { known = known } }
+known_shown drive t u known rest is = ap (shown drive) rest
+    ∙ ap (λ (x : List (List (Option ℕ))). record (shown drive t) { links = record t.segs.links { known = x } }) is
+
+-- the flat store that is shown once a command took effect
+pub flat_after : {D : Type 0} (drive : D → List (List ℕ)) (t u : Stored D) (p : Plan) (flat next : Store) (r : Reply)
+    → takes_effect r ≡ true → Shows drive p (answered r flat next) u → Shows drive p next u
+flat_after drive t u p flat next r takes shows =
+    subst (λ (s : Store). Shows drive p s u) (ap (λ (b : Bool). cond b next flat) takes) shows
+
+pub terminate_committed : {D : Type 0} (drive : D → List (List ℕ)) (t u : Stored D) (k number : ℕ) (r : Reply)
+    → Commits drive t u k (command.Terminate number) r
+    → u ≡ with_known t u.segs.links.known → TakesEffect drive t u k (command.Terminate number) r
+unfolding after_terminate
+terminate_committed drive t u k number r does rest frames = record {
+  does = does;
+  exact = λ p flat faithful takes. (let now = flat_after drive t u p flat (after_terminate flat k number) r takes
+      (does.effect p flat (shows_of drive p flat t faithful)) in
+      known_shown drive t u _ rest (sym now.known
+      ∙ ap (λ (known : List (List (Option ℕ))). set known k (set (kst_at known k) number None)) faithful.known));
+  drives = ap (λ (x : Stored _). x.segs.pages.volumes.drives) rest;
+}
+
+initiate_exact : {D : Type 0} (drive : D → List (List ℕ)) (t u : Stored D) (k : ℕ) (path : List (List ℕ)) (r : Reply)
+    → Commits drive t u k (command.Initiate path) r → u ≡ with_known t u.segs.links.known → (frames : List ℕ) (p : Plan)
+    (flat : Store) → IsFaithful p flat (shown drive t) → takes_effect r ≡ true
+    → shown drive u ≡ with_effect (shown drive t) k (uid_at_path (shown drive t) path) frames (command.Initiate path)
+unfolding after_initiate initiate_reply
+initiate_exact drive t u k path r does rest frames p flat faithful takes = by (segment_at flat.nodes path) refl
+  where
+    now : Shows drive p (after_initiate flat k path) u
+    now = flat_after drive t u p flat (after_initiate flat k path) r takes
+        (does.effect p flat (shows_of drive p flat t faithful))
+
+    by : (x : Result Node Reply) → segment_at flat.nodes path ≡ x
+        → shown drive u ≡ with_effect (shown drive t) k (uid_at_path (shown drive t) path) frames
+        (command.Initiate path)
+    by (Err q) e = absurd (let is : r ≡ q = does.answer p flat (shows_of drive p flat t faithful)
+        ∙ ap (initiate_of (kst_at flat.known k)) e in
+        let no : false ≡ true = sym (segment_refuses flat.nodes path q e) ∙ (ap takes_effect (sym is) ∙ takes) in cc)
+    by (Ok n) e =
+        let at : segment_at t.accounts.nodes path ≡ Ok n =
+        ap (λ (ns : List Node). segment_at ns path) (sym faithful.tree.nodes) ∙ e in
+        known_shown drive t u _ rest (sym now.known ∙ (ap (λ (x : Result Node Reply). (initiated flat k x).known) e
+        ∙ ap (λ (known : List (List (Option ℕ))). set known k (with_number (kst_at known k) n.uid
+        (number_for (kst_at known k) n.uid))) faithful.known))
+        ∙ ap (λ (v : ℕ). with_effect (shown drive t) k v frames (command.Initiate path))
+        (sym (segment_uid t.accounts.nodes path n at))
+
+pub initiate_committed : {D : Type 0} (drive : D → List (List ℕ)) (t u : Stored D) (k : ℕ) (path : List (List ℕ))
+    (r : Reply) → Commits drive t u k (command.Initiate path) r
+    → u ≡ with_known t u.segs.links.known → TakesEffect drive t u k (command.Initiate path) r
+initiate_committed {D} drive t u k path r does rest frames = record {
+  does = does;
+  exact = λ p flat faithful takes. initiate_exact drive t u k path r does rest frames p flat faithful takes;
+  drives = ap (λ (x : Stored D). x.segs.pages.volumes.drives) rest;
+}
+
+-- ---- nothing is changed
+
+pub status_committed : {D : Type 0} (drive : D → List (List ℕ)) (t u : Stored D) (k : ℕ) (path : List (List ℕ))
+    (r : Reply) → Commits drive t u k (command.Status path) r → u ≡ t
+    → TakesEffect drive t u k (command.Status path) r
+status_committed drive t u k path r does rest frames = record {
+  does = does;
+  exact = λ p flat faithful takes. ap (shown drive) rest;
+  drives = ap (λ (x : Stored _). x.segs.pages.volumes.drives) rest;
+}

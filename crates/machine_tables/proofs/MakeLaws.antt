@@ -1,0 +1,183 @@
+-- A directory or a segment that is made, exactly.
+use Rattle.std.proofs.Common.{◌≡◌, ℕ, ◌+◌, Bool, true, false, cond, List, [], ◌∷◌, Option, Some, None, get_or}
+use Rattle.std.proofs.Common.{refl, sym, ap, subst, ◌∙◌}
+use Rattle.std.specs.Prelude.{Result, Ok, Err}
+use Rattle.std.proofs.Math.ListN.{get_or-map}
+use Rattle.mnames.specs.declared.principals.Who.{Who}
+use Rattle.script.specs.Plans.{Plan, ProcessPlan, nobody, who_of}
+use Rattle.script.specs.declared.commands.Command.TheVariants as command
+use Rattle.book.specs.declared.replies.Reply.{Reply}
+use Rattle.book.specs.declared.replies.Reply.TheVariants as reply
+use Rattle.accounts.specs.Maps.{AccountMaps, HasColumns, count_of}
+use Rattle.quota_cells.specs.Accounts.{with_beside}
+use Rattle.tree_model.specs.Access.{Row}
+use Rattle.tree_model.specs.Tree.{Node}
+use Rattle.tree_model.specs.Trees.{AreBelow}
+use Rattle.flat_model.specs.Branches.{node_at, only_directory, parts_of}
+use Rattle.flat_model.specs.Commands.{takes_effect}
+use Rattle.flat_model.specs.Making.{after_make, made_at, made_in, made_of, make_at, make_of, make_reply}
+use Rattle.flat_model.specs.Making.{owner_row}
+use Rattle.flat_model.specs.Store.{Store}
+use Rattle.page_control.specs.Effects.{allocated}
+use Rattle.page_control.specs.Plain.{plain, vtoc_of}
+use Rattle.vtoc.specs.Vtoc.{least_free_entry}
+use Rattle.storage_ops.specs.Cut.{Commits}
+use Rattle.storage_ops.specs.CutOff.{TakesHome}
+use Rattle.storage_ops.specs.Shown.{Shows, Storage as Stored, who_at, with_vtocs}
+use Rattle.storage_ops.proofs.Changed.{node_refuses}
+use Rattle.machine_model.specs.Commits.{branch_of, gained, with_branch, with_made}
+use Rattle.machine_model.specs.Keeps.{IsFaithful}
+use Rattle.machine_model.specs.Reads.{or_zero}
+use Rattle.machine_model.specs.Refusal.{uid_at_path, uid_of_node}
+use Rattle.machine_model.specs.State.{Storage}
+use Rattle.machine_tables.specs.Committed.{IsCommitted, TakesEffect}
+use Rattle.machine_tables.specs.Parts.{shown}
+use Rattle.machine_tables.proofs.CommitLaws.{flat_after}
+use Rattle.machine_tables.proofs.GainLaws.{directory_gained, segment_gained}
+use Rattle.machine_tables.proofs.RefusalLaws.{shows_of}
+
+-- the names before the last lead to a directory, where the node is made
+module _ (p : Plan) (flat : Store) (volume : ℕ) (dir : Bool) where
+  made_below : (parts : List (List ℕ) × List ℕ) (r : Reply) → r ≡ make_of p flat volume dir (Some parts)
+      → takes_effect r ≡ true → (d : Node) × (node_at flat.nodes parts.0 ≡ Ok d)
+  made_below parts r is takes = by (node_at flat.nodes parts.0) refl
+    where
+      refused : (q : Reply) → takes_effect q ≡ false
+          → make_at p flat volume dir parts.1 (only_directory reply.NotDir (node_at flat.nodes parts.0)) ≡ q → ⊥
+      refused q off e = let no : false ≡ true = sym off ∙ (ap takes_effect (sym (is ∙ e)) ∙ takes) in cc
+
+      by : (x : Result Node Reply) → node_at flat.nodes parts.0 ≡ x → (d : Node) × (node_at flat.nodes parts.0 ≡ Ok d)
+      by (Ok d) e = (d, e)
+      by (Err q) e = absurd (refused q (node_refuses flat.nodes parts.0 q e)
+          (ap (λ (x : Result Node Reply). make_at p flat volume dir parts.1 (only_directory reply.NotDir x)) e))
+
+module _ {D : Type 0} (drive : D → List (List ℕ)) (t u : Stored D) (before : HasColumns t.accounts)
+    (after : HasColumns u.accounts) (below : AreBelow t.accounts.next t.accounts.nodes) (volume : ℕ)
+    (home : TakesHome drive t u volume)
+    (rest : u ≡ record t { accounts = u.accounts; segs = with_vtocs t.segs u.segs.pages.volumes.vtocs })
+    (p : Plan) (flat : Store) (faithful : IsFaithful p flat (shown drive t)) (dir : Bool) (pages : ℕ) (rows : List Row)
+    (parts : List (List ℕ) × List ℕ) (d : Node) (found : node_at flat.nodes parts.0 ≡ Ok d)
+    (now : Shows drive p (made_in flat volume dir pages rows parts.1 d) u) where
+  abbrev pub st : Storage
+  st = shown drive t
+
+  abbrev pub node : Node
+  node = branch_of st (uid_at_path st parts.0) parts.1 dir volume pages rows
+
+  above_is : d.uid ≡ uid_at_path st parts.0
+  above_is = sym (ap uid_of_node (ap (λ (ns : List Node). node_at ns parts.0) (sym faithful.tree.nodes) ∙ found))
+
+  nodes : u.accounts.nodes ≡ node ∷ t.accounts.nodes
+  nodes = sym now.tree.nodes ∙ (λ i. record {
+    uid = faithful.tree.next i;
+    superior = Some (above_is i);
+    name = parts.1;
+    directory = dir;
+    volume = volume;
+    pages = pages;
+    quota = 0;
+    rows = rows;
+  } ∷ faithful.tree.nodes i)
+
+  counts : (s : ℕ) → count_of u.accounts s ≡ count_of t.accounts s
+  counts s = now.tree.counts s ∙ sym (faithful.tree.counts s)
+
+  entry_is : home.entry ≡ or_zero (least_free_entry (vtoc_of st.pages volume))
+  entry_is = sym (ap or_zero home.least)
+
+  gains : (ks vs : List ℕ) → u.accounts.segments ≡ ks → u.accounts.counts ≡ vs
+      → (cond dir t.accounts.segments (with_beside t.accounts.segments t.accounts.segments node.uid node.uid) ≡ ks)
+      → (cond dir t.accounts.counts (with_beside t.accounts.segments t.accounts.counts node.uid 0) ≡ vs)
+      → u.accounts ≡ gained t.accounts node (or_zero (least_free_entry (vtoc_of st.pages volume)))
+  gains ks vs segments values keys_are values_are = (λ i. record {
+    nodes = nodes i;
+    entries = (home.beside ∙ ap (λ (e : ℕ). e ∷ t.accounts.entries) entry_is) i;
+    next = (sym now.tree.next ∙ ap (λ (n : ℕ). n + 1) faithful.tree.next) i;
+    segments = (segments ∙ sym keys_are) i;
+    counts = (values ∙ sym values_are) i;
+  })
+
+  accounts : u.accounts ≡ gained t.accounts node (or_zero (least_free_entry (vtoc_of st.pages volume)))
+  accounts = by dir refl
+    where
+      by : (b : Bool) → dir ≡ b
+          → u.accounts ≡ gained t.accounts node (or_zero (least_free_entry (vtoc_of st.pages volume)))
+      by true e = let both = directory_gained t.accounts u.accounts node before after below nodes counts e in
+          gains t.accounts.segments t.accounts.counts both.0 both.1
+          (ap (λ (z : Bool). cond z t.accounts.segments (with_beside t.accounts.segments t.accounts.segments node.uid
+          node.uid)) e)
+          (ap (λ (z : Bool). cond z t.accounts.counts (with_beside t.accounts.segments t.accounts.counts node.uid 0)) e)
+      by false e = let both = segment_gained t.accounts u.accounts node before after below nodes counts e in
+          gains _ _ both.0 both.1
+          (ap (λ (z : Bool). cond z t.accounts.segments (with_beside t.accounts.segments t.accounts.segments node.uid
+          node.uid)) e)
+          (ap (λ (z : Bool). cond z t.accounts.counts (with_beside t.accounts.segments t.accounts.counts node.uid 0)) e)
+
+  -- the store once it is made
+  pub branch_made : shown drive u ≡ with_branch st node
+  branch_made = (λ i. record {
+    accounts = accounts i;
+    pages = (home.filed ∙ ap (λ (e : ℕ). allocated st.pages volume e t.accounts.next) entry_is) i;
+    ast = ap (λ (x : Stored D). x.segs.ast) rest i;
+    links = ap (λ (x : Stored D). x.segs.links) rest i;
+    whos = ap (λ (x : Stored D). x.whos) rest i;
+  })
+
+module _ {D : Type 0} (drive : D → List (List ℕ)) (t u : Stored D) (before : HasColumns t.accounts)
+    (after : HasColumns u.accounts) (below : AreBelow t.accounts.next t.accounts.nodes) (path : List (List ℕ))
+    (volume : ℕ) (r : Reply) (home : takes_effect r ≡ true → TakesHome drive t u volume)
+    (rest : u ≡ record t { accounts = u.accounts; segs = with_vtocs t.segs u.segs.pages.volumes.vtocs })
+    (dir : Bool) (pages : ℕ) where
+  made_exact : (p : Plan) (flat : Store) (rows : List Row) → IsFaithful p flat (shown drive t) → takes_effect r ≡ true
+      → r ≡ make_reply p flat path volume dir → Shows drive p (after_make flat path volume dir pages rows) u
+      → shown drive u ≡ with_made (shown drive t) dir pages volume rows (parts_of path)
+  unfolding make_reply after_make
+  made_exact p flat rows faithful takes is now = by (parts_of path) is now
+    where
+      by : (x : Option (List (List ℕ) × List ℕ)) → r ≡ make_of p flat volume dir x
+          → Shows drive p (made_of flat volume dir pages rows x) u
+          → shown drive u ≡ with_made (shown drive t) dir pages volume rows x
+      by None e shows = absurd (let no : false ≡ true = ap takes_effect (sym e) ∙ takes in cc)
+      by (Some parts) e shows =
+          let below_it = made_below p flat volume dir parts r e takes in
+          branch_made drive t u before after below volume (home takes) rest p flat faithful dir pages rows parts
+          below_it.0 below_it.1 (subst (λ (s : Store). Shows drive p s u)
+          (ap (λ (y : Result Node Reply). made_at flat volume dir pages rows parts.1 y) below_it.1) shows)
+
+pub dir_committed : {D : Type 0} (drive : D → List (List ℕ)) (t u : Stored D) (k : ℕ) (path : List (List ℕ))
+    (volume : ℕ) (r : Reply) → HasColumns t.accounts → HasColumns u.accounts
+    → AreBelow t.accounts.next t.accounts.nodes → Commits drive t u k (command.MkDir path volume) r
+    → (takes_effect r ≡ true → TakesHome drive t u volume)
+    → u ≡ record t { accounts = u.accounts; segs = with_vtocs t.segs u.segs.pages.volumes.vtocs }
+    → TakesEffect drive t u k (command.MkDir path volume) r
+dir_committed drive t u k path volume r before after below does home rest frames = record {
+  does = does;
+  exact = λ p flat faithful takes. (let shows = shows_of drive p flat t faithful in
+      made_exact drive t u before after below path volume r home rest true 0 p flat [] faithful takes
+      (does.answer p flat shows)
+      (flat_after drive t u p flat (after_make flat path volume true 0 []) r takes (does.effect p flat shows)));
+  drives = ap (λ (x : Stored _). x.segs.pages.volumes.drives) rest;
+}
+
+who_is : {D : Type 0} (drive : D → List (List ℕ)) (t : Stored D) (p : Plan) (flat : Store) (k : ℕ)
+    → IsFaithful p flat (shown drive t) → who_of p k ≡ who_at t.whos k
+who_is drive t p flat k faithful = sym (ap (λ (ws : List Who). get_or ws k nobody) faithful.script.whos
+    ∙ get_or-map (λ (x : ProcessPlan). x.who) p.processes k (record { who = nobody; commands = [] }))
+
+pub seg_committed : {D : Type 0} (drive : D → List (List ℕ)) (t u : Stored D) (k : ℕ) (path : List (List ℕ))
+    (pages volume : ℕ) (r : Reply) → HasColumns t.accounts → HasColumns u.accounts
+    → AreBelow t.accounts.next t.accounts.nodes → Commits drive t u k (command.MkSeg path pages volume) r
+    → (takes_effect r ≡ true → TakesHome drive t u volume)
+    → u ≡ record t { accounts = u.accounts; segs = with_vtocs t.segs u.segs.pages.volumes.vtocs }
+    → TakesEffect drive t u k (command.MkSeg path pages volume) r
+seg_committed drive t u k path pages volume r before after below does home rest frames = record {
+  does = does;
+  exact = λ p flat faithful takes. (let shows = shows_of drive p flat t faithful in
+      made_exact drive t u before after below path volume r home rest false pages p flat (owner_row (who_of p k) ∷ [])
+      faithful takes (does.answer p flat shows)
+      (flat_after drive t u p flat (after_make flat path volume false pages (owner_row (who_of p k) ∷ [])) r takes
+      (does.effect p flat shows))
+      ∙ ap (λ (who : Who). with_made (shown drive t) false pages volume (owner_row who ∷ []) (parts_of path))
+      (who_is drive t p flat k faithful));
+  drives = ap (λ (x : Stored _). x.segs.pages.volumes.drives) rest;
+}

@@ -1,0 +1,20 @@
+use mir.Val.{of_z, to_z}
+use Rattle.std.proofs.Common.{subst, w32}
+use Rattle.std.specs.Prelude.{ℤ}
+use Rattle.std.proofs.lemmas.Int.{to_z-of_z}
+use Rattle.script.specs.declared.commands.Command.TheVariants.{Move}
+use Rattle.machine_tables.specs.Committed.{TakesEffect}
+use Rattle.machine_tables.proofs.CommitLaws.{move_committed}
+use Rattle.machine_tables.proofs.committing.move_quota.Goals as goal
+
+pub returns : goal.returns
+returns g c = λ k. subst (λ (amount : ℤ). TakesEffect g.D.Drive.pages c.args.store.now c.move_quota-reply.new.self k
+    (Move c.args.path.now amount) c.move_quota-reply.result) (to_z-of_z w32 c.args.amount c.ranges.amount)
+    (move_committed g.D.Drive.pages c.args.store.now c.move_quota-reply.new.self
+    k c.args.path.now (to_z w32 (of_z w32 c.args.amount)) c.move_quota-reply.result
+    c.accounts_of-before.ensures.columns c.accounts_of-after.ensures.columns
+    (record {
+      answer = c.move_quota-reply.ensures.answer;
+      effect = c.move_quota-reply.ensures.effect;
+    })
+    c.move_quota-reply.ensures.done c.move_quota-reply.ensures.rest)

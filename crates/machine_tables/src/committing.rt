@@ -1,0 +1,120 @@
+//! Tree commands take effect in the store, exactly as in the machine's model.
+
+ghost use Rattle.std.specs.Prelude.{◌≡◌, ◌<◌, ◌≤◌, ◌^◌, ℕ, None, length};
+ghost use Rattle.accounts.specs.Maps.{HasColumns};
+ghost use Rattle.tree_model.specs.Trees.{AreBelow, IsTree};
+ghost use Rattle.script.specs.declared.commands.Command.TheVariants.{Acl, Initiate, Length, MkDir, MkSeg, Move};
+ghost use Rattle.script.specs.declared.commands.Command.TheVariants.{Status, Terminate};
+ghost use Rattle.seg_control.specs.Control.{leads_at};
+ghost use Rattle.storage_ops.specs.Shown.{IsCutAt, IsInactiveAt};
+ghost use Rattle.machine_tables.specs.Committed.{TakesEffect};
+
+use accounts::Accounts;
+use book::Reply;
+use mnames::{Mode, Path, Row};
+use storage_ops::Store;
+use volumes::Drive;
+
+/// The accounts of a store, with what is true of them between calls.
+pub(crate) fn accounts_of<D: Drive>(store: &Store<D>) -> &Accounts
+    ensures accounts { result.now ≡ store.now.accounts }
+    ensures columns { HasColumns store.now.accounts }
+    ensures tree { IsTree store.now.accounts.nodes }
+    ensures below { AreBelow store.now.accounts.next store.now.accounts.nodes }
+{
+    let accounts = store.accounts();
+    let _root = accounts.root();
+    let _next = accounts.next_uid();
+    accounts
+}
+
+/// Makes a directory, unless that is refused.
+pub(crate) fn make_dir<D: Drive>(store: &mut Store<D>, path: &Path, volume: u32) -> Reply
+    requires volume { volume < length store.old.segs.pages.volumes.drives }
+    requires uids { store.old.accounts.next < 2 ^ 31 }
+    ensures { (k : ℕ) → TakesEffect D.pages store.old store.new k (MkDir path.now volume) result }
+{
+    let _before = accounts_of(store);
+    let reply = store.make_dir(path, volume);
+    let _after = accounts_of(store);
+    reply
+}
+
+/// Makes a segment, unless that is refused.
+pub(crate) fn make_seg<D: Drive>(
+    store: &mut Store<D>,
+    process: u32,
+    path: &Path,
+    pages: u32,
+    volume: u32,
+) -> Reply
+    requires process { process < length store.old.whos }
+    requires volume { volume < length store.old.segs.pages.volumes.drives }
+    requires uids { store.old.accounts.next < 2 ^ 31 }
+    requires most { pages ≤ 256 }
+    ensures { TakesEffect D.pages store.old store.new process (MkSeg path.now pages volume) result }
+{
+    let _before = accounts_of(store);
+    let reply = store.make_seg(process, path, pages, volume);
+    let _after = accounts_of(store);
+    reply
+}
+
+/// Sets a row of a segment's access control list, unless that is refused.
+pub(crate) fn set_row<D: Drive>(store: &mut Store<D>, path: &Path, row: &Row, mode: Mode) -> Reply
+    requires { IsCutAt store.old.accounts store.old.segs path.now }
+    ensures { (k : ℕ) → TakesEffect D.pages store.old store.new k (Acl path.now row.now mode) result }
+{
+    let _before = accounts_of(store);
+    let reply = store.set_acl(path, row, mode);
+    let _after = accounts_of(store);
+    reply
+}
+
+/// Moves an amount of quota, unless that is refused.
+pub(crate) fn move_quota<D: Drive>(store: &mut Store<D>, path: &Path, amount: i32) -> Reply
+    ensures { (k : ℕ) → TakesEffect D.pages store.old store.new k (Move path.now amount) result }
+{
+    let _before = accounts_of(store);
+    let reply = store.move_quota(path, amount);
+    let _after = accounts_of(store);
+    reply
+}
+
+/// Sets the length of a segment, unless that is refused.
+pub(crate) fn set_length<D: Drive>(store: &mut Store<D>, path: &Path, pages: u32) -> Reply
+    requires inactive { IsInactiveAt store.old.accounts store.old.segs path.now }
+    requires most { pages ≤ 256 }
+    ensures { (k : ℕ) → TakesEffect D.pages store.old store.new k (Length path.now pages) result }
+{
+    let _before = accounts_of(store);
+    let reply = store.set_length(path, pages);
+    let _after = accounts_of(store);
+    reply
+}
+
+/// A process knows a segment by a number, unless that is refused.
+pub(crate) fn initiate<D: Drive>(store: &mut Store<D>, process: u32, path: &Path) -> Reply
+    requires { process < length store.old.segs.links.known }
+    ensures { TakesEffect D.pages store.old store.new process (Initiate path.now) result }
+{
+    let _segs = store.segs();
+    store.initiate(process, path)
+}
+
+/// A number of a process stands for nothing, unless that is refused.
+pub(crate) fn terminate<D: Drive>(store: &mut Store<D>, process: u32, number: u32) -> Reply
+    requires process { process < length store.old.segs.links.known }
+    requires cut { leads_at store.old.segs.links.descriptors process number ≡ None }
+    ensures { TakesEffect D.pages store.old store.new process (Terminate number) result }
+{
+    let _segs = store.segs();
+    store.terminate(process, number)
+}
+
+/// Tells of a directory or a segment.
+pub(crate) fn status<D: Drive>(store: &mut Store<D>, path: &Path) -> Reply
+    ensures { (k : ℕ) → TakesEffect D.pages store.old store.new k (Status path.now) result }
+{
+    store.status(path)
+}
