@@ -57,7 +57,7 @@ pub segment_uid : (ns : List Node) (path : List (List ℕ)) (n : Node) → segme
     → uid_of_node (node_at ns path) ≡ n.uid
 segment_uid ns path n h = leads_to ns path n (segment_node ns path n h)
 
-branch_node : (ns : List Node) (path : List (List ℕ)) (n : Node) → branch_at ns path ≡ Ok n → node_at ns path ≡ Ok n
+pub branch_node : (ns : List Node) (path : List (List ℕ)) (n : Node) → branch_at ns path ≡ Ok n → node_at ns path ≡ Ok n
 branch_node ns [] n h = absurd (let no : Err reply.Root ≡ Ok n = h in cc)
 branch_node ns (name ∷ names) n h = h
 

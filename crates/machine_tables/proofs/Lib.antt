@@ -10,10 +10,13 @@ pub mod CommandLaws
 pub mod CommitLaws
 pub mod CreateLaws
 pub mod CutLaws
+pub mod DeleteLaws
+pub mod DeletedLaws
 pub mod FailedLaws
 pub mod FirstLaws
 pub mod FrameLaws
 pub mod GainLaws
+pub mod GoneLaws
 pub mod JobLaws
 pub mod JoinLaws
 pub mod LeftLaws

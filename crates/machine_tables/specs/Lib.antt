@@ -7,5 +7,6 @@ pub mod Meant
 pub mod Owned
 pub mod Parts
 pub mod Reading
+pub mod Ready
 pub mod Returned
 pub mod Taken

@@ -1,13 +1,16 @@
 //! Tree commands take effect in the store, exactly as in the machine's model.
 
-ghost use Rattle.std.specs.Prelude.{◌≡◌, ◌<◌, ◌≤◌, ◌^◌, ℕ, None, length};
+ghost use Rattle.std.specs.Prelude.{◌≡◌, ◌<◌, ◌≤◌, ◌^◌, ℕ, List, None, length};
 ghost use Rattle.accounts.specs.Maps.{HasColumns};
 ghost use Rattle.tree_model.specs.Trees.{AreBelow, IsTree};
-ghost use Rattle.script.specs.declared.commands.Command.TheVariants.{Acl, Initiate, Length, MkDir, MkSeg, Move};
-ghost use Rattle.script.specs.declared.commands.Command.TheVariants.{Status, Terminate};
+ghost use Rattle.script.specs.declared.commands.Command.TheVariants.{Acl, Delete, Initiate, Length, MkDir, MkSeg};
+ghost use Rattle.script.specs.declared.commands.Command.TheVariants.{Move, Status, Terminate};
 ghost use Rattle.seg_control.specs.Control.{leads_at};
+ghost use Rattle.storage_ops.specs.Cut.{IsRemovableAt};
 ghost use Rattle.storage_ops.specs.Shown.{IsCutAt, IsInactiveAt};
-ghost use Rattle.machine_tables.specs.Committed.{TakesEffect};
+ghost use Rattle.machine_tables.specs.Committed.{IsCommitted, TakesEffect};
+ghost use Rattle.machine_tables.specs.Parts.{shown};
+ghost use Rattle.machine_tables.specs.Ready.{OwnsFor};
 
 use accounts::Accounts;
 use book::Reply;
@@ -117,4 +120,18 @@ pub(crate) fn status<D: Drive>(store: &mut Store<D>, path: &Path) -> Reply
     ensures { (k : ℕ) → TakesEffect D.pages store.old store.new k (Status path.now) result }
 {
     store.status(path)
+}
+
+/// Deletes a directory or a segment, unless that is refused.
+pub(crate) fn delete<D: Drive>(store: &mut Store<D>, path: &Path) -> Reply
+    requires { IsRemovableAt store.old.accounts store.old.segs path.now }
+    ensures { (k : ℕ) (frames : List ℕ) → OwnsFor (shown D.pages store.old) frames (Delete path.now)
+        → IsCommitted D.pages store.old store.new k frames (Delete path.now) result }
+{
+    let _before = accounts_of(store);
+    let _volumes = store.segs().pages().volumes().count();
+    let reply = store.delete(path);
+    let _after = accounts_of(store);
+    let _segs = store.segs();
+    reply
 }

@@ -1,0 +1,321 @@
+-- A node that is deleted, exactly.
+use Rattle.std.proofs.Common.{◌≡◌, ◌≢◌, ◌<◌, ℕ, ◌+◌, ◌-◌, Bool, true, false, not, ◌&&◌, cond, eqb, is_some, length, map}
+use Rattle.std.proofs.Common.{count_by}
+use Rattle.std.proofs.Common.{List, [], ◌∷◌, get_or, Option, Some, None, refl, sym, ap, subst, ◌∙◌, arith, inl, inr}
+use Rattle.std.specs.Prelude.{Result, Ok, Err, filter}
+use Rattle.std.specs.List.{range_with_len}
+use Rattle.std.proofs.lemmas.Bool.{cases_eq, cases_lt, ne_eqb, eq-eqb}
+use Rattle.std.proofs.lemmas.List.{get_or_past, length-map}
+use Rattle.std.proofs.lemmas.List.Sums.{sum_by-cons}
+use Rattle.script.specs.Plans.{Plan}
+use Rattle.script.specs.declared.commands.Command.TheVariants as command
+use Rattle.book.specs.declared.replies.Reply.{Reply}
+use Rattle.book.specs.declared.replies.Reply.TheVariants as reply
+use Rattle.accounts.specs.Maps.{AccountMaps, HasColumns, count_of}
+use Rattle.tree_model.specs.Tree.{InSegment, LeadsTo, Missing, Node, Walk, node_in, walk_in, without_node}
+use Rattle.tree_model.specs.Trees.{IsTree}
+use Rattle.custody_model.specs.Custody.{has}
+use Rattle.flat_model.specs.Branches.{branch_at, node_at, there_or, walked}
+use Rattle.flat_model.specs.Commands.{takes_effect}
+use Rattle.flat_model.specs.Making.{after_delete, delete_of, delete_reply, deleted}
+use Rattle.flat_model.specs.Pages.{without_stored}
+use Rattle.flat_model.specs.Store.{Store}
+use Rattle.page_table.specs.declared.Ptw.{Ptw}
+use Rattle.page_table.specs.declared.Ptw.TheVariants.{Leaving, Null}
+use Rattle.vtoc.specs.Vtoc.{Entry, uid_of}
+use Rattle.volumes.specs.Volumes.{HasParts}
+use Rattle.active_segs.specs.Active.{ActiveSegs, IsActive, deactivated, uid_at as uid_in_place}
+use Rattle.page_control.specs.declared.Home.{Home}
+use Rattle.page_control.specs.Effects.{erased}
+use Rattle.page_control.specs.Plain.{Plain, filed, plain, vtoc_of}
+use Rattle.page_control.specs.Tied.{has_record, uid_at}
+use Rattle.page_control.specs.Ties.{IsTied}
+use Rattle.seg_control.specs.Control.{is_for, place_of, table_of, word_of}
+use Rattle.seg_control.specs.Kept.{IsInactive, IsKept}
+use Rattle.storage_ops.specs.Cut.{Commits, KeepsRest}
+use Rattle.storage_ops.specs.CutOff.{Erases, paged, pages_cut, pages_from}
+use Rattle.storage_ops.specs.Shown.{IsStore, Shows, Storage as Stored, home_of, is_there, pages_in}
+use Rattle.storage_ops.proofs.Changed.{branch_refuses}
+use Rattle.machine_model.specs.Commits.{frames_freed, inactive_if, lost, with_deleted, with_effect}
+use Rattle.machine_model.specs.Jobs.{with_inactive}
+use Rattle.machine_model.specs.Keeps.{IsFaithful}
+use Rattle.machine_model.specs.Reads.{is_active}
+use Rattle.machine_model.specs.Refusal.{uid_at_path}
+use Rattle.machine_model.specs.State.{Storage}
+use Rattle.machine_model.specs.Steps.{with_pages}
+use Rattle.machine_model.proofs.ActiveSeen.{active_place, within_some}
+use Rattle.machine_model.proofs.QuotaTotals.{found_uid}
+use Rattle.machine_model.proofs.TieLaws.{none_some}
+use Rattle.machine_model.proofs.TransferKept.{active_at}
+use Rattle.machine_model.proofs.WordLaws.{word_within}
+use Rattle.machine_tables.specs.Committed.{IsCommitted}
+use Rattle.machine_tables.specs.Parts.{shown}
+use Rattle.machine_tables.specs.Ready.{OwnsAll, OwnsFor}
+use Rattle.machine_tables.proofs.CommitLaws.{branch_node, branch_uid, flat_after}
+use Rattle.machine_tables.proofs.DeleteLaws.{IsNamed, IsUsed, cut_erased, cut_inactive, freed_alike, leaving_in}
+use Rattle.machine_tables.proofs.DeleteLaws.{freed_rest, owned_alike}
+use Rattle.machine_tables.proofs.GoneLaws.{entry_kept, lost_is}
+use Rattle.machine_tables.proofs.RefusalLaws.{shows_of}
+
+-- ---- stored pages of other segments
+
+abbrev tally : Bool → ℕ
+tally b = cond b 1 0
+
+count_kept : (s uid : ℕ) → s ≢ uid → (xs : List (ℕ × ℕ))
+    → count_by (λ x. eqb x.0 s) (filter (λ x. not (eqb x.0 uid && true)) xs) ≡ count_by (λ x. eqb x.0 s) xs
+count_kept s uid ne [] = refl
+count_kept s uid ne (x ∷ xs) =
+    let rest = count_kept s uid ne xs in
+    let all = sum_by-cons (λ (y : ℕ × ℕ). tally (eqb y.0 s)) x xs in
+    elim (cases_eq x.0 uid) [
+      | inl is ↦ ap (λ (b : Bool). count_by (λ y. eqb y.0 s) (cond (not (b && true)) (x ∷ kept) kept))
+          (eq-eqb x.0 uid is)
+          ∙ (let none = ap tally (ne_eqb x.0 s (λ e. ne (sym e ∙ is))) in omega (arith, rest, all, none))
+      | inr isnt ↦ ap (λ (b : Bool). count_by (λ y. eqb y.0 s) (cond (not (b && true)) (x ∷ kept) kept))
+          (ne_eqb x.0 uid isnt)
+          ∙ (let more = sum_by-cons (λ (y : ℕ × ℕ). tally (eqb y.0 s)) x kept in omega (arith, rest, all, more))
+    ]
+  where
+    kept : List (ℕ × ℕ)
+    kept = filter (λ y. not (eqb y.0 uid && true)) xs
+
+-- ---- the home of a node
+
+module _ (st : Storage) (uid : ℕ) (kept : IsKept st.pages st.ast st.links)
+    (counted : IsStore st.pages st.ast st.links st.accounts st.whos)
+    (parts : HasParts st.pages.disks st.pages.records st.pages.vtocs) (there : is_there st.accounts.nodes uid ≡ true)
+  where
+    abbrev home : Home
+    home = home_of st.accounts uid
+
+    home_used : uid_at st.pages.vtocs home ≡ Some uid
+    home_used = counted.housed.homes uid there
+
+    home_within : IsUsed st.pages home
+    home_within = by (get_or (vtoc_of st.pages home.volume) home.entry None) refl
+      where
+        volume : home.volume < length st.pages.vtocs
+        volume = elim (cases_lt home.volume (length st.pages.vtocs)) [
+          | inl lt ↦ lt
+          | inr le ↦ absurd (none_some (sym (ap (λ (t : List (Option Entry)). uid_of (get_or t home.entry None))
+              (get_or_past st.pages.vtocs home.volume [] le)) ∙ home_used))
+        ]
+
+        records : home.volume < length st.pages.records
+        records =
+            let tables = parts.tables in
+            let sizes = ap length parts.sizes in
+            let flags = length-map st.pages.records (λ (x : List Bool). length x) in
+            let drives = length-map st.pages.disks (λ (x : List (List ℕ)). length x) in
+            omega (arith, volume, tables, sizes, flags, drives)
+
+        by : (x : Option Entry) → get_or (vtoc_of st.pages home.volume) home.entry None ≡ x → IsUsed st.pages home
+        by None e = absurd (none_some (sym (ap uid_of e) ∙ home_used))
+        by (Some entry) e = record {
+          volume = volume;
+          records = records;
+          entry = elim (cases_lt home.entry (length (vtoc_of st.pages home.volume))) [
+            | inl lt ↦ lt
+            | inr le ↦ absurd (none_some (sym (get_or_past (vtoc_of st.pages home.volume) home.entry None le) ∙ e))
+          ];
+          used = entry;
+          is = e;
+        }
+
+    names : (n : ℕ) → is_active st.ast uid ≡ true
+        → IsNamed (record { pages = st.pages; ast = st.ast; stored = n }) home uid
+    names n active = record {
+      used = home_within;
+      named = λ q some. some_is (filed st.pages home q)
+          (tie.map.stored q ∙ has_word (word_of st.ast uid q) some);
+    }
+      where
+        tie : IsTied st.pages uid home (table_of st.ast uid)
+        tie = kept.paged.ties (place_of st.ast.entries uid) uid home (active_place st.ast uid active).1
+            (record { used = home_used; only = λ other e. counted.housed.only other uid e })
+
+        has_word : (w : Ptw) → w ≢ Null → has_record w ≡ true
+        has_word Null ne = absurd (ne refl)
+        has_word w ne = refl
+
+        some_is : (o : Option ℕ) → is_some o ≡ true → (r : ℕ) × (o ≡ Some r)
+        some_is None h = absurd (let no : false ≡ true = h in cc)
+        some_is (Some r) h = (r, refl)
+
+    -- of a node that isn't active no page is on its way out
+    idle_frames : (frames : List ℕ) → is_active st.ast uid ≡ false → OwnsAll st uid frames → (g : ℕ)
+        → has frames g ≡ has [] g
+    unfolding place_of
+    idle_frames frames idle owns g = by (has frames g) refl
+      where
+        by : (b : Bool) → has frames g ≡ b → b ≡ false
+        by false e = refl
+        by true e = absurd (let page = owns.pages g e in
+            let some : word_of st.ast uid page.0 ≢ Null = λ null. (let no : Null ≡ Leaving g = sym null ∙ page.2 in cc) in
+            let within = (word_within st.ast uid page.0 some).0 in
+            let active = within_some (is_for uid) st.ast.entries
+            (subst (λ (n : ℕ). place_of st.ast.entries uid < n) kept.places within) in
+            let no : true ≡ false = sym active ∙ idle in cc)
+
+-- ---- the store
+
+module _ {D : Type 0} (drive : D → List (List ℕ)) (t u : Stored D) (path : List (List ℕ)) (r : Reply)
+    (before : HasColumns t.accounts) (after : HasColumns u.accounts) (tree : IsTree t.accounts.nodes)
+    (now_tree : IsTree u.accounts.nodes)
+    (kept : IsKept (plain drive t.segs.pages) t.segs.ast t.segs.links)
+    (counted : IsStore (plain drive t.segs.pages) t.segs.ast t.segs.links t.accounts t.whos)
+    (now_counted : IsStore (plain drive u.segs.pages) u.segs.ast u.segs.links u.accounts u.whos)
+    (parts : HasParts (map drive t.segs.pages.volumes.drives) t.segs.pages.volumes.records
+    t.segs.pages.volumes.vtocs)
+    (rest : KeepsRest t u) where
+  abbrev st : Storage
+  st = shown drive t
+
+  -- page control and the active segments, and the accounts
+  module _ (n : Node) (frames : List ℕ) (owns : OwnsAll st n.uid frames)
+      (there : is_there t.accounts.nodes n.uid ≡ true)
+      (erases : Erases drive t u n.uid) where
+    abbrev freed : Plain
+    freed = erased (frames_freed st.pages frames) (home_of t.accounts n.uid)
+
+    record HasErased : Type 0 where
+      pub pages : plain drive u.segs.pages ≡ freed
+      pub ast : u.segs.ast ≡ (inactive_if (with_pages st freed) n.uid).ast
+
+    active_erased : is_active st.ast n.uid ≡ true → HasErased
+    active_erased active =
+        let place = active_place st.ast n.uid active in
+        let both = erases.active (place_of st.ast.entries n.uid, place.1) in
+        let size = pages_in t.accounts.nodes n.uid in
+        let count : size - 0 ≡ size = omega arith in
+        record {
+          pages = both.0
+              ∙ (ap (λ (k : ℕ). erased (pages_cut (paged drive t n.uid) (home_of t.accounts n.uid) n.uid
+              (range_with_len 0 k)).pages (home_of t.accounts n.uid)) count
+              ∙ (cut_erased (paged drive t n.uid) (home_of t.accounts n.uid) n.uid 0 size
+              (names st n.uid kept counted parts there (count_of t.accounts n.uid) active)
+              ∙ ap (λ (x : Plain). erased x (home_of t.accounts n.uid))
+              (sym (freed_alike st.pages frames _ (owned_alike st n.uid frames owns)))));
+          ast = both.1 ∙ (cut_inactive (paged drive t n.uid) (home_of t.accounts n.uid) n.uid (pages_from 0 size)
+              ∙ sym (ap (λ (b : Bool). (cond b (with_inactive (with_pages st freed) n.uid) (with_pages st freed)).ast)
+              active));
+        }
+
+    idle_erased : is_active st.ast n.uid ≡ false → HasErased
+    idle_erased idle =
+        let both = erases.inactive (record {
+          nowhere = λ place at. (let no : true ≡ false = sym (active_at st.ast place n.uid at) ∙ idle in cc);
+        }) in
+        record {
+          pages = both.0 ∙ ap (λ (x : Plain). erased x (home_of t.accounts n.uid))
+              (sym (freed_alike st.pages frames []
+              (idle_frames st n.uid kept counted parts there frames idle owns)));
+          ast = both.1
+              ∙ sym (ap (λ (b : Bool). (cond b (with_inactive (with_pages st freed) n.uid) (with_pages st freed)).ast)
+              idle);
+        }
+
+    has_erased : HasErased
+    has_erased = by (is_active st.ast n.uid) refl
+      where
+        by : (b : Bool) → is_active st.ast n.uid ≡ b → HasErased
+        by true e = active_erased e
+        by false e = idle_erased e
+
+  -- the accounts, and what leads to segments
+  module _ (n : Node) (frames : List ℕ) (p : Plan) (flat : Store) (faithful : IsFaithful p flat st)
+      (now : Shows drive p (deleted flat (Ok n)) u) (pages : plain drive u.segs.pages
+      ≡ erased (frames_freed (plain drive t.segs.pages) frames) (home_of t.accounts n.uid)) where
+    left_counts : (s : ℕ) → s ≢ n.uid → count_of u.accounts s ≡ count_of t.accounts s
+    unfolding without_stored
+    left_counts s other = now.tree.counts s
+        ∙ (count_kept s n.uid other flat.stored ∙ sym (faithful.tree.counts s))
+
+    vtocs : u.segs.pages.volumes.vtocs
+        ≡ (erased (plain drive t.segs.pages) (home_of t.accounts n.uid)).vtocs
+    vtocs = ap (λ (x : Plain). x.vtocs) pages
+        ∙ ap (λ (x : Plain). (erased x (home_of t.accounts n.uid)).vtocs)
+        (freed_rest (plain drive t.segs.pages) frames)
+
+    accounts_lost : u.accounts ≡ lost t.accounts n.uid
+    accounts_lost = lost_is t.accounts u.accounts n.uid before after tree now_tree
+        (sym now.tree.nodes ∙ ap (λ (ns : List Node). without_node ns n.uid) faithful.tree.nodes)
+        (sym now.tree.next ∙ faithful.tree.next) left_counts
+        (entry_kept t.accounts u.accounts t.segs.pages.volumes.vtocs u.segs.pages.volumes.vtocs n.uid counted.housed
+        now_counted.housed vtocs)
+
+    links_left : u.segs.links ≡ t.segs.links
+    links_left = (λ i. record {
+      trailers = rest.trailers i;
+      known = (sym now.known ∙ faithful.known) i;
+      descriptors = rest.descriptors i;
+    })
+
+  inactive_rest : (x : Storage) (uid : ℕ) → inactive_if x uid ≡ record x { ast = (inactive_if x uid).ast }
+  inactive_rest x uid = by (is_active x.ast uid)
+    where
+      by : (b : Bool) → cond b (with_inactive x uid) x ≡ record x { ast = (cond b (with_inactive x uid) x).ast }
+      by true = refl
+      by false = refl
+
+  node_there : (ns : List Node) (n : Node) → node_at ns path ≡ Ok n → is_there ns n.uid ≡ true
+  unfolding node_at
+  node_there ns n h = by (walk_in ns path) h
+    where
+      found : (v : ℕ) (x : Option Node) → node_in ns v ≡ x → there_or x ≡ Ok n → is_there ns n.uid ≡ true
+      found v None e i = absurd (let no : ◌≡◌ {A = Result Node Reply} (Err reply.NoPath) (Ok n) = i in cc)
+      found v (Some m) e i =
+          let same : m ≡ n = (let both : ◌≡◌ {A = Result Node Reply} (Ok m) (Ok n) = i in cc) in
+          let own : m.uid ≡ v = found_uid ns v m e in
+          ap (λ (y : Node). is_there ns y.uid) (sym same)
+          ∙ (ap (is_there ns) own ∙ ap (λ (o : Option Node). is_some o) e)
+
+      by : (w : Walk) → walked ns w ≡ Ok n → is_there ns n.uid ≡ true
+      by (LeadsTo v) i = found v (node_in ns v) refl i
+      by Missing i = absurd (let no : ◌≡◌ {A = Result Node Reply} (Err reply.NoPath) (Ok n) = i in cc)
+      by InSegment i = absurd (let no : ◌≡◌ {A = Result Node Reply} (Err reply.NotDir) (Ok n) = i in cc)
+
+  -- the store once it takes effect
+  deleted_exact : (n : Node) (frames : List ℕ) (p : Plan) (flat : Store) → branch_at t.accounts.nodes path ≡ Ok n
+      → OwnsAll st n.uid frames → Erases drive t u n.uid → IsFaithful p flat st
+      → Shows drive p (deleted flat (Ok n)) u → shown drive u ≡ with_deleted st n.uid frames
+  deleted_exact n frames p flat at owns erases faithful now =
+      let there = node_there t.accounts.nodes n (branch_node t.accounts.nodes path n at) in
+      let erased_it = has_erased n frames owns there erases in
+      let next = with_pages st (erased (frames_freed st.pages frames) (home_of t.accounts n.uid)) in
+      (λ i. record {
+        accounts = accounts_lost n frames p flat faithful now erased_it.pages i;
+        pages = erased_it.pages i;
+        ast = erased_it.ast i;
+        links = links_left n frames p flat faithful now erased_it.pages i;
+        whos = rest.whos i;
+      })
+      ∙ sym (ap (λ (x : Storage). record x { accounts = lost t.accounts n.uid }) (inactive_rest next n.uid))
+
+  pub delete_committed : (k : ℕ) (frames : List ℕ) → OwnsFor st frames (command.Delete path)
+      → Commits drive t u k (command.Delete path) r
+      → (takes_effect r ≡ true → (n : Node) → branch_at t.accounts.nodes path ≡ Ok n → Erases drive t u n.uid)
+      → IsCommitted drive t u k frames (command.Delete path) r
+  unfolding after_delete delete_reply
+  delete_committed k frames owns does erases = record {
+    does = does;
+    exact = λ p flat faithful takes. by p flat faithful takes (branch_at flat.nodes path) refl;
+    drives = rest.drives;
+  }
+    where
+      by : (p : Plan) (flat : Store) → IsFaithful p flat st → takes_effect r ≡ true → (x : Result Node Reply)
+          → branch_at flat.nodes path ≡ x
+          → shown drive u ≡ with_effect st k (uid_at_path st path) frames (command.Delete path)
+      by p flat faithful takes (Err q) e = absurd (
+          let is : r ≡ q = does.answer p flat (shows_of drive p flat t faithful) ∙ ap (delete_of flat.nodes) e in
+          let no : false ≡ true = sym (branch_refuses flat.nodes path q e) ∙ (ap takes_effect (sym is) ∙ takes) in cc)
+      by p flat faithful takes (Ok n) e =
+          let at : branch_at t.accounts.nodes path ≡ Ok n =
+          ap (λ (ns : List Node). branch_at ns path) (sym faithful.tree.nodes) ∙ e in
+          let now = flat_after drive t u p flat (after_delete flat path) r takes
+          (does.effect p flat (shows_of drive p flat t faithful)) in
+          deleted_exact n frames p flat at (owns n at) (erases takes n at) faithful
+          (subst (λ (x : Result Node Reply). Shows drive p (deleted flat x) u) e now)
+          ∙ ap (λ (v : ℕ). with_effect st k v frames (command.Delete path))
+          (sym (branch_uid t.accounts.nodes path n at))
