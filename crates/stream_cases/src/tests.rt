@@ -1,4 +1,6 @@
-use site_io::{Gate, HoldGate, MemorySource, NoGate, Point, Sink, Source, StdSink, StdSource, read_all};
+use site_io::{
+    Gate, HoldGate, MemorySource, NoGate, Point, Sink, Source, StdSink, StdSource, read_all,
+};
 use std::sync::Wait;
 use std::test::Fail;
 use std::thread;
