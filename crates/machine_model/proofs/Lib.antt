@@ -134,6 +134,7 @@ pub mod TruncateKept
 pub mod TruncateRests
 pub mod Truncation
 pub mod TwoTransfers
+pub mod UidsFew
 pub mod VictimLaws
 pub mod Victims
 pub mod VisitKept

@@ -79,7 +79,7 @@ AllSegs P [] = Unit {0}
 AllSegs P (e ∷ es) = P e × AllSegs P es
 
 -- a descriptor that is found is one of those held
-seg_found : (P : HeldSeg → Type 0) (es : List HeldSeg) (n : ℕ) (e : HeldSeg) → find (is_number n) es ≡ Some e
+pub seg_found : (P : HeldSeg → Type 0) (es : List HeldSeg) (n : ℕ) (e : HeldSeg) → find (is_number n) es ≡ Some e
     → AllSegs P es → P e
 seg_found P [] n e h all = absurd (none_some h)
 seg_found P (x ∷ xs) n e h all = by (is_number n x) h (λ i. seg_found P xs n e i all.1)
@@ -88,13 +88,13 @@ seg_found P (x ∷ xs) n e h all = by (is_number n x) h (λ i. seg_found P xs n 
     by true i rest = let same : x ≡ e = cc in subst P same all.0
     by false i rest = rest i
 
-entitled_all : (s : State) (k : ℕ) (es : List HeldSeg)
+pub entitled_all : (s : State) (k : ℕ) (es : List HeldSeg)
     → AreEntitled s.store.accounts.nodes s.store.whos s.store.links.known k es
     → AllSegs (IsEntitled s.store.accounts.nodes s.store.whos s.store.links.known k) es
 entitled_all s k [] h = tt
 entitled_all s k (e ∷ es) h = (h.0, entitled_all s k es h.1)
 
-leads_all : (d : ℕ → ℕ → DescriptorUse) (k : ℕ) (es : List HeldSeg) → AreHeldSegs d k es
+pub leads_all : (d : ℕ → ℕ → DescriptorUse) (k : ℕ) (es : List HeldSeg) → AreHeldSegs d k es
     → AllSegs (λ e. leads_to (d k e.number) ≡ Some e.uid) es
 leads_all d k [] h = tt
 leads_all d k (e ∷ es) h = (h.0, leads_all d k es h.1)

@@ -90,7 +90,7 @@ reference_same s k r = by (known_uid s k r.number)
     by None = refl
     by (Some u) = wrote u (alters r.kind)
 
-effect_same : (p : Plan) (s : Store) (k : ℕ) (c : Command) → (effect_of p s k c).processes ≡ s.processes
+pub effect_same : (p : Plan) (s : Store) (k : ℕ) (c : Command) → (effect_of p s k c).processes ≡ s.processes
 effect_same p s k c = by (reference_of c)
   where
     by : (o : Option Reference) → (effect_by p s k c o).processes ≡ s.processes
