@@ -28,7 +28,10 @@ use Rattle.machine_model.specs.Reads.{or_zero}
 use Rattle.machine_model.specs.Refusal.{uid_of_command, uid_of_node}
 use Rattle.machine_model.specs.State.{State, Storage}
 use Rattle.machine_model.specs.Taking.{GoesJust, IsAlone, IsTakenBy, IsTakenFor, TakenIn, TakenTo, TakesDescriptor}
-use Rattle.machine_model.specs.Taking.{TakesPage}
+use Rattle.machine_model.specs.Taking.{TakesPage, WasBrought}
+use Rattle.machine_model.proofs.OutLaws.{NoneOut}
+use Rattle.machine_model.specs.Reads.{is_active}
+use Rattle.std.specs.Prelude.{◌/◌}
 use Rattle.machine_model.proofs.FlatAlike.{append_assoc, append_nil}
 use Rattle.machine_model.proofs.Places.{by_place}
 use Rattle.machine_model.proofs.TieLaws.{none_some, page_is}
@@ -165,8 +168,32 @@ alone_same old now u c same h = subst (λ (ns : List Node). IsAlone ns u c) (sym
 pub record LeavesTaken (s now : State) : Type 1 where
   pub nodes : now.store.accounts.nodes ≡ s.store.accounts.nodes
   pub known : now.store.links.known ≡ s.store.links.known
+  pub active : (u : ℕ) → is_active now.store.ast u ≡ is_active s.store.ast u
+  pub out : NoneOut s.store.ast now.store.ast
   pub just : (Page : ℕ → ℕ → Type 0) (Descriptor : ℕ → ℕ → ℕ → Type 0) → GoesJust (holding s) Page Descriptor
       → GoesJust (holding now) Page Descriptor
+
+-- what was brought for a command
+pub brought_on : (old now : Storage) (u : ℕ) (c : Command) → (is_active old.ast u ≡ true → is_active now.ast u ≡ true)
+    → NoneOut old.ast now.ast → WasBrought old u c → WasBrought now u c
+brought_on old now u (command.Truncate path words) active out h = (
+  active h.0,
+  λ cut. out u (words / 1024) (h.1 cut),
+)
+brought_on old now u (command.MkDir path volume) active out h = tt
+brought_on old now u (command.MkSeg path pages volume) active out h = tt
+brought_on old now u (command.Initiate path) active out h = tt
+brought_on old now u (command.Terminate n) active out h = tt
+brought_on old now u (command.Acl path row m) active out h = tt
+brought_on old now u (command.Length path pages) active out h = tt
+brought_on old now u (command.Delete path) active out h = tt
+brought_on old now u (command.Move path amount) active out h = tt
+brought_on old now u (command.Status path) active out h = tt
+brought_on old now u (command.Read n w) active out h = tt
+brought_on old now u (command.Write n w x) active out h = tt
+brought_on old now u (command.Add n w x) active out h = tt
+brought_on old now u (command.Await n w x t) active out h = tt
+brought_on old now u command.End active out h = tt
 
 taken_for : (s now : State) (k : ℕ) (c : Command) → LeavesTaken s now → IsTakenFor s k c → IsTakenFor now k c
 taken_for s now k c l h = record {
@@ -174,6 +201,8 @@ taken_for s now k c l h = record {
       (l.just (TakesPage c (uid_of_command s.store k c)) (TakesDescriptor c k (uid_of_command s.store k c)) h.just);
   alone = subst (λ (u : ℕ). IsAlone now.store.accounts.nodes u c) (sym same)
       (alone_same s.store.accounts.nodes now.store.accounts.nodes (uid_of_command s.store k c) c l.nodes h.alone);
+  brought = subst (λ (u : ℕ). WasBrought now.store u c) (sym same)
+      (brought_on s.store now.store (uid_of_command s.store k c) c (λ e. l.active _ ∙ e) l.out h.brought);
 }
   where
     same : uid_of_command now.store k c ≡ uid_of_command s.store k c

@@ -20,7 +20,7 @@ use Rattle.descriptor_seg.specs.declared.Sdw.TheVariants as sdw
 use Rattle.core_map.specs.CoreMap.{Core, frame_at, reads_of, started_page}
 use Rattle.core_map.specs.declared.Frame.TheVariants as frame
 use Rattle.page_control.specs.Plain.{Plain, binding_at, bindings}
-use Rattle.seg_control.specs.Control.{sdws_at, table_of}
+use Rattle.seg_control.specs.Control.{is_for, sdws_at, table_of}
 use Rattle.seg_control.specs.Kept.{read_at}
 use Rattle.custody_model.specs.Custody.{has, is_going_descriptor, is_going_frame, leads_to, page_of}
 use Rattle.custody_model.specs.Next.{at_put_two}
@@ -39,6 +39,12 @@ use Rattle.machine_model.specs.Refusal.{refusal_of, uid_of_command}
 use Rattle.machine_model.specs.Seen.{Seen, bound_use, cut_uid, descriptor_use, frame_use, is_cut_at, shown}
 use Rattle.machine_model.specs.State.{State}
 use Rattle.machine_model.specs.Taking.{GoesJust, IsAlone, IsTakenFor, TakesDescriptor, TakesPage}
+use Rattle.machine_model.specs.Taking.{WasBrought}
+use Rattle.active_segs.specs.declared.Entry.{Entry as Segment}
+use Rattle.machine_model.proofs.ChainFacts.{chain_active}
+use Rattle.machine_model.proofs.JustLaws.{brought_on}
+use Rattle.machine_model.proofs.LookFacts.{IsBrought}
+use Rattle.machine_model.proofs.OutLaws.{took_out}
 use Rattle.machine_model.proofs.ChainLaws.{names_uid}
 use Rattle.machine_model.proofs.CommandFacts.{delete_stands}
 use Rattle.machine_model.proofs.FindLaws.{position_none}
@@ -486,6 +492,25 @@ module _ (s : State) (k : ℕ) (keeps : Keeps s) where
       ap (λ (u : ℕ). list_any (is_inferior u) s.store.accounts.nodes) leads_there.uid ∙ leads_there.empty
   alone_found cmd stands = tt
 
+-- what a `truncate` wants is there before it takes
+brought_found : (s : State) → Keeps s → (u : ℕ) (cmd : Command) → IsBrought s u cmd → WasBrought s.store u cmd
+brought_found s keeps u (command.Truncate path words) h =
+    (chain_active s.store.accounts.nodes keeps.store.accounts.tree s.store.ast u h.0, h.1)
+brought_found s keeps u (command.MkDir path volume) h = tt
+brought_found s keeps u (command.MkSeg path pages volume) h = tt
+brought_found s keeps u (command.Initiate path) h = tt
+brought_found s keeps u (command.Terminate n) h = tt
+brought_found s keeps u (command.Acl path row m) h = tt
+brought_found s keeps u (command.Length path pages) h = tt
+brought_found s keeps u (command.Delete path) h = tt
+brought_found s keeps u (command.Move path amount) h = tt
+brought_found s keeps u (command.Status path) h = tt
+brought_found s keeps u (command.Read n w) h = tt
+brought_found s keeps u (command.Write n w x) h = tt
+brought_found s keeps u (command.Add n w x) h = tt
+brought_found s keeps u (command.Await n w x t) h = tt
+brought_found s keeps u command.End h = tt
+
 -- ---- the look
 
 module _ (s : State) (c k : ℕ) (cmd : Command) (w : What) (fs : List ℕ) (pairs : List (ℕ × ℕ)) (keeps : Keeps s)
@@ -508,6 +533,11 @@ module _ (s : State) (c k : ℕ) (cmd : Command) (w : What) (fs : List ℕ) (pai
     alone = subst (λ (u : ℕ). IsAlone now.store.accounts.nodes u cmd) (sym same)
         (subst (λ (a : AccountMaps). IsAlone a.nodes (uid_of_command s.store k cmd) cmd) (sym like.accounts)
         (alone_found s k keeps cmd finds.stands));
+    brought = subst (λ (u : ℕ). WasBrought now.store u cmd) (sym same)
+        (brought_on s.store now.store (uid_of_command s.store k cmd) cmd
+        (λ e. ap (λ (es : List (Option Segment)). list_any (is_for (uid_of_command s.store k cmd)) es) like.entries ∙ e)
+        (took_out s c aim.Committing w fs pairs)
+        (brought_found s keeps (uid_of_command s.store k cmd) cmd finds.brought));
   }
     where
       now : State

@@ -66,6 +66,7 @@ pub mod MoveSeen
 pub mod NumberLaws
 pub mod OffChain
 pub mod OneProcess
+pub mod OutLaws
 pub mod OuterLaws
 pub mod OutlineAlone
 pub mod OutlineAnswer

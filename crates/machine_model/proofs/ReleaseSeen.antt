@@ -34,7 +34,7 @@ no_and : {b : Bool} → b ≡ true → b ≡ false → ⊥
 no_and t f = let none : true ≡ false = sym t ∙ f in cc
 
 -- an element of a list after one of them changed is as it was, or it is that one
-set_either : {A : Type 0} (xs : List A) (i : ℕ) (y : A) (j : ℕ) (d : A)
+pub set_either : {A : Type 0} (xs : List A) (i : ℕ) (y : A) (j : ℕ) (d : A)
     → (get_or (set xs i y) j d ≡ get_or xs j d) ⊎ ((j ≡ i) × (get_or (set xs i y) j d ≡ y))
 set_either [] i y j d = inl refl
 set_either (x ∷ xs) zero y zero d = inr (refl, refl)

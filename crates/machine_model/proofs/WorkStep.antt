@@ -40,7 +40,10 @@ use Rattle.page_control.specs.Plain.{words_in}
 use Rattle.active_segs.specs.declared.Entry.{Entry as Segment}
 use Rattle.accounts.specs.Maps.{AccountMaps}
 use Rattle.page_control.specs.Plain.{Plain}
-use Rattle.seg_control.specs.Control.{is_for}
+use Rattle.seg_control.specs.Control.{is_for, word_of}
+use Rattle.page_table.specs.declared.Ptw.TheVariants as ptw
+use Rattle.machine_model.specs.Custodial.{is_out}
+use Rattle.machine_model.proofs.OutLaws.{NoneOut, word_out}
 use Rattle.std.specs.List.{list_any}
 use Rattle.active_segs.specs.Victim.{first_off_chain, hand_past}
 use Rattle.flat_model.specs.Pages.{is_stored}
@@ -136,6 +139,7 @@ pub record Leaves (s now : State) : Type 1 where
   pub plan : now.plan ≡ s.plan
   pub less : IsLess s.store now.store
   pub active : (u : ℕ) → is_active now.store.ast u ≡ is_active s.store.ast u
+  pub out : NoneOut s.store.ast now.store.ast
   pub more : List Entry
   pub book : now.entries ≡ s.entries ++ more
   pub spares : (u : ℕ) → going_for s.owner ≡ Some u → AllSpare u more
@@ -174,6 +178,8 @@ leaves_work s now k kept w l = record {
       (taken_in o.phase s now (process_at s o.cpu) (next_command s (process_at s o.cpu)) (record {
         nodes = l.less.nodes;
         known = l.less.known;
+        active = l.active;
+        out = l.out;
         just = λ Page Descriptor j. just_on Page Descriptor s now l.more k kept l.plan l.book j
             (l.stays Page Descriptor j);
       }) (w.taken o was))));
@@ -199,6 +205,7 @@ module _ (s : State) (c : ℕ) (k : Keeps s) (w : IsWorking s) (other : IsNoOwne
     plan = plan;
     less = subst (IsLess s.store) (sym store) (same_less s.store);
     active = λ u. ap (λ (st : Storage). is_active st.ast u) store;
+    out = λ u q e. ap (λ (st : Storage). is_out (word_of st.ast u q)) store ∙ e;
     more = e ∷ [];
     book = book;
     spares = λ u h. spares u;
@@ -338,6 +345,8 @@ module _ (s : State) (c : ℕ) (k : Keeps s) (w : IsWorking s) where
       left = record {
         nodes = refl;
         known = refl;
+        active = λ u. refl;
+        out = λ u q e. e;
         just = λ Page Descriptor j. just_on Page Descriptor s (signalled s c what) (entry.Signal c what ∷ []) k kept
             refl refl j (tt, tt);
       }
@@ -492,13 +501,14 @@ module _ (s : State) (c : ℕ) (o : Outcome) (m : IsMachine s) (w : IsWorking s)
   -- another process's command is answered, through a frame or without one
   other_told : (st : Storage) (f : Option ℕ) (r : Reply) → IsNoOwner s c
       → (cpu_at s.processors c).process ≡ Some (process_at s c) → IsLess s.store st
-      → ((u : ℕ) → is_active st.ast u ≡ is_active s.store.ast u)
+      → ((u : ℕ) → is_active st.ast u ≡ is_active s.store.ast u) → NoneOut s.store.ast st.ast
       → Keeps (told (with_store s st) c f r) → IsWorking (told (with_store s st) c f r)
-  other_told st f r other its less active kept = leaves_work s (told (with_store s st) c f r) keeps kept w (record {
+  other_told st f r other its less active out kept = leaves_work s (told (with_store s st) c f r) keeps kept w (record {
     owner = refl;
     plan = refl;
     less = less;
     active = active;
+    out = out;
     more = entry.Do (process_at s c) (run_at s.runs (process_at s c)).place c f r ∷ [];
     book = refl;
     spares = λ u h. (tt, tt);
@@ -629,6 +639,7 @@ module _ (s : State) (c : ℕ) (o : Outcome) (m : IsMachine s) (w : IsWorking s)
         plan = refl;
         less = record { nodes = refl; known = refl; filed = λ u q e. e };
         active = λ u. refl;
+        out = word_out s.store.ast t.uid t.page (ptw.Here t.frame) refl;
         more = entry.Here t.frame t.uid t.page ∷ [];
         book = refl;
         spares = λ u h. (
@@ -648,6 +659,7 @@ module _ (s : State) (c : ℕ) (o : Outcome) (m : IsMachine s) (w : IsWorking s)
         plan = refl;
         less = record { nodes = refl; known = refl; filed = λ u q e. e };
         active = λ u. refl;
+        out = λ u q e. e;
         more = entry.Lose t.frame ∷ entry.Fault (Some (process_at s c))
             ∷ entry.Do (told_process t) (run_at s.runs (told_process t)).place c None reply.Device ∷ [];
         book = append_assoc (s.entries ++ entry.Lose t.frame ∷ []) (entry.Fault (Some (process_at s c)) ∷ [])
@@ -677,8 +689,8 @@ module _ (s : State) (c : ℕ) (o : Outcome) (m : IsMachine s) (w : IsWorking s)
       seat_work s c keeps w may _ _ (entry.FillPage c f) kept refl refl refl refl refl refl (λ u. (tt, tt))
       (λ Page. (tt, tt))
   work_kept (act.Through f r) may kept = other_told (with_pages s.store (pages_after s.store.pages f r)) (Some f)
-      (word_reply (old_word s.store.pages f r) r.kind) may.0 may.1 (pages_less f r) (λ u. refl) kept
-  work_kept (act.Plain r) may kept = other_told s.store None r may.0 may.1 (same_less s.store) (λ u. refl) kept
+      (word_reply (old_word s.store.pages f r) r.kind) may.0 may.1 (pages_less f r) (λ u. refl) (λ u q e. e) kept
+  work_kept (act.Plain r) may kept = other_told s.store None r may.0 may.1 (same_less s.store) (λ u. refl) (λ u q e. e) kept
   work_kept act.TakeSupervisor may kept = looking_work _ (looking c) refl refl tt (omega arith)
   work_kept (act.Answer r) may kept = none_work _ refl
   work_kept act.GiveUp may kept = none_work _ refl

@@ -1,18 +1,21 @@
 -- What the job of a tree command has taken is just what the command must have out of use (Bensoussan, Clingen and Daley
 -- 1972; own).
-use Rattle.std.specs.Prelude.{◌≡◌, ◌≤◌, ℕ, ◌/◌, true, false, List, Option, Some, None}
+use Rattle.std.specs.Prelude.{◌≡◌, ◌≤◌, ◌==◌, ℕ, ◌/◌, ◌%◌, true, false, List, Option, Some, None}
 use Rattle.std.specs.List.{list_any}
 use Rattle.script.specs.declared.commands.Command.{Command}
 use Rattle.script.specs.declared.commands.Command.TheVariants as command
 use Rattle.tree_model.specs.Tree.{Node, is_inferior}
+use Rattle.seg_control.specs.Control.{word_of}
 use Rattle.custody_model.specs.Custody.{Custody, is_going_descriptor, is_going_frame, leads_to, page_of}
 use Rattle.machine_model.specs.declared.Aim.{Aim}
 use Rattle.machine_model.specs.declared.Aim.TheVariants as aim
 use Rattle.machine_model.specs.declared.Phase.{Phase}
 use Rattle.machine_model.specs.declared.Phase.TheVariants as phase
+use Rattle.machine_model.specs.Custodial.{is_out}
 use Rattle.machine_model.specs.Holding.{holding}
+use Rattle.machine_model.specs.Reads.{is_active}
 use Rattle.machine_model.specs.Refusal.{uid_of_command}
-use Rattle.machine_model.specs.State.{State}
+use Rattle.machine_model.specs.State.{State, Storage}
 
 -- the pages that a command takes of a segment u: a `delete` all, a `truncate` those that it cuts
 abbrev pub TakesPage : Command → ℕ → ℕ → ℕ → Type 0
@@ -43,10 +46,17 @@ abbrev pub IsAlone : List Node → ℕ → Command → Type 0
 IsAlone nodes u (command.Delete path) = list_any (is_inferior u) nodes ≡ false
 IsAlone nodes u _ = Unit {0}
 
+-- the segment of a `truncate` is active, and the page that its words cut isn't on its record alone
+abbrev pub WasBrought : Storage → ℕ → Command → Type 0
+WasBrought st u (command.Truncate path words) = (is_active st.ast u ≡ true)
+    × ((words % 1024 == 0) ≡ false → is_out (word_of st.ast u (words / 1024)) ≡ false)
+WasBrought st u _ = Unit {0}
+
 pub record IsTakenFor (s : State) (k : ℕ) (c : Command) : Type 0 where
   pub just : GoesJust (holding s) (TakesPage c (uid_of_command s.store k c))
       (TakesDescriptor c k (uid_of_command s.store k c))
   pub alone : IsAlone s.store.accounts.nodes (uid_of_command s.store k c) c
+  pub brought : WasBrought s.store (uid_of_command s.store k c) c
 
 abbrev pub IsTakenBy : State → ℕ → Option Command → Type 0
 IsTakenBy s k None = Unit {0}
