@@ -69,7 +69,7 @@ uid_same v u h = cc
 
 -- ---- what goes
 
-going_page : (x : FrameUse) → is_going_frame x ≡ true → (u : ℕ) × (q : ℕ) × (page_of x ≡ Some (u, q))
+pub going_page : (x : FrameUse) → is_going_frame x ≡ true → (u : ℕ) × (q : ℕ) × (page_of x ≡ Some (u, q))
 going_page frame.Free h = absurd (no_and h refl)
 going_page (frame.Started u q) h = absurd (no_and h refl)
 going_page (frame.Current u q) h = absurd (no_and h refl)
@@ -80,7 +80,7 @@ going_led descriptor.Free h = absurd (no_and h refl)
 going_led (descriptor.Current u) h = absurd (no_and h refl)
 going_led (descriptor.Going u) h = (u, refl)
 
-none_listed : (fs : List ℕ) → ((f : ℕ) → has fs f ≡ true → ⊥) → fs ≡ []
+pub none_listed : (fs : List ℕ) → ((f : ℕ) → has fs f ≡ true → ⊥) → fs ≡ []
 none_listed [] none = refl
 none_listed (f ∷ fs) none = absurd (none f (has_head f fs))
 
@@ -114,7 +114,7 @@ module _ (s : State) (k : ℕ) (cmd : Command) (keeps : Keeps s) (h : IsTakenFor
       let at = going_led ((shown (seen s)).descriptor j n) going in (at.0, at.1, going)
 
   -- a descriptor that is connected wasn't cut
-  linked_on : (j n v : ℕ) → (seen s).linked j n ≡ Some v
+  pub linked_on : (j n v : ℕ) → (seen s).linked j n ≡ Some v
       → (leads_to ((shown (seen s)).descriptor j n) ≡ Some v)
       × (is_going_descriptor ((shown (seen s)).descriptor j n) ≡ false)
   linked_on j n v e = (

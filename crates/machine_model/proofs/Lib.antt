@@ -91,6 +91,7 @@ pub mod QuotaTotals
 pub mod RankLaws
 pub mod ReadKept
 pub mod ReadLaws
+pub mod ReadyLaws
 pub mod ReleaseSeen
 pub mod Replies
 pub mod Returnable

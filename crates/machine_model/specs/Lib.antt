@@ -20,6 +20,7 @@ pub mod Outlined
 pub mod Promise
 pub mod Reading
 pub mod Reads
+pub mod Ready
 pub mod Refusal
 pub mod Returned
 pub mod Runs
