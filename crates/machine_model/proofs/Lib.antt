@@ -118,6 +118,7 @@ pub mod CommandRests
 pub mod CommitAsks
 pub mod ForeseeAll
 pub mod ForeseeLaws
+pub mod CommitReady
 pub mod CommitRests
 pub mod CommitRights
 pub mod StepKept

@@ -7,6 +7,12 @@ use Rattle.script.specs.References.{reference_of}
 use Rattle.script.specs.declared.commands.Command.{Command}
 use Rattle.script.specs.declared.commands.Reference.{Reference}
 use Rattle.assoc_mem.specs.declared.What.{What}
+use Rattle.assoc_mem.specs.declared.What.TheVariants as what
+use Rattle.machine_model.specs.Taking.{IsTakenBy, IsTakenFor, TakenIn}
+use Rattle.machine_model.proofs.JustTaken.{look_taken}
+use Rattle.machine_model.proofs.ReadyLaws.{IsOutOfUse}
+use Rattle.machine_model.proofs.TakeAsks.{no_pages}
+use Rattle.machine_model.proofs.TookKept.{CanTook}
 use Rattle.processor.specs.declared.Move.TheVariants as move
 use Rattle.processor.specs.declared.Transfer.{Transfer}
 use Rattle.machine_model.specs.declared.Aim.{Aim}
@@ -73,7 +79,8 @@ Knows s c (act.TakeAway fs pairs w) = IsLooking s c × IsIdle s.owner × ((fs �
     × TakesSome (next_command s (process_at s c)) × FindsFor s c fs pairs
 Knows s c (act.FinishEviction f) = AnswersOne s c
 Knows s c (act.FinishPage f) = IsEmptying s c × AnswersOne s c
-Knows s c act.Commit = (x : Command) × Speaks s c (process_at s c) x
+Knows s c act.Commit = (x : Command) × Speaks s c (process_at s c) x × IsTakenFor s (process_at s c) x
+    × IsOutOfUse s (process_at s c) x
 Knows s c _ = Unit {0}
 
 pick : (s : State) (c : ℕ) (b : Bool) (x y : act.Action) → (b ≡ true → Knows s c x)
@@ -179,6 +186,14 @@ module _ (s : State) (c : ℕ) (o : Outcome) (m : IsMachine s) (there : c < leng
       abbrev looks : {Finds : Command → Type 0} → Finds cmd → Looks s c Finds
       looks h = record { looking = l; idle = idle; command = cmd; next = sp.next; finds = h }
 
+      -- a look that finds nothing to take takes nothing
+      takes_nothing : CanTook s aim.Committing what.All [] []
+      takes_nothing = record {
+        pages = no_pages s k m.keeps idle what.All;
+        bound = λ f h. absurd (let none : false ≡ true = h in cc);
+        pairs_are = tt;
+      }
+
       look_knows : (a : act.Action) → LookFinds s k cmd a → Knows s c a
       look_knows (act.Answer r) h =
           record { command = cmd; speaks = sp; more = refused_more cmd r h.reply h.refuses }
@@ -197,7 +212,8 @@ module _ (s : State) (c : ℕ) (o : Outcome) (m : IsMachine s) (there : c < leng
             (takes_some cmd fs pairs h.0 h.2),
         record { command = cmd; next = sp.next; finds = h.0 },
       )
-      look_knows act.Commit h = (cmd, sp)
+      look_knows act.Commit h =
+          (cmd, sp, look_taken s c k cmd what.All [] [] m.keeps idle h takes_nothing, h.inactive)
       look_knows (act.Through f r) h = absurd h
       look_knows (act.Plain r) h = absurd h
       look_knows (act.FinishEviction f) h = absurd h
@@ -244,7 +260,18 @@ module _ (s : State) (c : ℕ) (o : Outcome) (m : IsMachine s) (there : c < leng
           (subst (λ (y : Phase). FailsIn y s.store (process_at s q.owner.cpu)
           (next_command s (process_at s q.owner.cpu))) e (working.fails q.owner q.mine)),
     )
-    finish_knows q its aim.Committing w e fs = its_command its
+    finish_knows q its aim.Committing w e fs = let one = its_command its in (
+      one.0,
+      one.1,
+      subst (IsTakenBy s k) one.1.next
+          (subst (λ (d : ℕ). IsTakenBy s (process_at s d) (next_command s (process_at s d))) q.same
+          (subst (λ (y : Phase). TakenIn y s (process_at s q.owner.cpu)
+          (next_command s (process_at s q.owner.cpu))) e (working.taken q.owner q.mine))),
+      λ path pages is. absurd (subst TakesSome (ap (λ (x : Command). Some x) is) (subst TakesSome one.1.next
+          (subst (λ (d : ℕ). TakesSome (next_command s (process_at s d))) q.same
+          (subst (λ (y : Phase). FailsIn y s.store (process_at s q.owner.cpu)
+          (next_command s (process_at s q.owner.cpu))) e (working.fails q.owner q.mine))))),
+    )
 
     phase_knows : (q : IsMine s c) → p.cpu.process ≡ Some k → (x : Phase) → q.owner.phase ≡ x
         → Knows s c (go_on_with s k q.owner x)
