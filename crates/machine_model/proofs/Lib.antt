@@ -85,6 +85,7 @@ pub mod OwnerLaws
 pub mod PageShown
 pub mod PagesCut
 pub mod PathsKept
+pub mod PlainReplies
 pub mod Places
 pub mod PoolRoom
 pub mod QuotaTotals
