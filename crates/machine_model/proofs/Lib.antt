@@ -31,6 +31,7 @@ pub mod FailedDeactivation
 pub mod FailedEviction
 pub mod FailedRead
 pub mod FailedShutdown
+pub mod FaultsBooked
 pub mod FindLaws
 pub mod FinishKept
 pub mod FitsKept
@@ -85,6 +86,7 @@ pub mod OwnerLaws
 pub mod PageShown
 pub mod PagesCut
 pub mod PathsKept
+pub mod PlainAction
 pub mod PlainReplies
 pub mod Places
 pub mod PoolRoom

@@ -1,0 +1,114 @@
+-- What the entries of a step tell of the drives: one failure at the most, just where a call failed, and before a process
+-- is told of one.
+use Rattle.std.proofs.Common.{◌≡◌, ◌≤◌, ◌<◌, ℕ, ◌+◌, Bool, true, false, ◌&&◌, cond, List, [], ◌∷◌, ◌++◌, count_by, length}
+use Rattle.std.proofs.Common.{Option, inl, inr, ◌⊎◌, refl, sym, ap, subst, ◌∙◌, arith}
+use Rattle.std.specs.List.{list_all}
+use Rattle.std.proofs.lemmas.List.Sums.{sum_by-cons}
+use Rattle.book.specs.declared.entries.Entry.{Entry}
+use Rattle.book.specs.declared.entries.Entry.TheVariants as entry
+use Rattle.book.specs.declared.replies.Reply.TheVariants as reply
+use Rattle.machine_model.specs.Actions.{action_of}
+use Rattle.machine_model.specs.After.{Outcome, after}
+use Rattle.machine_model.specs.Keeps.{is_fault}
+use Rattle.machine_model.specs.Promise.{KeepsAll}
+use Rattle.machine_model.specs.State.{State}
+use Rattle.machine_model.proofs.BookAfter.{AreQuiet, HasBooked, IsBooked, TellsFailure, is_quiet, told_after}
+
+no_and : {b : Bool} → b ≡ true → b ≡ false → ⊥
+no_and t f = let none : true ≡ false = sym t ∙ f in cc
+
+abbrev tally : Bool → ℕ
+tally b = cond b 1 0
+
+count_cons : (e : Entry) (es : List Entry) → count_by is_fault (e ∷ es) ≡ tally (is_fault e) + count_by is_fault es
+count_cons e es = sum_by-cons (λ x. tally (is_fault x)) e es
+
+count_on : (xs ys : List Entry) → count_by is_fault (xs ++ ys) ≡ count_by is_fault xs + count_by is_fault ys
+count_on [] ys = omega arith
+count_on (x ∷ xs) ys = let rest = count_on xs ys in let a = count_cons x (xs ++ ys) in let b = count_cons x xs in
+    omega (arith, rest, a, b)
+
+parts : (a b : Bool) → (a && b) ≡ true → (a ≡ true) × (b ≡ true)
+parts true b h = (refl, h)
+parts false b h = absurd (let none : false ≡ true = h in cc)
+
+quiet_entry : (e : Entry) → is_quiet e ≡ true → is_fault e ≡ false
+quiet_entry (entry.Fault process) h = absurd (let none : false ≡ true = h in cc)
+quiet_entry _ h = refl
+
+quiet_none : (es : List Entry) → AreQuiet es → count_by is_fault es ≡ 0
+quiet_none [] h = refl
+quiet_none (e ∷ es) h = let both = parts (is_quiet e) (list_all is_quiet es) h in
+    let here : tally (is_fault e) ≡ 0 = ap tally (quiet_entry e both.0) in let rest = quiet_none es both.1 in
+    let all = count_cons e es in omega (arith, here, rest, all)
+
+abbrev first_or : Entry → List Entry → Entry
+first_or d [] = d
+first_or d (e ∷ es) = e
+
+abbrev rest_of : List Entry → List Entry
+rest_of [] = []
+rest_of (e ∷ es) = es
+
+-- of entries in which nothing is told, none tells a process of a failure
+quiet_untold : (es xs ys : List Entry) (k place c : ℕ) (f : Option ℕ) → AreQuiet es
+    → es ≡ xs ++ entry.Do k place c f reply.Device ∷ ys → ⊥
+quiet_untold es [] ys k place c f h e = no_and (parts false (list_all is_quiet ys) (subst AreQuiet e h)).0 refl
+quiet_untold es (x ∷ xs) ys k place c f h e = quiet_untold (xs ++ entry.Do k place c f reply.Device ∷ ys) xs ys k place c
+    f (parts (is_quiet x) _ (subst AreQuiet e h)).1 refl
+
+-- a process is told of a failure after the one that is told
+told_later : (before rest xs ys : List Entry) (process : Option ℕ) (k place c : ℕ) (f : Option ℕ) → AreQuiet before
+    → before ++ entry.Fault process ∷ rest ≡ xs ++ entry.Do k place c f reply.Device ∷ ys → 1 ≤ count_by is_fault xs
+told_later [] rest [] ys process k place c f quiet e =
+    absurd (no_and refl (ap (λ (es : List Entry). is_fault (first_or (entry.Fault process) es)) e))
+told_later [] rest (x ∷ xs) ys process k place c f quiet e =
+    let here : tally (is_fault x) ≡ 1 = ap tally (sym (ap (λ (es : List Entry). is_fault (first_or x es)) e)) in
+    let all = count_cons x xs in omega (arith, here, all)
+told_later (b ∷ bs) rest [] ys process k place c f quiet e =
+    absurd (no_and (parts (is_quiet b) (list_all is_quiet bs) quiet).0
+    (ap (λ (es : List Entry). is_quiet (first_or b es)) e))
+told_later (b ∷ bs) rest (x ∷ xs) ys process k place c f quiet e =
+    let later = told_later bs rest xs ys process k place c f (parts (is_quiet b) (list_all is_quiet bs) quiet).1
+    (ap rest_of e) in let all = count_cons x xs in omega (arith, later, all)
+
+-- At most one failure is told, where a call of a drive failed, and a process is told of it afterwards.
+pub record ToldRight (more : List Entry) (failed : Bool) : Type 0 where
+  pub few : count_by is_fault more ≤ 1
+  pub only : 1 ≤ count_by is_fault more → failed ≡ true
+  pub later : (xs ys : List Entry) (k place c : ℕ) (f : Option ℕ)
+      → more ≡ xs ++ entry.Do k place c f reply.Device ∷ ys → 1 ≤ count_by is_fault xs
+
+told_right : (more : List Entry) (failed : Bool) → AreQuiet more ⊎ ((failed ≡ true) × TellsFailure more)
+    → ToldRight more failed
+told_right more failed (inl quiet) = record {
+  few = let none = quiet_none more quiet in omega (arith, none);
+  only = λ some. absurd (let none = quiet_none more quiet in omega (arith, none, some));
+  later = λ xs ys k place c f e. absurd (quiet_untold more xs ys k place c f quiet e);
+}
+told_right more failed (inr told) = record {
+  few = let all = ap (λ (es : List Entry). count_by is_fault es) told.1.is in
+      let a = count_on told.1.before (entry.Fault told.1.process ∷ (told.1.between ++ told.1.last ∷ [])) in
+      let b = count_cons (entry.Fault told.1.process) (told.1.between ++ told.1.last ∷ []) in
+      let d = count_on told.1.between (told.1.last ∷ []) in
+      let e = count_cons told.1.last [] in
+      let last : tally (is_fault told.1.last) ≡ 0 = ap tally told.1.last_is in
+      let before = quiet_none told.1.before told.1.quiet_before in
+      let between = quiet_none told.1.between told.1.quiet_between in
+      omega (arith, all, a, b, d, e, last, before, between);
+  only = λ some. told.0;
+  later = λ xs ys k place c f e. told_later told.1.before (told.1.between ++ told.1.last ∷ []) xs ys told.1.process k
+      place c f told.1.quiet_before (sym told.1.is ∙ e);
+}
+
+-- So do the entries of each step.
+pub record HasTold (s now : State) (failed : Bool) : Type 0 where
+  pub booked : HasBooked s now 320
+  pub right : ToldRight booked.more failed
+
+pub faults_after : (s : State) (c : ℕ) (o : Outcome) → KeepsAll s → c < length s.processors
+    → HasTold s (after s c (action_of s c) o) o.failed
+faults_after s c o all there = let told = told_after s c o all there in record {
+  booked = told.booked;
+  right = told_right told.booked.more o.failed told.tale;
+}

@@ -1,0 +1,134 @@
+-- No action answers by itself that a drive failed.
+use Rattle.std.proofs.Common.{◌≡◌, ◌<◌, ℕ, Bool, true, false, not, ◌&&◌, cond, eqb, length, List, [], ◌∷◌, position}
+use Rattle.std.proofs.Common.{Option, Some, None, sym, ap, ◌∙◌}
+use Rattle.script.specs.References.{reference_of}
+use Rattle.script.specs.declared.commands.Command.{Command}
+use Rattle.script.specs.declared.commands.Reference.{Reference}
+use Rattle.assoc_mem.specs.declared.What.{What}
+use Rattle.processor.specs.declared.Move.{Move}
+use Rattle.processor.specs.declared.Move.TheVariants as move
+use Rattle.processor.specs.declared.Transfer.{Transfer}
+use Rattle.seg_control.specs.Control.{sdws_at, word_of}
+use Rattle.machine_model.specs.declared.Aim.{Aim}
+use Rattle.machine_model.specs.declared.Aim.TheVariants as aim
+use Rattle.machine_model.specs.declared.Phase.{Phase}
+use Rattle.machine_model.specs.declared.Phase.TheVariants as phase
+use Rattle.machine_model.specs.declared.Processor.{Processor}
+use Rattle.machine_model.specs.Actions as act
+use Rattle.machine_model.specs.Actions.{action_of, is_over}
+use Rattle.machine_model.specs.Promise.{IsMachine}
+use Rattle.machine_model.specs.Reads.{flat_of, is_due, next_command, or_zero, processor_at}
+use Rattle.machine_model.specs.State.{Owner, State}
+use Rattle.machine_model.proofs.LookFacts.{LookFinds, look_finds}
+use Rattle.machine_model.proofs.PlainReplies.{command_plain, is_device, move_plainly, tells_device}
+
+-- what it answers is a reply of the flat store
+abbrev pub IsPlainly : act.Action → Type 0
+IsPlainly (act.Plain r) = is_device r ≡ false
+IsPlainly (act.Answer r) = is_device r ≡ false
+IsPlainly _ = Unit {0}
+
+pick : (b : Bool) (x y : act.Action) → IsPlainly x → IsPlainly y → IsPlainly (cond b x y)
+pick true x y h i = h
+pick false x y h i = i
+
+module _ (s : State) (c : ℕ) where
+  abbrev p : Processor
+  p = processor_at s.processors c
+
+  take_plain : (x : Option Owner) → IsPlainly (act.take_or_wait x)
+  take_plain None = tt
+  take_plain (Some q) = tt
+
+  move_plain : (r : Reference) (x : Move) → tells_device x ≡ false → IsPlainly (act.by_move s.owner r x)
+  move_plain r move.FillSeg h = tt
+  move_plain r (move.FillPage f) h = tt
+  move_plain r (move.Through f) h = tt
+  move_plain r (move.Plain answer) h = h
+  move_plain r move.Fault h = take_plain s.owner
+
+  come_plain : (k : ℕ) (x : Option Command) → IsPlainly (act.come_to s p.cpu k x)
+  come_plain k None = take_plain s.owner
+  come_plain k (Some cmd) = by (reference_of cmd)
+    where
+      by : (x : Option Reference) → IsPlainly (act.refer_or_take s p.cpu k x)
+      by None = take_plain s.owner
+      by (Some r) = move_plain r (act.move_of s p.cpu k r) (move_plainly p.cpu.assoc
+          (sdws_at s.store.links.descriptors k) (word_of s.store.ast) r)
+
+  run_plain : (x : Option ℕ) → IsPlainly (act.run_process s p x)
+  run_plain None = by s.ready
+    where
+      by : (xs : List ℕ) → IsPlainly (act.load_or_idle s xs)
+      by [] = tt
+      by (k ∷ ks) = tt
+  run_plain (Some k) = pick (act.has_had_its_turn p && not (act.is_empty s.ready)) act.Leave
+      (act.come_to s p.cpu k (next_command s k)) tt (come_plain k (next_command s k))
+
+  look_plain : (k : ℕ) (cmd : Command) (a : act.Action) → LookFinds s k cmd a → IsPlainly a
+  look_plain k cmd (act.Answer r) h = ap is_device h.reply ∙ command_plain s.plan (flat_of s) k cmd
+  look_plain k cmd (act.Plain r) h = absurd h
+  look_plain k cmd act.IsStopped h = tt
+  look_plain k cmd act.HasEnded h = tt
+  look_plain k cmd (act.Waits why) h = tt
+  look_plain k cmd act.Online h = tt
+  look_plain k cmd (act.Clear w) h = tt
+  look_plain k cmd (act.EndTransfer t) h = tt
+  look_plain k cmd (act.Load n) h = tt
+  look_plain k cmd act.Leave h = tt
+  look_plain k cmd (act.FillSeg n) h = tt
+  look_plain k cmd (act.FillPage f r) h = tt
+  look_plain k cmd (act.Through f r) h = tt
+  look_plain k cmd act.TakeSupervisor h = tt
+  look_plain k cmd act.GiveUp h = tt
+  look_plain k cmd (act.Activate u place) h = tt
+  look_plain k cmd (act.Connect n u) h = tt
+  look_plain k cmd (act.Create f u q r) h = tt
+  look_plain k cmd (act.Start f u q) h = tt
+  look_plain k cmd (act.Evict f) h = tt
+  look_plain k cmd (act.Empty u) h = tt
+  look_plain k cmd (act.EmptyVictim pool chain u) h = tt
+  look_plain k cmd (act.TakeAway fs pairs w) h = tt
+  look_plain k cmd (act.Signal w) h = tt
+  look_plain k cmd (act.FinishEviction f) h = tt
+  look_plain k cmd (act.FinishPage f) h = tt
+  look_plain k cmd (act.Deactivate u) h = tt
+  look_plain k cmd act.Commit h = tt
+
+  finish_plain : (a : Aim) (fs : List ℕ) → IsPlainly (act.finish_of a fs)
+  finish_plain aim.Evicting [] = tt
+  finish_plain aim.Evicting (f ∷ fs) = tt
+  finish_plain (aim.Deactivating u) [] = tt
+  finish_plain (aim.Deactivating u) (f ∷ fs) = tt
+  finish_plain aim.Committing fs = tt
+
+  phase_plain : (k : ℕ) (q : Owner) (x : Phase) → IsPlainly (act.go_on_with s k q x)
+  phase_plain k q phase.Looking = by (next_command s k)
+    where
+      by : (x : Option Command) → IsPlainly (act.look_of s k x)
+      by None = tt
+      by (Some cmd) = look_plain k cmd (act.look_of s k (Some cmd)) (look_finds s k cmd)
+  phase_plain k q (phase.Taken a w) = tt
+  phase_plain k q (phase.Waiting a w) = by (position is_due s.processors)
+    where
+      by : (x : Option ℕ) → IsPlainly (act.once_cleared x (act.finish_of a q.frames))
+      by None = finish_plain a q.frames
+      by (Some d) = tt
+
+  owner_plain : (x : Option Owner) → IsPlainly (act.own_or_run s c p x)
+  owner_plain None = run_plain p.cpu.process
+  owner_plain (Some q) = pick (eqb q.cpu c) (act.go_on_with s (or_zero p.cpu.process) q q.phase)
+      (act.run_process s p p.cpu.process) (phase_plain (or_zero p.cpu.process) q q.phase) (run_plain p.cpu.process)
+
+  transfer_plain : (x : Option Transfer) → IsPlainly (act.transfer_or s c p x)
+  transfer_plain (Some t) = tt
+  transfer_plain None = owner_plain s.owner
+
+  clear_plain : (x : Option What) → IsPlainly (act.clear_or s c p x)
+  clear_plain (Some w) = tt
+  clear_plain None = transfer_plain p.cpu.transfer
+
+  pub plain_action : IsPlainly (action_of s c)
+  unfolding action_of
+  plain_action = pick s.stopped act.IsStopped _ tt (pick (is_over s) act.HasEnded _ tt
+      (pick (not p.cpu.online) act.Online _ tt (clear_plain p.cpu.due)))
