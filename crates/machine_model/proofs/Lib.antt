@@ -62,6 +62,7 @@ pub mod LookFacts
 pub mod LookLaws
 pub mod LookSeen
 pub mod LoopLaws
+pub mod MachineRounds
 pub mod MoveAsks
 pub mod MoveSeen
 pub mod NumberLaws

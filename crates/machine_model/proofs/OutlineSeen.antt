@@ -205,7 +205,7 @@ module _ (s : State) (k : Keeps s) where
   reading_is c = ap (λ (x : Runner). x.reading) (at_outline s c)
       ∙ seen_reading (around s) (processor_at s.processors c)
 
-  running_is : (c : ℕ) → (runner c).running ≡ is_some (cpu_at s.processors c).process
+  pub running_is : (c : ℕ) → (runner c).running ≡ is_some (cpu_at s.processors c).process
   running_is c = ap (λ (x : Runner). x.running) (at_outline s c)
       ∙ seen_running (around s) (processor_at s.processors c)
 

@@ -23,6 +23,7 @@ pub mod Reads
 pub mod Ready
 pub mod Refusal
 pub mod Returned
+pub mod Rounds
 pub mod Runs
 pub mod Said
 pub mod Scheduled
