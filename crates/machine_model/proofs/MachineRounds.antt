@@ -1,5 +1,5 @@
 -- How the turns of the loop that makes the machine end join, said of machines.
-use Rattle.std.proofs.Common.{◌≡◌, ◌≢◌, ◌≤◌, ◌<◌, ℕ, zero, ◌+◌, Bool, true, false, not, cond, ◌&&◌, eqb, length, List, []}
+use Rattle.std.proofs.Common.{◌≡◌, ◌≢◌, ◌≤◌, ◌<◌, ℕ, zero, suc, ◌+◌, Bool, true, false, not, cond, ◌&&◌, ◌||◌, eqb, length, List, []}
 use Rattle.std.proofs.Common.{◌∷◌, Option, Some, None, is_some, ◌⊎◌, inl, inr, refl, sym, ap, subst, ◌∙◌, arith}
 use Rattle.std.specs.List.{list_any}
 use Rattle.processor.specs.declared.Transfer.{Transfer}
@@ -12,7 +12,7 @@ use Rattle.machine_model.specs.Looping.{AwaitsClear, AwaitsTransfer, CommandDone
 use Rattle.machine_model.specs.Looping.{IsNearer, IsReader, JobDone, IsUnderWay, JobFell, OwnerStep, RoundDone, is_at}
 use Rattle.machine_model.specs.Measures.{all_rank}
 use Rattle.machine_model.specs.Outline.{Ended, Keeper, Moved, Outline, Runner, Stage, Look, Turn, WaitsFor, at_stage, runner_at}
-use Rattle.machine_model.specs.Outlined.{keeper_of, outline_of, stage_of}
+use Rattle.machine_model.specs.Outlined.{around, keeper_of, outline_of, stage_of}
 use Rattle.machine_model.specs.OutlineKept.{IsKept}
 use Rattle.machine_model.specs.Promise.{KeepsAll}
 use Rattle.machine_model.specs.Reads.{cpu_at, no_processor, processor_at}
@@ -27,7 +27,7 @@ use Rattle.machine_model.proofs.ListLaws.{within_by}
 use Rattle.machine_model.proofs.LoopLaws.{goes_on, goes_self, job_goes, job_over, reader_there, taken_done, waited_fell}
 use Rattle.machine_model.proofs.OutlineJob.{in_job}
 use Rattle.machine_model.proofs.OutlineOwner.{step_outlined}
-use Rattle.machine_model.proofs.OutlineReads.{at_outline, long_outline}
+use Rattle.machine_model.proofs.OutlineReads.{at_outline, long_outline, seen_since}
 use Rattle.machine_model.proofs.OutlineSeen.{kept_seen, no_owner, running_is}
 use Rattle.machine_model.proofs.PoolsKept.{pools_kept}
 use Rattle.machine_model.proofs.ReadLaws.{read_step}
@@ -139,3 +139,143 @@ job_owner a b c goes q mine = record { owner = q; mine = mine; cpu = ap cpu_or (
 
     under : IsUnderWay (outline_of a) (outline_of b) c
     under = job_goes (outline_of a) (outline_of b) c q.cpu (stage_of b.store.ast.entries q.frames q.phase) is goes
+
+-- a job goes on with its next turn
+pub job_next : (a b d : State) (c : ℕ) → Goes (outline_of a) (outline_of b) c → IsOwnedBy b c
+    → JobFell (outline_of b) (outline_of d) c → Goes (outline_of a) (outline_of d) c
+job_next a b d c goes mine fell = goes_on (outline_of a) (outline_of b) (outline_of d) c
+    (lack_few (outline_of a) (runner_at (outline_of a).runners c))
+    (job_goes (outline_of a) (outline_of b) c c (stage_at b c mine) (is_in b c mine) goes) fell.goes
+
+none_outlined : (s : State) → s.owner ≡ None → (outline_of s).owner ≡ None
+unfolding outline_of
+none_outlined s none = ap (keeper_of s.store.ast.entries) none
+
+-- once nobody owns the supervisor it is done
+pub job_end : (a b : State) (c : ℕ) → b.owner ≡ None → Goes (outline_of a) (outline_of b) c
+    → JobDone (outline_of a) (outline_of b) c
+job_end a b c none goes = job_over (outline_of a) (outline_of b) c (none_outlined b none) goes
+
+pub job_freed : (a b : State) (c : ℕ) → JobDone (outline_of a) (outline_of b) c → b.owner ≡ None
+job_freed a b c (inl past) = no_owner b past.owner
+job_freed a b c (inr mended) = no_owner b mended.owner
+
+-- ---- a command
+
+looking_is : (s t : State) (c : ℕ) → HasTaken (outline_of s) (outline_of t) c
+    → (outline_of t).owner ≡ Some (record { cpu = c; stage = Look })
+looking_is s t c taken = ap (λ (x : Outline). x.owner) taken.now
+
+done_free : (s t : State) (c : ℕ) → CommandDone (outline_of s) (outline_of t) c → (outline_of t).owner ≡ None
+done_free s t c (inl past) = past.owner
+done_free s t c (inr nearer) = nearer.owner
+
+module _ (s t : State) (c : ℕ) (going : IsGoing s) (keeps : KeepsAll t) (there : c < length s.processors)
+    (none : s.owner ≡ None) (running : is_some (cpu_at s.processors c).process ≡ true) (stepped : HasStepped s t c) where
+  -- what a turn of a processor brings that has a process, while nobody owns the supervisor
+  pub command_turn : CommandStep (turn_of (action_of s c)) (outline_of s) (outline_of t) c
+  command_turn = command_step (outline_of s) c (turn_of (action_of s c)) (outline_of t) (kept_of s going.keeps)
+      (kept_of t keeps) (none_outlined s none) (running_is s going.keeps.machine.keeps c ∙ running)
+      (machine_step s t c going there stepped)
+
+  -- it moves
+  pub command_moves : turn_of (action_of s c) ≡ Moved
+  command_moves = by (turn_of (action_of s c)) refl command_turn
+    where
+      by : (x : Turn) → turn_of (action_of s c) ≡ x → CommandStep x (outline_of s) (outline_of t) c
+          → turn_of (action_of s c) ≡ Moved
+      by Moved e h = e
+      by (WaitsFor why) e h = absurd h
+      by Ended e h = absurd h
+
+  moved : HasTaken (outline_of s) (outline_of t) c ⊎ CommandDone (outline_of s) (outline_of t) c
+  moved = subst (λ (x : Turn). CommandStep x (outline_of s) (outline_of t) c) command_moves command_turn
+
+  -- it took the supervisor, so its job follows
+  pub command_took : (q : Owner) → t.owner ≡ Some q
+      → IsOwnedBy t c × HasTaken (outline_of s) (outline_of t) c
+  command_took q mine = by moved
+    where
+      is : (outline_of t).owner ≡ Some (record {
+        cpu = q.cpu;
+        stage = stage_of t.store.ast.entries q.frames q.phase;
+      })
+      is = in_job t q mine
+
+      by : HasTaken (outline_of s) (outline_of t) c ⊎ CommandDone (outline_of s) (outline_of t) c
+          → IsOwnedBy t c × HasTaken (outline_of s) (outline_of t) c
+      by (inl taken) = (record {
+        owner = q;
+        mine = mine;
+        cpu = ap cpu_or (sym is ∙ looking_is s t c taken);
+      }, taken)
+      by (inr done) = absurd (none_some (sym (done_free s t c done) ∙ is))
+
+  -- or the turn is done
+  pub command_free : t.owner ≡ None → CommandDone (outline_of s) (outline_of t) c
+  command_free free = by moved
+    where
+      by : HasTaken (outline_of s) (outline_of t) c ⊎ CommandDone (outline_of s) (outline_of t) c
+          → CommandDone (outline_of s) (outline_of t) c
+      by (inl taken) = absurd (none_some (sym (none_outlined t free) ∙ looking_is s t c taken))
+      by (inr done) = done
+
+-- the job that it took the supervisor for is done
+pub command_job : (s b t : State) (c : ℕ) → HasTaken (outline_of s) (outline_of b) c
+    → JobDone (outline_of b) (outline_of t) c → CommandDone (outline_of s) (outline_of t) c
+command_job s b t c taken done = taken_done (outline_of s) (outline_of b) (outline_of t) c taken done
+
+pub command_freed : (s t : State) (c : ℕ) → CommandDone (outline_of s) (outline_of t) c → t.owner ≡ None
+command_freed s t c done = no_owner t (done_free s t c done)
+
+-- whether a processor is at the same command still
+pub at_seen : (s : State) (c since : ℕ) → KeepsAll s → is_at (runner_at (outline_of s).runners c) since
+    ≡ (is_some (cpu_at s.processors c).process && eqb (processor_at s.processors c).count since)
+at_seen s c since all = λ i. running_is s all.machine.keeps c i && eqb (since_is i) since
+  where
+    since_is : (runner_at (outline_of s).runners c).since ≡ (processor_at s.processors c).count
+    since_is = ap (λ (x : Runner). x.since) (at_outline s c) ∙ seen_since (around s) (processor_at s.processors c)
+
+-- at its start the loop over a command is on its way
+pub way_start : (s : State) (c since : ℕ) → is_at (runner_at (outline_of s).runners c) since ≡ true
+    → all_rank (outline_of s) + cond (is_at (runner_at (outline_of s).runners c) since) 0 1 ≤ all_rank (outline_of s)
+way_start s c since at = let none : cond {A = ℕ} (is_at (runner_at (outline_of s).runners c) since) 0 1 ≡ 0 =
+    ap (λ (b : Bool). cond {A = ℕ} b 0 1) at in omega (arith, none)
+
+-- ---- the end
+
+none_runs : (ps : List Processor) → list_any has_process ps ≡ true
+    → ((d : ℕ) → is_some (cpu_at ps d).process ≡ false) → ⊥
+none_runs [] h idle = let none : false ≡ true = h in cc
+none_runs (p ∷ ps) h idle = by (has_process p) (idle zero) h (λ i. none_runs ps i (λ d. idle (suc d)))
+  where
+    by : (b : Bool) → b ≡ false → (b || list_any has_process ps) ≡ true → (list_any has_process ps ≡ true → ⊥) → ⊥
+    by true e i rest = let none : true ≡ false = e in cc
+    by false e i rest = rest i
+
+-- a machine that isn't over has a process that is ready or running
+pub not_ended : (s : State) → KeepsAll s → is_over s ≡ false → IsEnded (outline_of s) → ⊥
+unfolding outline_of
+not_ended s all more ended = by s.ready refl (list_any has_process s.processors) refl more
+  where
+    by : (xs : List ℕ) → s.ready ≡ xs → (b : Bool) → list_any has_process s.processors ≡ b
+        → (is_empty xs && not b) ≡ false → ⊥
+    by [] e true i h = none_runs s.processors i (λ d. sym (running_is s all.machine.keeps d) ∙ ended.running d)
+    by [] e false i h = let none : true ≡ false = h in cc
+    by (k ∷ ks) e b i h = let some : length s.ready ≡ length (k ∷ ks) = ap (λ (ys : List ℕ). length ys) e in
+        let none : length s.ready ≡ 0 = ended.ready in let more : 0 < length (k ∷ ks) = omega arith in
+        omega (arith, some, none, more)
+
+-- ---- rounds
+
+-- no processor has a process, and something is left to do
+pub idle_round : (s t : State) → IsGoing s → KeepsAll t → s.owner ≡ None
+    → ((d : ℕ) → is_some (cpu_at s.processors d).process ≡ false) → is_over s ≡ false → HasStepped s t 0
+    → RoundDone (outline_of s) (outline_of t)
+idle_round s t going keeps none idle more stepped = let fell = idle_step (outline_of s) 0 (turn_of (action_of s 0))
+    (outline_of t) (kept_of s going.keeps) (kept_of t keeps)
+    (kept_of s going.keeps).sizes.some_runner (none_outlined s none)
+    (λ d. running_is s going.keeps.machine.keeps d ∙ idle d) (not_ended s going.keeps more)
+    (machine_step s t 0 going (subst (λ (n : ℕ). 0 < n) (long_outline s)
+    (kept_of s going.keeps).sizes.some_runner) stepped) in
+    record { owner = fell.0; all = fell.1 }
