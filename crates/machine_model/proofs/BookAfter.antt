@@ -217,16 +217,19 @@ failed_booked s c faults few failed did = record {
       (raw_on told_of back (write_failed s c faults) _ 1 comes_back.booked
       (raw_one back (write_failed s c faults) (entry.Do (process_at back c) _ c None reply.Device ∷ []) refl refl)))
       (omega (arith, few));
-  tale = inr (did, record {
-    before = [];
-    process = Some (process_at s c);
-    between = comes_back.booked.more;
-    last = entry.Do (process_at back c) _ c None reply.Device;
-    is = refl;
-    quiet_before = refl;
-    quiet_between = comes_back.quiet;
-    last_is = refl;
-  });
+  tale = inr (
+    did,
+    record {
+      before = [];
+      process = Some (process_at s c);
+      between = comes_back.booked.more;
+      last = entry.Do (process_at back c) _ c None reply.Device;
+      is = refl;
+      quiet_before = refl;
+      quiet_between = comes_back.quiet;
+      last_is = refl;
+    },
+  );
 }
   where
     fs : List ℕ
@@ -416,16 +419,19 @@ module _ (s : State) (c : ℕ) (o : Outcome) (keeps : Keeps s) (few : OwnsFew s.
         (raw_one (frame_lost s c t) failing (entry.Fault (Some (process_at s c)) ∷ []) refl refl)
         (raw_one failing (transfer_failed s c t o.faults) (entry.Do (process_at failing c) _ c None reply.Device ∷ [])
         refl refl))) (omega arith);
-    tale = inr (did, record {
-      before = entry.Lose t.frame ∷ [];
-      process = Some (process_at s c);
-      between = [];
-      last = entry.Do (process_at failing c) _ c None reply.Device;
-      is = refl;
-      quiet_before = refl;
-      quiet_between = refl;
-      last_is = refl;
-    });
+    tale = inr (
+      did,
+      record {
+        before = entry.Lose t.frame ∷ [];
+        process = Some (process_at s c);
+        between = [];
+        last = entry.Do (process_at failing c) _ c None reply.Device;
+        is = refl;
+        quiet_before = refl;
+        quiet_between = refl;
+        last_is = refl;
+      },
+    );
   }
     where
       failing : State

@@ -1,11 +1,10 @@
 -- A processor that takes the supervisor needs it: its command is no reference, or the tables lack something for it.
-use Rattle.std.proofs.Common.{◌≡◌, ◌≢◌, ◌<◌, ℕ, Bool, true, false, not, cond, ◌&&◌, ◌||◌, eqb, length, List, Option, Some}
-use Rattle.std.proofs.Common.{None, is_some, ◌⊎◌, inl, inr, refl, sym, ap, subst, ◌∙◌, nat_le, ◌*◌}
+use Rattle.std.proofs.Common.{◌≡◌, ◌<◌, ℕ, Bool, true, false, not, cond, ◌&&◌, ◌||◌, eqb, length, List, Option, Some}
+use Rattle.std.proofs.Common.{None, is_some, inl, inr, refl, sym, ap, subst, ◌∙◌, nat_le, ◌*◌}
 use Rattle.std.specs.Prelude.{◌/◌}
 use Rattle.script.specs.References.{new_word, permits, reference_of}
 use Rattle.script.specs.declared.commands.Command.{Command}
 use Rattle.script.specs.declared.commands.Reference.{Reference}
-use Rattle.script.specs.declared.commands.RefKind.{RefKind}
 use Rattle.assoc_mem.specs.Held.{frame_of, seg_of}
 use Rattle.assoc_mem.specs.declared.HeldSeg.{HeldSeg}
 use Rattle.known_segs.specs.Known.{uid_of}
@@ -20,15 +19,14 @@ use Rattle.processor.specs.declared.Move.TheVariants as move
 use Rattle.processor.specs.declared.Transfer.{Transfer}
 use Rattle.processor.specs.Moves.{by_descriptor, by_held, by_page, by_seg, by_word}
 use Rattle.book.specs.declared.replies.Reply.TheVariants as reply
-use Rattle.flat_model.specs.Commands.{is_end}
 use Rattle.flat_model.specs.References.{word_reply}
 use Rattle.machine_model.specs.Actions as act
-use Rattle.machine_model.specs.Custodial.{is_out, names}
+use Rattle.machine_model.specs.Custodial.{names}
 use Rattle.machine_model.specs.Entitled.{IsEntitledToAll}
-use Rattle.machine_model.specs.Foreseen.{MayAnswer, MayEnter, MayLose, WantsPage, lack_of}
+use Rattle.machine_model.specs.Foreseen.{MayAnswer, MayEnter, MayLose}
 use Rattle.machine_model.specs.Holding.{seen}
 use Rattle.machine_model.specs.Keeps.{Keeps}
-use Rattle.machine_model.specs.Measures.{is_here, page_fits, want_lack}
+use Rattle.machine_model.specs.Measures.{page_fits, want_lack}
 use Rattle.machine_model.specs.Outline.{Want, Refer, Truncate, Length, Other, Runner, runner_at, want_at}
 use Rattle.machine_model.specs.Outlined.{around, is_linked, outline_of, reference_in, runner_by, want_by, want_of}
 use Rattle.machine_model.specs.Outlined.{want_of_reference}
@@ -46,7 +44,6 @@ use Rattle.machine_model.proofs.OwnerLaws.{bound_here}
 use Rattle.machine_model.proofs.SpeakLaws.{Speaks, speaks}
 use Rattle.machine_model.proofs.StepAsks.{ReadsFor, reads_for}
 use Rattle.machine_model.proofs.StepGoes.{may_answer}
-use Rattle.machine_model.proofs.TieLaws.{none_some}
 use Rattle.machine_model.proofs.WantLaws.{IsReferring, linked_here, refers, tree_wants, want_here}
 
 no_and : {b : Bool} → b ≡ true → b ≡ false → ⊥
@@ -186,7 +183,8 @@ module _ (s : State) (c : ℕ) (m : IsMachine s) (entitled : IsEntitledToAll s) 
             ∙ ap (λ (b : Bool). cond {A = ℕ} b 0 1) (lacking chain u p makes
             (refers s k r chain u p makes e) h),
       )
-      by (Truncate chain u cut) e = inr (λ xs v q b i. (let off : false ≡ true = ap is_refer (sym (want_is ∙ e) ∙ i) in cc))
+      by (Truncate chain u cut) e =
+          inr (λ xs v q b i. (let off : false ≡ true = ap is_refer (sym (want_is ∙ e) ∙ i) in cc))
       by (Length u) e = inr (λ xs v q b i. (let off : false ≡ true = ap is_refer (sym (want_is ∙ e) ∙ i) in cc))
       by Other e = inr (λ xs v q b i. (let off : false ≡ true = ap is_refer (sym (want_is ∙ e) ∙ i) in cc))
 

@@ -1,6 +1,7 @@
--- What the entries of a step tell of the drives: one failure at the most, just where a call failed, and before a process
--- is told of one.
-use Rattle.std.proofs.Common.{◌≡◌, ◌≤◌, ◌<◌, ℕ, ◌+◌, Bool, true, false, ◌&&◌, cond, List, [], ◌∷◌, ◌++◌, count_by, length}
+-- What the entries of a step tell of the drives: one failure at the most, just where a call failed, and before a
+-- process is told of one.
+use Rattle.std.proofs.Common.{◌≡◌, ◌≤◌, ◌<◌, ℕ, ◌+◌, Bool, true, false, ◌&&◌, cond, List, [], ◌∷◌, ◌++◌, count_by}
+use Rattle.std.proofs.Common.{length}
 use Rattle.std.proofs.Common.{Option, inl, inr, ◌⊎◌, refl, sym, ap, subst, ◌∙◌, arith}
 use Rattle.std.specs.List.{list_all}
 use Rattle.std.proofs.lemmas.List.Sums.{sum_by-cons}
@@ -12,7 +13,7 @@ use Rattle.machine_model.specs.After.{Outcome, after}
 use Rattle.machine_model.specs.Keeps.{is_fault}
 use Rattle.machine_model.specs.Promise.{KeepsAll}
 use Rattle.machine_model.specs.State.{State}
-use Rattle.machine_model.proofs.BookAfter.{AreQuiet, HasBooked, IsBooked, TellsFailure, is_quiet, told_after}
+use Rattle.machine_model.proofs.BookAfter.{AreQuiet, HasBooked, TellsFailure, is_quiet, told_after}
 
 no_and : {b : Bool} → b ≡ true → b ≡ false → ⊥
 no_and t f = let none : true ≡ false = sym t ∙ f in cc
@@ -54,7 +55,8 @@ rest_of (e ∷ es) = es
 quiet_untold : (es xs ys : List Entry) (k place c : ℕ) (f : Option ℕ) → AreQuiet es
     → es ≡ xs ++ entry.Do k place c f reply.Device ∷ ys → ⊥
 quiet_untold es [] ys k place c f h e = no_and (parts false (list_all is_quiet ys) (subst AreQuiet e h)).0 refl
-quiet_untold es (x ∷ xs) ys k place c f h e = quiet_untold (xs ++ entry.Do k place c f reply.Device ∷ ys) xs ys k place c
+quiet_untold es (x ∷ xs) ys k place c f h e =
+    quiet_untold (xs ++ entry.Do k place c f reply.Device ∷ ys) xs ys k place c
     f (parts (is_quiet x) _ (subst AreQuiet e h)).1 refl
 
 -- a process is told of a failure after the one that is told

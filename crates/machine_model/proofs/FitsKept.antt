@@ -1,17 +1,14 @@
 -- What a job has taken isn't what its command wants, after each step.
-use Rattle.std.proofs.Common.{◌≡◌, ◌≢◌, ◌<◌, ◌≤◌, ℕ, zero, suc, Bool, true, false, not, ◌&&◌, cond, eqb, is_some, length}
-use Rattle.std.proofs.Common.{List, [], ◌∷◌, get_or, map, set, Option, Some, None, ◌⊎◌, inl, inr, refl, sym, ap, subst, ◌∙◌}
+use Rattle.std.proofs.Common.{◌≡◌, ◌<◌, ℕ, zero, suc, Bool, true, false, not, ◌&&◌, cond, eqb, is_some, length}
+use Rattle.std.proofs.Common.{List, [], ◌∷◌, get_or, map, set, Option, Some, None, inl, inr, refl, sym, ap, subst, ◌∙◌}
 use Rattle.std.proofs.lemmas.Bool.Decides.{eqb_tells}
-use Rattle.std.proofs.lemmas.List.{get_or-set_other}
-use Rattle.mnames.specs.declared.principals.Who.{Who}
 use Rattle.script.specs.Plans.{command_at}
 use Rattle.script.specs.References.{alters, reference_of}
 use Rattle.script.specs.declared.commands.Command.{Command}
 use Rattle.script.specs.declared.commands.Reference.{Reference}
-use Rattle.script.specs.declared.commands.RefKind.{RefKind}
 use Rattle.book.specs.declared.replies.Reply.{Reply}
 use Rattle.assoc_mem.specs.declared.What.{What}
-use Rattle.tree_model.specs.Tree.{Node, node_in}
+use Rattle.tree_model.specs.Tree.{Node}
 use Rattle.known_segs.specs.Known.{uid_of}
 use Rattle.seg_control.specs.Control.{kst_at}
 use Rattle.storage_ops.specs.Shown.{who_at}
@@ -24,28 +21,26 @@ use Rattle.processor.specs.declared.Move.{Move}
 use Rattle.processor.specs.declared.Move.TheVariants as move
 use Rattle.processor.specs.declared.Transfer.{Transfer}
 use Rattle.machine_model.specs.declared.Aim.{Aim}
-use Rattle.machine_model.specs.declared.Aim.TheVariants as aim
 use Rattle.machine_model.specs.declared.Phase.{Phase}
 use Rattle.machine_model.specs.declared.Phase.TheVariants as phase
 use Rattle.machine_model.specs.declared.Processor.{Processor}
-use Rattle.machine_model.specs.declared.Run.{Run}
 use Rattle.machine_model.specs.Actions as act
 use Rattle.machine_model.specs.Actions.{action_of, is_over}
 use Rattle.machine_model.specs.After.{Outcome, after}
 use Rattle.machine_model.specs.Custodial.{waits_for, waits_in}
 use Rattle.machine_model.specs.Entitled.{IsEntitledToAll}
-use Rattle.machine_model.specs.Finishing.{Commands, IsReplied, Works, owns, rule_of}
+use Rattle.machine_model.specs.Finishing.{Commands, IsReplied, rule_of}
 use Rattle.machine_model.specs.Fitting.{IsFitting}
 use Rattle.machine_model.specs.Keeps.{Keeps}
-use Rattle.machine_model.specs.Measures.{chain_of}
-use Rattle.machine_model.specs.Outline.{Other, Outline, Runner, Stage, Want, runner_at, want_at}
-use Rattle.machine_model.specs.Outlined.{Around, around, bare, keeper_of, outline_of, runner_by, stage_of, want_by, want_known, want_of}
+use Rattle.machine_model.specs.Outline.{Other, Runner, want_at}
+use Rattle.machine_model.specs.Outlined.{around, bare, keeper_of, outline_of, runner_by, stage_of, want_by, want_known}
+use Rattle.machine_model.specs.Outlined.{want_of}
 use Rattle.machine_model.specs.Outlined.{want_of_command, work_of}
 use Rattle.machine_model.specs.OutlineKept.{FitsStage, FitsWork, IsKept}
 use Rattle.machine_model.specs.Promise.{IsMachine}
 use Rattle.machine_model.specs.Reading.{IsReading}
 use Rattle.machine_model.specs.Turns.{turn_of}
-use Rattle.machine_model.specs.Reads.{cpu_at, next_command, no_processor, no_run, or_zero, process_at, processor_at, run_at}
+use Rattle.machine_model.specs.Reads.{cpu_at, next_command, or_zero, process_at, processor_at, run_at}
 use Rattle.machine_model.specs.State.{Owner, State, Storage}
 use Rattle.active_segs.specs.Active.{ActiveSegs}
 use Rattle.machine_model.specs.Steps.{old_word, pages_after, told, with_pages, with_store}
@@ -212,7 +207,7 @@ module _ (s : State) (c : ℕ) (o : Outcome) (m : IsMachine s) (working : IsWork
       (λ q h. record {
         frames = frames_by s (told (with_store s st) c f r) frames;
         entries = ap (λ (x : ActiveSegs). x.entries) ast;
-        want = want_stays s (told (with_store s st) c f r) (record { nodes = nodes; whos = whos; known = known; })
+        want = want_stays s (told (with_store s st) c f r) (record { nodes = nodes; whos = whos; known = known })
             q.cpu (set_process s c m.keeps working other _ q h)
             (λ k e. subst (λ (j : ℕ). next_command (told (with_store s st) c f r) j ≡ next_command s j)
             (ap or_zero e) (other_next s c m.keeps working other q _ h m its));
@@ -238,7 +233,8 @@ module _ (s : State) (c : ℕ) (o : Outcome) (m : IsMachine s) (working : IsWork
     unfolding after
     move_fits its r move.FillSeg kept = seat_fits _ _ kept refl refl refl refl refl
     move_fits its r (move.FillPage f) kept = seat_fits _ _ kept refl refl refl refl refl
-    move_fits its r (move.Through f) kept = told_fits (with_pages s.store (pages_after s.store.pages f r)) (Some f) _ its
+    move_fits its r (move.Through f) kept =
+        told_fits (with_pages s.store (pages_after s.store.pages f r)) (Some f) _ its
         (pages_frames s f r) refl refl refl refl kept
     move_fits its r (move.Plain answer) kept = told_fits s.store None answer its refl refl refl refl refl kept
     move_fits its r move.Fault kept = take_fits s.owner refl kept

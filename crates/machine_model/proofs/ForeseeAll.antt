@@ -1,7 +1,7 @@
 -- A machine that keeps its promise finds what its actions ask of its outline.
-use Rattle.std.proofs.Common.{◌≡◌, ◌≢◌, ◌<◌, ℕ, length, suc, List, [], ◌∷◌, Option, Some, None, refl, sym, ap, subst, ◌∙◌, arith}
+use Rattle.std.proofs.Common.{◌≡◌, ◌≢◌, ◌<◌, ℕ, length, suc, List, [], Option, Some, None, refl, sym, ap, subst, ◌∙◌}
+use Rattle.std.proofs.Common.{arith}
 use Rattle.assoc_mem.specs.declared.What.{What}
-use Rattle.custody_model.specs.Custody.{Custody}
 use Rattle.machine_model.specs.declared.Aim.TheVariants as aim
 use Rattle.machine_model.specs.declared.Phase.{Phase}
 use Rattle.machine_model.specs.declared.Phase.TheVariants as phase
@@ -10,7 +10,6 @@ use Rattle.machine_model.specs.Custodial.{FitsPhase, IsShaped}
 use Rattle.machine_model.specs.Entitled.{IsEntitledToAll}
 use Rattle.machine_model.specs.Fitting.{IsFitting}
 use Rattle.machine_model.specs.Foreseen.{Foresees, IsLook}
-use Rattle.machine_model.specs.Keeps.{Keeps}
 use Rattle.machine_model.specs.Promise.{IsMachine}
 use Rattle.machine_model.specs.Reading.{IsReading}
 use Rattle.machine_model.specs.Reads.{cpu_at, next_command, or_zero, process_at, processor_at}
@@ -21,7 +20,7 @@ use Rattle.machine_model.proofs.LookSeen.{look_seen}
 use Rattle.machine_model.proofs.OutlineSeen.{kept_seen}
 use Rattle.machine_model.proofs.ReleaseSeen.{leaves_may}
 use Rattle.machine_model.proofs.SpeakLaws.{speaks}
-use Rattle.std.proofs.Common.{Bool, true, false, is_some}
+use Rattle.std.proofs.Common.{true, false, is_some}
 use Rattle.machine_model.specs.Keeps.{IsAtWork}
 
 some_of : (x : Option ℕ) → is_some x ≡ true → x ≡ Some (or_zero x)

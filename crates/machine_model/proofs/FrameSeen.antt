@@ -1,7 +1,7 @@
 -- What the outline of a machine shows of a page: whether it is in a frame, and whether it is stored.
-use Rattle.std.proofs.Common.{◌≡◌, ℕ, Bool, true, false, ◌&&◌, eqb, List, Option, Some, None, is_some, inl, inr, refl}
-use Rattle.std.proofs.Common.{map, sym, ap, ◌∙◌}
-use Rattle.std.specs.List.{list_any, position_or_len}
+use Rattle.std.proofs.Common.{◌≡◌, ℕ, Bool, true, false, ◌&&◌, eqb, Some, None, inl, inr, refl}
+use Rattle.std.proofs.Common.{sym, ap, ◌∙◌}
+use Rattle.std.specs.List.{position_or_len}
 use Rattle.std.proofs.lemmas.Bool.Decides.{eqb_tells}
 use Rattle.core_map.specs.CoreMap.{bound_page}
 use Rattle.core_map.specs.declared.Frame.{Frame}
@@ -9,7 +9,6 @@ use Rattle.core_map.specs.declared.Frame.TheVariants as frame
 use Rattle.page_control.specs.Plain.{frame_in as store_frame}
 use Rattle.page_control.specs.Tied.{has_record}
 use Rattle.seg_control.specs.Control.{word_of}
-use Rattle.storage_ops.specs.Shown.{is_filed}
 use Rattle.machine_model.specs.Custodial.{names}
 use Rattle.machine_model.specs.Finishing.{page_of}
 use Rattle.machine_model.specs.Holding.{seen}

@@ -1,5 +1,5 @@
 -- Whether the descriptor of a processor's next command is connected, while a job takes pages and descriptors.
-use Rattle.std.proofs.Common.{◌≡◌, ◌≢◌, ℕ, Bool, true, false, List, [], ◌∷◌, Option, Some, None, refl, sym, ap, subst, ◌∙◌}
+use Rattle.std.proofs.Common.{◌≡◌, ℕ, false, List, [], ◌∷◌, Option, Some, None, refl, sym, ap, ◌∙◌}
 use Rattle.script.specs.References.{reference_of}
 use Rattle.script.specs.declared.commands.Command.{Command}
 use Rattle.script.specs.declared.commands.Reference.{Reference}
@@ -10,19 +10,20 @@ use Rattle.core_map.specs.CoreMap.{bound_page}
 use Rattle.page_control.specs.Plain.{frame_in}
 use Rattle.descriptor_seg.specs.declared.Sdw.{Sdw}
 use Rattle.descriptor_seg.specs.declared.Sdw.TheVariants as sdw
-use Rattle.seg_control.specs.Control.{Links, leads, leads_at}
+use Rattle.seg_control.specs.Control.{Links, leads}
 use Rattle.seg_control.specs.Effects.{cut_one as descriptor_cut, unlinked}
 use Rattle.trailers.specs.Trailer.{cut_off as trailer_gone}
 use Rattle.machine_model.specs.declared.Aim.{Aim}
 use Rattle.machine_model.specs.declared.Aim.TheVariants as aim
 use Rattle.machine_model.specs.declared.CutDescriptor.{CutDescriptor}
 use Rattle.machine_model.specs.Foreseen.{KeepsLink}
-use Rattle.machine_model.specs.Jobs.{cut_all, cut_one, leaving_if, seg_gone, segment_taken, segs_gone, take_all, take_one}
+use Rattle.machine_model.specs.Jobs.{cut_all, cut_one, leaving_if, seg_gone, segment_taken, segs_gone, take_all}
+use Rattle.machine_model.specs.Jobs.{take_one}
 use Rattle.machine_model.specs.Jobs.{took}
-use Rattle.machine_model.specs.Outline.{Runner}
 use Rattle.machine_model.specs.Outlined.{around, is_linked, reference_in, runner_by}
-use Rattle.machine_model.specs.Reads.{cpu_at, cut_of_owner, descriptor_of, is_connected, next_command, processor_at, run_at}
-use Rattle.machine_model.specs.State.{State, Storage}
+use Rattle.machine_model.specs.Reads.{cpu_at, cut_of_owner, descriptor_of, is_connected, next_command, processor_at}
+use Rattle.machine_model.specs.Reads.{run_at}
+use Rattle.machine_model.specs.State.{State}
 use Rattle.machine_model.proofs.ComingKept.{SameRuns}
 use Rattle.machine_model.proofs.Places.{by_places}
 use Rattle.machine_model.proofs.TakeSeen.{descriptors_put, linked_within}

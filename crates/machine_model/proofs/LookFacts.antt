@@ -34,7 +34,7 @@ use Rattle.machine_model.specs.Actions as act
 use Rattle.machine_model.specs.Actions.{activate_first, activate_in, any_page, bring_cut, create_unless}
 use Rattle.machine_model.specs.Actions.{descriptors_taken, empty_victim, empty_when_read, evict_or_wait, first_taken}
 use Rattle.machine_model.specs.Actions.{frame_read_from, frames_taken, into_frame, look_at_descriptor, look_at_word}
-use Rattle.machine_model.specs.Actions.{look_for, look_for_command, look_for_reference, look_inside, look_of}
+use Rattle.machine_model.specs.Actions.{look_for, look_for_reference, look_inside, look_of}
 use Rattle.machine_model.specs.Actions.{look_to_change, look_to_take, look_unless, pool_of_node, room_for}
 use Rattle.machine_model.specs.Actions.{take_or_commit, unless_read, what_taken, with_chain, with_cut_page}
 use Rattle.machine_model.specs.Custodial.{is_out}

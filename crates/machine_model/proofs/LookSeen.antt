@@ -1,16 +1,14 @@
 -- A look of the owner finds what its outline asks of its actions.
-use Rattle.std.proofs.Common.{◌≡◌, ◌≢◌, ◌<◌, ◌≤◌, ℕ, zero, suc, Bool, true, false, not, cond, ◌&&◌, ◌||◌, eqb, List, []}
-use Rattle.std.proofs.Common.{◌∷◌, length, get_or, map, position, is_some, Option, Some, None, Result, Ok, Err, Contains}
+use Rattle.std.proofs.Common.{◌≡◌, ◌<◌, ℕ, zero, suc, Bool, true, false, not, cond, ◌&&◌, ◌||◌, eqb, List, []}
+use Rattle.std.proofs.Common.{◌∷◌, length, get_or, map, is_some, Option, Some, None, Ok, Contains}
 use Rattle.std.proofs.Common.{◌⊎◌, inl, inr, refl, sym, ap, subst, ◌∙◌, arith}
-use Rattle.std.specs.Prelude.{◌/◌, ◌%◌}
-use Rattle.std.specs.List.{list_any, position_or_len}
+use Rattle.std.specs.Prelude.{◌/◌}
+use Rattle.std.specs.List.{list_any}
 use Rattle.std.proofs.lemmas.List.{length-map}
-use Rattle.std.proofs.lemmas.Bool.Decides.{eqb_tells}
 use Rattle.script.specs.References.{new_word, reference_of}
 use Rattle.script.specs.declared.commands.Command.{Command}
 use Rattle.script.specs.declared.commands.Command.TheVariants as command
 use Rattle.script.specs.declared.commands.Reference.{Reference}
-use Rattle.book.specs.declared.replies.Reply.{Reply}
 use Rattle.tree_model.specs.Tree.{Node, node_in}
 use Rattle.tree_model.proofs.Finds.{found_member}
 use Rattle.dir_tree.specs.Nodes.{chain_of}
@@ -22,8 +20,6 @@ use Rattle.page_table.specs.declared.Ptw.{Ptw}
 use Rattle.page_table.specs.declared.Ptw.TheVariants as ptw
 use Rattle.page_control.specs.Plain.{frame_in as store_frame}
 use Rattle.page_control.specs.Tied.{has_record}
-use Rattle.descriptor_seg.specs.declared.Sdw.{Sdw}
-use Rattle.descriptor_seg.specs.declared.Sdw.TheVariants as sdw
 use Rattle.active_segs.specs.declared.Entry.{Entry}
 use Rattle.active_segs.specs.Active.{entry_at, uid_at, uid_in}
 use Rattle.active_segs.specs.Victim.{off_chain, victim_of}
@@ -31,7 +27,6 @@ use Rattle.known_segs.specs.Known.{uid_of as known_of}
 use Rattle.flat_model.specs.Store.{known_uid}
 use Rattle.seg_control.specs.Control.{kst_at, place_of, word_of}
 use Rattle.custody_model.specs.Custody.{has}
-use Rattle.processor.specs.declared.Transfer.{Transfer}
 use Rattle.machine_model.specs.declared.Aim.TheVariants as aim
 use Rattle.machine_model.specs.declared.Phase.TheVariants as phase
 use Rattle.machine_model.specs.Actions as act
@@ -40,25 +35,26 @@ use Rattle.machine_model.specs.After.{no_call}
 use Rattle.machine_model.specs.Custodial.{IsOwned, is_out, names}
 use Rattle.machine_model.specs.Finishing.{AreOf, CanActivate, CanEmpty, CanEvict, CanStart, IsIn, IsWantedPage}
 use Rattle.machine_model.specs.Finishing.{is_bound, is_wanted_here, page_of, uid_of}
-use Rattle.machine_model.specs.Foreseen.{IsLook, IsPlaced, KeepsLink, MayAnswer, MayConnect, MayEmpty, WantsPage}
-use Rattle.machine_model.specs.Foreseen.{HasDescriptor, lack_of}
+use Rattle.machine_model.specs.Foreseen.{IsLook, KeepsLink, MayAnswer, MayConnect, MayEmpty, WantsPage}
+use Rattle.machine_model.specs.Foreseen.{lack_of}
 use Rattle.machine_model.specs.Holding.{seen}
 use Rattle.machine_model.specs.Jobs.{deactivation_begun, took, victim_taken, with_hand_moved}
 use Rattle.machine_model.specs.Keeps.{Keeps}
 use Rattle.machine_model.specs.Measures.{has_free, is_here, page_fits, want_lack}
 use Rattle.machine_model.specs.Measures.{chain_of as wanted_chain}
 use Rattle.machine_model.specs.Outline.{Want, Refer, Truncate, Length, Runner, Look, frame_in, runner_at, want_at}
-use Rattle.machine_model.specs.Outlined.{Around, around, bare, cut_page, is_linked, outline_of, reference_in, want_by}
+use Rattle.machine_model.specs.Outlined.{around, bare, cut_page, is_linked, outline_of, reference_in, want_by}
 use Rattle.machine_model.specs.Outlined.{want_lengthened, want_of, want_truncated}
 use Rattle.machine_model.specs.Promise.{IsMachine}
-use Rattle.machine_model.specs.Reads.{cpu_at, descriptor_of, first_inactive, flat_of, frames_from, free_place, is_active}
+use Rattle.machine_model.specs.Reads.{cpu_at, descriptor_of, first_inactive, flat_of, frames_from, free_place}
+use Rattle.machine_model.specs.Reads.{is_active}
 use Rattle.machine_model.specs.Reads.{is_connected}
 use Rattle.machine_model.specs.Reads.{next_command, or_zero, process_at, processor_at, trailers_in}
 use Rattle.machine_model.specs.Refusal.{outside_refusal, refusal_of, uid_of_command, uid_of_number}
 use Rattle.machine_model.specs.Seen.{shown}
 use Rattle.machine_model.specs.State.{Owner, State}
 use Rattle.machine_model.specs.Steps.{with_store}
-use Rattle.machine_model.proofs.ActiveSeen.{active_place, some_within}
+use Rattle.machine_model.proofs.ActiveSeen.{active_place}
 use Rattle.machine_model.proofs.ChainFacts.{chain_active, first_there}
 use Rattle.machine_model.proofs.ComingKept.{SameRuns, all_taken, segment}
 use Rattle.machine_model.proofs.CommandFacts.{LeadsToSegment, length_stands, truncate_stands}
@@ -82,7 +78,7 @@ use Rattle.machine_model.proofs.TakeLists.{listed_bound}
 use Rattle.machine_model.proofs.ChainLaws.{has_head, has_tail}
 use Rattle.machine_model.proofs.TieLaws.{none_some}
 use Rattle.machine_model.proofs.TransferKept.{active_at}
-use Rattle.machine_model.proofs.VictimLaws.{chain_few, has_victim, member_contains, one_read, victim_is_off}
+use Rattle.machine_model.proofs.VictimLaws.{has_victim, member_contains, one_read, victim_is_off}
 use Rattle.machine_model.proofs.WantLaws.{linked_here, refer_wants, want_here}
 use Rattle.machine_model.proofs.WordLaws.{found}
 
@@ -461,7 +457,8 @@ module _ (s : State) (c : ℕ) (m : IsMachine s) (cmd : Command) (sp : Speaks s 
   empty_finds u finds = may_empty (deactivation_begun s c u) u finds.active
       (ap (λ (w : Want). off_chain (wanted_chain w) (entry_at s.store.ast.entries (place_of s.store.ast.entries u)))
       (length_want finds.path finds.pages finds.is finds.stands u finds.uid)
-      ∙ used (entry_at s.store.ast.entries (place_of s.store.ast.entries u)) (active_place s.store.ast u finds.active).1)
+      ∙ used (entry_at s.store.ast.entries (place_of s.store.ast.entries u))
+      (active_place s.store.ast u finds.active).1)
       (tree_link s (deactivation_begun s c u) c k sp.its
       (segment s c u (frames_from s.store.ast u 0) (trailers_in s.store u)) cmd sp.next
       (ap reference_of finds.is))

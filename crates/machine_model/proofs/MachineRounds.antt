@@ -1,21 +1,19 @@
 -- How the turns of the loop that makes the machine end join, said of machines.
-use Rattle.std.proofs.Common.{◌≡◌, ◌≢◌, ◌≤◌, ◌<◌, ℕ, zero, suc, ◌+◌, Bool, true, false, not, cond, ◌&&◌, ◌||◌, eqb, length, List, []}
+use Rattle.std.proofs.Common.{◌≡◌, ◌≢◌, ◌≤◌, ◌<◌, ℕ, zero, suc, ◌+◌, Bool, true, false, not, cond, ◌&&◌, ◌||◌, eqb}
+use Rattle.std.proofs.Common.{length, List, []}
 use Rattle.std.proofs.Common.{◌∷◌, Option, Some, None, is_some, ◌⊎◌, inl, inr, refl, sym, ap, subst, ◌∙◌, arith}
 use Rattle.std.specs.List.{list_any}
-use Rattle.processor.specs.declared.Transfer.{Transfer}
-use Rattle.machine_model.specs.Actions as act
-use Rattle.machine_model.specs.Actions.{Why, ForClear, ForOwner, ForTransfer, WhileIdle, action_of, has_process, is_empty}
+use Rattle.machine_model.specs.Actions.{ForClear, ForOwner, ForTransfer, WhileIdle, action_of, has_process, is_empty}
 use Rattle.machine_model.specs.Actions.{is_over}
-use Rattle.machine_model.specs.After.{after, no_call}
 use Rattle.machine_model.specs.Finishing.{IsEnded, IsIn, Step}
-use Rattle.machine_model.specs.Looping.{AwaitsClear, AwaitsTransfer, CommandDone, CommandStep, Goes, HasTaken, IsPast}
-use Rattle.machine_model.specs.Looping.{IsNearer, IsReader, JobDone, IsUnderWay, JobFell, OwnerStep, RoundDone, is_at}
+use Rattle.machine_model.specs.Looping.{AwaitsClear, AwaitsTransfer, CommandDone, CommandStep, Goes, HasTaken}
+use Rattle.machine_model.specs.Looping.{IsReader, JobDone, IsUnderWay, JobFell, OwnerStep, RoundDone, is_at}
 use Rattle.machine_model.specs.Measures.{all_rank}
-use Rattle.machine_model.specs.Outline.{Ended, Keeper, Moved, Outline, Runner, Stage, Look, Turn, WaitsFor, at_stage, runner_at}
+use Rattle.machine_model.specs.Outline.{Ended, Keeper, Moved, Outline, Runner, Stage, Look, Turn, WaitsFor, runner_at}
 use Rattle.machine_model.specs.Outlined.{around, keeper_of, outline_of, stage_of}
 use Rattle.machine_model.specs.OutlineKept.{IsKept}
 use Rattle.machine_model.specs.Promise.{KeepsAll}
-use Rattle.machine_model.specs.Reads.{cpu_at, no_processor, processor_at}
+use Rattle.machine_model.specs.Reads.{cpu_at, processor_at}
 use Rattle.machine_model.specs.Rounds.{HasStepped, IsGoing, IsOwnedBy}
 use Rattle.machine_model.specs.State.{Owner, State}
 use Rattle.machine_model.specs.Turns.{turn_of}
@@ -23,7 +21,6 @@ use Rattle.machine_model.specs.declared.Processor.{Processor}
 use Rattle.machine_model.proofs.CommandLaws.{command_step, idle_step}
 use Rattle.machine_model.proofs.ForeseeAll.{foresees}
 use Rattle.machine_model.proofs.LackLaws.{lack_few}
-use Rattle.machine_model.proofs.ListLaws.{within_by}
 use Rattle.machine_model.proofs.LoopLaws.{goes_on, goes_self, job_goes, job_over, reader_there, taken_done, waited_fell}
 use Rattle.machine_model.proofs.OutlineJob.{in_job}
 use Rattle.machine_model.proofs.OutlineOwner.{step_outlined}
@@ -171,7 +168,8 @@ done_free s t c (inl past) = past.owner
 done_free s t c (inr nearer) = nearer.owner
 
 module _ (s t : State) (c : ℕ) (going : IsGoing s) (keeps : KeepsAll t) (there : c < length s.processors)
-    (none : s.owner ≡ None) (running : is_some (cpu_at s.processors c).process ≡ true) (stepped : HasStepped s t c) where
+    (none : s.owner ≡ None) (running : is_some (cpu_at s.processors c).process ≡ true)
+    (stepped : HasStepped s t c) where
   -- what a turn of a processor brings that has a process, while nobody owns the supervisor
   pub command_turn : CommandStep (turn_of (action_of s c)) (outline_of s) (outline_of t) c
   command_turn = command_step (outline_of s) c (turn_of (action_of s c)) (outline_of t) (kept_of s going.keeps)
@@ -204,11 +202,14 @@ module _ (s t : State) (c : ℕ) (going : IsGoing s) (keeps : KeepsAll t) (there
 
       by : HasTaken (outline_of s) (outline_of t) c ⊎ CommandDone (outline_of s) (outline_of t) c
           → IsOwnedBy t c × HasTaken (outline_of s) (outline_of t) c
-      by (inl taken) = (record {
-        owner = q;
-        mine = mine;
-        cpu = ap cpu_or (sym is ∙ looking_is s t c taken);
-      }, taken)
+      by (inl taken) = (
+        record {
+          owner = q;
+          mine = mine;
+          cpu = ap cpu_or (sym is ∙ looking_is s t c taken);
+        },
+        taken,
+      )
       by (inr done) = absurd (none_some (sym (done_free s t c done) ∙ is))
 
   -- or the turn is done

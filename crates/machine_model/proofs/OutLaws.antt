@@ -1,5 +1,5 @@
 -- A page that isn't on its record alone stays so while other pages come into frames and are on their way out.
-use Rattle.std.proofs.Common.{◌≡◌, ℕ, Bool, true, false, List, [], ◌∷◌, get_or, set, Option, Some, None, inl, inr, refl, sym}
+use Rattle.std.proofs.Common.{◌≡◌, ℕ, false, List, [], ◌∷◌, get_or, set, Option, Some, None, inl, inr, refl, sym}
 use Rattle.std.proofs.Common.{ap, ◌∙◌}
 use Rattle.assoc_mem.specs.declared.What.{What}
 use Rattle.core_map.specs.CoreMap.{bound_page}
@@ -12,7 +12,7 @@ use Rattle.seg_control.specs.Effects.{worded}
 use Rattle.machine_model.specs.declared.Aim.{Aim}
 use Rattle.machine_model.specs.Custodial.{is_out}
 use Rattle.machine_model.specs.Jobs.{cut_all, cut_one, leaving_if, take_all, take_one, took}
-use Rattle.machine_model.specs.State.{State, Storage}
+use Rattle.machine_model.specs.State.{State}
 use Rattle.machine_model.proofs.ReleaseSeen.{set_either}
 
 -- no page more is on its record alone

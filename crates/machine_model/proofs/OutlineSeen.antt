@@ -1,6 +1,6 @@
 -- The outline of a machine that keeps its promise is kept: its sizes, and whoever is waited for is there.
-use Rattle.std.proofs.Common.{◌≡◌, ◌≢◌, ◌<◌, ◌≤◌, ℕ, ◌+◌, zero, suc, Bool, true, false, ◌||◌, eqb, length, List, [], ◌∷◌, sum, map}
-use Rattle.std.proofs.Common.{get_or, Contains, Option, Some, None, Result, Ok, Err, is_some, ◌⊎◌, inl, inr, refl, sym, ap}
+use Rattle.std.proofs.Common.{◌≡◌, ◌<◌, ◌≤◌, ℕ, ◌+◌, Bool, true, false, ◌||◌, eqb, length, List, [], ◌∷◌, sum}
+use Rattle.std.proofs.Common.{Option, Some, None, Result, Ok, Err, is_some, inl, inr, refl, sym, ap}
 use Rattle.std.proofs.Common.{subst, ◌∙◌, arith, cond, not, nat_le, ◌*◌}
 use Rattle.std.specs.List.{IsDistinct, AllByRecursion, list_any}
 use Rattle.std.proofs.lemmas.Bool.Decides.{eqb_tells}
@@ -33,11 +33,12 @@ use Rattle.machine_model.specs.Holding.{seen}
 use Rattle.machine_model.specs.Keeps.{Keeps}
 use Rattle.machine_model.specs.Keeps.{IsAtWork as AtWork}
 use Rattle.machine_model.specs.Measures.{chain_of, dues}
-use Rattle.machine_model.specs.Outline.{Keeper, Want, Refer, Truncate, Length, Other, Runner, Stage, Look, no_runner, runner_at}
-use Rattle.machine_model.specs.Outline.{frame_in, want_at}
-use Rattle.machine_model.specs.Outlined.{Around, around, bare, keeper_of, outline_of, runner_by, stage_of, want_by, want_in}
+use Rattle.machine_model.specs.Outline.{Keeper, Want, Refer, Truncate, Length, Other, Runner, Stage, Look, no_runner}
+use Rattle.machine_model.specs.Outline.{runner_at}
+use Rattle.machine_model.specs.Outline.{want_at}
+use Rattle.machine_model.specs.Outlined.{around, bare, keeper_of, outline_of, runner_by, stage_of, want_by, want_in}
 use Rattle.machine_model.specs.Outlined.{want_known, want_lengthened, want_of, want_of_command, want_truncated}
-use Rattle.machine_model.specs.OutlineKept.{AreTied, EndsChain, FitsStage, HasJob, HasSizes, IsAtWork, IsKept}
+use Rattle.machine_model.specs.OutlineKept.{AreTied, EndsChain, FitsStage, HasJob, HasSizes, IsKept}
 use Rattle.machine_model.specs.Promise.{IsMachine}
 use Rattle.machine_model.specs.Reading.{IsReading}
 use Rattle.machine_model.specs.Reads.{cpu_at, next_command, no_processor, processor_at}
@@ -45,9 +46,9 @@ use Rattle.machine_model.specs.State.{Owner, State}
 use Rattle.machine_model.specs.declared.Processor.{Processor}
 use Rattle.machine_model.proofs.FrameSeen.{frame_outlined}
 use Rattle.machine_model.proofs.ListLaws.{map_list, within_by}
-use Rattle.machine_model.proofs.LookSeen.{long_frames}
 use Rattle.machine_model.proofs.OutlineOwner.{count_zero}
-use Rattle.machine_model.proofs.OutlineReads.{at_outline, long_outline, seen_due, seen_online, seen_reading, seen_running}
+use Rattle.machine_model.proofs.OutlineReads.{at_outline, long_outline, seen_due, seen_online, seen_reading}
+use Rattle.machine_model.proofs.OutlineReads.{seen_running}
 use Rattle.machine_model.proofs.TieLaws.{none_some, page_is}
 use Rattle.machine_model.proofs.VictimLaws.{chain_ends, chain_few}
 
@@ -64,7 +65,8 @@ places_few [] h = absurd h
 places_few (a ∷ []) h = absurd h
 places_few (a ∷ b ∷ []) h = absurd h
 places_few (a ∷ b ∷ c ∷ []) h = absurd h
-places_few (a ∷ b ∷ c ∷ d ∷ []) h = let few : a + b + c + d ≤ 1024 = h.4 in let all = sum_four a b c d in omega (arith, few, all)
+places_few (a ∷ b ∷ c ∷ d ∷ []) h = let few : a + b + c + d ≤ 1024 = h.4 in
+    let all = sum_four a b c d in omega (arith, few, all)
 places_few (a ∷ b ∷ c ∷ d ∷ e ∷ rest) h = absurd h
 
 distinct_of : (xs : List ℕ) → AreDistinct xs → IsDistinct eqb xs
@@ -77,9 +79,9 @@ distinct_of (x ∷ xs) h = (apart xs h.0, distinct_of xs h.1)
     apart (y ∷ ys) i = elim (eqb_tells y x) [
       | inl e ↦ absurd (no_and (ap (λ (b : Bool). b || has ys x) e.0) i)
       | inr n ↦ (
-          elim (eqb_tells x y) [ inl e ↦ absurd (n.1 (sym e.1)) | inr o ↦ o.0 ],
-          apart ys (sym (ap (λ (b : Bool). b || has ys x) n.0) ∙ i),
-        )
+        elim (eqb_tells x y) [ inl e ↦ absurd (n.1 (sym e.1)) | inr o ↦ o.0 ],
+        apart ys (sym (ap (λ (b : Bool). b || has ys x) n.0) ∙ i),
+      )
     ]
 
 any_turned : (xs : List ℕ) (q : ℕ) → list_any (eqb q) xs ≡ true → has xs q ≡ true

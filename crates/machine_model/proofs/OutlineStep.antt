@@ -27,7 +27,7 @@ use Rattle.machine_model.specs.Reads.{or_zero, next_command, processor_at, cpu_a
 use Rattle.seg_control.specs.Control.{sdws_at, word_of}
 use Rattle.machine_model.specs.Steps.{transfer_failed, transferred, uid_of_held, with_faults}
 use Rattle.machine_model.specs.Actions as act
-use Rattle.machine_model.specs.Actions.{action_of, has_had_its_turn, is_empty}
+use Rattle.machine_model.specs.Actions.{has_had_its_turn, is_empty}
 use Rattle.machine_model.specs.After.{Outcome, after}
 use Rattle.machine_model.specs.Turns.{turn_of}
 use Rattle.machine_model.specs.Outline.{Moved}
@@ -267,5 +267,6 @@ run_goal s c o f rest own (Some k) process =
         → Goal s c o (cond b act.Leave (act.come_to s (cpu_at s.processors c) k (next_command s k)))
     by true turn = leave_outlined s c (leaves_rule s c k rest own process turn) (going_on s c may) (free_of s c rest)
     by false turn = command_goal s c k o (commands_rule s c k rest own process turn) process may (next_command s k) refl
-        (λ none is. f.enters none rest.transfer (ap (λ (j : ℕ). act.come_to s (cpu_at s.processors c) j (next_command s j)) at_k
+        (λ none is. f.enters none rest.transfer
+        (ap (λ (j : ℕ). act.come_to s (cpu_at s.processors c) j (next_command s j)) at_k
         ∙ is))

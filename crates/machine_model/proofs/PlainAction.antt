@@ -1,6 +1,6 @@
 -- No action answers by itself that a drive failed.
-use Rattle.std.proofs.Common.{◌≡◌, ◌<◌, ℕ, Bool, true, false, not, ◌&&◌, cond, eqb, length, List, [], ◌∷◌, position}
-use Rattle.std.proofs.Common.{Option, Some, None, sym, ap, ◌∙◌}
+use Rattle.std.proofs.Common.{◌≡◌, ℕ, Bool, true, false, not, ◌&&◌, cond, eqb, List, [], ◌∷◌, position}
+use Rattle.std.proofs.Common.{Option, Some, None, ap, ◌∙◌}
 use Rattle.script.specs.References.{reference_of}
 use Rattle.script.specs.declared.commands.Command.{Command}
 use Rattle.script.specs.declared.commands.Reference.{Reference}
@@ -16,7 +16,6 @@ use Rattle.machine_model.specs.declared.Phase.TheVariants as phase
 use Rattle.machine_model.specs.declared.Processor.{Processor}
 use Rattle.machine_model.specs.Actions as act
 use Rattle.machine_model.specs.Actions.{action_of, is_over}
-use Rattle.machine_model.specs.Promise.{IsMachine}
 use Rattle.machine_model.specs.Reads.{flat_of, is_due, next_command, or_zero, processor_at}
 use Rattle.machine_model.specs.State.{Owner, State}
 use Rattle.machine_model.proofs.LookFacts.{LookFinds, look_finds}

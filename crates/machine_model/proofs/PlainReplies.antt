@@ -1,5 +1,6 @@
 -- What the flat store answers a command is never that a drive failed.
-use Rattle.std.proofs.Common.{◌≡◌, ℕ, ℤ, Bool, true, false, not, ◌&&◌, cond, eqb, List, [], ◌∷◌, Option, Some, None, Result}
+use Rattle.std.proofs.Common.{◌≡◌, ℕ, ℤ, Bool, true, false, not, ◌&&◌, cond, eqb, List, [], ◌∷◌, Option, Some, None}
+use Rattle.std.proofs.Common.{Result}
 use Rattle.std.proofs.Common.{Ok, Err, refl, nat_le, ◌*◌, length, is_some}
 use Rattle.std.specs.Prelude.{◌/◌}
 use Rattle.mnames.specs.declared.rows.Row.{Row as Named}
@@ -19,10 +20,11 @@ use Rattle.tree_model.specs.Tree.{Node, Walk, LeadsTo, Missing, InSegment, node_
 use Rattle.flat_model.specs.Branches.{branch_at, directory_at, done_at, node_at, only_directory, only_segment, parts_of}
 use Rattle.flat_model.specs.Branches.{segment_at, there_or, walked}
 use Rattle.flat_model.specs.Commands.{reply_by, reply_to_command, reply_to_tree_command}
-use Rattle.flat_model.specs.Making.{delete_of, delete_reply, make_at, make_in, make_of, make_reply}
-use Rattle.flat_model.specs.Naming.{initiate_of, initiate_reply, known_or_full, status_of, status_reply, terminate_reply}
+use Rattle.flat_model.specs.Making.{delete_of, delete_reply, make_at, make_of, make_reply}
+use Rattle.flat_model.specs.Naming.{initiate_of, initiate_reply, known_or_full, status_of, status_reply}
+use Rattle.flat_model.specs.Naming.{terminate_reply}
 use Rattle.flat_model.specs.References.{is_used_up, is_volume_full, stores_page}
-use Rattle.flat_model.specs.References.{reply_at, reply_in, reply_of, reply_to_reference, room_reply, word_reply}
+use Rattle.flat_model.specs.References.{reply_at, reply_in, reply_of, reply_to_reference, word_reply}
 use Rattle.flat_model.specs.Rights.{acl_of, acl_reply, done_or_over, move_of, move_reply, nodes_moved}
 use Rattle.flat_model.specs.Pages.{is_stored_from}
 use Rattle.known_segs.specs.Known.{number_for}
@@ -42,7 +44,7 @@ use Rattle.descriptor_seg.specs.declared.Sdw.TheVariants as sdw
 use Rattle.descriptor_seg.specs.Descriptors.{sdw_at}
 use Rattle.processor.specs.declared.Move.{Move}
 use Rattle.processor.specs.declared.Move.TheVariants as move
-use Rattle.processor.specs.Moves.{by_descriptor, by_held, by_page, by_seg, by_word, next_move}
+use Rattle.processor.specs.Moves.{by_descriptor, by_page, by_seg, by_word, next_move}
 
 abbrev pub is_device : Reply → Bool
 is_device reply.Device = true

@@ -61,13 +61,15 @@ taken : (s : State) (c : ℕ) (a : Aim) (w : What) (fs : List ℕ) → SamePools
 taken s c a w [] = record { plan = refl; stopped = refl; sizes = refl }
 taken s c a w (f ∷ fs) =
     on s (take_one s c a w f) (take_all (take_one s c a w f) c a w fs)
-    (record { plan = refl; stopped = refl; sizes = is_leaving s.store f (bound_page (frame_in s.store.pages f)) }) (taken
+    (record { plan = refl; stopped = refl; sizes = is_leaving s.store f (bound_page (frame_in s.store.pages f)) })
+    (taken
     (take_one s c a w f) c a w fs)
 
 all_cut : (s : State) (c : ℕ) (a : Aim) (w : What) (pairs : List (ℕ × ℕ)) → SamePools s (cut_all s c a w pairs)
 all_cut s c a w [] = record { plan = refl; stopped = refl; sizes = refl }
 all_cut s c a w (x ∷ xs) =
-    on s (cut_one s c a w x) (cut_all (cut_one s c a w x) c a w xs) (record { plan = refl; stopped = refl; sizes = refl }) (all_cut
+    on s (cut_one s c a w x) (cut_all (cut_one s c a w x) c a w xs)
+    (record { plan = refl; stopped = refl; sizes = refl }) (all_cut
     (cut_one s c a w x) c a w xs)
 
 all_taken : (s : State) (c : ℕ) (a : Aim) (w : What) (fs : List ℕ) (pairs : List (ℕ × ℕ))
@@ -77,7 +79,8 @@ all_taken s c a w fs pairs =
 
 all_gone : (s : State) (ds : List CutDescriptor) → SamePools s (segs_gone s ds)
 all_gone s [] = record { plan = refl; stopped = refl; sizes = refl }
-all_gone s (d ∷ ds) = on s (seg_gone s d) (segs_gone s (d ∷ ds)) (record { plan = refl; stopped = refl; sizes = refl }) (all_gone
+all_gone s (d ∷ ds) = on s (seg_gone s d) (segs_gone s (d ∷ ds))
+    (record { plan = refl; stopped = refl; sizes = refl }) (all_gone
     (seg_gone s d) ds)
 
 is_emptied : (s : State) (c u : ℕ) → SamePools s (emptied s c u)
@@ -93,12 +96,14 @@ segment s c u (f ∷ fs) pairs = all_taken s c (aim.Deactivating u) (what.Seg u)
 all_pages_back : (s : State) (fs : List ℕ) → SamePools s (pages_back s fs)
 all_pages_back s [] = record { plan = refl; stopped = refl; sizes = refl }
 all_pages_back s (f ∷ fs) =
-    on s (page_back s f) (pages_back s (f ∷ fs)) (record { plan = refl; stopped = refl; sizes = is_here s.store f }) (all_pages_back
+    on s (page_back s f) (pages_back s (f ∷ fs))
+    (record { plan = refl; stopped = refl; sizes = is_here s.store f }) (all_pages_back
     (page_back s f) fs)
 
 all_segs_back : (s : State) (ds : List CutDescriptor) → SamePools s (segs_back s ds)
 all_segs_back s [] = record { plan = refl; stopped = refl; sizes = refl }
-all_segs_back s (d ∷ ds) = on s (seg_back s d) (segs_back s (d ∷ ds)) (record { plan = refl; stopped = refl; sizes = refl })
+all_segs_back s (d ∷ ds) = on s (seg_back s d) (segs_back s (d ∷ ds))
+    (record { plan = refl; stopped = refl; sizes = refl })
     (all_segs_back (seg_back s d) ds)
 
 failed : (s : State) (c faults : ℕ) → SamePools s (write_failed s c faults)
@@ -215,7 +220,8 @@ commits s c (Some cmd) = committed_same s c (process_at s c) cmd
 
 evicting : (s : State) (c f : ℕ) → SamePools s (eviction_begun s c f)
 evicting s c f = on s (with_store s (with_choice s.store f)) (eviction_begun s c f)
-    (record { plan = refl; stopped = refl; sizes = refl }) (taken (with_store s (with_choice s.store f)) c aim.Evicting (what.Page f)
+    (record { plan = refl; stopped = refl; sizes = refl })
+    (taken (with_store s (with_choice s.store f)) c aim.Evicting (what.Page f)
     (f ∷ []))
 
 -- ---- each action
@@ -228,7 +234,8 @@ pools_kept s c (act.Waits why) o = record { plan = refl; stopped = refl; sizes =
 pools_kept s c act.Online o = record { plan = refl; stopped = refl; sizes = refl }
 pools_kept s c (act.Clear w) o = record { plan = refl; stopped = refl; sizes = refl }
 pools_kept s c (act.EndTransfer t) o = either o.failed (transferred (with_faults s o.faults) c t)
-    (transfer_failed s c t o.faults) (record { plan = refl; stopped = refl; sizes = refl }) (record { plan = refl; stopped = refl; sizes = refl })
+    (transfer_failed s c t o.faults) (record { plan = refl; stopped = refl; sizes = refl })
+    (record { plan = refl; stopped = refl; sizes = refl })
 pools_kept s c (act.Load n) o = record { plan = refl; stopped = refl; sizes = refl }
 pools_kept s c act.Leave o = record { plan = refl; stopped = refl; sizes = refl }
 pools_kept s c (act.FillSeg n) o = record { plan = refl; stopped = refl; sizes = refl }

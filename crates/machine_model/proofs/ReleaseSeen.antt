@@ -1,7 +1,6 @@
 -- Once a page has left its frame, just that page may be stored no more.
-use Rattle.std.proofs.Common.{◌≡◌, ◌≢◌, ◌<◌, ℕ, zero, suc, Bool, true, false, ◌&&◌, cond, eqb, is_some, List, [], ◌∷◌}
-use Rattle.std.proofs.Common.{get_or, set, Option, Some, None, ◌⊎◌, inl, inr, refl, sym, ap, subst, ◌∙◌}
-use Rattle.std.proofs.lemmas.Bool.Decides.{eqb_tells}
+use Rattle.std.proofs.Common.{◌≡◌, ◌≢◌, ℕ, zero, suc, Bool, true, false, ◌&&◌, is_some, List, [], ◌∷◌}
+use Rattle.std.proofs.Common.{get_or, set, Option, Some, None, ◌⊎◌, inl, inr, refl, sym, ap, ◌∙◌}
 use Rattle.vtoc.specs.Vtoc.{Entry, entry_at, record_at, records_in, with_record}
 use Rattle.page_control.specs.declared.Home.{Home}
 use Rattle.page_control.specs.declared.Left.{Left}
@@ -20,10 +19,9 @@ use Rattle.machine_model.specs.Outline.{frame_in}
 use Rattle.machine_model.specs.Outlined.{outline_of}
 use Rattle.machine_model.specs.Reads.{frames_of_owner, home_in}
 use Rattle.machine_model.specs.Seen.{shown}
-use Rattle.machine_model.specs.State.{State, Storage}
+use Rattle.machine_model.specs.State.{State}
 use Rattle.machine_model.proofs.ChainLaws.{has_head}
 use Rattle.machine_model.proofs.FrameSeen.{bound_outlined}
-use Rattle.machine_model.proofs.TieLaws.{none_some}
 use Rattle.machine_model.specs.State.{Owner}
 use Rattle.machine_model.specs.Seen.{frame_use, read_use}
 use Rattle.core_map.specs.CoreMap.{bound_page}

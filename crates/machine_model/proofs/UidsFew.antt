@@ -1,13 +1,15 @@
 -- A machine makes few uids: one in each command that makes a directory or a segment.
-use Rattle.std.proofs.Common.{◌≡◌, ◌≤◌, ◌<◌, ℕ, zero, suc, ℤ, ◌+◌, ◌^◌, Bool, true, false, cond, List, [], ◌∷◌, length, set}
-use Rattle.std.proofs.Common.{get_or, replicate, Option, Some, None, Result, Ok, Err, inl, inr, refl, sym, ap, subst, ◌∙◌, arith}
+use Rattle.std.proofs.Common.{◌≡◌, ◌≤◌, ◌<◌, ℕ, zero, suc, ℤ, ◌+◌, ◌^◌, Bool, true, false, cond, List, [], ◌∷◌, length}
+use Rattle.std.proofs.Common.{set}
+use Rattle.std.proofs.Common.{get_or, replicate, Option, Some, None, Result, Ok, Err, inl, inr, refl, sym, ap, subst}
+use Rattle.std.proofs.Common.{◌∙◌, arith}
 use Rattle.std.specs.Prelude.{sum_by}
 use Rattle.std.specs.List.{list_all}
 use Rattle.std.proofs.lemmas.Bool.{and_parts}
 use Rattle.std.proofs.lemmas.Bool.Decides.{eqb_tells}
 use Rattle.std.proofs.lemmas.List.{get_or-set_other, get_or-set_same, length-replicate, length-set}
 use Rattle.std.proofs.lemmas.List.Sums.{sum_by-cons, sum_by-set}
-use Rattle.script.specs.Forms.{IsPlan, is_process, weight_of}
+use Rattle.script.specs.Forms.{is_process, weight_of}
 use Rattle.script.specs.Plans.{Plan, ProcessPlan, command_at, commands_of, nobody}
 use Rattle.script.specs.References.{alters, new_word, reference_of}
 use Rattle.script.specs.declared.commands.Command.{Command}
@@ -16,20 +18,20 @@ use Rattle.script.specs.declared.commands.Reference.{Reference}
 use Rattle.book.specs.declared.entries.Entry.{Entry}
 use Rattle.book.specs.declared.entries.Entry.TheVariants as entry
 use Rattle.book.specs.declared.replies.Reply.{Reply}
-use Rattle.book.specs.declared.replies.Reply.TheVariants as reply
 use Rattle.tree_model.specs.Access.{Row}
 use Rattle.tree_model.specs.Tree.{Node}
 use Rattle.flat_model.specs.Branches.{branch_at, changed, directory_at, node_at, parts_of, segment_at}
 use Rattle.flat_model.specs.Commands.{after_command, effect_by, effect_of, effect_of_tree_command, gone_on, is_end}
 use Rattle.flat_model.specs.Commands.{takes_effect, tries_on}
-use Rattle.flat_model.specs.Legal.{IsAnswer, IsLawful, IsLegal, IsLegalFrom, MayFault, after_do, after_entry, after_fault}
+use Rattle.flat_model.specs.Legal.{IsAnswer, IsLawful, IsLegal, IsLegalFrom, MayFault, after_do, after_entry}
+use Rattle.flat_model.specs.Legal.{after_fault}
 use Rattle.flat_model.specs.Legal.{store_after, store_from}
 use Rattle.flat_model.specs.Making.{after_delete, after_make, deleted, made_at, made_of}
 use Rattle.flat_model.specs.Naming.{after_initiate, after_terminate, initiated}
 use Rattle.flat_model.specs.References.{after_reference, written, written_by}
 use Rattle.flat_model.specs.Rights.{after_acl, after_move, moved}
 use Rattle.flat_model.specs.Sizes.{after_length, after_truncate, truncated}
-use Rattle.flat_model.specs.Store.{Progress, Store, at_first, boot, known_uid, progress_of, with_progress}
+use Rattle.flat_model.specs.Store.{Progress, Store, at_first, boot, known_uid, progress_of}
 use Rattle.flat_model.proofs.PlaceLaws.{place_within, process_weighs}
 use Rattle.machine_model.specs.Promise.{KeepsAll}
 use Rattle.machine_model.specs.Reads.{flat_of}

@@ -1,9 +1,11 @@
 -- The victim of a full pool: there is one, and it isn't a link of the chain for which the pool is to have room.
-use Rattle.std.proofs.Common.{◌≡◌, ◌≢◌, ◌<◌, ◌≤◌, ℕ, zero, suc, ◌+◌, ◌-◌, Bool, true, false, not, cond, eqb, List, [], ◌∷◌}
-use Rattle.std.proofs.Common.{◌++◌, ◌||◌, get_or, length, reverse, is_some, is_none, sum, Option, Some, None, ◌⊎◌, inl, inr, refl, sym}
+use Rattle.std.proofs.Common.{◌≡◌, ◌≢◌, ◌<◌, ◌≤◌, ℕ, zero, suc, ◌+◌, ◌-◌, Bool, true, false, not, cond, eqb, List, []}
+use Rattle.std.proofs.Common.{◌∷◌}
+use Rattle.std.proofs.Common.{◌||◌, get_or, length, reverse, is_some, is_none, Option, Some, None, ◌⊎◌, inl, inr, refl}
+use Rattle.std.proofs.Common.{sym}
 use Rattle.std.proofs.Common.{ap, subst, ◌∙◌, arith, Contains}
 use Rattle.std.specs.Prelude.{take, position, nat_le}
-use Rattle.std.specs.List.{find, list_any}
+use Rattle.std.specs.List.{list_any}
 use Rattle.std.proofs.lemmas.Bool.{cases_lt}
 use Rattle.std.proofs.lemmas.Bool.Decides.{eqb_tells}
 use Rattle.std.proofs.lemmas.List.{length-reverse}
@@ -16,14 +18,15 @@ use Rattle.tree_model.proofs.ChainLaws.{has_chains}
 use Rattle.tree_model.proofs.TreeLaws.{above_once, depth, superior_in}
 use Rattle.dir_tree.specs.Nodes.{chain_of}
 use Rattle.core_map.specs.CoreMap.{Core, frame_at, is_bound, is_free, is_started, least_free_frame}
-use Rattle.core_map.specs.Clock.{clock_choice, is_idle, or_else, round_frames}
+use Rattle.core_map.specs.Clock.{clock_choice, or_else, round_frames}
 use Rattle.core_map.specs.declared.Frame.{Frame}
 use Rattle.core_map.specs.declared.Frame.TheVariants as frame
 use Rattle.active_segs.specs.declared.Entry.{Entry}
 use Rattle.active_segs.specs.Active.{ActiveSegs, entry_at, uid_at, uid_in}
 use Rattle.active_segs.specs.Active as active
 use Rattle.active_segs.specs.Pool.{IsInPool, first_of, size_of}
-use Rattle.active_segs.specs.Victim.{HasOneOffChain, first_off_chain, hand_of, is_inferior_in, is_inferior_of, leaf_below, leaf_of}
+use Rattle.active_segs.specs.Victim.{HasOneOffChain, first_off_chain, hand_of, is_inferior_in, is_inferior_of}
+use Rattle.active_segs.specs.Victim.{leaf_below, leaf_of}
 use Rattle.active_segs.specs.Victim.{least_inferior, least_inferior_of, off_chain, places_from, round_pool, stead_of}
 use Rattle.active_segs.specs.Victim.{victim_of}
 use Rattle.machine_model.specs.Keeps.{Keeps}
@@ -68,8 +71,12 @@ member_link (x ∷ xs) u (inr m) = by (eqb x u) (member_link xs u m)
 pub member_contains : (xs : List ℕ) (u : ℕ) → IsMember u xs → Contains xs u
 member_contains [] u h = absurd h
 member_contains (x ∷ xs) u (inl e) = (0, omega arith, sym e)
-member_contains (x ∷ xs) u (inr m) = let rest = member_contains xs u m in (suc rest.0, let lt = rest.1 in omega
-    (arith, lt), rest.2)
+member_contains (x ∷ xs) u (inr m) = let rest = member_contains xs u m in (
+  suc rest.0,
+  let lt = rest.1 in omega
+      (arith, lt),
+  rest.2,
+)
 
 turn_member : (ys : List ℕ) (v : ℕ) → IsMember v (reverse ys) → IsMember v ys
 turn_member [] v m = m
@@ -250,7 +257,8 @@ module _ (ast : ActiveSegs) (pool : ℕ) where
 
       by : (o : Option Entry) → entry_at ast.entries q ≡ o → is_some o ≡ true
       by None e = absurd (member_found (λ p. is_none (entry_at ast.entries p)) (places_in ast pool) q
-          (range_has (first_of ast.sizes pool) _ q from (omega (arith, from, to))) (ap (λ (o : Option Entry). is_none o) e)
+          (range_has (first_of ast.sizes pool) _ q from (omega (arith, from, to)))
+          (ap (λ (o : Option Entry). is_none o) e)
           full)
       by (Some e) i = refl
 

@@ -1,10 +1,9 @@
 -- What the next command of a process wants of the tables, by what a look finds for it.
-use Rattle.std.proofs.Common.{◌≡◌, ◌<◌, ℕ, ◌*◌, Bool, true, false, not, cond, eqb, List, Option, Some, None}
+use Rattle.std.proofs.Common.{◌≡◌, ℕ, ◌*◌, Bool, true, false, not, cond, eqb, List, Option, Some, None}
 use Rattle.std.proofs.Common.{Result, Ok, Err, inl, inr, refl, sym, ap, ◌∙◌, arith, nat_le, []}
 use Rattle.std.specs.Prelude.{◌/◌}
 use Rattle.std.proofs.lemmas.Bool.Decides.{leb_tells}
-use Rattle.script.specs.Plans.{who_of}
-use Rattle.script.specs.References.{new_word, permits, reference_of}
+use Rattle.script.specs.References.{new_word, permits}
 use Rattle.script.specs.declared.commands.Command.{Command}
 use Rattle.script.specs.declared.commands.Command.TheVariants as command
 use Rattle.script.specs.declared.commands.Reference.{Reference}
@@ -19,8 +18,8 @@ use Rattle.flat_model.specs.Branches.{segment_at}
 use Rattle.storage_ops.specs.Shown.{who_at}
 use Rattle.machine_model.specs.Keeps.{Keeps}
 use Rattle.machine_model.specs.Outline.{Want, Refer, Truncate, Length, Other, Runner, runner_at, want_at}
-use Rattle.machine_model.specs.Outlined.{Around, around, cut_page, is_linked, outline_of, reference_in, runner_by}
-use Rattle.machine_model.specs.Outlined.{want_by, want_in, want_known, want_lengthened, want_of, want_of_command}
+use Rattle.machine_model.specs.Outlined.{around, is_linked, outline_of, reference_in, runner_by}
+use Rattle.machine_model.specs.Outlined.{want_in, want_known, want_lengthened, want_of, want_of_command}
 use Rattle.machine_model.specs.Outlined.{want_of_reference, want_truncated}
 use Rattle.machine_model.specs.Reads.{cpu_at, next_command, processor_at}
 use Rattle.machine_model.specs.State.{State}
@@ -41,7 +40,8 @@ module _ (s : State) (c k : ℕ) (its : (cpu_at s.processors c).process ≡ Some
   pub want_here : want_at (outline_of s) c ≡ want_of (around s) k (next_command s k)
   want_here = ap (λ (x : Runner). x.want) runner_is
 
-  pub linked_here : (runner_at (outline_of s).runners c).linked ≡ is_linked (around s) k (reference_in (next_command s k))
+  pub linked_here : (runner_at (outline_of s).runners c).linked
+      ≡ is_linked (around s) k (reference_in (next_command s k))
   linked_here = ap (λ (x : Runner). x.linked) runner_is
 
 -- ---- a reference

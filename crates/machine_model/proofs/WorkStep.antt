@@ -690,7 +690,8 @@ module _ (s : State) (c : ℕ) (o : Outcome) (m : IsMachine s) (w : IsWorking s)
       (λ Page. (tt, tt))
   work_kept (act.Through f r) may kept = other_told (with_pages s.store (pages_after s.store.pages f r)) (Some f)
       (word_reply (old_word s.store.pages f r) r.kind) may.0 may.1 (pages_less f r) (λ u. refl) (λ u q e. e) kept
-  work_kept (act.Plain r) may kept = other_told s.store None r may.0 may.1 (same_less s.store) (λ u. refl) (λ u q e. e) kept
+  work_kept (act.Plain r) may kept =
+      other_told s.store None r may.0 may.1 (same_less s.store) (λ u. refl) (λ u q e. e) kept
   work_kept act.TakeSupervisor may kept = looking_work _ (looking c) refl refl tt (omega arith)
   work_kept (act.Answer r) may kept = none_work _ refl
   work_kept act.GiveUp may kept = none_work _ refl

@@ -137,10 +137,6 @@ pub record MayEmpty (s t : State) (c uid : ℕ) : Type 0 where
 abbrev pub stored_then : State → ℕ → ℕ → ℕ → Bool
 stored_then s f = is_filed (page_gone s f).store.accounts (page_gone s f).store.pages.vtocs
 
-pub record MayLeave (s : State) (c f : ℕ) : Type 0 where
-  pub release : MayRelease (outline_of s) f (stored_then s f)
-  pub tell : MayAnswer s c
-
 pub record IsReading (s : State) (f : ℕ) : Type 0 where
   pub uid : ℕ
   pub page : ℕ
