@@ -13,13 +13,13 @@ use Rattle.machine_model.specs.Custodial.{AreDistinct}
 use Rattle.machine_model.specs.Keeps.{StoreSays}
 use Rattle.machine_model.specs.Promise.{KeepsAll}
 use Rattle.machine_model.specs.Reads.{cpu_at, no_processor, no_run, run_at}
-use Rattle.machine_model.specs.Scheduled.{HasTurn, IsScheduled}
+use Rattle.machine_model.specs.Scheduled.{HasTurn, IsScheduled, MayRun}
 use Rattle.machine_model.specs.declared.Processor.{Processor}
 use Rattle.machine_model.specs.declared.Run.{Run}
 use Rattle.machine_model.proofs.FitsKept.{none_fits}
 use Rattle.machine_model.proofs.BootKept.{at_fill, boot_keeps}
 use Rattle.machine_model.proofs.ComingLaws.{booted_come}
-use Rattle.machine_model.proofs.ScheduleLaws.{in_range, range_once}
+use Rattle.machine_model.proofs.ScheduleLaws.{in_range, range_has, range_once}
 use Rattle.machine_model.proofs.TieLaws.{none_some}
 use Rattle.machine_model.proofs.WorkStep.{none_work}
 
@@ -67,7 +67,20 @@ module _ (p : Plan) (words : List (List ℕ)) (disks : List (List (List ℕ))) (
     once = once p.initializer;
     apart = λ d k h. absurd (nobody d k h);
     back = λ i e k h. goes k h;
+    placed = λ k m. inl (by p.initializer refl k m);
   }
+    where
+      not_first : p.initializer ≡ true → (k : ℕ) → HasTurn p (replicate (length p.processes) first_run) k → k ≡ 0
+      not_first e k (inl off) = absurd (let none : true ≡ false = sym e ∙ off in cc)
+      not_first e k (inr (inl same)) = same
+      not_first e k (inr (inr ended)) = absurd (let none : false ≡ true =
+          sym (goes 0 (some_process p.processes (script.first e))) ∙ ended in cc)
+
+      by : (b : Bool) → p.initializer ≡ b → (k : ℕ) → MayRun p (replicate (length p.processes) first_run) k
+          → has (cond b (0 ∷ []) (range 0 (length p.processes))) k ≡ true
+      by true e k m = ap (λ (j : ℕ). has (0 ∷ []) j) (not_first e k m.turn)
+      by false e k m = let planned = m.planned in range_has 0 (length p.processes) k (omega arith)
+          (omega (arith, planned))
 
   -- The machine keeps all of it at first: what the store says of itself is all that it wants.
   pub boot_keeps_all : StoreSays (booted p words disks) → KeepsAll (booted p words disks)

@@ -14,7 +14,7 @@ use Rattle.machine_model.specs.Scheduled.{AreScheduled, HasTurn, MayRun}
 use Rattle.machine_model.specs.declared.Processor.{Processor}
 use Rattle.machine_model.specs.declared.Run.{Run}
 use Rattle.machine_model.proofs.ListLaws.{put_list}
-use Rattle.machine_model.proofs.OwnedLaws.{distinct_push, push_other}
+use Rattle.machine_model.proofs.OwnedLaws.{distinct_push, push_other, push_same}
 use Rattle.machine_model.proofs.Places.{by_place}
 use Rattle.machine_model.proofs.TieLaws.{none_some}
 
@@ -41,6 +41,7 @@ seats_kept p runs ready old now same h = record {
   once = h.once;
   apart = λ d k e. h.apart d k (sym (same.process d) ∙ e);
   back = h.back;
+  placed = λ k m. elim (h.placed k m) [ inl r ↦ inl r | inr x ↦ inr (x.0, same.process x.0 ∙ x.1) ];
 }
 
 -- one processor changes, and keeps its process
@@ -87,6 +88,7 @@ runs_kept p old now ready ps same h = record {
   once = h.once;
   apart = h.apart;
   back = λ i e k planned. same.same k ∙ h.back i (sym (same.same 0) ∙ e) k planned;
+  placed = λ k m. h.placed k (may_kept p now old k (record { same = λ j. sym (same.same j) }) m);
 }
 
 -- one process goes on, which went on before
@@ -165,10 +167,26 @@ module _ (p : Plan) (runs : List Run) (ps : List Processor) (c : ℕ) (now : Pro
           (h.apart d j (sym ((put_process ps c now there d).1 other) ∙ e))).1
     ];
     back = h.back;
+    placed = λ j m. elim (either j k) [
+      | inl same ↦ inr (c, (put_process ps c now there c).0 refl ∙ (its ∙ ap (λ (i : ℕ). Some i) (sym same)))
+      | inr other ↦ elim (h.placed j m) [
+        | inl r ↦ inl (still_ready j other r)
+        | inr x ↦ elim (either x.0 c) [
+          | inl same ↦ absurd (none_some (sym none ∙ (ap (λ (i : ℕ). (cpu_at ps i).process) (sym same) ∙ x.1)))
+          | inr away ↦ inr (x.0, (put_process ps c now there x.0).1 away ∙ x.1)
+        ]
+      ]
+    ];
   }
     where
       front : has (k ∷ ready) k ≡ true
       front = ap (λ (b : Bool). b || has ready k) (own k)
+
+      still_ready : (j : ℕ) → j ≢ k → has (k ∷ ready) j ≡ true → has ready j ≡ true
+      still_ready j other e = elim (eqb_tells k j) [
+        | inl i ↦ absurd (other (sym i.1))
+        | inr n ↦ sym (ap (λ (b : Bool). b || has ready j) n.0) ∙ e
+      ]
 
       later : (j : ℕ) → has ready j ≡ true → has (k ∷ ready) j ≡ true
       later j e = or_right (eqb k j) e
@@ -184,17 +202,20 @@ module _ (p : Plan) (runs : List Run) (ps : List Processor) (c : ℕ) (now : Pro
       not_here d j other e same = no_and (subst (λ (i : ℕ). has (k ∷ ready) i ≡ true) same front)
           (h.apart d j (sym ((put_process ps c now there d).1 other) ∙ e))
 
-  -- a process is at its processor no more
-  pub gone_kept : (k : ℕ) (ready : List ℕ) → AreScheduled p runs ready ps → now.cpu.process ≡ None
-      → AreScheduled p runs ready (set ps c now)
+  -- the other processors' processes, once one is at its processor no more
+  record OthersRun (ready : List ℕ) : Type 0 where
+    running : (d j : ℕ) → (cpu_at (set ps c now) d).process ≡ Some j → MayRun p runs j
+    online : (d j : ℕ) → (cpu_at (set ps c now) d).process ≡ Some j → (cpu_at (set ps c now) d).online ≡ true
+    alone : (d e j : ℕ) → (cpu_at (set ps c now) d).process ≡ Some j → (cpu_at (set ps c now) e).process ≡ Some j
+        → d ≡ e
+    apart : (d j : ℕ) → (cpu_at (set ps c now) d).process ≡ Some j → has ready j ≡ false
+
+  gone_kept : (k : ℕ) (ready : List ℕ) → AreScheduled p runs ready ps → now.cpu.process ≡ None → OthersRun ready
   gone_kept k ready h none = record {
     running = λ d j e. h.running d j (was d j e);
     online = λ d j e. (put_online ps c now there d).1 (not_here d j e) ∙ h.online d j (was d j e);
     alone = λ d e j a b. h.alone d e j (was d j a) (was e j b);
-    waiting = h.waiting;
-    once = h.once;
     apart = λ d j e. h.apart d j (was d j e);
-    back = h.back;
   }
     where
       not_here : (d j : ℕ) → (cpu_at (set ps c now) d).process ≡ Some j → d ≢ c
@@ -220,6 +241,16 @@ module _ (p : Plan) (runs : List Run) (ps : List Processor) (c : ℕ) (now : Pro
       | inr other ↦ push_other ready k j other ∙ gone.apart d j e
     ];
     back = h.back;
+    placed = λ j m. elim (either j k) [
+      | inl same ↦ inl (ap (λ (i : ℕ). has (ready ++ k ∷ []) i) same ∙ push_same ready k)
+      | inr other ↦ elim (h.placed j m) [
+        | inl r ↦ inl (push_other ready k j other ∙ r)
+        | inr x ↦ elim (either x.0 c) [
+          | inl same ↦ absurd (other (some_is j k (sym x.1 ∙ (ap (λ (i : ℕ). (cpu_at ps i).process) same ∙ its))))
+          | inr away ↦ inr (x.0, (put_process ps c now there x.0).1 away ∙ x.1)
+        ]
+      ]
+    ];
   }
     where
       not_there : (d j : ℕ) → (cpu_at (set ps c now) d).process ≡ Some j → j ≡ k → ⊥
@@ -260,6 +291,14 @@ not_before from n j h = by (has (range from n) j) refl
     by false e = refl
     by true e = let at = (in_range from n j e).0 in absurd (omega (arith, at, h))
 
+pub range_has : (from n j : ℕ) → from ≤ j → j < from + n → has (range from n) j ≡ true
+range_has from zero j a b = absurd (omega (arith, a, b))
+range_has from (suc n) j a b = elim (eqb_tells from j) [
+  | inl e ↦ ap (λ (x : Bool). x || has (range (from + 1) n) j) e.0
+  | inr m ↦ (let other = m.1 in ap (λ (x : Bool). x || has (range (from + 1) n) j) m.0
+      ∙ range_has (from + 1) n j (omega (arith, a, other)) (omega (arith, b)))
+]
+
 pub range_once : (from n : ℕ) → AreDistinct (range from n)
 range_once from zero = tt
 range_once from (suc n) = (not_before (from + 1) n from (omega arith), range_once (from + 1) n)
@@ -284,7 +323,7 @@ module _ (p : Plan) (runs : List Run) (ready : List ℕ) (ps : List Processor) (
   ended_now : (run_at (set runs k run) k).ended ≡ true
   ended_now = ap (λ (x : Run). x.ended) (get_or-set_same runs k run no_run known) ∙ over
 
-  gone : AreScheduled p runs ready (set ps c now)
+  gone : OthersRun p runs ps c now there ready
   gone = gone_kept p runs ps c now there k ready h none
 
   turn_still : (j : ℕ) → HasTurn p runs j → HasTurn p (set runs k run) j
@@ -329,9 +368,34 @@ module _ (p : Plan) (runs : List Run) (ready : List ℕ) (ps : List Processor) (
         ] in others 0 other ∙ was)
       ]
 
+  not_over : (j : ℕ) → MayRun p (set runs k run) j → j ≢ k
+  not_over j m same = no_and (ap (λ (i : ℕ). (run_at (set runs k run) i).ended) same ∙ ended_now) m.going
+
+  -- whatever may run could before, where no other process becomes ready by it
+  may_before : (p.initializer ≡ true → k ≢ 0) → (j : ℕ) → MayRun p (set runs k run) j → MayRun p runs j
+  may_before off j m = record {
+    planned = m.planned;
+    going = sym (others j (not_over j m)) ∙ m.going;
+    turn = by p.initializer refl m.turn;
+  }
+    where
+      by : (i : Bool) → p.initializer ≡ i → HasTurn p (set runs k run) j → HasTurn p runs j
+      by false e t = inl e
+      by true e (inl t) = inl t
+      by true e (inr (inl t)) = inr (inl t)
+      by true e (inr (inr t)) = inr (inr (sym (others 0 (λ same. off e (sym same))) ∙ t))
+
   -- no other process becomes ready by it
-  plain_end : AreScheduled p (set runs k run) ready (set ps c now)
-  plain_end = record {
+  plain_end : (p.initializer ≡ true → k ≢ 0) → AreScheduled p (set runs k run) ready (set ps c now)
+  plain_end off = record {
+    placed = λ j m. elim (h.placed j (may_before off j m)) [
+      | inl r ↦ inl r
+      | inr x ↦ elim (either x.0 c) [
+        | inl same ↦ absurd (not_over j m (some_is j k (sym x.1
+            ∙ (ap (λ (i : ℕ). (cpu_at ps i).process) same ∙ its))))
+        | inr away ↦ inr (x.0, (put_process ps c now there x.0).1 away ∙ x.1)
+      ]
+    ];
     running = λ d j e. may_still j (not_its d j e) (gone.running d j e);
     online = gone.online;
     alone = gone.alone;
@@ -378,22 +442,31 @@ module _ (p : Plan) (runs : List Run) (ready : List ℕ) (ps : List Processor) (
       once = range_once 1 (length p.processes - 1);
       apart = λ d j e. absurd (nobody_runs d j e);
       back = back_still;
+      placed = λ j m. inl (let planned = m.planned in let other = (λ (z : j ≡ 0). not_over j m (z ∙ sym first)) in
+          range_has 1 (length p.processes - 1) j (positive j other) (omega (arith, planned)));
     }
+      where
+        positive : (j : ℕ) → j ≢ 0 → 1 ≤ j
+        positive zero other = absurd (other refl)
+        positive (suc j) other = omega arith
 
   pub end_kept : AreScheduled p (set runs k run)
       (ready ++ cond (p.initializer && eqb k 0) (range 1 (length p.processes - 1)) []) (set ps c now)
-  end_kept = by (p.initializer) (eqb k 0) refl (first_is (eqb k 0) refl)
+  end_kept = by (p.initializer) (eqb k 0) refl (first_is (eqb k 0) refl) (later_is (eqb k 0) refl)
     where
       first_is : (b : Bool) → eqb k 0 ≡ b → b ≡ true → k ≡ 0
       first_is b e t = elim (eqb_tells k 0) [ inl x ↦ x.1 | inr m ↦ absurd (no_and (e ∙ t) m.0) ]
 
-      by : (i z : Bool) → p.initializer ≡ i → (z ≡ true → k ≡ 0)
+      later_is : (b : Bool) → eqb k 0 ≡ b → b ≡ false → k ≢ 0
+      later_is b e t = elim (eqb_tells k 0) [ inl x ↦ absurd (no_and x.0 (e ∙ t)) | inr m ↦ m.1 ]
+
+      by : (i z : Bool) → p.initializer ≡ i → (z ≡ true → k ≡ 0) → (z ≡ false → k ≢ 0)
           → AreScheduled p (set runs k run) (ready ++ cond (i && z) (range 1 (length p.processes - 1)) [])
           (set ps c now)
-      by true true e z = subst (λ (xs : List ℕ). AreScheduled p (set runs k run)
+      by true true e z other = subst (λ (xs : List ℕ). AreScheduled p (set runs k run)
           (xs ++ range 1 (length p.processes - 1)) (set ps c now)) (sym (none_ready e (z refl))) (initial_end e
           (z refl))
-      by true false e z = subst (λ (xs : List ℕ). AreScheduled p (set runs k run) xs (set ps c now))
-          (sym (append_nil ready)) plain_end
-      by false z e f = subst (λ (xs : List ℕ). AreScheduled p (set runs k run) xs (set ps c now))
-          (sym (append_nil ready)) plain_end
+      by true false e z other = subst (λ (xs : List ℕ). AreScheduled p (set runs k run) xs (set ps c now))
+          (sym (append_nil ready)) (plain_end (λ i. other refl))
+      by false z e f other = subst (λ (xs : List ℕ). AreScheduled p (set runs k run) xs (set ps c now))
+          (sym (append_nil ready)) (plain_end (λ i first. no_and i e))

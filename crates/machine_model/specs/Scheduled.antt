@@ -19,8 +19,8 @@ pub record MayRun (p : Plan) (runs : List Run) (k : ℕ) : Type 0 where
   pub going : (run_at runs k).ended ≡ false
   pub turn : HasTurn p runs k
 
--- What runs is at one processor alone, which takes part, and isn't ready; what is ready is so once. While the
--- initializer goes on no other process has ended.
+-- What runs is at one processor alone, which takes part, and isn't ready; what is ready is so once. Whatever may run is
+-- ready or at a processor. While the initializer goes on no other process has ended.
 pub record AreScheduled (p : Plan) (runs : List Run) (ready : List ℕ) (processors : List Processor) : Type 0 where
   pub running : (d k : ℕ) → (cpu_at processors d).process ≡ Some k → MayRun p runs k
   pub online : (d k : ℕ) → (cpu_at processors d).process ≡ Some k → (cpu_at processors d).online ≡ true
@@ -30,6 +30,8 @@ pub record AreScheduled (p : Plan) (runs : List Run) (ready : List ℕ) (process
   pub apart : (d k : ℕ) → (cpu_at processors d).process ≡ Some k → has ready k ≡ false
   pub back : p.initializer ≡ true → (run_at runs 0).ended ≡ false → (k : ℕ) → k < length p.processes
       → (run_at runs k).ended ≡ false
+  pub placed : (k : ℕ) → MayRun p runs k
+      → (has ready k ≡ true) ⊎ ((d : ℕ) × ((cpu_at processors d).process ≡ Some k))
 
 abbrev pub IsScheduled : State → Type 0
 IsScheduled s = AreScheduled s.plan s.runs s.ready s.processors
