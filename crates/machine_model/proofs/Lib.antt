@@ -3,6 +3,7 @@ pub mod Accounts
 pub mod ActiveKept
 pub mod ActiveLaws
 pub mod ActiveSeen
+pub mod AllEnded
 pub mod AnswerLaws
 pub mod BackKept
 pub mod BookAfter

@@ -1,0 +1,276 @@
+-- Once no process is ready or running each has ended, and the book is complete.
+use Rattle.std.proofs.Common.{◌≡◌, ◌≢◌, ◌<◌, ℕ, zero, suc, ◌+◌, Bool, true, false, not, ◌&&◌, ◌||◌, cond, eqb, length}
+use Rattle.std.proofs.Common.{List, []}
+use Rattle.std.proofs.Common.{◌∷◌, get_or, set, Option, Some, None, is_some, inl, inr, refl, sym, ap, subst, ◌∙◌}
+use Rattle.std.proofs.Common.{arith, replicate}
+use Rattle.std.specs.List.{filter, list_any}
+use Rattle.std.proofs.lemmas.Bool.Decides.{eqb_tells}
+use Rattle.std.proofs.lemmas.List.{get_or-set_other, get_or-set_same}
+use Rattle.script.specs.Plans.{Plan, command_at}
+use Rattle.script.specs.declared.commands.Command.{Command}
+use Rattle.script.specs.declared.commands.Command.TheVariants as command
+use Rattle.book.specs.declared.entries.Entry.{Entry}
+use Rattle.book.specs.declared.entries.Entry.TheVariants as entry
+use Rattle.book.specs.declared.replies.Reply.{Reply}
+use Rattle.custody_model.specs.Custody.{has}
+use Rattle.flat_model.specs.Commands.{after_command, effect_of, gone_on, is_end, takes_effect, tries_on}
+use Rattle.flat_model.specs.Legal.{IsAnswer, IsComplete, IsEnd, IsLawful, IsLegal, IsLegalFrom, MayFault, after_do}
+use Rattle.flat_model.specs.Legal.{after_entry, after_fault, is_part, last_of, part, store_after, store_from}
+use Rattle.flat_model.specs.Store.{Progress, Store, at_first, boot, progress_of, with_progress}
+use Rattle.machine_model.specs.Actions.{has_process, is_empty, is_over}
+use Rattle.machine_model.specs.Promise.{KeepsAll}
+use Rattle.machine_model.specs.Reads.{cpu_at, flat_of, run_at}
+use Rattle.machine_model.specs.Scheduled.{HasTurn, MayRun}
+use Rattle.machine_model.specs.State.{State}
+use Rattle.machine_model.specs.declared.Processor.{Processor}
+use Rattle.machine_model.proofs.RunLaws.{effect_same, is_there}
+use Rattle.machine_model.proofs.TieLaws.{none_some}
+
+no_and : {b : Bool} → b ≡ true → b ≡ false → ⊥
+no_and t f = let none : true ≡ false = sym t ∙ f in cc
+
+-- ---- nobody is ready or running
+
+empty_is : (xs : List ℕ) → is_empty xs ≡ true → xs ≡ []
+empty_is [] h = refl
+empty_is (x ∷ xs) h = absurd (let none : false ≡ true = h in cc)
+
+both : (a b : Bool) → (a && b) ≡ true → (a ≡ true) × (b ≡ true)
+both true b h = (refl, h)
+both false b h = absurd (let none : false ≡ true = h in cc)
+
+nobody_runs : (ps : List Processor) (d k : ℕ) → list_any has_process ps ≡ false → (cpu_at ps d).process ≢ Some k
+nobody_runs [] d k h e = none_some e
+nobody_runs (p ∷ ps) zero k h e = no_and (ap (λ (x : Option ℕ). is_some x) e) (first_off (has_process p) h)
+  where
+    first_off : (b : Bool) → (b || list_any has_process ps) ≡ false → b ≡ false
+    first_off false i = refl
+    first_off true i = absurd (let none : true ≡ false = i in cc)
+nobody_runs (p ∷ ps) (suc d) k h e = nobody_runs ps d k (rest_off (has_process p) h) e
+  where
+    rest_off : (b : Bool) → (b || list_any has_process ps) ≡ false → list_any has_process ps ≡ false
+    rest_off false i = i
+    rest_off true i = absurd (let none : true ≡ false = i in cc)
+
+module _ (s : State) (all : KeepsAll s) (over : is_over s ≡ true) where
+  none_may : (k : ℕ) → MayRun s.plan s.runs k → ⊥
+  none_may k m = elim (all.machine.scheduled.placed k m) [
+    | inl r ↦ (let none : false ≡ true =
+        sym (ap (λ (xs : List ℕ). has xs k) (empty_is s.ready (both (is_empty s.ready) _ over).0)) ∙ r in cc)
+    | inr x ↦ nobody_runs s.processors x.0 k (off (list_any has_process s.processors)
+        (both (is_empty s.ready) _ over).1) x.1
+  ]
+    where
+      off : (b : Bool) → not b ≡ true → b ≡ false
+      off false e = refl
+      off true e = absurd (let none : false ≡ true = e in cc)
+
+  ends : (k : ℕ) → k < length s.plan.processes → HasTurn s.plan s.runs k → (run_at s.runs k).ended ≡ true
+  ends k planned turn = by (run_at s.runs k).ended refl
+    where
+      by : (b : Bool) → (run_at s.runs k).ended ≡ b → b ≡ true
+      by true e = refl
+      by false e = absurd (none_may k (record { planned = planned; going = e; turn = turn }))
+
+  -- each process has ended
+  pub over_ended : (k : ℕ) → k < length s.plan.processes → (run_at s.runs k).ended ≡ true
+  over_ended k planned = ends k planned (inr (inr (ends 0 (omega (arith, planned)) (inr (inl refl)))))
+
+  -- and so the flat store says
+  pub flat_ended : (k : ℕ) → k < length s.plan.processes → (progress_of (flat_of s) k).ended ≡ true
+  flat_ended k planned = (all.machine.keeps.book.runs k).ended ∙ over_ended k planned
+
+-- ---- the end of a process is its last entry
+
+abbrev ended_progress : Progress
+ended_progress = record { place = 0; tries = 0; ended = true; faulted = false }
+
+-- an entry ends no process but by its end
+module _ (p : Plan) (s : Store) (k : ℕ) (going : (progress_of s k).ended ≡ false) where
+  -- a process that hasn't ended, and ends by this entry
+  IsItsEnd : Entry → Type 0
+  IsItsEnd (entry.Do j place cpu frame r) = (j ≡ k) × (command_at p j place ≡ Some command.End)
+  IsItsEnd _ = ⊥
+
+  base_same : (c : Command) (r : Reply) (j : ℕ) → (cond (takes_effect r) (effect_of p s j c) s).processes
+      ≡ s.processes
+  base_same c r j = by (takes_effect r)
+    where
+      by : (x : Bool) → (cond x (effect_of p s j c) s).processes ≡ s.processes
+      by true = effect_same p s j c
+      by false = refl
+
+  end_of : (c : Command) → is_end c ≡ true → c ≡ command.End
+  end_of command.End h = refl
+  end_of (command.MkDir path volume) h = absurd (let none : false ≡ true = h in cc)
+  end_of (command.MkSeg path pages volume) h = absurd (let none : false ≡ true = h in cc)
+  end_of (command.Initiate path) h = absurd (let none : false ≡ true = h in cc)
+  end_of (command.Terminate number) h = absurd (let none : false ≡ true = h in cc)
+  end_of (command.Acl path row m) h = absurd (let none : false ≡ true = h in cc)
+  end_of (command.Length path pages) h = absurd (let none : false ≡ true = h in cc)
+  end_of (command.Truncate path words) h = absurd (let none : false ≡ true = h in cc)
+  end_of (command.Delete path) h = absurd (let none : false ≡ true = h in cc)
+  end_of (command.Move path amount) h = absurd (let none : false ≡ true = h in cc)
+  end_of (command.Status path) h = absurd (let none : false ≡ true = h in cc)
+  end_of (command.Read n w) h = absurd (let none : false ≡ true = h in cc)
+  end_of (command.Write n w x) h = absurd (let none : false ≡ true = h in cc)
+  end_of (command.Add n w x) h = absurd (let none : false ≡ true = h in cc)
+  end_of (command.Await n w x t) h = absurd (let none : false ≡ true = h in cc)
+
+  do_ends : (j : ℕ) (c : Command) (r : Reply) → (progress_of s j).ended ≡ false
+      → (progress_of (after_command p s j c r) k).ended ≡ true → (j ≡ k) × (c ≡ command.End)
+  unfolding after_command
+  do_ends j c r its h = elim (eqb_tells k j) [
+    | inl e ↦ (
+      sym e.1,
+      end_of c (by (tries_on (progress_of s j) c r) (sym (ap (λ (q : Progress). q.ended)
+          (here e.1)) ∙ h)),
+    )
+    | inr n ↦ absurd (no_and h (ap (λ (q : Progress). q.ended) (away n.1) ∙ going))
+  ]
+    where
+      now : Progress
+      now = gone_on (progress_of s j) c r
+
+      at : (i : ℕ) → get_or (set (cond (takes_effect r) (effect_of p s j c) s).processes j now) i ended_progress
+          ≡ get_or (set s.processes j now) i ended_progress
+      at i = ap (λ (qs : List Progress). get_or (set qs j now) i ended_progress) (base_same c r j)
+
+      here : k ≡ j → progress_of (after_command p s j c r) k ≡ now
+      here e = at k ∙ (ap (λ (i : ℕ). get_or (set s.processes j now) i ended_progress) e
+          ∙ get_or-set_same s.processes j now ended_progress (is_there s j its))
+
+      away : k ≢ j → progress_of (after_command p s j c r) k ≡ progress_of s k
+      away n = at k ∙ get_or-set_other s.processes j k now ended_progress n
+
+      by : (x : Bool) → (cond x (record (progress_of s j) { tries = (progress_of s j).tries + 1; faulted = false })
+          (record { place = (progress_of s j).place + 1; tries = 0; ended = is_end c; faulted = false })).ended ≡ true
+          → is_end c ≡ true
+      by true i = absurd (no_and i its)
+      by false i = i
+
+  -- a failure that is told ends none
+  fault_same : (j : ℕ) → (progress_of s j).ended ≡ false
+      → (progress_of (with_progress s j (record (progress_of s j) { faulted = true })) k).ended
+      ≡ (progress_of s k).ended
+  fault_same j its = elim (eqb_tells k j) [
+    | inl e ↦ ap (λ (i : ℕ). (get_or (set s.processes j (record (progress_of s j) { faulted = true })) i
+        ended_progress).ended) e.1
+        ∙ (ap (λ (q : Progress). q.ended) (get_or-set_same s.processes j _ ended_progress (is_there s j its))
+        ∙ ap (λ (i : ℕ). (progress_of s i).ended) (sym e.1))
+    | inr n ↦ ap (λ (q : Progress). q.ended) (get_or-set_other s.processes j k _ ended_progress n.1)
+  ]
+
+  entry_ends : (e : Entry) → IsLawful p s e → (progress_of (after_entry p s e) k).ended ≡ true → IsItsEnd e
+  unfolding IsLawful IsItsEnd after_entry
+  entry_ends (entry.Do j place cpu frame r) h ended = by (command_at p j place) refl h.answer ended
+    where
+      by : (x : Option Command) → command_at p j place ≡ x → IsAnswer p s j x r
+          → (progress_of (after_do p s j x r) k).ended ≡ true → (j ≡ k) × (command_at p j place ≡ Some command.End)
+      by None e i f = absurd i
+      by (Some c) e i f = let its = do_ends j c r h.going f in
+          (its.0, e ∙ ap (λ (x : Command). Some x) its.1)
+  entry_ends (entry.Release uid page) h ended = no_and ended going
+  entry_ends (entry.Fault process) h ended = by process h ended
+    where
+      by : (x : Option ℕ) → MayFault s x → (progress_of (after_fault s x) k).ended ≡ true → ⊥
+      by None i f = no_and f going
+      by (Some j) i f = no_and f (fault_same j i ∙ going)
+  entry_ends (entry.Online c) h ended = no_and ended going
+  entry_ends (entry.Load c j) h ended = no_and ended going
+  entry_ends (entry.Leave c) h ended = no_and ended going
+  entry_ends (entry.Activate u) h ended = no_and ended going
+  entry_ends (entry.Deactivate u) h ended = no_and ended going
+  entry_ends (entry.Connect j n u) h ended = no_and ended going
+  entry_ends _ h ended = no_and ended going
+
+-- a process that has ended has no entry more
+module _ (p : Plan) (k : ℕ) where
+  other_do : (s : Store) (j : ℕ) (c : Command) (r : Reply) → k ≢ j
+      → progress_of (after_command p s j c r) k ≡ progress_of s k
+  unfolding after_command
+  other_do s j c r n = ap (λ (qs : List Progress). get_or (set qs j (gone_on (progress_of s j) c r)) k ended_progress)
+      (by (takes_effect r)) ∙ get_or-set_other s.processes j k (gone_on (progress_of s j) c r) ended_progress n
+    where
+      by : (x : Bool) → (cond x (effect_of p s j c) s).processes ≡ s.processes
+      by true = effect_same p s j c
+      by false = refl
+
+  stays_ended : (s : Store) (e : Entry) → (progress_of s k).ended ≡ true → IsLawful p s e
+      → (is_part k e ≡ false) × ((progress_of (after_entry p s e) k).ended ≡ true)
+  unfolding IsLawful after_entry
+  stays_ended s (entry.Do j place cpu frame r) over h = (
+    elim (eqb_tells j k) [ inl e ↦ absurd (other (sym e.1)) | inr n ↦ n.0 ],
+    by (command_at p j place) h.answer,
+  )
+    where
+      other : k ≢ j
+      other e = no_and over (ap (λ (i : ℕ). (progress_of s i).ended) e ∙ h.going)
+
+      by : (x : Option Command) → IsAnswer p s j x r → (progress_of (after_do p s j x r) k).ended ≡ true
+      by None i = absurd i
+      by (Some c) i = ap (λ (q : Progress). q.ended) (other_do s j c r other) ∙ over
+  stays_ended s (entry.Release uid page) over h = (refl, over)
+  stays_ended s (entry.Fault process) over h = (refl, by process h)
+    where
+      by : (x : Option ℕ) → MayFault s x → (progress_of (after_fault s x) k).ended ≡ true
+      by None i = over
+      by (Some j) i = ap (λ (q : Progress). q.ended) (get_or-set_other s.processes j k _ ended_progress
+          (λ e. no_and over (ap (λ (m : ℕ). (progress_of s m).ended) e ∙ i))) ∙ over
+  stays_ended s _ over h = (refl, over)
+
+  none_later : (s : Store) (es : List Entry) → (progress_of s k).ended ≡ true → IsLegalFrom p s es → part k es ≡ []
+  unfolding IsLegalFrom part
+  none_later s [] over h = refl
+  none_later s (e ∷ es) over h = let step = stays_ended s e over h.0 in
+      ap (λ (b : Bool). cond b (e ∷ filter (is_part k) es) (filter (is_part k) es)) step.0
+      ∙ none_later (after_entry p s e) es step.1 h.1
+
+  -- an entry more before the last
+  end_on : (e : Entry) (es : List Entry) → IsEnd p k (last_of es) → IsEnd p k (last_of (e ∷ es))
+  end_on e [] h = absurd h
+  end_on e (x ∷ xs) h = h
+
+  book_ends : (s : Store) (es : List Entry) → (progress_of s k).ended ≡ false → IsLegalFrom p s es
+      → (progress_of (store_from p s es) k).ended ≡ true → IsEnd p k (last_of (part k es))
+  unfolding IsLegalFrom store_from part IsItsEnd
+  book_ends s [] going h over = no_and over going
+  book_ends s (e ∷ es) going h over = by (progress_of (after_entry p s e) k).ended refl
+      (λ g. book_ends (after_entry p s e) es g h.1 over)
+    where
+      ends_now : (d : Entry) → IsItsEnd p s k going d → IsEnd p k (last_of (cond (is_part k d) (d ∷ []) []))
+      ends_now (entry.Do j place cpu frame r) its = subst (λ (b : Bool). IsEnd p k (last_of (cond b
+          (entry.Do j place cpu frame r ∷ []) []))) (sym (own j its.0)) (subst (λ (i : ℕ). command_at p i place
+          ≡ Some command.End) its.0 its.1)
+        where
+          own : (i : ℕ) → i ≡ k → eqb i k ≡ true
+          own i x = elim (eqb_tells i k) [ inl y ↦ y.0 | inr n ↦ absurd (n.1 x) ]
+      ends_now (entry.Release uid page) its = absurd its
+      ends_now (entry.Fault process) its = absurd its
+      ends_now _ its = absurd its
+
+      by : (b : Bool) → (progress_of (after_entry p s e) k).ended ≡ b
+          → ((progress_of (after_entry p s e) k).ended ≡ false → IsEnd p k (last_of (filter (is_part k) es)))
+          → IsEnd p k (last_of (cond (is_part k e) (e ∷ filter (is_part k) es) (filter (is_part k) es)))
+      by true i rest = subst (λ (xs : List Entry). IsEnd p k (last_of (cond (is_part k e) (e ∷ xs) xs)))
+          (sym (none_later (after_entry p s e) es i h.1)) (ends_now e (entry_ends p s k going e h.0 i))
+      by false i rest = on (is_part k e)
+        where
+          on : (b : Bool) → IsEnd p k (last_of (cond b (e ∷ filter (is_part k) es) (filter (is_part k) es)))
+          on true = end_on e (filter (is_part k) es) (rest i)
+          on false = rest i
+
+boot_goes : (p : Plan) (k : ℕ) → k < length p.processes → (progress_of (boot p) k).ended ≡ false
+unfolding boot
+boot_goes p k lt = by (length p.processes) k lt
+  where
+    by : (n i : ℕ) → i < n → (get_or (replicate n at_first) i ended_progress).ended ≡ false
+    by zero i h = absurd (omega (arith, h))
+    by (suc n) zero h = refl
+    by (suc n) (suc i) h = by n i (omega (arith, h))
+
+-- The book of a machine in which no process is ready or running is complete.
+pub over_complete : (s : State) → KeepsAll s → is_over s ≡ true → IsComplete s.plan s.entries
+unfolding IsComplete IsLegal store_after
+over_complete s all over k planned = book_ends s.plan k (boot s.plan) s.entries (boot_goes s.plan k planned)
+    all.machine.keeps.book.legal (flat_ended s all over k planned)
