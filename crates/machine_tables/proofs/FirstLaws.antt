@@ -29,6 +29,7 @@ use Rattle.machine_model.specs.Foreseen.{AllCome}
 use Rattle.machine_model.specs.Keeps.{AreAccounts, IsConserved, IsFaithful, StoreKept, StoreSays}
 use Rattle.machine_model.specs.Promise.{KeepsAll}
 use Rattle.machine_model.specs.State.{State, Storage}
+use Rattle.machine_model.proofs.FitsKept.{none_fits}
 use Rattle.machine_model.proofs.FlatAlike.{conserved_by}
 use Rattle.machine_model.proofs.MachineBoot.{boot_keeps_all}
 use Rattle.machine_model.proofs.TieLaws.{none_some}
@@ -187,6 +188,7 @@ module _ (p : Plan) (words : List (List ℕ)) (disks : List (List (List ℕ))) (
     entitled = booting.entitled;
     reading = booting.reading;
     working = none_work first refl;
+    fitting = none_fits first refl;
   }
     where
       booting : KeepsAll (booted p words disks)
