@@ -27,11 +27,7 @@ use volumes::Drive;
 fn leaves_zeros(kind: &RefKind) -> bool
     ensures { result ≡ (new_word 0 kind.now == 0) }
 {
-    match kind {
-        RefKind::Read => true,
-        RefKind::Write(word) => word.value() == 0,
-        RefKind::Add(word) => Word::ZERO.plus(*word).value() == 0,
-    }
+    kind.new_word(Word::ZERO).value() == 0
 }
 
 impl<D: Drive> Tables<D> {
