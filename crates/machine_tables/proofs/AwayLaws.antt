@@ -1,8 +1,8 @@
 -- What a tree command must have out of use: pages that are here, and descriptors that lead to a segment.
-use Rattle.std.proofs.Common.{◌≡◌, ◌≢◌, ℕ, zero, suc, ◌+◌, ◌<◌, ◌≤◌, Bool, true, false, not, ◌||◌, ◌&&◌, cond, eqb}
+use Rattle.std.proofs.Common.{◌≡◌, ◌≢◌, ℕ, zero, suc, ◌+◌, ◌<◌, ◌≤◌, Bool, true, false, not, ◌||◌, cond, eqb}
 use Rattle.std.proofs.Common.{List, [], ◌∷◌, ◌++◌, map, length, get_or, drop, Some, refl, sym, ap, ◌∙◌}
 use Rattle.std.proofs.Common.{arith, inl, inr}
-use Rattle.std.specs.Prelude.{◌/◌, ◌%◌, IfSome, IfNone}
+use Rattle.std.specs.Prelude.{◌/◌, ◌%◌}
 use Rattle.std.specs.List.{filter, range_with_len}
 use Rattle.std.proofs.lemmas.Bool.Decides.{eqb_tells}
 use Rattle.script.specs.declared.commands.Command.{Command}

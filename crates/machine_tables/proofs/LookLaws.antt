@@ -1,6 +1,5 @@
 -- What a look asks of the chain of a node: its first link that isn't active is there, and a full pool has a victim.
-use Rattle.std.proofs.Common.{◌≡◌, ℕ, true, Option, Some, sym, subst}
-use Rattle.std.proofs.Common.{List}
+use Rattle.std.proofs.Common.{◌≡◌, ℕ, true, Some, sym, subst}
 use Rattle.script.specs.Forms.{ArePools}
 use Rattle.tree_model.specs.Tree.{node_in}
 use Rattle.dir_tree.specs.Nodes.{chain_of}
@@ -8,7 +7,6 @@ use Rattle.active_segs.specs.Active.{IsFull}
 use Rattle.active_segs.specs.Victim.{HasItsSuperiors, HasOneOffChain}
 use Rattle.storage_ops.specs.Shown.{is_there}
 use Rattle.machine_model.specs.Actions.{pool_of_node}
-use Rattle.machine_model.specs.Keeps.{StoreKept}
 use Rattle.machine_model.specs.Reads.{first_inactive}
 use Rattle.machine_model.specs.State.{State, Storage}
 use Rattle.machine_model.proofs.ChainFacts.{first_there}

@@ -1,6 +1,6 @@
 -- What a reference goes to that nothing refuses before its page is looked at: its segment is there, and where its
 -- number is connected the segment is active, with a word for the page in its page table.
-use Rattle.std.proofs.Common.{◌≡◌, ℕ, Bool, true, false, is_some, length, ◌<◌, ◌≤◌, ◌*◌, Option, Some, None, refl, sym}
+use Rattle.std.proofs.Common.{◌≡◌, ℕ, true, false, is_some, length, ◌<◌, ◌≤◌, Option, Some, None, refl, sym}
 use Rattle.std.proofs.Common.{ap, subst, ◌∙◌, arith}
 use Rattle.std.specs.Prelude.{◌/◌}
 use Rattle.script.specs.declared.commands.Reference.{Reference}
@@ -8,13 +8,11 @@ use Rattle.tree_model.specs.Tree.{Node, node_in, pool_of}
 use Rattle.descriptor_seg.specs.declared.Sdw.{Sdw}
 use Rattle.descriptor_seg.specs.declared.Sdw.TheVariants as sdw
 use Rattle.active_segs.specs.Active.{IsActive, uid_at}
-use Rattle.active_segs.specs.Pool.{IsInPool}
 use Rattle.seg_control.specs.Control.{leads, place_of, table_of}
 use Rattle.seg_control.specs.Kept.{IsKept}
 use Rattle.storage_ops.specs.Shown.{is_there, pages_of}
 use Rattle.storage_ops.proofs.PageFacts.{directory_found, room_of}
-use Rattle.machine_model.specs.Actions as act
-use Rattle.machine_model.specs.Actions.{look_at_descriptor, look_at_page, with_chain}
+use Rattle.machine_model.specs.Actions.{look_at_descriptor, look_at_page}
 use Rattle.machine_model.specs.Keeps.{Keeps}
 use Rattle.machine_model.specs.Reads.{descriptor_of, is_connected, or_zero}
 use Rattle.machine_model.specs.Refusal.{outside_refusal, uid_of_number}

@@ -1,8 +1,8 @@
 -- Where a pool is full something of it isn't of the chain that becomes active, and the chain goes up to the root.
 use Rattle.std.proofs.Common.{◌≡◌, ◌≢◌, ℕ, zero, suc, ◌+◌, ◌-◌, ◌<◌, ◌≤◌, Bool, true, false, not, cond, eqb, List, []}
-use Rattle.std.proofs.Common.{◌∷◌, length, get_or, is_some, Option, Some, None, refl, sym, ap, subst, ◌∙◌, arith}
+use Rattle.std.proofs.Common.{◌∷◌, length, get_or, Option, Some, None, refl, sym, ap, subst, ◌∙◌, arith}
 use Rattle.std.proofs.Common.{inl, inr}
-use Rattle.std.proofs.Common.{Contains, ◌⊎◌, ◌++◌, reverse}
+use Rattle.std.proofs.Common.{◌⊎◌, ◌++◌, reverse}
 use Rattle.std.specs.Prelude.{IsSome}
 use Rattle.std.specs.List.{find, list_any, position_or_len}
 use Rattle.std.proofs.lemmas.Bool.{cases_lt}
