@@ -152,7 +152,8 @@ module _ (st : Storage) (uid : ℕ) (kept : IsKept st.pages st.ast st.links)
         by : (b : Bool) → has frames g ≡ b → b ≡ false
         by false e = refl
         by true e = absurd (let page = owns.pages g e in
-            let some : word_of st.ast uid page.0 ≢ Null = λ null. (let no : Null ≡ Leaving g = sym null ∙ page.2 in cc) in
+            let some : word_of st.ast uid page.0 ≢ Null =
+            λ null. (let no : Null ≡ Leaving g = sym null ∙ page.2 in cc) in
             let within = (word_within st.ast uid page.0 some).0 in
             let active = within_some (is_for uid) st.ast.entries
             (subst (λ (n : ℕ). place_of st.ast.entries uid < n) kept.places within) in

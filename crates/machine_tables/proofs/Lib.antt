@@ -1,6 +1,7 @@
 pub mod AboutLaws
 pub mod ActiveLaws
 pub mod AwayLaws
+pub mod ApplyLaws
 pub mod BackLaws
 pub mod ChangeLooks
 pub mod ChoiceLaws
@@ -8,6 +9,7 @@ pub mod ClaimLaws
 pub mod ColumnLaws
 pub mod CommandLaws
 pub mod CommitLaws
+pub mod CommittedLaws
 pub mod CreateLaws
 pub mod CutLaws
 pub mod DeleteLaws
@@ -20,6 +22,7 @@ pub mod GoneLaws
 pub mod JobLaws
 pub mod JoinLaws
 pub mod LeftLaws
+pub mod LetLaws
 pub mod LinkLaws
 pub mod LookLaws
 pub mod MakeLaws

@@ -1,6 +1,7 @@
 pub mod Activated
 pub mod Claimed
 pub mod Committed
+pub mod Gone
 pub mod Held
 pub mod Made
 pub mod Meant

@@ -75,9 +75,10 @@ pub(crate) fn set_row<D: Drive>(store: &mut Store<D>, path: &Path, row: &Row, mo
 }
 
 /// Moves an amount of quota, unless that is refused.
-pub(crate) fn move_quota<D: Drive>(store: &mut Store<D>, path: &Path, amount: i32) -> Reply
-    ensures { (k : ℕ) → TakesEffect D.pages store.old store.new k (Move path.now amount) result }
+pub(crate) fn move_quota<D: Drive>(store: &mut Store<D>, path: &Path, amount: &i32) -> Reply
+    ensures { (k : ℕ) → TakesEffect D.pages store.old store.new k (Move path.now amount.now) result }
 {
+    let amount = *amount;
     let _before = accounts_of(store);
     let reply = store.move_quota(path, amount);
     let _after = accounts_of(store);

@@ -23,7 +23,7 @@ impl<D: Drive> Tables<D> {
     }
 
     /// The descriptors that the owner cut are gone, in their order.
-    fn let_descriptors_go(&mut self)
+    pub(crate) fn let_descriptors_go(&mut self)
         requires owner { HasOwner self.old.state.owner }
         requires room { length (cut_of_owner self.old.state.owner) ≤ self.old.state.spare }
         ensures effect { self.new ≡ with_state self.old

@@ -43,7 +43,7 @@ impl<D: Drive> Tables<D> {
     }
 
     /// The first frame that the owner took, which it hasn't taken any more then; `None` exactly where there is none.
-    fn next_frame(&mut self) -> Option<u32>
+    pub(crate) fn next_frame(&mut self) -> Option<u32>
         requires { HasOwner self.old.state.owner }
         ensures first { result ≡ slice_get (frames_of_owner self.old.state.owner) 0 }
         ensures rest { self.new ≡ with_state self.old

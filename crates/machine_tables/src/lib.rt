@@ -14,6 +14,7 @@ mod chains;
 mod choosing;
 mod claiming;
 mod commands;
+mod commit;
 mod committing;
 mod connecting;
 mod creating;

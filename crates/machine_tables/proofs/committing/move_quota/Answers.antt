@@ -1,5 +1,5 @@
-use mir.Val.{of_z, to_z}
-use Rattle.std.proofs.Common.{subst, w32}
+use mir.Val.{SFits, of_z, to_z}
+use Rattle.std.proofs.Common.{rules, subst, w32}
 use Rattle.std.specs.Prelude.{ℤ}
 use Rattle.std.proofs.lemmas.Int.{to_z-of_z}
 use Rattle.script.specs.declared.commands.Command.TheVariants.{Move}
@@ -8,10 +8,12 @@ use Rattle.machine_tables.proofs.CommitLaws.{move_committed}
 use Rattle.machine_tables.proofs.committing.move_quota.Goals as goal
 
 pub returns : goal.returns
-returns g c = λ k. subst (λ (amount : ℤ). TakesEffect g.D.Drive.pages c.args.store.now c.move_quota-reply.new.self k
-    (Move c.args.path.now amount) c.move_quota-reply.result) (to_z-of_z w32 c.args.amount c.ranges.amount)
+returns g c = λ k.
+    let fits : SFits w32 c.args.amount.now = search rules in
+    subst (λ (amount : ℤ). TakesEffect g.D.Drive.pages c.args.store.now c.move_quota-reply.new.self k
+    (Move c.args.path.now amount) c.move_quota-reply.result) (to_z-of_z w32 c.args.amount.now fits)
     (move_committed g.D.Drive.pages c.args.store.now c.move_quota-reply.new.self
-    k c.args.path.now (to_z w32 (of_z w32 c.args.amount)) c.move_quota-reply.result
+    k c.args.path.now (to_z w32 (of_z w32 c.args.amount.now)) c.move_quota-reply.result
     c.accounts_of-before.ensures.columns c.accounts_of-after.ensures.columns
     (record {
       answer = c.move_quota-reply.ensures.answer;

@@ -1,0 +1,78 @@
+-- The next command of a process takes effect in the store of the tables.
+use Rattle.std.proofs.Common.{◌≡◌, ℕ, true, List, Option, Some, None, refl, sym, ap, subst, ◌∙◌}
+use Rattle.script.specs.References.{reference_of}
+use Rattle.script.specs.declared.commands.Command.{Command}
+use Rattle.script.specs.declared.commands.Command.TheVariants as command
+use Rattle.script.specs.declared.commands.Reference.{Reference}
+use Rattle.book.specs.declared.replies.Reply.{Reply}
+use Rattle.flat_model.specs.Commands.{effect_by, effect_of_tree_command, takes_effect}
+use Rattle.flat_model.specs.Store.{Store}
+use Rattle.storage_ops.specs.Cut.{IsReady}
+use Rattle.storage_ops.specs.Shown.{Shows, Storage as Stored, answered}
+use Rattle.machine_model.specs.Keeps.{IsFaithful}
+use Rattle.machine_model.specs.Reads.{flat_of, next_command}
+use Rattle.machine_model.specs.Refusal.{reply_of}
+use Rattle.machine_model.specs.Said.{with_command}
+use Rattle.machine_model.specs.State.{State, Storage}
+use Rattle.machine_tables.specs.Committed.{HasEffect, IsCommitted, effect_for, reply_for}
+use Rattle.machine_tables.specs.Parts.{shown}
+use Rattle.machine_tables.specs.Ready.{IsReadyFor, OwnsFor}
+use Rattle.machine_tables.proofs.RefusalLaws.{shows_of}
+
+pub same_some : {X : Type 0} {x y : X} → Some x ≡ Some y → x ≡ y
+same_some e = cc
+
+pub ready_of : {D : Type 0} (drive : D → List (List ℕ)) (t : Stored D) (k : ℕ) (c : Command)
+    → IsReadyFor (shown drive t) k c → IsReady t k c
+ready_of drive t k (command.Terminate number) h = h
+ready_of drive t k (command.Acl path row m) h = h
+ready_of drive t k (command.Length path pages) h = h
+ready_of drive t k (command.Truncate path words) h = λ n at. (let taken = h n at in record {
+  active = taken.active;
+  past = record { taken = taken.past.taken; idle = taken.past.idle };
+  cut = taken.cut;
+})
+ready_of drive t k (command.Delete path) h = λ n at. (let ready = h n at in record {
+  cut = ready.cut;
+  taken = record { taken = ready.taken.taken; idle = ready.taken.idle };
+})
+ready_of drive t k command.End h = h
+ready_of drive t k c h = tt
+
+module _ {D : Type 0} (drive : D → List (List ℕ)) (s : State) (t u : Stored D) (k : ℕ) (frames : List ℕ) (x : Command)
+    (r : Reply) (inner : shown drive t ≡ s.store) (next : next_command s k ≡ Some x) (tree : reference_of x ≡ None)
+    (faithful : IsFaithful s.plan (flat_of s) s.store) (takes : HasEffect x (reply_of s k x))
+    (owns : OwnsFor s.store frames x)
+    (committed : (fs : List ℕ) → OwnsFor (shown drive t) fs x → IsCommitted drive t u k fs x r) where
+  commits : IsCommitted drive t u k frames x r
+  commits = committed frames (subst (λ (st : Storage). OwnsFor st frames x) (sym inner) owns)
+
+  shows : (flat : Store) → IsFaithful s.plan flat s.store → Shows drive s.plan flat t
+  shows flat h = shows_of drive s.plan flat t (subst (IsFaithful s.plan flat) (sym inner) h)
+
+  reply_is : r ≡ reply_of s k x
+  unfolding reply_of
+  reply_is = commits.does.answer s.plan (flat_of s) (shows (flat_of s) faithful)
+
+  pub applied_reply : r ≡ reply_for s k (next_command s k)
+  applied_reply = reply_is ∙ sym (ap (reply_for s k) next)
+
+  pub applied_store : shown drive u ≡ effect_for (shown drive t) k frames (next_command s k)
+  applied_store = commits.exact s.plan (flat_of s) (subst (IsFaithful s.plan (flat_of s)) (sym inner) faithful)
+      (subst (HasEffect x) (sym reply_is) takes)
+      ∙ sym (ap (effect_for (shown drive t) k frames) next)
+
+  pub applied_drives : u.segs.pages.volumes.drives ≡ t.segs.pages.volumes.drives
+  applied_drives = commits.drives
+
+  pub applied_shown : (flat : Store) → IsFaithful s.plan flat s.store
+      → IsFaithful s.plan (with_command s k (next_command s k) flat) (shown drive u)
+  applied_shown flat h = subst (λ (o : Option Command). IsFaithful s.plan (with_command s k o flat) (shown drive u))
+      (sym next) (subst (λ (o : Option Reference). IsFaithful s.plan (answered (reply_of s k x) flat
+      (effect_by s.plan flat k x o)) (shown drive u)) (sym tree)
+      (subst (λ (y : Reply). IsFaithful s.plan (answered y flat (effect_of_tree_command s.plan flat k x))
+      (shown drive u)) reply_is
+      (record { tree = now.tree; known = now.known; pages = now.pages; script = now.script })))
+    where
+      now : Shows drive s.plan (answered r flat (effect_of_tree_command s.plan flat k x)) u
+      now = commits.does.effect s.plan flat (shows flat h)

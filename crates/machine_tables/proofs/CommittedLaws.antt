@@ -1,0 +1,194 @@
+-- A tree command takes effect: the steps of the whole come to the model's.
+use Rattle.std.proofs.Common.{◌≡◌, ℕ, Bool, true, false, if◌then◌else◌, List, [], ◌∷◌, ◌++◌, map, Option, Some, None}
+use Rattle.std.proofs.Common.{refl, sym, ap, ◌∙◌}
+use Rattle.script.specs.declared.commands.Command.{Command}
+use Rattle.script.specs.declared.commands.Command.TheVariants as command
+use Rattle.book.specs.declared.entries.Entry.{Entry}
+use Rattle.book.specs.declared.entries.Entry.TheVariants as entry
+use Rattle.book.specs.declared.replies.Reply.{Reply}
+use Rattle.machine_model.specs.Commits.{committed, committed_at, cut_entry, frame_entry, gone_entries}
+use Rattle.machine_model.specs.Commits.{inactive_entries, left_after, with_effect}
+use Rattle.machine_model.specs.Reads.{cpu_at, cut_of_owner, frames_of_owner, is_active, next_command, or_zero}
+use Rattle.machine_model.specs.Reads.{process_at}
+use Rattle.machine_model.specs.Refusal.{reply_of, uid_of_command}
+use Rattle.machine_model.specs.State.{Owner, State, Storage}
+use Rattle.machine_model.specs.Steps.{booked, left_at, told_by, with_owner, with_store}
+use Rattle.machine_tables.specs.Committed.{effect_for, reply_for}
+use Rattle.machine_tables.specs.Gone.{ends_in, gone_entry, goes_inactive, inactive_entry, left_entries}
+use Rattle.machine_tables.specs.Parts.{Parts, with_state}
+use Rattle.machine_tables.specs.Ready.{cuts_page}
+
+-- ---- entries
+
+frames_named : (st : Storage) (x : Command) (frames : List ℕ) → cuts_page x ≡ false
+    → map gone_entry frames ≡ map (frame_entry st x) frames
+frames_named st (command.MkDir path volume) frames whole = refl
+frames_named st (command.MkSeg path pages volume) frames whole = refl
+frames_named st (command.Initiate path) frames whole = refl
+frames_named st (command.Terminate number) frames whole = refl
+frames_named st (command.Read number offset) frames whole = refl
+frames_named st (command.Write number offset word) frames whole = refl
+frames_named st (command.Add number offset word) frames whole = refl
+frames_named st (command.Await number offset word tries) frames whole = refl
+frames_named st (command.Acl path row m) frames whole = refl
+frames_named st (command.Length path pages) frames whole = refl
+frames_named st (command.Truncate path words) frames whole = absurd (let no : true ≡ false = whole in cc)
+frames_named st (command.Delete path) frames whole = refl
+frames_named st (command.Move path amount) frames whole = refl
+frames_named st (command.Status path) frames whole = refl
+frames_named st command.End frames whole = refl
+
+inactive_named : (st : Storage) (k : ℕ) (x : Command)
+    → inactive_entry (goes_inactive st k (Some x)) ≡ inactive_entries st (uid_of_command st k x) x
+inactive_named st k (command.MkDir path volume) = refl
+inactive_named st k (command.MkSeg path pages volume) = refl
+inactive_named st k (command.Initiate path) = refl
+inactive_named st k (command.Terminate number) = refl
+inactive_named st k (command.Read number offset) = refl
+inactive_named st k (command.Write number offset word) = refl
+inactive_named st k (command.Add number offset word) = refl
+inactive_named st k (command.Await number offset word tries) = refl
+inactive_named st k (command.Acl path row m) = refl
+inactive_named st k (command.Length path pages) = refl
+inactive_named st k (command.Truncate path words) = refl
+inactive_named st k (command.Delete path) = split (is_active st.ast (uid_of_command st k (command.Delete path)))
+  where
+    split : (b : Bool) → inactive_entry (if b then Some (uid_of_command st k (command.Delete path)) else None)
+        ≡ (if b then entry.Deactivate (uid_of_command st k (command.Delete path)) ∷ [] else [])
+    split true = refl
+    split false = refl
+inactive_named st k (command.Move path amount) = refl
+inactive_named st k (command.Status path) = refl
+inactive_named st k command.End = refl
+
+entries_named : (s : State) (k : ℕ) (x : Command) → cuts_page x ≡ false
+    → left_entries s (goes_inactive s.store k (Some x)) ≡ gone_entries s (uid_of_command s.store k x) x
+entries_named s k x whole =
+    ap (λ (es : List Entry). es ++ (map cut_entry (cut_of_owner s.owner)
+    ++ inactive_entry (goes_inactive s.store k (Some x))))
+    (frames_named s.store x (frames_of_owner s.owner) whole)
+    ∙ ap (λ (es : List Entry). map (frame_entry s.store x) (frames_of_owner s.owner)
+    ++ (map cut_entry (cut_of_owner s.owner) ++ es)) (inactive_named s.store k x)
+
+-- ---- the end of a process
+
+stays_at : (t : State) (c : ℕ) (x : Command) → ends_in (Some x) ≡ false → left_after t c x ≡ t
+stays_at t c (command.MkDir path volume) e = refl
+stays_at t c (command.MkSeg path pages volume) e = refl
+stays_at t c (command.Initiate path) e = refl
+stays_at t c (command.Terminate number) e = refl
+stays_at t c (command.Read number offset) e = refl
+stays_at t c (command.Write number offset word) e = refl
+stays_at t c (command.Add number offset word) e = refl
+stays_at t c (command.Await number offset word tries) e = refl
+stays_at t c (command.Acl path row m) e = refl
+stays_at t c (command.Length path pages) e = refl
+stays_at t c (command.Truncate path words) e = refl
+stays_at t c (command.Delete path) e = refl
+stays_at t c (command.Move path amount) e = refl
+stays_at t c (command.Status path) e = refl
+stays_at t c command.End e = absurd (let no : true ≡ false = e in cc)
+
+leaves_at : (t : State) (c : ℕ) (x : Command) → ends_in (Some x) ≡ true → left_after t c x ≡ left_at t c
+leaves_at t c (command.MkDir path volume) e = absurd (let no : false ≡ true = e in cc)
+leaves_at t c (command.MkSeg path pages volume) e = absurd (let no : false ≡ true = e in cc)
+leaves_at t c (command.Initiate path) e = absurd (let no : false ≡ true = e in cc)
+leaves_at t c (command.Terminate number) e = absurd (let no : false ≡ true = e in cc)
+leaves_at t c (command.Read number offset) e = absurd (let no : false ≡ true = e in cc)
+leaves_at t c (command.Write number offset word) e = absurd (let no : false ≡ true = e in cc)
+leaves_at t c (command.Add number offset word) e = absurd (let no : false ≡ true = e in cc)
+leaves_at t c (command.Await number offset word tries) e = absurd (let no : false ≡ true = e in cc)
+leaves_at t c (command.Acl path row m) e = absurd (let no : false ≡ true = e in cc)
+leaves_at t c (command.Length path pages) e = absurd (let no : false ≡ true = e in cc)
+leaves_at t c (command.Truncate path words) e = absurd (let no : false ≡ true = e in cc)
+leaves_at t c (command.Delete path) e = absurd (let no : false ≡ true = e in cc)
+leaves_at t c (command.Move path amount) e = absurd (let no : false ≡ true = e in cc)
+leaves_at t c (command.Status path) e = absurd (let no : false ≡ true = e in cc)
+leaves_at t c command.End e = refl
+
+-- ---- all of it
+
+module _ {D : Type 0} (old applied gone said : Parts D) (c k : ℕ) (inactive : Option ℕ) (r : Reply) (x : Command)
+    (next : next_command old.state k ≡ Some x) (whole : cuts_page x ≡ false)
+    (its : (cpu_at old.state.processors c).process ≡ Some k)
+    (which : inactive ≡ goes_inactive old.state.store k (next_command old.state k))
+    (answer : r ≡ reply_for old.state k (next_command old.state k))
+    (does : applied ≡ with_state old (with_store old.state (effect_for old.state.store k
+    (frames_of_owner old.state.owner) (next_command old.state k))))
+    (goes : gone ≡ with_state applied (with_owner (booked applied.state (left_entries applied.state inactive))
+    gone.state.owner))
+    (tells : said ≡ with_state gone (told_by gone.state c k None r)) where
+  abbrev pub s : State
+  s = old.state
+
+  abbrev uid : ℕ
+  uid = uid_of_command s.store k x
+
+  abbrev after : State
+  after = with_store s (with_effect s.store k uid (frames_of_owner s.owner) x)
+
+  abbrev full : ℕ → State
+  full j = with_owner (told_by (booked after (gone_entries s uid x)) c j None (reply_of s k x)) None
+
+  entries : left_entries s inactive ≡ gone_entries s uid x
+  entries = ap (left_entries s) (which ∙ ap (goes_inactive s.store k) next) ∙ entries_named s k x whole
+
+  said_state : with_owner said.state None ≡ full k
+  said_state = ap (λ (t : Parts D). with_owner t.state None) tells
+      ∙ (ap (λ (t : Parts D). with_owner (told_by t.state c k None r) None) goes
+      ∙ (ap (λ (t : Parts D). with_owner (told_by (booked t.state (left_entries t.state inactive)) c k None r) None)
+      does
+      ∙ (ap (λ (o : Option Command). with_owner (told_by (booked (with_store s (effect_for s.store k
+      (frames_of_owner s.owner) o)) (left_entries s inactive)) c k None r) None) next
+      ∙ (ap (λ (es : List Entry). with_owner (told_by (booked after es) c k None r) None) entries
+      ∙ ap (λ (y : Reply). with_owner (told_by (booked after (gone_entries s uid x)) c k None y) None)
+      (answer ∙ ap (reply_for s k) next)))))
+
+  said_whole : said ≡ with_state old said.state
+  said_whole = tells ∙ (ap (λ (t : Parts D). with_state t (told_by gone.state c k None r)) goes
+      ∙ (ap (λ (t : Parts D). with_state t (told_by gone.state c k None r)) does
+      ∙ sym (ap (λ (t : Parts D). with_state old t.state) tells)))
+
+  process : process_at s c ≡ k
+  process = ap or_zero its
+
+  abbrev whole_at : ℕ → State
+  whole_at j = with_owner (left_after (told_by (booked (with_store s (with_effect s.store j
+      (uid_of_command s.store j x) (frames_of_owner s.owner) x)) (gone_entries s (uid_of_command s.store j x) x)) c j
+      None (reply_of s j x)) c x) None
+
+  committed_is : whole_at k ≡ committed_at s c (next_command s k)
+  committed_is = ap whole_at (sym process) ∙ ap (committed_at s c) (sym next)
+
+  final : {v : Parts D} (last : Parts D) (J : Option Owner) → v ≡ last → J ≡ None → last ≡ with_state old last.state
+      → with_owner last.state None ≡ whole_at k
+      → with_state v (with_owner v.state J) ≡ with_state old (committed_at s c (next_command s k))
+  final last J view none keeps state =
+      ap (λ (t : Parts D). with_state t (with_owner t.state J)) view
+      ∙ (ap (λ (o : Option Owner). with_state last (with_owner last.state o)) none
+      ∙ (ap (λ (t : Parts D). with_state t (with_owner last.state None)) keeps
+      ∙ ap (with_state old) (state ∙ committed_is)))
+
+  pub committed_stays : {v : Parts D} (J : Option Owner) (b : Bool) → v ≡ said → J ≡ None
+      → b ≡ ends_in (next_command s k) → b ≡ false
+      → with_state v (with_owner v.state J) ≡ with_state old (committed_at s c (next_command s k))
+  committed_stays J b view none is e = final said J view none said_whole (said_state
+      ∙ ap (λ (t : State). with_owner t None) (sym (stays_at (told_by (booked after (gone_entries s uid x)) c k None
+      (reply_of s k x)) c x (ap ends_in (sym next) ∙ (sym is ∙ e)))))
+
+  pub committed_leaves : {v left : Parts D} (J : Option Owner) (b : Bool)
+      → left ≡ with_state said (left_at said.state c) → v ≡ left → J ≡ None
+      → b ≡ ends_in (next_command s k) → b ≡ true
+      → with_state v (with_owner v.state J) ≡ with_state old (committed_at s c (next_command s k))
+  committed_leaves {v} {left} J b leaves view none is e = final left J view none left_whole (left_state
+      ∙ ap (λ (t : State). with_owner t None) (sym (leaves_at (told_by (booked after (gone_entries s uid x)) c k None
+      (reply_of s k x)) c x (ap ends_in (sym next) ∙ (sym is ∙ e)))))
+    where
+      left_state : with_owner left.state None
+          ≡ with_owner (left_at (told_by (booked after (gone_entries s uid x)) c k None (reply_of s k x)) c) None
+      left_state = ap (λ (t : Parts D). with_owner t.state None) leaves
+          ∙ ap (λ (t : State). with_owner (left_at t c) None) said_state
+
+      left_whole : left ≡ with_state old left.state
+      left_whole = leaves ∙ (ap (λ (t : Parts D). with_state t (left_at said.state c)) said_whole
+          ∙ sym (ap (λ (t : Parts D). with_state old t.state) leaves))

@@ -1,0 +1,125 @@
+-- What the owner took is gone, one after the other.
+use Rattle.std.proofs.Common.{◌≡◌, ◌+◌, ◌-◌, ◌<◌, ◌≤◌, ℕ, suc, length, map, List, [], ◌∷◌, ◌++◌, Option, Some, None}
+use Rattle.std.proofs.Common.{refl, sym, ap, subst, ◌∙◌, arith, append_assoc, append-nil, length-append}
+use Rattle.std.specs.Prelude.{slice_get}
+use Rattle.std.proofs.lemmas.List.{length-map}
+use Rattle.book.specs.declared.entries.Entry.{Entry}
+use Rattle.machine_model.specs.declared.CutDescriptor.{CutDescriptor}
+use Rattle.machine_model.specs.Commits.{cut_entry}
+use Rattle.machine_model.specs.Jobs.{seg_gone, segs_gone, without_first_cut, without_first_frame}
+use Rattle.machine_model.specs.Reads.{cut_of_owner, frames_of_owner}
+use Rattle.machine_model.specs.State.{Owner, State}
+use Rattle.machine_model.specs.Steps.{booked, with_owner}
+use Rattle.machine_tables.specs.Gone.{gone_entry, inactive_entry, left_entries}
+use Rattle.machine_tables.specs.Owned.{HasOwner}
+use Rattle.machine_tables.specs.Parts.{Parts, with_state}
+use Rattle.machine_tables.proofs.JobLaws.{cut_same, frames_next, no_frame, owner_left}
+
+-- ---- entries
+
+pub booked_more : (s : State) (es fs : List Entry) → booked (booked s es) fs ≡ booked s (es ++ fs)
+booked_more s es fs =
+    let entries = append_assoc s.entries es fs in
+    let long : length (es ++ fs) ≡ length es + length fs = length-append es fs in
+    let spare : (s.spare - length es) - length fs ≡ s.spare - length (es ++ fs) = omega (arith, long) in
+    λ i. record s { entries = entries i; spare = spare i }
+
+pub booked_none : (s : State) → booked s [] ≡ s
+booked_none s =
+    let entries : s.entries ++ [] ≡ s.entries = append-nil s.entries in
+    let spare : s.spare - 0 ≡ s.spare = omega arith in
+    λ i. record s { entries = entries i; spare = spare i }
+
+-- ---- frames
+
+-- so far as the frames are gone, the rest leads to the same, but for the owner
+pub record PagesOn (now first : State) : Type 0 where
+  pub same : with_owner (booked now (map gone_entry (frames_of_owner now.owner))) None
+      ≡ with_owner (booked first (map gone_entry (frames_of_owner first.owner))) None
+  pub owner : HasOwner now.owner
+  pub room : length (frames_of_owner now.owner) ≤ now.spare
+  pub cut : cut_of_owner now.owner ≡ cut_of_owner first.owner
+  pub spent : now.spare + length (frames_of_owner first.owner) ≡ first.spare + length (frames_of_owner now.owner)
+
+pub pages_first : (s : State) → HasOwner s.owner → length (frames_of_owner s.owner) ≤ s.spare → PagesOn s s
+pages_first s owner room = record { same = refl; owner = owner; room = room; cut = refl; spent = refl }
+
+pub pages_next : (s t first : State) (f : ℕ) → PagesOn s first → slice_get (frames_of_owner s.owner) 0 ≡ Some f
+    → t ≡ booked (with_owner s (without_first_frame s.owner)) (gone_entry f ∷ []) → PagesOn t first
+pages_next s t first f on at is = subst (λ (x : State). PagesOn x first) (sym is) (
+    let rest = frames_of_owner (without_first_frame s.owner) in
+    let all : frames_of_owner s.owner ≡ f ∷ rest = frames_next s.owner f at in
+    let count = ap length all in
+    let room = on.room in
+    let spent = on.spent in
+    record {
+      same = ap (λ (x : State). with_owner x None)
+          (booked_more (with_owner s (without_first_frame s.owner)) (gone_entry f ∷ []) (map gone_entry rest))
+          ∙ (ap (λ (fs : List ℕ). with_owner (booked s (map gone_entry fs)) None) (sym all) ∙ on.same);
+      owner = owner_left s.owner on.owner;
+      room = omega (arith, count, room);
+      cut = cut_same s.owner ∙ on.cut;
+      spent = omega (arith, count, room, spent);
+    })
+
+pub pages_end : (s first : State) → PagesOn s first → slice_get (frames_of_owner s.owner) 0 ≡ None
+    → (s ≡ with_owner (booked first (map gone_entry (frames_of_owner first.owner))) s.owner)
+    × (s.spare + length (frames_of_owner first.owner) ≡ first.spare)
+pages_end s first on none =
+    let empty = no_frame (frames_of_owner s.owner) none in
+    let count = ap length empty in
+    let spent = on.spent in (
+      ap (λ (x : State). with_owner x s.owner) (ap (λ (x : State). with_owner x None)
+          (sym (booked_none s) ∙ ap (λ (fs : List ℕ). booked s (map gone_entry fs)) (sym empty)) ∙ on.same),
+      omega (arith, count, spent),
+    )
+
+-- ---- descriptors
+
+segs_booked : (s : State) (ds : List CutDescriptor) → with_owner (segs_gone s ds) None
+    ≡ with_owner (booked s (map cut_entry ds)) None
+segs_booked s [] = ap (λ (x : State). with_owner x None) (sym (booked_none s))
+segs_booked s (d ∷ ds) = segs_booked (seg_gone s d) ds
+    ∙ ap (λ (x : State). with_owner x None)
+    (booked_more (with_owner s (without_first_cut s.owner)) (cut_entry d ∷ []) (map cut_entry ds))
+
+-- ---- all that goes
+
+pub all_gone : {D : Type 0} (old mid next new : Parts D) (inactive : Option ℕ)
+    → mid ≡ with_state old (with_owner (booked old.state (map gone_entry (frames_of_owner old.state.owner)))
+    mid.state.owner)
+    → cut_of_owner mid.state.owner ≡ cut_of_owner old.state.owner
+    → next ≡ with_state mid (segs_gone mid.state (cut_of_owner mid.state.owner))
+    → new ≡ with_state next (booked next.state (inactive_entry inactive))
+    → new ≡ with_state old (with_owner (booked old.state (left_entries old.state inactive)) new.state.owner)
+all_gone {D} old mid next new inactive pages cut segs last = whole ∙ ap (with_state old) state
+  where
+    F : List Entry
+    F = map gone_entry (frames_of_owner old.state.owner)
+
+    C : List Entry
+    C = map cut_entry (cut_of_owner old.state.owner)
+
+    I : List Entry
+    I = inactive_entry inactive
+
+    segs_state : with_owner next.state None ≡ with_owner (booked old.state (F ++ C)) None
+    segs_state = ap (λ (x : Parts D). with_owner x.state None) segs
+        ∙ (segs_booked mid.state (cut_of_owner mid.state.owner)
+        ∙ (ap (λ (ds : List CutDescriptor). with_owner (booked mid.state (map cut_entry ds)) None) cut
+        ∙ (ap (λ (x : Parts D). with_owner (booked x.state C) None) pages
+        ∙ ap (λ (x : State). with_owner x None) (booked_more old.state F C))))
+
+    none_state : with_owner new.state None ≡ with_owner (booked old.state (F ++ (C ++ I))) None
+    none_state = ap (λ (x : Parts D). with_owner x.state None) last
+        ∙ (ap (λ (x : State). booked x I) segs_state
+        ∙ ap (λ (x : State). with_owner x None) (booked_more old.state (F ++ C) I
+        ∙ ap (booked old.state) (append_assoc F C I)))
+
+    state : new.state ≡ with_owner (booked old.state (F ++ (C ++ I))) new.state.owner
+    state = ap (λ (x : State). with_owner x new.state.owner) none_state
+
+    whole : new ≡ with_state old new.state
+    whole = last ∙ (ap (λ (x : Parts D). with_state x (booked next.state I)) (segs
+        ∙ ap (λ (x : Parts D). with_state x (segs_gone mid.state (cut_of_owner mid.state.owner))) pages)
+        ∙ sym (ap (λ (x : Parts D). with_state old x.state) last))
