@@ -1,6 +1,6 @@
 -- What a path leads to, by its walk.
 use Rattle.std.proofs.Common.{◌≡◌, ℕ, true, false, is_some, List, Option, Some, None, refl, sym, ap, ◌∙◌}
-use Rattle.std.specs.Prelude.{Result, Ok, Err}
+use Rattle.std.specs.Prelude.{Ok, Err}
 use Rattle.dir_tree.specs.Nodes.{path_answer}
 use Rattle.dir_tree.specs.declared.node.PathFault.{PathFault}
 use Rattle.tree_model.specs.Tree.{InSegment, LeadsTo, Missing, Node, Walk, node_in, walk_in}

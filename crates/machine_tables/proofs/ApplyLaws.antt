@@ -1,11 +1,11 @@
 -- The next command of a process takes effect in the store of the tables.
-use Rattle.std.proofs.Common.{◌≡◌, ℕ, true, List, Option, Some, None, refl, sym, ap, subst, ◌∙◌}
+use Rattle.std.proofs.Common.{◌≡◌, ℕ, List, Option, Some, None, sym, ap, subst, ◌∙◌}
 use Rattle.script.specs.References.{reference_of}
 use Rattle.script.specs.declared.commands.Command.{Command}
 use Rattle.script.specs.declared.commands.Command.TheVariants as command
 use Rattle.script.specs.declared.commands.Reference.{Reference}
 use Rattle.book.specs.declared.replies.Reply.{Reply}
-use Rattle.flat_model.specs.Commands.{effect_by, effect_of_tree_command, takes_effect}
+use Rattle.flat_model.specs.Commands.{effect_by, effect_of_tree_command}
 use Rattle.flat_model.specs.Store.{Store}
 use Rattle.storage_ops.specs.Cut.{IsReady}
 use Rattle.storage_ops.specs.Shown.{Shows, Storage as Stored, answered}

@@ -10,7 +10,7 @@ use Rattle.script.specs.Plans.{Plan}
 use Rattle.script.specs.declared.commands.Command.TheVariants as command
 use Rattle.book.specs.declared.replies.Reply.{Reply}
 use Rattle.book.specs.declared.replies.Reply.TheVariants as reply
-use Rattle.accounts.specs.Maps.{AccountMaps, Changes, HasColumns, count_of}
+use Rattle.accounts.specs.Maps.{AccountMaps, Changes, HasColumns}
 use Rattle.quota_cells.specs.Accounts.{look}
 use Rattle.known_segs.specs.Known.{number_for, with_number}
 use Rattle.tree_model.specs.Quotas.{getter_of, giver_of}
@@ -21,7 +21,7 @@ use Rattle.flat_model.specs.Commands.{takes_effect}
 use Rattle.flat_model.specs.Naming.{after_initiate, after_terminate, initiate_of, initiate_reply, initiated}
 use Rattle.flat_model.specs.Rights.{nodes_moved, row_with}
 use Rattle.flat_model.specs.Store.{Store}
-use Rattle.seg_control.specs.Control.{Links, kst_at}
+use Rattle.seg_control.specs.Control.{kst_at}
 use Rattle.storage_ops.specs.Cut.{Commits, HasLengthSet}
 use Rattle.storage_ops.specs.Shown.{HasMoved, HasRowSet, Shows, Storage as Stored, answered, with_known}
 use Rattle.storage_ops.proofs.Alike.{Keeps, keeps_length, keeps_moved, keeps_one, keeps_rows}
@@ -29,9 +29,8 @@ use Rattle.storage_ops.proofs.Changed.{segment_refuses}
 use Rattle.tree_model.specs.Access.{with_row as with_row_of}
 use Rattle.machine_model.specs.Commits.{with_effect}
 use Rattle.machine_model.specs.Keeps.{IsFaithful}
-use Rattle.machine_model.specs.Refusal.{uid_at_path, uid_of_command, uid_of_node}
-use Rattle.machine_model.specs.State.{Storage}
-use Rattle.machine_tables.specs.Committed.{IsCommitted, TakesEffect}
+use Rattle.machine_model.specs.Refusal.{uid_at_path, uid_of_node}
+use Rattle.machine_tables.specs.Committed.{TakesEffect}
 use Rattle.machine_tables.specs.Parts.{shown}
 use Rattle.machine_tables.proofs.ColumnLaws.{columns_same, rising_same}
 use Rattle.machine_tables.proofs.RefusalLaws.{shows_of}

@@ -6,7 +6,7 @@ use Rattle.script.specs.declared.commands.Command.TheVariants as command
 use Rattle.book.specs.declared.entries.Entry.{Entry}
 use Rattle.book.specs.declared.entries.Entry.TheVariants as entry
 use Rattle.book.specs.declared.replies.Reply.{Reply}
-use Rattle.machine_model.specs.Commits.{committed, committed_at, cut_entry, frame_entry, gone_entries}
+use Rattle.machine_model.specs.Commits.{committed_at, cut_entry, frame_entry, gone_entries}
 use Rattle.machine_model.specs.Commits.{inactive_entries, left_after, with_effect}
 use Rattle.machine_model.specs.Reads.{cpu_at, cut_of_owner, frames_of_owner, is_active, next_command, or_zero}
 use Rattle.machine_model.specs.Reads.{process_at}

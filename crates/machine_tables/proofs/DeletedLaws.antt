@@ -1,5 +1,5 @@
 -- A node that is deleted, exactly.
-use Rattle.std.proofs.Common.{◌≡◌, ◌≢◌, ◌<◌, ℕ, ◌+◌, ◌-◌, Bool, true, false, not, ◌&&◌, cond, eqb, is_some, length, map}
+use Rattle.std.proofs.Common.{◌≡◌, ◌≢◌, ◌<◌, ℕ, ◌-◌, Bool, true, false, not, ◌&&◌, cond, eqb, is_some, length, map}
 use Rattle.std.proofs.Common.{count_by}
 use Rattle.std.proofs.Common.{List, [], ◌∷◌, get_or, Option, Some, None, refl, sym, ap, subst, ◌∙◌, arith, inl, inr}
 use Rattle.std.specs.Prelude.{Result, Ok, Err, filter}
@@ -11,7 +11,7 @@ use Rattle.script.specs.Plans.{Plan}
 use Rattle.script.specs.declared.commands.Command.TheVariants as command
 use Rattle.book.specs.declared.replies.Reply.{Reply}
 use Rattle.book.specs.declared.replies.Reply.TheVariants as reply
-use Rattle.accounts.specs.Maps.{AccountMaps, HasColumns, count_of}
+use Rattle.accounts.specs.Maps.{HasColumns, count_of}
 use Rattle.tree_model.specs.Tree.{InSegment, LeadsTo, Missing, Node, Walk, node_in, walk_in, without_node}
 use Rattle.tree_model.specs.Trees.{IsTree}
 use Rattle.custody_model.specs.Custody.{has}
@@ -24,14 +24,13 @@ use Rattle.page_table.specs.declared.Ptw.{Ptw}
 use Rattle.page_table.specs.declared.Ptw.TheVariants.{Leaving, Null}
 use Rattle.vtoc.specs.Vtoc.{Entry, uid_of}
 use Rattle.volumes.specs.Volumes.{HasParts}
-use Rattle.active_segs.specs.Active.{ActiveSegs, IsActive, deactivated, uid_at as uid_in_place}
 use Rattle.page_control.specs.declared.Home.{Home}
 use Rattle.page_control.specs.Effects.{erased}
 use Rattle.page_control.specs.Plain.{Plain, filed, plain, vtoc_of}
 use Rattle.page_control.specs.Tied.{has_record, uid_at}
 use Rattle.page_control.specs.Ties.{IsTied}
 use Rattle.seg_control.specs.Control.{is_for, place_of, table_of, word_of}
-use Rattle.seg_control.specs.Kept.{IsInactive, IsKept}
+use Rattle.seg_control.specs.Kept.{IsKept}
 use Rattle.storage_ops.specs.Cut.{Commits, KeepsRest}
 use Rattle.storage_ops.specs.CutOff.{Erases, paged, pages_cut, pages_from}
 use Rattle.storage_ops.specs.Shown.{IsStore, Shows, Storage as Stored, home_of, is_there, pages_in}
@@ -52,7 +51,7 @@ use Rattle.machine_tables.specs.Committed.{IsCommitted}
 use Rattle.machine_tables.specs.Parts.{shown}
 use Rattle.machine_tables.specs.Ready.{OwnsAll, OwnsFor}
 use Rattle.machine_tables.proofs.CommitLaws.{branch_node, branch_uid, flat_after}
-use Rattle.machine_tables.proofs.DeleteLaws.{IsNamed, IsUsed, cut_erased, cut_inactive, freed_alike, leaving_in}
+use Rattle.machine_tables.proofs.DeleteLaws.{IsNamed, IsUsed, cut_erased, cut_inactive, freed_alike}
 use Rattle.machine_tables.proofs.DeleteLaws.{freed_rest, owned_alike}
 use Rattle.machine_tables.proofs.GoneLaws.{entry_kept, lost_is}
 use Rattle.machine_tables.proofs.RefusalLaws.{shows_of}

@@ -1,15 +1,13 @@
 -- The accounts' lists once a node is added, or is taken out.
-use Rattle.std.proofs.Common.{◌≡◌, ◌≢◌, ℕ, ◌+◌, ◌<◌, Bool, true, false, not, ◌||◌, cond, eqb, List, [], ◌∷◌, length}
-use Rattle.std.proofs.Common.{map}
-use Rattle.std.proofs.Common.{get_or, inl, inr, refl, sym, ap, subst, ◌∙◌, arith}
-use Rattle.std.specs.Prelude.{if◌then◌else◌}
-use Rattle.std.specs.List.{insert, remove}
-use Rattle.std.proofs.lemmas.Bool.{cases_Bool, cases_eq, eq-eqb, ne_eqb}
-use Rattle.std.proofs.lemmas.List.Edits.{length-insert, length-remove}
+use Rattle.std.proofs.Common.{◌≡◌, ℕ, Bool, true, false, not, ◌||◌, cond, eqb, List, [], ◌∷◌, length}
+use Rattle.std.proofs.Common.{inl, inr, refl, sym, ap, subst, ◌∙◌, arith}
+use Rattle.std.specs.List.{insert}
+use Rattle.std.proofs.lemmas.Bool.{cases_eq, eq-eqb, ne_eqb}
+use Rattle.std.proofs.lemmas.List.Edits.{length-insert}
 use Rattle.accounts.specs.Maps.{AccountMaps, HasColumns, count_of}
 use Rattle.tree_model.specs.Tree.{Node}
 use Rattle.tree_model.specs.Trees.{AreBelow, has_segment}
-use Rattle.quota_cells.specs.Accounts.{has, look, with_beside, without_beside}
+use Rattle.quota_cells.specs.Accounts.{has, look, with_beside}
 use Rattle.quota_cells.specs.Cells.{IsRising}
 use Rattle.quota_cells.specs.Columns.{IsGap}
 use Rattle.quota_cells.proofs.EditLaws.{has_insert, look_insert, rising_insert}

@@ -1,14 +1,13 @@
 -- What the owner took is gone, one after the other.
-use Rattle.std.proofs.Common.{◌≡◌, ◌+◌, ◌-◌, ◌<◌, ◌≤◌, ℕ, suc, length, map, List, [], ◌∷◌, ◌++◌, Option, Some, None}
+use Rattle.std.proofs.Common.{◌≡◌, ◌+◌, ◌-◌, ◌≤◌, ℕ, length, map, List, [], ◌∷◌, ◌++◌, Option, Some, None}
 use Rattle.std.proofs.Common.{refl, sym, ap, subst, ◌∙◌, arith, append_assoc, append-nil, length-append}
 use Rattle.std.specs.Prelude.{slice_get}
-use Rattle.std.proofs.lemmas.List.{length-map}
 use Rattle.book.specs.declared.entries.Entry.{Entry}
 use Rattle.machine_model.specs.declared.CutDescriptor.{CutDescriptor}
 use Rattle.machine_model.specs.Commits.{cut_entry}
 use Rattle.machine_model.specs.Jobs.{seg_gone, segs_gone, without_first_cut, without_first_frame}
 use Rattle.machine_model.specs.Reads.{cut_of_owner, frames_of_owner}
-use Rattle.machine_model.specs.State.{Owner, State}
+use Rattle.machine_model.specs.State.{State}
 use Rattle.machine_model.specs.Steps.{booked, with_owner}
 use Rattle.machine_tables.specs.Gone.{gone_entry, inactive_entry, left_entries}
 use Rattle.machine_tables.specs.Owned.{HasOwner}

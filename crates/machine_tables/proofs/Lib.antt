@@ -14,6 +14,7 @@ pub mod CreateLaws
 pub mod CutLaws
 pub mod DeleteLaws
 pub mod DeletedLaws
+pub mod EffectLaws
 pub mod FailedLaws
 pub mod FirstLaws
 pub mod FrameLaws

@@ -8,7 +8,7 @@ use Rattle.script.specs.Plans.{Plan, ProcessPlan, nobody, who_of}
 use Rattle.script.specs.declared.commands.Command.TheVariants as command
 use Rattle.book.specs.declared.replies.Reply.{Reply}
 use Rattle.book.specs.declared.replies.Reply.TheVariants as reply
-use Rattle.accounts.specs.Maps.{AccountMaps, HasColumns, count_of}
+use Rattle.accounts.specs.Maps.{HasColumns, count_of}
 use Rattle.quota_cells.specs.Accounts.{with_beside}
 use Rattle.tree_model.specs.Access.{Row}
 use Rattle.tree_model.specs.Tree.{Node}
@@ -19,7 +19,7 @@ use Rattle.flat_model.specs.Making.{after_make, made_at, made_in, made_of, make_
 use Rattle.flat_model.specs.Making.{owner_row}
 use Rattle.flat_model.specs.Store.{Store}
 use Rattle.page_control.specs.Effects.{allocated}
-use Rattle.page_control.specs.Plain.{plain, vtoc_of}
+use Rattle.page_control.specs.Plain.{vtoc_of}
 use Rattle.vtoc.specs.Vtoc.{least_free_entry}
 use Rattle.storage_ops.specs.Cut.{Commits}
 use Rattle.storage_ops.specs.CutOff.{TakesHome}
@@ -30,7 +30,7 @@ use Rattle.machine_model.specs.Keeps.{IsFaithful}
 use Rattle.machine_model.specs.Reads.{or_zero}
 use Rattle.machine_model.specs.Refusal.{uid_at_path, uid_of_node}
 use Rattle.machine_model.specs.State.{Storage}
-use Rattle.machine_tables.specs.Committed.{IsCommitted, TakesEffect}
+use Rattle.machine_tables.specs.Committed.{TakesEffect}
 use Rattle.machine_tables.specs.Parts.{shown}
 use Rattle.machine_tables.proofs.CommitLaws.{flat_after}
 use Rattle.machine_tables.proofs.GainLaws.{directory_gained, segment_gained}

@@ -22,7 +22,7 @@ use Rattle.machine_model.specs.Keeps.{IsFaithful}
 use Rattle.machine_model.specs.Reads.{cpu_at, cut_of_owner, flat_of, frames_of_owner, next_command, processor_at}
 use Rattle.machine_model.specs.Reads.{run_at}
 use Rattle.machine_model.specs.Refusal.{reply_of}
-use Rattle.machine_model.specs.State.{State, Storage}
+use Rattle.machine_model.specs.State.{Storage}
 use Rattle.machine_tables.specs.Committed.{HasEffect}
 use Rattle.machine_tables.specs.Owned.{HasOwner}
 use Rattle.machine_tables.specs.Parts.{Parts}

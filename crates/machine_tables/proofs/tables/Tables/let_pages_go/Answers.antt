@@ -1,6 +1,6 @@
 use Rattle.std.proofs.Common.{sym, rules}
 use Rattle.machine_tables.proofs.JobLaws.{frame_smaller}
-use Rattle.machine_tables.proofs.LetLaws.{pages_first, pages_next}
+use Rattle.machine_tables.proofs.LetLaws.{pages_next}
 use Rattle.machine_tables.proofs.tables.Tables.let_pages_go.Goals as goal
 
 pub loop-frame-preserved : goal.loop-frame-preserved
