@@ -11,3 +11,4 @@ pub mod Reading
 pub mod Ready
 pub mod Returned
 pub mod Taken
+pub mod Visited

@@ -1,16 +1,21 @@
 //! The shutdown visits the frames one after the other, and empties them.
 
-ghost use Rattle.std.specs.Prelude.{◌≡◌, ◌<◌, ◌≤◌, length, None, true};
+ghost use Rattle.std.specs.Prelude.{◌≡◌, ◌<◌, ◌≤◌, length, None, true, IfOk};
+ghost use Rattle.script.specs.Plans.{Plan};
+ghost use Rattle.flat_model.specs.Store.{Store as Flat};
 ghost use Rattle.core_map.specs.CoreMap.{bound_page, frame_at, is_bound};
 ghost use Rattle.page_control.specs.Drives.{CallsDrive};
 ghost use Rattle.machine_model.specs.After.{by_outcome};
-ghost use Rattle.machine_model.specs.Jobs.{page_back, page_gone, page_in};
+ghost use Rattle.page_control.specs.Plain.{words_in};
+ghost use Rattle.machine_model.specs.Jobs.{left_of, page_back, page_gone, page_in};
+ghost use Rattle.machine_model.specs.Keeps.{IsFaithful};
 ghost use Rattle.machine_model.specs.Reads.{home_in};
 ghost use Rattle.machine_model.specs.Shutdown.{after_visit, page_taken, visited_if};
 ghost use Rattle.machine_model.specs.Steps.{fault_told, with_faults};
 ghost use Rattle.machine_tables.specs.Parts.{outcome_of, with_state};
 ghost use Rattle.machine_model.specs.Returned.{IsLeaving};
 ghost use Rattle.machine_tables.specs.Taken.{AreHere};
+ghost use Rattle.machine_tables.specs.Visited.{shown_left, shown_visited};
 
 use crate::tables::Tables;
 use book::Entry;
@@ -56,6 +61,9 @@ impl<D: Drive> Tables<D> {
         ensures state { self.new.state ≡ by_outcome (outcome_of result self.new.state.faults)
             (page_gone (with_faults (page_taken self.old.state f) self.new.state.faults) f)
             (page_back (fault_told (page_taken self.old.state f) None self.new.state.faults) f) }
+        ensures how { IfOk result (λ left. left ≡ left_of (words_in self.old.state.store.pages f)) }
+        ensures shown { (p : Plan) (t : Flat) → IsFaithful p t self.old.state.store
+            → IsFaithful p (shown_left result (page_in self.old.state.store f) t) self.new.state.store }
         ensures room { self.new.room ≡ self.old.room }
         ensures drives { CallsDrive D.plan D.places D.faults self.old.drives self.new.drives
             (home_in self.old.state.store (page_in self.old.state.store f).0).volume result }
@@ -78,6 +86,9 @@ impl<D: Drive> Tables<D> {
         requires room { 3 ≤ self.old.state.spare }
         ensures state { self.new.state ≡ visited_if self.old.state f (outcome_of result self.new.state.faults)
             (bound_page (frame_at self.old.state.store.pages.core f)) }
+        ensures shown { (p : Plan) (t : Flat) → IsFaithful p t self.old.state.store
+            → IsFaithful p (shown_visited self.old.state f (outcome_of result self.new.state.faults)
+            (bound_page (frame_at self.old.state.store.pages.core f)) t) self.new.state.store }
         ensures room { self.new.room ≡ self.old.room }
         ensures drives { CallsDrive D.plan D.places D.faults self.old.drives self.new.drives
             (home_in self.old.state.store (page_in self.old.state.store f).0).volume result }
@@ -103,6 +114,11 @@ impl<D: Drive> Tables<D> {
         requires owner { self.old.state.owner ≡ None }
         requires room { 3 ≤ self.old.state.spare }
         ensures state { self.new.state ≡ after_visit self.old.state (outcome_of result self.new.state.faults) }
+        ensures shown { (p : Plan) (t : Flat) → IsFaithful p t self.old.state.store
+            → IsFaithful p (shown_visited self.old.state self.old.state.visited
+            (outcome_of result self.new.state.faults)
+            (bound_page (frame_at self.old.state.store.pages.core self.old.state.visited)) t)
+            self.new.state.store }
         ensures room { self.new.room ≡ self.old.room }
         ensures drives { CallsDrive D.plan D.places D.faults self.old.drives self.new.drives
             (home_in self.old.state.store (page_in self.old.state.store self.old.state.visited).0).volume result }
