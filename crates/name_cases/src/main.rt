@@ -1,5 +1,5 @@
-//! Reads names, labels, principals, rows and paths, and prints what each is read as. `stdin` has the cases, and `stdout`
-//! what each must give.
+//! Reads names, labels, principals, rows and paths, and prints what each is read as. `stdin` has the cases, and
+//! `stdout` what each must give.
 //!
 //! A case is a line `== KIND`, and below it lines in brackets, each of which is a text of that kind, or of none; `|`
 //! stands for a line feed. Where a text is read, what is written for it must be read as the same again.

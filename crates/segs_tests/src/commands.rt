@@ -1,11 +1,11 @@
 //! The commands of a case, on the root and its pages 0 to 3, and on two processes.
 //!
-//! Looks: `word P`, `stored P` (its record), `free` (the least free frame), `leads K N` (a descriptor), `trailers` (two of
-//! them), `homed`, `uid K N` (what a number stands for). Pages: `create P AT W`, `read P AT`, `write P AT W`, `drop P`,
-//! `erase`, `take P`, `back P`, `evict P`, `all` (all pages are taken), `swap P` (evicted and read in again), `swap_twice P`
-//! (read in twice). Descriptors: `connect K M`, `cut K N`, `cut_all`, `again M M` (all are cut and connected again), `know
-//! K U`, `forget K N`, where M is 0 for nothing, 1 to read, 2 to write, 3 for both. `chains` and `round` are of other
-//! segments.
+//! Looks: `word P`, `stored P` (its record), `free` (the least free frame), `leads K N` (a descriptor), `trailers` (two
+//! of them), `homed`, `uid K N` (what a number stands for). Pages: `create P AT W`, `read P AT`, `write P AT W`, `drop
+//! P`, `erase`, `take P`, `back P`, `evict P`, `all` (all pages are taken), `swap P` (evicted and read in again),
+//! `swap_twice P` (read in twice). Descriptors: `connect K M`, `cut K N`, `cut_all`, `again M M` (all are cut and
+//! connected again), `know K U`, `forget K N`, where M is 0 for nothing, 1 to read, 2 to write, 3 for both. `chains` and
+//! `round` are of other segments.
 
 ghost use Rattle.std.specs.Prelude.{◌≡◌, length};
 
