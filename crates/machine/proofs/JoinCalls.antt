@@ -1,24 +1,42 @@
 -- What the calls ask that bring a segment of a chain nearer: it becomes active, or the victim of its pool is emptied.
-use Rattle.std.proofs.Common.{◌≡◌, ◌<◌, ℕ, is_some, length, List, Option, Some, None, refl, sym, ap, ◌∙◌}
+use Rattle.std.proofs.Common.{◌≡◌, ◌<◌, ◌≤◌, ◌+◌, ℕ, true, is_none, is_some, length, List, Option, Some, None, refl}
+use Rattle.std.proofs.Common.{sym}
+use Rattle.std.proofs.Common.{ap, subst, ◌∙◌, arith}
 use Rattle.std.specs.Prelude.{IsSome}
 use Rattle.std.proofs.lemmas.List.{length-set}
+use Rattle.script.specs.Forms.{ArePools}
+use Rattle.script.specs.declared.commands.Command.{Command}
 use Rattle.tree_model.specs.Tree.{node_in}
-use Rattle.active_segs.specs.Active.{HasNoInferior, uid_at}
-use Rattle.active_segs.specs.Victim.{first_off_chain, hand_past}
+use Rattle.tree_model.proofs.Finds.{member_found}
+use Rattle.dir_tree.specs.Nodes.{chain_of}
+use Rattle.active_segs.specs.declared.Entry.{Entry}
+use Rattle.active_segs.specs.Active.{ActiveSegs, HasNoInferior, IsFull, entry_at, uid_at}
+use Rattle.active_segs.specs.Pool.{first_of, size_of}
+use Rattle.active_segs.specs.Victim.{HasOneOffChain, first_off_chain, hand_past}
 use Rattle.seg_control.specs.Kept.{IsKept}
-use Rattle.storage_ops.specs.Shown.{IsStore}
+use Rattle.storage_ops.specs.Shown.{IsStore, is_there}
 use Rattle.machine_model.specs.Actions as act
 use Rattle.machine_model.specs.Actions.{action_of, pool_of_node}
-use Rattle.machine_model.specs.After.{after}
+use Rattle.machine_model.specs.After.{after, no_call}
 use Rattle.machine_model.specs.Jobs.{victim_taken, with_hand_moved}
 use Rattle.machine_model.specs.Keeps.{Keeps}
-use Rattle.machine_model.specs.Reads.{first_inactive, free_place, or_zero}
+use Rattle.machine_model.specs.Reads.{first_inactive, free_place, or_zero, places_in, process_at}
 use Rattle.machine_model.specs.State.{State, Storage}
 use Rattle.machine_model.specs.Steps.{activated_at, with_active, with_store}
+use Rattle.machine_model.proofs.ChainFacts.{first_there}
+use Rattle.machine_model.proofs.LookAsks.{about_there}
+use Rattle.machine_model.proofs.LookFacts.{IsAbout}
 use Rattle.machine_model.proofs.LeafLaws.{leaf_inferiors, victim_leaf}
+use Rattle.machine_model.proofs.PoolRoom.{range_has}
+use Rattle.machine_model.proofs.SpeakLaws.{Speaks, speaks}
 use Rattle.machine_model.proofs.TransferKept.{active_at}
+use Rattle.machine_model.proofs.WorkStep.{Looks}
+use Rattle.machine_tables.specs.Activated.{wanted_pool}
 use Rattle.machine_tables.specs.Parts.{Parts, with_state}
+use Rattle.machine_tables.proofs.VictimLaws.{chain_end, chain_one_off, own_chain}
 use Rattle.machine.specs.Promise.{IsSound}
+use Rattle.machine.specs.Turns.{IsBusy}
+use Rattle.machine.proofs.Busy.{busy_for}
 use Rattle.machine.proofs.Found.{Looked, found_of}
 use Rattle.machine.proofs.OwnerCalls.{IsEmptiable, emptiable_by, kept_through, owned}
 use Rattle.machine.proofs.Stays.{ShowsAs, then_as}
@@ -56,6 +74,23 @@ victim_as s c pool chain u = then_as s.store (with_hand_moved s.store pool chain
     (victim_taken s c pool chain u).store (hand_by s.store pool (first_off_chain s.store.ast pool chain))
     (begun_as (with_store s (with_hand_moved s.store pool chain)) c u)
 
+-- each place of a pool without a free one is used
+full_is : (ast : ActiveSegs) (pool : ℕ) → free_place ast pool ≡ None → IsFull ast pool
+full_is ast pool full q h = by (entry_at ast.entries q) refl
+  where
+    from : first_of ast.sizes pool ≤ q
+    from = h.from
+
+    to : q < first_of ast.sizes pool + size_of ast.sizes pool
+    to = h.to
+
+    by : (o : Option Entry) → entry_at ast.entries q ≡ o → is_some o ≡ true
+    by None e = absurd (member_found (λ p. is_none (entry_at ast.entries p)) (places_in ast pool) q
+        (range_has (first_of ast.sizes pool) _ q from (omega (arith, from, to)))
+        (ap (λ (o : Option Entry). is_none o) e)
+        full)
+    by (Some e) i = refl
+
 module _ {D : Type 0} (t : Parts D) (c : ℕ) (sound : IsSound t) (there : c < length t.state.processors) where
   abbrev s : State
   s = t.state
@@ -63,11 +98,42 @@ module _ {D : Type 0} (t : Parts D) (c : ℕ) (sound : IsSound t) (there : c < l
   abbrev keeps : Keeps s
   keeps = sound.keeps.machine.keeps
 
+  -- the process of a processor that looks comes to the command that it looks for
+  speaks_of : {Finds : Command → Type 0} (l : Looks s c Finds) → IsBusy s c → Speaks s c (process_at s c) l.command
+  speaks_of l busy = (let its = speaks s c (process_at s c) sound.keeps.machine there busy in
+      subst (Speaks s c (process_at s c)) (same (sym its.1.next ∙ l.next)) its.1)
+    where
+      same : {x y : Command} → Some x ≡ Some y → x ≡ y
+      same e = cc
+
+  about_is : {Finds : Command → Type 0} (l : Looks s c Finds) → IsBusy s c → (u : ℕ)
+      → IsAbout s (process_at s c) l.command u → is_there s.store.accounts.nodes u ≡ true
+  about_is l busy = about_there s c (no_call s) sound.keeps.machine l.idle l.command (speaks_of l busy)
+
   -- ---- a segment becomes active
 
   place_found : (u place : ℕ) → action_of s c ≡ act.Activate u place
       → free_place s.store.ast (pool_of_node (node_in s.store.accounts.nodes u)) ≡ Some place
   place_found u place doing = l.finds.free
+    where
+      l : Looked s c (act.Activate u place)
+      l = found_of s c sound.keeps.machine there (act.Activate u place) doing
+
+  -- it is there, and the first of its own chain that isn't active
+  pub link_there : (u place : ℕ) → action_of s c ≡ act.Activate u place
+      → is_there s.store.accounts.nodes u ≡ true
+  link_there u place doing = first_there s.store.accounts.nodes keeps.store.accounts.tree s.store.ast
+      l.finds.link.about u
+      (about_is l (busy_for t c sound there (act.Activate u place) doing) l.finds.link.about l.finds.link.case)
+      (subst (λ (chain : List ℕ). first_inactive s.store.ast chain ≡ Some u) l.finds.link.chain_is l.finds.link.first)
+    where
+      l : Looked s c (act.Activate u place)
+      l = found_of s c sound.keeps.machine there (act.Activate u place) doing
+
+  pub link_first : (u place : ℕ) → action_of s c ≡ act.Activate u place
+      → first_inactive s.store.ast (chain_of s.store.accounts.nodes u) ≡ Some u
+  link_first u place doing = own_chain s.store.accounts.nodes keeps.store.accounts.tree s.store.ast l.finds.link.about u
+      (subst (λ (chain : List ℕ). first_inactive s.store.ast chain ≡ Some u) l.finds.link.chain_is l.finds.link.first)
     where
       l : Looked s c (act.Activate u place)
       l = found_of s c sound.keeps.machine there (act.Activate u place) doing
@@ -134,3 +200,53 @@ module _ {D : Type 0} (t : Parts D) (c : ℕ) (sound : IsSound t) (there : c < l
     victim_sound = kept_through t c sound there (act.EmptyVictim pool chain u) (victim_taken s c pool chain u) refl
         doing
         refl (victim_as s c pool chain u)
+
+  -- ---- the same where the chain is told by its node
+
+  module _ (pool of u : ℕ)
+      (doing : action_of s c ≡ act.EmptyVictim pool (chain_of s.store.accounts.nodes of) u) where
+    abbrev chain : List ℕ
+    chain = chain_of s.store.accounts.nodes of
+
+    l : Looked s c (act.EmptyVictim pool chain u)
+    l = looked pool chain u doing
+
+    of_is : l.finds.link.about ≡ of
+    of_is = chain_end s.store.accounts.nodes l.finds.link.about of (sym l.finds.link.chain_is)
+
+    pub wanted_there : is_there s.store.accounts.nodes of ≡ true
+    wanted_there = subst (λ (x : ℕ). is_there s.store.accounts.nodes x ≡ true) of_is
+        (about_is l (busy_for t c sound there (act.EmptyVictim pool chain u) doing) l.finds.link.about
+        l.finds.link.case)
+
+    pub wanted_first : IsSome (first_inactive s.store.ast (chain_of s.store.accounts.nodes of))
+    wanted_first = victim_first pool chain u doing
+
+    pool_is : pool ≡ wanted_pool s.store of
+    pool_is = victim_pool pool chain u doing
+
+    pub wanted_full : free_place s.store.ast (wanted_pool s.store of) ≡ None
+    wanted_full = subst (λ (x : ℕ). free_place s.store.ast x ≡ None) pool_is (victim_full pool chain u doing)
+
+    pub wanted_off : HasOneOffChain s.store.ast (wanted_pool s.store of) (chain_of s.store.accounts.nodes of)
+    wanted_off = subst (λ (x : ℕ). HasOneOffChain s.store.ast x chain) (sym l.finds.pool_is ∙ pool_is)
+        (chain_one_off s.store.pages s.store.ast s.store.links s.store.accounts s.store.whos keeps.store.counted
+        keeps.store.accounts.tree of keeps.store.kept.tree
+        (subst ArePools (sym sound.keeps.machine.pools) sound.keeps.machine.script.pools) wanted_there l.finds.wanted
+        l.finds.link.first (full_is s.store.ast (pool_of_node (node_in s.store.accounts.nodes l.finds.wanted))
+        (subst (λ (x : ℕ). free_place s.store.ast x ≡ None) l.finds.pool_is l.finds.full)))
+
+    pub victim_can : IsEmptiable t c sound there u
+    victim_can = victim_emptiable pool chain u doing
+
+    pub victim_is : (now : Parts D)
+        → now ≡ with_state t (victim_taken s c (wanted_pool s.store of) (chain_of s.store.accounts.nodes of) u)
+        → now ≡ with_state t (victim_taken s c pool (chain_of s.store.accounts.nodes of) u)
+    victim_is now is = is ∙ ap (λ (x : ℕ). with_state t (victim_taken s c x chain u)) (sym pool_is)
+
+    pub victim_keeps : (now : Parts D)
+        → now ≡ with_state t (victim_taken s c (wanted_pool s.store of) (chain_of s.store.accounts.nodes of) u)
+        → IsKept now.state.store.pages now.state.store.ast now.state.store.links
+        → IsStore now.state.store.pages now.state.store.ast now.state.store.links now.state.store.accounts
+        now.state.store.whos → IsSound now
+    victim_keeps now is = victim_sound pool chain u doing now (victim_is now is)

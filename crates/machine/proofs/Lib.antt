@@ -8,6 +8,7 @@ pub mod CreateCalls
 pub mod DriveCounts
 pub mod EmptiedFacts
 pub mod FinishCalls
+pub mod FirstParts
 pub mod Found
 pub mod JoinCalls
 pub mod OwnerCalls
@@ -16,6 +17,7 @@ pub mod ReadStays
 pub mod RestLaws
 pub mod Stays
 pub mod StepDone
+pub mod StepLaws
 pub mod Steps
 pub mod TakeCalls
 pub mod TakingStays

@@ -5,8 +5,10 @@ use Rattle.machine_model.specs.declared.Aim.{Aim}
 use Rattle.machine_model.specs.declared.Aim.TheVariants as aim
 use Rattle.machine_model.specs.declared.Phase.{Phase}
 use Rattle.machine_model.specs.declared.Phase.TheVariants as phase
+use Rattle.machine_model.specs.Fitting.{IsFitting}
 use Rattle.machine_model.specs.Foreseen.{AllCome}
 use Rattle.machine_model.specs.Keeps.{Keeps}
+use Rattle.machine_model.specs.Outlined.{outline_of}
 use Rattle.machine_model.specs.Promise.{IsMachine, KeepsAll}
 use Rattle.machine_model.specs.Reads.{next_command, process_at}
 use Rattle.machine_model.specs.State.{State}
@@ -59,6 +61,7 @@ module _ (s : State) (spare : ℕ) (stopped : Bool) where
       its_descriptors = h.just.its_descriptors;
     };
     alone = h.alone;
+    brought = h.brought;
   }
 
   by_aim : (a : Aim) (k : ℕ) (c : Option Command) → TakenTo a s k c → TakenTo a now k c
@@ -81,12 +84,17 @@ module _ (s : State) (spare : ℕ) (stopped : Bool) where
     taken = λ o own. taken_still o.phase (process_at s o.cpu) (next_command s (process_at s o.cpu)) (h.taken o own);
   }
 
+  fitting_still : IsFitting s → IsFitting now
+  unfolding outline_of
+  fitting_still h = record { fits = h.fits }
+
   still : KeepsAll s → KeepsAll now
   still h = record {
     machine = machine_still h.machine;
     entitled = h.entitled;
     reading = h.reading;
     working = working_still h.working;
+    fitting = fitting_still h.fitting;
   }
 
 -- so a machine keeps its promise

@@ -1,5 +1,6 @@
 -- What a step of a processor does, and what it is answered (own).
-use Rattle.std.specs.Prelude.{◌≡◌, ◌≤◌, ℕ, true, length, map, Some}
+use Rattle.std.specs.Prelude.{◌≡◌, ◌≤◌, ◌++◌, ℕ, true, length, map, List, Some}
+use Rattle.book.specs.declared.entries.Entry.{Entry}
 use Rattle.site_io.specs.Faults.{Rose}
 use Rattle.site_io.specs.declared.gate.Point.{Point}
 use Rattle.site_io.specs.declared.gate.Point.TheVariants as point
@@ -62,3 +63,16 @@ pub record IsTurn {D Plan : Type 0} (plan : D → Plan) (places : D → ℕ) (ol
   pub step : IsStep plan places old new c
   pub answer_is : answer ≡ turn_of old.state c (action_of old.state c)
   pub still : IfStill answer (new ≡ old)
+
+-- a book with so many entries more at the most, and none changed that stood there
+pub record Appends (old new : List Entry) (most : ℕ) : Type 0 where
+  pub more : List Entry
+  pub entries : new ≡ old ++ more
+  pub few : length more ≤ most
+
+-- The script stays, and each drive's plan and places do.
+pub record KeepsParts {D Plan : Type 0} (plan : D → Plan) (places : D → ℕ) (old new : Parts D) : Type 0 where
+  pub script : new.state.plan ≡ old.state.plan
+  pub plans : map plan new.drives ≡ map plan old.drives
+  pub stores : map places new.drives ≡ map places old.drives
+  pub count : length new.drives ≡ length old.drives

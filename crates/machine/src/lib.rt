@@ -4,10 +4,13 @@
 
 mod alone;
 mod finishing;
+mod joining;
 mod looking;
 mod machine;
 mod making;
 mod owning;
+mod starting;
+mod stepping;
 mod turn;
 
 pub use machine::Machine;

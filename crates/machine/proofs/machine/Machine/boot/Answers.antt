@@ -1,0 +1,41 @@
+use Rattle.std.proofs.Common.{◌≡◌, ◌∙◌, ap, length, List, subst, sym}
+use Rattle.script.specs.declared.plan.VolumeLine.{VolumeLine}
+use Rattle.volumes.specs.Volumes.{Vols, made_of}
+use Rattle.storage_ops.specs.Shown.{AreFresh}
+use Rattle.machine_model.specs.State.{State}
+use Rattle.machine_tables.proofs.FirstLaws.{first_keeps}
+use Rattle.machine.specs.Starts.{parts_of}
+use Rattle.machine.proofs.FirstParts.{are_fresh, as_many, drives_are}
+use Rattle.machine.proofs.machine.Machine.boot.Goals as goal
+
+pub volumes-requires-2 : goal.volumes-requires-2
+volumes-requires-2 g c = as_many g.D.Drive.pages _ _ c.requires
+    ∙ ap (λ (ls : List VolumeLine). length ls) (sym c.volumes.ensures)
+
+pub boot-requires-clause-count : goal.boot-requires-clause-count
+boot-requires-clause-count g c = let many = as_many g.D.Drive.pages c.args.script.volumes c.args.drives.items
+    c.requires in
+    ap (λ (v : Vols g.row.D.Denot). length v.drives) (c.in_ok-volumes.ensures
+    ∙ ap (λ (ls : List VolumeLine). made_of g.D.Drive.pages (parts_of ls c.args.drives.items)) c.volumes.ensures)
+    ∙ (ap length (drives_are g.D.Drive.pages c.args.script.volumes c.args.drives.items many) ∙ many)
+
+pub boot-requires-clause-fresh : goal.boot-requires-clause-fresh
+boot-requires-clause-fresh g c = subst (λ (v : Vols g.row.D.Denot). AreFresh c.args.script v.records v.vtocs)
+    (sym (c.in_ok-volumes.ensures
+    ∙ ap (λ (ls : List VolumeLine). made_of g.D.Drive.pages (parts_of ls c.args.drives.items)) c.volumes.ensures))
+    (are_fresh g.D.Drive.pages c.args.script c.args.drives.items c.requires)
+
+pub invariant_of-result : goal.invariant_of-result
+invariant_of-result g c = record {
+  keeps = first_keeps c.args.script _ _ _ _ c.processes-plan.ensures.plan _ c.in_ok-tables.ensures.state
+      c.in_ok-tables.ensures.says;
+  room = c.in_ok-tables.ensures.room
+      ∙ sym (ap (λ (s : State). length s.plan.processes) c.in_ok-tables.ensures.state);
+}
+
+pub returns-clause-drives : goal.returns-clause-drives
+returns-clause-drives g c = c.in_ok-tables.ensures.drives
+    ∙ (ap (λ (v : Vols g.row.D.Denot). v.drives) (c.in_ok-volumes.ensures
+    ∙ ap (λ (ls : List VolumeLine). made_of g.D.Drive.pages (parts_of ls c.args.drives.items)) c.volumes.ensures)
+    ∙ drives_are g.D.Drive.pages c.args.script.volumes c.args.drives.items
+    (as_many g.D.Drive.pages c.args.script.volumes c.args.drives.items c.requires))

@@ -1,0 +1,40 @@
+use Rattle.std.proofs.Common.{◌∙◌, ap, arith, length, rules, sym}
+use Rattle.std.proofs.lemmas.Grind.{common_steps}
+use Rattle.machine.proofs.FirstParts.{part_told, parts_none}
+use Rattle.machine.proofs.starting.parts.Goals as goal
+
+pub part-part-requires : goal.part-part-requires
+part-part-requires g c = grind (
+  arith,
+  common_steps,
+  c.loop-drive.invariant.1,
+  c.loop-drive.invariant.2,
+  c.requires,
+  c.len.ensures,
+  c.in-Some.ensures.steps,
+)
+
+pub loop-drive-preserved : goal.loop-drive-preserved
+loop-drive-preserved g c = (
+  part_told c.args.lines.now c.loop-drive.yielded c.in-Some.drive c.part-part.result c.loop-drive.parts.items _
+      c.len.result c.loop-drive.invariant.0
+      (grind (arith, common_steps, c.len.ensures, c.loop-drive.invariant.1))
+      (grind (
+        arith,
+        common_steps,
+        c.loop-drive.invariant.1,
+        c.loop-drive.invariant.2,
+        c.requires,
+        c.len.ensures,
+        c.in-Some.ensures.steps,
+      )) c.part-part.ensures c.in_ok-add.ensures,
+  grind (arith, common_steps, c.loop-drive.invariant.1, c.in_ok-add.ensures),
+  grind (arith, common_steps, c.loop-drive.invariant.2, c.in-Some.ensures.steps),
+)
+
+pub loop-drive-init : goal.loop-drive-init
+loop-drive-init g c = (
+  c.new-parts.ensures.items ∙ sym (parts_none c.args.lines.now),
+  ap length c.new-parts.ensures.items,
+  grind (arith, common_steps, c.into_iter-drive-iterator.ensures),
+)
