@@ -1,5 +1,5 @@
-//! What the owner of the supervisor does for the next command of its process: a page is made, or what a tree command must
-//! have out of use is taken.
+//! What the owner of the supervisor does for the next command of its process: a page is made, or what a tree command
+//! must have out of use is taken.
 
 ghost use Rattle.std.specs.Prelude.{◌≡◌, ◌<◌, ◌≤◌, length};
 ghost use Rattle.machine_model.specs.Actions.{Create, action_of};
