@@ -59,13 +59,12 @@ is_quiet _ = true
 abbrev pub AreQuiet : List Entry → Type 0
 AreQuiet es = list_all is_quiet es ≡ true
 
--- one failure of a drive is told, and last its process
-pub record TellsFailure (more : List Entry) : Type 0 where
+-- one failure of a drive is told of process k, and last the process of it
+pub record TellsFailure (k : ℕ) (more : List Entry) : Type 0 where
   pub before : List Entry
-  pub process : Option ℕ
   pub between : List Entry
   pub last : Entry
-  pub is : more ≡ before ++ entry.Fault process ∷ (between ++ last ∷ [])
+  pub is : more ≡ before ++ entry.Fault (Some k) ∷ (between ++ last ∷ [])
   pub quiet_before : AreQuiet before
   pub quiet_between : AreQuiet between
   pub last_is : is_fault last ≡ false
@@ -82,10 +81,10 @@ record IsQuietly (s now : State) (n : ℕ) : Type 0 where
   booked : HasBooked s now n
   quiet : AreQuiet booked.more
 
--- none does, or just one, where a call of a drive failed
-pub record IsBooked (s now : State) (n : ℕ) (failed : Bool) : Type 0 where
+-- none does, or just one, of the process of processor c, where a call of a drive failed
+pub record IsBooked (s now : State) (c n : ℕ) (failed : Bool) : Type 0 where
   pub booked : HasBooked s now n
-  pub tale : AreQuiet booked.more ⊎ ((failed ≡ true) × TellsFailure booked.more)
+  pub tale : AreQuiet booked.more ⊎ ((failed ≡ true) × TellsFailure (process_at s c) booked.more)
 
 all_quiet : (xs ys : List Entry) → AreQuiet xs → AreQuiet ys → AreQuiet (xs ++ ys)
 all_quiet [] ys h i = i
@@ -208,7 +207,7 @@ raw_less s now m n a le = record {
 }
 
 failed_booked : (s : State) (c faults : ℕ) → OwnsFew s.owner → (failed : Bool) → failed ≡ true
-    → IsBooked s (write_failed s c faults) 320 failed
+    → IsBooked s (write_failed s c faults) c 320 failed
 unfolding raw_less raw_on raw_one
 failed_booked s c faults few failed did = record {
   booked = raw_less s (write_failed s c faults) _ 320
@@ -221,7 +220,6 @@ failed_booked s c faults few failed did = record {
     did,
     record {
       before = [];
-      process = Some (process_at s c);
       between = comes_back.booked.more;
       last = entry.Do (process_at back c) _ c None reply.Device;
       is = refl;
@@ -369,14 +367,14 @@ module _ (s : State) (c : ℕ) (o : Outcome) (keeps : Keeps s) (few : OwnsFew s.
       → length es ≤ 320 → AreQuiet es → IsQuietly s now 320
   some now es entries spare le quiet = booked_less s now (length es) 320 (one_booked s now es entries spare quiet) le
 
-  plainly : (now : State) → IsQuietly s now 320 → IsBooked s now 320 o.failed
+  plainly : (now : State) → IsQuietly s now 320 → IsBooked s now c 320 o.failed
   plainly now h = record { booked = h.booked; tale = inl h.quiet }
 
-  by_end : (well ill : State) → IsQuietly s well 320 → ((f : Bool) → f ≡ true → IsBooked s ill 320 f)
-      → IsBooked s (cond o.failed ill well) 320 o.failed
+  by_end : (well ill : State) → IsQuietly s well 320 → ((f : Bool) → f ≡ true → IsBooked s ill c 320 f)
+      → IsBooked s (cond o.failed ill well) c 320 o.failed
   by_end well ill a b = by o.failed
     where
-      by : (f : Bool) → IsBooked s (cond f ill well) 320 f
+      by : (f : Bool) → IsBooked s (cond f ill well) c 320 f
       by true = b true refl
       by false = record { booked = a.booked; tale = inl a.quiet }
 
@@ -409,7 +407,7 @@ module _ (s : State) (c : ℕ) (o : Outcome) (keeps : Keeps s) (few : OwnsFew s.
             quiet = h.quiet;
           }
 
-  lose_booked : (t : Transfer) (f : Bool) → f ≡ true → IsBooked s (transfer_failed s c t o.faults) 320 f
+  lose_booked : (t : Transfer) (f : Bool) → f ≡ true → IsBooked s (transfer_failed s c t o.faults) c 320 f
   unfolding raw_less raw_on raw_one
   lose_booked t f did = record {
     booked = raw_less s (transfer_failed s c t o.faults) 3 320
@@ -423,7 +421,6 @@ module _ (s : State) (c : ℕ) (o : Outcome) (keeps : Keeps s) (few : OwnsFew s.
       did,
       record {
         before = entry.Lose t.frame ∷ [];
-        process = Some (process_at s c);
         between = [];
         last = entry.Do (process_at failing c) _ c None reply.Device;
         is = refl;
@@ -437,7 +434,7 @@ module _ (s : State) (c : ℕ) (o : Outcome) (keeps : Keeps s) (few : OwnsFew s.
       failing : State
       failing = fault_told (frame_lost s c t) (Some (process_at s c)) o.faults
 
-  end_booked : (a : act.Action) → Knows s c a → IsPlainly a → IsBooked s (after s c a o) 320 o.failed
+  end_booked : (a : act.Action) → Knows s c a → IsPlainly a → IsBooked s (after s c a o) c 320 o.failed
   unfolding after
   end_booked (act.EndTransfer t) k plain = by_end (transferred (with_faults s o.faults) c t)
       (transfer_failed s c t o.faults)
@@ -490,7 +487,7 @@ module _ (s : State) (c : ℕ) (o : Outcome) (keeps : Keeps s) (few : OwnsFew s.
 
 -- A step appends 320 entries at the most, and there is room for so many less; and what it tells of the drives.
 pub told_after : (s : State) (c : ℕ) (o : Outcome) → KeepsAll s → c < length s.processors
-    → IsBooked s (after s c (action_of s c) o) 320 o.failed
+    → IsBooked s (after s c (action_of s c) o) c 320 o.failed
 told_after s c o all there = end_booked s c o all.machine.keeps all.working.few (action_of s c)
     (step_knows s c o all.machine there all.working) (plain_action s c)
 

@@ -1,8 +1,8 @@
--- What the entries of a step tell of the drives: one failure at the most, just where a call failed, and before a
--- process is told of one.
+-- What the entries of a step tell of the drives: one failure at the most, of the processor's process, just where a call
+-- failed, and before a process is told of one.
 use Rattle.std.proofs.Common.{◌≡◌, ◌≤◌, ◌<◌, ℕ, ◌+◌, Bool, true, false, ◌&&◌, cond, List, [], ◌∷◌, ◌++◌, count_by}
 use Rattle.std.proofs.Common.{length}
-use Rattle.std.proofs.Common.{Option, inl, inr, ◌⊎◌, refl, sym, ap, subst, ◌∙◌, arith}
+use Rattle.std.proofs.Common.{Option, Some, None, inl, inr, ◌⊎◌, refl, sym, ap, subst, ◌∙◌, arith}
 use Rattle.std.specs.List.{list_all}
 use Rattle.std.proofs.lemmas.List.Sums.{sum_by-cons}
 use Rattle.book.specs.declared.entries.Entry.{Entry}
@@ -12,6 +12,7 @@ use Rattle.machine_model.specs.Actions.{action_of}
 use Rattle.machine_model.specs.After.{Outcome, after}
 use Rattle.machine_model.specs.Keeps.{is_fault}
 use Rattle.machine_model.specs.Promise.{KeepsAll}
+use Rattle.machine_model.specs.Reads.{process_at}
 use Rattle.machine_model.specs.State.{State}
 use Rattle.machine_model.proofs.BookAfter.{AreQuiet, HasBooked, TellsFailure, is_quiet, told_after}
 
@@ -47,6 +48,11 @@ abbrev first_or : Entry → List Entry → Entry
 first_or d [] = d
 first_or d (e ∷ es) = e
 
+-- of whom an entry tells a drive's failure
+abbrev process_told : Entry → Option ℕ
+process_told (entry.Fault process) = process
+process_told _ = None
+
 abbrev rest_of : List Entry → List Entry
 rest_of [] = []
 rest_of (e ∷ es) = es
@@ -74,24 +80,48 @@ told_later (b ∷ bs) rest (x ∷ xs) ys process k place c f quiet e =
     let later = told_later bs rest xs ys process k place c f (parts (is_quiet b) (list_all is_quiet bs) quiet).1
     (ap rest_of e) in let all = count_cons x xs in omega (arith, later, all)
 
--- At most one failure is told, where a call of a drive failed, and a process is told of it afterwards.
-pub record ToldRight (more : List Entry) (failed : Bool) : Type 0 where
+-- a failure that is told is counted
+told_counts : (more xs ys : List Entry) (process : Option ℕ) → more ≡ xs ++ entry.Fault process ∷ ys
+    → 1 ≤ count_by is_fault more
+told_counts more xs ys process e = let all = ap (λ (es : List Entry). count_by is_fault es) e in
+    let on = count_on xs (entry.Fault process ∷ ys) in let one = count_cons (entry.Fault process) ys in
+    omega (arith, all, on, one)
+
+-- where only one failure is told, it is the one that is found
+told_once : (before rest xs ys : List Entry) (k : ℕ) (process : Option ℕ) → AreQuiet before
+    → count_by is_fault rest ≡ 0 → before ++ entry.Fault (Some k) ∷ rest ≡ xs ++ entry.Fault process ∷ ys
+    → process ≡ Some k
+told_once [] rest [] ys k process quiet none e =
+    sym (ap (λ (es : List Entry). process_told (first_or (entry.Fault process) es)) e)
+told_once [] rest (x ∷ xs) ys k process quiet none e =
+    absurd (let some = told_counts rest xs ys process (ap rest_of e) in omega (arith, some, none))
+told_once (b ∷ bs) rest [] ys k process quiet none e =
+    absurd (no_and (parts (is_quiet b) (list_all is_quiet bs) quiet).0
+    (ap (λ (es : List Entry). is_quiet (first_or b es)) e))
+told_once (b ∷ bs) rest (x ∷ xs) ys k process quiet none e =
+    told_once bs rest xs ys k process (parts (is_quiet b) (list_all is_quiet bs) quiet).1 none (ap rest_of e)
+
+-- At most one failure is told, of process k, where a call of a drive failed, and a process is told of it afterwards.
+pub record ToldRight (k : ℕ) (more : List Entry) (failed : Bool) : Type 0 where
   pub few : count_by is_fault more ≤ 1
   pub only : 1 ≤ count_by is_fault more → failed ≡ true
+  pub its : (xs ys : List Entry) (process : Option ℕ) → more ≡ xs ++ entry.Fault process ∷ ys → process ≡ Some k
   pub later : (xs ys : List Entry) (k place c : ℕ) (f : Option ℕ)
       → more ≡ xs ++ entry.Do k place c f reply.Device ∷ ys → 1 ≤ count_by is_fault xs
 
-told_right : (more : List Entry) (failed : Bool) → AreQuiet more ⊎ ((failed ≡ true) × TellsFailure more)
-    → ToldRight more failed
-told_right more failed (inl quiet) = record {
+told_right : (k : ℕ) (more : List Entry) (failed : Bool)
+    → AreQuiet more ⊎ ((failed ≡ true) × TellsFailure k more) → ToldRight k more failed
+told_right k more failed (inl quiet) = record {
   few = let none = quiet_none more quiet in omega (arith, none);
   only = λ some. absurd (let none = quiet_none more quiet in omega (arith, none, some));
-  later = λ xs ys k place c f e. absurd (quiet_untold more xs ys k place c f quiet e);
+  its = λ xs ys process e. absurd (let none = quiet_none more quiet in let some = told_counts more xs ys process e in
+      omega (arith, none, some));
+  later = λ xs ys j place c f e. absurd (quiet_untold more xs ys j place c f quiet e);
 }
-told_right more failed (inr told) = record {
+told_right k more failed (inr told) = record {
   few = let all = ap (λ (es : List Entry). count_by is_fault es) told.1.is in
-      let a = count_on told.1.before (entry.Fault told.1.process ∷ (told.1.between ++ told.1.last ∷ [])) in
-      let b = count_cons (entry.Fault told.1.process) (told.1.between ++ told.1.last ∷ []) in
+      let a = count_on told.1.before (entry.Fault (Some k) ∷ (told.1.between ++ told.1.last ∷ [])) in
+      let b = count_cons (entry.Fault (Some k)) (told.1.between ++ told.1.last ∷ []) in
       let d = count_on told.1.between (told.1.last ∷ []) in
       let e = count_cons told.1.last [] in
       let last : tally (is_fault told.1.last) ≡ 0 = ap tally told.1.last_is in
@@ -99,18 +129,23 @@ told_right more failed (inr told) = record {
       let between = quiet_none told.1.between told.1.quiet_between in
       omega (arith, all, a, b, d, e, last, before, between);
   only = λ some. told.0;
-  later = λ xs ys k place c f e. told_later told.1.before (told.1.between ++ told.1.last ∷ []) xs ys told.1.process k
+  its = λ xs ys process e. told_once told.1.before (told.1.between ++ told.1.last ∷ []) xs ys k process
+      told.1.quiet_before (let on = count_on told.1.between (told.1.last ∷ []) in let one = count_cons told.1.last [] in
+      let last : tally (is_fault told.1.last) ≡ 0 = ap tally told.1.last_is in
+      let between = quiet_none told.1.between told.1.quiet_between in omega (arith, on, one, last, between))
+      (sym told.1.is ∙ e);
+  later = λ xs ys j place c f e. told_later told.1.before (told.1.between ++ told.1.last ∷ []) xs ys (Some k) j
       place c f told.1.quiet_before (sym told.1.is ∙ e);
 }
 
 -- So do the entries of each step.
-pub record HasTold (s now : State) (failed : Bool) : Type 0 where
+pub record HasTold (s now : State) (c : ℕ) (failed : Bool) : Type 0 where
   pub booked : HasBooked s now 320
-  pub right : ToldRight booked.more failed
+  pub right : ToldRight (process_at s c) booked.more failed
 
 pub faults_after : (s : State) (c : ℕ) (o : Outcome) → KeepsAll s → c < length s.processors
-    → HasTold s (after s c (action_of s c) o) o.failed
+    → HasTold s (after s c (action_of s c) o) c o.failed
 faults_after s c o all there = let told = told_after s c o all there in record {
   booked = told.booked;
-  right = told_right told.booked.more o.failed told.tale;
+  right = told_right (process_at s c) told.booked.more o.failed told.tale;
 }
