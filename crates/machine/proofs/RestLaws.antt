@@ -11,6 +11,7 @@ use Rattle.machine_model.specs.Keeps.{Keeps}
 use Rattle.machine_model.specs.Outlined.{outline_of}
 use Rattle.machine_model.specs.Promise.{IsMachine, KeepsAll}
 use Rattle.machine_model.specs.Reads.{next_command, process_at}
+use Rattle.machine_model.specs.Refusal.{refusal_of}
 use Rattle.machine_model.specs.State.{State}
 use Rattle.machine_model.specs.Taking.{IsTakenBy, TakenIn, TakenTo}
 use Rattle.machine_model.specs.Working.{IsWorking}
@@ -52,6 +53,7 @@ module _ (s : State) (spare : ℕ) (stopped : Bool) where
   }
 
   command_still : (k : ℕ) (c : Option Command) → IsTakenBy s k c → IsTakenBy now k c
+  unfolding refusal_of
   command_still k None h = tt
   command_still k (Some c) h = record {
     just = record {
@@ -62,6 +64,7 @@ module _ (s : State) (spare : ℕ) (stopped : Bool) where
     };
     alone = h.alone;
     brought = h.brought;
+    stands = h.stands;
   }
 
   by_aim : (a : Aim) (k : ℕ) (c : Option Command) → TakenTo a s k c → TakenTo a now k c
@@ -88,8 +91,8 @@ module _ (s : State) (spare : ℕ) (stopped : Bool) where
   unfolding outline_of
   fitting_still h = record { fits = h.fits }
 
-  still : KeepsAll s → KeepsAll now
-  still h = record {
+  pub rest_kept : KeepsAll s → KeepsAll now
+  rest_kept h = record {
     machine = machine_still h.machine;
     entitled = h.entitled;
     reading = h.reading;
@@ -101,6 +104,6 @@ module _ (s : State) (spare : ℕ) (stopped : Bool) where
 pub rest_sound : {D : Type 0} (t : Parts D) (spare : ℕ) (stopped : Bool) → IsSound t
     → IsSound (with_state t (record t.state { spare = spare; stopped = stopped }))
 rest_sound t spare stopped sound = record {
-  keeps = still t.state spare stopped sound.keeps;
+  keeps = rest_kept t.state spare stopped sound.keeps;
   room = sound.room;
 }

@@ -124,7 +124,7 @@ module _ {D : Type 0} (t : Parts D) (c : ℕ) (sound : IsSound t) (there : c < l
 
     takes_by : (x : Option Command) → next_command s (process_at s c) ≡ x
         → action_of s c ≡ taken_for s.store (process_at s c) x → action_of s c ≡ taking (process_at s c) x
-    takes_by None none is = absurd (none_some (sym none ∙ knows.1.next))
+    takes_by None none is = absurd (none_some (sym none ∙ knows.speaks.next))
       where
         knows : Knows s c act.Commit
         knows = subst (Knows s c) is

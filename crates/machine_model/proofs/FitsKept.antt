@@ -16,7 +16,6 @@ use Rattle.core_map.specs.CoreMap.{after_reference}
 use Rattle.core_map.specs.declared.Frame.{Frame}
 use Rattle.core_map.specs.declared.Frame.TheVariants as frame
 use Rattle.active_segs.specs.declared.Entry.{Entry as Segment}
-use Rattle.page_control.specs.Plain.{Plain}
 use Rattle.processor.specs.declared.Move.{Move}
 use Rattle.processor.specs.declared.Move.TheVariants as move
 use Rattle.processor.specs.declared.Transfer.{Transfer}

@@ -25,10 +25,11 @@ use Rattle.machine_model.specs.declared.Phase.TheVariants as phase
 use Rattle.machine_model.specs.Holding.{holding}
 use Rattle.machine_model.specs.Keeps.{Keeps}
 use Rattle.machine_model.specs.Reads.{or_zero}
-use Rattle.machine_model.specs.Refusal.{uid_of_command, uid_of_node}
+use Rattle.machine_model.specs.Refusal.{refusal_of, uid_of_command, uid_of_node}
 use Rattle.machine_model.specs.State.{State, Storage}
 use Rattle.machine_model.specs.Taking.{GoesJust, IsAlone, IsTakenBy, IsTakenFor, TakenIn, TakenTo, TakesDescriptor}
 use Rattle.machine_model.specs.Taking.{TakesPage, WasBrought}
+use Rattle.machine_model.specs.Working.{FailsBy, FailsIn, TakesSome}
 use Rattle.machine_model.proofs.OutLaws.{NoneOut}
 use Rattle.machine_model.specs.Reads.{is_active}
 use Rattle.std.specs.Prelude.{◌/◌}
@@ -164,7 +165,7 @@ alone_same old now u c same h = subst (λ (ns : List Node). IsAlone ns u c) (sym
 
 -- ---- what a job has taken
 
--- steps that leave the tree, the numbers and what is taken
+-- steps that leave the tree, the numbers and what is taken, and refuse no command that takes
 pub record LeavesTaken (s now : State) : Type 1 where
   pub nodes : now.store.accounts.nodes ≡ s.store.accounts.nodes
   pub known : now.store.links.known ≡ s.store.links.known
@@ -172,6 +173,7 @@ pub record LeavesTaken (s now : State) : Type 1 where
   pub out : NoneOut s.store.ast now.store.ast
   pub just : (Page : ℕ → ℕ → Type 0) (Descriptor : ℕ → ℕ → ℕ → Type 0) → GoesJust (holding s) Page Descriptor
       → GoesJust (holding now) Page Descriptor
+  pub stands : (k : ℕ) (c : Command) → TakesSome (Some c) → refusal_of s k c ≡ None → refusal_of now k c ≡ None
 
 -- what was brought for a command
 pub brought_on : (old now : Storage) (u : ℕ) (c : Command) → (is_active old.ast u ≡ true → is_active now.ast u ≡ true)
@@ -195,31 +197,34 @@ brought_on old now u (command.Add n w x) active out h = tt
 brought_on old now u (command.Await n w x t) active out h = tt
 brought_on old now u command.End active out h = tt
 
-taken_for : (s now : State) (k : ℕ) (c : Command) → LeavesTaken s now → IsTakenFor s k c → IsTakenFor now k c
-taken_for s now k c l h = record {
+taken_for : (s now : State) (k : ℕ) (c : Command) → LeavesTaken s now → TakesSome (Some c) → IsTakenFor s k c
+    → IsTakenFor now k c
+taken_for s now k c l some h = record {
   just = subst (λ (u : ℕ). GoesJust (holding now) (TakesPage c u) (TakesDescriptor c k u)) (sym same)
       (l.just (TakesPage c (uid_of_command s.store k c)) (TakesDescriptor c k (uid_of_command s.store k c)) h.just);
   alone = subst (λ (u : ℕ). IsAlone now.store.accounts.nodes u c) (sym same)
       (alone_same s.store.accounts.nodes now.store.accounts.nodes (uid_of_command s.store k c) c l.nodes h.alone);
   brought = subst (λ (u : ℕ). WasBrought now.store u c) (sym same)
       (brought_on s.store now.store (uid_of_command s.store k c) c (λ e. l.active _ ∙ e) l.out h.brought);
+  stands = l.stands k c some h.stands;
 }
   where
     same : uid_of_command now.store k c ≡ uid_of_command s.store k c
     same = same_uid s.store now.store k c l.nodes l.known
 
-taken_by : (s now : State) (k : ℕ) (x : Option Command) → LeavesTaken s now → IsTakenBy s k x → IsTakenBy now k x
-taken_by s now k None l h = tt
-taken_by s now k (Some c) l h = taken_for s now k c l h
+taken_by : (s now : State) (k : ℕ) (x : Option Command) → LeavesTaken s now → TakesSome x → IsTakenBy s k x
+    → IsTakenBy now k x
+taken_by s now k None l some h = tt
+taken_by s now k (Some c) l some h = taken_for s now k c l some h
 
-taken_to : (a : Aim) (s now : State) (k : ℕ) (x : Option Command) → LeavesTaken s now → TakenTo a s k x
-    → TakenTo a now k x
-taken_to aim.Evicting s now k x l h = tt
-taken_to (aim.Deactivating u) s now k x l h = tt
-taken_to aim.Committing s now k x l h = taken_by s now k x l h
+taken_to : (a : Aim) (s now : State) (k : ℕ) (x : Option Command) → LeavesTaken s now → FailsBy a s.store k x
+    → TakenTo a s k x → TakenTo a now k x
+taken_to aim.Evicting s now k x l fails h = tt
+taken_to (aim.Deactivating u) s now k x l fails h = tt
+taken_to aim.Committing s now k x l fails h = taken_by s now k x l fails h
 
-pub taken_in : (ph : Phase) (s now : State) (k : ℕ) (x : Option Command) → LeavesTaken s now → TakenIn ph s k x
-    → TakenIn ph now k x
-taken_in phase.Looking s now k x l h = tt
-taken_in (phase.Taken a w) s now k x l h = taken_to a s now k x l h
-taken_in (phase.Waiting a w) s now k x l h = taken_to a s now k x l h
+pub taken_in : (ph : Phase) (s now : State) (k : ℕ) (x : Option Command) → LeavesTaken s now → FailsIn ph s.store k x
+    → TakenIn ph s k x → TakenIn ph now k x
+taken_in phase.Looking s now k x l fails h = tt
+taken_in (phase.Taken a w) s now k x l fails h = taken_to a s now k x l fails h
+taken_in (phase.Waiting a w) s now k x l fails h = taken_to a s now k x l fails h

@@ -54,6 +54,7 @@ use Rattle.machine_model.proofs.LookFacts.{FindsTaken}
 use Rattle.machine_model.proofs.OutlineTake.{LooksLike, took_like}
 use Rattle.machine_model.proofs.OwnedLaws.{IsIdle, cut_at_tells}
 use Rattle.machine_model.proofs.Places.{by_places}
+use Rattle.machine_model.proofs.StandLaws.{took_stands}
 use Rattle.machine_model.proofs.TakeLists.{dropped_word, frame_word, trailers_taken}
 use Rattle.machine_model.proofs.TakeSeen.{cut_one_seen, linked_within}
 use Rattle.machine_model.proofs.TakeWhole.{RestIs, cut_linked, cut_pages, frame_listed, note_at, take_rest}
@@ -538,6 +539,7 @@ module _ (s : State) (c k : ℕ) (cmd : Command) (w : What) (fs : List ℕ) (pai
         (λ e. ap (λ (es : List (Option Segment)). list_any (is_for (uid_of_command s.store k cmd)) es) like.entries ∙ e)
         (took_out s c aim.Committing w fs pairs)
         (brought_found s keeps (uid_of_command s.store k cmd) cmd finds.brought));
+    stands = took_stands s c aim.Committing w fs pairs k cmd finds.stands;
   }
     where
       now : State

@@ -126,6 +126,7 @@ pub mod ForeseeLaws
 pub mod CommitReady
 pub mod CommitRests
 pub mod CommitRights
+pub mod StandLaws
 pub mod StepKept
 pub mod StepLaws
 pub mod TakeAsks

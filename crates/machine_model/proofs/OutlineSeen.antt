@@ -33,7 +33,7 @@ use Rattle.machine_model.specs.Holding.{seen}
 use Rattle.machine_model.specs.Keeps.{Keeps}
 use Rattle.machine_model.specs.Keeps.{IsAtWork as AtWork}
 use Rattle.machine_model.specs.Measures.{chain_of, dues}
-use Rattle.machine_model.specs.Outline.{Keeper, Want, Refer, Truncate, Length, Other, Runner, Stage, Look, no_runner}
+use Rattle.machine_model.specs.Outline.{Keeper, Want, Refer, Other, Runner, Stage, Look, no_runner}
 use Rattle.machine_model.specs.Outline.{runner_at}
 use Rattle.machine_model.specs.Outline.{want_at}
 use Rattle.machine_model.specs.Outlined.{around, bare, keeper_of, outline_of, runner_by, stage_of, want_by, want_in}

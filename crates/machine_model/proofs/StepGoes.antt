@@ -97,7 +97,7 @@ module _ (s : State) (c : ℕ) (o : Outcome) (m : IsMachine s) (there : c < leng
     may_schedule (act.FinishEviction f) can knows = λ e. answering s c knows
     may_schedule (act.FinishPage f) can knows = λ e. answering s c knows.1
     may_schedule (act.Deactivate u) can knows = tt
-    may_schedule act.Commit can knows = (process_at s c, knows.1.its, knows.1.known)
+    may_schedule act.Commit can knows = (process_at s c, knows.speaks.its, knows.speaks.known)
 
     pub may_work : (a : act.Action) → CanDo s c o a → Knows s c a → MayWork s c o a
     may_work act.IsStopped can knows = tt
@@ -172,7 +172,7 @@ module _ (s : State) (c : ℕ) (o : Outcome) (m : IsMachine s) (there : c < leng
     comes (act.FinishPage f) can knows = all_come s c (act.FinishPage f) o m.script m.come
         (λ h. may_answer s c (process_at s c) m there knows.1.speaks.its)
     comes act.Commit can knows = all_come s c act.Commit o m.script m.come
-        (λ h. may_answer s c (process_at s c) m there knows.1.its)
+        (λ h. may_answer s c (process_at s c) m there knows.speaks.its)
     comes act.IsStopped can knows = quiet act.IsStopped refl
     comes act.HasEnded can knows = quiet act.HasEnded refl
     comes (act.Waits why) can knows = quiet (act.Waits why) refl
@@ -223,4 +223,4 @@ module _ (s : State) (c : ℕ) (o : Outcome) (m : IsMachine s) (there : c < leng
     may_read (act.FinishEviction f) can knows past = (past, knows.speaks.its)
     may_read (act.FinishPage f) can knows past = (past, knows.1.speaks.its)
     may_read (act.Deactivate u) can knows past = tt
-    may_read act.Commit can knows past = (past, knows.1.its)
+    may_read act.Commit can knows past = (past, knows.speaks.its)

@@ -35,6 +35,7 @@ use Rattle.machine_model.proofs.RuleKept.{IsLooking, look_idle}
 use Rattle.machine_model.proofs.RuleKept.{process_here}
 use Rattle.machine_model.specs.Working.{FailsIn, IsWorking, MayFailBy, TakesSome}
 use Rattle.machine_model.proofs.SpeakLaws.{Speaks, speaks}
+use Rattle.machine_model.proofs.StandLaws.{takes_tree}
 use Rattle.machine_model.proofs.StepKept.{IsMine}
 use Rattle.machine_model.proofs.TieLaws.{none_some}
 use Rattle.script.specs.declared.commands.Command.TheVariants as command
@@ -58,6 +59,15 @@ pub record RunsAlone (s : State) (c : ℕ) : Type 0 where
   pub other : IsNoOwner s c
   pub one : AnswersOne s c
 
+-- the owner's process comes to a tree command whose job has taken just what it takes
+pub record Commits (s : State) (c : ℕ) : Type 0 where
+  pub owner : IsMine s c
+  pub command : Command
+  pub speaks : Speaks s c (process_at s c) command
+  pub tree : reference_of command ≡ None
+  pub taken : IsTakenFor s (process_at s c) command
+  pub out : IsOutOfUse s (process_at s c) command
+
 -- a look finds that the next command takes these
 pub record FindsFor (s : State) (c : ℕ) (fs : List ℕ) (pairs : List (ℕ × ℕ)) : Type 0 where
   pub command : Command
@@ -79,8 +89,7 @@ Knows s c (act.TakeAway fs pairs w) = IsLooking s c × IsIdle s.owner × ((fs �
     × TakesSome (next_command s (process_at s c)) × FindsFor s c fs pairs
 Knows s c (act.FinishEviction f) = AnswersOne s c
 Knows s c (act.FinishPage f) = IsEmptying s c × AnswersOne s c
-Knows s c act.Commit = (x : Command) × Speaks s c (process_at s c) x × IsTakenFor s (process_at s c) x
-    × IsOutOfUse s (process_at s c) x
+Knows s c act.Commit = Commits s c
 Knows s c _ = Unit {0}
 
 pick : (s : State) (c : ℕ) (b : Bool) (x y : act.Action) → (b ≡ true → Knows s c x)
@@ -212,8 +221,14 @@ module _ (s : State) (c : ℕ) (o : Outcome) (m : IsMachine s) (there : c < leng
             (takes_some cmd fs pairs h.0 h.2),
         record { command = cmd; next = sp.next; finds = h.0 },
       )
-      look_knows act.Commit h =
-          (cmd, sp, look_taken s c k cmd what.All [] [] m.keeps idle h takes_nothing, h.inactive)
+      look_knows act.Commit h = record {
+        owner = l.owner;
+        command = cmd;
+        speaks = sp;
+        tree = h.tree;
+        taken = look_taken s c k cmd what.All [] [] m.keeps idle h takes_nothing;
+        out = h.inactive;
+      }
       look_knows (act.Through f r) h = absurd h
       look_knows (act.Plain r) h = absurd h
       look_knows (act.FinishEviction f) h = absurd h
@@ -260,18 +275,23 @@ module _ (s : State) (c : ℕ) (o : Outcome) (m : IsMachine s) (there : c < leng
           (subst (λ (y : Phase). FailsIn y s.store (process_at s q.owner.cpu)
           (next_command s (process_at s q.owner.cpu))) e (working.fails q.owner q.mine)),
     )
-    finish_knows q its aim.Committing w e fs = let one = its_command its in (
-      one.0,
-      one.1,
-      subst (IsTakenBy s k) one.1.next
-          (subst (λ (d : ℕ). IsTakenBy s (process_at s d) (next_command s (process_at s d))) q.same
-          (subst (λ (y : Phase). TakenIn y s (process_at s q.owner.cpu)
-          (next_command s (process_at s q.owner.cpu))) e (working.taken q.owner q.mine))),
-      λ path pages is. absurd (subst TakesSome (ap (λ (x : Command). Some x) is) (subst TakesSome one.1.next
-          (subst (λ (d : ℕ). TakesSome (next_command s (process_at s d))) q.same
-          (subst (λ (y : Phase). FailsIn y s.store (process_at s q.owner.cpu)
-          (next_command s (process_at s q.owner.cpu))) e (working.fails q.owner q.mine))))),
-    )
+    finish_knows q its aim.Committing w e fs =
+        let one = its_command its in
+        let some : TakesSome (Some one.0) = subst TakesSome one.1.next
+        (subst (λ (d : ℕ). TakesSome (next_command s (process_at s d))) q.same
+        (subst (λ (y : Phase). FailsIn y s.store (process_at s q.owner.cpu)
+        (next_command s (process_at s q.owner.cpu))) e (working.fails q.owner q.mine))) in
+        record {
+          owner = q;
+          command = one.0;
+          speaks = one.1;
+          tree = takes_tree one.0 some;
+          taken = subst (IsTakenBy s k) one.1.next
+              (subst (λ (d : ℕ). IsTakenBy s (process_at s d) (next_command s (process_at s d))) q.same
+              (subst (λ (y : Phase). TakenIn y s (process_at s q.owner.cpu)
+              (next_command s (process_at s q.owner.cpu))) e (working.taken q.owner q.mine)));
+          out = λ path pages is. absurd (subst TakesSome (ap (λ (x : Command). Some x) is) some);
+        }
 
     phase_knows : (q : IsMine s c) → p.cpu.process ≡ Some k → (x : Phase) → q.owner.phase ≡ x
         → Knows s c (go_on_with s k q.owner x)

@@ -17,7 +17,7 @@ use Rattle.seg_control.specs.Control.{kst_at}
 use Rattle.flat_model.specs.Branches.{segment_at}
 use Rattle.storage_ops.specs.Shown.{who_at}
 use Rattle.machine_model.specs.Keeps.{Keeps}
-use Rattle.machine_model.specs.Outline.{Want, Refer, Truncate, Length, Other, Runner, runner_at, want_at}
+use Rattle.machine_model.specs.Outline.{Want, Refer, Other, Runner, runner_at, want_at}
 use Rattle.machine_model.specs.Outlined.{around, is_linked, outline_of, reference_in, runner_by}
 use Rattle.machine_model.specs.Outlined.{want_in, want_known, want_lengthened, want_of, want_of_command}
 use Rattle.machine_model.specs.Outlined.{want_of_reference, want_truncated}

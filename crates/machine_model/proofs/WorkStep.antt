@@ -92,6 +92,7 @@ use Rattle.machine_model.proofs.OwnedLaws.{IsIdle}
 use Rattle.machine_model.proofs.RuleKept.{IsLooking}
 use Rattle.machine_model.proofs.SaysLaws.{left_flat}
 use Rattle.machine_model.proofs.ScheduleKept.{told_seats}
+use Rattle.machine_model.proofs.StandLaws.{stands_on}
 use Rattle.machine_model.proofs.StepKept.{IsMine}
 use Rattle.machine_model.proofs.TakeLists.{segment_takes}
 use Rattle.machine_model.proofs.TakeWhole.{begun_whole}
@@ -182,7 +183,8 @@ leaves_work s now k kept w l = record {
         out = l.out;
         just = λ Page Descriptor j. just_on Page Descriptor s now l.more k kept l.plan l.book j
             (l.stays Page Descriptor j);
-      }) (w.taken o was))));
+        stands = stands_on s now k kept l.less.nodes l.less.known;
+      }) (w.fails o was) (w.taken o was))));
 }
 
 same_less : (st : Storage) → IsLess st st
@@ -349,6 +351,7 @@ module _ (s : State) (c : ℕ) (k : Keeps s) (w : IsWorking s) where
         out = λ u q e. e;
         just = λ Page Descriptor j. just_on Page Descriptor s (signalled s c what) (entry.Signal c what ∷ []) k kept
             refl refl j (tt, tt);
+        stands = stands_on s (signalled s c what) k kept refl refl;
       }
 
       takes : (o : Option Owner) → s.owner ≡ o → (q : Owner) → owner_signalled o ≡ Some q
@@ -364,7 +367,7 @@ module _ (s : State) (c : ℕ) (k : Keeps s) (w : IsWorking s) where
           (sym (ap or_zero ((told_seats s c what).process x.cpu)))
           (taken_signalled x.phase (signalled s c what) (process_at s x.cpu) (next_command s (process_at s x.cpu))
           (taken_in x.phase s (signalled s c what) (process_at s x.cpu) (next_command s (process_at s x.cpu)) left
-          (w.taken x e))))
+          (w.fails x e) (w.taken x e))))
 
       by : (o : Option Owner) → s.owner ≡ o → (q : Owner) → owner_signalled o ≡ Some q
           → FailsIn q.phase s.store (process_at (signalled s c what) q.cpu)

@@ -1,5 +1,5 @@
--- What the job of a tree command has taken is just what the command must have out of use (Bensoussan, Clingen and Daley
--- 1972; own).
+-- A tree command whose job takes isn't refused, and what the job has taken is just what the command must have out of use
+-- (Bensoussan, Clingen and Daley 1972; own).
 use Rattle.std.specs.Prelude.{◌≡◌, ◌≤◌, ◌==◌, ℕ, ◌/◌, ◌%◌, true, false, List, Option, Some, None}
 use Rattle.std.specs.List.{list_any}
 use Rattle.script.specs.declared.commands.Command.{Command}
@@ -14,7 +14,7 @@ use Rattle.machine_model.specs.declared.Phase.TheVariants as phase
 use Rattle.machine_model.specs.Custodial.{is_out}
 use Rattle.machine_model.specs.Holding.{holding}
 use Rattle.machine_model.specs.Reads.{is_active}
-use Rattle.machine_model.specs.Refusal.{uid_of_command}
+use Rattle.machine_model.specs.Refusal.{refusal_of, uid_of_command}
 use Rattle.machine_model.specs.State.{State, Storage}
 
 -- the pages that a command takes of a segment u: a `delete` all, a `truncate` those that it cuts
@@ -57,6 +57,7 @@ pub record IsTakenFor (s : State) (k : ℕ) (c : Command) : Type 0 where
       (TakesDescriptor c k (uid_of_command s.store k c))
   pub alone : IsAlone s.store.accounts.nodes (uid_of_command s.store k c) c
   pub brought : WasBrought s.store (uid_of_command s.store k c) c
+  pub stands : refusal_of s k c ≡ None
 
 abbrev pub IsTakenBy : State → ℕ → Option Command → Type 0
 IsTakenBy s k None = Unit {0}

@@ -1,0 +1,102 @@
+-- A command that takes pages or descriptors out of use isn't refused while its job is at work: what refuses it is in the
+-- tree and the numbers, which no other processor's step changes.
+use Rattle.std.proofs.Common.{◌≡◌, ℕ, is_some, if◌then◌else◌, List, [], ◌∷◌, Option, Some, None, refl, sym, ap, ◌∙◌}
+use Rattle.script.specs.declared.commands.Command.{Command}
+use Rattle.script.specs.declared.commands.Command.TheVariants as command
+use Rattle.book.specs.declared.entries.Entry.TheVariants as entry
+use Rattle.book.specs.declared.replies.Reply.TheVariants as reply
+use Rattle.assoc_mem.specs.declared.What.{What}
+use Rattle.tree_model.specs.Tree.{Node}
+use Rattle.known_segs.specs.Known.{uid_of}
+use Rattle.seg_control.specs.Control.{kst_at}
+use Rattle.flat_model.specs.Branches.{branch_at, done_at, segment_at}
+use Rattle.flat_model.specs.Commands.{reply_to_tree_command}
+use Rattle.flat_model.specs.Making.{delete_of, delete_reply}
+use Rattle.flat_model.specs.Naming.{terminate_reply}
+use Rattle.flat_model.specs.Rights.{acl_of, acl_reply}
+use Rattle.flat_model.specs.Sizes.{truncate_reply}
+use Rattle.script.specs.References.{reference_of}
+use Rattle.storage_ops.specs.Shown.{refusal}
+use Rattle.machine_model.specs.declared.Aim.{Aim}
+use Rattle.machine_model.specs.Jobs.{cut_all, cut_one, take_all, take_one, took}
+use Rattle.machine_model.specs.Keeps.{Keeps}
+use Rattle.machine_model.specs.Reads.{flat_of}
+use Rattle.machine_model.specs.Refusal.{refusal_of}
+use Rattle.machine_model.specs.State.{State}
+use Rattle.machine_model.specs.Working.{TakesSome}
+use Rattle.machine_model.proofs.FlatAlike.{one_still}
+use Rattle.machine_model.proofs.OutlineTake.{took_like}
+
+-- a command that takes is no reference
+pub takes_tree : (c : Command) → TakesSome (Some c) → reference_of c ≡ None
+takes_tree (command.Acl path row m) some = refl
+takes_tree (command.Terminate n) some = refl
+takes_tree (command.Truncate path words) some = refl
+takes_tree (command.Delete path) some = refl
+takes_tree command.End some = refl
+takes_tree (command.MkDir path volume) some = absurd some
+takes_tree (command.MkSeg path pages volume) some = absurd some
+takes_tree (command.Initiate path) some = absurd some
+takes_tree (command.Length path pages) some = absurd some
+takes_tree (command.Move path amount) some = absurd some
+takes_tree (command.Status path) some = absurd some
+takes_tree (command.Read n w) some = absurd some
+takes_tree (command.Write n w x) some = absurd some
+takes_tree (command.Add n w x) some = absurd some
+takes_tree (command.Await n w x t) some = absurd some
+
+-- ---- steps that leave the tree and the numbers
+
+module _ (s now : State) (keeps : Keeps s) (kept : Keeps now)
+    (nodes : now.store.accounts.nodes ≡ s.store.accounts.nodes) (known : now.store.links.known ≡ s.store.links.known)
+  where
+    same_nodes : (flat_of now).nodes ≡ (flat_of s).nodes
+    same_nodes = kept.faithful.tree.nodes ∙ (nodes ∙ sym keeps.faithful.tree.nodes)
+
+    same_numbers : (flat_of now).known ≡ (flat_of s).known
+    same_numbers = kept.faithful.known ∙ (known ∙ sym keeps.faithful.known)
+
+    pub stands_on : (k : ℕ) (c : Command) → TakesSome (Some c) → refusal_of s k c ≡ None → refusal_of now k c ≡ None
+    unfolding refusal_of acl_reply terminate_reply truncate_reply delete_reply
+    stands_on k (command.Acl path row m) some h =
+        ap (λ (ns : List Node). refusal (acl_of row (segment_at ns path))) same_nodes ∙ h
+    stands_on k (command.Terminate n) some h = ap (λ (x : List (List (Option ℕ))). refusal
+        (if is_some (uid_of (kst_at x k) n) then reply.Done else reply.Unknown)) same_numbers ∙ h
+    stands_on k (command.Truncate path words) some h =
+        ap (λ (ns : List Node). refusal (done_at (segment_at ns path))) same_nodes ∙ h
+    stands_on k (command.Delete path) some h =
+        ap (λ (ns : List Node). refusal (delete_of ns (branch_at ns path))) same_nodes ∙ h
+    stands_on k command.End some h = refl
+    stands_on k (command.MkDir path volume) some h = absurd some
+    stands_on k (command.MkSeg path pages volume) some h = absurd some
+    stands_on k (command.Initiate path) some h = absurd some
+    stands_on k (command.Length path pages) some h = absurd some
+    stands_on k (command.Move path amount) some h = absurd some
+    stands_on k (command.Status path) some h = absurd some
+    stands_on k (command.Read n w) some h = absurd some
+    stands_on k (command.Write n w x) some h = absurd some
+    stands_on k (command.Add n w x) some h = absurd some
+    stands_on k (command.Await n w x t) some h = absurd some
+
+-- ---- frames and descriptors are taken
+
+take_all_flat : (s : State) (c : ℕ) (a : Aim) (w : What) (fs : List ℕ) → flat_of (take_all s c a w fs) ≡ flat_of s
+take_all_flat s c a w [] = refl
+take_all_flat s c a w (f ∷ fs) =
+    take_all_flat (take_one s c a w f) c a w fs ∙ one_still s.plan s.entries (entry.Take f) refl
+
+cut_all_flat : (s : State) (c : ℕ) (a : Aim) (w : What) (pairs : List (ℕ × ℕ))
+    → flat_of (cut_all s c a w pairs) ≡ flat_of s
+cut_all_flat s c a w [] = refl
+cut_all_flat s c a w (pair ∷ pairs) =
+    cut_all_flat (cut_one s c a w pair) c a w pairs ∙ one_still s.plan s.entries (entry.Cut pair.0 pair.1) refl
+
+-- what isn't refused isn't refused once its job took
+pub took_stands : (s : State) (c : ℕ) (a : Aim) (w : What) (fs : List ℕ) (pairs : List (ℕ × ℕ)) (k : ℕ) (cmd : Command)
+    → refusal_of s k cmd ≡ None → refusal_of (took s c a w fs pairs) k cmd ≡ None
+unfolding refusal_of
+took_stands s c a w fs pairs k cmd h =
+    (λ i. refusal (reply_to_tree_command ((took_like s c a w fs pairs).plan i) (flat i) k cmd)) ∙ h
+  where
+    flat : flat_of (took s c a w fs pairs) ≡ flat_of s
+    flat = cut_all_flat (take_all s c a w fs) c a w pairs ∙ take_all_flat s c a w fs
