@@ -1,9 +1,10 @@
 //! What the store of the tables promises.
 
-ghost use Rattle.std.specs.Prelude.{◌≡◌, sum_by};
+ghost use Rattle.std.specs.Prelude.{◌≡◌, sum_by, IfNone, IfSome, None};
 ghost use Rattle.seg_control.specs.Kept.{IsKept};
 ghost use Rattle.storage_ops.specs.Shown.{IsStore};
 ghost use Rattle.machine_model.specs.Keeps.{AreAccounts};
+ghost use Rattle.machine_model.specs.Rounds.{IsOwnedBy};
 
 use crate::tables::Tables;
 use volumes::Drive;
@@ -25,5 +26,23 @@ impl<D: Drive> Tables<D> {
         let _pages = segs.pages();
         let _root = self.store.accounts().root();
         self
+    }
+
+    /// The processor that owns the supervisor. (Source: own.)
+    pub fn owner(&self) -> Option<u32>
+        ensures some { IfSome result (λ c. IsOwnedBy self.now.state c) }
+        ensures none { IfNone result (self.now.state.owner ≡ None) }
+    {
+        match self.job.holder() {
+            Some(holder) => Some(holder.cpu),
+            None => None,
+        }
+    }
+
+    /// How many frames the shutdown has visited. (Source: own.)
+    pub fn visited(&self) -> u32
+        ensures { result ≡ self.now.state.visited }
+    {
+        self.visited
     }
 }
