@@ -16,7 +16,7 @@ use Rattle.machine_model.specs.Said.{with_command}
 use Rattle.machine_model.specs.State.{State, Storage}
 use Rattle.machine_tables.specs.Committed.{HasEffect, IsCommitted, effect_for, reply_for}
 use Rattle.machine_tables.specs.Parts.{shown}
-use Rattle.machine_tables.specs.Ready.{IsReadyFor, OwnsFor}
+use Rattle.machine_model.specs.Ready.{IsReadyFor, OwnsFor}
 use Rattle.machine_tables.proofs.RefusalLaws.{shows_of}
 
 pub same_some : {X : Type 0} {x y : X} → Some x ≡ Some y → x ≡ y

@@ -28,12 +28,12 @@ use Rattle.machine_model.specs.Commits.{frames_freed}
 use Rattle.machine_model.specs.State.{Storage}
 use Rattle.machine_model.proofs.TieLaws.{none_some}
 use Rattle.machine_model.proofs.WordLaws.{word_within}
-use Rattle.machine_tables.specs.Ready.{OwnsAll}
+use Rattle.machine_model.specs.Ready.{OwnsAll}
 use Rattle.machine_tables.proofs.TakeLaws.{table_worded}
 
 -- ---- flags
 
-given_twice : (flags : List Bool) (r s : ℕ) → set (set flags r false) s false ≡ set (set flags s false) r false
+pub given_twice : (flags : List Bool) (r s : ℕ) → set (set flags r false) s false ≡ set (set flags s false) r false
 given_twice flags r s = elim (cases_eq r s) [
   | inl same ↦ ap (λ (n : ℕ). set (set flags r false) n false) (sym same)
       ∙ ap (λ (n : ℕ). set (set flags n false) r false) same
@@ -69,17 +69,17 @@ module _ (s : Plain) (home : Home) (p r : ℕ) (used : IsUsed s home) (at : file
   record_is : record_of s home p ≡ r
   record_is = ap number_or_zero at
 
-  flags_less : flags_of less home.volume ≡ set (flags_of s home.volume) r false
+  pub flags_less : flags_of less home.volume ≡ set (flags_of s home.volume) r false
   flags_less = get_or-set_same s.records home.volume
       (set (flags_of s home.volume) (record_of s home p) false) [] used.records
       ∙ ap (λ (n : ℕ). set (flags_of s home.volume) n false) record_is
 
-  vtoc_less : vtoc_of less home.volume
+  pub vtoc_less : vtoc_of less home.volume
       ≡ set (vtoc_of s home.volume) home.entry (with_record (entry_of s home) p None)
   vtoc_less = get_or-set_same s.vtocs home.volume
       (set (vtoc_of s home.volume) home.entry (with_record (entry_of s home) p None)) [] used.volume
 
-  entry_less : entry_of less home ≡ with_record (entry_of s home) p None
+  pub entry_less : entry_of less home ≡ with_record (entry_of s home) p None
   entry_less = ap (λ (v : List (Option Entry)). get_or v home.entry None) vtoc_less
       ∙ get_or-set_same (vtoc_of s home.volume) home.entry (with_record (entry_of s home) p None) None used.entry
 
@@ -166,10 +166,10 @@ erased_freed s home p r fs u at =
 
 -- ---- the words of a page table
 
-table_in : (ast : ActiveSegs) (u p : ℕ) → word_of ast u p ≢ Null → p < length (table_of ast u)
+pub table_in : (ast : ActiveSegs) (u p : ℕ) → word_of ast u p ≢ Null → p < length (table_of ast u)
 table_in ast u p ne = (word_within ast u p ne).1
 
-word_gone : (ast : ActiveSegs) (u p : ℕ) → p < length (table_of ast u) → word_of (worded ast u p Null) u p ≡ Null
+pub word_gone : (ast : ActiveSegs) (u p : ℕ) → p < length (table_of ast u) → word_of (worded ast u p Null) u p ≡ Null
 word_gone ast u p lt = ap (λ (t : List Ptw). ptw_at t p) (table_worded ast u p Null lt)
     ∙ get_or-set_same (table_of ast u) p Null Null lt
 
@@ -186,7 +186,7 @@ pub record IsNamed (x : Paged) (home : Home) (uid : ℕ) : Type 0 where
   pub named : (q : ℕ) → word_of x.ast uid q ≢ Null → (r : ℕ) × (filed x.pages home q ≡ Some r)
 
 -- once a page is dropped
-record Drops (x y : Paged) (home : Home) (uid p : ℕ) : Type 0 where
+pub record Drops (x y : Paged) (home : Home) (uid p : ℕ) : Type 0 where
   pub named : IsNamed y home uid
   pub words : (q : ℕ) → q ≢ p → word_of y.ast uid q ≡ word_of x.ast uid q
   pub erased_is : (fs : List ℕ) → erased (frames_freed y.pages fs) home
@@ -211,7 +211,7 @@ drops_words : (x y : Paged) (uid p : ℕ) → word_of x.ast uid p ≢ Null → y
 drops_words x y uid p ne words q other = ap (λ (a : ActiveSegs). word_of a uid q) words
     ∙ word_kept x.ast uid p q (table_in x.ast uid p ne) other
 
-page_drops : (x : Paged) (home : Home) (uid p : ℕ) (w : Ptw) → word_of x.ast uid p ≡ w → IsNamed x home uid
+pub page_drops : (x : Paged) (home : Home) (uid p : ℕ) (w : Ptw) → word_of x.ast uid p ≡ w → IsNamed x home uid
     → Drops x (page_cut x home uid p w) home uid p
 page_drops x home uid p Null at h = record {
   named = h;

@@ -49,7 +49,7 @@ use Rattle.machine_model.proofs.TransferKept.{active_at}
 use Rattle.machine_model.proofs.WordLaws.{word_within}
 use Rattle.machine_tables.specs.Committed.{IsCommitted}
 use Rattle.machine_tables.specs.Parts.{shown}
-use Rattle.machine_tables.specs.Ready.{OwnsAll, OwnsFor}
+use Rattle.machine_model.specs.Ready.{OwnsAll, OwnsFor}
 use Rattle.machine_tables.proofs.CommitLaws.{branch_node, branch_uid, flat_after}
 use Rattle.machine_tables.proofs.DeleteLaws.{IsNamed, IsUsed, cut_erased, cut_inactive, freed_alike}
 use Rattle.machine_tables.proofs.DeleteLaws.{freed_rest, owned_alike}
@@ -122,7 +122,7 @@ module _ (st : Storage) (uid : ℕ) (kept : IsKept st.pages st.ast st.links)
           is = e;
         }
 
-    names : (n : ℕ) → is_active st.ast uid ≡ true
+    pub names : (n : ℕ) → is_active st.ast uid ≡ true
         → IsNamed (record { pages = st.pages; ast = st.ast; stored = n }) home uid
     names n active = record {
       used = home_within;
@@ -159,6 +159,25 @@ module _ (st : Storage) (uid : ℕ) (kept : IsKept st.pages st.ast st.links)
             let no : true ≡ false = sym active ∙ idle in cc)
 
 -- ---- the store
+
+-- what a path leads to is there
+pub node_there : (ns : List Node) (path : List (List ℕ)) (n : Node) → node_at ns path ≡ Ok n
+    → is_there ns n.uid ≡ true
+unfolding node_at
+node_there ns path n h = by (walk_in ns path) h
+  where
+    found : (v : ℕ) (x : Option Node) → node_in ns v ≡ x → there_or x ≡ Ok n → is_there ns n.uid ≡ true
+    found v None e i = absurd (let no : ◌≡◌ {A = Result Node Reply} (Err reply.NoPath) (Ok n) = i in cc)
+    found v (Some m) e i =
+        let same : m ≡ n = (let both : ◌≡◌ {A = Result Node Reply} (Ok m) (Ok n) = i in cc) in
+        let own : m.uid ≡ v = found_uid ns v m e in
+        ap (λ (y : Node). is_there ns y.uid) (sym same)
+        ∙ (ap (is_there ns) own ∙ ap (λ (o : Option Node). is_some o) e)
+
+    by : (w : Walk) → walked ns w ≡ Ok n → is_there ns n.uid ≡ true
+    by (LeadsTo v) i = found v (node_in ns v) refl i
+    by Missing i = absurd (let no : ◌≡◌ {A = Result Node Reply} (Err reply.NoPath) (Ok n) = i in cc)
+    by InSegment i = absurd (let no : ◌≡◌ {A = Result Node Reply} (Err reply.NotDir) (Ok n) = i in cc)
 
 module _ {D : Type 0} (drive : D → List (List ℕ)) (t u : Stored D) (path : List (List ℕ)) (r : Reply)
     (before : HasColumns t.accounts) (after : HasColumns u.accounts) (tree : IsTree t.accounts.nodes)
@@ -259,29 +278,12 @@ module _ {D : Type 0} (drive : D → List (List ℕ)) (t u : Stored D) (path : L
       by true = refl
       by false = refl
 
-  node_there : (ns : List Node) (n : Node) → node_at ns path ≡ Ok n → is_there ns n.uid ≡ true
-  unfolding node_at
-  node_there ns n h = by (walk_in ns path) h
-    where
-      found : (v : ℕ) (x : Option Node) → node_in ns v ≡ x → there_or x ≡ Ok n → is_there ns n.uid ≡ true
-      found v None e i = absurd (let no : ◌≡◌ {A = Result Node Reply} (Err reply.NoPath) (Ok n) = i in cc)
-      found v (Some m) e i =
-          let same : m ≡ n = (let both : ◌≡◌ {A = Result Node Reply} (Ok m) (Ok n) = i in cc) in
-          let own : m.uid ≡ v = found_uid ns v m e in
-          ap (λ (y : Node). is_there ns y.uid) (sym same)
-          ∙ (ap (is_there ns) own ∙ ap (λ (o : Option Node). is_some o) e)
-
-      by : (w : Walk) → walked ns w ≡ Ok n → is_there ns n.uid ≡ true
-      by (LeadsTo v) i = found v (node_in ns v) refl i
-      by Missing i = absurd (let no : ◌≡◌ {A = Result Node Reply} (Err reply.NoPath) (Ok n) = i in cc)
-      by InSegment i = absurd (let no : ◌≡◌ {A = Result Node Reply} (Err reply.NotDir) (Ok n) = i in cc)
-
   -- the store once it takes effect
   deleted_exact : (n : Node) (frames : List ℕ) (p : Plan) (flat : Store) → branch_at t.accounts.nodes path ≡ Ok n
       → OwnsAll st n.uid frames → Erases drive t u n.uid → IsFaithful p flat st
       → Shows drive p (deleted flat (Ok n)) u → shown drive u ≡ with_deleted st n.uid frames
   deleted_exact n frames p flat at owns erases faithful now =
-      let there = node_there t.accounts.nodes n (branch_node t.accounts.nodes path n at) in
+      let there = node_there t.accounts.nodes path n (branch_node t.accounts.nodes path n at) in
       let erased_it = has_erased n frames owns there erases in
       let next = with_pages st (erased (frames_freed st.pages frames) (home_of t.accounts n.uid)) in
       (λ i. record {

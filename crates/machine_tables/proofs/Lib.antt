@@ -28,6 +28,7 @@ pub mod LinkLaws
 pub mod LookLaws
 pub mod MakeLaws
 pub mod MoveLaws
+pub mod OrderLaws
 pub mod PageLaws
 pub mod PartLaws
 pub mod PoolLaws
@@ -42,5 +43,7 @@ pub mod ShownLaws
 pub mod SignalLaws
 pub mod TakeLaws
 pub mod TookLaws
+pub mod TruncateLaws
+pub mod TruncatedLaws
 pub mod VictimLaws
 pub mod VisitLaws

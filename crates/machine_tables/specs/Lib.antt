@@ -11,4 +11,5 @@ pub mod Reading
 pub mod Ready
 pub mod Returned
 pub mod Taken
+pub mod Truncated
 pub mod Visited

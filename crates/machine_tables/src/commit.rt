@@ -13,15 +13,19 @@ ghost use Rattle.machine_model.specs.Keeps.{IsFaithful};
 ghost use Rattle.machine_model.specs.Reads.{cut_of_owner, frames_of_owner, next_command, run_at};
 ghost use Rattle.machine_model.specs.Said.{with_command};
 ghost use Rattle.machine_model.specs.Steps.{booked, with_owner, with_store};
-ghost use Rattle.machine_tables.specs.Committed.{IsCommitted, effect_for, reply_for};
-ghost use Rattle.machine_tables.specs.Gone.{ends_in, gone_entry, goes_inactive, inactive_entry, left_entries};
+ghost use Rattle.machine_model.specs.Ready.{OwnsFor};
+ghost use Rattle.machine_tables.specs.Committed.{effect_for, reply_for};
+ghost use Rattle.machine_tables.specs.Gone.{ends_in, goes_inactive, inactive_entry, left_entries, left_entry};
+ghost use Rattle.machine_tables.specs.Gone.{next_frame_entry};
 ghost use Rattle.machine_tables.specs.Owned.{HasOwner};
 ghost use Rattle.machine_tables.specs.Parts.{shown, with_state};
-ghost use Rattle.machine_tables.specs.Ready.{IsApplicable, MayCommit, OwnsFor, cuts_page};
+ghost use Rattle.machine_tables.specs.Ready.{IsApplicable, MayCommit};
+ghost use Rattle.machine_tables.specs.Truncated.{IsCommittedBut};
 
 use crate::answering::command_at;
 use crate::committing::{
     delete, initiate, make_dir, make_seg, move_quota, set_length, set_row, status, terminate,
+    truncate,
 };
 use crate::tables::Tables;
 use book::{Book, Entry, Reply};
@@ -40,46 +44,64 @@ fn next_of<'a>(book: &'a Book, runs: &[Run], process: u32) -> Option<&'a Command
     command_at(book.script(), process, runs[process as usize].place)
 }
 
-/// A tree command of a process takes effect in the store, unless that is refused.
-fn take_effect<D: Drive>(store: &mut Store<D>, process: u32, command: &Command) -> Reply
+/// A tree command of a process takes effect in the store, unless that is refused. Of the pages that its job took, the
+/// one that stays comes back: the frame that it is in.
+fn take_effect<D: Drive>(
+    store: &mut Store<D>,
+    process: u32,
+    command: &Command,
+) -> (Reply, Option<u32>)
     requires knows { process < length store.old.segs.links.known }
     requires ranges { is_command (length store.old.segs.pages.volumes.drives) command.now ≡ true }
     requires tree { reference_of command.now ≡ None }
     requires uids { store.old.accounts.next < 2 ^ 31 }
     requires ready { IsReady store.old process command.now }
-    requires whole { cuts_page command.now ≡ false }
     ensures { (frames : List ℕ) → OwnsFor (shown D.pages store.old) frames command.now
-        → IsCommitted D.pages store.old store.new process frames command.now result }
+        → IsCommittedBut D.pages store.old store.new process frames command.now result.0 result.1 }
 {
     let _accounts = store.accounts();
     match command {
-        Command::MkDir { path, volume } => make_dir(store, path, *volume),
+        Command::MkDir { path, volume } => (make_dir(store, path, *volume), None),
         Command::MkSeg {
             path,
             pages,
             volume,
-        } => make_seg(store, process, path, *pages, *volume),
-        Command::Initiate { path } => initiate(store, process, path),
-        Command::Terminate { number } => terminate(store, process, *number),
-        Command::Acl { path, row, mode } => set_row(store, path, row, *mode),
-        Command::Length { path, pages } => set_length(store, path, *pages),
-        Command::Delete { path } => delete(store, path),
-        Command::Move { path, amount } => move_quota(store, path, amount),
-        Command::Status { path } => status(store, path),
-        Command::End => Reply::Done,
-        Command::Truncate { .. }
-        | Command::Read { .. }
+        } => (make_seg(store, process, path, *pages, *volume), None),
+        Command::Initiate { path } => (initiate(store, process, path), None),
+        Command::Terminate { number } => (terminate(store, process, *number), None),
+        Command::Acl { path, row, mode } => (set_row(store, path, row, *mode), None),
+        Command::Length { path, pages } => (set_length(store, path, *pages), None),
+        Command::Truncate { path, words } => truncate(store, path, *words),
+        Command::Delete { path } => (delete(store, path), None),
+        Command::Move { path, amount } => (move_quota(store, path, amount), None),
+        Command::Status { path } => (status(store, path), None),
+        Command::End => (Reply::Done, None),
+        Command::Read { .. }
         | Command::Write { .. }
         | Command::Add { .. }
         | Command::Await { .. } => unreachable!(),
     }
 }
 
+/// What is booked of a frame that was taken: its page is back where it is the one that stays, and gone where it isn't.
+fn left_entry(kept: Option<u32>, frame: u32) -> Entry
+    ensures { result.now ≡ left_entry kept frame }
+{
+    match kept {
+        Some(stays) if stays == frame => Entry::BackPage { frame },
+        _ => Entry::GonePage { frame },
+    }
+}
+
 impl<D: Drive> Tables<D> {
-    /// The next command of a process takes effect in the store.
-    fn apply(&mut self, process: u32) -> Reply
+    /// The next command of a process takes effect in the store. Of the pages that its job took, the one that stays comes
+    /// back: the frame that it is in.
+    fn apply(&mut self, process: u32) -> (Reply, Option<u32>)
         requires { (x : Named) × IsApplicable self.old process x }
-        ensures reply { result ≡ reply_for self.old.state process (next_command self.old.state process) }
+        ensures reply { result.0 ≡ reply_for self.old.state process (next_command self.old.state process) }
+        ensures left { map (left_entry result.1) (frames_of_owner self.old.state.owner)
+            ≡ map (next_frame_entry self.old.state.store (next_command self.old.state process))
+            (frames_of_owner self.old.state.owner) }
         ensures effect { self.new ≡ with_state self.old (with_store self.old.state (effect_for self.old.state.store
             process (frames_of_owner self.old.state.owner) (next_command self.old.state process))) }
         ensures shown { (t : Flat) → IsFaithful self.old.state.plan t self.old.state.store
@@ -94,19 +116,19 @@ impl<D: Drive> Tables<D> {
 }
 
 impl<D: Drive> Tables<D> {
-    /// The pages that the owner took are gone, in the order in which it took them.
-    fn let_pages_go(&mut self)
+    /// The pages that the owner took are gone, in the order in which it took them; but one that stays is back.
+    fn let_pages_go(&mut self, kept: Option<u32>)
         requires owner { HasOwner self.old.state.owner }
         requires room { length (frames_of_owner self.old.state.owner) ≤ self.old.state.spare }
         ensures effect { self.new ≡ with_state self.old (with_owner (booked self.old.state
-            (map gone_entry (frames_of_owner self.old.state.owner))) self.new.state.owner) }
+            (map (left_entry kept) (frames_of_owner self.old.state.owner))) self.new.state.owner) }
         ensures owner { HasOwner self.new.state.owner }
         ensures cut { cut_of_owner self.new.state.owner ≡ cut_of_owner self.old.state.owner }
         ensures spent { self.new.state.spare + length (frames_of_owner self.old.state.owner)
             ≡ self.old.state.spare }
     {
         while let Some(frame) = self.next_frame() {
-            self.note(Entry::GonePage { frame });
+            self.note(left_entry(kept, frame));
         }
     }
 
@@ -120,18 +142,19 @@ impl<D: Drive> Tables<D> {
         }
     }
 
-    /// What the owner took is gone, in the order in which it took it; and then the node that isn't active any more.
-    fn let_all_go(&mut self, inactive: Option<u32>)
+    /// What the owner took is gone, in the order in which it took it, but a page that stays is back; and then the node
+    /// isn't active any more.
+    fn let_all_go(&mut self, kept: Option<u32>, inactive: Option<u32>)
         requires owner { HasOwner self.old.state.owner }
         requires room { length (frames_of_owner self.old.state.owner)
             + (length (cut_of_owner self.old.state.owner) + 1) ≤ self.old.state.spare }
         ensures effect { self.new ≡ with_state self.old (with_owner (booked self.old.state
-            (left_entries self.old.state inactive)) self.new.state.owner) }
+            (left_entries self.old.state kept inactive)) self.new.state.owner) }
         ensures spent { self.old.state.spare ≤ self.new.state.spare
             + (length (frames_of_owner self.old.state.owner)
             + (length (cut_of_owner self.old.state.owner) + 1)) }
     {
-        self.let_pages_go();
+        self.let_pages_go(kept);
         self.let_descriptors_go();
         self.note_inactive(inactive);
     }
@@ -171,8 +194,8 @@ impl<D: Drive> Tables<D> {
     {
         let inactive = self.goes_inactive(process);
         let ends = self.ends(process);
-        let reply = self.apply(process);
-        self.let_all_go(inactive);
+        let (reply, kept) = self.apply(process);
+        self.let_all_go(kept, inactive);
         self.tell(c, process, None, reply);
         if ends {
             self.leave(c, process);

@@ -4,19 +4,29 @@ ghost use Rattle.std.specs.Prelude.{◌≡◌, ◌<◌, ◌≤◌, ◌^◌, ℕ,
 ghost use Rattle.accounts.specs.Maps.{HasColumns};
 ghost use Rattle.tree_model.specs.Trees.{AreBelow, IsTree};
 ghost use Rattle.script.specs.declared.commands.Command.TheVariants.{Acl, Delete, Initiate, Length, MkDir, MkSeg};
-ghost use Rattle.script.specs.declared.commands.Command.TheVariants.{Move, Status, Terminate};
-ghost use Rattle.seg_control.specs.Control.{leads_at};
-ghost use Rattle.storage_ops.specs.Cut.{IsRemovableAt};
-ghost use Rattle.storage_ops.specs.Shown.{IsCutAt, IsInactiveAt};
+ghost use Rattle.script.specs.declared.commands.Command.TheVariants.{Move, Status, Terminate, Truncate};
+ghost use Rattle.script.specs.Plans.{Plan};
+ghost use Rattle.flat_model.specs.Branches.{segment_at};
+ghost use Rattle.flat_model.specs.Store.{Store as Flat};
+ghost use Rattle.active_segs.specs.Active.{IsActive};
+ghost use Rattle.seg_control.specs.Control.{leads_at, word_of};
+ghost use Rattle.storage_ops.specs.Cut.{IsRemovableAt, IsTakenPastAt, leaves};
+ghost use Rattle.storage_ops.specs.Shown.{IsCutAt, IsInactiveAt, Shows};
+ghost use Rattle.machine_model.specs.Ready.{OwnsFor};
 ghost use Rattle.machine_tables.specs.Committed.{IsCommitted, TakesEffect};
 ghost use Rattle.machine_tables.specs.Parts.{shown};
-ghost use Rattle.machine_tables.specs.Ready.{OwnsFor};
+ghost use Rattle.machine_tables.specs.Truncated.{IsCommittedBut, here_again, uid_found};
 
 use accounts::Accounts;
+use active_segs::Ast;
 use book::Reply;
 use mnames::{Mode, Path, Row};
+use page_table::Ptw;
 use storage_ops::Store;
 use volumes::Drive;
+
+/// The words of a page.
+const PAGE: u32 = 1024;
 
 /// The accounts of a store, with what is true of them between calls.
 pub(crate) fn accounts_of<D: Drive>(store: &Store<D>) -> &Accounts
@@ -135,4 +145,76 @@ pub(crate) fn delete<D: Drive>(store: &mut Store<D>, path: &Path) -> Reply
     let _after = accounts_of(store);
     let _segs = store.segs();
     reply
+}
+
+/// The segment that a path leads to, if it leads to one.
+fn segment_of(accounts: &Accounts, path: &Path) -> Option<u32>
+    ensures { result ≡ uid_found (segment_at accounts.now.nodes path.now) }
+{
+    let uid = match accounts.walk(path) {
+        Ok(uid) => uid,
+        Err(_) => return None,
+    };
+    match accounts.node(uid) {
+        Some(node) if !node.dir => Some(uid),
+        _ => None,
+    }
+}
+
+/// The frame that a page of an active segment is on its way out of, if it is.
+fn leaves(ast: &Ast, uid: u32, page: u32) -> Option<u32>
+    requires { IsActive ast.now.entries uid }
+    ensures { result ≡ leaves (word_of ast.now uid page) }
+{
+    let Some(place) = ast.search(uid) else {
+        unreachable!();
+    };
+    let table = ast.table(place);
+    if page >= table.size() {
+        return None;
+    }
+    match table.get(page) {
+        Ptw::Leaving(frame) => Some(frame),
+        _ => None,
+    }
+}
+
+/// References go again through the word of a page of an active segment, if it is on its way out: the frame that it is
+/// in.
+fn bring_back<D: Drive>(store: &mut Store<D>, uid: u32, page: u32) -> Option<u32>
+    requires { IsActive store.old.segs.ast.entries uid }
+    ensures frame { result ≡ leaves (word_of store.old.segs.ast uid page) }
+    ensures effect { store.new ≡ record store.old {
+      segs = record store.old.segs {
+        ast = here_again store.old.segs.ast uid page (word_of store.old.segs.ast uid page);
+      };
+    } }
+    ensures shown { (p : Plan) (s : Flat) → Shows D.pages p s store.old → Shows D.pages p s store.new }
+{
+    let _kept = store.segs().pages();
+    let frame = leaves(store.segs().ast(), uid, page)?;
+    store.back(uid, frame);
+    Some(frame)
+}
+
+/// Makes the words of a segment from an offset on 0, unless that is refused. The page that is cut comes back, unless it
+/// is all zeros then: the frame that it is in.
+pub(crate) fn truncate<D: Drive>(
+    store: &mut Store<D>,
+    path: &Path,
+    words: u32,
+) -> (Reply, Option<u32>)
+    requires { IsTakenPastAt store.old.accounts store.old.segs path.now words }
+    ensures { (k : ℕ) (frames : List ℕ) → OwnsFor (shown D.pages store.old) frames (Truncate path.now words)
+        → IsCommittedBut D.pages store.old store.new k frames (Truncate path.now words) result.0 result.1 }
+{
+    let _before = accounts_of(store);
+    let _volumes = store.segs().pages().volumes().count();
+    let Some(uid) = segment_of(store.accounts(), path) else {
+        return (store.truncate(path, words), None);
+    };
+    let reply = store.truncate(path, words);
+    let _after = accounts_of(store);
+    let kept = bring_back(store, uid, words / PAGE);
+    (reply, kept)
 }

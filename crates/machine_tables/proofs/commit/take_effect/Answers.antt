@@ -4,7 +4,7 @@ use Rattle.script.specs.declared.commands.Command.{Command}
 use Rattle.storage_ops.proofs.Fresh.{dir_volume, new_length, seg_pages, seg_volume}
 use Rattle.machine_tables.specs.Committed.{IsCommitted}
 use Rattle.machine_tables.specs.Parts.{shown}
-use Rattle.machine_tables.specs.Ready.{OwnsFor}
+use Rattle.machine_model.specs.Ready.{OwnsFor}
 use Rattle.machine_tables.proofs.commit.take_effect.Goals as goal
 
 pub make_dir-requires-clause-volume : goal.make_dir-requires-clause-volume

@@ -1,0 +1,326 @@
+-- Pages that are cut off: to drop those past the page that is cut before it is cut, or after, comes to the same.
+use Rattle.std.proofs.Common.{◌≡◌, ◌≢◌, ◌<◌, ◌≤◌, ◌+◌, ◌-◌, ◌/◌, ◌%◌, ℕ, suc, zero, Bool, true, false, cond, eqb, length}
+use Rattle.std.proofs.Common.{List, [], get_or, set, Option, Some, None, inl, inr, refl, sym, ap, ◌∙◌, arith}
+use Rattle.std.specs.List.{range_with_len}
+use Rattle.std.proofs.lemmas.Bool.{cases_eq}
+use Rattle.std.proofs.lemmas.List.{get_or-set_other, get_or-set_same, set-set, set_comm}
+use Rattle.page_table.specs.declared.Ptw.{Ptw}
+use Rattle.page_table.specs.declared.Ptw.TheVariants.{Here, Leaving, Null, Out}
+use Rattle.page_table.specs.PageTable.{ptw_at}
+use Rattle.core_map.specs.declared.Frame.{Frame}
+use Rattle.core_map.specs.declared.Frame.TheVariants.{Free}
+use Rattle.core_map.specs.CoreMap.{after_reference}
+use Rattle.vtoc.specs.Vtoc.{Entry, with_record}
+use Rattle.active_segs.specs.Active.{ActiveSegs}
+use Rattle.page_control.specs.declared.Home.{Home}
+use Rattle.page_control.specs.Effects.{unstored}
+use Rattle.page_control.specs.Plain.{Plain, entry_of, filed, flags_of, frame_in, number_or_zero, vtoc_of}
+use Rattle.seg_control.specs.Control.{place_of, table_of, word_of}
+use Rattle.seg_control.specs.Effects.{worded}
+use Rattle.storage_ops.specs.CutOff.{Paged, cut_by, is_cleared, page_cleared, page_cut, pages_cut}
+use Rattle.machine_model.proofs.WordLaws.{word_within}
+use Rattle.machine_tables.specs.Truncated.{here_again}
+use Rattle.machine_tables.proofs.DeleteLaws.{Drops, IsNamed, IsUsed, entry_less, filed_less, flags_less, given_twice}
+use Rattle.machine_tables.proofs.DeleteLaws.{page_drops, table_in, vtoc_less, word_gone}
+use Rattle.machine_tables.proofs.TakeLaws.{table_worded}
+
+-- ---- words
+
+-- the other words of the page table stay
+pub word_other : (ast : ActiveSegs) (u p q : ℕ) (w : Ptw) → p < length (table_of ast u) → q ≢ p
+    → word_of (worded ast u p w) u q ≡ word_of ast u q
+word_other ast u p q w lt ne = ap (λ (t : List Ptw). ptw_at t q) (table_worded ast u p w lt)
+    ∙ get_or-set_other (table_of ast u) p q w Null ne
+
+-- two words are changed
+words_order : (ast : ActiveSegs) (u p q : ℕ) (v w : Ptw) → place_of ast.entries u < length ast.tables → p ≢ q
+    → worded (worded ast u p v) u q w ≡ worded (worded ast u q w) u p v
+words_order ast u p q v w within ne = (λ i. record ast { tables = tables i })
+  where
+    place : ℕ
+    place = place_of ast.entries u
+
+    both : (a b : ℕ) (x y : Ptw) → (worded (worded ast u a x) u b y).tables
+        ≡ set ast.tables place (set (set (table_of ast u) a x) b y)
+    both a b x y = set-set ast.tables place _ _
+        ∙ ap (λ (t : List Ptw). set ast.tables place (set t b y))
+        (get_or-set_same ast.tables place (set (table_of ast u) a x) [] within)
+
+    tables : (worded (worded ast u p v) u q w).tables ≡ (worded (worded ast u q w) u p v).tables
+    tables = both p q v w ∙ (ap (set ast.tables place) (set_comm (table_of ast u) p q v w ne) ∙ sym (both q p w v))
+
+-- ---- records
+
+module _ (s : Plain) (home : Home) (p q r n : ℕ) (used : IsUsed s home) (here : filed s home p ≡ Some r)
+    (there : filed s home q ≡ Some n) (ne : p ≢ q) where
+  abbrev flags_both : ℕ → ℕ → List (List Bool)
+  flags_both i j = set s.records home.volume (set (set (flags_of s home.volume) i false) j false)
+
+  records_after : (a b i j : ℕ) → filed s home a ≡ Some i → filed s home b ≡ Some j → b ≢ a
+      → (unstored (unstored s home a) home b).records ≡ flags_both i j
+  records_after a b i j at bt other =
+      ap (λ (k : ℕ). set (unstored s home a).records home.volume
+      (set (flags_of (unstored s home a) home.volume) k false))
+      (ap number_or_zero (filed_less s home a i used at b other ∙ bt))
+      ∙ (set-set s.records home.volume _ _
+      ∙ ap (λ (f : List Bool). set s.records home.volume (set f j false)) (flags_less s home a i used at))
+
+  records_order : (unstored (unstored s home p) home q).records ≡ (unstored (unstored s home q) home p).records
+  records_order = records_after p q r n here there (λ e. ne (sym e))
+      ∙ (ap (set s.records home.volume) (given_twice (flags_of s home.volume) r n)
+      ∙ sym (records_after q p n r there here ne))
+
+  vtocs_after : (a b i : ℕ) → filed s home a ≡ Some i → (unstored (unstored s home a) home b).vtocs
+      ≡ set s.vtocs home.volume (set (vtoc_of s home.volume) home.entry
+      (with_record (with_record (entry_of s home) a None) b None))
+  vtocs_after a b i at =
+      set-set s.vtocs home.volume _ _
+      ∙ (ap (λ (v : List (Option Entry)). set s.vtocs home.volume (set v home.entry
+      (with_record (entry_of (unstored s home a) home) b None))) (vtoc_less s home a i used at)
+      ∙ (ap (set s.vtocs home.volume) (set-set (vtoc_of s home.volume) home.entry _ _)
+      ∙ ap (λ (e : Option Entry). set s.vtocs home.volume (set (vtoc_of s home.volume) home.entry
+      (with_record e b None))) (entry_less s home a i used at)))
+
+  maps_order : (e : Option Entry) → with_record (with_record e p None) q None
+      ≡ with_record (with_record e q None) p None
+  maps_order None = refl
+  maps_order (Some e) = ap (λ (m : List (Option ℕ)). Some (record e { records = m }))
+      (set_comm e.records p q None None ne)
+
+  vtocs_order : (unstored (unstored s home p) home q).vtocs ≡ (unstored (unstored s home q) home p).vtocs
+  vtocs_order = vtocs_after p q r here
+      ∙ (ap (λ (e : Option Entry). set s.vtocs home.volume (set (vtoc_of s home.volume) home.entry e))
+      (maps_order (entry_of s home))
+      ∙ sym (vtocs_after q p n there))
+
+-- ---- the page that is cut, and one that is dropped
+
+-- references go again through the word of a page
+abbrev pub again : Paged → ℕ → ℕ → Ptw → Paged
+again x uid p w = record x { ast = here_again x.ast uid p w }
+
+-- the words of a page become 0 from a place on: it is stored no more where it is all zeros then, and here again where
+-- it isn't
+abbrev pub cut_first : Paged → Home → ℕ → ℕ → ℕ → Ptw → Paged
+cut_first x home uid p at w =
+    cond (is_cleared x at w) (page_cut (page_cleared x at w) home uid p w) (again (page_cleared x at w) uid p w)
+
+-- whether a page is all zeros then doesn't depend on another that is dropped
+pub cleared_same : (x : Paged) (home : Home) (uid q at f : ℕ) (v : Ptw)
+    → is_cleared (page_cut x home uid q v) at (Leaving f) ≡ is_cleared x at (Leaving f)
+cleared_same x home uid q at f Null = refl
+cleared_same x home uid q at f (Out n) = refl
+cleared_same x home uid q at f (Here n) = refl
+cleared_same x home uid q at f (Leaving g) = refl
+
+module _ (x : Paged) (home : Home) (uid p q at f : ℕ) (word : word_of x.ast uid p ≡ Leaving f) (ne : p ≢ q)
+    (named : IsNamed x home uid) where
+  own : word_of x.ast uid p ≢ Null
+  own none = let no : Null ≡ Leaving f = sym none ∙ word in cc
+
+  within : place_of x.ast.entries uid < length x.ast.tables
+  within = (word_within x.ast uid p own).0
+
+  abbrev cleared : Paged
+  cleared = page_cleared x at (Leaving f)
+
+  abbrev Commutes : (Paged → Paged) → Ptw → Type 0
+  Commutes step v = page_cut (step x) home uid q v ≡ step (page_cut x home uid q v)
+
+  abbrev drops : Paged → Paged
+  drops y = page_cut (page_cleared y at (Leaving f)) home uid p (Leaving f)
+
+  abbrev stays : Paged → Paged
+  stays y = again (page_cleared y at (Leaving f)) uid p (Leaving f)
+
+  module _ (v : Ptw) (is : word_of x.ast uid q ≡ v) (some : v ≢ Null) where
+    its : (r : ℕ) × (filed x.pages home p ≡ Some r)
+    its = named.named p own
+
+    other : (r : ℕ) × (filed x.pages home q ≡ Some r)
+    other = named.named q (λ none. some (sym is ∙ none))
+
+    records : (unstored (unstored x.pages home p) home q).records ≡ (unstored (unstored x.pages home q) home p).records
+    records = records_order x.pages home p q its.0 other.0 named.used its.1 other.1 ne
+
+    vtocs : (unstored (unstored x.pages home p) home q).vtocs ≡ (unstored (unstored x.pages home q) home p).vtocs
+    vtocs = vtocs_order x.pages home p q its.0 other.0 named.used its.1 other.1 ne
+
+    abbrev frames : List Frame
+    frames = x.pages.core.frames
+
+  -- the frames, where the other page leaves one too
+  free_order : (g : ℕ) → f ≢ g → (y z : Frame)
+      → set (set (set x.pages.core.frames f y) f Free) g Free
+      ≡ set (set (set x.pages.core.frames g Free) f z) f Free
+  free_order g apart y z = ap (λ (fs : List Frame). set fs g Free) (set-set x.pages.core.frames f y Free)
+      ∙ (set_comm x.pages.core.frames f g Free Free apart
+      ∙ sym (set-set (set x.pages.core.frames g Free) f z Free))
+
+  mark_order : (g : ℕ) → f ≢ g
+      → set (set x.pages.core.frames f (after_reference (get_or x.pages.core.frames f Free) true)) g Free
+      ≡ set (set x.pages.core.frames g Free) f
+      (after_reference (get_or (set x.pages.core.frames g Free) f Free) true)
+  mark_order g apart =
+      set_comm x.pages.core.frames f g (after_reference (get_or x.pages.core.frames f Free) true) Free apart
+      ∙ ap (λ (y : Frame). set (set x.pages.core.frames g Free) f (after_reference y true))
+      (sym (get_or-set_other x.pages.core.frames g f Free Free apart))
+
+  drops_order : (v : Ptw) → word_of x.ast uid q ≡ v → v ≢ Leaving f → Commutes drops v
+  drops_order Null is apart = refl
+  drops_order (Out n) is apart =
+      let some : Out n ≢ Null = λ e. (let no : Out n ≡ Null = e in cc) in
+      let words = words_order x.ast uid p q Null Null within ne in
+      (λ i. record {
+        pages = record (drops (page_cut x home uid q (Out n))).pages {
+          records = records (Out n) is some i;
+          vtocs = vtocs (Out n) is some i;
+        };
+        ast = words i;
+        stored = x.stored - 1 - 1;
+      })
+  drops_order (Here n) is apart =
+      let some : Here n ≢ Null = λ e. (let no : Here n ≡ Null = e in cc) in
+      let words = words_order x.ast uid p q Null Null within ne in
+      (λ i. record {
+        pages = record (drops (page_cut x home uid q (Here n))).pages {
+          records = records (Here n) is some i;
+          vtocs = vtocs (Here n) is some i;
+        };
+        ast = words i;
+        stored = x.stored - 1 - 1;
+      })
+  drops_order (Leaving g) is apart =
+      let some : Leaving g ≢ Null = λ e. (let no : Leaving g ≡ Null = e in cc) in
+      let words = words_order x.ast uid p q Null Null within ne in
+      let frames_same = free_order g (λ e. apart (ap (λ (k : ℕ). Leaving k) (sym e)))
+      (after_reference (frame_in x.pages f) true)
+      (after_reference (get_or (set x.pages.core.frames g Free) f Free) true) in
+      (λ i. record {
+        pages = record (drops (page_cut x home uid q (Leaving g))).pages {
+          core = record x.pages.core { frames = frames_same i };
+          records = records (Leaving g) is some i;
+          vtocs = vtocs (Leaving g) is some i;
+        };
+        ast = words i;
+        stored = x.stored - 1 - 1;
+      })
+
+  stays_order : (v : Ptw) → word_of x.ast uid q ≡ v → v ≢ Leaving f → Commutes stays v
+  stays_order Null is apart = refl
+  stays_order (Out n) is apart =
+      ap (λ (a : ActiveSegs). record (page_cut (stays x) home uid q (Out n)) { ast = a })
+      (words_order x.ast uid p q (Here f) Null within ne)
+  stays_order (Here n) is apart =
+      ap (λ (a : ActiveSegs). record (page_cut (stays x) home uid q (Here n)) { ast = a })
+      (words_order x.ast uid p q (Here f) Null within ne)
+  stays_order (Leaving g) is apart =
+      let words = words_order x.ast uid p q (Here f) Null within ne in
+      let frames_same = mark_order g (λ e. apart (ap (λ (k : ℕ). Leaving k) (sym e))) in
+      (λ i. record (page_cut (stays x) home uid q (Leaving g)) {
+        pages = record (page_cut (stays x) home uid q (Leaving g)).pages {
+          core = record x.pages.core { frames = frames_same i };
+        };
+        ast = words i;
+      })
+
+  -- one page is dropped after the cut, or before
+  pub one_order : (v : Ptw) → word_of x.ast uid q ≡ v → v ≢ Leaving f
+      → page_cut (cut_first x home uid p at (Leaving f)) home uid q v
+      ≡ cut_first (page_cut x home uid q v) home uid p at (Leaving f)
+  one_order v is apart = by (is_cleared x at (Leaving f))
+      ∙ ap (λ (b : Bool). cond b (drops (page_cut x home uid q v)) (stays (page_cut x home uid q v)))
+      (sym (cleared_same x home uid q at f v))
+    where
+      by : (b : Bool) → page_cut (cond b (drops x) (stays x)) home uid q v
+          ≡ cond b (drops (page_cut x home uid q v)) (stays (page_cut x home uid q v))
+      by true = drops_order v is apart
+      by false = stays_order v is apart
+
+  -- the word of another page is as before
+  pub first_other : word_of (cut_first x home uid p at (Leaving f)).ast uid q ≡ word_of x.ast uid q
+  first_other = by (is_cleared x at (Leaving f))
+    where
+      by : (b : Bool) → word_of (cond b (drops x) (stays x)).ast uid q ≡ word_of x.ast uid q
+      by true = word_other x.ast uid p q Null (table_in x.ast uid p own) (λ e. ne (sym e))
+      by false = word_other x.ast uid p q (Here f) (table_in x.ast uid p own) (λ e. ne (sym e))
+
+-- ---- several pages
+
+-- no other page leaves the frame
+pub record IsAlone (x : Paged) (uid p f : ℕ) : Type 0 where
+  pub word : word_of x.ast uid p ≡ Leaving f
+  pub others : (q : ℕ) → q ≢ p → word_of x.ast uid q ≢ Leaving f
+
+pub cut_gone : (x : Paged) (home : Home) (uid p : ℕ) (w : Ptw) → word_of x.ast uid p ≡ w
+    → word_of (page_cut x home uid p w).ast uid p ≡ Null
+cut_gone x home uid p Null at = at
+cut_gone x home uid p (Out r) at = word_gone x.ast uid p
+    (table_in x.ast uid p (λ e. (let no : Null ≡ Out r = sym e ∙ at in cc)))
+cut_gone x home uid p (Here f) at = word_gone x.ast uid p
+    (table_in x.ast uid p (λ e. (let no : Null ≡ Here f = sym e ∙ at in cc)))
+cut_gone x home uid p (Leaving f) at = word_gone x.ast uid p
+    (table_in x.ast uid p (λ e. (let no : Null ≡ Leaving f = sym e ∙ at in cc)))
+
+alone_after : (x : Paged) (home : Home) (uid p q f : ℕ) → q ≢ p → IsNamed x home uid → IsAlone x uid p f
+    → IsAlone (page_cut x home uid q (word_of x.ast uid q)) uid p f
+alone_after x home uid p q f ne named alone = record {
+  word = drops.words p (λ e. ne (sym e)) ∙ alone.word;
+  others = λ r other e. elim (cases_eq r q) [
+    | inl same ↦ (let no : Null ≡ Leaving f = sym (ap (word_of now.ast uid) same
+        ∙ cut_gone x home uid q (word_of x.ast uid q) refl) ∙ e in cc)
+    | inr apart ↦ alone.others r other (sym (drops.words r apart) ∙ e)
+  ];
+}
+  where
+    now : Paged
+    now = page_cut x home uid q (word_of x.ast uid q)
+
+    drops : Drops x now home uid q
+    drops = page_drops x home uid q (word_of x.ast uid q) refl named
+
+-- some pages past it are dropped after the cut, or before
+pub some_order : (x : Paged) (home : Home) (uid p at f from n : ℕ) → p < from → IsNamed x home uid → IsAlone x uid p f
+    → pages_cut (cut_first x home uid p at (Leaving f)) home uid (range_with_len from n)
+    ≡ cut_first (pages_cut x home uid (range_with_len from n)) home uid p at (Leaving f)
+some_order x home uid p at f from zero lt named alone = refl
+some_order x home uid p at f from (suc n) lt named alone =
+    let ne : from ≢ p = λ e. (omega (arith, lt, e)) in
+    let apart : p ≢ from = λ e. (ne (sym e)) in
+    let v = word_of x.ast uid from in
+    let now = page_cut x home uid from v in
+    ap (λ (w : Ptw). pages_cut (page_cut (cut_first x home uid p at (Leaving f)) home uid from w) home uid
+    (range_with_len (from + 1) n)) (first_other x home uid p from at f alone.word apart named)
+    ∙ (ap (λ (y : Paged). pages_cut y home uid (range_with_len (from + 1) n))
+    (one_order x home uid p from at f alone.word apart named v refl (alone.others from ne))
+    ∙ some_order now home uid p at f (from + 1) n (omega (arith, lt))
+    (page_drops x home uid from v refl named).named (alone_after x home uid p from f ne named alone))
+
+-- ---- pages that aren't stored
+
+-- the words from a page on are `Null`
+pub record IsNullFrom (x : Paged) (uid from : ℕ) : Type 0 where
+  pub null : (q : ℕ) → from ≤ q → word_of x.ast uid q ≡ Null
+
+null_cut : (x : Paged) (home : Home) (uid from n : ℕ) → IsNullFrom x uid from
+    → pages_cut x home uid (range_with_len from n) ≡ x
+null_cut x home uid from zero null = refl
+null_cut x home uid from (suc n) null =
+    ap (λ (w : Ptw). pages_cut (page_cut x home uid from w) home uid (range_with_len (from + 1) n))
+    (null.null from (omega arith))
+    ∙ null_cut x home uid (from + 1) n (record { null = λ q le. null.null q (omega (arith, le)) })
+
+-- so it doesn't matter how many more are looked at
+pub null_more : (x : Paged) (home : Home) (uid from n k : ℕ) → IsNamed x home uid → IsNullFrom x uid (from + n)
+    → pages_cut x home uid (range_with_len from (n + k)) ≡ pages_cut x home uid (range_with_len from n)
+null_more x home uid from zero k named null =
+    let none : 0 + k ≡ k = omega arith in
+    ap (λ (n : ℕ). pages_cut x home uid (range_with_len from n)) none
+    ∙ null_cut x home uid from k (record { null = λ q le. null.null q (omega (arith, le)) })
+null_more x home uid from (suc n) k named null =
+    let v = word_of x.ast uid from in
+    let drops = page_drops x home uid from v refl named in
+    let next : suc n + k ≡ suc (n + k) = omega arith in
+    ap (λ (m : ℕ). pages_cut x home uid (range_with_len from m)) next
+    ∙ null_more (page_cut x home uid from v) home uid (from + 1) n k drops.named
+    (record { null = λ q le. drops.words q (λ e. (omega (arith, le, e))) ∙ null.null q (omega (arith, le)) })

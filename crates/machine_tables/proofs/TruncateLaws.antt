@@ -1,0 +1,265 @@
+-- What a truncation changes of a store, by page control, the active segments and one count.
+use Rattle.std.proofs.Common.{◌≡◌, ◌≢◌, ◌<◌, ◌≤◌, ◌+◌, ◌-◌, ◌*◌, ◌/◌, ◌%◌, ℕ, Bool, true, false, cond, eqb, length}
+use Rattle.std.proofs.Common.{List, [], ◌∷◌, get_or, set, Option, Some, None, inl, inr, refl, sym, ap, subst, ◌∙◌, arith}
+use Rattle.std.proofs.lemmas.Bool.{cases_eq, cases_lt, eq-eqb, ne_eqb}
+use Rattle.std.proofs.lemmas.List.{get_or-set_same, get_or_past}
+use Rattle.std.specs.List.{range_with_len}
+use Rattle.accounts.specs.Maps.{AccountMaps, HasColumns, count_of}
+use Rattle.quota_cells.specs.Accounts.{look, with_value}
+use Rattle.quota_cells.proofs.ColumnLaws.{length_with, look_with_other}
+use Rattle.core_map.specs.declared.Frame.{Frame}
+use Rattle.core_map.specs.declared.Frame.TheVariants.{Bound, Free, Started}
+use Rattle.core_map.specs.CoreMap.{after_reference, bound_page}
+use Rattle.page_table.specs.declared.Ptw.{Ptw}
+use Rattle.page_table.specs.declared.Ptw.TheVariants.{Here, Leaving, Null, Out}
+use Rattle.page_control.specs.declared.Home.{Home}
+use Rattle.page_control.specs.Effects.{cut}
+use Rattle.page_control.specs.Plain.{frame_in, words_in}
+use Rattle.seg_control.specs.Control.{word_of}
+use Rattle.storage_ops.specs.CutOff.{Paged, is_cleared, page_cut, pages_cut}
+use Rattle.machine_model.specs.Commits.{with_cut, with_truncated, without_page, without_pages, pages_past}
+use Rattle.machine_model.specs.Jobs.{are_zeros, here_if, with_here}
+use Rattle.machine_model.specs.Reads.{home_in}
+use Rattle.machine_model.specs.State.{Storage}
+use Rattle.machine_model.specs.Steps.{with_pages}
+use Rattle.machine_model.proofs.TieLaws.{none_some}
+use Rattle.machine_tables.proofs.OrderLaws.{cut_first}
+
+-- what is told of a segment
+abbrev pub told_of : Storage → ℕ → Paged
+told_of st uid = record { pages = st.pages; ast = st.ast; stored = count_of st.accounts uid }
+
+-- ---- one count
+
+less_of : (ks vs : List ℕ) (u : ℕ) → look ks (with_value ks vs u (look ks vs u - 1)) u ≡ look ks vs u - 1
+less_of ks vs u = by ks vs (look ks vs u) refl
+  where
+    -- the value that is put is told, where the uid has one
+    by : (is ws : List ℕ) (n : ℕ) → look is ws u ≡ n → look is (with_value is ws u (n - 1)) u ≡ n - 1
+    by [] ws n e = let none : 0 ≡ n = e in omega (arith, none)
+    by (i ∷ is) [] n e = let none : 0 ≡ n = e in omega (arith, none)
+    by (i ∷ is) (w ∷ ws) n e = elim (cases_eq i u) [
+      | inl same ↦ (let own = eq-eqb i u same in
+          ap (λ (b : Bool). look (i ∷ is) (cond b ((n - 1) ∷ ws) (w ∷ with_value is ws u (n - 1))) u) own
+          ∙ ap (λ (b : Bool). cond b (n - 1) (look is ws u)) own)
+      | inr other ↦ (let far = ne_eqb i u other in
+          ap (λ (b : Bool). look (i ∷ is) (cond b ((n - 1) ∷ ws) (w ∷ with_value is ws u (n - 1))) u) far
+          ∙ (ap (λ (b : Bool). cond b w (look is (with_value is ws u (n - 1)) u)) far
+          ∙ by is ws n (sym (ap (λ (b : Bool). cond b w (look is ws u)) far) ∙ e)))
+    ]
+
+-- ---- what else stays
+
+-- all but the frames, the volumes, the page tables and one count
+pub record KeepsOthers (old now : Storage) (uid : ℕ) : Type 0 where
+  pub nodes : now.accounts.nodes ≡ old.accounts.nodes
+  pub entries : now.accounts.entries ≡ old.accounts.entries
+  pub next : now.accounts.next ≡ old.accounts.next
+  pub segments : now.accounts.segments ≡ old.accounts.segments
+  pub long : length now.accounts.counts ≡ length old.accounts.counts
+  pub counts : (s : ℕ) → s ≢ uid → count_of now.accounts s ≡ count_of old.accounts s
+  pub links : now.links ≡ old.links
+  pub whos : now.whos ≡ old.whos
+
+keeps_same : (old now : Storage) (uid : ℕ) → now.accounts ≡ old.accounts → now.links ≡ old.links → now.whos ≡ old.whos
+    → KeepsOthers old now uid
+keeps_same old now uid accounts links whos = record {
+  nodes = ap (λ (a : AccountMaps). a.nodes) accounts;
+  entries = ap (λ (a : AccountMaps). a.entries) accounts;
+  next = ap (λ (a : AccountMaps). a.next) accounts;
+  segments = ap (λ (a : AccountMaps). a.segments) accounts;
+  long = ap (λ (a : AccountMaps). length a.counts) accounts;
+  counts = λ s other. ap (λ (a : AccountMaps). count_of a s) accounts;
+  links = links;
+  whos = whos;
+}
+
+keeps_all : (st : Storage) (uid : ℕ) → KeepsOthers st st uid
+keeps_all st uid = keeps_same st st uid refl refl refl
+
+keeps_both : (a b c : Storage) (uid : ℕ) → KeepsOthers a b uid → KeepsOthers b c uid → KeepsOthers a c uid
+keeps_both a b c uid x y = record {
+  nodes = y.nodes ∙ x.nodes;
+  entries = y.entries ∙ x.entries;
+  next = y.next ∙ x.next;
+  segments = y.segments ∙ x.segments;
+  long = y.long ∙ x.long;
+  counts = λ s other. y.counts s other ∙ x.counts s other;
+  links = y.links ∙ x.links;
+  whos = y.whos ∙ x.whos;
+}
+
+-- a page less is counted
+keeps_credited : (st now : Storage) (uid : ℕ) → now.accounts
+    ≡ record st.accounts {
+      counts = with_value st.accounts.segments st.accounts.counts uid (count_of st.accounts uid - 1);
+    } → now.links ≡ st.links → now.whos ≡ st.whos → KeepsOthers st now uid
+keeps_credited st now uid is links whos = record {
+  nodes = ap (λ (a : AccountMaps). a.nodes) is;
+  entries = ap (λ (a : AccountMaps). a.entries) is;
+  next = ap (λ (a : AccountMaps). a.next) is;
+  segments = ap (λ (a : AccountMaps). a.segments) is;
+  long = ap (λ (a : AccountMaps). length a.counts) is
+      ∙ length_with st.accounts.segments st.accounts.counts uid (count_of st.accounts uid - 1);
+  counts = λ s other. ap (λ (a : AccountMaps). count_of a s) is ∙ look_with_other st.accounts.segments
+      st.accounts.counts uid (count_of st.accounts uid - 1) s (λ e. other (sym e));
+  links = links;
+  whos = whos;
+}
+
+-- ---- pages that are stored no more
+
+without_told : (st : Storage) (uid p : ℕ) (w : Ptw)
+    → told_of (without_page st uid p w) uid ≡ page_cut (told_of st uid) (home_in st uid) uid p w
+without_told st uid p Null = refl
+without_told st uid p (Out r) =
+    ap (λ (n : ℕ). record (page_cut (told_of st uid) (home_in st uid) uid p (Out r)) { stored = n })
+    (less_of st.accounts.segments st.accounts.counts uid)
+without_told st uid p (Here f) =
+    ap (λ (n : ℕ). record (page_cut (told_of st uid) (home_in st uid) uid p (Here f)) { stored = n })
+    (less_of st.accounts.segments st.accounts.counts uid)
+without_told st uid p (Leaving f) =
+    ap (λ (n : ℕ). record (page_cut (told_of st uid) (home_in st uid) uid p (Leaving f)) { stored = n })
+    (less_of st.accounts.segments st.accounts.counts uid)
+
+without_keeps : (st : Storage) (uid p : ℕ) (w : Ptw) → KeepsOthers st (without_page st uid p w) uid
+without_keeps st uid p Null = keeps_all st uid
+without_keeps st uid p (Out r) = keeps_credited st (without_page st uid p (Out r)) uid refl refl refl
+without_keeps st uid p (Here f) = keeps_credited st (without_page st uid p (Here f)) uid refl refl refl
+without_keeps st uid p (Leaving f) = keeps_credited st (without_page st uid p (Leaving f)) uid refl refl refl
+
+-- the home of a segment stays
+home_same : (old now : Storage) (uid : ℕ) → KeepsOthers old now uid → home_in now uid ≡ home_in old uid
+home_same old now uid keeps = (λ i. home_in (record old {
+  accounts = record old.accounts { nodes = keeps.nodes i; entries = keeps.entries i };
+}) uid)
+
+some_told : (st : Storage) (uid : ℕ) (ps : List ℕ)
+    → told_of (without_pages st uid ps) uid ≡ pages_cut (told_of st uid) (home_in st uid) uid ps
+some_told st uid [] = refl
+some_told st uid (p ∷ ps) =
+    let w = word_of st.ast uid p in
+    let now = without_page st uid p w in
+    some_told now uid ps
+    ∙ (ap (λ (h : Home). pages_cut (told_of now uid) h uid ps) (home_same st now uid (without_keeps st uid p w))
+    ∙ ap (λ (x : Paged). pages_cut x (home_in st uid) uid ps) (without_told st uid p w))
+
+some_keeps : (st : Storage) (uid : ℕ) (ps : List ℕ) → KeepsOthers st (without_pages st uid ps) uid
+some_keeps st uid [] = keeps_all st uid
+some_keeps st uid (p ∷ ps) =
+    let now = without_page st uid p (word_of st.ast uid p) in
+    keeps_both st now (without_pages now uid ps) uid (without_keeps st uid p (word_of st.ast uid p))
+    (some_keeps now uid ps)
+
+-- ---- the page that is cut
+
+-- no word of the page is that of a page in use, or on its record alone; and its frame is bound to it
+pub record IsCuttable (st : Storage) (uid p : ℕ) (w : Ptw) : Type 0 where
+  pub away : (f : ℕ) → w ≢ Here f
+  pub inside : (r : ℕ) → w ≢ Out r
+  pub bound : (f : ℕ) → w ≡ Leaving f → bound_page (frame_in st.pages f) ≡ Some (uid, p)
+
+bound_after : (x : Frame) (wrote : Bool) → bound_page (after_reference x wrote) ≡ bound_page x
+bound_after Free wrote = refl
+bound_after (Started u p) wrote = refl
+bound_after (Bound u p used modified) wrote = refl
+
+-- a reference leaves what a frame is bound to
+bound_cut : (st : Storage) (f at uid p : ℕ) → bound_page (frame_in st.pages f) ≡ Some (uid, p)
+    → bound_page (frame_in (cut st.pages f at) f) ≡ Some (uid, p)
+bound_cut st f at uid p bound = ap bound_page
+    (get_or-set_same st.pages.core.frames f (after_reference (frame_in st.pages f) true) Free within)
+    ∙ (bound_after (frame_in st.pages f) true ∙ bound)
+  where
+    within : f < length st.pages.core.frames
+    within = elim (cases_lt f (length st.pages.core.frames)) [
+      | inl lt ↦ lt
+      | inr le ↦ absurd (none_some (sym (ap bound_page (get_or_past st.pages.core.frames f Free le)) ∙ bound))
+    ]
+
+-- both ends of a cut
+module _ (st : Storage) (uid p at f : ℕ) (bound : bound_page (frame_in st.pages f) ≡ Some (uid, p)) where
+  abbrev cleared : Storage
+  cleared = with_pages st (cut st.pages f at)
+
+  abbrev ends : Bool → Storage
+  ends b = cond b (without_page cleared uid p (Leaving f)) (with_here cleared f)
+
+  stays_is : with_here cleared f ≡ here_if cleared f (Some (uid, p))
+  stays_is = ap (here_if cleared f) (bound_cut st f at uid p bound)
+
+  leaving_told : (b : Bool) → is_cleared (told_of st uid) at (Leaving f) ≡ b
+      → told_of (ends b) uid ≡ cut_first (told_of st uid) (home_in st uid) uid p at (Leaving f)
+  leaving_told true e = without_told cleared uid p (Leaving f)
+      ∙ sym (ap (λ (b : Bool). cond b (page_cut (told_of cleared uid) (home_in st uid) uid p (Leaving f))
+      (told_of (here_if cleared f (Some (uid, p))) uid)) e)
+  leaving_told false e = ap (λ (x : Storage). told_of x uid) stays_is
+      ∙ sym (ap (λ (b : Bool). cond b (page_cut (told_of cleared uid) (home_in st uid) uid p (Leaving f))
+      (told_of (here_if cleared f (Some (uid, p))) uid)) e)
+
+  leaving_keeps : (b : Bool) → KeepsOthers st (ends b) uid
+  leaving_keeps true = keeps_both st cleared (without_page cleared uid p (Leaving f)) uid
+      (keeps_same st cleared uid refl refl refl) (without_keeps cleared uid p (Leaving f))
+  leaving_keeps false = subst (λ (x : Storage). KeepsOthers st x uid) (sym stays_is)
+      (keeps_same st (here_if cleared f (Some (uid, p))) uid refl refl refl)
+
+pub cut_told : (st : Storage) (uid p at : ℕ) (w : Ptw) → IsCuttable st uid p w
+    → told_of (with_cut st uid p at w) uid ≡ cut_first (told_of st uid) (home_in st uid) uid p at w
+cut_told st uid p at Null may = refl
+cut_told st uid p at (Out r) may = absurd (may.inside r refl)
+cut_told st uid p at (Here f) may = absurd (may.away f refl)
+cut_told st uid p at (Leaving f) may = leaving_told st uid p at f (may.bound f refl)
+    (are_zeros (words_in (cut st.pages f at) f)) refl
+
+pub cut_keeps : (st : Storage) (uid p at : ℕ) (w : Ptw) → IsCuttable st uid p w
+    → KeepsOthers st (with_cut st uid p at w) uid
+cut_keeps st uid p at Null may = keeps_all st uid
+cut_keeps st uid p at (Out r) may = absurd (may.inside r refl)
+cut_keeps st uid p at (Here f) may = absurd (may.away f refl)
+cut_keeps st uid p at (Leaving f) may = leaving_keeps st uid p at f (may.bound f refl)
+    (are_zeros (words_in (cut st.pages f at) f))
+
+-- ---- the whole
+
+module _ (st : Storage) (uid words : ℕ) where
+  abbrev page : ℕ
+  page = words / 1024
+
+  abbrev at : ℕ
+  at = words % 1024
+
+  abbrev cut_or_not : Bool → Storage
+  cut_or_not b = cond b st (with_cut st uid page at (word_of st.ast uid page))
+
+  pub even_told : at ≡ 0 → told_of (with_truncated st uid words) uid
+      ≡ pages_cut (told_of st uid) (home_in st uid) uid (pages_past st uid words)
+  even_told even = ap (λ (b : Bool). told_of (without_pages (cut_or_not b) uid (pages_past st uid words)) uid)
+      (eq-eqb at 0 even) ∙ some_told st uid (pages_past st uid words)
+
+  pub odd_told : at ≢ 0 → IsCuttable st uid page (word_of st.ast uid page)
+      → told_of (with_truncated st uid words) uid
+      ≡ pages_cut (cut_first (told_of st uid) (home_in st uid) uid page at (word_of st.ast uid page))
+      (home_in st uid) uid (pages_past st uid words)
+  odd_told odd may =
+      let now = with_cut st uid page at (word_of st.ast uid page) in
+      ap (λ (b : Bool). told_of (without_pages (cut_or_not b) uid (pages_past st uid words)) uid)
+      (ne_eqb at 0 odd)
+      ∙ (some_told now uid (pages_past st uid words)
+      ∙ (ap (λ (h : Home). pages_cut (told_of now uid) h uid (pages_past st uid words))
+      (home_same st now uid (cut_keeps st uid page at (word_of st.ast uid page) may))
+      ∙ ap (λ (x : Paged). pages_cut x (home_in st uid) uid (pages_past st uid words))
+      (cut_told st uid page at (word_of st.ast uid page) may)))
+
+  pub truncated_keeps : (at ≢ 0 → IsCuttable st uid page (word_of st.ast uid page))
+      → KeepsOthers st (with_truncated st uid words) uid
+  truncated_keeps may = elim (cases_eq at 0) [
+    | inl even ↦ subst (λ (b : Bool). KeepsOthers st
+        (without_pages (cut_or_not b) uid (pages_past st uid words)) uid) (sym (eq-eqb at 0 even))
+        (some_keeps st uid (pages_past st uid words))
+    | inr odd ↦ subst (λ (b : Bool). KeepsOthers st
+        (without_pages (cut_or_not b) uid (pages_past st uid words)) uid) (sym (ne_eqb at 0 odd))
+        (let now = with_cut st uid page at (word_of st.ast uid page) in
+        keeps_both st now (without_pages now uid (pages_past st uid words)) uid
+        (cut_keeps st uid page at (word_of st.ast uid page) (may odd))
+        (some_keeps now uid (pages_past st uid words)))
+  ]

@@ -1,0 +1,642 @@
+-- A segment that is truncated, exactly.
+use Rattle.std.proofs.Common.{◌≡◌, ◌≢◌, ◌<◌, ◌≤◌, ◌+◌, ◌-◌, ◌*◌, ◌/◌, ◌%◌, ℕ, suc, zero, Bool, true, false, not}
+use Rattle.std.proofs.Common.{◌&&◌, ◌||◌, cond, eqb, length, map, List, [], ◌∷◌, Option, Some, None, inl, inr}
+use Rattle.std.proofs.Common.{refl, sym, ap, subst, ◌∙◌, arith}
+use Rattle.std.specs.Prelude.{Result, Ok, Err, nat_lt}
+use Rattle.std.specs.List.{range_with_len}
+use Rattle.std.proofs.lemmas.Bool.{cases_eq, cases_lt, eq-eqb, le-ltb, lt-ltb, ne_eqb}
+use Rattle.std.proofs.lemmas.List.{get_or_past}
+use Rattle.script.specs.Plans.{Plan}
+use Rattle.script.specs.declared.commands.Command.TheVariants as command
+use Rattle.book.specs.declared.entries.Entry.{Entry}
+use Rattle.book.specs.declared.entries.Entry.TheVariants as entry
+use Rattle.book.specs.declared.replies.Reply.{Reply}
+use Rattle.book.specs.declared.replies.Reply.TheVariants as reply
+use Rattle.tree_model.specs.Tree.{InSegment, LeadsTo, Missing, Node, Walk, node_in, walk_in}
+use Rattle.dir_tree.specs.declared.node.PathFault.{PathFault}
+use Rattle.dir_tree.specs.Nodes.{path_answer}
+use Rattle.accounts.specs.Maps.{AccountMaps, HasColumns, count_of}
+use Rattle.quota_cells.specs.Accounts.{look}
+use Rattle.custody_model.specs.Custody.{has}
+use Rattle.flat_model.specs.Branches.{done_at, node_at, only_segment, segment_at, walked}
+use Rattle.flat_model.specs.Commands.{takes_effect}
+use Rattle.flat_model.specs.Sizes.{after_truncate, truncate_reply}
+use Rattle.flat_model.specs.Store.{Store}
+use Rattle.core_map.specs.declared.Frame.TheVariants.{Free}
+use Rattle.core_map.specs.CoreMap.{bound_page, frame_at, is_bound}
+use Rattle.page_table.specs.declared.Ptw.{Ptw}
+use Rattle.page_table.specs.declared.Ptw.TheVariants.{Here, Leaving, Null, Out}
+use Rattle.active_segs.specs.declared.Entry.{Entry as Segment}
+use Rattle.active_segs.specs.Active.{ActiveSegs, IsActive}
+use Rattle.page_control.specs.declared.Home.{Home}
+use Rattle.page_control.specs.Effects.{cut}
+use Rattle.page_control.specs.Plain.{frame_in, number_in, plain, words_in}
+use Rattle.page_control.specs.Picture.{is_filed_at}
+use Rattle.page_control.specs.Tied.{frame_of, has_record, is_out, uid_in}
+use Rattle.page_control.specs.Ties.{IsTied}
+use Rattle.seg_control.specs.Control.{place_of, table_of, word_of}
+use Rattle.seg_control.specs.Effects.{worded}
+use Rattle.seg_control.specs.Kept.{IsKept}
+use Rattle.volumes.specs.Volumes.{HasParts}
+use Rattle.storage_ops.specs.Cut.{Commits, CutsPages, IsTakenPast, IsTakenPastAt, KeepsRest, is_here}
+use Rattle.storage_ops.specs.Cut.{leaves as frame_left}
+use Rattle.storage_ops.specs.CutOff.{CountsOthers, Paged, cut_at, cut_by, is_cleared, page_cleared, page_cut, paged}
+use Rattle.storage_ops.specs.CutOff.{pages_cut, pages_from}
+use Rattle.storage_ops.specs.Shown.{IsStore, Shows, Storage as Stored, answered, home_of, is_there, pages_in}
+use Rattle.storage_ops.proofs.Changed.{segment_refuses}
+use Rattle.storage_ops.proofs.PathLaws.{walked_to}
+use Rattle.machine_model.specs.Commits.{first_past, frame_entry, stays, with_effect, with_truncated}
+use Rattle.machine_model.specs.Jobs.{are_zeros, page_in, page_or_zero}
+use Rattle.machine_model.specs.Keeps.{IsFaithful}
+use Rattle.machine_model.specs.Reads.{is_active}
+use Rattle.machine_model.specs.Ready.{OwnsFor, OwnsFrom}
+use Rattle.machine_model.specs.Refusal.{uid_at_path}
+use Rattle.machine_model.specs.State.{Storage}
+use Rattle.machine_model.proofs.ActiveSeen.{active_place}
+use Rattle.machine_model.proofs.ListLaws.{map_list}
+use Rattle.machine_model.proofs.QuotaTotals.{found_uid}
+use Rattle.machine_model.proofs.TieLaws.{none_some, page_is}
+use Rattle.machine_model.proofs.TransferKept.{active_at}
+use Rattle.machine_tables.specs.Committed.{IsCommitted}
+use Rattle.machine_tables.specs.Gone.{is_kept, left_entry}
+use Rattle.machine_tables.specs.Parts.{shown}
+use Rattle.machine_tables.specs.Truncated.{IsCommittedBut, here_again, uid_found}
+use Rattle.machine_tables.proofs.ColumnLaws.{columns_same, segments_same}
+use Rattle.machine_tables.proofs.CommitLaws.{segment_node, segment_uid}
+use Rattle.machine_tables.proofs.DeleteLaws.{IsNamed, page_drops}
+use Rattle.machine_tables.proofs.DeletedLaws.{names, node_there}
+use Rattle.machine_tables.proofs.OrderLaws.{IsAlone, IsNullFrom, again, cleared_same, cut_first, cut_gone, null_more}
+use Rattle.machine_tables.proofs.OrderLaws.{some_order}
+use Rattle.machine_tables.proofs.RefusalLaws.{shows_of}
+use Rattle.machine_tables.proofs.TakeLaws.{bound_parts}
+use Rattle.machine_tables.proofs.TruncateLaws.{IsCuttable, KeepsOthers, even_told, odd_told, told_of, truncated_keeps}
+
+-- ---- the page that is cut
+
+-- The page that is cut isn't in use, nor on its record alone; the frame that it is on its way out of has no other page.
+pub record IsLeaving (x : Paged) (uid p : ℕ) : Type 0 where
+  pub away : is_here (word_of x.ast uid p) ≡ false
+  pub inside : is_out (word_of x.ast uid p) ≡ false
+  pub alone : (f : ℕ) → word_of x.ast uid p ≡ Leaving f → IsAlone x uid p f
+
+-- a page that was cut, and comes back where it stays
+cut_again : (x : Paged) (home : Home) (uid p at : ℕ) (w : Ptw) → word_of x.ast uid p ≡ w → is_here w ≡ false
+    → is_out w ≡ false → again (cut_by x home uid p at w) uid p (word_of (cut_by x home uid p at w).ast uid p)
+    ≡ cut_first x home uid p at w
+cut_again x home uid p at Null word away inside = ap (again x uid p) word
+cut_again x home uid p at (Out r) word away inside = absurd (let no : true ≡ false = inside in cc)
+cut_again x home uid p at (Here f) word away inside = absurd (let no : true ≡ false = away in cc)
+cut_again x home uid p at (Leaving f) word away inside = by (is_cleared x at (Leaving f))
+  where
+    y : Paged
+    y = page_cleared x at (Leaving f)
+
+    gone : Paged
+    gone = page_cut y home uid p (Leaving f)
+
+    by : (b : Bool) → again (cond b gone y) uid p (word_of (cond b gone y).ast uid p)
+        ≡ cond b gone (again y uid p (Leaving f))
+    by true = ap (again gone uid p) (cut_gone y home uid p (Leaving f) word)
+    by false = ap (again y uid p) word
+
+some_other : (x : Paged) (home : Home) (uid p from n : ℕ) → p < from → IsNamed x home uid
+    → word_of (pages_cut x home uid (range_with_len from n)).ast uid p ≡ word_of x.ast uid p
+some_other x home uid p from zero lt named = refl
+some_other x home uid p from (suc n) lt named =
+    let drops = page_drops x home uid from (word_of x.ast uid from) refl named in
+    some_other (page_cut x home uid from (word_of x.ast uid from)) home uid p (from + 1) n (omega (arith, lt))
+    drops.named ∙ drops.words p (λ e. (omega (arith, lt, e)))
+
+-- how many of the pages that aren't stored are looked at
+null_same : (x : Paged) (home : Home) (uid from n m : ℕ) → IsNamed x home uid → IsNullFrom x uid (from + n)
+    → IsNullFrom x uid (from + m)
+    → pages_cut x home uid (range_with_len from n) ≡ pages_cut x home uid (range_with_len from m)
+null_same x home uid from n m named short long = elim (cases_lt n m) [
+  | inl lt ↦ (let more : n + (m - n) ≡ m = omega (arith, lt) in
+      sym (null_more x home uid from n (m - n) named short)
+      ∙ ap (λ (k : ℕ). pages_cut x home uid (range_with_len from k)) more)
+  | inr le ↦ (let more : m + (n - m) ≡ n = omega (arith, le) in
+      sym (ap (λ (k : ℕ). pages_cut x home uid (range_with_len from k)) more)
+      ∙ null_more x home uid from m (n - m) named long)
+]
+
+module _ (x : Paged) (home : Home) (uid size words : ℕ) (named : IsNamed x home uid) (null : IsNullFrom x uid size) where
+  abbrev number : ℕ
+  number = words / 1024
+
+  abbrev at : ℕ
+  at = words % 1024
+
+  abbrev long : ℕ
+  long = length (table_of x.ast uid)
+
+  -- a page past all of them
+  past_null : (from : ℕ) → IsNullFrom x uid (from + (size - from))
+  past_null from = record { null = λ q le. null.null q (omega (arith, le)) }
+
+  past_table : (from : ℕ) → IsNullFrom x uid (from + (long - from))
+  past_table from = record { null = λ q le. get_or_past (table_of x.ast uid) q Null (omega (arith, le)) }
+
+  all_past : (from : ℕ) → pages_cut x home uid (range_with_len from (size - from))
+      ≡ pages_cut x home uid (range_with_len from (long - from))
+  all_past from = null_same x home uid from (size - from) (long - from) named (past_null from) (past_table from)
+
+  abbrev now : Paged
+  now = cut_at x home uid size words
+
+  abbrev past : Paged
+  past = pages_cut x home uid (range_with_len (number + 1) (size - (number + 1)))
+
+  -- the cut is at the first word of a page
+  pub even_cut : at ≡ 0 → word_of now.ast uid number ≡ Null → again now uid number (word_of now.ast uid number)
+      ≡ pages_cut x home uid (range_with_len (first_past words) (long - first_past words))
+  even_cut even gone =
+      let first : first_past words ≡ number = omega (arith, even) in
+      ap (again now uid number) gone
+      ∙ (ap (λ (b : Bool). cond b (pages_cut x home uid (pages_from number size)) (cut_by past home uid number at
+      (word_of past.ast uid number))) (eq-eqb at 0 even)
+      ∙ (all_past number
+      ∙ ap (λ (k : ℕ). pages_cut x home uid (range_with_len k (long - k))) (sym first)))
+
+  -- it is within a page
+  pub odd_cut : at ≢ 0 → IsLeaving x uid number → again now uid number (word_of now.ast uid number)
+      ≡ pages_cut (cut_first x home uid number at (word_of x.ast uid number)) home uid
+      (range_with_len (first_past words) (long - first_past words))
+  odd_cut odd leaving = within ∙ (kept ∙ (by (word_of x.ast uid number) refl
+      ∙ ap (λ (k : ℕ). pages_cut (cut_first x home uid number at (word_of x.ast uid number)) home uid
+      (range_with_len k (long - k))) (sym first)))
+    where
+      first : first_past words ≡ number + 1
+      first = omega (arith, odd)
+
+      stays : word_of past.ast uid number ≡ word_of x.ast uid number
+      stays = some_other x home uid number (number + 1) (size - (number + 1)) (omega arith) named
+
+      within : again now uid number (word_of now.ast uid number)
+          ≡ again (cut_by past home uid number at (word_of x.ast uid number)) uid number
+          (word_of (cut_by past home uid number at (word_of x.ast uid number)).ast uid number)
+      within = ap (λ (y : Paged). again y uid number (word_of y.ast uid number))
+          (ap (λ (b : Bool). cond b (pages_cut x home uid (pages_from number size)) (cut_by past home uid number at
+          (word_of past.ast uid number))) (ne_eqb at 0 odd) ∙ ap (cut_by past home uid number at) stays)
+
+      kept : again (cut_by past home uid number at (word_of x.ast uid number)) uid number
+          (word_of (cut_by past home uid number at (word_of x.ast uid number)).ast uid number)
+          ≡ cut_first past home uid number at (word_of x.ast uid number)
+      kept = cut_again past home uid number at (word_of x.ast uid number) stays leaving.away leaving.inside
+
+      by : (w : Ptw) → word_of x.ast uid number ≡ w → cut_first past home uid number at (word_of x.ast uid number)
+          ≡ pages_cut (cut_first x home uid number at (word_of x.ast uid number)) home uid
+          (range_with_len (number + 1) (long - (number + 1)))
+      by Null e = ap (cut_first past home uid number at) e
+          ∙ (all_past (number + 1)
+          ∙ ap (λ (w : Ptw). pages_cut (cut_first x home uid number at w) home uid
+          (range_with_len (number + 1) (long - (number + 1)))) (sym e))
+      by (Out r) e = absurd (let no : true ≡ false = sym (ap is_out e) ∙ leaving.inside in cc)
+      by (Here f) e = absurd (let no : true ≡ false = sym (ap is_here e) ∙ leaving.away in cc)
+      by (Leaving f) e = ap (cut_first past home uid number at) e
+          ∙ (ap (λ (y : Paged). cut_first y home uid number at (Leaving f)) (all_past (number + 1))
+          ∙ (sym (some_order x home uid number at f (number + 1) (long - (number + 1)) (omega arith) named
+          (leaving.alone f e))
+          ∙ ap (λ (w : Ptw). pages_cut (cut_first x home uid number at w) home uid
+          (range_with_len (number + 1) (long - (number + 1)))) (sym e)))
+
+-- ---- what the segment is like before
+
+-- the frame of a page of an active segment is bound to it
+pub leaving_bound : (st : Storage) (uid p f : ℕ) → IsKept st.pages st.ast st.links → is_active st.ast uid ≡ true
+    → word_of st.ast uid p ≡ Leaving f → bound_page (frame_in st.pages f) ≡ Some (uid, p)
+leaving_bound st uid p f kept active e = sym (map_list bound_page st.pages.core.frames f Free)
+    ∙ (kept.paged.tables (place_of st.ast.entries uid) uid (active_place st.ast uid active).1).back f p (ap frame_of e)
+
+-- a page that comes back
+pub record ComesBack {D : Type 0} (t : Stored D) (uid p f : ℕ) : Type 0 where
+  pub bound : is_bound (frame_at t.segs.pages.core f) ≡ true
+  pub own : uid_in (frame_at t.segs.pages.core f) ≡ uid
+  pub number : number_in (frame_at t.segs.pages.core f) ≡ p
+  pub word : word_of t.segs.ast uid p ≡ Leaving f
+
+pub comes_back : {D : Type 0} (drive : D → List (List ℕ)) (t : Stored D) (uid p f : ℕ)
+    → IsKept (plain drive t.segs.pages) t.segs.ast t.segs.links → IsActive t.segs.ast.entries uid
+    → Some f ≡ frame_left (word_of t.segs.ast uid p) → ComesBack t uid p f
+comes_back drive t uid p f kept active left = by (word_of t.segs.ast uid p) refl left
+  where
+    by : (w : Ptw) → word_of t.segs.ast uid p ≡ w → Some f ≡ frame_left w → ComesBack t uid p f
+    by Null e i = absurd (none_some (sym i))
+    by (Out r) e i = absurd (none_some (sym i))
+    by (Here g) e i = absurd (none_some (sym i))
+    by (Leaving g) e i =
+        let same : f ≡ g = cc in
+        let word : word_of t.segs.ast uid p ≡ Leaving f = e ∙ ap (λ (k : ℕ). Leaving k) (sym same) in
+        let parts = bound_parts (frame_at t.segs.pages.core f) uid p (leaving_bound (shown drive t) uid p f kept
+        (active_at t.segs.ast active.0 uid active.1) word) in
+        record { bound = parts.0; own = parts.1; number = parts.2; word = word }
+
+pub back_is : (ast : ActiveSegs) (uid p q f : ℕ) (w : Ptw) → w ≡ Leaving f → q ≡ p
+    → worded ast uid q (Here f) ≡ here_again ast uid p w
+back_is ast uid p q f w is at = ap (λ (k : ℕ). worded ast uid k (Here f)) at ∙ ap (here_again ast uid p) (sym is)
+
+pub none_back : (ast : ActiveSegs) (uid p : ℕ) (w : Ptw) → None ≡ frame_left w → ast ≡ here_again ast uid p w
+none_back ast uid p Null e = refl
+none_back ast uid p (Out r) e = refl
+none_back ast uid p (Here f) e = refl
+none_back ast uid p (Leaving f) e = absurd (none_some e)
+
+module _ (st : Storage) (uid : ℕ) (kept : IsKept st.pages st.ast st.links)
+    (counted : IsStore st.pages st.ast st.links st.accounts st.whos) (there : is_there st.accounts.nodes uid ≡ true)
+    (active : is_active st.ast uid ≡ true) where
+  abbrev home : Home
+  home = home_of st.accounts uid
+
+  tie : IsTied st.pages uid home (table_of st.ast uid)
+  tie = kept.paged.ties (place_of st.ast.entries uid) uid home (active_place st.ast uid active).1 (record {
+    used = counted.housed.homes uid there;
+    only = λ other e. counted.housed.only other uid e;
+  })
+
+  pub alone_in : (p f : ℕ) → word_of st.ast uid p ≡ Leaving f → IsAlone (told_of st uid) uid p f
+  alone_in p f e = record {
+    word = e;
+    others = λ q ne at. ne (page_is uid q uid p (sym (leaving_bound st uid q f kept active at)
+        ∙ leaving_bound st uid p f kept active e)).1;
+  }
+
+  is_stored : (q : ℕ) → has_record (word_of st.ast uid q) ≡ true → is_filed_at st.pages.vtocs home q ≡ true
+  unfolding is_filed_at
+  is_stored q e = tie.map.stored q ∙ e
+
+  pub null_past : IsNullFrom (told_of st uid) uid (pages_in st.accounts.nodes uid)
+  null_past = record { null = λ q le. by q le (word_of st.ast uid q) refl }
+    where
+      not_stored : (q : ℕ) → pages_in st.accounts.nodes uid ≤ q → has_record (word_of st.ast uid q) ≢ true
+      not_stored q le e = let lt = counted.counted.inside uid q there (is_stored q e) in omega (arith, le, lt)
+
+      by : (q : ℕ) → pages_in st.accounts.nodes uid ≤ q → (w : Ptw) → word_of st.ast uid q ≡ w
+          → word_of st.ast uid q ≡ Null
+      by q le Null e = e
+      by q le (Out r) e = absurd (not_stored q le (ap has_record e))
+      by q le (Here f) e = absurd (not_stored q le (ap has_record e))
+      by q le (Leaving f) e = absurd (not_stored q le (ap has_record e))
+
+  module _ (p : ℕ) (away : is_here (word_of st.ast uid p) ≡ false) (inside : is_out (word_of st.ast uid p) ≡ false)
+    where
+    pub leaving_in : IsLeaving (told_of st uid) uid p
+    leaving_in = record { away = away; inside = inside; alone = λ f e. alone_in p f e }
+
+    pub cuttable_in : IsCuttable st uid p (word_of st.ast uid p)
+    cuttable_in = record {
+      away = λ f e. (let no : true ≡ false = sym (ap is_here e) ∙ away in cc);
+      inside = λ r e. (let no : true ≡ false = sym (ap is_out e) ∙ inside in cc);
+      bound = λ f e. leaving_bound st uid p f kept active e;
+    }
+
+-- ---- the store
+
+map_same : (g h : ℕ → Entry) (fs : List ℕ) → ((f : ℕ) → has fs f ≡ true → g f ≡ h f) → map g fs ≡ map h fs
+map_same g h [] same = refl
+map_same g h (f ∷ fs) same =
+    let first : g f ≡ h f = same f (ap (λ (b : Bool). b || has fs f) (eq-eqb f f refl)) in
+    let rest : map g fs ≡ map h fs = map_same g h fs (λ k is. same k (ap (λ (b : Bool). eqb f k || b) is
+    ∙ last (eqb f k))) in
+    λ i. first i ∷ rest i
+  where
+    last : (b : Bool) → (b || true) ≡ true
+    last true = refl
+    last false = refl
+
+module _ {D : Type 0} (drive : D → List (List ℕ)) (t m u : Stored D) (n : Node) (words : ℕ)
+    (before : HasColumns t.accounts) (after : HasColumns m.accounts)
+    (kept : IsKept (plain drive t.segs.pages) t.segs.ast t.segs.links)
+    (counted : IsStore (plain drive t.segs.pages) t.segs.ast t.segs.links t.accounts t.whos)
+    (parts : HasParts (map drive t.segs.pages.volumes.drives) t.segs.pages.volumes.records
+    t.segs.pages.volumes.vtocs)
+    (there : is_there t.accounts.nodes n.uid ≡ true) (taken : IsTakenPast t.segs n.uid words)
+    (pages : CutsPages t m n.uid words)
+    (exact : paged drive m n.uid ≡ cut_at (paged drive t n.uid) (home_of t.accounts n.uid) n.uid
+    (pages_in t.accounts.nodes n.uid) words)
+    (others : CountsOthers t.accounts m.accounts n.uid)
+    (back : u ≡ record m { segs = record m.segs {
+      ast = here_again m.segs.ast n.uid (words / 1024) (word_of m.segs.ast n.uid (words / 1024));
+    } }) where
+  abbrev st : Storage
+  st = shown drive t
+
+  abbrev page : ℕ
+  page = words / 1024
+
+  abbrev target : Storage
+  target = with_truncated st n.uid words
+
+  active : is_active st.ast n.uid ≡ true
+  active = active_at st.ast taken.active.0 n.uid taken.active.1
+
+  named : IsNamed (told_of st n.uid) (home_of t.accounts n.uid) n.uid
+  named = names st n.uid kept counted parts there (count_of t.accounts n.uid) active
+
+  null : IsNullFrom (told_of st n.uid) n.uid (pages_in t.accounts.nodes n.uid)
+  null = null_past st n.uid kept counted there active
+
+  inside : words % 1024 ≢ 0 → is_out (word_of st.ast n.uid page) ≡ false
+  inside odd = taken.cut (omega (arith, odd))
+
+  away : is_here (word_of st.ast n.uid page) ≡ false
+  away = taken.past.taken page (omega arith)
+
+  even_gone : words % 1024 ≡ 0 → word_of m.segs.ast n.uid page ≡ Null
+  even_gone even = pages.unstores.gone page (pages.past page (omega (arith, even)))
+
+  keeps : KeepsOthers st target n.uid
+  keeps = truncated_keeps st n.uid words
+      (λ odd. cuttable_in st n.uid kept counted there active page away (inside odd))
+
+  told : told_of target n.uid ≡ again (paged drive m n.uid) n.uid page (word_of m.segs.ast n.uid page)
+  told = elim (cases_eq (words % 1024) 0) [
+    | inl even ↦ even_told st n.uid words even
+        ∙ (sym (even_cut (told_of st n.uid) (home_of t.accounts n.uid) n.uid (pages_in t.accounts.nodes n.uid) words
+        named null even (ap (λ (x : Paged). word_of x.ast n.uid page) (sym exact) ∙ even_gone even))
+        ∙ ap (λ (x : Paged). again x n.uid page (word_of x.ast n.uid page)) (sym exact))
+    | inr odd ↦ odd_told st n.uid words odd
+        (cuttable_in st n.uid kept counted there active page away (inside odd))
+        ∙ (sym (odd_cut (told_of st n.uid) (home_of t.accounts n.uid) n.uid (pages_in t.accounts.nodes n.uid) words
+        named null odd (leaving_in st n.uid kept counted there active page away (inside odd)))
+        ∙ ap (λ (x : Paged). again x n.uid page (word_of x.ast n.uid page)) (sym exact))
+  ]
+
+  segments : m.accounts.segments ≡ target.accounts.segments
+  segments = segments_same t.accounts m.accounts before after pages.unstores.nodes ∙ sym keeps.segments
+
+  counts : m.accounts.counts ≡ target.accounts.counts
+  counts = columns_same t.accounts.segments m.accounts.counts target.accounts.counts before.rising
+      (after.counted ∙ ap length same) (keeps.long ∙ before.counted)
+      (λ s is. ap (λ (ks : List ℕ). look ks m.accounts.counts s) (sym same)
+      ∙ (each s ∙ ap (λ (ks : List ℕ). look ks target.accounts.counts s) keeps.segments))
+    where
+      same : m.accounts.segments ≡ t.accounts.segments
+      same = segments_same t.accounts m.accounts before after pages.unstores.nodes
+
+      each : (s : ℕ) → count_of m.accounts s ≡ count_of target.accounts s
+      each s = elim (cases_eq s n.uid) [
+        | inl own ↦ ap (count_of m.accounts) own ∙ (sym (ap (λ (x : Paged). x.stored) told)
+            ∙ ap (count_of target.accounts) (sym own))
+        | inr other ↦ others s other ∙ sym (keeps.counts s other)
+      ]
+
+  accounts : m.accounts ≡ target.accounts
+  accounts = (λ i. record {
+    nodes = (pages.unstores.nodes ∙ sym keeps.nodes) i;
+    entries = (pages.unstores.entries ∙ sym keeps.entries) i;
+    next = (pages.unstores.next ∙ sym keeps.next) i;
+    segments = segments i;
+    counts = counts i;
+  })
+
+  pub truncated_exact : shown drive u ≡ target
+  truncated_exact = ap (shown drive) back ∙ (λ i. record {
+    accounts = accounts i;
+    pages = ap (λ (x : Paged). x.pages) (sym told) i;
+    ast = ap (λ (x : Paged). x.ast) (sym told) i;
+    links = (pages.unstores.links ∙ sym keeps.links) i;
+    whos = (pages.unstores.whos ∙ sym keeps.whos) i;
+  })
+
+  -- ---- the frames that were taken
+
+  cut_zeros : (f from k : ℕ) (x : Paged) → is_cleared (pages_cut x (home_of t.accounts n.uid) n.uid
+      (range_with_len from k)) (words % 1024) (Leaving f) ≡ is_cleared x (words % 1024) (Leaving f)
+  cut_zeros f from zero x = refl
+  cut_zeros f from (suc k) x =
+      let w = word_of x.ast n.uid from in
+      cut_zeros f (from + 1) k (page_cut x (home_of t.accounts n.uid) n.uid from w)
+      ∙ cleared_same x (home_of t.accounts n.uid) n.uid from (words % 1024) f w
+
+  abbrev kept_frame : Option ℕ
+  kept_frame = frame_left (word_of m.segs.ast n.uid page)
+
+  -- the page that is cut
+  odd_kept : (f : ℕ) → words % 1024 ≢ 0 → word_of st.ast n.uid page ≡ Leaving f
+      → is_kept kept_frame f ≡ not (is_cleared (told_of st n.uid) (words % 1024) (Leaving f))
+  odd_kept f odd word =
+      ap (λ (x : Paged). is_kept (frame_left (word_of x.ast n.uid page)) f)
+      (exact ∙ ap (λ (b : Bool). cond b (pages_cut x home n.uid (pages_from page size))
+      (cut_by past home n.uid page at (word_of past.ast n.uid page))) (ne_eqb at 0 odd)
+      ∙ ap (cut_by past home n.uid page at) stays)
+      ∙ (by (is_cleared past at (Leaving f))
+      ∙ ap not (cut_zeros f (page + 1) (size - (page + 1)) x))
+    where
+      x : Paged
+      x = told_of st n.uid
+
+      home : Home
+      home = home_of t.accounts n.uid
+
+      size : ℕ
+      size = pages_in t.accounts.nodes n.uid
+
+      at : ℕ
+      at = words % 1024
+
+      past : Paged
+      past = pages_cut x home n.uid (range_with_len (page + 1) (size - (page + 1)))
+
+      stays : word_of past.ast n.uid page ≡ Leaving f
+      stays = some_other x home n.uid page (page + 1) (size - (page + 1)) (omega arith) named ∙ word
+
+      now : Paged
+      now = page_cleared past at (Leaving f)
+
+      by : (b : Bool) → is_kept (frame_left (word_of (cond b (page_cut now home n.uid page (Leaving f)) now).ast
+          n.uid page)) f ≡ not b
+      by true = ap (λ (w : Ptw). is_kept (frame_left w) f) (cut_gone now home n.uid page (Leaving f) stays)
+      by false = ap (λ (w : Ptw). is_kept (frame_left w) f) stays ∙ eq-eqb f f refl
+
+  -- a page past it
+  past_gone : (f p : ℕ) → page < p → word_of st.ast n.uid p ≡ Leaving f → is_kept kept_frame f ≡ false
+  past_gone f p lt word = by (word_of m.segs.ast n.uid page) refl (pages.test page) refl
+    where
+      by : (w : Ptw) → word_of m.segs.ast n.uid page ≡ w → (b : Bool) → pages.test page ≡ b
+          → is_kept (frame_left w) f ≡ false
+      by Null e b i = refl
+      by (Out r) e b i = refl
+      by (Here g) e b i = refl
+      by (Leaving g) e true i = absurd (let no : Null ≡ Leaving g = sym (pages.unstores.gone page i) ∙ e in cc)
+      by (Leaving g) e false i = ne_eqb g f (λ same.
+          (let was = leaving_bound st n.uid page g kept active (sym (pages.unstores.kept page i) ∙ e) in
+          let its = leaving_bound st n.uid p f kept active word in
+          let one = (page_is n.uid page n.uid p (sym was
+          ∙ (ap (λ (k : ℕ). bound_page (frame_in st.pages k)) same ∙ its))).1 in omega (arith, lt, one)))
+
+  -- each is booked by whether its page stays
+  each_kept : (frames : List ℕ) → OwnsFrom st n.uid page frames → (f : ℕ) → has frames f ≡ true
+      → is_kept kept_frame f ≡ stays st words f
+  each_kept frames owns f there_is = whether ∙ sym (ap (λ (o : Option (ℕ × ℕ)). nat_lt (1024 * (page_or_zero o).1) words
+      && zeros) own.2)
+    where
+      own : (p : ℕ) × (page ≤ p) × (bound_page (frame_at st.pages.core f) ≡ Some (n.uid, p))
+          × (word_of st.ast n.uid p ≡ Leaving f)
+      own = owns.pages f there_is
+
+      zeros : Bool
+      zeros = not (are_zeros (words_in (cut st.pages f (words % 1024)) f))
+
+      whether : is_kept kept_frame f ≡ (nat_lt (1024 * own.0) words && zeros)
+      whether = elim (cases_eq own.0 page) [
+        | inl same ↦ elim (cases_eq (words % 1024) 0) [
+          | inl even ↦ ap (λ (w : Ptw). is_kept (frame_left w) f) (even_gone even)
+              ∙ sym (ap (λ (b : Bool). b && zeros) (le-ltb (1024 * own.0) words (omega (arith, same, even))))
+          | inr odd ↦ odd_kept f odd (ap (word_of st.ast n.uid) (sym same) ∙ own.3)
+              ∙ sym (ap (λ (b : Bool). b && zeros) (lt-ltb (1024 * own.0) words (omega (arith, same, odd))))
+        ]
+        | inr other ↦ past_gone f own.0 (let le = own.1 in omega (arith, le, other)) own.3
+            ∙ sym (ap (λ (b : Bool). b && zeros) (le-ltb (1024 * own.0) words
+            (let le = own.1 in omega (arith, le, other))))
+      ]
+
+  pub truncated_left : (path : List (List ℕ)) (frames : List ℕ) → OwnsFrom st n.uid page frames
+      → map (left_entry kept_frame) frames ≡ map (frame_entry st (command.Truncate path words)) frames
+  truncated_left path frames owns = map_same (left_entry kept_frame)
+      (frame_entry st (command.Truncate path words)) frames
+      (λ f is. ap (λ (b : Bool). cond b (entry.BackPage f) (entry.GonePage f)) (each_kept frames owns f is))
+
+-- ---- the command
+
+pub not_leaving : (w : Ptw) → ((f : ℕ) → w ≢ Leaving f) → None ≡ frame_left w
+not_leaving Null isnt = refl
+not_leaving (Out r) isnt = refl
+not_leaving (Here f) isnt = refl
+not_leaving (Leaving f) isnt = absurd (isnt f refl)
+
+found_node : (x : Result Node Reply) (uid : ℕ) → Some uid ≡ uid_found x → (n : Node) × (x ≡ Ok n) × (uid ≡ n.uid)
+found_node (Ok n) uid e = (n, refl, let same : uid ≡ n.uid = cc in same)
+found_node (Err r) uid e = absurd (none_some (sym e))
+
+-- the segment that a walk leads to
+walked_found : (ns : List Node) (path : List (List ℕ)) (uid : ℕ) (n : Node)
+    → Ok uid ≡ path_answer (walk_in ns path) → node_in ns uid ≡ Some n
+    → uid_found (segment_at ns path) ≡ cond n.directory None (Some uid)
+walked_found ns path uid n to found = ap (λ (x : Result Node Reply). uid_found (only_segment x))
+    (walked_to ns path uid n to found) ∙ by n.directory
+  where
+    by : (b : Bool) → uid_found (cond b (Err reply.IsDir) (Ok n)) ≡ cond b None (Some uid)
+    by true = refl
+    by false = ap (λ (v : ℕ). Some v) (found_uid ns uid n found)
+
+pub is_segment : (ns : List Node) (path : List (List ℕ)) (uid : ℕ) (n : Node)
+    → Ok uid ≡ path_answer (walk_in ns path) → node_in ns uid ≡ Some n → n.directory ≡ false
+    → Some uid ≡ uid_found (segment_at ns path)
+is_segment ns path uid n to found kind = sym (walked_found ns path uid n to found
+    ∙ ap (λ (b : Bool). cond b None (Some uid)) kind)
+
+pub is_directory : (ns : List Node) (path : List (List ℕ)) (uid : ℕ) (n : Node)
+    → Ok uid ≡ path_answer (walk_in ns path) → node_in ns uid ≡ Some n → n.directory ≡ true
+    → None ≡ uid_found (segment_at ns path)
+is_directory ns path uid n to found kind = sym (walked_found ns path uid n to found
+    ∙ ap (λ (b : Bool). cond b None (Some uid)) kind)
+
+pub is_nothing : (ns : List Node) (path : List (List ℕ)) (fault : PathFault)
+    → Err fault ≡ path_answer (walk_in ns path) → None ≡ uid_found (segment_at ns path)
+unfolding node_at
+is_nothing ns path fault to = by (walk_in ns path) to
+  where
+    by : (w : Walk) → Err fault ≡ path_answer w → None ≡ uid_found (only_segment (walked ns w))
+    by (LeadsTo uid) e = absurd (let no : ◌≡◌ {A = Result ℕ PathFault} (Err fault) (Ok uid) = e in cc)
+    by Missing e = refl
+    by InSegment e = refl
+
+module _ {D : Type 0} (drive : D → List (List ℕ)) (t m : Stored D) (path : List (List ℕ)) (words : ℕ) (r : Reply)
+    (answer : (p : Plan) (s : Store) → Shows drive p s t → r ≡ truncate_reply s path)
+    (effect : (p : Plan) (s : Store) → Shows drive p s t
+    → Shows drive p (answered r s (after_truncate s path words)) m) (rest : KeepsRest t m) where
+  abbrev old : Storage
+  old = shown drive t
+
+  -- where it takes effect, the path leads to a segment
+  takes_at : (p : Plan) (flat : Store) → IsFaithful p flat old → takes_effect r ≡ true
+      → (n : Node) × (segment_at t.accounts.nodes path ≡ Ok n)
+  unfolding truncate_reply
+  takes_at p flat faithful takes = by (segment_at flat.nodes path) refl
+    where
+      by : (x : Result Node Reply) → segment_at flat.nodes path ≡ x
+          → (n : Node) × (segment_at t.accounts.nodes path ≡ Ok n)
+      by (Err q) e = absurd (
+          let is : r ≡ q = answer p flat (shows_of drive p flat t faithful) ∙ ap done_at e in
+          let no : false ≡ true = sym (segment_refuses flat.nodes path q e) ∙ (ap takes_effect (sym is) ∙ takes) in cc)
+      by (Ok n) e = (n, ap (λ (ns : List Node). segment_at ns path) (sym faithful.tree.nodes) ∙ e)
+
+  -- no segment is there
+  pub truncate_refused : None ≡ uid_found (segment_at t.accounts.nodes path) → (k : ℕ) (frames : List ℕ)
+      → IsCommittedBut drive t m k frames (command.Truncate path words) r None
+  truncate_refused none k frames = record {
+    committed = record {
+      does = record { answer = answer; effect = effect };
+      exact = λ p flat faithful takes. absurd (nowhere p flat faithful takes);
+      drives = rest.drives;
+    };
+    left = λ p flat faithful takes. absurd (nowhere p flat faithful takes);
+  }
+    where
+      nowhere : (p : Plan) (flat : Store) → IsFaithful p flat old → takes_effect r ≡ true → ⊥
+      nowhere p flat faithful takes = let at = takes_at p flat faithful takes in
+          none_some (none ∙ ap uid_found at.1)
+
+  module _ (u : Stored D) (before : HasColumns t.accounts) (after : HasColumns m.accounts)
+      (kept : IsKept (plain drive t.segs.pages) t.segs.ast t.segs.links)
+      (counted : IsStore (plain drive t.segs.pages) t.segs.ast t.segs.links t.accounts t.whos)
+      (parts : HasParts (map drive t.segs.pages.volumes.drives) t.segs.pages.volumes.records
+      t.segs.pages.volumes.vtocs) (taken : IsTakenPastAt t.accounts t.segs path words)
+      (pages : (n : Node) → segment_at t.accounts.nodes path ≡ Ok n → CutsPages t m n.uid words)
+      (exact : (n : Node) → segment_at t.accounts.nodes path ≡ Ok n → paged drive m n.uid
+      ≡ cut_at (paged drive t n.uid) (home_of t.accounts n.uid) n.uid (pages_in t.accounts.nodes n.uid) words)
+      (others : (n : Node) → segment_at t.accounts.nodes path ≡ Ok n → CountsOthers t.accounts m.accounts n.uid)
+      (uid : ℕ) (found : Some uid ≡ uid_found (segment_at t.accounts.nodes path)) where
+    abbrev word : Ptw
+    word = word_of m.segs.ast uid (words / 1024)
+
+    its : (n : Node) × (segment_at t.accounts.nodes path ≡ Ok n) × (uid ≡ n.uid)
+    its = found_node (segment_at t.accounts.nodes path) uid found
+
+    -- the segment is active still
+    pub still_active : IsActive m.segs.ast.entries uid
+    still_active = subst (IsActive m.segs.ast.entries) (sym its.2)
+        (subst (λ (es : List (Option Segment)). IsActive es its.0.uid) (sym (pages its.0 its.1).unstores.places)
+        (taken its.0 its.1).active)
+
+    module _ (back : u ≡ record m { segs = record m.segs {
+          ast = here_again m.segs.ast uid (words / 1024) (word_of m.segs.ast uid (words / 1024));
+        } }) (shown_still : (p : Plan) (s : Store) → Shows drive p s m → Shows drive p s u) where
+      there : is_there t.accounts.nodes its.0.uid ≡ true
+      there = node_there t.accounts.nodes path its.0 (segment_node t.accounts.nodes path its.0 its.1)
+
+      back_at : u ≡ record m { segs = record m.segs {
+        ast = here_again m.segs.ast its.0.uid (words / 1024) (word_of m.segs.ast its.0.uid (words / 1024));
+      } }
+      back_at = back ∙ ap (λ (v : ℕ). record m { segs = record m.segs {
+        ast = here_again m.segs.ast v (words / 1024) (word_of m.segs.ast v (words / 1024));
+      } }) its.2
+
+      store_is : shown drive u ≡ with_truncated old its.0.uid words
+      store_is = truncated_exact drive t m u its.0 words before after kept counted parts there (taken its.0 its.1)
+          (pages its.0 its.1) (exact its.0 its.1) (others its.0 its.1) back_at
+
+      frames_left : (frames : List ℕ) → OwnsFrom old its.0.uid (words / 1024) frames
+          → map (left_entry (frame_left word)) frames ≡ map (frame_entry old (command.Truncate path words)) frames
+      frames_left frames owns = ap (λ (v : ℕ). map (left_entry (frame_left (word_of m.segs.ast v (words / 1024))))
+          frames) its.2
+          ∙ truncated_left drive t m u its.0 words before after kept counted parts there (taken its.0 its.1)
+          (pages its.0 its.1) (exact its.0 its.1) (others its.0 its.1) back_at path frames owns
+
+      pub truncate_committed : (k : ℕ) (frames : List ℕ) → OwnsFor old frames (command.Truncate path words)
+          → (o : Option ℕ) → o ≡ frame_left word
+          → IsCommittedBut drive t u k frames (command.Truncate path words) r o
+      truncate_committed k frames owns o is = record {
+        committed = record {
+          does = record {
+            answer = answer;
+            effect = λ p s shows. shown_still p (answered r s (after_truncate s path words)) (effect p s shows);
+          };
+          exact = λ p flat faithful takes. store_is
+              ∙ ap (λ (v : ℕ). with_effect old k v frames (command.Truncate path words))
+              (sym (segment_uid t.accounts.nodes path its.0 its.1));
+          drives = ap (λ (x : Stored D). x.segs.pages.volumes.drives) back ∙ rest.drives;
+        };
+        left = λ p flat faithful takes. ap (λ (v : Option ℕ). map (left_entry v) frames) is
+            ∙ frames_left frames (owns its.0 its.1);
+      }
