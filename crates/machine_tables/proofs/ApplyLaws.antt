@@ -1,5 +1,5 @@
 -- The next command of a process takes effect in the store of the tables.
-use Rattle.std.proofs.Common.{◌≡◌, ℕ, List, Option, Some, None, sym, ap, subst, ◌∙◌}
+use Rattle.std.proofs.Common.{◌≡◌, ℕ, List, map, Option, Some, None, sym, ap, subst, ◌∙◌}
 use Rattle.script.specs.References.{reference_of}
 use Rattle.script.specs.declared.commands.Command.{Command}
 use Rattle.script.specs.declared.commands.Command.TheVariants as command
@@ -9,13 +9,16 @@ use Rattle.flat_model.specs.Commands.{effect_by, effect_of_tree_command}
 use Rattle.flat_model.specs.Store.{Store}
 use Rattle.storage_ops.specs.Cut.{IsReady}
 use Rattle.storage_ops.specs.Shown.{Shows, Storage as Stored, answered}
+use Rattle.machine_model.specs.Commits.{frame_entry}
 use Rattle.machine_model.specs.Keeps.{IsFaithful}
 use Rattle.machine_model.specs.Reads.{flat_of, next_command}
 use Rattle.machine_model.specs.Refusal.{reply_of}
 use Rattle.machine_model.specs.Said.{with_command}
 use Rattle.machine_model.specs.State.{State, Storage}
 use Rattle.machine_tables.specs.Committed.{HasEffect, IsCommitted, effect_for, reply_for}
+use Rattle.machine_tables.specs.Gone.{left_entry, next_frame_entry}
 use Rattle.machine_tables.specs.Parts.{shown}
+use Rattle.machine_tables.specs.Truncated.{IsCommittedBut}
 use Rattle.machine_model.specs.Ready.{IsReadyFor, OwnsFor}
 use Rattle.machine_tables.proofs.RefusalLaws.{shows_of}
 
@@ -40,12 +43,15 @@ ready_of drive t k command.End h = h
 ready_of drive t k c h = tt
 
 module _ {D : Type 0} (drive : D → List (List ℕ)) (s : State) (t u : Stored D) (k : ℕ) (frames : List ℕ) (x : Command)
-    (r : Reply) (inner : shown drive t ≡ s.store) (next : next_command s k ≡ Some x) (tree : reference_of x ≡ None)
+    (r : Reply) (kept : Option ℕ) (inner : shown drive t ≡ s.store) (next : next_command s k ≡ Some x) (tree : reference_of x ≡ None)
     (faithful : IsFaithful s.plan (flat_of s) s.store) (takes : HasEffect x (reply_of s k x))
     (owns : OwnsFor s.store frames x)
-    (committed : (fs : List ℕ) → OwnsFor (shown drive t) fs x → IsCommitted drive t u k fs x r) where
+    (committed : (fs : List ℕ) → OwnsFor (shown drive t) fs x → IsCommittedBut drive t u k fs x r kept) where
+  whole : IsCommittedBut drive t u k frames x r kept
+  whole = committed frames (subst (λ (st : Storage). OwnsFor st frames x) (sym inner) owns)
+
   commits : IsCommitted drive t u k frames x r
-  commits = committed frames (subst (λ (st : Storage). OwnsFor st frames x) (sym inner) owns)
+  commits = whole.committed
 
   shows : (flat : Store) → IsFaithful s.plan flat s.store → Shows drive s.plan flat t
   shows flat h = shows_of drive s.plan flat t (subst (IsFaithful s.plan flat) (sym inner) h)
@@ -56,6 +62,12 @@ module _ {D : Type 0} (drive : D → List (List ℕ)) (s : State) (t u : Stored 
 
   pub applied_reply : r ≡ reply_for s k (next_command s k)
   applied_reply = reply_is ∙ sym (ap (reply_for s k) next)
+
+  pub applied_left : map (left_entry kept) frames ≡ map (next_frame_entry s.store (next_command s k)) frames
+  applied_left = whole.left s.plan (flat_of s) (subst (IsFaithful s.plan (flat_of s)) (sym inner) faithful)
+      (subst (HasEffect x) (sym reply_is) takes)
+      ∙ (ap (λ (st : Storage). map (frame_entry st x) frames) inner
+      ∙ sym (ap (λ (o : Option Command). map (next_frame_entry s.store o) frames) next))
 
   pub applied_store : shown drive u ≡ effect_for (shown drive t) k frames (next_command s k)
   applied_store = commits.exact s.plan (flat_of s) (subst (IsFaithful s.plan (flat_of s)) (sym inner) faithful)

@@ -14,29 +14,11 @@ use Rattle.machine_model.specs.Refusal.{reply_of, uid_of_command}
 use Rattle.machine_model.specs.State.{Owner, State, Storage}
 use Rattle.machine_model.specs.Steps.{booked, left_at, told_by, with_owner, with_store}
 use Rattle.machine_tables.specs.Committed.{effect_for, reply_for}
-use Rattle.machine_tables.specs.Gone.{ends_in, gone_entry, goes_inactive, inactive_entry, left_entries}
+use Rattle.machine_tables.specs.Gone.{ends_in, goes_inactive, inactive_entry, left_entries, left_entry}
+use Rattle.machine_tables.specs.Gone.{next_frame_entry}
 use Rattle.machine_tables.specs.Parts.{Parts, with_state}
-use Rattle.machine_tables.specs.Ready.{cuts_page}
 
 -- ---- entries
-
-frames_named : (st : Storage) (x : Command) (frames : List ℕ) → cuts_page x ≡ false
-    → map gone_entry frames ≡ map (frame_entry st x) frames
-frames_named st (command.MkDir path volume) frames whole = refl
-frames_named st (command.MkSeg path pages volume) frames whole = refl
-frames_named st (command.Initiate path) frames whole = refl
-frames_named st (command.Terminate number) frames whole = refl
-frames_named st (command.Read number offset) frames whole = refl
-frames_named st (command.Write number offset word) frames whole = refl
-frames_named st (command.Add number offset word) frames whole = refl
-frames_named st (command.Await number offset word tries) frames whole = refl
-frames_named st (command.Acl path row m) frames whole = refl
-frames_named st (command.Length path pages) frames whole = refl
-frames_named st (command.Truncate path words) frames whole = absurd (let no : true ≡ false = whole in cc)
-frames_named st (command.Delete path) frames whole = refl
-frames_named st (command.Move path amount) frames whole = refl
-frames_named st (command.Status path) frames whole = refl
-frames_named st command.End frames whole = refl
 
 inactive_named : (st : Storage) (k : ℕ) (x : Command)
     → inactive_entry (goes_inactive st k (Some x)) ≡ inactive_entries st (uid_of_command st k x) x
@@ -61,12 +43,12 @@ inactive_named st k (command.Move path amount) = refl
 inactive_named st k (command.Status path) = refl
 inactive_named st k command.End = refl
 
-entries_named : (s : State) (k : ℕ) (x : Command) → cuts_page x ≡ false
-    → left_entries s (goes_inactive s.store k (Some x)) ≡ gone_entries s (uid_of_command s.store k x) x
-entries_named s k x whole =
+entries_named : (s : State) (k : ℕ) (x : Command) (kept : Option ℕ)
+    → map (left_entry kept) (frames_of_owner s.owner) ≡ map (frame_entry s.store x) (frames_of_owner s.owner)
+    → left_entries s kept (goes_inactive s.store k (Some x)) ≡ gone_entries s (uid_of_command s.store k x) x
+entries_named s k x kept left =
     ap (λ (es : List Entry). es ++ (map cut_entry (cut_of_owner s.owner)
-    ++ inactive_entry (goes_inactive s.store k (Some x))))
-    (frames_named s.store x (frames_of_owner s.owner) whole)
+    ++ inactive_entry (goes_inactive s.store k (Some x)))) left
     ∙ ap (λ (es : List Entry). map (frame_entry s.store x) (frames_of_owner s.owner)
     ++ (map cut_entry (cut_of_owner s.owner) ++ es)) (inactive_named s.store k x)
 
@@ -108,14 +90,16 @@ leaves_at t c command.End e = refl
 
 -- ---- all of it
 
-module _ {D : Type 0} (old applied gone said : Parts D) (c k : ℕ) (inactive : Option ℕ) (r : Reply) (x : Command)
-    (next : next_command old.state k ≡ Some x) (whole : cuts_page x ≡ false)
+module _ {D : Type 0} (old applied gone said : Parts D) (c k : ℕ) (kept inactive : Option ℕ) (r : Reply) (x : Command)
+    (next : next_command old.state k ≡ Some x)
+    (left : map (left_entry kept) (frames_of_owner old.state.owner)
+    ≡ map (next_frame_entry old.state.store (next_command old.state k)) (frames_of_owner old.state.owner))
     (its : (cpu_at old.state.processors c).process ≡ Some k)
     (which : inactive ≡ goes_inactive old.state.store k (next_command old.state k))
     (answer : r ≡ reply_for old.state k (next_command old.state k))
     (does : applied ≡ with_state old (with_store old.state (effect_for old.state.store k
     (frames_of_owner old.state.owner) (next_command old.state k))))
-    (goes : gone ≡ with_state applied (with_owner (booked applied.state (left_entries applied.state inactive))
+    (goes : gone ≡ with_state applied (with_owner (booked applied.state (left_entries applied.state kept inactive))
     gone.state.owner))
     (tells : said ≡ with_state gone (told_by gone.state c k None r)) where
   abbrev pub s : State
@@ -130,16 +114,17 @@ module _ {D : Type 0} (old applied gone said : Parts D) (c k : ℕ) (inactive : 
   abbrev full : ℕ → State
   full j = with_owner (told_by (booked after (gone_entries s uid x)) c j None (reply_of s k x)) None
 
-  entries : left_entries s inactive ≡ gone_entries s uid x
-  entries = ap (left_entries s) (which ∙ ap (goes_inactive s.store k) next) ∙ entries_named s k x whole
+  entries : left_entries s kept inactive ≡ gone_entries s uid x
+  entries = ap (left_entries s kept) (which ∙ ap (goes_inactive s.store k) next) ∙ entries_named s k x kept
+      (left ∙ ap (λ (o : Option Command). map (next_frame_entry s.store o) (frames_of_owner s.owner)) next)
 
   said_state : with_owner said.state None ≡ full k
   said_state = ap (λ (t : Parts D). with_owner t.state None) tells
       ∙ (ap (λ (t : Parts D). with_owner (told_by t.state c k None r) None) goes
-      ∙ (ap (λ (t : Parts D). with_owner (told_by (booked t.state (left_entries t.state inactive)) c k None r) None)
+      ∙ (ap (λ (t : Parts D). with_owner (told_by (booked t.state (left_entries t.state kept inactive)) c k None r) None)
       does
       ∙ (ap (λ (o : Option Command). with_owner (told_by (booked (with_store s (effect_for s.store k
-      (frames_of_owner s.owner) o)) (left_entries s inactive)) c k None r) None) next
+      (frames_of_owner s.owner) o)) (left_entries s kept inactive)) c k None r) None) next
       ∙ (ap (λ (es : List Entry). with_owner (told_by (booked after es) c k None r) None) entries
       ∙ ap (λ (y : Reply). with_owner (told_by (booked after (gone_entries s uid x)) c k None y) None)
       (answer ∙ ap (reply_for s k) next)))))

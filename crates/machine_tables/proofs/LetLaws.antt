@@ -9,7 +9,7 @@ use Rattle.machine_model.specs.Jobs.{seg_gone, segs_gone, without_first_cut, wit
 use Rattle.machine_model.specs.Reads.{cut_of_owner, frames_of_owner}
 use Rattle.machine_model.specs.State.{State}
 use Rattle.machine_model.specs.Steps.{booked, with_owner}
-use Rattle.machine_tables.specs.Gone.{gone_entry, inactive_entry, left_entries}
+use Rattle.machine_tables.specs.Gone.{inactive_entry, left_entries, left_entry}
 use Rattle.machine_tables.specs.Owned.{HasOwner}
 use Rattle.machine_tables.specs.Parts.{Parts, with_state}
 use Rattle.machine_tables.proofs.JobLaws.{cut_same, frames_next, no_frame, owner_left}
@@ -32,20 +32,21 @@ booked_none s =
 -- ---- frames
 
 -- so far as the frames are gone, the rest leads to the same, but for the owner
-pub record PagesOn (now first : State) : Type 0 where
-  pub same : with_owner (booked now (map gone_entry (frames_of_owner now.owner))) None
-      ≡ with_owner (booked first (map gone_entry (frames_of_owner first.owner))) None
+pub record PagesOn (now first : State) (kept : Option ℕ) : Type 0 where
+  pub same : with_owner (booked now (map (left_entry kept) (frames_of_owner now.owner))) None
+      ≡ with_owner (booked first (map (left_entry kept) (frames_of_owner first.owner))) None
   pub owner : HasOwner now.owner
   pub room : length (frames_of_owner now.owner) ≤ now.spare
   pub cut : cut_of_owner now.owner ≡ cut_of_owner first.owner
   pub spent : now.spare + length (frames_of_owner first.owner) ≡ first.spare + length (frames_of_owner now.owner)
 
-pub pages_first : (s : State) → HasOwner s.owner → length (frames_of_owner s.owner) ≤ s.spare → PagesOn s s
-pages_first s owner room = record { same = refl; owner = owner; room = room; cut = refl; spent = refl }
+pub pages_first : (s : State) (kept : Option ℕ) → HasOwner s.owner → length (frames_of_owner s.owner) ≤ s.spare
+    → PagesOn s s kept
+pages_first s kept owner room = record { same = refl; owner = owner; room = room; cut = refl; spent = refl }
 
-pub pages_next : (s t first : State) (f : ℕ) → PagesOn s first → slice_get (frames_of_owner s.owner) 0 ≡ Some f
-    → t ≡ booked (with_owner s (without_first_frame s.owner)) (gone_entry f ∷ []) → PagesOn t first
-pages_next s t first f on at is = subst (λ (x : State). PagesOn x first) (sym is) (
+pub pages_next : (s t first : State) (kept : Option ℕ) (f : ℕ) → PagesOn s first kept → slice_get (frames_of_owner s.owner) 0 ≡ Some f
+    → t ≡ booked (with_owner s (without_first_frame s.owner)) (left_entry kept f ∷ []) → PagesOn t first kept
+pages_next s t first kept f on at is = subst (λ (x : State). PagesOn x first kept) (sym is) (
     let rest = frames_of_owner (without_first_frame s.owner) in
     let all : frames_of_owner s.owner ≡ f ∷ rest = frames_next s.owner f at in
     let count = ap length all in
@@ -53,23 +54,23 @@ pages_next s t first f on at is = subst (λ (x : State). PagesOn x first) (sym i
     let spent = on.spent in
     record {
       same = ap (λ (x : State). with_owner x None)
-          (booked_more (with_owner s (without_first_frame s.owner)) (gone_entry f ∷ []) (map gone_entry rest))
-          ∙ (ap (λ (fs : List ℕ). with_owner (booked s (map gone_entry fs)) None) (sym all) ∙ on.same);
+          (booked_more (with_owner s (without_first_frame s.owner)) (left_entry kept f ∷ []) (map (left_entry kept) rest))
+          ∙ (ap (λ (fs : List ℕ). with_owner (booked s (map (left_entry kept) fs)) None) (sym all) ∙ on.same);
       owner = owner_left s.owner on.owner;
       room = omega (arith, count, room);
       cut = cut_same s.owner ∙ on.cut;
       spent = omega (arith, count, room, spent);
     })
 
-pub pages_end : (s first : State) → PagesOn s first → slice_get (frames_of_owner s.owner) 0 ≡ None
-    → (s ≡ with_owner (booked first (map gone_entry (frames_of_owner first.owner))) s.owner)
+pub pages_end : (s first : State) (kept : Option ℕ) → PagesOn s first kept → slice_get (frames_of_owner s.owner) 0 ≡ None
+    → (s ≡ with_owner (booked first (map (left_entry kept) (frames_of_owner first.owner))) s.owner)
     × (s.spare + length (frames_of_owner first.owner) ≡ first.spare)
-pages_end s first on none =
+pages_end s first kept on none =
     let empty = no_frame (frames_of_owner s.owner) none in
     let count = ap length empty in
     let spent = on.spent in (
       ap (λ (x : State). with_owner x s.owner) (ap (λ (x : State). with_owner x None)
-          (sym (booked_none s) ∙ ap (λ (fs : List ℕ). booked s (map gone_entry fs)) (sym empty)) ∙ on.same),
+          (sym (booked_none s) ∙ ap (λ (fs : List ℕ). booked s (map (left_entry kept) fs)) (sym empty)) ∙ on.same),
       omega (arith, count, spent),
     )
 
@@ -84,17 +85,17 @@ segs_booked s (d ∷ ds) = segs_booked (seg_gone s d) ds
 
 -- ---- all that goes
 
-pub all_gone : {D : Type 0} (old mid next new : Parts D) (inactive : Option ℕ)
-    → mid ≡ with_state old (with_owner (booked old.state (map gone_entry (frames_of_owner old.state.owner)))
+pub all_gone : {D : Type 0} (old mid next new : Parts D) (kept inactive : Option ℕ)
+    → mid ≡ with_state old (with_owner (booked old.state (map (left_entry kept) (frames_of_owner old.state.owner)))
     mid.state.owner)
     → cut_of_owner mid.state.owner ≡ cut_of_owner old.state.owner
     → next ≡ with_state mid (segs_gone mid.state (cut_of_owner mid.state.owner))
     → new ≡ with_state next (booked next.state (inactive_entry inactive))
-    → new ≡ with_state old (with_owner (booked old.state (left_entries old.state inactive)) new.state.owner)
-all_gone {D} old mid next new inactive pages cut segs last = whole ∙ ap (with_state old) state
+    → new ≡ with_state old (with_owner (booked old.state (left_entries old.state kept inactive)) new.state.owner)
+all_gone {D} old mid next new kept inactive pages cut segs last = whole ∙ ap (with_state old) state
   where
     F : List Entry
-    F = map gone_entry (frames_of_owner old.state.owner)
+    F = map (left_entry kept) (frames_of_owner old.state.owner)
 
     C : List Entry
     C = map cut_entry (cut_of_owner old.state.owner)

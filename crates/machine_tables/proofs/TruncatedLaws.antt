@@ -279,15 +279,15 @@ module _ (st : Storage) (uid : ℕ) (kept : IsKept st.pages st.ast st.links)
 
   module _ (p : ℕ) (away : is_here (word_of st.ast uid p) ≡ false) (inside : is_out (word_of st.ast uid p) ≡ false)
     where
-    pub leaving_in : IsLeaving (told_of st uid) uid p
-    leaving_in = record { away = away; inside = inside; alone = λ f e. alone_in p f e }
+      pub leaving_in : IsLeaving (told_of st uid) uid p
+      leaving_in = record { away = away; inside = inside; alone = λ f e. alone_in p f e }
 
-    pub cuttable_in : IsCuttable st uid p (word_of st.ast uid p)
-    cuttable_in = record {
-      away = λ f e. (let no : true ≡ false = sym (ap is_here e) ∙ away in cc);
-      inside = λ r e. (let no : true ≡ false = sym (ap is_out e) ∙ inside in cc);
-      bound = λ f e. leaving_bound st uid p f kept active e;
-    }
+      pub cuttable_in : IsCuttable st uid p (word_of st.ast uid p)
+      cuttable_in = record {
+        away = λ f e. (let no : true ≡ false = sym (ap is_here e) ∙ away in cc);
+        inside = λ r e. (let no : true ≡ false = sym (ap is_out e) ∙ inside in cc);
+        bound = λ f e. leaving_bound st uid p f kept active e;
+      }
 
 -- ---- the store
 
@@ -314,9 +314,11 @@ module _ {D : Type 0} (drive : D → List (List ℕ)) (t m u : Stored D) (n : No
     (exact : paged drive m n.uid ≡ cut_at (paged drive t n.uid) (home_of t.accounts n.uid) n.uid
     (pages_in t.accounts.nodes n.uid) words)
     (others : CountsOthers t.accounts m.accounts n.uid)
-    (back : u ≡ record m { segs = record m.segs {
-      ast = here_again m.segs.ast n.uid (words / 1024) (word_of m.segs.ast n.uid (words / 1024));
-    } }) where
+    (back : u ≡ record m {
+      segs = record m.segs {
+        ast = here_again m.segs.ast n.uid (words / 1024) (word_of m.segs.ast n.uid (words / 1024));
+      };
+    }) where
   abbrev st : Storage
   st = shown drive t
 
@@ -599,18 +601,24 @@ module _ {D : Type 0} (drive : D → List (List ℕ)) (t m : Stored D) (path : L
         (subst (λ (es : List (Option Segment)). IsActive es its.0.uid) (sym (pages its.0 its.1).unstores.places)
         (taken its.0 its.1).active)
 
-    module _ (back : u ≡ record m { segs = record m.segs {
-          ast = here_again m.segs.ast uid (words / 1024) (word_of m.segs.ast uid (words / 1024));
-        } }) (shown_still : (p : Plan) (s : Store) → Shows drive p s m → Shows drive p s u) where
+    module _ (back : u ≡ record m {
+      segs = record m.segs {
+        ast = here_again m.segs.ast uid (words / 1024) (word_of m.segs.ast uid (words / 1024));
+      };
+    }) (shown_still : (p : Plan) (s : Store) → Shows drive p s m → Shows drive p s u) where
       there : is_there t.accounts.nodes its.0.uid ≡ true
       there = node_there t.accounts.nodes path its.0 (segment_node t.accounts.nodes path its.0 its.1)
 
-      back_at : u ≡ record m { segs = record m.segs {
-        ast = here_again m.segs.ast its.0.uid (words / 1024) (word_of m.segs.ast its.0.uid (words / 1024));
-      } }
-      back_at = back ∙ ap (λ (v : ℕ). record m { segs = record m.segs {
-        ast = here_again m.segs.ast v (words / 1024) (word_of m.segs.ast v (words / 1024));
-      } }) its.2
+      back_at : u ≡ record m {
+        segs = record m.segs {
+          ast = here_again m.segs.ast its.0.uid (words / 1024) (word_of m.segs.ast its.0.uid (words / 1024));
+        };
+      }
+      back_at = back ∙ ap (λ (v : ℕ). record m {
+        segs = record m.segs {
+          ast = here_again m.segs.ast v (words / 1024) (word_of m.segs.ast v (words / 1024));
+        };
+      }) its.2
 
       store_is : shown drive u ≡ with_truncated old its.0.uid words
       store_is = truncated_exact drive t m u its.0 words before after kept counted parts there (taken its.0 its.1)

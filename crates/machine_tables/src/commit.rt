@@ -85,7 +85,7 @@ fn take_effect<D: Drive>(
 
 /// What is booked of a frame that was taken: its page is back where it is the one that stays, and gone where it isn't.
 fn left_entry(kept: Option<u32>, frame: u32) -> Entry
-    ensures { result.now ≡ left_entry kept frame }
+    ensures { result ≡ left_entry kept frame }
 {
     match kept {
         Some(stays) if stays == frame => Entry::BackPage { frame },

@@ -5,7 +5,8 @@ use Rattle.machine_tables.proofs.tables.Tables.let_pages_go.Goals as goal
 
 pub loop-frame-preserved : goal.loop-frame-preserved
 loop-frame-preserved g c = record {
-  on = pages_next c.loop-frame.self.state c.note.new.self.state c.args.self.now.state c.in-Some.frame
+  on = pages_next c.loop-frame.self.state c.note.new.self.state c.args.self.now.state c.args.kept
+      c.in-Some.frame
       c.loop-frame.invariant.on (sym c.in-Some.ensures.first) (search rules);
   rest = search rules;
 }

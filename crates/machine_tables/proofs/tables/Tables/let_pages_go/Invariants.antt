@@ -6,7 +6,7 @@ use Rattle.machine_tables.proofs.tables.Tables.let_pages_go.Given as goal
 
 abbrev pub invariant-loop-frame : goal.invariant-loop-frame
 invariant-loop-frame g l = record {
-  on : PagesOn l.self.state l.fn.self.state;
+  on : PagesOn l.self.state l.fn.self.state l.fn.kept;
   rest : l.self ≡ with_state l.fn.self l.self.state;
 }
 
