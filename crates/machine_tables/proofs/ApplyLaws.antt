@@ -43,9 +43,9 @@ ready_of drive t k command.End h = h
 ready_of drive t k c h = tt
 
 module _ {D : Type 0} (drive : D → List (List ℕ)) (s : State) (t u : Stored D) (k : ℕ) (frames : List ℕ) (x : Command)
-    (r : Reply) (kept : Option ℕ) (inner : shown drive t ≡ s.store) (next : next_command s k ≡ Some x) (tree : reference_of x ≡ None)
-    (faithful : IsFaithful s.plan (flat_of s) s.store) (takes : HasEffect x (reply_of s k x))
-    (owns : OwnsFor s.store frames x)
+    (r : Reply) (kept : Option ℕ) (inner : shown drive t ≡ s.store) (next : next_command s k ≡ Some x)
+    (tree : reference_of x ≡ None) (faithful : IsFaithful s.plan (flat_of s) s.store)
+    (takes : HasEffect x (reply_of s k x)) (owns : OwnsFor s.store frames x)
     (committed : (fs : List ℕ) → OwnsFor (shown drive t) fs x → IsCommittedBut drive t u k fs x r kept) where
   whole : IsCommittedBut drive t u k frames x r kept
   whole = committed frames (subst (λ (st : Storage). OwnsFor st frames x) (sym inner) owns)

@@ -41,7 +41,8 @@ leads_to : (ns : List Node) (path : List (List ℕ)) (n : Node) → node_at ns p
     → uid_of_node (node_at ns path) ≡ n.uid
 leads_to ns path n h = ap uid_of_node h
 
-pub segment_node : (ns : List Node) (path : List (List ℕ)) (n : Node) → segment_at ns path ≡ Ok n → node_at ns path ≡ Ok n
+pub segment_node : (ns : List Node) (path : List (List ℕ)) (n : Node) → segment_at ns path ≡ Ok n
+    → node_at ns path ≡ Ok n
 segment_node ns path n h = by (node_at ns path) refl h
   where
     kind : (b : Bool) (m : Node) → cond b (Err reply.IsDir) (Ok m) ≡ Ok n → m ≡ n

@@ -121,8 +121,8 @@ module _ {D : Type 0} (old applied gone said : Parts D) (c k : ℕ) (kept inacti
   said_state : with_owner said.state None ≡ full k
   said_state = ap (λ (t : Parts D). with_owner t.state None) tells
       ∙ (ap (λ (t : Parts D). with_owner (told_by t.state c k None r) None) goes
-      ∙ (ap (λ (t : Parts D). with_owner (told_by (booked t.state (left_entries t.state kept inactive)) c k None r) None)
-      does
+      ∙ (ap (λ (t : Parts D). with_owner (told_by (booked t.state (left_entries t.state kept inactive)) c k None r)
+      None) does
       ∙ (ap (λ (o : Option Command). with_owner (told_by (booked (with_store s (effect_for s.store k
       (frames_of_owner s.owner) o)) (left_entries s kept inactive)) c k None r) None) next
       ∙ (ap (λ (es : List Entry). with_owner (told_by (booked after es) c k None r) None) entries

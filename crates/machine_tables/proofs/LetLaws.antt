@@ -44,7 +44,8 @@ pub pages_first : (s : State) (kept : Option ℕ) → HasOwner s.owner → lengt
     → PagesOn s s kept
 pages_first s kept owner room = record { same = refl; owner = owner; room = room; cut = refl; spent = refl }
 
-pub pages_next : (s t first : State) (kept : Option ℕ) (f : ℕ) → PagesOn s first kept → slice_get (frames_of_owner s.owner) 0 ≡ Some f
+pub pages_next : (s t first : State) (kept : Option ℕ) (f : ℕ) → PagesOn s first kept
+    → slice_get (frames_of_owner s.owner) 0 ≡ Some f
     → t ≡ booked (with_owner s (without_first_frame s.owner)) (left_entry kept f ∷ []) → PagesOn t first kept
 pages_next s t first kept f on at is = subst (λ (x : State). PagesOn x first kept) (sym is) (
     let rest = frames_of_owner (without_first_frame s.owner) in
@@ -54,7 +55,8 @@ pages_next s t first kept f on at is = subst (λ (x : State). PagesOn x first ke
     let spent = on.spent in
     record {
       same = ap (λ (x : State). with_owner x None)
-          (booked_more (with_owner s (without_first_frame s.owner)) (left_entry kept f ∷ []) (map (left_entry kept) rest))
+          (booked_more (with_owner s (without_first_frame s.owner)) (left_entry kept f ∷ [])
+          (map (left_entry kept) rest))
           ∙ (ap (λ (fs : List ℕ). with_owner (booked s (map (left_entry kept) fs)) None) (sym all) ∙ on.same);
       owner = owner_left s.owner on.owner;
       room = omega (arith, count, room);
@@ -62,7 +64,8 @@ pages_next s t first kept f on at is = subst (λ (x : State). PagesOn x first ke
       spent = omega (arith, count, room, spent);
     })
 
-pub pages_end : (s first : State) (kept : Option ℕ) → PagesOn s first kept → slice_get (frames_of_owner s.owner) 0 ≡ None
+pub pages_end : (s first : State) (kept : Option ℕ) → PagesOn s first kept
+    → slice_get (frames_of_owner s.owner) 0 ≡ None
     → (s ≡ with_owner (booked first (map (left_entry kept) (frames_of_owner first.owner))) s.owner)
     × (s.spare + length (frames_of_owner first.owner) ≡ first.spare)
 pages_end s first kept on none =

@@ -120,7 +120,8 @@ null_same x home uid from n m named short long = elim (cases_lt n m) [
       ∙ null_more x home uid from m (n - m) named long)
 ]
 
-module _ (x : Paged) (home : Home) (uid size words : ℕ) (named : IsNamed x home uid) (null : IsNullFrom x uid size) where
+module _ (x : Paged) (home : Home) (uid size words : ℕ) (named : IsNamed x home uid)
+    (null : IsNullFrom x uid size) where
   abbrev number : ℕ
   number = words / 1024
 

@@ -94,8 +94,8 @@ fn left_entry(kept: Option<u32>, frame: u32) -> Entry
 }
 
 impl<D: Drive> Tables<D> {
-    /// The next command of a process takes effect in the store. Of the pages that its job took, the one that stays comes
-    /// back: the frame that it is in.
+    /// The next command of a process takes effect in the store. Of the pages that its job took, the one that stays
+    /// comes back: the frame that it is in.
     fn apply(&mut self, process: u32) -> (Reply, Option<u32>)
         requires { (x : Named) × IsApplicable self.old process x }
         ensures reply { result.0 ≡ reply_for self.old.state process (next_command self.old.state process) }

@@ -43,56 +43,83 @@ truncate-requires g c = subst (λ (x : Command). IsReady c.args.store.now c.args
 pub returns-in-MkDir : goal.returns-in-MkDir
 returns-in-MkDir g c = subst (λ (x : Command). (frames : List ℕ)
     → OwnsFor (shown g.D.Drive.pages c.args.store.now) frames x
-    → IsCommittedBut g.D.Drive.pages c.args.store.now c.make_dir.new.store c.args.process frames x c.make_dir.result None)
-    (sym c.in-MkDir.is) (λ frames owns. record { committed = c.make_dir.ensures c.args.process frames; left = λ p flat faithful takes. refl })
+    → IsCommittedBut g.D.Drive.pages c.args.store.now c.make_dir.new.store c.args.process frames x c.make_dir.result
+    None) (sym c.in-MkDir.is) (λ frames owns. record {
+      committed = c.make_dir.ensures c.args.process frames;
+      left = λ p flat faithful takes. refl;
+    })
 
 pub returns-in-MkSeg : goal.returns-in-MkSeg
 returns-in-MkSeg g c = subst (λ (x : Command). (frames : List ℕ)
     → OwnsFor (shown g.D.Drive.pages c.args.store.now) frames x
-    → IsCommittedBut g.D.Drive.pages c.args.store.now c.make_seg.new.store c.args.process frames x c.make_seg.result None)
-    (sym c.in-MkSeg.is) (λ frames owns. record { committed = c.make_seg.ensures frames; left = λ p flat faithful takes. refl })
+    → IsCommittedBut g.D.Drive.pages c.args.store.now c.make_seg.new.store c.args.process frames x c.make_seg.result
+    None) (sym c.in-MkSeg.is) (λ frames owns. record {
+      committed = c.make_seg.ensures frames;
+      left = λ p flat faithful takes. refl;
+    })
 
 pub returns-in-Initiate : goal.returns-in-Initiate
 returns-in-Initiate g c = subst (λ (x : Command). (frames : List ℕ)
     → OwnsFor (shown g.D.Drive.pages c.args.store.now) frames x
-    → IsCommittedBut g.D.Drive.pages c.args.store.now c.initiate.new.store c.args.process frames x c.initiate.result None)
-    (sym c.in-Initiate.is) (λ frames owns. record { committed = c.initiate.ensures frames; left = λ p flat faithful takes. refl })
+    → IsCommittedBut g.D.Drive.pages c.args.store.now c.initiate.new.store c.args.process frames x c.initiate.result
+    None) (sym c.in-Initiate.is) (λ frames owns. record {
+      committed = c.initiate.ensures frames;
+      left = λ p flat faithful takes. refl;
+    })
 
 pub returns-in-Terminate : goal.returns-in-Terminate
 returns-in-Terminate g c = subst (λ (x : Command). (frames : List ℕ)
     → OwnsFor (shown g.D.Drive.pages c.args.store.now) frames x
-    → IsCommittedBut g.D.Drive.pages c.args.store.now c.terminate.new.store c.args.process frames x c.terminate.result None)
-    (sym c.in-Terminate.is) (λ frames owns. record { committed = c.terminate.ensures frames; left = λ p flat faithful takes. refl })
+    → IsCommittedBut g.D.Drive.pages c.args.store.now c.terminate.new.store c.args.process frames x c.terminate.result
+    None) (sym c.in-Terminate.is) (λ frames owns. record {
+      committed = c.terminate.ensures frames;
+      left = λ p flat faithful takes. refl;
+    })
 
 pub returns-in-Acl : goal.returns-in-Acl
 returns-in-Acl g c = subst (λ (x : Command). (frames : List ℕ)
     → OwnsFor (shown g.D.Drive.pages c.args.store.now) frames x
-    → IsCommittedBut g.D.Drive.pages c.args.store.now c.set_row.new.store c.args.process frames x c.set_row.result None)
-    (sym c.in-Acl.is) (λ frames owns. record { committed = c.set_row.ensures c.args.process frames; left = λ p flat faithful takes. refl })
+    → IsCommittedBut g.D.Drive.pages c.args.store.now c.set_row.new.store c.args.process frames x c.set_row.result
+    None) (sym c.in-Acl.is) (λ frames owns. record {
+      committed = c.set_row.ensures c.args.process frames;
+      left = λ p flat faithful takes. refl;
+    })
 
 pub returns-in-Length : goal.returns-in-Length
 returns-in-Length g c = subst (λ (x : Command). (frames : List ℕ)
     → OwnsFor (shown g.D.Drive.pages c.args.store.now) frames x
-    → IsCommittedBut g.D.Drive.pages c.args.store.now c.set_length.new.store c.args.process frames x c.set_length.result None)
-    (sym c.in-Length.is) (λ frames owns. record { committed = c.set_length.ensures c.args.process frames; left = λ p flat faithful takes. refl })
+    → IsCommittedBut g.D.Drive.pages c.args.store.now c.set_length.new.store c.args.process frames x c.set_length.result
+    None) (sym c.in-Length.is) (λ frames owns. record {
+      committed = c.set_length.ensures c.args.process frames;
+      left = λ p flat faithful takes. refl;
+    })
 
 pub returns-in-Delete : goal.returns-in-Delete
 returns-in-Delete g c = subst (λ (x : Command). (frames : List ℕ)
     → OwnsFor (shown g.D.Drive.pages c.args.store.now) frames x
-    → IsCommittedBut g.D.Drive.pages c.args.store.now c.delete.new.store c.args.process frames x c.delete.result None)
-    (sym c.in-Delete.is) (λ frames owns. record { committed = c.delete.ensures c.args.process frames owns; left = λ p flat faithful takes. refl })
+    → IsCommittedBut g.D.Drive.pages c.args.store.now c.delete.new.store c.args.process frames x c.delete.result
+    None) (sym c.in-Delete.is) (λ frames owns. record {
+      committed = c.delete.ensures c.args.process frames owns;
+      left = λ p flat faithful takes. refl;
+    })
 
 pub returns-in-Move : goal.returns-in-Move
 returns-in-Move g c = subst (λ (x : Command). (frames : List ℕ)
     → OwnsFor (shown g.D.Drive.pages c.args.store.now) frames x
-    → IsCommittedBut g.D.Drive.pages c.args.store.now c.move_quota.new.store c.args.process frames x c.move_quota.result None)
-    (sym c.in-Move.is) (λ frames owns. record { committed = c.move_quota.ensures c.args.process frames; left = λ p flat faithful takes. refl })
+    → IsCommittedBut g.D.Drive.pages c.args.store.now c.move_quota.new.store c.args.process frames x c.move_quota.result
+    None) (sym c.in-Move.is) (λ frames owns. record {
+      committed = c.move_quota.ensures c.args.process frames;
+      left = λ p flat faithful takes. refl;
+    })
 
 pub returns-in-Status : goal.returns-in-Status
 returns-in-Status g c = subst (λ (x : Command). (frames : List ℕ)
     → OwnsFor (shown g.D.Drive.pages c.args.store.now) frames x
-    → IsCommittedBut g.D.Drive.pages c.args.store.now c.status.new.store c.args.process frames x c.status.result None)
-    (sym c.in-Status.is) (λ frames owns. record { committed = c.status.ensures c.args.process frames; left = λ p flat faithful takes. refl })
+    → IsCommittedBut g.D.Drive.pages c.args.store.now c.status.new.store c.args.process frames x c.status.result
+    None) (sym c.in-Status.is) (λ frames owns. record {
+      committed = c.status.ensures c.args.process frames;
+      left = λ p flat faithful takes. refl;
+    })
 
 pub returns-in-Truncate : goal.returns-in-Truncate
 returns-in-Truncate g c = subst (λ (x : Command). (frames : List ℕ)

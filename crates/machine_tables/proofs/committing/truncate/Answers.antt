@@ -10,7 +10,8 @@ use Rattle.machine_tables.proofs.TruncatedLaws.{still_active, truncate_committed
 use Rattle.machine_tables.proofs.committing.truncate.Goals as goal
 
 pub returns-in_default : goal.returns-in_default
-returns-in_default g c = λ k frames owns. truncate_refused g.D.Drive.pages c.args.store.now c.truncate.new.self c.args.path.now
+returns-in_default g c = λ k frames owns. truncate_refused g.D.Drive.pages c.args.store.now c.truncate.new.self
+    c.args.path.now
     c.args.words c.truncate.result c.truncate.ensures.answer c.truncate.ensures.effect c.truncate.ensures.rest
     (sym c.in_default.is ∙ c.segment_of.ensures
     ∙ ap (λ (a : AccountMaps). uid_found (segment_at a.nodes c.args.path.now)) c.accounts.ensures.accounts) k frames

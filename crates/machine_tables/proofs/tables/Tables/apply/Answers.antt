@@ -1,13 +1,13 @@
 use Rattle.std.proofs.Common.{◌≡◌, ◌∙◌, Some, ap, refl, rules, subst, sym}
 use Rattle.script.specs.Plans.{command_at}
 use Rattle.machine_model.specs.Reads.{frames_of_owner, next_command, run_at}
+use Rattle.machine_model.specs.Ready.{IsReadyFor}
 use Rattle.machine_model.specs.State.{State, Storage}
 use Rattle.machine_tables.specs.Committed.{effect_for}
 use Rattle.machine_tables.specs.Parts.{Parts, shown}
-use Rattle.machine_model.specs.Ready.{IsReadyFor}
 use Rattle.machine_tables.specs.Ready.{IsApplicable}
-use Rattle.machine_tables.proofs.ApplyLaws.{applied_drives, applied_left, applied_reply, applied_shown, applied_store, ready_of}
-use Rattle.machine_tables.proofs.ApplyLaws.{same_some}
+use Rattle.machine_tables.proofs.ApplyLaws.{applied_drives, applied_left, applied_reply, applied_shown, applied_store}
+use Rattle.machine_tables.proofs.ApplyLaws.{ready_of, same_some}
 use Rattle.machine_tables.proofs.PartLaws.{stored_is}
 use Rattle.machine_tables.proofs.tables.Tables.apply.Goals as goal
 
@@ -51,8 +51,7 @@ returns-clause-left g c =
     let inner : shown g.D.Drive.pages c.self.inside.store ≡ s.store =
     ap (λ (t : Parts g.row.D.Denot). t.state.store) c.self.view_is in
     applied_left g.D.Drive.pages s c.self.inside.store c.take_effect.new.store c.args.process (frames_of_owner s.owner)
-    c.in-Some.command.now c.take_effect.result.0 c.take_effect.result.1 inner same may.tree may.faithful may.takes
-    may.owns c.take_effect.ensures
+    c.in-Some.command.now c.take_effect.result.0 c.take_effect.result.1 inner same may.tree may.faithful may.takes may.owns c.take_effect.ensures
 
 pub returns-clause-effect : goal.returns-clause-effect
 returns-clause-effect g c =
@@ -68,11 +67,11 @@ returns-clause-effect g c =
     stored_is g.D.Drive.pages g.D.Drive.faults _ c.args.self.now c.self.inside.store c.take_effect.new.store
     (λ st. effect_for st c.args.process (frames_of_owner s.owner) (next_command s c.args.process)) c.self.view_is refl
     (applied_store g.D.Drive.pages s c.self.inside.store c.take_effect.new.store c.args.process
-    (frames_of_owner s.owner) c.in-Some.command.now c.take_effect.result.0 c.take_effect.result.1 inner same may.tree may.faithful may.takes
-    may.owns c.take_effect.ensures)
+    (frames_of_owner s.owner) c.in-Some.command.now c.take_effect.result.0 c.take_effect.result.1 inner same may.tree
+    may.faithful may.takes may.owns c.take_effect.ensures)
     (applied_drives g.D.Drive.pages s c.self.inside.store c.take_effect.new.store c.args.process
-    (frames_of_owner s.owner) c.in-Some.command.now c.take_effect.result.0 c.take_effect.result.1 inner same may.tree may.faithful may.takes
-    may.owns c.take_effect.ensures)
+    (frames_of_owner s.owner) c.in-Some.command.now c.take_effect.result.0 c.take_effect.result.1 inner same may.tree
+    may.faithful may.takes may.owns c.take_effect.ensures)
 
 pub returns-clause-shown : goal.returns-clause-shown
 returns-clause-shown g c =
