@@ -52,18 +52,22 @@ nobody_runs (p ∷ ps) (suc d) k h e = nobody_runs ps d k (rest_off (has_process
     rest_off false i = i
     rest_off true i = absurd (let none : true ≡ false = i in cc)
 
+-- no processor has a process
+pub over_idle : (s : State) → is_over s ≡ true → (d k : ℕ) → (cpu_at s.processors d).process ≢ Some k
+over_idle s over d k = nobody_runs s.processors d k (off (list_any has_process s.processors)
+    (both (is_empty s.ready) _ over).1)
+  where
+    off : (b : Bool) → not b ≡ true → b ≡ false
+    off false e = refl
+    off true e = absurd (let none : false ≡ true = e in cc)
+
 module _ (s : State) (all : KeepsAll s) (over : is_over s ≡ true) where
   none_may : (k : ℕ) → MayRun s.plan s.runs k → ⊥
   none_may k m = elim (all.machine.scheduled.placed k m) [
     | inl r ↦ (let none : false ≡ true =
         sym (ap (λ (xs : List ℕ). has xs k) (empty_is s.ready (both (is_empty s.ready) _ over).0)) ∙ r in cc)
-    | inr x ↦ nobody_runs s.processors x.0 k (off (list_any has_process s.processors)
-        (both (is_empty s.ready) _ over).1) x.1
+    | inr x ↦ over_idle s over x.0 k x.1
   ]
-    where
-      off : (b : Bool) → not b ≡ true → b ≡ false
-      off false e = refl
-      off true e = absurd (let none : false ≡ true = e in cc)
 
   ends : (k : ℕ) → k < length s.plan.processes → HasTurn s.plan s.runs k → (run_at s.runs k).ended ≡ true
   ends k planned turn = by (run_at s.runs k).ended refl

@@ -42,6 +42,7 @@ pub mod FrameLaws
 pub mod FrameSeen
 pub mod GoesLaws
 pub mod HeldLaws
+pub mod IdleKept
 pub mod InsideLaws
 pub mod JobAsks
 pub mod JobKept
@@ -83,6 +84,7 @@ pub mod OutlineSeen
 pub mod OutlineStep
 pub mod OutlineTake
 pub mod OutlineWaits
+pub mod OverLaws
 pub mod OwnedLaws
 pub mod OwnerLaws
 pub mod PageShown
@@ -146,6 +148,7 @@ pub mod TwoTransfers
 pub mod UidsFew
 pub mod VictimLaws
 pub mod Victims
+pub mod VisitAll
 pub mod VisitKept
 pub mod WaitForTransfer
 pub mod WantLaws

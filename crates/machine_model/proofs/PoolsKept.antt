@@ -33,14 +33,20 @@ use Rattle.machine_model.specs.Reads.{process_at, trailers_in}
 use Rattle.machine_model.specs.State.{State, Storage}
 use Rattle.machine_model.specs.Steps.{fault_told, transfer_failed, transferred, with_faults, with_pages, with_store}
 
--- the script, the sizes of the pools, and whether the machine was stopped are as before
+-- the script, the sizes of the pools, whether the machine was stopped, and how many frames were visited are as before
 pub record SamePools (s t : State) : Type 0 where
   pub plan : t.plan ≡ s.plan
   pub stopped : t.stopped ≡ s.stopped
+  pub visited : t.visited ≡ s.visited
   pub sizes : t.store.ast.sizes ≡ s.store.ast.sizes
 
 on : (s t u : State) → SamePools s t → SamePools t u → SamePools s u
-on s t u a b = record { plan = b.plan ∙ a.plan; stopped = b.stopped ∙ a.stopped; sizes = b.sizes ∙ a.sizes }
+on s t u a b = record {
+  plan = b.plan ∙ a.plan;
+  stopped = b.stopped ∙ a.stopped;
+  visited = b.visited ∙ a.visited;
+  sizes = b.sizes ∙ a.sizes;
+}
 
 either : {s : State} (b : Bool) (x y : State) → SamePools s x → SamePools s y → SamePools s (cond b y x)
 either true x y a b = b
@@ -58,18 +64,18 @@ is_leaving st f None = refl
 is_leaving st f (Some page) = refl
 
 taken : (s : State) (c : ℕ) (a : Aim) (w : What) (fs : List ℕ) → SamePools s (take_all s c a w fs)
-taken s c a w [] = record { plan = refl; stopped = refl; sizes = refl }
+taken s c a w [] = record { plan = refl; stopped = refl; visited = refl; sizes = refl }
 taken s c a w (f ∷ fs) =
     on s (take_one s c a w f) (take_all (take_one s c a w f) c a w fs)
-    (record { plan = refl; stopped = refl; sizes = is_leaving s.store f (bound_page (frame_in s.store.pages f)) })
+    (record { plan = refl; stopped = refl; visited = refl; sizes = is_leaving s.store f (bound_page (frame_in s.store.pages f)) })
     (taken
     (take_one s c a w f) c a w fs)
 
 all_cut : (s : State) (c : ℕ) (a : Aim) (w : What) (pairs : List (ℕ × ℕ)) → SamePools s (cut_all s c a w pairs)
-all_cut s c a w [] = record { plan = refl; stopped = refl; sizes = refl }
+all_cut s c a w [] = record { plan = refl; stopped = refl; visited = refl; sizes = refl }
 all_cut s c a w (x ∷ xs) =
     on s (cut_one s c a w x) (cut_all (cut_one s c a w x) c a w xs)
-    (record { plan = refl; stopped = refl; sizes = refl }) (all_cut
+    (record { plan = refl; stopped = refl; visited = refl; sizes = refl }) (all_cut
     (cut_one s c a w x) c a w xs)
 
 all_taken : (s : State) (c : ℕ) (a : Aim) (w : What) (fs : List ℕ) (pairs : List (ℕ × ℕ))
@@ -78,15 +84,15 @@ all_taken s c a w fs pairs =
     on s (take_all s c a w fs) (took s c a w fs pairs) (taken s c a w fs) (all_cut (take_all s c a w fs) c a w pairs)
 
 all_gone : (s : State) (ds : List CutDescriptor) → SamePools s (segs_gone s ds)
-all_gone s [] = record { plan = refl; stopped = refl; sizes = refl }
+all_gone s [] = record { plan = refl; stopped = refl; visited = refl; sizes = refl }
 all_gone s (d ∷ ds) = on s (seg_gone s d) (segs_gone s (d ∷ ds))
-    (record { plan = refl; stopped = refl; sizes = refl }) (all_gone
+    (record { plan = refl; stopped = refl; visited = refl; sizes = refl }) (all_gone
     (seg_gone s d) ds)
 
 is_emptied : (s : State) (c u : ℕ) → SamePools s (emptied s c u)
 is_emptied s c u =
     on s (segs_gone s (cut_of_owner s.owner)) (emptied s c u) (all_gone s (cut_of_owner s.owner))
-    (record { plan = refl; stopped = refl; sizes = refl })
+    (record { plan = refl; stopped = refl; visited = refl; sizes = refl })
 
 segment : (s : State) (c u : ℕ) (fs : List ℕ) (pairs : List (ℕ × ℕ)) → SamePools s (segment_taken s c u fs pairs)
 segment s c u [] [] = is_emptied s c u
@@ -94,23 +100,23 @@ segment s c u [] (x ∷ xs) = all_taken s c (aim.Deactivating u) (what.Seg u) []
 segment s c u (f ∷ fs) pairs = all_taken s c (aim.Deactivating u) (what.Seg u) (f ∷ fs) pairs
 
 all_pages_back : (s : State) (fs : List ℕ) → SamePools s (pages_back s fs)
-all_pages_back s [] = record { plan = refl; stopped = refl; sizes = refl }
+all_pages_back s [] = record { plan = refl; stopped = refl; visited = refl; sizes = refl }
 all_pages_back s (f ∷ fs) =
     on s (page_back s f) (pages_back s (f ∷ fs))
-    (record { plan = refl; stopped = refl; sizes = is_here s.store f }) (all_pages_back
+    (record { plan = refl; stopped = refl; visited = refl; sizes = is_here s.store f }) (all_pages_back
     (page_back s f) fs)
 
 all_segs_back : (s : State) (ds : List CutDescriptor) → SamePools s (segs_back s ds)
-all_segs_back s [] = record { plan = refl; stopped = refl; sizes = refl }
+all_segs_back s [] = record { plan = refl; stopped = refl; visited = refl; sizes = refl }
 all_segs_back s (d ∷ ds) = on s (seg_back s d) (segs_back s (d ∷ ds))
-    (record { plan = refl; stopped = refl; sizes = refl })
+    (record { plan = refl; stopped = refl; visited = refl; sizes = refl })
     (all_segs_back (seg_back s d) ds)
 
 failed : (s : State) (c faults : ℕ) → SamePools s (write_failed s c faults)
-failed s c faults = on s told (write_failed s c faults) (record { plan = refl; stopped = refl; sizes = refl })
+failed s c faults = on s told (write_failed s c faults) (record { plan = refl; stopped = refl; visited = refl; sizes = refl })
     (on told back (write_failed s c faults) (all_pages_back told (frames_of_owner s.owner))
     (on back (segs_back back (cut_of_owner s.owner)) (write_failed s c faults)
-    (all_segs_back back (cut_of_owner s.owner)) (record { plan = refl; stopped = refl; sizes = refl })))
+    (all_segs_back back (cut_of_owner s.owner)) (record { plan = refl; stopped = refl; visited = refl; sizes = refl })))
   where
     told : State
     told = fault_told s (Some (process_at s c)) faults
@@ -122,8 +128,8 @@ hand : (s : State) (pool : ℕ) (chain : List ℕ) → SamePools s (with_store s
 hand s pool chain = by (first_off_chain s.store.ast pool chain)
   where
     by : (x : Option ℕ) → SamePools s (with_store s (record s.store { ast = hand_past s.store.ast pool x }))
-    by None = record { plan = refl; stopped = refl; sizes = refl }
-    by (Some place) = record { plan = refl; stopped = refl; sizes = refl }
+    by None = record { plan = refl; stopped = refl; visited = refl; sizes = refl }
+    by (Some place) = record { plan = refl; stopped = refl; visited = refl; sizes = refl }
 
 -- ---- a command takes effect
 
@@ -198,29 +204,29 @@ committed_same s c k cmd = by cmd (effect s.store k (uid_of_command s.store k cm
     by : (x : Command)
         → (with_effect s.store k (uid_of_command s.store k x) (frames_of_owner s.owner) x).ast.sizes ≡ s.store.ast.sizes
         → SamePools s (committed s c k x)
-    by command.End e = record { plan = refl; stopped = refl; sizes = e }
-    by (command.MkDir path volume) e = record { plan = refl; stopped = refl; sizes = e }
-    by (command.MkSeg path pages volume) e = record { plan = refl; stopped = refl; sizes = e }
-    by (command.Initiate path) e = record { plan = refl; stopped = refl; sizes = e }
-    by (command.Terminate n) e = record { plan = refl; stopped = refl; sizes = e }
-    by (command.Acl path row m) e = record { plan = refl; stopped = refl; sizes = e }
-    by (command.Length path pages) e = record { plan = refl; stopped = refl; sizes = e }
-    by (command.Truncate path words) e = record { plan = refl; stopped = refl; sizes = e }
-    by (command.Delete path) e = record { plan = refl; stopped = refl; sizes = e }
-    by (command.Move path amount) e = record { plan = refl; stopped = refl; sizes = e }
-    by (command.Status path) e = record { plan = refl; stopped = refl; sizes = e }
-    by (command.Read n w) e = record { plan = refl; stopped = refl; sizes = e }
-    by (command.Write n w x) e = record { plan = refl; stopped = refl; sizes = e }
-    by (command.Add n w x) e = record { plan = refl; stopped = refl; sizes = e }
-    by (command.Await n w x t) e = record { plan = refl; stopped = refl; sizes = e }
+    by command.End e = record { plan = refl; stopped = refl; visited = refl; sizes = e }
+    by (command.MkDir path volume) e = record { plan = refl; stopped = refl; visited = refl; sizes = e }
+    by (command.MkSeg path pages volume) e = record { plan = refl; stopped = refl; visited = refl; sizes = e }
+    by (command.Initiate path) e = record { plan = refl; stopped = refl; visited = refl; sizes = e }
+    by (command.Terminate n) e = record { plan = refl; stopped = refl; visited = refl; sizes = e }
+    by (command.Acl path row m) e = record { plan = refl; stopped = refl; visited = refl; sizes = e }
+    by (command.Length path pages) e = record { plan = refl; stopped = refl; visited = refl; sizes = e }
+    by (command.Truncate path words) e = record { plan = refl; stopped = refl; visited = refl; sizes = e }
+    by (command.Delete path) e = record { plan = refl; stopped = refl; visited = refl; sizes = e }
+    by (command.Move path amount) e = record { plan = refl; stopped = refl; visited = refl; sizes = e }
+    by (command.Status path) e = record { plan = refl; stopped = refl; visited = refl; sizes = e }
+    by (command.Read n w) e = record { plan = refl; stopped = refl; visited = refl; sizes = e }
+    by (command.Write n w x) e = record { plan = refl; stopped = refl; visited = refl; sizes = e }
+    by (command.Add n w x) e = record { plan = refl; stopped = refl; visited = refl; sizes = e }
+    by (command.Await n w x t) e = record { plan = refl; stopped = refl; visited = refl; sizes = e }
 
 commits : (s : State) (c : ℕ) (x : Option Command) → SamePools s (committed_at s c x)
-commits s c None = record { plan = refl; stopped = refl; sizes = refl }
+commits s c None = record { plan = refl; stopped = refl; visited = refl; sizes = refl }
 commits s c (Some cmd) = committed_same s c (process_at s c) cmd
 
 evicting : (s : State) (c f : ℕ) → SamePools s (eviction_begun s c f)
 evicting s c f = on s (with_store s (with_choice s.store f)) (eviction_begun s c f)
-    (record { plan = refl; stopped = refl; sizes = refl })
+    (record { plan = refl; stopped = refl; visited = refl; sizes = refl })
     (taken (with_store s (with_choice s.store f)) c aim.Evicting (what.Page f)
     (f ∷ []))
 
@@ -228,27 +234,27 @@ evicting s c f = on s (with_store s (with_choice s.store f)) (eviction_begun s c
 
 pub pools_kept : (s : State) (c : ℕ) (a : act.Action) (o : Outcome) → SamePools s (after s c a o)
 unfolding after
-pools_kept s c act.IsStopped o = record { plan = refl; stopped = refl; sizes = refl }
-pools_kept s c act.HasEnded o = record { plan = refl; stopped = refl; sizes = refl }
-pools_kept s c (act.Waits why) o = record { plan = refl; stopped = refl; sizes = refl }
-pools_kept s c act.Online o = record { plan = refl; stopped = refl; sizes = refl }
-pools_kept s c (act.Clear w) o = record { plan = refl; stopped = refl; sizes = refl }
+pools_kept s c act.IsStopped o = record { plan = refl; stopped = refl; visited = refl; sizes = refl }
+pools_kept s c act.HasEnded o = record { plan = refl; stopped = refl; visited = refl; sizes = refl }
+pools_kept s c (act.Waits why) o = record { plan = refl; stopped = refl; visited = refl; sizes = refl }
+pools_kept s c act.Online o = record { plan = refl; stopped = refl; visited = refl; sizes = refl }
+pools_kept s c (act.Clear w) o = record { plan = refl; stopped = refl; visited = refl; sizes = refl }
 pools_kept s c (act.EndTransfer t) o = either o.failed (transferred (with_faults s o.faults) c t)
-    (transfer_failed s c t o.faults) (record { plan = refl; stopped = refl; sizes = refl })
-    (record { plan = refl; stopped = refl; sizes = refl })
-pools_kept s c (act.Load n) o = record { plan = refl; stopped = refl; sizes = refl }
-pools_kept s c act.Leave o = record { plan = refl; stopped = refl; sizes = refl }
-pools_kept s c (act.FillSeg n) o = record { plan = refl; stopped = refl; sizes = refl }
-pools_kept s c (act.FillPage f r) o = record { plan = refl; stopped = refl; sizes = refl }
-pools_kept s c (act.Through f r) o = record { plan = refl; stopped = refl; sizes = refl }
-pools_kept s c (act.Plain r) o = record { plan = refl; stopped = refl; sizes = refl }
-pools_kept s c act.TakeSupervisor o = record { plan = refl; stopped = refl; sizes = refl }
-pools_kept s c (act.Answer r) o = record { plan = refl; stopped = refl; sizes = refl }
-pools_kept s c act.GiveUp o = record { plan = refl; stopped = refl; sizes = refl }
-pools_kept s c (act.Activate u place) o = record { plan = refl; stopped = refl; sizes = refl }
-pools_kept s c (act.Connect n u) o = record { plan = refl; stopped = refl; sizes = refl }
-pools_kept s c (act.Create f u p r) o = record { plan = refl; stopped = refl; sizes = refl }
-pools_kept s c (act.Start f u p) o = record { plan = refl; stopped = refl; sizes = refl }
+    (transfer_failed s c t o.faults) (record { plan = refl; stopped = refl; visited = refl; sizes = refl })
+    (record { plan = refl; stopped = refl; visited = refl; sizes = refl })
+pools_kept s c (act.Load n) o = record { plan = refl; stopped = refl; visited = refl; sizes = refl }
+pools_kept s c act.Leave o = record { plan = refl; stopped = refl; visited = refl; sizes = refl }
+pools_kept s c (act.FillSeg n) o = record { plan = refl; stopped = refl; visited = refl; sizes = refl }
+pools_kept s c (act.FillPage f r) o = record { plan = refl; stopped = refl; visited = refl; sizes = refl }
+pools_kept s c (act.Through f r) o = record { plan = refl; stopped = refl; visited = refl; sizes = refl }
+pools_kept s c (act.Plain r) o = record { plan = refl; stopped = refl; visited = refl; sizes = refl }
+pools_kept s c act.TakeSupervisor o = record { plan = refl; stopped = refl; visited = refl; sizes = refl }
+pools_kept s c (act.Answer r) o = record { plan = refl; stopped = refl; visited = refl; sizes = refl }
+pools_kept s c act.GiveUp o = record { plan = refl; stopped = refl; visited = refl; sizes = refl }
+pools_kept s c (act.Activate u place) o = record { plan = refl; stopped = refl; visited = refl; sizes = refl }
+pools_kept s c (act.Connect n u) o = record { plan = refl; stopped = refl; visited = refl; sizes = refl }
+pools_kept s c (act.Create f u p r) o = record { plan = refl; stopped = refl; visited = refl; sizes = refl }
+pools_kept s c (act.Start f u p) o = record { plan = refl; stopped = refl; visited = refl; sizes = refl }
 pools_kept s c (act.Evict f) o = evicting s c f
 pools_kept s c (act.Empty u) o = segment s c u (frames_from s.store.ast u 0) (trailers_in s.store u)
 pools_kept s c (act.EmptyVictim pool chain u) o = on s
@@ -257,10 +263,10 @@ pools_kept s c (act.EmptyVictim pool chain u) o = on s
     (frames_from (with_store s (with_hand_moved s.store pool chain)).store.ast u 0)
     (trailers_in (with_store s (with_hand_moved s.store pool chain)).store u))
 pools_kept s c (act.TakeAway fs pairs w) o = all_taken s c aim.Committing w fs pairs
-pools_kept s c (act.Signal w) o = record { plan = refl; stopped = refl; sizes = refl }
+pools_kept s c (act.Signal w) o = record { plan = refl; stopped = refl; visited = refl; sizes = refl }
 pools_kept s c (act.FinishEviction f) o = either o.failed (eviction_done (with_faults s o.faults) c f)
-    (write_failed s c o.faults) (record { plan = refl; stopped = refl; sizes = refl }) (failed s c o.faults)
+    (write_failed s c o.faults) (record { plan = refl; stopped = refl; visited = refl; sizes = refl }) (failed s c o.faults)
 pools_kept s c (act.FinishPage f) o = either o.failed (page_done (with_faults s o.faults) f)
-    (write_failed s c o.faults) (record { plan = refl; stopped = refl; sizes = refl }) (failed s c o.faults)
+    (write_failed s c o.faults) (record { plan = refl; stopped = refl; visited = refl; sizes = refl }) (failed s c o.faults)
 pools_kept s c (act.Deactivate u) o = is_emptied s c u
 pools_kept s c act.Commit o = commits s c (next_command s (process_at s c))

@@ -411,11 +411,11 @@ left_flat p es f left.Released page = ap (store_after p)
     ∙ ap (without_left left.Released page) (one_still p es (entry.GonePage f) refl))
 left_flat p es f left.Kept page = one_still p es (entry.GonePage f) refl
 
-left_nodes : (how : Left) (page : ℕ × ℕ) (t : Store) → (without_left how page t).nodes ≡ t.nodes
+pub left_nodes : (how : Left) (page : ℕ × ℕ) (t : Store) → (without_left how page t).nodes ≡ t.nodes
 left_nodes left.Released page t = refl
 left_nodes left.Kept page t = refl
 
-left_count : (pages : Plain) (home : Home) (p f : ℕ) (how : Left)
+pub left_count : (pages : Plain) (home : Home) (p f : ℕ) (how : Left)
     → length (evicted pages home p f how).core.frames ≡ length pages.core.frames
 left_count pages home p f left.Released = length-set pages.core.frames f _
 left_count pages home p f left.Kept = length-set pages.core.frames f _

@@ -153,7 +153,7 @@ zeros_at (w ∷ ws) (suc i) h = zeros_at ws i (later (eqb w 0) h)
     later true e = e
     later false e = absurd (let none : false ≡ true = e in cc)
 
-release_may : (s : State) (f u p : ℕ) → Keeps s → (seen s).bound f ≡ Some (u, p)
+pub release_may : (s : State) (f u p : ℕ) → Keeps s → (seen s).bound f ≡ Some (u, p)
     → left_of (words_in s.store.pages f) ≡ left.Released → MayRelease (flat_of s) u p
 release_may s f u p k bound released = record {
   there = stored_is s k u active p ∙ recorded (word_of s.store.ast u p) (k.book.tied.named f u p bound);

@@ -33,5 +33,6 @@ pub mod State
 pub mod Steps
 pub mod Taking
 pub mod Turns
+pub mod Visits
 pub mod Whole
 pub mod Working

@@ -1,0 +1,310 @@
+-- A visit of the shutdown keeps the whole promise, where the call of the store does what it says; and what holds of the
+-- frames that were visited.
+use Rattle.std.proofs.Common.{◌≡◌, ◌<◌, ◌≤◌, ℕ, ◌+◌, ◌++◌, ◌∷◌, [], Bool, true, false, not, cond, ◌&&◌, length}
+use Rattle.std.proofs.Common.{map, sum, List, Option, Some, None, refl, sym, ap, subst, ◌∙◌}
+use Rattle.std.specs.List.{list_any}
+use Rattle.site_io.specs.Faults.{Rose}
+use Rattle.assoc_mem.specs.declared.What.TheVariants as what
+use Rattle.book.specs.declared.entries.Entry.TheVariants as entry
+use Rattle.core_map.specs.CoreMap.{bound_page}
+use Rattle.tree_model.specs.Tree.{Node}
+use Rattle.script.specs.Forms.{IsPlan}
+use Rattle.script.specs.Plans.{Plan, commands_of}
+use Rattle.processor.specs.declared.Transfer.{Transfer}
+use Rattle.flat_model.specs.Legal.{MayFault, MayRelease}
+use Rattle.flat_model.specs.Store.{Store}
+use Rattle.page_control.specs.Plain.{Plain, frame_in, words_in}
+use Rattle.machine_model.specs.declared.Aim.TheVariants as aim
+use Rattle.machine_model.specs.declared.Processor.{Processor}
+use Rattle.machine_model.specs.declared.Run.{Run}
+use Rattle.machine_model.specs.Actions.{has_process, is_empty, is_over}
+use Rattle.machine_model.specs.After.{Outcome}
+use Rattle.machine_model.specs.Foreseen.{AllCome, Comes}
+use Rattle.machine_model.specs.Jobs.{are_zeros, here_if, leaving_if, left_of, page_back, page_gone, page_in, with_here}
+use Rattle.machine_model.specs.Jobs.{without_first_frame}
+use Rattle.machine_model.specs.Keeps.{IsFaithful, Keeps, StoreKept, StoreSays}
+use Rattle.machine_model.specs.Promise.{KeepsAll}
+use Rattle.machine_model.specs.Reads.{cpu_at, cut_of_owner, flat_of, home_in, run_at}
+use Rattle.machine_model.specs.Scheduled.{AreScheduled, IsScheduled}
+use Rattle.machine_model.specs.Chains.{page_or_zero}
+use Rattle.machine_model.specs.Said.{left_page, without_left}
+use Rattle.machine_model.specs.Shutdown.{after_visit, page_taken, visited_if}
+use Rattle.machine_model.specs.State.{Owner, State}
+use Rattle.machine_model.specs.Steps.{fault_told, with_faults}
+use Rattle.machine_model.specs.Visits.{AreIdle}
+use Rattle.machine_model.proofs.FlatAlike.{IsAlike, alike, alike_by, alike_on, fault_alike, one_still}
+use Rattle.machine_model.proofs.OutlineTake.{took_like}
+use Rattle.machine_model.proofs.OverLaws.{over_bare, over_faults, over_free, over_none, over_unread}
+use Rattle.machine_model.proofs.SaysLaws.{left_count, left_flat, left_nodes, none_rest, says_by}
+use Rattle.machine_model.proofs.StepAsks.{release_may}
+use Rattle.machine_model.proofs.TieLaws.{none_some}
+use Rattle.machine_model.proofs.VisitKept.{AsksVisit, visit_keeps}
+use Rattle.machine_model.proofs.WorkStep.{none_work}
+
+-- ---- what the call of the store says
+
+-- A frame had a page, which has left it, or stays where the drive failed; then it isn't all zeros.
+pub record VisitSays (s : State) (o : Outcome) : Type 0 where
+  pub kept : StoreKept (after_visit s o).store
+  pub gone : o.failed ≡ false → (page : ℕ × ℕ) → bound_page (frame_in s.store.pages s.visited) ≡ Some page → (t : Store)
+      → IsFaithful s.plan t s.store → IsFaithful s.plan (left_page s s.visited t) (after_visit s o).store
+  pub stays : o.failed ≡ true → (t : Store) → IsFaithful s.plan t s.store → IsFaithful s.plan t (after_visit s o).store
+  pub never_less : s.faults ≤ o.faults
+  pub counted : o.failed ≡ true → Rose s.faults o.faults
+  pub words : o.failed ≡ true → are_zeros (words_in s.store.pages s.visited) ≡ false
+
+-- ---- what a visit leaves alone
+
+pub record SameSeats (s t : State) : Type 0 where
+  pub plan : t.plan ≡ s.plan
+  pub runs : t.runs ≡ s.runs
+  pub ready : t.ready ≡ s.ready
+  pub processors : t.processors ≡ s.processors
+  pub sizes : t.store.ast.sizes ≡ s.store.ast.sizes
+  pub stopped : t.stopped ≡ s.stopped
+
+module _ (s : State) (o : Outcome) where
+  abbrev f : ℕ
+  f = s.visited
+
+  abbrev now : State
+  now = after_visit s o
+
+  abbrev taken : State
+  taken = page_taken s f
+
+  -- the page is taken: the pages are as before
+  taken_pages : taken.store.pages ≡ s.store.pages
+  taken_pages = (took_like s 0 aim.Evicting (what.Page f) (f ∷ []) []).pages
+
+  taken_sizes : taken.store.ast.sizes ≡ s.store.ast.sizes
+  taken_sizes = by (bound_page (frame_in s.store.pages f))
+    where
+      by : (x : Option (ℕ × ℕ)) → (leaving_if s.store f x).ast.sizes ≡ s.store.ast.sizes
+      by None = refl
+      by (Some page) = refl
+
+  taken_flat : flat_of taken ≡ flat_of s
+  taken_flat = one_still s.plan s.entries (entry.Take f) refl
+
+  -- the two ends
+  abbrev gone : State
+  gone = page_gone (with_faults taken o.faults) f
+
+  abbrev back : State
+  back = page_back (fault_told taken None o.faults) f
+
+  back_sizes : (x : Option (ℕ × ℕ)) → (here_if taken.store f x).ast.sizes ≡ taken.store.ast.sizes
+  back_sizes None = refl
+  back_sizes (Some page) = refl
+
+  back_pages : (with_here taken.store f).pages ≡ taken.store.pages
+  back_pages = by (bound_page (frame_in taken.store.pages f))
+    where
+      by : (x : Option (ℕ × ℕ)) → (here_if taken.store f x).pages ≡ taken.store.pages
+      by None = refl
+      by (Some page) = refl
+
+  pub same_seats : SameSeats s now
+  same_seats = by (bound_page (frame_in s.store.pages f))
+    where
+      ended : (b : Bool) → SameSeats s (record (cond b back gone) { visited = f + 1 })
+      ended true = record {
+        plan = refl;
+        runs = refl;
+        ready = refl;
+        processors = refl;
+        sizes = back_sizes (bound_page (frame_in taken.store.pages f)) ∙ taken_sizes;
+        stopped = refl;
+      }
+      ended false = record {
+        plan = refl;
+        runs = refl;
+        ready = refl;
+        processors = refl;
+        sizes = taken_sizes;
+        stopped = refl;
+      }
+
+      by : (x : Option (ℕ × ℕ)) → SameSeats s (record (visited_if s f o x) { visited = f + 1 })
+      by None = record { plan = refl; runs = refl; ready = refl; processors = refl; sizes = refl; stopped = refl }
+      by (Some page) = ended o.failed
+
+-- ---- the whole promise
+
+module _ (s : State) (o : Outcome) (all : KeepsAll s) (over : is_over s ≡ true) (idle : AreIdle s.processors)
+    (says : VisitSays s o) where
+  abbrev keeps : Keeps s
+  keeps = all.machine.keeps
+
+  abbrev place : ℕ
+  place = s.visited
+
+  none : s.owner ≡ None
+  none = over_free s all over
+
+  abbrev before : State
+  before = taken s o
+
+  -- the machine after the visit of a place with a page, by how the call ended
+  abbrev left_with : Bool → State
+  left_with b = record (cond b (back s o) (gone s o)) { visited = place + 1 }
+
+  is_now : (page : ℕ × ℕ) → bound_page (frame_in s.store.pages place) ≡ Some page → (b : Bool) → o.failed ≡ b
+      → after_visit s o ≡ left_with b
+  is_now page bound b e = ap (λ (x : Option (ℕ × ℕ)). record (visited_if s place o x) { visited = place + 1 }) bound
+      ∙ ap left_with e
+
+  -- what left the place, as it was before the page was taken
+  how_same : left_of (words_in before.store.pages place) ≡ left_of (words_in s.store.pages place)
+  how_same = ap (λ (x : Plain). left_of (words_in x place)) (taken_pages s o)
+
+  page_same : page_in before.store place ≡ page_in s.store place
+  page_same = ap (λ (x : Plain). page_or_zero (bound_page (frame_in x place))) (taken_pages s o)
+
+  gone_flat : flat_of (left_with false) ≡ left_page s place (flat_of s)
+  gone_flat = left_flat s.plan (s.entries ++ entry.Take place ∷ []) place
+      (left_of (words_in before.store.pages place)) (page_in before.store place)
+      ∙ ((λ i. without_left (how_same i) (page_same i) (taken_flat s o i)))
+
+  back_alike : IsAlike (flat_of s) (flat_of (left_with true))
+  back_alike = alike_by (alike_on (alike_by (alike (flat_of s)) (taken_flat s o))
+      (fault_alike s.plan (s.entries ++ entry.Take place ∷ []) None))
+      (one_still s.plan ((s.entries ++ entry.Take place ∷ []) ++ entry.Fault None ∷ []) (entry.BackPage place) refl)
+
+  no_cut : (owner : Option Owner) → owner ≡ None → cut_of_owner owner ≡ []
+  no_cut owner e = ap cut_of_owner e
+
+  -- the page leaves
+  gone_says : (page : ℕ × ℕ) → bound_page (frame_in s.store.pages place) ≡ Some page → o.failed ≡ false
+      → StoreSays (left_with false)
+  gone_says page bound well = says_by s (left_with false) (left_page s place (flat_of s)) keeps
+      (subst (λ (x : State). StoreKept x.store) same says.kept)
+      (subst (λ (x : State). IsFaithful s.plan (left_page s place (flat_of s)) x.store) same
+      (says.gone well page bound (flat_of s) keeps.faithful))
+      (alike_by (alike (left_page s place (flat_of s))) gone_flat)
+      (ap (λ (ns : List Node). sum (map (λ n. n.quota) ns))
+      (left_nodes (left_of (words_in s.store.pages place)) (page_in s.store place) (flat_of s)) ∙ keeps.conserved.total)
+      (none_rest s (left_with false) refl
+      (left_count before.store.pages (home_in before.store (page_in before.store place).0)
+      (page_in before.store place).1 place (left_of (words_in before.store.pages place))
+      ∙ ap (λ (x : Plain). length x.core.frames) (taken_pages s o)) (no_cut s.owner none))
+    where
+      same : after_visit s o ≡ left_with false
+      same = is_now page bound false well
+
+  -- the drive failed
+  back_says : (page : ℕ × ℕ) → bound_page (frame_in s.store.pages place) ≡ Some page → o.failed ≡ true
+      → StoreSays (left_with true)
+  back_says page bound ill = says_by s (left_with true) (flat_of s) keeps
+      (subst (λ (x : State). StoreKept x.store) same says.kept)
+      (subst (λ (x : State). IsFaithful s.plan (flat_of s) x.store) same (says.stays ill (flat_of s) keeps.faithful))
+      back_alike keeps.conserved.total
+      (none_rest s (left_with true) refl
+      (ap (λ (x : Plain). length x.core.frames) (back_pages s o ∙ taken_pages s o))
+      (ap (λ (x : Option Owner). cut_of_owner (without_first_frame x)) none))
+    where
+      same : after_visit s o ≡ left_with true
+      same = is_now page bound true ill
+
+  asks : (page : ℕ × ℕ) → bound_page (frame_in s.store.pages place) ≡ Some page → AsksVisit s o
+  asks page bound = record {
+    none = none;
+    bare = over_bare s all over idle;
+    well = λ e x h. (
+      says.never_less,
+      λ released. subst (λ (t : Store). MayRelease t x.0 x.1) (sym (taken_flat s o))
+          (release_may s place x.0 x.1 keeps h (sym how_same ∙ released)),
+      gone_says page bound e,
+    );
+    ill = λ e. (
+      says.counted e,
+      subst (λ (t : Store). MayFault t None) (sym (taken_flat s o)) (over_faults s all over),
+      back_says page bound e,
+    );
+  }
+
+  visit_unbound : bound_page (frame_in s.store.pages place) ≡ None → Keeps (after_visit s o)
+  visit_unbound e = subst (λ (x : Option (ℕ × ℕ)). Keeps (record (visited_if s place o x) { visited = place + 1 }))
+      (sym e) (record {
+        book = keeps.book;
+        store = keeps.store;
+        faithful = keeps.faithful;
+        rights = keeps.rights;
+        cut = keeps.cut;
+        conserved = keeps.conserved;
+        few_faults = keeps.few_faults;
+        sizes = record {
+          frames = keeps.sizes.frames;
+          processors = keeps.sizes.processors;
+          processes = keeps.sizes.processes;
+        };
+        at_work = keeps.at_work;
+      })
+
+  visit_kept : Keeps (after_visit s o)
+  visit_kept = by (bound_page (frame_in s.store.pages place)) refl
+    where
+      by : (x : Option (ℕ × ℕ)) → bound_page (frame_in s.store.pages place) ≡ x → Keeps (after_visit s o)
+      by (Some page) e = visit_keeps s o keeps (asks page e)
+      by None e = visit_unbound e
+
+  seats : SameSeats s (after_visit s o)
+  seats = same_seats s o
+
+  unrun : (d : ℕ) → (cpu_at (after_visit s o).processors d).process ≡ None
+  unrun d = ap (λ (ps : List Processor). (cpu_at ps d).process) seats.processors ∙ over_none s all over d
+
+  unread : (d : ℕ) (t : Transfer) → (cpu_at (after_visit s o).processors d).transfer ≡ Some t → ⊥
+  unread d t h = over_unread s all over d t
+      (ap (λ (ps : List Processor). (cpu_at ps d).transfer) (sym seats.processors) ∙ h)
+
+  come : AllCome (after_visit s o)
+  unfolding AllCome
+  come = subst (λ (p : Plan). (k : ℕ) → k < length (after_visit s o).runs
+      → (run_at (after_visit s o).runs k).ended ≡ false
+      → Comes (commands_of p k) (run_at (after_visit s o).runs k)) (sym seats.plan)
+      (subst (λ (rs : List Run). (k : ℕ) → k < length rs → (run_at rs k).ended ≡ false
+      → Comes (commands_of s.plan k) (run_at rs k)) (sym seats.runs) all.machine.come)
+
+  abbrev now_is : State
+  now_is = after_visit s o
+
+  scheduled : IsScheduled (after_visit s o)
+  scheduled = subst (λ (p : Plan). AreScheduled p now_is.runs now_is.ready now_is.processors) (sym seats.plan)
+      (subst (λ (r : List Run). AreScheduled s.plan r now_is.ready now_is.processors) (sym seats.runs)
+      (subst (λ (q : List ℕ). AreScheduled s.plan s.runs q now_is.processors) (sym seats.ready)
+      (subst (λ (ps : List Processor). AreScheduled s.plan s.runs s.ready ps) (sym seats.processors)
+      all.machine.scheduled)))
+
+  -- A visit keeps the whole promise.
+  pub visit_keeps_all : KeepsAll (after_visit s o)
+  visit_keeps_all = record {
+    machine = record {
+      keeps = visit_kept;
+      script = subst IsPlan (sym seats.plan) all.machine.script;
+      come = come;
+      scheduled = scheduled;
+      pools = seats.sizes ∙ (all.machine.pools ∙ ap (λ (p : Plan). p.pools) (sym seats.plan));
+    };
+    entitled = record { each = λ d k h. absurd (none_some (sym (unrun d) ∙ h)) };
+    reading = record { each = λ d t h. absurd (unread d t h) };
+    working = none_work (after_visit s o) free;
+    fitting = record { fits = λ q h. absurd (none_some (sym free ∙ h)) };
+  }
+    where
+      -- nobody owns the supervisor
+      free : (after_visit s o).owner ≡ None
+      free = by (bound_page (frame_in s.store.pages place))
+        where
+          ended : (b : Bool) → (left_with b).owner ≡ None
+          ended true = ap without_first_frame none
+          ended false = none
+
+          by : (x : Option (ℕ × ℕ)) → (record (visited_if s place o x) { visited = place + 1 }).owner ≡ None
+          by None = none
+          by (Some page) = ended o.failed
+
+  -- and no process is ready or running still
+  pub visit_over : is_over (after_visit s o) ≡ true
+  visit_over = (λ i. is_empty (seats.ready i) && not (list_any has_process (seats.processors i))) ∙ over
