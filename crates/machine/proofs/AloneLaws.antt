@@ -236,10 +236,11 @@ module _ {D : Type 0} (t : Parts D) (c : ℕ) (sound : IsSound t) (k : ℕ)
   abbrev n : ℕ
   n = length w.plan.processes
 
-  -- Where the initializer ends no other process is ready, so the ready list has room for all.
-  pub released_room : (cmd : Option Command) → length w.ready + length (released_by w.plan k cmd) ≤ t.room
-  released_room None = let less = ready_room t c sound k its in omega (arith, less)
-  released_room (Some cmd) = freed (is_end cmd && (w.plan.initializer && eqb k 0)) refl
+  -- Where the initializer ends no other process is ready, so the ready list has room for all that it releases, and for
+  -- the process of the processor.
+  pub leaving_room : (cmd : Option Command) → length w.ready + (length (released_by w.plan k cmd) + 1) ≤ t.room
+  leaving_room None = let less = ready_room t c sound k its in omega (arith, less)
+  leaving_room (Some cmd) = freed (is_end cmd && (w.plan.initializer && eqb k 0)) refl
     where
       small : length w.ready < t.room
       small = ready_room t c sound k its
@@ -264,14 +265,14 @@ module _ {D : Type 0} (t : Parts D) (c : ℕ) (sound : IsSound t) (k : ℕ)
           ]))
 
       freed : (b : Bool) → (is_end cmd && (w.plan.initializer && eqb k 0)) ≡ b
-          → length w.ready + length (cond b (range 1 (n - 1)) []) ≤ t.room
+          → length w.ready + (length (cond b (range 1 (n - 1)) []) + 1) ≤ t.room
       freed true h =
           let parts = both_true (is_end cmd) (w.plan.initializer && eqb k 0) h in
           let more = both_true w.plan.initializer (eqb k 0) parts.1 in
           let none : length w.ready ≡ 0 = ap (λ (xs : List ℕ). length xs) (alone more.0 (is_zeroth more.1)) in
           let long = range_length 1 (n - 1) in
           let room = sound.room in
-          omega (arith, none, long, room)
+          omega (arith, none, long, room, small)
         where
           is_zeroth : eqb k 0 ≡ true → k ≡ 0
           is_zeroth e = elim (eqb_tells k 0) [
@@ -283,6 +284,10 @@ module _ {D : Type 0} (t : Parts D) (c : ℕ) (sound : IsSound t) (k : ℕ)
           both_true true b e = (refl, e)
           both_true false b e = absurd (let no : false ≡ true = e in cc)
       freed false h = omega (arith, small)
+
+  -- So there is room for those that it releases.
+  pub released_room : (cmd : Option Command) → length w.ready + length (released_by w.plan k cmd) ≤ t.room
+  released_room cmd = let room = leaving_room cmd in omega (arith, room)
 
   -- A processor has answered fewer commands since it loaded its process than the book has entries.
   pub count_room : (processor_at w.processors c).count < length w.entries

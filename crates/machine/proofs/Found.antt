@@ -73,6 +73,8 @@ Found s c (act.FinishEviction f) = Waited s c aim.Evicting (λ fs. (rest : List 
 Found s c (act.FinishPage f) =
     (u : ℕ) × Waited s c (aim.Deactivating u) (λ fs. (rest : List ℕ) × (fs ≡ f ∷ rest))
 Found s c (act.Deactivate u) = Waited s c (aim.Deactivating u) (λ fs. fs ≡ [])
+Found s c act.TakeSupervisor = s.owner ≡ None
+Found s c act.GiveUp = IsMine s c
 Found s c _ = Unit {0}
 
 pick : (s : State) (c : ℕ) (b : Bool) (x y : act.Action) → (b ≡ true → Found s c x)
@@ -99,13 +101,13 @@ module _ (s : State) (c : ℕ) (m : IsMachine s) (there : c < length s.processor
   abbrev k : ℕ
   k = process_at s c
 
-  take_found : (x : Option Owner) → Found s c (take_or_wait x)
-  take_found None = tt
-  take_found (Some q) = tt
+  take_found : (x : Option Owner) → s.owner ≡ x → Found s c (take_or_wait x)
+  take_found None e = e
+  take_found (Some q) e = tt
 
   module _ (r : Reference) where
     descriptor_found : (x : Sdw) → Found s c (by_move s.owner r (by_descriptor x))
-    descriptor_found sdw.Fault = take_found s.owner
+    descriptor_found sdw.Fault = take_found s.owner refl
     descriptor_found (sdw.Present aste mode pages) = tt
 
     word_found : (w : Ptw) → Found s c (by_move s.owner r (by_word w r.kind))
@@ -113,10 +115,10 @@ module _ (s : State) (c : ℕ) (m : IsMachine s) (there : c < length s.processor
       where
         by : (b : Bool) → Found s c (by_move s.owner r (cond b (move.Plain (word_reply 0 r.kind)) move.Fault))
         by true = tt
-        by false = take_found s.owner
-    word_found (ptw.Out n) = take_found s.owner
+        by false = take_found s.owner refl
+    word_found (ptw.Out n) = take_found s.owner refl
     word_found (ptw.Here f) = tt
-    word_found (ptw.Leaving f) = take_found s.owner
+    word_found (ptw.Leaving f) = take_found s.owner refl
 
     page_found : (h : HeldSeg) (x : Option ℕ) → frame_of p.cpu.assoc h.uid (r.offset / 1024) ≡ x
         → Found s c (by_move s.owner r (by_page x (word_of s.store.ast h.uid (r.offset / 1024)) r.kind))
@@ -161,11 +163,11 @@ module _ (s : State) (c : ℕ) (m : IsMachine s) (there : c < length s.processor
       (come_to s p.cpu n (next_command s n)) (λ h. tt) (λ h. come (next_command s n))
     where
       refer : (x : Option Reference) → Found s c (refer_or_take s p.cpu n x)
-      refer None = take_found s.owner
+      refer None = take_found s.owner refl
       refer (Some r) = move_found r n
 
       come : (x : Option Command) → Found s c (come_to s p.cpu n x)
-      come None = take_found s.owner
+      come None = take_found s.owner refl
       come (Some cmd) = refer (reference_of cmd)
 
   -- ---- the owner looks
@@ -196,7 +198,7 @@ module _ (s : State) (c : ℕ) (m : IsMachine s) (there : c < length s.processor
     look_found (act.FinishEviction f) h = absurd h
     look_found (act.FinishPage f) h = absurd h
     look_found (act.Waits why) h = tt
-    look_found act.GiveUp h = tt
+    look_found act.GiveUp h = l.owner
     look_found act.IsStopped h = tt
     look_found act.HasEnded h = tt
     look_found act.Online h = tt
@@ -206,7 +208,7 @@ module _ (s : State) (c : ℕ) (m : IsMachine s) (there : c < length s.processor
     look_found act.Leave h = tt
     look_found (act.FillSeg n) h = tt
     look_found (act.FillPage f r) h = tt
-    look_found act.TakeSupervisor h = tt
+    look_found act.TakeSupervisor h = absurd h
     look_found (act.Signal w) h = tt
     look_found (act.Deactivate u) h = absurd h
 
@@ -214,7 +216,7 @@ module _ (s : State) (c : ℕ) (m : IsMachine s) (there : c < length s.processor
 
   finish_found : (a : Aim) (w : What) (h : HasWaited s c a w) (fs : List ℕ) → h.owner.owner.frames ≡ fs
       → Found s c (finish_of a fs)
-  finish_found aim.Evicting w h [] e = tt
+  finish_found aim.Evicting w h [] e = h.owner
   finish_found aim.Evicting w h (f ∷ fs) e = record { what = w; waited = h; left = (fs, e) }
   finish_found (aim.Deactivating u) w h [] e = record { what = w; waited = h; left = e }
   finish_found (aim.Deactivating u) w h (f ∷ fs) e = (u, record { what = w; waited = h; left = (fs, e) })

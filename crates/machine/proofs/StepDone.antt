@@ -16,6 +16,7 @@ use Rattle.machine_model.specs.declared.CutDescriptor.{CutDescriptor}
 use Rattle.machine_model.specs.Actions as act
 use Rattle.machine_model.specs.Actions.{action_of}
 use Rattle.machine_model.specs.After.{after, no_call}
+use Rattle.machine_model.specs.Commits.{committed_at}
 use Rattle.machine_model.specs.Jobs.{cut_all, cut_one, deactivation_begun, emptied, eviction_begun, seg_gone, segs_gone}
 use Rattle.machine_model.specs.Jobs.{segment_taken, signalled, take_all, take_one, took, victim_taken, with_hand_moved}
 use Rattle.machine_model.specs.Reads.{cpu_at, cut_of_owner, frames_from, next_command, or_zero, process_at, trailers_in}
@@ -27,6 +28,7 @@ use Rattle.machine_model.specs.Steps.{went_through, with_owner}
 use Rattle.machine_tables.specs.Claimed.{frames_for, pairs_for, took_for, what_for}
 use Rattle.machine_tables.specs.Parts.{Parts, outcome_of, with_state}
 use Rattle.machine.specs.Turns.{IfStill, IsStep, IsTurn, turn_of, why_by}
+use Rattle.machine.proofs.CommitStays.{commit_faults}
 use Rattle.machine.specs.declared.turn.Turn.TheVariants as turn
 
 -- ---- the drives' count stays
@@ -274,6 +276,19 @@ module _ {D Plan : Type 0} (plan : D → Plan) (places : D → ℕ) (old new : P
   unfolding after
   deactivate_turn u doing = quiet_turn (act.Deactivate u) (emptied s c u) (λ h. tt) doing refl
       (gone_faults s (cut_of_owner s.owner))
+
+  committed_turn : action_of s c ≡ act.Commit
+      → new ≡ with_state old (committed_at s c (next_command s (process_at s c)))
+      → IsTurn plan places old new c (turn.Moved point.Other)
+  unfolding after
+  committed_turn doing = quiet_turn act.Commit (committed_at s c (next_command s (process_at s c))) (λ h. tt) doing refl
+      (commit_faults s c (next_command s (process_at s c)))
+
+  pub commit_turn : (k : ℕ) → (cpu_at s.processors c).process ≡ Some k → action_of s c ≡ act.Commit
+      → new ≡ with_state old (committed_at s c (next_command s k)) → IsTurn plan places old new c
+      (turn.Moved point.Other)
+  commit_turn k its doing is = committed_turn doing
+      (is ∙ ap (λ (j : ℕ). with_state old (committed_at s c (next_command s j))) (sym (ap or_zero its)))
 
   -- ---- calls of a drive
 

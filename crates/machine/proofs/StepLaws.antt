@@ -1,22 +1,29 @@
 -- What is told of a step, by its turn.
-use Rattle.std.proofs.Common.{◌≡◌, ◌<◌, ℕ, length, ap, ◌∙◌}
+use Rattle.std.proofs.Common.{◌≡◌, ◌<◌, ℕ, true, length, sym, ap, subst, ◌∙◌, arith}
+use Rattle.std.specs.Prelude.{sum_by}
 use Rattle.script.specs.Plans.{Plan as Script}
 use Rattle.book.specs.declared.entries.Entry.{Entry}
 use Rattle.machine_model.specs.Actions as act
 use Rattle.machine_model.specs.Actions.{action_of}
 use Rattle.machine_model.specs.After.{after}
 use Rattle.machine_model.specs.State.{State}
+use Rattle.machine_model.specs.Turns.{moves}
+use Rattle.machine_model.specs.Reads.{process_at}
 use Rattle.machine_model.proofs.BookAfter.{HasBooked, entries_after}
+use Rattle.machine_model.proofs.FaultsBooked.{HasTold, faults_after}
 use Rattle.machine_model.proofs.PoolsKept.{pools_kept}
 use Rattle.machine_tables.specs.Parts.{Parts}
 use Rattle.machine_tables.specs.Meant.{why_of}
 use Rattle.machine_tables.specs.declared.action.Why.{Why}
 use Rattle.machine_tables.specs.declared.action.Why.TheVariants as why
 use Rattle.machine.specs.Promise.{IsSound}
-use Rattle.machine.specs.Turns.{Appends, IsTurn, KeepsParts}
+use Rattle.machine.specs.Schedules.{is_moved}
+use Rattle.machine.specs.Turns.{Appends, Changes, IfMoved, IsTurn, KeepsParts, TellsFaults}
 use Rattle.machine.specs.declared.turn.Turn.{Turn}
 use Rattle.machine.specs.declared.turn.Turn.TheVariants as turn
+use Rattle.machine.proofs.MovedLaws.{moved_changes}
 use Rattle.machine.proofs.StepDone.{waits_turn}
+use Rattle.machine.proofs.TurnLaws.{told_moves}
 
 module _ {D Plan : Type 0} (plan : D → Plan) (places : D → ℕ) (old new : Parts D) (c : ℕ) (answer : Turn)
     (sound : IsSound old) (there : c < length old.state.processors) (made : IsTurn plan places old new c answer) where
@@ -38,6 +45,39 @@ module _ {D Plan : Type 0} (plan : D → Plan) (places : D → ℕ) (old new : P
     stores = made.step.stores;
     count = made.step.count;
   }
+
+  -- what is done changes something
+  pub step_changes : IfMoved answer (Changes old.state new.state)
+  step_changes = by answer (ap is_moved made.answer_is ∙ told_moves old.state c (action_of old.state c))
+    where
+      changes : moves (action_of old.state c) ≡ true → Changes old.state new.state
+      changes h = subst (Changes old.state) (sym made.step.done)
+          (moved_changes old.state c made.step.outcome sound.keeps there h)
+
+      by : (x : Turn) → is_moved x ≡ moves (action_of old.state c) → IfMoved x (Changes old.state new.state)
+      by (turn.Moved point) e = changes (sym e)
+      by (turn.Waits why) e = tt
+      by turn.Ended e = tt
+      by turn.Stopped e = tt
+
+  pub step_faults : (faults : D → ℕ) → old.state.faults ≡ sum_by faults old.drives
+      → new.state.faults ≡ sum_by faults new.drives → TellsFaults faults old new (process_at old.state c)
+  step_faults faults before now = record {
+    more = told.booked.more;
+    entries = ap (λ (s : State). s.entries) made.step.done ∙ told.booked.entries;
+    few = told.right.few;
+    only = λ some. (let rose = made.step.rose (told.right.only some) in omega (arith, rose, before, now));
+    its = told.right.its;
+    later = told.right.later;
+  }
+    where
+      told : HasTold old.state (after old.state c (action_of old.state c) made.step.outcome) c made.step.outcome.failed
+      told = faults_after old.state c made.step.outcome sound.keeps there
+
+-- a processor of the script is one of the machine's
+pub processor_there : {D : Type 0} (t : Parts D) (c : ℕ) → IsSound t → c < t.state.plan.processors
+    → c < length t.state.processors
+processor_there t c sound within = let many = sound.keeps.machine.keeps.sizes.processors in omega (arith, many, within)
 
 -- a processor waits
 pub waits_told : {D Plan : Type 0} (plan : D → Plan) (places : D → ℕ) (old new : Parts D) (c : ℕ) (w : Why)

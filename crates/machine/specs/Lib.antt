@@ -1,3 +1,5 @@
 pub mod Promise
+pub mod Schedules
+pub mod Sizes
 pub mod Starts
 pub mod Turns

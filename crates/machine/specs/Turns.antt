@@ -1,13 +1,18 @@
 -- What a step of a processor does, and what it is answered (own).
-use Rattle.std.specs.Prelude.{◌≡◌, ◌≤◌, ◌++◌, ℕ, true, length, map, List, Some}
+use Rattle.std.specs.Prelude.{◌≡◌, ◌≢◌, ◌⊎◌, ◌<◌, ◌≤◌, ◌++◌, ◌∷◌, ℕ, true, count_by, length, map, sum_by, List}
+use Rattle.std.specs.Prelude.{Option, Some}
 use Rattle.book.specs.declared.entries.Entry.{Entry}
+use Rattle.book.specs.declared.entries.Entry.TheVariants as entry
+use Rattle.book.specs.declared.replies.Reply.TheVariants as reply
+use Rattle.flat_model.specs.Store.{progress_of}
 use Rattle.site_io.specs.Faults.{Rose}
 use Rattle.site_io.specs.declared.gate.Point.{Point}
 use Rattle.site_io.specs.declared.gate.Point.TheVariants as point
 use Rattle.machine_model.specs.Actions as act
 use Rattle.machine_model.specs.Actions.{action_of}
 use Rattle.machine_model.specs.After.{Outcome, after}
-use Rattle.machine_model.specs.Reads.{cpu_at, process_at}
+use Rattle.machine_model.specs.Keeps.{is_fault}
+use Rattle.machine_model.specs.Reads.{cpu_at, flat_of, process_at}
 use Rattle.machine_model.specs.State.{State}
 use Rattle.machine_tables.specs.Parts.{Parts}
 use Rattle.machine_tables.specs.declared.action.Why.{Why}
@@ -57,6 +62,15 @@ abbrev pub IfStill : Turn → Type 0 → Type 0
 IfStill (turn.Moved point) x = Unit {0}
 IfStill _ x = x
 
+-- a fact, where the answer says that something was done
+abbrev pub IfMoved : Turn → Type 0 → Type 0
+IfMoved (turn.Moved point) x = x
+IfMoved _ x = Unit {0}
+
+-- the book is longer, or the supervisor's owner or how far the owner's job has come isn't what it was
+abbrev pub Changes : State → State → Type 0
+Changes old new = (length old.entries < length new.entries) ⊎ (new.owner ≢ old.owner)
+
 -- Processor c has made its step, and this is what it is answered; nothing changes where nothing is done.
 pub record IsTurn {D Plan : Type 0} (plan : D → Plan) (places : D → ℕ) (old new : Parts D) (c : ℕ) (answer : Turn)
     : Type 0 where
@@ -76,3 +90,18 @@ pub record KeepsParts {D Plan : Type 0} (plan : D → Plan) (places : D → ℕ)
   pub plans : map plan new.drives ≡ map plan old.drives
   pub stores : map places new.drives ≡ map places old.drives
   pub count : length new.drives ≡ length old.drives
+
+-- What the entries that are added tell of the drives: a failure only where the drives' counts rose, one at the most, and
+-- of this process; and that a process was told of one only after it.
+pub record TellsFaults {D : Type 0} (faults : D → ℕ) (old new : Parts D) (process : ℕ) : Type 0 where
+  pub more : List Entry
+  pub entries : new.state.entries ≡ old.state.entries ++ more
+  pub few : count_by is_fault more ≤ 1
+  pub only : 1 ≤ count_by is_fault more → Rose (sum_by faults old.drives) (sum_by faults new.drives)
+  pub its : (xs ys : List Entry) (k : Option ℕ) → more ≡ xs ++ entry.Fault k ∷ ys → k ≡ Some process
+  pub later : (xs ys : List Entry) (k place cpu : ℕ) (frame : Option ℕ)
+      → more ≡ xs ++ entry.Do k place cpu frame reply.Device ∷ ys → 1 ≤ count_by is_fault xs
+
+-- every process of the script has ended, by the flat store after the book
+abbrev pub HaveEnded : State → Type 0
+HaveEnded s = (k : ℕ) → k < length s.plan.processes → (progress_of (flat_of s) k).ended ≡ true

@@ -9,6 +9,7 @@ mod looking;
 mod machine;
 mod making;
 mod owning;
+mod schedule;
 mod starting;
 mod stepping;
 mod turn;

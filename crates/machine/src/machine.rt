@@ -1,7 +1,10 @@
-ghost use Rattle.std.specs.Prelude.{◌≡◌, ◌≤◌, true, OnOk};
-ghost use Rattle.flat_model.specs.Legal.{IsLegal};
+ghost use Rattle.std.specs.Prelude.{◌≡◌, ◌≤◌, ◌↔◌, true, OnOk};
+ghost use Rattle.flat_model.specs.Legal.{IsComplete, IsLegal};
 ghost use Rattle.custody_model.specs.Clean.{IsClean};
+ghost use Rattle.machine_model.specs.Actions.{is_over};
 ghost use Rattle.machine_model.specs.Promise.{KeepsAll};
+ghost use Rattle.machine.specs.Sizes.{HaveSizes};
+ghost use Rattle.machine.specs.Turns.{HaveEnded};
 
 use book::Book;
 use machine_tables::{NoMemory, Tables};
@@ -68,5 +71,25 @@ impl<D: Drive> Machine<D> {
         ensures { result ≡ self.now.state.stopped }
     {
         self.tables.stopped()
+    }
+    /// Whether every process has ended: none is ready or running. It goes round the processors. (Source: own.)
+    pub fn ended(&self) -> bool
+        ensures over { result ≡ is_over self.now.state }
+        ensures ended { (result ≡ true) ↔ HaveEnded self.now.state }
+        ensures complete { result ≡ true → IsComplete self.now.state.plan self.now.state.entries }
+    {
+        self.tables.is_over()
+    }
+
+    /// The volumes, with their drives, each of the size that the script gives its volume. (Source: own.)
+    pub fn volumes(&self) -> &Volumes<D>
+        ensures drives { result.now.drives ≡ self.now.drives }
+        ensures records { result.now.records ≡ self.now.state.store.pages.records }
+        ensures vtocs { result.now.vtocs ≡ self.now.state.store.pages.vtocs }
+        ensures sizes { HaveSizes D.pages self.now.drives self.now.state.plan }
+    {
+        let volumes = self.tables.volumes();
+        let _count = volumes.count();
+        volumes
     }
 }

@@ -1,8 +1,8 @@
-//! What the owner of the supervisor does for the next command of its process: a page is made, or what a tree command
-//! must have out of use is taken.
+//! What the owner of the supervisor does for the next command of its process: a page is made; what a tree command must
+//! have out of use is taken; or it takes effect.
 
 ghost use Rattle.std.specs.Prelude.{◌≡◌, ◌<◌, ◌≤◌, length};
-ghost use Rattle.machine_model.specs.Actions.{Create, action_of};
+ghost use Rattle.machine_model.specs.Actions.{Commit, Create, action_of};
 ghost use Rattle.machine_model.specs.Reads.{next_command, process_at};
 ghost use Rattle.machine_tables.specs.Meant.{taken_for};
 ghost use Rattle.machine.specs.Turns.{IsTurn};
@@ -49,6 +49,22 @@ impl<D: Drive> Machine<D> {
     {
         let process = self.busy(c);
         self.tables.take_away(c, process);
+        let _tables = self.tables.look();
+        Turn::Moved(Point::Other)
+    }
+    /// The next command of the process of processor `c`, a tree command that isn't refused, takes effect: what its job
+    /// took is gone, the process is answered, and the supervisor is given up. At its end the process leaves the
+    /// processor. (Source: Bensoussan, Clingen and Daley 1972; Organick 1972.)
+    pub(crate) fn commit(&mut self, c: u32) -> Turn
+        requires doing { action_of self.old.state c ≡ Commit }
+        requires there { c < length self.old.state.processors }
+        requires room { 320 ≤ self.old.state.spare }
+        ensures { IsTurn D.plan D.places self.old self.new c result }
+    {
+        let process = self.busy(c);
+        let _entries = self.entries(c, process);
+        let _volumes = self.tables.volumes().count();
+        self.tables.commit(c, process);
         let _tables = self.tables.look();
         Turn::Moved(Point::Other)
     }

@@ -19,8 +19,3 @@ pub returns-in-Waits : goal.returns-in-Waits
 returns-in-Waits g c = waits_told _ _ _ _ c.args.c c.in-Waits.why
     (sym c.requires.doing ∙ ap (meant c.args.self.now.state (process_at c.args.self.now.state c.args.c))
     c.in-Waits.is) refl
-
-pub unreachable-requires : goal.unreachable-requires
-unreachable-requires g c = c.requires.other
-    (sym c.requires.doing ∙ ap (meant c.args.self.now.state (process_at c.args.self.now.state c.args.c))
-    c.in-Commit.is)

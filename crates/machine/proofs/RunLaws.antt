@@ -1,0 +1,230 @@
+-- What processors come to that make their steps one after the other.
+use Rattle.std.proofs.Common.{◌≡◌, ◌≤◌, ◌+◌, ◌||◌, ℕ, zero, suc, Bool, true, false, length, map, List, [], ◌∷◌, ◌++◌, drop}
+use Rattle.std.proofs.Common.{◌<◌, get_or, take, Some, refl, sym, ap, subst, ◌∙◌, arith}
+use Rattle.std.specs.Prelude.{◌↔◌, Result, Ok, Err, IfOk, OnErr, sum_by}
+use Rattle.std.specs.List.{list_any}
+use Rattle.std.proofs.lemmas.Bool.{or_parts}
+use Rattle.std.proofs.lemmas.List.{take-append-drop, take_more}
+use Rattle.script.specs.Plans.{Plan as Script}
+use Rattle.site_io.specs.Faults.{Rose}
+use Rattle.book.specs.declared.entries.Entry.{Entry}
+use Rattle.machine_model.specs.Actions as act
+use Rattle.machine_model.specs.Actions.{action_of}
+use Rattle.machine_model.specs.Reads.{process_at}
+use Rattle.machine_model.specs.Refusal.{outside_refusal, refusal_of, room_refusal}
+use Rattle.machine_model.specs.State.{State}
+use Rattle.machine_model.specs.Turns.{moves}
+use Rattle.machine_model.proofs.FlatAlike.{append_assoc, append_nil}
+use Rattle.machine_tables.specs.Parts.{Parts}
+use Rattle.machine.specs.Schedules.{Grows, HasRun, HasStood, IsRound, is_moved, tally, with_room, would_move}
+use Rattle.machine.specs.Turns.{Appends, IfStill, IsTurn, KeepsParts, TellsFaults, turn_of}
+use Rattle.machine.specs.declared.turn.Turn.{Turn}
+use Rattle.machine.proofs.TurnLaws.{still_of, told_moves}
+
+-- the rules don't read how much room the book has
+same_action : {D : Type 0} (t : Parts D) (spare c : ℕ) → action_of (with_room t spare).state c ≡ action_of t.state c
+unfolding action_of refusal_of outside_refusal room_refusal
+same_action t spare c = refl
+
+module _ {D Plan : Type 0} (plan : D → Plan) (places faults : D → ℕ) where
+  abbrev Round : Parts D → Parts D → ℕ → ℕ → Type 0
+  Round = IsRound plan places faults
+
+  abbrev Run : Parts D → Parts D → List ℕ → ℕ → Type 0
+  Run = HasRun plan places faults
+
+  round_moves : (old new : Parts D) (c one : ℕ) → Round old new c one → one ≡ tally (would_move old.state c)
+  round_moves old new c one r = r.moved_is ∙ ap tally (ap is_moved r.turn.answer_is
+      ∙ (told_moves (with_room old r.spare).state c (action_of (with_room old r.spare).state c)
+      ∙ ap moves (same_action old r.spare c)))
+
+  pub round_few : (old new : Parts D) (c one : ℕ) → Round old new c one → one ≤ 1
+  round_few old new c one r = by (is_moved r.answer) r.moved_is
+    where
+      by : (b : Bool) → one ≡ tally b → one ≤ 1
+      by true e = omega (arith, e)
+      by false e = omega (arith, e)
+
+  -- a step in which nothing is done changes but the room
+  round_still : (old new : Parts D) (c one : ℕ) (r : Round old new c one) → one ≡ 0 → new ≡ with_room old r.spare
+  round_still old new c one r none = still_of r.answer (by (is_moved r.answer) refl) r.turn.still
+    where
+      by : (b : Bool) → is_moved r.answer ≡ b → is_moved r.answer ≡ false
+      by true e = absurd (let same = r.moved_is in let t : tally (is_moved r.answer) ≡ 1 = ap tally e in
+          omega (arith, same, t, none))
+      by false e = e
+
+  -- what would move is told by what there was, where nothing was done
+  same_any : (old mid : Parts D) (spare : ℕ) → mid ≡ with_room old spare → (cs : List ℕ)
+      → list_any (would_move mid.state) cs ≡ list_any (would_move old.state) cs
+  same_any old mid spare same [] = refl
+  same_any old mid spare same (c ∷ cs) =
+      ap (λ (b : Bool). b || list_any (would_move mid.state) cs)
+      (ap (λ (t : Parts D). would_move t.state c) same ∙ ap moves (same_action old spare c))
+      ∙ ap (λ (b : Bool). would_move old.state c || b) (same_any old mid spare same cs)
+
+  -- Where none moved, none would have in the machine as it was.
+  pub run_none : (old new : Parts D) (cs : List ℕ) (n : ℕ) → Run old new cs n → n ≡ 0
+      → list_any (would_move old.state) cs ≡ false
+  run_none old new [] n run none = refl
+  run_none old new (c ∷ cs) n (mid, one, rest, is, round, more) none =
+      ap (λ (b : Bool). b || list_any (would_move old.state) cs) (here (would_move old.state c) refl)
+      ∙ (sym (same_any old mid round.spare (round_still old mid c one round (omega (arith, is, none))) cs)
+      ∙ run_none mid new cs rest more (omega (arith, is, none)))
+    where
+      here : (b : Bool) → would_move old.state c ≡ b → would_move old.state c ≡ false
+      here true e = absurd (let moved = round_moves old mid c one round in
+          let t : tally (would_move old.state c) ≡ 1 = ap tally e in omega (arith, is, none, moved, t))
+      here false e = e
+
+  -- Where none would have moved, none did.
+  pub run_still : (old new : Parts D) (cs : List ℕ) (n : ℕ) → Run old new cs n
+      → list_any (would_move old.state) cs ≡ false → n ≡ 0
+  run_still old new [] n run none = run.1
+  run_still old new (c ∷ cs) n (mid, one, rest, is, round, more) none =
+      let later = run_still mid new cs rest more (same_any old mid round.spare (round_still old mid c one round here) cs
+      ∙ parts.1) in omega (arith, is, here, later)
+    where
+      parts : (would_move old.state c ≡ false) × (list_any (would_move old.state) cs ≡ false)
+      parts = or_parts (would_move old.state c) (list_any (would_move old.state) cs) none
+
+      here : one ≡ 0
+      here = round_moves old mid c one round ∙ ap tally parts.0
+
+  -- Entries that stood there stand.
+  pub run_grows : (old new : Parts D) (cs : List ℕ) (n : ℕ) → Run old new cs n
+      → Grows old.state.entries new.state.entries
+  run_grows old new [] n (same, none) = record {
+    more = [];
+    entries = ap (λ (t : Parts D). t.state.entries) same ∙ sym (append_nil old.state.entries);
+  }
+  run_grows old new (c ∷ cs) n (mid, one, rest, is, round, more) =
+      let later = run_grows mid new cs rest more in record {
+        more = round.entries.more ++ later.more;
+        entries = later.entries ∙ (ap (λ (es : List Entry). es ++ later.more) round.entries.entries
+            ∙ append_assoc old.state.entries round.entries.more later.more);
+      }
+
+  pub run_keeps : (old new : Parts D) (cs : List ℕ) (n : ℕ) → Run old new cs n → KeepsParts plan places old new
+  run_keeps old new [] n (same, none) = record {
+    script = ap (λ (t : Parts D). t.state.plan) same;
+    plans = ap (λ (t : Parts D). map plan t.drives) same;
+    stores = ap (λ (t : Parts D). map places t.drives) same;
+    count = ap (λ (t : Parts D). length t.drives) same;
+  }
+  run_keeps old new (c ∷ cs) n (mid, one, rest, is, round, more) = let later = run_keeps mid new cs rest more in record {
+    script = later.script ∙ round.kept.script;
+    plans = later.plans ∙ round.kept.plans;
+    stores = later.stores ∙ round.kept.stores;
+    count = later.count ∙ round.kept.count;
+  }
+
+  -- one processor more makes its step
+  pub run_on : (old mid new : Parts D) (cs : List ℕ) (n c one : ℕ) → Run old mid cs n → Round mid new c one
+      → Run old new (cs ++ c ∷ []) (n + one)
+  run_on old mid new [] n c one (same, none) round = (
+    new,
+    one,
+    0,
+    omega (arith, none),
+    subst (λ (t : Parts D). Round t new c one) same round,
+    (refl, refl),
+  )
+  run_on old mid new (d ∷ cs) n c one (next, first, rest, is, made, more) round = (
+    next,
+    first,
+    rest + one,
+    omega (arith, is),
+    made,
+    run_on next mid new cs rest c one more round,
+  )
+
+  -- room is made for a step, and it is made
+  pub round_made : (old mid new : Parts D) (c one : ℕ) (answer : Turn) → mid ≡ with_room old mid.state.spare
+      → IsTurn plan places mid new c answer → Appends mid.state.entries new.state.entries 320
+      → KeepsParts plan places mid new → TellsFaults faults mid new (process_at mid.state c)
+      → one ≡ tally (is_moved answer) → Round old new c one
+  round_made old mid new c one answer same turn appends keeps told is = record {
+    spare = mid.state.spare;
+    answer = answer;
+    moved_is = is;
+    turn = subst (λ (t : Parts D). IsTurn plan places t new c answer) same turn;
+    entries = record {
+      more = appends.more;
+      entries = appends.entries ∙ ap (λ (t : Parts D). t.state.entries ++ appends.more) same;
+      few = appends.few;
+    };
+    kept = record {
+      script = keeps.script ∙ ap (λ (t : Parts D). t.state.plan) same;
+      plans = keeps.plans ∙ ap (λ (t : Parts D). map plan t.drives) same;
+      stores = keeps.stores ∙ ap (λ (t : Parts D). map places t.drives) same;
+      count = keeps.count ∙ ap (λ (t : Parts D). length t.drives) same;
+    };
+    told = record {
+      more = told.more;
+      entries = told.entries ∙ ap (λ (t : Parts D). t.state.entries ++ told.more) same;
+      few = told.few;
+      only = λ some. subst (λ (t : Parts D). Rose (sum_by faults t.drives) (sum_by faults new.drives)) same
+          (told.only some);
+      its = λ xs ys k e. told.its xs ys k e ∙ ap (λ (t : Parts D). Some (process_at t.state c)) same;
+      later = told.later;
+    };
+  }
+
+  -- of the first numbers of a list, one more makes its step
+  pub run_next : (old mid new : Parts D) (cs : List ℕ) (i n one : ℕ) → Run old mid (take i cs) n → i < length cs
+      → Round mid new (get_or cs i 0) one → Run old new (take (i + 1) cs) (n + one)
+  run_next old mid new cs i n one run within round = subst (λ (xs : List ℕ). Run old new xs (n + one))
+      (sym (take_more cs i 0 within)) (run_on old mid new (take i cs) n (get_or cs i 0) one run round)
+
+  -- there was no room for the next one
+  pub stood_at : (old last new : Parts D) (cs : List ℕ) (i n : ℕ) → Run old last (take i cs) n
+      → new ≡ with_room last new.state.spare → HasStood plan places faults old new cs
+  stood_at old last new cs i n run room = record {
+    before = take i cs;
+    rest = drop i cs;
+    cpus_are = sym (take-append-drop i cs);
+    last = last;
+    moved = n;
+    run = run;
+    room = room;
+  }
+
+  -- the same of a list, up to the number at which there was no room
+  pub run_grows_on : (old new : Parts D) (cs : List ℕ) → HasStood plan places faults old new cs
+      → Grows old.state.entries new.state.entries
+  run_grows_on old new cs stood = record {
+    more = run.more;
+    entries = ap (λ (t : Parts D). t.state.entries) stood.room ∙ run.entries;
+  }
+    where
+      run : Grows old.state.entries stood.last.state.entries
+      run = run_grows old stood.last stood.before stood.moved stood.run
+
+  pub run_keeps_on : (old new : Parts D) (cs : List ℕ) → HasStood plan places faults old new cs
+      → KeepsParts plan places old new
+  run_keeps_on old new cs stood = record {
+    script = ap (λ (t : Parts D). t.state.plan) stood.room ∙ run.script;
+    plans = ap (λ (t : Parts D). map plan t.drives) stood.room ∙ run.plans;
+    stores = ap (λ (t : Parts D). map places t.drives) stood.room ∙ run.stores;
+    count = ap (λ (t : Parts D). length t.drives) stood.room ∙ run.count;
+  }
+    where
+      run : KeepsParts plan places old stood.last
+      run = run_keeps old stood.last stood.before stood.moved stood.run
+
+  -- however it ended
+  pub ran_grows : {E : Type 0} (old new : Parts D) (cs : List ℕ) (r : Result ℕ E) → IfOk r (Run old new cs)
+      → OnErr r (HasStood plan places faults old new cs) → Grows old.state.entries new.state.entries
+  ran_grows old new cs (Ok n) run stood = run_grows old new cs n run
+  ran_grows old new cs (Err e) run stood = run_grows_on old new cs stood
+
+  pub ran_keeps : {E : Type 0} (old new : Parts D) (cs : List ℕ) (r : Result ℕ E) → IfOk r (Run old new cs)
+      → OnErr r (HasStood plan places faults old new cs) → KeepsParts plan places old new
+  ran_keeps old new cs (Ok n) run stood = run_keeps old new cs n run
+  ran_keeps old new cs (Err e) run stood = run_keeps_on old new cs stood
+
+  pub ran_zero : {E : Type 0} (old new : Parts D) (cs : List ℕ) (r : Result ℕ E) → IfOk r (Run old new cs)
+      → IfOk r (λ n. (n ≡ 0) ↔ (list_any (would_move old.state) cs ≡ false))
+  ran_zero old new cs (Ok n) run = (run_none old new cs n run, run_still old new cs n run)
+  ran_zero old new cs (Err e) run = tt

@@ -1,0 +1,10 @@
+use Rattle.std.proofs.Common.{◌∙◌, sym}
+use Rattle.machine_model.proofs.AllEnded.{over_complete}
+use Rattle.machine.proofs.EndedLaws.{over_ended}
+use Rattle.machine.proofs.machine.Machine.ended.Goals as goal
+
+pub returns-clause-ended : goal.returns-clause-ended
+returns-clause-ended g c = rw (c.is_over.ensures, ← c.self.view_is) (over_ended _ c.self.invariant.keeps)
+
+pub returns-clause-complete : goal.returns-clause-complete
+returns-clause-complete g c = rw (c.is_over.ensures, ← c.self.view_is) (over_complete _ c.self.invariant.keeps)
