@@ -7,6 +7,7 @@ pub mod CommitCalls
 pub mod CommitStays
 pub mod CountedLaws
 pub mod CreateCalls
+pub mod DiskLaws
 pub mod DriveCounts
 pub mod EmptiedFacts
 pub mod EndedLaws

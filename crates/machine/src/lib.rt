@@ -15,4 +15,5 @@ mod stepping;
 mod turn;
 
 pub use machine::Machine;
+pub use machine_tables::{NoMemory, Why};
 pub use turn::Turn;

@@ -1,8 +1,9 @@
-ghost use Rattle.std.specs.Prelude.{◌≡◌, ◌≤◌, ◌↔◌, true, OnOk};
-ghost use Rattle.flat_model.specs.Legal.{IsComplete, IsLegal};
-ghost use Rattle.custody_model.specs.Clean.{IsClean};
+ghost use Rattle.std.specs.Prelude.{◌≡◌, ◌≤◌, ◌↔◌, map, true, OnOk};
+ghost use Rattle.flat_model.specs.Legal.{IsComplete, IsLegal, store_after};
+ghost use Rattle.custody_model.specs.Clean.{IsClean, custody_after};
 ghost use Rattle.machine_model.specs.Actions.{is_over};
 ghost use Rattle.machine_model.specs.Promise.{KeepsAll};
+ghost use Rattle.machine.specs.OnDisk.{IsOnDisk};
 ghost use Rattle.machine.specs.Sizes.{HaveSizes};
 ghost use Rattle.machine.specs.Turns.{HaveEnded};
 
@@ -81,13 +82,18 @@ impl<D: Drive> Machine<D> {
         self.tables.is_over()
     }
 
-    /// The volumes, with their drives, each of the size that the script gives its volume. (Source: own.)
+    /// The volumes, with their drives, each of the size that the script gives its volume. They hold the flat store
+    /// after the book, but for the words of the pages that are in frames. (Source: Organick 1972.)
     pub fn volumes(&self) -> &Volumes<D>
         ensures drives { result.now.drives ≡ self.now.drives }
         ensures records { result.now.records ≡ self.now.state.store.pages.records }
         ensures vtocs { result.now.vtocs ≡ self.now.state.store.pages.vtocs }
         ensures sizes { HaveSizes D.pages self.now.drives self.now.state.plan }
+        ensures on_disk { IsOnDisk (map D.pages result.now.drives) result.now.records result.now.vtocs
+            (store_after self.now.state.plan self.now.state.entries)
+            (custody_after self.now.state.plan self.now.state.entries) }
     {
+        let _store = self.tables.store();
         let volumes = self.tables.volumes();
         let _count = volumes.count();
         volumes

@@ -1,3 +1,6 @@
+use Rattle.std.proofs.Common.{◌∙◌, ap, map, sym}
+use Rattle.machine_model.specs.State.{Storage}
+use Rattle.machine.proofs.DiskLaws.{on_volumes}
 use Rattle.machine.proofs.SizeLaws.{drive_size}
 use Rattle.machine.proofs.machine.Machine.volumes.Goals as goal
 
@@ -7,3 +10,10 @@ returns-clause-sizes g c = rw (← c.self.view_is) (drive_size g.D.Drive.pages c
     c.self.inside.tables.state.store.pages.vtocs c.self.invariant.keeps.machine.keeps.faithful.script.records
     (rw (← c.volumes-volumes.ensures.drives, ← c.volumes-volumes.ensures.records, ← c.volumes-volumes.ensures.vtocs)
     c.count-count.ensures.parts))
+
+pub returns-clause-on_disk : goal.returns-clause-on_disk
+returns-clause-on_disk g c = rw (← c.self.view_is) (on_volumes c.self.inside.tables.state
+    c.self.invariant.keeps.machine.keeps _ _ _
+    (ap (map g.D.Drive.pages) (c.volumes-volumes.ensures.drives ∙ sym c.store-store.ensures.drives)
+    ∙ ap (λ (st : Storage). st.pages.disks) c.store-store.ensures.store)
+    c.volumes-volumes.ensures.records c.volumes-volumes.ensures.vtocs)

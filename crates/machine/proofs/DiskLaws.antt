@@ -1,0 +1,145 @@
+-- The volumes of a machine that keeps its promise hold the flat store after the book.
+use Rattle.std.proofs.Common.{◌≡◌, ◌≢◌, ◌&&◌, cond, ℕ, Bool, true, false, eqb, is_some, get_or, position, replicate}
+use Rattle.std.proofs.Common.{List, [], ◌∷◌, Option, Some, None, inl, inr, refl, sym, ap, subst, ◌∙◌}
+use Rattle.std.specs.Prelude.{◌/◌, ◌%◌}
+use Rattle.std.proofs.lemmas.Bool.Decides.{eqb_tells}
+use Rattle.tree_model.specs.Tree.{Node, node_in, volume_in}
+use Rattle.flat_model.specs.Pages.{is_stored}
+use Rattle.custody_model.specs.Clean.{custody_after}
+use Rattle.custody_model.specs.Custody.{Custody, bound_page}
+use Rattle.vtoc.specs.Vtoc.{Entry, record_at}
+use Rattle.page_table.specs.declared.Ptw.{Ptw}
+use Rattle.page_table.specs.declared.Ptw.TheVariants as ptw
+use Rattle.page_control.specs.declared.Home.{Home}
+use Rattle.page_control.specs.Picture.{is_binding, is_filed_at, words_at, words_filed, words_held, words_of_page}
+use Rattle.page_control.specs.Plain.{bindings}
+use Rattle.page_control.specs.Tied.{uid_at, vtoc_in}
+use Rattle.storage_ops.specs.Shown.{home_of, is_filed, is_there, picture}
+use Rattle.machine_model.specs.Holding.{seen}
+use Rattle.machine_model.specs.Keeps.{Keeps}
+use Rattle.machine_model.specs.Reads.{flat_of}
+use Rattle.machine_model.specs.Seen.{bound_use, frame_use, shown}
+use Rattle.machine_model.specs.State.{State}
+use Rattle.machine_model.proofs.FindLaws.{position_at}
+use Rattle.machine_model.proofs.TieLaws.{none_some}
+use Rattle.machine.specs.OnDisk.{HasHome, HasNode, IsOnDisk}
+
+-- a frame that is bound shows its page
+bound_shows : (words : ℕ → ℕ → Ptw) (page : ℕ × ℕ) (x read : Option (ℕ × ℕ)) → x ≡ Some page
+    → bound_page (frame_use words x read) ≡ Some page
+bound_shows words page x read e = subst (λ (y : Option (ℕ × ℕ)). bound_page (frame_use words y read) ≡ Some page) (sym e)
+    (by (words page.0 page.1))
+  where
+    by : (w : Ptw) → bound_page (bound_use page w) ≡ Some page
+    by ptw.Null = refl
+    by (ptw.Out r) = refl
+    by (ptw.Here f) = refl
+    by (ptw.Leaving f) = refl
+
+binding_tells : (u p : ℕ) (x : Option (ℕ × ℕ)) → is_binding u p x ≡ true → x ≡ Some (u, p)
+binding_tells u p None h = absurd (let none : false ≡ true = h in cc)
+binding_tells u p (Some page) h = elim (eqb_tells page.0 u) [
+  | inl a ↦ elim (eqb_tells page.1 p) [
+    | inl b ↦ λ i. Some (a.1 i, b.1 i)
+    | inr n ↦ absurd (let no : false ≡ true = sym (rw (a.0, n.0) refl) ∙ h in cc)
+  ]
+  | inr n ↦ absurd (let no : false ≡ true = sym (rw n.0 refl) ∙ h in cc)
+]
+
+-- the volume of a node that is there
+volume_is : (ns : List Node) (u : ℕ) (n : Node) → node_in ns u ≡ Some n → volume_in ns u ≡ n.volume
+volume_is [] u n e = absurd (none_some e)
+volume_is (m ∷ ns) u n e = by (eqb m.uid u) e (volume_is ns u n)
+  where
+    by : (b : Bool) → cond b (Some m) (node_in ns u) ≡ Some n → (node_in ns u ≡ Some n → volume_in ns u ≡ n.volume)
+        → cond b m.volume (volume_in ns u) ≡ n.volume
+    by true same rest = let is : m ≡ n = cc in ap (λ (x : Node). x.volume) is
+    by false later rest = rest later
+
+module _ (s : State) (keeps : Keeps s) where
+  abbrev nodes : List Node
+  nodes = s.store.accounts.nodes
+
+  there : (home : Home) (u : ℕ) → uid_at s.store.pages.vtocs home ≡ Some u → is_there nodes u ≡ true
+  there home u used = keeps.store.counted.housed.there home u used
+
+  -- the home that is used for a node is the one that the accounts have
+  own_home : (home : Home) (u : ℕ) → uid_at s.store.pages.vtocs home ≡ Some u → home ≡ home_of s.store.accounts u
+  own_home home u used = keeps.store.counted.housed.only home u used
+
+  node_of : (home : Home) (u : ℕ) → uid_at s.store.pages.vtocs home ≡ Some u → HasNode (flat_of s).nodes home u
+  node_of home u used = by (node_in nodes u) refl (there home u used)
+    where
+      by : (x : Option Node) → node_in nodes u ≡ x → is_some x ≡ true → HasNode (flat_of s).nodes home u
+      by None e h = absurd (let no : false ≡ true = h in cc)
+      by (Some n) e h = record {
+        node = n;
+        there = ap (λ (ns : List Node). node_in ns u) keeps.faithful.tree.nodes ∙ e;
+        volume = sym (ap (λ (x : Home). x.volume) (own_home home u used) ∙ volume_is nodes u n e);
+      }
+
+  home_in : (n : Node) → node_in (flat_of s).nodes n.uid ≡ Some n → HasHome s.store.pages.vtocs n
+  home_in n is = record {
+    home = home_of s.store.accounts n.uid;
+    volume = volume_is nodes n.uid n here;
+    used = keeps.store.counted.housed.homes n.uid (ap is_some here);
+  }
+    where
+      here : node_in nodes n.uid ≡ Some n
+      here = ap (λ (ns : List Node). node_in ns n.uid) (sym keeps.faithful.tree.nodes) ∙ is
+
+  stored_there : (home : Home) (u p : ℕ) → uid_at s.store.pages.vtocs home ≡ Some u
+      → is_filed_at s.store.pages.vtocs home p ≡ is_stored (flat_of s).stored u p
+  unfolding is_filed
+  stored_there home u p used = ap (λ (x : Home). is_filed_at s.store.pages.vtocs x p) (own_home home u used)
+      ∙ (sym (ap (λ (b : Bool). b && is_filed_at s.store.pages.vtocs (home_of s.store.accounts u) p)
+      (there home u used)) ∙ sym (keeps.faithful.pages.stored u p))
+
+  -- a page is in no frame where custody has none for it
+  unbound : (u p : ℕ) → ((f : ℕ) → bound_page ((custody_after s.plan s.entries).frame f) ≢ Some (u, p))
+      → position (is_binding u p) (bindings s.store.pages.core) ≡ None
+  unbound u p none = by (position (is_binding u p) (bindings s.store.pages.core)) refl
+    where
+      by : (x : Option ℕ) → position (is_binding u p) (bindings s.store.pages.core) ≡ x → x ≡ None
+      by None e = refl
+      by (Some f) e = absurd (none f (ap (λ (c : Custody). bound_page (c.frame f)) (sym keeps.book.held)
+          ∙ bound_shows (seen s).words (u, p) ((seen s).bound f) ((seen s).reads f)
+          (binding_tells u p ((seen s).bound f)
+          (position_at (is_binding u p) (bindings s.store.pages.core) None f e).1)))
+
+  on_record : (home : Home) (u o r : ℕ) → uid_at s.store.pages.vtocs home ≡ Some u
+      → record_at (vtoc_in s.store.pages.vtocs home.volume) home.entry (o / 1024) ≡ Some r
+      → ((f : ℕ) → bound_page ((custody_after s.plan s.entries).frame f) ≢ Some (u, o / 1024))
+      → get_or (get_or (get_or s.store.pages.disks home.volume []) r []) (o % 1024) 0 ≡ (flat_of s).words u o
+  unfolding picture words_of_page
+  on_record home u o r used named none = sym (keeps.faithful.pages.words u o
+      ∙ (ap (λ (b : Bool). get_or (cond b (words_at s.store.pages u (home_of s.store.accounts u) (o / 1024))
+      (replicate 1024 0)) (o % 1024) 0) (there home u used)
+      ∙ (ap (λ (x : Home). get_or (words_at s.store.pages u x (o / 1024)) (o % 1024) 0) (sym (own_home home u used))
+      ∙ (ap (λ (x : Option ℕ). get_or (words_held s.store.pages.frames (get_or s.store.pages.disks home.volume [])
+      (record_at (vtoc_in s.store.pages.vtocs home.volume) home.entry (o / 1024)) x) (o % 1024) 0)
+      (unbound u (o / 1024) none)
+      ∙ ap (λ (x : Option ℕ). get_or (words_filed (get_or s.store.pages.disks home.volume []) x) (o % 1024) 0)
+      named))))
+
+  on_disk : IsOnDisk s.store.pages.disks s.store.pages.records s.store.pages.vtocs (flat_of s)
+      (custody_after s.plan s.entries)
+  on_disk = record {
+    homes = home_in;
+    nodes = node_of;
+    only = λ home other u a b. own_home home u a ∙ sym (own_home other u b);
+    maps = stored_there;
+    filed = keeps.store.kept.paged.filed;
+    words = on_record;
+  }
+
+  -- the same of volumes that are seen by themselves
+  pub on_volumes : (disks : List (List (List ℕ))) (records : List (List Bool)) (vtocs : List (List (Option Entry)))
+      → disks ≡ s.store.pages.disks → records ≡ s.store.pages.records → vtocs ≡ s.store.pages.vtocs
+      → IsOnDisk disks records vtocs (flat_of s) (custody_after s.plan s.entries)
+  on_volumes disks records vtocs d r v =
+      subst (λ (x : List (List (List ℕ))). IsOnDisk x records vtocs (flat_of s) (custody_after s.plan s.entries)) (sym d)
+      (subst (λ (x : List (List Bool)). IsOnDisk s.store.pages.disks x vtocs (flat_of s)
+      (custody_after s.plan s.entries)) (sym r)
+      (subst (λ (x : List (List (Option Entry))). IsOnDisk s.store.pages.disks s.store.pages.records x (flat_of s)
+      (custody_after s.plan s.entries)) (sym v) on_disk))
