@@ -17,7 +17,7 @@ use Rattle.page_control.specs.Effects.{unstored}
 use Rattle.page_control.specs.Plain.{Plain, entry_of, filed, flags_of, frame_in, number_or_zero, vtoc_of}
 use Rattle.seg_control.specs.Control.{place_of, table_of, word_of}
 use Rattle.seg_control.specs.Effects.{worded}
-use Rattle.storage_ops.specs.CutOff.{Paged, cut_by, is_cleared, page_cleared, page_cut, pages_cut}
+use Rattle.storage_ops.specs.CutOff.{Paged, is_cleared, page_cleared, page_cut, pages_cut}
 use Rattle.machine_model.proofs.WordLaws.{word_within}
 use Rattle.machine_tables.specs.Truncated.{here_again}
 use Rattle.machine_tables.proofs.DeleteLaws.{Drops, IsNamed, IsUsed, entry_less, filed_less, flags_less, given_twice}

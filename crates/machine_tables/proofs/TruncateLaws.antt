@@ -1,10 +1,9 @@
 -- What a truncation changes of a store, by page control, the active segments and one count.
-use Rattle.std.proofs.Common.{◌≡◌, ◌≢◌, ◌<◌, ◌≤◌, ◌+◌, ◌-◌, ◌*◌, ◌/◌, ◌%◌, ℕ, Bool, true, false, cond, eqb, length}
+use Rattle.std.proofs.Common.{◌≡◌, ◌≢◌, ◌<◌, ◌-◌, ◌/◌, ◌%◌, ℕ, Bool, true, false, cond, length}
 use Rattle.std.proofs.Common.{List, [], ◌∷◌, Some, inl, inr, refl, sym, ap, subst, ◌∙◌, arith}
 use Rattle.std.proofs.lemmas.Bool.{cases_eq, cases_lt, eq-eqb, ne_eqb}
 use Rattle.std.proofs.lemmas.List.{get_or-set_same, get_or_past}
-use Rattle.std.specs.List.{range_with_len}
-use Rattle.accounts.specs.Maps.{AccountMaps, HasColumns, count_of}
+use Rattle.accounts.specs.Maps.{AccountMaps, count_of}
 use Rattle.quota_cells.specs.Accounts.{look, with_value}
 use Rattle.quota_cells.proofs.ColumnLaws.{length_with, look_with_other}
 use Rattle.core_map.specs.declared.Frame.{Frame}

@@ -15,7 +15,7 @@ use Rattle.book.specs.declared.replies.Reply.TheVariants as reply
 use Rattle.tree_model.specs.Tree.{InSegment, LeadsTo, Missing, Node, Walk, node_in, walk_in}
 use Rattle.dir_tree.specs.declared.node.PathFault.{PathFault}
 use Rattle.dir_tree.specs.Nodes.{path_answer}
-use Rattle.accounts.specs.Maps.{AccountMaps, HasColumns, count_of}
+use Rattle.accounts.specs.Maps.{HasColumns, count_of}
 use Rattle.quota_cells.specs.Accounts.{look}
 use Rattle.custody_model.specs.Custody.{has}
 use Rattle.flat_model.specs.Branches.{done_at, node_at, only_segment, segment_at, walked}
@@ -38,7 +38,7 @@ use Rattle.seg_control.specs.Control.{place_of, table_of, word_of}
 use Rattle.seg_control.specs.Effects.{worded}
 use Rattle.seg_control.specs.Kept.{IsKept}
 use Rattle.volumes.specs.Volumes.{HasParts}
-use Rattle.storage_ops.specs.Cut.{Commits, CutsPages, IsTakenPast, IsTakenPastAt, KeepsRest, is_here}
+use Rattle.storage_ops.specs.Cut.{CutsPages, IsTakenPast, IsTakenPastAt, KeepsRest, is_here}
 use Rattle.storage_ops.specs.Cut.{leaves as frame_left}
 use Rattle.storage_ops.specs.CutOff.{CountsOthers, Paged, cut_at, cut_by, is_cleared, page_cleared, page_cut, paged}
 use Rattle.storage_ops.specs.CutOff.{pages_cut, pages_from}
@@ -46,18 +46,16 @@ use Rattle.storage_ops.specs.Shown.{IsStore, Shows, Storage as Stored, answered,
 use Rattle.storage_ops.proofs.Changed.{segment_refuses}
 use Rattle.storage_ops.proofs.PathLaws.{walked_to}
 use Rattle.machine_model.specs.Commits.{first_past, frame_entry, stays, with_effect, with_truncated}
-use Rattle.machine_model.specs.Jobs.{are_zeros, page_in, page_or_zero}
+use Rattle.machine_model.specs.Jobs.{are_zeros, page_or_zero}
 use Rattle.machine_model.specs.Keeps.{IsFaithful}
 use Rattle.machine_model.specs.Reads.{is_active}
 use Rattle.machine_model.specs.Ready.{OwnsFor, OwnsFrom}
-use Rattle.machine_model.specs.Refusal.{uid_at_path}
 use Rattle.machine_model.specs.State.{Storage}
 use Rattle.machine_model.proofs.ActiveSeen.{active_place}
 use Rattle.machine_model.proofs.ListLaws.{map_list}
 use Rattle.machine_model.proofs.QuotaTotals.{found_uid}
 use Rattle.machine_model.proofs.TieLaws.{none_some, page_is}
 use Rattle.machine_model.proofs.TransferKept.{active_at}
-use Rattle.machine_tables.specs.Committed.{IsCommitted}
 use Rattle.machine_tables.specs.Gone.{is_kept, left_entry}
 use Rattle.machine_tables.specs.Parts.{shown}
 use Rattle.machine_tables.specs.Truncated.{IsCommittedBut, here_again, uid_found}

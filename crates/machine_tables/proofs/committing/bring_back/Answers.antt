@@ -1,4 +1,4 @@
-use Rattle.std.proofs.Common.{◌≡◌, ◌∙◌, ℕ, Some, ap, subst, sym}
+use Rattle.std.proofs.Common.{◌≡◌, ◌∙◌, Some, ap, subst}
 use Rattle.page_control.specs.Plain.{plain}
 use Rattle.active_segs.specs.Active.{ActiveSegs}
 use Rattle.seg_control.specs.Control.{Control, word_of}

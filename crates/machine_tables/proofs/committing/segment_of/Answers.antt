@@ -1,4 +1,4 @@
-use Rattle.std.proofs.Common.{◌≡◌, ◌∙◌, ap, rules, sym, false, true}
+use Rattle.std.proofs.Common.{◌≡◌, ◌∙◌, rules, sym, false}
 use Rattle.tree_model.specs.Tree.{quota_in}
 use Rattle.dir_tree.specs.Nodes.{as_term}
 use Rattle.machine_tables.proofs.TruncatedLaws.{is_directory, is_nothing, is_segment}

@@ -1,4 +1,4 @@
-use Rattle.std.proofs.Common.{◌≡◌, ◌∙◌, Some, None, ap, map, subst, sym}
+use Rattle.std.proofs.Common.{◌∙◌, ap, map, subst, sym}
 use Rattle.accounts.specs.Maps.{AccountMaps}
 use Rattle.flat_model.specs.Branches.{segment_at}
 use Rattle.page_control.specs.Plain.{Paging, plain}
