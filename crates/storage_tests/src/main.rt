@@ -3,7 +3,9 @@
 //!
 //! Standard input has the cases: a line `case` with what it shows, and a script. For each command its reply is printed,
 //! and after it a line `gone F U P` for each page P of the segment U that has left frame F, and a line `in F U P` for
-//! each that has come into one. What must be printed stands in `stdout`, and was worked out by hand from the rules.
+//! each that has come into one. Of a script with the line `print short` only what refuses a command is printed. A line
+//! `each N LINE` stands for N lines, in which `#` is the number of the line, from 0 on. What must be printed stands in
+//! `stdout`, and was worked out by hand from the rules.
 #![tactic(auto)]
 
 ghost use Rattle.std.specs.Prelude.{◌≡◌, ◌<◌, length, true};
@@ -11,6 +13,7 @@ ghost use Rattle.std.specs.List.{list_all};
 ghost use Rattle.script.specs.Forms.{is_command};
 
 mod checks;
+mod lines;
 mod paging;
 mod preparing;
 mod references;
@@ -18,8 +21,10 @@ mod run;
 mod segments;
 mod starting;
 
+use crate::lines::push_line;
 use crate::run::{Run, Stuck};
-use script::{Command, Script, read_script};
+use book::Reply;
+use script::{Command, Print, Script, read_script};
 
 /// The most bytes of a script.
 const MOST: usize = 4_194_304;
@@ -52,7 +57,39 @@ fn show(
     Ok(())
 }
 
-/// Answers the commands of a process, one after the other.
+/// Whether a reply refuses its command.
+fn is_refusal(reply: &Reply) -> bool {
+    !matches!(
+        reply,
+        Reply::Word(_)
+            | Reply::Done
+            | Reply::Made(_)
+            | Reply::Known(_)
+            | Reply::SegIs { .. }
+            | Reply::DirIs { .. }
+    )
+}
+
+/// Answers the commands of a process, one after the other, and prints what refuses any.
+fn show_refusals(
+    rt: &HostRuntime,
+    run: &mut Run,
+    volumes: usize,
+    process: u32,
+    commands: &[Command],
+) -> anyhow::Result<()>
+    requires { list_all (is_command volumes) commands.now ≡ true }
+{
+    for place in 0..commands.len() {
+        let reply = run.answer(rt.alloc(), volumes, process, &commands[place])?;
+        if is_refusal(&reply) {
+            println!(rt; "{reply}")?;
+        }
+    }
+    Ok(())
+}
+
+/// Answers the commands of a process, one after the other, and prints what changed.
 fn show_all(
     rt: &HostRuntime,
     run: &mut Run,
@@ -80,7 +117,10 @@ fn show_process(
     let _count = script.processes();
     let volumes = script.volumes().len();
     let commands = script.commands(process);
-    show_all(rt, run, volumes, process, commands)
+    match script.print() {
+        Print::Short => show_refusals(rt, run, volumes, process, commands),
+        _ => show_all(rt, run, volumes, process, commands),
+    }
 }
 
 /// Runs the script of a case, each process to its end and one after the other.
@@ -109,8 +149,7 @@ fn main(rt: HostRuntime) -> anyhow::Result<()> {
             text.clear();
             println!(rt; "{line}")?;
         } else {
-            text.push_str(&line)?;
-            text.push('\n')?;
+            push_line(alloc, &mut text, &line)?;
         }
     }
     run_case(&rt, &text)

@@ -31,6 +31,15 @@ fn push_held(pages: &mut Vec<Held>, uid: u32, table: &PageTable) -> Result<(), S
     Ok(())
 }
 
+/// The pages of a segment that are in frames, by number.
+pub(crate) fn pages_of(alloc: Global, ast: &Ast, uid: u32) -> Result<Vec<Held>, Stuck> {
+    let mut pages = Vec::new(alloc);
+    if let Some(place) = ast.search(uid) {
+        push_held(&mut pages, uid, ast.table(place))?;
+    }
+    Ok(pages)
+}
+
 /// The pages that are in frames, by uid and number.
 fn pages_held(alloc: Global, ast: &Ast, next: u32) -> Result<Vec<Held>, Stuck> {
     let mut pages = Vec::new(alloc);

@@ -6,6 +6,7 @@ ghost use Rattle.dir_tree.specs.Nodes.{chain_of, has_inferior};
 ghost use Rattle.storage_ops.specs.Connecting.{link_of};
 ghost use Rattle.storage_ops.specs.Shown.{is_there};
 
+use crate::paging::pages_of;
 use crate::run::{Run, Stuck};
 use active_segs::Ast;
 use page_table::{PageTable, Ptw};
@@ -90,11 +91,9 @@ impl Run {
 
     /// Empties the frames of a segment, all of whose pages were taken.
     fn empty(&mut self, alloc: Global, uid: u32) -> Result<(), Stuck> {
-        let pages = self.pages(alloc)?;
+        let pages = pages_of(alloc, self.store.segs().ast(), uid)?;
         for held in pages.iter() {
-            if held.uid == uid {
-                self.evict(uid, held.page)?;
-            }
+            self.evict(uid, held.page)?;
         }
         Ok(())
     }
