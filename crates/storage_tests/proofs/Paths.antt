@@ -2,11 +2,9 @@
 use Rattle.std.proofs.Common.{◌≡◌, ℕ, Bool, true, false, cond, List, [], ◌∷◌, Option, Some, None, Result, Ok, Err}
 use Rattle.std.proofs.Common.{OnOk, refl, sym, subst}
 use Rattle.accounts.specs.Maps.{AccountMaps}
-use Rattle.core_map.specs.CoreMap.{reads_of}
 use Rattle.seg_control.specs.Control.{Control}
 use Rattle.storage_ops.specs.Cut.{IsRemovableAt, IsTakenFrom}
-use Rattle.storage_tests.specs.Begun.{IsQuiet}
-use Rattle.storage_tests.proofs.Quiet.{is_cut}
+use Rattle.storage_ops.specs.Shown.{IsCut}
 use Rattle.book.specs.declared.replies.Reply.{Reply}
 use Rattle.book.specs.declared.replies.Reply.TheVariants as reply
 use Rattle.tree_model.specs.Tree.{Node, Walk, LeadsTo, Missing, InSegment, node_in, walk_in}
@@ -47,13 +45,14 @@ pub branch_node : (nodes : List Node) (path : List (List ℕ)) (n : Node) → br
 branch_node nodes [] n e = cc
 branch_node nodes (name ∷ names) n e = e
 
--- a node can be deleted to whose pages no reference goes
+-- a node can be deleted to which no number leads, and to whose pages no reference goes
 pub removable_at : {D E : Type 0} (a : AccountMaps) (segs : Control D) (path : List (List ℕ)) (uid : ℕ)
-    (r : Result (Unit {0}) E) → IsQuiet segs.links.descriptors (reads_of segs.pages.core)
+    (r : Result (Unit {0}) E) → IsCut segs.ast.entries segs.links uid
     → ((n : Node) → node_at a.nodes path ≡ Ok n → n.uid ≡ uid) → OnOk r (IsTakenFrom segs uid 0)
     → OnOk r (IsRemovableAt a segs path)
-removable_at a segs path uid (Err e) quiet leads taken = taken
-removable_at {D} a segs path uid (Ok x) quiet leads taken = λ n found. record {
-  cut = is_cut segs.links (reads_of segs.pages.core) segs.ast.entries n.uid quiet;
-  taken = subst (λ (u : ℕ). IsTakenFrom segs u 0) (sym (leads n (branch_node a.nodes path n found))) taken;
-}
+removable_at a segs path uid (Err e) cut leads taken = taken
+removable_at {D} a segs path uid (Ok x) cut leads taken = λ n found.
+    (let same = leads n (branch_node a.nodes path n found) in record {
+      cut = subst (λ (u : ℕ). IsCut segs.ast.entries segs.links u) (sym same) cut;
+      taken = subst (λ (u : ℕ). IsTakenFrom segs u 0) (sym same) taken;
+    })

@@ -6,15 +6,22 @@ ghost use Rattle.script.specs.Forms.{is_command};
 ghost use Rattle.flat_model.specs.Branches.{node_at};
 ghost use Rattle.known_segs.specs.Known.{uid_of};
 ghost use Rattle.page_table.specs.PageTable.{ptw_at};
-ghost use Rattle.seg_control.specs.Control.{kst_at};
+ghost use Rattle.descriptor_seg.specs.Descriptors.{sdw_at};
+ghost use Rattle.trailers.specs.Trailer.{trailers_of};
+ghost use Rattle.active_segs.specs.Active.{uid_at};
+ghost use Rattle.seg_control.specs.Control.{kst_at, leads, leads_at};
 ghost use Rattle.storage_ops.specs.Cut.{IsReady, IsRemovableAt, IsTakenFrom, IsTakenPastAt, is_here};
-ghost use Rattle.storage_ops.specs.Shown.{IsInactiveAt};
+ghost use Rattle.storage_ops.specs.Shown.{IsCut, IsCutAt, IsInactiveAt};
 
 use crate::run::{Run, Stuck};
 use book::Reply;
+use descriptor_seg::{DescSeg, Sdw};
 use mnames::Path;
 use page_table::{PageTable, Ptw};
 use script::Command;
+
+/// How many numbers a process has.
+pub(crate) const NUMBERS: u32 = 256;
 
 /// Whether references go through no word of a page table from one on.
 fn is_taken_from(table: &PageTable, from: u32) -> bool
@@ -22,6 +29,29 @@ fn is_taken_from(table: &PageTable, from: u32) -> bool
 {
     for page in from..table.size() {
         if matches!(table.get(page), Ptw::Here(_)) {
+            return false;
+        }
+    }
+    true
+}
+
+/// The place that a word of a descriptor segment leads to.
+pub(crate) fn place_of(word: Sdw) -> Option<u32>
+    ensures { result ≡ leads word }
+{
+    match word {
+        Sdw::Present { aste, .. } => Some(aste),
+        Sdw::Fault => None,
+    }
+}
+
+/// Whether no number of a descriptor segment leads anywhere.
+fn leads_nowhere(descriptors: &DescSeg) -> bool
+    ensures { result ≡ true → (number : ℕ) → leads (sdw_at descriptors.now number) ≡ None }
+{
+    let _first = descriptors.get(0);
+    for number in 0..NUMBERS {
+        if place_of(descriptors.get(number)).is_some() {
             return false;
         }
     }
@@ -40,7 +70,7 @@ impl Run {
     }
 
     /// That a process is there.
-    fn process(&self, process: u32) -> Result<(), Stuck>
+    pub(crate) fn process(&self, process: u32) -> Result<(), Stuck>
         ensures { OnOk result (process < length self.now.segs.links.known) }
     {
         let _accounts = self.store.accounts();
@@ -69,6 +99,73 @@ impl Run {
     {
         self.process(process)?;
         Ok(self.store.segs().kst(process).uid_of(number))
+    }
+
+    /// The place that a number of a process leads to.
+    pub(crate) fn leads(&self, process: u32, number: u32) -> Result<Option<u32>, Stuck>
+        ensures process { OnOk result (process < length self.now.segs.links.known) }
+        ensures place { IfOk result (λ place. place ≡ leads_at self.now.segs.links.descriptors process number) }
+    {
+        self.process(process)?;
+        if number >= NUMBERS {
+            return Err(Stuck);
+        }
+        Ok(place_of(self.store.segs().descriptors(process).get(number)))
+    }
+
+    /// That a number of a process leads nowhere.
+    fn number_cut(&self, process: u32, number: u32) -> Result<(), Stuck>
+        ensures { OnOk result (leads_at self.now.segs.links.descriptors process number ≡ None) }
+    {
+        match self.leads(process, number)? {
+            None => Ok(()),
+            Some(_) => Err(Stuck),
+        }
+    }
+
+    /// That no number of a process leads anywhere.
+    fn process_cut(&self, process: u32) -> Result<(), Stuck>
+        ensures { OnOk result ((number : ℕ) → leads_at self.now.segs.links.descriptors process number ≡ None) }
+    {
+        self.process(process)?;
+        if leads_nowhere(self.store.segs().descriptors(process)) {
+            Ok(())
+        } else {
+            Err(Stuck)
+        }
+    }
+
+    /// How many numbers lead to a segment.
+    fn trailers(&self, uid: u32) -> u32
+        ensures { (place : ℕ) → uid_at self.now.segs.ast.entries place ≡ Some uid
+            → result ≡ length (trailers_of self.now.segs.links.trailers place) }
+    {
+        let segs = self.store.segs();
+        let trailers = segs.trailers();
+        match segs.ast().search(uid) {
+            Some(place) => trailers.count(place),
+            None => 0,
+        }
+    }
+
+    /// That no number leads to a segment.
+    fn cut_off(&self, uid: u32) -> Result<(), Stuck>
+        ensures { OnOk result (IsCut self.now.segs.ast.entries self.now.segs.links uid) }
+    {
+        let _trailers = self.store.segs().trailers();
+        if self.trailers(uid) == 0 {
+            Ok(())
+        } else {
+            Err(Stuck)
+        }
+    }
+
+    /// That no number leads to the segment that a path leads to.
+    fn cut_off_at(&self, path: &Path) -> Result<(), Stuck>
+        ensures { OnOk result (IsCutAt self.now.accounts self.now.segs path.now) }
+    {
+        let uid = self.node_at(path)?;
+        self.cut_off(uid)
     }
 
     /// What refuses a command of a process.
@@ -118,8 +215,8 @@ impl Run {
     fn removable(&self, path: &Path) -> Result<(), Stuck>
         ensures { OnOk result (IsRemovableAt self.now.accounts self.now.segs path.now) }
     {
-        let _store = &self.store;
         let uid = self.node_at(path)?;
+        self.cut_off(uid)?;
         self.taken_from(uid, 0)
     }
 
@@ -140,9 +237,12 @@ impl Run {
     {
         let _store = &self.store;
         match command {
+            Command::Terminate { number } => self.number_cut(process, *number),
+            Command::Acl { path, .. } => self.cut_off_at(path),
+            Command::Length { path, .. } => self.inactive(path),
             Command::Truncate { path, words } => self.taken_past(path, *words),
             Command::Delete { path } => self.removable(path),
-            Command::Length { path, .. } => self.inactive(path),
+            Command::End => self.process_cut(process),
             _ => Ok(()),
         }
     }

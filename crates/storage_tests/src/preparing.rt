@@ -1,4 +1,4 @@
-//! What must be taken or made inactive before a command takes effect.
+//! What must be taken, cut or made inactive before a command takes effect.
 
 use crate::run::{Run, Stuck};
 use page_table::Ptw;
@@ -16,9 +16,20 @@ impl Run {
         Ok(())
     }
 
-    /// Takes or makes inactive what must be before a command takes effect.
-    pub(crate) fn prepare(&mut self, alloc: Global, command: &Command) -> Result<(), Stuck> {
+    /// Takes, cuts or makes inactive what must be before a command of a process takes effect.
+    pub(crate) fn prepare(
+        &mut self,
+        alloc: Global,
+        process: u32,
+        command: &Command,
+    ) -> Result<(), Stuck> {
         match command {
+            Command::Terminate { number } => self.cut(process, *number),
+            Command::Acl { path, .. } => {
+                let uid = self.node_at(path)?;
+                self.cut_segment(uid);
+                Ok(())
+            }
             Command::Truncate { path, words } => {
                 let uid = self.node_at(path)?;
                 self.prepare_cut(alloc, uid, *words)
@@ -26,12 +37,14 @@ impl Run {
             Command::Delete { path } => {
                 let uid = self.node_at(path)?;
                 self.take_from(uid, 0);
+                self.cut_segment(uid);
                 Ok(())
             }
             Command::Length { path, .. } => {
                 let uid = self.node_at(path)?;
                 self.deactivate(alloc, uid)
             }
+            Command::End => self.cut_process(process),
             _ => Ok(()),
         }
     }

@@ -79,6 +79,7 @@ impl Run {
             return Err(Stuck);
         };
         self.activate(alloc, uid)?;
+        self.connect(process, reference.number)?;
         self.read_in(alloc, uid, reference.offset / 1024)?;
         match reference.kind {
             RefKind::Read => Ok(Reply::Word(self.read(uid, reference.offset)?)),

@@ -16,7 +16,7 @@ use volumes::CoreDrive;
 #[error("a case can't go on")]
 pub(crate) struct Stuck;
 
-/// A store as one processor works on it: no descriptor is connected, and no page is being read into a frame.
+/// A store as one processor works on it: no page is being read into a frame.
 #[derive(Drop)]
 pub(crate) struct Run {
     pub(crate) store: Store<CoreDrive>,
@@ -26,13 +26,13 @@ impl Model for Run {
     ghost use Rattle.core_map.specs.CoreMap.{reads_of};
     ghost use Rattle.volumes.specs.CoreDrive.{DriveState};
     ghost use Rattle.storage_ops.specs.Shown.{Storage};
-    ghost use Rattle.storage_tests.specs.Begun.{IsQuiet};
+    ghost use Rattle.storage_tests.specs.Begun.{IsIdle};
 
     ghost Value = { Storage DriveState };
 
     ghost view = { λ r. r.store };
 
-    ghost invariant = { λ r. IsQuiet r.store.segs.links.descriptors (reads_of r.store.segs.pages.core) };
+    ghost invariant = { λ r. IsIdle (reads_of r.store.segs.pages.core) };
 }
 
 impl Run {
@@ -53,7 +53,7 @@ impl Run {
         match command.reference() {
             Some(reference) => self.refer(alloc, process, &reference),
             None => {
-                self.prepare(alloc, command)?;
+                self.prepare(alloc, process, command)?;
                 let reply = self.commit(volumes, process, command)?;
                 self.give_back(command)?;
                 Ok(reply)

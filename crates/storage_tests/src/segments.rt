@@ -101,6 +101,7 @@ impl Run {
     /// Makes a segment inactive, if it is active.
     pub(crate) fn deactivate(&mut self, alloc: Global, uid: u32) -> Result<(), Stuck> {
         self.take_from(uid, 0);
+        self.cut_segment(uid);
         self.empty(alloc, uid)?;
         self.drop_table(uid)
     }
@@ -116,7 +117,7 @@ impl Run {
         accounts.may_remove(uid).is_ok()
     }
 
-    /// Makes a segment inactive of which no page is in a frame, if it is active.
+    /// Makes a segment inactive to which no number leads and of which no page is in a frame, if it is active.
     fn drop_table(&mut self, uid: u32) -> Result<(), Stuck> {
         let segs = self.store.segs();
         let _kept = segs.pages();
@@ -128,7 +129,7 @@ impl Run {
             return Err(Stuck);
         }
         let table = ast.table(place);
-        if !is_empty(table) {
+        if !is_empty(table) || segs.trailers().count(place) != 0 {
             return Err(Stuck);
         }
         self.store.deactivate(place);

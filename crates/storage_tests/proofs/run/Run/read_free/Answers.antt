@@ -1,16 +1,12 @@
 use Rattle.std.proofs.Common.{ℕ, List, Option, None, set, ap, ◌∙◌}
-use Rattle.volumes.specs.CoreDrive.{DriveState}
-use Rattle.storage_ops.specs.Shown.{Storage}
-use Rattle.storage_tests.proofs.Quiet.{not_started, quiet_read}
+use Rattle.storage_tests.proofs.Quiet.{idle_read, not_started}
 use Rattle.storage_tests.proofs.run.Run.read_free.Goals as goal
 
 pub start_in-requires-clause-first : goal.start_in-requires-clause-first
-start_in-requires-clause-first c = not_started _ c.self.inside.store.segs.pages.core c.self.invariant c.args.uid
+start_in-requires-clause-first c = not_started c.self.inside.store.segs.pages.core c.self.invariant c.args.uid
     c.args.page
 
 pub invariant_of-self : goal.invariant_of-self
-invariant_of-self c = quiet_read _ _ _ _ c.in-Some.frame (c.args.uid, c.args.page)
-    (ap (λ (x : Storage DriveState). x.segs.links.descriptors) c.end_in.ensures.rest
-    ∙ ap (λ (x : Storage DriveState). x.segs.links.descriptors) c.start_in.ensures.rest)
+invariant_of-self c = idle_read _ _ c.in-Some.frame (c.args.uid, c.args.page)
     (c.end_in.ensures.reads ∙ ap (λ (xs : List (Option (ℕ × ℕ))). set xs c.in-Some.frame None)
     c.start_in.ensures.reads) c.self.invariant

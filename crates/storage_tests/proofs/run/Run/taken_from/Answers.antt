@@ -22,7 +22,7 @@ returns-in_default c =
           (ap (λ (a : ActiveSegs). uid_at a.entries place) c.ast-ast.ensures.ast ∙ at) in
           let clash : ◌≡◌ {A = Option ℕ} None (Some place) = sym c.in_default.is ∙ some in cc)) q);
       idle = λ q le. subst (λ (x : Control DriveState). IsNotStarted x.pages.core c.args.uid q)
-          (sym c.segs-segs.ensures.segs) (not_started _ c.self.inside.store.segs.pages.core c.self.invariant c.args.uid
+          (sym c.segs-segs.ensures.segs) (not_started c.self.inside.store.segs.pages.core c.self.invariant c.args.uid
           q);
     })
 
@@ -37,6 +37,6 @@ returns-then-is_taken_from c =
       taken = λ q le. ap (λ (t : List Ptw). is_here (ptw_at t q)) (sym table)
           ∙ c.is_taken_from.ensures c.if-is_taken_from.true q le;
       idle = λ q le. subst (λ (x : Control DriveState). IsNotStarted x.pages.core c.args.uid q)
-          (sym c.segs-segs.ensures.segs) (not_started _ c.self.inside.store.segs.pages.core c.self.invariant c.args.uid
+          (sym c.segs-segs.ensures.segs) (not_started c.self.inside.store.segs.pages.core c.self.invariant c.args.uid
           q);
     })
