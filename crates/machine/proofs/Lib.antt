@@ -15,6 +15,7 @@ pub mod FinishCalls
 pub mod FirstParts
 pub mod Found
 pub mod JoinCalls
+pub mod LoopCalls
 pub mod MovedLaws
 pub mod OwnerCalls
 pub mod Quiet

@@ -1,3 +1,4 @@
+pub mod Looped
 pub mod OnDisk
 pub mod Promise
 pub mod Schedules

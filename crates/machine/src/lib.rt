@@ -6,6 +6,7 @@ mod alone;
 mod finishing;
 mod joining;
 mod looking;
+mod looping;
 mod machine;
 mod making;
 mod owning;

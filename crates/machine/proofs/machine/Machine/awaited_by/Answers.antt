@@ -1,0 +1,22 @@
+use Rattle.std.proofs.Common.{refl, subst, sym}
+use Rattle.machine_model.proofs.MachineRounds.{reader_seen}
+use Rattle.machine_tables.specs.declared.action.Why.{Why}
+use Rattle.machine.specs.declared.turn.Turn.TheVariants.{Waits}
+use Rattle.machine.specs.Looped.{MayWait, WaitsFor}
+use Rattle.machine.proofs.machine.Machine.awaited_by.Goals as goal
+
+pub reader_of-requires : goal.reader_of-requires
+reader_of-requires g c = reader_seen _ c.args.c c.in-ForTransfer.frame c.look-tables.ensures.kept
+    (subst (λ (w : Why). MayWait c.args.self.now.state c.args.c (Waits w)) c.in-ForTransfer.is c.requires)
+
+pub returns-in-ForTransfer : goal.returns-in-ForTransfer
+returns-in-ForTransfer g c = subst (λ (w : Why). WaitsFor c.args.self.now.state c.args.c (Waits w) c.reader_of.result)
+    (sym c.in-ForTransfer.is) (
+      subst (λ (w : Why). MayWait c.args.self.now.state c.args.c (Waits w)) c.in-ForTransfer.is c.requires,
+      c.reader_of.ensures,
+    )
+
+pub returns-in-ForClear : goal.returns-in-ForClear
+returns-in-ForClear g c = subst (λ (w : Why). WaitsFor c.args.self.now.state c.args.c (Waits w) c.in-ForClear.late)
+    (sym c.in-ForClear.is)
+    (refl, subst (λ (w : Why). MayWait c.args.self.now.state c.args.c (Waits w)) c.in-ForClear.is c.requires)

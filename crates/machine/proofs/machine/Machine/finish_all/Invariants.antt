@@ -1,0 +1,14 @@
+use Rattle.std.proofs.Common.{◌≡◌, None}
+use Rattle.machine_model.specs.Measures.{all_rank}
+use Rattle.machine_model.specs.Outlined.{outline_of}
+use Rattle.machine.specs.Looped.{HasGone}
+use Rattle.machine.proofs.machine.Machine.finish_all.Given as goal
+
+abbrev pub invariant-loop-self : goal.invariant-loop-self
+invariant-loop-self g l = record {
+  gone : HasGone g.D.Drive.plan g.D.Drive.places l.fn.self l.self;
+  free : l.self.state.owner ≡ None;
+}
+
+abbrev pub decreases-loop-self : goal.decreases-loop-self
+decreases-loop-self g l = all_rank (outline_of l.self.state)

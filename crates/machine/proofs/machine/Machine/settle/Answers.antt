@@ -1,0 +1,7 @@
+use Rattle.std.proofs.lemmas.Result.{on_ok_weaker}
+use Rattle.machine_model.proofs.MachineRounds.{job_freed}
+use Rattle.machine.proofs.machine.Machine.settle.Goals as goal
+
+pub returns-in-Some-clause-free : goal.returns-in-Some-clause-free
+returns-in-Some-clause-free g c = on_ok_weaker c.finish_job.result
+    (job_freed c.args.self.now.state c.finish_job.new.self.state c.in-Some.owner) c.finish_job.ensures.done
