@@ -232,7 +232,8 @@ may_wait s t c turn.Stopped h = absurd h
 -- the processor that is waited for is there
 pub awaited_planned : (s : State) (c d : ℕ) (answer : Turn) → KeepsAll s → WaitsFor s c answer d
     → d < s.plan.processors
-awaited_planned s c d answer keeps waits = subst (λ (n : ℕ). d < n) keeps.machine.keeps.sizes.processors (by answer waits)
+awaited_planned s c d answer keeps waits =
+    subst (λ (n : ℕ). d < n) keeps.machine.keeps.sizes.processors (by answer waits)
   where
     by : (x : Turn) → WaitsFor s c x d → d < length s.processors
     by (turn.Waits (why.ForClear late)) h = rounds.late_there s c d h.1
@@ -323,7 +324,8 @@ reader_is s f d h = by (cpu_at s.processors d).transfer refl found.1
 -- who owns the supervisor while a job goes on is the processor whose job it is
 pub job_mine : (a b : State) (c d : ℕ) → Goes (outline_of a) (outline_of b) c → IsOwnedBy b d → d ≡ c
 job_mine a b c d goes owned = let mine = rounds.job_owner a b c goes owned.owner owned.mine in
-    sym owned.cpu ∙ (ap (λ (q : Owner). q.cpu) (owner_is owned.owner mine.owner (sym owned.mine ∙ mine.mine)) ∙ mine.cpu)
+    sym owned.cpu
+    ∙ (ap (λ (q : Owner). q.cpu) (owner_is owned.owner mine.owner (sym owned.mine ∙ mine.mine)) ∙ mine.cpu)
   where
     owner_is : (x y : Owner) → Some x ≡ Some y → x ≡ y
     owner_is x y h = cc
@@ -384,7 +386,8 @@ module _ (s t : State) (c : ℕ) (answer : Turn) (turned : HasTurned s t c answe
 
       is : d ≡ c
       is = sym owned.cpu
-          ∙ (ap (λ (o : Owner). o.cpu) (owner_same owned.owner took.0.owner (sym owned.mine ∙ took.0.mine)) ∙ took.0.cpu)
+          ∙ (ap (λ (o : Owner). o.cpu) (owner_same owned.owner took.0.owner (sym owned.mine ∙ took.0.mine))
+          ∙ took.0.cpu)
 
 -- ---- the loop over a command
 

@@ -15,8 +15,8 @@ use Rattle.machine.specs.Turns.{IfStill, KeepsParts, turn_of}
 use Rattle.machine.specs.declared.turn.Turn.{Turn}
 use Rattle.machine.specs.declared.turn.Turn.TheVariants as turn
 
--- Some steps were made: the book is lengthened, the script, the drives' plans and their places stay, and so does whether
--- the machine was stopped.
+-- Some steps were made: the book is lengthened; the script, the drives' plans and their places stay, and so does
+-- whether the machine was stopped.
 pub record HasGone {D Plan : Type 0} (plan : D → Plan) (places : D → ℕ) (old new : Parts D) : Type 0 where
   pub book : Grows old.state.entries new.state.entries
   pub kept : KeepsParts plan places old new

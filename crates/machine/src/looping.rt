@@ -115,7 +115,7 @@ impl<D: Drive> Machine<D> {
         Ok(answer)
     }
 
-    /// The processor for which the owner of the supervisor waits, processor `c`: one that is to clear, or one that reads.
+    /// The processor for which the owner of the supervisor waits, processor `c`: one that is to clear, or that reads.
     fn awaited_by(&self, c: u32, why: Why) -> u32
         requires { MayWait self.now.state c (Waits why) }
         ensures { WaitsFor self.now.state c (Waits why) result }
