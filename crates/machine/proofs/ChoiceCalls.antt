@@ -1,12 +1,12 @@
 -- What the choice of a processor's action asks follows from the promise.
-use Rattle.std.proofs.Common.{◌≡◌, ◌<◌, ◌≤◌, ◌+◌, ◌^◌, ℕ, true, false, is_some, length, List, [], Option, Some, None}
+use Rattle.std.proofs.Common.{◌≡◌, ◌<◌, ◌≤◌, ℕ, true, false, is_some, length, List, [], Option, Some, None}
 use Rattle.std.proofs.Common.{refl, sym, ap, subst, ◌∙◌, arith}
 use Rattle.std.specs.Prelude.{IfSome}
 use Rattle.std.specs.List.{find}
 use Rattle.assoc_mem.specs.declared.HeldSeg.{HeldSeg}
-use Rattle.assoc_mem.specs.Held.{is_number, seg_of}
+use Rattle.assoc_mem.specs.Held.{is_number}
 use Rattle.tree_model.specs.Tree.{Node, node_in, pool_of}
-use Rattle.active_segs.specs.Active.{IsActive, table_at, uid_at}
+use Rattle.active_segs.specs.Active.{table_at, uid_at}
 use Rattle.custody_model.specs.Custody.{leads_to}
 use Rattle.seg_control.specs.Control.{place_of}
 use Rattle.storage_ops.specs.Shown.{pages_of}

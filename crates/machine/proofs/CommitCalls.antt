@@ -9,7 +9,7 @@ use Rattle.machine_model.specs.Actions.{action_of}
 use Rattle.machine_model.specs.After.{after, no_call}
 use Rattle.machine_model.specs.Commits.{committed_at}
 use Rattle.machine_model.specs.Keeps.{IsFaithful, Keeps}
-use Rattle.machine_model.specs.Reads.{cpu_at, frames_of_owner, next_command, or_zero, process_at, processor_at, run_at}
+use Rattle.machine_model.specs.Reads.{cpu_at, next_command, or_zero, process_at, processor_at, run_at}
 use Rattle.machine_model.specs.Said.{with_command}
 use Rattle.machine_model.specs.State.{State}
 use Rattle.machine_model.proofs.CommitReady.{IsCommitting, committing}

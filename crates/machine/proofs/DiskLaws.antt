@@ -18,7 +18,7 @@ use Rattle.storage_ops.specs.Shown.{home_of, is_filed, is_there, picture}
 use Rattle.machine_model.specs.Holding.{seen}
 use Rattle.machine_model.specs.Keeps.{Keeps}
 use Rattle.machine_model.specs.Reads.{flat_of}
-use Rattle.machine_model.specs.Seen.{bound_use, frame_use, shown}
+use Rattle.machine_model.specs.Seen.{bound_use, frame_use}
 use Rattle.machine_model.specs.State.{State}
 use Rattle.machine_model.proofs.FindLaws.{position_at}
 use Rattle.machine_model.proofs.TieLaws.{none_some}

@@ -24,11 +24,11 @@ use Rattle.machine_model.specs.Jobs.{cut_all, cut_one, emptied, entries_left, ev
 use Rattle.machine_model.specs.Jobs.{page_done, page_in, pages_back, seg_back, seg_gone, segment_taken, segs_back}
 use Rattle.machine_model.specs.Jobs.{segs_gone, take_all, take_one, took, with_hand_moved, write_failed}
 use Rattle.machine_model.specs.Promise.{KeepsAll}
-use Rattle.machine_model.specs.Reads.{cut_of_owner, frames_from, frames_of_owner, next_command, process_at, run_at}
+use Rattle.machine_model.specs.Reads.{cut_of_owner, frames_from, frames_of_owner, process_at, run_at}
 use Rattle.machine_model.specs.Reads.{trailers_in}
 use Rattle.machine_model.specs.Refusal.{reply_of, uid_of_command}
 use Rattle.machine_model.specs.State.{State}
-use Rattle.machine_model.specs.Steps.{booked, fault_told, frame_lost, page_created, page_made, told, transfer_failed}
+use Rattle.machine_model.specs.Steps.{booked, fault_told, frame_lost, told, transfer_failed}
 use Rattle.machine_model.specs.Steps.{transferred, with_faults, with_store}
 use Rattle.machine_model.specs.Turns.{moves}
 use Rattle.machine_model.proofs.StepKnows.{Knows, step_knows}

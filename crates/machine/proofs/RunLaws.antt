@@ -1,23 +1,20 @@
 -- What processors come to that make their steps one after the other.
-use Rattle.std.proofs.Common.{◌≡◌, ◌≤◌, ◌+◌, ◌||◌, ℕ, zero, suc, Bool, true, false, length, map, List, [], ◌∷◌, ◌++◌, drop}
+use Rattle.std.proofs.Common.{◌≡◌, ◌≤◌, ◌+◌, ◌||◌, ℕ, Bool, true, false, length, map, List, [], ◌∷◌, ◌++◌, drop}
 use Rattle.std.proofs.Common.{◌<◌, get_or, take, Some, refl, sym, ap, subst, ◌∙◌, arith}
 use Rattle.std.specs.Prelude.{◌↔◌, Result, Ok, Err, IfOk, OnErr, sum_by}
 use Rattle.std.specs.List.{list_any}
 use Rattle.std.proofs.lemmas.Bool.{or_parts}
 use Rattle.std.proofs.lemmas.List.{take-append-drop, take_more}
-use Rattle.script.specs.Plans.{Plan as Script}
 use Rattle.site_io.specs.Faults.{Rose}
 use Rattle.book.specs.declared.entries.Entry.{Entry}
-use Rattle.machine_model.specs.Actions as act
 use Rattle.machine_model.specs.Actions.{action_of}
 use Rattle.machine_model.specs.Reads.{process_at}
 use Rattle.machine_model.specs.Refusal.{outside_refusal, refusal_of, room_refusal}
-use Rattle.machine_model.specs.State.{State}
 use Rattle.machine_model.specs.Turns.{moves}
 use Rattle.machine_model.proofs.FlatAlike.{append_assoc, append_nil}
 use Rattle.machine_tables.specs.Parts.{Parts}
 use Rattle.machine.specs.Schedules.{Grows, HasRun, HasStood, IsRound, is_moved, tally, with_room, would_move}
-use Rattle.machine.specs.Turns.{Appends, IfStill, IsTurn, KeepsParts, TellsFaults, turn_of}
+use Rattle.machine.specs.Turns.{Appends, IsTurn, KeepsParts, TellsFaults}
 use Rattle.machine.specs.declared.turn.Turn.{Turn}
 use Rattle.machine.proofs.TurnLaws.{still_of, told_moves}
 

@@ -1,8 +1,6 @@
 -- What is told of a step, by its turn.
 use Rattle.std.proofs.Common.{◌≡◌, ◌<◌, ℕ, true, length, sym, ap, subst, ◌∙◌, arith}
 use Rattle.std.specs.Prelude.{sum_by}
-use Rattle.script.specs.Plans.{Plan as Script}
-use Rattle.book.specs.declared.entries.Entry.{Entry}
 use Rattle.machine_model.specs.Actions as act
 use Rattle.machine_model.specs.Actions.{action_of}
 use Rattle.machine_model.specs.After.{after}

@@ -1,4 +1,4 @@
-use Rattle.std.proofs.Common.{◌∙◌, ap, arith, length, rules, sym}
+use Rattle.std.proofs.Common.{◌∙◌, ap, arith, length, sym}
 use Rattle.std.proofs.lemmas.Grind.{common_steps}
 use Rattle.machine.proofs.FirstParts.{part_told, parts_none}
 use Rattle.machine.proofs.starting.parts.Goals as goal

@@ -1,4 +1,3 @@
-use Rattle.std.proofs.Common.{◌≤◌, arith}
 use Rattle.machine.proofs.JoinCalls.{activate_sound, activated, link_first, link_there, place_free}
 use Rattle.machine.proofs.StepDone.{activate_turn}
 use Rattle.machine.proofs.machine.Machine.activate.Goals as goal

@@ -1,4 +1,4 @@
-use Rattle.std.proofs.Common.{◌≡◌, ◌∙◌, ap, length, List, subst, sym}
+use Rattle.std.proofs.Common.{◌∙◌, ap, length, List, subst, sym}
 use Rattle.script.specs.declared.plan.VolumeLine.{VolumeLine}
 use Rattle.volumes.specs.Volumes.{Vols, made_of}
 use Rattle.storage_ops.specs.Shown.{AreFresh}

@@ -1,4 +1,3 @@
-use Rattle.std.proofs.Common.{◌∙◌, sym}
 use Rattle.machine_model.proofs.AllEnded.{over_complete}
 use Rattle.machine.proofs.EndedLaws.{over_ended}
 use Rattle.machine.proofs.machine.Machine.ended.Goals as goal

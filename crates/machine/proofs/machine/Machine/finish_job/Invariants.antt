@@ -1,4 +1,3 @@
-use Rattle.std.proofs.Common.{◌≡◌}
 use Rattle.machine_model.specs.Looping.{Goes}
 use Rattle.machine_model.specs.Measures.{job_rank}
 use Rattle.machine_model.specs.Outlined.{outline_of}
