@@ -32,3 +32,5 @@ pub mod TakingStays
 pub mod ThroughCalls
 pub mod TransferCalls
 pub mod TurnLaws
+pub mod VisitCalls
+pub mod VisitNext

@@ -106,4 +106,10 @@ pub rest_sound : {D : Type 0} (t : Parts D) (spare : ℕ) (stopped : Bool) → I
 rest_sound t spare stopped sound = record {
   keeps = rest_kept t.state spare stopped sound.keeps;
   room = sound.room;
+  visits = record {
+    idle = sound.visits.idle;
+    over = sound.visits.over;
+    few = sound.visits.few;
+    each = sound.visits.each;
+  };
 }

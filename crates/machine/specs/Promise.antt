@@ -1,9 +1,12 @@
 -- What a machine keeps between any two steps (own).
 use Rattle.std.specs.Prelude.{◌≡◌, length}
 use Rattle.machine_model.specs.Promise.{KeepsAll}
+use Rattle.machine_model.specs.Visits.{AreVisited}
 use Rattle.machine_tables.specs.Parts.{Parts}
 
--- the whole promise, and a ready list with room for each process of the script
+-- the whole promise; a ready list with room for each process of the script; and what holds of the frames that the
+-- shutdown has visited
 pub record IsSound {D : Type 0} (t : Parts D) : Type 0 where
   pub keeps : KeepsAll t.state
   pub room : t.room ≡ length t.state.plan.processes
+  pub visits : AreVisited t.state

@@ -11,6 +11,7 @@ mod machine;
 mod making;
 mod owning;
 mod schedule;
+mod shutdown;
 mod starting;
 mod stepping;
 mod turn;

@@ -2,7 +2,7 @@
 use Rattle.std.proofs.Common.{◌≡◌, ◌↔◌, ◌-◌, ◌<◌, ℕ, suc, zero, length, get_or, Bool, true, false, ◌&&◌, cond, eqb}
 use Rattle.std.proofs.Common.{List, [], ◌∷◌}
 use Rattle.std.proofs.Common.{refl, sym, ap, subst, ◌∙◌, arith, append_assoc, inl, inr}
-use Rattle.std.specs.Prelude.{IfOk, Result, Ok, Err}
+use Rattle.std.specs.Prelude.{IfOk, OnErr, Result, Ok, Err}
 use Rattle.std.proofs.lemmas.Bool.Decides.{eqb_tells}
 use Rattle.book.specs.declared.entries.Entry.{Entry}
 use Rattle.mword.specs.Words.{AreZero}
@@ -55,6 +55,16 @@ left_is (Ok Kept) ws zeros = by (are_zeros ws) refl
     by : (b : Bool) → are_zeros ws ≡ b → Kept ≡ cond b Released Kept
     by false e = refl
     by true e = absurd (let no = zeros.1 (zeros_from ws e) in cc)
+
+-- one that stays in its frame, since the drive failed, isn't all zeros
+pub left_stays : {E : Type 0} (r : Result Left E) (ws : List ℕ) → (r ≡ Ok Released) ↔ AreZero ws
+    → OnErr r (are_zeros ws ≡ false)
+left_stays (Ok x) ws zeros = tt
+left_stays (Err e) ws zeros = by (are_zeros ws) refl
+  where
+    by : (b : Bool) → are_zeros ws ≡ b → b ≡ false
+    by false h = refl
+    by true h = absurd (let no = zeros.1 (zeros_from ws h) in cc)
 
 -- a page that has left its frame, and what its account is then
 pub left_exact : {D E : Type 0} (old new : Parts D) (f : ℕ) (r : Result Left E) → HasColumns old.state.store.accounts

@@ -1,4 +1,4 @@
-ghost use Rattle.std.specs.Prelude.{◌≡◌, ◌<◌, ◌≤◌, ◌+◌, length, slice_get, Some, None, true, IfOk, OnErr};
+ghost use Rattle.std.specs.Prelude.{◌≡◌, ◌<◌, ◌≤◌, ◌+◌, length, slice_get, Some, None, true, false, IfOk, OnErr};
 ghost use Rattle.core_map.specs.CoreMap.{frame_at, is_bound};
 ghost use Rattle.page_table.specs.declared.Ptw.TheVariants.{Leaving};
 ghost use Rattle.page_control.specs.Drives.{CallsDrive};
@@ -9,7 +9,7 @@ ghost use Rattle.script.specs.Plans.{Plan};
 ghost use Rattle.flat_model.specs.Store.{Store as Flat};
 ghost use Rattle.storage_ops.specs.Paged.{IsSettled};
 ghost use Rattle.machine_model.specs.After.{by_outcome};
-ghost use Rattle.machine_model.specs.Jobs.{eviction_done, left_of, page_done, page_in, pages_back, segs_back};
+ghost use Rattle.machine_model.specs.Jobs.{are_zeros, eviction_done, left_of, page_done, page_in, pages_back, segs_back};
 ghost use Rattle.machine_model.specs.Jobs.{entries_left, with_here, with_left, with_relink};
 ghost use Rattle.machine_model.specs.Jobs.{without_first_frame, write_failed};
 ghost use Rattle.machine_model.specs.Keeps.{IsFaithful};
@@ -121,6 +121,7 @@ impl<D: Drive> Tables<D> {
             (with_accounts (with_left self.old.state.store f left (page_in self.old.state.store f))
             self.new.state.store.accounts))) self.new.drives self.new.state.faults) }
         ensures err { OnErr result (self.new ≡ with_drives self.old self.new.drives self.new.state.faults) }
+        ensures zeros { OnErr result (are_zeros (words_in self.old.state.store.pages f) ≡ false) }
         ensures settled { IsSettled self.old.state.store.accounts self.new.state.store.accounts
             (page_in self.old.state.store f).0 result }
         ensures shown { IfOk result (λ left. (p : Plan) (t : Flat) → IsFaithful p t self.old.state.store
@@ -140,6 +141,7 @@ impl<D: Drive> Tables<D> {
         ensures ok { IfOk result (λ left. self.new ≡ with_drives (with_state self.old (with_store self.old.state
             (with_left self.old.state.store f left (page_in self.old.state.store f))))
             self.new.drives self.new.state.faults) }
+        ensures zeros { OnErr result (are_zeros (words_in self.old.state.store.pages f) ≡ false) }
         ensures err { OnErr result (self.new ≡ with_drives self.old self.new.drives self.new.state.faults) }
         ensures shown { IfOk result (λ left. (p : Plan) (t : Flat) → IsFaithful p t self.old.state.store
             → IsFaithful p (without_left left (page_in self.old.state.store f) t) self.new.state.store) }

@@ -1,13 +1,13 @@
 //! The shutdown visits the frames one after the other, and empties them.
 
-ghost use Rattle.std.specs.Prelude.{◌≡◌, ◌<◌, ◌≤◌, length, None, true, IfOk};
+ghost use Rattle.std.specs.Prelude.{◌≡◌, ◌<◌, ◌≤◌, length, None, true, false, IfOk, OnErr};
 ghost use Rattle.script.specs.Plans.{Plan};
 ghost use Rattle.flat_model.specs.Store.{Store as Flat};
 ghost use Rattle.core_map.specs.CoreMap.{bound_page, frame_at, is_bound};
 ghost use Rattle.page_control.specs.Drives.{CallsDrive};
 ghost use Rattle.machine_model.specs.After.{by_outcome};
 ghost use Rattle.page_control.specs.Plain.{words_in};
-ghost use Rattle.machine_model.specs.Jobs.{left_of, page_back, page_gone, page_in};
+ghost use Rattle.machine_model.specs.Jobs.{are_zeros, left_of, page_back, page_gone, page_in};
 ghost use Rattle.machine_model.specs.Keeps.{IsFaithful};
 ghost use Rattle.machine_model.specs.Reads.{home_in};
 ghost use Rattle.machine_model.specs.Shutdown.{after_visit, page_taken, visited_if};
@@ -62,6 +62,7 @@ impl<D: Drive> Tables<D> {
             (page_gone (with_faults (page_taken self.old.state f) self.new.state.faults) f)
             (page_back (fault_told (page_taken self.old.state f) None self.new.state.faults) f) }
         ensures how { IfOk result (λ left. left ≡ left_of (words_in self.old.state.store.pages f)) }
+        ensures zeros { OnErr result (are_zeros (words_in self.old.state.store.pages f) ≡ false) }
         ensures shown { (p : Plan) (t : Flat) → IsFaithful p t self.old.state.store
             → IsFaithful p (shown_left result (page_in self.old.state.store f) t) self.new.state.store }
         ensures room { self.new.room ≡ self.old.room }
@@ -89,6 +90,7 @@ impl<D: Drive> Tables<D> {
         ensures shown { (p : Plan) (t : Flat) → IsFaithful p t self.old.state.store
             → IsFaithful p (shown_visited self.old.state f (outcome_of result self.new.state.faults)
             (bound_page (frame_at self.old.state.store.pages.core f)) t) self.new.state.store }
+        ensures zeros { OnErr result (are_zeros (words_in self.old.state.store.pages f) ≡ false) }
         ensures room { self.new.room ≡ self.old.room }
         ensures drives { CallsDrive D.plan D.places D.faults self.old.drives self.new.drives
             (home_in self.old.state.store (page_in self.old.state.store f).0).volume result }
@@ -119,6 +121,8 @@ impl<D: Drive> Tables<D> {
             (outcome_of result self.new.state.faults)
             (bound_page (frame_at self.old.state.store.pages.core self.old.state.visited)) t)
             self.new.state.store }
+        ensures zeros { OnErr result
+            (are_zeros (words_in self.old.state.store.pages self.old.state.visited) ≡ false) }
         ensures room { self.new.room ≡ self.old.room }
         ensures drives { CallsDrive D.plan D.places D.faults self.old.drives self.new.drives
             (home_in self.old.state.store (page_in self.old.state.store self.old.state.visited).0).volume result }

@@ -6,6 +6,7 @@ use Rattle.machine_model.specs.State.{State}
 use Rattle.machine_tables.proofs.FirstLaws.{first_keeps}
 use Rattle.machine.specs.Starts.{parts_of}
 use Rattle.machine.proofs.FirstParts.{are_fresh, as_many, drives_are}
+use Rattle.machine.proofs.VisitNext.{visited_first}
 use Rattle.machine.proofs.machine.Machine.boot.Goals as goal
 
 pub volumes-requires-2 : goal.volumes-requires-2
@@ -31,6 +32,9 @@ invariant_of-result g c = record {
       c.in_ok-tables.ensures.says;
   room = c.in_ok-tables.ensures.room
       ∙ sym (ap (λ (s : State). length s.plan.processes) c.in_ok-tables.ensures.state);
+  visits = visited_first _ c.args.script.processors
+      (ap (λ (s : State). s.processors) c.in_ok-tables.ensures.state)
+      (ap (λ (s : State). s.visited) c.in_ok-tables.ensures.state);
 }
 
 pub returns-clause-drives : goal.returns-clause-drives

@@ -1,9 +1,9 @@
-use Rattle.std.proofs.Common.{◌≡◌, subst, ap, rules}
-use Rattle.std.specs.Prelude.{IfOk}
+use Rattle.std.proofs.Common.{◌≡◌, false, subst, ap, rules}
+use Rattle.std.specs.Prelude.{IfOk, OnErr}
 use Rattle.page_control.specs.Plain.{words_in}
-use Rattle.machine_model.specs.Jobs.{left_of}
+use Rattle.machine_model.specs.Jobs.{are_zeros, left_of}
 use Rattle.machine_tables.specs.Parts.{Parts}
-use Rattle.machine_tables.proofs.LeftLaws.{left_is}
+use Rattle.machine_tables.proofs.LeftLaws.{left_is, left_stays}
 use Rattle.machine_tables.proofs.ShownLaws.{left_shown}
 use Rattle.machine_tables.proofs.tables.Tables.empty_frame.Goals as goal
 
@@ -12,6 +12,11 @@ returns-clause-how g c =
     subst (λ (t : Parts g.row.D.Denot). IfOk c.evict.result (λ left. left
     ≡ left_of (words_in t.state.store.pages c.args.f))) c.self.view_is
     (left_is c.evict.result _ c.evict.ensures.zeros)
+
+pub returns-clause-zeros : goal.returns-clause-zeros
+returns-clause-zeros g c =
+    subst (λ (t : Parts g.row.D.Denot). OnErr c.evict.result (are_zeros (words_in t.state.store.pages c.args.f)
+    ≡ false)) c.self.view_is (left_stays c.evict.result _ c.evict.ensures.zeros)
 
 pub returns-clause-shown : goal.returns-clause-shown
 returns-clause-shown g c = left_shown g.D.Drive.pages c.args.self.now c.self.inside.store c.evict.new.self c.args.f _

@@ -1,0 +1,219 @@
+-- What holds of the frames that the shutdown has visited holds after each visit, and one frame more was.
+use Rattle.std.proofs.Common.{◌≡◌, ◌≢◌, ◌<◌, ℕ, zero, suc, ◌+◌, ◌++◌, ◌∷◌, [], Bool, true, false, cond, length}
+use Rattle.std.proofs.Common.{not, replicate, List, Option, Some, None, inl, inr, refl, sym, ap, subst, ◌∙◌, arith}
+use Rattle.std.proofs.lemmas.Bool.{cases_lt}
+use Rattle.std.proofs.lemmas.List.{get_or-set_other, get_or-set_same, get_or_past}
+use Rattle.book.specs.declared.entries.Entry.{Entry}
+use Rattle.book.specs.declared.entries.Entry.TheVariants as entry
+use Rattle.core_map.specs.CoreMap.{bound_page}
+use Rattle.core_map.specs.declared.Frame.TheVariants as frame
+use Rattle.script.specs.Plans.{Plan}
+use Rattle.page_control.specs.declared.Left.{Left}
+use Rattle.page_control.specs.declared.Left.TheVariants as left
+use Rattle.page_control.specs.declared.Home.{Home}
+use Rattle.page_control.specs.Effects.{evicted}
+use Rattle.page_control.specs.Plain.{Plain, frame_in, words_in}
+use Rattle.machine_model.specs.declared.Processor.{Processor}
+use Rattle.assoc_mem.specs.Held.{nothing_held}
+use Rattle.machine_model.specs.Actions as act
+use Rattle.machine_model.specs.Actions.{action_of, clear_or, is_over}
+use Rattle.machine_model.specs.After.{Outcome, after}
+use Rattle.machine_model.specs.Jobs.{entries_left, are_zeros, here_if, leaving_if, left_of, page_back}
+use Rattle.machine_model.specs.Jobs.{page_gone, page_in, with_here}
+use Rattle.machine_model.specs.Promise.{KeepsAll}
+use Rattle.machine_model.specs.Reads.{cpu_at, home_in, no_processor, processor_at}
+use Rattle.machine_model.specs.Shutdown.{after_visit, page_taken, visited_if}
+use Rattle.machine_model.specs.State.{State}
+use Rattle.machine_model.specs.Steps.{fault_told, with_faults}
+use Rattle.machine_model.specs.Visits.{AreIdle, AreVisited, WasVisited}
+use Rattle.machine_model.proofs.FlatAlike.{append_assoc}
+use Rattle.machine_model.proofs.IdleKept.{FillsBusy, idle_kept}
+use Rattle.machine_model.proofs.PoolsKept.{pools_kept}
+use Rattle.machine_model.proofs.TieLaws.{none_some}
+use Rattle.machine_model.proofs.VisitAll.{SameSeats, VisitSays, same_seats, visit_over}
+
+-- a frame that was visited, where its page and its words are as before and the book has entries more
+carried : (old new : Plain) (es more : List Entry) (g : ℕ) → frame_in new g ≡ frame_in old g
+    → words_in new g ≡ words_in old g → WasVisited old es g → WasVisited new (es ++ more) g
+carried old new es more g same words (inl none) = inl (ap bound_page same ∙ none)
+carried old new es more g same words (inr stayed) = inr (record {
+  words = ap are_zeros words ∙ stayed.words;
+  told = record {
+    before = stayed.told.before;
+    later = stayed.told.later ++ more;
+    told = ap (λ (xs : List Entry). xs ++ more) stayed.told.told
+        ∙ append_assoc stayed.told.before (entry.Fault None ∷ entry.BackPage g ∷ stayed.told.later) more;
+  };
+})
+
+-- a page that has left its frame: the frame is free, and every other one is as before
+evicted_words : (pages : Plain) (home : Home) (p f g : ℕ) (how : Left)
+    → words_in (evicted pages home p f how) g ≡ words_in pages g
+evicted_words pages home p f g left.Released = refl
+evicted_words pages home p f g left.Kept = refl
+
+evicted_other : (pages : Plain) (home : Home) (p f g : ℕ) (how : Left) → g ≢ f
+    → frame_in (evicted pages home p f how) g ≡ frame_in pages g
+evicted_other pages home p f g left.Released other =
+    get_or-set_other pages.core.frames f g frame.Free frame.Free other
+evicted_other pages home p f g left.Kept other = get_or-set_other pages.core.frames f g frame.Free frame.Free other
+
+evicted_here : (pages : Plain) (home : Home) (p f : ℕ) (how : Left) → f < length pages.core.frames
+    → frame_in (evicted pages home p f how) f ≡ frame.Free
+evicted_here pages home p f left.Released there = get_or-set_same pages.core.frames f frame.Free frame.Free there
+evicted_here pages home p f left.Kept there = get_or-set_same pages.core.frames f frame.Free frame.Free there
+
+-- a frame with a page is there
+bound_there : (pages : Plain) (f : ℕ) (page : ℕ × ℕ) → bound_page (frame_in pages f) ≡ Some page
+    → f < length pages.core.frames
+bound_there pages f page h = elim (cases_lt f (length pages.core.frames)) [
+  | inl lt ↦ lt
+  | inr far ↦ absurd (none_some (sym (ap bound_page (get_or_past pages.core.frames f frame.Free far)) ∙ h))
+]
+
+apart : (g f : ℕ) → g < f → g ≢ f
+apart g f lt e = omega (arith, lt, e)
+
+module _ (s : State) (o : Outcome) (all : KeepsAll s) (visits : AreVisited s) (over : is_over s ≡ true)
+    (more : s.visited < s.plan.frames) (says : VisitSays s o) where
+  abbrev f : ℕ
+  f = s.visited
+
+  abbrev taken : State
+  taken = page_taken s f
+
+  taken_pages : taken.store.pages ≡ s.store.pages
+  taken_pages = by (bound_page (frame_in s.store.pages f))
+    where
+      by : (x : Option (ℕ × ℕ)) → (leaving_if s.store f x).pages ≡ s.store.pages
+      by None = refl
+      by (Some page) = refl
+
+  back_pages : (with_here taken.store f).pages ≡ s.store.pages
+  back_pages = by (bound_page (frame_in taken.store.pages f)) ∙ taken_pages
+    where
+      by : (x : Option (ℕ × ℕ)) → (here_if taken.store f x).pages ≡ taken.store.pages
+      by None = refl
+      by (Some page) = refl
+
+  abbrev gone : State
+  gone = page_gone (with_faults taken o.faults) f
+
+  abbrev back : State
+  back = page_back (fault_told taken None o.faults) f
+
+  -- frames before this one
+  earlier : (g : ℕ) → g < f → (x : Option (ℕ × ℕ)) → (b : Bool)
+      → WasVisited (record (cond b back gone) { visited = f + 1 }).store.pages
+      (record (cond b back gone) { visited = f + 1 }).entries g
+  earlier g lt x true = carried taken.store.pages (with_here taken.store f).pages _ (entry.BackPage f ∷ []) g
+      (ap (λ (p : Plain). frame_in p g) (back_pages ∙ sym taken_pages))
+      (ap (λ (p : Plain). words_in p g) (back_pages ∙ sym taken_pages))
+      (carried s.store.pages taken.store.pages _ (entry.Fault None ∷ []) g
+      (ap (λ (p : Plain). frame_in p g) taken_pages) (ap (λ (p : Plain). words_in p g) taken_pages)
+      (carried s.store.pages s.store.pages s.entries (entry.Take f ∷ []) g refl refl (visits.each g lt)))
+  earlier g lt x false = carried taken.store.pages _ (s.entries ++ entry.Take f ∷ [])
+      (entries_left f (left_of (words_in taken.store.pages f)) (page_in taken.store f)) g
+      (evicted_other taken.store.pages (home_in taken.store (page_in taken.store f).0) (page_in taken.store f).1 f g
+      (left_of (words_in taken.store.pages f)) (apart g f lt))
+      (evicted_words taken.store.pages (home_in taken.store (page_in taken.store f).0) (page_in taken.store f).1 f g
+      (left_of (words_in taken.store.pages f)))
+      (carried s.store.pages taken.store.pages s.entries (entry.Take f ∷ []) g
+      (ap (λ (p : Plain). frame_in p g) taken_pages) (ap (λ (p : Plain). words_in p g) taken_pages) (visits.each g lt))
+
+  -- the frame that is visited
+  this : (page : ℕ × ℕ) → bound_page (frame_in s.store.pages f) ≡ Some page → (b : Bool) → o.failed ≡ b
+      → WasVisited (record (cond b back gone) { visited = f + 1 }).store.pages
+      (record (cond b back gone) { visited = f + 1 }).entries f
+  this page bound true ill = inr (record {
+    words = ap (λ (p : Plain). are_zeros (words_in p f)) back_pages ∙ says.words ill;
+    told = record {
+      before = s.entries ++ entry.Take f ∷ [];
+      later = [];
+      told = append_assoc (s.entries ++ entry.Take f ∷ []) (entry.Fault None ∷ []) (entry.BackPage f ∷ []);
+    };
+  })
+  this page bound false well = inl (ap bound_page (evicted_here taken.store.pages
+      (home_in taken.store (page_in taken.store f).0) (page_in taken.store f).1 f
+      (left_of (words_in taken.store.pages f))
+      (subst (λ (p : Plain). f < length p.core.frames) (sym taken_pages) (bound_there s.store.pages f page bound))))
+
+  each_next : (x : Option (ℕ × ℕ)) → bound_page (frame_in s.store.pages f) ≡ x → (g : ℕ) → g < f + 1
+      → WasVisited (record (visited_if s f o x) { visited = f + 1 }).store.pages
+      (record (visited_if s f o x) { visited = f + 1 }).entries g
+  each_next None bound g lt = elim (cases_lt g f) [
+    | inl less ↦ visits.each g less
+    | inr far ↦ inl (let same : g ≡ f = omega (arith, lt, far) in
+        ap (λ (h : ℕ). bound_page (frame_in s.store.pages h)) same ∙ bound)
+  ]
+  each_next (Some page) bound g lt = elim (cases_lt g f) [
+    | inl less ↦ earlier g less (Some page) o.failed
+    | inr far ↦ (let same : g ≡ f = omega (arith, lt, far) in
+        subst (λ (h : ℕ). WasVisited (record (cond o.failed back gone) { visited = f + 1 }).store.pages
+        (record (cond o.failed back gone) { visited = f + 1 }).entries h) (sym same) (this page bound o.failed refl))
+  ]
+
+  -- What holds of the frames that were visited holds after a visit.
+  pub visited_next : AreVisited (after_visit s o)
+  visited_next = record {
+    idle = subst AreIdle (sym seats.processors) visits.idle;
+    over = λ h. visit_over s o all over visits.idle says;
+    few = let same = ap (λ (p : Plan). p.frames) seats.plan in omega (arith, more, same);
+    each = each_next (bound_page (frame_in s.store.pages f)) refl;
+  }
+    where
+      seats : SameSeats s (after_visit s o)
+      seats = same_seats s o
+
+-- ---- at first, and after the steps of processors
+
+idle_first : (n : ℕ) (d : ℕ) → (cpu_at (replicate n no_processor) d).assoc ≡ nothing_held
+idle_first zero d = refl
+idle_first (suc n) zero = refl
+idle_first (suc n) (suc d) = idle_first n d
+
+-- no frame was visited, and no processor has a process
+pub visited_first : (s : State) (n : ℕ) → s.processors ≡ replicate n no_processor → s.visited ≡ 0 → AreVisited s
+visited_first s n idle none = record {
+  idle = record {
+    held = λ d i. ap (λ (ps : List Processor). (cpu_at ps d).assoc) idle ∙ idle_first n d;
+  };
+  over = λ h. absurd (omega (arith, h, none));
+  few = omega (arith, none);
+  each = λ f lt. absurd (omega (arith, lt, none));
+}
+
+-- a machine in which no process is ready or running stays as it is
+still_over : (s : State) (c : ℕ) (o : Outcome) → is_over s ≡ true → after s c (action_of s c) o ≡ s
+unfolding action_of after
+still_over s c o over = by s.stopped (is_over s) over
+  where
+    by : (stopped ended : Bool) → ended ≡ true → after s c (cond stopped act.IsStopped (cond ended act.HasEnded
+        (cond (not (processor_at s.processors c).cpu.online) act.Online
+        (clear_or s c (processor_at s.processors c) (processor_at s.processors c).cpu.due)))) o ≡ s
+    by true ended h = refl
+    by false true h = refl
+    by false false h = absurd (let no : false ≡ true = h in cc)
+
+-- What holds of the frames that were visited holds after a step.
+pub visited_after : (s : State) (c : ℕ) (o : Outcome) → c < length s.processors → FillsBusy s c (action_of s c)
+    → AreVisited s → AreVisited (after s c (action_of s c) o)
+visited_after s c o there busy visits = by (is_over s) refl
+  where
+    by : (b : Bool) → is_over s ≡ b → AreVisited (after s c (action_of s c) o)
+    by true over = subst AreVisited (sym (still_over s c o over)) visits
+    by false on = record {
+      idle = idle_kept s c o there visits.idle (action_of s c) busy;
+      over = λ h. absurd (omega (arith, h, none));
+      few = omega (arith, none);
+      each = λ f lt. absurd (omega (arith, lt, none));
+    }
+      where
+        begun : s.visited ≡ 0
+        begun = elim (cases_lt 0 s.visited) [
+          | inl some ↦ absurd (let no : true ≡ false = sym (visits.over some) ∙ on in cc)
+          | inr past ↦ omega (arith, past)
+        ]
+
+        none : (after s c (action_of s c) o).visited ≡ 0
+        none = (pools_kept s c (action_of s c) o).visited ∙ begun

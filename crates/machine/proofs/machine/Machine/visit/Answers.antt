@@ -1,0 +1,41 @@
+use Rattle.std.proofs.Common.{◌≤◌, arith}
+use Rattle.machine.proofs.DriveCounts.{call_counts}
+use Rattle.machine.proofs.VisitCalls.{frames_planned, over_owner, visit_done, visit_here, visit_sound, visit_within}
+use Rattle.machine.proofs.machine.Machine.visit.Goals as goal
+
+pub visit-visited-requires-clause-count : goal.visit-visited-requires-clause-count
+visit-visited-requires-clause-count g c = frames_planned _ c.self.invariant (rw c.self.view_is c.requires.over)
+
+pub visit-visited-requires-clause-frame : goal.visit-visited-requires-clause-frame
+visit-visited-requires-clause-frame g c = visit_within _ c.self.invariant (rw c.self.view_is c.requires.over)
+    (rw c.self.view_is c.requires.more)
+
+pub visit-visited-requires-clause-here : goal.visit-visited-requires-clause-here
+visit-visited-requires-clause-here g c = visit_here _ c.self.invariant (rw c.self.view_is c.requires.over)
+
+pub visit-visited-requires-clause-owner : goal.visit-visited-requires-clause-owner
+visit-visited-requires-clause-owner g c = over_owner _ c.self.invariant (rw c.self.view_is c.requires.over)
+
+pub visit-visited-requires-clause-room : goal.visit-visited-requires-clause-room
+visit-visited-requires-clause-room g c =
+    let room : 320 ≤ c.self.inside.tables.state.spare = rw c.self.view_is c.requires.room in omega (arith, room)
+
+pub returns : goal.returns
+returns g c = rw (← c.self.view_is) (visit_done _ c.self.invariant (rw c.self.view_is c.requires.over)
+    c.visit-visited.result c.visit-visited.new.self (rw c.self.view_is c.requires.more) c.visit-visited.ensures.state
+    c.visit-visited.ensures.shown c.visit-visited.ensures.zeros
+    (call_counts _ _ _ _ _ _ c.visit-visited.result _ _ c.visit-visited.ensures.drives c.look-before.ensures.faults
+    c.look-tables.ensures.faults)
+    g.D.Drive.plan g.D.Drive.places g.D.Drive.faults _ c.visit-visited.ensures.drives c.visit-visited.ensures.room)
+
+pub invariant_of-self : goal.invariant_of-self
+invariant_of-self g c = visit_sound _ c.self.invariant (rw c.self.view_is c.requires.over) c.visit-visited.result
+    c.visit-visited.new.self (rw c.self.view_is c.requires.more) c.visit-visited.ensures.state
+    c.visit-visited.ensures.shown c.visit-visited.ensures.zeros
+    (call_counts _ _ _ _ _ _ c.visit-visited.result _ _ c.visit-visited.ensures.drives c.look-before.ensures.faults
+    c.look-tables.ensures.faults)
+    c.visit-visited.ensures.room (record {
+      kept = c.look-tables.ensures.kept;
+      counted = c.look-tables.ensures.counted;
+      accounts = c.look-tables.ensures.accounts;
+    })
