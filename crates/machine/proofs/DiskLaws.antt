@@ -27,8 +27,8 @@ use Rattle.machine.specs.OnDisk.{HasHome, HasNode, IsOnDisk}
 -- a frame that is bound shows its page
 bound_shows : (words : ℕ → ℕ → Ptw) (page : ℕ × ℕ) (x read : Option (ℕ × ℕ)) → x ≡ Some page
     → bound_page (frame_use words x read) ≡ Some page
-bound_shows words page x read e = subst (λ (y : Option (ℕ × ℕ)). bound_page (frame_use words y read) ≡ Some page) (sym e)
-    (by (words page.0 page.1))
+bound_shows words page x read e =
+    subst (λ (y : Option (ℕ × ℕ)). bound_page (frame_use words y read) ≡ Some page) (sym e) (by (words page.0 page.1))
   where
     by : (w : Ptw) → bound_page (bound_use page w) ≡ Some page
     by ptw.Null = refl
@@ -138,7 +138,8 @@ module _ (s : State) (keeps : Keeps s) where
       → disks ≡ s.store.pages.disks → records ≡ s.store.pages.records → vtocs ≡ s.store.pages.vtocs
       → IsOnDisk disks records vtocs (flat_of s) (custody_after s.plan s.entries)
   on_volumes disks records vtocs d r v =
-      subst (λ (x : List (List (List ℕ))). IsOnDisk x records vtocs (flat_of s) (custody_after s.plan s.entries)) (sym d)
+      subst (λ (x : List (List (List ℕ))). IsOnDisk x records vtocs (flat_of s) (custody_after s.plan s.entries))
+      (sym d)
       (subst (λ (x : List (List Bool)). IsOnDisk s.store.pages.disks x vtocs (flat_of s)
       (custody_after s.plan s.entries)) (sym r)
       (subst (λ (x : List (List (Option Entry))). IsOnDisk s.store.pages.disks s.store.pages.records x (flat_of s)

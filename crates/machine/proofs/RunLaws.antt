@@ -109,12 +109,13 @@ module _ {D Plan : Type 0} (plan : D → Plan) (places faults : D → ℕ) where
     stores = ap (λ (t : Parts D). map places t.drives) same;
     count = ap (λ (t : Parts D). length t.drives) same;
   }
-  run_keeps old new (c ∷ cs) n (mid, one, rest, is, round, more) = let later = run_keeps mid new cs rest more in record {
-    script = later.script ∙ round.kept.script;
-    plans = later.plans ∙ round.kept.plans;
-    stores = later.stores ∙ round.kept.stores;
-    count = later.count ∙ round.kept.count;
-  }
+  run_keeps old new (c ∷ cs) n (mid, one, rest, is, round, more) =
+      let later = run_keeps mid new cs rest more in record {
+        script = later.script ∙ round.kept.script;
+        plans = later.plans ∙ round.kept.plans;
+        stores = later.stores ∙ round.kept.stores;
+        count = later.count ∙ round.kept.count;
+      }
 
   -- one processor more makes its step
   pub run_on : (old mid new : Parts D) (cs : List ℕ) (n c one : ℕ) → Run old mid cs n → Round mid new c one

@@ -1,6 +1,6 @@
 -- A visit of the shutdown: what it asks of the tables, and that the machine keeps its promise.
-use Rattle.std.proofs.Common.{◌≡◌, ◌<◌, ◌≤◌, ℕ, ◌+◌, ◌++◌, ◌∷◌, [], Bool, true, false, not, cond, ◌&&◌, length, sum, map}
-use Rattle.std.proofs.Common.{List, Option, Some, None, refl, sym, ap, subst, ◌∙◌, arith}
+use Rattle.std.proofs.Common.{◌≡◌, ◌<◌, ◌≤◌, ℕ, ◌+◌, ◌++◌, ◌∷◌, [], Bool, true, false, not, cond, ◌&&◌, length, sum}
+use Rattle.std.proofs.Common.{map, List, Option, Some, None, refl, sym, ap, subst, ◌∙◌, arith}
 use Rattle.std.specs.Prelude.{Err, Ok, OnErr, Result, nat_lt}
 use Rattle.std.specs.List.{list_any}
 use Rattle.std.proofs.lemmas.Bool.{cases_lt}
@@ -19,7 +19,8 @@ use Rattle.active_segs.specs.declared.Entry.{Entry as Segment}
 use Rattle.machine_model.specs.Actions.{has_process, is_empty, is_over}
 use Rattle.machine_model.specs.After.{Outcome}
 use Rattle.machine_model.specs.Holding.{seen}
-use Rattle.machine_model.specs.Jobs.{are_zeros, entries_left, here_if, leaving_if, left_of, page_back, page_gone, page_in}
+use Rattle.machine_model.specs.Jobs.{are_zeros, entries_left, here_if, leaving_if, left_of, page_back, page_gone}
+use Rattle.machine_model.specs.Jobs.{page_in}
 use Rattle.machine_model.specs.Keeps.{IsFaithful, Keeps, StoreKept}
 use Rattle.machine_model.specs.Promise.{KeepsAll}
 use Rattle.machine_model.specs.Reads.{frames_of_owner}

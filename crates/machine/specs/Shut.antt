@@ -7,8 +7,8 @@ use Rattle.machine_model.specs.State.{State}
 use Rattle.machine_model.specs.Visits.{WasVisited}
 use Rattle.machine_tables.specs.Parts.{Parts}
 
--- The next frame was visited, and nothing else was done. If a call of a drive failed, the drives count more failures than
--- before. The drives' plans and places stay, and so does the room of the ready list.
+-- The next frame was visited, and nothing else was done. If a call of a drive failed, the drives count more failures
+-- than before. The drives' plans and places stay, and so does the room of the ready list.
 pub record HasVisited {D Plan : Type 0} (plan : D → Plan) (places : D → ℕ) (old new : Parts D) : Type 0 where
   pub outcome : Outcome
   pub done : new.state ≡ after_visit old.state outcome
@@ -19,7 +19,7 @@ pub record HasVisited {D Plan : Type 0} (plan : D → Plan) (places : D → ℕ)
   pub count : length new.drives ≡ length old.drives
   pub room : new.room ≡ old.room
 
--- Each frame was visited. It has no page; or it kept one that isn't all zeros, and the book tells that the drive failed,
--- and right after it that the page is back.
+-- Each frame was visited. It has no page; or it kept one that isn't all zeros, and the book tells that the drive
+-- failed, and right after it that the page is back.
 abbrev pub AllVisited : State → Type 0
 AllVisited s = (f : ℕ) → f < s.plan.frames → WasVisited s.store.pages s.entries f

@@ -91,8 +91,8 @@ pub record KeepsParts {D Plan : Type 0} (plan : D → Plan) (places : D → ℕ)
   pub stores : map places new.drives ≡ map places old.drives
   pub count : length new.drives ≡ length old.drives
 
--- What the entries that are added tell of the drives: a failure only where the drives' counts rose, one at the most, and
--- of this process; and that a process was told of one only after it.
+-- What the entries that are added tell of the drives: a failure only where the drives' counts rose, one at the most,
+-- and of this process; and that a process was told of one only after it.
 pub record TellsFaults {D : Type 0} (faults : D → ℕ) (old new : Parts D) (process : ℕ) : Type 0 where
   pub more : List Entry
   pub entries : new.state.entries ≡ old.state.entries ++ more

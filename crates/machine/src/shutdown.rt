@@ -29,9 +29,9 @@ impl<D: Drive> Machine<D> {
         self.tables.visited() < self.tables.book().script().frames()
     }
 
-    /// The shutdown visits the next frame, from 0 on: the page that is in it leaves it, and stays where the drive fails,
-    /// which is told. False exactly where every frame was visited; then each has no page, or one of which the book tells
-    /// why it stayed. (Source: own.)
+    /// The shutdown visits the next frame, from 0 on: the page that is in it leaves it, and stays where the drive
+    /// fails, which is told. False exactly where every frame was visited; then each has no page, or one of which the
+    /// book tells why it stayed. (Source: own.)
     pub fn shutdown_step(&mut self) -> bool
         requires ended { is_over self.old.state ≡ true }
         requires room { 320 ≤ self.old.state.spare }
