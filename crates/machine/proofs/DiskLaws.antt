@@ -36,7 +36,7 @@ bound_shows words page x read e =
     by (ptw.Here f) = refl
     by (ptw.Leaving f) = refl
 
-binding_tells : (u p : ℕ) (x : Option (ℕ × ℕ)) → is_binding u p x ≡ true → x ≡ Some (u, p)
+pub binding_tells : (u p : ℕ) (x : Option (ℕ × ℕ)) → is_binding u p x ≡ true → x ≡ Some (u, p)
 binding_tells u p None h = absurd (let none : false ≡ true = h in cc)
 binding_tells u p (Some page) h = elim (eqb_tells page.0 u) [
   | inl a ↦ elim (eqb_tells page.1 p) [

@@ -17,6 +17,7 @@ pub mod Found
 pub mod JoinCalls
 pub mod LoopCalls
 pub mod MovedLaws
+pub mod NoZeros
 pub mod OwnerCalls
 pub mod Quiet
 pub mod ReadStays

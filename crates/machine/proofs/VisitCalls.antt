@@ -1,9 +1,8 @@
 -- A visit of the shutdown: what it asks of the tables, and that the machine keeps its promise.
-use Rattle.std.proofs.Common.{◌≡◌, ◌<◌, ◌≤◌, ℕ, ◌+◌, ◌++◌, ◌∷◌, [], Bool, true, false, not, cond, ◌&&◌, length, sum}
-use Rattle.std.proofs.Common.{map, List, Option, Some, None, refl, sym, ap, subst, ◌∙◌, arith}
+use Rattle.std.proofs.Common.{◌≡◌, ◌<◌, ◌≤◌, ℕ, ◌++◌, ◌∷◌, [], Bool, true, false, not, cond, ◌&&◌, length, sum}
+use Rattle.std.proofs.Common.{List, Option, Some, None, refl, sym, ap, subst, ◌∙◌, arith}
 use Rattle.std.specs.Prelude.{Err, Ok, OnErr, Result, nat_lt}
 use Rattle.std.specs.List.{list_any}
-use Rattle.std.proofs.lemmas.Bool.{cases_lt}
 use Rattle.std.proofs.lemmas.Bool.Decides.{nat_tests}
 use Rattle.site_io.specs.Faults.{Rose}
 use Rattle.script.specs.Plans.{Plan}
@@ -26,10 +25,9 @@ use Rattle.machine_model.specs.Promise.{KeepsAll}
 use Rattle.machine_model.specs.Reads.{frames_of_owner}
 use Rattle.machine_model.specs.Said.{left_page}
 use Rattle.machine_model.specs.Shutdown.{after_visit, page_taken, visited_if}
-use Rattle.machine_model.specs.State.{State, Storage}
+use Rattle.machine_model.specs.State.{State}
 use Rattle.machine_model.specs.Steps.{fault_told, with_faults}
 use Rattle.machine_model.specs.Visits.{AreVisited}
-use Rattle.machine_model.specs.declared.Processor.{Processor}
 use Rattle.machine_model.proofs.FlatAlike.{append_assoc, append_nil}
 use Rattle.machine_model.proofs.OverLaws.{over_free}
 use Rattle.machine_model.proofs.OwnerLaws.{bound_here}

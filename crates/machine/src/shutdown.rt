@@ -2,7 +2,7 @@
 
 ghost use Rattle.std.specs.Prelude.{◌≡◌, ◌<◌, ◌≤◌, true, false, nat_lt};
 ghost use Rattle.machine_model.specs.Actions.{is_over};
-ghost use Rattle.machine.specs.Shut.{AllVisited, HasVisited};
+ghost use Rattle.machine.specs.Shut.{AllVisited, HasNoZeros, HasVisited};
 ghost use Rattle.machine.specs.Turns.{Appends, KeepsParts};
 
 use crate::machine::Machine;
@@ -25,13 +25,14 @@ impl<D: Drive> Machine<D> {
     fn has_frames(&self) -> bool
         ensures more { result ≡ nat_lt self.now.state.visited self.now.state.plan.frames }
         ensures each { result ≡ false → AllVisited self.now.state }
+        ensures zeros { result ≡ false → HasNoZeros self.now.state }
     {
         self.tables.visited() < self.tables.book().script().frames()
     }
 
     /// The shutdown visits the next frame, from 0 on: the page that is in it leaves it, and stays where the drive
     /// fails, which is told. False exactly where every frame was visited; then each has no page, or one of which the
-    /// book tells why it stayed. (Source: own.)
+    /// book tells why it stayed, and no stored page is all zeros. (Source: own.)
     pub fn shutdown_step(&mut self) -> bool
         requires ended { is_over self.old.state ≡ true }
         requires room { 320 ≤ self.old.state.spare }
@@ -39,6 +40,7 @@ impl<D: Drive> Machine<D> {
         ensures visit { result ≡ true → HasVisited D.plan D.places self.old self.new }
         ensures still { result ≡ false → self.new ≡ self.old }
         ensures each { result ≡ false → AllVisited self.new.state }
+        ensures zeros { result ≡ false → HasNoZeros self.new.state }
         ensures entries { Appends self.old.state.entries self.new.state.entries 320 }
         ensures kept { KeepsParts D.plan D.places self.old self.new }
         ensures ended { is_over self.new.state ≡ true }

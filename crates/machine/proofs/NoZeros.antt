@@ -1,0 +1,161 @@
+-- Once every frame was visited no stored page is all zeros: such a page would be in a frame, and the pages that stayed
+-- in theirs have a word other than 0.
+use Rattle.std.proofs.Common.{◌≡◌, ◌<◌, ◌≤◌, ◌+◌, ◌*◌, ℕ, zero, suc, Bool, true, false, ◌&&◌, cond, get_or, length}
+use Rattle.std.proofs.Common.{position, replicate, List, [], ◌∷◌, Option, Some, None, inl, inr, refl, sym, ap, subst}
+use Rattle.std.proofs.Common.{◌∙◌, arith}
+use Rattle.std.specs.Prelude.{◌/◌, ◌%◌}
+use Rattle.std.proofs.lemmas.Bool.{and_parts, cases_lt}
+use Rattle.std.proofs.lemmas.Bool.Decides.{eqb_tells}
+use Rattle.std.proofs.lemmas.List.{get_or_past}
+use Rattle.mword.specs.Words.{AreZero}
+use Rattle.core_map.specs.CoreMap.{bound_page}
+use Rattle.core_map.specs.declared.Frame.TheVariants as frame
+use Rattle.flat_model.specs.Pages.{is_stored, is_zero_page}
+use Rattle.flat_model.proofs.ZeroLaws.{zero_words}
+use Rattle.vtoc.specs.Vtoc.{record_at}
+use Rattle.page_control.specs.Picture.{is_binding, is_stored as is_stored_at, words_held, words_of_page}
+use Rattle.page_control.specs.Plain.{bindings, frame_in, words_in}
+use Rattle.page_control.specs.Tied.{IsInFrame, vtoc_in}
+use Rattle.seg_control.specs.Control.{place_of}
+use Rattle.seg_control.specs.Kept.{IsHomeOf}
+use Rattle.storage_ops.specs.Shown.{is_filed, is_there, picture}
+use Rattle.machine_model.specs.Holding.{seen}
+use Rattle.machine_model.specs.Jobs.{are_zeros}
+use Rattle.machine_model.specs.Keeps.{Keeps}
+use Rattle.machine_model.specs.Reads.{flat_of, home_in, is_active}
+use Rattle.machine_model.specs.State.{State}
+use Rattle.machine_model.specs.Visits.{WasVisited}
+use Rattle.machine_model.proofs.ActiveSeen.{active_place}
+use Rattle.machine_model.proofs.FindLaws.{position_at, position_none}
+use Rattle.machine_model.proofs.TakeSeen.{binding_is}
+use Rattle.machine_model.proofs.TieLaws.{none_some}
+use Rattle.machine_model.proofs.TransferKept.{active_at}
+use Rattle.machine.specs.Shut.{AllVisited, HasNoZeros, words_of}
+use Rattle.machine.proofs.DiskLaws.{binding_tells}
+
+zeros_to : (ws : List ℕ) → AreZero ws → are_zeros ws ≡ true
+zeros_to [] h = refl
+zeros_to (w ∷ ws) h = elim (eqb_tells w 0) [
+  | inl e ↦ ap (λ (b : Bool). b && are_zeros ws) e.0 ∙ zeros_to ws (λ k d lt. h (suc k) d (omega (arith, lt)))
+  | inr n ↦ absurd (n.1 (h zero zero (omega arith)))
+]
+
+-- an element within, by another default
+within : (ws : List ℕ) (i d : ℕ) → i < length ws → get_or ws i d ≡ get_or ws i 0
+within [] i d lt = absurd (omega arith)
+within (w ∷ ws) zero d lt = refl
+within (w ∷ ws) (suc i) d lt = within ws i d (omega arith)
+
+-- a frame with a page is bound to it
+binds : (u p : ℕ) → is_binding u p (Some (u, p)) ≡ true
+binds u p = elim (eqb_tells u u) [
+  | inl a ↦ elim (eqb_tells p p) [ inl b ↦ rw (a.0, b.0) refl | inr n ↦ absurd (n.1 refl) ]
+  | inr n ↦ absurd (n.1 refl)
+]
+
+module _ (s : State) (k : Keeps s) where
+  -- a page in a frame has the words of the frame
+  frame_words : (u f p : ℕ) → (seen s).bound f ≡ Some (u, p) → words_of s u p ≡ words_in s.store.pages f
+  unfolding words_of_page
+  frame_words u f p bound = by (position (is_binding u p) (bindings s.store.pages.core)) refl
+    where
+      filed : Option ℕ
+      filed = record_at (vtoc_in s.store.pages.vtocs (home_in s.store u).volume) (home_in s.store u).entry p
+
+      by : (x : Option ℕ) → position (is_binding u p) (bindings s.store.pages.core) ≡ x
+          → words_held s.store.pages.frames (get_or s.store.pages.disks (home_in s.store u).volume []) filed x
+          ≡ words_in s.store.pages f
+      by None e = absurd (let no : true ≡ false = sym (ap (is_binding u p) bound ∙ binds u p)
+          ∙ position_none (is_binding u p) (bindings s.store.pages.core) None f e refl in cc)
+      by (Some g) e = ap (words_in s.store.pages) same
+        where
+          there : (seen s).bound g ≡ Some (u, p)
+          there = binding_tells u p ((seen s).bound g)
+              (position_at (is_binding u p) (bindings s.store.pages.core) None g e).1
+
+          same : g ≡ f
+          same = let one : ◌≡◌ {A = Option ℕ} (Some g) (Some f) =
+              sym (k.book.tied.named g u p there) ∙ k.book.tied.named f u p bound in cc
+
+  module _ (u p : ℕ) (stored : is_stored (flat_of s).stored u p ≡ true) where
+    filed : is_filed s.store.accounts s.store.pages.vtocs u p ≡ true
+    filed = sym (k.faithful.pages.stored u p) ∙ stored
+
+    parts : (is_there s.store.accounts.nodes u ≡ true)
+        × (is_stored_at s.store.pages (home_in s.store u) p ≡ true)
+    unfolding is_filed
+    parts = and_parts (is_there s.store.accounts.nodes u) (is_stored_at s.store.pages (home_in s.store u) p) filed
+
+    home_is : IsHomeOf s.store.pages.vtocs u (home_in s.store u)
+    home_is = record {
+      used = k.store.counted.housed.homes u parts.0;
+      only = λ other e. k.store.counted.housed.only other u e;
+    }
+
+    -- a page of zeros that is stored is in a frame
+    in_frame : AreZero (words_of s u p) → IsInFrame (bindings s.store.pages.core) u p
+    in_frame zeros = by (is_active s.store.ast u) refl
+      where
+        by : (b : Bool) → is_active s.store.ast u ≡ b → IsInFrame (bindings s.store.pages.core) u p
+        by true active = (k.store.kept.paged.ties (place_of s.store.ast.entries u) u (home_in s.store u)
+            (active_place s.store.ast u active).1 home_is).zeros p parts.1 zeros
+        by false off = (k.store.kept.paged.rest u (home_in s.store u) (record {
+          nowhere = λ place at. (let no : true ≡ false = sym (active_at s.store.ast place u at) ∙ off in cc);
+        }) home_is).tie.zeros p parts.1 zeros
+
+    -- the words of the flat store are the page's own
+    word_at : (i : ℕ) → i < 1024 → (flat_of s).words u (1024 * p + i) ≡ get_or (words_of s u p) i 0
+    unfolding picture
+    word_at i lt =
+        let page : (1024 * p + i) / 1024 ≡ p = omega (arith, lt) in
+        let place : (1024 * p + i) % 1024 ≡ i = omega (arith, lt) in
+        k.faithful.pages.words u (1024 * p + i)
+        ∙ (ap (λ (b : Bool). get_or (cond b (words_of s u ((1024 * p + i) / 1024)) (replicate 1024 0))
+        ((1024 * p + i) % 1024) 0) parts.0
+        ∙ (ap (λ (q : ℕ). get_or (words_of s u q) ((1024 * p + i) % 1024) 0) page
+        ∙ ap (λ (j : ℕ). get_or (words_of s u p) j 0) place))
+
+    zeros_there : length (words_of s u p) ≤ 1024 → is_zero_page (flat_of s).words u p ≡ true → AreZero (words_of s u p)
+    zeros_there size zeros i d lt = within (words_of s u p) i d lt ∙ (sym (word_at i (omega (arith, lt, size)))
+        ∙ zero_words (flat_of s).words u p i zeros (omega (arith, lt, size)))
+
+    module _ (each : AllVisited s) where
+      no_zeros : AreZero (words_of s u p) → ⊥
+      no_zeros zeros = by (in_frame zeros)
+        where
+          by : IsInFrame (bindings s.store.pages.core) u p → ⊥
+          by (f, bound) = visited (each f inside)
+            where
+              page : bound_page (frame_in s.store.pages f) ≡ Some (u, p)
+              page = sym (binding_is s f) ∙ bound
+
+              inside : f < s.plan.frames
+              inside = elim (cases_lt f (length s.store.pages.core.frames)) [
+                | inl lt ↦ subst (λ (n : ℕ). f < n) k.sizes.frames lt
+                | inr far ↦ absurd (none_some (sym (ap bound_page
+                    (get_or_past s.store.pages.core.frames f frame.Free far)) ∙ page))
+              ]
+
+              visited : WasVisited s.store.pages s.entries f → ⊥
+              visited (inl none) = none_some (sym none ∙ page)
+              visited (inr stayed) = (let no : true ≡ false =
+                  sym (zeros_to (words_in s.store.pages f) (subst AreZero (frame_words u f p bound) zeros))
+                  ∙ stayed.words in cc)
+
+      some_word : length (words_of s u p) ≤ 1024 → is_zero_page (flat_of s).words u p ≡ false
+      some_word size = by (is_zero_page (flat_of s).words u p) refl
+        where
+          by : (b : Bool) → is_zero_page (flat_of s).words u p ≡ b → b ≡ false
+          by true zeros = absurd (no_zeros (zeros_there size zeros))
+          by false e = refl
+
+  -- No stored page is all zeros.
+  pub has_no_zeros : AllVisited s → HasNoZeros s
+  has_no_zeros each = record {
+    pages = λ u p stored. no_zeros u p stored each;
+    settled = λ sizes. record {
+      quotas = k.conserved.total;
+      within = k.conserved.within;
+      words = λ u p stored. some_word u p stored each (sizes u p stored);
+    };
+  }
