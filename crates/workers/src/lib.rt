@@ -1,0 +1,9 @@
+//! A worker thread for each processor of a machine, round one lock.
+#![tactic(auto)]
+
+mod locked;
+mod runs;
+mod working;
+
+pub use locked::Run;
+pub use runs::run_workers;
