@@ -22,6 +22,30 @@ use std::io;
 use std::sync::Wait;
 use std::thread::Threads;
 
+/// What a line of a case gives.
+fn line_text<'a, R: Threads + Wait + Sync + AllocGlobal>(
+    rt: &R,
+    case: &mut Case<'a>,
+    line: &'a str,
+) -> Result<String, Stuck> {
+    let printed = case.follow(rt, Instruction::by(line)?)?;
+    format!(in rt.alloc(); "> {line}\n{printed}").map_err(|_| Stuck)
+}
+
+/// What the lines of a case give.
+fn lines_text<'a, R: Threads + Wait + Sync + AllocGlobal>(
+    rt: &R,
+    case: &mut Case<'a>,
+    lines: &'a str,
+) -> Result<String, Stuck> {
+    let mut text = String::new(rt.alloc());
+    for line in lines.lines().filter(|line| !line.is_empty()) {
+        let given = line_text(rt, case, line)?;
+        text.push_str(&given).map_err(|_| Stuck)?;
+    }
+    Ok(text)
+}
+
 /// Runs the case of a script, and gives what each of its lines does.
 fn case_text<R: Threads + Wait + Sync + AllocGlobal>(
     rt: &R,
@@ -29,12 +53,7 @@ fn case_text<R: Threads + Wait + Sync + AllocGlobal>(
     lines: &str,
 ) -> Result<String, Stuck> {
     let mut case = Case::begin(rt.alloc(), script)?;
-    let mut text = String::new(rt.alloc());
-    for line in lines.lines().filter(|line| !line.is_empty()) {
-        let printed = case.follow(rt, Instruction::by(line)?)?;
-        write!(text, "> {line}\n{printed}").map_err(|_| Stuck)?;
-    }
-    Ok(text)
+    lines_text(rt, &mut case, lines)
 }
 
 fn main(rt: HostRuntime) -> io::Result<()> {

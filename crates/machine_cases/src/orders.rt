@@ -31,13 +31,18 @@ fn draw_steps(machine: &mut Machine<CoreDrive>, seed: u32) -> Result<(), Stuck> 
     Ok(())
 }
 
+/// Whether the book of a machine may stand after steps of processors that are drawn from a seed.
+fn stands_after(alloc: Global, script: &str, seed: u32) -> Result<bool, Stuck> {
+    let mut machine = booted(alloc, script)?;
+    draw_steps(&mut machine, seed)?;
+    may_stand(alloc, machine.book())
+}
+
 /// Machines of a script, each with steps of processors drawn by chance, and how many of their books may stand.
 pub(crate) fn lists(alloc: Global, script: &str, count: u32) -> Result<String, Stuck> {
     let mut standing: u32 = 0;
     for seed in 0..count {
-        let mut machine = booted(alloc, script)?;
-        draw_steps(&mut machine, seed)?;
-        if may_stand(alloc, machine.book())? {
+        if stands_after(alloc, script, seed)? {
             standing = standing.saturating_add(1);
         }
     }
@@ -69,6 +74,15 @@ fn is_over(alloc: Global, machine: &mut Machine<CoreDrive>) -> Result<bool, Stuc
     Ok(turn == Turn::Ended && may_stand(alloc, machine.book())?)
 }
 
+/// Whether all processes of a machine have ended, and its book may stand, after its workers have made their steps.
+fn is_over_with_workers<R: Threads + Wait + Sync + AllocGlobal>(
+    rt: &R,
+    script: &str,
+) -> Result<bool, Stuck> {
+    let mut machine = run_workers(rt, booted(rt.alloc(), script)?, &NoGate);
+    is_over(rt.alloc(), &mut machine)
+}
+
 /// Machines of a script, each with a worker thread for each processor, and of how many the processes have ended with a
 /// book that may stand.
 pub(crate) fn workers<R: Threads + Wait + Sync + AllocGlobal>(
@@ -76,13 +90,11 @@ pub(crate) fn workers<R: Threads + Wait + Sync + AllocGlobal>(
     script: &str,
     count: u32,
 ) -> Result<String, Stuck> {
-    let alloc = rt.alloc();
     let mut standing: u32 = 0;
     for _ in 0..count {
-        let mut machine = run_workers(rt, booted(alloc, script)?, &NoGate);
-        if is_over(alloc, &mut machine)? {
+        if is_over_with_workers(rt, script)? {
             standing = standing.saturating_add(1);
         }
     }
-    format!(in alloc; "= {standing} have ended and may stand\n").map_err(|_| Stuck)
+    format!(in rt.alloc(); "= {standing} have ended and may stand\n").map_err(|_| Stuck)
 }
