@@ -44,7 +44,7 @@ CASES = {
     "references that hit": (hits, 10_000, "finish"),
     "references to 32 pages in turn, which an associative memory of 16 hasn't": (fills, 10_000, "finish"),
     "writes to 8 pages in turn in 4 frames": (evictions, 2_000, "finish"),
-    "the same by two processes on two processors, in rounds": (waits, 1_000, "rounds"),
+    "two such writes, one by each of two processes on two processors, in rounds": (waits, 1_000, "rounds"),
 }
 
 
