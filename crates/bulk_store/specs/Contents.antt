@@ -3,6 +3,7 @@ use Rattle.std.specs.Prelude.{◌≡◌, ◌<◌, ◌≤◌, ◌^◌, ◌⊎◌,
 use Rattle.std.specs.Prelude.{slice_set, if◌then◌else◌, Option, None, Some}
 use Rattle.volumes.specs.declared.drive.FailLine.{FailLine}
 use Rattle.volumes.specs.FailLine.{HasFewFaults}
+use Rattle.volumes.specs.Pages.{HaveFullPages}
 use Rattle.bulk_store.specs.declared.parts.Parts.{Parts}
 use Rattle.bulk_store.specs.Held.{place_of, oldest_of, is_fast_write}
 use Rattle.bulk_store.specs.Index.{Holdings, IsIndexed, with_record, without_oldest}
@@ -60,8 +61,11 @@ wrote s r words = wrote_at (place_of s.table.held r)
 abbrev pub AfterFailed : Contents → ℕ → Contents → Type 0
 AfterFailed s r now = (now ≡ s) ⊎ ((is_fast_write s.table.room s.table.held r ≡ false) × (now ≡ gave_up_oldest s))
 
--- a drive goes on: its plan is as before, its count of faults didn't fall, and is few still where it was few
-pub record GoesOn {X : Type 0} (plan : X → Option (List FailLine)) (faults : X → ℕ) (old new : X) : Type 0 where
+-- a drive goes on: its plan is as before, its count of faults didn't fall, and is few still where it was few, and its
+-- pages have 1024 words still where they had
+pub record GoesOn {X : Type 0} (pages : X → List (List ℕ)) (plan : X → Option (List FailLine)) (faults : X → ℕ)
+    (old new : X) : Type 0 where
   pub same_plan : plan new ≡ plan old
   pub grows : faults old ≤ faults new
   pub few : HasFewFaults (plan old) (faults old) → HasFewFaults (plan new) (faults new)
+  pub full : HaveFullPages (pages old) → HaveFullPages (pages new)

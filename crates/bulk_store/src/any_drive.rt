@@ -2,6 +2,7 @@ ghost use Rattle.std.specs.Prelude.{◌≡◌, ◌≤◌, ◌<◌, ◌+◌, fals
 ghost use Rattle.std.specs.Prelude.{OnErr};
 ghost use Rattle.site_io.specs.Faults.{Rose};
 ghost use Rattle.volumes.specs.FailLine.{named_calls, HasFewFaults};
+ghost use Rattle.volumes.specs.Pages.{HaveFullPages};
 ghost use Rattle.volumes.specs.CoreDrive.{faults_of};
 ghost use Rattle.bulk_store.specs.AnyDrive.{disk_of, any_pages, any_places};
 
@@ -53,6 +54,7 @@ impl Drive for AnyDrive {
     fn size(&self) -> u32
         ensures size { result ≡ length (any_pages self.now) }
         ensures few { HasFewFaults (Some (disk_of self.now).fails) (faults_of (disk_of self.now)) }
+        ensures full { HaveFullPages (any_pages self.now) }
     {
         match self {
             AnyDrive::Plain(drive) => drive.size(),
@@ -81,6 +83,7 @@ impl Drive for AnyDrive {
         requires { r < length (any_pages self.old) }
         ensures ok { OnOk result (any_pages self.new ≡ slice_set (any_pages self.old) r from.now) }
         ensures err { OnErr result (any_pages self.new ≡ any_pages self.old) }
+        ensures full { HaveFullPages (any_pages self.new) }
         ensures rose { OnErr result (Rose (faults_of (disk_of self.old)) (faults_of (disk_of self.new))) }
         ensures grows { faults_of (disk_of self.old) ≤ faults_of (disk_of self.new) }
         ensures plan { (disk_of self.new).fails ≡ (disk_of self.old).fails }

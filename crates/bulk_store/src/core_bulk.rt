@@ -2,6 +2,7 @@ ghost use Rattle.std.specs.Prelude.{◌≡◌, ◌≤◌, ◌<◌, [], Some, len
 ghost use Rattle.std.specs.Prelude.{OnErr, IsOk, IsTrue};
 ghost use Rattle.site_io.specs.Faults.{Rose};
 ghost use Rattle.volumes.specs.FailLine.{HasFewFaults};
+ghost use Rattle.volumes.specs.Pages.{HaveFullPages};
 ghost use Rattle.volumes.specs.CoreDrive.{faults_of};
 ghost use Rattle.bulk_store.specs.Held.{place_of, is_fast_write};
 ghost use Rattle.bulk_store.specs.CoreBulk.{core_pages, fresh_store};
@@ -89,6 +90,7 @@ impl Drive for CoreBulk {
         requires { r < length (core_pages self.old) }
         ensures ok { OnOk result (core_pages self.new ≡ slice_set (core_pages self.old) r from.now) }
         ensures err { OnErr result (core_pages self.new ≡ core_pages self.old) }
+        ensures full { HaveFullPages (core_pages self.new) }
         ensures sure { IsTrue (is_fast_write (length self.old.fast.pages) self.old.held r) → IsOk result }
         ensures rose { OnErr result (Rose (faults_of self.old.disk) (faults_of self.new.disk)) }
         ensures grows { faults_of self.old.disk ≤ faults_of self.new.disk }

@@ -30,8 +30,8 @@ impl<F: Drive, D: Drive> Parts<F, D> {
         ensures err { OnErr result (contents F.pages D.pages self.new ≡ contents F.pages D.pages self.old) }
         ensures rose { OnErr result (Rose (F.faults self.old.fast) (F.faults self.new.fast)
             ⊎ Rose (D.faults self.old.disk) (D.faults self.new.disk)) }
-        ensures fast { GoesOn F.plan F.faults self.old.fast self.new.fast }
-        ensures disk { GoesOn D.plan D.faults self.old.disk self.new.disk }
+        ensures fast { GoesOn F.pages F.plan F.faults self.old.fast self.new.fast }
+        ensures disk { GoesOn D.pages D.plan D.faults self.old.disk self.new.disk }
     {
         let oldest = self.table.oldest();
         self.fast.read_page(oldest.place, &mut self.buffer)?;
@@ -49,7 +49,7 @@ impl<F: Drive, D: Drive> Parts<F, D> {
             ≡ took_in (contents F.pages D.pages self.old) r from.now) }
         ensures err { OnErr result (contents F.pages D.pages self.new ≡ contents F.pages D.pages self.old) }
         ensures rose { OnErr result (Rose (F.faults self.old.fast) (F.faults self.new.fast)) }
-        ensures fast { GoesOn F.plan F.faults self.old.fast self.new.fast }
+        ensures fast { GoesOn F.pages F.plan F.faults self.old.fast self.new.fast }
         ensures disk { self.new.disk ≡ self.old.disk }
     {
         self.fast.write_page(self.table.free_place(), from)?;
@@ -66,8 +66,8 @@ impl<F: Drive, D: Drive> Parts<F, D> {
             ≡ wrote_new (contents F.pages D.pages self.old) r from.now) }
         ensures err { OnErr result (AfterFailed (contents F.pages D.pages self.old) r
             (contents F.pages D.pages self.new)) }
-        ensures fast { GoesOn F.plan F.faults self.old.fast self.new.fast }
-        ensures disk { GoesOn D.plan D.faults self.old.disk self.new.disk }
+        ensures fast { GoesOn F.pages F.plan F.faults self.old.fast self.new.fast }
+        ensures disk { GoesOn D.pages D.plan D.faults self.old.disk self.new.disk }
         ensures alone { IsTrue (is_fast_write self.old.table.room self.old.table.held r)
             → self.new.disk ≡ self.old.disk }
         ensures cause { IsTrue (is_fast_write self.old.table.room self.old.table.held r)
@@ -90,8 +90,8 @@ impl<F: Drive, D: Drive> Parts<F, D> {
             ≡ wrote (contents F.pages D.pages self.old) r from.now) }
         ensures err { OnErr result (AfterFailed (contents F.pages D.pages self.old) r
             (contents F.pages D.pages self.new)) }
-        ensures fast { GoesOn F.plan F.faults self.old.fast self.new.fast }
-        ensures disk { GoesOn D.plan D.faults self.old.disk self.new.disk }
+        ensures fast { GoesOn F.pages F.plan F.faults self.old.fast self.new.fast }
+        ensures disk { GoesOn D.pages D.plan D.faults self.old.disk self.new.disk }
         ensures alone { IsTrue (is_fast_write self.old.table.room self.old.table.held r)
             → self.new.disk ≡ self.old.disk }
         ensures cause { IsTrue (is_fast_write self.old.table.room self.old.table.held r)
@@ -113,8 +113,8 @@ impl<F: Drive, D: Drive> Parts<F, D> {
             ≡ page_of (F.pages self.old.fast) (D.pages self.old.disk) self.old.table.held r) }
         ensures err { OnErr result (to.new ≡ to.old) }
         ensures same { contents F.pages D.pages self.new ≡ contents F.pages D.pages self.old }
-        ensures fast { GoesOn F.plan F.faults self.old.fast self.new.fast }
-        ensures disk { GoesOn D.plan D.faults self.old.disk self.new.disk }
+        ensures fast { GoesOn F.pages F.plan F.faults self.old.fast self.new.fast }
+        ensures disk { GoesOn D.pages D.plan D.faults self.old.disk self.new.disk }
         ensures held { IfSome (place_of self.old.table.held r) (λ _. self.new.disk ≡ self.old.disk) }
         ensures held_rose { OnErr result (IfSome (place_of self.old.table.held r)
             (λ _. Rose (F.faults self.old.fast) (F.faults self.new.fast))) }

@@ -2,6 +2,7 @@ ghost use Rattle.std.specs.Prelude.{◌≡◌, ◌<◌, ◌⊎◌, [], IfOk, IfS
 ghost use Rattle.std.specs.Prelude.{OnErr, IsTrue};
 ghost use Rattle.site_io.specs.Faults.{Rose};
 ghost use Rattle.volumes.specs.FailLine.{HasFewFaults};
+ghost use Rattle.volumes.specs.Pages.{HaveFullPages};
 ghost use Rattle.bulk_store.specs.Held.{place_of, is_fast_write, BulkAfter};
 ghost use Rattle.bulk_store.specs.Contents.{GoesOn};
 ghost use Rattle.bulk_store.specs.Store.{store_pages, store_faults, store_plan, disk_after, FailedWrite};
@@ -24,6 +25,7 @@ pub struct BulkStore<F: Drive, D: Drive> {
 
 impl<F: Drive, D: Drive> Model for BulkStore<F, D> {
     ghost use Rattle.volumes.specs.FailLine.{HasFewFaults};
+    ghost use Rattle.volumes.specs.Pages.{HaveFullPages};
     ghost use Rattle.bulk_store.specs.Store.{Store};
     ghost use Rattle.bulk_store.specs.Contents.{contents, IsStore};
 
@@ -33,7 +35,8 @@ impl<F: Drive, D: Drive> Model for BulkStore<F, D> {
 
     ghost invariant = { λ s. IsStore (contents F.pages D.pages s.parts)
         × HasFewFaults (F.plan s.parts.fast) (F.faults s.parts.fast)
-        × HasFewFaults (D.plan s.parts.disk) (D.faults s.parts.disk) };
+        × HasFewFaults (D.plan s.parts.disk) (D.faults s.parts.disk)
+        × HaveFullPages (F.pages s.parts.fast) × HaveFullPages (D.pages s.parts.disk) };
 }
 
 impl<F: Drive, D: Drive> BulkStore<F, D> {
@@ -97,6 +100,7 @@ impl<F: Drive, D: Drive> Drive for BulkStore<F, D> {
         ensures size { result ≡ length (store_pages F.pages D.pages self.now) }
         ensures disk { result ≡ length (D.pages self.now.disk) }
         ensures few { HasFewFaults (store_plan F.plan D.plan self.now) (store_faults F.faults D.faults self.now) }
+        ensures full { HaveFullPages (store_pages F.pages D.pages self.now) }
     {
         self.parts.disk.size()
     }
@@ -119,8 +123,8 @@ impl<F: Drive, D: Drive> Drive for BulkStore<F, D> {
         ensures list { self.new.held ≡ self.old.held }
         ensures fast_pages { F.pages self.new.fast ≡ F.pages self.old.fast }
         ensures disk_pages { D.pages self.new.disk ≡ D.pages self.old.disk }
-        ensures fast { GoesOn F.plan F.faults self.old.fast self.new.fast }
-        ensures disk { GoesOn D.plan D.faults self.old.disk self.new.disk }
+        ensures fast { GoesOn F.pages F.plan F.faults self.old.fast self.new.fast }
+        ensures disk { GoesOn D.pages D.plan D.faults self.old.disk self.new.disk }
         ensures few { HasFewFaults (store_plan F.plan D.plan self.new) (store_faults F.faults D.faults self.new) }
     {
         self.parts.read(r, to)
@@ -131,6 +135,7 @@ impl<F: Drive, D: Drive> Drive for BulkStore<F, D> {
         ensures ok { OnOk result (store_pages F.pages D.pages self.new
             ≡ slice_set (store_pages F.pages D.pages self.old) r from.now) }
         ensures err { OnErr result (store_pages F.pages D.pages self.new ≡ store_pages F.pages D.pages self.old) }
+        ensures full { HaveFullPages (store_pages F.pages D.pages self.new) }
 
         // What is held, and what the disk has.
         ensures list { OnOk result (BulkAfter (length (F.pages self.old.fast)) self.old.held r self.new.held) }
@@ -149,8 +154,8 @@ impl<F: Drive, D: Drive> Drive for BulkStore<F, D> {
 
         // What becomes of the rest.
         ensures places { length (F.pages self.new.fast) ≡ length (F.pages self.old.fast) }
-        ensures fast { GoesOn F.plan F.faults self.old.fast self.new.fast }
-        ensures disk { GoesOn D.plan D.faults self.old.disk self.new.disk }
+        ensures fast { GoesOn F.pages F.plan F.faults self.old.fast self.new.fast }
+        ensures disk { GoesOn D.pages D.plan D.faults self.old.disk self.new.disk }
         ensures few { HasFewFaults (store_plan F.plan D.plan self.new) (store_faults F.faults D.faults self.new) }
     {
         self.parts.write(r, from)

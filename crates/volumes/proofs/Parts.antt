@@ -6,13 +6,14 @@ use Rattle.site_io.specs.Faults.{Rose}
 use Rattle.std.proofs.lemmas.List.Sums.{sum_by-set, get_or-le-sum_by}
 use Rattle.std.proofs.lemmas.List.{get_or-set_same, map-set, get_or-map, map-append, length-map, length-set}
 use Rattle.std.proofs.lemmas.List.{length-replicate, set-get_or}
-use Rattle.std.proofs.lemmas.List.Elements.{All-set, All-push}
+use Rattle.std.proofs.lemmas.List.Elements.{All-set, All-push, All-get_or}
 use Rattle.site_io.specs.declared.stream.Failed.{Failed}
 use Rattle.vtoc.specs.Vtoc.{Entry}
 use Rattle.volumes.specs.declared.Part.{Part}
 use Rattle.volumes.specs.declared.drive.FailLine.{FailLine}
 use Rattle.volumes.specs.FailLine.{HasFewFaults}
-use Rattle.volumes.specs.Volumes.{Vols, HasParts, HaveFewFaults, KeepsOthers}
+use Rattle.volumes.specs.FullPages.{HaveFullPages}
+use Rattle.volumes.specs.Volumes.{Vols, HasParts, HaveFewFaults, HaveFull, KeepsOthers}
 
 -- a write of what is there already
 set_same : {X : Type 0} (xs : List X) (v : ℕ) (x : X) → x ≡ get_or xs v x → set xs v x ≡ xs
@@ -167,6 +168,30 @@ pub few_more : {D : Type 0} (plan : D → Option (List FailLine)) (faults : D �
     → HaveFewFaults plan faults drives
     → HasFewFaults (plan d) (faults d) → HaveFewFaults plan faults now
 few_more plan faults drives now d is all few = rw is (All-push (λ d. HasFewFaults (plan d) (faults d)) drives d all few)
+
+-- the pages of each drive are full
+pub full_with : {D : Type 0} (pages : D → List (List ℕ)) (drives : List D) (v : ℕ) (y : D) → HaveFull pages drives
+    → HaveFullPages (pages y) → HaveFull pages (set drives v y)
+full_with pages drives v y all full = All-set (λ d. HaveFullPages (pages d)) drives v y full all
+
+pub full_more : {D : Type 0} (pages : D → List (List ℕ)) (drives now : List D) (d : D) → now ≡ drives ++ d ∷ []
+    → HaveFull pages drives → HaveFullPages (pages d) → HaveFull pages now
+full_more pages drives now d is all full = rw is (All-push (λ d. HaveFullPages (pages d)) drives d all full)
+
+pub full_of_drive : {D : Type 0} (pages : D → List (List ℕ)) (drives : List D) (v : ℕ) (x y : D) → HaveFull pages drives
+    → v < length drives → x ≡ get_or drives v x → pages y ≡ pages x → HaveFullPages (pages y)
+full_of_drive pages drives v x y all lt read same =
+    let old : HaveFullPages (pages (get_or drives v x)) = All-get_or (λ d. HaveFullPages (pages d)) drives v x lt all in
+    rw (same, read) old
+
+pub full_read : {D : Type 0} (pages : D → List (List ℕ)) (result : Result (Unit {0}) Failed) (drives : List D) (v : ℕ)
+    (x : D) (r : ℕ) (words : List ℕ) → HaveFull pages drives
+    → v < length drives → x ≡ get_or drives v x → r < length (pages x) → OnOk result (words ≡ get_or (pages x) r [])
+    → OnOk result (length words ≡ 1024)
+full_read pages (Err e) drives v x r words all lt read within is = tt
+full_read pages (Ok u) drives v x r words all lt read within is =
+    ap length is ∙ All-get_or (λ ws. length ws ≡ 1024) (pages x) r [] within
+    (full_of_drive pages drives v x x all lt read refl)
 
 -- one more part is made
 pub made_more : {X Y : Type 0} (f : X → Y) (xs : List X) (x : X) (ys now : List Y) (y : Y) → ys ≡ map f xs → now ≡ ys

@@ -5,6 +5,7 @@ use Rattle.vtoc.specs.Vtoc.{Entry}
 use Rattle.volumes.specs.declared.Part.{Part}
 use Rattle.volumes.specs.declared.drive.FailLine.{FailLine}
 use Rattle.volumes.specs.FailLine.{HasFewFaults}
+use Rattle.volumes.specs.FullPages.{HaveFullPages}
 
 -- the volumes, each with its drive, the flags of its records in use and the entries of its VTOC (Organick 1972)
 pub record Vols (D : Type 0) : Type 0 where
@@ -35,6 +36,10 @@ faults_at faults drives v = slice_index_or (map faults drives) v 0
 -- where the plan of a drive is told, its faults are few
 abbrev pub HaveFewFaults : {D : Type 0} → (D → Option (List FailLine)) → (D → ℕ) → List D → Type 0
 HaveFewFaults plan faults drives = All (λ d. HasFewFaults (plan d) (faults d)) drives
+
+-- each page of each drive has 1024 words, where `pages` says what a drive holds
+abbrev pub HaveFull : {D : Type 0} → (D → List (List ℕ)) → List D → Type 0
+HaveFull pages drives = All (λ d. HaveFullPages (pages d)) drives
 
 -- the volumes after the flags of volume v have changed
 abbrev pub with_records : {D : Type 0} → Vols D → ℕ → List Bool → Vols D

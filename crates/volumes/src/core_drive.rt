@@ -3,6 +3,7 @@ ghost use Rattle.std.specs.Prelude.{replicate, slice_index_or, slice_set, vec_le
 ghost use Rattle.std.specs.List.{list_any};
 ghost use Rattle.site_io.specs.Faults.{Rose};
 ghost use Rattle.volumes.specs.FailLine.{names, names_next, HasFewFaults};
+ghost use Rattle.volumes.specs.FullPages.{HaveFullPages};
 ghost use Rattle.volumes.specs.CoreDrive.{fresh_drive};
 
 use crate::NoMemory;
@@ -25,12 +26,14 @@ pub struct CoreDrive {
 impl Model for CoreDrive {
     ghost use Rattle.std.specs.Prelude.{◌<◌, ◌^◌, vec_len};
     ghost use Rattle.volumes.specs.CoreDrive.{DriveState};
+    ghost use Rattle.volumes.specs.FullPages.{HaveFullPages};
 
     ghost Value = { DriveState };
 
     ghost view = { λ d. record { pages = d.pages.items; fails = d.fails.items; reads = d.reads; writes = d.writes } };
 
-    ghost invariant = { λ d. (vec_len d.pages < 2 ^ 32) × (d.reads < 2 ^ 64) × (d.writes < 2 ^ 64) };
+    ghost invariant = { λ d. (vec_len d.pages < 2 ^ 32) × (d.reads < 2 ^ 64) × (d.writes < 2 ^ 64)
+        × HaveFullPages d.pages.items };
 }
 
 impl CoreDrive {
@@ -109,6 +112,7 @@ impl Drive for CoreDrive {
     fn size(&self) -> u32
         ensures size { result ≡ length self.now.pages }
         ensures few { HasFewFaults (Some self.now.fails) (faults_of self.now) }
+        ensures full { HaveFullPages self.now.pages }
     {
         self.pages.len() as u32
     }
@@ -137,6 +141,7 @@ impl Drive for CoreDrive {
         ensures fails { IsErr result ↔ IsTrue (names_next self.old.fails true self.old.writes) }
         ensures ok { OnOk result (self.new ≡ after_done_write self.old r from.now) }
         ensures err { OnErr result (self.new ≡ after_write self.old) }
+        ensures full { HaveFullPages self.new.pages }
         ensures rose { OnErr result (Rose (faults_of self.old) (faults_of self.new)) }
         ensures grows { faults_of self.old ≤ faults_of self.new }
         ensures few { HasFewFaults (Some self.new.fails) (faults_of self.new) }

@@ -16,13 +16,14 @@ pub struct FailLine {
     pub onward: bool,
 }
 
-/// A drive: a list of pages that can be read and written one at a time (Organick 1972).
+/// A drive: a list of pages of 1024 words that can be read and written one at a time (Organick 1972).
 ///
 /// Its meanings are its `pages`; its `faults`, a count that never falls; its `plan`, which is the lines that name
 /// failing calls, where these are told; and its `places`, how many pages a fast store before it holds. (Source: own.)
 pub trait Drive: Drop {
     ghost use Rattle.volumes.specs.declared.drive.FailLine.{FailLine};
     ghost use Rattle.volumes.specs.FailLine.{HasFewFaults};
+    ghost use Rattle.volumes.specs.FullPages.{HaveFullPages};
 
     ghost pages: { Self → List (List ℕ) };
 
@@ -35,7 +36,8 @@ pub trait Drive: Drop {
     /// How many pages the drive has.
     fn size(&self) -> u32
         ensures size { result ≡ length (pages self.now) }
-        ensures few { HasFewFaults (plan self.now) (faults self.now) };
+        ensures few { HasFewFaults (plan self.now) (faults self.now) }
+        ensures full { HaveFullPages (pages self.now) };
 
     /// Reads page `r` into `to`. After `Failed`, `to` is as before; it comes only where `faults` rose.
     fn read_page(&mut self, r: u32, to: &mut Page) -> Result<(), Failed>
@@ -57,6 +59,7 @@ pub trait Drive: Drop {
         requires { r < length (pages self.old) }
         ensures ok { OnOk result (pages self.new ≡ slice_set (pages self.old) r from.now) }
         ensures err { OnErr result (pages self.new ≡ pages self.old) }
+        ensures full { HaveFullPages (pages self.new) }
 
         // What becomes of the other meanings.
         ensures rose { OnErr result (Rose (faults self.old) (faults self.new)) }

@@ -5,7 +5,7 @@ ghost use Rattle.std.specs.Borrow.{sem};
 ghost use Rattle.site_io.specs.Faults.{Rose};
 ghost use Rattle.record_map.specs.Bitmap.{in_use, least_free, IsLeastFree};
 ghost use Rattle.volumes.specs.Volumes.{records_at, used_at, vtoc_at, pages_at, faults_at, with_record_used, with_page};
-ghost use Rattle.volumes.specs.Volumes.{made_of, HasParts, HaveFewFaults, KeepsOthers, KeepsTables};
+ghost use Rattle.volumes.specs.Volumes.{made_of, HasParts, HaveFewFaults, HaveFull, KeepsOthers, KeepsTables};
 ghost use Rattle.volumes.specs.Lending.{lends_vtoc};
 
 use crate::drive::Drive;
@@ -27,14 +27,15 @@ pub struct Volumes<D: Drive> {
 
 impl<D: Drive> Model for Volumes<D> {
     ghost use Rattle.std.specs.Prelude.{map};
-    ghost use Rattle.volumes.specs.Volumes.{Vols, HasParts, HaveFewFaults};
+    ghost use Rattle.volumes.specs.Volumes.{Vols, HasParts, HaveFewFaults, HaveFull};
 
     ghost Value = { Vols D };
 
     ghost view = { λ v. record { drives = v.drives.items; records = v.records.items; vtocs = v.vtocs.items } };
 
     ghost invariant = { λ v. HasParts (map D.pages v.drives.items) v.records.items v.vtocs.items
-        × HaveFewFaults D.plan D.faults v.drives.items };
+        × HaveFewFaults D.plan D.faults v.drives.items
+        × HaveFull D.pages v.drives.items };
 }
 
 impl<D: Drive> Volumes<D> {
@@ -71,6 +72,7 @@ impl<D: Drive> Volumes<D> {
         ensures count { result ≡ length self.now.drives }
         ensures parts { HasParts (map D.pages self.now.drives) self.now.records self.now.vtocs }
         ensures few { HaveFewFaults D.plan D.faults self.now.drives }
+        ensures full { HaveFull D.pages self.now.drives }
     {
         self.drives.len() as u32
     }
@@ -152,6 +154,7 @@ impl<D: Drive> Volumes<D> {
         requires record { r < length (pages_at D.pages self.old v) }
         ensures ok { OnOk result (to.new ≡ slice_index_or (pages_at D.pages self.old v) r []) }
         ensures err { OnErr result (to.new ≡ to.old) }
+        ensures full { OnOk result (length to.new ≡ 1024) }
         ensures pages { map D.pages self.new.drives ≡ map D.pages self.old.drives }
 
         // What becomes of the rest.

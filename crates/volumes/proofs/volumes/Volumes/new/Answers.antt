@@ -1,7 +1,7 @@
 use Rattle.std.proofs.Common.{◌∙◌, arith, refl, ap, length, replicate, false, None}
 use Rattle.std.proofs.lemmas.Grind.{common_steps}
 use Rattle.volumes.specs.declared.Part.{Part}
-use Rattle.volumes.proofs.Parts.{parts_made, made_more, few_more}
+use Rattle.volumes.proofs.Parts.{parts_made, made_more, few_more, full_more}
 use Rattle.volumes.proofs.volumes.Volumes.new.Goals as goal
 
 pub invariant_of-result : goal.invariant_of-result
@@ -10,6 +10,7 @@ invariant_of-result g c = (
       (omega (arith, c.in-None.ensures.steps.0, c.loop-part.invariant.3, c.if-len.false, c.len.ensures))
       c.loop-part.invariant.0 c.loop-part.invariant.1 c.loop-part.invariant.2,
   c.loop-part.invariant.4,
+  c.loop-part.invariant.5,
 )
 
 pub loop-part-preserved : goal.loop-part-preserved
@@ -23,4 +24,6 @@ loop-part-preserved g c = (
   grind (arith, common_steps),
   few_more g.D.Drive.plan g.D.Drive.faults _ _ c.in-Some.part.drive c.in_ok-add-3.ensures c.loop-part.invariant.4
       c.size-size.ensures.few,
+  full_more g.D.Drive.pages _ _ c.in-Some.part.drive c.in_ok-add-3.ensures c.loop-part.invariant.5
+      c.size-size.ensures.full,
 )

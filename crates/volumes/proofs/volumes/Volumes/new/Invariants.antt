@@ -1,5 +1,5 @@
 use Rattle.std.proofs.Common.{◌≡◌, ◌+◌, length, map, replicate, false, None}
-use Rattle.volumes.specs.Volumes.{HaveFewFaults}
+use Rattle.volumes.specs.Volumes.{HaveFewFaults, HaveFull}
 use Rattle.volumes.proofs.volumes.Volumes.new.Given as goal
 
 abbrev pub invariant-loop-part : goal.invariant-loop-part
@@ -9,3 +9,4 @@ invariant-loop-part g l =
     × (l.vtocs.items ≡ map (λ part. replicate part.entries None) l.yielded)
     × (length l.yielded + l.part-iterator.rest.len ≡ length l.fn.parts.items)
     × HaveFewFaults g.D.Drive.plan g.D.Drive.faults l.drives.items
+    × HaveFull g.D.Drive.pages l.drives.items

@@ -6,4 +6,5 @@ invariant_of-self g c = (
   parts_with_records _ _ _ c.args.v c.index_mut.result.now _ c.self.invariant.0 c.index_mut.ensures.value
       (length_after_withdraw c.withdraw.result _ _ c.withdraw.ensures.taken c.withdraw.ensures.same),
   c.self.invariant.1,
+  c.self.invariant.2,
 )

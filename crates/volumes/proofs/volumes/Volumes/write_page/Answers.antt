@@ -1,5 +1,5 @@
 use Rattle.volumes.proofs.Parts.{parts_with_drive, length_after_write, same_with, few_with, sum_rose, sum_grows}
-use Rattle.volumes.proofs.Parts.{its_rose, drives_within, keeps_others}
+use Rattle.volumes.proofs.Parts.{its_rose, drives_within, full_with, keeps_others}
 use Rattle.volumes.proofs.volumes.Volumes.write_page.Goals as goal
 
 pub invariant_of-self : goal.invariant_of-self
@@ -8,6 +8,7 @@ invariant_of-self g c = (
       (length_after_write c.write_page.result _ _ c.args.r c.args.from.now c.write_page.ensures.ok
       c.write_page.ensures.err),
   few_with g.D.Drive.plan g.D.Drive.faults _ c.args.v c.write_page.new.self c.self.invariant.1 c.write_page.ensures.few,
+  full_with g.D.Drive.pages _ c.args.v c.write_page.new.self c.self.invariant.2 c.write_page.ensures.full,
 )
 
 pub returns-clause-rose : goal.returns-clause-rose
