@@ -3,6 +3,8 @@ use Rattle.std.proofs.Common.{◌≡◌, ◌<◌, ◌≤◌, ℕ, List, ◌∷�
 use Rattle.std.proofs.Common.{sym, ◌∙◌, ap, inl, inr, arith}
 use Rattle.std.proofs.lemmas.Bool.{cases_eq, lt-ltb}
 use Rattle.std.proofs.lemmas.List.{get_or-set_same, get_or-set_other, length-set, get_or_past}
+use Rattle.std.proofs.lemmas.List.Elements.{All-get_or, All-from_get_or}
+use Rattle.volumes.specs.FullPages.{HaveFullPages}
 use Rattle.bulk_store.specs.declared.index.Held.{Held}
 use Rattle.bulk_store.specs.Held.{place_of, with_newest, oldest_of}
 use Rattle.bulk_store.specs.Index.{Holdings, IsIndexed}
@@ -11,7 +13,8 @@ use Rattle.bulk_store.specs.Contents.{Contents, IsStore, gave_up_oldest, took_in
 use Rattle.bulk_store.proofs.Places.{place_of-first, place_of-rest, place_of-newest, place_of-others}
 use Rattle.bulk_store.proofs.Indexed.{in_or_past, rest_places, with_record-indexed, without_oldest-indexed}
 use Rattle.bulk_store.proofs.Indexed.{free_place-within}
-use Rattle.bulk_store.proofs.Pages.{held_or_not, page_of-held, page_of-other, pages_same, pages_with}
+use Rattle.bulk_store.proofs.Pages.{held_or_not, page_of-held, page_of-other, pages_same, pages_with, length-pages_of}
+use Rattle.bulk_store.proofs.Pages.{get_or-pages_of}
 
 -- a held record is one of the disk's, and its place one of the fast store's
 pub held_within : (s : Contents) (r p : ℕ) → IsStore s → place_of s.table.held r ≡ Some p → (p < length s.fast)
@@ -23,6 +26,20 @@ held_within s r p k is = (
     | inr ge ↦ (let none = get_or_past s.table.places r None ge in let found = k.index.found r in cc)
   ],
 )
+
+-- where the pages of both drives have 1024 words, those of the store have
+pub pages_full : (s : Contents) → IsStore s → HaveFullPages s.fast → HaveFullPages s.disk
+    → HaveFullPages (pages_of s.fast s.disk s.table.held)
+pages_full s k fast disk =
+    let long = length-pages_of s.fast s.disk s.table.held in
+    All-from_get_or (λ words. length words ≡ 1024) (pages_of s.fast s.disk s.table.held) []
+    (λ r lt. (let inside : r < length s.disk = omega (arith, lt, long) in
+    ap length (get_or-pages_of s.fast s.disk s.table.held r inside) ∙ elim (held_or_not (place_of s.table.held r)) [
+      | inl none ↦ ap length (page_of-other s.fast s.disk s.table.held r none)
+          ∙ All-get_or (λ words. length words ≡ 1024) s.disk r [] inside disk
+      | inr at ↦ ap length (page_of-held s.fast s.disk s.table.held r at.0 at.1)
+          ∙ All-get_or (λ words. length words ≡ 1024) s.fast at.0 [] (held_within s r at.0 k at.1).0 fast
+    ]))
 
 -- the page of a held record is written in its place
 pub pages_held : (s : Contents) (r p : ℕ) (words : List ℕ) → IsStore s → place_of s.table.held r ≡ Some p

@@ -3,7 +3,7 @@ use Rattle.std.specs.Prelude.{◌≡◌, ◌<◌, ◌≤◌, ◌^◌, ◌⊎◌,
 use Rattle.std.specs.Prelude.{slice_set, if◌then◌else◌, Option, None, Some}
 use Rattle.volumes.specs.declared.drive.FailLine.{FailLine}
 use Rattle.volumes.specs.FailLine.{HasFewFaults}
-use Rattle.volumes.specs.Pages.{HaveFullPages}
+use Rattle.volumes.specs.FullPages.{HaveFullPages}
 use Rattle.bulk_store.specs.declared.parts.Parts.{Parts}
 use Rattle.bulk_store.specs.Held.{place_of, oldest_of, is_fast_write}
 use Rattle.bulk_store.specs.Index.{Holdings, IsIndexed, with_record, without_oldest}

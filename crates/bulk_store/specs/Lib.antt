@@ -1,6 +1,6 @@
 pub use Rattle.site_io.specs.Faults
 pub use Rattle.volumes.specs.FailLine
-pub use Rattle.volumes.specs.Pages
+pub use Rattle.volumes.specs.FullPages
 pub use Rattle.volumes.specs.CoreDrive
 pub mod Held
 pub mod Pages

@@ -2,7 +2,7 @@ ghost use Rattle.std.specs.Prelude.{◌≡◌, ◌≤◌, ◌<◌, ◌+◌, fals
 ghost use Rattle.std.specs.Prelude.{OnErr};
 ghost use Rattle.site_io.specs.Faults.{Rose};
 ghost use Rattle.volumes.specs.FailLine.{named_calls, HasFewFaults};
-ghost use Rattle.volumes.specs.Pages.{HaveFullPages};
+ghost use Rattle.volumes.specs.FullPages.{HaveFullPages};
 ghost use Rattle.volumes.specs.CoreDrive.{faults_of};
 ghost use Rattle.bulk_store.specs.AnyDrive.{disk_of, any_pages, any_places};
 

@@ -2,7 +2,7 @@ ghost use Rattle.std.specs.Prelude.{◌≡◌, ◌≤◌, ◌<◌, [], Some, len
 ghost use Rattle.std.specs.Prelude.{OnErr, IsOk, IsTrue};
 ghost use Rattle.site_io.specs.Faults.{Rose};
 ghost use Rattle.volumes.specs.FailLine.{HasFewFaults};
-ghost use Rattle.volumes.specs.Pages.{HaveFullPages};
+ghost use Rattle.volumes.specs.FullPages.{HaveFullPages};
 ghost use Rattle.volumes.specs.CoreDrive.{faults_of};
 ghost use Rattle.bulk_store.specs.Held.{place_of, is_fast_write};
 ghost use Rattle.bulk_store.specs.CoreBulk.{core_pages, fresh_store};

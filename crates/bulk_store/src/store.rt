@@ -2,7 +2,7 @@ ghost use Rattle.std.specs.Prelude.{◌≡◌, ◌<◌, ◌⊎◌, [], IfOk, IfS
 ghost use Rattle.std.specs.Prelude.{OnErr, IsTrue};
 ghost use Rattle.site_io.specs.Faults.{Rose};
 ghost use Rattle.volumes.specs.FailLine.{HasFewFaults};
-ghost use Rattle.volumes.specs.Pages.{HaveFullPages};
+ghost use Rattle.volumes.specs.FullPages.{HaveFullPages};
 ghost use Rattle.bulk_store.specs.Held.{place_of, is_fast_write, BulkAfter};
 ghost use Rattle.bulk_store.specs.Contents.{GoesOn};
 ghost use Rattle.bulk_store.specs.Store.{store_pages, store_faults, store_plan, disk_after, FailedWrite};
@@ -25,7 +25,7 @@ pub struct BulkStore<F: Drive, D: Drive> {
 
 impl<F: Drive, D: Drive> Model for BulkStore<F, D> {
     ghost use Rattle.volumes.specs.FailLine.{HasFewFaults};
-    ghost use Rattle.volumes.specs.Pages.{HaveFullPages};
+    ghost use Rattle.volumes.specs.FullPages.{HaveFullPages};
     ghost use Rattle.bulk_store.specs.Store.{Store};
     ghost use Rattle.bulk_store.specs.Contents.{contents, IsStore};
 

@@ -1,4 +1,5 @@
 use Rattle.bulk_store.proofs.Writes.{within_disk, on_ok, on_err, stays_store, done, has_failed}
+use Rattle.bulk_store.proofs.Stores.{pages_full}
 use Rattle.bulk_store.proofs.store.BulkStoreDrive.write_page.Goals as goal
 
 pub write-requires-clause-within : goal.write-requires-clause-within
@@ -12,6 +13,8 @@ invariant_of-self g c =
           c.write.ensures.err,
       c.write.ensures.fast.few c.self.invariant.1,
       c.write.ensures.disk.few c.self.invariant.2,
+      c.write.ensures.fast.full c.self.invariant.3,
+      c.write.ensures.disk.full c.self.invariant.4,
     )
 
 pub returns-clause-ok : goal.returns-clause-ok
@@ -30,3 +33,10 @@ pub returns-clause-err : goal.returns-clause-err
 returns-clause-err g c =
     rw (← c.self.view_is) (on_err c.write.result (λ is. (has_failed _ _ c.args.r c.self.invariant.0 is).pages)
     c.write.ensures.err)
+
+pub returns-clause-full : goal.returns-clause-full
+returns-clause-full g c =
+    let within = within_disk g.F.Drive.pages g.D.Drive.pages _ _ _ _ c.args.r c.self.view_is c.requires in
+    pages_full _ (stays_store c.write.result _ _ c.args.r c.args.from.now c.self.invariant.0 within c.write.ensures.ok
+    c.write.ensures.err)
+    (c.write.ensures.fast.full c.self.invariant.3) (c.write.ensures.disk.full c.self.invariant.4)
