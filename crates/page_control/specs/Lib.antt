@@ -2,6 +2,7 @@ pub use Rattle.core_map.specs.CoreMap
 pub use Rattle.core_map.specs.Clock
 pub use Rattle.page_table.specs.PageTable
 pub use Rattle.volumes.specs.Vtoc
+pub use Rattle.volumes.specs.FullPages
 pub use Rattle.volumes.specs.Volumes
 pub use Rattle.volumes.specs.Bitmap
 pub use Rattle.volumes.specs.Faults

@@ -10,6 +10,7 @@ ghost use Rattle.page_table.specs.declared.Ptw.{Ptw};
 ghost use Rattle.page_table.specs.declared.Ptw.TheVariants.{Null, Out, Here, Leaving};
 ghost use Rattle.page_table.specs.PageTable.{ptw_at};
 ghost use Rattle.vtoc.specs.Vtoc.{least_free_entry};
+ghost use Rattle.volumes.specs.FullPages.{HaveFullPages};
 ghost use Rattle.volumes.specs.Volumes.{KeepsTables};
 ghost use Rattle.page_control.specs.Plain.{Paging, Plain, plain, words_in, number_in, flags_of, vtoc_of, bindings};
 ghost use Rattle.page_control.specs.Plain.{disk_of, entry_of, filed, record_of, uid_of_home};
@@ -47,13 +48,14 @@ pub struct Pages<D: Drive> {
 
 impl<D: Drive> Model for Pages<D> {
     ghost use Rattle.std.specs.Prelude.{◌≡◌, length};
+    ghost use Rattle.volumes.specs.FullPages.{HaveFullPages};
     ghost use Rattle.page_control.specs.Plain.{Paging};
 
     ghost Value = { Paging D };
 
     ghost view = { λ s. record { core = s.core; frames = s.frames.items; volumes = s.volumes } };
 
-    ghost invariant = { λ s. length s.frames.items ≡ length s.core.frames };
+    ghost invariant = { λ s. (length s.frames.items ≡ length s.core.frames) × HaveFullPages s.frames.items };
 }
 
 impl<D: Drive> Pages<D> {
@@ -76,7 +78,7 @@ impl<D: Drive> Pages<D> {
     }
 
     /// The core map. A frame that a word of a page table names is bound to that page, and has the words that the page
-    /// has. (Source: own.)
+    /// has, which are 1024 in each frame. (Source: own.)
     pub fn frames(&self) -> &CoreMap
         ensures core { result.now ≡ self.now.core }
         ensures named { (uid p f : ℕ) (words : List Ptw) → IsTableOf (bindings self.now.core) uid words
@@ -84,6 +86,7 @@ impl<D: Drive> Pages<D> {
         ensures words { (uid p f : ℕ) (home : Home) (words : List Ptw) → IsTableOf (bindings self.now.core) uid words
             → frame_of (ptw_at words p) ≡ Some f
             → words_at (plain D.pages self.now) uid home p ≡ words_in (plain D.pages self.now) f }
+        ensures full { HaveFullPages self.now.frames }
     {
         &self.core
     }

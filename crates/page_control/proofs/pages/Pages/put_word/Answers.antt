@@ -13,7 +13,7 @@ returns-clause-words g c = λ once.
     let inside : c.args.f < length c.args.self.now.core.frames =
     bound_inside c.args.self.now.core c.args.f c.requires.bound in
     let count : length c.args.self.now.frames ≡ length c.args.self.now.core.frames =
-    rw (← c.self.view_is) c.self.invariant in
+    rw (← c.self.view_is) c.self.invariant.0 in
     words_written _ _ _ _ _ _ _ _ (uid_in (frame_at c.args.self.now.core c.args.f))
     (number_in (frame_at c.args.self.now.core c.args.f)) c.args.f _
     (search (rules, bindings_referred)) (grind (arith, common_steps)) (search rules) (search rules)

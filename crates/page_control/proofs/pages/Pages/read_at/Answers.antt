@@ -32,12 +32,12 @@ returns-in-Ok-clause-read g c =
     record {
       effect = rw r (grind (arith, common_steps));
       word = search rules;
-      frames = rw (← c.self.view_is) c.self.invariant;
+      frames = rw (← c.self.view_is) c.self.invariant.0;
     }
 
 pub returns-in-Err-clause-read : goal.returns-in-Err-clause-read
 returns-in-Err-clause-read g c = record {
   effect = grind (arith, common_steps);
   word = refl;
-  frames = rw (← c.self.view_is) c.self.invariant;
+  frames = rw (← c.self.view_is) c.self.invariant.0;
 }
