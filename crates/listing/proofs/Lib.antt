@@ -1,3 +1,4 @@
 pub mod LineLaws
 pub mod TrailLaws
 pub mod CountLaws
+pub mod UseLaws

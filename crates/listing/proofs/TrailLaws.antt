@@ -1,5 +1,5 @@
 -- The names from the root down to a node are those of the nodes on the way there.
-use Rattle.std.proofs.Common.{◌≡◌, ◌≢◌, ℕ, ◌+◌, ◌<◌, ◌≤◌, Bool, true, false, eqb, List, [], ◌∷◌, ◌++◌, length, reverse}
+use Rattle.std.proofs.Common.{◌≡◌, ℕ, ◌+◌, ◌<◌, ◌≤◌, true, false, eqb, List, [], ◌∷◌, ◌++◌, length, reverse}
 use Rattle.std.proofs.Common.{take, get_or, is_some, Option, Some, None, refl, sym, ap, subst, ◌∙◌, arith, inl, inr}
 use Rattle.std.specs.List.{flat_map}
 use Rattle.std.proofs.lemmas.Bool.{cases_Bool}
@@ -9,7 +9,7 @@ use Rattle.std.proofs.lemmas.List.{append-nil, take_more}
 use Rattle.std.proofs.lemmas.List.Concat.{flat_map-append}
 use mathlib.Core.List.{reverse-cons}
 use Rattle.tree_model.specs.Tree.{Node, above, has_directory, node_in, step_up}
-use Rattle.tree_model.specs.Trees.{AreBelow, AreUnder, HasChains, IsTree, Joins}
+use Rattle.tree_model.specs.Trees.{AreBelow, AreUnder, IsTree, Joins}
 use Rattle.tree_model.proofs.ChainLaws.{has_chains}
 use Rattle.listing.specs.Listings.{trail_of, trail_up}
 use Rattle.listing.specs.Gathered.{rest_of}

@@ -1,5 +1,5 @@
 -- The listing of a book: what each process was answered, or each entry; then the accounts, then the volumes (own).
-use Rattle.std.specs.Prelude.{ℕ, ◌+◌, List, [], ◌∷◌, ◌++◌, reverse, Option, Some, None, codes, eqb, if◌then◌else◌}
+use Rattle.std.specs.Prelude.{ℕ, zero, suc, ◌+◌, List, [], ◌∷◌, ◌++◌, reverse, Option, Some, None, codes, eqb, if◌then◌else◌}
 use Rattle.std.specs.List.{flat_map}
 use Rattle.std.specs.Fmt.{decimal}
 use Rattle.mnames.specs.Names.{path_text}
@@ -19,6 +19,7 @@ use Rattle.book.specs.Replies.{reply_text}
 use Rattle.tree_model.specs.Tree.{Node, is_account, used_by, taken_on, entries_on}
 use Rattle.flat_model.specs.Store.{Store}
 use Rattle.flat_model.specs.Legal.{store_after, part}
+use Rattle.listing.specs.declared.counts.VolumeUse.{VolumeUse}
 
 -- `COMMAND = REPLY`
 unfoldable pub answer_line : Plan → Option Command → Reply → List ℕ
@@ -86,6 +87,14 @@ abbrev pub volumes_of : Store → ℕ → List VolumeLine → List VolumeCount
 volumes_of s v [] = []
 volumes_of s v (x ∷ xs) = (record { volume = x; taken = taken_on s.nodes s.stored v; used = entries_on s.nodes v })
     ∷ volumes_of s (v + 1) xs
+
+-- how much of a volume is used, and of each volume below a number, in order
+abbrev pub use_of : Store → ℕ → VolumeUse
+use_of s v = record { records = taken_on s.nodes s.stored v; entries = entries_on s.nodes v }
+
+abbrev pub uses_of : Store → ℕ → List VolumeUse
+uses_of s zero = []
+uses_of s (suc v) = uses_of s v ++ use_of s v ∷ []
 
 -- the accounts and the volumes, as they are in a store
 unfoldable pub summary_of : Plan → Store → Summary

@@ -51,6 +51,15 @@ impl AccountCount {
     }
 }
 
+/// How much of a volume is used.
+#[derive(Clone, Copy, Debug, PartialEq, Eq)]
+pub struct VolumeUse {
+    /// How many of its records are taken, one for each stored page.
+    pub records: u32,
+    /// How many of its VTOC entries are taken, one for each directory and segment.
+    pub entries: u32,
+}
+
 /// A volume of a script, and how much of it is used.
 #[derive(Drop)]
 pub struct VolumeCount {

@@ -2,7 +2,7 @@
 //! two, then the accounts and the volumes.
 #![tactic(auto)]
 
-ghost use Rattle.std.specs.Prelude.{◌≡◌, ◌++◌, IfOk, string_bytes};
+ghost use Rattle.std.specs.Prelude.{◌≡◌, ◌++◌, IfOk};
 ghost use Rattle.flat_model.specs.Legal.{IsLegal};
 ghost use Rattle.listing.specs.Listings.{body_of, summary_text, listing_of};
 
@@ -15,12 +15,12 @@ mod tests;
 
 use answers::push_body;
 use book::Book;
-pub use counts::{AccountCount, Summary, VolumeCount};
+pub use counts::{AccountCount, Summary, VolumeCount, VolumeUse};
 use flat_store::FlatStore;
 use lines::push_summary;
 pub use lines::summary_text;
 use std::alloc::{AllocError, Global};
-pub use summing::{account_counts, summary};
+pub use summing::{account_counts, summary, summary_of_counts};
 
 /// There wasn't enough memory.
 #[derive(Clone, Copy, Debug, PartialEq, Eq)]
@@ -51,17 +51,24 @@ pub fn listing_text(alloc: Global, book: &Book) -> Result<Vec<u8>, NoMemory>
 {
     let store = FlatStore::after(alloc, book)?;
     let summary = summary(alloc, book.script(), &store)?;
-    let text = listing_string(alloc, book, &summary)?;
-    Ok(text.into_bytes())
+    listing_of_summary(alloc, book, &summary)
 }
 
-/// What the script prints, and these accounts and volumes.
-fn listing_string(alloc: Global, book: &Book, summary: &Summary) -> Result<String, AllocError>
-    ensures { IfOk result (λ text. string_bytes text
+/// What the script of a book prints, and these accounts and volumes. It takes memory for the text, and goes at most
+/// once through the book for each process.
+///
+/// # Errors
+/// `NoMemory` is want of memory.
+pub fn listing_of_summary(
+    alloc: Global,
+    book: &Book,
+    summary: &Summary,
+) -> Result<Vec<u8>, NoMemory>
+    ensures { IfOk result (λ text. text.items
         ≡ body_of book.now.script.print book.now.script book.now.entries ++ summary_text summary.now) }
 {
     let mut text = String::new(alloc);
     push_body(&mut text, book)?;
     push_summary(&mut text, summary)?;
-    Ok(text)
+    Ok(text.into_bytes())
 }

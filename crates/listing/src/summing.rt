@@ -1,14 +1,14 @@
-ghost use Rattle.std.specs.Prelude.{◌≡◌, ◌==◌, ◌||◌, ◌≤◌, IfOk, is_some, length, not, true};
+ghost use Rattle.std.specs.Prelude.{◌≡◌, ◌==◌, ◌||◌, IfOk, is_some, length, not, true};
 ghost use Rattle.script.specs.Plans.{Plan};
 ghost use Rattle.accounts.specs.Maps.{Counts};
 ghost use Rattle.tree_model.specs.Tree.{node_in};
 ghost use Rattle.flat_model.specs.Store.{Store};
 ghost use Rattle.flat_store.specs.Shown.{Shows};
-ghost use Rattle.listing.specs.Listings.{trail_of, accounts_of, volumes_of, summary_of};
-ghost use Rattle.listing.specs.Gathered.{account_at, as_list, rest_of, volume_of};
+ghost use Rattle.listing.specs.Listings.{trail_of, accounts_of, volumes_of, uses_of, summary_of};
+ghost use Rattle.listing.specs.Gathered.{account_at, as_list, rest_of};
 
 use crate::NoMemory;
-use crate::counts::{AccountCount, Summary, VolumeCount};
+use crate::counts::{AccountCount, Summary, VolumeCount, VolumeUse};
 use accounts::Accounts;
 use flat_store::FlatStore;
 use mnames::Name;
@@ -100,35 +100,65 @@ pub fn account_counts(alloc: Global, accounts: &Accounts) -> Result<Vec<AccountC
     Ok(accounts_by_uid(alloc, accounts)?)
 }
 
-/// The volume of a line, the one of this number of a flat store.
-fn volume_count(volume: &VolumeLine, store: &FlatStore, v: u32) -> VolumeCount
-    ensures { (p : Plan) (s : Store) → Shows p store.now s → result ≡ volume_of s v volume.now }
+/// The volume of a line, of which so much is used.
+fn volume_count(volume: &VolumeLine, taken: VolumeUse) -> VolumeCount
+    ensures { result ≡ record { volume = volume.now; taken = taken.records; used = taken.entries } }
 {
     let line = VolumeLine {
         name: volume.name.copied(),
         records: volume.records,
         entries: volume.entries,
     };
-    VolumeCount::new(line, store.taken(v), store.entries(v))
+    VolumeCount::new(line, taken.records, taken.entries)
 }
 
-/// The volumes, in order.
+/// The volumes, in order, and how much of each is used.
 fn volume_counts(
     alloc: Global,
     volumes: &[VolumeLine],
-    store: &FlatStore,
+    uses: &[VolumeUse],
 ) -> Result<Vec<VolumeCount>, AllocError>
-    requires { length volumes.now ≤ 4 }
-    ensures { IfOk result (λ counts. (p : Plan) (s : Store) → Shows p store.now s
+    ensures { IfOk result (λ counts. (s : Store) → uses.now ≡ uses_of s (length volumes.now)
         → counts.items ≡ volumes_of s 0 volumes.now) }
 {
     let mut counts = Vec::new(alloc);
-    let mut v = 0;
-    for volume in volumes {
-        counts.push(volume_count(volume, store, v))?;
-        v += 1;
+    for (volume, taken) in volumes.iter().zip(uses) {
+        counts.push(volume_count(volume, *taken))?;
     }
     Ok(counts)
+}
+
+/// How much of each volume is used, in a flat store.
+fn volume_uses(alloc: Global, store: &FlatStore, volumes: u32) -> Result<Vec<VolumeUse>, AllocError>
+    ensures { IfOk result (λ uses. (p : Plan) (s : Store) → Shows p store.now s → uses.items ≡ uses_of s volumes) }
+{
+    let mut uses = Vec::new(alloc);
+    for v in 0..volumes {
+        uses.push(VolumeUse {
+            records: store.taken(v),
+            entries: store.entries(v),
+        })?;
+    }
+    Ok(uses)
+}
+
+/// The accounts of a tree, and the volumes of a script, of which so much is used. They are those of each store that has
+/// this tree, whose stored pages the accounts count, and whose volumes are used so.
+///
+/// # Errors
+/// `NoMemory` is want of memory.
+pub fn summary_of_counts(
+    alloc: Global,
+    script: &Script,
+    accounts: &Accounts,
+    uses: &[VolumeUse],
+) -> Result<Summary, NoMemory>
+    ensures { IfOk result (λ summary. (s : Store) → s.nodes ≡ accounts.now.nodes → Counts accounts.now s.stored
+        → uses.now ≡ uses_of s (length script.now.volumes) → summary ≡ summary_of script.now s) }
+{
+    let accounts = account_counts(alloc, accounts)?;
+    let volumes = volume_counts(alloc, script.volumes(), uses)?;
+    Ok(Summary::new(accounts, volumes))
 }
 
 /// The accounts and the volumes of a script, as they are in a flat store.
@@ -140,7 +170,6 @@ pub fn summary(alloc: Global, script: &Script, store: &FlatStore) -> Result<Summ
         → summary ≡ summary_of script.now s) }
 {
     let _processes = script.processes();
-    let accounts = account_counts(alloc, store.accounts())?;
-    let volumes = volume_counts(alloc, script.volumes(), store)?;
-    Ok(Summary::new(accounts, volumes))
+    let uses = volume_uses(alloc, store, script.volumes().len() as u32)?;
+    summary_of_counts(alloc, script, store.accounts(), &uses)
 }

@@ -1,11 +1,20 @@
-use Rattle.std.proofs.Common.{ap, ◌∙◌}
-use Rattle.listing.specs.Listings.{volumes_of}
-use Rattle.listing.proofs.CountLaws.{summary_whole}
+use Rattle.std.proofs.Common.{ap, ◌≡◌, ◌∙◌, List, length}
+use Rattle.std.proofs.lemmas.Result.{IfOk-weaker}
+use Rattle.script.specs.declared.plan.VolumeLine.{VolumeLine}
+use Rattle.accounts.specs.Maps.{Counts}
+use Rattle.flat_model.specs.Store.{Store}
+use Rattle.flat_store.specs.Shown.{Shows}
+use Rattle.listing.specs.Listings.{Summary, summary_of, uses_of}
 use Rattle.listing.proofs.summing.summary.Goals as goal
 
 pub returns : goal.returns
-returns c = λ s shows.
-    summary_whole c.args.script.now s _ _ _ (c.in_ok-accounts.ensures s
-    (c.accounts.ensures.nodes c.args.script.now s shows)
-    (c.accounts.ensures.counts c.args.script.now s shows))
-    (c.in_ok-volumes.ensures c.args.script.now s shows ∙ ap (volumes_of s 0) c.volumes.ensures) c.new.ensures
+returns c =
+    IfOk-weaker c.summary_of_counts.result
+    (λ (y : Summary). (s : Store) → s.nodes ≡ c.accounts.result.now.nodes → Counts c.accounts.result.now s.stored
+    → c.deref.result.now ≡ uses_of s (length c.args.script.now.volumes) → y ≡ summary_of c.args.script.now s)
+    (λ (y : Summary). (s : Store) → Shows c.args.script.now c.args.store.now s → y ≡ summary_of c.args.script.now s)
+    (λ y given s shows. given s (c.accounts.ensures.nodes c.args.script.now s shows)
+    (c.accounts.ensures.counts c.args.script.now s shows)
+    (c.deref.ensures.value ∙ c.in_ok-uses.ensures c.args.script.now s shows
+    ∙ ap (λ (xs : List VolumeLine). uses_of s (length xs)) c.volumes.ensures))
+    c.summary_of_counts.ensures

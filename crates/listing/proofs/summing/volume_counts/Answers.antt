@@ -1,13 +1,24 @@
-use Rattle.std.proofs.Common.{arith}
-use Rattle.listing.proofs.CountLaws.{volumes_more}
+use Rattle.std.proofs.Common.{sym, subst, ℕ, ◌≡◌, length, take}
+use Rattle.std.proofs.lemmas.List.{length_push}
+use Rattle.std.proofs.lemmas.Slice.Zip.{zip_turn, zip_end}
+use Rattle.listing.specs.Listings.{volumes_of}
+use Rattle.listing.proofs.UseLaws.{counts_more, counts_end}
 use Rattle.listing.proofs.summing.volume_counts.Goals as goal
 
 pub loop-volume-preserved : goal.loop-volume-preserved
-loop-volume-preserved c = record {
-  counted = omega (arith, c.loop-volume.invariant.counted);
-  volumes = λ p s shows.
-      volumes_more s _ _ c.loop-volume.v c.volume-item.result c.volume_count.result _ _ c.loop-volume-test.true
-      c.loop-volume.invariant.counted
-      c.volume-item.is
-      (c.loop-volume.invariant.volumes p s shows) (c.volume_count.ensures p s shows) c.in_ok-push.ensures.items;
-}
+loop-volume-preserved c = λ s uses.
+    let t = zip_turn c.args.volumes.now c.args.uses.now c.loop-volume.yielded c.into_iter-volume-iterator.result
+    c.loop-volume.volume-iterator c.next.new.self c.next.result (cc) (cc) c.loop-volume.yielded_by
+    (c.in-Some.volume, c.in-Some.taken) c.in-Some.is c.next.ensures.steps in
+    subst (λ (n : ℕ). c.push.new.self.items ≡ volumes_of s 0 (take n c.args.volumes.now))
+    (sym (length_push c.loop-volume.yielded (c.in-Some.volume, c.in-Some.taken)))
+    (counts_more s c.args.volumes.now c.args.uses.now (length c.loop-volume.yielded) c.in-Some.volume.now
+    c.in-Some.taken.now c.volume_count.result _ _ t.0 (t.2 _) (t.3 _) uses (c.loop-volume.invariant s uses)
+    c.volume_count.ensures c.in_ok-push.ensures.items)
+
+pub returns : goal.returns
+returns c = λ s uses.
+    counts_end s c.args.volumes.now c.args.uses.now (length c.loop-volume.yielded) _
+    (zip_end c.args.volumes.now c.args.uses.now c.loop-volume.yielded c.into_iter-volume-iterator.result
+    c.loop-volume.volume-iterator c.next.new.self c.next.result (cc) (cc) c.loop-volume.yielded_by c.in-None.is
+    c.next.ensures.steps) uses (c.loop-volume.invariant s uses)

@@ -1,0 +1,12 @@
+use Rattle.std.proofs.Common.{ap, sym, ◌≡◌, ◌∙◌, List, length}
+use Rattle.script.specs.declared.plan.VolumeLine.{VolumeLine}
+use Rattle.listing.specs.Listings.{uses_of, volumes_of}
+use Rattle.listing.proofs.CountLaws.{summary_whole}
+use Rattle.listing.proofs.summing.summary_of_counts.Goals as goal
+
+pub returns : goal.returns
+returns c = λ s same counts uses.
+    let given : c.args.uses.now ≡ uses_of s (length c.volumes.result.now) =
+    uses ∙ ap (λ (xs : List VolumeLine). uses_of s (length xs)) (sym c.volumes.ensures) in
+    summary_whole c.args.script.now s _ _ _ (c.in_ok-accounts.ensures s same counts)
+    (c.in_ok-volumes.ensures s given ∙ ap (volumes_of s 0) c.volumes.ensures) c.new.ensures

@@ -1,0 +1,10 @@
+use Rattle.std.proofs.Common.{◌≡◌}
+use Rattle.script.specs.Plans.{Plan}
+use Rattle.flat_model.specs.Store.{Store}
+use Rattle.flat_store.specs.Shown.{Shows}
+use Rattle.listing.specs.Listings.{uses_of}
+use Rattle.listing.proofs.summing.volume_uses.Given as goal
+
+-- the volumes so far
+abbrev pub invariant-loop-v : goal.invariant-loop-v
+invariant-loop-v l = (p : Plan) (s : Store) → Shows p l.store s → l.uses.items ≡ uses_of s l.v
