@@ -1,3 +1,4 @@
+pub mod AccountLaws
 pub mod AloneLaws
 pub mod BackStays
 pub mod Busy
@@ -8,6 +9,7 @@ pub mod CommitStays
 pub mod CountedLaws
 pub mod CreateCalls
 pub mod DiskLaws
+pub mod DisksKept
 pub mod DriveCounts
 pub mod EmptiedFacts
 pub mod EndedLaws
@@ -16,6 +18,7 @@ pub mod FirstParts
 pub mod Found
 pub mod JoinCalls
 pub mod LoopCalls
+pub mod LossTold
 pub mod MovedLaws
 pub mod NoZeros
 pub mod OwnerCalls

@@ -3,17 +3,19 @@
 use Rattle.std.proofs.Common.{◌≡◌, ◌<◌, ◌≤◌, ◌+◌, ◌*◌, ℕ, zero, suc, Bool, true, false, ◌&&◌, cond, get_or, length}
 use Rattle.std.proofs.Common.{position, replicate, List, [], ◌∷◌, Option, Some, None, inl, inr, refl, sym, ap, subst}
 use Rattle.std.proofs.Common.{◌∙◌, arith}
-use Rattle.std.specs.Prelude.{◌/◌, ◌%◌}
+use Rattle.std.specs.Prelude.{◌/◌, ◌%◌, All}
 use Rattle.std.proofs.lemmas.Bool.{and_parts, cases_lt}
 use Rattle.std.proofs.lemmas.Bool.Decides.{eqb_tells}
-use Rattle.std.proofs.lemmas.List.{get_or_past}
+use Rattle.std.proofs.lemmas.List.{get_or_past, length-replicate}
+use Rattle.std.proofs.lemmas.List.Elements.{All-get_or, All-nil}
 use Rattle.mword.specs.Words.{AreZero}
 use Rattle.core_map.specs.CoreMap.{bound_page}
-use Rattle.core_map.specs.declared.Frame.TheVariants as frame
 use Rattle.flat_model.specs.Pages.{is_stored, is_zero_page}
 use Rattle.flat_model.proofs.ZeroLaws.{zero_words}
 use Rattle.vtoc.specs.Vtoc.{record_at}
-use Rattle.page_control.specs.Picture.{is_binding, is_stored as is_stored_at, words_held, words_of_page}
+use Rattle.volumes.specs.FullPages.{HaveFullPages}
+use Rattle.page_control.specs.Picture.{is_binding, is_stored as is_stored_at, words_filed, words_held}
+use Rattle.page_control.specs.Picture.{words_of_page}
 use Rattle.page_control.specs.Plain.{bindings, frame_in, words_in}
 use Rattle.page_control.specs.Tied.{IsInFrame, vtoc_in}
 use Rattle.seg_control.specs.Control.{place_of}
@@ -32,6 +34,7 @@ use Rattle.machine_model.proofs.TieLaws.{none_some}
 use Rattle.machine_model.proofs.TransferKept.{active_at}
 use Rattle.machine.specs.Shut.{AllVisited, HasNoZeros, words_of}
 use Rattle.machine.proofs.DiskLaws.{binding_tells}
+use Rattle.machine.proofs.VisitNext.{bound_there}
 
 zeros_to : (ws : List ℕ) → AreZero ws → are_zeros ws ≡ true
 zeros_to [] h = refl
@@ -52,6 +55,26 @@ binds u p = elim (eqb_tells u u) [
   | inl a ↦ elim (eqb_tells p p) [ inl b ↦ rw (a.0, b.0) refl | inr n ↦ absurd (n.1 refl) ]
   | inr n ↦ absurd (n.1 refl)
 ]
+
+-- ---- pages of 1024 words
+
+abbrev IsFull : List ℕ → Type 0
+IsFull words = length words ≡ 1024
+
+few_words : (pages : List (List ℕ)) → All IsFull pages → (r : ℕ) → length (get_or pages r []) ≤ 1024
+few_words pages full r = elim (cases_lt r (length pages)) [
+  | inl lt ↦ (let words = All-get_or IsFull pages r [] lt full in omega (arith, words))
+  | inr past ↦ (let none : length (get_or pages r []) ≡ 0 =
+      ap (λ (ws : List ℕ). length ws) (get_or_past pages r [] past) in omega (arith, none))
+]
+
+full_disk : (disks : List (List (List ℕ))) → All HaveFullPages disks → (v : ℕ) → HaveFullPages (get_or disks v [])
+full_disk disks full v = elim (cases_lt v (length disks)) [
+  | inl lt ↦ All-get_or HaveFullPages disks v [] lt full
+  | inr past ↦ subst HaveFullPages (sym (get_or_past disks v [] past)) (All-nil IsFull)
+]
+
+-- ---- zeros
 
 module _ (s : State) (k : Keeps s) where
   -- a page in a frame has the words of the frame
@@ -130,11 +153,7 @@ module _ (s : State) (k : Keeps s) where
               page = sym (binding_is s f) ∙ bound
 
               inside : f < s.plan.frames
-              inside = elim (cases_lt f (length s.store.pages.core.frames)) [
-                | inl lt ↦ subst (λ (n : ℕ). f < n) k.sizes.frames lt
-                | inr far ↦ absurd (none_some (sym (ap bound_page
-                    (get_or_past s.store.pages.core.frames f frame.Free far)) ∙ page))
-              ]
+              inside = subst (λ (n : ℕ). f < n) k.sizes.frames (bound_there s.store.pages f (u, p) page)
 
               visited : WasVisited s.store.pages s.entries f → ⊥
               visited (inl none) = none_some (sym none ∙ page)
@@ -149,13 +168,33 @@ module _ (s : State) (k : Keeps s) where
           by true zeros = absurd (no_zeros (zeros_there size zeros))
           by false e = refl
 
+  -- a page has at most 1024 words where it is, if the frames and the pages of the drives have as many
+  page_size : All IsFull s.store.pages.frames → All HaveFullPages s.store.pages.disks → (u p : ℕ)
+      → length (words_of s u p) ≤ 1024
+  unfolding words_of_page
+  page_size frames disks u p = by (position (is_binding u p) (bindings s.store.pages.core))
+    where
+      disk : List (List ℕ)
+      disk = get_or s.store.pages.disks (home_in s.store u).volume []
+
+      on_record : (x : Option ℕ) → length (words_filed disk x) ≤ 1024
+      on_record None = let full = length-replicate {A = ℕ} 1024 0 in omega (arith, full)
+      on_record (Some r) = few_words disk (full_disk s.store.pages.disks disks (home_in s.store u).volume) r
+
+      by : (x : Option ℕ) → length (words_held s.store.pages.frames disk
+          (record_at (vtoc_in s.store.pages.vtocs (home_in s.store u).volume) (home_in s.store u).entry p) x) ≤ 1024
+      by None = on_record (record_at (vtoc_in s.store.pages.vtocs (home_in s.store u).volume)
+          (home_in s.store u).entry p)
+      by (Some f) = few_words s.store.pages.frames frames f
+
   -- No stored page is all zeros.
-  pub has_no_zeros : AllVisited s → HasNoZeros s
-  has_no_zeros each = record {
+  pub has_no_zeros : All IsFull s.store.pages.frames → All HaveFullPages s.store.pages.disks → AllVisited s
+      → HasNoZeros s
+  has_no_zeros frames disks each = record {
     pages = λ u p stored. no_zeros u p stored each;
-    settled = λ sizes. record {
+    settled = record {
       quotas = k.conserved.total;
       within = k.conserved.within;
-      words = λ u p stored. some_word u p stored each (sizes u p stored);
+      words = λ u p stored. some_word u p stored each (page_size frames disks u p);
     };
   }

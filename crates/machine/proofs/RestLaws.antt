@@ -106,6 +106,7 @@ pub rest_sound : {D : Type 0} (t : Parts D) (spare : ℕ) (stopped : Bool) → I
 rest_sound t spare stopped sound = record {
   keeps = rest_kept t.state spare stopped sound.keeps;
   room = sound.room;
+  drives = sound.drives;
   visits = record {
     idle = sound.visits.idle;
     over = sound.visits.over;

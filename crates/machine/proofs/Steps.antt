@@ -14,6 +14,7 @@ use Rattle.machine_model.proofs.TieLaws.{none_some}
 use Rattle.machine_tables.specs.Parts.{Parts}
 use Rattle.machine.specs.Promise.{IsSound}
 use Rattle.machine.proofs.Busy.{Busy, busy_of}
+use Rattle.machine.proofs.DisksKept.{disks_kept}
 use Rattle.machine.proofs.VisitNext.{visited_after}
 
 -- a processor that takes an entry in has a process
@@ -32,6 +33,9 @@ sound_after t u c o a sound there doing says state room = record {
       (subst (λ (x : Action). Says t.state c o x) (sym doing) says)));
   room = room ∙ (sound.room ∙ ap (λ (p : Plan). length p.processes)
       (sym (ap (λ (s : State). s.plan) state ∙ (pools_kept t.state c a o).plan)));
+  drives = ap (λ (s : State). length s.store.pages.disks) state ∙ (disks_kept t.state c a o
+      ∙ (sound.drives ∙ ap (λ (p : Plan). length p.volumes)
+      (sym (ap (λ (s : State). s.plan) state ∙ (pools_kept t.state c a o).plan))));
   visits = subst AreVisited (sym state) (subst (λ (x : Action). AreVisited (after t.state c x o)) doing
       (visited_after t.state c o there (fills_busy t.state c (action_of t.state c)
       (busy_of t.state c sound.keeps.machine.keeps sound.keeps.reading there (action_of t.state c) refl))

@@ -39,6 +39,7 @@ use Rattle.machine.specs.Promise.{IsSound}
 use Rattle.machine.specs.Shut.{AllVisited, HasVisited}
 use Rattle.machine.specs.Turns.{Appends, KeepsParts}
 use Rattle.machine.proofs.Changed.{IsStoreOf}
+use Rattle.machine.proofs.DisksKept.{visit_disks}
 use Rattle.machine.proofs.VisitNext.{visited_next}
 
 -- ---- what a visit leaves of the places of active segments
@@ -178,6 +179,9 @@ module _ {D : Type 0} (t : Parts D) (sound : IsSound t) (over : is_over t.state 
       keeps = subst KeepsAll (sym state) (visit_keeps_all s o sound.keeps over sound.visits.idle (says told));
       room = room ∙ (sound.room ∙ ap (λ (p : Plan). length p.processes)
           (sym (ap (λ (v : State). v.plan) state ∙ (same_seats s o).plan)));
+      drives = ap (λ (v : State). length v.store.pages.disks) state ∙ (visit_disks s o
+          ∙ (sound.drives ∙ ap (λ (p : Plan). length p.volumes)
+          (sym (ap (λ (v : State). v.plan) state ∙ (same_seats s o).plan))));
       visits = subst AreVisited (sym state) (visited_next s o sound.keeps sound.visits over more (says told));
     }
 

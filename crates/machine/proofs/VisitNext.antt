@@ -64,7 +64,7 @@ evicted_here pages home p f left.Released there = get_or-set_same pages.core.fra
 evicted_here pages home p f left.Kept there = get_or-set_same pages.core.frames f frame.Free frame.Free there
 
 -- a frame with a page is there
-bound_there : (pages : Plain) (f : ℕ) (page : ℕ × ℕ) → bound_page (frame_in pages f) ≡ Some page
+pub bound_there : (pages : Plain) (f : ℕ) (page : ℕ × ℕ) → bound_page (frame_in pages f) ≡ Some page
     → f < length pages.core.frames
 bound_there pages f page h = elim (cases_lt f (length pages.core.frames)) [
   | inl lt ↦ lt

@@ -1,12 +1,17 @@
-ghost use Rattle.std.specs.Prelude.{◌≡◌, ◌≤◌, ◌↔◌, map, true, OnOk};
+ghost use Rattle.std.specs.Prelude.{◌≡◌, ◌≤◌, ◌↔◌, ℕ, count_by, is_some, length, map, sum_by, true, OnOk};
+ghost use Rattle.tree_model.specs.Tree.{entries_on, taken_on};
+ghost use Rattle.accounts.specs.Maps.{Counts};
 ghost use Rattle.flat_model.specs.Legal.{IsComplete, IsLegal, store_after};
 ghost use Rattle.custody_model.specs.Clean.{IsClean, custody_after};
+ghost use Rattle.volumes.specs.Volumes.{used_at, vtoc_at};
 ghost use Rattle.machine_model.specs.Actions.{is_over};
-ghost use Rattle.machine_model.specs.Promise.{KeepsAll};
+ghost use Rattle.machine_model.specs.Keeps.{IsConserved, is_fault};
+ghost use Rattle.machine_model.specs.Reads.{flat_of};
 ghost use Rattle.machine.specs.OnDisk.{IsOnDisk};
 ghost use Rattle.machine.specs.Sizes.{HaveSizes};
 ghost use Rattle.machine.specs.Turns.{HaveEnded};
 
+use accounts::Accounts;
 use book::Book;
 use machine_tables::{NoMemory, Tables};
 use std::marker::Model;
@@ -36,15 +41,21 @@ impl<D: Drive> Model for Machine<D> {
 }
 
 impl<D: Drive> Machine<D> {
-    /// The book. (Source: own.)
+    /// The book. After it the quotas sum to that of the root at first, and no account is charged for more pages than
+    /// its quota. It tells of no more failures than the drives have counted. (Source: own.)
     pub fn book(&self) -> &Book
         ensures script { result.now.script ≡ self.now.state.plan }
         ensures entries { result.now.entries ≡ self.now.state.entries }
         ensures spare { result.now.spare ≡ self.now.state.spare }
         ensures legal { IsLegal result.now.script result.now.entries }
         ensures clean { IsClean result.now.script result.now.entries }
+        ensures conserved { IsConserved result.now.script (store_after result.now.script result.now.entries) }
+        ensures faults { count_by is_fault result.now.entries ≤ sum_by D.faults self.now.drives }
     {
-        self.tables.book()
+        let _tables = self.tables.look();
+        let book = self.tables.book();
+        let _entries = book.entries();
+        book
     }
 
     /// Makes room for 320 entries. A refusal changes nothing but that there may be more room. (Source: own.)
@@ -82,13 +93,29 @@ impl<D: Drive> Machine<D> {
         self.tables.is_over()
     }
 
-    /// The volumes, with their drives, each of the size that the script gives its volume. They hold the flat store
-    /// after the book, but for the words of the pages that are in frames. (Source: Organick 1972.)
+    /// The directory tree with its accounts: its nodes are those of the flat store after the book, and each account
+    /// counts the pages that are stored there. (Source: Organick 1972.)
+    pub fn accounts(&self) -> &Accounts
+        ensures accounts { result.now ≡ self.now.state.store.accounts }
+        ensures nodes { (flat_of self.now.state).nodes ≡ result.now.nodes }
+        ensures counts { Counts result.now (flat_of self.now.state).stored }
+    {
+        self.tables.store().accounts()
+    }
+
+    /// The volumes, one for each of the script, with their drives, each of the size that the script gives its volume.
+    /// They hold the flat store after the book, but for the words of the pages that are in frames: as many records of a
+    /// volume are in use as pages are stored on it, and as many entries as it has nodes. (Source: Organick 1972.)
     pub fn volumes(&self) -> &Volumes<D>
         ensures drives { result.now.drives ≡ self.now.drives }
         ensures records { result.now.records ≡ self.now.state.store.pages.records }
         ensures vtocs { result.now.vtocs ≡ self.now.state.store.pages.vtocs }
+        ensures count { length result.now.drives ≡ length self.now.state.plan.volumes }
         ensures sizes { HaveSizes D.pages self.now.drives self.now.state.plan }
+        ensures taken { (v : ℕ) → used_at result.now v
+            ≡ taken_on (flat_of self.now.state).nodes (flat_of self.now.state).stored v }
+        ensures entries { (v : ℕ) → count_by is_some (vtoc_at result.now v)
+            ≡ entries_on (flat_of self.now.state).nodes v }
         ensures on_disk { IsOnDisk (map D.pages result.now.drives) result.now.records result.now.vtocs
             (store_after self.now.state.plan self.now.state.entries)
             (custody_after self.now.state.plan self.now.state.entries) }

@@ -1,4 +1,5 @@
 use Rattle.std.proofs.Common.{◌∙◌, ap, length, List, subst, sym}
+use Rattle.std.proofs.lemmas.List.{length-map}
 use Rattle.script.specs.declared.plan.VolumeLine.{VolumeLine}
 use Rattle.volumes.specs.Volumes.{Vols, made_of}
 use Rattle.storage_ops.specs.Shown.{AreFresh}
@@ -32,6 +33,14 @@ invariant_of-result g c = record {
       c.in_ok-tables.ensures.says;
   room = c.in_ok-tables.ensures.room
       ∙ sym (ap (λ (s : State). length s.plan.processes) c.in_ok-tables.ensures.state);
+  drives = ap (λ (s : State). length s.store.pages.disks) c.in_ok-tables.ensures.state
+      ∙ (length-map _ g.D.Drive.pages
+      ∙ (ap (λ (v : Vols g.row.D.Denot). length v.drives) (c.in_ok-volumes.ensures
+      ∙ ap (λ (ls : List VolumeLine). made_of g.D.Drive.pages (parts_of ls c.args.drives.items)) c.volumes.ensures)
+      ∙ (ap length (drives_are g.D.Drive.pages c.args.script.volumes c.args.drives.items
+      (as_many g.D.Drive.pages c.args.script.volumes c.args.drives.items c.requires))
+      ∙ (as_many g.D.Drive.pages c.args.script.volumes c.args.drives.items c.requires
+      ∙ sym (ap (λ (s : State). length s.plan.volumes) c.in_ok-tables.ensures.state)))));
   visits = visited_first _ c.args.script.processors
       (ap (λ (s : State). s.processors) c.in_ok-tables.ensures.state)
       (ap (λ (s : State). s.visited) c.in_ok-tables.ensures.state);

@@ -1,9 +1,32 @@
+use Rattle.std.proofs.Common.{◌∙◌, ap, map, subst}
+use Rattle.std.specs.Prelude.{All}
+use Rattle.std.proofs.lemmas.List.Elements.{All-map}
+use Rattle.volumes.specs.FullPages.{HaveFullPages}
+use Rattle.volumes.specs.Volumes.{Vols}
+use Rattle.page_control.specs.Plain.{Paging}
+use Rattle.seg_control.specs.Control.{Control}
+use Rattle.machine_model.specs.State.{Storage}
+use Rattle.machine.proofs.LossTold.{told_back}
 use Rattle.machine.proofs.NoZeros.{has_no_zeros}
 use Rattle.machine.proofs.VisitCalls.{all_visited}
 use Rattle.machine.proofs.machine.Machine.has_frames.Goals as goal
 
-pub returns-clause-zeros : goal.returns-clause-zeros
-returns-clause-zeros g c = rw (← c.self.view_is) (λ past. has_no_zeros c.self.inside.tables.state
+pub returns-clause-told : goal.returns-clause-told
+returns-clause-told g c = rw (← c.self.view_is) (λ past. told_back c.self.inside.tables.state
     c.self.invariant.keeps.machine.keeps (all_visited c.self.inside.tables.state c.self.invariant.visits
+    (let visited = c.visited.ensures in let frames = c.frames.ensures in let script = c.script.ensures in
+    let book = c.book.ensures.script in cc)))
+
+pub returns-clause-zeros : goal.returns-clause-zeros
+returns-clause-zeros g c =
+    let pages = c.pages-pages.ensures.pages ∙ ap (λ (x : Control g.row.D.Denot). x.pages) c.segs.ensures.segs in
+    let drives = ap (λ (x : Vols g.row.D.Denot). map g.D.Drive.pages x.drives)
+    (c.volumes.ensures.volumes ∙ ap (λ (x : Paging g.row.D.Denot). x.volumes) pages) in
+    rw (← c.self.view_is) (λ past. has_no_zeros c.self.inside.tables.state c.self.invariant.keeps.machine.keeps
+    (subst HaveFullPages (ap (λ (x : Paging g.row.D.Denot). x.frames) pages
+    ∙ ap (λ (st : Storage). st.pages.frames) c.store.ensures.store) c.frames-frames.ensures.full)
+    (subst (All HaveFullPages) (drives ∙ ap (λ (st : Storage). st.pages.disks) c.store.ensures.store)
+    (All-map HaveFullPages g.D.Drive.pages _ c.count-count.ensures.full))
+    (all_visited c.self.inside.tables.state c.self.invariant.visits
     (let visited = c.visited.ensures in let frames = c.frames.ensures in let script = c.script.ensures in
     let book = c.book.ensures.script in cc)))

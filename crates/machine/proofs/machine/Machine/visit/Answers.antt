@@ -1,5 +1,6 @@
 use Rattle.std.proofs.Common.{◌≤◌, arith}
 use Rattle.machine.proofs.DriveCounts.{call_counts}
+use Rattle.machine.proofs.LossTold.{visited_tells}
 use Rattle.machine.proofs.VisitCalls.{frames_planned, over_owner, visit_done, visit_here, visit_sound, visit_within}
 use Rattle.machine.proofs.machine.Machine.visit.Goals as goal
 
@@ -20,13 +21,23 @@ pub visit-visited-requires-clause-room : goal.visit-visited-requires-clause-room
 visit-visited-requires-clause-room g c =
     let room : 320 ≤ c.self.inside.tables.state.spare = rw c.self.view_is c.requires.room in omega (arith, room)
 
-pub returns : goal.returns
-returns g c = rw (← c.self.view_is) (visit_done _ c.self.invariant (rw c.self.view_is c.requires.over)
+pub returns-clause-done : goal.returns-clause-done
+returns-clause-done g c = rw (← c.self.view_is) (visit_done _ c.self.invariant (rw c.self.view_is c.requires.over)
     c.visit-visited.result c.visit-visited.new.self (rw c.self.view_is c.requires.more) c.visit-visited.ensures.state
     c.visit-visited.ensures.shown c.visit-visited.ensures.zeros
     (call_counts _ _ _ _ _ _ c.visit-visited.result _ _ c.visit-visited.ensures.drives c.look-before.ensures.faults
     c.look-tables.ensures.faults)
     g.D.Drive.plan g.D.Drive.places g.D.Drive.faults _ c.visit-visited.ensures.drives c.visit-visited.ensures.room)
+
+pub returns-clause-faults : goal.returns-clause-faults
+returns-clause-faults g c = rw (← c.self.view_is) (visited_tells g.D.Drive.plan g.D.Drive.places g.D.Drive.faults _ _
+    (visit_done _ c.self.invariant (rw c.self.view_is c.requires.over)
+    c.visit-visited.result c.visit-visited.new.self (rw c.self.view_is c.requires.more) c.visit-visited.ensures.state
+    c.visit-visited.ensures.shown c.visit-visited.ensures.zeros
+    (call_counts _ _ _ _ _ _ c.visit-visited.result _ _ c.visit-visited.ensures.drives c.look-before.ensures.faults
+    c.look-tables.ensures.faults)
+    g.D.Drive.plan g.D.Drive.places g.D.Drive.faults _ c.visit-visited.ensures.drives c.visit-visited.ensures.room)
+    c.look-before.ensures.faults c.look-tables.ensures.faults)
 
 pub invariant_of-self : goal.invariant_of-self
 invariant_of-self g c = visit_sound _ c.self.invariant (rw c.self.view_is c.requires.over) c.visit-visited.result

@@ -1,5 +1,7 @@
-use Rattle.std.proofs.Common.{◌∙◌, ap, map, sym}
+use Rattle.std.proofs.Common.{◌∙◌, ap, length, map, sym}
+use Rattle.std.proofs.lemmas.List.{length-map}
 use Rattle.machine_model.specs.State.{Storage}
+use Rattle.machine.proofs.AccountLaws.{entries_taken, records_taken}
 use Rattle.machine.proofs.DiskLaws.{on_volumes}
 use Rattle.machine.proofs.SizeLaws.{drive_size}
 use Rattle.machine.proofs.machine.Machine.volumes.Goals as goal
@@ -17,3 +19,16 @@ returns-clause-on_disk g c = rw (← c.self.view_is) (on_volumes c.self.inside.t
     (ap (map g.D.Drive.pages) (c.volumes-volumes.ensures.drives ∙ sym c.store-store.ensures.drives)
     ∙ ap (λ (st : Storage). st.pages.disks) c.store-store.ensures.store)
     c.volumes-volumes.ensures.records c.volumes-volumes.ensures.vtocs)
+
+pub returns-clause-count : goal.returns-clause-count
+returns-clause-count g c = rw (← c.self.view_is) (sym (length-map _ g.D.Drive.pages)
+    ∙ (ap length (ap (map g.D.Drive.pages) (c.volumes-volumes.ensures.drives ∙ sym c.store-store.ensures.drives)
+    ∙ ap (λ (st : Storage). st.pages.disks) c.store-store.ensures.store) ∙ c.self.invariant.drives))
+
+pub returns-clause-taken : goal.returns-clause-taken
+returns-clause-taken g c = rw (← c.self.view_is) (records_taken c.self.inside.tables.state
+    c.self.invariant.keeps.machine.keeps _ c.volumes-volumes.ensures.records)
+
+pub returns-clause-entries : goal.returns-clause-entries
+returns-clause-entries g c = rw (← c.self.view_is) (entries_taken c.self.inside.tables.state
+    c.self.invariant.keeps.machine.keeps _ c.volumes-volumes.ensures.vtocs)

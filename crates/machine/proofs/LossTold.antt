@@ -1,0 +1,154 @@
+-- What the shutdown tells of drives that fail: at a visit one failure at the most, of no process; and at the end one
+-- for each page that is still in a frame.
+use Rattle.std.proofs.Common.{◌≡◌, ◌<◌, ◌≤◌, ℕ, ◌+◌, ◌++◌, ◌∷◌, [], Bool, true, false, cond, List, Option, Some, None}
+use Rattle.std.proofs.Common.{inl, inr, refl, sym, ap, subst, ◌∙◌, arith}
+use Rattle.std.specs.Prelude.{◌⊎◌, count_by, sum_by}
+use Rattle.std.specs.List.{list_all}
+use Rattle.std.proofs.lemmas.Bool.{and_parts}
+use Rattle.book.specs.declared.entries.Entry.{Entry}
+use Rattle.book.specs.declared.entries.Entry.TheVariants as entry
+use Rattle.core_map.specs.CoreMap.{bound_page}
+use Rattle.page_control.specs.declared.Left.{Left}
+use Rattle.page_control.specs.declared.Left.TheVariants as left
+use Rattle.page_control.specs.Plain.{frame_in, words_in}
+use Rattle.page_table.specs.declared.Ptw.{Ptw}
+use Rattle.custody_model.specs.Custody.{Custody, bound_page as page_held}
+use Rattle.machine_model.specs.After.{Outcome}
+use Rattle.machine_model.specs.Holding.{seen}
+use Rattle.machine_model.specs.Jobs.{entries_left, left_of, page_back, page_gone, page_in}
+use Rattle.machine_model.specs.Keeps.{Keeps, is_fault}
+use Rattle.machine_model.specs.Seen.{frame_use}
+use Rattle.machine_model.specs.Shutdown.{after_visit, page_taken, visited_if}
+use Rattle.machine_model.specs.State.{State}
+use Rattle.machine_model.specs.Steps.{fault_told, with_faults}
+use Rattle.machine_model.specs.Visits.{TellsBack, WasVisited}
+use Rattle.machine_model.proofs.FlatAlike.{append_assoc, append_nil}
+use Rattle.machine_model.proofs.TakeSeen.{binding_is}
+use Rattle.machine_model.proofs.TieLaws.{none_some}
+use Rattle.machine_tables.specs.Parts.{Parts}
+use Rattle.machine.specs.Shut.{AllVisited, AreToldBack, HasVisited, TellsLoss}
+use Rattle.machine.proofs.VisitNext.{bound_there}
+
+-- ---- the entries of a visit
+
+-- an entry tells no failure of a process
+abbrev of_none : Entry → Bool
+of_none (entry.Fault (Some k)) = false
+of_none _ = true
+
+fault_of_none : (k : Option ℕ) → of_none (entry.Fault k) ≡ true → k ≡ None
+fault_of_none None h = refl
+fault_of_none (Some k) h = absurd (let no : false ≡ true = h in cc)
+
+none_at : (xs ys : List Entry) (k : Option ℕ) → list_all of_none (xs ++ entry.Fault k ∷ ys) ≡ true → k ≡ None
+none_at [] ys k h = fault_of_none k (and_parts (of_none (entry.Fault k)) (list_all of_none ys) h).0
+none_at (x ∷ xs) ys k h = none_at xs ys k
+    (and_parts (of_none x) (list_all of_none (xs ++ entry.Fault k ∷ ys)) h).1
+
+-- what is added tells no failure, or one where the drive failed; none is of a process
+record Tells (s now : State) (failed : Bool) : Type 0 where
+  pub more : List Entry
+  pub entries : now.entries ≡ s.entries ++ more
+  pub told : (count_by is_fault more ≡ 0) ⊎ ((count_by is_fault more ≡ 1) × (failed ≡ true))
+  pub quiet : list_all of_none more ≡ true
+
+few_by : (n : ℕ) (failed : Bool) → (n ≡ 0) ⊎ ((n ≡ 1) × (failed ≡ true)) → n ≤ 1
+few_by n failed (inl none) = omega (arith, none)
+few_by n failed (inr one) = let is = one.0 in omega (arith, is)
+
+only_by : (n : ℕ) (failed : Bool) → (n ≡ 0) ⊎ ((n ≡ 1) × (failed ≡ true)) → 1 ≤ n → failed ≡ true
+only_by n failed (inl none) some = absurd (omega (arith, none, some))
+only_by n failed (inr one) some = one.1
+
+module _ (s : State) (o : Outcome) where
+  abbrev f : ℕ
+  f = s.visited
+
+  abbrev out : State
+  out = page_taken s f
+
+  gone : (how : Left) (page : ℕ × ℕ) (now : State)
+      → now.entries ≡ (s.entries ++ entry.Take f ∷ []) ++ entries_left f how page → Tells s now false
+  gone left.Released page now e = record {
+    more = entry.Take f ∷ entry.GonePage f ∷ entry.Release page.0 page.1 ∷ [];
+    entries = e ∙ append_assoc s.entries (entry.Take f ∷ []) (entries_left f left.Released page);
+    told = inl refl;
+    quiet = refl;
+  }
+  gone left.Kept page now e = record {
+    more = entry.Take f ∷ entry.GonePage f ∷ [];
+    entries = e ∙ append_assoc s.entries (entry.Take f ∷ []) (entries_left f left.Kept page);
+    told = inl refl;
+    quiet = refl;
+  }
+
+  ended : (b : Bool) → Tells s (cond b (page_back (fault_told out None o.faults) f)
+      (page_gone (with_faults out o.faults) f)) b
+  ended true = record {
+    more = entry.Take f ∷ entry.Fault None ∷ entry.BackPage f ∷ [];
+    entries = append_assoc (s.entries ++ entry.Take f ∷ []) (entry.Fault None ∷ []) (entry.BackPage f ∷ [])
+        ∙ append_assoc s.entries (entry.Take f ∷ []) (entry.Fault None ∷ entry.BackPage f ∷ []);
+    told = inr (refl, refl);
+    quiet = refl;
+  }
+  ended false = gone (left_of (words_in out.store.pages f)) (page_in out.store f)
+      (page_gone (with_faults out o.faults) f) refl
+
+  visit_tells : Tells s (after_visit s o) o.failed
+  visit_tells = by (bound_page (frame_in s.store.pages f))
+    where
+      by : (x : Option (ℕ × ℕ)) → Tells s (record (visited_if s f o x) { visited = f + 1 }) o.failed
+      by None = record { more = []; entries = sym (append_nil s.entries); told = inl refl; quiet = refl }
+      by (Some page) = let now = ended o.failed in
+          record { more = now.more; entries = now.entries; told = now.told; quiet = now.quiet }
+
+module _ {D X : Type 0} (plan : D → X) (places faults : D → ℕ) (old new : Parts D) where
+  -- What a visit tells of the drives.
+  pub visited_tells : HasVisited plan places old new → old.state.faults ≡ sum_by faults old.drives
+      → new.state.faults ≡ sum_by faults new.drives → TellsLoss faults old new
+  visited_tells h before now = record {
+    more = told.more;
+    entries = ap (λ (v : State). v.entries) h.done ∙ told.entries;
+    few = few_by (count_by is_fault told.more) h.outcome.failed told.told;
+    only = λ some. (let rose = h.rose (only_by (count_by is_fault told.more) h.outcome.failed told.told some) in
+        omega (arith, rose, before, now));
+    of_none = λ xs ys k e. none_at xs ys k (sym (ap (λ (es : List Entry). list_all of_none es) e) ∙ told.quiet);
+  }
+    where
+      told : Tells old.state (after_visit old.state h.outcome) h.outcome.failed
+      told = visit_tells old.state h.outcome
+
+-- where nothing is done nothing is told
+pub still_tells : {D : Type 0} (faults : D → ℕ) (t : Parts D) → TellsLoss faults t t
+still_tells faults t = record {
+  more = [];
+  entries = sym (append_nil t.state.entries);
+  few = few_by 0 false (inl refl);
+  only = λ some. absurd (let no : false ≡ true = only_by 0 false (inl refl) some in cc);
+  of_none = λ xs ys k e. none_at xs ys k (sym (ap (λ (es : List Entry). list_all of_none es) e));
+}
+
+-- ---- the pages that are still in frames
+
+-- a frame that is shown with a page in it is bound
+shown_bound : (words : ℕ → ℕ → Ptw) (x read : Option (ℕ × ℕ)) (page : ℕ × ℕ)
+    → page_held (frame_use words x read) ≡ Some page → (p : ℕ × ℕ) × (x ≡ Some p)
+shown_bound words (Some p) read page h = (p, refl)
+shown_bound words None None page h = absurd (none_some h)
+shown_bound words None (Some p) page h = absurd (none_some h)
+
+-- Once every frame was visited the book tells why a page is still in its frame.
+pub told_back : (s : State) → Keeps s → AllVisited s → AreToldBack s.plan s.entries
+told_back s keeps each f page h = by (each f inside)
+  where
+    bound : (p : ℕ × ℕ) × (bound_page (frame_in s.store.pages f) ≡ Some p)
+    bound = let one = shown_bound (seen s).words ((seen s).bound f) ((seen s).reads f) page
+        (ap (λ (c : Custody). page_held (c.frame f)) keeps.book.held ∙ h) in
+        (one.0, sym (binding_is s f) ∙ one.1)
+
+    inside : f < s.plan.frames
+    inside = subst (λ (n : ℕ). f < n) keeps.sizes.frames (bound_there s.store.pages f bound.0 bound.1)
+
+    by : WasVisited s.store.pages s.entries f → TellsBack s.entries f
+    by (inl none) = absurd (none_some (sym none ∙ bound.1))
+    by (inr stayed) = stayed.told

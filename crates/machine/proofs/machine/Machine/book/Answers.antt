@@ -1,0 +1,15 @@
+use Rattle.std.proofs.Common.{◌<◌, ◌^◌, ◌∙◌, List, ap, arith, length, rules}
+use Rattle.book.specs.declared.entries.Entry.{Entry}
+use Rattle.machine.proofs.AccountLaws.{few_told}
+use Rattle.machine.proofs.machine.Machine.book.Goals as goal
+
+pub returns-clause-conserved : goal.returns-clause-conserved
+returns-clause-conserved g c = rw (c.book-book.ensures.script, c.book-book.ensures.entries)
+    c.self.invariant.keeps.machine.keeps.conserved
+
+pub returns-clause-faults : goal.returns-clause-faults
+returns-clause-faults g c =
+    let short : length c.entries-entries.result.now < 2 ^ 63 = search rules in
+    let same = ap (λ (es : List Entry). length es) (c.entries-entries.ensures ∙ c.book-book.ensures.entries) in
+    rw (c.book-book.ensures.entries, ← c.self.view_is) (few_told c.self.inside.tables.state
+    c.self.invariant.keeps.machine.keeps _ (omega (arith, short, same)) c.look-tables.ensures.faults)
