@@ -22,7 +22,7 @@ fn words(rt: &(impl Env + AllocGlobal), alloc: Global) -> io::Result<Words> {
 fn number_of(status: Status) -> u8 {
     match status {
         Status::Done => 0,
-        Status::Script(_) | Status::TooLong | Status::Later => 1,
+        Status::Script(_) | Status::TooLong => 1,
         Status::Usage => 2,
         Status::ReadFault => 3,
         Status::WriteFault => 4,

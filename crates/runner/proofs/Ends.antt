@@ -1,17 +1,14 @@
 -- How each way out of a call ends. (own)
-use Rattle.std.proofs.Common.{◌≡◌, ℕ, ◌+◌, ◌≤◌, false, List, [], length, Option, Some, None, Ok, IfSome, refl, sym, ap}
+use Rattle.std.proofs.Common.{◌≡◌, ℕ, ◌+◌, List, [], Option, Some, None, IfSome, refl, sym, ap}
 use Rattle.std.proofs.Common.{subst, arith}
 use Rattle.std.specs.Io.KnownBytes.{Appends, Keeps}
 use Rattle.std.proofs.KnownBytes.{Keeps-refl, Consumes-nil}
 use Rattle.site_io.specs.Streams.{AppendsFront, ConsumesFront}
-use Rattle.script.specs.Grammar.{script_of}
-use Rattle.script.specs.Plans.{Plan}
-use Rattle.book.specs.Books.{Ledger}
-use Rattle.listing.specs.Listings.{listing_of}
 use Rattle.make_work.specs.Day.{made}
 use Rattle.drill.specs.Texts.{drill_text}
-use Rattle.runner.specs.Endings.{Change, Ends, EndsSo, Failed, IsRun, Printed, PrintsRun, Writes, limit_of, whole, cut}
-use Rattle.runner.specs.Runs.{IsLater, script_runs, usage_text}
+use Rattle.runner.specs.Endings.{MayHaveRun, Change, Ends, EndsSo, Failed, Printed, Runs, Writes, limit_of, whole, cut}
+use Rattle.runner.specs.Runs.{Machine}
+use Rattle.runner.specs.Texts.{usage_text}
 use Rattle.runner.specs.declared.finished.Finished.{Finished}
 use Rattle.runner.specs.declared.finished.Status.{Status}
 use Rattle.runner.specs.declared.finished.Status.TheVariants as status
@@ -33,13 +30,15 @@ reads_nothing a most = ([], omega arith, Consumes-nil a)
 pub writes_nothing : (a : Option (List ℕ)) → Keeps a a
 writes_nothing a = Keeps-refl a
 
--- a call ended so, without a book
-pub ends_without : (asked : Option Form) (src out : Change) (f : Finished) (s : Status) → f.status ≡ s → f.book ≡ None
+-- a call ended so, without a machine
+pub ends_without : (asked : Option Form) (src out : Change) (f : Finished) (s : Status) → f.status ≡ s → f.machine ≡ None
     → EndsSo s asked src out None → ConsumesFront src.before src.after (limit_of asked + 1) → Ends asked src out f
 ends_without asked src out f s is without so reads = record {
-  so = subst (λ (x : Status). EndsSo x asked src out f.book) (sym is)
-      (subst (λ (b : Option Ledger). EndsSo s asked src out b) (sym without) so);
-  run = subst (λ (b : Option Ledger). IfSome b (λ k. IsRun src k f.volumes)) (sym without) tt;
+  so = subst (λ (x : Status). EndsSo x asked src out f.machine) (sym is)
+      (subst (λ (b : Option Machine). EndsSo s asked src out b) (sym without) so);
+  run = subst (λ (m : Option Machine). IfSome m (Runs src)) (sym without) tt;
+  booted = subst (λ (m : Option Machine). IfSome m (λ _. MayHaveRun f.status)) (sym without) tt;
+  only = λ _. without;
   reads = reads;
 }
 
@@ -48,16 +47,6 @@ pub of_told : (left : Option (List ℕ)) (bytes : List ℕ) (P : List ℕ → Ty
     → P bytes → IfSome left P
 of_told None bytes P h p = tt
 of_told (Some all) bytes P h p = subst P h p
-
-later_is : (bytes : List ℕ) (p : Plan) → script_of bytes ≡ Ok p → script_runs p ≡ false → IsLater (script_of bytes)
-later_is bytes p e h = subst IsLater (sym e) h
-
-pub told_later : (left : Option (List ℕ)) (bytes : List ℕ) (p : Plan) → IfSome left (λ all. bytes ≡ all)
-    → length bytes ≤ 4194304 → script_of bytes ≡ Ok p
-    → script_runs p ≡ false
-    → IfSome left (λ all. (length all ≤ 4194304) × IsLater (script_of all))
-told_later left bytes p told few e h = of_told left bytes (λ all. (length all ≤ 4194304) × IsLater (script_of all))
-    told (few, later_is bytes p e h)
 
 -- the script of a day was printed
 made_so : (s : Status) (n : ℕ) (src out : Change) → Printed s out (made n) → EndsSo s (Some (form.Make n)) src out None
@@ -68,10 +57,9 @@ made_so (status.Script r) n src out h = absurd h
 made_so status.TooLong n src out h = absurd h
 made_so status.Usage n src out h = absurd h
 made_so status.ReadFault n src out h = absurd h
-made_so status.Later n src out h = absurd h
 made_so (status.Refused o) n src out h = absurd h
 
-pub ends_made : (src out : Change) (f : Finished) (n : ℕ) → Printed f.status out (made n) → f.book ≡ None
+pub ends_made : (src out : Change) (f : Finished) (n : ℕ) → Printed f.status out (made n) → f.machine ≡ None
     → ConsumesFront src.before src.after 4194305
     → Ends (Some (form.Make n)) src out f
 ends_made src out f n h without reads = ends_without (Some (form.Make n)) src out f f.status refl without
@@ -87,31 +75,14 @@ drilled_so (status.Script r) p f n seed src out h = absurd h
 drilled_so status.TooLong p f n seed src out h = absurd h
 drilled_so status.Usage p f n seed src out h = absurd h
 drilled_so status.ReadFault p f n seed src out h = absurd h
-drilled_so status.Later p f n seed src out h = absurd h
 drilled_so (status.Refused o) p f n seed src out h = absurd h
 
 pub ends_drilled : (src out : Change) (f : Finished) (p frames n seed : ℕ)
-    → Printed f.status out (drill_text p frames n seed) → f.book ≡ None
+    → Printed f.status out (drill_text p frames n seed) → f.machine ≡ None
     → ConsumesFront src.before src.after 4194305 → Ends (Some (form.Drill p frames n seed)) src out f
 ends_drilled src out f p frames n seed h without reads =
     ends_without (Some (form.Drill p frames n seed)) src out f f.status refl without
     (drilled_so f.status p frames n seed src out h) reads
-
-printed_run : (s : Status) (b : Ledger) (out : Change) → Printed s out (listing_of b.script b.entries)
-    → PrintsRun s (Some b) out
-printed_run status.Memory b out h = h
-printed_run status.Done b out h = h
-printed_run status.WriteFault b out h = h
-printed_run (status.Script r) b out h = h
-printed_run status.TooLong b out h = h
-printed_run status.Usage b out h = h
-printed_run status.ReadFault b out h = h
-printed_run status.Later b out h = h
-printed_run (status.Refused o) b out h = h
-
-pub prints_run : (s : Status) (b : Ledger) (out : Change) (text : List ℕ) → Printed s out text → text
-    ≡ listing_of b.script b.entries → PrintsRun s (Some b) out
-prints_run s b out text h e = printed_run s b out (subst (Printed s out) e h)
 
 -- ---- what was asked for
 
@@ -120,7 +91,7 @@ pub asks : (asked is : Option Form) (src out : Change) (f : Finished) → asked 
 asks asked is src out f e h = subst (λ (x : Option Form). Ends x src out f) (sym e) h
 
 pub asked_none : (asked : Option Form) (src out : Change) (f : Finished) → asked ≡ None → f.status ≡ status.Usage
-    → f.book ≡ None → Writes out usage_text
+    → f.machine ≡ None → Writes out usage_text
     → ConsumesFront src.before src.after 4194305 → Ends asked src out f
 asked_none asked src out f e s b text reads = asks asked None src out f e
     (ends_without None src out f status.Usage s b (refl, text) reads)

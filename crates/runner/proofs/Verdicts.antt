@@ -1,22 +1,20 @@
 -- What an ending says of its cause. (own)
-use Rattle.std.proofs.Common.{◌≡◌, ℕ, ◌<◌, ◌≤◌, ◌⊎◌, inl, inr, true, false, List, length, Option, Some, None, Result}
+use Rattle.std.proofs.Common.{◌≡◌, ℕ, ◌<◌, ◌≤◌, ◌⊎◌, inl, inr, List, length, Option, Some, None, Result}
 use Rattle.std.proofs.Common.{Ok, Err, IfSome, refl, sym, ap, subst, ◌∙◌, arith}
 use Rattle.std.specs.Prelude.{IsSomeAnd}
+use Rattle.std.specs.Io.KnownBytes.{Appends}
 use Rattle.site_io.specs.Streams.{AppendsFront}
-use Rattle.volumes.specs.CoreDrive.{DriveState}
-use Rattle.volumes.specs.Volumes.{Vols}
 use Rattle.script.specs.Grammar.{script_of}
 use Rattle.script.specs.Plans.{Plan}
 use Rattle.script.specs.declared.refusals.Refusal.{Refusal}
-use Rattle.book.specs.Books.{Ledger}
 use Rattle.listing.specs.Listings.{listing_of}
 use Rattle.book_check.specs.Closing.{IsTheVerdict}
 use Rattle.book_check.specs.Verdicts.{IsVerdict}
 use Rattle.book_check.specs.declared.offences.CheckFault.{CheckFault}
 use Rattle.book_check.specs.declared.offences.CheckFault.TheVariants as fault
-use Rattle.runner.specs.Endings.{Change, Ends, EndsSo, Failed, IsJudgedSo, IsRun, IsStatusOf, Prints, WritesAll}
+use Rattle.runner.specs.Endings.{Change, Ends, EndsSo, Failed, HasPrinted, IsJudgedSo, IsStatusOf, Prints, Runs, WritesAll}
 use Rattle.runner.specs.Endings.{WritesFront}
-use Rattle.runner.specs.Runs.{IsLater, script_runs}
+use Rattle.runner.specs.Runs.{IsShutDown, Machine}
 use Rattle.runner.specs.declared.finished.Finished.{Finished}
 use Rattle.runner.specs.declared.finished.Status.{Status}
 use Rattle.runner.specs.declared.finished.Status.TheVariants as status
@@ -25,106 +23,118 @@ use Rattle.runner.specs.declared.words.Form.TheVariants as form
 
 -- an ending of this status
 pub ended : (asked : Option Form) (src out : Change) (f : Finished) (s : Status) → Ends asked src out f → f.status ≡ s
-    → EndsSo s asked src out f.book
-ended asked src out f s h e = subst (λ (x : Status). EndsSo x asked src out f.book) e h.so
+    → EndsSo s asked src out f.machine
+ended asked src out f s h e = subst (λ (x : Status). EndsSo x asked src out f.machine) e h.so
 
 -- words that are no form have no other ending
-only_usage : (s : Status) (src out : Change) (book : Option Ledger) → EndsSo s None src out book → s ≡ status.Usage
-only_usage status.Usage src out book h = refl
-only_usage status.ReadFault src out book h = absurd h.0
-only_usage status.TooLong src out book h = absurd h.0
-only_usage (status.Script r) src out book h = absurd h.0
-only_usage (status.Refused o) src out book h = absurd cc
-only_usage status.Later src out book h = absurd cc
-only_usage status.Done src out book h = absurd h
-only_usage status.WriteFault src out book h = absurd h
-only_usage status.Memory src out book h = absurd cc
+only_usage : (s : Status) (src out : Change) (machine : Option Machine) → EndsSo s None src out machine → s ≡ status.Usage
+only_usage status.Usage src out machine h = refl
+only_usage status.ReadFault src out machine h = absurd h.0
+only_usage status.TooLong src out machine h = absurd h.0
+only_usage (status.Script r) src out machine h = absurd h.0
+only_usage (status.Refused o) src out machine h = absurd cc
+only_usage status.Done src out machine h = absurd h
+only_usage status.WriteFault src out machine h = absurd h
+only_usage status.Memory src out machine h = absurd cc
 
 pub usage_there : (asked : Option Form) (src out : Change) (f : Finished) → Ends asked src out f → asked ≡ None
     → f.status ≡ status.Usage
-usage_there asked src out f h e = only_usage f.status src out f.book
-    (subst (λ (x : Option Form). EndsSo f.status x src out f.book) e h.so)
+usage_there asked src out f h e = only_usage f.status src out f.machine
+    (subst (λ (x : Option Form). EndsSo f.status x src out f.machine) e h.so)
 
--- of a refusal or a script that is later, the bytes alone
+-- of a refusal the bytes alone
 pub fact_only : (left : Option (List ℕ)) (P Q : List ℕ → Type 0) → IfSome left (λ all. P all × Q all) → IfSome left Q
 fact_only None P Q h = tt
 fact_only (Some all) P Q h = h.1
 
--- of a book that is there
-pub of_run : (src : Change) (f : Finished) (P : Ledger → Type 0) → ((b : Ledger) → IsRun src b f.volumes → P b)
-    → IfSome f.book (λ b. IsRun src b f.volumes)
-    → IfSome f.book P
-of_run src f P get h = each f.book h
-  where
-    each : (book : Option Ledger) → IfSome book (λ b. IsRun src b f.volumes) → IfSome book P
-    each None h = tt
-    each (Some b) h = get b h
+-- of a machine that is there
+pub of_run : (src : Change) (machine : Option Machine) (P : Machine → Type 0) → ((m : Machine) → Runs src m → P m)
+    → IfSome machine (Runs src) → IfSome machine P
+of_run src None P get h = tt
+of_run src (Some m) P get h = get m h
 
--- a front that was written of a listing
-pub front_only : (book : Option Ledger) (out : Change)
-    → IsSomeAnd book (λ b. WritesFront out (listing_of b.script b.entries))
-    → IsSomeAnd book (λ b. AppendsFront out.before out.after (listing_of b.script b.entries))
+-- of a listing that was written, or a front of it, the machine alone, or what was written of its listing
+shut : (machine : Option Machine) (P : List ℕ → Type 0) (Q : Machine → Type 0) → ((m : Machine) → IsShutDown m → Q m)
+    → IsSomeAnd machine (λ m. IsShutDown m × P (listing_of m.state.plan m.state.entries)) → IsSomeAnd machine Q
+shut None P Q get h = h
+shut (Some m) P Q get h = get m h.0
+
+pub shut_down : (src out : Change) (f : Finished) (asked : Option Form) (Q : Machine → Type 0)
+    → ((m : Machine) → IsShutDown m → Q m) → Ends asked src out f → asked ≡ Some form.Run → HasPrinted f.status
+    → IsSomeAnd f.machine Q
+shut_down src out f asked Q get h run printed = each f.status printed
+    (subst (λ (x : Option Form). EndsSo f.status x src out f.machine) run h.so)
+  where
+    each : (s : Status) → HasPrinted s → EndsSo s (Some form.Run) src out f.machine → IsSomeAnd f.machine Q
+    each status.Done p so = shut f.machine (WritesAll out) Q get so
+    each status.WriteFault p so = shut f.machine (WritesFront out) Q get so
+    each (status.Script r) p so = absurd p
+    each status.TooLong p so = absurd p
+    each status.Usage p so = absurd p
+    each status.ReadFault p so = absurd p
+    each status.Memory p so = absurd p
+    each (status.Refused o) p so = absurd p
+
+pub whole_only : (machine : Option Machine) (before after : Option (List ℕ))
+    → IsSomeAnd machine (λ m. IsShutDown m × Appends before after (listing_of m.state.plan m.state.entries))
+    → IsSomeAnd machine (λ m. Appends before after (listing_of m.state.plan m.state.entries))
+whole_only None before after h = h
+whole_only (Some m) before after h = h.1
+
+pub front_only : (machine : Option Machine) (out : Change)
+    → IsSomeAnd machine (λ m. IsShutDown m × WritesFront out (listing_of m.state.plan m.state.entries))
+    → IsSomeAnd machine (λ m. AppendsFront out.before out.after (listing_of m.state.plan m.state.entries))
 front_only None out h = h
-front_only (Some b) out h = h.front
+front_only (Some m) out h = h.1.front
 
 -- a write failed
-pub write_failed : (asked : Option Form) (src : Change) (book : Option Ledger) (out : Change)
-    → Prints asked src book (WritesFront out) → Failed out
-write_failed (Some form.Run) src (Some b) out h = h.fault
+pub write_failed : (asked : Option Form) (src : Change) (machine : Option Machine) (out : Change)
+    → Prints asked src machine (WritesFront out) → Failed out
+write_failed (Some form.Run) src (Some m) out h = h.1.fault
 write_failed (Some form.Run) src None out h = absurd h
-write_failed (Some form.Check) src book out h = h.2.fault
-write_failed (Some (form.Make n)) src book out h = h.fault
-write_failed (Some (form.Drill p f n seed)) src book out h = h.fault
-write_failed None src book out h = absurd h
+write_failed (Some form.Check) src machine out h = h.2.fault
+write_failed (Some (form.Make n)) src machine out h = h.fault
+write_failed (Some (form.Drill p f n seed)) src machine out h = h.fault
+write_failed None src machine out h = absurd h
 
 -- what a run's ending says of the bytes
 pub data Verdict (s : Status) (bytes : List ℕ) (out : Change) : Type 0 where
   memory : s ≡ status.Memory → Verdict s bytes out
   long : s ≡ status.TooLong → 4194304 < length bytes → Verdict s bytes out
   refused : (r : Refusal) → s ≡ status.Script r → length bytes ≤ 4194304 → script_of bytes ≡ Err r → Verdict s bytes out
-  late : s ≡ status.Later → length bytes ≤ 4194304 → IsLater (script_of bytes) → Verdict s bytes out
-  printed : (p : Plan) → s ≡ status.Done → length bytes ≤ 4194304 → script_of bytes ≡ Ok p → script_runs p ≡ true
-      → Verdict s bytes out
-  broken : (p : Plan) → Failed out → length bytes ≤ 4194304 → script_of bytes ≡ Ok p → script_runs p ≡ true
-      → Verdict s bytes out
+  printed : (p : Plan) → s ≡ status.Done → length bytes ≤ 4194304 → script_of bytes ≡ Ok p → Verdict s bytes out
+  broken : (p : Plan) → Failed out → length bytes ≤ 4194304 → script_of bytes ≡ Ok p → Verdict s bytes out
 
-done_verdict : (book : Option Ledger) (bytes : List ℕ) (src out : Change) (volumes : Option (Vols DriveState))
-    → src.before ≡ Some bytes
-    → IsSomeAnd book (λ b. WritesAll out (listing_of b.script b.entries)) → IfSome book (λ b. IsRun src b volumes)
-    → Verdict status.Done bytes out
-done_verdict None bytes src out volumes told h run = absurd h
-done_verdict (Some b) bytes src out volumes told h run =
-    printed b.script refl (subst (λ (x : Option (List ℕ)). IfSome x (λ all. length all ≤ 4194304)) told run.within)
-    (subst (λ (x : Option (List ℕ)). IfSome x (λ all. script_of all ≡ Ok b.script)) told run.script) run.runs
+done_verdict : (machine : Option Machine) (bytes : List ℕ) (src out : Change) → src.before ≡ Some bytes
+    → IsSomeAnd machine (λ m. IsShutDown m × WritesAll out (listing_of m.state.plan m.state.entries))
+    → IfSome machine (Runs src) → Verdict status.Done bytes out
+done_verdict None bytes src out told h run = absurd h
+done_verdict (Some m) bytes src out told h run = printed m.state.plan refl
+    (subst (λ (x : Option (List ℕ)). IfSome x (λ all. length all ≤ 4194304)) told run.within)
+    (subst (λ (x : Option (List ℕ)). IfSome x (λ all. script_of all ≡ Ok m.state.plan)) told run.script)
 
-fault_verdict : (book : Option Ledger) (bytes : List ℕ) (src out : Change) (volumes : Option (Vols DriveState))
-    → src.before ≡ Some bytes
-    → IsSomeAnd book (λ b. WritesFront out (listing_of b.script b.entries)) → IfSome book (λ b. IsRun src b volumes)
-    → Verdict status.WriteFault bytes out
-fault_verdict None bytes src out volumes told h run = absurd h
-fault_verdict (Some b) bytes src out volumes told h run =
-    broken b.script h.fault (subst (λ (x : Option (List ℕ)). IfSome x (λ all. length all ≤ 4194304)) told run.within)
-    (subst (λ (x : Option (List ℕ)). IfSome x (λ all. script_of all ≡ Ok b.script)) told run.script) run.runs
+fault_verdict : (machine : Option Machine) (bytes : List ℕ) (src out : Change) → src.before ≡ Some bytes
+    → IsSomeAnd machine (λ m. IsShutDown m × WritesFront out (listing_of m.state.plan m.state.entries))
+    → IfSome machine (Runs src) → Verdict status.WriteFault bytes out
+fault_verdict None bytes src out told h run = absurd h
+fault_verdict (Some m) bytes src out told h run = broken m.state.plan h.1.fault
+    (subst (λ (x : Option (List ℕ)). IfSome x (λ all. length all ≤ 4194304)) told run.within)
+    (subst (λ (x : Option (List ℕ)). IfSome x (λ all. script_of all ≡ Ok m.state.plan)) told run.script)
 
-verdict_of : (s : Status) (book : Option Ledger) (bytes : List ℕ) (src out : Change)
-    (volumes : Option (Vols DriveState)) → (Failed src → ⊥)
-    → src.before ≡ Some bytes → EndsSo s (Some form.Run) src out book → IfSome book (λ b. IsRun src b volumes)
+verdict_of : (s : Status) (machine : Option Machine) (bytes : List ℕ) (src out : Change) → (Failed src → ⊥)
+    → src.before ≡ Some bytes → EndsSo s (Some form.Run) src out machine → IfSome machine (Runs src)
     → Verdict s bytes out
-verdict_of status.Usage book bytes src out volumes fine told h run = absurd cc
-verdict_of status.ReadFault book bytes src out volumes fine told h run = absurd (fine h.1)
-verdict_of status.TooLong book bytes src out volumes fine told h run =
+verdict_of status.Usage machine bytes src out fine told h run = absurd cc
+verdict_of status.ReadFault machine bytes src out fine told h run = absurd (fine h.1)
+verdict_of status.TooLong machine bytes src out fine told h run =
     long refl (subst (λ (x : Option (List ℕ)). IfSome x (λ all. 4194304 < length all)) told h.1)
-verdict_of (status.Script r) book bytes src out volumes fine told h run = let is =
+verdict_of (status.Script r) machine bytes src out fine told h run = let is =
     subst (λ (x : Option (List ℕ)). IfSome x (λ all. (length all ≤ 4194304) × (script_of all ≡ Err r))) told h.1 in
     refused r refl is.0 is.1
-verdict_of (status.Refused o) book bytes src out volumes fine told h run = absurd cc
-verdict_of status.Later book bytes src out volumes fine told h run = let is =
-    subst (λ (x : Option (List ℕ)). IfSome x (λ all. (length all ≤ 4194304) × IsLater (script_of all))) told h.1 in
-    late refl is.0 is.1
-verdict_of status.Done book bytes src out volumes fine told h run = done_verdict book bytes src out volumes told h run
-verdict_of status.WriteFault book bytes src out volumes fine told h run =
-    fault_verdict book bytes src out volumes told h run
-verdict_of status.Memory book bytes src out volumes fine told h run = memory refl
+verdict_of (status.Refused o) machine bytes src out fine told h run = absurd cc
+verdict_of status.Done machine bytes src out fine told h run = done_verdict machine bytes src out told h run
+verdict_of status.WriteFault machine bytes src out fine told h run = fault_verdict machine bytes src out told h run
+verdict_of status.Memory machine bytes src out fine told h run = memory refl
 
 -- the verdict of a call that ran a script
 pub verdict : (asked : Option Form) (src out : Change) (f : Finished) → Ends asked src out f → asked ≡ Some form.Run
@@ -134,8 +144,8 @@ verdict asked src out f h run fine = each src.before refl
   where
     each : (left : Option (List ℕ)) → src.before ≡ left → IfSome left (λ bytes. Verdict f.status bytes out)
     each None told = tt
-    each (Some bytes) told = verdict_of f.status f.book bytes src out f.volumes fine told
-        (subst (λ (x : Option Form). EndsSo f.status x src out f.book) run h.so) h.run
+    each (Some bytes) told = verdict_of f.status f.machine bytes src out fine told
+        (subst (λ (x : Option Form). EndsSo f.status x src out f.machine) run h.so) h.run
 
 -- what each verdict has is there, or there was no memory
 pub by_verdict : (left : Option (List ℕ)) (s : Status) (out : Change) (Q : List ℕ → Type 0)
@@ -149,9 +159,8 @@ pub found_long : (s : Status) (bytes : List ℕ) (out : Change) → Verdict s by
 found_long s bytes out (memory e) lt = inr e
 found_long s bytes out (long e l) lt = inl e
 found_long s bytes out (refused r e few is) lt = absurd (omega arith)
-found_long s bytes out (late e few is) lt = absurd (omega arith)
-found_long s bytes out (printed p e few is runs) lt = absurd (omega arith)
-found_long s bytes out (broken p e few is runs) lt = absurd (omega arith)
+found_long s bytes out (printed p e few is) lt = absurd (omega arith)
+found_long s bytes out (broken p e few is) lt = absurd (omega arith)
 
 pub found_refused : (s : Status) (bytes : List ℕ) (out : Change) → Verdict s bytes out → (r : Refusal)
     → length bytes ≤ 4194304 → script_of bytes ≡ Err r
@@ -159,84 +168,61 @@ pub found_refused : (s : Status) (bytes : List ℕ) (out : Change) → Verdict s
 found_refused s bytes out (memory e) r le is = inr e
 found_refused s bytes out (long e l) r le is = absurd (omega arith)
 found_refused s bytes out (refused q e few was) r le is = let same : q ≡ r = cc in inl (e ∙ ap status.Script same)
-found_refused s bytes out (late e few was) r le is = absurd (subst IsLater is was)
-found_refused s bytes out (printed p e few was runs) r le is = absurd cc
-found_refused s bytes out (broken p e few was runs) r le is = absurd cc
-
-pub found_later : (s : Status) (bytes : List ℕ) (out : Change) → Verdict s bytes out → (p : Plan)
-    → length bytes ≤ 4194304 → script_of bytes ≡ Ok p
-    → script_runs p ≡ false → (s ≡ status.Later) ⊎ (s ≡ status.Memory)
-found_later s bytes out (memory e) p le is runs = inr e
-found_later s bytes out (long e l) p le is runs = absurd (omega arith)
-found_later s bytes out (refused r e few was) p le is runs = absurd cc
-found_later s bytes out (late e few was) p le is runs = inl e
-found_later s bytes out (printed q e few was ran) p le is runs = let same : q ≡ p =
-    cc in absurd (apart (sym ran ∙ ap script_runs same ∙ runs))
-  where
-    apart : true ≡ false → ⊥
-    apart e = cc
-found_later s bytes out (broken q e few was ran) p le is runs = let same : q ≡ p =
-    cc in absurd (apart (sym ran ∙ ap script_runs same ∙ runs))
-  where
-    apart : true ≡ false → ⊥
-    apart e = cc
+found_refused s bytes out (printed p e few was) r le is = absurd cc
+found_refused s bytes out (broken p e few was) r le is = absurd cc
 
 pub found_done : (s : Status) (bytes : List ℕ) (out : Change) → Verdict s bytes out → (Failed out → ⊥) → (p : Plan)
     → length bytes ≤ 4194304
-    → script_of bytes ≡ Ok p → script_runs p ≡ true → (s ≡ status.Done) ⊎ (s ≡ status.Memory)
-found_done s bytes out (memory e) fine p le is runs = inr e
-found_done s bytes out (long e l) fine p le is runs = absurd (omega arith)
-found_done s bytes out (refused r e few was) fine p le is runs = absurd cc
-found_done s bytes out (late e few was) fine p le is runs = let no : script_runs p ≡ false =
-    subst IsLater is was in absurd cc
-found_done s bytes out (printed q e few was ran) fine p le is runs = inl e
-found_done s bytes out (broken q e few was ran) fine p le is runs = absurd (fine e)
+    → script_of bytes ≡ Ok p → (s ≡ status.Done) ⊎ (s ≡ status.Memory)
+found_done s bytes out (memory e) fine p le is = inr e
+found_done s bytes out (long e l) fine p le is = absurd (omega arith)
+found_done s bytes out (refused r e few was) fine p le is = absurd cc
+found_done s bytes out (printed q e few was) fine p le is = inl e
+found_done s bytes out (broken q e few was) fine p le is = absurd (fine e)
 
 -- a script of a day is printed, or there was no memory for it
-made_done : (s : Status) (n : ℕ) (src out : Change) (book : Option Ledger) → (Failed out → ⊥)
-    → EndsSo s (Some (form.Make n)) src out book
+made_done : (s : Status) (n : ℕ) (src out : Change) (machine : Option Machine) → (Failed out → ⊥)
+    → EndsSo s (Some (form.Make n)) src out machine
     → (s ≡ status.Done) ⊎ (s ≡ status.Memory)
-made_done status.Done n src out book fine h = inl refl
-made_done status.Memory n src out book fine h = inr refl
-made_done status.WriteFault n src out book fine h = absurd (fine h.fault)
-made_done status.Usage n src out book fine h = absurd cc
-made_done status.ReadFault n src out book fine h = absurd h.0
-made_done status.TooLong n src out book fine h = absurd h.0
-made_done (status.Script r) n src out book fine h = absurd h.0
-made_done (status.Refused o) n src out book fine h = absurd cc
-made_done status.Later n src out book fine h = absurd cc
+made_done status.Done n src out machine fine h = inl refl
+made_done status.Memory n src out machine fine h = inr refl
+made_done status.WriteFault n src out machine fine h = absurd (fine h.fault)
+made_done status.Usage n src out machine fine h = absurd cc
+made_done status.ReadFault n src out machine fine h = absurd h.0
+made_done status.TooLong n src out machine fine h = absurd h.0
+made_done (status.Script r) n src out machine fine h = absurd h.0
+made_done (status.Refused o) n src out machine fine h = absurd cc
 
 pub found_made : (asked : Option Form) (src out : Change) (f : Finished) (n : ℕ) → Ends asked src out f → asked
     ≡ Some (form.Make n) → (Failed out → ⊥)
     → (f.status ≡ status.Done) ⊎ (f.status ≡ status.Memory)
-found_made asked src out f n h e fine = made_done f.status n src out f.book fine
-    (subst (λ (x : Option Form). EndsSo f.status x src out f.book) e h.so)
+found_made asked src out f n h e fine = made_done f.status n src out f.machine fine
+    (subst (λ (x : Option Form). EndsSo f.status x src out f.machine) e h.so)
 
 -- the text of a drill is printed, or there was no memory for it
-drilled_done : (s : Status) (p f n seed : ℕ) (src out : Change) (book : Option Ledger) → (Failed out → ⊥)
-    → EndsSo s (Some (form.Drill p f n seed)) src out book → (s ≡ status.Done) ⊎ (s ≡ status.Memory)
-drilled_done status.Done p f n seed src out book fine h = inl refl
-drilled_done status.Memory p f n seed src out book fine h = inr refl
-drilled_done status.WriteFault p f n seed src out book fine h = absurd (fine h.fault)
-drilled_done status.Usage p f n seed src out book fine h = absurd cc
-drilled_done status.ReadFault p f n seed src out book fine h = absurd h.0
-drilled_done status.TooLong p f n seed src out book fine h = absurd h.0
-drilled_done (status.Script r) p f n seed src out book fine h = absurd h.0
-drilled_done (status.Refused o) p f n seed src out book fine h = absurd cc
-drilled_done status.Later p f n seed src out book fine h = absurd cc
+drilled_done : (s : Status) (p f n seed : ℕ) (src out : Change) (machine : Option Machine) → (Failed out → ⊥)
+    → EndsSo s (Some (form.Drill p f n seed)) src out machine → (s ≡ status.Done) ⊎ (s ≡ status.Memory)
+drilled_done status.Done p f n seed src out machine fine h = inl refl
+drilled_done status.Memory p f n seed src out machine fine h = inr refl
+drilled_done status.WriteFault p f n seed src out machine fine h = absurd (fine h.fault)
+drilled_done status.Usage p f n seed src out machine fine h = absurd cc
+drilled_done status.ReadFault p f n seed src out machine fine h = absurd h.0
+drilled_done status.TooLong p f n seed src out machine fine h = absurd h.0
+drilled_done (status.Script r) p f n seed src out machine fine h = absurd h.0
+drilled_done (status.Refused o) p f n seed src out machine fine h = absurd cc
 
 pub found_drilled : (asked : Option Form) (src out : Change) (f : Finished) (p frames n seed : ℕ) → Ends asked src out f
     → asked ≡ Some (form.Drill p frames n seed) → (Failed out → ⊥) → (f.status ≡ status.Done)
     ⊎ (f.status ≡ status.Memory)
 found_drilled asked src out f p frames n seed h e fine =
-    drilled_done f.status p frames n seed src out f.book fine
-    (subst (λ (x : Option Form). EndsSo f.status x src out f.book) e h.so)
+    drilled_done f.status p frames n seed src out f.machine fine
+    (subst (λ (x : Option Form). EndsSo f.status x src out f.machine) e h.so)
 
 -- what was printed, by the form that was asked for
-pub printed_in : (asked other : Option Form) (src : Change) (book : Option Ledger) (P : List ℕ → Type 0)
-    → Prints asked src book P → asked ≡ other
-    → Prints other src book P
-printed_in asked other src book P h e = subst (λ (x : Option Form). Prints x src book P) e h
+pub printed_in : (asked other : Option Form) (src : Change) (machine : Option Machine) (P : List ℕ → Type 0)
+    → Prints asked src machine P → asked ≡ other
+    → Prints other src machine P
+printed_in asked other src machine P h e = subst (λ (x : Option Form). Prints x src machine P) e h
 
 -- ---- a listing that was judged
 
@@ -253,11 +239,11 @@ unfolding IsTheVerdict
 one_verdict bytes given v one is = (one v).0 is
 
 -- a fault of the input comes to its status, or there was no memory
-fault_so : (s : Status) (bytes : List ℕ) (src out : Change) (book : Option Ledger) → (Failed src → ⊥)
-    → src.before ≡ Some bytes → EndsSo s (Some form.Check) src out book
+fault_so : (s : Status) (bytes : List ℕ) (src out : Change) (machine : Option Machine) → (Failed src → ⊥)
+    → src.before ≡ Some bytes → EndsSo s (Some form.Check) src out machine
     → (e : CheckFault) → length bytes ≤ 134217728 → IsVerdict bytes (Err e)
     → IsStatusOf e s ⊎ (s ≡ status.Memory)
-fault_so s bytes src out book fine told so e few is = each s so
+fault_so s bytes src out machine fine told so e few is = each s so
   where
     accepted_not : (n : ℕ) → IsJudgedSo src (Ok n) → ⊥
     accepted_not n judged =
@@ -269,7 +255,7 @@ fault_so s bytes src out book fine told so e few is = each s so
         let same = one_verdict bytes (Err given) (Err e) (judged_here src bytes (Err given) told judged).1 is in
         let one : e ≡ given = cc in inl (subst (λ (f : CheckFault). IsStatusOf f x) (sym one) comes)
 
-    each : (x : Status) → EndsSo x (Some form.Check) src out book → IsStatusOf e x ⊎ (x ≡ status.Memory)
+    each : (x : Status) → EndsSo x (Some form.Check) src out machine → IsStatusOf e x ⊎ (x ≡ status.Memory)
     each (status.Script r) h = here (fault.Script r) (status.Script r) h.1 refl
     each (status.Refused o) h = here (fault.Refused o) (status.Refused o) h.1 refl
     each status.Memory h = inr refl
@@ -280,7 +266,6 @@ fault_so s bytes src out book fine told so e few is = each s so
         absurd (omega (arith, more, few))
     each status.ReadFault h = absurd (fine h.1)
     each status.Usage h = absurd cc
-    each status.Later h = absurd cc
 
 pub found_fault : (asked : Option Form) (src out : Change) (f : Finished) → Ends asked src out f
     → asked ≡ Some form.Check → (Failed src → ⊥)
@@ -292,20 +277,20 @@ found_fault asked src out f h check fine = each src.before refl
         → IfSome left (λ bytes. (e : CheckFault) → length bytes ≤ 134217728 → IsVerdict bytes (Err e)
         → IsStatusOf e f.status ⊎ (f.status ≡ status.Memory))
     each None told = tt
-    each (Some bytes) told = fault_so f.status bytes src out f.book fine told
-        (subst (λ (x : Option Form). EndsSo f.status x src out f.book) check h.so)
+    each (Some bytes) told = fault_so f.status bytes src out f.machine fine told
+        (subst (λ (x : Option Form). EndsSo f.status x src out f.machine) check h.so)
 
 -- an input that is accepted is answered so, or there was no memory
-accepted_so : (s : Status) (bytes : List ℕ) (src out : Change) (book : Option Ledger) → (Failed src → ⊥)
-    → (Failed out → ⊥) → src.before ≡ Some bytes → EndsSo s (Some form.Check) src out book
+accepted_so : (s : Status) (bytes : List ℕ) (src out : Change) (machine : Option Machine) → (Failed src → ⊥)
+    → (Failed out → ⊥) → src.before ≡ Some bytes → EndsSo s (Some form.Check) src out machine
     → (n : ℕ) → length bytes ≤ 134217728 → IsVerdict bytes (Ok n) → (s ≡ status.Done) ⊎ (s ≡ status.Memory)
-accepted_so s bytes src out book fine whole told so n few is = each s so
+accepted_so s bytes src out machine fine whole told so n few is = each s so
   where
     fault_not : (e : CheckFault) → IsJudgedSo src (Err e) → ⊥
     fault_not e judged =
         let same = one_verdict bytes (Err e) (Ok n) (judged_here src bytes (Err e) told judged).1 is in cc
 
-    each : (x : Status) → EndsSo x (Some form.Check) src out book → (x ≡ status.Done) ⊎ (x ≡ status.Memory)
+    each : (x : Status) → EndsSo x (Some form.Check) src out machine → (x ≡ status.Done) ⊎ (x ≡ status.Memory)
     each status.Done h = inl refl
     each status.Memory h = inr refl
     each (status.Script r) h = absurd (fault_not (fault.Script r) h.1)
@@ -316,7 +301,6 @@ accepted_so s bytes src out book fine whole told so n few is = each s so
     each status.ReadFault h = absurd (fine h.1)
     each status.WriteFault h = absurd (whole h.2.fault)
     each status.Usage h = absurd cc
-    each status.Later h = absurd cc
 
 pub found_accepted : (asked : Option Form) (src out : Change) (f : Finished) → Ends asked src out f
     → asked ≡ Some form.Check → (Failed src → ⊥) → (Failed out → ⊥)
@@ -328,19 +312,19 @@ found_accepted asked src out f h check fine whole = each src.before refl
         → IfSome left (λ bytes. (n : ℕ) → length bytes ≤ 134217728 → IsVerdict bytes (Ok n)
         → (f.status ≡ status.Done) ⊎ (f.status ≡ status.Memory))
     each None told = tt
-    each (Some bytes) told = accepted_so f.status bytes src out f.book fine whole told
-        (subst (λ (x : Option Form). EndsSo f.status x src out f.book) check h.so)
+    each (Some bytes) told = accepted_so f.status bytes src out f.machine fine whole told
+        (subst (λ (x : Option Form). EndsSo f.status x src out f.machine) check h.so)
 
 -- more bytes than a script with its listing may have are told, or there was no memory
-checked_long : (s : Status) (bytes : List ℕ) (src out : Change) (book : Option Ledger) → (Failed src → ⊥)
+checked_long : (s : Status) (bytes : List ℕ) (src out : Change) (machine : Option Machine) → (Failed src → ⊥)
     → src.before ≡ Some bytes
-    → EndsSo s (Some form.Check) src out book → 134217728 < length bytes → (s ≡ status.TooLong) ⊎ (s ≡ status.Memory)
-checked_long s bytes src out book fine told so many = each s so
+    → EndsSo s (Some form.Check) src out machine → 134217728 < length bytes → (s ≡ status.TooLong) ⊎ (s ≡ status.Memory)
+checked_long s bytes src out machine fine told so many = each s so
   where
     few_not : (given : Result ℕ CheckFault) → IsJudgedSo src given → ⊥
     few_not given judged = omega (arith, (judged_here src bytes given told judged).0, many)
 
-    each : (x : Status) → EndsSo x (Some form.Check) src out book → (x ≡ status.TooLong) ⊎ (x ≡ status.Memory)
+    each : (x : Status) → EndsSo x (Some form.Check) src out machine → (x ≡ status.TooLong) ⊎ (x ≡ status.Memory)
     each status.TooLong h = inl refl
     each status.Memory h = inr refl
     each status.Done h = absurd (few_not (Ok h.0) h.1)
@@ -349,7 +333,6 @@ checked_long s bytes src out book fine told so many = each s so
     each (status.Refused o) h = absurd (few_not (Err (fault.Refused o)) h.1)
     each status.ReadFault h = absurd (fine h.1)
     each status.Usage h = absurd cc
-    each status.Later h = absurd cc
 
 pub found_checked_long : (asked : Option Form) (src out : Change) (f : Finished) → Ends asked src out f
     → asked ≡ Some form.Check → (Failed src → ⊥)
@@ -359,5 +342,5 @@ found_checked_long asked src out f h check fine = each src.before refl
     each : (left : Option (List ℕ)) → src.before ≡ left
         → IfSome left (λ bytes. 134217728 < length bytes → (f.status ≡ status.TooLong) ⊎ (f.status ≡ status.Memory))
     each None told = tt
-    each (Some bytes) told = checked_long f.status bytes src out f.book fine told
-        (subst (λ (x : Option Form). EndsSo f.status x src out f.book) check h.so)
+    each (Some bytes) told = checked_long f.status bytes src out f.machine fine told
+        (subst (λ (x : Option Form). EndsSo f.status x src out f.machine) check h.so)

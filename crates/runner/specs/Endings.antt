@@ -1,16 +1,11 @@
 -- How a call of the program may end, and what it leaves then. (own)
-use Rattle.std.specs.Prelude.{◌≡◌, ℕ, ◌+◌, ◌<◌, ◌≤◌, true, List, length}
+use Rattle.std.specs.Prelude.{◌≡◌, ◌⊎◌, ℕ, ◌+◌, ◌<◌, ◌≤◌, true, List, length}
 use Rattle.std.specs.Prelude.{Option, Some, None, is_some, IfSome, IsSomeAnd, Result, Ok, Err}
 use Rattle.std.specs.Io.KnownBytes.{Appends, Keeps}
 use Rattle.site_io.specs.Faults.{Rose}
 use Rattle.site_io.specs.Streams.{AppendsFront, ConsumesFront}
-use Rattle.volumes.specs.CoreDrive.{DriveState}
-use Rattle.volumes.specs.Volumes.{Vols}
 use Rattle.script.specs.Grammar.{script_of}
-use Rattle.script.specs.Plans.{Plan}
 use Rattle.script.specs.declared.refusals.Refusal.{Refusal}
-use Rattle.book.specs.Books.{Ledger}
-use Rattle.flat_model.specs.Legal.{IsComplete, IsLegal, IsSettled, store_after}
 use Rattle.listing.specs.Listings.{listing_of}
 use Rattle.make_work.specs.Day.{made}
 use Rattle.drill.specs.Texts.{drill_text}
@@ -18,9 +13,8 @@ use Rattle.book_check.specs.Closing.{IsTheVerdict}
 use Rattle.book_check.specs.declared.offences.CheckFault.{CheckFault}
 use Rattle.book_check.specs.declared.offences.CheckFault.TheVariants as fault
 use Rattle.book_check.specs.declared.offences.Offence.{Offence}
-use Rattle.runner.specs.OnDisk.{IsOnDisk}
-use Rattle.runner.specs.Runs.{IsLater, script_runs, accepted_text, offence_text}
-use Rattle.runner.specs.Runs.{refusal_text, too_long_text, later_text, usage_text}
+use Rattle.runner.specs.Runs.{IsRun, IsShutDown, Machine}
+use Rattle.runner.specs.Texts.{accepted_text, offence_text, refusal_text, too_long_text, usage_text}
 use Rattle.runner.specs.declared.finished.Finished.{Finished}
 use Rattle.runner.specs.declared.finished.Status.{Status}
 use Rattle.runner.specs.declared.finished.Status.TheVariants as status
@@ -60,15 +54,11 @@ pub data Writes (out : Change) (text : List ℕ) : Type 0 where
   whole : WritesAll out text → Writes out text
   cut : WritesFront out text → Writes out text
 
--- a run's book is right, and the volumes hold what it stored
-pub record IsRun (src : Change) (book : Ledger) (volumes : Option (Vols DriveState)) : Type 0 where
+-- a machine runs the script that the source tells
+pub record Runs (src : Change) (m : Machine) : Type 0 where
   pub within : IfSome src.before (λ bytes. length bytes ≤ 4194304)
-  pub script : IfSome src.before (λ bytes. script_of bytes ≡ Ok book.script)
-  pub runs : script_runs book.script ≡ true
-  pub legal : IsLegal book.script book.entries
-  pub complete : IsComplete book.script book.entries
-  pub settled : IsSettled book.script (store_after book.script book.entries)
-  pub disk : IsSomeAnd volumes (λ v. IsOnDisk v (store_after book.script book.entries))
+  pub script : IfSome src.before (λ bytes. script_of bytes ≡ Ok m.state.plan)
+  pub run : IsRun m
 
 -- the forms that read the source: `run` a script, `check` a script with its listing
 abbrev pub IsReading : Option Form → Type 0
@@ -96,6 +86,16 @@ IsStatusOf fault.Memory s = ⊥
 abbrev pub IsJudgedSo : Change → Result ℕ CheckFault → Type 0
 IsJudgedSo src v = IfSome src.before (λ bytes. (length bytes ≤ 134217728) × IsTheVerdict bytes v)
 
+-- an output was written, or a write of it failed
+abbrev pub HasPrinted : Status → Type 0
+HasPrinted status.Done = Unit {0}
+HasPrinted status.WriteFault = Unit {0}
+HasPrinted _ = ⊥
+
+-- how a call may end that has a machine
+abbrev pub MayHaveRun : Status → Type 0
+MayHaveRun s = HasPrinted s ⊎ (s ≡ status.Memory)
+
 -- an output was printed: whole, a front of it where a write failed, or nothing for want of memory
 abbrev pub Printed : Status → Change → List ℕ → Type 0
 Printed status.Done out text = WritesAll out text
@@ -115,48 +115,44 @@ Offends (status.Refused p) o out = (p ≡ o) × Writes out (offence_text o)
 Offends status.Memory o out = WritesNothing out
 Offends _ o out = ⊥
 
--- the run of a script is right, and the volumes hold what it stored
-pub record RunOf (p : Plan) (book : Ledger) (volumes : Option (Vols DriveState)) : Type 0 where
-  pub script : book.script ≡ p
-  pub legal : IsLegal book.script book.entries
-  pub complete : IsComplete book.script book.entries
-  pub settled : IsSettled book.script (store_after book.script book.entries)
-  pub disk : IsSomeAnd volumes (λ v. IsOnDisk v (store_after book.script book.entries))
+-- the listing of a machine was printed, once it was shut down; or there was no memory for that
+abbrev pub PrintsRun : Status → Machine → Change → Type 0
+PrintsRun status.Memory m out = WritesNothing out
+PrintsRun s m out = IsShutDown m × Printed s out (listing_of m.state.plan m.state.entries)
 
--- the listing of a run was printed, or there was no memory for the run
-abbrev pub PrintsRun : Status → Option Ledger → Change → Type 0
-PrintsRun status.Memory book out = WritesNothing out
-PrintsRun s None out = ⊥
-PrintsRun s (Some b) out = Printed s out (listing_of b.script b.entries)
+-- there was no memory for a machine, or its listing was printed
+abbrev pub PrintsIfRun : Status → Option Machine → Change → Type 0
+PrintsIfRun s None out = (s ≡ status.Memory) × WritesNothing out
+PrintsIfRun s (Some m) out = PrintsRun s m out
 
 -- what the program prints in each of its forms
-abbrev pub Prints : Option Form → Change → Option Ledger → (List ℕ → Type 0) → Type 0
-Prints (Some form.Run) src book P = IsSomeAnd book (λ b. P (listing_of b.script b.entries))
-Prints (Some form.Check) src book P = (entries : ℕ) × IsJudgedSo src (Ok entries) × P (accepted_text entries)
-Prints (Some (form.Make n)) src book P = P (made n)
-Prints (Some (form.Drill p f n seed)) src book P = P (drill_text p f n seed)
-Prints None src book P = ⊥
+abbrev pub Prints : Option Form → Change → Option Machine → (List ℕ → Type 0) → Type 0
+Prints (Some form.Run) src machine P = IsSomeAnd machine
+    (λ m. IsShutDown m × P (listing_of m.state.plan m.state.entries))
+Prints (Some form.Check) src machine P = (entries : ℕ) × IsJudgedSo src (Ok entries) × P (accepted_text entries)
+Prints (Some (form.Make n)) src machine P = P (made n)
+Prints (Some (form.Drill p f n seed)) src machine P = P (drill_text p f n seed)
+Prints None src machine P = ⊥
 
 -- why a call ended so, and what it wrote
-abbrev pub EndsSo : Status → Option Form → Change → Change → Option Ledger → Type 0
-EndsSo status.Usage asked src out book = (asked ≡ None) × Writes out usage_text
-EndsSo status.ReadFault asked src out book = IsReading asked × Failed src × WritesNothing out
-EndsSo status.TooLong asked src out book =
+abbrev pub EndsSo : Status → Option Form → Change → Change → Option Machine → Type 0
+EndsSo status.Usage asked src out machine = (asked ≡ None) × Writes out usage_text
+EndsSo status.ReadFault asked src out machine = IsReading asked × Failed src × WritesNothing out
+EndsSo status.TooLong asked src out machine =
     IsReading asked × IfSome src.before (λ bytes. limit_of asked < length bytes) × Writes out too_long_text
-EndsSo (status.Script r) asked src out book =
+EndsSo (status.Script r) asked src out machine =
     IsReading asked × IfSome src.before (λ bytes. (length bytes ≤ limit_of asked) × IsRefused asked bytes r)
     × Writes out (refusal_text r)
-EndsSo (status.Refused o) asked src out book =
+EndsSo (status.Refused o) asked src out machine =
     (asked ≡ Some form.Check) × IsJudgedSo src (Err (fault.Refused o)) × Writes out (offence_text o)
-EndsSo status.Later asked src out book =
-    (asked ≡ Some form.Run) × IfSome src.before (λ bytes. (length bytes ≤ 4194304) × IsLater (script_of bytes))
-    × Writes out later_text
-EndsSo status.Done asked src out book = Prints asked src book (WritesAll out)
-EndsSo status.WriteFault asked src out book = Prints asked src book (WritesFront out)
-EndsSo status.Memory asked src out book = (is_some asked ≡ true) × WritesNothing out
+EndsSo status.Done asked src out machine = Prints asked src machine (WritesAll out)
+EndsSo status.WriteFault asked src out machine = Prints asked src machine (WritesFront out)
+EndsSo status.Memory asked src out machine = (is_some asked ≡ true) × WritesNothing out
 
 -- how a call ended that was asked for this
 pub record Ends (asked : Option Form) (src out : Change) (f : Finished) : Type 0 where
-  pub so : EndsSo f.status asked src out f.book
-  pub run : IfSome f.book (λ b. IsRun src b f.volumes)
+  pub so : EndsSo f.status asked src out f.machine
+  pub run : IfSome f.machine (Runs src)
+  pub booted : IfSome f.machine (λ m. MayHaveRun f.status)
+  pub only : (asked ≡ Some form.Run → ⊥) → f.machine ≡ None
   pub reads : ConsumesFront src.before src.after (limit_of asked + 1)

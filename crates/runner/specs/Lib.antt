@@ -1,11 +1,5 @@
 pub mod Drives
-pub mod Effects
 pub mod Endings
-pub mod Looks
-pub mod Machines
-pub mod OnDisk
-pub mod Places
 pub mod Runs
-pub mod Starts
-pub mod Tables
+pub mod Texts
 pub mod Words

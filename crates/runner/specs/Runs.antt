@@ -1,67 +1,42 @@
--- What the program is asked, what of it runs so far, and what it writes (own).
-use Rattle.std.specs.Prelude.{◌≡◌, ℕ, Bool, true, false, not, ◌&&◌, ◌==◌, List, [], ◌∷◌, ◌++◌, length, Result, Ok, Err}
-use Rattle.std.specs.Prelude.{codes}
-use Rattle.std.specs.List.{list_all}
-use Rattle.std.specs.Fmt.{decimal}
-use Rattle.book_check.specs.Rules.{rule_text}
-use Rattle.book_check.specs.declared.offences.Offence.{Offence}
-use Rattle.script.specs.Causes.{cause_text}
-use Rattle.script.specs.Plans.{Plan, ProcessPlan}
-use Rattle.script.specs.declared.commands.Command.{Command}
-use Rattle.script.specs.declared.commands.Command.TheVariants as command
-use Rattle.script.specs.declared.refusals.Refusal.{Refusal}
+-- What a run of a script leaves (own).
+use Rattle.std.specs.Prelude.{map}
+use Rattle.custody_model.specs.Clean.{IsClean, custody_after}
+use Rattle.flat_model.specs.Legal.{IsComplete, IsLegal, IsSettled, store_after}
+use Rattle.bulk_store.specs.AnyDrive.{any_pages}
+use Rattle.bulk_store.specs.declared.any_drive.AnyDrive.{AnyDrive}
+use Rattle.machine_tables.specs.Parts.{Parts}
+use Rattle.machine.specs.OnDisk.{IsOnDisk}
+use Rattle.machine.specs.Shut.{AreToldBack}
+use Rattle.runner.specs.Drives.{AreDrivesOf, TellsFaults}
 
--- a path of exactly one name
-abbrev pub is_branch : List (List ℕ) → Bool
-is_branch path = length path == 1
+-- a machine over drives in core
+abbrev pub Machine : Type 0
+Machine = Parts AnyDrive
 
--- a command that runs so far: segments are right below the root
-unfoldable pub command_runs : Command → Bool
-command_runs (command.MkSeg path pages volume) = is_branch path
-command_runs (command.Initiate path) = is_branch path
-command_runs (command.Read number offset) = true
-command_runs (command.Write number offset word) = true
-command_runs command.End = true
-command_runs _ = false
+-- its volumes hold the flat store after its book, but for the words of the pages that are in frames
+abbrev pub HoldsStore : Machine → Type 0
+HoldsStore m = IsOnDisk (map any_pages m.drives) m.state.store.pages.records m.state.store.pages.vtocs
+    (store_after m.state.plan m.state.entries) (custody_after m.state.plan m.state.entries)
 
--- each command of a process runs
-abbrev pub process_runs : ProcessPlan → Bool
-process_runs x = list_all command_runs x.commands
+-- What holds of the machine of a run from its boot on: its book is legal and clean, its drives are those of the script's
+-- volumes, and its book tells no more of their failures than there were.
+pub record IsRun (m : Machine) : Type 0 where
+  pub legal : IsLegal m.state.plan m.state.entries
+  pub clean : IsClean m.state.plan m.state.entries
+  pub drives : AreDrivesOf m.state.plan m.drives
+  pub faults : TellsFaults m.state.plan m.state.entries m.drives
 
--- at most one process, each of whose commands runs
-abbrev pub processes_run : List ProcessPlan → Bool
-processes_run [] = true
-processes_run (x ∷ []) = process_runs x
-processes_run (x ∷ y ∷ xs) = false
+-- each of its frames was visited: no stored page is all zeros, quotas are conserved and no account is over its quota; and
+-- a page is in a frame only where the book tells why
+pub record HasEmptied (m : Machine) : Type 0 where
+  pub settled : IsSettled m.state.plan (store_after m.state.plan m.state.entries)
+  pub told : AreToldBack m.state.plan m.state.entries
 
--- a script that runs so far: one processor, no fast store, no failing call, no initializer, and at most one process
-unfoldable pub script_runs : Plan → Bool
-script_runs p = ((p.processors == 1 && (length p.bulks == 0 && length p.fails == 0)) && not p.initializer)
-    && processes_run p.processes
-
--- a script that is one, and doesn't run yet
-abbrev pub IsLater : Result Plan Refusal → Type 0
-IsLater (Ok p) = script_runs p ≡ false
-IsLater (Err r) = ⊥
-
--- the texts of the statuses
-abbrev pub usage_text : List ℕ
-usage_text = codes "usage: multics run | check | make N | drill P F N SEED\n"
-
-abbrev pub too_long_text : List ℕ
-too_long_text = codes "script too long\n"
-
-abbrev pub later_text : List ℕ
-later_text = codes "script refused at line 0: later\n"
-
--- a listing is accepted, with so many entries
-unfoldable pub accepted_text : ℕ → List ℕ
-accepted_text entries = codes "accepted " ++ (decimal entries ++ codes " entries\n")
-
--- a line of it is at fault
-unfoldable pub offence_text : Offence → List ℕ
-offence_text o = codes "refused at line " ++ (decimal o.line ++ (codes ": " ++ (rule_text o.rule ++ codes "\n")))
-
-unfoldable pub refusal_text : Refusal → List ℕ
-refusal_text r = codes "script refused at line " ++ (decimal r.line
-    ++ (codes ": " ++ (cause_text r.cause ++ codes "\n")))
+-- What holds once it is shut down besides: each process has had all its commands answered; quotas are conserved, no
+-- account is over its quota and no stored page is all zeros; the volumes hold the store; and a page is in a frame still
+-- only where the book tells that a drive failed, and right after it that the page is back.
+pub record IsShutDown (m : Machine) : Type 0 where
+  pub complete : IsComplete m.state.plan m.state.entries
+  pub settled : IsSettled m.state.plan (store_after m.state.plan m.state.entries)
+  pub disk : HoldsStore m
+  pub told : AreToldBack m.state.plan m.state.entries

@@ -1,11 +1,11 @@
 ghost use Rattle.std.specs.Prelude.{◌≡◌, None, IfOk, Some};
 ghost use Rattle.runner.specs.Endings.{change, Ends, Offends, Printed};
-ghost use Rattle.runner.specs.Runs.{accepted_text, offence_text};
+ghost use Rattle.runner.specs.Texts.{accepted_text, offence_text};
 ghost use Rattle.runner.specs.declared.words.Form.TheVariants as form;
 
 use crate::NoMemory;
 use crate::finished::{Finished, Status};
-use crate::printing::{print, with_text, without_book, write_refusal};
+use crate::printing::{print, with_text, without_machine, write_refusal};
 use crate::reading::TOO_LONG;
 use book_check::{CheckFault, Offence, check_book};
 use site_io::{Sink, Source, Unread, read_all};
@@ -15,7 +15,7 @@ use std::alloc::Global;
 pub const LISTING_BYTES: usize = 134_217_728;
 
 /// The text of a listing that is accepted, with so many entries.
-#[tactic(auto, unfolding(crate::specs::Runs::accepted_text))]
+#[tactic(auto, unfolding(crate::specs::Texts::accepted_text))]
 fn accepted(alloc: Global, entries: u32) -> Result<Vec<u8>, NoMemory>
     ensures { IfOk result (λ text. text.items ≡ accepted_text entries) }
 {
@@ -26,7 +26,7 @@ fn accepted(alloc: Global, entries: u32) -> Result<Vec<u8>, NoMemory>
 }
 
 /// The text of a line at fault.
-#[tactic(auto, unfolding(crate::specs::Runs::offence_text))]
+#[tactic(auto, unfolding(crate::specs::Texts::offence_text))]
 fn text_of(alloc: Global, offence: Offence) -> Result<Vec<u8>, NoMemory>
     ensures { IfOk result (λ text. text.items ≡ offence_text offence) }
 {
@@ -42,11 +42,11 @@ fn text_of(alloc: Global, offence: Offence) -> Result<Vec<u8>, NoMemory>
 fn write_accepted<K: Sink>(alloc: Global, entries: u32, out: &mut K) -> Finished
     ensures printed { Printed result.status
         (change (K.held out.old) (K.held out.new) (K.faults out.old) (K.faults out.new)) (accepted_text entries) }
-    ensures book { result.book ≡ None }
+    ensures machine { result.machine ≡ None }
 {
     match accepted(alloc, entries) {
-        Ok(text) => without_book(print(out, &text)),
-        Err(_) => without_book(Status::Memory),
+        Ok(text) => without_machine(print(out, &text)),
+        Err(_) => without_machine(Status::Memory),
     }
 }
 
@@ -54,11 +54,11 @@ fn write_accepted<K: Sink>(alloc: Global, entries: u32, out: &mut K) -> Finished
 fn write_offence<K: Sink>(alloc: Global, offence: Offence, out: &mut K) -> Finished
     ensures refused { Offends result.status offence
         (change (K.held out.old) (K.held out.new) (K.faults out.old) (K.faults out.new)) }
-    ensures book { result.book ≡ None }
+    ensures machine { result.machine ≡ None }
 {
     match text_of(alloc, offence) {
         Ok(text) => with_text(out, &text, Status::Refused(offence)),
-        Err(_) => without_book(Status::Memory),
+        Err(_) => without_machine(Status::Memory),
     }
 }
 
@@ -75,13 +75,13 @@ pub(crate) fn read_and_check<S: Source, K: Sink>(
     let bytes = match read_all(alloc, src, LISTING_BYTES) {
         Ok(bytes) => bytes,
         Err(Unread::TooLong) => return with_text(out, TOO_LONG, Status::TooLong),
-        Err(Unread::ReadFault) => return without_book(Status::ReadFault),
-        Err(Unread::Memory) => return without_book(Status::Memory),
+        Err(Unread::ReadFault) => return without_machine(Status::ReadFault),
+        Err(Unread::Memory) => return without_machine(Status::Memory),
     };
     match check_book(alloc, &bytes) {
         Ok(entries) => write_accepted(alloc, entries, out),
         Err(CheckFault::Script(refusal)) => write_refusal(alloc, refusal, out),
         Err(CheckFault::Refused(offence)) => write_offence(alloc, offence, out),
-        Err(CheckFault::Memory) => without_book(Status::Memory),
+        Err(CheckFault::Memory) => without_machine(Status::Memory),
     }
 }

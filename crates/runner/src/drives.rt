@@ -1,10 +1,10 @@
 //! The drives of a script's volumes.
 
-ghost use Rattle.std.specs.Prelude.{◌≡◌, ◌<◌, IfOk, length, replicate};
+ghost use Rattle.std.specs.Prelude.{◌≡◌, ◌<◌, IfOk, length, map, replicate};
 ghost use Rattle.volumes.specs.CoreDrive.{faults_of, fresh_drive};
 ghost use Rattle.flat_model.specs.Store.{records_of};
 ghost use Rattle.bulk_store.specs.AnyDrive.{any_pages, any_places, disk_of as disk_in};
-ghost use Rattle.runner.specs.Drives.{lines_in, places_in};
+ghost use Rattle.runner.specs.Drives.{lines_in, places_in, AreTold};
 
 use crate::NoMemory;
 use bulk_store::{AnyDrive, CoreBulk};
@@ -76,4 +76,21 @@ pub fn drive_of(alloc: Global, script: &Script, v: u32) -> Result<AnyDrive, NoMe
         Ok(bulk) => Ok(AnyDrive::Bulk(bulk)),
         Err(_) => Err(NoMemory),
     }
+}
+
+/// The drives of a script's volumes, in their order.
+pub(crate) fn drives_of(alloc: Global, script: &Script) -> Result<Vec<AnyDrive>, NoMemory>
+    ensures drives { IfOk result (λ drives. AreTold script.now drives.items) }
+    ensures sizes { IfOk result (λ drives. map (λ d. length (any_pages d)) drives.items
+        ≡ map (λ v. v.records) script.now.volumes) }
+{
+    let _processes = script.processes();
+    let count = script.volumes().len() as u32;
+    let mut drives = Vec::new(alloc);
+    for v in 0..count {
+        drives
+            .push(drive_of(alloc, script, v)?)
+            .map_err(|_| NoMemory)?;
+    }
+    Ok(drives)
 }

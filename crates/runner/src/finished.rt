@@ -1,7 +1,7 @@
-use book::Book;
 use book_check::Offence;
+use bulk_store::AnyDrive;
+use machine::Machine;
 use script::Refusal;
-use volumes::{CoreDrive, Volumes};
 
 /// How a call ended.
 #[derive(Clone, Copy, Debug, PartialEq, Eq)]
@@ -20,8 +20,6 @@ pub enum Status {
     WriteFault,
     /// There wasn't enough memory.
     Memory,
-    /// The script doesn't run so far.
-    Later,
     /// A line of the listing is at fault, and breaks a rule.
     Refused(Offence),
 }
@@ -31,8 +29,7 @@ pub enum Status {
 pub struct Finished {
     /// How it ended.
     pub status: Status,
-    /// The book of a run, where its listing was written or a write of it failed.
-    pub book: Option<Book>,
-    /// The volumes of that run, once the machine is shut down.
-    pub volumes: Option<Volumes<CoreDrive>>,
+    /// The machine of a run, with its book and its volumes; `None` where none was booted. Where the listing was
+    /// written, or a write of it failed, the machine is shut down; else memory ran out before that.
+    pub machine: Option<Machine<AnyDrive>>,
 }

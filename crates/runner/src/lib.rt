@@ -1,21 +1,14 @@
-//! Runs scripts: the machine, and the program's top call.
+//! Runs scripts on the machine, with a worker thread for each of its processors: the program's top call.
 #![tactic(auto)]
 
 mod checking;
-mod commands;
 mod drives;
 mod ending;
 mod finished;
-mod forms;
-mod looks;
-mod machine;
-mod naming;
 mod printing;
 mod reading;
-mod runs;
-mod starting;
-mod steps;
-mod tables;
+mod running;
+mod summing;
 mod top;
 mod words;
 

@@ -1,8 +1,8 @@
 ghost use Rattle.std.specs.Prelude.{◌≡◌, ◌≤◌, None, IfOk};
 ghost use Rattle.drill.specs.Texts.{drill_text};
 ghost use Rattle.make_work.specs.Day.{made};
-ghost use Rattle.runner.specs.Endings.{change, Printed, Refuses, Writes};
-ghost use Rattle.runner.specs.Runs.{refusal_text};
+ghost use Rattle.runner.specs.Endings.{change, HasPrinted, Printed, Refuses, Writes};
+ghost use Rattle.runner.specs.Texts.{refusal_text};
 
 use crate::NoMemory;
 use crate::finished::{Finished, Status};
@@ -14,15 +14,14 @@ use std::alloc::Global;
 use std::sync::Wait;
 use std::thread::Threads;
 
-/// A call that ended without a run.
-pub(crate) fn without_book(status: Status) -> Finished
+/// A call that ended without a machine.
+pub(crate) fn without_machine(status: Status) -> Finished
     ensures status { result.status ≡ status }
-    ensures book { result.book ≡ None }
+    ensures machine { result.machine ≡ None }
 {
     Finished {
         status,
-        book: None,
-        volumes: None,
+        machine: None,
     }
 }
 
@@ -30,18 +29,20 @@ pub(crate) fn without_book(status: Status) -> Finished
 #[tactic(auto, using(crate::proofs::Ends::text_written, std::proofs::lemmas::Grind::common_steps))]
 pub(crate) fn with_text<K: Sink>(out: &mut K, text: &[u8], status: Status) -> Finished
     ensures status { result.status ≡ status }
-    ensures book { result.book ≡ None }
+    ensures machine { result.machine ≡ None }
     ensures text { Writes (change (K.held out.old) (K.held out.new) (K.faults out.old) (K.faults out.new)) text.now }
 {
     match write_all(out, text) {
-        Ok(()) => without_book(status),
-        Err(_) => without_book(status),
+        Ok(()) => without_machine(status),
+        Err(_) => without_machine(status),
     }
 }
 
 /// Writes an output, whole unless a write fails.
 pub(crate) fn print<K: Sink>(out: &mut K, text: &[u8]) -> Status
-    ensures { Printed result (change (K.held out.old) (K.held out.new) (K.faults out.old) (K.faults out.new)) text.now }
+    ensures printed { Printed result
+        (change (K.held out.old) (K.held out.new) (K.faults out.old) (K.faults out.new)) text.now }
+    ensures status { HasPrinted result }
 {
     match write_all(out, text) {
         Ok(()) => Status::Done,
@@ -53,11 +54,11 @@ pub(crate) fn print<K: Sink>(out: &mut K, text: &[u8]) -> Status
 pub(crate) fn make<K: Sink>(alloc: Global, n: u32, out: &mut K) -> Finished
     ensures printed { Printed result.status
         (change (K.held out.old) (K.held out.new) (K.faults out.old) (K.faults out.new)) (made n) }
-    ensures book { result.book ≡ None }
+    ensures machine { result.machine ≡ None }
 {
     match make_script(alloc, n) {
-        Ok(text) => without_book(print(out, &text)),
-        Err(_) => without_book(Status::Memory),
+        Ok(text) => without_machine(print(out, &text)),
+        Err(_) => without_machine(Status::Memory),
     }
 }
 
@@ -75,20 +76,20 @@ pub(crate) fn run_drill<R: Threads + Wait + Sync, K: Sink, G: Gate + Sync>(
     ensures printed { Printed result.status
         (change (K.held out.old) (K.held out.new) (K.faults out.old) (K.faults out.new))
         (drill_text size.0 size.1 size.2 size.3) }
-    ensures book { result.book ≡ None }
+    ensures machine { result.machine ≡ None }
 {
     let (processors, frames, adds, seed) = size;
     let Ok(drilled) = drill(rt, alloc, processors, frames, adds, seed, gate) else {
-        return without_book(Status::Memory);
+        return without_machine(Status::Memory);
     };
     match drilled_text(alloc, adds, &drilled) {
-        Ok(text) => without_book(print(out, text.as_bytes())),
-        Err(_) => without_book(Status::Memory),
+        Ok(text) => without_machine(print(out, text.as_bytes())),
+        Err(_) => without_machine(Status::Memory),
     }
 }
 
 /// The text of a refusal.
-#[tactic(auto, unfolding(crate::specs::Runs::refusal_text))]
+#[tactic(auto, unfolding(crate::specs::Texts::refusal_text))]
 fn text_of(alloc: Global, refusal: Refusal) -> Result<Vec<u8>, NoMemory>
     ensures { IfOk result (λ text. text.items ≡ refusal_text refusal) }
 {
@@ -105,10 +106,10 @@ fn text_of(alloc: Global, refusal: Refusal) -> Result<Vec<u8>, NoMemory>
 pub(crate) fn write_refusal<K: Sink>(alloc: Global, refusal: Refusal, out: &mut K) -> Finished
     ensures refused { Refuses result.status refusal
         (change (K.held out.old) (K.held out.new) (K.faults out.old) (K.faults out.new)) }
-    ensures book { result.book ≡ None }
+    ensures machine { result.machine ≡ None }
 {
     match text_of(alloc, refusal) {
         Ok(text) => with_text(out, &text, Status::Script(refusal)),
-        Err(_) => without_book(Status::Memory),
+        Err(_) => without_machine(Status::Memory),
     }
 }

@@ -1,5 +1,5 @@
 ghost use Rattle.std.specs.Prelude.{◌≡◌, ◌<◌, ◌+◌, ◌≤◌, ◌↔◌, ◌⊎◌, ℕ, Some, None, Ok, Err, length};
-ghost use Rattle.std.specs.Prelude.{IfSome, IsSome, IsSomeAnd, true, false};
+ghost use Rattle.std.specs.Prelude.{IfSome, IsSomeAnd};
 ghost use Rattle.std.specs.Io.KnownBytes.{Appends, Keeps};
 ghost use Rattle.site_io.specs.Faults.{Rose};
 ghost use Rattle.site_io.specs.Streams.{AppendsFront, ConsumesFront};
@@ -7,18 +7,21 @@ ghost use Rattle.script.specs.Plans.{Plan};
 ghost use Rattle.script.specs.Grammar.{script_of};
 ghost use Rattle.script.specs.declared.refusals.Refusal.{Refusal};
 ghost use Rattle.flat_model.specs.Legal.{IsLegal, IsComplete, IsSettled, store_after};
+ghost use Rattle.custody_model.specs.Clean.{IsClean};
+ghost use Rattle.machine.specs.Shut.{AreToldBack};
 ghost use Rattle.listing.specs.Listings.{listing_of};
 ghost use Rattle.drill.specs.Texts.{drill_text};
 ghost use Rattle.make_work.specs.Day.{made};
-ghost use Rattle.runner.specs.Endings.{change, Ends, IsReading, IsRefused, IsStatusOf, Writes, limit_of};
+ghost use Rattle.runner.specs.Drives.{AreDrivesOf, TellsFaults};
+ghost use Rattle.runner.specs.Endings.{change, Ends, HasPrinted, IsReading, IsRefused, IsStatusOf, MayHaveRun};
+ghost use Rattle.runner.specs.Endings.{Writes, limit_of};
 ghost use Rattle.book_check.specs.Closing.{IsTheVerdict};
 ghost use Rattle.book_check.specs.Verdicts.{IsVerdict};
 ghost use Rattle.book_check.specs.declared.offences.CheckFault.{CheckFault};
 ghost use Rattle.book_check.specs.declared.offences.CheckFault.TheVariants as fault;
 ghost use Rattle.book_check.specs.declared.offences.Offence.{Offence};
-ghost use Rattle.runner.specs.OnDisk.{IsOnDisk};
-ghost use Rattle.runner.specs.Runs.{script_runs, IsLater, usage_text, too_long_text, later_text, refusal_text};
-ghost use Rattle.runner.specs.Runs.{accepted_text, offence_text};
+ghost use Rattle.runner.specs.Runs.{HoldsStore};
+ghost use Rattle.runner.specs.Texts.{accepted_text, offence_text, refusal_text, too_long_text, usage_text};
 ghost use Rattle.runner.specs.Words.{form_of, IsInRange};
 ghost use Rattle.runner.specs.declared.words.Form.TheVariants as form;
 
@@ -50,7 +53,7 @@ fn serve<R: Threads + Wait + Sync, S: Source, K: Sink, G: Gate + Sync>(
     ensures source { (IsReading (Some asked) → ⊥) → src.new ≡ src.old }
 {
     match asked {
-        Form::Run => read_and_run(alloc, src, out),
+        Form::Run => read_and_run(rt, alloc, src, out, gate),
         Form::Check => read_and_check(alloc, src, out),
         Form::Make(n) => make(alloc, n, out),
         Form::Drill {
@@ -86,11 +89,17 @@ fn answer<R: Threads + Wait + Sync, S: Source, K: Sink, G: Gate + Sync>(
 /// writes the script of the day of a number, and `drill` lets threads add to pages; neither reads anything.
 ///
 /// The causes are looked at in this order: the words (`Usage`), a read that fails (`ReadFault`), a source that is too
-/// long (`TooLong`), a script that is refused (`Script`), one that doesn't run so far (`Later`, of `run`), a listing at
-/// fault (`Refused`, of `check`), a write that fails (`WriteFault`). Want of memory (`Memory`) may stand in place of
-/// any but the first, and nothing was written then.
-/// The runtime and the gate are for the drill, whose threads call the gate where they stand between two tries; a run of
-/// one process on one processor needs neither so far.
+/// long (`TooLong`), a script that is refused (`Script`), a listing at fault (`Refused`, of `check`), a write that
+/// fails (`WriteFault`). Want of memory (`Memory`) may stand in place of any but the first, and nothing was written
+/// then.
+///
+/// A run boots the machine of the script, and starts a worker thread for each of its processors. One hold of the lock
+/// round the machine is one step; between two holds a worker calls the gate, with no lock held. After the workers have
+/// returned the machine is finished and shut down, and its listing is written. Whatever the script, and however the
+/// processors interleave, the book of such a run holds each process's commands once and in order, every reply is the
+/// flat store's at its place in the book, in each account the used count is the number of its stored pages, and no
+/// reference uses a descriptor or a page entry after it was taken away. That the call returns isn't claimed: threads
+/// wait for each other. (Source: Bensoussan, Clingen and Daley 1972; the program is own.)
 pub fn multics<R: Threads + Wait + Sync, S: Source, K: Sink, G: Gate + Sync>(
     rt: &R,
     alloc: Global,
@@ -130,24 +139,37 @@ pub fn multics<R: Threads + Wait + Sync, S: Source, K: Sink, G: Gate + Sync>(
     ensures offence_text { (o : Offence) → result.status ≡ Status.Refused o →
         Writes (change (K.held out.old) (K.held out.new) (K.faults out.old) (K.faults out.new)) (offence_text o) }
 
-    // The bytes are a script that doesn't run so far.
-    ensures later { result.status ≡ Status.Later → IfSome (S.left src.old) (λ bytes. IsLater (script_of bytes)) }
-    ensures later_text { result.status ≡ Status.Later →
-        Writes (change (K.held out.old) (K.held out.new) (K.faults out.old) (K.faults out.new)) later_text }
+    // The machine of a run, however it ended: the book's script is that of the source's bytes; its entries are lawful
+    // in the flat store, and allowed by who holds what. Its drives are those of the script's volumes, and the book
+    // tells no more of their failures than there were. Under Done and WriteFault of `run` there is one, under Memory
+    // there may be one.
+    ensures script { IfSome result.machine (λ m. IfSome (S.left src.old) (λ bytes. script_of bytes ≡ Ok m.state.plan)) }
+    ensures legal { IfSome result.machine (λ m. IsLegal m.state.plan m.state.entries) }
+    ensures clean { IfSome result.machine (λ m. IsClean m.state.plan m.state.entries) }
+    ensures drives { IfSome result.machine (λ m. AreDrivesOf m.state.plan m.drives) }
+    ensures faults { IfSome result.machine (λ m. TellsFaults m.state.plan m.state.entries m.drives) }
+    ensures booted { IfSome result.machine (λ m. MayHaveRun result.status) }
+    ensures no_machine { (form_of words ≡ Some form.Run → ⊥) → result.machine ≡ None }
 
-    // The book of a run is right, and so is what the volumes hold.
-    ensures script { IfSome result.book (λ b. IfSome (S.left src.old) (λ bytes. script_of bytes ≡ Ok b.script)) }
-    ensures legal { IfSome result.book (λ b. IsLegal b.script b.entries) }
-    ensures complete { IfSome result.book (λ b. IsComplete b.script b.entries) }
-    ensures settled { IfSome result.book (λ b. IsSettled b.script (store_after b.script b.entries)) }
-    ensures disk { IfSome result.book (λ b.
-        IsSomeAnd result.volumes (λ v. IsOnDisk v (store_after b.script b.entries))) }
+    // Where its listing was written, or a write of it failed, all commands of each process were answered, once and in
+    // order; quotas are conserved, no account is over its quota, and no stored page is all zeros; the volumes hold the
+    // flat store after the book, but for the words of pages in frames; and a page is in a frame only where the book
+    // tells that a drive failed, and right after it that the page is back.
+    ensures complete { form_of words ≡ Some form.Run → HasPrinted result.status →
+        IsSomeAnd result.machine (λ m. IsComplete m.state.plan m.state.entries) }
+    ensures settled { form_of words ≡ Some form.Run → HasPrinted result.status →
+        IsSomeAnd result.machine (λ m. IsSettled m.state.plan (store_after m.state.plan m.state.entries)) }
+    ensures disk { form_of words ≡ Some form.Run → HasPrinted result.status → IsSomeAnd result.machine HoldsStore }
+    ensures stayed { form_of words ≡ Some form.Run → HasPrinted result.status →
+        IsSomeAnd result.machine (λ m. AreToldBack m.state.plan m.state.entries) }
 
     // What is printed, whole or, where a write failed, a front of it.
     ensures listing { form_of words ≡ Some form.Run → result.status ≡ Status.Done →
-        IsSomeAnd result.book (λ b. Appends (K.held out.old) (K.held out.new) (listing_of b.script b.entries)) }
+        IsSomeAnd result.machine
+        (λ m. Appends (K.held out.old) (K.held out.new) (listing_of m.state.plan m.state.entries)) }
     ensures front { form_of words ≡ Some form.Run → result.status ≡ Status.WriteFault →
-        IsSomeAnd result.book (λ b. AppendsFront (K.held out.old) (K.held out.new) (listing_of b.script b.entries)) }
+        IsSomeAnd result.machine
+        (λ m. AppendsFront (K.held out.old) (K.held out.new) (listing_of m.state.plan m.state.entries)) }
     ensures made { (n : ℕ) → form_of words ≡ Some (form.Make n) → result.status ≡ Status.Done →
         Appends (K.held out.old) (K.held out.new) (made n) }
     ensures made_front { (n : ℕ) → form_of words ≡ Some (form.Make n) → result.status ≡ Status.WriteFault →
@@ -174,13 +196,10 @@ pub fn multics<R: Threads + Wait + Sync, S: Source, K: Sink, G: Gate + Sync>(
     ensures finds_refused { form_of words ≡ Some form.Run → (Rose (S.faults src.old) (S.faults src.new) → ⊥) →
         IfSome (S.left src.old) (λ bytes. (r : Refusal) → length bytes ≤ 4194304 → script_of bytes ≡ Err r →
         (result.status ≡ Status.Script r) ⊎ (result.status ≡ Status.Memory)) }
-    ensures finds_later { form_of words ≡ Some form.Run → (Rose (S.faults src.old) (S.faults src.new) → ⊥) →
-        IfSome (S.left src.old) (λ bytes. (p : Plan) → length bytes ≤ 4194304 → script_of bytes ≡ Ok p →
-        script_runs p ≡ false → (result.status ≡ Status.Later) ⊎ (result.status ≡ Status.Memory)) }
     ensures completes { form_of words ≡ Some form.Run → (Rose (S.faults src.old) (S.faults src.new) → ⊥) →
         (Rose (K.faults out.old) (K.faults out.new) → ⊥) →
         IfSome (S.left src.old) (λ bytes. (p : Plan) → length bytes ≤ 4194304 → script_of bytes ≡ Ok p →
-        script_runs p ≡ true → (result.status ≡ Status.Done) ⊎ (result.status ≡ Status.Memory)) }
+        (result.status ≡ Status.Done) ⊎ (result.status ≡ Status.Memory)) }
     ensures finds_long_listing { form_of words ≡ Some form.Check → (Rose (S.faults src.old) (S.faults src.new) → ⊥) →
         IfSome (S.left src.old) (λ bytes. 134217728 < length bytes →
         (result.status ≡ Status.TooLong) ⊎ (result.status ≡ Status.Memory)) }

@@ -5,7 +5,7 @@ use Rattle.runner.proofs.top.answer.Goals as goal
 
 pub returns-in-None-clause-ends : goal.returns-in-None-clause-ends
 returns-in-None-clause-ends g c =
-    asked_none _ _ _ _ (sym c.form.ensures.form ∙ c.in-None.is) c.with_text.ensures.status c.with_text.ensures.book
+    asked_none _ _ _ _ (sym c.form.ensures.form ∙ c.in-None.is) c.with_text.ensures.status c.with_text.ensures.machine
     c.with_text.ensures.text (reads_nothing _ _)
 
 pub returns-clause-ends : goal.returns-clause-ends

@@ -1,8 +1,8 @@
 -- Each clause of the top call, by what the ending says. (own)
 use Rattle.runner.proofs.Verdicts.{by_verdict, ended, fact_only, found_accepted, found_checked_long, found_done}
 use Rattle.runner.proofs.Verdicts.{found_drilled}
-use Rattle.runner.proofs.Verdicts.{found_fault, found_later, found_long, found_made, found_refused, front_only}
-use Rattle.runner.proofs.Verdicts.{of_run, printed_in, usage_there, verdict, write_failed}
+use Rattle.runner.proofs.Verdicts.{found_fault, found_long, found_made, found_refused, front_only, of_run}
+use Rattle.runner.proofs.Verdicts.{printed_in, shut_down, usage_there, verdict, whole_only, write_failed}
 use Rattle.runner.specs.declared.finished.Status.TheVariants as status
 use Rattle.runner.proofs.top.multics.Goals as goal
 
@@ -62,29 +62,42 @@ returns-clause-finds_fault g c = λ asks fine. found_fault _ _ _ _ c.answer.ensu
 pub returns-clause-accepts : goal.returns-clause-accepts
 returns-clause-accepts g c = λ asks fine whole. found_accepted _ _ _ _ c.answer.ensures.ends asks fine whole
 
-pub returns-clause-later : goal.returns-clause-later
-returns-clause-later g c = λ e. fact_only _ _ _ (ended _ _ _ _ status.Later c.answer.ensures.ends e).1
-
-pub returns-clause-later_text : goal.returns-clause-later_text
-returns-clause-later_text g c = λ e. (ended _ _ _ _ status.Later c.answer.ensures.ends e).2
-
 pub returns-clause-script : goal.returns-clause-script
-returns-clause-script g c = of_run _ c.answer.result _ (λ b r. r.script) c.answer.ensures.ends.run
+returns-clause-script g c = of_run _ _ _ (λ m r. r.script) c.answer.ensures.ends.run
 
 pub returns-clause-legal : goal.returns-clause-legal
-returns-clause-legal g c = of_run _ c.answer.result _ (λ b r. r.legal) c.answer.ensures.ends.run
+returns-clause-legal g c = of_run _ _ _ (λ m r. r.run.legal) c.answer.ensures.ends.run
+
+pub returns-clause-clean : goal.returns-clause-clean
+returns-clause-clean g c = of_run _ _ _ (λ m r. r.run.clean) c.answer.ensures.ends.run
+
+pub returns-clause-drives : goal.returns-clause-drives
+returns-clause-drives g c = of_run _ _ _ (λ m r. r.run.drives) c.answer.ensures.ends.run
+
+pub returns-clause-faults : goal.returns-clause-faults
+returns-clause-faults g c = of_run _ _ _ (λ m r. r.run.faults) c.answer.ensures.ends.run
+
+pub returns-clause-booted : goal.returns-clause-booted
+returns-clause-booted g c = c.answer.ensures.ends.booted
+
+pub returns-clause-no_machine : goal.returns-clause-no_machine
+returns-clause-no_machine g c = c.answer.ensures.ends.only
 
 pub returns-clause-complete : goal.returns-clause-complete
-returns-clause-complete g c = of_run _ c.answer.result _ (λ b r. r.complete) c.answer.ensures.ends.run
+returns-clause-complete g c = λ asks printed. shut_down _ _ _ _ _ (λ m s. s.complete) c.answer.ensures.ends asks printed
 
 pub returns-clause-settled : goal.returns-clause-settled
-returns-clause-settled g c = of_run _ c.answer.result _ (λ b r. r.settled) c.answer.ensures.ends.run
+returns-clause-settled g c = λ asks printed. shut_down _ _ _ _ _ (λ m s. s.settled) c.answer.ensures.ends asks printed
 
 pub returns-clause-disk : goal.returns-clause-disk
-returns-clause-disk g c = of_run _ c.answer.result _ (λ b r. r.disk) c.answer.ensures.ends.run
+returns-clause-disk g c = λ asks printed. shut_down _ _ _ _ _ (λ m s. s.disk) c.answer.ensures.ends asks printed
+
+pub returns-clause-stayed : goal.returns-clause-stayed
+returns-clause-stayed g c = λ asks printed. shut_down _ _ _ _ _ (λ m s. s.told) c.answer.ensures.ends asks printed
 
 pub returns-clause-listing : goal.returns-clause-listing
-returns-clause-listing g c = λ asks e. printed_in _ _ _ _ _ (ended _ _ _ _ status.Done c.answer.ensures.ends e) asks
+returns-clause-listing g c = λ asks e. whole_only _ _ _
+    (printed_in _ _ _ _ _ (ended _ _ _ _ status.Done c.answer.ensures.ends e) asks)
 
 pub returns-clause-front : goal.returns-clause-front
 returns-clause-front g c = λ asks e. front_only _ _ (printed_in _ _ _ _ _
@@ -118,10 +131,6 @@ returns-clause-finds_too_long g c = λ asks fine. by_verdict _ _ _ _ (verdict _ 
 pub returns-clause-finds_refused : goal.returns-clause-finds_refused
 returns-clause-finds_refused g c = λ asks fine. by_verdict _ _ _ _ (verdict _ _ _ _ c.answer.ensures.ends asks fine)
     (λ bytes v. found_refused _ _ _ v)
-
-pub returns-clause-finds_later : goal.returns-clause-finds_later
-returns-clause-finds_later g c = λ asks fine. by_verdict _ _ _ _ (verdict _ _ _ _ c.answer.ensures.ends asks fine)
-    (λ bytes v. found_later _ _ _ v)
 
 pub returns-clause-completes : goal.returns-clause-completes
 returns-clause-completes g c = λ asks fine whole. by_verdict _ _ _ _ (verdict _ _ _ _ c.answer.ensures.ends asks fine)

@@ -1,0 +1,10 @@
+use Rattle.std.proofs.Common.{◌≡◌, ℕ, length, Some}
+use Rattle.std.specs.Prelude.{slice_get}
+use Rattle.bulk_store.specs.declared.any_drive.AnyDrive.{AnyDrive}
+use Rattle.runner.specs.Drives.{IsFresh}
+use Rattle.runner.proofs.drives.drives_of.Given as goal
+
+-- the drives of the volumes gone over
+abbrev pub invariant-loop-v : goal.invariant-loop-v
+invariant-loop-v l = (length l.drives.items ≡ l.v) × ((v : ℕ) (d : AnyDrive) → slice_get l.drives.items v ≡ Some d
+    → IsFresh l.script v d)

@@ -1,0 +1,18 @@
+use Rattle.std.proofs.Common.{◌≡◌, ◌≤◌, ◌-◌, true}
+use Rattle.bulk_store.specs.AnyDrive.{any_places}
+use Rattle.machine_model.specs.Actions.{is_over}
+use Rattle.machine.specs.Turns.{KeepsParts}
+use Rattle.runner.specs.Drives.{plan_of}
+use Rattle.runner.proofs.ending.visit_frames.Given as goal
+
+-- what stands before each visit
+abbrev pub invariant-loop-machine : goal.invariant-loop-machine
+invariant-loop-machine l = record {
+  over : is_over l.machine.state ≡ true;
+  room : 320 ≤ l.machine.state.spare;
+  kept : KeepsParts plan_of any_places l.fn.machine l.machine;
+}
+
+-- the frames that weren't visited
+abbrev pub decreases-loop-machine : goal.decreases-loop-machine
+decreases-loop-machine l = l.machine.state.plan.frames - l.machine.state.visited

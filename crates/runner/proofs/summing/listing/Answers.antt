@@ -1,0 +1,8 @@
+use Rattle.std.proofs.Common.{◌∙◌}
+use Rattle.runner.proofs.SumLaws.{listed_by}
+use Rattle.runner.proofs.summing.listing.Goals as goal
+
+pub returns-in-Ok : goal.returns-in-Ok
+returns-in-Ok c = rw (← c.book.ensures.script, ← c.book.ensures.entries) (c.in-Ok.ensures
+    ∙ listed_by c.book.result.now.script c.book.result.now.entries c.in_ok-summary.summary
+    (rw (c.book.ensures.script, c.book.ensures.entries) c.in_ok-summary.ensures))

@@ -1,0 +1,8 @@
+use Rattle.std.proofs.Common.{◌≡◌}
+use Rattle.flat_model.specs.Legal.{store_after}
+use Rattle.listing.specs.Listings.{uses_of}
+use Rattle.runner.proofs.summing.uses.Given as goal
+
+-- those of the volumes gone over
+abbrev pub invariant-loop-v : goal.invariant-loop-v
+invariant-loop-v l = l.uses.items ≡ uses_of (store_after l.machine.state.plan l.machine.state.entries) l.v

@@ -1,0 +1,88 @@
+//! A run of a script: the machine is booted, its workers make its steps, and what they left is ended and printed.
+
+ghost use Rattle.std.specs.Prelude.{◌≡◌, IfOk, IfSome};
+ghost use Rattle.machine.specs.Turns.{KeepsParts};
+ghost use Rattle.bulk_store.specs.AnyDrive.{any_places};
+ghost use Rattle.runner.specs.Drives.{AreTold, plan_of};
+ghost use Rattle.runner.specs.Endings.{change, MayHaveRun, PrintsIfRun, PrintsRun};
+ghost use Rattle.runner.specs.Runs.{IsRun};
+
+use crate::NoMemory;
+use crate::drives::drives_of;
+use crate::ending::end;
+use crate::finished::{Finished, Status};
+use crate::printing::{print, without_machine};
+use crate::summing::listing;
+use bulk_store::AnyDrive;
+use machine::Machine;
+use script::Script;
+use site_io::{Gate, Sink};
+use std::alloc::Global;
+use std::sync::Wait;
+use std::thread::Threads;
+use workers::run_workers;
+
+/// The machine of a script, before its first step.
+fn boot(alloc: Global, script: Script) -> Result<Machine<AnyDrive>, NoMemory>
+    ensures script { IfOk result (λ m. m.state.plan ≡ script) }
+    ensures drives { IfOk result (λ m. AreTold script m.drives) }
+{
+    let drives = drives_of(alloc, &script)?;
+    match Machine::boot(alloc, script, drives) {
+        Ok(machine) => Ok(machine),
+        Err(_) => Err(NoMemory),
+    }
+}
+
+/// Ends what the workers left, and writes the listing.
+fn end_and_print<K: Sink>(alloc: Global, machine: &mut Machine<AnyDrive>, out: &mut K) -> Status
+    ensures kept { KeepsParts plan_of any_places machine.old machine.new }
+    ensures printed { PrintsRun result machine.new
+        (change (K.held out.old) (K.held out.new) (K.faults out.old) (K.faults out.new)) }
+    ensures status { MayHaveRun result }
+{
+    if end(machine).is_err() {
+        return Status::Memory;
+    }
+    match listing(alloc, machine) {
+        Ok(text) => print(out, &text),
+        Err(_) => Status::Memory,
+    }
+}
+
+/// What is left of a run that came to a status.
+fn left(machine: Machine<AnyDrive>, status: Status) -> Finished
+    requires { AreTold machine.state.plan machine.drives }
+    ensures status { result.status ≡ status }
+    ensures machine { result.machine ≡ Some machine }
+    ensures run { IsRun machine }
+{
+    let _book = machine.book();
+    let _count = machine.volumes().count();
+    Finished {
+        status,
+        machine: Some(machine),
+    }
+}
+
+/// Runs a script, and writes its listing.
+pub(crate) fn run_script<R: Threads + Wait + Sync, K: Sink, G: Gate + Sync>(
+    rt: &R,
+    alloc: Global,
+    script: Script,
+    out: &mut K,
+    gate: &G,
+) -> Finished
+    ensures printed { PrintsIfRun result.status result.machine
+        (change (K.held out.old) (K.held out.new) (K.faults out.old) (K.faults out.new)) }
+    ensures script { IfSome result.machine (λ m. m.state.plan ≡ script) }
+    ensures run { IfSome result.machine IsRun }
+    ensures booted { IfSome result.machine (λ m. MayHaveRun result.status) }
+{
+    let Ok(machine) = boot(alloc, script) else {
+        return without_machine(Status::Memory);
+    };
+    let mut machine = run_workers(rt, machine, gate);
+    let status = end_and_print(alloc, &mut machine, out);
+    left(machine, status)
+}
