@@ -16,6 +16,7 @@ impl<D: Drive> Machine<D> {
         requires room { 320 ≤ self.old.state.spare }
         ensures done { HasVisited D.plan D.places self.old self.new }
         ensures faults { TellsLoss D.faults self.old self.new }
+        ensures entries { Appends self.old.state.entries self.new.state.entries 320 }
     {
         let _before = self.tables.look();
         let _visited = self.tables.visit();

@@ -2,6 +2,7 @@ use Rattle.std.proofs.Common.{◌≤◌, arith}
 use Rattle.machine.proofs.DriveCounts.{call_counts}
 use Rattle.machine.proofs.LossTold.{visited_tells}
 use Rattle.machine.proofs.VisitCalls.{frames_planned, over_owner, visit_done, visit_here, visit_sound, visit_within}
+use Rattle.machine.proofs.VisitCalls.{visited_adds}
 use Rattle.machine.proofs.machine.Machine.visit.Goals as goal
 
 pub visit-visited-requires-clause-count : goal.visit-visited-requires-clause-count
@@ -30,14 +31,11 @@ returns-clause-done g c = rw (← c.self.view_is) (visit_done _ c.self.invariant
     g.D.Drive.plan g.D.Drive.places g.D.Drive.faults _ c.visit-visited.ensures.drives c.visit-visited.ensures.room)
 
 pub returns-clause-faults : goal.returns-clause-faults
-returns-clause-faults g c = rw (← c.self.view_is) (visited_tells g.D.Drive.plan g.D.Drive.places g.D.Drive.faults _ _
-    (visit_done _ c.self.invariant (rw c.self.view_is c.requires.over)
-    c.visit-visited.result c.visit-visited.new.self (rw c.self.view_is c.requires.more) c.visit-visited.ensures.state
-    c.visit-visited.ensures.shown c.visit-visited.ensures.zeros
-    (call_counts _ _ _ _ _ _ c.visit-visited.result _ _ c.visit-visited.ensures.drives c.look-before.ensures.faults
-    c.look-tables.ensures.faults)
-    g.D.Drive.plan g.D.Drive.places g.D.Drive.faults _ c.visit-visited.ensures.drives c.visit-visited.ensures.room)
-    c.look-before.ensures.faults c.look-tables.ensures.faults)
+returns-clause-faults g c = visited_tells g.D.Drive.plan g.D.Drive.places g.D.Drive.faults _ _
+    (returns-clause-done g c) (rw (← c.self.view_is) c.look-before.ensures.faults) c.look-tables.ensures.faults
+
+pub returns-clause-entries : goal.returns-clause-entries
+returns-clause-entries g c = visited_adds g.D.Drive.plan g.D.Drive.places _ _ (returns-clause-done g c)
 
 pub invariant_of-self : goal.invariant_of-self
 invariant_of-self g c = visit_sound _ c.self.invariant (rw c.self.view_is c.requires.over) c.visit-visited.result
