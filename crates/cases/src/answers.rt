@@ -1,8 +1,7 @@
-ghost use Rattle.std.specs.Prelude.{◌≤◌, IfSome};
-ghost use Rattle.flat_model.specs.Legal.{IsLegal};
+ghost use Rattle.std.specs.Prelude.{◌≤◌};
 
 use crate::asking::Asked;
-use crate::following::root_line;
+use crate::books::book_text;
 use runner::{Finished, Status, Words, multics};
 use site_io::{MemorySink, MemorySource, NoGate};
 use std::alloc::{AllocError, Global};
@@ -20,21 +19,8 @@ fn ending(status: Status) -> &'static str {
         Status::ReadFault => "read fault",
         Status::WriteFault => "write fault",
         Status::Memory => "memory",
-        Status::Later => "later",
         Status::Refused(_) => "listing refused",
     }
-}
-
-/// Calls the program once.
-fn call<R: Threads + Wait + Sync + AllocGlobal>(
-    rt: &R,
-    words: Words,
-    source: &mut MemorySource,
-    sink: &mut MemorySink,
-) -> Finished
-    ensures { IfSome result.book (λ b. IsLegal b.script b.entries) }
-{
-    multics(rt, rt.alloc(), words, source, sink, &NoGate)
 }
 
 /// A source of some bytes in pieces of this size, which may fail as soon as it is read.
@@ -58,8 +44,33 @@ fn wide_sink(alloc: Global) -> Result<MemorySink, AllocError> {
     MemorySink::new(alloc, 65536, Vec::new(alloc)).map_err(|_| AllocError)
 }
 
-/// What the program answers an input that comes in pieces of so many bytes: how it ended, what it wrote, and how many
-/// pages the root is charged for then.
+/// How a call ended, the lines that it wrote, and what is told of its book.
+fn told(
+    alloc: Global,
+    asked: &Asked,
+    finished: &Finished,
+    written: &[u8],
+) -> Result<String, AllocError> {
+    let ending = ending(finished.status);
+    let lines = asked.lines_of(alloc, str::from_utf8(written).unwrap_or("no text\n"))?;
+    let book = book_text(alloc, asked, finished, written)?;
+    format!(in alloc; "{ending}\n{lines}{book}")
+}
+
+/// Calls the program once, and tells of it.
+fn call_text<R: Threads + Wait + Sync + AllocGlobal>(
+    rt: &R,
+    asked: &Asked,
+    words: Words,
+    source: &mut MemorySource,
+    sink: &mut MemorySink,
+) -> Result<String, AllocError> {
+    let finished = multics(rt, rt.alloc(), words, source, sink, &NoGate);
+    told(rt.alloc(), asked, &finished, sink.bytes())
+}
+
+/// What the program answers an input that comes in pieces of so many bytes: how it ended, what it wrote, and what is
+/// told of the book that it left.
 pub(crate) fn answer_text<R: Threads + Wait + Sync + AllocGlobal>(
     rt: &R,
     asked: &Asked,
@@ -72,10 +83,5 @@ pub(crate) fn answer_text<R: Threads + Wait + Sync + AllocGlobal>(
     let words = asked.words(alloc)?;
     let mut source = source_of(alloc, input, piece, asked.unread)?;
     let mut sink = wide_sink(alloc)?;
-    let finished = call(rt, words, &mut source, &mut sink);
-    let written = str::from_utf8(sink.bytes()).unwrap_or("no text\n");
-    let lines = asked.lines_of(alloc, written)?;
-    let root = root_line(alloc, &finished)?;
-    let ending = ending(finished.status);
-    format!(in alloc; "{ending}\n{lines}{root}")
+    call_text(rt, asked, words, &mut source, &mut sink)
 }

@@ -8,19 +8,40 @@ pub(crate) struct Asked<'a> {
     words: &'a str,
     /// The words of which a line begins with one that is printed; all lines are printed where there are none.
     only: &'a str,
+    /// The places of segments whose words are printed, each a uid and an offset with a dot between.
+    pub(crate) places: &'a str,
     /// Whether the source fails as soon as it is read.
     pub(crate) unread: bool,
+    /// How often the program runs on the input, all of it in one piece; 0 for once in pieces of each size.
+    pub(crate) times: u32,
 }
 
 impl<'a> Asked<'a> {
     /// What a line asks.
     pub(crate) fn by(line: &'a str) -> Asked<'a> {
         let (words, rest) = line.rsplit_once(']').unwrap_or(("", line));
-        let rest = rest.trim();
-        Asked {
+        let mut asked = Asked {
             words,
-            only: rest.strip_prefix("only ").unwrap_or(""),
-            unread: rest == "unread",
+            only: "",
+            places: "",
+            unread: false,
+            times: 0,
+        };
+        for option in rest.split(';') {
+            asked.take(option.trim());
+        }
+        asked
+    }
+
+    /// Takes one more of the options of a line.
+    fn take(&mut self, option: &'a str) {
+        let (name, rest) = option.split_once(' ').unwrap_or((option, ""));
+        match name {
+            "only" => self.only = rest,
+            "words" => self.places = rest,
+            "unread" => self.unread = true,
+            "times" => self.times = rest.parse().unwrap_or(0),
+            _ => (),
         }
     }
 

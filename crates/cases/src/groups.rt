@@ -9,8 +9,24 @@ fn first_line(text: &str) -> (&str, &str) {
     text.split_once('\n').unwrap_or((text, ""))
 }
 
+/// What an input gives in so many runs of the program, which must be the same in each.
+fn repeated<R: Threads + Wait + Sync + AllocGlobal>(
+    rt: &R,
+    asked: &Asked,
+    input: &str,
+) -> Result<String, AllocError> {
+    let first = answer_text(rt, asked, input.as_bytes(), 65536)?;
+    for run in 1..asked.times {
+        let other = answer_text(rt, asked, input.as_bytes(), 65536)?;
+        if other != first {
+            return format!(in rt.alloc(); "{first}after {run} runs: {other}");
+        }
+    }
+    Ok(first)
+}
+
 /// What an input gives, whatever the pieces are in which it is read.
-fn answers<R: Threads + Wait + Sync + AllocGlobal>(
+fn in_pieces<R: Threads + Wait + Sync + AllocGlobal>(
     rt: &R,
     asked: &Asked,
     input: &str,
@@ -23,6 +39,19 @@ fn answers<R: Threads + Wait + Sync + AllocGlobal>(
         }
     }
     Ok(whole)
+}
+
+/// What an input gives.
+fn answers<R: Threads + Wait + Sync + AllocGlobal>(
+    rt: &R,
+    asked: &Asked,
+    input: &str,
+) -> Result<String, AllocError> {
+    if asked.times > 0 {
+        repeated(rt, asked, input)
+    } else {
+        in_pieces(rt, asked, input)
+    }
 }
 
 /// The lines that all cases of a group begin with, and those of one.

@@ -4,15 +4,23 @@
 //! What stands before the first case is for the reader. A case is a line `== NAME`, a line that asks, and the input,
 //! which ends before the line feed of the next such line: a blank line there leaves the input its last line feed.
 //! Where lines `-- NAME` stand in the input, it is a group: each of them begins a case of the lines before the first
-//! and those below it. The line that asks has the program's words, each in brackets, and then may have `only` and
-//! some words, to print but the lines that begin with one of these, or `unread`, for a source that fails as soon as
-//! it is read.
+//! and those below it. The line that asks has the program's words, each in brackets, and then these, with `;` between:
+//! - `only WORDS` prints but the lines that begin with one of the words;
+//! - `words U.OFF ..` prints the words at these places of the segments of these uids, by the flat store after the book;
+//! - `unread` has a source that fails as soon as it is read;
+//! - `times N` runs the program N times, and each run must give the same.
+//!
+//! Without `times` the program runs with the input in one piece, in pieces of 1 byte and in pieces of 7. Behind what a
+//! run wrote stands what is told of its book: the pages that the root is charged for, which `times` leaves out, and
+//! `accepted and listed` where the flat store and custody accept each entry, each process has ended, no stored page is
+//! all zeros, and the text is the listing of the book.
 #![tactic(auto)]
 
 mod answers;
 mod asking;
-mod following;
+mod books;
 mod groups;
+mod judging;
 
 use crate::groups::case_text;
 use std::io;

@@ -1,15 +1,11 @@
-ghost use Rattle.std.specs.Prelude.{IfSome};
-ghost use Rattle.flat_model.specs.Legal.{IsLegal};
-
-use book::Book;
-use flat_store::FlatStore;
-use runner::{Finished, Status, Words, multics};
-use site_io::{MemorySink, MemorySource, NoGate};
+use crate::left::{Left, left_by};
+use flat_store::NoMemory;
+use runner::{Status, Words, multics};
+use site_io::{Gate, MemorySink, MemorySource, NoGate};
 use std::alloc::{AllocError, Global};
 use std::sync::Wait;
 use std::test::Fail;
 use std::thread::Threads;
-use volumes::{CoreDrive, Volumes};
 
 /// What a call reads and writes, and where it fails.
 #[derive(Clone, Copy)]
@@ -38,10 +34,8 @@ pub(crate) struct Answer {
     pub(crate) status: Status,
     /// What it wrote.
     pub(crate) text: Vec<u8>,
-    /// How many pages the root is charged for by the flat store after its book.
-    pub(crate) charged: Option<u32>,
-    /// The reads and the writes of the first volume's drive.
-    pub(crate) calls: Option<(u64, u64)>,
+    /// What its machine left, if one booted.
+    pub(crate) left: Option<Left>,
 }
 
 /// The program's words.
@@ -53,40 +47,43 @@ fn words_of(alloc: Global, words: &[&str]) -> Result<Words, Fail> {
     Ok(Words::new(texts))
 }
 
-/// Calls the program once.
-fn call<R: Threads + Wait + Sync + AllocGlobal>(
+/// Calls the program once; how it ended, and what its machine left.
+fn call<R: Threads + Wait + Sync + AllocGlobal, G: Gate + Sync>(
     rt: &R,
     words: Words,
     source: &mut MemorySource,
     sink: &mut MemorySink,
-) -> Finished
-    ensures { IfSome result.book (λ b. IsLegal b.script b.entries) }
-{
-    multics(rt, rt.alloc(), words, source, sink, &NoGate)
-}
-
-/// How many pages the root is charged for after a book.
-fn charged(alloc: Global, book: &Option<Book>) -> Result<Option<u32>, Fail>
-    requires { IfSome book.now (λ b. IsLegal b.script b.entries) }
-{
-    match book {
-        Some(book) => Ok(Some(FlatStore::after(alloc, book)?.used(1))),
-        None => Ok(None),
-    }
-}
-
-/// The reads and the writes of the first volume's drive.
-fn first_calls(volumes: &Option<Volumes<CoreDrive>>) -> Option<(u64, u64)> {
-    match volumes {
-        Some(volumes) if volumes.count() > 0 => Some(volumes.drive(0).calls()),
-        _ => None,
-    }
+    gate: &G,
+) -> (Status, Result<Option<Left>, NoMemory>) {
+    let finished = multics(rt, rt.alloc(), words, source, sink, gate);
+    (finished.status, left_by(rt.alloc(), &finished.machine))
 }
 
 /// A list of one number, or of none where it is 0.
 fn listed(alloc: Global, number: u64) -> Result<Vec<u64>, AllocError> {
     let count = if number == 0 { 0 } else { 1 };
     vec![in alloc; number; count]
+}
+
+/// Calls the program with some words on some bytes, whose processors pass a gate.
+pub(crate) fn ask_through<R: Threads + Wait + Sync + AllocGlobal, G: Gate + Sync>(
+    rt: &R,
+    words: &[&str],
+    bytes: &[u8],
+    streams: Streams,
+    gate: &G,
+) -> Result<Answer, Fail> {
+    let alloc = rt.alloc();
+    let words = words_of(alloc, words)?;
+    let fails = listed(alloc, streams.failing_read)?;
+    let mut source = MemorySource::new(bytes.to_vec(alloc)?, streams.piece.max(1), fails);
+    let mut sink = MemorySink::new(alloc, streams.room, listed(alloc, streams.failing_write)?)?;
+    let (status, left) = call(rt, words, &mut source, &mut sink, gate);
+    Ok(Answer {
+        status,
+        text: sink.bytes().to_vec(alloc)?,
+        left: left?,
+    })
 }
 
 /// Calls the program with some words on some bytes.
@@ -96,18 +93,7 @@ pub(crate) fn ask<R: Threads + Wait + Sync + AllocGlobal>(
     bytes: &[u8],
     streams: Streams,
 ) -> Result<Answer, Fail> {
-    let alloc = rt.alloc();
-    let words = words_of(alloc, words)?;
-    let fails = listed(alloc, streams.failing_read)?;
-    let mut source = MemorySource::new(bytes.to_vec(alloc)?, streams.piece.max(1), fails);
-    let mut sink = MemorySink::new(alloc, streams.room, listed(alloc, streams.failing_write)?)?;
-    let finished = call(rt, words, &mut source, &mut sink);
-    Ok(Answer {
-        status: finished.status,
-        text: sink.bytes().to_vec(alloc)?,
-        charged: charged(alloc, &finished.book)?,
-        calls: first_calls(&finished.volumes),
-    })
+    ask_through(rt, words, bytes, streams, &NoGate)
 }
 
 /// Calls the program with some words, where nothing is read, into so much room.

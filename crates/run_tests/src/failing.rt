@@ -70,7 +70,8 @@ fn a_failing_write_is_a_write_fault(rt: HostRuntime) -> Result<(), Fail> {
     };
     let answer = ask(&rt, &["run"], SCRIPT, streams)?;
     assert!(rt; answer.status == Status::WriteFault && answer.text.is_empty());
-    assert_eq!(rt; answer.charged, Some(1));
+    let left = answer.left.expect(&rt, "a machine");
+    assert_eq!(rt; left.store.used(1), 1);
     for room in 0..LISTING.len() {
         let answer = ask(&rt, &["run"], SCRIPT, Streams { room, ..PLAIN })?;
         assert!(rt; answer.status == Status::WriteFault, "{room}");
@@ -144,6 +145,15 @@ fn a_verdict_that_cannot_be_written_changes_no_status(rt: HostRuntime) -> Result
     )?;
     assert!(rt; matches!(answer.status, Status::Refused(_)));
     assert!(rt; answer.text.as_slice() == b"refused".as_slice());
+    Ok(())
+}
+
+#[test]
+fn as_many_bytes_as_a_script_may_have_are_read(rt: HostRuntime) -> Result<(), Fail> {
+    let bytes = vec![in rt.alloc(); b'#'; 4_194_304]?;
+    let answer = ask(&rt, &["run"], &bytes, PLAIN)?;
+    assert!(rt; matches!(answer.status, Status::Script(_)));
+    assert!(rt; answer.text.as_slice() == b"script refused at line 2: missing\n".as_slice());
     Ok(())
 }
 

@@ -1,5 +1,6 @@
-//! Tests of the program that a loop makes, over the public calls of `runner`: inputs cut at each byte or with each byte
-//! changed, reads and writes that fail in turn, and texts that are too long to stand here. `cases` has all others.
+//! Tests of the program that take code, over the public calls of `runner`: inputs cut at each byte or with each byte
+//! changed, reads and writes that fail in turn, texts that are too long to stand here, gates that hold processors or
+//! count what passes, and how often a disk is asked. `cases` has all others.
 #![tactic(auto)]
 
 #[cfg(test)]
@@ -7,10 +8,18 @@ mod asking;
 #[cfg(test)]
 mod changing;
 #[cfg(test)]
+mod days;
+#[cfg(test)]
 mod drilling;
 #[cfg(test)]
 mod drives;
 #[cfg(test)]
 mod failing;
+#[cfg(test)]
+mod holding;
+#[cfg(test)]
+mod left;
+#[cfg(test)]
+mod limits;
 #[cfg(test)]
 mod making;

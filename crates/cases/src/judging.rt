@@ -1,0 +1,68 @@
+//! What both judges say of a whole book.
+
+ghost use Rattle.flat_model.specs.Legal.{IsLegal};
+
+use book::{Book, entry_text};
+use book_check::{CheckFault, check_book};
+use flat_store::FlatStore;
+use listing::{listing_text, summary, summary_text};
+use script::script_text;
+use std::alloc::{AllocError, Global};
+
+/// The most bytes of a text that is judged.
+const MOST: usize = 134_217_728;
+
+/// A script, a line `book`, and every entry of its book.
+fn entries_text(alloc: Global, book: &Book) -> Result<Vec<u8>, AllocError> {
+    let mut text = script_text(alloc, book.script()).map_err(|_| AllocError)?;
+    text.extend_from_slice(b"book\n")?;
+    for entry in book.entries() {
+        let line = entry_text(alloc, *entry).map_err(|_| AllocError)?;
+        text.extend_from_slice(line.as_bytes())?;
+        text.push(b'\n')?;
+    }
+    Ok(text)
+}
+
+/// A book with its script and its summary, as the judge of listings reads it.
+fn whole_text(alloc: Global, book: &Book, store: &FlatStore) -> Result<Vec<u8>, AllocError> {
+    let mut text = entries_text(alloc, book)?;
+    let summary = summary(alloc, book.script(), store).map_err(|_| AllocError)?;
+    let lines = summary_text(alloc, &summary).map_err(|_| AllocError)?;
+    text.extend_from_slice(lines.as_bytes())?;
+    Ok(text)
+}
+
+/// Whether the flat store and custody accept each entry of a book, whose processes have all ended, and which leaves no
+/// stored page of zeros.
+fn is_accepted(alloc: Global, book: &Book, store: &FlatStore) -> Result<bool, AllocError> {
+    let text = whole_text(alloc, book, store)?;
+    if text.len() > MOST {
+        return Ok(false);
+    }
+    match check_book(alloc, &text) {
+        Ok(_) => Ok(true),
+        Err(CheckFault::Refused(_) | CheckFault::Script(_)) => Ok(false),
+        Err(CheckFault::Memory) => Err(AllocError),
+    }
+}
+
+/// What is said of a book and of a text: whether both judges accept the book whole, and the text is its listing.
+pub(crate) fn verdict(
+    alloc: Global,
+    book: &Book,
+    store: &FlatStore,
+    written: &[u8],
+) -> Result<&'static str, AllocError>
+    requires { IsLegal book.now.script book.now.entries }
+{
+    if !is_accepted(alloc, book, store)? {
+        return Ok("refused");
+    }
+    let listing = listing_text(alloc, book).map_err(|_| AllocError)?;
+    if listing.as_slice() == written {
+        Ok("accepted and listed")
+    } else {
+        Ok("accepted, and not listed")
+    }
+}
