@@ -1,0 +1,181 @@
+// Tries the viewer's logic, and its page over a document of no browser: node viewer/test.mjs
+import assert from "node:assert/strict";
+import { readFileSync, readdirSync } from "node:fs";
+import { dirname, join } from "node:path";
+import { fileURLToPath } from "node:url";
+import vm from "node:vm";
+
+const here = dirname(fileURLToPath(import.meta.url));
+const root = dirname(here);
+const html = readFileSync(join(here, "index.html"), "utf8");
+
+/** The text of one of the page's scripts. */
+function scriptOf(id) {
+  return new RegExp(`<script id="${id}">([^]*?)</script>`).exec(html)[1];
+}
+
+vm.runInThisContext(scriptOf("logic"), { filename: "logic" });
+const { multics } = globalThis;
+
+/** The text of a file of the repository. */
+const read = (path) => readFileSync(join(root, path), "utf8");
+
+/** Each script with all its listings of entries. */
+function* listings() {
+  for (const folder of ["examples", ...readdirSync(join(root, "labs")).map((it) => join("labs", it))]) {
+    let names = [];
+    try {
+      names = readdirSync(join(root, folder));
+    } catch {
+      continue;
+    }
+    for (const name of names.filter((it) => /\.(listing|book)$/.test(it))) {
+      const listing = read(join(folder, name));
+      if (listing.startsWith("online")) {
+        yield [join(folder, name), listing, read(join(folder, `${name.split(".")[0]}.script`))];
+      }
+    }
+  }
+}
+
+/** What a state has, as plain data. */
+function plain(state) {
+  return JSON.stringify([state.frames, [...state.descriptors], state.processors, [...state.active], state.ready,
+    [...state.known], [...state.nodes], [...state.stored].map(([uid, pages]) => [uid, [...pages].sort()])]);
+}
+
+/** At the end of each listing the accounts are those of its summary, and each entry has a meaning. */
+function accountsAreTheSummary() {
+  let many = 0;
+  for (const [name, listing, script] of listings()) {
+    const run = multics.openListing(listing, script);
+    assert.deepEqual(multics.summaryOf(run, multics.stateAfter(run, run.count)), run.summary, name);
+    for (let at = 0; at < run.count; at++) assert.doesNotMatch(multics.meaningOf(run, at), /undefined|no entry/, name);
+    many += 1;
+  }
+  assert.ok(many > 5);
+}
+
+/** What is shown as access is taken away: who holds what up to the cut, after the clear, and once it is gone. */
+function revocationIsShown() {
+  const run = multics.openListing(read("labs/3-revocation/access.listing"), read("labs/3-revocation/access.script"));
+  const after = (text) => multics.stateAfter(run, multics.find(run, 0, text) + 1);
+  assert.deepEqual(after("do 2.1").processors[1].segments, [0]);
+  const cut = after("cut 2 0");
+  assert.equal(cut.descriptors.get("2 0").going, true);
+  assert.deepEqual([cut.processors[1].segments, cut.processors[1].frames], [[0], [0]]);
+  assert.equal(after("signal 0 seg 2").processors[1].due, "seg 2");
+  assert.deepEqual(after("signal 0 seg 2").processors[0].segments, []);
+  const cleared = after("clear 1 seg 2").processors[1];
+  assert.deepEqual([cleared.segments, cleared.frames, cleared.due], [[], [], null]);
+  assert.equal(after("gone seg 2 0").descriptors.has("2 0"), false);
+  assert.equal(multics.meaningOf(run, multics.find(run, 0, "do 1.3")),
+    "On processor 0, command 3 of process 1 (Smith), acl >s Jones n, was answered done.");
+}
+
+/** What is in the frames as a page leaves one and another comes back. */
+function framesAreShown() {
+  const run = multics.openListing(`${read("labs/1-page/life.script")}book\n${read("labs/1-page/life.listing")}`, "");
+  const after = (text) => multics.stateAfter(run, multics.find(run, 0, text) + 1).frames;
+  assert.deepEqual(after("take 0")[0], { uid: 2, page: 0, how: "going" });
+  assert.equal(after("gone page 0")[0], null);
+  assert.deepEqual(after("start 1")[1], { uid: 2, page: 0, how: "read" });
+  assert.deepEqual(after("in 1 2 0")[1], { uid: 2, page: 0, how: "here" });
+  assert.equal(multics.stateAfter(run, multics.find(run, 0, "release") + 1).stored.get(2).has(2), false);
+  assert.equal(run.script.processes[0].who, "Smith");
+}
+
+/** A listing of a million entries: the same entries again and again, between a load and a leave. */
+function longListing() {
+  const turn = ["load 0 0", "fill 0 seg 0", "fill 0 page 0", "do 0.0 0 0 word 000000000000", "take 0", "signal 0 all",
+    "gone page 0", "start 0 2 1", "in 0 2 1", "leave 0"];
+  const front = ["online 0", "activate 1", "activate 2", "connect 0 0 2", "in 0 2 0"];
+  return [...front, ...Array.from({ length: 100000 }, () => turn).flat(), "> quota 4 used 1", ""].join("\n");
+}
+
+/** The milliseconds of processor time that a piece of work takes. */
+function taken(work) {
+  const start = process.cpuUsage();
+  work();
+  const { user, system } = process.cpuUsage(start);
+  return Math.round((user + system) / 1000);
+}
+
+/** It opens in seconds, and any place of it is shown in less once its end was seen. */
+function longListingIsQuick() {
+  const text = longListing();
+  let run = null;
+  const opened = taken(() => { run = multics.openListing(text, ""); });
+  assert.equal(run.count, 1000005);
+  const ended = taken(() => multics.stateAfter(run, run.count));
+  const inside = taken(() => multics.framesBetween(run, 500000, 500150));
+  console.log(`viewer: a million entries: opened in ${opened} ms, at their end in ${ended}, in their middle in ${inside}`);
+  assert.ok(opened < 3000 && ended < 15000 && inside < 500);
+}
+
+/** A step back gives what a run from the start gives, over more entries than lie between two states that are kept. */
+function backIsAsForth() {
+  const run = multics.openListing(longListing().slice(0, 400000), "");
+  multics.stateAfter(run, 9000);
+  for (const at of [8999, 8191, 4097, 4096, 4095, 2048, 17, 0, 6000]) {
+    const fresh = multics.openListing(longListing().slice(0, 400000), "");
+    assert.equal(plain(multics.stateAfter(run, at)), plain(multics.stateAfter(fresh, at)), `after ${at}`);
+  }
+}
+
+/** An element of no browser: it keeps its text and its children. */
+class Element {
+  constructor(tag) {
+    Object.assign(this, { tagName: tag, children: [], own: "", width: 1200, height: 0, files: [], value: "" });
+  }
+  set textContent(text) {
+    this.own = String(text);
+    this.children = [];
+  }
+  get textContent() {
+    return this.own + this.children.map((it) => it.textContent).join(" ");
+  }
+  appendChild(it) {
+    this.children.push(it);
+  }
+  getContext() {
+    return { clearRect() {}, fillRect: () => { this.drawn = (this.drawn || 0) + 1; } };
+  }
+}
+
+/** A document of no browser, with the elements of the page. */
+function documentOf() {
+  const ids = new Map([...html.matchAll(/id="([a-z-]+)"/g)].map((it) => [it[1], new Element("div")]));
+  return { getElementById: (id) => ids.get(id), createElement: (tag) => new Element(tag) };
+}
+
+/** The page draws what it should, step by step. */
+function pageDraws() {
+  globalThis.document = documentOf();
+  vm.runInThisContext(scriptOf("page"), { filename: "page" });
+  const text = (id) => document.getElementById(id).textContent;
+  const listing = read("labs/3-revocation/access.listing"), script = read("labs/3-revocation/access.script");
+  globalThis.page.open(listing, script);
+  assert.equal(text("meaning"), "Nothing has happened yet.");
+  const at = listing.split("\n").indexOf("cut 2 0");
+  globalThis.page.go(at + 1);
+  assert.match(text("meaning"), /^Descriptor 0 of process 2 \(Jones\) is on its way out/);
+  assert.match(text("descriptors"), /going/);
+  assert.match(text("accounts"), /> quota 4 used 1/);
+  document.getElementById("on").onclick();
+  assert.match(text("meaning"), /processor 1, command 2 of process 2 \(Jones\), await 0 2 7 5000,/);
+  document.getElementById("back").onclick();
+  assert.match(text("meaning"), /^Descriptor 0 of process 2/);
+  document.getElementById("wanted").value = "gone seg 2";
+  document.getElementById("find").onclick();
+  assert.match(text("meaning"), /^Descriptor 0 of process 2 \(Jones\) is no more/);
+  assert.ok(document.getElementById("picture").drawn > 50);
+  globalThis.page.open("", "");
+  assert.equal(text("said"), "There is no entry in this listing.");
+}
+
+const TESTS = [accountsAreTheSummary, revocationIsShown, framesAreShown, longListingIsQuick, backIsAsForth, pageDraws];
+for (const test of TESTS) {
+  test();
+  console.log(`viewer: ${test.name}: ok`);
+}
