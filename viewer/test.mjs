@@ -109,7 +109,7 @@ function longListingIsQuick() {
   assert.equal(run.count, 1000005);
   const ended = taken(() => multics.stateAfter(run, run.count));
   const inside = taken(() => multics.framesBetween(run, 500000, 500150));
-  console.log(`viewer: a million entries: opened in ${opened} ms, at their end in ${ended}, in their middle in ${inside}`);
+  console.log(`viewer: a million entries: opened in ${opened} ms, at the end in ${ended}, in the middle in ${inside}`);
   assert.ok(opened < 3000 && ended < 15000 && inside < 500);
 }
 
