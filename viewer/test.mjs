@@ -139,7 +139,7 @@ class Element {
     this.children.push(it);
   }
   getContext() {
-    return { clearRect() {}, fillRect: () => { this.drawn = (this.drawn || 0) + 1; } };
+    return { clearRect() {}, fillText() {}, fillRect: () => { this.drawn = (this.drawn || 0) + 1; } };
   }
 }
 
