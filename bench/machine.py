@@ -3,18 +3,19 @@
 
 Each case is a script that is made here and brought to its end, once with so many commands of a kind and once with twice
 as many. For each it prints how many steps a command takes, and the instructions a step, as valgrind's callgrind counts
-them: with what the step calls, and without the room that is made before it. Behind that the instructions and the peak of
-memory of whole runs, with the reading of their scripts and no listing.
+them: with what the step calls, and without the room that is made before it. Behind that what a step costs that only
+waits: a machine is brought to where a processor waits, and then that one makes so many steps, and twice as many. Last
+the instructions and the peak of memory of whole runs, with the reading of their scripts and no listing.
 """
 import os, random, re, subprocess, sys, tempfile
 
 STEP = "machine::machine::Machine::step"
 
 
-def script(processors, frames, pools, quota, volume, processes):
+def script(processors, frames, pools, quota, volume, processes, persons=("Smith", "Smith")):
     lines = [f"machine {processors} {frames} {pools}", f"quota {quota}", f"volume alpha {volume}"]
-    for commands in processes:
-        lines += ["process Smith"] + commands + ["end"]
+    for person, commands in zip(persons, processes):
+        lines += [f"process {person}"] + commands + ["end"]
     return lines
 
 
@@ -48,6 +49,39 @@ CASES = {
 }
 
 
+def owner():
+    """Where processor 1 waits for processor 0, which has the supervisor."""
+    commands = ["mkseg >s 1 alpha", "initiate >s", "write 0 0 5"]
+    return script(2, 4, "12 1 1 1", 4, "8 4", [commands, commands]), ["step 0", "step 0", "step 1", "step 1", "step 0"], 1
+
+
+def clear():
+    """Where processor 0 waits for processor 1, which is to drop a segment."""
+    first = ["mkseg >s 1 alpha", "acl >s Jones r", "initiate >s", "write 0 0 5", "acl >s Jones n"]
+    return (script(2, 4, "12 1 1 1", 4, "8 4", [first, ["initiate >s", "read 0 0", "read 0 0"]], ["Smith", "Jones"]),
+            ["step 0 until do 0.3", "step 1 until do 1.1", "step 0 until signal"], 0)
+
+
+def transfer():
+    """Where processor 0 waits for the page that processor 1 reads in."""
+    first = ["mkseg >s 6 alpha", "acl >s Jones r", "initiate >s"] + [f"write 0 {1024 * page} 1" for page in range(6)]
+    return (script(2, 4, "12 1 1 1", 9, "16 8", [first + ["read 0 0"], ["initiate >s", "read 0 0"]], ["Smith", "Jones"]),
+            ["step 0 until do 0.8", "step 1 with 0 until start", "step 0 until waits transfer 2"], 0)
+
+
+def idle():
+    """Where processor 1 finds no process that is ready."""
+    return script(2, 4, "12 1 1 1", 4, "8 4", [["mkseg >s 1 alpha"]]), ["step 0", "step 0", "step 1"], 1
+
+
+WAITS = {
+    "for the owner of the supervisor": owner,
+    "for a processor that is to clear": clear,
+    "for a page that is being read": transfer,
+    "for a process that is ready": idle,
+}
+
+
 def references(processors, frames):
     draw = random.Random(5)
     commands = ["mkseg >s 256 alpha", "initiate >s"]
@@ -70,20 +104,34 @@ RUNS = {f"100,000 references over 256 pages, {frames} frames, {processors} proce
 RUNS["4000 segments over 1024 places"] = lambda: segments(4000)
 
 
-def counted(binary, lines, end):
-    """How many steps a case takes, their instructions with those of what they call, and the instructions of all."""
+def profiled(binary, lines, ends):
+    """What callgrind tells of a case that goes on by these lines and prints no entry, and what it prints."""
     with tempfile.TemporaryDirectory() as folder:
         source, profile = os.path.join(folder, "case"), os.path.join(folder, "profile")
         with open(source, "w") as out:
-            out.write("cases\n\n== a case\n" + "\n".join(lines) + f"\nsteps\nonly nothing\n{end}\n")
+            out.write("\n".join(["cases", "", "== a case", *lines, "steps", "only nothing", *ends, ""]))
         with open(source) as given:
             shown = subprocess.run(["valgrind", "--tool=callgrind", f"--callgrind-out-file={profile}", binary],
                                    stdin=given, capture_output=True, text=True)
-        if shown.stdout != f"== a case\n> only nothing\n> {end}\n":
-            sys.exit(f"not run: {shown.stdout[:200]}")
         with open(profile) as told:
-            text = told.read()
+            return told.read(), shown.stdout
+
+
+def counted(binary, lines, end):
+    """How many steps a case takes, their instructions with those of what they call, and the instructions of all."""
+    text, shown = profiled(binary, lines, [end])
+    if shown != f"== a case\n> only nothing\n> {end}\n":
+        sys.exit(f"not run: {shown[:200]}")
     return *calls(text, STEP), int(re.search(r"^(?:totals|summary): (\d+)", text, re.M).group(1))
+
+
+def waited(binary, made, count):
+    """How many steps a processor makes that waits so often after what leads there, and their instructions."""
+    lines, ends, processor = made()
+    text, shown = profiled(binary, lines, ends + [f"schedule {count} times {processor}"])
+    if not shown.endswith("= none moved\n"):
+        sys.exit(f"not waited: {shown[-200:]}")
+    return calls(text, STEP)
 
 
 def calls(text, name):
@@ -116,6 +164,12 @@ def main():
             few, less, _ = counted(binary, made(count), end)
             many, more, _ = counted(binary, made(2 * count), end)
             print(f"| {name} | {(many - few) / count:.2f} | {(more - less) / (many - few):,.0f} |", flush=True)
+    print("\n| A step that waits | Instructions |\n|---|---|")
+    for name, made in WAITS.items():
+        if not names or name in names:
+            few, less = waited(binary, made, 10_000)
+            many, more = waited(binary, made, 20_000)
+            print(f"| {name} | {(more - less) / (many - few):,.0f} |", flush=True)
     print("\n| Run | Steps | Instructions | Peak |\n|---|---|---|---|")
     for name, made in RUNS.items():
         if not names or name in names:

@@ -10,6 +10,8 @@ pub(crate) struct Asked<'a> {
     only: &'a str,
     /// The places of segments whose words are printed, each a uid and an offset with a dot between.
     pub(crate) places: &'a str,
+    /// Whether it is told how often the first volume's disk was asked.
+    pub(crate) calls: bool,
     /// Whether the source fails as soon as it is read.
     pub(crate) unread: bool,
     /// How often the program runs on the input, all of it in one piece; 0 for once in pieces of each size.
@@ -24,6 +26,7 @@ impl<'a> Asked<'a> {
             words,
             only: "",
             places: "",
+            calls: false,
             unread: false,
             times: 0,
         };
@@ -39,6 +42,7 @@ impl<'a> Asked<'a> {
         match name {
             "only" => self.only = rest,
             "words" => self.places = rest,
+            "calls" => self.calls = true,
             "unread" => self.unread = true,
             "times" => self.times = rest.parse().unwrap_or(0),
             _ => (),

@@ -5,9 +5,11 @@ ghost use Rattle.flat_model.specs.Legal.{IsLegal};
 use crate::asking::Asked;
 use crate::judging::verdict;
 use book::Book;
+use bulk_store::AnyDrive;
 use flat_store::{FlatStore, NoMemory};
 use runner::Finished;
 use std::alloc::{AllocError, Global};
+use volumes::Volumes;
 
 /// How many pages the root is charged for after each entry of a book was allowed by the flat store and followed. None
 /// where one wasn't allowed.
@@ -68,7 +70,20 @@ fn told_of(alloc: Global, asked: &Asked, book: &Book, written: &[u8]) -> Result<
     format!(in alloc; "{root}{words}{verdict}\n")
 }
 
-/// What is told of the book of a run, whose listing is what was written. Empty where no machine booted.
+/// How often the first volume's disk was read and written, where that is asked for.
+fn calls_line(
+    alloc: Global,
+    asked: &Asked,
+    volumes: &Volumes<AnyDrive>,
+) -> Result<String, AllocError> {
+    if !asked.calls || volumes.count() == 0 {
+        return Ok(String::new(alloc));
+    }
+    let (reads, writes) = volumes.drive(0).calls();
+    format!(in alloc; "reads {reads}, writes {writes}\n")
+}
+
+/// What is told of the book and the disk of a run, whose listing is what was written. Empty where no machine booted.
 pub(crate) fn book_text(
     alloc: Global,
     asked: &Asked,
@@ -76,7 +91,11 @@ pub(crate) fn book_text(
     written: &[u8],
 ) -> Result<String, AllocError> {
     match &finished.machine {
-        Some(machine) => told_of(alloc, asked, machine.book(), written),
+        Some(machine) => {
+            let calls = calls_line(alloc, asked, machine.volumes())?;
+            let told = told_of(alloc, asked, machine.book(), written)?;
+            format!(in alloc; "{calls}{told}")
+        }
         None => Ok(String::new(alloc)),
     }
 }

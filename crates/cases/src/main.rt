@@ -7,6 +7,7 @@
 //! and those below it. The line that asks has the program's words, each in brackets, and then these, with `;` between:
 //! - `only WORDS` prints but the lines that begin with one of the words;
 //! - `words U.OFF ..` prints the words at these places of the segments of these uids, by the flat store after the book;
+//! - `calls` prints how often the first volume's disk was read and written;
 //! - `unread` has a source that fails as soon as it is read;
 //! - `times N` runs the program N times, and each run must give the same.
 //!

@@ -1,5 +1,4 @@
 use crate::left::{Left, left_by};
-use flat_store::NoMemory;
 use runner::{Status, Words, multics};
 use site_io::{Gate, MemorySink, MemorySource, NoGate};
 use std::alloc::{AllocError, Global};
@@ -39,7 +38,7 @@ pub(crate) struct Answer {
 }
 
 /// The program's words.
-fn words_of(alloc: Global, words: &[&str]) -> Result<Words, Fail> {
+pub(crate) fn words_of(alloc: Global, words: &[&str]) -> Result<Words, Fail> {
     let mut texts = Vec::new(alloc);
     for word in words {
         texts.push(String::from_str(alloc, word)?)?;
@@ -54,9 +53,9 @@ fn call<R: Threads + Wait + Sync + AllocGlobal, G: Gate + Sync>(
     source: &mut MemorySource,
     sink: &mut MemorySink,
     gate: &G,
-) -> (Status, Result<Option<Left>, NoMemory>) {
+) -> (Status, Option<Left>) {
     let finished = multics(rt, rt.alloc(), words, source, sink, gate);
-    (finished.status, left_by(rt.alloc(), &finished.machine))
+    (finished.status, left_by(&finished.machine))
 }
 
 /// A list of one number, or of none where it is 0.
@@ -82,7 +81,7 @@ pub(crate) fn ask_through<R: Threads + Wait + Sync + AllocGlobal, G: Gate + Sync
     Ok(Answer {
         status,
         text: sink.bytes().to_vec(alloc)?,
-        left: left?,
+        left,
     })
 }
 

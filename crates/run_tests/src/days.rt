@@ -1,11 +1,16 @@
 //! The run of a day: what its book, its listing and its accounts are.
 
-use crate::asking::{Answer, PLAIN, Streams, ask, ask_through};
-use flat_store::FlatStore;
+ghost use Rattle.flat_model.specs.Legal.{IsLegal};
+
+use crate::asking::{PLAIN, Streams, ask, ask_through, words_of};
+use book::Book;
+use bulk_store::AnyDrive;
+use flat_store::{FlatStore, NoMemory};
+use machine::Machine;
 use make_work::make_script;
-use runner::Status;
+use runner::{Status, Words, multics};
 use script::{Command, Script, read_script};
-use site_io::{Gate, Point};
+use site_io::{Gate, MemorySink, MemorySource, NoGate, Point};
 use std::alloc::Global;
 use std::process::Abort;
 use std::sync::{Mutex, Wait};
@@ -33,8 +38,23 @@ const WIDE: Streams = Streams {
     ..PLAIN
 };
 
-/// The word that all processes add to: the uid of its segment, in which it is the first.
+/// The uid of the segment whose first word all processes add to.
 const COUNTER: u32 = 5;
+
+/// The uids below each directory that has an account: the root has the counter, the first directory the shared segment,
+/// and the second the four others.
+const BELOW: [(u32, &[u32]); 3] = [(1, &[COUNTER]), (2, &[4]), (3, &[6, 7, 8, 9])];
+
+/// What a day leaves in the flat store after its book.
+#[derive(Clone, Copy)]
+struct Evening {
+    /// The word that all processes add to.
+    word: u64,
+    /// How many pages each directory is charged for.
+    used: [u32; 3],
+    /// How many pages of the segments below it have a word other than 0.
+    filled: [u32; 3],
+}
 
 /// The script of day 7.
 fn day(alloc: Global) -> Result<Vec<u8>, Fail> {
@@ -79,7 +99,7 @@ fn has_words(store: &FlatStore, uid: u32, page: u32) -> bool {
 }
 
 /// How many of the first 64 pages of a segment have a word other than 0.
-fn nonzero_pages(store: &FlatStore, uid: u32) -> u32 {
+fn filled_pages(store: &FlatStore, uid: u32) -> u32 {
     let mut count: u32 = 0;
     for page in 0..64 {
         if has_words(store, uid, page) {
@@ -90,12 +110,64 @@ fn nonzero_pages(store: &FlatStore, uid: u32) -> u32 {
 }
 
 /// How many pages of the segments of these uids have a word other than 0.
-fn nonzero_pages_of(store: &FlatStore, uids: &[u32]) -> u32 {
+fn filled(store: &FlatStore, uids: &[u32]) -> u32 {
     let mut count: u32 = 0;
     for uid in uids {
-        count = count.saturating_add(nonzero_pages(store, *uid));
+        count = count.saturating_add(filled_pages(store, *uid));
     }
     count
+}
+
+/// What a flat store has of a day.
+fn evening_of(store: &FlatStore) -> Evening {
+    Evening {
+        word: store.word(COUNTER, 0).value(),
+        used: BELOW.map(|(directory, _)| store.used(directory)),
+        filled: BELOW.map(|(_, uids)| filled(store, uids)),
+    }
+}
+
+/// What a day leaves by its book.
+fn evening_after(alloc: Global, book: &Book) -> Result<Evening, NoMemory>
+    requires { IsLegal book.now.script book.now.entries }
+{
+    let store = FlatStore::after(alloc, book)?;
+    Ok(evening_of(&store))
+}
+
+/// What a day leaves with its machine. None where no machine booted.
+fn left_by(
+    alloc: Global,
+    machine: &Option<Machine<AnyDrive>>,
+) -> Result<Option<Evening>, NoMemory> {
+    match machine {
+        Some(machine) => Ok(Some(evening_after(alloc, machine.book())?)),
+        None => Ok(None),
+    }
+}
+
+/// Runs a day; how it ended, and what it left.
+fn run<R: Threads + Wait + Sync + AllocGlobal>(
+    rt: &R,
+    words: Words,
+    source: &mut MemorySource,
+    sink: &mut MemorySink,
+) -> (Status, Result<Option<Evening>, NoMemory>) {
+    let finished = multics(rt, rt.alloc(), words, source, sink, &NoGate);
+    (finished.status, left_by(rt.alloc(), &finished.machine))
+}
+
+/// How the run of a day ends, and what it leaves.
+fn spent<R: Threads + Wait + Sync + AllocGlobal>(
+    rt: &R,
+    day: &[u8],
+) -> Result<(Status, Option<Evening>), Fail> {
+    let alloc = rt.alloc();
+    let words = words_of(alloc, &["run"])?;
+    let mut source = MemorySource::new(day.to_vec(alloc)?, 65536, Vec::new(alloc));
+    let mut sink = MemorySink::new(alloc, 65536, Vec::new(alloc))?;
+    let (status, left) = run(rt, words, &mut source, &mut sink);
+    Ok((status, left?))
 }
 
 #[test]
@@ -103,25 +175,33 @@ fn a_day_leaves_the_sum_of_what_was_added_and_no_page_of_zeros(
     rt: HostRuntime,
 ) -> Result<(), Fail> {
     let day = day(rt.alloc())?;
-    let sum = added_in(rt.alloc(), &day)?.expect(&rt, "a script");
-    let answer = ask(&rt, &["run"], &day, PLAIN)?;
-    assert!(rt; answer.status == Status::Done);
-    let store = answer.left.expect(&rt, "a machine").store;
-    assert_eq!(rt; store.word(COUNTER, 0).value(), sum);
-    // The root has the counter, the first directory the shared segment, and the second the four others.
-    assert_eq!(rt; store.used(1), nonzero_pages_of(&store, &[COUNTER]));
-    assert_eq!(rt; store.used(2), nonzero_pages_of(&store, &[4]));
-    assert_eq!(rt; store.used(3), nonzero_pages_of(&store, &[6, 7, 8, 9]));
+    let sum = added_in(rt.alloc(), &day)?;
+    let (status, left) = spent(&rt, &day)?;
+    assert!(rt; status == Status::Done);
+    let evening = left.expect(&rt, "a machine");
+    assert!(rt; sum == Some(evening.word));
+    assert_eq!(rt; evening.used, evening.filled);
     Ok(())
+}
+
+/// The listing of a script, if its run is done.
+fn listing<R: Threads + Wait + Sync + AllocGlobal>(
+    rt: &R,
+    script: &[u8],
+) -> Result<Option<Vec<u8>>, Fail> {
+    let answer = ask(rt, &["run"], script, WIDE)?;
+    if answer.status != Status::Done {
+        return Ok(None);
+    }
+    Ok(Some(answer.text))
 }
 
 #[test]
 fn two_runs_of_a_day_print_the_same(rt: HostRuntime) -> Result<(), Fail> {
     let day = day(rt.alloc())?;
-    let first = ask(&rt, &["run"], &day, PLAIN)?;
-    let second = ask(&rt, &["run"], &day, PLAIN)?;
-    assert!(rt; first.status == Status::Done && second.status == Status::Done);
-    assert!(rt; !first.text.is_empty() && first.text.as_slice() == second.text.as_slice());
+    let first = listing(&rt, &day)?.expect(&rt, "a listing");
+    let second = listing(&rt, &day)?.expect(&rt, "a listing");
+    assert!(rt; !first.is_empty() && first == second);
     Ok(())
 }
 
@@ -170,6 +250,15 @@ fn with_listing(alloc: Global, script: &[u8], listing: &[u8]) -> Result<Vec<u8>,
     Ok(text)
 }
 
+/// The script of a day that prints each entry, and its listing.
+fn listed_day<R: Threads + Wait + Sync + AllocGlobal>(rt: &R) -> Result<Option<Vec<u8>>, Fail> {
+    let script = printing_all(rt.alloc(), &day(rt.alloc())?)?;
+    match listing(rt, &script)? {
+        Some(listing) => Ok(Some(with_listing(rt.alloc(), &script, &listing)?)),
+        None => Ok(None),
+    }
+}
+
 /// How many lines there are in a text before a place.
 fn lines_before(text: &[u8], place: usize) -> usize {
     text.iter()
@@ -178,29 +267,42 @@ fn lines_before(text: &[u8], place: usize) -> usize {
         .count()
 }
 
-/// What is written of a listing that is judged.
-fn judged<R: Threads + Wait + Sync + AllocGlobal>(rt: &R, text: &[u8]) -> Result<Answer, Fail> {
-    ask(rt, &["check"], text, WIDE)
+/// How many entries there are in the text of a script and its listing: there are five lines behind them.
+fn entries(text: &[u8]) -> usize {
+    let head = find(text, b"\nbook\n").unwrap_or(0).saturating_add(6);
+    lines_before(text, text.len())
+        .saturating_sub(lines_before(text, head))
+        .saturating_sub(5)
+}
+
+/// Whether the judge of listings writes of a text what is expected.
+fn is_judged<R: Threads + Wait + Sync + AllocGlobal>(
+    rt: &R,
+    text: &[u8],
+    expected: &str,
+) -> Result<bool, Fail> {
+    let answer = ask(rt, &["check"], text, WIDE)?;
+    Ok(answer.text.as_slice() == expected.as_bytes())
+}
+
+/// Changes the last digit of the first word that a listing tells; the number of its line.
+fn spoil(text: &mut [u8]) -> usize {
+    let place = find(text, b" word ").unwrap_or(0).saturating_add(17);
+    if let Some(digit) = text.get_mut(place) {
+        *digit ^= 1;
+    }
+    lines_before(text, place).saturating_add(1)
 }
 
 #[test]
 fn the_listing_of_a_day_is_accepted_and_a_changed_digit_is_found(
     rt: HostRuntime,
 ) -> Result<(), Fail> {
-    let alloc = rt.alloc();
-    let script = printing_all(alloc, &day(alloc)?)?;
-    let run = ask(&rt, &["run"], &script, WIDE)?;
-    assert!(rt; run.status == Status::Done);
-    let mut text = with_listing(alloc, &script, &run.text)?;
-    let entries = lines_before(&run.text, run.text.len()).saturating_sub(5);
-    let accepted = format!(in alloc; "accepted {entries} entries\n")?;
-    assert!(rt; judged(&rt, &text)?.text.as_slice() == accepted.as_bytes());
-    let place = find(&text, b" word ")
-        .expect(&rt, "a word")
-        .saturating_add(17);
-    let line = lines_before(&text, place).saturating_add(1);
-    *text.get_mut(place).expect(&rt, "a digit") ^= 1;
-    let refused = format!(in alloc; "refused at line {line}: legal\n")?;
-    assert!(rt; judged(&rt, &text)?.text.as_slice() == refused.as_bytes());
+    let mut text = listed_day(&rt)?.expect(&rt, "a listing");
+    let accepted = format!(in rt.alloc(); "accepted {} entries\n", entries(&text))?;
+    assert!(rt; is_judged(&rt, &text, &accepted)?);
+    let line = spoil(&mut text);
+    let refused = format!(in rt.alloc(); "refused at line {line}: legal\n")?;
+    assert!(rt; is_judged(&rt, &text, &refused)?);
     Ok(())
 }

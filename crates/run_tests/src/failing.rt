@@ -71,7 +71,7 @@ fn a_failing_write_is_a_write_fault(rt: HostRuntime) -> Result<(), Fail> {
     let answer = ask(&rt, &["run"], SCRIPT, streams)?;
     assert!(rt; answer.status == Status::WriteFault && answer.text.is_empty());
     let left = answer.left.expect(&rt, "a machine");
-    assert_eq!(rt; left.store.used(1), 1);
+    assert_eq!(rt; left.used, 1);
     for room in 0..LISTING.len() {
         let answer = ask(&rt, &["run"], SCRIPT, Streams { room, ..PLAIN })?;
         assert!(rt; answer.status == Status::WriteFault, "{room}");

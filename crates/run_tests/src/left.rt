@@ -1,23 +1,16 @@
 //! What the machine of a run left.
 
-ghost use Rattle.flat_model.specs.Legal.{IsLegal};
-
 use book::{Book, Entry};
 use bulk_store::AnyDrive;
-use flat_store::{FlatStore, NoMemory};
 use machine::Machine;
-use std::alloc::Global;
-use volumes::Volumes;
 
 /// What the machine of a run left.
-#[derive(Drop)]
+#[derive(Clone, Copy)]
 pub(crate) struct Left {
-    /// The flat store after its book.
-    pub(crate) store: FlatStore,
+    /// How many pages the root is charged for.
+    pub(crate) used: u32,
     /// How many references its book answers through a frame.
     pub(crate) framed: u64,
-    /// The reads and the writes of the first volume's disk.
-    pub(crate) calls: (u64, u64),
 }
 
 /// Whether an entry answers a reference through a frame.
@@ -36,36 +29,18 @@ fn framed(book: &Book) -> u64 {
     count
 }
 
-/// The reads and the writes of the first volume's disk.
-fn first_calls(volumes: &Volumes<AnyDrive>) -> (u64, u64) {
-    if volumes.count() > 0 {
-        volumes.drive(0).calls()
-    } else {
-        (0, 0)
+/// What a machine left.
+fn left_in(machine: &Machine<AnyDrive>) -> Left {
+    Left {
+        used: machine.accounts().used(1),
+        framed: framed(machine.book()),
     }
 }
 
-/// What is left with a book and some volumes.
-fn left_with(alloc: Global, book: &Book, volumes: &Volumes<AnyDrive>) -> Result<Left, NoMemory>
-    requires { IsLegal book.now.script book.now.entries }
-{
-    Ok(Left {
-        store: FlatStore::after(alloc, book)?,
-        framed: framed(book),
-        calls: first_calls(volumes),
-    })
-}
-
 /// What the machine of a run left. None where no machine booted.
-pub(crate) fn left_by(
-    alloc: Global,
-    machine: &Option<Machine<AnyDrive>>,
-) -> Result<Option<Left>, NoMemory> {
+pub(crate) fn left_by(machine: &Option<Machine<AnyDrive>>) -> Option<Left> {
     match machine {
-        Some(machine) => {
-            let left = left_with(alloc, machine.book(), machine.volumes())?;
-            Ok(Some(left))
-        }
-        None => Ok(None),
+        Some(machine) => Some(left_in(machine)),
+        None => None,
     }
 }

@@ -1,6 +1,6 @@
 //! Tests of the program that take code, over the public calls of `runner`: inputs cut at each byte or with each byte
 //! changed, reads and writes that fail in turn, texts that are too long to stand here, gates that hold processors or
-//! count what passes, and how often a disk is asked. `cases` has all others.
+//! count what passes, and the drives of a script. `cases` has all others.
 #![tactic(auto)]
 
 #[cfg(test)]
