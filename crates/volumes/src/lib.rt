@@ -9,8 +9,6 @@
 
 mod core_drive;
 mod drive;
-#[cfg(test)]
-mod tests;
 mod volumes;
 
 pub use core_drive::CoreDrive;
