@@ -106,6 +106,9 @@ pub(crate) fn root_active(alloc: Global, fails: Vec<FailLine>) -> Result<Segs<Co
     Ok(segs)
 }
 
+/// Drops what a case worked on. It has many parts, so those who own one have them dropped here.
+pub(crate) fn discard(_segs: Segs<CoreDrive>) {}
+
 /// The place of the root.
 pub(crate) fn root_place(segs: &Segs<CoreDrive>) -> Result<u32, Refused>
     ensures active { OnOk result (IsActive segs.now.ast.entries 1) }

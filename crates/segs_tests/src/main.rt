@@ -12,9 +12,10 @@ mod chains;
 mod commands;
 mod linking;
 mod paging;
+mod told;
 
-use crate::beginning::{Refused, root_active};
-use crate::commands::command_text;
+use crate::beginning::{Refused, discard, root_active};
+use crate::commands::command;
 use crate::paging::first_fails;
 use seg_control::Segs;
 use std::io;
@@ -22,9 +23,15 @@ use std::marker::Model;
 use volumes::CoreDrive;
 
 /// What the commands of a case work on: two processes have numbers.
-#[derive(Drop)]
 struct Root {
     segs: Segs<CoreDrive>,
+}
+
+impl Drop for Root {
+    fn drop(self) {
+        let Root { segs } = self;
+        discard(segs);
+    }
 }
 
 impl Model for Root {
@@ -53,23 +60,39 @@ fn begin(rt: &HostRuntime, line: &str) -> Result<Root, Refused> {
 
 /// Does what a line says, and prints what it gives.
 fn follow(rt: &HostRuntime, root: &mut Root, line: &str) -> io::Result<()> {
-    match command_text(rt.alloc(), &mut root.segs, line) {
-        Ok(text) => println!(rt; "{line}: {text}"),
+    match command(rt.alloc(), &mut root.segs, line) {
+        Ok(told) => println!(rt; "{line}: {told}"),
         Err(_) => println!(rt; "{line}: refused"),
     }
 }
 
-fn main(rt: HostRuntime) -> anyhow::Result<()> {
-    let mut root = begin(&rt, "root")?;
-    for line in rt.lines(rt.alloc()) {
-        let line = line?;
-        if line.starts_with("case ") {
-            println!(rt; "{line}")?;
-        } else if line.starts_with("root") {
-            root = begin(&rt, &line)?;
-        } else {
-            follow(&rt, &mut root, &line)?;
-        }
+/// The root is active again, as at the beginning.
+fn begin_anew(rt: &HostRuntime, root: &mut Root, line: &str) -> Result<(), Refused> {
+    *root = begin(rt, line)?;
+    Ok(())
+}
+
+/// Does what a line of the cases says.
+fn take_line(rt: &HostRuntime, root: &mut Root, line: &str) -> anyhow::Result<()> {
+    if line.starts_with("case ") {
+        println!(rt; "{line}")?;
+    } else if line.starts_with("root") {
+        begin_anew(rt, root, line)?;
+    } else {
+        follow(rt, root, line)?;
     }
     Ok(())
+}
+
+/// Does what the lines of standard input say.
+fn take_lines(rt: &HostRuntime, root: &mut Root) -> anyhow::Result<()> {
+    for line in rt.lines(rt.alloc()) {
+        take_line(rt, root, &line?)?;
+    }
+    Ok(())
+}
+
+fn main(rt: HostRuntime) -> anyhow::Result<()> {
+    let mut root = begin(&rt, "root")?;
+    take_lines(&rt, &mut root)
 }

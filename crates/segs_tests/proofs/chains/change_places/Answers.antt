@@ -1,6 +1,6 @@
 use Rattle.std.proofs.Common.{Some, arith, refl}
 use Rattle.segs_tests.proofs.Growing.{may_below}
-use Rattle.segs_tests.proofs.chains.go_round.Goals as goal
+use Rattle.segs_tests.proofs.chains.change_places.Goals as goal
 
 pub next_victim-next-requires : goal.next_victim-next-requires
 next_victim-next-requires c =
