@@ -41,10 +41,13 @@ def activations(places, count):
 
 
 def references(places, rounds, commands):
-    """Processes of which each refers to one segment in its turn of 16 commands; the first has others in between."""
-    first = ["mkseg >s 1 alpha", "acl >s * rw", "initiate >s"]
+    """Processes of which each refers to one segment in its turn of 16 commands; the first has others in between. All
+    have a share in what fills the table, so that they begin with it together."""
+    first, fill = ["mkseg >s 1 alpha", "acl >s * rw"], filled(places, 3)
     turns = [commands[i // 16 % len(commands)] if i % 16 == 0 else "read 0 0" for i in range(16 * rounds)]
-    return script(places, [first + filled(places, 3) + turns] + 31 * [["initiate >s"] + rounds * 16 * ["read 0 0"]])
+    share = [[command for at in range(4 * k, len(fill), 128) for command in fill[at:at + 4]] for k in range(32)]
+    return script(places, [first + share[0] + ["initiate >s"] + turns]
+                  + [share[k] + ["initiate >s"] + rounds * 16 * ["read 0 0"] for k in range(1, 32)])
 
 
 def rights(places, rounds):
@@ -59,13 +62,13 @@ def no_rights(places, rounds):
 
 def transfers(places, count):
     """Writes to eight pages in turn in four frames."""
-    first = ["mkseg >s 4 alpha", "mkseg >t 4 alpha", "initiate >s", "initiate >t"]
+    made = ["mkseg >s 4 alpha", "mkseg >t 4 alpha", "initiate >s", "initiate >t"]
     writes = [f"write {i % 8 // 4} {1024 * (i % 4)} 1" for i in range(count)]
-    return script(places, [filled(places, 3) + first + writes])
+    return script(places, [filled(places, 3) + made + writes])
 
 
 CASES = {
-    "activations and deactivations": (activations, None, 51_000, ["join_next", "deactivate"], "a reference"),
+    "activations and deactivations": (activations, None, 60_000, ["join_next", "deactivate"], "a reference"),
     "32 descriptors that are cut and connected again": (rights, no_rights, 75, ["cut_one"], "a round"),
     "pages that leave a frame and come in": (transfers, None, 10_000, ["let_go"], "a write"),
 }
