@@ -3,12 +3,13 @@
 
 Each case is a script that is made here: commands that begin it, which aren't counted, and then those that are. The tree
 is one of 4096 branches: eight directories below each other, and segments of two pages in the last, so that their paths
-have nine names. For each case it prints the instructions a command, as valgrind's callgrind counts them: of a whole
-answer, with what the program of cases looks at and takes before it, and of the commit that is in it.
+have nine names. Where the commands of a case don't all go into one script behind those that begin it, there are two. For
+each case it prints the instructions a command, as valgrind's callgrind counts them: of a whole answer, with what the
+program of cases looks at and takes before it, and of the commit that is in it.
 """
 import functools, os, random, re, subprocess, sys, tempfile
 
-COUNT = 90_000
+COUNT, MOST = 100_000, 99_990
 HEAD = ["case counted", "machine 1 512 1000 4 4 4", "quota 8000", "volume alpha 2048 4097", "print short",
         "process Smith"]
 DRAW = random.Random(7)
@@ -89,13 +90,22 @@ def counted(binary, commands):
     return [int(found.group(1).replace(",", "")) if found else 0 for found in both]
 
 
+def scripts(first, then):
+    """The commands that are counted, in as many parts as scripts are needed, each of an even count."""
+    count = -(-len(then) // (MOST - len(first)))
+    size = -(-len(then) // count)
+    size += size % 2
+    return [then[at:at + size] for at in range(0, len(then), size)]
+
+
 def main():
     binary, *names = sys.argv[1:]
     print("| Commands | An answer | Its commit |\n|---|---|---|")
     for name in names or CASES:
         first, then = CASES[name]()
-        before, after = counted(binary, tuple(first)), counted(binary, tuple(first + then))
-        answer, commit = ((b - a) // len(then) for a, b in zip(before, after))
+        before = counted(binary, tuple(first))
+        after = [counted(binary, tuple(first + part)) for part in scripts(first, then)]
+        answer, commit = ((sum(parts) - len(after) * a) // len(then) for a, *parts in zip(before, *after))
         print(f"| {name} | {answer:,} | {commit:,} |", flush=True)
 
 
