@@ -1,5 +1,5 @@
 #!/usr/bin/env python3
-"""Counts what an entry costs `multics check` as the tables grow: judging.py BINARY [ENTRIES], where BINARY is `multics`.
+"""Counts what an entry costs `multics check` as tables grow: judging.py BINARY [ENTRIES], where BINARY is `multics`.
 
 Each book is of eight processors, and goes the same way to its end, entry by entry, over the same 64 frames and the same
 64 descriptors: pages are taken and brought back, descriptors are cut and connected again, each with a signal and what
@@ -38,7 +38,7 @@ def script(frames):
 
 
 def beginning(pages, active, connected):
-    """All segments are made and known; so many are active, so many of their descriptors connected, and pages in core."""
+    """All segments are made and known; so many are active, so many descriptors connected, and so many pages in core."""
     lines, uid = [], 2
     for process in range(PROCESSORS):
         lines += [f"online {process}", f"load {process} {process}"]
@@ -75,29 +75,33 @@ def rounds(entries):
 
 
 def counted(binary, frames, front, then):
+    """The instructions of all entries. The book isn't whole, so it is refused, but not before its end."""
+    whole = script(frames) + ["book"] + front + then
     with tempfile.TemporaryDirectory() as folder:
         source, profile = os.path.join(folder, "book"), os.path.join(folder, "profile")
         with open(source, "w") as out:
-            out.write("\n".join(script(frames) + ["book"] + front + then) + "\n")
+            out.write("\n".join(whole) + "\n")
         with open(source) as book:
             shown = subprocess.run(["valgrind", "--tool=callgrind", f"--callgrind-out-file={profile}",
-                                    f"--toggle-collect={CALL}", binary, "check"], stdin=book, capture_output=True, text=True)
+                                    f"--toggle-collect={CALL}", binary, "check"],
+                                   stdin=book, capture_output=True, text=True)
+        if shown.stdout != f"refused at line {len(whole) + 1}: part\n":
+            sys.exit(f"not judged to its end: {shown.stdout[:200]}")
         lines = subprocess.run(["callgrind_annotate", "--inclusive=yes", "--threshold=100", profile],
                                capture_output=True, text=True).stdout
     found = re.search(rf"^\s*([\d,]+) .*{CALL}", lines, re.M)
-    return int(found.group(1).replace(",", "")), shown.stdout.strip()
+    return int(found.group(1).replace(",", ""))
 
 
 def main():
     binary, entries = sys.argv[1], int(sys.argv[2]) if len(sys.argv) > 2 else 1_000_000
     then = rounds(entries)
-    print("| Frames, all with a page | Active, beside five | Connected, beside four | Instructions an entry |\n|---|---|---|---|")
+    print("| Frames, all with a page | Active, beside five | Connected, beside four | Instructions an entry |")
+    print("|---|---|---|---|")
     for frames, active, connected in ((64, 64, 64), (1024, 64, 64), (64, 992, 64), (64, 992, 992), (1024, 992, 992)):
         front = beginning(frames, active, connected)
-        before, _ = counted(binary, frames, front, [])
-        after, shown = counted(binary, frames, front, then)
+        before, after = (counted(binary, frames, front, more) for more in ([], then))
         print(f"| {frames} | {active} | {connected} | {(after - before) / len(then):,.0f} |", flush=True)
-        print(shown, file=sys.stderr)
 
 
 if __name__ == "__main__":
