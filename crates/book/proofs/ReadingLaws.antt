@@ -29,8 +29,8 @@ use Rattle.book.specs.declared.reading.Named.{Named}
 use Rattle.book.specs.declared.reading.Named.TheVariants as named
 use Rattle.book.specs.declared.replies.Reply.{Reply}
 use Rattle.book.specs.declared.replies.Reply.TheVariants as reply
-use Rattle.book.specs.Entries.{number_text, what_text, entry_text}
-use Rattle.book.specs.Replies.{reply_text}
+use Rattle.book.specs.Entries.{counted_text, entry_text, number_text, what_text}
+use Rattle.book.specs.Replies.{bare_text, reply_text}
 use Rattle.book.specs.Reading.{is_space, is_dot, is_plain, is_number, number_of, number_or_none, word_of, both}
 use Rattle.book.specs.Reading.{dotted_of, page_reply, path_reply, change_reply, first_there, bare_reply}
 use Rattle.book.specs.Reading.{numbered_reply, status_reply, status_of, triple, reply_of, what_of, dropped_of}
@@ -289,7 +289,7 @@ reply_words (reply.SegIs u l s) = codes "seg" ∷ decimal u ∷ codes "length" �
 reply_words (reply.DirIs u q n) = codes "dir" ∷ decimal u ∷ codes "quota" ∷ decimal q ∷ codes "used" ∷ decimal n ∷ []
 
 join_reply : (x : List ℕ) (r : Reply) → join_with_byte 32 (x ∷ reply_words r) ≡ x ++ (32 ∷ reply_text r)
-unfolding reply_text
+unfolding reply_text bare_text
 join_reply x reply.Unknown = refl
 join_reply x reply.Gone = refl
 join_reply x reply.NoAccess = refl
@@ -562,7 +562,7 @@ join_what x (what.Seg u) = refl
 
 -- the words of an entry, with a space between each two, are its text
 entry_text_is : (e : Entry) → entry_text e ≡ join_with_byte 32 (entry_words e)
-unfolding entry_text
+unfolding entry_text counted_text
 entry_text_is (entry.Do k i c f r) =
     ap (λ (t : List ℕ). codes "do " ++ t) (sym
     (append_assoc (decimal k) (46 ∷ decimal i) (32 ∷ (decimal c ++ (32 ∷ (number_text f ++ (32 ∷ reply_text r)))))))

@@ -1,5 +1,5 @@
-ghost use Rattle.std.specs.Prelude.{Some};
-ghost use Rattle.book.specs.Replies.{reply_text};
+ghost use Rattle.std.specs.Prelude.{◌≡◌, Some};
+ghost use Rattle.book.specs.Replies.{bare_text, reply_text};
 
 use mword::Word;
 use std::fmt;
@@ -70,38 +70,48 @@ pub enum Reply {
     DirIs { uid: u32, quota: u32, used: u32 },
 }
 
+/// The text of a reply of one word; of any other nothing.
+#[tactic(auto, unfolding(crate::specs::Replies::bare_text))]
+fn bare_text(reply: &Reply) -> &'static str
+    ensures { result.now ≡ bare_text reply.now }
+{
+    match reply {
+        Reply::Unknown => "unknown",
+        Reply::Gone => "gone",
+        Reply::NoAccess => "noaccess",
+        Reply::Length => "length",
+        Reply::Quota => "quota",
+        Reply::NoRecord => "norecord",
+        Reply::Device => "device",
+        Reply::Done => "done",
+        Reply::NoPath => "nopath",
+        Reply::NotDir => "notdir",
+        Reply::IsDir => "isdir",
+        Reply::IsSeg => "isseg",
+        Reply::Exists => "exists",
+        Reply::Deep => "deep",
+        Reply::Room => "room",
+        Reply::NoEntry => "noentry",
+        Reply::Full => "full",
+        Reply::AclFull => "aclfull",
+        Reply::Beyond => "beyond",
+        Reply::NotEmpty => "notempty",
+        Reply::HasQuota => "hasquota",
+        Reply::Root => "root",
+        Reply::TooLittle => "toolittle",
+        _ => "",
+    }
+}
+
 impl fmt::Display for Reply {
     ghost output = { λ r. Some (reply_text r) };
 
     #[tactic(auto, unfolding(crate::specs::Replies::reply_text))]
     fn fmt<W: fmt::Write>(&self, f: &mut fmt::Formatter<W>) -> fmt::Result {
         match self {
-            Reply::Unknown => write!(f, "unknown"),
-            Reply::Gone => write!(f, "gone"),
-            Reply::NoAccess => write!(f, "noaccess"),
-            Reply::Length => write!(f, "length"),
-            Reply::Quota => write!(f, "quota"),
-            Reply::NoRecord => write!(f, "norecord"),
-            Reply::Device => write!(f, "device"),
             Reply::Word(word) => write!(f, "word {word}"),
-            Reply::Done => write!(f, "done"),
             Reply::Made(uid) => write!(f, "made {uid}"),
             Reply::Known(number) => write!(f, "known {number}"),
-            Reply::NoPath => write!(f, "nopath"),
-            Reply::NotDir => write!(f, "notdir"),
-            Reply::IsDir => write!(f, "isdir"),
-            Reply::IsSeg => write!(f, "isseg"),
-            Reply::Exists => write!(f, "exists"),
-            Reply::Deep => write!(f, "deep"),
-            Reply::Room => write!(f, "room"),
-            Reply::NoEntry => write!(f, "noentry"),
-            Reply::Full => write!(f, "full"),
-            Reply::AclFull => write!(f, "aclfull"),
-            Reply::Beyond => write!(f, "beyond"),
-            Reply::NotEmpty => write!(f, "notempty"),
-            Reply::HasQuota => write!(f, "hasquota"),
-            Reply::Root => write!(f, "root"),
-            Reply::TooLittle => write!(f, "toolittle"),
             Reply::Over(account) => write!(f, "over {account}"),
             Reply::SegIs {
                 uid,
@@ -109,6 +119,10 @@ impl fmt::Display for Reply {
                 stored,
             } => write!(f, "seg {uid} length {length} stored {stored}"),
             Reply::DirIs { uid, quota, used } => write!(f, "dir {uid} quota {quota} used {used}"),
+            bare => {
+                let word = bare_text(bare);
+                write!(f, "{word}")
+            }
         }
     }
 }

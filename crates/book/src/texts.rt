@@ -1,5 +1,5 @@
-ghost use Rattle.std.specs.Prelude.{◌≡◌, Some, IfOk, string_bytes};
-ghost use Rattle.book.specs.Entries.{entry_text, number_text, what_text};
+ghost use Rattle.std.specs.Prelude.{◌≡◌, ◌++◌, Some, IfOk, string_bytes};
+ghost use Rattle.book.specs.Entries.{counted_text, entry_text, number_text, numbers_text, what_text};
 
 use crate::entries::Entry;
 use crate::runs::NoMemory;
@@ -40,6 +40,59 @@ impl fmt::Display for WhatText {
     }
 }
 
+/// The numbers behind the first words of an entry.
+#[derive(Clone, Copy)]
+enum Numbers {
+    Nothing,
+    One(u32),
+    Two(u32, u32),
+    Three(u32, u32, u32),
+}
+
+impl fmt::Display for Numbers {
+    ghost output = { λ n. Some (numbers_text n) };
+
+    #[tactic(auto, unfolding(crate::specs::Entries::numbers_text))]
+    fn fmt<W: fmt::Write>(&self, f: &mut fmt::Formatter<W>) -> fmt::Result {
+        match self {
+            Numbers::Nothing => Ok(()),
+            Numbers::One(first) => write!(f, "{first}"),
+            Numbers::Two(first, second) => write!(f, "{first} {second}"),
+            Numbers::Three(first, second, third) => write!(f, "{first} {second} {third}"),
+        }
+    }
+}
+
+/// The first words of an entry that has only numbers behind them, and these; of any other nothing.
+#[tactic(auto, unfolding(crate::specs::Entries::counted_text, crate::specs::Entries::numbers_text))]
+fn counted(entry: &Entry) -> (&'static str, Numbers)
+    ensures { result.0.now ++ numbers_text result.1 ≡ counted_text entry.now }
+{
+    match *entry {
+        Entry::Release { uid, page } => ("release ", Numbers::Two(uid, page)),
+        Entry::Online { cpu } => ("online ", Numbers::One(cpu)),
+        Entry::Load { cpu, process } => ("load ", Numbers::Two(cpu, process)),
+        Entry::Leave { cpu } => ("leave ", Numbers::One(cpu)),
+        Entry::Activate { uid } => ("activate ", Numbers::One(uid)),
+        Entry::Deactivate { uid } => ("deactivate ", Numbers::One(uid)),
+        Entry::Start { frame, uid, page } => ("start ", Numbers::Three(frame, uid, page)),
+        Entry::Lose { frame } => ("lose ", Numbers::One(frame)),
+        Entry::Here { frame, uid, page } => ("in ", Numbers::Three(frame, uid, page)),
+        Entry::Connect {
+            process,
+            number,
+            uid,
+        } => ("connect ", Numbers::Three(process, number, uid)),
+        Entry::Take { frame } => ("take ", Numbers::One(frame)),
+        Entry::Cut { process, number } => ("cut ", Numbers::Two(process, number)),
+        Entry::GonePage { frame } => ("gone page ", Numbers::One(frame)),
+        Entry::BackPage { frame } => ("back page ", Numbers::One(frame)),
+        Entry::GoneSeg { process, number } => ("gone seg ", Numbers::Two(process, number)),
+        Entry::BackSeg { process, number } => ("back seg ", Numbers::Two(process, number)),
+        _ => ("", Numbers::Nothing),
+    }
+}
+
 impl fmt::Display for Entry {
     ghost output = { λ e. Some (entry_text e) };
 
@@ -56,26 +109,10 @@ impl fmt::Display for Entry {
                 let frame = NumberText(*frame);
                 write!(f, "do {process}.{place} {cpu} {frame} {reply}")
             }
-            Entry::Release { uid, page } => write!(f, "release {uid} {page}"),
             Entry::Fault { process } => {
                 let process = NumberText(*process);
                 write!(f, "fault {process}")
             }
-            Entry::Online { cpu } => write!(f, "online {cpu}"),
-            Entry::Load { cpu, process } => write!(f, "load {cpu} {process}"),
-            Entry::Leave { cpu } => write!(f, "leave {cpu}"),
-            Entry::Activate { uid } => write!(f, "activate {uid}"),
-            Entry::Deactivate { uid } => write!(f, "deactivate {uid}"),
-            Entry::Start { frame, uid, page } => write!(f, "start {frame} {uid} {page}"),
-            Entry::Lose { frame } => write!(f, "lose {frame}"),
-            Entry::Here { frame, uid, page } => write!(f, "in {frame} {uid} {page}"),
-            Entry::Connect {
-                process,
-                number,
-                uid,
-            } => write!(f, "connect {process} {number} {uid}"),
-            Entry::Take { frame } => write!(f, "take {frame}"),
-            Entry::Cut { process, number } => write!(f, "cut {process} {number}"),
             Entry::Signal { cpu, what } => {
                 let what = WhatText(*what);
                 write!(f, "signal {cpu} {what}")
@@ -86,10 +123,10 @@ impl fmt::Display for Entry {
             }
             Entry::FillSeg { cpu, number } => write!(f, "fill {cpu} seg {number}"),
             Entry::FillPage { cpu, frame } => write!(f, "fill {cpu} page {frame}"),
-            Entry::GonePage { frame } => write!(f, "gone page {frame}"),
-            Entry::BackPage { frame } => write!(f, "back page {frame}"),
-            Entry::GoneSeg { process, number } => write!(f, "gone seg {process} {number}"),
-            Entry::BackSeg { process, number } => write!(f, "back seg {process} {number}"),
+            entry => {
+                let (words, numbers) = counted(entry);
+                write!(f, "{words}{numbers}")
+            }
         }
     }
 }

@@ -59,9 +59,12 @@ fn a_drive_fails_at_the_calls_that_its_lines_name(rt: HostRuntime) -> Result<(),
         (Write(1), false),
     ];
     for (call, done) in calls {
-        assert_eq!(rt; is_done(&rt, &mut drive, call, &mut page), done, "{call:?}");
+        assert!(rt;
+            is_done(&rt, &mut drive, call, &mut page) == done,
+            "{call:?}"
+        );
     }
-    assert_eq!(rt; drive.calls(), (3, 2));
+    assert!(rt; drive.calls() == (3, 2));
     Ok(())
 }
 
@@ -110,9 +113,9 @@ fn a_page_is_read_as_it_was_written(rt: HostRuntime) -> Result<(), Fail> {
     let mut volumes = two_volumes(rt.alloc(), Vec::new(rt.alloc()))?;
     assert!(rt; is_written(&rt, &mut volumes, 2, &page));
     assert!(rt; is_read(&rt, &mut volumes, 2, &mut target));
-    assert_eq!(rt; (target.get(1023), target.get(0)), (word, Word::ZERO));
-    assert_eq!(rt; calls_of(&rt, &volumes, 0), (0, 0));
-    assert_eq!(rt; calls_of(&rt, &volumes, 1), (1, 1));
+    assert!(rt; (target.get(1023), target.get(0)) == (word, Word::ZERO));
+    assert!(rt; calls_of(&rt, &volumes, 0) == (0, 0));
+    assert!(rt; calls_of(&rt, &volumes, 1) == (1, 1));
     Ok(())
 }
 
@@ -122,11 +125,11 @@ fn a_read_and_a_write_that_fail_are_not_tried_again(rt: HostRuntime) -> Result<(
     let mut page = Page::zero(rt.alloc())?;
     let mut volumes = two_volumes(rt.alloc(), fails)?;
     assert!(rt; !is_read(&rt, &mut volumes, 0, &mut page));
-    assert_eq!(rt; calls_of(&rt, &volumes, 1), (1, 0));
+    assert!(rt; calls_of(&rt, &volumes, 1) == (1, 0));
     assert!(rt; !is_written(&rt, &mut volumes, 0, &page));
-    assert_eq!(rt; calls_of(&rt, &volumes, 1), (1, 1));
+    assert!(rt; calls_of(&rt, &volumes, 1) == (1, 1));
     assert!(rt; is_read(&rt, &mut volumes, 0, &mut page));
-    assert_eq!(rt; calls_of(&rt, &volumes, 1), (2, 1));
+    assert!(rt; calls_of(&rt, &volumes, 1) == (2, 1));
     Ok(())
 }
 
@@ -146,17 +149,17 @@ fn taken(rt: &impl Abort, volumes: &Volumes<CoreDrive>) -> (u32, u32) {
 fn take_the_only_record(rt: &impl Abort, volumes: &mut Volumes<CoreDrive>) {
     assert!(rt; volumes.count() == 2);
     let only = volumes.withdraw(0).expect(rt, "a free record");
-    assert_eq!(rt; volumes.withdraw(0), None);
-    assert_eq!(rt; (only, taken(rt, volumes)), (0, (1, 2)));
+    assert!(rt; volumes.withdraw(0) == None);
+    assert!(rt; (only, taken(rt, volumes)) == (0, (1, 2)));
     volumes.deposit(0, only);
-    assert_eq!(rt; taken(rt, volumes), (0, 2));
+    assert!(rt; taken(rt, volumes) == (0, 2));
 }
 
 #[test]
 fn each_volume_has_its_records(rt: HostRuntime) -> Result<(), Fail> {
     let mut volumes = two_volumes(rt.alloc(), Vec::new(rt.alloc()))?;
-    assert_eq!(rt; withdraw(&rt, &mut volumes, 1), Some(0));
-    assert_eq!(rt; withdraw(&rt, &mut volumes, 1), Some(1));
+    assert!(rt; withdraw(&rt, &mut volumes, 1) == Some(0));
+    assert!(rt; withdraw(&rt, &mut volumes, 1) == Some(1));
     take_the_only_record(&rt, &mut volumes);
     Ok(())
 }
@@ -165,8 +168,8 @@ fn each_volume_has_its_records(rt: HostRuntime) -> Result<(), Fail> {
 fn each_volume_has_its_entries(rt: HostRuntime) -> Result<(), Fail> {
     let mut volumes = two_volumes(rt.alloc(), Vec::new(rt.alloc()))?;
     assert!(rt; volumes.count() == 2);
-    assert_eq!(rt; volumes.vtoc_mut(0).allocate(5), Some(0));
+    assert!(rt; volumes.vtoc_mut(0).allocate(5) == Some(0));
     assert!(rt; volumes.count() == 2);
-    assert_eq!(rt; (volumes.vtoc(0).used(), volumes.vtoc(1).used()), (1, 0));
+    assert!(rt; (volumes.vtoc(0).used(), volumes.vtoc(1).used()) == (1, 0));
     Ok(())
 }

@@ -4,14 +4,14 @@ use std::test::Fail;
 #[test]
 fn takes_binds_and_starts_frames(rt: HostRuntime) -> Result<(), Fail> {
     let mut core = CoreMap::new(rt.alloc(), 4)?;
-    assert_eq!(rt; core.take_free(), Some(0));
+    assert!(rt; core.take_free() == Some(0));
     core.bind(0, 7, 3);
-    assert_eq!(rt; (core.page_of(0), core.started(0)), (Some((7, 3)), None));
+    assert!(rt; (core.page_of(0), core.started(0)) == (Some((7, 3)), None));
     core.start(1, 8, 0);
-    assert_eq!(rt; (core.page_of(1), core.started(1)), (None, Some((8, 0))));
-    assert_eq!(rt; core.take_free(), Some(2));
+    assert!(rt; (core.page_of(1), core.started(1)) == (None, Some((8, 0))));
+    assert!(rt; core.take_free() == Some(2));
     core.bind(1, 8, 0);
-    assert_eq!(rt; core.page_of(1), Some((8, 0)));
+    assert!(rt; core.page_of(1) == Some((8, 0)));
     Ok(())
 }
 
@@ -22,10 +22,10 @@ fn gives_back_lost_and_released_frames(rt: HostRuntime) -> Result<(), Fail> {
     core.bind(1, 8, 0);
     core.start(2, 9, 5);
     core.lose(2);
-    assert_eq!(rt; core.take_free(), Some(2));
+    assert!(rt; core.take_free() == Some(2));
     core.release(0);
-    assert_eq!(rt; core.take_free(), Some(0));
-    assert_eq!(rt; core.choose(), 1);
+    assert!(rt; core.take_free() == Some(0));
+    assert!(rt; core.choose() == 1);
     Ok(())
 }
 
