@@ -1,8 +1,8 @@
-//! The run of a day: what its book, its listing and its accounts are.
+//! The run of a day: what its book and its accounts are.
 
 ghost use Rattle.flat_model.specs.Legal.{IsLegal};
 
-use crate::asking::{PLAIN, Streams, ask, ask_through, words_of};
+use crate::asking::{PLAIN, ask_through, words_of};
 use book::Book;
 use bulk_store::AnyDrive;
 use flat_store::{FlatStore, NoMemory};
@@ -31,12 +31,6 @@ impl Gate for CountGate {
         }
     }
 }
-
-/// Room for the listing of all entries.
-const WIDE: Streams = Streams {
-    room: 8_388_608,
-    ..PLAIN
-};
 
 /// The uid of the segment whose first word all processes add to.
 const COUNTER: u32 = 5;
@@ -180,28 +174,7 @@ fn a_day_leaves_the_sum_of_what_was_added_and_no_page_of_zeros(
     assert!(rt; status == Status::Done);
     let evening = left.expect(&rt, "a machine");
     assert!(rt; sum == Some(evening.word));
-    assert_eq!(rt; evening.used, evening.filled);
-    Ok(())
-}
-
-/// The listing of a script, if its run is done.
-fn listing<R: Threads + Wait + Sync + AllocGlobal>(
-    rt: &R,
-    script: &[u8],
-) -> Result<Option<Vec<u8>>, Fail> {
-    let answer = ask(rt, &["run"], script, WIDE)?;
-    if answer.status != Status::Done {
-        return Ok(None);
-    }
-    Ok(Some(answer.text))
-}
-
-#[test]
-fn two_runs_of_a_day_print_the_same(rt: HostRuntime) -> Result<(), Fail> {
-    let day = day(rt.alloc())?;
-    let first = listing(&rt, &day)?.expect(&rt, "a listing");
-    let second = listing(&rt, &day)?.expect(&rt, "a listing");
-    assert!(rt; !first.is_empty() && first == second);
+    assert!(rt; evening.used == evening.filled);
     Ok(())
 }
 
@@ -216,93 +189,6 @@ fn each_reference_through_a_frame_passes_the_gate_once(rt: HostRuntime) -> Resul
     let framed = answer.left.expect(&rt, "a machine").framed;
     let answered = *gate.answered.lock(&rt);
     assert!(rt; framed > 0);
-    assert_eq!(rt; answered, framed);
-    Ok(())
-}
-
-/// The place of the first of some bytes in a text, if they are there.
-fn find(text: &[u8], bytes: &[u8]) -> Option<usize> {
-    text.windows(bytes.len().max(1))
-        .position(|front| front == bytes)
-}
-
-/// The script of a day that prints each entry.
-fn printing_all(alloc: Global, day: &[u8]) -> Result<Vec<u8>, Fail> {
-    let short = b"print short".as_slice();
-    let (front, rest) = match find(day, short) {
-        Some(place) => (
-            &day[..place.min(day.len())],
-            &day[place.saturating_add(short.len()).min(day.len())..],
-        ),
-        None => (day, b"".as_slice()),
-    };
-    let mut text = front.to_vec(alloc)?;
-    text.extend_from_slice(b"print all")?;
-    text.extend_from_slice(rest)?;
-    Ok(text)
-}
-
-/// A script and its listing, as they are judged.
-fn with_listing(alloc: Global, script: &[u8], listing: &[u8]) -> Result<Vec<u8>, Fail> {
-    let mut text = script.to_vec(alloc)?;
-    text.extend_from_slice(b"book\n")?;
-    text.extend_from_slice(listing)?;
-    Ok(text)
-}
-
-/// The script of a day that prints each entry, and its listing.
-fn listed_day<R: Threads + Wait + Sync + AllocGlobal>(rt: &R) -> Result<Option<Vec<u8>>, Fail> {
-    let script = printing_all(rt.alloc(), &day(rt.alloc())?)?;
-    match listing(rt, &script)? {
-        Some(listing) => Ok(Some(with_listing(rt.alloc(), &script, &listing)?)),
-        None => Ok(None),
-    }
-}
-
-/// How many lines there are in a text before a place.
-fn lines_before(text: &[u8], place: usize) -> usize {
-    text.iter()
-        .take(place)
-        .filter(|byte| **byte == b'\n')
-        .count()
-}
-
-/// How many entries there are in the text of a script and its listing: there are five lines behind them.
-fn entries(text: &[u8]) -> usize {
-    let head = find(text, b"\nbook\n").unwrap_or(0).saturating_add(6);
-    lines_before(text, text.len())
-        .saturating_sub(lines_before(text, head))
-        .saturating_sub(5)
-}
-
-/// Whether the judge of listings writes of a text what is expected.
-fn is_judged<R: Threads + Wait + Sync + AllocGlobal>(
-    rt: &R,
-    text: &[u8],
-    expected: &str,
-) -> Result<bool, Fail> {
-    let answer = ask(rt, &["check"], text, WIDE)?;
-    Ok(answer.text.as_slice() == expected.as_bytes())
-}
-
-/// Changes the last digit of the first word that a listing tells; the number of its line.
-fn spoil(text: &mut [u8]) -> usize {
-    let place = find(text, b" word ").unwrap_or(0).saturating_add(17);
-    if let Some(digit) = text.get_mut(place) {
-        *digit ^= 1;
-    }
-    lines_before(text, place).saturating_add(1)
-}
-
-#[test]
-fn the_listing_of_a_day_is_accepted_and_a_changed_digit_is_found(
-    rt: HostRuntime,
-) -> Result<(), Fail> {
-    let mut text = listed_day(&rt)?.expect(&rt, "a listing");
-    let accepted = format!(in rt.alloc(); "accepted {} entries\n", entries(&text))?;
-    assert!(rt; is_judged(&rt, &text, &accepted)?);
-    let line = spoil(&mut text);
-    let refused = format!(in rt.alloc(); "refused at line {line}: legal\n")?;
-    assert!(rt; is_judged(&rt, &text, &refused)?);
+    assert!(rt; answered == framed);
     Ok(())
 }

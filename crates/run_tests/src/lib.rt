@@ -1,16 +1,12 @@
-//! Tests of the program that take code, over the public calls of `runner`: inputs cut at each byte or with each byte
-//! changed, reads and writes that fail in turn, texts that are too long to stand here, gates that hold processors or
-//! count what passes, and the drives of a script. `cases` has all others.
+//! Tests of the program that take code, over the public calls of `runner`: reads and writes that fail in turn, gates
+//! that hold processors or count what passes, what a day leaves, and the drives of a script. `cases` has those that a
+//! text can say, and `.ci/runs` those of long inputs and outputs.
 #![tactic(auto)]
 
 #[cfg(test)]
 mod asking;
 #[cfg(test)]
-mod changing;
-#[cfg(test)]
 mod days;
-#[cfg(test)]
-mod drilling;
 #[cfg(test)]
 mod drives;
 #[cfg(test)]
@@ -19,7 +15,5 @@ mod failing;
 mod holding;
 #[cfg(test)]
 mod left;
-#[cfg(test)]
-mod limits;
 #[cfg(test)]
 mod making;
