@@ -134,3 +134,9 @@ pub row_taken : (person project : Option (List ℕ)) (rows : List Row) (i : ℕ)
 row_taken person project rows i e =
     let there : has_row person project rows ≡ true = sym (place_tells person project rows) ∙ ap is_some e in
     rw there refl
+
+-- what the proof of `set` is given
+pub ruleset set_steps = (row_taken, row_replaced, row_appended)
+
+-- what the proof of `mode_at` is given
+pub ruleset mode_at_steps = (row_passed, row_found, no_row_left)

@@ -123,7 +123,7 @@ impl Acl {
     ///
     /// # Errors
     /// `AclFull` exactly where the row isn't in the list and 16 rows are; then nothing is changed.
-    #[tactic(auto, using(crate::proofs::RowLaws::row_taken, crate::proofs::RowLaws::row_replaced, crate::proofs::RowLaws::row_appended, std::proofs::lemmas::Grind::common_steps))]
+    #[tactic(auto, using(crate::proofs::RowLaws::set_steps, std::proofs::lemmas::Grind::common_steps))]
     pub fn set(&mut self, row: Row, mode: Mode) -> Result<(), AclFull>
         ensures ok { OnOk result (self.new ≡ with_row (record
             { person = row.person; project = row.project; mode = mode }) self.old) }
@@ -171,7 +171,7 @@ impl Acl {
     }
 
     /// What the row with just these parts allows, where `None` is any.
-    #[tactic(auto, using(crate::proofs::RowLaws::row_passed, crate::proofs::RowLaws::row_found, crate::proofs::RowLaws::no_row_left, std::proofs::lemmas::Grind::common_steps))]
+    #[tactic(auto, using(crate::proofs::RowLaws::mode_at_steps, std::proofs::lemmas::Grind::common_steps))]
     fn mode_at(&self, person: Option<&Label>, project: Option<&Label>) -> Option<Mode>
         ensures { result ≡ mode_at (option_map (λ l. l.now) person.entry) (option_map (λ l. l.now) project.entry)
             self.now }

@@ -225,12 +225,12 @@ mod tests {
                 frame: 100 + page,
             });
         }
-        assert_eq!(rt; held.find_ptw(3, 0), None);
-        assert_eq!(rt; held.find_ptw(3, 1), Some(101));
+        assert!(rt; held.find_ptw(3, 0) == None);
+        assert!(rt; held.find_ptw(3, 1) == Some(101));
         held.clear(What::Page(101));
-        assert_eq!(rt; held.find_ptw(3, 1), None);
-        assert_eq!(rt; held.find_ptw(3, 16), Some(116));
+        assert!(rt; held.find_ptw(3, 1) == None);
+        assert!(rt; held.find_ptw(3, 16) == Some(116));
         held.clear(What::Seg(3));
-        assert_eq!(rt; held.find_ptw(3, 16), None);
+        assert!(rt; held.find_ptw(3, 16) == None);
     }
 }

@@ -91,7 +91,8 @@ module _ (p : Plan) (k : Kept) (t : Tables) (n : ℕ) (j : Judged)
                 → Closes j first summary (Err f)
             unfolding Closes
             closed_wrong same f count other is_f = subst (λ (x : CheckFault). Closes j first summary (Err x)) (sym is_f)
-                (to_parts (Err (fault.Refused (record { line = first + n + same; rule = rule.WrongSum }))) (λ es after. (
+                (to_parts (Err (fault.Refused (record { line = first + n + same; rule = rule.WrongSum })))
+                (λ es after. (
                   let a : first + n ≡ first + length es = ap (λ (m : ℕ). first + m) after.count in
                       let b : same ≡ same_lines summary (due_lines p es) = count
                       ∙ ap (same_lines summary) (lines es after) in

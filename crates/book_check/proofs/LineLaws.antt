@@ -101,3 +101,9 @@ word_starts bs i lt ne h =
 pub all_spaces : (bs : List ℕ) (i : ℕ) → length bs ≤ i → after_spaces (drop i bs) ≡ after_spaces bs → []
     ≡ after_spaces bs
 all_spaces bs i le h = let none : drop i bs ≡ [] = grind (arith, common_steps) in sym (ap after_spaces none) ∙ h
+
+-- what the proof of `next_line` is given
+pub ruleset next_line_steps = (line_cut, line_last, rest_cut, rest_last, front_closes)
+
+-- what the proof of `after_spaces` is given
+pub ruleset after_spaces_steps = (space_passed, word_starts, all_spaces)

@@ -4,7 +4,7 @@ ghost use Rattle.book_check.specs.Inputs.{after_spaces, are_spaces, is_book, is_
 ghost use Rattle.book_check.specs.Passing.{Closes};
 
 /// The first line of some bytes, without its line feed, and what follows it.
-#[tactic(auto, using(crate::proofs::LineLaws::line_cut, crate::proofs::LineLaws::line_last, crate::proofs::LineLaws::rest_cut, crate::proofs::LineLaws::rest_last, crate::proofs::LineLaws::front_closes, std::proofs::lemmas::Grind::common_steps))]
+#[tactic(auto, using(crate::proofs::LineLaws::next_line_steps, std::proofs::lemmas::Grind::common_steps))]
 pub(crate) fn next_line(bytes: &[u8]) -> (&[u8], &[u8])
     requires { 0 < length bytes.now }
     ensures lines { lines_of bytes.now ≡ result.0.now ∷ lines_of result.1.now }
@@ -32,7 +32,7 @@ pub(crate) fn is_summary(line: &[u8]) -> bool
 }
 
 /// The line from its first byte on that isn't a space.
-#[tactic(auto, using(crate::proofs::LineLaws::space_passed, crate::proofs::LineLaws::word_starts, crate::proofs::LineLaws::all_spaces, std::proofs::lemmas::Grind::common_steps))]
+#[tactic(auto, using(crate::proofs::LineLaws::after_spaces_steps, std::proofs::lemmas::Grind::common_steps))]
 fn after_spaces(line: &[u8]) -> &[u8]
     ensures { result.now ≡ after_spaces line.now }
 {

@@ -33,7 +33,7 @@ fn check(rt: &(impl Abort + AllocGlobal), lines: &str, wanted: bool) -> Result<(
     let custody = Custody::boot(rt.alloc(), &script)?;
     for line in lines.lines() {
         let entry = read_entry(line.as_bytes()).expect(rt, "an entry");
-        assert_eq!(rt; custody.allows(&script, &store, entry), wanted, "{line}");
+        assert!(rt; custody.allows(&script, &store, entry) == wanted, "{line}");
     }
     Ok(())
 }

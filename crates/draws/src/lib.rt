@@ -47,7 +47,7 @@ mod tests {
 
     #[test]
     fn the_first_number_of_the_seed_0_is_as_published(rt: HostRuntime) {
-        assert_eq!(rt; Draws::of(0).draw(u32::MAX), 167_951_807);
-        assert_eq!(rt; Draws::of(0).draw(8), 7);
+        assert!(rt; Draws::of(0).draw(u32::MAX) == 167_951_807);
+        assert!(rt; Draws::of(0).draw(8) == 7);
     }
 }

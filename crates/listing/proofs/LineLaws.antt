@@ -210,3 +210,18 @@ pub each_end : {X : Type 0} (line : X → List ℕ) (before : List ℕ) (xs : Li
 each_end {X} line before xs i now le h =
     let whole : take i xs ≡ xs = grind (arith, common_steps) in
     h ∙ ap (λ (t : List X). before ++ flat_map line t) whole
+
+-- what the proof of `push_names` is given
+pub ruleset push_names_steps = (names_start, names_more, names_end)
+
+-- what the proofs of `push_accounts` and `push_volumes` are given
+pub ruleset push_each_steps = (each_start, each_more, each_end)
+
+-- what the proof of `push_part` is given
+pub ruleset push_part_steps = (lines_start, lines_more, lines_end)
+
+-- what the proof of `push_processes` is given
+pub ruleset push_processes_steps = (processes_start, processes_more, processes_end)
+
+-- what the proof of `push_entries` is given
+pub ruleset push_entries_steps = (entries_start, entries_more, entries_end)

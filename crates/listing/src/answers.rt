@@ -45,7 +45,7 @@ fn push_own(out: &mut String, script: &Script, k: u32, entry: &Entry) -> Result<
 }
 
 /// Appends a line for each command entry of a process, in order.
-#[tactic(auto, using(crate::proofs::LineLaws::lines_start, crate::proofs::LineLaws::lines_more, crate::proofs::LineLaws::lines_end, std::proofs::lemmas::Grind::common_steps))]
+#[tactic(auto, using(crate::proofs::LineLaws::push_part_steps, std::proofs::lemmas::Grind::common_steps))]
 fn push_part(out: &mut String, book: &Book, k: u32) -> Result<(), AllocError>
     requires { k < length book.now.script.processes }
     ensures { OnOk result (string_bytes out.new ≡ string_bytes out.old
@@ -67,7 +67,7 @@ fn push_process(out: &mut String, k: u32, who: &Who) -> Result<(), AllocError>
 }
 
 /// Appends for each process its line and those of its command entries.
-#[tactic(auto, using(crate::proofs::LineLaws::processes_start, crate::proofs::LineLaws::processes_more, crate::proofs::LineLaws::processes_end, std::proofs::lemmas::Grind::common_steps))]
+#[tactic(auto, using(crate::proofs::LineLaws::push_processes_steps, std::proofs::lemmas::Grind::common_steps))]
 fn push_processes(out: &mut String, book: &Book) -> Result<(), AllocError>
     ensures { OnOk result (string_bytes out.new ≡ string_bytes out.old
         ++ processes_lines book.now.script book.now.entries 0 book.now.script.processes) }
@@ -89,7 +89,7 @@ fn push_entry(out: &mut String, entry: &Entry) -> Result<(), AllocError>
 }
 
 /// Appends a line for each entry, in order.
-#[tactic(auto, using(crate::proofs::LineLaws::entries_start, crate::proofs::LineLaws::entries_more, crate::proofs::LineLaws::entries_end, std::proofs::lemmas::Grind::common_steps))]
+#[tactic(auto, using(crate::proofs::LineLaws::push_entries_steps, std::proofs::lemmas::Grind::common_steps))]
 fn push_entries(out: &mut String, entries: &[Entry]) -> Result<(), AllocError>
     ensures { OnOk result (string_bytes out.new ≡ string_bytes out.old ++ flat_map full_line entries.now) }
 {

@@ -9,7 +9,7 @@ use mnames::Name;
 use std::alloc::{AllocError, Global};
 
 /// Appends each name with `>` before it.
-#[tactic(auto, using(crate::proofs::LineLaws::names_start, crate::proofs::LineLaws::names_more, crate::proofs::LineLaws::names_end, std::proofs::lemmas::Grind::common_steps))]
+#[tactic(auto, using(crate::proofs::LineLaws::push_names_steps, std::proofs::lemmas::Grind::common_steps))]
 fn push_names(out: &mut String, names: &[Name]) -> Result<(), AllocError>
     ensures { OnOk result (string_bytes out.new ≡ string_bytes out.old ++ names_text names.now) }
 {
@@ -58,7 +58,7 @@ fn push_volume(out: &mut String, count: &VolumeCount) -> Result<(), AllocError>
 }
 
 /// Appends a line for each account, in order.
-#[tactic(auto, using(crate::proofs::LineLaws::each_start, crate::proofs::LineLaws::each_more, crate::proofs::LineLaws::each_end, std::proofs::lemmas::Grind::common_steps))]
+#[tactic(auto, using(crate::proofs::LineLaws::push_each_steps, std::proofs::lemmas::Grind::common_steps))]
 fn push_accounts(out: &mut String, accounts: &[AccountCount]) -> Result<(), AllocError>
     ensures { OnOk result (string_bytes out.new ≡ string_bytes out.old ++ flat_map account_text accounts.now) }
 {
@@ -69,7 +69,7 @@ fn push_accounts(out: &mut String, accounts: &[AccountCount]) -> Result<(), Allo
 }
 
 /// Appends a line for each volume, in order.
-#[tactic(auto, using(crate::proofs::LineLaws::each_start, crate::proofs::LineLaws::each_more, crate::proofs::LineLaws::each_end, std::proofs::lemmas::Grind::common_steps))]
+#[tactic(auto, using(crate::proofs::LineLaws::push_each_steps, std::proofs::lemmas::Grind::common_steps))]
 fn push_volumes(out: &mut String, volumes: &[VolumeCount]) -> Result<(), AllocError>
     ensures { OnOk result (string_bytes out.new ≡ string_bytes out.old ++ flat_map volume_text volumes.now) }
 {

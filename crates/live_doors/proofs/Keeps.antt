@@ -183,7 +183,8 @@ module _ (z : Size) where
   looks slots id c w inside row s h homes at fits =
       let n : ℕ = get_or s.words (ack_at z.frames c) 0 in
       let mine = h.seats_ok id (Keeping w) at in
-      let low : get_or w.noted c 0 ≤ n = subst (λ k. get_or k.noted c 0 ≤ n) (sym mine.1) (h.plan_ok.noted c inside) in (
+      let low : get_or w.noted c 0 ≤ n =
+      subst (λ k. get_or k.noted c 0 ≤ n) (sym mine.1) (h.plan_ok.noted c inside) in (
         Keeping (having_noted c n w),
         keeps,
         tt,

@@ -294,8 +294,8 @@ module _ (frames cpus : ℕ) (words : List ℕ) (w : Watch) (f : ℕ) (inside : 
     current_else g other = ap (λ x. x / 2) (door_else g other)
 
     pub current_up : (g : ℕ) → current w g ≤ current (admitted f w) g
-    current_up g = dite (ℕ_discrete g f) (λ (same : g ≡ f). subst (λ j. current w j ≤ current (admitted f w) j) (sym same)
-        (subst (λ j. current w f ≤ j) (sym current_next) (omega arith))) (λ (other : g ≢ f).
+    current_up g = dite (ℕ_discrete g f) (λ (same : g ≡ f).
+        subst (λ j. current w j ≤ current (admitted f w) j) (sym same) (subst (λ j. current w f ≤ j) (sym current_next) (omega arith))) (λ (other : g ≢ f).
         subst (λ j. current w g ≤ j) (sym (current_else g other)) (omega arith))
 
     pub last_next : (b : Bound) (bs : List Bound) → b.frame ≡ f → ((g : ℕ) → current w g ≡ ended_of g bs) → (g : ℕ)
@@ -411,7 +411,8 @@ module _ (z : Size) where
               let was : get_or s.words (turn_at z.frames z.cpus g) 0 ≡ 0 =
               sym (stays (turn_at z.frames z.cpus g) (omega arith)) ∙ free in
               let old = h.slots_ok g within was in
-              let other : g ≢ f = λ e. hand.2 (ap (λ j. get_or s.words (turn_at z.frames z.cpus j) 0) (sym e) ∙ was) in (
+              let other : g ≢ f =
+              λ e. hand.2 (ap (λ j. get_or s.words (turn_at z.frames z.cpus j) 0) (sym e) ∙ was) in (
                 old.0,
                 old.1,
                 old.2 ∙ ap (λ p. after h.given g (current p.watch g) h.log) (sym own.1)

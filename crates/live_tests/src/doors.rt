@@ -12,32 +12,26 @@ fn revokes_in_order_on_one_thread(rt: HostRuntime) -> Result<(), NoMemory> {
     let (doors, mut keeper, mut passes) = LiveDoors::admitted(rt.alloc(), 2, 2)?;
     let mut one = passes.pop().expect(&rt, "a pass for processor 1");
     let mut zero = passes.pop().expect(&rt, "a pass for processor 0");
-    assert_eq!(&rt; doors.fill(&mut zero, 0), Ok(1));
+    assert!(&rt; doors.fill(&mut zero, 0) == Ok(1));
     assert!(&rt; zero.holds(0) && !zero.holds(1));
     doors.close_door(&mut keeper, 0);
-    assert_eq!(&rt; doors.fill(&mut one, 0), Err(Closed { word: 3 }));
-    assert_eq!(&rt; doors.raise(&mut keeper), 1);
+    assert!(&rt; doors.fill(&mut one, 0) == Err(Closed { word: 3 }));
+    assert!(&rt; doors.raise(&mut keeper) == 1);
     assert!(&rt; !keeper.may_bind(0));
-    assert_eq!(&rt;
-        doors.all_clear(&mut keeper, 1),
-        Err(Behind { cpu: 0, seen: 0 })
-    );
-    assert_eq!(&rt; doors.forget(&mut zero), 1);
+    assert!(&rt; doors.all_clear(&mut keeper, 1) == Err(Behind { cpu: 0, seen: 0 }));
+    assert!(&rt; doors.forget(&mut zero) == 1);
     doors.acknowledge(&mut zero);
-    assert_eq!(&rt;
-        doors.all_clear(&mut keeper, 1),
-        Err(Behind { cpu: 1, seen: 0 })
-    );
-    assert_eq!(&rt; doors.forget(&mut one), 1);
+    assert!(&rt; doors.all_clear(&mut keeper, 1) == Err(Behind { cpu: 1, seen: 0 }));
+    assert!(&rt; doors.forget(&mut one) == 1);
     doors.acknowledge(&mut one);
-    assert_eq!(&rt; doors.all_clear(&mut keeper, 1), Ok(()));
+    assert!(&rt; doors.all_clear(&mut keeper, 1) == Ok(()));
     assert!(&rt; keeper.may_bind(0) && !keeper.may_bind(1));
     assert!(&rt; !zero.holds(0));
     passes.push(zero).ok().expect(&rt, "room for a pass");
     passes.push(one).ok().expect(&rt, "room for a pass");
     let ended = doors.close(keeper, passes);
-    assert_eq!(&rt; ended.doors.as_slice(), [3, 2].as_slice());
-    assert_eq!(&rt; ended.request, 1);
+    assert!(&rt; ended.doors.as_slice() == [3, 2].as_slice());
+    assert!(&rt; ended.request == 1);
     Ok(())
 }
 
@@ -46,7 +40,7 @@ fn frames_that_were_never_bound_are_closed(rt: HostRuntime) -> Result<(), NoMemo
     let (doors, keeper, mut passes) = LiveDoors::new(rt.alloc(), 3, 2)?;
     let mut pass = passes.pop().expect(&rt, "a pass for processor 1");
     for f in 0..3 {
-        assert_eq!(&rt; doors.fill(&mut pass, f), Err(Closed { word: 1 }));
+        assert!(&rt; doors.fill(&mut pass, f) == Err(Closed { word: 1 }));
         assert!(&rt; keeper.may_bind(f) && !pass.holds(f));
     }
     Ok(())
@@ -225,14 +219,14 @@ fn no_pass_holds_what_was_cleared(rt: HostRuntime) -> Result<(), NoMemory> {
         violations: AtomicU64::new(0),
     };
     let (zero, one, mut keeper) = run(&rt, &doors, zero, one, keeper, &signals);
-    assert_eq!(&rt; signals.violations.load(Ordering::SeqCst), 0);
-    assert_eq!(&rt; signals.cleared.load(Ordering::SeqCst), 1000);
-    assert_eq!(&rt; doors.all_clear(&mut keeper, 1000), Ok(()));
+    assert!(&rt; signals.violations.load(Ordering::SeqCst) == 0);
+    assert!(&rt; signals.cleared.load(Ordering::SeqCst) == 1000);
+    assert!(&rt; doors.all_clear(&mut keeper, 1000) == Ok(()));
     assert!(&rt; all_are_free(&keeper, &zero, &one));
     passes.push(zero).ok().expect(&rt, "room for a pass");
     passes.push(one).ok().expect(&rt, "room for a pass");
     let ended = doors.close(keeper, passes);
     assert!(&rt; ended.doors.iter().all(|&door| door == 3));
-    assert_eq!(&rt; ended.request, 1000);
+    assert!(&rt; ended.request == 1000);
     Ok(())
 }

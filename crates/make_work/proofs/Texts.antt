@@ -47,7 +47,11 @@ users_lines volumes j (suc count) x = ap (λ t. t ++ processes_text volumes fals
 
 -- what stands before the users
 abbrev pub front : List ℕ
-front = codes "machine 4 64 12 1 3 1\nquota 4000\nvolume alpha 4096 64\nvolume beta 4096 64\nprint short\ninitializer\nmkdir >a alpha\nmove >a +1000\nmkdir >b beta\nmove >b +1000\nmkseg >a>shared 16 alpha\nacl >a>shared * rw\nmkseg >counter 1 beta\nacl >counter * rw\nmkseg >b>own1 64 beta\nacl >b>own1 * rw\nmkseg >b>own2 64 beta\nacl >b>own2 * rw\nmkseg >b>own3 64 beta\nacl >b>own3 * rw\nmkseg >b>own4 64 beta\nacl >b>own4 * rw\nend\n"
+front = codes "machine 4 64 12 1 3 1\nquota 4000\nvolume alpha 4096 64\nvolume beta 4096 64\nprint short\n"
+    ++ codes "initializer\nmkdir >a alpha\nmove >a +1000\nmkdir >b beta\nmove >b +1000\n"
+    ++ codes "mkseg >a>shared 16 alpha\nacl >a>shared * rw\nmkseg >counter 1 beta\nacl >counter * rw\n"
+    ++ codes "mkseg >b>own1 64 beta\nacl >b>own1 * rw\nmkseg >b>own2 64 beta\nacl >b>own2 * rw\n"
+    ++ codes "mkseg >b>own3 64 beta\nacl >b>own3 * rw\nmkseg >b>own4 64 beta\nacl >b>own4 * rw\nend\n"
 
 abbrev pub volumes : List VolumeLine
 volumes = record { name = codes "alpha"; records = 4096; entries = 64 }

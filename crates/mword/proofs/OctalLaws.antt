@@ -203,3 +203,9 @@ octal_exactly text r e = subst (λ (o : Option ℕ). IsSome o ↔ IsOctal text) 
     cases : (b : Bool) → is_octal text ≡ b → IsSome (octal_value text) ↔ IsOctal text
     cases true t = rw t (λ _. is_octal_facts text t, λ _. refl)
     cases false t = rw t (λ n. absurd (cc), λ o. let f : false ≡ true = sym t ∙ is_octal_test text o in absurd (cc))
+
+-- what the proof of `digits_of` is given
+pub ruleset digits_of_steps = (octal_digits_step, octal_digits_end, octal_digits_text)
+
+-- what the proof of `read_octal` is given
+pub ruleset read_octal_steps = (octal_value_empty, octal_value_long, octal_exactly)

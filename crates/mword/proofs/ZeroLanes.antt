@@ -137,3 +137,6 @@ zero_blocks_more block ws front here =
 pub zero_blocks_all : (block : ℕ) (ws : List ℕ) → length ws ≡ 1024 → 32 ≤ block → AreZero (take (32 * block) ws)
     → AreZero ws
 zero_blocks_all block ws size h z = subst AreZero (take_all (32 * block) ws (omega arith)) z
+
+-- what the proof of `blocks_are_zero` is given
+pub ruleset blocks_are_zero_steps = (zero_blocks_more, zero_blocks_all)

@@ -91,7 +91,7 @@ impl Page {
 }
 
 /// Whether each word of the blocks is 0.
-#[tactic(auto, using(crate::proofs::ZeroLanes::zero_blocks_more, crate::proofs::ZeroLanes::zero_blocks_all, std::proofs::lemmas::Grind::common_steps))]
+#[tactic(auto, using(crate::proofs::ZeroLanes::blocks_are_zero_steps, std::proofs::lemmas::Grind::common_steps))]
 fn blocks_are_zero(words: &[u64]) -> bool
     requires { length words.now ≡ 1024 }
     ensures { IsTrue result ↔ AreZero words.now }

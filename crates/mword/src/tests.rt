@@ -16,14 +16,13 @@ fn adds_modulo_the_size_of_a_word(rt: HostRuntime) {
         (68719476735, 68719476735, 68719476734),
     ];
     for (a, b, sum) in sums {
-        assert_eq!(rt;
-            word(&rt, a).plus(word(&rt, b)).value(),
-            sum,
+        assert!(rt;
+            word(&rt, a).plus(word(&rt, b)).value() == sum,
             "at {a} and {b}"
         );
     }
-    assert_eq!(rt; Word::new(68719476736), None);
-    assert_eq!(rt; Word::ZERO.value(), 0);
+    assert!(rt; Word::new(68719476736) == None);
+    assert!(rt; Word::ZERO.value() == 0);
 }
 
 #[test]
@@ -36,8 +35,8 @@ fn writes_twelve_digits_that_read_back(rt: HostRuntime) -> Result<(), Fail> {
     ];
     for (value, text) in texts {
         let written = octal(rt.alloc(), word(&rt, value))?;
-        assert_eq!(rt; written.as_str(), text);
-        assert_eq!(rt; read_octal(text.as_bytes()), Some(word(&rt, value)));
+        assert!(rt; written.as_str() == text);
+        assert!(rt; read_octal(text.as_bytes()) == Some(word(&rt, value)));
     }
     Ok(())
 }
@@ -45,14 +44,13 @@ fn writes_twelve_digits_that_read_back(rt: HostRuntime) -> Result<(), Fail> {
 #[test]
 fn reads_one_to_twelve_octal_digits_alone(rt: HostRuntime) {
     for (text, value) in [("7", 7), ("0010", 8), ("1234567", 342391)] {
-        assert_eq!(rt;
-            read_octal(text.as_bytes()),
-            Some(word(&rt, value)),
+        assert!(rt;
+            read_octal(text.as_bytes()) == Some(word(&rt, value)),
             "at {text}"
         );
     }
     for text in ["", "8", "/", "-1", " 1", "1 ", "0x7", "0000000000000"] {
-        assert_eq!(rt; read_octal(text.as_bytes()), None, "at {text}");
+        assert!(rt; read_octal(text.as_bytes()) == None, "at {text}");
     }
 }
 
@@ -67,12 +65,12 @@ fn a_page_keeps_its_words(rt: HostRuntime) -> Result<(), Fail> {
         copy.copy_from(&page);
         page.clear_from(place);
         assert!(rt; page.is_zero(), "at {place}");
-        assert_eq!(rt; page.get(place), Word::ZERO);
-        assert_eq!(rt; copy.get(place).value(), 68719476735);
-        assert_eq!(rt; copy.get(1023 - place).value(), 0);
+        assert!(rt; page.get(place) == Word::ZERO);
+        assert!(rt; copy.get(place).value() == 68719476735);
+        assert!(rt; copy.get(1023 - place).value() == 0);
     }
     page.set(1022, word(&rt, 1));
     page.clear_from(1023);
-    assert_eq!(rt; page.get(1022).value(), 1);
+    assert!(rt; page.get(1022).value() == 1);
     Ok(())
 }

@@ -12,7 +12,7 @@ use std::fmt;
 const DIGITS: usize = 12;
 
 /// The octal digits of a word, the highest first.
-#[tactic(auto, using(crate::proofs::OctalLaws::octal_digits_step, crate::proofs::OctalLaws::octal_digits_end, crate::proofs::OctalLaws::octal_digits_text, std::proofs::lemmas::Grind::common_steps))]
+#[tactic(auto, using(crate::proofs::OctalLaws::digits_of_steps, std::proofs::lemmas::Grind::common_steps))]
 fn digits_of(word: Word) -> [u8; 12]
     ensures digits { result ≡ octal_digits 12 word }
     ensures text { IsUtf8 result }
@@ -49,7 +49,7 @@ pub fn octal(alloc: Global, w: Word) -> Result<String, NoMemory>
 }
 
 /// The word that a text stands for. `None` exactly where the text isn't 1 to 12 octal digits.
-#[tactic(auto, using(crate::proofs::OctalLaws::octal_value_empty, crate::proofs::OctalLaws::octal_value_long, crate::proofs::OctalLaws::octal_exactly, std::proofs::lemmas::Grind::common_steps))]
+#[tactic(auto, using(crate::proofs::OctalLaws::read_octal_steps, std::proofs::lemmas::Grind::common_steps))]
 pub fn read_octal(text: &[u8]) -> Option<Word>
     ensures value { result ≡ octal_value text.now }
     ensures octal { IsSome result ↔ IsOctal text.now }

@@ -90,12 +90,9 @@ fn word() -> Word {
 fn a_descriptor_is_taken_in_where_it_is_present(rt: HostRuntime) -> Result<(), Fail> {
     let mut tables = tables(rt)?;
     let cpu = Cpu::offline();
-    assert_eq!(rt;
-        move_at(&cpu, &tables, 0, RefKind::Read),
-        Some(Move::FillSeg)
-    );
+    assert!(rt; move_at(&cpu, &tables, 0, RefKind::Read) == Some(Move::FillSeg));
     tables.1.cut(NUMBER);
-    assert_eq!(rt; move_at(&cpu, &tables, 0, RefKind::Read), Some(Move::Fault));
+    assert!(rt; move_at(&cpu, &tables, 0, RefKind::Read) == Some(Move::Fault));
     Ok(())
 }
 
@@ -105,22 +102,13 @@ fn a_reference_that_is_not_permitted_is_answered(rt: HostRuntime) -> Result<(), 
     let refused = Some(Move::Plain(Reply::NoAccess));
     let reader = holding(Mode::Read);
     let writer = holding(Mode::Write);
-    assert_eq!(rt;
-        move_at(&reader, &tables, 1, RefKind::Write(word())),
-        refused
-    );
-    assert_eq!(rt; move_at(&reader, &tables, 1, RefKind::Add(word())), refused);
-    assert_eq!(rt; move_at(&writer, &tables, 1, RefKind::Read), refused);
-    assert_eq!(rt; move_at(&writer, &tables, 1, RefKind::Add(word())), refused);
-    assert_eq!(rt; move_at(&writer, &tables, 4, RefKind::Read), refused);
-    assert_eq!(rt;
-        move_at(&reader, &tables, 1, RefKind::Read),
-        Some(Move::Through(8))
-    );
-    assert_eq!(rt;
-        move_at(&writer, &tables, 1, RefKind::Write(word())),
-        Some(Move::Through(8))
-    );
+    assert!(rt; move_at(&reader, &tables, 1, RefKind::Write(word())) == refused);
+    assert!(rt; move_at(&reader, &tables, 1, RefKind::Add(word())) == refused);
+    assert!(rt; move_at(&writer, &tables, 1, RefKind::Read) == refused);
+    assert!(rt; move_at(&writer, &tables, 1, RefKind::Add(word())) == refused);
+    assert!(rt; move_at(&writer, &tables, 4, RefKind::Read) == refused);
+    assert!(rt; move_at(&reader, &tables, 1, RefKind::Read) == Some(Move::Through(8)));
+    assert!(rt; move_at(&writer, &tables, 1, RefKind::Write(word())) == Some(Move::Through(8)));
     Ok(())
 }
 
@@ -129,11 +117,8 @@ fn a_reference_past_the_pages_is_answered(rt: HostRuntime) -> Result<(), Fail> {
     let tables = tables(rt)?;
     let cpu = holding(Mode::Both);
     let refused = Some(Move::Plain(Reply::Length));
-    assert_eq!(rt; move_at(&cpu, &tables, 4, RefKind::Read), refused);
-    assert_eq!(rt;
-        move_at(&cpu, &tables, 200, RefKind::Write(Word::ZERO)),
-        refused
-    );
+    assert!(rt; move_at(&cpu, &tables, 4, RefKind::Read) == refused);
+    assert!(rt; move_at(&cpu, &tables, 200, RefKind::Write(Word::ZERO)) == refused);
     Ok(())
 }
 
@@ -142,20 +127,13 @@ fn a_page_of_zeros_needs_no_frame_while_it_stays_one(rt: HostRuntime) -> Result<
     let tables = tables(rt)?;
     let cpu = holding(Mode::Both);
     let zero = Some(Move::Plain(Reply::Word(Word::ZERO)));
-    assert_eq!(rt; move_at(&cpu, &tables, 0, RefKind::Read), zero);
-    assert_eq!(rt; move_at(&cpu, &tables, 0, RefKind::Add(Word::ZERO)), zero);
-    assert_eq!(rt;
-        move_at(&cpu, &tables, 0, RefKind::Write(Word::ZERO)),
-        Some(Move::Plain(Reply::Done))
+    assert!(rt; move_at(&cpu, &tables, 0, RefKind::Read) == zero);
+    assert!(rt; move_at(&cpu, &tables, 0, RefKind::Add(Word::ZERO)) == zero);
+    assert!(rt;
+        move_at(&cpu, &tables, 0, RefKind::Write(Word::ZERO)) == Some(Move::Plain(Reply::Done))
     );
-    assert_eq!(rt;
-        move_at(&cpu, &tables, 0, RefKind::Write(word())),
-        Some(Move::Fault)
-    );
-    assert_eq!(rt;
-        move_at(&cpu, &tables, 0, RefKind::Add(word())),
-        Some(Move::Fault)
-    );
+    assert!(rt; move_at(&cpu, &tables, 0, RefKind::Write(word())) == Some(Move::Fault));
+    assert!(rt; move_at(&cpu, &tables, 0, RefKind::Add(word())) == Some(Move::Fault));
     Ok(())
 }
 
@@ -163,16 +141,10 @@ fn a_page_of_zeros_needs_no_frame_while_it_stays_one(rt: HostRuntime) -> Result<
 fn a_page_table_word_is_taken_in_where_the_page_is_here(rt: HostRuntime) -> Result<(), Fail> {
     let tables = tables(rt)?;
     let mut cpu = holding(Mode::Both);
-    assert_eq!(rt;
-        move_at(&cpu, &tables, 2, RefKind::Read),
-        Some(Move::FillPage(5))
-    );
-    assert_eq!(rt; move_at(&cpu, &tables, 3, RefKind::Read), Some(Move::Fault));
-    assert_eq!(rt;
-        move_at(&cpu, &tables, 1, RefKind::Read),
-        Some(Move::Through(8))
-    );
+    assert!(rt; move_at(&cpu, &tables, 2, RefKind::Read) == Some(Move::FillPage(5)));
+    assert!(rt; move_at(&cpu, &tables, 3, RefKind::Read) == Some(Move::Fault));
+    assert!(rt; move_at(&cpu, &tables, 1, RefKind::Read) == Some(Move::Through(8)));
     cpu.assoc.clear(assoc_mem::What::Page(8));
-    assert_eq!(rt; move_at(&cpu, &tables, 1, RefKind::Read), Some(Move::Fault));
+    assert!(rt; move_at(&cpu, &tables, 1, RefKind::Read) == Some(Move::Fault));
     Ok(())
 }

@@ -28,8 +28,8 @@ use Rattle.runner.specs.Drives.{AreTold, IsFresh, TellsFaults, faults_in, is_on,
 -- ---- each of a list, at its place
 
 -- what holds of each of a list, and of one more behind them
-pub each_more : {A : Type 0} (P : ℕ → A → Type 0) (xs : List A) (x : A) → ((i : ℕ) (y : A) → slice_get xs i ≡ Some y → P i y)
-    → P (length xs) x → (i : ℕ) (y : A) → slice_get (xs ++ x ∷ []) i ≡ Some y → P i y
+pub each_more : {A : Type 0} (P : ℕ → A → Type 0) (xs : List A) (x : A)
+    → ((i : ℕ) (y : A) → slice_get xs i ≡ Some y → P i y) → P (length xs) x → (i : ℕ) (y : A) → slice_get (xs ++ x ∷ []) i ≡ Some y → P i y
 each_more P xs x each last i y at = here (cases_eq i (length xs))
   where
     here : (i ≡ length xs) ⊎ (i ≢ length xs) → P i y
@@ -154,7 +154,8 @@ quiet (f ∷ fs) v h =
     here (is_on v f) parts.0 rest
   where
     here : (on : Bool) → f.onward ≡ false → list_any (λ (l : FailLine). l.onward) (lines_in fs v) ≡ false
-        → list_any (λ (l : FailLine). l.onward) (map line_of (cond on (f ∷ filter (is_on v) fs) (filter (is_on v) fs))) ≡ false
+        → list_any (λ (l : FailLine). l.onward)
+            (map line_of (cond on (f ∷ filter (is_on v) fs) (filter (is_on v) fs))) ≡ false
     here false first rest = rest
     here true first rest = ap (λ (b : Bool). b || list_any (λ (l : FailLine). l.onward) (lines_in fs v)) first ∙ rest
 

@@ -12,8 +12,8 @@ use Rattle.book_check.specs.Closing.{IsTheVerdict}
 use Rattle.book_check.specs.Verdicts.{IsVerdict}
 use Rattle.book_check.specs.declared.offences.CheckFault.{CheckFault}
 use Rattle.book_check.specs.declared.offences.CheckFault.TheVariants as fault
-use Rattle.runner.specs.Endings.{Change, Ends, EndsSo, Failed, HasPrinted, IsJudgedSo, IsStatusOf, Prints, Runs, WritesAll}
-use Rattle.runner.specs.Endings.{WritesFront}
+use Rattle.runner.specs.Endings.{Change, Ends, EndsSo, Failed, HasPrinted, IsJudgedSo, IsStatusOf, Prints, Runs}
+use Rattle.runner.specs.Endings.{WritesAll, WritesFront}
 use Rattle.runner.specs.Runs.{IsShutDown, Machine}
 use Rattle.runner.specs.declared.finished.Finished.{Finished}
 use Rattle.runner.specs.declared.finished.Status.{Status}
@@ -27,7 +27,8 @@ pub ended : (asked : Option Form) (src out : Change) (f : Finished) (s : Status)
 ended asked src out f s h e = subst (λ (x : Status). EndsSo x asked src out f.machine) e h.so
 
 -- words that are no form have no other ending
-only_usage : (s : Status) (src out : Change) (machine : Option Machine) → EndsSo s None src out machine → s ≡ status.Usage
+only_usage : (s : Status) (src out : Change) (machine : Option Machine) → EndsSo s None src out machine
+    → s ≡ status.Usage
 only_usage status.Usage src out machine h = refl
 only_usage status.ReadFault src out machine h = absurd h.0
 only_usage status.TooLong src out machine h = absurd h.0

@@ -18,16 +18,16 @@ abbrev pub HoldsStore : Machine → Type 0
 HoldsStore m = IsOnDisk (map any_pages m.drives) m.state.store.pages.records m.state.store.pages.vtocs
     (store_after m.state.plan m.state.entries) (custody_after m.state.plan m.state.entries)
 
--- What holds of the machine of a run from its boot on: its book is legal and clean, its drives are those of the script's
--- volumes, and its book tells no more of their failures than there were.
+-- What holds of the machine of a run from its boot on: its book is legal and clean, its drives are those of the
+-- script's volumes, and its book tells no more of their failures than there were.
 pub record IsRun (m : Machine) : Type 0 where
   pub legal : IsLegal m.state.plan m.state.entries
   pub clean : IsClean m.state.plan m.state.entries
   pub drives : AreDrivesOf m.state.plan m.drives
   pub faults : TellsFaults m.state.plan m.state.entries m.drives
 
--- each of its frames was visited: no stored page is all zeros, quotas are conserved and no account is over its quota; and
--- a page is in a frame only where the book tells why
+-- each of its frames was visited: no stored page is all zeros, quotas are conserved and no account is over its quota;
+-- and a page is in a frame only where the book tells why
 pub record HasEmptied (m : Machine) : Type 0 where
   pub settled : IsSettled m.state.plan (store_after m.state.plan m.state.entries)
   pub told : AreToldBack m.state.plan m.state.entries

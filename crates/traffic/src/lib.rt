@@ -93,15 +93,15 @@ mod tests {
             return;
         };
         assert!(rt; ready.is_empty());
-        assert_eq!(rt; ready.front(), None);
-        assert_eq!(rt; ready.next(), None);
+        assert!(rt; ready.front() == None);
+        assert!(rt; ready.next() == None);
         ready.enter(5);
         ready.enter(3);
-        assert_eq!(rt; ready.front(), Some(5));
-        assert_eq!(rt; ready.next(), Some(5));
+        assert!(rt; ready.front() == Some(5));
+        assert!(rt; ready.next() == Some(5));
         ready.enter(5);
-        assert_eq!(rt; ready.next(), Some(3));
-        assert_eq!(rt; ready.next(), Some(5));
+        assert!(rt; ready.next() == Some(3));
+        assert!(rt; ready.next() == Some(5));
         assert!(rt; ready.is_empty());
     }
 }

@@ -174,9 +174,9 @@ mod tests {
         trailers.add(1, 3, 9);
         trailers.add(1, 4, 7);
         trailers.remove(1, 3, 9);
-        assert_eq!(rt; trailers.count(0), 0);
-        assert_eq!(rt; trailers.count(1), 2);
-        assert_eq!(rt; trailers.at(1, 0), (4, 0));
-        assert_eq!(rt; trailers.at(1, 1), (4, 7));
+        assert!(rt; trailers.count(0) == 0);
+        assert!(rt; trailers.count(1) == 2);
+        assert!(rt; trailers.at(1, 0) == (4, 0));
+        assert!(rt; trailers.at(1, 1) == (4, 7));
     }
 }

@@ -180,19 +180,19 @@ mod tests {
     #[test]
     fn allocates_and_frees_entries(rt: HostRuntime) -> Result<(), Fail> {
         let mut vtoc = Vtoc::new(rt.alloc(), 2)?;
-        assert_eq!(rt; (vtoc.used(), vtoc.size()), (0, 2));
+        assert!(rt; (vtoc.used(), vtoc.size()) == (0, 2));
         let e = vtoc.allocate(7).expect(&rt, "a free entry");
-        assert_eq!(rt; (e, vtoc.uid_at(e)), (0, Some(7)));
+        assert!(rt; (e, vtoc.uid_at(e)) == (0, Some(7)));
         vtoc.put_file_map(e, 255, Some(16_383));
         vtoc.put_file_map(e, 0, Some(4));
-        assert_eq!(rt; vtoc.file_map(e, 255), Some(16_383));
-        assert_eq!(rt; vtoc.file_map(e, 0), Some(4));
-        assert_eq!(rt; vtoc.file_map(e, 1), None);
+        assert!(rt; vtoc.file_map(e, 255) == Some(16_383));
+        assert!(rt; vtoc.file_map(e, 0) == Some(4));
+        assert!(rt; vtoc.file_map(e, 1) == None);
         vtoc.put_file_map(e, 0, None);
-        assert_eq!(rt; vtoc.file_map(e, 0), None);
-        assert_eq!(rt; vtoc.allocate(8), Some(1));
-        assert_eq!(rt; vtoc.allocate(9), None);
-        assert_eq!(rt; vtoc.used(), 2);
+        assert!(rt; vtoc.file_map(e, 0) == None);
+        assert!(rt; vtoc.allocate(8) == Some(1));
+        assert!(rt; vtoc.allocate(9) == None);
+        assert!(rt; vtoc.used() == 2);
         Ok(())
     }
 
@@ -201,10 +201,10 @@ mod tests {
         let mut vtoc = Vtoc::new(rt.alloc(), 4097)?;
         let e = vtoc.allocate(7).expect(&rt, "a free entry");
         vtoc.free(e);
-        assert_eq!(rt; vtoc.used(), 0);
-        assert_eq!(rt; vtoc.allocate(8), Some(0));
+        assert!(rt; vtoc.used() == 0);
+        assert!(rt; vtoc.allocate(8) == Some(0));
         assert!(rt; vtoc.size() == 4097);
-        assert_eq!(rt; vtoc.uid_at(0), Some(8));
+        assert!(rt; vtoc.uid_at(0) == Some(8));
         Ok(())
     }
 }
