@@ -29,6 +29,7 @@ use Rattle.storage_ops.specs.Shown.{home_of, is_filed, is_there, named_at, pages
 use Rattle.storage_ops.proofs.Entries.{one_named, put_here, put_other, put_uid}
 use Rattle.storage_ops.proofs.Homes.{filed_map, home_cases}
 use Rattle.storage_ops.proofs.Lengths.{filed_there}
+use Rattle.storage_ops.proofs.Still.{tree_still}
 
 -- ---- counts
 
@@ -258,7 +259,8 @@ store_dropped old now ast next links a b whos u q d some entries_same sizes h = 
   housed = drop_housed old now a b u q d h.housed;
   counted = drop_counted old now a b u q d h.housed h.counted;
   taken = drop_taken old now a b u q d h.housed some h.taken;
-  active = subst (λ (ns : List Node). AreInTree ns next) (sym d.accounts.nodes) active;
+  active = subst (λ (ns : List Node). AreInTree ns next) (sym d.accounts.nodes)
+      (tree_still a.nodes ast next entries_same sizes h.active);
   rights = subst (λ (ns : List Node). HaveRights ns next.entries links whos) (sym d.accounts.nodes)
       (subst (λ (e : List _). HaveRights a.nodes e links whos) (sym entries_same) h.rights);
   known = record {
@@ -266,10 +268,3 @@ store_dropped old now ast next links a b whos u q d some entries_same sizes h = 
     processes = h.known.processes;
   };
 }
-  where
-    active : AreInTree a.nodes next
-    active = record {
-      there = λ place v e. h.active.there place v (rw (← entries_same) e);
-      superiors = λ place v n e found. rw entries_same (h.active.superiors place v n (rw (← entries_same) e) found);
-      pools = λ place v n e found. rw sizes (h.active.pools place v n (rw (← entries_same) e) found);
-    }

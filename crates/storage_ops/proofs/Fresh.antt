@@ -3,7 +3,7 @@ use Rattle.std.proofs.Common.{◌≡◌, ◌≢◌, ℕ, zero, suc, ◌+◌, ◌
 use Rattle.std.proofs.Common.{List, [], ◌∷◌, length, map}
 use Rattle.std.proofs.Common.{Option, Some, None, get_or, is_some, replicate, sum, refl, sym, ap, ◌∙◌, arith}
 use Rattle.std.proofs.Common.{inl, inr, is_none}
-use Rattle.std.specs.Prelude.{count_by, codes, nat_le, nat_lt, slice_get}
+use Rattle.std.specs.Prelude.{count_by, nat_le, nat_lt, slice_get}
 use Rattle.std.specs.List.{list_all}
 use Rattle.std.proofs.lemmas.Bool.{cases_lt}
 use Rattle.std.proofs.lemmas.Bool.Decides.{nat_tests}
@@ -19,7 +19,7 @@ use Rattle.script.specs.declared.plan.VolumeLine.{VolumeLine}
 use Rattle.mnames.specs.Names.{is_name}
 use Rattle.accounts.specs.Maps.{AccountMaps, Gains, count_of, root_alone}
 use Rattle.tree_model.specs.Tree.{entries_on, taken_on, volume_in}
-use Rattle.flat_model.specs.Store.{Store, at_first, boot, entries_in, records_in as sizes_in}
+use Rattle.flat_model.specs.Store.{Store, at_first, boot, entries_in, records_in as sizes_in, root_of}
 use Rattle.vtoc.specs.Vtoc.{Entry as VtocEntry, entry_at, least_free_entry, record_at, records_in, uid_of}
 use Rattle.vtoc.specs.FileMap.{no_records}
 use Rattle.record_map.specs.Bitmap.{in_use}
@@ -245,19 +245,9 @@ shown_nothing drive p t is fresh known whos = record {
 }
 
 -- the root is the first node
-pub root_gains : (a : AccountMaps) (entry quota : ℕ) → a ≡ root_alone 0 entry quota
-    → Gains nothing a (record {
-      uid = 1;
-      superior = None;
-      name = codes "root";
-      directory = true;
-      volume = 0;
-      pages =
-          0;
-      quota = quota;
-      rows = [];
-    }) entry
-root_gains a entry quota is = record {
+pub root_gains : (p : Plan) (a : AccountMaps) (entry quota : ℕ) → a ≡ root_alone 0 entry quota
+    → Gains nothing a (record (root_of p) { quota = quota }) entry
+root_gains p a entry quota is = record {
   nodes = ap (λ (x : AccountMaps). x.nodes) is;
   entries = ap (λ (x : AccountMaps). x.entries) is;
   next = ap (λ (x : AccountMaps). x.next) is;
@@ -265,34 +255,9 @@ root_gains a entry quota is = record {
 }
 
 pub boot_is : (p : Plan) (quota : ℕ) → quota ≡ p.quota
-    → record (blank p) {
-      nodes = record {
-        uid = 1;
-        superior = None;
-        name = codes "root";
-        directory = true;
-        volume = 0;
-        pages = 0;
-        quota
-            = quota;
-        rows = [];
-      } ∷ [];
-      next = 1 + 1;
-    } ≡ boot p
+    → record (blank p) { nodes = record (root_of p) { quota = quota } ∷ []; next = 1 + 1 } ≡ boot p
 unfolding boot
-boot_is p quota is = ap (λ (q : ℕ). record (blank p) {
-  nodes = record {
-    uid = 1;
-    superior = None;
-    name = codes "root";
-    directory = true;
-    volume = 0;
-    pages = 0;
-    quota = q;
-    rows = [];
-  } ∷ [];
-  next = 2;
-}) is
+boot_is p quota is = ap (λ (q : ℕ). record (blank p) { nodes = record (root_of p) { quota = q } ∷ []; next = 2 }) is
 
 -- the volume of a command is one of so many
 pub dir_volume : (volumes : ℕ) (path : List (List ℕ)) (volume : ℕ)

@@ -15,7 +15,6 @@ use Rattle.script.specs.Plans.{Plan}
 use Rattle.accounts.specs.Maps.{AccountMaps, Counts, Gains, count_of, entry_of}
 use Rattle.quota_cells.specs.Accounts.{look}
 use Rattle.tree_model.specs.Tree.{Node, entries_on, has_directory, node_in, taken_on, volume_in}
-use Rattle.tree_model.specs.Trees.{AreBelow}
 use Rattle.flat_model.specs.Pages.{is_stored}
 use Rattle.flat_model.specs.Store.{Store}
 use Rattle.flat_model.proofs.CountLaws.{taken_new}
@@ -309,59 +308,66 @@ entries_more n ns count v is = here (eqb v n.volume) refl
 
 -- ---- the whole
 
-module _ (a b : AccountMaps) (n : Node) (entry : ℕ) (gains : Gains a b n entry) (old now : Plain) (ast : ActiveSegs)
-    (links : Links)
-    (fresh : node_in a.nodes n.uid ≡ None) (uid : n.uid ≡ a.next) (below : AreBelow a.next a.nodes)
-    (taken_home : uid_at now.vtocs (record { volume = n.volume; entry = entry }) ≡ Some n.uid)
-    (least : Some entry ≡ least_free_entry (vtoc_in old.vtocs n.volume))
-    (uids : (other : Home) → other ≢ record { volume = n.volume; entry = entry }
-    → uid_at now.vtocs other ≡ uid_at old.vtocs other)
-    (maps : (other : Home) → map_at now.vtocs other ≡ map_at old.vtocs other)
-    (flags : now.records ≡ old.records) (count : used now.vtocs ≡ one_more (used old.vtocs) n.volume) where
+-- A node more, which wasn't there before, has the least free entry of its volume for its home. All other homes are as
+-- they were, and so are the file maps and the records in use.
+pub record HasNewHome (a b : AccountMaps) (n : Node) (entry : ℕ) (old now : Plain) : Type 0 where
+  pub gains : Gains a b n entry
+  pub fresh : node_in a.nodes n.uid ≡ None
+  pub home : uid_at now.vtocs (record { volume = n.volume; entry = entry }) ≡ Some n.uid
+  pub least : Some entry ≡ least_free_entry (vtoc_in old.vtocs n.volume)
+  pub uids : (other : Home) → other ≢ record { volume = n.volume; entry = entry }
+      → uid_at now.vtocs other ≡ uid_at old.vtocs other
+  pub maps : (other : Home) → map_at now.vtocs other ≡ map_at old.vtocs other
+  pub flags : now.records ≡ old.records
+  pub count : used now.vtocs ≡ one_more (used old.vtocs) n.volume
+
+module _ (a b : AccountMaps) (n : Node) (entry : ℕ) (old now : Plain) (made : HasNewHome a b n entry old now)
+    (ast : ActiveSegs) (links : Links) where
   free_home : (uid_at old.vtocs (record { volume = n.volume; entry = entry }) ≡ None)
       × (map_at old.vtocs (record { volume = n.volume; entry = entry }) ≡ no_records)
-  free_home = was_free old.vtocs n.volume entry least
+  free_home = was_free old.vtocs n.volume entry made.least
 
   pub store_new : (whos : List Who) → n.pages ≤ 256 → (n.directory ≡ true → n.pages ≡ 0)
       → IsStore old ast links a whos → IsStore now ast links b whos
   store_new whos most flat h = record {
-    housed = housed_new a b n entry gains old.vtocs now.vtocs fresh taken_home free_home.0 free_home.1 uids maps
-        h.housed;
-    counted = counted_new a b n entry gains old.vtocs now.vtocs fresh taken_home free_home.0 free_home.1 uids maps
-        most flat h.counted;
+    housed = housed_new a b n entry made.gains old.vtocs now.vtocs made.fresh made.home free_home.0 free_home.1
+        made.uids made.maps h.housed;
+    counted = counted_new a b n entry made.gains old.vtocs now.vtocs made.fresh made.home free_home.0 free_home.1
+        made.uids made.maps most flat h.counted;
     taken = record {
-      records = λ stored v counts. ap (λ (f : List (List Bool)). taken f v) flags
-          ∙ h.taken.records stored v (λ u. sym (gains.counts u) ∙ counts u)
+      records = λ stored v counts. ap (λ (f : List (List Bool)). taken f v) made.flags
+          ∙ h.taken.records stored v (λ u. sym (made.gains.counts u) ∙ counts u)
           ∙ sym (taken_new n a.nodes stored v (λ q. none_counted stored n.uid q
-          (sym (counts n.uid) ∙ gains.counts n.uid ∙ h.counted.absent n.uid (ap is_some fresh))))
-          ∙ ap (λ (ns : List Node). taken_on ns stored v) (sym gains.nodes);
-      entries = λ v. ap (λ (f : ℕ → ℕ). f v) count ∙ entries_more n a.nodes (used old.vtocs) v (h.taken.entries v)
-          ∙ ap (λ (ns : List Node). entries_on ns v) (sym gains.nodes);
-      short = λ v. subst (λ (f : List (List Bool)). size f v < 65536) (sym flags) (h.taken.short v);
+          (sym (counts n.uid) ∙ made.gains.counts n.uid ∙ h.counted.absent n.uid (ap is_some made.fresh))))
+          ∙ ap (λ (ns : List Node). taken_on ns stored v) (sym made.gains.nodes);
+      entries = λ v. ap (λ (f : ℕ → ℕ). f v) made.count ∙ entries_more n a.nodes (used old.vtocs) v (h.taken.entries v)
+          ∙ ap (λ (ns : List Node). entries_on ns v) (sym made.gains.nodes);
+      short = λ v. subst (λ (f : List (List Bool)). size f v < 65536) (sym made.flags) (h.taken.short v);
     };
     active = record {
-      there = λ place u e. (let was = h.active.there place u e in there_new a b n entry gains u (other u was) ∙ was);
+      there = λ place u e. (let was = h.active.there place u e in
+          there_new a b n entry made.gains u (other u was) ∙ was);
       superiors = λ place u m e found. h.active.superiors place u m e
-          (sym (node_new a b n entry gains u (other u (h.active.there place u e))) ∙ found);
+          (sym (node_new a b n entry made.gains u (other u (h.active.there place u e))) ∙ found);
       pools = λ place u m e found. h.active.pools place u m e
-          (sym (node_new a b n entry gains u (other u (h.active.there place u e))) ∙ found);
+          (sym (node_new a b n entry made.gains u (other u (h.active.there place u e))) ∙ found);
     };
     rights = record {
       modes = λ process number place pages u mode m d e found. h.rights.modes process number place pages u mode m d e
-          (sym (node_new a b n entry gains u (other u (h.active.there place u e))) ∙ found);
+          (sym (node_new a b n entry made.gains u (other u (h.active.there place u e))) ∙ found);
       lengths = λ process number place pages u mode m d e found. h.rights.lengths process number place pages u mode m
           d e
-          (sym (node_new a b n entry gains u (other u (h.active.there place u e))) ∙ found);
+          (sym (node_new a b n entry made.gains u (other u (h.active.there place u e))) ∙ found);
     };
     known = record {
       older = λ process number u e. (let lt = h.known.older process number u e in
-          let next : b.next ≡ a.next + 1 = gains.next in omega (arith, lt, next));
+          let next : b.next ≡ a.next + 1 = made.gains.next in omega (arith, lt, next));
       processes = h.known.processes;
     };
   }
     where
       other : (u : ℕ) → is_there a.nodes u ≡ true → u ≢ n.uid
-      other u t is = (let clash : true ≡ false = sym t ∙ ap (is_there a.nodes) is ∙ ap is_some fresh in cc)
+      other u t is = (let clash : true ≡ false = sym t ∙ ap (is_there a.nodes) is ∙ ap is_some made.fresh in cc)
 
   -- the flat store has the node too
   pub shown_new : {D : Type 0} (drive : D → List (List ℕ)) (p : Plan) (s : Store) (t u : Storage D)
@@ -375,17 +381,18 @@ module _ (a b : AccountMaps) (n : Node) (entry : ℕ) (gains : Gains a b n entry
   shown_new drive p s t u is_a is_b is_old is_now links_same ast_is links_is whos words sizes kept inactive h = record {
     tree = record {
       nodes = ap (λ (ns : List Node). n ∷ ns) (h.tree.nodes ∙ ap (λ (x : AccountMaps). x.nodes) is_a)
-          ∙ sym gains.nodes ∙ ap (λ (x : AccountMaps). x.nodes) (sym is_b);
-      next = ap (λ (x : ℕ). x + 1) (h.tree.next ∙ ap (λ (x : AccountMaps). x.next) is_a) ∙ sym gains.next
+          ∙ sym made.gains.nodes ∙ ap (λ (x : AccountMaps). x.nodes) (sym is_b);
+      next = ap (λ (x : ℕ). x + 1) (h.tree.next ∙ ap (λ (x : AccountMaps). x.next) is_a) ∙ sym made.gains.next
           ∙ ap (λ (x : AccountMaps). x.next) (sym is_b);
       counts = subst (λ (x : AccountMaps). Counts x s.stored) (sym is_b)
-          (λ v. gains.counts v ∙ subst (λ (x : AccountMaps). Counts x s.stored) is_a h.tree.counts v);
+          (λ v. made.gains.counts v ∙ subst (λ (x : AccountMaps). Counts x s.stored) is_a h.tree.counts v);
     };
     known = h.known ∙ ap (λ (l : Links). l.known) (sym links_same);
     pages = record {
       stored = λ v q. h.pages.stored v q ∙ ap (λ (x : AccountMaps). is_filed x t.segs.pages.volumes.vtocs v q) is_a
           ∙ ap (λ (x : Plain). is_filed a x.vtocs v q) is_old
-          ∙ sym (filed_new a b n entry gains old.vtocs now.vtocs fresh taken_home free_home.0 free_home.1 uids maps v q)
+          ∙ sym (filed_new a b n entry made.gains old.vtocs now.vtocs made.fresh made.home free_home.0
+          free_home.1 made.uids made.maps v q)
           ∙ ap (λ (x : Plain). is_filed b x.vtocs v q) (sym is_now)
           ∙ ap (λ (x : AccountMaps). is_filed x u.segs.pages.volumes.vtocs v q) (sym is_b);
       once = h.pages.once;
@@ -393,14 +400,14 @@ module _ (a b : AccountMaps) (n : Node) (entry : ℕ) (gains : Gains a b n entry
           (ap (λ (x : AccountMaps). picture x (words_at (plain drive t.segs.pages)) v (o / 1024)) is_a
           ∙ ap (λ (x : Plain). picture a (words_at x) v (o / 1024)) is_old
           ∙ ap (λ (w : ℕ → Home → ℕ → List ℕ). picture a w v (o / 1024)) (sym words)
-          ∙ sym (picture_new a b n entry gains old.vtocs now.vtocs fresh taken_home free_home.0 free_home.1 uids maps
-          (words_at now) zeros v (o / 1024))
+          ∙ sym (picture_new a b n entry made.gains old.vtocs now.vtocs made.fresh made.home free_home.0
+          free_home.1 made.uids made.maps (words_at now) zeros v (o / 1024))
           ∙ ap (λ (x : Plain). picture b (words_at x) v (o / 1024)) (sym is_now)
           ∙ ap (λ (x : AccountMaps). picture x (words_at (plain drive u.segs.pages)) v (o / 1024)) (sym is_b));
     };
     script = record {
       records = λ v. h.script.records v ∙ ap (λ (x : Plain). size x.records v) is_old
-          ∙ ap (λ (f : List (List Bool)). size f v) (sym flags)
+          ∙ ap (λ (f : List (List Bool)). size f v) (sym made.flags)
           ∙ ap (λ (x : Plain). size x.records v) (sym is_now);
       entries = λ v. h.script.entries v ∙ ap (λ (x : Plain). entries x.vtocs v) is_old
           ∙ sym (sizes v) ∙ ap (λ (x : Plain). entries x.vtocs v) (sym is_now);

@@ -7,12 +7,13 @@ use Rattle.std.proofs.lemmas.Bool.{cases_Bool, cases_eq, cases_lt, ne_eqb}
 use Rattle.std.proofs.lemmas.Bool.Decides.{nat_tests}
 use Rattle.mnames.specs.declared.principals.Who.{Who}
 use Rattle.script.specs.Plans.{Plan}
+use Rattle.book.specs.declared.replies.Reply.TheVariants as reply
 use Rattle.accounts.specs.Maps.{AccountMaps, Changes}
 use Rattle.tree_model.specs.Tree.{Node, has_directory, node_in, pool_of, with_node}
 use Rattle.tree_model.specs.Trees.{has_segment}
 use Rattle.flat_model.specs.Branches.{changed, segment_at}
 use Rattle.flat_model.specs.Pages.{is_stored, is_stored_from}
-use Rattle.flat_model.specs.Sizes.{after_length}
+use Rattle.flat_model.specs.Sizes.{after_length, length_reply}
 use Rattle.flat_model.specs.Store.{Store}
 use Rattle.flat_model.proofs.PageLaws.{none_from, stored_from}
 use Rattle.vtoc.specs.Vtoc.{Entry, record_at}
@@ -29,7 +30,9 @@ use Rattle.storage_ops.proofs.Alike.{Keeps, active_alike, alike_changed, housed_
 use Rattle.storage_ops.proofs.Alike.{map_node}
 use Rattle.storage_ops.proofs.Alike.{node_map, rights_alike, taken_alike}
 use Rattle.storage_ops.proofs.Changed.{shown_changed}
+use Rattle.storage_ops.proofs.Held.{tree_held}
 use Rattle.flat_model.proofs.NodeLaws.{uid_found}
+use Rattle.flat_model.proofs.TreeReplies.{length_told}
 
 -- whether a page is filed, of a node that is there
 pub filed_there : (a : AccountMaps) (vtocs : List (List (Option Entry))) (u q : ℕ) → is_there a.nodes u ≡ true
@@ -193,3 +196,11 @@ module _ (a b : AccountMaps) (u pages : ℕ) (segment : has_segment a.nodes u �
       ∙ sym (ap (changed s (λ x. record x { pages = pages }))
       (ap (λ (ns : List Node). segment_at ns path) (h.tree.nodes ∙ ap (λ (x : AccountMaps). x.nodes) is) ∙ found)))
       (shown_changed (length_change u pages) (keeps_change u pages) a b changes drive p s t is h)
+
+-- the reply to a length, by whether a page past it is stored
+pub length_answered : {D : Type 0} {t now : Storage D} (same : t ≡ now) (drive : D → List (List ℕ)) (p : Plan)
+    (s : Store) → Shows drive p s now → (path : List (List ℕ)) (pages : ℕ) (n : Node) (b stores : Bool)
+    → segment_at t.accounts.nodes path ≡ Ok n → stores ≡ is_stored_from s.stored n.uid pages → stores ≡ b
+    → cond b reply.Beyond reply.Done ≡ length_reply s path pages
+length_answered {D} {t} same drive p s h path pages n b stores found told is =
+    length_told s t.accounts.nodes path (tree_held same s h.tree).nodes pages n b found (sym told ∙ is)

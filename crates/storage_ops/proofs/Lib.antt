@@ -5,6 +5,7 @@ pub mod CutExactly
 pub mod Dropped
 pub mod Entries
 pub mod Fresh
+pub mod Held
 pub mod Homes
 pub mod Known
 pub mod Lengths

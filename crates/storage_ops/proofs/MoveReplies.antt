@@ -1,13 +1,13 @@
 -- What the move of quota is answered, by the answer of the quota cells.
 use Rattle.std.proofs.Common.{◌≡◌, ℕ, ℤ, Bool, true, false, cond, List, Option, Some, None, Result, Ok, Err, refl, ◌∙◌}
-use Rattle.std.proofs.Common.{ap}
+use Rattle.std.proofs.Common.{◌≤◌, pos, ap, subst, sym}
 use Rattle.std.specs.Prelude.{nat_lt}
 use Rattle.std.specs.Int.{is_positive}
 use Rattle.std.specs.Int.RustNames.{unsigned_abs}
 use Rattle.book.specs.declared.replies.Reply.{Reply}
 use Rattle.book.specs.declared.replies.Reply.TheVariants as reply
 use Rattle.tree_model.specs.Quotas.{giver_of, over_in, tree_moved}
-use Rattle.tree_model.specs.Tree.{Node, above, quota_in}
+use Rattle.tree_model.specs.Tree.{Node, above, quota_in, used_by}
 use Rattle.quota_cells.specs.declared.MoveFault.{MoveFault}
 use Rattle.quota_cells.specs.declared.MoveFault.TheVariants as fault
 use Rattle.quota_cells.specs.Cells.{over_answer}
@@ -15,6 +15,7 @@ use Rattle.quota_cells.specs.Scratch.{scratch_answer}
 use Rattle.flat_model.specs.Branches.{directory_at}
 use Rattle.flat_model.specs.Rights.{done_or_over, move_reply}
 use Rattle.flat_model.specs.Store.{Store}
+use Rattle.flat_model.proofs.QuotaLaws.{move_of_none}
 use Rattle.flat_model.proofs.TreeReplies as replies
 
 abbrev pub move_told : Result (Unit {0}) MoveFault → Reply
@@ -41,3 +42,21 @@ move_answered s nodes path same amount n r given e is told =
         → move_told (cond z (Err fault.TooLittle) (over_answer o)) ≡ cond z reply.TooLittle (done_or_over o)
     both true o = refl
     both false o = over o
+
+-- so by an answer at an amount that is the same
+pub move_given : (s : Store) (nodes : List Node) (path : List (List ℕ)) → s.nodes ≡ nodes → (amount given : ℤ)
+    → given ≡ amount → (n : Node) (r told : Result (Unit {0}) MoveFault) → directory_at nodes path ≡ Ok n
+    → r ≡ scratch_answer nodes s.stored n.uid (is_positive given) (unsigned_abs given) → r ≡ told
+    → move_told told ≡ move_reply s path amount
+move_given s nodes path same amount given back n r told e answer is =
+    move_answered s nodes path same amount n r (move_told told) e
+    (answer ∙ ap (λ (a : ℤ). scratch_answer nodes s.stored n.uid (is_positive a) (unsigned_abs a)) back)
+    (ap move_told (sym is))
+
+-- a move of nothing
+pub move_nothing : (s : Store) (nodes : List Node) (path : List (List ℕ)) → s.nodes ≡ nodes → (amount given : ℤ)
+    → given ≡ amount → given ≡ pos 0 → (n : Node) → directory_at nodes path ≡ Ok n
+    → ((a : ℕ) → used_by nodes s.stored a ≤ quota_in nodes a) → reply.Done ≡ move_reply s path amount
+move_nothing s nodes path same amount given back none n e within =
+    move_of_none s nodes path n amount same e (sym back ∙ none)
+    (subst (λ (ns : List Node). (a : ℕ) → used_by ns s.stored a ≤ quota_in ns a) (sym same) within)

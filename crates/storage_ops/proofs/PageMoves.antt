@@ -26,6 +26,7 @@ use Rattle.storage_ops.proofs.Dropped.{same_used}
 use Rattle.storage_ops.proofs.Entries.{map_put, put_here}
 use Rattle.storage_ops.proofs.Homes.{filed_map}
 use Rattle.storage_ops.proofs.PageFacts.{within_some}
+use Rattle.storage_ops.proofs.Still.{tree_still}
 
 -- ---- lists of stored pages, by their uids
 
@@ -290,7 +291,8 @@ module _ (old now : Plain) (a b : AccountMaps) (uid count : ℕ) (change : Recou
           ∙ ap (λ (ns : List Node). entries_on ns v) (sym change.nodes);
       short = λ v. subst (λ (n : ℕ). n < 65536) (sym (same_sizes old now v keeps)) (h.taken.short v);
     };
-    active = subst (λ (ns : List Node). AreInTree ns next) (sym change.nodes) still;
+    active = subst (λ (ns : List Node). AreInTree ns next) (sym change.nodes)
+        (tree_still a.nodes ast next entries sizes h.active);
     rights = subst (λ (ns : List Node). HaveRights ns next.entries links whos) (sym change.nodes)
         (subst (λ (e : List (Option Entry)). HaveRights a.nodes e links whos) (sym entries) h.rights);
     known = record {
@@ -298,10 +300,3 @@ module _ (old now : Plain) (a b : AccountMaps) (uid count : ℕ) (change : Recou
       processes = h.known.processes;
     };
   }
-    where
-      still : AreInTree a.nodes next
-      still = record {
-        there = λ place u e. h.active.there place u (rw (← entries) e);
-        superiors = λ place u n e found. rw entries (h.active.superiors place u n (rw (← entries) e) found);
-        pools = λ place u n e found. rw sizes (h.active.pools place u n (rw (← entries) e) found);
-      }

@@ -4,6 +4,7 @@ use Rattle.std.proofs.Common.{length, get_or, set, replicate, Some, refl, sym, a
 use Rattle.std.proofs.lemmas.Bool.{cases_eq, ne_eqb, eq-eqb}
 use Rattle.std.proofs.lemmas.Bool.Decides.{nat_tests}
 use Rattle.std.proofs.lemmas.List.{get_or-set_other, get_or-set_same}
+use Rattle.std.proofs.lemmas.Option.{same_Some}
 use Rattle.std.proofs.Math.ListN.{get_or-map}
 use Rattle.script.specs.Plans.{Plan}
 use Rattle.accounts.specs.Maps.{AccountMaps}
@@ -20,7 +21,7 @@ use Rattle.page_table.specs.declared.Ptw.TheVariants.{Here, Leaving, Null, Out}
 use Rattle.page_table.specs.PageTable.{ptw_at}
 use Rattle.active_segs.specs.Active.{ActiveSegs, IsActive, table_at}
 use Rattle.page_control.specs.declared.Home.{Home}
-use Rattle.page_control.specs.Plain.{Plain, binding_at, bindings, number_in, plain}
+use Rattle.page_control.specs.Plain.{Plain, binding_at, bindings, number_in, plain, words_in}
 use Rattle.page_control.specs.Picture.{changed_at, changed_page, words_at}
 use Rattle.page_control.specs.Tied.{IsTableOf, frame_of, has_record, uid_in}
 use Rattle.seg_control.specs.Control.{Links, word_of}
@@ -28,6 +29,7 @@ use Rattle.seg_control.specs.Kept.{IsKept}
 use Rattle.volumes.specs.Volumes.{Vols}
 use Rattle.storage_ops.specs.Shown.{IsStore, Shows, ShowsTree, Storage, home_of, is_filed, is_there, picture}
 use Rattle.storage_ops.proofs.Paged.{active_tie, picture_there, word_filed}
+use Rattle.storage_ops.proofs.PagesLess.{words_bound}
 
 -- what a bound frame is bound to
 pub bound_told : (frame : Frame) → is_bound frame ≡ true → bound_page frame ≡ Some (uid_in frame, number_in frame)
@@ -49,6 +51,12 @@ module _ (now : Plain) (ast : ActiveSegs) (links : Links) (kept : IsKept now ast
 
   pub bound_named : frame_of (ptw_at (table_at ast.tables bound_active.0) (number_in (frame_at now.core f))) ≡ Some f
   bound_named = bound_table.named f (number_in (frame_at now.core f)) binding
+
+  -- and the words of that page, wherever it is at home
+  pub bound_words : (home : Home) → words_at now (uid_in (frame_at now.core f)) home (number_in (frame_at now.core f))
+      ≡ words_in now f
+  bound_words home = words_bound now (uid_in (frame_at now.core f)) (number_in (frame_at now.core f)) f home binding
+      (λ g e. same_Some g f (sym (bound_table.named g (number_in (frame_at now.core f)) e) ∙ bound_named))
 
 framed_recorded : (w : Ptw) (f : ℕ) → frame_of w ≡ Some f → has_record w ≡ true
 framed_recorded Null f e = cc

@@ -54,8 +54,8 @@ use Rattle.storage_ops.proofs.Homes.{bound_of, filed_map}
 use Rattle.storage_ops.proofs.Lengths.{filed_there}
 use Rattle.storage_ops.proofs.Paged.{active_home, active_there, active_tie, filed_absent, picture_absent, picture_there}
 use Rattle.storage_ops.proofs.Paged.{word_filed}
-use Rattle.storage_ops.proofs.Unstored.{bound_dropped, bound_none, none_bound, word_within, worded_here, worded_other}
-use Rattle.storage_ops.proofs.Unstored.{worded_table}
+use Rattle.storage_ops.proofs.Unstored.{bound_dropped, bound_none, none_bound, same_pair, word_within, worded_here}
+use Rattle.storage_ops.proofs.Unstored.{unstores_still, worded_other, worded_table}
 
 -- ---- a page is stored no more
 
@@ -153,16 +153,7 @@ shown_dropped drive p s t n u q d housed known whos h =
 bound_frame : (frame : Frame) (u q : ℕ) → bound_page frame ≡ Some (u, q) → (uid_in frame ≡ u) × (number_in frame ≡ q)
 bound_frame Free u q e = cc
 bound_frame (Started v r) u q e = cc
-bound_frame (Bound v r used modified) u q e = (first, second)
-  where
-    same : ◌≡◌ {A = ℕ × ℕ} (v, r) (u, q)
-    same = same_Some (v, r) (u, q) e
-
-    first : v ≡ u
-    first = ap (λ (x : ℕ × ℕ). x.0) same
-
-    second : r ≡ q
-    second = ap (λ (x : ℕ × ℕ). x.1) same
+bound_frame (Bound v r used modified) u q e = same_pair v r u q e
 
 pub frame_bound : (core : Core) (u q f : ℕ) → binding_at (bindings core) f ≡ Some (u, q)
     → (uid_in (frame_at core f) ≡ u) × (number_in (frame_at core f) ≡ q)
@@ -411,22 +402,9 @@ unstores_one drive t n u q home active places may away re word effect reads link
 pub unstores_null : {D : Type 0} (drive : D → List (List ℕ)) (t : Storage D) (u q : ℕ)
     → IsTableOf (bindings t.segs.pages.core) u (table_of t.segs.ast u) → word_of t.segs.ast u q ≡ Null
     → Unstores t t u (λ r. eqb r q)
-unstores_null drive t u q table null = record {
-  nodes = refl;
-  entries = refl;
-  next = refl;
-  places = refl;
-  sizes = refl;
-  hands = refl;
-  tables = λ place apart. refl;
-  kept = λ r off. refl;
-  gone = λ r on. ap (word_of t.segs.ast u) (eqb-true r q on) ∙ null;
-  bound = bound_none t.segs.pages.core u q (table_of t.segs.ast u) table (ap frame_of null);
-  reads = refl;
-  links = refl;
-  whos = refl;
-  drives = refl;
-}
+unstores_null drive t u q table null = unstores_still t u (λ r. eqb r q)
+    (λ r on. ap (word_of t.segs.ast u) (eqb-true r q on) ∙ null)
+    (bound_none t.segs.pages.core u q (table_of t.segs.ast u) table (ap frame_of null))
 
 pub null_of : (w : Ptw) → is_here w ≡ false → is_away w ≡ false → w ≡ Null
 null_of Null e f = refl
@@ -461,19 +439,22 @@ shown_cut drive p s t n u q f at accounts whos links volumes there has words h =
 }
 
 -- an active segment's page in a frame has the words there
+pub leaving_words : (now : Plain) (ast : ActiveSegs) (links : Links) (a : AccountMaps) (whos : List Who)
+    → IsKept now ast links → IsStore now ast links a whos → (u q f : ℕ) → IsActive ast.entries u
+    → word_of ast u q ≡ Leaving f → words_at now u (home_of a u) q ≡ words_in now f
+leaving_words now ast links a whos k h u q f active word =
+    words_bound now u q f (home_of a u) (tie.back f q (ap frame_of word))
+    (λ g e. same_Some g f (sym (tie.named g q e) ∙ ap frame_of word))
+  where
+    tie : IsTableOf (bindings now.core) u (table_of ast u)
+    tie = (active_tie now ast links a whos k h u active).table
+
 pub picture_bound : (now : Plain) (ast : ActiveSegs) (links : Links) (a : AccountMaps) (whos : List Who)
     → IsKept now ast links → IsStore now ast links a whos → (u q f : ℕ) → IsActive ast.entries u
     → word_of ast u q ≡ Leaving f → picture a (words_at now) u q ≡ words_in now f
 picture_bound now ast links a whos k h u q f active word =
     picture_there a (words_at now) u q (active_there now ast links a whos k h u active)
-    ∙ words_bound now u q f (home_of a u) (tie.back f q (ap frame_of word))
-    (λ g e. the_frame g (sym (tie.named g q e) ∙ ap frame_of word))
-  where
-    tie : IsTableOf (bindings now.core) u (table_of ast u)
-    tie = (active_tie now ast links a whos k h u active).table
-
-    the_frame : (g : ℕ) → ◌≡◌ {A = Option ℕ} (Some g) (Some f) → g ≡ f
-    the_frame g e = cc
+    ∙ leaving_words now ast links a whos k h u q f active word
 
 pub leaving_bound : (now : Plain) (ast : ActiveSegs) (links : Links) (a : AccountMaps) (whos : List Who)
     → IsKept now ast links → IsStore now ast links a whos → (u q f : ℕ) → IsActive ast.entries u

@@ -1,6 +1,6 @@
 -- What refuses a reference, by the tables and by the flat store that they show.
 use Rattle.std.proofs.Common.{◌≡◌, ℕ, ◌*◌, ◌<◌, ◌/◌, Bool, true, false, cond, eqb, not, ◌&&◌, List, [], Option, Some}
-use Rattle.std.proofs.Common.{None, Result, Ok, Err, get_or, is_some, refl, sym, ap, ◌∙◌, arith, inl, inr}
+use Rattle.std.proofs.Common.{None, Result, Ok, Err, get_or, is_some, refl, sym, ap, subst, ◌∙◌, arith, inl, inr}
 use Rattle.std.specs.Prelude.{nat_le}
 use Rattle.std.proofs.lemmas.Bool.{cases_Bool}
 use Rattle.std.proofs.lemmas.Bool.Decides.{nat_tests}
@@ -30,6 +30,7 @@ use Rattle.storage_ops.specs.References.{brings_word, is_of_room, is_outside, on
 use Rattle.storage_ops.specs.References.{refusal_in, refused_by, room_by, room_in, room_refusal, target, target_at}
 use Rattle.storage_ops.specs.References.{is_spent, target_of, unless, want_of_room}
 use Rattle.storage_ops.specs.Shown.{AreCounted, IsStore, Shows, Storage, is_filed, pages_in, pages_of, refusal, who_at}
+use Rattle.storage_ops.proofs.Held.{shown_held}
 use Rattle.storage_ops.proofs.PageFacts.{segment_of}
 use Rattle.storage_ops.proofs.PageRoom.{full_told}
 use Rattle.storage_ops.proofs.Paged.{blank_shown}
@@ -283,3 +284,18 @@ module _ {D : Type 0} (drive : D → List (List ℕ)) (p : Plan) (s : Store) (t 
   pub reference_refused : refused_by t s.stored r (target t k r) ≡ refusal (reply_to_reference p s k r)
   reference_refused = sym (ap refusal (reply_told drive p s t h k r)
       ∙ (told (target t k r) (outside_target t k r)).1)
+
+-- so in a call, by the segment that the reference was found to go to
+module _ {D : Type 0} (drive : D → List (List ℕ)) (p : Plan) (s : Store) {t now : Storage D} (same : t ≡ now)
+    (kept : IsKept (plain drive t.segs.pages) t.segs.ast t.segs.links)
+    (store : IsStore (plain drive t.segs.pages) t.segs.ast t.segs.links t.accounts t.whos) (h : Shows drive p s now)
+    (k : ℕ) (r : Reference) (found : Result Node Reply) (is : target now k r ≡ found) where
+  pub room_found : room_by now s.stored r found ≡ room_refusal p s k r
+  room_found = ap (room_by now s.stored r) (sym is)
+      ∙ subst (λ (x : Storage D). room_by x s.stored r (target x k r) ≡ room_refusal p s k r) same
+      (room_refused drive p s t kept store (shown_held same drive p s h) k r)
+
+  pub reference_found : refused_by now s.stored r found ≡ refusal (reply_to_reference p s k r)
+  reference_found = ap (refused_by now s.stored r) (sym is)
+      ∙ subst (λ (x : Storage D). refused_by x s.stored r (target x k r) ≡ refusal (reply_to_reference p s k r)) same
+      (reference_refused drive p s t kept store (shown_held same drive p s h) k r)

@@ -10,6 +10,7 @@ use Rattle.vtoc.specs.Vtoc.{Entry as VtocEntry}
 use Rattle.core_map.specs.CoreMap.{Core, reads_of}
 use Rattle.active_segs.specs.declared.Entry.{Entry}
 use Rattle.active_segs.specs.Active.{ActiveSegs, IsOneToOne, deactivated, entry_at, table_at, uid_at as uid_in_place}
+use Rattle.page_table.specs.declared.Ptw.{Ptw}
 use Rattle.page_control.specs.declared.Home.{Home}
 use Rattle.page_control.specs.Effects.{erased}
 use Rattle.page_control.specs.Plain.{Plain, binding_at, bindings, plain}
@@ -20,19 +21,6 @@ use Rattle.storage_ops.specs.Shown.{Storage, with_known, with_vtocs}
 use Rattle.storage_ops.proofs.Less.{was_active}
 use Rattle.storage_ops.proofs.Removed.{inactive_now}
 use Rattle.storage_ops.proofs.Unstored.{unstores_both}
-
-pub rest_none : {D : Type 0} (t : Storage D) → KeepsRest t t
-rest_none t = record {
-  descriptors = refl;
-  trailers = refl;
-  whos = refl;
-  drives = refl;
-  reads = refl;
-  sizes = refl;
-  hands = refl;
-  active = λ place u e. e;
-  bound = λ f u q e. e;
-}
 
 pub rest_both : {D : Type 0} (old mid new : Storage D) → KeepsRest old mid → KeepsRest mid new → KeepsRest old new
 rest_both old mid new x y = record {
@@ -71,65 +59,57 @@ rest_unstored old new u test x = record {
   bound = λ f v q e. was_bound u test (binding_at (bindings old.segs.pages.core) f) v q (sym (x.bound f) ∙ e);
 }
 
+-- whatever the tree, the VTOCs, what numbers stand for and the page tables are, where nothing has become active
+rest_left : {D : Type 0} (old new : Storage D) (a : AccountMaps) (vtocs : List (List (Option VtocEntry)))
+    (known : List (List (Option ℕ))) (entries : List (Option Entry)) (tables : List (List Ptw))
+    → ((place u : ℕ) → uid_in_place entries place ≡ Some u → uid_in_place old.segs.ast.entries place ≡ Some u)
+    → new ≡ record old {
+      accounts = a;
+      segs = record (with_vtocs (with_known old known).segs vtocs) {
+        ast = record old.segs.ast { entries = entries; tables = tables };
+      };
+    } → KeepsRest old new
+rest_left {D} old new a vtocs known entries tables active is = subst (λ (x : Storage D). KeepsRest old x) (sym is)
+    (record {
+      descriptors = refl;
+      trailers = refl;
+      whos = refl;
+      drives = refl;
+      reads = refl;
+      sizes = refl;
+      hands = refl;
+      active = active;
+      bound = λ f u q e. e;
+    })
+
+pub rest_none : {D : Type 0} (t : Storage D) → KeepsRest t t
+rest_none t = rest_left t t t.accounts t.segs.pages.volumes.vtocs t.segs.links.known t.segs.ast.entries
+    t.segs.ast.tables (λ place u e. e) refl
+
 -- the tree alone
 pub rest_accounts : {D : Type 0} (old new : Storage D) (a : AccountMaps) → new ≡ record old { accounts = a }
     → KeepsRest old new
-rest_accounts {D} old new a is = subst (λ (x : Storage D). KeepsRest old x) (sym is) (record {
-  descriptors = refl;
-  trailers = refl;
-  whos = refl;
-  drives = refl;
-  reads = refl;
-  sizes = refl;
-  hands = refl;
-  active = λ place u e. e;
-  bound = λ f u q e. e;
-})
+rest_accounts old new a is = rest_left old new a old.segs.pages.volumes.vtocs old.segs.links.known
+    old.segs.ast.entries old.segs.ast.tables (λ place u e. e) is
 
 -- the tree and the VTOCs
 pub rest_made : {D : Type 0} (old new : Storage D) (a : AccountMaps) (vtocs : List (List (Option VtocEntry)))
     → new ≡ record old { accounts = a; segs = with_vtocs old.segs vtocs } → KeepsRest old new
-rest_made {D} old new a vtocs is = subst (λ (x : Storage D). KeepsRest old x) (sym is) (record {
-  descriptors = refl;
-  trailers = refl;
-  whos = refl;
-  drives = refl;
-  reads = refl;
-  sizes = refl;
-  hands = refl;
-  active = λ place u e. e;
-  bound = λ f u q e. e;
-})
+rest_made old new a vtocs is = rest_left old new a vtocs old.segs.links.known old.segs.ast.entries
+    old.segs.ast.tables (λ place u e. e) is
 
 -- what numbers stand for
 pub rest_known : {D : Type 0} (old new : Storage D) (known : List (List (Option ℕ))) → new ≡ with_known old known
     → KeepsRest old new
-rest_known {D} old new known is = subst (λ (x : Storage D). KeepsRest old x) (sym is) (record {
-  descriptors = refl;
-  trailers = refl;
-  whos = refl;
-  drives = refl;
-  reads = refl;
-  sizes = refl;
-  hands = refl;
-  active = λ place u e. e;
-  bound = λ f u q e. e;
-})
+rest_known old new known is = rest_left old new old.accounts old.segs.pages.volumes.vtocs known old.segs.ast.entries
+    old.segs.ast.tables (λ place u e. e) is
 
 -- a segment less is active
 pub rest_inactive : {D : Type 0} (old new : Storage D) (place : ℕ)
     → new ≡ record old { segs = record old.segs { ast = deactivated old.segs.ast place } } → KeepsRest old new
-rest_inactive {D} old new place is = subst (λ (x : Storage D). KeepsRest old x) (sym is) (record {
-  descriptors = refl;
-  trailers = refl;
-  whos = refl;
-  drives = refl;
-  reads = refl;
-  sizes = refl;
-  hands = refl;
-  active = λ q u e. was_active old.segs.ast.entries place q u e;
-  bound = λ f u q e. e;
-})
+rest_inactive old new place is = rest_left old new old.accounts old.segs.pages.volumes.vtocs old.segs.links.known
+    (deactivated old.segs.ast place).entries (deactivated old.segs.ast place).tables
+    (λ q u e. was_active old.segs.ast.entries place q u e) is
 
 -- a home is free
 pub rest_erased : {D : Type 0} (drive : D → List (List ℕ)) (t n : Storage D) (home : Home)

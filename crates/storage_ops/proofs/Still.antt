@@ -4,6 +4,7 @@ use Rattle.std.proofs.Common.{replicate, refl, sym}
 use Rattle.std.proofs.Common.{ap, subst, ◌∙◌, inl, inr}
 use Rattle.mnames.specs.declared.principals.Who.{Who}
 use Rattle.script.specs.Plans.{Plan}
+use Rattle.tree_model.specs.Tree.{Node}
 use Rattle.accounts.specs.Maps.{AccountMaps}
 use Rattle.flat_model.specs.Store.{Store}
 use Rattle.vtoc.specs.Vtoc.{Entry as VtocEntry}
@@ -22,6 +23,15 @@ use Rattle.volumes.specs.Volumes.{KeepsTables}
 use Rattle.storage_ops.specs.Shown.{AreCounted, AreHoused, AreInTree, HaveRights, IsStore, Shows, Storage, is_filed}
 use Rattle.storage_ops.specs.Shown.{picture}
 
+-- the places and the pools of what is active are as before
+pub tree_still : (nodes : List Node) (ast next : ActiveSegs) → next.entries ≡ ast.entries → next.sizes ≡ ast.sizes
+    → AreInTree nodes ast → AreInTree nodes next
+tree_still nodes ast next entries_same sizes h = record {
+  there = λ place u e. h.there place u (rw (← entries_same) e);
+  superiors = λ place u n e found. rw entries_same (h.superiors place u n (rw (← entries_same) e) found);
+  pools = λ place u n e found. rw sizes (h.pools place u n (rw (← entries_same) e) found);
+}
+
 -- records, VTOCs and what is active are as before
 pub store_still : (old now : Plain) (ast next : ActiveSegs) (links : Links) (a : AccountMaps) (whos : List Who)
     → now.vtocs ≡ old.vtocs
@@ -35,17 +45,10 @@ store_still old now ast next links a whos vtocs records entries_same sizes h = r
     entries = λ v. ap (λ (t : List (List (Option VtocEntry))). used t v) vtocs ∙ h.taken.entries v;
     short = λ v. subst (λ (f : List (List Bool)). size f v < 65536) (sym records) (h.taken.short v);
   };
-  active = still_active;
+  active = tree_still a.nodes ast next entries_same sizes h.active;
   rights = subst (λ (e : List (Option Entry)). HaveRights a.nodes e links whos) (sym entries_same) h.rights;
   known = h.known;
 }
-  where
-    still_active : AreInTree a.nodes next
-    still_active = record {
-      there = λ place u e. h.active.there place u (rw (← entries_same) e);
-      superiors = λ place u n e found. rw entries_same (h.active.superiors place u n (rw (← entries_same) e) found);
-      pools = λ place u n e found. rw sizes (h.active.pools place u n (rw (← entries_same) e) found);
-    }
 
 -- and so is the picture
 pub shown_still : {D : Type 0} (drive : D → List (List ℕ)) (p : Plan) (s : Store) (t u : Storage D)

@@ -160,8 +160,12 @@ none_bound u (Some x) = by (eqb x.0 u)
     by true = refl
     by false = refl
 
-pub unstores_none : {D : Type 0} (t : Storage D) (u : ℕ) → Unstores t t u (λ q. false)
-unstores_none t u = record {
+-- a store as it was, where the pages that pass the test have no word and no frame
+pub unstores_still : {D : Type 0} (t : Storage D) (u : ℕ) (test : ℕ → Bool)
+    → ((q : ℕ) → test q ≡ true → word_of t.segs.ast u q ≡ Null)
+    → ((f : ℕ) → binding_at (bindings t.segs.pages.core) f
+    ≡ unbound u test (binding_at (bindings t.segs.pages.core) f)) → Unstores t t u test
+unstores_still t u test gone bound = record {
   nodes = refl;
   entries = refl;
   next = refl;
@@ -170,13 +174,17 @@ unstores_none t u = record {
   hands = refl;
   tables = λ place apart. refl;
   kept = λ q off. refl;
-  gone = λ q on. cc;
-  bound = λ f. none_bound u (binding_at (bindings t.segs.pages.core) f);
+  gone = gone;
+  bound = bound;
   reads = refl;
   links = refl;
   whos = refl;
   drives = refl;
 }
+
+pub unstores_none : {D : Type 0} (t : Storage D) (u : ℕ) → Unstores t t u (λ q. false)
+unstores_none t u = unstores_still t u (λ q. false) (λ q on. cc)
+    (λ f. none_bound u (binding_at (bindings t.segs.pages.core) f))
 
 pub unstores_both : {D : Type 0} (old mid new : Storage D) (u : ℕ) (t r : ℕ → Bool) → Unstores old mid u t
     → Unstores mid new u r → Unstores old new u (λ q. t q || r q)
@@ -298,18 +306,16 @@ between_past from page = grind (arith, nat_tests)
 
 -- ---- what is being read
 
+-- two pages that are the same in an option
+pub same_pair : (v r u q : ℕ) → ◌≡◌ {A = Option (ℕ × ℕ)} (Some (v, r)) (Some (u, q)) → (v ≡ u) × (r ≡ q)
+same_pair v r u q e =
+    let same : ◌≡◌ {A = ℕ × ℕ} (v, r) (u, q) = same_Some (v, r) (u, q) e in
+    (ap (λ (x : ℕ × ℕ). x.0) same, ap (λ (x : ℕ × ℕ). x.1) same)
+
 pub started_is : (frame : Frame) (u q : ℕ) → started_page frame ≡ Some (u, q) → frame ≡ Started u q
 started_is Free u q e = cc
-started_is (Started v r) u q e = ap (λ (n : ℕ). Started n r) first ∙ ap (λ (n : ℕ). Started u n) second
-  where
-    same : ◌≡◌ {A = ℕ × ℕ} (v, r) (u, q)
-    same = same_Some (v, r) (u, q) e
-
-    first : v ≡ u
-    first = ap (λ (x : ℕ × ℕ). x.0) same
-
-    second : r ≡ q
-    second = ap (λ (x : ℕ × ℕ). x.1) same
+started_is (Started v r) u q e = (let same = same_pair v r u q e in
+    ap (λ (n : ℕ). Started n r) same.0 ∙ ap (λ (n : ℕ). Started u n) same.1)
 started_is (Bound v r on wrote) u q e = cc
 
 -- the same where the reads are as they were

@@ -70,8 +70,7 @@ impl<D: Drive> Store<D> {
             (1024 * number_in (frame_at self.old.segs.pages.core f) + at) }
         ensures shown { (p : Plan) (s : Flat) → Shows D.pages p s self.old → Shows D.pages p s self.new }
     {
-        let pages = self.segs.pages();
-        let _core = pages.frames();
+        let _kept = self.segs.pages();
         self.segs.word(f, at)
     }
 
@@ -113,8 +112,7 @@ impl<D: Drive> Store<D> {
             → Shows D.pages p (written s (uid_in (frame_at self.old.segs.pages.core f))
             (1024 * number_in (frame_at self.old.segs.pages.core f) + at) w) self.new }
     {
-        let pages = self.segs.pages();
-        let _core = pages.frames();
+        let _kept = self.segs.pages();
         self.segs.put_word(f, at, w);
     }
 

@@ -95,8 +95,7 @@ impl<D: Drive> Store<D> {
         ensures shown { (p : Plan) (s : Flat) → Shows D.pages p s self.old
             → Shows D.pages p (page_left s uid (number_in (frame_at self.old.segs.pages.core f)) result) self.new }
     {
-        let pages = self.segs.pages();
-        let _core = pages.frames();
+        let _kept = self.segs.pages();
         let left = self.segs.evict(uid, home, f);
         settle(&mut self.accounts, uid, &left);
         left

@@ -3,17 +3,14 @@ use Rattle.page_control.specs.Plain.{Paging, plain}
 use Rattle.seg_control.specs.declared.Next.TheVariants as Next
 use Rattle.seg_control.specs.Next.{IsGoing, IsNext}
 use Rattle.storage_ops.specs.Connecting.{HasOneToGo, IsChainDown}
-use Rattle.storage_ops.specs.Shown.{Shows, Storage}
+use Rattle.storage_ops.specs.Shown.{Storage}
+use Rattle.storage_ops.proofs.Held.{held, shown_held}
 use Rattle.storage_ops.proofs.ChainDown.{all_drives, may_activate, shown_next, store_next}
 use Rattle.storage_ops.proofs.store.Store.activate_next.Goals as goal
 
 pub activate_next-requires : goal.activate_next-requires
 activate_next-requires g c =
-    let t : Storage g.row.D.Denot = record {
-      accounts = c.self.inside.accounts;
-      segs = c.self.inside.segs;
-      whos = c.self.inside.whos.items;
-    } in
+    let t = held c.self.view_is in
     let down = subst (λ (x : Storage g.row.D.Denot). IsChainDown x.accounts c.args.chain.now) (sym c.self.view_is)
     c.requires.chain in
     let off = subst (λ (x : Storage g.row.D.Denot). HasOneToGo x.segs.ast c.args.chain.now) (sym c.self.view_is)
@@ -36,11 +33,7 @@ returns-clause-victim g c =
 
 pub invariant_of-self : goal.invariant_of-self
 invariant_of-self g c =
-    let t : Storage g.row.D.Denot = record {
-      accounts = c.self.inside.accounts;
-      segs = c.self.inside.segs;
-      whos = c.self.inside.whos.items;
-    } in
+    let t = held c.self.view_is in
     let down = subst (λ (x : Storage g.row.D.Denot). IsChainDown x.accounts c.args.chain.now) (sym c.self.view_is)
     c.requires.chain in
     store_next g.D.Drive.pages t.segs c.activate_next.new.self t.accounts t.whos c.args.chain.now
@@ -49,11 +42,7 @@ invariant_of-self g c =
 
 pub returns-clause-shown : goal.returns-clause-shown
 returns-clause-shown g c = λ p s h.
-    let t : Storage g.row.D.Denot = record {
-      accounts = c.self.inside.accounts;
-      segs = c.self.inside.segs;
-      whos = c.self.inside.whos.items;
-    } in
+    let t = held c.self.view_is in
     shown_next g.D.Drive.pages p s t c.activate_next.new.self c.args.chain.now c.activate_next.result
     c.activate_next.ensures.next
-    (subst (λ (x : Storage g.row.D.Denot). Shows g.D.Drive.pages p s x) (sym c.self.view_is) h)
+    (shown_held c.self.view_is g.D.Drive.pages p s h)

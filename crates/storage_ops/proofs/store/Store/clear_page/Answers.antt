@@ -1,16 +1,19 @@
-use Rattle.std.proofs.Common.{◌≡◌, ◌&&◌, Bool, false, refl, sym}
+use Rattle.std.proofs.Common.{◌≡◌, ◌&&◌, Bool, false, refl, sym, true, Some, take, replicate, ◌++◌, ◌-◌}
 use Rattle.std.proofs.Common.{ap, subst, ◌∙◌}
 use Rattle.flat_model.specs.Cuts.{cleared}
 use Rattle.flat_model.specs.Pages.{is_stored, is_zero_page}
 use Rattle.flat_model.specs.Store.{Store as Flat}
 use Rattle.flat_model.proofs.CutLaws.{cleared_absent}
-use Rattle.active_segs.specs.Active.{ActiveSegs, IsActive}
-use Rattle.page_control.specs.Picture.{words_at}
-use Rattle.page_control.specs.Plain.{plain, words_in}
+use Rattle.active_segs.specs.Active.{ActiveSegs}
+use Rattle.page_control.specs.Picture.{words_at, changed_page}
+use Rattle.page_control.specs.Plain.{plain, words_in, binding_at, bindings}
 use Rattle.page_control.specs.Tied.{has_record, is_out}
 use Rattle.seg_control.specs.Control.{word_of}
 use Rattle.storage_ops.specs.Cut.{Unstores, is_here, leaves}
-use Rattle.storage_ops.specs.Shown.{Shows, Storage}
+use Rattle.storage_ops.specs.Shown.{Shows, Storage, is_there, picture}
+use Rattle.page_table.specs.declared.Ptw.TheVariants.{Leaving, Null}
+use Rattle.script.specs.Plans.{Plan}
+use Rattle.storage_ops.proofs.Held.{active_held, held, shown_held, word_held}
 use Rattle.storage_ops.proofs.PagesLess.{cut_told, frame_bound, frame_is_bound, frame_told, leaving_bound}
 use Rattle.storage_ops.proofs.PagesLess.{picture_bound}
 use Rattle.storage_ops.proofs.PagesLess.{leaving_is, not_leaving, page_words, shown_cut, unstores_cut}
@@ -19,93 +22,92 @@ use Rattle.storage_ops.proofs.Unstored.{unstores_none}
 use Rattle.storage_ops.specs.CutOff.{is_cleared, page_cleared, paged}
 use Rattle.accounts.specs.Maps.{count_of}
 use Rattle.storage_ops.proofs.CutExactly.{cleared_exactly, cleared_told, null_cleared}
+use Rattle.storage_ops.proofs.store.Store.clear_page.Given.{Over}
+use Rattle.storage_ops.proofs.store.Store.clear_page.Goals.{After-cut_from, In-None, In-Some}
 use Rattle.storage_ops.proofs.store.Store.clear_page.Goals as goal
+
+-- the word of a page that is on its way out
+word : (g : Over) (c : In-Some g) → word_of c.self.inside.segs.ast c.args.uid c.args.page ≡ Leaving c.in-Some.f
+word g c = leaving_is (word_of c.self.inside.segs.ast c.args.uid c.args.page) c.in-Some.f
+    (ap (λ (x : ActiveSegs). leaves (word_of x c.args.uid c.args.page)) (sym c.ast.ensures.ast)
+    ∙ ap leaves (sym c.word_of.ensures) ∙ sym c.leaves.ensures ∙ c.in-Some.is)
+
+bound : (g : Over) (c : In-Some g) → binding_at (bindings c.self.inside.segs.pages.core) c.in-Some.f
+    ≡ Some (c.args.uid, c.args.page)
+bound g c = leaving_bound (plain g.D.Drive.pages c.self.inside.segs.pages) c.self.inside.segs.ast
+    c.self.inside.segs.links c.self.inside.accounts c.self.inside.whos.items c.pages-kept.ensures.kept c.self.invariant
+    c.args.uid c.args.page c.in-Some.f (active_held c.self.view_is c.args.uid c.requires.active) (word g c)
+
+there : (g : Over) (c : In-Some g) → is_there c.self.inside.accounts.nodes c.args.uid ≡ true
+there g c = active_there (plain g.D.Drive.pages c.self.inside.segs.pages) c.self.inside.segs.ast
+    c.self.inside.segs.links c.self.inside.accounts c.self.inside.whos.items c.pages-kept.ensures.kept c.self.invariant
+    c.args.uid (active_held c.self.view_is c.args.uid c.requires.active)
+
+-- its words are those of its frame, before
+before : (g : Over) (c : In-Some g) → picture c.self.inside.accounts
+    (words_at (plain g.D.Drive.pages c.self.inside.segs.pages)) c.args.uid c.args.page
+    ≡ words_in (plain g.D.Drive.pages c.self.inside.segs.pages) c.in-Some.f
+before g c = picture_bound (plain g.D.Drive.pages c.self.inside.segs.pages) c.self.inside.segs.ast
+    c.self.inside.segs.links c.self.inside.accounts c.self.inside.whos.items c.pages-kept.ensures.kept c.self.invariant
+    c.args.uid c.args.page c.in-Some.f (active_held c.self.view_is c.args.uid c.requires.active) (word g c)
+
+-- and after
+after : (g : Over) (c : After-cut_from g) → words_at (plain g.D.Drive.pages c.cut_from.new.self.pages)
+    ≡ changed_page (words_at (plain g.D.Drive.pages c.self.inside.segs.pages)) c.args.uid c.args.page
+    (take c.args.at (words_in (plain g.D.Drive.pages c.self.inside.segs.pages) c.in-Some.f)
+    ++ replicate (1024 - c.args.at) 0)
+after g c =
+    let frame = frame_bound c.self.inside.segs.pages.core c.args.uid c.args.page c.in-Some.f
+    (bound g (goal.at.returns-in-Some-clause-shown g c).In-Some) in
+    page_words (words_at (plain g.D.Drive.pages c.self.inside.segs.pages)) _ _ _ c.args.uid c.args.page _ frame.0
+    frame.1 c.cut_from.ensures.words
+
+-- the word of a page that isn't stored
+null : (g : Over) (c : In-None g) → word_of c.self.inside.segs.ast c.args.uid c.args.page ≡ Null
+null g c = not_leaving (word_of c.self.inside.segs.ast c.args.uid c.args.page)
+    (ap is_here (word_held c.self.view_is c.args.uid c.args.page) ∙ c.requires.taken)
+    (ap is_out (word_held c.self.view_is c.args.uid c.args.page) ∙ c.requires.out)
+    (ap (λ (x : ActiveSegs). leaves (word_of x c.args.uid c.args.page)) (sym c.ast.ensures.ast)
+    ∙ ap leaves (sym c.word_of.ensures) ∙ sym c.leaves.ensures ∙ c.in-None.is)
+
+off : (g : Over) (c : In-None g) (p : Plan) (s : Flat) → Shows g.D.Drive.pages p s (held c.self.view_is)
+    → is_stored s.stored c.args.uid c.args.page ≡ false
+off g c p s shown = shown.pages.stored c.args.uid c.args.page
+    ∙ word_filed (plain g.D.Drive.pages c.self.inside.segs.pages) c.self.inside.segs.ast c.self.inside.segs.links
+    c.self.inside.accounts c.self.inside.whos.items c.pages-kept.ensures.kept c.self.invariant c.args.uid
+    (active_held c.self.view_is c.args.uid c.requires.active) c.args.page ∙ ap has_record (null g c)
 
 pub cut_from-requires-clause-bound : goal.cut_from-requires-clause-bound
 cut_from-requires-clause-bound g c =
-    let active = subst (λ (x : Storage g.row.D.Denot). IsActive x.segs.ast.entries c.args.uid) (sym c.self.view_is)
-    c.requires.active in
-    let word = leaving_is (word_of c.self.inside.segs.ast c.args.uid c.args.page) c.in-Some.f
-    (ap (λ (x : ActiveSegs). leaves (word_of x c.args.uid c.args.page)) (sym c.ast.ensures.ast)
-    ∙ ap leaves (sym c.word_of.ensures) ∙ sym c.leaves.ensures ∙ c.in-Some.is) in
     frame_is_bound c.self.inside.segs.pages.core c.args.uid c.args.page c.in-Some.f
-    (leaving_bound (plain g.D.Drive.pages c.self.inside.segs.pages) c.self.inside.segs.ast c.self.inside.segs.links
-    c.self.inside.accounts c.self.inside.whos.items c.pages-kept.ensures.kept c.self.invariant c.args.uid c.args.page
-    c.in-Some.f active word)
+    (bound g (goal.at.cut_from-requires-clause-bound g c).In-Some)
 
 pub returns-in-Some-clause-rest : goal.returns-in-Some-clause-rest
 returns-in-Some-clause-rest g c =
-    let t : Storage g.row.D.Denot = record {
-      accounts = c.self.inside.accounts;
-      segs = c.self.inside.segs;
-      whos = c.self.inside.whos.items;
-    } in
-    let n : Storage g.row.D.Denot = record {
-      accounts = c.self.inside.accounts;
-      segs = c.cut_from.new.self;
-      whos = c.self.inside.whos.items;
-    } in
+    let t = held c.self.view_is in
+    let n = record t { segs = c.cut_from.new.self } in
     subst (λ (x : Storage g.row.D.Denot). Unstores x n c.args.uid (λ q. false)) c.self.view_is
     (unstores_cut t n c.args.uid refl c.cut_from.ensures.ast c.cut_from.ensures.bindings c.cut_from.ensures.reads
     c.cut_from.ensures.links refl c.cut_from.ensures.volumes)
 
 pub returns-in-Some-clause-shown : goal.returns-in-Some-clause-shown
 returns-in-Some-clause-shown g c = λ p s h.
-    let t : Storage g.row.D.Denot = record {
-      accounts = c.self.inside.accounts;
-      segs = c.self.inside.segs;
-      whos = c.self.inside.whos.items;
-    } in
-    let n : Storage g.row.D.Denot = record {
-      accounts = c.self.inside.accounts;
-      segs = c.cut_from.new.self;
-      whos = c.self.inside.whos.items;
-    } in
-    let now = plain g.D.Drive.pages t.segs.pages in
-    let active = subst (λ (x : Storage g.row.D.Denot). IsActive x.segs.ast.entries c.args.uid) (sym c.self.view_is)
-    c.requires.active in
-    let word = leaving_is (word_of t.segs.ast c.args.uid c.args.page) c.in-Some.f
-    (ap (λ (x : ActiveSegs). leaves (word_of x c.args.uid c.args.page)) (sym c.ast.ensures.ast)
-    ∙ ap leaves (sym c.word_of.ensures) ∙ sym c.leaves.ensures ∙ c.in-Some.is) in
-    let frame = frame_bound t.segs.pages.core c.args.uid c.args.page c.in-Some.f
-    (leaving_bound now t.segs.ast t.segs.links t.accounts t.whos c.pages-kept.ensures.kept c.self.invariant c.args.uid
-    c.args.page c.in-Some.f active word) in
-    shown_cut g.D.Drive.pages p s t n c.args.uid c.args.page c.in-Some.f c.args.at refl refl c.cut_from.ensures.links
-    c.cut_from.ensures.volumes
-    (active_there now t.segs.ast t.segs.links t.accounts t.whos c.pages-kept.ensures.kept c.self.invariant c.args.uid
-    active)
-    (picture_bound now t.segs.ast t.segs.links t.accounts t.whos c.pages-kept.ensures.kept c.self.invariant c.args.uid
-    c.args.page c.in-Some.f active word)
-    (page_words (words_at now) _ _ _ c.args.uid c.args.page _ frame.0 frame.1 c.cut_from.ensures.words)
-    (subst (λ (x : Storage g.row.D.Denot). Shows g.D.Drive.pages p s x) (sym c.self.view_is) h)
+    let t = held c.self.view_is in
+    let some = (goal.at.returns-in-Some-clause-shown g c).In-Some in
+    shown_cut g.D.Drive.pages p s t (record t { segs = c.cut_from.new.self }) c.args.uid c.args.page c.in-Some.f
+    c.args.at refl refl c.cut_from.ensures.links c.cut_from.ensures.volumes (there g some) (before g some) (after g c)
+    (shown_held c.self.view_is g.D.Drive.pages p s h)
 
 pub returns-in-Some-clause-zero : goal.returns-in-Some-clause-zero
 returns-in-Some-clause-zero g c = λ p s h.
-    let t : Storage g.row.D.Denot = record {
-      accounts = c.self.inside.accounts;
-      segs = c.self.inside.segs;
-      whos = c.self.inside.whos.items;
-    } in
+    let t = held c.self.view_is in
     let now = plain g.D.Drive.pages t.segs.pages in
-    let active = subst (λ (x : Storage g.row.D.Denot). IsActive x.segs.ast.entries c.args.uid) (sym c.self.view_is)
-    c.requires.active in
-    let word = leaving_is (word_of t.segs.ast c.args.uid c.args.page) c.in-Some.f
-    (ap (λ (x : ActiveSegs). leaves (word_of x c.args.uid c.args.page)) (sym c.ast.ensures.ast)
-    ∙ ap leaves (sym c.word_of.ensures) ∙ sym c.leaves.ensures ∙ c.in-Some.is) in
-    let frame = frame_bound t.segs.pages.core c.args.uid c.args.page c.in-Some.f
-    (leaving_bound now t.segs.ast t.segs.links t.accounts t.whos c.pages-kept.ensures.kept c.self.invariant c.args.uid
-    c.args.page c.in-Some.f active word) in
-    let shown = subst (λ (x : Storage g.row.D.Denot). Shows g.D.Drive.pages p s x) (sym c.self.view_is) h in
+    let some = (goal.at.returns-in-Some-clause-zero g c).In-Some in
+    let shown = shown_held c.self.view_is g.D.Drive.pages p s h in
     cut_told t.accounts t.segs.pages.volumes.vtocs (words_at now) _ c.args.uid c.args.page c.args.at
-    (words_in now c.in-Some.f)
-    (active_there now t.segs.ast t.segs.links t.accounts t.whos c.pages-kept.ensures.kept c.self.invariant c.args.uid
-    active)
-    (picture_bound now t.segs.ast t.segs.links t.accounts t.whos c.pages-kept.ensures.kept c.self.invariant c.args.uid
-    c.args.page c.in-Some.f active word)
-    (page_words (words_at now) _ _ _ c.args.uid c.args.page _ frame.0 frame.1 c.cut_from.ensures.words)
-    s c.cut_from.result shown.pages
+    (words_in now c.in-Some.f) (there g some) (before g some) (after g c) s c.cut_from.result shown.pages
     (word_filed now t.segs.ast t.segs.links t.accounts t.whos c.pages-kept.ensures.kept c.self.invariant c.args.uid
-    active c.args.page ∙ ap has_record word) c.requires.at
+    (active_held c.self.view_is c.args.uid c.requires.active) c.args.page ∙ ap has_record (word g some)) c.requires.at
     (frame_told now c.in-Some.f c.args.at c.cut_from.result _ c.cut_from.ensures.cut c.cut_from.ensures.zero)
 
 pub returns-in-None-clause-rest : goal.returns-in-None-clause-rest
@@ -113,69 +115,21 @@ returns-in-None-clause-rest g c = unstores_none c.args.self.now c.args.uid
 
 pub returns-in-None-clause-shown : goal.returns-in-None-clause-shown
 returns-in-None-clause-shown g c = λ p s h.
-    let t : Storage g.row.D.Denot = record {
-      accounts = c.self.inside.accounts;
-      segs = c.self.inside.segs;
-      whos = c.self.inside.whos.items;
-    } in
-    let now = plain g.D.Drive.pages t.segs.pages in
-    let active = subst (λ (x : Storage g.row.D.Denot). IsActive x.segs.ast.entries c.args.uid) (sym c.self.view_is)
-    c.requires.active in
-    let taken = ap (λ (x : Storage g.row.D.Denot). is_here (word_of x.segs.ast c.args.uid c.args.page)) c.self.view_is
-    ∙ c.requires.taken in
-    let out = ap (λ (x : Storage g.row.D.Denot). is_out (word_of x.segs.ast c.args.uid c.args.page)) c.self.view_is
-    ∙ c.requires.out in
-    let null = not_leaving (word_of t.segs.ast c.args.uid c.args.page) taken out
-    (ap (λ (x : ActiveSegs). leaves (word_of x c.args.uid c.args.page)) (sym c.ast.ensures.ast)
-    ∙ ap leaves (sym c.word_of.ensures) ∙ sym c.leaves.ensures ∙ c.in-None.is) in
-    let shown = subst (λ (x : Storage g.row.D.Denot). Shows g.D.Drive.pages p s x) (sym c.self.view_is) h in
-    let off = shown.pages.stored c.args.uid c.args.page
-    ∙ word_filed now t.segs.ast t.segs.links t.accounts t.whos c.pages-kept.ensures.kept c.self.invariant c.args.uid
-    active c.args.page ∙ ap has_record null in
+    let shown = shown_held c.self.view_is g.D.Drive.pages p s h in
     subst (λ (x : Flat). Shows g.D.Drive.pages p x c.args.self.now)
     (sym (cleared_absent s c.args.uid c.args.page c.args.at (λ o at.
-    blank_shown g.D.Drive.pages p s t c.pages-kept.ensures.kept c.self.invariant shown c.args.uid o
-    (ap (is_stored s.stored c.args.uid) at ∙ off)))) h
+    blank_shown g.D.Drive.pages p s (held c.self.view_is) c.pages-kept.ensures.kept c.self.invariant shown c.args.uid o
+    (ap (is_stored s.stored c.args.uid) at ∙ off g c p s shown)))) h
 
 pub returns-in-None-clause-zero : goal.returns-in-None-clause-zero
 returns-in-None-clause-zero g c = λ p s h.
-    let t : Storage g.row.D.Denot = record {
-      accounts = c.self.inside.accounts;
-      segs = c.self.inside.segs;
-      whos = c.self.inside.whos.items;
-    } in
-    let now = plain g.D.Drive.pages t.segs.pages in
-    let active = subst (λ (x : Storage g.row.D.Denot). IsActive x.segs.ast.entries c.args.uid) (sym c.self.view_is)
-    c.requires.active in
-    let taken = ap (λ (x : Storage g.row.D.Denot). is_here (word_of x.segs.ast c.args.uid c.args.page)) c.self.view_is
-    ∙ c.requires.taken in
-    let out = ap (λ (x : Storage g.row.D.Denot). is_out (word_of x.segs.ast c.args.uid c.args.page)) c.self.view_is
-    ∙ c.requires.out in
-    let null = not_leaving (word_of t.segs.ast c.args.uid c.args.page) taken out
-    (ap (λ (x : ActiveSegs). leaves (word_of x c.args.uid c.args.page)) (sym c.ast.ensures.ast)
-    ∙ ap leaves (sym c.word_of.ensures) ∙ sym c.leaves.ensures ∙ c.in-None.is) in
-    let shown = subst (λ (x : Storage g.row.D.Denot). Shows g.D.Drive.pages p s x) (sym c.self.view_is) h in
-    let off = shown.pages.stored c.args.uid c.args.page
-    ∙ word_filed now t.segs.ast t.segs.links t.accounts t.whos c.pages-kept.ensures.kept c.self.invariant c.args.uid
-    active c.args.page ∙ ap has_record null in
     sym (ap (λ (z : Bool). z && is_zero_page (cleared s c.args.uid c.args.page c.args.at).words c.args.uid c.args.page)
-    off)
+    (off g c p s (shown_held c.self.view_is g.D.Drive.pages p s h)))
 
 pub returns-in-Some-clause-exact : goal.returns-in-Some-clause-exact
 returns-in-Some-clause-exact g c =
-    let t : Storage g.row.D.Denot = record {
-      accounts = c.self.inside.accounts;
-      segs = c.self.inside.segs;
-      whos = c.self.inside.whos.items;
-    } in
-    let word = leaving_is (word_of t.segs.ast c.args.uid c.args.page) c.in-Some.f
-    (ap (λ (x : ActiveSegs). leaves (word_of x c.args.uid c.args.page)) (sym c.ast.ensures.ast)
-    ∙ ap leaves (sym c.word_of.ensures) ∙ sym c.leaves.ensures ∙ c.in-Some.is) in
-    let n : Storage g.row.D.Denot = record {
-      accounts = c.self.inside.accounts;
-      segs = c.cut_from.new.self;
-      whos = c.self.inside.whos.items;
-    } in
+    let t = held c.self.view_is in
+    let n = record t { segs = c.cut_from.new.self } in
     subst (λ (x : Storage g.row.D.Denot). paged g.D.Drive.pages n c.args.uid ≡ page_cleared
     (paged g.D.Drive.pages x c.args.uid) c.args.at (word_of x.segs.ast c.args.uid c.args.page)) c.self.view_is
     ((λ i. record {
@@ -184,55 +138,29 @@ returns-in-Some-clause-exact g c =
       stored = count_of t.accounts c.args.uid;
     })
     ∙ cleared_exactly (paged g.D.Drive.pages t c.args.uid) c.args.at c.in-Some.f
-    (word_of t.segs.ast c.args.uid c.args.page) word)
+    (word_of t.segs.ast c.args.uid c.args.page) (word g (goal.at.returns-in-Some-clause-exact g c).In-Some))
 
 pub returns-in-Some-clause-told : goal.returns-in-Some-clause-told
 returns-in-Some-clause-told g c =
-    let t : Storage g.row.D.Denot = record {
-      accounts = c.self.inside.accounts;
-      segs = c.self.inside.segs;
-      whos = c.self.inside.whos.items;
-    } in
-    let word = leaving_is (word_of t.segs.ast c.args.uid c.args.page) c.in-Some.f
-    (ap (λ (x : ActiveSegs). leaves (word_of x c.args.uid c.args.page)) (sym c.ast.ensures.ast)
-    ∙ ap leaves (sym c.word_of.ensures) ∙ sym c.leaves.ensures ∙ c.in-Some.is) in
+    let t = held c.self.view_is in
     subst (λ (x : Storage g.row.D.Denot). c.cut_from.result ≡ is_cleared (paged g.D.Drive.pages x c.args.uid) c.args.at
     (word_of x.segs.ast c.args.uid c.args.page)) c.self.view_is
     (cleared_told (paged g.D.Drive.pages t c.args.uid) _ c.args.at c.in-Some.f
-    (word_of t.segs.ast c.args.uid c.args.page) c.cut_from.result word c.cut_from.ensures.cut c.cut_from.ensures.zero)
+    (word_of t.segs.ast c.args.uid c.args.page) c.cut_from.result
+    (word g (goal.at.returns-in-Some-clause-told g c).In-Some) c.cut_from.ensures.cut c.cut_from.ensures.zero)
 
 pub returns-in-None-clause-exact : goal.returns-in-None-clause-exact
 returns-in-None-clause-exact g c =
-    let t : Storage g.row.D.Denot = record {
-      accounts = c.self.inside.accounts;
-      segs = c.self.inside.segs;
-      whos = c.self.inside.whos.items;
-    } in
-    let taken = ap (λ (x : Storage g.row.D.Denot). is_here (word_of x.segs.ast c.args.uid c.args.page)) c.self.view_is
-    ∙ c.requires.taken in
-    let out = ap (λ (x : Storage g.row.D.Denot). is_out (word_of x.segs.ast c.args.uid c.args.page)) c.self.view_is
-    ∙ c.requires.out in
-    let null = not_leaving (word_of t.segs.ast c.args.uid c.args.page) taken out
-    (ap (λ (x : ActiveSegs). leaves (word_of x c.args.uid c.args.page)) (sym c.ast.ensures.ast)
-    ∙ ap leaves (sym c.word_of.ensures) ∙ sym c.leaves.ensures ∙ c.in-None.is) in
+    let t = held c.self.view_is in
     subst (λ (x : Storage g.row.D.Denot). paged g.D.Drive.pages x c.args.uid ≡ page_cleared
     (paged g.D.Drive.pages x c.args.uid) c.args.at (word_of x.segs.ast c.args.uid c.args.page)) c.self.view_is
-    (null_cleared (paged g.D.Drive.pages t c.args.uid) c.args.at (word_of t.segs.ast c.args.uid c.args.page) null).0
+    (null_cleared (paged g.D.Drive.pages t c.args.uid) c.args.at (word_of t.segs.ast c.args.uid c.args.page)
+    (null g c)).0
 
 pub returns-in-None-clause-told : goal.returns-in-None-clause-told
 returns-in-None-clause-told g c =
-    let t : Storage g.row.D.Denot = record {
-      accounts = c.self.inside.accounts;
-      segs = c.self.inside.segs;
-      whos = c.self.inside.whos.items;
-    } in
-    let taken = ap (λ (x : Storage g.row.D.Denot). is_here (word_of x.segs.ast c.args.uid c.args.page)) c.self.view_is
-    ∙ c.requires.taken in
-    let out = ap (λ (x : Storage g.row.D.Denot). is_out (word_of x.segs.ast c.args.uid c.args.page)) c.self.view_is
-    ∙ c.requires.out in
-    let null = not_leaving (word_of t.segs.ast c.args.uid c.args.page) taken out
-    (ap (λ (x : ActiveSegs). leaves (word_of x c.args.uid c.args.page)) (sym c.ast.ensures.ast)
-    ∙ ap leaves (sym c.word_of.ensures) ∙ sym c.leaves.ensures ∙ c.in-None.is) in
+    let t = held c.self.view_is in
     subst (λ (x : Storage g.row.D.Denot). false ≡ is_cleared (paged g.D.Drive.pages x c.args.uid) c.args.at
     (word_of x.segs.ast c.args.uid c.args.page)) c.self.view_is
-    (null_cleared (paged g.D.Drive.pages t c.args.uid) c.args.at (word_of t.segs.ast c.args.uid c.args.page) null).1
+    (null_cleared (paged g.D.Drive.pages t c.args.uid) c.args.at (word_of t.segs.ast c.args.uid c.args.page)
+    (null g c)).1

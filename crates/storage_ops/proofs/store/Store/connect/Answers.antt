@@ -1,40 +1,30 @@
 use Rattle.std.proofs.Common.{refl, sym, subst}
-use Rattle.active_segs.specs.Active.{IsActive}
 use Rattle.page_control.specs.Plain.{plain}
 use Rattle.seg_control.specs.Control.{Control, place_of}
 use Rattle.seg_control.specs.Effects.{linked}
 use Rattle.storage_ops.specs.Connecting.{IsRight}
-use Rattle.storage_ops.specs.Shown.{IsStore, Shows, Storage}
+use Rattle.storage_ops.specs.Shown.{Shows, Storage}
+use Rattle.storage_ops.proofs.Held.{active_held, held, shown_held, store_after}
 use Rattle.storage_ops.proofs.LinkLaws.{shown_linked, store_linked}
 use Rattle.storage_ops.proofs.Paged.{active_place}
 use Rattle.storage_ops.proofs.store.Store.connect.Goals as goal
 
 pub invariant_of-self : goal.invariant_of-self
 invariant_of-self g c =
-    let t : Storage g.row.D.Denot = record {
-      accounts = c.self.inside.accounts;
-      segs = c.self.inside.segs;
-      whos = c.self.inside.whos.items;
-    } in
-    let active = subst (λ (x : Storage g.row.D.Denot). IsActive x.segs.ast.entries c.args.uid) (sym c.self.view_is)
-    c.requires.active in
+    let t = held c.self.view_is in
+    let active = active_held c.self.view_is c.args.uid c.requires.active in
     let right = subst (λ (x : Storage g.row.D.Denot). IsRight x.accounts.nodes x.whos c.args.process c.args.uid
     c.args.mode c.args.pages) (sym c.self.view_is) c.requires.right in
-    subst (λ (x : Control g.row.D.Denot). IsStore (plain g.D.Drive.pages x.pages) x.ast x.links t.accounts t.whos)
-    (sym c.connect.ensures.effect)
+    store_after g.D.Drive.pages t.accounts t.whos c.connect.ensures.effect
     (store_linked (plain g.D.Drive.pages t.segs.pages) t.segs.ast t.accounts t.whos t.segs.links c.args.process
     c.args.number (place_of t.segs.ast.entries c.args.uid) c.args.pages c.args.uid c.args.mode
     (active_place t.segs.ast.entries c.args.uid active) right c.self.invariant)
 
 pub returns-clause-shown : goal.returns-clause-shown
 returns-clause-shown g c = λ p s h.
-    let t : Storage g.row.D.Denot = record {
-      accounts = c.self.inside.accounts;
-      segs = c.self.inside.segs;
-      whos = c.self.inside.whos.items;
-    } in
+    let t = held c.self.view_is in
     subst (λ (x : Control g.row.D.Denot). Shows g.D.Drive.pages p s (record t { segs = x }))
     (sym c.connect.ensures.effect)
     (shown_linked g.D.Drive.pages p s t (linked t.segs.links c.args.process c.args.number
     (place_of t.segs.ast.entries c.args.uid) c.args.mode c.args.pages) refl
-    (subst (λ (x : Storage g.row.D.Denot). Shows g.D.Drive.pages p s x) (sym c.self.view_is) h))
+    (shown_held c.self.view_is g.D.Drive.pages p s h))

@@ -1,13 +1,14 @@
 use Rattle.std.proofs.Common.{◌≡◌, ℕ, List, [], Option, Some, get_or, sym, ap, subst, ◌∙◌}
 use Rattle.known_segs.specs.Known.{uid_of}
 use Rattle.flat_model.specs.Store.{Store as Flat, known_uid}
-use Rattle.storage_ops.specs.Shown.{Shows, Storage}
+use Rattle.storage_ops.specs.Shown.{Shows}
+use Rattle.storage_ops.proofs.Held.{shown_held}
 use Rattle.storage_ops.proofs.PageRoom.{ok_then, written_made}
 use Rattle.storage_ops.proofs.store.Store.create.Goals as goal
 
 pub returns-clause-shown : goal.returns-clause-shown
 returns-clause-shown g c = ok_then c.store_page.result (λ told p s h.
-    let shown = subst (λ (x : Storage g.row.D.Denot). Shows g.D.Drive.pages p s x) (sym c.self.view_is) h in
+    let shown = shown_held c.self.view_is g.D.Drive.pages p s h in
     let known : known_uid s c.args.process c.args.number ≡ Some c.in-Some.uid
     = ap (λ (k : List (List (Option ℕ))). uid_of (get_or k c.args.process []) c.args.number) shown.known
     ∙ ap (λ (k : List (Option ℕ)). uid_of k c.args.number) (sym c.kst.ensures.kst) ∙ sym c.in-Some.ensures.uid in

@@ -1,28 +1,20 @@
 use Rattle.std.proofs.Common.{sym, subst}
 use Rattle.page_control.specs.Plain.{plain}
 use Rattle.seg_control.specs.Control.{Control}
-use Rattle.storage_ops.specs.Shown.{IsStore, Shows, Storage}
+use Rattle.storage_ops.specs.Shown.{Shows}
+use Rattle.storage_ops.proofs.Held.{held, shown_held, store_after}
 use Rattle.storage_ops.proofs.Less.{shown_all_cut, store_all_cut}
 use Rattle.storage_ops.proofs.store.Store.cut_all.Goals as goal
 
 pub invariant_of-self : goal.invariant_of-self
 invariant_of-self g c =
-    subst (λ (x : Control g.row.D.Denot). IsStore (plain g.D.Drive.pages x.pages) x.ast x.links
-    c.self.inside.accounts c.self.inside.whos.items)
-    (sym c.cut_all.ensures.effect)
+    store_after g.D.Drive.pages c.self.inside.accounts c.self.inside.whos.items c.cut_all.ensures.effect
     (store_all_cut (plain g.D.Drive.pages c.self.inside.segs.pages) c.self.inside.segs.ast c.self.inside.segs.links
-    c.self.inside.accounts
-    c.self.inside.whos.items c.args.aste c.self.invariant)
+    c.self.inside.accounts c.self.inside.whos.items c.args.aste c.self.invariant)
 
 pub returns-clause-shown : goal.returns-clause-shown
 returns-clause-shown g c = λ p s h.
-    let t : Storage g.row.D.Denot = record {
-      accounts = c.self.inside.accounts;
-      segs = c.self.inside.segs;
-      whos =
-          c.self.inside.whos.items;
-    } in
+    let t = held c.self.view_is in
     subst (λ (x : Control g.row.D.Denot). Shows g.D.Drive.pages p s (record t { segs = x }))
     (sym c.cut_all.ensures.effect)
-    (shown_all_cut g.D.Drive.pages p s t c.args.aste (subst (λ
-    (x : Storage g.row.D.Denot). Shows g.D.Drive.pages p s x) (sym c.self.view_is) h))
+    (shown_all_cut g.D.Drive.pages p s t c.args.aste (shown_held c.self.view_is g.D.Drive.pages p s h))

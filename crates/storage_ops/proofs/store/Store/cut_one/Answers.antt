@@ -1,17 +1,12 @@
-use Rattle.std.proofs.Common.{sym, subst}
 use Rattle.page_control.specs.Plain.{plain}
-use Rattle.seg_control.specs.Control.{Control, leads_at}
-use Rattle.storage_ops.specs.Shown.{IsStore}
+use Rattle.seg_control.specs.Control.{leads_at}
+use Rattle.storage_ops.proofs.Held.{store_after}
 use Rattle.storage_ops.proofs.Less.{store_cut}
 use Rattle.storage_ops.proofs.store.Store.cut_one.Goals as goal
 
 pub invariant_of-self : goal.invariant_of-self
 invariant_of-self g c =
-    subst (λ (x : Control g.row.D.Denot). IsStore (plain g.D.Drive.pages x.pages) x.ast x.links
-    c.self.inside.accounts c.self.inside.whos.items)
-    (sym c.cut_one.ensures.effect)
+    store_after g.D.Drive.pages c.self.inside.accounts c.self.inside.whos.items c.cut_one.ensures.effect
     (store_cut (plain g.D.Drive.pages c.self.inside.segs.pages) c.self.inside.segs.ast c.self.inside.segs.links
-    c.self.inside.accounts
-    c.self.inside.whos.items c.args.process c.args.number (leads_at c.self.inside.segs.links.descriptors
-    c.args.process c.args.number)
-    c.self.invariant)
+    c.self.inside.accounts c.self.inside.whos.items c.args.process c.args.number
+    (leads_at c.self.inside.segs.links.descriptors c.args.process c.args.number) c.self.invariant)

@@ -1,15 +1,10 @@
-use Rattle.std.proofs.Common.{sym, subst}
 use Rattle.page_control.specs.Plain.{plain}
-use Rattle.seg_control.specs.Control.{Control}
-use Rattle.storage_ops.specs.Shown.{IsStore}
+use Rattle.storage_ops.proofs.Held.{store_after}
 use Rattle.storage_ops.proofs.Less.{store_inactive}
 use Rattle.storage_ops.proofs.store.Store.deactivate.Goals as goal
 
 pub invariant_of-self : goal.invariant_of-self
 invariant_of-self g c =
-    subst (λ (x : Control g.row.D.Denot). IsStore (plain g.D.Drive.pages x.pages) x.ast x.links
-    c.self.inside.accounts c.self.inside.whos.items)
-    (sym c.deactivate.ensures.effect)
+    store_after g.D.Drive.pages c.self.inside.accounts c.self.inside.whos.items c.deactivate.ensures.effect
     (store_inactive (plain g.D.Drive.pages c.self.inside.segs.pages) c.self.inside.segs.ast c.self.inside.segs.links
-    c.self.inside.accounts
-    c.self.inside.whos.items c.args.place c.self.invariant)
+    c.self.inside.accounts c.self.inside.whos.items c.args.place c.self.invariant)

@@ -9,7 +9,8 @@ use Rattle.flat_model.specs.Store.{Store as Flat}
 use Rattle.flat_model.proofs.RemoveLaws.{delete_done}
 use Rattle.flat_model.proofs.TreeReplies.{delete_refused, delete_told, from_false}
 use Rattle.storage_ops.specs.Cut.{IsRemovable, IsRemovableAt, TakesOut}
-use Rattle.storage_ops.specs.Shown.{Shows, ShowsTree, Storage, is_there}
+use Rattle.storage_ops.specs.Shown.{Shows, Storage, is_there}
+use Rattle.storage_ops.proofs.Held.{tree_held}
 use Rattle.storage_ops.proofs.Changed.{branch_refuses}
 use Rattle.storage_ops.proofs.Rest.{out_still, rest_both, rest_none}
 use Rattle.storage_ops.specs.CutOff.{Erases}
@@ -18,7 +19,7 @@ use Rattle.storage_ops.proofs.store.Store.delete.Goals as goal
 
 pub returns-in-Err-clause-answer : goal.returns-in-Err-clause-answer
 returns-in-Err-clause-answer g c = λ p s h.
-    let tree = subst (λ (x : Storage g.row.D.Denot). ShowsTree s x.accounts) (sym c.self.view_is) h.tree in
+    let tree = tree_held c.self.view_is s h.tree in
     delete_refused s c.self.inside.accounts.nodes c.args.path.now tree.nodes c.in-Err.reply c.in-Err.ensures.err
 
 pub returns-in-Err-clause-effect : goal.returns-in-Err-clause-effect
@@ -27,7 +28,7 @@ returns-in-Err-clause-effect g c = λ p s h.
 
 pub returns-then-is_err-clause-answer : goal.returns-then-is_err-clause-answer
 returns-then-is_err-clause-answer g c = λ p s h.
-    let tree = subst (λ (x : Storage g.row.D.Denot). ShowsTree s x.accounts) (sym c.self.view_is) h.tree in
+    let tree = tree_held c.self.view_is s h.tree in
     delete_told s c.self.inside.accounts.nodes c.args.path.now tree.nodes
     (as_term (quota_in c.self.inside.accounts.nodes) c.in-Ok.node.now) true
     (eqb (quota_in c.self.inside.accounts.nodes c.in-Ok.node.now.uid) 0) c.in-Ok.ensures.ok
@@ -35,7 +36,7 @@ returns-then-is_err-clause-answer g c = λ p s h.
 
 pub returns-then-quota_of-gt0-clause-answer : goal.returns-then-quota_of-gt0-clause-answer
 returns-then-quota_of-gt0-clause-answer g c = λ p s h.
-    let tree = subst (λ (x : Storage g.row.D.Denot). ShowsTree s x.accounts) (sym c.self.view_is) h.tree in
+    let tree = tree_held c.self.view_is s h.tree in
     let none = from_false (is_err c.may_remove.result) (has_inferior c.self.inside.accounts.nodes c.in-Ok.node.now.uid)
     c.may_remove.ensures.1 (sym c.is_err.ensures.value ∙ c.if-is_err.false) in
     let some : 0 < c.quota_of.result = c.if-quota_of-gt0.true in
@@ -53,7 +54,7 @@ make_inactive-requires-clause-ready g c =
 
 pub returns-clause-answer : goal.returns-clause-answer
 returns-clause-answer g c = λ p s h.
-    let tree = subst (λ (x : Storage g.row.D.Denot). ShowsTree s x.accounts) (sym c.self.view_is) h.tree in
+    let tree = tree_held c.self.view_is s h.tree in
     let none = from_false (is_err c.may_remove.result) (has_inferior c.self.inside.accounts.nodes c.in-Ok.node.now.uid)
     c.may_remove.ensures.1 (sym c.is_err.ensures.value ∙ c.if-is_err.false) in
     let zero_quota : c.quota_of.result ≡ 0 = omega (arith, c.if-quota_of-gt0.false) in
@@ -63,7 +64,7 @@ returns-clause-answer g c = λ p s h.
 
 pub returns-clause-effect : goal.returns-clause-effect
 returns-clause-effect g c = λ p s h.
-    let tree = subst (λ (x : Storage g.row.D.Denot). ShowsTree s x.accounts) (sym c.self.view_is) h.tree in
+    let tree = tree_held c.self.view_is s h.tree in
     let left = c.make_inactive.ensures.shown p s h in
     subst (λ (x : Flat). Shows g.D.Drive.pages p x c.remove.new.self)
     (left.2 ∙ sym (delete_done s c.args.path.now

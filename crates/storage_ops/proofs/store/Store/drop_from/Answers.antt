@@ -2,11 +2,11 @@ use Rattle.std.proofs.Common.{◌≡◌, ◌≤◌, ◌<◌, ◌≢◌, ◌+◌,
 use Rattle.flat_model.specs.Cuts.{without_pages}
 use Rattle.flat_model.specs.Store.{Store as Flat}
 use Rattle.flat_model.proofs.DropLaws.{all_between, between, more_between, none_between}
-use Rattle.active_segs.specs.Active.{IsActive}
 use Rattle.page_control.specs.Plain.{binding_at, bindings, plain}
 use Rattle.seg_control.specs.Control.{word_of}
 use Rattle.storage_ops.specs.Cut.{is_here}
 use Rattle.storage_ops.specs.Shown.{Shows, Storage, home_of, is_there, pages_in}
+use Rattle.storage_ops.proofs.Held.{active_held, held, shown_held}
 use Rattle.storage_ops.proofs.Lengths.{filed_there}
 use Rattle.storage_ops.proofs.Paged.{active_there, blank_shown, past_unfiled, unfiled_unframed, word_filed}
 use Rattle.storage_ops.proofs.Unstored.{idle_still}
@@ -20,21 +20,16 @@ use Rattle.storage_ops.proofs.store.Store.drop_from.Goals as goal
 
 pub home-home-requires : goal.home-home-requires
 home-home-requires g c =
-    let active = subst (λ (x : Storage g.row.D.Denot). IsActive x.segs.ast.entries c.args.uid) (sym c.self.view_is)
-    c.requires.active in
+    let active = active_held c.self.view_is c.args.uid c.requires.active in
     ap (λ (x : Storage g.row.D.Denot). is_there x.accounts.nodes c.args.uid) (sym c.self.view_is)
     ∙ active_there (plain g.D.Drive.pages c.self.inside.segs.pages) c.self.inside.segs.ast c.self.inside.segs.links
     c.self.inside.accounts c.self.inside.whos.items c.pages-kept.ensures.kept c.self.invariant c.args.uid active
 
 pub loop-page-init : goal.loop-page-init
 loop-page-init g c =
-    let t : Storage g.row.D.Denot = record {
-      accounts = c.self.inside.accounts;
-      segs = c.self.inside.segs;
-      whos = c.self.inside.whos.items;
-    } in (
+    let t = held c.self.view_is in (
       λ p s h.
-          let shown = subst (λ (x : Storage g.row.D.Denot). Shows g.D.Drive.pages p s x) (sym c.self.view_is) h in
+          let shown = shown_held c.self.view_is g.D.Drive.pages p s h in
           subst (λ (x : Flat). Shows g.D.Drive.pages p x c.args.self.now)
           (sym (none_between s c.args.uid c.args.from
           (blank_shown g.D.Drive.pages p s t c.pages-kept.ensures.kept c.self.invariant shown))) h,
@@ -96,17 +91,12 @@ loop-page-preserved g c = (
 
 pub returns-clause-shown : goal.returns-clause-shown
 returns-clause-shown g c = λ p s h.
-    let t : Storage g.row.D.Denot = record {
-      accounts = c.self.inside.accounts;
-      segs = c.self.inside.segs;
-      whos = c.self.inside.whos.items;
-    } in
+    let t = held c.self.view_is in
     let now = plain g.D.Drive.pages t.segs.pages in
-    let active = subst (λ (x : Storage g.row.D.Denot). IsActive x.segs.ast.entries c.args.uid) (sym c.self.view_is)
-    c.requires.active in
+    let active = active_held c.self.view_is c.args.uid c.requires.active in
     let there = active_there now t.segs.ast t.segs.links t.accounts t.whos c.pages-kept.ensures.kept c.self.invariant
     c.args.uid active in
-    let shown = subst (λ (x : Storage g.row.D.Denot). Shows g.D.Drive.pages p s x) (sym c.self.view_is) h in
+    let shown = shown_held c.self.view_is g.D.Drive.pages p s h in
     let size : pages_in t.accounts.nodes c.args.uid ≡ c.pages_of-page-end.result = sym c.pages_of-page-end.ensures in
     let past : pages_in t.accounts.nodes c.args.uid ≤ c.loop-page.page =
     omega (arith, size, c.loop-page-test.false) in
@@ -121,14 +111,9 @@ returns-clause-shown g c = λ p s h.
 
 pub returns-clause-rest : goal.returns-clause-rest
 returns-clause-rest g c =
-    let t : Storage g.row.D.Denot = record {
-      accounts = c.self.inside.accounts;
-      segs = c.self.inside.segs;
-      whos = c.self.inside.whos.items;
-    } in
+    let t = held c.self.view_is in
     let now = plain g.D.Drive.pages t.segs.pages in
-    let active = subst (λ (x : Storage g.row.D.Denot). IsActive x.segs.ast.entries c.args.uid) (sym c.self.view_is)
-    c.requires.active in
+    let active = active_held c.self.view_is c.args.uid c.requires.active in
     let size : pages_in t.accounts.nodes c.args.uid ≡ c.pages_of-page-end.result = sym c.pages_of-page-end.ensures in
     let past : pages_in t.accounts.nodes c.args.uid ≤ c.loop-page.page =
     omega (arith, size, c.loop-page-test.false) in

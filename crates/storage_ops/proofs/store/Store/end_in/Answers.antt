@@ -1,9 +1,9 @@
 use Rattle.std.proofs.Common.{refl, sym, ap, subst, ◌∙◌}
 use Rattle.active_segs.specs.Active.{ActiveSegs}
 use Rattle.page_control.specs.Plain.{plain}
-use Rattle.seg_control.specs.Control.{Links, table_of}
-use Rattle.seg_control.specs.Kept.{IsHomeFor}
-use Rattle.storage_ops.specs.Shown.{IsStore, Shows, Storage}
+use Rattle.seg_control.specs.Control.{Links}
+use Rattle.storage_ops.specs.Shown.{IsStore}
+use Rattle.storage_ops.proofs.Held.{held, home_for_held, shown_held}
 use Rattle.storage_ops.proofs.Still.{here_entries, own_home, shown_kept, store_still}
 use Rattle.storage_ops.proofs.store.Store.end_in.Goals as goal
 
@@ -22,23 +22,11 @@ invariant_of-self g c =
 
 pub returns-clause-shown : goal.returns-clause-shown
 returns-clause-shown g c = λ p s h.
-    let t : Storage g.row.D.Denot = record {
-      accounts = c.self.inside.accounts;
-      segs = c.self.inside.segs;
-      whos =
-          c.self.inside.whos.items;
-    } in
-    let u : Storage g.row.D.Denot = record {
-      accounts = c.self.inside.accounts;
-      segs = c.end_in.new.self;
-      whos =
-          c.self.inside.whos.items;
-    } in
-    let home = subst (λ (x : Storage g.row.D.Denot). IsHomeFor
-    (plain g.D.Drive.pages x.segs.pages) c.args.uid c.args.home
-    (table_of x.segs.ast c.args.uid)) (sym c.self.view_is) c.requires.home in
+    let t = held c.self.view_is in
+    let u = record t { segs = c.end_in.new.self } in
+    let home = home_for_held c.self.view_is g.D.Drive.pages c.args.uid c.args.home c.requires.home in
     shown_kept g.D.Drive.pages p s t u c.args.uid c.args.home refl refl c.end_in.ensures.links c.end_in.ensures.tables
     c.self.invariant.housed (own_home (plain g.D.Drive.pages c.self.inside.segs.pages) c.self.inside.accounts
     c.args.uid c.args.home _
     c.self.invariant.housed home) c.end_in.ensures.words
-    (subst (λ (x : Storage g.row.D.Denot). Shows g.D.Drive.pages p s x) (sym c.self.view_is) h)
+    (shown_held c.self.view_is g.D.Drive.pages p s h)

@@ -1,13 +1,14 @@
 use Rattle.std.proofs.Common.{◌<◌, length, sym, ap, subst, ◌∙◌, ℕ}
 use Rattle.page_control.specs.Plain.{Paging}
-use Rattle.storage_ops.specs.Shown.{Storage, home_of, is_there}
+use Rattle.storage_ops.specs.Shown.{Storage, home_of}
 use Rattle.flat_model.proofs.NodeLaws.{volume_found}
+use Rattle.storage_ops.proofs.Held.{there_held}
 use Rattle.storage_ops.proofs.Tables.{drives_there, homed_volume}
 use Rattle.storage_ops.proofs.store.Store.home.Goals as goal
 
 pub returns-clause-volume : goal.returns-clause-volume
 returns-clause-volume g c =
-    let there = ap (λ (x : Storage g.row.D.Denot). is_there x.accounts.nodes c.args.uid) c.self.view_is ∙ c.requires in
+    let there = there_held c.self.view_is c.args.uid c.requires in
     let lt = homed_volume c.self.inside.segs.pages.volumes.vtocs (home_of c.self.inside.accounts c.args.uid) c.args.uid
     (c.self.invariant.housed.homes c.args.uid there) in
     let within = drives_there g.D.Drive.pages c.self.inside.segs.pages.volumes c.volumes.result.now _

@@ -4,8 +4,9 @@ use Rattle.tree_model.specs.Tree.{quota_in}
 use Rattle.dir_tree.specs.Nodes.{as_term}
 use Rattle.page_control.specs.Plain.{plain}
 use Rattle.seg_control.specs.Control.{Control, kst_at}
-use Rattle.storage_ops.specs.Shown.{IsStore, Shows, Storage, answered}
+use Rattle.storage_ops.specs.Shown.{Shows, answered}
 use Rattle.flat_model.specs.Naming.{after_initiate}
+use Rattle.storage_ops.proofs.Held.{held, shown_held, store_after}
 use Rattle.storage_ops.proofs.Changed.{segment_refuses}
 use Rattle.storage_ops.proofs.Known.{initiate_answered, known_store, uid_below, under_with}
 use Rattle.storage_ops.proofs.NamingLaws.{initiate_refused, initiate_told}
@@ -13,7 +14,7 @@ use Rattle.storage_ops.proofs.store.Store.initiate.Goals as goal
 
 pub returns-in-Err-clause-answer : goal.returns-in-Err-clause-answer
 returns-in-Err-clause-answer g c = λ p s h.
-    let before = subst (λ (x : Storage g.row.D.Denot). Shows g.D.Drive.pages p s x) (sym c.self.view_is) h in
+    let before = shown_held c.self.view_is g.D.Drive.pages p s h in
     initiate_refused s c.self.inside.accounts.nodes c.self.inside.segs.links.known before.tree.nodes before.known
     c.args.process c.args.path.now c.in-Err.reply c.in-Err.ensures.err
 
@@ -25,9 +26,7 @@ pub invariant_of-self : goal.invariant_of-self
 invariant_of-self g c =
     let uid : ℕ = c.in-Ok.node.now.uid in
     let kst : List (Option ℕ) = kst_at c.self.inside.segs.links.known c.args.process in
-    subst (λ (x : Control g.row.D.Denot). IsStore (plain g.D.Drive.pages x.pages) x.ast x.links
-    c.self.inside.accounts c.self.inside.whos.items)
-    (sym c.make_known.ensures.effect)
+    store_after g.D.Drive.pages c.self.inside.accounts c.self.inside.whos.items c.make_known.ensures.effect
     (known_store (plain g.D.Drive.pages c.self.inside.segs.pages) c.self.inside.segs.ast c.self.inside.segs.links
     c.self.inside.accounts
     c.self.inside.whos.items c.args.process (with_number kst uid c.make_known.result) c.self.invariant
@@ -38,7 +37,7 @@ invariant_of-self g c =
 
 pub returns-clause-answer : goal.returns-clause-answer
 returns-clause-answer g c = λ p s h.
-    let before = subst (λ (x : Storage g.row.D.Denot). Shows g.D.Drive.pages p s x) (sym c.self.view_is) h in
+    let before = shown_held c.self.view_is g.D.Drive.pages p s h in
     c.known_or_full.ensures
     ∙ initiate_told s c.self.inside.accounts.nodes c.self.inside.segs.links.known before.tree.nodes before.known
     c.args.process c.args.path.now (as_term (quota_in c.self.inside.accounts.nodes) c.in-Ok.node.now)
@@ -47,13 +46,8 @@ returns-clause-answer g c = λ p s h.
 
 pub returns-clause-effect : goal.returns-clause-effect
 returns-clause-effect g c = λ p s h.
-    let t : Storage g.row.D.Denot = record {
-      accounts = c.self.inside.accounts;
-      segs = c.self.inside.segs;
-      whos =
-          c.self.inside.whos.items;
-    } in
-    let before = subst (λ (x : Storage g.row.D.Denot). Shows g.D.Drive.pages p s x) (sym c.self.view_is) h in
+    let t = held c.self.view_is in
+    let before = shown_held c.self.view_is g.D.Drive.pages p s h in
     subst (λ (x : Control g.row.D.Denot). Shows g.D.Drive.pages p (answered c.known_or_full.result s
     (after_initiate s c.args.process c.args.path.now)) (record t { segs = x })) (sym c.make_known.ensures.effect)
     (initiate_answered g.D.Drive.pages p s t c.args.process c.args.path.now

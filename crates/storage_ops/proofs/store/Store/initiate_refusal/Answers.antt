@@ -1,33 +1,41 @@
-use Rattle.std.proofs.Common.{true, false, List, Option, ℕ, is_some, sym, ap, subst, ◌∙◌}
+use Rattle.std.proofs.Common.{true, false, List, Option, ℕ, is_some, sym, ap, ◌∙◌, ◌≡◌, Bool, cond, Some, None}
 use Rattle.known_segs.specs.Known.{number_for}
+use Rattle.book.specs.declared.replies.Reply.TheVariants as reply
 use Rattle.tree_model.specs.Tree.{quota_in}
 use Rattle.dir_tree.specs.Nodes.{as_term}
-use Rattle.storage_ops.specs.Shown.{Storage, ShowsTree, refusal}
+use Rattle.storage_ops.specs.Shown.{refusal, Shows}
+use Rattle.script.specs.Plans.{Plan}
+use Rattle.flat_model.specs.Store.{Store as Flat}
+use Rattle.flat_model.specs.Naming.{initiate_reply}
+use Rattle.storage_ops.proofs.Held.{tree_held, known_held}
 use Rattle.storage_ops.proofs.NamingLaws.{initiate_free, initiate_refused}
+use Rattle.storage_ops.proofs.store.Store.initiate_refusal.Given.{Over}
+use Rattle.storage_ops.proofs.store.Store.initiate_refusal.Goals.{After-has_number_for}
 use Rattle.storage_ops.proofs.store.Store.initiate_refusal.Goals as goal
+
+-- what is answered by whether there is a number for the segment
+free : (g : Over) (c : After-has_number_for g) (p : Plan) (s : Flat)
+    → Shows g.D.Drive.pages p s c.args.self.now → (b : Bool) → b ≡ c.has_number_for.result
+    → cond b None (Some reply.Full) ≡ refusal (initiate_reply s c.args.process c.args.path.now)
+free g c p s h b is =
+    initiate_free s c.self.inside.accounts.nodes c.self.inside.segs.links.known
+    (tree_held c.self.view_is s h.tree).nodes (known_held c.self.view_is s.known h.known) c.args.process
+    c.args.path.now (as_term (quota_in c.self.inside.accounts.nodes) c.in-Ok.node.now) b c.in-Ok.ensures.ok
+    (is ∙ c.has_number_for.ensures
+    ∙ ap (λ (kst : List (Option ℕ)). is_some (number_for kst c.in-Ok.node.now.uid)) c.kst.ensures.kst)
 
 pub returns-then-has_number_for : goal.returns-then-has_number_for
 returns-then-has_number_for g c = λ p s h.
-    let tree = subst (λ (x : Storage g.row.D.Denot). ShowsTree s x.accounts) (sym c.self.view_is) h.tree in
-    let known = h.known ∙ ap (λ (x : Storage g.row.D.Denot). x.segs.links.known) (sym c.self.view_is) in
-    initiate_free s c.self.inside.accounts.nodes c.self.inside.segs.links.known tree.nodes known c.args.process
-    c.args.path.now (as_term (quota_in c.self.inside.accounts.nodes) c.in-Ok.node.now) true c.in-Ok.ensures.ok
-    (sym c.if-has_number_for.true ∙ c.has_number_for.ensures
-    ∙ ap (λ (kst : List (Option ℕ)). is_some (number_for kst c.in-Ok.node.now.uid)) c.kst.ensures.kst)
+    free g (goal.at.returns-then-has_number_for g c).After-has_number_for p s h true (sym c.if-has_number_for.true)
 
 pub returns-else-has_number_for : goal.returns-else-has_number_for
 returns-else-has_number_for g c = λ p s h.
-    let tree = subst (λ (x : Storage g.row.D.Denot). ShowsTree s x.accounts) (sym c.self.view_is) h.tree in
-    let known = h.known ∙ ap (λ (x : Storage g.row.D.Denot). x.segs.links.known) (sym c.self.view_is) in
-    initiate_free s c.self.inside.accounts.nodes c.self.inside.segs.links.known tree.nodes known c.args.process
-    c.args.path.now (as_term (quota_in c.self.inside.accounts.nodes) c.in-Ok.node.now) false c.in-Ok.ensures.ok
-    (sym c.if-has_number_for.false ∙ c.has_number_for.ensures
-    ∙ ap (λ (kst : List (Option ℕ)). is_some (number_for kst c.in-Ok.node.now.uid)) c.kst.ensures.kst)
+    free g (goal.at.returns-else-has_number_for g c).After-has_number_for p s h false (sym c.if-has_number_for.false)
 
 pub returns-in-Err : goal.returns-in-Err
 returns-in-Err g c = λ p s h.
-    let tree = subst (λ (x : Storage g.row.D.Denot). ShowsTree s x.accounts) (sym c.self.view_is) h.tree in
-    let known = h.known ∙ ap (λ (x : Storage g.row.D.Denot). x.segs.links.known) (sym c.self.view_is) in
+    let tree = tree_held c.self.view_is s h.tree in
+    let known = known_held c.self.view_is s.known h.known in
     c.refusal.ensures
     ∙ ap refusal (initiate_refused s c.self.inside.accounts.nodes c.self.inside.segs.links.known tree.nodes known
     c.args.process c.args.path.now c.in-Err.reply c.in-Err.ensures.err)

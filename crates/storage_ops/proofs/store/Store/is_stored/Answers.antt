@@ -1,16 +1,15 @@
-use Rattle.std.proofs.Common.{is_some, sym, ap, ◌∙◌}
+use Rattle.std.proofs.Common.{is_some, ap, ◌∙◌}
 use Rattle.volumes.specs.Volumes.{Vols, vtoc_at}
 use Rattle.page_control.specs.Plain.{Paging}
-use Rattle.storage_ops.specs.Shown.{Storage, home_of, is_filed, is_there}
+use Rattle.storage_ops.specs.Shown.{Storage, is_filed}
+use Rattle.storage_ops.proofs.Held.{home_held, there_held}
 use Rattle.storage_ops.proofs.Lengths.{record_told}
 use Rattle.storage_ops.proofs.store.Store.is_stored.Goals as goal
 
 pub returns : goal.returns
 returns g c =
-    let there = ap (λ (x : Storage g.row.D.Denot). is_there x.accounts.nodes c.args.uid) c.self.view_is
-    ∙ c.requires.there in
-    let home = c.home-home.ensures.home ∙ ap (λ (x : Storage g.row.D.Denot). home_of x.accounts c.args.uid)
-    (sym c.self.view_is) in
+    let there = there_held c.self.view_is c.args.uid c.requires.there in
+    let home = home_held c.self.view_is c.args.uid c.home-home.result c.home-home.ensures.home in
     let table = c.vtoc-vtoc.ensures ∙ ap (λ (x : Vols g.row.D.Denot). vtoc_at x c.home-home.result.volume)
     (c.volumes.ensures.volumes ∙ ap (λ (x : Paging g.row.D.Denot). x.volumes) c.pages.ensures.pages) in
     c.is_some.ensures ∙ ap is_some c.file_map.ensures

@@ -3,7 +3,8 @@ use Rattle.tree_model.specs.Tree.{Node, quota_in}
 use Rattle.dir_tree.specs.Nodes.{as_term}
 use Rattle.flat_model.specs.Making.{made_in, make_in}
 use Rattle.flat_model.specs.Store.{Store as Flat}
-use Rattle.storage_ops.specs.Shown.{Shows, ShowsTree, Storage, answered}
+use Rattle.storage_ops.specs.Shown.{Shows, answered}
+use Rattle.storage_ops.proofs.Held.{shown_held, tree_held}
 use Rattle.storage_ops.proofs.Changed.{node_refuses}
 use Rattle.storage_ops.proofs.Made.{after_make_is}
 use Rattle.flat_model.proofs.TreeReplies.{make_in_segment, make_refused, make_root, make_told}
@@ -15,7 +16,7 @@ returns-in_default-clause-answer g c = λ p s h. make_root p s c.args.path.now c
 
 pub returns-then-not-node-clause-answer : goal.returns-then-not-node-clause-answer
 returns-then-not-node-clause-answer g c = λ p s h.
-    let tree = subst (λ (x : Storage g.row.D.Denot). ShowsTree s x.accounts) (sym c.self.view_is) h.tree in
+    let tree = tree_held c.self.view_is s h.tree in
     make_in_segment p s c.self.inside.accounts.nodes c.args.path.now c.in-Some.above c.in-Some.name.now c.args.volume
     c.args.dir tree.nodes
     c.in-Some.ensures.parts (as_term (quota_in c.self.inside.accounts.nodes) c.in-Ok.node.now) c.in-Ok.ensures.ok
@@ -23,7 +24,7 @@ returns-then-not-node-clause-answer g c = λ p s h.
 
 pub returns-in-Err-clause-answer : goal.returns-in-Err-clause-answer
 returns-in-Err-clause-answer g c = λ p s h.
-    let tree = subst (λ (x : Storage g.row.D.Denot). ShowsTree s x.accounts) (sym c.self.view_is) h.tree in
+    let tree = tree_held c.self.view_is s h.tree in
     make_refused p s c.self.inside.accounts.nodes c.args.path.now c.in-Some.above c.in-Some.name.now c.args.volume
     c.args.dir tree.nodes
     c.in-Some.ensures.parts c.in-Err.reply c.in-Err.ensures.err
@@ -34,7 +35,7 @@ returns-in-Err-clause-effect g c = λ p s h.
 
 pub returns-clause-answer : goal.returns-clause-answer
 returns-clause-answer g c = λ p s h.
-    let shown = subst (λ (x : Storage g.row.D.Denot). Shows g.D.Drive.pages p s x) (sym c.self.view_is) h in
+    let shown = shown_held c.self.view_is g.D.Drive.pages p s h in
     let n : Node = as_term (quota_in c.self.inside.accounts.nodes) c.in-Ok.node.now in
     make_told p s c.self.inside.accounts.nodes c.args.path.now c.in-Some.above c.in-Some.name.now c.args.volume
     c.args.dir shown.tree.nodes
@@ -44,7 +45,7 @@ returns-clause-answer g c = λ p s h.
 
 pub returns-clause-effect : goal.returns-clause-effect
 returns-clause-effect g c = λ p s h.
-    let shown = subst (λ (x : Storage g.row.D.Denot). Shows g.D.Drive.pages p s x) (sym c.self.view_is) h in
+    let shown = shown_held c.self.view_is g.D.Drive.pages p s h in
     let n : Node = as_term (quota_in c.self.inside.accounts.nodes) c.in-Ok.node.now in
     subst (λ (x : Flat). Shows g.D.Drive.pages p (answered c.make_branch.result s x) c.make_branch.new.self)
     (ap (λ (name : List ℕ). made_in s c.args.volume c.args.dir c.args.pages c.args.acl name n) c.copied.ensures

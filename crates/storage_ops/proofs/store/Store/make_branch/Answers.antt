@@ -1,7 +1,6 @@
 use Rattle.std.proofs.Common.{◌≡◌, ℕ, Some, true, false, List, is_some, refl, sym, ap, subst, ◌∙◌}
 use Rattle.book.specs.declared.replies.Reply.TheVariants as reply
 use Rattle.accounts.specs.Maps.{branch_of}
-use Rattle.dir_tree.specs.declared.node.NewNode.{NewNode}
 use Rattle.flat_model.specs.Store.{Store as Flat}
 use Rattle.tree_model.specs.Tree.{Node, entries_on}
 use Rattle.active_segs.specs.Active.{ActiveSegs}
@@ -10,13 +9,16 @@ use Rattle.page_control.specs.Plain.{Plain, plain}
 use Rattle.seg_control.specs.Control.{Links}
 use Rattle.storage_ops.specs.CutOff.{TakesHome}
 use Rattle.storage_ops.specs.Shown.{IsStore, Shows, Storage}
-use Rattle.storage_ops.proofs.Homes.{shown_new, store_new}
+use Rattle.storage_ops.proofs.Held.{held, shown_held}
+use Rattle.storage_ops.proofs.Homes.{HasNewHome, shown_new, store_new}
 use Rattle.storage_ops.proofs.Made.{added_uid, all_used, branch_same, length_inside, made_told, some_free}
+use Rattle.storage_ops.proofs.store.Store.make_branch.Given.{Over}
+use Rattle.storage_ops.proofs.store.Store.make_branch.Goals.{In-Ok-add}
 use Rattle.storage_ops.proofs.store.Store.make_branch.Goals as goal
 
 pub returns-in_default-clause-answer : goal.returns-in_default-clause-answer
 returns-in_default-clause-answer g c = λ p s d h below.
-    let shown = subst (λ (x : Storage g.row.D.Denot). Shows g.D.Drive.pages p s x) (sym c.self.view_is) h in
+    let shown = shown_held c.self.view_is g.D.Drive.pages p s h in
     made_told p s c.args.new.volume c.args.new.dir c.args.new.name d c.self.inside.accounts.nodes c.args.superior
     c.self.inside.accounts.next
     c.may_add.result true shown.tree.nodes shown.tree.next below c.may_add.ensures (sym c.in-Ok.is)
@@ -27,7 +29,7 @@ returns-in_default-clause-answer g c = λ p s d h below.
 
 pub returns-clause-answer : goal.returns-clause-answer
 returns-clause-answer g c = λ p s d h below.
-    let shown = subst (λ (x : Storage g.row.D.Denot). Shows g.D.Drive.pages p s x) (sym c.self.view_is) h in
+    let shown = shown_held c.self.view_is g.D.Drive.pages p s h in
     ap (λ (x : ℕ). reply.Made x) (added_uid _ c.in-Ok-add.uid c.self.inside.accounts.next c.in-Ok-add.ensures.answer)
     ∙ made_told p s c.args.new.volume c.args.new.dir c.args.new.name d c.self.inside.accounts.nodes c.args.superior
     c.self.inside.accounts.next
@@ -37,67 +39,47 @@ returns-clause-answer g c = λ p s d h below.
     (ap (λ (ns : List Node). entries_on ns c.args.new.volume) shown.tree.nodes
     ∙ sym (c.self.invariant.taken.entries c.args.new.volume)))
 
+-- the node that is made, and its home
+abbrev node : (g : Over) (c : In-Ok-add g) → Node
+node g c = branch_of c.self.inside.accounts.next c.args.superior (record c.args.new { entry = c.in-Some.entry })
+
+made : (g : Over) (c : In-Ok-add g) → HasNewHome c.self.inside.accounts c.add.new.self (node g c) c.in-Some.entry
+    (plain g.D.Drive.pages c.self.inside.segs.pages) (plain g.D.Drive.pages c.new_home.new.self.pages)
+made g c = record {
+  gains = c.in-Ok-add.ensures.ok;
+  fresh = c.next_uid-uid.ensures.fresh;
+  home = c.in-Some.ensures.home ∙ ap (λ (x : ℕ). Some x) c.next_uid-uid.ensures.uid;
+  least = c.in-Some.ensures.least;
+  uids = c.in-Some.ensures.uids;
+  maps = c.new_home.ensures.maps;
+  flags = ap (λ (x : Plain). x.records) c.in-Some.ensures.effect;
+  count = c.in-Some.ensures.used;
+}
+
 pub invariant_of-self-2 : goal.invariant_of-self-2
 invariant_of-self-2 g c =
-    let new : NewNode = record {
-      name = c.args.new.name;
-      dir = c.args.new.dir;
-      volume = c.args.new.volume;
-      entry =
-          c.in-Some.entry;
-      length = c.args.new.length;
-      acl = c.args.new.acl;
-    } in
     let old : Plain = plain g.D.Drive.pages c.self.inside.segs.pages in
     let now : Plain = plain g.D.Drive.pages c.new_home.new.self.pages in
     subst (λ (x : ActiveSegs). IsStore now x c.new_home.new.self.links c.add.new.self c.self.inside.whos.items)
     (sym c.new_home.ensures.ast)
     (subst (λ (x : Links). IsStore now c.self.inside.segs.ast x c.add.new.self c.self.inside.whos.items)
     (sym c.new_home.ensures.links)
-    (store_new c.self.inside.accounts c.add.new.self (branch_of c.self.inside.accounts.next c.args.superior new)
-    c.in-Some.entry
-    c.in-Ok-add.ensures.ok old now c.self.inside.segs.ast c.self.inside.segs.links c.next_uid-uid.ensures.fresh refl
-    c.next_uid-uid.ensures.below (c.in-Some.ensures.home ∙ ap (λ
-    (x : ℕ). Some x) c.next_uid-uid.ensures.uid) c.in-Some.ensures.least
-    c.in-Some.ensures.uids c.new_home.ensures.maps (ap (λ (x : Plain). x.records) c.in-Some.ensures.effect)
-    c.in-Some.ensures.used
+    (store_new c.self.inside.accounts c.add.new.self (node g c) c.in-Some.entry old now (made g c)
+    c.self.inside.segs.ast c.self.inside.segs.links
     c.self.inside.whos.items c.requires.most c.requires.flat c.self.invariant))
 
 pub returns-clause-effect : goal.returns-clause-effect
 returns-clause-effect g c = λ p s d h below.
-    let new : NewNode = record {
-      name = c.args.new.name;
-      dir = c.args.new.dir;
-      volume = c.args.new.volume;
-      entry =
-          c.in-Some.entry;
-      length = c.args.new.length;
-      acl = c.args.new.acl;
-    } in
     let old : Plain = plain g.D.Drive.pages c.self.inside.segs.pages in
     let now : Plain = plain g.D.Drive.pages c.new_home.new.self.pages in
-    let t : Storage g.row.D.Denot = record {
-      accounts = c.self.inside.accounts;
-      segs = c.self.inside.segs;
-      whos =
-          c.self.inside.whos.items;
-    } in
-    let u : Storage g.row.D.Denot = record {
-      accounts = c.add.new.self;
-      segs = c.new_home.new.self;
-      whos =
-          c.self.inside.whos.items;
-    } in
-    let shown = subst (λ (x : Storage g.row.D.Denot). Shows g.D.Drive.pages p s x) (sym c.self.view_is) h in
-    subst (λ (x : Flat). Shows g.D.Drive.pages p x u) (branch_same s new d c.self.inside.accounts.next
+    let t = held c.self.view_is in
+    let u = record t { accounts = c.add.new.self; segs = c.new_home.new.self } in
+    let shown = shown_held c.self.view_is g.D.Drive.pages p s h in
+    subst (λ (x : Flat). Shows g.D.Drive.pages p x u)
+    (branch_same s (record c.args.new { entry = c.in-Some.entry }) d c.self.inside.accounts.next
     c.args.superior shown.tree.next below)
-    (shown_new c.self.inside.accounts c.add.new.self (branch_of c.self.inside.accounts.next c.args.superior new)
-    c.in-Some.entry
-    c.in-Ok-add.ensures.ok old now c.self.inside.segs.ast c.self.inside.segs.links c.next_uid-uid.ensures.fresh refl
-    c.next_uid-uid.ensures.below (c.in-Some.ensures.home ∙ ap (λ
-    (x : ℕ). Some x) c.next_uid-uid.ensures.uid) c.in-Some.ensures.least
-    c.in-Some.ensures.uids c.new_home.ensures.maps (ap (λ (x : Plain). x.records) c.in-Some.ensures.effect)
-    c.in-Some.ensures.used
+    (shown_new c.self.inside.accounts c.add.new.self (node g c) c.in-Some.entry old now (made g c)
+    c.self.inside.segs.ast c.self.inside.segs.links
     g.D.Drive.pages p s t u refl refl refl refl c.new_home.ensures.links refl refl refl c.new_home.ensures.words
     (λ v. length_inside c.self.inside.segs.pages.volumes.vtocs c.args.new.volume c.in-Some.entry v _ _
     (ap (λ (x : Plain). x.vtocs) c.in-Some.ensures.effect))
@@ -107,11 +89,7 @@ returns-clause-effect g c = λ p s d h below.
 
 pub returns-clause-home : goal.returns-clause-home
 returns-clause-home g c = λ on.
-    let u : Storage g.row.D.Denot = record {
-      accounts = c.add.new.self;
-      segs = c.new_home.new.self;
-      whos = c.self.inside.whos.items;
-    } in
+    let u = record (held c.self.view_is) { accounts = c.add.new.self; segs = c.new_home.new.self } in
     subst (λ (x : Storage g.row.D.Denot). TakesHome g.D.Drive.pages x u c.args.new.volume) c.self.view_is (record {
       entry = c.in-Some.entry;
       least = sym c.in-Some.ensures.least;

@@ -16,14 +16,25 @@ use Rattle.storage_ops.proofs.Unstored.{home_still, idle_still}
 use Rattle.seg_control.specs.Control.{place_of}
 use Rattle.storage_ops.proofs.CutExactly.{put_out_exactly}
 use Rattle.storage_ops.proofs.Paged.{place_found}
+use Rattle.storage_ops.proofs.store.Store.make_inactive.Given.{Over}
+use Rattle.storage_ops.proofs.store.Store.make_inactive.Goals.{After-drop_from, In-Some}
 use Rattle.storage_ops.proofs.store.Store.make_inactive.Goals as goal
+
+-- the segment was in the place that was found, and its pages are dropped where it is
+place : (g : Over) (c : In-Some g)
+    → uid_in_place c.self.inside.segs.ast.entries c.in-Some.place ≡ Some c.args.uid
+place g c = ap (λ (x : ActiveSegs). uid_in_place x.entries c.in-Some.place) (sym c.ast.ensures.ast)
+    ∙ (c.search.ensures.only c.in-Some.place).0 c.in-Some.is
+
+entries : (g : Over) (c : After-drop_from g)
+    → c.drop_from.new.self.segs.ast.entries ≡ c.self.inside.segs.ast.entries
+entries g c = c.drop_from.ensures.rest.places
+    ∙ ap (λ (x : Storage g.row.D.Denot). x.segs.ast.entries) (sym c.self.view_is)
 
 pub deactivate-requires-clause-leaf : goal.deactivate-requires-clause-leaf
 deactivate-requires-clause-leaf g c =
-    let same = c.drop_from.ensures.rest.places
-    ∙ ap (λ (x : Storage g.row.D.Denot). x.segs.ast.entries) (sym c.self.view_is) in
-    let at = ap (λ (x : ActiveSegs). uid_in_place x.entries c.in-Some.place) (sym c.ast.ensures.ast)
-    ∙ (c.search.ensures.only c.in-Some.place).0 c.in-Some.is in
+    let same = entries g (goal.at.deactivate-requires-clause-leaf g c).After-drop_from in
+    let at = place g (goal.at.deactivate-requires-clause-leaf g c).In-Some in
     let none = ap (λ (x : Storage g.row.D.Denot). has_inferior x.accounts.nodes c.args.uid) c.self.view_is
     ∙ c.requires.empty in
     subst (λ (e : List (Option Entry)). HasNoInferior e c.in-Some.place) (sym same)
@@ -32,10 +43,8 @@ deactivate-requires-clause-leaf g c =
 
 pub deactivate-requires-clause-away : goal.deactivate-requires-clause-away
 deactivate-requires-clause-away g c =
-    let same = c.drop_from.ensures.rest.places
-    ∙ ap (λ (x : Storage g.row.D.Denot). x.segs.ast.entries) (sym c.self.view_is) in
-    let at = ap (λ (x : ActiveSegs). uid_in_place x.entries c.in-Some.place) (sym c.ast.ensures.ast)
-    ∙ (c.search.ensures.only c.in-Some.place).0 c.in-Some.is in
+    let same = entries g (goal.at.deactivate-requires-clause-away g c).After-drop_from in
+    let at = place g (goal.at.deactivate-requires-clause-away g c).In-Some in
     place_away c.drop_from.new.self.segs.ast c.in-Some.place c.args.uid
     (subst (λ (e : List (Option Entry)). IsOneToOne e) (sym same) c.pages-kept.ensures.kept.tree.once)
     (ap (λ (e : List (Option Entry)). uid_in_place e c.in-Some.place) same ∙ at)
@@ -43,10 +52,8 @@ deactivate-requires-clause-away g c =
 
 pub deactivate-requires-clause-idle : goal.deactivate-requires-clause-idle
 deactivate-requires-clause-idle g c =
-    let same = c.drop_from.ensures.rest.places
-    ∙ ap (λ (x : Storage g.row.D.Denot). x.segs.ast.entries) (sym c.self.view_is) in
-    let at = ap (λ (x : ActiveSegs). uid_in_place x.entries c.in-Some.place) (sym c.ast.ensures.ast)
-    ∙ (c.search.ensures.only c.in-Some.place).0 c.in-Some.is in
+    let same = entries g (goal.at.deactivate-requires-clause-idle g c).After-drop_from in
+    let at = place g (goal.at.deactivate-requires-clause-idle g c).In-Some in
     place_idle c.drop_from.new.self.segs.pages.core c.drop_from.new.self.segs.ast.entries c.in-Some.place c.args.uid
     (ap (λ (e : List (Option Entry)). uid_in_place e c.in-Some.place) same ∙ at)
     (λ q. idle_still c.args.self.now.segs.pages.core c.drop_from.new.self.segs.pages.core c.args.uid q
@@ -54,8 +61,7 @@ deactivate-requires-clause-idle g c =
 
 pub deactivate-requires-clause-cut : goal.deactivate-requires-clause-cut
 deactivate-requires-clause-cut g c =
-    let at = ap (λ (x : ActiveSegs). uid_in_place x.entries c.in-Some.place) (sym c.ast.ensures.ast)
-    ∙ (c.search.ensures.only c.in-Some.place).0 c.in-Some.is in
+    let at = place g (goal.at.deactivate-requires-clause-cut g c).In-Some in
     let cut = subst (λ (x : Storage g.row.D.Denot). IsCut x.segs.ast.entries x.segs.links c.args.uid)
     (sym c.self.view_is) c.requires.ready.cut in
     ap (λ (l : Links). trailers_of l.trailers c.in-Some.place) (c.drop_from.ensures.rest.links
@@ -80,8 +86,7 @@ returns-in_default-clause-rest g c = rest_none c.args.self.now
 
 pub returns-clause-out : goal.returns-clause-out
 returns-clause-out g c =
-    let at = ap (λ (x : ActiveSegs). uid_in_place x.entries c.in-Some.place) (sym c.ast.ensures.ast)
-    ∙ (c.search.ensures.only c.in-Some.place).0 c.in-Some.is in
+    let at = place g (goal.at.returns-clause-out g c).In-Some in
     let same = ap (λ (x : Storage g.row.D.Denot). x.segs.ast.entries) c.self.view_is in
     out_active c.args.self.now c.drop_from.new.self c.deactivate.new.self c.in-Some.place c.args.uid
     (subst (λ (e : List (Option Entry)). IsOneToOne e) same c.pages-kept.ensures.kept.tree.once)

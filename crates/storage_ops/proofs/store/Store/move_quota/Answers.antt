@@ -1,7 +1,7 @@
-use Rattle.std.proofs.Common.{sym, subst, w32}
+use Rattle.std.proofs.Common.{w32}
 use Rattle.std.proofs.lemmas.Int.{to_z-of_z}
 use Rattle.page_control.specs.Plain.{plain}
-use Rattle.storage_ops.specs.Shown.{Shows, Storage}
+use Rattle.storage_ops.proofs.Held.{held, shown_held}
 use Rattle.storage_ops.proofs.Changed.{move_shown, move_store}
 use Rattle.storage_ops.proofs.store.Store.move_quota.Goals as goal
 
@@ -17,13 +17,8 @@ invariant_of-self g c =
 pub returns-clause-effect : goal.returns-clause-effect
 returns-clause-effect g c = λ p s h.
     let back = to_z-of_z w32 c.args.amount c.ranges.amount in
-    let before : Storage g.row.D.Denot = record {
-      accounts = c.self.inside.accounts;
-      segs = c.self.inside.segs;
-      whos
-          = c.self.inside.whos.items;
-    } in
+    let before = held c.self.view_is in
     move_shown g.D.Drive.pages p s before c.move_quota.new.accounts c.args.path.now c.args.amount c.move_quota.result
-    (subst (λ (x : Storage g.row.D.Denot). Shows g.D.Drive.pages p s x) (sym c.self.view_is) h)
+    (shown_held c.self.view_is g.D.Drive.pages p s h)
     (rw back at c.move_quota.ensures.done)
     c.move_quota.ensures.refused

@@ -1,10 +1,11 @@
-use Rattle.std.proofs.Common.{sym, ap, subst, ◌∙◌, w32}
+use Rattle.std.proofs.Common.{ap, ◌∙◌, w32}
 use Rattle.std.proofs.lemmas.Int.{to_z-of_z}
-use Rattle.storage_ops.specs.Shown.{Storage, ShowsTree, refusal}
+use Rattle.storage_ops.specs.Shown.{refusal}
+use Rattle.storage_ops.proofs.Held.{tree_held}
 use Rattle.storage_ops.proofs.store.Store.move_refusal.Goals as goal
 
 pub returns : goal.returns
 returns g c = λ p s h.
-    let tree = subst (λ (x : Storage g.row.D.Denot). ShowsTree s x.accounts) (sym c.self.view_is) h.tree in
+    let tree = tree_held c.self.view_is s h.tree in
     let back = to_z-of_z w32 c.args.amount c.ranges.amount in
     c.refusal.ensures ∙ ap refusal ((rw back at c.move_reply.ensures) s tree)

@@ -4,7 +4,7 @@ use Rattle.std.proofs.lemmas.List.{length-replicate, length-map}
 use Rattle.script.specs.Plans.{Plan, ProcessPlan}
 use Rattle.accounts.specs.Maps.{root_alone}
 use Rattle.active_segs.specs.Active.{ActiveSegs, uid_at as uid_in_place}
-use Rattle.flat_model.specs.Store.{Store as Flat}
+use Rattle.flat_model.specs.Store.{Store as Flat, root_of}
 use Rattle.page_control.specs.Effects.{after_asked}
 use Rattle.page_control.specs.Plain.{Paging, Plain, plain}
 use Rattle.seg_control.specs.Control.{Control, Links}
@@ -14,20 +14,43 @@ use Rattle.storage_ops.proofs.Fresh.{blank, boot_is, entries_some, entry_first, 
 use Rattle.storage_ops.proofs.Fresh.{nothing}
 use Rattle.storage_ops.proofs.Fresh.{records_most, rest_fresh}
 use Rattle.storage_ops.proofs.Fresh.{root_gains, shown_nothing, store_nothing}
-use Rattle.storage_ops.proofs.Homes.{shown_new, store_new}
+use Rattle.storage_ops.proofs.Homes.{HasNewHome, shown_new, store_new}
 use Rattle.storage_ops.proofs.Made.{length_inside}
+use Rattle.storage_ops.proofs.store.Store.new.Given.{Over}
+use Rattle.storage_ops.proofs.store.Store.new.Goals.{In-Some, In_ok-accounts, In_ok-pages, In_ok-segs}
 use Rattle.storage_ops.proofs.store.Store.new.Goals as goal
+
+-- the volumes that pages are given, and those of segment control, are fresh
+fresh_pages : (g : Over) (c : In_ok-pages g)
+    → AreFresh c.args.script.now c.in_ok-pages.pages.volumes.records c.in_ok-pages.pages.volumes.vtocs
+fresh_pages g c =
+    subst (λ (x : Paging g.row.D.Denot). AreFresh c.args.script.now x.volumes.records x.volumes.vtocs)
+    (sym c.in_ok-pages.ensures) c.requires.fresh
+
+fresh_volumes : (g : Over) (c : In_ok-segs g)
+    → AreFresh c.args.script.now c.in_ok-segs.segs.pages.volumes.records c.in_ok-segs.segs.pages.volumes.vtocs
+fresh_volumes g c =
+    subst (λ (x : Control g.row.D.Denot). AreFresh c.args.script.now x.pages.volumes.records x.pages.volumes.vtocs)
+    (sym c.in_ok-segs.ensures)
+    (subst (λ (x : Paging g.row.D.Denot). AreFresh c.args.script.now x.volumes.records x.volumes.vtocs)
+    (sym c.in_ok-pages.ensures) c.requires.fresh)
+
+-- so the root has the first entry
+first_entry : (g : Over) (c : In-Some g)
+    → AreFresh c.args.script.now c.in_ok-segs.segs.pages.volumes.records c.in_ok-segs.segs.pages.volumes.vtocs
+    → c.in-Some.entry ≡ 0
+first_entry g c fresh =
+    entry_first (plain g.D.Drive.pages c.in_ok-segs.segs.pages) fresh.free fresh.unused c.in-Some.entry
+    c.in-Some.ensures.least
 
 pub new-requires-2-clause-records : goal.new-requires-2-clause-records
 new-requires-2-clause-records g c =
-    let fresh = subst (λ (x : Paging g.row.D.Denot). AreFresh c.args.script.now x.volumes.records x.volumes.vtocs)
-    (sym c.in_ok-pages.ensures) c.requires.fresh in
+    let fresh = fresh_pages g (goal.at.new-requires-2-clause-records g c).In_ok-pages in
     filed_fresh (plain g.D.Drive.pages c.in_ok-pages.pages) fresh.free fresh.unused
 
 pub new-requires-2-clause-rest : goal.new-requires-2-clause-rest
 new-requires-2-clause-rest g c =
-    let fresh = subst (λ (x : Paging g.row.D.Denot). AreFresh c.args.script.now x.volumes.records x.volumes.vtocs)
-    (sym c.in_ok-pages.ensures) c.requires.fresh in
+    let fresh = fresh_pages g (goal.at.new-requires-2-clause-rest g c).In_ok-pages in
     rest_fresh (plain g.D.Drive.pages c.in_ok-pages.pages) fresh.free fresh.unused
 
 pub new_home-requires-clause-homed : goal.new_home-requires-clause-homed
@@ -38,22 +61,32 @@ new_home-requires-clause-homed g c = record {
 
 pub unreachable-requires : goal.unreachable-requires
 unreachable-requires g c =
-    let first = subst (λ (x : Paging g.row.D.Denot). AreFresh c.args.script.now x.volumes.records x.volumes.vtocs)
-    (sym c.in_ok-pages.ensures) c.requires.fresh in
-    let fresh = subst (λ (x : Control g.row.D.Denot). AreFresh c.args.script.now x.pages.volumes.records
-    x.pages.volumes.vtocs) (sym c.in_ok-segs.ensures) first in
+    let fresh = fresh_volumes g (goal.at.unreachable-requires g c).In_ok-segs in
     let plan = c.processes-processes.ensures.plan in
     let some = entries_some c.args.script.now.volumes plan.volumes plan.some in
     let size = fresh.entries 0 in
     let on = c.in_default.ensures.none 0 None (omega (arith, some, size)) in
     let clash : true ≡ false = sym on ∙ ap is_some (fresh.free 0 0) in cc
 
+-- the root is the one new node
+made : (g : Over) (c : In_ok-accounts g) → HasNewHome nothing c.in_ok-accounts.accounts
+    (record (root_of c.args.script.now) { quota = c.quota.result }) c.in-Some.entry
+    (plain g.D.Drive.pages c.in_ok-segs.segs.pages) (plain g.D.Drive.pages c.new_home.new.self.pages)
+made g c = record {
+  gains = root_gains c.args.script.now c.in_ok-accounts.accounts c.in-Some.entry c.quota.result
+      c.in_ok-accounts.ensures;
+  fresh = refl;
+  home = c.in-Some.ensures.home;
+  least = c.in-Some.ensures.least;
+  uids = c.in-Some.ensures.uids;
+  maps = c.new_home.ensures.maps;
+  flags = ap (λ (x : Plain). x.records) c.in-Some.ensures.effect;
+  count = c.in-Some.ensures.used;
+}
+
 pub invariant_of-result : goal.invariant_of-result
 invariant_of-result g c =
-    let first = subst (λ (x : Paging g.row.D.Denot). AreFresh c.args.script.now x.volumes.records x.volumes.vtocs)
-    (sym c.in_ok-pages.ensures) c.requires.fresh in
-    let fresh = subst (λ (x : Control g.row.D.Denot). AreFresh c.args.script.now x.pages.volumes.records
-    x.pages.volumes.vtocs) (sym c.in_ok-segs.ensures) first in
+    let fresh = fresh_volumes g (goal.at.invariant_of-result g c).In_ok-segs in
     let plan = c.processes-processes.ensures.plan in
     let old : Plain = plain g.D.Drive.pages c.in_ok-segs.segs.pages in
     let now : Plain = plain g.D.Drive.pages c.new_home.new.self.pages in
@@ -75,43 +108,28 @@ invariant_of-result g c =
     c.in_ok-whos.whos.items) (sym c.new_home.ensures.ast)
     (subst (λ (x : Links). IsStore now c.in_ok-segs.segs.ast x c.in_ok-accounts.accounts c.in_ok-whos.whos.items)
     (sym c.new_home.ensures.links)
-    (store_new nothing c.in_ok-accounts.accounts _ c.in-Some.entry
-    (root_gains c.in_ok-accounts.accounts c.in-Some.entry c.quota.result c.in_ok-accounts.ensures)
-    old now c.in_ok-segs.segs.ast c.in_ok-segs.segs.links refl refl tt c.in-Some.ensures.home c.in-Some.ensures.least
-    c.in-Some.ensures.uids
-    c.new_home.ensures.maps (ap (λ (x : Plain). x.records) c.in-Some.ensures.effect) c.in-Some.ensures.used
+    (store_new nothing c.in_ok-accounts.accounts _ c.in-Some.entry old now (made g c) c.in_ok-segs.segs.ast
+    c.in_ok-segs.segs.links
     c.in_ok-whos.whos.items
     (omega arith) (λ d. refl) start))
 
 pub returns-clause-shown : goal.returns-clause-shown
 returns-clause-shown g c =
-    let first = subst (λ (x : Paging g.row.D.Denot). AreFresh c.args.script.now x.volumes.records x.volumes.vtocs)
-    (sym c.in_ok-pages.ensures) c.requires.fresh in
-    let fresh = subst (λ (x : Control g.row.D.Denot). AreFresh c.args.script.now x.pages.volumes.records
-    x.pages.volumes.vtocs) (sym c.in_ok-segs.ensures) first in
+    let fresh = fresh_volumes g (goal.at.returns-clause-shown g c).In_ok-segs in
     let p : Plan = c.args.script.now in
     let old : Plain = plain g.D.Drive.pages c.in_ok-segs.segs.pages in
     let now : Plain = plain g.D.Drive.pages c.new_home.new.self.pages in
     let t : Storage g.row.D.Denot = record {
       accounts = nothing;
       segs = c.in_ok-segs.segs;
-      whos =
-          c.in_ok-whos.whos.items;
+      whos = c.in_ok-whos.whos.items;
     } in
-    let u : Storage g.row.D.Denot = record {
-      accounts = c.in_ok-accounts.accounts;
-      segs = c.new_home.new.self;
-      whos =
-          c.in_ok-whos.whos.items;
-    } in
+    let u = record t { accounts = c.in_ok-accounts.accounts; segs = c.new_home.new.self } in
     let known = ap (λ (x : Control g.row.D.Denot). x.links.known) c.in_ok-segs.ensures
     ∙ ap (λ (n : ℕ). replicate n (replicate 256 None)) c.processes-processes.ensures.count in
     subst (λ (x : Flat). Shows g.D.Drive.pages p x u) (boot_is p c.quota.result c.quota.ensures)
-    (shown_new nothing c.in_ok-accounts.accounts _ c.in-Some.entry
-    (root_gains c.in_ok-accounts.accounts c.in-Some.entry c.quota.result c.in_ok-accounts.ensures)
-    old now c.in_ok-segs.segs.ast c.in_ok-segs.segs.links refl refl tt c.in-Some.ensures.home c.in-Some.ensures.least
-    c.in-Some.ensures.uids
-    c.new_home.ensures.maps (ap (λ (x : Plain). x.records) c.in-Some.ensures.effect) c.in-Some.ensures.used
+    (shown_new nothing c.in_ok-accounts.accounts _ c.in-Some.entry old now (made g c) c.in_ok-segs.segs.ast
+    c.in_ok-segs.segs.links
     g.D.Drive.pages p (blank p) t u refl refl refl refl c.new_home.ensures.links refl refl refl c.new_home.ensures.words
     (λ v. length_inside c.in_ok-segs.segs.pages.volumes.vtocs 0 c.in-Some.entry v _ _ (ap (λ
     (x : Plain). x.vtocs) c.in-Some.ensures.effect))
@@ -122,25 +140,15 @@ returns-clause-shown g c =
 
 pub returns-clause-accounts : goal.returns-clause-accounts
 returns-clause-accounts g c =
-    let first = subst (λ (x : Paging g.row.D.Denot). AreFresh c.args.script.now x.volumes.records x.volumes.vtocs)
-    (sym c.in_ok-pages.ensures) c.requires.fresh in
-    let fresh = subst (λ (x : Control g.row.D.Denot). AreFresh c.args.script.now x.pages.volumes.records
-    x.pages.volumes.vtocs) (sym c.in_ok-segs.ensures) first in
-    let zero : c.in-Some.entry ≡ 0 =
-    entry_first (plain g.D.Drive.pages c.in_ok-segs.segs.pages) fresh.free fresh.unused c.in-Some.entry
-    c.in-Some.ensures.least in
+    let at = goal.at.returns-clause-accounts g c in
+    let zero = first_entry g at.In-Some (fresh_volumes g at.In_ok-segs) in
     c.in_ok-accounts.ensures ∙ ap (λ (e : ℕ). root_alone 0 e c.quota.result) zero
     ∙ ap (λ (q : ℕ). root_alone 0 0 q) c.quota.ensures
 
 pub returns-clause-pages : goal.returns-clause-pages
 returns-clause-pages g c =
-    let first = subst (λ (x : Paging g.row.D.Denot). AreFresh c.args.script.now x.volumes.records x.volumes.vtocs)
-    (sym c.in_ok-pages.ensures) c.requires.fresh in
-    let fresh = subst (λ (x : Control g.row.D.Denot). AreFresh c.args.script.now x.pages.volumes.records
-    x.pages.volumes.vtocs) (sym c.in_ok-segs.ensures) first in
-    let zero : c.in-Some.entry ≡ 0 =
-    entry_first (plain g.D.Drive.pages c.in_ok-segs.segs.pages) fresh.free fresh.unused c.in-Some.entry
-    c.in-Some.ensures.least in
+    let at = goal.at.returns-clause-pages g c in
+    let zero = first_entry g at.In-Some (fresh_volumes g at.In_ok-segs) in
     c.in-Some.ensures.effect
     ∙ ap (λ (e : ℕ). after_asked (plain g.D.Drive.pages c.in_ok-segs.segs.pages) 0 1 (Some e)) zero
     ∙ ap (λ (x : Control g.row.D.Denot). after_asked (plain g.D.Drive.pages x.pages) 0 1 (Some 0)) c.in_ok-segs.ensures

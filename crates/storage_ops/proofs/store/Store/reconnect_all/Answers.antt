@@ -4,37 +4,29 @@ use Rattle.page_control.specs.Plain.{plain}
 use Rattle.seg_control.specs.Control.{Control}
 use Rattle.seg_control.specs.Effects.{reconnected}
 use Rattle.storage_ops.specs.Connecting.{AreRights}
-use Rattle.storage_ops.specs.Shown.{IsStore, Shows, Storage}
+use Rattle.storage_ops.specs.Shown.{Shows, Storage}
+use Rattle.storage_ops.proofs.Held.{held, shown_held, store_after}
 use Rattle.storage_ops.proofs.LinkLaws.{known_reconnected, shown_linked, some_uid, store_reconnected}
 use Rattle.storage_ops.proofs.store.Store.reconnect_all.Goals as goal
 
 pub invariant_of-self : goal.invariant_of-self
 invariant_of-self g c =
-    let t : Storage g.row.D.Denot = record {
-      accounts = c.self.inside.accounts;
-      segs = c.self.inside.segs;
-      whos = c.self.inside.whos.items;
-    } in
+    let t = held c.self.view_is in
     let active = subst (λ (x : Storage g.row.D.Denot). IsSome (uid_at x.segs.ast.entries c.args.aste))
     (sym c.self.view_is) c.requires.active in
     let rights = subst (λ (x : Storage g.row.D.Denot). AreRights x.accounts.nodes x.whos x.segs.ast.entries
     c.args.aste c.args.list.now c.args.modes.now c.args.pages) (sym c.self.view_is) c.requires.rights in
     let at = some_uid (uid_at t.segs.ast.entries c.args.aste) active in
-    subst (λ (x : Control g.row.D.Denot). IsStore (plain g.D.Drive.pages x.pages) x.ast x.links t.accounts t.whos)
-    (sym c.reconnect_all.ensures.effect)
+    store_after g.D.Drive.pages t.accounts t.whos c.reconnect_all.ensures.effect
     (store_reconnected (plain g.D.Drive.pages t.segs.pages) t.segs.ast t.accounts t.whos c.args.aste c.args.pages at.0
     at.1 c.args.list.now c.args.modes.now t.segs.links (λ i lt. rights.each i at.0 lt at.1) c.self.invariant)
 
 pub returns-clause-shown : goal.returns-clause-shown
 returns-clause-shown g c = λ p s h.
-    let t : Storage g.row.D.Denot = record {
-      accounts = c.self.inside.accounts;
-      segs = c.self.inside.segs;
-      whos = c.self.inside.whos.items;
-    } in
+    let t = held c.self.view_is in
     subst (λ (x : Control g.row.D.Denot). Shows g.D.Drive.pages p s (record t { segs = x }))
     (sym c.reconnect_all.ensures.effect)
     (shown_linked g.D.Drive.pages p s t (reconnected t.segs.links c.args.aste c.args.list.now c.args.modes.now
     c.args.pages)
     (known_reconnected c.args.aste c.args.pages c.args.list.now c.args.modes.now t.segs.links)
-    (subst (λ (x : Storage g.row.D.Denot). Shows g.D.Drive.pages p s x) (sym c.self.view_is) h))
+    (shown_held c.self.view_is g.D.Drive.pages p s h))

@@ -4,7 +4,8 @@ use Rattle.page_control.specs.Plain.{Plain, plain}
 use Rattle.seg_control.specs.Control.{Links}
 use Rattle.seg_control.specs.Kept.{IsInactive}
 use Rattle.storage_ops.specs.Cut.{KeepsRest}
-use Rattle.storage_ops.specs.Shown.{IsStore, Shows, Storage, home_of, is_there}
+use Rattle.storage_ops.specs.Shown.{IsStore, Storage, home_of}
+use Rattle.storage_ops.proofs.Held.{held, home_held, shown_held, there_held}
 use Rattle.storage_ops.proofs.NodeLaws.{found_there}
 use Rattle.storage_ops.proofs.Removed.{removed_done, shown_removed, store_removed}
 use Rattle.storage_ops.proofs.Rest.{rest_erased}
@@ -14,10 +15,8 @@ use Rattle.storage_ops.proofs.store.Store.remove.Goals as goal
 
 pub invariant_of-self : goal.invariant_of-self
 invariant_of-self g c =
-    let there = ap (λ (x : Storage g.row.D.Denot). is_there x.accounts.nodes c.args.uid) c.self.view_is
-    ∙ c.requires.there in
-    let home = c.home-home.ensures.home ∙ ap (λ (x : Storage g.row.D.Denot). home_of x.accounts c.args.uid)
-    (sym c.self.view_is) in
+    let there = there_held c.self.view_is c.args.uid c.requires.there in
+    let home = home_held c.self.view_is c.args.uid c.home-home.result c.home-home.ensures.home in
     let inactive = subst (λ (x : Storage g.row.D.Denot). IsInactive x.segs.ast.entries c.args.uid)
     (sym c.self.view_is) c.requires.inactive in
     let old = plain g.D.Drive.pages c.self.inside.segs.pages in
@@ -36,44 +35,25 @@ invariant_of-self g c =
 
 pub returns-clause-rest : goal.returns-clause-rest
 returns-clause-rest g c =
-    let t : Storage g.row.D.Denot = record {
-      accounts = c.self.inside.accounts;
-      segs = c.self.inside.segs;
-      whos = c.self.inside.whos.items;
-    } in
-    let n : Storage g.row.D.Denot = record {
-      accounts = c.remove.new.self;
-      segs = c.erase.new.self;
-      whos = c.self.inside.whos.items;
-    } in
+    let t = held c.self.view_is in
+    let n = record t { accounts = c.remove.new.self; segs = c.erase.new.self } in
     subst (λ (x : Storage g.row.D.Denot). KeepsRest x n) c.self.view_is
     (rest_erased g.D.Drive.pages t n c.home-home.result c.erase.ensures.effect c.erase.ensures.ast
     c.erase.ensures.links refl c.erase.ensures.drives)
 
 pub returns-clause-shown : goal.returns-clause-shown
 returns-clause-shown g c = λ p s h.
-    let there = ap (λ (x : Storage g.row.D.Denot). is_there x.accounts.nodes c.args.uid) c.self.view_is
-    ∙ c.requires.there in
-    let home = c.home-home.ensures.home ∙ ap (λ (x : Storage g.row.D.Denot). home_of x.accounts c.args.uid)
-    (sym c.self.view_is) in
-    let t : Storage g.row.D.Denot = record {
-      accounts = c.self.inside.accounts;
-      segs = c.self.inside.segs;
-      whos = c.self.inside.whos.items;
-    } in
-    let n : Storage g.row.D.Denot = record {
-      accounts = c.remove.new.self;
-      segs = c.erase.new.self;
-      whos = c.self.inside.whos.items;
-    } in
+    let there = there_held c.self.view_is c.args.uid c.requires.there in
+    let home = home_held c.self.view_is c.args.uid c.home-home.result c.home-home.ensures.home in
+    let t = held c.self.view_is in
+    let n = record t { accounts = c.remove.new.self; segs = c.erase.new.self } in
     let old = plain g.D.Drive.pages t.segs.pages in
     let now = plain g.D.Drive.pages n.segs.pages in
     let done = removed_done old now t.accounts c.uncount.new.accounts n.accounts c.args.uid
     c.home-home.result home there c.uncount.ensures c.remove.ensures c.erase.ensures.effect c.erase.ensures.home
     c.erase.ensures.uids c.erase.ensures.maps c.erase.ensures.words c.erase.ensures.used c.erase.ensures.taken in
     shown_removed g.D.Drive.pages p s t n c.uncount.new.accounts c.args.uid done c.self.invariant.housed
-    c.erase.ensures.links refl (subst (λ (x : Storage g.row.D.Denot). Shows g.D.Drive.pages p s x) (sym
-    c.self.view_is) h)
+    c.erase.ensures.links refl (shown_held c.self.view_is g.D.Drive.pages p s h)
 
 pub returns-clause-core : goal.returns-clause-core
 returns-clause-core g c = ap (λ (x : Plain). x.core) c.erase.ensures.effect
@@ -81,8 +61,7 @@ returns-clause-core g c = ap (λ (x : Plain). x.core) c.erase.ensures.effect
 
 pub returns-clause-erased : goal.returns-clause-erased
 returns-clause-erased g c =
-    let home = c.home-home.ensures.home ∙ ap (λ (x : Storage g.row.D.Denot). home_of x.accounts c.args.uid)
-    (sym c.self.view_is) in
+    let home = home_held c.self.view_is c.args.uid c.home-home.result c.home-home.ensures.home in
     subst (λ (x : Storage g.row.D.Denot). plain g.D.Drive.pages c.erase.new.self.pages
     ≡ erased (plain g.D.Drive.pages x.segs.pages) (home_of x.accounts c.args.uid)) c.self.view_is
     (c.erase.ensures.effect ∙ ap (λ (h : Home). erased (plain g.D.Drive.pages c.self.inside.segs.pages) h) home)

@@ -1,7 +1,8 @@
 use Rattle.std.proofs.Common.{sym, subst}
 use Rattle.flat_model.specs.Rights.{row_with}
 use Rattle.page_control.specs.Plain.{plain}
-use Rattle.storage_ops.specs.Shown.{IsCutAt, Shows, Storage}
+use Rattle.storage_ops.specs.Shown.{IsCutAt, Storage}
+use Rattle.storage_ops.proofs.Held.{held, shown_held}
 use Rattle.storage_ops.proofs.Changed.{acl_shown, acl_store}
 use Rattle.storage_ops.proofs.store.Store.set_acl.Goals as goal
 
@@ -17,13 +18,7 @@ invariant_of-self g c =
 
 pub returns-clause-effect : goal.returns-clause-effect
 returns-clause-effect g c = λ p s h.
-    let before : Storage g.row.D.Denot = record {
-      accounts = c.self.inside.accounts;
-      segs = c.self.inside.segs;
-      whos
-          = c.self.inside.whos.items;
-    } in
+    let before = held c.self.view_is in
     acl_shown g.D.Drive.pages p s before c.set_row.new.accounts c.args.path.now c.args.row.now c.args.mode
     c.set_row.result
-    (subst (λ (x : Storage g.row.D.Denot). Shows g.D.Drive.pages p s x)
-    (sym c.self.view_is) h) c.set_row.ensures.done c.set_row.ensures.refused
+    (shown_held c.self.view_is g.D.Drive.pages p s h) c.set_row.ensures.done c.set_row.ensures.refused

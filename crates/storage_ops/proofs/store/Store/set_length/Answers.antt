@@ -3,15 +3,16 @@ use Rattle.tree_model.specs.Tree.{Node, quota_in}
 use Rattle.dir_tree.specs.Nodes.{as_term}
 use Rattle.page_control.specs.Plain.{plain}
 use Rattle.storage_ops.specs.Cut.{HasLengthSet}
-use Rattle.storage_ops.specs.Shown.{IsInactiveAt, Shows, ShowsTree, Storage, is_filed}
+use Rattle.storage_ops.specs.Shown.{IsInactiveAt, Storage, is_filed}
+use Rattle.storage_ops.proofs.Held.{held, shown_held, tree_held}
 use Rattle.storage_ops.proofs.Changed.{segment_refuses}
-use Rattle.storage_ops.proofs.Lengths.{length_shown, length_store}
-use Rattle.flat_model.proofs.TreeReplies.{length_refused, length_told}
+use Rattle.storage_ops.proofs.Lengths.{length_answered, length_shown, length_store}
+use Rattle.flat_model.proofs.TreeReplies.{length_refused}
 use Rattle.storage_ops.proofs.store.Store.set_length.Goals as goal
 
 pub returns-in-Err-clause-answer : goal.returns-in-Err-clause-answer
 returns-in-Err-clause-answer g c = λ p s h.
-    let tree = subst (λ (x : Storage g.row.D.Denot). ShowsTree s x.accounts) (sym c.self.view_is) h.tree in
+    let tree = tree_held c.self.view_is s h.tree in
     length_refused s c.self.inside.accounts.nodes c.args.path.now tree.nodes c.args.pages c.in-Err.reply
     c.in-Err.ensures.err
 
@@ -21,31 +22,24 @@ returns-in-Err-clause-effect g c = λ p s h.
 
 pub returns-then-stores_from-clause-answer : goal.returns-then-stores_from-clause-answer
 returns-then-stores_from-clause-answer g c = λ p s h.
-    let tree = subst (λ (x : Storage g.row.D.Denot). ShowsTree s x.accounts) (sym c.self.view_is) h.tree in
-    length_told s c.self.inside.accounts.nodes c.args.path.now tree.nodes c.args.pages
-    (as_term (quota_in c.self.inside.accounts.nodes) c.in-Ok.node.now) true c.in-Ok.ensures.ok
-    (sym (c.stores_from.ensures.answer p s h) ∙ c.if-stores_from.true)
+    length_answered c.self.view_is g.D.Drive.pages p s h c.args.path.now c.args.pages
+    (as_term (quota_in c.self.inside.accounts.nodes) c.in-Ok.node.now) true c.stores_from.result c.in-Ok.ensures.ok
+    (c.stores_from.ensures.answer p s h) c.if-stores_from.true
 
 pub returns-clause-answer : goal.returns-clause-answer
 returns-clause-answer g c = λ p s h.
-    let tree = subst (λ (x : Storage g.row.D.Denot). ShowsTree s x.accounts) (sym c.self.view_is) h.tree in
-    length_told s c.self.inside.accounts.nodes c.args.path.now tree.nodes c.args.pages
-    (as_term (quota_in c.self.inside.accounts.nodes) c.in-Ok.node.now) false c.in-Ok.ensures.ok
-    (sym (c.stores_from.ensures.answer p s h) ∙ c.if-stores_from.false)
+    length_answered c.self.view_is g.D.Drive.pages p s h c.args.path.now c.args.pages
+    (as_term (quota_in c.self.inside.accounts.nodes) c.in-Ok.node.now) false c.stores_from.result c.in-Ok.ensures.ok
+    (c.stores_from.ensures.answer p s h) c.if-stores_from.false
 
 pub returns-clause-effect : goal.returns-clause-effect
 returns-clause-effect g c = λ p s h.
-    let t : Storage g.row.D.Denot = record {
-      accounts = c.self.inside.accounts;
-      segs = c.self.inside.segs;
-      whos =
-          c.self.inside.whos.items;
-    } in
+    let t = held c.self.view_is in
     length_shown t.accounts c.set_length.new.self c.in-Ok.node.now.uid c.args.pages c.in-Ok.ensures.segment
     c.set_length.ensures
     g.D.Drive.pages p s t c.args.path.now (as_term (quota_in c.self.inside.accounts.nodes) c.in-Ok.node.now) refl
     c.in-Ok.ensures.ok refl
-    (subst (λ (x : Storage g.row.D.Denot). Shows g.D.Drive.pages p s x) (sym c.self.view_is) h)
+    (shown_held c.self.view_is g.D.Drive.pages p s h)
 
 pub invariant_of-self : goal.invariant_of-self
 invariant_of-self g c =

@@ -1,81 +1,71 @@
-use Rattle.std.proofs.Common.{◌≡◌, ◌<◌, ℕ, true, false, cond, List, Err, set, replicate, refl, sym, ap, subst, ◌∙◌}
+use Rattle.std.proofs.Common.{◌≡◌, ℕ, true, false, cond, List, Err, set, replicate, refl, sym, ap, subst, ◌∙◌, Some}
 use Rattle.book.specs.declared.replies.Reply.TheVariants as reply
 use Rattle.std.proofs.lemmas.Bool.{eq-eqb}
-use Rattle.tree_model.specs.Tree.{Node, volume_in}
+use Rattle.tree_model.specs.Tree.{Node, volume_in, node_in}
 use Rattle.flat_model.specs.References.{is_used_up, is_volume_full}
-use Rattle.page_table.specs.declared.Ptw.TheVariants.{Null}
-use Rattle.active_segs.specs.Active.{IsActive}
 use Rattle.page_control.specs.declared.Home.{Home}
 use Rattle.page_control.specs.Plain.{plain}
 use Rattle.page_control.specs.Counts.{is_full, one_more, size, taken}
 use Rattle.page_control.specs.Effects.{created, next_record}
 use Rattle.page_control.specs.Picture.{ChangesStored, ChangesWords}
-use Rattle.seg_control.specs.Control.{Links, word_of}
+use Rattle.seg_control.specs.Control.{Links}
 use Rattle.storage_ops.specs.Paged.{IsPageMade}
-use Rattle.storage_ops.specs.Shown.{IsStore, Shows, Storage, home_of, pages_in}
+use Rattle.storage_ops.specs.Shown.{IsStore, Shows, Storage}
 use Rattle.flat_model.proofs.NodeLaws.{uid_found, volume_found}
+use Rattle.script.specs.Plans.{Plan}
+use Rattle.flat_model.specs.Store.{Store as Flat}
+use Rattle.tree_model.specs.Trees.{has_segment}
+use Rattle.storage_ops.proofs.Held.{active_held, held, home_held, length_held, shown_held, word_held}
 use Rattle.storage_ops.proofs.PageFacts.{node_segment, word_within}
 use Rattle.storage_ops.proofs.PageMade.{shown_made, store_made}
 use Rattle.storage_ops.proofs.PageRoom.{all_taken, full_told, no_quota, no_record, on_ok, room, used_told}
+use Rattle.storage_ops.proofs.store.Store.store_page.Given.{Over}
+use Rattle.storage_ops.proofs.store.Store.store_page.Goals.{After-is_full, After-pages-kept}
 use Rattle.storage_ops.proofs.store.Store.store_page.Goals as goal
 
+-- whether the volume of the node is full
+full : (g : Over) (c : After-is_full g) (p : Plan) (s : Flat) (n : Node)
+    → Shows g.D.Drive.pages p s (held c.self.view_is) → node_in s.nodes c.args.uid ≡ Some n
+    → is_volume_full p s n.volume ≡ c.is_full.result
+full g c p s n shown found =
+    let volume : n.volume ≡ c.home-home.result.volume = volume_found s.nodes c.args.uid n found
+    ∙ ap (λ (ns : List Node). volume_in ns c.args.uid) shown.tree.nodes ∙ ap (λ (x : Home). x.volume)
+    (sym (home_held c.self.view_is c.args.uid c.home-home.result c.home-home.ensures.home)) in
+    ap (is_volume_full p s) volume
+    ∙ sym (full_told g.D.Drive.pages p s (held c.self.view_is) c.home-home.result.volume c.self.invariant shown)
+    ∙ ap (λ (x : Storage g.row.D.Denot). is_full x.segs.pages.volumes.records c.home-home.result.volume) c.self.view_is
+    ∙ sym c.is_full.ensures
+
+-- an active segment is no directory
+segment : (g : Over) (c : After-pages-kept g)
+    → has_segment c.self.inside.accounts.nodes c.args.uid ≡ true
+segment g c =
+    node_segment (plain g.D.Drive.pages c.self.inside.segs.pages) c.self.inside.segs.ast c.self.inside.segs.links
+    c.self.inside.accounts c.self.inside.whos.items c.pages-kept.ensures.kept c.self.invariant c.args.uid
+    (active_held c.self.view_is c.args.uid c.requires.active) c.args.page
+    (length_held c.self.view_is c.args.uid c.args.page c.requires.page)
+
 pub full_reply-requires : goal.full_reply-requires
-full_reply-requires g c =
-    let t : Storage g.row.D.Denot = record {
-      accounts = c.self.inside.accounts;
-      segs = c.self.inside.segs;
-      whos = c.self.inside.whos.items;
-    } in
-    let active = subst (λ (x : Storage g.row.D.Denot). IsActive x.segs.ast.entries c.args.uid) (sym c.self.view_is)
-    c.requires.active in
-    let lt = subst (λ (x : Storage g.row.D.Denot). c.args.page < pages_in x.accounts.nodes c.args.uid)
-    (sym c.self.view_is) c.requires.page in
-    node_segment (plain g.D.Drive.pages t.segs.pages) t.segs.ast t.segs.links t.accounts t.whos
-    c.pages-kept.ensures.kept c.self.invariant c.args.uid active c.args.page lt
+full_reply-requires g c = segment g (goal.at.full_reply-requires g c).After-pages-kept
 
 pub charge-requires : goal.charge-requires
-charge-requires g c =
-    let t : Storage g.row.D.Denot = record {
-      accounts = c.self.inside.accounts;
-      segs = c.self.inside.segs;
-      whos = c.self.inside.whos.items;
-    } in
-    let active = subst (λ (x : Storage g.row.D.Denot). IsActive x.segs.ast.entries c.args.uid) (sym c.self.view_is)
-    c.requires.active in
-    let lt = subst (λ (x : Storage g.row.D.Denot). c.args.page < pages_in x.accounts.nodes c.args.uid)
-    (sym c.self.view_is) c.requires.page in
-    node_segment (plain g.D.Drive.pages t.segs.pages) t.segs.ast t.segs.links t.accounts t.whos
-    c.pages-kept.ensures.kept c.self.invariant c.args.uid active c.args.page lt
+charge-requires g c = segment g (goal.at.charge-requires g c).After-pages-kept
 
 pub returns-then-is_full-clause-answer : goal.returns-then-is_full-clause-answer
 returns-then-is_full-clause-answer g c = λ p s n h found.
-    let t : Storage g.row.D.Denot = record {
-      accounts = c.self.inside.accounts;
-      segs = c.self.inside.segs;
-      whos = c.self.inside.whos.items;
-    } in
-    let home = c.home-home.ensures.home ∙ ap (λ (x : Storage g.row.D.Denot). home_of x.accounts c.args.uid)
-    (sym c.self.view_is) in
-    let shown = subst (λ (x : Storage g.row.D.Denot). Shows g.D.Drive.pages p s x) (sym c.self.view_is) h in
+    let t = held c.self.view_is in
+    let home = home_held c.self.view_is c.args.uid c.home-home.result c.home-home.ensures.home in
+    let shown = shown_held c.self.view_is g.D.Drive.pages p s h in
     let uid = uid_found s.nodes c.args.uid n found in
-    let volume : n.volume ≡ c.home-home.result.volume = volume_found s.nodes c.args.uid n found
-    ∙ ap (λ (ns : List Node). volume_in ns c.args.uid) shown.tree.nodes ∙ ap (λ (x : Home). x.volume) (sym home) in
-    let full : is_volume_full p s n.volume ≡ c.is_full.result = ap (is_volume_full p s) volume
-    ∙ sym (full_told g.D.Drive.pages p s t c.home-home.result.volume c.self.invariant shown)
-    ∙ ap (λ (x : Storage g.row.D.Denot). is_full x.segs.pages.volumes.records c.home-home.result.volume) c.self.view_is
-    ∙ sym c.is_full.ensures in
     ap Err (c.full_reply.ensures s shown.tree ∙ ap (λ (x : ℕ). cond (is_used_up s x) reply.Quota reply.NoRecord)
     (sym uid))
-    ∙ no_record p s n (is_used_up s n.uid) (is_volume_full p s n.volume) refl refl (full ∙ c.if-is_full.true)
+    ∙ no_record p s n (is_used_up s n.uid) (is_volume_full p s n.volume) refl refl
+    (full g (goal.at.returns-then-is_full-clause-answer g c).After-is_full p s n shown found ∙ c.if-is_full.true)
 
 pub returns-then-is_err-clause-answer : goal.returns-then-is_err-clause-answer
 returns-then-is_err-clause-answer g c = λ p s n h found.
-    let t : Storage g.row.D.Denot = record {
-      accounts = c.self.inside.accounts;
-      segs = c.self.inside.segs;
-      whos = c.self.inside.whos.items;
-    } in
-    let shown = subst (λ (x : Storage g.row.D.Denot). Shows g.D.Drive.pages p s x) (sym c.self.view_is) h in
+    let t = held c.self.view_is in
+    let shown = shown_held c.self.view_is g.D.Drive.pages p s h in
     let uid = uid_found s.nodes c.args.uid n found in
     no_quota p s n (ap (is_used_up s) uid
     ∙ sym (used_told s t.accounts c.args.uid c.charge.result shown.tree c.charge.ensures.answer)
@@ -83,25 +73,15 @@ returns-then-is_err-clause-answer g c = λ p s n h found.
 
 pub create_page-requires-clause-page : goal.create_page-requires-clause-page
 create_page-requires-clause-page g c =
-    let t : Storage g.row.D.Denot = record {
-      accounts = c.self.inside.accounts;
-      segs = c.self.inside.segs;
-      whos = c.self.inside.whos.items;
-    } in
-    let active = subst (λ (x : Storage g.row.D.Denot). IsActive x.segs.ast.entries c.args.uid) (sym c.self.view_is)
-    c.requires.active in
-    let lt = subst (λ (x : Storage g.row.D.Denot). c.args.page < pages_in x.accounts.nodes c.args.uid)
-    (sym c.self.view_is) c.requires.page in
+    let t = held c.self.view_is in
+    let active = active_held c.self.view_is c.args.uid c.requires.active in
+    let lt = length_held c.self.view_is c.args.uid c.args.page c.requires.page in
     word_within (plain g.D.Drive.pages t.segs.pages) t.segs.ast t.segs.links t.accounts t.whos
     c.pages-kept.ensures.kept c.self.invariant c.args.uid active c.args.page lt
 
 pub unreachable-requires : goal.unreachable-requires
 unreachable-requires g c =
-    let t : Storage g.row.D.Denot = record {
-      accounts = c.self.inside.accounts;
-      segs = c.self.inside.segs;
-      whos = c.self.inside.whos.items;
-    } in
+    let t = held c.self.view_is in
     let all = c.in-Err.ensures.full.0 refl in
     let same : taken t.segs.pages.volumes.records c.home-home.result.volume
     ≡ size t.segs.pages.volumes.records c.home-home.result.volume = all_taken _ all in
@@ -113,19 +93,11 @@ unreachable-requires g c =
 
 pub invariant_of-self-2 : goal.invariant_of-self-2
 invariant_of-self-2 g c =
-    let t : Storage g.row.D.Denot = record {
-      accounts = c.self.inside.accounts;
-      segs = c.self.inside.segs;
-      whos = c.self.inside.whos.items;
-    } in
-    let active = subst (λ (x : Storage g.row.D.Denot). IsActive x.segs.ast.entries c.args.uid) (sym c.self.view_is)
-    c.requires.active in
-    let lt = subst (λ (x : Storage g.row.D.Denot). c.args.page < pages_in x.accounts.nodes c.args.uid)
-    (sym c.self.view_is) c.requires.page in
-    let null = subst (λ (x : Storage g.row.D.Denot). word_of x.segs.ast c.args.uid c.args.page ≡ Null)
-    (sym c.self.view_is) c.requires.null in
-    let home = c.home-home.ensures.home ∙ ap (λ (x : Storage g.row.D.Denot). home_of x.accounts c.args.uid)
-    (sym c.self.view_is) in
+    let t = held c.self.view_is in
+    let active = active_held c.self.view_is c.args.uid c.requires.active in
+    let lt = length_held c.self.view_is c.args.uid c.args.page c.requires.page in
+    let null = word_held c.self.view_is c.args.uid c.args.page ∙ c.requires.null in
+    let home = home_held c.self.view_is c.args.uid c.home-home.result c.home-home.ensures.home in
     subst (λ (x : Links). IsStore (plain g.D.Drive.pages c.create_page.new.self.pages) c.create_page.new.self.ast x
     c.charge.new.self c.self.inside.whos.items) (sym c.create_page.ensures.links)
     (store_made (plain g.D.Drive.pages t.segs.pages) (plain g.D.Drive.pages c.create_page.new.self.pages) t.segs.ast
@@ -136,39 +108,20 @@ invariant_of-self-2 g c =
 
 pub returns-clause-answer : goal.returns-clause-answer
 returns-clause-answer g c = λ p s n h found.
-    let t : Storage g.row.D.Denot = record {
-      accounts = c.self.inside.accounts;
-      segs = c.self.inside.segs;
-      whos = c.self.inside.whos.items;
-    } in
-    let home = c.home-home.ensures.home ∙ ap (λ (x : Storage g.row.D.Denot). home_of x.accounts c.args.uid)
-    (sym c.self.view_is) in
-    let shown = subst (λ (x : Storage g.row.D.Denot). Shows g.D.Drive.pages p s x) (sym c.self.view_is) h in
+    let t = held c.self.view_is in
+    let home = home_held c.self.view_is c.args.uid c.home-home.result c.home-home.ensures.home in
+    let shown = shown_held c.self.view_is g.D.Drive.pages p s h in
     let uid = uid_found s.nodes c.args.uid n found in
-    let volume : n.volume ≡ c.home-home.result.volume = volume_found s.nodes c.args.uid n found
-    ∙ ap (λ (ns : List Node). volume_in ns c.args.uid) shown.tree.nodes ∙ ap (λ (x : Home). x.volume) (sym home) in
-    let full : is_volume_full p s n.volume ≡ c.is_full.result = ap (is_volume_full p s) volume
-    ∙ sym (full_told g.D.Drive.pages p s t c.home-home.result.volume c.self.invariant shown)
-    ∙ ap (λ (x : Storage g.row.D.Denot). is_full x.segs.pages.volumes.records c.home-home.result.volume) c.self.view_is
-    ∙ sym c.is_full.ensures in
     room p s n (ap (is_used_up s) uid
     ∙ sym (used_told s t.accounts c.args.uid c.charge.result shown.tree c.charge.ensures.answer)
-    ∙ sym c.if-is_err.ensures.value) (full ∙ c.if-is_full.false)
+    ∙ sym c.if-is_err.ensures.value)
+    (full g (goal.at.returns-clause-answer g c).After-is_full p s n shown found ∙ c.if-is_full.false)
 
 pub returns-clause-made : goal.returns-clause-made
 returns-clause-made g c =
-    let t : Storage g.row.D.Denot = record {
-      accounts = c.self.inside.accounts;
-      segs = c.self.inside.segs;
-      whos = c.self.inside.whos.items;
-    } in
-    let u : Storage g.row.D.Denot = record {
-      accounts = c.charge.new.self;
-      segs = c.create_page.new.self;
-      whos = c.self.inside.whos.items;
-    } in
-    let home = c.home-home.ensures.home ∙ ap (λ (x : Storage g.row.D.Denot). home_of x.accounts c.args.uid)
-    (sym c.self.view_is) in
+    let t = held c.self.view_is in
+    let u = record t { accounts = c.charge.new.self; segs = c.create_page.new.self } in
+    let home = home_held c.self.view_is c.args.uid c.home-home.result c.home-home.ensures.home in
     subst (λ (x : Storage g.row.D.Denot). IsPageMade g.D.Drive.pages x u c.args.uid c.args.page c.args.f c.args.at
     c.args.w) c.self.view_is (record {
       pages = c.in-Ok.ensures.effect ∙ ap (λ (x : Home). created (plain g.D.Drive.pages t.segs.pages) c.args.uid
@@ -193,23 +146,12 @@ returns-clause-made g c =
 
 pub returns-clause-shown : goal.returns-clause-shown
 returns-clause-shown g c = λ p s h.
-    let t : Storage g.row.D.Denot = record {
-      accounts = c.self.inside.accounts;
-      segs = c.self.inside.segs;
-      whos = c.self.inside.whos.items;
-    } in
-    let u : Storage g.row.D.Denot = record {
-      accounts = c.charge.new.self;
-      segs = c.create_page.new.self;
-      whos = c.self.inside.whos.items;
-    } in
-    let active = subst (λ (x : Storage g.row.D.Denot). IsActive x.segs.ast.entries c.args.uid) (sym c.self.view_is)
-    c.requires.active in
-    let null = subst (λ (x : Storage g.row.D.Denot). word_of x.segs.ast c.args.uid c.args.page ≡ Null)
-    (sym c.self.view_is) c.requires.null in
-    let home = c.home-home.ensures.home ∙ ap (λ (x : Storage g.row.D.Denot). home_of x.accounts c.args.uid)
-    (sym c.self.view_is) in
-    let shown = subst (λ (x : Storage g.row.D.Denot). Shows g.D.Drive.pages p s x) (sym c.self.view_is) h in
+    let t = held c.self.view_is in
+    let u = record t { accounts = c.charge.new.self; segs = c.create_page.new.self } in
+    let active = active_held c.self.view_is c.args.uid c.requires.active in
+    let null = word_held c.self.view_is c.args.uid c.args.page ∙ c.requires.null in
+    let home = home_held c.self.view_is c.args.uid c.home-home.result c.home-home.ensures.home in
+    let shown = shown_held c.self.view_is g.D.Drive.pages p s h in
     shown_made g.D.Drive.pages p s t u c.args.uid c.args.page c.args.at c.args.w c.pages-kept.ensures.kept
     c.self.invariant active null c.requires.at
     (on_ok c.charge.result c.if-is_err.ensures.value c.charge.ensures.ok) refl c.create_page.ensures.links

@@ -1,23 +1,18 @@
-use Rattle.std.proofs.Common.{◌≡◌, ◌≤◌, ◌<◌, ℕ, is_some, false, sym, ap, subst, ◌∙◌}
+use Rattle.std.proofs.Common.{◌≡◌, ◌≤◌, ◌<◌, ℕ, is_some, false, ap, subst, ◌∙◌}
 use Rattle.vtoc.specs.Vtoc.{record_at}
 use Rattle.volumes.specs.Volumes.{Vols, vtoc_at}
 use Rattle.page_control.specs.Plain.{Paging}
-use Rattle.storage_ops.specs.Shown.{Shows, Storage, home_of, is_filed, is_there}
+use Rattle.storage_ops.specs.Shown.{Storage, is_filed}
+use Rattle.storage_ops.proofs.Held.{held, home_held, shown_held, there_held}
 use Rattle.storage_ops.proofs.Lengths.{from_told, within_told}
 use Rattle.storage_ops.proofs.store.Store.stores_from.Goals as goal
 
 pub returns-clause-answer : goal.returns-clause-answer
 returns-clause-answer g c = λ p s h.
-    let here : Storage g.row.D.Denot = record {
-      accounts = c.self.inside.accounts;
-      segs = c.self.inside.segs;
-      whos =
-          c.self.inside.whos.items;
-    } in
-    let there = ap (λ (x : Storage g.row.D.Denot). is_there x.accounts.nodes c.args.uid) c.self.view_is ∙ c.requires in
-    let home = c.home-home.ensures.home ∙ ap (λ (x : Storage g.row.D.Denot). home_of x.accounts c.args.uid)
-    (sym c.self.view_is) in
-    let shown = subst (λ (x : Storage g.row.D.Denot). Shows g.D.Drive.pages p s x) (sym c.self.view_is) h in
+    let here = held c.self.view_is in
+    let there = there_held c.self.view_is c.args.uid c.requires in
+    let home = home_held c.self.view_is c.args.uid c.home-home.result c.home-home.ensures.home in
+    let shown = shown_held c.self.view_is g.D.Drive.pages p s h in
     let table = c.vtoc.ensures ∙ ap (λ (x : Vols g.row.D.Denot). vtoc_at x c.home-home.result.volume)
     (c.volumes.ensures.volumes ∙ ap (λ (x : Paging g.row.D.Denot). x.volumes) c.pages.ensures.pages) in
     from_told here.accounts here.segs.pages.volumes.vtocs c.args.uid c.home-home.result c.vtoc.result.now there home
@@ -29,15 +24,9 @@ returns-clause-answer g c = λ p s h.
 
 pub returns-clause-none : goal.returns-clause-none
 returns-clause-none g c = λ off q on.
-    let here : Storage g.row.D.Denot = record {
-      accounts = c.self.inside.accounts;
-      segs = c.self.inside.segs;
-      whos =
-          c.self.inside.whos.items;
-    } in
-    let there = ap (λ (x : Storage g.row.D.Denot). is_there x.accounts.nodes c.args.uid) c.self.view_is ∙ c.requires in
-    let home = c.home-home.ensures.home ∙ ap (λ (x : Storage g.row.D.Denot). home_of x.accounts c.args.uid)
-    (sym c.self.view_is) in
+    let here = held c.self.view_is in
+    let there = there_held c.self.view_is c.args.uid c.requires in
+    let home = home_held c.self.view_is c.args.uid c.home-home.result c.home-home.ensures.home in
     let table = c.vtoc.ensures ∙ ap (λ (x : Vols g.row.D.Denot). vtoc_at x c.home-home.result.volume)
     (c.volumes.ensures.volumes ∙ ap (λ (x : Paging g.row.D.Denot). x.volumes) c.pages.ensures.pages) in
     within_told here.accounts here.segs.pages.volumes.vtocs c.args.uid c.home-home.result c.vtoc.result.now there

@@ -10,16 +10,34 @@ use Rattle.dir_tree.specs.Nodes.{as_term}
 use Rattle.flat_model.proofs.NodeLaws.{uid_found}
 use Rattle.storage_ops.specs.References.{refusal_in, target, unless}
 use Rattle.storage_ops.specs.Shown.{IsFound, IsThere, Storage, who_at}
+use Rattle.storage_ops.proofs.Held.{held}
 use Rattle.storage_ops.proofs.Refusals.{target_found, target_gone, target_unknown, within_told}
+use Rattle.storage_ops.proofs.store.Store.target.Given.{Over}
+use Rattle.storage_ops.proofs.store.Store.target.Goals.{After-refusal_in}
 use Rattle.storage_ops.proofs.store.Store.target.Goals as goal
+
+-- the segment that a number stands for is there, and what refuses the reference is told of it
+found : (g : Over) (c : After-refusal_in g)
+    → target (held c.self.view_is) c.args.process c.args.reference.now
+    ≡ unless c.refusal_in.result (as_term (quota_in c.self.inside.accounts.nodes) c.in-Some-node.node.now)
+found g c =
+    let t = held c.self.view_is in
+    let n = as_term (quota_in t.accounts.nodes) c.in-Some-node.node.now in
+    let lt : c.args.process < length t.whos = subst (λ (n : ℕ). c.args.process < n)
+    (sym (c.self.invariant.known.processes
+    ∙ ap (λ (x : Storage g.row.D.Denot). length x.segs.links.known) c.self.view_is)) c.requires in
+    let who : c.index.result.now ≡ who_at t.whos c.args.process = get_or_read t.whos c.args.process _ lt c.index.ensures
+    nobody in
+    target_found t c.args.process c.args.reference.now c.in-Some.uid n
+    (ap (λ (kst : List (Option ℕ)). uid_of kst c.args.reference.now.number) (sym c.kst.ensures.kst)
+    ∙ sym c.uid_of.ensures.uid ∙ c.in-Some.is) c.in-Some-node.ensures.some
+    ∙ ap (λ (o : Option Reply). unless o n)
+    (ap (λ (w : Who). refusal_in w c.args.reference.now n) (sym who)
+    ∙ sym (c.refusal_in.ensures (quota_in t.accounts.nodes)))
 
 pub returns-in_default-clause-err : goal.returns-in_default-clause-err
 returns-in_default-clause-err g c =
-    let t : Storage g.row.D.Denot = record {
-      accounts = c.self.inside.accounts;
-      segs = c.self.inside.segs;
-      whos = c.self.inside.whos.items;
-    } in
+    let t = held c.self.view_is in
     subst (λ (x : Storage g.row.D.Denot). target x c.args.process c.args.reference.now ≡ Err reply.Unknown)
     c.self.view_is (target_unknown t c.args.process c.args.reference.now
     (ap (λ (kst : List (Option ℕ)). uid_of kst c.args.reference.now.number) (sym c.kst.ensures.kst)
@@ -27,11 +45,7 @@ returns-in_default-clause-err g c =
 
 pub returns-in_default-node-clause-err : goal.returns-in_default-node-clause-err
 returns-in_default-node-clause-err g c =
-    let t : Storage g.row.D.Denot = record {
-      accounts = c.self.inside.accounts;
-      segs = c.self.inside.segs;
-      whos = c.self.inside.whos.items;
-    } in
+    let t = held c.self.view_is in
     subst (λ (x : Storage g.row.D.Denot). target x c.args.process c.args.reference.now ≡ Err reply.Gone)
     c.self.view_is (target_gone t c.args.process c.args.reference.now c.in-Some.uid
     (ap (λ (kst : List (Option ℕ)). uid_of kst c.args.reference.now.number) (sym c.kst.ensures.kst)
@@ -39,53 +53,23 @@ returns-in_default-node-clause-err g c =
 
 pub returns-in-Some-refusal_in-clause-err : goal.returns-in-Some-refusal_in-clause-err
 returns-in-Some-refusal_in-clause-err g c =
-    let t : Storage g.row.D.Denot = record {
-      accounts = c.self.inside.accounts;
-      segs = c.self.inside.segs;
-      whos = c.self.inside.whos.items;
-    } in
-    let n = as_term (quota_in t.accounts.nodes) c.in-Some-node.node.now in
-    let lt : c.args.process < length t.whos = subst (λ (n : ℕ). c.args.process < n)
-    (sym (c.self.invariant.known.processes
-    ∙ ap (λ (x : Storage g.row.D.Denot). length x.segs.links.known) c.self.view_is)) c.requires in
-    let who : c.index.result.now ≡ who_at t.whos c.args.process = get_or_read t.whos c.args.process _ lt c.index.ensures
-    nobody in
+    let n = as_term (quota_in c.self.inside.accounts.nodes) c.in-Some-node.node.now in
     subst (λ (x : Storage g.row.D.Denot). target x c.args.process c.args.reference.now ≡ Err c.in-Some-refusal_in.reply)
-    c.self.view_is (target_found t c.args.process c.args.reference.now c.in-Some.uid n
-    (ap (λ (kst : List (Option ℕ)). uid_of kst c.args.reference.now.number) (sym c.kst.ensures.kst)
-    ∙ sym c.uid_of.ensures.uid ∙ c.in-Some.is) c.in-Some-node.ensures.some
-    ∙ ap (λ (o : Option Reply). unless o n)
-    (ap (λ (w : Who). refusal_in w c.args.reference.now n) (sym who)
-    ∙ sym (c.refusal_in.ensures (quota_in t.accounts.nodes)) ∙ c.in-Some-refusal_in.is))
+    c.self.view_is
+    (found g (goal.at.returns-in-Some-refusal_in-clause-err g c).After-refusal_in
+    ∙ ap (λ (o : Option Reply). unless o n) c.in-Some-refusal_in.is)
 
 pub returns-in-None-clause-ok : goal.returns-in-None-clause-ok
 returns-in-None-clause-ok g c =
-    let t : Storage g.row.D.Denot = record {
-      accounts = c.self.inside.accounts;
-      segs = c.self.inside.segs;
-      whos = c.self.inside.whos.items;
-    } in
-    let n = as_term (quota_in t.accounts.nodes) c.in-Some-node.node.now in
-    let lt : c.args.process < length t.whos = subst (λ (n : ℕ). c.args.process < n)
-    (sym (c.self.invariant.known.processes
-    ∙ ap (λ (x : Storage g.row.D.Denot). length x.segs.links.known) c.self.view_is)) c.requires in
-    let who : c.index.result.now ≡ who_at t.whos c.args.process = get_or_read t.whos c.args.process _ lt c.index.ensures
-    nobody in
+    let n = as_term (quota_in c.self.inside.accounts.nodes) c.in-Some-node.node.now in
     subst (λ (x : Storage g.row.D.Denot). IsFound x.accounts.nodes (target x c.args.process c.args.reference.now)
-    c.in-Some-node.node.now) c.self.view_is (target_found t c.args.process c.args.reference.now c.in-Some.uid n
-    (ap (λ (kst : List (Option ℕ)). uid_of kst c.args.reference.now.number) (sym c.kst.ensures.kst)
-    ∙ sym c.uid_of.ensures.uid ∙ c.in-Some.is) c.in-Some-node.ensures.some
-    ∙ ap (λ (o : Option Reply). unless o n)
-    (ap (λ (w : Who). refusal_in w c.args.reference.now n) (sym who)
-    ∙ sym (c.refusal_in.ensures (quota_in t.accounts.nodes)) ∙ c.in-None.is))
+    c.in-Some-node.node.now) c.self.view_is
+    (found g (goal.at.returns-in-None-clause-ok g c).After-refusal_in
+    ∙ ap (λ (o : Option Reply). unless o n) c.in-None.is)
 
 pub returns-in-None-clause-there : goal.returns-in-None-clause-there
 returns-in-None-clause-there g c =
-    let t : Storage g.row.D.Denot = record {
-      accounts = c.self.inside.accounts;
-      segs = c.self.inside.segs;
-      whos = c.self.inside.whos.items;
-    } in
+    let t = held c.self.view_is in
     let n = as_term (quota_in t.accounts.nodes) c.in-Some-node.node.now in
     subst (λ (x : Storage g.row.D.Denot). IsThere x.accounts.nodes c.in-Some-node.node.now) c.self.view_is
     (ap (node_in t.accounts.nodes) (uid_found t.accounts.nodes c.in-Some.uid n c.in-Some-node.ensures.some)

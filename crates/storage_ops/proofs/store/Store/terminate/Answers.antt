@@ -1,38 +1,41 @@
 use Rattle.std.proofs.Common.{◌≡◌, Bool, true, false, not, ℕ, List, Option, cond, is_some, refl, sym, ap, subst, ◌∙◌}
 use Rattle.book.specs.declared.replies.Reply.TheVariants as reply
 use Rattle.known_segs.specs.Known.{uid_of}
-use Rattle.flat_model.specs.Naming.{after_terminate}
+use Rattle.flat_model.specs.Naming.{after_terminate, terminate_reply}
 use Rattle.seg_control.specs.Control.{Control}
-use Rattle.storage_ops.specs.Shown.{Shows, Storage}
+use Rattle.storage_ops.specs.Shown.{Shows}
+use Rattle.flat_model.specs.Store.{Store as Flat}
+use Rattle.storage_ops.proofs.Held.{held, shown_held, known_held}
 use Rattle.storage_ops.proofs.Known.{terminate_shown}
 use Rattle.storage_ops.proofs.NamingLaws.{terminate_told}
+use Rattle.storage_ops.proofs.store.Store.terminate.Given.{Over}
+use Rattle.storage_ops.proofs.store.Store.terminate.Goals.{After-is_none}
 use Rattle.storage_ops.proofs.store.Store.terminate.Goals as goal
+
+-- the reply is that of the number's segment
+told : (g : Over) (c : After-is_none g) (s : Flat) → s.known ≡ c.args.self.now.segs.links.known
+    → cond (is_some c.uid_of.result) reply.Done reply.Unknown ≡ terminate_reply s c.args.process c.args.number
+told g c s known =
+    terminate_told s s.nodes c.self.inside.segs.links.known refl (known_held c.self.view_is s.known known)
+    c.args.process c.args.number c.uid_of.result
+    (c.uid_of.ensures.uid ∙ ap (λ (kst : List (Option ℕ)). uid_of kst c.args.number) c.kst.ensures.kst)
 
 pub returns-then-is_none-clause-answer : goal.returns-then-is_none-clause-answer
 returns-then-is_none-clause-answer g c = λ p s h.
-    let known = h.known ∙ ap (λ (x : Storage g.row.D.Denot). x.segs.links.known) (sym c.self.view_is) in
     let some : is_some c.uid_of.result ≡ false = c.is_none.ensures ∙ ap not c.if-is_none.true in
     ap (λ (z : Bool). cond z reply.Done reply.Unknown) (sym some)
-    ∙ terminate_told s s.nodes c.self.inside.segs.links.known refl known c.args.process c.args.number c.uid_of.result
-    (c.uid_of.ensures.uid ∙ ap (λ (kst : List (Option ℕ)). uid_of kst c.args.number) c.kst.ensures.kst)
+    ∙ told g (goal.at.returns-then-is_none-clause-answer g c).After-is_none s h.known
 
 pub returns-clause-answer : goal.returns-clause-answer
 returns-clause-answer g c = λ p s h.
-    let known = h.known ∙ ap (λ (x : Storage g.row.D.Denot). x.segs.links.known) (sym c.self.view_is) in
     let some : is_some c.uid_of.result ≡ true = c.is_none.ensures ∙ ap not c.if-is_none.false in
     ap (λ (z : Bool). cond z reply.Done reply.Unknown) (sym some)
-    ∙ terminate_told s s.nodes c.self.inside.segs.links.known refl known c.args.process c.args.number c.uid_of.result
-    (c.uid_of.ensures.uid ∙ ap (λ (kst : List (Option ℕ)). uid_of kst c.args.number) c.kst.ensures.kst)
+    ∙ told g (goal.at.returns-clause-answer g c).After-is_none s h.known
 
 pub returns-clause-effect : goal.returns-clause-effect
 returns-clause-effect g c = λ p s h.
-    let t : Storage g.row.D.Denot = record {
-      accounts = c.self.inside.accounts;
-      segs = c.self.inside.segs;
-      whos =
-          c.self.inside.whos.items;
-    } in
-    let before = subst (λ (x : Storage g.row.D.Denot). Shows g.D.Drive.pages p s x) (sym c.self.view_is) h in
+    let t = held c.self.view_is in
+    let before = shown_held c.self.view_is g.D.Drive.pages p s h in
     subst (λ (x : Control g.row.D.Denot). Shows g.D.Drive.pages p (after_terminate s c.args.process c.args.number)
     (record t { segs = x })) (sym c.forget.ensures.effect)
     (terminate_shown g.D.Drive.pages p s t c.args.process c.args.number before)

@@ -1,4 +1,4 @@
-use Rattle.std.proofs.Common.{◌≡◌, ℕ}
+use Rattle.std.proofs.Common.{◌≡◌, ℕ, Ok}
 use Rattle.std.proofs.Common.{List, sym, ap, subst, ◌∙◌}
 use Rattle.tree_model.specs.Tree.{Node, quota_in}
 use Rattle.dir_tree.specs.Nodes.{as_term}
@@ -7,16 +7,27 @@ use Rattle.flat_model.specs.Store.{Store as Flat}
 use Rattle.flat_model.proofs.CutLaws.{truncate_done}
 use Rattle.flat_model.proofs.TreeReplies.{truncate_refused, truncate_told}
 use Rattle.storage_ops.specs.Cut.{CutsPages, IsTakenPast, IsTakenPastAt}
-use Rattle.storage_ops.specs.Shown.{Shows, ShowsTree, Storage, home_of, pages_in}
+use Rattle.storage_ops.specs.Shown.{Shows, Storage, home_of, pages_in}
+use Rattle.storage_ops.proofs.Held.{tree_held}
 use Rattle.storage_ops.proofs.Changed.{segment_refuses}
 use Rattle.storage_ops.proofs.Rest.{rest_none, rest_unstored}
 use Rattle.storage_ops.specs.CutOff.{CountsOthers, cut_at, paged}
 use Rattle.storage_ops.proofs.CutExactly.{not_both_found, same_uid}
+use Rattle.storage_ops.proofs.store.Store.truncate.Given.{Over}
+use Rattle.storage_ops.proofs.store.Store.truncate.Goals.{In-Ok}
 use Rattle.storage_ops.proofs.store.Store.truncate.Goals as goal
+
+-- what the path leads to is the segment that was found
+same : (g : Over) (c : In-Ok g) (n : Node) → segment_at c.args.self.now.accounts.nodes c.args.path.now ≡ Ok n
+    → c.in-Ok.node.now.uid ≡ n.uid
+same g c n found =
+    let here = ap (λ (x : Storage g.row.D.Denot). segment_at x.accounts.nodes c.args.path.now) (sym c.self.view_is)
+    ∙ c.in-Ok.ensures.ok in
+    same_uid (as_term (quota_in c.self.inside.accounts.nodes) c.in-Ok.node.now) n (sym here ∙ found)
 
 pub returns-in-Err-clause-answer : goal.returns-in-Err-clause-answer
 returns-in-Err-clause-answer g c = λ p s h.
-    let tree = subst (λ (x : Storage g.row.D.Denot). ShowsTree s x.accounts) (sym c.self.view_is) h.tree in
+    let tree = tree_held c.self.view_is s h.tree in
     truncate_refused s c.self.inside.accounts.nodes c.args.path.now tree.nodes c.in-Err.reply c.in-Err.ensures.err
 
 pub returns-in-Err-clause-effect : goal.returns-in-Err-clause-effect
@@ -32,13 +43,13 @@ cut_off-requires g c =
 
 pub returns-clause-answer : goal.returns-clause-answer
 returns-clause-answer g c = λ p s h.
-    let tree = subst (λ (x : Storage g.row.D.Denot). ShowsTree s x.accounts) (sym c.self.view_is) h.tree in
+    let tree = tree_held c.self.view_is s h.tree in
     truncate_told s c.self.inside.accounts.nodes c.args.path.now tree.nodes
     (as_term (quota_in c.self.inside.accounts.nodes) c.in-Ok.node.now) c.in-Ok.ensures.ok
 
 pub returns-clause-effect : goal.returns-clause-effect
 returns-clause-effect g c = λ p s h.
-    let tree = subst (λ (x : Storage g.row.D.Denot). ShowsTree s x.accounts) (sym c.self.view_is) h.tree in
+    let tree = tree_held c.self.view_is s h.tree in
     subst (λ (x : Flat). Shows g.D.Drive.pages p x c.cut_off.new.self)
     (sym (truncate_done s c.args.path.now c.args.words
     (as_term (quota_in c.self.inside.accounts.nodes) c.in-Ok.node.now)
@@ -59,27 +70,21 @@ returns-in-Err-clause-pages g c = λ n found.
 
 pub returns-clause-pages : goal.returns-clause-pages
 returns-clause-pages g c = λ n found.
-    let here = ap (λ (x : Storage g.row.D.Denot). segment_at x.accounts.nodes c.args.path.now) (sym c.self.view_is)
-    ∙ c.in-Ok.ensures.ok in
     subst (λ (u : ℕ). CutsPages c.args.self.now c.cut_off.new.self u c.args.words)
-    (same_uid (as_term (quota_in c.self.inside.accounts.nodes) c.in-Ok.node.now) n (sym here ∙ found))
+    (same g (goal.at.returns-clause-pages g c).In-Ok n found)
     c.cut_off.ensures.pages
 
 pub returns-clause-exact : goal.returns-clause-exact
 returns-clause-exact g c = λ n found.
-    let here = ap (λ (x : Storage g.row.D.Denot). segment_at x.accounts.nodes c.args.path.now) (sym c.self.view_is)
-    ∙ c.in-Ok.ensures.ok in
     subst (λ (u : ℕ). paged g.D.Drive.pages c.cut_off.new.self u ≡ cut_at (paged g.D.Drive.pages c.args.self.now u)
     (home_of c.args.self.now.accounts u) u (pages_in c.args.self.now.accounts.nodes u) c.args.words)
-    (same_uid (as_term (quota_in c.self.inside.accounts.nodes) c.in-Ok.node.now) n (sym here ∙ found))
+    (same g (goal.at.returns-clause-exact g c).In-Ok n found)
     c.cut_off.ensures.exact
 
 pub returns-clause-others : goal.returns-clause-others
 returns-clause-others g c = λ n found.
-    let here = ap (λ (x : Storage g.row.D.Denot). segment_at x.accounts.nodes c.args.path.now) (sym c.self.view_is)
-    ∙ c.in-Ok.ensures.ok in
     subst (λ (u : ℕ). CountsOthers c.args.self.now.accounts c.cut_off.new.self.accounts u)
-    (same_uid (as_term (quota_in c.self.inside.accounts.nodes) c.in-Ok.node.now) n (sym here ∙ found))
+    (same g (goal.at.returns-clause-others g c).In-Ok n found)
     c.cut_off.ensures.others
 
 pub returns-in-Err-clause-exact : goal.returns-in-Err-clause-exact

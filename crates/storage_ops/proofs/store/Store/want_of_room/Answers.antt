@@ -1,43 +1,43 @@
-use Rattle.std.proofs.Common.{◌≡◌, true, false, sym, ap, subst, ◌∙◌}
+use Rattle.std.proofs.Common.{◌≡◌, true, false, sym, ap, subst, ◌∙◌, ℕ, List, Bool, cond, Some, None}
 use Rattle.accounts.specs.Maps.{Counts}
 use Rattle.quota_cells.specs.Scratch.{charge_answer}
+use Rattle.book.specs.declared.replies.Reply.TheVariants as reply
 use Rattle.tree_model.specs.Tree.{quota_in}
 use Rattle.dir_tree.specs.Nodes.{as_term}
 use Rattle.flat_model.proofs.NodeLaws.{volume_found}
 use Rattle.page_control.specs.declared.Home.{Home}
 use Rattle.page_control.specs.Counts.{is_full}
-use Rattle.storage_ops.specs.References.{is_spent}
+use Rattle.storage_ops.specs.References.{is_spent, want_of_room}
 use Rattle.storage_ops.specs.Shown.{Storage}
+use Rattle.std.specs.Result.{is_err}
 use Rattle.storage_ops.proofs.PageRoom.{spent_told}
 use Rattle.storage_ops.proofs.Refusals.{want_told}
+use Rattle.storage_ops.proofs.store.Store.want_of_room.Given.{Over}
+use Rattle.storage_ops.proofs.store.Store.want_of_room.Goals.{After-is_full}
 use Rattle.storage_ops.proofs.store.Store.want_of_room.Goals as goal
 
-pub returns-then-is_full : goal.returns-then-is_full
-returns-then-is_full g c = λ stored counts.
+-- of an account that isn't spent, whether the volume of the node is full tells all
+told : (g : Over) (c : After-is_full g) (stored : List (ℕ × ℕ)) → Counts c.args.self.now.accounts stored
+    → is_err c.may_charge.result ≡ false → (full : Bool) → c.is_full.result ≡ full
+    → cond full (Some reply.NoRecord) None
+    ≡ want_of_room c.args.self.now stored (as_term (quota_in c.args.self.now.accounts.nodes) c.args.node.now)
+told g c stored counts room full is =
     let now = c.args.self.now in
     let n = as_term (quota_in now.accounts.nodes) c.args.node.now in
     let spent : is_spent now.accounts.nodes stored n.uid ≡ false =
     sym (spent_told now.accounts.nodes stored n.uid c.may_charge.result
     (c.may_charge.ensures stored (subst (λ (x : Storage g.row.D.Denot). Counts x.accounts stored) (sym c.self.view_is)
     counts) ∙ ap (λ (x : Storage g.row.D.Denot). charge_answer x.accounts.nodes stored n.uid) c.self.view_is))
-    ∙ sym c.if-is_err.ensures.value in
+    ∙ room in
     let volume : n.volume ≡ c.home-home.result.volume = volume_found now.accounts.nodes n.uid n c.requires.there
     ∙ ap (λ (h : Home). h.volume) (sym c.home-home.ensures.home) in
-    let full : is_full now.segs.pages.volumes.records n.volume ≡ true =
-    ap (is_full now.segs.pages.volumes.records) volume ∙ sym c.is_full.ensures ∙ c.if-is_full.true in
-    sym (want_told now stored n false true spent full)
+    sym (want_told now stored n false full spent
+    (ap (is_full now.segs.pages.volumes.records) volume ∙ sym c.is_full.ensures ∙ is))
+
+pub returns-then-is_full : goal.returns-then-is_full
+returns-then-is_full g c = λ stored counts. told g (goal.at.returns-then-is_full g c).After-is_full stored counts
+    (sym c.if-is_err.ensures.value) true c.if-is_full.true
 
 pub returns-else-is_full : goal.returns-else-is_full
-returns-else-is_full g c = λ stored counts.
-    let now = c.args.self.now in
-    let n = as_term (quota_in now.accounts.nodes) c.args.node.now in
-    let spent : is_spent now.accounts.nodes stored n.uid ≡ false =
-    sym (spent_told now.accounts.nodes stored n.uid c.may_charge.result
-    (c.may_charge.ensures stored (subst (λ (x : Storage g.row.D.Denot). Counts x.accounts stored) (sym c.self.view_is)
-    counts) ∙ ap (λ (x : Storage g.row.D.Denot). charge_answer x.accounts.nodes stored n.uid) c.self.view_is))
-    ∙ sym c.if-is_err.ensures.value in
-    let volume : n.volume ≡ c.home-home.result.volume = volume_found now.accounts.nodes n.uid n c.requires.there
-    ∙ ap (λ (h : Home). h.volume) (sym c.home-home.ensures.home) in
-    let full : is_full now.segs.pages.volumes.records n.volume ≡ false =
-    ap (is_full now.segs.pages.volumes.records) volume ∙ sym c.is_full.ensures ∙ c.if-is_full.false in
-    sym (want_told now stored n false false spent full)
+returns-else-is_full g c = λ stored counts. told g (goal.at.returns-else-is_full g c).After-is_full stored counts
+    (sym c.if-is_err.ensures.value) false c.if-is_full.false
