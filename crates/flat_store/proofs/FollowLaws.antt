@@ -15,6 +15,7 @@ use Rattle.flat_model.specs.Store.{Progress, Store, progress_of, with_progress}
 use Rattle.flat_store.specs.Shown.{Holds, IsReached, IsShown, Kept, Shows, answered, progress_at}
 use Rattle.flat_model.proofs.PlaceLaws.{place_fits, place_within}
 use Rattle.flat_store.proofs.ReachLaws.{answered_advances, reached_fault, reached_on}
+use Rattle.flat_store.proofs.StoreLaws.{holds_beside}
 
 -- an answer that took effect is the flat store's
 pub effect_due : (p : Plan) (s : Store) (k place : ℕ) (c : Command) (r : Reply) → command_at p k place ≡ Some c
@@ -36,16 +37,7 @@ progress_shown : (p : Plan) (k n : Kept) (s : Store) (process : ℕ) (q told : P
     → IsShown p n (with_progress s process q)
 progress_shown p k n s process q told h same now is =
     subst (λ (x : Kept). IsShown p x (with_progress s process q)) (sym same) (record {
-      holds = record {
-        nodes = h.holds.nodes;
-        next = h.holds.next;
-        counts = h.holds.counts;
-        pages = h.holds.pages;
-        inside = h.holds.inside;
-        flat = h.holds.flat;
-        records = h.holds.records;
-        entries = h.holds.entries;
-      };
+      holds = holds_beside p k.held s s.known (with_progress s process q).processes h.holds;
       known = h.known;
       processes = ap (λ (qs : List Progress). set qs process q) h.processes
           ∙ ap (λ (x : Progress). set k.processes process x) (sym is) ∙ sym now;

@@ -3,6 +3,7 @@ use Rattle.std.proofs.Common.{◌≡◌, ℕ, Bool, true, false, cond, zero, suc
 use Rattle.std.proofs.Common.{Result, Ok, Err, is_some, length, set, get_or, refl, sym, ap, subst, ◌∙◌}
 use Rattle.std.proofs.lemmas.List.{length-set}
 use Rattle.script.specs.Plans.{Plan}
+use Rattle.script.specs.declared.commands.Command.{Command}
 use Rattle.script.specs.declared.commands.Reference.{Reference}
 use Rattle.book.specs.declared.replies.Reply.{Reply}
 use Rattle.book.specs.declared.replies.Reply.TheVariants as reply
@@ -12,9 +13,9 @@ use Rattle.flat_model.specs.Branches.{segment_at}
 use Rattle.flat_model.specs.Naming.{after_initiate, after_terminate, initiated, initiate_of, initiate_reply}
 use Rattle.flat_model.specs.Naming.{known_or_full, terminate_reply}
 use Rattle.flat_model.specs.References.{after_reference, reply_at, reply_of, reply_to_reference, written_by}
-use Rattle.flat_model.specs.Store.{Store, known_uid, numbers_of, with_numbers}
-use Rattle.flat_store.specs.Shown.{Holds, IsShown, Kept, numbers_at}
-use Rattle.flat_model.specs.Commands.{takes_effect}
+use Rattle.flat_model.specs.Store.{Store, known_uid, numbers_of, with_numbers, Progress}
+use Rattle.flat_store.specs.Shown.{Holds, IsShown, Kept, numbers_at, Held}
+use Rattle.flat_model.specs.Commands.{takes_effect, effect_of_tree_command, reply_to_tree_command}
 use Rattle.flat_store.proofs.OtherLaws.{KeepsOthers}
 
 module _ (p : Plan) (k : Kept) (s : Store) (h : IsShown p k s) where
@@ -68,6 +69,20 @@ nobody_knows p k s process number h le =
 
 -- ---- effects
 
+-- what numbers stand for, and how far processes have come, isn't of the holdings
+pub holds_beside : (p : Plan) (held : Held) (s : Store) (known : List (List (Option ℕ))) (processes : List Progress)
+    → Holds p held s → Holds p held (record s { known = known; processes = processes })
+holds_beside p held s known processes h = record {
+  nodes = h.nodes;
+  next = h.next;
+  counts = h.counts;
+  pages = h.pages;
+  inside = h.inside;
+  flat = h.flat;
+  records = h.records;
+  entries = h.entries;
+}
+
 -- the holdings alone are changed
 pub effect_shown : (p : Plan) (k n : Kept) (s t : Store) → IsShown p k s → Holds p n.held t → KeepsOthers s t
     → n ≡ record k { held = n.held } → IsShown p n t
@@ -79,22 +94,28 @@ effect_shown p k n s t h holds keeps same = subst (λ (x : Kept). IsShown p x t)
   runners = ap length keeps.processes ∙ h.runners;
 })
 
+-- so by the effect of a command, once it is known which it is
+pub effect_done : (p : Plan) (s : Store) {inside told : Kept} → inside ≡ told → (held : Held) (process : ℕ)
+    {command known : Command} → command ≡ known → IsShown p told s
+    → takes_effect (reply_to_tree_command p s process command) ≡ true
+    → (Holds p inside.held s → takes_effect (reply_to_tree_command p s process known) ≡ true
+    → Holds p held (effect_of_tree_command p s process known))
+    → KeepsOthers s (effect_of_tree_command p s process known)
+    → IsShown p (record inside { held = held }) (effect_of_tree_command p s process command)
+effect_done p s {inside} same held process {command} {known} is h effect done keeps =
+    let shown = subst (λ (k : Kept). IsShown p k s) (sym same) h in
+    let asked = subst (λ (x : Command). takes_effect (reply_to_tree_command p s process x) ≡ true) is effect in
+    subst (λ (x : Command). IsShown p (record inside { held = held }) (effect_of_tree_command p s process x)) (sym is)
+    (effect_shown p inside (record inside { held = held }) s (effect_of_tree_command p s process known) shown
+    (done shown.holds asked) keeps refl)
+
 -- what the numbers of a process stand for is changed alone
 pub numbers_shown : (p : Plan) (k n : Kept) (s : Store) (process : ℕ) (numbers told : List (Option ℕ)) → IsShown p k s
     → n ≡ record k { known = n.known } → n.known ≡ set k.known process told → told ≡ numbers
     → IsShown p n (with_numbers s process numbers)
 numbers_shown p k n s process numbers told h same now is =
     subst (λ (x : Kept). IsShown p x (with_numbers s process numbers)) (sym same) (record {
-      holds = record {
-        nodes = h.holds.nodes;
-        next = h.holds.next;
-        counts = h.holds.counts;
-        pages = h.holds.pages;
-        inside = h.holds.inside;
-        flat = h.holds.flat;
-        records = h.holds.records;
-        entries = h.holds.entries;
-      };
+      holds = holds_beside p k.held s (with_numbers s process numbers).known s.processes h.holds;
       known = ap (λ (known : List (List (Option ℕ))). set known process numbers) h.known
           ∙ ap (λ (x : List (Option ℕ)). set k.known process x) (sym is) ∙ sym now;
       processes = h.processes;

@@ -1,4 +1,4 @@
-use Rattle.std.proofs.Common.{List, is_some, sym, ap, subst, ◌∙◌}
+use Rattle.std.proofs.Common.{List, is_some, sym, ap, subst, ◌∙◌, ◌≡◌}
 use Rattle.std.specs.Prelude.{nat_le}
 use Rattle.tree_model.specs.Tree.{Node, node_in, quota_in}
 use Rattle.dir_tree.specs.Nodes.{has_inferior}
@@ -7,28 +7,30 @@ use Rattle.flat_model.specs.Cuts.{without_pages}
 use Rattle.flat_store.specs.Shown.{Held, Holds}
 use Rattle.flat_model.proofs.RemoveLaws.{deleted_is}
 use Rattle.flat_store.proofs.RemoveLaws.{all_gone}
+use Rattle.flat_store.proofs.holdings.Holdings.delete.Goals.{After-drop_from}
 use Rattle.flat_store.proofs.holdings.Holdings.delete.Goals as goal
+
+-- the nodes are as they were once the pages are dropped
+nodes : (c : After-drop_from) → c.args.self.now.accounts.nodes ≡ c.drop_from.new.self.accounts.nodes
+nodes c =
+    let h = c.self.invariant in
+    let now = subst (λ (x : Held). Holds h.0 x h.1) c.self.view_is h.2 in
+    sym now.nodes ∙ (c.drop_from.ensures h.0 h.1 now).nodes
 
 pub take_out-requires-clause-there : goal.take_out-requires-clause-there
 take_out-requires-clause-there c =
-    let h = c.self.invariant in
-    let now = subst (λ (x : Held). Holds h.0 x h.1) c.self.view_is h.2 in
-    let same = sym now.nodes ∙ (c.drop_from.ensures h.0 h.1 now).nodes in
-    ap (λ (ns : List Node). is_some (node_in ns c.in-Some.uid)) (sym same) ∙ c.in-Some.ensures.some.there
+    ap (λ (ns : List Node). is_some (node_in ns c.in-Some.uid))
+    (sym (nodes (goal.at.take_out-requires-clause-there c).After-drop_from)) ∙ c.in-Some.ensures.some.there
 
 pub take_out-requires-clause-empty : goal.take_out-requires-clause-empty
 take_out-requires-clause-empty c =
-    let h = c.self.invariant in
-    let now = subst (λ (x : Held). Holds h.0 x h.1) c.self.view_is h.2 in
-    let same = sym now.nodes ∙ (c.drop_from.ensures h.0 h.1 now).nodes in
-    ap (λ (ns : List Node). has_inferior ns c.in-Some.uid) (sym same) ∙ c.in-Some.ensures.some.empty
+    ap (λ (ns : List Node). has_inferior ns c.in-Some.uid)
+    (sym (nodes (goal.at.take_out-requires-clause-empty c).After-drop_from)) ∙ c.in-Some.ensures.some.empty
 
 pub take_out-requires-clause-quota : goal.take_out-requires-clause-quota
 take_out-requires-clause-quota c =
-    let h = c.self.invariant in
-    let now = subst (λ (x : Held). Holds h.0 x h.1) c.self.view_is h.2 in
-    let same = sym now.nodes ∙ (c.drop_from.ensures h.0 h.1 now).nodes in
-    ap (λ (ns : List Node). quota_in ns c.in-Some.uid) (sym same) ∙ c.in-Some.ensures.some.quota
+    ap (λ (ns : List Node). quota_in ns c.in-Some.uid)
+    (sym (nodes (goal.at.take_out-requires-clause-quota c).After-drop_from)) ∙ c.in-Some.ensures.some.quota
 
 pub take_out-requires-clause-pages : goal.take_out-requires-clause-pages
 take_out-requires-clause-pages c =

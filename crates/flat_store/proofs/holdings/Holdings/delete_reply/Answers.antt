@@ -3,6 +3,7 @@ use Rattle.tree_model.specs.Tree.{quota_in}
 use Rattle.dir_tree.specs.Nodes.{as_term}
 use Rattle.flat_store.specs.Shown.{Held}
 use Rattle.flat_model.proofs.TreeReplies.{delete_refused, delete_told, from_false}
+use Rattle.flat_store.proofs.holdings.Holdings.delete_reply.Goals.{After-is_err}
 use Rattle.flat_store.proofs.holdings.Holdings.delete_reply.Goals as goal
 use Rattle.std.proofs.lemmas.Bool.{ne_eqb}
 use Rattle.std.specs.Result.{is_err}
@@ -11,6 +12,13 @@ use Rattle.dir_tree.specs.Nodes.{has_inferior}
 pub returns-in-Err : goal.returns-in-Err
 returns-in-Err c = λ p s h. delete_refused s c.args.self.now.accounts.nodes c.args.path.now h.nodes c.in-Err.reply
     c.in-Err.ensures.err
+
+-- nothing is below what may be removed
+none : (c : After-is_err) → c.is_err.result ≡ false
+    → has_inferior c.args.self.now.accounts.nodes c.in-Ok.node.now.uid ≡ false
+none c off = ap (λ (x : Held). has_inferior x.accounts.nodes c.in-Ok.node.now.uid) (sym c.self.view_is)
+    ∙ from_false (is_err c.may_remove.result) (has_inferior c.self.inside.accounts.nodes c.in-Ok.node.now.uid)
+    c.may_remove.ensures.1 (sym c.is_err.ensures.value ∙ off)
 
 pub returns-then-is_err : goal.returns-then-is_err
 returns-then-is_err c = λ p s h.
@@ -22,10 +30,7 @@ returns-then-is_err c = λ p s h.
 
 pub returns-then-quota_of-eq0 : goal.returns-then-quota_of-eq0
 returns-then-quota_of-eq0 c = λ p s h.
-    let none = from_false (is_err c.may_remove.result) (has_inferior c.self.inside.accounts.nodes c.in-Ok.node.now.uid)
-    c.may_remove.ensures.1
-    (sym c.is_err.ensures.value ∙ c.if-is_err.false) in
-    let inferior = ap (λ (x : Held). has_inferior x.accounts.nodes c.in-Ok.node.now.uid) (sym c.self.view_is) ∙ none in
+    let inferior = none (goal.at.returns-then-quota_of-eq0 c).After-is_err c.if-is_err.false in
     delete_told s c.args.self.now.accounts.nodes c.args.path.now h.nodes
     (as_term (quota_in c.args.self.now.accounts.nodes) c.in-Ok.node.now) false true
     c.in-Ok.ensures.ok inferior
@@ -33,10 +38,7 @@ returns-then-quota_of-eq0 c = λ p s h.
 
 pub returns-else-quota_of-eq0 : goal.returns-else-quota_of-eq0
 returns-else-quota_of-eq0 c = λ p s h.
-    let none = from_false (is_err c.may_remove.result) (has_inferior c.self.inside.accounts.nodes c.in-Ok.node.now.uid)
-    c.may_remove.ensures.1
-    (sym c.is_err.ensures.value ∙ c.if-is_err.false) in
-    let inferior = ap (λ (x : Held). has_inferior x.accounts.nodes c.in-Ok.node.now.uid) (sym c.self.view_is) ∙ none in
+    let inferior = none (goal.at.returns-else-quota_of-eq0 c).After-is_err c.if-is_err.false in
     let apart : eqb c.quota_of.result 0 ≡ false = ne_eqb c.quota_of.result 0 c.if-quota_of-eq0.false in
     delete_told s c.args.self.now.accounts.nodes c.args.path.now h.nodes
     (as_term (quota_in c.args.self.now.accounts.nodes) c.in-Ok.node.now) false

@@ -40,9 +40,8 @@ returns-then-is_directory c = λ p s h few effect.
 
 pub returns-else-is_directory : goal.returns-else-is_directory
 returns-else-is_directory c = λ p s h few effect.
-    let d : Node = as_term (quota_in c.args.self.now.accounts.nodes) c.in-Ok.node.now in
-    let found = ap (λ (ns : List Node). node_at ns c.in-Some.above) h.nodes ∙ c.in-Ok.ensures.ok in
     let asked = make_asked p s c.args.path.now c.in-Some.above c.in-Some.name.now c.args.volume c.args.dir
-    c.in-Some.ensures.parts d found effect in
+    c.in-Some.ensures.parts (as_term (quota_in c.args.self.now.accounts.nodes) c.in-Ok.node.now)
+    (ap (λ (ns : List Node). node_at ns c.in-Some.above) h.nodes ∙ c.in-Ok.ensures.ok) effect in
     let clash : true ≡ false = sym asked.0 ∙ c.if-is_directory.false in
     cc

@@ -1,14 +1,13 @@
-use Rattle.std.proofs.Common.{◌≡◌, ◌<◌, ◌/◌, ℕ, true, Some, List, sym, ap, subst, arith, ◌∙◌}
+use Rattle.std.proofs.Common.{◌≡◌, ◌<◌, ◌/◌, ℕ, true, Some, sym, ap, subst, arith, ◌∙◌}
 use Rattle.script.specs.Plans.{Plan}
 use Rattle.tree_model.specs.Tree.{Node, node_in, quota_in}
-use Rattle.tree_model.specs.Trees.{has_segment}
 use Rattle.dir_tree.specs.Nodes.{as_term}
 use Rattle.flat_model.specs.Commands.{takes_effect}
 use Rattle.script.specs.References.{new_word}
 use Rattle.flat_model.specs.References.{reply_at, written, written_by}
 use Rattle.flat_model.specs.Store.{Store}
-use Rattle.flat_store.specs.Shown.{AreFlat, Held, Holds, may_write, pages_in}
-use Rattle.flat_store.proofs.NodeLaws.{has_pages, pages_found}
+use Rattle.flat_store.specs.Shown.{Held, Holds, may_write, pages_in}
+use Rattle.flat_store.proofs.NodeLaws.{pages_held, pages_found}
 use Rattle.flat_store.proofs.OkLaws.{on_ok}
 use Rattle.flat_store.proofs.ReferLaws.{may_refer, refer_shown}
 use Rattle.flat_store.proofs.ReplyLaws.{node_shown}
@@ -16,13 +15,9 @@ use Rattle.flat_store.proofs.holdings.Holdings.refer.Goals as goal
 
 pub write-requires-clause-segment : goal.write-requires-clause-segment
 write-requires-clause-segment c =
-    let h = c.self.invariant in
-    ap (λ (x : Held). has_segment x.accounts.nodes c.args.uid) (sym c.self.view_is)
-    ∙ has_pages c.self.inside.accounts.nodes c.args.uid
-    (as_term (quota_in c.self.inside.accounts.nodes) c.in-Some.node.now) c.in-Some.node.now.dir
-    c.in-Some.ensures.some
-    c.in-Some.ensures.directory c.in-Some.ensures.segment (subst (λ (ns : List Node). AreFlat ns) h.2.nodes h.2.flat)
-    (omega (arith, c.if-offset-node.false))
+    pages_held c.self.invariant.0 c.self.invariant.1 c.self.invariant.2 (sym c.self.view_is) c.args.uid
+    (as_term (quota_in c.self.inside.accounts.nodes) c.in-Some.node.now) c.in-Some.node.now.dir c.in-Some.ensures.some
+    c.in-Some.ensures.directory c.in-Some.ensures.segment (omega (arith, c.if-offset-node.false))
 
 pub write-requires-clause-within : goal.write-requires-clause-within
 write-requires-clause-within c =

@@ -1,26 +1,21 @@
 use Rattle.flat_store.proofs.ReplyLaws.{within, node_shown}
 use Rattle.flat_model.proofs.NodeLaws.{uid_found}
-use Rattle.flat_store.proofs.NodeLaws.{has_pages}
+use Rattle.flat_store.proofs.NodeLaws.{pages_held}
 use Rattle.flat_store.proofs.holdings.Holdings.reply_at.Goals as goal
-use Rattle.std.proofs.Common.{ap, sym, subst, ◌∙◌, List, refl, arith}
+use Rattle.std.proofs.Common.{ap, sym, ◌∙◌, refl, arith}
 use Rattle.mnames.specs.declared.modes.Mode.{Mode}
 use Rattle.tree_model.specs.Tree.{Node, quota_in}
-use Rattle.tree_model.specs.Trees.{has_segment}
 use Rattle.tree_model.specs.Access.{access_of}
 use Rattle.mnames.specs.declared.principals.Who.{Who}
 use Rattle.script.specs.References.{permits}
 use Rattle.dir_tree.specs.Nodes.{as_term}
-use Rattle.flat_store.specs.Shown.{Held, AreFlat}
+use Rattle.flat_store.specs.Shown.{Held}
 
 pub page_reply-requires : goal.page_reply-requires
 page_reply-requires c =
-    let h = c.self.invariant in
-    ap (λ (x : Held). has_segment x.accounts.nodes c.args.uid) (sym c.self.view_is)
-    ∙ has_pages c.self.inside.accounts.nodes c.args.uid
-    (as_term (quota_in c.self.inside.accounts.nodes) c.in-Some.node.now) c.in-Some.node.now.dir
-    c.in-Some.ensures.some
-    c.in-Some.ensures.directory c.in-Some.ensures.segment (subst (λ (ns : List Node). AreFlat ns) h.2.nodes h.2.flat)
-    (omega (arith, c.if-offset-node.false))
+    pages_held c.self.invariant.0 c.self.invariant.1 c.self.invariant.2 (sym c.self.view_is) c.args.uid
+    (as_term (quota_in c.self.inside.accounts.nodes) c.in-Some.node.now) c.in-Some.node.now.dir c.in-Some.ensures.some
+    c.in-Some.ensures.directory c.in-Some.ensures.segment (omega (arith, c.if-offset-node.false))
 
 pub returns : goal.returns
 returns c = λ p s k h who.

@@ -25,9 +25,8 @@ returns-then-node c = λ p s h.
 
 pub returns-else-node : goal.returns-else-node
 returns-else-node c = λ p s h.
-    let same : c.self.inside.accounts ≡ c.args.self.now.accounts = ap (λ (x : Held). x.accounts) c.self.view_is in
-    let counts = subst (λ (a : AccountMaps). Counts a s.stored) (sym same) h.counts in
     status_segment s c.args.self.now.accounts.nodes c.args.path.now h.nodes
     (as_term (quota_in c.args.self.now.accounts.nodes) c.in-Ok.node.now)
     c.stored-stored.result
-    c.in-Ok.ensures.ok c.if-node.false (c.stored-stored.ensures.stored ∙ counts c.in-Ok.node.now.uid)
+    c.in-Ok.ensures.ok c.if-node.false (c.stored-stored.ensures.stored
+    ∙ subst (λ (x : Held). Counts x.accounts s.stored) (sym c.self.view_is) h.counts c.in-Ok.node.now.uid)
