@@ -2,7 +2,9 @@ pub mod BookLaws
 pub mod CountLaws
 pub mod CutLaws
 pub mod DropLaws
+pub mod FieldLaws
 pub mod NodeLaws
+pub mod NumberLaws
 pub mod PageLaws
 pub mod PlaceLaws
 pub mod QuotaLaws

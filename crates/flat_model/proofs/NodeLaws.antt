@@ -1,23 +1,17 @@
 -- What is read of a node that is there.
-use Rattle.std.proofs.Common.{◌≡◌, ℕ, eqb, List, [], ◌∷◌, Some, None, arith, refl, sym, ap, ◌∙◌, inl, inr}
+use Rattle.std.proofs.Common.{◌≡◌, ℕ, Bool, true, false, not, eqb, List, [], ◌∷◌, Some, None, arith, refl, sym, ap}
+use Rattle.std.proofs.Common.{◌∙◌, inl, inr}
 use Rattle.std.proofs.lemmas.Bool.{cases_Bool}
 use Rattle.std.proofs.lemmas.Bool.Decides.{nat_tests}
-use Rattle.tree_model.specs.Tree.{Node, node_in, volume_in}
+use Rattle.tree_model.specs.Tree.{Node, has_directory, node_in, volume_in}
+use Rattle.tree_model.specs.Trees.{has_segment}
+use Rattle.flat_model.proofs.FieldLaws.{field_found, field_none}
 
 pub volume_found : (ns : List Node) (u : ℕ) (n : Node) → node_in ns u ≡ Some n → n.volume ≡ volume_in ns u
-volume_found [] u n e = cc
-volume_found (m ∷ ns) u n e = elim (cases_Bool (eqb m.uid u)) [
-  | inl is ↦ (let z : Some m ≡ Some n = rw is at e in let same : m ≡ n = cc in
-      rw is (ap (λ (x : Node). x.volume) (sym same)))
-  | inr isnt ↦ rw isnt (volume_found ns u n (rw isnt at e))
-]
+volume_found ns u n = field_found (λ (xs : List Node). volume_in xs u) (λ (x : Node). x.volume) u (λ m xs. refl) ns n
 
 pub no_volume : (ns : List Node) (u : ℕ) → node_in ns u ≡ None → volume_in ns u ≡ 0
-no_volume [] u e = refl
-no_volume (m ∷ ns) u e = elim (cases_Bool (eqb m.uid u)) [
-  | inl is ↦ (let z : Some m ≡ None = rw is at e in cc)
-  | inr isnt ↦ rw isnt (no_volume ns u (rw isnt at e))
-]
+no_volume ns u = field_none (λ (xs : List Node). volume_in xs u) (λ (x : Node). x.volume) u (λ m xs. refl) ns
 
 pub uid_found : (ns : List Node) (u : ℕ) (n : Node) → node_in ns u ≡ Some n → n.uid ≡ u
 uid_found [] u n e = cc
@@ -27,3 +21,15 @@ uid_found (m ∷ ns) u n e = elim (cases_Bool (eqb m.uid u)) [
       ap (λ (x : Node). x.uid) (sym same) ∙ own)
   | inr isnt ↦ uid_found ns u n (rw isnt at e)
 ]
+
+-- a segment is no directory
+pub no_directory : (ns : List Node) (u : ℕ) → has_segment ns u ≡ true → has_directory ns u ≡ false
+no_directory [] u is = cc
+no_directory (n ∷ ns) u is = elim (cases_Bool (eqb n.uid u)) [
+  | inl here ↦ rw here (back n.directory (rw here at is))
+  | inr there ↦ rw there (no_directory ns u (rw there at is))
+]
+  where
+    back : (z : Bool) → not z ≡ true → z ≡ false
+    back true e = cc
+    back false e = refl

@@ -3,7 +3,7 @@ use Rattle.std.proofs.Common.{◌≡◌, ◌≢◌, ℕ, ◌+◌, ◌/◌, ◌||
 use Rattle.std.proofs.Common.{Some, None, Ok, Err, refl, sym, ap, ◌∙◌, arith, inl, inr}
 use Rattle.std.specs.Prelude.{count_by, nat_le}
 use Rattle.std.specs.List.{list_any}
-use Rattle.std.proofs.lemmas.Bool.{cases_Bool, ne_eqb}
+use Rattle.std.proofs.lemmas.Bool.{cases_Bool}
 use Rattle.std.proofs.lemmas.Bool.Decides.{nat_tests}
 use Rattle.std.proofs.lemmas.List.Sums.{sum_by-cons}
 use Rattle.book.specs.declared.replies.Reply.{Reply}
@@ -16,18 +16,13 @@ use Rattle.flat_model.specs.Cuts.{without_branch, without_pages}
 use Rattle.flat_model.specs.Making.{after_delete, delete_reply, deleted}
 use Rattle.flat_model.specs.Pages.{Words, is_page, is_stored, without_stored}
 use Rattle.flat_model.specs.Store.{Store}
+use Rattle.flat_model.proofs.FieldLaws.{field_left}
 use Rattle.flat_model.proofs.TreeReplies.{not_first}
 
 -- ---- what is left of the nodes
 
 pub node_left : (ns : List Node) (u v : ℕ) → v ≢ u → node_in (without_node ns u) v ≡ node_in ns v
-node_left [] u v apart = refl
-node_left (n ∷ ns) u v apart = elim (cases_Bool (eqb n.uid u)) [
-  | inl here ↦ (let is : n.uid ≡ u = grind (arith, nat_tests) in
-      let other : eqb n.uid v ≡ false = ne_eqb n.uid v (omega (arith, is, apart)) in
-      rw (here, other) (node_left ns u v apart))
-  | inr there ↦ rw there (ap (cond (eqb n.uid v) (Some n)) (node_left ns u v apart))
-]
+node_left ns u v = field_left (λ (xs : List Node). node_in xs v) (λ (x : Node). Some x) v (λ m xs. refl) ns u
 
 pub node_gone : (ns : List Node) (u : ℕ) → node_in (without_node ns u) u ≡ None
 node_gone [] u = refl
@@ -37,31 +32,15 @@ node_gone (n ∷ ns) u = elim (cases_Bool (eqb n.uid u)) [
 ]
 
 pub segment_left : (ns : List Node) (u v : ℕ) → v ≢ u → has_segment (without_node ns u) v ≡ has_segment ns v
-segment_left [] u v apart = refl
-segment_left (n ∷ ns) u v apart = elim (cases_Bool (eqb n.uid u)) [
-  | inl here ↦ (let is : n.uid ≡ u = grind (arith, nat_tests) in
-      let other : eqb n.uid v ≡ false = ne_eqb n.uid v (omega (arith, is, apart)) in
-      rw (here, other) (segment_left ns u v apart))
-  | inr there ↦ rw there (ap (cond (eqb n.uid v) (not n.directory)) (segment_left ns u v apart))
-]
+segment_left ns u v = field_left (λ (xs : List Node). has_segment xs v) (λ (x : Node). not x.directory) v
+    (λ m xs. refl) ns u
 
 pub volume_left : (ns : List Node) (u v : ℕ) → v ≢ u → volume_in (without_node ns u) v ≡ volume_in ns v
-volume_left [] u v apart = refl
-volume_left (n ∷ ns) u v apart = elim (cases_Bool (eqb n.uid u)) [
-  | inl here ↦ (let is : n.uid ≡ u = grind (arith, nat_tests) in
-      let other : eqb n.uid v ≡ false = ne_eqb n.uid v (omega (arith, is, apart)) in
-      rw (here, other) (volume_left ns u v apart))
-  | inr there ↦ rw there (ap (cond (eqb n.uid v) n.volume) (volume_left ns u v apart))
-]
+volume_left ns u v = field_left (λ (xs : List Node). volume_in xs v) (λ (x : Node). x.volume) v (λ m xs. refl) ns u
 
 pub directory_left : (ns : List Node) (u v : ℕ) → v ≢ u → has_directory (without_node ns u) v ≡ has_directory ns v
-directory_left [] u v apart = refl
-directory_left (n ∷ ns) u v apart = elim (cases_Bool (eqb n.uid u)) [
-  | inl here ↦ (let is : n.uid ≡ u = grind (arith, nat_tests) in
-      let other : eqb n.uid v ≡ false = ne_eqb n.uid v (omega (arith, is, apart)) in
-      rw (here, other) (directory_left ns u v apart))
-  | inr there ↦ rw there (ap (cond (eqb n.uid v) n.directory) (directory_left ns u v apart))
-]
+directory_left ns u v = field_left (λ (xs : List Node). has_directory xs v) (λ (x : Node). x.directory) v
+    (λ m xs. refl) ns u
 
 pub directory_gone : (ns : List Node) (u : ℕ) → has_directory (without_node ns u) u ≡ false
 directory_gone [] u = refl

@@ -4,7 +4,6 @@ use Rattle.std.proofs.Common.{refl, sym, ap, subst, ◌∙◌, arith, inl, inr}
 use Rattle.std.specs.Prelude.{count_by, nat_le}
 use Rattle.std.proofs.lemmas.Bool.{cases_Bool, cases_eq}
 use Rattle.std.proofs.lemmas.Bool.Decides.{nat_tests}
-use Rattle.std.proofs.lemmas.List.Sums.{sum_by-cons}
 use Rattle.accounts.specs.Maps.{Changes, rows_in}
 use Rattle.script.specs.Plans.{Plan}
 use Rattle.tree_model.specs.Access.{Row}
@@ -13,6 +12,8 @@ use Rattle.tree_model.specs.Tree.{Node, entries_on, has_directory, node_in, take
 use Rattle.tree_model.specs.Trees.{has_segment}
 use Rattle.flat_model.specs.Pages.{is_stored, is_stored_from}
 use Rattle.flat_model.specs.Store.{Store, records_of, entries_of}
+use Rattle.flat_model.proofs.FieldLaws.{entries_mapped, field_mapped}
+use Rattle.flat_model.proofs.NodeLaws.{no_directory}
 use Rattle.flat_model.proofs.PageLaws.{stored_from}
 use Rattle.flat_store.specs.Shown.{AreFlat, AreInside, Held, Holds, pages_in}
 
@@ -31,38 +32,29 @@ pub record AreAlike (ns ms : List Node) : Type 0 where
 
 module _ (f : Node → Node) (keeps : Keeps f) where
   volume_map : (ns : List Node) (u : ℕ) → volume_in (map f ns) u ≡ volume_in ns u
-  volume_map [] u = refl
-  volume_map (n ∷ ns) u = rw (keeps.uid n, keeps.volume n) (ap (cond (eqb n.uid u) n.volume) (volume_map ns u))
+  volume_map ns u = field_mapped (λ (xs : List Node). volume_in xs u) (λ (x : Node). x.volume) u (λ m xs. refl) f
+      keeps.uid keeps.volume ns
 
   segment_map : (ns : List Node) (u : ℕ) → has_segment (map f ns) u ≡ has_segment ns u
-  segment_map [] u = refl
-  segment_map (n ∷ ns) u = rw (keeps.uid n, keeps.kind n) (ap (cond (eqb n.uid u) (not n.directory)) (segment_map ns u))
+  segment_map ns u = field_mapped (λ (xs : List Node). has_segment xs u) (λ (x : Node). not x.directory) u
+      (λ m xs. refl) f keeps.uid (λ n. ap not (keeps.kind n)) ns
 
   directory_map : (ns : List Node) (u : ℕ) → has_directory (map f ns) u ≡ has_directory ns u
-  directory_map [] u = refl
-  directory_map (n ∷ ns) u = rw (keeps.uid n, keeps.kind n) (ap (cond (eqb n.uid u) n.directory) (directory_map ns u))
-
-  entries_map : (ns : List Node) (v : ℕ) → entries_on (map f ns) v ≡ entries_on ns v
-  unfolding entries_on
-  entries_map [] v = refl
-  entries_map (n ∷ ns) v =
-      sum_by-cons (λ (x : Node). cond (eqb x.volume v) 1 0) (f n) (map f ns)
-      ∙ ap (λ (x : ℕ). cond {A = ℕ} (eqb x v) 1 0 + count_by (λ y. eqb y.volume v) (map f ns)) (keeps.volume n)
-      ∙ ap (λ (x : ℕ). cond {A = ℕ} (eqb n.volume v) 1 0 + x) (entries_map ns v)
-      ∙ sym (sum_by-cons (λ (x : Node). cond (eqb x.volume v) 1 0) n ns)
+  directory_map ns u = field_mapped (λ (xs : List Node). has_directory xs u) (λ (x : Node). x.directory) u
+      (λ m xs. refl) f keeps.uid keeps.kind ns
 
   pub alike_map : (ns : List Node) → AreAlike ns (map f ns)
   alike_map ns = record {
     volume = volume_map ns;
     segment = segment_map ns;
     directory = directory_map ns;
-    entries = entries_map ns;
+    entries = entries_mapped f keeps.volume ns;
   }
 
   pub pages_map : ((n : Node) → (f n).pages ≡ n.pages) → (ns : List Node) (u : ℕ)
       → pages_in (map f ns) u ≡ pages_in ns u
-  pages_map same [] u = refl
-  pages_map same (n ∷ ns) u = rw (keeps.uid n, same n) (ap (cond (eqb n.uid u) n.pages) (pages_map same ns u))
+  pages_map same ns u = field_mapped (λ (xs : List Node). pages_in xs u) (λ (x : Node). x.pages) u (λ m xs. refl) f
+      keeps.uid same ns
 
 -- a change of one node
 pub keeps_one : (u : ℕ) (change : Node → Node) → Keeps change → Keeps (λ n. cond (eqb n.uid u) (change n) n)
@@ -188,17 +180,6 @@ length_other (n ∷ ns) u pages v apart = elim (cases_Bool (eqb n.uid u)) [
       rw (here, other) (length_other ns u pages v apart))
   | inr there ↦ rw there (ap (cond (eqb n.uid v) n.pages) (length_other ns u pages v apart))
 ]
-
-no_directory : (ns : List Node) (u : ℕ) → has_segment ns u ≡ true → has_directory ns u ≡ false
-no_directory [] u is = cc
-no_directory (n ∷ ns) u is = elim (cases_Bool (eqb n.uid u)) [
-  | inl here ↦ rw here (back n.directory (rw here at is))
-  | inr there ↦ rw there (no_directory ns u (rw there at is))
-]
-  where
-    back : (z : Bool) → not z ≡ true → z ≡ false
-    back true e = cc
-    back false e = refl
 
 pub length_inside : (ns : List Node) (xs : List (ℕ × ℕ)) (u pages : ℕ) → has_segment ns u ≡ true
     → is_stored_from xs u pages ≡ false → AreInside ns xs

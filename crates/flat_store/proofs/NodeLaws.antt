@@ -1,27 +1,18 @@
 -- What is read of a node that is there.
-use Rattle.std.proofs.Common.{◌≡◌, ℕ, Bool, true, false, eqb, List, [], ◌∷◌, Some, None, not, ◌<◌, arith, refl, sym, ap}
-use Rattle.std.proofs.Common.{◌∙◌, inl, inr, subst}
-use Rattle.std.proofs.lemmas.Bool.{cases_Bool}
+use Rattle.std.proofs.Common.{◌≡◌, ℕ, Bool, true, false, List, Some, None, not, ◌<◌, arith, refl, ap}
+use Rattle.std.proofs.Common.{◌∙◌, subst}
 use Rattle.script.specs.Plans.{Plan}
 use Rattle.tree_model.specs.Tree.{Node, has_directory, node_in}
 use Rattle.tree_model.specs.Trees.{has_segment}
 use Rattle.flat_model.specs.Store.{Store}
+use Rattle.flat_model.proofs.FieldLaws.{field_found, field_none}
 use Rattle.flat_store.specs.Shown.{AreFlat, Held, Holds, pages_in}
 
 pub pages_found : (ns : List Node) (u : ℕ) (n : Node) → node_in ns u ≡ Some n → n.pages ≡ pages_in ns u
-pages_found [] u n e = cc
-pages_found (m ∷ ns) u n e = elim (cases_Bool (eqb m.uid u)) [
-  | inl is ↦ (let z : Some m ≡ Some n = rw is at e in let same : m ≡ n = cc in
-      rw is (ap (λ (x : Node). x.pages) (sym same)))
-  | inr isnt ↦ rw isnt (pages_found ns u n (rw isnt at e))
-]
+pages_found ns u n = field_found (λ (xs : List Node). pages_in xs u) (λ (x : Node). x.pages) u (λ m xs. refl) ns n
 
 pub no_pages : (ns : List Node) (u : ℕ) → node_in ns u ≡ None → pages_in ns u ≡ 0
-no_pages [] u e = refl
-no_pages (m ∷ ns) u e = elim (cases_Bool (eqb m.uid u)) [
-  | inl is ↦ (let z : Some m ≡ None = rw is at e in cc)
-  | inr isnt ↦ rw isnt (no_pages ns u (rw isnt at e))
-]
+no_pages ns u = field_none (λ (xs : List Node). pages_in xs u) (λ (x : Node). x.pages) u (λ m xs. refl) ns
 
 -- a node with pages is a segment
 pub has_pages : (ns : List Node) (u : ℕ) (n : Node) (dir : Bool) → node_in ns u ≡ Some n → has_directory ns u ≡ dir

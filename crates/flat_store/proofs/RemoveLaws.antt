@@ -1,8 +1,8 @@
 -- A directory or a segment is deleted.
-use Rattle.std.proofs.Common.{◌≡◌, ◌≢◌, ℕ, ◌<◌, Bool, true, false, cond, eqb, not, ◌&&◌, List, [], ◌∷◌}
+use Rattle.std.proofs.Common.{◌≡◌, ◌≢◌, ℕ, ◌<◌, Bool, true, false, eqb, not, ◌&&◌, List}
 use Rattle.std.proofs.Common.{set, Option, Some, None, is_some, refl, sym, ap, subst, ◌∙◌, arith, inl, inr}
 use Rattle.std.specs.Prelude.{nat_le}
-use Rattle.std.proofs.lemmas.Bool.{cases_Bool, cases_eq, ne_eqb}
+use Rattle.std.proofs.lemmas.Bool.{cases_eq}
 use Rattle.std.proofs.lemmas.Bool.Decides.{nat_tests}
 use Rattle.accounts.specs.Maps.{count_of, Loses}
 use Rattle.script.specs.Plans.{Plan}
@@ -15,6 +15,7 @@ use Rattle.flat_model.proofs.PageLaws.{is_stored-without}
 use Rattle.flat_store.specs.Shown.{AreFlat, AreInside, Gauge, gauge_at, drained, Held, Holds, page_at, pages_in}
 use Rattle.flat_model.specs.Cuts.{without_pages}
 use Rattle.flat_store.proofs.GaugeLaws.{counts_less}
+use Rattle.flat_model.proofs.FieldLaws.{field_left}
 use Rattle.flat_model.proofs.NodeLaws.{volume_found}
 use Rattle.flat_model.proofs.RemoveLaws.{directory_gone, directory_left, none_counted, segment_left, taken_left}
 use Rattle.flat_model.proofs.TreeLaws.{entries_less}
@@ -22,13 +23,7 @@ use Rattle.flat_model.proofs.TreeLaws.{entries_less}
 -- ---- what is left of the nodes
 
 pages_left : (ns : List Node) (u v : ℕ) → v ≢ u → pages_in (without_node ns u) v ≡ pages_in ns v
-pages_left [] u v apart = refl
-pages_left (n ∷ ns) u v apart = elim (cases_Bool (eqb n.uid u)) [
-  | inl here ↦ (let is : n.uid ≡ u = grind (arith, nat_tests) in
-      let other : eqb n.uid v ≡ false = ne_eqb n.uid v (omega (arith, is, apart)) in
-      rw (here, other) (pages_left ns u v apart))
-  | inr there ↦ rw there (ap (cond (eqb n.uid v) n.pages) (pages_left ns u v apart))
-]
+pages_left ns u v = field_left (λ (xs : List Node). pages_in xs v) (λ (x : Node). x.pages) v (λ m xs. refl) ns u
 
 -- a stored page is of another segment
 stored_apart : (xs : List (ℕ × ℕ)) (u v q : ℕ) → ((page : ℕ) → is_stored xs u page ≡ false) → is_stored xs v q ≡ true

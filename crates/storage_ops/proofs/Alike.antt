@@ -2,7 +2,6 @@
 use Rattle.std.proofs.Common.{◌≡◌, ℕ, ◌+◌, ◌-◌, ◌<◌, ◌≤◌, Bool, true, false, cond, eqb, ◌&&◌, List, [], ◌∷◌, map}
 use Rattle.std.proofs.Common.{replicate, Option, Some, None, is_some, refl, sym, ap, subst, ◌∙◌}
 use Rattle.std.specs.Prelude.{count_by}
-use Rattle.std.proofs.lemmas.List.Sums.{sum_by-cons}
 use Rattle.mnames.specs.declared.modes.Mode.{Mode}
 use Rattle.mnames.specs.declared.principals.Who.{Who}
 use Rattle.accounts.specs.Maps.{AccountMaps, Changes, count_of, entry_of}
@@ -10,6 +9,7 @@ use Rattle.quota_cells.specs.Accounts.{look}
 use Rattle.tree_model.specs.Access.{Row, access_of}
 use Rattle.tree_model.specs.Quotas.{with_quota_of}
 use Rattle.tree_model.specs.Tree.{Node, entries_on, has_directory, node_in, pool_of, taken_on, volume_in}
+use Rattle.flat_model.proofs.FieldLaws.{entries_mapped, field_mapped}
 use Rattle.descriptor_seg.specs.declared.Sdw.TheVariants.{Present}
 use Rattle.descriptor_seg.specs.Descriptors.{sdw_at}
 use Rattle.vtoc.specs.Vtoc.{Entry as VtocEntry}
@@ -55,21 +55,12 @@ module _ (f : Node → Node) (keeps : Keeps f) where
       ∙ ap (cond (eqb n.uid u) (Some (f n))) (node_map ns u) ∙ map_cond f (eqb n.uid u) n (node_in ns u)
 
   pub volume_map : (ns : List Node) (u : ℕ) → volume_in (map f ns) u ≡ volume_in ns u
-  volume_map [] u = refl
-  volume_map (n ∷ ns) u = rw (keeps.uid n, keeps.volume n) (ap (cond (eqb n.uid u) n.volume) (volume_map ns u))
+  volume_map ns u = field_mapped (λ (xs : List Node). volume_in xs u) (λ (x : Node). x.volume) u (λ m xs. refl) f
+      keeps.uid keeps.volume ns
 
   directory_map : (ns : List Node) (u : ℕ) → has_directory (map f ns) u ≡ has_directory ns u
-  directory_map [] u = refl
-  directory_map (n ∷ ns) u = rw (keeps.uid n, keeps.kind n) (ap (cond (eqb n.uid u) n.directory) (directory_map ns u))
-
-  entries_map : (ns : List Node) (v : ℕ) → entries_on (map f ns) v ≡ entries_on ns v
-  unfolding entries_on
-  entries_map [] v = refl
-  entries_map (n ∷ ns) v =
-      sum_by-cons (λ (x : Node). cond (eqb x.volume v) 1 0) (f n) (map f ns)
-      ∙ ap (λ (x : ℕ). cond {A = ℕ} (eqb x v) 1 0 + count_by (λ y. eqb y.volume v) (map f ns)) (keeps.volume n)
-      ∙ ap (λ (x : ℕ). cond {A = ℕ} (eqb n.volume v) 1 0 + x) (entries_map ns v)
-      ∙ sym (sum_by-cons (λ (x : Node). cond (eqb x.volume v) 1 0) n ns)
+  directory_map ns u = field_mapped (λ (xs : List Node). has_directory xs u) (λ (x : Node). x.directory) u
+      (λ m xs. refl) f keeps.uid keeps.kind ns
 
   uids_map : (ns : List Node) → map (λ n. n.uid) (map f ns) ≡ map (λ n. n.uid) ns
   uids_map [] = refl
@@ -92,7 +83,7 @@ module _ (f : Node → Node) (keeps : Keeps f) where
         (ap (λ (ns : List Node). map (λ n. n.uid) ns) c.nodes ∙ uids_map a.nodes));
     kinds = λ u. ap (λ (ns : List Node). has_directory ns u) c.nodes ∙ directory_map a.nodes u;
     counts = c.counts;
-    entries = λ v. ap (λ (ns : List Node). entries_on ns v) c.nodes ∙ entries_map a.nodes v;
+    entries = λ v. ap (λ (ns : List Node). entries_on ns v) c.nodes ∙ entries_mapped f keeps.volume a.nodes v;
   }
 
 -- ---- what is true of such trees

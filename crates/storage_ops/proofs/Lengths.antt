@@ -1,5 +1,5 @@
 -- Stored pages from one on, and the length of a segment.
-use Rattle.std.proofs.Common.{◌≡◌, ◌≢◌, ℕ, ◌<◌, ◌≤◌, Bool, true, false, cond, eqb, not, ◌&&◌, List, [], ◌∷◌}
+use Rattle.std.proofs.Common.{◌≡◌, ◌≢◌, ℕ, ◌<◌, ◌≤◌, Bool, true, false, cond, eqb, ◌&&◌, List}
 use Rattle.std.proofs.Common.{Option, Some, None, Ok, is_some}
 use Rattle.std.proofs.Common.{refl, sym, ap, subst, ◌∙◌, arith, inl, inr}
 use Rattle.std.specs.Prelude.{nat_le}
@@ -31,7 +31,7 @@ use Rattle.storage_ops.proofs.Alike.{map_node}
 use Rattle.storage_ops.proofs.Alike.{node_map, rights_alike, taken_alike}
 use Rattle.storage_ops.proofs.Changed.{shown_changed}
 use Rattle.storage_ops.proofs.Held.{tree_held}
-use Rattle.flat_model.proofs.NodeLaws.{uid_found}
+use Rattle.flat_model.proofs.NodeLaws.{no_directory, uid_found}
 use Rattle.flat_model.proofs.TreeReplies.{length_told}
 
 -- whether a page is filed, of a node that is there
@@ -93,17 +93,6 @@ length_change u pages n = cond (eqb n.uid u) (record n { pages = pages }) n
 
 keeps_change : (u pages : ℕ) → Keeps (length_change u pages)
 keeps_change u pages = keeps_one u (λ n. record n { pages = pages }) (keeps_length pages)
-
-no_directory : (ns : List Node) (u : ℕ) → has_segment ns u ≡ true → has_directory ns u ≡ false
-no_directory [] u is = cc
-no_directory (n ∷ ns) u is = elim (cases_Bool (eqb n.uid u)) [
-  | inl here ↦ rw here (back n.directory (rw here at is))
-  | inr there ↦ rw there (no_directory ns u (rw there at is))
-]
-  where
-    back : (z : Bool) → not z ≡ true → z ≡ false
-    back true e = cc
-    back false e = refl
 
 -- a change of one node leaves those of other uids
 other_same : (u pages : ℕ) (n : Node) → n.uid ≢ u → length_change u pages n ≡ n

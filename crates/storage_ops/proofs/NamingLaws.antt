@@ -1,11 +1,9 @@
 -- What a process knows by numbers, and whether there is a number for one segment more.
-use Rattle.std.proofs.Common.{◌≡◌, ◌↔◌, ℕ, zero, suc, ◌+◌, ◌<◌, ◌≤◌, Bool, true, false, cond, ltb, not, List, [], ◌∷◌}
+use Rattle.std.proofs.Common.{◌≡◌, ◌↔◌, ℕ, zero, suc, ◌+◌, ◌<◌, ◌≤◌, Bool, true, false, cond, List, [], ◌∷◌}
 use Rattle.std.proofs.Common.{length, Option, Some, None, Ok, Err, get_or, is_some, is_none, IsTrue, refl, sym, ap}
 use Rattle.std.proofs.Common.{◌∙◌, arith}
 use Rattle.std.specs.Prelude.{count_by}
-use Rattle.std.specs.List.{position_or_len}
-use Rattle.std.proofs.lemmas.Bool.{ltb-false, not-true}
-use Rattle.std.proofs.lemmas.List.Sums.{prefix_len_passes, sum_by-cons}
+use Rattle.std.proofs.lemmas.List.Sums.{sum_by-cons}
 use Rattle.std.proofs.lemmas.List.Quantifiers.{position-Some}
 use Rattle.known_segs.specs.Known.{first_of_two, known_count, least_free, number_for, number_of, uid_of}
 use Rattle.book.specs.declared.replies.Reply.{Reply}
@@ -14,20 +12,11 @@ use Rattle.tree_model.specs.Tree.{Node}
 use Rattle.flat_model.specs.Branches.{segment_at}
 use Rattle.flat_model.specs.Naming.{initiate_of, initiate_reply, known_or_full, terminate_reply}
 use Rattle.flat_model.specs.Store.{Store, numbers_of}
+use Rattle.flat_model.proofs.NumberLaws.{free_none}
 use Rattle.seg_control.specs.Control.{kst_at}
 use Rattle.storage_ops.specs.Shown.{refusal}
 
 -- ---- the least free number
-
-free_none : (kst : List (Option ℕ)) (k : ℕ) → least_free kst ≡ None → k < length kst → is_none (uid_of kst k) ≡ false
-free_none kst k e within = none_at (ltb (position_or_len is_none kst) (length kst)) refl e
-  where
-    none_at : (b : Bool) → ltb (position_or_len is_none kst) (length kst) ≡ b
-        → cond b (Some (position_or_len is_none kst)) None ≡ None
-        → is_none (uid_of kst k) ≡ false
-    none_at true is e2 = cc
-    none_at false is e2 = (let past : length kst ≤ position_or_len is_none kst = ltb-false _ _ is in
-        not-true _ (prefix_len_passes (λ x. not (is_none x)) kst k None (omega arith)))
 
 count_first : {X : Type 0} (o : Option X) (xs : List (Option X))
     → count_by is_some (o ∷ xs) ≡ cond {A = ℕ} (is_some o) 1 0 + count_by is_some xs

@@ -1,0 +1,60 @@
+-- What is read of the node that has a uid: it is found, and it stays where other nodes go and where changes keep it.
+use Rattle.std.proofs.Common.{◌≡◌, ◌≢◌, ℕ, ◌+◌, Bool, false, cond, eqb, List, [], ◌∷◌, map, Some, None}
+use Rattle.std.proofs.Common.{refl, sym, ap, ◌∙◌, arith, inl, inr}
+use Rattle.std.proofs.lemmas.Bool.{cases_Bool, ne_eqb}
+use Rattle.std.proofs.lemmas.Bool.Decides.{nat_tests}
+use Rattle.std.specs.Prelude.{count_by}
+use Rattle.std.proofs.lemmas.List.Sums.{sum_by-cons}
+use Rattle.tree_model.specs.Tree.{Node, entries_on, node_in, without_node}
+
+-- it reads a field of the first node that has the uid
+abbrev pub Reads : {X : Type 0} → (List Node → X) → (Node → X) → ℕ → Type 0
+Reads read field u = (n : Node) (ns : List Node) → read (n ∷ ns) ≡ cond (eqb n.uid u) (field n) (read ns)
+
+module _ {X : Type 0} (read : List Node → X) (field : Node → X) (u : ℕ) (reads : Reads read field u) where
+  here : (n : Node) (ns : List Node) (z : Bool) → eqb n.uid u ≡ z → read (n ∷ ns) ≡ cond z (field n) (read ns)
+  here n ns z is = reads n ns ∙ ap (λ (y : Bool). cond y (field n) (read ns)) is
+
+  pub field_found : (ns : List Node) (n : Node) → node_in ns u ≡ Some n → field n ≡ read ns
+  field_found [] n e = cc
+  field_found (m ∷ ns) n e = elim (cases_Bool (eqb m.uid u)) [
+    | inl is ↦ (let z : Some m ≡ Some n = rw is at e in let same : m ≡ n = cc in
+        ap field (sym same) ∙ sym (here m ns _ is))
+    | inr isnt ↦ field_found ns n (rw isnt at e) ∙ sym (here m ns _ isnt)
+  ]
+
+  pub field_none : (ns : List Node) → node_in ns u ≡ None → read ns ≡ read []
+  field_none [] e = refl
+  field_none (m ∷ ns) e = elim (cases_Bool (eqb m.uid u)) [
+    | inl is ↦ (let z : Some m ≡ None = rw is at e in cc)
+    | inr isnt ↦ here m ns _ isnt ∙ field_none ns (rw isnt at e)
+  ]
+
+  pub field_left : (ns : List Node) (v : ℕ) → u ≢ v → read (without_node ns v) ≡ read ns
+  field_left [] v apart = refl
+  field_left (n ∷ ns) v apart = elim (cases_Bool (eqb n.uid v)) [
+    | inl gone ↦ (let is : n.uid ≡ v = grind (arith, nat_tests) in
+        let other : eqb n.uid u ≡ false = ne_eqb n.uid u (omega (arith, is, apart)) in
+        rw gone (field_left ns v apart ∙ sym (here n ns _ other)))
+    | inr there ↦ rw there (reads n (without_node ns v)
+        ∙ ap (cond (eqb n.uid u) (field n)) (field_left ns v apart) ∙ sym (reads n ns))
+  ]
+
+  pub field_mapped : (change : Node → Node) → ((n : Node) → (change n).uid ≡ n.uid)
+      → ((n : Node) → field (change n) ≡ field n) → (ns : List Node) → read (map change ns) ≡ read ns
+  field_mapped change uid same [] = refl
+  field_mapped change uid same (n ∷ ns) = reads (change n) (map change ns)
+      ∙ ap (λ (x : ℕ). cond (eqb x u) (field (change n)) (read (map change ns))) (uid n)
+      ∙ ap (λ (x : X). cond (eqb n.uid u) x (read (map change ns))) (same n)
+      ∙ ap (cond (eqb n.uid u) (field n)) (field_mapped change uid same ns) ∙ sym (reads n ns)
+
+-- how many nodes lie on a volume, where each stays on its own
+pub entries_mapped : (change : Node → Node) → ((n : Node) → (change n).volume ≡ n.volume) → (ns : List Node) (v : ℕ)
+    → entries_on (map change ns) v ≡ entries_on ns v
+unfolding entries_on
+entries_mapped change volume [] v = refl
+entries_mapped change volume (n ∷ ns) v =
+    sum_by-cons (λ (x : Node). cond (eqb x.volume v) 1 0) (change n) (map change ns)
+    ∙ ap (λ (x : ℕ). cond {A = ℕ} (eqb x v) 1 0 + count_by (λ y. eqb y.volume v) (map change ns)) (volume n)
+    ∙ ap (λ (x : ℕ). cond {A = ℕ} (eqb n.volume v) 1 0 + x) (entries_mapped change volume ns v)
+    ∙ sym (sum_by-cons (λ (x : Node). cond (eqb x.volume v) 1 0) n ns)
