@@ -13,7 +13,11 @@ use Rattle.page_control.specs.Plain.{Plain, plain, vtoc_of, words_in}
 use Rattle.seg_control.specs.Control.{place_of, word_of}
 use Rattle.seg_control.specs.Effects.{worded}
 use Rattle.seg_control.specs.Kept.{IsInactive}
-use Rattle.storage_ops.specs.Shown.{Storage, home_of, pages_in}
+use Rattle.script.specs.Plans.{Plan}
+use Rattle.flat_model.specs.Cuts.{without_pages}
+use Rattle.flat_model.specs.Store.{Store as Flat}
+use Rattle.storage_ops.specs.Cut.{Unstores}
+use Rattle.storage_ops.specs.Shown.{Shows, Storage, home_of, pages_in}
 
 -- ---- a home is taken
 
@@ -100,3 +104,13 @@ pub record Erases {D : Type 0} (drive : D → List (List ℕ)) (old new : Storag
 -- no other segment has another count
 abbrev pub CountsOthers : AccountMaps → AccountMaps → ℕ → Type 0
 CountsOthers old new uid = (s : ℕ) → s ≢ uid → count_of new s ≡ count_of old s
+
+-- A page of an active segment is stored no more, in each flat store that is shown and in the tables. The accounts of
+-- all other segments count as before.
+pub record LosesPage {D : Type 0} (drive : D → List (List ℕ)) (old new : Storage D) (uid page : ℕ) : Type 0 where
+  pub rest : Unstores old new uid (λ q. q == page)
+  pub shown : (p : Plan) (s : Flat) → Shows drive p s old
+      → Shows drive p (without_pages s uid (λ q. q == page)) new
+  pub exact : paged drive new uid
+      ≡ page_cut (paged drive old uid) (home_of old.accounts uid) uid page (word_of old.segs.ast uid page)
+  pub others : CountsOthers old.accounts new.accounts uid

@@ -14,7 +14,7 @@ ghost use Rattle.flat_model.specs.Store.{Store as Flat};
 ghost use Rattle.storage_ops.specs.Shown.{Shows, answered, home_of, pages_in};
 ghost use Rattle.storage_ops.specs.Cut.{CutsPages, IsTakenFrom, IsTakenPast, IsTakenPastAt, KeepsRest};
 ghost use Rattle.storage_ops.specs.Cut.{Unstores, is_here, leaves};
-ghost use Rattle.storage_ops.specs.CutOff.{CountsOthers, cut_at, cut_by, is_cleared, page_cleared, page_cut};
+ghost use Rattle.storage_ops.specs.CutOff.{CountsOthers, LosesPage, cut_at, cut_by, is_cleared, page_cleared, page_cut};
 ghost use Rattle.storage_ops.specs.CutOff.{paged, pages_cut, pages_from};
 
 use crate::paths::segment_at;
@@ -70,12 +70,7 @@ impl<D: Drive> Store<D> {
         requires active { IsActive self.old.segs.ast.entries uid }
         requires away { is_away (word_of self.old.segs.ast uid page) ≡ true }
         requires idle { IsNotStarted self.old.segs.pages.core uid page }
-        ensures rest { Unstores self.old self.new uid (λ q. q == page) }
-        ensures shown { (p : Plan) (s : Flat) → Shows D.pages p s self.old
-            → Shows D.pages p (without_pages s uid (λ q. q == page)) self.new }
-        ensures exact { paged D.pages self.new uid ≡ page_cut (paged D.pages self.old uid)
-            (home_of self.old.accounts uid) uid page (word_of self.old.segs.ast uid page) }
-        ensures others { CountsOthers self.old.accounts self.new.accounts uid }
+        ensures { LosesPage D.pages self.old self.new uid page }
     {
         let _kept = self.segs.pages();
         self.segs.drop_page(uid, page, home);
@@ -88,12 +83,7 @@ impl<D: Drive> Store<D> {
         requires active { IsActive self.old.segs.ast.entries uid }
         requires taken { is_here (word_of self.old.segs.ast uid page) ≡ false }
         requires idle { IsNotStarted self.old.segs.pages.core uid page }
-        ensures rest { Unstores self.old self.new uid (λ q. q == page) }
-        ensures shown { (p : Plan) (s : Flat) → Shows D.pages p s self.old
-            → Shows D.pages p (without_pages s uid (λ q. q == page)) self.new }
-        ensures exact { paged D.pages self.new uid ≡ page_cut (paged D.pages self.old uid)
-            (home_of self.old.accounts uid) uid page (word_of self.old.segs.ast uid page) }
-        ensures others { CountsOthers self.old.accounts self.new.accounts uid }
+        ensures { LosesPage D.pages self.old self.new uid page }
     {
         let _kept = self.segs.pages();
         if is_away(word_of(self.segs.ast(), uid, page)) {

@@ -1,16 +1,15 @@
-use Rattle.std.proofs.Common.{◌≡◌, ◌-◌, eqb, refl, sym, ap, subst, ◌∙◌, inl, true}
+use Rattle.std.proofs.Common.{◌≡◌, ◌-◌, refl, sym, ap, subst, ◌∙◌, inl, true}
 use Rattle.active_segs.specs.Active.{ActiveSegs}
 use Rattle.page_control.specs.declared.Home.{Home}
 use Rattle.page_control.specs.Plain.{plain}
 use Rattle.page_control.specs.Tied.{is_away}
 use Rattle.seg_control.specs.Control.{Links, word_of}
 use Rattle.seg_control.specs.Kept.{IsHomeOf}
-use Rattle.storage_ops.specs.Cut.{Unstores}
-use Rattle.storage_ops.specs.Shown.{IsStore, Storage, home_of}
-use Rattle.storage_ops.proofs.Held.{active_held, held, home_held, shown_held, word_held}
+use Rattle.storage_ops.specs.Shown.{IsStore, Storage}
+use Rattle.storage_ops.proofs.Held.{active_held, held, home_held, word_held}
 use Rattle.storage_ops.proofs.PagesLess.{drop_done, may_drop, shown_dropped, unstores_one, MayDrop}
 use Rattle.storage_ops.proofs.Dropped.{store_dropped, HasDropped}
-use Rattle.storage_ops.specs.CutOff.{CountsOthers, page_cut, paged}
+use Rattle.storage_ops.specs.CutOff.{LosesPage}
 use Rattle.accounts.specs.Maps.{count_of}
 use Rattle.storage_ops.proofs.CutExactly.{dropped_exactly, other_counts}
 use Rattle.storage_ops.proofs.store.Store.drop_page.Given.{Over}
@@ -32,7 +31,7 @@ may g c = may_drop (plain g.D.Drive.pages c.self.inside.segs.pages) c.self.insid
 done : (g : Over) (c : After-credit g) → HasDropped (plain g.D.Drive.pages c.self.inside.segs.pages)
     (plain g.D.Drive.pages c.drop_page.new.self.pages) c.self.inside.accounts c.credit.new.self c.args.uid c.args.page
 done g c =
-    let before = may g (goal.at.returns-clause-shown g c).After-pages-kept in
+    let before = may g (goal.at.returns g c).After-pages-kept in
     drop_done (plain g.D.Drive.pages c.self.inside.segs.pages) (plain g.D.Drive.pages c.drop_page.new.self.pages)
     c.self.inside.accounts c.credit.new.self c.args.uid c.args.page c.args.home _
     (home_held c.self.view_is c.args.uid c.args.home c.requires.home) before.there before.filed
@@ -66,39 +65,22 @@ invariant_of-self g c =
     (ap (λ (x : ActiveSegs). x.entries) c.drop_page.ensures.word)
     (ap (λ (x : ActiveSegs). x.sizes) c.drop_page.ensures.word) c.self.invariant)
 
-pub returns-clause-rest : goal.returns-clause-rest
-returns-clause-rest g c =
+pub returns : goal.returns
+returns g c =
     let t = held c.self.view_is in
     let n = record t { accounts = c.credit.new.self; segs = c.drop_page.new.self } in
-    let kept = (goal.at.returns-clause-rest g c).After-pages-kept in
-    subst (λ (x : Storage g.row.D.Denot). Unstores x n c.args.uid (λ q. eqb q c.args.page)) c.self.view_is
-    (unstores_one g.D.Drive.pages t n c.args.uid c.args.page c.args.home
-    (active_held c.self.view_is c.args.uid c.requires.active) c.pages-kept.ensures.kept.places (may g kept)
-    (away g kept) c.credit.ensures c.drop_page.ensures.word c.drop_page.ensures.effect c.drop_page.ensures.reads
-    c.drop_page.ensures.links refl c.drop_page.ensures.drives)
-
-pub returns-clause-shown : goal.returns-clause-shown
-returns-clause-shown g c = λ p s h.
-    let t = held c.self.view_is in
-    let n = record t { accounts = c.credit.new.self; segs = c.drop_page.new.self } in
-    shown_dropped g.D.Drive.pages p s t n c.args.uid c.args.page (done g c) c.self.invariant.housed
-    (ap (λ (l : Links). l.known) c.drop_page.ensures.links) refl
-    (shown_held c.self.view_is g.D.Drive.pages p s h)
-
-pub returns-clause-exact : goal.returns-clause-exact
-returns-clause-exact g c =
-    let t = held c.self.view_is in
-    let n = record t { accounts = c.credit.new.self; segs = c.drop_page.new.self } in
-    subst (λ (x : Storage g.row.D.Denot). paged g.D.Drive.pages n c.args.uid ≡ page_cut
-    (paged g.D.Drive.pages x c.args.uid) (home_of x.accounts c.args.uid) c.args.uid c.args.page
-    (word_of x.segs.ast c.args.uid c.args.page)) c.self.view_is
-    (dropped_exactly g.D.Drive.pages t n c.args.uid c.args.page c.args.home
-    (home_held c.self.view_is c.args.uid c.args.home c.requires.home)
-    (away g (goal.at.returns-clause-exact g c).After-pages-kept) c.drop_page.ensures.effect
-    c.drop_page.ensures.word c.credit.ensures)
-
-pub returns-clause-others : goal.returns-clause-others
-returns-clause-others g c =
-    subst (λ (x : Storage g.row.D.Denot). CountsOthers x.accounts c.credit.new.self c.args.uid) c.self.view_is
-    (other_counts c.self.inside.accounts c.credit.new.self c.args.uid (count_of c.self.inside.accounts c.args.uid - 1)
-    c.credit.ensures)
+    let kept = (goal.at.returns g c).After-pages-kept in
+    subst (λ (x : Storage g.row.D.Denot). LosesPage g.D.Drive.pages x n c.args.uid c.args.page) c.self.view_is
+    (record {
+      rest = unstores_one g.D.Drive.pages t n c.args.uid c.args.page c.args.home
+          (active_held c.self.view_is c.args.uid c.requires.active) c.pages-kept.ensures.kept.places (may g kept)
+          (away g kept) c.credit.ensures c.drop_page.ensures.word c.drop_page.ensures.effect c.drop_page.ensures.reads
+          c.drop_page.ensures.links refl c.drop_page.ensures.drives;
+      shown = λ p s h. shown_dropped g.D.Drive.pages p s t n c.args.uid c.args.page (done g c)
+          c.self.invariant.housed (ap (λ (l : Links). l.known) c.drop_page.ensures.links) refl h;
+      exact = dropped_exactly g.D.Drive.pages t n c.args.uid c.args.page c.args.home
+          (home_held c.self.view_is c.args.uid c.args.home c.requires.home) (away g kept) c.drop_page.ensures.effect
+          c.drop_page.ensures.word c.credit.ensures;
+      others = other_counts c.self.inside.accounts c.credit.new.self c.args.uid
+          (count_of c.self.inside.accounts c.args.uid - 1) c.credit.ensures;
+    })
