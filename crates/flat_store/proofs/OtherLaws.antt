@@ -46,9 +46,15 @@ pub make_keeps : (s : Store) (path : List (List ℕ)) (volume : ℕ) (dir : Bool
 unfolding after_make
 make_keeps s path volume dir pages rows = parts_keep s volume dir pages rows (parts_of path)
 
+-- by the node that a path leads to, or what refuses it
+by_result : (s : Store) (after : Result Node Reply → Store) → ((n : Node) → KeepsOthers s (after (Ok n)))
+    → ((r : Reply) → KeepsOthers s (after (Err r))) → (found : Result Node Reply) → KeepsOthers s (after found)
+by_result s after ok err (Ok n) = ok n
+by_result s after ok err (Err r) = err r
+
 changed_keeps : (s : Store) (change : Node → Node) (r : Result Node Reply) → KeepsOthers s (changed s change r)
-changed_keeps s change (Ok n) = record { known = refl; processes = refl; next = omega arith }
-changed_keeps s change (Err r) = kept s
+changed_keeps s change = by_result s (changed s change)
+    (λ n. record { known = refl; processes = refl; next = omega arith }) (λ r. kept s)
 
 pub acl_keeps : (s : Store) (path : List (List ℕ)) (row : Named) (m : Mode) → KeepsOthers s (after_acl s path row m)
 unfolding after_acl
@@ -58,29 +64,20 @@ pub length_keeps : (s : Store) (path : List (List ℕ)) (pages : ℕ) → KeepsO
 unfolding after_length
 length_keeps s path pages = changed_keeps s _ (segment_at s.nodes path)
 
-truncated_keeps : (s : Store) (from : ℕ) (r : Result Node Reply) → KeepsOthers s (truncated s from r)
-truncated_keeps s from (Ok n) = record { known = refl; processes = refl; next = omega arith }
-truncated_keeps s from (Err r) = kept s
-
 pub truncate_keeps : (s : Store) (path : List (List ℕ)) (from : ℕ) → KeepsOthers s (after_truncate s path from)
 unfolding after_truncate
-truncate_keeps s path from = truncated_keeps s from (segment_at s.nodes path)
-
-deleted_keeps : (s : Store) (r : Result Node Reply) → KeepsOthers s (deleted s r)
-deleted_keeps s (Ok n) = record { known = refl; processes = refl; next = omega arith }
-deleted_keeps s (Err r) = kept s
+truncate_keeps s path from = by_result s (truncated s from)
+    (λ n. record { known = refl; processes = refl; next = omega arith }) (λ r. kept s) (segment_at s.nodes path)
 
 pub delete_keeps : (s : Store) (path : List (List ℕ)) → KeepsOthers s (after_delete s path)
 unfolding after_delete
-delete_keeps s path = deleted_keeps s (branch_at s.nodes path)
-
-moved_keeps : (s : Store) (amount : ℤ) (r : Result Node Reply) → KeepsOthers s (moved s amount r)
-moved_keeps s amount (Ok n) = record { known = refl; processes = refl; next = omega arith }
-moved_keeps s amount (Err r) = kept s
+delete_keeps s path = by_result s (deleted s) (λ n. record { known = refl; processes = refl; next = omega arith })
+    (λ r. kept s) (branch_at s.nodes path)
 
 pub move_keeps : (s : Store) (path : List (List ℕ)) (amount : ℤ) → KeepsOthers s (after_move s path amount)
 unfolding after_move
-move_keeps s path amount = moved_keeps s amount (directory_at s.nodes path)
+move_keeps s path amount = by_result s (moved s amount)
+    (λ n. record { known = refl; processes = refl; next = omega arith }) (λ r. kept s) (directory_at s.nodes path)
 
 pub written_keeps : (s : Store) (offset : ℕ) (how : RefKind) (o : Option ℕ) → KeepsOthers s (written_by s offset how o)
 written_keeps s offset how None = kept s
