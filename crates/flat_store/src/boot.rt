@@ -1,7 +1,6 @@
 ghost use Rattle.std.specs.Prelude.{◌≡◌, IfOk, None, map, replicate};
-ghost use Rattle.script.specs.Plans.{Plan};
 ghost use Rattle.flat_model.specs.Legal.{IsLegal, store_after};
-ghost use Rattle.flat_model.specs.Store.{Store, at_first, boot};
+ghost use Rattle.flat_model.specs.Store.{at_first, boot};
 ghost use Rattle.flat_store.specs.Shown.{Holds, Shows, entries_gauge, records_gauge};
 
 use crate::NoMemory;

@@ -1,7 +1,7 @@
-ghost use Rattle.std.specs.Prelude.{◌≡◌, ◌↔◌, ◌&&◌, ◌==◌, ℕ, not, IsTrue, Some, None};
+ghost use Rattle.std.specs.Prelude.{◌≡◌, ◌↔◌, ◌==◌, IsTrue, Some, None};
 ghost use Rattle.script.specs.Plans.{Plan, command_at};
 ghost use Rattle.flat_model.specs.Legal.{IsAnswer, IsLawful, IsLawfulDo, MayFault, have_ended};
-ghost use Rattle.flat_model.specs.Store.{Store, is_turn, progress_of};
+ghost use Rattle.flat_model.specs.Store.{Store, is_turn};
 ghost use Rattle.flat_store.specs.Shown.{Shows, progress_at};
 
 use crate::progress::Progress;

@@ -1,4 +1,4 @@
-ghost use Rattle.std.specs.Prelude.{◌≡◌, ◌/◌, ◌<◌, ℕ, is_some, IsSome, None};
+ghost use Rattle.std.specs.Prelude.{◌≡◌, ◌/◌, ◌<◌, is_some, IsSome, None};
 ghost use Rattle.script.specs.Plans.{Plan};
 ghost use Rattle.tree_model.specs.Tree.{entries_on, node_in, taken_on, used_by};
 ghost use Rattle.accounts.specs.Maps.{Counts};
@@ -8,7 +8,7 @@ ghost use Rattle.flat_model.specs.Pages.{is_stored, is_zero_page, without_words}
 ghost use Rattle.flat_model.specs.Store.{Store, known_uid, progress_of};
 ghost use Rattle.std.specs.Bool.{Decides};
 ghost use Rattle.flat_store.specs.Zeros.{HasZeroPage};
-ghost use Rattle.flat_store.specs.Shown.{Holds, Shows, numbers_at, pool_at, progress_at, superior_at, uid_at};
+ghost use Rattle.flat_store.specs.Shown.{Shows, pool_at, superior_at, uid_at};
 
 use crate::gauges::used_at;
 use crate::judging::{has_ended, place_of};

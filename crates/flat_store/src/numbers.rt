@@ -1,4 +1,4 @@
-ghost use Rattle.std.specs.Prelude.{◌≡◌, ◌<◌, ℕ, is_some, true, slice_set, slice_index_or, IfSome, IsSome};
+ghost use Rattle.std.specs.Prelude.{◌≡◌, ◌<◌, is_some, true, slice_set, IsSome};
 ghost use Rattle.known_segs.specs.Known.{least_free, number_for, uid_of, with_number, without_number};
 ghost use Rattle.flat_store.specs.Shown.{numbers_at};
 

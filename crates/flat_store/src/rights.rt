@@ -1,4 +1,4 @@
-ghost use Rattle.std.specs.Prelude.{◌≡◌, ◌<◌, true};
+ghost use Rattle.std.specs.Prelude.{◌≡◌, true};
 ghost use Rattle.script.specs.Plans.{Plan};
 ghost use Rattle.flat_model.specs.Commands.{takes_effect};
 ghost use Rattle.flat_model.specs.Rights.{acl_reply, after_acl, after_move, move_reply};

@@ -8,10 +8,10 @@ ghost use Rattle.flat_model.specs.Pages.{without_stored};
 ghost use Rattle.flat_model.specs.Naming.{initiate_reply, after_initiate, terminate_reply, after_terminate};
 ghost use Rattle.flat_model.specs.Rights.{move_reply, after_move};
 ghost use Rattle.flat_model.specs.References.{reply_to_reference, after_reference};
-ghost use Rattle.flat_model.specs.Store.{Store, is_turn, progress_of};
+ghost use Rattle.flat_model.specs.Store.{Store};
 ghost use Rattle.script.specs.Plans.{Plan};
 ghost use Rattle.script.specs.Forms.{IsPlan};
-ghost use Rattle.flat_store.specs.Shown.{IsShown, Shows, answered, numbers_at, progress_at};
+ghost use Rattle.flat_store.specs.Shown.{IsShown, Shows, answered};
 
 use crate::NoMemory;
 use crate::holdings::Holdings;

@@ -1,6 +1,6 @@
 //! Pages are stored no more, and segments are truncated.
 
-ghost use Rattle.std.specs.Prelude.{◌≡◌, ◌<◌, ◌≤◌, ◌/◌, ◌%◌, nat_le, true, false, ◌&&◌, ◌==◌, ℕ, Ok};
+ghost use Rattle.std.specs.Prelude.{◌≡◌, ◌<◌, ◌≤◌, ◌/◌, ◌%◌, nat_le, true, false, ◌&&◌, ◌==◌, Ok};
 ghost use Rattle.tree_model.specs.Tree.{Node};
 ghost use Rattle.flat_model.specs.Branches.{segment_at};
 ghost use Rattle.page_table.specs.declared.Ptw.TheVariants.{Null};
@@ -14,7 +14,7 @@ ghost use Rattle.flat_model.specs.Store.{Store as Flat};
 ghost use Rattle.storage_ops.specs.Shown.{Shows, answered, home_of, pages_in};
 ghost use Rattle.storage_ops.specs.Cut.{CutsPages, IsTakenFrom, IsTakenPast, IsTakenPastAt, KeepsRest};
 ghost use Rattle.storage_ops.specs.Cut.{Unstores, is_here, leaves};
-ghost use Rattle.storage_ops.specs.CutOff.{CountsOthers, LosesPage, cut_at, cut_by, is_cleared, page_cleared, page_cut};
+ghost use Rattle.storage_ops.specs.CutOff.{CountsOthers, LosesPage, cut_at, cut_by, is_cleared, page_cleared};
 ghost use Rattle.storage_ops.specs.CutOff.{paged, pages_cut, pages_from};
 
 use crate::paths::segment_at;

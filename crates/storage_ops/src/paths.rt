@@ -1,9 +1,8 @@
 //! What a path leads to.
 
 ghost use Rattle.std.specs.Prelude.{◌≡◌, ◌≢◌, true, not, Some, Ok, Err, IfOk, IfErr};
-ghost use Rattle.tree_model.specs.Tree.{has_directory, node_in, quota_in};
+ghost use Rattle.tree_model.specs.Tree.{has_directory};
 ghost use Rattle.tree_model.specs.Trees.{has_segment};
-ghost use Rattle.dir_tree.specs.Nodes.{as_term};
 ghost use Rattle.flat_model.specs.Branches.{branch_at, directory_at, node_at, segment_at};
 ghost use Rattle.storage_ops.specs.Shown.{IsFound, IsThere};
 

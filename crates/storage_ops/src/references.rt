@@ -1,14 +1,14 @@
 //! What refuses a reference to a word of a segment.
 
 ghost use Rattle.std.specs.Prelude.{◌≡◌, ◌<◌, ◌*◌, ℕ, List, IfOk, IfErr, length, true, Some};
-ghost use Rattle.tree_model.specs.Tree.{Node as Term, quota_in};
+ghost use Rattle.tree_model.specs.Tree.{quota_in};
 ghost use Rattle.tree_model.specs.Trees.{has_segment};
 ghost use Rattle.dir_tree.specs.Nodes.{as_term};
 ghost use Rattle.accounts.specs.Maps.{Counts};
 ghost use Rattle.script.specs.Plans.{Plan};
 ghost use Rattle.flat_model.specs.References.{reply_to_reference};
 ghost use Rattle.flat_model.specs.Store.{Store as Flat};
-ghost use Rattle.storage_ops.specs.References.{brings_word, outside_by, outside_refusal, refusal_in, refused_by};
+ghost use Rattle.storage_ops.specs.References.{brings_word, outside_by, outside_refusal, refusal_in};
 ghost use Rattle.storage_ops.specs.References.{room_by, room_in, room_refusal, target, want_of_room};
 ghost use Rattle.storage_ops.specs.Shown.{IsFound, IsThere, Shows, is_filed, is_there, refusal};
 
