@@ -1,5 +1,5 @@
 -- What is read of the node that has a uid: it is found, and it stays where other nodes go and where changes keep it.
-use Rattle.std.proofs.Common.{◌≡◌, ◌≢◌, ℕ, ◌+◌, Bool, false, cond, eqb, List, [], ◌∷◌, map, Some, None}
+use Rattle.std.proofs.Common.{◌≡◌, ◌≢◌, ℕ, ◌+◌, Bool, false, cond, eqb, List, [], ◌∷◌, map, Some, None, true}
 use Rattle.std.proofs.Common.{refl, sym, ap, ◌∙◌, arith, inl, inr}
 use Rattle.std.proofs.lemmas.Bool.{cases_Bool, ne_eqb}
 use Rattle.std.proofs.lemmas.Bool.Decides.{nat_tests}
@@ -47,6 +47,15 @@ module _ {X : Type 0} (read : List Node → X) (field : Node → X) (u : ℕ) (r
       ∙ ap (λ (x : ℕ). cond (eqb x u) (field (change n)) (read (map change ns))) (uid n)
       ∙ ap (λ (x : X). cond (eqb n.uid u) x (read (map change ns))) (same n)
       ∙ ap (cond (eqb n.uid u) (field n)) (field_mapped change uid same ns) ∙ sym (reads n ns)
+
+-- a field that a change keeps, where the change is of the nodes of one uid
+pub field_kept : {X : Type 0} (field : Node → X) (change : Node → Node) (u : ℕ)
+    → ((n : Node) → field (change n) ≡ field n) → (n : Node) → field (cond (eqb n.uid u) (change n) n) ≡ field n
+field_kept field change u keeps n = by (eqb n.uid u)
+  where
+    by : (z : Bool) → field (cond z (change n) n) ≡ field n
+    by true = keeps n
+    by false = refl
 
 -- how many nodes lie on a volume, where each stays on its own
 pub entries_mapped : (change : Node → Node) → ((n : Node) → (change n).volume ≡ n.volume) → (ns : List Node) (v : ℕ)

@@ -6,7 +6,8 @@ use Rattle.std.proofs.lemmas.Bool.{ltb-false, not-true}
 use Rattle.std.proofs.lemmas.List.Sums.{prefix_len_passes}
 use Rattle.known_segs.specs.Known.{least_free, uid_of}
 
-pub free_none : (kst : List (Option ℕ)) (k : ℕ) → least_free kst ≡ None → k < length kst → is_none (uid_of kst k) ≡ false
+pub free_none : (kst : List (Option ℕ)) (k : ℕ) → least_free kst ≡ None → k < length kst
+    → is_none (uid_of kst k) ≡ false
 free_none kst k e within = none_at (ltb (position_or_len is_none kst) (length kst)) refl e
   where
     none_at : (b : Bool) → ltb (position_or_len is_none kst) (length kst) ≡ b

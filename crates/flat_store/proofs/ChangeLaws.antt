@@ -12,7 +12,7 @@ use Rattle.tree_model.specs.Tree.{Node, entries_on, has_directory, node_in, take
 use Rattle.tree_model.specs.Trees.{has_segment}
 use Rattle.flat_model.specs.Pages.{is_stored, is_stored_from}
 use Rattle.flat_model.specs.Store.{Store, records_of, entries_of}
-use Rattle.flat_model.proofs.FieldLaws.{entries_mapped, field_mapped}
+use Rattle.flat_model.proofs.FieldLaws.{entries_mapped, field_kept, field_mapped}
 use Rattle.flat_model.proofs.NodeLaws.{no_directory}
 use Rattle.flat_model.proofs.PageLaws.{stored_from}
 use Rattle.flat_store.specs.Shown.{AreFlat, AreInside, Held, Holds, pages_in}
@@ -59,14 +59,10 @@ module _ (f : Node → Node) (keeps : Keeps f) where
 -- a change of one node
 pub keeps_one : (u : ℕ) (change : Node → Node) → Keeps change → Keeps (λ n. cond (eqb n.uid u) (change n) n)
 keeps_one u change keeps = record {
-  uid = λ n. here (λ (x : Node). x.uid ≡ n.uid) n (eqb n.uid u) (keeps.uid n) refl;
-  volume = λ n. here (λ (x : Node). x.volume ≡ n.volume) n (eqb n.uid u) (keeps.volume n) refl;
-  kind = λ n. here (λ (x : Node). x.directory ≡ n.directory) n (eqb n.uid u) (keeps.kind n) refl;
+  uid = field_kept (λ (x : Node). x.uid) change u keeps.uid;
+  volume = field_kept (λ (x : Node). x.volume) change u keeps.volume;
+  kind = field_kept (λ (x : Node). x.directory) change u keeps.kind;
 }
-  where
-    here : (P : Node → Type 0) (n : Node) (z : Bool) → P (change n) → P n → P (cond z (change n) n)
-    here P n true a b = a
-    here P n false a b = b
 
 taken_same : (ns ms : List Node) (xs : List (ℕ × ℕ)) (v : ℕ) → ((u : ℕ) → volume_in ms u ≡ volume_in ns u)
     → taken_on ms xs v ≡ taken_on ns xs v

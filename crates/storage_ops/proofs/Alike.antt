@@ -9,7 +9,7 @@ use Rattle.quota_cells.specs.Accounts.{look}
 use Rattle.tree_model.specs.Access.{Row, access_of}
 use Rattle.tree_model.specs.Quotas.{with_quota_of}
 use Rattle.tree_model.specs.Tree.{Node, entries_on, has_directory, node_in, pool_of, taken_on, volume_in}
-use Rattle.flat_model.proofs.FieldLaws.{entries_mapped, field_mapped}
+use Rattle.flat_model.proofs.FieldLaws.{entries_mapped, field_kept, field_mapped}
 use Rattle.descriptor_seg.specs.declared.Sdw.TheVariants.{Present}
 use Rattle.descriptor_seg.specs.Descriptors.{sdw_at}
 use Rattle.vtoc.specs.Vtoc.{Entry as VtocEntry}
@@ -184,15 +184,11 @@ module _ (f : Node → Node) (keeps : Keeps f) (a b : AccountMaps) (changes : Ch
 -- a change of one node
 pub keeps_one : (u : ℕ) (f : Node → Node) → Keeps f → Keeps (λ n. cond (eqb n.uid u) (f n) n)
 keeps_one u f keeps = record {
-  uid = λ n. here (λ (x : Node). x.uid ≡ n.uid) n (eqb n.uid u) (keeps.uid n) refl;
-  superior = λ n. here (λ (x : Node). x.superior ≡ n.superior) n (eqb n.uid u) (keeps.superior n) refl;
-  volume = λ n. here (λ (x : Node). x.volume ≡ n.volume) n (eqb n.uid u) (keeps.volume n) refl;
-  kind = λ n. here (λ (x : Node). x.directory ≡ n.directory) n (eqb n.uid u) (keeps.kind n) refl;
+  uid = field_kept (λ (x : Node). x.uid) f u keeps.uid;
+  superior = field_kept (λ (x : Node). x.superior) f u keeps.superior;
+  volume = field_kept (λ (x : Node). x.volume) f u keeps.volume;
+  kind = field_kept (λ (x : Node). x.directory) f u keeps.kind;
 }
-  where
-    here : (P : Node → Type 0) (n : Node) (z : Bool) → P (f n) → P n → P (cond z (f n) n)
-    here P n true x y = x
-    here P n false x y = y
 
 pub keeps_rows : (change : List Row → List Row) → Keeps (λ n. record n { rows = change n.rows })
 keeps_rows change = record { uid = λ n. refl; superior = λ n. refl; volume = λ n. refl; kind = λ n. refl }
