@@ -48,6 +48,7 @@ use Rattle.machine_model.proofs.TellKept.{CanTell, told_keeps, works_counted}
 use Rattle.machine_model.proofs.TieLaws.{none_some}
 use Rattle.machine_model.proofs.TransferKept.{kept_with, quiet_faults}
 use Rattle.machine_model.proofs.TransferLaws.{CanMake, here_keeps}
+use Rattle.machine_model.proofs.KeepLaws.{quiet_push}
 
 -- ---- a segment becomes active
 
@@ -95,10 +96,7 @@ segs_gone_rest s (d ∷ ds) = segs_gone_rest (seg_gone s d) ds
 segs_gone_count : (s : State) (ds : List CutDescriptor)
     → count_by is_fault (segs_gone s ds).entries ≡ count_by is_fault s.entries
 segs_gone_count s [] = refl
-segs_gone_count s (d ∷ ds) = segs_gone_count (seg_gone s d) ds
-    ∙ (let one = faults_push s.entries (entry.GoneSeg d.process d.number) in
-    let none : count_by is_fault (s.entries ++ entry.GoneSeg d.process d.number ∷ []) ≡ count_by is_fault s.entries =
-    omega (arith, one) in none)
+segs_gone_count s (d ∷ ds) = segs_gone_count (seg_gone s d) ds ∙ quiet_push s.entries (entry.GoneSeg d.process d.number) refl
 
 -- all that the job has taken is gone or back, and every processor has cleared
 pub record IsOver (s : State) : Type 0 where
@@ -203,12 +201,12 @@ created_kept s c f u p r k can within active inner idle quiet tell says = kept_w
 
 -- ---- a word is reached through a frame
 
-bound_after : (x : Frame) (b : Bool) → bound_page (after_reference x b) ≡ bound_page x
+pub bound_after : (x : Frame) (b : Bool) → bound_page (after_reference x b) ≡ bound_page x
 bound_after frame.Free b = refl
 bound_after (frame.Started u p) b = refl
 bound_after (frame.Bound u p used modified) b = refl
 
-started_after : (x : Frame) (b : Bool) → started_page (after_reference x b) ≡ started_page x
+pub started_after : (x : Frame) (b : Bool) → started_page (after_reference x b) ≡ started_page x
 started_after frame.Free b = refl
 started_after (frame.Started u p) b = refl
 started_after (frame.Bound u p used modified) b = refl

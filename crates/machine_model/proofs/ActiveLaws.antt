@@ -1,20 +1,23 @@
 -- A segment becomes active, or is it no more.
-use Rattle.std.proofs.Common.{◌≡◌, ◌≢◌, ℕ, true, false, Option, Some, None, inl, inr, refl, sym, ap, ◌∙◌}
+use Rattle.std.proofs.Common.{◌≡◌, ◌≢◌, ℕ, Bool, true, false, [], ◌∷◌, ◌++◌, subst, Option, Some, None, inl, inr, refl, sym, ap, ◌∙◌}
 use Rattle.std.proofs.lemmas.Bool.Decides.{eqb_tells}
+use Rattle.book.specs.declared.entries.Entry.{Entry}
 use Rattle.book.specs.declared.entries.Entry.TheVariants as entry
 use Rattle.page_table.specs.declared.Ptw.{Ptw}
 use Rattle.page_table.specs.declared.Ptw.TheVariants as ptw
 use Rattle.flat_model.specs.Legal.{IsLawful, after_entry}
-use Rattle.custody_model.specs.Allowed.{MayActivate, MayDeactivate}
-use Rattle.custody_model.specs.Custody.{page_of, uid_of_page}
+use Rattle.custody_model.specs.Allowed.{IsAllowed, MayActivate, MayDeactivate}
+use Rattle.custody_model.specs.Custody.{Custody, page_of, uid_of_page}
 use Rattle.custody_model.specs.Effects.{HasNoPage}
 use Rattle.custody_model.specs.Next.{at_put, custody_next}
 use Rattle.machine_model.specs.Changes.{activated, deactivated}
-use Rattle.machine_model.specs.Custodial.{KeepsBook, IsTied, names, is_out}
+use Rattle.machine_model.specs.Custodial.{KeepsBook, IsOwned, IsRun, IsTied, is_pending, names, is_out}
 use Rattle.machine_model.specs.Seen.{Seen, flat, shown, frame_use, bound_use, read_use}
 use Rattle.machine_model.proofs.BookNext.{book_next}
 use Rattle.machine_model.proofs.OwnedLaws.{like_active, owned_like}
 use Rattle.machine_model.proofs.TieLaws.{not_there}
+use Rattle.flat_model.specs.Store.{progress_of}
+use Rattle.custody_model.specs.Fine.{FillsOnline, pending_after}
 
 -- The words of one segment are others, which name no frame, as those before didn't; no page of it is being read.
 pub record ChangesSegment (v : Seen) (u : ℕ) (words : ℕ → ℕ → Ptw) : Type 0 where
@@ -51,6 +54,32 @@ module _ (v : Seen) (u : ℕ) (words : ℕ → ℕ → Ptw) (k : KeepsBook v) (c
       by None e = refl
       by (Some page) e = ap (bound_use page) (kept f page.0 page.1 e)
 
+-- the segment is active, or is it no more, by an entry that says so and nothing else
+activity_keeps : (v : Seen) (u : ℕ) (words : ℕ → ℕ → Ptw) (active : Bool) (e : Entry) → KeepsBook v
+    → ChangesSegment v u words → IsLawful v.plan (flat v) e → IsAllowed v.plan (flat v) (shown v) e
+    → FillsOnline (shown v) e
+    → custody_next v.plan (flat v) (shown v) e ≡ record (shown v) { active = at_put v.active u active }
+    → pending_after (is_pending v.owner) e ≡ is_pending v.owner
+    → ((j : ℕ) → IsRun (progress_of (after_entry v.plan (flat v) e) j) (v.runs j))
+    → KeepsBook (record v { active = at_put v.active u active; words = words; entries = v.entries ++ e ∷ [] })
+activity_keeps v u words active e k change lawful allowed online next pending runs = book_next v e _ refl refl k (record {
+  lawful = lawful;
+  allowed = allowed;
+  online = online;
+  next = (λ i. record (shown v) {
+    active = at_put v.active u active;
+    frame = λ f. uses_same v u words k change f i;
+  }) ∙ sym next;
+  pending = sym pending;
+  going_owned = subst (λ (c : Custody). IsOwned c v.owner) (sym next)
+      (owned_like (shown v) (record (shown v) { active = at_put v.active u active })
+      (like_active (shown v) (at_put v.active u active)) v.owner k.going_owned);
+  tied = tied_segment v u words k change;
+  holding_right = k.holding_right;
+  under_way = k.under_way;
+  runs = runs;
+})
+
 -- a segment whose words all said that it has no page
 abbrev pub IsBlank : (ℕ → ℕ → Ptw) → ℕ → Type 0
 IsBlank words u = (q : ℕ) → words u q ≡ ptw.Null
@@ -62,33 +91,19 @@ pub record CanActivate (v : Seen) (u : ℕ) (words : ℕ → ℕ → Ptw) : Type
   pub others : (w q : ℕ) → w ≢ u → words w q ≡ v.words w q
   pub nowhere : (q : ℕ) → names (words u q) ≡ None
 
+activates : (v : Seen) (u : ℕ) (words : ℕ → ℕ → Ptw) → KeepsBook v → CanActivate v u words → ChangesSegment v u words
+activates v u words k can = record {
+  others = can.others;
+  before = λ q. ap names (can.blank q);
+  after = can.nowhere;
+  unread = λ f q h. (let no : false ≡ true = sym (ap is_out (can.blank q)) ∙ k.tied.out f u q h in cc);
+}
+
 pub activate_keeps : (v : Seen) (u : ℕ) (words : ℕ → ℕ → Ptw) → KeepsBook v → CanActivate v u words
     → KeepsBook (activated v u words)
 unfolding IsLawful after_entry custody_next
-activate_keeps v u words k can = book_next v (entry.Activate u) (activated v u words) k (record {
-  plan = refl;
-  entries = refl;
-  lawful = tt;
-  allowed = can.may;
-  online = tt;
-  next = λ i. record (shown v) { active = at_put v.active u true; frame = λ f. uses_same v u words k change f i };
-  pending = refl;
-  going_owned = owned_like (shown v) (record (shown v) { active = at_put v.active u true })
-      (like_active (shown v) (at_put v.active u true))
-      v.owner k.going_owned;
-  tied = tied_segment v u words k change;
-  holding_right = k.holding_right;
-  under_way = k.under_way;
-  runs = k.runs;
-})
-  where
-    change : ChangesSegment v u words
-    change = record {
-      others = can.others;
-      before = λ q. ap names (can.blank q);
-      after = can.nowhere;
-      unread = λ f q h. (let no : false ≡ true = sym (ap is_out (can.blank q)) ∙ k.tied.out f u q h in cc);
-    }
+activate_keeps v u words k can =
+    activity_keeps v u words true (entry.Activate u) k (activates v u words k can) tt can.may tt refl refl k.runs
 
 -- a segment that may become inactive, whose words all say then that it has no page
 pub record CanDeactivate (v : Seen) (u : ℕ) (words : ℕ → ℕ → Ptw) : Type 0 where
@@ -122,22 +137,8 @@ module _ (v : Seen) (u : ℕ) (k : KeepsBook v) (pages : HasNoPage (shown v) u) 
 pub deactivate_keeps : (v : Seen) (u : ℕ) (words : ℕ → ℕ → Ptw) → KeepsBook v → CanDeactivate v u words
     → KeepsBook (deactivated v u words)
 unfolding IsLawful after_entry custody_next
-deactivate_keeps v u words k can = book_next v (entry.Deactivate u) (deactivated v u words) k (record {
-  plan = refl;
-  entries = refl;
-  lawful = tt;
-  allowed = can.may;
-  online = tt;
-  next = λ i. record (shown v) { active = at_put v.active u false; frame = λ f. uses_same v u words k change f i };
-  pending = refl;
-  going_owned = owned_like (shown v) (record (shown v) { active = at_put v.active u false })
-      (like_active (shown v) (at_put v.active u false))
-      v.owner k.going_owned;
-  tied = tied_segment v u words k change;
-  holding_right = k.holding_right;
-  under_way = k.under_way;
-  runs = k.runs;
-})
+deactivate_keeps v u words k can =
+    activity_keeps v u words false (entry.Deactivate u) k change tt can.may tt refl refl k.runs
   where
     change : ChangesSegment v u words
     change = record {

@@ -25,6 +25,7 @@ use Rattle.machine_model.specs.State.{State}
 use Rattle.machine_model.proofs.Places.{by_place}
 use Rattle.machine_model.proofs.TieLaws.{none_some}
 use Rattle.machine_model.proofs.WordLaws.{found}
+use Rattle.machine_model.proofs.CountLaws.{any_set}
 
 or_parts : (a b : Bool) → (a || b) ≡ false → (a ≡ false) × (b ≡ false)
 or_parts false b h = (refl, h)
@@ -54,21 +55,6 @@ module _ {X : Type 0} (p : X → Bool) where
       by : (b : Bool) → list_any p xs ≡ b → b ≡ true
       by true e = refl
       by false e = absurd (let same = none_length xs e in omega (arith, same, h))
-
-  -- one element that doesn't pass is another one
-  any_set : (xs : List X) (i : ℕ) (y d : X) → i < length xs → p (get_or xs i d) ≡ false
-      → list_any p (set xs i y) ≡ (p y || list_any p xs)
-  any_set [] i y d within h = absurd (omega (arith, within))
-  any_set (x ∷ xs) zero y d within h = ap (λ (b : Bool). p y || list_any p xs) h
-      ∙ ap (λ (b : Bool). p y || (b || list_any p xs)) (sym h)
-  any_set (x ∷ xs) (suc i) y d within h = ap (λ (b : Bool). p x || b) (any_set xs i y d (omega (arith, within)) h)
-      ∙ swap (p x) (p y) (list_any p xs)
-    where
-      swap : (a b c : Bool) → (a || (b || c)) ≡ (b || (a || c))
-      swap true true c = refl
-      swap true false c = refl
-      swap false true c = refl
-      swap false false c = refl
 
   -- an element stands for one that passes where it does
   any_same : (xs : List X) (i : ℕ) (y d : X) → p y ≡ p (get_or xs i d) → list_any p (set xs i y) ≡ list_any p xs

@@ -8,21 +8,19 @@ use Rattle.flat_model.specs.Commands.{gone_on}
 use Rattle.flat_model.specs.Legal.{IsLawful, IsLawfulDo, MayFault, after_entry, after_do}
 use Rattle.flat_model.specs.Store.{progress_of}
 use Rattle.custody_model.specs.Allowed.{MayDo, next_command}
-use Rattle.custody_model.specs.Custody.{Custody}
-use Rattle.custody_model.specs.Fine.{Fine}
 use Rattle.custody_model.specs.Next.{at_put, custody_next, is_try, released_by, with_seat}
 use Rattle.machine_model.specs.Changes.{answered, counted, failed}
-use Rattle.machine_model.specs.Custodial.{KeepsBook, HoldsRight, IsOwned, IsRun, is_pending}
-use Rattle.machine_model.specs.Seen.{Seen, flat, shown, seat_of, descriptor_use, cut_uid}
-use Rattle.machine_model.specs.Reads.{cut_of_owner}
+use Rattle.machine_model.specs.Custodial.{KeepsBook, HoldsRight, IsRun, is_pending}
+use Rattle.machine_model.specs.Seen.{Seen, flat, shown, seat_of}
 use Rattle.machine_model.specs.declared.Processor.{Processor}
 use Rattle.machine_model.specs.declared.Run.{Run}
 use Rattle.machine_model.specs.State.{Owner}
-use Rattle.machine_model.proofs.BookNext.{book_next}
+use Rattle.machine_model.proofs.BookNext.{book_apart, book_next}
 use Rattle.machine_model.proofs.HeldLaws.{under_way_alike}
 use Rattle.machine_model.proofs.OwnedLaws.{IsIdle, like_seat, owned_like, owned_idle}
 use Rattle.machine_model.proofs.Places.{by_place, put_map}
 use Rattle.machine_model.proofs.RunLaws.{runs_answered, runs_failed}
+use Rattle.machine_model.proofs.OwnerLaws.{owner_next}
 
 -- ---- a command
 
@@ -39,9 +37,7 @@ pub answer_keeps : (v : Seen) (c k place : ℕ) (f : Option ℕ) (r : Reply) (ru
     → KeepsBook (answered v c k place f r run)
 unfolding IsLawful after_entry custody_next
 answer_keeps v c k place f r run keeps can =
-    book_next v (entry.Do k place c f r) (answered v c k place f r run) keeps (record {
-      plan = refl;
-      entries = refl;
+    book_next v (entry.Do k place c f r) (answered v c k place f r run) refl refl keeps (record {
       lawful = can.lawful;
       allowed = can.allowed;
       online = tt;
@@ -80,20 +76,8 @@ answer_keeps v c k place f r run keeps can =
 
 pub fault_keeps : (v : Seen) (o : Option ℕ) → KeepsBook v → MayFault (flat v) o → KeepsBook (failed v o)
 unfolding IsLawful after_entry custody_next
-fault_keeps v o k may = book_next v (entry.Fault o) (failed v o) k (record {
-  plan = refl;
-  entries = refl;
-  lawful = may;
-  allowed = tt;
-  online = tt;
-  next = refl;
-  pending = refl;
-  going_owned = k.going_owned;
-  tied = k.tied;
-  holding_right = k.holding_right;
-  under_way = k.under_way;
-  runs = runs_failed (flat v) o v.runs k.runs;
-})
+fault_keeps v o k may =
+    book_apart v (entry.Fault o) k may tt tt refl refl (runs_failed (flat v) o v.runs k.runs)
 
 -- ---- the owner
 
@@ -101,22 +85,5 @@ fault_keeps v o k may = book_next v (entry.Fault o) (failed v o) k (record {
 pub owner_keeps : (v : Seen) (owner : Option Owner) → KeepsBook v → IsIdle v.owner → IsIdle owner
     → is_pending v.owner ≡ is_pending owner
     → KeepsBook (record v { owner = owner })
-owner_keeps v owner k was now pending = record {
-  legal = k.legal;
-  clean = k.clean;
-  held = sym same ∙ k.held;
-  stale_due = subst (λ (c : Custody). Fine c (is_pending owner)) same (subst (Fine (shown v)) pending k.stale_due);
-  going_owned = subst (λ (c : Custody). IsOwned c owner) same
-      (owned_idle (shown v) v.owner owner k.going_owned was now);
-  tied = k.tied;
-  holding_right = λ d. subst (λ (c : Custody). HoldsRight v.bound c.descriptor (v.processors d)) same
-      (k.holding_right d);
-  under_way = k.under_way;
-  runs = k.runs;
-}
-  where
-    cut_same : cut_of_owner v.owner ≡ cut_of_owner owner
-    cut_same = was.cut ∙ sym now.cut
-
-    same : shown v ≡ shown (record v { owner = owner })
-    same = λ i. record (shown v) { descriptor = λ j n. descriptor_use (v.linked j n) (cut_uid (cut_same i) j n) }
+owner_keeps v owner k was now pending = owner_next v owner k (was.cut ∙ sym now.cut) pending
+    (owned_idle (shown v) v.owner owner k.going_owned was now)

@@ -39,6 +39,9 @@ use Rattle.machine_model.proofs.TakeSeen.{HasTables}
 use Rattle.machine_model.proofs.TellKept.{CanTell, told_keeps}
 use Rattle.machine_model.proofs.TieLaws.{none_some}
 use Rattle.machine_model.proofs.TransferKept.{kept_with}
+use Rattle.machine_model.proofs.KeepLaws.{quiet_push}
+use Rattle.machine_model.proofs.ChainLaws.{goes_with}
+use Rattle.machine_model.proofs.FrameLaws.{finish_with}
 
 -- ---- pages come back
 
@@ -51,9 +54,7 @@ pages_rest s (f ∷ fs) = pages_rest (page_back s f) fs
 
 pages_count : (s : State) (fs : List ℕ) → count_by is_fault (pages_back s fs).entries ≡ count_by is_fault s.entries
 pages_count s [] = refl
-pages_count s (f ∷ fs) = pages_count (page_back s f) fs ∙ (let one = faults_push s.entries (entry.BackPage f) in
-    let none : count_by is_fault (s.entries ++ entry.BackPage f ∷ []) ≡ count_by is_fault s.entries =
-    omega (arith, one) in none)
+pages_count s (f ∷ fs) = pages_count (page_back s f) fs ∙ quiet_push s.entries (entry.BackPage f) refl
 
 here_tables : (st : Storage) (f : ℕ) (o : Option (ℕ × ℕ)) → length st.ast.tables ≡ length st.ast.entries
     → length (here_if st f o).ast.tables ≡ length (here_if st f o).ast.entries
@@ -116,10 +117,7 @@ segs_rest s (d ∷ ds) = segs_rest (seg_back s d) ds
 segs_count : (s : State) (ds : List CutDescriptor)
     → count_by is_fault (segs_back s ds).entries ≡ count_by is_fault s.entries
 segs_count s [] = refl
-segs_count s (d ∷ ds) = segs_count (seg_back s d) ds
-    ∙ (let one = faults_push s.entries (entry.BackSeg d.process d.number) in
-    let none : count_by is_fault (s.entries ++ entry.BackSeg d.process d.number ∷ []) ≡ count_by is_fault s.entries =
-    omega (arith, one) in none)
+segs_count s (d ∷ ds) = segs_count (seg_back s d) ds ∙ quiet_push s.entries (entry.BackSeg d.process d.number) refl
 
 -- the lists of descriptors are as long as they were
 sdws_length : (dss : List (List Sdw)) (k : ℕ) (x : List Sdw) (j : ℕ) → length x ≡ length (get_or dss k [])
@@ -233,15 +231,7 @@ module _ (s : State) (c faults : ℕ) (fs : List ℕ) (ds : List CutDescriptor) 
       same = λ i. with_owner (told (segs_back (pages_back told_of (frames i)) (cut i)) c None reply.Device) None
 
       on_told : GoesOn (seen told_of) fs ds
-      on_told = record {
-        frames = on.frames;
-        cut = on.cut;
-        none = on.none;
-        still = on.still;
-        quiet = on.quiet;
-        steady =
-            on.steady;
-      }
+      on_told = goes_with refl on.none on
 
       pages : IsBack told_of (pages_back told_of fs) ds
       pages = pages_are_back told_of fs ds k.store.kept.places told_book on_told (subst (AreThere s.store) cut k.cut)
@@ -269,14 +259,7 @@ module _ (s : State) (c faults : ℕ) (fs : List ℕ) (ds : List CutDescriptor) 
       same = λ i. with_owner (told (segs_back (pages_back told_of (frames i)) (cut i)) c None reply.Device) None
 
       can_told : CanFinish (seen told_of) f u p (Some (looking c))
-      can_told = record {
-        leaving = can.leaving;
-        none = can.none;
-        still = can.still;
-        after = can.after;
-        first =
-            can.first;
-      }
+      can_told = finish_with refl refl can.none can
 
       looks : State
       looks = with_owner now (Some (looking c))

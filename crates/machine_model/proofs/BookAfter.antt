@@ -25,7 +25,7 @@ use Rattle.machine_model.specs.Actions as act
 use Rattle.machine_model.specs.Actions.{action_of}
 use Rattle.machine_model.specs.After.{Outcome, after}
 use Rattle.machine_model.specs.Commits.{committed, committed_at, cut_entry, frame_entry, gone_entries, inactive_entries}
-use Rattle.machine_model.specs.Commits.{left_after, stays, with_effect}
+use Rattle.machine_model.specs.Commits.{left_after, with_effect}
 use Rattle.machine_model.specs.Jobs.{cut_all, cut_one, deactivation_begun, emptied, entries_left, eviction_done}
 use Rattle.machine_model.specs.Jobs.{left_of}
 use Rattle.machine_model.specs.Jobs.{page_back, page_done}
@@ -41,12 +41,14 @@ use Rattle.machine_model.specs.State.{State, Storage}
 use Rattle.machine_model.specs.Steps.{booked, fault_told, frame_lost, page_created, page_made, told, transfer_failed}
 use Rattle.machine_model.specs.Steps.{old_word, transferred, with_faults, with_store}
 use Rattle.machine_model.specs.Working.{OwnsFew}
-use Rattle.machine_model.proofs.FlatAlike.{append_assoc, append_nil}
 use Rattle.machine_model.proofs.ListSizes.{frames_from_few, trailers_few}
 use Rattle.machine_model.proofs.PlainAction.{IsPlainly, plain_action}
 use Rattle.machine_model.proofs.PlainReplies.{is_device, tree_plain, word_plain}
 use Rattle.machine_model.proofs.StepGoes.{few_taken}
 use Rattle.machine_model.proofs.StepKnows.{Knows, step_knows}
+use Rattle.std.proofs.lemmas.List.{append-nil, append_assoc}
+use Rattle.machine_model.proofs.EffectLaws.{frame_entry_has}
+use Rattle.std.proofs.Common.{suc}
 
 -- ---- what entries tell
 
@@ -81,6 +83,19 @@ record IsQuietly (s now : State) (n : ℕ) : Type 0 where
   booked : HasBooked s now n
   quiet : AreQuiet booked.more
 
+-- it is so of machines with the same books and room
+quietly_as : {s now old new : State} {n : ℕ} → old.entries ≡ s.entries → old.spare ≡ s.spare
+    → now.entries ≡ new.entries → now.spare ≡ new.spare → IsQuietly old new n → IsQuietly s now n
+quietly_as was_entries was_spare entries spare h = record {
+  booked = record {
+    more = h.booked.more;
+    entries = entries ∙ (h.booked.entries ∙ ap (λ (es : List Entry). es ++ h.booked.more) was_entries);
+    spare = spare ∙ (h.booked.spare ∙ ap (λ (n : ℕ). n - length h.booked.more) was_spare);
+    few = h.booked.few;
+  };
+  quiet = h.quiet;
+}
+
 -- none does, or just one, of the process of processor c, where a call of a drive failed
 pub record IsBooked (s now : State) (c n : ℕ) (failed : Bool) : Type 0 where
   pub booked : HasBooked s now n
@@ -111,7 +126,7 @@ booked_none : (s now : State) → now.entries ≡ s.entries → now.spare ≡ s.
 booked_none s now entries spare = record {
   booked = record {
     more = [];
-    entries = entries ∙ sym (append_nil s.entries);
+    entries = entries ∙ sym (append-nil s.entries);
     spare = let same = spare in omega (arith, same);
     few = omega arith;
   };
@@ -163,12 +178,16 @@ took_booked : (s : State) (c : ℕ) (a : Aim) (w : What) (fs : List ℕ) (xs : L
 took_booked s c a w fs xs = booked_on s (take_all s c a w fs) (took s c a w fs xs) (length fs) (length xs)
     (all_taken s c a w fs) (all_cut (take_all s c a w fs) c a w xs)
 
+-- one quiet entry, and then more
+then_booked : (s mid now : State) (e : Entry) (n : ℕ) → mid.entries ≡ s.entries ++ e ∷ []
+    → mid.spare ≡ s.spare - 1 → AreQuiet (e ∷ []) → IsQuietly mid now n → IsQuietly s now (suc n)
+then_booked s mid now e n entries spare quiet rest = booked_less s now (1 + n) (suc n)
+    (booked_on s mid now 1 n (one_booked s mid (e ∷ []) entries spare quiet) rest) (omega arith)
+
 all_gone : (s : State) (ds : List CutDescriptor) → IsQuietly s (segs_gone s ds) (length ds)
 all_gone s [] = booked_none s s refl refl
-all_gone s (d ∷ ds) = booked_less s (segs_gone s (d ∷ ds)) (1 + length ds) (length (d ∷ ds))
-    (booked_on s (seg_gone s d) (segs_gone s (d ∷ ds)) 1 (length ds)
-    (one_booked s (seg_gone s d) (entry.GoneSeg d.process d.number ∷ []) refl refl refl) (all_gone (seg_gone s d) ds))
-    (omega arith)
+all_gone s (d ∷ ds) = then_booked s (seg_gone s d) (segs_gone s (d ∷ ds)) (entry.GoneSeg d.process d.number) (length ds)
+    refl refl refl (all_gone (seg_gone s d) ds)
 
 emptied_booked : (s : State) (c u : ℕ) → IsQuietly s (emptied s c u) (length (cut_of_owner s.owner) + 1)
 emptied_booked s c u = booked_on s (segs_gone s (cut_of_owner s.owner)) (emptied s c u)
@@ -193,10 +212,8 @@ all_back s (f ∷ fs) = booked_less s (pages_back s (f ∷ fs)) (1 + length fs) 
 
 all_linked : (s : State) (ds : List CutDescriptor) → IsQuietly s (segs_back s ds) (length ds)
 all_linked s [] = booked_none s s refl refl
-all_linked s (d ∷ ds) = booked_less s (segs_back s (d ∷ ds)) (1 + length ds) (length (d ∷ ds))
-    (booked_on s (seg_back s d) (segs_back s (d ∷ ds)) 1 (length ds)
-    (one_booked s (seg_back s d) (entry.BackSeg d.process d.number ∷ []) refl refl refl) (all_linked (seg_back s d) ds))
-    (omega arith)
+all_linked s (d ∷ ds) = then_booked s (seg_back s d) (segs_back s (d ∷ ds)) (entry.BackSeg d.process d.number)
+    (length ds) refl refl refl (all_linked (seg_back s d) ds)
 
 raw_less : (s now : State) (m n : ℕ) → HasBooked s now m → m ≤ n → HasBooked s now n
 raw_less s now m n a le = record {
@@ -282,12 +299,7 @@ gone_long s u c few = let a = length-map (frames_of_owner s.owner) (frame_entry 
     omega (arith, a, b, d, e, g, few)
 
 frame_quiet : (st : Storage) (c : Command) (f : ℕ) → is_quiet (frame_entry st c f) ≡ true
-frame_quiet st (command.Truncate path words) f = by (stays st words f)
-  where
-    by : (b : Bool) → is_quiet (cond b (entry.BackPage f) (entry.GonePage f)) ≡ true
-    by true = refl
-    by false = refl
-frame_quiet st _ f = refl
+frame_quiet st c f = frame_entry_has (λ e. is_quiet e ≡ true) st c f refl refl
 
 frames_quiet : (st : Storage) (c : Command) (fs : List ℕ) → AreQuiet (map (frame_entry st c) fs)
 frames_quiet st c [] = refl
@@ -329,15 +341,8 @@ left_booked s x c command.End n h = booked_on s x (left_after x c command.End) n
 left_booked s x c _ n h = booked_less s x n (n + 1) h (omega arith)
 
 commit_booked : (s : State) (c k : ℕ) (cmd : Command) → OwnsFew s.owner → IsQuietly s (committed s c k cmd) 320
-commit_booked s c k cmd few = booked_less s (committed s c k cmd) _ 320 (record {
-  booked = record {
-    more = done.booked.more;
-    entries = done.booked.entries;
-    spare = done.booked.spare;
-    few = done.booked.few;
-  };
-  quiet = done.quiet;
-}) (let long = gone_long s u cmd few in omega (arith, long))
+commit_booked s c k cmd few = booked_less s (committed s c k cmd) _ 320 (quietly_as refl refl refl refl done)
+    (let long = gone_long s u cmd few in omega (arith, long))
   where
     u : ℕ
     u = uid_of_command s.store k cmd
@@ -397,15 +402,7 @@ module _ (s : State) (c : ℕ) (o : Outcome) (keeps : Keeps s) (few : OwnsFew s.
               → IsQuietly s (deactivation_begun (with_store s (record s.store {
                 ast = hand_past s.store.ast pool (Some place);
               })) c u) 320
-          moved h = record {
-            booked = record {
-              more = h.booked.more;
-              entries = h.booked.entries;
-              spare = h.booked.spare;
-              few = h.booked.few;
-            };
-            quiet = h.quiet;
-          }
+          moved h = quietly_as refl refl refl refl h
 
   lose_booked : (t : Transfer) (f : Bool) → f ≡ true → IsBooked s (transfer_failed s c t o.faults) c 320 f
   unfolding raw_less raw_on raw_one

@@ -12,11 +12,10 @@ use Rattle.custody_model.proofs.CleanLaws.{clean_push, custody_after-push}
 use Rattle.custody_model.proofs.FineLaws.{fine_next}
 use Rattle.machine_model.specs.Custodial.{KeepsBook, IsOwned, IsTied, HoldsRight, AreUnderWay, IsRun, is_pending}
 use Rattle.machine_model.specs.Seen.{Seen, flat, shown}
+use Rattle.std.proofs.Common.{refl}
 
 -- A machine after one more entry, by what the entry is and what its tables show then.
 pub record Books (v : Seen) (e : Entry) (now : Seen) : Type 0 where
-  pub plan : now.plan ≡ v.plan
-  pub entries : now.entries ≡ v.entries ++ e ∷ []
   pub lawful : IsLawful v.plan (flat v) e
   pub allowed : IsAllowed v.plan (flat v) (shown v) e
   pub online : FillsOnline (shown v) e
@@ -28,13 +27,14 @@ pub record Books (v : Seen) (e : Entry) (now : Seen) : Type 0 where
   pub under_way : AreUnderWay now.reads now.processors
   pub runs : (k : ℕ) → IsRun (progress_of (after_entry v.plan (flat v) e) k) (now.runs k)
 
-pub book_next : (v : Seen) (e : Entry) (now : Seen) → KeepsBook v → Books v e now → KeepsBook now
-book_next v e now k b = record {
-  legal = rw (b.plan, b.entries) (legal_push v.plan v.entries e k.legal b.lawful);
-  clean = rw (b.plan, b.entries) (clean_push v.plan v.entries e k.clean
+pub book_next : (v : Seen) (e : Entry) (now : Seen) → now.plan ≡ v.plan → now.entries ≡ v.entries ++ e ∷ []
+    → KeepsBook v → Books v e now → KeepsBook now
+book_next v e now plan entries k b = record {
+  legal = rw (plan, entries) (legal_push v.plan v.entries e k.legal b.lawful);
+  clean = rw (plan, entries) (clean_push v.plan v.entries e k.clean
       (subst (λ (c : Custody). IsAllowed v.plan (flat v) c e) k.held b.allowed));
   held = b.next ∙ (ap (λ (c : Custody). custody_next v.plan (flat v) c e) k.held ∙
-      rw (b.plan, b.entries) (sym (custody_after-push v.plan v.entries e)));
+      rw (plan, entries) (sym (custody_after-push v.plan v.entries e)));
   stale_due = rw (b.next, b.pending) (fine_next v.plan (flat v) (shown v)
       (is_pending v.owner) e k.stale_due b.allowed b.online);
   going_owned = rw b.next b.going_owned;
@@ -45,4 +45,24 @@ book_next v e now k b = record {
 }
   where
     flat_is : flat now ≡ after_entry v.plan (flat v) e
-    flat_is = rw (b.plan, b.entries) (store_after-push v.plan v.entries e)
+    flat_is = rw (plan, entries) (store_after-push v.plan v.entries e)
+
+-- an entry of which custody and the tables show nothing
+pub book_apart : (v : Seen) (e : Entry) → KeepsBook v → IsLawful v.plan (flat v) e
+    → IsAllowed v.plan (flat v) (shown v) e → FillsOnline (shown v) e
+    → custody_next v.plan (flat v) (shown v) e ≡ shown v → pending_after (is_pending v.owner) e ≡ is_pending v.owner
+    → ((j : ℕ) → IsRun (progress_of (after_entry v.plan (flat v) e) j) (v.runs j))
+    → KeepsBook (record v { entries = v.entries ++ e ∷ [] })
+book_apart v e k lawful allowed online next pending runs =
+    book_next v e (record v { entries = v.entries ++ e ∷ [] }) refl refl k (record {
+      lawful = lawful;
+      allowed = allowed;
+      online = online;
+      next = sym next;
+      pending = sym pending;
+      going_owned = subst (λ (c : Custody). IsOwned c v.owner) (sym next) k.going_owned;
+      tied = k.tied;
+      holding_right = k.holding_right;
+      under_way = k.under_way;
+      runs = runs;
+    })

@@ -223,73 +223,65 @@ pub record GoesOn (v : Seen) (fs : List ℕ) (ds : List CutDescriptor) : Type 0 
   pub quiet : says v.owner ≡ None
   pub steady : IsSteady v.owner
 
--- an owner goes on without its first frame
-pending_without : (o : Option Owner) → is_pending (without_frame o) ≡ is_pending o
-pending_without None = refl
-pending_without (Some o) = refl
+-- so they are where the owner is the same, and no clear is due
+pub goes_with : {v now : Seen} {fs : List ℕ} {ds : List CutDescriptor} → now.owner ≡ v.owner → NoneDue (shown now)
+    → GoesOn v fs ds → GoesOn now fs ds
+goes_with same none on = record {
+  frames = ap frames_of_owner same ∙ on.frames;
+  cut = ap cut_of_owner same ∙ on.cut;
+  none = none;
+  still = ap is_pending same ∙ on.still;
+  quiet = ap says same ∙ on.quiet;
+  steady = subst IsSteady (sym same) on.steady;
+}
 
-says_without : (o : Option Owner) → says (without_frame o) ≡ says o
-says_without None = refl
-says_without (Some o) = refl
+-- pages and descriptors that go, or are back, leave all but the book, the frames' pages, the words and the owner
+abbrev pub LeavesRest : Seen → Seen → Type 0
+LeavesRest v now = now ≡ record v { entries = now.entries; bound = now.bound; words = now.words; owner = now.owner }
 
-cut_without : (o : Option Owner) → cut_of_owner (without_frame o) ≡ cut_of_owner o
-cut_without None = refl
-cut_without (Some o) = refl
+-- what an owner has that goes on with less to go
+record GoesLess (o now : Option Owner) (fs : List ℕ) (ds : List CutDescriptor) : Type 0 where
+  pending : is_pending now ≡ is_pending o
+  says : says now ≡ says o
+  steady : IsSteady o → IsSteady now
+  frames : frames_of_owner now ≡ fs
+  cut : cut_of_owner now ≡ ds
 
-frames_without : (o : Option Owner) → frames_of_owner (without_frame o) ≡ frames_after (frames_of_owner o)
-frames_without None = refl
-frames_without (Some o) = refl
+frame_goes : (o : Option Owner) → GoesLess o (without_frame o) (frames_after (frames_of_owner o)) (cut_of_owner o)
+frame_goes None = record { pending = refl; says = refl; steady = λ h. h; frames = refl; cut = refl }
+frame_goes (Some o) = record { pending = refl; says = refl; steady = λ h. h; frames = refl; cut = refl }
 
-steady_without : (o : Option Owner) → IsSteady o → IsSteady (without_frame o)
-steady_without None h = tt
-steady_without (Some o) h = h
+cut_goes : (o : Option Owner) → GoesLess o (without_cut o) (frames_of_owner o) (cut_after (cut_of_owner o))
+cut_goes None = record { pending = refl; says = refl; steady = λ h. h; frames = refl; cut = refl }
+cut_goes (Some o) = record { pending = refl; says = refl; steady = λ h. h; frames = refl; cut = refl }
 
 shaped_steady : (o : Option Owner) → IsSteady o → IsShaped o
 shaped_steady None h = tt
 shaped_steady (Some o) h = h o.frames o.cut
 
+-- it goes on without its first frame
 left_first : (o : Option Owner) (f : ℕ) (fs : List ℕ) → frames_of_owner o ≡ f ∷ fs → says o ≡ None → IsSteady o
     → HasLeft o (without_frame o) f
 left_first o f fs frames quiet steady = record {
   rest = fs;
   frames = frames;
-  left = frames_without o ∙ ap frames_after frames;
-  cut = cut_without o;
-  says = says_without o ∙ quiet;
-  shaped = shaped_steady (without_frame o) (steady_without o steady);
+  left = (frame_goes o).frames ∙ ap frames_after frames;
+  cut = (frame_goes o).cut;
+  says = (frame_goes o).says ∙ quiet;
+  shaped = shaped_steady (without_frame o) ((frame_goes o).steady steady);
 }
 
--- the same without its first descriptor
-pending_uncut : (o : Option Owner) → is_pending (without_cut o) ≡ is_pending o
-pending_uncut None = refl
-pending_uncut (Some o) = refl
-
-says_uncut : (o : Option Owner) → says (without_cut o) ≡ says o
-says_uncut None = refl
-says_uncut (Some o) = refl
-
-frames_uncut : (o : Option Owner) → frames_of_owner (without_cut o) ≡ frames_of_owner o
-frames_uncut None = refl
-frames_uncut (Some o) = refl
-
-cut_uncut : (o : Option Owner) → cut_of_owner (without_cut o) ≡ cut_after (cut_of_owner o)
-cut_uncut None = refl
-cut_uncut (Some o) = refl
-
-steady_uncut : (o : Option Owner) → IsSteady o → IsSteady (without_cut o)
-steady_uncut None h = tt
-steady_uncut (Some o) h = h
-
+-- and without its first descriptor
 left_first_cut : (o : Option Owner) (d : CutDescriptor) (ds : List CutDescriptor) → cut_of_owner o ≡ d ∷ ds
     → says o ≡ None → IsSteady o
     → HasLeftCut o (without_cut o) d
 left_first_cut o d ds cut quiet steady = record {
   rest = ds;
   cut = cut;
-  left = cut_uncut o ∙ ap cut_after cut;
-  frames = frames_uncut o;
-  says = says_uncut o ∙ quiet;
-  shaped = shaped_steady (without_cut o) (steady_uncut o steady);
+  left = (cut_goes o).cut ∙ ap cut_after cut;
+  frames = (cut_goes o).frames;
+  says = (cut_goes o).says ∙ quiet;
+  shaped = shaped_steady (without_cut o) ((cut_goes o).steady steady);
 }
 
 -- a frame that is going has a page whose word says so
@@ -325,7 +317,7 @@ module _ (v : Seen) (f : ℕ) (fs : List ℕ) (ds : List CutDescriptor) (k : Kee
     leaving = going_word v f k first_going;
     none = on.none;
     still = on.still;
-    after = pending_without v.owner ∙ on.still;
+    after = (frame_goes v.owner).pending ∙ on.still;
     first = left_first v.owner f fs on.frames on.quiet on.steady;
   }
 
@@ -333,12 +325,12 @@ module _ (v : Seen) (f : ℕ) (fs : List ℕ) (ds : List CutDescriptor) (k : Kee
 pub back_on : (v : Seen) (f : ℕ) (fs : List ℕ) (ds : List CutDescriptor) → GoesOn v (f ∷ fs) ds
     → GoesOn (back v f (page_at v f).0 (page_at v f).1 (without_frame v.owner)) fs ds
 back_on v f fs ds on = record {
-  frames = frames_without v.owner ∙ ap frames_after on.frames;
-  cut = cut_without v.owner ∙ on.cut;
+  frames = (frame_goes v.owner).frames ∙ ap frames_after on.frames;
+  cut = (frame_goes v.owner).cut ∙ on.cut;
   none = on.none;
-  still = pending_without v.owner ∙ on.still;
-  quiet = says_without v.owner ∙ on.quiet;
-  steady = steady_without v.owner on.steady;
+  still = (frame_goes v.owner).pending ∙ on.still;
+  quiet = (frame_goes v.owner).says ∙ on.quiet;
+  steady = (frame_goes v.owner).steady on.steady;
 }
 
 pub backs_keep : (v : Seen) (fs : List ℕ) (ds : List CutDescriptor) → KeepsBook v → GoesOn v fs ds
@@ -355,21 +347,14 @@ gones_keep v (f ∷ fs) ds k on = gones_keep (gone v f (page_at v f).0 (page_at 
     (without_frame v.owner)) fs ds
     (gone_keeps v f (page_at v f).0 (page_at v f).1 (without_frame v.owner) k
     (first_finish v f fs ds k on) ptw.Null refl)
-    (record {
-      frames = frames_without v.owner ∙ ap frames_after on.frames;
-      cut = cut_without v.owner ∙ on.cut;
-      none = on.none;
-      still = pending_without v.owner ∙ on.still;
-      quiet = says_without v.owner ∙ on.quiet;
-      steady = steady_without v.owner on.steady;
-    })
+    (goes_with refl on.none (back_on v f fs ds on))
 
 pub first_finish_seg : (v : Seen) (fs : List ℕ) (d : CutDescriptor) (ds : List CutDescriptor) → GoesOn v fs (d ∷ ds)
     → CanFinishSeg v d (without_cut v.owner)
 first_finish_seg v fs d ds on = record {
   none = on.none;
   still = on.still;
-  after = pending_uncut v.owner ∙ on.still;
+  after = (cut_goes v.owner).pending ∙ on.still;
   first = left_first_cut v.owner d ds on.cut on.quiet on.steady;
 }
 
@@ -377,12 +362,12 @@ pub uncut_on : (v now : Seen) (fs : List ℕ) (d : CutDescriptor) (ds : List Cut
     → NoneDue (shown now)
     → now.owner ≡ without_cut v.owner → GoesOn now fs ds
 uncut_on v now fs d ds on none same = record {
-  frames = ap frames_of_owner same ∙ (frames_uncut v.owner ∙ on.frames);
-  cut = ap cut_of_owner same ∙ (cut_uncut v.owner ∙ ap cut_after on.cut);
+  frames = ap frames_of_owner same ∙ ((cut_goes v.owner).frames ∙ on.frames);
+  cut = ap cut_of_owner same ∙ ((cut_goes v.owner).cut ∙ ap cut_after on.cut);
   none = none;
-  still = ap is_pending same ∙ (pending_uncut v.owner ∙ on.still);
-  quiet = ap says same ∙ (says_uncut v.owner ∙ on.quiet);
-  steady = subst IsSteady (sym same) (steady_uncut v.owner on.steady);
+  still = ap is_pending same ∙ ((cut_goes v.owner).pending ∙ on.still);
+  quiet = ap says same ∙ ((cut_goes v.owner).says ∙ on.quiet);
+  steady = subst IsSteady (sym same) ((cut_goes v.owner).steady on.steady);
 }
 
 pub back_segs_keep : (v : Seen) (fs : List ℕ) (ds : List CutDescriptor) → KeepsBook v → GoesOn v fs ds

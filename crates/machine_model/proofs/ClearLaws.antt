@@ -164,9 +164,7 @@ pub record CanSignal (v : Seen) (c : ℕ) (w : What) (owner : Option Owner) : Ty
 pub signal_keeps : (v : Seen) (c : ℕ) (w : What) (owner : Option Owner) → KeepsBook v → CanSignal v c w owner
     → KeepsBook (signalled v c w owner)
 unfolding IsLawful after_entry custody_next
-signal_keeps v c w owner k can = book_next v (entry.Signal c w) (signalled v c w owner) k (record {
-  plan = refl;
-  entries = refl;
+signal_keeps v c w owner k can = book_next v (entry.Signal c w) (signalled v c w owner) refl refl k (record {
   lawful = tt;
   allowed = record { online = can.online; none_due = none; something = goes.0; all = goes.1 };
   online = tt;
@@ -197,9 +195,7 @@ signal_keeps v c w owner k can = book_next v (entry.Signal c w) (signalled v c w
 pub clear_keeps : (v : Seen) (c : ℕ) (w : What) → KeepsBook v → (v.processors c).cpu.due ≡ Some w
     → KeepsBook (cleared_at v c w)
 unfolding IsLawful after_entry custody_next
-clear_keeps v c w k due = book_next v (entry.Clear c w) (cleared_at v c w) k (record {
-  plan = refl;
-  entries = refl;
+clear_keeps v c w k due = book_next v (entry.Clear c w) (cleared_at v c w) refl refl k (record {
   lawful = tt;
   allowed = due;
   online = tt;

@@ -1,5 +1,5 @@
 -- What the step asks of a command that takes effect: what the store says after it, and that it may be answered.
-use Rattle.std.proofs.Common.{◌≡◌, ◌%◌, ◌/◌, ℕ, Bool, true, false, ◌&&◌, cond, eqb, length, map, List, [], ◌∷◌, ◌++◌}
+use Rattle.std.proofs.Common.{◌≡◌, ℕ, Bool, true, false, ◌&&◌, cond, length, map, List, [], ◌∷◌, ◌++◌}
 use Rattle.std.proofs.Common.{◌⊎◌, Option, Some, None, inl, inr, refl, sym, ap, subst, ◌∙◌}
 use Rattle.std.proofs.lemmas.List.{length-set}
 use Rattle.std.specs.List.{list_all}
@@ -9,16 +9,12 @@ use Rattle.script.specs.declared.commands.Command.TheVariants as command
 use Rattle.script.specs.declared.commands.Reference.{Reference}
 use Rattle.book.specs.declared.entries.Entry.{Entry}
 use Rattle.book.specs.declared.entries.Entry.TheVariants as entry
-use Rattle.tree_model.specs.Access.{Row}
 use Rattle.tree_model.specs.Trees.{IsTree}
-use Rattle.core_map.specs.CoreMap.{bound_page}
 use Rattle.core_map.specs.declared.Frame.TheVariants as frame
 use Rattle.page_table.specs.declared.Ptw.{Ptw}
 use Rattle.page_table.specs.declared.Ptw.TheVariants as ptw
-use Rattle.page_control.specs.Effects.{cut, erased, framed}
-use Rattle.page_control.specs.Plain.{Plain, frame_in, words_in}
+use Rattle.page_control.specs.Effects.{erased}
 use Rattle.seg_control.specs.Control.{word_of}
-use Rattle.flat_model.specs.Branches.{parts_of}
 use Rattle.flat_model.specs.Commands.{effect_by, effect_of, effect_of_tree_command, reply_by, reply_to_command}
 use Rattle.flat_model.specs.Commands.{reply_to_tree_command, takes_effect}
 use Rattle.flat_model.specs.Legal.{store_after}
@@ -30,12 +26,12 @@ use Rattle.machine_model.specs.declared.CutDescriptor.{CutDescriptor}
 use Rattle.machine_model.specs.Actions as act
 use Rattle.machine_model.specs.After.{Outcome, after}
 use Rattle.machine_model.specs.Commits.{committed, committed_at, cut_entry, frame_entry, frames_freed, gone_entries}
-use Rattle.machine_model.specs.Commits.{inactive_entries, left_after, pages_past, stays, with_cut, with_cut_in}
+use Rattle.machine_model.specs.Commits.{inactive_entries, left_after}
 use Rattle.machine_model.specs.Commits.{with_deleted}
-use Rattle.machine_model.specs.Commits.{with_effect, with_made, with_truncated, without_page, without_pages}
+use Rattle.machine_model.specs.Commits.{with_effect, with_truncated, without_page}
 use Rattle.machine_model.specs.Custodial.{IsRun}
 use Rattle.machine_model.specs.Holding.{seen}
-use Rattle.machine_model.specs.Jobs.{are_zeros, here_if, with_here, with_inactive}
+use Rattle.machine_model.specs.Jobs.{with_inactive}
 use Rattle.machine_model.specs.Keeps.{Keeps, StoreSays}
 use Rattle.machine_model.specs.Reads.{cut_of_owner, flat_of, frames_of_owner, home_in, is_active, process_at}
 use Rattle.machine_model.specs.Reads.{run_at}
@@ -62,65 +58,29 @@ use Rattle.machine_model.specs.Chains.{page_at}
 use Rattle.core_map.specs.CoreMap.{reads_of}
 use Rattle.page_control.specs.Plain.{binding_at, bindings}
 use Rattle.seg_control.specs.Kept.{read_at}
-use Rattle.machine_model.proofs.DeleteKept.{all_gone, node}
+use Rattle.machine_model.proofs.DeleteKept.{all_gone, freed_length, node}
 use Rattle.machine_model.proofs.TruncateKept.{QuietWords, all_left, cut_store}
 use Rattle.machine_model.proofs.TellKept.{CanTell}
 use Rattle.machine_model.proofs.TieLaws.{none_some}
+use Rattle.machine_model.proofs.EffectLaws.{effect_has, truncated_has}
+use Rattle.machine_model.proofs.EffectLaws.{frame_entry_has}
+use Rattle.machine_model.proofs.SpeakLaws.{speaks_like}
 
 -- ---- a command leaves as many frames
 
 abbrev count : Storage → ℕ
 count st = length st.pages.core.frames
 
-is_here : (st : Storage) (f : ℕ) → count (with_here st f) ≡ count st
-is_here st f = by (bound_page (frame_in st.pages f))
-  where
-    by : (x : Option (ℕ × ℕ)) → count (here_if st f x) ≡ count st
-    by None = refl
-    by (Some page) = refl
-
-made : (st : Storage) (directory : Bool) (pages volume : ℕ) (rows : List Row) (x : Option (List (List ℕ) × List ℕ))
-    → count (with_made st directory pages volume rows x) ≡ count st
-made st directory pages volume rows None = refl
-made st directory pages volume rows (Some parts) = refl
-
 page_cut : (st : Storage) (u p : ℕ) (w : Ptw) → count (without_page st u p w) ≡ count st
-page_cut st u p ptw.Null = refl
-page_cut st u p (ptw.Out n) = refl
-page_cut st u p (ptw.Here f) = refl
 page_cut st u p (ptw.Leaving f) = length-set st.pages.core.frames f frame.Free
-
-pages_cut : (st : Storage) (u : ℕ) (ps : List ℕ) → count (without_pages st u ps) ≡ count st
-pages_cut st u [] = refl
-pages_cut st u (p ∷ ps) = pages_cut (without_page st u p (word_of st.ast u p)) u ps
-    ∙ page_cut st u p (word_of st.ast u p)
-
-cut_in : (st : Storage) (u p at f : ℕ) → count (with_cut_in st u p at f) ≡ count st
-cut_in st u p at f = by (are_zeros (words_in (cut st.pages f at) f))
-  where
-    by : (b : Bool) → count (cond b (without_page (with_pages st (cut st.pages f at)) u p (ptw.Leaving f))
-        (with_here (with_pages st (cut st.pages f at)) f)) ≡ count st
-    by true = length-set (cut st.pages f at).core.frames f frame.Free ∙ length-set st.pages.core.frames f _
-    by false = is_here (with_pages st (cut st.pages f at)) f ∙ length-set st.pages.core.frames f _
-
-word_cut : (st : Storage) (u p at : ℕ) (w : Ptw) → count (with_cut st u p at w) ≡ count st
-word_cut st u p at (ptw.Leaving f) = cut_in st u p at f
-word_cut st u p at ptw.Null = refl
-word_cut st u p at (ptw.Out n) = refl
-word_cut st u p at (ptw.Here f) = refl
+page_cut st u p _ = refl
 
 truncated : (st : Storage) (u words : ℕ) → count (with_truncated st u words) ≡ count st
-truncated st u words = by (eqb (words % 1024) 0)
-  where
-    by : (b : Bool) → count (without_pages (cond b st (with_cut st u (words / 1024) (words % 1024)
-        (word_of st.ast u (words / 1024)))) u (pages_past st u words)) ≡ count st
-    by true = pages_cut st u (pages_past st u words)
-    by false = pages_cut _ u (pages_past st u words)
-        ∙ word_cut st u (words / 1024) (words % 1024) (word_of st.ast u (words / 1024))
-
-are_freed : (pages : Plain) (fs : List ℕ) → length (frames_freed pages fs).core.frames ≡ length pages.core.frames
-are_freed pages [] = refl
-are_freed pages (f ∷ fs) = are_freed (framed pages f frame.Free) fs ∙ length-set pages.core.frames f frame.Free
+truncated st u words = truncated_has (λ t. count t ≡ count st) (record {
+  without = λ t u p w h. page_cut t u p w ∙ h;
+  shortened = λ t f at h. length-set t.pages.core.frames f _ ∙ h;
+  here = λ t f u p h. h;
+}) st u words refl
 
 deleted : (st : Storage) (u : ℕ) (frames : List ℕ) → count (with_deleted st u frames) ≡ count st
 deleted st u frames = by (is_active st.ast u)
@@ -128,26 +88,13 @@ deleted st u frames = by (is_active st.ast u)
     by : (b : Bool) → count (cond b (with_inactive (with_pages st (erased (frames_freed st.pages frames)
         (home_in st u))) u)
         (with_pages st (erased (frames_freed st.pages frames) (home_in st u)))) ≡ count st
-    by true = are_freed st.pages frames
-    by false = are_freed st.pages frames
+    by true = freed_length st.pages frames
+    by false = freed_length st.pages frames
 
 effect_frames : (st : Storage) (k u : ℕ) (frames : List ℕ) (c : Command)
     → count (with_effect st k u frames c) ≡ count st
-effect_frames st k u frames (command.MkDir path volume) = made st true 0 volume [] (parts_of path)
-effect_frames st k u frames (command.MkSeg path pages volume) = made st false pages volume _ (parts_of path)
-effect_frames st k u frames (command.Truncate path words) = truncated st u words
-effect_frames st k u frames (command.Delete path) = deleted st u frames
-effect_frames st k u frames (command.Initiate path) = refl
-effect_frames st k u frames (command.Terminate n) = refl
-effect_frames st k u frames (command.Acl path row m) = refl
-effect_frames st k u frames (command.Length path pages) = refl
-effect_frames st k u frames (command.Move path amount) = refl
-effect_frames st k u frames command.End = refl
-effect_frames st k u frames (command.Status path) = refl
-effect_frames st k u frames (command.Read n w) = refl
-effect_frames st k u frames (command.Write n w x) = refl
-effect_frames st k u frames (command.Add n w x) = refl
-effect_frames st k u frames (command.Await n w x t) = refl
+effect_frames st k u frames c = effect_has (λ t. count t ≡ count st) st k u frames c (λ accounts links. refl) (λ n. refl)
+    (λ words. truncated st u words) (deleted st u frames)
 
 -- ---- the book after it
 
@@ -163,12 +110,7 @@ all_both (x ∷ xs) ys h g = by (is_still x) h (λ e. all_both xs ys e g)
     by false e rest = absurd (let none : false ≡ true = e in cc)
 
 frame_still : (st : Storage) (c : Command) (f : ℕ) → is_still (frame_entry st c f) ≡ true
-frame_still st (command.Truncate path words) f = by (stays st words f)
-  where
-    by : (b : Bool) → is_still (cond b (entry.BackPage f) (entry.GonePage f)) ≡ true
-    by true = refl
-    by false = refl
-frame_still st _ f = refl
+frame_still st c f = frame_entry_has (λ e. is_still e ≡ true) st c f refl refl
 
 frames_still : (st : Storage) (c : Command) (fs : List ℕ) → list_all is_still (map (frame_entry st c) fs) ≡ true
 frames_still st c [] = refl
@@ -198,20 +140,7 @@ gone_still s u c = all_both (map (frame_entry s.store c) (frames_of_owner s.owne
 left_like : (A : Store) (x : State) (c : ℕ) (cmd : Command) → IsAlike A (flat_of x)
     → IsAlike A (flat_of (with_owner (left_after x c cmd) None))
 left_like A x c command.End h = alike_by h (one_still x.plan x.entries (entry.Leave c) refl)
-left_like A x c (command.MkDir path volume) h = h
-left_like A x c (command.MkSeg path pages volume) h = h
-left_like A x c (command.Initiate path) h = h
-left_like A x c (command.Terminate n) h = h
-left_like A x c (command.Acl path row m) h = h
-left_like A x c (command.Length path pages) h = h
-left_like A x c (command.Truncate path words) h = h
-left_like A x c (command.Delete path) h = h
-left_like A x c (command.Move path amount) h = h
-left_like A x c (command.Status path) h = h
-left_like A x c (command.Read n w) h = h
-left_like A x c (command.Write n w v) h = h
-left_like A x c (command.Add n w v) h = h
-left_like A x c (command.Await n w v t) h = h
+left_like A x c _ h = h
 
 record LeavesStore (x y : State) : Type 0 where
   pub plan : y.plan ≡ x.plan
@@ -304,15 +233,8 @@ module _ (s : State) (c : ℕ) (o : Outcome) (keeps : Keeps s) (cmd : Command) (
   b = with_owner (effected s k cmd) None
 
   speaks_still : Speaks b c k cmd
-  speaks_still = record {
-    there = sp.there;
-    known = sp.known;
-    its = sp.its;
-    next = sp.next;
-    going = sp.going;
-    turn = sp.turn;
-    runs = λ j. subst (λ (t : Store). IsRun (progress_of t j) (run_at s.runs j)) (sym still) (sp.runs j);
-  }
+  speaks_still = speaks_like refl refl refl
+      (λ j. subst (λ (t : Store). IsRun (progress_of t j) (run_at s.runs j)) (sym still) (sp.runs j)) sp
 
   -- It may be answered, where what it takes away is out of use.
   pub commit_tell : MayTakeEffect (flat_of s) (shown (seen b)) k cmd → CanTell b c k None (reply_of s k cmd)

@@ -39,6 +39,8 @@ use Rattle.machine_model.proofs.SeenLaws.{reseated_seen}
 use Rattle.machine_model.proofs.TellKept.{CanTell, told_keeps}
 use Rattle.machine_model.proofs.TieLaws.{none_some}
 use Rattle.machine_model.proofs.TransferKept.{kept_with}
+use Rattle.std.proofs.lemmas.List.{append-nil, append_assoc}
+use Rattle.machine_model.proofs.KeepLaws.{quiet_push}
 
 -- ---- a process leaves its processor
 
@@ -69,18 +71,10 @@ left_keeps_book s c k book there process may =
 
 -- ---- descriptors that were cut are gone
 
-append_nil : (es : List Entry) → es ++ [] ≡ es
-append_nil [] = refl
-append_nil (e ∷ es) = ap (λ (t : List Entry). e ∷ t) (append_nil es)
-
-append_assoc : (xs ys zs : List Entry) → (xs ++ ys) ++ zs ≡ xs ++ (ys ++ zs)
-append_assoc [] ys zs = refl
-append_assoc (x ∷ xs) ys zs = ap (λ (t : List Entry). x ∷ t) (append_assoc xs ys zs)
-
 -- the book tells of each descriptor that is gone, and nothing else changes but the owner
 gone_segs_is : (v : Seen) (ds : List CutDescriptor) (owner : Option Owner)
     → record (gone_segs v ds) { owner = owner } ≡ record v { owner = owner; entries = v.entries ++ map cut_entry ds }
-gone_segs_is v [] owner = λ i. record v { owner = owner; entries = sym (append_nil v.entries) i }
+gone_segs_is v [] owner = λ i. record v { owner = owner; entries = sym (append-nil v.entries) i }
 gone_segs_is v (d ∷ ds) owner = gone_segs_is (gone_seg v d (without_cut v.owner)) ds owner
     ∙ (λ i. record v { owner = owner; entries = append_assoc v.entries (cut_entry d ∷ []) (map cut_entry ds) i })
 
@@ -93,7 +87,7 @@ segs_over s ds k on = let gone = gone_segs_keep (seen s) [] ds k on in subst Kee
 pub idle_over : (s : State) → KeepsBook (seen s) → IsIdle s.owner → is_pending s.owner ≡ false
     → KeepsBook (record (seen s) { owner = None; entries = s.entries ++ [] })
 idle_over s k idle still = subst (λ (es : List Entry). KeepsBook (record (seen s) { owner = None; entries = es }))
-    (sym (append_nil s.entries))
+    (sym (append-nil s.entries))
     (owner_keeps (seen s) None k idle nobody still)
 
 -- ---- the effect on what custody sees
@@ -134,14 +128,13 @@ gone_are : (s : State) (u : ℕ) (c : Command) → TakesNoPage c → frames_of_o
 gone_are s u c h none = ap (λ (fs : List ℕ). map (frame_entry s.store c) fs ++
     (map cut_entry (cut_of_owner s.owner) ++ inactive_entries s.store u c)) none
     ∙ (ap (λ (es : List Entry). map cut_entry (cut_of_owner s.owner) ++ es) (no_inactive s.store u c h)
-    ∙ append_nil (map cut_entry (cut_of_owner s.owner)))
+    ∙ append-nil (map cut_entry (cut_of_owner s.owner)))
 
 pub cut_faults : (es : List Entry) (ds : List CutDescriptor)
     → count_by is_fault (es ++ map cut_entry ds) ≡ count_by is_fault es
-cut_faults es [] = ap (count_by is_fault) (append_nil es)
+cut_faults es [] = ap (count_by is_fault) (append-nil es)
 cut_faults es (d ∷ ds) = ap (count_by is_fault) (sym (append_assoc es (cut_entry d ∷ []) (map cut_entry ds)))
-    ∙ (cut_faults (es ++ cut_entry d ∷ []) ds ∙ (let one = faults_push es (cut_entry d) in
-    let none : count_by is_fault (es ++ cut_entry d ∷ []) ≡ count_by is_fault es = omega (arith, one) in none))
+    ∙ (cut_faults (es ++ cut_entry d ∷ []) ds ∙ quiet_push es (cut_entry d) refl)
 
 -- ---- the command
 

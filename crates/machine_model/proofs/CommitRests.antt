@@ -51,8 +51,8 @@ use Rattle.machine_model.proofs.ActiveSeen.{active_less}
 use Rattle.machine_model.proofs.ChainLaws.{going_word, has_head}
 use Rattle.machine_model.proofs.CommitAsks.{IsOut, RestsDelete, RestsDeleteInactive, RestsDescriptors}
 use Rattle.machine_model.proofs.CommitKept.{effected}
-use Rattle.machine_model.proofs.DeleteKept.{IsAlike, all_gone, freed, freed_bound, freed_reads, gone_entry, gones_alike}
-use Rattle.machine_model.proofs.DeleteKept.{gones_bound, gones_entries, node, segs_alike, segs_bound, segs_entries}
+use Rattle.machine_model.proofs.DeleteKept.{all_gone, chain_leaves, freed, freed_bound, freed_reads, gone_entry}
+use Rattle.machine_model.proofs.DeleteKept.{gones_bound, gones_entries, node, segs_bound, segs_entries}
 use Rattle.machine_model.proofs.FinishKept.{bound_within}
 use Rattle.machine_model.proofs.FlatAlike.{all_still, is_still}
 use Rattle.machine_model.proofs.OwnedLaws.{cut_at_same}
@@ -60,6 +60,7 @@ use Rattle.machine_model.proofs.Places.{by_place}
 use Rattle.machine_model.proofs.QuotaTotals.{branch_found, only_found}
 use Rattle.machine_model.proofs.TieLaws.{none_some}
 use Rattle.machine_model.proofs.TransferKept.{active_at}
+use Rattle.machine_model.proofs.ChainLaws.{LeavesRest}
 
 no_and : {b : Bool} → b ≡ true → b ≡ false → ⊥
 no_and t f = let none : true ≡ false = sym t ∙ f in cc
@@ -334,14 +335,11 @@ module _ (s : State) (c : ℕ) (path : Path) (keeps : Keeps s) (h : IsTakenFor s
 
     -- ---- before its table goes
 
-    one : IsAlike (seen s) (gones (seen s) fs)
-    one = gones_alike (seen s) fs
-
-    two : IsAlike (gones (seen s) fs) (all_gone s c j path)
-    two = segs_alike (gones (seen s) fs) ds
+    rest : LeavesRest (seen s) (all_gone s c j path)
+    rest = chain_leaves (seen s) fs ds
 
     nodes_still : (flat (all_gone s c j path)).nodes ≡ s.store.accounts.nodes
-    nodes_still = ap (λ (t : Store). t.nodes) ((λ i. store_after ((two.plan ∙ one.plan) i) ((segs_entries
+    nodes_still = ap (λ (t : Store). t.nodes) ((λ i. store_after (rest i).plan ((segs_entries
         (gones (seen s) fs) ds ∙ ap (λ (es : List Entry). es ++ map cut_entry ds) (gones_entries (seen s) fs)) i))
         ∙ (all_still s.plan (s.entries ++ map gone_entry fs) (map cut_entry ds) (cut_all_still ds)
         ∙ all_still s.plan s.entries (map gone_entry fs) (gone_all_still fs)))
@@ -350,15 +348,15 @@ module _ (s : State) (c : ℕ) (path : Path) (keeps : Keeps s) (h : IsTakenFor s
     may : is_active s.store.ast u ≡ true
         → MayDeactivate (flat (all_gone s c j path)) (shown (all_gone s c j path)) u
     may active = record {
-      active = ap (λ (x : ℕ → Bool). x u) (two.active ∙ one.active) ∙ active;
+      active = ap (λ (x : Seen). x.active u) rest ∙ active;
       inferiors = λ v on i. not_above s.store.accounts.nodes u v h.alone
           (ap (λ (ns : List Node). superior_in (node_in ns v)) (sym nodes_still) ∙ i);
       pages = λ f e. none_left (all_gone s c j path).words f ((λ i. uid_of_page (page_of
           (frame_use (all_gone s c j path).words
           (sym (ap (λ (x : ℕ → Option (ℕ × ℕ)). x f) (segs_bound (gones (seen s) fs) ds ∙ gones_bound (seen s) fs)) i)
-          (sym (ap (λ (x : ℕ → Option (ℕ × ℕ)). x f) (two.reads ∙ one.reads)) i)))) ∙ e);
+          (sym (ap (λ (x : Seen). x.reads f) rest) i)))) ∙ e);
       descriptors = λ i n e. not_linked i n (led_now ((seen s).linked i n) u ((λ t. leads_to (descriptor_use
-          (sym (ap (λ (x : ℕ → ℕ → Option ℕ). x i n) (two.linked ∙ one.linked)) t)
+          (sym (ap (λ (x : Seen). x.linked i n) rest) t)
           (cut_uid (sym (cut_gone (gones (seen s) fs) ds (cut_stays (seen s) fs)) t) i n))) ∙ e));
     }
 

@@ -21,23 +21,19 @@ use Rattle.storage_ops.specs.Shown.{who_at}
 use Rattle.machine_model.specs.Entitled.{AreEntitled, HoldEntitled, IsEntitled}
 use Rattle.machine_model.specs.Reads.{cpu_at}
 use Rattle.machine_model.specs.declared.Processor.{Processor}
-use Rattle.std.proofs.Common.{◌%◌, ◌/◌}
 use Rattle.script.specs.declared.commands.Command.{Command}
 use Rattle.script.specs.declared.commands.Command.TheVariants as command
 use Rattle.tree_model.specs.Access.{Row}
-use Rattle.core_map.specs.CoreMap.{bound_page}
 use Rattle.page_table.specs.declared.Ptw.{Ptw}
 use Rattle.page_table.specs.declared.Ptw.TheVariants as ptw
-use Rattle.page_control.specs.Effects.{cut, erased}
-use Rattle.page_control.specs.Plain.{frame_in, words_in}
-use Rattle.seg_control.specs.Control.{word_of}
+use Rattle.page_control.specs.Effects.{erased}
 use Rattle.flat_model.specs.Branches.{parts_of}
 use Rattle.processor.specs.declared.Cpu.{Cpu}
-use Rattle.machine_model.specs.Commits.{committed, committed_at, pages_past, with_cut, with_cut_in, with_made}
+use Rattle.machine_model.specs.Commits.{committed, committed_at, with_made}
 use Rattle.machine_model.specs.Commits.{with_truncated}
-use Rattle.machine_model.specs.Commits.{frames_freed, inactive_if, with_deleted, without_page, without_pages}
+use Rattle.machine_model.specs.Commits.{frames_freed, inactive_if, with_deleted, without_page}
 use Rattle.machine_model.specs.Entitled.{IsEntitledToAll}
-use Rattle.machine_model.specs.Jobs.{are_zeros, here_if, with_here, with_inactive}
+use Rattle.machine_model.specs.Jobs.{with_inactive}
 use Rattle.machine_model.specs.Keeps.{Keeps}
 use Rattle.machine_model.specs.Reads.{frames_of_owner, home_in, is_active, process_at}
 use Rattle.machine_model.specs.Refusal.{reply_of, uid_of_command}
@@ -60,6 +56,7 @@ use Rattle.active_segs.specs.Active.{uid_at}
 use Rattle.active_segs.specs.declared.Entry.{Entry as Segment}
 use Rattle.descriptor_seg.specs.Descriptors.{sdw_at}
 use Rattle.machine_model.proofs.TieLaws.{none_some}
+use Rattle.machine_model.proofs.EffectLaws.{truncated_has}
 
 -- each older node that is there now was there, with these rows and pages
 pub record HaveFrom (old now : List Node) (next : ℕ) : Type 0 where
@@ -141,41 +138,36 @@ map_from change uid rows pages (x ∷ xs) u n h = first_from x (change x) n xs (
     (pages x)
     (λ e. map_from change uid rows pages xs u n e) h
 
--- quota that moves
-pub from_quota : (ns : List Node) (d next : ℕ) (amount : ℤ) → HaveFrom ns (nodes_moved ns d amount) next
-from_quota ns d next amount = record { each = λ u n less h. map_from change uid rows pages ns u n h }
+-- quota that moves leaves the rest of a node
+quota_changes : (v : ℕ) (f : ℕ → ℕ) (n : Node) → with_quota_of v f n ≡ record n { quota = (with_quota_of v f n).quota }
+quota_changes v f n = by (eqb n.uid v)
   where
-    giver : ℕ
-    giver = giver_of (above ns) d (is_positive amount)
+    by : (b : Bool) → cond b (record n { quota = f n.quota }) n
+        ≡ record n { quota = (cond b (record n { quota = f n.quota }) n).quota }
+    by true = refl
+    by false = refl
 
-    getter : ℕ
-    getter = getter_of (above ns) d (is_positive amount)
+-- a node once quota has moved to a directory, or from it
+abbrev pub node_moved : List Node → ℕ → ℤ → Node → Node
+node_moved ns d amount n = with_quota_of (giver_of (above ns) d (is_positive amount)) (λ q. q - unsigned_abs amount)
+    (with_quota_of (getter_of (above ns) d (is_positive amount)) (λ q. q + unsigned_abs amount) n)
 
-    change : Node → Node
-    change n = with_quota_of giver (λ q. q - unsigned_abs amount) (with_quota_of getter
-        (λ q. q + unsigned_abs amount) n)
+pub quota_moves : (ns : List Node) (d : ℕ) (amount : ℤ) (n : Node)
+    → node_moved ns d amount n ≡ record n { quota = (node_moved ns d amount n).quota }
+quota_moves ns d amount n = quota_changes (giver_of (above ns) d (is_positive amount)) (λ q. q - unsigned_abs amount) got
+    ∙ (λ i. record (quota_changes (getter_of (above ns) d (is_positive amount)) (λ q. q + unsigned_abs amount) n i) {
+      quota = (node_moved ns d amount n).quota;
+    })
+  where
+    got : Node
+    got = with_quota_of (getter_of (above ns) d (is_positive amount)) (λ q. q + unsigned_abs amount) n
 
-    one : (v : ℕ) (f : ℕ → ℕ) (n : Node) → ((with_quota_of v f n).uid ≡ n.uid) × ((with_quota_of v f n).rows ≡ n.rows)
-        × ((with_quota_of v f n).pages ≡ n.pages)
-    one v f n = by (eqb n.uid v)
-      where
-        by : (b : Bool) → ((cond b (record n { quota = f n.quota }) n).uid ≡ n.uid)
-            × ((cond b (record n { quota = f n.quota }) n).rows ≡ n.rows)
-            × ((cond b (record n { quota = f n.quota }) n).pages ≡ n.pages)
-        by true = (refl, refl, refl)
-        by false = (refl, refl, refl)
-
-    uid : (n : Node) → (change n).uid ≡ n.uid
-    uid n = (one giver (λ q. q - unsigned_abs amount) (with_quota_of getter (λ q. q + unsigned_abs amount) n)).0
-        ∙ (one getter (λ q. q + unsigned_abs amount) n).0
-
-    rows : (n : Node) → (change n).rows ≡ n.rows
-    rows n = (one giver (λ q. q - unsigned_abs amount) (with_quota_of getter (λ q. q + unsigned_abs amount) n)).1
-        ∙ (one getter (λ q. q + unsigned_abs amount) n).1
-
-    pages : (n : Node) → (change n).pages ≡ n.pages
-    pages n = (one giver (λ q. q - unsigned_abs amount) (with_quota_of getter (λ q. q + unsigned_abs amount) n)).2
-        ∙ (one getter (λ q. q + unsigned_abs amount) n).2
+pub from_quota : (ns : List Node) (d next : ℕ) (amount : ℤ) → HaveFrom ns (nodes_moved ns d amount) next
+from_quota ns d next amount = record {
+  each = λ u n less h. map_from (node_moved ns d amount) (λ m. ap (λ (x : Node). x.uid) (quota_moves ns d amount m))
+      (λ m. ap (λ (x : Node). x.rows) (quota_moves ns d amount m))
+      (λ m. ap (λ (x : Node). x.pages) (quota_moves ns d amount m)) ns u n h;
+}
 
 -- ---- the commands
 
@@ -190,53 +182,14 @@ then_names a b c x y = record { nodes = y.nodes ∙ x.nodes; whos = y.whos ∙ x
 
 page_names : (st : Storage) (u p : ℕ) (w : Ptw) → LeavesNames st (without_page st u p w)
 page_names st u p ptw.Null = record { nodes = refl; whos = refl; known = refl }
-page_names st u p (ptw.Out n) = record { nodes = refl; whos = refl; known = refl }
-page_names st u p (ptw.Here f) = record { nodes = refl; whos = refl; known = refl }
-page_names st u p (ptw.Leaving f) = record { nodes = refl; whos = refl; known = refl }
-
-pages_names : (st : Storage) (u : ℕ) (ps : List ℕ) → LeavesNames st (without_pages st u ps)
-pages_names st u [] = record { nodes = refl; whos = refl; known = refl }
-pages_names st u (p ∷ ps) = then_names st (without_page st u p (word_of st.ast u p)) (without_pages st u (p ∷ ps))
-    (page_names st u p (word_of st.ast u p)) (pages_names (without_page st u p (word_of st.ast u p)) u ps)
-
-here_names : (st : Storage) (f : ℕ) → LeavesNames st (with_here st f)
-here_names st f = by (bound_page (frame_in st.pages f))
-  where
-    by : (x : Option (ℕ × ℕ)) → LeavesNames st (here_if st f x)
-    by None = record { nodes = refl; whos = refl; known = refl }
-    by (Some page) = record { nodes = refl; whos = refl; known = refl }
-
-cut_in_names : (st : Storage) (u p at f : ℕ) → LeavesNames st (with_cut_in st u p at f)
-cut_in_names st u p at f = then_names st now (with_cut_in st u p at f) first (by (are_zeros (words_in now.pages f)))
-  where
-    now : Storage
-    now = with_pages st (cut st.pages f at)
-
-    first : LeavesNames st now
-    first = record { nodes = refl; whos = refl; known = refl }
-
-    by : (b : Bool) → LeavesNames now (cond b (without_page now u p (ptw.Leaving f)) (with_here now f))
-    by true = page_names now u p (ptw.Leaving f)
-    by false = here_names now f
-
-cut_names : (st : Storage) (u p at : ℕ) (w : Ptw) → LeavesNames st (with_cut st u p at w)
-cut_names st u p at (ptw.Leaving f) = cut_in_names st u p at f
-cut_names st u p at ptw.Null = record { nodes = refl; whos = refl; known = refl }
-cut_names st u p at (ptw.Out n) = record { nodes = refl; whos = refl; known = refl }
-cut_names st u p at (ptw.Here f) = record { nodes = refl; whos = refl; known = refl }
+page_names st u p _ = record { nodes = refl; whos = refl; known = refl }
 
 pub truncated_names : (st : Storage) (u words : ℕ) → LeavesNames st (with_truncated st u words)
-truncated_names st u words = by (eqb (words % 1024) 0)
-  where
-    by : (b : Bool) → LeavesNames st (without_pages (cond b st (with_cut st u (words / 1024) (words % 1024)
-        (word_of st.ast u (words / 1024)))) u (pages_past st u words))
-    by true = pages_names st u (pages_past st u words)
-    by false = then_names st (with_cut st u (words / 1024) (words % 1024) (word_of st.ast u (words / 1024)))
-        (without_pages (with_cut st u (words / 1024) (words % 1024) (word_of st.ast u (words / 1024))) u
-        (pages_past st u words))
-        (cut_names st u (words / 1024) (words % 1024) (word_of st.ast u (words / 1024)))
-        (pages_names (with_cut st u (words / 1024) (words % 1024) (word_of st.ast u (words / 1024))) u
-        (pages_past st u words))
+truncated_names st u words = truncated_has (LeavesNames st) (record {
+  without = λ t u p w h. then_names st t (without_page t u p w) h (page_names t u p w);
+  shortened = λ t f at h. record { nodes = h.nodes; whos = h.whos; known = h.known };
+  here = λ t f u p h. record { nodes = h.nodes; whos = h.whos; known = h.known };
+}) st u words (record { nodes = refl; whos = refl; known = refl })
 
 pub inactive_names : (old st : Storage) (u : ℕ) → LeavesNames old st → LeavesNames old (inactive_if st u)
 inactive_names old st u h = by (is_active st.ast u)

@@ -9,6 +9,7 @@ use Rattle.book.specs.declared.replies.Reply.TheVariants as reply
 use Rattle.assoc_mem.specs.declared.What.TheVariants as what
 use Rattle.machine_model.specs.State.{State}
 use Rattle.machine_model.specs.Runs.{book_of, machine_with, process_for, until}
+use Rattle.machine_model.proofs.Examples.{one_written}
 
 abbrev script : ProcessPlan
 script = process_for (codes "Smith") (
@@ -22,9 +23,7 @@ abbrev machine : State
 machine = machine_with 1 4 4 8 4 (script ∷ [])
 
 -- the whole book, up to the shutdown
-pub cut_page_comes_back : book_of (until 0 38 machine) ≡
-    entry.Online 0 ∷ entry.Load 0 0 ∷ entry.Do 0 0 0 None (reply.Made 2) ∷ entry.Do 0 1 0 None (reply.Known 0) ∷
-    entry.Activate 1 ∷ entry.Activate 2 ∷ entry.Connect 0 0 2 ∷ entry.Here 0 2 0 ∷ entry.Do 0 2 0 None reply.Done ∷
+pub cut_page_comes_back : book_of (until 0 38 machine) ≡ one_written (
     entry.FillSeg 0 0 ∷ entry.Here 1 2 1 ∷ entry.Do 0 3 0 None reply.Done ∷ entry.FillPage 0 1 ∷
     entry.Do 0 4 0 (Some 1) reply.Done ∷ entry.Here 2 2 2 ∷ entry.Do 0 5 0 None reply.Done ∷ entry.Take 1 ∷
     entry.Take 2 ∷ entry.Signal 0 (what.Seg 2) ∷ entry.BackPage 1 ∷ entry.GonePage 2 ∷
@@ -32,6 +31,6 @@ pub cut_page_comes_back : book_of (until 0 38 machine) ≡
     entry.Do 0 8 0 (Some 1) (reply.Word 0) ∷ entry.Do 0 9 0 None (reply.Word 0) ∷
     entry.Do 0 10 0 None (reply.SegIs 2 3 2) ∷ entry.Take 1 ∷ entry.Signal 0 (what.Seg 2) ∷ entry.GonePage 1 ∷
     entry.Do 0 11 0 None reply.Done ∷ entry.Do 0 12 0 None (reply.SegIs 2 3 1) ∷ entry.Cut 0 0 ∷
-    entry.Signal 0 what.All ∷ entry.GoneSeg 0 0 ∷ entry.Do 0 13 0 None reply.Done ∷ entry.Leave 0 ∷ []
+    entry.Signal 0 what.All ∷ entry.GoneSeg 0 0 ∷ entry.Do 0 13 0 None reply.Done ∷ entry.Leave 0 ∷ [])
 unfolding book_of
 cut_page_comes_back = refl

@@ -18,27 +18,24 @@ use Rattle.descriptor_seg.specs.declared.Sdw.TheVariants as sdw
 use Rattle.seg_control.specs.Control.{Links, leads, sdws_at}
 use Rattle.seg_control.specs.Effects.{unlinked}
 use Rattle.storage_ops.specs.Shown.{HaveRights, who_at}
-use Rattle.custody_model.specs.Next.{at_put_two}
 use Rattle.flat_model.specs.Legal.{store_after}
 use Rattle.machine_model.specs.declared.Aim.{Aim}
 use Rattle.machine_model.specs.declared.Aim.TheVariants as aim
 use Rattle.machine_model.specs.declared.CutDescriptor.{CutDescriptor}
 use Rattle.machine_model.specs.Actions as act
-use Rattle.machine_model.specs.Changes.{cut as cut_seen}
 use Rattle.machine_model.specs.After.{Outcome, after}
 use Rattle.machine_model.specs.Holding.{led_to, seen}
 use Rattle.machine_model.specs.Jobs.{cut_all, cut_one, leaving_if, note_of, take_all, take_one, took}
 use Rattle.machine_model.specs.Keeps.{AreThere, HadRights, IsFaithful, Keeps, StoreKept, StoreSays}
 use Rattle.machine_model.specs.Reads.{cut_of_owner, descriptor_of, flat_of, is_active, or_zero}
 use Rattle.machine_model.specs.Said.{Says}
-use Rattle.machine_model.specs.Seen.{Seen}
 use Rattle.machine_model.specs.State.{State, Storage}
 use Rattle.machine_model.proofs.FlatAlike.{alike, alike_by, one_still}
 use Rattle.machine_model.proofs.Places.{by_places}
 use Rattle.machine_model.proofs.SaysLaws.{says_by, there_still}
-use Rattle.machine_model.proofs.TakeSeen.{cut_one_seen, descriptors_put, led_place, linked_within}
+use Rattle.machine_model.proofs.TakeSeen.{descriptors_put, led_place, linked_within}
 use Rattle.machine_model.proofs.TieLaws.{none_some}
-use Rattle.machine_model.proofs.TookKept.{ArePairs, note_is, pairs_kept}
+use Rattle.machine_model.proofs.TookKept.{ArePairs, pairs_left}
 use Rattle.machine_model.proofs.TransferKept.{active_at}
 
 -- ---- lists
@@ -186,19 +183,7 @@ pub all_cut : (s : State) (c : ℕ) (a : Aim) (w : What) (pairs : List (ℕ × �
 all_cut s c a w [] cuts are = cuts
 all_cut s c a w (x ∷ xs) cuts are = all_cut (cut_one s c a w x) c a w xs
     (one_cut s x.0 x.1 are.0.0 cuts are.0.1 c a w)
-    (subst (λ (v : Seen). ArePairs v.linked w xs) (sym one)
-    (subst (λ (l : ℕ → ℕ → Option ℕ). ArePairs l w xs)
-    (λ i. at_put_two (seen s).linked (sym note.0 i) (sym note.1 i) None)
-    (pairs_kept (seen s).linked w x.0 x.1 xs are.1 are.2)))
-  where
-    d : CutDescriptor
-    d = note_of s.store x.0 x.1 (descriptor_of s.store.links x.0 x.1)
-
-    note : (d.process ≡ x.0) × (d.number ≡ x.1) × (d.uid ≡ are.0.0)
-    note = note_is s x.0 x.1 are.0.0 (descriptor_of s.store.links x.0 x.1) are.0.1
-
-    one : seen (cut_one s c a w x) ≡ cut_seen (seen s) c a w d
-    one = cut_one_seen s c a w x are.0.0 are.0.1
+    (pairs_left s c a w x xs are)
 
 -- what a job that takes leaves as it is
 record IsTaken (s now : State) : Type 0 where

@@ -46,6 +46,10 @@ use Rattle.machine_model.proofs.SeenLaws.{bound_put, reads_put}
 use Rattle.machine_model.proofs.TellKept.{CanTell, told_keeps}
 use Rattle.machine_model.proofs.TieLaws.{none_some}
 use Rattle.machine_model.proofs.TransferKept.{kept_with}
+use Rattle.machine_model.proofs.ChainLaws.{LeavesRest}
+use Rattle.std.proofs.lemmas.List.{append-nil, append_assoc}
+use Rattle.machine_model.proofs.KeepLaws.{quiet_push}
+use Rattle.core_map.specs.CoreMap.{Core, with_frame}
 
 -- ---- frames that are freed
 
@@ -54,23 +58,30 @@ abbrev pub freed : (ℕ → Option (ℕ × ℕ)) → List ℕ → ℕ → Option
 freed b [] = b
 freed b (f ∷ fs) = freed (at_put b f None) fs
 
-freed_length : (pages : Plain) (fs : List ℕ) → length (frames_freed pages fs).core.frames ≡ length pages.core.frames
+pub freed_length : (pages : Plain) (fs : List ℕ) → length (frames_freed pages fs).core.frames ≡ length pages.core.frames
 freed_length pages [] = refl
 freed_length pages (f ∷ fs) = freed_length (framed pages f frame.Free) fs ∙ length-set pages.core.frames f frame.Free
 
+-- so are the pages of frames that are freed
+freed_at : (see : Core → ℕ → Option (ℕ × ℕ))
+    → ((core : Core) (f : ℕ) → f < length core.frames → (g : ℕ)
+    → see (with_frame core f frame.Free) g ≡ at_put (see core) f None g)
+    → (pages : Plain) (fs : List ℕ) → ((f : ℕ) → has fs f ≡ true → f < length pages.core.frames) → (g : ℕ)
+    → see (frames_freed pages fs).core g ≡ freed (see pages.core) fs g
+freed_at see put pages [] within g = refl
+freed_at see put pages (f ∷ fs) within g = freed_at see put (framed pages f frame.Free) fs
+    (λ h e. subst (λ (n : ℕ). h < n) (sym (length-set pages.core.frames f frame.Free)) (within h (has_tail f fs h e))) g
+    ∙ (λ i. freed (λ h. put pages.core f (within f (has_head f fs)) h i) fs g)
+
 pub freed_bound : (pages : Plain) (fs : List ℕ) → ((f : ℕ) → has fs f ≡ true → f < length pages.core.frames) → (g : ℕ)
     → binding_at (bindings (frames_freed pages fs).core) g ≡ freed (λ h. binding_at (bindings pages.core) h) fs g
-freed_bound pages [] within g = refl
-freed_bound pages (f ∷ fs) within g = freed_bound (framed pages f frame.Free) fs
-    (λ h e. subst (λ (n : ℕ). h < n) (sym (length-set pages.core.frames f frame.Free)) (within h (has_tail f fs h e))) g
-    ∙ (λ i. freed (λ h. bound_put pages.core f frame.Free (within f (has_head f fs)) h i) fs g)
+freed_bound pages fs within g = freed_at (λ core h. binding_at (bindings core) h)
+    (λ core f there h. bound_put core f frame.Free there h) pages fs within g
 
 pub freed_reads : (pages : Plain) (fs : List ℕ) → ((f : ℕ) → has fs f ≡ true → f < length pages.core.frames) → (g : ℕ)
     → read_at (reads_of (frames_freed pages fs).core) g ≡ freed (λ h. read_at (reads_of pages.core) h) fs g
-freed_reads pages [] within g = refl
-freed_reads pages (f ∷ fs) within g = freed_reads (framed pages f frame.Free) fs
-    (λ h e. subst (λ (n : ℕ). h < n) (sym (length-set pages.core.frames f frame.Free)) (within h (has_tail f fs h e))) g
-    ∙ (λ i. freed (λ h. reads_put pages.core f frame.Free (within f (has_head f fs)) h i) fs g)
+freed_reads pages fs within g = freed_at (λ core h. read_at (reads_of core) h)
+    (λ core f there h. reads_put core f frame.Free there h) pages fs within g
 
 -- where each of them had None already, nothing changes
 freed_none : (b : ℕ → Option (ℕ × ℕ)) (fs : List ℕ) → ((f : ℕ) → has fs f ≡ true → b f ≡ None) → (g : ℕ)
@@ -85,56 +96,22 @@ pub gones_bound : (v : Seen) (fs : List ℕ) → (gones v fs).bound ≡ freed v.
 gones_bound v [] = refl
 gones_bound v (f ∷ fs) = gones_bound (gone v f (page_at v f).0 (page_at v f).1 ptw.Null (without_frame v.owner)) fs
 
--- what pages that leave their frames don't change
-pub record IsAlike (v now : Seen) : Type 0 where
-  pub plan : now.plan ≡ v.plan
-  pub reads : now.reads ≡ v.reads
-  pub active : now.active ≡ v.active
-  pub linked : now.linked ≡ v.linked
-  pub ready : now.ready ≡ v.ready
-  pub processors : now.processors ≡ v.processors
-  pub runs : now.runs ≡ v.runs
+pub gones_leave : (v : Seen) (fs : List ℕ) → LeavesRest v (gones v fs)
+gones_leave v [] = refl
+gones_leave v (f ∷ fs) = gones_leave (gone v f (page_at v f).0 (page_at v f).1 ptw.Null (without_frame v.owner)) fs
 
-pub gones_alike : (v : Seen) (fs : List ℕ) → IsAlike v (gones v fs)
-gones_alike v [] = record {
-  plan = refl;
-  reads = refl;
-  active = refl;
-  linked = refl;
-  ready = refl;
-  processors = refl;
-  runs = refl;
-}
-gones_alike v (f ∷ fs) = let rest = gones_alike
-    (gone v f (page_at v f).0 (page_at v f).1 ptw.Null (without_frame v.owner)) fs in record {
-      plan = rest.plan;
-      reads = rest.reads;
-      active = rest.active;
-      linked = rest.linked;
-      ready = rest.ready;
-      processors = rest.processors;
-      runs = rest.runs;
-    }
+pub segs_leave : (v : Seen) (ds : List CutDescriptor) → LeavesRest v (gone_segs v ds)
+segs_leave v [] = refl
+segs_leave v (d ∷ ds) = segs_leave (gone_seg v d (without_cut v.owner)) ds
 
-pub segs_alike : (v : Seen) (ds : List CutDescriptor) → IsAlike v (gone_segs v ds)
-segs_alike v [] = record {
-  plan = refl;
-  reads = refl;
-  active = refl;
-  linked = refl;
-  ready = refl;
-  processors = refl;
-  runs = refl;
-}
-segs_alike v (d ∷ ds) = let rest = segs_alike (gone_seg v d (without_cut v.owner)) ds in record {
-  plan = rest.plan;
-  reads = rest.reads;
-  active = rest.active;
-  linked = rest.linked;
-  ready = rest.ready;
-  processors = rest.processors;
-  runs = rest.runs;
-}
+-- so does a chain of both
+pub chain_leaves : (v : Seen) (fs : List ℕ) (ds : List CutDescriptor) → LeavesRest v (gone_segs (gones v fs) ds)
+chain_leaves v fs ds = segs_leave (gones v fs) ds ∙ (λ i. record (gones_leave v fs i) {
+  entries = (gone_segs (gones v fs) ds).entries;
+  bound = (gone_segs (gones v fs) ds).bound;
+  words = (gone_segs (gones v fs) ds).words;
+  owner = (gone_segs (gones v fs) ds).owner;
+})
 
 pub segs_bound : (v : Seen) (ds : List CutDescriptor) → (gone_segs v ds).bound ≡ v.bound
 segs_bound v [] = refl
@@ -144,24 +121,16 @@ segs_words : (v : Seen) (ds : List CutDescriptor) → (gone_segs v ds).words ≡
 segs_words v [] = refl
 segs_words v (d ∷ ds) = segs_words (gone_seg v d (without_cut v.owner)) ds
 
-append_assoc : (xs ys zs : List Entry) → (xs ++ ys) ++ zs ≡ xs ++ (ys ++ zs)
-append_assoc [] ys zs = refl
-append_assoc (x ∷ xs) ys zs = ap (λ (t : List Entry). x ∷ t) (append_assoc xs ys zs)
-
-append_nil : (es : List Entry) → es ++ [] ≡ es
-append_nil [] = refl
-append_nil (e ∷ es) = ap (λ (t : List Entry). e ∷ t) (append_nil es)
-
 abbrev pub gone_entry : ℕ → Entry
 gone_entry f = entry.GonePage f
 
 pub gones_entries : (v : Seen) (fs : List ℕ) → (gones v fs).entries ≡ v.entries ++ map gone_entry fs
-gones_entries v [] = sym (append_nil v.entries)
+gones_entries v [] = sym (append-nil v.entries)
 gones_entries v (f ∷ fs) = gones_entries (gone v f (page_at v f).0 (page_at v f).1 ptw.Null (without_frame v.owner)) fs
     ∙ append_assoc v.entries (entry.GonePage f ∷ []) (map gone_entry fs)
 
 pub segs_entries : (v : Seen) (ds : List CutDescriptor) → (gone_segs v ds).entries ≡ v.entries ++ map cut_entry ds
-segs_entries v [] = sym (append_nil v.entries)
+segs_entries v [] = sym (append-nil v.entries)
 segs_entries v (d ∷ ds) = segs_entries (gone_seg v d (without_cut v.owner)) ds
     ∙ append_assoc v.entries (cut_entry d ∷ []) (map cut_entry ds)
 
@@ -185,10 +154,9 @@ gones_words v (f ∷ fs) u once its w q n = gones_words now fs u once.1 still w 
         (λ e. absurd (no_and (subst (λ (i : ℕ). has fs i ≡ true) e h) once.0)) (λ m. its g (has_tail f fs g h))
 
 gone_faults : (es : List Entry) (fs : List ℕ) → count_by is_fault (es ++ map gone_entry fs) ≡ count_by is_fault es
-gone_faults es [] = ap (count_by is_fault) (append_nil es)
+gone_faults es [] = ap (count_by is_fault) (append-nil es)
 gone_faults es (f ∷ fs) = ap (count_by is_fault) (sym (append_assoc es (entry.GonePage f ∷ []) (map gone_entry fs)))
-    ∙ (gone_faults (es ++ entry.GonePage f ∷ []) fs ∙ (let one = faults_push es (entry.GonePage f) in
-    let none : count_by is_fault (es ++ entry.GonePage f ∷ []) ≡ count_by is_fault es = omega (arith, one) in none))
+    ∙ (gone_faults (es ++ entry.GonePage f ∷ []) fs ∙ quiet_push es (entry.GonePage f) refl)
 
 -- ---- the command
 
@@ -232,11 +200,8 @@ module _ (s : State) (c k : ℕ) (path : Path) where
     abbrev words : ℕ → ℕ → Ptw
     words = λ v q. word_of (with_inactive s.store node).ast v q
 
-    one : IsAlike (seen s) (gones (seen s) fs)
-    one = gones_alike (seen s) fs
-
-    two : IsAlike (gones (seen s) fs) all_gone
-    two = segs_alike (gones (seen s) fs) ds
+    rest : LeavesRest (seen s) all_gone
+    rest = chain_leaves (seen s) fs ds
 
     others : (w q : ℕ) → w ≢ node → words w q ≡ all_gone.words w q
     others w q n = words_less s.store.ast node can.active keeps.store.kept.tree.once keeps.store.kept.places w q n
@@ -280,7 +245,7 @@ module _ (s : State) (c k : ℕ) (path : Path) where
     unlinked : (j n : ℕ) → (seen s).linked j n ≢ Some node
     unlinked j n h = can.may.descriptors j n
         (ap (λ (o : Option ℕ). leads_to (descriptor_use o (cut_uid (cut_of_owner all_gone.owner) j n)))
-        (ap (λ (x : ℕ → ℕ → Option ℕ). x j n) (two.linked ∙ one.linked) ∙ h))
+        (ap (λ (x : Seen). x.linked j n) rest ∙ h))
 
     entries_are : s.entries ++ gone_entries s node (command.Delete path)
         ≡ all_gone.entries ++ entry.Deactivate node ∷ []
@@ -305,22 +270,22 @@ module _ (s : State) (c k : ℕ) (path : Path) where
     deleted_seen = ap (λ (b : Bool). seen (with_owner
         (booked (with_store s (deleted_store b)) (gone_entries s node (command.Delete path))) None)) can.active
         ∙ (λ i. record {
-          plan = sym (two.plan ∙ one.plan) i;
+          plan = (sym rest i).plan;
           entries = entries_are i;
           bound = λ g. (freed_bound s.store.pages fs within g ∙ ap (λ (x : ℕ → Option (ℕ × ℕ)). x g)
               (sym (segs_bound (gones (seen s) fs) ds ∙ gones_bound (seen s) fs))) i;
           reads = λ g. (freed_reads s.store.pages fs within g ∙ (freed_none (seen s).reads fs unread g
-              ∙ ap (λ (x : ℕ → Option (ℕ × ℕ)). x g) (sym (two.reads ∙ one.reads)))) i;
+              ∙ ap (λ (x : Seen). x.reads g) (sym rest))) i;
           words = words;
           active = λ v. (active_less s.store.ast node can.active keeps.store.kept.tree.once keeps.store.kept.places v
-              ∙ ap (λ (x : ℕ → Bool). at_put x node false v) (sym (two.active ∙ one.active))) i;
+              ∙ ap (λ (x : Seen). at_put x.active node false v) (sym rest)) i;
           linked = λ j n. (ap (λ (v : Seen). v.linked j n)
               (deactivate_seen s node can.active keeps.store.kept.tree.once keeps.store.kept.places unlinked)
-              ∙ ap (λ (x : ℕ → ℕ → Option ℕ). x j n) (sym (two.linked ∙ one.linked))) i;
-          ready = sym (two.ready ∙ one.ready) i;
-          processors = sym (two.processors ∙ one.processors) i;
+              ∙ ap (λ (x : Seen). x.linked j n) (sym rest)) i;
+          ready = (sym rest i).ready;
+          processors = (sym rest i).processors;
           owner = None;
-          runs = sym (two.runs ∙ one.runs) i;
+          runs = (sym rest i).runs;
         })
 
     pub delete_kept : Keeps (committed s c k (command.Delete path))
@@ -372,7 +337,7 @@ delete_inactive_kept s c k path keeps can = kept_with (committed s c k (command.
     entries_are : s.entries ++ gone_entries s node (command.Delete path) ≡ s.entries
     entries_are = (λ i. s.entries ++ (map gone_entry (can.done.frames i) ++
         (map cut_entry (can.done.cut i) ++ cond (can.inactive i) (entry.Deactivate node ∷ []) [])))
-        ∙ append_nil s.entries
+        ∙ append-nil s.entries
 
     deleted : Bool → List ℕ → Storage
     deleted b fs = record (if b then with_inactive

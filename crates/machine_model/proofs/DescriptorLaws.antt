@@ -26,6 +26,12 @@ use Rattle.machine_model.proofs.HeldLaws.{right_alike, right_descriptor}
 use Rattle.machine_model.proofs.OwnedLaws.{owned_cut, owned_like, like_descriptor, cut_at_same, cut_at_other}
 use Rattle.machine_model.proofs.OwnedLaws.{current_descriptor_is_not_going}
 use Rattle.machine_model.proofs.Places.{by_places, one_place_of_two, put_two_here}
+use Rattle.book.specs.declared.entries.Entry.{Entry}
+use Rattle.custody_model.specs.Custody.{Custody}
+use Rattle.custody_model.specs.Allowed.{IsAllowed}
+use Rattle.custody_model.specs.Fine.{FillsOnline, pending_after}
+use Rattle.machine_model.specs.Custodial.{IsOwned, IsRun}
+use Rattle.flat_model.specs.Store.{progress_of}
 
 -- ---- what was cut
 
@@ -83,9 +89,7 @@ leads_cut (descriptor.Going u) = refl
 pub cut_keeps : (v : Seen) (c : ℕ) (aim : Aim) (w : What) (d : CutDescriptor) → KeepsBook v → CanCut v aim w d
     → KeepsBook (cut v c aim w d)
 unfolding IsLawful after_entry custody_next
-cut_keeps v c aim w d k can = book_next v (entry.Cut d.process d.number) (cut v c aim w d) k (record {
-  plan = refl;
-  entries = refl;
+cut_keeps v c aim w d k can = book_next v (entry.Cut d.process d.number) (cut v c aim w d) refl refl k (record {
   lawful = tt;
   allowed = current;
   online = tt;
@@ -180,84 +184,66 @@ module _ (v : Seen) (d : CutDescriptor) (owner : Option Owner) (k : KeepsBook v)
       ∙ ap (descriptor_use (v.linked j n)) (ap (λ (ds : List CutDescriptor). cut_uid ds j n) can.first.left
       ∙ (sym (cut_rest d can.first.rest j n m) ∙ ap (λ (ds : List CutDescriptor). cut_uid ds j n) (sym can.first.cut)))
 
+  -- the descriptor is used otherwise, as one that nobody holds
+  finished_keeps : (e : Entry) (linked : ℕ → ℕ → Option ℕ) (made : DescriptorUse) → IsLawful v.plan (flat v) e
+      → IsAllowed v.plan (flat v) (shown v) e → FillsOnline (shown v) e
+      → custody_next v.plan (flat v) (shown v) e
+      ≡ record (shown v) { descriptor = at_put_two (shown v).descriptor d.process d.number made }
+      → pending_after (is_pending v.owner) e ≡ is_pending v.owner
+      → ((j : ℕ) → IsRun (progress_of (after_entry v.plan (flat v) e) j) (v.runs j))
+      → is_going_descriptor made ≡ false
+      → descriptor_use (linked d.process d.number) (cut_uid (cut_of_owner owner) d.process d.number) ≡ made
+      → ((j n : ℕ) → (j ≡ d.process → n ≡ d.number → ⊥) → linked j n ≡ v.linked j n)
+      → KeepsBook (record v { linked = linked; owner = owner; entries = v.entries ++ e ∷ [] })
+  finished_keeps e linked made lawful allowed online next pending runs goes here same =
+      book_next v e _ refl refl k (record {
+        lawful = lawful;
+        allowed = allowed;
+        online = online;
+        next = (λ i. record (shown v) { descriptor = λ j n. next_at j n i }) ∙ sym next;
+        pending = can.after ∙ (sym can.still ∙ sym pending);
+        going_owned = subst (λ (x : Custody). IsOwned x owner) (sym next)
+            (owned_left_cut (shown v) v.owner owner d made k.going_owned can.none can.first goes);
+        tied = k.tied;
+        holding_right = λ c. subst (λ (x : ℕ → ℕ → DescriptorUse). HoldsRight v.bound x (v.processors c))
+            (λ i. λ j n. sym (next_at j n) i)
+            (right_descriptor v.bound (shown v).descriptor d.process d.number made (v.processors c) (cut_nobody c)
+            (k.holding_right c));
+        under_way = k.under_way;
+        runs = runs;
+      })
+    where
+      next_at : (j n : ℕ) → descriptor_use (linked j n) (cut_uid (cut_of_owner owner) j n)
+          ≡ at_put_two (shown v).descriptor d.process d.number made j n
+      next_at = one_place_of_two (shown v).descriptor
+          (λ j n. descriptor_use (linked j n) (cut_uid (cut_of_owner owner) j n)) d.process d.number made here
+          (others_uncut linked same)
+
   pub gone_seg_keeps : KeepsBook (gone_seg v d owner)
   unfolding IsLawful after_entry custody_next
-  gone_seg_keeps = book_next v (entry.GoneSeg d.process d.number) (gone_seg v d owner) k (record {
-    plan = refl;
-    entries = refl;
-    lawful = tt;
-    allowed = record { going = cut_going; nobody = cut_nobody };
-    online = tt;
-    next = λ i. record (shown v) { descriptor = λ j n. next_at j n i };
-    pending = can.after ∙ sym can.still;
-    going_owned = owned_left_cut (shown v) v.owner owner d descriptor.Free k.going_owned can.none can.first refl;
-    tied = k.tied;
-    holding_right = λ e. subst (λ (x : ℕ → ℕ → DescriptorUse). HoldsRight v.bound x (v.processors e))
-        (λ i. λ j n. sym (next_at j n) i)
-        (right_descriptor v.bound (shown v).descriptor d.process d.number descriptor.Free (v.processors e)
-        (cut_nobody e) (k.holding_right e));
-    under_way = k.under_way;
-    runs = k.runs;
-  })
-    where
-      now : ℕ → ℕ → DescriptorUse
-      now j n = descriptor_use (v.linked j n) (cut_uid (cut_of_owner owner) j n)
-
-      here : now d.process d.number ≡ descriptor.Free
-      here = ap (λ (o : Option ℕ). descriptor_use o (cut_uid (cut_of_owner owner) d.process d.number)) cut_unlinked
-          ∙ ap cut_use (ap (λ (ds : List CutDescriptor). cut_uid ds d.process d.number) can.first.left
-          ∙ cut_none can.first.rest d.process d.number cut_apart.0)
-
-      next_at : (j n : ℕ) → now j n ≡ at_put_two (shown v).descriptor d.process d.number descriptor.Free j n
-      next_at = one_place_of_two (shown v).descriptor now d.process d.number descriptor.Free here
-          (others_uncut v.linked (λ j n m. refl))
+  gone_seg_keeps = finished_keeps (entry.GoneSeg d.process d.number) v.linked descriptor.Free tt
+      (record { going = cut_going; nobody = cut_nobody }) tt refl refl k.runs refl
+      (ap (λ (o : Option ℕ). descriptor_use o (cut_uid (cut_of_owner owner) d.process d.number)) cut_unlinked
+      ∙ ap cut_use (ap (λ (ds : List CutDescriptor). cut_uid ds d.process d.number) can.first.left
+      ∙ cut_none can.first.rest d.process d.number cut_apart.0)) (λ j n m. refl)
 
   pub back_seg_keeps : KeepsBook (back_seg v d owner)
   unfolding IsLawful after_entry custody_next
-  back_seg_keeps = book_next v (entry.BackSeg d.process d.number) (back_seg v d owner) k (record {
-    plan = refl;
-    entries = refl;
-    lawful = tt;
-    allowed = record { going = cut_going; nobody = cut_nobody };
-    online = tt;
-    next = λ i. record (shown v) { descriptor = λ j n. next_at j n i };
-    pending = can.after ∙ sym can.still;
-    going_owned = owned_left_cut (shown v) v.owner owner d made k.going_owned can.none can.first
-        (ap is_going_descriptor made_is);
-    tied = k.tied;
-    holding_right = λ e. subst (λ (x : ℕ → ℕ → DescriptorUse). HoldsRight v.bound x (v.processors e))
-        (λ i. λ j n. sym (next_at j n) i)
-        (right_descriptor v.bound (shown v).descriptor d.process d.number made (v.processors e) (cut_nobody e)
-        (k.holding_right e));
-    under_way = k.under_way;
-    runs = k.runs;
-  })
+  back_seg_keeps = finished_keeps (entry.BackSeg d.process d.number)
+      (at_put_two v.linked d.process d.number (Some d.uid)) (reconnected ((shown v).descriptor d.process d.number)) tt
+      (record { going = cut_going; nobody = cut_nobody }) tt refl refl k.runs (ap is_going_descriptor made_is)
+      (ap (λ (o : Option ℕ). descriptor_use o (cut_uid (cut_of_owner owner) d.process d.number))
+      (put_two_here v.linked d.process d.number (Some d.uid)) ∙ sym made_is)
+      (λ j n m. by_places (λ (o : Option ℕ). o ≡ v.linked j n) v.linked d.process d.number (Some d.uid) j n
+      (λ a b. absurd (m a b)) (λ x. refl))
     where
-      made : DescriptorUse
-      made = reconnected ((shown v).descriptor d.process d.number)
-
-      linked : ℕ → ℕ → Option ℕ
-      linked = at_put_two v.linked d.process d.number (Some d.uid)
-
-      now : ℕ → ℕ → DescriptorUse
-      now j n = descriptor_use (linked j n) (cut_uid (cut_of_owner owner) j n)
-
       was : (shown v).descriptor d.process d.number ≡ descriptor.Going d.uid
       was = ap (λ (o : Option ℕ). descriptor_use o (cut_uid (cut_of_owner v.owner) d.process d.number)) cut_unlinked
           ∙ ap cut_use (ap (λ (ds : List CutDescriptor). cut_uid ds d.process d.number) can.first.cut
           ∙ cut_head d can.first.rest)
 
-      made_is : made ≡ descriptor.Current d.uid
+      made_is : reconnected ((shown v).descriptor d.process d.number) ≡ descriptor.Current d.uid
       made_is = ap reconnected was
-
-      here : now d.process d.number ≡ made
-      here = ap (λ (o : Option ℕ). descriptor_use o (cut_uid (cut_of_owner owner) d.process d.number))
-          (put_two_here v.linked d.process d.number (Some d.uid)) ∙ sym made_is
-
-      next_at : (j n : ℕ) → now j n ≡ at_put_two (shown v).descriptor d.process d.number made j n
-      next_at = one_place_of_two (shown v).descriptor now d.process d.number made here (others_uncut linked (λ j n m.
-          by_places (λ (o : Option ℕ). o ≡ v.linked j n) v.linked d.process d.number (Some d.uid) j n
-          (λ a b. absurd (m a b)) (λ x. refl)))
 
 -- ---- connected
 
@@ -270,9 +256,7 @@ pub record CanConnect (v : Seen) (k n u : ℕ) : Type 0 where
 
 pub connect_keeps : (v : Seen) (j n u : ℕ) → KeepsBook v → CanConnect v j n u → KeepsBook (connected v j n u)
 unfolding IsLawful after_entry custody_next
-connect_keeps v j n u k can = book_next v (entry.Connect j n u) (connected v j n u) k (record {
-  plan = refl;
-  entries = refl;
+connect_keeps v j n u k can = book_next v (entry.Connect j n u) (connected v j n u) refl refl k (record {
   lawful = tt;
   allowed = record { known = can.known; active = can.active; free = is };
   online = tt;

@@ -32,7 +32,6 @@ use Rattle.machine_model.proofs.ChainFacts.{superior_found}
 use Rattle.machine_model.proofs.CommandFacts.{LeadsToSegment, length_stands}
 use Rattle.machine_model.specs.Refusal.{refusal_of, uid_of_command}
 use Rattle.machine_model.proofs.CutRights.{took_says}
-use Rattle.machine_model.proofs.DueLaws.{none_due}
 use Rattle.machine_model.proofs.FindLaws.{position_none}
 use Rattle.machine_model.proofs.LeafLaws.{leaf_inferiors, victim_leaf}
 use Rattle.machine_model.proofs.ListLaws.{map_list}
@@ -47,6 +46,7 @@ use Rattle.machine_model.proofs.TieLaws.{none_some}
 use Rattle.machine_model.proofs.TookKept.{ArePairs}
 use Rattle.machine_model.proofs.TransferKept.{active_at}
 use Rattle.machine_model.proofs.WholeKept.{whole_may}
+use Rattle.machine_model.proofs.RuleKept.{nothing_over}
 
 own : (n : ℕ) → eqb n n ≡ true
 own n = elim (eqb_tells n n) [ inl e ↦ e.0 | inr m ↦ absurd (m.1 refl) ]
@@ -68,13 +68,7 @@ unread_any core u h f p e = no_and passes (position_none
 
 module _ (s : State) (c u : ℕ) (k : Keeps s) (idle : IsIdle s.owner) (still : is_pending s.owner ≡ false) where
   over : IsOver (segs_gone s (cut_of_owner s.owner))
-  over = subst (λ (ds : List CutDescriptor). IsOver (segs_gone s ds)) (sym idle.cut) (record {
-    book = k.book;
-    frames = idle.frames;
-    cut = idle.cut;
-    none = none_due (shown (seen s)) s.owner k.book.going_owned idle.waits;
-    still = still;
-  })
+  over = nothing_over s k idle still
 
   segment_asks : (fs : List ℕ) (pairs : List (ℕ × ℕ)) → StoreKept (segment_taken s c u fs pairs).store
       → IsFaithful s.plan (flat_of s) (segment_taken s c u fs pairs).store

@@ -5,7 +5,7 @@ use Rattle.std.proofs.Common.{◌+◌, Option, Some, None, ◌⊎◌, inl, inr, 
 use Rattle.std.proofs.lemmas.Bool.Decides.{eqb_tells}
 use Rattle.std.proofs.lemmas.List.{get_or-set_other, get_or-set_same, length-set}
 use Rattle.mnames.specs.declared.principals.Who.{Who}
-use Rattle.assoc_mem.specs.Held.{cleared, filled, names_seg}
+use Rattle.assoc_mem.specs.Held.{filled, names_seg}
 use Rattle.assoc_mem.specs.declared.HeldSeg.{HeldSeg}
 use Rattle.assoc_mem.specs.declared.What.{What}
 use Rattle.assoc_mem.specs.declared.What.TheVariants as what
@@ -42,6 +42,7 @@ use Rattle.machine_model.proofs.OutlineTake.{took_like}
 use Rattle.machine_model.proofs.LeaveSeen.{told_reads}
 use Rattle.machine_model.proofs.StepKept.{CanDo, CanFill}
 use Rattle.machine_model.proofs.TieLaws.{none_some}
+use Rattle.machine_model.proofs.LeaveSeen.{told_has, told_process}
 
 -- ---- the entries of one processor
 
@@ -98,29 +99,14 @@ module _ (nodes : List Node) (whos : List Who) (known : List (List (Option ℕ))
   told_entitled c w ps h = record {
     each = λ d k i. subst (λ (x : Processor). AreEntitled nodes whos known k x.cpu.assoc.segs)
         (sym (told_reads c w ps 0 d)) (by (0 + d) (processor_at ps d) k
-        (h.each d k (sym (process (0 + d) (processor_at ps d)) ∙ (ap (λ (x : Processor). x.cpu.process)
+        (h.each d k (sym (told_process c w (0 + d) (processor_at ps d)) ∙ (ap (λ (x : Processor). x.cpu.process)
         (sym (told_reads c w ps 0 d)) ∙ i))));
   }
     where
-      process : (d : ℕ) (p : Processor) → (told_at c w d p).cpu.process ≡ p.cpu.process
-      process d p = by_them (eqb d c) p.cpu.online
-        where
-          by_them : (a e : Bool) → (cond a (record p { cpu = record p.cpu { assoc = cleared p.cpu.assoc w } })
-              (cond e (record p { cpu = record p.cpu { due = Some w } }) p)).cpu.process ≡ p.cpu.process
-          by_them true e = refl
-          by_them false true = refl
-          by_them false false = refl
-
       by : (d : ℕ) (p : Processor) (k : ℕ) → AreEntitled nodes whos known k p.cpu.assoc.segs
           → AreEntitled nodes whos known k (told_at c w d p).cpu.assoc.segs
-      by d p k g = by_them (eqb d c) p.cpu.online
-        where
-          by_them : (a e : Bool) → AreEntitled nodes whos known k
-              (cond a (record p { cpu = record p.cpu { assoc = cleared p.cpu.assoc w } })
-              (cond e (record p { cpu = record p.cpu { due = Some w } }) p)).cpu.assoc.segs
-          by_them true e = kept_entitled k (λ x. not (names_seg w x)) p.cpu.assoc.segs g
-          by_them false true = g
-          by_them false false = g
+      by d p k g = told_has (λ q. AreEntitled nodes whos known k q.cpu.assoc.segs) c w d p
+          (kept_entitled k (λ x. not (names_seg w x)) p.cpu.assoc.segs g) g g
 
 -- ---- nothing of the tree, the principals and the numbers changes
 
@@ -231,6 +217,21 @@ by_end o well ill a b = by o.failed
     by true = b
     by false = a
 
+-- what was taken is back, where a write failed
+abbrev pub all_back : State → ℕ → ℕ → State
+all_back s c faults =
+    segs_back (pages_back (fault_told s (Some (process_at s c)) faults) (frames_of_owner s.owner)) (cut_of_owner s.owner)
+
+pub failed_names : (s : State) (c faults : ℕ) → SameNames s (all_back s c faults)
+failed_names s c faults =
+    on s told (all_back s c faults) (record { nodes = refl; whos = refl; known = refl; processors = refl })
+    (on told (pages_back told (frames_of_owner s.owner)) (all_back s c faults)
+    (all_pages_back told (frames_of_owner s.owner))
+    (all_segs_back (pages_back told (frames_of_owner s.owner)) (cut_of_owner s.owner)))
+  where
+    told : State
+    told = fault_told s (Some (process_at s c)) faults
+
 module _ (s : State) (c : ℕ) (o : Outcome) (k : Keeps s) (there : c < length s.processors) (h : IsEntitledToAll s) where
   abbrev nodes : List Node
   nodes = s.store.accounts.nodes
@@ -275,19 +276,11 @@ module _ (s : State) (c : ℕ) (o : Outcome) (k : Keeps s) (there : c < length s
       ∙ can.can.linked))))
 
   failed : IsEntitledToAll (write_failed s c o.faults)
-  failed = set_entitled _ _ _ back.processors c _ (subst (λ (ps : List Processor). c < length ps) (sym names.processors)
-      there) (names_kept s back names h) (λ j e. (names_kept s back names h).each c j e)
+  failed = set_entitled _ _ _ (all_back s c o.faults).processors c _ (subst (λ (ps : List Processor). c < length ps) (sym names.processors)
+      there) (names_kept s (all_back s c o.faults) names h) (λ j e. (names_kept s (all_back s c o.faults) names h).each c j e)
     where
-      told : State
-      told = fault_told s (Some (process_at s c)) o.faults
-
-      back : State
-      back = segs_back (pages_back told (frames_of_owner s.owner)) (cut_of_owner s.owner)
-
-      names : SameNames s back
-      names = on s told back (record { nodes = refl; whos = refl; known = refl; processors = refl })
-          (on told (pages_back told (frames_of_owner s.owner)) back (all_pages_back told (frames_of_owner s.owner))
-          (all_segs_back (pages_back told (frames_of_owner s.owner)) (cut_of_owner s.owner)))
+      names : SameNames s (all_back s c o.faults)
+      names = failed_names s c o.faults
 
   -- What processors hold stays so.
   pub entitled_kept : (a : act.Action) → CanDo s c o a → MayEntitle s c o a → IsEntitledToAll (after s c a o)

@@ -1,23 +1,17 @@
 -- Two processors and one process, then two: the second processor waits for work, or for the supervisor.
 use Rattle.std.proofs.Common.{◌≡◌, [], ◌∷◌, refl}
-use Rattle.std.specs.Prelude.{codes, true}
-use Rattle.script.specs.Plans.{ProcessPlan}
-use Rattle.script.specs.declared.commands.Command.TheVariants as command
+use Rattle.std.specs.Prelude.{true}
 use Rattle.machine_model.specs.State.{State}
 use Rattle.machine_model.specs.Actions.{action_of, HasEnded, IsStopped, Online, Load, TakeSupervisor, Waits, WhileIdle}
 use Rattle.machine_model.specs.Actions.{ForOwner}
-use Rattle.machine_model.specs.Runs.{book_of, finished, machine_with, process_for, stepped}
-
-abbrev script : ProcessPlan
-script = process_for (codes "Smith") (
-    command.MkSeg (codes "s" ∷ []) 1 0 ∷ command.Initiate (codes "s" ∷ []) ∷ command.Write 0 0 5 ∷ command.Read 0 0 ∷
-    command.End ∷ [])
+use Rattle.machine_model.specs.Runs.{book_of, finished, machine_with, stepped}
+use Rattle.machine_model.proofs.Examples.{one_page}
 
 abbrev one : State
-one = machine_with 2 4 4 8 4 (script ∷ [])
+one = machine_with 2 4 4 8 4 (one_page ∷ [])
 
 abbrev two : State
-two = machine_with 2 4 4 8 4 (script ∷ script ∷ [])
+two = machine_with 2 4 4 8 4 (one_page ∷ one_page ∷ [])
 
 -- a processor comes online, then loads what is ready
 pub comes_online : action_of one 0 ≡ Online

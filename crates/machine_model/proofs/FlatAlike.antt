@@ -175,7 +175,7 @@ done_alike p es k place c f r cmd next h = alike_by (do_done p (store_after p es
 
 -- ---- what the accounts say
 
-older : (n m : Node) (ms : List Node) (o : Option ℕ) → Joins ms o m → IsMember n ms → n.uid < m.uid
+pub older : (n m : Node) (ms : List Node) (o : Option ℕ) → Joins ms o m → IsMember n ms → n.uid < m.uid
 older n m ms None j h = absurd (subst (λ (ns : List Node). IsMember n ns) j.first h)
 older n m ms (Some s) j h = below ms j.later h
   where

@@ -21,12 +21,23 @@ use Rattle.machine_model.specs.Custodial.{KeepsBook, HoldsRight, IsAimed, names,
 use Rattle.machine_model.specs.Seen.{Seen, flat, shown, frame_use, bound_use, read_use, descriptor_use, cut_uid}
 use Rattle.machine_model.specs.Reads.{frames_of_owner, cut_of_owner}
 use Rattle.machine_model.specs.State.{Owner}
-use Rattle.machine_model.proofs.BookNext.{book_next}
+use Rattle.machine_model.proofs.BookNext.{book_apart, book_next}
 use Rattle.machine_model.proofs.DueLaws.{HasLeft, owned_left}
 use Rattle.machine_model.proofs.HeldLaws.{right_frame}
 use Rattle.machine_model.proofs.OwnedLaws.{owned_take}
 use Rattle.machine_model.proofs.Places.{one_place, put_here, put_other, put_two_here}
 use Rattle.machine_model.proofs.TieLaws.{none_some, use_bound, other_use, tied_word, tied_gone}
+
+-- the frame that a word names is that of its page, and is used as the word says
+tied_at : (v : Seen) (f u p : ℕ) (w : Ptw) → KeepsBook v → names w ≡ Some f → v.words u p ≡ w
+    → (names (v.words u p) ≡ Some f) × (v.bound f ≡ Some (u, p)) × ((shown v).frame f ≡ bound_use (u, p) w)
+tied_at v f u p w k named word = (name, bound, use_bound v.bound v.reads v.words k.tied f u p w bound word)
+  where
+    name : names (v.words u p) ≡ Some f
+    name = ap names word ∙ named
+
+    bound : v.bound f ≡ Some (u, p)
+    bound = k.tied.back f u p name
 
 -- A page is here, and the owner waits for nothing. What the owner is to signal names its frame, and all that goes
 -- already.
@@ -40,20 +51,18 @@ pub record CanTake (v : Seen) (aim : Aim) (w : What) (f u p : ℕ) : Type 0 wher
 pub take_keeps : (v : Seen) (c : ℕ) (aim : Aim) (w : What) (f u p : ℕ) → KeepsBook v → CanTake v aim w f u p
     → KeepsBook (taken v c aim w f u p)
 unfolding IsLawful after_entry custody_next
-take_keeps v c aim w f u p k can = book_next v (entry.Take f) (taken v c aim w f u p) k (record {
-  plan = refl;
-  entries = refl;
+take_keeps v c aim w f u p k can = book_next v (entry.Take f) (taken v c aim w f u p) refl refl k (record {
   lawful = tt;
   allowed = current;
   online = tt;
   next = λ i. record (shown v) {
     frame = λ g. one_place (shown v).frame (λ h. frame_use words (v.bound h) (v.reads h)) f
         (page_taken ((shown v).frame f)) here
-        (λ h n. other_use v.bound v.reads v.words k.tied f u p (ptw.Leaving f) named h n) g i;
+        (λ h n. other_use v.bound v.reads v.words k.tied f u p (ptw.Leaving f) at.0 h n) g i;
   };
   pending = refl;
   going_owned = owned_take (shown v) v.owner c f aim w k.going_owned current can.still can.others can.this can.aimed;
-  tied = tied_word v.bound v.reads v.words k.tied f u p (ptw.Leaving f) named refl;
+  tied = tied_word v.bound v.reads v.words k.tied f u p (ptw.Leaving f) at.0 refl;
   holding_right = k.holding_right;
   under_way = k.under_way;
   runs = k.runs;
@@ -62,21 +71,15 @@ take_keeps v c aim w f u p k can = book_next v (entry.Take f) (taken v c aim w f
     words : ℕ → ℕ → Ptw
     words = at_put_two v.words u p (ptw.Leaving f)
 
-    named : names (v.words u p) ≡ Some f
-    named = ap names can.here
-
-    bound : v.bound f ≡ Some (u, p)
-    bound = k.tied.back f u p named
-
-    is : (shown v).frame f ≡ frame.Current u p
-    is = use_bound v.bound v.reads v.words k.tied f u p (ptw.Here f) bound can.here
+    at : (names (v.words u p) ≡ Some f) × (v.bound f ≡ Some (u, p)) × ((shown v).frame f ≡ frame.Current u p)
+    at = tied_at v f u p (ptw.Here f) k refl can.here
 
     current : is_current_frame ((shown v).frame f) ≡ true
-    current = ap is_current_frame is
+    current = ap is_current_frame at.2
 
     here : frame_use words (v.bound f) (v.reads f) ≡ page_taken ((shown v).frame f)
-    here = ap (λ (o : Option (ℕ × ℕ)). frame_use words o (v.reads f)) bound
-        ∙ (ap (bound_use (u, p)) (put_two_here v.words u p (ptw.Leaving f)) ∙ sym (ap page_taken is))
+    here = ap (λ (o : Option (ℕ × ℕ)). frame_use words o (v.reads f)) at.1
+        ∙ (ap (bound_use (u, p)) (put_two_here v.words u p (ptw.Leaving f)) ∙ sym (ap page_taken at.2))
 
 -- ---- gone, or back
 
@@ -88,35 +91,38 @@ pub record CanFinish (v : Seen) (f u p : ℕ) (owner : Option Owner) : Type 0 wh
   pub after : is_pending owner ≡ false
   pub first : HasLeft v.owner owner f
 
+-- so it is where the word and the owner are the same, and no clear is due
+pub finish_with : {v now : Seen} {f u p : ℕ} {owner : Option Owner} → now.words u p ≡ v.words u p
+    → now.owner ≡ v.owner → NoneDue (shown now) → CanFinish v f u p owner → CanFinish now f u p owner
+finish_with {f = f} {owner = owner} word same none can = record {
+  leaving = word ∙ can.leaving;
+  none = none;
+  still = ap is_pending same ∙ can.still;
+  after = can.after;
+  first = subst (λ (o : Option Owner). HasLeft o owner f) (sym same) can.first;
+}
+
 module _ (v : Seen) (f u p : ℕ) (owner : Option Owner) (k : KeepsBook v) (can : CanFinish v f u p owner) where
-  leaving_named : names (v.words u p) ≡ Some f
-  leaving_named = ap names can.leaving
-
-  leaving_bound : v.bound f ≡ Some (u, p)
-  leaving_bound = k.tied.back f u p leaving_named
-
-  leaving_is : (shown v).frame f ≡ frame.Going u p
-  leaving_is = use_bound v.bound v.reads v.words k.tied f u p (ptw.Leaving f) leaving_bound can.leaving
+  leaving : (names (v.words u p) ≡ Some f) × (v.bound f ≡ Some (u, p)) × ((shown v).frame f ≡ frame.Going u p)
+  leaving = tied_at v f u p (ptw.Leaving f) k refl can.leaving
 
   leaving_nobody : NobodyHoldsPage (shown v) f
   leaving_nobody = nobody_holds_going_page (shown v) f (subst (Fine (shown v)) can.still k.stale_due) can.none
-      (ap is_current_frame leaving_is)
+      (ap is_current_frame leaving.2)
 
   not_read : v.reads f ≡ None
   not_read = by (v.reads f) refl
     where
       by : (x : Option (ℕ × ℕ)) → v.reads f ≡ x → x ≡ None
       by None e = refl
-      by (Some page) e = absurd (none_some (sym (k.tied.unbound f page.0 page.1 e) ∙ leaving_bound))
+      by (Some page) e = absurd (none_some (sym (k.tied.unbound f page.0 page.1 e) ∙ leaving.1))
 
   -- the page has left its frame, and its word is one that names no frame
   pub gone_keeps : (word : Ptw) → names word ≡ None → KeepsBook (gone v f u p word owner)
   unfolding IsLawful after_entry custody_next
-  gone_keeps word nowhere = book_next v (entry.GonePage f) (gone v f u p word owner) k (record {
-    plan = refl;
-    entries = refl;
+  gone_keeps word nowhere = book_next v (entry.GonePage f) (gone v f u p word owner) refl refl k (record {
     lawful = tt;
-    allowed = record { going = ap is_going_frame leaving_is; nobody = leaving_nobody };
+    allowed = record { going = ap is_going_frame leaving.2; nobody = leaving_nobody };
     online = tt;
     next = λ i. record {
       active = v.active;
@@ -128,7 +134,7 @@ module _ (v : Seen) (f u p : ℕ) (owner : Option Owner) (k : KeepsBook v) (can 
     };
     pending = can.after ∙ sym can.still;
     going_owned = owned_left (shown v) v.owner owner f frame.Free k.going_owned can.none can.first refl;
-    tied = tied_gone v.bound v.reads v.words k.tied f u p word leaving_named nowhere;
+    tied = tied_gone v.bound v.reads v.words k.tied f u p word leaving.0 nowhere;
     holding_right = λ d. right_frame v.bound
         (λ j n. descriptor_use (v.linked j n) (cut_uid (cut_of_owner owner) j n)) f None (v.processors d)
         (leaving_nobody d)
@@ -146,30 +152,28 @@ module _ (v : Seen) (f u p : ℕ) (owner : Option Owner) (k : KeepsBook v) (can 
 
       other : (h : ℕ) → h ≢ f → frame_use words (at_put v.bound f None h) (v.reads h) ≡ (shown v).frame h
       other h n = ap (λ (o : Option (ℕ × ℕ)). frame_use words o (v.reads h)) (put_other v.bound f None h n)
-          ∙ other_use v.bound v.reads v.words k.tied f u p word leaving_named h n
+          ∙ other_use v.bound v.reads v.words k.tied f u p word leaving.0 h n
 
   -- it stays
   pub back_keeps : KeepsBook (back v f u p owner)
   unfolding IsLawful after_entry custody_next
-  back_keeps = book_next v (entry.BackPage f) (back v f u p owner) k (record {
-    plan = refl;
-    entries = refl;
+  back_keeps = book_next v (entry.BackPage f) (back v f u p owner) refl refl k (record {
     lawful = tt;
-    allowed = record { going = ap is_going_frame leaving_is; nobody = leaving_nobody };
+    allowed = record { going = ap is_going_frame leaving.2; nobody = leaving_nobody };
     online = tt;
     next = λ i. record {
       active = v.active;
       frame = λ g. one_place (shown v).frame (λ h. frame_use words (v.bound h) (v.reads h)) f
           (given_back ((shown v).frame f)) here
-          (λ h n. other_use v.bound v.reads v.words k.tied f u p (ptw.Here f) leaving_named h n) g i;
+          (λ h n. other_use v.bound v.reads v.words k.tied f u p (ptw.Here f) leaving.0 h n) g i;
       descriptor = λ j n. descriptor_use (v.linked j n) (cut_uid (can.first.cut i) j n);
       ready = v.ready;
       seat = (shown v).seat;
     };
     pending = can.after ∙ sym can.still;
     going_owned = owned_left (shown v) v.owner owner f (given_back ((shown v).frame f)) k.going_owned can.none can.first
-        (ap (λ (x : FrameUse). is_going_frame (given_back x)) leaving_is);
-    tied = tied_word v.bound v.reads v.words k.tied f u p (ptw.Here f) leaving_named refl;
+        (ap (λ (x : FrameUse). is_going_frame (given_back x)) leaving.2);
+    tied = tied_word v.bound v.reads v.words k.tied f u p (ptw.Here f) leaving.0 refl;
     holding_right = λ d. subst (λ (x : ℕ → ℕ → DescriptorUse). HoldsRight v.bound x (v.processors d))
         (λ i. λ j n. descriptor_use (v.linked j n) (cut_uid (sym can.first.cut i) j n)) (k.holding_right d);
     under_way = k.under_way;
@@ -180,8 +184,8 @@ module _ (v : Seen) (f u p : ℕ) (owner : Option Owner) (k : KeepsBook v) (can 
       words = at_put_two v.words u p (ptw.Here f)
 
       here : frame_use words (v.bound f) (v.reads f) ≡ given_back ((shown v).frame f)
-      here = ap (λ (o : Option (ℕ × ℕ)). frame_use words o (v.reads f)) leaving_bound
-          ∙ (ap (bound_use (u, p)) (put_two_here v.words u p (ptw.Here f)) ∙ sym (ap given_back leaving_is))
+      here = ap (λ (o : Option (ℕ × ℕ)). frame_use words o (v.reads f)) leaving.1
+          ∙ (ap (bound_use (u, p)) (put_two_here v.words u p (ptw.Here f)) ∙ sym (ap given_back leaving.2))
 
 -- ---- stored no more
 
@@ -189,20 +193,7 @@ module _ (v : Seen) (f u p : ℕ) (owner : Option Owner) (k : KeepsBook v) (can 
 pub release_keeps : (v : Seen) (u p : ℕ) → KeepsBook v → MayRelease (flat v) u p → IsInNoFrame (shown v) u p
     → KeepsBook (released v u p)
 unfolding IsLawful after_entry custody_next
-release_keeps v u p k may nowhere = book_next v (entry.Release u p) (released v u p) k (record {
-  plan = refl;
-  entries = refl;
-  lawful = may;
-  allowed = nowhere;
-  online = tt;
-  next = refl;
-  pending = refl;
-  going_owned = k.going_owned;
-  tied = k.tied;
-  holding_right = k.holding_right;
-  under_way = k.under_way;
-  runs = k.runs;
-})
+release_keeps v u p k may nowhere = book_apart v (entry.Release u p) k may nowhere tt refl refl k.runs
 
 -- a page whose word names no frame and isn't on its record alone is in none
 pub in_no_frame : (v : Seen) (u p : ℕ) → KeepsBook v → names (v.words u p) ≡ None → ((g : ℕ) → v.reads g ≢ Some (u, p))

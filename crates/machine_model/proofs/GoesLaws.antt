@@ -105,17 +105,23 @@ all_set s t c x within is left ready online turn =
     let j : offline t.runners ≡ offline (set s.runners c x) = ap offline is in
     all_le s t left (omega (arith, turns, a, i)) ready (omega (arith, offs, b, j))
 
+-- the command of a processor is the same, by the runner that it has
+pub same_command : {s t : Outline} {c : ℕ} (x : Runner) → runner_at t.runners c ≡ x → x.want ≡ want_at s c
+    → x.since ≡ (runner_at s.runners c).since → x.running ≡ (runner_at s.runners c).running → all_rank t ≤ all_rank s
+    → IsSameCommand s t c
+same_command x is want since running all = record {
+  want = ap (λ (y : Runner). y.want) is ∙ want;
+  since = ap (λ (y : Runner). y.since) is ∙ since;
+  running = ap (λ (y : Runner). y.running) is ∙ running;
+  all = all;
+}
+
 connects_goes : (s : Outline) (c : ℕ) → c < length s.runners → IsIn s c Look → Goes s (with_link s c) c
 connects_goes s c within owner = inl (record {
   stage = Look;
   in_job = owner;
-  same = record {
-    want = ap (λ (x : Runner). x.want) same;
-    since = ap (λ (x : Runner). x.since) same;
-    running = ap (λ (x : Runner). x.running) same;
-    all = all_set s (with_link s c) c (record (runner_at s.runners c) { linked = true }) within refl refl refl refl
-        refl;
-  };
+  same = same_command _ same refl refl refl
+      (all_set s (with_link s c) c (record (runner_at s.runners c) { linked = true }) within refl refl refl refl refl);
   lack = subst (λ (y : Runner). lack (with_link s c) y ≤ lack_at s c) (sym same)
       (lack_le s (with_link s c) (want_at s c)
       (runner_at s.runners c).linked true (runner_at s.runners c).reading (runner_at s.runners c).reading (λ h. refl)

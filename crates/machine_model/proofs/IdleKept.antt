@@ -13,17 +13,19 @@ use Rattle.machine_model.specs.declared.Processor.{Processor}
 use Rattle.machine_model.specs.Actions as act
 use Rattle.machine_model.specs.After.{Outcome, after}
 use Rattle.machine_model.specs.Commits.{committed_at}
-use Rattle.machine_model.specs.Jobs.{emptied, eviction_begun, eviction_done, page_done, pages_back, segs_back, told_at}
+use Rattle.machine_model.specs.Jobs.{emptied, eviction_begun, eviction_done, page_done, told_at}
 use Rattle.machine_model.specs.Jobs.{told_from, victim_taken, with_choice, with_hand_moved, write_failed}
-use Rattle.machine_model.specs.Reads.{cpu_at, cut_of_owner, frames_from, frames_of_owner, next_command, no_processor}
+use Rattle.machine_model.specs.Reads.{cpu_at, frames_from, next_command, no_processor}
 use Rattle.machine_model.specs.Reads.{process_at, processor_at, trailers_in}
 use Rattle.machine_model.specs.Visits.{AreIdle}
 use Rattle.machine_model.specs.State.{State}
-use Rattle.machine_model.specs.Steps.{fault_told, frame_lost, transfer_failed, transferred, with_faults, with_store}
-use Rattle.machine_model.proofs.EntitledKept.{all_pages_back, all_segs_back, all_taken, evicted, hand, is_emptied, on}
+use Rattle.machine_model.specs.Steps.{frame_lost, transfer_failed, transferred, with_faults, with_store}
+use Rattle.machine_model.proofs.EntitledKept.{all_taken, evicted, hand, is_emptied, on}
 use Rattle.machine_model.proofs.EntitledKept.{SameNames, one_taken, page_left, segment}
 use Rattle.machine_model.proofs.LeaveSeen.{told_reads}
 use Rattle.machine_model.proofs.TieLaws.{none_some}
+use Rattle.machine_model.proofs.LeaveSeen.{told_has, told_process}
+use Rattle.machine_model.proofs.EntitledKept.{all_back, failed_names}
 
 -- ---- one processor is another
 
@@ -45,27 +47,12 @@ set_idle ps c p there h one = record { held = λ d i. by d i (eqb_tells c d) }
 told_idle : (c : ℕ) (w : What) (ps : List Processor) → AreIdle ps → AreIdle (told_from c w 0 ps)
 told_idle c w ps h = record {
   held = λ d i. subst (λ (x : Processor). x.cpu.assoc ≡ nothing_held) (sym (told_reads c w ps 0 d))
-      (by (0 + d) (processor_at ps d) (h.held d (sym (process (0 + d) (processor_at ps d))
+      (by (0 + d) (processor_at ps d) (h.held d (sym (told_process c w (0 + d) (processor_at ps d))
       ∙ (ap (λ (x : Processor). x.cpu.process) (sym (told_reads c w ps 0 d)) ∙ i))));
 }
   where
-    process : (d : ℕ) (p : Processor) → (told_at c w d p).cpu.process ≡ p.cpu.process
-    process d p = by_them (eqb d c) p.cpu.online
-      where
-        by_them : (a e : Bool) → (cond a (record p { cpu = record p.cpu { assoc = cleared p.cpu.assoc w } })
-            (cond e (record p { cpu = record p.cpu { due = Some w } }) p)).cpu.process ≡ p.cpu.process
-        by_them true e = refl
-        by_them false true = refl
-        by_them false false = refl
-
     by : (d : ℕ) (p : Processor) → p.cpu.assoc ≡ nothing_held → (told_at c w d p).cpu.assoc ≡ nothing_held
-    by d p g = by_them (eqb d c) p.cpu.online
-      where
-        by_them : (a e : Bool) → (cond a (record p { cpu = record p.cpu { assoc = cleared p.cpu.assoc w } })
-            (cond e (record p { cpu = record p.cpu { due = Some w } }) p)).cpu.assoc ≡ nothing_held
-        by_them true e = ap (λ (x : Held). cleared x w) g
-        by_them false true = g
-        by_them false false = g
+    by d p g = told_has (λ q. q.cpu.assoc ≡ nothing_held) c w d p (ap (λ (x : Held). cleared x w) g) g g
 
 -- ---- each action
 
@@ -95,43 +82,22 @@ module _ (s : State) (c : ℕ) (o : Outcome) (there : c < length s.processors) (
       by false = a
 
   failed : AreIdle (write_failed s c o.faults).processors
-  failed = set_idle back.processors c _ (subst (λ (ps : List Processor). c < length ps) (sym names.processors) there)
-      (same back names) (λ e. (same back names).held c e)
+  failed = set_idle (all_back s c o.faults).processors c _ (subst (λ (ps : List Processor). c < length ps) (sym names.processors) there)
+      (same (all_back s c o.faults) names) (λ e. (same (all_back s c o.faults) names).held c e)
     where
-      told : State
-      told = fault_told s (Some (process_at s c)) o.faults
-
-      back : State
-      back = segs_back (pages_back told (frames_of_owner s.owner)) (cut_of_owner s.owner)
-
-      names : SameNames s back
-      names = on s told back (record { nodes = refl; whos = refl; known = refl; processors = refl })
-          (on told (pages_back told (frames_of_owner s.owner)) back (all_pages_back told (frames_of_owner s.owner))
-          (all_segs_back (pages_back told (frames_of_owner s.owner)) (cut_of_owner s.owner)))
+      names : SameNames s (all_back s c o.faults)
+      names = failed_names s c o.faults
 
   -- a processor's own entry, and another change of it
   twice : (p q : Processor) → (p.cpu.process ≡ None → p.cpu.assoc ≡ nothing_held)
       → (q.cpu.process ≡ None → q.cpu.assoc ≡ nothing_held) → AreIdle (set (set s.processors c p) c q)
-  twice p q a b = set_idle (set s.processors c p) c q (subst (λ (n : ℕ). c < n) (sym (length-set s.processors c p)) there)
-      (one p a) b
+  twice p q a b = set_idle (set s.processors c p) c q
+      (subst (λ (n : ℕ). c < n) (sym (length-set s.processors c p)) there) (one p a) b
 
   commits : (x : Option Command) → AreIdle (committed_at s c x).processors
   commits None = h
   commits (Some command.End) = twice _ _ own (λ e. refl)
-  commits (Some (command.MkDir path volume)) = one _ own
-  commits (Some (command.MkSeg path pages volume)) = one _ own
-  commits (Some (command.Initiate path)) = one _ own
-  commits (Some (command.Terminate n)) = one _ own
-  commits (Some (command.Acl path row m)) = one _ own
-  commits (Some (command.Length path pages)) = one _ own
-  commits (Some (command.Truncate path words)) = one _ own
-  commits (Some (command.Delete path)) = one _ own
-  commits (Some (command.Move path amount)) = one _ own
-  commits (Some (command.Status path)) = one _ own
-  commits (Some (command.Read n w)) = one _ own
-  commits (Some (command.Write n w x)) = one _ own
-  commits (Some (command.Add n w x)) = one _ own
-  commits (Some (command.Await n w x t)) = one _ own
+  commits (Some _) = one _ own
 
   -- What holds nothing holds nothing still.
   pub idle_kept : (a : act.Action) → FillsBusy s c a → AreIdle (after s c a o).processors

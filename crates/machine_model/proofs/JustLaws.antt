@@ -33,9 +33,9 @@ use Rattle.machine_model.specs.Working.{FailsBy, FailsIn, TakesSome}
 use Rattle.machine_model.proofs.OutLaws.{NoneOut}
 use Rattle.machine_model.specs.Reads.{is_active}
 use Rattle.std.specs.Prelude.{◌/◌}
-use Rattle.machine_model.proofs.FlatAlike.{append_assoc, append_nil}
 use Rattle.machine_model.proofs.Places.{by_place}
 use Rattle.machine_model.proofs.TieLaws.{none_some, page_is}
+use Rattle.std.proofs.lemmas.List.{append-nil, append_assoc}
 
 -- an entry takes nothing, lets nothing go, and brings no page that is taken
 abbrev pub Stays : (ℕ → ℕ → Type 0) → Entry → Type 0
@@ -111,7 +111,7 @@ module _ (Page : ℕ → ℕ → Type 0) (Descriptor : ℕ → ℕ → ℕ → T
   just_list : (p : Plan) (es more : List Entry) → GoesJust (custody_after p es) Page Descriptor → AllStay Page more
       → GoesJust (custody_after p (es ++ more)) Page Descriptor
   just_list p es [] j stay =
-      subst (λ (xs : List Entry). GoesJust (custody_after p xs) Page Descriptor) (sym (append_nil es)) j
+      subst (λ (xs : List Entry). GoesJust (custody_after p xs) Page Descriptor) (sym (append-nil es)) j
   just_list p es (e ∷ more) j stay = subst (λ (xs : List Entry). GoesJust (custody_after p xs) Page Descriptor)
       (append_assoc es (e ∷ []) more)
       (just_list p (es ++ e ∷ []) more (subst (λ (c : Custody). GoesJust c Page Descriptor)

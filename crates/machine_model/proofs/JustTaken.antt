@@ -23,12 +23,10 @@ use Rattle.page_control.specs.Plain.{Plain, binding_at, bindings}
 use Rattle.seg_control.specs.Control.{is_for, sdws_at, table_of}
 use Rattle.seg_control.specs.Kept.{read_at}
 use Rattle.custody_model.specs.Custody.{has, is_going_descriptor, is_going_frame, leads_to, page_of}
-use Rattle.custody_model.specs.Next.{at_put_two}
 use Rattle.machine_model.specs.declared.Aim.{Aim}
 use Rattle.machine_model.specs.declared.Aim.TheVariants as aim
 use Rattle.machine_model.specs.declared.CutDescriptor.{CutDescriptor}
 use Rattle.machine_model.specs.Actions.{descriptors_taken, first_taken, frame_read_from, frames_taken}
-use Rattle.machine_model.specs.Changes.{cut}
 use Rattle.machine_model.specs.Custodial.{KeepsBook, has_cut, names}
 use Rattle.machine_model.specs.Holding.{led_to, seen}
 use Rattle.machine_model.specs.Jobs.{cut_all, cut_one, note_of, take_all, take_one, took}
@@ -36,7 +34,7 @@ use Rattle.machine_model.specs.Keeps.{Keeps}
 use Rattle.machine_model.specs.Reads.{cut_of_owner, descriptor_of, frame_reading, frames_from, frames_of_owner}
 use Rattle.machine_model.specs.Reads.{is_active, is_connected, is_page_of, trailers_in}
 use Rattle.machine_model.specs.Refusal.{refusal_of, uid_of_command}
-use Rattle.machine_model.specs.Seen.{Seen, bound_use, cut_uid, descriptor_use, frame_use, is_cut_at, shown}
+use Rattle.machine_model.specs.Seen.{bound_use, cut_uid, descriptor_use, frame_use, is_cut_at, shown}
 use Rattle.machine_model.specs.State.{State}
 use Rattle.machine_model.specs.Taking.{GoesJust, IsAlone, IsTakenFor, TakesDescriptor, TakesPage}
 use Rattle.machine_model.specs.Taking.{WasBrought}
@@ -53,15 +51,17 @@ use Rattle.machine_model.proofs.ListLaws.{map_list}
 use Rattle.machine_model.proofs.LookFacts.{FindsTaken}
 use Rattle.machine_model.proofs.OutlineTake.{LooksLike, took_like}
 use Rattle.machine_model.proofs.OwnedLaws.{IsIdle, cut_at_tells}
-use Rattle.machine_model.proofs.Places.{by_places}
 use Rattle.machine_model.proofs.StandLaws.{took_stands}
 use Rattle.machine_model.proofs.TakeLists.{dropped_word, frame_word, trailers_taken}
-use Rattle.machine_model.proofs.TakeSeen.{cut_one_seen, linked_within}
-use Rattle.machine_model.proofs.TakeWhole.{RestIs, cut_linked, cut_pages, frame_listed, note_at, take_rest}
+use Rattle.machine_model.proofs.TakeSeen.{linked_within}
+use Rattle.machine_model.proofs.TakeWhole.{cut_pages, frame_listed, note_at, take_rest}
 use Rattle.machine_model.proofs.TakeWhole.{trailer_listed}
 use Rattle.machine_model.proofs.TieLaws.{none_some, page_is}
-use Rattle.machine_model.proofs.TookKept.{ArePairs, CanTook, has_pair, is_pair, note_is, pairs_kept, took_keeps}
+use Rattle.machine_model.proofs.TookKept.{ArePairs, CanTook, has_pair, is_pair, linked_before, noted, noted_has, pairs_left, took_keeps}
 use Rattle.machine_model.proofs.TransferKept.{active_at}
+use Rattle.machine_model.proofs.TakeWhole.{take_linked, took_linked}
+use Rattle.machine_model.proofs.TakeWhole.{cut_frames}
+use Rattle.machine_model.proofs.NumberLaws.{take_cut}
 
 no_and : {b : Bool} → b ≡ true → b ≡ false → ⊥
 no_and t f = let none : true ≡ false = sym t ∙ f in cc
@@ -110,16 +110,6 @@ take_has s c a w (f ∷ fs) g = take_has (take_one s c a w f) c a w fs g
     ∙ (ap (λ (b : Bool). b || has fs g) (list_any-append (λ y. eqb y g) (frames_of_owner s.owner) (f ∷ []))
     ∙ or_moved (has (frames_of_owner s.owner) g) (eqb f g) (has fs g))
 
-take_cut : (s : State) (c : ℕ) (a : Aim) (w : What) (fs : List ℕ)
-    → cut_of_owner (take_all s c a w fs).owner ≡ cut_of_owner s.owner
-take_cut s c a w [] = refl
-take_cut s c a w (f ∷ fs) = take_cut (take_one s c a w f) c a w fs
-
-cut_frames : (s : State) (c : ℕ) (a : Aim) (w : What) (xs : List (ℕ × ℕ))
-    → frames_of_owner (cut_all s c a w xs).owner ≡ frames_of_owner s.owner
-cut_frames s c a w [] = refl
-cut_frames s c a w (x ∷ xs) = cut_frames (cut_one s c a w x) c a w xs
-
 cut_has : (s : State) (c : ℕ) (a : Aim) (w : What) (xs : List (ℕ × ℕ)) (k n : ℕ)
     → has_cut (cut_of_owner (cut_all s c a w xs).owner) k n ≡ (has_cut (cut_of_owner s.owner) k n || has_pair xs k n)
 cut_has s c a w [] k n = or_false (has_cut (cut_of_owner s.owner) k n)
@@ -158,24 +148,9 @@ cut_notes : (s : State) (c : ℕ) (a : Aim) (w : What) (xs : List (ℕ × ℕ)) 
     → NotesLed linked (cut_of_owner s.owner) → NotesLed linked (cut_of_owner (cut_all s c a w xs).owner)
 cut_notes s c a w [] linked are less led = led
 cut_notes s c a w (x ∷ xs) linked are less led = cut_notes (cut_one s c a w x) c a w xs linked
-    (subst (λ (v : Seen). ArePairs v.linked w xs) (sym one)
-    (subst (λ (l : ℕ → ℕ → Option ℕ). ArePairs l w xs)
-    (λ i. at_put_two (seen s).linked (sym note.0 i) (sym note.1 i) None)
-    (pairs_kept (seen s).linked w x.0 x.1 xs are.1 are.2)))
-    (subst (λ (v : Seen). (k n u : ℕ) → v.linked k n ≡ Some u → linked k n ≡ Some u) (sym one)
-    (λ k n u. by_places (λ (o : Option ℕ). o ≡ Some u → linked k n ≡ Some u) (seen s).linked
-    d.process d.number None k n (λ e i h. absurd (none_some h)) (λ m h. less k n u h)))
-    (notes_push linked (cut_of_owner s.owner) d led
-    ((λ i. linked (note.0 i) (note.1 i)) ∙ (less x.0 x.1 are.0.0 are.0.1 ∙ ap (λ (v : ℕ). Some v) (sym note.2))))
-  where
-    d : CutDescriptor
-    d = note_of s.store x.0 x.1 (descriptor_of s.store.links x.0 x.1)
-
-    note : (d.process ≡ x.0) × (d.number ≡ x.1) × (d.uid ≡ are.0.0)
-    note = note_is s x.0 x.1 are.0.0 (descriptor_of s.store.links x.0 x.1) are.0.1
-
-    one : seen (cut_one s c a w x) ≡ cut (seen s) c a w d
-    one = cut_one_seen s c a w x are.0.0 are.0.1
+    (pairs_left s c a w x xs are) (λ k n u h. less k n u (linked_before s c a w x are.0.0 are.0.1 k n u h))
+    (notes_push linked (cut_of_owner s.owner) (noted s x) led
+    (noted_has linked s x are.0.0 are.0.1 (less x.0 x.1 are.0.0 are.0.1)))
 
 -- ---- what goes is what was listed
 
@@ -206,14 +181,8 @@ module _ (s : State) (c : ℕ) (a : Aim) (w : What) (fs : List ℕ) (xs : List (
   book : KeepsBook (seen now)
   book = (took_keeps s c a w fs xs k.store.kept.places k.book can).book
 
-  first : RestIs s mid
-  first = take_rest s c a w fs
-
-  mid_linked : (seen mid).linked ≡ (seen s).linked
-  mid_linked = λ i j n. led_to (first.2 i) (descriptor_of (first.1 i) j n)
-
   pages_same : now.store.pages ≡ s.store.pages
-  pages_same = cut_pages mid c a w xs ∙ first.0
+  pages_same = cut_pages mid c a w xs ∙ (take_rest s c a w fs).0
 
   bound_same : (f : ℕ) → (seen now).bound f ≡ (seen s).bound f
   bound_same f = ap (λ (p : Plain). binding_at (bindings p.core) f) pages_same
@@ -262,9 +231,7 @@ module _ (s : State) (c : ℕ) (a : Aim) (w : What) (fs : List ℕ) (xs : List (
           → (seen s).linked j n ≡ Some u
       by None None e d g i = absurd (none_some g)
       by None (Some v) e d g i = absurd (no_and refl i)
-      by (Some v) y e d g i = ap (λ (f : ℕ → ℕ → Option ℕ). f j n) (sym mid_linked)
-          ∙ cut_linked mid c a w xs (subst (λ (f : ℕ → ℕ → Option ℕ). ArePairs f w xs) (sym mid_linked) can.pairs_are)
-          j n u (e ∙ g)
+      by (Some v) y e d g i = took_linked s c a w fs xs can.pairs_are j n u (e ∙ g)
 
   -- a descriptor that was cut led to what is remembered of it
   cut_led : (j n u : ℕ) → leads_to ((shown (seen now)).descriptor j n) ≡ Some u
@@ -280,9 +247,9 @@ module _ (s : State) (c : ℕ) (a : Aim) (w : What) (fs : List ℕ) (xs : List (
       by (Some v) y e d g i = absurd (no_and i refl)
 
       led : NotesLed (seen s).linked (cut_of_owner now.owner)
-      led = subst (λ (f : ℕ → ℕ → Option ℕ). NotesLed f (cut_of_owner now.owner)) mid_linked
+      led = subst (λ (f : ℕ → ℕ → Option ℕ). NotesLed f (cut_of_owner now.owner)) (take_linked s c a w fs)
           (cut_notes mid c a w xs (seen mid).linked
-          (subst (λ (f : ℕ → ℕ → Option ℕ). ArePairs f w xs) (sym mid_linked) can.pairs_are) (λ i m v e. e)
+          (subst (λ (f : ℕ → ℕ → Option ℕ). ArePairs f w xs) (sym (take_linked s c a w fs)) can.pairs_are) (λ i m v e. e)
           (subst (NotesLed (seen mid).linked) (sym (take_cut s c a w fs ∙ idle.cut)) tt))
 
   -- So what goes then is just what is listed.
@@ -497,20 +464,7 @@ module _ (s : State) (k : ℕ) (keeps : Keeps s) where
 brought_found : (s : State) → Keeps s → (u : ℕ) (cmd : Command) → IsBrought s u cmd → WasBrought s.store u cmd
 brought_found s keeps u (command.Truncate path words) h =
     (chain_active s.store.accounts.nodes keeps.store.accounts.tree s.store.ast u h.0, h.1)
-brought_found s keeps u (command.MkDir path volume) h = tt
-brought_found s keeps u (command.MkSeg path pages volume) h = tt
-brought_found s keeps u (command.Initiate path) h = tt
-brought_found s keeps u (command.Terminate n) h = tt
-brought_found s keeps u (command.Acl path row m) h = tt
-brought_found s keeps u (command.Length path pages) h = tt
-brought_found s keeps u (command.Delete path) h = tt
-brought_found s keeps u (command.Move path amount) h = tt
-brought_found s keeps u (command.Status path) h = tt
-brought_found s keeps u (command.Read n w) h = tt
-brought_found s keeps u (command.Write n w x) h = tt
-brought_found s keeps u (command.Add n w x) h = tt
-brought_found s keeps u (command.Await n w x t) h = tt
-brought_found s keeps u command.End h = tt
+brought_found s keeps u _ h = tt
 
 -- ---- the look
 

@@ -27,6 +27,7 @@ use Rattle.machine_model.proofs.ClearLaws.{clear_keeps}
 use Rattle.machine_model.proofs.SeatLaws.{CanFillPage, CanFillSeg, fill_page_keeps, fill_seg_keeps, leave_keeps}
 use Rattle.machine_model.proofs.SeatLaws.{load_keeps, online_keeps}
 use Rattle.machine_model.proofs.SeenLaws.{reseated_seen}
+use Rattle.std.proofs.Common.{add-zero}
 
 -- one entry more tells one failure more, or none
 pub faults_push : (es : List Entry) (e : Entry)
@@ -36,6 +37,12 @@ faults_push (x ∷ xs) e = let ih = faults_push xs e in
     let one = sum_by-cons (λ y. cond (is_fault y) 1 0) x (xs ++ e ∷ []) in let two =
     sum_by-cons (λ y. cond (is_fault y) 1 0) x xs in
     omega (arith, ih, one, two)
+
+-- an entry that tells of no failed read or write
+pub quiet_push : (es : List Entry) (e : Entry) → is_fault e ≡ false
+    → count_by is_fault (es ++ e ∷ []) ≡ count_by is_fault es
+quiet_push es e quiet = faults_push es e ∙ (ap (λ (b : Bool). count_by is_fault es + cond b 1 0) quiet
+    ∙ add-zero (count_by is_fault es))
 
 -- an entry that leaves the flat store as it was
 pub flat_still : (p : Plan) (es : List Entry) (e : Entry) → after_entry p (store_after p es) e ≡ store_after p es

@@ -34,20 +34,18 @@ use Rattle.machine_model.proofs.TiedLaws.{tied_ended, tied_quiet, is_started, fr
 
 -- ---- the owner
 
-keeper_cpu : Option Keeper → ℕ
+abbrev pub keeper_cpu : Option Keeper → ℕ
 keeper_cpu None = 0
 keeper_cpu (Some o) = o.cpu
 
-keeper_stage : Option Keeper → Stage
+abbrev pub keeper_stage : Option Keeper → Stage
 keeper_stage None = Look
 keeper_stage (Some o) = o.stage
 
 same_cpu : (t : Outline) (c d : ℕ) (a b : Stage) → IsIn t c a → IsIn t d b → c ≡ d
-unfolding keeper_cpu
 same_cpu t c d a b h i = ap keeper_cpu (sym h ∙ i)
 
 same_stage : (t : Outline) (c d : ℕ) (a b : Stage) → IsIn t c a → IsIn t d b → a ≡ b
-unfolding keeper_stage
 same_stage t c d a b h i = ap keeper_stage (sym h ∙ i)
 
 -- a job of one owner in one stage

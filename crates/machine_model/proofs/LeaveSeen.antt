@@ -12,7 +12,7 @@ use Rattle.page_control.specs.Effects.{evicted, word_of_left}
 use Rattle.page_control.specs.Plain.{Plain, binding_at, bindings, frame_in, record_of}
 use Rattle.seg_control.specs.Kept.{read_at}
 use Rattle.custody_model.specs.Next.{at_put}
-use Rattle.machine_model.specs.Changes.{back, dropped, gone, signalled as signal_given, told_at}
+use Rattle.machine_model.specs.Changes.{back, dropped, gone, signalled as signal_given, told_at, warned}
 use Rattle.machine_model.specs.Custodial.{KeepsBook, names}
 use Rattle.machine_model.specs.Holding.{seen}
 use Rattle.machine_model.specs.Jobs.{here_if, told_from, with_left}
@@ -26,6 +26,25 @@ use Rattle.machine_model.proofs.TakeSeen.{HasTables, binding_is, not_null, words
 use Rattle.machine_model.proofs.TieLaws.{none_some}
 
 -- ---- the signal
+
+-- what a processor has that clears, one that is warned, and one that is left as it is, it has once a signal told it
+pub told_has : (P : Processor → Type 0) (c : ℕ) (w : What) (d : ℕ) (p : Processor)
+    → P (dropped p w) → P (warned p w) → P p → P (told_at c w d p)
+told_has P c w d p clears waits stays = by (eqb d c) p.cpu.online
+  where
+    by : (own online : Bool) → P (cond own (dropped p w) (cond online (warned p w) p))
+    by true online = clears
+    by false true = waits
+    by false false = stays
+
+pub told_process : (c : ℕ) (w : What) (d : ℕ) (p : Processor) → (told_at c w d p).cpu.process ≡ p.cpu.process
+told_process c w d p = told_has (λ q. q.cpu.process ≡ p.cpu.process) c w d p refl refl refl
+
+pub told_online : (c : ℕ) (w : What) (d : ℕ) (p : Processor) → (told_at c w d p).cpu.online ≡ p.cpu.online
+told_online c w d p = told_has (λ q. q.cpu.online ≡ p.cpu.online) c w d p refl refl refl
+
+pub told_transfer : (c : ℕ) (w : What) (d : ℕ) (p : Processor) → (told_at c w d p).cpu.transfer ≡ p.cpu.transfer
+told_transfer c w d p = told_has (λ q. q.cpu.transfer ≡ p.cpu.transfer) c w d p refl refl refl
 
 told_nobody : (c : ℕ) (w : What) (d : ℕ) → told_at c w d no_processor ≡ no_processor
 told_nobody c w d = by (eqb d c)

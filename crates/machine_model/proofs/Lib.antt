@@ -25,8 +25,10 @@ pub mod DeleteKept
 pub mod Deletions
 pub mod DescriptorLaws
 pub mod DueLaws
+pub mod EffectLaws
 pub mod EmptyAsks
 pub mod Evictions
+pub mod Examples
 pub mod FailLaws
 pub mod FailedDeactivation
 pub mod FailedEviction

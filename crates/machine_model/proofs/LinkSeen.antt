@@ -6,8 +6,6 @@ use Rattle.script.specs.declared.commands.Reference.{Reference}
 use Rattle.script.specs.Plans.{command_at}
 use Rattle.assoc_mem.specs.declared.What.{What}
 use Rattle.assoc_mem.specs.declared.What.TheVariants as what
-use Rattle.core_map.specs.CoreMap.{bound_page}
-use Rattle.page_control.specs.Plain.{frame_in}
 use Rattle.descriptor_seg.specs.declared.Sdw.{Sdw}
 use Rattle.descriptor_seg.specs.declared.Sdw.TheVariants as sdw
 use Rattle.seg_control.specs.Control.{Links, leads}
@@ -17,8 +15,7 @@ use Rattle.machine_model.specs.declared.Aim.{Aim}
 use Rattle.machine_model.specs.declared.Aim.TheVariants as aim
 use Rattle.machine_model.specs.declared.CutDescriptor.{CutDescriptor}
 use Rattle.machine_model.specs.Foreseen.{KeepsLink}
-use Rattle.machine_model.specs.Jobs.{cut_all, cut_one, leaving_if, seg_gone, segment_taken, segs_gone, take_all}
-use Rattle.machine_model.specs.Jobs.{take_one}
+use Rattle.machine_model.specs.Jobs.{seg_gone, segment_taken, segs_gone}
 use Rattle.machine_model.specs.Jobs.{took}
 use Rattle.machine_model.specs.Outlined.{around, is_linked, reference_in, runner_by}
 use Rattle.machine_model.specs.Reads.{cpu_at, cut_of_owner, descriptor_of, is_connected, next_command, processor_at}
@@ -28,6 +25,7 @@ use Rattle.machine_model.proofs.ComingKept.{SameRuns}
 use Rattle.machine_model.proofs.Places.{by_places}
 use Rattle.machine_model.proofs.TakeSeen.{descriptors_put, linked_within}
 use Rattle.machine_model.proofs.TieLaws.{none_some}
+use Rattle.machine_model.proofs.EffectLaws.{took_has}
 
 -- a descriptor that faults goes on doing so
 abbrev pub StillFaults : Links → Links → Type 0
@@ -43,26 +41,10 @@ cut_faults links k n i j h = by (descriptor_of links k n) refl
         descriptors_put links (trailer_gone links.trailers aste k n) k n sdw.Fault within.0 within.1 i j
         ∙ by_places (λ y. y ≡ sdw.Fault) (λ a b. descriptor_of links a b) k n sdw.Fault i j (λ a b. refl) (λ m. h)
 
-take_faults : (s : State) (c : ℕ) (a : Aim) (w : What) (fs : List ℕ)
-    → StillFaults s.store.links (take_all s c a w fs).store.links
-take_faults s c a w [] k n h = h
-take_faults s c a w (f ∷ fs) k n h = take_faults (take_one s c a w f) c a w fs k n
-    (by (bound_page (frame_in s.store.pages f)))
-  where
-    by : (o : Option (ℕ × ℕ)) → descriptor_of (leaving_if s.store f o).links k n ≡ sdw.Fault
-    by None = h
-    by (Some page) = h
-
-cuts_faults : (s : State) (c : ℕ) (a : Aim) (w : What) (pairs : List (ℕ × ℕ))
-    → StillFaults s.store.links (cut_all s c a w pairs).store.links
-cuts_faults s c a w [] k n h = h
-cuts_faults s c a w (x ∷ xs) k n h = cuts_faults (cut_one s c a w x) c a w xs k n
-    (cut_faults s.store.links x.0 x.1 k n h)
-
 took_faults : (s : State) (c : ℕ) (a : Aim) (w : What) (fs : List ℕ) (pairs : List (ℕ × ℕ))
     → StillFaults s.store.links (took s c a w fs pairs).store.links
-took_faults s c a w fs pairs k n h =
-    cuts_faults (take_all s c a w fs) c a w pairs k n (take_faults s c a w fs k n h)
+took_faults s c a w fs pairs k n h = took_has (λ st. descriptor_of st.links k n ≡ sdw.Fault) (λ st f u p e. e)
+    (λ st i j e. cut_faults st.links i j k n e) c a w s fs pairs h
 
 gone_faults : (s : State) (ds : List CutDescriptor) → StillFaults s.store.links (segs_gone s ds).store.links
 gone_faults s [] k n h = h

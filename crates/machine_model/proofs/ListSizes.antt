@@ -49,7 +49,7 @@ frames_few (ptw.Out r ∷ ws) = let rest = frames_few ws in omega (arith, rest)
 frames_few (ptw.Here f ∷ ws) = let rest = frames_few ws in omega (arith, rest)
 frames_few (ptw.Leaving f ∷ ws) = let rest = frames_few ws in omega (arith, rest)
 
-pool_small : (n : Node) → pool_of n < 4
+pub pool_small : (n : Node) → pool_of n < 4
 pool_small n = by n.directory
   where
     small : (a b d : Bool) → cond a 0 (cond b 1 (cond d 2 3)) < 4

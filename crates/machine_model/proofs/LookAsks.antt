@@ -13,7 +13,7 @@ use Rattle.script.specs.declared.commands.Reference.{Reference}
 use Rattle.book.specs.declared.entries.Entry.TheVariants as entry
 use Rattle.book.specs.declared.replies.Reply.{Reply}
 use Rattle.tree_model.specs.Tree.{Node, has_directory, node_in, pool_for, pool_of}
-use Rattle.tree_model.specs.Trees.{AreBelow, IsTree, Joins}
+use Rattle.tree_model.specs.Trees.{IsTree}
 use Rattle.tree_model.proofs.Finds.{IsMember, found_member}
 use Rattle.dir_tree.specs.Nodes.{chain_of}
 use Rattle.known_segs.specs.Known.{uid_of}
@@ -62,17 +62,11 @@ use Rattle.machine_model.proofs.SpeakLaws.{Speaks, can_refuse, can_tell, refusal
 use Rattle.machine_model.proofs.StepKept.{CanActivateAt, CanConnectTo, CanReply}
 use Rattle.machine_model.proofs.TieLaws.{none_some}
 use Rattle.machine_model.proofs.TransferKept.{active_at}
+use Rattle.machine_model.proofs.ListSizes.{pool_small}
+use Rattle.machine_model.proofs.FlatAlike.{older}
+use Rattle.machine_model.proofs.SpeakLaws.{speaks_like}
 
 -- ---- nodes and places
-
-older_than : (n : Node) (m : Node) (ms : List Node) (o : Option ℕ) → Joins ms o m → IsMember n ms → n.uid < m.uid
-older_than n m ms None j h = absurd (subst (IsMember n) j.first h)
-older_than n m ms (Some s) j h = below ms j.later h
-  where
-    below : (ns : List Node) → AreBelow m.uid ns → IsMember n ns → n.uid < m.uid
-    below [] b h = absurd h
-    below (x ∷ xs) b (inl e) = subst (λ (y : Node). y.uid < m.uid) (sym e) b.0
-    below (x ∷ xs) b (inr i) = below xs b.1 i
 
 -- a node of a tree is found by its uid
 node_of_member : (ns : List Node) (n : Node) → IsTree ns → IsMember n ns → node_in ns n.uid ≡ Some n
@@ -82,7 +76,7 @@ node_of_member (m ∷ ms) n t (inl e) = elim (eqb_tells m.uid n.uid) [
   | inr other ↦ absurd (other.1 (ap (λ (x : Node). x.uid) (sym e)))
 ]
 node_of_member (m ∷ ms) n t (inr h) = elim (eqb_tells m.uid n.uid) [
-  | inl same ↦ (let later = older_than n m ms m.superior t.0 h in let is = same.1 in absurd (omega (arith, later, is)))
+  | inl same ↦ (let later = older n m ms m.superior t.0 h in let is = same.1 in absurd (omega (arith, later, is)))
   | inr other ↦ ap (λ (b : Bool). cond b (Some m) (node_in ms n.uid)) other.0 ∙ node_of_member ms n t.1 h
 ]
 
@@ -300,17 +294,7 @@ module _ (s : State) (c : ℕ) (o : Outcome) (m : IsMachine s) (idle : IsIdle s.
       most = subst (λ (x : Option Node). pages_of x ≤ 256) at (keeps.store.counted.counted.most u)
 
       four : pool_of n < 4
-      four = dir n.directory
-        where
-          small : (a b d : Bool) → cond a 0 (cond b 1 (cond d 2 3)) < 4
-          small true b d = omega arith
-          small false true d = omega arith
-          small false false true = omega arith
-          small false false false = omega arith
-
-          dir : (b : Bool) → cond b 0 (pool_for n.pages) < 4
-          dir true = omega arith
-          dir false = small (nat_le n.pages 4) (nat_le n.pages 16) (nat_le n.pages 64)
+      four = pool_small n
 
       long : length (table_of s.store.ast u) ≡ 4 ^ (pool_of n + 1)
       long = keeps.store.kept.sized (pool_of n) place four in_pool
@@ -337,16 +321,9 @@ module _ (s : State) (c : ℕ) (o : Outcome) (m : IsMachine s) (idle : IsIdle s.
   -- ---- a page is made
 
   still_speaks : (f u p : ℕ) (r : Reference) → Speaks (page_made s f u p r) c k cmd
-  still_speaks f u p r = record {
-    there = speaks.there;
-    known = speaks.known;
-    its = speaks.its;
-    next = speaks.next;
-    going = speaks.going;
-    turn = speaks.turn;
-    runs = λ j. subst (λ (t : Store). IsRun (progress_of t j) (run_at s.runs j))
-        (sym (one_still s.plan s.entries (entry.Here f u p) refl)) (speaks.runs j);
-  }
+  still_speaks f u p r = speaks_like refl refl refl
+      (λ j. subst (λ (t : Store). IsRun (progress_of t j) (run_at s.runs j))
+      (sym (one_still s.plan s.entries (entry.Here f u p) refl)) (speaks.runs j)) speaks
 
   pub create_asks : (f u p : ℕ) (r : Reference) → FindsRoom s k cmd f u p r → Says s c o (act.Create f u p r)
       → AsksCreate s c f u p r

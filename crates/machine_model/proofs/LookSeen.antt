@@ -558,22 +558,7 @@ module _ (s : State) (c : ℕ) (m : IsMachine s) (cmd : Command) (sp : Speaks s 
         h.0.tree,
   )
   looks_like act.Commit h = may
-  looks_like act.IsStopped h = absurd h
-  looks_like act.HasEnded h = absurd h
-  looks_like act.Online h = absurd h
-  looks_like (act.Clear w) h = absurd h
-  looks_like (act.EndTransfer t) h = absurd h
-  looks_like (act.Load n) h = absurd h
-  looks_like act.Leave h = absurd h
-  looks_like (act.FillSeg n) h = absurd h
-  looks_like (act.FillPage f r) h = absurd h
-  looks_like (act.Through f r) h = absurd h
-  looks_like (act.Plain r) h = absurd h
-  looks_like act.TakeSupervisor h = absurd h
-  looks_like (act.Signal w) h = absurd h
-  looks_like (act.FinishEviction f) h = absurd h
-  looks_like (act.FinishPage f) h = absurd h
-  looks_like (act.Deactivate u) h = absurd h
+  looks_like _ h = absurd h
 
   pub look_seen : IsLook s c (act.look_of s k (next_command s k))
   look_seen = subst (λ (x : Option Command). IsLook s c (act.look_of s k x)) (sym sp.next)

@@ -7,24 +7,20 @@ use Rattle.descriptor_seg.specs.declared.Sdw.{Sdw}
 use Rattle.descriptor_seg.specs.declared.Sdw.TheVariants as sdw
 use Rattle.known_segs.specs.Known.{uid_of}
 use Rattle.seg_control.specs.Control.{kst_at, leads}
-use Rattle.custody_model.specs.Next.{at_put_two}
 use Rattle.machine_model.specs.declared.Aim.{Aim}
 use Rattle.machine_model.specs.declared.CutDescriptor.{CutDescriptor}
-use Rattle.machine_model.specs.Changes.{cut}
 use Rattle.machine_model.specs.Holding.{led_to, seen}
 use Rattle.machine_model.specs.Jobs.{cut_all, cut_one, note_of, owner_signalled, take_all, take_one, took}
 use Rattle.machine_model.specs.Jobs.{without_first_frame}
 use Rattle.machine_model.specs.Keeps.{Keeps}
 use Rattle.machine_model.specs.Reads.{cut_of_owner, descriptor_of, frames_of_owner}
-use Rattle.machine_model.specs.Seen.{Seen}
 use Rattle.machine_model.specs.State.{Owner, State}
 use Rattle.machine_model.specs.Working.{AreNumbered, OwnsFew}
 use Rattle.machine_model.proofs.OwnedLaws.{IsIdle}
-use Rattle.machine_model.proofs.Places.{by_places}
-use Rattle.machine_model.proofs.TakeSeen.{cut_one_seen}
-use Rattle.machine_model.proofs.TakeWhole.{RestIs, take_rest}
+use Rattle.machine_model.proofs.TakeWhole.{take_linked}
 use Rattle.machine_model.proofs.TieLaws.{none_some}
-use Rattle.machine_model.proofs.TookKept.{ArePairs, note_is, pairs_kept}
+use Rattle.machine_model.proofs.TookKept.{ArePairs, linked_before, noted, noted_has, pairs_left}
+use Rattle.machine_model.proofs.TakeWhole.{cut_frames}
 
 -- the number of a descriptor that leads to a segment stands for it
 abbrev KnowsLinked : (ℕ → ℕ → Option ℕ) → List (List (Option ℕ)) → Type 0
@@ -50,30 +46,11 @@ cut_numbered : (s : State) (c : ℕ) (a : Aim) (w : What) (xs : List (ℕ × ℕ
     → AreNumbered numbers (cut_of_owner s.owner) → AreNumbered numbers (cut_of_owner (cut_all s c a w xs).owner)
 cut_numbered s c a w [] numbers are knows had = had
 cut_numbered s c a w (x ∷ xs) numbers are knows had = cut_numbered (cut_one s c a w x) c a w xs numbers
-    (subst (λ (v : Seen). ArePairs v.linked w xs) (sym one)
-    (subst (λ (l : ℕ → ℕ → Option ℕ). ArePairs l w xs)
-    (λ i. at_put_two (seen s).linked (sym note.0 i) (sym note.1 i) None)
-    (pairs_kept (seen s).linked w x.0 x.1 xs are.1 are.2)))
-    (subst (λ (v : Seen). KnowsLinked v.linked numbers) (sym one)
-    (λ k n u. by_places (λ (o : Option ℕ). o ≡ Some u → uid_of (kst_at numbers k) n ≡ Some u) (seen s).linked
-    d.process d.number None k n (λ e i h. absurd (none_some h)) (λ m h. knows k n u h)))
-    (numbered_push numbers (cut_of_owner s.owner) d had this)
-  where
-    d : CutDescriptor
-    d = note_of s.store x.0 x.1 (descriptor_of s.store.links x.0 x.1)
+    (pairs_left s c a w x xs are) (λ k n u h. knows k n u (linked_before s c a w x are.0.0 are.0.1 k n u h))
+    (numbered_push numbers (cut_of_owner s.owner) (noted s x) had
+    (noted_has (λ k n. uid_of (kst_at numbers k) n) s x are.0.0 are.0.1 (knows x.0 x.1 are.0.0 are.0.1)))
 
-    note : (d.process ≡ x.0) × (d.number ≡ x.1) × (d.uid ≡ are.0.0)
-    note = note_is s x.0 x.1 are.0.0 (descriptor_of s.store.links x.0 x.1) are.0.1
-
-    one : seen (cut_one s c a w x) ≡ cut (seen s) c a w d
-    one = cut_one_seen s c a w x are.0.0 are.0.1
-
-    this : uid_of (kst_at numbers d.process) d.number ≡ Some d.uid
-    this = ap (λ (j : ℕ). uid_of (kst_at numbers j) d.number) note.0
-        ∙ (ap (λ (j : ℕ). uid_of (kst_at numbers x.0) j) note.1
-        ∙ (knows x.0 x.1 are.0.0 are.0.1 ∙ ap (λ (j : ℕ). Some j) (sym note.2)))
-
-take_cut : (s : State) (c : ℕ) (a : Aim) (w : What) (fs : List ℕ)
+pub take_cut : (s : State) (c : ℕ) (a : Aim) (w : What) (fs : List ℕ)
     → cut_of_owner (take_all s c a w fs).owner ≡ cut_of_owner s.owner
 take_cut s c a w [] = refl
 take_cut s c a w (f ∷ fs) = take_cut (take_one s c a w f) c a w fs
@@ -90,11 +67,8 @@ took_numbered s c a w fs pairs keeps had are = cut_numbered mid c a w pairs s.st
     mid : State
     mid = take_all s c a w fs
 
-    rest : RestIs s mid
-    rest = take_rest s c a w fs
-
     same : (seen mid).linked ≡ (seen s).linked
-    same = λ i j n. led_to (rest.2 i) (descriptor_of (rest.1 i) j n)
+    same = take_linked s c a w fs
 
 -- a signal, and a page that leaves, leave the descriptors
 pub cut_signalled : (o : Option Owner) → cut_of_owner (owner_signalled o) ≡ cut_of_owner o
@@ -119,11 +93,6 @@ cut_long s c a w [] = omega arith
 cut_long s c a w (x ∷ xs) = let rest = cut_long (cut_one s c a w x) c a w xs in
     let one = length-append (cut_of_owner s.owner) (note_of s.store x.0 x.1
     (descriptor_of s.store.links x.0 x.1) ∷ []) in omega (arith, rest, one)
-
-cut_frames : (s : State) (c : ℕ) (a : Aim) (w : What) (xs : List (ℕ × ℕ))
-    → frames_of_owner (cut_all s c a w xs).owner ≡ frames_of_owner s.owner
-cut_frames s c a w [] = refl
-cut_frames s c a w (x ∷ xs) = cut_frames (cut_one s c a w x) c a w xs
 
 pub took_few : (s : State) (c : ℕ) (a : Aim) (w : What) (fs : List ℕ) (pairs : List (ℕ × ℕ)) → IsIdle s.owner
     → length fs + length pairs ≤ 288 → OwnsFew (took s c a w fs pairs).owner

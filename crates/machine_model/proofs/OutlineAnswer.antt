@@ -72,6 +72,9 @@ pub record SameTale (s u : State) (c : ℕ) : Type 0 where
   pub runs : u.runs ≡ s.runs
   pub processors : u.processors ≡ s.processors
 
+tale : {s u : State} {c : ℕ} → u.plan ≡ s.plan → u.runs ≡ s.runs → u.processors ≡ s.processors → SameTale s u c
+tale plan runs processors = record { plan = plan; runs = runs; processors = processors }
+
 tale_left : (s u : State) (c : ℕ) → SameTale s u c → left_is u ≡ left_is s
 tale_left s u c same = λ i. left_in (same.plan i).processes (same.runs i)
 
@@ -123,19 +126,11 @@ create_outlined s c k stage f uid p r command owner due can =
 
 pages_tale : (s : State) (fs : List ℕ) (c : ℕ) → SameTale s (pages_back s fs) c
 pages_tale s [] c = record { plan = refl; runs = refl; processors = refl }
-pages_tale s (f ∷ fs) c = let rest = pages_tale (page_back s f) fs c in record {
-  plan = rest.plan;
-  runs = rest.runs;
-  processors = rest.processors;
-}
+pages_tale s (f ∷ fs) c = let rest = pages_tale (page_back s f) fs c in tale rest.plan rest.runs rest.processors
 
 segs_tale : (s : State) (ds : List CutDescriptor) (c : ℕ) → SameTale s (segs_back s ds) c
 segs_tale s [] c = record { plan = refl; runs = refl; processors = refl }
-segs_tale s (d ∷ ds) c = let rest = segs_tale (seg_back s d) ds c in record {
-  plan = rest.plan;
-  runs = rest.runs;
-  processors = rest.processors;
-}
+segs_tale s (d ∷ ds) c = let rest = segs_tale (seg_back s d) ds c in tale rest.plan rest.runs rest.processors
 
 -- the machine once all that was still going is back
 abbrev all_back : State → ℕ → ℕ → State

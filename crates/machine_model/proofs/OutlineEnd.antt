@@ -102,6 +102,10 @@ done_outline : (s : State) (f : ℕ) → outline_of (page_done s f)
     { owner = keeper_of s.store.ast.entries (without_first_frame s.owner) }
 done_outline s f = gone_outline s f (without_first_frame s.owner)
 
+-- the owner that waits to free these frames of a segment
+abbrev empties_next : ℕ → ℕ → List ℕ → Option Keeper
+empties_next cpu place frames = Some (record { cpu = cpu; stage = Waiting (EmptyPlace place frames) })
+
 pub page_outlined : (s : State) (o : Owner) (uid : ℕ) (w : What) (f : ℕ) (rest : List ℕ) → s.owner ≡ Some o
     → o.phase ≡ phase.Waiting (aim.Deactivating uid) w → o.frames ≡ f ∷ rest → dues (outline_of s).runners ≡ 0
     → MayRelease (outline_of s) f (stored_then s f) → JobStep (outline_of s) o.cpu (outline_of (page_done s f))
@@ -115,57 +119,25 @@ page_outlined s o uid w f rest owner h frames due may =
     ∙ rest_keeper s.store.ast.entries o uid w f rest h frames)) ∙ sym (done_outline s f))
     (frees_page (place_of s.store.ast.entries uid) f rest (stored_then s f)
     (in_stage s o (phase.Waiting (aim.Deactivating uid) w) owner h
-    ∙ ap (λ (xs : List ℕ). Some (record {
-      cpu = o.cpu;
-      stage =
-          Waiting (EmptyPlace (place_of s.store.ast.entries uid) xs);
-    })) frames)
+    ∙ ap (empties_next o.cpu (place_of s.store.ast.entries uid)) frames)
     due may)
 
 -- ---- a segment becomes inactive
 
 -- descriptors that are gone change nothing but the book and the owner
-segs_store : (s : State) (ds : List CutDescriptor) → (segs_gone s ds).store ≡ s.store
-segs_store s [] = refl
-segs_store s (d ∷ ds) = segs_store (seg_gone s d) ds
-
-segs_processors : (s : State) (ds : List CutDescriptor) → (segs_gone s ds).processors ≡ s.processors
-segs_processors s [] = refl
-segs_processors s (d ∷ ds) = segs_processors (seg_gone s d) ds
-
-segs_ready : (s : State) (ds : List CutDescriptor) → (segs_gone s ds).ready ≡ s.ready
-segs_ready s [] = refl
-segs_ready s (d ∷ ds) = segs_ready (seg_gone s d) ds
-
-segs_plan : (s : State) (ds : List CutDescriptor) → (segs_gone s ds).plan ≡ s.plan
-segs_plan s [] = refl
-segs_plan s (d ∷ ds) = segs_plan (seg_gone s d) ds
-
-segs_runs : (s : State) (ds : List CutDescriptor) → (segs_gone s ds).runs ≡ s.runs
-segs_runs s [] = refl
-segs_runs s (d ∷ ds) = segs_runs (seg_gone s d) ds
-
--- a machine of which the outline tells the same but for the owner
-same_outline : (s t : State) (k : Option Owner) → t.store ≡ s.store → t.processors ≡ s.processors → t.ready ≡ s.ready
-    → t.plan ≡ s.plan → t.runs ≡ s.runs → (uid : ℕ)
-    → outline_of (with_owner (deactivated_one t uid) k) ≡ outline_of (with_owner (deactivated_one s uid) k)
-unfolding outline_of
-same_outline s t k store processors ready plan runs uid = λ i. outline_of (with_owner (deactivated_one (record t {
-  store = store i;
-  processors = processors i;
-  ready = ready i;
-  plan = plan i;
-  runs = runs i;
-}) uid) k)
+segs_rest : (s : State) (ds : List CutDescriptor) → segs_gone s ds ≡ record s {
+  owner = (segs_gone s ds).owner;
+  entries = (segs_gone s ds).entries;
+  spare = (segs_gone s ds).spare;
+}
+segs_rest s [] = refl
+segs_rest s (d ∷ ds) = segs_rest (seg_gone s d) ds
 
 emptied_outline : (s : State) (c uid : ℕ) → outline_of (emptied s c uid)
     ≡ at_stage (with_entry (outline_of s) (place_of s.store.ast.entries uid) None) c Look
 unfolding outline_of
 emptied_outline s c uid =
-    same_outline s (segs_gone s (cut_of_owner s.owner)) (Some (looking c)) (segs_store s (cut_of_owner s.owner))
-    (segs_processors s (cut_of_owner s.owner)) (segs_ready s (cut_of_owner s.owner))
-    (segs_plan s (cut_of_owner s.owner))
-    (segs_runs s (cut_of_owner s.owner)) uid
+    ap (λ (t : State). outline_of (with_owner (deactivated_one t uid) (Some (looking c)))) (segs_rest s (cut_of_owner s.owner))
 
 pub deactivate_outlined : (s : State) (o : Owner) (uid : ℕ) (w : What) → s.owner ≡ Some o
     → o.phase ≡ phase.Waiting (aim.Deactivating uid) w → o.frames ≡ [] → dues (outline_of s).runners ≡ 0
@@ -176,11 +148,7 @@ deactivate_outlined s o uid w owner h frames due =
     (outline_of s).runners) (outline_of (emptied s o.cpu uid)) o.cpu (sym (emptied_outline s o.cpu uid))
     (empties (place_of s.store.ast.entries uid) (outline_of s).runners
     (in_stage s o (phase.Waiting (aim.Deactivating uid) w) owner h
-    ∙ ap (λ (xs : List ℕ). Some (record {
-      cpu = o.cpu;
-      stage =
-          Waiting (EmptyPlace (place_of s.store.ast.entries uid) xs);
-    })) frames)
+    ∙ ap (empties_next o.cpu (place_of s.store.ast.entries uid)) frames)
     due (alike_self (outline_of s).runners o.cpu) due)
 
 -- where nothing had to be taken

@@ -1,6 +1,6 @@
 -- In the outline of the machine, what the owner of the supervisor does is a step of its job in the outline.
 use Rattle.std.proofs.Common.{◌≡◌, ◌≢◌, ◌<◌, ℕ, zero, suc, Bool, true, false, List, [], ◌∷◌, length, map, Option, Some}
-use Rattle.std.proofs.Common.{None, is_some, set, get_or, refl, sym, ap, subst, ◌∙◌, arith}
+use Rattle.std.proofs.Common.{None, set, get_or, refl, sym, ap, subst, ◌∙◌, arith}
 use Rattle.std.proofs.lemmas.List.{get_or-set_same, get_or-set_other}
 use Rattle.book.specs.declared.entries.Entry.TheVariants as entry
 use Rattle.script.specs.declared.commands.Reference.{Reference}
@@ -19,7 +19,7 @@ use Rattle.machine_model.specs.Reads.{descriptor_of, is_connected}
 use Rattle.machine_model.specs.Steps.{with_link as with_link_of, activated_at, booked, connected_to, with_store}
 use Rattle.machine_model.specs.Outline.{Refer, Runner, Look, Keeper, Outline, runner_at, want_at, with_entry}
 use Rattle.machine_model.specs.Finishing.{IsIn, JobStep, activates, connects, CanActivate, with_link, entry_for}
-use Rattle.machine_model.specs.Outlined.{Around, around, reference_in, is_linked, holds_seg, holds_page, want_of}
+use Rattle.machine_model.specs.Outlined.{Around, around, reference_in, is_linked, want_of}
 use Rattle.machine_model.specs.Outlined.{runner_by, runner_of, stage_of, keeper_of, outline_of}
 use Rattle.machine_model.specs.Foreseen.{IsPlaced, HasDescriptor}
 use Rattle.machine_model.proofs.OutlineReads.{at_outline}
@@ -100,18 +100,7 @@ linked_runner : (a : Around) (links : Links) (p : Processor) (k : ℕ) (r : Refe
 linked_runner a links p k r process next known now =
     subst (λ (o : Option ℕ). runner_by (linked_around a links) p o ≡ record (runner_by a p o) { linked = true })
     (sym process)
-    (λ i. record {
-      online = p.cpu.online;
-      running = true;
-      due = is_some p.cpu.due;
-      reading = p.cpu.transfer;
-      since = p.count;
-      tried = p.tried;
-      want = want_same i;
-      linked = linked_now i;
-      has_seg = holds_seg p.cpu.assoc (reference_in (a.next k));
-      has_page = holds_page p.cpu.assoc (reference_in (a.next k));
-    })
+    (λ i. record (runner_by a p (Some k)) { want = want_same i; linked = linked_now i })
   where
     want_same : want_of (linked_around a links) k (a.next k) ≡ want_of a k (a.next k)
     want_same = ap (λ (known : List (List (Option ℕ))). want_of (record a { links = record links { known = known } })
@@ -129,17 +118,9 @@ other_runner a links p known same = by p.cpu.process same
     by : (o : Option ℕ) → ((k : ℕ) → o ≡ Some k → sdws_at links.descriptors k ≡ sdws_at a.links.descriptors k)
         → runner_by (linked_around a links) p o ≡ runner_by a p o
     by None h = refl
-    by (Some k) h = λ i. record {
-      online = p.cpu.online;
-      running = true;
-      due = is_some p.cpu.due;
-      reading = p.cpu.transfer;
-      since = p.count;
-      tried = p.tried;
+    by (Some k) h = λ i. record (runner_by a p (Some k)) {
       want = want_of (record a { links = record links { known = known i } }) k (a.next k);
       linked = linked_same (reference_in (a.next k)) (h k refl) i;
-      has_seg = holds_seg p.cpu.assoc (reference_in (a.next k));
-      has_page = holds_page p.cpu.assoc (reference_in (a.next k));
     }
       where
         linked_same : (r : Option Reference) → sdws_at links.descriptors k ≡ sdws_at a.links.descriptors k

@@ -1,5 +1,5 @@
 -- In the outline of the machine, a transfer that fails is a step that frees its frame and leaves less to come.
-use Rattle.std.proofs.Common.{◌≡◌, ◌≢◌, ◌<◌, ℕ, zero, suc, ◌+◌, ◌-◌, Bool, true, false, cond, ◌&&◌, eqb, List, [], ◌∷◌}
+use Rattle.std.proofs.Common.{◌≡◌, ◌≢◌, ◌<◌, ℕ, zero, suc, ◌+◌, ◌-◌, Bool, false, cond, ◌&&◌, eqb, List, [], ◌∷◌}
 use Rattle.std.proofs.Common.{◌++◌, length, map, Option, Some, None, is_some, set, refl, sym, ap, subst, ◌∙◌}
 use Rattle.std.proofs.Common.{append-nil}
 use Rattle.std.proofs.lemmas.List.{get_or-set_same, get_or-set_other, length-set}
@@ -19,7 +19,7 @@ use Rattle.machine_model.specs.Reads.{run_at}
 use Rattle.machine_model.specs.Steps.{fault_told, frame_lost, goes_on, run_after, transfer_failed}
 use Rattle.machine_model.specs.Outline.{Runner, Moved, runner_at, with_runner, with_frame}
 use Rattle.machine_model.specs.Finishing.{Reads, rule_of, HasLost, Step, loses}
-use Rattle.machine_model.specs.Outlined.{Around, around, bare, reference_in, holds_seg, holds_page, is_linked, want_of}
+use Rattle.machine_model.specs.Outlined.{Around, around, bare}
 use Rattle.machine_model.specs.Outlined.{runner_by, runner_of, outline_of}
 use Rattle.machine_model.specs.Foreseen.{CanTell, IsPlaced}
 use Rattle.machine_model.proofs.OutlineReads.{at_outline, set_map, seen_online, seen_running, seen_due, seen_reading}
@@ -41,18 +41,7 @@ next_runner a next p same = by p.cpu.process same
     by : (o : Option ℕ) → ((j : ℕ) → o ≡ Some j → next j ≡ a.next j)
         → runner_by (record a { next = next }) p o ≡ runner_by a p o
     by None h = refl
-    by (Some j) h = ap (λ (o : Option Command). record {
-      online = p.cpu.online;
-      running = true;
-      due = is_some p.cpu.due;
-      reading = p.cpu.transfer;
-      since = p.count;
-      tried = p.tried;
-      want = want_of a j o;
-      linked = is_linked a j (reference_in o);
-      has_seg = holds_seg p.cpu.assoc (reference_in o);
-      has_page = holds_page p.cpu.assoc (reference_in o);
-    }) (h j refl)
+    by (Some j) h = ap (λ (o : Option Command). runner_by (record a { next = λ i. o }) p (Some j)) (h j refl)
 
 -- what was released where the command was no end
 none_released : (p : Plan) (k : ℕ) (x : Command) (o : Option Command) → o ≡ Some x → is_end x ≡ false

@@ -161,22 +161,7 @@ module _ (s : State) (o : Owner) (out : Outcome) (f : Foresees s o.cpu) (rule : 
       (took_like s o.cpu aim.Committing w fs pairs) (took_owner s o.cpu aim.Committing w fs pairs taken_none may.0)
       (in_look s o owner looks) may.1)
   look_goal act.Commit may = commit_goal s o.cpu out Look rule (in_look s o owner looks) due_none may
-  look_goal act.IsStopped may = absurd may
-  look_goal act.HasEnded may = absurd may
-  look_goal act.Online may = absurd may
-  look_goal (act.Clear w) may = absurd may
-  look_goal (act.EndTransfer t) may = absurd may
-  look_goal (act.Load k) may = absurd may
-  look_goal act.Leave may = absurd may
-  look_goal (act.FillSeg n) may = absurd may
-  look_goal (act.FillPage g r) may = absurd may
-  look_goal (act.Through g r) may = absurd may
-  look_goal (act.Plain r) may = absurd may
-  look_goal act.TakeSupervisor may = absurd may
-  look_goal (act.Signal w) may = absurd may
-  look_goal (act.FinishEviction g) may = absurd may
-  look_goal (act.FinishPage g) may = absurd may
-  look_goal (act.Deactivate uid) may = absurd may
+  look_goal _ may = absurd may
 
 -- ---- nothing is due any more
 

@@ -30,12 +30,17 @@ long_map f (x ∷ xs) = ap suc (long_map f xs)
 
 -- ---- processors
 
-pub seen_online : (a : Around) (p : Processor) → (runner_of a p).online ≡ p.cpu.online
-seen_online a p = by p.cpu.process
+-- what the runner of no process and that of each process have, the runner of a processor has
+runner_has : (P : Runner → Type 0) (a : Around) (p : Processor) → P (runner_by a p None)
+    → ((k : ℕ) → P (runner_by a p (Some k))) → P (runner_of a p)
+runner_has P a p none some = by p.cpu.process
   where
-    by : (o : Option ℕ) → (runner_by a p o).online ≡ p.cpu.online
-    by None = refl
-    by (Some k) = refl
+    by : (o : Option ℕ) → P (runner_by a p o)
+    by None = none
+    by (Some k) = some k
+
+pub seen_online : (a : Around) (p : Processor) → (runner_of a p).online ≡ p.cpu.online
+seen_online a p = runner_has (λ x. x.online ≡ p.cpu.online) a p refl (λ k. refl)
 
 pub seen_running : (a : Around) (p : Processor) → (runner_of a p).running ≡ is_some p.cpu.process
 seen_running a p = by p.cpu.process
@@ -45,32 +50,16 @@ seen_running a p = by p.cpu.process
     by (Some k) = refl
 
 pub seen_due : (a : Around) (p : Processor) → (runner_of a p).due ≡ is_some p.cpu.due
-seen_due a p = by p.cpu.process
-  where
-    by : (o : Option ℕ) → (runner_by a p o).due ≡ is_some p.cpu.due
-    by None = refl
-    by (Some k) = refl
+seen_due a p = runner_has (λ x. x.due ≡ is_some p.cpu.due) a p refl (λ k. refl)
 
 pub seen_reading : (a : Around) (p : Processor) → (runner_of a p).reading ≡ p.cpu.transfer
-seen_reading a p = by p.cpu.process
-  where
-    by : (o : Option ℕ) → (runner_by a p o).reading ≡ p.cpu.transfer
-    by None = refl
-    by (Some k) = refl
+seen_reading a p = runner_has (λ x. x.reading ≡ p.cpu.transfer) a p refl (λ k. refl)
 
 pub seen_since : (a : Around) (p : Processor) → (runner_of a p).since ≡ p.count
-seen_since a p = by p.cpu.process
-  where
-    by : (o : Option ℕ) → (runner_by a p o).since ≡ p.count
-    by None = refl
-    by (Some k) = refl
+seen_since a p = runner_has (λ x. x.since ≡ p.count) a p refl (λ k. refl)
 
 pub seen_tried : (a : Around) (p : Processor) → (runner_of a p).tried ≡ p.tried
-seen_tried a p = by p.cpu.process
-  where
-    by : (o : Option ℕ) → (runner_by a p o).tried ≡ p.tried
-    by None = refl
-    by (Some k) = refl
+seen_tried a p = runner_has (λ x. x.tried ≡ p.tried) a p refl (λ k. refl)
 
 -- ---- the outline
 

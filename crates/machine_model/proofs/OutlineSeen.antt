@@ -33,7 +33,7 @@ use Rattle.machine_model.specs.Holding.{seen}
 use Rattle.machine_model.specs.Keeps.{Keeps}
 use Rattle.machine_model.specs.Keeps.{IsAtWork as AtWork}
 use Rattle.machine_model.specs.Measures.{chain_of, dues}
-use Rattle.machine_model.specs.Outline.{Keeper, Want, Refer, Other, Runner, Stage, Look, no_runner}
+use Rattle.machine_model.specs.Outline.{Want, Refer, Other, Runner, Stage, no_runner}
 use Rattle.machine_model.specs.Outline.{runner_at}
 use Rattle.machine_model.specs.Outline.{want_at}
 use Rattle.machine_model.specs.Outlined.{around, bare, keeper_of, outline_of, runner_by, stage_of, want_by, want_in}
@@ -51,6 +51,7 @@ use Rattle.machine_model.proofs.OutlineReads.{at_outline, long_outline, seen_due
 use Rattle.machine_model.proofs.OutlineReads.{seen_running}
 use Rattle.machine_model.proofs.TieLaws.{none_some, page_is}
 use Rattle.machine_model.proofs.VictimLaws.{chain_ends, chain_few}
+use Rattle.machine_model.proofs.KeptLaws.{keeper_cpu, keeper_stage}
 
 no_and : {b : Bool} → b ≡ true → b ≡ false → ⊥
 no_and t f = let none : true ≡ false = sym t ∙ f in cc
@@ -132,19 +133,7 @@ module _ (nodes : List Node) (t : IsTree nodes) where
       by : (x : Result Node Reply) → IsShort (want_lengthened x)
       by (Err e) = none_short
       by (Ok n) = record { few = omega arith; ends = tt }
-  command_short (command.MkDir path volume) = none_short
-  command_short (command.MkSeg path pages volume) = none_short
-  command_short (command.Delete path) = none_short
-  command_short (command.Acl path row m) = none_short
-  command_short (command.Initiate path) = none_short
-  command_short (command.Terminate n) = none_short
-  command_short (command.Move path amount) = none_short
-  command_short (command.Status path) = none_short
-  command_short (command.Read n w) = none_short
-  command_short (command.Write n w x) = none_short
-  command_short (command.Add n w x) = none_short
-  command_short (command.Await n w x n2) = none_short
-  command_short command.End = none_short
+  command_short _ = none_short
 
 module _ (s : State) (m : IsMachine s) where
   abbrev keeps : Keeps s
@@ -281,17 +270,9 @@ module _ (s : State) (c : ℕ) (stage : Stage) where
       by (Some q) e i = record {
         owner = q;
         mine = e;
-        cpu = ap cpu_or i;
-        stage_is = ap stage_or i;
+        cpu = ap keeper_cpu i;
+        stage_is = ap keeper_stage i;
       }
-        where
-          cpu_or : Option Keeper → ℕ
-          cpu_or None = 0
-          cpu_or (Some x) = x.cpu
-
-          stage_or : Option Keeper → Stage
-          stage_or None = Look
-          stage_or (Some x) = x.stage
 
 pub no_owner : (s : State) → (outline_of s).owner ≡ None → s.owner ≡ None
 unfolding outline_of

@@ -73,19 +73,24 @@ loads_rule : (s : State) (c : ℕ) → IsAtRest s c → is_owner s.owner c ≡ f
     → rule_of (outline_of s) c ≡ Loads
 loads_rule s c rest own none = rule_seen s c ∙ rw (rest.online, rest.due, rest.transfer, own, none) refl
 
+turn_rule : (s : State) (c k : ℕ) (turn : Bool) → IsAtRest s c → is_owner s.owner c ≡ false
+    → (cpu_at s.processors c).process ≡ Some k
+    → (has_had_its_turn (processor_at s.processors c) && not (is_empty s.ready)) ≡ turn
+    → rule_of (outline_of s) c ≡ cond turn Leaves Commands
+turn_rule s c k turn rest own process is =
+    rule_seen s c ∙ rw (rest.online, rest.due, rest.transfer, own, process, ← not_empty s.ready, is) refl
+
 leaves_rule : (s : State) (c k : ℕ) → IsAtRest s c → is_owner s.owner c ≡ false
     → (cpu_at s.processors c).process ≡ Some k
     → (has_had_its_turn (processor_at s.processors c) && not (is_empty s.ready)) ≡ true
     → rule_of (outline_of s) c ≡ Leaves
-leaves_rule s c k rest own process turn =
-    rule_seen s c ∙ rw (rest.online, rest.due, rest.transfer, own, process, ← not_empty s.ready, turn) refl
+leaves_rule s c k rest own process turn = turn_rule s c k true rest own process turn
 
 commands_rule : (s : State) (c k : ℕ) → IsAtRest s c → is_owner s.owner c ≡ false
     → (cpu_at s.processors c).process ≡ Some k
     → (has_had_its_turn (processor_at s.processors c) && not (is_empty s.ready)) ≡ false
     → rule_of (outline_of s) c ≡ Commands
-commands_rule s c k rest own process turn =
-    rule_seen s c ∙ rw (rest.online, rest.due, rest.transfer, own, process, ← not_empty s.ready, turn) refl
+commands_rule s c k rest own process turn = turn_rule s c k false rest own process turn
 
 -- ---- moves by itself
 

@@ -1,7 +1,7 @@
 -- In the outline of the machine, taking, signalling and finishing are steps of the owner's job.
 use Rattle.std.proofs.Common.{◌≡◌, ◌≢◌, ◌≤◌, ℕ, zero, suc, ◌+◌, Bool, true, false, cond, eqb, List, [], ◌∷◌, ◌++◌}
 use Rattle.std.proofs.Common.{length, map, Option, Some, None, is_some, set, get_or, refl, sym, ap, subst, ◌∙◌, inl}
-use Rattle.std.proofs.Common.{inr, ◌⊎◌, append_assoc, add-zero, zero-add, arith}
+use Rattle.std.proofs.Common.{inr, ◌⊎◌, append_assoc, zero-add}
 use Rattle.std.proofs.lemmas.Bool.Decides.{eqb_tells}
 use Rattle.assoc_mem.specs.declared.What.{What}
 use Rattle.core_map.specs.declared.Frame.{Frame}
@@ -30,15 +30,16 @@ use Rattle.machine_model.specs.Steps.{with_store}
 use Rattle.machine_model.specs.Jobs.{cut_all, cut_one, eviction_begun, leaving_if, owner_signalled, phase_signalled}
 use Rattle.machine_model.specs.Jobs.{signalled, take_all, take_one, told_at, told_from, took, with_choice}
 use Rattle.machine_model.specs.Jobs.{with_hand_moved, with_leaving}
-use Rattle.machine_model.specs.Outline.{Want, Other, Runner, EvictFrame, Look, Taken, Waiting, Keeper, runner_at}
+use Rattle.machine_model.specs.Outline.{Runner, EvictFrame, Look, Taken, Waiting, Keeper, runner_at}
 use Rattle.machine_model.specs.Outline.{at_stage}
 use Rattle.machine_model.specs.Finishing.{IsIn, JobStep, takes_segment, takes_frame, takes_for_commit, signals}
 use Rattle.machine_model.specs.Finishing.{CanEmpty, CanEvict, AreAlike, AreOf, with_runners}
-use Rattle.machine_model.specs.Outlined.{Around, around, bare, left_in, want_of, reference_in, is_linked, runner_by}
+use Rattle.machine_model.specs.Outlined.{Around, around, bare, left_in, want_of, runner_by}
 use Rattle.machine_model.specs.Outlined.{runner_of, first_frame, work_of, stage_of, keeper_of, outline_of}
 use Rattle.machine_model.proofs.OutlineReads.{map_at, seen_online, seen_running, seen_due, seen_reading, seen_since}
 use Rattle.machine_model.proofs.OutlineReads.{seen_tried}
 use Rattle.machine_model.proofs.OutlineJob.{job_to, in_job}
+use Rattle.machine_model.proofs.LeaveSeen.{told_has, told_online, told_process, told_reads, told_transfer}
 
 -- ---- the clock's choice
 
@@ -74,11 +75,11 @@ leaving_frames : (st : Storage) (f : ℕ) (o : Option (ℕ × ℕ)) → (leaving
 leaving_frames st f None = refl
 leaving_frames st f (Some page) = refl
 
-leaving_entries : (st : Storage) (f : ℕ) (o : Option (ℕ × ℕ)) → (leaving_if st f o).ast.entries ≡ st.ast.entries
+pub leaving_entries : (st : Storage) (f : ℕ) (o : Option (ℕ × ℕ)) → (leaving_if st f o).ast.entries ≡ st.ast.entries
 leaving_entries st f None = refl
 leaving_entries st f (Some page) = refl
 
-leaving_links : (st : Storage) (f : ℕ) (o : Option (ℕ × ℕ)) → (leaving_if st f o).links ≡ st.links
+pub leaving_links : (st : Storage) (f : ℕ) (o : Option (ℕ × ℕ)) → (leaving_if st f o).links ≡ st.links
 leaving_links st f None = refl
 leaving_links st f (Some page) = refl
 
@@ -102,44 +103,35 @@ pub record LooksLike (s t : State) : Type 0 where
   pub whos : t.store.whos ≡ s.store.whos
   pub known : t.store.links.known ≡ s.store.links.known
 
-take_one_like : (s : State) (c : ℕ) (a : Aim) (w : What) (f : ℕ) → LooksLike s (take_one s c a w f)
-take_one_like s c a w f = record {
-  plan = refl;
-  runs = refl;
-  ready = refl;
-  processors = refl;
-  pages = leaving_frames s.store f (bound_page (core_frame s.store.pages.core.frames f));
-  entries = leaving_entries s.store f (bound_page (core_frame s.store.pages.core.frames f));
-  accounts = leaving_accounts s.store f (bound_page (core_frame s.store.pages.core.frames f));
-  whos = leaving_whos s.store f (bound_page (core_frame s.store.pages.core.frames f));
-  known = ap (λ (l : Links). l.known) (leaving_links s.store f (bound_page (core_frame s.store.pages.core.frames f)));
+looks_like : {s t : State} → t.plan ≡ s.plan → t.runs ≡ s.runs → t.ready ≡ s.ready → t.processors ≡ s.processors
+    → t.store.pages ≡ s.store.pages → t.store.ast.entries ≡ s.store.ast.entries
+    → t.store.accounts ≡ s.store.accounts → t.store.whos ≡ s.store.whos
+    → t.store.links.known ≡ s.store.links.known → LooksLike s t
+looks_like plan runs ready processors pages entries accounts whos known = record {
+  plan = plan;
+  runs = runs;
+  ready = ready;
+  processors = processors;
+  pages = pages;
+  entries = entries;
+  accounts = accounts;
+  whos = whos;
+  known = known;
 }
+
+take_one_like : (s : State) (c : ℕ) (a : Aim) (w : What) (f : ℕ) → LooksLike s (take_one s c a w f)
+take_one_like s c a w f = let page = bound_page (core_frame s.store.pages.core.frames f) in
+    looks_like refl refl refl refl (leaving_frames s.store f page) (leaving_entries s.store f page)
+    (leaving_accounts s.store f page) (leaving_whos s.store f page)
+    (ap (λ (l : Links). l.known) (leaving_links s.store f page))
 
 like_self : (s : State) → LooksLike s s
-like_self s = record {
-  plan = refl;
-  runs = refl;
-  ready = refl;
-  processors = refl;
-  pages = refl;
-  entries = refl;
-  accounts = refl;
-  whos = refl;
-  known = refl;
-}
+like_self s = looks_like refl refl refl refl refl refl refl refl refl
 
 like_on : (s t u : State) → LooksLike s t → LooksLike t u → LooksLike s u
-like_on s t u one two = record {
-  plan = two.plan ∙ one.plan;
-  runs = two.runs ∙ one.runs;
-  ready = two.ready ∙ one.ready;
-  processors = two.processors ∙ one.processors;
-  pages = two.pages ∙ one.pages;
-  entries = two.entries ∙ one.entries;
-  accounts = two.accounts ∙ one.accounts;
-  whos = two.whos ∙ one.whos;
-  known = two.known ∙ one.known;
-}
+like_on s t u one two = looks_like (two.plan ∙ one.plan) (two.runs ∙ one.runs) (two.ready ∙ one.ready)
+    (two.processors ∙ one.processors) (two.pages ∙ one.pages) (two.entries ∙ one.entries)
+    (two.accounts ∙ one.accounts) (two.whos ∙ one.whos) (two.known ∙ one.known)
 
 take_all_like : (s : State) (c : ℕ) (a : Aim) (w : What) (fs : List ℕ) → LooksLike s (take_all s c a w fs)
 take_all_like s c a w [] = like_self s
@@ -152,17 +144,8 @@ cut_known links k n None = refl
 cut_known links k n (Some place) = refl
 
 cut_one_like : (s : State) (c : ℕ) (a : Aim) (w : What) (pair : ℕ × ℕ) → LooksLike s (cut_one s c a w pair)
-cut_one_like s c a w pair = record {
-  plan = refl;
-  runs = refl;
-  ready = refl;
-  processors = refl;
-  pages = refl;
-  entries = refl;
-  accounts = refl;
-  whos = refl;
-  known = cut_known s.store.links pair.0 pair.1 (leads_at s.store.links.descriptors pair.0 pair.1);
-}
+cut_one_like s c a w pair = looks_like refl refl refl refl refl refl refl refl
+    (cut_known s.store.links pair.0 pair.1 (leads_at s.store.links.descriptors pair.0 pair.1))
 
 cut_all_like : (s : State) (c : ℕ) (a : Aim) (w : What) (pairs : List (ℕ × ℕ)) → LooksLike s (cut_all s c a w pairs)
 cut_all_like s c a w [] = like_self s
@@ -365,17 +348,8 @@ evict_outlined s o f owner none can =
 
 -- the hand of a full pool moves besides
 hand_like : (s : State) (pool : ℕ) (chain : List ℕ) → LooksLike s (with_store s (with_hand_moved s.store pool chain))
-hand_like s pool chain = record {
-  plan = refl;
-  runs = refl;
-  ready = refl;
-  processors = refl;
-  pages = refl;
-  entries = past s.store.ast pool (first_off_chain s.store.ast pool chain);
-  accounts = refl;
-  whos = refl;
-  known = refl;
-}
+hand_like s pool chain = looks_like refl refl refl refl refl
+    (past s.store.ast pool (first_off_chain s.store.ast pool chain)) refl refl refl
   where
     past : (ast : ActiveSegs) (pool : ℕ) (o : Option ℕ) → (hand_past ast pool o).entries ≡ ast.entries
     past ast pool None = refl
@@ -390,65 +364,11 @@ victim_like s c pool chain a w fs pairs =
 
 -- ---- the signal
 
-told_at_map : (c : ℕ) (w : What) (d : ℕ) (ps : List Processor) (i : ℕ)
-    → processor_at (told_from c w d ps) i ≡ told_at c w (d + i) (processor_at ps i)
-told_at_map c w d [] i = absent c w (d + i)
-  where
-    absent : (c : ℕ) (w : What) (e : ℕ) → no_processor ≡ told_at c w e no_processor
-    absent c w e = by (eqb e c)
-      where
-        by : (b : Bool) → no_processor ≡ cond b (record no_processor
-            { cpu = record no_processor.cpu { assoc = cleared no_processor.cpu.assoc w } }) no_processor
-        by true = refl
-        by false = refl
-told_at_map c w d (p ∷ ps) zero = ap (λ (e : ℕ). told_at c w e p) (sym (add-zero d))
-told_at_map c w d (p ∷ ps) (suc i) =
-    told_at_map c w (d + 1) ps i ∙ ap (λ (e : ℕ). told_at c w e (processor_at ps i)) (omega arith)
-
-told_online : (c : ℕ) (w : What) (e : ℕ) (p : Processor) → (told_at c w e p).cpu.online ≡ p.cpu.online
-told_online c w e p = by (eqb e c) p.cpu.online
-  where
-    by : (b n : Bool) → (cond b (record p { cpu = record p.cpu { assoc = cleared p.cpu.assoc w } })
-        (cond n (record p { cpu = record p.cpu { due = Some w } }) p)).cpu.online ≡ p.cpu.online
-    by true n = refl
-    by false true = refl
-    by false false = refl
-
-told_process : (c : ℕ) (w : What) (e : ℕ) (p : Processor) → (told_at c w e p).cpu.process ≡ p.cpu.process
-told_process c w e p = by (eqb e c) p.cpu.online
-  where
-    by : (b n : Bool) → (cond b (record p { cpu = record p.cpu { assoc = cleared p.cpu.assoc w } })
-        (cond n (record p { cpu = record p.cpu { due = Some w } }) p)).cpu.process ≡ p.cpu.process
-    by true n = refl
-    by false true = refl
-    by false false = refl
-
-told_transfer : (c : ℕ) (w : What) (e : ℕ) (p : Processor) → (told_at c w e p).cpu.transfer ≡ p.cpu.transfer
-told_transfer c w e p = by (eqb e c) p.cpu.online
-  where
-    by : (b n : Bool) → (cond b (record p { cpu = record p.cpu { assoc = cleared p.cpu.assoc w } })
-        (cond n (record p { cpu = record p.cpu { due = Some w } }) p)).cpu.transfer ≡ p.cpu.transfer
-    by true n = refl
-    by false true = refl
-    by false false = refl
-
 told_count : (c : ℕ) (w : What) (e : ℕ) (p : Processor) → (told_at c w e p).count ≡ p.count
-told_count c w e p = by (eqb e c) p.cpu.online
-  where
-    by : (b n : Bool) → (cond b (record p { cpu = record p.cpu { assoc = cleared p.cpu.assoc w } })
-        (cond n (record p { cpu = record p.cpu { due = Some w } }) p)).count ≡ p.count
-    by true n = refl
-    by false true = refl
-    by false false = refl
+told_count c w e p = told_has (λ q. q.count ≡ p.count) c w e p refl refl refl
 
 told_tried : (c : ℕ) (w : What) (e : ℕ) (p : Processor) → (told_at c w e p).tried ≡ p.tried
-told_tried c w e p = by (eqb e c) p.cpu.online
-  where
-    by : (b n : Bool) → (cond b (record p { cpu = record p.cpu { assoc = cleared p.cpu.assoc w } })
-        (cond n (record p { cpu = record p.cpu { due = Some w } }) p)).tried ≡ p.tried
-    by true n = refl
-    by false true = refl
-    by false false = refl
+told_tried c w e p = told_has (λ q. q.tried ≡ p.tried) c w e p refl refl refl
 
 told_itself : (c : ℕ) (w : What) (p : Processor) → (told_at c w c p).cpu.due ≡ p.cpu.due
 told_itself c w p =
@@ -459,29 +379,24 @@ told_itself c w p =
     self n = elim (eqb_tells n n) [ inl e ↦ e.0 | inr e ↦ absurd (e.1 refl) ]
 
 -- what a runner's outline has by its process alone
+by_process : {A : Type 0} (see : Runner → A) (a : Around) (p q : Processor)
+    → see (runner_by a q None) ≡ see (runner_by a p None)
+    → ((k : ℕ) → see (runner_by a q (Some k)) ≡ see (runner_by a p (Some k))) → q.cpu.process ≡ p.cpu.process
+    → see (runner_of a q) ≡ see (runner_of a p)
+by_process see a p q none some same =
+    by q.cpu.process ∙ ap (λ (o : Option ℕ). see (runner_by a p o)) same
+  where
+    by : (o : Option ℕ) → see (runner_by a q o) ≡ see (runner_by a p o)
+    by None = none
+    by (Some k) = some k
+
 want_by_process : (a : Around) (p q : Processor) → q.cpu.process ≡ p.cpu.process
     → (runner_of a q).want ≡ (runner_of a p).want
-want_by_process a p q same = sym (is q q.cpu.process) ∙ ap wanted same ∙ is p p.cpu.process
-  where
-    wanted : Option ℕ → Want
-    wanted None = Other
-    wanted (Some k) = want_of a k (a.next k)
-
-    is : (p : Processor) (o : Option ℕ) → wanted o ≡ (runner_by a p o).want
-    is p None = refl
-    is p (Some k) = refl
+want_by_process a p q same = by_process (λ x. x.want) a p q refl (λ k. refl) same
 
 linked_by_process : (a : Around) (p q : Processor) → q.cpu.process ≡ p.cpu.process
     → (runner_of a q).linked ≡ (runner_of a p).linked
-linked_by_process a p q same = sym (is q q.cpu.process) ∙ ap leads same ∙ is p p.cpu.process
-  where
-    leads : Option ℕ → Bool
-    leads None = false
-    leads (Some k) = is_linked a k (reference_in (a.next k))
-
-    is : (p : Processor) (o : Option ℕ) → leads o ≡ (runner_by a p o).linked
-    is p None = refl
-    is p (Some k) = refl
+linked_by_process a p q same = by_process (λ x. x.linked) a p q refl (λ k. refl) same
 
 told_alike : (s : State) (c : ℕ) (w : What)
     → AreAlike (outline_of s).runners (map (runner_of (around s)) (told_from c w 0 s.processors)) c
@@ -524,7 +439,7 @@ told_alike s c w = record {
         → P (runner_at (map (runner_of (around s)) (told_from c w 0 s.processors)) d)
         ≡ P (runner_of (around s) (told_at c w (0 + d) (processor_at s.processors d)))
     now d P = ap P (map_at (runner_of (around s)) (told_from c w 0 s.processors) d no_processor)
-        ∙ ap (λ (p : Processor). P (runner_of (around s) p)) (told_at_map c w 0 s.processors d)
+        ∙ ap (λ (p : Processor). P (runner_of (around s) p)) (told_reads c w s.processors 0 d)
 
     told_long : (f : Processor → Runner) (c : ℕ) (w : What) (d : ℕ) (ps : List Processor)
         → length (map f (told_from c w d ps)) ≡ length (map f ps)

@@ -217,6 +217,28 @@ names_of_descriptor c e what.All k n h = refl
 names_of_descriptor c e (what.Page g) k n h = refl
 names_of_descriptor c e (what.Seg u) k n h = ap (λ (x : DescriptorUse). is_uid u (leads_to x)) h
 
+-- an owner that waited for nothing has taken more: it is to signal something that names all that goes then
+owned_by : (c made : Custody) (o : Option Owner) (cpu : ℕ) (aim : Aim) (w : What) (fs : List ℕ)
+    (ds : List CutDescriptor) → IsOwned c o → waits_for o ≡ None → made.seat ≡ c.seat
+    → ((f : ℕ) → is_going_frame (made.frame f) ≡ has fs f)
+    → ((k n : ℕ) → is_going_descriptor (made.descriptor k n) ≡ has_cut ds k n) → AreDistinct fs → AreApart ds
+    → SomethingGoes made → NamesAllGoing made w → IsAimed aim w fs ds
+    → IsOwned made (Some (record { cpu = cpu; phase = phase.Taken aim w; frames = fs; cut = ds }))
+owned_by c made o cpu aim w fs ds k still seats frames cuts once apart goes all aimed = record {
+  frames = frames;
+  cuts = cuts;
+  once = once;
+  apart = apart;
+  due = λ d v h. absurd (none_due d v h);
+  alive = λ d v h. absurd (none_due d v h);
+  says = λ v h. (let same : w ≡ v = cc in subst (λ (x : What). SomethingGoes made × NamesAllGoing made x) same
+      (goes, all));
+  shaped = aimed;
+}
+  where
+    none_due : (d : ℕ) (v : What) → (made.seat d).due ≡ Some v → ⊥
+    none_due d v h = none_some (sym still ∙ k.due d v ((λ i. (sym seats i d).due) ∙ h))
+
 -- a page is taken: the owner is to signal something that names it, and all that went before
 pub owned_take : (c : Custody) (o : Option Owner) (cpu f : ℕ) (aim : Aim) (w : What) → IsOwned c o
     → is_current_frame (c.frame f) ≡ true
@@ -224,19 +246,12 @@ pub owned_take : (c : Custody) (o : Option Owner) (cpu f : ℕ) (aim : Aim) (w :
     → IsAimed aim w (frames_of_owner o ++ f ∷ []) (cut_of_owner o)
     → IsOwned (with_frame c f (taken (c.frame f)))
     (Some (record { cpu = cpu; phase = phase.Taken aim w; frames = frames_of_owner o ++ f ∷ []; cut = cut_of_owner o }))
-owned_take c o cpu f aim w k current still others this aimed = record {
-  frames = λ g. by_place (λ (x : FrameUse). is_going_frame x ≡ has (fs ++ f ∷ []) g) c.frame f (taken (c.frame f)) g
-      (λ e. going_taken (c.frame f) current ∙ sym (ap (has (fs ++ f ∷ [])) e ∙ push_same fs f))
-      (λ n. k.frames g ∙ sym (push_other fs f g n));
-  cuts = k.cuts;
-  once = distinct_push fs f k.once (sym (k.frames f) ∙ current_is_not_going (c.frame f) current);
-  apart = k.apart;
-  due = λ d v h. absurd (none_some (sym still ∙ k.due d v h));
-  alive = λ d v h. absurd (none_some (sym still ∙ k.due d v h));
-  says = λ v h. (let same : w ≡ v = cc in subst (λ (x : What). SomethingGoes made × NamesAllGoing made x) same
-      (goes, all));
-  shaped = aimed;
-}
+owned_take c o cpu f aim w k current still others this aimed =
+    owned_by c made o cpu aim w (fs ++ f ∷ []) (cut_of_owner o) k still refl
+    (λ g. by_place (λ (x : FrameUse). is_going_frame x ≡ has (fs ++ f ∷ []) g) c.frame f (taken (c.frame f)) g
+    (λ e. going_taken (c.frame f) current ∙ sym (ap (has (fs ++ f ∷ [])) e ∙ push_same fs f))
+    (λ n. k.frames g ∙ sym (push_other fs f g n))) k.cuts
+    (distinct_push fs f k.once (sym (k.frames f) ∙ current_is_not_going (c.frame f) current)) k.apart goes all aimed
   where
     fs : List ℕ
     fs = frames_of_owner o
@@ -356,22 +371,14 @@ pub owned_cut : (c : Custody) (o : Option Owner) (cpu : ℕ) (d : CutDescriptor)
     → names_descriptor c w d.process d.number ≡ true → IsAimed aim w (frames_of_owner o) (cut_of_owner o ++ d ∷ [])
     → IsOwned (with_descriptor c d.process d.number (cut (c.descriptor d.process d.number)))
     (Some (record { cpu = cpu; phase = phase.Taken aim w; frames = frames_of_owner o; cut = cut_of_owner o ++ d ∷ [] }))
-owned_cut c o cpu d aim w k current still others this aimed = record {
-  frames = k.frames;
-  cuts = λ i j. by_places (λ (x : DescriptorUse). is_going_descriptor x
-      ≡ has_cut (ds ++ d ∷ []) i j) c.descriptor d.process d.number
-      (cut (c.descriptor d.process d.number)) i j
-      (λ a b. going_cut (c.descriptor d.process d.number) current ∙ sym (rw (a, b) (cut_push_same ds d)))
-      (λ m. k.cuts i j ∙ sym (cut_push_other ds d i j m));
-  once = k.once;
-  apart = apart_push ds d k.apart (sym (k.cuts d.process d.number)
-      ∙ current_descriptor_is_not_going (c.descriptor d.process d.number) current);
-  due = λ e v h. absurd (none_some (sym still ∙ k.due e v h));
-  alive = λ e v h. absurd (none_some (sym still ∙ k.due e v h));
-  says = λ v h. (let same : w ≡ v = cc in subst (λ (x : What). SomethingGoes made × NamesAllGoing made x) same
-      (goes, all));
-  shaped = aimed;
-}
+owned_cut c o cpu d aim w k current still others this aimed =
+    owned_by c made o cpu aim w (frames_of_owner o) (ds ++ d ∷ []) k still refl k.frames
+    (λ i j. by_places (λ (x : DescriptorUse). is_going_descriptor x ≡ has_cut (ds ++ d ∷ []) i j) c.descriptor
+    d.process d.number (cut (c.descriptor d.process d.number)) i j
+    (λ a b. going_cut (c.descriptor d.process d.number) current ∙ sym (rw (a, b) (cut_push_same ds d)))
+    (λ m. k.cuts i j ∙ sym (cut_push_other ds d i j m))) k.once
+    (apart_push ds d k.apart (sym (k.cuts d.process d.number)
+    ∙ current_descriptor_is_not_going (c.descriptor d.process d.number) current)) goes all aimed
   where
     ds : List CutDescriptor
     ds = cut_of_owner o

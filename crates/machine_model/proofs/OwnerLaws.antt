@@ -52,16 +52,14 @@ bound_here v f u p k frames bound = by (v.words u p) (k.tied.named f u p bound)
     by (ptw.Here h) n g = cc
     by (ptw.Leaving h) n g = absurd (let no : true ≡ false = g in cc)
 
--- all that was taken is gone or back, and nothing is due: the job is over
-pub job_over : (v : Seen) (owner : Option Owner) → KeepsBook v → frames_of_owner v.owner ≡ []
-    → cut_of_owner v.owner ≡ [] → NoneDue (shown v)
-    → is_pending v.owner ≡ false → IsIdle owner → is_pending owner ≡ false → KeepsBook (record v { owner = owner })
-job_over v owner k frames cut none was now still = record {
+-- the owner is another, and custody sees what it saw
+pub owner_next : (v : Seen) (owner : Option Owner) → KeepsBook v → cut_of_owner v.owner ≡ cut_of_owner owner
+    → is_pending v.owner ≡ is_pending owner → IsOwned (shown v) owner → KeepsBook (record v { owner = owner })
+owner_next v owner k cut pending owned = record {
   legal = k.legal;
   clean = k.clean;
   held = sym same ∙ k.held;
-  stale_due = subst (λ (c : Custody). Fine c (is_pending owner)) same
-      (subst (Fine (shown v)) (was ∙ sym still) k.stale_due);
+  stale_due = subst (λ (c : Custody). Fine c (is_pending owner)) same (subst (Fine (shown v)) pending k.stale_due);
   going_owned = subst (λ (c : Custody). IsOwned c owner) same owned;
   tied = k.tied;
   holding_right = λ d. subst (λ (c : Custody). HoldsRight v.bound c.descriptor (v.processors d)) same
@@ -71,11 +69,15 @@ job_over v owner k frames cut none was now still = record {
 }
   where
     same : shown v ≡ shown (record v { owner = owner })
-    same = λ i. record (shown v) {
-      descriptor = λ j n. descriptor_use (v.linked j n)
-          (cut_uid ((cut ∙ sym now.cut) i) j n);
-    }
+    same = λ i. record (shown v) { descriptor = λ j n. descriptor_use (v.linked j n) (cut_uid (cut i) j n) }
 
+-- all that was taken is gone or back, and nothing is due: the job is over
+pub job_over : (v : Seen) (owner : Option Owner) → KeepsBook v → frames_of_owner v.owner ≡ []
+    → cut_of_owner v.owner ≡ [] → NoneDue (shown v)
+    → is_pending v.owner ≡ false → IsIdle owner → is_pending owner ≡ false → KeepsBook (record v { owner = owner })
+job_over v owner k frames cut none was now still =
+    owner_next v owner k (cut ∙ sym now.cut) (was ∙ sym still) owned
+  where
     owned : IsOwned (shown v) owner
     owned = record {
       frames = λ f. k.going_owned.frames f ∙ ap (λ (fs : List ℕ). has fs f) (frames ∙ sym now.frames);

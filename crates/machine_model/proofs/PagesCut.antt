@@ -73,26 +73,6 @@ page_cut_off st u p ptw.Null has_places e = record {
   frames = refl;
   tables = refl;
 }
-page_cut_off st u p (ptw.Out r) has_places e = record {
-  bound = λ g. refl;
-  reads = λ g. refl;
-  words = words_put st.ast u p ptw.Null has_places.tables
-      (λ i. (let no : ptw.Out r ≡ ptw.Null = sym e ∙ i in cc));
-  places = refl;
-  links = refl;
-  frames = refl;
-  tables = length-set st.ast.tables (place_of st.ast.entries u) _;
-}
-page_cut_off st u p (ptw.Here f) has_places e = record {
-  bound = λ g. refl;
-  reads = λ g. refl;
-  words = words_put st.ast u p ptw.Null has_places.tables
-      (λ i. (let no : ptw.Here f ≡ ptw.Null = sym e ∙ i in cc));
-  places = refl;
-  links = refl;
-  frames = refl;
-  tables = length-set st.ast.tables (place_of st.ast.entries u) _;
-}
 page_cut_off st u p (ptw.Leaving f) has_places e = record {
   bound = bound_put st.pages.core f frame.Free (has_places.within u p f e);
   reads = reads_put st.pages.core f frame.Free (has_places.within u p f e);
@@ -101,6 +81,15 @@ page_cut_off st u p (ptw.Leaving f) has_places e = record {
   places = refl;
   links = refl;
   frames = length-set st.pages.core.frames f frame.Free;
+  tables = length-set st.ast.tables (place_of st.ast.entries u) _;
+}
+page_cut_off st u p w has_places e = record {
+  bound = λ g. refl;
+  reads = λ g. refl;
+  words = words_put st.ast u p ptw.Null has_places.tables (λ i. (let no : w ≡ ptw.Null = sym e ∙ i in cc));
+  places = refl;
+  links = refl;
+  frames = refl;
   tables = length-set st.ast.tables (place_of st.ast.entries u) _;
 }
 

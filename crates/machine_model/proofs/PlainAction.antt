@@ -67,32 +67,7 @@ module _ (s : State) (c : ℕ) where
   look_plain : (k : ℕ) (cmd : Command) (a : act.Action) → LookFinds s k cmd a → IsPlainly a
   look_plain k cmd (act.Answer r) h = ap is_device h.reply ∙ command_plain s.plan (flat_of s) k cmd
   look_plain k cmd (act.Plain r) h = absurd h
-  look_plain k cmd act.IsStopped h = tt
-  look_plain k cmd act.HasEnded h = tt
-  look_plain k cmd (act.Waits why) h = tt
-  look_plain k cmd act.Online h = tt
-  look_plain k cmd (act.Clear w) h = tt
-  look_plain k cmd (act.EndTransfer t) h = tt
-  look_plain k cmd (act.Load n) h = tt
-  look_plain k cmd act.Leave h = tt
-  look_plain k cmd (act.FillSeg n) h = tt
-  look_plain k cmd (act.FillPage f r) h = tt
-  look_plain k cmd (act.Through f r) h = tt
-  look_plain k cmd act.TakeSupervisor h = tt
-  look_plain k cmd act.GiveUp h = tt
-  look_plain k cmd (act.Activate u place) h = tt
-  look_plain k cmd (act.Connect n u) h = tt
-  look_plain k cmd (act.Create f u q r) h = tt
-  look_plain k cmd (act.Start f u q) h = tt
-  look_plain k cmd (act.Evict f) h = tt
-  look_plain k cmd (act.Empty u) h = tt
-  look_plain k cmd (act.EmptyVictim pool chain u) h = tt
-  look_plain k cmd (act.TakeAway fs pairs w) h = tt
-  look_plain k cmd (act.Signal w) h = tt
-  look_plain k cmd (act.FinishEviction f) h = tt
-  look_plain k cmd (act.FinishPage f) h = tt
-  look_plain k cmd (act.Deactivate u) h = tt
-  look_plain k cmd act.Commit h = tt
+  look_plain k cmd _ h = tt
 
   finish_plain : (a : Aim) (fs : List ℕ) → IsPlainly (act.finish_of a fs)
   finish_plain aim.Evicting [] = tt

@@ -24,7 +24,7 @@ use Rattle.flat_model.specs.Branches.{branch_at, changed, directory_at, node_at,
 use Rattle.flat_model.specs.Branches.{segment_at, there_or, walked}
 use Rattle.flat_model.specs.Commands.{effect_of_tree_command, reply_to_tree_command, takes_effect}
 use Rattle.flat_model.specs.Making.{after_delete, after_make, delete_of, delete_reply, deleted, made_at, made_of}
-use Rattle.flat_model.specs.Making.{owner_row}
+use Rattle.flat_model.specs.Making.{made_in, owner_row}
 use Rattle.flat_model.specs.Naming.{after_initiate, after_terminate, initiated}
 use Rattle.flat_model.specs.Rights.{after_acl, after_move, move_of, move_reply, moved}
 use Rattle.flat_model.specs.Sizes.{after_length, after_truncate, truncated}
@@ -266,20 +266,17 @@ rest_of : (b : Bool) (x y : Reply) → takes_effect x ≡ false → takes_effect
 rest_of true x y none h = absurd (let both : false ≡ true = sym none ∙ h in cc)
 rest_of false x y none h = h
 
+-- a node more, without quota
+grown_total : {n : Node} (ns more : List Node) → ns ≡ n ∷ more → n.quota ≡ 0 → total ns ≡ total more
+grown_total {n = n} ns more is none = let all = total_cons n more in let same = ap total is in
+    omega (arith, all, same, none)
+
 module _ (t : Store) where
   made_total : (volume : ℕ) (directory : Bool) (pages : ℕ) (rows : List Row) (name : List ℕ) (r : Result Node Reply)
       → total (made_at t volume directory pages rows name r).nodes ≡ total t.nodes
   made_total volume directory pages rows name (Err r) = refl
-  made_total volume directory pages rows name (Ok d) = let all = total_cons (record {
-    uid = t.next;
-    superior = Some d.uid;
-    name = name;
-    directory = directory;
-    volume = volume;
-    pages = pages;
-    quota = 0;
-    rows = rows;
-  }) t.nodes in omega (arith, all)
+  made_total volume directory pages rows name (Ok d) =
+      grown_total (made_in t volume directory pages rows name d).nodes t.nodes refl refl
 
   make_total : (volume : ℕ) (directory : Bool) (pages : ℕ) (rows : List Row)
       (parts : Option (List (List ℕ) × List ℕ))

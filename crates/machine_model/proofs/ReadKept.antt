@@ -1,9 +1,7 @@
 -- What a processor reads into a frame is for the next command of its process through every action, until it is read.
 use Rattle.std.proofs.Common.{◌≡◌, ◌≢◌, ◌<◌, ℕ, ◌+◌, Bool, true, false, not, ◌&&◌, cond, eqb, is_some, length, List, []}
 use Rattle.std.proofs.Common.{map, set, Option, Some, None, ◌⊎◌, inl, inr, refl, sym, ap, subst, ◌∙◌, arith}
-use Rattle.std.proofs.Common.{◌-◌, ℤ}
-use Rattle.std.specs.Int.{is_positive}
-use Rattle.std.specs.Int.RustNames.{unsigned_abs}
+use Rattle.std.proofs.Common.{ℤ}
 use Rattle.std.proofs.lemmas.Bool.Decides.{eqb_tells}
 use Rattle.std.proofs.lemmas.List.{get_or-set_other, get_or-set_same, length-set}
 use Rattle.script.specs.Plans.{Plan, command_at}
@@ -14,10 +12,8 @@ use Rattle.book.specs.declared.replies.Reply.{Reply}
 use Rattle.book.specs.declared.replies.Reply.TheVariants as reply
 use Rattle.assoc_mem.specs.declared.What.{What}
 use Rattle.assoc_mem.specs.declared.What.TheVariants as what
-use Rattle.assoc_mem.specs.Held.{cleared}
 use Rattle.tree_model.specs.Access.{Row}
-use Rattle.tree_model.specs.Quotas.{getter_of, giver_of, with_quota_of}
-use Rattle.tree_model.specs.Tree.{Node, above, node_in, without_node}
+use Rattle.tree_model.specs.Tree.{Node, node_in, without_node}
 use Rattle.tree_model.specs.Trees.{IsTree}
 use Rattle.known_segs.specs.Known.{uid_of}
 use Rattle.page_table.specs.declared.Ptw.{Ptw}
@@ -40,7 +36,7 @@ use Rattle.machine_model.specs.After.{Outcome, after}
 use Rattle.machine_model.specs.Commits.{committed, committed_at, frames_freed, inactive_if, with_deleted, with_made}
 use Rattle.machine_model.specs.Commits.{with_truncated}
 use Rattle.machine_model.specs.Custodial.{is_out}
-use Rattle.machine_model.specs.Jobs.{emptied, eviction_begun, eviction_done, page_done, pages_back, segs_back, told_at}
+use Rattle.machine_model.specs.Jobs.{emptied, eviction_begun, eviction_done, page_done, pages_back, segs_back}
 use Rattle.machine_model.specs.Jobs.{told_from, took, victim_taken, with_choice, with_hand_moved, write_failed}
 use Rattle.machine_model.specs.Keeps.{Keeps}
 use Rattle.machine_model.specs.Promise.{IsMachine}
@@ -67,6 +63,9 @@ use Rattle.machine_model.proofs.ScheduleKept.{Sits}
 use Rattle.machine_model.proofs.ScheduleKept as seats
 use Rattle.machine_model.proofs.TieLaws.{none_some}
 use Rattle.machine_model.proofs.TransferKept.{active_at}
+use Rattle.machine_model.proofs.CommitRights.{quota_moves}
+use Rattle.machine_model.proofs.LeaveSeen.{told_process, told_transfer}
+use Rattle.machine_model.proofs.CommitRights.{node_moved}
 
 no_and : {b : Bool} → b ≡ true → b ≡ false → ⊥
 no_and t f = let none : true ≡ false = sym t ∙ f in cc
@@ -305,18 +304,6 @@ by_end o well ill a b = by o.failed
     by true = b
     by false = a
 
-told_transfer : (d c : ℕ) (w : What) (x : Processor) → ((told_at c w d x).cpu.transfer ≡ x.cpu.transfer)
-    × ((told_at c w d x).cpu.process ≡ x.cpu.process)
-told_transfer d c w x = by (eqb d c) x.cpu.online
-  where
-    by : (a e : Bool) → ((cond a (record x { cpu = record x.cpu { assoc = cleared x.cpu.assoc w } })
-        (cond e (record x { cpu = record x.cpu { due = Some w } }) x)).cpu.transfer ≡ x.cpu.transfer)
-        × ((cond a (record x { cpu = record x.cpu { assoc = cleared x.cpu.assoc w } })
-        (cond e (record x { cpu = record x.cpu { due = Some w } }) x)).cpu.process ≡ x.cpu.process)
-    by true e = (refl, refl)
-    by false true = (refl, refl)
-    by false false = (refl, refl)
-
 module _ (s : State) (c : ℕ) (o : Outcome) (m : IsMachine s) (there : c < length s.processors) (h : IsReading s) where
   abbrev k : ℕ
   k = process_at s c
@@ -468,39 +455,13 @@ module _ (s : State) (c : ℕ) (o : Outcome) (m : IsMachine s) (there : c < leng
         by P n true y z = y
         by P n false y z = z
 
-    moved_names : (u : ℕ) (amount : ℤ) → KeepsName (λ n. with_quota_of
-        (giver_of (above nodes) u (is_positive amount)) (λ q. q - unsigned_abs amount)
-        (with_quota_of (getter_of (above nodes) u (is_positive amount)) (λ q. q + unsigned_abs amount) n))
+    moved_names : (u : ℕ) (amount : ℤ) → KeepsName (node_moved nodes u amount)
     moved_names u amount = record {
-      uid = λ n. (one giver (λ q. q - unsigned_abs amount) (got n)).0 ∙ (one getter (λ q. q + unsigned_abs amount) n).0;
-      superior = λ n. (one giver (λ q. q - unsigned_abs amount) (got n)).1
-          ∙ (one getter (λ q. q + unsigned_abs amount) n).1;
-      name = λ n. (one giver (λ q. q - unsigned_abs amount) (got n)).2
-          ∙ (one getter (λ q. q + unsigned_abs amount) n).2;
-      directory = λ n. (one giver (λ q. q - unsigned_abs amount) (got n)).3
-          ∙ (one getter (λ q. q + unsigned_abs amount) n).3;
+      uid = λ n. ap (λ (x : Node). x.uid) (quota_moves nodes u amount n);
+      superior = λ n. ap (λ (x : Node). x.superior) (quota_moves nodes u amount n);
+      name = λ n. ap (λ (x : Node). x.name) (quota_moves nodes u amount n);
+      directory = λ n. ap (λ (x : Node). x.directory) (quota_moves nodes u amount n);
     }
-      where
-        giver : ℕ
-        giver = giver_of (above nodes) u (is_positive amount)
-
-        getter : ℕ
-        getter = getter_of (above nodes) u (is_positive amount)
-
-        got : Node → Node
-        got n = with_quota_of getter (λ q. q + unsigned_abs amount) n
-
-        one : (v : ℕ) (f : ℕ → ℕ) (n : Node) → ((with_quota_of v f n).uid ≡ n.uid)
-            × ((with_quota_of v f n).superior ≡ n.superior) × ((with_quota_of v f n).name ≡ n.name)
-            × ((with_quota_of v f n).directory ≡ n.directory)
-        one v f n = by (eqb n.uid v)
-          where
-            by : (b : Bool) → ((cond b (record n { quota = f n.quota }) n).uid ≡ n.uid)
-                × ((cond b (record n { quota = f n.quota }) n).superior ≡ n.superior)
-                × ((cond b (record n { quota = f n.quota }) n).name ≡ n.name)
-                × ((cond b (record n { quota = f n.quota }) n).directory ≡ n.directory)
-            by true = (refl, refl, refl, refl)
-            by false = (refl, refl, refl, refl)
 
     commits : (x : Option Command) → Keeps (committed_at s c x) → IsReading (committed_at s c x)
     commits None kept = h
@@ -629,9 +590,9 @@ module _ (s : State) (c : ℕ) (o : Outcome) (m : IsMachine s) (there : c < leng
     each = λ d t e. still_reads s.plan s.runs nodes known s.processors h s.runs nodes known
         (told_from c w 0 s.processors) d (record {
           transfer = ap (λ (x : Processor). x.cpu.transfer) (told_reads c w s.processors 0 d)
-              ∙ (told_transfer (0 + d) c w (processor_at s.processors d)).0;
+              ∙ told_transfer c w (0 + d) (processor_at s.processors d);
           process = ap (λ (x : Processor). x.cpu.process) (told_reads c w s.processors 0 d)
-              ∙ (told_transfer (0 + d) c w (processor_at s.processors d)).1;
+              ∙ told_process c w (0 + d) (processor_at s.processors d);
           run = λ i x. refl;
           numbers = λ i x. refl;
           paths = λ y x. paths_same nodes y.uid;

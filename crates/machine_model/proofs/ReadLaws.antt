@@ -20,6 +20,7 @@ use Rattle.machine_model.proofs.LackLaws.{lack_le, wanted_more, here_same, here_
 use Rattle.machine_model.proofs.OuterLaws.{all_fewer}
 use Rattle.machine_model.proofs.GoesLaws.{all_set}
 use Rattle.machine_model.proofs.StepLaws.{no_both, inside, none_due, other_than}
+use Rattle.machine_model.proofs.GoesLaws.{same_command}
 
 -- the rule that applies to a processor that reads, while the owner looks
 reads_rule : (s : Outline) (d : ℕ) (r : Transfer) → IsKept s → dues s.runners ≡ 0
@@ -64,12 +65,7 @@ ended_falls s t c d x k l look owner idle r reading runners over all fits =
       record {
         stage = Look;
         in_job = looks;
-        same = record {
-          want = ap (λ (y : Runner). y.want) same;
-          since = ap (λ (y : Runner). y.since) same;
-          running = ap (λ (y : Runner). y.running) same;
-          all = all;
-        };
+        same = same_command _ same refl refl refl all;
         lack = subst (λ (y : Runner). lack t y ≤ lack_at s c) (sym same) (lack_le s t (want_at s c)
             (runner_at s.runners c).linked (runner_at s.runners c).linked (runner_at s.runners c).reading
             (runner_at s.runners c).reading (λ h. h) (λ h. fits (want_at s c) (runner_at s.runners c).reading h));

@@ -52,18 +52,20 @@ pub stored_pages_stay : answers 2 8 4 (
 unfolding book_of
 stored_pages_stay = refl
 
--- a third page, where the volume has two records
-pub records_are_used_up : answers 9 2 4 (
+-- three pages are written
+abbrev three_pages : List Command
+three_pages =
     command.MkSeg (codes "s" ∷ []) 3 0 ∷ command.Initiate (codes "s" ∷ []) ∷ command.Write 0 0 1 ∷
-    command.Write 0 1024 1 ∷ command.Write 0 2048 1 ∷ command.End ∷ []) ≡
+    command.Write 0 1024 1 ∷ command.Write 0 2048 1 ∷ command.End ∷ []
+
+-- a third page, where the volume has two records
+pub records_are_used_up : answers 9 2 4 three_pages ≡
     reply.Made 2 ∷ reply.Known 0 ∷ reply.Done ∷ reply.Done ∷ reply.NoRecord ∷ reply.Done ∷ []
 unfolding book_of
 records_are_used_up = refl
 
 -- the same where the quota is two besides
-pub quota_comes_first : answers 2 2 4 (
-    command.MkSeg (codes "s" ∷ []) 3 0 ∷ command.Initiate (codes "s" ∷ []) ∷ command.Write 0 0 1 ∷
-    command.Write 0 1024 1 ∷ command.Write 0 2048 1 ∷ command.End ∷ []) ≡
+pub quota_comes_first : answers 2 2 4 three_pages ≡
     reply.Made 2 ∷ reply.Known 0 ∷ reply.Done ∷ reply.Done ∷ reply.Quota ∷ reply.Done ∷ []
 unfolding book_of
 quota_comes_first = refl

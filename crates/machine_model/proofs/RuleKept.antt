@@ -21,9 +21,7 @@ use Rattle.machine_model.specs.declared.Aim.TheVariants as aim
 use Rattle.machine_model.specs.declared.Phase.{Phase}
 use Rattle.machine_model.specs.declared.Phase.TheVariants as phase
 use Rattle.machine_model.specs.Actions as act
-use Rattle.machine_model.specs.Actions.{action_of, by_move, clear_or, come_to, finish_of, go_on_with, has_had_its_turn}
-use Rattle.machine_model.specs.Actions.{is_empty, is_over, load_or_idle, look_of, once_cleared, own_or_run}
-use Rattle.machine_model.specs.Actions.{refer_or_take, run_process, take_or_wait, transfer_or}
+use Rattle.machine_model.specs.Actions.{finish_of}
 use Rattle.machine_model.specs.After.{Outcome}
 use Rattle.machine_model.specs.Chains.{gone_segs, gones, page_at}
 use Rattle.core_map.specs.CoreMap.{reads_of}
@@ -256,18 +254,23 @@ mine_owns s c m q h = ap (λ (x : Owner). x.cpu) (some_same q m.owner (sym h ∙
     some_same : (x y : Owner) → Some x ≡ Some y → x ≡ y
     some_same x y e = cc
 
+-- a job that has taken nothing is over
+pub nothing_over : (s : State) → Keeps s → IsIdle s.owner → is_pending s.owner ≡ false
+    → IsOver (segs_gone s (cut_of_owner s.owner))
+nothing_over s k idle still = subst (λ (ds : List CutDescriptor). IsOver (segs_gone s ds)) (sym idle.cut) (record {
+  book = k.book;
+  frames = idle.frames;
+  cut = idle.cut;
+  none = none_due (shown (seen s)) s.owner k.book.going_owned idle.waits;
+  still = still;
+})
+
 segment_can : (s : State) (c u : ℕ) (fs : List ℕ) (pairs : List (ℕ × ℕ)) → Keeps s → IsMine s c → IsIdle s.owner
     → is_pending s.owner ≡ false
     → CanTook s (aim.Deactivating u) (what.Seg u) fs pairs → AsksSegment s c u fs pairs → CanTakeSegment s c u fs pairs
 segment_can s c u [] [] k m idle still can asks = record {
   owner = m;
-  over = subst (λ (ds : List CutDescriptor). IsOver (segs_gone s ds)) (sym idle.cut) (record {
-    book = k.book;
-    frames = idle.frames;
-    cut = idle.cut;
-    none = none_due (shown (seen s)) s.owner k.book.going_owned idle.waits;
-    still = still;
-  });
+  over = nothing_over s k idle still;
   may = asks.may;
   says = asks.says;
 }

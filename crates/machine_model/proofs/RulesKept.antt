@@ -29,7 +29,7 @@ use Rattle.machine_model.specs.declared.Phase.{Phase}
 use Rattle.machine_model.specs.declared.Phase.TheVariants as phase
 use Rattle.machine_model.specs.Actions as act
 use Rattle.machine_model.specs.Actions.{action_of, by_move, clear_or, come_to, finish_of, go_on_with, has_had_its_turn}
-use Rattle.machine_model.specs.Actions.{is_empty, is_over, load_or_idle, look_of, move_of, once_cleared, own_or_run}
+use Rattle.machine_model.specs.Actions.{is_empty, is_over, load_or_idle, look_of, once_cleared, own_or_run}
 use Rattle.machine_model.specs.Actions.{refer_or_take, run_process, take_or_wait, transfer_or}
 use Rattle.machine_model.specs.After.{Outcome, after}
 use Rattle.machine_model.specs.Custodial.{names}
@@ -48,6 +48,7 @@ use Rattle.machine_model.proofs.RuleKept.{Asks, finish_can, look_can}
 use Rattle.machine_model.proofs.SeatLaws.{CanFillPage, CanFillSeg}
 use Rattle.machine_model.proofs.StepKept.{CanDo, CanLeave, IsMine, after_keeps, to_hold}
 use Rattle.machine_model.proofs.TieLaws.{none_some}
+use Rattle.std.proofs.lemmas.Bool.{not-true, not-false}
 
 -- a choice of two actions
 pick : (s : State) (c : ℕ) (o : Outcome) (b : Bool) (x y : act.Action) → (b ≡ true → Asks s c o x → CanDo s c o x)
@@ -73,14 +74,6 @@ both_parts false b h = absurd (let no : false ≡ true = h in cc)
 page_none : (x : Option HeldPage) → option_map (λ e. e.frame) x ≡ None → x ≡ None
 page_none None h = refl
 page_none (Some e) h = absurd (let no : Some e.frame ≡ None = h in cc)
-
-negated : (b : Bool) → not b ≡ true → b ≡ false
-negated true h = absurd (let no : false ≡ true = h in cc)
-negated false h = refl
-
-not_negated : (b : Bool) → not b ≡ false → b ≡ true
-not_negated true h = refl
-not_negated false h = absurd (let no : true ≡ false = h in cc)
 
 -- ---- a processor that runs its process by itself
 
@@ -263,8 +256,8 @@ module _ (s : State) (c : ℕ) (o : Outcome) (k : Keeps s) (there : c < length s
   unfolding action_of
   action_can = pick s c o s.stopped act.IsStopped _ (λ h asks. tt)
       (λ h. pick s c o (is_over s) act.HasEnded _ (λ e asks. tt)
-      (λ e. pick s c o (not p.cpu.online) act.Online _ (λ off asks. negated p.cpu.online off)
-      (λ on. clear_can (not_negated p.cpu.online on) p.cpu.due refl)))
+      (λ e. pick s c o (not p.cpu.online) act.Online _ (λ off asks. not-true p.cpu.online off)
+      (λ on. clear_can (not-false p.cpu.online on) p.cpu.due refl)))
 
   -- Each step keeps the machine's promise, whichever processor makes it.
   pub step_keeps : Asks s c o (action_of s c) → Keeps (after s c (action_of s c) o)

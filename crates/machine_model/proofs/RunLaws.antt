@@ -51,13 +51,16 @@ initiated_same : (s : Store) (k : ℕ) (r : Result Node Reply) → (initiated s 
 initiated_same s k (Ok n) = refl
 initiated_same s k (Err e) = refl
 
-truncated_same : (s : Store) (from : ℕ) (r : Result Node Reply) → (truncated s from r).processes ≡ s.processes
-truncated_same s from (Ok n) = refl
-truncated_same s from (Err e) = refl
+-- nor takes it a uid
+pub truncated_same : (s : Store) (from : ℕ) (r : Result Node Reply)
+    → ((truncated s from r).processes ≡ s.processes) × ((truncated s from r).next ≡ s.next)
+truncated_same s from (Ok n) = (refl, refl)
+truncated_same s from (Err e) = (refl, refl)
 
-deleted_same : (s : Store) (r : Result Node Reply) → (deleted s r).processes ≡ s.processes
-deleted_same s (Ok n) = refl
-deleted_same s (Err e) = refl
+pub deleted_same : (s : Store) (r : Result Node Reply)
+    → ((deleted s r).processes ≡ s.processes) × ((deleted s r).next ≡ s.next)
+deleted_same s (Ok n) = (refl, refl)
+deleted_same s (Err e) = (refl, refl)
 
 tree_effect_same : (p : Plan) (s : Store) (k : ℕ) (c : Command)
     → (effect_of_tree_command p s k c).processes ≡ s.processes
@@ -68,8 +71,8 @@ tree_effect_same p s k (command.Initiate path) = initiated_same s k (segment_at 
 tree_effect_same p s k (command.Terminate number) = refl
 tree_effect_same p s k (command.Acl path row m) = changed_same s _ (segment_at s.nodes path)
 tree_effect_same p s k (command.Length path pages) = changed_same s _ (segment_at s.nodes path)
-tree_effect_same p s k (command.Truncate path words) = truncated_same s words (segment_at s.nodes path)
-tree_effect_same p s k (command.Delete path) = deleted_same s (branch_at s.nodes path)
+tree_effect_same p s k (command.Truncate path words) = (truncated_same s words (segment_at s.nodes path)).0
+tree_effect_same p s k (command.Delete path) = (deleted_same s (branch_at s.nodes path)).0
 tree_effect_same p s k (command.Move path amount) = moved_same s amount (directory_at s.nodes path)
   where
     moved_same : (x : Store) (n : ℤ) (r : Result Node Reply) → (moved x n r).processes ≡ x.processes

@@ -48,9 +48,10 @@ use Rattle.machine_model.specs.State.{Owner, State, Storage}
 use Rattle.machine_model.specs.Steps.{activated_at, connected_to, fault_told, frame_lost, old_word, page_created}
 use Rattle.machine_model.specs.Steps.{pages_after, started, told, told_by, transfer_failed, transferred, went_through}
 use Rattle.machine_model.specs.Steps.{with_faults}
-use Rattle.machine_model.proofs.FlatAlike.{IsAlike, alike, alike_by, alike_on, alike_shown, append_assoc, conserved_by}
+use Rattle.machine_model.proofs.FlatAlike.{IsAlike, alike, alike_by, alike_on, alike_shown, conserved_by}
 use Rattle.machine_model.proofs.FlatAlike.{done_alike, fault_alike, is_still, one_still, refused_alike}
 use Rattle.machine_model.proofs.TieLaws.{none_some}
+use Rattle.std.proofs.lemmas.List.{append_assoc}
 
 -- the quotas of a flat store together
 abbrev pub quotas : Store → ℕ
@@ -102,6 +103,21 @@ pub record IsSame (s now : State) : Type 0 where
   pub descriptors : now.store.links.descriptors ≡ s.store.links.descriptors
   pub active : (u : ℕ) → is_active s.store.ast u ≡ true → is_active now.store.ast u ≡ true
   pub cut : cut_of_owner now.owner ≡ cut_of_owner s.owner
+
+is_same : {s now : State} → now.plan ≡ s.plan → length now.store.pages.core.frames ≡ length s.store.pages.core.frames
+    → now.store.accounts.nodes ≡ s.store.accounts.nodes → now.store.whos ≡ s.store.whos
+    → now.store.links.descriptors ≡ s.store.links.descriptors
+    → ((u : ℕ) → is_active s.store.ast u ≡ true → is_active now.store.ast u ≡ true)
+    → cut_of_owner now.owner ≡ cut_of_owner s.owner → IsSame s now
+is_same plan frames nodes whos descriptors active cut = record {
+  plan = plan;
+  frames = frames;
+  nodes = nodes;
+  whos = whos;
+  descriptors = descriptors;
+  active = active;
+  cut = cut;
+}
 
 pub same_rest : (s now : State) → Keeps s → IsSame s now → Rest s now
 same_rest s now k same = record {
@@ -156,15 +172,7 @@ pub refused_says : (s : State) (c k : ℕ) (f : Option ℕ) (r : Reply) → Keep
     → StoreSays (told_by s c k f r)
 refused_says s c k f r keeps h = says_by s (told_by s c k f r) (flat_of s) keeps keeps.store keeps.faithful
     (refused_alike s.plan s.entries k (run_at s.runs k).place c f r h) keeps.conserved.total
-    (same_rest s (told_by s c k f r) keeps (record {
-      plan = refl;
-      frames = refl;
-      nodes = refl;
-      whos = refl;
-      descriptors = refl;
-      active = λ u e. e;
-      cut = refl;
-    }))
+    (same_rest s (told_by s c k f r) keeps (is_same refl refl refl refl refl (λ u e. e) refl))
 
 -- ---- references
 
@@ -227,15 +235,7 @@ through_says s c o f u r cmd k says next is known page old = says_is s c o (act.
     (done_alike s.plan s.entries (process_at s c) (run_at s.runs (process_at s c)).place c (Some f)
     (word_reply (old_word s.store.pages f r) r.kind) cmd next (word_done (old_word s.store.pages f r) r.kind)))
     (ap (λ (ns : List Node). sum (map (λ n. n.quota) ns)) (nodes_through s f r (flat_of s)) ∙ k.conserved.total)
-    (same_rest s (went_through s c f r) k (record {
-      plan = refl;
-      frames = pages_count s.store.pages f r;
-      nodes = refl;
-      whos = refl;
-      descriptors = refl;
-      active = λ v e. e;
-      cut = refl;
-    }))
+    (same_rest s (went_through s c f r) k (is_same refl (pages_count s.store.pages f r) refl refl refl (λ v e. e) refl))
 
 -- a page that isn't stored is read, or 0 is written to it, where it is: the flat store is as it was
 pub plain_says : (s : State) (c : ℕ) (r : Reference) (cmd : Command) → Keeps s
@@ -247,15 +247,7 @@ plain_says s c r cmd k next is like = says_by s (told s c None (word_reply 0 r.k
     (effect_is s.plan (flat_of s) (process_at s c) cmd r is)
     (done_alike s.plan s.entries (process_at s c) (run_at s.runs (process_at s c)).place c None
     (word_reply 0 r.kind) cmd next (word_done 0 r.kind)))) k.conserved.total
-    (same_rest s (told s c None (word_reply 0 r.kind)) k (record {
-      plan = refl;
-      frames = refl;
-      nodes = refl;
-      whos = refl;
-      descriptors = refl;
-      active = λ v e. e;
-      cut = refl;
-    }))
+    (same_rest s (told s c None (word_reply 0 r.kind)) k (is_same refl refl refl refl refl (λ v e. e) refl))
 
 -- ---- a page is made
 
@@ -363,15 +355,7 @@ module _ (s : State) (c : ℕ) (o : Outcome) (t : Transfer) (k : Keeps s) (says 
   read_says h = says_is s c o (act.EndTransfer t) now k says
       (ap (λ (b : Bool). cond b (transfer_failed s c t o.faults) now) h)
       (still_alike s (entry.Here t.frame t.uid t.page) refl) k.conserved.total
-      (same_rest s now k (record {
-        plan = refl;
-        frames = length-set s.store.pages.core.frames t.frame _;
-        nodes = refl;
-        whos = refl;
-        descriptors = refl;
-        active = λ u e. e;
-        cut = refl;
-      }))
+      (same_rest s now k (is_same refl (length-set s.store.pages.core.frames t.frame _) refl refl refl (λ u e. e) refl))
     where
       now : State
       now = transferred (with_faults s o.faults) c t
@@ -384,15 +368,7 @@ module _ (s : State) (c : ℕ) (o : Outcome) (t : Transfer) (k : Keeps s) (says 
       (fault_alike s.plan (s.entries ++ entry.Lose t.frame ∷ []) (Some (process_at s c)))
       (refused_alike s.plan ((s.entries ++ entry.Lose t.frame ∷ []) ++ entry.Fault (Some (process_at s c)) ∷ [])
       told_process (run_at s.runs told_process).place c None reply.Device refl))) k.conserved.total
-      (same_rest s now k (record {
-        plan = refl;
-        frames = length-set s.store.pages.core.frames t.frame _;
-        nodes = refl;
-        whos = refl;
-        descriptors = refl;
-        active = λ u e. e;
-        cut = refl;
-      }))
+      (same_rest s now k (is_same refl (length-set s.store.pages.core.frames t.frame _) refl refl refl (λ u e. e) refl))
     where
       now : State
       now = transfer_failed s c t o.faults
@@ -461,15 +437,7 @@ module _ (s : State) (c : ℕ) (o : Outcome) (f : ℕ) (k : Keeps s) where
       (ap (λ (b : Bool). cond b (write_failed s c o.faults) now) h)
       (subst (λ (b : Bool). IsAlike (cond b (flat_of s) (left_page s f (flat_of s))) (flat_of now)) (sym h) left_alike)
       (subst (λ (b : Bool). quotas (cond b (flat_of s) (left_page s f (flat_of s))) ≡ s.plan.quota) (sym h) left_total)
-      (same_rest s now k (record {
-        plan = refl;
-        frames = left_count s.store.pages (home_in s.store (page_in s.store f).0) (page_in s.store f).1 f how;
-        nodes = account_nodes s.store.accounts (page_in s.store f).0 how;
-        whos = refl;
-        descriptors = refl;
-        active = λ u e. e;
-        cut = cut_less s.owner;
-      }))
+      (same_rest s now k (is_same refl (left_count s.store.pages (home_in s.store (page_in s.store f).0) (page_in s.store f).1 f how) (account_nodes s.store.accounts (page_in s.store f).0 how) refl refl (λ u e. e) (cut_less s.owner)))
     where
       now : State
       now = page_done (with_faults s o.faults) f
@@ -482,6 +450,10 @@ pub record IsBack (s now : State) : Type 0 where
   pub pages : now.store.pages ≡ s.store.pages
   pub flat : store_after now.plan now.entries ≡ store_after s.plan s.entries
 
+back_by : {s now : State} → now.plan ≡ s.plan → now.store.pages ≡ s.store.pages
+    → store_after now.plan now.entries ≡ store_after s.plan s.entries → IsBack s now
+back_by plan pages flat = record { plan = plan; pages = pages; flat = flat }
+
 pub back_on : {s t u : State} → IsBack s t → IsBack t u → IsBack s u
 back_on a b = record { plan = b.plan ∙ a.plan; pages = b.pages ∙ a.pages; flat = b.flat ∙ a.flat }
 
@@ -491,19 +463,13 @@ here_pages st f (Some page) = refl
 
 pub pages_are_back : (s : State) (fs : List ℕ) → IsBack s (pages_back s fs)
 pages_are_back s [] = record { plan = refl; pages = refl; flat = refl }
-pages_are_back s (f ∷ fs) = back_on (record {
-  plan = refl;
-  pages = here_pages s.store f (bound_page (frame_in_pages s.store.pages f));
-  flat = one_still s.plan s.entries (entry.BackPage f) refl;
-}) (pages_are_back (page_back s f) fs)
+pages_are_back s (f ∷ fs) = back_on (back_by refl (here_pages s.store f (bound_page (frame_in_pages s.store.pages f))) (one_still s.plan s.entries (entry.BackPage f) refl))
+    (pages_are_back (page_back s f) fs)
 
 pub segs_are_back : (s : State) (ds : List CutDescriptor) → IsBack s (segs_back s ds)
 segs_are_back s [] = record { plan = refl; pages = refl; flat = refl }
-segs_are_back s (d ∷ ds) = back_on (record {
-  plan = refl;
-  pages = refl;
-  flat = one_still s.plan s.entries (entry.BackSeg d.process d.number) refl;
-}) (segs_are_back (seg_back s d) ds)
+segs_are_back s (d ∷ ds) = back_on (back_by refl refl (one_still s.plan s.entries (entry.BackSeg d.process d.number) refl))
+    (segs_are_back (seg_back s d) ds)
 
 module _ (s : State) (c : ℕ) (faults : ℕ) where
   abbrev fault_state : State
@@ -548,11 +514,8 @@ module _ (s : State) (c : ℕ) (o : Outcome) (f : ℕ) (k : Keeps s) (h : o.fail
 
 pub gone_is : (s : State) (ds : List CutDescriptor) → IsBack s (segs_gone s ds)
 gone_is s [] = record { plan = refl; pages = refl; flat = refl }
-gone_is s (d ∷ ds) = back_on (record {
-  plan = refl;
-  pages = refl;
-  flat = one_still s.plan s.entries (entry.GoneSeg d.process d.number) refl;
-}) (gone_is (seg_gone s d) ds)
+gone_is s (d ∷ ds) = back_on (back_by refl refl (one_still s.plan s.entries (entry.GoneSeg d.process d.number) refl))
+    (gone_is (seg_gone s d) ds)
 
 pub emptied_says : (s : State) (c u : ℕ) (st : Storage) → Keeps s → StoreKept st
     → IsFaithful s.plan (flat_of s) st → (emptied s c u).store ≡ st → StoreSays (emptied s c u)

@@ -3,7 +3,6 @@ use Rattle.std.proofs.Common.{◌≡◌, ◌<◌, ℕ, ◌+◌, ◌-◌, Bool, t
 use Rattle.std.proofs.Common.{length}
 use Rattle.std.proofs.Common.{set, Option, Some, None, refl, sym, ap, subst, ◌∙◌}
 use Rattle.std.proofs.lemmas.List.{length-set, get_or-set_same}
-use Rattle.assoc_mem.specs.Held.{cleared}
 use Rattle.script.specs.Plans.{Plan}
 use Rattle.script.specs.declared.commands.Command.{Command}
 use Rattle.script.specs.declared.commands.Command.TheVariants as command
@@ -26,7 +25,7 @@ use Rattle.machine_model.specs.After.{Outcome, after}
 use Rattle.machine_model.specs.Commits.{committed_at}
 use Rattle.machine_model.specs.Jobs.{cut_all, cut_one, emptied, page_back, pages_back}
 use Rattle.machine_model.specs.Jobs.{seg_back, seg_gone, segment_taken, segs_back, segs_gone, take_all}
-use Rattle.machine_model.specs.Jobs.{take_one, told_at, told_from, took, with_hand_moved, write_failed}
+use Rattle.machine_model.specs.Jobs.{take_one, told_from, took, with_hand_moved, write_failed}
 use Rattle.machine_model.specs.Reads.{cpu_at, cut_of_owner, frames_from, frames_of_owner, next_command, no_processor}
 use Rattle.machine_model.specs.Reads.{or_zero, process_at, processor_at, run_at, trailers_in}
 use Rattle.machine_model.specs.Refusal.{reply_of}
@@ -39,8 +38,10 @@ use Rattle.machine_model.proofs.CommitKept.{effected}
 use Rattle.machine_model.specs.Steps.{pages_after, with_pages}
 use Rattle.machine_model.proofs.LeaveSeen.{told_reads}
 use Rattle.machine_model.specs.Reads.{no_run}
-use Rattle.machine_model.proofs.ScheduleLaws.{SameSeats, append_nil, end_kept, leave_kept, load_kept, one_run}
+use Rattle.machine_model.proofs.ScheduleLaws.{SameSeats, end_kept, leave_kept, load_kept, one_run}
 use Rattle.machine_model.proofs.ScheduleLaws.{one_seat, runs_kept, seats_kept}
+use Rattle.machine_model.proofs.LeaveSeen.{told_online, told_process}
+use Rattle.std.proofs.lemmas.List.{append-nil}
 
 -- ---- nobody's process and run changes
 
@@ -131,7 +132,7 @@ told_kept : (s : State) (c k : ℕ) (f : Option ℕ) (r : Reply) → IsScheduled
     → IsScheduled (told_by s c k f r)
 told_kept s c k f r h there its known more = subst (λ (q : List ℕ). AreScheduled s.plan
     (set s.runs k (run_after (run_at s.runs k) (next_command s k) r)) q (told_by s c k f r).processors)
-    (sym (append_nil s.ready) ∙ ap (λ (q : List ℕ). s.ready ++ q) (sym (nobody_released s.plan k
+    (sym (append-nil s.ready) ∙ ap (λ (q : List ℕ). s.ready ++ q) (sym (nobody_released s.plan k
     (next_command s k) more)))
     (runs_kept s.plan s.runs (set s.runs k (run_after (run_at s.runs k) (next_command s k) r)) s.ready _
     (one_run s.runs k (run_after (run_at s.runs k) (next_command s k) r) known (h.running c k its).going
@@ -220,28 +221,10 @@ by_end o well ill a b = by o.failed refl
 pub told_seats : (s : State) (c : ℕ) (w : What) → SameSeats s.processors (told_from c w 0 s.processors)
 told_seats s c w = record {
   process = λ d. ap (λ (p : Processor). p.cpu.process) (told_reads c w s.processors 0 d)
-      ∙ process (0 + d) (processor_at s.processors d);
+      ∙ told_process c w (0 + d) (processor_at s.processors d);
   online = λ d h. ap (λ (p : Processor). p.cpu.online) (told_reads c w s.processors 0 d)
-      ∙ (online (0 + d) (processor_at s.processors d) ∙ h);
+      ∙ (told_online c w (0 + d) (processor_at s.processors d) ∙ h);
 }
-  where
-    process : (d : ℕ) (p : Processor) → (told_at c w d p).cpu.process ≡ p.cpu.process
-    process d p = by (eqb d c) p.cpu.online
-      where
-        by : (a e : Bool) → (cond a (record p { cpu = record p.cpu { assoc = cleared p.cpu.assoc w } })
-            (cond e (record p { cpu = record p.cpu { due = Some w } }) p)).cpu.process ≡ p.cpu.process
-        by true e = refl
-        by false true = refl
-        by false false = refl
-
-    online : (d : ℕ) (p : Processor) → (told_at c w d p).cpu.online ≡ p.cpu.online
-    online d p = by (eqb d c) p.cpu.online
-      where
-        by : (a e : Bool) → (cond a (record p { cpu = record p.cpu { assoc = cleared p.cpu.assoc w } })
-            (cond e (record p { cpu = record p.cpu { due = Some w } }) p)).cpu.online ≡ p.cpu.online
-        by true e = refl
-        by false true = refl
-        by false false = refl
 
 front_is : (s : State) (n : ℕ) (xs : List ℕ) → s.ready ≡ xs → IsFront xs n → s.ready ≡ n ∷ drop 1 s.ready
 front_is s n [] e h = absurd h

@@ -17,6 +17,7 @@ use Rattle.machine_model.proofs.ListLaws.{put_list}
 use Rattle.machine_model.proofs.OwnedLaws.{distinct_push, push_other, push_same}
 use Rattle.machine_model.proofs.Places.{by_place}
 use Rattle.machine_model.proofs.TieLaws.{none_some}
+use Rattle.std.proofs.lemmas.List.{append-nil}
 
 no_and : {b : Bool} → b ≡ true → b ≡ false → ⊥
 no_and t f = let no : true ≡ false = sym t ∙ f in cc
@@ -103,23 +104,23 @@ one_run runs k run there was now = record {
 -- ---- a processor loads a process, and gives it up
 
 -- the processes once a processor has another one, or none
+put_seen : {A : Type 0} (see : Processor → A) (ps : List Processor) (c : ℕ) (p : Processor) → c < length ps → (d : ℕ)
+    → (d ≡ c → see (processor_at (set ps c p) d) ≡ see p)
+    × (d ≢ c → see (processor_at (set ps c p) d) ≡ see (processor_at ps d))
+put_seen see ps c p there d = (
+  (λ e. ap (λ (i : ℕ). see (processor_at (set ps c p) i)) e ∙ ap see (get_or-set_same ps c p no_processor there)),
+  (λ n. ap see (get_or-set_other ps c d p no_processor n)),
+)
+
 put_process : (ps : List Processor) (c : ℕ) (p : Processor) → c < length ps → (d : ℕ)
     → (d ≡ c → (cpu_at (set ps c p) d).process ≡ p.cpu.process)
     × (d ≢ c → (cpu_at (set ps c p) d).process ≡ (cpu_at ps d).process)
-put_process ps c p there d = (
-  (λ e. ap (λ (i : ℕ). (cpu_at (set ps c p) i).process) e
-      ∙ ap (λ (x : Processor). x.cpu.process) (get_or-set_same ps c p no_processor there)),
-  (λ n. ap (λ (x : Processor). x.cpu.process) (get_or-set_other ps c d p no_processor n)),
-)
+put_process ps c p there d = put_seen (λ x. x.cpu.process) ps c p there d
 
 put_online : (ps : List Processor) (c : ℕ) (p : Processor) → c < length ps → (d : ℕ)
     → (d ≡ c → (cpu_at (set ps c p) d).online ≡ p.cpu.online)
     × (d ≢ c → (cpu_at (set ps c p) d).online ≡ (cpu_at ps d).online)
-put_online ps c p there d = (
-  (λ e. ap (λ (i : ℕ). (cpu_at (set ps c p) i).online) e
-      ∙ ap (λ (x : Processor). x.cpu.online) (get_or-set_same ps c p no_processor there)),
-  (λ n. ap (λ (x : Processor). x.cpu.online) (get_or-set_other ps c d p no_processor n)),
-)
+put_online ps c p there d = put_seen (λ x. x.cpu.online) ps c p there d
 
 either : (d c : ℕ) → (d ≡ c) ⊎ (d ≢ c)
 either d c = elim (eqb_tells d c) [ inl e ↦ inl e.1 | inr n ↦ inr n.1 ]
@@ -307,10 +308,6 @@ nothing_in : (xs : List ℕ) → ((j : ℕ) → has xs j ≡ false) → xs ≡ [
 nothing_in [] h = refl
 nothing_in (x ∷ xs) h = absurd (no_and (ap (λ (b : Bool). b || has xs x) (own x)) (h x))
 
-pub append_nil : (xs : List ℕ) → xs ++ [] ≡ xs
-append_nil [] = refl
-append_nil (x ∷ xs) = ap (λ (ys : List ℕ). x ∷ ys) (append_nil xs)
-
 module _ (p : Plan) (runs : List Run) (ready : List ℕ) (ps : List Processor) (c k : ℕ) (now : Processor) (run : Run)
     (there : c < length ps) (known : k < length runs) (h : AreScheduled p runs ready ps)
     (its : (cpu_at ps c).process ≡ Some k) (none : now.cpu.process ≡ None) (over : run.ended ≡ true) where
@@ -467,6 +464,6 @@ module _ (p : Plan) (runs : List Run) (ready : List ℕ) (ps : List Processor) (
           (xs ++ range 1 (length p.processes - 1)) (set ps c now)) (sym (none_ready e (z refl))) (initial_end e
           (z refl))
       by true false e z other = subst (λ (xs : List ℕ). AreScheduled p (set runs k run) xs (set ps c now))
-          (sym (append_nil ready)) (plain_end (λ i. other refl))
+          (sym (append-nil ready)) (plain_end (λ i. other refl))
       by false z e f other = subst (λ (xs : List ℕ). AreScheduled p (set runs k run) xs (set ps c now))
-          (sym (append_nil ready)) (plain_end (λ i first. no_and i e))
+          (sym (append-nil ready)) (plain_end (λ i first. no_and i e))

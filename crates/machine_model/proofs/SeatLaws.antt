@@ -41,9 +41,7 @@ pub record Reseats (v : Seen) (c : ℕ) (p : Processor) (ready : List ℕ) (e : 
 
 pub reseat_keeps : (v : Seen) (c : ℕ) (p : Processor) (ready : List ℕ) (e : Entry) → KeepsBook v → Reseats v c p ready e
     → KeepsBook (reseated v c p ready e)
-reseat_keeps v c p ready e k r = book_next v e (reseated v c p ready e) k (record {
-  plan = refl;
-  entries = refl;
+reseat_keeps v c p ready e k r = book_next v e (reseated v c p ready e) refl refl k (record {
   lawful = r.lawful;
   allowed = r.allowed;
   online = r.online;

@@ -3,7 +3,7 @@ use Rattle.std.proofs.Common.{◌≡◌, ◌<◌, ℕ, Bool, true, false, not, �
 use Rattle.std.proofs.Common.{inl, inr, refl, sym, ap, subst, ◌∙◌}
 use Rattle.std.specs.Prelude.{IsSomeAnd}
 use Rattle.std.proofs.lemmas.Bool.Decides.{eqb_tells}
-use Rattle.script.specs.Plans.{command_at, commands_of}
+use Rattle.script.specs.Plans.{Plan, command_at, commands_of}
 use Rattle.script.specs.References.{reference_of}
 use Rattle.script.specs.declared.commands.Command.{Command}
 use Rattle.script.specs.declared.commands.Reference.{Reference}
@@ -23,6 +23,9 @@ use Rattle.machine_model.specs.Scheduled.{HasTurn, MayRun}
 use Rattle.machine_model.specs.Seen.{shown}
 use Rattle.machine_model.specs.State.{State}
 use Rattle.machine_model.proofs.TellKept.{CanTell}
+use Rattle.std.proofs.Common.{List}
+use Rattle.machine_model.specs.declared.Processor.{Processor}
+use Rattle.machine_model.specs.declared.Run.{Run}
 
 -- A processor has a process that goes on, and this is its next command.
 pub record Speaks (s : State) (c k : ℕ) (cmd : Command) : Type 0 where
@@ -34,22 +37,11 @@ pub record Speaks (s : State) (c k : ℕ) (cmd : Command) : Type 0 where
   pub turn : HasTurn s.plan s.runs k
   pub runs : (j : ℕ) → IsRun (progress_of (flat_of s) j) (run_at s.runs j)
 
--- a processor that has a process speaks for it
-pub speaks : (s : State) (c k : ℕ) → IsMachine s → c < length s.processors
-    → (processor_at s.processors c).cpu.process ≡ Some k → (cmd : Command) × Speaks s c k cmd
+-- a process that a processor has may run, and comes to its next command
+pub comes_next : (s : State) (c k : ℕ) → IsMachine s → (processor_at s.processors c).cpu.process ≡ Some k
+    → MayRun s.plan s.runs k × (k < length s.runs) × Comes (commands_of s.plan k) (run_at s.runs k)
 unfolding AllCome
-speaks s c k m there its = (
-  come.command,
-  record {
-    there = there;
-    known = known;
-    its = its;
-    next = come.on.next;
-    going = may.going;
-    turn = may.turn;
-    runs = m.keeps.book.runs;
-  },
-)
+comes_next s c k m its = (may, known, m.come k known may.going)
   where
     may : MayRun s.plan s.runs k
     may = m.scheduled.running c k its
@@ -57,8 +49,43 @@ speaks s c k m there its = (
     known : k < length s.runs
     known = subst (λ (n : ℕ). k < n) (sym m.keeps.sizes.processes) may.planned
 
-    come : Comes (commands_of s.plan k) (run_at s.runs k)
-    come = m.come k known may.going
+-- a processor that has a process speaks for it
+pub speaks : (s : State) (c k : ℕ) → IsMachine s → c < length s.processors
+    → (processor_at s.processors c).cpu.process ≡ Some k → (cmd : Command) × Speaks s c k cmd
+speaks s c k m there its = let next = comes_next s c k m its in (
+  next.2.command,
+  record {
+    there = there;
+    known = next.1;
+    its = its;
+    next = next.2.on.next;
+    going = next.0.going;
+    turn = next.0.turn;
+    runs = m.keeps.book.runs;
+  },
+)
+
+-- and the command that comes next is the one that it speaks of
+pub speaks_of : (s : State) (c k : ℕ) (cmd : Command) → IsMachine s → c < length s.processors
+    → (processor_at s.processors c).cpu.process ≡ Some k → next_command s k ≡ Some cmd → Speaks s c k cmd
+speaks_of s c k cmd m there its next = let one = speaks s c k m there its in
+    subst (Speaks s c k)
+    (let same : Some one.0 ≡ Some cmd = sym one.1.next ∙ next in let is : one.0 ≡ cmd = cc in is) one.1
+
+-- it speaks so where the processors, the processes and the script are the same, and the flat store goes on with them
+pub speaks_like : {s now : State} {c k : ℕ} {cmd : Command} → now.processors ≡ s.processors → now.runs ≡ s.runs
+    → now.plan ≡ s.plan → ((j : ℕ) → IsRun (progress_of (flat_of now) j) (run_at now.runs j)) → Speaks s c k cmd
+    → Speaks now c k cmd
+speaks_like {s = s} {now = now} {c = c} {k = k} processors runs plan go sp = record {
+  there = subst (λ (ps : List Processor). c < length ps) (sym processors) sp.there;
+  known = subst (λ (rs : List Run). k < length rs) (sym runs) sp.known;
+  its = ap (λ (ps : List Processor). (processor_at ps c).cpu.process) processors ∙ sp.its;
+  next = (λ i. command_at (plan i) k (run_at (runs i) k).place) ∙ sp.next;
+  going = ap (λ (rs : List Run). (run_at rs k).ended) runs ∙ sp.going;
+  turn = subst (λ (p : Plan). HasTurn p now.runs k) (sym plan)
+      (subst (λ (rs : List Run). HasTurn s.plan rs k) (sym runs) sp.turn);
+  runs = go;
+}
 
 turn_is : (s : State) (c k : ℕ) (cmd : Command) → Speaks s c k cmd → is_turn s.plan (flat_of s) k ≡ true
 turn_is s c k cmd h = by h.turn

@@ -90,10 +90,12 @@ use Rattle.machine_model.proofs.SaysLaws.{gone_is}
 use Rattle.machine_model.proofs.WholeKept.{may_deactivate}
 use Rattle.machine_model.proofs.SpeakLaws.{Speaks, speaks}
 use Rattle.machine_model.proofs.StepKept.{CanFailWrite, IsMine}
-use Rattle.machine_model.proofs.TakeAsks.{no_pages, take_asks}
+use Rattle.machine_model.proofs.TakeAsks.{take_asks}
 use Rattle.machine_model.proofs.TookKept.{CanTook}
 use Rattle.machine_model.proofs.TieLaws.{none_some}
 use Rattle.machine_model.proofs.TransferKept.{active_at}
+use Rattle.machine_model.proofs.SpeakLaws.{speaks_of}
+use Rattle.machine_model.proofs.TakeAsks.{takes_none}
 
 -- ---- a page is read
 
@@ -128,14 +130,6 @@ pick : (s : State) (c : ℕ) (o : Outcome) (b : Bool) (x y : act.Action) → (b 
     → (b ≡ false → Follows s c o y) → Follows s c o (cond b x y)
 pick s c o true x y f g = f refl
 pick s c o false x y f g = g refl
-
-negated : (b : Bool) → not b ≡ true → b ≡ false
-negated true h = absurd (let none : false ≡ true = h in cc)
-negated false h = refl
-
-not_negated : (b : Bool) → not b ≡ false → b ≡ true
-not_negated true h = refl
-not_negated false h = absurd (let none : true ≡ false = h in cc)
 
 some_of : (x : Option ℕ) (n : ℕ) → x ≡ Some n → x ≡ Some (or_zero x)
 some_of x n h = h ∙ ap (λ (y : Option ℕ). Some (or_zero y)) (sym h)
@@ -251,10 +245,7 @@ module _ (s : State) (c : ℕ) (o : Outcome) (m : IsMachine s) (there : c < leng
   come_follows its (Some cmd) e = by (reference_of cmd) refl
     where
       sp : Speaks s c k cmd
-      sp = let one = speaks s c k m there its in
-          subst (Speaks s c k) (let same : Some one.0 ≡ Some cmd = sym one.1.next
-          ∙ e in let is : one.0 ≡ cmd = cc in is)
-          one.1
+      sp = speaks_of s c k cmd m there its e
 
       by : (y : Option Reference) → reference_of cmd ≡ y → Follows s c o (refer_or_take s p.cpu k y)
       by None i = take_follows s.owner
@@ -279,11 +270,7 @@ module _ (s : State) (c : ℕ) (o : Outcome) (m : IsMachine s) (there : c < leng
 
     -- a look that finds nothing to take takes nothing
     takes_nothing : CanTook s aim.Committing what.All [] []
-    takes_nothing = record {
-      pages = no_pages s k m.keeps idle what.All;
-      bound = λ f h. absurd (let none : false ≡ true = h in cc);
-      pairs_are = tt;
-    }
+    takes_nothing = takes_none s k m.keeps idle what.All
 
     look_follows : (a : act.Action) → LookFinds s k cmd a → Follows s c o a
     look_follows (act.Waits why) h says = tt
@@ -348,10 +335,7 @@ module _ (s : State) (c : ℕ) (o : Outcome) (m : IsMachine s) (there : c < leng
   write_follows (Some cmd) e its may h rose says = write_asks s c o cmd m.keeps sp may rose says
     where
       sp : Speaks s c k cmd
-      sp = let one = speaks s c k m there its in
-          subst (Speaks s c k) (let same : Some one.0 ≡ Some cmd = sym one.1.next
-          ∙ e in let is : one.0 ≡ cmd = cc in is)
-          one.1
+      sp = speaks_of s c k cmd m there its e
 
   -- what goes of the segment of a deactivation is all of it
   aim_of : (a : Aim) (w : What) → HasWaited s c a w → going_for s.owner ≡ aimed_at a

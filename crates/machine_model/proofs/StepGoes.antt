@@ -1,15 +1,13 @@
 -- What the rules know of their action gives what the job, the processes and the script ask of it.
 use Rattle.std.proofs.Common.{◌≡◌, ◌<◌, ℕ, Bool, true, false, cond, length, Some, refl, sym, ap}
 use Rattle.std.proofs.Common.{subst, ◌∙◌}
-use Rattle.script.specs.Plans.{commands_of}
 use Rattle.processor.specs.declared.Transfer.{Transfer}
 use Rattle.machine_model.specs.Actions as act
 use Rattle.machine_model.specs.After.{Outcome, after}
-use Rattle.machine_model.specs.Foreseen.{AllCome, Comes, MayAnswer}
+use Rattle.machine_model.specs.Foreseen.{AllCome, MayAnswer}
 use Rattle.machine_model.specs.Promise.{IsMachine}
 use Rattle.machine_model.specs.Reading.{IsReading}
-use Rattle.machine_model.specs.Reads.{cpu_at, process_at, run_at}
-use Rattle.machine_model.specs.Scheduled.{MayRun}
+use Rattle.machine_model.specs.Reads.{cpu_at, process_at}
 use Rattle.machine_model.specs.State.{State}
 use Rattle.machine_model.specs.Steps.{is_its_end, transfer_failed, transferred, with_faults}
 use Rattle.machine_model.specs.Jobs.{took}
@@ -30,26 +28,17 @@ use Rattle.machine_model.proofs.StepKept.{CanDo, due_other, empty_other, online_
 use Rattle.machine_model.proofs.StepKnows.{AnswersOne, Knows}
 use Rattle.machine_model.proofs.TransferKept.{reader_no_owner}
 use Rattle.machine_model.proofs.WorkStep.{MayWork}
+use Rattle.machine_model.proofs.SpeakLaws.{comes_next}
 
 -- a processor that has a process may answer its next command
 pub may_answer : (s : State) (c k : ℕ) → IsMachine s → c < length s.processors
     → (cpu_at s.processors c).process ≡ Some k
     → MayAnswer s c
-unfolding AllCome
-may_answer s c k m there its = record {
+may_answer s c k m there its = let next = comes_next s c k m its in record {
   process = k;
-  command = come.command;
-  can = record { within = there; process = its; there = known; planned = may.planned; on = come.on };
+  command = next.2.command;
+  can = record { within = there; process = its; there = next.1; planned = next.0.planned; on = next.2.on };
 }
-  where
-    may : MayRun s.plan s.runs k
-    may = m.scheduled.running c k its
-
-    known : k < length s.runs
-    known = subst (λ (n : ℕ). k < n) (sym m.keeps.sizes.processes) may.planned
-
-    come : Comes (commands_of s.plan k) (run_at s.runs k)
-    come = m.come k known may.going
 
 answering : (s : State) (c : ℕ) → AnswersOne s c → IsAnswering s c
 answering s c a = record {

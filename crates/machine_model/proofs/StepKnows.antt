@@ -11,7 +11,6 @@ use Rattle.assoc_mem.specs.declared.What.TheVariants as what
 use Rattle.machine_model.specs.Taking.{IsTakenBy, IsTakenFor, TakenIn}
 use Rattle.machine_model.proofs.JustTaken.{look_taken}
 use Rattle.machine_model.proofs.ReadyLaws.{IsOutOfUse}
-use Rattle.machine_model.proofs.TakeAsks.{no_pages}
 use Rattle.machine_model.proofs.TookKept.{CanTook}
 use Rattle.processor.specs.declared.Move.TheVariants as move
 use Rattle.processor.specs.declared.Transfer.{Transfer}
@@ -47,6 +46,8 @@ use Rattle.machine_model.proofs.FailLaws.{fails_more}
 use Rattle.machine_model.proofs.KeepLaws.{IsNoOwner}
 use Rattle.machine_model.proofs.LookFacts.{FindsActive, FindsFull, FindsOut, FindsTaken, FindsVictim}
 use Rattle.machine_model.proofs.WorkStep.{IsEmptying, Looks}
+use Rattle.machine_model.proofs.SpeakLaws.{speaks_of}
+use Rattle.machine_model.proofs.TakeAsks.{takes_none}
 
 -- a processor's process comes to a command that isn't its end
 pub record AnswersOne (s : State) (c : ℕ) : Type 0 where
@@ -163,10 +164,7 @@ module _ (s : State) (c : ℕ) (o : Outcome) (m : IsMachine s) (there : c < leng
     come_knows other its (Some cmd) e = by (reference_of cmd) refl
       where
         sp : Speaks s c k cmd
-        sp = let one = speaks s c k m there its in
-            subst (Speaks s c k) (let same : Some one.0 ≡ Some cmd = sym one.1.next
-            ∙ e in let is : one.0 ≡ cmd = cc in is)
-            one.1
+        sp = speaks_of s c k cmd m there its e
 
         by : (y : Option Reference) → reference_of cmd ≡ y → Knows s c (refer_or_take s p.cpu k y)
         by None i = take_knows s.owner
@@ -197,11 +195,7 @@ module _ (s : State) (c : ℕ) (o : Outcome) (m : IsMachine s) (there : c < leng
 
       -- a look that finds nothing to take takes nothing
       takes_nothing : CanTook s aim.Committing what.All [] []
-      takes_nothing = record {
-        pages = no_pages s k m.keeps idle what.All;
-        bound = λ f h. absurd (let none : false ≡ true = h in cc);
-        pairs_are = tt;
-      }
+      takes_nothing = takes_none s k m.keeps idle what.All
 
       look_knows : (a : act.Action) → LookFinds s k cmd a → Knows s c a
       look_knows (act.Answer r) h =

@@ -31,6 +31,7 @@ use Rattle.machine_model.proofs.OwnerLaws.{idle_names}
 use Rattle.machine_model.proofs.RuleKept.{AsksTake}
 use Rattle.machine_model.proofs.TakeLists.{pages_bound, pages_taken, trailers_taken}
 use Rattle.machine_model.proofs.TookKept.{ArePairs, CanTook, has_pair, is_pair}
+use Rattle.std.proofs.Math.Bool.{and-false}
 
 own : (n : ℕ) → eqb n n ≡ true
 own n = elim (eqb_tells n n) [ inl e ↦ e.0 | inr m ↦ absurd (m.1 refl) ]
@@ -45,6 +46,14 @@ module _ (s : State) (k : ℕ) (keeps : Keeps s) (idle : IsIdle s.owner) where
     others = idle_names (shown (seen s)) s.owner w keeps.book.going_owned idle.frames idle.cut;
     still = idle.waits;
     aimed = λ gs ds. tt;
+  }
+
+  -- a job that takes nothing may take it
+  pub takes_none : (w : What) → CanTook s aim.Committing w [] []
+  takes_none w = record {
+    pages = no_pages w;
+    bound = λ f h. absurd (let none : false ≡ true = h in cc);
+    pairs_are = tt;
   }
 
   -- a descriptor that is connected leads to a segment
@@ -88,12 +97,8 @@ module _ (s : State) (k : ℕ) (keeps : Keeps s) (idle : IsIdle s.owner) where
       other : is_pair k j (k, from) ≡ false
       other = elim (eqb_tells from j) [
         | inl e ↦ (let same = e.1 in absurd (omega (arith, same, less)))
-        | inr m ↦ ap (λ (b : Bool). eqb k k && b) m.0 ∙ off (eqb k k)
+        | inr m ↦ ap (λ (b : Bool). eqb k k && b) m.0 ∙ and-false (eqb k k)
       ]
-        where
-          off : (b : Bool) → (b && false) ≡ false
-          off true = refl
-          off false = refl
 
       by : (b : Bool) → has_pair (map (λ i. (k, i)) (filter (λ i. is_connected (descriptor_of s.store.links k i))
           (range_with_len (from + 1) n))) k j ≡ false
@@ -148,11 +153,7 @@ module _ (s : State) (k : ℕ) (keeps : Keeps s) (idle : IsIdle s.owner) where
     bound = λ f h. absurd (let none : false ≡ true = h in cc);
     pairs_are = all_taken 0 256;
   }
-  command_takes cmd = record {
-    pages = no_pages (what.Seg (uid_of_command s.store k cmd));
-    bound = λ f h. absurd (let none : false ≡ true = h in cc);
-    pairs_are = tt;
-  }
+  command_takes cmd = takes_none (what.Seg (uid_of_command s.store k cmd))
 
   -- A tree command may take what it must have out of use.
   pub take_asks : (c : ℕ) (o : Outcome) (cmd : Command) (w : What) (fs : List ℕ) (pairs : List (ℕ × ℕ))

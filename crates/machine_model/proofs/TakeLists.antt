@@ -149,7 +149,7 @@ pages_bound s u low k f h = let is = (listed_bound s u low k f h).1 in
 abbrev tally : Bool → ℕ
 tally b = cond b 1 0
 
-time_one : (o : Option ℕ) (place : ℕ) → 1 ≤ times o place → o ≡ Some place
+pub time_one : (o : Option ℕ) (place : ℕ) → 1 ≤ times o place → o ≡ Some place
 time_one None place h = absurd (omega (arith, h))
 time_one (Some x) place h = elim (eqb_tells x place) [
   | inl e ↦ ap (λ (y : ℕ). Some y) e.1

@@ -18,10 +18,8 @@ use Rattle.trailers.specs.Trailer.{leads_to as is_trailer, trailers_of}
 use Rattle.seg_control.specs.Control.{leads, leads_at, place_of, table_of}
 use Rattle.seg_control.specs.Kept.{read_at, times}
 use Rattle.custody_model.specs.Custody.{has, is_going_descriptor, is_going_frame, leads_to, page_of, uid_of_page}
-use Rattle.custody_model.specs.Next.{at_put_two}
 use Rattle.machine_model.specs.declared.Aim.{Aim}
 use Rattle.machine_model.specs.declared.Aim.TheVariants as aim
-use Rattle.machine_model.specs.Changes.{cut}
 use Rattle.machine_model.specs.Custodial.{KeepsBook, has_cut, names}
 use Rattle.machine_model.specs.Holding.{led_to, seen}
 use Rattle.machine_model.specs.Jobs.{cut_all, cut_one, deactivation_begun, leaving_if, note_of, segment_taken, take_all}
@@ -29,17 +27,15 @@ use Rattle.machine_model.specs.Jobs.{take_one, took}
 use Rattle.machine_model.specs.Keeps.{Keeps}
 use Rattle.machine_model.specs.Reads.{cut_of_owner, descriptor_of, frames_from, frames_in, frames_of_owner, here_in}
 use Rattle.machine_model.specs.Reads.{is_active, trailers_in}
-use Rattle.machine_model.specs.Seen.{Seen, bound_use, cut_uid, descriptor_use, frame_use, is_cut_at, shown}
+use Rattle.machine_model.specs.Seen.{bound_use, cut_uid, descriptor_use, frame_use, is_cut_at, shown}
 use Rattle.machine_model.specs.declared.CutDescriptor.{CutDescriptor}
 use Rattle.machine_model.specs.State.{State, Storage}
 use Rattle.machine_model.specs.Whole.{IsWhole, TakenWhole, aimed_at, going_for}
 use Rattle.machine_model.proofs.ActiveSeen.{active_place}
 use Rattle.machine_model.proofs.OwnedLaws.{IsIdle}
-use Rattle.machine_model.proofs.Places.{by_places}
 use Rattle.machine_model.proofs.TakeLists.{segment_takes}
-use Rattle.machine_model.proofs.TakeSeen.{cut_one_seen}
 use Rattle.machine_model.proofs.TieLaws.{none_some}
-use Rattle.machine_model.proofs.TookKept.{ArePairs, CanTook, has_pair, is_pair, note_is, pairs_kept, took_keeps}
+use Rattle.machine_model.proofs.TookKept.{ArePairs, CanTook, has_pair, is_pair, linked_before, pairs_left, took_keeps}
 use Rattle.machine_model.proofs.WholeLaws.{whole_idle}
 
 or_true : (a : Bool) → (a || true) ≡ true
@@ -177,7 +173,7 @@ pub cut_pages : (s : State) (c : ℕ) (a : Aim) (w : What) (xs : List (ℕ × �
 cut_pages s c a w [] = refl
 cut_pages s c a w (x ∷ xs) = cut_pages (cut_one s c a w x) c a w xs
 
-cut_frames : (s : State) (c : ℕ) (a : Aim) (w : What) (xs : List (ℕ × ℕ))
+pub cut_frames : (s : State) (c : ℕ) (a : Aim) (w : What) (xs : List (ℕ × ℕ))
     → frames_of_owner (cut_all s c a w xs).owner ≡ frames_of_owner s.owner
 cut_frames s c a w [] = refl
 cut_frames s c a w (x ∷ xs) = cut_frames (cut_one s c a w x) c a w xs
@@ -186,23 +182,21 @@ cut_frames s c a w (x ∷ xs) = cut_frames (cut_one s c a w x) c a w xs
 pub cut_linked : (s : State) (c : ℕ) (a : Aim) (w : What) (xs : List (ℕ × ℕ)) → ArePairs (seen s).linked w xs
     → (k n u : ℕ) → (seen (cut_all s c a w xs)).linked k n ≡ Some u → (seen s).linked k n ≡ Some u
 cut_linked s c a w [] are k n u h = h
-cut_linked s c a w (x ∷ xs) are k n u h = by_places (λ (o : Option ℕ). o ≡ Some u → (seen s).linked k n ≡ Some u)
-    (seen s).linked d.process d.number None k n (λ e i g. absurd (none_some g)) (λ m g. g)
-    (sym (ap (λ (v : Seen). v.linked k n) one)
-    ∙ cut_linked (cut_one s c a w x) c a w xs
-    (subst (λ (v : Seen). ArePairs v.linked w xs) (sym one)
-    (subst (λ (l : ℕ → ℕ → Option ℕ). ArePairs l w xs)
-    (λ i. at_put_two (seen s).linked (sym note.0 i) (sym note.1 i) None)
-    (pairs_kept (seen s).linked w x.0 x.1 xs are.1 are.2))) k n u h)
-  where
-    d : CutDescriptor
-    d = note_of s.store x.0 x.1 (descriptor_of s.store.links x.0 x.1)
+cut_linked s c a w (x ∷ xs) are k n u h = linked_before s c a w x are.0.0 are.0.1 k n u
+    (cut_linked (cut_one s c a w x) c a w xs (pairs_left s c a w x xs are) k n u h)
 
-    note : (d.process ≡ x.0) × (d.number ≡ x.1) × (d.uid ≡ are.0.0)
-    note = note_is s x.0 x.1 are.0.0 (descriptor_of s.store.links x.0 x.1) are.0.1
+-- so it is once pages and descriptors are taken
+pub take_linked : (s : State) (c : ℕ) (a : Aim) (w : What) (fs : List ℕ)
+    → (seen (take_all s c a w fs)).linked ≡ (seen s).linked
+take_linked s c a w fs = let rest = take_rest s c a w fs in
+    λ i j n. led_to (rest.2 i) (descriptor_of (rest.1 i) j n)
 
-    one : seen (cut_one s c a w x) ≡ cut (seen s) c a w d
-    one = cut_one_seen s c a w x are.0.0 are.0.1
+pub took_linked : (s : State) (c : ℕ) (a : Aim) (w : What) (fs : List ℕ) (xs : List (ℕ × ℕ))
+    → ArePairs (seen s).linked w xs → (k n u : ℕ) → (seen (took s c a w fs xs)).linked k n ≡ Some u
+    → (seen s).linked k n ≡ Some u
+took_linked s c a w fs xs are k n u h = let mid = sym (take_linked s c a w fs) in
+    ap (λ (l : ℕ → ℕ → Option ℕ). l k n) mid ∙ cut_linked (take_all s c a w fs) c a w xs
+    (subst (λ (l : ℕ → ℕ → Option ℕ). ArePairs l w xs) mid are) k n u h
 
 -- ---- it is taken whole
 
@@ -243,12 +237,6 @@ took_whole s c u k idle active unread = record { pages = pages; descriptors = de
     book : KeepsBook (seen now)
     book = (took_keeps s c a w fs xs k.store.kept.places k.book can).book
 
-    first : RestIs s mid
-    first = take_rest s c a w fs
-
-    mid_linked : (seen mid).linked ≡ (seen s).linked
-    mid_linked = λ i j n. led_to (first.2 i) (descriptor_of (first.1 i) j n)
-
     frame_here : (f p : ℕ) (y : Ptw) → (seen s).bound f ≡ Some (u, p) → (seen s).words u p ≡ y → names y ≡ Some f
         → has fs f ≡ true
     frame_here f p ptw.Null b e h = absurd (none_some h)
@@ -266,7 +254,7 @@ took_whole s c u k idle active unread = record { pages = pages; descriptors = de
         ∙ take_has s c a w fs f (inr (by ((seen s).bound f) ((seen s).reads f) refl refl
         (subst (λ (p : Plain). uid_of_page (page_of (frame_use (seen now).words (binding_at (bindings p.core) f)
         (read_at (reads_of p.core) f))) ≡ Some u)
-        (cut_pages mid c a w xs ∙ first.0) h))))
+        (cut_pages mid c a w xs ∙ (take_rest s c a w fs).0) h))))
       where
         by : (x y : Option (ℕ × ℕ)) → (seen s).bound f ≡ x → (seen s).reads f ≡ y
             → uid_of_page (page_of (frame_use (seen now).words x y)) ≡ Some u → has fs f ≡ true
@@ -288,9 +276,7 @@ took_whole s c u k idle active unread = record { pages = pages; descriptors = de
         by None None e d g = absurd (none_some g)
         by None (Some v) e d g = λ i. is_going_descriptor (descriptor_use (e i) (d i))
         by (Some v) y e d g = book.going_owned.cuts j n ∙ cut_has mid c a w xs j n (inr (trailer_listed s u j n k active
-            (ap (λ (l : ℕ → ℕ → Option ℕ). l j n) (sym mid_linked)
-            ∙ cut_linked mid c a w xs (subst (λ (l : ℕ → ℕ → Option ℕ). ArePairs l w xs) (sym mid_linked) can.pairs_are)
-            j n u (e ∙ ap (λ (x : ℕ). Some x) (one_of v u g)))))
+            (took_linked s c a w fs xs can.pairs_are j n u (e ∙ ap (λ (x : ℕ). Some x) (one_of v u g)))))
 
 -- where there is nothing to take, a segment is whole already
 pub nothing_whole : (s : State) (c u : ℕ) → Keeps s → IsIdle s.owner → is_active s.store.ast u ≡ true

@@ -143,26 +143,25 @@ module _ (bound reads : ℕ → Option (ℕ × ℕ)) (words : ℕ → ℕ → Pt
       → frame_use words (bound f) (reads f) ≡ bound_use (u, p) w
   use_bound w is word = ap (λ (o : Option (ℕ × ℕ)). frame_use words o (reads f)) is ∙ ap (bound_use (u, p)) word
 
-  -- every other frame is used as before where the word of the page in a frame changes
-  pub other_use : (w : Ptw) → names (words u p) ≡ Some f → (g : ℕ) → g ≢ f
+  -- a frame is used as before where the word of a page changes that isn't the frame's
+  use_elsewhere : (w : Ptw) (g : ℕ) → ((v q : ℕ) → bound g ≡ Some (v, q) → v ≡ u → q ≡ p → ⊥)
       → frame_use (at_put_two words u p w) (bound g) (reads g) ≡ frame_use words (bound g) (reads g)
-  other_use w was g n = by (bound g) refl
+  use_elsewhere w g apart = by (bound g) refl
     where
       by : (x : Option (ℕ × ℕ)) → bound g ≡ x
           → frame_use (at_put_two words u p w) x (reads g) ≡ frame_use words x (reads g)
       by None e = refl
       by (Some page) e = by_places (λ (x : Ptw). bound_use page x
           ≡ bound_use page (words page.0 page.1)) words u p w page.0 page.1
-          (λ i j. absurd (n (let its = t.named g page.0 page.1 e in cc))) (λ m. refl)
+          (λ i j. absurd (apart page.0 page.1 e i j)) (λ m. refl)
+
+  -- every other frame is used as before where the word of the page in a frame changes
+  pub other_use : (w : Ptw) → names (words u p) ≡ Some f → (g : ℕ) → g ≢ f
+      → frame_use (at_put_two words u p w) (bound g) (reads g) ≡ frame_use words (bound g) (reads g)
+  other_use w was g n = use_elsewhere w g (λ v q e i j. n (let its = t.named g v q e in cc))
 
   -- the same where a page comes into a frame
   pub other_use_here : (w : Ptw) → names (words u p) ≡ None → (g : ℕ)
       → frame_use (at_put_two words u p w) (bound g) (reads g) ≡ frame_use words (bound g) (reads g)
-  other_use_here w none g = by (bound g) refl
-    where
-      by : (x : Option (ℕ × ℕ)) → bound g ≡ x
-          → frame_use (at_put_two words u p w) x (reads g) ≡ frame_use words x (reads g)
-      by None e = refl
-      by (Some page) e = by_places (λ (x : Ptw). bound_use page x
-          ≡ bound_use page (words page.0 page.1)) words u p w page.0 page.1
-          (λ i j. absurd (not_there g (let its = t.named g page.0 page.1 e in let is = none in cc))) (λ m. refl)
+  other_use_here w none g = use_elsewhere w g (λ v q e i j. not_there g
+      (let its = t.named g v q e in let is = none in cc))

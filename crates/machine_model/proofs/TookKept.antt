@@ -12,7 +12,7 @@ use Rattle.custody_model.specs.Allowed.{NamesAllGoing}
 use Rattle.custody_model.specs.Custody.{has}
 use Rattle.custody_model.specs.Next.{at_put_two}
 use Rattle.machine_model.specs.declared.Aim.{Aim}
-use Rattle.machine_model.specs.Changes.{cut, taken}
+use Rattle.machine_model.specs.Changes.{taken}
 use Rattle.machine_model.specs.Chains.{page_at, takes}
 use Rattle.machine_model.specs.Custodial.{IsAimed, KeepsBook, waits_for}
 use Rattle.machine_model.specs.Holding.{led_to, seen}
@@ -25,7 +25,7 @@ use Rattle.machine_model.specs.declared.CutDescriptor.{CutDescriptor}
 use Rattle.machine_model.specs.State.{Owner, State}
 use Rattle.machine_model.proofs.ChainLaws.{CanTakeAll, HasTaken, names_linked, names_uid, takes_keep}
 use Rattle.machine_model.proofs.DescriptorLaws.{cut_keeps}
-use Rattle.machine_model.proofs.KeepLaws.{faults_push}
+use Rattle.machine_model.proofs.KeepLaws.{quiet_push}
 use Rattle.machine_model.proofs.Places.{by_places}
 use Rattle.machine_model.proofs.TakeSeen.{HasTables, cut_one_seen, take_all_seen}
 use Rattle.machine_model.proofs.TieLaws.{none_some}
@@ -81,6 +81,36 @@ pub note_is : (s : State) (k n u : ℕ) (x : Sdw) → led_to s.store.ast.entries
 note_is s k n u sdw.Fault h = absurd (none_some h)
 note_is s k n u (sdw.Present aste m pages) h = (refl, refl, ap or_zero h)
 
+-- the descriptor that is remembered where a pair is cut
+abbrev pub noted : State → ℕ × ℕ → CutDescriptor
+noted s x = note_of s.store x.0 x.1 (descriptor_of s.store.links x.0 x.1)
+
+note_of_pair : (s : State) (x : ℕ × ℕ) (u : ℕ) → (seen s).linked x.0 x.1 ≡ Some u
+    → ((noted s x).process ≡ x.0) × ((noted s x).number ≡ x.1) × ((noted s x).uid ≡ u)
+note_of_pair s x u led = note_is s x.0 x.1 u (descriptor_of s.store.links x.0 x.1) led
+
+-- it stands for the segment that the pair stands for
+pub noted_has : (f : ℕ → ℕ → Option ℕ) (s : State) (x : ℕ × ℕ) (u : ℕ) → (seen s).linked x.0 x.1 ≡ Some u
+    → f x.0 x.1 ≡ Some u → f (noted s x).process (noted s x).number ≡ Some (noted s x).uid
+noted_has f s x u led h = let note = note_of_pair s x u led in
+    (λ i. f (note.0 i) (note.1 i)) ∙ (h ∙ ap (λ (v : ℕ). Some v) (sym note.2))
+
+-- once a pair is cut, a descriptor that still leads to a segment led there before
+pub linked_before : (s : State) (c : ℕ) (a : Aim) (w : What) (x : ℕ × ℕ) (u : ℕ) → (seen s).linked x.0 x.1 ≡ Some u
+    → (k n v : ℕ) → (seen (cut_one s c a w x)).linked k n ≡ Some v → (seen s).linked k n ≡ Some v
+linked_before s c a w x u led k n v h = by_places (λ (o : Option ℕ). o ≡ Some v → (seen s).linked k n ≡ Some v)
+    (seen s).linked (noted s x).process (noted s x).number None k n (λ e i g. absurd (none_some g)) (λ m g. g)
+    (sym (ap (λ (y : Seen). y.linked k n) (cut_one_seen s c a w x u led)) ∙ h)
+
+-- and the pairs after it lead where they led
+pub pairs_left : (s : State) (c : ℕ) (a : Aim) (w : What) (x : ℕ × ℕ) (xs : List (ℕ × ℕ))
+    → ArePairs (seen s).linked w (x ∷ xs) → ArePairs (seen (cut_one s c a w x)).linked w xs
+pairs_left s c a w x xs are = let note = note_of_pair s x are.0.0 are.0.1 in
+    subst (λ (v : Seen). ArePairs v.linked w xs) (sym (cut_one_seen s c a w x are.0.0 are.0.1))
+    (subst (λ (l : ℕ → ℕ → Option ℕ). ArePairs l w xs)
+    (λ i. at_put_two (seen s).linked (sym note.0 i) (sym note.1 i) None)
+    (pairs_kept (seen s).linked w x.0 x.1 xs are.1 are.2))
+
 -- descriptors are cut one after the other
 pub cut_all_keeps : (s : State) (c : ℕ) (a : Aim) (w : What) (pairs : List (ℕ × ℕ)) → KeepsBook (seen s)
     → NamesAllGoing (shown (seen s)) w
@@ -90,33 +120,21 @@ pub cut_all_keeps : (s : State) (c : ℕ) (a : Aim) (w : What) (pairs : List (�
 cut_all_keeps s c a w [] k others still aimed are = record { book = k; others = others; still = still }
 cut_all_keeps s c a w (x ∷ xs) k others still aimed are =
     cut_all_keeps (cut_one s c a w x) c a w xs book (book.going_owned.says w refl).1 refl aimed
-    (subst (λ (v : Seen). ArePairs v.linked w xs) (sym one)
-    (subst (λ (l : ℕ → ℕ → Option ℕ). ArePairs l w xs)
-    (λ i. at_put_two (seen s).linked (sym note.0 i) (sym note.1 i) None)
-    (pairs_kept (seen s).linked w x.0 x.1 xs are.1 are.2)))
+    (pairs_left s c a w x xs are)
   where
-    u : ℕ
-    u = are.0.0
-
     d : CutDescriptor
-    d = note_of s.store x.0 x.1 (descriptor_of s.store.links x.0 x.1)
-
-    note : (d.process ≡ x.0) × (d.number ≡ x.1) × (d.uid ≡ u)
-    note = note_is s x.0 x.1 u (descriptor_of s.store.links x.0 x.1) are.0.1
-
-    one : seen (cut_one s c a w x) ≡ cut (seen s) c a w d
-    one = cut_one_seen s c a w x u are.0.1
+    d = noted s x
 
     linked : (seen s).linked d.process d.number ≡ Some d.uid
-    linked = ap (λ (j : ℕ). (seen s).linked j d.number) note.0 ∙ (ap (λ (j : ℕ). (seen s).linked x.0 j) note.1
-        ∙ (are.0.1 ∙ ap (λ (j : ℕ). Some j) (sym note.2)))
+    linked = noted_has (seen s).linked s x are.0.0 are.0.1 are.0.1
 
     book : KeepsBook (seen (cut_one s c a w x))
-    book = subst KeepsBook (sym one) (cut_keeps (seen s) c a w d k (record {
+    book = subst KeepsBook (sym (cut_one_seen s c a w x are.0.0 are.0.1)) (cut_keeps (seen s) c a w d k (record {
       linked = linked;
       still = still;
       others = others;
-      this = names_linked (seen s) w d.process d.number d.uid linked ∙ (ap (names_uid w) note.2 ∙ are.0.2);
+      this = names_linked (seen s) w d.process d.number d.uid linked
+          ∙ (ap (names_uid w) (note_of_pair s x are.0.0 are.0.1).2 ∙ are.0.2);
       aimed = aimed (frames_of_owner s.owner) (cut_of_owner s.owner ++ d ∷ []);
     }))
 
@@ -154,29 +172,24 @@ record IsRest (s now : State) : Type 0 where
   pub faults : now.faults ≡ s.faults
   pub count : count_by is_fault now.entries ≡ count_by is_fault s.entries
 
+rest_by : {s now : State} → now.processors ≡ s.processors → now.runs ≡ s.runs → now.plan ≡ s.plan
+    → now.faults ≡ s.faults → count_by is_fault now.entries ≡ count_by is_fault s.entries → IsRest s now
+rest_by processors runs plan faults count =
+    record { processors = processors; runs = runs; plan = plan; faults = faults; count = count }
+
+rest_on : {s t u : State} → IsRest s t → IsRest t u → IsRest s u
+rest_on one two = rest_by (two.processors ∙ one.processors) (two.runs ∙ one.runs) (two.plan ∙ one.plan)
+    (two.faults ∙ one.faults) (two.count ∙ one.count)
+
 take_rest : (s : State) (c : ℕ) (a : Aim) (w : What) (fs : List ℕ) → IsRest s (take_all s c a w fs)
-take_rest s c a w [] = record { processors = refl; runs = refl; plan = refl; faults = refl; count = refl }
-take_rest s c a w (f ∷ fs) = let rest = take_rest (take_one s c a w f) c a w fs in record {
-  processors = rest.processors;
-  runs = rest.runs;
-  plan = rest.plan;
-  faults = rest.faults;
-  count = rest.count ∙ (let one = faults_push s.entries (entry.Take f) in
-      let none : count_by is_fault (s.entries ++ entry.Take f ∷ []) ≡ count_by is_fault s.entries =
-      omega (arith, one) in none);
-}
+take_rest s c a w [] = rest_by refl refl refl refl refl
+take_rest s c a w (f ∷ fs) = rest_on (rest_by refl refl refl refl (quiet_push s.entries (entry.Take f) refl))
+    (take_rest (take_one s c a w f) c a w fs)
 
 cut_rest : (s : State) (c : ℕ) (a : Aim) (w : What) (pairs : List (ℕ × ℕ)) → IsRest s (cut_all s c a w pairs)
-cut_rest s c a w [] = record { processors = refl; runs = refl; plan = refl; faults = refl; count = refl }
-cut_rest s c a w (x ∷ xs) = let rest = cut_rest (cut_one s c a w x) c a w xs in record {
-  processors = rest.processors;
-  runs = rest.runs;
-  plan = rest.plan;
-  faults = rest.faults;
-  count = rest.count ∙ (let one = faults_push s.entries (entry.Cut x.0 x.1) in
-      let none : count_by is_fault (s.entries ++ entry.Cut x.0 x.1 ∷ []) ≡ count_by is_fault s.entries =
-      omega (arith, one) in none);
-}
+cut_rest s c a w [] = rest_by refl refl refl refl refl
+cut_rest s c a w (x ∷ xs) = rest_on (rest_by refl refl refl refl (quiet_push s.entries (entry.Cut x.0 x.1) refl))
+    (cut_rest (cut_one s c a w x) c a w xs)
 
 -- the owner is this processor
 abbrev pub Owns : State → ℕ → Type 0
@@ -198,19 +211,12 @@ pub took_kept : (s : State) (c : ℕ) (a : Aim) (w : What) (fs : List ℕ) (pair
     → IsAtWork (processor_at s.processors c) → StoreSays (took s c a w fs pairs) → Keeps (took s c a w fs pairs)
 took_kept s c a w fs pairs k can own works says = kept_with (took s c a w fs pairs)
     (took_keeps s c a w fs pairs k.store.kept.places k.book can).book says
-    (let one = first.count in let two = second.count in let f = first.faults in let g = second.faults in
-    let few = k.few_faults in omega (arith, one, two, f, g, few))
-    (ap length (second.processors ∙ first.processors)
-    ∙ (k.sizes.processors ∙ ap (λ (p : Plan). p.processors) (sym (second.plan ∙ first.plan))))
-    (ap length (second.runs ∙ first.runs) ∙ (k.sizes.processes
-    ∙ ap (λ (p : Plan). length p.processes) (sym (second.plan ∙ first.plan))))
-    (λ o h. subst (λ (ps : List Processor). IsAtWork (processor_at ps o.cpu))
-    (sym (second.processors ∙ first.processors))
+    (let count = rest.count in let faults = rest.faults in let few = k.few_faults in omega (arith, count, faults, few))
+    (ap length rest.processors ∙ (k.sizes.processors ∙ ap (λ (p : Plan). p.processors) (sym rest.plan)))
+    (ap length rest.runs ∙ (k.sizes.processes ∙ ap (λ (p : Plan). length p.processes) (sym rest.plan)))
+    (λ o h. subst (λ (ps : List Processor). IsAtWork (processor_at ps o.cpu)) (sym rest.processors)
     (subst (λ (d : ℕ). IsAtWork (processor_at s.processors d))
     (sym (cut_owns (take_all s c a w fs) c a w pairs (take_owns s c a w fs own) o h)) works))
   where
-    first : IsRest s (take_all s c a w fs)
-    first = take_rest s c a w fs
-
-    second : IsRest (take_all s c a w fs) (took s c a w fs pairs)
-    second = cut_rest (take_all s c a w fs) c a w pairs
+    rest : IsRest s (took s c a w fs pairs)
+    rest = rest_on (take_rest s c a w fs) (cut_rest (take_all s c a w fs) c a w pairs)

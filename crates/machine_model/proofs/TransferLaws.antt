@@ -195,9 +195,7 @@ free_is v f a b = ap (λ (o : Option (ℕ × ℕ)). frame_use v.words o (v.reads
 
 pub start_keeps : (v : Seen) (c : ℕ) (t : Transfer) → KeepsBook v → CanStart v c t → KeepsBook (started v c t)
 unfolding IsLawful after_entry custody_next
-start_keeps v c t k can = book_next v (entry.Start t.frame t.uid t.page) (started v c t) k (record {
-  plan = refl;
-  entries = refl;
+start_keeps v c t k can = book_next v (entry.Start t.frame t.uid t.page) (started v c t) refl refl k (record {
   lawful = tt;
   allowed = record {
     there = can.inside;
@@ -253,9 +251,7 @@ module _ (v : Seen) (c : ℕ) (t : Transfer) (k : KeepsBook v) (mine : (v.proces
   -- the reading failed
   pub lose_keeps : KeepsBook (lost v c t)
   unfolding IsLawful after_entry custody_next
-  lose_keeps = book_next v (entry.Lose t.frame) (lost v c t) k (record {
-    plan = refl;
-    entries = refl;
+  lose_keeps = book_next v (entry.Lose t.frame) (lost v c t) refl refl k (record {
     lawful = tt;
     allowed = ap is_started started_is;
     online = tt;
@@ -279,9 +275,7 @@ module _ (v : Seen) (c : ℕ) (t : Transfer) (k : KeepsBook v) (mine : (v.proces
   -- the page is in the frame
   pub end_keeps : v.active t.uid ≡ true → KeepsBook (brought v c t)
   unfolding IsLawful after_entry custody_next
-  end_keeps active = book_next v (entry.Here t.frame t.uid t.page) (brought v c t) k (record {
-    plan = refl;
-    entries = refl;
+  end_keeps active = book_next v (entry.Here t.frame t.uid t.page) (brought v c t) refl refl k (record {
     lawful = tt;
     allowed = inl (record { started = started_is; active = active });
     online = tt;
@@ -319,9 +313,7 @@ pub record CanMake (v : Seen) (f u p : ℕ) : Type 0 where
 
 pub here_keeps : (v : Seen) (f u p : ℕ) → KeepsBook v → CanMake v f u p → KeepsBook (here v f u p)
 unfolding IsLawful after_entry custody_next
-here_keeps v f u p k can = book_next v (entry.Here f u p) (here v f u p) k (record {
-  plan = refl;
-  entries = refl;
+here_keeps v f u p k can = book_next v (entry.Here f u p) (here v f u p) refl refl k (record {
   lawful = tt;
   allowed = inr (record {
     there = can.inside;

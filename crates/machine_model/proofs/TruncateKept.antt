@@ -39,6 +39,10 @@ use Rattle.machine_model.proofs.OwnerLaws.{job_over}
 use Rattle.machine_model.proofs.TellKept.{CanTell, told_keeps}
 use Rattle.machine_model.proofs.TieLaws.{none_some, not_there}
 use Rattle.machine_model.proofs.TransferKept.{kept_with}
+use Rattle.machine_model.proofs.ChainLaws.{LeavesRest}
+use Rattle.std.proofs.lemmas.List.{append-nil, append_assoc}
+use Rattle.machine_model.proofs.KeepLaws.{quiet_push}
+use Rattle.machine_model.proofs.ChainLaws.{goes_with}
 
 -- ---- words that custody doesn't see
 
@@ -112,15 +116,7 @@ leaf_keeps v f fs ds true k on = record {
 leaf_keeps v f fs ds false k on = let back = back_on v f fs ds on in record {
   book = gone_keeps v f (page_at v f).0 (page_at v f).1 (without_frame v.owner) k
       (first_finish v f fs ds k on) ptw.Null refl;
-  on = record {
-    frames = back.frames;
-    cut = back.cut;
-    none = back.none;
-    still = back.still;
-    quiet = back.quiet;
-    steady
-        = back.steady;
-  };
+  on = goes_with refl back.none back;
 }
 
 pub leaves_keep : (v : Seen) (test : ℕ → Bool) (fs : List ℕ) (ds : List CutDescriptor) → KeepsBook v → GoesOn v fs ds
@@ -137,86 +133,37 @@ leaf_entries : (v : Seen) (f : ℕ) (b : Bool)
 leaf_entries v f true = refl
 leaf_entries v f false = refl
 
-append_assoc : (xs ys zs : List Entry) → (xs ++ ys) ++ zs ≡ xs ++ (ys ++ zs)
-append_assoc [] ys zs = refl
-append_assoc (x ∷ xs) ys zs = ap (λ (t : List Entry). x ∷ t) (append_assoc xs ys zs)
-
-append_nil : (es : List Entry) → es ++ [] ≡ es
-append_nil [] = refl
-append_nil (e ∷ es) = ap (λ (t : List Entry). e ∷ t) (append_nil es)
-
 leaves_entries : (v : Seen) (test : ℕ → Bool) (fs : List ℕ)
     → (leaves v test fs).entries ≡ v.entries ++ map (leaf_entry test) fs
-leaves_entries v test [] = sym (append_nil v.entries)
+leaves_entries v test [] = sym (append-nil v.entries)
 leaves_entries v test (f ∷ fs) = leaves_entries (leaf v f (test f)) test fs
     ∙ (ap (λ (es : List Entry). es ++ map (leaf_entry test) fs) (leaf_entries v f (test f))
     ∙ append_assoc v.entries (leaf_entry test f ∷ []) (map (leaf_entry test) fs))
 
 leaf_faults : (es : List Entry) (f : ℕ) (b : Bool)
     → count_by is_fault (es ++ (if b then entry.BackPage f else entry.GonePage f) ∷ []) ≡ count_by is_fault es
-leaf_faults es f true = let one = faults_push es (entry.BackPage f) in omega (arith, one)
-leaf_faults es f false = let one = faults_push es (entry.GonePage f) in omega (arith, one)
+leaf_faults es f true = quiet_push es (entry.BackPage f) refl
+leaf_faults es f false = quiet_push es (entry.GonePage f) refl
 
 leaves_faults : (es : List Entry) (test : ℕ → Bool) (fs : List ℕ)
     → count_by is_fault (es ++ map (leaf_entry test) fs) ≡ count_by is_fault es
-leaves_faults es test [] = ap (count_by is_fault) (append_nil es)
+leaves_faults es test [] = ap (count_by is_fault) (append-nil es)
 leaves_faults es test (f ∷ fs) = ap (count_by is_fault)
     (sym (append_assoc es (leaf_entry test f ∷ []) (map (leaf_entry test) fs)))
     ∙ (leaves_faults (es ++ leaf_entry test f ∷ []) test fs ∙ leaf_faults es f (test f))
 
--- what pages that leave their frames or are back don't change
-record IsAlike (v now : Seen) : Type 0 where
-  pub plan : now.plan ≡ v.plan
-  pub reads : now.reads ≡ v.reads
-  pub active : now.active ≡ v.active
-  pub linked : now.linked ≡ v.linked
-  pub ready : now.ready ≡ v.ready
-  pub processors : now.processors ≡ v.processors
-  pub runs : now.runs ≡ v.runs
+leaf_leaves : (v : Seen) (f : ℕ) (b : Bool) → LeavesRest v (leaf v f b)
+leaf_leaves v f true = refl
+leaf_leaves v f false = refl
 
-leaf_alike : (v : Seen) (f : ℕ) (b : Bool) → IsAlike v (leaf v f b)
-leaf_alike v f true = record {
-  plan = refl;
-  reads = refl;
-  active = refl;
-  linked = refl;
-  ready = refl;
-  processors =
-      refl;
-  runs = refl;
-}
-leaf_alike v f false = record {
-  plan = refl;
-  reads = refl;
-  active = refl;
-  linked = refl;
-  ready = refl;
-  processors =
-      refl;
-  runs = refl;
-}
-
-leaves_alike : (v : Seen) (test : ℕ → Bool) (fs : List ℕ) → IsAlike v (leaves v test fs)
-leaves_alike v test [] = record {
-  plan = refl;
-  reads = refl;
-  active = refl;
-  linked = refl;
-  ready = refl;
-  processors =
-      refl;
-  runs = refl;
-}
-leaves_alike v test (f ∷ fs) = let one = leaf_alike v f (test f) in let rest =
-    leaves_alike (leaf v f (test f)) test fs in record {
-      plan = rest.plan ∙ one.plan;
-      reads = rest.reads ∙ one.reads;
-      active = rest.active ∙ one.active;
-      linked = rest.linked ∙ one.linked;
-      ready = rest.ready ∙ one.ready;
-      processors = rest.processors ∙ one.processors;
-      runs = rest.runs ∙ one.runs;
-    }
+leaves_rest : (v : Seen) (test : ℕ → Bool) (fs : List ℕ) → LeavesRest v (leaves v test fs)
+leaves_rest v test [] = refl
+leaves_rest v test (f ∷ fs) = leaves_rest (leaf v f (test f)) test fs ∙ (λ i. record (leaf_leaves v f (test f) i) {
+  entries = (leaves v test (f ∷ fs)).entries;
+  bound = (leaves v test (f ∷ fs)).bound;
+  words = (leaves v test (f ∷ fs)).words;
+  owner = (leaves v test (f ∷ fs)).owner;
+})
 
 -- ---- the command
 
@@ -263,8 +210,8 @@ module _ (s : State) (c k : ℕ) (path : Path) (size : ℕ) where
     pub says : StoreSays (committed s c k (command.Truncate path size))
 
   module _ (keeps : Keeps s) (can : CanTruncate) where
-    one : IsAlike (seen s) all_left
-    one = leaves_alike (seen s) (stays s.store size) fs
+    rest : LeavesRest (seen s) all_left
+    rest = leaves_rest (seen s) (stays s.store size) fs
 
     cut_book : KeepsBook (record all_left { words = λ w q. word_of cut_store.ast w q })
     cut_book = quiet_keeps all_left (λ w q. word_of cut_store.ast w q) can.done.book can.words
@@ -277,25 +224,25 @@ module _ (s : State) (c k : ℕ) (path : Path) (size : ℕ) where
     entries_are : s.entries ++ gone_entries s segment (command.Truncate path size) ≡ all_left.entries
     entries_are = ap (λ (ds : List CutDescriptor). s.entries ++
         (map (leaf_entry (stays s.store size)) fs ++ (map cut_entry ds ++ []))) can.cut
-        ∙ (ap (λ (es : List Entry). s.entries ++ es) (append_nil (map (leaf_entry (stays s.store size)) fs))
+        ∙ (ap (λ (es : List Entry). s.entries ++ es) (append-nil (map (leaf_entry (stays s.store size)) fs))
         ∙ sym (leaves_entries (seen s) (stays s.store size) fs))
 
     truncated_seen : seen (with_owner (effected s k (command.Truncate path size)) None)
         ≡ record all_left { words = λ w q. word_of cut_store.ast w q; owner = None }
     truncated_seen = λ i. record {
-      plan = sym one.plan i;
+      plan = (sym rest i).plan;
       entries = entries_are i;
       bound = λ g. can.bound g i;
-      reads = λ g. (can.reads g ∙ ap (λ (x : ℕ → Option (ℕ × ℕ)). x g) (sym one.reads)) i;
+      reads = λ g. (can.reads g ∙ ap (λ (x : Seen). x.reads g) (sym rest)) i;
       words = λ w q. word_of cut_store.ast w q;
       active = λ u. (ap (λ (es : List (Option Segment)). list_any (is_for u) es) can.places
-          ∙ ap (λ (x : ℕ → Bool). x u) (sym one.active)) i;
+          ∙ ap (λ (x : Seen). x.active u) (sym rest)) i;
       linked = λ j n. ((λ t. led_to (can.places t) (descriptor_of (can.links t) j n))
-          ∙ ap (λ (x : ℕ → ℕ → Option ℕ). x j n) (sym one.linked)) i;
-      ready = sym one.ready i;
-      processors = sym one.processors i;
+          ∙ ap (λ (x : Seen). x.linked j n) (sym rest)) i;
+      ready = (sym rest i).ready;
+      processors = (sym rest i).processors;
       owner = None;
-      runs = sym one.runs i;
+      runs = (sym rest i).runs;
     }
 
     pub truncate_kept : Keeps (committed s c k (command.Truncate path size))

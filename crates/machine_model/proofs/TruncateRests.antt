@@ -13,7 +13,6 @@ use Rattle.mnames.specs.declared.paths.Path.{Path}
 use Rattle.script.specs.declared.commands.Command.TheVariants as command
 use Rattle.book.specs.declared.replies.Reply.{Reply}
 use Rattle.tree_model.specs.Tree.{Node}
-use Rattle.core_map.specs.declared.Frame.{Frame}
 use Rattle.core_map.specs.declared.Frame.TheVariants as frame
 use Rattle.core_map.specs.CoreMap.{after_reference, bound_page, started_page}
 use Rattle.page_table.specs.declared.Ptw.{Ptw}
@@ -52,12 +51,16 @@ use Rattle.machine_model.proofs.PagesCut.{pages_cut_off, read_in, word_in}
 use Rattle.machine_model.proofs.PageShown.{bound_word}
 use Rattle.machine_model.proofs.Places.{by_place, by_places}
 use Rattle.machine_model.proofs.QuotaTotals.{only_found}
-use Rattle.machine_model.proofs.SeenLaws.{bound_put, reads_put}
 use Rattle.machine_model.proofs.TakeSeen.{binding_is, words_put}
 use Rattle.machine_model.proofs.TieLaws.{none_some, page_is}
 use Rattle.machine_model.proofs.TruncateKept.{QuietWords, all_left, cut_store, leaf, leaves, segment}
 use Rattle.machine_model.proofs.TransferKept.{active_at}
 use Rattle.machine_model.proofs.WordLaws.{word_within}
+use Rattle.machine_model.proofs.ActiveKept.{bound_after, started_after}
+use Rattle.std.proofs.Math.Bool.{and-false}
+use Rattle.machine_model.proofs.JobKept.{set_same}
+use Rattle.page_control.specs.Plain.{binding_at}
+use Rattle.seg_control.specs.Kept.{read_at}
 
 no_and : {b : Bool} → b ≡ true → b ≡ false → ⊥
 no_and t f = let none : true ≡ false = sym t ∙ f in cc
@@ -90,17 +93,6 @@ has_range from (suc n) q h = by (eqb_tells from q) (λ a. has_range (from + 1) n
 
 -- ---- the page that the words cut
 
--- a reference leaves the page of a frame
-bound_after : (x : Frame) (wrote : Bool) → bound_page (after_reference x wrote) ≡ bound_page x
-bound_after frame.Free wrote = refl
-bound_after (frame.Started u p) wrote = refl
-bound_after (frame.Bound u p used modified) wrote = refl
-
-started_after : (x : Frame) (wrote : Bool) → started_page (after_reference x wrote) ≡ started_page x
-started_after frame.Free wrote = refl
-started_after (frame.Started u p) wrote = refl
-started_after (frame.Bound u p used modified) wrote = refl
-
 -- what cutting one page changes: its word, and its frame where it is all zeros then
 record IsBegun (st now : Storage) (u p : ℕ) : Type 0 where
   words : (v q : ℕ) → (v ≡ u → q ≡ p → ⊥) → word_in now v q ≡ word_in st v q
@@ -131,18 +123,12 @@ module _ (st : Storage) (u p at f : ℕ) (h : HasPlaces st) (leaving : word_in s
   within = h.within u p f leaving
 
   bound_same : (g : ℕ) → bound_in now g ≡ bound_in st g
-  bound_same g = bound_put st.pages.core f (after_reference (frame_in st.pages f) true) within g
-      ∙ by_place (λ (x : Option (ℕ × ℕ)). x ≡ bound_in st g) (λ i. bound_in st i) f
-      (bound_page (after_reference (frame_in st.pages f) true)) g
-      (λ e. bound_after (frame_in st.pages f) true
-      ∙ (sym (map_list bound_page st.pages.core.frames f frame.Free) ∙ ap (bound_in st) (sym e))) (λ n. refl)
+  bound_same g = λ i. binding_at (set_same bound_page st.pages.core.frames f
+      (after_reference (frame_in st.pages f) true) (bound_after (frame_in st.pages f) true) i) g
 
   reads_same : (g : ℕ) → read_in now g ≡ read_in st g
-  reads_same g = reads_put st.pages.core f (after_reference (frame_in st.pages f) true) within g
-      ∙ by_place (λ (x : Option (ℕ × ℕ)). x ≡ read_in st g) (λ i. read_in st i) f
-      (started_page (after_reference (frame_in st.pages f) true)) g
-      (λ e. started_after (frame_in st.pages f) true
-      ∙ (sym (map_list started_page st.pages.core.frames f frame.Free) ∙ ap (read_in st) (sym e))) (λ n. refl)
+  reads_same g = λ i. read_at (set_same started_page st.pages.core.frames f
+      (after_reference (frame_in st.pages f) true) (started_after (frame_in st.pages f) true) i) g
 
   places_now : HasPlaces now
   places_now = record {
@@ -847,12 +833,8 @@ module _ (s : State) (c : ℕ) (path : Path) (size : ℕ) (keeps : Keeps s)
           before : (eqb u u && nat_le size (1024 * p + i)) ≡ false
           before = elim (leb_tells size (1024 * p + i)) [
             | inl e ↦ (let le = e.1 in absurd (omega (arith, le, less)))
-            | inr m ↦ ap (λ (b : Bool). eqb u u && b) m.0 ∙ off (eqb u u)
+            | inr m ↦ ap (λ (b : Bool). eqb u u && b) m.0 ∙ and-false (eqb u u)
           ]
-            where
-              off : (b : Bool) → (b && false) ≡ false
-              off true = refl
-              off false = refl
 
       by : (b : Bool) → is_zero_page words u p ≡ b → b ≡ false
       by false e = refl

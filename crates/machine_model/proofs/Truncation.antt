@@ -8,26 +8,22 @@ use Rattle.book.specs.declared.entries.Entry.TheVariants as entry
 use Rattle.book.specs.declared.replies.Reply.TheVariants as reply
 use Rattle.assoc_mem.specs.declared.What.TheVariants as what
 use Rattle.machine_model.specs.State.{State}
-use Rattle.machine_model.specs.Runs.{book_of, machine_with, process_for, until}
+use Rattle.machine_model.specs.Runs.{book_of, machine_with, until}
+use Rattle.machine_model.proofs.Examples.{four_pages, four_written}
 
 abbrev script : ProcessPlan
-script = process_for (codes "Smith") (
-    command.MkSeg (codes "s" ∷ []) 6 0 ∷ command.Initiate (codes "s" ∷ []) ∷ command.Write 0 0 1 ∷
-    command.Write 0 1024 1 ∷ command.Write 0 2048 1 ∷ command.Write 0 3072 1 ∷
+script = four_pages (
     command.Truncate (codes "s" ∷ []) 1025 ∷ command.Delete (codes "s" ∷ []) ∷ command.End ∷ [])
 
 abbrev machine : State
 machine = machine_with 1 8 9 16 8 (script ∷ [])
 
 -- the whole book, up to the shutdown
-pub goes_in_order : book_of (until 0 35 machine) ≡
-    entry.Online 0 ∷ entry.Load 0 0 ∷ entry.Do 0 0 0 None (reply.Made 2) ∷ entry.Do 0 1 0 None (reply.Known 0) ∷
-    entry.Activate 1 ∷ entry.Activate 2 ∷ entry.Connect 0 0 2 ∷ entry.Here 0 2 0 ∷ entry.Do 0 2 0 None reply.Done ∷
-    entry.FillSeg 0 0 ∷ entry.Here 1 2 1 ∷ entry.Do 0 3 0 None reply.Done ∷ entry.Here 2 2 2 ∷
-    entry.Do 0 4 0 None reply.Done ∷ entry.Here 3 2 3 ∷ entry.Do 0 5 0 None reply.Done ∷ entry.Take 1 ∷ entry.Take 2 ∷
+pub goes_in_order : book_of (until 0 35 machine) ≡ four_written (
+    entry.Take 1 ∷ entry.Take 2 ∷
     entry.Take 3 ∷ entry.Signal 0 (what.Seg 2) ∷ entry.BackPage 1 ∷ entry.GonePage 2 ∷ entry.GonePage 3 ∷
     entry.Do 0 6 0 None reply.Done ∷ entry.Take 0 ∷ entry.Take 1 ∷ entry.Cut 0 0 ∷ entry.Signal 0 (what.Seg 2) ∷
     entry.GonePage 0 ∷ entry.GonePage 1 ∷ entry.GoneSeg 0 0 ∷ entry.Deactivate 2 ∷ entry.Do 0 7 0 None reply.Done ∷
-    entry.Do 0 8 0 None reply.Done ∷ entry.Leave 0 ∷ []
+    entry.Do 0 8 0 None reply.Done ∷ entry.Leave 0 ∷ [])
 unfolding book_of
 goes_in_order = refl

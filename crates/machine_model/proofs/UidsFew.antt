@@ -26,17 +26,17 @@ use Rattle.flat_model.specs.Commands.{takes_effect, tries_on}
 use Rattle.flat_model.specs.Legal.{IsAnswer, IsLawful, IsLegal, IsLegalFrom, MayFault, after_do, after_entry}
 use Rattle.flat_model.specs.Legal.{after_fault}
 use Rattle.flat_model.specs.Legal.{store_after, store_from}
-use Rattle.flat_model.specs.Making.{after_delete, after_make, deleted, made_at, made_of}
+use Rattle.flat_model.specs.Making.{after_delete, after_make, made_at, made_of}
 use Rattle.flat_model.specs.Naming.{after_initiate, after_terminate, initiated}
 use Rattle.flat_model.specs.References.{after_reference, written, written_by}
 use Rattle.flat_model.specs.Rights.{after_acl, after_move, moved}
-use Rattle.flat_model.specs.Sizes.{after_length, after_truncate, truncated}
+use Rattle.flat_model.specs.Sizes.{after_length, after_truncate}
 use Rattle.flat_model.specs.Store.{Progress, Store, at_first, boot, known_uid, progress_of}
 use Rattle.flat_model.proofs.PlaceLaws.{place_within, process_weighs}
 use Rattle.machine_model.specs.Promise.{KeepsAll}
 use Rattle.machine_model.specs.Reads.{flat_of}
 use Rattle.machine_model.specs.State.{State}
-use Rattle.machine_model.proofs.RunLaws.{effect_same, is_there}
+use Rattle.machine_model.proofs.RunLaws.{deleted_same, effect_same, is_there, truncated_same}
 
 -- ---- a command takes one uid at the most
 
@@ -62,14 +62,6 @@ changed_same : (s : Store) (change : Node → Node) (r : Result Node Reply) → 
 changed_same s change (Ok n) = refl
 changed_same s change (Err e) = refl
 
-truncated_same : (s : Store) (from : ℕ) (r : Result Node Reply) → (truncated s from r).next ≡ s.next
-truncated_same s from (Ok n) = refl
-truncated_same s from (Err e) = refl
-
-deleted_same : (s : Store) (r : Result Node Reply) → (deleted s r).next ≡ s.next
-deleted_same s (Ok n) = refl
-deleted_same s (Err e) = refl
-
 moved_same : (s : Store) (n : ℤ) (r : Result Node Reply) → (moved s n r).next ≡ s.next
 moved_same s n (Ok d) = refl
 moved_same s n (Err e) = refl
@@ -82,8 +74,8 @@ tree_few p s k (command.Initiate path) = same_few _ _ (initiated_same s k (segme
 tree_few p s k (command.Terminate number) = omega arith
 tree_few p s k (command.Acl path row m) = same_few _ _ (changed_same s _ (segment_at s.nodes path))
 tree_few p s k (command.Length path pages) = same_few _ _ (changed_same s _ (segment_at s.nodes path))
-tree_few p s k (command.Truncate path words) = same_few _ _ (truncated_same s words (segment_at s.nodes path))
-tree_few p s k (command.Delete path) = same_few _ _ (deleted_same s (branch_at s.nodes path))
+tree_few p s k (command.Truncate path words) = same_few _ _ (truncated_same s words (segment_at s.nodes path)).1
+tree_few p s k (command.Delete path) = same_few _ _ (deleted_same s (branch_at s.nodes path)).1
 tree_few p s k (command.Move path amount) = same_few _ _ (moved_same s amount (directory_at s.nodes path))
 tree_few p s k _ = omega arith
 

@@ -245,7 +245,7 @@ module _ (ast : ActiveSegs) (pool : ℕ) where
           (in_round one.place one.in_pool) one.off e
       by (Some q) e i = none_some (sym i)
 
-  all_used : free_place ast pool ≡ None → (q : ℕ) → IsInPool ast.sizes pool q
+  pub all_used : free_place ast pool ≡ None → (q : ℕ) → IsInPool ast.sizes pool q
       → is_some (entry_at ast.entries q) ≡ true
   all_used full q h = by (entry_at ast.entries q) refl
     where

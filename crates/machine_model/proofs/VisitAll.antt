@@ -40,6 +40,7 @@ use Rattle.machine_model.proofs.StepAsks.{release_may}
 use Rattle.machine_model.proofs.TieLaws.{none_some}
 use Rattle.machine_model.proofs.VisitKept.{AsksVisit, visit_keeps}
 use Rattle.machine_model.proofs.WorkStep.{none_work}
+use Rattle.machine_model.proofs.VisitKept.{kept_visited}
 
 -- ---- what the call of the store says
 
@@ -62,6 +63,11 @@ pub record SameSeats (s t : State) : Type 0 where
   pub processors : t.processors ≡ s.processors
   pub sizes : t.store.ast.sizes ≡ s.store.ast.sizes
   pub stopped : t.stopped ≡ s.stopped
+
+seated : {s t : State} → t.plan ≡ s.plan → t.runs ≡ s.runs → t.ready ≡ s.ready → t.processors ≡ s.processors
+    → t.store.ast.sizes ≡ s.store.ast.sizes → t.stopped ≡ s.stopped → SameSeats s t
+seated plan runs ready processors sizes stopped =
+    record { plan = plan; runs = runs; ready = ready; processors = processors; sizes = sizes; stopped = stopped }
 
 module _ (s : State) (o : Outcome) where
   abbrev f : ℕ
@@ -109,25 +115,11 @@ module _ (s : State) (o : Outcome) where
   same_seats = by (bound_page (frame_in s.store.pages f))
     where
       ended : (b : Bool) → SameSeats s (record (cond b back gone) { visited = f + 1 })
-      ended true = record {
-        plan = refl;
-        runs = refl;
-        ready = refl;
-        processors = refl;
-        sizes = back_sizes (bound_page (frame_in taken.store.pages f)) ∙ taken_sizes;
-        stopped = refl;
-      }
-      ended false = record {
-        plan = refl;
-        runs = refl;
-        ready = refl;
-        processors = refl;
-        sizes = taken_sizes;
-        stopped = refl;
-      }
+      ended true = seated refl refl refl refl (back_sizes (bound_page (frame_in taken.store.pages f)) ∙ taken_sizes) refl
+      ended false = seated refl refl refl refl taken_sizes refl
 
       by : (x : Option (ℕ × ℕ)) → SameSeats s (record (visited_if s f o x) { visited = f + 1 })
-      by None = record { plan = refl; runs = refl; ready = refl; processors = refl; sizes = refl; stopped = refl }
+      by None = seated refl refl refl refl refl refl
       by (Some page) = ended o.failed
 
 -- ---- the whole promise
@@ -226,21 +218,7 @@ module _ (s : State) (o : Outcome) (all : KeepsAll s) (over : is_over s ≡ true
 
   visit_unbound : bound_page (frame_in s.store.pages place) ≡ None → Keeps (after_visit s o)
   visit_unbound e = subst (λ (x : Option (ℕ × ℕ)). Keeps (record (visited_if s place o x) { visited = place + 1 }))
-      (sym e) (record {
-        book = keeps.book;
-        store = keeps.store;
-        faithful = keeps.faithful;
-        rights = keeps.rights;
-        cut = keeps.cut;
-        conserved = keeps.conserved;
-        few_faults = keeps.few_faults;
-        sizes = record {
-          frames = keeps.sizes.frames;
-          processors = keeps.sizes.processors;
-          processes = keeps.sizes.processes;
-        };
-        at_work = keeps.at_work;
-      })
+      (sym e) (kept_visited s (place + 1) keeps)
 
   visit_kept : Keeps (after_visit s o)
   visit_kept = by (bound_page (frame_in s.store.pages place)) refl

@@ -40,6 +40,7 @@ use Rattle.machine_model.proofs.Places.{put_two_here}
 use Rattle.machine_model.proofs.TakeSeen.{HasTables, binding_is, tables_kept, take_one_seen}
 use Rattle.machine_model.proofs.TieLaws.{none_some}
 use Rattle.machine_model.proofs.TransferKept.{kept_with}
+use Rattle.machine_model.proofs.FrameLaws.{finish_with}
 
 -- no processor holds anything, or is to drop anything
 pub record AreBare (s : State) : Type 0 where
@@ -131,6 +132,7 @@ module _ (s : State) (f u p : ℕ) (k : Keeps s) (none : s.owner ≡ None) (bare
   leaving_now : (seen waited).words u p ≡ ptw.Leaving f
   leaving_now = ap (λ (v : Seen). v.words u p) taking_is ∙ put_two_here (seen s).words u p (ptw.Leaving f)
 
+  -- the page that was taken is all that goes
   can_finish : CanFinish (seen waited) f u p None
   can_finish = record {
     leaving = leaving_now;
@@ -195,15 +197,23 @@ module _ (s : State) (f u p : ℕ) (k : Keeps s) (none : s.owner ≡ None) (bare
       told_book = fault_keeps (seen waited) None waited_book may
 
       can_back : CanFinish (seen told) f u p None
-      can_back = record {
-        leaving = leaving_now;
-        none = bare.due;
-        still = refl;
-        after = refl;
-        first = record { rest = []; frames = refl; left = refl; cut = refl; says = refl; shaped = tt };
-      }
+      can_back = finish_with refl refl bare.due can_finish
 
 -- ---- the visit
+
+-- how many frames were visited is no part of the promise
+pub kept_visited : (s : State) (n : ℕ) → Keeps s → Keeps (record s { visited = n })
+kept_visited s n k = record {
+  book = k.book;
+  store = k.store;
+  faithful = k.faithful;
+  rights = k.rights;
+  cut = k.cut;
+  conserved = k.conserved;
+  few_faults = k.few_faults;
+  sizes = record { frames = k.sizes.frames; processors = k.sizes.processors; processes = k.sizes.processes };
+  at_work = k.at_work;
+}
 
 -- What a visit asks: of a frame that has a page, what the store says of the machine then.
 pub record AsksVisit (s : State) (o : Outcome) : Type 0 where
@@ -231,15 +241,5 @@ visit_keeps s o k asks = by (bound_page (frame_in s.store.pages s.visited)) (bin
 
     by : (x : Option (ℕ × ℕ)) → (seen s).bound s.visited ≡ x
         → Keeps (record (visited_if s s.visited o x) { visited = s.visited + 1 })
-    by None h = record {
-      book = k.book;
-      store = k.store;
-      faithful = k.faithful;
-      rights = k.rights;
-      cut = k.cut;
-      conserved = k.conserved;
-      few_faults = k.few_faults;
-      sizes = record { frames = k.sizes.frames; processors = k.sizes.processors; processes = k.sizes.processes };
-      at_work = k.at_work;
-    }
+    by None h = kept_visited s (s.visited + 1) k
     by (Some page) h = ended page h o.failed refl

@@ -164,16 +164,4 @@ tree_wants nodes c chain uid page makes h = no_and (ap is_refer h) (by c)
     by : (x : Command) → is_refer (want_of_command nodes x) ≡ false
     by (command.Truncate path words) = cut words (segment_at nodes path)
     by (command.Length path pages) = long (segment_at nodes path)
-    by (command.MkDir path volume) = refl
-    by (command.MkSeg path pages volume) = refl
-    by (command.Delete path) = refl
-    by (command.Acl path row m) = refl
-    by (command.Initiate path) = refl
-    by (command.Terminate n) = refl
-    by (command.Move path amount) = refl
-    by (command.Status path) = refl
-    by (command.Read n w) = refl
-    by (command.Write n w x) = refl
-    by (command.Add n w x) = refl
-    by (command.Await n w x t) = refl
-    by command.End = refl
+    by _ = refl

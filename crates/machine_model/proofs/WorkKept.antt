@@ -35,10 +35,10 @@ use Rattle.machine_model.specs.State.{State, Storage}
 use Rattle.machine_model.specs.Whole.{IsWhole, Spares}
 use Rattle.machine_model.specs.Working.{FailsBy, FailsIn, MayChange, MayFailBy}
 use Rattle.machine_model.proofs.CommandFacts.{LeadsToSegment, length_stands, truncate_stands}
-use Rattle.machine_model.proofs.FlatAlike.{append_assoc, append_nil}
 use Rattle.machine_model.proofs.InsideLaws.{inside_is}
 use Rattle.machine_model.proofs.LookFacts.{FindsActive, FindsCut, FindsPage, IsAbout}
 use Rattle.machine_model.proofs.WholeLaws.{whole_next}
+use Rattle.std.proofs.lemmas.List.{append-nil, append_assoc}
 
 no_and : {b : Bool} → b ≡ true → b ≡ false → ⊥
 no_and t f = let none : true ≡ false = sym t ∙ f in cc
@@ -51,7 +51,7 @@ AllSpare u (e ∷ es) = Spares u e × AllSpare u es
 
 whole_list : (p : Plan) (es more : List Entry) (u : ℕ) → IsWhole (custody_after p es) u → AllSpare u more
     → IsWhole (custody_after p (es ++ more)) u
-whole_list p es [] u w spare = subst (λ (xs : List Entry). IsWhole (custody_after p xs) u) (sym (append_nil es)) w
+whole_list p es [] u w spare = subst (λ (xs : List Entry). IsWhole (custody_after p xs) u) (sym (append-nil es)) w
 whole_list p es (e ∷ more) u w spare = subst (λ (xs : List Entry). IsWhole (custody_after p xs) u)
     (append_assoc es (e ∷ []) more)
     (whole_list p (es ++ e ∷ []) more u (subst (λ (c : Custody). IsWhole c u) (sym (custody_after-push p es e))

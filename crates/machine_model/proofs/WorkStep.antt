@@ -81,7 +81,6 @@ use Rattle.machine_model.specs.Whole.{TakenWhole, goes_in, going_for}
 use Rattle.machine_model.specs.Taking.{GoesJust, IsTakenBy, TakenIn}
 use Rattle.machine_model.specs.Working.{AreNumbered, OwnsFew, FailsIn, IsLeaf, IsWorking, MayFailBy, TakesSome}
 use Rattle.machine_model.proofs.EmptyAsks.{segment_inferiors, unread_any}
-use Rattle.machine_model.proofs.FlatAlike.{append_assoc}
 use Rattle.machine_model.proofs.JustLaws.{AllStay, LeavesTaken, just_on, started_free, taken_in}
 use Rattle.machine_model.proofs.KeepLaws.{IsNoOwner}
 use Rattle.machine_model.proofs.ListSizes.{frames_from_few, trailers_few}
@@ -100,6 +99,7 @@ use Rattle.machine_model.proofs.TieLaws.{none_some}
 use Rattle.machine_model.proofs.TookKept.{ArePairs}
 use Rattle.machine_model.proofs.WholeLaws.{started_spares, whole_idle}
 use Rattle.machine_model.proofs.WorkKept.{AllSpare, IsLess, fails_in_less, fails_less, whole_on}
+use Rattle.std.proofs.lemmas.List.{append_assoc}
 
 -- ---- the owner makes nothing inactive
 
@@ -198,22 +198,25 @@ module _ (s : State) (c : ℕ) (k : Keeps s) (w : IsWorking s) (other : IsNoOwne
       (get_or-set_other s.processors c q.cpu p no_processor (other q h))
 
   -- one that changes nothing but itself, the ready list and the book
-  seat_work : (now : State) (p : Processor) (e : Entry) → Keeps now → now.owner ≡ s.owner → now.plan ≡ s.plan
-      → now.store ≡ s.store → now.runs ≡ s.runs → now.processors ≡ set s.processors c p
-      → now.entries ≡ s.entries ++ e ∷ [] → ((u : ℕ) → AllSpare u (e ∷ []))
-      → ((Page : ℕ → ℕ → Type 0) → AllStay Page (e ∷ [])) → IsWorking now
-  seat_work now p e kept owner plan store runs ps book spares stays = leaves_work s now k kept w (record {
-    owner = owner;
-    plan = plan;
-    less = subst (IsLess s.store) (sym store) (same_less s.store);
-    active = λ u. ap (λ (st : Storage). is_active st.ast u) store;
-    out = λ u q e. ap (λ (st : Storage). is_out (word_of st.ast u q)) store ∙ e;
+  seat_work : (now : State) (p : Processor) (e : Entry) → Keeps now → now ≡ record s {
+    ready = now.ready;
+    processors = set s.processors c p;
+    entries = s.entries ++ e ∷ [];
+    spare = now.spare;
+  } → ((u : ℕ) → AllSpare u (e ∷ [])) → ((Page : ℕ → ℕ → Type 0) → AllStay Page (e ∷ [])) → IsWorking now
+  seat_work now p e kept same spares stays = leaves_work s now k kept w (record {
+    owner = ap (λ (t : State). t.owner) same;
+    plan = ap (λ (t : State). t.plan) same;
+    less = subst (λ (t : State). IsLess s.store t.store) (sym same) (same_less s.store);
+    active = λ u. ap (λ (t : State). is_active t.store.ast u) same;
+    out = λ u q e. ap (λ (t : State). is_out (word_of t.store.ast u q)) same ∙ e;
     more = e ∷ [];
-    book = book;
+    book = ap (λ (t : State). t.entries) same;
     spares = λ u h. spares u;
     stays = λ Page Descriptor j. stays Page;
-    process = λ q h. ap or_zero (ap (λ (x : List Processor). (cpu_at x q.cpu).process) ps ∙ set_process p q h);
-    next = λ q h. (λ i. command_at (plan i) (process_at s q.cpu) (run_at (runs i) (process_at s q.cpu)).place);
+    process = λ q h. ap or_zero (ap (λ (t : State). (cpu_at t.processors q.cpu).process) same ∙ set_process p q h);
+    next = λ q h. ap (λ (t : State). command_at t.plan (process_at s q.cpu)
+        (run_at t.runs (process_at s q.cpu)).place) same;
   })
 
   -- another process than the owner's is answered
@@ -630,11 +633,9 @@ module _ (s : State) (c : ℕ) (o : Outcome) (m : IsMachine s) (w : IsWorking s)
   work_kept act.HasEnded may kept = w
   work_kept (act.Waits why) may kept = w
   work_kept act.Online may kept =
-      seat_work s c keeps w may _ _ (entry.Online c) kept refl refl refl refl refl refl (λ u. (tt, tt))
-      (λ Page. (tt, tt))
+      seat_work s c keeps w may _ _ (entry.Online c) kept refl (λ u. (tt, tt)) (λ Page. (tt, tt))
   work_kept (act.Clear v) may kept =
-      seat_work s c keeps w may _ _ (entry.Clear c v) kept refl refl refl refl refl refl (λ u. (tt, tt))
-      (λ Page. (tt, tt))
+      seat_work s c keeps w may _ _ (entry.Clear c v) kept refl (λ u. (tt, tt)) (λ Page. (tt, tt))
   work_kept (act.EndTransfer t) may kept = by_end o (transferred (with_faults s o.faults) c t)
       (transfer_failed s c t o.faults) kept
       (λ kept_well. leaves_work s (transferred (with_faults s o.faults) c t) keeps kept_well w (record {
@@ -680,17 +681,13 @@ module _ (s : State) (c : ℕ) (o : Outcome) (m : IsMachine s) (w : IsWorking s)
             ∙ other_next s c keeps w may.0 q _ h m (may.2 failed);
       }))
   work_kept (act.Load n) may kept =
-      seat_work s c keeps w may _ _ (entry.Load c n) kept refl refl refl refl refl refl (λ u. (tt, tt))
-      (λ Page. (tt, tt))
+      seat_work s c keeps w may _ _ (entry.Load c n) kept refl (λ u. (tt, tt)) (λ Page. (tt, tt))
   work_kept act.Leave may kept =
-      seat_work s c keeps w may _ _ (entry.Leave c) kept refl refl refl refl refl refl (λ u. (tt, tt))
-      (λ Page. (tt, tt))
+      seat_work s c keeps w may _ _ (entry.Leave c) kept refl (λ u. (tt, tt)) (λ Page. (tt, tt))
   work_kept (act.FillSeg n) may kept =
-      seat_work s c keeps w may _ _ (entry.FillSeg c n) kept refl refl refl refl refl refl (λ u. (tt, tt))
-      (λ Page. (tt, tt))
+      seat_work s c keeps w may _ _ (entry.FillSeg c n) kept refl (λ u. (tt, tt)) (λ Page. (tt, tt))
   work_kept (act.FillPage f r) may kept =
-      seat_work s c keeps w may _ _ (entry.FillPage c f) kept refl refl refl refl refl refl (λ u. (tt, tt))
-      (λ Page. (tt, tt))
+      seat_work s c keeps w may _ _ (entry.FillPage c f) kept refl (λ u. (tt, tt)) (λ Page. (tt, tt))
   work_kept (act.Through f r) may kept = other_told (with_pages s.store (pages_after s.store.pages f r)) (Some f)
       (word_reply (old_word s.store.pages f r) r.kind) may.0 may.1 (pages_less f r) (λ u. refl) (λ u q e. e) kept
   work_kept (act.Plain r) may kept =

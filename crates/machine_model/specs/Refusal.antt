@@ -1,38 +1,31 @@
 -- What the owner of the supervisor answers its process at once: what the flat store after the book refuses the next
 -- command (Bensoussan, Clingen and Daley 1972; Organick 1972).
-use Rattle.std.specs.Prelude.{ℕ, Bool, true, false, if◌then◌else◌, List, Option, Some, None, Result, Ok, Err}
+use Rattle.std.specs.Prelude.{ℕ, Bool, List, Option, Result, Ok, Err}
 use Rattle.script.specs.declared.commands.Command.{Command}
 use Rattle.script.specs.declared.commands.Command.TheVariants as command
 use Rattle.script.specs.declared.commands.Reference.{Reference}
 use Rattle.book.specs.declared.replies.Reply.{Reply}
-use Rattle.book.specs.declared.replies.Reply.TheVariants as reply
 use Rattle.tree_model.specs.Tree.{Node}
 use Rattle.known_segs.specs.Known.{uid_of}
 use Rattle.flat_model.specs.Branches.{node_at}
 use Rattle.flat_model.specs.Commands.{reply_to_tree_command}
 use Rattle.flat_model.specs.References.{reply_to_reference}
 use Rattle.seg_control.specs.Control.{kst_at}
+use Rattle.storage_ops.specs.References as references
 use Rattle.storage_ops.specs.Shown.{refusal}
 use Rattle.machine_model.specs.State.{State, Storage}
 use Rattle.machine_model.specs.Reads.{flat_of, or_zero}
 
--- a reply that passes a test
+-- a reply that passes a test; the refusals of a reference that come before its page is looked at; and those of a page
+-- that can't be made
 abbrev pub only : (Reply → Bool) → Reply → Option Reply
-only test r = if test r then Some r else None
+only test r = references.only test r
 
--- the refusals of a reference that come before its page is looked at
 abbrev pub is_outside : Reply → Bool
-is_outside reply.Unknown = true
-is_outside reply.Gone = true
-is_outside reply.NoAccess = true
-is_outside reply.Length = true
-is_outside _ = false
+is_outside r = references.is_outside r
 
--- those of a page that can't be made: the account has used up its quota, or the volume's records are all in use
 abbrev pub is_of_room : Reply → Bool
-is_of_room reply.Quota = true
-is_of_room reply.NoRecord = true
-is_of_room _ = false
+is_of_room r = references.is_of_room r
 
 unfoldable pub outside_refusal : State → ℕ → Reference → Option Reply
 outside_refusal s k r = only is_outside (reply_to_reference s.plan (flat_of s) k r)

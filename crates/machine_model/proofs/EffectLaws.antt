@@ -1,0 +1,119 @@
+-- What a store has still once a job takes something, and once a command takes effect.
+use Rattle.std.proofs.Common.{ℕ, Bool, true, false, ◌%◌, ◌/◌, cond, eqb, List, [], ◌∷◌, Option, Some, None}
+use Rattle.script.specs.declared.commands.Command.{Command}
+use Rattle.script.specs.declared.commands.Command.TheVariants as command
+use Rattle.book.specs.declared.entries.Entry.TheVariants as entry
+use Rattle.tree_model.specs.Access.{Row}
+use Rattle.tree_model.specs.Tree.{Node}
+use Rattle.accounts.specs.Maps.{AccountMaps}
+use Rattle.flat_model.specs.Branches.{parts_of}
+use Rattle.core_map.specs.CoreMap.{bound_page}
+use Rattle.page_table.specs.declared.Ptw.{Ptw}
+use Rattle.page_table.specs.declared.Ptw.TheVariants as ptw
+use Rattle.page_control.specs.Effects.{cut}
+use Rattle.page_control.specs.Plain.{frame_in, words_in}
+use Rattle.seg_control.specs.Control.{Links, word_of}
+use Rattle.machine_model.specs.Commits.{frame_entry, pages_past, stays, with_branch, with_cut, with_cut_in, with_deleted, with_effect}
+use Rattle.machine_model.specs.Commits.{with_made, with_truncated, without_page, without_pages}
+use Rattle.machine_model.specs.Jobs.{are_zeros, cut_all, cut_one, here_if, leaving_if, take_all, take_one, took, with_here}
+use Rattle.machine_model.specs.State.{State, Storage}
+use Rattle.machine_model.specs.Steps.{with_pages, with_word}
+use Rattle.book.specs.declared.entries.Entry.{Entry}
+use Rattle.machine_model.specs.declared.Aim.{Aim}
+use Rattle.assoc_mem.specs.declared.What.{What}
+use Rattle.seg_control.specs.Effects.{cut_one as descriptor_cut}
+
+-- ---- a segment is cut off
+
+-- A store has it still without a page, with the words of a frame cut, and with a page that is here again.
+pub record SurvivesCuts (P : Storage → Type 0) : Type 0 where
+  pub without : (st : Storage) (u p : ℕ) (w : Ptw) → P st → P (without_page st u p w)
+  pub shortened : (st : Storage) (f at : ℕ) → P st → P (with_pages st (cut st.pages f at))
+  pub here : (st : Storage) (f u p : ℕ) → P st → P (with_word st u p (ptw.Here f))
+
+module _ (P : Storage → Type 0) (survives : SurvivesCuts P) where
+  pages_have : (st : Storage) (u : ℕ) (ps : List ℕ) → P st → P (without_pages st u ps)
+  pages_have st u [] h = h
+  pages_have st u (p ∷ ps) h = pages_have (without_page st u p (word_of st.ast u p)) u ps
+      (survives.without st u p (word_of st.ast u p) h)
+
+  here_has : (st : Storage) (f : ℕ) → P st → P (with_here st f)
+  here_has st f h = by (bound_page (frame_in st.pages f))
+    where
+      by : (x : Option (ℕ × ℕ)) → P (here_if st f x)
+      by None = h
+      by (Some page) = survives.here st f page.0 page.1 h
+
+  cut_in_has : (st : Storage) (u p at f : ℕ) → P st → P (with_cut_in st u p at f)
+  cut_in_has st u p at f h = by (are_zeros (words_in (cut st.pages f at) f))
+    where
+      by : (b : Bool) → P (cond b (without_page (with_pages st (cut st.pages f at)) u p (ptw.Leaving f))
+          (with_here (with_pages st (cut st.pages f at)) f))
+      by true = survives.without (with_pages st (cut st.pages f at)) u p (ptw.Leaving f) (survives.shortened st f at h)
+      by false = here_has (with_pages st (cut st.pages f at)) f (survives.shortened st f at h)
+
+  cut_has : (st : Storage) (u p at : ℕ) (w : Ptw) → P st → P (with_cut st u p at w)
+  cut_has st u p at (ptw.Leaving f) h = cut_in_has st u p at f h
+  cut_has st u p at _ h = h
+
+  pub truncated_has : (st : Storage) (u words : ℕ) → P st → P (with_truncated st u words)
+  truncated_has st u words h = by (eqb (words % 1024) 0)
+    where
+      by : (b : Bool) → P (without_pages (cond b st (with_cut st u (words / 1024) (words % 1024)
+          (word_of st.ast u (words / 1024)))) u (pages_past st u words))
+      by true = pages_have st u (pages_past st u words) h
+      by false = pages_have _ u (pages_past st u words)
+          (cut_has st u (words / 1024) (words % 1024) (word_of st.ast u (words / 1024)) h)
+
+-- ---- each command
+
+-- what the entries of a page that is back and of one that is gone have, the entry of a frame that was taken has
+pub frame_entry_has : (P : Entry → Type 0) (st : Storage) (c : Command) (f : ℕ) → P (entry.BackPage f)
+    → P (entry.GonePage f) → P (frame_entry st c f)
+frame_entry_has P st (command.Truncate path words) f back gone = by (stays st words f)
+  where
+    by : (b : Bool) → P (cond b (entry.BackPage f) (entry.GonePage f))
+    by true = back
+    by false = gone
+frame_entry_has P st _ f back gone = gone
+
+-- A store has it after any command that has it with other accounts and numbers, with a branch more, with a segment cut
+-- off, and with one deleted.
+pub effect_has : (P : Storage → Type 0) (st : Storage) (k u : ℕ) (frames : List ℕ) (c : Command)
+    → ((accounts : AccountMaps) (links : Links) → P (record st { accounts = accounts; links = links }))
+    → ((n : Node) → P (with_branch st n)) → ((words : ℕ) → P (with_truncated st u words))
+    → P (with_deleted st u frames) → P (with_effect st k u frames c)
+effect_has P st k u frames c changes grows cuts goes = by c
+  where
+    made : (directory : Bool) (pages volume : ℕ) (rows : List Row) (x : Option (List (List ℕ) × List ℕ))
+        → P (with_made st directory pages volume rows x)
+    made directory pages volume rows None = changes st.accounts st.links
+    made directory pages volume rows (Some parts) = grows _
+
+    by : (c : Command) → P (with_effect st k u frames c)
+    by (command.MkDir path volume) = made true 0 volume [] (parts_of path)
+    by (command.MkSeg path pages volume) = made false pages volume _ (parts_of path)
+    by (command.Truncate path words) = cuts words
+    by (command.Delete path) = goes
+    by _ = changes _ _
+
+-- ---- a job takes pages, and then descriptors
+
+-- A store has it still where a page is on its way out, and where a descriptor is cut.
+module _ (P : Storage → Type 0) (leaves : (st : Storage) (f u p : ℕ) → P st → P (with_word st u p (ptw.Leaving f)))
+    (cuts : (st : Storage) (k n : ℕ) → P st → P (record st { links = descriptor_cut st.links k n }))
+    (c : ℕ) (a : Aim) (w : What) where
+  take_all_has : (s : State) (fs : List ℕ) → P s.store → P (take_all s c a w fs).store
+  take_all_has s [] h = h
+  take_all_has s (f ∷ fs) h = take_all_has (take_one s c a w f) fs (by (bound_page (frame_in s.store.pages f)))
+    where
+      by : (o : Option (ℕ × ℕ)) → P (leaving_if s.store f o)
+      by None = h
+      by (Some page) = leaves s.store f page.0 page.1 h
+
+  cut_all_has : (s : State) (pairs : List (ℕ × ℕ)) → P s.store → P (cut_all s c a w pairs).store
+  cut_all_has s [] h = h
+  cut_all_has s (x ∷ xs) h = cut_all_has (cut_one s c a w x) xs (cuts s.store x.0 x.1 h)
+
+  pub took_has : (s : State) (fs : List ℕ) (pairs : List (ℕ × ℕ)) → P s.store → P (took s c a w fs pairs).store
+  took_has s fs pairs h = cut_all_has (take_all s c a w fs) pairs (take_all_has s fs h)
