@@ -96,7 +96,8 @@ segs_gone_rest s (d ∷ ds) = segs_gone_rest (seg_gone s d) ds
 segs_gone_count : (s : State) (ds : List CutDescriptor)
     → count_by is_fault (segs_gone s ds).entries ≡ count_by is_fault s.entries
 segs_gone_count s [] = refl
-segs_gone_count s (d ∷ ds) = segs_gone_count (seg_gone s d) ds ∙ quiet_push s.entries (entry.GoneSeg d.process d.number) refl
+segs_gone_count s (d ∷ ds) = segs_gone_count (seg_gone s d) ds
+    ∙ quiet_push s.entries (entry.GoneSeg d.process d.number) refl
 
 -- all that the job has taken is gone or back, and every processor has cleared
 pub record IsOver (s : State) : Type 0 where

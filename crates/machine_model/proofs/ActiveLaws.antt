@@ -1,5 +1,6 @@
 -- A segment becomes active, or is it no more.
-use Rattle.std.proofs.Common.{◌≡◌, ◌≢◌, ℕ, Bool, true, false, [], ◌∷◌, ◌++◌, subst, Option, Some, None, inl, inr, refl, sym, ap, ◌∙◌}
+use Rattle.std.proofs.Common.{◌≡◌, ◌≢◌, ℕ, Bool, true, false, [], ◌∷◌, ◌++◌, Option, Some, None, inl, inr}
+use Rattle.std.proofs.Common.{refl, sym, ap, subst, ◌∙◌}
 use Rattle.std.proofs.lemmas.Bool.Decides.{eqb_tells}
 use Rattle.book.specs.declared.entries.Entry.{Entry}
 use Rattle.book.specs.declared.entries.Entry.TheVariants as entry
@@ -62,23 +63,24 @@ activity_keeps : (v : Seen) (u : ℕ) (words : ℕ → ℕ → Ptw) (active : Bo
     → pending_after (is_pending v.owner) e ≡ is_pending v.owner
     → ((j : ℕ) → IsRun (progress_of (after_entry v.plan (flat v) e) j) (v.runs j))
     → KeepsBook (record v { active = at_put v.active u active; words = words; entries = v.entries ++ e ∷ [] })
-activity_keeps v u words active e k change lawful allowed online next pending runs = book_next v e _ refl refl k (record {
-  lawful = lawful;
-  allowed = allowed;
-  online = online;
-  next = (λ i. record (shown v) {
-    active = at_put v.active u active;
-    frame = λ f. uses_same v u words k change f i;
-  }) ∙ sym next;
-  pending = sym pending;
-  going_owned = subst (λ (c : Custody). IsOwned c v.owner) (sym next)
-      (owned_like (shown v) (record (shown v) { active = at_put v.active u active })
-      (like_active (shown v) (at_put v.active u active)) v.owner k.going_owned);
-  tied = tied_segment v u words k change;
-  holding_right = k.holding_right;
-  under_way = k.under_way;
-  runs = runs;
-})
+activity_keeps v u words active e k change lawful allowed online next pending runs =
+    book_next v e _ refl refl k (record {
+      lawful = lawful;
+      allowed = allowed;
+      online = online;
+      next = (λ i. record (shown v) {
+        active = at_put v.active u active;
+        frame = λ f. uses_same v u words k change f i;
+      }) ∙ sym next;
+      pending = sym pending;
+      going_owned = subst (λ (c : Custody). IsOwned c v.owner) (sym next)
+          (owned_like (shown v) (record (shown v) { active = at_put v.active u active })
+          (like_active (shown v) (at_put v.active u active)) v.owner k.going_owned);
+      tied = tied_segment v u words k change;
+      holding_right = k.holding_right;
+      under_way = k.under_way;
+      runs = runs;
+    })
 
 -- a segment whose words all said that it has no page
 abbrev pub IsBlank : (ℕ → ℕ → Ptw) → ℕ → Type 0

@@ -14,7 +14,6 @@ use Rattle.core_map.specs.declared.Frame.TheVariants as frame
 use Rattle.page_table.specs.declared.Ptw.{Ptw}
 use Rattle.page_table.specs.declared.Ptw.TheVariants as ptw
 use Rattle.page_control.specs.Effects.{erased}
-use Rattle.seg_control.specs.Control.{word_of}
 use Rattle.flat_model.specs.Commands.{effect_by, effect_of, effect_of_tree_command, reply_by, reply_to_command}
 use Rattle.flat_model.specs.Commands.{reply_to_tree_command, takes_effect}
 use Rattle.flat_model.specs.Legal.{store_after}
@@ -55,16 +54,13 @@ use Rattle.machine_model.proofs.CommandFacts.{LeadsToSegment, length_stands}
 use Rattle.machine_model.proofs.LookFacts.{FindsTaken}
 use Rattle.machine_model.proofs.RuleKept.{AsksCommit}
 use Rattle.machine_model.specs.Chains.{page_at}
-use Rattle.core_map.specs.CoreMap.{reads_of}
-use Rattle.page_control.specs.Plain.{binding_at, bindings}
-use Rattle.seg_control.specs.Kept.{read_at}
 use Rattle.machine_model.proofs.DeleteKept.{all_gone, freed_length, node}
-use Rattle.machine_model.proofs.TruncateKept.{QuietWords, all_left, cut_store}
 use Rattle.machine_model.proofs.TellKept.{CanTell}
 use Rattle.machine_model.proofs.TieLaws.{none_some}
 use Rattle.machine_model.proofs.EffectLaws.{effect_has, truncated_has}
 use Rattle.machine_model.proofs.EffectLaws.{frame_entry_has}
 use Rattle.machine_model.proofs.SpeakLaws.{speaks_like}
+use Rattle.machine_model.proofs.TruncateKept.{LeavesCut}
 
 -- ---- a command leaves as many frames
 
@@ -93,8 +89,8 @@ deleted st u frames = by (is_active st.ast u)
 
 effect_frames : (st : Storage) (k u : ℕ) (frames : List ℕ) (c : Command)
     → count (with_effect st k u frames c) ≡ count st
-effect_frames st k u frames c = effect_has (λ t. count t ≡ count st) st k u frames c (λ accounts links. refl) (λ n. refl)
-    (λ words. truncated st u words) (deleted st u frames)
+effect_frames st k u frames c = effect_has (λ t. count t ≡ count st) st k u frames c (λ accounts links. refl)
+    (λ n. refl) (λ words. truncated st u words) (deleted st u frames)
 
 -- ---- the book after it
 
@@ -261,14 +257,7 @@ pub record RestsDescriptors (s : State) (c : ℕ) (cmd : Command) : Type 0 where
   pub out : IsOut s c cmd
 
 pub record RestsTruncate (s : State) (c : ℕ) (path : List (List ℕ)) (size : ℕ) : Type 0 where
-  pub cut : cut_of_owner s.owner ≡ []
-  pub bound : (g : ℕ) → binding_at (bindings (cut_store s c (process_at s c) path size).pages.core) g
-      ≡ (all_left s c (process_at s c) path size).bound g
-  pub reads : (g : ℕ) → read_at (reads_of (cut_store s c (process_at s c) path size).pages.core) g ≡ (seen s).reads g
-  pub words : QuietWords (all_left s c (process_at s c) path size)
-      (λ w q. word_of (cut_store s c (process_at s c) path size).ast w q)
-  pub places : (cut_store s c (process_at s c) path size).ast.entries ≡ s.store.ast.entries
-  pub links : (cut_store s c (process_at s c) path size).links ≡ s.store.links
+  pub left : LeavesCut s c (process_at s c) path size
   pub out : IsOut s c (command.Truncate path size)
 
 pub record RestsDelete (s : State) (c : ℕ) (path : List (List ℕ)) : Type 0 where
@@ -326,12 +315,7 @@ commit_asks s c o keeps command.End sp plain says rests = record {
   says = commit_says s c o keeps command.End sp refl says;
 }
 commit_asks s c o keeps (command.Truncate path words) sp plain says rests = record {
-  cut = rests.cut;
-  bound = rests.bound;
-  reads = rests.reads;
-  words = rests.words;
-  places = rests.places;
-  links = rests.links;
+  left = rests.left;
   tell = commit_tell s c o keeps (command.Truncate path words) sp refl rests.out;
   says = commit_says s c o keeps (command.Truncate path words) sp refl says;
 }

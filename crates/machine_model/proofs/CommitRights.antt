@@ -154,7 +154,8 @@ node_moved ns d amount n = with_quota_of (giver_of (above ns) d (is_positive amo
 
 pub quota_moves : (ns : List Node) (d : ℕ) (amount : ℤ) (n : Node)
     → node_moved ns d amount n ≡ record n { quota = (node_moved ns d amount n).quota }
-quota_moves ns d amount n = quota_changes (giver_of (above ns) d (is_positive amount)) (λ q. q - unsigned_abs amount) got
+quota_moves ns d amount n =
+    quota_changes (giver_of (above ns) d (is_positive amount)) (λ q. q - unsigned_abs amount) got
     ∙ (λ i. record (quota_changes (getter_of (above ns) d (is_positive amount)) (λ q. q + unsigned_abs amount) n i) {
       quota = (node_moved ns d amount n).quota;
     })

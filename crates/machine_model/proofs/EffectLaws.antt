@@ -13,9 +13,11 @@ use Rattle.page_table.specs.declared.Ptw.TheVariants as ptw
 use Rattle.page_control.specs.Effects.{cut}
 use Rattle.page_control.specs.Plain.{frame_in, words_in}
 use Rattle.seg_control.specs.Control.{Links, word_of}
-use Rattle.machine_model.specs.Commits.{frame_entry, pages_past, stays, with_branch, with_cut, with_cut_in, with_deleted, with_effect}
+use Rattle.machine_model.specs.Commits.{frame_entry, pages_past, stays, with_branch, with_cut, with_cut_in}
+use Rattle.machine_model.specs.Commits.{with_deleted, with_effect}
 use Rattle.machine_model.specs.Commits.{with_made, with_truncated, without_page, without_pages}
-use Rattle.machine_model.specs.Jobs.{are_zeros, cut_all, cut_one, here_if, leaving_if, take_all, take_one, took, with_here}
+use Rattle.machine_model.specs.Jobs.{are_zeros, cut_all, cut_one, here_if, leaving_if, take_all, take_one, took}
+use Rattle.machine_model.specs.Jobs.{with_here}
 use Rattle.machine_model.specs.State.{State, Storage}
 use Rattle.machine_model.specs.Steps.{with_pages, with_word}
 use Rattle.book.specs.declared.entries.Entry.{Entry}

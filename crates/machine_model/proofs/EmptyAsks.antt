@@ -19,7 +19,7 @@ use Rattle.machine_model.specs.After.{Outcome, after}
 use Rattle.machine_model.specs.Custodial.{is_pending}
 use Rattle.machine_model.specs.Holding.{seen}
 use Rattle.machine_model.specs.Jobs.{deactivation_begun, emptied, segment_taken, segs_gone, with_hand_moved}
-use Rattle.machine_model.specs.Keeps.{AreThere, IsFaithful, Keeps, StoreKept, StoreSays}
+use Rattle.machine_model.specs.Keeps.{IsFaithful, Keeps, StoreKept, StoreSays}
 use Rattle.machine_model.specs.Reads.{cut_of_owner, flat_of, frame_reading, frames_from, is_active}
 use Rattle.machine_model.specs.Reads.{is_page_of, or_zero, trailers_in}
 use Rattle.machine_model.specs.Said.{Says}
@@ -47,6 +47,8 @@ use Rattle.machine_model.proofs.TookKept.{ArePairs}
 use Rattle.machine_model.proofs.TransferKept.{active_at}
 use Rattle.machine_model.proofs.WholeKept.{whole_may}
 use Rattle.machine_model.proofs.RuleKept.{nothing_over}
+use Rattle.machine_model.proofs.SaysLaws.{is_same, same_rest, says_by}
+use Rattle.machine_model.proofs.FlatAlike.{alike}
 
 own : (n : ℕ) → eqb n n ≡ true
 own n = elim (eqb_tells n n) [ inl e ↦ e.0 | inr m ↦ absurd (m.1 refl) ]
@@ -150,54 +152,46 @@ pub hand_says : (s : State) (pool : ℕ) (chain : List ℕ) → Keeps s
 hand_says s pool chain k = by (first_off_chain s.store.ast pool chain)
   where
     by : (x : Option ℕ) → StoreSays (with_store s (record s.store { ast = hand_past s.store.ast pool x }))
-    by None = record {
-      store = k.store;
-      faithful = k.faithful;
-      rights = k.rights;
-      cut = k.cut;
-      conserved = k.conserved;
-      frames = k.sizes.frames;
-    }
-    by (Some place) = record {
-      store = record {
-        kept = record {
-          paged = k.store.kept.paged;
-          tree = k.store.kept.tree;
-          places = k.store.kept.places;
-          sized = k.store.kept.sized;
-          linked = k.store.kept.linked;
-        };
-        counted = record {
-          housed = k.store.counted.housed;
-          counted = k.store.counted.counted;
-          taken = k.store.counted.taken;
-          active = record {
-            there = k.store.counted.active.there;
-            superiors = k.store.counted.active.superiors;
-            pools = k.store.counted.active.pools;
-          };
-          rights = k.store.counted.rights;
-          known = k.store.counted.known;
-        };
-        accounts = k.store.accounts;
-        places = k.store.places;
-      };
-      faithful = record {
-        tree = k.faithful.tree;
-        known = k.faithful.known;
-        pages = k.faithful.pages;
-        script = k.faithful.script;
-      };
-      rights = k.rights;
-      cut = there (cut_of_owner s.owner) k.cut;
-      conserved = k.conserved;
-      frames = k.sizes.frames;
-    }
+    by None = says_by s s (flat_of s) k k.store k.faithful (alike (flat_of s)) k.conserved.total
+        (same_rest s s k (is_same refl refl refl refl refl (λ u e. e) refl))
+    by (Some place) = says_by s now (flat_of s) k kept shown_is (alike (flat_of s)) k.conserved.total
+        (same_rest s now k (is_same refl refl refl refl refl (λ u e. e) refl))
       where
-        there : (ds : List CutDescriptor) → AreThere s.store ds
-            → AreThere (record s.store { ast = hand_past s.store.ast pool (Some place) }) ds
-        there [] h = tt
-        there (d ∷ ds) h = (h.0, there ds h.1)
+        now : State
+        now = with_store s (record s.store { ast = hand_past s.store.ast pool (Some place) })
+
+        kept : StoreKept now.store
+        kept = record {
+          kept = record {
+            paged = k.store.kept.paged;
+            tree = k.store.kept.tree;
+            places = k.store.kept.places;
+            sized = k.store.kept.sized;
+            linked = k.store.kept.linked;
+          };
+          counted = record {
+            housed = k.store.counted.housed;
+            counted = k.store.counted.counted;
+            taken = k.store.counted.taken;
+            active = record {
+              there = k.store.counted.active.there;
+              superiors = k.store.counted.active.superiors;
+              pools = k.store.counted.active.pools;
+            };
+            rights = k.store.counted.rights;
+            known = k.store.counted.known;
+          };
+          accounts = k.store.accounts;
+          places = k.store.places;
+        }
+
+        shown_is : IsFaithful s.plan (flat_of s) now.store
+        shown_is = record {
+          tree = k.faithful.tree;
+          known = k.faithful.known;
+          pages = k.faithful.pages;
+          script = k.faithful.script;
+        }
 
 pub victim_asks : (s : State) (c : ℕ) (o : Outcome) (j pool : ℕ) (chain : List ℕ) (u : ℕ) (cmd : Command) → Keeps s
     → IsIdle s.owner → is_pending s.owner ≡ false → FindsVictim s j cmd pool chain u

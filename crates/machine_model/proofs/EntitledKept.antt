@@ -220,7 +220,8 @@ by_end o well ill a b = by o.failed
 -- what was taken is back, where a write failed
 abbrev pub all_back : State → ℕ → ℕ → State
 all_back s c faults =
-    segs_back (pages_back (fault_told s (Some (process_at s c)) faults) (frames_of_owner s.owner)) (cut_of_owner s.owner)
+    segs_back (pages_back (fault_told s (Some (process_at s c)) faults) (frames_of_owner s.owner))
+    (cut_of_owner s.owner)
 
 pub failed_names : (s : State) (c faults : ℕ) → SameNames s (all_back s c faults)
 failed_names s c faults =
@@ -276,11 +277,14 @@ module _ (s : State) (c : ℕ) (o : Outcome) (k : Keeps s) (there : c < length s
       ∙ can.can.linked))))
 
   failed : IsEntitledToAll (write_failed s c o.faults)
-  failed = set_entitled _ _ _ (all_back s c o.faults).processors c _ (subst (λ (ps : List Processor). c < length ps) (sym names.processors)
-      there) (names_kept s (all_back s c o.faults) names h) (λ j e. (names_kept s (all_back s c o.faults) names h).each c j e)
+  failed = set_entitled _ _ _ (all_back s c o.faults).processors c _
+      (subst (λ (ps : List Processor). c < length ps) (sym names.processors) there) back (λ j e. back.each c j e)
     where
       names : SameNames s (all_back s c o.faults)
       names = failed_names s c o.faults
+
+      back : IsEntitledToAll (all_back s c o.faults)
+      back = names_kept s (all_back s c o.faults) names h
 
   -- What processors hold stays so.
   pub entitled_kept : (a : act.Action) → CanDo s c o a → MayEntitle s c o a → IsEntitledToAll (after s c a o)

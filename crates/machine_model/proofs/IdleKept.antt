@@ -82,7 +82,8 @@ module _ (s : State) (c : ℕ) (o : Outcome) (there : c < length s.processors) (
       by false = a
 
   failed : AreIdle (write_failed s c o.faults).processors
-  failed = set_idle (all_back s c o.faults).processors c _ (subst (λ (ps : List Processor). c < length ps) (sym names.processors) there)
+  failed = set_idle (all_back s c o.faults).processors c _
+      (subst (λ (ps : List Processor). c < length ps) (sym names.processors) there)
       (same (all_back s c o.faults) names) (λ e. (same (all_back s c o.faults) names).held c e)
     where
       names : SameNames s (all_back s c o.faults)

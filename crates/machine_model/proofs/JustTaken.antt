@@ -57,7 +57,8 @@ use Rattle.machine_model.proofs.TakeSeen.{linked_within}
 use Rattle.machine_model.proofs.TakeWhole.{cut_pages, frame_listed, note_at, take_rest}
 use Rattle.machine_model.proofs.TakeWhole.{trailer_listed}
 use Rattle.machine_model.proofs.TieLaws.{none_some, page_is}
-use Rattle.machine_model.proofs.TookKept.{ArePairs, CanTook, has_pair, is_pair, linked_before, noted, noted_has, pairs_left, took_keeps}
+use Rattle.machine_model.proofs.TookKept.{ArePairs, CanTook, has_pair, is_pair, linked_before, noted, noted_has}
+use Rattle.machine_model.proofs.TookKept.{pairs_left, took_keeps}
 use Rattle.machine_model.proofs.TransferKept.{active_at}
 use Rattle.machine_model.proofs.TakeWhole.{take_linked, took_linked}
 use Rattle.machine_model.proofs.TakeWhole.{cut_frames}
@@ -249,7 +250,8 @@ module _ (s : State) (c : ℕ) (a : Aim) (w : What) (fs : List ℕ) (xs : List (
       led : NotesLed (seen s).linked (cut_of_owner now.owner)
       led = subst (λ (f : ℕ → ℕ → Option ℕ). NotesLed f (cut_of_owner now.owner)) (take_linked s c a w fs)
           (cut_notes mid c a w xs (seen mid).linked
-          (subst (λ (f : ℕ → ℕ → Option ℕ). ArePairs f w xs) (sym (take_linked s c a w fs)) can.pairs_are) (λ i m v e. e)
+          (subst (λ (f : ℕ → ℕ → Option ℕ). ArePairs f w xs) (sym (take_linked s c a w fs)) can.pairs_are)
+          (λ i m v e. e)
           (subst (NotesLed (seen mid).linked) (sym (take_cut s c a w fs ∙ idle.cut)) tt))
 
   -- So what goes then is just what is listed.

@@ -137,7 +137,8 @@ emptied_outline : (s : State) (c uid : ℕ) → outline_of (emptied s c uid)
     ≡ at_stage (with_entry (outline_of s) (place_of s.store.ast.entries uid) None) c Look
 unfolding outline_of
 emptied_outline s c uid =
-    ap (λ (t : State). outline_of (with_owner (deactivated_one t uid) (Some (looking c)))) (segs_rest s (cut_of_owner s.owner))
+    ap (λ (t : State). outline_of (with_owner (deactivated_one t uid) (Some (looking c))))
+    (segs_rest s (cut_of_owner s.owner))
 
 pub deactivate_outlined : (s : State) (o : Owner) (uid : ℕ) (w : What) → s.owner ≡ Some o
     → o.phase ≡ phase.Waiting (aim.Deactivating uid) w → o.frames ≡ [] → dues (outline_of s).runners ≡ 0

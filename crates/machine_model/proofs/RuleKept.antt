@@ -24,9 +24,6 @@ use Rattle.machine_model.specs.Actions as act
 use Rattle.machine_model.specs.Actions.{finish_of}
 use Rattle.machine_model.specs.After.{Outcome}
 use Rattle.machine_model.specs.Chains.{gone_segs, gones, page_at}
-use Rattle.core_map.specs.CoreMap.{reads_of}
-use Rattle.page_control.specs.Plain.{binding_at, bindings}
-use Rattle.seg_control.specs.Kept.{read_at}
 use Rattle.mnames.specs.declared.paths.Path.{Path}
 use Rattle.machine_model.specs.Reads.{is_active}
 use Rattle.machine_model.specs.Refusal.{uid_of_command}
@@ -66,9 +63,10 @@ use Rattle.machine_model.specs.Steps.{with_store}
 use Rattle.std.proofs.lemmas.Bool.Decides.{eqb_tells}
 use Rattle.std.proofs.Common.{eqb}
 use Rattle.machine_model.proofs.TellKept.{CanTell}
-use Rattle.machine_model.proofs.TruncateKept.{QuietWords, all_left, cut_store, leaves, leaves_done, leaves_idle}
+use Rattle.machine_model.proofs.TruncateKept.{leaves, leaves_done, leaves_idle}
 use Rattle.machine_model.proofs.TookKept.{CanTook, Owns}
 use Rattle.machine_model.proofs.WordLaws.{word_within}
+use Rattle.machine_model.proofs.TruncateKept.{LeavesCut}
 
 no_and : {b : Bool} → b ≡ true → b ≡ false → ⊥
 no_and t f = let no : true ≡ false = sym t ∙ f in cc
@@ -142,13 +140,7 @@ pub record AsksDeleteInactive (s : State) (c k : ℕ) (path : Path) : Type 0 whe
 
 -- of a truncation: the frames and words are those after its entries
 pub record AsksTruncate (s : State) (c k : ℕ) (path : Path) (size : ℕ) : Type 0 where
-  pub cut : cut_of_owner s.owner ≡ []
-  pub bound : (g : ℕ) → binding_at (bindings (cut_store s c k path size).pages.core) g
-      ≡ (all_left s c k path size).bound g
-  pub reads : (g : ℕ) → read_at (reads_of (cut_store s c k path size).pages.core) g ≡ (seen s).reads g
-  pub words : QuietWords (all_left s c k path size) (λ w q. word_of (cut_store s c k path size).ast w q)
-  pub places : (cut_store s c k path size).ast.entries ≡ s.store.ast.entries
-  pub links : (cut_store s c k path size).links ≡ s.store.links
+  pub left : LeavesCut s c k path size
   pub tell : CanTell (with_owner (effected s k (command.Truncate path size)) None) c (process_at s c) None
       (reply_of s k (command.Truncate path size))
   pub says : StoreSays (committed s c k (command.Truncate path size))
@@ -207,13 +199,8 @@ commit_can s c k (Some command.End) book its next ready asks = record {
   says = asks.says;
 }
 commit_can s c k (Some (command.Truncate path words)) book its next ready asks = record {
-  done = ready.left asks.cut (stays s.store words);
-  cut = asks.cut;
-  bound = asks.bound;
-  reads = asks.reads;
-  words = asks.words;
-  places = asks.places;
-  links = asks.links;
+  done = ready.left asks.left.cut (stays s.store words);
+  left = asks.left;
   tell = asks.tell;
   says = asks.says;
 }

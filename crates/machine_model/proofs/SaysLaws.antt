@@ -104,7 +104,7 @@ pub record IsSame (s now : State) : Type 0 where
   pub active : (u : ℕ) → is_active s.store.ast u ≡ true → is_active now.store.ast u ≡ true
   pub cut : cut_of_owner now.owner ≡ cut_of_owner s.owner
 
-is_same : {s now : State} → now.plan ≡ s.plan → length now.store.pages.core.frames ≡ length s.store.pages.core.frames
+pub is_same : {s now : State} → now.plan ≡ s.plan → length now.store.pages.core.frames ≡ length s.store.pages.core.frames
     → now.store.accounts.nodes ≡ s.store.accounts.nodes → now.store.whos ≡ s.store.whos
     → now.store.links.descriptors ≡ s.store.links.descriptors
     → ((u : ℕ) → is_active s.store.ast u ≡ true → is_active now.store.ast u ≡ true)
@@ -437,7 +437,9 @@ module _ (s : State) (c : ℕ) (o : Outcome) (f : ℕ) (k : Keeps s) where
       (ap (λ (b : Bool). cond b (write_failed s c o.faults) now) h)
       (subst (λ (b : Bool). IsAlike (cond b (flat_of s) (left_page s f (flat_of s))) (flat_of now)) (sym h) left_alike)
       (subst (λ (b : Bool). quotas (cond b (flat_of s) (left_page s f (flat_of s))) ≡ s.plan.quota) (sym h) left_total)
-      (same_rest s now k (is_same refl (left_count s.store.pages (home_in s.store (page_in s.store f).0) (page_in s.store f).1 f how) (account_nodes s.store.accounts (page_in s.store f).0 how) refl refl (λ u e. e) (cut_less s.owner)))
+      (same_rest s now k (is_same refl
+      (left_count s.store.pages (home_in s.store (page_in s.store f).0) (page_in s.store f).1 f how)
+      (account_nodes s.store.accounts (page_in s.store f).0 how) refl refl (λ u e. e) (cut_less s.owner)))
     where
       now : State
       now = page_done (with_faults s o.faults) f
@@ -463,12 +465,15 @@ here_pages st f (Some page) = refl
 
 pub pages_are_back : (s : State) (fs : List ℕ) → IsBack s (pages_back s fs)
 pages_are_back s [] = record { plan = refl; pages = refl; flat = refl }
-pages_are_back s (f ∷ fs) = back_on (back_by refl (here_pages s.store f (bound_page (frame_in_pages s.store.pages f))) (one_still s.plan s.entries (entry.BackPage f) refl))
+pages_are_back s (f ∷ fs) = back_on
+    (back_by refl (here_pages s.store f (bound_page (frame_in_pages s.store.pages f)))
+    (one_still s.plan s.entries (entry.BackPage f) refl))
     (pages_are_back (page_back s f) fs)
 
 pub segs_are_back : (s : State) (ds : List CutDescriptor) → IsBack s (segs_back s ds)
 segs_are_back s [] = record { plan = refl; pages = refl; flat = refl }
-segs_are_back s (d ∷ ds) = back_on (back_by refl refl (one_still s.plan s.entries (entry.BackSeg d.process d.number) refl))
+segs_are_back s (d ∷ ds) = back_on
+    (back_by refl refl (one_still s.plan s.entries (entry.BackSeg d.process d.number) refl))
     (segs_are_back (seg_back s d) ds)
 
 module _ (s : State) (c : ℕ) (faults : ℕ) where

@@ -1,5 +1,5 @@
--- A command that takes pages or descriptors out of use isn't refused while its job is at work: what refuses it is in the
--- tree and the numbers, which no other processor's step changes.
+-- A command that takes pages or descriptors out of use isn't refused while its job is at work: what refuses it is in
+-- the tree and the numbers, which no other processor's step changes.
 use Rattle.std.proofs.Common.{◌≡◌, ℕ, is_some, if◌then◌else◌, List, [], ◌∷◌, Option, Some, None, refl, sym, ap, ◌∙◌}
 use Rattle.script.specs.declared.commands.Command.{Command}
 use Rattle.script.specs.declared.commands.Command.TheVariants as command

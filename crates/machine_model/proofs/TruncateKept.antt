@@ -197,14 +197,17 @@ module _ (s : State) (c k : ℕ) (path : Path) (size : ℕ) where
   -- A truncation: the job has taken pages alone. The frames and the words are then as the chain of its entries has
   -- them, but that words of pages in no frame may be others; the places of the active segments and the descriptors are
   -- as before.
-  pub record CanTruncate : Type 0 where
-    pub done : IsDone all_left
+  pub record LeavesCut : Type 0 where
     pub cut : cut_of_owner s.owner ≡ []
     pub bound : (g : ℕ) → binding_at (bindings cut_store.pages.core) g ≡ all_left.bound g
     pub reads : (g : ℕ) → read_at (reads_of cut_store.pages.core) g ≡ (seen s).reads g
     pub words : QuietWords all_left (λ w q. word_of cut_store.ast w q)
     pub places : cut_store.ast.entries ≡ s.store.ast.entries
     pub links : cut_store.links ≡ s.store.links
+
+  pub record CanTruncate : Type 0 where
+    pub done : IsDone all_left
+    pub left : LeavesCut
     pub tell : CanTell (with_owner (effected s k (command.Truncate path size)) None) c (process_at s c) None
         (reply_of s k (command.Truncate path size))
     pub says : StoreSays (committed s c k (command.Truncate path size))
@@ -214,7 +217,7 @@ module _ (s : State) (c k : ℕ) (path : Path) (size : ℕ) where
     rest = leaves_rest (seen s) (stays s.store size) fs
 
     cut_book : KeepsBook (record all_left { words = λ w q. word_of cut_store.ast w q })
-    cut_book = quiet_keeps all_left (λ w q. word_of cut_store.ast w q) can.done.book can.words
+    cut_book = quiet_keeps all_left (λ w q. word_of cut_store.ast w q) can.done.book can.left.words
 
     over : KeepsBook (record all_left { words = λ w q. word_of cut_store.ast w q; owner = None })
     over = job_over (record all_left { words = λ w q. word_of cut_store.ast w q }) None cut_book can.done.frames
@@ -223,7 +226,7 @@ module _ (s : State) (c k : ℕ) (path : Path) (size : ℕ) where
 
     entries_are : s.entries ++ gone_entries s segment (command.Truncate path size) ≡ all_left.entries
     entries_are = ap (λ (ds : List CutDescriptor). s.entries ++
-        (map (leaf_entry (stays s.store size)) fs ++ (map cut_entry ds ++ []))) can.cut
+        (map (leaf_entry (stays s.store size)) fs ++ (map cut_entry ds ++ []))) can.left.cut
         ∙ (ap (λ (es : List Entry). s.entries ++ es) (append-nil (map (leaf_entry (stays s.store size)) fs))
         ∙ sym (leaves_entries (seen s) (stays s.store size) fs))
 
@@ -232,12 +235,12 @@ module _ (s : State) (c k : ℕ) (path : Path) (size : ℕ) where
     truncated_seen = λ i. record {
       plan = (sym rest i).plan;
       entries = entries_are i;
-      bound = λ g. can.bound g i;
-      reads = λ g. (can.reads g ∙ ap (λ (x : Seen). x.reads g) (sym rest)) i;
+      bound = λ g. can.left.bound g i;
+      reads = λ g. (can.left.reads g ∙ ap (λ (x : Seen). x.reads g) (sym rest)) i;
       words = λ w q. word_of cut_store.ast w q;
-      active = λ u. (ap (λ (es : List (Option Segment)). list_any (is_for u) es) can.places
+      active = λ u. (ap (λ (es : List (Option Segment)). list_any (is_for u) es) can.left.places
           ∙ ap (λ (x : Seen). x.active u) (sym rest)) i;
-      linked = λ j n. ((λ t. led_to (can.places t) (descriptor_of (can.links t) j n))
+      linked = λ j n. ((λ t. led_to (can.left.places t) (descriptor_of (can.left.links t) j n))
           ∙ ap (λ (x : Seen). x.linked j n) (sym rest)) i;
       ready = (sym rest i).ready;
       processors = (sym rest i).processors;

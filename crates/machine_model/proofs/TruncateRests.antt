@@ -920,12 +920,14 @@ module _ (s : State) (c : ℕ) (path : Path) (size : ℕ) (keeps : Keeps s)
   -- So a `truncate` may take effect.
   pub truncate_rests : RestsTruncate s c path size
   truncate_rests = record {
-    cut = none_cut (cut_of_owner s.owner) (λ j n e. (let led = cut_led s (process_at s c)
-        (command.Truncate path size) keeps h j n e in h.just.its_descriptors j n led.0 led.1 led.2));
-    bound = bound_now;
-    reads = reads_now;
-    words = quiet_now;
-    places = over.places ∙ begun.places;
-    links = over.links ∙ begun.links;
+    left = record {
+      cut = none_cut (cut_of_owner s.owner) (λ j n e. (let led = cut_led s (process_at s c)
+          (command.Truncate path size) keeps h j n e in h.just.its_descriptors j n led.0 led.1 led.2));
+      bound = bound_now;
+      reads = reads_now;
+      words = quiet_now;
+      places = over.places ∙ begun.places;
+      links = over.links ∙ begun.links;
+    };
     out = out;
   }

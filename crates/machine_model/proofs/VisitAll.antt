@@ -115,7 +115,8 @@ module _ (s : State) (o : Outcome) where
   same_seats = by (bound_page (frame_in s.store.pages f))
     where
       ended : (b : Bool) → SameSeats s (record (cond b back gone) { visited = f + 1 })
-      ended true = seated refl refl refl refl (back_sizes (bound_page (frame_in taken.store.pages f)) ∙ taken_sizes) refl
+      ended true = seated refl refl refl refl
+          (back_sizes (bound_page (frame_in taken.store.pages f)) ∙ taken_sizes) refl
       ended false = seated refl refl refl refl taken_sizes refl
 
       by : (x : Option (ℕ × ℕ)) → SameSeats s (record (visited_if s f o x) { visited = f + 1 })

@@ -1,5 +1,5 @@
--- A tree command whose job takes isn't refused, and what the job has taken is just what the command must have out of use
--- (Bensoussan, Clingen and Daley 1972; own).
+-- A tree command whose job takes isn't refused, and what the job has taken is just what the command must have out of
+-- use (Bensoussan, Clingen and Daley 1972; own).
 use Rattle.std.specs.Prelude.{◌≡◌, ◌≤◌, ◌==◌, ℕ, ◌/◌, ◌%◌, true, false, List, Option, Some, None}
 use Rattle.std.specs.List.{list_any}
 use Rattle.script.specs.declared.commands.Command.{Command}
