@@ -26,6 +26,7 @@ use Rattle.machine_model.proofs.DueLaws.{HasLeft, HasLeftCut, none_due}
 use Rattle.machine_model.proofs.FrameLaws.{CanFinish, back_keeps, gone_keeps, take_keeps}
 use Rattle.machine_model.proofs.OwnedLaws.{IsIdle, cut_at_same}
 use Rattle.machine_model.proofs.Places.{by_places}
+use Rattle.machine_model.proofs.DueLaws.{LeavesFirst}
 
 no_and : {b : Bool} → b ≡ true → b ≡ false → ⊥
 no_and t f = let no : true ≡ false = sym t ∙ f in cc
@@ -259,30 +260,24 @@ shaped_steady : (o : Option Owner) → IsSteady o → IsShaped o
 shaped_steady None h = tt
 shaped_steady (Some o) h = h o.frames o.cut
 
+left_by : {A B : Type 0} {list : Option Owner → List A} {other : Option Owner → List B} {o q : Option Owner} {x : A}
+    (xs : List A) → list o ≡ x ∷ xs → list q ≡ xs → other q ≡ other o → says q ≡ None → IsShaped q
+    → LeavesFirst list other o q x
+left_by xs first left same quiet shaped =
+    record { rest = xs; first = first; left = left; same = same; says = quiet; shaped = shaped }
+
 -- it goes on without its first frame
 left_first : (o : Option Owner) (f : ℕ) (fs : List ℕ) → frames_of_owner o ≡ f ∷ fs → says o ≡ None → IsSteady o
     → HasLeft o (without_frame o) f
-left_first o f fs frames quiet steady = record {
-  rest = fs;
-  frames = frames;
-  left = (frame_goes o).frames ∙ ap frames_after frames;
-  cut = (frame_goes o).cut;
-  says = (frame_goes o).says ∙ quiet;
-  shaped = shaped_steady (without_frame o) ((frame_goes o).steady steady);
-}
+left_first o f fs frames quiet steady = left_by fs frames ((frame_goes o).frames ∙ ap frames_after frames)
+    (frame_goes o).cut ((frame_goes o).says ∙ quiet) (shaped_steady (without_frame o) ((frame_goes o).steady steady))
 
 -- and without its first descriptor
 left_first_cut : (o : Option Owner) (d : CutDescriptor) (ds : List CutDescriptor) → cut_of_owner o ≡ d ∷ ds
     → says o ≡ None → IsSteady o
     → HasLeftCut o (without_cut o) d
-left_first_cut o d ds cut quiet steady = record {
-  rest = ds;
-  cut = cut;
-  left = (cut_goes o).cut ∙ ap cut_after cut;
-  frames = (cut_goes o).frames;
-  says = (cut_goes o).says ∙ quiet;
-  shaped = shaped_steady (without_cut o) ((cut_goes o).steady steady);
-}
+left_first_cut o d ds cut quiet steady = left_by ds cut ((cut_goes o).cut ∙ ap cut_after cut)
+    (cut_goes o).frames ((cut_goes o).says ∙ quiet) (shaped_steady (without_cut o) ((cut_goes o).steady steady))
 
 -- a frame that is going has a page whose word says so
 pub going_word : (v : Seen) (f : ℕ) → KeepsBook v → is_going_frame ((shown v).frame f) ≡ true

@@ -44,23 +44,20 @@ use Rattle.machine_model.proofs.FlatAlike.{IsAlike, all_still, alike_by, done_al
 use Rattle.machine_model.proofs.QuotaTotals.{effect_total}
 use Rattle.machine_model.proofs.SaysLaws.{none_rest, quotas, says_is}
 use Rattle.machine_model.proofs.SpeakLaws.{Speaks, can_tell}
-use Rattle.custody_model.specs.Allowed.{MayDeactivate}
-use Rattle.custody_model.specs.Custody.{has}
 use Rattle.custody_model.specs.Effects.{OfNode}
 use Rattle.machine_model.specs.Refusal.{refusal_of}
-use Rattle.machine_model.specs.Seen.{flat}
 use Rattle.machine_model.specs.Working.{TakesSome}
 use Rattle.machine_model.proofs.CommandFacts.{LeadsToSegment, length_stands}
 use Rattle.machine_model.proofs.LookFacts.{FindsTaken}
 use Rattle.machine_model.proofs.RuleKept.{AsksCommit}
-use Rattle.machine_model.specs.Chains.{page_at}
-use Rattle.machine_model.proofs.DeleteKept.{all_gone, freed_length, node}
+use Rattle.machine_model.proofs.DeleteKept.{freed_length}
 use Rattle.machine_model.proofs.TellKept.{CanTell}
 use Rattle.machine_model.proofs.TieLaws.{none_some}
 use Rattle.machine_model.proofs.EffectLaws.{effect_has, truncated_has}
 use Rattle.machine_model.proofs.EffectLaws.{frame_entry_has}
 use Rattle.machine_model.proofs.SpeakLaws.{speaks_like}
 use Rattle.machine_model.proofs.TruncateKept.{LeavesCut}
+use Rattle.machine_model.proofs.DeleteKept.{GoesWhole}
 
 -- ---- a command leaves as many frames
 
@@ -261,10 +258,7 @@ pub record RestsTruncate (s : State) (c : ℕ) (path : List (List ℕ)) (size : 
   pub out : IsOut s c (command.Truncate path size)
 
 pub record RestsDelete (s : State) (c : ℕ) (path : List (List ℕ)) : Type 0 where
-  pub active : is_active s.store.ast (node s c (process_at s c) path) ≡ true
-  pub its : (f : ℕ) → has (frames_of_owner s.owner) f ≡ true → (page_at (seen s) f).0 ≡ node s c (process_at s c) path
-  pub may : MayDeactivate (flat (all_gone s c (process_at s c) path)) (shown (all_gone s c (process_at s c) path))
-      (node s c (process_at s c) path)
+  pub whole : GoesWhole s c (process_at s c) path
   pub out : IsOut s c (command.Delete path)
 
 pub record RestsDeleteInactive (s : State) (c : ℕ) (path : List (List ℕ)) : Type 0 where
@@ -320,9 +314,7 @@ commit_asks s c o keeps (command.Truncate path words) sp plain says rests = reco
   says = commit_says s c o keeps (command.Truncate path words) sp refl says;
 }
 commit_asks s c o keeps (command.Delete path) sp plain says (inl rests) = inl (record {
-  active = rests.active;
-  its = rests.its;
-  may = rests.may;
+  whole = rests.whole;
   tell = commit_tell s c o keeps (command.Delete path) sp refl rests.out;
   says = commit_says s c o keeps (command.Delete path) sp refl says;
 })

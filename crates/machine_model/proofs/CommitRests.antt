@@ -445,7 +445,7 @@ module _ (s : State) (c : ℕ) (path : Path) (keeps : Keeps s) (h : IsTakenFor s
     delete_rests = by (is_active s.store.ast u) refl
       where
         by : (b : Bool) → is_active s.store.ast u ≡ b → RestsDelete s c path ⊎ RestsDeleteInactive s c path
-        by true e = inl (record { active = e; its = its; may = may e; out = out })
+        by true e = inl (record { whole = record { active = e; its = its; may = may e }; out = out })
         by false e = inr (record {
           inactive = e;
           frames = no_frames_left e;

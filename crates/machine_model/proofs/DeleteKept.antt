@@ -186,12 +186,16 @@ module _ (s : State) (c k : ℕ) (path : Path) where
   abbrev pub all_gone : Seen
   all_gone = gone_segs (gones (seen s) fs) ds
 
-  -- A deletion of an active node: the job has taken its pages alone, and no page and no descriptor of it is left.
-  pub record CanDelete : Type 0 where
+  -- The node is active, its pages alone were taken, and no page and no descriptor of it is left.
+  pub record GoesWhole : Type 0 where
     pub active : is_active s.store.ast node ≡ true
-    pub done : IsDone all_gone
     pub its : (f : ℕ) → has fs f ≡ true → (page_at (seen s) f).0 ≡ node
     pub may : MayDeactivate (flat all_gone) (shown all_gone) node
+
+  -- A deletion of an active node: the job has taken it whole.
+  pub record CanDelete : Type 0 where
+    pub whole : GoesWhole
+    pub done : IsDone all_gone
     pub tell : CanTell (with_owner (effected s k (command.Delete path)) None) c (process_at s c) None
         (reply_of s k (command.Delete path))
     pub says : StoreSays (committed s c k (command.Delete path))
@@ -204,15 +208,15 @@ module _ (s : State) (c k : ℕ) (path : Path) where
     rest = chain_leaves (seen s) fs ds
 
     others : (w q : ℕ) → w ≢ node → words w q ≡ all_gone.words w q
-    others w q n = words_less s.store.ast node can.active keeps.store.kept.tree.once keeps.store.kept.places w q n
+    others w q n = words_less s.store.ast node can.whole.active keeps.store.kept.tree.once keeps.store.kept.places w q n
         ∙ sym (ap (λ (x : ℕ → ℕ → Ptw). x w q) (segs_words (gones (seen s) fs) ds)
-        ∙ gones_words (seen s) fs node keeps.book.going_owned.once can.its w q n)
+        ∙ gones_words (seen s) fs node keeps.book.going_owned.once can.whole.its w q n)
 
     inactive : KeepsBook (no_more_active all_gone node words)
     inactive = deactivate_keeps all_gone node words can.done.book (record {
-      may = can.may;
+      may = can.whole.may;
       others = others;
-      blank = blank_less s.store.ast node can.active keeps.store.kept.tree.once keeps.store.kept.places;
+      blank = blank_less s.store.ast node can.whole.active keeps.store.kept.tree.once keeps.store.kept.places;
     })
 
     over : KeepsBook (record (no_more_active all_gone node words) { owner = None })
@@ -243,14 +247,14 @@ module _ (s : State) (c k : ℕ) (path : Path) where
         by (Some page) e = absurd (none_some (sym (keeps.book.tied.unbound f page.0 page.1 e) ∙ (going f h).1))
 
     unlinked : (j n : ℕ) → (seen s).linked j n ≢ Some node
-    unlinked j n h = can.may.descriptors j n
+    unlinked j n h = can.whole.may.descriptors j n
         (ap (λ (o : Option ℕ). leads_to (descriptor_use o (cut_uid (cut_of_owner all_gone.owner) j n)))
         (ap (λ (x : Seen). x.linked j n) rest ∙ h))
 
     entries_are : s.entries ++ gone_entries s node (command.Delete path)
         ≡ all_gone.entries ++ entry.Deactivate node ∷ []
     entries_are = ap (λ (b : Bool). s.entries ++
-        (map gone_entry fs ++ (map cut_entry ds ++ cond b (entry.Deactivate node ∷ []) []))) can.active
+        (map gone_entry fs ++ (map cut_entry ds ++ cond b (entry.Deactivate node ∷ []) []))) can.whole.active
         ∙ (sym (append_assoc s.entries (map gone_entry fs) (map cut_entry ds ++ entry.Deactivate node ∷ []))
         ∙ (sym (append_assoc (s.entries ++ map gone_entry fs) (map cut_entry ds) (entry.Deactivate node ∷ []))
         ∙ ap (λ (es : List Entry). es ++ entry.Deactivate node ∷ []) (sym (segs_entries (gones (seen s) fs) ds
@@ -268,7 +272,7 @@ module _ (s : State) (c k : ℕ) (path : Path) where
     deleted_seen : seen (with_owner (effected s k (command.Delete path)) None)
         ≡ record (no_more_active all_gone node words) { owner = None }
     deleted_seen = ap (λ (b : Bool). seen (with_owner
-        (booked (with_store s (deleted_store b)) (gone_entries s node (command.Delete path))) None)) can.active
+        (booked (with_store s (deleted_store b)) (gone_entries s node (command.Delete path))) None)) can.whole.active
         ∙ (λ i. record {
           plan = (sym rest i).plan;
           entries = entries_are i;
@@ -277,10 +281,10 @@ module _ (s : State) (c k : ℕ) (path : Path) where
           reads = λ g. (freed_reads s.store.pages fs within g ∙ (freed_none (seen s).reads fs unread g
               ∙ ap (λ (x : Seen). x.reads g) (sym rest))) i;
           words = words;
-          active = λ v. (active_less s.store.ast node can.active keeps.store.kept.tree.once keeps.store.kept.places v
+          active = λ v. (active_less s.store.ast node can.whole.active keeps.store.kept.tree.once keeps.store.kept.places v
               ∙ ap (λ (x : Seen). at_put x.active node false v) (sym rest)) i;
           linked = λ j n. (ap (λ (v : Seen). v.linked j n)
-              (deactivate_seen s node can.active keeps.store.kept.tree.once keeps.store.kept.places unlinked)
+              (deactivate_seen s node can.whole.active keeps.store.kept.tree.once keeps.store.kept.places unlinked)
               ∙ ap (λ (x : Seen). x.linked j n) (sym rest)) i;
           ready = (sym rest i).ready;
           processors = (sym rest i).processors;

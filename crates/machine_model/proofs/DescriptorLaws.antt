@@ -153,7 +153,7 @@ pub record CanFinishSeg (v : Seen) (d : CutDescriptor) (owner : Option Owner) : 
 module _ (v : Seen) (d : CutDescriptor) (owner : Option Owner) (k : KeepsBook v) (can : CanFinishSeg v d owner) where
   cut_going : is_going_descriptor ((shown v).descriptor d.process d.number) ≡ true
   cut_going = k.going_owned.cuts d.process d.number
-      ∙ (ap (λ (ds : List CutDescriptor). has_cut ds d.process d.number) can.first.cut
+      ∙ (ap (λ (ds : List CutDescriptor). has_cut ds d.process d.number) can.first.first
       ∙ ap (λ (b : Bool). b || has_cut can.first.rest d.process d.number) (cut_at_same d))
 
   cut_unlinked : v.linked d.process d.number ≡ None
@@ -172,7 +172,7 @@ module _ (v : Seen) (d : CutDescriptor) (owner : Option Owner) (k : KeepsBook v)
       not_current (Some u) = refl
 
   cut_apart : (has_cut can.first.rest d.process d.number ≡ false) × AreApart can.first.rest
-  cut_apart = subst AreApart can.first.cut k.going_owned.apart
+  cut_apart = subst AreApart can.first.first k.going_owned.apart
 
   -- every other descriptor is used as before
   others_uncut : (linked : ℕ → ℕ → Option ℕ)
@@ -182,7 +182,7 @@ module _ (v : Seen) (d : CutDescriptor) (owner : Option Owner) (k : KeepsBook v)
   others_uncut linked same j n m = ap (λ (o : Option ℕ). descriptor_use o (cut_uid (cut_of_owner owner) j n))
       (same j n m)
       ∙ ap (descriptor_use (v.linked j n)) (ap (λ (ds : List CutDescriptor). cut_uid ds j n) can.first.left
-      ∙ (sym (cut_rest d can.first.rest j n m) ∙ ap (λ (ds : List CutDescriptor). cut_uid ds j n) (sym can.first.cut)))
+      ∙ (sym (cut_rest d can.first.rest j n m) ∙ ap (λ (ds : List CutDescriptor). cut_uid ds j n) (sym can.first.first)))
 
   -- the descriptor is used otherwise, as one that nobody holds
   finished_keeps : (e : Entry) (linked : ℕ → ℕ → Option ℕ) (made : DescriptorUse) → IsLawful v.plan (flat v) e
@@ -239,7 +239,7 @@ module _ (v : Seen) (d : CutDescriptor) (owner : Option Owner) (k : KeepsBook v)
     where
       was : (shown v).descriptor d.process d.number ≡ descriptor.Going d.uid
       was = ap (λ (o : Option ℕ). descriptor_use o (cut_uid (cut_of_owner v.owner) d.process d.number)) cut_unlinked
-          ∙ ap cut_use (ap (λ (ds : List CutDescriptor). cut_uid ds d.process d.number) can.first.cut
+          ∙ ap cut_use (ap (λ (ds : List CutDescriptor). cut_uid ds d.process d.number) can.first.first
           ∙ cut_head d can.first.rest)
 
       made_is : reconnected ((shown v).descriptor d.process d.number) ≡ descriptor.Current d.uid

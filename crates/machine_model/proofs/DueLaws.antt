@@ -108,14 +108,22 @@ owned_clear c o d w k = record {
 
 -- ---- gone, or back
 
--- the owner goes on without the first frame that it took
-pub record HasLeft (o q : Option Owner) (f : ℕ) : Type 0 where
-  pub rest : List ℕ
-  pub frames : frames_of_owner o ≡ f ∷ rest
-  pub left : frames_of_owner q ≡ rest
-  pub cut : cut_of_owner q ≡ cut_of_owner o
+-- the owner goes on without the first of one of its lists, and with all of the other
+pub record LeavesFirst {A B : Type 0} (list : Option Owner → List A) (other : Option Owner → List B)
+    (o q : Option Owner) (x : A) : Type 0 where
+  pub rest : List A
+  pub first : list o ≡ x ∷ rest
+  pub left : list q ≡ rest
+  pub same : other q ≡ other o
   pub says : says q ≡ None
   pub shaped : IsShaped q
+
+-- without the first frame that it took, and without the first descriptor that it cut
+abbrev pub HasLeft : Option Owner → Option Owner → ℕ → Type 0
+HasLeft o q f = LeavesFirst frames_of_owner cut_of_owner o q f
+
+abbrev pub HasLeftCut : Option Owner → Option Owner → CutDescriptor → Type 0
+HasLeftCut o q d = LeavesFirst cut_of_owner frames_of_owner o q d
 
 head_not : (fs : List ℕ) (f g : ℕ) → g ≢ f → has (f ∷ fs) g ≡ has fs g
 head_not fs f g h = elim (eqb_tells f g) [ inl e ↦ absurd (h (sym e.1)) | inr n ↦ ap (λ (b : Bool). b || has fs g) n.0 ]
@@ -127,11 +135,11 @@ pub owned_left : (c : Custody) (o q : Option Owner) (f : ℕ) (x : FrameUse) →
 owned_left c o q f x k none left still = record {
   frames = λ g. by_place (λ (y : FrameUse). is_going_frame y ≡ has (frames_of_owner q) g) c.frame f x g
       (λ e. still ∙ sym (ap (has (frames_of_owner q)) e ∙ (ap (λ (fs : List ℕ). has fs f) left.left ∙ once.0)))
-      (λ n. k.frames g ∙ (ap (λ (fs : List ℕ). has fs g) left.frames
+      (λ n. k.frames g ∙ (ap (λ (fs : List ℕ). has fs g) left.first
       ∙ (head_not left.rest f g n ∙ ap (λ (fs : List ℕ). has fs g) (sym left.left))));
-  cuts = λ j n. k.cuts j n ∙ ap (λ (ds : List CutDescriptor). has_cut ds j n) (sym left.cut);
+  cuts = λ j n. k.cuts j n ∙ ap (λ (ds : List CutDescriptor). has_cut ds j n) (sym left.same);
   once = subst AreDistinct (sym left.left) once.1;
-  apart = subst AreApart (sym left.cut) k.apart;
+  apart = subst AreApart (sym left.same) k.apart;
   due = λ e w h. absurd (none_some (sym (none e) ∙ h));
   alive = λ e w h. absurd (none_some (sym (none e) ∙ h));
   says = λ w h. absurd (none_some (sym left.says ∙ h));
@@ -139,16 +147,7 @@ owned_left c o q f x k none left still = record {
 }
   where
     once : (has left.rest f ≡ false) × AreDistinct left.rest
-    once = subst AreDistinct left.frames k.once
-
--- the owner goes on without the first descriptor that it cut
-pub record HasLeftCut (o q : Option Owner) (d : CutDescriptor) : Type 0 where
-  pub rest : List CutDescriptor
-  pub cut : cut_of_owner o ≡ d ∷ rest
-  pub left : cut_of_owner q ≡ rest
-  pub frames : frames_of_owner q ≡ frames_of_owner o
-  pub says : says q ≡ None
-  pub shaped : IsShaped q
+    once = subst AreDistinct left.first k.once
 
 head_cut_not : (ds : List CutDescriptor) (d : CutDescriptor) (k n : ℕ) → (k ≡ d.process → n ≡ d.number → ⊥)
     → has_cut (d ∷ ds) k n ≡ has_cut ds k n
@@ -162,13 +161,13 @@ pub owned_left_cut : (c : Custody) (o q : Option Owner) (d : CutDescriptor) (x :
     → NoneDue c → HasLeftCut o q d
     → is_going_descriptor x ≡ false → IsOwned (with_descriptor c d.process d.number x) q
 owned_left_cut c o q d x k none left still = record {
-  frames = λ g. k.frames g ∙ ap (λ (fs : List ℕ). has fs g) (sym left.frames);
+  frames = λ g. k.frames g ∙ ap (λ (fs : List ℕ). has fs g) (sym left.same);
   cuts = λ i j. by_places (λ (y : DescriptorUse). is_going_descriptor y
       ≡ has_cut (cut_of_owner q) i j) c.descriptor d.process d.number x i j
       (λ a b. still ∙ sym (ap (λ (ds : List CutDescriptor). has_cut ds i j) left.left ∙ rw (a, b) apart.0))
-      (λ m. k.cuts i j ∙ (ap (λ (ds : List CutDescriptor). has_cut ds i j) left.cut ∙
+      (λ m. k.cuts i j ∙ (ap (λ (ds : List CutDescriptor). has_cut ds i j) left.first ∙
       (head_cut_not left.rest d i j m ∙ ap (λ (ds : List CutDescriptor). has_cut ds i j) (sym left.left))));
-  once = subst AreDistinct (sym left.frames) k.once;
+  once = subst AreDistinct (sym left.same) k.once;
   apart = subst AreApart (sym left.left) apart.1;
   due = λ e w h. absurd (none_some (sym (none e) ∙ h));
   alive = λ e w h. absurd (none_some (sym (none e) ∙ h));
@@ -177,4 +176,4 @@ owned_left_cut c o q d x k none left still = record {
 }
   where
     apart : (has_cut left.rest d.process d.number ≡ false) × AreApart left.rest
-    apart = subst AreApart left.cut k.apart
+    apart = subst AreApart left.first k.apart

@@ -128,7 +128,7 @@ module _ (v : Seen) (f u p : ℕ) (owner : Option Owner) (k : KeepsBook v) (can 
       active = v.active;
       frame = λ g. one_place (shown v).frame
           (λ h. frame_use words (at_put v.bound f None h) (v.reads h)) f frame.Free here other g i;
-      descriptor = λ j n. descriptor_use (v.linked j n) (cut_uid (can.first.cut i) j n);
+      descriptor = λ j n. descriptor_use (v.linked j n) (cut_uid (can.first.same i) j n);
       ready = v.ready;
       seat = (shown v).seat;
     };
@@ -139,7 +139,7 @@ module _ (v : Seen) (f u p : ℕ) (owner : Option Owner) (k : KeepsBook v) (can 
         (λ j n. descriptor_use (v.linked j n) (cut_uid (cut_of_owner owner) j n)) f None (v.processors d)
         (leaving_nobody d)
         (subst (λ (x : ℕ → ℕ → DescriptorUse). HoldsRight v.bound x (v.processors d))
-        (λ i. λ j n. descriptor_use (v.linked j n) (cut_uid (sym can.first.cut i) j n)) (k.holding_right d));
+        (λ i. λ j n. descriptor_use (v.linked j n) (cut_uid (sym can.first.same i) j n)) (k.holding_right d));
     under_way = k.under_way;
     runs = k.runs;
   })
@@ -166,7 +166,7 @@ module _ (v : Seen) (f u p : ℕ) (owner : Option Owner) (k : KeepsBook v) (can 
       frame = λ g. one_place (shown v).frame (λ h. frame_use words (v.bound h) (v.reads h)) f
           (given_back ((shown v).frame f)) here
           (λ h n. other_use v.bound v.reads v.words k.tied f u p (ptw.Here f) leaving.0 h n) g i;
-      descriptor = λ j n. descriptor_use (v.linked j n) (cut_uid (can.first.cut i) j n);
+      descriptor = λ j n. descriptor_use (v.linked j n) (cut_uid (can.first.same i) j n);
       ready = v.ready;
       seat = (shown v).seat;
     };
@@ -175,7 +175,7 @@ module _ (v : Seen) (f u p : ℕ) (owner : Option Owner) (k : KeepsBook v) (can 
         (ap (λ (x : FrameUse). is_going_frame (given_back x)) leaving.2);
     tied = tied_word v.bound v.reads v.words k.tied f u p (ptw.Here f) leaving.0 refl;
     holding_right = λ d. subst (λ (x : ℕ → ℕ → DescriptorUse). HoldsRight v.bound x (v.processors d))
-        (λ i. λ j n. descriptor_use (v.linked j n) (cut_uid (sym can.first.cut i) j n)) (k.holding_right d);
+        (λ i. λ j n. descriptor_use (v.linked j n) (cut_uid (sym can.first.same i) j n)) (k.holding_right d);
     under_way = k.under_way;
     runs = k.runs;
   })

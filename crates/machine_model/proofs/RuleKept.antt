@@ -27,7 +27,6 @@ use Rattle.machine_model.specs.Chains.{gone_segs, gones, page_at}
 use Rattle.mnames.specs.declared.paths.Path.{Path}
 use Rattle.machine_model.specs.Reads.{is_active}
 use Rattle.machine_model.specs.Refusal.{uid_of_command}
-use Rattle.machine_model.specs.Seen.{flat}
 use Rattle.machine_model.specs.Commits.{stays}
 use Rattle.std.proofs.Common.{◌⊎◌, inl, inr}
 use Rattle.machine_model.specs.Commits.{committed, cut_entry}
@@ -47,7 +46,7 @@ use Rattle.machine_model.proofs.ActiveKept.{IsOver, segs_are_gone}
 use Rattle.machine_model.proofs.ActiveSeen.{within_some}
 use Rattle.machine_model.proofs.ChainLaws.{IsDone, GoesOn, IsSteady, going_word, has_head}
 use Rattle.machine_model.proofs.CommitKept.{effected, idle_over, segs_over}
-use Rattle.machine_model.proofs.DeleteKept.{all_gone, gones_done, gones_idle, node}
+use Rattle.machine_model.proofs.DeleteKept.{gones_done, gones_idle}
 use Rattle.machine_model.proofs.DueLaws.{none_due}
 use Rattle.machine_model.proofs.FindLaws.{choice_bound, free_frame, position_none, unread_page}
 use Rattle.machine_model.proofs.LookLaws.{IsLook}
@@ -67,6 +66,7 @@ use Rattle.machine_model.proofs.TruncateKept.{leaves, leaves_done, leaves_idle}
 use Rattle.machine_model.proofs.TookKept.{CanTook, Owns}
 use Rattle.machine_model.proofs.WordLaws.{word_within}
 use Rattle.machine_model.proofs.TruncateKept.{LeavesCut}
+use Rattle.machine_model.proofs.DeleteKept.{GoesWhole}
 
 no_and : {b : Bool} → b ≡ true → b ≡ false → ⊥
 no_and t f = let no : true ≡ false = sym t ∙ f in cc
@@ -122,9 +122,7 @@ pub record AsksCommand (s : State) (c k : ℕ) (cmd : Command) : Type 0 where
 
 -- of a deletion: an active node has no page and no descriptor left, and the pages that the job took are its own
 pub record AsksDelete (s : State) (c k : ℕ) (path : Path) : Type 0 where
-  pub active : is_active s.store.ast (node s c k path) ≡ true
-  pub its : (f : ℕ) → has (frames_of_owner s.owner) f ≡ true → (page_at (seen s) f).0 ≡ node s c k path
-  pub may : MayDeactivate (flat (all_gone s c k path)) (shown (all_gone s c k path)) (node s c k path)
+  pub whole : GoesWhole s c k path
   pub tell : CanTell (with_owner (effected s k (command.Delete path)) None) c (process_at s c) None
       (reply_of s k (command.Delete path))
   pub says : StoreSays (committed s c k (command.Delete path))
@@ -205,10 +203,8 @@ commit_can s c k (Some (command.Truncate path words)) book its next ready asks =
   says = asks.says;
 }
 commit_can s c k (Some (command.Delete path)) book its next ready (inl asks) = inl (record {
-  active = asks.active;
+  whole = asks.whole;
   done = ready.gone;
-  its = asks.its;
-  may = asks.may;
   tell = asks.tell;
   says = asks.says;
 })
@@ -461,9 +457,9 @@ module _ (s : State) (c : ℕ) (o : Outcome) (k : Keeps s) (there : c < length s
       after = refl;
       first = record {
         rest = [];
-        frames = frames_are;
+        first = frames_are;
         left = refl;
-        cut = sym
+        same = sym
             (ap cut_of_owner x.owner.mine ∙ shape.3);
         says = refl;
         shaped = (refl, refl);

@@ -104,7 +104,8 @@ pub record IsSame (s now : State) : Type 0 where
   pub active : (u : ℕ) → is_active s.store.ast u ≡ true → is_active now.store.ast u ≡ true
   pub cut : cut_of_owner now.owner ≡ cut_of_owner s.owner
 
-pub is_same : {s now : State} → now.plan ≡ s.plan → length now.store.pages.core.frames ≡ length s.store.pages.core.frames
+pub is_same : {s now : State} → now.plan ≡ s.plan
+    → length now.store.pages.core.frames ≡ length s.store.pages.core.frames
     → now.store.accounts.nodes ≡ s.store.accounts.nodes → now.store.whos ≡ s.store.whos
     → now.store.links.descriptors ≡ s.store.links.descriptors
     → ((u : ℕ) → is_active s.store.ast u ≡ true → is_active now.store.ast u ≡ true)

@@ -139,7 +139,7 @@ module _ (s : State) (f u p : ℕ) (k : Keeps s) (none : s.owner ≡ None) (bare
     none = bare.due;
     still = refl;
     after = refl;
-    first = record { rest = []; frames = refl; left = refl; cut = refl; says = refl; shaped = tt };
+    first = record { rest = []; first = refl; left = refl; same = refl; says = refl; shaped = tt };
   }
 
   abbrev after_take : State
