@@ -19,6 +19,7 @@ use Rattle.machine_model.proofs.OwnedLaws.{like_active, owned_like}
 use Rattle.machine_model.proofs.TieLaws.{not_there}
 use Rattle.flat_model.specs.Store.{progress_of}
 use Rattle.custody_model.specs.Fine.{FillsOnline, pending_after}
+use Rattle.machine_model.proofs.TieLaws.{page_used}
 
 -- The words of one segment are others, which name no frame, as those before didn't; no page of it is being read.
 pub record ChangesSegment (v : Seen) (u : ℕ) (words : ℕ → ℕ → Ptw) : Type 0 where
@@ -116,13 +117,7 @@ pub record CanDeactivate (v : Seen) (u : ℕ) (words : ℕ → ℕ → Ptw) : Ty
 module _ (v : Seen) (u : ℕ) (k : KeepsBook v) (pages : HasNoPage (shown v) u) where
   uid_bound : (f q : ℕ) → v.bound f ≡ Some (u, q) → uid_of_page (page_of ((shown v).frame f)) ≡ Some u
   uid_bound f q h = ap (λ (o : Option (ℕ × ℕ)). uid_of_page (page_of (frame_use v.words o (v.reads f)))) h
-      ∙ by (v.words u q)
-    where
-      by : (w : Ptw) → uid_of_page (page_of (bound_use (u, q) w)) ≡ Some u
-      by ptw.Null = refl
-      by (ptw.Out r) = refl
-      by (ptw.Here g) = refl
-      by (ptw.Leaving g) = refl
+      ∙ ap uid_of_page (page_used (u, q) (v.words u q))
 
   uid_read : (f q : ℕ) → v.reads f ≡ Some (u, q) → uid_of_page (page_of ((shown v).frame f)) ≡ Some u
   uid_read f q h = ap (λ (o : Option (ℕ × ℕ)). uid_of_page (page_of (frame_use v.words o (v.reads f))))

@@ -106,20 +106,7 @@ module _ (p : Plan) (s : Store) (k : ℕ) (going : (progress_of s k).ended ≡ f
 
   end_of : (c : Command) → is_end c ≡ true → c ≡ command.End
   end_of command.End h = refl
-  end_of (command.MkDir path volume) h = absurd (let none : false ≡ true = h in cc)
-  end_of (command.MkSeg path pages volume) h = absurd (let none : false ≡ true = h in cc)
-  end_of (command.Initiate path) h = absurd (let none : false ≡ true = h in cc)
-  end_of (command.Terminate number) h = absurd (let none : false ≡ true = h in cc)
-  end_of (command.Acl path row m) h = absurd (let none : false ≡ true = h in cc)
-  end_of (command.Length path pages) h = absurd (let none : false ≡ true = h in cc)
-  end_of (command.Truncate path words) h = absurd (let none : false ≡ true = h in cc)
-  end_of (command.Delete path) h = absurd (let none : false ≡ true = h in cc)
-  end_of (command.Move path amount) h = absurd (let none : false ≡ true = h in cc)
-  end_of (command.Status path) h = absurd (let none : false ≡ true = h in cc)
-  end_of (command.Read n w) h = absurd (let none : false ≡ true = h in cc)
-  end_of (command.Write n w x) h = absurd (let none : false ≡ true = h in cc)
-  end_of (command.Add n w x) h = absurd (let none : false ≡ true = h in cc)
-  end_of (command.Await n w x t) h = absurd (let none : false ≡ true = h in cc)
+  end_of _ h = absurd (let none : false ≡ true = h in cc)
 
   do_ends : (j : ℕ) (c : Command) (r : Reply) → (progress_of s j).ended ≡ false
       → (progress_of (after_command p s j c r) k).ended ≡ true → (j ≡ k) × (c ≡ command.End)
@@ -180,12 +167,6 @@ module _ (p : Plan) (s : Store) (k : ℕ) (going : (progress_of s k).ended ≡ f
       by : (x : Option ℕ) → MayFault s x → (progress_of (after_fault s x) k).ended ≡ true → ⊥
       by None i f = no_and f going
       by (Some j) i f = no_and f (fault_same j i ∙ going)
-  entry_ends (entry.Online c) h ended = no_and ended going
-  entry_ends (entry.Load c j) h ended = no_and ended going
-  entry_ends (entry.Leave c) h ended = no_and ended going
-  entry_ends (entry.Activate u) h ended = no_and ended going
-  entry_ends (entry.Deactivate u) h ended = no_and ended going
-  entry_ends (entry.Connect j n u) h ended = no_and ended going
   entry_ends _ h ended = no_and ended going
 
 -- a process that has ended has no entry more

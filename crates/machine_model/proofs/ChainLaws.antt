@@ -27,6 +27,7 @@ use Rattle.machine_model.proofs.FrameLaws.{CanFinish, back_keeps, gone_keeps, ta
 use Rattle.machine_model.proofs.OwnedLaws.{IsIdle, cut_at_same}
 use Rattle.machine_model.proofs.Places.{by_places}
 use Rattle.machine_model.proofs.DueLaws.{LeavesFirst}
+use Rattle.machine_model.proofs.TieLaws.{bound_used}
 
 no_and : {b : Bool} → b ≡ true → b ≡ false → ⊥
 no_and t f = let no : true ≡ false = sym t ∙ f in cc
@@ -41,15 +42,9 @@ bound_shown v f = by (v.bound f)
     read None = refl
     read (Some page) = refl
 
-    used : (page : ℕ × ℕ) (w : Ptw) → bound_page (bound_use page w) ≡ Some page
-    used page ptw.Null = refl
-    used page (ptw.Out r) = refl
-    used page (ptw.Here g) = refl
-    used page (ptw.Leaving g) = refl
-
     by : (x : Option (ℕ × ℕ)) → bound_page (frame_use v.words x (v.reads f)) ≡ x
     by None = read (v.reads f)
-    by (Some page) = used page (v.words page.0 page.1)
+    by (Some page) = bound_used page (v.words page.0 page.1)
 
 -- what is named of a frame doesn't depend on the words
 pub names_shown : (v now : Seen) (w : What) (f : ℕ) → now.bound f ≡ v.bound f

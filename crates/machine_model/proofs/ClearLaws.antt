@@ -7,8 +7,6 @@ use Rattle.assoc_mem.specs.declared.What.{What}
 use Rattle.assoc_mem.specs.declared.What.TheVariants as what
 use Rattle.assoc_mem.specs.Held.{names_seg, names_page}
 use Rattle.book.specs.declared.entries.Entry.TheVariants as entry
-use Rattle.page_table.specs.declared.Ptw.{Ptw}
-use Rattle.page_table.specs.declared.Ptw.TheVariants as ptw
 use Rattle.flat_model.specs.Legal.{IsLawful, after_entry}
 use Rattle.custody_model.specs.declared.DescriptorUse.{DescriptorUse}
 use Rattle.custody_model.specs.Allowed.{SomethingGoes, NamesAllGoing}
@@ -21,7 +19,7 @@ use Rattle.machine_model.specs.declared.Phase.{Phase}
 use Rattle.machine_model.specs.declared.Phase.TheVariants as phase
 use Rattle.machine_model.specs.Custodial.{KeepsBook, HoldsRight, AreHeldPages, AreHeldSegs, AreOfProcess, is_pending}
 use Rattle.machine_model.specs.Custodial.{says, waits_for}
-use Rattle.machine_model.specs.Seen.{Seen, shown, seat_of, frame_use, bound_use, descriptor_use, cut_uid}
+use Rattle.machine_model.specs.Seen.{Seen, shown, seat_of, frame_use, descriptor_use, cut_uid}
 use Rattle.machine_model.specs.declared.Processor.{Processor}
 use Rattle.machine_model.specs.State.{Owner}
 use Rattle.machine_model.proofs.BookNext.{book_next}
@@ -29,19 +27,14 @@ use Rattle.machine_model.proofs.DueLaws.{HasSaid, none_due, owned_signal, owned_
 use Rattle.machine_model.proofs.HeldLaws.{pages_kept, segs_kept, few_kept, under_way_alike, kept_step}
 use Rattle.machine_model.proofs.Places.{by_place, put_map}
 use Rattle.machine_model.proofs.TieLaws.{none_some}
+use Rattle.machine_model.proofs.TieLaws.{bound_used}
 
 -- ---- what custody sees of what is dropped
-
-bound_in_use : (page : ℕ × ℕ) (w : Ptw) → bound_page (bound_use page w) ≡ Some page
-bound_in_use page ptw.Null = refl
-bound_in_use page (ptw.Out r) = refl
-bound_in_use page (ptw.Here f) = refl
-bound_in_use page (ptw.Leaving f) = refl
 
 -- the page in a frame that is bound
 pub page_in_use : (v : Seen) (f : ℕ) (page : ℕ × ℕ) → v.bound f ≡ Some page → bound_page ((shown v).frame f) ≡ Some page
 page_in_use v f page h = ap (λ (o : Option (ℕ × ℕ)). bound_page (frame_use v.words o (v.reads f))) h
-    ∙ bound_in_use page (v.words page.0 page.1)
+    ∙ bound_used page (v.words page.0 page.1)
 
 page_named : (v : Seen) (w : What) (e : HeldPage) → v.bound e.frame ≡ Some (e.uid, e.page)
     → names_frame (shown v) w e.frame ≡ names_page w e

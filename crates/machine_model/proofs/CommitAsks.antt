@@ -141,20 +141,7 @@ record LeavesStore (x y : State) : Type 0 where
 
 left_store : (x : State) (c : ℕ) (cmd : Command) → LeavesStore x (with_owner (left_after x c cmd) None)
 left_store x c command.End = record { plan = refl; store = refl }
-left_store x c (command.MkDir path volume) = record { plan = refl; store = refl }
-left_store x c (command.MkSeg path pages volume) = record { plan = refl; store = refl }
-left_store x c (command.Initiate path) = record { plan = refl; store = refl }
-left_store x c (command.Terminate n) = record { plan = refl; store = refl }
-left_store x c (command.Acl path row m) = record { plan = refl; store = refl }
-left_store x c (command.Length path pages) = record { plan = refl; store = refl }
-left_store x c (command.Truncate path words) = record { plan = refl; store = refl }
-left_store x c (command.Delete path) = record { plan = refl; store = refl }
-left_store x c (command.Move path amount) = record { plan = refl; store = refl }
-left_store x c (command.Status path) = record { plan = refl; store = refl }
-left_store x c (command.Read n w) = record { plan = refl; store = refl }
-left_store x c (command.Write n w v) = record { plan = refl; store = refl }
-left_store x c (command.Add n w v) = record { plan = refl; store = refl }
-left_store x c (command.Await n w v t) = record { plan = refl; store = refl }
+left_store x c _ = record { plan = refl; store = refl }
 
 module _ (s : State) (c : ℕ) (o : Outcome) (keeps : Keeps s) (cmd : Command) (sp : Speaks s c (process_at s c) cmd)
     (tree : reference_of cmd ≡ None) where

@@ -61,6 +61,7 @@ use Rattle.machine_model.proofs.QuotaTotals.{branch_found, only_found}
 use Rattle.machine_model.proofs.TieLaws.{none_some}
 use Rattle.machine_model.proofs.TransferKept.{active_at}
 use Rattle.machine_model.proofs.ChainLaws.{LeavesRest}
+use Rattle.machine_model.proofs.TieLaws.{page_used}
 
 no_and : {b : Bool} → b ≡ true → b ≡ false → ⊥
 no_and t f = let none : true ≡ false = sym t ∙ f in cc
@@ -201,21 +202,12 @@ page_cases words (Some page) y u h =
     inl (page.1, (λ i. Some (uid_same page.0 u (by (words page.0 page.1) h) i, page.1)))
   where
     by : (w : Ptw) → uid_of_page (page_of (bound_use page w)) ≡ Some u → Some page.0 ≡ Some u
-    by ptw.Null e = e
-    by (ptw.Out r) e = e
-    by (ptw.Here f) e = e
-    by (ptw.Leaving f) e = e
+    by w e = sym (ap uid_of_page (page_used page w)) ∙ e
 
 -- the use of a frame with a page
 pub page_bound : (words : ℕ → ℕ → Ptw) (page : ℕ × ℕ) (y : Option (ℕ × ℕ))
     → page_of (frame_use words (Some page) y) ≡ Some page
-page_bound words page y = by (words page.0 page.1)
-  where
-    by : (w : Ptw) → page_of (bound_use page w) ≡ Some page
-    by ptw.Null = refl
-    by (ptw.Out r) = refl
-    by (ptw.Here f) = refl
-    by (ptw.Leaving f) = refl
+page_bound words page y = page_used page (words page.0 page.1)
 
 -- nothing lies in a node that no node lies in
 not_above : (ns : List Node) (u v : ℕ) → list_any (is_inferior u) ns ≡ false → superior_in (node_in ns v) ≢ Some u

@@ -79,25 +79,7 @@ unfolding after_entry
 still_next p t (entry.Do k place cpu frame r) h = absurd (let no : false ≡ true = h in cc)
 still_next p t (entry.Release u q) h = absurd (let no : false ≡ true = h in cc)
 still_next p t (entry.Fault o) h = absurd (let no : false ≡ true = h in cc)
-still_next p t (entry.Online d) h = refl
-still_next p t (entry.Load d k) h = refl
-still_next p t (entry.Leave d) h = refl
-still_next p t (entry.Activate u) h = refl
-still_next p t (entry.Deactivate u) h = refl
-still_next p t (entry.Start f u q) h = refl
-still_next p t (entry.Lose f) h = refl
-still_next p t (entry.Here f u q) h = refl
-still_next p t (entry.Connect k n u) h = refl
-still_next p t (entry.Take f) h = refl
-still_next p t (entry.Cut k n) h = refl
-still_next p t (entry.Signal d w) h = refl
-still_next p t (entry.Clear d w) h = refl
-still_next p t (entry.FillSeg d n) h = refl
-still_next p t (entry.FillPage d f) h = refl
-still_next p t (entry.GonePage f) h = refl
-still_next p t (entry.BackPage f) h = refl
-still_next p t (entry.GoneSeg k n) h = refl
-still_next p t (entry.BackSeg k n) h = refl
+still_next p t _ h = refl
 
 -- one such entry more
 pub one_still : (p : Plan) (es : List Entry) (e : Entry) → is_still e ≡ true

@@ -27,6 +27,7 @@ use Rattle.machine_model.proofs.HeldLaws.{right_frame}
 use Rattle.machine_model.proofs.OwnedLaws.{owned_take}
 use Rattle.machine_model.proofs.Places.{one_place, put_here, put_other, put_two_here}
 use Rattle.machine_model.proofs.TieLaws.{none_some, use_bound, other_use, tied_word, tied_gone}
+use Rattle.machine_model.proofs.TieLaws.{page_used}
 
 -- the frame that a word names is that of its page, and is used as the word says
 tied_at : (v : Seen) (f u p : ℕ) (w : Ptw) → KeepsBook v → names w ≡ Some f → v.words u p ≡ w
@@ -200,14 +201,8 @@ pub in_no_frame : (v : Seen) (u p : ℕ) → KeepsBook v → names (v.words u p)
     → IsInNoFrame (shown v) u p
 in_no_frame v u p k nowhere unread f h = by (v.bound f) (v.reads f) refl refl h
   where
-    used : (page : ℕ × ℕ) (w : Ptw) → page_of (bound_use page w) ≡ Some page
-    used page ptw.Null = refl
-    used page (ptw.Out r) = refl
-    used page (ptw.Here g) = refl
-    used page (ptw.Leaving g) = refl
-
     by : (x y : Option (ℕ × ℕ)) → v.bound f ≡ x → v.reads f ≡ y → page_of (frame_use v.words x y) ≡ Some (u, p) → ⊥
     by (Some page) y e r g = none_some (sym nowhere
-        ∙ k.tied.named f u p (e ∙ (sym (used page (v.words page.0 page.1)) ∙ g)))
+        ∙ k.tied.named f u p (e ∙ (sym (page_used page (v.words page.0 page.1)) ∙ g)))
     by None (Some page) e r g = unread f (r ∙ g)
     by None None e r g = none_some g

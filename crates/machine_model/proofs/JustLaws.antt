@@ -152,13 +152,7 @@ same_uid old now k c nodes known = by c
     by (command.Delete path) = path_same path
     by (command.Move path amount) = path_same path
     by (command.Status path) = path_same path
-    by (command.MkDir path volume) = refl
-    by (command.MkSeg path pages volume) = refl
-    by command.End = refl
-    by (command.Read n w) = refl
-    by (command.Write n w v) = refl
-    by (command.Add n w v) = refl
-    by (command.Await n w v t) = refl
+    by _ = refl
 
 alone_same : (old now : List Node) (u : ℕ) (c : Command) → now ≡ old → IsAlone old u c → IsAlone now u c
 alone_same old now u c same h = subst (λ (ns : List Node). IsAlone ns u c) (sym same) h
@@ -182,20 +176,7 @@ brought_on old now u (command.Truncate path words) active out h = (
   active h.0,
   λ cut. out u (words / 1024) (h.1 cut),
 )
-brought_on old now u (command.MkDir path volume) active out h = tt
-brought_on old now u (command.MkSeg path pages volume) active out h = tt
-brought_on old now u (command.Initiate path) active out h = tt
-brought_on old now u (command.Terminate n) active out h = tt
-brought_on old now u (command.Acl path row m) active out h = tt
-brought_on old now u (command.Length path pages) active out h = tt
-brought_on old now u (command.Delete path) active out h = tt
-brought_on old now u (command.Move path amount) active out h = tt
-brought_on old now u (command.Status path) active out h = tt
-brought_on old now u (command.Read n w) active out h = tt
-brought_on old now u (command.Write n w x) active out h = tt
-brought_on old now u (command.Add n w x) active out h = tt
-brought_on old now u (command.Await n w x t) active out h = tt
-brought_on old now u command.End active out h = tt
+brought_on old now u _ active out h = tt
 
 taken_for : (s now : State) (k : ℕ) (c : Command) → LeavesTaken s now → TakesSome (Some c) → IsTakenFor s k c
     → IsTakenFor now k c

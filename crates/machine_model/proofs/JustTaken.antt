@@ -63,6 +63,7 @@ use Rattle.machine_model.proofs.TransferKept.{active_at}
 use Rattle.machine_model.proofs.TakeWhole.{take_linked, took_linked}
 use Rattle.machine_model.proofs.TakeWhole.{cut_frames}
 use Rattle.machine_model.proofs.NumberLaws.{take_cut}
+use Rattle.machine_model.proofs.TieLaws.{page_used}
 
 no_and : {b : Bool} → b ≡ true → b ≡ false → ⊥
 no_and t f = let none : true ≡ false = sym t ∙ f in cc
@@ -155,12 +156,6 @@ cut_notes s c a w (x ∷ xs) linked are less led = cut_notes (cut_one s c a w x)
 
 -- ---- what goes is what was listed
 
-bound_page_is : (page : ℕ × ℕ) (w : Ptw) → page_of (bound_use page w) ≡ Some page
-bound_page_is page ptw.Null = refl
-bound_page_is page (ptw.Out r) = refl
-bound_page_is page (ptw.Here f) = refl
-bound_page_is page (ptw.Leaving f) = refl
-
 -- the pages and descriptors that are listed are these
 pub record AreListed (s : State) (fs : List ℕ) (xs : List (ℕ × ℕ)) (Page : ℕ → ℕ → Type 0)
     (Descriptor : ℕ → ℕ → ℕ → Type 0) : Type 0 where
@@ -210,7 +205,7 @@ module _ (s : State) (c : ℕ) (a : Aim) (w : What) (fs : List ℕ) (xs : List (
           → ((seen s).bound f ≡ Some (u, q)) ⊎ ((seen s).reads f ≡ Some (u, q))
       by None None b r e = absurd (none_some e)
       by None (Some page) b r e = inr (r ∙ e)
-      by (Some page) y b r e = inl (b ∙ (sym (bound_page_is page ((seen now).words page.0 page.1)) ∙ e))
+      by (Some page) y b r e = inl (b ∙ (sym (page_used page ((seen now).words page.0 page.1)) ∙ e))
 
   frame_here : (f u q : ℕ) (y : Ptw) → Page u q → (seen s).bound f ≡ Some (u, q) → (seen s).words u q ≡ y
       → names y ≡ Some f → has fs f ≡ true

@@ -171,21 +171,8 @@ failed_outlined s c k n stage command owner due can =
 
 -- after an end the processor has no process
 left_cases : (s : State) (c : ℕ) (x : Command) → (left_after s c x ≡ s) ⊎ (left_after s c x ≡ left_at s c)
-left_cases s c (command.MkDir path volume) = inl refl
-left_cases s c (command.MkSeg path pages volume) = inl refl
-left_cases s c (command.Initiate path) = inl refl
-left_cases s c (command.Terminate n) = inl refl
-left_cases s c (command.Read n offset) = inl refl
-left_cases s c (command.Write n offset word) = inl refl
-left_cases s c (command.Add n offset word) = inl refl
-left_cases s c (command.Await n offset word tries) = inl refl
-left_cases s c (command.Acl path row m) = inl refl
-left_cases s c (command.Length path pages) = inl refl
-left_cases s c (command.Truncate path words) = inl refl
-left_cases s c (command.Delete path) = inl refl
-left_cases s c (command.Move path amount) = inl refl
-left_cases s c (command.Status path) = inl refl
 left_cases s c command.End = inr refl
+left_cases s c _ = inl refl
 
 -- a processor that left has no process
 left_none : (s : State) (c : ℕ) → c < length s.processors → is_some (cpu_at (left_at s c).processors c).process ≡ false

@@ -355,15 +355,9 @@ effect_total p t k (command.MkDir path volume) tree h = make_total t volume true
 effect_total p t k (command.MkSeg path pages volume) tree h =
     make_total t volume false pages (owner_row (who_of p k) ∷ []) (parts_of path)
 effect_total p t k (command.Initiate path) tree h = initiate_total t k (segment_at t.nodes path)
-effect_total p t k (command.Terminate n) tree h = refl
 effect_total p t k (command.Acl path row m) tree h = change_total t _ (λ n. refl) (segment_at t.nodes path)
 effect_total p t k (command.Length path pages) tree h = change_total t _ (λ n. refl) (segment_at t.nodes path)
 effect_total p t k (command.Truncate path words) tree h = truncate_total t words (segment_at t.nodes path)
 effect_total p t k (command.Delete path) tree h = delete_total t tree path (branch_at t.nodes path) refl h
 effect_total p t k (command.Move path amount) tree h = move_total t tree path amount (directory_at t.nodes path) refl h
-effect_total p t k (command.Status path) tree h = refl
-effect_total p t k command.End tree h = refl
-effect_total p t k (command.Read n o) tree h = refl
-effect_total p t k (command.Write n o w) tree h = refl
-effect_total p t k (command.Add n o w) tree h = refl
-effect_total p t k (command.Await n o w tries) tree h = refl
+effect_total p t k _ tree h = refl

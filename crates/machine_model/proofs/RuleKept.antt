@@ -388,20 +388,7 @@ module _ (s : State) (c : ℕ) (o : Outcome) (k : Keeps s) (there : c < length s
       (process_here l.owner) refl (look_ready l) asks
   look_can act.IsStopped h l asks = tt
   look_can act.HasEnded h l asks = tt
-  look_can act.Online h l asks = absurd h
-  look_can (act.Clear w) h l asks = absurd h
-  look_can (act.EndTransfer t) h l asks = absurd h
-  look_can (act.Load n) h l asks = absurd h
-  look_can act.Leave h l asks = absurd h
-  look_can (act.FillSeg n) h l asks = absurd h
-  look_can (act.FillPage f r) h l asks = absurd h
-  look_can (act.Through f r) h l asks = absurd h
-  look_can (act.Plain r) h l asks = absurd h
-  look_can act.TakeSupervisor h l asks = absurd h
-  look_can (act.Signal w) h l asks = absurd h
-  look_can (act.FinishEviction f) h l asks = absurd h
-  look_can (act.FinishPage f) h l asks = absurd h
-  look_can (act.Deactivate u) h l asks = absurd h
+  look_can _ h l asks = absurd h
 
   -- ---- what was taken goes
 

@@ -34,16 +34,7 @@ takes_tree (command.Terminate n) some = refl
 takes_tree (command.Truncate path words) some = refl
 takes_tree (command.Delete path) some = refl
 takes_tree command.End some = refl
-takes_tree (command.MkDir path volume) some = absurd some
-takes_tree (command.MkSeg path pages volume) some = absurd some
-takes_tree (command.Initiate path) some = absurd some
-takes_tree (command.Length path pages) some = absurd some
-takes_tree (command.Move path amount) some = absurd some
-takes_tree (command.Status path) some = absurd some
-takes_tree (command.Read n w) some = absurd some
-takes_tree (command.Write n w x) some = absurd some
-takes_tree (command.Add n w x) some = absurd some
-takes_tree (command.Await n w x t) some = absurd some
+takes_tree _ some = absurd some
 
 -- ---- steps that leave the tree and the numbers
 
@@ -67,16 +58,7 @@ module _ (s now : State) (keeps : Keeps s) (kept : Keeps now)
     stands_on k (command.Delete path) some h =
         ap (λ (ns : List Node). refusal (delete_of ns (branch_at ns path))) same_nodes ∙ h
     stands_on k command.End some h = refl
-    stands_on k (command.MkDir path volume) some h = absurd some
-    stands_on k (command.MkSeg path pages volume) some h = absurd some
-    stands_on k (command.Initiate path) some h = absurd some
-    stands_on k (command.Length path pages) some h = absurd some
-    stands_on k (command.Move path amount) some h = absurd some
-    stands_on k (command.Status path) some h = absurd some
-    stands_on k (command.Read n w) some h = absurd some
-    stands_on k (command.Write n w x) some h = absurd some
-    stands_on k (command.Add n w x) some h = absurd some
-    stands_on k (command.Await n w x t) some h = absurd some
+    stands_on k _ some h = absurd some
 
 -- ---- frames and descriptors are taken
 

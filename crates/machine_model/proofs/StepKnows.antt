@@ -132,16 +132,7 @@ module _ (s : State) (c : ℕ) (o : Outcome) (m : IsMachine s) (there : c < leng
     takes_some (command.Truncate path words) fs pairs h some = tt
     takes_some (command.Delete path) fs pairs h some = tt
     takes_some command.End fs pairs h some = tt
-    takes_some (command.MkDir path volume) fs pairs h some = nothing fs pairs h.frames h.descriptors some
-    takes_some (command.MkSeg path pages volume) fs pairs h some = nothing fs pairs h.frames h.descriptors some
-    takes_some (command.Initiate path) fs pairs h some = nothing fs pairs h.frames h.descriptors some
-    takes_some (command.Length path pages) fs pairs h some = nothing fs pairs h.frames h.descriptors some
-    takes_some (command.Move path amount) fs pairs h some = nothing fs pairs h.frames h.descriptors some
-    takes_some (command.Status path) fs pairs h some = nothing fs pairs h.frames h.descriptors some
-    takes_some (command.Read n w) fs pairs h some = nothing fs pairs h.frames h.descriptors some
-    takes_some (command.Write n w x) fs pairs h some = nothing fs pairs h.frames h.descriptors some
-    takes_some (command.Add n w x) fs pairs h some = nothing fs pairs h.frames h.descriptors some
-    takes_some (command.Await n w x t) fs pairs h some = nothing fs pairs h.frames h.descriptors some
+    takes_some _ fs pairs h some = nothing fs pairs h.frames h.descriptors some
 
     -- the command of the process that is here
     its_command : p.cpu.process ≡ Some k → (x : Command) × Speaks s c k x
@@ -227,21 +218,8 @@ module _ (s : State) (c : ℕ) (o : Outcome) (m : IsMachine s) (there : c < leng
       look_knows (act.Plain r) h = absurd h
       look_knows (act.FinishEviction f) h = absurd h
       look_knows (act.FinishPage f) h = absurd h
-      look_knows (act.Waits why) h = tt
-      look_knows act.GiveUp h = tt
       look_knows (act.Start f u q) h = (cmd, sp, h)
-      look_knows act.IsStopped h = tt
-      look_knows act.HasEnded h = tt
-      look_knows act.Online h = tt
-      look_knows (act.Clear w) h = tt
-      look_knows (act.EndTransfer t) h = tt
-      look_knows (act.Load n) h = tt
-      look_knows act.Leave h = tt
-      look_knows (act.FillSeg n) h = tt
-      look_knows (act.FillPage f r) h = tt
-      look_knows act.TakeSupervisor h = tt
-      look_knows (act.Signal w) h = tt
-      look_knows (act.Deactivate u) h = tt
+      look_knows _ h = tt
 
     -- ---- what was taken goes
 

@@ -37,6 +37,7 @@ use Rattle.machine_model.proofs.TakeLists.{segment_takes}
 use Rattle.machine_model.proofs.TieLaws.{none_some}
 use Rattle.machine_model.proofs.TookKept.{ArePairs, CanTook, has_pair, is_pair, linked_before, pairs_left, took_keeps}
 use Rattle.machine_model.proofs.WholeLaws.{whole_idle}
+use Rattle.machine_model.proofs.TieLaws.{page_used}
 
 or_true : (a : Bool) → (a || true) ≡ true
 or_true true = refl
@@ -200,12 +201,6 @@ took_linked s c a w fs xs are k n u h = let mid = sym (take_linked s c a w fs) i
 
 -- ---- it is taken whole
 
-bound_uid : (page : ℕ × ℕ) (w : Ptw) → uid_of_page (page_of (bound_use page w)) ≡ Some page.0
-bound_uid page ptw.Null = refl
-bound_uid page (ptw.Out r) = refl
-bound_uid page (ptw.Here f) = refl
-bound_uid page (ptw.Leaving f) = refl
-
 -- A job that makes an active segment inactive, none of whose pages is being read, takes it whole.
 pub took_whole : (s : State) (c u : ℕ) → Keeps s → IsIdle s.owner → is_active s.store.ast u ≡ true
     → ((f p : ℕ) → (seen s).reads f ≢ Some (u, p))
@@ -265,7 +260,7 @@ took_whole s c u k idle active unread = record { pages = pages; descriptors = de
           where
             is : (seen s).bound f ≡ Some (u, page.1)
             is = b ∙ ap (λ (v : ℕ). Some (v, page.1))
-                (one_of page.0 u (sym (bound_uid page ((seen now).words page.0 page.1)) ∙ e))
+                (one_of page.0 u (sym (ap uid_of_page (page_used page ((seen now).words page.0 page.1))) ∙ e))
 
     descriptors : (j n : ℕ) → leads_to ((shown (seen now)).descriptor j n) ≡ Some u
         → is_going_descriptor ((shown (seen now)).descriptor j n) ≡ true

@@ -4,6 +4,7 @@ use Rattle.page_table.specs.declared.Ptw.{Ptw}
 use Rattle.page_table.specs.declared.Ptw.TheVariants as ptw
 use Rattle.custody_model.specs.Next.{at_put, at_put_two}
 use Rattle.machine_model.specs.Custodial.{IsTied, names, is_out}
+use Rattle.custody_model.specs.Custody.{bound_page, page_of}
 use Rattle.machine_model.specs.Seen.{frame_use, bound_use}
 use Rattle.machine_model.proofs.Places.{by_place, by_places, put_other}
 
@@ -33,6 +34,15 @@ out_none (ptw.Leaving f) h = absurd (let no : false ≡ true = h in cc)
 
 out_names : (w : Ptw) (f : ℕ) → is_out w ≡ true → names w ≡ Some f → ⊥
 out_names w f h n = none_some (sym (out_none w h) ∙ n)
+
+-- a frame that is bound to a page is used for it, whatever its word is
+pub page_used : (page : ℕ × ℕ) (w : Ptw) → page_of (bound_use page w) ≡ Some page
+page_used page ptw.Null = refl
+page_used page _ = refl
+
+pub bound_used : (page : ℕ × ℕ) (w : Ptw) → bound_page (bound_use page w) ≡ Some page
+bound_used page ptw.Null = refl
+bound_used page _ = refl
 
 module _ (bound reads : ℕ → Option (ℕ × ℕ)) (words : ℕ → ℕ → Ptw) (t : IsTied bound reads words) (f u p : ℕ) where
   -- the word of a page in a frame changes, and names the frame still

@@ -102,20 +102,7 @@ effect_few p s k c = by (reference_of c)
 try_same : (p : Plan) (s : Store) (k : ℕ) (q : Progress) (c : Command) (r : Reply) → tries_on q c r ≡ true
     → (effect_of p s k c).next ≡ s.next
 try_same p s k q (command.Await number offset word tries) r h = reference_same s k _
-try_same p s k q (command.MkDir path volume) r h = absurd (let none : false ≡ true = h in cc)
-try_same p s k q (command.MkSeg path pages volume) r h = absurd (let none : false ≡ true = h in cc)
-try_same p s k q (command.Initiate path) r h = absurd (let none : false ≡ true = h in cc)
-try_same p s k q (command.Terminate number) r h = absurd (let none : false ≡ true = h in cc)
-try_same p s k q (command.Acl path row m) r h = absurd (let none : false ≡ true = h in cc)
-try_same p s k q (command.Length path pages) r h = absurd (let none : false ≡ true = h in cc)
-try_same p s k q (command.Truncate path words) r h = absurd (let none : false ≡ true = h in cc)
-try_same p s k q (command.Delete path) r h = absurd (let none : false ≡ true = h in cc)
-try_same p s k q (command.Move path amount) r h = absurd (let none : false ≡ true = h in cc)
-try_same p s k q (command.Status path) r h = absurd (let none : false ≡ true = h in cc)
-try_same p s k q (command.Read number offset) r h = absurd (let none : false ≡ true = h in cc)
-try_same p s k q (command.Write number offset word) r h = absurd (let none : false ≡ true = h in cc)
-try_same p s k q (command.Add number offset word) r h = absurd (let none : false ≡ true = h in cc)
-try_same p s k q command.End r h = absurd (let none : false ≡ true = h in cc)
+try_same p s k q _ r h = absurd (let none : false ≡ true = h in cc)
 
 -- ---- over a book
 
