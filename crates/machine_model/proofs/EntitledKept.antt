@@ -116,13 +116,13 @@ pub record SameNames (s t : State) : Type 0 where
   pub known : t.store.links.known ≡ s.store.links.known
   pub processors : t.processors ≡ s.processors
 
+pub names_stay : {s t : State} → t.store.accounts.nodes ≡ s.store.accounts.nodes → t.store.whos ≡ s.store.whos
+    → t.store.links.known ≡ s.store.links.known → t.processors ≡ s.processors → SameNames s t
+names_stay nodes whos known processors = record { nodes = nodes; whos = whos; known = known; processors = processors }
+
 pub on : (s t u : State) → SameNames s t → SameNames t u → SameNames s u
-on s t u a b = record {
-  nodes = b.nodes ∙ a.nodes;
-  whos = b.whos ∙ a.whos;
-  known = b.known ∙ a.known;
-  processors = b.processors ∙ a.processors;
-}
+on s t u a b =
+    names_stay (b.nodes ∙ a.nodes) (b.whos ∙ a.whos) (b.known ∙ a.known) (b.processors ∙ a.processors)
 
 names_kept : (s t : State) → SameNames s t → IsEntitledToAll s → IsEntitledToAll t
 names_kept s t same h = subst (λ (ns : List Node). HoldEntitled ns t.store.whos t.store.links.known t.processors)
@@ -135,8 +135,8 @@ pub one_taken : (s : State) (c : ℕ) (a : Aim) (w : What) (f : ℕ) → SameNam
 one_taken s c a w f = by (bound_page (frame_in s.store.pages f))
   where
     by : (x : Option (ℕ × ℕ)) → SameNames s (record (take_one s c a w f) { store = leaving_if s.store f x })
-    by None = record { nodes = refl; whos = refl; known = refl; processors = refl }
-    by (Some page) = record { nodes = refl; whos = refl; known = refl; processors = refl }
+    by None = names_stay refl refl refl refl
+    by (Some page) = names_stay refl refl refl refl
 
 pub all_taken : (s : State) (c : ℕ) (a : Aim) (w : What) (fs : List ℕ) (pairs : List (ℕ × ℕ))
     → SameNames s (took s c a w fs pairs)
@@ -148,13 +148,13 @@ all_taken s c a w fs pairs = let like = took_like s c a w fs pairs in record {
 }
 
 all_gone : (s : State) (ds : List CutDescriptor) → SameNames s (segs_gone s ds)
-all_gone s [] = record { nodes = refl; whos = refl; known = refl; processors = refl }
+all_gone s [] = names_stay refl refl refl refl
 all_gone s (d ∷ ds) = on s (seg_gone s d) (segs_gone s (d ∷ ds))
-    (record { nodes = refl; whos = refl; known = refl; processors = refl }) (all_gone (seg_gone s d) ds)
+    (names_stay refl refl refl refl) (all_gone (seg_gone s d) ds)
 
 pub is_emptied : (s : State) (c u : ℕ) → SameNames s (emptied s c u)
 is_emptied s c u = on s (segs_gone s (cut_of_owner s.owner)) (emptied s c u) (all_gone s (cut_of_owner s.owner))
-    (record { nodes = refl; whos = refl; known = refl; processors = refl })
+    (names_stay refl refl refl refl)
 
 pub segment : (s : State) (c u : ℕ) (fs : List ℕ) (pairs : List (ℕ × ℕ)) → SameNames s (segment_taken s c u fs pairs)
 segment s c u [] [] = is_emptied s c u
@@ -165,32 +165,32 @@ one_back : (s : State) (f : ℕ) → SameNames s (page_back s f)
 one_back s f = by (bound_page (frame_in s.store.pages f))
   where
     by : (x : Option (ℕ × ℕ)) → SameNames s (record (page_back s f) { store = here_if s.store f x })
-    by None = record { nodes = refl; whos = refl; known = refl; processors = refl }
-    by (Some page) = record { nodes = refl; whos = refl; known = refl; processors = refl }
+    by None = names_stay refl refl refl refl
+    by (Some page) = names_stay refl refl refl refl
 
 pub all_pages_back : (s : State) (fs : List ℕ) → SameNames s (pages_back s fs)
-all_pages_back s [] = record { nodes = refl; whos = refl; known = refl; processors = refl }
+all_pages_back s [] = names_stay refl refl refl refl
 all_pages_back s (f ∷ fs) = on s (page_back s f) (pages_back s (f ∷ fs)) (one_back s f)
     (all_pages_back (page_back s f) fs)
 
 pub all_segs_back : (s : State) (ds : List CutDescriptor) → SameNames s (segs_back s ds)
-all_segs_back s [] = record { nodes = refl; whos = refl; known = refl; processors = refl }
+all_segs_back s [] = names_stay refl refl refl refl
 all_segs_back s (d ∷ ds) = on s (seg_back s d) (segs_back s (d ∷ ds))
-    (record { nodes = refl; whos = refl; known = refl; processors = refl }) (all_segs_back (seg_back s d) ds)
+    (names_stay refl refl refl refl) (all_segs_back (seg_back s d) ds)
 
 pub hand : (s : State) (pool : ℕ) (chain : List ℕ) → SameNames s (with_store s (with_hand_moved s.store pool chain))
 hand s pool chain = by (first_off_chain s.store.ast pool chain)
   where
     by : (x : Option ℕ) → SameNames s (with_store s (record s.store { ast = hand_past s.store.ast pool x }))
-    by None = record { nodes = refl; whos = refl; known = refl; processors = refl }
-    by (Some place) = record { nodes = refl; whos = refl; known = refl; processors = refl }
+    by None = names_stay refl refl refl refl
+    by (Some place) = names_stay refl refl refl refl
 
 pub page_left : (s : State) (f : ℕ) → SameNames s (page_done s f)
 page_left s f = by (left_of (words_in s.store.pages f))
   where
     by : (how : Left) → SameNames s (record (page_done s f) { store = with_left s.store f how (page_in s.store f) })
-    by left.Released = record { nodes = refl; whos = refl; known = refl; processors = refl }
-    by left.Kept = record { nodes = refl; whos = refl; known = refl; processors = refl }
+    by left.Released = names_stay refl refl refl refl
+    by left.Kept = names_stay refl refl refl refl
 
 pub evicted : (s : State) (c f : ℕ) → SameNames s (eviction_done s c f)
 evicted s c f = by (left_of (words_in s.store.pages f))
@@ -199,8 +199,8 @@ evicted s c f = by (left_of (words_in s.store.pages f))
       store = with_left s.store f how
           (page_in s.store f);
     })
-    by left.Released = record { nodes = refl; whos = refl; known = refl; processors = refl }
-    by left.Kept = record { nodes = refl; whos = refl; known = refl; processors = refl }
+    by left.Released = names_stay refl refl refl refl
+    by left.Kept = names_stay refl refl refl refl
 
 -- ---- each action
 
@@ -225,7 +225,7 @@ all_back s c faults =
 
 pub failed_names : (s : State) (c faults : ℕ) → SameNames s (all_back s c faults)
 failed_names s c faults =
-    on s told (all_back s c faults) (record { nodes = refl; whos = refl; known = refl; processors = refl })
+    on s told (all_back s c faults) (names_stay refl refl refl refl)
     (on told (pages_back told (frames_of_owner s.owner)) (all_back s c faults)
     (all_pages_back told (frames_of_owner s.owner))
     (all_segs_back (pages_back told (frames_of_owner s.owner)) (cut_of_owner s.owner)))
@@ -316,7 +316,7 @@ module _ (s : State) (c : ℕ) (o : Outcome) (k : Keeps s) (there : c < length s
   entitled_kept (act.Create f u p r) can may = one _ held
   entitled_kept (act.Start f u p) can may = one _ held
   entitled_kept (act.Evict f) can may = names_kept s (eviction_begun s c f) (on s (with_store s (with_choice s.store f))
-      (eviction_begun s c f) (record { nodes = refl; whos = refl; known = refl; processors = refl })
+      (eviction_begun s c f) (names_stay refl refl refl refl)
       (one_taken (with_store s (with_choice s.store f)) c aim.Evicting (what.Page f) f)) h
   entitled_kept (act.Empty u) can may = names_kept s _ (segment s c u (frames_from s.store.ast u 0)
       (trailers_in s.store u)) h
@@ -331,12 +331,12 @@ module _ (s : State) (c : ℕ) (o : Outcome) (k : Keeps s) (there : c < length s
   entitled_kept (act.FinishEviction f) can may = by_end o (eviction_done (with_faults s o.faults) c f)
       (write_failed s c o.faults) (names_kept s (eviction_done (with_faults s o.faults) c f)
       (on s (with_faults s o.faults) (eviction_done (with_faults s o.faults) c f)
-      (record { nodes = refl; whos = refl; known = refl; processors = refl })
+      (names_stay refl refl refl refl)
       (evicted (with_faults s o.faults) c f)) h) failed
   entitled_kept (act.FinishPage f) can may = by_end o (page_done (with_faults s o.faults) f)
       (write_failed s c o.faults) (names_kept s (page_done (with_faults s o.faults) f)
       (on s (with_faults s o.faults) (page_done (with_faults s o.faults) f)
-      (record { nodes = refl; whos = refl; known = refl; processors = refl })
+      (names_stay refl refl refl refl)
       (page_left (with_faults s o.faults) f)) h) failed
   entitled_kept (act.Deactivate u) can may = names_kept s (emptied s c u) (is_emptied s c u) h
   entitled_kept act.Commit can may = may

@@ -1,6 +1,6 @@
 -- What is found in lists of frames, of places and of what a processor holds.
 use Rattle.std.proofs.Common.{◌≡◌, ◌≢◌, ◌<◌, ℕ, suc, Bool, true, false, ◌||◌, cond, eqb, List, [], ◌∷◌, map, length}
-use Rattle.std.proofs.Common.{get_or, position, Option, Some, None, inl, inr, refl, sym, ap, subst, ◌∙◌, arith}
+use Rattle.std.proofs.Common.{get_or, not, position, Option, Some, None, inl, inr, refl, sym, ap, subst, ◌∙◌, arith}
 use Rattle.std.specs.List.{find, list_any, position_or_len}
 use Rattle.std.proofs.lemmas.Bool.Decides.{eqb_tells, leb_tells, nat_tests}
 use Rattle.assoc_mem.specs.declared.HeldPage.{HeldPage}
@@ -20,6 +20,9 @@ use Rattle.machine_model.proofs.ActiveSeen.{any_at, some_within}
 use Rattle.machine_model.proofs.ListLaws.{map_list}
 use Rattle.machine_model.proofs.TieLaws.{none_some, page_is}
 use Rattle.machine_model.proofs.WordLaws.{found}
+use Rattle.std.proofs.lemmas.Bool.{not-true}
+use Rattle.machine_model.specs.Reads.{first_inactive, is_active}
+use Rattle.active_segs.specs.Active.{ActiveSegs}
 
 no_and : {b : Bool} → b ≡ true → b ≡ false → ⊥
 no_and t f = let no : true ≡ false = sym t ∙ f in cc
@@ -153,3 +156,8 @@ page_new bound (e ∷ es) f u p held is h = by (is_page u p e) refl (page_new bo
       | inl y ↦ absurd (no_and (its y.1) a)
       | inr n ↦ ap (λ (b : Bool). b || has (map (λ x. x.frame) es) f) n.0 ∙ rest i
     ]
+
+-- the first segment of a chain that isn't active isn't
+pub first_idle : (ast : ActiveSegs) (chain : List ℕ) (v : ℕ) → first_inactive ast chain ≡ Some v
+    → is_active ast v ≡ false
+first_idle ast chain v h = not-true (is_active ast v) (find_true (λ w. not (is_active ast w)) chain v h)

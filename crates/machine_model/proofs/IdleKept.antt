@@ -26,6 +26,7 @@ use Rattle.machine_model.proofs.LeaveSeen.{told_reads}
 use Rattle.machine_model.proofs.TieLaws.{none_some}
 use Rattle.machine_model.proofs.LeaveSeen.{told_has, told_process}
 use Rattle.machine_model.proofs.EntitledKept.{all_back, failed_names}
+use Rattle.machine_model.proofs.EntitledKept.{names_stay}
 
 -- ---- one processor is another
 
@@ -128,7 +129,7 @@ module _ (s : State) (c : ℕ) (o : Outcome) (there : c < length s.processors) (
   idle_kept (act.Create f u p r) busy = one _ own
   idle_kept (act.Start f u p) busy = one _ own
   idle_kept (act.Evict f) busy = same (eviction_begun s c f) (on s (with_store s (with_choice s.store f))
-      (eviction_begun s c f) (record { nodes = refl; whos = refl; known = refl; processors = refl })
+      (eviction_begun s c f) (names_stay refl refl refl refl)
       (one_taken (with_store s (with_choice s.store f)) c aim.Evicting (what.Page f) f))
   idle_kept (act.Empty u) busy = same _ (segment s c u (frames_from s.store.ast u 0) (trailers_in s.store u))
   idle_kept (act.EmptyVictim pool chain u) busy = same (victim_taken s c pool chain u)
@@ -141,12 +142,12 @@ module _ (s : State) (c : ℕ) (o : Outcome) (there : c < length s.processors) (
   idle_kept (act.FinishEviction f) busy = by_end (eviction_done (with_faults s o.faults) c f)
       (write_failed s c o.faults) (same (eviction_done (with_faults s o.faults) c f)
       (on s (with_faults s o.faults) (eviction_done (with_faults s o.faults) c f)
-      (record { nodes = refl; whos = refl; known = refl; processors = refl })
+      (names_stay refl refl refl refl)
       (evicted (with_faults s o.faults) c f))) failed
   idle_kept (act.FinishPage f) busy = by_end (page_done (with_faults s o.faults) f)
       (write_failed s c o.faults) (same (page_done (with_faults s o.faults) f)
       (on s (with_faults s o.faults) (page_done (with_faults s o.faults) f)
-      (record { nodes = refl; whos = refl; known = refl; processors = refl })
+      (names_stay refl refl refl refl)
       (page_left (with_faults s o.faults) f))) failed
   idle_kept (act.Deactivate u) busy = same (emptied s c u) (is_emptied s c u)
   idle_kept act.Commit busy = commits (next_command s (process_at s c))

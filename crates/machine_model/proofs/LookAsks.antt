@@ -1,6 +1,6 @@
 -- What the actions of a look ask follows from the promise, from what the look finds, and from what the calls of the
 -- store say.
-use Rattle.std.proofs.Common.{◌≡◌, ◌<◌, ◌≤◌, ℕ, zero, suc, ◌+◌, ◌^◌, Bool, true, false, not, ◌&&◌, cond, eqb, List}
+use Rattle.std.proofs.Common.{◌≡◌, ◌<◌, ◌≤◌, ℕ, zero, suc, ◌+◌, ◌^◌, Bool, true, false, ◌&&◌, cond, eqb, List}
 use Rattle.std.proofs.Common.{count_by, is_some, is_none, sum, take, [], ◌∷◌, length, get_or, Option, Some, None}
 use Rattle.std.proofs.Common.{inl, inr, refl, sym, ap, subst, ◌∙◌, arith}
 use Rattle.std.specs.Prelude.{◌/◌, nat_le, slice_index, IsSomeAnd, IfSome}
@@ -65,6 +65,7 @@ use Rattle.machine_model.proofs.TransferKept.{active_at}
 use Rattle.machine_model.proofs.ListSizes.{pool_small}
 use Rattle.machine_model.proofs.FlatAlike.{older}
 use Rattle.machine_model.proofs.SpeakLaws.{speaks_like}
+use Rattle.machine_model.proofs.FindLaws.{first_idle}
 
 -- ---- nodes and places
 
@@ -192,22 +193,13 @@ module _ (s : State) (c : ℕ) (o : Outcome) (m : IsMachine s) (idle : IsIdle s.
       by : (x : Option Node) → node_in nodes u ≡ x → is_some x ≡ true → CanActivateAt s u place
       by None at there = absurd (let none : false ≡ true = there in cc)
       by (Some n) at there = record {
-        may = may_activate u place n at (first_idle (chain_of nodes finds.link.about) u first)
+        may = may_activate u place n at (first_idle s.store.ast (chain_of nodes finds.link.about) u first)
             (ap (free_place s.store.ast) (sym (ap pool_of_node at)) ∙ finds.free)
             (superior_active nodes tree s.store.ast finds.link.about u n first at);
         free = free_is (pool_of_node (node_in nodes u)) place finds.free;
         within = free_within (pool_of_node (node_in nodes u)) place finds.free;
         says = activated_says s c o u place keeps says idle.cut;
       }
-        where
-          first_idle : (chain : List ℕ) (v : ℕ) → first_inactive s.store.ast chain ≡ Some v
-              → is_active s.store.ast v ≡ false
-          first_idle chain v h = off (is_active s.store.ast v)
-              (find_true (λ w. not (is_active s.store.ast w)) chain v h)
-            where
-              off : (b : Bool) → not b ≡ true → b ≡ false
-              off false e = refl
-              off true e = absurd (let none : false ≡ true = e in cc)
 
   -- ---- a descriptor is connected
 

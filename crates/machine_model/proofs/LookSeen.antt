@@ -58,7 +58,7 @@ use Rattle.machine_model.proofs.ActiveSeen.{active_place}
 use Rattle.machine_model.proofs.ChainFacts.{chain_active, first_there}
 use Rattle.machine_model.proofs.ComingKept.{SameRuns, all_taken, segment}
 use Rattle.machine_model.proofs.CommandFacts.{LeadsToSegment, length_stands, truncate_stands}
-use Rattle.machine_model.proofs.FindLaws.{choice_bound, find_true, free_frame, position_at, position_none}
+use Rattle.machine_model.proofs.FindLaws.{choice_bound, free_frame, position_at, position_none}
 use Rattle.machine_model.proofs.ForeseeLaws.{has_answer, waits_reading}
 use Rattle.machine_model.proofs.FrameSeen.{bound_outlined, frame_outlined, named_here, not_here, stored_outlined}
 use Rattle.machine_model.proofs.InsideLaws.{inside_is}
@@ -80,6 +80,7 @@ use Rattle.machine_model.proofs.TieLaws.{none_some}
 use Rattle.machine_model.proofs.TransferKept.{active_at}
 use Rattle.machine_model.proofs.VictimLaws.{has_victim, member_contains, one_read, victim_is_off}
 use Rattle.machine_model.proofs.WantLaws.{linked_here, refer_wants, want_here}
+use Rattle.machine_model.proofs.FindLaws.{first_idle}
 
 no_and : {b : Bool} → b ≡ true → b ≡ false → ⊥
 no_and t f = let none : true ≡ false = sym t ∙ f in cc
@@ -372,14 +373,6 @@ module _ (s : State) (c : ℕ) (m : IsMachine s) (cmd : Command) (sp : Speaks s 
         ∙ ap (λ (b : Bool). cond {A = ℕ} (true && b) 0 1) (all_fits h _ refl),
   )
 
-  first_idle : (chain : List ℕ) (v : ℕ) → first_inactive s.store.ast chain ≡ Some v → is_active s.store.ast v ≡ false
-  first_idle chain v h = off (is_active s.store.ast v)
-      (find_true (λ w. not (is_active s.store.ast w)) chain v h)
-    where
-      off : (b : Bool) → not b ≡ true → b ≡ false
-      off false e = refl
-      off true e = absurd (let none : false ≡ true = e in cc)
-
   activate_finds : (u place : ℕ) → FindsPlace s k cmd u place → CanActivate (outline_of s) c place u
   unfolding outline_of
   activate_finds u place finds = record {
@@ -388,7 +381,7 @@ module _ (s : State) (c : ℕ) (m : IsMachine s) (cmd : Command) (sp : Speaks s 
         (finds.link.chain_is ∙ sym (about_chain finds.link.about finds.link.case))
         (member_contains finds.chain u
         (found_member (λ w. not (is_active s.store.ast w)) finds.chain u finds.link.first));
-    idle = first_idle finds.chain u finds.link.first;
+    idle = first_idle s.store.ast finds.chain u finds.link.first;
     free = free_is s c (no_call s) m idle cmd sp _ place finds.free;
     within = free_within s c (no_call s) m idle cmd sp _ place finds.free;
   }

@@ -52,7 +52,7 @@ use Rattle.machine_model.specs.Working.{IsReached, MayFailBy}
 use Rattle.machine_model.proofs.CommandFacts.{LeadsToSegment, truncate_stands}
 use Rattle.machine_model.proofs.CommitKept.{effected}
 use Rattle.machine_model.proofs.CommitRights.{LeavesNames, inactive_names, truncated_names}
-use Rattle.machine_model.proofs.EntitledKept.{SameNames}
+use Rattle.machine_model.proofs.EntitledKept.{SameNames, names_stay}
 use Rattle.machine_model.proofs.EntitledKept as names
 use Rattle.machine_model.proofs.InsideLaws.{inside_is}
 use Rattle.machine_model.proofs.LeaveSeen.{told_reads}
@@ -354,7 +354,7 @@ module _ (s : State) (c : ℕ) (o : Outcome) (m : IsMachine s) (there : c < leng
       back = segs_back (pages_back fault (frames_of_owner s.owner)) (cut_of_owner s.owner)
 
       same : SameNames s back
-      same = names.on s fault back (record { nodes = refl; whos = refl; known = refl; processors = refl })
+      same = names.on s fault back (names_stay refl refl refl refl)
           (names.on fault (pages_back fault (frames_of_owner s.owner)) back
           (names.all_pages_back fault (frames_of_owner s.owner))
           (names.all_segs_back (pages_back fault (frames_of_owner s.owner)) (cut_of_owner s.owner)))
@@ -570,7 +570,7 @@ module _ (s : State) (c : ℕ) (o : Outcome) (m : IsMachine s) (there : c < leng
   reading_kept (act.Start f u q) may kept = starts f u q may.0 may.1.0 may.1.1 may.1.2
   reading_kept (act.Evict f) may kept = reads_like s (eviction_begun s c f)
       (names.on s (with_store s (with_choice s.store f)) (eviction_begun s c f)
-      (record { nodes = refl; whos = refl; known = refl; processors = refl })
+      (names_stay refl refl refl refl)
       (names.one_taken (with_store s (with_choice s.store f)) c aim.Evicting (what.Page f) f))
       (seats.still refl refl refl refl) h
   reading_kept (act.Empty u) may kept = reads_like s _
@@ -601,12 +601,12 @@ module _ (s : State) (c : ℕ) (o : Outcome) (m : IsMachine s) (there : c < leng
   reading_kept (act.FinishEviction f) may kept = by_end o (eviction_done (with_faults s o.faults) c f)
       (write_failed s c o.faults) (reads_like s (eviction_done (with_faults s o.faults) c f)
       (names.on s (with_faults s o.faults) (eviction_done (with_faults s o.faults) c f)
-      (record { nodes = refl; whos = refl; known = refl; processors = refl })
+      (names_stay refl refl refl refl)
       (names.evicted (with_faults s o.faults) c f)) (seats.still refl refl refl refl) h) (failed_read may)
   reading_kept (act.FinishPage f) may kept = by_end o (page_done (with_faults s o.faults) f)
       (write_failed s c o.faults) (reads_like s (page_done (with_faults s o.faults) f)
       (names.on s (with_faults s o.faults) (page_done (with_faults s o.faults) f)
-      (record { nodes = refl; whos = refl; known = refl; processors = refl })
+      (names_stay refl refl refl refl)
       (names.page_left (with_faults s o.faults) f)) (seats.still refl refl refl refl) h) (failed_read may)
   reading_kept (act.Deactivate u) may kept = reads_like s (emptied s c u) (names.is_emptied s c u)
       (seats.is_emptied s c u) h
