@@ -281,7 +281,8 @@ module _ (s : State) (c k : ℕ) (path : Path) where
           reads = λ g. (freed_reads s.store.pages fs within g ∙ (freed_none (seen s).reads fs unread g
               ∙ ap (λ (x : Seen). x.reads g) (sym rest))) i;
           words = words;
-          active = λ v. (active_less s.store.ast node can.whole.active keeps.store.kept.tree.once keeps.store.kept.places v
+          active = λ v. (active_less s.store.ast node can.whole.active keeps.store.kept.tree.once
+              keeps.store.kept.places v
               ∙ ap (λ (x : Seen). at_put x.active node false v) (sym rest)) i;
           linked = λ j n. (ap (λ (v : Seen). v.linked j n)
               (deactivate_seen s node can.whole.active keeps.store.kept.tree.once keeps.store.kept.places unlinked)

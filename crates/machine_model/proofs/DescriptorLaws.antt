@@ -182,7 +182,8 @@ module _ (v : Seen) (d : CutDescriptor) (owner : Option Owner) (k : KeepsBook v)
   others_uncut linked same j n m = ap (λ (o : Option ℕ). descriptor_use o (cut_uid (cut_of_owner owner) j n))
       (same j n m)
       ∙ ap (descriptor_use (v.linked j n)) (ap (λ (ds : List CutDescriptor). cut_uid ds j n) can.first.left
-      ∙ (sym (cut_rest d can.first.rest j n m) ∙ ap (λ (ds : List CutDescriptor). cut_uid ds j n) (sym can.first.first)))
+      ∙ (sym (cut_rest d can.first.rest j n m)
+      ∙ ap (λ (ds : List CutDescriptor). cut_uid ds j n) (sym can.first.first)))
 
   -- the descriptor is used otherwise, as one that nobody holds
   finished_keeps : (e : Entry) (linked : ℕ → ℕ → Option ℕ) (made : DescriptorUse) → IsLawful v.plan (flat v) e
