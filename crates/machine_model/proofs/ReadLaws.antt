@@ -7,7 +7,7 @@ use Rattle.processor.specs.declared.Transfer.{Transfer}
 use Rattle.machine_model.specs.Outline.{Want, Runner, no_runner, Look, Outline, Turn, runner_at, want_at, with_runner}
 use Rattle.machine_model.specs.Outline.{with_frame, frame_in}
 use Rattle.machine_model.specs.Measures.{parts_of, is_of, wanted_fits, lack, over, dues, readers, all_rank, job_rank}
-use Rattle.machine_model.specs.Finishing.{Comes, Clears, Reads, Works, Loads, Leaves, Commands, rule_of, IsIn, Step}
+use Rattle.machine_model.specs.Finishing.{Reads, rule_of, IsIn, Step}
 use Rattle.machine_model.specs.Finishing.{ends, comes, clears, reads, loses, works, awaits_clear, awaits_transfer}
 use Rattle.machine_model.specs.Finishing.{loads, idles, leaves, fills, replies, faults, enters, waits, HasLost}
 use Rattle.machine_model.specs.Finishing.{with_bound, not_reading}
@@ -21,6 +21,7 @@ use Rattle.machine_model.proofs.OuterLaws.{all_fewer}
 use Rattle.machine_model.proofs.GoesLaws.{all_set}
 use Rattle.machine_model.proofs.StepLaws.{no_both, inside, none_due, other_than}
 use Rattle.machine_model.proofs.GoesLaws.{same_command}
+use Rattle.machine_model.specs.Finishing.{Rule}
 
 -- the rule that applies to a processor that reads, while the owner looks
 reads_rule : (s : Outline) (d : ℕ) (r : Transfer) → IsKept s → dues s.runners ≡ 0
@@ -106,37 +107,33 @@ lost_falls s c d r x left k l look idle reading lost fewer =
     (λ uid page makes there. here_same s.frames r.frame uid page frame.Free (k.tied.read d r reading).1
     (not_of s d r k reading uid page) refl ∙ there) (λ uid page there. inr there) (λ uid page out. out) h)
 
+-- the processor whose transfer is awaited does nothing else
+reads_only : {s : Outline} {c f d : ℕ} {r : Rule} → IsKept s → AwaitsTransfer s c f → IsReader s f d → rule_of s d ≡ r
+    → Reads ≡ r
+reads_only {s = s} {c = c} {d = d} k awaits reader h =
+    sym (reads_rule s d _ k (k.job.fits c Look awaits.look) reader.reading) ∙ h
+
 pub read_step : (s : Outline) (c f d : ℕ) (turn : Turn) (t : Outline) → IsKept s → IsKept t → AwaitsTransfer s c f
     → IsReader s f d → Step s d turn t → (job_rank t < job_rank s) × IsUnderWay s t c
 read_step s c f d turn t k l awaits reader (ends ended) =
     absurd (no_both (k.job.at_work c Look awaits.look).running (ended.running c))
-read_step s c f d turn t k l awaits reader (comes h) =
-    let no : Reads ≡ Comes = sym (reads_rule s d _ k (k.job.fits c Look awaits.look) reader.reading) ∙ h in absurd cc
-read_step s c f d turn t k l awaits reader (clears x h cleared) =
-    let no : Reads ≡ Clears = sym (reads_rule s d _ k (k.job.fits c Look awaits.look) reader.reading) ∙ h in absurd cc
+read_step s c f d turn t k l awaits reader (comes h) = let no = reads_only k awaits reader h in absurd cc
+read_step s c f d turn t k l awaits reader (clears x h cleared) = let no = reads_only k awaits reader h in absurd cc
 read_step s c f d turn t k l awaits reader (reads r used modified h is) =
     bound_falls s c d r used modified k l awaits.look (k.job.at_work c Look awaits.look).idle is
 read_step s c f d turn t k l awaits reader (loses r x left h is lost fewer) =
     lost_falls s c d r x left k l awaits.look (k.job.at_work c Look awaits.look).idle is lost fewer
-read_step s c f d turn t k l awaits reader (works _ h step) =
-    let no : Reads ≡ Works = sym (reads_rule s d _ k (k.job.fits c Look awaits.look) reader.reading) ∙ h in absurd cc
+read_step s c f d turn t k l awaits reader (works _ h step) = let no = reads_only k awaits reader h in absurd cc
 read_step s c f d turn t k l awaits reader (awaits_clear w e h waiting online due) =
-    let no : Reads ≡ Works = sym (reads_rule s d _ k (k.job.fits c Look awaits.look) reader.reading) ∙ h in absurd cc
+    let no = reads_only k awaits reader h in absurd cc
 read_step s c f d turn t k l awaits reader (awaits_transfer g uid page h look started) =
-    let no : Reads ≡ Works = sym (reads_rule s d _ k (k.job.fits c Look awaits.look) reader.reading) ∙ h in absurd cc
-read_step s c f d turn t k l awaits reader (loads x h some loaded) =
-    let no : Reads ≡ Loads = sym (reads_rule s d _ k (k.job.fits c Look awaits.look) reader.reading) ∙ h in absurd cc
-read_step s c f d turn t k l awaits reader (idles busy h none) =
-    let no : Reads ≡ Loads = sym (reads_rule s d _ k (k.job.fits c Look awaits.look) reader.reading) ∙ h in absurd cc
-read_step s c f d turn t k l awaits reader (leaves x h left) =
-    let no : Reads ≡ Leaves = sym (reads_rule s d _ k (k.job.fits c Look awaits.look) reader.reading) ∙ h in absurd cc
-read_step s c f d turn t k l awaits reader (fills x h filled) =
-    let no : Reads ≡ Commands = sym (reads_rule s d _ k (k.job.fits c Look awaits.look) reader.reading) ∙ h in absurd cc
-read_step s c f d turn t k l awaits reader (replies _ h replied) =
-    let no : Reads ≡ Commands = sym (reads_rule s d _ k (k.job.fits c Look awaits.look) reader.reading) ∙ h in absurd cc
+    let no = reads_only k awaits reader h in absurd cc
+read_step s c f d turn t k l awaits reader (loads x h some loaded) = let no = reads_only k awaits reader h in absurd cc
+read_step s c f d turn t k l awaits reader (idles busy h none) = let no = reads_only k awaits reader h in absurd cc
+read_step s c f d turn t k l awaits reader (leaves x h left) = let no = reads_only k awaits reader h in absurd cc
+read_step s c f d turn t k l awaits reader (fills x h filled) = let no = reads_only k awaits reader h in absurd cc
+read_step s c f d turn t k l awaits reader (replies _ h replied) = let no = reads_only k awaits reader h in absurd cc
 read_step s c f d turn t k l awaits reader (faults chain uid page makes h none want lacks) =
-    let no : Reads ≡ Commands = sym (reads_rule s d _ k (k.job.fits c Look awaits.look) reader.reading) ∙ h in absurd cc
-read_step s c f d turn t k l awaits reader (enters h none want) =
-    let no : Reads ≡ Commands = sym (reads_rule s d _ k (k.job.fits c Look awaits.look) reader.reading) ∙ h in absurd cc
-read_step s c f d turn t k l awaits reader (waits o h some) =
-    let no : Reads ≡ Commands = sym (reads_rule s d _ k (k.job.fits c Look awaits.look) reader.reading) ∙ h in absurd cc
+    let no = reads_only k awaits reader h in absurd cc
+read_step s c f d turn t k l awaits reader (enters h none want) = let no = reads_only k awaits reader h in absurd cc
+read_step s c f d turn t k l awaits reader (waits o h some) = let no = reads_only k awaits reader h in absurd cc

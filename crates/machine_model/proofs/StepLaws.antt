@@ -8,7 +8,7 @@ use Rattle.processor.specs.declared.Transfer.{Transfer}
 use Rattle.machine_model.specs.Outline.{Runner, no_runner, Stage, Waiting, Keeper, Outline, Turn, runner_at}
 use Rattle.machine_model.specs.Outline.{with_runner}
 use Rattle.machine_model.specs.Measures.{rank_of, parts_of, lack, dues, job_rank}
-use Rattle.machine_model.specs.Finishing.{Comes, Clears, Reads, Works, Loads, Leaves, Commands, rule_of, owns, IsIn}
+use Rattle.machine_model.specs.Finishing.{Clears, Works, rule_of, owns, IsIn}
 use Rattle.machine_model.specs.Finishing.{Step, ends, comes, clears, reads, loses, works, awaits_clear}
 use Rattle.machine_model.specs.Finishing.{awaits_transfer, loads, idles, leaves, fills, replies, faults, enters, waits}
 use Rattle.machine_model.specs.Finishing.{IsCleared}
@@ -19,6 +19,7 @@ use Rattle.machine_model.proofs.RankLaws.{falls_due}
 use Rattle.machine_model.proofs.JobLaws.{ranked, job_falls}
 use Rattle.machine_model.proofs.OuterLaws.{over_same}
 use Rattle.machine_model.proofs.GoesLaws.{goes, all_set}
+use Rattle.machine_model.specs.Finishing.{Rule}
 
 -- ---- processors
 
@@ -57,40 +58,33 @@ works_rule s c stage k owner =
     own_self : (i : ℕ) → eqb i i ≡ true
     own_self i = elim (eqb_tells i i) [ inl x ↦ x.0 | inr x ↦ absurd (x.1 refl) ]
 
+-- it is no other rule
+works_only : {s : Outline} {c : ℕ} {stage : Stage} {r : Rule} → IsKept s → IsIn s c stage → rule_of s c ≡ r → Works ≡ r
+works_only {s = s} {c = c} {stage = stage} k owner h = sym (works_rule s c stage k owner) ∙ h
+
 pub owner_step : (s : Outline) (c : ℕ) (stage : Stage) (turn : Turn) (t : Outline) → IsKept s → IsKept t
     → IsIn s c stage → Step s c turn t → OwnerStep turn s t c
 owner_step s c stage turn t k l owner (ends ended) =
     no_both (k.job.at_work c stage owner).running (ended.running c)
-owner_step s c stage turn t k l owner (comes h) =
-    let no : Works ≡ Comes = sym (works_rule s c stage k owner) ∙ h in absurd cc
-owner_step s c stage turn t k l owner (clears x h cleared) =
-    let no : Works ≡ Clears = sym (works_rule s c stage k owner) ∙ h in absurd cc
-owner_step s c stage turn t k l owner (reads r used modified h is) =
-    let no : Works ≡ Reads = sym (works_rule s c stage k owner) ∙ h in absurd cc
-owner_step s c stage turn t k l owner (loses r x left h is lost fewer) =
-    let no : Works ≡ Reads = sym (works_rule s c stage k owner) ∙ h in absurd cc
+owner_step s c stage turn t k l owner (comes h) = let no = works_only k owner h in absurd cc
+owner_step s c stage turn t k l owner (clears x h cleared) = let no = works_only k owner h in absurd cc
+owner_step s c stage turn t k l owner (reads r used modified h is) = let no = works_only k owner h in absurd cc
+owner_step s c stage turn t k l owner (loses r x left h is lost fewer) = let no = works_only k owner h in absurd cc
 owner_step s c stage turn t k l owner (works _ h step) =
     record { rank = job_falls s c t k l step; goes = goes s c t k l step }
 owner_step s c stage turn t k l owner (awaits_clear w d h waiting online due) =
     (refl, record { work = w; waiting = waiting; online = online; due = due })
 owner_step s c stage turn t k l owner (awaits_transfer f uid page h look started) =
     (refl, record { uid = uid; page = page; look = look; started = started })
-owner_step s c stage turn t k l owner (loads x h some loaded) =
-    let no : Works ≡ Loads = sym (works_rule s c stage k owner) ∙ h in absurd cc
-owner_step s c stage turn t k l owner (idles busy h none) =
-    let no : Works ≡ Loads = sym (works_rule s c stage k owner) ∙ h in absurd cc
-owner_step s c stage turn t k l owner (leaves x h left) =
-    let no : Works ≡ Leaves = sym (works_rule s c stage k owner) ∙ h in absurd cc
-owner_step s c stage turn t k l owner (fills x h filled) =
-    let no : Works ≡ Commands = sym (works_rule s c stage k owner) ∙ h in absurd cc
-owner_step s c stage turn t k l owner (replies _ h replied) =
-    let no : Works ≡ Commands = sym (works_rule s c stage k owner) ∙ h in absurd cc
+owner_step s c stage turn t k l owner (loads x h some loaded) = let no = works_only k owner h in absurd cc
+owner_step s c stage turn t k l owner (idles busy h none) = let no = works_only k owner h in absurd cc
+owner_step s c stage turn t k l owner (leaves x h left) = let no = works_only k owner h in absurd cc
+owner_step s c stage turn t k l owner (fills x h filled) = let no = works_only k owner h in absurd cc
+owner_step s c stage turn t k l owner (replies _ h replied) = let no = works_only k owner h in absurd cc
 owner_step s c stage turn t k l owner (faults chain uid page makes h none want lacks) =
-    let no : Works ≡ Commands = sym (works_rule s c stage k owner) ∙ h in absurd cc
-owner_step s c stage turn t k l owner (enters h none want) =
-    let no : Works ≡ Commands = sym (works_rule s c stage k owner) ∙ h in absurd cc
-owner_step s c stage turn t k l owner (waits o h some) =
-    let no : Works ≡ Commands = sym (works_rule s c stage k owner) ∙ h in absurd cc
+    let no = works_only k owner h in absurd cc
+owner_step s c stage turn t k l owner (enters h none want) = let no = works_only k owner h in absurd cc
+owner_step s c stage turn t k l owner (waits o h some) = let no = works_only k owner h in absurd cc
 
 -- ---- a processor that is to clear
 
@@ -98,6 +92,9 @@ clears_rule : (s : Outline) (d : ℕ) → (runner_at s.runners d).online ≡ tru
     → rule_of s d ≡ Clears
 unfolding rule_of
 clears_rule s d online due = rw (online, due) refl
+
+clears_only : {s : Outline} {c d : ℕ} {r : Rule} → AwaitsClear s c d → rule_of s d ≡ r → Clears ≡ r
+clears_only {s = s} {d = d} awaits h = sym (clears_rule s d awaits.online awaits.due) ∙ h
 
 pub other_than : (s : Outline) (c d : ℕ) (P : Runner → Bool) → P (runner_at s.runners c) ≡ false
     → P (runner_at s.runners d) ≡ true → c ≢ d
@@ -148,32 +145,20 @@ pub clear_step : (s : Outline) (c d : ℕ) (turn : Turn) (t : Outline) → IsKep
     → (job_rank t < job_rank s) × IsUnderWay s t c
 clear_step s c d turn t k awaits (ends ended) =
     absurd (no_both (k.job.at_work c (Waiting awaits.work) awaits.waiting).running (ended.running c))
-clear_step s c d turn t k awaits (comes h) =
-    let no : Clears ≡ Comes = sym (clears_rule s d awaits.online awaits.due) ∙ h in absurd cc
+clear_step s c d turn t k awaits (comes h) = let no = clears_only awaits h in absurd cc
 clear_step s c d turn t k awaits (clears x h cleared) = cleared_falls s c d x k awaits cleared
-clear_step s c d turn t k awaits (reads r used modified h is) =
-    let no : Clears ≡ Reads = sym (clears_rule s d awaits.online awaits.due) ∙ h in absurd cc
-clear_step s c d turn t k awaits (loses r x left h is lost fewer) =
-    let no : Clears ≡ Reads = sym (clears_rule s d awaits.online awaits.due) ∙ h in absurd cc
-clear_step s c d turn t k awaits (works _ h step) =
-    let no : Clears ≡ Works = sym (clears_rule s d awaits.online awaits.due) ∙ h in absurd cc
-clear_step s c d turn t k awaits (awaits_clear w e h waiting online due) =
-    let no : Clears ≡ Works = sym (clears_rule s d awaits.online awaits.due) ∙ h in absurd cc
+clear_step s c d turn t k awaits (reads r used modified h is) = let no = clears_only awaits h in absurd cc
+clear_step s c d turn t k awaits (loses r x left h is lost fewer) = let no = clears_only awaits h in absurd cc
+clear_step s c d turn t k awaits (works _ h step) = let no = clears_only awaits h in absurd cc
+clear_step s c d turn t k awaits (awaits_clear w e h waiting online due) = let no = clears_only awaits h in absurd cc
 clear_step s c d turn t k awaits (awaits_transfer f uid page h look started) =
-    let no : Clears ≡ Works = sym (clears_rule s d awaits.online awaits.due) ∙ h in absurd cc
-clear_step s c d turn t k awaits (loads x h some loaded) =
-    let no : Clears ≡ Loads = sym (clears_rule s d awaits.online awaits.due) ∙ h in absurd cc
-clear_step s c d turn t k awaits (idles busy h none) =
-    let no : Clears ≡ Loads = sym (clears_rule s d awaits.online awaits.due) ∙ h in absurd cc
-clear_step s c d turn t k awaits (leaves x h left) =
-    let no : Clears ≡ Leaves = sym (clears_rule s d awaits.online awaits.due) ∙ h in absurd cc
-clear_step s c d turn t k awaits (fills x h filled) =
-    let no : Clears ≡ Commands = sym (clears_rule s d awaits.online awaits.due) ∙ h in absurd cc
-clear_step s c d turn t k awaits (replies _ h replied) =
-    let no : Clears ≡ Commands = sym (clears_rule s d awaits.online awaits.due) ∙ h in absurd cc
+    let no = clears_only awaits h in absurd cc
+clear_step s c d turn t k awaits (loads x h some loaded) = let no = clears_only awaits h in absurd cc
+clear_step s c d turn t k awaits (idles busy h none) = let no = clears_only awaits h in absurd cc
+clear_step s c d turn t k awaits (leaves x h left) = let no = clears_only awaits h in absurd cc
+clear_step s c d turn t k awaits (fills x h filled) = let no = clears_only awaits h in absurd cc
+clear_step s c d turn t k awaits (replies _ h replied) = let no = clears_only awaits h in absurd cc
 clear_step s c d turn t k awaits (faults chain uid page makes h none want lacks) =
-    let no : Clears ≡ Commands = sym (clears_rule s d awaits.online awaits.due) ∙ h in absurd cc
-clear_step s c d turn t k awaits (enters h none want) =
-    let no : Clears ≡ Commands = sym (clears_rule s d awaits.online awaits.due) ∙ h in absurd cc
-clear_step s c d turn t k awaits (waits o h some) =
-    let no : Clears ≡ Commands = sym (clears_rule s d awaits.online awaits.due) ∙ h in absurd cc
+    let no = clears_only awaits h in absurd cc
+clear_step s c d turn t k awaits (enters h none want) = let no = clears_only awaits h in absurd cc
+clear_step s c d turn t k awaits (waits o h some) = let no = clears_only awaits h in absurd cc
