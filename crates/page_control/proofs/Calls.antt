@@ -29,7 +29,7 @@ use Rattle.page_control.specs.Picture.{words_at, words_out, words_filed, is_file
 use Rattle.page_control.specs.Picture.{ChangesWords, ChangesStored}
 use Rattle.page_control.specs.Tied.{frame_of, has_record, is_away, is_out, map_at, IsTableOf, IsMapOf}
 use Rattle.page_control.specs.Ties.{IsTied, KeepsOthers}
-use Rattle.page_control.proofs.Facts.{binding_is, bindings_lost, bindings_with, starts_with, starts_same, bound_idle}
+use Rattle.page_control.proofs.Facts.{binding_is, bindings_lost, bindings_with, starts_with, seen_same, bound_idle}
 use Rattle.page_control.proofs.Facts.{filed_in_use, within_from, record_is}
 use Rattle.page_control.proofs.Facts.{tied_filed, leaving_within}
 use Rattle.page_control.proofs.Ties.{not_none, frame_same, map_place, map_word, map_read, table_word, table_left}
@@ -288,7 +288,8 @@ pub starts_left : {E : Type 0} (result : Result Left E) {s now : Plain} {t u : L
 starts_left (Err x) e = ap (λ (x : Plain). reads_of x.core) e.left.effect
 starts_left (Ok left) {s = s} {now = now} {uid = uid} {home = home} {p = p} {f = f} e =
     ap reads_of (core_left s now home p f left e.left.effect)
-    ∙ starts_same s.core f Free (sym (bound_idle (frame_in s f) uid p (sym (binding_is s.core f) ∙ bound_at e)))
+    ∙ seen_same started_page s.core f Free (sym (bound_idle (frame_in s f) uid p
+    (sym (binding_is s.core f) ∙ bound_at e)))
 
 pub taken_left : {E : Type 0} (result : Result Left E) {s now : Plain} {t u : List Ptw} {uid : ℕ} {home : Home}
     {p f : ℕ} → Evicts s now t u uid home p f result
@@ -641,7 +642,7 @@ pub starts_created : {T E : Type 0} (result : Result T E) {s now : Plain} {t u :
     → reads_of now.core ≡ reads_of s.core
 starts_created (Err x) e = ap (λ (y : Plain). reads_of y.core) e.made.effect
 starts_created (Ok x) {s = s} {uid = uid} {p = p} {f = f} e =
-    ap (λ (y : Plain). reads_of y.core) e.made.effect ∙ starts_same s.core f (Bound uid p true true)
+    ap (λ (y : Plain). reads_of y.core) e.made.effect ∙ seen_same started_page s.core f (Bound uid p true true)
     (sym (ap started_page e.free))
 
 pub taken_created : {T E : Type 0} (result : Result T E) {s now : Plain} {t u : List Ptw} {uid : ℕ} {home : Home}
@@ -843,7 +844,7 @@ starts_by s now uid home p t (Out r) at table is = ap (λ (x : Plain). reads_of 
 starts_by s now uid home p t (Here f) at table is = ap (λ (x : Plain). reads_of x.core) is
 starts_by s now uid home p t (Leaving f) at table is =
     ap (λ (x : Plain). reads_of x.core) is
-    ∙ starts_same s.core f Free (sym (bound_idle (frame_in s f) uid p
+    ∙ seen_same started_page s.core f Free (sym (bound_idle (frame_in s f) uid p
     (sym (binding_is s.core f) ∙ table.back f p (ap frame_of at))))
 
 pub starts_dropped : {s now : Plain} {t u : List Ptw} {uid : ℕ} {home : Home} {p : ℕ} → Drops s now t u uid home p

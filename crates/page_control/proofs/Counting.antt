@@ -15,6 +15,7 @@ use Rattle.page_control.specs.declared.Home.{Home}
 use Rattle.page_control.specs.declared.Left.{Left}
 use Rattle.page_control.specs.declared.Left.TheVariants.{Released, Kept}
 use Rattle.core_map.specs.declared.Frame.TheVariants.{Free}
+use Rattle.core_map.specs.CoreMap.{Core}
 use Rattle.page_table.specs.declared.Ptw.{Ptw}
 use Rattle.page_table.specs.declared.Ptw.TheVariants.{Null, Out, Here, Leaving}
 use Rattle.page_control.specs.Effects.{erased, freed, evicted, created, brought_in, framed, dropped}
@@ -69,16 +70,39 @@ disks_saved : (disks : List (List (List ℕ))) (b : Bool) (v : ℕ) (pages : Lis
 disks_saved disks true v pages = length-set disks v pages
 disks_saved disks false v pages = refl
 
+-- frames change, and they are as many as before
+counts_framed : (s : Plain) (core : Core) (frames : List (List ℕ)) → length core.frames ≡ length s.core.frames
+    → KeepsCounts s (record s { core = core; frames = frames })
+counts_framed s core frames many = record {
+  used = refl;
+  places = refl;
+  flags = refl;
+  volumes = refl;
+  frames = many;
+}
+
+-- a page is given a record, or gives it back
+counts_refiled : (s : Plain) (core : Core) (frames : List (List ℕ)) (home : Home) (p r : ℕ) (place : Option ℕ)
+    (flag : Bool) → length core.frames ≡ length s.core.frames
+    → KeepsCounts s (record s {
+      core = core;
+      frames = frames;
+      records = put s.records home.volume r flag;
+      vtocs = refile s.vtocs home p place;
+    })
+counts_refiled s core frames home p r place flag many = record {
+  used = used_refiled s.vtocs home p place;
+  places = places_refiled s.vtocs home p place;
+  flags = flags_put s.records home.volume r flag;
+  volumes = refl;
+  frames = many;
+}
+
 -- a page that left its frame, one that was read and one that was created
 pub counts_evicted : (s now : Plain) (home : Home) (p f : ℕ) (left : Left) → now ≡ evicted s home p f left
     → KeepsCounts s now
-counts_evicted s now home p f Released is = rw is (record {
-  used = used_refiled s.vtocs home p None;
-  places = places_refiled s.vtocs home p None;
-  flags = flags_put s.records home.volume _ false;
-  volumes = refl;
-  frames = length-set s.core.frames f _;
-})
+counts_evicted s now home p f Released is =
+    rw is (counts_refiled s _ _ home p _ None false (length-set s.core.frames f _))
 counts_evicted s now home p f Kept is = rw is (record {
   used = refl;
   places = refl;
@@ -88,23 +112,12 @@ counts_evicted s now home p f Kept is = rw is (record {
 })
 
 pub counts_read : (s now : Plain) (uid p v r f : ℕ) → now ≡ brought_in s uid p v r f → KeepsCounts s now
-counts_read s now uid p v r f is = rw is (record {
-  used = refl;
-  places = refl;
-  flags = refl;
-  volumes = refl;
-  frames = length-set s.core.frames f _;
-})
+counts_read s now uid p v r f is = rw is (counts_framed s _ _ (length-set s.core.frames f _))
 
 pub counts_created : (s now : Plain) (uid p : ℕ) (home : Home) (r f at w : ℕ) → now ≡ created s uid p home r f at w
     → KeepsCounts s now
-counts_created s now uid p home r f at w is = rw is (record {
-  used = used_refiled s.vtocs home p (Some r);
-  places = places_refiled s.vtocs home p (Some r);
-  flags = flags_put s.records home.volume r true;
-  volumes = refl;
-  frames = length-set s.core.frames f _;
-})
+counts_created s now uid p home r f at w is =
+    rw is (counts_refiled s _ _ home p r (Some r) true (length-set s.core.frames f _))
 
 -- a count that changes for one volume alone
 pub more_by : (old new : ℕ → ℕ) (v : ℕ) → new v ≡ old v + 1 → ((w : ℕ) → w ≢ v → new w ≡ old w) → new ≡ one_more old v
@@ -173,53 +186,18 @@ taken_less records v r is =
 
 -- a page that couldn't be read, and one that is dropped
 pub counts_lost : (s now : Plain) (f : ℕ) → now ≡ framed s f Free → KeepsCounts s now
-counts_lost s now f is = rw is (record {
-  used = refl;
-  places = refl;
-  flags = refl;
-  volumes = refl;
-  frames = length-set s.core.frames f _;
-})
+counts_lost s now f is = rw is (counts_framed s _ _ (length-set s.core.frames f _))
 
 pub counts_same : (s now : Plain) → now ≡ s → KeepsCounts s now
-counts_same s now is = rw is (record {
-  used = refl;
-  places = refl;
-  flags = refl;
-  volumes = refl;
-  frames = refl;
-})
+counts_same s now is = rw is (counts_framed s _ _ refl)
 
 pub counts_dropped : (s now : Plain) (home : Home) (p : ℕ) (word : Ptw) → now ≡ dropped s home p word
     → KeepsCounts s now
-counts_dropped s now home p Null is = rw is (record {
-  used = used_refiled s.vtocs home p None;
-  places = places_refiled s.vtocs home p None;
-  flags = flags_put s.records home.volume _ false;
-  volumes = refl;
-  frames = refl;
-})
-counts_dropped s now home p (Out r) is = rw is (record {
-  used = used_refiled s.vtocs home p None;
-  places = places_refiled s.vtocs home p None;
-  flags = flags_put s.records home.volume _ false;
-  volumes = refl;
-  frames = refl;
-})
-counts_dropped s now home p (Here f) is = rw is (record {
-  used = used_refiled s.vtocs home p None;
-  places = places_refiled s.vtocs home p None;
-  flags = flags_put s.records home.volume _ false;
-  volumes = refl;
-  frames = refl;
-})
-counts_dropped s now home p (Leaving f) is = rw is (record {
-  used = used_refiled s.vtocs home p None;
-  places = places_refiled s.vtocs home p None;
-  flags = flags_put s.records home.volume _ false;
-  volumes = refl;
-  frames = length-set s.core.frames f _;
-})
+counts_dropped s now home p Null is = rw is (counts_refiled s _ _ home p _ None false refl)
+counts_dropped s now home p (Out r) is = rw is (counts_refiled s _ _ home p _ None false refl)
+counts_dropped s now home p (Here f) is = rw is (counts_refiled s _ _ home p _ None false refl)
+counts_dropped s now home p (Leaving f) is =
+    rw is (counts_refiled s _ _ home p _ None false (length-set s.core.frames f _))
 
 -- the counts of used entries
 pub count_more : (table : List (Option Entry)) (e uid : ℕ) → e < length table → entry_at table e ≡ None

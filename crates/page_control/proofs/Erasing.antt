@@ -1,7 +1,7 @@
 -- A segment that is erased.
 use Rattle.std.proofs.Common.{◌≡◌, ◌≢◌, ℕ, ◌+◌, ◌<◌, Bool, true, false, List, [], ◌∷◌, length, Option, None, Some}
 use Rattle.std.proofs.Common.{refl, sym, ap, ◌∙◌, arith, get_or, set, drop}
-use Rattle.std.proofs.Common.{is_some, count_by, replicate, inl, inr}
+use Rattle.std.proofs.Common.{is_some, count_by, replicate, inl, inr, subst}
 use Rattle.std.proofs.lemmas.Bool.{cases_eq}
 use Rattle.std.proofs.lemmas.Bool.Decides.{leb_tells}
 use Rattle.std.proofs.lemmas.List.{get_or-set_same, get_or-set_other, get_or_past, set-set, set-get_or, at_drop_all}
@@ -126,11 +126,23 @@ part_some old s now uid home n is there part =
       count = count_some old s uid home n r h there on part.count;
     })
 
--- all pages have given their records back, and the entry is freed
-pub all_erased : (old s now : Plain) (uid : ℕ) (home : Home) → IsPartErased old s uid home 256
-    → length (file_map_of s home) ≡ 256
+-- all pages have given their records back
+pub record Ended (old s : Plain) (uid : ℕ) (home : Home) : Type 0 where
+  pub part : IsPartErased old s uid home 256
+  pub full : HasFullMaps (vtoc_in s.vtocs home.volume)
+
+pub ended : {old s : Plain} {uid n : ℕ} {home : Home} {table : List (Option Entry)} → IsPartErased old s uid home n
+    → HasFullMaps table → n ≡ 256 → table ≡ vtoc_in s.vtocs home.volume → Ended old s uid home
+ended {old = old} {s = s} {uid = uid} {home = home} part full last is = record {
+  part = subst (IsPartErased old s uid home) last part;
+  full = subst HasFullMaps is full;
+}
+
+-- and the entry is freed
+pub all_erased : {old s now : Plain} {uid : ℕ} {home : Home} → Ended old s uid home
     → now ≡ record s { vtocs = put s.vtocs home.volume home.entry None } → now ≡ erased old home
-all_erased old s now uid home part long is =
+all_erased {s = s} {home = home} end is =
+    let long : length (file_map_of s home) ≡ 256 = end.full.places home.entry in
     is ∙ ap (λ (records : List (List Bool)). record s {
       records = records;
       vtocs =
@@ -138,27 +150,24 @@ all_erased old s now uid home part long is =
     })
     (sym (ap (set s.records home.volume) (at_drop_all (freed (flags_of s home.volume)) (file_map_of s home) 256
     (omega (arith, long)))
-    ∙ set-get_or s.records home.volume [])) ∙ part.rest
+    ∙ set-get_or s.records home.volume [])) ∙ end.part.rest
 
-pub names_none : (s : Plain) (uid : ℕ) (home : Home) (old : Plain) → IsPartErased old s uid home 256
-    → HasFullMaps (vtoc_in s.vtocs home.volume)
+pub names_none : {old s : Plain} {uid : ℕ} {home : Home} → Ended old s uid home
     → NamesNoRecord (vtoc_in s.vtocs home.volume) home.entry
-names_none s uid home old part full = record {
+names_none {s = s} {home = home} end = record {
   none = λ q. elim (leb_tells 256 q) [
     | inl past ↦ get_or_past (file_map_of s home) q None
-        (let long : length (file_map_of s home) ≡ 256 = full.places home.entry in omega (arith, long, past.1))
-    | inr lt ↦ part.gone q lt.1
+        (let long : length (file_map_of s home) ≡ 256 = end.full.places home.entry in omega (arith, long, past.1))
+    | inr lt ↦ end.part.gone q lt.1
   ];
 }
 
-pub count_end : (old s : Plain) (records : List (List Bool)) (uid : ℕ) (home : Home) → records ≡ s.records
-    → IsPartErased old s uid home 256
-    → HasFullMaps (vtoc_in s.vtocs home.volume)
+pub count_end : {old s : Plain} {records : List (List Bool)} {uid : ℕ} {home : Home} → Ended old s uid home
+    → records ≡ s.records
     → taken records home.volume + named_on old.vtocs home home.volume ≡ taken old.records home.volume
-count_end old s records uid home same part full =
-    let none : count_by is_some (map_at s.vtocs home) ≡ 0 =
-    none_named (map_at s.vtocs home) (names_none s uid home old part full).none in
-    let all = part.count in
+count_end {old = old} {s = s} {home = home} end same =
+    let none : count_by is_some (map_at s.vtocs home) ≡ 0 = none_named (map_at s.vtocs home) (names_none end).none in
+    let all = end.part.count in
     rw (same, named_here old.vtocs home) (omega (arith, none, all))
 
 -- what erasing leaves to other homes
@@ -225,21 +234,12 @@ ties_erased s now uid home is h filed u other words n tie =
     (uids_erased s now uid home other is h n ∙ tie.used) (maps_erased s now uid home other is h n) filed tie
 
 -- the records that the other file maps name
-pub filed_erased : (records now_records : List (List Bool)) (vtocs now : List (List (Option Entry))) (uid : ℕ)
-    (home : Home) → now_records ≡ records
-    → now ≡ put vtocs home.volume home.entry None → uid_at vtocs home ≡ Some uid
-    → NamesNoRecord (vtoc_in vtocs home.volume) home.entry → AreFiled records vtocs
-    → AreFiled now_records now
-filed_erased records now_records vtocs now uid home r is h gone filed =
-    rw (r, is) (filed_freed records vtocs uid home h gone.none no_record filed)
-
-pub full_same : (table those : List (Option Entry)) → table ≡ those → HasFullMaps those → HasFullMaps table
-full_same table those same full = rw same full
+pub filed_erased : {old s : Plain} {records : List (List Bool)} {vtocs : List (List (Option Entry))} {uid : ℕ}
+    {home : Home} → Ended old s uid home → records ≡ s.records → vtocs ≡ put s.vtocs home.volume home.entry None
+    → AreFiled records vtocs
+filed_erased {s = s} {uid = uid} {home = home} end r is =
+    rw (r, is) (filed_freed s.records s.vtocs uid home end.part.at (names_none end).none no_record end.part.records)
 
 pub names_same : (table those : List (Option Entry)) (e : ℕ) → table ≡ those → NamesNoRecord those e
     → NamesNoRecord table e
 names_same table those e same none = rw same none
-
-pub part_at : (old s : Plain) (uid : ℕ) (home : Home) (n m : ℕ) → n ≡ m → IsPartErased old s uid home n
-    → IsPartErased old s uid home m
-part_at old s uid home n m same part = rw (sym same) part

@@ -1,6 +1,6 @@
 use Rattle.std.proofs.Common.{◌≡◌, ℕ, ◌<◌, arith, Bool, true, false, List, [], ◌∷◌, ◌++◌, length, Option, None, Some}
 use Rattle.std.proofs.Common.{refl, sym, ap, ◌∙◌, get_or, set}
-use Rattle.std.proofs.Common.{replicate, take, inl, inr, All, IsSome, is_some}
+use Rattle.std.proofs.Common.{replicate, take, map, inl, inr, All, IsSome, is_some}
 use Rattle.std.proofs.lemmas.Bool.Decides.{leb_tells}
 use Rattle.std.proofs.lemmas.List.{get_or_past, get_or-set_same, set-set, map-set, length-map}
 use Rattle.std.proofs.Math.ListN.{get_or-map}
@@ -97,11 +97,13 @@ pub bindings_with : (core : Core) (f : ℕ) (frame : Frame) → bindings (with_f
     ≡ set (bindings core) f (bound_page frame)
 bindings_with core f frame = map-set bound_page core.frames f frame
 
--- a frame that stays bound to the same page, or to none
-pub bindings_same : (core : Core) (f : ℕ) (frame : Frame) → bound_page frame ≡ bound_page (frame_at core f)
-    → bindings (with_frame core f frame) ≡ bindings core
-bindings_same core f frame same = map-set_same bound_page core.frames f frame Free same
+-- what is seen of each frame, where one is replaced that is seen as the same
+pub seen_same : {X : Type 0} (see : Frame → X) (core : Core) (f : ℕ) (frame : Frame) → see frame
+    ≡ see (frame_at core f)
+    → map see (with_frame core f frame).frames ≡ map see core.frames
+seen_same see core f frame same = map-set_same see core.frames f frame Free same
 
+-- a reference through a frame leaves it bound to the same page, or to none
 page_referred : (frame : Frame) (wrote : Bool) → bound_page (after_reference frame wrote) ≡ bound_page frame
 page_referred Free wrote = refl
 page_referred (Started u q) wrote = refl
@@ -109,15 +111,15 @@ page_referred (Bound u q used modified) wrote = refl
 
 pub bindings_referred : (core : Core) (f : ℕ) (wrote : Bool)
     → bindings (with_frame core f (after_reference (frame_at core f) wrote)) ≡ bindings core
-bindings_referred core f wrote = bindings_same core f _ (page_referred (frame_at core f) wrote)
+bindings_referred core f wrote = seen_same bound_page core f _ (page_referred (frame_at core f) wrote)
 
 pub bindings_started : (core : Core) (f uid p : ℕ) → frame_at core f ≡ Free
     → bindings (with_frame core f (Started uid p)) ≡ bindings core
-bindings_started core f uid p free = bindings_same core f (Started uid p) (sym (ap bound_page free))
+bindings_started core f uid p free = seen_same bound_page core f (Started uid p) (sym (ap bound_page free))
 
 pub bindings_lost : (core : Core) (f uid p : ℕ) → frame_at core f ≡ Started uid p → bindings (with_frame core f Free)
     ≡ bindings core
-bindings_lost core f uid p started = bindings_same core f Free (sym (ap bound_page started))
+bindings_lost core f uid p started = seen_same bound_page core f Free (sym (ap bound_page started))
 
 -- the page that a bound frame has
 pub bound_to : (frame : Frame) → is_bound frame ≡ true → bound_page frame ≡ Some (uid_in frame, number_in frame)
@@ -142,19 +144,6 @@ bound_and_marked core f uid p lt =
 pub starts_with : (core : Core) (f : ℕ) (frame : Frame) → reads_of (with_frame core f frame)
     ≡ set (reads_of core) f (started_page frame)
 starts_with core f frame = map-set started_page core.frames f frame
-
-pub starts_same : (core : Core) (f : ℕ) (frame : Frame) → started_page frame ≡ started_page (frame_at core f)
-    → reads_of (with_frame core f frame) ≡ reads_of core
-starts_same core f frame same = map-set_same started_page core.frames f frame Free same
-
-started_referred : (frame : Frame) (wrote : Bool) → started_page (after_reference frame wrote) ≡ started_page frame
-started_referred Free wrote = refl
-started_referred (Started u q) wrote = refl
-started_referred (Bound u q used modified) wrote = refl
-
-pub starts_referred : (core : Core) (f : ℕ) (wrote : Bool)
-    → reads_of (with_frame core f (after_reference (frame_at core f) wrote)) ≡ reads_of core
-starts_referred core f wrote = starts_same core f _ (started_referred (frame_at core f) wrote)
 
 -- a bound frame is started for none
 pub bound_idle : (frame : Frame) (uid p : ℕ) → bound_page frame ≡ Some (uid, p) → started_page frame ≡ None
@@ -185,3 +174,17 @@ tied_filed s uid home words p tie has = filed_from_word s home words p tie.map h
 pub plain_volume : {D : Type 0} (pages : D → List (List ℕ)) (s : Paging D) (v : ℕ) → v < length s.volumes.drives
     → v < length (plain pages s).disks
 plain_volume pages s v lt = (let count = length-map s.volumes.drives pages in omega (arith, lt, count))
+
+-- what the steps of each call go by: a page that leaves its frame, one that is dropped and one that is made
+pub ruleset page_leaves = (tied_entry, leaving_within)
+
+pub ruleset page_dropped = (tied_entry, leaving_bound)
+
+pub ruleset page_made = (home_used, none_free)
+
+pub ruleset frame_filled = (bound_and_marked, all_cleared)
+
+-- a record that a file map names
+pub ruleset record_within = (filed_in_use, used_within)
+
+pub ruleset record_filed = (filed_in_use, record_is)

@@ -16,12 +16,13 @@ use Rattle.page_table.specs.declared.Ptw.TheVariants.{Here, Leaving}
 use Rattle.page_table.specs.PageTable.{ptw_at}
 use Rattle.vtoc.specs.Vtoc.{Entry, record_at}
 use Rattle.page_control.specs.declared.Home.{Home}
-use Rattle.page_control.specs.Plain.{Plain, bindings, binding_at, frame_in, words_in}
-use Rattle.page_control.specs.Tied.{vtoc_in, uid_at, map_at, IsTableOf, IsMapOf, AreFiled, IsBoundOnce}
+use Rattle.page_control.specs.Plain.{Plain, bindings, binding_at, frame_in, words_in, number_in}
+use Rattle.page_control.specs.Effects.{worded, referred}
+use Rattle.page_control.specs.Tied.{vtoc_in, uid_at, uid_in, map_at, IsTableOf, IsMapOf, AreFiled, IsBoundOnce}
 use Rattle.page_control.specs.Picture.{is_binding, words_held, words_of_page, words_at, is_filed_at, is_stored}
 use Rattle.page_control.specs.Picture.{changed_at, changed_page}
 use Rattle.page_control.specs.Ties.{IsTied, KeepsTies}
-use Rattle.page_control.proofs.Facts.{binding_is}
+use Rattle.page_control.proofs.Facts.{binding_is, bound_to, bindings_referred, here_within, leaving_within}
 use Rattle.page_control.proofs.Ties.{not_none, number_of, table_taken, table_back, map_taken, map_back}
 use Rattle.page_control.proofs.Pictures.{page, uid_part, off_and_on, binding_tells, found_at, in_frame_or_out}
 use Rattle.page_control.proofs.Pictures.{words_by, out_by}
@@ -60,6 +61,18 @@ pub record Marks (s now : Plain) : Type 0 where
   pub vtocs : now.vtocs ≡ s.vtocs
   pub clean : (g : ℕ) (y : ℕ × ℕ) → binding_at (bindings s.core) g ≡ Some y → is_modified (frame_in now g) ≡ false
       → (is_modified (frame_in s g) ≡ false) × (words_in now g ≡ words_in s g)
+
+marks_kept : (s now : Plain) → bindings now.core ≡ bindings s.core → now.disks ≡ s.disks → now.records ≡ s.records
+    → now.vtocs ≡ s.vtocs
+    → ((g : ℕ) (y : ℕ × ℕ) → binding_at (bindings s.core) g ≡ Some y → is_modified (frame_in now g) ≡ false
+    → (is_modified (frame_in s g) ≡ false) × (words_in now g ≡ words_in s g)) → Marks s now
+marks_kept s now bound disks records vtocs clean = record {
+  bound = bound;
+  disks = disks;
+  records = records;
+  vtocs = vtocs;
+  clean = clean;
+}
 
 tie_marked : (s now : Plain) (u : ℕ) (h : Home) (t : List Ptw) → Marks s now → IsTied s u h t → IsTied now u h t
 tie_marked s now u h t m tie =
@@ -121,13 +134,9 @@ pub marks_read : (s now : Plain) (f : ℕ) → now.core ≡ with_frame s.core f 
     → bindings now.core ≡ bindings s.core
     → now.frames ≡ s.frames → now.disks ≡ s.disks → now.records ≡ s.records → now.vtocs ≡ s.vtocs
     → is_bound (frame_in s f) ≡ true → Marks s now
-marks_read s now f core bound frames disks records vtocs is = record {
-  bound = bound;
-  disks = disks;
-  records = records;
-  vtocs = vtocs;
-  clean = λ g y at off. (off_before g off, ap (λ (all : List (List ℕ)). get_or all g []) frames);
-}
+marks_read s now f core bound frames disks records vtocs is =
+    marks_kept s now bound disks records vtocs
+    (λ g y at off. (off_before g off, ap (λ (all : List (List ℕ)). get_or all g []) frames))
   where
     off_before : (g : ℕ) → is_modified (frame_in now g) ≡ false → is_modified (frame_in s g) ≡ false
     off_before g off = elim (cases_eq g f) [
@@ -137,46 +146,31 @@ marks_read s now f core bound frames disks records vtocs is = record {
       | inr n ↦ sym (ap is_modified (at_other s now f g _ core n)) ∙ off
     ]
 
-pub marks_written : (s now : Plain) (f : ℕ) (words : List ℕ) → now.core
-    ≡ with_frame s.core f (after_reference (frame_in s f) true)
-    → bindings now.core ≡ bindings s.core
-    → now.frames ≡ set s.frames f words → now.disks ≡ s.disks → now.records ≡ s.records → now.vtocs ≡ s.vtocs
-    → is_bound (frame_in s f) ≡ true → Marks s now
-marks_written s now f words core bound frames disks records vtocs is = record {
-  bound = bound;
-  disks = disks;
-  records = records;
-  vtocs = vtocs;
-  clean = λ g y at off. elim (cases_eq g f) [
-    | inl same ↦ absurd (never_off (frame_in s f) is
-        (sym (ap is_modified (ap (frame_in now) same ∙ at_frame s now f _ core (bound_inside s.core f is))) ∙ off))
-    | inr n ↦ (
-      sym (ap is_modified (at_other s now f g _ core n)) ∙ off,
-      ap (λ (all : List (List ℕ)). get_or all g []) frames ∙ get_or-set_other s.frames f g words [] n,
-    )
-  ];
-}
+marks_written : (s : Plain) (f : ℕ) (words : List ℕ) → is_bound (frame_in s f) ≡ true
+    → Marks s (worded (referred s f true) f words)
+marks_written s f words is =
+    let now : Plain = worded (referred s f true) f words in
+    marks_kept s now (bindings_referred s.core f true) refl refl refl (λ g y at off. elim (cases_eq g f) [
+      | inl same ↦ absurd (never_off (frame_in s f) is
+          (sym (ap is_modified (ap (frame_in now) same ∙ at_frame s now f _ refl (bound_inside s.core f is))) ∙ off))
+      | inr n ↦ (sym (ap is_modified (at_other s now f g _ refl n)) ∙ off, get_or-set_other s.frames f g words [] n)
+    ])
 
 -- a frame that was bound to no page, and is bound to none
 pub marks_moved : (s now : Plain) (f : ℕ) (frame : Frame) → now.core ≡ with_frame s.core f frame → bindings now.core
     ≡ bindings s.core
     → bound_page (frame_in s f) ≡ None
     → now.frames ≡ s.frames → now.disks ≡ s.disks → now.records ≡ s.records → now.vtocs ≡ s.vtocs → Marks s now
-marks_moved s now f frame core bound none frames disks records vtocs = record {
-  bound = bound;
-  disks = disks;
-  records = records;
-  vtocs = vtocs;
-  clean = λ g y at off. elim (cases_eq g f) [
-    | inl same ↦ absurd (not_none (binding_at (bindings s.core) g) y
-        (ap (binding_at (bindings s.core)) same ∙ binding_is s.core f ∙ none) at)
-    | inr n ↦ (
-      sym (ap is_modified (at_other s now f g frame core n))
-          ∙ off,
-      ap (λ (all : List (List ℕ)). get_or all g []) frames,
-    )
-  ];
-}
+marks_moved s now f frame core bound none frames disks records vtocs =
+    marks_kept s now bound disks records vtocs (λ g y at off. elim (cases_eq g f) [
+      | inl same ↦ absurd (not_none (binding_at (bindings s.core) g) y
+          (ap (binding_at (bindings s.core)) same ∙ binding_is s.core f ∙ none) at)
+      | inr n ↦ (
+        sym (ap is_modified (at_other s now f g frame core n))
+            ∙ off,
+        ap (λ (all : List (List ℕ)). get_or all g []) frames,
+      )
+    ])
 
 -- the clock turns off used marks alone
 modified_unmarked : (frame : Frame) → is_modified (unmarked frame) ≡ is_modified frame
@@ -188,16 +182,11 @@ pub marks_chosen : (s now : Plain) (f : ℕ) → IsClockChoice s.core now.core f
     ≡ s.disks → now.records ≡ s.records
     → now.vtocs ≡ s.vtocs
     → Marks s now
-marks_chosen s now f choice frames disks records vtocs = record {
-  bound = bindings_chosen s.core now.core f choice;
-  disks = disks;
-  records = records;
-  vtocs = vtocs;
-  clean = λ g y at off. (
-    sym (kept_chosen is_modified s.core now.core f g modified_unmarked choice (inside_from s.core g y at)) ∙ off,
-    ap (λ (all : List (List ℕ)). get_or all g []) frames,
-  );
-}
+marks_chosen s now f choice frames disks records vtocs =
+    marks_kept s now (bindings_chosen s.core now.core f choice) disks records vtocs (λ g y at off. (
+      sym (kept_chosen is_modified s.core now.core f g modified_unmarked choice (inside_from s.core g y at)) ∙ off,
+      ap (λ (all : List (List ℕ)). get_or all g []) frames,
+    ))
 
 -- the words in the frame that a page is in are others
 is_page : (uid p u q : ℕ) → is_binding u q (page uid p) ≡ true → (u ≡ uid) × (q ≡ p)
@@ -205,7 +194,7 @@ is_page uid p u q passes =
     let tells : page uid p ≡ page u q = binding_tells (page uid p) u q passes in
     (sym (ap uid_part tells), sym (ap number_of tells))
 
-pub words_written : (b bound : List (Option (ℕ × ℕ))) (those frames : List (List ℕ))
+words_written : (b bound : List (Option (ℕ × ℕ))) (those frames : List (List ℕ))
     (drives disks : List (List (List ℕ)))
     (tables vtocs : List (List (Option Entry)))
     (uid p f : ℕ) (words : List ℕ) → bound ≡ b → frames ≡ set those f words → disks ≡ drives → vtocs ≡ tables
@@ -248,12 +237,31 @@ words_written b bound those frames drives disks tables vtocs uid p f words bs fr
         moved u h q ∙ other u h q (position (is_binding u q) b) refl passes
         ∙ sym (ap (λ (z : Bool). cond z words (words_of_page b those drives tables u h q)) passes)
 
+-- a frame is written through: both its marks are on, and it has these words
+pub ties_written : (s now : Plain) (f : ℕ) (words : List ℕ) → is_bound (frame_in s f) ≡ true
+    → now ≡ worded (referred s f true) f words → KeepsTies s now
+ties_written s now f words is effect = ties_marked s now (rw effect (marks_written s f words is))
+
+pub words_put : (s : Plain) (core : Core) (frames : List (List ℕ)) (disks : List (List (List ℕ)))
+    (vtocs : List (List (Option Entry))) (f : ℕ) (words : List ℕ) → is_bound (frame_in s f) ≡ true
+    → length s.frames ≡ length s.core.frames → core ≡ with_frame s.core f (after_reference (frame_in s f) true)
+    → (frames ≡ set s.frames f words) × (disks ≡ s.disks) × (vtocs ≡ s.vtocs) → IsBoundOnce (bindings s.core) f
+    → words_of_page (bindings core) frames disks vtocs
+    ≡ changed_page (words_at s) (uid_in (frame_in s f)) (number_in (frame_in s f)) words
+words_put s core frames disks vtocs f words is many bs those once =
+    let inside : f < length s.core.frames = bound_inside s.core f is in
+    words_written (bindings s.core) (bindings core) s.frames frames s.disks disks s.vtocs vtocs (uid_in (frame_in s f))
+    (number_in (frame_in s f)) f words (ap bindings bs ∙ bindings_referred s.core f true) those.0 those.1
+    those.2
+    (binding_is s.core f ∙ bound_to (frame_in s f) is) (omega (arith, inside, many)) once
+
 -- a word changes, and says of its page what it said
-pub tie_worded : (s : Plain) (uid : ℕ) (home : Home) (t u : List Ptw) (p f : ℕ) → IsTied s uid home t → length u
-    ≡ length t → IsTableOf (bindings s.core) uid u
+tie_worded : {s : Plain} {uid : ℕ} {home : Home} {t u : List Ptw} (p : ℕ) (word : Ptw) → IsTied s uid home t
+    → u ≡ set t p word → IsTableOf (bindings s.core) uid u
     → IsMapOf (map_at s.vtocs home) u → IsTied s uid home u
-tie_worded s uid home t u p f tie long table map =
+tie_worded {t = t} p word tie us table map =
     let pages = tie.pages in
+    let long = ap length us ∙ length-set t p word in
     record {
       volume = tie.volume;
       used = tie.used;
@@ -265,18 +273,17 @@ tie_worded s uid home t u p f tie long table map =
       zeros = tie.zeros;
     }
 
-pub tie_taken : (s : Plain) (uid : ℕ) (home : Home) (t u : List Ptw) (p f : ℕ) → IsTied s uid home t → ptw_at t p
-    ≡ Here f → u ≡ set t p (Leaving f)
-    → IsTied s uid home u
-tie_taken s uid home t u p f tie here us =
-    tie_worded s uid home t u p f tie (ap length us ∙ length-set t p (Leaving f))
-    (table_taken (bindings s.core) uid t u p f tie.table here us)
-    (map_taken (map_at s.vtocs home) t u p f tie.map here us)
+pub tie_taken : (s : Plain) (uid : ℕ) (home : Home) (t u : List Ptw) (p f : ℕ) → ptw_at t p ≡ Here f
+    → u ≡ set t p (Leaving f) → IsTied s uid home t → IsTied s uid home u
+tie_taken s uid home t u p f here us tie = tie_worded p (Leaving f) tie us (table_taken _ _ _ _ p f tie.table here us)
+    (map_taken _ _ _ p f tie.map here us)
 
-pub tie_back : (s : Plain) (uid : ℕ) (home : Home) (t u : List Ptw) (p f : ℕ) → IsTied s uid home t → ptw_at t p
-    ≡ Leaving f → u ≡ set t p (Here f)
-    → IsTied s uid home u
-tie_back s uid home t u p f tie leaving us =
-    tie_worded s uid home t u p f tie (ap length us ∙ length-set t p (Here f))
-    (table_back (bindings s.core) uid t u p f tie.table leaving us)
-    (map_back (map_at s.vtocs home) t u p f tie.map leaving us)
+pub tie_back : (s : Plain) (uid : ℕ) (home : Home) (t u : List Ptw) (p f : ℕ) → ptw_at t p ≡ Leaving f
+    → u ≡ set t p (Here f) → IsTied s uid home t → IsTied s uid home u
+tie_back s uid home t u p f leaving us tie = tie_worded p (Here f) tie us (table_back _ _ _ _ p f tie.table leaving us)
+    (map_back _ _ _ p f tie.map leaving us)
+
+-- what the calls that change a word go by
+pub ruleset word_taken = (here_within, table_taken, map_taken, tie_taken)
+
+pub ruleset word_back = (leaving_within, table_back, map_back, tie_back)

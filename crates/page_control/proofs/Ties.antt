@@ -9,7 +9,7 @@ use Rattle.page_table.specs.PageTable.{ptw_at}
 use Rattle.core_map.specs.declared.Frame.TheVariants.{Free, Started, Bound}
 use Rattle.core_map.specs.CoreMap.{Core, frame_at, with_frame, bound_page}
 use Rattle.page_control.specs.Plain.{binding_at, bindings}
-use Rattle.page_control.proofs.Facts.{within_from, binding_is, bindings_with, bindings_same, here_within}
+use Rattle.page_control.proofs.Facts.{within_from, binding_is, bindings_with, seen_same, here_within}
 use Rattle.page_control.proofs.Facts.{leaving_within, out_within}
 use Rattle.std.proofs.lemmas.List.{length-map}
 use Rattle.page_control.specs.Tied.{frame_of, has_record, IsTableOf, IsMapOf}
@@ -174,7 +174,7 @@ pub table_lost : (core new : Core) (uid : ℕ) (t : List Ptw) (p f : ℕ) → Is
     → new ≡ with_frame core f Free
     → IsTableOf (bindings new) uid t
 table_lost core new uid t p f h started is = rw (ap bindings is
-    ∙ bindings_same core f Free (sym (ap bound_page started))) h
+    ∙ seen_same bound_page core f Free (sym (ap bound_page started))) h
 
 pub table_left : (core new : Core) (uid : ℕ) (t u : List Ptw) (p f : ℕ) (w : Ptw) → IsTableOf (bindings core) uid t
     → ptw_at t p ≡ Leaving f → frame_of w ≡ None

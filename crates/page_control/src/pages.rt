@@ -386,7 +386,7 @@ impl<D: Drive> Pages<D> {
 
     /// Lets no more references go through the word of the page in frame `f`, which is on its way out from now on.
     /// (Source: own.)
-    #[tactic(auto, using(crate::proofs::Facts::here_within, std::proofs::lemmas::Grind::common_steps))]
+    #[tactic(auto, using(crate::proofs::Marks::word_taken, std::proofs::lemmas::Grind::common_steps))]
     pub fn take(&mut self, t: &mut PageTable, f: u32)
         requires bound { is_bound (frame_at self.old.core f) ≡ true }
         requires here { ptw_at t.old (number_in (frame_at self.old.core f)) ≡ Here f }
@@ -435,7 +435,7 @@ impl<D: Drive> Pages<D> {
     }
 
     /// Lets references go through the word of the page in frame `f` again, which was on its way out. (Source: own.)
-    #[tactic(auto, using(crate::proofs::Facts::leaving_within, std::proofs::lemmas::Grind::common_steps))]
+    #[tactic(auto, using(crate::proofs::Marks::word_back, std::proofs::lemmas::Grind::common_steps))]
     pub fn back(&mut self, t: &mut PageTable, f: u32)
         requires bound { is_bound (frame_at self.old.core f) ≡ true }
         requires leaving { ptw_at t.old (number_in (frame_at self.old.core f)) ≡ Leaving f }
@@ -452,7 +452,7 @@ impl<D: Drive> Pages<D> {
     }
 
     /// The steps of `drop_page`.
-    #[tactic(auto, using(crate::proofs::Facts::tied_entry, crate::proofs::Facts::leaving_bound, std::proofs::lemmas::Grind::common_steps))]
+    #[tactic(auto, using(crate::proofs::Facts::page_dropped, std::proofs::lemmas::Grind::common_steps))]
     fn drop_at(&mut self, t: &mut PageTable, p: u32, home: Home)
         requires page { p < length t.old }
         requires away { is_away (ptw_at t.old p) ≡ true }
@@ -540,7 +540,7 @@ impl<D: Drive> Pages<D> {
     }
 
     /// The steps of `create_page`.
-    #[tactic(auto, using(crate::proofs::Facts::home_used, crate::proofs::Facts::none_free, std::proofs::lemmas::Grind::common_steps))]
+    #[tactic(auto, using(crate::proofs::Facts::page_made, std::proofs::lemmas::Grind::common_steps))]
     fn create_at(
         &mut self,
         t: &mut PageTable,
@@ -577,7 +577,7 @@ impl<D: Drive> Pages<D> {
     }
 
     /// The steps of `evict`.
-    #[tactic(auto, using(crate::proofs::Facts::tied_entry, crate::proofs::Facts::leaving_within, std::proofs::lemmas::Grind::common_steps))]
+    #[tactic(auto, using(crate::proofs::Facts::page_leaves, std::proofs::lemmas::Grind::common_steps))]
     fn leave(&mut self, t: &mut PageTable, home: Home, f: u32) -> Result<Left, Failed>
         requires bound { is_bound (frame_at self.old.core f) ≡ true }
         requires leaving { ptw_at t.old (number_in (frame_at self.old.core f)) ≡ Leaving f }
@@ -607,7 +607,7 @@ impl<D: Drive> Pages<D> {
 
     /// Binds the free frame `f` to page `p` of segment `uid`, all zeros but word `at`, which becomes `w`. Both marks
     /// are on then.
-    #[tactic(auto, using(crate::proofs::Facts::bound_and_marked, crate::proofs::Facts::all_cleared, std::proofs::lemmas::Grind::common_steps))]
+    #[tactic(auto, using(crate::proofs::Facts::frame_filled, std::proofs::lemmas::Grind::common_steps))]
     fn fill(&mut self, uid: u32, p: u32, f: u32, at: u32, w: Word)
         requires frame { f < length self.old.core.frames }
         requires free { frame_at self.old.core f ≡ Free }
@@ -635,7 +635,7 @@ impl<D: Drive> Pages<D> {
     }
 
     /// The record of page `p` at a home.
-    #[tactic(auto, using(crate::proofs::Facts::filed_in_use, crate::proofs::Facts::used_within, std::proofs::lemmas::Grind::common_steps))]
+    #[tactic(auto, using(crate::proofs::Facts::record_within, std::proofs::lemmas::Grind::common_steps))]
     fn record_in(&self, home: Home, p: u32) -> u32
         requires page { p < 256 }
         requires volume { home.volume < length self.now.volumes.drives }
@@ -672,7 +672,7 @@ impl<D: Drive> Pages<D> {
     }
 
     /// Gives back record `r`, which page `p` at a home has.
-    #[tactic(auto, using(crate::proofs::Facts::filed_in_use, crate::proofs::Facts::record_is, std::proofs::lemmas::Grind::common_steps))]
+    #[tactic(auto, using(crate::proofs::Facts::record_filed, std::proofs::lemmas::Grind::common_steps))]
     fn unstore(&mut self, home: Home, p: u32, r: u32)
         requires page { p < 256 }
         requires volume { home.volume < length self.old.volumes.drives }

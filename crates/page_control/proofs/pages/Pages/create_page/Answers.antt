@@ -1,104 +1,45 @@
+use Rattle.page_control.specs.Plain.{plain}
 use Rattle.page_control.proofs.Facts.{tied_volume}
-use Rattle.page_control.proofs.Calls.{tie_created, others_of_created, words_created, stored_created, bound_created}
-use Rattle.page_control.proofs.Calls.{starts_created, taken_created}
-use Rattle.page_control.proofs.Calls.{counts_of_created}
+use Rattle.page_control.proofs.Calls.{Creates, tie_created, others_of_created, words_created, stored_created}
+use Rattle.page_control.proofs.Calls.{bound_created, starts_created, taken_created, counts_of_created}
 use Rattle.page_control.proofs.pages.Pages.create_page.Goals as goal
+
+-- what it was called with, and what its steps left
+created : (g : _) (c : goal.After-create_at g)
+    → Creates (plain g.D.Drive.pages c.args.self.now) (plain g.D.Drive.pages c.create_at.new.self) c.args.t.now
+    c.create_at.new.t c.args.uid c.args.home c.args.p c.args.f c.args.at c.args.w c.create_at.result
+created g c = record {
+  tie = c.requires.tie;
+  page = c.requires.page;
+  null = c.requires.null;
+  frame = c.requires.frame;
+  free = c.requires.free;
+  made = c.create_at.ensures.created;
+}
 
 pub create_at-requires-clause-volume : goal.create_at-requires-clause-volume
 create_at-requires-clause-volume g c = tied_volume g.D.Drive.pages c.args.self.now _ _ _ c.requires.tie
 
 pub returns-clause-tie : goal.returns-clause-tie
-returns-clause-tie g c =
-    tie_created c.create_at.result
-    (record {
-      tie = c.requires.tie;
-      page = c.requires.page;
-      null = c.requires.null;
-      frame = c.requires.frame;
-      free = c.requires.free;
-      made = c.create_at.ensures.created;
-    })
+returns-clause-tie g c = tie_created c.create_at.result (created g c)
 
 pub returns-clause-others : goal.returns-clause-others
-returns-clause-others g c =
-    others_of_created c.create_at.result
-    (record {
-      tie = c.requires.tie;
-      page = c.requires.page;
-      null = c.requires.null;
-      frame = c.requires.frame;
-      free = c.requires.free;
-      made = c.create_at.ensures.created;
-    })
+returns-clause-others g c = others_of_created c.create_at.result (created g c)
 
 pub returns-clause-words : goal.returns-clause-words
-returns-clause-words g c =
-    words_created c.create_at.result
-    (record {
-      tie = c.requires.tie;
-      page = c.requires.page;
-      null = c.requires.null;
-      frame = c.requires.frame;
-      free = c.requires.free;
-      made = c.create_at.ensures.created;
-    })
+returns-clause-words g c = words_created c.create_at.result (created g c)
 
 pub returns-clause-stored : goal.returns-clause-stored
-returns-clause-stored g c =
-    stored_created c.create_at.result
-    (record {
-      tie = c.requires.tie;
-      page = c.requires.page;
-      null = c.requires.null;
-      frame = c.requires.frame;
-      free = c.requires.free;
-      made = c.create_at.ensures.created;
-    })
+returns-clause-stored g c = stored_created c.create_at.result (created g c)
 
 pub returns-clause-bound : goal.returns-clause-bound
-returns-clause-bound g c =
-    bound_created c.create_at.result
-    (record {
-      tie = c.requires.tie;
-      page = c.requires.page;
-      null = c.requires.null;
-      frame = c.requires.frame;
-      free = c.requires.free;
-      made = c.create_at.ensures.created;
-    })
+returns-clause-bound g c = bound_created c.create_at.result (created g c)
 
 pub returns-clause-reads : goal.returns-clause-reads
-returns-clause-reads g c =
-    starts_created c.create_at.result
-    (record {
-      tie = c.requires.tie;
-      page = c.requires.page;
-      null = c.requires.null;
-      frame = c.requires.frame;
-      free = c.requires.free;
-      made = c.create_at.ensures.created;
-    })
+returns-clause-reads g c = starts_created c.create_at.result (created g c)
 
 pub returns-clause-taken : goal.returns-clause-taken
-returns-clause-taken g c =
-    taken_created c.create_at.result
-    (record {
-      tie = c.requires.tie;
-      page = c.requires.page;
-      null = c.requires.null;
-      frame = c.requires.frame;
-      free = c.requires.free;
-      made = c.create_at.ensures.created;
-    })
+returns-clause-taken g c = taken_created c.create_at.result (created g c)
 
 pub returns-clause-counts : goal.returns-clause-counts
-returns-clause-counts g c =
-    counts_of_created c.create_at.result
-    (record {
-      tie = c.requires.tie;
-      page = c.requires.page;
-      null = c.requires.null;
-      frame = c.requires.frame;
-      free = c.requires.free;
-      made = c.create_at.ensures.created;
-    })
+returns-clause-counts g c = counts_of_created c.create_at.result (created g c)

@@ -1,73 +1,37 @@
-use Rattle.page_control.proofs.Calls.{tie_dropped, others_of_dropped, words_dropped, stored_dropped, starts_dropped}
-use Rattle.page_control.proofs.Calls.{taken_dropped, counts_of_dropped}
+use Rattle.page_control.specs.Plain.{plain, uid_of_home}
+use Rattle.page_control.proofs.Calls.{Drops, tie_dropped, others_of_dropped, words_dropped, stored_dropped}
+use Rattle.page_control.proofs.Calls.{starts_dropped, taken_dropped, counts_of_dropped}
 use Rattle.page_control.proofs.pages.Pages.drop_page.Goals as goal
 
+-- what it was called with, and what its steps left
+dropped : (g : _) (c : goal.After-drop_at g)
+    → Drops (plain g.D.Drive.pages c.args.self.now) (plain g.D.Drive.pages c.drop_at.new.self) c.args.t.now
+    c.drop_at.new.t (uid_of_home (plain g.D.Drive.pages c.args.self.now) c.args.home) c.args.home c.args.p
+dropped g c = record {
+  tie = c.requires.tie;
+  page = c.requires.page;
+  away = c.requires.away;
+  effect = c.drop_at.ensures.dropped;
+  word = c.drop_at.ensures.word;
+}
+
 pub returns-clause-tie : goal.returns-clause-tie
-returns-clause-tie g c =
-    tie_dropped (record {
-      tie = c.requires.tie;
-      page = c.requires.page;
-      away = c.requires.away;
-      effect = c.drop_at.ensures.dropped;
-      word = c.drop_at.ensures.word;
-    })
+returns-clause-tie g c = tie_dropped (dropped g c)
 
 pub returns-clause-others : goal.returns-clause-others
-returns-clause-others g c =
-    others_of_dropped (record {
-      tie = c.requires.tie;
-      page = c.requires.page;
-      away = c.requires.away;
-      effect = c.drop_at.ensures.dropped;
-      word = c.drop_at.ensures.word;
-    })
+returns-clause-others g c = others_of_dropped (dropped g c)
 
 pub returns-clause-words : goal.returns-clause-words
-returns-clause-words g c =
-    words_dropped (record {
-      tie = c.requires.tie;
-      page = c.requires.page;
-      away = c.requires.away;
-      effect = c.drop_at.ensures.dropped;
-      word = c.drop_at.ensures.word;
-    })
+returns-clause-words g c = words_dropped (dropped g c)
 
 pub returns-clause-stored : goal.returns-clause-stored
-returns-clause-stored g c =
-    stored_dropped (record {
-      tie = c.requires.tie;
-      page = c.requires.page;
-      away = c.requires.away;
-      effect = c.drop_at.ensures.dropped;
-      word = c.drop_at.ensures.word;
-    })
+returns-clause-stored g c = stored_dropped (dropped g c)
 
 pub returns-clause-reads : goal.returns-clause-reads
-returns-clause-reads g c =
-    starts_dropped (record {
-      tie = c.requires.tie;
-      page = c.requires.page;
-      away = c.requires.away;
-      effect = c.drop_at.ensures.dropped;
-      word = c.drop_at.ensures.word;
-    })
+returns-clause-reads g c = starts_dropped (dropped g c)
 
 pub returns-clause-taken : goal.returns-clause-taken
-returns-clause-taken g c =
-    taken_dropped (record {
-      tie = c.requires.tie;
-      page = c.requires.page;
-      away = c.requires.away;
-      effect = c.drop_at.ensures.dropped;
-      word = c.drop_at.ensures.word;
-    })
+returns-clause-taken g c = taken_dropped (dropped g c)
 
 pub returns-clause-counts : goal.returns-clause-counts
-returns-clause-counts g c =
-    counts_of_dropped (record {
-      tie = c.requires.tie;
-      page = c.requires.page;
-      away = c.requires.away;
-      effect = c.drop_at.ensures.dropped;
-      word = c.drop_at.ensures.word;
-    })
+returns-clause-counts g c = counts_of_dropped (dropped g c)
