@@ -75,7 +75,8 @@ module _ (nodes : List Node) (c : CellMaps) (table : IsTable c) (fits : Fits nod
           | inr not_s ↦ ap (λ b. cond b (Err (fault.Over s)) (cond less (Err (fault.Over d)) (Ok tt))) not_s
               ∙ elim (cases_Bool less) [
                 | inl y ↦ ap (λ b. cond b (Err (fault.Over d)) (Ok tt)) y
-                    ∙ sym (answer ∙ ap over_answer (up_first_d nodes c table fits chains d s n up here_d here_s below some
+                    ∙ sym (answer ∙ ap over_answer
+                    (up_first_d nodes c table fits chains d s n up here_d here_s below some
                     enough (getter ∙ not_s) (giver ∙ y)))
                 | inr not_d ↦ ap (λ b. cond b (Err (fault.Over d)) (Ok tt)) not_d
                     ∙ sym (answer ∙ ap over_answer (up_none nodes c table fits chains d s n up here_d here_s below some

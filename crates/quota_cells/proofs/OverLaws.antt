@@ -250,3 +250,6 @@ module _ (nodes : List Node) (c : CellMaps) (table : IsTable c) (fits : Fits nod
         (covered_there q c.directories (f g) e (all_there nodes c fits (f g) (chains.directories g)) is) is;
     vanishes = λ all e is. room2 none all e is;
   }
+
+  pub gives : first_over c2 ≡ None → CanGive c g (f g) v (f v) n × IsTable c2
+  gives none = (can_give none, table2 none)

@@ -34,6 +34,10 @@ set_at (k ∷ ks) (w ∷ vs) (suc i) v up lt =
     rw (ne_eqb k (get_or ks i 0) (λ q. omega arith)) (ap (λ xs. w ∷ xs)
     (set_at ks vs i v (rising_tail k ks up) (omega arith)))
 
+pub set_there : (ks vs : List ℕ) (i v : ℕ) {u : ℕ} → IsRising ks → i < length ks → get_or ks i 0 ≡ u → set vs i v
+    ≡ with_value ks vs u v
+set_there ks vs i v up lt is = set_at ks vs i v up lt ∙ ap (λ k. with_value ks vs k v) is
+
 pub has_at : (ks : List ℕ) (i : ℕ) → i < length ks → has ks (get_or ks i 0) ≡ true
 has_at [] i lt = absurd (omega arith)
 has_at (k ∷ ks) zero lt = or_left (eqb k k) (has ks k) (eq-eqb k k refl)

@@ -70,6 +70,25 @@ module _ {X : Type 0} (key : X → ℕ) (l : List X) (d : X) (rising : IsRising 
     };
   }
 
+-- the same of the uids as they are seen
+pub searched : {X : Type 0} (key : X → ℕ) (l : List X) (d : X) → IsRising (map key l) → (uid : ℕ) {ks : List ℕ}
+    → map key l ≡ ks → (r : Result ℕ ℕ) → IsSearchInRange r (length l)
+    → IsBinarySearchResult (λ x. nat_cmp (key x) uid) l r
+    → record {
+      found : IfOk r (λ i. i < length ks);
+      is : IfOk r (λ i. get_or ks i 0 ≡ uid);
+      gap : IfErr r (λ i. IsGap ks uid i);
+      rising : IsRising ks;
+    }
+searched key l d rising uid seen r within result =
+    let found = searched_by key l d rising uid r within result in
+    subst (λ (ks : List ℕ). record {
+      found : IfOk r (λ i. i < length ks);
+      is : IfOk r (λ i. get_or ks i 0 ≡ uid);
+      gap : IfErr r (λ i. IsGap ks uid i);
+      rising : IsRising ks;
+    }) seen (record { found = found.found; is = found.is; gap = found.gap; rising = rising })
+
 -- ---- one more, and one less
 
 pub map-insert : {X : Type 0} (f : X → ℕ) (l : List X) (i : ℕ) (x : X) → map f (insert l i x) ≡ insert (map f l) i (f x)

@@ -295,6 +295,14 @@ moved_nodes r q g v n other to from rest (m ∷ ms) =
     ∙ ap (λ (xs : List Term). with_quota_of v (λ x. x - n) (with_quota_of g (λ x. x + n) (as_term q m)) ∷ xs)
     (moved_nodes r q g v n other to from rest ms)
 
+-- After a move the cells fit the tree whatever is answered, and the sum of quotas is as it was. Where it is done, the
+-- nodes with their quotas are those of the tree once quota has moved.
+pub record AfterMove (nodes : List Node) (c new : CellMaps) (d n : ℕ) (down : Bool) (r : Result (Unit {0}) MoveFault) :
+    Type 0 where
+  pub fits : Fits nodes new
+  pub total : sum new.quotas ≡ sum c.quotas
+  pub shown : OnOk r (with_quotas (quota_in new) nodes ≡ tree_moved (with_quotas (quota_in c) nodes) d down n)
+
 module _ (nodes : List Node) (c : CellMaps) (table : IsTable c) (fits : Fits nodes c)
     (chains : HasChains (shapes nodes)) (d n : ℕ)
     (dir : is_directory nodes d ≡ true) (ne : d ≢ 1) (some : 0 < n) where
@@ -345,28 +353,21 @@ module _ (nodes : List Node) (c : CellMaps) (table : IsTable c) (fits : Fits nod
   total_moved false enough = conserved nodes c table fits chains (superior_of up d) d n (λ e. d_not_s (sym e)) here_s
       here_d some enough
 
-  -- so the cells fit the tree whatever is answered, and the sum of quotas is as it was
-  pub moved_fits : (down : Bool) (new : CellMaps) (r : Result (Unit {0}) MoveFault) → r ≡ move_answer c up d down n
+  pub after_move : (down : Bool) (new : CellMaps) (r : Result (Unit {0}) MoveFault) → r ≡ move_answer c up d down n
       → OnOk r (new ≡ moved c up d down n)
-      → OnErr r (new ≡ c) → Fits nodes new
-  moved_fits down new (Err e) is ok err = subst (Fits nodes) (sym err) fits
-  moved_fits down new (Ok tt) is ok err = subst (Fits nodes) (sym ok)
-      (fits_moved down (answer_ok c up d down n (sym is)).0)
-
-  pub moved_total : (down : Bool) (new : CellMaps) (r : Result (Unit {0}) MoveFault) → r ≡ move_answer c up d down n
-      → OnOk r (new ≡ moved c up d down n)
-      → OnErr r (new ≡ c) → sum new.quotas ≡ sum c.quotas
-  moved_total down new (Err e) is ok err = ap (λ (x : CellMaps). sum x.quotas) err
-  moved_total down new (Ok tt) is ok err = ap (λ (x : CellMaps). sum x.quotas) ok
-      ∙ total_moved down (answer_ok c up d down n (sym is)).0
-
-  -- after a move that is done, the nodes with their quotas are those of the tree once quota has moved
-  pub moved_shown : (down : Bool) (new : CellMaps) (r : Result (Unit {0}) MoveFault) → r ≡ move_answer c up d down n
-      → OnOk r (new ≡ moved c up d down n)
-      → OnOk r (with_quotas (quota_in new) nodes ≡ tree_moved nodes_now d down n)
-  moved_shown down new (Err e) is ok = tt
-  moved_shown down new (Ok tt) is ok = ap (λ (x : CellMaps). with_quotas (quota_in x) nodes) ok
-      ∙ moved_tree down (answer_ok c up d down n (sym is)).0
+      → OnErr r (new ≡ c) → AfterMove nodes c new d n down r
+  after_move down new (Err e) is ok err = record {
+    fits = subst (Fits nodes) (sym err) fits;
+    total = ap (λ (x : CellMaps). sum x.quotas) err;
+    shown = tt;
+  }
+  after_move down new (Ok tt) is ok err =
+      let enough : n ≤ quota_in c (giver_of up d down) = (answer_ok c up d down n (sym is)).0 in
+      record {
+        fits = subst (Fits nodes) (sym ok) (fits_moved down enough);
+        total = ap (λ (x : CellMaps). sum x.quotas) ok ∙ total_moved down enough;
+        shown = ap (λ (x : CellMaps). with_quotas (quota_in x) nodes) ok ∙ moved_tree down enough;
+      }
 
   module _ (xs : List (ℕ × ℕ)) (holds : HoldCounts c xs) where
     over_moved : (down : Bool) → n ≤ quota_in c (giver_of up d down) → over_in (tree_moved nodes_now d down n) xs

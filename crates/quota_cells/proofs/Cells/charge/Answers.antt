@@ -1,7 +1,12 @@
-use Rattle.std.proofs.Common.{◌≡◌, ◌+◌, ℕ, List, Ok, sym, ap, subst, ◌∙◌}
+use Rattle.std.proofs.Common.{◌≡◌, ◌+◌, ℕ, List, Result, Ok, sym, ap, subst, ◌∙◌}
 use Rattle.tree_model.specs.Tree.{above}
 use Rattle.dir_tree.specs.Shape.{shapes}
-use Rattle.quota_cells.specs.Cells.{stored_in, Fits, charged, charge_fault}
+use Rattle.quota_cells.specs.Cells.{CellMaps, quota_in, stored_in, Fits, IsTable, charged, charge_fault}
+use Rattle.quota_cells.specs.declared.Full.{Full}
+use Rattle.dir_tree.specs.declared.node.Node.{Node}
+use Rattle.tree_model.specs.Trees.{HasChains}
+use Rattle.quota_cells.specs.Scratch.{HoldCounts, charge_answer}
+use Rattle.dir_tree.specs.Nodes.{with_quotas}
 use Rattle.quota_cells.proofs.ColumnLaws.{look_with}
 use Rattle.quota_cells.proofs.FitLaws.{there, falls, room_charged, stored_room, fits_charged, table_charged, not_full}
 use Rattle.quota_cells.proofs.ScratchLaws.{charge_same}
@@ -33,42 +38,41 @@ add_page-requires c =
           c.requires.segment ne);
     }
 
+-- the answer is that by counts from scratch
+answered : (nodes : List Node) (cells : CellMaps) (up : List ℕ) (seg : ℕ) {r : Result (Unit {0}) Full}
+    → Fits nodes cells → HasChains (shapes nodes) → IsTable cells → up ≡ above (shapes nodes) seg
+    → r ≡ charge_fault cells up → (stored : List (ℕ × ℕ)) → HoldCounts cells stored
+    → r ≡ charge_answer (with_quotas (quota_in cells) nodes) stored seg
+answered nodes cells up seg fits chains table is answer stored holds =
+    answer ∙ ap (charge_fault cells) is
+    ∙ charge_same nodes cells fits chains table.segments_rise table.stored_count stored holds seg
+
 pub returns-in-Ok-clause-scratch : goal.returns-in-Ok-clause-scratch
-returns-in-Ok-clause-scratch c stored holds =
-    let up : c.as_slice.result.now ≡ above (shapes c.args.t.now.nodes) c.args.seg = c.as_slice.ensures.value
-    ∙ c.superiors-up.ensures.plain in
-    sym c.in-Ok.is ∙ c.room_for.ensures.answer ∙ ap (charge_fault c.args.self.now) up
-    ∙ charge_same c.args.t.now.nodes c.args.self.now c.requires.fits c.superiors-up.ensures.chains
-    c.room_for.ensures.table.segments_rise
-    c.room_for.ensures.table.stored_count stored holds c.args.seg
+returns-in-Ok-clause-scratch c stored holds = sym c.in-Ok.is
+    ∙ answered c.args.t.now.nodes c.args.self.now _ c.args.seg c.requires.fits c.superiors-up.ensures.chains
+    c.room_for.ensures.table (c.as_slice.ensures.value ∙ c.superiors-up.ensures.plain) c.room_for.ensures.answer stored
+    holds
 
 pub returns-in-Err-clause-scratch : goal.returns-in-Err-clause-scratch
-returns-in-Err-clause-scratch c stored holds =
-    let up : c.as_slice.result.now ≡ above (shapes c.args.t.now.nodes) c.args.seg = c.as_slice.ensures.value
-    ∙ c.superiors-up.ensures.plain in
-    sym c.in-Err.is ∙ c.room_for.ensures.answer ∙ ap (charge_fault c.args.self.now) up
-    ∙ charge_same c.args.t.now.nodes c.args.self.now c.requires.fits c.superiors-up.ensures.chains
-    c.room_for.ensures.table.segments_rise
-    c.room_for.ensures.table.stored_count stored holds c.args.seg
+returns-in-Err-clause-scratch c stored holds = sym c.in-Err.is
+    ∙ answered c.args.t.now.nodes c.args.self.now _ c.args.seg c.requires.fits c.superiors-up.ensures.chains
+    c.room_for.ensures.table (c.as_slice.ensures.value ∙ c.superiors-up.ensures.plain) c.room_for.ensures.answer stored
+    holds
+
+-- the cells once the page is added
+added : (c : goal.After-add_page)
+    → c.add_page.new.self ≡ charged c.args.self.now (above (shapes c.args.t.now.nodes) c.args.seg) c.args.seg
+added c = c.add_page.ensures ∙ ap (λ (xs : List ℕ). charged c.args.self.now xs c.args.seg)
+    (c.as_slice-in-Ok.ensures.value ∙ c.superiors-up.ensures.plain)
 
 pub returns-in-Ok-clause-stored : goal.returns-in-Ok-clause-stored
 returns-in-Ok-clause-stored c s =
-    let up : c.as_slice-in-Ok.result.now ≡ above (shapes c.args.t.now.nodes) c.args.seg =
-    c.as_slice-in-Ok.ensures.value ∙ c.superiors-up.ensures.plain in
-    let new : c.add_page.new.self ≡ charged c.args.self.now (above (shapes c.args.t.now.nodes) c.args.seg) c.args.seg =
-    c.add_page.ensures
-    ∙ ap (λ (xs : List ℕ). charged c.args.self.now xs c.args.seg) up in
-    ap (λ x. stored_in x s) new ∙ look_with c.args.self.now.segments c.args.self.now.stored c.args.seg
+    ap (λ x. stored_in x s) (added c) ∙ look_with c.args.self.now.segments c.args.self.now.stored c.args.seg
     (stored_in c.args.self.now c.args.seg + 1) s c.room_for.ensures.table.stored_count
     (on_segments c.args.t.now.nodes c.requires.fits c.args.seg ∙ c.requires.segment)
 
 pub returns-in-Ok-clause-fits : goal.returns-in-Ok-clause-fits
 returns-in-Ok-clause-fits c =
-    let up : c.as_slice-in-Ok.result.now ≡ above (shapes c.args.t.now.nodes) c.args.seg =
-    c.as_slice-in-Ok.ensures.value ∙ c.superiors-up.ensures.plain in
-    let new : c.add_page.new.self ≡ charged c.args.self.now (above (shapes c.args.t.now.nodes) c.args.seg) c.args.seg =
-    c.add_page.ensures
-    ∙ ap (λ (xs : List ℕ). charged c.args.self.now xs c.args.seg) up in
-    subst (Fits c.args.t.now.nodes) (sym new)
+    subst (Fits c.args.t.now.nodes) (sym (added c))
     (fits_charged c.args.t.now.nodes c.args.self.now c.room_for.ensures.table c.requires.fits
     c.superiors-up.ensures.chains c.args.seg c.requires.segment)

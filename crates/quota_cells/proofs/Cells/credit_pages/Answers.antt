@@ -27,15 +27,16 @@ take_pages-requires c =
           c.requires.segment);
     }
 
+-- the cells once the pages are taken
+taken : (c : goal.After-take_pages) → c.take_pages.new.self
+    ≡ credited c.args.self.now (above (shapes c.args.t.now.nodes) c.args.seg) c.args.seg c.args.pages
+taken c = c.take_pages.ensures ∙ ap (λ (xs : List ℕ). credited c.args.self.now xs c.args.seg c.args.pages)
+    (c.as_slice.ensures.value ∙ c.superiors-up.ensures.plain)
+
 pub returns-clause-stored : goal.returns-clause-stored
 returns-clause-stored c s =
     let table : IsTable c.args.self.now = subst IsTable c.self.view_is c.self.invariant in
-    let up : c.as_slice.result.now ≡ above (shapes c.args.t.now.nodes) c.args.seg = c.as_slice.ensures.value
-    ∙ c.superiors-up.ensures.plain in
-    let new : c.take_pages.new.self ≡ credited c.args.self.now (above (shapes c.args.t.now.nodes) c.args.seg)
-    c.args.seg c.args.pages = c.take_pages.ensures
-    ∙ ap (λ (xs : List ℕ). credited c.args.self.now xs c.args.seg c.args.pages) up in
-    ap (λ x. stored_in x s) new ∙ look_with c.args.self.now.segments c.args.self.now.stored c.args.seg
+    ap (λ x. stored_in x s) (taken c) ∙ look_with c.args.self.now.segments c.args.self.now.stored c.args.seg
     (stored_in c.args.self.now c.args.seg - c.args.pages) s table.stored_count
     (on_segments c.args.t.now.nodes c.requires.fits c.args.seg ∙ c.requires.segment)
 
@@ -45,12 +46,7 @@ returns-clause-quotas c = ap quota_in c.take_pages.ensures
 pub returns-clause-fits : goal.returns-clause-fits
 returns-clause-fits c =
     let table : IsTable c.args.self.now = subst IsTable c.self.view_is c.self.invariant in
-    let up : c.as_slice.result.now ≡ above (shapes c.args.t.now.nodes) c.args.seg = c.as_slice.ensures.value
-    ∙ c.superiors-up.ensures.plain in
-    let new : c.take_pages.new.self ≡ credited c.args.self.now (above (shapes c.args.t.now.nodes) c.args.seg)
-    c.args.seg c.args.pages = c.take_pages.ensures
-    ∙ ap (λ (xs : List ℕ). credited c.args.self.now xs c.args.seg c.args.pages) up in
-    subst (Fits c.args.t.now.nodes) (sym new)
+    subst (Fits c.args.t.now.nodes) (sym (taken c))
     (fits_credited c.args.t.now.nodes c.args.self.now table c.requires.fits c.superiors-up.ensures.chains c.args.seg
     c.args.pages c.requires.segment
     c.requires.stored)

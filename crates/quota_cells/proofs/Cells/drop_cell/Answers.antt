@@ -1,26 +1,30 @@
-use Rattle.std.proofs.Common.{◌≡◌, true, false, sym, subst, ◌∙◌}
+use Rattle.std.proofs.Common.{◌≡◌, ℕ, true, false, sym, subst, ◌∙◌}
 use Rattle.quota_cells.specs.Accounts.{has}
-use Rattle.quota_cells.specs.Cells.{CellMaps, IsTable, has_cell, quota_in, stored_in}
+use Rattle.quota_cells.specs.Cells.{CellMaps, IsTable, has_cell, left, quota_in, stored_in}
 use Rattle.quota_cells.specs.Columns.{both_maps}
 use Rattle.quota_cells.proofs.EnterLaws.{table_left}
 use Rattle.quota_cells.proofs.Cells.drop_cell.Goals as goal
 
+-- the cells without that of a uid, as they are where they were seen so
+left_table : (d s now : CellMaps) (uid : ℕ) → both_maps d s ≡ now → IsTable (both_maps d s) → has_cell now uid ≡ true
+    → quota_in now uid ≡ 0 → stored_in now uid ≡ 0 → IsTable (left (both_maps d s) uid)
+left_table d s now uid seen table there quota stored =
+    table_left (both_maps d s) table uid (subst (λ (m : CellMaps). has_cell m uid ≡ true) (sym seen) there)
+    (subst (λ (m : CellMaps). quota_in m uid ≡ 0) (sym seen) quota)
+    (subst (λ (m : CellMaps). stored_in m uid ≡ 0) (sym seen) stored)
+
 pub invariant_of-self : goal.invariant_of-self
 invariant_of-self c =
-    let there = subst (λ (m : CellMaps). has_cell m c.args.uid ≡ true) (sym c.self.view_is) c.requires.cell in
-    let quota = subst (λ (m : CellMaps). quota_in m c.args.uid ≡ 0) (sym c.self.view_is) c.requires.quota in
-    let stored = subst (λ (m : CellMaps). stored_in m c.args.uid ≡ 0) (sym c.self.view_is) c.requires.stored in
     let dir : has c.self.inside.directories.directories c.args.uid ≡ true = sym c.has.ensures ∙ c.if-has.true in
-    let table = rw dir at (table_left (both_maps c.self.inside.directories c.self.inside.segments) c.self.invariant
-    c.args.uid there quota stored) in
-    subst (λ (m : CellMaps). IsTable (both_maps m c.self.inside.segments)) (sym c.leave.ensures) table
+    subst (λ (m : CellMaps). IsTable (both_maps m c.self.inside.segments)) (sym c.leave.ensures)
+    (rw dir at (left_table c.self.inside.directories c.self.inside.segments c.args.self.now c.args.uid c.self.view_is
+    c.self.invariant c.requires.cell c.requires.quota
+    c.requires.stored))
 
 pub invariant_of-self-else-has : goal.invariant_of-self-else-has
 invariant_of-self-else-has c =
-    let there = subst (λ (m : CellMaps). has_cell m c.args.uid ≡ true) (sym c.self.view_is) c.requires.cell in
-    let quota = subst (λ (m : CellMaps). quota_in m c.args.uid ≡ 0) (sym c.self.view_is) c.requires.quota in
-    let stored = subst (λ (m : CellMaps). stored_in m c.args.uid ≡ 0) (sym c.self.view_is) c.requires.stored in
     let off : has c.self.inside.directories.directories c.args.uid ≡ false = sym c.has.ensures ∙ c.if-has.false in
-    let table = rw off at (table_left (both_maps c.self.inside.directories c.self.inside.segments) c.self.invariant
-    c.args.uid there quota stored) in
-    subst (λ (m : CellMaps). IsTable (both_maps c.self.inside.directories m)) (sym c.leave-else-has.ensures) table
+    subst (λ (m : CellMaps). IsTable (both_maps c.self.inside.directories m)) (sym c.leave-else-has.ensures)
+    (rw off at (left_table c.self.inside.directories c.self.inside.segments c.args.self.now c.args.uid c.self.view_is
+    c.self.invariant c.requires.cell c.requires.quota
+    c.requires.stored))

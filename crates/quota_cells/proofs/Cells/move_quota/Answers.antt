@@ -1,38 +1,36 @@
 use Rattle.std.proofs.Common.{◌≡◌, ◌∙◌, w32}
 use Rattle.std.proofs.lemmas.Int.{to_z-of_z}
-use Rattle.std.specs.Prelude.{OnOk}
 use Rattle.std.specs.Int.{is_positive}
 use Rattle.std.specs.Int.RustNames.{unsigned_abs}
 use Rattle.tree_model.specs.Tree.{above}
 use Rattle.dir_tree.specs.Shape.{shapes}
-use Rattle.quota_cells.specs.Cells.{moved, move_answer}
-use Rattle.quota_cells.proofs.ScratchLaws.{answer_same, moved_shown, moved_fits, moved_total, stored_kept}
+use Rattle.quota_cells.specs.Cells.{move_answer}
+use Rattle.quota_cells.proofs.ScratchLaws.{AfterMove, after_move, answer_same, stored_kept}
 use Rattle.quota_cells.proofs.Cells.move_quota.Goals as goal
 
+answered : (c : goal.After-move_between) → c.move_between.result
+    ≡ move_answer c.args.self.now (above (shapes c.args.t.now.nodes)) c.args.dir (is_positive c.args.amount)
+    (unsigned_abs c.args.amount)
+answered c = rw (to_z-of_z w32 c.args.amount c.ranges.amount) at c.move_between.ensures.answer
+
+kept : (c : goal.After-move_between)
+    → AfterMove c.args.t.now.nodes c.args.self.now c.move_between.new.self c.args.dir (unsigned_abs c.args.amount)
+    (is_positive c.args.amount) c.move_between.result
+kept c =
+    after_move c.args.t.now.nodes c.args.self.now c.move_between.ensures.table c.requires.fits
+    c.superior_of-superior.ensures.lies.chains c.args.dir (unsigned_abs c.args.amount) c.requires.directory
+    c.requires.branch c.requires.amount (is_positive c.args.amount) c.move_between.new.self c.move_between.result
+    (answered c) (rw (to_z-of_z w32 c.args.amount c.ranges.amount) at c.move_between.ensures.ok)
+    c.move_between.ensures.err
+
 pub returns-clause-scratch : goal.returns-clause-scratch
-returns-clause-scratch c stored holds =
-    let back = to_z-of_z w32 c.args.amount c.ranges.amount in
-    let is : c.move_between.result ≡ move_answer c.args.self.now (above (shapes c.args.t.now.nodes)) c.args.dir
-    (is_positive c.args.amount)
-    (unsigned_abs c.args.amount) = rw back at c.move_between.ensures.answer in
-    is ∙ answer_same c.args.t.now.nodes c.args.self.now c.move_between.ensures.table c.requires.fits
-    c.superior_of-superior.ensures.lies.chains c.args.dir
-    (unsigned_abs c.args.amount) c.requires.directory c.requires.branch c.requires.amount stored holds
-    (is_positive c.args.amount)
+returns-clause-scratch c stored holds = answered c
+    ∙ answer_same c.args.t.now.nodes c.args.self.now c.move_between.ensures.table c.requires.fits
+    c.superior_of-superior.ensures.lies.chains c.args.dir (unsigned_abs c.args.amount) c.requires.directory
+    c.requires.branch c.requires.amount stored holds (is_positive c.args.amount)
 
 pub returns-clause-tree : goal.returns-clause-tree
-returns-clause-tree c =
-    let back = to_z-of_z w32 c.args.amount c.ranges.amount in
-    let is : c.move_between.result ≡ move_answer c.args.self.now (above (shapes c.args.t.now.nodes)) c.args.dir
-    (is_positive c.args.amount)
-    (unsigned_abs c.args.amount) = rw back at c.move_between.ensures.answer in
-    let ok : OnOk c.move_between.result (c.move_between.new.self
-    ≡ moved c.args.self.now (above (shapes c.args.t.now.nodes)) c.args.dir
-    (is_positive c.args.amount) (unsigned_abs c.args.amount)) = rw back at c.move_between.ensures.ok in
-    moved_shown c.args.t.now.nodes c.args.self.now c.move_between.ensures.table c.requires.fits
-    c.superior_of-superior.ensures.lies.chains c.args.dir
-    (unsigned_abs c.args.amount) c.requires.directory c.requires.branch c.requires.amount
-    (is_positive c.args.amount) c.move_between.new.self c.move_between.result is ok
+returns-clause-tree c = (kept c).shown
 
 pub returns-clause-stored : goal.returns-clause-stored
 returns-clause-stored c s = stored_kept c.args.self.now c.move_between.new.self
@@ -40,29 +38,7 @@ returns-clause-stored c s = stored_kept c.args.self.now c.move_between.new.self
     c.move_between.ensures.err s
 
 pub returns-clause-fits : goal.returns-clause-fits
-returns-clause-fits c =
-    let back = to_z-of_z w32 c.args.amount c.ranges.amount in
-    let is : c.move_between.result ≡ move_answer c.args.self.now (above (shapes c.args.t.now.nodes)) c.args.dir
-    (is_positive c.args.amount)
-    (unsigned_abs c.args.amount) = rw back at c.move_between.ensures.answer in
-    let ok : OnOk c.move_between.result (c.move_between.new.self
-    ≡ moved c.args.self.now (above (shapes c.args.t.now.nodes)) c.args.dir
-    (is_positive c.args.amount) (unsigned_abs c.args.amount)) = rw back at c.move_between.ensures.ok in
-    moved_fits c.args.t.now.nodes c.args.self.now c.move_between.ensures.table c.requires.fits
-    c.superior_of-superior.ensures.lies.chains c.args.dir
-    (unsigned_abs c.args.amount) c.requires.directory c.requires.branch c.requires.amount
-    (is_positive c.args.amount) c.move_between.new.self c.move_between.result is ok c.move_between.ensures.err
+returns-clause-fits c = (kept c).fits
 
 pub returns-clause-total : goal.returns-clause-total
-returns-clause-total c =
-    let back = to_z-of_z w32 c.args.amount c.ranges.amount in
-    let is : c.move_between.result ≡ move_answer c.args.self.now (above (shapes c.args.t.now.nodes)) c.args.dir
-    (is_positive c.args.amount)
-    (unsigned_abs c.args.amount) = rw back at c.move_between.ensures.answer in
-    let ok : OnOk c.move_between.result (c.move_between.new.self
-    ≡ moved c.args.self.now (above (shapes c.args.t.now.nodes)) c.args.dir
-    (is_positive c.args.amount) (unsigned_abs c.args.amount)) = rw back at c.move_between.ensures.ok in
-    moved_total c.args.t.now.nodes c.args.self.now c.move_between.ensures.table c.requires.fits
-    c.superior_of-superior.ensures.lies.chains c.args.dir
-    (unsigned_abs c.args.amount) c.requires.directory c.requires.branch c.requires.amount
-    (is_positive c.args.amount) c.move_between.new.self c.move_between.result is ok c.move_between.ensures.err
+returns-clause-total c = (kept c).total
