@@ -1,13 +1,9 @@
 -- What looks at segment control tell of the root.
-use Rattle.std.proofs.Common.{◌≡◌, ℕ, zero, suc, ◌<◌, length, arith, Bool, true, false, List, [], ◌∷◌, Option, None}
-use Rattle.std.proofs.Common.{Some, refl, sym, ap, ◌∙◌, get_or, subst, inl, inr}
-use Rattle.std.specs.List.{position_or_len}
+use Rattle.std.proofs.Common.{◌≡◌, ℕ, ◌<◌, length, arith, true, List, [], ◌∷◌, Option, None}
+use Rattle.std.proofs.Common.{Some, refl, sym, ap, ◌∙◌, subst}
 use Rattle.std.specs.Prelude.{slice_get}
 use Rattle.std.proofs.Math.ListN.{get_or-map}
-use Rattle.std.proofs.lemmas.Bool.{eqb-true, eq-eqb, cases_lt}
-use Rattle.std.proofs.lemmas.List.{get_or_past}
-use Rattle.std.proofs.lemmas.Option.{none-some, same_Some}
-use Rattle.std.proofs.lemmas.Grind.{common_steps}
+use Rattle.std.proofs.lemmas.Option.{same_Some}
 use Rattle.core_map.specs.declared.Frame.{Frame}
 use Rattle.core_map.specs.declared.Frame.TheVariants.{Free, Started, Bound}
 use Rattle.core_map.specs.CoreMap.{Core, frame_at, reads_of, started_page}
@@ -19,56 +15,17 @@ use Rattle.vtoc.specs.Vtoc.{Entry as VtocEntry}
 use Rattle.volumes.specs.CoreDrive.{DriveState}
 use Rattle.page_control.specs.Plain.{Paging, Plain, bindings}
 use Rattle.page_control.specs.Tied.{IsTableOf, IsBoundTo, IsNotStarted, frame_of, is_out}
-use Rattle.active_segs.specs.declared.Entry.{Entry}
-use Rattle.active_segs.specs.Active.{ActiveSegs, uid_in, uid_at, entry_at, table_at, IsTree}
+use Rattle.active_segs.specs.Active.{ActiveSegs, uid_at, table_at, IsTree}
 use Rattle.seg_control.specs.declared.Link.{Link}
 use Rattle.seg_control.specs.declared.Next.{Next}
 use Rattle.seg_control.specs.declared.Next.TheVariants.{Activated, Victim, Whole}
-use Rattle.seg_control.specs.Control.{Control, Links, is_for, place_of, table_of, word_of}
+use Rattle.seg_control.specs.Control.{Control, Links, table_of, word_of}
 use Rattle.seg_control.specs.Kept.{IsKept, IsOutAt, read_at}
 use Rattle.seg_control.specs.Next.{IsNext}
 use Rattle.seg_control.specs.Effects.{all_cut, reconnected, linked}
+use Rattle.seg_control.proofs.Places.{place_is}
 use Rattle.segs_tests.specs.Begun.{HasBegun}
 use Rattle.segs_tests.specs.Homed.{IsWord, IsInFrame}
-
--- ---- the place of an active segment
-
--- the first element that passes
-first_is : {X : Type 0} (p : X → Bool) (xs : List X) (k : ℕ) (d : X) → k < length xs → p (get_or xs k d) ≡ true
-    → ((j : ℕ) → j < k → p (get_or xs j d) ≡ false) → position_or_len p xs ≡ k
-first_is p [] k d lt holds before = omega arith
-first_is p (x ∷ xs) zero d lt holds before = grind (arith, common_steps)
-first_is p (x ∷ xs) (suc k) d lt holds before =
-    let no : p x ≡ false = before 0 (omega arith) in
-    let ih : position_or_len p xs ≡ k = first_is p xs k d (omega arith) holds (λ j l. before (suc j) (omega arith)) in
-    grind (arith, common_steps)
-
-is_for_uid : (uid : ℕ) (e : Option Entry) → uid_in e ≡ Some uid → is_for uid e ≡ true
-is_for_uid uid None h = cc
-is_for_uid uid (Some e) h = eq-eqb e.uid uid (same_Some _ _ h)
-
-uid_from : (uid : ℕ) (e : Option Entry) → is_for uid e ≡ true → uid_in e ≡ Some uid
-uid_from uid None h = cc
-uid_from uid (Some e) h = ap (λ (n : ℕ). Some n) (eqb-true e.uid uid h)
-
-used_within : (xs : List (Option Entry)) (p uid : ℕ) → uid_at xs p ≡ Some uid → p < length xs
-used_within xs p uid e = elim (cases_lt p (length xs))
-    [ inl lt ↦ lt | inr past ↦ absurd (none-some uid (sym (ap uid_in (get_or_past xs p None past)) ∙ e)) ]
-
-pub place_is : (xs : List (Option Entry)) (uid place : ℕ) → IsTree xs → uid_at xs place ≡ Some uid → place_of xs uid
-    ≡ place
-unfolding place_of
-place_is xs uid place tree at =
-    first_is (is_for uid) xs place None (used_within xs place uid at) (is_for_uid uid (entry_at xs place) at)
-    (λ j l. not_before j l)
-  where
-    not_yet : (j : ℕ) (b : Bool) → j < place → is_for uid (entry_at xs j) ≡ b → b ≡ false
-    not_yet j false l e = refl
-    not_yet j true l e = absurd (let same : j ≡ place =
-        tree.once j place uid (uid_from uid (entry_at xs j) e) at in omega (arith, same))
-
-    not_before : (j : ℕ) → j < place → is_for uid (entry_at xs j) ≡ false
-    not_before j l = not_yet j (is_for uid (entry_at xs j)) l refl
 
 -- ---- pages of the root
 

@@ -89,6 +89,7 @@ pub(crate) fn nothing_active(
 }
 
 /// The same, where the root has the first entry.
+#[tactic(auto, using(crate::proofs::Begun::none_active))]
 pub(crate) fn root_homed(alloc: Global, fails: Vec<FailLine>) -> Result<Segs<CoreDrive>, NoMemory>
     ensures { IfOk result (λ s. HasBegun s (fresh_entry 1 ∷ None ∷ None ∷ [])) }
 {

@@ -33,6 +33,7 @@ const EIGHTH: Link = Link {
 };
 
 /// The root and one of the segments have their homes, and none is active.
+#[tactic(auto, using(crate::proofs::Begun::none_active))]
 fn two_homed(alloc: Global) -> Result<Segs<CoreDrive>, NoMemory>
     ensures { IfOk result (λ s. HasBegun s (fresh_entry 1 ∷ fresh_entry 7 ∷ None ∷ [])) }
 {
@@ -42,6 +43,7 @@ fn two_homed(alloc: Global) -> Result<Segs<CoreDrive>, NoMemory>
 }
 
 /// The root and both segments have their homes, and none is active.
+#[tactic(auto, using(crate::proofs::Begun::none_active))]
 fn three_homed(alloc: Global) -> Result<Segs<CoreDrive>, NoMemory>
     ensures { IfOk result (λ s. HasBegun s three_homes) }
 {

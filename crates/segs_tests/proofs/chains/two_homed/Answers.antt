@@ -1,9 +1,6 @@
 use Rattle.std.proofs.Common.{refl}
-use Rattle.segs_tests.proofs.Begun.{none_active, homed_too}
+use Rattle.segs_tests.proofs.Begun.{homed_too}
 use Rattle.segs_tests.proofs.chains.two_homed.Goals as goal
-
-pub new_home-requires-clause-homed : goal.new_home-requires-clause-homed
-new_home-requires-clause-homed c = none_active c.in_ok-segs.segs _ _ c.in_ok-segs.ensures
 
 pub returns : goal.returns
 returns c =
