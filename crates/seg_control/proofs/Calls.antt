@@ -13,12 +13,13 @@ use Rattle.page_control.specs.declared.Home.{Home}
 use Rattle.page_control.specs.declared.Left.{Left}
 use Rattle.page_control.specs.Plain.{Paging, Plain, plain, bindings, binding_at}
 use Rattle.page_control.specs.Tied.{is_out}
-use Rattle.page_control.specs.Ties.{IsTied, KeepsOthers}
+use Rattle.page_control.specs.Ties.{IsTied, KeepsOthers, KeepsTies}
 use Rattle.page_control.specs.Effects.{words_left, words_here, word_of_left, after_evict}
 use Rattle.seg_control.specs.Control.{Links, place_of, table_of}
 use Rattle.seg_control.specs.Effects.{table_here, table_left}
 use Rattle.seg_control.specs.Kept.{read_at, IsHomeFor, HaveSizes, ArePaged, AreLinked, IsKept}
-use Rattle.seg_control.proofs.Paged.{set_cases, none_read, table_same, table_other, IsCall, paged_call}
+use Rattle.seg_control.proofs.Frames.{same_vtocs, same_records}
+use Rattle.seg_control.proofs.Paged.{set_cases, none_read, table_same, table_other, IsCall, paged_call, paged_same}
 
 -- a table of the same length
 pub sizes_kept : (sizes : List ℕ) (ptws : List (List Ptw)) (place : ℕ) (t : List Ptw) → place < length ptws → length t
@@ -30,17 +31,34 @@ sizes_kept sizes ptws place t lt same h pool q pl in_pool = elim (cases_eq q pla
   | inr ne ↦ ap length (table_other ptws place q t ne) ∙ h pool q pl in_pool
 ]
 
+-- page p of the segment of a place was concerned by a call, which left it this table
 pub kept_call : (old now : Plain) (ast : ActiveSegs) (links : Links) (place uid p : ℕ) (home : Home) (t : List Ptw)
-    → IsKept old ast links
-    → IsCall old now ast.entries ast.tables place uid p home t → length t ≡ length (table_at ast.tables place)
+    → IsKept old ast links → uid_at ast.entries place ≡ Some uid → place < length ast.entries → IsTied now uid home t
+    → KeepsOthers old now uid home
+    → ((f u q : ℕ) → binding_at (bindings now.core) f ≡ Some (u, q)
+    → (u ≡ uid) ⊎ (binding_at (bindings old.core) f ≡ Some (u, q)))
+    → ((f u q : ℕ) → read_at (reads_of now.core) f ≡ Some (u, q)
+    → (read_at (reads_of old.core) f ≡ Some (u, q)) × (u ≡ uid → q ≢ p))
+    → ((q : ℕ) → q ≢ p → ptw_at t q ≡ ptw_at (table_at ast.tables place) q)
+    → length t ≡ length (table_at ast.tables place)
     → IsKept now (with_table ast place t) links
-kept_call old now ast links place uid p home t k call same = record {
-  paged = paged_call old now ast.entries ast.tables place uid p home t k.paged k.tree call;
-  tree = k.tree;
-  places = length-set ast.tables place t ∙ k.places;
-  sized = sizes_kept ast.sizes ast.tables place t call.within same k.sized;
-  linked = k.linked;
-}
+kept_call old now ast links place uid p home t k at used tie others marks reads words same =
+    let call : IsCall old now ast.entries ast.tables place uid p home t = record {
+      at = at;
+      within = (let long : length ast.tables ≡ length ast.entries = k.places in omega (arith, long, used));
+      tie = tie;
+      others = others;
+      marks = marks;
+      reads = reads;
+      words = words;
+    } in
+    record {
+      paged = paged_call old now ast.entries ast.tables place uid p home t k.paged k.tree call;
+      tree = k.tree;
+      places = length-set ast.tables place t ∙ k.places;
+      sized = sizes_kept ast.sizes ast.tables place t call.within same k.sized;
+      linked = k.linked;
+    }
 
 -- a change of page control alone
 pub kept_paged : (old now : Plain) (ast : ActiveSegs) (links : Links) → IsKept old ast links
@@ -54,8 +72,18 @@ kept_paged old now ast links k paged = record {
   linked = k.linked;
 }
 
+-- and where it changes no binding, VTOC or record
+pub kept_marks : {D : Type 0} (pages : D → List (List ℕ)) (old now : Paging D) (ast : ActiveSegs) (links : Links)
+    → IsKept (plain pages old) ast links → bindings now.core ≡ bindings old.core → now.volumes ≡ old.volumes
+    → KeepsTies (plain pages old) (plain pages now) → reads_of now.core ≡ reads_of old.core
+    → IsKept (plain pages now) ast links
+kept_marks pages old now ast links k bound volumes ties reads =
+    kept_paged (plain pages old) (plain pages now) ast links k
+    (paged_same (plain pages old) (plain pages now) ast.entries ast.tables k.paged bound
+    (same_vtocs now.volumes old.volumes volumes) (same_records now.volumes old.volumes volumes) ties reads)
+
 -- the home of an active segment agrees with its page table
-pub tie_of : (now : Plain) (ast : ActiveSegs) (links : Links) (place uid : ℕ) (home : Home) (t : List Ptw)
+tie_of : (now : Plain) (ast : ActiveSegs) (links : Links) (place uid : ℕ) (home : Home) (t : List Ptw)
     → IsKept now ast links
     → uid_at ast.entries place ≡ Some uid → t ≡ table_at ast.tables place → IsHomeFor now uid home t
     → IsTied now uid home t
@@ -63,6 +91,14 @@ tie_of now ast links place uid home t k at is h = elim h [
   | inl only ↦ subst (IsTied now uid home) (sym is) (k.paged.ties place uid home at only)
   | inr tie ↦ tie
 ]
+
+-- and so does one that is given for a segment that is being moved
+pub tied_home : (now : Plain) (ast : ActiveSegs) (links : Links) (place uid : ℕ) (home : Home) (t : List Ptw)
+    → IsKept now ast links → uid_at ast.entries place ≡ Some uid → place ≡ place_of ast.entries uid
+    → t ≡ table_at ast.tables place → IsHomeFor now uid home (table_of ast uid) → IsTied now uid home t
+tied_home now ast links place uid home t k at is table h =
+    tie_of now ast links place uid home t k at table
+    (subst (IsHomeFor now uid home) (sym (table ∙ ap (table_at ast.tables) is)) h)
 
 -- ---- a page leaves its frame
 
@@ -96,21 +132,15 @@ pub kept_evicted : {E : Type 0} (result : Result Left E) (old now : Plain) (ast 
     → IsKept now (with_table ast place u) links
 kept_evicted result old now ast links place uid p f r home t u k at within table leaving tie others word freed kept
     reads =
-    kept_call old now ast links place uid p home u k
-    (record {
-      at = at;
-      within = (let same : length ast.tables ≡ length ast.entries = k.places in omega (arith, same, within));
-      tie = tie;
-      others = others;
-      marks = marks_left result (bindings old.core) (bindings now.core) uid f freed kept;
-      reads = λ g v q e.
-          (let was : read_at (reads_of old.core) g ≡ Some (v, q) =
-          sym (ap (λ (x : List (Option (ℕ × ℕ))). read_at x g) reads) ∙ e in
-          let no : is_out (ptw_at (table_at ast.tables place) p) ≡ false =
-          ap (λ (those : List Ptw). is_out (ptw_at those p)) (sym table) ∙ ap is_out leaving in
-          (was, none_read old ast.entries ast.tables place uid p g v q k.paged k.tree at no was));
-      words = λ q ne. words_left_other result t u p r word q ne ∙ ap (λ (those : List Ptw). ptw_at those q) table;
-    })
+    kept_call old now ast links place uid p home u k at within tie others
+    (marks_left result (bindings old.core) (bindings now.core) uid f freed kept)
+    (λ g v q e.
+    (let was : read_at (reads_of old.core) g ≡ Some (v, q) =
+    sym (ap (λ (x : List (Option (ℕ × ℕ))). read_at x g) reads) ∙ e in
+    let no : is_out (ptw_at (table_at ast.tables place) p) ≡ false =
+    ap (λ (those : List Ptw). is_out (ptw_at those p)) (sym table) ∙ ap is_out leaving in
+    (was, none_read old ast.entries ast.tables place uid p g v q k.paged k.tree at no was)))
+    (λ q ne. words_left_other result t u p r word q ne ∙ ap (λ (those : List Ptw). ptw_at those q) table)
     (length_left result t u p r word ∙ ap length table)
 
 -- the word of a page that leaves, as the active segments are seen
@@ -179,25 +209,19 @@ pub kept_read : {T E : Type 0} (result : Result T E) (old now : Plain) (ast : Ac
     → OnErr result (bindings now.core ≡ bindings old.core) → reads_of now.core ≡ set (reads_of old.core) f None
     → IsKept now (with_table ast place u) links
 kept_read result old now ast links place uid p f home t u k at within table started tie others word bound lost reads =
-    kept_call old now ast links place uid p home u k
-    (record {
-      at = at;
-      within = (let same : length ast.tables ≡ length ast.entries = k.places in omega (arith, same, within));
-      tie = tie;
-      others = others;
-      marks = marks_here result (bindings old.core) (bindings now.core) uid p f bound lost;
-      reads = λ g v q e.
-          elim (set_cases (reads_of old.core) f g None (v, q)
-          (sym (ap (λ (x : List (Option (ℕ × ℕ))). read_at x g) reads) ∙ e)) [
-            | inl h ↦ cc
-            | inr h ↦ (
-              h.1,
-              λ same page. h.0 (k.paged.once g f uid p
-                  (h.1 ∙ ap (λ (x : ℕ × ℕ). Some x) (pair v q uid p same page)) started),
-            )
-          ];
-      words = λ q ne. words_here_other result t u p f word q ne ∙ ap (λ (those : List Ptw). ptw_at those q) table;
-    })
+    kept_call old now ast links place uid p home u k at within tie others
+    (marks_here result (bindings old.core) (bindings now.core) uid p f bound lost)
+    (λ g v q e.
+    elim (set_cases (reads_of old.core) f g None (v, q)
+    (sym (ap (λ (x : List (Option (ℕ × ℕ))). read_at x g) reads) ∙ e)) [
+      | inl h ↦ cc
+      | inr h ↦ (
+        h.1,
+        λ same page. h.0 (k.paged.once g f uid p
+            (h.1 ∙ ap (λ (x : ℕ × ℕ). Some x) (pair v q uid p same page)) started),
+      )
+    ])
+    (λ q ne. words_here_other result t u p f word q ne ∙ ap (λ (those : List Ptw). ptw_at those q) table)
     (length_here result t u p f word ∙ ap length table)
   where
     pair : (a b c d : ℕ) → a ≡ c → b ≡ d → ◌≡◌ {A = ℕ × ℕ} (a, b) (c, d)
@@ -211,13 +235,6 @@ out_of now ast links place uid p f t k at is started =
     let out = k.paged.started f uid p started in
     let here : out.place ≡ place = k.tree.once out.place place uid out.active at in
     ap (λ (those : List Ptw). is_out (ptw_at those p)) (is ∙ ap (table_at ast.tables) (sym here)) ∙ out.out
-
--- the page table that is lent
-pub home_here : (now : Plain) (ast : ActiveSegs) (place uid : ℕ) (home : Home) (t : List Ptw) → place
-    ≡ place_of ast.entries uid → t ≡ table_at ast.tables place
-    → IsHomeFor now uid home (table_of ast uid) → IsHomeFor now uid home t
-home_here now ast place uid home t is table h = subst (IsHomeFor now uid home)
-    (sym (table ∙ ap (table_at ast.tables) is)) h
 
 pub lost_bindings : {E : Type 0} (result : Result Left E) (old now : Plain) (home : Home) (p f : ℕ) → now
     ≡ after_evict old home p f result

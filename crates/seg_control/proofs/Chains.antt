@@ -50,6 +50,12 @@ its_superiors ast vtocs volumes chain may place uid superior at there above =
         let long : length (uids_of chain) ≡ length chain = length-map chain (λ (link : Link). link.uid) in
         (i, omega (arith, lt, long), uid_of_link chain i superior (omega (arith, lt)) ∙ same_Some _ _ e)
 
+-- and so the superiors that are given for it
+pub given_superiors : (ast : ActiveSegs) (vtocs : List (List (Option VtocEntry))) (volumes : ℕ) (chain : List Link)
+    (uids : List ℕ) → uids ≡ uids_of chain → MayActivate ast vtocs volumes chain → HasItsSuperiors ast.entries uids
+given_superiors ast vtocs volumes chain uids is may =
+    subst (HasItsSuperiors ast.entries) (sym is) (its_superiors ast vtocs volumes chain may)
+
 -- ---- the first that is not active
 
 pub active_from : (r : Option ℕ) (entries : List (Option Entry)) (uid : ℕ)

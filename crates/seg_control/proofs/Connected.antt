@@ -8,7 +8,9 @@ use Rattle.std.proofs.lemmas.List.Edits.{length-remove}
 use Rattle.std.proofs.lemmas.List.Quantifiers.{position-Some}
 use Rattle.std.proofs.lemmas.Option.{none-some, same_Some}
 use Rattle.mnames.specs.declared.modes.Mode.{Mode}
+use Rattle.descriptor_seg.specs.declared.Sdw.{Sdw}
 use Rattle.descriptor_seg.specs.declared.Sdw.TheVariants.{Fault, Present}
+use Rattle.descriptor_seg.specs.Descriptors.{sdw_at}
 use Rattle.trailers.specs.Trailer.{trailers_of, leads_to, place_in, without_place, without_trailer}
 use Rattle.known_segs.specs.Known.{uid_of, without_number, HasOneNumberEach}
 use Rattle.active_segs.specs.declared.Entry.{Entry}
@@ -16,6 +18,7 @@ use Rattle.active_segs.specs.Active.{uid_at}
 use Rattle.seg_control.specs.Control.{Links, kst_at, sdws_at, leads, leads_at}
 use Rattle.seg_control.specs.Effects.{linked, unlinked, with_kst}
 use Rattle.seg_control.specs.Kept.{times, AreExact, IsKnownAt, AreLinked}
+use Rattle.seg_control.proofs.Places.{some_uid, used_within}
 use Rattle.seg_control.proofs.Counts.{weight, count_push, count_remove, count_some, position_there}
 use Rattle.seg_control.proofs.Linked.{pair_cases, leads_within, leads_this, leads_other, words_kept, leads_to_itself}
 use Rattle.seg_control.proofs.Linked.{leads_to_is, leads_to_not, times_same}
@@ -46,7 +49,7 @@ length-push : {X : Type 0} (xs : List X) (x : X) → length (xs ++ x ∷ []) ≡
 length-push xs x = length-append xs (x ∷ [])
 
 -- a number that is known is one of 256
-pub number_within : (links : Links) (process number uid : ℕ) → length (kst_at links.known process) ≡ 256
+number_within : (links : Links) (process number uid : ℕ) → length (kst_at links.known process) ≡ 256
     → uid_of (kst_at links.known process) number ≡ Some uid
     → number < 256
 number_within links process number uid size known_as = elim (cases_lt number (length (kst_at links.known process))) [
@@ -56,18 +59,40 @@ number_within links process number uid size known_as = elim (cases_lt number (le
 
 -- ---- a descriptor is connected
 
-module _ (entries : List (Option Entry)) (links : Links) (process number place uid : ℕ) (mode : Mode) (pages : ℕ)
-    (k : AreLinked entries links)
-    (process_within : process < length links.known) (place_within : place < length links.trailers)
-    (active : uid_at entries place ≡ Some uid)
-    (known_as : uid_of (kst_at links.known process) number ≡ Some uid)
-    (cut : leads_at links.descriptors process number ≡ None) where
+-- the segment of a place is active, the number of a process stands for it, and its descriptor leads nowhere yet
+pub record MayConnect (entries : List (Option Entry)) (links : Links) (process number place : ℕ) : Type 0 where
+  pub uid : ℕ
+  pub process_within : process < length links.known
+  pub place_within : place < length links.trailers
+  pub active : uid_at entries place ≡ Some uid
+  pub known_as : uid_of (kst_at links.known process) number ≡ Some uid
+  pub cut : leads_at links.descriptors process number ≡ None
+
+pub may_connect : (entries : List (Option Entry)) (links : Links) (process number place : ℕ) → AreLinked entries links
+    → IsSome (uid_at entries place) → process < length links.known
+    → uid_of (kst_at links.known process) number ≡ uid_at entries place
+    → leads_at links.descriptors process number ≡ None → MayConnect entries links process number place
+may_connect entries links process number place linked active within known cut =
+    let uid = some_uid (uid_at entries place) active in
+    let same = linked.lists.places in
+    let lt = used_within entries place uid.0 uid.1 in
+    record {
+      uid = uid.0;
+      process_within = within;
+      place_within = omega (arith, same, lt);
+      active = uid.1;
+      known_as = known ∙ uid.1;
+      cut = cut;
+    }
+
+module _ (entries : List (Option Entry)) (links : Links) (process number place : ℕ) (mode : Mode) (pages : ℕ)
+    (k : AreLinked entries links) (m : MayConnect entries links process number place) where
   in_descriptors : process < length links.descriptors
-  in_descriptors = (let same = k.lists.processes in omega (arith, same, process_within))
+  in_descriptors = (let same = k.lists.processes in omega (arith, same, m.process_within))
 
   in_words : number < length (sdws_at links.descriptors process)
-  in_words = (let size = k.lists.words process process_within in let lt =
-      number_within links process number uid (k.lists.numbers process process_within) known_as in omega
+  in_words = (let size = k.lists.words process m.process_within in let lt =
+      number_within links process number m.uid (k.lists.numbers process m.process_within) m.known_as in omega
       (arith, size, lt))
 
   -- how a list of trailers counts after the new one is added
@@ -81,7 +106,7 @@ module _ (entries : List (Option Entry)) (links : Links) (process number place u
         let list : trailers_of (set links.trailers place (trailers_of links.trailers place ++ (process, number) ∷ []))
         pl ≡ trailers_of links.trailers place ++ (process, number) ∷ [] =
         ap (trailers_of (set links.trailers place (trailers_of links.trailers place ++ (process, number) ∷ []))) e
-        ∙ list_same links.trailers place (trailers_of links.trailers place ++ (process, number) ∷ []) place_within in
+        ∙ list_same links.trailers place (trailers_of links.trailers place ++ (process, number) ∷ []) m.place_within in
         let here : eqb place pl ≡ true = same_test pl place e in
         ap (count_by (leads_to q n)) list ∙ count ∙ sum_of _ _ _ _
         (ap (λ (m : ℕ). count_by (leads_to q n) (trailers_of links.trailers m)) (sym e))
@@ -125,7 +150,7 @@ module _ (entries : List (Option Entry)) (links : Links) (process number place u
           let was = k.exact pl q n in
           let none : times (leads_at links.descriptors q n) pl ≡ 0 =
           ap (λ (at : Option ℕ). times at pl) (ap (λ (a : ℕ). leads_at links.descriptors a n) e
-          ∙ ap (leads_at links.descriptors process) f ∙ cut) in
+          ∙ ap (leads_at links.descriptors process) f ∙ m.cut) in
           let now : leads_at (linked links process number place mode pages).descriptors q n ≡ Some place =
           ap (λ (a : ℕ). leads_at (linked links process number place mode pages).descriptors a n) e
           ∙ ap (leads_at (linked links process number place mode pages).descriptors process) f
@@ -147,10 +172,10 @@ module _ (entries : List (Option Entry)) (links : Links) (process number place u
         ∙ leads_this links.descriptors process number (Present place mode pages) in_descriptors in_words in
         let same : place ≡ pl = same_Some _ _ (sym now ∙ e) in
         record {
-          uid = uid;
-          active = ap (uid_at entries) (sym same) ∙ active;
+          uid = m.uid;
+          active = ap (uid_at entries) (sym same) ∙ m.active;
           known_as = ap (λ (a : ℕ). uid_of (kst_at links.known a) n) here.0
-              ∙ ap (uid_of (kst_at links.known process)) here.1 ∙ known_as;
+              ∙ ap (uid_of (kst_at links.known process)) here.1 ∙ m.known_as;
         })
     | inr other ↦ k.known q n pl (sym (leads_other links.descriptors process number (Present place mode pages)
         in_descriptors in_words q n other) ∙ e)
@@ -185,13 +210,24 @@ module _ (entries : List (Option Entry)) (links : Links) (process number place u
       let most = most_trailers entries (linked links process number place mode pages) place linked_connected in
       let list : trailers_of (linked links process number place mode pages).trailers place
       ≡ trailers_of links.trailers place ++ (process, number) ∷ [] =
-      list_same links.trailers place (trailers_of links.trailers place ++ (process, number) ∷ []) place_within in
+      list_same links.trailers place (trailers_of links.trailers place ++ (process, number) ∷ []) m.place_within in
       let long : length (trailers_of (linked links process number place mode pages).trailers place)
       ≡ length (trailers_of links.trailers place) + 1 =
       ap length list ∙ length-push (trailers_of links.trailers place) (process, number) in
       omega (arith, most, long)
 
+  -- and its number is one of 256
+  pub connected_number : number < 256
+  connected_number = number_within links process number m.uid (k.lists.numbers process m.process_within) m.known_as
+
 -- ---- a descriptor is cut
+
+-- what a descriptor that was read leads to
+pub leading : (descriptors : List (List Sdw)) (process number : ℕ) (words : List Sdw) (word : Sdw)
+    → word ≡ sdw_at words number → words ≡ sdws_at descriptors process
+    → leads_at descriptors process number ≡ leads word
+leading descriptors process number words word is read =
+    sym (ap leads (is ∙ ap (λ (those : List Sdw). sdw_at those number) read))
 
 module _ (entries : List (Option Entry)) (links : Links) (process number place : ℕ) (k : AreLinked entries links)
     (leading : leads_at links.descriptors process number ≡ Some place) where

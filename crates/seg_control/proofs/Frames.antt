@@ -1,17 +1,16 @@
 -- What frames are bound to, and what is being read into them.
-use Rattle.std.proofs.Common.{◌≡◌, ◌≢◌, ℕ, true, List, Option, Some, refl, sym, ap, ◌∙◌}
+use Rattle.std.proofs.Common.{◌≡◌, ◌≢◌, ℕ, true, Some, refl, sym, ap, ◌∙◌}
 use Rattle.std.proofs.Math.ListN.{get_or-map}
 use Rattle.std.proofs.lemmas.Option.{same_Some}
 use Rattle.core_map.specs.CoreMap.{Core, reads_of, frame_at, is_bound, bound_page, started_page}
 use Rattle.core_map.specs.declared.Frame.{Frame}
 use Rattle.core_map.specs.declared.Frame.TheVariants.{Free, Started, Bound}
 use Rattle.volumes.specs.Volumes.{Vols}
-use Rattle.active_segs.specs.declared.Entry.{Entry}
-use Rattle.active_segs.specs.Active.{IsActive}
-use Rattle.page_table.specs.declared.Ptw.{Ptw}
+use Rattle.active_segs.specs.Active.{ActiveSegs, IsActive}
 use Rattle.page_control.specs.Plain.{Plain, bindings, binding_at, number_in}
 use Rattle.page_control.specs.Tied.{IsBoundOnce, IsNotStarted, uid_in}
-use Rattle.seg_control.specs.Kept.{read_at, ArePaged}
+use Rattle.seg_control.specs.Control.{Links}
+use Rattle.seg_control.specs.Kept.{read_at, IsKept}
 
 pub binding_is : (core : Core) (f : ℕ) → binding_at (bindings core) f ≡ bound_page (frame_at core f)
 binding_is core f = get_or-map bound_page core.frames f Free
@@ -30,14 +29,14 @@ pub bound_to : (core : Core) (f : ℕ) → is_bound (frame_at core f) ≡ true �
 bound_to core f e = binding_is core f ∙ page_of_bound (frame_at core f) e
 
 -- no other frame has it
-pub bound_once : (now : Plain) (entries : List (Option Entry)) (ptws : List (List Ptw)) (f : ℕ)
-    → ArePaged now entries ptws → is_bound (frame_at now.core f) ≡ true
-    → IsBoundOnce (bindings now.core) f
-bound_once now entries ptws f k e =
+pub bound_once : {now : Plain} {ast : ActiveSegs} {links : Links} {f : ℕ} → IsKept now ast links
+    → is_bound (frame_at now.core f) ≡ true → IsBoundOnce (bindings now.core) f
+bound_once {now = now} {ast = ast} {f = f} kept e =
+    let k = kept.paged in
     let u : ℕ = uid_in (frame_at now.core f) in
     let p : ℕ = number_in (frame_at now.core f) in
     let at : binding_at (bindings now.core) f ≡ Some (u, p) = bound_to now.core f e in
-    let active : IsActive entries u = k.bound f u p at in
+    let active : IsActive ast.entries u = k.bound f u p at in
     let table = k.tables active.0 u active.1 in
     record { only = λ g same. same_Some _ _ (sym (table.named g p (same ∙ at)) ∙ table.named f p at) }
 

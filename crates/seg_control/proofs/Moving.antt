@@ -5,7 +5,7 @@ use Rattle.std.proofs.Common.{arith, set, inl, inr, OnOk, OnErr}
 use Rattle.std.proofs.lemmas.Bool.{cases_eq}
 use Rattle.std.proofs.lemmas.List.{get_or-set_other, length-set, map-set}
 use Rattle.std.proofs.lemmas.Option.{none-some, same_Some}
-use Rattle.core_map.specs.CoreMap.{Core, reads_of, with_frame, bound_page}
+use Rattle.core_map.specs.CoreMap.{Core, reads_of, frame_at, with_frame, bound_page}
 use Rattle.core_map.specs.declared.Frame.TheVariants.{Free}
 use Rattle.page_table.specs.declared.Ptw.{Ptw}
 use Rattle.page_table.specs.declared.Ptw.TheVariants.{Null, Out, Here, Leaving}
@@ -14,11 +14,11 @@ use Rattle.vtoc.specs.Vtoc.{Entry as VtocEntry, uid_of}
 use Rattle.active_segs.specs.declared.Entry.{Entry}
 use Rattle.active_segs.specs.Active.{ActiveSegs, uid_in, entry_at, uid_at, table_at, with_table}
 use Rattle.page_control.specs.declared.Home.{Home}
-use Rattle.page_control.specs.Plain.{Plain, bindings, binding_at, uid_or_zero, uid_of_home}
-use Rattle.page_control.specs.Tied.{IsTableOf, IsNotStarted, is_out, uid_at as uid_homed}
+use Rattle.page_control.specs.Plain.{Paging, Plain, plain, bindings, binding_at, number_in, uid_or_zero, uid_of_home}
+use Rattle.page_control.specs.Tied.{IsTableOf, IsNotStarted, is_out, uid_in as uid_framed, uid_at as uid_homed}
 use Rattle.page_control.specs.Ties.{IsTied, KeepsOthers}
 use Rattle.page_control.specs.Effects.{words_here, after_create, dropped}
-use Rattle.seg_control.specs.Control.{Links}
+use Rattle.seg_control.specs.Control.{Links, place_of, word_of}
 use Rattle.seg_control.specs.Kept.{read_at, IsOutAt, ArePaged, IsKept}
 use Rattle.seg_control.proofs.Frames.{none_started}
 use Rattle.seg_control.proofs.Paged.{set_cases, none_read, table_same, table_other}
@@ -41,21 +41,15 @@ pub kept_created : {T E : Type 0} (result : Result T E) (old now : Plain) (ast :
     → OnErr result (bindings now.core ≡ bindings old.core) → reads_of now.core ≡ reads_of old.core
     → IsKept now (with_table ast place u) links
 kept_created result old now ast links place uid p f home t u k at within table null tie others word bound lost reads =
-    kept_call old now ast links place uid p home u k
-    (record {
-      at = at;
-      within = (let same : length ast.tables ≡ length ast.entries = k.places in omega (arith, same, within));
-      tie = tie;
-      others = others;
-      marks = marks_here result (bindings old.core) (bindings now.core) uid p f bound lost;
-      reads = λ g v q e.
-          (let was : read_at (reads_of old.core) g ≡ Some (v, q) =
-          sym (ap (λ (x : List (Option (ℕ × ℕ))). read_at x g) reads) ∙ e in
-          let off : is_out (ptw_at (table_at ast.tables place) p) ≡ false =
-          ap (λ (those : List Ptw). is_out (ptw_at those p)) (sym table) ∙ ap is_out null in
-          (was, none_read old ast.entries ast.tables place uid p g v q k.paged k.tree at off was));
-      words = λ q ne. words_here_other result t u p f word q ne ∙ ap (λ (those : List Ptw). ptw_at those q) table;
-    })
+    kept_call old now ast links place uid p home u k at within tie others
+    (marks_here result (bindings old.core) (bindings now.core) uid p f bound lost)
+    (λ g v q e.
+    (let was : read_at (reads_of old.core) g ≡ Some (v, q) =
+    sym (ap (λ (x : List (Option (ℕ × ℕ))). read_at x g) reads) ∙ e in
+    let off : is_out (ptw_at (table_at ast.tables place) p) ≡ false =
+    ap (λ (those : List Ptw). is_out (ptw_at those p)) (sym table) ∙ ap is_out null in
+    (was, none_read old ast.entries ast.tables place uid p g v q k.paged k.tree at off was)))
+    (λ q ne. words_here_other result t u p f word q ne ∙ ap (λ (those : List Ptw). ptw_at those q) table)
     (length_here result t u p f word ∙ ap length table)
 
 -- ---- a page is dropped
@@ -91,23 +85,17 @@ pub kept_dropped : (old now : Plain) (ast : ActiveSegs) (links : Links) (place u
     → reads_of now.core ≡ reads_of old.core
     → IsKept now (with_table ast place u) links
 kept_dropped old now ast links place uid p home word t u k at within table idle tie others is effect reads =
-    kept_call old now ast links place uid p home u k
-    (record {
-      at = at;
-      within = (let same : length ast.tables ≡ length ast.entries = k.places in omega (arith, same, within));
-      tie = tie;
-      others = others;
-      marks = λ g v q e. inr (marks_dropped word old now home p effect g v q e);
-      reads = λ g v q e.
-          (let was : read_at (reads_of old.core) g ≡ Some (v, q) =
-          sym (ap (λ (x : List (Option (ℕ × ℕ))). read_at x g) reads) ∙ e in (
-            was,
-            λ same page. none_started old.core uid p idle g
-                (was ∙ ap (λ (x : ℕ × ℕ). Some x) (pair v q uid p same page)),
-          ));
-      words = λ q ne. ap (λ (those : List Ptw). ptw_at those q) is ∙ get_or-set_other t p q Null Null ne
-          ∙ ap (λ (those : List Ptw). ptw_at those q) table;
-    })
+    kept_call old now ast links place uid p home u k at within tie others
+    (λ g v q e. inr (marks_dropped word old now home p effect g v q e))
+    (λ g v q e.
+    (let was : read_at (reads_of old.core) g ≡ Some (v, q) =
+    sym (ap (λ (x : List (Option (ℕ × ℕ))). read_at x g) reads) ∙ e in (
+      was,
+      λ same page. none_started old.core uid p idle g
+          (was ∙ ap (λ (x : ℕ × ℕ). Some x) (pair v q uid p same page)),
+    )))
+    (λ q ne. ap (λ (those : List Ptw). ptw_at those q) is ∙ get_or-set_other t p q Null Null ne
+    ∙ ap (λ (those : List Ptw). ptw_at those q) table)
     (ap length is ∙ length-set t p Null ∙ ap length table)
   where
     pair : (a b c d : ℕ) → a ≡ c → b ≡ d → ◌≡◌ {A = ℕ × ℕ} (a, b) (c, d)
@@ -198,3 +186,20 @@ kept_words old now ast links place uid p w t u k' same at within table off is ti
       sized = sizes_kept ast.sizes ast.tables place u lt (ap length is ∙ length-set t p w ∙ ap length table) k.sized;
       linked = k.linked;
     }
+
+-- the word of the page in frame f changes, and page control nothing else
+pub moved_word : {D : Type 0} (pages : D → List (List ℕ)) (old now : Paging D) (ast : ActiveSegs) (links : Links)
+    (place uid f : ℕ) (was word : Ptw) (t u : List Ptw)
+    → IsKept (plain pages old) ast links → now ≡ old → uid_framed (frame_at old.core f) ≡ uid
+    → word_of ast uid (number_in (frame_at old.core f)) ≡ was → is_out was ≡ false
+    → uid_at ast.entries place ≡ Some uid → place < length ast.entries → place ≡ place_of ast.entries uid
+    → t ≡ table_at ast.tables place → u ≡ set t (number_in (frame_at old.core f)) word
+    → IsTableOf (bindings now.core) (uid_framed (frame_at old.core f)) u
+    → ((v : ℕ) (home : Home) → IsTied (plain pages old) v home t → IsTied (plain pages now) v home u)
+    → IsKept (plain pages now) (with_table ast place u) links
+moved_word pages old now ast links place uid f was word t u k same own its off at within is table words tied tie =
+    let p : ℕ = number_in (frame_at old.core f) in
+    kept_words (plain pages old) (plain pages now) ast links place uid p word t u k (ap (plain pages) same) at within
+    table
+    (ap is_out (ap (λ (those : List Ptw). ptw_at those p) (table ∙ ap (table_at ast.tables) is) ∙ its) ∙ off) words
+    (subst (λ (v : ℕ). IsTableOf (bindings now.core) v u) own tied) (tie uid)

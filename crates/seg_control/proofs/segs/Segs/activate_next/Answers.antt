@@ -1,9 +1,8 @@
 use Rattle.std.proofs.Common.{◌≡◌, ◌∙◌, ℕ, List, length, ap, subst, sym, rules}
-use Rattle.active_segs.specs.Victim.{IsVictim, HasItsSuperiors}
-use Rattle.seg_control.specs.Next.{MayActivate}
+use Rattle.active_segs.specs.Victim.{IsVictim}
 use Rattle.seg_control.specs.declared.Next.TheVariants.{Victim}
 use Rattle.seg_control.specs.Next.{link_at}
-use Rattle.seg_control.proofs.Chains.{superior_active, its_superiors, going_whole, going_free, going_is}
+use Rattle.seg_control.proofs.Chains.{superior_active, given_superiors, going_whole, going_free, going_is}
 use Rattle.seg_control.proofs.segs.Segs.activate_next.Goals as goal
 
 pub make_active-requires-clause-superior : goal.make_active-requires-clause-superior
@@ -14,11 +13,8 @@ make_active-requires-clause-superior g c =
 
 pub victim-requires-clause-superiors : goal.victim-requires-clause-superiors
 victim-requires-clause-superiors g c =
-    let may : MayActivate c.self.inside.ast c.self.inside.pages.volumes.vtocs
-    (length c.self.inside.pages.volumes.drives) c.args.chain.now = search rules in
-    subst (HasItsSuperiors c.self.inside.ast.entries) (sym (c.deref.ensures.0 ∙ c.uids_in.ensures))
-    (its_superiors c.self.inside.ast c.self.inside.pages.volumes.vtocs (length c.self.inside.pages.volumes.drives)
-    c.args.chain.now may)
+    given_superiors c.self.inside.ast c.self.inside.pages.volumes.vtocs (length c.self.inside.pages.volumes.drives)
+    c.args.chain.now _ (c.deref.ensures.0 ∙ c.uids_in.ensures) (search rules)
 
 pub returns-in_default-clause-victim : goal.returns-in_default-clause-victim
 returns-in_default-clause-victim g c =

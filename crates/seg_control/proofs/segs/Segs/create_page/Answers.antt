@@ -4,29 +4,21 @@ use Rattle.page_table.specs.declared.Ptw.TheVariants.{Null}
 use Rattle.page_table.specs.PageTable.{ptw_at}
 use Rattle.active_segs.specs.Active.{table_at}
 use Rattle.page_control.specs.Plain.{plain}
-use Rattle.seg_control.specs.Control.{table_of, word_of}
-use Rattle.seg_control.specs.Kept.{IsHomeFor}
-use Rattle.seg_control.proofs.Calls.{tie_of, home_here, table_is_here}
+use Rattle.seg_control.proofs.Calls.{tied_home, table_is_here}
 use Rattle.seg_control.proofs.Moving.{kept_created, lost_created}
 use Rattle.seg_control.proofs.segs.Segs.create_page.Goals as goal
 
 pub create_page-requires-clause-tie : goal.create_page-requires-clause-tie
 create_page-requires-clause-tie g c =
-    let home : IsHomeFor (plain g.D.Drive.pages c.self.inside.pages) c.args.uid c.args.home
-    (table_of c.self.inside.ast c.args.uid) = search rules in
-    tie_of (plain g.D.Drive.pages c.self.inside.pages) c.self.inside.ast c.self.inside.links c.place_in-place.result
-    c.args.uid c.args.home _ c.self.invariant
-    c.place_in-place.ensures.at c.table_mut.ensures.value
-    (home_here (plain g.D.Drive.pages c.self.inside.pages) c.self.inside.ast c.place_in-place.result c.args.uid
-    c.args.home _ c.place_in-place.ensures.is
-    c.table_mut.ensures.value home)
+    tied_home (plain g.D.Drive.pages c.self.inside.pages) c.self.inside.ast c.self.inside.links c.place_in-place.result
+    c.args.uid c.args.home _ c.self.invariant c.place_in-place.ensures.at c.place_in-place.ensures.is
+    c.table_mut.ensures.value (search rules)
 
 pub invariant_of-self : goal.invariant_of-self
 invariant_of-self g c =
-    let null : word_of c.self.inside.ast c.args.uid c.args.p ≡ Null = search rules in
     let word : ptw_at c.table_mut.result.now c.args.p ≡ Null =
     ap (λ (those : List Ptw). ptw_at those c.args.p) (c.table_mut.ensures.value
-    ∙ ap (table_at c.self.inside.ast.tables) c.place_in-place.ensures.is) ∙ null in
+    ∙ ap (table_at c.self.inside.ast.tables) c.place_in-place.ensures.is) ∙ (search rules) in
     kept_created c.create_page.result (plain g.D.Drive.pages c.self.inside.pages)
     (plain g.D.Drive.pages c.create_page.new.self) c.self.inside.ast
     c.self.inside.links c.place_in-place.result c.args.uid c.args.p c.args.f c.args.home _ _ c.self.invariant

@@ -1,16 +1,11 @@
 use Rattle.std.proofs.Common.{rules}
-use Rattle.seg_control.proofs.Paged.{paged_same}
-use Rattle.seg_control.proofs.Frames.{same_vtocs, same_records, bound_once}
-use Rattle.seg_control.proofs.Calls.{kept_paged}
+use Rattle.seg_control.proofs.Frames.{bound_once}
+use Rattle.seg_control.proofs.Calls.{kept_marks}
 use Rattle.seg_control.proofs.segs.Segs.cut_from.Goals as goal
 
 pub invariant_of-self : goal.invariant_of-self
-invariant_of-self g c =
-    kept_paged _ _ _ _ c.self.invariant
-    (paged_same _ _ _ _ c.self.invariant.paged c.cut_from.ensures.bindings (same_vtocs _ _ c.cut_from.ensures.volumes)
-    (same_records _ _ c.cut_from.ensures.volumes)
-    c.cut_from.ensures.ties c.cut_from.ensures.reads)
+invariant_of-self g c = kept_marks g.D.Drive.pages _ _ _ _ c.self.invariant c.cut_from.ensures.bindings
+    c.cut_from.ensures.volumes c.cut_from.ensures.ties c.cut_from.ensures.reads
 
 pub returns-clause-words : goal.returns-clause-words
-returns-clause-words g c =
-    rw (← c.self.view_is) (c.cut_from.ensures.words (bound_once _ _ _ c.args.f c.self.invariant.paged (search rules)))
+returns-clause-words g c = rw (← c.self.view_is) (c.cut_from.ensures.words (bound_once c.self.invariant (search rules)))

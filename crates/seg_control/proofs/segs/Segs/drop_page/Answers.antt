@@ -3,38 +3,26 @@ use Rattle.page_table.specs.PageTable.{ptw_at}
 use Rattle.page_control.specs.Plain.{plain, uid_of_home}
 use Rattle.page_control.specs.Tied.{IsNotStarted}
 use Rattle.page_control.specs.Ties.{IsTied, KeepsOthers}
-use Rattle.seg_control.specs.Control.{table_of}
-use Rattle.seg_control.specs.Kept.{IsHomeFor}
-use Rattle.seg_control.proofs.Calls.{tie_of, home_here}
+use Rattle.seg_control.proofs.Calls.{tied_home}
 use Rattle.seg_control.proofs.Moving.{kept_dropped, homed_uid}
 use Rattle.seg_control.proofs.segs.Segs.drop_page.Goals as goal
 
 pub drop_page-requires-clause-tie : goal.drop_page-requires-clause-tie
 drop_page-requires-clause-tie g c =
-    let home : IsHomeFor (plain g.D.Drive.pages c.self.inside.pages) c.args.uid c.args.home
-    (table_of c.self.inside.ast c.args.uid) = search rules in
     let tie : IsTied (plain g.D.Drive.pages c.self.inside.pages) c.args.uid c.args.home c.table_mut.result.now =
-    tie_of (plain g.D.Drive.pages c.self.inside.pages) c.self.inside.ast c.self.inside.links c.place_in-place.result
-    c.args.uid c.args.home _ c.self.invariant
-    c.place_in-place.ensures.at c.table_mut.ensures.value
-    (home_here (plain g.D.Drive.pages c.self.inside.pages) c.self.inside.ast c.place_in-place.result c.args.uid
-    c.args.home _ c.place_in-place.ensures.is
-    c.table_mut.ensures.value home) in
+    tied_home (plain g.D.Drive.pages c.self.inside.pages) c.self.inside.ast c.self.inside.links c.place_in-place.result
+    c.args.uid c.args.home _ c.self.invariant c.place_in-place.ensures.at c.place_in-place.ensures.is
+    c.table_mut.ensures.value (search rules) in
     subst (λ (u : ℕ). IsTied (plain g.D.Drive.pages c.self.inside.pages) u c.args.home c.table_mut.result.now)
     (sym (homed_uid (plain g.D.Drive.pages c.self.inside.pages) c.args.uid c.args.home tie.used)) tie
 
 pub invariant_of-self : goal.invariant_of-self
 invariant_of-self g c =
-    let home : IsHomeFor (plain g.D.Drive.pages c.self.inside.pages) c.args.uid c.args.home
-    (table_of c.self.inside.ast c.args.uid) = search rules in
     let idle : IsNotStarted c.self.inside.pages.core c.args.uid c.args.p = search rules in
     let tie : IsTied (plain g.D.Drive.pages c.self.inside.pages) c.args.uid c.args.home c.table_mut.result.now =
-    tie_of (plain g.D.Drive.pages c.self.inside.pages) c.self.inside.ast c.self.inside.links c.place_in-place.result
-    c.args.uid c.args.home _ c.self.invariant
-    c.place_in-place.ensures.at c.table_mut.ensures.value
-    (home_here (plain g.D.Drive.pages c.self.inside.pages) c.self.inside.ast c.place_in-place.result c.args.uid
-    c.args.home _ c.place_in-place.ensures.is
-    c.table_mut.ensures.value home) in
+    tied_home (plain g.D.Drive.pages c.self.inside.pages) c.self.inside.ast c.self.inside.links c.place_in-place.result
+    c.args.uid c.args.home _ c.self.invariant c.place_in-place.ensures.at c.place_in-place.ensures.is
+    c.table_mut.ensures.value (search rules) in
     let its : uid_of_home (plain g.D.Drive.pages c.self.inside.pages) c.args.home ≡ c.args.uid =
     homed_uid (plain g.D.Drive.pages c.self.inside.pages) c.args.uid c.args.home tie.used in
     kept_dropped (plain g.D.Drive.pages c.self.inside.pages) (plain g.D.Drive.pages c.drop_page.new.self)

@@ -2,10 +2,8 @@ use Rattle.std.proofs.Common.{◌≡◌, rules}
 use Rattle.core_map.specs.CoreMap.{frame_at}
 use Rattle.core_map.specs.declared.Frame.TheVariants.{Started}
 use Rattle.page_control.specs.Plain.{plain}
-use Rattle.seg_control.specs.Control.{table_of}
-use Rattle.seg_control.specs.Kept.{IsHomeFor}
 use Rattle.seg_control.proofs.Frames.{started_for}
-use Rattle.seg_control.proofs.Calls.{tie_of, out_of, kept_read, home_here}
+use Rattle.seg_control.proofs.Calls.{tied_home, out_of, kept_read}
 use Rattle.seg_control.proofs.segs.Segs.end_in.Goals as goal
 
 pub end_in-requires-clause-out : goal.end_in-requires-clause-out
@@ -17,12 +15,9 @@ end_in-requires-clause-out g c =
 
 pub end_in-requires-clause-tie : goal.end_in-requires-clause-tie
 end_in-requires-clause-tie g c =
-    let home : IsHomeFor (plain g.D.Drive.pages c.self.inside.pages) c.args.uid c.args.home
-    (table_of c.self.inside.ast c.args.uid) = search rules in
-    tie_of (plain g.D.Drive.pages c.self.inside.pages) c.self.inside.ast c.self.inside.links c.place_in-place.result
-    c.args.uid c.args.home _ c.self.invariant c.place_in-place.ensures.at c.table_mut.ensures.value
-    (home_here (plain g.D.Drive.pages c.self.inside.pages) c.self.inside.ast c.place_in-place.result c.args.uid
-    c.args.home _ c.place_in-place.ensures.is c.table_mut.ensures.value home)
+    tied_home (plain g.D.Drive.pages c.self.inside.pages) c.self.inside.ast c.self.inside.links c.place_in-place.result
+    c.args.uid c.args.home _ c.self.invariant c.place_in-place.ensures.at c.place_in-place.ensures.is
+    c.table_mut.ensures.value (search rules)
 
 pub invariant_of-self : goal.invariant_of-self
 invariant_of-self g c =

@@ -7,21 +7,17 @@ use Rattle.active_segs.specs.Active.{table_at}
 use Rattle.page_control.specs.Plain.{plain, number_in, record_of}
 use Rattle.page_control.specs.Tied.{uid_in}
 use Rattle.page_control.specs.Ties.{IsTied, KeepsOthers}
-use Rattle.seg_control.specs.Control.{table_of, word_of}
-use Rattle.seg_control.specs.Kept.{IsHomeFor}
-use Rattle.seg_control.proofs.Calls.{tie_of, kept_evicted, home_here, table_is_left, lost_bindings}
+use Rattle.seg_control.specs.Control.{word_of}
+use Rattle.seg_control.proofs.Calls.{tied_home, kept_evicted, table_is_left, lost_bindings}
 use Rattle.seg_control.proofs.segs.Segs.evict.Goals as goal
 
 pub evict-requires-clause-tie : goal.evict-requires-clause-tie
 evict-requires-clause-tie g c =
     let own : uid_in (frame_at c.self.inside.pages.core c.args.f) ≡ c.args.uid = search rules in
-    let home : IsHomeFor (plain g.D.Drive.pages c.self.inside.pages) c.args.uid c.args.home
-    (table_of c.self.inside.ast c.args.uid) = search rules in
     subst (λ (u : ℕ). IsTied (plain g.D.Drive.pages c.self.inside.pages) u c.args.home c.table_mut.result.now) (sym own)
-    (tie_of (plain g.D.Drive.pages c.self.inside.pages) c.self.inside.ast c.self.inside.links c.place_in-place.result
-    c.args.uid c.args.home _ c.self.invariant c.place_in-place.ensures.at c.table_mut.ensures.value
-    (home_here (plain g.D.Drive.pages c.self.inside.pages) c.self.inside.ast c.place_in-place.result c.args.uid
-    c.args.home _ c.place_in-place.ensures.is c.table_mut.ensures.value home))
+    (tied_home (plain g.D.Drive.pages c.self.inside.pages) c.self.inside.ast c.self.inside.links c.place_in-place.result
+    c.args.uid c.args.home _ c.self.invariant c.place_in-place.ensures.at c.place_in-place.ensures.is
+    c.table_mut.ensures.value (search rules))
 
 pub invariant_of-self : goal.invariant_of-self
 invariant_of-self g c =

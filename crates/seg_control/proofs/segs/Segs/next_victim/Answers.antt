@@ -1,16 +1,11 @@
-use Rattle.std.proofs.Common.{◌∙◌, length, subst, sym, rules}
-use Rattle.active_segs.specs.Victim.{HasItsSuperiors}
-use Rattle.seg_control.specs.Next.{MayActivate}
-use Rattle.seg_control.proofs.Chains.{its_superiors, not_stuck_active, not_stuck_free, if_none}
+use Rattle.std.proofs.Common.{◌∙◌, length, rules}
+use Rattle.seg_control.proofs.Chains.{given_superiors, not_stuck_active, not_stuck_free, if_none}
 use Rattle.seg_control.proofs.segs.Segs.next_victim.Goals as goal
 
 pub next_victim-requires-clause-superiors : goal.next_victim-requires-clause-superiors
 next_victim-requires-clause-superiors g c =
-    let may : MayActivate c.self.inside.ast c.self.inside.pages.volumes.vtocs
-    (length c.self.inside.pages.volumes.drives) c.args.chain.now = search rules in
-    subst (HasItsSuperiors c.self.inside.ast.entries) (sym (c.deref.ensures.0 ∙ c.uids_in.ensures))
-    (its_superiors c.self.inside.ast c.self.inside.pages.volumes.vtocs (length c.self.inside.pages.volumes.drives)
-    c.args.chain.now may)
+    given_superiors c.self.inside.ast c.self.inside.pages.volumes.vtocs (length c.self.inside.pages.volumes.drives)
+    c.args.chain.now _ (c.deref.ensures.0 ∙ c.uids_in.ensures) (search rules)
 
 pub returns-in_err-i-clause-none : goal.returns-in_err-i-clause-none
 returns-in_err-i-clause-none g c =
