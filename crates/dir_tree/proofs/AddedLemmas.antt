@@ -63,7 +63,8 @@ module _ {nodes : List Node} {es : List Entry} {free : List ℕ} {index : Places
 
     within_more : (p : ℕ) → p < length nodes → p < length nodes'
     within_more p lt = elim (cases_eq (length free) 0) [
-      | inl none ↦ (let g : length nodes' ≡ length nodes + 1 = rw (eq-eqb (length free) 0 none) at grown in omega arith)
+      | inl none ↦
+          (let g : length nodes' ≡ length nodes + 1 = rw (eq-eqb (length free) 0 none) at grown in omega arith)
       | inr some ↦ (let g : length nodes' ≡ length nodes = rw (ne_eqb (length free) 0 some) at grown in omega arith)
     ]
 
@@ -121,7 +122,7 @@ module _ {nodes : List Node} {es : List Entry} {free : List ℕ} {index : Places
   old_nodes : newest nodes' es ≡ newest nodes es
   old_nodes = newest_same nodes' nodes es old_node
 
-  pub view_added : newest nodes' es' ≡ n ∷ newest nodes es
+  view_added : newest nodes' es' ≡ n ∷ newest nodes es
   view_added = newest_push nodes' es entry ∙ ap (λ x. x ∷ newest nodes' es) here ∙ ap (λ xs. n ∷ xs) old_nodes
 
   few_es : length es < 4097
@@ -186,14 +187,16 @@ module _ {nodes : List Node} {es : List Entry} {free : List ℕ} {index : Places
   count' : length nodes' ≡ length es' + length free'
   count' = (let m = size in let f = size_free in let c : length nodes ≡ length es + length free =
       k.count in elim (cases_eq (length free) 0) [
-        | inl none ↦ (let g : length nodes' ≡ length nodes + 1 = rw (eq-eqb (length free) 0 none) at grown in omega arith)
+        | inl none ↦
+            (let g : length nodes' ≡ length nodes + 1 = rw (eq-eqb (length free) 0 none) at grown in omega arith)
         | inr some ↦ (let g : length nodes' ≡ length nodes = rw (ne_eqb (length free) 0 some) at grown in omega arith)
       ])
 
   few' : length nodes' ≤ 4097
   few' = (let f = few_es in let n : length nodes ≤ 4097 = k.few in let c : length nodes ≡ length es + length free =
       k.count in elim (cases_eq (length free) 0) [
-        | inl none ↦ (let g : length nodes' ≡ length nodes + 1 = rw (eq-eqb (length free) 0 none) at grown in omega arith)
+        | inl none ↦
+            (let g : length nodes' ≡ length nodes + 1 = rw (eq-eqb (length free) 0 none) at grown in omega arith)
         | inr some ↦ (let g : length nodes' ≡ length nodes = rw (ne_eqb (length free) 0 some) at grown in omega arith)
       ])
 
@@ -222,7 +225,7 @@ module _ {nodes : List Node} {es : List Entry} {free : List ℕ} {index : Places
     }
   ])
 
-  pub kept_added : IsKept nodes' es' free' index' (next + 1)
+  kept_added : IsKept nodes' es' free' index' (next + 1)
   kept_added = record {
     uids = each_pushed es entry no_entry (λ e. (node_at nodes' e.place).uid ≡ e.uid)
         (λ i lt. ap (λ (x : Node). x.uid) (old_node i lt) ∙ k.uids i lt)
@@ -247,3 +250,6 @@ module _ {nodes : List Node} {es : List Entry} {free : List ℕ} {index : Places
     tree = subst (λ ns. IsTree (shapes ns)) (sym view_added)
         (subst (λ o. Joins (shapes (newest nodes es)) o (shape n)) (sym n_superior) branch, k.tree);
   }
+
+  pub added : IsKept nodes' es' free' index' (next + 1) × (newest nodes' es' ≡ n ∷ newest nodes es)
+  added = (kept_added, view_added)

@@ -146,7 +146,7 @@ module _ (v : ℕ) (g : ℕ → ℕ) where
   }
 
   -- the one entry of a uid written
-  pub set_recounted : (es : List Entry) → IsAscending es → (i : ℕ) → i < length es → (entry_at es i).uid ≡ v
+  set_recounted : (es : List Entry) → IsAscending es → (i : ℕ) → i < length es → (entry_at es i).uid ≡ v
       → (e : Entry) → e ≡ recount v g (entry_at es i)
       → set es i e ≡ recounted v g es
   set_recounted es rising i within is e e_is =
@@ -164,6 +164,13 @@ module _ (v : ℕ) (g : ℕ → ℕ) where
             let kept : recount v g (entry_at es j) ≡ entry_at es j = rw isnt refl in
             get_or-set_other es i j e no_entry there ∙ sym kept ∙ sym (entry_recounted es j lt))
       ]
+
+-- where its count of inferiors alone is another
+pub count_set : (uid : ℕ) (g : ℕ → ℕ) (es : List Entry) → IsAscending es → (i : ℕ) → i < length es
+    → (entry_at es i).uid ≡ uid → (e : Entry) → e ≡ entry_at es i
+    → set es i (record (entry_at es i) { inferiors = g e.inferiors }) ≡ recounted uid g es
+count_set uid g es rising i within is e read = set_recounted uid g es rising i within is _
+    (rw (eq-eqb (entry_at es i).uid uid is, read) refl)
 
 -- ---- one inferior more, one less
 

@@ -246,7 +246,7 @@ first_is nodes ps at key sorted below from k within is = elim (cases_order k at)
   ]
 ]
 
-pub branch_at_first : (nodes : List Node) (ps : List ℕ) (at superior : ℕ) (name : List ℕ) → IsSorted nodes ps
+branch_at_first : (nodes : List Node) (ps : List ℕ) (at superior : ℕ) (name : List ℕ) → IsSorted nodes ps
     → ((k : ℕ) → k < at → key_cmp (key_at nodes ps k) (Some superior, name) ≡ Less)
     → ((k : ℕ) → at ≤ k → k < length ps → key_cmp (key_at nodes ps k) (Some superior, name) ≢ Less) → (place : ℕ)
     → (there : HasPlace ps place)
@@ -254,3 +254,15 @@ pub branch_at_first : (nodes : List Node) (ps : List ℕ) (at superior : ℕ) (n
 branch_at_first nodes ps at superior name sorted below from place there is =
     first_is nodes ps at (Some superior, name) sorted below from there.at there.within
     (ap (λ p. key_of (node_at nodes p)) there.is ∙ branch_key superior name (node_at nodes place) is)
+
+-- so the first of those from there on is its place
+pub first_place : (nodes : List Node) (ps : List ℕ) (at superior : ℕ) (name : List ℕ) → IsSorted nodes ps
+    → ((k : ℕ) → k < at → key_cmp (key_at nodes ps k) (Some superior, name) ≡ Less)
+    → ((k : ℕ) → at ≤ k → k < length ps → key_cmp (key_at nodes ps k) (Some superior, name) ≢ Less) → (place : ℕ)
+    → HasPlace ps place → is_branch superior name (shape (node_at nodes place)) ≡ true
+    → (at < length ps) × (get_or ps at 0 ≡ place)
+first_place nodes ps at superior name sorted below from place there is =
+    let same = branch_at_first nodes ps at superior name sorted below from place there is in (
+      subst (λ k. k < length ps) same there.within,
+      subst (λ k. get_or ps k 0 ≡ place) same there.is,
+    )

@@ -12,10 +12,10 @@ use Rattle.dir_tree.specs.declared.node.Node.{Node}
 use Rattle.dir_tree.specs.declared.node.AddFault.TheVariants as add_fault
 use Rattle.dir_tree.specs.declared.entries.Entry.{Entry}
 use Rattle.dir_tree.specs.Index.{Places, HasPlace, AreWithin, node_at, no_node}
-use Rattle.dir_tree.specs.Nodes.{node_of, is_in, add_fault_of}
+use Rattle.dir_tree.specs.Nodes.{Branches, node_of, is_in, is_segment, add_fault_of}
 use Rattle.dir_tree.specs.Shape.{shape, shapes}
 use Rattle.tree_model.specs.Trees.{AreBelow}
-use Rattle.dir_tree.specs.Laws.{directory_shape, directory_in}
+use Rattle.dir_tree.specs.Laws.{directory_shape, directory_in, segment_in}
 use Rattle.dir_tree.specs.Kept.{entry_at, newest, IsNamed, IsKept, HasEntry}
 use Rattle.tree_model.proofs.Finds.{IsMember, member_parts, member_map, member_found, branch_found, any_member}
 use Rattle.tree_model.proofs.Finds.{any_found, find_map, found_member, found_passes}
@@ -105,6 +105,12 @@ module _ {nodes : List Node} {es : List Entry} {free : List ℕ} {index : Places
   node_missing uid none = none_newest (λ n. eqb n.uid uid) nodes es
       (λ j lt. ne_eqb _ _ (λ e. none j lt (sym (k.uids j lt) ∙ e)))
 
+-- what the next branch gets is no node's uid yet
+pub next_missing : {nodes : List Node} {es : List Entry} {free : List ℕ} {index : Places} {next : ℕ}
+    → IsKept nodes es free index next → is_some (node_of (newest nodes es) next) ≡ false
+next_missing {es = es} {next = next} k = ap is_some (node_missing k next
+    (λ i lt e. (let less : (entry_at es i).uid < next = k.below i lt in omega (arith, less, e))))
+
 -- an entry is that of a node that is there
 pub member_entry : (ns : List Node) (es : List Entry) (x : Node) → IsMember x (newest ns es) → (i : ℕ)
     × (i < length es) × (node_of_entry ns es i ≡ x)
@@ -127,6 +133,12 @@ entry_present {nodes} {es} {free} {index} {next} k uid e =
     member_entry nodes es n.0 (found_member (λ n. eqb n.uid uid) (newest nodes es) n.0 n.1) in
     let is : eqb n.0.uid uid ≡ true = found_passes (λ n. eqb n.uid uid) (newest nodes es) n.0 n.1 in
     (m.0, m.1, sym (k.uids m.0 m.1) ∙ ap (λ (n : Node). n.uid) m.2 ∙ eqb-true n.0.uid uid is)
+
+pub segment_present : {nodes : List Node} {es : List Entry} {free : List ℕ} {index : Places} {next : ℕ}
+    → IsKept nodes es free index next → (uid : ℕ) {t : Branches} → record { nodes = newest nodes es; next = next } ≡ t
+    → is_segment t.nodes uid ≡ true → (i : ℕ) × (i < length es) × ((entry_at es i).uid ≡ uid)
+segment_present {nodes} {es} {free} {index} {next} k uid {t} seen is =
+    entry_present k uid (subst (λ (t : Branches). is_in t.nodes uid ≡ true) (sym seen) (segment_in t.nodes uid is))
 
 pub up_in : (ns : List Node) (u : ℕ) (o : Option ℕ) → IsUp (shapes ns) u o
     → IfSome o (λ s. (s < u) × (is_in ns s ≡ true))
@@ -219,6 +231,11 @@ pub place_within : {nodes : List Node} {es : List Entry} {free : List ℕ} {inde
     → HasPlace index.places place → place < length nodes
 place_within {nodes} {es} {free} {index} {next} k place there =
     subst (λ q. q < length nodes) there.is (places_within k there.at there.within)
+
+pub place_read : {nodes : List Node} {es : List Entry} {free : List ℕ} {index : Places} {next : ℕ}
+    → IsKept nodes es free index next → (place : ℕ) (x : Node) → HasPlace index.places place → x ≡ get_or nodes place x
+    → x ≡ node_at nodes place
+place_read {nodes} k place x there read = get_or_read nodes place x (place_within k place there) read no_node
 
 -- what stands in the index is a node of the tree
 pub place_there : {nodes : List Node} {es : List Entry} {free : List ℕ} {index : Places} {next : ℕ}

@@ -2,14 +2,15 @@
 -- anything but uids, superiors, names and kinds.
 use Rattle.std.proofs.Common.{◌≡◌, ℕ, ◌+◌, Bool, true, false, eqb, List, [], ◌∷◌, length, ◌||◌, Option, Some, None, Ok}
 use Rattle.std.proofs.Common.{refl, sym, ap, ◌∙◌, is_some, get_or}
-use Rattle.std.proofs.Common.{drop, ◌<◌, ◌≤◌, arith, inl, inr}
+use Rattle.std.proofs.Common.{drop, ◌<◌, ◌≤◌, ◌&&◌, nat_le, cond, arith, inl, inr}
 use Rattle.std.specs.List.{find}
 use Rattle.std.specs.Option.{option_map, option_and_then}
 use Rattle.std.proofs.lemmas.Bool.{cases_Bool, eq-eqb}
 use Rattle.std.proofs.lemmas.List.{length-map, at_drop_more, at_drop_all}
 use Rattle.tree_model.specs.Tree.{Node as Term, Walk, LeadsTo, node_in, branch_in, is_branch, is_inferior, onward}
-use Rattle.tree_model.specs.Tree.{walk_from, walk_in}
+use Rattle.tree_model.specs.Tree.{above, walk_from, walk_in}
 use Rattle.dir_tree.specs.declared.node.Node.{Node}
+use Rattle.dir_tree.specs.declared.node.AddFault.TheVariants as add_fault
 use Rattle.dir_tree.specs.Laws.{above_any}
 use Rattle.dir_tree.specs.Nodes.{as_term, node_of, with_quotas, add_fault_of, has_inferior, unless}
 use Rattle.dir_tree.specs.Shape.{shape, shapes}
@@ -80,6 +81,15 @@ pub fault_any : (q : ℕ → ℕ) (ns : List Node) (d : ℕ) (name : List ℕ) (
     → add_fault_of (with_quotas q ns) d name b ≡ add_fault_of (shapes ns) d name b
 fault_any q ns d name b = rw (named_any q ns d name, above_any q ns d, length-map ns (as_term q), length-map ns shape)
     refl
+
+-- whether a branch may be added, by what is looked up
+pub fault_by : (q : ℕ → ℕ) (ns : List Node) (d : ℕ) (name : List ℕ) (dir : Bool) {here deep full : Bool}
+    → is_some (branch_in (shapes ns) d name) ≡ here
+    → (dir && nat_le 8 (length (above (shapes ns) d))) ≡ deep → nat_le 4097 (length ns) ≡ full
+    → add_fault_of (with_quotas q ns) d name dir
+    ≡ cond here (Some add_fault.Exists) (cond deep (Some add_fault.Deep) (cond full (Some add_fault.Room) None))
+fault_by q ns d name dir is_here is_deep is_full = fault_any q ns d name dir
+    ∙ rw (is_here, is_deep, ap (nat_le 4097) (length-map ns shape) ∙ is_full) refl
 
 pub inferior_any : (q : ℕ → ℕ) (ns : List Node) (u : ℕ) → has_inferior (with_quotas q ns) u ≡ has_inferior (shapes ns) u
 inferior_any q [] u = refl

@@ -1,7 +1,7 @@
-use Rattle.std.proofs.Common.{◌<◌, length, sym, ap, ◌∙◌, arith, is_some}
-use Rattle.dir_tree.specs.Kept.{entry_at, newest}
+use Rattle.std.proofs.Common.{◌<◌, length, sym, ◌∙◌, arith}
+use Rattle.dir_tree.specs.Kept.{newest}
 use Rattle.tree_model.proofs.ChainLaws.{has_chains}
-use Rattle.dir_tree.proofs.KeptLemmas.{node_missing, MayAdd, no_fault}
+use Rattle.dir_tree.proofs.KeptLemmas.{next_missing, MayAdd, no_fault}
 use Rattle.dir_tree.specs.Shape.{shape, shapes}
 use Rattle.std.proofs.lemmas.List.{length-map}
 use Rattle.dir_tree.proofs.QuotaLemmas.{fault_any, unless_none}
@@ -13,16 +13,10 @@ attach-requires-clause-may c =
     ∙ unless_none _ _ _ (sym (c.may_add.ensures (λ _. 0)) ∙ c.in_ok-may_add.was)
 
 pub returns-in_err-may_add-clause-fresh : goal.returns-in_err-may_add-clause-fresh
-returns-in_err-may_add-clause-fresh c = rw (← c.self.view_is)
-    (ap is_some (node_missing c.self.invariant.0 c.self.inside.next
-    (λ i lt e. (let less : (entry_at c.self.inside.entries i).uid < c.self.inside.next =
-    c.self.invariant.0.below i lt in omega arith))))
+returns-in_err-may_add-clause-fresh c = rw (← c.self.view_is) (next_missing c.self.invariant.0)
 
 pub returns-clause-fresh : goal.returns-clause-fresh
-returns-clause-fresh c = rw (← c.self.view_is)
-    (ap is_some (node_missing c.self.invariant.0 c.self.inside.next
-    (λ i lt e. (let less : (entry_at c.self.inside.entries i).uid < c.self.inside.next =
-    c.self.invariant.0.below i lt in omega arith))))
+returns-clause-fresh c = rw (← c.self.view_is) (next_missing c.self.invariant.0)
 
 pub returns-clause-room : goal.returns-clause-room
 returns-clause-room c =

@@ -8,7 +8,7 @@ use Rattle.dir_tree.specs.Nodes.{Branches, is_directory, add_fault_of}
 use Rattle.dir_tree.specs.Shape.{shape, shapes}
 use Rattle.dir_tree.specs.Kept.{newest, recounted, IsCounted, IsKept}
 use Rattle.dir_tree.proofs.AddedLemmas.{place_unused, place_room, sorted_still, within_still, new_within, new_key}
-use Rattle.dir_tree.proofs.AddedLemmas.{kept_added, view_added}
+use Rattle.dir_tree.proofs.AddedLemmas.{added}
 use Rattle.dir_tree.proofs.CountLemmas.{superior_there, pushed_few, counted_with, newest_recounted, kept_recounted}
 use Rattle.dir_tree.proofs.KeptLemmas.{no_fault}
 use Rattle.dir_tree.proofs.NewestLemmas.{length_newest}
@@ -111,28 +111,33 @@ gain-requires-clause-room c =
     (may_at c.args.superior c.args.new.name c.args.new.dir c.self.view_is c.requires.may) in
     rw c.push.ensures (pushed_few c.self.inside.entries _ c.self.invariant.3 (omega (arith, lt)) refl)
 
+-- the tables with the new branch are those of the tree with it
+added_to : (c : goal.After-self-1)
+    → IsKept c.store-place.new.nodes.items
+    (c.self.inside.entries ++ new_entry c.self.inside.next c.args.superior c.store-place.result ∷ [])
+    c.store-place.new.free.items c.insert.new.self (c.self.inside.next + 1)
+    × (newest c.store-place.new.nodes.items
+    (c.self.inside.entries ++ new_entry c.self.inside.next c.args.superior c.store-place.result ∷ [])
+    ≡ new_node c.self.inside.next c.args.superior c.args.new ∷ newest c.self.inside.nodes.items c.self.inside.entries)
+added_to c =
+    added c.self.invariant.0 c.args.superior (new_node c.self.inside.next c.args.superior c.args.new)
+    c.store-place.new.nodes.items c.store-place.new.free.items c.insert.new.self c.store-place.result refl refl
+    (directory_at c.args.superior c.self.view_is c.requires.directory)
+    (may_at c.args.superior c.args.new.name c.args.new.dir c.self.view_is c.requires.may) c.store-place.ensures.place
+    c.store-place.ensures.here c.store-place.ensures.others c.store-place.ensures.rest c.store-place.ensures.count
+    (rw c.deref.ensures.value at c.insert.ensures.sorted) c.insert.ensures.places c.insert.ensures.count
+    c.insert.ensures.room
+
 pub invariant_of-self : goal.invariant_of-self
 invariant_of-self c =
     let more : List Entry = c.self.inside.entries ++ new_entry c.self.inside.next c.args.superior c.store-place.result
     ∷ [] in
     let gained : c.gain.new.self ≡ recounted c.args.superior (λ n. n + 1) more = rw c.push.ensures at c.gain.ensures in
-    let kept : IsKept c.store-place.new.nodes.items more c.store-place.new.free.items c.insert.new.self
-    (c.self.inside.next + 1) =
-    kept_added c.self.invariant.0 c.args.superior
-    (new_node c.self.inside.next c.args.superior c.args.new) c.store-place.new.nodes.items c.store-place.new.free.items
-    c.insert.new.self
-    c.store-place.result
-    refl refl (directory_at c.args.superior c.self.view_is c.requires.directory)
-    (may_at c.args.superior c.args.new.name c.args.new.dir c.self.view_is c.requires.may) c.store-place.ensures.place
-    c.store-place.ensures.here
-    c.store-place.ensures.others c.store-place.ensures.rest c.store-place.ensures.count
-    (rw c.deref.ensures.value at c.insert.ensures.sorted) c.insert.ensures.places c.insert.ensures.count
-    c.insert.ensures.room in
     let counted : IsCounted (recounted c.args.superior (λ n. n + 1) more) =
     counted_with c.self.invariant.0 c.self.invariant.3 c.args.superior
     (directory_at c.args.superior c.self.view_is c.requires.directory)
     (new_entry c.self.inside.next c.args.superior c.store-place.result) refl refl refl in (
-      rw gained (kept_recounted c.args.superior (λ n. n + 1) kept),
+      rw gained (kept_recounted c.args.superior (λ n. n + 1) (added_to c).0),
       omega (arith, c.self.invariant.1, c.store-place.ensures.nodes_room),
       omega (arith, c.self.invariant.2, c.store-place.ensures.free_room),
       rw gained counted,
@@ -143,15 +148,5 @@ returns c =
     let more : List Entry = c.self.inside.entries ++ new_entry c.self.inside.next c.args.superior c.store-place.result
     ∷ [] in
     let gained : c.gain.new.self ≡ recounted c.args.superior (λ n. n + 1) more = rw c.push.ensures at c.gain.ensures in
-    let view = view_added c.self.invariant.0 c.args.superior
-    (new_node c.self.inside.next c.args.superior c.args.new) c.store-place.new.nodes.items c.store-place.new.free.items
-    c.insert.new.self
-    c.store-place.result
-    refl refl (directory_at c.args.superior c.self.view_is c.requires.directory)
-    (may_at c.args.superior c.args.new.name c.args.new.dir c.self.view_is c.requires.may) c.store-place.ensures.place
-    c.store-place.ensures.here
-    c.store-place.ensures.others c.store-place.ensures.rest c.store-place.ensures.count
-    (rw c.deref.ensures.value at c.insert.ensures.sorted) c.insert.ensures.places c.insert.ensures.count
-    c.insert.ensures.room in
     rw (← c.self.view_is) (ap (λ (ns : List Node). record { nodes = ns; next = c.self.inside.next + 1 })
-    (rw gained (newest_recounted c.args.superior (λ n. n + 1) c.store-place.new.nodes.items more ∙ view)))
+    (rw gained (newest_recounted c.args.superior (λ n. n + 1) c.store-place.new.nodes.items more ∙ (added_to c).1)))

@@ -1,12 +1,11 @@
-use Rattle.std.proofs.Common.{◌≡◌, ◌<◌, length, Some, sym, ap, ◌∙◌}
-use Rattle.std.proofs.lemmas.List.{get_or_read}
+use Rattle.std.proofs.Common.{◌≡◌, Some, sym, ap, ◌∙◌}
 use Rattle.tree_model.specs.Tree.{branch_in}
 use Rattle.dir_tree.specs.declared.node.Node.{Node}
-use Rattle.dir_tree.specs.Index.{node_at, no_node}
+use Rattle.dir_tree.specs.Index.{node_at}
 use Rattle.dir_tree.specs.Kept.{newest}
 use Rattle.dir_tree.specs.Nodes.{is_in}
 use Rattle.dir_tree.specs.Shape.{shape, shapes}
-use Rattle.dir_tree.proofs.KeptLemmas.{branch_read, branch_missing, places_within, place_within, place_there}
+use Rattle.dir_tree.proofs.KeptLemmas.{branch_read, branch_missing, places_within, place_read, place_there}
 use Rattle.dir_tree.proofs.Tree.branch.Goals as goal
 
 pub find-requires : goal.find-requires
@@ -25,9 +24,7 @@ returns-in_err-place-clause-none c =
 pub returns-clause-some : goal.returns-clause-some
 returns-clause-some c =
     let found = rw c.deref.ensures.value at c.in_ok-place.ensures.some in
-    let within : c.in_ok-place.place < length c.self.inside.nodes.items = place_within c.self.invariant.0 _ found.0 in
-    let node : c.index.result.now ≡ node_at c.self.inside.nodes.items c.in_ok-place.place =
-    get_or_read c.self.inside.nodes.items c.in_ok-place.place c.index.result.now within c.index.ensures no_node in
+    let node = place_read c.self.invariant.0 c.in_ok-place.place c.index.result.now found.0 c.index.ensures in
     let is : branch_in (shapes (newest c.self.inside.nodes.items c.self.inside.entries)) c.args.directory
     c.args.name.now ≡ Some
     (shape (node_at c.self.inside.nodes.items c.in_ok-place.place)) =
@@ -37,8 +34,6 @@ returns-clause-some c =
 pub returns-clause-there : goal.returns-clause-there
 returns-clause-there c =
     let found = rw c.deref.ensures.value at c.in_ok-place.ensures.some in
-    let within : c.in_ok-place.place < length c.self.inside.nodes.items = place_within c.self.invariant.0 _ found.0 in
-    let node : c.index.result.now ≡ node_at c.self.inside.nodes.items c.in_ok-place.place =
-    get_or_read c.self.inside.nodes.items c.in_ok-place.place c.index.result.now within c.index.ensures no_node in
+    let node = place_read c.self.invariant.0 c.in_ok-place.place c.index.result.now found.0 c.index.ensures in
     rw (← c.self.view_is) (ap (λ (n : Node). is_in (newest c.self.inside.nodes.items c.self.inside.entries) n.uid) node
     ∙ place_there c.self.invariant.0 c.in_ok-place.place found.0)

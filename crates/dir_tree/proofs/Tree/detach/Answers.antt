@@ -1,10 +1,11 @@
-use Rattle.std.proofs.Common.{◌≡◌, ◌+◌, ◌-◌, ◌<◌, ◌≤◌, List, Some, length, true, false, sym, ap, subst, ◌∙◌, arith}
+use Rattle.std.proofs.Common.{◌≡◌, ◌+◌, ◌-◌, ◌<◌, ◌≤◌, List, [], ◌∷◌, ◌++◌, length, true, false, sym, ap}
+use Rattle.std.proofs.Common.{subst, ◌∙◌, arith}
 use Rattle.dir_tree.specs.declared.node.Node.{Node}
 use Rattle.dir_tree.specs.declared.entries.Entry.{Entry}
-use Rattle.dir_tree.specs.Kept.{entry_at, recounted}
+use Rattle.dir_tree.specs.Kept.{newest, recounted, IsKept}
 use Rattle.std.specs.List.{list_any, remove}
 use Rattle.tree_model.specs.Tree.{is_inferior}
-use Rattle.dir_tree.specs.Nodes.{Branches, is_in}
+use Rattle.dir_tree.specs.Nodes.{Branches, is_in, without}
 use Rattle.dir_tree.specs.Shape.{shapes}
 use Rattle.dir_tree.proofs.KeptLemmas.{entry_present, places_within}
 use Rattle.std.proofs.lemmas.List.Edits.{length-remove}
@@ -39,43 +40,37 @@ lose-requires-clause-rising c = rw c.remove-superior.ensures.rest
 
 pub lose-requires-clause-there : goal.lose-requires-clause-there
 lose-requires-clause-there c =
-    let is : c.remove-superior.result ≡ entry_at c.self.inside.entries c.position_of-at.result =
-    c.remove-superior.ensures.entry in
-    let up : (entry_at c.self.inside.entries c.position_of-at.result).superior ≡ Some c.in-Some.superior =
-    ap (λ (e : Entry). e.superior) (sym is)
-    ∙ c.in-Some.is in
+    let up = ap (λ (e : Entry). e.superior) (sym c.remove-superior.ensures.entry) ∙ c.in-Some.is in
     rw c.remove-superior.ensures.rest (superior_left c.self.invariant.0 c.in-Some.superior c.position_of-at.result
     c.position_of-at.ensures.within up)
 
 pub lose-requires-clause-some : goal.lose-requires-clause-some
 lose-requires-clause-some c =
-    let is : c.remove-superior.result ≡ entry_at c.self.inside.entries c.position_of-at.result =
-    c.remove-superior.ensures.entry in
-    let up : (entry_at c.self.inside.entries c.position_of-at.result).superior ≡ Some c.in-Some.superior =
-    ap (λ (e : Entry). e.superior) (sym is)
-    ∙ c.in-Some.is in
+    let up = ap (λ (e : Entry). e.superior) (sym c.remove-superior.ensures.entry) ∙ c.in-Some.is in
     rw c.remove-superior.ensures.rest (some_left c.self.inside.entries c.self.invariant.3 c.position_of-at.result
     c.position_of-at.ensures.within
     c.in-Some.superior up)
 
+-- the tables without the branch are those of the tree without it
+left_by : (c : goal.After-push_reserved)
+    → IsKept c.self.inside.nodes.items (remove c.self.inside.entries c.position_of-at.result)
+    (c.self.inside.free.items ++ c.remove-superior.result.place ∷ []) c.remove.new.self c.self.inside.next
+    × (newest c.self.inside.nodes.items (remove c.self.inside.entries c.position_of-at.result)
+    ≡ without c.args.uid (newest c.self.inside.nodes.items c.self.inside.entries))
+left_by c =
+    removed_at c.self.invariant.0 c.args.uid c.position_of-at.result c.remove-superior.result
+    c.position_of-at.ensures.within c.remove-superior.ensures.entry c.position_of-at.ensures.uid
+    (subst (λ (t : Branches). list_any (is_inferior c.args.uid) (shapes t.nodes) ≡ false) (sym c.self.view_is)
+    c.requires.leaf) c.remove.new.self (rw c.deref.ensures.value at c.remove.ensures.sorted) c.remove.ensures.places
+    c.remove.ensures.count c.remove.ensures.room
+
 pub invariant_of-self : goal.invariant_of-self
 invariant_of-self c =
-    let is : c.remove-superior.result ≡ entry_at c.self.inside.entries c.position_of-at.result =
-    c.remove-superior.ensures.entry in
-    let up : (entry_at c.self.inside.entries c.position_of-at.result).superior ≡ Some c.in-Some.superior =
-    ap (λ (e : Entry). e.superior) (sym is)
-    ∙ c.in-Some.is in
+    let up = ap (λ (e : Entry). e.superior) (sym c.remove-superior.ensures.entry) ∙ c.in-Some.is in
     let fewer : List Entry = remove c.self.inside.entries c.position_of-at.result in
     let lost : c.lose.new.self ≡ recounted c.in-Some.superior (λ n. n - 1) fewer =
-    rw c.remove-superior.ensures.rest at c.lose.ensures in
-    let left = removed_at c.self.invariant.0 c.args.uid c.position_of-at.result c.remove-superior.result
-    c.position_of-at.ensures.within
-    c.remove-superior.ensures.entry c.position_of-at.ensures.uid
-    (subst (λ (t : Branches). list_any (is_inferior c.args.uid) (shapes t.nodes) ≡ false) (sym c.self.view_is)
-    c.requires.leaf) c.remove.new.self
-    (rw c.deref.ensures.value at c.remove.ensures.sorted) c.remove.ensures.places c.remove.ensures.count
-    c.remove.ensures.room in (
-      rw (c.push_reserved.ensures.items, lost) (kept_recounted c.in-Some.superior (λ n. n - 1) left.0),
+    rw c.remove-superior.ensures.rest at c.lose.ensures in (
+      rw (c.push_reserved.ensures.items, lost) (kept_recounted c.in-Some.superior (λ n. n - 1) (left_by c).0),
       c.self.invariant.1,
       omega (arith, c.self.invariant.2, c.push_reserved.ensures.capacity),
       rw lost (counted_removed c.self.inside.entries c.self.invariant.3 c.position_of-at.result
@@ -87,15 +82,8 @@ returns-clause-tree c =
     let fewer : List Entry = remove c.self.inside.entries c.position_of-at.result in
     let lost : c.lose.new.self ≡ recounted c.in-Some.superior (λ n. n - 1) fewer =
     rw c.remove-superior.ensures.rest at c.lose.ensures in
-    let left = removed_at c.self.invariant.0 c.args.uid c.position_of-at.result c.remove-superior.result
-    c.position_of-at.ensures.within
-    c.remove-superior.ensures.entry c.position_of-at.ensures.uid
-    (subst (λ (t : Branches). list_any (is_inferior c.args.uid) (shapes t.nodes) ≡ false) (sym c.self.view_is)
-    c.requires.leaf) c.remove.new.self
-    (rw c.deref.ensures.value at c.remove.ensures.sorted) c.remove.ensures.places c.remove.ensures.count
-    c.remove.ensures.room in
     rw (← c.self.view_is) (ap (λ (ns : List Node). record { nodes = ns; next = c.self.inside.next })
-    (rw lost (newest_recounted c.in-Some.superior (λ n. n - 1) c.self.inside.nodes.items fewer ∙ left.1)))
+    (rw lost (newest_recounted c.in-Some.superior (λ n. n - 1) c.self.inside.nodes.items fewer ∙ (left_by c).1)))
 
 pub remove-requires : goal.remove-requires
 remove-requires c =

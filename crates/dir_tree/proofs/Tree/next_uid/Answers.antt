@@ -1,15 +1,12 @@
-use Rattle.std.proofs.Common.{◌<◌, ap, subst, sym, arith, is_some}
-use Rattle.dir_tree.specs.Kept.{entry_at, newest}
+use Rattle.std.proofs.Common.{◌<◌, subst, sym}
+use Rattle.dir_tree.specs.Kept.{newest}
 use Rattle.dir_tree.specs.Shape.{shapes}
 use Rattle.tree_model.proofs.ChainLaws.{has_chains}
-use Rattle.dir_tree.proofs.KeptLemmas.{below_newest, node_missing}
+use Rattle.dir_tree.proofs.KeptLemmas.{below_newest, next_missing}
 use Rattle.dir_tree.proofs.Tree.next_uid.Goals as goal
 
 pub returns-clause-fresh : goal.returns-clause-fresh
-returns-clause-fresh c = rw (← c.self.view_is)
-    (ap is_some (node_missing c.self.invariant.0 c.self.inside.next
-    (λ i lt e. (let less : (entry_at c.self.inside.entries i).uid < c.self.inside.next =
-    c.self.invariant.0.below i lt in omega arith))))
+returns-clause-fresh c = rw (← c.self.view_is) (next_missing c.self.invariant.0)
 
 pub returns-clause-chains : goal.returns-clause-chains
 returns-clause-chains c = rw (← c.self.view_is) (has_chains
