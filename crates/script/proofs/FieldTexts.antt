@@ -29,6 +29,14 @@ pub all_both : (p : ℕ → Bool) (xs ys : List ℕ) → list_all p xs ≡ true 
     ≡ true
 all_both p xs ys a b = list_all-append p xs ys ∙ and_both (list_all p xs) (list_all p ys) a b
 
+-- a text of 1 to 32 bytes that may stand in a field
+pub short_field : (p : ℕ → Bool) → ((b : ℕ) → p b ≡ true → is_field_byte b ≡ true) → (text : List ℕ)
+    → ((nat_le 1 (length text) && nat_le (length text) 32) && list_all p text) ≡ true → IsField text
+short_field p stands text h =
+    let parts = and_parts (nat_le 1 (length text) && nat_le (length text) 32) (list_all p text) h in
+    let long = (and_parts (nat_le 1 (length text)) (nat_le (length text) 32) parts.0).0 in
+    record { some = grind (arith, nat_tests); bytes = all_from p is_field_byte stands text parts.1 }
+
 byte_is_printable : (b : ℕ) → is_field_byte b ≡ true → is_printable_byte b ≡ true
 byte_is_printable b h = grind (arith, nat_tests)
 

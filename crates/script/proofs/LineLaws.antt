@@ -169,3 +169,12 @@ field_last (b ∷ bs) pos clear =
 pub fields_empty : (bs : List ℕ) → length bs ≡ 0 → fields_of bs ≡ []
 fields_empty [] e = fields_nil
 fields_empty (b ∷ bs) e = absurd (omega arith)
+
+-- what a walk over spaces goes by
+pub ruleset spaces_skipped = (space_passed, field_starts, all_spaces)
+
+-- and the first field of a line
+pub ruleset field_taken = (field_split, field_last, fields_nil, fields_empty)
+
+-- and the first line of a text
+pub ruleset line_taken = (line_found, line_last, none_printable, more_printable, one_unprintable, all_printable)

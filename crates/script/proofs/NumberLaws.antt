@@ -68,3 +68,15 @@ unfolding decimal_value
 number_long text h =
     let high : nat_le (length text) 10 ≡ false = grind (arith, nat_tests) in
     let low : nat_le 1 (length text) ≡ true = grind (arith, nat_tests) in rw (low, high) refl
+
+-- what reading a number digit by digit goes by
+pub ruleset number_read = (
+  number_starts,
+  number_next,
+  number_fits,
+  number_below,
+  number_stops,
+  number_ends,
+  number_empty,
+  number_long,
+)

@@ -188,3 +188,6 @@ no_path_read text never = none (path_of text) refl
     none : (r : Option (List (List ℕ))) → path_of text ≡ r → path_in text ≡ Err cause.Path
     none None e = rw e refl
     none (Some names) e = let only = path_only text names e in absurd (never names (path_from names only.1) only.0)
+
+-- what reading a path goes by
+pub ruleset path_taken = (path_read, no_path_read, path_is)

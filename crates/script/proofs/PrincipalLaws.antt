@@ -1,5 +1,5 @@
 -- The texts of principals and of rows are fields, and are read back as what they are the texts of (own).
-use Rattle.std.proofs.Common.{◌≡◌, ℕ, ◌≤◌, Bool, true, false, cond, ◌&&◌, nat_le, List, [], ◌∷◌, ◌++◌, length, Option}
+use Rattle.std.proofs.Common.{◌≡◌, ℕ, ◌≤◌, Bool, true, false, cond, List, [], ◌∷◌, ◌++◌, length, Option}
 use Rattle.std.proofs.Common.{Some, None, Ok, refl, sym, ap, subst, ◌∙◌, arith}
 use Rattle.std.specs.Prelude.{IfSome}
 use Rattle.std.specs.List.{list_all}
@@ -11,7 +11,7 @@ use Rattle.mnames.specs.Principals.{default_project, before_dot, after_dot, IsWh
 use Rattle.mnames.specs.Principals.{any_text, part_of, row_alone, row_of, row_or, row_parts_text, row_text, row_with}
 use Rattle.mnames.specs.declared.principals.Who.{Who}
 use Rattle.mnames.specs.declared.rows.Row.{Row}
-use Rattle.script.proofs.FieldTexts.{is_field_byte, IsField, all_from, all_both}
+use Rattle.script.proofs.FieldTexts.{is_field_byte, IsField, all_both, short_field}
 use Rattle.script.proofs.PathLaws.{and_both, and_parts}
 use Rattle.script.specs.Forms.{is_who, is_part, is_row}
 use Rattle.script.specs.Lines.{who_in, row_in}
@@ -23,14 +23,7 @@ label_byte_is_field b h = grind (arith, nat_tests)
 
 label_field : (text : List ℕ) → is_label text ≡ true → IsField text
 unfolding is_label
-label_field text h =
-    let parts = and_parts (nat_le 1 (length text) && nat_le (length text) 32) (list_all is_label_byte text) h in
-    let long = (and_parts (nat_le 1 (length text)) (nat_le (length text) 32) parts.0).0 in
-    record {
-      some = grind (arith, nat_tests);
-      bytes = all_from is_label_byte is_field_byte label_byte_is_field text
-          parts.1;
-    }
+label_field text h = short_field is_label_byte label_byte_is_field text h
 
 -- ---- principals
 

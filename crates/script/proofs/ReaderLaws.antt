@@ -63,3 +63,6 @@ pub missing_read : (n : ℕ) (d : DraftPlan) (r : Refusal) (bytes all : List ℕ
     ≡ whole_or_missing n d → fold numbered (Ok (n, d)) (lines_of bytes) ≡ fold numbered (Ok (1, blank)) (lines_of all)
     → script_of all ≡ Err r
 missing_read n d r bytes all end e h = all_read n d bytes all (Err r) end e h
+
+-- what reading line by line goes by
+pub ruleset lines_read = (line_kept, line_refused, whole_read, missing_read)

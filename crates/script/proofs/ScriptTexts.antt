@@ -70,21 +70,13 @@ behind base done u = record base {
   used = u;
 }
 
-going_reaches : (base : DraftPlan) (done : List Command) (u : ℕ) (c : Command) → AreVolumes base.volumes
-    → is_command (length base.volumes) c ≡ true → is_end c ≡ false → u + weight c ≤ 100000
-    → Reaches (inside base done u) (ended (command_text base.volumes c)) (inside base (done ++ c ∷ []) (u + weight c))
-going_reaches base done u c a h going le =
-    reaches_line (inside base done u) (inside base (done ++ c ∷ []) (u + weight c)) (command_text base.volumes c)
-    (word_text c) (fields_text base.volumes c) (command_fields base.volumes c a h) (word_is_no_comment c)
-    (going_again (inside base done u) c a h going le)
-
-end_reaches : (base : DraftPlan) (done : List Command) (u : ℕ) (c : Command) → AreVolumes base.volumes
-    → is_command (length base.volumes) c ≡ true → is_end c ≡ true → u + weight c ≤ 100000
-    → Reaches (inside base done u) (ended (command_text base.volumes c)) (behind base (done ++ c ∷ []) (u + weight c))
-end_reaches base done u c a h end le =
-    reaches_line (inside base done u) (behind base (done ++ c ∷ []) (u + weight c)) (command_text base.volumes c)
-    (word_text c) (fields_text base.volumes c) (command_fields base.volumes c a h) (word_is_no_comment c)
-    (end_again (inside base done u) c a h end le)
+command_reaches : (base next : DraftPlan) (done : List Command) (u : ℕ) (c : Command) → AreVolumes base.volumes
+    → is_command (length base.volumes) c ≡ true
+    → line_at stage.Commands (inside base done u) (word_text c) (fields_text base.volumes c) ≡ Ok next
+    → Reaches (inside base done u) (ended (command_text base.volumes c)) next
+command_reaches base next done u c a h again =
+    reaches_line (inside base done u) next (command_text base.volumes c) (word_text c) (fields_text base.volumes c)
+    (command_fields base.volumes c a h) (word_is_no_comment c) again
 
 never_ends : ends_once [] ≡ true → ⊥
 unfolding ends_once
@@ -119,7 +111,8 @@ commands_reach base done u all (c ∷ []) a h ends e le =
     (behind base (done ++ c ∷ []) t)) one
     (reaches_both (inside base done u) (behind base (done ++ c ∷ []) (u + weight c))
     (behind base (done ++ c ∷ []) (u + weight c)) (ended (command_text base.volumes c)) []
-    (end_reaches base done u c a parts.0 (last_ends c ends) (omega (arith, one, le)))
+    (command_reaches base (behind base (done ++ c ∷ []) (u + weight c)) done u c a parts.0
+    (end_again (inside base done u) c a parts.0 (last_ends c ends) (omega (arith, one, le))))
     (reaches_nothing (behind base (done ++ c ∷ []) (u + weight c))))
 commands_reach base done u all (c ∷ d ∷ cs) a h ends e le =
     let parts = and_parts (is_command (length base.volumes) c) (list_all (is_command (length base.volumes)) (d ∷ cs)) h
@@ -129,7 +122,8 @@ commands_reach base done u all (c ∷ d ∷ cs) a h ends e le =
     reaches_both (inside base done u) (inside base (done ++ c ∷ []) (u + weight c))
     (behind base (done ++ c ∷ d ∷ cs) all) (ended (command_text base.volumes c))
     (commands_text base.volumes (d ∷ cs))
-    (going_reaches base done u c a parts.0 later.0 (omega (arith, rest, le)))
+    (command_reaches base (inside base (done ++ c ∷ []) (u + weight c)) done u c a parts.0
+    (going_again (inside base done u) c a parts.0 later.0 (omega (arith, rest, le))))
     (subst (λ (t : List Command). Reaches (inside base (done ++ c ∷ []) (u + weight c))
     (commands_text base.volumes (d ∷ cs)) (behind base t all)) (append_assoc done (c ∷ []) (d ∷ cs))
     (commands_reach base (done ++ c ∷ []) (u + weight c) all (d ∷ cs) a parts.1 later.1 rest le))

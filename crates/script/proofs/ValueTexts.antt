@@ -1,5 +1,5 @@
 -- The texts of values: each is a field, and is read back as the value (own).
-use Rattle.std.proofs.Common.{◌≡◌, ℕ, ◌+◌, ◌-◌, ◌*◌, ◌/◌, ◌%◌, ◌^◌, ◌<◌, ◌≤◌, true, ◌&&◌, nat_le, List, [], ◌∷◌, ◌++◌}
+use Rattle.std.proofs.Common.{◌≡◌, ℕ, ◌+◌, ◌-◌, ◌*◌, ◌/◌, ◌%◌, ◌^◌, ◌<◌, ◌≤◌, true, nat_le, List, [], ◌∷◌, ◌++◌}
 use Rattle.std.proofs.Common.{length, Some, Ok, refl, sym, ap, ◌∙◌, arith}
 use Rattle.std.proofs.lemmas.Bool.Decides.{nat_tests}
 use Rattle.std.proofs.lemmas.Fmt.{decimal_by_steps, decimal_nonempty, length-decimal-le}
@@ -9,7 +9,7 @@ use Rattle.std.specs.List.{list_all}
 use Rattle.mnames.specs.Names.{is_name, is_name_byte, names_text, path_text}
 use Rattle.mword.specs.Octal.{octal_digits, is_octal_digit}
 use Rattle.mword.proofs.OctalLaws.{octal_digits_all, length-octal_digits, octal_reads_back}
-use Rattle.script.proofs.FieldTexts.{is_field_byte, IsField, all_from, all_both}
+use Rattle.script.proofs.FieldTexts.{is_field_byte, IsField, all_from, all_both, short_field}
 use Rattle.script.proofs.PathLaws.{and_parts, and_both, path_again}
 use Rattle.script.specs.Fields.{decimal_value, decimal_value_from}
 use Rattle.script.specs.Forms.{is_path}
@@ -113,14 +113,7 @@ name_byte_is_field b h = grind (arith, nat_tests)
 
 pub name_field : (name : List ℕ) → is_name name ≡ true → IsField name
 unfolding is_name
-name_field name h =
-    let parts = and_parts (nat_le 1 (length name) && nat_le (length name) 32) (list_all is_name_byte name) h in
-    let long = (and_parts (nat_le 1 (length name)) (nat_le (length name) 32) parts.0).0 in
-    record {
-      some = grind (arith, nat_tests);
-      bytes = all_from is_name_byte is_field_byte name_byte_is_field name
-          parts.1;
-    }
+name_field name h = short_field is_name_byte name_byte_is_field name h
 
 names_bytes : (names : List (List ℕ)) → list_all is_name names ≡ true → list_all is_field_byte (names_text names) ≡ true
 names_bytes [] h = refl

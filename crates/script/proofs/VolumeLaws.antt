@@ -11,12 +11,12 @@ from_nil : (n : ℕ) (name : List ℕ) → number_from n [] name ≡ None
 unfolding number_from
 from_nil n name = refl
 
-from_found : (n : ℕ) (v : VolumeLine) (vs : List VolumeLine) (name : List ℕ) → has_name name v ≡ true
+pub from_found : (n : ℕ) (v : VolumeLine) (vs : List VolumeLine) (name : List ℕ) → has_name name v ≡ true
     → number_from n (v ∷ vs) name ≡ Some n
 unfolding number_from
 from_found n v vs name h = rw h refl
 
-from_other : (n : ℕ) (v : VolumeLine) (vs : List VolumeLine) (name : List ℕ) → has_name name v ≡ false
+pub from_other : (n : ℕ) (v : VolumeLine) (vs : List VolumeLine) (name : List ℕ) → has_name name v ≡ false
     → number_from n (v ∷ vs) name ≡ number_from (n + 1) vs name
 unfolding number_from
 from_other n v vs name h = rw h refl
@@ -66,3 +66,9 @@ found_is_given vs name n e = any_found 0 vs name ∙ ap found (sym e)
 pub missing_is_new : (vs : List VolumeLine) (name : List ℕ) → None ≡ number_from 0 vs name
     → list_any (has_name name) vs ≡ false
 missing_is_new vs name e = any_found 0 vs name ∙ ap found (sym e)
+
+-- what a search for the name of a volume goes by
+pub ruleset name_sought = (number_found, number_next, number_missing)
+
+-- and whether the name is given already
+pub ruleset name_given = (found_is_given, missing_is_new, common_steps)

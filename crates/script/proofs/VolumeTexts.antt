@@ -18,6 +18,7 @@ use Rattle.mnames.specs.declared.modes.Mode.TheVariants as mode
 use Rattle.script.proofs.FieldTexts.{is_field_byte, IsField, all_both}
 use Rattle.script.proofs.PathLaws.{and_parts}
 use Rattle.script.proofs.ValueTexts.{decimal_digits, decimal_field, name_field, number_again}
+use Rattle.script.proofs.VolumeLaws.{from_found, from_other}
 use Rattle.script.proofs.SmallLaws.{nil_after, not_true, or_left, or_right}
 use Rattle.script.specs.Forms.{has_name, have_own_names, is_from, is_volume}
 use Rattle.script.specs.Lines.{amount_in, call_in, ends_with_plus, is_write_in, mode_in, new_name_in, number_from}
@@ -32,16 +33,6 @@ use Rattle.script.specs.declared.plan.VolumeLine.{VolumeLine}
 pub record AreVolumes (vs : List VolumeLine) : Type 0 where
   pub each : list_all is_volume vs ≡ true
   pub own : have_own_names vs ≡ true
-
-from_found : (n : ℕ) (v : VolumeLine) (vs : List VolumeLine) (name : List ℕ) → has_name name v ≡ true
-    → number_from n (v ∷ vs) name ≡ Some n
-unfolding number_from
-from_found n v vs name h = rw h refl
-
-from_other : (n : ℕ) (v : VolumeLine) (vs : List VolumeLine) (name : List ℕ) → has_name name v ≡ false
-    → number_from n (v ∷ vs) name ≡ number_from (n + 1) vs name
-unfolding number_from
-from_other n v vs name h = rw h refl
 
 own_names : (v : VolumeLine) (vs : List VolumeLine) → have_own_names (v ∷ vs) ≡ true
     → (list_any (has_name v.name) vs ≡ false) × (have_own_names vs ≡ true)

@@ -6,7 +6,7 @@ ghost use Rattle.script.specs.Readers.{Gives};
 use crate::refusals::Cause;
 
 /// The line from its first byte on that isn't a space.
-#[tactic(auto, using(crate::proofs::LineLaws::space_passed, crate::proofs::LineLaws::field_starts, crate::proofs::LineLaws::all_spaces, std::proofs::lemmas::Grind::common_steps))]
+#[tactic(auto, using(crate::proofs::LineLaws::spaces_skipped, std::proofs::lemmas::Grind::common_steps))]
 fn skip_spaces(line: &[u8]) -> &[u8]
     ensures fields { fields_of result.now ≡ fields_of line.now }
     ensures start { slice_index result.now 0 ≢ 32 }
@@ -20,7 +20,7 @@ fn skip_spaces(line: &[u8]) -> &[u8]
 }
 
 /// The first field of a line and what follows it. The field is empty where the line has none.
-#[tactic(auto, using(crate::proofs::LineLaws::field_split, crate::proofs::LineLaws::field_last, crate::proofs::LineLaws::fields_nil, crate::proofs::LineLaws::fields_empty, std::proofs::lemmas::Grind::common_steps))]
+#[tactic(auto, using(crate::proofs::LineLaws::field_taken, std::proofs::lemmas::Grind::common_steps))]
 pub(crate) fn split_field(line: &[u8]) -> (&[u8], &[u8])
     ensures some { 0 < length result.0.now → fields_of line.now ≡ result.0.now ∷ fields_of result.1.now }
     ensures none { length result.0.now ≡ 0 → fields_of line.now ≡ [] }

@@ -3,7 +3,7 @@ ghost use Rattle.script.specs.Fields.{lines_of, is_printable};
 
 /// The first line, without its line feed, what follows it, and whether each byte of the line is a
 /// printable ASCII character or a space.
-#[tactic(auto, using(crate::proofs::LineLaws::line_found, crate::proofs::LineLaws::line_last, crate::proofs::LineLaws::none_printable, crate::proofs::LineLaws::more_printable, crate::proofs::LineLaws::one_unprintable, crate::proofs::LineLaws::all_printable, std::proofs::lemmas::Grind::common_steps))]
+#[tactic(auto, using(crate::proofs::LineLaws::line_taken, std::proofs::lemmas::Grind::common_steps))]
 pub(crate) fn next_line(bytes: &[u8]) -> (&[u8], &[u8], bool)
     requires { 0 < length bytes.now }
     ensures lines { lines_of bytes.now ≡ result.0.now ∷ lines_of result.1.now }

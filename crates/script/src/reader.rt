@@ -18,7 +18,7 @@ pub enum ScriptFault {
 
 /// The script that the bytes are. `Refused` comes exactly where a line is refused, with the first such
 /// line and its first cause, unless memory runs out.
-#[tactic(auto, using(crate::proofs::ReaderLaws::line_kept, crate::proofs::ReaderLaws::line_refused, crate::proofs::ReaderLaws::whole_read, crate::proofs::ReaderLaws::missing_read, std::proofs::lemmas::Grind::common_steps))]
+#[tactic(auto, using(crate::proofs::ReaderLaws::lines_read, std::proofs::lemmas::Grind::common_steps))]
 pub fn read_script(alloc: Global, bytes: &[u8]) -> Result<Script, ScriptFault>
     requires { length bytes.now < 2 ^ 31 }
     ensures { Reads result (script_of bytes.now) }

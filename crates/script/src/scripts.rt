@@ -24,7 +24,8 @@ fn push_machine(
     frames: u32,
     pools: [u32; 4],
 ) -> Result<(), AllocError>
-    ensures { OnOk result (string_bytes out.new ≡ string_bytes out.old ++ ended (machine_text processors frames pools)) }
+    ensures { OnOk result
+        (string_bytes out.new ≡ string_bytes out.old ++ ended (machine_text processors frames pools)) }
 {
     write!(out, "machine {processors} {frames}")?;
     for places in pools {

@@ -13,7 +13,7 @@ use mnames::{Mode, Name, Path, Row, Who, read_name, read_path, read_row, read_wh
 use mword::{Word, read_octal};
 
 /// The number that 1 to 10 decimal digits stand for.
-#[tactic(auto, using(crate::proofs::NumberLaws::number_starts, crate::proofs::NumberLaws::number_next, crate::proofs::NumberLaws::number_fits, crate::proofs::NumberLaws::number_below, crate::proofs::NumberLaws::number_stops, crate::proofs::NumberLaws::number_ends, crate::proofs::NumberLaws::number_empty, crate::proofs::NumberLaws::number_long, std::proofs::lemmas::Grind::common_steps))]
+#[tactic(auto, using(crate::proofs::NumberLaws::number_read, std::proofs::lemmas::Grind::common_steps))]
 fn decimal(text: &[u8]) -> Option<u64>
     ensures { result ≡ decimal_value text.now }
 {
@@ -90,7 +90,7 @@ pub(crate) fn row_in(text: &[u8]) -> Result<Row, Cause>
 }
 
 /// The path of a field.
-#[tactic(auto, using(crate::proofs::PathLaws::path_read, crate::proofs::PathLaws::no_path_read, crate::proofs::PathLaws::path_is, std::proofs::lemmas::Grind::common_steps))]
+#[tactic(auto, using(crate::proofs::PathLaws::path_taken, std::proofs::lemmas::Grind::common_steps))]
 pub(crate) fn path_in(text: &[u8]) -> Result<Path, Cause>
     ensures path { Gives (λ p. p) result (path_in text.now) }
     ensures range { IfOk result (λ p. is_path p ≡ true) }

@@ -11,7 +11,7 @@ use crate::values::name_in;
 use mnames::Name;
 
 /// The number of the first volume of that name, counted from 0.
-#[tactic(auto, using(crate::proofs::VolumeLaws::number_found, crate::proofs::VolumeLaws::number_next, crate::proofs::VolumeLaws::number_missing, std::proofs::lemmas::Grind::common_steps))]
+#[tactic(auto, using(crate::proofs::VolumeLaws::name_sought, std::proofs::lemmas::Grind::common_steps))]
 fn number_of(volumes: &[VolumeLine], name: &[u8]) -> Option<u32>
     requires { length volumes.now < 5 }
     ensures number { result ≡ number_from 0 volumes.now name.now }
@@ -37,7 +37,7 @@ pub(crate) fn volume_in(volumes: &[VolumeLine], text: &[u8]) -> Result<u32, Caus
 }
 
 /// The name in a field, which no volume may have.
-#[tactic(auto, using(crate::proofs::VolumeLaws::found_is_given, crate::proofs::VolumeLaws::missing_is_new, std::proofs::lemmas::Grind::common_steps), unfolding(crate::specs::Lines::new_name_in))]
+#[tactic(auto, using(crate::proofs::VolumeLaws::name_given), unfolding(crate::specs::Lines::new_name_in))]
 pub(crate) fn new_name_in(volumes: &[VolumeLine], text: &[u8]) -> Result<Name, Cause>
     requires { length volumes.now < 5 }
     ensures name { Gives (λ n. n) result (new_name_in volumes.now text.now) }

@@ -6,13 +6,7 @@ use Rattle.script.proofs.drafts.Draft.fail.Goals as goal
 
 pub invariant_of-self-2 : goal.invariant_of-self-2
 invariant_of-self-2 c =
-    fail_added _ _ (record {
-      volume = c.in_ok-volume-2.volume;
-      write = c.in_ok-write.write;
-      number =
-          c.in_ok-number.number;
-      onward = c.in_ok-number.onward;
-    }) c.self.invariant c.in_ok-push.ensures.items
+    fail_added _ _ _ c.self.invariant c.in_ok-push.ensures.items
     (ap (λ (d : DraftPlan). is_head d.stage) c.self.view_is ∙ c.requires.head)
     (ap (λ (d : DraftPlan). has_volume d.stage) c.self.view_is ∙ c.requires.volume)
     (rw c.deref.ensures.value at c.in_ok-volume-2.ensures.given) c.in_ok-number.ensures.range
