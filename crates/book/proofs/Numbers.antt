@@ -84,3 +84,15 @@ number_large w i value end h large =
     none_either : (z : Bool) → None ≡ cond {A = Option ℕ} (z && false) (Some (digits_value 10 w)) None
     none_either true = refl
     none_either false = refl
+
+-- what reading a number digit by digit goes by
+pub ruleset number_taken = (
+  digits_start,
+  digits_next,
+  value_fits,
+  plain_short,
+  not_plain,
+  no_digit,
+  number_found,
+  number_large,
+)

@@ -1,7 +1,7 @@
 -- That each entry's text is read back as the entry, and that nothing else is read.
 use Rattle.std.proofs.Common.{rules, ◌≡◌, ℕ, zero, suc, ◌+◌, ◌<◌, ◌≤◌, ◌^◌, ◌⊎◌, Bool, true, false, not, ◌&&◌, cond}
 use Rattle.std.proofs.Common.{eqb, List, [], ◌∷◌, ◌++◌, length, get_or, take, Option, Some, None, refl, sym, ap, subst}
-use Rattle.std.proofs.Common.{◌∙◌, arith, IfSome, inl, inr, add-one}
+use Rattle.std.proofs.Common.{◌∙◌, arith, IfSome, inl, inr}
 use Rattle.std.specs.Prelude.{codes, nat_lt, nat_le, ◌==◌, ◌-◌, ◌*◌, ◌/◌, ◌%◌}
 use Rattle.std.specs.Char.{is_ascii_digit}
 use Rattle.std.specs.Fmt.{decimal}
@@ -12,14 +12,15 @@ use Rattle.std.specs.Str.Parse.{digits_value}
 use Rattle.std.proofs.lemmas.Bool.Decides.{nat_tests}
 use Rattle.std.proofs.lemmas.Fmt.{decimal_digit, digits_decimal, decimal-digits_value, digits_value-decimal}
 use Rattle.std.proofs.lemmas.Fmt.{decimal_nonempty, length-decimal-le, first_decimal}
-use Rattle.std.proofs.lemmas.Grind.{common_steps, pow_more}
-use Rattle.std.proofs.lemmas.List.{append_assoc, length-append, take_all}
+use Rattle.std.proofs.lemmas.Grind.{common_steps}
+use Rattle.std.proofs.lemmas.List.{append_assoc, take_all}
 use Rattle.std.proofs.lemmas.List.Splits.{join_with_byte-slice_split}
-use Rattle.std.proofs.lemmas.List.Sums.{fold_push, split_at_first}
+use Rattle.std.proofs.lemmas.List.Sums.{split_at_first}
 use Rattle.std.proofs.Math.Seq.{take-suc}
 use Rattle.std.proofs.lemmas.List.Folds.{list_all-append}
 use Rattle.std.proofs.lemmas.Slice.Eq.{bytes_eq-Decides}
 use Rattle.std.proofs.lemmas.Str.Parse.{IsNumeralModel, numerals_by_value}
+use Rattle.mword.proofs.OctalLaws.{octal_number_push, octal_digits_all, length-octal_digits, octal_number_digits}
 use Rattle.mword.specs.Octal.{octal_digits, octal_number, is_octal_digit, is_octal, octal_value}
 use Rattle.assoc_mem.specs.declared.What.{What}
 use Rattle.assoc_mem.specs.declared.What.TheVariants as what
@@ -86,19 +87,21 @@ number_only t n h = by_test (is_number t) refl h
         cc in subst (λ (m : ℕ). decimal m ≡ t) same (number_parts t e)
     by_test false e is = absurd (let no : None ≡ Some n = is in cc)
 
--- a text has only digits, so no space and no dot
-digits_lack : (p : ℕ → Bool) → ((b : ℕ) → is_ascii_digit b ≡ true → p b ≡ false) → (t : List ℕ)
-    → list_all is_ascii_digit t ≡ true → lacks p t ≡ true
-digits_lack p h [] all = refl
-digits_lack p h (b ∷ bs) all =
+-- what no byte of a kind passes, a text of such bytes lacks: digits are no space and no dot
+all_lack : (kind p : ℕ → Bool) → ((b : ℕ) → kind b ≡ true → p b ≡ false) → (t : List ℕ) → list_all kind t ≡ true
+    → lacks p t ≡ true
+all_lack kind p h [] all = refl
+all_lack kind p h (b ∷ bs) all =
     let here : p b ≡ false = h b (grind (arith, nat_tests)) in
-    rw here (digits_lack p h bs (grind (arith, nat_tests)))
+    rw here (all_lack kind p h bs (grind (arith, nat_tests)))
 
 spaceless : (n : ℕ) → n < 2 ^ 32 → lacks is_space (decimal n) ≡ true
-spaceless n h = digits_lack is_space (λ b d. grind (arith, nat_tests)) (decimal n) (digits_decimal own n (omega arith))
+spaceless n h =
+    all_lack is_ascii_digit is_space (λ b d. grind (arith, nat_tests)) (decimal n) (digits_decimal own n (omega arith))
 
 dotless : (n : ℕ) → n < 2 ^ 32 → lacks is_dot (decimal n) ≡ true
-dotless n h = digits_lack is_dot (λ b d. grind (arith, nat_tests)) (decimal n) (digits_decimal own n (omega arith))
+dotless n h =
+    all_lack is_ascii_digit is_dot (λ b d. grind (arith, nat_tests)) (decimal n) (digits_decimal own n (omega arith))
 
 lacks-append : (p : ℕ → Bool) (xs ys : List ℕ) → lacks p xs ≡ true → lacks p ys ≡ true → lacks p (xs ++ ys) ≡ true
 lacks-append p xs ys h g = list_all-append (λ b. not (p b)) xs ys ∙ rw h g
@@ -175,33 +178,6 @@ triple_each (Some x) (Some y) None Q h = tt
 triple_each (Some x) (Some y) (Some z) Q h = h x y z refl refl refl
 
 -- ---- octal digits
-
-octal_number_push : (ds : List ℕ) (d : ℕ) → octal_number (ds ++ d ∷ []) ≡ octal_number ds * 8 + (d - 48)
-unfolding octal_number
-octal_number_push ds d = fold_push (λ number digit. number * 8 + (digit - 48)) 0 ds d
-
-octal_digits_all : (count n : ℕ) → list_all is_octal_digit (octal_digits count n) ≡ true
-unfolding octal_digits
-octal_digits_all zero n = refl
-octal_digits_all (suc count) n =
-    let digit : is_octal_digit (48 + n % 8) ≡ true = grind (arith, nat_tests) in
-    list_all-append is_octal_digit (octal_digits count (n / 8)) ((48 + n % 8) ∷ [])
-    ∙ rw (octal_digits_all count (n / 8), digit) refl
-
-length-octal_digits : (count n : ℕ) → length (octal_digits count n) ≡ count
-unfolding octal_digits
-length-octal_digits zero n = refl
-length-octal_digits (suc count) n = length-append (octal_digits count (n / 8)) ((48 + n % 8) ∷ [])
-    ∙ omega (arith, length-octal_digits count (n / 8))
-
-octal_number_digits : (count n : ℕ) → n < 8 ^ count → octal_number (octal_digits count n) ≡ n
-unfolding octal_digits octal_number
-octal_number_digits zero n h = omega arith
-octal_number_digits (suc count) n h =
-    let e : 8 ^ (count + 1) ≡ 8 ^ count * 8 = pow_more 8 count in
-    let e' : 8 ^ suc count ≡ 8 ^ count * 8 = rw add-one at e in
-    let k : n / 8 < 8 ^ count = omega arith in
-    octal_number_push (octal_digits count (n / 8)) (48 + n % 8) ∙ rw (octal_number_digits count (n / 8) k) (omega arith)
 
 word_again : (w : ℕ) → w < 2 ^ 36 → word_of (octal_digits 12 w) ≡ Some w
 unfolding word_of octal_value is_octal
@@ -320,13 +296,6 @@ join_reply x (reply.Over u) = refl
 join_reply x (reply.SegIs u l s) = refl
 join_reply x (reply.DirIs u q n) = refl
 
-octal_lack : (p : ℕ → Bool) → ((b : ℕ) → is_octal_digit b ≡ true → p b ≡ false) → (t : List ℕ)
-    → list_all is_octal_digit t ≡ true → lacks p t ≡ true
-octal_lack p h [] all = refl
-octal_lack p h (b ∷ bs) all =
-    let here : p b ≡ false = h b (grind (arith, nat_tests)) in
-    rw here (octal_lack p h bs (grind (arith, nat_tests)))
-
 reply_lacks : (r : Reply) → IsReply r → AllLack is_space (reply_words r)
 reply_lacks reply.Unknown h = (refl, tt)
 reply_lacks reply.Gone h = (refl, tt)
@@ -354,7 +323,7 @@ reply_lacks reply.TooLittle h = (refl, tt)
 reply_lacks (reply.Word w) h = (
   refl,
   (
-    octal_lack is_space (λ b d. grind (arith, nat_tests)) (octal_digits 12 w)
+    all_lack is_octal_digit is_space (λ b d. grind (arith, nat_tests)) (octal_digits 12 w)
         (octal_digits_all 12 w),
     tt,
   ),

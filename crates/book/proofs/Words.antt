@@ -149,3 +149,9 @@ words_of_join (w ∷ ws) some h = slice_split-join w ws h
 pub some_word : (line : List ℕ) → slice_split is_space line ≡ [] → ⊥
 some_word line h = let none : 0 ≡ count_by is_space line + 1 = sym (ap length h)
     ∙ length-slice_split is_space line in omega arith
+
+-- what a cut of a text goes by
+pub ruleset text_cut = (cut_at, no_cut)
+
+-- and its words
+pub ruleset words_taken = (word_added, last_added, too_many)

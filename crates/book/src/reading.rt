@@ -32,7 +32,7 @@ fn is_plain(word: &[u8]) -> bool
 }
 
 /// The number that a word is: decimal digits without a leading zero, of 32 bits.
-#[tactic(auto, using(crate::proofs::Numbers::digits_start, crate::proofs::Numbers::digits_next, crate::proofs::Numbers::value_fits, crate::proofs::Numbers::plain_short, crate::proofs::Numbers::not_plain, crate::proofs::Numbers::no_digit, crate::proofs::Numbers::number_found, crate::proofs::Numbers::number_large, std::proofs::lemmas::Grind::common_steps))]
+#[tactic(auto, using(crate::proofs::Numbers::number_taken, std::proofs::lemmas::Grind::common_steps))]
 fn number(word: &[u8]) -> Option<u32>
     ensures { result ≡ number_of word.now }
 {
@@ -469,7 +469,7 @@ fn place_of(byte: u8, text: &[u8]) -> Option<usize>
 }
 
 /// The first word of a line and what follows its space. `None` exactly where the line has no space.
-#[tactic(auto, using(crate::proofs::Words::cut_at, crate::proofs::Words::no_cut, std::proofs::lemmas::Grind::common_steps))]
+#[tactic(auto, using(crate::proofs::Words::text_cut, std::proofs::lemmas::Grind::common_steps))]
 fn split_word(line: &[u8]) -> Option<(&[u8], &[u8])>
     ensures some { IfSome result
         (λ cut. slice_split is_space line.now ≡ cut.0.now ∷ slice_split is_space cut.1.now) }
@@ -483,7 +483,7 @@ fn split_word(line: &[u8]) -> Option<(&[u8], &[u8])>
 }
 
 /// The words of a line between its spaces. `None` exactly where there are more than an entry has.
-#[tactic(auto, using(crate::proofs::Words::word_added, crate::proofs::Words::last_added, crate::proofs::Words::too_many, std::proofs::lemmas::Grind::common_steps))]
+#[tactic(auto, using(crate::proofs::Words::words_taken, std::proofs::lemmas::Grind::common_steps))]
 fn words(line: &[u8]) -> Option<ArrayVec<&[u8], MOST_WORDS>>
     ensures some { IfSome result (λ words. map (λ w. w.now) words.items ≡ slice_split is_space line.now) }
     ensures none { IfNone result (10 < length (slice_split is_space line.now)) }
