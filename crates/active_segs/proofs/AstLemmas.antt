@@ -200,6 +200,10 @@ hand_inside sizes hands pool place pools lt in_pool =
     let to : place < first_of sizes pool + size_of sizes pool = in_pool.to in
     pools.inside pool lt (omega arith)
 
+-- the active segments of these tables
+abbrev pub segs_of : List ℕ → List ℕ → List (Option Entry) → List (List Ptw) → ActiveSegs
+segs_of sizes hands entries tables = record { sizes = sizes; hands = hands; entries = entries; tables = tables }
+
 pub place_found : (s : ActiveSegs) (pool : ℕ) (chain : List ℕ) → HasPools s.sizes s.hands → pool < 4
     → HasOneOffChain s pool chain
     → IsSome (first_off_chain s pool chain)

@@ -153,6 +153,11 @@ module _ (xs : List (Option Entry)) (maps : List (List Bool)) (notes : AreNoted 
       let within : q < length xs = superior_within xs q uid e in
       both_ways _ ((notes.free place q lt within).1 (uid, is, e)) (all q false (omega arith))
 
+  pub leaf_read : (place : ℕ) (map : List Bool) → place < length xs → map ≡ get_or maps place map
+      → All (λ flag. flag ≡ true) map → HasNoInferior xs place
+  leaf_read place map lt read all = leaf_since_noted place lt
+      (subst (All (λ (flag : Bool). flag ≡ true)) (noted_map place map lt read) all)
+
   -- ---- a flag changes
 
   as_many : (above : Option ℕ) (p : ℕ) (b : Bool) → length (noted maps above p b) ≡ length maps

@@ -4,7 +4,7 @@ use Rattle.active_segs.specs.Kept.{IsActiveAt}
 use Rattle.active_segs.specs.Pool.{HasPools, first_of, size_of, IsInPool}
 use Rattle.active_segs.specs.Victim.{first_off_chain, HasOneOffChain}
 use Rattle.active_segs.proofs.PlaceLemmas.{pool_within}
-use Rattle.active_segs.proofs.AstLemmas.{place_found, found_in_pool, found_active}
+use Rattle.active_segs.proofs.AstLemmas.{segs_of, place_found, found_in_pool, found_active}
 use Rattle.active_segs.proofs.Ast.found.Goals as goal
 
 pub find_from_hand-requires-clause-within : goal.find_from_hand-requires-clause-within
@@ -20,29 +20,14 @@ find_from_hand-requires-clause-within c =
 
 pub find_from_hand-requires-clause-some : goal.find_from_hand-requires-clause-some
 find_from_hand-requires-clause-some c =
-    let s : ActiveSegs =
-    record {
-      sizes = c.self.inside.sizes;
-      hands = c.self.inside.hands;
-      entries = c.self.inside.entries.items;
-      tables =
-          c.self.inside.tables.items;
-    } in
-    let some : HasOneOffChain s c.args.pool c.args.chain.now =
-    subst (λ (v : ActiveSegs). HasOneOffChain v c.args.pool c.args.chain.now) (sym c.self.view_is) c.requires.some in
     rw (c.deref.ensures.value, c.first_of-first.ensures.first)
-    (place_found s c.args.pool c.args.chain.now c.self.invariant.pools c.requires.pool some)
+    (place_found _ c.args.pool c.args.chain.now c.self.invariant.pools c.requires.pool
+    (subst (λ (v : ActiveSegs). HasOneOffChain v c.args.pool c.args.chain.now) (sym c.self.view_is) c.requires.some))
 
 pub returns-clause-in_pool : goal.returns-clause-in_pool
 returns-clause-in_pool c =
-    let s : ActiveSegs =
-    record {
-      sizes = c.self.inside.sizes;
-      hands = c.self.inside.hands;
-      entries = c.self.inside.entries.items;
-      tables =
-          c.self.inside.tables.items;
-    } in
+    let s : ActiveSegs = segs_of c.self.inside.sizes c.self.inside.hands c.self.inside.entries.items
+    c.self.inside.tables.items in
     let some : HasOneOffChain s c.args.pool c.args.chain.now =
     subst (λ (v : ActiveSegs). HasOneOffChain v c.args.pool c.args.chain.now) (sym c.self.view_is) c.requires.some in
     let first : first_off_chain s c.args.pool c.args.chain.now ≡ Some c.find_from_hand.result =
@@ -53,14 +38,8 @@ returns-clause-in_pool c =
 
 pub returns-clause-active : goal.returns-clause-active
 returns-clause-active c =
-    let s : ActiveSegs =
-    record {
-      sizes = c.self.inside.sizes;
-      hands = c.self.inside.hands;
-      entries = c.self.inside.entries.items;
-      tables =
-          c.self.inside.tables.items;
-    } in
+    let s : ActiveSegs = segs_of c.self.inside.sizes c.self.inside.hands c.self.inside.entries.items
+    c.self.inside.tables.items in
     let first : first_off_chain s c.args.pool c.args.chain.now ≡ Some c.find_from_hand.result =
     rw (c.deref.ensures.value, c.first_of-first.ensures.first) at c.find_from_hand.ensures in
     subst (λ (v : ActiveSegs). IsActiveAt v.entries c.find_from_hand.result) c.self.view_is

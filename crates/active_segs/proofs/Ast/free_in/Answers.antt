@@ -3,46 +3,29 @@ use Rattle.std.proofs.lemmas.Bool.{true≢false}
 use Rattle.bitmap.specs.Bitmap.{IsLeastFree as IsFirstFree}
 use Rattle.active_segs.specs.Active.{ActiveSegs, HasShape, IsLeastFree, IsFull}
 use Rattle.active_segs.specs.Kept.{map_of}
-use Rattle.active_segs.specs.Pool.{first_of}
-use Rattle.active_segs.proofs.AstLemmas.{marked_map, full_since_marked, least_since_marked, not_full, room_since_free}
+use Rattle.active_segs.proofs.AstLemmas.{segs_of, marked_map, full_since_marked, least_since_marked, not_full, room_since_free}
 use Rattle.active_segs.proofs.AstLemmas.{free_within}
 use Rattle.active_segs.proofs.Ast.free_in.Goals as goal
 
 pub returns-in_err-offset-clause-full : goal.returns-in_err-offset-clause-full
 returns-in_err-offset-clause-full c =
-    let s : ActiveSegs = record {
-      sizes = c.self.inside.sizes;
-      hands = c.self.inside.hands;
-      entries = c.self.inside.entries.items;
-      tables = c.self.inside.tables.items;
-    } in
-    let used : List (List Bool) = c.self.inside.used.items in
-    let map : c.index.result.now ≡ map_of used c.args.pool =
-    marked_map c.self.invariant.marked c.args.pool c.index.result.now c.requires c.index.ensures in
-    let all : All (λ flag. flag ≡ true) (map_of used c.args.pool) =
-    subst (All (λ (flag : Bool). flag ≡ true)) map c.in_err-offset.ensures.none in
+    let map = marked_map c.self.invariant.marked c.args.pool c.index.result.now c.requires c.index.ensures in
     let full : IsFull c.args.self.now c.args.pool =
     subst (λ (v : ActiveSegs). IsFull v c.args.pool) c.self.view_is
-    (full_since_marked s used c.args.pool c.requires c.self.invariant.marked all) in
+    (full_since_marked (segs_of c.self.inside.sizes c.self.inside.hands c.self.inside.entries.items
+    c.self.inside.tables.items) c.self.inside.used.items c.args.pool c.requires c.self.invariant.marked
+    (subst (All (λ (flag : Bool). flag ≡ true)) map c.in_err-offset.ensures.none)) in
     (λ h. full, λ h. ap is_some c.from_residual.ensures)
 
 pub returns-clause-least : goal.returns-clause-least
 returns-clause-least c =
-    let s : ActiveSegs = record {
-      sizes = c.self.inside.sizes;
-      hands = c.self.inside.hands;
-      entries = c.self.inside.entries.items;
-      tables = c.self.inside.tables.items;
-    } in
-    let used : List (List Bool) = c.self.inside.used.items in
-    let map : c.index.result.now ≡ map_of used c.args.pool =
-    marked_map c.self.invariant.marked c.args.pool c.index.result.now c.requires c.index.ensures in
-    let first : IsFirstFree (map_of used c.args.pool) c.in_ok-offset.offset =
+    let map = marked_map c.self.invariant.marked c.args.pool c.index.result.now c.requires c.index.ensures in
+    let first : IsFirstFree (map_of c.self.inside.used.items c.args.pool) c.in_ok-offset.offset =
     subst (λ (m : List Bool). IsFirstFree m c.in_ok-offset.offset) map c.in_ok-offset.ensures.some in
-    let least : IsLeastFree s c.args.pool (first_of c.self.inside.sizes c.args.pool + c.in_ok-offset.offset) =
-    least_since_marked s used c.args.pool c.in_ok-offset.offset c.requires c.self.invariant.marked first in
     subst (λ (v : ActiveSegs). IsLeastFree v c.args.pool (c.first_of.result + c.in_ok-offset.offset)) c.self.view_is
-    (rw c.first_of.ensures.first least)
+    (rw c.first_of.ensures.first (least_since_marked (segs_of c.self.inside.sizes c.self.inside.hands c.self.inside.entries.items
+    c.self.inside.tables.items) c.self.inside.used.items c.args.pool c.in_ok-offset.offset c.requires
+    c.self.invariant.marked first))
 
 pub returns-clause-shape : goal.returns-clause-shape
 returns-clause-shape c =

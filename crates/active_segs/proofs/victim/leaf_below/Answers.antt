@@ -1,9 +1,8 @@
-use Rattle.std.proofs.Common.{◌≡◌, ◌<◌, List, Bool, length, subst, arith, All, true}
+use Rattle.std.proofs.Common.{◌≡◌, ◌<◌, List, Bool, length, subst, arith}
 use Rattle.bitmap.specs.Bitmap.{IsLeastFree as IsFirstFree}
-use Rattle.active_segs.specs.Active.{HasNoInferior}
 use Rattle.active_segs.specs.Victim.{IsLeastInferior}
 use Rattle.active_segs.proofs.EntryLemmas.{used_within}
-use Rattle.active_segs.proofs.InferiorLemmas.{noted_map, least_since_noted, leaf_since_noted}
+use Rattle.active_segs.proofs.InferiorLemmas.{noted_map, least_since_noted, leaf_read}
 use Rattle.active_segs.proofs.DescentLemmas.{stays, way_begins, way_goes_on, way_ends, way_comes_to}
 use Rattle.active_segs.proofs.victim.leaf_below.Goals as goal
 
@@ -18,25 +17,16 @@ bounds-inferiors-place c =
 
 pub returns-in-None-clause-is : goal.returns-in-None-clause-is
 returns-in-None-clause-is c =
-    let within : c.loop-step.place < length c.args.entries.now =
-    used_within _ _ c.loop-step.invariant.uid c.loop-step.invariant.is in
-    let map = noted_map _ _ c.requires.noted c.loop-step.place c.index-inferiors-place.result within
-    c.index-inferiors-place.is in
-    let none : HasNoInferior c.args.entries.now c.loop-step.place =
-    leaf_since_noted _ _ c.requires.noted _ within (subst (All (λ (flag : Bool). flag ≡ true)) map
-    c.in-None.ensures.none) in
-    way_comes_to _ _ _ _ c.loop-step.invariant none
+    way_comes_to _ _ _ _ c.loop-step.invariant
+    (leaf_read _ _ c.requires.noted c.loop-step.place c.index-inferiors-place.result
+    (used_within _ _ c.loop-step.invariant.uid c.loop-step.invariant.is) c.index-inferiors-place.is
+    c.in-None.ensures.none)
 
 pub returns-in-None-clause-stands : goal.returns-in-None-clause-stands
 returns-in-None-clause-stands c =
-    let within : c.loop-step.place < length c.args.entries.now =
-    used_within _ _ c.loop-step.invariant.uid c.loop-step.invariant.is in
-    let map = noted_map _ _ c.requires.noted c.loop-step.place c.index-inferiors-place.result within
-    c.index-inferiors-place.is in
-    let none : HasNoInferior c.args.entries.now c.loop-step.place =
-    leaf_since_noted _ _ c.requires.noted _ within (subst (All (λ (flag : Bool). flag ≡ true)) map
-    c.in-None.ensures.none) in
-    c.loop-step.invariant.back _ (stays _ _ none)
+    c.loop-step.invariant.back _ (stays _ _ (leaf_read _ _ c.requires.noted c.loop-step.place c.index-inferiors-place.result
+    (used_within _ _ c.loop-step.invariant.uid c.loop-step.invariant.is) c.index-inferiors-place.is
+    c.in-None.ensures.none))
 
 pub loop-step-preserved : goal.loop-step-preserved
 loop-step-preserved c =
