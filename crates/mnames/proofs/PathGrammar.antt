@@ -627,3 +627,12 @@ front_is_path names front name h e = record {
     each_front : (xs : List (List ℕ)) → AllByRecursion IsName (xs ++ name ∷ []) → AllByRecursion IsName xs
     each_front [] a = tt
     each_front (x ∷ xs) a = (a.0, each_front xs a.1)
+
+-- what a run of bytes of a name goes by
+pub ruleset run_measured = (run_more, run_whole)
+
+-- and where it stops
+pub ruleset name_stuck = (stuck_at_byte, stuck_at_start)
+
+-- what reading a path name by name goes by
+pub ruleset path_taken = (read_start, read_more, read_length, read_whole, read_full, read_stuck)

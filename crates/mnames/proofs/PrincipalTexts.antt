@@ -199,3 +199,12 @@ dot_missing text h = chosen (ltb (position_or_len is_dot text) (length text)) re
     chosen false e h =
         let past : length text ≤ position_or_len is_dot text = grind (arith, nat_tests) in
         dropped text (position_or_len is_dot text + 1) (omega (arith, past))
+
+-- what a search for the dot of a principal goes by
+pub ruleset dot_sought = (dot_found, dot_missing)
+
+-- and a row with a part that is missing
+pub ruleset parts_missing = (part_nothing, row_with_none, common_steps)
+
+-- and a principal with no project
+pub ruleset project_missing = (nothing_is_no_label, common_steps)

@@ -55,3 +55,15 @@ label_tested text a low high h = rw (le-leb 1 (length text) low, le-leb (length 
 pub label_wrong_length : (text : List ℕ) → (1 ≤ length text → length text ≤ 32 → ⊥) → false ≡ is_label text
 unfolding is_label
 label_wrong_length text h = grind (arith, nat_tests)
+
+-- what tests of labels and names, and those that give them, go by
+pub ruleset label_test = (label_tested, label_wrong_length)
+
+-- and the text of a label
+pub ruleset label_text = (label_is_ascii, label_is_short)
+
+-- a test of a name
+pub ruleset name_test = (name_tested, name_wrong_length)
+
+-- and its text
+pub ruleset name_text = (name_is_ascii, name_is_short)

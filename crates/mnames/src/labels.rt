@@ -42,7 +42,7 @@ fn all_may_stand(text: &[u8]) -> bool
 }
 
 /// Whether the text is a label.
-#[tactic(auto, using(crate::proofs::ShortTexts::label_tested, crate::proofs::ShortTexts::label_wrong_length, std::proofs::lemmas::Grind::common_steps))]
+#[tactic(auto, using(crate::proofs::ShortTexts::label_test, std::proofs::lemmas::Grind::common_steps))]
 fn is_label(text: &[u8]) -> bool
     ensures { result ≡ is_label text.now }
 {
@@ -53,7 +53,7 @@ fn is_label(text: &[u8]) -> bool
 }
 
 /// The label that the text is. `None` exactly where it isn't one.
-#[tactic(auto, using(crate::proofs::ShortTexts::label_is_ascii, crate::proofs::ShortTexts::label_is_short, std::proofs::lemmas::Grind::common_steps))]
+#[tactic(auto, using(crate::proofs::ShortTexts::label_text, std::proofs::lemmas::Grind::common_steps))]
 pub fn read_label(text: &[u8]) -> Option<Label>
     ensures { result ≡ (if is_label text.now then Some text.now else None) }
 {

@@ -43,7 +43,7 @@ fn all_may_stand(text: &[u8]) -> bool
 }
 
 /// Whether the text is an entry name.
-#[tactic(auto, using(crate::proofs::ShortTexts::name_tested, crate::proofs::ShortTexts::name_wrong_length, std::proofs::lemmas::Grind::common_steps))]
+#[tactic(auto, using(crate::proofs::ShortTexts::name_test, std::proofs::lemmas::Grind::common_steps))]
 fn is_name(text: &[u8]) -> bool
     ensures { result ≡ is_name text.now }
 {
@@ -54,7 +54,7 @@ fn is_name(text: &[u8]) -> bool
 }
 
 /// The entry name that the text is. `None` exactly where it isn't one.
-#[tactic(auto, using(crate::proofs::ShortTexts::name_is_ascii, crate::proofs::ShortTexts::name_is_short, std::proofs::lemmas::Grind::common_steps))]
+#[tactic(auto, using(crate::proofs::ShortTexts::name_text, std::proofs::lemmas::Grind::common_steps))]
 pub fn read_name(text: &[u8]) -> Option<Name>
     ensures { result ≡ (if is_name text.now then Some text.now else None) }
 {
@@ -68,7 +68,7 @@ pub fn read_name(text: &[u8]) -> Option<Name>
 
 /// How long the front of a text is that an entry name may have: up to the first byte that may not stand
 /// in one, and at most 32 bytes.
-#[tactic(auto, using(crate::proofs::PathGrammar::run_more, crate::proofs::PathGrammar::run_whole, std::proofs::lemmas::Grind::common_steps))]
+#[tactic(auto, using(crate::proofs::PathGrammar::run_measured, std::proofs::lemmas::Grind::common_steps))]
 fn run_length(text: &[u8]) -> usize
     ensures { IsRun text.now result }
 {
@@ -82,7 +82,7 @@ fn run_length(text: &[u8]) -> usize
 
 /// The entry name at the front of a text, up to its first `>` or its end, and what follows it. The error
 /// is the length of the longest front with which such a name begins.
-#[tactic(auto, using(crate::proofs::PathGrammar::stuck_at_byte, crate::proofs::PathGrammar::stuck_at_start, std::proofs::lemmas::Grind::common_steps))]
+#[tactic(auto, using(crate::proofs::PathGrammar::name_stuck, std::proofs::lemmas::Grind::common_steps))]
 pub(crate) fn next_name(text: &[u8]) -> Result<(Name, &[u8]), usize>
     ensures name { IfOk result (λ n. IsName n.0) }
     ensures parts { IfOk result (λ n. text.now ≡ n.0 ++ n.1.now) }

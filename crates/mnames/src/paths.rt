@@ -113,7 +113,7 @@ pub struct BadPath {
 
 /// The path of a text that begins with `>` and has more bytes. The error is the length of the longest
 /// front with which some path begins.
-#[tactic(auto, using(crate::proofs::PathGrammar::read_start, crate::proofs::PathGrammar::read_more, crate::proofs::PathGrammar::read_length, crate::proofs::PathGrammar::read_whole, crate::proofs::PathGrammar::read_full, crate::proofs::PathGrammar::read_stuck, std::proofs::lemmas::Grind::common_steps))]
+#[tactic(auto, using(crate::proofs::PathGrammar::path_taken, std::proofs::lemmas::Grind::common_steps))]
 fn path_below_root(text: &[u8]) -> Result<Path, BadPath>
     requires sign { slice_index text.now 0 ≡ 62 }
     requires more { 1 < length text.now }

@@ -34,7 +34,7 @@ fn dot_in(text: &[u8]) -> Option<usize>
 }
 
 /// The text before the first dot and the text behind it. `None` exactly where there is no dot.
-#[tactic(auto, using(crate::proofs::PrincipalTexts::dot_found, crate::proofs::PrincipalTexts::dot_missing, std::proofs::lemmas::Grind::common_steps))]
+#[tactic(auto, using(crate::proofs::PrincipalTexts::dot_sought, std::proofs::lemmas::Grind::common_steps))]
 pub(crate) fn around_dot(text: &[u8]) -> Option<(&[u8], &[u8])>
     ensures before { IfSome result (λ t. t.0.now ≡ before_dot text.now) }
     ensures after { IfSome result (λ t. t.1.now ≡ after_dot text.now) }
@@ -45,7 +45,7 @@ pub(crate) fn around_dot(text: &[u8]) -> Option<(&[u8], &[u8])>
 }
 
 /// The principal of a text.
-#[tactic(auto, using(crate::proofs::PrincipalTexts::nothing_is_no_label, std::proofs::lemmas::Grind::common_steps), unfolding(crate::specs::Principals::who_of))]
+#[tactic(auto, using(crate::proofs::PrincipalTexts::project_missing), unfolding(crate::specs::Principals::who_of))]
 fn who_of(text: &[u8]) -> Option<Who>
     ensures { result ≡ who_of text.now }
 {

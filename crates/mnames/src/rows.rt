@@ -62,7 +62,7 @@ fn row_alone(person: Option<Label>) -> Row
 }
 
 /// The row of a text.
-#[tactic(auto, using(crate::proofs::PrincipalTexts::part_nothing, crate::proofs::PrincipalTexts::row_with_none, std::proofs::lemmas::Grind::common_steps), unfolding(crate::specs::Principals::row_of))]
+#[tactic(auto, using(crate::proofs::PrincipalTexts::parts_missing), unfolding(crate::specs::Principals::row_of))]
 fn row_of(text: &[u8]) -> Option<Row>
     ensures { result ≡ row_of text.now }
 {
