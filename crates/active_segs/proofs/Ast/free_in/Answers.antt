@@ -3,7 +3,8 @@ use Rattle.std.proofs.lemmas.Bool.{true≢false}
 use Rattle.bitmap.specs.Bitmap.{IsLeastFree as IsFirstFree}
 use Rattle.active_segs.specs.Active.{ActiveSegs, HasShape, IsLeastFree, IsFull}
 use Rattle.active_segs.specs.Kept.{map_of}
-use Rattle.active_segs.proofs.AstLemmas.{segs_of, marked_map, full_since_marked, least_since_marked, not_full, room_since_free}
+use Rattle.active_segs.proofs.AstLemmas.{segs_of, marked_map, full_since_marked, least_since_marked, not_full}
+use Rattle.active_segs.proofs.AstLemmas.{room_since_free}
 use Rattle.active_segs.proofs.AstLemmas.{free_within}
 use Rattle.active_segs.proofs.Ast.free_in.Goals as goal
 
@@ -23,7 +24,8 @@ returns-clause-least c =
     let first : IsFirstFree (map_of c.self.inside.used.items c.args.pool) c.in_ok-offset.offset =
     subst (λ (m : List Bool). IsFirstFree m c.in_ok-offset.offset) map c.in_ok-offset.ensures.some in
     subst (λ (v : ActiveSegs). IsLeastFree v c.args.pool (c.first_of.result + c.in_ok-offset.offset)) c.self.view_is
-    (rw c.first_of.ensures.first (least_since_marked (segs_of c.self.inside.sizes c.self.inside.hands c.self.inside.entries.items
+    (rw c.first_of.ensures.first (least_since_marked
+    (segs_of c.self.inside.sizes c.self.inside.hands c.self.inside.entries.items
     c.self.inside.tables.items) c.self.inside.used.items c.args.pool c.in_ok-offset.offset c.requires
     c.self.invariant.marked first))
 

@@ -24,7 +24,8 @@ returns-in-None-clause-is c =
 
 pub returns-in-None-clause-stands : goal.returns-in-None-clause-stands
 returns-in-None-clause-stands c =
-    c.loop-step.invariant.back _ (stays _ _ (leaf_read _ _ c.requires.noted c.loop-step.place c.index-inferiors-place.result
+    c.loop-step.invariant.back _ (stays _ _
+    (leaf_read _ _ c.requires.noted c.loop-step.place c.index-inferiors-place.result
     (used_within _ _ c.loop-step.invariant.uid c.loop-step.invariant.is) c.index-inferiors-place.is
     c.in-None.ensures.none))
 
