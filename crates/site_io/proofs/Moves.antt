@@ -1,4 +1,5 @@
 -- What reads and writes in a row do to a source's and a sink's bytes.
+use Rattle.std.proofs.lemmas.Grind.{common_steps}
 use Rattle.std.proofs.Common.{◌≡◌, ℕ, ◌+◌, ◌≤◌, List, [], ◌++◌, length, IfSome, Option, Some, None, ◌<◌, sym, ap, ◌∙◌}
 use Rattle.std.proofs.Common.{arith, take, drop}
 use Rattle.std.specs.Io.KnownBytes.{Appends, Consumes, Keeps}
@@ -65,3 +66,10 @@ pub consumes_longer : (a b : Option (List ℕ)) (bs : List ℕ) (limit : ℕ) �
 consumes_longer None b bs limit h n = tt
 consumes_longer (Some xs) None bs limit h n = absurd h
 consumes_longer (Some xs) (Some ys) bs limit h n = omega (arith, ap length h, length-append bs ys)
+
+-- what one read goes by, the reading to the end, and the writing of a whole piece
+pub ruleset read_once = (consumes_none, consumes_kept, consumes_taken)
+
+pub ruleset whole_read = (consumes_none, consumes_front, consumes_past, consumes_longer)
+
+pub ruleset piece_written = (appends_more, common_steps)

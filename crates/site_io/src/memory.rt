@@ -72,7 +72,8 @@ impl Source for MemorySource {
         ensures cause { HasCause self.old.faults self.new.faults result }
 
         ensures fails { IsErr result ↔ Contains self.old.fails (counted self.old.calls) }
-        ensures count { IfOk result (λ count. count ≡ min (length buf.old) (min (length self.old.left) self.old.piece)) }
+        ensures count { IfOk result
+            (λ count. count ≡ min (length buf.old) (min (length self.old.left) self.old.piece)) }
         ensures after { self.new ≡ after_read self.old result }
     {
         self.calls = self.calls.saturating_add(1);

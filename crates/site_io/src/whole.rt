@@ -32,7 +32,7 @@ fn block_of(alloc: Global, size: usize) -> Result<Vec<u8>, Unread>
 /// Reads once into the block, and appends what came to the bytes that were read before.
 ///
 /// Answers how many came: 0 for a block that isn't empty is the end of input.
-#[tactic(auto, using(crate::proofs::Moves::consumes_none, crate::proofs::Moves::consumes_kept, crate::proofs::Moves::consumes_taken, std::proofs::lemmas::Grind::common_steps))]
+#[tactic(auto, using(crate::proofs::Moves::read_once, std::proofs::lemmas::Grind::common_steps))]
 fn read_more<S: Source>(
     source: &mut S,
     block: &mut [u8],
@@ -66,7 +66,7 @@ fn read_more<S: Source>(
 ///
 /// It takes a block of 64 KiB to read into, and the bytes themselves as they come. After an error
 /// a front of the bytes that were left is gone, of at most `limit + 1` bytes.
-#[tactic(auto, using(crate::proofs::Moves::consumes_none, crate::proofs::Moves::consumes_front, crate::proofs::Moves::consumes_past, crate::proofs::Moves::consumes_longer, std::proofs::lemmas::Grind::common_steps))]
+#[tactic(auto, using(crate::proofs::Moves::whole_read, std::proofs::lemmas::Grind::common_steps))]
 pub fn read_all<S: Source>(alloc: Global, source: &mut S, limit: usize) -> Result<Vec<u8>, Unread>
     ensures whole { IfOk result (λ bytes. IfSome (S.left source.old) (λ all. bytes.items ≡ all)) }
     ensures end { OnOk result (IsAtEnd (S.left source.new)) }
@@ -96,7 +96,7 @@ pub fn read_all<S: Source>(alloc: Global, source: &mut S, limit: usize) -> Resul
 /// Writes a whole piece to a sink, in as many calls as it needs. Takes no memory.
 ///
 /// After an error a front of the piece was appended.
-#[tactic(auto, using(crate::proofs::Moves::appends_more, std::proofs::lemmas::Grind::common_steps), unfolding(crate::specs::Streams::AppendsFront))]
+#[tactic(auto, using(crate::proofs::Moves::piece_written), unfolding(crate::specs::Streams::AppendsFront))]
 pub fn write_all<K: Sink>(sink: &mut K, piece: &[u8]) -> Result<(), Failed>
     ensures whole { OnOk result (Appends (K.held sink.old) (K.held sink.new) piece.now) }
     ensures front { AppendsFront (K.held sink.old) (K.held sink.new) piece.now }
