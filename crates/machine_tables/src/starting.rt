@@ -1,4 +1,4 @@
-ghost use Rattle.std.specs.Prelude.{◌≡◌, ◌<◌, ◌≤◌, ◌∷◌, [], length, map, replicate, IfOk};
+ghost use Rattle.std.specs.Prelude.{◌≡◌, ◌<◌, ◌≤◌, ◌∷◌, [], length, map, replicate, IfOk, None};
 ghost use Rattle.std.specs.List.{sum_by};
 ghost use Rattle.custody_model.specs.Custody.{range, ready_at_first};
 ghost use Rattle.storage_ops.specs.Shown.{AreFresh};
@@ -91,6 +91,46 @@ fn first_ready(alloc: Global, script: &Script) -> Result<Ready, NoMemory>
     }
 }
 
+/// What the tables have beside the book and the store before the first entry.
+#[derive(Drop)]
+struct FirstRows {
+    runs: Vec<Run>,
+    ready: Ready,
+    processors: Vec<Processor>,
+    job: Job,
+}
+
+/// The rows of a script's processes and processors before its first entry.
+fn first_rows(alloc: Global, script: &Script) -> Result<FirstRows, NoMemory>
+    ensures runs { IfOk result (λ rows. rows.runs.items ≡ replicate (length script.now.processes) first_run) }
+    ensures ready { IfOk result (λ rows. rows.ready
+        ≡ record { waiting = ready_at_first script.now; room = length script.now.processes }) }
+    ensures processors { IfOk result (λ rows. rows.processors.items ≡ replicate script.now.processors no_processor) }
+    ensures job { IfOk result (λ rows. rows.job ≡ None) }
+{
+    Ok(FirstRows {
+        runs: first_runs(alloc, script.processes())?,
+        ready: first_ready(alloc, script)?,
+        processors: first_processors(alloc, script.processors())?,
+        job: Job::none(alloc)?,
+    })
+}
+
+/// The empty book of a script, and its rows.
+fn first_book(alloc: Global, script: Script) -> Result<(Book, FirstRows), NoMemory>
+    ensures script { IfOk result (λ first. first.0.script ≡ script) }
+    ensures empty { IfOk result (λ first. first.0.entries ≡ []) }
+    ensures runs { IfOk result (λ first. first.1.runs.items ≡ replicate (length script.processes) first_run) }
+    ensures ready { IfOk result (λ first. first.1.ready
+        ≡ record { waiting = ready_at_first script; room = length script.processes }) }
+    ensures processors { IfOk result (λ first. first.1.processors.items ≡ replicate script.processors no_processor) }
+    ensures job { IfOk result (λ first. first.1.job ≡ None) }
+{
+    let rows = first_rows(alloc, &script)?;
+    let book = Book::new(alloc, script).map_err(|_| NoMemory)?;
+    Ok((book, rows))
+}
+
 impl<D: Drive> Tables<D> {
     /// The tables of a script before its first entry, over a store. It takes all the memory that they ever have, but
     /// for the entries of the book.
@@ -103,22 +143,19 @@ impl<D: Drive> Tables<D> {
         ensures room { IfOk result (λ t. t.room ≡ length script.processes) }
         ensures drives { IfOk result (λ t. t.drives ≡ store.segs.pages.volumes.drives) }
     {
-        let runs = first_runs(alloc, script.processes())?;
-        let ready = first_ready(alloc, &script)?;
-        let processors = first_processors(alloc, script.processors())?;
-        let job = Job::none(alloc)?;
-        let book = Book::new(alloc, script).map_err(|_| NoMemory)?;
+        let (book, rows) = first_book(alloc, script)?;
         Ok(Tables {
             book,
             store,
-            runs,
-            ready,
-            processors,
-            job,
+            runs: rows.runs,
+            ready: rows.ready,
+            processors: rows.processors,
+            job: rows.job,
             stopped: false,
             visited: 0,
         })
     }
+
     /// The tables of a script before its first entry, over volumes of the script's sizes with nothing of them in use:
     /// the root alone, every frame free and of zeros, nothing active, known or connected, and no processor takes part.
     /// It takes all the memory that they ever have, but for the entries of the book.
