@@ -25,25 +25,10 @@ use acl::AclFull;
 use arrayvec::ArrayVec;
 use dir_tree::{AddFault, NewNode, Node, NotEmpty, PathFault, Tree};
 use mnames::{Mode, Name, Path, Row};
+pub use no_memory::NoMemory;
 use quota_cells::{Cells, Full, MoveFault};
 use std::alloc::Global;
 use std::marker::Model;
-
-/// No memory was left for the tree or its cells.
-#[derive(Clone, Copy, Debug, PartialEq, Eq)]
-pub struct NoMemory;
-
-impl From<dir_tree::NoMemory> for NoMemory {
-    fn from(_: dir_tree::NoMemory) -> Self {
-        NoMemory
-    }
-}
-
-impl From<quota_cells::NoMemory> for NoMemory {
-    fn from(_: quota_cells::NoMemory) -> Self {
-        NoMemory
-    }
-}
 
 /// The directory tree with its accounts (Bensoussan, Clingen and Daley 1972; Organick 1972).
 ///

@@ -31,19 +31,10 @@ mod victim;
 
 use bitmap::Bitmap;
 use index::Index;
+pub use no_memory::NoMemory;
 use page_table::PageTable;
-use std::alloc::{AllocError, Global};
+use std::alloc::Global;
 use std::marker::Model;
-
-/// No memory was left for an active segment table.
-#[derive(Clone, Copy, Debug, PartialEq, Eq)]
-pub struct NoMemory;
-
-impl From<AllocError> for NoMemory {
-    fn from(_: AllocError) -> Self {
-        NoMemory
-    }
-}
 
 /// What is active in a place of the table.
 #[derive(Clone, Copy, Debug, PartialEq, Eq)]
@@ -82,18 +73,6 @@ impl Model for Ast {
 
     ghost invariant = { λ a.
         IsKept a.sizes a.hands a.used.items a.entries.items a.tables.items a.inferiors.items a.index };
-}
-
-impl From<bitmap::NoMemory> for NoMemory {
-    fn from(_: bitmap::NoMemory) -> Self {
-        NoMemory
-    }
-}
-
-impl From<page_table::NoMemory> for NoMemory {
-    fn from(_: page_table::NoMemory) -> Self {
-        NoMemory
-    }
 }
 
 impl Ast {

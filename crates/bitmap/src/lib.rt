@@ -14,18 +14,9 @@ ghost use Rattle.std.specs.Prelude.{replicate, slice_index, slice_set, count_by,
 ghost use Rattle.bitmap.specs.Bitmap.{in_use, least_free, IsLeastFree};
 ghost use Rattle.bitmap.specs.Bits.{bit_on, with_bit, without_bit, full_after, IsFirstOff, IsClear};
 
-use std::alloc::{AllocError, Global};
+pub use no_memory::NoMemory;
+use std::alloc::Global;
 use std::marker::Model;
-
-/// There is no memory for a map. (Source: own.)
-#[derive(Clone, Copy, Debug, PartialEq, Eq)]
-pub struct NoMemory;
-
-impl From<AllocError> for NoMemory {
-    fn from(_: AllocError) -> Self {
-        NoMemory
-    }
-}
 
 /// Which of the numbers below a size are in use, seen as one flag for each number, true where it is in use.
 #[derive(Debug, Drop)]

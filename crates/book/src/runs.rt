@@ -2,13 +2,10 @@ ghost use Rattle.std.specs.Prelude.{◌≡◌, ◌+◌, ◌<◌, ◌≤◌, [], 
 
 use crate::entries::Entry;
 use crate::replies::Reply;
+pub use no_memory::NoMemory;
 use script::Script;
 use std::alloc::Global;
 use std::marker::Model;
-
-/// There wasn't enough memory.
-#[derive(Clone, Copy, Debug, PartialEq, Eq)]
-pub struct NoMemory;
 
 /// All that happened in the run of a script, in order. A contract sees the script, the list of
 /// entries, and how many more there is room for without more memory.

@@ -8,25 +8,10 @@ use crate::offences::Rule;
 use book::{Entry, Reply, read_entry};
 use custody::Custody;
 use flat_store::FlatStore;
+pub(crate) use no_memory::NoMemory;
 use script::Script;
 use std::alloc::Global;
 use std::marker::Model;
-
-/// There wasn't enough memory.
-#[derive(Clone, Copy)]
-pub(crate) struct NoMemory;
-
-impl From<flat_store::NoMemory> for NoMemory {
-    fn from(_: flat_store::NoMemory) -> Self {
-        NoMemory
-    }
-}
-
-impl From<custody::NoMemory> for NoMemory {
-    fn from(_: custody::NoMemory) -> Self {
-        NoMemory
-    }
-}
 
 /// Why a line before the summary wasn't accepted.
 #[derive(Clone, Copy)]

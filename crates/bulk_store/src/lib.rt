@@ -17,14 +17,5 @@ mod store;
 pub use any_drive::AnyDrive;
 pub use core_bulk::CoreBulk;
 pub use index::Held;
+pub use no_memory::NoMemory;
 pub use store::BulkStore;
-
-/// There is no memory for a bulk store. (Source: own.)
-#[derive(Clone, Copy, Debug, PartialEq, Eq)]
-pub struct NoMemory;
-
-impl From<volumes::NoMemory> for NoMemory {
-    fn from(_: volumes::NoMemory) -> Self {
-        NoMemory
-    }
-}

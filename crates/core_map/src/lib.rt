@@ -25,24 +25,9 @@ ghost use Rattle.core_map.specs.CoreMap.{least_free_frame, IsLeastFreeFrame};
 ghost use Rattle.core_map.specs.Clock.{IsClockChoice, clock_choice, after_choice};
 
 use bitmap::Bitmap;
-use std::alloc::{AllocError, Global};
+pub use no_memory::NoMemory;
+use std::alloc::Global;
 use std::marker::Model;
-
-/// There is no memory for a core map. (Source: own.)
-#[derive(Clone, Copy, Debug, PartialEq, Eq)]
-pub struct NoMemory;
-
-impl From<AllocError> for NoMemory {
-    fn from(_: AllocError) -> Self {
-        NoMemory
-    }
-}
-
-impl From<bitmap::NoMemory> for NoMemory {
-    fn from(_: bitmap::NoMemory) -> Self {
-        NoMemory
-    }
-}
 
 /// What a frame of core is used for (Bensoussan, Clingen and Daley 1972; that a page is being read in is own).
 #[derive(Clone, Copy, Debug, PartialEq, Eq)]

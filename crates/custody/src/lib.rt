@@ -21,8 +21,5 @@ mod store_rows;
 mod tables;
 mod uses;
 
+pub use no_memory::NoMemory;
 pub use tables::Custody;
-
-/// There wasn't enough memory.
-#[derive(Clone, Copy, Debug, PartialEq, Eq)]
-pub struct NoMemory;

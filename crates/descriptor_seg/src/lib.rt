@@ -9,21 +9,12 @@ ghost use Rattle.descriptor_seg.specs.declared.Sdw.TheVariants.{Fault, Present};
 ghost use Rattle.descriptor_seg.specs.Descriptors.{sdw_at, all_faults, connected, cut_off};
 
 use mnames::Mode;
-use std::alloc::{AllocError, Global};
+pub use no_memory::NoMemory;
+use std::alloc::Global;
 use std::marker::Model;
 
 /// How many segment numbers a process has.
 const NUMBERS: usize = 256;
-
-/// No memory was left for a descriptor segment.
-#[derive(Clone, Copy, Debug, PartialEq, Eq)]
-pub struct NoMemory;
-
-impl From<AllocError> for NoMemory {
-    fn from(_: AllocError) -> Self {
-        NoMemory
-    }
-}
 
 /// A segment descriptor word (Bensoussan, Clingen and Daley 1972).
 #[derive(Clone, Copy, Debug, PartialEq, Eq)]

@@ -32,7 +32,7 @@ use entries::{Entries, Entry};
 use index::Index;
 use mnames::{Name, Path};
 pub use node::{AddFault, NewNode, NoMemory, Node, NotEmpty, PathFault};
-use std::alloc::{AllocError, Global};
+use std::alloc::Global;
 use std::marker::Model;
 
 /// The uid of the root.
@@ -69,12 +69,6 @@ impl Model for Tree {
 
     ghost invariant = { λ t. IsKept t.nodes.items t.entries t.free.items t.index t.next
         × (4097 ≤ vec_capacity t.nodes) × (4097 ≤ vec_capacity t.free) × IsCounted t.entries };
-}
-
-impl From<AllocError> for NoMemory {
-    fn from(_: AllocError) -> Self {
-        NoMemory
-    }
 }
 
 impl Tree {

@@ -1,5 +1,6 @@
 use acl::Acl;
 use mnames::Name;
+pub use no_memory::NoMemory;
 
 /// A branch of the tree: a directory, or a segment (Bensoussan, Clingen and Daley 1972).
 #[derive(Drop)]
@@ -62,7 +63,3 @@ pub enum AddFault {
 /// The node has an inferior, so it can't be removed.
 #[derive(Clone, Copy, Debug, PartialEq, Eq)]
 pub struct NotEmpty;
-
-/// No memory was left for a tree.
-#[derive(Clone, Copy, Debug, PartialEq, Eq)]
-pub struct NoMemory;

@@ -19,26 +19,5 @@ mod rights;
 mod sizes;
 mod store;
 
+pub use no_memory::NoMemory;
 pub use store::FlatStore;
-
-/// There wasn't enough memory.
-#[derive(Clone, Copy, Debug, PartialEq, Eq)]
-pub struct NoMemory;
-
-impl From<accounts::NoMemory> for NoMemory {
-    fn from(_: accounts::NoMemory) -> Self {
-        NoMemory
-    }
-}
-
-impl From<known_segs::NoMemory> for NoMemory {
-    fn from(_: known_segs::NoMemory) -> Self {
-        NoMemory
-    }
-}
-
-impl From<mword::NoMemory> for NoMemory {
-    fn from(_: mword::NoMemory) -> Self {
-        NoMemory
-    }
-}

@@ -7,21 +7,12 @@ ghost use Rattle.std.specs.Prelude.{IfSome};
 ghost use Rattle.known_segs.specs.Known.{uid_of, number_of, least_free, number_for, with_number, without_number};
 ghost use Rattle.known_segs.specs.Known.{known_count, IsUnknown, HasOneNumberEach};
 
-use std::alloc::{AllocError, Global};
+pub use no_memory::NoMemory;
+use std::alloc::Global;
 use std::marker::Model;
 
 /// The number of segment numbers that a process has.
 pub const NUMBERS: usize = 256;
-
-/// No memory was left for a known segment table.
-#[derive(Clone, Copy, Debug, PartialEq, Eq)]
-pub struct NoMemory;
-
-impl From<AllocError> for NoMemory {
-    fn from(_: AllocError) -> Self {
-        NoMemory
-    }
-}
 
 /// The segments that are known to a process, each under one segment number from 0 to 255 (Bensoussan, Clingen and
 /// Daley 1972).

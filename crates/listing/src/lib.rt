@@ -19,24 +19,9 @@ pub use counts::{AccountCount, Summary, VolumeCount, VolumeUse};
 use flat_store::FlatStore;
 use lines::push_summary;
 pub use lines::summary_text;
-use std::alloc::{AllocError, Global};
+pub use no_memory::NoMemory;
+use std::alloc::Global;
 pub use summing::{account_counts, summary, summary_of_counts};
-
-/// There wasn't enough memory.
-#[derive(Clone, Copy, Debug, PartialEq, Eq)]
-pub struct NoMemory;
-
-impl From<AllocError> for NoMemory {
-    fn from(_: AllocError) -> Self {
-        NoMemory
-    }
-}
-
-impl From<flat_store::NoMemory> for NoMemory {
-    fn from(_: flat_store::NoMemory) -> Self {
-        NoMemory
-    }
-}
 
 /// The listing of the book of a run, which must be legal (own): what its script prints, which is what each process was
 /// answered, or each entry, or nothing; then the accounts and the volumes, as they are in the flat store after the

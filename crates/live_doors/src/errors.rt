@@ -1,8 +1,6 @@
 //! Answers that are not Ok.
 
-/// There was no memory.
-#[derive(Clone, Copy, Debug, PartialEq, Eq)]
-pub struct NoMemory;
+pub use no_memory::NoMemory;
 
 /// The door was closed, by the word that this call read there. Twice the binding and one more.
 #[derive(Clone, Copy, Debug, PartialEq, Eq)]
@@ -15,10 +13,4 @@ pub struct Closed {
 pub struct Behind {
     pub cpu: u32,
     pub seen: u64,
-}
-
-impl From<std::alloc::AllocError> for NoMemory {
-    fn from(_: std::alloc::AllocError) -> NoMemory {
-        NoMemory
-    }
 }

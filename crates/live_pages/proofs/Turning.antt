@@ -381,17 +381,17 @@ module _ (z : Size) where
       holder given log j u
   others_given words plan hand keeper seat_of holder given log id f inside here book keeps_plan j (Passing q)
       other k = (
-    k.0,
-    walker_turned z.frames z.cpus words f 0 inside plan hand holder holder given log j q (λ _ _. refl)
-        (not_of_holder words plan.watch holder given log j id f q.hand here other k.1.hand_ok) book.plan_ok k.1,
-  )
+        k.0,
+        walker_turned z.frames z.cpus words f 0 inside plan hand holder holder given log j q (λ _ _. refl)
+            (not_of_holder words plan.watch holder given log j id f q.hand here other k.1.hand_ok) book.plan_ok k.1,
+      )
   others_given words plan hand keeper seat_of holder given log id f inside here book keeps_plan j (Keeping u)
       other k = (
-    k.0,
-    k.1 ∙ sym (keeps_plan j other k.0),
-    hand_turned z.frames z.cpus words f 0 inside plan.watch holder holder given log j u.hand (λ _ _. refl)
-        (not_of_holder words plan.watch holder given log j id f u.hand here other k.2) k.2,
-  )
+        k.0,
+        k.1 ∙ sym (keeps_plan j other k.0),
+        hand_turned z.frames z.cpus words f 0 inside plan.watch holder holder given log j u.hand (λ _ _. refl)
+            (not_of_holder words plan.watch holder given log j id f u.hand here other k.2) k.2,
+      )
   others_given words plan hand keeper seat_of holder given log id f inside here book keeps_plan j (Spent u) other k = tt
 
   pub gives_turn : (id f : ℕ) (w : Walker) (hd : Held) → w.hand ≡ Has f hd.page

@@ -6,20 +6,11 @@ ghost use Rattle.machine_tables.specs.Parts.{Parts, shown};
 use crate::owner::Job;
 use book::{Book, Entry, Reply};
 use machine_model::{Processor, Run};
+pub use no_memory::NoMemory;
 use std::marker::Model;
 use storage_ops::Store;
 use traffic::Ready;
 use volumes::{Drive, Volumes};
-
-/// There is no memory for more entries of the book. (Source: own.)
-#[derive(Clone, Copy, Debug, PartialEq, Eq)]
-pub struct NoMemory;
-
-impl From<storage_ops::NoMemory> for NoMemory {
-    fn from(_: storage_ops::NoMemory) -> Self {
-        NoMemory
-    }
-}
 
 /// What a machine has between two steps, side by side (Bensoussan, Clingen and Daley 1972; Corbató 1968).
 #[derive(Drop)]

@@ -21,11 +21,8 @@ mod lines;
 
 use draws::Draws;
 use lines::push_day;
+pub use no_memory::NoMemory;
 use std::alloc::Global;
-
-/// There was not enough memory for the script.
-#[derive(Clone, Copy, Debug, PartialEq, Eq)]
-pub struct NoMemory;
 
 /// The script of the day of a number: 9 lines before the processes, an initializer of 17 commands, and four users of
 /// 2000 commands each, about 160,000 bytes. (Source: own.)

@@ -15,10 +15,7 @@ mod texts;
 pub use labels::{Label, read_label};
 pub use modes::Mode;
 pub use names::{Name, read_name};
+pub use no_memory::NoMemory;
 pub use paths::{BadPath, Path, path_text, read_path};
 pub use principals::{Who, read_who};
 pub use rows::{Row, read_row};
-
-/// There was not enough memory for the text of a path.
-#[derive(Clone, Copy, Debug, PartialEq, Eq)]
-pub struct NoMemory;

@@ -10,10 +10,7 @@ mod tests;
 mod text;
 mod word;
 
+pub use no_memory::NoMemory;
 pub use page::Page;
 pub use text::{octal, read_octal};
 pub use word::Word;
-
-/// There was not enough memory for a call that takes some.
-#[derive(Clone, Copy, Debug, PartialEq, Eq)]
-pub struct NoMemory;

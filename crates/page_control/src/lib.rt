@@ -16,23 +16,8 @@
 
 mod pages;
 
+pub use no_memory::NoMemory;
 pub use pages::Pages;
-
-/// There is no memory for frames. (Source: own.)
-#[derive(Clone, Copy, Debug, PartialEq, Eq)]
-pub struct NoMemory;
-
-impl From<core_map::NoMemory> for NoMemory {
-    fn from(_: core_map::NoMemory) -> Self {
-        NoMemory
-    }
-}
-
-impl From<mword::NoMemory> for NoMemory {
-    fn from(_: mword::NoMemory) -> Self {
-        NoMemory
-    }
-}
 
 /// All records of the volume are in use. (Source: Organick 1972.)
 #[derive(Clone, Copy, Debug, PartialEq, Eq)]

@@ -12,18 +12,9 @@ ghost use Rattle.page_table.specs.declared.Ptw.{Ptw};
 ghost use Rattle.page_table.specs.declared.Ptw.TheVariants.{Null};
 ghost use Rattle.page_table.specs.PageTable.{ptw_at};
 
-use std::alloc::{AllocError, Global};
+pub use no_memory::NoMemory;
+use std::alloc::Global;
 use std::marker::Model;
-
-/// There is no memory for a table. (Source: own.)
-#[derive(Clone, Copy, Debug, PartialEq, Eq)]
-pub struct NoMemory;
-
-impl From<AllocError> for NoMemory {
-    fn from(_: AllocError) -> Self {
-        NoMemory
-    }
-}
 
 /// A page table word, which says where a page is (Bensoussan, Clingen and Daley 1972).
 #[derive(Clone, Copy, Debug, PartialEq, Eq)]

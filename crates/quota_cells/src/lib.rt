@@ -42,19 +42,10 @@ mod segments;
 
 use dir_tree::{ROOT, Tree};
 use directories::{Cell, Directories, Placed};
+pub use no_memory::NoMemory;
 use segments::Segments;
-use std::alloc::{AllocError, Global};
+use std::alloc::Global;
 use std::marker::Model;
-
-/// No memory was left for the cells.
-#[derive(Clone, Copy, Debug, PartialEq, Eq)]
-pub struct NoMemory;
-
-impl From<AllocError> for NoMemory {
-    fn from(_: AllocError) -> Self {
-        NoMemory
-    }
-}
 
 /// The account has as many stored pages as its quota.
 #[derive(Clone, Copy, Debug, PartialEq, Eq)]

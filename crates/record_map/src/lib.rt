@@ -15,18 +15,9 @@ ghost use Rattle.std.specs.Prelude.{All, IfOk, IfSome, IfNone};
 ghost use Rattle.bitmap.specs.Bitmap.{in_use, least_free, IsLeastFree};
 
 use bitmap::Bitmap;
+pub use no_memory::NoMemory;
 use std::alloc::Global;
 use std::marker::Model;
-
-/// There is no memory for a map. (Source: own.)
-#[derive(Clone, Copy, Debug, PartialEq, Eq)]
-pub struct NoMemory;
-
-impl From<bitmap::NoMemory> for NoMemory {
-    fn from(_: bitmap::NoMemory) -> Self {
-        NoMemory
-    }
-}
 
 /// Which records of a volume are in use, seen as one flag for each record, true where it is in use. The size of
 /// the volume is the length of that list.

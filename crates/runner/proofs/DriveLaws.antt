@@ -155,7 +155,7 @@ quiet (f ∷ fs) v h =
   where
     here : (on : Bool) → f.onward ≡ false → list_any (λ (l : FailLine). l.onward) (lines_in fs v) ≡ false
         → list_any (λ (l : FailLine). l.onward)
-            (map line_of (cond on (f ∷ filter (is_on v) fs) (filter (is_on v) fs))) ≡ false
+        (map line_of (cond on (f ∷ filter (is_on v) fs) (filter (is_on v) fs))) ≡ false
     here false first rest = rest
     here true first rest = ap (λ (b : Bool). b || list_any (λ (l : FailLine). l.onward) (lines_in fs v)) first ∙ rest
 

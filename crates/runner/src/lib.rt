@@ -15,10 +15,7 @@ mod words;
 pub use checking::LISTING_BYTES;
 pub use drives::drive_of;
 pub use finished::{Finished, Status};
+pub use no_memory::NoMemory;
 pub use reading::SCRIPT_BYTES;
 pub use top::multics;
 pub use words::{Form, Words};
-
-/// There wasn't enough memory.
-#[derive(Clone, Copy, Debug, PartialEq, Eq)]
-pub struct NoMemory;

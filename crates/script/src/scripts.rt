@@ -10,11 +10,8 @@ use crate::commands::{Command, Process};
 use crate::plan::{Bulk, Fail, Print, Script, VolumeLine};
 use crate::texts::{push_command, volume_name};
 use mnames::Who;
+pub use no_memory::NoMemory;
 use std::alloc::{AllocError, Global};
-
-/// There was not enough memory for the text of a script.
-#[derive(Clone, Copy, Debug, PartialEq, Eq)]
-pub struct NoMemory;
 
 /// Appends the line of the machine.
 #[tactic(auto, unfolding(crate::specs::Scripts::machine_text))]

@@ -13,42 +13,9 @@ mod linking;
 mod links;
 mod segs;
 
+pub use no_memory::NoMemory;
 use page_control::Home;
 pub use segs::Segs;
-
-/// There is no memory for the tables. (Source: own.)
-#[derive(Clone, Copy, Debug, PartialEq, Eq)]
-pub struct NoMemory;
-
-impl From<active_segs::NoMemory> for NoMemory {
-    fn from(_: active_segs::NoMemory) -> Self {
-        NoMemory
-    }
-}
-
-impl From<trailers::NoMemory> for NoMemory {
-    fn from(_: trailers::NoMemory) -> Self {
-        NoMemory
-    }
-}
-
-impl From<known_segs::NoMemory> for NoMemory {
-    fn from(_: known_segs::NoMemory) -> Self {
-        NoMemory
-    }
-}
-
-impl From<descriptor_seg::NoMemory> for NoMemory {
-    fn from(_: descriptor_seg::NoMemory) -> Self {
-        NoMemory
-    }
-}
-
-impl From<std::alloc::AllocError> for NoMemory {
-    fn from(_: std::alloc::AllocError) -> Self {
-        NoMemory
-    }
-}
 
 /// A segment or directory of a chain of superiors, which goes from the root down (Bensoussan, Clingen and Daley 1972).
 #[derive(Clone, Copy, Debug, Default, PartialEq, Eq)]

@@ -6,33 +6,12 @@ ghost use Rattle.core_map.specs.declared.Frame.TheVariants.{Free};
 ghost use Rattle.vtoc.specs.Vtoc.{fresh_entry};
 ghost use Rattle.segs_tests.specs.Begun.{HasBegun};
 
+pub(crate) use no_memory::NoMemory;
 use page_control::{Home, Pages};
 use seg_control::{Link, Segs};
 use std::alloc::{AllocError, Global};
 use thiserror::Error;
 use volumes::{CoreDrive, FailLine, Part, Volumes};
-
-/// There is no memory for what a case makes.
-#[derive(Clone, Copy, Debug, PartialEq, Eq)]
-pub(crate) struct NoMemory;
-
-impl From<volumes::NoMemory> for NoMemory {
-    fn from(_: volumes::NoMemory) -> NoMemory {
-        NoMemory
-    }
-}
-
-impl From<page_control::NoMemory> for NoMemory {
-    fn from(_: page_control::NoMemory) -> NoMemory {
-        NoMemory
-    }
-}
-
-impl From<seg_control::NoMemory> for NoMemory {
-    fn from(_: seg_control::NoMemory) -> NoMemory {
-        NoMemory
-    }
-}
 
 /// A look at run time, or want of memory, refused what a case was to do.
 #[derive(Clone, Copy, Debug, Drop, PartialEq, Eq, Error)]

@@ -14,10 +14,7 @@ mod whole;
 pub use gate::{Gate, NoGate, Point};
 pub use hold_gate::HoldGate;
 pub use memory::{MemorySink, MemorySource};
+pub use no_memory::NoMemory;
 pub use standard::{StdSink, StdSource};
 pub use stream::{Failed, Sink, Source};
 pub use whole::{Unread, read_all, write_all};
-
-/// There was not enough memory for a call that takes some.
-#[derive(Clone, Copy, Debug, PartialEq, Eq)]
-pub struct NoMemory;

@@ -27,26 +27,5 @@ mod store;
 mod storing;
 mod testing;
 
+pub use no_memory::NoMemory;
 pub use store::Store;
-
-/// There is no memory for the store. (Source: own.)
-#[derive(Clone, Copy, Debug, PartialEq, Eq)]
-pub struct NoMemory;
-
-impl From<accounts::NoMemory> for NoMemory {
-    fn from(_: accounts::NoMemory) -> Self {
-        NoMemory
-    }
-}
-
-impl From<page_control::NoMemory> for NoMemory {
-    fn from(_: page_control::NoMemory) -> Self {
-        NoMemory
-    }
-}
-
-impl From<seg_control::NoMemory> for NoMemory {
-    fn from(_: seg_control::NoMemory) -> Self {
-        NoMemory
-    }
-}

@@ -5,12 +5,9 @@ ghost use Rattle.std.specs.Prelude.{◌≡◌, ◌<◌, ◌↔◌, [], ◌∷◌
 ghost use Rattle.traffic.specs.Queue.{empty_queue, with_last, without_front};
 
 use circular_buffer::HeapCircularBuffer;
+pub use no_memory::NoMemory;
 use std::alloc::Global;
 use std::marker::Model;
-
-/// No memory was left for a ready list.
-#[derive(Clone, Copy, Debug, PartialEq, Eq)]
-pub struct NoMemory;
 
 /// The processes that are ready to run, in the order in which they came (Corbató 1968).
 ///

@@ -7,21 +7,12 @@ ghost use Rattle.std.specs.Prelude.{Contains};
 ghost use Rattle.trailers.specs.Trailer.{trailers_of, place_in, without_trailer, connected, cut_off};
 
 use arrayvec::ArrayVec;
-use std::alloc::{AllocError, Global};
+pub use no_memory::NoMemory;
+use std::alloc::Global;
 use std::marker::Model;
 
 /// The most descriptors that one segment has at a time: one for each process.
 pub const MOST: usize = 32;
-
-/// No memory was left for trailers.
-#[derive(Clone, Copy, Debug, PartialEq, Eq)]
-pub struct NoMemory;
-
-impl From<AllocError> for NoMemory {
-    fn from(_: AllocError) -> Self {
-        NoMemory
-    }
-}
 
 /// The descriptors that use one page table, in the order in which they were connected.
 #[derive(Debug, Drop)]

@@ -13,23 +13,8 @@ mod volumes;
 
 pub use core_drive::CoreDrive;
 pub use drive::{Drive, FailLine};
+pub use no_memory::NoMemory;
 pub use volumes::Volumes;
-
-/// There is no memory for a drive or for volumes. (Source: own.)
-#[derive(Clone, Copy, Debug, PartialEq, Eq)]
-pub struct NoMemory;
-
-impl From<record_map::NoMemory> for NoMemory {
-    fn from(_: record_map::NoMemory) -> Self {
-        NoMemory
-    }
-}
-
-impl From<vtoc::NoMemory> for NoMemory {
-    fn from(_: vtoc::NoMemory) -> Self {
-        NoMemory
-    }
-}
 
 /// What a volume is made of: its drive, and how many entries its VTOC has. (Source: own.)
 #[derive(Debug, Drop)]

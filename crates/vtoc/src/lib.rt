@@ -20,24 +20,9 @@ ghost use Rattle.vtoc.specs.Slots.{free_slot};
 
 use bitmap::Bitmap;
 use file_map::FileMap;
-use std::alloc::{AllocError, Global};
+pub use no_memory::NoMemory;
+use std::alloc::Global;
 use std::marker::Model;
-
-/// There is no memory for a table. (Source: own.)
-#[derive(Clone, Copy, Debug, PartialEq, Eq)]
-pub struct NoMemory;
-
-impl From<AllocError> for NoMemory {
-    fn from(_: AllocError) -> Self {
-        NoMemory
-    }
-}
-
-impl From<bitmap::NoMemory> for NoMemory {
-    fn from(_: bitmap::NoMemory) -> Self {
-        NoMemory
-    }
-}
 
 /// The place of one entry. It is free where it has no uid, and its map is empty then.
 #[derive(Debug, Drop)]

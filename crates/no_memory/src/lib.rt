@@ -1,0 +1,14 @@
+//! Want of memory, the one answer that all crates have in common.
+#![tactic(auto)]
+
+use std::alloc::AllocError;
+
+/// There was no memory for a call that takes some. It comes only from the allocator. (Source: own.)
+#[derive(Clone, Copy, Debug, PartialEq, Eq)]
+pub struct NoMemory;
+
+impl From<AllocError> for NoMemory {
+    fn from(_: AllocError) -> Self {
+        NoMemory
+    }
+}
