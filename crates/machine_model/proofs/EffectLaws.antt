@@ -2,7 +2,9 @@
 use Rattle.std.proofs.Common.{ℕ, Bool, true, false, ◌%◌, ◌/◌, cond, eqb, List, [], ◌∷◌, Option, Some, None}
 use Rattle.script.specs.declared.commands.Command.{Command}
 use Rattle.script.specs.declared.commands.Command.TheVariants as command
+use Rattle.book.specs.declared.entries.Entry.{Entry}
 use Rattle.book.specs.declared.entries.Entry.TheVariants as entry
+use Rattle.assoc_mem.specs.declared.What.{What}
 use Rattle.tree_model.specs.Access.{Row}
 use Rattle.tree_model.specs.Tree.{Node}
 use Rattle.accounts.specs.Maps.{AccountMaps}
@@ -13,21 +15,19 @@ use Rattle.page_table.specs.declared.Ptw.TheVariants as ptw
 use Rattle.page_control.specs.Effects.{cut}
 use Rattle.page_control.specs.Plain.{frame_in, words_in}
 use Rattle.seg_control.specs.Control.{Links, word_of}
+use Rattle.seg_control.specs.Effects.{cut_one as descriptor_cut}
+use Rattle.machine_model.specs.declared.Aim.{Aim}
 use Rattle.machine_model.specs.Commits.{frame_entry, pages_past, stays, with_branch, with_cut, with_cut_in}
-use Rattle.machine_model.specs.Commits.{with_deleted, with_effect}
-use Rattle.machine_model.specs.Commits.{with_made, with_truncated, without_page, without_pages}
+use Rattle.machine_model.specs.Commits.{with_deleted, with_effect, with_made, with_truncated, without_page}
+use Rattle.machine_model.specs.Commits.{without_pages}
 use Rattle.machine_model.specs.Jobs.{are_zeros, cut_all, cut_one, here_if, leaving_if, take_all, take_one, took}
 use Rattle.machine_model.specs.Jobs.{with_here}
 use Rattle.machine_model.specs.State.{State, Storage}
 use Rattle.machine_model.specs.Steps.{with_pages, with_word}
-use Rattle.book.specs.declared.entries.Entry.{Entry}
-use Rattle.machine_model.specs.declared.Aim.{Aim}
-use Rattle.assoc_mem.specs.declared.What.{What}
-use Rattle.seg_control.specs.Effects.{cut_one as descriptor_cut}
 
 -- ---- a segment is cut off
 
--- A store has it still without a page, with the words of a frame cut, and with a page that is here again.
+-- A property that a store keeps without a page, with the words of a frame cut, and with a page that is here again.
 pub record SurvivesCuts (P : Storage → Type 0) : Type 0 where
   pub without : (st : Storage) (u p : ℕ) (w : Ptw) → P st → P (without_page st u p w)
   pub shortened : (st : Storage) (f at : ℕ) → P st → P (with_pages st (cut st.pages f at))
@@ -79,8 +79,8 @@ frame_entry_has P st (command.Truncate path words) f back gone = by (stays st wo
     by false = gone
 frame_entry_has P st _ f back gone = gone
 
--- A store has it after any command that has it with other accounts and numbers, with a branch more, with a segment cut
--- off, and with one deleted.
+-- Any command keeps a property of the store that other accounts and numbers keep, a branch more, a segment cut off and
+-- one deleted.
 pub effect_has : (P : Storage → Type 0) (st : Storage) (k u : ℕ) (frames : List ℕ) (c : Command)
     → ((accounts : AccountMaps) (links : Links) → P (record st { accounts = accounts; links = links }))
     → ((n : Node) → P (with_branch st n)) → ((words : ℕ) → P (with_truncated st u words))
@@ -101,7 +101,7 @@ effect_has P st k u frames c changes grows cuts goes = by c
 
 -- ---- a job takes pages, and then descriptors
 
--- A store has it still where a page is on its way out, and where a descriptor is cut.
+-- a property that a store keeps where a page is on its way out, and where a descriptor is cut
 module _ (P : Storage → Type 0) (leaves : (st : Storage) (f u p : ℕ) → P st → P (with_word st u p (ptw.Leaving f)))
     (cuts : (st : Storage) (k n : ℕ) → P st → P (record st { links = descriptor_cut st.links k n }))
     (c : ℕ) (a : Aim) (w : What) where
