@@ -1,6 +1,6 @@
 -- What the tree and its cells show, said of the nodes with their quotas.
 use Rattle.std.proofs.Common.{◌≡◌, ◌≢◌, ◌≤◌, ℕ, true, false, cond, eqb, not, List, [], ◌∷◌, map, Option, Some, None}
-use Rattle.std.proofs.Common.{Result, Ok, Err, refl, sym, ap, subst}
+use Rattle.std.proofs.Common.{Result, Ok, Err, refl, sym, ap, subst, get_or}
 use Rattle.std.proofs.Common.{◌∙◌, arith, inl, inr, is_some, if◌then◌else◌, ◌<◌}
 use Rattle.std.specs.Prelude.{IfSome, IfNone, IfOk, OnOk, OnErr}
 use Rattle.std.proofs.lemmas.Bool.{cases_Bool, cases_eq, eq-eqb, ne_eqb}
@@ -18,6 +18,7 @@ use Rattle.quota_cells.specs.Accounts.{look, has, is_an_account}
 use Rattle.quota_cells.specs.Cells.{CellMaps, IsTable, quota_in, stored_in, used_in, AreWithin, Fits, Enters, Leaves}
 use Rattle.dir_tree.specs.Laws.{directory_shown as kind_of_directory, segment_shown as kind_of_segment, uid_shown}
 use Rattle.dir_tree.specs.Laws.{segment_in, not_in_directory}
+use Rattle.dir_tree.specs.Index.{no_node}
 use Rattle.quota_cells.specs.Laws.{look_absent, on_directories, on_segments}
 use Rattle.accounts.specs.Maps.{AccountMaps, HasColumns, accounts_of, entry_of, branch_of, Recounts, Changes, Gains}
 use Rattle.accounts.specs.Maps.{Loses, Rehomes, rows_in}
@@ -199,20 +200,6 @@ pub unless_ok : {E A : Type 0} (o : Option E) (x y : A) → Ok x ≡ unless o y 
 unless_ok None x y e = cc
 unless_ok (Some f) x y e = cc
 
--- the node of a new branch
-abbrev pub node_for : ℕ → ℕ → NewNode → Node
-node_for uid s n = record {
-  uid = uid;
-  superior = Some s;
-  name = n.name;
-  dir = n.dir;
-  volume = n.volume;
-  entry =
-      n.entry;
-  length = n.length;
-  acl = n.acl;
-}
-
 pub enters_fit : (old new : Branches) (s : ℕ) (n : NewNode) (uid : ℕ) (before after : CellMaps) → new ≡ added old s n
     → uid ≡ old.next
     → is_in old.nodes old.next ≡ false → HasChains (shapes old.nodes) → Fits old.nodes before
@@ -221,7 +208,8 @@ pub enters_fit : (old new : Branches) (s : ℕ) (n : NewNode) (uid : ℕ) (befor
     → Fits (m ∷ nodes) after) → Fits new.nodes after
 enters_fit old new s n uid before after is next fresh chains fits enters =
     subst (λ (t : Branches). Fits t.nodes after) (sym is)
-    (enters old.nodes (node_for old.next s n) (sym next) refl (subst (λ u. is_in old.nodes u ≡ false) (sym next) fresh)
+    (enters old.nodes (get_or (added old s n).nodes 0 no_node) (sym next) refl
+    (subst (λ u. is_in old.nodes u ≡ false) (sym next) fresh)
     chains fits)
 
 pub gained : (old new : Branches) (s : ℕ) (n : NewNode) (uid : ℕ) (before after : CellMaps) → new ≡ added old s n → uid
@@ -236,7 +224,7 @@ gained old new s n uid before after is next fresh fits enters =
     record {
       nodes =
           ap (λ (t : Branches). with_quotas (quota_in after) t.nodes) is
-          ∙ ap (λ (q : ℕ → ℕ). with_quotas q (node_for old.next s n ∷ old.nodes)) same
+          ∙ ap (λ (q : ℕ → ℕ). with_quotas q (added old s n).nodes) same
           ∙ ap (λ (v : ℕ). record (branch_of old.next s n) { quota = v } ∷ with_quotas (quota_in before) old.nodes)
           none;
       entries = ap (λ (t : Branches). map (λ m. m.entry) t.nodes) is;

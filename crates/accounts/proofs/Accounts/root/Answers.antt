@@ -1,4 +1,4 @@
-use Rattle.std.proofs.Common.{◌≡◌, ◌≤◌, ℕ, List, ap, subst}
+use Rattle.std.proofs.Common.{◌≤◌, ℕ, List, ap, subst}
 use Rattle.tree_model.specs.Tree.{used_by, quota_in as quota_at}
 use Rattle.quota_cells.specs.Cells.{quota_in}
 use Rattle.quota_cells.proofs.ScratchLaws.{used_same}
