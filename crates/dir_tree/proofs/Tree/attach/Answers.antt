@@ -1,10 +1,11 @@
 use Rattle.std.proofs.Common.{◌≡◌, ◌+◌, ◌<◌, ℕ, List, [], ◌∷◌, ◌++◌, Bool, length, true, None, Some, refl, sym, ap}
-use Rattle.std.proofs.Common.{subst, ◌∙◌, arith}
+use Rattle.std.proofs.Common.{subst, ◌∙◌, arith, get_or}
 use Rattle.std.proofs.lemmas.List.{length-map}
 use Rattle.dir_tree.specs.declared.node.Node.{Node}
 use Rattle.dir_tree.specs.declared.node.NewNode.{NewNode}
 use Rattle.dir_tree.specs.declared.entries.Entry.{Entry}
-use Rattle.dir_tree.specs.Nodes.{Branches, is_directory, add_fault_of}
+use Rattle.dir_tree.specs.Nodes.{Branches, is_directory, add_fault_of, added as tree_added}
+use Rattle.dir_tree.specs.Index.{no_node}
 use Rattle.dir_tree.specs.Shape.{shape, shapes}
 use Rattle.dir_tree.specs.Kept.{newest, recounted, IsCounted, IsKept}
 use Rattle.dir_tree.proofs.AddedLemmas.{place_unused, place_room, sorted_still, within_still, new_within, new_key}
@@ -14,18 +15,9 @@ use Rattle.dir_tree.proofs.KeptLemmas.{no_fault}
 use Rattle.dir_tree.proofs.NewestLemmas.{length_newest}
 use Rattle.dir_tree.proofs.Tree.attach.Goals as goal
 
+-- the node of a new branch, which the tree with it has first
 abbrev new_node : ℕ → ℕ → NewNode → Node
-new_node next superior new = record {
-  uid = next;
-  superior = Some superior;
-  name = new.name;
-  dir = new.dir;
-  volume = new.volume;
-  entry = new.entry;
-  length =
-      new.length;
-  acl = new.acl;
-}
+new_node next superior new = get_or (tree_added (record { nodes = []; next = next }) superior new).nodes 0 no_node
 
 abbrev new_entry : ℕ → ℕ → ℕ → Entry
 new_entry next superior place = record { uid = next; superior = Some superior; place = place; inferiors = 0 }
