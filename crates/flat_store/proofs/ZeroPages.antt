@@ -105,3 +105,6 @@ zero_page_told p s h now r same holds_now told = (λ is. up (told.0 is), λ h. t
         each : (x : Option (List ℕ)) → page_at h.pages u q ≡ x → IsSomeAnd x AreZero
         each None e = let clash : true ≡ false = sym may.there ∙ holds.pages.there u q ∙ ap is_some e in cc
         each (Some ws) e = zero_there h.pages s u q ws holds.pages e may.zeros
+
+-- what the proof of `has_zero_page` is given
+pub ruleset has_zero_page_steps = (all_to_come, passed_over, none_left)

@@ -56,7 +56,7 @@ impl Pages {
 
     /// Whether a page is all zeros. It looks at each page up to the first such one, and there up to the first word that
     /// isn't 0.
-    #[tactic(auto, using(crate::proofs::ZeroPages::all_to_come, crate::proofs::ZeroPages::passed_over, crate::proofs::ZeroPages::none_left, std::proofs::lemmas::Grind::common_steps))]
+    #[tactic(auto, using(crate::proofs::ZeroPages::has_zero_page_steps, std::proofs::lemmas::Grind::common_steps))]
     pub(crate) fn has_zero_page(&self) -> bool
         ensures { Decides result (KeepsZeroPage self.now) }
     {

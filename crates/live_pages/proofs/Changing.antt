@@ -295,7 +295,8 @@ module _ (frames cpus : ℕ) (words : List ℕ) (w : Watch) (f : ℕ) (inside : 
 
     pub current_up : (g : ℕ) → current w g ≤ current (admitted f w) g
     current_up g = dite (ℕ_discrete g f) (λ (same : g ≡ f).
-        subst (λ j. current w j ≤ current (admitted f w) j) (sym same) (subst (λ j. current w f ≤ j) (sym current_next) (omega arith))) (λ (other : g ≢ f).
+        subst (λ j. current w j ≤ current (admitted f w) j) (sym same)
+        (subst (λ j. current w f ≤ j) (sym current_next) (omega arith))) (λ (other : g ≢ f).
         subst (λ j. current w g ≤ j) (sym (current_else g other)) (omega arith))
 
     pub last_next : (b : Bound) (bs : List Bound) → b.frame ≡ f → ((g : ℕ) → current w g ≡ ended_of g bs) → (g : ℕ)

@@ -29,7 +29,8 @@ use Rattle.runner.specs.Drives.{AreTold, IsFresh, TellsFaults, faults_in, is_on,
 
 -- what holds of each of a list, and of one more behind them
 pub each_more : {A : Type 0} (P : ℕ → A → Type 0) (xs : List A) (x : A)
-    → ((i : ℕ) (y : A) → slice_get xs i ≡ Some y → P i y) → P (length xs) x → (i : ℕ) (y : A) → slice_get (xs ++ x ∷ []) i ≡ Some y → P i y
+    → ((i : ℕ) (y : A) → slice_get xs i ≡ Some y → P i y) → P (length xs) x
+    → (i : ℕ) (y : A) → slice_get (xs ++ x ∷ []) i ≡ Some y → P i y
 each_more P xs x each last i y at = here (cases_eq i (length xs))
   where
     here : (i ≡ length xs) ⊎ (i ≢ length xs) → P i y

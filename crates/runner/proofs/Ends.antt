@@ -32,7 +32,8 @@ writes_nothing a = Keeps-refl a
 
 -- a call ended so, without a machine
 pub ends_without : (asked : Option Form) (src out : Change) (f : Finished) (s : Status) → f.status ≡ s
-    → f.machine ≡ None → EndsSo s asked src out None → ConsumesFront src.before src.after (limit_of asked + 1) → Ends asked src out f
+    → f.machine ≡ None → EndsSo s asked src out None
+    → ConsumesFront src.before src.after (limit_of asked + 1) → Ends asked src out f
 ends_without asked src out f s is without so reads = record {
   so = subst (λ (x : Status). EndsSo x asked src out f.machine) (sym is)
       (subst (λ (b : Option Machine). EndsSo s asked src out b) (sym without) so);

@@ -29,7 +29,8 @@ returns-clause-bound c = λ f named.
     let at = ap (λ (a : ActiveSegs). uid_at a.entries place) (sym c.ast-ast.ensures.ast)
     ∙ (c.search.ensures.only place).0 c.in-Some.is in
     let table = subst (λ (q : Paging DriveState). IsTableOf (bindings q.core) c.args.uid
-    (table_at now.ast.tables place)) (sym c.pages.ensures.pages) (c.ast-ast.ensures.kept.paged.tables place c.args.uid at) in
+    (table_at now.ast.tables place)) (sym c.pages.ensures.pages)
+    (c.ast-ast.ensures.kept.paged.tables place c.args.uid at) in
     let word = c.word_in.ensures ∙ ap (λ (t : List Ptw). ptw_at t c.args.page) (c.table-table.ensures.words
     ∙ ap (λ (a : ActiveSegs). table_at a.tables place) c.ast-ast.ensures.ast) in
     subst (λ (q : Paging DriveState). IsBoundTo (frame_at q.core f) c.args.uid c.args.page)
