@@ -21,7 +21,7 @@ use Rattle.machine_model.specs.After.{no_call}
 use Rattle.machine_model.specs.Custodial.{AreDistinct, AreHeldPages, names}
 use Rattle.machine_model.specs.Steps.{held_page}
 use Rattle.script.specs.declared.commands.Reference.{Reference}
-use Rattle.machine_model.specs.Reads.{cpu_at, descriptor_of, processor_at, run_at}
+use Rattle.machine_model.specs.Reads.{cpu_at, descriptor_of, next_command, processor_at, run_at}
 use Rattle.machine_model.specs.Seen.{shown}
 use Rattle.machine_model.proofs.SpeakLaws.{speaks}
 use Rattle.machine.proofs.CountedLaws.{counted_after}
@@ -38,6 +38,7 @@ use Rattle.machine_model.proofs.RulesKept.{action_can}
 use Rattle.machine_model.proofs.StepKept.{CanDo, CanFill, to_hold}
 use Rattle.machine_tables.specs.Parts.{Parts}
 use Rattle.machine.specs.Promise.{IsSound}
+use Rattle.machine.specs.Turns.{MayAnswer}
 
 -- ---- ready processes
 
@@ -306,3 +307,13 @@ module _ {D : Type 0} (t : Parts D) (c : ℕ) (sound : IsSound t) (k : ℕ)
       let mine = speaks w c k sound.keeps.machine there its in
       place_fits w.plan k (run_at w.runs k).place sound.keeps.machine.script
       (place_within w.plan k (run_at w.runs k).place mine.0 mine.1.next)
+
+  -- It may be answered, if its processor has not answered too many.
+  pub may_answer : c < length w.processors → (processor_at w.processors c).count + 1 < 2 ^ 64 → MayAnswer t c k
+  may_answer there count = record {
+    process = its;
+    run = run_there t c sound k its;
+    place = place_room there;
+    count = count;
+    ready = released_room (next_command w k);
+  }

@@ -8,38 +8,19 @@ use Rattle.machine_model.specs.Jobs.{write_failed}
 use Rattle.machine_model.specs.Reads.{cut_of_owner, frames_of_owner, process_at}
 use Rattle.machine_model.specs.State.{State, Storage}
 use Rattle.machine_model.specs.Steps.{fault_told}
-use Rattle.machine.proofs.Stays.{ShowsAs, then_as}
-use Rattle.machine.proofs.TakingStays.{same_as}
+use Rattle.machine.proofs.Stays.{ShowsAs, same_as, tables_as, then_as}
 
 -- a page that is here again
 here_by : (st : Storage) (f : ℕ) (x : Option (ℕ × ℕ)) → ShowsAs st (here_if st f x)
 here_by st f None = same_as st
-here_by st f (Some page) = record {
-  accounts = refl;
-  known = refl;
-  whos = refl;
-  records = refl;
-  vtocs = refl;
-  words = λ u q h. refl;
-  places = refl;
-  sizes = refl;
-}
+here_by st f (Some page) = tables_as st (here_if st f (Some page)).ast st.links refl refl refl
 
 here_as : (st : Storage) (f : ℕ) → ShowsAs st (with_here st f)
 here_as st f = here_by st f (bound_page (frame_in st.pages f))
 
 -- a descriptor that leads to its segment again
 relink_as : (st : Storage) (d : CutDescriptor) → ShowsAs st (with_relink st d)
-relink_as st d = record {
-  accounts = refl;
-  known = refl;
-  whos = refl;
-  records = refl;
-  vtocs = refl;
-  words = λ u q h. refl;
-  places = refl;
-  sizes = refl;
-}
+relink_as st d = tables_as st st.ast (with_relink st d).links refl refl refl
 
 pages_back_as : (s : State) (fs : List ℕ) → ShowsAs s.store (pages_back s fs).store
 pages_back_as s [] = same_as s.store

@@ -17,47 +17,11 @@ use Rattle.machine_model.proofs.RuleKept.{process_here}
 use Rattle.machine_model.proofs.StepAsks.{reads_for}
 use Rattle.machine_tables.specs.Parts.{Parts}
 use Rattle.machine.specs.Promise.{IsSound}
-use Rattle.machine.specs.Turns.{IsBusy}
+use Rattle.machine.specs.Turns.{IsBusy, is_of_process}
 
 -- what its action tells of a processor
 abbrev pub Busy : State → ℕ → act.Action → Type 0
-Busy s c act.IsStopped = Unit {0}
-Busy s c act.HasEnded = Unit {0}
-Busy s c (act.Waits why) = Unit {0}
-Busy s c act.Online = Unit {0}
-Busy s c (act.Clear w) = Unit {0}
-Busy s c (act.Load n) = Unit {0}
-Busy s c _ = IsBusy s c
-
-busy_any : (s : State) (c : ℕ) (a : act.Action) → IsBusy s c → Busy s c a
-busy_any s c act.IsStopped h = tt
-busy_any s c act.HasEnded h = tt
-busy_any s c (act.Waits why) h = tt
-busy_any s c act.Online h = tt
-busy_any s c (act.Clear w) h = tt
-busy_any s c (act.EndTransfer t) h = h
-busy_any s c (act.Load n) h = tt
-busy_any s c act.Leave h = h
-busy_any s c (act.FillSeg n) h = h
-busy_any s c (act.FillPage f r) h = h
-busy_any s c (act.Through f r) h = h
-busy_any s c (act.Plain r) h = h
-busy_any s c act.TakeSupervisor h = h
-busy_any s c (act.Answer r) h = h
-busy_any s c act.GiveUp h = h
-busy_any s c (act.Activate u place) h = h
-busy_any s c (act.Connect n u) h = h
-busy_any s c (act.Create f u q r) h = h
-busy_any s c (act.Start f u q) h = h
-busy_any s c (act.Evict f) h = h
-busy_any s c (act.Empty u) h = h
-busy_any s c (act.EmptyVictim pool chain u) h = h
-busy_any s c (act.TakeAway fs pairs w) h = h
-busy_any s c (act.Signal w) h = h
-busy_any s c (act.FinishEviction f) h = h
-busy_any s c (act.FinishPage f) h = h
-busy_any s c (act.Deactivate u) h = h
-busy_any s c act.Commit h = h
+Busy s c a = is_of_process a ≡ true → IsBusy s c
 
 pick : (s : State) (c : ℕ) (b : Bool) (x y : act.Action) → (b ≡ true → Busy s c x) → (b ≡ false → Busy s c y)
     → Busy s c (cond b x y)
@@ -68,20 +32,22 @@ module _ (s : State) (c : ℕ) (k : Keeps s) (reading : IsReading s) (there : c 
   abbrev p : Processor
   p = processor_at s.processors c
 
+  none : false ≡ true → IsBusy s c
+  none h = absurd (let no : false ≡ true = h in cc)
+
   run_busy : (x : Option ℕ) → p.cpu.process ≡ x → Busy s c (run_process s p x)
   run_busy None e = by s.ready
     where
       by : (xs : List ℕ) → Busy s c (load_or_idle s xs)
-      by [] = tt
-      by (n ∷ ns) = tt
-  run_busy (Some n) e = busy_any s c (run_process s p (Some n))
-      (e ∙ ap (λ (y : Option ℕ). Some (or_zero y)) (sym e))
+      by [] = none
+      by (n ∷ ns) = none
+  run_busy (Some n) e = λ h. e ∙ ap (λ (y : Option ℕ). Some (or_zero y)) (sym e)
 
   owner_busy : (x : Option Owner) → s.owner ≡ x → Busy s c (own_or_run s c p x)
   owner_busy None e = run_busy p.cpu.process refl
   owner_busy (Some q) e = pick s c (eqb q.cpu c) (go_on_with s (process_at s c) q q.phase)
-      (run_process s p p.cpu.process) (λ h. busy_any s c (go_on_with s (process_at s c) q q.phase)
-      (process_here s c (no_call s) k there (record { owner = q; mine = e; same = is h })))
+      (run_process s p p.cpu.process)
+      (λ h g. process_here s c (no_call s) k there (record { owner = q; mine = e; same = is h }))
       (λ h. run_busy p.cpu.process refl)
     where
       is : eqb q.cpu c ≡ true → q.cpu ≡ c
@@ -91,18 +57,18 @@ module _ (s : State) (c : ℕ) (k : Keeps s) (reading : IsReading s) (there : c 
       ]
 
   transfer_busy : (x : Option Transfer) → p.cpu.transfer ≡ x → Busy s c (transfer_or s c p x)
-  transfer_busy (Some t) e = (reads_for s c t k reading e).its
+  transfer_busy (Some t) e = λ h. (reads_for s c t k reading e).its
   transfer_busy None e = owner_busy s.owner refl
 
   clear_busy : (x : Option What) → Busy s c (clear_or s c p x)
-  clear_busy (Some w) = tt
+  clear_busy (Some w) = none
   clear_busy None = transfer_busy p.cpu.transfer refl
 
   step_busy : Busy s c (action_of s c)
   unfolding action_of
-  step_busy = pick s c s.stopped act.IsStopped _ (λ h. tt)
-      (λ h. pick s c (is_over s) act.HasEnded _ (λ e. tt)
-      (λ e. pick s c (not p.cpu.online) act.Online _ (λ off. tt)
+  step_busy = pick s c s.stopped act.IsStopped _ (λ h. none)
+      (λ h. pick s c (is_over s) act.HasEnded _ (λ e. none)
+      (λ e. pick s c (not p.cpu.online) act.Online _ (λ off. none)
       (λ on. clear_busy p.cpu.due)))
 
   -- the same by the action's name
@@ -111,5 +77,5 @@ module _ (s : State) (c : ℕ) (k : Keeps s) (reading : IsReading s) (there : c 
 
 -- the same of a machine that keeps its promise
 pub busy_for : {D : Type 0} (t : Parts D) (c : ℕ) → IsSound t → c < length t.state.processors → (a : act.Action)
-    → action_of t.state c ≡ a → Busy t.state c a
+    → action_of t.state c ≡ a → is_of_process a ≡ true → IsBusy t.state c
 busy_for t c sound there a doing = busy_of t.state c sound.keeps.machine.keeps sound.keeps.reading there a doing

@@ -20,82 +20,13 @@ use Rattle.machine_model.specs.Reads.{cpu_at, is_active}
 use Rattle.machine_model.specs.Seen.{shown}
 use Rattle.machine_model.specs.State.{State}
 use Rattle.machine_model.proofs.ActiveSeen.{active_place}
+use Rattle.machine_model.proofs.MoveAsks.{descriptor_active, entitled_all, leads_all, seg_found}
 use Rattle.machine_model.proofs.PageShown.{active_there}
 use Rattle.machine_model.proofs.TieLaws.{none_some}
 use Rattle.machine_tables.specs.Held.{AreLong, MayChoose}
 use Rattle.machine_tables.specs.Parts.{Parts}
 use Rattle.machine.specs.Promise.{IsSound}
 use Rattle.machine.proofs.AloneLaws.{process_known, run_there}
-use Rattle.descriptor_seg.specs.declared.Sdw.{Sdw}
-use Rattle.descriptor_seg.specs.declared.Sdw.TheVariants as sdw
-use Rattle.custody_model.specs.declared.DescriptorUse.{DescriptorUse}
-use Rattle.machine_model.specs.Entitled.{AreEntitled}
-use Rattle.machine_model.specs.Holding.{led_to}
-use Rattle.machine_model.specs.Keeps.{AreThere}
-use Rattle.machine_model.specs.Reads.{cut_of_owner, descriptor_of}
-use Rattle.machine_model.specs.Seen.{cut_uid, cut_use, descriptor_use, is_cut_at}
-use Rattle.machine_model.specs.State.{Storage}
-use Rattle.machine_model.specs.declared.CutDescriptor.{CutDescriptor}
-use Rattle.machine_model.proofs.TransferKept.{active_at}
-use Rattle.std.proofs.Common.{◌∷◌, Bool, cond}
-
--- each of some entries has a property
-abbrev AllSegs : (HeldSeg → Type 0) → List HeldSeg → Type 0
-AllSegs P [] = Unit {0}
-AllSegs P (e ∷ es) = P e × AllSegs P es
-
--- a descriptor that is found is one of those held
-seg_found : (P : HeldSeg → Type 0) (es : List HeldSeg) (n : ℕ) (e : HeldSeg) → find (is_number n) es ≡ Some e
-    → AllSegs P es → P e
-seg_found P [] n e h all = absurd (none_some h)
-seg_found P (x ∷ xs) n e h all = by (is_number n x) h (λ i. seg_found P xs n e i all.1)
-  where
-    by : (b : Bool) → cond b (Some x) (find (is_number n) xs) ≡ Some e → (find (is_number n) xs ≡ Some e → P e) → P e
-    by true i rest = let same : x ≡ e = cc in subst P same all.0
-    by false i rest = rest i
-
-entitled_all : (s : State) (k : ℕ) (es : List HeldSeg)
-    → AreEntitled s.store.accounts.nodes s.store.whos s.store.links.known k es
-    → AllSegs (IsEntitled s.store.accounts.nodes s.store.whos s.store.links.known k) es
-entitled_all s k [] h = tt
-entitled_all s k (e ∷ es) h = (h.0, entitled_all s k es h.1)
-
-leads_all : (d : ℕ → ℕ → DescriptorUse) (k : ℕ) (es : List HeldSeg) → AreHeldSegs d k es
-    → AllSegs (λ e. leads_to (d k e.number) ≡ Some e.uid) es
-leads_all d k [] h = tt
-leads_all d k (e ∷ es) h = (h.0, leads_all d k es h.1)
-
--- what was cut is active still
-cut_active : (st : Storage) (ds : List CutDescriptor) (k n u : ℕ) → AreThere st ds → cut_uid ds k n ≡ Some u
-    → is_active st.ast u ≡ true
-cut_active st [] k n u h e = absurd (none_some e)
-cut_active st (d ∷ ds) k n u h e = by (is_cut_at k n d) e (cut_active st ds k n u h.1)
-  where
-    by : (b : Bool) → cond b (Some d.uid) (cut_uid ds k n) ≡ Some u
-        → (cut_uid ds k n ≡ Some u → is_active st.ast u ≡ true) → is_active st.ast u ≡ true
-    by true i rest = let same : d.uid ≡ u = cc in subst (λ (v : ℕ). is_active st.ast v ≡ true) same h.0.2
-    by false i rest = rest i
-
--- what a descriptor leads to, or led to until it was cut, is active
-descriptor_active : (s : State) (k n u : ℕ) → Keeps s → leads_to ((shown (seen s)).descriptor k n) ≡ Some u
-    → is_active s.store.ast u ≡ true
-descriptor_active s k n u keeps h = by (descriptor_of s.store.links k n) refl h
-  where
-    cut_one : (x : Option ℕ) → cut_uid (cut_of_owner s.owner) k n ≡ x → leads_to (cut_use x) ≡ Some u
-        → is_active s.store.ast u ≡ true
-    cut_one None e i = absurd (none_some i)
-    cut_one (Some v) e i = cut_active s.store (cut_of_owner s.owner) k n u keeps.cut (e ∙ i)
-
-    led : (x : Option ℕ) (aste : ℕ) → uid_at s.store.ast.entries aste ≡ x
-        → leads_to (descriptor_use x (cut_uid (cut_of_owner s.owner) k n)) ≡ Some u → is_active s.store.ast u ≡ true
-    led None aste e i = cut_one (cut_uid (cut_of_owner s.owner) k n) refl i
-    led (Some v) aste e i = active_at s.store.ast aste u (e ∙ i)
-
-    by : (x : Sdw) → descriptor_of s.store.links k n ≡ x
-        → leads_to (descriptor_use (led_to s.store.ast.entries x) (cut_uid (cut_of_owner s.owner) k n)) ≡ Some u
-        → is_active s.store.ast u ≡ true
-    by sdw.Fault e i = cut_one (cut_uid (cut_of_owner s.owner) k n) refl i
-    by (sdw.Present aste m pages) e i = led (uid_at s.store.ast.entries aste) aste refl i
 
 module _ {D : Type 0} (t : Parts D) (c : ℕ) (sound : IsSound t) (there : c < length t.state.processors) where
   abbrev s : State

@@ -1,18 +1,20 @@
 -- What the call asks that has a tree command take effect, and that the machine keeps its promise through it.
-use Rattle.std.proofs.Common.{◌≡◌, ◌<◌, ◌≤◌, ◌+◌, ◌^◌, ℕ, true, length, map, List, Some, sym, ap, subst, ◌∙◌, arith}
+use Rattle.std.proofs.Common.{◌≡◌, ◌<◌, ◌≤◌, ◌+◌, ◌^◌, ℕ, true, length, map, sum, List, Some, refl, sym, ap, subst, ◌∙◌}
+use Rattle.std.proofs.Common.{arith}
 use Rattle.script.specs.Forms.{is_command}
 use Rattle.script.specs.declared.commands.Command.{Command}
 use Rattle.flat_model.specs.Store.{Store}
 use Rattle.volumes.specs.Volumes.{HasParts}
 use Rattle.machine_model.specs.Actions as act
 use Rattle.machine_model.specs.Actions.{action_of}
-use Rattle.machine_model.specs.After.{after, no_call}
+use Rattle.machine_model.specs.After.{Outcome, after, no_call}
 use Rattle.machine_model.specs.Commits.{committed_at}
 use Rattle.machine_model.specs.Keeps.{IsFaithful, Keeps}
 use Rattle.machine_model.specs.Reads.{cpu_at, next_command, or_zero, process_at, processor_at, run_at}
 use Rattle.machine_model.specs.Said.{with_command}
 use Rattle.machine_model.specs.State.{State}
 use Rattle.machine_model.proofs.CommitReady.{IsCommitting, committing}
+use Rattle.machine_model.proofs.PoolsKept.{pools_kept}
 use Rattle.machine_model.proofs.StepKnows.{Knows, step_knows}
 use Rattle.machine_model.proofs.UidsFew.{few_uids}
 use Rattle.machine_tables.specs.Parts.{Parts, with_state}
@@ -24,9 +26,15 @@ use Rattle.machine.specs.Promise.{IsSound}
 use Rattle.machine.specs.Turns.{IsBusy}
 use Rattle.machine.proofs.AloneLaws.{leaving_room, place_room, process_known, run_there}
 use Rattle.machine.proofs.Busy.{busy_for}
-use Rattle.machine.proofs.Changed.{IsStoreOf, changed_sound}
-use Rattle.machine.proofs.CommitStays.{commit_places}
+use Rattle.machine.proofs.Changed.{HasPlaces, IsStoreOf, changed_sound}
+use Rattle.machine.proofs.CommitStays.{commit_counts}
 use Rattle.machine.proofs.OwnerCalls.{owned}
+
+-- There are as many places as the pools have, still.
+pub commit_places : (s : State) (c : ℕ) (o : Outcome) → HasPlaces s.store → HasPlaces (after s c act.Commit o).store
+unfolding after
+commit_places s c o h = ap (λ (n : ℕ × ℕ). n.0) (commit_counts s c (next_command s (process_at s c)))
+    ∙ (h ∙ ap (λ (xs : List ℕ). sum xs) (sym (pools_kept s c act.Commit o).sizes))
 
 module _ {D : Type 0} (t : Parts D) (c : ℕ) (sound : IsSound t) (there : c < length t.state.processors)
     (doing : action_of t.state c ≡ act.Commit) where
@@ -50,7 +58,7 @@ module _ {D : Type 0} (t : Parts D) (c : ℕ) (sound : IsSound t) (there : c < l
   stands = committing s c sound.keeps there doing x knows.speaks.next
 
   its_process : IsBusy s c
-  its_process = busy_for t c sound there act.Commit doing
+  its_process = busy_for t c sound there act.Commit doing refl
 
   -- the command is one of the script, and is in its ranges by the drives that there are
   ranges : (pages : D → List (List ℕ)) → HasParts (map pages t.drives) s.store.pages.records s.store.pages.vtocs
@@ -76,7 +84,7 @@ module _ {D : Type 0} (t : Parts D) (c : ℕ) (sound : IsSound t) (there : c < l
   }
 
   commits : (pages : D → List (List ℕ)) → HasParts (map pages t.drives) s.store.pages.records s.store.pages.vtocs
-      → (processor_at s.processors c).count + 1 < 2 ^ 64 → 291 ≤ s.spare → MayCommit t c k x
+      → (processor_at s.processors c).count + 1 < 2 ^ 64 → 320 ≤ s.spare → MayCommit t c k x
   commits pages parts count room = record {
     applies = applies pages parts;
     processor = there;
@@ -92,7 +100,7 @@ module _ {D : Type 0} (t : Parts D) (c : ℕ) (sound : IsSound t) (there : c < l
   pub may_commit : (pages : D → List (List ℕ))
       → HasParts (map pages t.drives) s.store.pages.records s.store.pages.vtocs
       → (j : ℕ) → (cpu_at s.processors c).process ≡ Some j
-      → (processor_at s.processors c).count + 1 < 2 ^ 64 → 291 ≤ s.spare → (x : Command) × MayCommit t c j x
+      → (processor_at s.processors c).count + 1 < 2 ^ 64 → 320 ≤ s.spare → (x : Command) × MayCommit t c j x
   may_commit pages parts j its count room = (
     x,
     subst (λ (i : ℕ). MayCommit t c i x) (ap or_zero its) (commits pages parts count room),

@@ -1,44 +1,35 @@
 -- There are as many drives after each action, and after a visit of the shutdown, as before.
-use Rattle.std.proofs.Common.{◌≡◌, ◌%◌, ◌/◌, ℕ, Bool, true, false, cond, eqb, length, List, [], ◌∷◌, Option, Some, None}
-use Rattle.std.proofs.Common.{get_or, refl, set, ◌∙◌}
+use Rattle.std.proofs.Common.{◌≡◌, ◌%◌, ℕ, Bool, true, false, cond, length, List, [], ◌∷◌, Option, Some, None, get_or}
+use Rattle.std.proofs.Common.{ap, refl, set, ◌∙◌}
 use Rattle.std.proofs.lemmas.List.{length-set}
 use Rattle.script.specs.declared.commands.Command.{Command}
-use Rattle.script.specs.declared.commands.Command.TheVariants as command
 use Rattle.script.specs.declared.commands.Reference.{Reference}
 use Rattle.script.specs.References.{alters, new_word}
 use Rattle.assoc_mem.specs.declared.What.{What}
 use Rattle.assoc_mem.specs.declared.What.TheVariants as what
 use Rattle.core_map.specs.CoreMap.{bound_page, is_modified}
-use Rattle.core_map.specs.declared.Frame.TheVariants as frame
-use Rattle.page_table.specs.declared.Ptw.{Ptw}
-use Rattle.page_table.specs.declared.Ptw.TheVariants as ptw
 use Rattle.page_control.specs.declared.Home.{Home}
 use Rattle.page_control.specs.declared.Left.{Left}
 use Rattle.page_control.specs.declared.Left.TheVariants as left
-use Rattle.page_control.specs.Effects.{cut, erased, evicted, framed, referred, word_put}
+use Rattle.page_control.specs.Effects.{evicted, referred, word_put}
 use Rattle.page_control.specs.Plain.{Plain, frame_in, record_of, words_in}
-use Rattle.flat_model.specs.Branches.{parts_of}
-use Rattle.seg_control.specs.Control.{word_of}
-use Rattle.tree_model.specs.Access.{Row}
 use Rattle.machine_model.specs.declared.Aim.{Aim}
 use Rattle.machine_model.specs.declared.Aim.TheVariants as aim
 use Rattle.machine_model.specs.declared.CutDescriptor.{CutDescriptor}
 use Rattle.machine_model.specs.Actions as act
 use Rattle.machine_model.specs.After.{Outcome, after}
-use Rattle.machine_model.specs.Commits.{committed, committed_at, frames_freed, pages_past}
-use Rattle.machine_model.specs.Commits.{with_cut, with_cut_in, with_deleted, with_effect, with_made, with_truncated}
-use Rattle.machine_model.specs.Commits.{without_page, without_pages}
-use Rattle.machine_model.specs.Jobs.{are_zeros, cut_all, cut_one, eviction_done, here_if, leaving_if, left_of}
+use Rattle.machine_model.specs.Commits.{committed_at}
+use Rattle.machine_model.specs.Jobs.{cut_all, cut_one, eviction_done, leaving_if, left_of}
 use Rattle.machine_model.specs.Jobs.{page_back, page_done, page_gone, page_in, pages_back, seg_back}
 use Rattle.machine_model.specs.Jobs.{seg_gone, segment_taken, segs_back, segs_gone, take_all, take_one, took}
-use Rattle.machine_model.specs.Jobs.{with_choice, with_hand_moved, with_here, with_inactive, write_failed}
-use Rattle.machine_model.specs.Reads.{cut_of_owner, frames_from, frames_of_owner, home_in, is_active, next_command}
+use Rattle.machine_model.specs.Jobs.{with_choice, with_hand_moved, with_here, write_failed}
+use Rattle.machine_model.specs.Reads.{cut_of_owner, frames_from, frames_of_owner, home_in, next_command}
 use Rattle.machine_model.specs.Reads.{process_at, trailers_in}
-use Rattle.machine_model.specs.Refusal.{uid_of_command}
 use Rattle.machine_model.specs.Shutdown.{after_visit, page_taken, visited_if}
 use Rattle.machine_model.specs.State.{State, Storage}
 use Rattle.machine_model.specs.Steps.{fault_told, old_word, pages_after, transfer_failed, transferred, with_faults}
-use Rattle.machine_model.specs.Steps.{with_pages, with_store}
+use Rattle.machine_model.specs.Steps.{with_store}
+use Rattle.machine.proofs.CommitStays.{commit_counts, here}
 
 -- how many drives there are
 abbrev pub disks_in : Plain → ℕ
@@ -58,11 +49,7 @@ is_leaving st f None = refl
 is_leaving st f (Some page) = refl
 
 is_here : (st : Storage) (f : ℕ) → disks_in (with_here st f).pages ≡ disks_in st.pages
-is_here st f = by (bound_page (frame_in st.pages f))
-  where
-    by : (x : Option (ℕ × ℕ)) → disks_in (here_if st f x).pages ≡ disks_in st.pages
-    by None = refl
-    by (Some page) = refl
+is_here st f = ap (λ (n : ℕ × ℕ). n.1) (here st f)
 
 taken : (s : State) (c : ℕ) (a : Aim) (w : What) (fs : List ℕ) → disks_of (take_all s c a w fs) ≡ disks_of s
 taken s c a w [] = refl
@@ -120,102 +107,10 @@ gone : (s : State) (f : ℕ) → disks_of (page_gone s f) ≡ disks_of s
 gone s f = left_frame s.store.pages (home_in s.store (page_in s.store f).0) (page_in s.store f).1 f
     (left_of (words_in s.store.pages f))
 
--- ---- a command takes effect
-
-made : (st : Storage) (directory : Bool) (pages volume : ℕ) (rows : List Row) (x : Option (List (List ℕ) × List ℕ))
-    → disks_in (with_made st directory pages volume rows x).pages ≡ disks_in st.pages
-made st directory pages volume rows None = refl
-made st directory pages volume rows (Some parts) = refl
-
-page_cut : (st : Storage) (u p : ℕ) (w : Ptw) → disks_in (without_page st u p w).pages ≡ disks_in st.pages
-page_cut st u p ptw.Null = refl
-page_cut st u p (ptw.Out n) = refl
-page_cut st u p (ptw.Here f) = refl
-page_cut st u p (ptw.Leaving f) = refl
-
-pages_cut : (st : Storage) (u : ℕ) (ps : List ℕ) → disks_in (without_pages st u ps).pages ≡ disks_in st.pages
-pages_cut st u [] = refl
-pages_cut st u (p ∷ ps) = pages_cut (without_page st u p (word_of st.ast u p)) u ps
-    ∙ page_cut st u p (word_of st.ast u p)
-
-cut_in : (st : Storage) (u p at f : ℕ) → disks_in (with_cut_in st u p at f).pages ≡ disks_in st.pages
-cut_in st u p at f = by (are_zeros (words_in (cut st.pages f at) f))
-  where
-    by : (b : Bool) → disks_in (cond b (without_page (with_pages st (cut st.pages f at)) u p (ptw.Leaving f))
-        (with_here (with_pages st (cut st.pages f at)) f)).pages ≡ disks_in st.pages
-    by true = refl
-    by false = is_here (with_pages st (cut st.pages f at)) f
-
-word_cut : (st : Storage) (u p at : ℕ) (w : Ptw) → disks_in (with_cut st u p at w).pages ≡ disks_in st.pages
-word_cut st u p at (ptw.Leaving f) = cut_in st u p at f
-word_cut st u p at ptw.Null = refl
-word_cut st u p at (ptw.Out n) = refl
-word_cut st u p at (ptw.Here f) = refl
-
-truncated : (st : Storage) (u words : ℕ) → disks_in (with_truncated st u words).pages ≡ disks_in st.pages
-truncated st u words = by (eqb (words % 1024) 0)
-  where
-    by : (b : Bool) → disks_in (without_pages (cond b st (with_cut st u (words / 1024) (words % 1024)
-        (word_of st.ast u (words / 1024)))) u (pages_past st u words)).pages ≡ disks_in st.pages
-    by true = pages_cut st u (pages_past st u words)
-    by false = pages_cut _ u (pages_past st u words)
-        ∙ word_cut st u (words / 1024) (words % 1024) (word_of st.ast u (words / 1024))
-
-freed : (pages : Plain) (fs : List ℕ) → disks_in (frames_freed pages fs) ≡ disks_in pages
-freed pages [] = refl
-freed pages (f ∷ fs) = freed (framed pages f frame.Free) fs
-
-deleted : (st : Storage) (u : ℕ) (frames : List ℕ) → disks_in (with_deleted st u frames).pages ≡ disks_in st.pages
-deleted st u frames = by (is_active st.ast u)
-  where
-    by : (b : Bool) → disks_in (cond b (with_inactive (with_pages st (erased (frames_freed st.pages frames)
-        (home_in st u))) u) (with_pages st (erased (frames_freed st.pages frames) (home_in st u)))).pages
-        ≡ disks_in st.pages
-    by true = freed st.pages frames
-    by false = freed st.pages frames
-
-effect : (st : Storage) (k u : ℕ) (frames : List ℕ) (c : Command)
-    → disks_in (with_effect st k u frames c).pages ≡ disks_in st.pages
-effect st k u frames (command.MkDir path volume) = made st true 0 volume [] (parts_of path)
-effect st k u frames (command.MkSeg path pages volume) = made st false pages volume _ (parts_of path)
-effect st k u frames (command.Truncate path words) = truncated st u words
-effect st k u frames (command.Delete path) = deleted st u frames
-effect st k u frames (command.Initiate path) = refl
-effect st k u frames (command.Terminate n) = refl
-effect st k u frames (command.Acl path row m) = refl
-effect st k u frames (command.Length path pages) = refl
-effect st k u frames (command.Move path amount) = refl
-effect st k u frames command.End = refl
-effect st k u frames (command.Status path) = refl
-effect st k u frames (command.Read n w) = refl
-effect st k u frames (command.Write n w x) = refl
-effect st k u frames (command.Add n w x) = refl
-effect st k u frames (command.Await n w x t) = refl
-
-committed_same : (s : State) (c k : ℕ) (cmd : Command) → disks_of (committed s c k cmd) ≡ disks_of s
-committed_same s c k cmd = by cmd (effect s.store k (uid_of_command s.store k cmd) (frames_of_owner s.owner) cmd)
-  where
-    by : (x : Command) → disks_in (with_effect s.store k (uid_of_command s.store k x) (frames_of_owner s.owner) x).pages
-        ≡ disks_of s → disks_of (committed s c k x) ≡ disks_of s
-    by command.End e = e
-    by (command.MkDir path volume) e = e
-    by (command.MkSeg path pages volume) e = e
-    by (command.Initiate path) e = e
-    by (command.Terminate n) e = e
-    by (command.Acl path row m) e = e
-    by (command.Length path pages) e = e
-    by (command.Truncate path words) e = e
-    by (command.Delete path) e = e
-    by (command.Move path amount) e = e
-    by (command.Status path) e = e
-    by (command.Read n w) e = e
-    by (command.Write n w x) e = e
-    by (command.Add n w x) e = e
-    by (command.Await n w x t) e = e
+-- ---- a command takes effect, or a reference is made
 
 commits : (s : State) (c : ℕ) (x : Option Command) → disks_of (committed_at s c x) ≡ disks_of s
-commits s c None = refl
-commits s c (Some cmd) = committed_same s c (process_at s c) cmd
+commits s c x = ap (λ (n : ℕ × ℕ). n.1) (commit_counts s c x)
 
 referred_to : (pages : Plain) (f : ℕ) (r : Reference) → disks_in (pages_after pages f r) ≡ disks_in pages
 referred_to pages f r = by (alters r.kind)
@@ -229,39 +124,22 @@ referred_to pages f r = by (alters r.kind)
 
 pub disks_kept : (s : State) (c : ℕ) (a : act.Action) (o : Outcome) → disks_of (after s c a o) ≡ disks_of s
 unfolding after
-disks_kept s c act.IsStopped o = refl
-disks_kept s c act.HasEnded o = refl
-disks_kept s c (act.Waits why) o = refl
-disks_kept s c act.Online o = refl
-disks_kept s c (act.Clear w) o = refl
 disks_kept s c (act.EndTransfer t) o = either o.failed (transferred (with_faults s o.faults) c t)
     (transfer_failed s c t o.faults) refl refl
-disks_kept s c (act.Load n) o = refl
-disks_kept s c act.Leave o = refl
-disks_kept s c (act.FillSeg n) o = refl
-disks_kept s c (act.FillPage f r) o = refl
 disks_kept s c (act.Through f r) o = referred_to s.store.pages f r
-disks_kept s c (act.Plain r) o = refl
-disks_kept s c act.TakeSupervisor o = refl
-disks_kept s c (act.Answer r) o = refl
-disks_kept s c act.GiveUp o = refl
-disks_kept s c (act.Activate u place) o = refl
-disks_kept s c (act.Connect n u) o = refl
-disks_kept s c (act.Create f u p r) o = refl
-disks_kept s c (act.Start f u p) o = refl
 disks_kept s c (act.Evict f) o = taken (with_store s (with_choice s.store f)) c aim.Evicting (what.Page f) (f ∷ [])
 disks_kept s c (act.Empty u) o = segment s c u (frames_from s.store.ast u 0) (trailers_in s.store u)
 disks_kept s c (act.EmptyVictim pool chain u) o = segment (with_store s (with_hand_moved s.store pool chain)) c u
     (frames_from (with_store s (with_hand_moved s.store pool chain)).store.ast u 0)
     (trailers_in (with_store s (with_hand_moved s.store pool chain)).store u)
 disks_kept s c (act.TakeAway fs pairs w) o = all_taken s c aim.Committing w fs pairs
-disks_kept s c (act.Signal w) o = refl
 disks_kept s c (act.FinishEviction f) o = either o.failed (eviction_done (with_faults s o.faults) c f)
     (write_failed s c o.faults) (gone s f) (failed s c o.faults)
 disks_kept s c (act.FinishPage f) o = either o.failed (page_done (with_faults s o.faults) f)
     (write_failed s c o.faults) (gone s f) (failed s c o.faults)
 disks_kept s c (act.Deactivate u) o = all_gone s (cut_of_owner s.owner)
 disks_kept s c act.Commit o = commits s c (next_command s (process_at s c))
+disks_kept s c _ o = refl
 
 -- ---- a visit
 

@@ -1,6 +1,6 @@
 -- What the calls ask that let a page go, and that the machine keeps its promise through them, however the call of the
 -- drive ended.
-use Rattle.std.proofs.Common.{◌≡◌, ◌<◌, ◌≤◌, ◌+◌, ◌^◌, ℕ, true, false, length, sum, List, ◌∷◌, Some, refl, sym, ap}
+use Rattle.std.proofs.Common.{◌≡◌, ◌<◌, ◌≤◌, ℕ, true, false, length, sum, List, ◌∷◌, Some, refl, sym, ap}
 use Rattle.std.proofs.Common.{subst, ◌∙◌, arith}
 use Rattle.std.specs.Prelude.{Err, IfOk, Ok, OnErr, Result}
 use Rattle.site_io.specs.Faults.{Rose}
@@ -16,7 +16,7 @@ use Rattle.machine_model.specs.Actions.{action_of}
 use Rattle.machine_model.specs.After.{Outcome, after, by_outcome}
 use Rattle.machine_model.specs.Jobs.{eviction_done, left_of, page_done, page_in, with_left, write_failed}
 use Rattle.machine_model.specs.Keeps.{IsFaithful, Keeps, StoreKept}
-use Rattle.machine_model.specs.Reads.{cpu_at, frames_of_owner, next_command, processor_at}
+use Rattle.machine_model.specs.Reads.{frames_of_owner}
 use Rattle.machine_model.specs.Returned.{IsLeaving, MayComeBack}
 use Rattle.machine_model.specs.Said.{left_page, shown_after, without_left}
 use Rattle.machine_model.specs.State.{State, Storage}
@@ -26,7 +26,7 @@ use Rattle.machine_tables.specs.Owned.{HasOwner}
 use Rattle.machine_tables.specs.Parts.{Parts, outcome_of}
 use Rattle.machine_tables.specs.Returned.{MayFail}
 use Rattle.machine.specs.Promise.{IsSound}
-use Rattle.machine.proofs.AloneLaws.{place_room, released_room, run_there}
+use Rattle.machine.specs.Turns.{MayAnswer}
 use Rattle.machine.proofs.BackStays.{failed_as}
 use Rattle.machine.proofs.Found.{Waited, found_of}
 use Rattle.machine.proofs.OwnerCalls.{owned}
@@ -44,18 +44,17 @@ module _ {D : Type 0} (t : Parts D) (c : ℕ) (sound : IsSound t) (there : c < l
   -- ---- what the calls ask
 
   -- all that the owner took may come back, and its process may be answered
-  pub may_fail : (k : ℕ) → (cpu_at s.processors c).process ≡ Some k → HasOwner s.owner
-      → (processor_at s.processors c).count + 1 < 2 ^ 64 → 290 ≤ s.spare → MayFail t c k
-  may_fail k its owner count room = record {
+  pub may_fail : (k : ℕ) → MayAnswer t c k → HasOwner s.owner → 320 ≤ s.spare → MayFail t c k
+  may_fail k may owner room = record {
     processor = there;
-    its = its;
+    its = may.process;
     owner = owner;
     pages = pages_return s keeps;
     descriptors = descriptors_return s keeps sound.keeps.working;
-    run = run_there t c sound k its;
-    place = place_room t c sound k its there;
-    count = count;
-    ready = released_room t c sound k its (next_command s k);
+    run = may.run;
+    place = may.place;
+    count = may.count;
+    ready = may.ready;
     room = let few = sound.keeps.working.few in omega (arith, few, room);
   }
 
@@ -147,6 +146,15 @@ module _ {D : Type 0} (t : Parts D) (c : ℕ) (sound : IsSound t) (there : c < l
 
   -- ---- by how the call ended
 
+  -- the machine keeps its promise, if the call tells what the frame held, what the flat store is after it, and whether
+  -- the drive failed
+  abbrev pub SoundBy : {E : Type 0} → ℕ → Result Left E → Parts D → Type 0
+  SoundBy f r now = IfOk r (λ left. left ≡ left_of (words_in s.store.pages f))
+      → IfOk r (λ left. (p : Plan) (x : Store) → IsFaithful p x s.store
+      → IsFaithful p (without_left left (page_in s.store f) x) now.state.store)
+      → (s.faults ≤ now.state.faults) × OnErr r (Rose s.faults now.state.faults)
+      → now.room ≡ t.room → IsStoreOf now.state.store → IsSound now
+
   pub page_after : {E : Type 0} (f : ℕ) (r : Result Left E) (now : Parts D)
       → now.state ≡ by_outcome (outcome_of r now.state.faults) (page_done (with_faults s now.state.faults) f)
       (write_failed s c now.state.faults)
@@ -158,16 +166,12 @@ module _ {D : Type 0} (t : Parts D) (c : ℕ) (sound : IsSound t) (there : c < l
   pub page_sound : {E : Type 0} (f : ℕ) → action_of s c ≡ act.FinishPage f → (r : Result Left E) (now : Parts D)
       → now.state ≡ by_outcome (outcome_of r now.state.faults) (page_done (with_faults s now.state.faults) f)
       (write_failed s c now.state.faults)
-      → IfOk r (λ left. left ≡ left_of (words_in s.store.pages f))
-      → IfOk r (λ left. (p : Plan) (x : Store) → IsFaithful p x s.store
-      → IsFaithful p (without_left left (page_in s.store f) x) now.state.store)
-      → (s.faults ≤ now.state.faults) × OnErr r (Rose s.faults now.state.faults)
-      → now.room ≡ t.room → IsStoreOf now.state.store → IsSound now
+      → SoundBy f r now
   unfolding after
-  page_sound f doing (Ok left) now state how shown counts room told =
+  page_sound f doing (Ok left) now state = λ how shown counts room told.
       left_sound (act.FinishPage f) doing f (page_done (with_faults s now.state.faults) f) now.state.faults refl refl
       (λ x. refl) counts.0 now state (shown_told f left now how shown) room told
-  page_sound f doing (Err e) now state how shown counts room told =
+  page_sound f doing (Err e) now state = λ how shown counts room told.
       failed_sound (act.FinishPage f) doing f now.state.faults refl (λ x. refl) counts.0 counts.1 now state room told
 
   pub eviction_after : {E : Type 0} (f : ℕ) (r : Result Left E) (now : Parts D)
@@ -182,15 +186,11 @@ module _ {D : Type 0} (t : Parts D) (c : ℕ) (sound : IsSound t) (there : c < l
       (now : Parts D)
       → now.state ≡ by_outcome (outcome_of r now.state.faults) (eviction_done (with_faults s now.state.faults) c f)
       (write_failed s c now.state.faults)
-      → IfOk r (λ left. left ≡ left_of (words_in s.store.pages f))
-      → IfOk r (λ left. (p : Plan) (x : Store) → IsFaithful p x s.store
-      → IsFaithful p (without_left left (page_in s.store f) x) now.state.store)
-      → (s.faults ≤ now.state.faults) × OnErr r (Rose s.faults now.state.faults)
-      → now.room ≡ t.room → IsStoreOf now.state.store → IsSound now
+      → SoundBy f r now
   unfolding after
-  eviction_sound f doing (Ok left) now state how shown counts room told =
+  eviction_sound f doing (Ok left) now state = λ how shown counts room told.
       left_sound (act.FinishEviction f) doing f (eviction_done (with_faults s now.state.faults) c f) now.state.faults
       refl refl (λ x. refl) counts.0 now state (shown_told f left now how shown) room told
-  eviction_sound f doing (Err e) now state how shown counts room told =
+  eviction_sound f doing (Err e) now state = λ how shown counts room told.
       failed_sound (act.FinishEviction f) doing f now.state.faults refl (λ x. refl) counts.0 counts.1 now state room
       told

@@ -38,36 +38,19 @@ use Rattle.machine.specs.Promise.{IsSound}
 use Rattle.machine.specs.Turns.{IsBusy}
 use Rattle.machine.proofs.Busy.{busy_for}
 use Rattle.machine.proofs.Found.{Looked, found_of}
-use Rattle.machine.proofs.OwnerCalls.{IsEmptiable, emptiable_by, kept_through, owned}
-use Rattle.machine.proofs.Stays.{ShowsAs, then_as}
-use Rattle.machine.proofs.TakingStays.{begun_as, same_as}
+use Rattle.machine.proofs.OwnerCalls.{IsEmptiable, SoundIn, emptiable_by, kept_through, owned}
+use Rattle.machine.proofs.Stays.{ShowsAs, same_as, tables_as, then_as}
+use Rattle.machine.proofs.TakingStays.{begun_as}
 
 -- a segment that is active
 active_as : (st : Storage) (u place : ℕ) → ShowsAs st (with_active st u place)
-active_as st u place = record {
-  accounts = refl;
-  known = refl;
-  whos = refl;
-  records = refl;
-  vtocs = refl;
-  words = λ v q h. refl;
-  places = length-set st.ast.entries place _;
-  sizes = refl;
-}
+active_as st u place = tables_as st (with_active st u place).ast st.links refl
+    (length-set st.ast.entries place _) refl
 
 -- a hand that has moved
 hand_by : (st : Storage) (pool : ℕ) (x : Option ℕ) → ShowsAs st (record st { ast = hand_past st.ast pool x })
 hand_by st pool None = same_as st
-hand_by st pool (Some place) = record {
-  accounts = refl;
-  known = refl;
-  whos = refl;
-  records = refl;
-  vtocs = refl;
-  words = λ v q h. refl;
-  places = refl;
-  sizes = refl;
-}
+hand_by st pool (Some place) = tables_as st (hand_past st.ast pool (Some place)) st.links refl refl refl
 
 victim_as : (s : State) (c pool : ℕ) (chain : List ℕ) (u : ℕ) → ShowsAs s.store (victim_taken s c pool chain u).store
 victim_as s c pool chain u = then_as s.store (with_hand_moved s.store pool chain)
@@ -124,7 +107,7 @@ module _ {D : Type 0} (t : Parts D) (c : ℕ) (sound : IsSound t) (there : c < l
       → is_there s.store.accounts.nodes u ≡ true
   link_there u place doing = first_there s.store.accounts.nodes keeps.store.accounts.tree s.store.ast
       l.finds.link.about u
-      (about_is l (busy_for t c sound there (act.Activate u place) doing) l.finds.link.about l.finds.link.case)
+      (about_is l (busy_for t c sound there (act.Activate u place) doing refl) l.finds.link.about l.finds.link.case)
       (subst (λ (chain : List ℕ). first_inactive s.store.ast chain ≡ Some u) l.finds.link.chain_is l.finds.link.first)
     where
       l : Looked s c (act.Activate u place)
@@ -154,10 +137,7 @@ module _ {D : Type 0} (t : Parts D) (c : ℕ) (sound : IsSound t) (there : c < l
       same e = cc
 
   pub activate_sound : (u place : ℕ) → action_of s c ≡ act.Activate u place
-      → (now : Parts D) → now ≡ with_state t (activated_at s u place)
-      → IsKept now.state.store.pages now.state.store.ast now.state.store.links
-      → IsStore now.state.store.pages now.state.store.ast now.state.store.links now.state.store.accounts
-      now.state.store.whos → IsSound now
+      → SoundIn t (activated_at s u place)
   unfolding after
   activate_sound u place doing = kept_through t c sound there (act.Activate u place) (activated_at s u place) refl doing
       refl (active_as s.store u place)
@@ -169,15 +149,15 @@ module _ {D : Type 0} (t : Parts D) (c : ℕ) (sound : IsSound t) (there : c < l
     looked = found_of s c sound.keeps.machine there (act.EmptyVictim pool chain u) doing
 
     -- the pool is full, and it is that of the first segment of the chain that isn't active
-    pub victim_first : IsSome (first_inactive s.store.ast chain)
+    victim_first : IsSome (first_inactive s.store.ast chain)
     victim_first = ap is_some looked.finds.link.first
 
-    pub victim_pool : pool ≡ pool_of_node (node_in s.store.accounts.nodes (or_zero (first_inactive s.store.ast chain)))
+    victim_pool : pool ≡ pool_of_node (node_in s.store.accounts.nodes (or_zero (first_inactive s.store.ast chain)))
     victim_pool = looked.finds.pool_is ∙ ap
         (λ (x : Option ℕ). pool_of_node (node_in s.store.accounts.nodes (or_zero x)))
         (sym looked.finds.link.first)
 
-    pub victim_full : free_place s.store.ast pool ≡ None
+    victim_full : free_place s.store.ast pool ≡ None
     victim_full = looked.finds.full
 
     leaf : (w : ℕ) × (uid_at s.store.ast.entries looked.finds.place ≡ Some w)
@@ -187,19 +167,15 @@ module _ {D : Type 0} (t : Parts D) (c : ℕ) (sound : IsSound t) (there : c < l
     at : uid_at s.store.ast.entries looked.finds.place ≡ Some u
     at = leaf.1 ∙ ap (λ (x : ℕ). Some x) (sym (looked.finds.uid ∙ ap or_zero leaf.1))
 
-    pub victim_emptiable : IsEmptiable t c sound there u
+    victim_emptiable : IsEmptiable t c sound there u
     victim_emptiable = emptiable_by t c sound there u looked.idle (owned t c sound there looked.looking.owner)
         (active_at s.store.ast looked.finds.place u at) looked.finds.unread
         (leaf_inferiors s looked.finds.place u keeps at leaf.2)
 
-    pub victim_sound : (now : Parts D) → now ≡ with_state t (victim_taken s c pool chain u)
-        → IsKept now.state.store.pages now.state.store.ast now.state.store.links
-        → IsStore now.state.store.pages now.state.store.ast now.state.store.links now.state.store.accounts
-        now.state.store.whos → IsSound now
+    victim_sound : SoundIn t (victim_taken s c pool chain u)
     unfolding after
     victim_sound = kept_through t c sound there (act.EmptyVictim pool chain u) (victim_taken s c pool chain u) refl
-        doing
-        refl (victim_as s c pool chain u)
+        doing refl (victim_as s c pool chain u)
 
   -- ---- the same where the chain is told by its node
 
@@ -214,21 +190,15 @@ module _ {D : Type 0} (t : Parts D) (c : ℕ) (sound : IsSound t) (there : c < l
     of_is : l.finds.link.about ≡ of
     of_is = chain_end s.store.accounts.nodes l.finds.link.about of (sym l.finds.link.chain_is)
 
-    pub wanted_there : is_there s.store.accounts.nodes of ≡ true
+    wanted_there : is_there s.store.accounts.nodes of ≡ true
     wanted_there = subst (λ (x : ℕ). is_there s.store.accounts.nodes x ≡ true) of_is
-        (about_is l (busy_for t c sound there (act.EmptyVictim pool chain u) doing) l.finds.link.about
+        (about_is l (busy_for t c sound there (act.EmptyVictim pool chain u) doing refl) l.finds.link.about
         l.finds.link.case)
-
-    pub wanted_first : IsSome (first_inactive s.store.ast (chain_of s.store.accounts.nodes of))
-    wanted_first = victim_first pool chain u doing
 
     pool_is : pool ≡ wanted_pool s.store of
     pool_is = victim_pool pool chain u doing
 
-    pub wanted_full : free_place s.store.ast (wanted_pool s.store of) ≡ None
-    wanted_full = subst (λ (x : ℕ). free_place s.store.ast x ≡ None) pool_is (victim_full pool chain u doing)
-
-    pub wanted_off : HasOneOffChain s.store.ast (wanted_pool s.store of) (chain_of s.store.accounts.nodes of)
+    wanted_off : HasOneOffChain s.store.ast (wanted_pool s.store of) (chain_of s.store.accounts.nodes of)
     wanted_off = subst (λ (x : ℕ). HasOneOffChain s.store.ast x chain) (sym l.finds.pool_is ∙ pool_is)
         (chain_one_off s.store.pages s.store.ast s.store.links s.store.accounts s.store.whos keeps.store.counted
         keeps.store.accounts.tree of keeps.store.kept.tree
@@ -236,17 +206,27 @@ module _ {D : Type 0} (t : Parts D) (c : ℕ) (sound : IsSound t) (there : c < l
         l.finds.link.first (full_is s.store.ast (pool_of_node (node_in s.store.accounts.nodes l.finds.wanted))
         (subst (λ (x : ℕ). free_place s.store.ast x ≡ None) l.finds.pool_is l.finds.full)))
 
-    pub victim_can : IsEmptiable t c sound there u
-    victim_can = victim_emptiable pool chain u doing
+    -- what the call asks that takes what the victim has in use
+    pub record IsVictim : Type 0 where
+      pub node : is_there s.store.accounts.nodes of ≡ true
+      pub first : IsSome (first_inactive s.store.ast (chain_of s.store.accounts.nodes of))
+      pub full : free_place s.store.ast (wanted_pool s.store of) ≡ None
+      pub off : HasOneOffChain s.store.ast (wanted_pool s.store of) (chain_of s.store.accounts.nodes of)
+      pub goes : IsEmptiable t c sound there u
+
+    pub victim_call : IsVictim
+    victim_call = record {
+      node = wanted_there;
+      first = victim_first pool chain u doing;
+      full = subst (λ (x : ℕ). free_place s.store.ast x ≡ None) pool_is (victim_full pool chain u doing);
+      off = wanted_off;
+      goes = victim_emptiable pool chain u doing;
+    }
 
     pub victim_is : (now : Parts D)
         → now ≡ with_state t (victim_taken s c (wanted_pool s.store of) (chain_of s.store.accounts.nodes of) u)
         → now ≡ with_state t (victim_taken s c pool (chain_of s.store.accounts.nodes of) u)
     victim_is now is = is ∙ ap (λ (x : ℕ). with_state t (victim_taken s c x chain u)) (sym pool_is)
 
-    pub victim_keeps : (now : Parts D)
-        → now ≡ with_state t (victim_taken s c (wanted_pool s.store of) (chain_of s.store.accounts.nodes of) u)
-        → IsKept now.state.store.pages now.state.store.ast now.state.store.links
-        → IsStore now.state.store.pages now.state.store.ast now.state.store.links now.state.store.accounts
-        now.state.store.whos → IsSound now
-    victim_keeps now is = victim_sound pool chain u doing now (victim_is now is)
+    pub victim_keeps : SoundIn t (victim_taken s c (wanted_pool s.store of) (chain_of s.store.accounts.nodes of) u)
+    victim_keeps = λ now is. victim_sound pool chain u doing now (victim_is now is)

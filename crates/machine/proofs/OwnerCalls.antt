@@ -4,7 +4,7 @@ use Rattle.std.proofs.Common.{◌≡◌, ◌<◌, ℕ, true, false, length, List
 use Rattle.std.proofs.Common.{arith, subst, ◌∙◌}
 use Rattle.core_map.specs.declared.Frame.{Frame}
 use Rattle.core_map.specs.declared.Frame.TheVariants as frame
-use Rattle.core_map.specs.CoreMap.{bound_page, frame_at, is_free, started_page}
+use Rattle.core_map.specs.CoreMap.{bound_page, frame_at, is_free, started_page, with_frame}
 use Rattle.active_segs.specs.Active.{IsActive}
 use Rattle.known_segs.specs.Known.{uid_of}
 use Rattle.page_table.specs.declared.Ptw.{Ptw}
@@ -63,13 +63,13 @@ use Rattle.machine_model.proofs.EmptyAsks.{segment_inferiors, unread_any}
 use Rattle.machine_model.proofs.TakeWhole.{nothing_whole}
 use Rattle.machine_model.proofs.ListSizes.{descriptors_few, pages_few}
 use Rattle.machine.proofs.TakingStays.{begun_as}
-use Rattle.std.proofs.Common.{◌∷◌, ◌≤◌, ◌≢◌}
+use Rattle.std.proofs.Common.{◌∷◌, ◌≤◌, ◌+◌, ◌≢◌}
 use Rattle.machine_tables.specs.Parts.{Parts, with_state}
 use Rattle.machine.proofs.EmptiedFacts.{emptied}
 use Rattle.machine.proofs.TakingStays.{choice_as, emptied_as, leaving_as}
 use Rattle.machine.specs.Promise.{IsSound}
 use Rattle.machine.proofs.Found.{Looked, Waited, found_of}
-use Rattle.machine.proofs.Stays.{ShowsAs, stays_sound, then_as, unbound_put, words_stay}
+use Rattle.machine.proofs.Stays.{ShowsAs, core_as, stays_sound, tables_as, then_as, unbound_put}
 
 -- a page may be read into a frame
 pub record IsReadable (st : Storage) (f u p : ℕ) : Type 0 where
@@ -103,6 +103,13 @@ free_is (frame.Bound u p used modified) h = absurd (let no : false ≡ true = h 
 pub active_there : (st : Storage) (u : ℕ) → is_active st.ast u ≡ true → IsActive st.ast.entries u
 active_there st u h = (place_of st.ast.entries u, (active_place st.ast u h).1)
 
+-- tables that are in this state, and tell of their store that it keeps its promise, are those of a sound machine
+abbrev pub SoundIn : {D : Type 0} → Parts D → State → Type 0
+SoundIn {D} t v = (now : Parts D) → now ≡ with_state t v
+    → IsKept now.state.store.pages now.state.store.ast now.state.store.links
+    → IsStore now.state.store.pages now.state.store.ast now.state.store.links now.state.store.accounts
+    now.state.store.whos → IsSound now
+
 module _ {D : Type 0} (t : Parts D) (c : ℕ) (sound : IsSound t) (there : c < length t.state.processors) where
   abbrev s : State
   s = t.state
@@ -113,11 +120,8 @@ module _ {D : Type 0} (t : Parts D) (c : ℕ) (sound : IsSound t) (there : c < l
   -- the machine after an action that makes no call of a drive, and shows what it showed
   pub kept_through : (a : Action) (v : State) → v ≡ after s c a (no_call s) → action_of s c ≡ a
       → shown_after s c (no_call s) a ≡ (λ x. x)
-      → ShowsAs s.store v.store → (now : Parts D) → now ≡ with_state t v
-      → IsKept now.state.store.pages now.state.store.ast now.state.store.links
-      → IsStore now.state.store.pages now.state.store.ast now.state.store.links now.state.store.accounts
-      now.state.store.whos → IsSound now
-  kept_through a v is doing same shows now now_is kept counted = stays_sound t now c a sound there doing
+      → ShowsAs s.store v.store → SoundIn t v
+  kept_through a v is doing same shows = λ now now_is kept counted. stays_sound t now c a sound there doing
       same (ap (λ (u : Parts D). u.state) now_is ∙ is) (ap (λ (u : Parts D). u.room) now_is)
       kept counted (subst (λ (u : Parts D). ShowsAs s.store u.state.store) (sym now_is) shows)
 
@@ -152,23 +156,11 @@ module _ {D : Type 0} (t : Parts D) (c : ℕ) (sound : IsSound t) (there : c < l
           (position_at is_free s.store.pages.core.frames frame.Free f l.finds.frame).1
 
   pub start_sound : (f u p : ℕ) → action_of s c ≡ act.Start f u p
-      → (now : Parts D) → now ≡ with_state t (started s c f u p)
-      → IsKept now.state.store.pages now.state.store.ast now.state.store.links
-      → IsStore now.state.store.pages now.state.store.ast now.state.store.links now.state.store.accounts
-      now.state.store.whos → IsSound now
+      → SoundIn t (started s c f u p)
   unfolding after
-  start_sound f u p doing = kept_through (act.Start f u p) (started s c f u p) refl doing refl (record {
-    accounts = refl;
-    known = refl;
-    whos = refl;
-    records = refl;
-    vtocs = refl;
-    words = λ v q h. words_stay s.store.pages (started s c f u p).store.pages
-        (unbound_put s.store.pages.core f (frame.Started u p) (ap bound_page (readable f u p doing).free) refl)
-        refl refl refl v q s.store.accounts;
-    places = refl;
-    sizes = refl;
-  })
+  start_sound f u p doing = kept_through (act.Start f u p) (started s c f u p) refl doing refl
+      (core_as s.store (with_frame s.store.pages.core f (frame.Started u p))
+      (unbound_put s.store.pages.core f (frame.Started u p) (ap bound_page (readable f u p doing).free) refl))
 
   -- ---- a descriptor is connected
 
@@ -198,21 +190,10 @@ module _ {D : Type 0} (t : Parts D) (c : ℕ) (sound : IsSound t) (there : c < l
           ∙ ap (λ (x : ℕ). Some x) (ap (uid_of_number s.store j) l.finds.number ∙ l.finds.uid)))
 
   pub connect_sound : (n u : ℕ) → action_of s c ≡ act.Connect n u
-      → (now : Parts D) → now ≡ with_state t (connected_to s c n u)
-      → IsKept now.state.store.pages now.state.store.ast now.state.store.links
-      → IsStore now.state.store.pages now.state.store.ast now.state.store.links now.state.store.accounts
-      now.state.store.whos → IsSound now
+      → SoundIn t (connected_to s c n u)
   unfolding after
-  connect_sound n u doing = kept_through (act.Connect n u) (connected_to s c n u) refl doing refl (record {
-    accounts = refl;
-    known = refl;
-    whos = refl;
-    records = refl;
-    vtocs = refl;
-    words = λ v q h. refl;
-    places = refl;
-    sizes = refl;
-  })
+  connect_sound n u doing = kept_through (act.Connect n u) (connected_to s c n u) refl doing refl
+      (tables_as s.store s.store.ast (connected_to s c n u).store.links refl refl refl)
 
   -- ---- a segment becomes inactive
 
@@ -237,10 +218,7 @@ module _ {D : Type 0} (t : Parts D) (c : ℕ) (sound : IsSound t) (there : c < l
       leaf = sound.keeps.working.leaf u goes
 
   pub deactivate_sound : (u : ℕ) → action_of s c ≡ act.Deactivate u
-      → (now : Parts D) → now ≡ with_state t (segment_emptied s c u)
-      → IsKept now.state.store.pages now.state.store.ast now.state.store.links
-      → IsStore now.state.store.pages now.state.store.ast now.state.store.links now.state.store.accounts
-      now.state.store.whos → IsSound now
+      → SoundIn t (segment_emptied s c u)
   unfolding after
   deactivate_sound u doing = kept_through (act.Deactivate u) (segment_emptied s c u) refl doing refl
       (emptied_as s c u)
@@ -293,10 +271,7 @@ module _ {D : Type 0} (t : Parts D) (c : ℕ) (sound : IsSound t) (there : c < l
       same e = cc
 
   pub evict_sound : Evicts → (f : ℕ) → clock_choice s.store.pages.core ≡ Some f
-      → (now : Parts D) → now ≡ with_state t (eviction_begun s c f)
-      → IsKept now.state.store.pages now.state.store.ast now.state.store.links
-      → IsStore now.state.store.pages now.state.store.ast now.state.store.links now.state.store.accounts
-      now.state.store.whos → IsSound now
+      → SoundIn t (eviction_begun s c f)
   unfolding after
   evict_sound h f choice = kept_through (act.Evict f) (eviction_begun s c f) refl (evict_doing h f choice) refl
       (then_as s.store (with_choice s.store f) (with_leaving (with_choice s.store f) f) (choice_as s.store f)
@@ -312,11 +287,11 @@ module _ {D : Type 0} (t : Parts D) (c : ℕ) (sound : IsSound t) (there : c < l
   pub record IsEmptiable (u : ℕ) : Type 0 where
     pub active : IsActive s.store.ast.entries u
     pub owner : HasOwner s.owner
-    pub frames : frames_of_owner s.owner ≡ []
-    pub cut : cut_of_owner s.owner ≡ []
-    pub pages : length (frames_from s.store.ast u 0) ≤ 256
-    pub descriptors : length (trailers_in s.store u) ≤ 32
+    pub pages : length (frames_of_owner s.owner) + length (frames_from s.store.ast u 0) ≤ 256
+    pub descriptors : length (cut_of_owner s.owner) + length (trailers_in s.store u) ≤ 256
     pub bare : is_bare (frames_from s.store.ast u 0) (trailers_in s.store u) ≡ true → IsEmptied s.store u
+    pub room : 320 ≤ s.spare → length (frames_from s.store.ast u 0)
+        + (length (trailers_in s.store u) + (length (cut_of_owner s.owner) + 1)) ≤ s.spare
 
   -- a segment without active inferiors, of which nothing is being read
   pub emptiable_by : (u : ℕ) → IsIdle s.owner → HasOwner s.owner → is_active s.store.ast u ≡ true
@@ -326,13 +301,24 @@ module _ {D : Type 0} (t : Parts D) (c : ℕ) (sound : IsSound t) (there : c < l
   emptiable_by u idle owner active unread inferiors = record {
     active = active_there s.store u active;
     owner = owner;
-    frames = idle.frames;
-    cut = idle.cut;
-    pages = pages_few s u keeps active;
-    descriptors = descriptors_few s u keeps active;
+    pages = omega (arith, no_frames, few_pages);
+    descriptors = omega (arith, no_cut, few_descriptors);
     bare = λ h. by (frames_from s.store.ast u 0) (trailers_in s.store u) h refl refl;
+    room = λ room. omega (arith, no_cut, few_pages, few_descriptors, room);
   }
     where
+      no_frames : length (frames_of_owner s.owner) ≡ 0
+      no_frames = ap length idle.frames
+
+      no_cut : length (cut_of_owner s.owner) ≡ 0
+      no_cut = ap length idle.cut
+
+      few_pages : length (frames_from s.store.ast u 0) ≤ 256
+      few_pages = pages_few s u keeps active
+
+      few_descriptors : length (trailers_in s.store u) ≤ 32
+      few_descriptors = descriptors_few s u keeps active
+
       below : (v : ℕ) → is_active s.store.ast v ≡ true → superior_in (node_in s.store.accounts.nodes v) ≢ Some u
       below v there_active h = inferiors v there_active
           (ap (λ (ns : List Node). superior_in (node_in ns v)) keeps.faithful.tree.nodes ∙ h)
@@ -360,9 +346,6 @@ module _ {D : Type 0} (t : Parts D) (c : ℕ) (sound : IsSound t) (there : c < l
       same = sym leads_there.uid ∙ (sym (ap (uid_of_command s.store (process_at s c)) l.finds.is) ∙ l.finds.uid)
 
   pub empty_sound : (u : ℕ) → action_of s c ≡ act.Empty u
-      → (now : Parts D) → now ≡ with_state t (deactivation_begun s c u)
-      → IsKept now.state.store.pages now.state.store.ast now.state.store.links
-      → IsStore now.state.store.pages now.state.store.ast now.state.store.links now.state.store.accounts
-      now.state.store.whos → IsSound now
+      → SoundIn t (deactivation_begun s c u)
   unfolding after
   empty_sound u doing = kept_through (act.Empty u) (deactivation_begun s c u) refl doing refl (begun_as s c u)

@@ -4,7 +4,7 @@ use Rattle.std.proofs.Common.{sym, ap, ◌∙◌}
 use Rattle.std.proofs.lemmas.List.{get_or-set_other, get_or-set_same}
 use Rattle.core_map.specs.declared.Frame.{Frame}
 use Rattle.core_map.specs.declared.Frame.TheVariants as frame
-use Rattle.core_map.specs.CoreMap.{bound_page, frame_at, is_modified, started_page}
+use Rattle.core_map.specs.CoreMap.{bound_page, frame_at, is_modified, started_page, with_frame}
 use Rattle.page_table.specs.declared.Ptw.{Ptw}
 use Rattle.page_table.specs.declared.Ptw.TheVariants as ptw
 use Rattle.page_control.specs.declared.Home.{Home}
@@ -29,7 +29,7 @@ use Rattle.machine_model.proofs.ListLaws.{map_list, within_by}
 use Rattle.machine_model.proofs.TieLaws.{none_some}
 use Rattle.machine_model.proofs.TransferKept.{active_at}
 use Rattle.machine_model.proofs.WordLaws.{word_within}
-use Rattle.machine.proofs.Stays.{ShowsAs, unbound_put, words_stay}
+use Rattle.machine.proofs.Stays.{ShowsAs, core_as, pages_as, tables_as, then_as, unbound_put}
 
 started_is : (x : Frame) (u p : ℕ) → started_page x ≡ Some (u, p) → x ≡ frame.Started u p
 started_is frame.Free u p h = absurd (none_some h)
@@ -92,17 +92,8 @@ module _ (s : State) (c : ℕ) (t : Transfer) (k : Keeps s)
 
   -- the frame is free again
   pub lost_as : ShowsAs s.store (with_pages s.store (framed pages t.frame frame.Free))
-  lost_as = record {
-    accounts = refl;
-    known = refl;
-    whos = refl;
-    records = refl;
-    vtocs = refl;
-    words = λ v q h. words_stay pages (framed pages t.frame frame.Free)
-        (unbound_put pages.core t.frame frame.Free (ap bound_page started) refl) refl refl refl v q s.store.accounts;
-    places = refl;
-    sizes = refl;
-  }
+  lost_as = core_as s.store (with_frame pages.core t.frame frame.Free)
+      (unbound_put pages.core t.frame frame.Free (ap bound_page started) refl)
 
   -- ---- the page is in its frame
 
@@ -152,16 +143,8 @@ module _ (s : State) (c : ℕ) (t : Transfer) (k : Keeps s)
     keeps_words = words_kept touches its_words
 
     pub brought_as : ShowsAs s.store (brought s.store t)
-    brought_as = record {
-      accounts = refl;
-      known = refl;
-      whos = refl;
-      records = refl;
-      vtocs = refl;
-      words = λ v q there. keeps_words.words v (home_of s.store.accounts v) q (record {
-        used = k.store.counted.housed.homes v there;
-        own = λ is. ap (home_of s.store.accounts) is;
-      });
-      places = refl;
-      sizes = refl;
-    }
+    brought_as = then_as s.store (with_pages s.store now) (brought s.store t) (pages_as s.store now refl refl
+        (λ v q there. keeps_words.words v (home_of s.store.accounts v) q (record {
+          used = k.store.counted.housed.homes v there;
+          own = λ is. ap (home_of s.store.accounts) is;
+        }))) (tables_as (with_pages s.store now) (brought s.store t).ast s.store.links refl refl refl)

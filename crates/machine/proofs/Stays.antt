@@ -10,10 +10,12 @@ use Rattle.core_map.specs.declared.Frame.TheVariants as frame
 use Rattle.core_map.specs.CoreMap.{Core, bound_page, with_frame}
 use Rattle.core_map.specs.Clock.{after_choice, frame_in, is_idle, passed_over, round_frames, unmarked}
 use Rattle.vtoc.specs.Vtoc.{Entry}
+use Rattle.active_segs.specs.Active.{ActiveSegs}
 use Rattle.page_control.specs.Plain.{Plain, bindings}
 use Rattle.page_control.specs.Picture.{words_at}
 use Rattle.page_control.specs.Counts.{entries, size}
 use Rattle.page_control.proofs.Pictures.{picture_by}
+use Rattle.seg_control.specs.Control.{Links}
 use Rattle.seg_control.specs.Kept.{IsKept}
 use Rattle.storage_ops.specs.Shown.{IsStore, ShowsTree, home_of, is_filed, is_there, picture}
 use Rattle.flat_model.specs.Store.{Store}
@@ -22,6 +24,7 @@ use Rattle.machine_model.specs.After.{after, no_call}
 use Rattle.machine_model.specs.Keeps.{AreAccounts, IsFaithful, StoreKept}
 use Rattle.machine_model.specs.Said.{shown_after}
 use Rattle.machine_model.specs.State.{State, Storage}
+use Rattle.machine_model.specs.Steps.{with_pages}
 use Rattle.machine_tables.specs.Parts.{Parts}
 use Rattle.machine.specs.Promise.{IsSound}
 use Rattle.machine.proofs.Steps.{sound_after}
@@ -56,6 +59,40 @@ then_as a b c x y = record {
       ∙ x.words u q there;
   places = y.places ∙ x.places;
   sizes = y.sizes ∙ x.sizes;
+}
+
+-- other active segments, in as many places, and other descriptors
+pub tables_as : (st : Storage) (ast : ActiveSegs) (links : Links) → links.known ≡ st.links.known
+    → length ast.entries ≡ length st.ast.entries → ast.sizes ≡ st.ast.sizes
+    → ShowsAs st (record st { ast = ast; links = links })
+tables_as st ast links known places sizes = record {
+  accounts = refl;
+  known = known;
+  whos = refl;
+  records = refl;
+  vtocs = refl;
+  words = λ u q h. refl;
+  places = places;
+  sizes = sizes;
+}
+
+pub same_as : (st : Storage) → ShowsAs st st
+same_as st = tables_as st st.ast st.links refl refl refl
+
+-- other frames, with the words that each page had
+pub pages_as : (st : Storage) (pages : Plain) → pages.records ≡ st.pages.records → pages.vtocs ≡ st.pages.vtocs
+    → ((u q : ℕ) → is_there st.accounts.nodes u ≡ true
+    → words_at pages u (home_of st.accounts u) q ≡ words_at st.pages u (home_of st.accounts u) q)
+    → ShowsAs st (with_pages st pages)
+pages_as st pages records vtocs words = record {
+  accounts = refl;
+  known = refl;
+  whos = refl;
+  records = records;
+  vtocs = vtocs;
+  words = words;
+  places = refl;
+  sizes = refl;
 }
 
 module _ (old new : Storage) (w : ShowsAs old new) where
@@ -157,3 +194,9 @@ pub words_stay : (a b : Plain) → bindings b.core ≡ bindings a.core → b.fra
 words_stay a b bound frames disks vtocs u q accounts = ap (λ (f : ℕ → _ → ℕ → List ℕ). f u (home_of accounts u) q)
     (picture_by (bindings b.core) (bindings a.core) b.frames a.frames b.disks a.disks b.vtocs a.vtocs bound frames
     disks vtocs)
+
+-- another core map, in which each frame is bound as before
+pub core_as : (st : Storage) (core : Core) → bindings core ≡ bindings st.pages.core
+    → ShowsAs st (with_pages st (record st.pages { core = core }))
+core_as st core bound = pages_as st (record st.pages { core = core }) refl refl
+    (λ u q h. words_stay st.pages (record st.pages { core = core }) bound refl refl refl u q st.accounts)

@@ -12,12 +12,11 @@ use Rattle.script.specs.declared.commands.Reference.{Reference}
 use Rattle.page_control.specs.Drives.{CallsDrive}
 use Rattle.machine_model.specs.declared.Aim.{Aim}
 use Rattle.machine_model.specs.declared.Aim.TheVariants as aim
-use Rattle.machine_model.specs.declared.CutDescriptor.{CutDescriptor}
 use Rattle.machine_model.specs.Actions as act
 use Rattle.machine_model.specs.Actions.{action_of}
 use Rattle.machine_model.specs.After.{after, no_call}
 use Rattle.machine_model.specs.Commits.{committed_at}
-use Rattle.machine_model.specs.Jobs.{cut_all, cut_one, deactivation_begun, emptied, eviction_begun, seg_gone, segs_gone}
+use Rattle.machine_model.specs.Jobs.{cut_all, cut_one, deactivation_begun, emptied, eviction_begun}
 use Rattle.machine_model.specs.Jobs.{segment_taken, signalled, take_all, take_one, took, victim_taken, with_hand_moved}
 use Rattle.machine_model.specs.Reads.{cpu_at, cut_of_owner, frames_from, next_command, or_zero, process_at, trailers_in}
 use Rattle.machine_model.specs.State.{State}
@@ -25,6 +24,7 @@ use Rattle.machine_model.specs.Steps.{activated_at, answered, came_online, clear
 use Rattle.machine_model.specs.Steps.{looking}
 use Rattle.machine_model.specs.Steps.{page_created, page_filled, with_store, seg_filled, started, told, told_by}
 use Rattle.machine_model.specs.Steps.{went_through, with_owner}
+use Rattle.machine_model.proofs.ActiveKept.{segs_gone_rest}
 use Rattle.machine_tables.specs.Claimed.{frames_for, pairs_for, took_for, what_for}
 use Rattle.machine_tables.specs.Parts.{Parts, outcome_of, with_state}
 use Rattle.machine.specs.Turns.{IfStill, IsStep, IsTurn, turn_of, why_by}
@@ -45,13 +45,9 @@ pub took_faults : (s : State) (c : ℕ) (a : Aim) (w : What) (fs : List ℕ) (xs
     → (took s c a w fs xs).faults ≡ s.faults
 took_faults s c a w fs xs = cut_faults (take_all s c a w fs) c a w xs ∙ take_faults s c a w fs
 
-gone_faults : (s : State) (ds : List CutDescriptor) → (segs_gone s ds).faults ≡ s.faults
-gone_faults s [] = refl
-gone_faults s (d ∷ ds) = gone_faults (seg_gone s d) ds
-
 pub segment_faults : (s : State) (c u : ℕ) (fs : List ℕ) (xs : List (ℕ × ℕ))
     → (segment_taken s c u fs xs).faults ≡ s.faults
-segment_faults s c u [] [] = gone_faults s (cut_of_owner s.owner)
+segment_faults s c u [] [] = (segs_gone_rest s (cut_of_owner s.owner)).3
 segment_faults s c u [] (x ∷ xs) = took_faults s c (aim.Deactivating u) (what.Seg u) [] (x ∷ xs)
 segment_faults s c u (f ∷ fs) xs = took_faults s c (aim.Deactivating u) (what.Seg u) (f ∷ fs) xs
 
@@ -275,7 +271,7 @@ module _ {D Plan : Type 0} (plan : D → Plan) (places : D → ℕ) (old new : P
       → IsTurn plan places old new c (turn.Moved point.Other)
   unfolding after
   deactivate_turn u doing = quiet_turn (act.Deactivate u) (emptied s c u) (λ h. tt) doing refl
-      (gone_faults s (cut_of_owner s.owner))
+      ((segs_gone_rest s (cut_of_owner s.owner)).3)
 
   committed_turn : action_of s c ≡ act.Commit
       → new ≡ with_state old (committed_at s c (next_command s (process_at s c)))

@@ -19,8 +19,8 @@ use Rattle.machine.proofs.VisitNext.{visited_after}
 
 -- a processor that takes an entry in has a process
 fills_busy : (s : State) (c : ℕ) (a : Action) → Busy s c a → FillsBusy s c a
-fills_busy s c (FillSeg n) busy = λ e. none_some (sym e ∙ busy)
-fills_busy s c (FillPage f r) busy = λ e. none_some (sym e ∙ busy)
+fills_busy s c (FillSeg n) busy = λ e. none_some (sym e ∙ busy refl)
+fills_busy s c (FillPage f r) busy = λ e. none_some (sym e ∙ busy refl)
 fills_busy s c a busy = tt
 
 -- the tables after an action, and the promise that they keep

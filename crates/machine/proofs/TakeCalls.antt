@@ -31,10 +31,10 @@ use Rattle.machine_tables.specs.Meant.{taken_for}
 use Rattle.machine_tables.specs.Owned.{HasOwner}
 use Rattle.machine_tables.specs.Parts.{Parts, with_state}
 use Rattle.machine.specs.Promise.{IsSound}
-use Rattle.machine.specs.Turns.{IsBusy}
-use Rattle.machine.proofs.Busy.{busy_for}
+use Rattle.machine.specs.Turns.{is_of_process}
+use Rattle.machine.proofs.AloneLaws.{process_known, run_there}
 use Rattle.machine.proofs.Found.{Looked, found_of}
-use Rattle.machine.proofs.OwnerCalls.{kept_through, owned}
+use Rattle.machine.proofs.OwnerCalls.{SoundIn, kept_through, owned}
 use Rattle.machine.proofs.TakingStays.{took_as}
 
 -- ---- how much is taken
@@ -96,20 +96,17 @@ no_pairs st k u (command.Terminate n) off h = absurd (let no : false ≡ true = 
 no_pairs st k u command.End off h = absurd (let no : false ≡ true = h in cc)
 no_pairs st k u _ off h = refl
 
+-- a processor that comes to this has a process
+pub take_busy : (st : Storage) (k : ℕ) (x : Option Command) → is_of_process (taken_for st k x) ≡ true
+take_busy st k None = refl
+take_busy st k (Some cmd) = refl
+
 module _ {D : Type 0} (t : Parts D) (c : ℕ) (sound : IsSound t) (there : c < length t.state.processors) where
   abbrev s : State
   s = t.state
 
   abbrev keeps : Keeps s
   keeps = sound.keeps.machine.keeps
-
-  -- a processor that comes to this has a process
-  pub take_busy : action_of s c ≡ taken_for s.store (process_at s c) (next_command s (process_at s c)) → IsBusy s c
-  take_busy = by (next_command s (process_at s c))
-    where
-      by : (x : Option Command) → action_of s c ≡ taken_for s.store (process_at s c) x → IsBusy s c
-      by None is = busy_for t c sound there act.Commit is
-      by (Some cmd) is = busy_for t c sound there _ is
 
   module _ (k : ℕ) (its : (cpu_at s.processors c).process ≡ Some k)
       (doing : action_of s c ≡ taken_for s.store (process_at s c) (next_command s (process_at s c))) where
@@ -160,33 +157,35 @@ module _ {D : Type 0} (t : Parts D) (c : ℕ) (sound : IsSound t) (there : c < l
           | inr xs ↦ absurd (xs (no_pairs s.store k u cmd off of))
         ]
 
-    pub take_segment : HasItsSegment s.store k (next_command s k)
-    take_segment = its_segment (next_command s k) some_taken
+    -- what the call asks that takes it: the process runs and has numbers, and there is room for all that is taken
+    pub record IsTakeable : Type 0 where
+      pub run : k < length s.runs
+      pub knows : k < length s.store.links.known
+      pub segment : HasItsSegment s.store k next
+      pub owner : HasOwner s.owner
+      pub pages : length (frames_of_owner s.owner) + length (frames_for s.store k next) ≤ 256
+      pub descriptors : length (cut_of_owner s.owner) + length (pairs_for s.store k next) ≤ 256
+      pub room : length (frames_for s.store k next) + length (pairs_for s.store k next) ≤ s.spare
 
-    pub take_owner : HasOwner s.owner
-    take_owner = owned t c sound there looked.looking.owner
-
-    pub take_frames : length (frames_of_owner s.owner) + length (frames_for s.store k (next_command s k)) ≤ 256
-    take_frames = let none = ap length looked.idle.frames in let few = frames_le s k keeps (next_command s k) in
-        omega (arith, none, few)
-
-    pub take_pairs : length (cut_of_owner s.owner) + length (pairs_for s.store k (next_command s k)) ≤ 256
-    take_pairs = let none = ap length looked.idle.cut in let few = pairs_le s k keeps (next_command s k) in
-        omega (arith, none, few)
-
-    pub take_room : 288 ≤ s.spare
-        → length (frames_for s.store k (next_command s k)) + length (pairs_for s.store k (next_command s k)) ≤ s.spare
-    take_room room = let few = both_le s k keeps (next_command s k) in omega (arith, few, room)
+    pub takeable : 320 ≤ s.spare → IsTakeable
+    takeable room = record {
+      run = run_there t c sound k its;
+      knows = process_known t c sound there k its;
+      segment = its_segment next some_taken;
+      owner = owned t c sound there looked.looking.owner;
+      pages = let none = ap length looked.idle.frames in let few = frames_le s k keeps next in
+          omega (arith, none, few);
+      descriptors = let none = ap length looked.idle.cut in let few = pairs_le s k keeps next in
+          omega (arith, none, few);
+      room = let few = both_le s k keeps next in omega (arith, few, room);
+    }
 
     -- the action by the frames and the descriptors that are taken
     pub take_doing : action_of s c ≡ act.TakeAway (frames_for s.store k (next_command s k))
         (pairs_for s.store k (next_command s k)) (what_for s.store k (next_command s k))
     take_doing = takes
 
-    pub take_sound : (now : Parts D) → now ≡ with_state t (took_for s c k (next_command s k))
-        → IsKept now.state.store.pages now.state.store.ast now.state.store.links
-        → IsStore now.state.store.pages now.state.store.ast now.state.store.links now.state.store.accounts
-        now.state.store.whos → IsSound now
+    pub take_sound : SoundIn t (took_for s c k (next_command s k))
     unfolding after
     take_sound = kept_through t c sound there (taking k next) (took_for s c k (next_command s k)) refl takes refl
         (took_as s c aim.Committing (what_for s.store k next) (frames_for s.store k next) (pairs_for s.store k next))

@@ -3,6 +3,7 @@ use Rattle.std.proofs.Common.{ℕ, List, [], ◌∷◌, Option, Some, None, refl
 use Rattle.std.proofs.lemmas.List.{length-set}
 use Rattle.assoc_mem.specs.declared.What.{What}
 use Rattle.assoc_mem.specs.declared.What.TheVariants as what
+use Rattle.core_map.specs.Clock.{after_choice}
 use Rattle.core_map.specs.CoreMap.{bound_page}
 use Rattle.page_control.specs.Plain.{frame_in}
 use Rattle.seg_control.specs.Control.{leads_at, place_of}
@@ -14,47 +15,16 @@ use Rattle.machine_model.specs.Jobs.{take_all, take_one, took, with_choice, with
 use Rattle.machine_model.specs.Reads.{cut_of_owner, frames_from, trailers_in}
 use Rattle.machine_model.specs.State.{State, Storage}
 use Rattle.machine_model.proofs.ActiveKept.{segs_gone_rest}
-use Rattle.machine.proofs.Stays.{ShowsAs, choice_bindings, then_as, words_stay}
-
-pub same_as : (st : Storage) → ShowsAs st st
-same_as st = record {
-  accounts = refl;
-  known = refl;
-  whos = refl;
-  records = refl;
-  vtocs = refl;
-  words = λ u q h. refl;
-  places = refl;
-  sizes = refl;
-}
+use Rattle.machine.proofs.Stays.{ShowsAs, choice_bindings, core_as, same_as, tables_as, then_as}
 
 -- the clock's choice, with the marks and the hand as they are then
 pub choice_as : (st : Storage) (f : ℕ) → ShowsAs st (with_choice st f)
-choice_as st f = record {
-  accounts = refl;
-  known = refl;
-  whos = refl;
-  records = refl;
-  vtocs = refl;
-  words = λ u q h. words_stay st.pages (with_choice st f).pages (choice_bindings st.pages.core f) refl refl refl u q
-      st.accounts;
-  places = refl;
-  sizes = refl;
-}
+choice_as st f = core_as st (after_choice st.pages.core f) (choice_bindings st.pages.core f)
 
 -- a page that is on its way out
 leaving_by : (st : Storage) (f : ℕ) (x : Option (ℕ × ℕ)) → ShowsAs st (leaving_if st f x)
 leaving_by st f None = same_as st
-leaving_by st f (Some page) = record {
-  accounts = refl;
-  known = refl;
-  whos = refl;
-  records = refl;
-  vtocs = refl;
-  words = λ u q h. refl;
-  places = refl;
-  sizes = refl;
-}
+leaving_by st f (Some page) = tables_as st (leaving_if st f (Some page)).ast st.links refl refl refl
 
 pub leaving_as : (st : Storage) (f : ℕ) → ShowsAs st (with_leaving st f)
 leaving_as st f = leaving_by st f (bound_page (frame_in st.pages f))
@@ -62,16 +32,7 @@ leaving_as st f = leaving_by st f (bound_page (frame_in st.pages f))
 -- a descriptor that is cut
 cut_by : (st : Storage) (k n : ℕ) (x : Option ℕ) → ShowsAs st (record st { links = unlinked st.links k n x })
 cut_by st k n None = same_as st
-cut_by st k n (Some place) = record {
-  accounts = refl;
-  known = refl;
-  whos = refl;
-  records = refl;
-  vtocs = refl;
-  words = λ u q h. refl;
-  places = refl;
-  sizes = refl;
-}
+cut_by st k n (Some place) = tables_as st st.ast (unlinked st.links k n (Some place)) refl refl refl
 
 pub take_as : (s : State) (c : ℕ) (a : Aim) (w : What) (fs : List ℕ) → ShowsAs s.store (take_all s c a w fs).store
 take_as s c a w [] = same_as s.store
@@ -90,16 +51,8 @@ took_as s c a w fs xs = then_as s.store (take_all s c a w fs).store (took s c a 
 
 -- a segment that isn't active any more
 inactive_as : (st : Storage) (u : ℕ) → ShowsAs st (with_inactive st u)
-inactive_as st u = record {
-  accounts = refl;
-  known = refl;
-  whos = refl;
-  records = refl;
-  vtocs = refl;
-  words = λ v q h. refl;
-  places = length-set st.ast.entries (place_of st.ast.entries u) None;
-  sizes = refl;
-}
+inactive_as st u = tables_as st (with_inactive st u).ast st.links refl
+    (length-set st.ast.entries (place_of st.ast.entries u) None) refl
 
 pub emptied_as : (s : State) (c u : ℕ) → ShowsAs s.store (emptied s c u).store
 emptied_as s c u = subst (λ (st : Storage). ShowsAs s.store (with_inactive st u))

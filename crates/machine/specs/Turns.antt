@@ -1,9 +1,10 @@
 -- What a step of a processor does, and what it is answered (own).
-use Rattle.std.specs.Prelude.{◌≡◌, ◌≢◌, ◌⊎◌, ◌<◌, ◌≤◌, ◌++◌, ◌∷◌, ℕ, true, count_by, length, map, sum_by, List}
-use Rattle.std.specs.Prelude.{Option, Some}
+use Rattle.std.specs.Prelude.{◌≡◌, ◌≢◌, ◌⊎◌, ◌<◌, ◌≤◌, ◌+◌, ◌^◌, ◌++◌, ◌∷◌, ℕ, Bool, true, false, count_by, length}
+use Rattle.std.specs.Prelude.{map, sum_by, List, Option, Some}
 use Rattle.book.specs.declared.entries.Entry.{Entry}
 use Rattle.book.specs.declared.entries.Entry.TheVariants as entry
 use Rattle.book.specs.declared.replies.Reply.TheVariants as reply
+use Rattle.custody_model.specs.Next.{released_by}
 use Rattle.flat_model.specs.Store.{progress_of}
 use Rattle.site_io.specs.Faults.{Rose}
 use Rattle.site_io.specs.declared.gate.Point.{Point}
@@ -12,7 +13,7 @@ use Rattle.machine_model.specs.Actions as act
 use Rattle.machine_model.specs.Actions.{action_of}
 use Rattle.machine_model.specs.After.{Outcome, after}
 use Rattle.machine_model.specs.Keeps.{is_fault}
-use Rattle.machine_model.specs.Reads.{cpu_at, flat_of, process_at}
+use Rattle.machine_model.specs.Reads.{cpu_at, flat_of, next_command, process_at, processor_at, run_at}
 use Rattle.machine_model.specs.State.{State}
 use Rattle.machine_tables.specs.Parts.{Parts}
 use Rattle.machine_tables.specs.declared.action.Why.{Why}
@@ -31,6 +32,37 @@ pub record IsStep {D Plan : Type 0} (plan : D → Plan) (places : D → ℕ) (ol
   pub stores : map places new.drives ≡ map places old.drives
   pub count : length new.drives ≡ length old.drives
   pub room : new.room ≡ old.room
+
+-- The rules give processor c this action, and the book has room for what a step adds.
+pub record MayDo (s : State) (c : ℕ) (a : act.Action) : Type 0 where
+  pub doing : action_of s c ≡ a
+  pub there : c < length s.processors
+  pub room : 320 ≤ s.spare
+
+-- whether a processor that does this has a process
+abbrev pub is_of_process : act.Action → Bool
+is_of_process act.IsStopped = false
+is_of_process act.HasEnded = false
+is_of_process (act.Waits reason) = false
+is_of_process act.Online = false
+is_of_process (act.Clear what) = false
+is_of_process (act.Load process) = false
+is_of_process _ = true
+
+-- Processor c does what is done for a process.
+pub record IsAtWork (s : State) (c : ℕ) : Type 0 where
+  pub action : act.Action
+  pub does : MayDo s c action
+  pub of_process : is_of_process action ≡ true
+
+-- Processor c has process k, which may be answered: there is room for it in its commands, in the processor's count, and
+-- in the ready list for those that it releases.
+pub record MayAnswer {D : Type 0} (t : Parts D) (c k : ℕ) : Type 0 where
+  pub process : (cpu_at t.state.processors c).process ≡ Some k
+  pub run : k < length t.state.runs
+  pub place : (run_at t.state.runs k).place + 1 < 2 ^ 32
+  pub count : (processor_at t.state.processors c).count + 1 < 2 ^ 64
+  pub ready : length t.state.ready + length (released_by t.state.plan k (next_command t.state k)) ≤ t.room
 
 -- a processor has a process
 abbrev pub IsBusy : State → ℕ → Type 0

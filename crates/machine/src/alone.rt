@@ -1,11 +1,10 @@
 //! What a processor does without the supervisor.
 
-ghost use Rattle.std.specs.Prelude.{◌≡◌, ◌<◌, ◌≤◌, length, Some};
+ghost use Rattle.std.specs.Prelude.{◌≡◌, Some};
 ghost use Rattle.flat_model.specs.References.{word_reply};
 ghost use Rattle.machine_model.specs.Actions.{Clear, FillPage, FillSeg, Leave, Load, Online, Plain, Through};
-ghost use Rattle.machine_model.specs.Actions.{action_of};
-ghost use Rattle.machine_model.specs.Reads.{cpu_at, processor_at};
-ghost use Rattle.machine.specs.Turns.{IsBusy, IsTurn};
+ghost use Rattle.machine_model.specs.Reads.{cpu_at};
+ghost use Rattle.machine.specs.Turns.{IsAtWork, IsTurn, MayAnswer, MayDo};
 
 use crate::machine::Machine;
 use crate::turn::Turn;
@@ -29,8 +28,7 @@ fn word_reply(old: Word, kind: &RefKind) -> Reply
 impl<D: Drive> Machine<D> {
     /// The process of processor `c`, which has one.
     pub(crate) fn busy(&self, c: u32) -> u32
-        requires busy { IsBusy self.now.state c }
-        requires there { c < length self.now.state.processors }
+        requires { IsAtWork self.now.state c }
         ensures { (cpu_at self.now.state.processors c).process ≡ Some result }
     {
         match self.tables.processors()[c as usize].cpu.process {
@@ -39,23 +37,21 @@ impl<D: Drive> Machine<D> {
         }
     }
 
-    /// How many entries the book has, which is more than the commands that processor `c` has answered since it loaded
-    /// its process.
-    pub(crate) fn entries(&self, c: u32, process: u32) -> usize
-        requires process { (cpu_at self.now.state.processors c).process ≡ Some process }
-        ensures entries { result ≡ length self.now.state.entries }
-        ensures count { (processor_at self.now.state.processors c).count < result }
+    /// The process of processor `c`, which has one that may be answered.
+    pub(crate) fn to_answer(&self, c: u32) -> u32
+        requires { IsAtWork self.now.state c }
+        ensures { MayAnswer self.now c result }
     {
-        self.tables.book().len()
+        let process = self.busy(c);
+        let _entries = self.tables.book().len();
+        process
     }
 }
 
 impl<D: Drive> Machine<D> {
     /// Processor `c` takes part from now on. (Source: own.)
     pub(crate) fn come_online(&mut self, c: u32) -> Turn
-        requires doing { action_of self.old.state c ≡ Online }
-        requires there { c < length self.old.state.processors }
-        requires room { 320 ≤ self.old.state.spare }
+        requires { MayDo self.old.state c Online }
         ensures { IsTurn D.plan D.places self.old self.new c result }
     {
         self.tables.come_online(c);
@@ -64,9 +60,7 @@ impl<D: Drive> Machine<D> {
 
     /// Processor `c` drops what it is to drop. (Source: Bensoussan, Clingen and Daley 1972.)
     pub(crate) fn clear(&mut self, c: u32, what: What) -> Turn
-        requires doing { action_of self.old.state c ≡ Clear what }
-        requires there { c < length self.old.state.processors }
-        requires room { 320 ≤ self.old.state.spare }
+        requires { MayDo self.old.state c (Clear what) }
         ensures { IsTurn D.plan D.places self.old self.new c result }
     {
         self.tables.clear(c, what);
@@ -75,9 +69,7 @@ impl<D: Drive> Machine<D> {
 
     /// Processor `c` loads the process at the front of the ready list. (Source: Corbató 1968.)
     pub(crate) fn load(&mut self, c: u32, process: u32) -> Turn
-        requires doing { action_of self.old.state c ≡ Load process }
-        requires there { c < length self.old.state.processors }
-        requires room { 320 ≤ self.old.state.spare }
+        requires { MayDo self.old.state c (Load process) }
         ensures { IsTurn D.plan D.places self.old self.new c result }
     {
         self.tables.load(c, process);
@@ -86,9 +78,7 @@ impl<D: Drive> Machine<D> {
 
     /// Processor `c` gives its process up, which has had its turn or has ended. (Source: Corbató 1968.)
     pub(crate) fn leave(&mut self, c: u32) -> Turn
-        requires doing { action_of self.old.state c ≡ Leave }
-        requires there { c < length self.old.state.processors }
-        requires room { 320 ≤ self.old.state.spare }
+        requires { MayDo self.old.state c Leave }
         ensures { IsTurn D.plan D.places self.old self.new c result }
     {
         let process = self.busy(c);
@@ -100,9 +90,7 @@ impl<D: Drive> Machine<D> {
 impl<D: Drive> Machine<D> {
     /// Processor `c` takes in the descriptor of a number of its process. (Source: Bensoussan, Clingen and Daley 1972.)
     pub(crate) fn fill_seg(&mut self, c: u32, number: u32) -> Turn
-        requires doing { action_of self.old.state c ≡ FillSeg number }
-        requires there { c < length self.old.state.processors }
-        requires room { 320 ≤ self.old.state.spare }
+        requires { MayDo self.old.state c (FillSeg number) }
         ensures { IsTurn D.plan D.places self.old self.new c result }
     {
         let process = self.busy(c);
@@ -113,9 +101,7 @@ impl<D: Drive> Machine<D> {
     /// Processor `c` takes in the page table word of a reference's page, which is in this frame. (Source: Bensoussan,
     /// Clingen and Daley 1972.)
     pub(crate) fn fill_page(&mut self, c: u32, frame: u32, reference: Reference) -> Turn
-        requires doing { action_of self.old.state c ≡ FillPage frame reference }
-        requires there { c < length self.old.state.processors }
-        requires room { 320 ≤ self.old.state.spare }
+        requires { MayDo self.old.state c (FillPage frame reference) }
         ensures { IsTurn D.plan D.places self.old self.new c result }
     {
         self.tables.fill_page(c, frame, reference);
@@ -125,13 +111,10 @@ impl<D: Drive> Machine<D> {
     /// Processor `c` answers the next command of its process by itself, through no frame: a reference that what it
     /// holds refuses, or one to a page that stays all zeros. (Source: Bensoussan, Clingen and Daley 1972.)
     pub(crate) fn answer(&mut self, c: u32, reply: Reply) -> Turn
-        requires doing { action_of self.old.state c ≡ Plain reply }
-        requires there { c < length self.old.state.processors }
-        requires room { 320 ≤ self.old.state.spare }
+        requires { MayDo self.old.state c (Plain reply) }
         ensures { IsTurn D.plan D.places self.old self.new c result }
     {
-        let process = self.busy(c);
-        let _entries = self.entries(c, process);
+        let process = self.to_answer(c);
         self.tables.tell(c, process, None, reply);
         Turn::Moved(Point::Other)
     }
@@ -139,13 +122,10 @@ impl<D: Drive> Machine<D> {
     /// Processor `c` reads or writes the word of a reference in this frame, with the marks that go with it, and answers
     /// it. (Source: Bensoussan, Clingen and Daley 1972.)
     pub(crate) fn through(&mut self, c: u32, frame: u32, reference: Reference) -> Turn
-        requires doing { action_of self.old.state c ≡ Through frame reference }
-        requires there { c < length self.old.state.processors }
-        requires room { 320 ≤ self.old.state.spare }
+        requires { MayDo self.old.state c (Through frame reference) }
         ensures { IsTurn D.plan D.places self.old self.new c result }
     {
-        let process = self.busy(c);
-        let _entries = self.entries(c, process);
+        let process = self.to_answer(c);
         let word = self.tables.reach(frame, &reference);
         let reply = word_reply(word, &reference.kind);
         self.tables.tell(c, process, Some(frame), reply);

@@ -1,8 +1,7 @@
 //! What ends with a call of a drive, which may fail.
 
-ghost use Rattle.std.specs.Prelude.{◌≡◌, ◌<◌, ◌≤◌, length};
-ghost use Rattle.machine_model.specs.Actions.{EndTransfer, FinishEviction, FinishPage, action_of};
-ghost use Rattle.machine.specs.Turns.{IsTurn};
+ghost use Rattle.machine_model.specs.Actions.{EndTransfer, FinishEviction, FinishPage};
+ghost use Rattle.machine.specs.Turns.{IsTurn, MayDo};
 
 use crate::machine::Machine;
 use crate::turn::Turn;
@@ -14,13 +13,10 @@ impl<D: Drive> Machine<D> {
     /// The transfer of processor `c` ends: the page is in its frame; or, where the drive failed, the frame is free, and
     /// the process is told of the failure and answered. It costs one read of the drive. (Source: own.)
     pub(crate) fn end_transfer(&mut self, c: u32, transfer: Transfer) -> Turn
-        requires doing { action_of self.old.state c ≡ EndTransfer transfer }
-        requires there { c < length self.old.state.processors }
-        requires room { 320 ≤ self.old.state.spare }
+        requires { MayDo self.old.state c (EndTransfer transfer) }
         ensures { IsTurn D.plan D.places self.old self.new c result }
     {
-        let process = self.busy(c);
-        let _entries = self.entries(c, process);
+        let process = self.to_answer(c);
         let _before = self.tables.look();
         let _read = self.tables.end_transfer(c, process, transfer);
         let _tables = self.tables.look();
@@ -31,13 +27,10 @@ impl<D: Drive> Machine<D> {
     /// drive failed, the page is here again, and the process is told of the failure and answered. It costs one write of
     /// the drive at the most. (Source: Bensoussan, Clingen and Daley 1972.)
     pub(crate) fn finish_eviction(&mut self, c: u32, frame: u32) -> Turn
-        requires doing { action_of self.old.state c ≡ FinishEviction frame }
-        requires there { c < length self.old.state.processors }
-        requires room { 320 ≤ self.old.state.spare }
+        requires { MayDo self.old.state c (FinishEviction frame) }
         ensures { IsTurn D.plan D.places self.old self.new c result }
     {
-        let process = self.busy(c);
-        let _entries = self.entries(c, process);
+        let process = self.to_answer(c);
         let _before = self.tables.look();
         let _gone = self.tables.finish_eviction(c, process, frame);
         let _tables = self.tables.look();
@@ -48,13 +41,10 @@ impl<D: Drive> Machine<D> {
     /// was taken is here again, and the process is told of the failure and answered. It costs one write of the drive at
     /// the most. (Source: Bensoussan, Clingen and Daley 1972.)
     pub(crate) fn finish_page(&mut self, c: u32, frame: u32) -> Turn
-        requires doing { action_of self.old.state c ≡ FinishPage frame }
-        requires there { c < length self.old.state.processors }
-        requires room { 320 ≤ self.old.state.spare }
+        requires { MayDo self.old.state c (FinishPage frame) }
         ensures { IsTurn D.plan D.places self.old self.new c result }
     {
-        let process = self.busy(c);
-        let _entries = self.entries(c, process);
+        let process = self.to_answer(c);
         let _before = self.tables.look();
         let _gone = self.tables.finish_page(c, process, frame);
         let _tables = self.tables.look();

@@ -1,9 +1,8 @@
 //! Segments become active, along the chain of superiors of what the next command is about.
 
-ghost use Rattle.std.specs.Prelude.{◌≡◌, ◌<◌, ◌≤◌, length};
 ghost use Rattle.dir_tree.specs.Nodes.{chain_of};
-ghost use Rattle.machine_model.specs.Actions.{Activate, EmptyVictim, action_of};
-ghost use Rattle.machine.specs.Turns.{IsTurn};
+ghost use Rattle.machine_model.specs.Actions.{Activate, EmptyVictim};
+ghost use Rattle.machine.specs.Turns.{IsTurn, MayDo};
 
 use crate::machine::Machine;
 use crate::turn::Turn;
@@ -15,9 +14,7 @@ impl<D: Drive> Machine<D> {
     /// `c`, which owns the supervisor. It costs a write for each word of the page table. (Source: Bensoussan, Clingen
     /// and Daley 1972; Organick 1972.)
     pub(crate) fn activate(&mut self, c: u32, uid: u32, place: u32) -> Turn
-        requires doing { action_of self.old.state c ≡ Activate uid place }
-        requires there { c < length self.old.state.processors }
-        requires room { 320 ≤ self.old.state.spare }
+        requires { MayDo self.old.state c (Activate uid place) }
         ensures { IsTurn D.plan D.places self.old self.new c result }
     {
         let _place = self.tables.activate(uid, uid);
@@ -29,10 +26,7 @@ impl<D: Drive> Machine<D> {
     /// inactive: the pool has no place for the next segment of the chain of node `of`. The pool's hand moves on.
     /// (Source: Bensoussan, Clingen and Daley 1972; Organick 1972.)
     pub(crate) fn empty_victim(&mut self, c: u32, pool: u32, of: u32, uid: u32) -> Turn
-        requires doing { action_of self.old.state c
-            ≡ EmptyVictim pool (chain_of self.old.state.store.accounts.nodes of) uid }
-        requires there { c < length self.old.state.processors }
-        requires room { 320 ≤ self.old.state.spare }
+        requires { MayDo self.old.state c (EmptyVictim pool (chain_of self.old.state.store.accounts.nodes of) uid) }
         ensures { IsTurn D.plan D.places self.old self.new c result }
     {
         self.tables.take_victim(c, of, uid);

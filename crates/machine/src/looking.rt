@@ -1,8 +1,7 @@
 //! What a look for the next command does that ends at once.
 
-ghost use Rattle.std.specs.Prelude.{◌≡◌, ◌<◌, ◌≤◌, length};
-ghost use Rattle.machine_model.specs.Actions.{Answer, GiveUp, action_of};
-ghost use Rattle.machine.specs.Turns.{IsTurn};
+ghost use Rattle.machine_model.specs.Actions.{Answer, GiveUp};
+ghost use Rattle.machine.specs.Turns.{IsTurn, MayDo};
 
 use crate::machine::Machine;
 use crate::turn::Turn;
@@ -14,13 +13,10 @@ impl<D: Drive> Machine<D> {
     /// The owner's look finds what refuses the next command of its process: processor `c` answers it and gives the
     /// supervisor up. (Source: own.)
     pub(crate) fn refuse(&mut self, c: u32, reply: Reply) -> Turn
-        requires doing { action_of self.old.state c ≡ Answer reply }
-        requires there { c < length self.old.state.processors }
-        requires room { 320 ≤ self.old.state.spare }
+        requires { MayDo self.old.state c (Answer reply) }
         ensures { IsTurn D.plan D.places self.old self.new c result }
     {
-        let process = self.busy(c);
-        let _entries = self.entries(c, process);
+        let process = self.to_answer(c);
         self.tables.tell(c, process, None, reply);
         self.tables.give_up();
         Turn::Moved(Point::Other)
@@ -28,9 +24,7 @@ impl<D: Drive> Machine<D> {
 
     /// Processor `_c`, which owns the supervisor and found nothing to do, gives it up. (Source: own.)
     pub(crate) fn give_up(&mut self, _c: u32) -> Turn
-        requires doing { action_of self.old.state _c ≡ GiveUp }
-        requires there { _c < length self.old.state.processors }
-        requires room { 320 ≤ self.old.state.spare }
+        requires { MayDo self.old.state _c GiveUp }
         ensures { IsTurn D.plan D.places self.old self.new _c result }
     {
         self.tables.give_up();

@@ -1,11 +1,10 @@
 //! What the owner of the supervisor does for the next command of its process: a page is made; what a tree command must
 //! have out of use is taken; or it takes effect.
 
-ghost use Rattle.std.specs.Prelude.{◌≡◌, ◌<◌, ◌≤◌, length};
-ghost use Rattle.machine_model.specs.Actions.{Commit, Create, action_of};
+ghost use Rattle.machine_model.specs.Actions.{Commit, Create};
 ghost use Rattle.machine_model.specs.Reads.{next_command, process_at};
 ghost use Rattle.machine_tables.specs.Meant.{taken_for};
-ghost use Rattle.machine.specs.Turns.{IsTurn};
+ghost use Rattle.machine.specs.Turns.{IsTurn, MayDo};
 
 use crate::machine::Machine;
 use crate::turn::Turn;
@@ -25,13 +24,10 @@ impl<D: Drive> Machine<D> {
         page: u32,
         reference: Reference,
     ) -> Turn
-        requires doing { action_of self.old.state c ≡ Create frame uid page reference }
-        requires there { c < length self.old.state.processors }
-        requires room { 320 ≤ self.old.state.spare }
+        requires { MayDo self.old.state c (Create frame uid page reference) }
         ensures { IsTurn D.plan D.places self.old self.new c result }
     {
-        let process = self.busy(c);
-        let _entries = self.entries(c, process);
+        let process = self.to_answer(c);
         self.tables.create(c, process, frame, uid, page, reference);
         let _tables = self.tables.look();
         Turn::Moved(Point::Other)
@@ -41,10 +37,8 @@ impl<D: Drive> Machine<D> {
     /// pages that a `truncate` or a `delete` cuts are on their way out then, and the descriptors are cut that an `acl`,
     /// a `delete`, a `terminate` or an `end` changes. (Source: Bensoussan, Clingen and Daley 1972; Organick 1972.)
     pub(crate) fn take_away(&mut self, c: u32) -> Turn
-        requires doing { taken_for self.old.state.store (process_at self.old.state c)
-            (next_command self.old.state (process_at self.old.state c)) ≡ action_of self.old.state c }
-        requires there { c < length self.old.state.processors }
-        requires room { 320 ≤ self.old.state.spare }
+        requires { MayDo self.old.state c (taken_for self.old.state.store (process_at self.old.state c)
+            (next_command self.old.state (process_at self.old.state c))) }
         ensures { IsTurn D.plan D.places self.old self.new c result }
     {
         let process = self.busy(c);
@@ -56,13 +50,10 @@ impl<D: Drive> Machine<D> {
     /// took is gone, the process is answered, and the supervisor is given up. At its end the process leaves the
     /// processor. (Source: Bensoussan, Clingen and Daley 1972; Organick 1972.)
     pub(crate) fn commit(&mut self, c: u32) -> Turn
-        requires doing { action_of self.old.state c ≡ Commit }
-        requires there { c < length self.old.state.processors }
-        requires room { 320 ≤ self.old.state.spare }
+        requires { MayDo self.old.state c Commit }
         ensures { IsTurn D.plan D.places self.old self.new c result }
     {
-        let process = self.busy(c);
-        let _entries = self.entries(c, process);
+        let process = self.to_answer(c);
         let _volumes = self.tables.volumes().count();
         self.tables.commit(c, process);
         let _tables = self.tables.look();

@@ -1,12 +1,10 @@
 //! What the owner of the supervisor does: it takes pages and descriptors, has the other processors drop them, and lets
 //! them go.
 
-ghost use Rattle.std.specs.Prelude.{◌≡◌, ◌<◌, ◌≤◌, length};
 ghost use Rattle.core_map.specs.Clock.{clock_choice};
-ghost use Rattle.machine_model.specs.Actions.{Connect, Deactivate, Empty, Evict, Signal, Start};
-ghost use Rattle.machine_model.specs.Actions.{TakeSupervisor, action_of};
+ghost use Rattle.machine_model.specs.Actions.{Connect, Deactivate, Empty, Evict, Signal, Start, TakeSupervisor};
 ghost use Rattle.machine_model.specs.Reads.{or_zero};
-ghost use Rattle.machine.specs.Turns.{IsTurn};
+ghost use Rattle.machine.specs.Turns.{IsTurn, MayDo};
 
 use crate::machine::Machine;
 use crate::turn::Turn;
@@ -17,9 +15,7 @@ use volumes::Drive;
 impl<D: Drive> Machine<D> {
     /// Processor `c` owns the supervisor from now on, and looks. (Source: own.)
     pub(crate) fn take_supervisor(&mut self, c: u32) -> Turn
-        requires doing { action_of self.old.state c ≡ TakeSupervisor }
-        requires there { c < length self.old.state.processors }
-        requires room { 320 ≤ self.old.state.spare }
+        requires { MayDo self.old.state c TakeSupervisor }
         ensures { IsTurn D.plan D.places self.old self.new c result }
     {
         self.tables.take_supervisor(c);
@@ -29,9 +25,7 @@ impl<D: Drive> Machine<D> {
     /// Processor `c` drops what is named and has the others that take part drop it. The owner's job waits for them.
     /// (Source: Bensoussan, Clingen and Daley 1972.)
     pub(crate) fn signal(&mut self, c: u32, what: What) -> Turn
-        requires doing { action_of self.old.state c ≡ Signal what }
-        requires there { c < length self.old.state.processors }
-        requires room { 320 ≤ self.old.state.spare }
+        requires { MayDo self.old.state c (Signal what) }
         ensures { IsTurn D.plan D.places self.old self.new c result }
     {
         self.tables.signal(c, what);
@@ -43,9 +37,7 @@ impl<D: Drive> Machine<D> {
     /// Processor `c` reads page `p` of an active segment into the free frame `f` from now on, and gives the supervisor
     /// up. (Source: own.)
     pub(crate) fn start(&mut self, c: u32, f: u32, uid: u32, p: u32) -> Turn
-        requires doing { action_of self.old.state c ≡ Start f uid p }
-        requires there { c < length self.old.state.processors }
-        requires room { 320 ≤ self.old.state.spare }
+        requires { MayDo self.old.state c (Start f uid p) }
         ensures { IsTurn D.plan D.places self.old self.new c result }
     {
         self.tables.start(c, f, uid, p);
@@ -57,9 +49,7 @@ impl<D: Drive> Machine<D> {
     /// of the process's access and the length of the segment. (Source: Bensoussan, Clingen and Daley 1972; Organick
     /// 1972.)
     pub(crate) fn connect(&mut self, c: u32, number: u32, uid: u32) -> Turn
-        requires doing { action_of self.old.state c ≡ Connect number uid }
-        requires there { c < length self.old.state.processors }
-        requires room { 320 ≤ self.old.state.spare }
+        requires { MayDo self.old.state c (Connect number uid) }
         ensures { IsTurn D.plan D.places self.old self.new c result }
     {
         let process = self.busy(c);
@@ -73,9 +63,7 @@ impl<D: Drive> Machine<D> {
     /// Processor `c`, which owns the supervisor, makes a segment inactive of which everything was taken, and looks
     /// again: the descriptors that it cut are gone. (Source: Bensoussan, Clingen and Daley 1972; Organick 1972.)
     pub(crate) fn deactivate(&mut self, c: u32, uid: u32) -> Turn
-        requires doing { action_of self.old.state c ≡ Deactivate uid }
-        requires there { c < length self.old.state.processors }
-        requires room { 320 ≤ self.old.state.spare }
+        requires { MayDo self.old.state c (Deactivate uid) }
         ensures { IsTurn D.plan D.places self.old self.new c result }
     {
         self.tables.deactivate(c, uid);
@@ -86,9 +74,7 @@ impl<D: Drive> Machine<D> {
     /// Processor `c`, which owns the supervisor, takes the page in the frame that the clock chooses. (Source: Corbató
     /// 1968.)
     pub(crate) fn evict(&mut self, c: u32) -> Turn
-        requires doing { action_of self.old.state c ≡ Evict (or_zero (clock_choice self.old.state.store.pages.core)) }
-        requires there { c < length self.old.state.processors }
-        requires room { 320 ≤ self.old.state.spare }
+        requires { MayDo self.old.state c (Evict (or_zero (clock_choice self.old.state.store.pages.core))) }
         ensures { IsTurn D.plan D.places self.old self.new c result }
     {
         let _f = self.tables.evict(c);
@@ -100,9 +86,7 @@ impl<D: Drive> Machine<D> {
     /// and cuts the descriptors that lead to it, one of each of 32 processes at the most, so that it becomes inactive;
     /// where there are none it is inactive at once. (Source: Bensoussan, Clingen and Daley 1972; Organick 1972.)
     pub(crate) fn empty(&mut self, c: u32, uid: u32) -> Turn
-        requires doing { action_of self.old.state c ≡ Empty uid }
-        requires there { c < length self.old.state.processors }
-        requires room { 320 ≤ self.old.state.spare }
+        requires { MayDo self.old.state c (Empty uid) }
         ensures { IsTurn D.plan D.places self.old self.new c result }
     {
         self.tables.empty(c, uid);

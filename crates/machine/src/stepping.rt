@@ -4,7 +4,7 @@ ghost use Rattle.std.specs.Prelude.{◌≡◌, ◌<◌, ◌≤◌, length};
 ghost use Rattle.machine_model.specs.Actions.{action_of};
 ghost use Rattle.machine_model.specs.Reads.{process_at};
 ghost use Rattle.machine_tables.specs.Meant.{meant};
-ghost use Rattle.machine.specs.Turns.{Appends, Changes, IfMoved, IfStill, IsTurn, KeepsParts, TellsFaults};
+ghost use Rattle.machine.specs.Turns.{Appends, Changes, IfMoved, IfStill, IsTurn, KeepsParts, MayDo, TellsFaults};
 
 use crate::machine::Machine;
 use crate::turn::Turn;
@@ -22,9 +22,7 @@ impl<D: Drive> Machine<D> {
 
     /// Processor `c` does what it does in its next step.
     pub(crate) fn act(&mut self, c: u32, action: Action) -> Turn
-        requires doing { meant self.old.state (process_at self.old.state c) action ≡ action_of self.old.state c }
-        requires there { c < length self.old.state.processors }
-        requires room { 320 ≤ self.old.state.spare }
+        requires { MayDo self.old.state c (meant self.old.state (process_at self.old.state c) action) }
         ensures { IsTurn D.plan D.places self.old self.new c result }
     {
         match action {

@@ -1,15 +1,7 @@
-use Rattle.machine_model.specs.Actions as act
-use Rattle.machine.proofs.AloneLaws.{place_room, released_room, run_there}
-use Rattle.machine.proofs.Busy.{busy_for}
 use Rattle.machine.proofs.DriveCounts.{call_counts}
 use Rattle.machine.proofs.StepDone.{transfer_turn}
 use Rattle.machine.proofs.TransferCalls.{ending, transfer_after, transfer_sound}
 use Rattle.machine.proofs.machine.Machine.end_transfer.Goals as goal
-
-pub busy-process-requires-clause-busy : goal.busy-process-requires-clause-busy
-busy-process-requires-clause-busy g c = rw (← c.self.view_is)
-    (busy_for _ c.args.c c.self.invariant (rw c.self.view_is c.requires.there) (act.EndTransfer c.args.transfer)
-    (rw c.self.view_is c.requires.doing))
 
 pub end_transfer-read-requires-clause-active : goal.end_transfer-read-requires-clause-active
 end_transfer-read-requires-clause-active g c =
@@ -24,18 +16,6 @@ pub end_transfer-read-requires-clause-started : goal.end_transfer-read-requires-
 end_transfer-read-requires-clause-started g c =
     (ending _ c.args.c c.self.invariant (rw c.self.view_is c.requires.there) c.args.transfer
     (rw c.self.view_is c.requires.doing)).started
-
-pub end_transfer-read-requires-clause-run : goal.end_transfer-read-requires-clause-run
-end_transfer-read-requires-clause-run g c = run_there _ c.args.c c.self.invariant c.busy-process.result
-    (rw c.self.view_is c.busy-process.ensures)
-
-pub end_transfer-read-requires-clause-place : goal.end_transfer-read-requires-clause-place
-end_transfer-read-requires-clause-place g c = place_room _ c.args.c c.self.invariant c.busy-process.result
-    (rw c.self.view_is c.busy-process.ensures) (rw c.self.view_is c.requires.there)
-
-pub end_transfer-read-requires-clause-ready : goal.end_transfer-read-requires-clause-ready
-end_transfer-read-requires-clause-ready g c = released_room _ c.args.c c.self.invariant c.busy-process.result
-    (rw c.self.view_is c.busy-process.ensures) _
 
 pub returns : goal.returns
 returns g c = rw (← c.self.view_is) (transfer_turn _ _ _ c.end_transfer-read.new.self c.args.c _ c.args.transfer _

@@ -1,22 +1,15 @@
+use Rattle.std.proofs.Common.{◌<◌, ◌≤◌, arith, rules}
 use Rattle.machine.proofs.OwnerCalls.{evict_doing, evict_sound, evictable}
 use Rattle.machine.proofs.StepDone.{evict_turn}
 use Rattle.machine.proofs.machine.Machine.evict.Goals as goal
 
-pub evict-f-requires-clause-bound : goal.evict-f-requires-clause-bound
-evict-f-requires-clause-bound g c = (evictable _ c.args.c c.self.invariant (rw c.self.view_is c.requires.there)
-    (rw c.self.view_is c.requires.doing)).bound
-
-pub evict-f-requires-clause-here : goal.evict-f-requires-clause-here
-evict-f-requires-clause-here g c = (evictable _ c.args.c c.self.invariant (rw c.self.view_is c.requires.there)
-    (rw c.self.view_is c.requires.doing)).here
-
-pub evict-f-requires-clause-owner : goal.evict-f-requires-clause-owner
-evict-f-requires-clause-owner g c = (evictable _ c.args.c c.self.invariant (rw c.self.view_is c.requires.there)
-    (rw c.self.view_is c.requires.doing)).owner
-
-pub evict-f-requires-clause-few : goal.evict-f-requires-clause-few
-evict-f-requires-clause-few g c = (evictable _ c.args.c c.self.invariant (rw c.self.view_is c.requires.there)
-    (rw c.self.view_is c.requires.doing)).few
+pub evict-f-requires : goal.evict-f-requires
+evict-f-requires g c =
+    let can = evictable _ c.args.c c.self.invariant (rw c.self.view_is c.requires.there)
+    (rw c.self.view_is c.requires.doing) in
+    let room : 320 ≤ c.self.inside.tables.state.spare = rw c.self.view_is c.requires.room in
+    let some : 0 < c.self.inside.tables.state.spare = omega (arith, room) in
+    search rules
 
 pub returns : goal.returns
 returns g c = rw (← c.self.view_is) (evict_turn _ _ _ _ c.args.c c.evict-f.result

@@ -1,14 +1,7 @@
-use Rattle.machine_model.specs.Actions as act
 use Rattle.machine.proofs.AloneLaws.{number_there, process_known, seg_not_held}
-use Rattle.machine.proofs.Busy.{busy_for}
 use Rattle.machine.proofs.Quiet.{fill_seg_sound}
 use Rattle.machine.proofs.StepDone.{fill_seg_turn}
 use Rattle.machine.proofs.machine.Machine.fill_seg.Goals as goal
-
-pub busy-process-requires-clause-busy : goal.busy-process-requires-clause-busy
-busy-process-requires-clause-busy g c = rw (← c.self.view_is)
-    (busy_for _ c.args.c c.self.invariant (rw c.self.view_is c.requires.there) (act.FillSeg c.args.number)
-    (rw c.self.view_is c.requires.doing))
 
 pub fill_seg-requires-clause-known : goal.fill_seg-requires-clause-known
 fill_seg-requires-clause-known g c = process_known _ c.args.c c.self.invariant (rw c.self.view_is c.requires.there)

@@ -1,16 +1,7 @@
-use Rattle.std.proofs.Common.{◌<◌, ◌≤◌, arith}
-use Rattle.machine_model.specs.Actions as act
-use Rattle.machine_model.specs.Reads.{processor_at}
-use Rattle.machine.proofs.Busy.{busy_for}
 use Rattle.machine.proofs.DriveCounts.{call_counts}
 use Rattle.machine.proofs.FinishCalls.{may_fail, eviction_after, eviction_leaves, eviction_owner, eviction_sound}
 use Rattle.machine.proofs.StepDone.{eviction_turn}
 use Rattle.machine.proofs.machine.Machine.finish_eviction.Goals as goal
-
-pub busy-process-requires-clause-busy : goal.busy-process-requires-clause-busy
-busy-process-requires-clause-busy g c = rw (← c.self.view_is)
-    (busy_for _ c.args.c c.self.invariant (rw c.self.view_is c.requires.there) (act.FinishEviction c.args.frame)
-    (rw c.self.view_is c.requires.doing))
 
 pub finish_eviction-gone-requires-clause-leaving : goal.finish_eviction-gone-requires-clause-leaving
 finish_eviction-gone-requires-clause-leaving g c = eviction_leaves _ c.args.c c.self.invariant
@@ -19,14 +10,9 @@ finish_eviction-gone-requires-clause-leaving g c = eviction_leaves _ c.args.c c.
 
 pub finish_eviction-gone-requires-clause-failing : goal.finish_eviction-gone-requires-clause-failing
 finish_eviction-gone-requires-clause-failing g c = may_fail _ c.args.c c.self.invariant
-    (rw c.self.view_is c.requires.there)
-    c.busy-process.result (rw c.self.view_is c.busy-process.ensures)
+    (rw c.self.view_is c.requires.there) c.to_answer-process.result (rw c.self.view_is c.to_answer-process.ensures)
     (eviction_owner _ c.args.c c.self.invariant (rw c.self.view_is c.requires.there) c.args.frame
-    (rw c.self.view_is c.requires.doing))
-    (let count : (processor_at c.self.inside.tables.state.processors c.args.c).count < c.entries-entries.result
-    = rw c.self.view_is c.entries-entries.ensures.count in
-    let fits = c.entries-entries.type_inv in omega (arith, count, fits))
-    (let room : 320 ≤ c.self.inside.tables.state.spare = rw c.self.view_is c.requires.room in omega (arith, room))
+    (rw c.self.view_is c.requires.doing)) (rw c.self.view_is c.requires.room)
 
 pub returns : goal.returns
 returns g c = rw (← c.self.view_is) (eviction_turn _ _ _ c.finish_eviction-gone.new.self c.args.c _ c.args.frame _

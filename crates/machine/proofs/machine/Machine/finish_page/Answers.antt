@@ -1,16 +1,7 @@
-use Rattle.std.proofs.Common.{◌<◌, ◌≤◌, arith}
-use Rattle.machine_model.specs.Actions as act
-use Rattle.machine_model.specs.Reads.{processor_at}
-use Rattle.machine.proofs.Busy.{busy_for}
 use Rattle.machine.proofs.DriveCounts.{call_counts}
 use Rattle.machine.proofs.FinishCalls.{may_fail, page_after, page_leaves, page_owner, page_sound}
 use Rattle.machine.proofs.StepDone.{page_turn}
 use Rattle.machine.proofs.machine.Machine.finish_page.Goals as goal
-
-pub busy-process-requires-clause-busy : goal.busy-process-requires-clause-busy
-busy-process-requires-clause-busy g c = rw (← c.self.view_is)
-    (busy_for _ c.args.c c.self.invariant (rw c.self.view_is c.requires.there) (act.FinishPage c.args.frame)
-    (rw c.self.view_is c.requires.doing))
 
 pub finish_page-gone-requires-clause-leaving : goal.finish_page-gone-requires-clause-leaving
 finish_page-gone-requires-clause-leaving g c = page_leaves _ c.args.c c.self.invariant
@@ -18,14 +9,10 @@ finish_page-gone-requires-clause-leaving g c = page_leaves _ c.args.c c.self.inv
     c.args.frame (rw c.self.view_is c.requires.doing)
 
 pub finish_page-gone-requires-clause-failing : goal.finish_page-gone-requires-clause-failing
-finish_page-gone-requires-clause-failing g c = may_fail _ c.args.c c.self.invariant (rw c.self.view_is c.requires.there)
-    c.busy-process.result (rw c.self.view_is c.busy-process.ensures)
+finish_page-gone-requires-clause-failing g c = may_fail _ c.args.c c.self.invariant
+    (rw c.self.view_is c.requires.there) c.to_answer-process.result (rw c.self.view_is c.to_answer-process.ensures)
     (page_owner _ c.args.c c.self.invariant (rw c.self.view_is c.requires.there) c.args.frame
-    (rw c.self.view_is c.requires.doing))
-    (let count : (processor_at c.self.inside.tables.state.processors c.args.c).count < c.entries-entries.result
-    = rw c.self.view_is c.entries-entries.ensures.count in
-    let fits = c.entries-entries.type_inv in omega (arith, count, fits))
-    (let room : 320 ≤ c.self.inside.tables.state.spare = rw c.self.view_is c.requires.room in omega (arith, room))
+    (rw c.self.view_is c.requires.doing)) (rw c.self.view_is c.requires.room)
 
 pub returns : goal.returns
 returns g c = rw (← c.self.view_is) (page_turn _ _ _ c.finish_page-gone.new.self c.args.c _ c.args.frame _

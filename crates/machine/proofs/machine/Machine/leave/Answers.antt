@@ -1,14 +1,7 @@
-use Rattle.machine_model.specs.Actions as act
 use Rattle.machine.proofs.AloneLaws.{ready_room, run_there}
-use Rattle.machine.proofs.Busy.{busy_for}
 use Rattle.machine.proofs.Quiet.{leave_sound}
 use Rattle.machine.proofs.StepDone.{leave_turn}
 use Rattle.machine.proofs.machine.Machine.leave.Goals as goal
-
-pub busy-process-requires-clause-busy : goal.busy-process-requires-clause-busy
-busy-process-requires-clause-busy g c = rw (← c.self.view_is)
-    (busy_for _ c.args.c c.self.invariant (rw c.self.view_is c.requires.there) (act.Leave)
-    (rw c.self.view_is c.requires.doing))
 
 pub leave-requires-clause-run : goal.leave-requires-clause-run
 leave-requires-clause-run g c = run_there _ c.args.c c.self.invariant c.busy-process.result

@@ -1,43 +1,34 @@
-use Rattle.machine_model.specs.Actions as act
-use Rattle.machine.proofs.AloneLaws.{place_room, released_room, run_there}
-use Rattle.machine.proofs.Busy.{busy_for}
 use Rattle.machine.proofs.StepDone.{through_turn}
 use Rattle.machine.proofs.ThroughCalls.{through_bound, through_done, through_sound}
 use Rattle.machine.proofs.machine.Machine.through.Goals as goal
-
-pub busy-process-requires-clause-busy : goal.busy-process-requires-clause-busy
-busy-process-requires-clause-busy g c = rw (← c.self.view_is)
-    (busy_for _ c.args.c c.self.invariant (rw c.self.view_is c.requires.there)
-    (act.Through c.args.frame c.args.reference) (rw c.self.view_is c.requires.doing))
 
 pub reach-word-requires : goal.reach-word-requires
 reach-word-requires g c = through_bound _ c.args.c c.self.invariant (rw c.self.view_is c.requires.there) c.args.frame
     c.args.reference (rw c.self.view_is c.requires.doing)
 
 pub tell-requires-clause-run : goal.tell-requires-clause-run
-tell-requires-clause-run g c = rw c.reach-word.ensures.effect
-    (run_there _ c.args.c c.self.invariant c.busy-process.result (rw c.self.view_is c.busy-process.ensures))
+tell-requires-clause-run g c = rw c.reach-word.ensures.effect (rw c.self.view_is c.to_answer-process.ensures.run)
 
 pub tell-requires-clause-place : goal.tell-requires-clause-place
-tell-requires-clause-place g c = rw c.reach-word.ensures.effect (place_room _ c.args.c c.self.invariant
-    c.busy-process.result (rw c.self.view_is c.busy-process.ensures) (rw c.self.view_is c.requires.there))
+tell-requires-clause-place g c = rw c.reach-word.ensures.effect (rw c.self.view_is c.to_answer-process.ensures.place)
 
 pub tell-requires-clause-ready : goal.tell-requires-clause-ready
-tell-requires-clause-ready g c = rw c.reach-word.ensures.effect (released_room _ c.args.c c.self.invariant
-    c.busy-process.result (rw c.self.view_is c.busy-process.ensures) _)
+tell-requires-clause-ready g c = rw c.reach-word.ensures.effect (rw c.self.view_is c.to_answer-process.ensures.ready)
 
 pub returns : goal.returns
-returns g c = rw (← c.self.view_is) (through_turn _ _ _ _ c.args.c c.args.frame c.busy-process.result c.args.reference
-    (rw c.self.view_is c.busy-process.ensures) (rw c.self.view_is c.requires.doing)
+returns g c = rw (← c.self.view_is) (through_turn _ _ _ _ c.args.c c.args.frame c.to_answer-process.result
+    c.args.reference
+    (rw c.self.view_is c.to_answer-process.ensures.process) (rw c.self.view_is c.requires.doing)
     (through_done _ c.args.c c.self.invariant (rw c.self.view_is c.requires.there) c.args.frame c.args.reference
-    (rw c.self.view_is c.requires.doing) c.busy-process.result (rw c.self.view_is c.busy-process.ensures) _ _
+    (rw c.self.view_is c.requires.doing) c.to_answer-process.result
+    (rw c.self.view_is c.to_answer-process.ensures.process) _ _
     c.reach-word.result c.word_reply-reply.result c.reach-word.ensures.effect c.reach-word.ensures.word
     c.word_reply-reply.ensures c.tell.ensures))
 
 pub invariant_of-self : goal.invariant_of-self
 invariant_of-self g c = through_sound _ c.args.c c.self.invariant (rw c.self.view_is c.requires.there) c.args.frame
-    c.args.reference (rw c.self.view_is c.requires.doing) c.busy-process.result
-    (rw c.self.view_is c.busy-process.ensures) _ _ c.reach-word.result c.word_reply-reply.result
+    c.args.reference (rw c.self.view_is c.requires.doing) c.to_answer-process.result
+    (rw c.self.view_is c.to_answer-process.ensures.process) _ _ c.reach-word.result c.word_reply-reply.result
     c.reach-word.ensures.effect c.reach-word.ensures.word c.word_reply-reply.ensures c.tell.ensures
     c.reach-word.ensures.shown (record {
       kept = c.look-tables.ensures.kept;
