@@ -20,6 +20,7 @@ pub mod FirstLaws
 pub mod FrameLaws
 pub mod GainLaws
 pub mod GoneLaws
+pub mod InsideLaws
 pub mod JobLaws
 pub mod JoinLaws
 pub mod LeftLaws

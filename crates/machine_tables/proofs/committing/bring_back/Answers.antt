@@ -1,54 +1,39 @@
-use Rattle.std.proofs.Common.{◌≡◌, ◌∙◌, Some, ap, subst}
+use Rattle.std.proofs.Common.{◌≡◌, ◌∙◌, ℕ, List, Some, ap, subst}
 use Rattle.page_control.specs.Plain.{plain}
-use Rattle.active_segs.specs.Active.{ActiveSegs}
+use Rattle.active_segs.specs.Active.{ActiveSegs, IsActive}
 use Rattle.seg_control.specs.Control.{Control, word_of}
 use Rattle.seg_control.specs.Kept.{IsKept}
 use Rattle.storage_ops.specs.Cut.{leaves}
-use Rattle.machine_tables.proofs.TruncatedLaws.{back_is, comes_back}
+use Rattle.storage_ops.specs.Shown.{Storage as Stored}
+use Rattle.machine_tables.proofs.TruncatedLaws.{ComesBack, back_is, comes_back}
 use Rattle.machine_tables.proofs.committing.bring_back.Goals as goal
 
-pub back-requires-clause-bound : goal.back-requires-clause-bound
-back-requires-clause-bound g c =
-    let left : Some c.in_ok-frame.frame ≡ leaves (word_of c.args.store.now.segs.ast c.args.uid c.args.page) =
-    c.in_ok-frame.ensures ∙ ap (λ (a : ActiveSegs). leaves (word_of a c.args.uid c.args.page))
-    (c.ast.ensures.ast ∙ ap (λ (s : Control g.row.D.Denot). s.ast) c.segs-2.ensures.segs) in
-    let kept = subst (λ (s : Control g.row.D.Denot). IsKept (plain g.D.Drive.pages s.pages) s.ast s.links)
-    c.segs.ensures.segs c.pages-kept.ensures.kept in
-    let its = comes_back g.D.Drive.pages c.args.store.now c.args.uid c.args.page c.in_ok-frame.frame kept c.requires
-    left in
-    its.bound
+-- the page comes back whose frame was found in the tables of the store
+found : {D : Type 0} (drive : D → List (List ℕ)) (t : Stored D) (uid p f : ℕ) {ast : ActiveSegs}
+    {seen held : Control D} → seen ≡ t.segs → ast ≡ seen.ast → held ≡ t.segs
+    → IsKept (plain drive held.pages) held.ast held.links → IsActive t.segs.ast.entries uid
+    → Some f ≡ leaves (word_of ast uid p) → ComesBack t uid p f
+found drive t uid p f seen_is ast_is held_is kept active left = comes_back drive t uid p f
+    (subst (λ (s : Control _). IsKept (plain drive s.pages) s.ast s.links) held_is kept) active
+    (left ∙ ap (λ (a : ActiveSegs). leaves (word_of a uid p)) (ast_is ∙ ap (λ (s : Control _). s.ast) seen_is))
 
-pub back-requires-clause-own : goal.back-requires-clause-own
-back-requires-clause-own g c =
-    let left : Some c.in_ok-frame.frame ≡ leaves (word_of c.args.store.now.segs.ast c.args.uid c.args.page) =
-    c.in_ok-frame.ensures ∙ ap (λ (a : ActiveSegs). leaves (word_of a c.args.uid c.args.page))
-    (c.ast.ensures.ast ∙ ap (λ (s : Control g.row.D.Denot). s.ast) c.segs-2.ensures.segs) in
-    let kept = subst (λ (s : Control g.row.D.Denot). IsKept (plain g.D.Drive.pages s.pages) s.ast s.links)
-    c.segs.ensures.segs c.pages-kept.ensures.kept in
-    let its = comes_back g.D.Drive.pages c.args.store.now c.args.uid c.args.page c.in_ok-frame.frame kept c.requires
-    left in
-    its.own
-
-pub back-requires-clause-leaving : goal.back-requires-clause-leaving
-back-requires-clause-leaving g c =
-    let left : Some c.in_ok-frame.frame ≡ leaves (word_of c.args.store.now.segs.ast c.args.uid c.args.page) =
-    c.in_ok-frame.ensures ∙ ap (λ (a : ActiveSegs). leaves (word_of a c.args.uid c.args.page))
-    (c.ast.ensures.ast ∙ ap (λ (s : Control g.row.D.Denot). s.ast) c.segs-2.ensures.segs) in
-    let kept = subst (λ (s : Control g.row.D.Denot). IsKept (plain g.D.Drive.pages s.pages) s.ast s.links)
-    c.segs.ensures.segs c.pages-kept.ensures.kept in
-    let its = comes_back g.D.Drive.pages c.args.store.now c.args.uid c.args.page c.in_ok-frame.frame kept c.requires
-    left in
-    ap (word_of c.args.store.now.segs.ast c.args.uid) its.number ∙ its.word
+pub back-requires : goal.back-requires
+back-requires g c =
+    let its = found g.D.Drive.pages c.args.store.now c.args.uid c.args.page c.in_ok-frame.frame
+    c.segs-2.ensures.segs c.ast.ensures.ast c.segs.ensures.segs c.pages-kept.ensures.kept c.requires
+    c.in_ok-frame.ensures in
+    record {
+      active = c.requires;
+      bound = its.bound;
+      own = its.own;
+      leaving = ap (word_of c.args.store.now.segs.ast c.args.uid) its.number ∙ its.word;
+    }
 
 pub returns-clause-effect : goal.returns-clause-effect
 returns-clause-effect g c =
-    let left : Some c.in_ok-frame.frame ≡ leaves (word_of c.args.store.now.segs.ast c.args.uid c.args.page) =
-    c.in_ok-frame.ensures ∙ ap (λ (a : ActiveSegs). leaves (word_of a c.args.uid c.args.page))
-    (c.ast.ensures.ast ∙ ap (λ (s : Control g.row.D.Denot). s.ast) c.segs-2.ensures.segs) in
-    let kept = subst (λ (s : Control g.row.D.Denot). IsKept (plain g.D.Drive.pages s.pages) s.ast s.links)
-    c.segs.ensures.segs c.pages-kept.ensures.kept in
-    let its = comes_back g.D.Drive.pages c.args.store.now c.args.uid c.args.page c.in_ok-frame.frame kept c.requires
-    left in
+    let its = found g.D.Drive.pages c.args.store.now c.args.uid c.args.page c.in_ok-frame.frame
+    c.segs-2.ensures.segs c.ast.ensures.ast c.segs.ensures.segs c.pages-kept.ensures.kept c.requires
+    c.in_ok-frame.ensures in
     c.back.ensures.effect ∙ ap (λ (a : ActiveSegs). record c.args.store.now {
       segs = record c.args.store.now.segs { ast = a };
     }) (back_is c.args.store.now.segs.ast c.args.uid c.args.page _ c.in_ok-frame.frame

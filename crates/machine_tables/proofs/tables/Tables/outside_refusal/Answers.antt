@@ -1,18 +1,12 @@
-use Rattle.std.proofs.Common.{◌≡◌, ◌∙◌, ap, subst, sym}
-use Rattle.machine_model.specs.Keeps.{IsFaithful}
+use Rattle.std.proofs.Common.{◌∙◌, ap}
 use Rattle.machine_model.specs.Reads.{flat_of}
-use Rattle.machine_model.specs.State.{State}
-use Rattle.machine_tables.specs.Parts.{Parts, shown}
-use Rattle.machine_tables.proofs.RefusalLaws.{outside_is, shows_of}
+use Rattle.machine_tables.specs.Parts.{Parts}
+use Rattle.machine_tables.proofs.InsideLaws.{inside_shows}
+use Rattle.machine_tables.proofs.RefusalLaws.{outside_is}
 use Rattle.machine_tables.proofs.tables.Tables.outside_refusal.Goals as goal
 
 pub returns : goal.returns
-returns g c =
-    let s : State = c.args.self.now.state in
-    let inner : shown g.D.Drive.pages c.self.inside.store ≡ s.store =
-    ap (λ (t : Parts g.row.D.Denot). t.state.store) c.self.view_is in
-    let faithful : IsFaithful s.plan (flat_of s) (shown g.D.Drive.pages c.self.inside.store) =
-    subst (IsFaithful s.plan (flat_of s)) (sym inner) c.requires.faithful in
-    c.outside_refusal.ensures.shown s.plan (flat_of s)
-    (shows_of g.D.Drive.pages s.plan (flat_of s) c.self.inside.store faithful)
-    ∙ outside_is s c.args.process c.args.reference.now
+returns g c = c.outside_refusal.ensures.shown c.args.self.now.state.plan (flat_of c.args.self.now.state)
+    (inside_shows g.D.Drive.pages c.args.self.now c.self.inside.store (flat_of c.args.self.now.state)
+    (ap (λ (t : Parts g.row.D.Denot). t.state.store) c.self.view_is) c.requires.faithful)
+    ∙ outside_is c.args.self.now.state c.args.process c.args.reference.now
