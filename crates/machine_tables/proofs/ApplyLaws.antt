@@ -11,13 +11,14 @@ use Rattle.storage_ops.specs.Cut.{IsReady}
 use Rattle.storage_ops.specs.Shown.{Shows, Storage as Stored, answered}
 use Rattle.machine_model.specs.Commits.{frame_entry}
 use Rattle.machine_model.specs.Keeps.{IsFaithful}
-use Rattle.machine_model.specs.Reads.{flat_of, next_command}
+use Rattle.machine_model.specs.Reads.{flat_of, frames_of_owner, next_command}
 use Rattle.machine_model.specs.Refusal.{reply_of}
 use Rattle.machine_model.specs.Said.{with_command}
 use Rattle.machine_model.specs.State.{State, Storage}
 use Rattle.machine_tables.specs.Committed.{HasEffect, IsCommitted, effect_for, reply_for}
 use Rattle.machine_tables.specs.Gone.{left_entry, next_frame_entry}
-use Rattle.machine_tables.specs.Parts.{shown}
+use Rattle.machine_tables.specs.Parts.{Parts, shown}
+use Rattle.machine_tables.specs.Ready.{IsApplicable}
 use Rattle.machine_tables.specs.Truncated.{IsCommittedBut}
 use Rattle.machine_model.specs.Ready.{IsReadyFor, OwnsFor}
 use Rattle.machine_tables.proofs.RefusalLaws.{shows_of}
@@ -42,13 +43,28 @@ ready_of drive t k (command.Delete path) h = λ n at. (let ready = h n at in rec
 ready_of drive t k command.End h = h
 ready_of drive t k c h = tt
 
-module _ {D : Type 0} (drive : D → List (List ℕ)) (s : State) (t u : Stored D) (k : ℕ) (frames : List ℕ) (x : Command)
-    (r : Reply) (kept : Option ℕ) (inner : shown drive t ≡ s.store) (next : next_command s k ≡ Some x)
-    (tree : reference_of x ≡ None) (faithful : IsFaithful s.plan (flat_of s) s.store)
-    (takes : HasEffect x (reply_of s k x)) (owns : OwnsFor s.store frames x)
+-- the command that a process comes to is the one that may take effect
+pub applies : {D : Type 0} (p : Parts D) (k : ℕ) {x y : Command} → IsApplicable p k x
+    → next_command p.state k ≡ Some y → IsApplicable p k y
+applies p k may next = subst (IsApplicable p k) (same_some (sym may.next ∙ next)) may
+
+module _ {D : Type 0} (drive : D → List (List ℕ)) (tables : Parts D) (t u : Stored D) (k : ℕ) (x : Command)
+    (r : Reply) (kept : Option ℕ) (inner : shown drive t ≡ tables.state.store) (may : IsApplicable tables k x)
     (committed : (fs : List ℕ) → OwnsFor (shown drive t) fs x → IsCommittedBut drive t u k fs x r kept) where
+  abbrev s : State
+  s = tables.state
+
+  abbrev frames : List ℕ
+  frames = frames_of_owner s.owner
+
+  next : next_command s k ≡ Some x
+  next = may.next
+
+  faithful : IsFaithful s.plan (flat_of s) s.store
+  faithful = may.faithful
+
   whole : IsCommittedBut drive t u k frames x r kept
-  whole = committed frames (subst (λ (st : Storage). OwnsFor st frames x) (sym inner) owns)
+  whole = committed frames (subst (λ (st : Storage). OwnsFor st frames x) (sym inner) may.owns)
 
   commits : IsCommitted drive t u k frames x r
   commits = whole.committed
@@ -65,13 +81,13 @@ module _ {D : Type 0} (drive : D → List (List ℕ)) (s : State) (t u : Stored 
 
   pub applied_left : map (left_entry kept) frames ≡ map (next_frame_entry s.store (next_command s k)) frames
   applied_left = whole.left s.plan (flat_of s) (subst (IsFaithful s.plan (flat_of s)) (sym inner) faithful)
-      (subst (HasEffect x) (sym reply_is) takes)
+      (subst (HasEffect x) (sym reply_is) may.takes)
       ∙ (ap (λ (st : Storage). map (frame_entry st x) frames) inner
       ∙ sym (ap (λ (o : Option Command). map (next_frame_entry s.store o) frames) next))
 
   pub applied_store : shown drive u ≡ effect_for (shown drive t) k frames (next_command s k)
   applied_store = commits.exact s.plan (flat_of s) (subst (IsFaithful s.plan (flat_of s)) (sym inner) faithful)
-      (subst (HasEffect x) (sym reply_is) takes)
+      (subst (HasEffect x) (sym reply_is) may.takes)
       ∙ sym (ap (effect_for (shown drive t) k frames) next)
 
   pub applied_drives : u.segs.pages.volumes.drives ≡ t.segs.pages.volumes.drives
@@ -81,7 +97,7 @@ module _ {D : Type 0} (drive : D → List (List ℕ)) (s : State) (t u : Stored 
       → IsFaithful s.plan (with_command s k (next_command s k) flat) (shown drive u)
   applied_shown flat h = subst (λ (o : Option Command). IsFaithful s.plan (with_command s k o flat) (shown drive u))
       (sym next) (subst (λ (o : Option Reference). IsFaithful s.plan (answered (reply_of s k x) flat
-      (effect_by s.plan flat k x o)) (shown drive u)) (sym tree)
+      (effect_by s.plan flat k x o)) (shown drive u)) (sym may.tree)
       (subst (λ (y : Reply). IsFaithful s.plan (answered y flat (effect_of_tree_command s.plan flat k x))
       (shown drive u)) reply_is
       (record { tree = now.tree; known = now.known; pages = now.pages; script = now.script })))

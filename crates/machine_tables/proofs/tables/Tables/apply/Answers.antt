@@ -2,87 +2,48 @@ use Rattle.std.proofs.Common.{◌≡◌, ◌∙◌, Some, ap, refl, rules, subst
 use Rattle.script.specs.Plans.{command_at}
 use Rattle.machine_model.specs.Reads.{frames_of_owner, next_command, run_at}
 use Rattle.machine_model.specs.Ready.{IsReadyFor}
-use Rattle.machine_model.specs.State.{State, Storage}
+use Rattle.machine_model.specs.State.{Storage}
 use Rattle.machine_tables.specs.Committed.{effect_for}
 use Rattle.machine_tables.specs.Parts.{Parts, shown}
 use Rattle.machine_tables.specs.Ready.{IsApplicable}
 use Rattle.machine_tables.proofs.ApplyLaws.{applied_drives, applied_left, applied_reply, applied_shown, applied_store}
-use Rattle.machine_tables.proofs.ApplyLaws.{ready_of, same_some}
+use Rattle.machine_tables.proofs.ApplyLaws.{applies, ready_of}
 use Rattle.machine_tables.proofs.PartLaws.{stored_is}
 use Rattle.machine_tables.proofs.tables.Tables.apply.Goals as goal
 
 pub take_effect-requires-clause-ready : goal.take_effect-requires-clause-ready
 take_effect-requires-clause-ready g c =
-    let s : State = c.args.self.now.state in
     let at : command_at c.self.inside.book.script c.args.process (run_at c.self.inside.runs.items c.args.process).place
     ≡ Some c.in-Some.command.now = search rules in
-    let same : next_command s c.args.process ≡ Some c.in-Some.command.now =
+    let same : next_command c.args.self.now.state c.args.process ≡ Some c.in-Some.command.now =
     sym (ap (λ (t : Parts g.row.D.Denot). next_command t.state c.args.process) c.self.view_is) ∙ at in
-    let may : IsApplicable c.args.self.now c.args.process c.in-Some.command.now =
-    subst (IsApplicable c.args.self.now c.args.process) (same_some (sym c.requires.1.next ∙ same)) c.requires.1 in
-    let inner : shown g.D.Drive.pages c.self.inside.store ≡ s.store =
-    ap (λ (t : Parts g.row.D.Denot). t.state.store) c.self.view_is in
     ready_of g.D.Drive.pages c.self.inside.store c.args.process c.in-Some.command.now
-    (subst (λ (st : Storage). IsReadyFor st c.args.process c.in-Some.command.now) (sym inner) may.ready_for)
+    (subst (λ (st : Storage). IsReadyFor st c.args.process c.in-Some.command.now)
+    (sym (ap (λ (t : Parts g.row.D.Denot). t.state.store) c.self.view_is))
+    (applies c.args.self.now c.args.process c.requires.1 same).ready_for)
 
-pub returns-clause-reply : goal.returns-clause-reply
-returns-clause-reply g c =
-    let s : State = c.args.self.now.state in
+pub returns : goal.returns
+returns g c =
     let at : command_at c.self.inside.book.script c.args.process (run_at c.self.inside.runs.items c.args.process).place
     ≡ Some c.in-Some.command.now = search rules in
-    let same : next_command s c.args.process ≡ Some c.in-Some.command.now =
+    let same : next_command c.args.self.now.state c.args.process ≡ Some c.in-Some.command.now =
     sym (ap (λ (t : Parts g.row.D.Denot). next_command t.state c.args.process) c.self.view_is) ∙ at in
     let may : IsApplicable c.args.self.now c.args.process c.in-Some.command.now =
-    subst (IsApplicable c.args.self.now c.args.process) (same_some (sym c.requires.1.next ∙ same)) c.requires.1 in
-    let inner : shown g.D.Drive.pages c.self.inside.store ≡ s.store =
+    applies c.args.self.now c.args.process c.requires.1 same in
+    let inner : shown g.D.Drive.pages c.self.inside.store ≡ c.args.self.now.state.store =
     ap (λ (t : Parts g.row.D.Denot). t.state.store) c.self.view_is in
-    applied_reply g.D.Drive.pages s c.self.inside.store c.take_effect.new.store c.args.process (frames_of_owner s.owner)
-    c.in-Some.command.now c.take_effect.result.0 c.take_effect.result.1 inner same may.tree may.faithful may.takes may.owns c.take_effect.ensures
-
-pub returns-clause-left : goal.returns-clause-left
-returns-clause-left g c =
-    let s : State = c.args.self.now.state in
-    let at : command_at c.self.inside.book.script c.args.process (run_at c.self.inside.runs.items c.args.process).place
-    ≡ Some c.in-Some.command.now = search rules in
-    let same : next_command s c.args.process ≡ Some c.in-Some.command.now =
-    sym (ap (λ (t : Parts g.row.D.Denot). next_command t.state c.args.process) c.self.view_is) ∙ at in
-    let may : IsApplicable c.args.self.now c.args.process c.in-Some.command.now =
-    subst (IsApplicable c.args.self.now c.args.process) (same_some (sym c.requires.1.next ∙ same)) c.requires.1 in
-    let inner : shown g.D.Drive.pages c.self.inside.store ≡ s.store =
-    ap (λ (t : Parts g.row.D.Denot). t.state.store) c.self.view_is in
-    applied_left g.D.Drive.pages s c.self.inside.store c.take_effect.new.store c.args.process (frames_of_owner s.owner)
-    c.in-Some.command.now c.take_effect.result.0 c.take_effect.result.1 inner same may.tree may.faithful may.takes may.owns c.take_effect.ensures
-
-pub returns-clause-effect : goal.returns-clause-effect
-returns-clause-effect g c =
-    let s : State = c.args.self.now.state in
-    let at : command_at c.self.inside.book.script c.args.process (run_at c.self.inside.runs.items c.args.process).place
-    ≡ Some c.in-Some.command.now = search rules in
-    let same : next_command s c.args.process ≡ Some c.in-Some.command.now =
-    sym (ap (λ (t : Parts g.row.D.Denot). next_command t.state c.args.process) c.self.view_is) ∙ at in
-    let may : IsApplicable c.args.self.now c.args.process c.in-Some.command.now =
-    subst (IsApplicable c.args.self.now c.args.process) (same_some (sym c.requires.1.next ∙ same)) c.requires.1 in
-    let inner : shown g.D.Drive.pages c.self.inside.store ≡ s.store =
-    ap (λ (t : Parts g.row.D.Denot). t.state.store) c.self.view_is in
-    stored_is g.D.Drive.pages g.D.Drive.faults _ c.args.self.now c.self.inside.store c.take_effect.new.store
-    (λ st. effect_for st c.args.process (frames_of_owner s.owner) (next_command s c.args.process)) c.self.view_is refl
-    (applied_store g.D.Drive.pages s c.self.inside.store c.take_effect.new.store c.args.process
-    (frames_of_owner s.owner) c.in-Some.command.now c.take_effect.result.0 c.take_effect.result.1 inner same may.tree
-    may.faithful may.takes may.owns c.take_effect.ensures)
-    (applied_drives g.D.Drive.pages s c.self.inside.store c.take_effect.new.store c.args.process
-    (frames_of_owner s.owner) c.in-Some.command.now c.take_effect.result.0 c.take_effect.result.1 inner same may.tree
-    may.faithful may.takes may.owns c.take_effect.ensures)
-
-pub returns-clause-shown : goal.returns-clause-shown
-returns-clause-shown g c =
-    let s : State = c.args.self.now.state in
-    let at : command_at c.self.inside.book.script c.args.process (run_at c.self.inside.runs.items c.args.process).place
-    ≡ Some c.in-Some.command.now = search rules in
-    let same : next_command s c.args.process ≡ Some c.in-Some.command.now =
-    sym (ap (λ (t : Parts g.row.D.Denot). next_command t.state c.args.process) c.self.view_is) ∙ at in
-    let may : IsApplicable c.args.self.now c.args.process c.in-Some.command.now =
-    subst (IsApplicable c.args.self.now c.args.process) (same_some (sym c.requires.1.next ∙ same)) c.requires.1 in
-    let inner : shown g.D.Drive.pages c.self.inside.store ≡ s.store =
-    ap (λ (t : Parts g.row.D.Denot). t.state.store) c.self.view_is in
-    applied_shown g.D.Drive.pages s c.self.inside.store c.take_effect.new.store c.args.process (frames_of_owner s.owner)
-    c.in-Some.command.now c.take_effect.result.0 c.take_effect.result.1 inner same may.tree may.faithful may.takes may.owns c.take_effect.ensures
+    record {
+      reply = applied_reply g.D.Drive.pages c.args.self.now c.self.inside.store _ c.args.process _ _ _ inner may
+          c.take_effect.ensures;
+      left = applied_left g.D.Drive.pages c.args.self.now c.self.inside.store _ c.args.process _ _ _ inner may
+          c.take_effect.ensures;
+      effect = stored_is g.D.Drive.pages g.D.Drive.faults _ c.args.self.now c.self.inside.store c.take_effect.new.store
+          (λ st. effect_for st c.args.process (frames_of_owner c.args.self.now.state.owner)
+          (next_command c.args.self.now.state c.args.process)) c.self.view_is refl
+          (applied_store g.D.Drive.pages c.args.self.now c.self.inside.store _ c.args.process _ _ _ inner may
+          c.take_effect.ensures)
+          (applied_drives g.D.Drive.pages c.args.self.now c.self.inside.store _ c.args.process _ _ _ inner may
+          c.take_effect.ensures);
+      shown = applied_shown g.D.Drive.pages c.args.self.now c.self.inside.store _ c.args.process _ _ _ inner may
+          c.take_effect.ensures;
+    }
