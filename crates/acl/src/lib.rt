@@ -3,9 +3,6 @@
 //! A list lies in one value and takes no memory.
 #![tactic(auto)]
 
-#[cfg(test)]
-mod tests;
-
 ghost use Rattle.std.specs.Prelude.{◌≡◌, ◌∷◌, [], ◌↔◌, Some, IsOk, IsTrue, OnOk, OnErr, option_map};
 ghost use Rattle.std.specs.List.{position};
 ghost use Rattle.tree_model.specs.Access.{access_of, mode_at, with_row, takes_row, is_part, names_just};

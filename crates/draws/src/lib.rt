@@ -40,14 +40,3 @@ impl Draws {
         (self.state / 8_589_934_592 % u64::from(bound)) as u32
     }
 }
-
-#[cfg(test)]
-mod tests {
-    use super::*;
-
-    #[test]
-    fn the_first_number_of_the_seed_0_is_as_published(rt: HostRuntime) {
-        assert!(rt; Draws::of(0).draw(u32::MAX) == 167_951_807);
-        assert!(rt; Draws::of(0).draw(8) == 7);
-    }
-}

@@ -5,8 +5,6 @@
 #![tactic(auto)]
 
 mod page;
-#[cfg(test)]
-mod tests;
 mod text;
 mod word;
 

@@ -13,9 +13,6 @@ ghost use Rattle.page_table.specs.declared.Ptw.{Ptw as TableWord};
 ghost use Rattle.processor.specs.Moves.{AreWords, IsLongEnough, by_descriptor, by_held, by_word, next_move};
 ghost use Rattle.processor.specs.Moves.{offline};
 
-#[cfg(test)]
-mod tests;
-
 use active_segs::Ast;
 use assoc_mem::{Assoc, HeldSeg, What};
 use book::Reply;

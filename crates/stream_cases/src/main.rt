@@ -11,8 +11,6 @@
 #![tactic(auto)]
 
 mod reading;
-#[cfg(test)]
-mod tests;
 mod writing;
 
 use crate::reading::{all_text, source_text};

@@ -1,8 +1,10 @@
-//! Tests of the directory tree that a loop makes: as many branches as it may have, and as many names that differ only
-//! in their last letters. `tree_cases` has all others.
+//! Tests of access control lists; and of the directory tree what a loop makes: as many branches as it may have, and as
+//! many names that differ only in their last letters. `tree_cases` has all others of the tree.
 #![tactic(auto)]
 
 #[cfg(test)]
 mod names;
+#[cfg(test)]
+mod rows;
 #[cfg(test)]
 mod trees;

@@ -2,7 +2,6 @@ ghost use Rattle.std.specs.Prelude.{◌≤◌, IfSome, IsTrue, length};
 ghost use Rattle.assoc_mem.specs.Held.{seg_of};
 ghost use Rattle.processor.specs.Moves.{IsLongEnough};
 
-use crate::{Cpu, Move, next_move};
 use active_segs::Ast;
 use assoc_mem::{HeldPage, HeldSeg};
 use book::Reply;
@@ -10,6 +9,7 @@ use descriptor_seg::DescSeg;
 use mnames::Mode;
 use mword::Word;
 use page_table::Ptw;
+use processor::{Cpu, Move, next_move};
 use script::{RefKind, Reference};
 use std::test::Fail;
 

@@ -1,4 +1,4 @@
-use super::*;
+use mword::{Page, Word, octal, read_octal};
 use std::process::Abort;
 use std::test::Fail;
 

@@ -1,5 +1,5 @@
-use super::*;
-use mnames::{read_row, read_who};
+use acl::{Acl, AclFull};
+use mnames::{Mode, Row, Who, read_row, read_who};
 use std::process::Abort;
 use std::test::Fail;
 
