@@ -1,5 +1,5 @@
 //! Tests of access control lists; and of the directory tree what a loop makes: as many branches as it may have, and as
-//! many names that differ only in their last letters. `tree_cases` has all others of the tree.
+//! many names that differ only in their last letters. `text_cases` has all others of the tree.
 #![tactic(auto)]
 
 #[cfg(test)]

@@ -1,4 +1,4 @@
-use crate::asking::asked_text;
+use crate::store::asking::asked_text;
 use book::{Entry, Reply, read_entry};
 use flat_store::FlatStore;
 use mword::Word;

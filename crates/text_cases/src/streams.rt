@@ -1,22 +1,19 @@
-//! Reads from sources over memory and writes to sinks over memory, and prints what each call gives. `stdin` has the
-//! cases, and `stdout` what each must give.
+//! Reads from sources over memory and writes to sinks over memory, and prints what each call gives.
 //!
-//! A case is a line `== WAY NUMBERS TEXT`, and below it lines for its calls:
+//! A case is a line `== streams WAY NUMBERS TEXT`, and below it lines for its calls:
 //! - `source PIECE FAIL TEXT`: each line is the size of a buffer to read into;
 //! - `sink ROOM FAIL`: each line is a piece to write;
 //! - `whole ROOM FAIL`: each line is a piece to write whole;
 //! - `all LIMIT FAIL TEXT`: each line is the most bytes that a call gives, and the source is read to its end.
 //!
 //! The call with number `FAIL`, counted from 1, fails.
-#![tactic(auto)]
 
 mod reading;
 mod writing;
 
-use crate::reading::{all_text, source_text};
-use crate::writing::{sink_text, whole_text};
+use crate::streams::reading::{all_text, source_text};
+use crate::streams::writing::{sink_text, whole_text};
 use std::alloc::{AllocError, Global};
-use std::io;
 
 /// A number, and the text after it.
 fn number(text: &str) -> (u32, &str) {
@@ -25,7 +22,7 @@ fn number(text: &str) -> (u32, &str) {
 }
 
 /// The first line of a case, and what its calls give.
-fn case_text(alloc: Global, case: &str) -> Result<String, AllocError> {
+pub(crate) fn case_text(alloc: Global, case: &str) -> Result<String, AllocError> {
     let (header, lines) = case.split_once('\n').unwrap_or((case, ""));
     let (way, settings) = header.split_once(' ').unwrap_or((header, ""));
     let (first, rest) = number(settings);
@@ -38,13 +35,4 @@ fn case_text(alloc: Global, case: &str) -> Result<String, AllocError> {
         _ => String::from_str(alloc, "no way\n")?,
     };
     format!(in alloc; "== {header}\n{given}")
-}
-
-fn main(rt: HostRuntime) -> io::Result<()> {
-    let text = io::read_to_string(rt.alloc(), rt.stdin())?;
-    for case in text.split("\n== ").skip(1) {
-        let printed = case_text(rt.alloc(), case)?;
-        print!(rt; "{printed}")?;
-    }
-    Ok(())
 }

@@ -1,4 +1,4 @@
-use crate::following::done_text;
+use crate::store::following::done_text;
 use script::{Refusal, Script, ScriptFault, read_script};
 use std::alloc::{AllocError, Global};
 

@@ -1,5 +1,5 @@
-use crate::changes::changed;
-use crate::looks::looked;
+use crate::tree::changes::changed;
+use crate::tree::looks::looked;
 use accounts::Accounts;
 use std::alloc::{AllocError, Global};
 

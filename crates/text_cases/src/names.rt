@@ -1,16 +1,13 @@
-//! Reads names, labels, principals, rows and paths, and prints what each is read as. `stdin` has the cases, and
-//! `stdout` what each must give.
+//! Reads names, labels, principals, rows and paths, and prints what each is read as.
 //!
-//! A case is a line `== KIND`, and below it lines in brackets, each of which is a text of that kind, or of none; `|`
-//! stands for a line feed. Where a text is read, what is written for it must be read as the same again.
-#![tactic(auto)]
+//! A case is a line `== names KIND`, and below it lines in brackets, each of which is a text of that kind, or of none;
+//! `|` stands for a line feed. Where a text is read, what is written for it must be read as the same again.
 
 mod kinds;
 mod paths;
 
-use crate::kinds::read_as;
+use crate::names::kinds::read_as;
 use std::alloc::{AllocError, Global};
-use std::io;
 
 /// What stands between the brackets of a line, if it has some.
 fn bracketed(line: &str) -> Option<&str> {
@@ -27,7 +24,7 @@ fn with_feeds(alloc: Global, text: &str) -> Result<String, AllocError> {
 }
 
 /// The kind of a case, and what each of its lines is read as.
-fn case_text(alloc: Global, case: &str) -> Result<String, AllocError> {
+pub(crate) fn case_text(alloc: Global, case: &str) -> Result<String, AllocError> {
     let (kind, lines) = case.split_once('\n').unwrap_or((case, ""));
     let mut given = format!(in alloc; "== {kind}\n")?;
     for text in lines.lines().filter_map(bracketed) {
@@ -36,13 +33,4 @@ fn case_text(alloc: Global, case: &str) -> Result<String, AllocError> {
         write!(given, "[{text}] {read}\n")?;
     }
     Ok(given)
-}
-
-fn main(rt: HostRuntime) -> io::Result<()> {
-    let text = io::read_to_string(rt.alloc(), rt.stdin())?;
-    for case in text.split("\n== ").skip(1) {
-        let printed = case_text(rt.alloc(), case)?;
-        print!(rt; "{printed}")?;
-    }
-    Ok(())
 }

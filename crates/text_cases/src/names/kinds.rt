@@ -1,4 +1,4 @@
-use crate::paths::path_line;
+use crate::names::paths::path_line;
 use mnames::{Label, Row, read_label, read_name, read_row, read_who};
 use std::alloc::{AllocError, Global};
 

@@ -1,6 +1,6 @@
-use crate::entries::entries_text;
-use crate::outcomes::{cuts_text, lines_text};
-use crate::parts::{canonical_text, parts_text};
+use crate::scripts::entries::entries_text;
+use crate::scripts::outcomes::{cuts_text, lines_text};
+use crate::scripts::parts::{canonical_text, parts_text};
 use std::alloc::{AllocError, Global};
 
 /// The text up to the first line feed, and what comes after it.

@@ -2,7 +2,7 @@ ghost use Rattle.std.specs.Prelude.{◌≡◌, IsTrue};
 ghost use Rattle.tree_model.specs.Tree.{quota_in};
 ghost use Rattle.accounts.specs.Maps.{count_of};
 
-use crate::looks::{is_directory, is_segment, is_there, no_such};
+use crate::tree::looks::{is_directory, is_segment, is_there, no_such};
 use accounts::Accounts;
 use acl::Acl;
 use dir_tree::{NewNode, ROOT};

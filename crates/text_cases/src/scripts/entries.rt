@@ -1,4 +1,4 @@
-use crate::outcomes::{bracketed, joined};
+use crate::scripts::outcomes::{bracketed, joined};
 use book::{entry_text, read_entry};
 use std::alloc::{AllocError, Global};
 
