@@ -1,9 +1,9 @@
-//! What both judges say of a whole book.
+//! What both judges say of a book.
 
 ghost use Rattle.flat_model.specs.Legal.{IsLegal};
 
 use book::{Book, entry_text};
-use book_check::{CheckFault, check_book};
+use book_check::{CheckFault, Rule, check_book};
 use flat_store::FlatStore;
 use listing::{listing_text, summary, summary_text};
 use script::script_text;
@@ -11,6 +11,10 @@ use std::alloc::{AllocError, Global};
 
 /// The most bytes of a text that is judged.
 const MOST: usize = 134_217_728;
+
+/// What a listing must have beyond its entries: that each process has ended, that no stored page is all zeros, and the
+/// summary.
+const ENDINGS: [Rule; 3] = [Rule::Incomplete, Rule::ZeroPage, Rule::WrongSum];
 
 /// A script, a line `book`, and every entry of its book.
 fn entries_text(alloc: Global, book: &Book) -> Result<Vec<u8>, AllocError> {
@@ -33,21 +37,27 @@ fn whole_text(alloc: Global, book: &Book, store: &FlatStore) -> Result<Vec<u8>, 
     Ok(text)
 }
 
-/// Whether the flat store and custody accept each entry of a book, whose processes have all ended, and which leaves no
-/// stored page of zeros.
-fn is_accepted(alloc: Global, book: &Book, store: &FlatStore) -> Result<bool, AllocError> {
-    let text = whole_text(alloc, book, store)?;
+/// Whether both judges accept a text, or refuse it only by one of some rules.
+fn is_accepted(alloc: Global, text: &[u8], but: &[Rule]) -> Result<bool, AllocError> {
     if text.len() > MOST {
         return Ok(false);
     }
-    match check_book(alloc, &text) {
+    match check_book(alloc, text) {
         Ok(_) => Ok(true),
-        Err(CheckFault::Refused(_) | CheckFault::Script(_)) => Ok(false),
+        Err(CheckFault::Refused(offence)) => Ok(but.iter().any(|rule| *rule == offence.rule)),
+        Err(CheckFault::Script(_)) => Ok(false),
         Err(CheckFault::Memory) => Err(AllocError),
     }
 }
 
-/// What is said of a book and of a text: whether both judges accept the book whole, and the text is its listing.
+/// Whether each entry of a book may stand at its place, whatever a listing must have beyond its entries.
+pub(crate) fn may_stand(alloc: Global, book: &Book) -> Result<bool, AllocError> {
+    let text = entries_text(alloc, book)?;
+    is_accepted(alloc, &text, &ENDINGS)
+}
+
+/// What is said of a book and of a text: whether both judges accept the book whole, whose processes have all ended and
+/// which leaves no stored page of zeros, and the text is its listing.
 pub(crate) fn verdict(
     alloc: Global,
     book: &Book,
@@ -56,7 +66,8 @@ pub(crate) fn verdict(
 ) -> Result<&'static str, AllocError>
     requires { IsLegal book.now.script book.now.entries }
 {
-    if !is_accepted(alloc, book, store)? {
+    let text = whole_text(alloc, book, store)?;
+    if !is_accepted(alloc, &text, &[])? {
         return Ok("refused");
     }
     let listing = listing_text(alloc, book).map_err(|_| AllocError)?;

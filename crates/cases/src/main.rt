@@ -1,30 +1,37 @@
-//! Runs the program on many inputs, and prints how each run ended and what it wrote. `stdin` has the cases, and
-//! `stdout` what each must give.
+//! Prints what the program gives on many inputs, and what the machine does step by step, in cases that each have a
+//! name. `stdin` has the cases, and `stdout` what each must give.
 //!
-//! What stands before the first case is for the reader. A case is a line `== NAME`, a line that asks, and the input,
-//! which ends before the line feed of the next such line: a blank line there leaves the input its last line feed.
-//! Where lines `-- NAME` stand in the input, it is a group: each of them begins a case of the lines before the first
-//! and those below it. The line that asks has the program's words, each in brackets, and then these, with `;` between:
-//! - `only WORDS` prints but the lines that begin with one of the words;
-//! - `words U.OFF ..` prints the words at these places of the segments of these uids, by the flat store after the book;
-//! - `calls` prints how often the first volume's disk was read and written;
-//! - `unread` has a source that fails as soon as it is read;
-//! - `times N` runs the program N times, and each run must give the same.
-//!
-//! Without `times` the program runs with the input in one piece, in pieces of 1 byte and in pieces of 7. Behind what a
-//! run wrote stands what is told of its book: the pages that the root is charged for, which `times` leaves out, and
-//! `accepted and listed` where the flat store and custody accept each entry, each process has ended, no stored page is
-//! all zeros, and the text is the listing of the book.
+//! What stands before the first case is for the reader. A case is a line `== NAME` and the lines below it, up to the
+//! line feed before the next such line. With a line `steps` in it a case drives a machine, as `steps` says; else it
+//! runs the program, as `runs` says.
 #![tactic(auto)]
 
-mod answers;
-mod asking;
-mod books;
-mod groups;
 mod judging;
+mod runs;
+mod steps;
 
-use crate::groups::case_text;
+use std::alloc::AllocError;
 use std::io;
+use std::sync::Wait;
+use std::thread::Threads;
+
+/// The text up to the first line feed, and what comes after it.
+pub(crate) fn first_line(text: &str) -> (&str, &str) {
+    text.split_once('\n').unwrap_or((text, ""))
+}
+
+/// The name of a case, and what it gives.
+fn case_text<R: Threads + Wait + Sync + AllocGlobal>(
+    rt: &R,
+    case: &str,
+) -> Result<String, AllocError> {
+    let (name, rest) = first_line(case);
+    let given = match rest.split_once("\nsteps\n") {
+        Some((script, lines)) => steps::given(rt, script, lines)?,
+        None => runs::given(rt, rest)?,
+    };
+    format!(in rt.alloc(); "== {name}\n{given}")
+}
 
 fn main(rt: HostRuntime) -> io::Result<()> {
     let text = io::read_to_string(rt.alloc(), rt.stdin())?;

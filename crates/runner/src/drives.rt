@@ -78,8 +78,10 @@ pub fn drive_of(alloc: Global, script: &Script, v: u32) -> Result<AnyDrive, NoMe
     }
 }
 
-/// The drives of a script's volumes, in their order.
-pub(crate) fn drives_of(alloc: Global, script: &Script) -> Result<Vec<AnyDrive>, NoMemory>
+/// The drives of a script's volumes, in their order, each as `drive_of` makes it.
+///
+/// `NoMemory` is want of memory. (Source: own.)
+pub fn drives_of(alloc: Global, script: &Script) -> Result<Vec<AnyDrive>, NoMemory>
     ensures drives { IfOk result (λ drives. AreTold script.now drives.items) }
     ensures sizes { IfOk result (λ drives. map (λ d. length (any_pages d)) drives.items
         ≡ map (λ v. v.records) script.now.volumes) }

@@ -13,7 +13,7 @@ mod top;
 mod words;
 
 pub use checking::LISTING_BYTES;
-pub use drives::drive_of;
+pub use drives::{drive_of, drives_of};
 pub use finished::{Finished, Status};
 pub use no_memory::NoMemory;
 pub use reading::SCRIPT_BYTES;

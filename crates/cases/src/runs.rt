@@ -1,0 +1,23 @@
+//! Runs of the program, and how each ended and what it wrote.
+//!
+//! The first line of such a case asks, and what follows is the input, which ends before the line feed of the next case:
+//! a blank line there leaves the input its last line feed. Where lines `-- NAME` stand in the input, it is a group: each
+//! of them begins a case of the lines before the first and those below it. The line that asks has the program's words,
+//! each in brackets, and then these, with `;` between:
+//! - `only WORDS` prints but the lines that begin with one of the words;
+//! - `words U.OFF ..` prints the words at these places of the segments of these uids, by the flat store after the book;
+//! - `calls` prints how often the first volume's disk was read and written;
+//! - `unread` has a source that fails as soon as it is read;
+//! - `times N` runs the program N times, and each run must give the same.
+//!
+//! Without `times` the program runs with the input in one piece, in pieces of 1 byte and in pieces of 7. Behind what a
+//! run wrote stands what is told of its book: the pages that the root is charged for, which `times` leaves out, and
+//! `accepted and listed` where the flat store and custody accept each entry, each process has ended, no stored page is
+//! all zeros, and the text is the listing of the book.
+
+mod answers;
+mod asking;
+mod books;
+mod groups;
+
+pub(crate) use groups::given;

@@ -1,0 +1,87 @@
+ghost use Rattle.std.specs.Prelude.{◌≤◌};
+
+use crate::runs::asking::Asked;
+use crate::runs::books::book_text;
+use runner::{Finished, Status, Words, multics};
+use site_io::{MemorySink, MemorySource, NoGate};
+use std::alloc::{AllocError, Global};
+use std::str;
+use std::sync::Wait;
+use std::thread::Threads;
+
+/// How a call ended.
+fn ending(status: Status) -> &'static str {
+    match status {
+        Status::Done => "done",
+        Status::Script(_) => "script refused",
+        Status::TooLong => "too long",
+        Status::Usage => "usage",
+        Status::ReadFault => "read fault",
+        Status::WriteFault => "write fault",
+        Status::Memory => "memory",
+        Status::Refused(_) => "listing refused",
+    }
+}
+
+/// A source of some bytes in pieces of this size, which may fail as soon as it is read.
+fn source_of(
+    alloc: Global,
+    bytes: &[u8],
+    piece: usize,
+    unread: bool,
+) -> Result<MemorySource, AllocError>
+    requires { 1 ≤ piece }
+{
+    let mut fails = Vec::new(alloc);
+    if unread {
+        fails.push(1)?;
+    }
+    Ok(MemorySource::new(bytes.to_vec(alloc)?, piece, fails))
+}
+
+/// A sink for all that the program writes.
+fn wide_sink(alloc: Global) -> Result<MemorySink, AllocError> {
+    MemorySink::new(alloc, 65536, Vec::new(alloc)).map_err(|_| AllocError)
+}
+
+/// How a call ended, the lines that it wrote, and what is told of its book.
+fn told(
+    alloc: Global,
+    asked: &Asked,
+    finished: &Finished,
+    written: &[u8],
+) -> Result<String, AllocError> {
+    let ending = ending(finished.status);
+    let lines = asked.lines_of(alloc, str::from_utf8(written).unwrap_or("no text\n"))?;
+    let book = book_text(alloc, asked, finished, written)?;
+    format!(in alloc; "{ending}\n{lines}{book}")
+}
+
+/// Calls the program once, and tells of it.
+fn call_text<R: Threads + Wait + Sync + AllocGlobal>(
+    rt: &R,
+    asked: &Asked,
+    words: Words,
+    source: &mut MemorySource,
+    sink: &mut MemorySink,
+) -> Result<String, AllocError> {
+    let finished = multics(rt, rt.alloc(), words, source, sink, &NoGate);
+    told(rt.alloc(), asked, &finished, sink.bytes())
+}
+
+/// What the program answers an input that comes in pieces of so many bytes: how it ended, what it wrote, and what is
+/// told of the book that it left.
+pub(crate) fn answer_text<R: Threads + Wait + Sync + AllocGlobal>(
+    rt: &R,
+    asked: &Asked,
+    input: &[u8],
+    piece: usize,
+) -> Result<String, AllocError>
+    requires { 1 ≤ piece }
+{
+    let alloc = rt.alloc();
+    let words = asked.words(alloc)?;
+    let mut source = source_of(alloc, input, piece, asked.unread)?;
+    let mut sink = wide_sink(alloc)?;
+    call_text(rt, asked, words, &mut source, &mut sink)
+}

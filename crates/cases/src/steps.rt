@@ -1,0 +1,66 @@
+//! A machine of several processors, driven by steps: what each step is answered, and which entries it appends to the
+//! book.
+//!
+//! Such a case is a script, a line `steps`, and a line for each thing that is done, which `instructions` names. Each of
+//! these lines is printed behind `>`, and below it the entries that were appended: those of books that were worked out
+//! by hand from the rules. Behind `judge` the book is judged by the flat store and by custody, entry by entry.
+
+mod booting;
+mod case;
+mod ends;
+mod instructions;
+mod orders;
+mod turns;
+
+use booting::Stuck;
+use case::Case;
+use instructions::Instruction;
+use std::alloc::AllocError;
+use std::sync::Wait;
+use std::thread::Threads;
+
+/// What a line of a case gives.
+fn line_text<'a, R: Threads + Wait + Sync + AllocGlobal>(
+    rt: &R,
+    case: &mut Case<'a>,
+    line: &'a str,
+) -> Result<String, Stuck> {
+    let printed = case.follow(rt, Instruction::by(line)?)?;
+    format!(in rt.alloc(); "> {line}\n{printed}").map_err(|_| Stuck)
+}
+
+/// What the lines of a case give.
+fn lines_text<'a, R: Threads + Wait + Sync + AllocGlobal>(
+    rt: &R,
+    case: &mut Case<'a>,
+    lines: &'a str,
+) -> Result<String, Stuck> {
+    let mut text = String::new(rt.alloc());
+    for line in lines.lines().filter(|line| !line.is_empty()) {
+        let given = line_text(rt, case, line)?;
+        text.push_str(&given).map_err(|_| Stuck)?;
+    }
+    Ok(text)
+}
+
+/// Runs the case of a script, and gives what each of its lines does.
+fn case_text<R: Threads + Wait + Sync + AllocGlobal>(
+    rt: &R,
+    script: &str,
+    lines: &str,
+) -> Result<String, Stuck> {
+    let mut case = Case::begin(rt.alloc(), script)?;
+    lines_text(rt, &mut case, lines)
+}
+
+/// What the lines of a case give on the machine of a script.
+pub(crate) fn given<R: Threads + Wait + Sync + AllocGlobal>(
+    rt: &R,
+    script: &str,
+    lines: &str,
+) -> Result<String, AllocError> {
+    match case_text(rt, script, lines) {
+        Ok(printed) => Ok(printed),
+        Err(Stuck) => String::from_str(rt.alloc(), "the case can't go on\n"),
+    }
+}

@@ -1,8 +1,0 @@
-use Rattle.std.proofs.Common.{refl}
-use Rattle.segs_tests.proofs.Begun.{homed_too}
-use Rattle.segs_tests.proofs.chains.two_homed.Goals as goal
-
-pub returns : goal.returns
-returns c =
-    homed_too c.in_ok-segs.segs _ _ 1 7 _ c.in_ok-segs.ensures c.new_home.ensures.least refl c.new_home.ensures.effect
-    c.new_home.ensures.drives c.new_home.ensures.ast c.new_home.ensures.links
