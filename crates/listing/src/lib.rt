@@ -10,8 +10,6 @@ mod answers;
 mod counts;
 mod lines;
 mod summing;
-#[cfg(test)]
-mod tests;
 
 use answers::push_body;
 use book::Book;

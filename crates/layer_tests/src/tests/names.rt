@@ -1,4 +1,4 @@
-use crate::trees::{add, remove, walk};
+use super::trees::{add, remove, walk};
 use dir_tree::{ROOT, Tree};
 use std::alloc::Global;
 use std::process::Abort;

@@ -5,27 +5,13 @@ use active_segs::{Ast, NoMemory};
 use std::alloc::Global;
 use std::test::Fail;
 
-#[test]
-fn becomes_active_from_the_root_down(rt: HostRuntime) -> Result<(), Fail> {
-    let mut ast = Ast::new(rt.alloc(), [2, 1, 0, 0])?;
-    assert!(rt; ast.free_in(0) == Some(0));
+/// A pool of two places and one of one place, of which the first has the root, 1.
+fn root_active(alloc: Global) -> Result<Ast, NoMemory>
+    ensures { IfOk result (λ ast. ast ≡ activated (no_segments (2 ∷ 1 ∷ 0 ∷ 0 ∷ [])) 0 1 None) }
+{
+    let mut ast = Ast::new(alloc, [2, 1, 0, 0])?;
     ast.activate(0, 1, None);
-    assert!(rt; ast.search(1) == Some(0));
-    assert!(rt; ast.search(2) == None);
-    assert!(rt; ast.uid_at(1) == None);
-    ast.activate(1, 2, Some(1));
-    assert!(rt; ast.search(2) == Some(1));
-    Ok(())
-}
-
-#[test]
-fn a_full_pool_has_no_free_place(rt: HostRuntime) -> Result<(), Fail> {
-    let mut ast = Ast::new(rt.alloc(), [2, 1, 0, 0])?;
-    ast.activate(0, 1, None);
-    ast.activate(1, 2, Some(1));
-    assert!(rt; ast.free_in(0) == None);
-    assert!(rt; ast.free_in(1) == Some(2));
-    Ok(())
+    Ok(ast)
 }
 
 /// A full pool of three places: the root, 1, with two segments below it, 2 and 3.
@@ -41,13 +27,30 @@ fn three_active(alloc: Global) -> Result<Ast, NoMemory>
     Ok(ast)
 }
 
+/// Where the segments 1 and 2 are, and the first free places of two pools.
+fn places(ast: &Ast) -> [Option<u32>; 4] {
+    [ast.search(1), ast.search(2), ast.free_in(0), ast.free_in(1)]
+}
+
+#[test]
+fn becomes_active_from_the_root_down(rt: HostRuntime) -> Result<(), Fail> {
+    let mut ast = root_active(rt.alloc())?;
+    let before = places(&ast);
+    ast.activate(1, 2, Some(1));
+    let after = places(&ast);
+    assert!(rt; before == [Some(0), None, Some(1), Some(2)]);
+    assert!(rt; after == [Some(0), Some(1), None, Some(2)]);
+    Ok(())
+}
+
 #[test]
 fn a_leaf_goes_and_leaves_its_place_free(rt: HostRuntime) -> Result<(), Fail> {
     let mut ast = three_active(rt.alloc())?;
-    assert!(rt; ast.victim(0, &[]) == 1);
+    let victim = ast.victim(0, &[]);
     ast.deactivate(1);
-    assert!(rt; ast.search(2) == None);
-    assert!(rt; ast.free_in(0) == Some(1));
+    let after = places(&ast);
+    assert!(rt; victim == 1);
+    assert!(rt; after == [Some(0), None, Some(1), None]);
     Ok(())
 }
 

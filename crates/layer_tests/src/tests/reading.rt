@@ -29,6 +29,12 @@ fn repeated(alloc: Global, line: &str, times: u32, end: &str) -> Result<String, 
     Ok(text)
 }
 
+/// Why the head with a line so many times and an end is refused, if it is.
+fn refusal_with(alloc: Global, line: &str, times: u32, end: &str) -> Result<Option<Refusal>, Fail> {
+    let text = repeated(alloc, line, times, end)?;
+    refusal_of(alloc, text.as_str())
+}
+
 /// The head with some lines after it is refused at a line for a cause.
 fn refused(
     rt: &(impl Abort + AllocGlobal),
@@ -37,9 +43,8 @@ fn refused(
     end: &str,
     refusal: Refusal,
 ) -> Result<(), Fail> {
-    let text = repeated(rt.alloc(), line, times, end)?;
-    let given = refusal_of(rt.alloc(), text.as_str())?;
-    assert!(rt; given == Some(refusal), "{line}{end}");
+    let given = refusal_with(rt.alloc(), line, times, end)?;
+    assert!(rt; given == Some(refusal));
     Ok(())
 }
 
@@ -50,9 +55,8 @@ fn accepted(
     times: u32,
     end: &str,
 ) -> Result<(), Fail> {
-    let text = repeated(rt.alloc(), line, times, end)?;
-    let given = refusal_of(rt.alloc(), text.as_str())?;
-    assert!(rt; given.is_none(), "{line}{end}");
+    let given = refusal_with(rt.alloc(), line, times, end)?;
+    assert!(rt; given.is_none());
     Ok(())
 }
 

@@ -22,10 +22,11 @@ fn gives_back_lost_and_released_frames(rt: HostRuntime) -> Result<(), Fail> {
     core.bind(1, 8, 0);
     core.start(2, 9, 5);
     core.lose(2);
-    assert!(rt; core.take_free() == Some(2));
+    let lost = core.take_free();
     core.release(0);
-    assert!(rt; core.take_free() == Some(0));
-    assert!(rt; core.choose() == 1);
+    let released = core.take_free();
+    let chosen = core.choose();
+    assert!(rt; (lost, released, chosen) == (Some(2), Some(0), 1));
     Ok(())
 }
 
