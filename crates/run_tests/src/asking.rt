@@ -1,6 +1,7 @@
+use crate::gates::TestGate;
 use crate::left::{Left, left_by};
 use runner::{Status, Words, multics};
-use site_io::{Gate, MemorySink, MemorySource, NoGate};
+use site_io::{MemorySink, MemorySource};
 use std::alloc::{AllocError, Global};
 use std::sync::Wait;
 use std::test::Fail;
@@ -47,12 +48,12 @@ pub(crate) fn words_of(alloc: Global, words: &[&str]) -> Result<Words, Fail> {
 }
 
 /// Calls the program once; how it ended, and what its machine left.
-fn call<R: Threads + Wait + Sync + AllocGlobal, G: Gate + Sync>(
+fn call<R: Threads + Wait + Sync + AllocGlobal>(
     rt: &R,
     words: Words,
     source: &mut MemorySource,
     sink: &mut MemorySink,
-    gate: &G,
+    gate: &TestGate,
 ) -> (Status, Option<Left>) {
     let finished = multics(rt, rt.alloc(), words, source, sink, gate);
     (finished.status, left_by(&finished.machine))
@@ -65,12 +66,12 @@ fn listed(alloc: Global, number: u64) -> Result<Vec<u64>, AllocError> {
 }
 
 /// Calls the program with some words on some bytes, whose processors pass a gate.
-pub(crate) fn ask_through<R: Threads + Wait + Sync + AllocGlobal, G: Gate + Sync>(
+pub(crate) fn ask_through<R: Threads + Wait + Sync + AllocGlobal>(
     rt: &R,
     words: &[&str],
     bytes: &[u8],
     streams: Streams,
-    gate: &G,
+    gate: &TestGate,
 ) -> Result<Answer, Fail> {
     let alloc = rt.alloc();
     let words = words_of(alloc, words)?;
@@ -92,7 +93,7 @@ pub(crate) fn ask<R: Threads + Wait + Sync + AllocGlobal>(
     bytes: &[u8],
     streams: Streams,
 ) -> Result<Answer, Fail> {
-    ask_through(rt, words, bytes, streams, &NoGate)
+    ask_through(rt, words, bytes, streams, &TestGate::Open)
 }
 
 /// Calls the program with some words, where nothing is read, into so much room.

@@ -12,6 +12,8 @@ mod drives;
 #[cfg(test)]
 mod failing;
 #[cfg(test)]
+mod gates;
+#[cfg(test)]
 mod holding;
 #[cfg(test)]
 mod left;
