@@ -1,5 +1,5 @@
 #!/usr/bin/env python3
-"""Counts what steps of the machine cost: machine.py BINARY [CASE..], where BINARY is that of `machine_cases`.
+"""Counts what steps of the machine cost: machine.py BINARY [CASE..], where BINARY is that of `cases`.
 
 Each case is a script that is made here and brought to its end, once with so many commands of a kind and once with twice
 as many. For each it prints how many steps a command takes, and the instructions a step, as valgrind's callgrind counts

@@ -1,5 +1,5 @@
 #!/usr/bin/env python3
-"""Counts what segment control costs in runs: segments.py BINARY [CASE..], where BINARY is that of `machine_cases`.
+"""Counts what segment control costs in runs: segments.py BINARY [CASE..], where BINARY is that of `cases`.
 
 Each case is a script that is made here and brought to its end, with 64 segments active, 16 in each pool, and with 1024,
 256 in each. The compiler puts the calls of `seg_control` into those of `machine_tables` and `machine`. Where a method of

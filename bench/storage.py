@@ -1,20 +1,19 @@
 #!/usr/bin/env python3
-"""Counts what commands cost storage operations: storage.py BINARY [CASE..], where BINARY is that of `storage_tests`.
+"""Counts what commands that work on storage cost: storage.py BINARY [CASE..], where BINARY is that of `cases`.
 
 Each case is a script that is made here: commands that begin it, which aren't counted, and then those that are. The tree
 is one of 4096 branches: eight directories below each other, and segments of two pages in the last, so that their paths
 have nine names. Where the commands of a case don't all go into one script behind those that begin it, there are two. For
-each case it prints the instructions a command, as valgrind's callgrind counts them: of a whole answer, with what the
-program of cases looks at and takes before it, and of the commit that is in it.
+each case it prints the instructions a command, as valgrind's callgrind counts them in the steps of the machine that
+brings the script to its end.
 """
 import functools, os, random, re, subprocess, sys, tempfile
 
 COUNT, MOST = 100_000, 99_990
-HEAD = ["case counted", "machine 1 512 1000 4 4 4", "quota 8000", "volume alpha 2048 4097", "print short",
-        "process Smith"]
+HEAD = ["machine 1 512 1000 4 4 4", "quota 8000", "volume alpha 2048 4097", "process Smith"]
+STEPS = ["end", "steps", "only nothing", "finish"]
 DRAW = random.Random(7)
-ANSWER = "storage_tests::run::Run::answer"
-COMMIT = "storage_ops::store::Store::commit"
+STEP = "machine::machine::Machine::step"
 
 
 def directory(depth):
@@ -74,20 +73,19 @@ CASES = {
 
 @functools.lru_cache(maxsize=None)
 def counted(binary, commands):
-    """The instructions of all answers, and of the commits in them."""
+    """The instructions of all steps."""
     with tempfile.TemporaryDirectory() as folder:
-        source, profile = os.path.join(folder, "script"), os.path.join(folder, "profile")
+        source, profile = os.path.join(folder, "case"), os.path.join(folder, "profile")
         with open(source, "w") as out:
-            out.write("\n".join(HEAD + list(commands) + ["end"]) + "\n")
-        with open(source) as script:
+            out.write("\n".join(["cases", "", "== a case", *HEAD, *commands, *STEPS, ""]))
+        with open(source) as case:
             shown = subprocess.run(["valgrind", "--tool=callgrind", f"--callgrind-out-file={profile}",
-                                    f"--toggle-collect={ANSWER}", binary], stdin=script, capture_output=True, text=True)
-        if shown.stdout != HEAD[0] + "\n":
+                                    f"--toggle-collect={STEP}", binary], stdin=case, capture_output=True, text=True)
+        if shown.stdout != "== a case\n> only nothing\n> finish\n":
             sys.exit(f"refused: {shown.stdout[:200]}")
         lines = subprocess.run(["callgrind_annotate", "--inclusive=yes", "--threshold=100", profile],
                                capture_output=True, text=True).stdout
-    both = [re.search(rf"^\s*([\d,]+) .*{name}\b", lines, re.M) for name in (ANSWER, COMMIT)]
-    return [int(found.group(1).replace(",", "")) if found else 0 for found in both]
+    return int(re.search(rf"^\s*([\d,]+) .*{STEP}\b", lines, re.M).group(1).replace(",", ""))
 
 
 def scripts(first, then):
@@ -100,13 +98,12 @@ def scripts(first, then):
 
 def main():
     binary, *names = sys.argv[1:]
-    print("| Commands | An answer | Its commit |\n|---|---|---|")
+    print("| Commands | Instructions a command |\n|---|---|")
     for name in names or CASES:
         first, then = CASES[name]()
         before = counted(binary, tuple(first))
         after = [counted(binary, tuple(first + part)) for part in scripts(first, then)]
-        answer, commit = ((sum(parts) - len(after) * a) // len(then) for a, *parts in zip(before, *after))
-        print(f"| {name} | {answer:,} | {commit:,} |", flush=True)
+        print(f"| {name} | {(sum(after) - len(after) * before) // len(then):,} |", flush=True)
 
 
 if __name__ == "__main__":
