@@ -19,10 +19,11 @@ use Rattle.script.proofs.VolumeTexts.{volume_field}
 use Rattle.script.proofs.SmallLaws.{at_most, below, within}
 use Rattle.script.specs.Commands.{acl_of, add_of, await_of, command_of, delete_of, end_of, initiate_of, length_of}
 use Rattle.script.specs.Commands.{mkdir_of, mkseg_of, move_of, other_command_of, read_of, reference_or, status_of}
-use Rattle.script.specs.Commands.{terminate_of, truncate_of, write_of}
+use Rattle.script.specs.Commands.{path_alone, path_and_number, place_and_word, place_in, terminate_of, truncate_of}
+use Rattle.script.specs.Commands.{write_of}
 use Rattle.script.specs.Forms.{is_command, is_from, is_path, is_place, is_row, is_word}
 use Rattle.script.specs.Grammar.{is_comment}
-use Rattle.script.specs.Lines.{four_fields, no_fields, one_field, three_fields, two_fields}
+use Rattle.script.specs.Lines.{four_fields, next_field, no_fields, one_field, three_fields, two_fields}
 use Rattle.script.specs.Texts.{command_text, mode_text, reference_text, sign_text, volume_name}
 use Rattle.script.specs.declared.commands.Command.{Command}
 use Rattle.script.specs.declared.commands.Command.TheVariants as command
@@ -205,28 +206,28 @@ command_fields vs command.End a h = last_field (codes "end") (word_is_field comm
 
 mkdir_again : (vs : List VolumeLine) (path : List (List ℕ)) (volume : ℕ) → AreVolumes vs → is_path path ≡ true
     → volume < length vs → mkdir_of vs (path_text path ∷ volume_name vs volume ∷ []) ≡ Ok (command.MkDir path volume)
-unfolding mkdir_of two_fields
+unfolding mkdir_of two_fields one_field next_field no_fields
 mkdir_again vs path volume a h lt = rw (path_in_again path h, volume_again vs volume lt a.each a.own) refl
 
 mkseg_again : (vs : List VolumeLine) (path : List (List ℕ)) (pages volume : ℕ) → AreVolumes vs → is_path path ≡ true
     → is_from 1 256 pages ≡ true → volume < length vs → mkseg_of vs
     (path_text path ∷ decimal pages ∷ volume_name vs volume ∷ []) ≡ Ok (command.MkSeg path pages volume)
-unfolding mkseg_of three_fields
+unfolding mkseg_of three_fields two_fields one_field next_field no_fields
 mkseg_again vs path pages volume a h r lt = let w = within 1 256 pages r in rw
     (path_in_again path h, number_again 1 256 pages (omega arith) w.0 w.1, volume_again vs volume lt a.each a.own) refl
 
 initiate_again : (path : List (List ℕ)) → is_path path ≡ true → initiate_of (path_text path ∷ [])
     ≡ Ok (command.Initiate path)
-unfolding initiate_of one_field
+unfolding initiate_of path_alone one_field next_field no_fields
 initiate_again path h = rw (path_in_again path h) refl
 
 terminate_again : (number : ℕ) → number ≤ 255 → terminate_of (decimal number ∷ []) ≡ Ok (command.Terminate number)
-unfolding terminate_of one_field
+unfolding terminate_of one_field next_field no_fields
 terminate_again number h = rw (number_again 0 255 number (omega arith) (omega arith) h) refl
 
 read_again : (number offset : ℕ) → number ≤ 255 → offset ≤ 999999 → read_of (decimal number ∷ decimal offset ∷ [])
     ≡ Ok (command.Read number offset)
-unfolding read_of two_fields
+unfolding read_of place_in two_fields one_field next_field no_fields
 read_again number offset a b = rw (
   number_again 0 255 number (omega arith) (omega arith) a,
   number_again 0 999999
@@ -235,7 +236,7 @@ read_again number offset a b = rw (
 
 write_again : (number offset word : ℕ) → number ≤ 255 → offset ≤ 999999 → word < 68719476736
     → write_of (decimal number ∷ decimal offset ∷ octal_digits 12 word ∷ []) ≡ Ok (command.Write number offset word)
-unfolding write_of three_fields
+unfolding write_of place_and_word place_in three_fields two_fields one_field next_field no_fields
 write_again number offset word a b w = rw (
   number_again 0 255 number (omega arith) (omega arith) a,
   number_again 0
@@ -245,7 +246,7 @@ write_again number offset word a b w = rw (
 
 add_again : (number offset word : ℕ) → number ≤ 255 → offset ≤ 999999 → word < 68719476736
     → add_of (decimal number ∷ decimal offset ∷ octal_digits 12 word ∷ []) ≡ Ok (command.Add number offset word)
-unfolding add_of three_fields
+unfolding add_of place_and_word place_in three_fields two_fields one_field next_field no_fields
 add_again number offset word a b w = rw (
   number_again 0 255 number (omega arith) (omega arith) a,
   number_again 0 999999
@@ -256,7 +257,7 @@ add_again number offset word a b w = rw (
 await_again : (number offset word tries : ℕ) → number ≤ 255 → offset ≤ 999999 → word < 68719476736
     → is_from 1 100000 tries ≡ true → await_of (decimal number ∷ decimal offset ∷ octal_digits 12 word ∷ decimal tries
     ∷ []) ≡ Ok (command.Await number offset word tries)
-unfolding await_of four_fields
+unfolding await_of place_in four_fields three_fields two_fields one_field next_field no_fields
 await_again number offset word tries a b w r = let t =
     within 1 100000 tries r in rw (
       number_again 0 255 number (omega arith) (omega arith) a,
@@ -268,33 +269,33 @@ await_again number offset word tries a b w r = let t =
 
 acl_again : (path : List (List ℕ)) (row : Row) (m : Mode) → is_path path ≡ true → is_row row ≡ true
     → acl_of (path_text path ∷ row_text row ∷ mode_text m ∷ []) ≡ Ok (command.Acl path row m)
-unfolding acl_of three_fields
+unfolding acl_of three_fields two_fields one_field next_field no_fields
 acl_again path row m h r = rw (path_in_again path h, row_in_again row r, mode_again m) refl
 
 length_again : (path : List (List ℕ)) (pages : ℕ) → is_path path ≡ true → is_from 1 256 pages ≡ true
     → length_of (path_text path ∷ decimal pages ∷ []) ≡ Ok (command.Length path pages)
-unfolding length_of two_fields
+unfolding length_of path_and_number two_fields one_field next_field no_fields
 length_again path pages h r = let w = within 1 256 pages r in rw
     (path_in_again path h, number_again 1 256 pages (omega arith) w.0 w.1) refl
 
 truncate_again : (path : List (List ℕ)) (words : ℕ) → is_path path ≡ true → words ≤ 262144
     → truncate_of (path_text path ∷ decimal words ∷ []) ≡ Ok (command.Truncate path words)
-unfolding truncate_of two_fields
+unfolding truncate_of path_and_number two_fields one_field next_field no_fields
 truncate_again path words h r = rw (path_in_again path h, number_again 0 262144 words (omega arith) (omega arith) r)
     refl
 
 delete_again : (path : List (List ℕ)) → is_path path ≡ true → delete_of (path_text path ∷ []) ≡ Ok (command.Delete path)
-unfolding delete_of one_field
+unfolding delete_of path_alone one_field next_field no_fields
 delete_again path h = rw (path_in_again path h) refl
 
 move_again : (path : List (List ℕ)) (amount : ℤ) → is_path path ≡ true → is_from 1 16384 (unsigned_abs amount) ≡ true
     → move_of (path_text path ∷ (sign_text (is_negative amount) ++ decimal (unsigned_abs amount)) ∷ [])
     ≡ Ok (command.Move path amount)
-unfolding move_of two_fields
+unfolding move_of two_fields one_field next_field no_fields
 move_again path amount h r = rw (path_in_again path h, amount_again amount r) refl
 
 status_again : (path : List (List ℕ)) → is_path path ≡ true → status_of (path_text path ∷ []) ≡ Ok (command.Status path)
-unfolding status_of one_field
+unfolding status_of path_alone one_field next_field no_fields
 status_again path h = rw (path_in_again path h) refl
 
 end_again : end_of [] ≡ Ok command.End

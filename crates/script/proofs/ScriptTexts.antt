@@ -23,7 +23,7 @@ use Rattle.script.specs.Forms.{weight, weight_of}
 use Rattle.script.specs.Grammar.{finished, is_whole, script_of}
 use Rattle.script.specs.Heads.{after_bulk, after_fail, after_process, command_line, initializer_line, line_at}
 use Rattle.script.specs.Heads.{process_line}
-use Rattle.script.specs.Lines.{no_fields, one_field}
+use Rattle.script.specs.Lines.{next_field, no_fields, one_field}
 use Rattle.script.specs.Plans.{Plan, ProcessPlan}
 use Rattle.script.specs.Scripts.{begin_text, commands_text, ended, process_text, processes_text, script_text}
 use Rattle.script.specs.Texts.{command_text}
@@ -151,7 +151,7 @@ process_at stage.Commands d fields h = absurd (cc)
 
 process_again : (d : DraftPlan) (who : Who) → is_who who ≡ true → length d.processes < 32
     → process_line d (who_text who ∷ []) ≡ Ok (record d { stage = stage.Commands; who = who })
-unfolding process_line one_field
+unfolding process_line one_field next_field no_fields
 process_again d who h room =
     let few : nat_lt (length d.processes) 32 ≡ true = grind (arith, nat_tests) in
     rw (who_in_again who h, few) refl

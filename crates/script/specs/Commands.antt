@@ -9,6 +9,35 @@ use Rattle.script.specs.declared.plan.VolumeLine.{VolumeLine}
 use Rattle.script.specs.declared.refusals.Cause.{Cause}
 use Rattle.script.specs.declared.refusals.Cause.TheVariants as cause
 
+-- a path alone
+unfoldable pub path_alone : List (List ℕ) → Result (List (List ℕ)) Cause
+path_alone fields = do
+  f ← one_field fields
+  path_in f
+
+-- a path, and a number from low to high
+unfoldable pub path_and_number : ℕ → ℕ → List (List ℕ) → Result (List (List ℕ) × ℕ) Cause
+path_and_number low high fields = do
+  f ← two_fields fields
+  path ← path_in f.0
+  number ← number_in low high f.1
+  Ok (path, number)
+
+-- the place of a word: the number of a segment, and an offset
+unfoldable pub place_in : List ℕ → List ℕ → Result (ℕ × ℕ) Cause
+place_in number offset = do
+  n ← number_in 0 255 number
+  o ← number_in 0 999999 offset
+  Ok (n, o)
+
+-- the place of a word, and a word
+unfoldable pub place_and_word : List (List ℕ) → Result (ℕ × ℕ × ℕ) Cause
+place_and_word fields = do
+  f ← three_fields fields
+  place ← place_in f.0 f.1
+  word ← word_in f.2
+  Ok (place.0, place.1, word)
+
 -- `mkdir PATH VOLUME`
 unfoldable pub mkdir_of : List VolumeLine → List (List ℕ) → Result Command Cause
 mkdir_of volumes fields = do
@@ -29,8 +58,7 @@ mkseg_of volumes fields = do
 -- `initiate PATH`
 unfoldable pub initiate_of : List (List ℕ) → Result Command Cause
 initiate_of fields = do
-  f ← one_field fields
-  path ← path_in f
+  path ← path_alone fields
   Ok (command.Initiate path)
 
 -- `terminate N`
@@ -44,37 +72,29 @@ terminate_of fields = do
 unfoldable pub read_of : List (List ℕ) → Result Command Cause
 read_of fields = do
   f ← two_fields fields
-  number ← number_in 0 255 f.0
-  offset ← number_in 0 999999 f.1
-  Ok (command.Read number offset)
+  place ← place_in f.0 f.1
+  Ok (command.Read place.0 place.1)
 
 -- `write N OFF W`
 unfoldable pub write_of : List (List ℕ) → Result Command Cause
 write_of fields = do
-  f ← three_fields fields
-  number ← number_in 0 255 f.0
-  offset ← number_in 0 999999 f.1
-  word ← word_in f.2
-  Ok (command.Write number offset word)
+  p ← place_and_word fields
+  Ok (command.Write p.0 p.1 p.2)
 
 -- `add N OFF W`
 unfoldable pub add_of : List (List ℕ) → Result Command Cause
 add_of fields = do
-  f ← three_fields fields
-  number ← number_in 0 255 f.0
-  offset ← number_in 0 999999 f.1
-  word ← word_in f.2
-  Ok (command.Add number offset word)
+  p ← place_and_word fields
+  Ok (command.Add p.0 p.1 p.2)
 
 -- `await N OFF W TRIES`
 unfoldable pub await_of : List (List ℕ) → Result Command Cause
 await_of fields = do
   f ← four_fields fields
-  number ← number_in 0 255 f.0
-  offset ← number_in 0 999999 f.1
+  place ← place_in f.0 f.1
   word ← word_in f.2
   tries ← number_in 1 100000 f.3
-  Ok (command.Await number offset word tries)
+  Ok (command.Await place.0 place.1 word tries)
 
 -- `acl PATH WHO MODE`
 unfoldable pub acl_of : List (List ℕ) → Result Command Cause
@@ -88,24 +108,19 @@ acl_of fields = do
 -- `length PATH PAGES`
 unfoldable pub length_of : List (List ℕ) → Result Command Cause
 length_of fields = do
-  f ← two_fields fields
-  path ← path_in f.0
-  pages ← number_in 1 256 f.1
-  Ok (command.Length path pages)
+  p ← path_and_number 1 256 fields
+  Ok (command.Length p.0 p.1)
 
 -- `truncate PATH WORDS`
 unfoldable pub truncate_of : List (List ℕ) → Result Command Cause
 truncate_of fields = do
-  f ← two_fields fields
-  path ← path_in f.0
-  words ← number_in 0 262144 f.1
-  Ok (command.Truncate path words)
+  p ← path_and_number 0 262144 fields
+  Ok (command.Truncate p.0 p.1)
 
 -- `delete PATH`
 unfoldable pub delete_of : List (List ℕ) → Result Command Cause
 delete_of fields = do
-  f ← one_field fields
-  path ← path_in f
+  path ← path_alone fields
   Ok (command.Delete path)
 
 -- `move PATH +N` or `move PATH -N`
@@ -119,8 +134,7 @@ move_of fields = do
 -- `status PATH`
 unfoldable pub status_of : List (List ℕ) → Result Command Cause
 status_of fields = do
-  f ← one_field fields
-  path ← path_in f
+  path ← path_alone fields
   Ok (command.Status path)
 
 -- `end`

@@ -38,25 +38,41 @@ unfoldable pub no_fields : List (List ℕ) → Result (Unit {0}) Cause
 no_fields [] = Ok tt
 no_fields (f ∷ fs) = Err cause.Fields
 
+-- the first field, and those after it
+unfoldable pub next_field : List (List ℕ) → Result (List ℕ × List (List ℕ)) Cause
+next_field [] = Err cause.Fields
+next_field (f ∷ fs) = Ok (f, fs)
+
 unfoldable pub one_field : List (List ℕ) → Result (List ℕ) Cause
-one_field (a ∷ []) = Ok a
-one_field _ = Err cause.Fields
+one_field fields = do
+  f ← next_field fields
+  _ ← no_fields f.1
+  Ok f.0
 
 unfoldable pub two_fields : List (List ℕ) → Result (List ℕ × List ℕ) Cause
-two_fields (a ∷ b ∷ []) = Ok (a, b)
-two_fields _ = Err cause.Fields
+two_fields fields = do
+  f ← next_field fields
+  last ← one_field f.1
+  Ok (f.0, last)
 
 unfoldable pub three_fields : List (List ℕ) → Result (List ℕ × List ℕ × List ℕ) Cause
-three_fields (a ∷ b ∷ c ∷ []) = Ok (a, b, c)
-three_fields _ = Err cause.Fields
+three_fields fields = do
+  f ← next_field fields
+  more ← two_fields f.1
+  Ok (f.0, more.0, more.1)
 
 unfoldable pub four_fields : List (List ℕ) → Result (List ℕ × List ℕ × List ℕ × List ℕ) Cause
-four_fields (a ∷ b ∷ c ∷ d ∷ []) = Ok (a, b, c, d)
-four_fields _ = Err cause.Fields
+four_fields fields = do
+  f ← next_field fields
+  more ← three_fields f.1
+  Ok (f.0, more.0, more.1, more.2)
 
 unfoldable pub six_fields : List (List ℕ) → Result (List ℕ × List ℕ × List ℕ × List ℕ × List ℕ × List ℕ) Cause
-six_fields (a ∷ b ∷ c ∷ d ∷ e ∷ f ∷ []) = Ok (a, b, c, d, e, f)
-six_fields _ = Err cause.Fields
+six_fields fields = do
+  f ← next_field fields
+  s ← next_field f.1
+  more ← four_fields s.1
+  Ok (f.0, s.0, more.0, more.1, more.2, more.3)
 
 -- a number from low to high
 abbrev pub in_range : ℕ → ℕ → Option ℕ → Result ℕ Cause

@@ -1,4 +1,4 @@
-ghost use Rattle.std.specs.Prelude.{◌≡◌, ◌+◌, ◌<◌, ◌≤◌, false, true, IfOk, Ok, OnOk, length, sum_by, vec_capacity};
+ghost use Rattle.std.specs.Prelude.{◌≡◌, ◌+◌, ◌<◌, ◌≤◌, false, true, Ok, OnOk, length, sum_by, vec_capacity};
 ghost use Rattle.std.specs.Prelude.{vec_len};
 ghost use Rattle.std.specs.List.{list_any};
 ghost use Rattle.script.specs.Drafts.{blank, initializer_who, has_volume, is_early, is_head, is_inside, plan_of};
@@ -7,11 +7,11 @@ ghost use Rattle.script.specs.Forms.{is_before, is_command, is_end, is_who, reco
 ghost use Rattle.script.specs.Grammar.{text_after, whole_or_missing};
 ghost use Rattle.script.specs.Heads.{machine_line, quota_line, volume_line, print_line, bulk_line, fail_line};
 ghost use Rattle.script.specs.Heads.{initializer_line, process_line, after_process, after_fail, after_bulk};
-ghost use Rattle.script.specs.Heads.{after_volume, added, line_at};
-ghost use Rattle.script.specs.Lines.{volume_in};
-ghost use Rattle.script.specs.Readers.{Gives, Steps};
+ghost use Rattle.script.specs.Heads.{after_volume, added, command_line, line_at};
+ghost use Rattle.script.specs.Readers.{Steps};
 ghost use Rattle.script.specs.declared.commands.Command.TheVariants.{End};
 
+use crate::command_lines::read_command;
 use crate::commands::{Command, Process};
 use crate::fields::{no_fields, one_field, six_fields, split_field, three_fields, two_fields};
 use crate::plan::{Bulk, Fail, Print, Script, VolumeLine};
@@ -363,17 +363,9 @@ impl Draft {
         Ok(())
     }
 
-    /// The number of the volume that a field names, which must have been given.
-    pub(crate) fn volume_of(&self, text: &[u8]) -> Result<u32, Cause>
-        ensures volume { Gives (λ n. n) result (volume_in self.now.volumes text.now) }
-        ensures given { IfOk result (λ n. n < length self.now.volumes) }
-    {
-        volume_in(&self.volumes, text)
-    }
-
     /// Adds a command that isn't the end. At most 100,000 come in all, where an await counts as its tries.
     #[tactic(auto, using(crate::proofs::DraftLaws::weight_bound, std::proofs::lemmas::Grind::common_steps))]
-    pub(crate) fn push(&mut self, command: Command) -> Result<(), LineFault>
+    fn push(&mut self, command: Command) -> Result<(), LineFault>
         requires inside { is_inside self.old.stage ≡ true }
         requires range { is_command (length self.old.volumes) command ≡ true }
         requires going { is_end command ≡ false }
@@ -390,7 +382,7 @@ impl Draft {
     }
 
     /// Adds the end of the process, which is a command too.
-    pub(crate) fn end_process(&mut self, alloc: Global) -> Result<(), LineFault>
+    fn end_process(&mut self, alloc: Global) -> Result<(), LineFault>
         requires { is_inside self.old.stage ≡ true }
         ensures { Steps self.new result (added self.old (Ok End)) }
     {
@@ -407,6 +399,18 @@ impl Draft {
         self.stage = Stage::Processes;
         self.used = used;
         Ok(())
+    }
+
+    /// A command of a process, by its word and what follows the word.
+    #[tactic(auto, unfolding(crate::specs::Heads::command_line))]
+    fn command(&mut self, alloc: Global, word: &[u8], line: &[u8]) -> Result<(), LineFault>
+        requires { is_inside self.old.stage ≡ true }
+        ensures { Steps self.new result (command_line self.old word.now (fields_of line.now)) }
+    {
+        match read_command(&self.volumes, word, line)? {
+            Command::End => self.end_process(alloc),
+            command => self.push(command),
+        }
     }
 
     /// A line that may stand after a process.

@@ -1,6 +1,6 @@
 ghost use Rattle.std.specs.Prelude.{◌≡◌, ◌≢◌, ◌<◌, slice_index, [], ◌∷◌, length};
 ghost use Rattle.script.specs.Fields.{fields_of};
-ghost use Rattle.script.specs.Lines.{no_fields, one_field, two_fields, three_fields, four_fields, six_fields};
+ghost use Rattle.script.specs.Lines.{next_field, no_fields, one_field, two_fields, three_fields, four_fields, six_fields};
 ghost use Rattle.script.specs.Readers.{Gives};
 
 use crate::refusals::Cause;
@@ -47,21 +47,27 @@ pub(crate) fn no_fields(line: &[u8]) -> Result<(), Cause>
     }
 }
 
+/// The first field of a line and what follows it.
+#[tactic(auto, unfolding(crate::specs::Lines::next_field))]
+fn next_field(line: &[u8]) -> Result<(&[u8], &[u8]), Cause>
+    ensures { Gives (λ f. (f.0.now, fields_of f.1.now)) result (next_field (fields_of line.now)) }
+{
+    let (field, rest) = split_field(line);
+    if field.is_empty() {
+        Err(Cause::Fields)
+    } else {
+        Ok((field, rest))
+    }
+}
+
 /// The field of a line that has one.
 #[tactic(auto, unfolding(crate::specs::Lines::one_field))]
 pub(crate) fn one_field(line: &[u8]) -> Result<&[u8], Cause>
     ensures { Gives (λ f. f.now) result (one_field (fields_of line.now)) }
 {
-    let (first, rest) = split_field(line);
-    if first.is_empty() {
-        return Err(Cause::Fields);
-    }
-    let (more, _) = split_field(rest);
-    if more.is_empty() {
-        Ok(first)
-    } else {
-        Err(Cause::Fields)
-    }
+    let (field, rest) = next_field(line)?;
+    no_fields(rest)?;
+    Ok(field)
 }
 
 /// The fields of a line that has two.
@@ -69,20 +75,9 @@ pub(crate) fn one_field(line: &[u8]) -> Result<&[u8], Cause>
 pub(crate) fn two_fields(line: &[u8]) -> Result<(&[u8], &[u8]), Cause>
     ensures { Gives (λ f. (f.0.now, f.1.now)) result (two_fields (fields_of line.now)) }
 {
-    let (first, rest) = split_field(line);
-    if first.is_empty() {
-        return Err(Cause::Fields);
-    }
-    let (second, rest) = split_field(rest);
-    if second.is_empty() {
-        return Err(Cause::Fields);
-    }
-    let (more, _) = split_field(rest);
-    if more.is_empty() {
-        Ok((first, second))
-    } else {
-        Err(Cause::Fields)
-    }
+    let (first, rest) = next_field(line)?;
+    let second = one_field(rest)?;
+    Ok((first, second))
 }
 
 /// The fields of a line that has three.
@@ -90,24 +85,9 @@ pub(crate) fn two_fields(line: &[u8]) -> Result<(&[u8], &[u8]), Cause>
 pub(crate) fn three_fields(line: &[u8]) -> Result<(&[u8], &[u8], &[u8]), Cause>
     ensures { Gives (λ f. (f.0.now, f.1.now, f.2.now)) result (three_fields (fields_of line.now)) }
 {
-    let (first, rest) = split_field(line);
-    if first.is_empty() {
-        return Err(Cause::Fields);
-    }
-    let (second, rest) = split_field(rest);
-    if second.is_empty() {
-        return Err(Cause::Fields);
-    }
-    let (third, rest) = split_field(rest);
-    if third.is_empty() {
-        return Err(Cause::Fields);
-    }
-    let (more, _) = split_field(rest);
-    if more.is_empty() {
-        Ok((first, second, third))
-    } else {
-        Err(Cause::Fields)
-    }
+    let (first, rest) = next_field(line)?;
+    let (second, third) = two_fields(rest)?;
+    Ok((first, second, third))
 }
 
 /// The fields of a line that has four.
@@ -115,28 +95,9 @@ pub(crate) fn three_fields(line: &[u8]) -> Result<(&[u8], &[u8], &[u8]), Cause>
 pub(crate) fn four_fields(line: &[u8]) -> Result<(&[u8], &[u8], &[u8], &[u8]), Cause>
     ensures { Gives (λ f. (f.0.now, f.1.now, f.2.now, f.3.now)) result (four_fields (fields_of line.now)) }
 {
-    let (first, rest) = split_field(line);
-    if first.is_empty() {
-        return Err(Cause::Fields);
-    }
-    let (second, rest) = split_field(rest);
-    if second.is_empty() {
-        return Err(Cause::Fields);
-    }
-    let (third, rest) = split_field(rest);
-    if third.is_empty() {
-        return Err(Cause::Fields);
-    }
-    let (fourth, rest) = split_field(rest);
-    if fourth.is_empty() {
-        return Err(Cause::Fields);
-    }
-    let (more, _) = split_field(rest);
-    if more.is_empty() {
-        Ok((first, second, third, fourth))
-    } else {
-        Err(Cause::Fields)
-    }
+    let (first, rest) = next_field(line)?;
+    let (second, third, fourth) = three_fields(rest)?;
+    Ok((first, second, third, fourth))
 }
 
 /// The fields of a line that has six.
@@ -145,34 +106,8 @@ pub(crate) fn six_fields(line: &[u8]) -> Result<(&[u8], &[u8], &[u8], &[u8], &[u
     ensures { Gives (λ f. (f.0.now, f.1.now, f.2.now, f.3.now, f.4.now, f.5.now)) result
         (six_fields (fields_of line.now)) }
 {
-    let (first, rest) = split_field(line);
-    if first.is_empty() {
-        return Err(Cause::Fields);
-    }
-    let (second, rest) = split_field(rest);
-    if second.is_empty() {
-        return Err(Cause::Fields);
-    }
-    let (third, rest) = split_field(rest);
-    if third.is_empty() {
-        return Err(Cause::Fields);
-    }
-    let (fourth, rest) = split_field(rest);
-    if fourth.is_empty() {
-        return Err(Cause::Fields);
-    }
-    let (fifth, rest) = split_field(rest);
-    if fifth.is_empty() {
-        return Err(Cause::Fields);
-    }
-    let (sixth, rest) = split_field(rest);
-    if sixth.is_empty() {
-        return Err(Cause::Fields);
-    }
-    let (more, _) = split_field(rest);
-    if more.is_empty() {
-        Ok((first, second, third, fourth, fifth, sixth))
-    } else {
-        Err(Cause::Fields)
-    }
+    let (first, rest) = next_field(line)?;
+    let (second, rest) = next_field(rest)?;
+    let (third, fourth, fifth, sixth) = four_fields(rest)?;
+    Ok((first, second, third, fourth, fifth, sixth))
 }
