@@ -24,7 +24,8 @@ use Rattle.script.specs.Commands.{write_of}
 use Rattle.script.specs.Forms.{is_command, is_from, is_path, is_place, is_row, is_word}
 use Rattle.script.specs.Grammar.{is_comment}
 use Rattle.script.specs.Lines.{four_fields, next_field, no_fields, one_field, three_fields, two_fields}
-use Rattle.script.specs.Texts.{command_text, mode_text, reference_text, sign_text, volume_name}
+use Rattle.script.specs.Texts.{arguments_text, command_text, mode_text, path_fields_text, reference_text, sign_text}
+use Rattle.script.specs.Texts.{volume_name, word_text}
 use Rattle.script.specs.declared.commands.Command.{Command}
 use Rattle.script.specs.declared.commands.Command.TheVariants as command
 use Rattle.script.specs.declared.plan.VolumeLine.{VolumeLine}
@@ -49,30 +50,13 @@ fields_text vs (command.Move path amount) = path_text path
 fields_text vs (command.Status path) = path_text path ∷ []
 fields_text vs command.End = []
 
--- the word of a command's text
-abbrev pub word_text : Command → List ℕ
-word_text (command.MkDir path volume) = codes "mkdir"
-word_text (command.MkSeg path pages volume) = codes "mkseg"
-word_text (command.Initiate path) = codes "initiate"
-word_text (command.Terminate number) = codes "terminate"
-word_text (command.Read number offset) = codes "read"
-word_text (command.Write number offset word) = codes "write"
-word_text (command.Add number offset word) = codes "add"
-word_text (command.Await number offset word tries) = codes "await"
-word_text (command.Acl path row mode) = codes "acl"
-word_text (command.Length path pages) = codes "length"
-word_text (command.Truncate path words) = codes "truncate"
-word_text (command.Delete path) = codes "delete"
-word_text (command.Move path amount) = codes "move"
-word_text (command.Status path) = codes "status"
-word_text command.End = codes "end"
-
 within_place : (number offset : ℕ) → is_place number offset ≡ true → (number ≤ 255) × (offset ≤ 999999)
 within_place number offset h = (grind (arith, nat_tests), grind (arith, nat_tests))
 
 -- ---- the fields of each command
 
 word_is_field : (c : Command) → IsField (word_text c)
+unfolding word_text
 word_is_field (command.MkDir path volume) = record { some = omega arith; bytes = refl }
 word_is_field (command.MkSeg path pages volume) = record { some = omega arith; bytes = refl }
 word_is_field (command.Initiate path) = record { some = omega arith; bytes = refl }
@@ -90,6 +74,7 @@ word_is_field (command.Status path) = record { some = omega arith; bytes = refl 
 word_is_field command.End = record { some = omega arith; bytes = refl }
 
 pub word_is_no_comment : (c : Command) → is_comment (word_text c) ≡ false
+unfolding word_text
 word_is_no_comment (command.MkDir path volume) = refl
 word_is_no_comment (command.MkSeg path pages volume) = refl
 word_is_no_comment (command.Initiate path) = refl
@@ -126,7 +111,7 @@ small n h = decimal_field n (omega arith)
 
 pub command_fields : (vs : List VolumeLine) (c : Command) → AreVolumes vs → is_command (length vs) c ≡ true
     → HasFields (command_text vs c) (word_text c ∷ fields_text vs c)
-unfolding command_text reference_text is_command
+unfolding command_text word_text arguments_text path_fields_text reference_text is_command
 command_fields vs (command.MkDir path volume) a h =
     let p = and_parts (is_path path) (nat_lt volume (length vs)) h in
     worded (command.MkDir path volume) (path_text path ++ (32 ∷ volume_name vs volume))
@@ -304,7 +289,7 @@ end_again = refl
 
 pub command_again : (vs : List VolumeLine) (c : Command) → AreVolumes vs → is_command (length vs) c ≡ true
     → command_of vs (word_text c) (fields_text vs c) ≡ Ok c
-unfolding command_of reference_or other_command_of is_command
+unfolding command_of reference_or other_command_of word_text is_command
 command_again vs (command.MkDir path volume) a h =
     let p = and_parts (is_path path) (nat_lt volume (length vs)) h in
     mkdir_again vs path volume a p.0 (below volume (length vs) p.1)

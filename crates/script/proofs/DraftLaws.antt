@@ -1,8 +1,7 @@
 -- Laws of drafts (own).
-use Rattle.std.proofs.Common.{◌≡◌, ℕ, ◌+◌, ◌<◌, ◌≤◌, true, false, not, nat_le, nat_lt, ◌&&◌, List, [], ◌∷◌, ◌++◌}
+use Rattle.std.proofs.Common.{◌≡◌, ℕ, ◌+◌, ◌<◌, ◌≤◌, true, false, not, nat_le, ◌&&◌, List, [], ◌∷◌, ◌++◌}
 use Rattle.std.proofs.Common.{length, refl, sym, ap, subst, ◌∙◌, arith, sum_by}
 use Rattle.std.proofs.lemmas.Bool.Decides.{nat_tests}
-use Rattle.mnames.specs.Names.{is_name}
 use Rattle.mnames.specs.declared.principals.Who.{Who}
 use Rattle.std.specs.List.{list_all, list_any}
 use Rattle.script.specs.Drafts.{DraftPlan, IsDraft, begun_at, blank, has_volume, goes_on, is_early, is_head, is_inside}
@@ -161,16 +160,10 @@ bulk_added d new b h e head volume given low high other =
       used = h.used;
     })
 
-fail_is : (n : ℕ) (f : Fail) → f.volume < n → is_from 1 1000000 f.number ≡ true → is_fail n f ≡ true
-unfolding is_fail
-fail_is n f given number = let z : nat_lt f.volume n ≡ true =
-    grind (arith, nat_tests) in and_both (nat_lt f.volume n) (is_from 1 1000000 f.number) z number
-
 pub fail_added : (d : DraftPlan) (new : List Fail) (f : Fail) → IsDraft d → new ≡ d.fails ++ f ∷ [] → is_head d.stage
-    ≡ true → has_volume d.stage ≡ true → f.volume < length d.volumes → is_from 1 1000000 f.number ≡ true
-    → length d.fails < 100 → IsDraft (record d { stage = stage.Fails; fails = new })
-fail_added d new f h e head volume given number few =
-    let range : is_fail (length d.volumes) f ≡ true = fail_is (length d.volumes) f given number in
+    ≡ true → has_volume d.stage ≡ true → is_fail (length d.volumes) f ≡ true → length d.fails < 100
+    → IsDraft (record d { stage = stage.Fails; fails = new })
+fail_added d new f h e head volume range few =
     rw e (record {
       processors = h.processors;
       frames = h.frames;
@@ -204,21 +197,10 @@ fail_added d new f h e head volume given number few =
       used = h.used;
     })
 
-volume_is : (v : VolumeLine) → is_name v.name ≡ true → 1 ≤ v.records → v.records ≤ 16384 → 1 ≤ v.entries
-    → v.entries ≤ 4097 → is_volume v ≡ true
-unfolding is_volume
-volume_is v name low high least most =
-    let records : is_from 1 16384 v.records ≡ true = grind (arith, nat_tests) in
-    let entries : is_from 1 4097 v.entries ≡ true = grind (arith, nat_tests) in
-    and_both (is_name v.name) (is_from 1 16384 v.records && is_from 1 4097 v.entries) name
-    (and_both (is_from 1 16384 v.records) (is_from 1 4097 v.entries) records entries)
-
 pub volume_added : (d : DraftPlan) (new : List VolumeLine) (v : VolumeLine) → IsDraft d → new ≡ d.volumes ++ v ∷ []
-    → is_early d.stage ≡ true → is_name v.name ≡ true → 1 ≤ v.records → v.records ≤ 16384 → 1 ≤ v.entries
-    → v.entries ≤ 4097 → list_any (has_name v.name) d.volumes ≡ false → length d.volumes < 4
+    → is_early d.stage ≡ true → is_volume v ≡ true → list_any (has_name v.name) d.volumes ≡ false → length d.volumes < 4
     → sum_by records_of d.volumes + v.records ≤ 16384 → IsDraft (record d { stage = stage.Volumes; volumes = new })
-volume_added d new v h e early name low high least most other few records =
-    let range : is_volume v ≡ true = volume_is v name low high least most in
+volume_added d new v h e early range other few records =
     let head : is_head d.stage ≡ true = early_is_head d.stage early in
     let nothing = h.early early in
     let nobody = h.head head in

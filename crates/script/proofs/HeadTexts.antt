@@ -20,7 +20,7 @@ use Rattle.script.specs.Drafts.{DraftPlan, blank}
 use Rattle.script.specs.Forms.{ArePools, has_name, have_own_names, have_own_volumes, is_before, is_bulk, is_fail}
 use Rattle.script.specs.Forms.{is_from, is_volume, IsPlan, records_of}
 use Rattle.script.specs.Heads.{after_bulk, after_fail, after_volume, bulk_line, fail_line, line_at, machine_line}
-use Rattle.script.specs.Heads.{print_line, quota_line, volume_line}
+use Rattle.script.specs.Heads.{fail_in, new_volume_in, pools_in, print_line, quota_line, volume_line}
 use Rattle.script.specs.Lines.{four_fields, next_field, no_fields, one_field, print_in, six_fields, three_fields, two_fields}
 use Rattle.script.specs.Plans.{Plan}
 use Rattle.script.specs.Scripts.{bulk_text, call_text, ended, fail_text, head_text, machine_text, numbers_text}
@@ -60,7 +60,7 @@ machine_again : (processors frames a b c d : ℕ) → 1 ≤ processors → proce
     → ArePools (a ∷ b ∷ c ∷ d ∷ []) → line_at stage.Machine blank (codes "machine")
     (map decimal (processors ∷ frames ∷ a ∷ b ∷ c ∷ d ∷ []))
     ≡ Ok (after_machine processors frames (a ∷ b ∷ c ∷ d ∷ []))
-unfolding line_at machine_line six_fields four_fields three_fields two_fields one_field next_field no_fields
+unfolding line_at machine_line pools_in six_fields four_fields three_fields two_fields one_field next_field no_fields
 machine_again processors frames a b c d p0 p1 f0 f1 h =
     let many : nat_le (a + b + c + d) 1024 ≡ true = grind (arith, nat_tests) in
     rw (
@@ -140,7 +140,7 @@ volume_line_again : (d : DraftPlan) (v : VolumeLine) → is_volume v ≡ true �
     ≡ false → length d.volumes < 4 → sum_by records_of d.volumes + v.records ≤ 16384
     → volume_line d (v.name ∷ decimal v.records ∷ decimal v.entries ∷ [])
     ≡ Ok (record d { stage = stage.Volumes; volumes = d.volumes ++ v ∷ [] })
-unfolding volume_line three_fields two_fields one_field next_field no_fields is_volume
+unfolding volume_line new_volume_in three_fields two_fields one_field next_field no_fields is_volume
 volume_line_again d v h new room sum =
     let p = and_parts (is_name v.name) (is_from 1 16384 v.records && is_from 1 4097 v.entries) h in
     let q = and_parts (is_from 1 16384 v.records) (is_from 1 4097 v.entries) p.1 in
@@ -389,7 +389,7 @@ fail_fields vs f a h =
 fail_line_again : (d : DraftPlan) (f : Fail) → AreVolumes d.volumes → is_fail (length d.volumes) f ≡ true
     → length d.fails < 100 → fail_line d (fail_fields_text d.volumes f)
     ≡ Ok (record d { stage = stage.Fails; fails = d.fails ++ f ∷ [] })
-unfolding fail_line three_fields two_fields one_field next_field no_fields
+unfolding fail_line fail_in three_fields two_fields one_field next_field no_fields
 fail_line_again d f a h room =
     let p = fail_parts (length d.volumes) f h in
     let few : nat_lt (length d.fails) 100 ≡ true = grind (arith, nat_tests) in

@@ -26,43 +26,39 @@ first_of : (n : ℕ) (d : DraftPlan) (bytes line rest : List ℕ) → lines_of b
 first_of n d bytes line rest e = ap (λ ls. fold numbered (Ok (n, d)) ls) e
     ∙ ap (λ r. fold numbered r (lines_of rest)) (line_read n d line)
 
-pub line_kept : (n : ℕ) (d new : DraftPlan) (bytes line rest all : List ℕ) → lines_of bytes ≡ line ∷ lines_of rest
-    → text_after d line ≡ Ok new → fold numbered (Ok (n, d)) (lines_of bytes)
-    ≡ fold numbered (Ok (1, blank)) (lines_of all) → fold numbered (Ok (n + 1, new)) (lines_of rest)
-    ≡ fold numbered (Ok (1, blank)) (lines_of all)
+pub line_kept : (n : ℕ) (d new : DraftPlan) (bytes line rest : List ℕ) (all : Result (ℕ × DraftPlan) Refusal)
+    → lines_of bytes ≡ line ∷ lines_of rest → text_after d line ≡ Ok new → fold numbered (Ok (n, d)) (lines_of bytes)
+    ≡ all → fold numbered (Ok (n + 1, new)) (lines_of rest) ≡ all
 line_kept n d new bytes line rest all e kept h =
     sym (first_of n d bytes line rest e ∙ ap (λ r. fold numbered (after_number n r) (lines_of rest)) kept) ∙ h
 
-pub line_refused : (n : ℕ) (d : DraftPlan) (why : Cause) (bytes line rest all : List ℕ) → lines_of bytes ≡ line
-    ∷ lines_of rest → text_after d line ≡ Err why → fold numbered (Ok (n, d)) (lines_of bytes)
-    ≡ fold numbered (Ok (1, blank)) (lines_of all) → script_of all ≡ Err (record { line = n; cause = why })
-unfolding script_of finished
+pub line_refused : (n : ℕ) (d : DraftPlan) (why : Cause) (bytes line rest : List ℕ)
+    (all : Result (ℕ × DraftPlan) Refusal) → lines_of bytes ≡ line ∷ lines_of rest → text_after d line ≡ Err why
+    → fold numbered (Ok (n, d)) (lines_of bytes) ≡ all → all ≡ Err (record { line = n; cause = why })
 line_refused n d why bytes line rest all e refused h =
-    ap finished (sym h ∙ first_of n d bytes line rest e
-    ∙ ap (λ r. fold numbered (after_number n r) (lines_of rest)) refused
-    ∙ refused_stays (record { line = n; cause = why }) (lines_of rest))
+    sym h ∙ first_of n d bytes line rest e ∙ ap (λ r. fold numbered (after_number n r) (lines_of rest)) refused
+    ∙ refused_stays (record { line = n; cause = why }) (lines_of rest)
 
 no_lines : (bytes : List ℕ) → length bytes ≡ 0 → lines_of bytes ≡ []
 unfolding lines_of
 no_lines [] e = refl
 no_lines (b ∷ bs) e = absurd (omega arith)
 
-all_read : (n : ℕ) (d : DraftPlan) (bytes all : List ℕ) (r : Result Plan Refusal) → length bytes ≡ 0 → r
-    ≡ whole_or_missing n d → fold numbered (Ok (n, d)) (lines_of bytes) ≡ fold numbered (Ok (1, blank)) (lines_of all)
-    → script_of all ≡ r
-unfolding script_of finished
-all_read n d bytes all r end e h =
-    ap finished (sym h ∙ ap (λ ls. fold numbered (Ok (n, d)) ls) (no_lines bytes end)) ∙ sym e
-
-pub whole_read : (n : ℕ) (d : DraftPlan) (p : Plan) (bytes all : List ℕ) → length bytes ≡ 0 → Ok p
-    ≡ whole_or_missing n d → fold numbered (Ok (n, d)) (lines_of bytes) ≡ fold numbered (Ok (1, blank)) (lines_of all)
-    → script_of all ≡ Ok p
-whole_read n d p bytes all end e h = all_read n d bytes all (Ok p) end e h
-
-pub missing_read : (n : ℕ) (d : DraftPlan) (r : Refusal) (bytes all : List ℕ) → length bytes ≡ 0 → Err r
-    ≡ whole_or_missing n d → fold numbered (Ok (n, d)) (lines_of bytes) ≡ fold numbered (Ok (1, blank)) (lines_of all)
-    → script_of all ≡ Err r
-missing_read n d r bytes all end e h = all_read n d bytes all (Err r) end e h
+pub lines_end : (n : ℕ) (d : DraftPlan) (bytes : List ℕ) (all : Result (ℕ × DraftPlan) Refusal) → length bytes ≡ 0
+    → fold numbered (Ok (n, d)) (lines_of bytes) ≡ all → all ≡ Ok (n, d)
+lines_end n d bytes all end h = sym h ∙ ap (λ ls. fold numbered (Ok (n, d)) ls) (no_lines bytes end)
 
 -- what reading line by line goes by
-pub ruleset lines_read = (line_kept, line_refused, whole_read, missing_read)
+pub ruleset lines_read = (line_kept, line_refused, lines_end)
+
+pub script_refused : (e : Refusal) (bytes : List ℕ) → fold numbered (Ok (1, blank)) (lines_of bytes) ≡ Err e
+    → script_of bytes ≡ Err e
+unfolding script_of finished
+script_refused e bytes h = ap finished h
+
+-- where no line is refused, what is left to say is whether a line is missing
+pub script_ended : (n : ℕ) (base d : DraftPlan) (bytes : List ℕ) (r : Result Plan Refusal) → base ≡ blank
+    → fold numbered (Ok (1, base)) (lines_of bytes) ≡ Ok (n, d) → r ≡ whole_or_missing n d → script_of bytes ≡ r
+unfolding script_of finished
+script_ended n base d bytes r b h e =
+    ap (λ (s : DraftPlan). finished (fold numbered (Ok (1, s)) (lines_of bytes))) (sym b) ∙ ap finished h ∙ sym e

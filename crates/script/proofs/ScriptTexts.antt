@@ -7,7 +7,7 @@ use Rattle.std.proofs.lemmas.List.Sums.{sum_by-append}
 use Rattle.std.specs.List.{list_all}
 use Rattle.mnames.specs.Principals.{who_text}
 use Rattle.mnames.specs.declared.principals.Who.{Who}
-use Rattle.script.proofs.CommandTexts.{command_again, command_fields, fields_text, word_is_no_comment, word_text}
+use Rattle.script.proofs.CommandTexts.{command_again, command_fields, fields_text, word_is_no_comment}
 use Rattle.script.proofs.FieldTexts.{front_field, last_field}
 use Rattle.script.proofs.HeadTexts.{after_head, are_volumes, head_reaches, stage_after_fails, takes_after_fails}
 use Rattle.script.proofs.HeadTexts.{takes_fail}
@@ -26,7 +26,7 @@ use Rattle.script.specs.Heads.{process_line}
 use Rattle.script.specs.Lines.{next_field, no_fields, one_field}
 use Rattle.script.specs.Plans.{Plan, ProcessPlan}
 use Rattle.script.specs.Scripts.{begin_text, commands_text, ended, process_text, processes_text, script_text}
-use Rattle.script.specs.Texts.{command_text}
+use Rattle.script.specs.Texts.{command_text, word_text}
 use Rattle.script.specs.declared.commands.Command.{Command}
 use Rattle.script.specs.declared.drafts.Stage.{Stage}
 use Rattle.script.specs.declared.drafts.Stage.TheVariants as stage

@@ -56,6 +56,12 @@ finished (Err e) = Err e
 unfoldable pub script_of : List ℕ → Result Plan Refusal
 script_of bytes = finished (fold numbered (Ok (1, blank)) (lines_of bytes))
 
+-- what reading lines gave, and the draft that it left, is what the lines give, unless memory ran out
+abbrev pub ReadsLines : DraftPlan → Result ℕ ScriptFault → Result (ℕ × DraftPlan) Refusal → Type 0
+ReadsLines new (Ok n) read = read ≡ Ok (n, new)
+ReadsLines new (Err (fault.Refused r)) read = read ≡ Err r
+ReadsLines new (Err fault.Memory) read = Unit {0}
+
 -- what reading gave is what the bytes are, unless memory ran out
 abbrev pub Reads : Result Plan ScriptFault → Result Plan Refusal → Type 0
 Reads (Ok s) read = read ≡ Ok s

@@ -12,27 +12,28 @@ use Rattle.script.specs.Lines.{who_in, print_in, is_write_in, volume_in, new_nam
 use Rattle.script.specs.declared.commands.Command.{Command}
 use Rattle.script.specs.declared.drafts.Stage.{Stage}
 use Rattle.script.specs.declared.drafts.Stage.TheVariants as stage
+use Rattle.script.specs.declared.plan.Fail.{Fail}
+use Rattle.script.specs.declared.plan.VolumeLine.{VolumeLine}
 use Rattle.script.specs.declared.refusals.Cause.{Cause}
 use Rattle.script.specs.declared.refusals.Cause.TheVariants as cause
 
--- `machine P F N4 N16 N64 N256`: processors, frames, and places in the pools, together at most 1024
+-- places in the pools, together at most 1024
+unfoldable pub pools_in : List ℕ → List ℕ → List ℕ → List ℕ → Result (List ℕ) Cause
+pools_in first second third last = do
+  four ← number_in 12 1024 first
+  sixteen ← number_in 1 1024 second
+  sixty_four ← number_in 1 1024 third
+  most ← number_in 1 1024 last
+  only_if cause.Many (nat_le (four + sixteen + sixty_four + most) 1024) (four ∷ sixteen ∷ sixty_four ∷ most ∷ [])
+
+-- `machine P F N4 N16 N64 N256`: processors, frames, and places in the pools
 unfoldable pub machine_line : DraftPlan → List (List ℕ) → Result DraftPlan Cause
 machine_line d fields = do
   f ← six_fields fields
   processors ← number_in 1 8 f.0
   frames ← number_in 4 1024 f.1
-  four ← number_in 12 1024 f.2
-  sixteen ← number_in 1 1024 f.3
-  sixty_four ← number_in 1 1024 f.4
-  most ← number_in 1 1024 f.5
-  only_if cause.Many (nat_le (four + sixteen + sixty_four + most) 1024)
-      (record d {
-        stage = stage.Quota;
-        processors = processors;
-        frames = frames;
-        pools = four ∷ sixteen ∷ sixty_four
-            ∷ most ∷ [];
-      })
+  pools ← pools_in f.2 f.3 f.4 f.5
+  Ok (record d { stage = stage.Quota; processors = processors; frames = frames; pools = pools })
 
 -- `quota Q`
 unfoldable pub quota_line : DraftPlan → List (List ℕ) → Result DraftPlan Cause
@@ -45,19 +46,21 @@ quota_line d fields = do
 abbrev pub is_volume_too_many : DraftPlan → ℕ → Bool
 is_volume_too_many d records = nat_le 4 (length d.volumes) || nat_lt 16384 (sum_by records_of d.volumes + records)
 
+-- `NAME RECORDS ENTRIES`, of a volume whose name wasn't given before
+unfoldable pub new_volume_in : List VolumeLine → List (List ℕ) → Result VolumeLine Cause
+new_volume_in volumes fields = do
+  f ← three_fields fields
+  name ← new_name_in volumes f.0
+  records ← number_in 1 16384 f.1
+  entries ← number_in 1 4097 f.2
+  Ok (record { name = name; records = records; entries = entries })
+
 -- `volume NAME RECORDS ENTRIES`
 unfoldable pub volume_line : DraftPlan → List (List ℕ) → Result DraftPlan Cause
 volume_line d fields = do
-  f ← three_fields fields
-  name ← new_name_in d.volumes f.0
-  records ← number_in 1 16384 f.1
-  entries ← number_in 1 4097 f.2
-  if is_volume_too_many d records then Err cause.Many else Ok
-      (record d {
-        stage = stage.Volumes;
-        volumes = d.volumes
-            ++ record { name = name; records = records; entries = entries } ∷ [];
-      })
+  v ← new_volume_in d.volumes fields
+  if is_volume_too_many d v.records then Err cause.Many
+      else Ok (record d { stage = stage.Volumes; volumes = d.volumes ++ v ∷ [] })
 
 -- `print MODE`
 unfoldable pub print_line : DraftPlan → List (List ℕ) → Result DraftPlan Cause
@@ -75,18 +78,20 @@ bulk_line d fields = do
   places ← number_in 1 1024 f.1
   Ok (record d { stage = stage.Bulks; bulks = d.bulks ++ record { volume = volume; places = places } ∷ [] })
 
--- `fail NAME read N`, `fail NAME write N`, or the same with `+` after it; at most 100
-unfoldable pub fail_line : DraftPlan → List (List ℕ) → Result DraftPlan Cause
-fail_line d fields = do
+-- `NAME read N` or `NAME write N`, or the same with `+` after it
+unfoldable pub fail_in : List VolumeLine → List (List ℕ) → Result Fail Cause
+fail_in volumes fields = do
   f ← three_fields fields
-  volume ← volume_in d.volumes f.0
+  volume ← volume_in volumes f.0
   write ← is_write_in f.1
   call ← call_in f.2
-  only_if cause.Many (nat_lt (length d.fails) 100) (record d {
-    stage = stage.Fails;
-    fails = d.fails ++ record
-        { volume = volume; write = write; number = call.0; onward = call.1 } ∷ [];
-  })
+  Ok (record { volume = volume; write = write; number = call.0; onward = call.1 })
+
+-- `fail` and such a call; at most 100
+unfoldable pub fail_line : DraftPlan → List (List ℕ) → Result DraftPlan Cause
+fail_line d fields = do
+  f ← fail_in d.volumes fields
+  only_if cause.Many (nat_lt (length d.fails) 100) (record d { stage = stage.Fails; fails = d.fails ++ f ∷ [] })
 
 -- `initializer`: its commands stand next
 unfoldable pub initializer_line : DraftPlan → List (List ℕ) → Result DraftPlan Cause

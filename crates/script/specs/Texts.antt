@@ -32,33 +32,62 @@ unfoldable pub sign_text : Bool → List ℕ
 sign_text true = codes "-"
 sign_text false = codes "+"
 
--- a command that names a segment by its number, and the end; of any other command nothing
+abbrev pub place_and_word_text : ℕ → ℕ → ℕ → List ℕ
+place_and_word_text number offset word = codes " "
+    ++ (decimal number ++ (codes " " ++ (decimal offset ++ (codes " " ++ octal_digits 12 word))))
+
+abbrev pub path_and_number_text : List (List ℕ) → ℕ → List ℕ
+path_and_number_text path number = codes " " ++ (path_text path ++ (codes " " ++ decimal number))
+
+-- the word of a command
+unfoldable pub word_text : Command → List ℕ
+word_text (command.MkDir path volume) = codes "mkdir"
+word_text (command.MkSeg path pages volume) = codes "mkseg"
+word_text (command.Initiate path) = codes "initiate"
+word_text (command.Terminate number) = codes "terminate"
+word_text (command.Read number offset) = codes "read"
+word_text (command.Write number offset word) = codes "write"
+word_text (command.Add number offset word) = codes "add"
+word_text (command.Await number offset word tries) = codes "await"
+word_text (command.Acl path row mode) = codes "acl"
+word_text (command.Length path pages) = codes "length"
+word_text (command.Truncate path words) = codes "truncate"
+word_text (command.Delete path) = codes "delete"
+word_text (command.Move path amount) = codes "move"
+word_text (command.Status path) = codes "status"
+word_text command.End = codes "end"
+
+-- the fields of a command that names a segment by its number, each after a space; of any other command none
 unfoldable pub reference_text : Command → List ℕ
-reference_text (command.Terminate number) = codes "terminate " ++ decimal number
-reference_text (command.Read number offset) = codes "read " ++ (decimal number ++ (codes " " ++ decimal offset))
-reference_text (command.Write number offset word) = codes "write "
-    ++ (decimal number ++ (codes " " ++ (decimal offset ++ (codes " " ++ octal_digits 12 word))))
-reference_text (command.Add number offset word) = codes "add "
-    ++ (decimal number ++ (codes " " ++ (decimal offset ++ (codes " " ++ octal_digits 12 word))))
-reference_text (command.Await number offset word tries) = codes "await "
+reference_text (command.Terminate number) = codes " " ++ decimal number
+reference_text (command.Read number offset) = codes " " ++ (decimal number ++ (codes " " ++ decimal offset))
+reference_text (command.Write number offset word) = place_and_word_text number offset word
+reference_text (command.Add number offset word) = place_and_word_text number offset word
+reference_text (command.Await number offset word tries) = codes " "
     ++ (decimal number ++ (codes " " ++ (decimal offset
     ++ (codes " " ++ (octal_digits 12 word ++ (codes " " ++ decimal tries))))))
-reference_text command.End = codes "end"
 reference_text _ = []
 
-unfoldable pub command_text : List VolumeLine → Command → List ℕ
-command_text volumes (command.MkDir path volume) = codes "mkdir "
-    ++ (path_text path ++ (codes " " ++ volume_name volumes volume))
-command_text volumes (command.MkSeg path pages volume) = codes "mkseg "
-    ++ (path_text path ++ (codes " " ++ (decimal pages ++ (codes " " ++ volume_name volumes volume))))
-command_text volumes (command.Initiate path) = codes "initiate " ++ path_text path
-command_text volumes (command.Acl path row mode) = codes "acl "
+-- those of a command that names a path but no volume too
+unfoldable pub path_fields_text : Command → List ℕ
+path_fields_text (command.Initiate path) = codes " " ++ path_text path
+path_fields_text (command.Acl path row mode) = codes " "
     ++ (path_text path ++ (codes " " ++ (row_text row ++ (codes " " ++ mode_text mode))))
-command_text volumes (command.Length path pages) = codes "length " ++ (path_text path ++ (codes " " ++ decimal pages))
-command_text volumes (command.Truncate path words) = codes "truncate "
-    ++ (path_text path ++ (codes " " ++ decimal words))
-command_text volumes (command.Delete path) = codes "delete " ++ path_text path
-command_text volumes (command.Move path amount) = codes "move "
+path_fields_text (command.Length path pages) = path_and_number_text path pages
+path_fields_text (command.Truncate path words) = path_and_number_text path words
+path_fields_text (command.Delete path) = codes " " ++ path_text path
+path_fields_text (command.Move path amount) = codes " "
     ++ (path_text path ++ (codes " " ++ (sign_text (is_negative amount) ++ decimal (unsigned_abs amount))))
-command_text volumes (command.Status path) = codes "status " ++ path_text path
-command_text volumes c = reference_text c
+path_fields_text (command.Status path) = codes " " ++ path_text path
+path_fields_text c = reference_text c
+
+-- those of any command
+unfoldable pub arguments_text : List VolumeLine → Command → List ℕ
+arguments_text volumes (command.MkDir path volume) = codes " "
+    ++ (path_text path ++ (codes " " ++ volume_name volumes volume))
+arguments_text volumes (command.MkSeg path pages volume) = codes " "
+    ++ (path_text path ++ (codes " " ++ (decimal pages ++ (codes " " ++ volume_name volumes volume))))
+arguments_text volumes c = path_fields_text c
+
+unfoldable pub command_text : List VolumeLine → Command → List ℕ
+command_text volumes c = word_text c ++ arguments_text volumes c

@@ -1,4 +1,4 @@
-ghost use Rattle.std.specs.Prelude.{◌≡◌, ◌+◌, ◌<◌, ◌≤◌, false, true, Ok, OnOk, length, sum_by, vec_capacity};
+ghost use Rattle.std.specs.Prelude.{[], ◌∷◌, ◌++◌, IfOk, OnErr, ◌≡◌, ◌+◌, ◌<◌, ◌≤◌, false, true, Ok, OnOk, length, sum_by, vec_capacity};
 ghost use Rattle.std.specs.Prelude.{vec_len};
 ghost use Rattle.std.specs.List.{list_any};
 ghost use Rattle.script.specs.Drafts.{blank, initializer_who, has_volume, is_early, is_head, is_inside, plan_of};
@@ -13,11 +13,11 @@ ghost use Rattle.script.specs.declared.commands.Command.TheVariants.{End};
 
 use crate::command_lines::read_command;
 use crate::commands::{Command, Process};
-use crate::fields::{no_fields, one_field, six_fields, split_field, three_fields, two_fields};
+use crate::fields::{no_fields, one_field, six_fields, split_field, two_fields};
 use crate::plan::{Bulk, Fail, Print, Script, VolumeLine};
 use crate::refusals::{Cause, Refusal};
-use crate::values::{call_in, is_write_in, number_in, print_in, who_in};
-use crate::volumes::{new_name_in, volume_in};
+use crate::values::{number_in, pools_in, print_in, who_in};
+use crate::volumes::{fail_in, new_volume_in, volume_in};
 use mnames::{Label, Who, read_label};
 use std::alloc::{AllocError, AllocFailed, Global};
 use std::marker::Model;
@@ -187,6 +187,17 @@ fn make_room(commands: &mut Vec<Command>) -> Result<(), AllocError>
     commands.reserve_exact(commands.len() / 64 + 8)
 }
 
+/// Takes the commands of a process, with its end after them.
+fn take_ended(alloc: Global, commands: &mut Vec<Command>) -> Result<Vec<Command>, AllocError>
+    ensures taken { IfOk result (λ ended. ended.items ≡ commands.old.items ++ End ∷ []) }
+    ensures left { OnOk result (commands.new.items ≡ []) }
+    ensures kept { OnErr result (commands.new.items ≡ commands.old.items) }
+{
+    make_room(commands)?;
+    commands.push_reserved(Command::End);
+    Ok(mem::replace(commands, Vec::new(alloc)))
+}
+
 /// Whether the volume has a fast store.
 fn has_bulk(bulks: &[Bulk], volume: u32) -> bool
     ensures { result ≡ list_any (is_before volume) bulks.now }
@@ -227,17 +238,11 @@ impl Draft {
         let (processors, frames, four, sixteen, sixty_four, most) = six_fields(line)?;
         let processors = number_in(processors, 1, 8)?;
         let frames = number_in(frames, 4, 1024)?;
-        let four = number_in(four, 12, 1024)?;
-        let sixteen = number_in(sixteen, 1, 1024)?;
-        let sixty_four = number_in(sixty_four, 1, 1024)?;
-        let most = number_in(most, 1, 1024)?;
-        if four + sixteen + sixty_four + most > 1024 {
-            return Err(LineFault::Refused(Cause::Many));
-        }
+        let pools = pools_in(four, sixteen, sixty_four, most)?;
         self.stage = Stage::Quota;
         self.processors = processors;
         self.frames = frames;
-        self.pools = [four, sixteen, sixty_four, most];
+        self.pools = pools;
         Ok(())
     }
 
@@ -274,18 +279,11 @@ impl Draft {
         requires { is_early self.old.stage ≡ true }
         ensures { Steps self.new result (volume_line self.old (fields_of line.now)) }
     {
-        let (name, records, entries) = three_fields(line)?;
-        let name = new_name_in(&self.volumes, name)?;
-        let records = number_in(records, 1, 16384)?;
-        let entries = number_in(entries, 1, 4097)?;
-        if self.volumes.len() >= 4 || records_in(&self.volumes) + records > 16384 {
+        let volume = new_volume_in(&self.volumes, line)?;
+        if self.volumes.len() >= 4 || records_in(&self.volumes) + volume.records > 16384 {
             return Err(LineFault::Refused(Cause::Many));
         }
-        self.volumes.push(VolumeLine {
-            name,
-            records,
-            entries,
-        })?;
+        self.volumes.push(volume)?;
         self.stage = Stage::Volumes;
         Ok(())
     }
@@ -315,19 +313,11 @@ impl Draft {
         requires volume { has_volume self.old.stage ≡ true }
         ensures { Steps self.new result (fail_line self.old (fields_of line.now)) }
     {
-        let (volume, write, call) = three_fields(line)?;
-        let volume = volume_in(&self.volumes, volume)?;
-        let write = is_write_in(write)?;
-        let (number, onward) = call_in(call)?;
+        let fail = fail_in(&self.volumes, line)?;
         if self.fails.len() >= 100 {
             return Err(LineFault::Refused(Cause::Many));
         }
-        self.fails.push(Fail {
-            volume,
-            write,
-            number,
-            onward,
-        })?;
+        self.fails.push(fail)?;
         self.stage = Stage::Fails;
         Ok(())
     }
@@ -391,9 +381,7 @@ impl Draft {
             return Err(LineFault::Refused(Cause::Many));
         }
         self.processes.reserve(1)?;
-        make_room(&mut self.commands)?;
-        self.commands.push_reserved(Command::End);
-        let commands = mem::replace(&mut self.commands, Vec::new(alloc));
+        let commands = take_ended(alloc, &mut self.commands)?;
         self.processes
             .push_reserved(Process::new(self.who.copied(), commands));
         self.stage = Stage::Processes;

@@ -1,4 +1,4 @@
-ghost use Rattle.std.specs.Prelude.{Some};
+ghost use Rattle.std.specs.Prelude.{◌≡◌, Some};
 ghost use Rattle.script.specs.Causes.{cause_text};
 
 use std::fmt;
@@ -29,23 +29,32 @@ pub enum Cause {
     Missing,
 }
 
+impl Cause {
+    /// The word for it.
+    #[tactic(auto, unfolding(crate::specs::Causes::cause_text))]
+    fn word(&self) -> &'static str
+        ensures { result.now ≡ cause_text self.now }
+    {
+        match self {
+            Cause::BadChar => "badchar",
+            Cause::Order => "order",
+            Cause::Fields => "fields",
+            Cause::Number => "number",
+            Cause::Name => "name",
+            Cause::Path => "path",
+            Cause::Twice => "twice",
+            Cause::Unknown => "unknown",
+            Cause::Many => "many",
+            Cause::Missing => "missing",
+        }
+    }
+}
+
 impl fmt::Display for Cause {
     ghost output = { λ c. Some (cause_text c) };
 
-    #[tactic(auto, unfolding(crate::specs::Causes::cause_text))]
     fn fmt<W: fmt::Write>(&self, f: &mut fmt::Formatter<W>) -> fmt::Result {
-        match self {
-            Cause::BadChar => write!(f, "badchar"),
-            Cause::Order => write!(f, "order"),
-            Cause::Fields => write!(f, "fields"),
-            Cause::Number => write!(f, "number"),
-            Cause::Name => write!(f, "name"),
-            Cause::Path => write!(f, "path"),
-            Cause::Twice => write!(f, "twice"),
-            Cause::Unknown => write!(f, "unknown"),
-            Cause::Many => write!(f, "many"),
-            Cause::Missing => write!(f, "missing"),
-        }
+        f.write_str(self.word())
     }
 }
 

@@ -1,6 +1,7 @@
 ghost use Rattle.std.specs.Prelude.{◌≡◌, ◌++◌, OnOk, string_bytes};
 ghost use Rattle.std.specs.Int.{is_negative};
-ghost use Rattle.script.specs.Texts.{command_text, mode_text, reference_text, sign_text, volume_name};
+ghost use Rattle.script.specs.Texts.{arguments_text, command_text, mode_text, path_fields_text, reference_text};
+ghost use Rattle.script.specs.Texts.{sign_text, volume_name, word_text};
 
 use crate::commands::Command;
 use crate::plan::VolumeLine;
@@ -38,32 +39,111 @@ fn sign_text(amount: i32) -> &'static str
     if amount < 0 { "-" } else { "+" }
 }
 
-/// Appends the text of a command that names a segment by its number, or of the end.
+/// The word of a command.
+#[tactic(auto, unfolding(crate::specs::Texts::word_text))]
+fn word_text(command: &Command) -> &'static str
+    ensures { result.now ≡ word_text command.now }
+{
+    match command {
+        Command::MkDir { .. } => "mkdir",
+        Command::MkSeg { .. } => "mkseg",
+        Command::Initiate { .. } => "initiate",
+        Command::Terminate { .. } => "terminate",
+        Command::Read { .. } => "read",
+        Command::Write { .. } => "write",
+        Command::Add { .. } => "add",
+        Command::Await { .. } => "await",
+        Command::Acl { .. } => "acl",
+        Command::Length { .. } => "length",
+        Command::Truncate { .. } => "truncate",
+        Command::Delete { .. } => "delete",
+        Command::Move { .. } => "move",
+        Command::Status { .. } => "status",
+        Command::End => "end",
+    }
+}
+
+/// Appends the fields of a command that names a segment by its number.
 #[tactic(auto, unfolding(crate::specs::Texts::reference_text))]
 fn push_reference(out: &mut String, command: &Command) -> Result<(), AllocError>
     ensures { OnOk result (string_bytes out.new ≡ string_bytes out.old ++ reference_text command.now) }
 {
     match command {
-        Command::Terminate { number } => write!(out, "terminate {number}"),
-        Command::Read { number, offset } => write!(out, "read {number} {offset}"),
+        Command::Terminate { number } => write!(out, " {number}"),
+        Command::Read { number, offset } => write!(out, " {number} {offset}"),
         Command::Write {
             number,
             offset,
             word,
-        } => write!(out, "write {number} {offset} {word}"),
-        Command::Add {
+        }
+        | Command::Add {
             number,
             offset,
             word,
-        } => write!(out, "add {number} {offset} {word}"),
+        } => write!(out, " {number} {offset} {word}"),
         Command::Await {
             number,
             offset,
             word,
             tries,
-        } => write!(out, "await {number} {offset} {word} {tries}"),
-        Command::End => write!(out, "end"),
+        } => write!(out, " {number} {offset} {word} {tries}"),
         _ => Ok(()),
+    }
+}
+
+/// Appends the fields of a command that names no volume.
+#[tactic(auto, unfolding(crate::specs::Texts::path_fields_text))]
+fn push_path_fields(out: &mut String, command: &Command) -> Result<(), AllocError>
+    ensures { OnOk result (string_bytes out.new ≡ string_bytes out.old ++ path_fields_text command.now) }
+{
+    match command {
+        Command::Initiate { path } | Command::Delete { path } | Command::Status { path } => {
+            write!(out, " {path}")
+        }
+        Command::Length {
+            path,
+            pages: number,
+        }
+        | Command::Truncate {
+            path,
+            words: number,
+        } => write!(out, " {path} {number}"),
+        Command::Acl { path, row, mode } => {
+            let mode = mode_text(*mode);
+            write!(out, " {path} {row} {mode}")
+        }
+        Command::Move { path, amount } => {
+            let sign = sign_text(*amount);
+            let size = amount.unsigned_abs();
+            write!(out, " {path} {sign}{size}")
+        }
+        _ => push_reference(out, command),
+    }
+}
+
+/// Appends the fields of a command.
+#[tactic(auto, unfolding(crate::specs::Texts::arguments_text))]
+fn push_arguments(
+    out: &mut String,
+    volumes: &[VolumeLine],
+    command: &Command,
+) -> Result<(), AllocError>
+    ensures { OnOk result (string_bytes out.new ≡ string_bytes out.old ++ arguments_text volumes.now command.now) }
+{
+    match command {
+        Command::MkDir { path, volume } => {
+            let name = volume_name(volumes, *volume);
+            write!(out, " {path} {name}")
+        }
+        Command::MkSeg {
+            path,
+            pages,
+            volume,
+        } => {
+            let name = volume_name(volumes, *volume);
+            write!(out, " {path} {pages} {name}")
+        }
+        _ => push_path_fields(out, command),
     }
 }
 
@@ -77,33 +157,6 @@ pub fn push_command(
 ) -> Result<(), AllocError>
     ensures { OnOk result (string_bytes out.new ≡ string_bytes out.old ++ command_text volumes.now command.now) }
 {
-    match command {
-        Command::MkDir { path, volume } => {
-            let name = volume_name(volumes, *volume);
-            write!(out, "mkdir {path} {name}")
-        }
-        Command::MkSeg {
-            path,
-            pages,
-            volume,
-        } => {
-            let name = volume_name(volumes, *volume);
-            write!(out, "mkseg {path} {pages} {name}")
-        }
-        Command::Initiate { path } => write!(out, "initiate {path}"),
-        Command::Acl { path, row, mode } => {
-            let mode = mode_text(*mode);
-            write!(out, "acl {path} {row} {mode}")
-        }
-        Command::Length { path, pages } => write!(out, "length {path} {pages}"),
-        Command::Truncate { path, words } => write!(out, "truncate {path} {words}"),
-        Command::Delete { path } => write!(out, "delete {path}"),
-        Command::Move { path, amount } => {
-            let sign = sign_text(*amount);
-            let size = amount.unsigned_abs();
-            write!(out, "move {path} {sign}{size}")
-        }
-        Command::Status { path } => write!(out, "status {path}"),
-        _ => push_reference(out, command),
-    }
+    out.push_str(word_text(command))?;
+    push_arguments(out, volumes, command)
 }

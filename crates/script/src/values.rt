@@ -2,7 +2,8 @@ ghost use Rattle.std.specs.Prelude.{◌≡◌, ◌<◌, ◌≤◌, true, IfOk, I
 ghost use Rattle.mnames.specs.Names.{is_name};
 ghost use Rattle.mword.specs.Octal.{octal_value};
 ghost use Rattle.script.specs.Fields.{decimal_value, number_of};
-ghost use Rattle.script.specs.Forms.{is_from, is_path, is_row, is_who, is_word};
+ghost use Rattle.script.specs.Forms.{ArePools, is_from, is_path, is_row, is_who, is_word};
+ghost use Rattle.script.specs.Heads.{pools_in};
 ghost use Rattle.script.specs.Lines.{number_in, word_in, name_in, who_in, row_in, path_in, mode_in, print_in};
 ghost use Rattle.script.specs.Lines.{is_write_in, amount_in, call_in};
 ghost use Rattle.script.specs.Readers.{Gives};
@@ -52,6 +53,28 @@ pub(crate) fn number_in(text: &[u8], low: u32, high: u32) -> Result<u32, Cause>
     match decimal(text) {
         Some(value) if u64::from(low) <= value && value <= u64::from(high) => Ok(value as u32),
         _ => Err(Cause::Number),
+    }
+}
+
+/// The places in the pools, of four fields.
+#[tactic(auto, unfolding(crate::specs::Heads::pools_in))]
+pub(crate) fn pools_in(
+    first: &[u8],
+    second: &[u8],
+    third: &[u8],
+    last: &[u8],
+) -> Result<[u32; 4], Cause>
+    ensures places { Gives (λ p. p) result (pools_in first.now second.now third.now last.now) }
+    ensures range { IfOk result ArePools }
+{
+    let four = number_in(first, 12, 1024)?;
+    let sixteen = number_in(second, 1, 1024)?;
+    let sixty_four = number_in(third, 1, 1024)?;
+    let most = number_in(last, 1, 1024)?;
+    if four + sixteen + sixty_four + most <= 1024 {
+        Ok([four, sixteen, sixty_four, most])
+    } else {
+        Err(Cause::Many)
     }
 }
 

@@ -9,5 +9,4 @@ invariant_of-self-2 c =
     fail_added _ _ _ c.self.invariant c.in_ok-push.ensures.items
     (ap (λ (d : DraftPlan). is_head d.stage) c.self.view_is ∙ c.requires.head)
     (ap (λ (d : DraftPlan). has_volume d.stage) c.self.view_is ∙ c.requires.volume)
-    (rw c.deref.ensures.value at c.in_ok-volume-2.ensures.given) c.in_ok-number.ensures.range
-    (grind (arith, common_steps))
+    (rw c.deref.ensures.value at c.in_ok-fail.ensures.form) (grind (arith, common_steps))

@@ -7,7 +7,6 @@ use Rattle.script.proofs.drafts.Draft.volume.Goals as goal
 pub invariant_of-self-2 : goal.invariant_of-self-2
 invariant_of-self-2 c =
     volume_added _ _ _ c.self.invariant c.in_ok-push.ensures.items
-    (ap (λ (d : DraftPlan). is_early d.stage) c.self.view_is ∙ c.requires) c.in_ok-name-2.ensures.form
-    c.in_ok-records.ensures.at_least c.in_ok-records.ensures.at_most c.in_ok-entries.ensures.at_least
-    c.in_ok-entries.ensures.at_most (rw c.deref.ensures.value at c.in_ok-name-2.ensures.new)
-    (grind (arith, common_steps)) (grind (arith, common_steps))
+    (ap (λ (d : DraftPlan). is_early d.stage) c.self.view_is ∙ c.requires) c.in_ok-volume.ensures.form
+    (rw c.deref.ensures.value at c.in_ok-volume.ensures.new) (grind (arith, common_steps))
+    (grind (arith, common_steps))
