@@ -124,11 +124,13 @@ triple (Some a) None c = None
 triple (Some a) (Some b) None = None
 triple (Some a) (Some b) (Some c) = Some (a, b, c)
 
+abbrev pub pair_reply : List ℕ → List ℕ → Option Reply
+pair_reply w a = if bytes_eq w (codes "word") then option_map (λ n. reply.Word n) (word_of a)
+    else option_and_then (numbered_reply w) (number_of a)
+
 unfoldable pub reply_of : List (List ℕ) → Option Reply
 reply_of (w ∷ []) = bare_reply w
-reply_of (w ∷ a ∷ []) = if bytes_eq w (codes "word") then option_map (λ n. reply.Word n) (word_of a)
-    else option_and_then (numbered_reply w)
-    (number_of a)
+reply_of (w ∷ a ∷ []) = pair_reply w a
 reply_of (w ∷ u ∷ x ∷ a ∷ y ∷ b ∷ []) = status_of w x y (triple (number_of u) (number_of a) (number_of b))
 reply_of _ = None
 
@@ -216,6 +218,13 @@ plain_of w (a ∷ b ∷ []) = option_and_then (of_two w) (both (number_of a) (nu
 plain_of w (a ∷ b ∷ c ∷ []) = option_and_then (of_three w) (triple (number_of a) (number_of b) (number_of c))
 plain_of w _ = None
 
+abbrev pub named_or_plain : List ℕ → List (List ℕ) → Option Entry
+named_or_plain w fields =
+    if bytes_eq w (codes "gone") then option_map gone (named_of fields)
+    else if bytes_eq w (codes "back") then option_map back (named_of fields)
+    else if bytes_eq w (codes "fault") then fault_of fields
+    else plain_of w fields
+
 -- the entry of a first word and the others, if they are one's
 unfoldable pub entry_of : List ℕ → List (List ℕ) → Option Entry
 entry_of w fields =
@@ -223,10 +232,7 @@ entry_of w fields =
     else if bytes_eq w (codes "fill") then fill_of fields
     else if bytes_eq w (codes "signal") then option_map (λ x. entry.Signal x.0 x.1) (dropped_of fields)
     else if bytes_eq w (codes "clear") then option_map (λ x. entry.Clear x.0 x.1) (dropped_of fields)
-    else if bytes_eq w (codes "gone") then option_map gone (named_of fields)
-    else if bytes_eq w (codes "back") then option_map back (named_of fields)
-    else if bytes_eq w (codes "fault") then fault_of fields
-    else plain_of w fields
+    else named_or_plain w fields
 
 abbrev pub entry_of_words : List (List ℕ) → Option Entry
 entry_of_words [] = None

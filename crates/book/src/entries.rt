@@ -6,7 +6,7 @@ use assoc_mem::What;
 ///
 /// Most entries tell who holds what: which segments are active, which page is in which frame, which descriptors are
 /// connected, and what the associative memories of processors hold (Bensoussan, Clingen and Daley 1972).
-#[derive(Clone, Copy, Debug, PartialEq, Eq)]
+#[derive(Clone, Copy)]
 pub enum Entry {
     /// A command of a process was answered: the process, the command's place among its commands, the processor, the
     /// frame through which a word was reached (none where it was reached without one), and the reply. A try of an

@@ -4,7 +4,7 @@ ghost use Rattle.book.specs.Entries.{entry_text};
 ghost use Rattle.book.specs.Reading.{is_plain, number_of, number_or_none, word_of, dotted_of};
 ghost use Rattle.book.specs.Reading.{page_reply, path_reply, change_reply, bare_reply, numbered_reply};
 ghost use Rattle.book.specs.Reading.{status_reply, triple, reply_of, what_of, dropped_of, named_of, gone, back};
-ghost use Rattle.book.specs.Reading.{filled, fill_of};
+ghost use Rattle.book.specs.Reading.{filled, fill_of, named_or_plain, pair_reply};
 ghost use Rattle.book.specs.Reading.{fault_of, do_of, of_one, of_two, of_three, plain_of, entry_of, entry_of_words};
 ghost use Rattle.book.specs.Reading.{is_space, IsEntry};
 
@@ -176,6 +176,17 @@ fn numbered_reply(word: &[u8], number: u32) -> Option<Reply>
     }
 }
 
+/// A reply of two words.
+fn pair_reply(kind: &[u8], field: &[u8]) -> Option<Reply>
+    ensures { result ≡ pair_reply kind.now field.now }
+{
+    if kind == b"word".as_slice() {
+        Some(Reply::Word(octal_word(field)?))
+    } else {
+        numbered_reply(kind, number(field)?)
+    }
+}
+
 /// What a segment or a directory is like, by its first word and those before its counts.
 fn status(kind: &[u8], of_first: &[u8], of_second: &[u8], numbers: (u32, u32, u32)) -> Option<Reply>
     ensures { result ≡ status_reply kind.now of_first.now of_second.now numbers.0 (numbers.1, numbers.2) }
@@ -214,13 +225,7 @@ fn reply(fields: &[&[u8]]) -> Option<Reply>
 {
     match fields {
         [word] => bare_reply(word),
-        [kind, field] => {
-            if *kind == b"word".as_slice() {
-                Some(Reply::Word(octal_word(field)?))
-            } else {
-                numbered_reply(kind, number(field)?)
-            }
-        }
+        [kind, field] => pair_reply(kind, field),
         [kind, uid, of_first, first, of_second, second] => {
             status(kind, of_first, of_second, three(uid, first, second)?)
         }
@@ -435,6 +440,21 @@ fn plain(word: &[u8], fields: &[&[u8]]) -> Option<Entry>
     }
 }
 
+/// What is gone or back, a call that failed, or an entry of numbers.
+fn named_or_plain(word: &[u8], fields: &[&[u8]]) -> Option<Entry>
+    ensures { result ≡ named_or_plain word.now (map (λ w. w.now) fields.now) }
+{
+    if word == b"gone".as_slice() {
+        Some(gone(thing_named(fields)?))
+    } else if word == b"back".as_slice() {
+        Some(back(thing_named(fields)?))
+    } else if word == b"fault".as_slice() {
+        fault(fields)
+    } else {
+        plain(word, fields)
+    }
+}
+
 /// The entry of a first word and the others.
 #[tactic(auto, unfolding(crate::specs::Reading::entry_of))]
 fn entry(word: &[u8], fields: &[&[u8]]) -> Option<Entry>
@@ -450,14 +470,8 @@ fn entry(word: &[u8], fields: &[&[u8]]) -> Option<Entry>
     } else if word == b"clear".as_slice() {
         let (cpu, what) = dropped(fields)?;
         Some(Entry::Clear { cpu, what })
-    } else if word == b"gone".as_slice() {
-        Some(gone(thing_named(fields)?))
-    } else if word == b"back".as_slice() {
-        Some(back(thing_named(fields)?))
-    } else if word == b"fault".as_slice() {
-        fault(fields)
     } else {
-        plain(word, fields)
+        named_or_plain(word, fields)
     }
 }
 

@@ -6,7 +6,7 @@ use std::fmt;
 
 /// What a process is answered to a command (own). Its text is that of the listing: a word has 12 octal
 /// digits, any other number is decimal.
-#[derive(Clone, Copy, Debug, PartialEq, Eq)]
+#[derive(Clone, Copy, PartialEq, Eq)]
 pub enum Reply {
     /// The number stands for nothing in this process.
     Unknown,
@@ -119,10 +119,13 @@ impl fmt::Display for Reply {
                 stored,
             } => write!(f, "seg {uid} length {length} stored {stored}"),
             Reply::DirIs { uid, quota, used } => write!(f, "dir {uid} quota {quota} used {used}"),
-            bare => {
-                let word = bare_text(bare);
-                write!(f, "{word}")
-            }
+            bare => f.write_str(bare_text(bare)),
         }
+    }
+}
+
+impl fmt::Debug for Reply {
+    fn fmt<W: fmt::Write>(&self, f: &mut fmt::Formatter<W>) -> fmt::Result {
+        write!(f, "{self}")
     }
 }

@@ -131,6 +131,12 @@ impl fmt::Display for Entry {
     }
 }
 
+impl fmt::Debug for Entry {
+    fn fmt<W: fmt::Write>(&self, f: &mut fmt::Formatter<W>) -> fmt::Result {
+        write!(f, "{self}")
+    }
+}
+
 /// The text of an entry, as a listing of all entries has it (own).
 pub fn entry_text(alloc: Global, e: Entry) -> Result<String, NoMemory>
     ensures { IfOk result (λ text. string_bytes text ≡ entry_text e) }

@@ -1,4 +1,4 @@
-use book::{Book, Entry};
+use book::{Book, Entry, Reply, read_entry};
 use script::read_script;
 use std::test::Fail;
 
@@ -16,7 +16,32 @@ fn a_book_keeps_its_entries_in_order(rt: HostRuntime) -> Result<(), Fail> {
     book.reserve(1)?;
     book.push(take);
     assert!(rt; !book.is_empty() && book.len() == 3);
-    assert!(rt; book.entries() == [take, release, take].as_slice());
+    assert!(rt;
+        matches!(
+            book.entries(),
+            [
+                Entry::Take { frame: 3 },
+                Entry::Release { uid: 2, page: 0 },
+                Entry::Take { frame: 3 }
+            ]
+        )
+    );
     assert!(rt; book.script().quota() == 4);
     Ok(())
+}
+
+#[test]
+fn the_words_of_an_answer_come_in_their_order(rt: HostRuntime) {
+    assert!(rt;
+        matches!(
+            read_entry(b"do 1.8 2 3 gone"),
+            Some(Entry::Do {
+                process: 1,
+                place: 8,
+                cpu: 2,
+                frame: Some(3),
+                reply: Reply::Gone,
+            })
+        )
+    );
 }
