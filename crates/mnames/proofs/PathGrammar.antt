@@ -587,23 +587,20 @@ read_stuck text names rest after b n h split room more stuck =
 
 -- ---- each path is read from its text
 
+-- a name has a byte
+never_nothing : (x : List ℕ) (xs : List (List ℕ)) → IsName x → x ++ names_text xs ≡ [] → ⊥
+never_nothing [] xs h e = let n : 1 ≤ 0 = name_long [] h in omega (arith, n)
+never_nothing (b ∷ bs) xs h e = cc
+
 path_again : (text : List ℕ) (names : List (List ℕ)) → text ≡ path_text names → IsPath names → (p : List (List ℕ))
     → IsPath p → text ≡ path_text p → names ≡ p
 path_again text [] e h [] hp ep = refl
 path_again text [] e h (x ∷ xs) hp ep =
     let bytes : x ++ names_text xs ≡ [] = cc in
-    absurd (nothing x xs hp.each.0 bytes)
-  where
-    nothing : (x : List ℕ) (xs : List (List ℕ)) → IsName x → x ++ names_text xs ≡ [] → ⊥
-    nothing [] xs h e = let n : 1 ≤ 0 = name_long [] h in omega (arith, n)
-    nothing (b ∷ bs) xs h e = cc
+    absurd (never_nothing x xs hp.each.0 bytes)
 path_again text (x ∷ xs) e h [] hp ep =
     let bytes : x ++ names_text xs ≡ [] = cc in
-    absurd (nothing x xs h.each.0 bytes)
-  where
-    nothing : (x : List ℕ) (xs : List (List ℕ)) → IsName x → x ++ names_text xs ≡ [] → ⊥
-    nothing [] xs h e = let n : 1 ≤ 0 = name_long [] h in omega (arith, n)
-    nothing (b ∷ bs) xs h e = cc
+    absurd (never_nothing x xs h.each.0 bytes)
 path_again text (x ∷ xs) e h (y ∷ ys) hp ep = names_same (x ∷ xs) (y ∷ ys) h.each hp.each (sym e ∙ ep)
 
 pub read_again : (text : List ℕ) (read : Result (List (List ℕ)) BadPath)

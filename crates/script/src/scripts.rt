@@ -1,8 +1,8 @@
 ghost use Rattle.std.specs.Prelude.{◌≡◌, ◌++◌, flat_map, IfOk, OnOk, Ok, string_bytes};
 ghost use Rattle.script.specs.Grammar.{script_of};
 ghost use Rattle.script.specs.Scripts.{begin_text, bulk_text, commands_text, ended, fail_text, head_text};
-ghost use Rattle.script.specs.Scripts.{machine_text, print_text, process_text, processes_text, script_text};
-ghost use Rattle.script.specs.Scripts.{volume_text};
+ghost use Rattle.script.specs.Scripts.{machine_text, print_text, process_text, processes_text, quota_text};
+ghost use Rattle.script.specs.Scripts.{script_text, volume_text};
 ghost use Rattle.script.specs.Forms.{IsPlan};
 ghost use Rattle.script.specs.Plans.{Plan};
 
@@ -31,17 +31,32 @@ fn push_machine(
     out.push_str("\n")
 }
 
-/// Appends the lines of the volumes.
+/// Appends the line of the root's quota.
+#[tactic(auto, unfolding(crate::specs::Scripts::quota_text))]
+fn push_quota(out: &mut String, quota: u32) -> Result<(), AllocError>
+    ensures { OnOk result (string_bytes out.new ≡ string_bytes out.old ++ ended (quota_text quota)) }
+{
+    writeln!(out, "quota {quota}")
+}
+
+/// Appends the line of a volume.
 #[tactic(auto, unfolding(crate::specs::Scripts::volume_text))]
+fn push_volume(out: &mut String, volume: &VolumeLine) -> Result<(), AllocError>
+    ensures { OnOk result (string_bytes out.new ≡ string_bytes out.old ++ ended (volume_text volume.now)) }
+{
+    let name = &volume.name;
+    let records = volume.records;
+    let entries = volume.entries;
+    writeln!(out, "volume {name} {records} {entries}")
+}
+
+/// Appends the lines of the volumes.
 fn push_volumes(out: &mut String, volumes: &[VolumeLine]) -> Result<(), AllocError>
     ensures { OnOk result (string_bytes out.new ≡ string_bytes out.old
         ++ flat_map (λ v. ended (volume_text v)) volumes.now) }
 {
     for volume in volumes {
-        let name = &volume.name;
-        let records = volume.records;
-        let entries = volume.entries;
-        writeln!(out, "volume {name} {records} {entries}")?;
+        push_volume(out, volume)?;
     }
     Ok(())
 }
@@ -59,44 +74,57 @@ fn push_print(out: &mut String, print: Print) -> Result<(), AllocError>
     writeln!(out, "{line}")
 }
 
-/// Appends the lines of the fast stores.
+/// Appends the line of a fast store.
 #[tactic(auto, unfolding(crate::specs::Scripts::bulk_text))]
+fn push_bulk(out: &mut String, volumes: &[VolumeLine], bulk: &Bulk) -> Result<(), AllocError>
+    ensures { OnOk result (string_bytes out.new ≡ string_bytes out.old ++ ended (bulk_text volumes.now bulk.now)) }
+{
+    let name = volume_name(volumes, bulk.volume);
+    let places = bulk.places;
+    writeln!(out, "bulk {name} {places}")
+}
+
+/// Appends the lines of the fast stores.
 fn push_bulks(out: &mut String, volumes: &[VolumeLine], bulks: &[Bulk]) -> Result<(), AllocError>
     ensures { OnOk result (string_bytes out.new ≡ string_bytes out.old
         ++ flat_map (λ b. ended (bulk_text volumes.now b)) bulks.now) }
 {
     for bulk in bulks {
-        let name = volume_name(volumes, bulk.volume);
-        let places = bulk.places;
-        writeln!(out, "bulk {name} {places}")?;
+        push_bulk(out, volumes, bulk)?;
     }
     Ok(())
 }
 
-/// Appends the lines of the calls that fail.
+/// Appends the line of a call that fails.
 #[tactic(auto, unfolding(crate::specs::Scripts::fail_text))]
+fn push_fail(out: &mut String, volumes: &[VolumeLine], fail: &Fail) -> Result<(), AllocError>
+    ensures { OnOk result (string_bytes out.new ≡ string_bytes out.old ++ ended (fail_text volumes.now fail.now)) }
+{
+    let name = volume_name(volumes, fail.volume);
+    let call = if fail.write { "write" } else { "read" };
+    let number = fail.number;
+    let onward = if fail.onward { "+" } else { "" };
+    writeln!(out, "fail {name} {call} {number}{onward}")
+}
+
+/// Appends the lines of the calls that fail.
 fn push_fails(out: &mut String, volumes: &[VolumeLine], fails: &[Fail]) -> Result<(), AllocError>
     ensures { OnOk result (string_bytes out.new ≡ string_bytes out.old
         ++ flat_map (λ f. ended (fail_text volumes.now f)) fails.now) }
 {
     for fail in fails {
-        let name = volume_name(volumes, fail.volume);
-        let call = if fail.write { "write" } else { "read" };
-        let number = fail.number;
-        let onward = if fail.onward { "+" } else { "" };
-        writeln!(out, "fail {name} {call} {number}{onward}")?;
+        push_fail(out, volumes, fail)?;
     }
     Ok(())
 }
 
 /// Appends what stands before the processes.
-#[tactic(auto, unfolding(crate::specs::Scripts::head_text, crate::specs::Scripts::quota_text))]
+#[tactic(auto, unfolding(crate::specs::Scripts::head_text))]
 fn push_head(out: &mut String, script: &Script) -> Result<(), AllocError>
     ensures { OnOk result (string_bytes out.new ≡ string_bytes out.old ++ head_text script.now) }
 {
     push_machine(out, script.processors, script.frames, script.pools)?;
-    let quota = script.quota;
-    writeln!(out, "quota {quota}")?;
+    push_quota(out, script.quota)?;
     push_volumes(out, &script.volumes)?;
     push_print(out, script.print)?;
     push_bulks(out, &script.volumes, &script.bulks)?;
