@@ -3,7 +3,7 @@ use Rattle.std.proofs.Common.{◌≡◌, ℕ, suc, ◌+◌, true, false, nat_lt,
 use Rattle.std.proofs.Common.{add-one, append_assoc, append-nil, codes}
 use Rattle.std.proofs.lemmas.List.{flat_map_more}
 use Rattle.script.specs.Scripts.{commands_text, ended}
-use Rattle.script.specs.Texts.{command_text}
+use Rattle.script.specs.Texts.{arguments_text, command_text}
 use Rattle.script.specs.declared.commands.Command.{Command}
 use Rattle.script.specs.declared.commands.Command.TheVariants as command
 use Rattle.script.specs.declared.plan.VolumeLine.{VolumeLine}
@@ -82,5 +82,5 @@ of_each P x add read write_shared write_own read_own =
 -- what holds of each reference holds of the lines of all
 pub names_no_volume : (volumes : List VolumeLine) (x : ℕ) → command_text volumes (reference_at x)
     ≡ command_text [] (reference_at x)
-unfolding command_text
+unfolding command_text arguments_text
 names_no_volume volumes x = of_each (λ c. command_text volumes c ≡ command_text [] c) x refl refl refl refl refl

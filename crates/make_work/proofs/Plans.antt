@@ -8,7 +8,7 @@ use Rattle.std.specs.List.{list_all}
 use Rattle.draws.specs.Draws.{drawn}
 use Rattle.mnames.specs.Names.{is_label, is_label_byte, is_name, is_name_byte}
 use Rattle.mnames.specs.Principals.{default_project}
-use Rattle.script.specs.Forms.{IsPlan, ends_once, have_own_names, have_own_volumes, is_command, is_end, is_path}
+use Rattle.script.specs.Forms.{IsPlan, are_apart, ends_once, is_command, is_end, is_path}
 use Rattle.script.specs.Forms.{is_process, is_volume, is_who, weight, weight_of}
 use Rattle.script.specs.Grammar.{script_of}
 use Rattle.script.specs.Plans.{Plan}
@@ -176,7 +176,7 @@ users_weigh (suc count) j x = omega (
 )
 
 pub is_day : (n : ℕ) → IsPlan (day_of n)
-unfolding day_of is_volume is_name have_own_names have_own_volumes
+unfolding day_of is_volume is_name are_apart
 is_day n = record {
   processors = (omega arith, omega arith);
   frames = (omega arith, omega arith);

@@ -7,7 +7,8 @@ use Rattle.std.proofs.lemmas.Fmt.{decimal_digit}
 use Rattle.mnames.specs.Principals.{who_text, row_text}
 use Rattle.script.specs.Scripts.{begin_text, commands_text, ended, head_text, machine_text, print_text, process_text}
 use Rattle.script.specs.Scripts.{processes_text, quota_text, script_text, volume_text}
-use Rattle.script.specs.Texts.{command_text, mode_text, reference_text, sign_text}
+use Rattle.script.specs.Texts.{arguments_text, command_text, mode_text, path_fields_text, reference_text}
+use Rattle.script.specs.Texts.{sign_text, word_text}
 use Rattle.script.specs.declared.commands.Command.TheVariants as command
 use Rattle.script.specs.declared.plan.VolumeLine.{VolumeLine}
 use Rattle.make_work.specs.Day.{day_of, initializer, made, reference_count, user, users}
@@ -28,13 +29,14 @@ same_lines volumes (suc n) x =
 -- the lines of a user's commands after the first three
 rest_lines : (volumes : List VolumeLine) (n x : ℕ) → commands_text volumes (references n x ++ command.End ∷ [])
     ≡ lines_of (references n x) ++ codes "end\n"
-unfolding commands_text command_text reference_text
+unfolding commands_text command_text word_text arguments_text path_fields_text reference_text
 rest_lines volumes n x =
     flat_map-append (λ c. ended (command_text volumes c)) (references n x) (command.End ∷ [])
     ∙ ap (λ t. t ++ codes "end\n") (same_lines volumes n x)
 
 pub user_lines : (volumes : List VolumeLine) (j x : ℕ) → process_text volumes false (user j x) ≡ user_text j x
-unfolding process_text user user_text commands_text command_text begin_text who_text
+unfolding process_text user user_text commands_text command_text word_text arguments_text path_fields_text begin_text
+    who_text
 user_lines volumes j x = ap (λ t. opening_text j ++ t) (rest_lines volumes reference_count x)
 
 pub users_lines : (volumes : List VolumeLine) (j count x : ℕ) → processes_text volumes false (users j count x)
@@ -59,7 +61,7 @@ volumes = record { name = codes "alpha"; records = 4096; entries = 64 }
 
 front_is : (n : ℕ) → head_text (day_of n) ++ process_text volumes true initializer ≡ front
 unfolding head_text machine_text quota_text volume_text print_text process_text begin_text commands_text command_text
-    reference_text mode_text sign_text row_text day_of digits
+    word_text arguments_text path_fields_text reference_text mode_text sign_text row_text day_of digits
 front_is n = refl
 
 -- the whole script

@@ -6,7 +6,7 @@ use Rattle.mnames.specs.declared.principals.Who.{Who}
 use Rattle.std.specs.List.{list_all, list_any}
 use Rattle.script.specs.Drafts.{DraftPlan, IsDraft, begun_at, blank, has_volume, goes_on, is_early, is_head, is_inside}
 use Rattle.script.specs.Drafts.{plan_of}
-use Rattle.script.specs.Forms.{BeginsWithInitializer, IsPlan, has_name, have_own_names, have_own_volumes, is_before}
+use Rattle.script.specs.Forms.{BeginsWithInitializer, IsPlan, has_name, is_before}
 use Rattle.script.specs.Forms.{is_bulk, is_command, is_end, is_fail, is_from, is_place, is_process, is_volume, is_who}
 use Rattle.script.specs.Forms.{is_word, ends_once, records_of, weight, weight_of}
 use Rattle.script.specs.Grammar.{is_whole}
@@ -19,15 +19,7 @@ use Rattle.script.specs.declared.plan.Bulk.{Bulk}
 use Rattle.script.specs.declared.plan.Fail.{Fail}
 use Rattle.script.specs.declared.plan.VolumeLine.{VolumeLine}
 use Rattle.script.proofs.PathLaws.{and_both, and_parts}
-use Rattle.script.proofs.PushLaws.{all_push, begins_same, bulks_push, end_push, length_push, names_push, sum_push}
-
-no_names : have_own_names [] ≡ true
-unfolding have_own_names
-no_names = refl
-
-no_bulks : have_own_volumes [] ≡ true
-unfolding have_own_volumes
-no_bulks = refl
+use Rattle.script.proofs.PushLaws.{all_push, apart_none, begins_same, bulks_push, end_push, length_push, names_push, sum_push}
 
 pub blank_is : (volumes : List VolumeLine) (bulks : List Bulk) (fails : List Fail) (processes : List ProcessPlan)
     (who : Who) (commands : List Command) → volumes ≡ [] → bulks ≡ [] → fails ≡ [] → processes ≡ [] → is_who who ≡ true
@@ -51,11 +43,11 @@ blank_is volumes bulks fails processes who commands a b c d e f =
           λ h. absurd (apart h);
       few = omega arith;
       volumes = refl;
-      names = no_names;
+      names = apart_none (λ u v. has_name u.name v);
       records = omega arith;
       bulks =
           refl;
-      apart = no_bulks;
+      apart = apart_none (λ a b. is_before a.volume b);
       fails = refl;
       most = omega arith;
       early = λ h. (refl, refl, refl);
@@ -80,44 +72,24 @@ false_not_true : false ≡ true → ⊥
 false_not_true e = cc
 
 early_is_head : (s : Stage) → is_early s ≡ true → is_head s ≡ true
-early_is_head stage.Machine h = refl
-early_is_head stage.Quota h = refl
-early_is_head stage.FirstVolume h = refl
-early_is_head stage.Volumes h = refl
-early_is_head stage.Bulks h = refl
-early_is_head stage.Fails h = refl
 early_is_head stage.Commands h = h
 early_is_head stage.Processes h = h
+early_is_head _ h = refl
 
 inside_is : (s : Stage) → is_inside s ≡ true → s ≡ stage.Commands
-inside_is stage.Machine h = absurd (false_not_true h)
-inside_is stage.Quota h = absurd (false_not_true h)
-inside_is stage.FirstVolume h = absurd (false_not_true h)
-inside_is stage.Volumes h = absurd (false_not_true h)
-inside_is stage.Bulks h = absurd (false_not_true h)
-inside_is stage.Fails h = absurd (false_not_true h)
 inside_is stage.Commands h = refl
-inside_is stage.Processes h = absurd (false_not_true h)
+inside_is _ h = absurd (false_not_true h)
 
 head_begun : (s : Stage) (d : DraftPlan) → is_head s ≡ true → begun_at s d ≡ d.processes
-head_begun stage.Machine d h = refl
-head_begun stage.Quota d h = refl
-head_begun stage.FirstVolume d h = refl
-head_begun stage.Volumes d h = refl
-head_begun stage.Bulks d h = refl
-head_begun stage.Fails d h = refl
 head_begun stage.Commands d h = absurd (false_not_true h)
-head_begun stage.Processes d h = refl
+head_begun _ d h = refl
 
 whole_begun : (s : Stage) (d : DraftPlan) → is_whole s ≡ true → (begun_at s d ≡ d.processes) × (has_volume s ≡ true)
-whole_begun stage.Machine d h = absurd (false_not_true h)
-whole_begun stage.Quota d h = absurd (false_not_true h)
-whole_begun stage.FirstVolume d h = absurd (false_not_true h)
 whole_begun stage.Volumes d h = (refl, refl)
 whole_begun stage.Bulks d h = (refl, refl)
 whole_begun stage.Fails d h = (refl, refl)
-whole_begun stage.Commands d h = absurd (false_not_true h)
 whole_begun stage.Processes d h = (refl, refl)
+whole_begun _ d h = absurd (false_not_true h)
 
 bulk_is : (n : ℕ) (b : Bulk) → b.volume < n → 1 ≤ b.places → b.places ≤ 1024 → is_bulk n b ≡ true
 unfolding is_bulk
@@ -362,25 +334,12 @@ process_ended d new left used h e empty inside u within =
 
 pub weight_bound : (volumes : ℕ) (c : Command) → is_command volumes c ≡ true → weight c ≤ 100000
 unfolding is_command
-weight_bound volumes (command.MkDir path volume) h = omega arith
-weight_bound volumes (command.MkSeg path pages volume) h = omega arith
-weight_bound volumes (command.Initiate path) h = omega arith
-weight_bound volumes (command.Terminate number) h = omega arith
-weight_bound volumes (command.Read number offset) h = omega arith
-weight_bound volumes (command.Write number offset word) h = omega arith
-weight_bound volumes (command.Add number offset word) h = omega arith
 weight_bound volumes (command.Await number offset word tries) h =
     let range = and_parts (is_place number offset) (is_word word && is_from 1 100000 tries) h in
     let last = and_parts (is_word word) (is_from 1 100000 tries) range.1 in
     let most = (and_parts (nat_le 1 tries) (nat_le tries 100000) last.1).1 in
     grind (arith, nat_tests)
-weight_bound volumes (command.Acl path row mode) h = omega arith
-weight_bound volumes (command.Length path pages) h = omega arith
-weight_bound volumes (command.Truncate path words) h = omega arith
-weight_bound volumes (command.Delete path) h = omega arith
-weight_bound volumes (command.Move path amount) h = omega arith
-weight_bound volumes (command.Status path) h = omega arith
-weight_bound volumes command.End h = omega arith
+weight_bound volumes _ h = omega arith
 
 -- the plan of a whole draft
 pub plan_is : (d : DraftPlan) → IsDraft d → is_whole d.stage ≡ true → IsPlan (plan_of d)

@@ -1,21 +1,21 @@
 -- The text of what stands before the processes is read back (own).
-use Rattle.std.proofs.Common.{◌≡◌, ℕ, ◌+◌, ◌<◌, ◌≤◌, Bool, true, false, not, ◌&&◌, nat_le, nat_lt, eqb, List, [], ◌∷◌}
+use Rattle.std.proofs.Common.{◌≡◌, ℕ, ◌+◌, ◌<◌, ◌≤◌, Bool, true, false, ◌&&◌, nat_le, nat_lt, List, [], ◌∷◌}
 use Rattle.std.proofs.Common.{◌++◌, length, map, flat_map, sum_by, Ok, codes, refl, sym, ap, subst, ◌∙◌, arith}
 use Rattle.std.proofs.Common.{append_assoc}
 use Rattle.std.proofs.lemmas.Bool.Decides.{nat_tests}
 use Rattle.std.proofs.lemmas.List.{length-append}
-use Rattle.std.proofs.lemmas.List.Folds.{list_any-append}
 use Rattle.std.proofs.lemmas.List.Sums.{sum_by-append}
 use Rattle.std.specs.Fmt.{decimal}
 use Rattle.std.specs.List.{list_all, list_any, AllByRecursion}
 use Rattle.mnames.specs.Names.{is_name}
 use Rattle.script.proofs.FieldTexts.{IsField, HasFields, front_field, last_field}
 use Rattle.script.proofs.PathLaws.{and_parts}
+use Rattle.script.proofs.PushLaws.{other_volumes, others_before}
 use Rattle.script.proofs.Reaching.{Reaches, reaches_both, reaches_line, reaches_nothing}
 use Rattle.script.proofs.ValueTexts.{decimal_field, name_field, number_again}
-use Rattle.script.proofs.VolumeTexts.{AreVolumes, call_again, call_field, new_name_again, others_before, volume_again}
+use Rattle.script.proofs.VolumeTexts.{AreVolumes, call_again, call_field, new_name_again, volume_again}
 use Rattle.script.proofs.VolumeTexts.{volume_field, write_again, write_field}
-use Rattle.script.proofs.SmallLaws.{below, nil_after, not_true, or_left, or_right, within}
+use Rattle.script.proofs.SmallLaws.{below, nil_after, within}
 use Rattle.script.specs.Drafts.{DraftPlan, blank}
 use Rattle.script.specs.Forms.{ArePools, has_name, have_own_names, have_own_volumes, is_before, is_bulk, is_fail}
 use Rattle.script.specs.Forms.{is_from, is_volume, IsPlan, records_of}
@@ -168,12 +168,7 @@ volume_at : (s : Stage) (d : DraftPlan) (fields : List (List ℕ)) → takes_vol
 unfolding line_at after_volume
 volume_at stage.FirstVolume d fields h = refl
 volume_at stage.Volumes d fields h = refl
-volume_at stage.Machine d fields h = absurd (cc)
-volume_at stage.Quota d fields h = absurd (cc)
-volume_at stage.Bulks d fields h = absurd (cc)
-volume_at stage.Fails d fields h = absurd (cc)
-volume_at stage.Commands d fields h = absurd (cc)
-volume_at stage.Processes d fields h = absurd (cc)
+volume_at _ d fields h = absurd (cc)
 
 volume_reaches : (base : DraftPlan) (s : Stage) (done : List VolumeLine) (v : VolumeLine) → takes_volume s ≡ true
     → is_volume v ≡ true → list_any (has_name v.name) done ≡ false → length done < 4
@@ -266,28 +261,6 @@ print_reaches base print.All = print_reaches_by base print.All (codes "all") ref
     (record { some = omega arith; bytes = refl }) refl
 
 -- ---- fast stores
-
-numbers_apart : (a b : ℕ) → eqb a b ≡ false → eqb b a ≡ false
-numbers_apart a b h = grind (arith, nat_tests)
-
-own_volumes : (b : Bulk) (bs : List Bulk) → have_own_volumes (b ∷ bs) ≡ true
-    → (list_any (is_before b.volume) bs ≡ false) × (have_own_volumes bs ≡ true)
-unfolding have_own_volumes
-own_volumes b bs h =
-    let parts = and_parts (not (list_any (is_before b.volume) bs)) (have_own_volumes bs) h in
-    (not_true (list_any (is_before b.volume) bs) parts.0, parts.1)
-
-other_volumes : (done : List Bulk) (b : Bulk) (bs : List Bulk) → have_own_volumes (done ++ b ∷ bs) ≡ true
-    → list_any (is_before b.volume) done ≡ false
-other_volumes [] b bs h = refl
-other_volumes (u ∷ us) b bs h =
-    let own = own_volumes u (us ++ b ∷ bs) h in
-    let after : list_any (is_before u.volume) (b ∷ bs) ≡ false =
-    or_right (list_any (is_before u.volume) us) (list_any (is_before u.volume) (b ∷ bs))
-    (sym (list_any-append (is_before u.volume) us (b ∷ bs)) ∙ own.0) in
-    let here : eqb u.volume b.volume ≡ false = numbers_apart b.volume u.volume
-    (or_left (is_before u.volume b) (list_any (is_before u.volume) bs) after) in
-    rw (here, other_volumes us b bs own.1) refl
 
 bulk_parts : (volumes : ℕ) (b : Bulk) → is_bulk volumes b ≡ true → (b.volume < volumes) × (1 ≤ b.places)
     × (b.places ≤ 1024)
@@ -412,12 +385,7 @@ fail_at : (s : Stage) (d : DraftPlan) (fields : List (List ℕ)) → takes_fail 
 unfolding line_at after_bulk after_fail
 fail_at stage.Bulks d fields h = refl
 fail_at stage.Fails d fields h = refl
-fail_at stage.Machine d fields h = absurd (cc)
-fail_at stage.Quota d fields h = absurd (cc)
-fail_at stage.FirstVolume d fields h = absurd (cc)
-fail_at stage.Volumes d fields h = absurd (cc)
-fail_at stage.Commands d fields h = absurd (cc)
-fail_at stage.Processes d fields h = absurd (cc)
+fail_at _ d fields h = absurd (cc)
 
 -- the stage after calls that fail
 abbrev pub stage_after_fails : Stage → List Fail → Stage

@@ -1,14 +1,15 @@
 -- Laws of lists with one more element at the end (own).
-use Rattle.std.proofs.Common.{◌≡◌, ℕ, ◌+◌, Bool, true, false, eqb, not, ◌&&◌, ◌||◌, List, [], ◌∷◌, ◌++◌, length, refl}
+use Rattle.std.proofs.Common.{◌≡◌, ℕ, ◌+◌, Bool, true, false, eqb, not, ◌||◌, List, [], ◌∷◌, ◌++◌, length, refl}
 use Rattle.std.proofs.Common.{sym, ap, ◌∙◌, arith, sum_by}
 use Rattle.std.proofs.lemmas.Bool.Decides.{nat_tests}
 use Rattle.std.proofs.lemmas.Grind.{common_steps}
+use Rattle.std.proofs.lemmas.List.Folds.{list_any-append}
 use Rattle.std.proofs.lemmas.List.Sums.{sum_by-append}
 use Rattle.std.proofs.lemmas.Slice.Eq.{bytes_eq-Decides}
 use Rattle.std.specs.List.{list_all, list_any}
 use Rattle.std.specs.Str.{bytes_eq}
 use Rattle.script.specs.Drafts.{goes_on}
-use Rattle.script.specs.Forms.{BeginsWithInitializer, ends_once, has_name, have_own_names, have_own_volumes, is_before}
+use Rattle.script.specs.Forms.{BeginsWithInitializer, are_apart, ends_once, has_name, have_own_names, have_own_volumes, is_before}
 use Rattle.script.specs.Forms.{is_end}
 use Rattle.script.specs.Plans.{ProcessPlan}
 use Rattle.script.specs.declared.commands.Command.{Command}
@@ -58,43 +59,69 @@ is_false : (z : Bool) → not z ≡ true → z ≡ false
 is_false false h = refl
 is_false true h = absurd (true_not_false (sym h))
 
-names_apart : (a b : List ℕ) → bytes_eq a b ≡ false → bytes_eq b a ≡ false
+pub names_apart : (a b : List ℕ) → bytes_eq a b ≡ false → bytes_eq b a ≡ false
 names_apart a b h = not_true (bytes_eq b a) (λ e. true_not_false
     (sym ((bytes_eq-Decides a b).1 (sym ((bytes_eq-Decides b a).0 e))) ∙ h))
 
 numbers_apart : (a b : ℕ) → eqb a b ≡ false → eqb b a ≡ false
 numbers_apart a b h = grind (arith, nat_tests)
 
-names_more : (v : VolumeLine) (vs : List VolumeLine) → have_own_names (v ∷ vs)
-    ≡ (not (list_any (has_name v.name) vs) && have_own_names vs)
-unfolding have_own_names
-names_more v vs = refl
+-- where no two elements are alike, the first isn't like any after it
+pub apart_parts : {A : Type 0} (alike : A → A → Bool) (x : A) (xs : List A) → are_apart alike (x ∷ xs) ≡ true
+    → (list_any (alike x) xs ≡ false) × (are_apart alike xs ≡ true)
+unfolding are_apart
+apart_parts alike x xs h =
+    let parts = and_parts (not (list_any (alike x) xs)) (are_apart alike xs) h in
+    (is_false (list_any (alike x) xs) parts.0, parts.1)
+
+apart_first : {A : Type 0} (alike : A → A → Bool) (x : A) (xs : List A) → list_any (alike x) xs ≡ false
+    → are_apart alike xs ≡ true → are_apart alike (x ∷ xs) ≡ true
+unfolding are_apart
+apart_first alike x xs new h = and_both (not (list_any (alike x) xs)) (are_apart alike xs) (ap not new) h
+
+pub apart_none : {A : Type 0} (alike : A → A → Bool) → are_apart alike [] ≡ true
+unfolding are_apart
+apart_none alike = refl
+
+-- one more at the end
+apart_push : {A : Type 0} (alike : A → A → Bool) → ((x y : A) → alike x y ≡ false → alike y x ≡ false) → (xs : List A)
+    (x : A) → are_apart alike xs ≡ true → list_any (alike x) xs ≡ false → are_apart alike (xs ++ x ∷ []) ≡ true
+apart_push alike turned [] x h e = apart_first alike x [] refl (apart_none alike)
+apart_push alike turned (y ∷ ys) x h e =
+    let parts = apart_parts alike y ys h in
+    let other = or_parts (alike x y) (list_any (alike x) ys) e in
+    apart_first alike y (ys ++ x ∷ []) (any_push (alike y) ys x parts.0 (turned x y other.0))
+    (apart_push alike turned ys x parts.1 other.1)
+
+-- those before one aren't like it
+apart_before : {A : Type 0} (alike : A → A → Bool) → ((x y : A) → alike x y ≡ false → alike y x ≡ false) → (done : List A)
+    (x : A) (xs : List A) → are_apart alike (done ++ x ∷ xs) ≡ true → list_any (alike x) done ≡ false
+apart_before alike turned [] x xs h = refl
+apart_before alike turned (u ∷ us) x xs h =
+    let own = apart_parts alike u (us ++ x ∷ xs) h in
+    let after = or_parts (list_any (alike u) us) (list_any (alike u) (x ∷ xs))
+    (sym (list_any-append (alike u) us (x ∷ xs)) ∙ own.0) in
+    let here = (or_parts (alike u x) (list_any (alike u) xs) after.1).0 in
+    or_neither (alike x u) (list_any (alike x) us) (turned u x here) (apart_before alike turned us x xs own.1)
 
 pub names_push : (vs : List VolumeLine) (v : VolumeLine) → have_own_names vs ≡ true → list_any (has_name v.name) vs
     ≡ false → have_own_names (vs ++ v ∷ []) ≡ true
-unfolding have_own_names
-names_push [] v h e = refl
-names_push (x ∷ xs) v h e =
-    let parts = and_parts (not (list_any (has_name x.name) xs)) (have_own_names xs) h in
-    let other = or_parts (has_name v.name x) (list_any (has_name v.name) xs) e in
-    let clear : list_any (has_name x.name) (xs ++ v ∷ []) ≡ false =
-    any_push (has_name x.name) xs v (is_false (list_any (has_name x.name) xs) parts.0)
-    (names_apart x.name v.name other.0) in
-    and_both (not (list_any (has_name x.name) (xs ++ v ∷ []))) (have_own_names (xs ++ v ∷ [])) (ap not clear)
-    (names_push xs v parts.1 other.1)
+names_push vs v h e = apart_push (λ u v. has_name u.name v) (λ u v z. names_apart v.name u.name z) vs v h e
+
+pub others_before : (done : List VolumeLine) (v : VolumeLine) (vs : List VolumeLine) → have_own_names (done ++ v ∷ vs)
+    ≡ true → list_any (has_name v.name) done ≡ false
+others_before done v vs h =
+    apart_before (λ u v. has_name u.name v) (λ u v z. names_apart v.name u.name z) done v vs h
 
 pub bulks_push : (bs : List Bulk) (b : Bulk) → have_own_volumes bs ≡ true → list_any (is_before b.volume) bs ≡ false
     → have_own_volumes (bs ++ b ∷ []) ≡ true
-unfolding have_own_volumes
-bulks_push [] b h e = refl
-bulks_push (x ∷ xs) b h e =
-    let parts = and_parts (not (list_any (is_before x.volume) xs)) (have_own_volumes xs) h in
-    let other = or_parts (is_before b.volume x) (list_any (is_before b.volume) xs) e in
-    let clear : list_any (is_before x.volume) (xs ++ b ∷ []) ≡ false =
-    any_push (is_before x.volume) xs b (is_false (list_any (is_before x.volume) xs) parts.0)
-    (numbers_apart x.volume b.volume other.0) in
-    and_both (not (list_any (is_before x.volume) (xs ++ b ∷ []))) (have_own_volumes (xs ++ b ∷ [])) (ap not clear)
-    (bulks_push xs b parts.1 other.1)
+bulks_push bs b h e =
+    apart_push (λ a b. is_before a.volume b) (λ a b z. numbers_apart b.volume a.volume z) bs b h e
+
+pub other_volumes : (done : List Bulk) (b : Bulk) (bs : List Bulk) → have_own_volumes (done ++ b ∷ bs) ≡ true
+    → list_any (is_before b.volume) done ≡ false
+other_volumes done b bs h =
+    apart_before (λ a b. is_before a.volume b) (λ a b z. numbers_apart b.volume a.volume z) done b bs h
 
 -- the end after commands that go on
 pub end_push : (cs : List Command) (c : Command) → list_all goes_on cs ≡ true → is_end c ≡ true

@@ -143,11 +143,7 @@ unfolding line_at after_bulk after_fail after_process
 process_at stage.Bulks d fields h = refl
 process_at stage.Fails d fields h = refl
 process_at stage.Processes d fields h = refl
-process_at stage.Machine d fields h = absurd (cc)
-process_at stage.Quota d fields h = absurd (cc)
-process_at stage.FirstVolume d fields h = absurd (cc)
-process_at stage.Volumes d fields h = absurd (cc)
-process_at stage.Commands d fields h = absurd (cc)
+process_at _ d fields h = absurd (cc)
 
 process_again : (d : DraftPlan) (who : Who) → is_who who ≡ true → length d.processes < 32
     → process_line d (who_text who ∷ []) ≡ Ok (record d { stage = stage.Commands; who = who })
@@ -242,21 +238,12 @@ begins_whole : (s : Stage) → begins s ≡ true → is_whole s ≡ true
 begins_whole stage.Bulks h = refl
 begins_whole stage.Fails h = refl
 begins_whole stage.Processes h = refl
-begins_whole stage.Machine h = absurd (cc)
-begins_whole stage.Quota h = absurd (cc)
-begins_whole stage.FirstVolume h = absurd (cc)
-begins_whole stage.Volumes h = absurd (cc)
-begins_whole stage.Commands h = absurd (cc)
+begins_whole _ h = absurd (cc)
 
 fail_begins : (s : Stage) → takes_fail s ≡ true → begins s ≡ true
 fail_begins stage.Bulks h = refl
 fail_begins stage.Fails h = refl
-fail_begins stage.Processes h = absurd (cc)
-fail_begins stage.Machine h = absurd (cc)
-fail_begins stage.Quota h = absurd (cc)
-fail_begins stage.FirstVolume h = absurd (cc)
-fail_begins stage.Volumes h = absurd (cc)
-fail_begins stage.Commands h = absurd (cc)
+fail_begins _ h = absurd (cc)
 
 end_read : (n : ℕ) (d : DraftPlan) → is_whole d.stage ≡ true → read_from n d [] ≡ Ok (plan_of d)
 unfolding lines_of finished

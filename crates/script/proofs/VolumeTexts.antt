@@ -1,10 +1,9 @@
 -- The names of volumes, modes, amounts and calls that fail: each is a field, and is read back (own).
-use Rattle.std.proofs.Common.{◌≡◌, ℕ, suc, zero, ◌+◌, ◌-◌, ◌<◌, ◌≤◌, Bool, true, false, not, ◌&&◌, eqb, ltb, List, []}
+use Rattle.std.proofs.Common.{◌≡◌, ℕ, suc, zero, ◌+◌, ◌-◌, ◌<◌, ◌≤◌, Bool, true, false, ◌&&◌, eqb, ltb, List, []}
 use Rattle.std.proofs.Common.{◌∷◌, ◌++◌, length, take, Some, Ok, refl, sym, ap, subst, ◌∙◌, arith, get_or, ℤ, pos}
 use Rattle.std.proofs.Common.{negsuc}
 use Rattle.std.proofs.lemmas.Bool.Decides.{nat_tests}
 use Rattle.std.proofs.lemmas.List.{length_push, take_at}
-use Rattle.std.proofs.lemmas.List.Folds.{list_any-append}
 use Rattle.std.proofs.lemmas.Slice.Eq.{bytes_eq-Decides}
 use Rattle.std.specs.Char.{is_ascii_digit}
 use Rattle.std.specs.Fmt.{decimal}
@@ -16,10 +15,11 @@ use Rattle.mnames.specs.Names.{is_name}
 use Rattle.mnames.specs.declared.modes.Mode.{Mode}
 use Rattle.mnames.specs.declared.modes.Mode.TheVariants as mode
 use Rattle.script.proofs.FieldTexts.{is_field_byte, IsField, all_both}
+use Rattle.script.proofs.PushLaws.{apart_parts, names_apart}
 use Rattle.script.proofs.PathLaws.{and_parts}
 use Rattle.script.proofs.ValueTexts.{decimal_digits, decimal_field, name_field, number_again}
 use Rattle.script.proofs.VolumeLaws.{from_found, from_other}
-use Rattle.script.proofs.SmallLaws.{nil_after, not_true, or_left, or_right}
+use Rattle.script.proofs.SmallLaws.{nil_after, or_left, or_right}
 use Rattle.script.specs.Forms.{has_name, have_own_names, is_from, is_volume}
 use Rattle.script.specs.Lines.{amount_in, call_in, ends_with_plus, is_write_in, mode_in, new_name_in, number_from}
 use Rattle.script.specs.Lines.{volume_in}
@@ -34,13 +34,6 @@ pub record AreVolumes (vs : List VolumeLine) : Type 0 where
   pub each : list_all is_volume vs ≡ true
   pub own : have_own_names vs ≡ true
 
-own_names : (v : VolumeLine) (vs : List VolumeLine) → have_own_names (v ∷ vs) ≡ true
-    → (list_any (has_name v.name) vs ≡ false) × (have_own_names vs ≡ true)
-unfolding have_own_names
-own_names v vs h =
-    let parts = and_parts (not (list_any (has_name v.name) vs)) (have_own_names vs) h in
-    (not_true (list_any (has_name v.name) vs) parts.0, parts.1)
-
 same_name : (v : VolumeLine) → has_name v.name v ≡ true
 same_name v = (bytes_eq-Decides v.name v.name).1 refl
 
@@ -52,27 +45,14 @@ other_name name (v ∷ vs) zero lt h = or_left (has_name name v) (list_any (has_
 other_name name (v ∷ vs) (suc k) lt h = other_name name vs k (omega arith)
     (or_right (has_name name v) (list_any (has_name name) vs) h)
 
-bytes_apart : (xs ys : List ℕ) → bytes_eq xs ys ≡ false → bytes_eq ys xs ≡ false
-bytes_apart xs ys h = split (bytes_eq ys xs) refl
-  where
-    split : (z : Bool) → bytes_eq ys xs ≡ z → bytes_eq ys xs ≡ false
-    split true z =
-        let same : ys ≡ xs = (bytes_eq-Decides ys xs).0 z in
-        let never : bytes_eq xs ys ≡ true = (bytes_eq-Decides xs ys).1 (sym same) in
-        absurd (apart (sym never ∙ h))
-      where
-        apart : true ≡ false → ⊥
-        apart e = cc
-    split false z = z
-
 number_again_from : (n : ℕ) (vs : List VolumeLine) (k : ℕ) → k < length vs → have_own_names vs ≡ true
     → number_from n vs (volume_name vs k) ≡ Some (n + k)
 number_again_from n [] k lt h = absurd (omega arith)
 number_again_from n (v ∷ vs) zero lt h = from_found n v vs v.name (same_name v) ∙ ap (λ (m : ℕ). Some m) (omega arith)
 number_again_from n (v ∷ vs) (suc k) lt h =
-    let own = own_names v vs h in
+    let own = apart_parts (λ a b. has_name a.name b) v vs h in
     let other : has_name (volume_name vs k) v ≡ false =
-    bytes_apart (volume_name vs k) v.name (other_name v.name vs k (omega arith) own.0) in
+    names_apart (volume_name vs k) v.name (other_name v.name vs k (omega arith) own.0) in
     from_other n v vs (volume_name vs k) other ∙ number_again_from (n + 1) vs k (omega arith) own.1
     ∙ ap (λ (m : ℕ). Some m) (omega arith)
 
@@ -103,19 +83,6 @@ pub new_name_again : (vs : List VolumeLine) (name : List ℕ) → is_name name �
     → new_name_in vs name ≡ Ok name
 unfolding new_name_in
 new_name_again vs name h new = rw (h, new) refl
-
--- the volumes before one have other names
-pub others_before : (done : List VolumeLine) (v : VolumeLine) (vs : List VolumeLine) → have_own_names (done ++ v ∷ vs)
-    ≡ true → list_any (has_name v.name) done ≡ false
-others_before [] v vs h = refl
-others_before (u ∷ us) v vs h =
-    let own = own_names u (us ++ v ∷ vs) h in
-    let after : list_any (has_name u.name) (v ∷ vs) ≡ false =
-    or_right (list_any (has_name u.name) us) (list_any (has_name u.name) (v ∷ vs))
-    (sym (list_any-append (has_name u.name) us (v ∷ vs)) ∙ own.0) in
-    let here : bytes_eq u.name v.name ≡ false = bytes_apart v.name u.name
-    (or_left (has_name u.name v) (list_any (has_name u.name) vs) after) in
-    rw (here, others_before us v vs own.1) refl
 
 -- ---- modes
 

@@ -97,10 +97,14 @@ is_volume v = is_name v.name && (is_from 1 16384 v.records && is_from 1 4097 v.e
 abbrev pub has_name : List ℕ → VolumeLine → Bool
 has_name name v = bytes_eq v.name name
 
+-- no element of a list is like one before it
+unfoldable pub are_apart : {A : Type 0} → (A → A → Bool) → List A → Bool
+are_apart alike [] = true
+are_apart alike (x ∷ xs) = not (list_any (alike x) xs) && are_apart alike xs
+
 -- no name is that of two volumes
-unfoldable pub have_own_names : List VolumeLine → Bool
-have_own_names [] = true
-have_own_names (v ∷ vs) = not (list_any (has_name v.name) vs) && have_own_names vs
+abbrev pub have_own_names : List VolumeLine → Bool
+have_own_names vs = are_apart (λ u v. has_name u.name v) vs
 
 unfoldable pub is_bulk : ℕ → Bulk → Bool
 is_bulk volumes b = nat_lt b.volume volumes && is_from 1 1024 b.places
@@ -109,9 +113,8 @@ abbrev pub is_before : ℕ → Bulk → Bool
 is_before volume b = b.volume == volume
 
 -- no volume has two fast stores
-unfoldable pub have_own_volumes : List Bulk → Bool
-have_own_volumes [] = true
-have_own_volumes (b ∷ bs) = not (list_any (is_before b.volume) bs) && have_own_volumes bs
+abbrev pub have_own_volumes : List Bulk → Bool
+have_own_volumes bs = are_apart (λ a b. is_before a.volume b) bs
 
 unfoldable pub is_fail : ℕ → Fail → Bool
 is_fail volumes f = nat_lt f.volume volumes && is_from 1 1000000 f.number

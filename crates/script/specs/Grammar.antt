@@ -1,12 +1,11 @@
 -- The script of some bytes, or the first refusal (own).
-use Rattle.std.specs.Prelude.{◌≡◌, ℕ, ◌+◌, Bool, true, false, ◌==◌, if◌then◌else◌, List, [], ◌∷◌, fold, slice_index_or}
+use Rattle.std.specs.Prelude.{◌≡◌, ℕ, ◌+◌, Bool, not, ◌&&◌, ◌==◌, if◌then◌else◌, List, [], ◌∷◌, fold, slice_index_or}
 use Rattle.std.specs.Prelude.{Result, Ok, Err}
-use Rattle.script.specs.Drafts.{DraftPlan, blank, plan_of}
+use Rattle.script.specs.Drafts.{DraftPlan, blank, has_volume, is_inside, plan_of}
 use Rattle.script.specs.Fields.{lines_of, fields_of, is_printable}
 use Rattle.script.specs.Heads.{line_at}
 use Rattle.script.specs.Plans.{Plan}
 use Rattle.script.specs.declared.drafts.Stage.{Stage}
-use Rattle.script.specs.declared.drafts.Stage.TheVariants as stage
 use Rattle.script.specs.declared.refusals.Cause.{Cause}
 use Rattle.script.specs.declared.refusals.Cause.TheVariants as cause
 use Rattle.script.specs.declared.refusals.Refusal.{Refusal}
@@ -36,13 +35,9 @@ unfoldable pub numbered : Result (ℕ × DraftPlan) Refusal → List ℕ → Res
 numbered (Ok s) line = after_number s.0 (text_after s.1 line)
 numbered (Err e) line = Err e
 
--- no line must still come
+-- no line must still come: no volume, and no command of a process
 abbrev pub is_whole : Stage → Bool
-is_whole stage.Machine = false
-is_whole stage.Quota = false
-is_whole stage.FirstVolume = false
-is_whole stage.Commands = false
-is_whole _ = true
+is_whole s = has_volume s && not (is_inside s)
 
 -- the script of the lines up to the one of that number, which isn't there
 abbrev pub whole_or_missing : ℕ → DraftPlan → Result Plan Refusal
