@@ -313,6 +313,15 @@ pub open_read : {m m' : Seat} (f word : ℕ) → m ≡ (Passing (walker_of m.0),
 open_read {m} {m'} f word is told even = told_alone is told
     ∙ ap (λ q. (Passing (record (walker_of m.0) { walk = q }), [])) (filled_even f word (walker_of m.0).walk even)
 
+-- a seat, from what it has in hand
+pub with_slots : (m : Seat) {cs : List (ℕ × Option Held)} → m.1 ≡ cs → m ≡ (m.0, cs)
+with_slots m is = ap (λ cs. (m.0, cs)) is
+
+-- a seat with another slot in hand
+pub swapped : {m m' : Seat} {v : View} {cs new : List (ℕ × Option Held)} → m ≡ (v, cs) → m' ≡ (m.0, new)
+    → m' ≡ (v, new)
+swapped {m} {m'} {v} {cs} {new} is told = told ∙ ap (λ x. (x.0, new)) is
+
 -- what lies in the slot in hand after two exchanges
 pub exchanged_twice : {m m1 m2 : Seat} {v : View} {f : ℕ} {h new : Option Held} → m ≡ (v, (f, h) ∷ []) → m1
     ≡ (m.0, (f, None) ∷ rest m.1)

@@ -1,6 +1,7 @@
 //! The pages behind doors, which passes and the keeper step on.
-ghost use Rattle.std.specs.Prelude.{◌≡◌, ◌≢◌, [], ℕ, ◌+◌, ◌*◌, ◌%◌, ◌^◌, ◌<◌, ◌≤◌, All, max, length, slice_index, OnOk};
-ghost use Rattle.std.specs.Prelude.{OnErr, IfOk, IfErr};
+ghost use Rattle.std.specs.Prelude.{◌≡◌, ◌≢◌, [], ◌∷◌, ℕ, ◌+◌, ◌*◌, ◌%◌, ◌^◌, ◌<◌, ◌≤◌, All, max, length, slice_index};
+ghost use Rattle.std.specs.Prelude.{Some, OnOk, OnErr, IfOk, IfErr};
+ghost use Rattle.live_pages.specs.declared.rule.Held.{Held};
 ghost use Rattle.live_doors.specs.Doors.{HoldsEntry, IsAdmitted, OnlyNoted, HasNoted, MayBind, having_read, holding};
 ghost use Rattle.live_doors.specs.Doors.{forgotten, acknowledged, shut, raised, having_noted};
 ghost use Rattle.live_pages.specs.Kept.{IsClearOf, IsCurrent, HasNoHolder};
@@ -15,8 +16,8 @@ use crate::keeper::Keeper;
 use crate::opening::begin;
 use crate::pass::Pass;
 use crate::rule::{
-    Acknowledge, Bind, Board, CloseDoor, Draw, Fill, Forget, Give, Held, KeeperGive, KeeperTake,
-    Look, Place, Raise, Take,
+    Acknowledge, Bind, Board, CloseDoor, Draw, Fill, Forget, Give, KeeperGive, KeeperTake, Look,
+    Place, Raise, Take,
 };
 use crate::touch::{Touch, Touched};
 use live_doors::{Behind, Closed, REQUEST, acknowledgement_word, door_word};
@@ -268,6 +269,24 @@ impl LivePages {
         Ok(self.touch_in_hand(&mut pass.seat, f, t))
     }
 
+    // Puts the page into the slot in hand, and takes out the one that lay there.
+    fn swap_page(&self, seat: &mut Place, f: u32, page: Page) -> Page
+        requires seat { seat.old.table_id ≡ self.now.table }
+        requires frame { f < self.now.frames }
+        requires hand { (h : Held) × (seat.old.me.1 ≡ (f, Some h) ∷ []) }
+        ensures seat { (seat.new.table_id ≡ seat.old.table_id) × (seat.new.id ≡ seat.old.id) }
+        ensures old { (h : Held) → seat.old.me.1 ≡ (f, Some h) ∷ [] → result ≡ h.page }
+        ensures new { (h : Held) × (seat.new.me ≡ (seat.old.me.0, (f, Some h) ∷ [])) × (h.page ≡ page) }
+    {
+        let words = &self.table.shared;
+        let Some(mut held) = words.exchange(seat, f as usize, None) else {
+            unreachable!()
+        };
+        let old = held.swap(page);
+        words.exchange(seat, f as usize, Some(held));
+        old
+    }
+
     /// Gives frame `f` a new page, and hands out the old one, which no touch can reach any more. The door admits the
     /// next binding. No pass holds an entry of the frame, so nobody has its turn.
     ///
@@ -285,16 +304,7 @@ impl LivePages {
         let words = &self.table.shared;
         let door = 2 * (keeper.doors[f as usize] / 2 + 1);
         words.compare_exchange::<KeeperTake>(&mut keeper.seat, self.turn_word(f), 0, 1);
-        let Some(held) = words.exchange(&mut keeper.seat, f as usize, None) else {
-            unreachable!()
-        };
-        let Held {
-            page: old,
-            touch,
-            word,
-        } = held;
-        let new = Held { page, touch, word };
-        words.exchange(&mut keeper.seat, f as usize, Some(new));
+        let old = self.swap_page(&mut keeper.seat, f, page);
         words.store::<Bind>(&mut keeper.seat, door_word(f), door);
         words.store::<KeeperGive>(&mut keeper.seat, self.turn_word(f), 0);
         keeper.doors[f as usize] = door;

@@ -9,6 +9,7 @@ use crate::views::View;
 use atomic_table::{Join, Play, Seat, Split, Table, TableRule};
 use mword::{Page, Word};
 use std::alloc::Global;
+use std::mem;
 
 /// How many frames and processors there are.
 #[derive(Clone, Copy)]
@@ -37,6 +38,14 @@ impl Held {
         self.touch = t;
         self.word = word;
         word
+    }
+
+    // Puts another page in its place, and answers it.
+    pub(crate) fn swap(&mut self, page: Page) -> Page
+        ensures old { result ≡ self.old.page }
+        ensures new { self.new.page ≡ page }
+    {
+        mem::replace(&mut self.page, page)
     }
 }
 

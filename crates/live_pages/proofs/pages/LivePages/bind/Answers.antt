@@ -1,15 +1,15 @@
-use Rattle.std.proofs.Common.{rules, ◌≡◌, ◌+◌, ◌*◌, ◌/◌, [], Some, sym, ap, refl, ◌∙◌, subst, set}
+use Rattle.std.proofs.Common.{rules, ◌≡◌, ◌+◌, ◌*◌, ◌/◌, [], ◌∷◌, Some, sym, ap, refl, ◌∙◌, subst, set}
 use Rattle.std.proofs.lemmas.List.{length-set}
 use Rattle.live_doors.specs.Doors.{HasNoted, MayBind}
 use Rattle.live_doors.specs.Laws.{word_of}
 use Rattle.live_pages.specs.declared.rule.Held.{Held}
 use Rattle.live_pages.specs.declared.views.Hand.TheVariants.{Has}
+use Rattle.live_pages.specs.declared.views.View.TheVariants.{Keeping}
 use Rattle.live_pages.specs.Turns.{bound_anew, current, holder_of}
 use Rattle.live_pages.specs.Models.{rebound}
 use Rattle.live_pages.proofs.Turning.{with_hand}
 use Rattle.live_pages.proofs.Ends.{may_bind_is_free}
-use Rattle.live_pages.proofs.Calls.{told_with, keeper_takes_at, slot_in_hand, none_is, exchanged_twice, found_in_slot}
-use Rattle.live_pages.proofs.Calls.{same_held, binds_in_hand}
+use Rattle.live_pages.proofs.Calls.{told_with, swapped, keeper_takes_at, binds_in_hand}
 use Rattle.live_pages.proofs.Calls.{keeper_gives_in_hand, bound_now, rebound_now, keeper_fits, keeper_stays_of}
 use Rattle.live_pages.proofs.pages.LivePages.bind.Goals as goal
 
@@ -23,101 +23,74 @@ compare_exchange-requires c = (
       (search rules) (search rules),
 )
 
-pub exchange-requires : goal.exchange-requires
-exchange-requires c =
+pub swap_page-old-requires-clause-hand : goal.swap_page-old-requires-clause-hand
+swap_page-old-requires-clause-hand c =
     let got = (c.compare_exchange.ensures.2 c.args.f (search rules)).1 in
-    let there = told_with c.keeper.invariant.seat got.1 in (search rules, slot_in_hand there)
-
-pub unreachable-requires : goal.unreachable-requires
-unreachable-requires c =
-    let got = (c.compare_exchange.ensures.2 c.args.f (search rules)).1 in
-    let there = told_with c.keeper.invariant.seat got.1 in
-    none_is (sym c.in_default.is ∙ found_in_slot there c.exchange.ensures.2)
+    (got.0, ap (λ x. x.1) (told_with c.keeper.invariant.seat got.1))
 
 pub store-requires : goal.store-requires
 store-requires c =
-    let k = holder_of c.keeper.inside.seat.me.0 in
     let got = (c.compare_exchange.ensures.2 c.args.f (search rules)).1 in
-    let there = told_with c.keeper.invariant.seat got.1 in
-    let k1 = with_hand (Has c.args.f got.0.page) k in
-    let new : Held = record { page = c.args.page; touch = c.in-Some.held.touch; word = c.in-Some.held.word } in
-    let in_hand = exchanged_twice there c.exchange.ensures.3 c.exchange-2.ensures.3 in
-    let read = word_of c.keeper.inside.doors.items k.watch.doors c.args.f c.index.result.now c.index.ensures
-    c.keeper.invariant.doors (search rules) in
-    let door : 2 * (c.index.result.now / 2 + 1) ≡ 2 * (current k.watch c.args.f + 1) =
-    ap (λ x. 2 * (x / 2 + 1)) read in (
+    let there = swapped (told_with c.keeper.invariant.seat got.1) c.swap_page-old.ensures.new.1 in
+    let read = word_of c.keeper.inside.doors.items (holder_of c.keeper.inside.seat.me.0).watch.doors c.args.f
+    c.index.result.now c.index.ensures c.keeper.invariant.doors (search rules) in (
       search rules,
       search rules,
-      rw c.door_word.ensures (binds_in_hand c.self.inside.table.shared.key _ _ c.exchange-2.new.seat.me (search rules)
-          c.args.f _
-          c.keeper.inside.cleared k1 new got.0.page in_hand refl c.keeper.invariant.cleared
-          (subst (λ v. MayBind v.holder.watch v.cleared c.args.f) (sym c.keeper.view_is) c.requires.may_bind) door),
+      rw c.door_word.ensures (binds_in_hand c.self.inside.table.shared.key _ _ c.swap_page-old.new.seat.me
+          (search rules) c.args.f _ c.keeper.inside.cleared _ c.swap_page-old.ensures.new.0 got.0.page there refl
+          c.keeper.invariant.cleared
+          (subst (λ v. MayBind v.holder.watch v.cleared c.args.f) (sym c.keeper.view_is) c.requires.may_bind)
+          (ap (λ x. 2 * (x / 2 + 1)) read)),
     )
 
 pub store-requires-2 : goal.store-requires-2
 store-requires-2 c =
-    let k = holder_of c.keeper.inside.seat.me.0 in
     let got = (c.compare_exchange.ensures.2 c.args.f (search rules)).1 in
-    let there = told_with c.keeper.invariant.seat got.1 in
-    let k1 = with_hand (Has c.args.f got.0.page) k in
-    let new : Held = record { page = c.args.page; touch = c.in-Some.held.touch; word = c.in-Some.held.word } in
-    let in_hand = exchanged_twice there c.exchange.ensures.3 c.exchange-2.ensures.3 in
-    let bound = bound_now in_hand (c.store.ensures.2 c.args.f new [] (ap (λ x. x.1) in_hand)) in (
+    let there = swapped (told_with c.keeper.invariant.seat got.1) c.swap_page-old.ensures.new.1 in
+    let bound = bound_now there (c.store.ensures.2 c.args.f _ [] (ap (λ x. x.1) there)) in (
       search rules,
       search rules,
-      keeper_gives_in_hand c.self.inside.table.shared.key _ _ c.store.new.seat.me (search rules) _ c.args.f
-          (bound_anew c.args.f c.args.page k1) new bound refl (search rules),
+      keeper_gives_in_hand c.self.inside.table.shared.key _ _ c.store.new.seat.me (search rules) _ c.args.f _
+          c.swap_page-old.ensures.new.0 bound refl (search rules),
     )
+
+-- the frame is bound to the page, and the turn is given back
+done : (c : goal.After-keeper-1) → c.store-2.new.seat.me
+    ≡ (Keeping (rebound c.args.f c.args.page c.swap_page-old.result (holder_of c.keeper.inside.seat.me.0)), [])
+done c =
+    let k = holder_of c.keeper.inside.seat.me.0 in
+    let new = c.swap_page-old.ensures.new in
+    let got = (c.compare_exchange.ensures.2 c.args.f (search rules)).1 in
+    let turn = told_with c.keeper.invariant.seat got.1 in
+    let there = swapped turn new.1 in
+    let left = c.swap_page-old.ensures.old got.0 (ap (λ x. x.1) turn) in
+    let bound = bound_now there (c.store.ensures.2 c.args.f new.0 [] (ap (λ x. x.1) there)) in
+    rebound_now k new.0.page got.0.page bound
+    (c.store-2.ensures.2 (c.args.f, Some new.0) [] (ap (λ x. x.1) bound)) c.keeper.invariant.hand
+    ∙ ap (λ p. (Keeping (rebound c.args.f p got.0.page k), [])) new.2
+    ∙ ap (λ p. (Keeping (rebound c.args.f c.args.page p k), [])) (sym left)
 
 pub invariant_of-keeper : goal.invariant_of-keeper
 invariant_of-keeper c =
-    let k = holder_of c.keeper.inside.seat.me.0 in
-    let got = (c.compare_exchange.ensures.2 c.args.f (search rules)).1 in
-    let there = told_with c.keeper.invariant.seat got.1 in
-    let new : Held = record { page = c.args.page; touch = c.in-Some.held.touch; word = c.in-Some.held.word } in
-    let in_hand = exchanged_twice there c.exchange.ensures.3 c.exchange-2.ensures.3 in
-    let read = word_of c.keeper.inside.doors.items k.watch.doors c.args.f c.index.result.now c.index.ensures
+    let row = (holder_of c.keeper.inside.seat.me.0).watch.doors in
+    let read = word_of c.keeper.inside.doors.items row c.args.f c.index.result.now c.index.ensures
     c.keeper.invariant.doors (search rules) in
-    let door : 2 * (c.index.result.now / 2 + 1) ≡ 2 * (current k.watch c.args.f + 1) = ap (λ x. 2 * (x / 2 + 1)) read in
-    let bound = bound_now in_hand (c.store.ensures.2 c.args.f new [] (ap (λ x. x.1) in_hand)) in
-    let done = rebound_now k c.args.page got.0.page bound
-    (c.store-2.ensures.2 (c.args.f, Some new) [] (ap (λ x. x.1) bound)) c.keeper.invariant.hand in
-    keeper_fits c.store-2.new.seat.me (rebound c.args.f c.args.page got.0.page k) _ _ _ c.keeper.inside.cleared done
-    c.keeper.invariant.hand
+    keeper_fits c.store-2.new.seat.me _ _ _ _ c.keeper.inside.cleared (done c) c.keeper.invariant.hand
     c.keeper.invariant.request
     (ap (λ l. set l c.args.f (2 * (c.index.result.now / 2 + 1))) c.keeper.invariant.doors
-    ∙ ap (λ d. set k.watch.doors c.args.f d) door) c.keeper.invariant.since
+    ∙ ap (λ x. set row c.args.f (2 * (x / 2 + 1))) read) c.keeper.invariant.since
     (c.keeper.invariant.rows ∙ sym (length-set _ _ _)) c.keeper.invariant.cleared
 
 pub returns-clause-keeper : goal.returns-clause-keeper
 returns-clause-keeper c =
-    let k = holder_of c.keeper.inside.seat.me.0 in
-    let got = (c.compare_exchange.ensures.2 c.args.f (search rules)).1 in
-    let there = told_with c.keeper.invariant.seat got.1 in
-    let new : Held = record { page = c.args.page; touch = c.in-Some.held.touch; word = c.in-Some.held.word } in
-    let in_hand = exchanged_twice there c.exchange.ensures.3 c.exchange-2.ensures.3 in
-    let bound = bound_now in_hand (c.store.ensures.2 c.args.f new [] (ap (λ x. x.1) in_hand)) in
-    let done = rebound_now k c.args.page got.0.page bound
-    (c.store-2.ensures.2 (c.args.f, Some new) [] (ap (λ x. x.1) bound)) c.keeper.invariant.hand in
     keeper_stays_of c.args.self.now c.args.keeper.now _ c.store-2.new.seat.table_id _ _ c.keeper.inside.seat.me
-    c.store-2.new.seat.me
-    (rebound c.args.f c.args.page got.0.page k) c.keeper.view_is c.requires.keeper
-    (c.store-2.ensures.0 ∙ c.store.ensures.0 ∙ c.exchange-2.ensures.0 ∙ c.exchange.ensures.0
-    ∙ c.compare_exchange.ensures.0) done (length-set _ _ _) refl refl refl
+    c.store-2.new.seat.me _ c.keeper.view_is c.requires.keeper
+    (c.store-2.ensures.0 ∙ c.store.ensures.0 ∙ c.swap_page-old.ensures.seat.0 ∙ c.compare_exchange.ensures.0)
+    (done c) (length-set _ _ _) refl refl refl
 
 pub returns-clause-bound : goal.returns-clause-bound
-returns-clause-bound c =
-    let k = holder_of c.keeper.inside.seat.me.0 in
-    let got = (c.compare_exchange.ensures.2 c.args.f (search rules)).1 in
-    let there = told_with c.keeper.invariant.seat got.1 in
-    let new : Held = record { page = c.args.page; touch = c.in-Some.held.touch; word = c.in-Some.held.word } in
-    let same = same_held (sym c.in-Some.is ∙ found_in_slot there c.exchange.ensures.2) in
-    let in_hand = exchanged_twice there c.exchange.ensures.3 c.exchange-2.ensures.3 in
-    let bound = bound_now in_hand (c.store.ensures.2 c.args.f new [] (ap (λ x. x.1) in_hand)) in
-    let done = rebound_now k c.args.page got.0.page bound
-    (c.store-2.ensures.2 (c.args.f, Some new) [] (ap (λ x. x.1) bound)) c.keeper.invariant.hand in
-    ap (λ x. holder_of x.0) done ∙ ap (λ (x : Held). rebound c.args.f c.args.page x.page k) (sym same)
-    ∙ ap (λ v. rebound c.args.f c.args.page c.in-Some.held.page v.holder) c.keeper.view_is
+returns-clause-bound c = ap (λ x. holder_of x.0) (done c)
+    ∙ ap (λ v. rebound c.args.f c.args.page c.swap_page-old.result v.holder) c.keeper.view_is
 
 pub returns-clause-no_holder : goal.returns-clause-no_holder
 returns-clause-no_holder c = may_bind_is_free c.args.keeper.now.holder c.args.keeper.now.cleared c.args.f

@@ -1,7 +1,7 @@
-use Rattle.std.proofs.Common.{ap, sym, subst, ◌∙◌}
+use Rattle.std.proofs.Common.{◌≡◌, ap, sym, subst, ◌∙◌}
 use Rattle.std.specs.Mem.Slots.{slots_items}
 use Rattle.live_pages.specs.Kept.{AllIn}
-use Rattle.live_pages.proofs.AllIn.{all_are_in, ended, slots_held, told_at_end, pages_left}
+use Rattle.live_pages.proofs.AllIn.{AtEnd, all_are_in, ended, slots_held, told_at_end, pages_left}
 use Rattle.live_pages.proofs.pages.LivePages.close.Goals as goal
 
 pub take_pages-requires-clause-held : goal.take_pages-requires-clause-held
@@ -16,34 +16,28 @@ take_pages-requires-clause-held c =
     c.requires.keeper.parts c.requires.all)
     c.close_with-closed.ensures.values.2)
 
-pub returns-clause-one_thread : goal.returns-clause-one_thread
-returns-clause-one_thread c =
-    let seen = c.keeper.view_is ∙ c.show-shown.ensures.keeper in
-    let same = c.show-shown.ensures.shown ∙ ap (λ v. v.holder) c.take_all_in.ensures.taken in
-    told_at_end c.args.self.frames c.args.self.cpus c.show-shown.result (slots_items c.close_with-closed.result.slots)
-    (ended c.self.inside.table.shared.key c.keeper.inside.seat.id c.keeper.inside.seat.me c.args.self.frames
+-- the seat that is left shows what the keeper knew with the touches of every pass
+shown : (c : goal.After-drop-keeper-inside-2)
+    → AtEnd c.args.self.frames c.args.self.cpus c.show-shown.result (slots_items c.close_with-closed.result.slots)
+shown c =
+    ended c.self.inside.table.shared.key c.keeper.inside.seat.id c.keeper.inside.seat.me c.args.self.frames
     c.args.self.cpus c.show-shown.result _
     (slots_items c.close_with-closed.result.slots) (c.self.invariant.frames ∙ ap (λ v. v.frames) c.self.view_is)
     (c.self.invariant.cpus
     ∙ ap (λ v. v.cpus) c.self.view_is)
-    (ap (λ v. v.holder) seen ∙ sym c.show-shown.ensures.shown) c.keeper.invariant.seat c.keeper.invariant.hand
-    (subst (AllIn c.args.self.cpus) (sym same) (all_are_in c.args.self c.args.passes.items c.args.keeper.holder
-    c.requires.keeper.parts c.requires.all))
-    c.close_with-closed.ensures.values.2)
+    (ap (λ v. v.holder) (c.keeper.view_is ∙ c.show-shown.ensures.keeper) ∙ sym c.show-shown.ensures.shown)
+    c.keeper.invariant.seat c.keeper.invariant.hand
+    (subst (AllIn c.args.self.cpus) (sym (c.show-shown.ensures.shown
+    ∙ ap (λ v. v.holder) c.take_all_in.ensures.taken)) (all_are_in c.args.self c.args.passes.items
+    c.args.keeper.holder c.requires.keeper.parts c.requires.all))
+    c.close_with-closed.ensures.values.2
+
+pub returns-clause-one_thread : goal.returns-clause-one_thread
+returns-clause-one_thread c = told_at_end c.args.self.frames c.args.self.cpus c.show-shown.result
+    (slots_items c.close_with-closed.result.slots) (shown c)
 
 pub returns-clause-left : goal.returns-clause-left
 returns-clause-left c =
-    let seen = c.keeper.view_is ∙ c.show-shown.ensures.keeper in
-    let same = c.show-shown.ensures.shown ∙ ap (λ v. v.holder) c.take_all_in.ensures.taken in
     pages_left c.args.self.frames c.args.self.cpus c.show-shown.result (slots_items c.close_with-closed.result.slots)
-    c.take_pages.new.pages.items
-    (ended c.self.inside.table.shared.key c.keeper.inside.seat.id c.keeper.inside.seat.me c.args.self.frames
-    c.args.self.cpus c.show-shown.result _
-    (slots_items c.close_with-closed.result.slots) (c.self.invariant.frames ∙ ap (λ v. v.frames) c.self.view_is)
-    (c.self.invariant.cpus
-    ∙ ap (λ v. v.cpus) c.self.view_is)
-    (ap (λ v. v.holder) seen ∙ sym c.show-shown.ensures.shown) c.keeper.invariant.seat c.keeper.invariant.hand
-    (subst (AllIn c.args.self.cpus) (sym same) (all_are_in c.args.self c.args.passes.items c.args.keeper.holder
-    c.requires.keeper.parts c.requires.all))
-    c.close_with-closed.ensures.values.2)
+    c.take_pages.new.pages.items (shown c)
     (c.take_pages.ensures.count ∙ ap (λ v. v.frames) c.self.view_is) c.take_pages.ensures.pages

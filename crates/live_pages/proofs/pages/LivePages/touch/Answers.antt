@@ -1,5 +1,6 @@
-use Rattle.std.proofs.Common.{rules, ◌^◌, ◌<◌, length, [], ◌∷◌, Some, None, sym, ap, refl, ◌∙◌, subst, get_or}
+use Rattle.std.proofs.Common.{rules, ◌≡◌, ◌≢◌, ◌^◌, ◌<◌, length, [], ◌∷◌, Some, None, sym, ap, refl, ◌∙◌, subst, get_or}
 use Rattle.live_doors.specs.Doors.{having_read}
+use Rattle.live_pages.specs.declared.rule.Held.{Held}
 use Rattle.live_pages.specs.declared.views.View.TheVariants.{Passing}
 use Rattle.live_pages.specs.Turns.{taken, walking, walker_of}
 use Rattle.live_pages.specs.Touches.{AreBelow}
@@ -7,6 +8,28 @@ use Rattle.live_pages.specs.Models.{having_touched, touched_in_hand}
 use Rattle.live_pages.proofs.Ends.{held_is_current}
 use Rattle.live_pages.proofs.Calls.{told_alone, told_with, self_form, takes_turn_at, pass_fits, pass_stays_of}
 use Rattle.live_pages.proofs.pages.LivePages.touch.Goals as goal
+
+-- the turn was free: the pass has it, with the page that lay in the slot
+has_turn : (c : goal.After-touch_in_hand-arg-1) → c.compare_exchange-word.result ≡ 0
+    → (h : Held) × (c.compare_exchange-word.new.seat.me
+    ≡ (Passing (taken c.args.f h.page (walker_of c.pass.inside.seat.me.0)), (c.args.f, Some h) ∷ []))
+has_turn c free = let got = (c.compare_exchange-word.ensures.2 c.args.f (search rules)).0 free in
+    (got.0, told_with c.pass.invariant.seat got.1)
+
+-- and after the touch it has none
+made : (c : goal.After-touch_in_hand) → c.compare_exchange-word.result ≡ 0
+    → c.touch_in_hand.new.seat.me ≡ (
+  Passing (having_touched c.touch_in_hand.result.ticket c.args.f c.args.t c.touch_in_hand.result.word
+      (walker_of c.pass.inside.seat.me.0)),
+  [],
+)
+made c free = c.touch_in_hand.ensures.touched
+    ∙ ap (λ x. (
+      Passing (touched_in_hand c.touch_in_hand.result.ticket c.args.f c.args.t c.touch_in_hand.result.word
+          (walker_of x.0)),
+      [],
+    )) (told_with c.pass.invariant.seat
+    ((c.compare_exchange-word.ensures.2 c.args.f (search rules)).0 free).1)
 
 pub compare_exchange-word-requires : goal.compare_exchange-word-requires
 compare_exchange-word-requires c = (
@@ -19,91 +42,60 @@ compare_exchange-word-requires c = (
 )
 
 pub invariant_of-pass : goal.invariant_of-pass
-invariant_of-pass c = pass_fits c.compare_exchange-word.new.seat.me _ _ _ _
-    (told_alone c.pass.invariant.seat ((c.compare_exchange-word.ensures.2 c.args.f (search rules)).1
-    c.if-word-ne0.true))
+invariant_of-pass c = pass_fits c.compare_exchange-word.new.seat.me _ _ _ _ (told_alone c.pass.invariant.seat
+    ((c.compare_exchange-word.ensures.2 c.args.f (search rules)).1 c.if-word-ne0.true))
     c.pass.invariant.hand c.pass.invariant.cpu c.pass.invariant.held c.pass.invariant.stamp
 
 pub returns-then-word-ne0-clause-pass : goal.returns-then-word-ne0-clause-pass
 returns-then-word-ne0-clause-pass c =
     pass_stays_of c.args.self.now c.args.pass.now _ c.compare_exchange-word.new.seat.table_id c.pass.inside.seat.me
     c.compare_exchange-word.new.seat.me _
-    c.pass.view_is c.requires.pass c.compare_exchange-word.ensures.0
-    (told_alone c.pass.invariant.seat ((c.compare_exchange-word.ensures.2 c.args.f (search rules)).1
-    c.if-word-ne0.true)) refl refl refl
+    c.pass.view_is c.requires.pass c.compare_exchange-word.ensures.0 (told_alone c.pass.invariant.seat
+    ((c.compare_exchange-word.ensures.2 c.args.f (search rules)).1 c.if-word-ne0.true)) refl refl refl
 
 pub returns-then-word-ne0-clause-busy : goal.returns-then-word-ne0-clause-busy
 returns-then-word-ne0-clause-busy c = (
   c.if-word-ne0.true,
-  ap (λ x. walker_of x.0)
-      (told_alone c.pass.invariant.seat ((c.compare_exchange-word.ensures.2 c.args.f (search rules)).1
-      c.if-word-ne0.true))
+  ap (λ x. walker_of x.0) (told_alone c.pass.invariant.seat
+    ((c.compare_exchange-word.ensures.2 c.args.f (search rules)).1 c.if-word-ne0.true))
       ∙ ap (λ v. walking (having_read c.compare_exchange-word.result) v.walker) c.pass.view_is,
 )
 
 pub touch_in_hand-requires-clause-hand : goal.touch_in_hand-requires-clause-hand
 touch_in_hand-requires-clause-hand c =
-    let got = (c.compare_exchange-word.ensures.2 c.args.f (search rules)).0 (search rules) in
-    let there = told_with c.pass.invariant.seat got.1 in (
-      got.0,
-      self_form c.compare_exchange-word.new.seat.me (taken c.args.f got.0.page (walker_of c.pass.inside.seat.me.0))
-          ((c.args.f, Some got.0) ∷ []) there,
-      ap (λ x. (walker_of x.0).hand) there,
+    let there = has_turn c (search rules) in (
+      there.0,
+      self_form c.compare_exchange-word.new.seat.me (taken c.args.f there.0.page (walker_of c.pass.inside.seat.me.0))
+          ((c.args.f, Some there.0) ∷ []) there.1,
+      ap (λ x. (walker_of x.0).hand) there.1,
     )
 
 pub touch_in_hand-requires-clause-few : goal.touch_in_hand-requires-clause-few
 touch_in_hand-requires-clause-few c =
-    let got = (c.compare_exchange-word.ensures.2 c.args.f (search rules)).0 (search rules) in
-    let there = told_with c.pass.invariant.seat got.1 in
-    subst (λ x. length (walker_of x.0).made < 2 ^ 32) (sym there)
+    subst (λ x. length (walker_of x.0).made < 2 ^ 32) (sym (has_turn c (search rules)).1)
     (subst (λ v. length v.walker.made < 2 ^ 32) (sym c.pass.view_is) c.requires.few)
 
 pub invariant_of-pass-2 : goal.invariant_of-pass-2
-invariant_of-pass-2 c =
-    let got = (c.compare_exchange-word.ensures.2 c.args.f (search rules)).0 (search rules) in
-    let there = told_with c.pass.invariant.seat got.1 in
-    let done = c.touch_in_hand.ensures.touched
-    ∙ ap (λ x. (
-      Passing (touched_in_hand c.touch_in_hand.result.ticket c.args.f c.args.t c.touch_in_hand.result.word
-          (walker_of x.0)),
-      [],
-    )) there in
-    pass_fits c.touch_in_hand.new.seat.me _ _ _ _ done refl c.pass.invariant.cpu c.pass.invariant.held
-    c.pass.invariant.stamp
+invariant_of-pass-2 c = pass_fits c.touch_in_hand.new.seat.me _ _ _ _ (made c (search rules)) refl
+    c.pass.invariant.cpu c.pass.invariant.held c.pass.invariant.stamp
 
 pub returns-clause-pass : goal.returns-clause-pass
 returns-clause-pass c =
-    let got = (c.compare_exchange-word.ensures.2 c.args.f (search rules)).0 (search rules) in
-    let there = told_with c.pass.invariant.seat got.1 in
-    let done = c.touch_in_hand.ensures.touched
-    ∙ ap (λ x. (
-      Passing (touched_in_hand c.touch_in_hand.result.ticket c.args.f c.args.t c.touch_in_hand.result.word
-          (walker_of x.0)),
-      [],
-    )) there in
     pass_stays_of c.args.self.now c.args.pass.now _ c.touch_in_hand.new.seat.table_id c.pass.inside.seat.me
     c.touch_in_hand.new.seat.me _ c.pass.view_is
-    c.requires.pass (c.touch_in_hand.ensures.seat.0 ∙ c.compare_exchange-word.ensures.0) done refl refl refl
+    c.requires.pass (c.touch_in_hand.ensures.seat.0 ∙ c.compare_exchange-word.ensures.0) (made c (search rules)) refl
+    refl refl
 
 pub returns-clause-touched : goal.returns-clause-touched
-returns-clause-touched c =
-    let got = (c.compare_exchange-word.ensures.2 c.args.f (search rules)).0 (search rules) in
-    let there = told_with c.pass.invariant.seat got.1 in
-    let done = c.touch_in_hand.ensures.touched
-    ∙ ap (λ x. (
-      Passing (touched_in_hand c.touch_in_hand.result.ticket c.args.f c.args.t c.touch_in_hand.result.word
-          (walker_of x.0)),
-      [],
-    )) there in
-    ap (λ x. walker_of x.0) done ∙ ap (λ v. having_touched c.touch_in_hand.result.ticket c.args.f c.args.t
-    c.touch_in_hand.result.word v.walker) c.pass.view_is
+returns-clause-touched c = ap (λ x. walker_of x.0) (made c (search rules)) ∙ ap (λ v. having_touched
+    c.touch_in_hand.result.ticket c.args.f c.args.t c.touch_in_hand.result.word v.walker) c.pass.view_is
 
 pub returns-clause-above : goal.returns-clause-above
 returns-clause-above c =
     let got = (c.compare_exchange-word.ensures.2 c.args.f (search rules)).0 (search rules) in
-    let there = told_with c.pass.invariant.seat got.1 in
     subst (λ v. AreBelow c.touch_in_hand.result.ticket v.walker.made) c.pass.view_is
-    (subst (λ x. AreBelow c.touch_in_hand.result.ticket (walker_of x.0).made) there c.touch_in_hand.ensures.above)
+    (subst (λ x. AreBelow c.touch_in_hand.result.ticket (walker_of x.0).made)
+    (told_with c.pass.invariant.seat got.1) c.touch_in_hand.ensures.above)
 
 pub returns-clause-current : goal.returns-clause-current
 returns-clause-current c = held_is_current c.args.pass.now.walker.walk c.args.f c.requires.holds
