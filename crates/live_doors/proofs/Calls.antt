@@ -13,7 +13,7 @@ use Rattle.live_doors.specs.declared.views.Walk.{Walk}
 use Rattle.live_doors.specs.declared.views.Watch.{Watch}
 use Rattle.live_doors.specs.declared.views.View.{View}
 use Rattle.live_doors.specs.declared.views.View.TheVariants.{Walking, Keeping}
-use Rattle.live_doors.specs.Doors.{blank, first_passes, DoorsModel, PassModel, KeeperModel, IsPassOf, IsKeeperOf}
+use Rattle.live_doors.specs.Doors.{blank, first_watch, first_passes, AreNew, DoorsModel, PassModel, KeeperModel, IsPassOf, IsKeeperOf}
 use Rattle.live_doors.specs.Doors.{OnlyNoted, HasNoted, having_noted}
 use Rattle.live_doors.specs.Steps.{PassFits, KeeperFits, walk_of, watch_of}
 
@@ -124,9 +124,29 @@ all_first doors (suc n) few = All-append (IsPassOf doors) (first_passes doors n)
     (record { table = doors.table; walk = blank doors.frames n } ∷ []) j d)) (sym at) record
     { table = refl; frames = length-replicate doors.frames None; cpu = omega arith })
 
-pub all_first_at : (doors : DoorsModel) (passes : List PassModel) (n : ℕ) → passes ≡ first_passes doors n → n
-    ≡ doors.cpus → All (IsPassOf doors) passes
-all_first_at doors passes n is all = subst (All (IsPassOf doors)) (sym is) (all_first doors n (omega arith))
+-- what is there at the start, once every pass is made
+pub opened : (doors : DoorsModel) (keeper : KeeperModel) (passes : List PassModel) (frames cpus door : ℕ)
+    → doors.frames ≡ frames → doors.cpus ≡ cpus
+    → keeper ≡ record {
+      table = doors.table;
+      watch = record (first_watch frames cpus door) { made = doors.cpus };
+      cleared = 0;
+    } → passes ≡ first_passes doors doors.cpus → AreNew frames cpus door doors keeper passes
+opened doors keeper passes frames cpus door f c is row = record {
+  size = (f, c);
+  keeper_of = subst (IsKeeperOf doors) (sym is) record {
+    table = refl;
+    frames = length-replicate frames door ∙ sym f;
+    since = length-replicate frames 0 ∙ sym f;
+    cpus = length-replicate cpus 0 ∙ sym c;
+  };
+  watch = (
+    ap (λ k. k.watch) is ∙ ap (λ n. record (first_watch frames cpus door) { made = n }) c,
+    ap (λ k. k.cleared) is,
+  );
+  first = row ∙ ap (first_passes doors) c;
+  passes_of = subst (All (IsPassOf doors)) (sym row) (all_first doors doors.cpus (omega arith));
+}
 
 -- a slice that was written whole
 pub written_whole : (new items : List ℕ) (n : ℕ) → n ≡ length items → length new ≡ length items

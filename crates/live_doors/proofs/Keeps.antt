@@ -20,7 +20,7 @@ use Rattle.live_doors.specs.Steps.{keeper_with_pass, pass_of_keeper}
 use Rattle.live_doors.specs.Kept.{PlanOk, PassOk, SeatOk, Kept, NotedIsClear, NeverBoundHasNoHolder, MayBindHasNoHolder}
 use Rattle.live_doors.specs.Laws.{filled_ok, forgotten_ok, plan_acknowledged, acknowledged_ok, pass_stays, plan_shut}
 use Rattle.live_doors.specs.Laws.{pass_shut, plan_raised, pass_raised}
-use Rattle.live_doors.specs.Laws.{plan_noted, pass_noted, plan_admits, pass_admits, blank_ok, entry_gone, entry_never}
+use Rattle.live_doors.specs.Laws.{plan_noted, plan_admits, pass_admits, blank_ok, entry_gone, entry_never}
 use Rattle.live_doors.specs.Laws.{seats_stay}
 
 abbrev Board : Type 0
@@ -194,7 +194,7 @@ module _ (z : Size) where
             (plan_noted z.frames z.cpus s.words w c n inside refl k))
             (λ _ q ok. subst (λ ws. PassOk z.frames z.cpus ws (having_noted c n w) q)
             (sym (set-get_or s.words (ack_at z.frames c) 0))
-            (pass_noted z.frames z.cpus s.words w c n q ok)),
+            ok),
         λ d e. let same : c ≡ d = omega arith in (
           subst (λ k. get_or w.noted k 0 ≤ n) same low,
           ap

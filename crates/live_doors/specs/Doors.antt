@@ -2,7 +2,7 @@
 -- Source: own. The problem is that of Bensoussan, Clingen and Daley 1972: once a table entry has changed, every
 -- processor's associative memory is cleared before what the entry named is used again.
 use Rattle.std.specs.Prelude.{◌≡◌, ℕ, zero, suc, ◌+◌, ◌%◌, ◌<◌, ◌≤◌, ◌⊎◌, List, [], ◌∷◌, ◌++◌, length, replicate}
-use Rattle.std.specs.Prelude.{slice_index, slice_index_or, slice_set}
+use Rattle.std.specs.Prelude.{slice_index, slice_index_or, slice_set, All}
 use Rattle.std.specs.Prelude.{None, Some}
 use Rattle.atomic_table.specs.Seated.{TableId}
 use Rattle.live_doors.specs.declared.views.Walk.{Walk}
@@ -63,6 +63,16 @@ blank frames cpu = record { cpu = cpu; held = replicate frames None; stamp = 0; 
 abbrev pub first_passes : DoorsModel → ℕ → List PassModel
 first_passes doors zero = []
 first_passes doors (suc n) = first_passes doors n ++ record { table = doors.table; walk = blank doors.frames n } ∷ []
+
+-- Doors of this size that all have one word, with their keeper and the passes of all processors, in order: no pass
+-- holds anything, no stamp is raised, and nothing is acknowledged or cleared.
+pub record AreNew (frames cpus door : ℕ) (doors : DoorsModel) (keeper : KeeperModel) (passes : List PassModel)
+    : Type 0 where
+  pub size : (doors.frames ≡ frames) × (doors.cpus ≡ cpus)
+  pub keeper_of : IsKeeperOf doors keeper
+  pub watch : (keeper.watch ≡ opening_watch frames cpus door) × (keeper.cleared ≡ 0)
+  pub first : passes ≡ first_passes doors cpus
+  pub passes_of : All (IsPassOf doors) passes
 
 -- the pass holds an entry of frame f
 abbrev pub HoldsEntry : Walk → ℕ → Type 0

@@ -1,5 +1,5 @@
 -- The rule over the words of the table and the views of its seats, and the laws that rest on it.
-use Rattle.std.specs.Prelude.{◌≡◌, ℕ, ◌+◌, ◌*◌, ◌<◌, ◌≤◌, ◌⊎◌, List, length, slice_index, slice_index_or, None, Some}
+use Rattle.std.specs.Prelude.{◌≡◌, ℕ, ◌+◌, ◌*◌, ◌<◌, ◌≤◌, ◌⊎◌, List, length, slice_index, slice_index_or, Option, None, Some}
 use mathlib.Core.Option.{some}
 use lib.ListN.{get_elem?}
 use Rattle.live_doors.specs.declared.rule.Size.{Size}
@@ -29,17 +29,22 @@ pub record PlanOk (frames cpus : ℕ) (words : List ℕ) (plan : Watch) : Type 0
   pub noted : (cpu : ℕ) → cpu < cpus → slice_index plan.noted cpu ≤ slice_index words (ack_at frames cpu)
   pub unmade : (cpu : ℕ) → plan.made ≤ cpu → cpu < cpus → slice_index words (ack_at frames cpu) ≡ 0
 
--- What a pass knows beside the words and the keeper's plan: its acknowledgement is at most the stamp of its last
--- `forget`, which is at most the request, and each entry that it holds is in order.
-pub record PassOk (frames cpus : ℕ) (words : List ℕ) (plan : Watch) (p : Walk) : Type 0 where
-  pub made : p.cpu < plan.made
-  pub row : length p.held ≡ frames
-  pub stamp : p.stamp ≤ plan.request
-  pub word : slice_index words (ack_at frames p.cpu) ≡ p.acked
-  pub acked : p.acked ≤ p.stamp
-  pub bound : (f b : ℕ) → slice_index_or p.held f None ≡ Some b → 1 ≤ b
-  pub entries : (f b : ℕ) → slice_index_or p.held f None ≡ Some b
-      → EntryOk (slice_index plan.doors f) (slice_index plan.since f) p.stamp b
+-- What a pass knows beside the words and the keeper's plan, by the parts of either that it reads: its acknowledgement
+-- is at most the stamp of its last `forget`, which is at most the request, and each entry that it holds is in order.
+pub record EntriesOk (frames : ℕ) (words : List ℕ) (passes request : ℕ) (doors since : List ℕ) (cpu : ℕ)
+    (held : List (Option ℕ)) (read ack : ℕ) : Type 0 where
+  pub made : cpu < passes
+  pub row : length held ≡ frames
+  pub stamp : read ≤ request
+  pub word : slice_index words (ack_at frames cpu) ≡ ack
+  pub acked : ack ≤ read
+  pub bound : (f b : ℕ) → slice_index_or held f None ≡ Some b → 1 ≤ b
+  pub entries : (f b : ℕ) → slice_index_or held f None ≡ Some b
+      → EntryOk (slice_index doors f) (slice_index since f) read b
+
+abbrev pub PassOk : ℕ → ℕ → List ℕ → Watch → Walk → Type 0
+PassOk frames cpus words plan p = EntriesOk frames words plan.made plan.request plan.doors plan.since p.cpu p.held
+    p.stamp p.acked
 
 -- What a seat knows is in order: each processor's pass has a seat of its own, and one seat is the keeper's.
 abbrev pub SeatOk : ℕ → ℕ → List ℕ → Watch → ℕ → (ℕ → ℕ) → ℕ → View → Type 0

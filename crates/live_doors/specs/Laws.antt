@@ -18,7 +18,7 @@ use Rattle.live_doors.specs.declared.views.Watch.{Watch}
 use Rattle.live_doors.specs.Doors.{blank, having_read, holding, forgotten, acknowledged, shut, raised, having_noted}
 use Rattle.live_doors.specs.Doors.{HasNoted}
 use Rattle.live_doors.specs.Steps.{door_at, ack_at, filled_if, filled}
-use Rattle.live_doors.specs.Kept.{EntryOk, PlanOk, PassOk}
+use Rattle.live_doors.specs.Kept.{EntryOk, PlanOk, EntriesOk, PassOk}
 
 -- no place of a row of Nones has an entry
 pub none_held : (k f b : ℕ) → get_or (replicate k None) f None ≡ Some b → ⊥
@@ -28,20 +28,22 @@ none_held k f b e = dite (dec_lt f k) (λ (h : f < k). none-some b (sym (get_or-
     beyond : ¬ (f < k) → length (replicate {A = Option ℕ} k None) ≤ f
     beyond h = let n : length (replicate {A = Option ℕ} k None) ≡ k = length-replicate k None in omega arith
 
-module _ (frames cpus : ℕ) (words : List ℕ) (plan : Watch) where
-  -- a word was read, and nothing else is known
-  pub read_ok : (p : Walk) (n : ℕ) → PassOk frames cpus words plan p → PassOk frames cpus words plan (having_read n p)
-  read_ok p n ok = record {
-    made = ok.made;
-    row = ok.row;
-    stamp = ok.stamp;
-    word = ok.word;
-    acked = ok.acked;
-    bound =
-        ok.bound;
-    entries = ok.entries;
-  }
+-- what a pass knows stays in order once more passes were made, or stamps raised
+pub further : {frames : ℕ} {words : List ℕ} {passes passes' request request' : ℕ} {doors since : List ℕ} {cpu : ℕ}
+    {held : List (Option ℕ)} {read ack : ℕ} → passes ≤ passes' → request ≤ request'
+    → EntriesOk frames words passes request doors since cpu held read ack
+    → EntriesOk frames words passes' request' doors since cpu held read ack
+further more later ok = record {
+  made = (let m = ok.made in omega arith);
+  row = ok.row;
+  stamp = (let s = ok.stamp in omega arith);
+  word = ok.word;
+  acked = ok.acked;
+  bound = ok.bound;
+  entries = ok.entries;
+}
 
+module _ (frames cpus : ℕ) (words : List ℕ) (plan : Watch) where
   -- an entry that the door admits is held besides
   pub holding_ok : (p : Walk) (f b : ℕ) → f < frames → get_or plan.doors f 0 ≡ 2 * b → 1 ≤ b
       → PassOk frames cpus words plan p
@@ -75,8 +77,8 @@ module _ (frames cpus : ℕ) (words : List ℕ) (plan : Watch) where
   filled_ok_if true p f n is inside door least ok = let e : n % 2 ≡ 0 = eqb-true _ _ is in let h : n ≡ 2 * (n / 2) =
       omega arith in
       let l : 1 ≤ n / 2 = omega arith in
-      holding_ok (having_read n p) f (n / 2) inside (door ∙ h) l (read_ok p n ok)
-  filled_ok_if false p f n is inside door least ok = read_ok p n ok
+      holding_ok (having_read n p) f (n / 2) inside (door ∙ h) l ok
+  filled_ok_if false p f n is inside door least ok = ok
 
   pub filled_ok : (p : Walk) (f n : ℕ) → f < frames → n ≡ get_or words (door_at f) 0 → PlanOk frames cpus words plan
       → PassOk frames cpus words plan p
@@ -238,15 +240,7 @@ module _ (frames cpus : ℕ) (words : List ℕ) (plan : Watch) where
 
   pub pass_raised : (q : Walk) → PassOk frames cpus words plan q
       → PassOk frames cpus (set words 0 (plan.request + 1)) (raised plan) q
-  pass_raised q ok = record {
-    made = ok.made;
-    row = ok.row;
-    stamp = (let s = ok.stamp in omega arith);
-    word = get_or-set_other words 0 (ack_at frames q.cpu) (plan.request + 1) 0 (λ e. omega arith) ∙ ok.word;
-    acked = ok.acked;
-    bound = ok.bound;
-    entries = ok.entries;
-  }
+  pass_raised q ok = further (omega arith) (omega arith) (pass_stays q 0 (plan.request + 1) (λ e. omega arith) ok)
 
   pub plan_noted : (c n : ℕ) → c < cpus → n ≡ get_or words (ack_at frames c) 0 → PlanOk frames cpus words plan
       → PlanOk frames cpus words (having_noted c n plan)
@@ -267,19 +261,6 @@ module _ (frames cpus : ℕ) (words : List ℕ) (plan : Watch) where
     unmade = k.unmade;
   }
 
-  pub pass_noted : (c n : ℕ) (q : Walk) → PassOk frames cpus words plan q
-      → PassOk frames cpus words (having_noted c n plan) q
-  pass_noted c n q ok = record {
-    made = ok.made;
-    row = ok.row;
-    stamp = ok.stamp;
-    word = ok.word;
-    acked =
-        ok.acked;
-    bound = ok.bound;
-    entries = ok.entries;
-  }
-
   pub plan_admits : plan.made < cpus → PlanOk frames cpus words plan
       → PlanOk frames cpus words record plan { made = plan.made + 1 }
   plan_admits room k = record {
@@ -297,16 +278,7 @@ module _ (frames cpus : ℕ) (words : List ℕ) (plan : Watch) where
 
   pub pass_admits : (q : Walk) → PassOk frames cpus words plan q
       → PassOk frames cpus words record plan { made = plan.made + 1 } q
-  pass_admits q ok = record {
-    made = (let m = ok.made in omega arith);
-    row = ok.row;
-    stamp = ok.stamp;
-    word = ok.word;
-    acked = ok.acked;
-    bound =
-        ok.bound;
-    entries = ok.entries;
-  }
+  pass_admits q = further (omega arith) (omega arith)
 
   pub blank_ok : plan.made < cpus → PlanOk frames cpus words plan
       → PassOk frames cpus words record plan { made = plan.made + 1 } (blank frames plan.made)

@@ -6,8 +6,7 @@ ghost use mathlib.Core.Option.{some};
 ghost use lib.ListN.{get_elem?};
 ghost use Rattle.live_doors.specs.Kept.{IsClearOf};
 ghost use Rattle.live_doors.specs.Doors.{IsPassOf, IsKeeperOf, IsAdmitted, OnlyNoted, HasNoted, having_read, holding};
-ghost use Rattle.live_doors.specs.Doors.{forgotten, acknowledged, shut, raised, having_noted, opening_watch};
-ghost use Rattle.live_doors.specs.Doors.{first_passes};
+ghost use Rattle.live_doors.specs.Doors.{forgotten, acknowledged, shut, raised, having_noted, AreNew};
 
 use crate::errors::{Behind, Closed, NoMemory};
 use crate::keeper::Keeper;
@@ -61,11 +60,7 @@ impl LiveDoors {
     ) -> Result<(LiveDoors, Keeper, Vec<Pass>), NoMemory>
         requires frames { (1 ≤ frames) × (frames ≤ 1024) }
         requires cpus { (1 ≤ cpus) × (cpus ≤ 8) }
-        ensures size { IfOk result (λ made. (made.0.frames ≡ frames) × (made.0.cpus ≡ cpus)) }
-        ensures keeper { IfOk result (λ made. IsKeeperOf made.0 made.1) }
-        ensures watch { IfOk result (λ made. (made.1.watch ≡ opening_watch frames cpus 1) × (made.1.cleared ≡ 0)) }
-        ensures passes { IfOk result (λ made. made.2.items ≡ first_passes made.0 cpus) }
-        ensures passes_of { IfOk result (λ made. All (IsPassOf made.0) made.2.items) }
+        ensures { IfOk result (λ made. AreNew frames cpus 1 made.0 made.1 made.2.items) }
     {
         begin(alloc, frames, cpus, 1)
     }
@@ -78,11 +73,7 @@ impl LiveDoors {
     ) -> Result<(LiveDoors, Keeper, Vec<Pass>), NoMemory>
         requires frames { (1 ≤ frames) × (frames ≤ 1024) }
         requires cpus { (1 ≤ cpus) × (cpus ≤ 8) }
-        ensures size { IfOk result (λ made. (made.0.frames ≡ frames) × (made.0.cpus ≡ cpus)) }
-        ensures keeper { IfOk result (λ made. IsKeeperOf made.0 made.1) }
-        ensures watch { IfOk result (λ made. (made.1.watch ≡ opening_watch frames cpus 2) × (made.1.cleared ≡ 0)) }
-        ensures passes { IfOk result (λ made. made.2.items ≡ first_passes made.0 cpus) }
-        ensures passes_of { IfOk result (λ made. All (IsPassOf made.0) made.2.items) }
+        ensures { IfOk result (λ made. AreNew frames cpus 2 made.0 made.1 made.2.items) }
     {
         begin(alloc, frames, cpus, 2)
     }

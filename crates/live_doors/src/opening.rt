@@ -1,7 +1,7 @@
 //! The making of doors, keeper and passes.
-ghost use Rattle.std.specs.Prelude.{◌≡◌, All, ◌+◌, ◌<◌, ◌≤◌, IfOk, OnOk};
+ghost use Rattle.std.specs.Prelude.{◌≡◌, ◌+◌, ◌<◌, ◌≤◌, IfOk, OnOk};
 ghost use Rattle.live_doors.specs.Steps.{first_words};
-ghost use Rattle.live_doors.specs.Doors.{IsPassOf, IsKeeperOf, first_watch, opening_watch, blank, first_passes};
+ghost use Rattle.live_doors.specs.Doors.{IsKeeperOf, first_watch, blank, first_passes, AreNew};
 
 use crate::doors::LiveDoors;
 use crate::errors::NoMemory;
@@ -103,11 +103,7 @@ pub(crate) fn begin(
     door: u64,
 ) -> Result<(LiveDoors, Keeper, Vec<Pass>), NoMemory>
     requires { 1 ≤ door }
-    ensures size { IfOk result (λ made. (made.0.frames ≡ frames) × (made.0.cpus ≡ cpus)) }
-    ensures keeper { IfOk result (λ made. IsKeeperOf made.0 made.1) }
-    ensures watch { IfOk result (λ made. (made.1.watch ≡ opening_watch frames cpus door) × (made.1.cleared ≡ 0)) }
-    ensures passes { IfOk result (λ made. made.2.items ≡ first_passes made.0 cpus) }
-    ensures passes_of { IfOk result (λ made. All (IsPassOf made.0) made.2.items) }
+    ensures { IfOk result (λ made. AreNew frames cpus door made.0 made.1 made.2.items) }
 {
     let (doors, mut keeper) = first_keeper(alloc, frames, cpus, door)?;
     let passes = admit_all(alloc, &doors, &mut keeper)?;

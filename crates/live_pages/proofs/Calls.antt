@@ -33,7 +33,8 @@ use Rattle.live_pages.specs.Turns.{Closes, Raises, Looks, Takes, Draws}
 use Rattle.live_pages.specs.Turns.{Gives, KeeperTakes, Binds, KeeperGives, walking}
 use Rattle.live_pages.specs.Models.{PassFits, KeeperFits, PagesModel, PassModel, KeeperModel, IsPassOf, IsKeeperOf}
 use Rattle.live_pages.specs.Models.{SameButWatch, HasInHand, touched_in_hand}
-use Rattle.live_pages.specs.Models.{rebound, HaveZeroPages, first_passes, AreAll}
+use Rattle.live_pages.specs.Models.{rebound, HaveZeroPages, first_passes, AreAll, AreNew}
+use Rattle.live_pages.specs.declared.views.Part.TheVariants.{Out}
 use Rattle.live_pages.proofs.Quiet.{InOrder, fills, forgets, acknowledges, closes, raises, looks}
 use Rattle.live_pages.proofs.Turning.{with_hand, takes_turn, gives_turn, keeper_takes, keeper_gives}
 use Rattle.live_pages.proofs.Changing.{draws, binds}
@@ -463,10 +464,6 @@ all_first pages (suc n) few = All-append (IsPassOf pages) (first_passes pages n)
     ∷ []) j d)) (sym at) record
     { table = refl; frames = length-replicate pages.frames None; cpu = omega arith; cpus = refl })
 
-pub all_first_at : (pages : PagesModel) (passes : List PassModel) (n : ℕ) → passes ≡ first_passes pages n → n
-    ≡ pages.cpus → All (IsPassOf pages) passes
-all_first_at pages passes n is all = subst (All (IsPassOf pages)) (sym is) (all_first pages n (omega arith))
-
 first_count : (pages : PagesModel) (n : ℕ) → length (first_passes pages n) ≡ n
 first_count pages zero = refl
 first_count pages (suc n) = let l = length-append (first_passes pages n)
@@ -488,10 +485,32 @@ first_place pages (suc n) cpu d inside =
     (get_or_append_left (first_passes pages n) (last ∷ []) d cpu (omega arith))
     ∙ first_place pages n cpu d (omega arith))
 
-pub all_at_first : (pages : PagesModel) (passes : List PassModel) → passes ≡ first_passes pages pages.cpus
-    → AreAll pages passes
-all_at_first pages passes is = subst (AreAll pages) (sym is) (λ cpu inside. (
-  cpu,
-  (let l = first_count pages pages.cpus in omega arith),
-  λ d. first_place pages pages.cpus cpu d inside,
-))
+-- what is there at the start, once every pass is made
+pub opened : (pages : PagesModel) (keeper : KeeperModel) (passes : List PassModel) (frames cpus : ℕ)
+    → pages.frames ≡ frames → pages.cpus ≡ cpus
+    → keeper ≡ record {
+      table = pages.table;
+      holder = watching (λ w. record w { made = pages.cpus }) (first_holder frames cpus);
+      cleared = 0;
+    } → passes ≡ first_passes pages pages.cpus → AreNew frames cpus pages keeper passes
+opened pages keeper passes frames cpus f c is row = record {
+  size = (f, c);
+  keeper_of = subst (IsKeeperOf pages) (sym is) record {
+    table = refl;
+    frames = length-replicate frames 1 ∙ sym f;
+    since = length-replicate frames 0 ∙ sym f;
+    cpus = length-replicate cpus 0 ∙ sym c;
+    parts = length-replicate cpus Out ∙ sym c;
+  };
+  holder = (
+    ap (λ k. k.holder) is ∙ ap (λ n. watching (λ w. record w { made = n }) (first_holder frames cpus)) c,
+    ap (λ k. k.cleared) is,
+  );
+  first = row ∙ ap (first_passes pages) c;
+  passes_of = subst (All (IsPassOf pages)) (sym row) (all_first pages pages.cpus (omega arith));
+  all = subst (AreAll pages) (sym row) (λ cpu inside. (
+    cpu,
+    (let l = first_count pages pages.cpus in omega arith),
+    λ d. first_place pages pages.cpus cpu d inside,
+  ));
+}

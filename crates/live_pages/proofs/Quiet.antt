@@ -16,7 +16,7 @@ use Rattle.live_doors.specs.Steps.{door_at, ack_at, filled_if, filled}
 use Rattle.live_doors.specs.Kept.{PlanOk, PassOk}
 use Rattle.live_doors.specs.Laws.{filled_ok, forgotten_ok, plan_acknowledged, acknowledged_ok, pass_stays, plan_shut}
 use Rattle.live_doors.specs.Laws.{pass_shut, plan_raised, pass_raised}
-use Rattle.live_doors.specs.Laws.{plan_noted, pass_noted, seats_stay}
+use Rattle.live_doors.specs.Laws.{plan_noted, seats_stay}
 use Rattle.live_pages.specs.declared.rule.Held.{Held}
 use Rattle.live_pages.specs.declared.rule.Size.{Size}
 use Rattle.live_pages.specs.declared.touch.Made.{Made}
@@ -364,7 +364,7 @@ module _ (z : Size) where
               refl,
               λ i _. refl,
             ) (λ f. refl) refl (λ p. plan_noted z.frames z.cpus s.words k.watch c n inside refl p)
-            (λ _ q ok. pass_noted z.frames z.cpus s.words k.watch c n q ok)),
+            (λ _ q ok. ok)),
         λ d e. let same : c ≡ d = omega arith in (
           subst (λ j. get_or k.watch.noted j 0 ≤ n) same low,
           ap (λ j. (Keeping (watching (having_noted j n) k), [])) same,

@@ -17,7 +17,7 @@ use Rattle.live_doors.specs.declared.views.Watch.{Watch}
 use Rattle.live_doors.specs.Doors.{having_read, HasNoted, IsShut, MayBind}
 use Rattle.live_doors.specs.Steps.{door_at, ack_at}
 use Rattle.live_doors.specs.Kept.{PlanOk, PassOk}
-use Rattle.live_doors.specs.Laws.{pass_stays, read_ok, entry_gone, entry_never, seats_stay}
+use Rattle.live_doors.specs.Laws.{pass_stays, entry_gone, entry_never, seats_stay}
 use Rattle.live_pages.specs.declared.rule.Held.{Held}
 use Rattle.live_pages.specs.declared.rule.Size.{Size}
 use Rattle.live_pages.specs.declared.touch.Made.{Made}
@@ -281,7 +281,7 @@ module _ (z : Size) where
                 all = mine.1.all;
                 pass_ok = pass_above z.frames z.cpus s.words h.plan.watch (having_read 0 w.walk)
                     (turn_at z.frames z.cpus f) 1 (omega arith) h.book_ok.plan_ok
-                    (read_ok z.frames z.cpus s.words h.plan.watch w.walk 0 mine.1.pass_ok);
+                    mine.1.pass_ok;
                 made = mine.1.made;
                 hand_ok = (
                   inside,
@@ -313,7 +313,7 @@ module _ (z : Size) where
             (pass_stepped z s.words s.words s.homes s.views id w (having_read n) h at free refl (
               refl,
               λ i _. refl,
-            ) (λ _. h.book_ok.plan_ok) (λ ok. read_ok z.frames z.cpus s.words h.plan.watch w.walk n ok) (λ q _ ok. ok)),
+            ) (λ _. h.book_ok.plan_ok) (λ ok. ok) (λ q _ ok. ok)),
         λ g e. ((λ zero. absurd (miss zero)), λ _. refl),
       ))
 

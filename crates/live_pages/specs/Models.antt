@@ -1,6 +1,6 @@
 -- What callers see of pages, passes and the keeper.
 use Rattle.std.specs.Prelude.{◌≡◌, ℕ, zero, suc, ◌+◌, ◌++◌, replicate, Option, ◌<◌, ◌≤◌, List, [], ◌∷◌, length}
-use Rattle.std.specs.Prelude.{slice_index_or, slice_set, Some}
+use Rattle.std.specs.Prelude.{slice_index_or, slice_set, All, Some}
 use mathlib.Core.Option as M
 use lib.ListN.{get_elem?}
 use Rattle.atomic_table.specs.Seated.{TableId}
@@ -122,6 +122,16 @@ first_passes pages (suc n) = first_passes pages n ++ record
 abbrev pub AreAll : PagesModel → List PassModel → Type 0
 AreAll pages passes = (cpu : ℕ) → cpu < pages.cpus → (i : ℕ) × (i < length passes)
     × ((d : PassModel) → (slice_index_or passes i d).walker.walk.cpu ≡ cpu)
+
+-- Pages of this size that no frame is bound to, with their keeper and the passes of all processors, in order.
+pub record AreNew (frames cpus : ℕ) (pages : PagesModel) (keeper : KeeperModel) (passes : List PassModel)
+    : Type 0 where
+  pub size : (pages.frames ≡ frames) × (pages.cpus ≡ cpus)
+  pub keeper_of : IsKeeperOf pages keeper
+  pub holder : (keeper.holder ≡ opening_holder frames cpus) × (keeper.cleared ≡ 0)
+  pub first : passes ≡ first_passes pages cpus
+  pub passes_of : All (IsPassOf pages) passes
+  pub all : AreAll pages passes
 
 -- the keeper with the touches of a pass
 abbrev pub taking_in : PassModel → Holder → Holder

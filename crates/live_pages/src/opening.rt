@@ -1,7 +1,7 @@
 //! The making of pages, keeper and passes.
-ghost use Rattle.std.specs.Prelude.{◌≡◌, All, ◌+◌, ◌<◌, ◌≤◌, length, replicate, IfOk, OnOk};
+ghost use Rattle.std.specs.Prelude.{◌≡◌, ◌+◌, ◌<◌, ◌≤◌, length, replicate, IfOk, OnOk};
 ghost use Rattle.live_pages.specs.Turns.{opening_words, first_holder, first_walker, watching};
-ghost use Rattle.live_pages.specs.Models.{HaveZeroPages, IsPassOf, IsKeeperOf, opening_holder, first_passes, AreAll};
+ghost use Rattle.live_pages.specs.Models.{HaveZeroPages, IsKeeperOf, first_passes, AreNew};
 
 use crate::errors::NoMemory;
 use crate::keeper::Keeper;
@@ -133,12 +133,7 @@ pub(crate) fn begin(
     cpus: u32,
 ) -> Result<(LivePages, Keeper, Vec<Pass>), NoMemory>
     requires { cpus ≤ 8 }
-    ensures size { IfOk result (λ made. (made.0.frames ≡ frames) × (made.0.cpus ≡ cpus)) }
-    ensures keeper { IfOk result (λ made. IsKeeperOf made.0 made.1) }
-    ensures holder { IfOk result (λ made. (made.1.holder ≡ opening_holder frames cpus) × (made.1.cleared ≡ 0)) }
-    ensures passes { IfOk result (λ made. made.2.items ≡ first_passes made.0 cpus) }
-    ensures passes_of { IfOk result (λ made. All (IsPassOf made.0) made.2.items) }
-    ensures all { IfOk result (λ made. AreAll made.0 made.2.items) }
+    ensures { IfOk result (λ made. AreNew frames cpus made.0 made.1 made.2.items) }
 {
     let (pages, mut keeper) = first_keeper(alloc, frames, cpus)?;
     let passes = admit_all(alloc, &pages, &mut keeper)?;

@@ -9,7 +9,7 @@ ghost use Rattle.live_pages.specs.Touches.{place_of, AreBelow};
 ghost use Rattle.live_pages.specs.Turns.{walking, watching, walker_of, current, binding_at, turn_at, ticket_at};
 ghost use Rattle.live_pages.specs.declared.views.View.TheVariants.{Passing};
 ghost use Rattle.live_pages.specs.Models.{HasInHand, touched_in_hand, IsPassOf, IsKeeperOf, SameButWatch};
-ghost use Rattle.live_pages.specs.Models.{having_touched, rebound, opening_holder, first_passes, AreAll};
+ghost use Rattle.live_pages.specs.Models.{having_touched, rebound, AreNew};
 
 use crate::errors::{Busy, NoMemory};
 use crate::keeper::Keeper;
@@ -61,12 +61,7 @@ impl LivePages {
     ) -> Result<(LivePages, Keeper, Vec<Pass>), NoMemory>
         requires frames { (1 ≤ frames) × (frames ≤ 1024) }
         requires cpus { (1 ≤ cpus) × (cpus ≤ 8) }
-        ensures size { IfOk result (λ made. (made.0.frames ≡ frames) × (made.0.cpus ≡ cpus)) }
-        ensures keeper { IfOk result (λ made. IsKeeperOf made.0 made.1) }
-        ensures holder { IfOk result (λ made. (made.1.holder ≡ opening_holder frames cpus) × (made.1.cleared ≡ 0)) }
-        ensures passes { IfOk result (λ made. made.2.items ≡ first_passes made.0 cpus) }
-        ensures passes_of { IfOk result (λ made. All (IsPassOf made.0) made.2.items) }
-        ensures all { IfOk result (λ made. AreAll made.0 made.2.items) }
+        ensures { IfOk result (λ made. AreNew frames cpus made.0 made.1 made.2.items) }
     {
         begin(alloc, frames, cpus)
     }
@@ -123,6 +118,19 @@ impl LivePages {
         let word = acknowledgement_word(self.frames, pass.cpu);
         let stamp = pass.stamp;
         words.store::<Acknowledge>(&mut pass.seat, word, stamp);
+    }
+
+    /// Drops every entry of the pass, as `forget` does, and lets the keeper know by `acknowledge`. Answers the stamp.
+    ///
+    /// One load, a walk over the pass's entries, and one store; takes no memory and never waits. Source: own.
+    pub fn rest(&self, pass: &mut Pass) -> u64
+        requires { IsPassOf self.now pass.old }
+        ensures pass { IsPassOf self.now pass.new }
+        ensures rested { pass.new.walker ≡ walking (λ p. acknowledged (forgotten result p)) pass.old.walker }
+    {
+        let stamp = self.forget(pass);
+        self.acknowledge(pass);
+        stamp
     }
 
     /// Closes the door of frame `f`: from then on nobody can enter the frame, and those who hold an entry keep it until

@@ -1,6 +1,7 @@
-use Rattle.std.proofs.Common.{rules, refl}
-use Rattle.live_doors.proofs.Calls.{all_first_at}
+use Rattle.std.proofs.Common.{rules}
+use Rattle.live_doors.proofs.Calls.{opened}
 use Rattle.live_doors.proofs.opening.begin.Goals as goal
 
-pub returns-clause-passes_of : goal.returns-clause-passes_of
-returns-clause-passes_of c = all_first_at c.in_ok-doors.doors _ c.in_ok-doors.doors.cpus (search rules) refl
+pub returns : goal.returns
+returns c = opened c.in_ok-doors.doors c.admit_all.new.keeper _ c.args.frames c.args.cpus c.args.door (search rules)
+    (search rules) (search rules) (search rules)
