@@ -1,8 +1,9 @@
 -- What each thread of the drill has done, and what the keeper has taken out (own).
 use Rattle.std.specs.Prelude.{◌≡◌, ℕ, zero, suc, ◌+◌, ◌-◌, ◌%◌, ◌^◌, ◌<◌, ◌≤◌, List, [], ◌∷◌, map, length, replicate}
-use Rattle.std.specs.Prelude.{slice_index, slice_index_or, IsSomeAnd}
+use Rattle.std.specs.Prelude.{slice_index, slice_index_or, IsSomeAnd, Bool, false, IsTrue}
 use Rattle.live_doors.specs.declared.views.Watch.{Watch}
 use Rattle.live_pages.specs.declared.touch.Touch.{Touch}
+use Rattle.live_pages.specs.declared.touch.Touch.TheVariants.{Add}
 use Rattle.live_pages.specs.declared.touch.Bound.{Bound}
 use Rattle.live_pages.specs.Models.{PagesModel, PassModel, IsPassOf, IsKeeperOf}
 use Rattle.live_pages.specs.Turns.{current}
@@ -47,6 +48,13 @@ AreDone pages seed adds first (p ∷ ps) = AreDone pages seed adds (first + 1) p
 abbrev pub missing : ℕ → List PassModel → ℕ
 missing adds [] = 0
 missing adds (p ∷ ps) = missing adds ps + (words_to adds - words_to (length p.walker.made))
+
+-- the pass of one processor has tried to add a word to the first one of a frame's page, and has made that touch or none
+pub record HasTried (pages : PagesModel) (old new : PassModel) (f word : ℕ) (added : Bool) : Type 0 where
+  pub pass : IsPassOf pages new
+  pub cpu : new.walker.walk.cpu ≡ old.walker.walk.cpu
+  pub made : IsTrue added → map deed new.walker.made ≡ (f, Add 0 word) ∷ map deed old.walker.made
+  pub failed : added ≡ false → new.walker.made ≡ old.walker.made
 
 -- a worker that has made no add
 pub record IsFresh (pages : PagesModel) (w : Worker) : Type 0 where

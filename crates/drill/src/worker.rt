@@ -1,9 +1,7 @@
 //! A processor of the drill.
-ghost use Rattle.std.specs.Prelude.{◌≡◌, ◌+◌, ◌^◌, ◌<◌, ◌≤◌, ◌∷◌, false, map, length, IsTrue};
-ghost use Rattle.live_pages.specs.declared.touch.Touch.TheVariants.{Add};
+ghost use Rattle.std.specs.Prelude.{◌≡◌, ◌+◌, ◌^◌, ◌<◌, ◌≤◌, length};
 ghost use Rattle.live_pages.specs.Models.{IsPassOf};
-ghost use Rattle.drill.specs.Work.{deed};
-ghost use Rattle.drill.specs.Roles.{IsFresh, IsDone};
+ghost use Rattle.drill.specs.Roles.{IsFresh, IsDone, HasTried};
 
 use crate::work::{Size, word_at};
 use draws::Draws;
@@ -25,29 +23,15 @@ pub(crate) struct Worker {
     pub(crate) done: u32,
 }
 
-// Drops the entries of the pass, and lets the keeper know.
-fn rest(pages: &LivePages, pass: &mut Pass)
-    requires { IsPassOf pages.now pass.old }
-    ensures pass { IsPassOf pages.now pass.new }
-    ensures cpu { pass.new.walker.walk.cpu ≡ pass.old.walker.walk.cpu }
-    ensures made { pass.new.walker.made ≡ pass.old.walker.made }
-{
-    pages.forget(pass);
-    pages.acknowledge(pass);
-}
-
 // Adds the word to the first one of the frame's page, if door and turn let it. At a closed door the pass forgets.
 fn try_once(pages: &LivePages, pass: &mut Pass, f: u32, word: Word) -> bool
     requires pass { IsPassOf pages.now pass.old }
     requires frame { f < pages.now.frames }
     requires few { length pass.old.walker.made < 2 ^ 32 }
-    ensures pass { IsPassOf pages.now pass.new }
-    ensures cpu { pass.new.walker.walk.cpu ≡ pass.old.walker.walk.cpu }
-    ensures made { IsTrue result → map deed pass.new.walker.made ≡ (f, Add 0 word) ∷ map deed pass.old.walker.made }
-    ensures failed { result ≡ false → pass.new.walker.made ≡ pass.old.walker.made }
+    ensures { HasTried pages.now pass.old pass.new f word result }
 {
     if !pass.holds(f) && pages.fill(pass, f).is_err() {
-        rest(pages, pass);
+        pages.rest(pass);
         return false;
     }
     pass.holds(f) && pages.touch(pass, f, Touch::Add(0, word)).is_ok()
@@ -58,10 +42,7 @@ fn try_add(pages: &LivePages, pass: &mut Pass, f: u32, word: Word) -> bool
     requires pass { IsPassOf pages.now pass.old }
     requires frame { f < pages.now.frames }
     requires few { length pass.old.walker.made < 2 ^ 32 }
-    ensures pass { IsPassOf pages.now pass.new }
-    ensures cpu { pass.new.walker.walk.cpu ≡ pass.old.walker.walk.cpu }
-    ensures made { IsTrue result → map deed pass.new.walker.made ≡ (f, Add 0 word) ∷ map deed pass.old.walker.made }
-    ensures failed { result ≡ false → pass.new.walker.made ≡ pass.old.walker.made }
+    ensures { HasTried pages.now pass.old pass.new f word result }
 {
     for _ in 0..TRIES {
         if try_once(pages, pass, f, word) {
@@ -104,8 +85,8 @@ pub(crate) fn work<R: Threads + Wait + Sync, G: Gate>(
         worker.done = i + 1;
         gate.hold(rt, worker.cpu, Point::Answered(worker.cpu));
         if i % 8 == 7 {
-            rest(pages, &mut worker.pass);
+            pages.rest(&mut worker.pass);
         }
     }
-    rest(pages, &mut worker.pass);
+    pages.rest(&mut worker.pass);
 }
