@@ -1,17 +1,19 @@
 -- What each thread of the drill has done, and what the keeper has taken out (own).
 use Rattle.std.specs.Prelude.{◌≡◌, ℕ, zero, suc, ◌+◌, ◌-◌, ◌%◌, ◌^◌, ◌<◌, ◌≤◌, List, [], ◌∷◌, map, length, replicate}
-use Rattle.std.specs.Prelude.{slice_index, slice_index_or, IsSomeAnd, Bool, false, IsTrue}
+use Rattle.std.specs.Prelude.{slice_index, slice_index_or, IsSomeAnd, Bool, false, IsTrue, All, sum}
 use Rattle.live_doors.specs.declared.views.Watch.{Watch}
 use Rattle.live_pages.specs.declared.touch.Touch.{Touch}
 use Rattle.live_pages.specs.declared.touch.Touch.TheVariants.{Add}
 use Rattle.live_pages.specs.declared.touch.Bound.{Bound}
 use Rattle.live_pages.specs.Models.{PagesModel, PassModel, IsPassOf, IsKeeperOf}
 use Rattle.live_pages.specs.Turns.{current}
+use Rattle.live_pages.specs.declared.views.Holder.{Holder}
+use Rattle.live_pages.specs.Ending.{IsOfOneThread, IsLeftAfterAll, all_bindings, made_by}
 use Rattle.drill.specs.declared.worker.Worker.{Worker}
 use Rattle.drill.specs.declared.kept.Kept.{Kept}
 use Rattle.drill.specs.declared.roles.Role.{Role}
 use Rattle.drill.specs.declared.roles.Role.TheVariants.{Works, Keeps}
-use Rattle.drill.specs.Work.{add_at, word_at, deed}
+use Rattle.drill.specs.Work.{add_at, word_at, deed, work_of, AreFirstOf, sums_of}
 
 -- the first n adds of a processor, the last one first, as a pass keeps its touches
 abbrev pub done : ℕ → ℕ → ℕ → List (ℕ × Touch)
@@ -78,6 +80,14 @@ pub record IsKept (pages : PagesModel) (k : Kept) : Type 0 where
   pub zeros : TookZeros k.keeper.holder.ended
   pub sum : k.sum ≡ words_left k.keeper.holder.ended % 2 ^ 36
   pub low : (f : ℕ) → current k.keeper.holder.watch f ≤ k.keeper.holder.watch.request + 1
+
+-- What the end of a drill tells, where `all` is the total and these pages are left: each processor's touches are the
+-- first ones of its work, in order, the total is the sum of all work, and all is as one thread would have it.
+pub record IsEnd (cpus frames adds seed all : ℕ) (shown : Holder) (pages : List (List ℕ)) : Type 0 where
+  pub front : (cpu : ℕ) → cpu < cpus → AreFirstOf (work_of frames (seed + cpu) adds) (made_by cpu shown)
+  pub total : all ≡ sum (sums_of frames adds seed cpus)
+  pub one_thread : IsOfOneThread cpus shown
+  pub left : All (IsLeftAfterAll shown) (all_bindings pages shown)
 
 -- no stamp was raised, and none of the first frames was ever bound
 abbrev pub IsUnbound : ℕ → Watch → Type 0

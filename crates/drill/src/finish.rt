@@ -1,9 +1,7 @@
 //! The end of the drill.
-ghost use Rattle.std.specs.Prelude.{◌≡◌, ℕ, ◌+◌, ◌%◌, ◌^◌, ◌<◌, ◌≤◌, All, List, length, sum};
-ghost use Rattle.live_pages.specs.Models.{IsPassOf, taking_all_in};
-ghost use Rattle.live_pages.specs.Ending.{IsOfOneThread, IsLeftAfterAll, all_bindings, made_by};
-ghost use Rattle.drill.specs.Work.{work_of, AreFirstOf, sums_of};
-ghost use Rattle.drill.specs.Roles.{IsKept, AreDone, missing, first_words};
+ghost use Rattle.std.specs.Prelude.{◌≡◌, ◌+◌, ◌%◌, ◌^◌, ◌<◌, ◌≤◌, All, length};
+ghost use Rattle.live_pages.specs.Models.{IsPassOf};
+ghost use Rattle.drill.specs.Roles.{IsKept, AreDone, IsEnd, missing, first_words};
 
 use crate::kept::Kept;
 use crate::work::Size;
@@ -35,11 +33,7 @@ pub(crate) fn finish(
     requires passes { All (IsPassOf pages) row.items }
     requires row { AreDone pages size.seed size.adds 0 row.items × (length row.items ≡ size.cpus) }
     requires unmade { unmade ≡ missing size.adds row.items % 2 ^ 36 }
-    ensures front { (cpu : ℕ) → cpu < size.cpus →
-        AreFirstOf (work_of size.frames (size.seed + cpu) size.adds) (made_by cpu result.1.shown) }
-    ensures total { result.0 ≡ sum (sums_of size.frames size.adds size.seed size.cpus) }
-    ensures one_thread { IsOfOneThread size.cpus result.1.shown }
-    ensures left { All (IsLeftAfterAll result.1.shown) (all_bindings result.1.pages.items result.1.shown) }
+    ensures { IsEnd size.cpus size.frames size.adds size.seed result.0 result.1.shown result.1.pages.items }
 {
     let Kept { keeper, sum, .. } = kept;
     let ended = pages.close(keeper, row);

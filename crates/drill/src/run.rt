@@ -1,16 +1,16 @@
 //! The whole drill.
-ghost use Rattle.std.specs.Prelude.{◌≡◌, ℕ, ◌+◌, ◌<◌, ◌≤◌, All, sum, IfOk, replicate};
+ghost use Rattle.std.specs.Prelude.{◌≡◌, ℕ, ◌+◌, ◌<◌, ◌≤◌, [], All, sum, IfOk, vec_len, vec_capacity};
 ghost use Rattle.live_pages.specs.Models.{IsKeeperOf, opening_holder};
 ghost use Rattle.live_pages.specs.Ending.{IsOfOneThread, IsLeftAfterAll, all_bindings, made_by};
 ghost use Rattle.drill.specs.Work.{work_of, AreFirstOf, sums_of};
-ghost use Rattle.drill.specs.Roles.{IsKept};
+ghost use Rattle.drill.specs.Roles.{IsKept, RoleFresh, EachRole, IsEnd};
 
 use crate::errors::NoMemory;
 use crate::finish::finish;
 use crate::kept::{Kept, bind_all};
-use crate::roles::{gather, play_all, seat, take_keeper};
+use crate::roles::{Role, gather, play_all, seat, take_keeper};
 use crate::work::{Size, sums_of};
-use live_pages::{Ended, Keeper, LivePages};
+use live_pages::{Ended, Keeper, LivePages, Pass};
 use mword::{Page, Word};
 use site_io::Gate;
 use std::alloc::Global;
@@ -41,6 +41,42 @@ fn first_kept(alloc: Global, pages: &LivePages, keeper: Keeper) -> Result<Kept, 
         spare: Some(page),
         sum: Word::ZERO,
     })
+}
+
+// New pages, to each of which its frame is bound, and the roles of the drill over them.
+fn set_out(alloc: Global, size: Size) -> Result<(LivePages, Vec<Role>), NoMemory>
+    requires cpus { (1 ≤ size.cpus) × (size.cpus ≤ 8) }
+    requires frames { (1 ≤ size.frames) × (size.frames ≤ 64) }
+    ensures size { IfOk result (λ made. (made.0.frames ≡ size.frames) × (made.0.cpus ≡ size.cpus)) }
+    ensures roles { IfOk result (λ made. EachRole (RoleFresh made.0 size.cpus) made.1.items) }
+    ensures count { IfOk result (λ made. vec_len made.1 ≡ size.cpus + 1) }
+{
+    let (pages, keeper, passes) = LivePages::new(alloc, size.frames, size.cpus)?;
+    let mut kept = first_kept(alloc, &pages, keeper)?;
+    bind_all(&pages, &mut kept, size.frames);
+    let roles = seat(alloc, &pages, passes, kept)?;
+    Ok((pages, roles))
+}
+
+// Plays all roles to their end, and closes the pages with the passes, for which there is room in the row.
+fn play_out<R: Threads + Wait + Sync, G: Gate + Sync>(
+    rt: &R,
+    pages: LivePages,
+    size: Size,
+    gate: &G,
+    mut roles: Vec<Role>,
+    mut row: Vec<Pass>,
+) -> (Word, Ended)
+    requires size { (size.cpus ≡ pages.cpus) × (size.frames ≡ pages.frames) }
+    requires few { (size.cpus ≤ 8) × (4 ≤ size.frames) × (size.frames ≤ 64) × (size.adds ≤ 10000) }
+    requires roles { EachRole (RoleFresh pages size.cpus) roles.items × (vec_len roles ≡ size.cpus + 1) }
+    requires row { (row.items ≡ []) × (size.cpus ≤ vec_capacity row) }
+    ensures { IsEnd size.cpus size.frames size.adds size.seed result.0 result.1.shown result.1.pages.items }
+{
+    play_all(rt, &pages, size, gate, &mut roles);
+    let kept = take_keeper(&pages, size, &mut roles);
+    let unmade = gather(&pages, size, roles, &mut row);
+    finish(pages, size, kept, row, unmade)
 }
 
 /// A drill of `p` processors over `f` frames, `n` adds each, and a keeper who binds the frames anew, each on a thread
@@ -82,14 +118,8 @@ pub fn drill<R: Threads + Wait + Sync, G: Gate + Sync>(
         seed,
     };
     let sums = sums_of(alloc, size)?;
-    let (pages, keeper, passes) = LivePages::new(alloc, f, p)?;
-    let mut row = Vec::with_capacity(alloc, p as usize)?;
-    let mut kept = first_kept(alloc, &pages, keeper)?;
-    bind_all(&pages, &mut kept, f);
-    let mut roles = seat(alloc, &pages, passes, kept)?;
-    play_all(rt, &pages, size, gate, &mut roles);
-    let kept = take_keeper(&pages, size, &mut roles);
-    let unmade = gather(&pages, size, roles, &mut row);
-    let (total, ended) = finish(pages, size, kept, row, unmade);
+    let row = Vec::with_capacity(alloc, p as usize)?;
+    let (pages, roles) = set_out(alloc, size)?;
+    let (total, ended) = play_out(rt, pages, size, gate, roles, row);
     Ok(Drilled { sums, total, ended })
 }

@@ -11,29 +11,8 @@ close-ended-requires-clause-all c = done_all c.args.pages c.args.size.seed c.arg
     c.requires.row.0 (c.requires.row.1
     ∙ c.requires.size.0)
 
-pub returns-clause-front : goal.returns-clause-front
-returns-clause-front c cpu below =
-    let size = c.args.size in
-    let ended = c.close-ended.result in
-    let end : AtClose c.args.pages size.seed size.adds c.args.row.items c.args.kept.keeper ended.shown
-    ended.pages.items = record {
-      taken = c.close-ended.ensures.shown;
-      kept = c.requires.kept.keeper;
-      zeros = c.requires.kept.zeros;
-      done = c.requires.row.0;
-      all = c.requires.row.1 ∙ c.requires.size.0;
-      some = search rules;
-      few = search rules;
-      count = c.close-ended.ensures.count;
-      one_thread = c.close-ended.ensures.one_thread;
-      after = c.close-ended.ensures.left;
-    } in
-    let cpus = c.requires.size.0 in
-    subst (λ f. AreFirstOf (work_of f (size.seed + cpu) size.adds) (made_by cpu ended.shown)) (sym c.requires.size.1)
-    (front _ _ _ _ _ _ _ end cpu (omega arith))
-
-pub returns-clause-total : goal.returns-clause-total
-returns-clause-total c =
+pub returns : goal.returns
+returns c =
     let size = c.args.size in
     let ended = c.close-ended.result in
     let end : AtClose c.args.pages size.seed size.adds c.args.row.items c.args.kept.keeper ended.shown
@@ -51,11 +30,18 @@ returns-clause-total c =
     } in
     let s : ℕ = c.args.kept.sum in
     let u : ℕ = c.args.unmade in
+    let cpus = c.requires.size.0 in
     let at : c.with_pages-total.result ≡ ((s + u) % 2 ^ 36 + first_words (length ended.pages.items) ended.pages.items)
     % 2 ^ 36 =
     c.with_pages-total.ensures ∙ ap (λ x. (x + first_words (length c.deref.result.now) c.deref.result.now) % 2 ^ 36)
     c.plus.ensures
-    ∙ ap (λ l. ((s + u) % 2 ^ 36 + first_words (length l) l) % 2 ^ 36) c.deref.ensures.value in
-    total _ _ _ _ _ _ _ end s u c.with_pages-total.result c.requires.kept.sum c.requires.unmade at
-    ∙ ap (λ f. sum (sums_of f size.adds size.seed c.args.pages.cpus)) (sym c.requires.size.1)
-    ∙ ap (λ n. sum (sums_of size.frames size.adds size.seed n)) (sym c.requires.size.0)
+    ∙ ap (λ l. ((s + u) % 2 ^ 36 + first_words (length l) l) % 2 ^ 36) c.deref.ensures.value in record {
+      front = λ cpu below.
+          subst (λ f. AreFirstOf (work_of f (size.seed + cpu) size.adds) (made_by cpu ended.shown))
+          (sym c.requires.size.1) (front _ _ _ _ _ _ _ end cpu (omega arith));
+      total = total _ _ _ _ _ _ _ end s u c.with_pages-total.result c.requires.kept.sum c.requires.unmade at
+          ∙ ap (λ f. sum (sums_of f size.adds size.seed c.args.pages.cpus)) (sym c.requires.size.1)
+          ∙ ap (λ n. sum (sums_of size.frames size.adds size.seed n)) (sym c.requires.size.0);
+      one_thread = search rules;
+      left = c.close-ended.ensures.left;
+    }
