@@ -1,1 +1,2 @@
+pub mod Race
 pub mod Row

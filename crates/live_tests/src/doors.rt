@@ -1,32 +1,75 @@
 //! Tests of the doors.
-ghost use Rattle.std.specs.Prelude.{◌≡◌, ℕ, ◌+◌, ◌%◌, ◌<◌, ◌≤◌, length, slice_index};
-ghost use Rattle.live_doors.specs.Doors.{IsPassOf, IsKeeperOf, IsAdmitted, OnlyNoted};
+ghost use Rattle.std.specs.Prelude.{◌≡◌, ◌+◌, ◌<◌, ◌≤◌, length};
+ghost use Rattle.live_doors.specs.Doors.{IsPassOf, IsKeeperOf, OnlyNoted, opening_watch};
+ghost use Rattle.live_tests.specs.Race.{IsReady};
 
 use live_doors::{Behind, Closed, Keeper, LiveDoors, NoMemory, Pass};
+use std::process::Abort;
 use std::sync::atomic::{AtomicBool, AtomicU64, Ordering};
 use std::thread;
 use std::thread::{Threads, join};
+
+// One pass enters frame 0, whose door is closed then to the other. The next stamp is raised.
+fn closes_frame_0(
+    rt: &impl Abort,
+    doors: &LiveDoors,
+    keeper: &mut Keeper,
+    zero: &mut Pass,
+    one: &mut Pass,
+)
+    requires keeper { IsKeeperOf doors.now keeper.old × (keeper.old.watch ≡ opening_watch 2 2 2) }
+    requires frames { doors.now.frames ≡ 2 }
+    requires passes { IsPassOf doors.now zero.old × IsPassOf doors.now one.old }
+    ensures keeper { IsKeeperOf doors.now keeper.new }
+    ensures passes { IsPassOf doors.now zero.new × IsPassOf doors.now one.new }
+{
+    assert!(rt; doors.fill(zero, 0) == Ok(1));
+    assert!(rt; zero.holds(0) && !zero.holds(1));
+    doors.close_door(keeper, 0);
+    assert!(rt; doors.fill(one, 0) == Err(Closed { word: 3 }));
+    assert!(rt; doors.raise(keeper) == 1);
+    assert!(rt; !keeper.may_bind(0));
+}
+
+// A pass forgets its entries, and lets the keeper know.
+fn rests(rt: &impl Abort, doors: &LiveDoors, pass: &mut Pass)
+    requires { IsPassOf doors.now pass.old }
+    ensures { IsPassOf doors.now pass.new }
+{
+    assert!(rt; doors.forget(pass) == 1);
+    doors.acknowledge(pass);
+}
+
+// All is clear once both passes have acknowledged, and then frame 0 may be bound.
+fn clears_frame_0(
+    rt: &impl Abort,
+    doors: &LiveDoors,
+    keeper: &mut Keeper,
+    zero: &mut Pass,
+    one: &mut Pass,
+)
+    requires keeper { IsKeeperOf doors.now keeper.old }
+    requires frames { doors.now.frames ≡ 2 }
+    requires passes { IsPassOf doors.now zero.old × IsPassOf doors.now one.old }
+    ensures keeper { IsKeeperOf doors.now keeper.new }
+    ensures passes { IsPassOf doors.now zero.new × IsPassOf doors.now one.new }
+{
+    assert!(rt; doors.all_clear(keeper, 1) == Err(Behind { cpu: 0, seen: 0 }));
+    rests(rt, doors, zero);
+    assert!(rt; doors.all_clear(keeper, 1) == Err(Behind { cpu: 1, seen: 0 }));
+    rests(rt, doors, one);
+    assert!(rt; doors.all_clear(keeper, 1) == Ok(()));
+    assert!(rt; keeper.may_bind(0) && !keeper.may_bind(1));
+    assert!(rt; !zero.holds(0));
+}
 
 #[test]
 fn revokes_in_order_on_one_thread(rt: HostRuntime) -> Result<(), NoMemory> {
     let (doors, mut keeper, mut passes) = LiveDoors::admitted(rt.alloc(), 2, 2)?;
     let mut one = passes.pop().expect(&rt, "a pass for processor 1");
     let mut zero = passes.pop().expect(&rt, "a pass for processor 0");
-    assert!(&rt; doors.fill(&mut zero, 0) == Ok(1));
-    assert!(&rt; zero.holds(0) && !zero.holds(1));
-    doors.close_door(&mut keeper, 0);
-    assert!(&rt; doors.fill(&mut one, 0) == Err(Closed { word: 3 }));
-    assert!(&rt; doors.raise(&mut keeper) == 1);
-    assert!(&rt; !keeper.may_bind(0));
-    assert!(&rt; doors.all_clear(&mut keeper, 1) == Err(Behind { cpu: 0, seen: 0 }));
-    assert!(&rt; doors.forget(&mut zero) == 1);
-    doors.acknowledge(&mut zero);
-    assert!(&rt; doors.all_clear(&mut keeper, 1) == Err(Behind { cpu: 1, seen: 0 }));
-    assert!(&rt; doors.forget(&mut one) == 1);
-    doors.acknowledge(&mut one);
-    assert!(&rt; doors.all_clear(&mut keeper, 1) == Ok(()));
-    assert!(&rt; keeper.may_bind(0) && !keeper.may_bind(1));
-    assert!(&rt; !zero.holds(0));
+    closes_frame_0(&rt, &doors, &mut keeper, &mut zero, &mut one);
+    clears_frame_0(&rt, &doors, &mut keeper, &mut zero, &mut one);
     passes.push(zero).ok().expect(&rt, "room for a pass");
     passes.push(one).ok().expect(&rt, "room for a pass");
     let ended = doors.close(keeper, passes);
@@ -35,14 +78,26 @@ fn revokes_in_order_on_one_thread(rt: HostRuntime) -> Result<(), NoMemory> {
     Ok(())
 }
 
+// No frame can be entered, and each may be bound.
+fn all_are_unbound(doors: &LiveDoors, keeper: &Keeper, pass: &mut Pass) -> bool
+    requires keeper { IsKeeperOf doors.now keeper.now }
+    requires pass { IsPassOf doors.now pass.old }
+    requires frames { doors.now.frames ≡ 3 }
+{
+    for f in 0..3 {
+        let closed = doors.fill(pass, f) == Err(Closed { word: 1 });
+        if !closed || !keeper.may_bind(f) || pass.holds(f) {
+            return false;
+        }
+    }
+    true
+}
+
 #[test]
 fn frames_that_were_never_bound_are_closed(rt: HostRuntime) -> Result<(), NoMemory> {
     let (doors, keeper, mut passes) = LiveDoors::new(rt.alloc(), 3, 2)?;
     let mut pass = passes.pop().expect(&rt, "a pass for processor 1");
-    for f in 0..3 {
-        assert!(&rt; doors.fill(&mut pass, f) == Err(Closed { word: 1 }));
-        assert!(&rt; keeper.may_bind(f) && !pass.holds(f));
-    }
+    assert!(&rt; all_are_unbound(&doors, &keeper, &mut pass));
     Ok(())
 }
 
@@ -57,6 +112,14 @@ struct Signals {
 }
 
 impl Signals {
+    fn new() -> Signals {
+        Signals {
+            cleared: AtomicU64::new(0),
+            ended: AtomicBool::new(false),
+            violations: AtomicU64::new(0),
+        }
+    }
+
     // The keeper was told that no pass holds the frame.
     fn is_cleared(&self, f: u32) -> bool {
         u64::from(f) < self.cleared.load(Ordering::SeqCst)
@@ -113,10 +176,7 @@ fn ask(doors: &LiveDoors, keeper: &mut Keeper, stamp: u64) -> bool
 
 // Closes each door in turn, raises a stamp, and waits until all is clear.
 fn keep(doors: &LiveDoors, mut keeper: Keeper, signals: &Signals) -> Keeper
-    requires keeper { IsKeeperOf doors.now keeper }
-    requires frames { doors.now.frames ≡ 1000 }
-    requires fresh { keeper.watch.request ≡ 0 }
-    requires admitted { (f : ℕ) → f < 1000 → IsAdmitted keeper.watch f }
+    requires keeper { IsReady doors.now keeper }
     ensures { IsKeeperOf doors.now result }
 {
     for f in 0..ROUNDS {
@@ -142,10 +202,7 @@ fn run<R: Threads + Sync>(
 ) -> (Pass, Pass, Keeper)
     requires zero { IsPassOf doors.now zero }
     requires one { IsPassOf doors.now one }
-    requires keeper { IsKeeperOf doors.now keeper }
-    requires frames { doors.now.frames ≡ 1000 }
-    requires fresh { keeper.watch.request ≡ 0 }
-    requires admitted { (f : ℕ) → f < 1000 → IsAdmitted keeper.watch f }
+    requires keeper { IsReady doors.now keeper }
     ensures zero { IsPassOf doors.now result.0 }
     ensures one { IsPassOf doors.now result.1 }
     ensures keeper { IsKeeperOf doors.now result.2 }
@@ -157,8 +214,7 @@ fn run<R: Threads + Sync>(
             ensures { IsPassOf doors.entry.now result }
         { race(doors, zero, signals) },
         || -> (Pass, Keeper)
-            requires { IsPassOf doors.now one × IsKeeperOf doors.now keeper × (doors.now.frames ≡ 1000)
-                × (keeper.watch.request ≡ 0) × ((f : ℕ) → f < 1000 → IsAdmitted keeper.watch f) }
+            requires { IsPassOf doors.now one × IsReady doors.now keeper }
             ensures { IsPassOf doors.entry.now result.0 × IsKeeperOf doors.entry.now result.1 }
         { race_and_keep(rt, doors, one, keeper, signals) },
     );
@@ -173,10 +229,7 @@ fn race_and_keep<R: Threads + Sync>(
     signals: &Signals,
 ) -> (Pass, Keeper)
     requires pass { IsPassOf doors.now pass }
-    requires keeper { IsKeeperOf doors.now keeper }
-    requires frames { doors.now.frames ≡ 1000 }
-    requires fresh { keeper.watch.request ≡ 0 }
-    requires admitted { (f : ℕ) → f < 1000 → IsAdmitted keeper.watch f }
+    requires keeper { IsReady doors.now keeper }
     ensures pass { IsPassOf doors.now result.0 }
     ensures keeper { IsKeeperOf doors.now result.1 }
 {
@@ -187,8 +240,7 @@ fn race_and_keep<R: Threads + Sync>(
             ensures { IsPassOf doors.entry.now result }
         { race(doors, pass, signals) },
         || -> Keeper
-            requires { IsKeeperOf doors.now keeper × (doors.now.frames ≡ 1000) × (keeper.watch.request ≡ 0)
-                × ((f : ℕ) → f < 1000 → IsAdmitted keeper.watch f) }
+            requires { IsReady doors.now keeper }
             ensures { IsKeeperOf doors.entry.now result }
         { keep(doors, keeper, signals) },
     )
@@ -208,19 +260,20 @@ fn all_are_free(keeper: &Keeper, zero: &Pass, one: &Pass) -> bool
     true
 }
 
+// Every frame was cleared, and no pass was seen to hold a cleared one.
+fn all_were_cleared(rt: &impl Abort, signals: &Signals) {
+    assert!(rt; signals.violations.load(Ordering::SeqCst) == 0);
+    assert!(rt; signals.cleared.load(Ordering::SeqCst) == 1000);
+}
+
 #[test]
 fn no_pass_holds_what_was_cleared(rt: HostRuntime) -> Result<(), NoMemory> {
     let (doors, keeper, mut passes) = LiveDoors::admitted(rt.alloc(), ROUNDS, 2)?;
     let one = passes.pop().expect(&rt, "a pass for processor 1");
     let zero = passes.pop().expect(&rt, "a pass for processor 0");
-    let signals = Signals {
-        cleared: AtomicU64::new(0),
-        ended: AtomicBool::new(false),
-        violations: AtomicU64::new(0),
-    };
+    let signals = Signals::new();
     let (zero, one, mut keeper) = run(&rt, &doors, zero, one, keeper, &signals);
-    assert!(&rt; signals.violations.load(Ordering::SeqCst) == 0);
-    assert!(&rt; signals.cleared.load(Ordering::SeqCst) == 1000);
+    all_were_cleared(&rt, &signals);
     assert!(&rt; doors.all_clear(&mut keeper, 1000) == Ok(()));
     assert!(&rt; all_are_free(&keeper, &zero, &one));
     passes.push(zero).ok().expect(&rt, "room for a pass");

@@ -74,11 +74,11 @@ impl Gate for Tally {
 fn printed<R: Threads + Wait + Sync, G: Gate + Sync>(
     rt: &R,
     alloc: Global,
+    gate: &G,
     p: u32,
     f: u32,
     n: u32,
     seed: u32,
-    gate: &G,
 ) -> Result<String, NoMemory>
     requires cpus { (1 ≤ p) × (p ≤ 8) }
     requires frames { (4 ≤ f) × (f ≤ 64) }
@@ -91,7 +91,7 @@ fn printed<R: Threads + Wait + Sync, G: Gate + Sync>(
 
 #[test]
 fn prints_each_processors_sum_and_the_total(rt: HostRuntime) -> Result<(), NoMemory> {
-    let text = printed(&rt, rt.alloc(), 2, 4, 10, 1, &NoGate)?;
+    let text = printed(&rt, rt.alloc(), &NoGate, 2, 4, 10, 1)?;
     assert!(&rt;
         text.as_str()
             == "cpu 0 adds 10 sum 000000000042\ncpu 1 adds 10 sum 000000000042\ntotal 000000000104\n"
@@ -101,9 +101,9 @@ fn prints_each_processors_sum_and_the_total(rt: HostRuntime) -> Result<(), NoMem
 
 #[test]
 fn prints_the_least_and_the_greatest_drill(rt: HostRuntime) -> Result<(), NoMemory> {
-    let least = printed(&rt, rt.alloc(), 1, 4, 1, 0, &NoGate)?;
+    let least = printed(&rt, rt.alloc(), &NoGate, 1, 4, 1, 0)?;
     assert!(&rt; least.as_str() == "cpu 0 adds 1 sum 000000000001\ntotal 000000000001\n");
-    let greatest = printed(&rt, rt.alloc(), 8, 64, 10_000, u32::MAX, &NoGate)?;
+    let greatest = printed(&rt, rt.alloc(), &NoGate, 8, 64, 10_000, u32::MAX)?;
     assert!(&rt;
         greatest
             .as_str()
@@ -137,7 +137,7 @@ fn twenty_drills_have_one_total_and_no_more_touches_than_adds(
         let tally = Tally {
             touches: AtomicU64::new(0),
         };
-        let text = printed(&rt, rt.alloc(), 8, 64, 10_000, 5, &tally)?;
+        let text = printed(&rt, rt.alloc(), &tally, 8, 64, 10_000, 5)?;
         assert!(&rt; text.as_str().ends_with("\ntotal 000001160720\n"));
         let touches = tally.touches.load(Ordering::SeqCst);
         assert!(&rt; touches <= 80_000);

@@ -1,24 +1,16 @@
 //! Tests of the pages.
-ghost use Rattle.std.specs.Prelude.{◌≡◌, [], ◌∷◌, ◌^◌, ◌<◌, All, length, slice_index_or, None, Some, IsTrue, IfSome};
+ghost use Rattle.std.specs.Prelude.{◌≡◌, [], ◌∷◌, ◌^◌, ◌<◌, ◌≤◌, All, length, slice_index_or, None, Some, IsTrue, IfSome};
 ghost use Rattle.live_pages.specs.Touches.{place_of};
+ghost use Rattle.live_pages.specs.Turns.{current};
 ghost use Rattle.live_pages.specs.Ending.{in_order};
-ghost use Rattle.live_tests.specs.Row.{made_so, adds, reads, puts};
-ghost use Rattle.live_pages.specs.Models.{PassModel, IsPassOf, IsKeeperOf, AreAll, first_passes};
+ghost use Rattle.live_tests.specs.Row.{made_so, adds, reads, puts, IsEntered, IsSame};
+ghost use Rattle.live_doors.specs.Doors.{IsAdmitted};
+ghost use Rattle.live_pages.specs.Models.{PassModel, IsPassOf, IsKeeperOf, AreAll, first_passes, opening_holder};
 
 use live_pages::{Ended, Keeper, LivePages, NoMemory, Pass, Touch, Touched};
 use mword::{Page, Word};
 use std::alloc::Global;
-
-// Drops the entry, and lets the keeper know.
-fn rest(pages: &LivePages, pass: &mut Pass)
-    requires { IsPassOf pages.now pass.old }
-    ensures pass { IsPassOf pages.now pass.new }
-    ensures cpu { pass.new.walker.walk.cpu ≡ pass.old.walker.walk.cpu }
-    ensures made { pass.new.walker.made ≡ pass.old.walker.made }
-{
-    pages.forget(pass);
-    pages.acknowledge(pass);
-}
+use std::process::Abort;
 
 // The two passes, in order.
 fn both(mut passes: Vec<Pass>) -> Option<(Pass, Pass)>
@@ -125,36 +117,98 @@ fn close_row(
     Some(pages.close(keeper, passes))
 }
 
+// Binds frame 0 to a page of zeros, which both passes enter.
+fn binds(
+    rt: &impl Abort,
+    pages: &LivePages,
+    keeper: &mut Keeper,
+    zero: &mut Pass,
+    one: &mut Pass,
+    page: Page,
+)
+    requires keeper { IsKeeperOf pages.now keeper.old × (keeper.old.holder ≡ opening_holder 1 2) }
+    requires frame { pages.now.frames ≡ 1 }
+    requires zero { IsPassOf pages.now zero.old × (zero.old.walker.made ≡ []) × (zero.old.walker.walk.cpu ≡ 0) }
+    requires one { IsPassOf pages.now one.old × (one.old.walker.made ≡ []) × (one.old.walker.walk.cpu ≡ 1) }
+    ensures keeper { IsKeeperOf pages.now keeper.new }
+    ensures door { IsAdmitted keeper.new.holder.watch 0 × (keeper.new.holder.watch.request ≡ 0) }
+    ensures low { current keeper.new.holder.watch 0 ≤ 1 }
+    ensures zero { IsEntered pages.now zero.new 0 [] }
+    ensures one { IsEntered pages.now one.new 1 [] }
+{
+    assert!(rt; keeper.may_bind(0));
+    assert!(rt; pages.bind(keeper, 0, page).is_zero());
+    assert!(rt; enters_first_binding(pages, zero));
+    assert!(rt; enters_first_binding(pages, one));
+}
+
+// Touches the page by both passes, the last time after its door was closed.
+fn touches(rt: &impl Abort, pages: &LivePages, keeper: &mut Keeper, zero: &mut Pass, one: &mut Pass)
+    requires keeper { IsKeeperOf pages.now keeper.old × (pages.now.frames ≡ 1) }
+    requires door { IsAdmitted keeper.old.holder.watch 0 × (keeper.old.holder.watch.request ≡ 0) }
+    requires low { current keeper.old.holder.watch 0 ≤ 1 }
+    requires zero { IsEntered pages.now zero.old 0 [] }
+    requires one { IsEntered pages.now one.old 1 [] }
+    ensures keeper { IsKeeperOf pages.now keeper.new × (keeper.new.holder.watch.request ≡ 0) }
+    ensures low { current keeper.new.holder.watch 0 ≤ 1 }
+    ensures zero { IsEntered pages.now zero.new 0 (puts ∷ adds ∷ []) }
+    ensures one { IsEntered pages.now one.new 1 (reads ∷ []) }
+{
+    let five = Word::new(5).expect(rt, "a word");
+    let seven = Word::new(7).expect(rt, "a word");
+    let sum = answered(0, five);
+    assert!(rt; touches_as_expected(pages, zero, Touch::Add(3, five), sum));
+    let read = answered(1, five);
+    assert!(rt; touches_as_expected(pages, one, Touch::Get(3), read));
+    pages.close_door(keeper, 0);
+    let put = answered(2, seven);
+    assert!(rt; touches_as_expected(pages, zero, Touch::Put(3, seven), put));
+}
+
+// The page that was taken out has the last word that was put, and nothing else.
+fn has_seven_alone(rt: &impl Abort, used: &mut Page) {
+    let seven = Word::new(7).expect(rt, "a word");
+    assert!(rt; used.get(3) == seven);
+    used.set(3, Word::ZERO);
+    assert!(rt; used.is_zero());
+}
+
+// Clears both passes, and binds the frame anew, which one of them enters.
+fn binds_anew(
+    rt: &impl Abort,
+    pages: &LivePages,
+    keeper: &mut Keeper,
+    zero: &mut Pass,
+    one: &mut Pass,
+    next: Page,
+)
+    requires keeper { IsKeeperOf pages.now keeper.old × (pages.now.frames ≡ 1) }
+    requires fresh { keeper.old.holder.watch.request ≡ 0 }
+    requires low { current keeper.old.holder.watch 0 ≤ 1 }
+    requires passes { IsPassOf pages.now zero.old × IsPassOf pages.now one.old }
+    ensures keeper { IsKeeperOf pages.now keeper.new }
+    ensures zero { IsSame pages.now zero.old zero.new }
+    ensures one { IsSame pages.now one.old one.new }
+{
+    assert!(rt; pages.raise(keeper) == 1);
+    assert!(rt; !keeper.may_bind(0));
+    assert!(rt; pages.rest(zero) == 1);
+    assert!(rt; pages.rest(one) == 1);
+    assert!(rt; pages.all_clear(keeper, 1) == Ok(()));
+    assert!(rt; keeper.may_bind(0));
+    has_seven_alone(rt, &mut pages.bind(keeper, 0, next));
+    assert!(rt; pages.fill(zero, 0) == Ok(2));
+}
+
 #[test]
 fn binds_touches_and_binds_anew(rt: HostRuntime) -> Result<(), NoMemory> {
-    let five = Word::new(5).expect(&rt, "a word");
-    let seven = Word::new(7).expect(&rt, "a word");
+    let page = Page::zero(rt.alloc())?;
+    let next = Page::zero(rt.alloc())?;
     let (pages, mut keeper, passes) = LivePages::new(rt.alloc(), 1, 2)?;
     let (mut zero, mut one) = first_two(&pages, passes).expect(&rt, "two passes");
-    let page = Page::zero(rt.alloc()).ok().expect(&rt, "a page");
-    let next = Page::zero(rt.alloc()).ok().expect(&rt, "a page");
-    assert!(&rt; keeper.may_bind(0));
-    assert!(&rt; pages.bind(&mut keeper, 0, page).is_zero());
-    assert!(&rt; enters_first_binding(&pages, &mut zero));
-    assert!(&rt; enters_first_binding(&pages, &mut one));
-    let sum = answered(0, five);
-    assert!(&rt; touches_as_expected(&pages, &mut zero, Touch::Add(3, five), sum));
-    let read = answered(1, five);
-    assert!(&rt; touches_as_expected(&pages, &mut one, Touch::Get(3), read));
-    pages.close_door(&mut keeper, 0);
-    let put = answered(2, seven);
-    assert!(&rt; touches_as_expected(&pages, &mut zero, Touch::Put(3, seven), put));
-    assert!(&rt; pages.raise(&mut keeper) == 1);
-    assert!(&rt; !keeper.may_bind(0));
-    rest(&pages, &mut zero);
-    rest(&pages, &mut one);
-    assert!(&rt; pages.all_clear(&mut keeper, 1) == Ok(()));
-    assert!(&rt; keeper.may_bind(0));
-    let mut used = pages.bind(&mut keeper, 0, next);
-    assert!(&rt; used.get(3) == seven);
-    used.set(3, Word::ZERO);
-    assert!(&rt; used.is_zero());
-    assert!(&rt; pages.fill(&mut zero, 0) == Ok(2));
+    binds(&rt, &pages, &mut keeper, &mut zero, &mut one, page);
+    touches(&rt, &pages, &mut keeper, &mut zero, &mut one);
+    binds_anew(&rt, &pages, &mut keeper, &mut zero, &mut one, next);
     let ended = close_row(rt.alloc(), pages, keeper, zero, one).expect(&rt, "a row of two");
     assert!(&rt; ended.pages.len() == 1);
     assert!(&rt; ended.pages[0].is_zero());
