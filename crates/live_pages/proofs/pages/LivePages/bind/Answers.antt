@@ -1,13 +1,10 @@
-use Rattle.std.proofs.Common.{rules, ◌≡◌, ◌+◌, ◌*◌, ◌/◌, [], ◌∷◌, Some, sym, ap, refl, ◌∙◌, subst, set}
+use Rattle.std.proofs.Common.{rules, ◌≡◌, ◌+◌, ◌*◌, ◌/◌, [], Some, sym, ap, refl, ◌∙◌, subst, set}
 use Rattle.std.proofs.lemmas.List.{length-set}
 use Rattle.live_doors.specs.Doors.{HasNoted, MayBind}
 use Rattle.live_doors.specs.Laws.{word_of}
-use Rattle.live_pages.specs.declared.rule.Held.{Held}
-use Rattle.live_pages.specs.declared.views.Hand.TheVariants.{Has}
 use Rattle.live_pages.specs.declared.views.View.TheVariants.{Keeping}
-use Rattle.live_pages.specs.Turns.{bound_anew, current, holder_of}
+use Rattle.live_pages.specs.Turns.{holder_of}
 use Rattle.live_pages.specs.Models.{rebound}
-use Rattle.live_pages.proofs.Turning.{with_hand}
 use Rattle.live_pages.proofs.Ends.{may_bind_is_free}
 use Rattle.live_pages.proofs.Calls.{told_with, swapped, keeper_takes_at, binds_in_hand}
 use Rattle.live_pages.proofs.Calls.{keeper_gives_in_hand, bound_now, rebound_now, keeper_fits, keeper_stays_of}

@@ -1,4 +1,4 @@
-use Rattle.std.proofs.Common.{rules, ◌≡◌, [], ◌∷◌, Some, sym, ap, refl, ◌∙◌}
+use Rattle.std.proofs.Common.{rules, sym, ap, ◌∙◌}
 use Rattle.live_pages.specs.declared.rule.Held.{Held}
 use Rattle.live_pages.proofs.Calls.{slot_in_hand, none_is, exchanged_twice, found_in_slot, same_held, with_slots}
 use Rattle.live_pages.proofs.pages.LivePages.swap_page.Goals as goal

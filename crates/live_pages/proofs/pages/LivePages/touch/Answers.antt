@@ -1,4 +1,4 @@
-use Rattle.std.proofs.Common.{rules, ◌≡◌, ◌≢◌, ◌^◌, ◌<◌, length, [], ◌∷◌, Some, None, sym, ap, refl, ◌∙◌, subst, get_or}
+use Rattle.std.proofs.Common.{rules, ◌≡◌, ◌^◌, ◌<◌, length, [], ◌∷◌, Some, None, sym, ap, refl, ◌∙◌, subst, get_or}
 use Rattle.live_doors.specs.Doors.{having_read}
 use Rattle.live_pages.specs.declared.rule.Held.{Held}
 use Rattle.live_pages.specs.declared.views.View.TheVariants.{Passing}
@@ -19,10 +19,10 @@ has_turn c free = let got = (c.compare_exchange-word.ensures.2 c.args.f (search 
 -- and after the touch it has none
 made : (c : goal.After-touch_in_hand) → c.compare_exchange-word.result ≡ 0
     → c.touch_in_hand.new.seat.me ≡ (
-  Passing (having_touched c.touch_in_hand.result.ticket c.args.f c.args.t c.touch_in_hand.result.word
-      (walker_of c.pass.inside.seat.me.0)),
-  [],
-)
+      Passing (having_touched c.touch_in_hand.result.ticket c.args.f c.args.t c.touch_in_hand.result.word
+          (walker_of c.pass.inside.seat.me.0)),
+      [],
+    )
 made c free = c.touch_in_hand.ensures.touched
     ∙ ap (λ x. (
       Passing (touched_in_hand c.touch_in_hand.result.ticket c.args.f c.args.t c.touch_in_hand.result.word
@@ -57,7 +57,7 @@ pub returns-then-word-ne0-clause-busy : goal.returns-then-word-ne0-clause-busy
 returns-then-word-ne0-clause-busy c = (
   c.if-word-ne0.true,
   ap (λ x. walker_of x.0) (told_alone c.pass.invariant.seat
-    ((c.compare_exchange-word.ensures.2 c.args.f (search rules)).1 c.if-word-ne0.true))
+      ((c.compare_exchange-word.ensures.2 c.args.f (search rules)).1 c.if-word-ne0.true))
       ∙ ap (λ v. walking (having_read c.compare_exchange-word.result) v.walker) c.pass.view_is,
 )
 

@@ -40,10 +40,10 @@ store-requires c =
 -- what is known of the seat with the touched page in hand, and once its ticket was drawn
 drew : (c : goal.After-store) → AreBelow c.fetch_add-ticket.result (walker_of c.args.seat.now.me.0).made
     × (c.fetch_add-ticket.new.seat.me ≡ (
-  Passing (having_made c.fetch_add-ticket.result c.args.f c.touch-word.new.self.touch c.touch-word.new.self.word
-      c.touch-word.new.self.page (walker_of c.args.seat.now.me.0)),
-  (c.args.f, Some c.touch-word.new.self) ∷ [],
-))
+      Passing (having_made c.fetch_add-ticket.result c.args.f c.touch-word.new.self.touch c.touch-word.new.self.word
+          c.touch-word.new.self.page (walker_of c.args.seat.now.me.0)),
+      (c.args.f, Some c.touch-word.new.self) ∷ [],
+    ))
 drew c =
     let there = exchanged_twice c.requires.hand.1 c.exchange.ensures.3 c.exchange-2.ensures.3 in
     let told = c.fetch_add-ticket.ensures.2 c.args.f c.touch-word.new.self [] (ap (λ x. x.1) there) in
