@@ -3,9 +3,11 @@ pub mod CountLaws
 pub mod CutLaws
 pub mod DropLaws
 pub mod FieldLaws
+pub mod KeyLaws
 pub mod NodeLaws
 pub mod NumberLaws
 pub mod PageLaws
+pub mod PathRefusals
 pub mod PlaceLaws
 pub mod QuotaLaws
 pub mod RemoveLaws

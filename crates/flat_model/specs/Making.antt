@@ -41,19 +41,23 @@ make_reply p s path volume directory = make_of p s volume directory (parts_of pa
 abbrev pub owner_row : Who → Row
 owner_row who = record { person = Some who.person; project = Some who.project; mode = mode.Both }
 
--- a new branch of a directory, without quota; no page of it is stored
+-- a new branch of a directory, without quota
+abbrev pub new_branch : ℕ → ℕ → List ℕ → Bool → ℕ → ℕ → List Row → Node
+new_branch uid superior name directory volume pages rows = record {
+  uid = uid;
+  superior = Some superior;
+  name = name;
+  directory = directory;
+  volume = volume;
+  pages = pages;
+  quota = 0;
+  rows = rows;
+}
+
+-- such a branch is there; no page of it is stored
 abbrev pub made_in : Store → ℕ → Bool → ℕ → List Row → List ℕ → Node → Store
 made_in s volume directory pages rows name d = record s {
-  nodes = record {
-    uid = s.next;
-    superior = Some d.uid;
-    name = name;
-    directory = directory;
-    volume = volume;
-    pages = pages;
-    quota = 0;
-    rows = rows;
-  } ∷ s.nodes;
+  nodes = new_branch s.next d.uid name directory volume pages rows ∷ s.nodes;
   next = s.next + 1;
 }
 

@@ -1,14 +1,14 @@
 -- Nodes are changed, but for where they lie and what they are.
-use Rattle.std.proofs.Common.{◌≡◌, ◌≢◌, ℕ, ◌+◌, ◌-◌, ◌<◌, Bool, true, false, cond, eqb, not, List, [], ◌∷◌, map, Some}
+use Rattle.std.proofs.Common.{◌≡◌, ◌≢◌, ℕ, ◌+◌, ◌-◌, ◌<◌, Bool, true, false, cond, eqb, not, List, [], ◌∷◌, map}
 use Rattle.std.proofs.Common.{refl, sym, ap, subst, ◌∙◌, arith, inl, inr}
 use Rattle.std.specs.Prelude.{count_by, nat_le}
 use Rattle.std.proofs.lemmas.Bool.{cases_Bool, cases_eq}
 use Rattle.std.proofs.lemmas.Bool.Decides.{nat_tests}
-use Rattle.accounts.specs.Maps.{Changes, rows_in}
+use Rattle.accounts.specs.Maps.{Changes}
 use Rattle.script.specs.Plans.{Plan}
 use Rattle.tree_model.specs.Access.{Row}
 use Rattle.tree_model.specs.Quotas.{with_quota_of, with_moved}
-use Rattle.tree_model.specs.Tree.{Node, entries_on, has_directory, node_in, taken_on, volume_in, with_node}
+use Rattle.tree_model.specs.Tree.{Node, entries_on, has_directory, taken_on, volume_in, with_node}
 use Rattle.tree_model.specs.Trees.{has_segment}
 use Rattle.flat_model.specs.Pages.{is_stored, is_stored_from}
 use Rattle.flat_model.specs.Store.{Store, records_of, entries_of}
@@ -104,13 +104,6 @@ pub flat_alike : (ns ms : List Node) → AreAlike ns ms → ((u : ℕ) → pages
 flat_alike ns ms alike pages flat u is = pages u ∙ flat u (sym (alike.directory u) ∙ is)
 
 -- ---- rows
-
-pub rows_found : (ns : List Node) (u : ℕ) (n : Node) → node_in ns u ≡ Some n → rows_in ns u ≡ n.rows
-rows_found [] u n e = cc
-rows_found (m ∷ ns) u n e = elim (cases_Bool (eqb m.uid u)) [
-  | inl is ↦ (let z : Some m ≡ Some n = rw is at e in let same : m ≡ n = cc in rw is (ap (λ (x : Node). x.rows) same))
-  | inr isnt ↦ rw isnt (rows_found ns u n (rw isnt at e))
-]
 
 pub keeps_rows : (change : List Row → List Row) → Keeps (λ n. record n { rows = change n.rows })
 keeps_rows change = record { uid = λ n. refl; volume = λ n. refl; kind = λ n. refl }

@@ -16,11 +16,18 @@ use Rattle.flat_model.proofs.DropLaws.{none_missing}
 use Rattle.flat_store.specs.Shown.{Gauge, gauge_at, drained, Paged, page_at, word_in, Puts, Held, pages_in, HoldPages}
 use Rattle.flat_model.specs.Cuts.{without_pages}
 use Rattle.flat_store.specs.Shown.{AreInside, Holds}
+use Rattle.tree_commands.specs.Shown.{ShowsTree}
 use Rattle.flat_store.proofs.GaugeLaws.{counts_less}
 
 -- the same holdings, as a function has them inside
 pub held_inside : (p : Plan) (s : Store) (inside now : Held) → inside ≡ now → Holds p now s → Holds p inside s
 held_inside p s inside now is h = subst (λ (x : Held). Holds p x s) (sym is) h
+
+-- the tree with its accounts, as holdings have it inside
+pub tree_inside : (p : Plan) (s : Store) (inside now : Held) → inside ≡ now → Holds p now s
+    → ShowsTree s inside.accounts
+tree_inside p s inside now is h = (let holds = held_inside p s inside now is h in
+    record { nodes = holds.nodes; next = holds.next; counts = holds.counts })
 
 pub stored_held : (p : Plan) (s : Store) (h : Held) (u q : ℕ) → Holds p h s → is_some (page_at h.pages u q) ≡ true
     → is_stored s.stored u q ≡ true

@@ -7,13 +7,11 @@ pub mod EffectLaws
 pub mod FollowLaws
 pub mod GaugeLaws
 pub mod MakeLaws
-pub mod MoveReplies
 pub mod NodeLaws
 pub mod NumberLaws
 pub mod OkLaws
 pub mod OtherLaws
 pub mod PagedLaws
-pub mod PathLaws
 pub mod PutLaws
 pub mod ReachLaws
 pub mod ReferLaws

@@ -1,26 +1,12 @@
 -- Pages in a map by uid and number.
-use Rattle.std.proofs.Common.{◌≡◌, ℕ, Bool, cond, eqb, ◌&&◌, List, Option, Some, None, IfSome, IsSome, IsTrue, set}
+use Rattle.std.proofs.Common.{◌≡◌, ℕ, Bool, cond, List, Option, Some, None, IfSome, IsSome, IsTrue, set}
 use Rattle.std.proofs.Common.{replicate, ◌↔◌, Bor, MutBor, refl, sym, ap, subst, ◌∙◌}
-use Rattle.std.specs.Ordering.{nat_cmp, ordering_then, is_eq}
-use Rattle.std.specs.Cmp.{unsigned_tied}
 use Rattle.std.specs.Option.{option_copied, option_copied_mut}
 use Rattle.std.specs.Map.{lookup}
-use Rattle.std.specs.declared.cmp.Ordering.{Ordering}
-use Rattle.std.specs.declared.cmp.Ordering.TheVariants.{Less, Equal, Greater}
 use Rattle.mword.specs.Words.{AreZero}
 use Rattle.flat_model.specs.Cuts.{cut_at}
+use Rattle.flat_model.proofs.KeyLaws.{key_is}
 use Rattle.flat_store.specs.Shown.{Paged, is_key, page_at, words_in, Puts, Cuts}
-
-then_eq : (a b : Ordering) → is_eq (ordering_then a b) ≡ (is_eq a && is_eq b)
-then_eq Less b = refl
-then_eq Equal b = refl
-then_eq Greater b = refl
-
-pub key_is : (u q v r : ℕ) → is_key u q (v, r) ≡ (eqb u v && eqb q r)
-key_is u q v r =
-    then_eq (nat_cmp u v) (nat_cmp q r)
-    ∙ ap (λ (a : Bool). a && is_eq (nat_cmp q r)) (unsigned_tied u v)
-    ∙ ap (λ (b : Bool). eqb u v && b) (unsigned_tied q r)
 
 pub puts : (old new : Paged) (u q : ℕ) (w : Option (List ℕ))
     → ((y : ℕ × ℕ) → lookup (is_key y.0 y.1) new ≡ cond (is_key u q y) w (lookup (is_key y.0 y.1) old))

@@ -9,6 +9,8 @@ use Rattle.book.specs.declared.replies.Reply.{Reply}
 use Rattle.book.specs.declared.replies.Reply.TheVariants as reply
 use Rattle.known_segs.specs.Known.{number_for, uid_of, with_number, without_number}
 use Rattle.tree_model.specs.Tree.{Node, node_in}
+use Rattle.accounts.specs.Maps.{AccountMaps}
+use Rattle.tree_commands.specs.Shown.{ShowsTree}
 use Rattle.flat_model.specs.Branches.{segment_at}
 use Rattle.flat_model.specs.Naming.{after_initiate, after_terminate, initiated, initiate_of, initiate_reply}
 use Rattle.flat_model.specs.Naming.{known_or_full, terminate_reply}
@@ -26,23 +28,29 @@ module _ (p : Plan) (k : Kept) (s : Store) (h : IsShown p k s) where
       → known_uid s process number ≡ o
   uid_known process number o is = ap (λ (kst : List (Option ℕ)). uid_of kst number) (numbers_are process) ∙ sym is
 
-  segment_is : (path : List (List ℕ)) (r : Result Node Reply) → segment_at k.held.accounts.nodes path ≡ r
-      → segment_at s.nodes path ≡ r
-  segment_is path r e = ap (λ (ns : List Node). segment_at ns path) h.holds.nodes ∙ e
+  -- the tree that is held
+  pub tree_shown : (tree : AccountMaps) → tree ≡ k.held.accounts → ShowsTree s tree
+  tree_shown tree same = subst (λ (a : AccountMaps). ShowsTree s a) (sym same)
+      (record { nodes = h.holds.nodes; next = h.holds.next; counts = h.holds.counts })
 
-  pub initiate_refused : (process : ℕ) (path : List (List ℕ)) (r : Reply)
-      → segment_at k.held.accounts.nodes path ≡ Err r → r ≡ initiate_reply s process path
+  pub segment_is : (tree : AccountMaps) → tree ≡ k.held.accounts → (path : List (List ℕ)) (r : Result Node Reply)
+      → segment_at tree.nodes path ≡ r → segment_at s.nodes path ≡ r
+  segment_is tree same path r e = ap (λ (ns : List Node). segment_at ns path) (tree_shown tree same).nodes ∙ e
+
+  pub initiate_refused : (tree : AccountMaps) → tree ≡ k.held.accounts → (process : ℕ) (path : List (List ℕ))
+      (r : Reply) → segment_at tree.nodes path ≡ Err r → r ≡ initiate_reply s process path
   unfolding initiate_reply
-  initiate_refused process path r e = sym (ap (initiate_of (numbers_of s process)) (segment_is path (Err r) e))
+  initiate_refused tree same process path r e =
+      sym (ap (initiate_of (numbers_of s process)) (segment_is tree same path (Err r) e))
 
-  pub initiate_told : (process : ℕ) (path : List (List ℕ)) (n : Node) (o : Option ℕ)
-      → segment_at k.held.accounts.nodes path ≡ Ok n
+  pub initiate_told : (tree : AccountMaps) → tree ≡ k.held.accounts → (process : ℕ) (path : List (List ℕ)) (n : Node)
+      (o : Option ℕ) → segment_at tree.nodes path ≡ Ok n
       → o ≡ number_for (numbers_at k.known process) n.uid
       → known_or_full o ≡ initiate_reply s process path
   unfolding initiate_reply
-  initiate_told process path n o e is =
+  initiate_told tree same process path n o e is =
       ap known_or_full (is ∙ ap (λ (kst : List (Option ℕ)). number_for kst n.uid) (sym (numbers_are process)))
-      ∙ sym (ap (initiate_of (numbers_of s process)) (segment_is path (Ok n) e))
+      ∙ sym (ap (initiate_of (numbers_of s process)) (segment_is tree same path (Ok n) e))
 
   pub terminate_told : (process number : ℕ) (o : Option ℕ) → o ≡ uid_of (numbers_at k.known process) number
       → cond (is_some o) reply.Done reply.Unknown ≡ terminate_reply s process number

@@ -14,8 +14,7 @@ use Rattle.script.specs.declared.commands.RefKind.{RefKind}
 use Rattle.book.specs.declared.replies.Reply.{Reply}
 use Rattle.tree_model.specs.Tree.{Node, pool_of, has_directory, node_in, quota_in, volume_in, taken_on}
 use Rattle.tree_model.specs.Tree.{entries_on}
-use Rattle.dir_tree.specs.declared.node.Node.{Node as Branch}
-use Rattle.dir_tree.specs.Nodes.{as_term, has_inferior}
+use Rattle.dir_tree.specs.Nodes.{has_inferior}
 use Rattle.tree_model.specs.Trees.{has_segment}
 use Rattle.flat_model.specs.Pages.{Words, is_page, is_stored, IsOnce}
 use Rattle.flat_model.specs.Cuts.{cut_at}
@@ -126,14 +125,6 @@ has_room p s uid = not (is_used_up s uid) && not (is_volume_full p s (volume_in 
 -- a word may be written: it is 0, or its page is stored, or there is room for one
 abbrev pub may_write : Plan → Store → ℕ → ℕ → ℕ → Bool
 may_write p s uid offset w = w == 0 || (is_stored s.stored uid (offset / 1024) || has_room p s uid)
-
--- a path leads to this node
-abbrev pub IsFound : List Node → Result Node Reply → Branch → Type 0
-IsFound nodes found n = found ≡ Ok (as_term (quota_in nodes) n)
-
--- a node is in the tree
-abbrev pub IsThere : List Node → Branch → Type 0
-IsThere nodes n = node_in nodes n.uid ≡ Some (as_term (quota_in nodes) n)
 
 -- a directory or a segment other than the root that has no inferior and no quota
 pub record IsDeletable (nodes : List Node) (uid : ℕ) : Type 0 where

@@ -1,4 +1,4 @@
-ghost use Rattle.std.specs.Prelude.{◌≡◌, IfOk, None, map, replicate};
+ghost use Rattle.std.specs.Prelude.{◌≡◌, IfOk, None, OnOk, map, replicate};
 ghost use Rattle.flat_model.specs.Legal.{IsLegal, store_after};
 ghost use Rattle.flat_model.specs.Store.{at_first, boot};
 ghost use Rattle.flat_store.specs.Shown.{Holds, Shows, entries_gauge, records_gauge};
@@ -68,10 +68,10 @@ impl Holdings {
         ensures { IfOk result (λ holdings. Holds script.now holdings (boot script.now)) }
     {
         let _processes = script.processes();
-        let accounts = Accounts::new(alloc, 0, 0, script.quota())?;
         let records = records_gauges(alloc, script.volumes())?;
         let mut entries = entries_gauges(alloc, script.volumes())?;
         fill_at(&mut entries, 0);
+        let accounts = Accounts::new(alloc, 0, 0, script.quota())?;
         let pages = Pages::new(alloc);
         Ok(Holdings {
             accounts,
@@ -91,14 +91,27 @@ impl FlatStore {
         ensures { IfOk result (λ f. Shows script.now f (boot script.now)) }
     {
         let processes = script.processes();
-        let holdings = Holdings::boot(alloc, script)?;
         let known = knowing_nothing(alloc, processes)?;
         let processes = at_first(alloc, processes)?;
+        let holdings = Holdings::boot(alloc, script)?;
         Ok(FlatStore {
             holdings,
             known,
             processes,
         })
+    }
+
+    /// Goes on from the boot to the flat store after a book, which must be legal.
+    fn follow_all(&mut self, b: &Book) -> Result<(), NoMemory>
+        requires legal { IsLegal b.now.script b.now.entries }
+        requires boot { Shows b.now.script self.old (boot b.now.script) }
+        ensures { OnOk result (Shows b.now.script self.new (store_after b.now.script b.now.entries)) }
+    {
+        let script = b.script();
+        for e in b.entries() {
+            self.follow(script, *e)?;
+        }
+        Ok(())
     }
 
     /// The flat store after a book, which must be legal. It takes time for each entry, and memory for the stored pages.
@@ -109,11 +122,8 @@ impl FlatStore {
         requires { IsLegal b.now.script b.now.entries }
         ensures { IfOk result (λ f. Shows b.now.script f (store_after b.now.script b.now.entries)) }
     {
-        let script = b.script();
-        let mut store = FlatStore::boot(alloc, script)?;
-        for e in b.entries() {
-            store.follow(script, *e)?;
-        }
+        let mut store = FlatStore::boot(alloc, b.script())?;
+        store.follow_all(b)?;
         Ok(store)
     }
 }

@@ -1,6 +1,5 @@
 ghost use Rattle.std.specs.Prelude.{◌≡◌, ◌==◌, nat_le};
 ghost use Rattle.script.specs.Plans.{Plan};
-ghost use Rattle.tree_model.specs.Tree.{volume_in};
 ghost use Rattle.flat_model.specs.Store.{Store};
 ghost use Rattle.flat_model.specs.Cuts.{without_pages};
 ghost use Rattle.flat_store.specs.Shown.{Holds, pages_in};
@@ -9,6 +8,7 @@ use crate::gauges::{Gauge, drain_at};
 use crate::pages::Pages;
 use accounts::Accounts;
 use std::marker::Model;
+use tree_commands::volume_of;
 
 /// The tree with its accounts, the stored pages, and for each volume its records and its VTOC entries. They always show
 /// some flat store.
@@ -51,18 +51,14 @@ pub(crate) fn pages_of(accounts: &Accounts, uid: u32) -> u32
     }
 }
 
-#[tactic(auto, using(flat_model::proofs::NodeLaws::volume_found, flat_model::proofs::NodeLaws::no_volume))]
-/// The volume of a node; 0 where it isn't there.
-pub(crate) fn volume_of(accounts: &Accounts, uid: u32) -> u32
-    ensures { result ≡ volume_in accounts.now.nodes uid }
-{
-    match accounts.node(uid) {
-        Some(node) => node.volume,
-        None => 0,
-    }
-}
-
 impl Holdings {
+    /// The tree with its accounts.
+    pub(crate) fn tree(&self) -> &Accounts
+        ensures { result.now ≡ self.now.accounts }
+    {
+        &self.accounts
+    }
+
     /// A page of a segment is stored no more, if it was, and its words are 0.
     pub(crate) fn drop_page(&mut self, uid: u32, page: u32)
         ensures { (p : Plan) (s : Store) → Holds p self.old s

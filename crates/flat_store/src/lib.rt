@@ -10,7 +10,6 @@ mod looks;
 mod making;
 mod numbers;
 mod pages;
-mod paths;
 mod progress;
 mod references;
 mod releases;
@@ -20,4 +19,4 @@ mod sizes;
 mod store;
 
 pub use no_memory::NoMemory;
-pub use store::FlatStore;
+pub use store::{FlatStore, command_at};

@@ -20,6 +20,7 @@ use book::Reply;
 use mnames::Path;
 use mword::Word;
 use script::Command;
+use tree_commands::{branch_at, node_at, segment_at};
 
 impl FlatStore {
     /// The word at an offset, in words, of the segment of a uid; 0 where none was written.
@@ -128,7 +129,7 @@ impl FlatStore {
         ensures { (p : Plan) (store : Store) → Shows p self.now store
             → result ≡ uid_at (segment_at store.nodes path.now) }
     {
-        match self.holdings.segment_at(path) {
+        match segment_at(self.holdings.tree(), path) {
             Ok(node) => Some(node.uid),
             Err(_) => None,
         }
@@ -139,7 +140,7 @@ impl FlatStore {
         ensures { (p : Plan) (store : Store) → Shows p self.now store
             → result ≡ uid_at (branch_at store.nodes path.now) }
     {
-        match self.holdings.branch_at(path) {
+        match branch_at(self.holdings.tree(), path) {
             Ok(node) => Some(node.uid),
             Err(_) => None,
         }
@@ -149,7 +150,7 @@ impl FlatStore {
     pub fn node_at(&self, path: &Path) -> Option<u32>
         ensures { (p : Plan) (store : Store) → Shows p self.now store → result ≡ uid_at (node_at store.nodes path.now) }
     {
-        match self.holdings.node_at(path) {
+        match node_at(self.holdings.tree(), path) {
             Ok(node) => Some(node.uid),
             Err(_) => None,
         }

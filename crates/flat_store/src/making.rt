@@ -11,103 +11,23 @@ ghost use Rattle.flat_store.specs.Shown.{Holds, IsDeletable, page_at};
 ghost use Rattle.dir_tree.specs.Nodes.{has_inferior};
 
 use crate::gauges::{drain_at, fill_at, is_full_at};
-use crate::holdings::{Holdings, volume_of};
+use crate::holdings::Holdings;
 use acl::Acl;
 use book::Reply;
-use dir_tree::{AddFault, NewNode, Node};
-use mnames::{Name, Path};
+use dir_tree::NewNode;
+use mnames::Path;
+use tree_commands::{branch_at, make_reply, node_at, quota_of, volume_of};
 
 /// More uids than a tree ever gives: no script has so many commands.
 const UIDS: u32 = 1 << 31;
 
 impl Holdings {
-    /// What the making of a directory or a segment in a directory is answered.
-    fn make_in(&self, superior: u32, name: &Name, volume: u32, dir: bool) -> Reply
-        requires { has_directory self.now.accounts.nodes superior ≡ true }
-        ensures { (p : Plan) (s : Store) (d : Term) → Holds p self.now s → d.uid ≡ superior
-            → result ≡ make_in p s volume dir name.now d }
-    {
-        match self.accounts.may_add(superior, name, dir) {
-            Ok(()) if is_full_at(&self.entries, volume) => Reply::NoEntry,
-            Ok(()) => Reply::Made(self.accounts.next_uid()),
-            Err(AddFault::Exists) => Reply::Exists,
-            Err(AddFault::Deep) => Reply::Deep,
-            Err(AddFault::Room) => Reply::Room,
-        }
-    }
-
     /// What the making of a directory or a segment is answered.
     pub(crate) fn make_reply(&self, path: &Path, volume: u32, dir: bool) -> Reply
         ensures { (p : Plan) (s : Store) → Holds p self.now s → result ≡ make_reply p s path.now volume dir }
     {
-        let Some((above, name)) = path.split_last() else {
-            return Reply::Exists;
-        };
-        match self.node_at(&above) {
-            Ok(node) => {
-                if node.dir {
-                    self.make_in(node.uid, name, volume, dir)
-                } else {
-                    Reply::NotDir
-                }
-            }
-            Err(reply) => reply,
-        }
-    }
-
-    /// The quota of a node; 0 of a segment.
-    fn quota_of(&self, node: &Node) -> u32
-        requires directory { has_directory self.now.accounts.nodes node.now.uid ≡ node.now.dir }
-        requires segment { has_segment self.now.accounts.nodes node.now.uid ≡ not node.now.dir }
-        ensures { result ≡ quota_in self.now.accounts.nodes node.now.uid }
-    {
-        if node.dir {
-            self.accounts.quota(node.uid)
-        } else {
-            let _stored = self.accounts.stored(node.uid);
-            0
-        }
-    }
-
-    /// What the deletion of a directory or a segment is answered.
-    pub(crate) fn delete_reply(&self, path: &Path) -> Reply
-        ensures { (p : Plan) (s : Store) → Holds p self.now s → result ≡ delete_reply s path.now }
-    {
-        let node = match self.branch_at(path) {
-            Ok(node) => node,
-            Err(reply) => return reply,
-        };
-        if self.accounts.may_remove(node.uid).is_err() {
-            Reply::NotEmpty
-        } else if self.quota_of(node) == 0 {
-            Reply::Done
-        } else {
-            Reply::HasQuota
-        }
-    }
-
-    /// What is told of a directory or a segment.
-    pub(crate) fn status_reply(&self, path: &Path) -> Reply
-        ensures { (p : Plan) (s : Store) → Holds p self.now s → result ≡ status_reply s path.now }
-    {
-        let node = match self.node_at(path) {
-            Ok(node) => node,
-            Err(reply) => return reply,
-        };
-        let uid = node.uid;
-        if node.dir {
-            let quota = self.accounts.quota(uid);
-            let used = self.accounts.used(uid);
-            Reply::DirIs { uid, quota, used }
-        } else {
-            let length = node.length;
-            let stored = self.accounts.stored(uid);
-            Reply::SegIs {
-                uid,
-                length,
-                stored,
-            }
-        }
+        let full = is_full_at(&self.entries, volume);
+        make_reply(&self.accounts, path, dir, full)
     }
 
     /// Adds a branch to a directory, unless that is refused.
@@ -137,7 +57,7 @@ impl Holdings {
         let Some((above, name)) = path.split_last() else {
             return;
         };
-        let (superior, is_directory) = match self.node_at(&above) {
+        let (superior, is_directory) = match node_at(&self.accounts, &above) {
             Ok(node) => (node.uid, node.dir),
             Err(_) => return,
         };
@@ -176,14 +96,14 @@ impl Holdings {
         ensures effect { (s : Store) → s.nodes ≡ self.now.accounts.nodes
             → takes_effect (delete_reply s path.now) ≡ true → after_delete s path.now ≡ without_branch s result }
     {
-        let node = match self.branch_at(path) {
+        let node = match branch_at(&self.accounts, path) {
             Ok(node) => node,
             Err(_) => return None,
         };
         if self.accounts.may_remove(node.uid).is_err() {
             return None;
         }
-        if self.quota_of(node) != 0 {
+        if quota_of(&self.accounts, node) != 0 {
             return None;
         }
         Some(node.uid)

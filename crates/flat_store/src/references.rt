@@ -11,11 +11,12 @@ ghost use Rattle.flat_store.specs.Shown.{Holds, has_room, may_write, page_at, pa
 
 use crate::NoMemory;
 use crate::gauges::{fill_at, is_full_at};
-use crate::holdings::{Holdings, pages_of, volume_of};
+use crate::holdings::{Holdings, pages_of};
 use book::Reply;
 use mnames::Who;
 use mword::{Page, Word};
 use script::RefKind;
+use tree_commands::volume_of;
 
 /// What a reference is answered that isn't refused, where this word stood before.
 fn word_reply(old: Word, kind: &RefKind) -> Reply

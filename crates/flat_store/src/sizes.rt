@@ -11,6 +11,7 @@ use crate::holdings::{Holdings, pages_of};
 use book::Reply;
 use mnames::Path;
 use mword::Page;
+use tree_commands::segment_at;
 
 impl Holdings {
     /// Whether a page of a segment is stored whose number is this one or above.
@@ -29,7 +30,7 @@ impl Holdings {
     pub(crate) fn length_reply(&self, path: &Path, pages: u32) -> Reply
         ensures { (p : Plan) (s : Store) → Holds p self.now s → result ≡ length_reply s path.now pages }
     {
-        match self.segment_at(path) {
+        match segment_at(&self.accounts, path) {
             Ok(node) => {
                 if self.is_stored_from(node.uid, pages) {
                     Reply::Beyond
@@ -41,22 +42,12 @@ impl Holdings {
         }
     }
 
-    /// What the truncation of a segment is answered.
-    pub(crate) fn truncate_reply(&self, path: &Path) -> Reply
-        ensures { (p : Plan) (s : Store) → Holds p self.now s → result ≡ truncate_reply s path.now }
-    {
-        match self.segment_at(path) {
-            Ok(_) => Reply::Done,
-            Err(reply) => reply,
-        }
-    }
-
     /// Changes a segment's length, unless that is refused.
     pub(crate) fn set_length(&mut self, path: &Path, pages: u32)
         ensures { (p : Plan) (s : Store) → Holds p self.old s → takes_effect (length_reply s path.now pages) ≡ true
             → Holds p self.new (after_length s path.now pages) }
     {
-        let uid = match self.segment_at(path) {
+        let uid = match segment_at(&self.accounts, path) {
             Ok(node) => node.uid,
             Err(_) => return,
         };
@@ -88,7 +79,7 @@ impl Holdings {
     pub(crate) fn truncate(&mut self, path: &Path, words: u32)
         ensures { (p : Plan) (s : Store) → Holds p self.old s → Holds p self.new (after_truncate s path.now words) }
     {
-        let uid = match self.segment_at(path) {
+        let uid = match segment_at(&self.accounts, path) {
             Ok(node) => node.uid,
             Err(_) => return,
         };

@@ -25,6 +25,9 @@ use mnames::Path;
 use script::{Command, Reference, Script};
 use std::alloc::Global;
 use std::marker::Model;
+use tree_commands::{
+    acl_reply, delete_reply, move_reply, segment_at, status_reply, truncate_reply,
+};
 
 /// The flat store (Bensoussan, Clingen and Daley 1972; Organick 1972): the tree with its accounts, the stored pages
 /// with their words, what each process knows by a number, and how far it has come.
@@ -47,7 +50,7 @@ impl Model for FlatStore {
 }
 
 /// The command at a place of a process, if there is one.
-pub(crate) fn command_at(script: &Script, process: u32, place: u32) -> Option<&Command>
+pub fn command_at(script: &Script, process: u32, place: u32) -> Option<&Command>
     ensures some { IfSome result (λ c. command_at script.now process place ≡ Some c.now) }
     ensures within { IfSome result (λ c. process < length script.now.processes) }
     ensures plan { IsPlan script.now }
@@ -64,7 +67,7 @@ impl FlatStore {
     fn initiate_reply(&self, process: u32, path: &Path) -> Reply
         ensures { (p : Plan) (s : Store) → IsShown p self.now s → result ≡ initiate_reply s process path.now }
     {
-        match self.holdings.segment_at(path) {
+        match segment_at(self.holdings.tree(), path) {
             Ok(node) => match number_for(&self.known, process, node.uid) {
                 Some(number) => Reply::Known(number),
                 None => Reply::Full,
@@ -105,7 +108,7 @@ impl FlatStore {
         ensures { (p : Plan) (s : Store) → IsShown p self.now s → result ≡ move_reply s path.now amount.now }
     {
         let amount = *amount;
-        self.holdings.move_reply(path, amount)
+        move_reply(self.holdings.tree(), path, amount)
     }
 
     /// What a process is answered to a tree command; `Done` to any other.
@@ -113,17 +116,18 @@ impl FlatStore {
         ensures { (p : Plan) (s : Store) → IsShown p self.now s
             → result ≡ reply_to_tree_command p s process command.now }
     {
+        let tree = self.holdings.tree();
         match command {
             Command::MkDir { path, volume } => self.holdings.make_reply(path, *volume, true),
             Command::MkSeg { path, volume, .. } => self.holdings.make_reply(path, *volume, false),
             Command::Initiate { path } => self.initiate_reply(process, path),
             Command::Terminate { number } => self.terminate_reply(process, *number),
-            Command::Acl { path, row, .. } => self.holdings.acl_reply(path, row),
+            Command::Acl { path, row, .. } => acl_reply(tree, path, row),
             Command::Length { path, pages } => self.holdings.length_reply(path, *pages),
-            Command::Truncate { path, .. } => self.holdings.truncate_reply(path),
-            Command::Delete { path } => self.holdings.delete_reply(path),
+            Command::Truncate { path, .. } => truncate_reply(tree, path),
+            Command::Delete { path } => delete_reply(tree, path),
             Command::Move { path, amount } => self.move_reply(path, amount),
-            Command::Status { path } => self.holdings.status_reply(path),
+            Command::Status { path } => status_reply(tree, path),
             _ => Reply::Done,
         }
     }
@@ -144,7 +148,7 @@ impl FlatStore {
         ensures { (p : Plan) (s : Store) → IsShown p self.old s
             → IsShown p self.new (after_initiate s process path.now) }
     {
-        if let Ok(node) = self.holdings.segment_at(path) {
+        if let Ok(node) = segment_at(self.holdings.tree(), path) {
             make_known(&mut self.known, process, node.uid);
         }
     }

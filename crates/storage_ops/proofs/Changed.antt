@@ -36,52 +36,6 @@ use Rattle.storage_ops.proofs.Alike.{housed_alike, keeps_moved, keeps_one, keeps
 use Rattle.storage_ops.proofs.Alike.{picture_alike, quota_moved, rights_alike, taken_alike}
 use Rattle.flat_model.proofs.NodeLaws.{uid_found}
 
--- ---- what refuses a path takes no effect
-
-walk_refuses : (nodes : List Node) (w : Walk) (r : Reply) → walked nodes w ≡ Err r → takes_effect r ≡ false
-walk_refuses nodes (LeadsTo u) r e = there (node_in nodes u) e
-  where
-    there : (o : Option Node) → there_or o ≡ Err r → takes_effect r ≡ false
-    there None e = (let is : reply.NoPath ≡ r = cc in ap takes_effect (sym is))
-    there (Some n) e = cc
-walk_refuses nodes Missing r e = (let is : reply.NoPath ≡ r = cc in ap takes_effect (sym is))
-walk_refuses nodes InSegment r e = (let is : reply.NotDir ≡ r = cc in ap takes_effect (sym is))
-
-pub node_refuses : (nodes : List Node) (path : List (List ℕ)) (r : Reply) → node_at nodes path ≡ Err r
-    → takes_effect r ≡ false
-unfolding node_at
-node_refuses nodes path r e = walk_refuses nodes (walk_in nodes path) r e
-
-pub segment_refuses : (nodes : List Node) (path : List (List ℕ)) (r : Reply) → segment_at nodes path ≡ Err r
-    → takes_effect r ≡ false
-segment_refuses nodes path r e = by (node_at nodes path) refl e
-  where
-    kind : (z : Bool) (n : Node) → cond z (Err reply.IsDir) (Ok n) ≡ Err r → takes_effect r ≡ false
-    kind true n e = (let is : reply.IsDir ≡ r = cc in ap takes_effect (sym is))
-    kind false n e = cc
-
-    by : (o : Result Node Reply) → node_at nodes path ≡ o → only_segment o ≡ Err r → takes_effect r ≡ false
-    by (Ok n) at e = kind n.directory n e
-    by (Err q) at e = (let is : q ≡ r = cc in node_refuses nodes path r (at ∙ ap Err is))
-
-pub branch_refuses : (nodes : List Node) (path : List (List ℕ)) (r : Reply) → branch_at nodes path ≡ Err r
-    → takes_effect r ≡ false
-branch_refuses nodes [] r e = (let is : reply.Root ≡ r = cc in ap takes_effect (sym is))
-branch_refuses nodes (name ∷ names) r e = node_refuses nodes (name ∷ names) r e
-
-pub directory_refuses : (nodes : List Node) (path : List (List ℕ)) (r : Reply) → directory_at nodes path ≡ Err r
-    → takes_effect r ≡ false
-directory_refuses nodes path r e = by (branch_at nodes path) refl e
-  where
-    kind : (z : Bool) (n : Node) → cond z (Ok n) (Err reply.IsSeg) ≡ Err r → takes_effect r ≡ false
-    kind true n e = cc
-    kind false n e = (let is : reply.IsSeg ≡ r = cc in ap takes_effect (sym is))
-
-    by : (o : Result Node Reply) → branch_at nodes path ≡ o → only_directory reply.IsSeg o ≡ Err r
-        → takes_effect r ≡ false
-    by (Ok n) at e = kind n.directory n e
-    by (Err q) at e = (let is : q ≡ r = cc in branch_refuses nodes path r (at ∙ ap Err is))
-
 -- ---- a change of all nodes
 
 module _ (f : Node → Node) (keeps : Keeps f) (a b : AccountMaps) (changes : Changes a b (map f a.nodes)) where

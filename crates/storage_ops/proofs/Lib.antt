@@ -12,7 +12,6 @@ pub mod Lengths
 pub mod Less
 pub mod LinkLaws
 pub mod Made
-pub mod MoveReplies
 pub mod NamingLaws
 pub mod NodeLaws
 pub mod PageFacts
@@ -23,7 +22,6 @@ pub mod PageRoom
 pub mod PageWords
 pub mod Paged
 pub mod PagesLess
-pub mod PathLaws
 pub mod Refusals
 pub mod Removed
 pub mod Rest

@@ -21,6 +21,7 @@ use Rattle.flat_model.specs.Pages.{is_stored, IsOnce}
 use Rattle.flat_model.specs.Store.{Store, records_of, entries_of}
 use Rattle.descriptor_seg.specs.declared.Sdw.TheVariants.{Present}
 use Rattle.descriptor_seg.specs.Descriptors.{sdw_at}
+pub use Rattle.tree_commands.specs.Shown.{HasMoved, HasRowSet, IsFound, IsThere, ShowsTree, is_there, pages_in, pages_of}
 use Rattle.vtoc.specs.Vtoc.{Entry as VtocEntry, entry_at}
 use Rattle.active_segs.specs.declared.Entry.{Entry}
 use Rattle.active_segs.specs.Active.{ActiveSegs, superior_at, uid_at as uid_in_place}
@@ -43,18 +44,6 @@ pub record Storage (D : Type 0) : Type 0 where
   pub whos : List Who
 
 -- ---- nodes
-
--- a node is in the tree
-abbrev pub is_there : List Node → ℕ → Bool
-is_there nodes u = is_some (node_in nodes u)
-
--- the length of a node, in pages; 0 where it isn't there
-abbrev pub pages_of : Option Node → ℕ
-pages_of None = 0
-pages_of (Some n) = n.pages
-
-abbrev pub pages_in : List Node → ℕ → ℕ
-pages_in nodes u = pages_of (node_in nodes u)
 
 -- the home of a node: the VTOC entry that it has on its volume
 abbrev pub home_of : AccountMaps → ℕ → Home
@@ -134,12 +123,6 @@ is_filed a vtocs u q = is_there a.nodes u && is_filed_at vtocs (home_of a u) q
 unfoldable pub picture : AccountMaps → (ℕ → Home → ℕ → List ℕ) → ℕ → ℕ → List ℕ
 picture a words u q = if is_there a.nodes u then words u (home_of a u) q else replicate 1024 0
 
--- The flat store has these nodes and this next uid, and the accounts count its stored pages.
-pub record ShowsTree (s : Store) (a : AccountMaps) : Type 0 where
-  pub nodes : s.nodes ≡ a.nodes
-  pub next : s.next ≡ a.next
-  pub counts : Counts a s.stored
-
 -- Its stored pages are those that the file maps name, each listed once, and its words are those of the picture.
 pub record ShowsPages (s : Store) (a : AccountMaps) (vtocs : List (List (Option VtocEntry))) (image : ℕ → Home → ℕ
     → List ℕ) : Type 0 where
@@ -177,31 +160,11 @@ is_refusal _ = true
 abbrev pub refusal : Reply → Option Reply
 refusal r = if is_refusal r then Some r else None
 
--- a path leads to this node
-abbrev pub IsFound : List Node → Result Node Reply → Branch → Type 0
-IsFound nodes found n = found ≡ Ok (as_term (quota_in nodes) n)
-
--- a node of the directory tree is in the tree
-abbrev pub IsThere : List Node → Branch → Type 0
-IsThere nodes n = node_in nodes n.uid ≡ Some (as_term (quota_in nodes) n)
-
 -- ---- effects
 
 -- a flat store once a command was answered so: its effect, unless it is refused
 abbrev pub answered : Reply → Store → Store → Store
 answered r before after = if takes_effect r then after else before
-
--- a row of the access control list of the segment that a path leads to is set
-pub record HasRowSet (old new : AccountMaps) (path : List (List ℕ)) (row : Row) : Type 0 where
-  pub node : Node
-  pub found : segment_at old.nodes path ≡ Ok node
-  pub effect : Changes old new (with_row_in old.nodes node.uid row)
-
--- an amount of quota is moved between the directory that a path leads to and its superior
-pub record HasMoved (old new : AccountMaps) (path : List (List ℕ)) (amount : ℤ) : Type 0 where
-  pub node : Node
-  pub found : directory_at old.nodes path ≡ Ok node
-  pub effect : Changes old new (nodes_moved old.nodes node.uid amount)
 
 -- a store whose processes know these segments by their numbers
 abbrev pub with_known : {D : Type 0} → Storage D → List (List (Option ℕ)) → Storage D

@@ -17,14 +17,13 @@ ghost use Rattle.storage_ops.specs.Cut.{Unstores, is_here, leaves};
 ghost use Rattle.storage_ops.specs.CutOff.{CountsOthers, LosesPage, cut_at, cut_by, is_cleared, page_cleared};
 ghost use Rattle.storage_ops.specs.CutOff.{paged, pages_cut, pages_from};
 
-use crate::paths::segment_at;
-use crate::sizes::pages_of;
 use crate::store::Store;
 use active_segs::Ast;
 use book::Reply;
 use mnames::Path;
 use page_control::Home;
 use page_table::Ptw;
+use tree_commands::{pages_of, segment_at};
 use volumes::Drive;
 
 /// The words of a page.

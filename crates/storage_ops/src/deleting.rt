@@ -1,10 +1,9 @@
 //! Directories and segments are deleted, and told of.
 
-ghost use Rattle.std.specs.Prelude.{◌≡◌, ◌≢◌, not, true, false, Some, Ok};
-ghost use Rattle.tree_model.specs.Tree.{Node as Term, has_directory, quota_in};
+ghost use Rattle.std.specs.Prelude.{◌≡◌, ◌≢◌, true, false, Some, Ok};
+ghost use Rattle.tree_model.specs.Tree.{Node as Term, quota_in};
 ghost use Rattle.flat_model.specs.Branches.{branch_at};
 ghost use Rattle.flat_model.specs.Commands.{takes_effect};
-ghost use Rattle.tree_model.specs.Trees.{has_segment};
 ghost use Rattle.script.specs.Plans.{Plan};
 ghost use Rattle.dir_tree.specs.Nodes.{has_inferior};
 ghost use Rattle.accounts.specs.Maps.{Recounts};
@@ -16,73 +15,17 @@ ghost use Rattle.flat_model.specs.Store.{Store as Flat};
 ghost use Rattle.active_segs.specs.Active.{IsActive};
 ghost use Rattle.page_control.specs.Effects.{erased};
 ghost use Rattle.page_control.specs.Plain.{plain};
-ghost use Rattle.storage_ops.specs.Shown.{Shows, ShowsTree, answered, home_of, is_there, pages_in, refusal};
+ghost use Rattle.storage_ops.specs.Shown.{Shows, answered, home_of, is_there, pages_in, refusal};
 ghost use Rattle.storage_ops.specs.Cut.{IsRemovable, IsRemovableAt, KeepsRest, TakesOut};
 ghost use Rattle.storage_ops.specs.CutOff.{Erases, paged, put_out};
 
-use crate::paths::{branch_at, node_at};
 use crate::replies::refusal;
 use crate::store::Store;
 use accounts::Accounts;
 use book::Reply;
-use dir_tree::Node;
 use mnames::Path;
+use tree_commands::{branch_at, delete_reply, quota_of, status_reply};
 use volumes::Drive;
-
-/// The quota of a node; 0 of a segment.
-fn quota_of(accounts: &Accounts, node: &Node) -> u32
-    requires directory { has_directory accounts.now.nodes node.now.uid ≡ node.now.dir }
-    requires segment { has_segment accounts.now.nodes node.now.uid ≡ not node.now.dir }
-    ensures { result ≡ quota_in accounts.now.nodes node.now.uid }
-{
-    if node.dir {
-        accounts.quota(node.uid)
-    } else {
-        let _stored = accounts.stored(node.uid);
-        0
-    }
-}
-
-/// What the deletion of a directory or a segment is answered.
-fn delete_reply(accounts: &Accounts, path: &Path) -> Reply
-    ensures { (s : Flat) → ShowsTree s accounts.now → result ≡ delete_reply s path.now }
-{
-    let node = match branch_at(accounts, path) {
-        Ok(node) => node,
-        Err(reply) => return reply,
-    };
-    if accounts.may_remove(node.uid).is_err() {
-        Reply::NotEmpty
-    } else if quota_of(accounts, node) == 0 {
-        Reply::Done
-    } else {
-        Reply::HasQuota
-    }
-}
-
-/// What is told of a directory or a segment.
-fn status_reply(accounts: &Accounts, path: &Path) -> Reply
-    ensures { (s : Flat) → ShowsTree s accounts.now → result ≡ status_reply s path.now }
-{
-    let node = match node_at(accounts, path) {
-        Ok(node) => node,
-        Err(reply) => return reply,
-    };
-    let uid = node.uid;
-    if node.dir {
-        let quota = accounts.quota(uid);
-        let used = accounts.used(uid);
-        Reply::DirIs { uid, quota, used }
-    } else {
-        let length = node.length;
-        let stored = accounts.stored(uid);
-        Reply::SegIs {
-            uid,
-            length,
-            stored,
-        }
-    }
-}
 
 /// Counts no stored page of a node any more, to the credit of its account.
 fn uncount(accounts: &mut Accounts, uid: u32)

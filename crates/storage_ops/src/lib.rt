@@ -17,7 +17,6 @@ mod deleting;
 mod making;
 mod naming;
 mod pages;
-mod paths;
 mod references;
 mod replies;
 mod rights;
@@ -28,4 +27,5 @@ mod storing;
 mod testing;
 
 pub use no_memory::NoMemory;
+pub use replies::is_refusal;
 pub use store::Store;

@@ -7,56 +7,16 @@ ghost use Rattle.flat_model.specs.Making.{after_make, made_in, make_in, make_rep
 ghost use Rattle.flat_model.specs.Store.{Store as Flat, entries_of};
 ghost use Rattle.flat_model.specs.Commands.{takes_effect};
 ghost use Rattle.storage_ops.specs.CutOff.{TakesHome};
-ghost use Rattle.storage_ops.specs.Shown.{Shows, ShowsTree, answered, refusal, with_vtocs};
+ghost use Rattle.storage_ops.specs.Shown.{Shows, answered, refusal, with_vtocs};
 
-use crate::paths::node_at;
 use crate::replies::refusal;
 use crate::store::Store;
-use accounts::Accounts;
 use acl::Acl;
 use book::Reply;
 use dir_tree::{AddFault, NewNode};
-use mnames::{Name, Path};
+use mnames::Path;
+use tree_commands::{make_reply, node_at};
 use volumes::Drive;
-
-/// What the making of a directory or a segment in a directory is answered, where this says whether the VTOC entries of
-/// the volume are all in use.
-fn make_in(accounts: &Accounts, superior: u32, name: &Name, dir: bool, full: bool) -> Reply
-    requires { has_directory accounts.now.nodes superior ≡ true }
-    ensures { (p : Plan) (s : Flat) (volume : ℕ) (d : Term) → ShowsTree s accounts.now → d.uid ≡ superior
-        → full ≡ nat_le (entries_of p volume) (entries_on s.nodes volume)
-        → result ≡ make_in p s volume dir name.now d }
-{
-    match accounts.may_add(superior, name, dir) {
-        Ok(()) if full => Reply::NoEntry,
-        Ok(()) => Reply::Made(accounts.next_uid()),
-        Err(AddFault::Exists) => Reply::Exists,
-        Err(AddFault::Deep) => Reply::Deep,
-        Err(AddFault::Room) => Reply::Room,
-    }
-}
-
-/// What the making of a directory or a segment is answered, where this says whether the VTOC entries of the volume are
-/// all in use.
-fn make_reply(accounts: &Accounts, path: &Path, dir: bool, full: bool) -> Reply
-    ensures { (p : Plan) (s : Flat) (volume : ℕ) → ShowsTree s accounts.now
-        → full ≡ nat_le (entries_of p volume) (entries_on s.nodes volume)
-        → result ≡ make_reply p s path.now volume dir }
-{
-    let Some((above, name)) = path.split_last() else {
-        return Reply::Exists;
-    };
-    match node_at(accounts, &above) {
-        Ok(node) => {
-            if node.dir {
-                make_in(accounts, node.uid, name, dir, full)
-            } else {
-                Reply::NotDir
-            }
-        }
-        Err(reply) => reply,
-    }
-}
 
 impl<D: Drive> Store<D> {
     /// Whether the VTOC entries of a volume are all in use.

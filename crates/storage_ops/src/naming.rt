@@ -9,12 +9,12 @@ ghost use Rattle.flat_model.specs.Naming.{initiate_reply, known_or_full, termina
 ghost use Rattle.flat_model.specs.Store.{Store as Flat};
 ghost use Rattle.storage_ops.specs.Shown.{Shows, answered, refusal, with_known};
 
-use crate::paths::segment_at;
 use crate::replies::refusal;
 use crate::store::Store;
 use book::Reply;
 use known_segs::Kst;
 use mnames::Path;
+use tree_commands::segment_at;
 use volumes::Drive;
 
 /// Whether a segment has a number, or could get one.

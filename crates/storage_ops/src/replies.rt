@@ -5,8 +5,8 @@ ghost use Rattle.storage_ops.specs.Shown.{is_refusal, refusal};
 
 use book::Reply;
 
-/// Whether a reply says why a command did nothing.
-fn is_refusal(reply: &Reply) -> bool
+/// Whether a reply says why a command did nothing. (Source: own.)
+pub fn is_refusal(reply: &Reply) -> bool
     ensures { result ≡ is_refusal reply.now }
 {
     !matches!(

@@ -5,89 +5,14 @@ ghost use Rattle.script.specs.Plans.{Plan};
 ghost use Rattle.flat_model.specs.Commands.{takes_effect};
 ghost use Rattle.flat_model.specs.Rights.{acl_reply, after_acl, after_move, move_reply, row_with};
 ghost use Rattle.flat_model.specs.Store.{Store as Flat};
-ghost use Rattle.storage_ops.specs.Shown.{HasMoved, HasRowSet, IsCutAt, Shows, ShowsTree, answered, refusal};
+ghost use Rattle.storage_ops.specs.Shown.{HasMoved, HasRowSet, IsCutAt, Shows, answered, refusal};
 
-use crate::paths::{directory_at, segment_at};
 use crate::replies::refusal;
 use crate::store::Store;
-use accounts::Accounts;
 use book::Reply;
 use mnames::{Mode, Path, Row};
-use quota_cells::MoveFault;
+use tree_commands::{acl_reply, move_quota, move_reply, set_row};
 use volumes::Drive;
-
-/// What the setting of a row of a segment's access control list is answered.
-fn acl_reply(accounts: &Accounts, path: &Path, row: &Row) -> Reply
-    ensures { (s : Flat) → ShowsTree s accounts.now → result ≡ acl_reply s path.now row.now }
-{
-    match segment_at(accounts, path) {
-        Ok(node) => {
-            if node.acl.takes(row) {
-                Reply::Done
-            } else {
-                Reply::AclFull
-            }
-        }
-        Err(reply) => reply,
-    }
-}
-
-/// What the move of an amount of quota is answered.
-fn move_reply(accounts: &Accounts, path: &Path, amount: i32) -> Reply
-    ensures { (s : Flat) → ShowsTree s accounts.now → result ≡ move_reply s path.now amount }
-{
-    let node = match directory_at(accounts, path) {
-        Ok(node) => node,
-        Err(reply) => return reply,
-    };
-    if amount == 0 {
-        let _root = accounts.root();
-        return Reply::Done;
-    }
-    match accounts.may_move(node.uid, amount) {
-        Ok(()) => Reply::Done,
-        Err(MoveFault::TooLittle) => Reply::TooLittle,
-        Err(MoveFault::Over { account }) => Reply::Over(account),
-    }
-}
-
-/// Sets a row of a segment's access control list, unless that is refused.
-fn set_row(accounts: &mut Accounts, path: &Path, row: &Row, mode: Mode) -> Reply
-    ensures answer { (s : Flat) → ShowsTree s accounts.old → result ≡ acl_reply s path.now row.now }
-    ensures done { takes_effect result ≡ true
-        → HasRowSet accounts.old accounts.new path.now (row_with row.now mode) }
-    ensures refused { takes_effect result ≡ false → accounts.new ≡ accounts.old }
-{
-    let uid = match segment_at(accounts, path) {
-        Ok(node) => node.uid,
-        Err(reply) => return reply,
-    };
-    if accounts.set_row(uid, row.copied(), mode).is_err() {
-        return Reply::AclFull;
-    }
-    Reply::Done
-}
-
-/// Moves an amount of quota, unless that is refused.
-fn move_quota(accounts: &mut Accounts, path: &Path, amount: i32) -> Reply
-    ensures answer { (s : Flat) → ShowsTree s accounts.old → result ≡ move_reply s path.now amount }
-    ensures done { takes_effect result ≡ true → HasMoved accounts.old accounts.new path.now amount }
-    ensures refused { takes_effect result ≡ false → accounts.new ≡ accounts.old }
-{
-    let uid = match directory_at(accounts, path) {
-        Ok(node) => node.uid,
-        Err(reply) => return reply,
-    };
-    if amount == 0 {
-        let _root = accounts.root();
-        return Reply::Done;
-    }
-    match accounts.move_quota(uid, amount) {
-        Ok(()) => Reply::Done,
-        Err(MoveFault::TooLittle) => Reply::TooLittle,
-        Err(MoveFault::Over { account }) => Reply::Over(account),
-    }
-}
 
 impl<D: Drive> Store<D> {
     /// What refuses the setting of a row of a segment's access control list: what the path leads to, else `AclFull`

@@ -8,27 +8,15 @@ ghost use Rattle.flat_model.specs.Sizes.{after_length, length_reply, truncate_re
 ghost use Rattle.flat_model.specs.Store.{Store as Flat};
 ghost use Rattle.flat_model.specs.Commands.{takes_effect};
 ghost use Rattle.storage_ops.specs.Cut.{HasLengthSet};
-ghost use Rattle.storage_ops.specs.Shown.{IsInactiveAt, Shows, ShowsTree, answered};
-ghost use Rattle.storage_ops.specs.Shown.{is_filed, is_there, pages_in, refusal};
+ghost use Rattle.storage_ops.specs.Shown.{IsInactiveAt, Shows, answered, is_filed, is_there, refusal};
 
-use crate::paths::segment_at;
 use crate::replies::refusal;
 use crate::store::Store;
-use accounts::Accounts;
 use book::Reply;
 use mnames::Path;
+use tree_commands::{pages_of, segment_at, truncate_reply};
 use volumes::Drive;
 use vtoc::Vtoc;
-
-/// What the truncation of a segment is answered.
-fn truncate_reply(accounts: &Accounts, path: &Path) -> Reply
-    ensures { (s : Flat) → ShowsTree s accounts.now → result ≡ truncate_reply s path.now }
-{
-    match segment_at(accounts, path) {
-        Ok(_) => Reply::Done,
-        Err(reply) => reply,
-    }
-}
 
 /// Whether a file map names a record for a page from one number on, below another.
 fn names_from(vtoc: &Vtoc, entry: u32, from: u32, to: u32) -> bool
@@ -43,17 +31,6 @@ fn names_from(vtoc: &Vtoc, entry: u32, from: u32, to: u32) -> bool
         }
     }
     false
-}
-
-/// The length of a node, in pages; 0 where it isn't there.
-#[tactic(auto, using(crate::proofs::NodeLaws::pages_found, crate::proofs::NodeLaws::no_pages))]
-pub(crate) fn pages_of(accounts: &Accounts, uid: u32) -> u32
-    ensures { result ≡ pages_in accounts.now.nodes uid }
-{
-    match accounts.node(uid) {
-        Some(node) => node.length,
-        None => 0,
-    }
 }
 
 impl<D: Drive> Store<D> {

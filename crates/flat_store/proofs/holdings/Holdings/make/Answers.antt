@@ -5,7 +5,9 @@ use Rattle.flat_model.specs.Branches.{node_at}
 use Rattle.flat_model.specs.Commands.{takes_effect}
 use Rattle.flat_model.specs.Making.{made_in, make_in}
 use Rattle.flat_model.specs.Store.{Store}
+use Rattle.flat_store.specs.contracts.holdings.Holdings.{the_view}
 use Rattle.flat_store.specs.Shown.{Holds}
+use Rattle.flat_store.proofs.DropLaws.{tree_inside}
 use Rattle.flat_store.proofs.MakeLaws.{after_make_is, make_asked, make_refused, make_stays}
 use Rattle.flat_store.proofs.holdings.Holdings.make.Goals as goal
 
@@ -17,7 +19,8 @@ returns-in_default c = λ p s h few effect.
 
 pub returns-in-Err : goal.returns-in-Err
 returns-in-Err c = λ p s h few effect.
-    let found = ap (λ (ns : List Node). node_at ns c.in-Some.above) h.nodes ∙ c.in-Err.ensures.err in
+    let found = ap (λ (ns : List Node). node_at ns c.in-Some.above) (tree_inside p s (the_view c.self.inside) c.args.self.now c.self.view_is h).nodes
+    ∙ c.in-Err.ensures.err in
     subst (λ (x : Store). Holds p c.args.self.now x)
     (sym (make_refused p s c.args.path.now c.in-Some.above c.in-Some.name.now c.args.volume c.args.dir
     c.in-Some.ensures.parts c.args.pages c.args.acl
@@ -25,8 +28,9 @@ returns-in-Err c = λ p s h few effect.
 
 pub returns-then-is_directory : goal.returns-then-is_directory
 returns-then-is_directory c = λ p s h few effect.
-    let d : Node = as_term (quota_in c.args.self.now.accounts.nodes) c.in-Ok.node.now in
-    let found = ap (λ (ns : List Node). node_at ns c.in-Some.above) h.nodes ∙ c.in-Ok.ensures.ok in
+    let d : Node = as_term (quota_in c.self.inside.accounts.nodes) c.in-Ok.node.now in
+    let found = ap (λ (ns : List Node). node_at ns c.in-Some.above) (tree_inside p s (the_view c.self.inside) c.args.self.now c.self.view_is h).nodes
+    ∙ c.in-Ok.ensures.ok in
     let asked = make_asked p s c.args.path.now c.in-Some.above c.in-Some.name.now c.args.volume c.args.dir
     c.in-Some.ensures.parts d found effect in
     let done = c.add.ensures p s d h refl few
@@ -41,7 +45,8 @@ returns-then-is_directory c = λ p s h few effect.
 pub returns-else-is_directory : goal.returns-else-is_directory
 returns-else-is_directory c = λ p s h few effect.
     let asked = make_asked p s c.args.path.now c.in-Some.above c.in-Some.name.now c.args.volume c.args.dir
-    c.in-Some.ensures.parts (as_term (quota_in c.args.self.now.accounts.nodes) c.in-Ok.node.now)
-    (ap (λ (ns : List Node). node_at ns c.in-Some.above) h.nodes ∙ c.in-Ok.ensures.ok) effect in
+    c.in-Some.ensures.parts (as_term (quota_in c.self.inside.accounts.nodes) c.in-Ok.node.now)
+    (ap (λ (ns : List Node). node_at ns c.in-Some.above) (tree_inside p s (the_view c.self.inside) c.args.self.now c.self.view_is h).nodes
+    ∙ c.in-Ok.ensures.ok) effect in
     let clash : true ≡ false = sym asked.0 ∙ c.if-is_directory.false in
     cc

@@ -1,30 +1,19 @@
-use Rattle.std.proofs.Common.{refl}
-use Rattle.tree_model.specs.Tree.{quota_in}
-use Rattle.dir_tree.specs.Nodes.{as_term}
-use Rattle.flat_model.proofs.TreeReplies.{make_root, make_refused, make_in_segment, make_told}
+use Rattle.std.proofs.Common.{◌≡◌, List, ap, ◌∙◌}
+use Rattle.std.specs.Prelude.{nat_le}
+use Rattle.flat_model.specs.Store.{entries_of}
+use Rattle.tree_model.specs.Tree.{entries_on}
+use Rattle.flat_store.specs.contracts.holdings.Holdings.{the_view}
+use Rattle.flat_store.specs.Shown.{Gauge, Held, gauge_at}
+use Rattle.flat_store.proofs.DropLaws.{held_inside, tree_inside}
 use Rattle.flat_store.proofs.holdings.Holdings.make_reply.Goals as goal
 
-pub returns-in_default : goal.returns-in_default
-returns-in_default c = λ p s h. make_root p s c.args.path.now c.args.volume c.args.dir c.in_default.ensures.root
-
-pub returns-then-node : goal.returns-then-node
-returns-then-node c = λ p s h.
-    make_told p s c.args.self.now.accounts.nodes c.args.path.now c.in-Some.above c.in-Some.name.now c.args.volume
-    c.args.dir h.nodes c.in-Some.ensures.parts
-    (as_term (quota_in c.args.self.now.accounts.nodes) c.in-Ok.node.now) c.make_in.result c.in-Ok.ensures.ok
-    c.if-node.true
-    (c.make_in.ensures p s (as_term (quota_in c.args.self.now.accounts.nodes) c.in-Ok.node.now) h refl)
-
-pub returns-else-node : goal.returns-else-node
-returns-else-node c = λ p s h.
-    make_in_segment p s c.args.self.now.accounts.nodes c.args.path.now c.in-Some.above c.in-Some.name.now c.args.volume
-    c.args.dir h.nodes
-    c.in-Some.ensures.parts
-    (as_term (quota_in c.args.self.now.accounts.nodes) c.in-Ok.node.now) c.in-Ok.ensures.ok c.if-node.false
-
-pub returns-in-Err : goal.returns-in-Err
-returns-in-Err c = λ p s h.
-    make_refused p s c.args.self.now.accounts.nodes c.args.path.now c.in-Some.above c.in-Some.name.now c.args.volume
-    c.args.dir h.nodes
-    c.in-Some.ensures.parts
-    c.in-Err.reply c.in-Err.ensures.err
+pub returns : goal.returns
+returns c = λ p s h.
+    let before : Held = the_view c.self.inside in
+    let holds = held_inside p s before c.args.self.now c.self.view_is h in
+    let full : c.is_full_at-full.result ≡ nat_le (entries_of p c.args.volume) (entries_on s.nodes c.args.volume) =
+    c.is_full_at-full.ensures.most
+    ∙ ap (λ (gs : List Gauge). nat_le (gauge_at gs c.args.volume).most (gauge_at gs c.args.volume).used)
+    c.deref.ensures.value
+    ∙ ap (λ (g : Gauge). nat_le g.most g.used) (holds.entries c.args.volume) in
+    c.make_reply.ensures p s c.args.volume (tree_inside p s before c.args.self.now c.self.view_is h) full

@@ -1,6 +1,5 @@
 use Rattle.std.proofs.Common.{◌≡◌, true, false, List, refl, sym, ap, subst, ◌∙◌}
 use Rattle.tree_model.specs.Tree.{Node, quota_in}
-use Rattle.tree_model.specs.Trees.{has_segment}
 use Rattle.dir_tree.specs.Nodes.{as_term}
 use Rattle.flat_model.specs.Branches.{segment_at}
 use Rattle.flat_model.specs.Store.{Store}
@@ -9,14 +8,15 @@ use Rattle.flat_store.specs.Shown.{Held, Holds}
 use Rattle.script.specs.Plans.{Plan}
 use Rattle.flat_model.specs.Pages.{is_stored_from}
 use Rattle.flat_store.proofs.ChangeLaws.{with_length}
-use Rattle.flat_store.proofs.DropLaws.{held_inside}
+use Rattle.flat_store.proofs.DropLaws.{held_inside, tree_inside}
 use Rattle.flat_store.proofs.EffectLaws.{after_length_is, length_asked, length_shown, length_stays}
 use Rattle.flat_store.proofs.holdings.Holdings.set_length.Goals.{After-set_length}
 use Rattle.flat_store.proofs.holdings.Holdings.set_length.Goals as goal
 
 pub returns-in-Err : goal.returns-in-Err
 returns-in-Err c = λ p s h effect.
-    let refused = ap (λ (ns : List Node). segment_at ns c.args.path.now) h.nodes ∙ c.in-Err.ensures.err in
+    let refused = ap (λ (ns : List Node). segment_at ns c.args.path.now) (tree_inside p s (the_view c.self.inside) c.args.self.now c.self.view_is h).nodes
+    ∙ c.in-Err.ensures.err in
     subst (λ (x : Store). Holds p c.args.self.now x)
     (sym (length_stays s c.args.path.now c.args.pages c.in-Err.field-0 refused)) h
 
@@ -29,8 +29,7 @@ shown : (c : After-set_length) (p : Plan) (s : Store) → Holds p (the_view c.se
     → Holds p (after c) (record s { nodes = with_length s.nodes c.in-Ok.node.now.uid c.args.pages })
 shown c p s h none =
     length_shown p s (the_view c.self.inside) (after c) c.in-Ok.node.now.uid c.args.pages h c.set_length.ensures refl
-    (ap (λ (x : Held). has_segment x.accounts.nodes c.in-Ok.node.now.uid) c.self.view_is ∙ c.in-Ok.ensures.segment)
-    none
+    c.in-Ok.ensures.segment none
 
 pub invariant_of-self : goal.invariant_of-self
 invariant_of-self c =
@@ -44,16 +43,18 @@ invariant_of-self c =
 
 pub returns-then-not-is_stored_from : goal.returns-then-not-is_stored_from
 returns-then-not-is_stored_from c = λ p s h effect.
-    let n : Node = as_term (quota_in c.args.self.now.accounts.nodes) c.in-Ok.node.now in
-    let found = ap (λ (ns : List Node). segment_at ns c.args.path.now) h.nodes ∙ c.in-Ok.ensures.ok in
+    let n : Node = as_term (quota_in c.self.inside.accounts.nodes) c.in-Ok.node.now in
+    let found = ap (λ (ns : List Node). segment_at ns c.args.path.now) (tree_inside p s (the_view c.self.inside) c.args.self.now c.self.view_is h).nodes
+    ∙ c.in-Ok.ensures.ok in
     let none = sym (c.is_stored_from.ensures p s h) ∙ c.if-not-is_stored_from.true in
     subst (λ (x : Store). Holds p (after c) x) (sym (after_length_is s c.args.path.now c.args.pages n found))
     (shown c p s (held_inside p s (the_view c.self.inside) c.args.self.now c.self.view_is h) none)
 
 pub returns-else-not-is_stored_from : goal.returns-else-not-is_stored_from
 returns-else-not-is_stored_from c = λ p s h effect.
-    let n : Node = as_term (quota_in c.args.self.now.accounts.nodes) c.in-Ok.node.now in
-    let found = ap (λ (ns : List Node). segment_at ns c.args.path.now) h.nodes ∙ c.in-Ok.ensures.ok in
+    let n : Node = as_term (quota_in c.self.inside.accounts.nodes) c.in-Ok.node.now in
+    let found = ap (λ (ns : List Node). segment_at ns c.args.path.now) (tree_inside p s (the_view c.self.inside) c.args.self.now c.self.view_is h).nodes
+    ∙ c.in-Ok.ensures.ok in
     let clash : true ≡ false = sym c.if-not-is_stored_from.false ∙ c.is_stored_from.ensures p s h
     ∙ length_asked s c.args.path.now c.args.pages n found effect in
     cc

@@ -1,12 +1,11 @@
-use Rattle.std.proofs.Common.{ℕ, List, Option, refl, sym, ap, subst, ◌∙◌}
+use Rattle.std.proofs.Common.{ℕ, List, Option, Ok, Err, refl, sym, ap, subst}
 use Rattle.tree_model.specs.Tree.{Node, quota_in}
 use Rattle.dir_tree.specs.Nodes.{as_term}
-use Rattle.flat_model.specs.Branches.{segment_at}
 use Rattle.flat_model.specs.Store.{Store, numbers_of}
 use Rattle.known_segs.specs.Known.{number_for, with_number}
 use Rattle.flat_store.specs.contracts.store.FlatStore.{the_view}
 use Rattle.flat_store.specs.Shown.{Kept, IsShown, numbers_at}
-use Rattle.flat_store.proofs.StoreLaws.{after_initiate_is, initiate_stays, numbers_are, numbers_shown}
+use Rattle.flat_store.proofs.StoreLaws.{after_initiate_is, initiate_stays, numbers_are, numbers_shown, segment_is}
 use Rattle.flat_store.proofs.store.FlatStore.initiate.Goals as goal
 
 pub returns-in-Ok : goal.returns-in-Ok
@@ -15,8 +14,8 @@ returns-in-Ok c = λ p s h.
     let after : Kept = record inside { known = c.make_known.new.known.items } in
     let shown = subst (λ (k : Kept). IsShown p k s) (sym c.self.view_is) h in
     let uid : ℕ = c.in-Ok.node.now.uid in
-    let n : Node = as_term (quota_in c.self.inside.holdings.accounts.nodes) c.in-Ok.node.now in
-    let found = ap (λ (ns : List Node). segment_at ns c.args.path.now) shown.holds.nodes ∙ c.in-Ok.ensures.ok in
+    let n : Node = as_term (quota_in c.tree.result.now.nodes) c.in-Ok.node.now in
+    let found = segment_is p inside s shown c.tree.result.now c.tree.ensures c.args.path.now (Ok n) c.in-Ok.ensures.ok in
     let change : List (Option ℕ) → List (Option ℕ) = λ kst. with_number kst uid (number_for kst uid) in
     let numbers = ap change (sym (numbers_are p inside s shown c.args.process)) in
     subst (λ (x : Store). IsShown p after x) (sym (after_initiate_is s c.args.process c.args.path.now n found))
@@ -26,8 +25,8 @@ returns-in-Ok c = λ p s h.
 
 pub returns-in_default : goal.returns-in_default
 returns-in_default c = λ p s h.
-    let found = ap (λ (ns : List Node). segment_at ns c.args.path.now) (h.holds.nodes
-    ∙ ap (λ (k : Kept). k.held.accounts.nodes) (sym c.self.view_is))
-    ∙ c.in_default.ensures.err in
+    let shown = subst (λ (k : Kept). IsShown p k s) (sym c.self.view_is) h in
+    let found = segment_is p (the_view c.self.inside) s shown c.tree.result.now c.tree.ensures c.args.path.now
+    (Err c.in_default.field-0) c.in_default.ensures.err in
     subst (λ (x : Store). IsShown p c.args.self.now x)
     (sym (initiate_stays s c.args.process c.args.path.now c.in_default.field-0 found)) h

@@ -19,8 +19,8 @@ told c p s h number is =
     let shown = subst (λ (k : Kept). IsShown p k s) (sym c.self.view_is) h in
     let numbers = ap (λ (known : List (List (Option ℕ))). number_for (numbers_at known c.args.process)
     c.in-Ok.node.now.uid) c.deref.ensures.value in
-    initiate_told p (the_view c.self.inside) s shown c.args.process c.args.path.now
-    (as_term (quota_in c.self.inside.holdings.accounts.nodes) c.in-Ok.node.now) number c.in-Ok.ensures.ok
+    initiate_told p (the_view c.self.inside) s shown c.tree.result.now c.tree.ensures c.args.process c.args.path.now
+    (as_term (quota_in c.tree.result.now.nodes) c.in-Ok.node.now) number c.in-Ok.ensures.ok
     (is ∙ numbers)
 
 pub returns-in-Some : goal.returns-in-Some
@@ -34,4 +34,4 @@ pub returns-in-Err : goal.returns-in-Err
 returns-in-Err c = λ p s h.
     let inside : Kept = the_view c.self.inside in
     let shown = subst (λ (k : Kept). IsShown p k s) (sym c.self.view_is) h in
-    initiate_refused p inside s shown c.args.process c.args.path.now c.in-Err.reply c.in-Err.ensures.err
+    initiate_refused p inside s shown c.tree.result.now c.tree.ensures c.args.process c.args.path.now c.in-Err.reply c.in-Err.ensures.err

@@ -11,7 +11,7 @@ use Rattle.flat_model.proofs.TreeReplies.{delete_refused, delete_told, from_fals
 use Rattle.storage_ops.specs.Cut.{IsRemovable, IsRemovableAt, TakesOut}
 use Rattle.storage_ops.specs.Shown.{Shows, Storage, is_there}
 use Rattle.storage_ops.proofs.Held.{tree_held}
-use Rattle.storage_ops.proofs.Changed.{branch_refuses}
+use Rattle.flat_model.proofs.PathRefusals.{branch_refuses}
 use Rattle.storage_ops.proofs.Rest.{out_still, rest_both, rest_none}
 use Rattle.storage_ops.specs.CutOff.{Erases}
 use Rattle.storage_ops.proofs.CutExactly.{erased_exactly, same_uid}

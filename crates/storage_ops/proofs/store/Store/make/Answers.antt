@@ -5,7 +5,7 @@ use Rattle.flat_model.specs.Making.{made_in, make_in}
 use Rattle.flat_model.specs.Store.{Store as Flat}
 use Rattle.storage_ops.specs.Shown.{Shows, answered}
 use Rattle.storage_ops.proofs.Held.{shown_held, tree_held}
-use Rattle.storage_ops.proofs.Changed.{node_refuses}
+use Rattle.flat_model.proofs.PathRefusals.{node_refuses}
 use Rattle.storage_ops.proofs.Made.{after_make_is}
 use Rattle.flat_model.proofs.TreeReplies.{make_in_segment, make_refused, make_root, make_told}
 use Rattle.storage_ops.proofs.store.Store.make.Goals as goal

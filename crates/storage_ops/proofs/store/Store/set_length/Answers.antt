@@ -5,7 +5,7 @@ use Rattle.page_control.specs.Plain.{plain}
 use Rattle.storage_ops.specs.Cut.{HasLengthSet}
 use Rattle.storage_ops.specs.Shown.{IsInactiveAt, Storage, is_filed}
 use Rattle.storage_ops.proofs.Held.{held, shown_held, tree_held}
-use Rattle.storage_ops.proofs.Changed.{segment_refuses}
+use Rattle.flat_model.proofs.PathRefusals.{segment_refuses}
 use Rattle.storage_ops.proofs.Lengths.{length_answered, length_shown, length_store}
 use Rattle.flat_model.proofs.TreeReplies.{length_refused}
 use Rattle.storage_ops.proofs.store.Store.set_length.Goals as goal

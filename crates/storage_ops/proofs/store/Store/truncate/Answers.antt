@@ -9,7 +9,7 @@ use Rattle.flat_model.proofs.TreeReplies.{truncate_refused, truncate_told}
 use Rattle.storage_ops.specs.Cut.{CutsPages, IsTakenPast, IsTakenPastAt}
 use Rattle.storage_ops.specs.Shown.{Shows, Storage, home_of, pages_in}
 use Rattle.storage_ops.proofs.Held.{tree_held}
-use Rattle.storage_ops.proofs.Changed.{segment_refuses}
+use Rattle.flat_model.proofs.PathRefusals.{segment_refuses}
 use Rattle.storage_ops.proofs.Rest.{rest_none, rest_unstored}
 use Rattle.storage_ops.specs.CutOff.{CountsOthers, cut_at, paged}
 use Rattle.storage_ops.proofs.CutExactly.{not_both_found, same_uid}

@@ -1,0 +1,3 @@
+mod MoveReplies
+mod NodeLaws
+mod PathLaws

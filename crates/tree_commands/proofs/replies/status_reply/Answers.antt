@@ -1,0 +1,25 @@
+use Rattle.std.proofs.Common.{List, sym, ap, ◌∙◌}
+use Rattle.tree_model.specs.Tree.{Node, quota_in, used_by}
+use Rattle.dir_tree.specs.Nodes.{as_term}
+use Rattle.flat_model.proofs.TreeReplies.{status_refused, status_directory, status_segment}
+use Rattle.tree_commands.proofs.replies.status_reply.Goals as goal
+
+pub returns-in-Err : goal.returns-in-Err
+returns-in-Err c = λ s h. status_refused s c.args.accounts.now.nodes c.args.path.now h.nodes c.in-Err.reply
+    c.in-Err.ensures.err
+
+pub returns-then-node : goal.returns-then-node
+returns-then-node c = λ s h.
+    status_directory s c.args.accounts.now.nodes c.args.path.now h.nodes
+    (as_term (quota_in c.args.accounts.now.nodes) c.in-Ok.node.now)
+    c.quota-quota.result c.used-used.result
+    c.in-Ok.ensures.ok c.if-node.true c.quota-quota.ensures.quota
+    (c.used-used.ensures.scratch s.stored h.counts
+    ∙ ap (λ (ns : List Node). used_by ns s.stored c.in-Ok.node.now.uid) (sym h.nodes))
+
+pub returns-else-node : goal.returns-else-node
+returns-else-node c = λ s h.
+    status_segment s c.args.accounts.now.nodes c.args.path.now h.nodes
+    (as_term (quota_in c.args.accounts.now.nodes) c.in-Ok.node.now)
+    c.stored-stored.result
+    c.in-Ok.ensures.ok c.if-node.false (c.stored-stored.ensures.stored ∙ h.counts c.in-Ok.node.now.uid)

@@ -1,0 +1,29 @@
+//! What is read of a node by its uid.
+
+ghost use Rattle.std.specs.Prelude.{◌≡◌};
+ghost use Rattle.tree_model.specs.Tree.{volume_in};
+ghost use Rattle.tree_commands.specs.Shown.{pages_in};
+
+use accounts::Accounts;
+
+/// The length of a node, in pages; 0 where it isn't there.
+#[tactic(auto, using(crate::proofs::NodeLaws::pages_found, crate::proofs::NodeLaws::no_pages))]
+pub fn pages_of(accounts: &Accounts, uid: u32) -> u32
+    ensures { result ≡ pages_in accounts.now.nodes uid }
+{
+    match accounts.node(uid) {
+        Some(node) => node.length,
+        None => 0,
+    }
+}
+
+/// The volume of a node; 0 where it isn't there.
+#[tactic(auto, using(flat_model::proofs::NodeLaws::volume_found, flat_model::proofs::NodeLaws::no_volume))]
+pub fn volume_of(accounts: &Accounts, uid: u32) -> u32
+    ensures { result ≡ volume_in accounts.now.nodes uid }
+{
+    match accounts.node(uid) {
+        Some(node) => node.volume,
+        None => 0,
+    }
+}
