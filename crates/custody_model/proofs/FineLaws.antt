@@ -287,6 +287,20 @@ has-filled xs x y h = by_last (has (front xs) y) refl whole
     by_last false e w = inl (last (eqb x y) refl w)
 
 -- the newest entry of a processor is current, as it was where it held it already
+-- where a seat is to drop what it was to drop, so is each
+due_kept : (c : Custody) (d : ℕ) (new : Seat) → new.due ≡ (c.seat d).due → (e : ℕ)
+    → ((with_seat c d new).seat e).due ≡ (c.seat e).due
+due_kept c d new is e = by_place e d new (c.seat e) (λ x. x.due ≡ (c.seat e).due)
+    (λ i. is ∙ ap (λ (j : ℕ). (c.seat j).due) (sym i)) (λ n. refl)
+
+-- where a seat takes part, each that doesn't holds nothing as before
+idle_kept : (c : Custody) (b : Bool) (d : ℕ) (new : Seat) → Fine c b → new.online ≡ true → (e : ℕ)
+    → ((with_seat c d new).seat e).online ≡ false
+    → (((with_seat c d new).seat e).segs ≡ []) × (((with_seat c d new).seat e).pages ≡ [])
+idle_kept c b d new fine online e =
+    by_place e d new (c.seat e) (λ x. x.online ≡ false → (x.segs ≡ []) × (x.pages ≡ []))
+    (λ i off. absurd (no_and online off)) (λ n. fine.idle e)
+
 pub fill_page_fine : (c : Custody) (b : Bool) (d f : ℕ) → Fine c b → (c.seat d).online ≡ true
     → is_current_frame (c.frame f) ≡ true
     → Fine (with_seat c d (record (c.seat d) { pages = filled (c.seat d).pages f })) b
@@ -298,9 +312,7 @@ fill_page_fine c b d f fine online current = record {
       (λ i process h. subst (λ (j : ℕ). IsFineSeg next b j k n) (sym i)
       (seg_same c next b d k n refl (same_due d) (fine.seg d k n process h)))
       (λ m process h. seg_same c next b e k n refl (same_due e) (fine.seg e k n process h));
-  idle = λ e. by_place e d new (c.seat e) (λ x. x.online ≡ false → (x.segs ≡ []) × (x.pages ≡ []))
-      (λ i off. absurd (no_and online off))
-      (λ n. fine.idle e);
+  idle = idle_kept c b d new fine online;
 }
   where
     new : Seat
@@ -310,8 +322,7 @@ fill_page_fine c b d f fine online current = record {
     next = with_seat c d new
 
     same_due : (e : ℕ) → (next.seat e).due ≡ (c.seat e).due
-    same_due e = by_place e d new (c.seat e) (λ x. x.due ≡ (c.seat e).due)
-        (λ i. ap (λ (j : ℕ). (c.seat j).due) (sym i)) (λ n. refl)
+    same_due = due_kept c d new refl
 
     here : (g : ℕ) → has (filled (c.seat d).pages f) g ≡ true → IsFinePage next b d g
     here g h = elim (has-filled (c.seat d).pages f g h) [
@@ -331,9 +342,7 @@ fill_seg_fine c b d k n fine online its current = record {
   seg = λ e j m. by_place e d new (c.seat e) (λ x. x.process ≡ Some j → has x.segs m ≡ true → IsFineSeg next b e j m)
       (λ i process h. subst (λ (l : ℕ). IsFineSeg next b l j m) (sym i) (here j m process h))
       (λ o process h. seg_same c next b e j m refl (same_due e) (fine.seg e j m process h));
-  idle = λ e. by_place e d new (c.seat e) (λ x. x.online ≡ false → (x.segs ≡ []) × (x.pages ≡ []))
-      (λ i off. absurd (no_and online off))
-      (λ m. fine.idle e);
+  idle = idle_kept c b d new fine online;
 }
   where
     new : Seat
@@ -343,8 +352,7 @@ fill_seg_fine c b d k n fine online its current = record {
     next = with_seat c d new
 
     same_due : (e : ℕ) → (next.seat e).due ≡ (c.seat e).due
-    same_due e = by_place e d new (c.seat e) (λ x. x.due ≡ (c.seat e).due)
-        (λ i. ap (λ (j : ℕ). (c.seat j).due) (sym i)) (λ m. refl)
+    same_due = due_kept c d new refl
 
     here : (j m : ℕ) → (c.seat d).process ≡ Some j → has (filled (c.seat d).segs n) m ≡ true → IsFineSeg next b d j m
     here j m process h = elim (has-filled (c.seat d).segs n m h) [
