@@ -25,7 +25,7 @@ use Rattle.seg_control.specs.Control.{kst_at}
 use Rattle.storage_ops.specs.Cut.{Commits, HasLengthSet}
 use Rattle.storage_ops.specs.Shown.{HasMoved, HasRowSet, Shows, Storage as Stored, answered, with_known}
 use Rattle.storage_ops.proofs.Alike.{Keeps, keeps_length, keeps_moved, keeps_one, keeps_rows}
-use Rattle.storage_ops.proofs.Changed.{segment_refuses}
+use Rattle.flat_model.proofs.PathRefusals.{segment_refuses}
 use Rattle.tree_model.specs.Access.{with_row as with_row_of}
 use Rattle.machine_model.specs.Commits.{with_effect}
 use Rattle.machine_model.specs.Keeps.{IsFaithful}

@@ -34,7 +34,7 @@ use Rattle.seg_control.specs.Kept.{IsKept}
 use Rattle.storage_ops.specs.Cut.{Commits, KeepsRest}
 use Rattle.storage_ops.specs.CutOff.{Erases, paged, pages_cut, pages_from}
 use Rattle.storage_ops.specs.Shown.{IsStore, Shows, Storage as Stored, home_of, is_there, pages_in}
-use Rattle.storage_ops.proofs.Changed.{branch_refuses}
+use Rattle.flat_model.proofs.PathRefusals.{branch_refuses}
 use Rattle.machine_model.specs.Commits.{frames_freed, inactive_if, lost, with_deleted, with_effect}
 use Rattle.machine_model.specs.Jobs.{with_inactive}
 use Rattle.machine_model.specs.Keeps.{IsFaithful}

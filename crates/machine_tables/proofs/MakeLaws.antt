@@ -24,7 +24,7 @@ use Rattle.vtoc.specs.Vtoc.{least_free_entry}
 use Rattle.storage_ops.specs.Cut.{Commits}
 use Rattle.storage_ops.specs.CutOff.{TakesHome}
 use Rattle.storage_ops.specs.Shown.{Shows, Storage as Stored, who_at, with_vtocs}
-use Rattle.storage_ops.proofs.Changed.{node_refuses}
+use Rattle.flat_model.proofs.PathRefusals.{node_refuses}
 use Rattle.machine_model.specs.Commits.{branch_of, gained, with_branch, with_made}
 use Rattle.machine_model.specs.Keeps.{IsFaithful}
 use Rattle.machine_model.specs.Reads.{or_zero}

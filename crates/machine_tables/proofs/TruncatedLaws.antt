@@ -43,8 +43,8 @@ use Rattle.storage_ops.specs.Cut.{leaves as frame_left}
 use Rattle.storage_ops.specs.CutOff.{CountsOthers, Paged, cut_at, cut_by, is_cleared, page_cleared, page_cut, paged}
 use Rattle.storage_ops.specs.CutOff.{pages_cut, pages_from}
 use Rattle.storage_ops.specs.Shown.{IsStore, Shows, Storage as Stored, answered, home_of, is_there, pages_in}
-use Rattle.storage_ops.proofs.Changed.{segment_refuses}
-use Rattle.storage_ops.proofs.PathLaws.{walked_to}
+use Rattle.flat_model.proofs.PathRefusals.{segment_refuses}
+use Rattle.tree_commands.proofs.PathLaws.{walked_to}
 use Rattle.machine_model.specs.Commits.{first_past, frame_entry, stays, with_effect, with_truncated}
 use Rattle.machine_model.specs.Jobs.{are_zeros, page_or_zero}
 use Rattle.machine_model.specs.Keeps.{IsFaithful}
