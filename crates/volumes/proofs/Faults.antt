@@ -174,3 +174,8 @@ pub write_grows : (lines : List FailLine) (reads writes now : ℕ) → writes < 
     → named_calls lines false reads + named_calls lines true writes ≤ named_calls lines false reads + named_calls lines
     true now
 write_grows lines reads writes now fits is = let more = grows_next lines true writes now fits is in omega (arith, more)
+
+-- what a call of a drive in core tells of its faults
+pub ruleset read_faults = (few_faults, read_rose, read_grows)
+
+pub ruleset write_faults = (few_faults, write_rose, write_grows)

@@ -117,6 +117,7 @@ impl Drive for CoreDrive {
         self.pages.len() as u32
     }
 
+    #[tactic(auto, using(crate::proofs::Faults::read_faults))]
     fn read_page(&mut self, r: u32, to: &mut Page) -> Result<(), Failed>
         requires { r < length self.old.pages }
         ensures fails { IsErr result ↔ IsTrue (names_next self.old.fails false self.old.reads) }
@@ -136,6 +137,7 @@ impl Drive for CoreDrive {
         Ok(())
     }
 
+    #[tactic(auto, using(crate::proofs::Faults::write_faults))]
     fn write_page(&mut self, r: u32, from: &Page) -> Result<(), Failed>
         requires { r < length self.old.pages }
         ensures fails { IsErr result ↔ IsTrue (names_next self.old.fails true self.old.writes) }
