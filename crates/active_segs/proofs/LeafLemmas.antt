@@ -1,9 +1,9 @@
 -- The leaf below a place as a function: the least inferior, and steps down.
-use Rattle.std.proofs.Common.{◌≡◌, ◌≢◌, ℕ, zero, suc, ◌<◌, ◌≤◌, Bool, true, false, cond, not, List, length, Option}
+use Rattle.std.proofs.Common.{◌≡◌, ◌≢◌, ℕ, zero, suc, ◌<◌, ◌≤◌, Bool, true, false, not, List, length, Option}
 use Rattle.std.proofs.Common.{Some, None, refl, ap, ◌∙◌, arith, get_or}
-use Rattle.std.proofs.Common.{inl, inr, position, ltb}
+use Rattle.std.proofs.Common.{inl, inr, position}
 use Rattle.std.specs.List.{position_or_len}
-use Rattle.std.proofs.lemmas.Bool.{cases_order, eqb-true, eq-eqb, ne_eqb, ltb-false, not-true, both_ways}
+use Rattle.std.proofs.lemmas.Bool.{cases_order, eqb-true, eq-eqb, ne_eqb, not-true, both_ways}
 use Rattle.std.proofs.lemmas.List.Quantifiers.{position-Some}
 use Rattle.std.proofs.lemmas.List.Sums.{prefix_len_passes}
 use Rattle.std.proofs.lemmas.Option.{none-some, same_Some}
@@ -29,14 +29,9 @@ is_inferior u (Some s) e = ap (λ (k : ℕ). Some k) (eqb-true s u e)
 
 pub position_none : {X : Type 0} (p : X → Bool) (xs : List X) → position p xs ≡ None → (k : ℕ) (d : X) → k < length xs
     → p (get_or xs k d) ≡ false
-position_none {X} p xs e k d within = none_at (ltb (position_or_len p xs) (length xs)) refl e
-  where
-    none_at : (b : Bool) → ltb (position_or_len p xs) (length xs) ≡ b → cond b (Some (position_or_len p xs)) None
-        ≡ None → p (get_or xs k d) ≡ false
-    none_at true is e' = cc
-    none_at false is e' =
-        let past : length xs ≤ position_or_len p xs = ltb-false _ _ is in
-        not-true _ (prefix_len_passes (λ x. not (p x)) xs k d (omega arith))
+position_none p xs e k d within =
+    let past : length xs ≤ position_or_len p xs = grind arith in
+    not-true _ (prefix_len_passes (λ x. not (p x)) xs k d (omega arith))
 
 position_is : {X : Type 0} (p : X → Bool) (xs : List X) (q : ℕ) (d : X) → q < length xs → p (get_or xs q d) ≡ true
     → ((k : ℕ) → k < q → p (get_or xs k d) ≡ false) → position p xs ≡ Some q

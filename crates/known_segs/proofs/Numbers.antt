@@ -1,11 +1,11 @@
 -- What the number of a uid and the least free number are, place by place.
-use Rattle.std.proofs.Common.{◌≡◌, ℕ, suc, zero, ◌+◌, ◌<◌, ◌≤◌, Bool, true, false, cond, ltb, not, List, [], ◌∷◌}
+use Rattle.std.proofs.Common.{◌≡◌, ◌≢◌, ℕ, suc, zero, ◌+◌, ◌<◌, ◌≤◌, Bool, true, false, not, List, [], ◌∷◌}
 use Rattle.std.proofs.Common.{length, Option, Some, None, refl, sym, ap}
 use Rattle.std.proofs.Common.{subst, ◌∙◌, arith, get_or, set, inl, inr, is_some, is_none, position, IsSome, IsNone}
 use Rattle.std.proofs.Common.{IsTrue}
 use Rattle.std.specs.Prelude.{◌↔◌}
 use Rattle.std.specs.List.{position_or_len}
-use Rattle.std.proofs.lemmas.Bool.{eqb-true, eq-eqb, ltb-false, not-true, both_ways, cases_eq, cases_lt}
+use Rattle.std.proofs.lemmas.Bool.{eqb-true, eq-eqb, not-true, both_ways, cases_eq, cases_lt}
 use Rattle.std.proofs.lemmas.List.{get_or_past, get_or-set_same, get_or-set_other, set-get_or}
 use Rattle.std.proofs.lemmas.List.Sums.{prefix_len_passes, count_by-le-length}
 use Rattle.std.proofs.lemmas.List.Quantifiers.{position-Some}
@@ -16,14 +16,9 @@ use Rattle.known_segs.specs.Known.{HasOneNumberEach}
 
 pub position_none : {X : Type 0} (p : X → Bool) (xs : List X) → position p xs ≡ None → (k : ℕ) (d : X) → k < length xs
     → p (get_or xs k d) ≡ false
-position_none {X} p xs e k d within = none_at (ltb (position_or_len p xs) (length xs)) refl e
-  where
-    none_at : (b : Bool) → ltb (position_or_len p xs) (length xs) ≡ b → cond b (Some (position_or_len p xs)) None
-        ≡ None → p (get_or xs k d) ≡ false
-    none_at true is e' = cc
-    none_at false is e' =
-        let past : length xs ≤ position_or_len p xs = ltb-false _ _ is in
-        not-true _ (prefix_len_passes (λ x. not (p x)) xs k d (omega arith))
+position_none p xs e k d within =
+    let past : length xs ≤ position_or_len p xs = grind arith in
+    not-true _ (prefix_len_passes (λ x. not (p x)) xs k d (omega arith))
 
 stands_for_is : (uid : ℕ) (o : Option ℕ) → stands_for uid o ≡ true → o ≡ Some uid
 stands_for_is uid None e = cc
@@ -152,30 +147,27 @@ once_given kst uid n once lt unknown a b u e f =
     elim (cases_eq a n) [
       | inl at_a ↦ elim (cases_eq b n) [
         | inl at_b ↦ at_a ∙ sym at_b
-        | inr off_b ↦
-            (let there : get_or (set kst n (Some uid)) n None ≡ Some uid = get_or-set_same kst n (Some uid) None lt in
-            let old : get_or (set kst n (Some uid)) b None ≡ get_or kst b None =
-            get_or-set_other kst n b (Some uid) None off_b in
-            let here : get_or (set kst n (Some uid)) n None ≡ Some u =
-            subst (λ (k : ℕ). get_or (set kst n (Some uid)) k None ≡ Some u) at_a e in
-            let known : uid_of kst b ≡ Some uid = cc in absurd (unknown b known))
+        | inr off_b ↦ absurd (clash a b at_a off_b e f)
       ]
-      | inr off_a ↦
-          (let old_a : get_or (set kst n (Some uid)) a None ≡ get_or kst a None =
-          get_or-set_other kst n a (Some uid) None off_a in
-          elim (cases_eq b n) [
-            | inl at_b ↦
-                (let there : get_or (set kst n (Some uid)) n None ≡ Some uid =
-                get_or-set_same kst n (Some uid) None lt in
-                let here : get_or (set kst n (Some uid)) n None ≡ Some u =
-                subst (λ (k : ℕ). get_or (set kst n (Some uid)) k None ≡ Some u) at_b f in
-                let known : uid_of kst a ≡ Some uid = cc in absurd (unknown a known))
-            | inr off_b ↦
-                (let old_b : get_or (set kst n (Some uid)) b None ≡ get_or kst b None =
-                get_or-set_other kst n b (Some uid) None off_b in
-                once a b u (sym old_a ∙ e) (sym old_b ∙ f))
-          ])
+      | inr off_a ↦ elim (cases_eq b n) [
+        | inl at_b ↦ absurd (clash b a at_b off_a f e)
+        | inr off_b ↦ once a b u (sym (kept a off_a) ∙ e) (sym (kept b off_b) ∙ f)
+      ]
     ]
+  where
+    given : List (Option ℕ)
+    given = set kst n (Some uid)
+
+    kept : (k : ℕ) → k ≢ n → get_or given k None ≡ get_or kst k None
+    kept k off = get_or-set_other kst n k (Some uid) None off
+
+    -- no other number stands for the uid
+    clash : (i j : ℕ) → i ≡ n → j ≢ n → get_or given i None ≡ Some u → get_or given j None ≡ Some u → ⊥
+    clash i j at_i off_j is other =
+        let there : get_or given n None ≡ Some uid = get_or-set_same kst n (Some uid) None lt in
+        let here : get_or given n None ≡ Some u = subst (λ (k : ℕ). get_or given k None ≡ Some u) at_i is in
+        let old : get_or given j None ≡ get_or kst j None = kept j off_j in
+        let known : uid_of kst j ≡ Some uid = cc in unknown j known
 
 -- a number given up
 pub once_forgotten : (kst : List (Option ℕ)) (n : ℕ) → HasOneNumberEach kst → n < length kst

@@ -1,22 +1,14 @@
 -- A trailer that is in a list has a place there.
-use Rattle.std.proofs.Common.{◌≡◌, ℕ, ◌<◌, ◌≤◌, Bool, true, false, cond, ltb, not, List, length, Some, None, refl}
+use Rattle.std.proofs.Common.{◌≡◌, ℕ, ◌<◌, Bool, true, not, List, length, refl}
 use Rattle.std.proofs.Common.{arith, get_or, Contains, IsSome, position}
 use Rattle.std.proofs.Common.{ap, ◌∙◌}
-use Rattle.std.specs.List.{position_or_len}
-use Rattle.std.proofs.lemmas.Bool.{ltb-false, not-true, both_ways, eq-eqb, and_from}
+use Rattle.std.proofs.lemmas.Bool.{eq-eqb, and_from}
 use Rattle.std.proofs.lemmas.List.Sums.{prefix_len_passes}
 use Rattle.trailers.specs.Trailer.{leads_to, place_in}
 
 position_some : {X : Type 0} (p : X → Bool) (xs : List X) (k : ℕ) (d : X) → k < length xs → p (get_or xs k d) ≡ true
     → IsSome (position p xs)
-position_some {X} p xs k d within holds = some_at (ltb (position_or_len p xs) (length xs)) refl
-  where
-    some_at : (b : Bool) → ltb (position_or_len p xs) (length xs) ≡ b
-        → IsSome (cond b (Some (position_or_len p xs)) None)
-    some_at true is = refl
-    some_at false is =
-        let past : length xs ≤ position_or_len p xs = ltb-false _ _ is in
-        absurd (both_ways _ (not-true _ (prefix_len_passes (λ x. not (p x)) xs k d (omega arith))) holds)
+position_some p xs k d within holds = grind (arith, prefix_len_passes (λ x. not (p x)) xs k d)
 
 pub there_is_a_place : (xs : List (ℕ × ℕ)) (process number : ℕ) → Contains xs (process, number)
     → IsSome (place_in xs process number)
