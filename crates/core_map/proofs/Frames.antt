@@ -20,37 +20,25 @@ use Rattle.core_map.specs.Taken.{IsTied}
 pub below_or_past : (a b : ℕ) → (a < b) ⊎ (b ≤ a)
 below_or_past a b = elim (leb_tells b a) [ inl h ↦ inr h.1 | inr h ↦ inl h.1 ]
 
--- what a change of marks leaves as it is
-pub taken_unmarked : (x : Frame) → is_taken (unmarked x) ≡ is_taken x
-taken_unmarked Free = refl
-taken_unmarked (Started uid page) = refl
-taken_unmarked (Bound uid page used modified) = refl
+-- What a change of marks leaves as it is: whether the frame is taken, and which page is being read in.
+pub record IsSeenAs (x y : Frame) : Type 0 where
+  pub taken : is_taken x ≡ is_taken y
+  pub started : started_page x ≡ started_page y
 
-pub taken_referred : (x : Frame) (wrote : Bool) → is_taken (after_reference x wrote) ≡ is_taken x
-taken_referred Free wrote = refl
-taken_referred (Started uid page) wrote = refl
-taken_referred (Bound uid page used modified) wrote = refl
+pub seen_unmarked : (x : Frame) → IsSeenAs (unmarked x) x
+seen_unmarked Free = record { taken = refl; started = refl }
+seen_unmarked (Started uid page) = record { taken = refl; started = refl }
+seen_unmarked (Bound uid page used modified) = record { taken = refl; started = refl }
 
-pub taken_modified : (x : Frame) (now : Bool) → is_taken (with_modified x now) ≡ is_taken x
-taken_modified Free now = refl
-taken_modified (Started uid page) now = refl
-taken_modified (Bound uid page used modified) now = refl
+pub seen_referred : (x : Frame) (wrote : Bool) → IsSeenAs (after_reference x wrote) x
+seen_referred Free wrote = record { taken = refl; started = refl }
+seen_referred (Started uid page) wrote = record { taken = refl; started = refl }
+seen_referred (Bound uid page used modified) wrote = record { taken = refl; started = refl }
 
--- which page is being read in, by the same changes
-pub started_unmarked : (x : Frame) → started_page (unmarked x) ≡ started_page x
-started_unmarked Free = refl
-started_unmarked (Started uid page) = refl
-started_unmarked (Bound uid page used modified) = refl
-
-pub started_referred : (x : Frame) (wrote : Bool) → started_page (after_reference x wrote) ≡ started_page x
-started_referred Free wrote = refl
-started_referred (Started uid page) wrote = refl
-started_referred (Bound uid page used modified) wrote = refl
-
-pub started_modified : (x : Frame) (now : Bool) → started_page (with_modified x now) ≡ started_page x
-started_modified Free now = refl
-started_modified (Started uid page) now = refl
-started_modified (Bound uid page used modified) now = refl
+pub seen_modified : (x : Frame) (now : Bool) → IsSeenAs (with_modified x now) x
+seen_modified Free now = record { taken = refl; started = refl }
+seen_modified (Started uid page) now = record { taken = refl; started = refl }
+seen_modified (Bound uid page used modified) now = record { taken = refl; started = refl }
 
 pub started_of_bound : (x : Frame) → is_bound x ≡ true → None ≡ started_page x
 started_of_bound Free h = cc

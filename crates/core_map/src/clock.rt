@@ -83,21 +83,11 @@ fn first_bound(frames: &[Frame], from: usize, to: usize) -> Option<usize>
 }
 
 /// The frame with its used mark off.
-fn without_mark(frame: Frame) -> Frame
+fn without_mark(mut frame: Frame) -> Frame
     ensures { result ≡ unmarked frame }
 {
-    match frame {
-        Frame::Bound {
-            uid,
-            page,
-            modified,
-            ..
-        } => Frame::Bound {
-            uid,
-            page,
-            used: false,
-            modified,
-        },
-        Frame::Free | Frame::Started { .. } => frame,
+    if let Frame::Bound { used, .. } = &mut frame {
+        *used = false;
     }
+    frame
 }

@@ -244,41 +244,22 @@ fn occupy(taken: &mut Bitmap, f: u32)
 }
 
 /// The frame after a reference through it.
-fn referred(frame: Frame, wrote: bool) -> Frame
+fn referred(mut frame: Frame, wrote: bool) -> Frame
     ensures { result ≡ after_reference frame wrote }
 {
-    match frame {
-        Frame::Bound {
-            uid,
-            page,
-            modified,
-            ..
-        } => Frame::Bound {
-            uid,
-            page,
-            used: true,
-            modified: modified || wrote,
-        },
-        Frame::Free | Frame::Started { .. } => frame,
+    if let Frame::Bound { used, modified, .. } = &mut frame {
+        *used = true;
+        *modified = *modified || wrote;
     }
+    frame
 }
 
 /// The frame with this modified mark.
-fn modified_as(frame: Frame, modified: bool) -> Frame
-    ensures { result ≡ with_modified frame modified }
+fn modified_as(mut frame: Frame, now: bool) -> Frame
+    ensures { result ≡ with_modified frame now }
 {
-    match frame {
-        Frame::Bound {
-            uid,
-            page,
-            used,
-            ..
-        } => Frame::Bound {
-            uid,
-            page,
-            used,
-            modified,
-        },
-        Frame::Free | Frame::Started { .. } => frame,
+    if let Frame::Bound { modified, .. } = &mut frame {
+        *modified = now;
     }
+    frame
 }

@@ -1,6 +1,6 @@
 use Rattle.std.proofs.Common.{◌∙◌, sym, arith}
 use Rattle.core_map.specs.CoreMap.{is_taken, started_page}
-use Rattle.core_map.proofs.Frames.{started_unmarked, taken_unmarked}
+use Rattle.core_map.proofs.Frames.{seen_unmarked}
 use Rattle.core_map.proofs.Turning.{turned_same, turned_choice, turned_core, turned_count}
 use Rattle.core_map.proofs.CoreMap.choose.Goals as goal
 
@@ -8,7 +8,7 @@ pub invariant_of-self : goal.invariant_of-self
 invariant_of-self c =
     let count = turned_count _ _ _ _ c.turn-f.ensures in
     record {
-      bits = c.self.invariant.bits ∙ sym (turned_same is_taken taken_unmarked _ _ _ _ c.turn-f.ensures);
+      bits = c.self.invariant.bits ∙ sym (turned_same is_taken (λ x. (seen_unmarked x).taken) _ _ _ _ c.turn-f.ensures);
       short = omega (arith, count, c.self.invariant.short);
       hand_within = omega (arith, c.next-self-inside.ensures.within, c.len.ensures);
     }
@@ -24,4 +24,4 @@ returns-clause-core c =
     c.next-self-inside.ensures.next)
 
 pub returns-clause-started : goal.returns-clause-started
-returns-clause-started c = rw (← c.self.view_is) (turned_same started_page started_unmarked _ _ _ _ c.turn-f.ensures)
+returns-clause-started c = rw (← c.self.view_is) (turned_same started_page (λ x. (seen_unmarked x).started) _ _ _ _ c.turn-f.ensures)

@@ -1,14 +1,14 @@
 use Rattle.std.proofs.Common.{◌∙◌, ap}
 use Rattle.core_map.specs.CoreMap.{is_taken, started_page}
-use Rattle.core_map.proofs.Frames.{tied_same, kept_by, started_referred, taken_referred}
+use Rattle.core_map.proofs.Frames.{tied_same, kept_by, seen_referred}
 use Rattle.core_map.proofs.CoreMap.mark.Goals as goal
 
 pub invariant_of-self : goal.invariant_of-self
 invariant_of-self c =
     tied_same _ _ _ c.args.f c.index.result.now _ c.self.invariant c.index.ensures
-    (ap is_taken c.referred.ensures ∙ taken_referred _ c.args.wrote)
+    (ap is_taken c.referred.ensures ∙ (seen_referred _ c.args.wrote).taken)
 
 pub returns-clause-started : goal.returns-clause-started
 returns-clause-started c =
     rw (← c.self.view_is) (kept_by started_page _ c.args.f c.index.result.now _ c.index.ensures
-    (ap started_page c.referred.ensures ∙ started_referred _ _))
+    (ap started_page c.referred.ensures ∙ (seen_referred _ _).started))

@@ -1,14 +1,14 @@
 use Rattle.std.proofs.Common.{◌∙◌, ap}
 use Rattle.core_map.specs.CoreMap.{is_taken, started_page}
-use Rattle.core_map.proofs.Frames.{tied_same, kept_by, started_modified, taken_modified}
+use Rattle.core_map.proofs.Frames.{tied_same, kept_by, seen_modified}
 use Rattle.core_map.proofs.CoreMap.set_modified.Goals as goal
 
 pub invariant_of-self : goal.invariant_of-self
 invariant_of-self c =
     tied_same _ _ _ c.args.f c.index.result.now _ c.self.invariant c.index.ensures
-    (ap is_taken c.modified_as.ensures ∙ taken_modified _ _)
+    (ap is_taken c.modified_as.ensures ∙ (seen_modified _ _).taken)
 
 pub returns-clause-started : goal.returns-clause-started
 returns-clause-started c =
     rw (← c.self.view_is) (kept_by started_page _ c.args.f c.index.result.now _ c.index.ensures
-    (ap started_page c.modified_as.ensures ∙ started_modified _ _))
+    (ap started_page c.modified_as.ensures ∙ (seen_modified _ _).started))
