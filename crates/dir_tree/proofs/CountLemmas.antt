@@ -4,7 +4,7 @@ use Rattle.std.proofs.Common.{◌∷◌, ◌++◌, length, Option, Some, None}
 use Rattle.std.proofs.Common.{refl, sym, ap, subst, ◌∙◌, arith, get_or, set, take, drop, inl, inr}
 use Rattle.std.specs.Prelude.{count_by, ◌^◌, ◌↔◌}
 use Rattle.std.specs.List.{remove}
-use Rattle.std.proofs.lemmas.Bool.{cases_Bool, cases_eq, eq-eqb, ne_eqb, eqb-true, false_from_ne_true}
+use Rattle.std.proofs.lemmas.Bool.{cases_Bool, cases_eq, eq-eqb, ne_eqb, false_from_ne_true}
 use Rattle.std.proofs.lemmas.List.{ext_get_or, get_or-map, get_or-set_same, get_or-set_other, get_or_append_left}
 use Rattle.std.proofs.lemmas.List.{length-map, length-set, length_push}
 use Rattle.std.proofs.lemmas.List.{append-nil, drop_all, take_all}
@@ -22,23 +22,15 @@ use Rattle.dir_tree.proofs.EditLemmas.{each_pushed, each_left, was, was_up, was_
 use Rattle.dir_tree.proofs.EditLemmas.{at_was}
 use Rattle.dir_tree.proofs.KeptLemmas.{entry_present, superior_read}
 use Rattle.dir_tree.specs.Laws.{directory_in, directory_shape}
-use Rattle.tree_model.proofs.TreeLaws.{superior_in, superior_up, IsUp}
+use Rattle.tree_model.proofs.TreeLaws.{superior_in, superior_up, superior_is, is_superior_of, IsUp}
 
 -- ---- entries below a uid
 
 pub lies_since : (u : ℕ) (e : Entry) → e.superior ≡ Some u → lies_in u e ≡ true
-lies_since u e is = up e.superior is
-  where
-    up : (o : Option ℕ) → o ≡ Some u → lies_in u (record e { superior = o }) ≡ true
-    up None is = cc
-    up (Some s) is = eq-eqb s u (same_Some s u is)
+lies_since u e is = superior_is u e.superior is
 
 lies_of : (u : ℕ) (e : Entry) → lies_in u e ≡ true → e.superior ≡ Some u
-lies_of u e is = up e.superior is
-  where
-    up : (o : Option ℕ) → lies_in u (record e { superior = o }) ≡ true → o ≡ Some u
-    up None is = cc
-    up (Some s) is = ap (λ (x : ℕ). Some x) (eqb-true s u is)
+lies_of u e is = is_superior_of u e.superior is
 
 lies_eq : (u s : ℕ) (e : Entry) → e.superior ≡ Some s → lies_in u e ≡ eqb s u
 lies_eq u s e is = up e.superior is

@@ -13,12 +13,13 @@ use Rattle.std.proofs.lemmas.Cmp.{tied_itself, then_total, on_total, nat_cmp_tot
 use Rattle.std.proofs.lemmas.Map.Text.{is_eq-slice_cmp}
 use Rattle.std.proofs.lemmas.Slice.Eq.{bytes_eq-Decides}
 use Rattle.std.proofs.lemmas.Bool.{cases_lt, cases_eq, cases_order, and_from}
+use Rattle.std.proofs.lemmas.List.{get_or_read}
 use Rattle.std.proofs.lemmas.List.Edits.{length-insert, get_or-insert_below, get_or-insert_at, get_or-insert_above}
 use Rattle.std.proofs.lemmas.List.Edits.{get_or-remove_below, get_or-remove_above}
 use Rattle.tree_model.specs.Tree.{is_branch, is_inferior}
 use Rattle.dir_tree.specs.declared.node.Node.{Node}
 use Rattle.dir_tree.specs.Shape.{shape}
-use Rattle.dir_tree.specs.Index.{Key, HasPlace, IsSorted, node_at, key_of, key_at, key_cmp}
+use Rattle.dir_tree.specs.Index.{Key, HasPlace, IsSorted, no_node, node_at, key_of, key_at, key_cmp}
 use Rattle.dir_tree.proofs.EditLemmas.{was, was_other, was_up, at_was, fewer, was_within}
 use Rattle.tree_model.proofs.TreeLaws.{lies, is_below}
 use Rattle.dir_tree.specs.Laws.{Where, Before, Here, After, where_is}
@@ -214,6 +215,14 @@ module _ (nodes : List Node) (ps : List ℕ) (i : ℕ) (within : i < length ps) 
   )
 
 -- ---- the search
+
+-- how the key of the node that stands there compares
+pub compared : (nodes : List Node) (ps : List ℕ) (m : ℕ) (key : Key) {n : Node} {o : Ordering}
+    → get_or ps m 0 < length nodes → n ≡ get_or nodes (get_or ps m 0) n → o ≡ key_cmp (key_of n) key
+    → key_cmp (key_at nodes ps m) key ≡ o
+compared nodes ps m key {n} there read is =
+    let node : n ≡ node_at nodes (get_or ps m 0) = get_or_read nodes (get_or ps m 0) n there read no_node in
+    ap (λ (x : Node). key_cmp (key_of x) key) (sym node) ∙ sym is
 
 -- what stands after one that is before a key's place can't be before it
 pub halved_below : (nodes : List Node) (ps : List ℕ) (m : ℕ) (key : Key) → IsSorted nodes ps → m < length ps

@@ -19,7 +19,7 @@ use Rattle.dir_tree.proofs.EditLemmas.{each_pushed, each_left, was, was_up, was_
 use Rattle.dir_tree.proofs.EditLemmas.{was_within, now_within}
 use Rattle.tree_model.proofs.Finds.{filter_map_same, find_map}
 use Rattle.dir_tree.proofs.NewestLemmas.{node_of_entry, newest_remove}
-use Rattle.tree_model.proofs.TreeLaws.{tree_left, root_only}
+use Rattle.tree_model.proofs.TreeLaws.{tree_left, root_found}
 use Rattle.dir_tree.proofs.KeptLemmas.{apart_places, not_of, node_found}
 
 module _ {nodes : List Node} {es : List Entry} {free : List ℕ} {index : Places} {next : ℕ}
@@ -151,8 +151,8 @@ not_root {nodes} {es} {free} {index} {next} k uid i e within same is_uid none =
     let found : node_of (newest nodes es) uid ≡ Some (node_of_entry nodes es i) = node_found k uid i within is_uid in
     let shaped : find (λ n. eqb n.uid uid) (shapes (newest nodes es)) ≡ Some (shape (node_of_entry nodes es i)) =
     find_map (λ n. eqb n.uid uid) shape (newest nodes es) ∙ ap (option_map shape) found in
-    root_only (shapes (newest nodes es)) k.tree uid (shape (node_of_entry nodes es i)) shaped
-    (k.superiors i within ∙ ap (λ (d : Entry). d.superior) (sym same) ∙ none)
+    (root_found (shapes (newest nodes es)) k.tree uid (shape (node_of_entry nodes es i)) shaped
+    (k.superiors i within ∙ ap (λ (d : Entry). d.superior) (sym same) ∙ none)).0
 
 -- a node with a superior stands in the index
 pub named_at : {nodes : List Node} {es : List Entry} {free : List ℕ} {index : Places} {next : ℕ}

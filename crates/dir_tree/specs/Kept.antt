@@ -1,11 +1,12 @@
 -- What always holds of the tables behind a tree.
-use Rattle.std.specs.Prelude.{◌≡◌, ◌≢◌, ℕ, ◌+◌, ◌<◌, ◌≤◌, Bool, false, List, [], ◌∷◌, ◌++◌, length, map, count_by}
+use Rattle.std.specs.Prelude.{◌≡◌, ◌≢◌, ℕ, ◌+◌, ◌<◌, ◌≤◌, Bool, List, [], ◌∷◌, ◌++◌, length, map, count_by}
 use Rattle.std.specs.Prelude.{Option, Some, None, slice_index}
 use Rattle.std.specs.Prelude.{slice_index_or, ◌-◌, ◌==◌, if◌then◌else◌}
 use Rattle.dir_tree.specs.declared.node.Node.{Node}
 use Rattle.dir_tree.specs.declared.entries.Entry.{Entry}
 use Rattle.dir_tree.specs.Index.{Places, HasPlace, IsSorted, node_at}
 use Rattle.dir_tree.specs.Shape.{shapes}
+use Rattle.tree_model.specs.Tree.{is_superior}
 use Rattle.tree_model.specs.Trees.{IsTree}
 
 abbrev pub no_entry : Entry
@@ -38,11 +39,7 @@ pub record HasEntry (entries : List Entry) (uid : ℕ) (e : Entry) : Type 0 wher
 
 -- whether an entry is that of a node in the directory of this uid
 abbrev pub lies_in : ℕ → Entry → Bool
-lies_in u e = is_of u e.superior
-  where
-    is_of : ℕ → Option ℕ → Bool
-    is_of u None = false
-    is_of u (Some s) = s == u
+lies_in u e = is_superior u e.superior
 
 -- each entry has the number of those that lie in it
 abbrev pub IsCounted : List Entry → Type 0

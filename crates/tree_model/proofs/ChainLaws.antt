@@ -6,7 +6,7 @@ use Rattle.std.specs.Option.{option_and_then}
 use Rattle.std.proofs.lemmas.Bool.{cases_Bool, both_ways}
 use Rattle.tree_model.specs.Tree.{Node as Term, above, has_directory, node_in, step_up}
 use Rattle.tree_model.specs.Trees.{IsTree, AreUnder, IsChain, AreDirectories, EndsAtRoot, HasChains}
-use Rattle.tree_model.proofs.TreeLaws.{superior_in, IsUp, superior_up, above_once, root_only, root_directory}
+use Rattle.tree_model.proofs.TreeLaws.{superior_in, IsUp, superior_up, above_once, root_found}
 
 node_found : (ns : List Term) (u : ℕ) → node_in ns u ≡ find (λ n. eqb n.uid u) ns
 node_found [] u = refl
@@ -50,7 +50,7 @@ module _ (ns : List Term) (t : IsTree ns) where
   no_superior : (u : ℕ) (o : Option Term) → find (λ n. eqb n.uid u) ns ≡ o → is_some o ≡ true
       → option_and_then (λ n. n.superior) o ≡ None → u ≡ 1
   no_superior u None is some none = cc
-  no_superior u (Some n) is some none = root_only ns t u n is none
+  no_superior u (Some n) is some none = (root_found ns t u n is none).0
 
   under_root : (s : ℕ) (xs : List ℕ) → 1 < s → EndsAtRoot xs → EndsAtRoot (s ∷ xs)
   under_root s [] lt e = absurd e
@@ -120,9 +120,9 @@ module _ (ns : List Term) (t : IsTree ns) where
   root_is_directory : (o : Option Term) → find (λ n. eqb n.uid 1) ns ≡ o → is_some o ≡ true → has_directory ns 1 ≡ true
   root_is_directory None is some = cc
   root_is_directory (Some n) is some =
-      of_directory ns 1 n is ∙ root_directory ns t 1 n is
+      of_directory ns 1 n is ∙ (root_found ns t 1 n is
       (sym (ap (option_and_then (λ n. n.superior)) is)
-      ∙ root_superior (superior_in ns 1) refl (superior_up ns t 1))
+      ∙ root_superior (superior_in ns 1) refl (superior_up ns t 1))).1
 
   not_root : (u : ℕ) → is_some (node_in ns u) ≡ true → has_directory ns u ≡ false → u ≢ 1
   not_root u there isnt one = both_ways (has_directory ns u) isnt

@@ -7,7 +7,7 @@ use Rattle.std.specs.Option.{option_and_then}
 use Rattle.std.proofs.lemmas.Bool.{cases_Bool, cases_eq, both_ways, eqb-true, eq-eqb, ne_eqb, and_parts, or_parts}
 use Rattle.std.proofs.lemmas.Option.{same_Some}
 use Rattle.std.proofs.lemmas.Slice.Eq.{bytes_eq-Decides}
-use Rattle.tree_model.specs.Tree.{Node as Term, above, branch_in, is_branch, is_inferior, step_up, has_directory}
+use Rattle.tree_model.specs.Tree.{Node as Term, above, branch_in, is_branch, is_inferior, is_superior, step_up, has_directory}
 use Rattle.tree_model.specs.Trees.{AreBelow, IsBranch, Joins, IsTree}
 use Rattle.tree_model.proofs.Finds.{IsMember, branch_found, member_found}
 
@@ -101,42 +101,32 @@ depth (n ∷ ns) t u = elim (cases_eq n.uid u) [
   | inr other ↦ rw (ne_eqb n.uid u other) (depth ns t.1 u)
 ]
 
--- only the root has no superior
-pub root_only : (ns : List Term) → IsTree ns → (u : ℕ) (n : Term) → find (λ n. eqb n.uid u) ns ≡ Some n → n.superior
-    ≡ None → u ≡ 1
-root_only [] t u n e none = cc
-root_only (m ∷ ns) t u n e none = elim (cases_eq m.uid u) [
+-- only the root has no superior, and it's a directory
+pub root_found : (ns : List Term) → IsTree ns → (u : ℕ) (n : Term) → find (λ n. eqb n.uid u) ns ≡ Some n → n.superior
+    ≡ None → (u ≡ 1) × (n.directory ≡ true)
+root_found [] t u n e none = cc
+root_found (m ∷ ns) t u n e none = elim (cases_eq m.uid u) [
   | inl same ↦
       (let z : Some m ≡ Some n = rw (eq-eqb m.uid u same) at e in
       let is : m ≡ n = cc in
       let up : m.superior ≡ None = rw is none in
       let root : Joins ns None m = subst (λ o. Joins ns o m) up t.0 in
-      sym same ∙ root.one)
-  | inr other ↦ root_only ns t.1 u n (rw (ne_eqb m.uid u other) at e) none
-]
-
--- and it's a directory
-pub root_directory : (ns : List Term) → IsTree ns → (u : ℕ) (n : Term) → find (λ n. eqb n.uid u) ns ≡ Some n
-    → n.superior ≡ None → n.directory ≡ true
-root_directory [] t u n e none = cc
-root_directory (m ∷ ns) t u n e none = elim (cases_eq m.uid u) [
-  | inl same ↦
-      (let z : Some m ≡ Some n = rw (eq-eqb m.uid u same) at e in
-      let is : m ≡ n = cc in
-      let up : m.superior ≡ None = rw is none in
-      let root : Joins ns None m = subst (λ o. Joins ns o m) up t.0 in
-      ap (λ (x : Term). x.directory) (sym is) ∙ root.directory)
-  | inr other ↦ root_directory ns t.1 u n (rw (ne_eqb m.uid u other) at e) none
+      (sym same ∙ root.one, ap (λ (x : Term). x.directory) (sym is) ∙ root.directory))
+  | inr other ↦ root_found ns t.1 u n (rw (ne_eqb m.uid u other) at e) none
 ]
 
 -- ---- one branch of a name
 
+pub superior_is : (u : ℕ) (o : Option ℕ) → o ≡ Some u → is_superior u o ≡ true
+superior_is u None e = cc
+superior_is u (Some s) e = eq-eqb s u (same_Some s u e)
+
+pub is_superior_of : (u : ℕ) (o : Option ℕ) → is_superior u o ≡ true → o ≡ Some u
+is_superior_of u None e = cc
+is_superior_of u (Some s) e = ap (λ (x : ℕ). Some x) (eqb-true s u e)
+
 pub is_below : (u : ℕ) (n : Term) → n.superior ≡ Some u → is_inferior u n ≡ true
-is_below u n e = up n.superior e
-  where
-    up : (o : Option ℕ) → o ≡ Some u → is_inferior u (record n { superior = o }) ≡ true
-    up None e = cc
-    up (Some s) e = eq-eqb s u (same_Some s u e)
+is_below u n e = superior_is u n.superior e
 
 pub not_below : (u : ℕ) (n : Term) → n.superior ≢ Some u → is_inferior u n ≡ false
 not_below u n ne = up n.superior ne
@@ -148,11 +138,7 @@ not_below u n ne = up n.superior ne
 pub lies : (d : ℕ) (name : List ℕ) (n : Term) → is_branch d name n ≡ true → (n.superior ≡ Some d) × (n.name ≡ name)
 lies d name n e =
     let h : (is_inferior d n ≡ true) × (bytes_eq n.name name ≡ true) = and_parts _ _ e in
-    let same : n.name ≡ name = grind (arith, bytes_eq-Decides) in (up n.superior h.0, same)
-  where
-    up : (o : Option ℕ) → is_inferior d (record n { superior = o }) ≡ true → o ≡ Some d
-    up None e = cc
-    up (Some s) e = ap (λ (x : ℕ). Some x) (eqb-true s d e)
+    let same : n.name ≡ name = grind (arith, bytes_eq-Decides) in (is_superior_of d n.superior h.0, same)
 
 new_here : (ns : List Term) (n : Term) (d : ℕ) (name : List ℕ) → Joins ns n.superior n → is_branch d name n ≡ true
     → branch_in ns d name ≡ None

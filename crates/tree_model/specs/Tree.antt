@@ -45,13 +45,14 @@ abbrev pub has_directory : List Node → ℕ → Bool
 has_directory [] u = false
 has_directory (n ∷ ns) u = if n.uid == u then n.directory else has_directory ns u
 
+-- whether this directory is the superior
+abbrev pub is_superior : ℕ → Option ℕ → Bool
+is_superior directory None = false
+is_superior directory (Some s) = s == directory
+
 -- whether a node lies in a directory
 abbrev pub is_inferior : ℕ → Node → Bool
-is_inferior directory n = lies_in directory n.superior
-  where
-    lies_in : ℕ → Option ℕ → Bool
-    lies_in d None = false
-    lies_in d (Some s) = s == d
+is_inferior directory n = is_superior directory n.superior
 
 -- Where a path leads: to a node; or it can't be followed, since a directory on it lacks the next name, or since the
 -- next name would be looked up in a segment.

@@ -1,9 +1,7 @@
-use Rattle.std.proofs.Common.{◌≡◌, ◌≢◌, ◌<◌, ◌+◌, ◌-◌, ◌/◌, ℕ, length, get_or, sym, ap, ◌∙◌, arith, inl, inr}
-use Rattle.std.proofs.lemmas.List.{get_or_read}
+use Rattle.std.proofs.Common.{◌≡◌, ◌≢◌, ◌<◌, ◌+◌, ◌-◌, ◌/◌, ℕ, length, sym, ◌∙◌, arith, inl, inr}
 use Rattle.std.specs.declared.cmp.Ordering.TheVariants.{Less, Equal, Greater}
-use Rattle.dir_tree.specs.declared.node.Node.{Node}
-use Rattle.dir_tree.specs.Index.{Key, node_at, no_node, key_of, key_at, key_cmp}
-use Rattle.dir_tree.proofs.IndexLemmas.{halved_below, halved_above}
+use Rattle.dir_tree.specs.Index.{Key, key_at, key_cmp}
+use Rattle.dir_tree.proofs.IndexLemmas.{halved_below, halved_above, compared}
 use Rattle.dir_tree.proofs.index.first_at.Goals as goal
 
 pub loop-low-preserved-in-Less : goal.loop-low-preserved-in-Less
@@ -11,12 +9,9 @@ loop-low-preserved-in-Less c =
     let key : Key = (c.args.superior, c.args.name.now) in
     let m : ℕ = c.loop-low.low + (c.loop-low.high - c.loop-low.low) / 2 in
     let within : m < length c.args.places.now = omega arith in
-    let node : c.index-nodes-places.result ≡ node_at c.args.nodes.now (get_or c.args.places.now m 0) =
-    get_or_read c.args.nodes.now (get_or c.args.places.now m 0) c.index-nodes-places.result
-    (c.requires.within m within) c.index-nodes-places.is no_node in
     let less : key_cmp (key_at c.args.nodes.now c.args.places.now m) key ≡ Less =
-    ap (λ (n : Node). key_cmp (key_of n) key) (sym node) ∙ sym c.compare.ensures
-    ∙ c.in-Less.is in
+    compared c.args.nodes.now c.args.places.now m key (c.requires.within m within) c.index-nodes-places.is
+    c.compare.ensures ∙ c.in-Less.is in
     record {
       within = c.loop-low.invariant.within;
       order = omega arith;
@@ -29,12 +24,9 @@ loop-low-preserved c =
     let key : Key = (c.args.superior, c.args.name.now) in
     let m : ℕ = c.loop-low.low + (c.loop-low.high - c.loop-low.low) / 2 in
     let within : m < length c.args.places.now = omega arith in
-    let node : c.index-nodes-places.result ≡ node_at c.args.nodes.now (get_or c.args.places.now m 0) =
-    get_or_read c.args.nodes.now (get_or c.args.places.now m 0) c.index-nodes-places.result
-    (c.requires.within m within) c.index-nodes-places.is no_node in
     let here : key_cmp (key_at c.args.nodes.now c.args.places.now m) key ≡ c.compare.result =
-    ap (λ (n : Node). key_cmp (key_of n) key) (sym node)
-    ∙ sym c.compare.ensures in
+    compared c.args.nodes.now c.args.places.now m key (c.requires.within m within) c.index-nodes-places.is
+    c.compare.ensures in
     let isnt : key_cmp (key_at c.args.nodes.now c.args.places.now m) key ≢ Less =
     λ less. elim c.in-Equal.is [
       | inl e ↦ (let z : Less ≡ Equal = sym less ∙ here ∙ e in cc)
