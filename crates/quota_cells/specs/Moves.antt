@@ -1,5 +1,5 @@
 -- What a move of quota is refused for, by the numbers of the directories that can come to be above their quotas.
-use Rattle.std.specs.Prelude.{◌≡◌, ◌<◌, ℕ, Bool, true, List, ◌∷◌, ◌+◌, ◌-◌, ◌==◌, ◌&&◌, ◌||◌, not, nat_lt}
+use Rattle.std.specs.Prelude.{◌≡◌, ◌≢◌, ◌<◌, ℕ, Bool, true, List, ◌∷◌, ◌+◌, ◌-◌, ◌==◌, ◌&&◌, ◌||◌, not, nat_lt}
 use Rattle.std.specs.Prelude.{if◌then◌else◌, Result, Ok, Err}
 use Rattle.tree_model.specs.Tree.{above}
 use Rattle.tree_model.specs.Trees.{HasChains}
@@ -12,9 +12,10 @@ use Rattle.quota_cells.specs.declared.MoveFault.{MoveFault}
 use Rattle.quota_cells.specs.declared.MoveFault.TheVariants as fault
 use Rattle.quota_cells.specs.Cells.{CellMaps, quota_in, load_in}
 
--- a directory of the tree lies in this one
+-- a directory of the tree, which isn't the root, lies in this one
 pub record LiesIn (nodes : List Node) (dir superior : ℕ) : Type 0 where
   pub directory : is_directory nodes dir ≡ true
+  pub branch : dir ≢ 1
   pub is : superior_of (above (shapes nodes)) dir ≡ superior
   pub chain : above (shapes nodes) dir ≡ superior ∷ above (shapes nodes) superior
   pub below : superior < dir

@@ -354,7 +354,6 @@ impl Cells {
 
     /// What `may_move` gives, by the cells alone.
     fn move_refusal(&self, t: &Tree, dir: u32, superior: u32, amount: i32) -> Result<(), MoveFault>
-        requires branch { dir ≢ 1 }
         requires lies { LiesIn t.now.nodes dir superior }
         requires amount { 0 < unsigned_abs amount }
         requires fits { Fits t.now.nodes self.now }
@@ -387,7 +386,6 @@ impl Cells {
 
     /// What a move of so many pages of quota from a directory to its superior would be refused for.
     fn may_move_up(&self, t: &Tree, dir: u32, superior: u32, pages: u32) -> Result<(), MoveFault>
-        requires branch { dir ≢ 1 }
         requires lies { LiesIn t.now.nodes dir superior }
         requires pages { 0 < pages }
         requires table { IsTable self.now }
@@ -432,7 +430,6 @@ impl Cells {
         superior: u32,
         amount: i32,
     ) -> Result<(), MoveFault>
-        requires branch { dir ≢ 1 }
         requires lies { LiesIn t.now.nodes dir superior }
         requires amount { 0 < unsigned_abs amount }
         requires fits { Fits t.now.nodes self.old }

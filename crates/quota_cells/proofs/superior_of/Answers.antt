@@ -23,6 +23,7 @@ returns c =
     record {
       lies = record {
         directory = c.requires.directory;
+        branch = c.requires.branch;
         is = ap (λ (xs : List ℕ). get_or xs 0 0) (sym up);
         chain = below.chain;
         below = below.below;

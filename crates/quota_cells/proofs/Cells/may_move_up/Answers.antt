@@ -14,4 +14,4 @@ returns c =
     c.args.superior c.args.pages
     c.requires.lies.chain (on_directories c.args.t.now.nodes c.requires.fits c.args.dir ∙ c.requires.lies.directory)
     (on_directories c.args.t.now.nodes c.requires.fits c.args.superior
-    ∙ c.requires.lies.upper) c.requires.lies.below c.requires.pages c.requires.lies.is c.requires.branch
+    ∙ c.requires.lies.upper) c.requires.lies.below c.requires.pages c.requires.lies.is c.requires.lies.branch
