@@ -41,3 +41,6 @@ returns-in-Err-clause-read g c = record {
   word = refl;
   frames = rw (← c.self.view_is) c.self.invariant.0;
 }
+
+pub invariant_of-self : goal.invariant_of-self
+invariant_of-self g c = grind (arith, common_steps)
