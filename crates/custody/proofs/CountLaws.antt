@@ -2,25 +2,11 @@
 use Rattle.std.proofs.Common.{◌≡◌, ◌<◌, ℕ, Bool, true, false, cond, eqb, ◌&&◌, ◌-◌, ◌+◌, Option, Some, None, IsSome}
 use Rattle.std.proofs.Common.{Bor, MutBor, refl, sym, ap, subst, ◌∙◌}
 use Rattle.std.proofs.Common.{inl, inr, arith}
-use Rattle.std.specs.Ordering.{nat_cmp, ordering_then, is_eq}
-use Rattle.std.specs.Cmp.{unsigned_tied}
 use Rattle.std.specs.Option.{option_copied, option_copied_mut, is_some}
 use Rattle.std.specs.Map.{lookup}
-use Rattle.std.specs.declared.cmp.Ordering.{Ordering}
-use Rattle.std.specs.declared.cmp.Ordering.TheVariants.{Less, Equal, Greater}
 use Rattle.std.proofs.lemmas.Bool.Decides.{eqb_tells}
+use Rattle.flat_model.proofs.KeyLaws.{key_is}
 use Rattle.custody.specs.Counts.{Counted, is_key, or_zero, count_at, has_place, Recounts, Keeps, Shifts, HasPlace}
-
-then_eq : (a b : Ordering) → is_eq (ordering_then a b) ≡ (is_eq a && is_eq b)
-then_eq Less b = refl
-then_eq Equal b = refl
-then_eq Greater b = refl
-
-pub key_is : (a b x y : ℕ) → is_key a b (x, y) ≡ (eqb a x && eqb b y)
-key_is a b x y =
-    then_eq (nat_cmp a x) (nat_cmp b y)
-    ∙ ap (λ (z : Bool). z && is_eq (nat_cmp b y)) (unsigned_tied a x)
-    ∙ ap (λ (z : Bool). eqb a x && z) (unsigned_tied b y)
 
 zero_cond : (t : Bool) (n : ℕ) (o : Option ℕ) → or_zero (cond t (Some n) o) ≡ cond t n (or_zero o)
 zero_cond true n o = refl

@@ -152,3 +152,31 @@ Advances p s t v (entry.GonePage f) = v ≡ put_frame t f frame.Free
 Advances p s t v (entry.BackPage f) = v ≡ put_frame t f (given_back (frame_at t.frames f))
 Advances p s t v (entry.GoneSeg k n) = v ≡ put_descriptor t k n descriptor.Free
 Advances p s t v (entry.BackSeg k n) = v ≡ put_descriptor t k n (reconnected (descriptor_at (row_at t.descriptors k) n))
+
+-- ---- kinds of entries
+
+-- whether an entry is of a frame, of a descriptor, or of a processor alone
+abbrev pub is_of_frame : Entry → Bool
+is_of_frame (entry.Start f u q) = true
+is_of_frame (entry.Here f u q) = true
+is_of_frame (entry.Lose f) = true
+is_of_frame (entry.Take f) = true
+is_of_frame (entry.GonePage f) = true
+is_of_frame (entry.BackPage f) = true
+is_of_frame _ = false
+
+abbrev pub is_of_descriptor : Entry → Bool
+is_of_descriptor (entry.Connect k n u) = true
+is_of_descriptor (entry.Cut k n) = true
+is_of_descriptor (entry.GoneSeg k n) = true
+is_of_descriptor (entry.BackSeg k n) = true
+is_of_descriptor _ = false
+
+abbrev pub is_of_seat : Entry → Bool
+is_of_seat (entry.Online d) = true
+is_of_seat (entry.Load d k) = true
+is_of_seat (entry.Signal d w) = true
+is_of_seat (entry.Clear d w) = true
+is_of_seat (entry.FillSeg d n) = true
+is_of_seat (entry.FillPage d f) = true
+is_of_seat _ = false

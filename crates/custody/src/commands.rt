@@ -1,6 +1,6 @@
 ghost use Rattle.std.specs.Prelude.{◌≡◌, ℕ, false, IfSome, IfNone, [], Some, None};
 ghost use Rattle.std.specs.Bool.{Decides};
-ghost use Rattle.script.specs.Plans.{Plan, command_at};
+ghost use Rattle.script.specs.Plans.{Plan};
 ghost use Rattle.script.specs.References.{reference_of};
 ghost use Rattle.flat_model.specs.Branches.{branch_at, segment_at};
 ghost use Rattle.flat_model.specs.Commands.{takes_effect};
@@ -20,21 +20,10 @@ use crate::store_rows::leads_nowhere;
 use crate::tables::Custody;
 use book::Reply;
 use custody_model::FrameUse;
-use flat_store::FlatStore;
+use flat_store::{FlatStore, command_at};
 use mnames::Path;
 use mword::Page;
 use script::{Command, Reference, Script};
-
-/// The command at a place of a process, if there is one.
-pub(crate) fn command_at(script: &Script, process: u32, place: u32) -> Option<&Command>
-    ensures some { IfSome result (λ c. command_at script.now process place ≡ Some c.now) }
-    ensures none { IfNone result (command_at script.now process place ≡ None) }
-{
-    if process >= script.processes() {
-        return None;
-    }
-    script.commands(process).get(place as usize)
-}
 
 /// Whether a command took effect that is answered so.
 fn takes_effect(reply: &Reply) -> bool

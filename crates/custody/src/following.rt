@@ -1,9 +1,10 @@
-ghost use Rattle.std.specs.Prelude.{◌≡◌, OnOk, OnErr};
+ghost use Rattle.std.specs.Prelude.{◌≡◌, true, OnOk, OnErr};
+ghost use Rattle.script.specs.Plans.{Plan};
 ghost use Rattle.flat_model.specs.Legal.{IsLawful, after_entry};
 ghost use Rattle.flat_model.specs.Store.{Store};
 ghost use Rattle.custody_model.specs.Allowed.{IsAllowed};
 ghost use Rattle.custody_model.specs.Next.{custody_next};
-ghost use Rattle.custody.specs.Changes.{Advances};
+ghost use Rattle.custody.specs.Changes.{Advances, is_of_descriptor, is_of_frame, is_of_seat};
 ghost use Rattle.custody.specs.Tables.{AreNodes, AreTablesOf, HaveRoom, custody_of};
 ghost use Rattle.flat_store.specs.Shown.{Shows};
 
@@ -15,6 +16,63 @@ use flat_store::FlatStore;
 use script::Script;
 
 impl Custody {
+    /// Writes what an entry of a frame changes.
+    fn advance_frame(&mut self, e: Entry) -> Result<(), NoMemory>
+        ensures ok { OnOk result ((p : Plan) (s : Store) → is_of_frame e ≡ true → Advances p s self.old self.new e) }
+        ensures err { OnErr result (self.new ≡ self.old) }
+    {
+        match e {
+            Entry::Start { frame, uid, page } => {
+                self.put_frame(frame, FrameUse::Started { uid, page })
+            }
+            Entry::Here { frame, uid, page } => {
+                self.put_frame(frame, FrameUse::Current { uid, page })
+            }
+            Entry::Lose { frame } | Entry::GonePage { frame } => {
+                self.put_frame(frame, FrameUse::Free)
+            }
+            Entry::Take { frame } => self.take(frame),
+            Entry::BackPage { frame } => self.give_back(frame),
+            _ => Ok(()),
+        }
+    }
+
+    /// Writes what an entry of a descriptor changes.
+    fn advance_descriptor(&mut self, store: &FlatStore, e: Entry) -> Result<(), NoMemory>
+        ensures ok { OnOk result ((p : Plan) (s : Store) → Shows p store.now s → is_of_descriptor e ≡ true
+            → Advances p s self.old self.new e) }
+        ensures err { OnErr result (self.new ≡ self.old) }
+    {
+        match e {
+            Entry::Connect {
+                process,
+                number,
+                uid,
+            } => self.connect(store, process, number, uid),
+            Entry::Cut { process, number } => self.cut(process, number),
+            Entry::GoneSeg { process, number } => {
+                self.put_descriptor(process, number, DescriptorUse::Free)
+            }
+            Entry::BackSeg { process, number } => self.reconnect(process, number),
+            _ => Ok(()),
+        }
+    }
+
+    /// Writes what an entry of a processor changes that takes no memory.
+    fn advance_seat(&mut self, e: Entry)
+        ensures { (p : Plan) (s : Store) → is_of_seat e ≡ true → Advances p s self.old self.new e }
+    {
+        match e {
+            Entry::Online { cpu } => self.come_online(cpu),
+            Entry::Load { cpu, process } => self.load(cpu, process),
+            Entry::Signal { cpu, what } => self.signal(cpu, what),
+            Entry::Clear { cpu, what } => self.clear(cpu, what),
+            Entry::FillSeg { cpu, number } => self.fill_seg(cpu, number),
+            Entry::FillPage { cpu, frame } => self.fill_page(cpu, frame),
+            _ => {}
+        }
+    }
+
     /// Writes what an entry changes, each in one table.
     fn advance(&mut self, script: &Script, store: &FlatStore, e: Entry) -> Result<(), NoMemory>
         requires { HaveRoom self.old.seats }
@@ -30,54 +88,28 @@ impl Custody {
                 ..
             } => self.answer(script, store, process, cpu, &reply),
             Entry::Release { .. } | Entry::Fault { .. } => Ok(()),
-            Entry::Online { cpu } => {
-                self.come_online(cpu);
-                Ok(())
-            }
-            Entry::Load { cpu, process } => {
-                self.load(cpu, process);
-                Ok(())
-            }
             Entry::Leave { cpu } => self.leave(store, cpu),
             Entry::Activate { uid } => self.activate(store, uid),
             Entry::Deactivate { uid } => self.deactivate(uid),
-            Entry::Start { frame, uid, page } => {
-                self.put_frame(frame, FrameUse::Started { uid, page })
-            }
-            Entry::Lose { frame } | Entry::GonePage { frame } => {
-                self.put_frame(frame, FrameUse::Free)
-            }
-            Entry::Here { frame, uid, page } => {
-                self.put_frame(frame, FrameUse::Current { uid, page })
-            }
-            Entry::Connect {
-                process,
-                number,
-                uid,
-            } => self.connect(store, process, number, uid),
-            Entry::Take { frame } => self.take(frame),
-            Entry::Cut { process, number } => self.cut(process, number),
-            Entry::Signal { cpu, what } => {
-                self.signal(cpu, what);
+            Entry::Start { .. }
+            | Entry::Here { .. }
+            | Entry::Lose { .. }
+            | Entry::Take { .. }
+            | Entry::GonePage { .. }
+            | Entry::BackPage { .. } => self.advance_frame(e),
+            Entry::Connect { .. }
+            | Entry::Cut { .. }
+            | Entry::GoneSeg { .. }
+            | Entry::BackSeg { .. } => self.advance_descriptor(store, e),
+            Entry::Online { .. }
+            | Entry::Load { .. }
+            | Entry::Signal { .. }
+            | Entry::Clear { .. }
+            | Entry::FillSeg { .. }
+            | Entry::FillPage { .. } => {
+                self.advance_seat(e);
                 Ok(())
             }
-            Entry::Clear { cpu, what } => {
-                self.clear(cpu, what);
-                Ok(())
-            }
-            Entry::FillSeg { cpu, number } => {
-                self.fill_seg(cpu, number);
-                Ok(())
-            }
-            Entry::FillPage { cpu, frame } => {
-                self.fill_page(cpu, frame);
-                Ok(())
-            }
-            Entry::BackPage { frame } => self.give_back(frame),
-            Entry::GoneSeg { process, number } => {
-                self.put_descriptor(process, number, DescriptorUse::Free)
-            }
-            Entry::BackSeg { process, number } => self.reconnect(process, number),
         }
     }
 

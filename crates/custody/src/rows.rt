@@ -13,14 +13,13 @@ ghost use Rattle.custody.specs.Uses.{descriptor_at, frame_at};
 ghost use Rattle.flat_store.specs.Shown.{Shows};
 
 use crate::NoMemory;
-use crate::commands::command_at;
 use crate::seats::SeatRow;
 use crate::store_rows::node;
 use crate::tables::Custody;
 use assoc_mem::What;
 use book::Reply;
 use custody_model::{DescriptorUse, FrameUse};
-use flat_store::FlatStore;
+use flat_store::{FlatStore, command_at};
 use script::{Command, Script};
 
 /// A page that is in a frame is on its way out.

@@ -307,11 +307,11 @@ pub fill_page_fine : (c : Custody) (b : Bool) (d f : ℕ) → Fine c b → (c.se
 fill_page_fine c b d f fine online current = record {
   page = λ e g. by_place e d new (c.seat e) (λ x. has x.pages g ≡ true → IsFinePage next b e g)
       (λ i h. subst (λ (j : ℕ). IsFinePage next b j g) (sym i) (here g h))
-      (λ n h. page_same c next b e g refl (same_due e) (fine.page e g h));
+      (λ n h. page_same c next b e g refl (due_kept c d new refl e) (fine.page e g h));
   seg = λ e k n. by_place e d new (c.seat e) (λ x. x.process ≡ Some k → has x.segs n ≡ true → IsFineSeg next b e k n)
       (λ i process h. subst (λ (j : ℕ). IsFineSeg next b j k n) (sym i)
-      (seg_same c next b d k n refl (same_due d) (fine.seg d k n process h)))
-      (λ m process h. seg_same c next b e k n refl (same_due e) (fine.seg e k n process h));
+      (seg_same c next b d k n refl (due_kept c d new refl d) (fine.seg d k n process h)))
+      (λ m process h. seg_same c next b e k n refl (due_kept c d new refl e) (fine.seg e k n process h));
   idle = idle_kept c b d new fine online;
 }
   where
@@ -321,13 +321,10 @@ fill_page_fine c b d f fine online current = record {
     next : Custody
     next = with_seat c d new
 
-    same_due : (e : ℕ) → (next.seat e).due ≡ (c.seat e).due
-    same_due = due_kept c d new refl
-
     here : (g : ℕ) → has (filled (c.seat d).pages f) g ≡ true → IsFinePage next b d g
     here g h = elim (has-filled (c.seat d).pages f g h) [
       | inl e ↦ inl (ap (λ (i : ℕ). is_current_frame (c.frame i)) e ∙ current)
-      | inr held ↦ page_same c next b d g refl (same_due d) (fine.page d g held)
+      | inr held ↦ page_same c next b d g refl (due_kept c d new refl d) (fine.page d g held)
     ]
 
 pub fill_seg_fine : (c : Custody) (b : Bool) (d k n : ℕ) → Fine c b → (c.seat d).online ≡ true → (c.seat d).process
@@ -337,11 +334,11 @@ pub fill_seg_fine : (c : Custody) (b : Bool) (d k n : ℕ) → Fine c b → (c.s
 fill_seg_fine c b d k n fine online its current = record {
   page = λ e g. by_place e d new (c.seat e) (λ x. has x.pages g ≡ true → IsFinePage next b e g)
       (λ i h. subst (λ (j : ℕ). IsFinePage next b j g) (sym i)
-      (page_same c next b d g refl (same_due d) (fine.page d g h)))
-      (λ m h. page_same c next b e g refl (same_due e) (fine.page e g h));
+      (page_same c next b d g refl (due_kept c d new refl d) (fine.page d g h)))
+      (λ m h. page_same c next b e g refl (due_kept c d new refl e) (fine.page e g h));
   seg = λ e j m. by_place e d new (c.seat e) (λ x. x.process ≡ Some j → has x.segs m ≡ true → IsFineSeg next b e j m)
       (λ i process h. subst (λ (l : ℕ). IsFineSeg next b l j m) (sym i) (here j m process h))
-      (λ o process h. seg_same c next b e j m refl (same_due e) (fine.seg e j m process h));
+      (λ o process h. seg_same c next b e j m refl (due_kept c d new refl e) (fine.seg e j m process h));
   idle = idle_kept c b d new fine online;
 }
   where
@@ -351,15 +348,12 @@ fill_seg_fine c b d k n fine online its current = record {
     next : Custody
     next = with_seat c d new
 
-    same_due : (e : ℕ) → (next.seat e).due ≡ (c.seat e).due
-    same_due = due_kept c d new refl
-
     here : (j m : ℕ) → (c.seat d).process ≡ Some j → has (filled (c.seat d).segs n) m ≡ true → IsFineSeg next b d j m
     here j m process h = elim (has-filled (c.seat d).segs n m h) [
       | inl e ↦ let same : j ≡ k = cc (sym process ∙ its) in
           inl (ap is_current_descriptor (ap (λ (x : ℕ). c.descriptor x m) same ∙ ap (λ (x : ℕ). c.descriptor k x) e)
           ∙ current)
-      | inr held ↦ seg_same c next b d j m refl (same_due d) (fine.seg d j m process held)
+      | inr held ↦ seg_same c next b d j m refl (due_kept c d new refl d) (fine.seg d j m process held)
     ]
 
 -- ---- signals
