@@ -5,12 +5,11 @@
 //!   feed. Printed is `script`, or the line and the cause of the refusal;
 //! - `cuts`, and a script, of which each front is read. Printed are the lengths from which on the answer is another;
 //! - `text`, and a script, of which the canonical text is printed, where it is read as itself again;
-//! - `parts`, and a script, of which each part is printed;
 //! - `entries`, and lines in brackets, each of which is the text of an entry or of none.
 
+mod canonical;
 mod entries;
 mod outcomes;
-mod parts;
 mod sections;
 
 pub(crate) use crate::scripts::sections::case_text;

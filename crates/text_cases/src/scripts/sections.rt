@@ -1,6 +1,6 @@
+use crate::scripts::canonical::canonical_text;
 use crate::scripts::entries::entries_text;
 use crate::scripts::outcomes::{cuts_text, lines_text};
-use crate::scripts::parts::{canonical_text, parts_text};
 use std::alloc::{AllocError, Global};
 
 /// The text up to the first line feed, and what comes after it.
@@ -8,13 +8,12 @@ fn first_line(text: &str) -> (&str, &str) {
     text.split_once('\n').unwrap_or((text, ""))
 }
 
-/// What a text gives, which is read in one of five ways.
+/// What a text gives, which is read in one of four ways.
 fn given(alloc: Global, way: &str, text: &str) -> Result<String, AllocError> {
     match way {
         "lines" => lines_text(alloc, text),
         "cuts" => cuts_text(alloc, text),
         "text" => canonical_text(alloc, text),
-        "parts" => parts_text(alloc, text),
         "entries" => entries_text(alloc, text),
         _ => String::from_str(alloc, "no way of reading\n"),
     }
