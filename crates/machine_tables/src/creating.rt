@@ -91,6 +91,6 @@ impl<D: Drive> Tables<D> {
             page,
         });
         self.tell(c, process, None, zero_reply(&reference.kind));
-        self.job.end();
+        self.give_up();
     }
 }

@@ -61,6 +61,6 @@ impl<D: Drive> Tables<D> {
     {
         self.let_descriptors_go();
         self.make_inactive(uid);
-        self.job.begin(c);
+        self.take_supervisor(c);
     }
 }

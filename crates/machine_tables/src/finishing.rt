@@ -164,7 +164,7 @@ impl<D: Drive> Tables<D> {
         self.return_pages();
         self.return_descriptors();
         self.tell(c, process, None, Reply::Device);
-        self.job.end();
+        self.give_up();
     }
 }
 
@@ -244,7 +244,7 @@ impl<D: Drive> Tables<D> {
         let gone = self.let_go(f);
         match gone {
             Ok(left) => {
-                self.job.begin(c);
+                self.take_supervisor(c);
                 self.book_gone(f, uid, page, left);
             }
             Err(_) => self.return_all(c, process),

@@ -100,7 +100,7 @@ impl<D: Drive> Tables<D> {
             uid,
             page: p,
         });
-        self.job.end();
+        self.give_up();
         self.note(Entry::Start {
             frame: f,
             uid,
