@@ -12,32 +12,10 @@ use Rattle.book.specs.declared.entries.Entry.{Entry}
 use Rattle.book.specs.declared.entries.Entry.TheVariants as entry
 use Rattle.flat_model.specs.Legal.{part, is_part}
 use Rattle.listing.specs.Listings.{answer_line, entry_line, own_line, process_line, process_lines, processes_lines}
-use Rattle.listing.specs.Listings.{full_line}
 
 own_lines : (p : Plan) (k : ℕ) (es : List Entry) → flat_map (own_line p k) es ≡ flat_map (entry_line p) (part k es)
 unfolding part
 own_lines p k [] = refl
-own_lines p k (entry.Release uid page ∷ es) = own_lines p k es
-own_lines p k (entry.Here frame uid page ∷ es) = own_lines p k es
-own_lines p k (entry.Take frame ∷ es) = own_lines p k es
-own_lines p k (entry.GonePage frame ∷ es) = own_lines p k es
-own_lines p k (entry.Fault a ∷ es) = own_lines p k es
-own_lines p k (entry.Online a ∷ es) = own_lines p k es
-own_lines p k (entry.Load a b ∷ es) = own_lines p k es
-own_lines p k (entry.Leave a ∷ es) = own_lines p k es
-own_lines p k (entry.Activate a ∷ es) = own_lines p k es
-own_lines p k (entry.Deactivate a ∷ es) = own_lines p k es
-own_lines p k (entry.Start a b c ∷ es) = own_lines p k es
-own_lines p k (entry.Lose a ∷ es) = own_lines p k es
-own_lines p k (entry.Connect a b c ∷ es) = own_lines p k es
-own_lines p k (entry.Cut a b ∷ es) = own_lines p k es
-own_lines p k (entry.Signal a b ∷ es) = own_lines p k es
-own_lines p k (entry.Clear a b ∷ es) = own_lines p k es
-own_lines p k (entry.FillSeg a b ∷ es) = own_lines p k es
-own_lines p k (entry.FillPage a b ∷ es) = own_lines p k es
-own_lines p k (entry.BackPage a ∷ es) = own_lines p k es
-own_lines p k (entry.GoneSeg a b ∷ es) = own_lines p k es
-own_lines p k (entry.BackSeg a b ∷ es) = own_lines p k es
 own_lines p k (entry.Do process place cpu frame r ∷ es) = chosen (eqb process k) refl (own_lines p k es)
   where
     chosen : (z : Bool) → eqb process k ≡ z → flat_map (own_line p k) es
@@ -49,61 +27,43 @@ own_lines p k (entry.Do process place cpu frame r ∷ es) = chosen (eqb process 
         ap (λ (x : ℕ). answer_line p (command_at p x place) r ++ flat_map (own_line p k) es) (sym same)
         ∙ ap (λ (t : List ℕ). answer_line p (command_at p process place) r ++ t) ih
     chosen false h ih = ih
+own_lines p k (e ∷ es) = own_lines p k es
 
 nil_after : (x : List ℕ) → x ++ [] ≡ x
 nil_after [] = refl
 nil_after (b ∷ bs) = ap (λ t. b ∷ t) (nil_after bs)
 
--- the text before, and the lines of process k of the entries so far
-abbrev pub HasLines : List ℕ → Plan → ℕ → List Entry → List ℕ → Type 0
-HasLines before p k es now = now ≡ before ++ flat_map (own_line p k) es
+-- the text before, and the lines of the elements so far
+abbrev pub HasEach : {X : Type 0} → (X → List ℕ) → List ℕ → List X → List ℕ → Type 0
+HasEach line before xs now = now ≡ before ++ flat_map line xs
 
-pub lines_start : (before : List ℕ) (p : Plan) (k : ℕ) (es : List Entry) → HasLines before p k (take 0 es) before
-lines_start before p k es = sym (nil_after before)
+pub each_start : {X : Type 0} (line : X → List ℕ) (before : List ℕ) (xs : List X)
+    → HasEach line before (take 0 xs) before
+each_start line before xs = sym (nil_after before)
 
-pub lines_more : (before : List ℕ) (p : Plan) (k : ℕ) (es : List Entry) (i : ℕ) (e : Entry) (now new : List ℕ)
-    → i < length es → e ≡ get_or es i e
-    → HasLines before p k (take i es) now → new ≡ now ++ own_line p k e → HasLines before p k (take (i + 1) es) new
-lines_more before p k es i e now new lt at h add =
-    let more : take (i + 1) es ≡ take i es ++ e ∷ [] = take_more es i e lt
-    ∙ ap (λ (x : Entry). take i es ++ x ∷ []) (sym at) in
+pub each_more : {X : Type 0} (line : X → List ℕ) (before : List ℕ) (xs : List X) (i : ℕ) (x : X) (now new : List ℕ)
+    → i < length xs → x ≡ get_or xs i x
+    → HasEach line before (take i xs) now → new ≡ now ++ line x → HasEach line before (take (i + 1) xs) new
+each_more {X} line before xs i x now new lt at h add =
+    let more : take (i + 1) xs ≡ take i xs ++ x ∷ [] = take_more xs i x lt
+    ∙ ap (λ (y : X). take i xs ++ y ∷ []) (sym at) in
     add
-    ∙ ap (λ (t : List ℕ). t ++ own_line p k e) h
-    ∙ flat_map_more (own_line p k) before (take i es) e
-    ∙ ap (λ (t : List Entry). before ++ flat_map (own_line p k) t) (sym more)
+    ∙ ap (λ (t : List ℕ). t ++ line x) h
+    ∙ flat_map_more line before (take i xs) x
+    ∙ ap (λ (t : List X). before ++ flat_map line t) (sym more)
+
+pub each_end : {X : Type 0} (line : X → List ℕ) (before : List ℕ) (xs : List X) (i : ℕ) (now : List ℕ) → length xs ≤ i
+    → HasEach line before (take i xs) now
+    → now ≡ before ++ flat_map line xs
+each_end {X} line before xs i now le h =
+    let whole : take i xs ≡ xs = grind (arith, common_steps) in
+    h ∙ ap (λ (t : List X). before ++ flat_map line t) whole
 
 pub lines_end : (before : List ℕ) (p : Plan) (k : ℕ) (es : List Entry) (i : ℕ) (now : List ℕ) → length es ≤ i
-    → HasLines before p k (take i es) now
+    → HasEach (own_line p k) before (take i es) now
     → now ≡ before ++ flat_map (entry_line p) (part k es)
-lines_end before p k es i now le h =
-    let whole : take i es ≡ es = grind (arith, common_steps) in
-    h ∙ ap (λ (t : List Entry). before ++ flat_map (own_line p k) t) whole
+lines_end before p k es i now le h = each_end (own_line p k) before es i now le h
     ∙ ap (λ (t : List ℕ). before ++ t) (own_lines p k es)
-
--- the text before, and the lines of the entries so far
-abbrev pub HasEntries : List ℕ → List Entry → List ℕ → Type 0
-HasEntries before es now = now ≡ before ++ flat_map full_line es
-
-pub entries_start : (before : List ℕ) (es : List Entry) → HasEntries before (take 0 es) before
-entries_start before es = sym (nil_after before)
-
-pub entries_more : (before : List ℕ) (es : List Entry) (i : ℕ) (e : Entry) (now new : List ℕ) → i < length es → e
-    ≡ get_or es i e
-    → HasEntries before (take i es) now → new ≡ now ++ full_line e → HasEntries before (take (i + 1) es) new
-entries_more before es i e now new lt at h add =
-    let more : take (i + 1) es ≡ take i es ++ e ∷ [] = take_more es i e lt
-    ∙ ap (λ (x : Entry). take i es ++ x ∷ []) (sym at) in
-    add
-    ∙ ap (λ (t : List ℕ). t ++ full_line e) h
-    ∙ flat_map_more full_line before (take i es) e
-    ∙ ap (λ (t : List Entry). before ++ flat_map full_line t) (sym more)
-
-pub entries_end : (before : List ℕ) (es : List Entry) (i : ℕ) (now : List ℕ) → length es ≤ i
-    → HasEntries before (take i es) now
-    → now ≡ before ++ flat_map full_line es
-entries_end before es i now le h =
-    let whole : take i es ≡ es = grind (arith, common_steps) in
-    h ∙ ap (λ (t : List Entry). before ++ flat_map full_line t) whole
 
 -- the text before, and the lines of the first so many processes
 abbrev pub HasProcesses : List ℕ → Plan → List Entry → ℕ → List ℕ → Type 0
@@ -185,43 +145,14 @@ names_end before names i now le h =
     let whole : take i names ≡ names = grind (arith, common_steps) in
     h ∙ ap (λ (t : List (List ℕ)). before ++ names_text t) whole
 
--- the text before, and the lines of the accounts or volumes so far
-abbrev pub HasEach : {X : Type 0} → (X → List ℕ) → List ℕ → List X → List ℕ → Type 0
-HasEach line before xs now = now ≡ before ++ flat_map line xs
-
-pub each_start : {X : Type 0} (line : X → List ℕ) (before : List ℕ) (xs : List X)
-    → HasEach line before (take 0 xs) before
-each_start line before xs = sym (nil_after before)
-
-pub each_more : {X : Type 0} (line : X → List ℕ) (before : List ℕ) (xs : List X) (i : ℕ) (x : X) (now new : List ℕ)
-    → i < length xs → x ≡ get_or xs i x
-    → HasEach line before (take i xs) now → new ≡ now ++ line x → HasEach line before (take (i + 1) xs) new
-each_more {X} line before xs i x now new lt at h add =
-    let more : take (i + 1) xs ≡ take i xs ++ x ∷ [] = take_more xs i x lt
-    ∙ ap (λ (y : X). take i xs ++ y ∷ []) (sym at) in
-    add
-    ∙ ap (λ (t : List ℕ). t ++ line x) h
-    ∙ flat_map_more line before (take i xs) x
-    ∙ ap (λ (t : List X). before ++ flat_map line t) (sym more)
-
-pub each_end : {X : Type 0} (line : X → List ℕ) (before : List ℕ) (xs : List X) (i : ℕ) (now : List ℕ) → length xs ≤ i
-    → HasEach line before (take i xs) now
-    → now ≡ before ++ flat_map line xs
-each_end {X} line before xs i now le h =
-    let whole : take i xs ≡ xs = grind (arith, common_steps) in
-    h ∙ ap (λ (t : List X). before ++ flat_map line t) whole
-
 -- what the proof of `push_names` is given
 pub ruleset push_names_steps = (names_start, names_more, names_end)
 
--- what the proofs of `push_accounts` and `push_volumes` are given
+-- what the proofs of `push_accounts`, `push_entries` and `push_volumes` are given
 pub ruleset push_each_steps = (each_start, each_more, each_end)
 
 -- what the proof of `push_part` is given
-pub ruleset push_part_steps = (lines_start, lines_more, lines_end)
+pub ruleset push_part_steps = (each_start, each_more, lines_end)
 
 -- what the proof of `push_processes` is given
 pub ruleset push_processes_steps = (processes_start, processes_more, processes_end)
-
--- what the proof of `push_entries` is given
-pub ruleset push_entries_steps = (entries_start, entries_more, entries_end)

@@ -89,7 +89,7 @@ fn push_entry(out: &mut String, entry: &Entry) -> Result<(), AllocError>
 }
 
 /// Appends a line for each entry, in order.
-#[tactic(auto, using(crate::proofs::LineLaws::push_entries_steps, std::proofs::lemmas::Grind::common_steps))]
+#[tactic(auto, using(crate::proofs::LineLaws::push_each_steps, std::proofs::lemmas::Grind::common_steps))]
 fn push_entries(out: &mut String, entries: &[Entry]) -> Result<(), AllocError>
     ensures { OnOk result (string_bytes out.new ≡ string_bytes out.old ++ flat_map full_line entries.now) }
 {

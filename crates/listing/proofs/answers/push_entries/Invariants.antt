@@ -1,7 +1,8 @@
 use Rattle.std.proofs.Common.{take, string_bytes}
-use Rattle.listing.proofs.LineLaws.{HasEntries}
+use Rattle.listing.specs.Listings.{full_line}
+use Rattle.listing.proofs.LineLaws.{HasEach}
 use Rattle.listing.proofs.answers.push_entries.Given as goal
 
 -- the lines of the entries so far are written
 abbrev pub invariant-loop-entry : goal.invariant-loop-entry
-invariant-loop-entry l = HasEntries (string_bytes l.fn.out) (take l.entry-index l.entries) (string_bytes l.out)
+invariant-loop-entry l = HasEach full_line (string_bytes l.fn.out) (take l.entry-index l.entries) (string_bytes l.out)
