@@ -26,6 +26,12 @@ use Rattle.flat_model.specs.Store.{Progress, Store, known_uid, progress_of, with
 abbrev Stays : Store → Store → Type 0
 Stays s t = t.processes ≡ s.processes
 
+-- a change that leaves the processes, whether its path leads to a node or not
+stays_either : (s : Store) (change : Result Node Reply → Store) → ((n : Node) → Stays s (change (Ok n)))
+    → ((r : Reply) → Stays s (change (Err r))) → (found : Result Node Reply) → Stays s (change found)
+stays_either s change made refused (Ok n) = made n
+stays_either s change made refused (Err r) = refused r
+
 made_stays : (s : Store) (volume : ℕ) (dir : Bool) (pages : ℕ) (rows : List Row) (name : List ℕ) (r : Result Node Reply)
     → Stays s (made_at s volume dir pages rows name r)
 made_stays s volume dir pages rows name (Ok d) = refl
@@ -41,8 +47,7 @@ make_stays s path volume dir pages rows = each (parts_of path)
     each (Some parts) = made_stays s volume dir pages rows parts.1 (node_at s.nodes parts.0)
 
 changed_stays : (s : Store) (change : Node → Node) (r : Result Node Reply) → Stays s (changed s change r)
-changed_stays s change (Ok n) = refl
-changed_stays s change (Err r) = refl
+changed_stays s change = stays_either s (changed s change) (λ n. refl) (λ r. refl)
 
 acl_stays : (s : Store) (path : List (List ℕ)) (row : Named) (m : Mode) → Stays s (after_acl s path row m)
 unfolding after_acl
@@ -54,35 +59,19 @@ length_stays s path pages = changed_stays s _ (segment_at s.nodes path)
 
 truncate_stays : (s : Store) (path : List (List ℕ)) (from : ℕ) → Stays s (after_truncate s path from)
 unfolding after_truncate
-truncate_stays s path from = each (segment_at s.nodes path)
-  where
-    each : (r : Result Node Reply) → Stays s (truncated s from r)
-    each (Ok n) = refl
-    each (Err r) = refl
+truncate_stays s path from = stays_either s (truncated s from) (λ n. refl) (λ r. refl) (segment_at s.nodes path)
 
 delete_stays : (s : Store) (path : List (List ℕ)) → Stays s (after_delete s path)
 unfolding after_delete
-delete_stays s path = each (branch_at s.nodes path)
-  where
-    each : (r : Result Node Reply) → Stays s (deleted s r)
-    each (Ok n) = refl
-    each (Err r) = refl
+delete_stays s path = stays_either s (deleted s) (λ n. refl) (λ r. refl) (branch_at s.nodes path)
 
 move_stays : (s : Store) (path : List (List ℕ)) (amount : ℤ) → Stays s (after_move s path amount)
 unfolding after_move
-move_stays s path amount = each (directory_at s.nodes path)
-  where
-    each : (r : Result Node Reply) → Stays s (moved s amount r)
-    each (Ok n) = refl
-    each (Err r) = refl
+move_stays s path amount = stays_either s (moved s amount) (λ n. refl) (λ r. refl) (directory_at s.nodes path)
 
 initiate_stays : (s : Store) (k : ℕ) (path : List (List ℕ)) → Stays s (after_initiate s k path)
 unfolding after_initiate
-initiate_stays s k path = each (segment_at s.nodes path)
-  where
-    each : (r : Result Node Reply) → Stays s (initiated s k r)
-    each (Ok n) = refl
-    each (Err r) = refl
+initiate_stays s k path = stays_either s (initiated s k) (λ n. refl) (λ r. refl) (segment_at s.nodes path)
 
 terminate_stays : (s : Store) (k number : ℕ) → Stays s (after_terminate s k number)
 unfolding after_terminate
