@@ -60,14 +60,7 @@ count_some {X} p (x ∷ xs) d le = by_head (p x) refl (λ more. count_some p xs 
 
 pub position_there : {X : Type 0} (p : X → Bool) (xs : List X) (k : ℕ) (d : X) → k < length xs → p (get_or xs k d)
     ≡ true → IsSome (position p xs)
-position_there {X} p xs k d within holds = some_at (ltb (position_or_len p xs) (length xs)) refl
-  where
-    some_at : (b : Bool) → ltb (position_or_len p xs) (length xs) ≡ b
-        → IsSome (cond b (Some (position_or_len p xs)) None)
-    some_at true is = refl
-    some_at false is =
-        let past : length xs ≤ position_or_len p xs = ltb-false _ _ is in
-        absurd (both_ways _ (not-true _ (prefix_len_passes (λ x. not (p x)) xs k d (omega arith))) holds)
+position_there p xs k d within holds = grind (arith, prefix_len_passes (λ x. not (p x)) xs k d)
 
 -- a process that is among those of some pairs
 pub any_at : (q : ℕ) (xs : List (ℕ × ℕ)) (d : ℕ × ℕ) → list_any (eqb q) (map (λ x. x.0) xs) ≡ true → (i : ℕ)
