@@ -54,13 +54,14 @@ impl<D: Drive> Store<D> {
     {
         let processes = script.processes();
         let whos = whos_of(alloc, script)?;
+        let accounts = Accounts::new(alloc, 0, 0, script.quota())?;
         let pages = Pages::new(alloc, script.frames(), volumes)?;
         let mut segs = Segs::new(alloc, pages, script.pools(), processes)?;
         let _kept = segs.pages();
         let Some(entry) = segs.new_home(0, 1) else {
             unreachable!();
         };
-        let accounts = Accounts::new(alloc, 0, entry, script.quota())?;
+        prove!(entry == 0);
         Ok(Store {
             accounts,
             segs,

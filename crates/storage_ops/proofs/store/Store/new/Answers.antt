@@ -1,5 +1,5 @@
 use Rattle.std.proofs.Common.{◌≡◌, ℕ, None, Some, true, false, length, is_some, replicate, sum, List}
-use Rattle.std.proofs.Common.{refl, sym, ap, subst, ◌∙◌, arith, ◌<◌}
+use Rattle.std.proofs.Common.{refl, sym, ap, subst, ◌∙◌, arith, ◌<◌, ◌≤◌}
 use Rattle.std.proofs.lemmas.List.{length-replicate, length-map}
 use Rattle.script.specs.Plans.{Plan, ProcessPlan}
 use Rattle.accounts.specs.Maps.{root_alone}
@@ -11,13 +11,13 @@ use Rattle.seg_control.specs.Control.{Control, Links}
 use Rattle.seg_control.specs.Effects.{no_links}
 use Rattle.storage_ops.specs.Shown.{AreFresh, IsStore, Shows, Storage, empty_frames}
 use Rattle.storage_ops.proofs.Fresh.{blank, boot_is, entries_some, entry_first, filed_fresh, none_active, none_known}
-use Rattle.storage_ops.proofs.Fresh.{nothing}
+use Rattle.storage_ops.proofs.Fresh.{nothing, pools_few}
 use Rattle.storage_ops.proofs.Fresh.{records_most, rest_fresh}
 use Rattle.storage_ops.proofs.Fresh.{root_gains, shown_nothing, store_nothing}
 use Rattle.storage_ops.proofs.Homes.{HasNewHome, shown_new, store_new}
 use Rattle.storage_ops.proofs.Made.{length_inside}
 use Rattle.storage_ops.proofs.store.Store.new.Given.{Over}
-use Rattle.storage_ops.proofs.store.Store.new.Goals.{In-Some, In_ok-accounts, In_ok-pages, In_ok-segs}
+use Rattle.storage_ops.proofs.store.Store.new.Goals.{In-Some, In_ok-pages, In_ok-segs}
 use Rattle.storage_ops.proofs.store.Store.new.Goals as goal
 
 -- the volumes that pages are given, and those of segment control, are fresh
@@ -43,15 +43,20 @@ first_entry g c fresh =
     entry_first (plain g.D.Drive.pages c.in_ok-segs.segs.pages) fresh.free fresh.unused c.in-Some.entry
     c.in-Some.ensures.least
 
-pub new-requires-2-clause-records : goal.new-requires-2-clause-records
-new-requires-2-clause-records g c =
-    let fresh = fresh_pages g (goal.at.new-requires-2-clause-records g c).In_ok-pages in
+pub new-requires-3-clause-records : goal.new-requires-3-clause-records
+new-requires-3-clause-records g c =
+    let fresh = fresh_pages g (goal.at.new-requires-3-clause-records g c).In_ok-pages in
     filed_fresh (plain g.D.Drive.pages c.in_ok-pages.pages) fresh.free fresh.unused
 
-pub new-requires-2-clause-rest : goal.new-requires-2-clause-rest
-new-requires-2-clause-rest g c =
-    let fresh = fresh_pages g (goal.at.new-requires-2-clause-rest g c).In_ok-pages in
+pub new-requires-3-clause-rest : goal.new-requires-3-clause-rest
+new-requires-3-clause-rest g c =
+    let fresh = fresh_pages g (goal.at.new-requires-3-clause-rest g c).In_ok-pages in
     rest_fresh (plain g.D.Drive.pages c.in_ok-pages.pages) fresh.free fresh.unused
+
+pub new-requires-3-clause-pools : goal.new-requires-3-clause-pools
+new-requires-3-clause-pools g c =
+    subst (λ (ps : List ℕ). sum ps ≤ 1024) (sym c.pools.ensures)
+    (pools_few c.args.script.now.pools c.processes-processes.ensures.plan.pools)
 
 pub new_home-requires-clause-homed : goal.new_home-requires-clause-homed
 new_home-requires-clause-homed g c = record {
@@ -69,12 +74,12 @@ unreachable-requires g c =
     let clash : true ≡ false = sym on ∙ ap is_some (fresh.free 0 0) in cc
 
 -- the root is the one new node
-made : (g : Over) (c : In_ok-accounts g) → HasNewHome nothing c.in_ok-accounts.accounts
+made : (g : Over) (c : In-Some g) → c.in-Some.entry ≡ 0 → HasNewHome nothing c.in_ok-accounts.accounts
     (record (root_of c.args.script.now) { quota = c.quota.result }) c.in-Some.entry
     (plain g.D.Drive.pages c.in_ok-segs.segs.pages) (plain g.D.Drive.pages c.new_home.new.self.pages)
-made g c = record {
+made g c zero = record {
   gains = root_gains c.args.script.now c.in_ok-accounts.accounts c.in-Some.entry c.quota.result
-      c.in_ok-accounts.ensures;
+      (c.in_ok-accounts.ensures ∙ ap (λ (e : ℕ). root_alone 0 e c.quota.result) (sym zero));
   fresh = refl;
   home = c.in-Some.ensures.home;
   least = c.in-Some.ensures.least;
@@ -86,7 +91,9 @@ made g c = record {
 
 pub invariant_of-result : goal.invariant_of-result
 invariant_of-result g c =
-    let fresh = fresh_volumes g (goal.at.invariant_of-result g c).In_ok-segs in
+    let at = goal.at.invariant_of-result g c in
+    let fresh = fresh_volumes g at.In_ok-segs in
+    let zero = first_entry g at.In-Some fresh in
     let plan = c.processes-processes.ensures.plan in
     let old : Plain = plain g.D.Drive.pages c.in_ok-segs.segs.pages in
     let now : Plain = plain g.D.Drive.pages c.new_home.new.self.pages in
@@ -108,14 +115,16 @@ invariant_of-result g c =
     c.in_ok-whos.whos.items) (sym c.new_home.ensures.ast)
     (subst (λ (x : Links). IsStore now c.in_ok-segs.segs.ast x c.in_ok-accounts.accounts c.in_ok-whos.whos.items)
     (sym c.new_home.ensures.links)
-    (store_new nothing c.in_ok-accounts.accounts _ c.in-Some.entry old now (made g c) c.in_ok-segs.segs.ast
+    (store_new nothing c.in_ok-accounts.accounts _ c.in-Some.entry old now (made g at.In-Some zero) c.in_ok-segs.segs.ast
     c.in_ok-segs.segs.links
     c.in_ok-whos.whos.items
     (omega arith) (λ d. refl) start))
 
 pub returns-clause-shown : goal.returns-clause-shown
 returns-clause-shown g c =
-    let fresh = fresh_volumes g (goal.at.returns-clause-shown g c).In_ok-segs in
+    let at = goal.at.returns-clause-shown g c in
+    let fresh = fresh_volumes g at.In_ok-segs in
+    let zero = first_entry g at.In-Some fresh in
     let p : Plan = c.args.script.now in
     let old : Plain = plain g.D.Drive.pages c.in_ok-segs.segs.pages in
     let now : Plain = plain g.D.Drive.pages c.new_home.new.self.pages in
@@ -128,7 +137,7 @@ returns-clause-shown g c =
     let known = ap (λ (x : Control g.row.D.Denot). x.links.known) c.in_ok-segs.ensures
     ∙ ap (λ (n : ℕ). replicate n (replicate 256 None)) c.processes-processes.ensures.count in
     subst (λ (x : Flat). Shows g.D.Drive.pages p x u) (boot_is p c.quota.result c.quota.ensures)
-    (shown_new nothing c.in_ok-accounts.accounts _ c.in-Some.entry old now (made g c) c.in_ok-segs.segs.ast
+    (shown_new nothing c.in_ok-accounts.accounts _ c.in-Some.entry old now (made g at.In-Some zero) c.in_ok-segs.segs.ast
     c.in_ok-segs.segs.links
     g.D.Drive.pages p (blank p) t u refl refl refl refl c.new_home.ensures.links refl refl refl c.new_home.ensures.words
     (λ v. length_inside c.in_ok-segs.segs.pages.volumes.vtocs 0 c.in-Some.entry v _ _ (ap (λ
@@ -140,10 +149,7 @@ returns-clause-shown g c =
 
 pub returns-clause-accounts : goal.returns-clause-accounts
 returns-clause-accounts g c =
-    let at = goal.at.returns-clause-accounts g c in
-    let zero = first_entry g at.In-Some (fresh_volumes g at.In_ok-segs) in
-    c.in_ok-accounts.ensures ∙ ap (λ (e : ℕ). root_alone 0 e c.quota.result) zero
-    ∙ ap (λ (q : ℕ). root_alone 0 0 q) c.quota.ensures
+    c.in_ok-accounts.ensures ∙ ap (λ (q : ℕ). root_alone 0 0 q) c.quota.ensures
 
 pub returns-clause-pages : goal.returns-clause-pages
 returns-clause-pages g c =
@@ -160,3 +166,8 @@ returns-clause-links g c =
     c.new_home.ensures.links ∙ ap (λ (x : Control g.row.D.Denot). x.links) c.in_ok-segs.ensures
     ∙ ap (λ (ps : List ℕ). no_links (sum ps) c.processes-processes.result) c.pools.ensures
     ∙ ap (no_links (sum c.args.script.now.pools)) c.processes-processes.ensures.count
+
+pub prove-unreachable-requires : goal.prove-unreachable-requires
+prove-unreachable-requires g c =
+    let at = goal.at.prove-unreachable-requires g c in
+    c.if-prove.true (first_entry g at.In-Some (fresh_volumes g at.In_ok-segs))
