@@ -15,7 +15,7 @@ use Rattle.accounts.specs.Maps.{AccountMaps, with_row_in}
 use Rattle.quota_cells.specs.Accounts.{with_beside, without_beside}
 use Rattle.known_segs.specs.Known.{number_for}
 use Rattle.flat_model.specs.Branches.{parts_of}
-use Rattle.flat_model.specs.Making.{owner_row}
+use Rattle.flat_model.specs.Making.{new_branch, owner_row}
 use Rattle.flat_model.specs.Rights.{nodes_moved, row_with}
 use Rattle.core_map.specs.declared.Frame.TheVariants as frame
 use Rattle.page_table.specs.declared.Ptw.{Ptw}
@@ -47,16 +47,8 @@ gained a n entry = record {
 
 -- a branch of this name in a directory, without quota
 abbrev pub branch_of : Storage → ℕ → List ℕ → Bool → ℕ → ℕ → List Row → Node
-branch_of st superior name directory volume pages rows = record {
-  uid = st.accounts.next;
-  superior = Some superior;
-  name = name;
-  directory = directory;
-  volume = volume;
-  pages = pages;
-  quota = 0;
-  rows = rows;
-}
+branch_of st superior name directory volume pages rows =
+    new_branch st.accounts.next superior name directory volume pages rows
 
 -- the least free entry of the volume is its home
 abbrev pub with_branch : Storage → Node → Storage
