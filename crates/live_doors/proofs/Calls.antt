@@ -13,7 +13,8 @@ use Rattle.live_doors.specs.declared.views.Walk.{Walk}
 use Rattle.live_doors.specs.declared.views.Watch.{Watch}
 use Rattle.live_doors.specs.declared.views.View.{View}
 use Rattle.live_doors.specs.declared.views.View.TheVariants.{Walking, Keeping}
-use Rattle.live_doors.specs.Doors.{blank, first_watch, first_passes, AreNew, DoorsModel, PassModel, KeeperModel, IsPassOf, IsKeeperOf}
+use Rattle.live_doors.specs.Doors.{blank, first_watch, first_passes, AreNew, DoorsModel, PassModel}
+use Rattle.live_doors.specs.Doors.{KeeperModel, IsPassOf, IsKeeperOf}
 use Rattle.live_doors.specs.Doors.{OnlyNoted, HasNoted, having_noted}
 use Rattle.live_doors.specs.Steps.{PassFits, KeeperFits, walk_of, watch_of}
 

@@ -1,5 +1,6 @@
 //! Tests of the pages.
-ghost use Rattle.std.specs.Prelude.{◌≡◌, [], ◌∷◌, ◌^◌, ◌<◌, ◌≤◌, All, length, slice_index_or, None, Some, IsTrue, IfSome};
+ghost use Rattle.std.specs.Prelude.{◌≡◌, [], ◌∷◌, ◌^◌, ◌<◌, ◌≤◌, All, length};
+ghost use Rattle.std.specs.Prelude.{slice_index_or, None, Some, IsTrue, IfSome};
 ghost use Rattle.live_pages.specs.Touches.{place_of};
 ghost use Rattle.live_pages.specs.Turns.{current};
 ghost use Rattle.live_pages.specs.Ending.{in_order};

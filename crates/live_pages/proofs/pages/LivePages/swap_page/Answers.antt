@@ -12,7 +12,8 @@ unreachable-requires c = none_is (sym c.in_default.is
 
 pub returns-clause-old : goal.returns-clause-old
 returns-clause-old c = λ h is. c.swap-old.ensures.old
-    ∙ ap (λ (x : Held). x.page) (same_held (sym c.in-Some.is ∙ found_in_slot (with_slots c.args.seat.now.me is) c.exchange.ensures.2))
+    ∙ ap (λ (x : Held). x.page) (same_held (sym c.in-Some.is
+    ∙ found_in_slot (with_slots c.args.seat.now.me is) c.exchange.ensures.2))
 
 pub returns-clause-new : goal.returns-clause-new
 returns-clause-new c = (
