@@ -19,7 +19,8 @@ use Rattle.script.specs.declared.plan.Bulk.{Bulk}
 use Rattle.script.specs.declared.plan.Fail.{Fail}
 use Rattle.script.specs.declared.plan.VolumeLine.{VolumeLine}
 use Rattle.script.proofs.PathLaws.{and_both, and_parts}
-use Rattle.script.proofs.PushLaws.{all_push, apart_none, begins_same, bulks_push, end_push, length_push, names_push, sum_push}
+use Rattle.script.proofs.PushLaws.{all_push, apart_none, begins_same, bulks_push}
+use Rattle.script.proofs.PushLaws.{end_push, length_push, names_push, sum_push}
 
 pub blank_is : (volumes : List VolumeLine) (bulks : List Bulk) (fails : List Fail) (processes : List ProcessPlan)
     (who : Who) (commands : List Command) → volumes ≡ [] → bulks ≡ [] → fails ≡ [] → processes ≡ [] → is_who who ≡ true

@@ -21,7 +21,8 @@ use Rattle.script.specs.Forms.{ArePools, has_name, have_own_names, have_own_volu
 use Rattle.script.specs.Forms.{is_from, is_volume, IsPlan, records_of}
 use Rattle.script.specs.Heads.{after_bulk, after_fail, after_volume, bulk_line, fail_line, line_at, machine_line}
 use Rattle.script.specs.Heads.{fail_in, new_volume_in, pools_in, print_line, quota_line, volume_line}
-use Rattle.script.specs.Lines.{four_fields, next_field, no_fields, one_field, print_in, six_fields, three_fields, two_fields}
+use Rattle.script.specs.Lines.{four_fields, next_field, no_fields, one_field}
+use Rattle.script.specs.Lines.{print_in, six_fields, three_fields, two_fields}
 use Rattle.script.specs.Plans.{Plan}
 use Rattle.script.specs.Scripts.{bulk_text, call_text, ended, fail_text, head_text, machine_text, numbers_text}
 use Rattle.script.specs.Scripts.{onward_text, print_text, quota_text, volume_text}

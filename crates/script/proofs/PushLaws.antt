@@ -9,7 +9,8 @@ use Rattle.std.proofs.lemmas.Slice.Eq.{bytes_eq-Decides}
 use Rattle.std.specs.List.{list_all, list_any}
 use Rattle.std.specs.Str.{bytes_eq}
 use Rattle.script.specs.Drafts.{goes_on}
-use Rattle.script.specs.Forms.{BeginsWithInitializer, are_apart, ends_once, has_name, have_own_names, have_own_volumes, is_before}
+use Rattle.script.specs.Forms.{BeginsWithInitializer, are_apart, ends_once}
+use Rattle.script.specs.Forms.{has_name, have_own_names, have_own_volumes, is_before}
 use Rattle.script.specs.Forms.{is_end}
 use Rattle.script.specs.Plans.{ProcessPlan}
 use Rattle.script.specs.declared.commands.Command.{Command}
@@ -94,8 +95,8 @@ apart_push alike turned (y ∷ ys) x h e =
     (apart_push alike turned ys x parts.1 other.1)
 
 -- those before one aren't like it
-apart_before : {A : Type 0} (alike : A → A → Bool) → ((x y : A) → alike x y ≡ false → alike y x ≡ false) → (done : List A)
-    (x : A) (xs : List A) → are_apart alike (done ++ x ∷ xs) ≡ true → list_any (alike x) done ≡ false
+apart_before : {A : Type 0} (alike : A → A → Bool) → ((x y : A) → alike x y ≡ false → alike y x ≡ false)
+    → (done : List A) (x : A) (xs : List A) → are_apart alike (done ++ x ∷ xs) ≡ true → list_any (alike x) done ≡ false
 apart_before alike turned [] x xs h = refl
 apart_before alike turned (u ∷ us) x xs h =
     let own = apart_parts alike u (us ++ x ∷ xs) h in

@@ -1,4 +1,5 @@
-ghost use Rattle.std.specs.Prelude.{[], ◌∷◌, ◌++◌, IfOk, OnErr, ◌≡◌, ◌+◌, ◌<◌, ◌≤◌, false, true, Ok, OnOk, length, sum_by, vec_capacity};
+ghost use Rattle.std.specs.Prelude.{[], ◌∷◌, ◌++◌, IfOk, OnErr, ◌≡◌, ◌+◌, ◌<◌};
+ghost use Rattle.std.specs.Prelude.{◌≤◌, false, true, Ok, OnOk, length, sum_by, vec_capacity};
 ghost use Rattle.std.specs.Prelude.{vec_len};
 ghost use Rattle.std.specs.List.{list_any};
 ghost use Rattle.script.specs.Drafts.{blank, initializer_who, has_volume, is_early, is_head, is_inside, plan_of};

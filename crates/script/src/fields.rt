@@ -1,6 +1,7 @@
 ghost use Rattle.std.specs.Prelude.{◌≡◌, ◌≢◌, ◌<◌, slice_index, [], ◌∷◌, length};
 ghost use Rattle.script.specs.Fields.{fields_of};
-ghost use Rattle.script.specs.Lines.{next_field, no_fields, one_field, two_fields, three_fields, four_fields, six_fields};
+ghost use Rattle.script.specs.Lines.{next_field, no_fields, one_field};
+ghost use Rattle.script.specs.Lines.{two_fields, three_fields, four_fields, six_fields};
 ghost use Rattle.script.specs.Readers.{Gives};
 
 use crate::refusals::Cause;
