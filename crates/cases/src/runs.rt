@@ -1,9 +1,9 @@
 //! Runs of the program, and how each ended and what it wrote.
 //!
 //! The first line of such a case asks, and what follows is the input, which ends before the line feed of the next case:
-//! a blank line there leaves the input its last line feed. Where lines `-- NAME` stand in the input, it is a group: each
-//! of them begins a case of the lines before the first and those below it. The line that asks has the program's words,
-//! each in brackets, and then these, with `;` between:
+//! a blank line there leaves the input its last line feed. Where lines `-- NAME` stand in the input, it is a group:
+//! each of them begins a case of the lines before the first and those below it. The line that asks has the program's
+//! words, each in brackets, and then these, with `;` between:
 //! - `only WORDS` prints but the lines that begin with one of the words;
 //! - `words U.OFF ..` prints the words at these places of the segments of these uids, by the flat store after the book;
 //! - `calls` prints how often the first volume's disk was read and written;

@@ -21,7 +21,8 @@ use Rattle.flat_model.specs.Pages.{is_stored, IsOnce}
 use Rattle.flat_model.specs.Store.{Store, records_of, entries_of}
 use Rattle.descriptor_seg.specs.declared.Sdw.TheVariants.{Present}
 use Rattle.descriptor_seg.specs.Descriptors.{sdw_at}
-pub use Rattle.tree_commands.specs.Shown.{HasMoved, HasRowSet, IsFound, IsThere, ShowsTree, is_there, pages_in, pages_of}
+pub use Rattle.tree_commands.specs.Shown.{HasMoved, HasRowSet, IsFound, IsThere, ShowsTree}
+pub use Rattle.tree_commands.specs.Shown.{is_there, pages_in, pages_of}
 use Rattle.vtoc.specs.Vtoc.{Entry as VtocEntry, entry_at}
 use Rattle.active_segs.specs.declared.Entry.{Entry}
 use Rattle.active_segs.specs.Active.{ActiveSegs, superior_at, uid_at as uid_in_place}

@@ -7,7 +7,8 @@ use Rattle.std.specs.Option.{option_and_then}
 use Rattle.std.proofs.lemmas.Bool.{cases_Bool, cases_eq, both_ways, eqb-true, eq-eqb, ne_eqb, and_parts, or_parts}
 use Rattle.std.proofs.lemmas.Option.{same_Some}
 use Rattle.std.proofs.lemmas.Slice.Eq.{bytes_eq-Decides}
-use Rattle.tree_model.specs.Tree.{Node as Term, above, branch_in, is_branch, is_inferior, is_superior, step_up, has_directory}
+use Rattle.tree_model.specs.Tree.{Node as Term, above, branch_in, is_branch, is_inferior}
+use Rattle.tree_model.specs.Tree.{is_superior, step_up, has_directory}
 use Rattle.tree_model.specs.Trees.{AreBelow, IsBranch, Joins, IsTree}
 use Rattle.tree_model.proofs.Finds.{IsMember, branch_found, member_found}
 

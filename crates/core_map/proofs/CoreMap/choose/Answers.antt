@@ -24,4 +24,5 @@ returns-clause-core c =
     c.next-self-inside.ensures.next)
 
 pub returns-clause-started : goal.returns-clause-started
-returns-clause-started c = rw (← c.self.view_is) (turned_same started_page (λ x. (seen_unmarked x).started) _ _ _ _ c.turn-f.ensures)
+returns-clause-started c = rw (← c.self.view_is)
+    (turned_same started_page (λ x. (seen_unmarked x).started) _ _ _ _ c.turn-f.ensures)

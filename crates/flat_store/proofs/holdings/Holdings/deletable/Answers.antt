@@ -20,7 +20,8 @@ returns-in-Err-clause-effect c = λ s same effect.
 pub returns-then-is_err-clause-effect : goal.returns-then-is_err-clause-effect
 returns-then-is_err-clause-effect c = λ s same effect.
     let n : Node = as_term (quota_in c.self.inside.accounts.nodes) c.in-Ok.node.now in
-    let found = ap (λ (ns : List Node). branch_at ns c.args.path.now) (same ∙ back c.self.view_is) ∙ c.in-Ok.ensures.ok in
+    let found = ap (λ (ns : List Node). branch_at ns c.args.path.now) (same ∙ back c.self.view_is) ∙
+    c.in-Ok.ensures.ok in
     let inferior = ap (λ (ns : List Node). has_inferior ns c.in-Ok.node.now.uid) (same ∙ back c.self.view_is)
     ∙ c.may_remove.ensures.0 (sym c.is_err.ensures.value ∙ c.if-is_err.true) in
     let clash : true ≡ false = sym inferior ∙ (delete_asked s c.args.path.now n found effect).0 in
@@ -29,7 +30,8 @@ returns-then-is_err-clause-effect c = λ s same effect.
 pub returns-then-quota_of-ne0-clause-effect : goal.returns-then-quota_of-ne0-clause-effect
 returns-then-quota_of-ne0-clause-effect c = λ s same effect.
     let n : Node = as_term (quota_in c.self.inside.accounts.nodes) c.in-Ok.node.now in
-    let found = ap (λ (ns : List Node). branch_at ns c.args.path.now) (same ∙ back c.self.view_is) ∙ c.in-Ok.ensures.ok in
+    let found = ap (λ (ns : List Node). branch_at ns c.args.path.now) (same ∙ back c.self.view_is) ∙
+    c.in-Ok.ensures.ok in
     let apart : eqb (quota_in c.self.inside.accounts.nodes c.in-Ok.node.now.uid) 0 ≡ false =
     ap (λ (q : ℕ). eqb q 0) (sym c.quota_of.ensures)
     ∙ ne_eqb c.quota_of.result 0 c.if-quota_of-ne0.true in

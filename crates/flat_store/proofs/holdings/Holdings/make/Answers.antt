@@ -19,7 +19,8 @@ returns-in_default c = λ p s h few effect.
 
 pub returns-in-Err : goal.returns-in-Err
 returns-in-Err c = λ p s h few effect.
-    let found = ap (λ (ns : List Node). node_at ns c.in-Some.above) (tree_inside p s (the_view c.self.inside) c.args.self.now c.self.view_is h).nodes
+    let found = ap (λ (ns : List Node). node_at ns c.in-Some.above) (tree_inside p s (the_view c.self.inside)
+    c.args.self.now c.self.view_is h).nodes
     ∙ c.in-Err.ensures.err in
     subst (λ (x : Store). Holds p c.args.self.now x)
     (sym (make_refused p s c.args.path.now c.in-Some.above c.in-Some.name.now c.args.volume c.args.dir
@@ -29,7 +30,8 @@ returns-in-Err c = λ p s h few effect.
 pub returns-then-is_directory : goal.returns-then-is_directory
 returns-then-is_directory c = λ p s h few effect.
     let d : Node = as_term (quota_in c.self.inside.accounts.nodes) c.in-Ok.node.now in
-    let found = ap (λ (ns : List Node). node_at ns c.in-Some.above) (tree_inside p s (the_view c.self.inside) c.args.self.now c.self.view_is h).nodes
+    let found = ap (λ (ns : List Node). node_at ns c.in-Some.above) (tree_inside p s (the_view c.self.inside)
+    c.args.self.now c.self.view_is h).nodes
     ∙ c.in-Ok.ensures.ok in
     let asked = make_asked p s c.args.path.now c.in-Some.above c.in-Some.name.now c.args.volume c.args.dir
     c.in-Some.ensures.parts d found effect in
@@ -46,7 +48,8 @@ pub returns-else-is_directory : goal.returns-else-is_directory
 returns-else-is_directory c = λ p s h few effect.
     let asked = make_asked p s c.args.path.now c.in-Some.above c.in-Some.name.now c.args.volume c.args.dir
     c.in-Some.ensures.parts (as_term (quota_in c.self.inside.accounts.nodes) c.in-Ok.node.now)
-    (ap (λ (ns : List Node). node_at ns c.in-Some.above) (tree_inside p s (the_view c.self.inside) c.args.self.now c.self.view_is h).nodes
+    (ap (λ (ns : List Node). node_at ns c.in-Some.above) (tree_inside p s (the_view c.self.inside)
+    c.args.self.now c.self.view_is h).nodes
     ∙ c.in-Ok.ensures.ok) effect in
     let clash : true ≡ false = sym asked.0 ∙ c.if-is_directory.false in
     cc

@@ -35,6 +35,7 @@ returns c = λ p s h effect.
     let before : Held = the_view c.self.inside in
     let back = to_z-of_z w32 c.args.amount c.ranges.amount in
     let on : takes_effect c.move_quota-reply.result ≡ true = ap takes_effect
-    ((rw back at c.move_quota-reply.ensures.answer) s (tree_inside p s before c.args.self.now c.self.view_is h)) ∙ effect in
+    ((rw back at c.move_quota-reply.ensures.answer) s (tree_inside p s before c.args.self.now c.self.view_is h))
+    ∙ effect in
     subst (λ (z : Bool). Holds p (after c) (cond z (after_move s c.args.path.now c.args.amount) s)) on
     (shown c p s (held_inside p s before c.args.self.now c.self.view_is h))

@@ -15,7 +15,8 @@ use Rattle.flat_store.proofs.holdings.Holdings.set_length.Goals as goal
 
 pub returns-in-Err : goal.returns-in-Err
 returns-in-Err c = λ p s h effect.
-    let refused = ap (λ (ns : List Node). segment_at ns c.args.path.now) (tree_inside p s (the_view c.self.inside) c.args.self.now c.self.view_is h).nodes
+    let refused = ap (λ (ns : List Node). segment_at ns c.args.path.now) (tree_inside p s
+    (the_view c.self.inside) c.args.self.now c.self.view_is h).nodes
     ∙ c.in-Err.ensures.err in
     subst (λ (x : Store). Holds p c.args.self.now x)
     (sym (length_stays s c.args.path.now c.args.pages c.in-Err.field-0 refused)) h
@@ -44,7 +45,8 @@ invariant_of-self c =
 pub returns-then-not-is_stored_from : goal.returns-then-not-is_stored_from
 returns-then-not-is_stored_from c = λ p s h effect.
     let n : Node = as_term (quota_in c.self.inside.accounts.nodes) c.in-Ok.node.now in
-    let found = ap (λ (ns : List Node). segment_at ns c.args.path.now) (tree_inside p s (the_view c.self.inside) c.args.self.now c.self.view_is h).nodes
+    let found = ap (λ (ns : List Node). segment_at ns c.args.path.now) (tree_inside p s (the_view c.self.inside)
+    c.args.self.now c.self.view_is h).nodes
     ∙ c.in-Ok.ensures.ok in
     let none = sym (c.is_stored_from.ensures p s h) ∙ c.if-not-is_stored_from.true in
     subst (λ (x : Store). Holds p (after c) x) (sym (after_length_is s c.args.path.now c.args.pages n found))
@@ -53,7 +55,8 @@ returns-then-not-is_stored_from c = λ p s h effect.
 pub returns-else-not-is_stored_from : goal.returns-else-not-is_stored_from
 returns-else-not-is_stored_from c = λ p s h effect.
     let n : Node = as_term (quota_in c.self.inside.accounts.nodes) c.in-Ok.node.now in
-    let found = ap (λ (ns : List Node). segment_at ns c.args.path.now) (tree_inside p s (the_view c.self.inside) c.args.self.now c.self.view_is h).nodes
+    let found = ap (λ (ns : List Node). segment_at ns c.args.path.now) (tree_inside p s (the_view c.self.inside)
+    c.args.self.now c.self.view_is h).nodes
     ∙ c.in-Ok.ensures.ok in
     let clash : true ≡ false = sym c.if-not-is_stored_from.false ∙ c.is_stored_from.ensures p s h
     ∙ length_asked s c.args.path.now c.args.pages n found effect in

@@ -32,6 +32,7 @@ pub returns : goal.returns
 returns c = λ p s h effect.
     let before : Held = the_view c.self.inside in
     let on : takes_effect c.set_row-reply.result ≡ true =
-    ap takes_effect (c.set_row-reply.ensures.answer s (tree_inside p s before c.args.self.now c.self.view_is h)) ∙ effect in
+    ap takes_effect (c.set_row-reply.ensures.answer s (tree_inside p s before c.args.self.now c.self.view_is h))
+    ∙ effect in
     subst (λ (z : Bool). Holds p (after c) (cond z (after_acl s c.args.path.now c.args.row.now c.args.mode) s)) on
     (shown c p s (held_inside p s before c.args.self.now c.self.view_is h))

@@ -15,7 +15,8 @@ pub returns-in-Err : goal.returns-in-Err
 returns-in-Err c = λ p s h.
     subst (λ (x : Store). Holds p c.args.self.now x)
     (sym (truncate_refused s c.args.path.now c.args.words c.in-Err.field-0
-    (ap (λ (ns : List Node). segment_at ns c.args.path.now) (tree_inside p s (the_view c.self.inside) c.args.self.now c.self.view_is h).nodes ∙ c.in-Err.ensures.err))) h
+    (ap (λ (ns : List Node). segment_at ns c.args.path.now) (tree_inside p s (the_view c.self.inside)
+    c.args.self.now c.self.view_is h).nodes ∙ c.in-Err.ensures.err))) h
 
 pub returns : goal.returns
 returns c = λ p s h.
@@ -26,4 +27,5 @@ returns c = λ p s h.
     subst (λ (x : Store). Holds p c.cut_page.new.self x)
     (whole_cut s uid c.args.words
     ∙ sym (truncate_done s c.args.path.now c.args.words n
-    (ap (λ (ns : List Node). segment_at ns c.args.path.now) (tree_inside p s (the_view c.self.inside) c.args.self.now c.self.view_is h).nodes ∙ c.in-Ok.ensures.ok))) done
+    (ap (λ (ns : List Node). segment_at ns c.args.path.now) (tree_inside p s (the_view c.self.inside)
+    c.args.self.now c.self.view_is h).nodes ∙ c.in-Ok.ensures.ok))) done

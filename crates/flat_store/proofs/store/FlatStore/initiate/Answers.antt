@@ -15,7 +15,8 @@ returns-in-Ok c = λ p s h.
     let shown = subst (λ (k : Kept). IsShown p k s) (sym c.self.view_is) h in
     let uid : ℕ = c.in-Ok.node.now.uid in
     let n : Node = as_term (quota_in c.tree.result.now.nodes) c.in-Ok.node.now in
-    let found = segment_is p inside s shown c.tree.result.now c.tree.ensures c.args.path.now (Ok n) c.in-Ok.ensures.ok in
+    let found = segment_is p inside s shown c.tree.result.now c.tree.ensures c.args.path.now (Ok n)
+    c.in-Ok.ensures.ok in
     let change : List (Option ℕ) → List (Option ℕ) = λ kst. with_number kst uid (number_for kst uid) in
     let numbers = ap change (sym (numbers_are p inside s shown c.args.process)) in
     subst (λ (x : Store). IsShown p after x) (sym (after_initiate_is s c.args.process c.args.path.now n found))

@@ -34,4 +34,5 @@ pub returns-in-Err : goal.returns-in-Err
 returns-in-Err c = λ p s h.
     let inside : Kept = the_view c.self.inside in
     let shown = subst (λ (k : Kept). IsShown p k s) (sym c.self.view_is) h in
-    initiate_refused p inside s shown c.tree.result.now c.tree.ensures c.args.process c.args.path.now c.in-Err.reply c.in-Err.ensures.err
+    initiate_refused p inside s shown c.tree.result.now c.tree.ensures c.args.process c.args.path.now
+    c.in-Err.reply c.in-Err.ensures.err

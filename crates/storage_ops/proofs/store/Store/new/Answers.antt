@@ -115,7 +115,8 @@ invariant_of-result g c =
     c.in_ok-whos.whos.items) (sym c.new_home.ensures.ast)
     (subst (λ (x : Links). IsStore now c.in_ok-segs.segs.ast x c.in_ok-accounts.accounts c.in_ok-whos.whos.items)
     (sym c.new_home.ensures.links)
-    (store_new nothing c.in_ok-accounts.accounts _ c.in-Some.entry old now (made g at.In-Some zero) c.in_ok-segs.segs.ast
+    (store_new nothing c.in_ok-accounts.accounts _ c.in-Some.entry old now (made g at.In-Some zero)
+    c.in_ok-segs.segs.ast
     c.in_ok-segs.segs.links
     c.in_ok-whos.whos.items
     (omega arith) (λ d. refl) start))
@@ -137,7 +138,8 @@ returns-clause-shown g c =
     let known = ap (λ (x : Control g.row.D.Denot). x.links.known) c.in_ok-segs.ensures
     ∙ ap (λ (n : ℕ). replicate n (replicate 256 None)) c.processes-processes.ensures.count in
     subst (λ (x : Flat). Shows g.D.Drive.pages p x u) (boot_is p c.quota.result c.quota.ensures)
-    (shown_new nothing c.in_ok-accounts.accounts _ c.in-Some.entry old now (made g at.In-Some zero) c.in_ok-segs.segs.ast
+    (shown_new nothing c.in_ok-accounts.accounts _ c.in-Some.entry old now (made g at.In-Some zero)
+    c.in_ok-segs.segs.ast
     c.in_ok-segs.segs.links
     g.D.Drive.pages p (blank p) t u refl refl refl refl c.new_home.ensures.links refl refl refl c.new_home.ensures.words
     (λ v. length_inside c.in_ok-segs.segs.pages.volumes.vtocs 0 c.in-Some.entry v _ _ (ap (λ
