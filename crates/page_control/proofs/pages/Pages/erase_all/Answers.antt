@@ -1,3 +1,6 @@
+use Rattle.std.proofs.Common.{arith}
+use Rattle.std.proofs.lemmas.Grind.{common_steps}
+use Rattle.page_control.proofs.Facts.{home_used}
 use Rattle.std.proofs.Common.{rules}
 use Rattle.page_control.specs.Plain.{plain, uid_of_home}
 use Rattle.page_control.proofs.Erasing.{ended, names_same, names_none, all_erased, filed_erased, count_end}
@@ -28,3 +31,6 @@ returns-clause-records g c =
 pub returns-clause-taken : goal.returns-clause-taken
 returns-clause-taken g c =
     count_end (ended c.loop-p.invariant.0 c.size.ensures.places (search rules) (search rules)) (search rules)
+
+pub prove-unreachable-requires : goal.prove-unreachable-requires
+prove-unreachable-requires g c = grind (arith, common_steps, home_used)

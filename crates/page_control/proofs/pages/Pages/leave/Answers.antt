@@ -1,3 +1,5 @@
+use Rattle.std.proofs.lemmas.Grind.{common_steps}
+use Rattle.page_control.proofs.Facts.{page_leaves}
 use Rattle.std.proofs.Common.{rules, arith, ap, refl, inl, inr}
 use Rattle.page_control.specs.Plain.{plain}
 use Rattle.page_control.specs.Tied.{has_record}
@@ -80,3 +82,6 @@ returns-clause-no_call g c = λ need.
       | inl all ↦ absurd (not_zero c.is_zero.result _ c.is_zero.ensures.zero c.if-is_zero.false all)
       | inr off ↦ (let same = c.save.ensures.no_call off in search rules)
     ]
+
+pub is_zero-requires : goal.is_zero-requires
+is_zero-requires g c = grind (arith, common_steps, page_leaves)

@@ -1,3 +1,4 @@
+use Rattle.page_control.proofs.Facts.{bindings_referred}
 use Rattle.std.proofs.Common.{rules, arith}
 use Rattle.std.proofs.lemmas.Grind.{common_steps}
 use Rattle.page_control.specs.Plain.{plain}
@@ -10,3 +11,12 @@ returns-clause-words g c = words_put (plain g.D.Drive.pages c.args.self.now) c.m
 
 pub returns-clause-ties : goal.returns-clause-ties
 returns-clause-ties g c = ties_written _ _ c.args.f c.set.new.self c.requires.bound (grind (arith, common_steps))
+
+pub index_mut-requires : goal.index_mut-requires
+index_mut-requires g c = grind (arith, common_steps, bindings_referred)
+
+pub returns-clause-word : goal.returns-clause-word
+returns-clause-word g c = grind (arith, common_steps, bindings_referred)
+
+pub returns-clause-size : goal.returns-clause-size
+returns-clause-size g c = grind (arith, common_steps, bindings_referred)

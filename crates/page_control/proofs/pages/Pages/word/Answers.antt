@@ -1,3 +1,5 @@
+use Rattle.std.proofs.Common.{arith}
+use Rattle.std.proofs.lemmas.Grind.{common_steps}
 use Rattle.std.proofs.Common.{rules}
 use Rattle.page_control.specs.Plain.{plain}
 use Rattle.page_control.proofs.Facts.{bindings_referred}
@@ -11,3 +13,9 @@ returns-clause-ties g c =
     (search rules) (search rules)
     (search rules)
     (search rules) c.requires.bound)
+
+pub index-requires : goal.index-requires
+index-requires g c = grind (arith, common_steps, bindings_referred)
+
+pub returns-clause-word : goal.returns-clause-word
+returns-clause-word g c = grind (arith, common_steps, bindings_referred)
