@@ -12,7 +12,7 @@ mod reading;
 mod writing;
 
 use crate::streams::reading::{all_text, source_text};
-use crate::streams::writing::{sink_text, whole_text};
+use crate::streams::writing::sink_text;
 use std::alloc::{AllocError, Global};
 
 /// A number, and the text after it.
@@ -29,8 +29,8 @@ pub(crate) fn case_text(alloc: Global, case: &str) -> Result<String, AllocError>
     let (fail, text) = number(rest);
     let given = match way {
         "source" => source_text(alloc, first, fail, text, lines)?,
-        "sink" => sink_text(alloc, first, fail, lines)?,
-        "whole" => whole_text(alloc, first, fail, lines)?,
+        "sink" => sink_text(alloc, first, fail, lines, false)?,
+        "whole" => sink_text(alloc, first, fail, lines, true)?,
         "all" => all_text(alloc, first, fail, text, lines)?,
         _ => String::from_str(alloc, "no way\n")?,
     };

@@ -1,3 +1,5 @@
+ghost use Rattle.std.specs.Prelude.{◌≤◌};
+
 use runner::Words;
 use std::alloc::{AllocError, Global};
 
@@ -46,6 +48,22 @@ impl<'a> Asked<'a> {
             "unread" => self.unread = true,
             "times" => self.times = rest.parse().unwrap_or(0),
             _ => (),
+        }
+    }
+
+    /// How often the program runs on the input.
+    pub(crate) fn runs(&self) -> u32 {
+        if self.times > 0 { self.times } else { 3 }
+    }
+
+    /// Of how many bytes the pieces are in which a run reads the input; runs are counted from 0.
+    pub(crate) fn piece(&self, run: u32) -> usize
+        ensures { 1 ≤ result }
+    {
+        match run {
+            1 if self.times == 0 => 1,
+            2 if self.times == 0 => 7,
+            _ => 65536,
         }
     }
 

@@ -5,49 +5,20 @@ use std::alloc::{AllocError, Global};
 use std::sync::Wait;
 use std::thread::Threads;
 
-/// What an input gives in so many runs of the program, which must be the same in each.
-fn repeated<R: Threads + Wait + Sync + AllocGlobal>(
-    rt: &R,
-    asked: &Asked,
-    input: &str,
-) -> Result<String, AllocError> {
-    let first = answer_text(rt, asked, input.as_bytes(), 65536)?;
-    for run in 1..asked.times {
-        let other = answer_text(rt, asked, input.as_bytes(), 65536)?;
-        if other != first {
-            return format!(in rt.alloc(); "{first}after {run} runs: {other}");
-        }
-    }
-    Ok(first)
-}
-
-/// What an input gives, whatever the pieces are in which it is read.
-fn in_pieces<R: Threads + Wait + Sync + AllocGlobal>(
-    rt: &R,
-    asked: &Asked,
-    input: &str,
-) -> Result<String, AllocError> {
-    let whole = answer_text(rt, asked, input.as_bytes(), 65536)?;
-    for piece in [1, 7] {
-        let other = answer_text(rt, asked, input.as_bytes(), piece)?;
-        if other != whole {
-            return format!(in rt.alloc(); "{whole}in pieces of {piece} bytes: {other}");
-        }
-    }
-    Ok(whole)
-}
-
-/// What an input gives.
+/// What an input gives, which must be the same in each run of the program on it.
 fn answers<R: Threads + Wait + Sync + AllocGlobal>(
     rt: &R,
     asked: &Asked,
     input: &str,
 ) -> Result<String, AllocError> {
-    if asked.times > 0 {
-        repeated(rt, asked, input)
-    } else {
-        in_pieces(rt, asked, input)
+    let first = answer_text(rt, asked, input.as_bytes(), asked.piece(0))?;
+    for run in 1..asked.runs() {
+        let other = answer_text(rt, asked, input.as_bytes(), asked.piece(run))?;
+        if other != first {
+            return format!(in rt.alloc(); "{first}after {run} runs: {other}");
+        }
     }
+    Ok(first)
 }
 
 /// The lines that all cases of a group begin with, and those of one.

@@ -14,40 +14,37 @@ fn held_text(alloc: Global, sink: &MemorySink) -> Result<String, AllocError> {
     format!(in alloc; "held [{text}]\n")
 }
 
-/// What the calls of a sink give, one for each line, which is the piece to write; and what it holds then.
+/// What the writing of a line gives: in one call, or whole.
+fn line_text(
+    alloc: Global,
+    sink: &mut MemorySink,
+    line: &str,
+    whole: bool,
+) -> Result<String, AllocError> {
+    let bytes = line.as_bytes();
+    if whole {
+        let done = write_all(sink, bytes).is_ok();
+        return String::from_str(alloc, if done { "done\n" } else { "failed\n" });
+    }
+    match sink.write(bytes) {
+        Ok(count) => format!(in alloc; "{count}\n"),
+        Err(_) => String::from_str(alloc, "failed\n"),
+    }
+}
+
+/// What the writing of each line gives, in one call or whole, and what the sink holds then.
 pub(crate) fn sink_text(
     alloc: Global,
     room: u32,
     fail: u32,
     lines: &str,
+    whole: bool,
 ) -> Result<String, AllocError> {
     let mut sink = sink_of(alloc, room, fail)?;
     let mut given = String::new(alloc);
     for line in lines.lines() {
-        match sink.write(line.as_bytes()) {
-            Ok(count) => write!(given, "{count}\n")?,
-            Err(_) => write!(given, "failed\n")?,
-        }
-    }
-    let held = held_text(alloc, &sink)?;
-    given.push_str(held.as_str())?;
-    Ok(given)
-}
-
-/// What writing each line whole gives, and what the sink holds then.
-pub(crate) fn whole_text(
-    alloc: Global,
-    room: u32,
-    fail: u32,
-    lines: &str,
-) -> Result<String, AllocError> {
-    let mut sink = sink_of(alloc, room, fail)?;
-    let mut given = String::new(alloc);
-    for line in lines.lines() {
-        match write_all(&mut sink, line.as_bytes()) {
-            Ok(()) => write!(given, "done\n")?,
-            Err(_) => write!(given, "failed\n")?,
-        }
+        let written = line_text(alloc, &mut sink, line, whole)?;
+        given.push_str(written.as_str())?;
     }
     let held = held_text(alloc, &sink)?;
     given.push_str(held.as_str())?;
