@@ -18,7 +18,7 @@ use Rattle.dir_tree.specs.Nodes.{path_answer}
 use Rattle.accounts.specs.Maps.{HasColumns, count_of}
 use Rattle.quota_cells.specs.Accounts.{look}
 use Rattle.custody_model.specs.Custody.{has}
-use Rattle.flat_model.specs.Branches.{done_at, node_at, only_segment, segment_at, walked}
+use Rattle.flat_model.specs.Branches.{done_at, node_at, only_segment, segment_at, there_or, walked}
 use Rattle.flat_model.specs.Commands.{takes_effect}
 use Rattle.flat_model.specs.Sizes.{after_truncate, truncate_reply}
 use Rattle.flat_model.specs.Store.{Store}
@@ -44,7 +44,6 @@ use Rattle.storage_ops.specs.CutOff.{CountsOthers, Paged, cut_at, cut_by, is_cle
 use Rattle.storage_ops.specs.CutOff.{pages_cut, pages_from}
 use Rattle.storage_ops.specs.Shown.{IsStore, Shows, Storage as Stored, answered, home_of, is_there, pages_in}
 use Rattle.flat_model.proofs.PathRefusals.{segment_refuses}
-use Rattle.tree_commands.proofs.PathLaws.{walked_to}
 use Rattle.machine_model.specs.Commits.{first_past, frame_entry, stays, with_effect, with_truncated}
 use Rattle.machine_model.specs.Jobs.{are_zeros, page_or_zero}
 use Rattle.machine_model.specs.Keeps.{IsFaithful}
@@ -513,9 +512,16 @@ found_node (Err r) uid e = absurd (none_some (sym e))
 walked_found : (ns : List Node) (path : List (List ℕ)) (uid : ℕ) (n : Node)
     → Ok uid ≡ path_answer (walk_in ns path) → node_in ns uid ≡ Some n
     → uid_found (segment_at ns path) ≡ cond n.directory None (Some uid)
+unfolding node_at
 walked_found ns path uid n to found = ap (λ (x : Result Node Reply). uid_found (only_segment x))
-    (walked_to ns path uid n to found) ∙ by n.directory
+    (walks (walk_in ns path) to) ∙ by n.directory
   where
+    walks : (w : Walk) → Ok uid ≡ path_answer w → walked ns w ≡ Ok n
+    walks (LeadsTo u) e = (let same : uid ≡ u = cc in ap (λ (x : ℕ). there_or (node_in ns x)) (sym same)
+        ∙ ap there_or found)
+    walks Missing e = cc
+    walks InSegment e = cc
+
     by : (b : Bool) → uid_found (cond b (Err reply.IsDir) (Ok n)) ≡ cond b None (Some uid)
     by true = refl
     by false = ap (λ (v : ℕ). Some v) (found_uid ns uid n found)
