@@ -1,7 +1,6 @@
-use crate::gates::TestGate;
 use crate::left::{Left, left_by};
 use runner::{Status, Words, multics};
-use site_io::{MemorySink, MemorySource};
+use site_io::{Gate, MemorySink, MemorySource, NoGate};
 use std::alloc::{AllocError, Global};
 use std::sync::Wait;
 use std::test::Fail;
@@ -48,12 +47,12 @@ pub(crate) fn words_of(alloc: Global, words: &[&str]) -> Result<Words, Fail> {
 }
 
 /// Calls the program once; how it ended, and what its machine left.
-fn call<R: Threads + Wait + Sync + AllocGlobal>(
+fn call<R: Threads + Wait + Sync + AllocGlobal, G: Gate + Sync>(
     rt: &R,
     words: Words,
     source: &mut MemorySource,
     sink: &mut MemorySink,
-    gate: &TestGate,
+    gate: &G,
 ) -> (Status, Option<Left>) {
     let finished = multics(rt, rt.alloc(), words, source, sink, gate);
     (finished.status, left_by(&finished.machine))
@@ -66,12 +65,12 @@ fn listed(alloc: Global, number: u64) -> Result<Vec<u64>, AllocError> {
 }
 
 /// Calls the program with some words on some bytes, whose processors pass a gate.
-pub(crate) fn ask_through<R: Threads + Wait + Sync + AllocGlobal>(
+pub(crate) fn ask_through<R: Threads + Wait + Sync + AllocGlobal, G: Gate + Sync>(
     rt: &R,
     words: &[&str],
     bytes: &[u8],
     streams: Streams,
-    gate: &TestGate,
+    gate: &G,
 ) -> Result<Answer, Fail> {
     let alloc = rt.alloc();
     let words = words_of(alloc, words)?;
@@ -93,7 +92,7 @@ pub(crate) fn ask<R: Threads + Wait + Sync + AllocGlobal>(
     bytes: &[u8],
     streams: Streams,
 ) -> Result<Answer, Fail> {
-    ask_through(rt, words, bytes, streams, &TestGate::Open)
+    ask_through(rt, words, bytes, streams, &NoGate)
 }
 
 /// Calls the program with some words, where nothing is read, into so much room.

@@ -3,7 +3,6 @@
 ghost use Rattle.flat_model.specs.Legal.{IsLegal};
 
 use crate::asking::{PLAIN, ask_through, words_of};
-use crate::gates::TestGate;
 use book::Book;
 use bulk_store::AnyDrive;
 use flat_store::{FlatStore, NoMemory};
@@ -11,12 +10,27 @@ use machine::Machine;
 use make_work::make_script;
 use runner::{Status, Words, multics};
 use script::{Command, Script, read_script};
-use site_io::{MemorySink, MemorySource};
+use site_io::{Gate, MemorySink, MemorySource, NoGate, Point};
 use std::alloc::Global;
 use std::process::Abort;
-use std::sync::Wait;
+use std::sync::{Mutex, Wait};
 use std::test::Fail;
 use std::thread::Threads;
+
+/// A gate that counts how many references were answered through a frame.
+#[derive(Drop)]
+struct CountGate {
+    answered: Mutex<u64>,
+}
+
+impl Gate for CountGate {
+    fn hold<R: Threads + Wait + Sync>(&self, rt: &R, _cpu: u32, point: Point) {
+        if matches!(point, Point::Answered(_)) {
+            let mut answered = self.answered.lock(rt);
+            *answered = answered.saturating_add(1);
+        }
+    }
+}
 
 /// The uid of the segment whose first word all processes add to.
 const COUNTER: u32 = 5;
@@ -133,7 +147,7 @@ fn run<R: Threads + Wait + Sync + AllocGlobal>(
     source: &mut MemorySource,
     sink: &mut MemorySink,
 ) -> (Status, Result<Option<Evening>, NoMemory>) {
-    let finished = multics(rt, rt.alloc(), words, source, sink, &TestGate::Open);
+    let finished = multics(rt, rt.alloc(), words, source, sink, &NoGate);
     (finished.status, left_by(rt.alloc(), &finished.machine))
 }
 
@@ -167,11 +181,14 @@ fn a_day_leaves_the_sum_of_what_was_added_and_no_page_of_zeros(
 #[test]
 fn each_reference_through_a_frame_passes_the_gate_once(rt: HostRuntime) -> Result<(), Fail> {
     let day = day(rt.alloc())?;
-    let gate = TestGate::counting();
+    let gate = CountGate {
+        answered: Mutex::new(0),
+    };
     let answer = ask_through(&rt, &["run"], &day, PLAIN, &gate)?;
     assert!(rt; answer.status == Status::Done);
     let framed = answer.left.expect(&rt, "a machine").framed;
+    let answered = *gate.answered.lock(&rt);
     assert!(rt; framed > 0);
-    assert!(rt; gate.counted(&rt) == Some(framed));
+    assert!(rt; answered == framed);
     Ok(())
 }

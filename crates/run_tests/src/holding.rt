@@ -1,7 +1,6 @@
 //! A run of two processors that are held at certain points.
 
 use crate::asking::{PLAIN, ask_through};
-use crate::gates::TestGate;
 use runner::Status;
 use site_io::HoldGate;
 use std::process::Abort;
@@ -44,10 +43,10 @@ volume alpha records 8 taken 2 entries 4 taken 3
 fn a_reference_is_answered_on_one_thread_between_a_signal_and_what_follows_it_on_another(
     rt: HostRuntime,
 ) -> Result<(), Fail> {
-    let gate = TestGate::Holds(HoldGate::new());
+    let gate = HoldGate::new();
     let answer = ask_through(&rt, &["run"], TWO, PLAIN, &gate)?;
     assert!(rt; answer.status == Status::Done);
     assert!(rt; answer.text.ends_with(ENDS));
-    assert!(rt; gate.has_held(&rt));
+    assert!(rt; gate.passed(&rt));
     Ok(())
 }

@@ -12,8 +12,6 @@ mod drives;
 #[cfg(test)]
 mod failing;
 #[cfg(test)]
-mod gates;
-#[cfg(test)]
 mod holding;
 #[cfg(test)]
 mod left;
