@@ -8,7 +8,7 @@ use std::alloc::Global;
 use std::marker::Model;
 
 /// The places of the active segments by uid. It has room for a fixed number of them.
-#[derive(Debug, Drop)]
+#[derive(Drop)]
 pub(crate) struct Index {
     pairs: Vec<(u32, u32)>,
     room: usize,

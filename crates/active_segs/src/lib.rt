@@ -37,7 +37,7 @@ use std::alloc::Global;
 use std::marker::Model;
 
 /// What is active in a place of the table.
-#[derive(Clone, Copy, Debug, PartialEq, Eq)]
+#[derive(Clone, Copy, PartialEq, Eq)]
 pub struct Entry {
     /// The segment or directory.
     pub uid: u32,
@@ -51,7 +51,7 @@ pub struct Entry {
 /// what is active in each place, and the page table of each place. No segment is active in two places, the superior
 /// of each active segment is active, and superiors don't go round (`IsTree`). A call changes a page table only where
 /// it says so, and nothing that always holds of the table reads a word of one.
-#[derive(Debug, Drop)]
+#[derive(Drop)]
 pub struct Ast {
     sizes: [u32; 4],
     hands: [u32; 4],

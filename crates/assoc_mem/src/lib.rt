@@ -16,7 +16,7 @@ use mnames::Mode;
 use std::marker::Model;
 
 /// A segment descriptor word that a processor holds.
-#[derive(Clone, Copy, Debug, PartialEq, Eq)]
+#[derive(Clone, Copy, PartialEq, Eq)]
 pub struct HeldSeg {
     /// The segment number of the processor's process.
     pub number: u32,
@@ -40,7 +40,7 @@ impl Default for HeldSeg {
 }
 
 /// A page table word that a processor holds.
-#[derive(Clone, Copy, Debug, Default, PartialEq, Eq)]
+#[derive(Clone, Copy, Default, PartialEq, Eq)]
 pub struct HeldPage {
     /// The segment.
     pub uid: u32,
@@ -51,7 +51,7 @@ pub struct HeldPage {
 }
 
 /// What is to be dropped from associative memories.
-#[derive(Clone, Copy, Debug, PartialEq, Eq)]
+#[derive(Clone, Copy, PartialEq, Eq)]
 pub enum What {
     /// Everything.
     All,
@@ -64,7 +64,7 @@ pub enum What {
 /// The associative memories of one processor, of 16 places for each kind of word.
 ///
 /// Contracts see what each kind holds as a list, the oldest fill first.
-#[derive(Debug, Drop)]
+#[derive(Drop)]
 pub struct Assoc {
     segs: ArrayVec<HeldSeg, 16>,
     pages: ArrayVec<HeldPage, 16>,

@@ -8,7 +8,7 @@ use std::alloc::Global;
 use std::marker::Model;
 
 /// A record whose page the fast store holds, and the place of the page there. (Source: own.)
-#[derive(Clone, Copy, Debug, PartialEq, Eq)]
+#[derive(Clone, Copy)]
 pub struct Held {
     /// The number of the record.
     pub number: u32,
@@ -17,7 +17,7 @@ pub struct Held {
 }
 
 /// The records that a fast store holds, the oldest first, with an index by record. (Source: own.)
-#[derive(Debug, Drop)]
+#[derive(Drop)]
 pub(crate) struct Index {
     held: HeapCircularBuffer<Held>,
     places: Vec<Option<u32>>,

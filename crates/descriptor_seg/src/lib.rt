@@ -17,7 +17,7 @@ use std::marker::Model;
 const NUMBERS: usize = 256;
 
 /// A segment descriptor word (Bensoussan, Clingen and Daley 1972).
-#[derive(Clone, Copy, Debug, PartialEq, Eq)]
+#[derive(Clone, Copy, PartialEq, Eq)]
 pub enum Sdw {
     /// A reference by this number takes a missing-segment fault.
     Fault,
@@ -34,7 +34,7 @@ pub enum Sdw {
 
 /// The descriptor segment of a process, seen as the list of its 256 words by segment number (Bensoussan, Clingen and
 /// Daley 1972).
-#[derive(Debug, Drop)]
+#[derive(Drop)]
 pub struct DescSeg {
     words: Vec<Sdw>,
 }

@@ -13,7 +13,7 @@ use std::alloc::{AllocError, Global};
 use std::marker::Model;
 
 /// What is looked up by uid.
-#[derive(Clone, Copy, Debug)]
+#[derive(Clone, Copy)]
 pub(crate) struct Entry {
     /// The uid of the node.
     pub uid: u32,
@@ -35,7 +35,7 @@ const NO_ENTRY: Entry = Entry {
 
 /// Entries in the order of uids: one for each of at most 4097 nodes. An entry stays in the slot of its node's place,
 /// and only the places stand in the order of uids.
-#[derive(Debug, Drop)]
+#[derive(Drop)]
 pub(crate) struct Entries {
     slots: Vec<Entry>,
     order: Vec<u16>,

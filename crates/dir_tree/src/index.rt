@@ -15,7 +15,7 @@ use std::cmp::Ordering;
 use std::marker::Model;
 
 /// The places of the branches, in the order of superior and name. It has room for a fixed number of them.
-#[derive(Debug, Drop)]
+#[derive(Drop)]
 pub(crate) struct Index {
     places: Vec<u16>,
     room: usize,

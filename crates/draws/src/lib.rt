@@ -9,7 +9,7 @@ ghost use Rattle.draws.specs.Draws.{drawn, next_state};
 
 /// The state of the generator. (Source: Knuth, The Art of Computer Programming; that the upper 31 bits are taken is
 /// own.)
-#[derive(Clone, Copy, Debug, PartialEq, Eq)]
+#[derive(Clone, Copy, PartialEq, Eq)]
 pub struct Draws {
     /// The state from which the next number is drawn.
     pub state: u64,

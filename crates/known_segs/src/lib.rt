@@ -19,7 +19,7 @@ pub const NUMBERS: usize = 256;
 ///
 /// Contracts see it as the list of what the 256 numbers stand for: a finite map from numbers to uids. No uid has two
 /// numbers.
-#[derive(Debug, Drop)]
+#[derive(Drop)]
 pub struct Kst {
     places: Vec<Option<u32>>,
 }

@@ -52,7 +52,7 @@ impl AccountCount {
 }
 
 /// How much of a volume is used.
-#[derive(Clone, Copy, Debug, PartialEq, Eq)]
+#[derive(Clone, Copy, PartialEq, Eq)]
 pub struct VolumeUse {
     /// How many of its records are taken, one for each stored page.
     pub records: u32,

@@ -5,7 +5,7 @@ ghost use Rattle.live_pages.specs.Touches.{touched, answer, place_of};
 use mword::{Page, Word};
 
 /// What a touch does with the word at a place of a page.
-#[derive(Clone, Copy, Debug, PartialEq, Eq)]
+#[derive(Clone, Copy, PartialEq, Eq)]
 pub enum Touch {
     /// Answers the word.
     Get(u32),
@@ -38,7 +38,7 @@ impl Touch {
 }
 
 /// What a touch was answered.
-#[derive(Clone, Copy, Debug, PartialEq, Eq)]
+#[derive(Clone, Copy, PartialEq, Eq)]
 pub struct Touched {
     /// The number of the touch among all touches.
     pub ticket: u64,

@@ -4,7 +4,7 @@ use machine_tables::Why;
 use site_io::Point;
 
 /// What a step of a processor is answered (own).
-#[derive(Clone, Copy, Debug, PartialEq, Eq)]
+#[derive(Clone, Copy, PartialEq, Eq)]
 pub enum Turn {
     /// It did its one action, and stands here.
     Moved(Point),

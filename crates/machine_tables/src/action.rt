@@ -6,7 +6,7 @@ use processor::Transfer;
 use script::Reference;
 
 /// What a step of a processor waits for (own).
-#[derive(Clone, Copy, Debug, PartialEq, Eq)]
+#[derive(Clone, Copy, PartialEq, Eq)]
 pub enum Why {
     /// This processor owns the supervisor.
     ForOwner(u32),
@@ -21,7 +21,7 @@ pub enum Why {
 /// What a processor does in its next step (Bensoussan, Clingen and Daley 1972; Corbató 1968; the steps are own).
 ///
 /// It names no list: what a job takes is told by the command that it is for, or by the segment.
-#[derive(Clone, Copy, Debug, PartialEq, Eq)]
+#[derive(Clone, Copy)]
 pub enum Action {
     /// Nothing: the machine was stopped.
     IsStopped,

@@ -24,7 +24,7 @@ pub use pages::Pages;
 pub struct NoRecord;
 
 /// Where a segment is kept: its volume, and its entry in the VTOC of that volume (Organick 1972).
-#[derive(Clone, Copy, Debug, Default, PartialEq, Eq)]
+#[derive(Clone, Copy, Default, PartialEq, Eq)]
 pub struct Home {
     /// The number of the volume.
     pub volume: u32,
@@ -33,7 +33,7 @@ pub struct Home {
 }
 
 /// What became of a page that left its frame (Organick 1972).
-#[derive(Clone, Copy, Debug, PartialEq, Eq)]
+#[derive(Clone, Copy, PartialEq, Eq)]
 pub enum Left {
     /// It was all zeros: its record is given back, and it is stored no more.
     Released,

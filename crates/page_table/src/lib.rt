@@ -17,7 +17,7 @@ use std::alloc::Global;
 use std::marker::Model;
 
 /// A page table word, which says where a page is (Bensoussan, Clingen and Daley 1972).
-#[derive(Clone, Copy, Debug, PartialEq, Eq)]
+#[derive(Clone, Copy, PartialEq, Eq)]
 pub enum Ptw {
     /// The page has no record: all its words are 0.
     Null,
@@ -30,7 +30,7 @@ pub enum Ptw {
 }
 
 /// The page table of one segment, seen as the list of its words in order of page number.
-#[derive(Debug, Drop)]
+#[derive(Drop)]
 pub struct PageTable {
     words: Vec<Ptw>,
 }

@@ -22,7 +22,7 @@ use page_table::Ptw;
 use script::{RefKind, Reference};
 
 /// A page that a processor is reading into a frame by itself.
-#[derive(Clone, Copy, Debug, PartialEq, Eq)]
+#[derive(Clone, Copy, PartialEq, Eq)]
 pub struct Transfer {
     /// The frame.
     pub frame: u32,
@@ -33,7 +33,7 @@ pub struct Transfer {
 }
 
 /// A processor (Corbató 1968; the associative memories are those of Bensoussan, Clingen and Daley 1972).
-#[derive(Debug, Drop)]
+#[derive(Drop)]
 pub struct Cpu {
     /// What it holds.
     pub assoc: Assoc,
@@ -48,7 +48,7 @@ pub struct Cpu {
 }
 
 /// What a processor does by itself with a reference (Bensoussan, Clingen and Daley 1972).
-#[derive(Clone, Copy, Debug, PartialEq, Eq)]
+#[derive(Clone, Copy, PartialEq, Eq)]
 pub enum Move {
     /// It takes in the segment descriptor word of the number.
     FillSeg,

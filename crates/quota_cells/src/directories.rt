@@ -16,7 +16,7 @@ use std::alloc::{AllocError, Global};
 use std::marker::Model;
 
 /// The quota cell of a directory (Organick 1972), with the stored pages below it that no lower account takes.
-#[derive(Clone, Copy, Debug)]
+#[derive(Clone, Copy)]
 pub(crate) struct Cell {
     /// The directory.
     pub uid: u32,
@@ -36,7 +36,7 @@ pub(crate) struct Placed<'a> {
 }
 
 /// The quota cells of directories, in the order of uids, with room for 4097.
-#[derive(Debug, Drop)]
+#[derive(Drop)]
 pub(crate) struct Directories {
     cells: Vec<Cell>,
 }

@@ -75,7 +75,7 @@ pub const CELLS: usize = 4097;
 /// load. The cells fit a tree (`Fits`) where its directories and segments are exactly the uids with a cell, and each
 /// load is the count from scratch in that tree, with the quotas and stored pages that the cells hold. Each account is
 /// within its quota at all times, and the sum of quotas is what the root had at first.
-#[derive(Debug, Drop)]
+#[derive(Drop)]
 pub struct Cells {
     directories: Directories,
     segments: Segments,

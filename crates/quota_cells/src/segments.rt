@@ -10,7 +10,7 @@ use std::alloc::{AllocError, Global};
 use std::marker::Model;
 
 /// How many stored pages a segment has.
-#[derive(Clone, Copy, Debug)]
+#[derive(Clone, Copy)]
 pub(crate) struct Count {
     /// The segment.
     pub uid: u32,
@@ -19,7 +19,7 @@ pub(crate) struct Count {
 }
 
 /// The counts of segments, in the order of uids, with room for 4097.
-#[derive(Debug, Drop)]
+#[derive(Drop)]
 pub(crate) struct Segments {
     counts: Vec<Count>,
 }

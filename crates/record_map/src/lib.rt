@@ -21,7 +21,7 @@ use std::marker::Model;
 
 /// Which records of a volume are in use, seen as one flag for each record, true where it is in use. The size of
 /// the volume is the length of that list.
-#[derive(Debug, Drop)]
+#[derive(Drop)]
 pub struct RecordMap {
     records: Bitmap,
 }

@@ -4,7 +4,7 @@ use machine::Machine;
 use script::Refusal;
 
 /// How a call ended.
-#[derive(Clone, Copy, Debug, PartialEq, Eq)]
+#[derive(Clone, Copy, PartialEq, Eq)]
 pub enum Status {
     /// None of the others: the output was written.
     Done,

@@ -20,7 +20,7 @@ impl Model for Words {
 }
 
 /// What the words ask the program for.
-#[derive(Clone, Copy, Debug, PartialEq, Eq)]
+#[derive(Clone, Copy, PartialEq, Eq)]
 pub enum Form {
     /// `run`: a script is read and run.
     Run,

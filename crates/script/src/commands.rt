@@ -90,7 +90,7 @@ pub enum Command {
 }
 
 /// What a reference does to the word that it names (Bensoussan, Clingen and Daley 1972; `Add` is own).
-#[derive(Clone, Copy, Debug, PartialEq, Eq)]
+#[derive(Clone, Copy, PartialEq, Eq)]
 pub enum RefKind {
     /// Reads the word.
     Read,
@@ -102,7 +102,7 @@ pub enum RefKind {
 
 /// A reference of a process to a word of a segment, by the number that it knows the segment by and an offset in words
 /// (Bensoussan, Clingen and Daley 1972).
-#[derive(Clone, Copy, Debug, PartialEq, Eq)]
+#[derive(Clone, Copy, PartialEq, Eq)]
 pub struct Reference {
     pub number: u32,
     pub offset: u32,

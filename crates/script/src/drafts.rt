@@ -25,7 +25,7 @@ use std::marker::Model;
 use std::mem;
 
 /// What may stand next in a script (own).
-#[derive(Clone, Copy, Debug, PartialEq, Eq)]
+#[derive(Clone, Copy)]
 pub enum Stage {
     /// The line of the machine.
     Machine,
@@ -46,7 +46,7 @@ pub enum Stage {
 }
 
 /// Why a line of a script changed nothing more.
-#[derive(Clone, Copy, Debug, PartialEq, Eq)]
+#[derive(Clone, Copy)]
 pub enum LineFault {
     /// It is refused.
     Refused(Cause),

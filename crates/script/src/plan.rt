@@ -17,7 +17,7 @@ pub struct VolumeLine {
 }
 
 /// What a listing has beside its summary (own).
-#[derive(Clone, Copy, Debug, PartialEq, Eq)]
+#[derive(Clone, Copy, PartialEq, Eq)]
 pub enum Print {
     /// Nothing.
     Short,
@@ -28,7 +28,7 @@ pub enum Print {
 }
 
 /// A fast store of so many pages before the drive of a volume (own).
-#[derive(Clone, Copy, Debug, PartialEq, Eq)]
+#[derive(Clone, Copy, PartialEq, Eq)]
 pub struct Bulk {
     pub volume: u32,
     pub places: u32,
@@ -36,7 +36,7 @@ pub struct Bulk {
 
 /// A call of a volume's drive that fails (own): its read or write of this number, counted from 1, and
 /// where `onward` all after it.
-#[derive(Clone, Copy, Debug, PartialEq, Eq)]
+#[derive(Clone, Copy, PartialEq, Eq)]
 pub struct Fail {
     pub volume: u32,
     pub write: bool,

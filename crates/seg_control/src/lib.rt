@@ -18,7 +18,7 @@ use page_control::Home;
 pub use segs::Segs;
 
 /// A segment or directory of a chain of superiors, which goes from the root down (Bensoussan, Clingen and Daley 1972).
-#[derive(Clone, Copy, Debug, Default, PartialEq, Eq)]
+#[derive(Clone, Copy, Default, PartialEq, Eq)]
 pub struct Link {
     /// Its uid.
     pub uid: u32,
@@ -29,7 +29,7 @@ pub struct Link {
 }
 
 /// What became of the next segment of a chain (own).
-#[derive(Clone, Copy, Debug, PartialEq, Eq)]
+#[derive(Clone, Copy, PartialEq, Eq)]
 pub enum Next {
     /// It is active now, in this place.
     Activated(u32),

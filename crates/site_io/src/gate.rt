@@ -2,7 +2,7 @@ use std::sync::Wait;
 use std::thread::Threads;
 
 /// Where a processor stands when a gate is called: what its last step did, as far as a test asks. (Source: own.)
-#[derive(Clone, Copy, Debug, PartialEq, Eq)]
+#[derive(Clone, Copy, PartialEq, Eq)]
 pub enum Point {
     /// It came online.
     Online,
@@ -26,7 +26,7 @@ pub trait Gate {
 }
 
 /// A gate that lets each processor pass at once.
-#[derive(Clone, Copy, Debug, PartialEq, Eq)]
+#[derive(Clone, Copy, PartialEq, Eq)]
 pub struct NoGate;
 
 impl Gate for NoGate {

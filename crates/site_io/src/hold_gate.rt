@@ -16,13 +16,13 @@ const YIELDS: u32 = 8;
 /// `Signalled` has come; and the first `Signalled` until a third `Answered(1)` has come. So a run that goes through
 /// it has a reference answered between a signal and what follows it, on another thread. A hold ends after 1,000,000
 /// turns at most, a turn being one taking of the gate's lock with a look at what has come. (Source: own.)
-#[derive(Debug, Drop)]
+#[derive(Drop)]
 pub struct HoldGate {
     came: Mutex<Came>,
 }
 
 /// What has come to the gate so far.
-#[derive(Clone, Copy, Debug, PartialEq, Eq)]
+#[derive(Clone, Copy)]
 struct Came {
     /// Whether processor 0, and processor 1, came online.
     online: [bool; 2],
@@ -37,7 +37,7 @@ struct Came {
 }
 
 /// What a hold waits for.
-#[derive(Clone, Copy, Debug, PartialEq, Eq)]
+#[derive(Clone, Copy)]
 enum Until {
     BothOnline,
     BothLoaded,

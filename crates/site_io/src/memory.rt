@@ -10,7 +10,7 @@ use std::alloc::Global;
 use std::marker::Model;
 
 /// A source over memory, which gives its bytes in pieces and fails at the calls that it is told.
-#[derive(Debug, Drop)]
+#[derive(Drop)]
 pub struct MemorySource {
     bytes: Vec<u8>,
     next: usize,
@@ -91,7 +91,7 @@ impl Source for MemorySource {
 }
 
 /// A sink over memory, which holds what was written. No write takes memory.
-#[derive(Debug, Drop)]
+#[derive(Drop)]
 pub struct MemorySink {
     bytes: Vec<u8>,
     room: usize,

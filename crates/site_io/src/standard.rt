@@ -10,7 +10,7 @@ use std::io::{Read, Write};
 ///
 /// As a source it tells nothing of the bytes. It has a count of its faults, which each error of
 /// the reader raises, up to 2^64 - 1.
-#[derive(Debug, Drop)]
+#[derive(Drop)]
 pub struct StdSource<R> {
     reader: R,
     faults: u64,
@@ -56,7 +56,7 @@ impl<R: Read> Source for StdSource<R> {
 /// As a sink it tells nothing of the bytes. It has a count of its faults, which each error of the
 /// writer raises, up to 2^64 - 1, and so does a write that takes nothing of a piece that isn't
 /// empty.
-#[derive(Debug, Drop)]
+#[derive(Drop)]
 pub struct StdSink<W> {
     writer: W,
     faults: u64,

@@ -13,7 +13,7 @@ use std::marker::Model;
 ///
 /// Contracts see it as the list of process numbers, the front first, and the number of processes for which there is
 /// room. The room is taken once, so no later call takes memory.
-#[derive(Debug, Drop)]
+#[derive(Drop)]
 pub struct Ready {
     queue: HeapCircularBuffer<u32>,
 }

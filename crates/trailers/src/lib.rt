@@ -15,7 +15,7 @@ use std::marker::Model;
 pub const MOST: usize = 32;
 
 /// The descriptors that use one page table, in the order in which they were connected.
-#[derive(Debug, Drop)]
+#[derive(Drop)]
 struct Connections {
     trailers: ArrayVec<(u32, u32), 32>,
 }
@@ -84,7 +84,7 @@ fn place_of(trailers: &[(u32, u32)], process: u32, number: u32) -> Option<usize>
 ///
 /// Contracts see, for each place of the active segment table, the list of the descriptors that use its page table,
 /// each as a process and a segment number, in the order in which they were connected.
-#[derive(Debug, Drop)]
+#[derive(Drop)]
 pub struct Trailers {
     places: Vec<Connections>,
 }

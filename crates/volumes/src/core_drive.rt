@@ -15,7 +15,7 @@ use std::marker::Model;
 
 /// A drive whose pages are in core, and which fails exactly at the calls that its lines name. It is seen besides as
 /// its numbers of reads and writes so far. (Source: own.)
-#[derive(Debug, Drop)]
+#[derive(Drop)]
 pub struct CoreDrive {
     pages: Vec<Page>,
     fails: Vec<FailLine>,

@@ -6,7 +6,7 @@ use site_io::Failed;
 
 /// A line that names calls of a drive which fail: the read, or the write, of this number, counted from 1, and where
 /// `onward` every later one too. (Source: own.)
-#[derive(Clone, Copy, Debug, PartialEq, Eq)]
+#[derive(Clone, Copy, PartialEq, Eq)]
 pub struct FailLine {
     /// Whether it names writes, and not reads.
     pub write: bool,

@@ -17,7 +17,7 @@ pub use no_memory::NoMemory;
 pub use volumes::Volumes;
 
 /// What a volume is made of: its drive, and how many entries its VTOC has. (Source: own.)
-#[derive(Debug, Drop)]
+#[derive(Drop)]
 pub struct Part<D> {
     /// The drive, which may hold pages already.
     pub drive: D,

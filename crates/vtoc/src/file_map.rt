@@ -11,7 +11,7 @@ const NO_RECORD: u16 = u16::MAX;
 const PAGES: usize = 256;
 
 /// For each page of a segment the record that it is on, or none, seen as the list of these. It takes 512 bytes.
-#[derive(Debug, Drop)]
+#[derive(Drop)]
 pub struct FileMap {
     codes: [u16; PAGES],
 }

@@ -25,7 +25,7 @@ use std::alloc::Global;
 use std::marker::Model;
 
 /// The place of one entry. It is free where it has no uid, and its map is empty then.
-#[derive(Debug, Drop)]
+#[derive(Drop)]
 struct Slot {
     uid: Option<u32>,
     map: FileMap,
@@ -33,7 +33,7 @@ struct Slot {
 
 /// The table of contents of a volume, seen as the list of its entries, each free or used with a uid and a file map
 /// of 256 places.
-#[derive(Debug, Drop)]
+#[derive(Drop)]
 pub struct Vtoc {
     in_use: Bitmap,
     slots: Vec<Slot>,

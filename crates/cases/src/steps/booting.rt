@@ -7,7 +7,7 @@ use script::{Script, read_script};
 use std::alloc::Global;
 
 /// A case asks for what can't be had, or there is no memory for it.
-#[derive(Clone, Copy, Debug, PartialEq, Eq)]
+#[derive(Clone, Copy, Debug)]
 pub(crate) struct Stuck;
 
 /// The most bytes of a script.

@@ -3,7 +3,7 @@
 use crate::steps::booting::Stuck;
 
 /// When steps end.
-#[derive(Clone, Copy, Debug)]
+#[derive(Clone, Copy)]
 pub(crate) enum Until<'a> {
     /// After one step.
     Once,
@@ -12,7 +12,7 @@ pub(crate) enum Until<'a> {
 }
 
 /// What a line of a case asks.
-#[derive(Clone, Copy, Debug)]
+#[derive(Clone, Copy)]
 pub(crate) enum Instruction<'a> {
     /// `step C until TEXT`, or `step C` for one step, whose answer is printed too. Behind `step C with E` processor E
     /// makes one step each time C waits for what E is to drop.
