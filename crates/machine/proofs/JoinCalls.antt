@@ -1,5 +1,5 @@
 -- What the calls ask that bring a segment of a chain nearer: it becomes active, or the victim of its pool is emptied.
-use Rattle.std.proofs.Common.{◌≡◌, ◌<◌, ◌≤◌, ◌+◌, ℕ, true, is_none, is_some, length, List, Option, Some, None, refl}
+use Rattle.std.proofs.Common.{◌≡◌, ◌<◌, ◌≤◌, ◌+◌, ℕ, true, is_some, length, List, Option, Some, None, refl}
 use Rattle.std.proofs.Common.{sym}
 use Rattle.std.proofs.Common.{ap, subst, ◌∙◌, arith}
 use Rattle.std.specs.Prelude.{IsSome}
@@ -7,11 +7,8 @@ use Rattle.std.proofs.lemmas.List.{length-set}
 use Rattle.script.specs.Forms.{ArePools}
 use Rattle.script.specs.declared.commands.Command.{Command}
 use Rattle.tree_model.specs.Tree.{node_in}
-use Rattle.tree_model.proofs.Finds.{member_found}
 use Rattle.dir_tree.specs.Nodes.{chain_of}
-use Rattle.active_segs.specs.declared.Entry.{Entry}
-use Rattle.active_segs.specs.Active.{ActiveSegs, HasNoInferior, IsFull, entry_at, uid_at}
-use Rattle.active_segs.specs.Pool.{first_of, size_of}
+use Rattle.active_segs.specs.Active.{ActiveSegs, HasNoInferior, uid_at}
 use Rattle.active_segs.specs.Victim.{HasOneOffChain, first_off_chain, hand_past}
 use Rattle.seg_control.specs.Kept.{IsKept}
 use Rattle.storage_ops.specs.Shown.{IsStore, is_there}
@@ -20,16 +17,16 @@ use Rattle.machine_model.specs.Actions.{action_of, pool_of_node}
 use Rattle.machine_model.specs.After.{after, no_call}
 use Rattle.machine_model.specs.Jobs.{victim_taken, with_hand_moved}
 use Rattle.machine_model.specs.Keeps.{Keeps}
-use Rattle.machine_model.specs.Reads.{first_inactive, free_place, or_zero, places_in, process_at}
+use Rattle.machine_model.specs.Reads.{first_inactive, free_place, or_zero, process_at}
 use Rattle.machine_model.specs.State.{State, Storage}
 use Rattle.machine_model.specs.Steps.{activated_at, with_active, with_store}
 use Rattle.machine_model.proofs.ChainFacts.{first_there}
 use Rattle.machine_model.proofs.LookAsks.{about_there}
 use Rattle.machine_model.proofs.LookFacts.{IsAbout}
 use Rattle.machine_model.proofs.LeafLaws.{leaf_inferiors, victim_leaf}
-use Rattle.machine_model.proofs.PoolRoom.{range_has}
 use Rattle.machine_model.proofs.SpeakLaws.{Speaks, speaks}
 use Rattle.machine_model.proofs.TransferKept.{active_at}
+use Rattle.machine_model.proofs.VictimLaws.{all_used}
 use Rattle.machine_model.proofs.WorkStep.{Looks}
 use Rattle.machine_tables.specs.Activated.{wanted_pool}
 use Rattle.machine_tables.specs.Parts.{Parts, with_state}
@@ -56,23 +53,6 @@ victim_as : (s : State) (c pool : ℕ) (chain : List ℕ) (u : ℕ) → ShowsAs 
 victim_as s c pool chain u = then_as s.store (with_hand_moved s.store pool chain)
     (victim_taken s c pool chain u).store (hand_by s.store pool (first_off_chain s.store.ast pool chain))
     (begun_as (with_store s (with_hand_moved s.store pool chain)) c u)
-
--- each place of a pool without a free one is used
-full_is : (ast : ActiveSegs) (pool : ℕ) → free_place ast pool ≡ None → IsFull ast pool
-full_is ast pool full q h = by (entry_at ast.entries q) refl
-  where
-    from : first_of ast.sizes pool ≤ q
-    from = h.from
-
-    to : q < first_of ast.sizes pool + size_of ast.sizes pool
-    to = h.to
-
-    by : (o : Option Entry) → entry_at ast.entries q ≡ o → is_some o ≡ true
-    by None e = absurd (member_found (λ p. is_none (entry_at ast.entries p)) (places_in ast pool) q
-        (range_has (first_of ast.sizes pool) _ q from (omega (arith, from, to)))
-        (ap (λ (o : Option Entry). is_none o) e)
-        full)
-    by (Some e) i = refl
 
 module _ {D : Type 0} (t : Parts D) (c : ℕ) (sound : IsSound t) (there : c < length t.state.processors) where
   abbrev s : State
@@ -203,7 +183,7 @@ module _ {D : Type 0} (t : Parts D) (c : ℕ) (sound : IsSound t) (there : c < l
         (chain_one_off s.store.pages s.store.ast s.store.links s.store.accounts s.store.whos keeps.store.counted
         keeps.store.accounts.tree of keeps.store.kept.tree
         (subst ArePools (sym sound.keeps.machine.pools) sound.keeps.machine.script.pools) wanted_there l.finds.wanted
-        l.finds.link.first (full_is s.store.ast (pool_of_node (node_in s.store.accounts.nodes l.finds.wanted))
+        l.finds.link.first (all_used s.store.ast (pool_of_node (node_in s.store.accounts.nodes l.finds.wanted))
         (subst (λ (x : ℕ). free_place s.store.ast x ≡ None) l.finds.pool_is l.finds.full)))
 
     -- what the call asks that takes what the victim has in use

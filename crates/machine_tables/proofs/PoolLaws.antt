@@ -2,17 +2,18 @@
 -- pools of a script have.
 use Rattle.std.proofs.Common.{◌≡◌, ◌≢◌, ℕ, zero, suc, ◌+◌, ◌-◌, ◌<◌, ◌≤◌, Bool, true, false, cond, is_none, List, []}
 use Rattle.std.proofs.Common.{◌∷◌, Option, Some, None, refl, sym, ap, subst, ◌∙◌, arith, inl, inr}
-use Rattle.std.specs.Prelude.{IfSome, IsNone, IsSome, nat_le, ◌↔◌}
+use Rattle.std.specs.Prelude.{IfSome, IsNone, IsSome, ◌↔◌}
 use Rattle.std.specs.List.{find, range_with_len}
 use Rattle.std.proofs.lemmas.Bool.Decides.{eqb_tells}
 use Rattle.script.specs.Forms.{ArePools}
-use Rattle.tree_model.specs.Tree.{Node, pool_for}
+use Rattle.tree_model.specs.Tree.{Node}
 use Rattle.active_segs.specs.declared.Entry.{Entry}
 use Rattle.active_segs.specs.Active.{ActiveSegs, IsFull, IsLeastFree, entry_at}
 use Rattle.active_segs.specs.Pool.{first_of, size_of}
 use Rattle.storage_ops.specs.Connecting.{pool_in}
 use Rattle.machine_model.specs.Actions.{pool_of_node}
 use Rattle.machine_model.specs.Reads.{free_place}
+use Rattle.machine_model.proofs.ListSizes.{pool_small}
 
 -- ---- what is found among numbers in order
 
@@ -76,17 +77,7 @@ pool_same (Some n) = refl
 
 pub pool_few : (o : Option Node) → pool_of_node o < 4
 pool_few None = omega arith
-pool_few (Some n) = dir n.directory
-  where
-    small : (a b d : Bool) → cond a 0 (cond b 1 (cond d 2 3)) < 4
-    small true b d = omega arith
-    small false true d = omega arith
-    small false false true = omega arith
-    small false false false = omega arith
-
-    dir : (b : Bool) → cond b 0 (pool_for n.pages) < 4
-    dir true = omega arith
-    dir false = small (nat_le n.pages 4) (nat_le n.pages 16) (nat_le n.pages 64)
+pool_few (Some n) = pool_small n
 
 -- ---- the pools of a script
 
