@@ -31,10 +31,8 @@ impl Index {
         ensures empty { IfOk result (λ index. index.pairs ≡ []) }
         ensures room { IfOk result (λ index. index.room ≡ room) }
     {
-        match Vec::with_capacity(alloc, room) {
-            Ok(pairs) => Ok(Index { pairs, room }),
-            Err(_) => Err(NoMemory),
-        }
+        let pairs = Vec::with_capacity(alloc, room)?;
+        Ok(Index { pairs, room })
     }
 
     /// The place of `uid`, found by halving the list.

@@ -46,10 +46,7 @@ impl Book {
         ensures script { self.new.script ≡ self.old.script }
         ensures entries { self.new.entries ≡ self.old.entries }
     {
-        match self.entries.reserve(n as usize) {
-            Ok(()) => Ok(()),
-            Err(_) => Err(NoMemory),
-        }
+        Ok(self.entries.reserve(n as usize)?)
     }
 
     /// Appends an entry, for which there must be room. It takes no memory.

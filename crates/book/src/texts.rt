@@ -141,8 +141,5 @@ impl fmt::Debug for Entry {
 pub fn entry_text(alloc: Global, e: Entry) -> Result<String, NoMemory>
     ensures { IfOk result (λ text. string_bytes text ≡ entry_text e) }
 {
-    match format!(in alloc; "{e}") {
-        Ok(text) => Ok(text),
-        Err(_) => Err(NoMemory),
-    }
+    Ok(format!(in alloc; "{e}")?)
 }

@@ -50,7 +50,7 @@ impl<F: Drive, D: Drive> BulkStore<F, D> {
         ensures pages { IfOk result (λ s. store_pages F.pages D.pages s ≡ D.pages disk) }
     {
         let table = Index::new(alloc, fast.size(), disk.size())?;
-        let buffer = Page::zero(alloc).map_err(|_| NoMemory)?;
+        let buffer = Page::zero(alloc)?;
         Ok(BulkStore {
             parts: Parts {
                 fast,

@@ -130,5 +130,5 @@ fn make_place(uses: &mut Vec<Option<ActiveUse>>, uid: u32) -> Result<(), NoMemor
     if uses.len() >= places {
         return Ok(());
     }
-    uses.resize(places, None).map_err(|_| NoMemory)
+    Ok(uses.resize(places, None)?)
 }

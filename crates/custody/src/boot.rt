@@ -19,7 +19,7 @@ fn descriptors(alloc: Global, processes: u32) -> Result<Vec<Descriptors>, NoMemo
     let mut rows = Vec::new(alloc);
     for _process in 0..processes {
         let row = Descriptors::new(alloc)?;
-        rows.push(row).map_err(|_| NoMemory)?;
+        rows.push(row)?;
     }
     Ok(rows)
 }
@@ -30,7 +30,7 @@ fn seats(alloc: Global, processors: u32) -> Result<Vec<SeatRow>, NoMemory>
 {
     let mut seats = Vec::new(alloc);
     for _cpu in 0..processors {
-        seats.push(SeatRow::offline()).map_err(|_| NoMemory)?;
+        seats.push(SeatRow::offline())?;
     }
     Ok(seats)
 }
@@ -41,7 +41,7 @@ fn in_order(alloc: Global, processes: u32) -> Result<Vec<u32>, NoMemory>
 {
     let mut ready = Vec::new(alloc);
     for process in 0..processes {
-        ready.push(process).map_err(|_| NoMemory)?;
+        ready.push(process)?;
     }
     Ok(ready)
 }

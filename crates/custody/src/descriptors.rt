@@ -41,7 +41,7 @@ impl Descriptors {
     pub(crate) fn new(alloc: Global) -> Result<Descriptors, NoMemory>
         ensures { IfOk result (λ d. d ≡ replicate 256 descriptor.Free) }
     {
-        let uses = vec![in alloc; DescriptorUse::Free; 256].map_err(|_| NoMemory)?;
+        let uses = vec![in alloc; DescriptorUse::Free; 256]?;
         Ok(Descriptors {
             uses,
             counts: UseCounts::new(alloc),

@@ -44,7 +44,7 @@ impl Frames {
         requires { frames ≤ 1024 }
         ensures { IfOk result (λ f. f ≡ replicate frames frame.Free) }
     {
-        let uses = vec![in alloc; FrameUse::Free; frames as usize].map_err(|_| NoMemory)?;
+        let uses = vec![in alloc; FrameUse::Free; frames as usize]?;
         Ok(Frames {
             uses,
             counts: UseCounts::new(alloc),

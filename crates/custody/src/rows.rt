@@ -93,7 +93,7 @@ fn queue(ready: &mut Vec<u32>, store: &FlatStore, process: Option<u32>) -> Resul
     ensures err { OnErr result (ready.new.items ≡ ready.old.items) }
 {
     match process {
-        Some(process) if !store.has_ended(process) => { ready.push(process).map_err(|_| NoMemory) }
+        Some(process) if !store.has_ended(process) => Ok(ready.push(process)?),
         _ => Ok(()),
     }
 }

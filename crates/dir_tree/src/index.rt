@@ -38,10 +38,8 @@ impl Index {
         ensures empty { IfOk result (λ index. index.places ≡ []) }
         ensures room { IfOk result (λ index. index.room ≡ room) }
     {
-        match Vec::with_capacity(alloc, room) {
-            Ok(places) => Ok(Index { places, room }),
-            Err(_) => Err(NoMemory),
-        }
+        let places = Vec::with_capacity(alloc, room)?;
+        Ok(Index { places, room })
     }
 
     /// The place of the branch with this superior and name. It halves the list.

@@ -22,7 +22,7 @@ fn records_gauges(alloc: Global, volumes: &[VolumeLine]) -> Result<Vec<Gauge>, N
     let mut gauges = Vec::new(alloc);
     for volume in volumes {
         let gauge = Gauge::new(volume.records);
-        gauges.push(gauge).map_err(|_| NoMemory)?;
+        gauges.push(gauge)?;
     }
     Ok(gauges)
 }
@@ -34,7 +34,7 @@ fn entries_gauges(alloc: Global, volumes: &[VolumeLine]) -> Result<Vec<Gauge>, N
     let mut gauges = Vec::new(alloc);
     for volume in volumes {
         let gauge = Gauge::new(volume.entries);
-        gauges.push(gauge).map_err(|_| NoMemory)?;
+        gauges.push(gauge)?;
     }
     Ok(gauges)
 }
@@ -46,7 +46,7 @@ fn knowing_nothing(alloc: Global, processes: u32) -> Result<Vec<Kst>, NoMemory>
     let mut known = Vec::new(alloc);
     for _process in 0..processes {
         let nothing = Kst::new(alloc)?;
-        known.push(nothing).map_err(|_| NoMemory)?;
+        known.push(nothing)?;
     }
     Ok(known)
 }
@@ -57,7 +57,7 @@ fn at_first(alloc: Global, processes: u32) -> Result<Vec<Progress>, NoMemory>
 {
     let mut places = Vec::new(alloc);
     for _process in 0..processes {
-        places.push(Progress::at_first()).map_err(|_| NoMemory)?;
+        places.push(Progress::at_first())?;
     }
     Ok(places)
 }

@@ -26,10 +26,7 @@ fn part<D: Drive>(lines: &[VolumeLine], place: usize, drive: D) -> Part<D>
 fn add<D: Drive>(parts: &mut Vec<Part<D>>, part: Part<D>) -> Result<(), NoMemory>
     ensures { OnOk result (parts.new.items ≡ parts.old.items ++ part ∷ []) }
 {
-    match parts.push(part) {
-        Ok(()) => Ok(()),
-        Err(_) => Err(NoMemory),
-    }
+    Ok(parts.push(part)?)
 }
 
 /// The parts of the volumes, in order.
@@ -59,7 +56,7 @@ fn volumes<D: Drive>(
     ensures { IfOk result (λ v. v ≡ made_of D.pages (parts_of lines.now drives.items)) }
 {
     let parts = parts(alloc, lines, drives)?;
-    Volumes::new(alloc, parts).map_err(|_| NoMemory)
+    Volumes::new(alloc, parts)
 }
 
 impl<D: Drive> Machine<D> {

@@ -53,8 +53,8 @@ impl Job {
     pub(crate) fn none(alloc: Global) -> Result<Job, NoMemory>
         ensures { IfOk result (λ j. j ≡ None) }
     {
-        let frames = HeapCircularBuffer::with_capacity(alloc, MOST).map_err(|_| NoMemory)?;
-        let cut = HeapCircularBuffer::with_capacity(alloc, MOST).map_err(|_| NoMemory)?;
+        let frames = HeapCircularBuffer::with_capacity(alloc, MOST)?;
+        let cut = HeapCircularBuffer::with_capacity(alloc, MOST)?;
         Ok(Job {
             holder: None,
             frames,

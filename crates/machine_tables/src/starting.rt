@@ -36,7 +36,7 @@ fn first_processors(alloc: Global, count: u32) -> Result<Vec<Processor>, NoMemor
 {
     let mut processors = Vec::new(alloc);
     for _place in 0..count {
-        processors.push(idle()).map_err(|_| NoMemory)?;
+        processors.push(idle())?;
     }
     Ok(processors)
 }
@@ -51,8 +51,7 @@ fn first_runs(alloc: Global, count: u32) -> Result<Vec<Run>, NoMemory>
             place: 0,
             tries: 0,
             ended: false,
-        })
-        .map_err(|_| NoMemory)?;
+        })?;
     }
     Ok(runs)
 }
@@ -61,7 +60,7 @@ fn first_runs(alloc: Global, count: u32) -> Result<Vec<Run>, NoMemory>
 fn all_ready(alloc: Global, count: u32) -> Result<Ready, NoMemory>
     ensures { IfOk result (λ r. r ≡ record { waiting = range 0 count; room = count }) }
 {
-    let mut ready = Ready::new(alloc, count).map_err(|_| NoMemory)?;
+    let mut ready = Ready::new(alloc, count)?;
     for process in 0..count {
         ready.enter(process);
     }
@@ -73,7 +72,7 @@ fn initializer_ready(alloc: Global, count: u32) -> Result<Ready, NoMemory>
     requires { 1 ≤ count }
     ensures { IfOk result (λ r. r ≡ record { waiting = 0 ∷ []; room = count }) }
 {
-    let mut ready = Ready::new(alloc, count).map_err(|_| NoMemory)?;
+    let mut ready = Ready::new(alloc, count)?;
     ready.enter(0);
     Ok(ready)
 }
@@ -127,7 +126,7 @@ fn first_book(alloc: Global, script: Script) -> Result<(Book, FirstRows), NoMemo
     ensures job { IfOk result (λ first. first.1.job ≡ None) }
 {
     let rows = first_rows(alloc, &script)?;
-    let book = Book::new(alloc, script).map_err(|_| NoMemory)?;
+    let book = Book::new(alloc, script)?;
     Ok((book, rows))
 }
 

@@ -68,7 +68,7 @@ impl<D: Drive> Tables<D> {
           state = record self.old.state { spare = self.new.state.spare };
         } }
     {
-        self.book.reserve(n).map_err(|_| NoMemory)
+        self.book.reserve(n)
     }
 
     /// Nothing is done from now on. (Source: own.)

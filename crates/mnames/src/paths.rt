@@ -180,5 +180,5 @@ pub fn read_path(text: &[u8]) -> Result<Path, BadPath>
 pub fn path_text(alloc: Global, p: &Path) -> Result<String, NoMemory>
     ensures { IfOk result (λ text. string_bytes text ≡ path_text p.now) }
 {
-    format!(in alloc; "{p}").map_err(|_| NoMemory)
+    Ok(format!(in alloc; "{p}")?)
 }

@@ -37,7 +37,7 @@ impl Page {
         ensures zeros { IfOk result (λ page. page ≡ replicate 1024 0) }
         ensures size { IfOk result (λ page. length page ≡ 1024) }
     {
-        let words = vec![in alloc; 0; 1024].map_err(|_| NoMemory)?;
+        let words = vec![in alloc; 0; 1024]?;
         Ok(Page { words })
     }
 

@@ -45,10 +45,7 @@ pub fn octal(alloc: Global, w: Word) -> Result<String, NoMemory>
     ensures digits { IfOk result (λ text. string_bytes text ≡ octal_digits 12 w) }
     ensures reads_back { IfOk result (λ text. octal_value (string_bytes text) ≡ Some w) }
 {
-    match format!(in alloc; "{w}") {
-        Ok(text) => Ok(text),
-        Err(_) => Err(NoMemory),
-    }
+    Ok(format!(in alloc; "{w}")?)
 }
 
 /// The word that a text stands for. `None` exactly where the text isn't 1 to 12 octal digits.

@@ -19,10 +19,8 @@ pub const LISTING_BYTES: usize = 134_217_728;
 fn accepted(alloc: Global, entries: u32) -> Result<Vec<u8>, NoMemory>
     ensures { IfOk result (λ text. text.items ≡ accepted_text entries) }
 {
-    match format!(in alloc; "accepted {entries} entries\n") {
-        Ok(text) => Ok(text.into_bytes()),
-        Err(_) => Err(NoMemory),
-    }
+    let text = format!(in alloc; "accepted {entries} entries\n")?;
+    Ok(text.into_bytes())
 }
 
 /// The text of a line at fault.
@@ -32,10 +30,8 @@ fn text_of(alloc: Global, offence: Offence) -> Result<Vec<u8>, NoMemory>
 {
     let line = offence.line;
     let rule = offence.rule;
-    match format!(in alloc; "refused at line {line}: {rule}\n") {
-        Ok(text) => Ok(text.into_bytes()),
-        Err(_) => Err(NoMemory),
-    }
+    let text = format!(in alloc; "refused at line {line}: {rule}\n")?;
+    Ok(text.into_bytes())
 }
 
 /// Writes that a listing is accepted, with so many entries.

@@ -24,7 +24,7 @@ fn lines_of(alloc: Global, fails: &[Fail], volume: u32) -> Result<Vec<FailLine>,
                 number: fail.number,
                 onward: fail.onward,
             };
-            lines.push(line).map_err(|_| NoMemory)?;
+            lines.push(line)?;
         }
     }
     Ok(lines)
@@ -50,10 +50,7 @@ fn disk_of(alloc: Global, script: &Script, v: u32) -> Result<CoreDrive, NoMemory
 {
     let records = script.volumes()[v as usize].records;
     let lines = lines_of(alloc, script.fails(), v)?;
-    match CoreDrive::new(alloc, records, lines) {
-        Ok(disk) => Ok(disk),
-        Err(_) => Err(NoMemory),
-    }
+    CoreDrive::new(alloc, records, lines)
 }
 
 /// The drive of volume `v` of a script, counted from 0: as many pages of zeros as the volume has records, of which the
@@ -72,10 +69,8 @@ pub fn drive_of(alloc: Global, script: &Script, v: u32) -> Result<AnyDrive, NoMe
     if places == 0 {
         return Ok(AnyDrive::Plain(disk));
     }
-    match CoreBulk::new(alloc, places, disk) {
-        Ok(bulk) => Ok(AnyDrive::Bulk(bulk)),
-        Err(_) => Err(NoMemory),
-    }
+    let bulk = CoreBulk::new(alloc, places, disk)?;
+    Ok(AnyDrive::Bulk(bulk))
 }
 
 /// The drives of a script's volumes, in their order, each as `drive_of` makes it.
@@ -90,9 +85,7 @@ pub fn drives_of(alloc: Global, script: &Script) -> Result<Vec<AnyDrive>, NoMemo
     let count = script.volumes().len() as u32;
     let mut drives = Vec::new(alloc);
     for v in 0..count {
-        drives
-            .push(drive_of(alloc, script, v)?)
-            .map_err(|_| NoMemory)?;
+        drives.push(drive_of(alloc, script, v)?)?;
     }
     Ok(drives)
 }

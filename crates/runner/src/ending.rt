@@ -1,6 +1,6 @@
 //! The end of a run: what the workers left is finished, and the frames are visited.
 
-ghost use Rattle.std.specs.Prelude.{◌≡◌, ◌≤◌, true, OnOk};
+ghost use Rattle.std.specs.Prelude.{◌≡◌, true, OnOk};
 ghost use Rattle.machine_model.specs.Actions.{is_over};
 ghost use Rattle.machine.specs.Turns.{KeepsParts};
 ghost use Rattle.bulk_store.specs.AnyDrive.{any_places};
@@ -11,19 +11,6 @@ use crate::NoMemory;
 use bulk_store::AnyDrive;
 use machine::Machine;
 
-/// Makes room for the entries of a step.
-fn reserve(machine: &mut Machine<AnyDrive>) -> Result<(), NoMemory>
-    ensures room { OnOk result (320 ≤ machine.new.state.spare) }
-    ensures rest { machine.new ≡ record machine.old {
-      state = record machine.old.state { spare = machine.new.state.spare };
-    } }
-{
-    match machine.reserve() {
-        Ok(()) => Ok(()),
-        Err(_) => Err(NoMemory),
-    }
-}
-
 /// Visits each frame, with room for the entries of each visit.
 fn visit_frames(machine: &mut Machine<AnyDrive>) -> Result<(), NoMemory>
     requires { is_over machine.old.state ≡ true }
@@ -31,9 +18,9 @@ fn visit_frames(machine: &mut Machine<AnyDrive>) -> Result<(), NoMemory>
     ensures over { is_over machine.new.state ≡ true }
     ensures emptied { OnOk result (HasEmptied machine.new) }
 {
-    reserve(machine)?;
+    machine.reserve()?;
     while machine.shutdown_step() {
-        reserve(machine)?;
+        machine.reserve()?;
     }
     Ok(())
 }

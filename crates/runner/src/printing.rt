@@ -95,10 +95,8 @@ fn text_of(alloc: Global, refusal: Refusal) -> Result<Vec<u8>, NoMemory>
 {
     let line = refusal.line;
     let cause = refusal.cause;
-    match format!(in alloc; "script refused at line {line}: {cause}\n") {
-        Ok(text) => Ok(text.into_bytes()),
-        Err(_) => Err(NoMemory),
-    }
+    let text = format!(in alloc; "script refused at line {line}: {cause}\n")?;
+    Ok(text.into_bytes())
 }
 
 /// Writes the text of a refusal, or nothing where there is no memory for it.

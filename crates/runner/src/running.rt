@@ -28,10 +28,7 @@ fn boot(alloc: Global, script: Script) -> Result<Machine<AnyDrive>, NoMemory>
     ensures drives { IfOk result (λ m. AreTold script m.drives) }
 {
     let drives = drives_of(alloc, &script)?;
-    match Machine::boot(alloc, script, drives) {
-        Ok(machine) => Ok(machine),
-        Err(_) => Err(NoMemory),
-    }
+    Machine::boot(alloc, script, drives)
 }
 
 /// Ends what the workers left, and writes the listing.

@@ -21,8 +21,7 @@ fn uses(alloc: Global, machine: &Machine<AnyDrive>) -> Result<Vec<VolumeUse>, No
     for v in 0..count {
         let records = volumes.taken(v);
         let entries = volumes.vtoc(v).used();
-        uses.push(VolumeUse { records, entries })
-            .map_err(|_| NoMemory)?;
+        uses.push(VolumeUse { records, entries })?;
     }
     Ok(uses)
 }
@@ -33,10 +32,7 @@ fn summary(alloc: Global, machine: &Machine<AnyDrive>) -> Result<Summary, NoMemo
         ≡ summary_of machine.now.state.plan (store_after machine.now.state.plan machine.now.state.entries)) }
 {
     let uses = uses(alloc, machine)?;
-    match summary_of_counts(alloc, machine.book().script(), machine.accounts(), &uses) {
-        Ok(summary) => Ok(summary),
-        Err(_) => Err(NoMemory),
-    }
+    summary_of_counts(alloc, machine.book().script(), machine.accounts(), &uses)
 }
 
 /// The listing of a machine's book.

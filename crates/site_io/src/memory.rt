@@ -129,7 +129,7 @@ impl MemorySink {
         ensures calls { IfOk result (λ sink. sink.calls ≡ 0) }
         ensures faults { IfOk result (λ sink. sink.faults ≡ 0) }
     {
-        let bytes = Vec::with_capacity(alloc, room).map_err(|_| NoMemory)?;
+        let bytes = Vec::with_capacity(alloc, room)?;
         Ok(MemorySink {
             bytes,
             room,

@@ -26,8 +26,7 @@ fn whos_of(alloc: Global, script: &Script) -> Result<Vec<Who>, NoMemory>
 {
     let mut whos = Vec::new(alloc);
     for process in 0..script.processes() {
-        whos.push(script.who(process).copied())
-            .map_err(|_| NoMemory)?;
+        whos.push(script.who(process).copied())?;
     }
     Ok(whos)
 }

@@ -33,10 +33,8 @@ impl Ready {
     pub fn new(alloc: Global, processes: u32) -> Result<Ready, NoMemory>
         ensures { IfOk result (λ ready. ready ≡ empty_queue processes) }
     {
-        match HeapCircularBuffer::with_capacity(alloc, processes as usize) {
-            Ok(queue) => Ok(Ready { queue }),
-            Err(_) => Err(NoMemory),
-        }
+        let queue = HeapCircularBuffer::with_capacity(alloc, processes as usize)?;
+        Ok(Ready { queue })
     }
 
     /// The process at the front of the list, which stays there; `None` exactly where nobody is ready.

@@ -63,9 +63,9 @@ impl CoreDrive {
 fn zero_pages(alloc: Global, count: u32) -> Result<Vec<Page>, NoMemory>
     ensures { IfOk result (λ pages. pages.items ≡ replicate count (replicate 1024 0)) }
 {
-    let mut pages = Vec::with_capacity(alloc, count as usize).map_err(|_| NoMemory)?;
+    let mut pages = Vec::with_capacity(alloc, count as usize)?;
     for _ in 0..count {
-        pages.push_reserved(Page::zero(alloc).map_err(|_| NoMemory)?);
+        pages.push_reserved(Page::zero(alloc)?);
     }
     Ok(pages)
 }

@@ -10,11 +10,11 @@ returns-then-places-eq0-clause-faults c =
     let script = c.args.script.now in
     ap faults_of c.in_ok-disk.ensures ∙ no_faults (records_of script c.args.v) (lines_in script.fails c.args.v)
 
-pub returns-in-Ok-clause-pages : goal.returns-in-Ok-clause-pages
-returns-in-Ok-clause-pages c = c.in-Ok.ensures.pages ∙ ap (λ d. d.pages) c.in_ok-disk.ensures
+pub returns-clause-pages : goal.returns-clause-pages
+returns-clause-pages c = c.in_ok-bulk.ensures.pages ∙ ap (λ d. d.pages) c.in_ok-disk.ensures
 
-pub returns-in-Ok-clause-faults : goal.returns-in-Ok-clause-faults
-returns-in-Ok-clause-faults c =
+pub returns-clause-faults : goal.returns-clause-faults
+returns-clause-faults c =
     let script = c.args.script.now in
-    ap (λ b. faults_of b.disk) c.in-Ok.ensures.made
+    ap (λ b. faults_of b.disk) c.in_ok-bulk.ensures.made
     ∙ (ap faults_of c.in_ok-disk.ensures ∙ no_faults (records_of script c.args.v) (lines_in script.fails c.args.v))
