@@ -1,24 +1,35 @@
 -- Laws of drafts (own).
 use Rattle.std.proofs.Common.{◌≡◌, ℕ, ◌+◌, ◌<◌, ◌≤◌, true, false, not, nat_le, ◌&&◌, List, [], ◌∷◌, ◌++◌}
-use Rattle.std.proofs.Common.{length, refl, sym, ap, subst, ◌∙◌, arith, sum_by}
+use Rattle.std.proofs.Common.{length, Bool, codes, refl, sym, ap, subst, ◌∙◌, arith, sum_by, Result, Ok, Err}
 use Rattle.std.proofs.lemmas.Bool.Decides.{nat_tests}
 use Rattle.mnames.specs.declared.principals.Who.{Who}
 use Rattle.std.specs.List.{list_all, list_any}
+use Rattle.std.specs.Str.{bytes_eq}
+use Rattle.script.specs.CommandLists.{ListPlan, Lists, listed}
+use Rattle.script.specs.Commands.{command_of, end_of}
 use Rattle.script.specs.Drafts.{DraftPlan, IsDraft, begun_at, blank, has_volume, goes_on, is_early, is_head, is_inside}
 use Rattle.script.specs.Drafts.{plan_of}
 use Rattle.script.specs.Forms.{BeginsWithInitializer, IsPlan, has_name, is_before}
-use Rattle.script.specs.Forms.{is_bulk, is_command, is_end, is_fail, is_from, is_place, is_process, is_volume, is_who}
-use Rattle.script.specs.Forms.{is_word, ends_once, records_of, weight, weight_of}
+use Rattle.script.specs.Forms.{is_bulk, is_command, is_end, is_fail, is_process, is_volume, is_who}
+use Rattle.script.specs.Forms.{ends_once, records_of, weight, weight_of}
 use Rattle.script.specs.Grammar.{is_whole}
+use Rattle.script.specs.Heads.{added, command_line}
+use Rattle.script.specs.Lines.{no_fields, only_if}
 use Rattle.script.specs.Plans.{ProcessPlan}
+use Rattle.script.specs.Readers.{Steps}
 use Rattle.script.specs.declared.commands.Command.{Command}
 use Rattle.script.specs.declared.commands.Command.TheVariants as command
+use Rattle.script.specs.declared.drafts.LineFault.{LineFault}
+use Rattle.script.specs.declared.drafts.LineFault.TheVariants as fault
 use Rattle.script.specs.declared.drafts.Stage.{Stage}
 use Rattle.script.specs.declared.drafts.Stage.TheVariants as stage
 use Rattle.script.specs.declared.plan.Bulk.{Bulk}
 use Rattle.script.specs.declared.plan.Fail.{Fail}
 use Rattle.script.specs.declared.plan.VolumeLine.{VolumeLine}
-use Rattle.script.proofs.PathLaws.{and_both, and_parts}
+use Rattle.script.specs.declared.refusals.Cause.{Cause}
+use Rattle.script.specs.declared.refusals.Cause.TheVariants as cause
+use Rattle.script.proofs.CommandLaws.{command_keeps, end_again}
+use Rattle.script.proofs.PathLaws.{and_both}
 use Rattle.script.proofs.PushLaws.{all_push, apart_none, begins_same, bulks_push}
 use Rattle.script.proofs.PushLaws.{end_push, length_push, names_push, sum_push}
 
@@ -333,15 +344,6 @@ process_ended d new left used h e empty inside u within =
       used = within;
     })
 
-pub weight_bound : (volumes : ℕ) (c : Command) → is_command volumes c ≡ true → weight c ≤ 100000
-unfolding is_command
-weight_bound volumes (command.Await number offset word tries) h =
-    let range = and_parts (is_place number offset) (is_word word && is_from 1 100000 tries) h in
-    let last = and_parts (is_word word) (is_from 1 100000 tries) range.1 in
-    let most = (and_parts (nat_le 1 tries) (nat_le tries 100000) last.1).1 in
-    grind (arith, nat_tests)
-weight_bound volumes _ h = omega arith
-
 -- the plan of a whole draft
 pub plan_is : (d : DraftPlan) → IsDraft d → is_whole d.stage ≡ true → IsPlan (plan_of d)
 plan_is d h whole =
@@ -368,3 +370,95 @@ plan_is d h whole =
           λ z. subst BeginsWithInitializer at.0 (h.first z);
       commands = omega (arith, h.weights, h.used);
     }
+
+-- what adding a command to the list of a process does to a draft
+abbrev pub with_list : DraftPlan → ListPlan → DraftPlan
+with_list d l = record d { commands = l.commands; used = l.used }
+
+abbrev pub list_of : DraftPlan → ListPlan
+list_of d = record { commands = d.commands; used = d.used }
+
+-- the list with one command more
+abbrev longer : DraftPlan → Command → ListPlan
+longer d c = record { commands = d.commands ++ c ∷ []; used = d.used + weight c }
+
+-- a command that was added isn't too many
+within_limit : (b : Bool) (l new : ListPlan) → only_if cause.Many b l ≡ Ok new → (b ≡ true) × (new ≡ l)
+within_limit true l new e = (refl, cc)
+within_limit false l new e = absurd (cc)
+
+past_limit : (b : Bool) (l : ListPlan) (why : Cause) → only_if cause.Many b l ≡ Err why → (b ≡ false)
+    × (why ≡ cause.Many)
+past_limit true l why e = absurd (cc)
+past_limit false l why e = (refl, cc)
+
+-- the list of a process took in what its line says
+pub listed_kept : (d : DraftPlan) (l : ListPlan) (r : Result (Unit {0}) LineFault) (word : List ℕ)
+    (fields : List (List ℕ)) → IsDraft d → is_inside d.stage ≡ true → bytes_eq word (codes "end") ≡ false
+    → Lists (list_of d) l r (command_of d.volumes word fields) → IsDraft (with_list d l)
+listed_kept d l (Ok u) word fields h inside going e = kept (command_of d.volumes word fields) refl e
+  where
+    kept : (read : Result Command Cause) → command_of d.volumes word fields ≡ read → listed (list_of d) read ≡ Ok l
+        → IsDraft (with_list d l)
+    kept (Ok c) z e =
+        let fits = (command_keeps d.volumes word fields going).kept c z in
+        let limit = within_limit (nat_le (d.used + weight c) 100000) (longer d c) l e in
+        let few = limit.0 in
+        subst (λ (n : ListPlan). IsDraft (with_list d n)) (sym limit.1)
+        (command_added d (d.commands ++ c ∷ []) c (d.used + weight c) h refl inside fits.range fits.going refl
+        (grind (arith, nat_tests)))
+    kept (Err why) z e = absurd (cc)
+listed_kept d l (Err (fault.Refused why)) word fields h inside going e =
+    subst (λ (n : ListPlan). IsDraft (with_list d n)) (sym e.0) h
+listed_kept d l (Err fault.Memory) word fields h inside going e =
+    subst (λ (n : ListPlan). IsDraft (with_list d n)) (sym e) h
+
+pub listed_steps : (d : DraftPlan) (l : ListPlan) (r : Result (Unit {0}) LineFault) (word : List ℕ)
+    (fields : List (List ℕ)) → bytes_eq word (codes "end") ≡ false
+    → Lists (list_of d) l r (command_of d.volumes word fields) → Steps (with_list d l) r (command_line d word fields)
+unfolding command_line
+listed_steps d l (Ok u) word fields going e = kept (command_of d.volumes word fields) refl e
+  where
+    kept : (read : Result Command Cause) → command_of d.volumes word fields ≡ read → listed (list_of d) read ≡ Ok l
+        → added d (command_of d.volumes word fields) ≡ Ok (with_list d l)
+    kept (Ok c) z e =
+        let fits = (command_keeps d.volumes word fields going).kept c z in
+        let limit = within_limit (nat_le (d.used + weight c) 100000) (longer d c) l e in
+        rw (z, limit.0, fits.going, limit.1) refl
+    kept (Err why) z e = absurd (cc)
+listed_steps d l (Err (fault.Refused why)) word fields going e = kept (command_of d.volumes word fields) refl e.1
+  where
+    kept : (read : Result Command Cause) → command_of d.volumes word fields ≡ read → listed (list_of d) read ≡ Err why
+        → added d (command_of d.volumes word fields) ≡ Err why
+    kept (Ok c) z e =
+        let limit = past_limit (nat_le (d.used + weight c) 100000) (longer d c) why e in
+        rw (z, limit.0, limit.1) refl
+    kept (Err other) z e = rw z (cc)
+listed_steps d l (Err fault.Memory) word fields going e = tt
+
+-- the line of the end
+pub end_given : (d : DraftPlan) (word : List ℕ) (fields : List (List ℕ)) (u : Unit {0})
+    → bytes_eq word (codes "end") ≡ true → no_fields fields ≡ Ok u → command_line d word fields
+    ≡ added d (Ok command.End)
+unfolding command_line end_of
+end_given d word fields u h e = rw (end_again d.volumes word fields h, e) refl
+
+pub end_refused : (d : DraftPlan) (word : List ℕ) (fields : List (List ℕ)) (why : Cause)
+    → bytes_eq word (codes "end") ≡ true → no_fields fields ≡ Err why → command_line d word fields ≡ Err why
+unfolding command_line end_of
+end_refused d word fields why h e = rw (end_again d.volumes word fields h, e) refl
+
+pub ruleset end_read = (end_given, end_refused)
+
+-- the commands of a process and its end were taken from the list
+pub process_listed : (d : DraftPlan) (l left : ListPlan) (new : List ProcessPlan) → IsDraft d → is_inside d.stage ≡ true
+    → listed (list_of d) (Ok command.End) ≡ Ok l → left ≡ record { commands = []; used = l.used } → new
+    ≡ d.processes ++ record { who = d.who; commands = l.commands } ∷ []
+    → IsDraft (record d { stage = stage.Processes; processes = new; commands = left.commands; used = left.used })
+process_listed d l left new h inside e gone more =
+    let limit = within_limit (nat_le (d.used + 1) 100000) (longer d command.End) l e in
+    let few = limit.0 in
+    let same : left.used ≡ d.used + 1 = ap (λ (n : ListPlan). n.used) gone ∙ ap (λ (n : ListPlan). n.used) limit.1 in
+    process_ended d new left.commands left.used h
+    (more ∙ ap (λ (n : ListPlan). d.processes ++ record { who = d.who; commands = n.commands } ∷ []) limit.1)
+    (ap (λ (n : ListPlan). n.commands) gone) inside same (grind (arith, nat_tests))

@@ -1,3 +1,4 @@
+mod CommandLaws
 mod CommandTexts
 mod DraftLaws
 mod FieldTexts

@@ -190,4 +190,4 @@ no_path_read text never = none (path_of text) refl
     none (Some names) e = let only = path_only text names e in absurd (never names (path_from names only.1) only.0)
 
 -- what reading a path goes by
-pub ruleset path_taken = (path_read, no_path_read, path_is)
+pub ruleset path_taken = (path_read, no_path_read)

@@ -1,4 +1,5 @@
 pub mod Causes
+pub mod CommandLists
 pub mod Commands
 pub mod Drafts
 pub mod Fields

@@ -1,10 +1,9 @@
-ghost use Rattle.std.specs.Prelude.{[], ◌∷◌, ◌++◌, IfOk, OnErr, ◌≡◌, ◌+◌, ◌<◌};
-ghost use Rattle.std.specs.Prelude.{◌≤◌, false, true, Ok, OnOk, length, sum_by, vec_capacity};
-ghost use Rattle.std.specs.Prelude.{vec_len};
+ghost use Rattle.std.specs.Prelude.{◌≡◌, ◌+◌, ◌<◌, ◌≤◌, false, true, codes, Ok, length, sum_by};
 ghost use Rattle.std.specs.List.{list_any};
+ghost use Rattle.std.specs.Str.{bytes_eq};
 ghost use Rattle.script.specs.Drafts.{blank, initializer_who, has_volume, is_early, is_head, is_inside, plan_of};
 ghost use Rattle.script.specs.Fields.{fields_of, is_printable};
-ghost use Rattle.script.specs.Forms.{is_before, is_command, is_end, is_who, records_of, weight};
+ghost use Rattle.script.specs.Forms.{is_before, is_who, records_of};
 ghost use Rattle.script.specs.Grammar.{text_after, whole_or_missing};
 ghost use Rattle.script.specs.Heads.{machine_line, quota_line, volume_line, print_line, bulk_line, fail_line};
 ghost use Rattle.script.specs.Heads.{initializer_line, process_line, after_process, after_fail, after_bulk};
@@ -12,7 +11,7 @@ ghost use Rattle.script.specs.Heads.{after_volume, added, command_line, line_at}
 ghost use Rattle.script.specs.Readers.{Steps};
 ghost use Rattle.script.specs.declared.commands.Command.TheVariants.{End};
 
-use crate::command_lines::read_command;
+use crate::command_list::CommandList;
 use crate::commands::{Command, Process};
 use crate::fields::{no_fields, one_field, six_fields, split_field, two_fields};
 use crate::plan::{Bulk, Fail, Print, Script, VolumeLine};
@@ -22,7 +21,6 @@ use crate::volumes::{fail_in, new_volume_in, volume_in};
 use mnames::{Label, Who, read_label};
 use std::alloc::{AllocError, AllocFailed, Global};
 use std::marker::Model;
-use std::mem;
 
 /// What may stand next in a script (own).
 #[derive(Clone, Copy)]
@@ -99,8 +97,7 @@ pub struct Draft {
     initializer: bool,
     processes: Vec<Process>,
     who: Who,
-    commands: Vec<Command>,
-    used: u32,
+    commands: CommandList,
 }
 
 impl Model for Draft {
@@ -121,8 +118,8 @@ impl Model for Draft {
       initializer = d.initializer;
       processes = d.processes.items;
       who = d.who;
-      commands = d.commands.items;
-      used = d.used;
+      commands = d.commands.commands;
+      used = d.commands.used;
     } };
 
     ghost invariant = { λ d. IsDraft (record {
@@ -138,8 +135,8 @@ impl Model for Draft {
       initializer = d.initializer;
       processes = d.processes.items;
       who = d.who;
-      commands = d.commands.items;
-      used = d.used;
+      commands = d.commands.commands;
+      used = d.commands.used;
     }) };
 }
 
@@ -164,39 +161,6 @@ fn records_in(volumes: &[VolumeLine]) -> u32
     ensures { result ≡ sum_by records_of volumes.now }
 {
     volumes.iter().map(|volume| volume.records).sum()
-}
-
-/// As how many commands a command counts: an await as its tries.
-fn weight_of(command: &Command) -> u32
-    ensures { result ≡ weight command.now }
-{
-    match command {
-        Command::Await { tries, .. } => *tries,
-        _ => 1,
-    }
-}
-
-/// Makes room for a command more. It grows by a part in 64 at a time, so that at most 400 bytes a
-/// command are taken.
-fn make_room(commands: &mut Vec<Command>) -> Result<(), AllocError>
-    ensures items { commands.new.items ≡ commands.old.items }
-    ensures room { OnOk result (vec_len commands.new < vec_capacity commands.new) }
-{
-    if commands.len() < commands.capacity() {
-        return Ok(());
-    }
-    commands.reserve_exact(commands.len() / 64 + 8)
-}
-
-/// Takes the commands of a process, with its end after them.
-fn take_ended(alloc: Global, commands: &mut Vec<Command>) -> Result<Vec<Command>, AllocError>
-    ensures taken { IfOk result (λ ended. ended.items ≡ commands.old.items ++ End ∷ []) }
-    ensures left { OnOk result (commands.new.items ≡ []) }
-    ensures kept { OnErr result (commands.new.items ≡ commands.old.items) }
-{
-    make_room(commands)?;
-    commands.push_reserved(Command::End);
-    Ok(mem::replace(commands, Vec::new(alloc)))
 }
 
 /// Whether the volume has a fast store.
@@ -225,8 +189,7 @@ impl Draft {
             initializer: false,
             processes: Vec::new(alloc),
             who: initializer_who(),
-            commands: Vec::new(alloc),
-            used: 0,
+            commands: CommandList::new(alloc),
         }
     }
 
@@ -354,51 +317,40 @@ impl Draft {
         Ok(())
     }
 
-    /// Adds a command that isn't the end. At most 100,000 come in all, where an await counts as its tries.
-    #[tactic(auto, using(crate::proofs::DraftLaws::weight_bound, std::proofs::lemmas::Grind::common_steps))]
-    fn push(&mut self, command: Command) -> Result<(), LineFault>
-        requires inside { is_inside self.old.stage ≡ true }
-        requires range { is_command (length self.old.volumes) command ≡ true }
-        requires going { is_end command ≡ false }
-        ensures { Steps self.new result (added self.old (Ok command)) }
-    {
-        let used = self.used + weight_of(&command);
-        if used > 100_000 {
-            return Err(LineFault::Refused(Cause::Many));
-        }
-        make_room(&mut self.commands)?;
-        self.commands.push_reserved(command);
-        self.used = used;
-        Ok(())
-    }
-
     /// Adds the end of the process, which is a command too.
     fn end_process(&mut self, alloc: Global) -> Result<(), LineFault>
         requires { is_inside self.old.stage ≡ true }
         ensures { Steps self.new result (added self.old (Ok End)) }
     {
-        let used = self.used + 1;
-        if used > 100_000 {
-            return Err(LineFault::Refused(Cause::Many));
-        }
         self.processes.reserve(1)?;
-        let commands = take_ended(alloc, &mut self.commands)?;
+        self.commands.push(Command::End)?;
+        let commands = self.commands.take(alloc);
         self.processes
             .push_reserved(Process::new(self.who.copied(), commands));
         self.stage = Stage::Processes;
-        self.used = used;
         Ok(())
     }
 
+    /// A command of a process that isn't its end, by its word and what follows the word.
+    fn going_command(&mut self, word: &[u8], line: &[u8]) -> Result<(), LineFault>
+        requires inside { is_inside self.old.stage ≡ true }
+        requires going { bytes_eq word.now (codes "end") ≡ false }
+        ensures { Steps self.new result (command_line self.old word.now (fields_of line.now)) }
+    {
+        self.commands.line(&self.volumes, word, line)
+    }
+
     /// A command of a process, by its word and what follows the word.
-    #[tactic(auto, unfolding(crate::specs::Heads::command_line))]
+    #[tactic(auto, using(crate::proofs::DraftLaws::end_read))]
     fn command(&mut self, alloc: Global, word: &[u8], line: &[u8]) -> Result<(), LineFault>
         requires { is_inside self.old.stage ≡ true }
         ensures { Steps self.new result (command_line self.old word.now (fields_of line.now)) }
     {
-        match read_command(&self.volumes, word, line)? {
-            Command::End => self.end_process(alloc),
-            command => self.push(command),
+        if word == b"end".as_slice() {
+            no_fields(line)?;
+            self.end_process(alloc)
+        } else {
+            self.going_command(word, line)
         }
     }
 

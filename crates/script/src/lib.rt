@@ -2,6 +2,7 @@
 #![tactic(auto)]
 
 mod command_lines;
+mod command_list;
 mod commands;
 mod drafts;
 mod fields;

@@ -1,8 +1,8 @@
-ghost use Rattle.std.specs.Prelude.{◌≡◌, ◌<◌, ◌≤◌, true, IfOk, IfSome, length, unsigned_abs};
+ghost use Rattle.std.specs.Prelude.{◌≡◌, ◌<◌, ◌≤◌, true, IfOk, length};
 ghost use Rattle.mnames.specs.Names.{is_name};
 ghost use Rattle.mword.specs.Octal.{octal_value};
 ghost use Rattle.script.specs.Fields.{decimal_value, number_of};
-ghost use Rattle.script.specs.Forms.{ArePools, is_from, is_path, is_row, is_who, is_word};
+ghost use Rattle.script.specs.Forms.{ArePools, is_from};
 ghost use Rattle.script.specs.Heads.{pools_in};
 ghost use Rattle.script.specs.Lines.{number_in, word_in, name_in, who_in, row_in, path_in, mode_in, print_in};
 ghost use Rattle.script.specs.Lines.{is_write_in, amount_in, call_in};
@@ -80,12 +80,9 @@ pub(crate) fn pools_in(
 
 /// The word of a field.
 pub(crate) fn word_in(text: &[u8]) -> Result<Word, Cause>
-    ensures word { Gives (λ w. w) result (word_in text.now) }
-    ensures range { IfOk result (λ w. is_word w ≡ true) }
+    ensures { Gives (λ w. w) result (word_in text.now) }
 {
-    let word = read_octal(text).ok_or(Cause::Number)?;
-    let _value = word.value();
-    Ok(word)
+    read_octal(text).ok_or(Cause::Number)
 }
 
 /// The entry name of a field.
@@ -104,10 +101,8 @@ pub(crate) fn who_in(text: &[u8]) -> Result<Who, Cause>
 }
 
 /// The row of a field.
-#[tactic(auto, using(crate::proofs::PrincipalLaws::row_read, std::proofs::lemmas::Grind::common_steps))]
 pub(crate) fn row_in(text: &[u8]) -> Result<Row, Cause>
-    ensures row { Gives (λ r. r) result (row_in text.now) }
-    ensures form { IfOk result (λ r. is_row r ≡ true) }
+    ensures { Gives (λ r. r) result (row_in text.now) }
 {
     read_row(text).ok_or(Cause::Name)
 }
@@ -115,14 +110,10 @@ pub(crate) fn row_in(text: &[u8]) -> Result<Row, Cause>
 /// The path of a field.
 #[tactic(auto, using(crate::proofs::PathLaws::path_taken, std::proofs::lemmas::Grind::common_steps))]
 pub(crate) fn path_in(text: &[u8]) -> Result<Path, Cause>
-    ensures path { Gives (λ p. p) result (path_in text.now) }
-    ensures range { IfOk result (λ p. is_path p ≡ true) }
+    ensures { Gives (λ p. p) result (path_in text.now) }
 {
     match read_path(text) {
-        Ok(path) => {
-            let _names = path.names();
-            Ok(path)
-        }
+        Ok(path) => Ok(path),
         Err(_) => Err(Cause::Path),
     }
 }
@@ -172,8 +163,7 @@ pub(crate) fn is_write_in(text: &[u8]) -> Result<bool, Cause>
 /// The amount of a field.
 #[tactic(auto, unfolding(crate::specs::Lines::amount_in))]
 pub(crate) fn amount_in(text: &[u8]) -> Result<i32, Cause>
-    ensures amount { Gives (λ a. a) result (amount_in text.now) }
-    ensures range { IfOk result (λ a. is_from 1 16384 (unsigned_abs a) ≡ true) }
+    ensures { Gives (λ a. a) result (amount_in text.now) }
 {
     match text.split_first() {
         Some((b'+', digits)) => Ok(number_in(digits, 1, 16384)? as i32),

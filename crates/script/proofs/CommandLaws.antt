@@ -1,0 +1,374 @@
+-- What a line says as a command is in its ranges (own).
+use Rattle.std.proofs.Common.{◌≡◌, ℕ, zero, suc, ◌+◌, ◌-◌, ◌*◌, ◌^◌, ◌<◌, ◌≤◌, Bool, true, false, ◌&&◌, nat_le, nat_lt}
+use Rattle.std.proofs.Common.{cond, eqb, List, [], ◌∷◌, length, fold, Option, Some, None, Result, Ok, Err, codes, ℤ}
+use Rattle.std.proofs.Common.{pos, neg_ℤ, refl, sym, subst, arith}
+use Rattle.std.proofs.lemmas.Bool.Decides.{nat_tests}
+use Rattle.std.proofs.lemmas.Slice.Eq.{bytes_eq-Decides}
+use Rattle.std.specs.Int.RustNames.{unsigned_abs}
+use Rattle.std.specs.List.{list_all}
+use Rattle.std.specs.Str.{bytes_eq}
+use Rattle.mnames.specs.declared.rows.Row.{Row}
+use Rattle.mword.proofs.OctalLaws.{octal_below, octal_bound_more}
+use Rattle.mword.specs.Octal.{is_octal, is_octal_digit, octal_number, octal_value}
+use Rattle.script.proofs.PathLaws.{and_both, and_parts, path_only}
+use Rattle.script.proofs.PrincipalLaws.{row_read}
+use Rattle.script.specs.Commands.{path_alone, path_and_number, place_in, place_and_word}
+use Rattle.script.specs.Commands.{mkdir_of, mkseg_of, initiate_of, terminate_of, read_of, write_of, add_of}
+use Rattle.script.specs.Commands.{await_of, acl_of, length_of, truncate_of, delete_of, move_of, status_of}
+use Rattle.script.specs.Commands.{end_of, other_command_of, reference_or, command_of}
+use Rattle.script.specs.Fields.{decimal_value, path_of}
+use Rattle.script.specs.Forms.{has_name, is_command, is_end, is_from, is_path, is_place, is_row, is_word}
+use Rattle.script.specs.Lines.{◌>>=◌, found_or, only_if, one_field, two_fields, three_fields, four_fields, in_range}
+use Rattle.script.specs.Lines.{number_in, word_in, row_in, path_in, mode_in, number_from, name_in, volume_in, amount_in}
+use Rattle.script.specs.declared.commands.Command.{Command}
+use Rattle.script.specs.declared.commands.Command.TheVariants as command
+use Rattle.script.specs.declared.plan.VolumeLine.{VolumeLine}
+use Rattle.script.specs.declared.refusals.Cause.{Cause}
+use Rattle.script.specs.declared.refusals.Cause.TheVariants as cause
+
+-- ---- a rule that holds of what is read
+
+pub record Keeps {A : Type 0} (P : A → Type 0) (r : Result A Cause) : Type 0 where
+  pub kept : (x : A) → r ≡ Ok x → P x
+
+keeps_ok : {A : Type 0} (P : A → Type 0) (x : A) → P x → Keeps P (Ok x)
+keeps_ok P x h = record { kept = λ y e. let same : x ≡ y = cc in subst P same h }
+
+keeps_err : {A : Type 0} (P : A → Type 0) (e : Cause) → Keeps P (Err e)
+keeps_err P e = record { kept = λ y z. absurd (cc) }
+
+then_keeps : {A B : Type 0} (Q : A → Type 0) (P : B → Type 0) (r : Result A Cause) (f : A → Result B Cause) → Keeps Q r
+    → ((x : A) → Q x → Keeps P (f x)) → Keeps P (r >>= f)
+then_keeps Q P (Ok x) f h k = k x (h.kept x refl)
+then_keeps Q P (Err e) f h k = keeps_err P e
+
+any_keeps : {A B : Type 0} (P : B → Type 0) (r : Result A Cause) (f : A → Result B Cause) → ((x : A) → Keeps P (f x))
+    → Keeps P (r >>= f)
+any_keeps P (Ok x) f k = k x
+any_keeps P (Err e) f k = keeps_err P e
+
+found_keeps : {A : Type 0} (P : A → Type 0) (why : Cause) (o : Option A) → ((x : A) → o ≡ Some x → P x)
+    → Keeps P (found_or why o)
+found_keeps P why None h = keeps_err P why
+found_keeps P why (Some x) h = keeps_ok P x (h x refl)
+
+either_keeps : {A : Type 0} (P : A → Type 0) (b : Bool) (r s : Result A Cause) → Keeps P r → Keeps P s
+    → Keeps P (cond b r s)
+either_keeps P true r s h k = h
+either_keeps P false r s h k = k
+
+-- ---- values
+
+abbrev From : ℕ → ℕ → ℕ → Type 0
+From low high n = is_from low high n ≡ true
+
+number_keeps : (low high : ℕ) (text : List ℕ) → Keeps (From low high) (number_in low high text)
+unfolding number_in
+number_keeps low high text = at (decimal_value text)
+  where
+    test : (n : ℕ) (b : Bool) → is_from low high n ≡ b → Keeps (From low high) (only_if cause.Number b n)
+    test n true h = keeps_ok (From low high) n h
+    test n false h = keeps_err (From low high) cause.Number
+
+    at : (o : Option ℕ) → Keeps (From low high) (in_range low high o)
+    at None = keeps_err (From low high) cause.Number
+    at (Some n) = test n (is_from low high n) refl
+
+up_to_most : (most n : ℕ) → is_from 0 most n ≡ true → nat_le n most ≡ true
+up_to_most most n h = (and_parts (nat_le 0 n) (nat_le n most) h).1
+
+abbrev IsAPath : List (List ℕ) → Type 0
+IsAPath p = is_path p ≡ true
+
+path_keeps : (text : List ℕ) → Keeps IsAPath (path_in text)
+path_keeps text = found_keeps IsAPath cause.Path (path_of text) (λ p e. (path_only text p e).1)
+
+-- digits stand for a number below the power of 8 of their count
+below_power : (ds : List ℕ) (n i k : ℕ) → list_all is_octal_digit ds ≡ true → n < 8 ^ i → i + length ds ≡ k
+    → fold (λ number digit. number * 8 + (digit - 48)) n ds < 8 ^ k
+below_power [] n i k h l e = let same : i ≡ k = omega arith in subst (λ j. n < 8 ^ j) same l
+below_power (d ∷ ds) n i k h l e =
+    let parts = and_parts (is_octal_digit d) (list_all is_octal_digit ds) h in
+    let digit : d - 48 < 8 = grind (arith, nat_tests, parts.0) in
+    let more : 8 * n + (d - 48) < 8 ^ (i + 1) = octal_bound_more i n (d - 48) l digit in
+    below_power ds (n * 8 + (d - 48)) (i + 1) k parts.1 (omega arith) (omega arith)
+
+abbrev IsAWord : ℕ → Type 0
+IsAWord w = is_word w ≡ true
+
+word_fits : (text : List ℕ) (w : ℕ) → octal_value text ≡ Some w → is_word w ≡ true
+unfolding octal_value octal_number is_octal
+word_fits text w e = test (is_octal text) refl e
+  where
+    test : (b : Bool) → is_octal text ≡ b → cond b (Some (octal_number text)) None ≡ Some w → is_word w ≡ true
+    test true h e =
+        let same : octal_number text ≡ w = cc in
+        let parts = and_parts (nat_le 1 (length text) && nat_le (length text) 12) (list_all is_octal_digit text) h in
+        let few = (and_parts (nat_le 1 (length text)) (nat_le (length text) 12) parts.0).1 in
+        let short : length text ≤ 12 = grind (arith, nat_tests) in
+        let fits : octal_number text < 2 ^ 36 = octal_below (length text) (octal_number text) short
+        (below_power text 0 0 (length text) parts.1 (omega arith) (omega arith)) in
+        subst IsAWord same (grind (arith, nat_tests))
+    test false h e = absurd (cc)
+
+word_keeps : (text : List ℕ) → Keeps IsAWord (word_in text)
+word_keeps text = found_keeps IsAWord cause.Number (octal_value text) (word_fits text)
+
+abbrev IsARow : Row → Type 0
+IsARow r = is_row r ≡ true
+
+row_keeps : (text : List ℕ) → Keeps IsARow (row_in text)
+row_keeps text = found_keeps IsARow cause.Name _ (λ r e. row_read text r (sym e))
+
+-- the number of a volume is below how many there are
+volume_below : (n : ℕ) (vs : List VolumeLine) (name : List ℕ) (k : ℕ) → number_from n vs name ≡ Some k
+    → k < n + length vs
+unfolding number_from
+volume_below n [] name k e = absurd (cc)
+volume_below n (v ∷ vs) name k e = test (has_name name v) (volume_below (n + 1) vs name k) e
+  where
+    test : (b : Bool) → (number_from (n + 1) vs name ≡ Some k → k < n + 1 + length vs)
+        → cond b (Some n) (number_from (n + 1) vs name) ≡ Some k → k < n + length (v ∷ vs)
+    test true later e = let same : n ≡ k = cc in omega arith
+    test false later e = let below = later e in omega arith
+
+abbrev Below : ℕ → ℕ → Type 0
+Below volumes n = nat_lt n volumes ≡ true
+
+volume_keeps : (vs : List VolumeLine) (text : List ℕ) → Keeps (Below (length vs)) (volume_in vs text)
+unfolding volume_in
+volume_keeps vs text =
+    any_keeps (Below (length vs)) (name_in text) _ (λ name.
+    found_keeps (Below (length vs)) cause.Unknown (number_from 0 vs name)
+    (λ n e. let below = volume_below 0 vs name n e in grind (arith, nat_tests)))
+
+abbrev IsAnAmount : ℤ → Type 0
+IsAnAmount a = is_from 1 16384 (unsigned_abs a) ≡ true
+
+amount_keeps : (text : List ℕ) → Keeps IsAnAmount (amount_in text)
+unfolding amount_in
+amount_keeps [] = keeps_err IsAnAmount cause.Number
+amount_keeps (sign ∷ digits) =
+    either_keeps IsAnAmount (eqb sign 43) _ _
+    (then_keeps (From 1 16384) IsAnAmount (number_in 1 16384 digits) _ (number_keeps 1 16384 digits)
+    (λ n h. keeps_ok IsAnAmount (pos n) h))
+    (either_keeps IsAnAmount (eqb sign 45) _ _
+    (then_keeps (From 1 16384) IsAnAmount (number_in 1 16384 digits) _ (number_keeps 1 16384 digits)
+    (λ n h. keeps_ok IsAnAmount (neg_ℤ (pos n)) (minus n h)))
+    (keeps_err IsAnAmount cause.Number))
+  where
+    minus : (n : ℕ) → is_from 1 16384 n ≡ true → is_from 1 16384 (unsigned_abs (neg_ℤ (pos n))) ≡ true
+    minus zero h = h
+    minus (suc n) h = h
+
+-- ---- parts of lines
+
+path_alone_keeps : (fields : List (List ℕ)) → Keeps IsAPath (path_alone fields)
+unfolding path_alone
+path_alone_keeps fields = any_keeps IsAPath (one_field fields) _ (λ f. path_keeps f)
+
+record IsPathAndNumber (low high : ℕ) (p : List (List ℕ) × ℕ) : Type 0 where
+  path : is_path p.0 ≡ true
+  number : is_from low high p.1 ≡ true
+
+path_and_number_keeps : (low high : ℕ) (fields : List (List ℕ))
+    → Keeps (IsPathAndNumber low high) (path_and_number low high fields)
+unfolding path_and_number
+path_and_number_keeps low high fields =
+    any_keeps (IsPathAndNumber low high) (two_fields fields) _ (λ f.
+    then_keeps IsAPath (IsPathAndNumber low high) (path_in f.0) _ (path_keeps f.0) (λ path p.
+    then_keeps (From low high) (IsPathAndNumber low high) (number_in low high f.1) _ (number_keeps low high f.1)
+    (λ n h. keeps_ok (IsPathAndNumber low high) (path, n) (record { path = p; number = h }))))
+
+abbrev IsAPlace : ℕ × ℕ → Type 0
+IsAPlace p = is_place p.0 p.1 ≡ true
+
+place_keeps : (number offset : List ℕ) → Keeps IsAPlace (place_in number offset)
+unfolding place_in
+place_keeps number offset =
+    then_keeps (From 0 255) IsAPlace (number_in 0 255 number) _ (number_keeps 0 255 number) (λ n h.
+    then_keeps (From 0 999999) IsAPlace (number_in 0 999999 offset) _ (number_keeps 0 999999 offset) (λ o k.
+    keeps_ok IsAPlace (n, o) (and_both (nat_le n 255) (nat_le o 999999) (up_to_most 255 n h)
+    (up_to_most 999999 o k))))
+
+abbrev IsPlaceAndWord : ℕ × ℕ × ℕ → Type 0
+IsPlaceAndWord p = (is_place p.0 p.1 && is_word p.2) ≡ true
+
+place_and_word_keeps : (fields : List (List ℕ)) → Keeps IsPlaceAndWord (place_and_word fields)
+unfolding place_and_word
+place_and_word_keeps fields =
+    any_keeps IsPlaceAndWord (three_fields fields) _ (λ f.
+    then_keeps IsAPlace IsPlaceAndWord (place_in f.0 f.1) _ (place_keeps f.0 f.1) (λ p h.
+    then_keeps IsAWord IsPlaceAndWord (word_in f.2) _ (word_keeps f.2) (λ w k.
+    keeps_ok IsPlaceAndWord (p.0, p.1, w) (and_both (is_place p.0 p.1) (is_word w) h k))))
+
+-- ---- commands
+
+-- a command in its ranges, and not the end
+pub record Goes (volumes : ℕ) (c : Command) : Type 0 where
+  pub range : is_command volumes c ≡ true
+  pub going : is_end c ≡ false
+
+mkdir_keeps : (vs : List VolumeLine) (fields : List (List ℕ)) → Keeps (Goes (length vs)) (mkdir_of vs fields)
+unfolding mkdir_of is_command
+mkdir_keeps vs fields =
+    any_keeps (Goes (length vs)) (two_fields fields) _ (λ f.
+    then_keeps IsAPath (Goes (length vs)) (path_in f.0) _ (path_keeps f.0) (λ path p.
+    then_keeps (Below (length vs)) (Goes (length vs)) (volume_in vs f.1) _ (volume_keeps vs f.1) (λ volume v.
+    keeps_ok (Goes (length vs)) (command.MkDir path volume)
+    (record { range = and_both (is_path path) (nat_lt volume (length vs)) p v; going = refl }))))
+
+mkseg_keeps : (vs : List VolumeLine) (fields : List (List ℕ)) → Keeps (Goes (length vs)) (mkseg_of vs fields)
+unfolding mkseg_of is_command
+mkseg_keeps vs fields =
+    any_keeps (Goes (length vs)) (three_fields fields) _ (λ f.
+    then_keeps IsAPath (Goes (length vs)) (path_in f.0) _ (path_keeps f.0) (λ path p.
+    then_keeps (From 1 256) (Goes (length vs)) (number_in 1 256 f.1) _ (number_keeps 1 256 f.1) (λ pages n.
+    then_keeps (Below (length vs)) (Goes (length vs)) (volume_in vs f.2) _ (volume_keeps vs f.2) (λ volume v.
+    keeps_ok (Goes (length vs)) (command.MkSeg path pages volume) (record {
+      range = and_both (is_path path) (is_from 1 256 pages && nat_lt volume (length vs)) p
+          (and_both (is_from 1 256 pages) (nat_lt volume (length vs)) n v);
+      going = refl;
+    })))))
+
+initiate_keeps : (volumes : ℕ) (fields : List (List ℕ)) → Keeps (Goes volumes) (initiate_of fields)
+unfolding initiate_of is_command
+initiate_keeps volumes fields =
+    then_keeps IsAPath (Goes volumes) (path_alone fields) _ (path_alone_keeps fields)
+    (λ path p. keeps_ok (Goes volumes) (command.Initiate path) (record { range = p; going = refl }))
+
+terminate_keeps : (volumes : ℕ) (fields : List (List ℕ)) → Keeps (Goes volumes) (terminate_of fields)
+unfolding terminate_of is_command
+terminate_keeps volumes fields =
+    any_keeps (Goes volumes) (one_field fields) _ (λ f.
+    then_keeps (From 0 255) (Goes volumes) (number_in 0 255 f) _ (number_keeps 0 255 f) (λ number n.
+    keeps_ok (Goes volumes) (command.Terminate number) (record { range = up_to_most 255 number n; going = refl })))
+
+read_keeps : (volumes : ℕ) (fields : List (List ℕ)) → Keeps (Goes volumes) (read_of fields)
+unfolding read_of is_command
+read_keeps volumes fields =
+    any_keeps (Goes volumes) (two_fields fields) _ (λ f.
+    then_keeps IsAPlace (Goes volumes) (place_in f.0 f.1) _ (place_keeps f.0 f.1)
+    (λ p h. keeps_ok (Goes volumes) (command.Read p.0 p.1) (record { range = h; going = refl })))
+
+write_keeps : (volumes : ℕ) (fields : List (List ℕ)) → Keeps (Goes volumes) (write_of fields)
+unfolding write_of is_command
+write_keeps volumes fields =
+    then_keeps IsPlaceAndWord (Goes volumes) (place_and_word fields) _ (place_and_word_keeps fields)
+    (λ p h. keeps_ok (Goes volumes) (command.Write p.0 p.1 p.2) (record { range = h; going = refl }))
+
+add_keeps : (volumes : ℕ) (fields : List (List ℕ)) → Keeps (Goes volumes) (add_of fields)
+unfolding add_of is_command
+add_keeps volumes fields =
+    then_keeps IsPlaceAndWord (Goes volumes) (place_and_word fields) _ (place_and_word_keeps fields)
+    (λ p h. keeps_ok (Goes volumes) (command.Add p.0 p.1 p.2) (record { range = h; going = refl }))
+
+await_keeps : (volumes : ℕ) (fields : List (List ℕ)) → Keeps (Goes volumes) (await_of fields)
+unfolding await_of is_command
+await_keeps volumes fields =
+    any_keeps (Goes volumes) (four_fields fields) _ (λ f.
+    then_keeps IsAPlace (Goes volumes) (place_in f.0 f.1) _ (place_keeps f.0 f.1) (λ p h.
+    then_keeps IsAWord (Goes volumes) (word_in f.2) _ (word_keeps f.2) (λ w k.
+    then_keeps (From 1 100000) (Goes volumes) (number_in 1 100000 f.3) _ (number_keeps 1 100000 f.3) (λ tries n.
+    keeps_ok (Goes volumes) (command.Await p.0 p.1 w tries) (record {
+      range = and_both (is_place p.0 p.1) (is_word w && is_from 1 100000 tries) h
+          (and_both (is_word w) (is_from 1 100000 tries) k n);
+      going = refl;
+    })))))
+
+acl_keeps : (volumes : ℕ) (fields : List (List ℕ)) → Keeps (Goes volumes) (acl_of fields)
+unfolding acl_of is_command
+acl_keeps volumes fields =
+    any_keeps (Goes volumes) (three_fields fields) _ (λ f.
+    then_keeps IsAPath (Goes volumes) (path_in f.0) _ (path_keeps f.0) (λ path p.
+    then_keeps IsARow (Goes volumes) (row_in f.1) _ (row_keeps f.1) (λ row r.
+    any_keeps (Goes volumes) (mode_in f.2) _ (λ mode.
+    keeps_ok (Goes volumes) (command.Acl path row mode)
+    (record { range = and_both (is_path path) (is_row row) p r; going = refl })))))
+
+length_keeps : (volumes : ℕ) (fields : List (List ℕ)) → Keeps (Goes volumes) (length_of fields)
+unfolding length_of is_command
+length_keeps volumes fields =
+    then_keeps (IsPathAndNumber 1 256) (Goes volumes) (path_and_number 1 256 fields) _
+    (path_and_number_keeps 1 256 fields) (λ p h.
+    keeps_ok (Goes volumes) (command.Length p.0 p.1)
+    (record { range = and_both (is_path p.0) (is_from 1 256 p.1) h.path h.number; going = refl }))
+
+truncate_keeps : (volumes : ℕ) (fields : List (List ℕ)) → Keeps (Goes volumes) (truncate_of fields)
+unfolding truncate_of is_command
+truncate_keeps volumes fields =
+    then_keeps (IsPathAndNumber 0 262144) (Goes volumes) (path_and_number 0 262144 fields) _
+    (path_and_number_keeps 0 262144 fields) (λ p h.
+    keeps_ok (Goes volumes) (command.Truncate p.0 p.1) (record {
+      range = and_both (is_path p.0) (nat_le p.1 262144) h.path (up_to_most 262144 p.1 h.number);
+      going = refl;
+    }))
+
+delete_keeps : (volumes : ℕ) (fields : List (List ℕ)) → Keeps (Goes volumes) (delete_of fields)
+unfolding delete_of is_command
+delete_keeps volumes fields =
+    then_keeps IsAPath (Goes volumes) (path_alone fields) _ (path_alone_keeps fields)
+    (λ path p. keeps_ok (Goes volumes) (command.Delete path) (record { range = p; going = refl }))
+
+move_keeps : (volumes : ℕ) (fields : List (List ℕ)) → Keeps (Goes volumes) (move_of fields)
+unfolding move_of is_command
+move_keeps volumes fields =
+    any_keeps (Goes volumes) (two_fields fields) _ (λ f.
+    then_keeps IsAPath (Goes volumes) (path_in f.0) _ (path_keeps f.0) (λ path p.
+    then_keeps IsAnAmount (Goes volumes) (amount_in f.1) _ (amount_keeps f.1) (λ amount a.
+    keeps_ok (Goes volumes) (command.Move path amount)
+    (record { range = and_both (is_path path) (is_from 1 16384 (unsigned_abs amount)) p a; going = refl }))))
+
+status_keeps : (volumes : ℕ) (fields : List (List ℕ)) → Keeps (Goes volumes) (status_of fields)
+unfolding status_of is_command
+status_keeps volumes fields =
+    then_keeps IsAPath (Goes volumes) (path_alone fields) _ (path_alone_keeps fields)
+    (λ path p. keeps_ok (Goes volumes) (command.Status path) (record { range = p; going = refl }))
+
+no_end : (volumes : ℕ) (b : Bool) (r : Result Command Cause) → b ≡ false
+    → Keeps (Goes volumes) (cond b r (Err cause.Order))
+no_end volumes true r h = absurd (cc)
+no_end volumes false r h = keeps_err (Goes volumes) cause.Order
+
+other_keeps : (volumes : ℕ) (word : List ℕ) (fields : List (List ℕ)) → bytes_eq word (codes "end") ≡ false
+    → Keeps (Goes volumes) (other_command_of word fields)
+unfolding other_command_of
+other_keeps volumes word fields h =
+    either_keeps (Goes volumes) (bytes_eq word (codes "acl")) _ _ (acl_keeps volumes fields)
+    (either_keeps (Goes volumes) (bytes_eq word (codes "length")) _ _ (length_keeps volumes fields)
+    (either_keeps (Goes volumes) (bytes_eq word (codes "truncate")) _ _ (truncate_keeps volumes fields)
+    (either_keeps (Goes volumes) (bytes_eq word (codes "move")) _ _ (move_keeps volumes fields)
+    (either_keeps (Goes volumes) (bytes_eq word (codes "status")) _ _ (status_keeps volumes fields)
+    (no_end volumes (bytes_eq word (codes "end")) _ h)))))
+
+reference_keeps : (volumes : ℕ) (word : List ℕ) (fields : List (List ℕ)) → bytes_eq word (codes "end") ≡ false
+    → Keeps (Goes volumes) (reference_or word fields)
+unfolding reference_or
+reference_keeps volumes word fields h =
+    either_keeps (Goes volumes) (bytes_eq word (codes "read")) _ _ (read_keeps volumes fields)
+    (either_keeps (Goes volumes) (bytes_eq word (codes "write")) _ _ (write_keeps volumes fields)
+    (either_keeps (Goes volumes) (bytes_eq word (codes "add")) _ _ (add_keeps volumes fields)
+    (either_keeps (Goes volumes) (bytes_eq word (codes "await")) _ _ (await_keeps volumes fields)
+    (other_keeps volumes word fields h))))
+
+-- any line but that of the end
+pub command_keeps : (vs : List VolumeLine) (word : List ℕ) (fields : List (List ℕ))
+    → bytes_eq word (codes "end") ≡ false → Keeps (Goes (length vs)) (command_of vs word fields)
+unfolding command_of
+command_keeps vs word fields h =
+    either_keeps (Goes (length vs)) (bytes_eq word (codes "mkdir")) _ _ (mkdir_keeps vs fields)
+    (either_keeps (Goes (length vs)) (bytes_eq word (codes "mkseg")) _ _ (mkseg_keeps vs fields)
+    (either_keeps (Goes (length vs)) (bytes_eq word (codes "initiate")) _ _ (initiate_keeps (length vs) fields)
+    (either_keeps (Goes (length vs)) (bytes_eq word (codes "terminate")) _ _ (terminate_keeps (length vs) fields)
+    (either_keeps (Goes (length vs)) (bytes_eq word (codes "delete")) _ _ (delete_keeps (length vs) fields)
+    (reference_keeps (length vs) word fields h)))))
+
+-- the end alone has its word
+end_is : (vs : List VolumeLine) (word : List ℕ) (fields : List (List ℕ)) → word ≡ codes "end"
+    → command_of vs word fields ≡ end_of fields
+unfolding command_of reference_or other_command_of
+end_is vs word fields e = rw e refl
+
+pub end_again : (vs : List VolumeLine) (word : List ℕ) (fields : List (List ℕ)) → bytes_eq word (codes "end") ≡ true
+    → command_of vs word fields ≡ end_of fields
+end_again vs word fields h = end_is vs word fields ((bytes_eq-Decides word (codes "end")).0 h)
