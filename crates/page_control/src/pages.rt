@@ -715,7 +715,7 @@ impl<D: Drive> Pages<D> {
 fn zero_pages(alloc: Global, count: u32) -> Result<Vec<Page>, NoMemory>
     ensures { IfOk result (λ pages. pages.items ≡ replicate count (replicate 1024 0)) }
 {
-    let mut pages = Vec::with_capacity(alloc, count as usize).map_err(|_| NoMemory)?;
+    let mut pages = Vec::with_capacity(alloc, count as usize)?;
     for _ in 0..count {
         pages.push_reserved(Page::zero(alloc)?);
     }

@@ -20,3 +20,6 @@ is_zero-requires g c = grind (arith, common_steps, bindings_referred)
 
 pub returns-clause-cut : goal.returns-clause-cut
 returns-clause-cut g c = grind (arith, common_steps, bindings_referred)
+
+pub returns-clause-bindings : goal.returns-clause-bindings
+returns-clause-bindings g c = grind (arith, common_steps, bindings_referred)

@@ -1,3 +1,5 @@
+use Rattle.std.proofs.lemmas.Grind.{common_steps}
+use Rattle.page_control.proofs.Facts.{page_dropped}
 use Rattle.std.proofs.Common.{◌∙◌, arith, ap, sym, Some}
 use Rattle.page_control.specs.Plain.{plain}
 use Rattle.page_control.proofs.Facts.{tied_volume, tied_filed}
@@ -26,3 +28,6 @@ unstore-requires-clause-filed g c =
     tied_filed (plain g.D.Drive.pages c.args.self.now) _ c.args.home c.args.t.now c.args.p c.requires.tie
     (stored_away _ c.requires.away)
     ∙ ap Some (sym c.record_in-r.ensures.record)
+
+pub release-requires : goal.release-requires
+release-requires g c = grind (arith, common_steps, page_dropped)

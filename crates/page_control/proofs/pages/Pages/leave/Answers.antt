@@ -85,3 +85,9 @@ returns-clause-no_call g c = λ need.
 
 pub is_zero-requires : goal.is_zero-requires
 is_zero-requires g c = grind (arith, common_steps, page_leaves)
+
+pub set-requires : goal.set-requires
+set-requires g c = grind (arith, common_steps, page_leaves)
+
+pub set-requires-2 : goal.set-requires-2
+set-requires-2 g c = grind (arith, common_steps, page_leaves)

@@ -20,3 +20,6 @@ returns-clause-word g c = grind (arith, common_steps, bindings_referred)
 
 pub returns-clause-size : goal.returns-clause-size
 returns-clause-size g c = grind (arith, common_steps, bindings_referred)
+
+pub returns-clause-bindings : goal.returns-clause-bindings
+returns-clause-bindings g c = grind (arith, common_steps, bindings_referred)

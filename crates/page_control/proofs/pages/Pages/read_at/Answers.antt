@@ -44,3 +44,9 @@ returns-in-Err-clause-read g c = record {
 
 pub invariant_of-self : goal.invariant_of-self
 invariant_of-self g c = grind (arith, common_steps)
+
+pub index_mut-requires : goal.index_mut-requires
+index_mut-requires g c = grind (arith, common_steps)
+
+pub bind-requires-clause-within : goal.bind-requires-clause-within
+bind-requires-clause-within g c = grind (arith, common_steps)

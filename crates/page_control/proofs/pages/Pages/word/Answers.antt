@@ -19,3 +19,9 @@ index-requires g c = grind (arith, common_steps, bindings_referred)
 
 pub returns-clause-word : goal.returns-clause-word
 returns-clause-word g c = grind (arith, common_steps, bindings_referred)
+
+pub returns-clause-words : goal.returns-clause-words
+returns-clause-words g c = grind (arith, common_steps, bindings_referred)
+
+pub returns-clause-bindings : goal.returns-clause-bindings
+returns-clause-bindings g c = grind (arith, common_steps, bindings_referred)
