@@ -16,7 +16,7 @@ use Rattle.page_control.specs.Tied.{is_out}
 use Rattle.page_control.specs.Ties.{IsTied, KeepsOthers, KeepsTies}
 use Rattle.page_control.specs.Effects.{words_left, words_here, word_of_left, after_evict}
 use Rattle.seg_control.specs.Control.{Links, place_of, table_of}
-use Rattle.seg_control.specs.Effects.{table_here, table_left}
+use Rattle.seg_control.specs.Effects.{worded, table_here, table_left}
 use Rattle.seg_control.specs.Kept.{read_at, IsHomeFor, HaveSizes, ArePaged, AreLinked, IsKept}
 use Rattle.seg_control.proofs.Frames.{same_vtocs, same_records}
 use Rattle.seg_control.proofs.Paged.{set_cases, none_read, table_same, table_other, IsCall, paged_call, paged_same}
@@ -143,15 +143,21 @@ kept_evicted result old now ast links place uid p f r home t u k at within table
     (λ q ne. words_left_other result t u p r word q ne ∙ ap (λ (those : List Ptw). ptw_at those q) table)
     (length_left result t u p r word ∙ ap length table)
 
+-- a word that is set, as the active segments are seen
+pub table_is_set : (ast : ActiveSegs) (place uid p : ℕ) (w : Ptw) (t u : List Ptw) → place ≡ place_of ast.entries uid
+    → t ≡ table_at ast.tables place → u ≡ set t p w → with_table ast place u ≡ worded ast uid p w
+table_is_set ast place uid p w t u is table word =
+    ap (λ (x : ℕ). with_table ast x u) is
+    ∙ ap (with_table ast (place_of ast.entries uid)) (word
+    ∙ ap (λ (those : List Ptw). set those p w) (table ∙ ap (table_at ast.tables) is))
+
 -- the word of a page that leaves, as the active segments are seen
 pub table_is_left : {E : Type 0} (result : Result Left E) (ast : ActiveSegs) (place uid p r : ℕ) (t u : List Ptw)
     → place ≡ place_of ast.entries uid
     → t ≡ table_at ast.tables place → u ≡ words_left t p r result → with_table ast place u
     ≡ table_left ast uid p r result
 table_is_left (Ok left) ast place uid p r t u is table word =
-    ap (λ (x : ℕ). with_table ast x u) is
-    ∙ ap (with_table ast (place_of ast.entries uid)) (word
-    ∙ ap (λ (those : List Ptw). set those p (word_of_left left r)) (table ∙ ap (table_at ast.tables) is))
+    table_is_set ast place uid p (word_of_left left r) t u is table word
 table_is_left (Err e) ast place uid p r t u is table word =
     ap (λ (those : List (List Ptw)). record ast { tables = those })
     (ap (set ast.tables place) (word ∙ table) ∙ set-get_or ast.tables place [])
@@ -191,9 +197,7 @@ pub table_is_here : {T E : Type 0} (result : Result T E) (ast : ActiveSegs) (pla
     → t ≡ table_at ast.tables place → u ≡ words_here t p f result → with_table ast place u
     ≡ table_here ast uid p f result
 table_is_here (Ok x) ast place uid p f t u is table word =
-    ap (λ (k : ℕ). with_table ast k u) is
-    ∙ ap (with_table ast (place_of ast.entries uid)) (word
-    ∙ ap (λ (those : List Ptw). set those p (Here f)) (table ∙ ap (table_at ast.tables) is))
+    table_is_set ast place uid p (Here f) t u is table word
 table_is_here (Err e) ast place uid p f t u is table word =
     ap (λ (those : List (List Ptw)). record ast { tables = those })
     (ap (set ast.tables place) (word ∙ table) ∙ set-get_or ast.tables place [])

@@ -18,11 +18,11 @@ use Rattle.page_control.specs.Plain.{Paging, Plain, plain, bindings, binding_at,
 use Rattle.page_control.specs.Tied.{IsTableOf, IsNotStarted, is_out, uid_in as uid_framed, uid_at as uid_homed}
 use Rattle.page_control.specs.Ties.{IsTied, KeepsOthers}
 use Rattle.page_control.specs.Effects.{words_here, after_create, dropped}
-use Rattle.seg_control.specs.Control.{Links, place_of, word_of}
-use Rattle.seg_control.specs.Kept.{read_at, IsOutAt, ArePaged, IsKept}
+use Rattle.seg_control.specs.Control.{Links, place_of, table_of, word_of}
+use Rattle.seg_control.specs.Kept.{read_at, IsHomeFor, IsOutAt, ArePaged, IsKept}
 use Rattle.seg_control.proofs.Frames.{none_started}
 use Rattle.seg_control.proofs.Paged.{set_cases, none_read, table_same, table_other}
-use Rattle.seg_control.proofs.Calls.{sizes_kept, kept_call, length_here, words_here_other, marks_here}
+use Rattle.seg_control.proofs.Calls.{sizes_kept, kept_call, length_here, words_here_other, marks_here, tied_home}
 
 -- ---- a page is made
 
@@ -60,6 +60,13 @@ homed_uid s uid home e = of_entry _ e
     of_entry : (entry : Option VtocEntry) → uid_of entry ≡ Some uid → uid_or_zero entry ≡ uid
     of_entry None e = cc
     of_entry (Some entry) e = same_Some _ _ e
+
+-- an active segment is the one of its home
+pub homed_active : (now : Plain) (ast : ActiveSegs) (links : Links) (place uid : ℕ) (home : Home) (t : List Ptw)
+    → IsKept now ast links → uid_at ast.entries place ≡ Some uid → place ≡ place_of ast.entries uid
+    → t ≡ table_at ast.tables place → IsHomeFor now uid home (table_of ast uid) → uid_of_home now home ≡ uid
+homed_active now ast links place uid home t k at is table h =
+    homed_uid now uid home (tied_home now ast links place uid home t k at is table h).used
 
 marks_core : (old now : Core) (f : ℕ) → now ≡ with_frame old f Free → (g u q : ℕ) → binding_at (bindings now) g
     ≡ Some (u, q) → binding_at (bindings old) g ≡ Some (u, q)

@@ -1,4 +1,4 @@
-use Rattle.std.proofs.Common.{◌≡◌, ◌∙◌, ap, rules, List}
+use Rattle.std.proofs.Common.{◌≡◌, ◌∙◌, ap, List, refl}
 use Rattle.page_table.specs.declared.Ptw.{Ptw}
 use Rattle.page_table.specs.declared.Ptw.TheVariants.{Null}
 use Rattle.page_table.specs.PageTable.{ptw_at}
@@ -12,13 +12,14 @@ pub create_page-requires-clause-tie : goal.create_page-requires-clause-tie
 create_page-requires-clause-tie g c =
     tied_home (plain g.D.Drive.pages c.self.inside.pages) c.self.inside.ast c.self.inside.links c.place_in-place.result
     c.args.uid c.args.home _ c.self.invariant c.place_in-place.ensures.at c.place_in-place.ensures.is
-    c.table_mut.ensures.value (search rules)
+    c.table_mut.ensures.value (rw (← c.self.view_is) at c.requires.home)
 
 pub invariant_of-self : goal.invariant_of-self
 invariant_of-self g c =
+    let null = rw (← c.self.view_is) at c.requires.null in
     let word : ptw_at c.table_mut.result.now c.args.p ≡ Null =
     ap (λ (those : List Ptw). ptw_at those c.args.p) (c.table_mut.ensures.value
-    ∙ ap (table_at c.self.inside.ast.tables) c.place_in-place.ensures.is) ∙ (search rules) in
+    ∙ ap (table_at c.self.inside.ast.tables) c.place_in-place.ensures.is) ∙ null in
     kept_created c.create_page.result (plain g.D.Drive.pages c.self.inside.pages)
     (plain g.D.Drive.pages c.create_page.new.self) c.self.inside.ast
     c.self.inside.links c.place_in-place.result c.args.uid c.args.p c.args.f c.args.home _ _ c.self.invariant
@@ -30,9 +31,19 @@ invariant_of-self g c =
     (plain g.D.Drive.pages c.create_page.new.self) c.args.uid c.args.p c.args.home
     c.args.f c.args.at c.args.w c.create_page.ensures.effect) c.create_page.ensures.reads
 
-pub returns-clause-word : goal.returns-clause-word
-returns-clause-word g c =
-    rw (← c.self.view_is)
-    (table_is_here c.create_page.result c.self.inside.ast c.place_in-place.result c.args.uid c.args.p c.args.f _ _
-    c.place_in-place.ensures.is
-    c.table_mut.ensures.value c.create_page.ensures.word)
+pub returns : goal.returns
+returns g c =
+    rw (← c.self.view_is) (record {
+      effect = c.create_page.ensures.effect;
+      word = table_is_here c.create_page.result c.self.inside.ast c.place_in-place.result c.args.uid c.args.p
+          c.args.f _ _ c.place_in-place.ensures.is c.table_mut.ensures.value c.create_page.ensures.word;
+      full = c.create_page.ensures.full;
+      words = c.create_page.ensures.words;
+      stored = c.create_page.ensures.stored;
+      bound = c.create_page.ensures.bound;
+      reads = c.create_page.ensures.reads;
+      taken = c.create_page.ensures.taken;
+      counts = c.create_page.ensures.counts;
+      drives = c.create_page.ensures.drives;
+      links = refl;
+    })

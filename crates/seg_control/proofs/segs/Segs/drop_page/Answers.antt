@@ -1,30 +1,40 @@
-use Rattle.std.proofs.Common.{◌≡◌, sym, rules, ℕ, subst}
+use Rattle.std.proofs.Common.{sym, ℕ, subst, refl, ap, ◌∙◌, List, replicate}
+use Rattle.page_table.specs.declared.Ptw.{Ptw}
+use Rattle.page_table.specs.declared.Ptw.TheVariants.{Null}
 use Rattle.page_table.specs.PageTable.{ptw_at}
-use Rattle.page_control.specs.Plain.{plain, uid_of_home}
-use Rattle.page_control.specs.Tied.{IsNotStarted}
+use Rattle.active_segs.specs.Active.{table_at}
+use Rattle.page_control.specs.Plain.{plain}
+use Rattle.page_control.specs.Tied.{is_away}
+use Rattle.page_control.specs.Effects.{dropped}
+use Rattle.page_control.specs.Picture.{ChangesWords}
 use Rattle.page_control.specs.Ties.{IsTied, KeepsOthers}
-use Rattle.seg_control.proofs.Calls.{tied_home}
-use Rattle.seg_control.proofs.Moving.{kept_dropped, homed_uid}
+use Rattle.seg_control.proofs.Calls.{tied_home, table_is_set}
+use Rattle.seg_control.proofs.Moving.{kept_dropped, homed_active}
 use Rattle.seg_control.proofs.segs.Segs.drop_page.Goals as goal
+
+pub drop_page-requires-clause-away : goal.drop_page-requires-clause-away
+drop_page-requires-clause-away g c =
+    let away = rw (← c.self.view_is) at c.requires.away in
+    ap (λ (those : List Ptw). is_away (ptw_at those c.args.p)) (c.table_mut.ensures.value
+    ∙ ap (table_at c.self.inside.ast.tables) c.place_in-place.ensures.is) ∙ away
 
 pub drop_page-requires-clause-tie : goal.drop_page-requires-clause-tie
 drop_page-requires-clause-tie g c =
-    let tie : IsTied (plain g.D.Drive.pages c.self.inside.pages) c.args.uid c.args.home c.table_mut.result.now =
-    tied_home (plain g.D.Drive.pages c.self.inside.pages) c.self.inside.ast c.self.inside.links c.place_in-place.result
-    c.args.uid c.args.home _ c.self.invariant c.place_in-place.ensures.at c.place_in-place.ensures.is
-    c.table_mut.ensures.value (search rules) in
+    let home = rw (← c.self.view_is) at c.requires.home in
     subst (λ (u : ℕ). IsTied (plain g.D.Drive.pages c.self.inside.pages) u c.args.home c.table_mut.result.now)
-    (sym (homed_uid (plain g.D.Drive.pages c.self.inside.pages) c.args.uid c.args.home tie.used)) tie
+    (sym (homed_active (plain g.D.Drive.pages c.self.inside.pages) c.self.inside.ast c.self.inside.links
+    c.place_in-place.result c.args.uid c.args.home _ c.self.invariant c.place_in-place.ensures.at
+    c.place_in-place.ensures.is c.table_mut.ensures.value home))
+    (tied_home (plain g.D.Drive.pages c.self.inside.pages) c.self.inside.ast c.self.inside.links
+    c.place_in-place.result c.args.uid c.args.home _ c.self.invariant c.place_in-place.ensures.at
+    c.place_in-place.ensures.is c.table_mut.ensures.value home)
 
 pub invariant_of-self : goal.invariant_of-self
 invariant_of-self g c =
-    let idle : IsNotStarted c.self.inside.pages.core c.args.uid c.args.p = search rules in
-    let tie : IsTied (plain g.D.Drive.pages c.self.inside.pages) c.args.uid c.args.home c.table_mut.result.now =
-    tied_home (plain g.D.Drive.pages c.self.inside.pages) c.self.inside.ast c.self.inside.links c.place_in-place.result
-    c.args.uid c.args.home _ c.self.invariant c.place_in-place.ensures.at c.place_in-place.ensures.is
-    c.table_mut.ensures.value (search rules) in
-    let its : uid_of_home (plain g.D.Drive.pages c.self.inside.pages) c.args.home ≡ c.args.uid =
-    homed_uid (plain g.D.Drive.pages c.self.inside.pages) c.args.uid c.args.home tie.used in
+    let idle = rw (← c.self.view_is) at c.requires.idle in
+    let its = homed_active (plain g.D.Drive.pages c.self.inside.pages) c.self.inside.ast c.self.inside.links
+    c.place_in-place.result c.args.uid c.args.home _ c.self.invariant c.place_in-place.ensures.at
+    c.place_in-place.ensures.is c.table_mut.ensures.value (rw (← c.self.view_is) at c.requires.home) in
     kept_dropped (plain g.D.Drive.pages c.self.inside.pages) (plain g.D.Drive.pages c.drop_page.new.self)
     c.self.inside.ast c.self.inside.links
     c.place_in-place.result c.args.uid c.args.p c.args.home (ptw_at c.table_mut.result.now c.args.p) _ _
@@ -35,3 +45,26 @@ invariant_of-self g c =
     (subst (λ (u : ℕ). KeepsOthers (plain g.D.Drive.pages c.self.inside.pages)
     (plain g.D.Drive.pages c.drop_page.new.self) u c.args.home) its
     c.drop_page.ensures.others) c.drop_page.ensures.word c.drop_page.ensures.effect c.drop_page.ensures.reads
+
+pub returns : goal.returns
+returns g c =
+    let its = homed_active (plain g.D.Drive.pages c.self.inside.pages) c.self.inside.ast c.self.inside.links
+    c.place_in-place.result c.args.uid c.args.home _ c.self.invariant c.place_in-place.ensures.at
+    c.place_in-place.ensures.is c.table_mut.ensures.value (rw (← c.self.view_is) at c.requires.home) in
+    rw (← c.self.view_is) (record {
+      effect = c.drop_page.ensures.effect
+          ∙ ap (λ (those : List Ptw). dropped (plain g.D.Drive.pages c.self.inside.pages) c.args.home c.args.p
+          (ptw_at those c.args.p))
+          (c.table_mut.ensures.value ∙ ap (table_at c.self.inside.ast.tables) c.place_in-place.ensures.is);
+      word = table_is_set c.self.inside.ast c.place_in-place.result c.args.uid c.args.p Null _ _
+          c.place_in-place.ensures.is c.table_mut.ensures.value c.drop_page.ensures.word;
+      words = subst (λ (u : ℕ). ChangesWords (plain g.D.Drive.pages c.self.inside.pages)
+          (plain g.D.Drive.pages c.drop_page.new.self) u c.args.home c.args.p (replicate 1024 0)) its
+          c.drop_page.ensures.words;
+      stored = c.drop_page.ensures.stored;
+      reads = c.drop_page.ensures.reads;
+      taken = c.drop_page.ensures.taken;
+      counts = c.drop_page.ensures.counts;
+      drives = c.drop_page.ensures.drives;
+      links = refl;
+    })

@@ -1,14 +1,29 @@
-use Rattle.std.proofs.Common.{rules}
-use Rattle.page_control.specs.Plain.{plain, uid_of_home}
-use Rattle.seg_control.specs.Kept.{IsHomeOf}
+use Rattle.std.proofs.Common.{refl}
+use Rattle.page_control.specs.Plain.{plain}
 use Rattle.seg_control.proofs.Homes.{kept_erased}
 use Rattle.seg_control.proofs.segs.Segs.erase.Goals as goal
 
 pub invariant_of-self : goal.invariant_of-self
 invariant_of-self g c =
-    let only : IsHomeOf c.self.inside.pages.volumes.vtocs
-    (uid_of_home (plain g.D.Drive.pages c.self.inside.pages) c.args.home) c.args.home = search rules in
+    let only = rw (← c.self.view_is) at c.requires.home in
     kept_erased (plain g.D.Drive.pages c.self.inside.pages) (plain g.D.Drive.pages c.erase.new.self) c.self.inside.ast
     c.self.inside.links c.args.home
     c.self.invariant only c.erase.ensures.effect c.erase.ensures.home c.erase.ensures.uids c.erase.ensures.records
     c.erase.ensures.ties
+
+pub returns : goal.returns
+returns g c =
+    rw (← c.self.view_is) (record {
+      effect = c.erase.ensures.effect;
+      drives = c.erase.ensures.drives;
+      home = c.erase.ensures.home;
+      uids = c.erase.ensures.uids;
+      maps = c.erase.ensures.maps;
+      stored = c.erase.ensures.stored;
+      zeros = c.erase.ensures.zeros;
+      words = c.erase.ensures.words;
+      used = c.erase.ensures.used;
+      taken = c.erase.ensures.taken;
+      ast = refl;
+      links = refl;
+    })

@@ -1,29 +1,37 @@
-use Rattle.std.proofs.Common.{◌≡◌, ◌∙◌, ap, sym, rules, ℕ, List, subst}
+use Rattle.std.proofs.Common.{◌≡◌, ◌∙◌, ap, sym, refl, ℕ, List, subst}
 use Rattle.page_table.specs.declared.Ptw.{Ptw}
 use Rattle.page_table.specs.declared.Ptw.TheVariants.{Leaving}
 use Rattle.page_table.specs.PageTable.{ptw_at}
 use Rattle.core_map.specs.CoreMap.{frame_at}
 use Rattle.active_segs.specs.Active.{table_at}
 use Rattle.page_control.specs.Plain.{plain, number_in, record_of}
-use Rattle.page_control.specs.Tied.{uid_in}
 use Rattle.page_control.specs.Ties.{IsTied, KeepsOthers}
-use Rattle.seg_control.specs.Control.{word_of}
+use Rattle.page_control.specs.Picture.{KeepsWords}
 use Rattle.seg_control.proofs.Calls.{tied_home, kept_evicted, table_is_left, lost_bindings}
 use Rattle.seg_control.proofs.segs.Segs.evict.Goals as goal
 
+pub evict-requires-clause-bound : goal.evict-requires-clause-bound
+evict-requires-clause-bound g c = rw (← c.self.view_is) at c.requires.bound
+
+pub evict-requires-clause-leaving : goal.evict-requires-clause-leaving
+evict-requires-clause-leaving g c =
+    let leaving = rw (← c.self.view_is) at c.requires.leaving in
+    ap (λ (those : List Ptw). ptw_at those (number_in (frame_at c.self.inside.pages.core c.args.f)))
+    (c.table_mut.ensures.value ∙ ap (table_at c.self.inside.ast.tables) c.place_in-place.ensures.is) ∙ leaving
+
 pub evict-requires-clause-tie : goal.evict-requires-clause-tie
 evict-requires-clause-tie g c =
-    let own : uid_in (frame_at c.self.inside.pages.core c.args.f) ≡ c.args.uid = search rules in
+    let own = rw (← c.self.view_is) at c.requires.own in
     subst (λ (u : ℕ). IsTied (plain g.D.Drive.pages c.self.inside.pages) u c.args.home c.table_mut.result.now) (sym own)
     (tied_home (plain g.D.Drive.pages c.self.inside.pages) c.self.inside.ast c.self.inside.links c.place_in-place.result
     c.args.uid c.args.home _ c.self.invariant c.place_in-place.ensures.at c.place_in-place.ensures.is
-    c.table_mut.ensures.value (search rules))
+    c.table_mut.ensures.value (rw (← c.self.view_is) at c.requires.home))
 
 pub invariant_of-self : goal.invariant_of-self
 invariant_of-self g c =
-    let own : uid_in (frame_at c.self.inside.pages.core c.args.f) ≡ c.args.uid = search rules in
+    let own = rw (← c.self.view_is) at c.requires.own in
     let p : ℕ = number_in (frame_at c.self.inside.pages.core c.args.f) in
-    let leaving : word_of c.self.inside.ast c.args.uid p ≡ Leaving c.args.f = search rules in
+    let leaving = rw (← c.self.view_is) at c.requires.leaving in
     let word : ptw_at c.table_mut.result.now p ≡ Leaving c.args.f =
     ap (λ (those : List Ptw). ptw_at those p) (c.table_mut.ensures.value
     ∙ ap (table_at c.self.inside.ast.tables) c.place_in-place.ensures.is) ∙ leaving in
@@ -41,13 +49,24 @@ invariant_of-self g c =
     (plain g.D.Drive.pages c.self.inside.pages) (plain g.D.Drive.pages c.evict.new.self) c.args.home p c.args.f
     c.evict.ensures.effect) c.evict.ensures.reads
 
-pub returns-clause-word : goal.returns-clause-word
-returns-clause-word g c =
+pub returns : goal.returns
+returns g c =
     let p : ℕ = number_in (frame_at c.self.inside.pages.core c.args.f) in
-    rw (← c.self.view_is)
-    (table_is_left c.evict.result c.self.inside.ast c.place_in-place.result c.args.uid p
-    (record_of (plain g.D.Drive.pages c.self.inside.pages) c.args.home p) _ _ c.place_in-place.ensures.is
-    c.table_mut.ensures.value c.evict.ensures.word)
-
-pub returns-clause-no_call : goal.returns-clause-no_call
-returns-clause-no_call g c = rw (← c.self.view_is) c.evict.ensures.no_call
+    let own = rw (← c.self.view_is) at c.requires.own in
+    rw (← c.self.view_is) (record {
+      zeros = c.evict.ensures.zeros;
+      effect = c.evict.ensures.effect;
+      word = table_is_left c.evict.result c.self.inside.ast c.place_in-place.result c.args.uid p
+          (record_of (plain g.D.Drive.pages c.self.inside.pages) c.args.home p) _ _ c.place_in-place.ensures.is
+          c.table_mut.ensures.value c.evict.ensures.word;
+      words = subst (λ (u : ℕ). KeepsWords (plain g.D.Drive.pages c.self.inside.pages)
+          (plain g.D.Drive.pages c.evict.new.self) u c.args.home) own c.evict.ensures.words;
+      stored = c.evict.ensures.stored;
+      freed = c.evict.ensures.freed;
+      reads = c.evict.ensures.reads;
+      taken = c.evict.ensures.taken;
+      counts = c.evict.ensures.counts;
+      no_call = c.evict.ensures.no_call;
+      drives = c.evict.ensures.drives;
+      links = refl;
+    })

@@ -1,14 +1,30 @@
-use Rattle.std.proofs.Common.{rules}
+use Rattle.std.proofs.Common.{refl}
 use Rattle.page_control.specs.Plain.{plain}
-use Rattle.seg_control.specs.Kept.{HasHomeIfActive}
 use Rattle.seg_control.proofs.Homes.{kept_homed}
 use Rattle.seg_control.proofs.segs.Segs.new_home.Goals as goal
 
 pub invariant_of-self : goal.invariant_of-self
 invariant_of-self g c =
-    let has : HasHomeIfActive c.self.inside.pages.volumes.vtocs c.self.inside.ast.entries c.args.uid = search rules in
+    let has = rw (← c.self.view_is) at c.requires.homed in
     kept_homed c.new_home.result (plain g.D.Drive.pages c.self.inside.pages)
     (plain g.D.Drive.pages c.new_home.new.self) c.self.inside.ast c.self.inside.links
     c.args.volume c.args.uid c.self.invariant has c.new_home.ensures.least c.new_home.ensures.effect
     c.new_home.ensures.home c.new_home.ensures.homes
     c.new_home.ensures.uids c.new_home.ensures.tie c.new_home.ensures.ties c.new_home.ensures.records
+
+pub returns : goal.returns
+returns g c =
+    rw (← c.self.view_is) (record {
+      least = c.new_home.ensures.least;
+      none = c.new_home.ensures.none;
+      effect = c.new_home.ensures.effect;
+      drives = c.new_home.ensures.drives;
+      home = c.new_home.ensures.home;
+      uids = c.new_home.ensures.uids;
+      maps = c.new_home.ensures.maps;
+      words = c.new_home.ensures.words;
+      stored = c.new_home.ensures.stored;
+      used = c.new_home.ensures.used;
+      ast = refl;
+      links = refl;
+    })

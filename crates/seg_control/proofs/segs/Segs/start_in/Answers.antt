@@ -1,8 +1,7 @@
-use Rattle.std.proofs.Common.{◌≡◌, ◌∙◌, ap, rules, true, ℕ}
+use Rattle.std.proofs.Common.{◌∙◌, ap, ℕ, refl}
 use Rattle.page_table.specs.PageTable.{ptw_at}
 use Rattle.active_segs.specs.Active.{table_at}
-use Rattle.page_control.specs.Tied.{is_out, IsNotStarted}
-use Rattle.seg_control.specs.Control.{word_of}
+use Rattle.page_control.specs.Tied.{is_out}
 use Rattle.seg_control.proofs.Paged.{paged_started}
 use Rattle.seg_control.proofs.Frames.{same_vtocs, same_records, none_started}
 use Rattle.seg_control.proofs.Calls.{kept_paged}
@@ -10,8 +9,8 @@ use Rattle.seg_control.proofs.segs.Segs.start_in.Goals as goal
 
 pub invariant_of-self : goal.invariant_of-self
 invariant_of-self g c =
-    let out : is_out (word_of c.self.inside.ast c.args.uid c.args.p) ≡ true = search rules in
-    let first : IsNotStarted c.self.inside.pages.core c.args.uid c.args.p = search rules in
+    let out = rw (← c.self.view_is) at c.requires.out in
+    let first = rw (← c.self.view_is) at c.requires.first in
     kept_paged _ _ _ _ c.self.invariant
     (paged_started _ _ _ _ c.self.invariant.paged c.start_in.ensures.bindings
     (same_vtocs _ _ c.start_in.ensures.volumes)
@@ -20,3 +19,15 @@ invariant_of-self g c =
     (ap (λ (place : ℕ). is_out (ptw_at (table_at c.self.inside.ast.tables place) c.args.p)) c.place_in-place.ensures.is
     ∙ out)
     (none_started c.self.inside.pages.core c.args.uid c.args.p first) c.start_in.ensures.reads)
+
+pub returns : goal.returns
+returns g c =
+    rw (← c.self.view_is) (record {
+      started = c.start_in.ensures.started;
+      words = c.start_in.ensures.words;
+      bindings = c.start_in.ensures.bindings;
+      reads = c.start_in.ensures.reads;
+      volumes = c.start_in.ensures.volumes;
+      ast = refl;
+      links = refl;
+    })
