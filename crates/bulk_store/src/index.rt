@@ -44,10 +44,9 @@ impl Index {
     pub(crate) fn new(alloc: Global, room: u32, records: u32) -> Result<Index, NoMemory>
         ensures { IfOk result (λ t. t ≡ empty_index room records) }
     {
-        let held = HeapCircularBuffer::with_capacity(alloc, room as usize).map_err(|_| NoMemory)?;
         Ok(Index {
-            held,
-            places: no_places(alloc, records)?,
+            held: HeapCircularBuffer::with_capacity(alloc, room as usize)?,
+            places: vec![in alloc; None; records as usize]?,
             free: 0,
             used: 0,
         })
@@ -119,15 +118,4 @@ impl Index {
             None => unreachable!(),
         }
     }
-}
-
-/// An index in which none of so many records has a place.
-fn no_places(alloc: Global, records: u32) -> Result<Vec<Option<u32>>, NoMemory>
-    ensures { IfOk result (λ places. places.items ≡ replicate records None) }
-{
-    let mut places = Vec::with_capacity(alloc, records as usize).map_err(|_| NoMemory)?;
-    for _ in 0..records {
-        places.push_reserved(None);
-    }
-    Ok(places)
 }
