@@ -63,25 +63,35 @@ module _ {slots : List Entry} {order : List ℕ} (l : IsListed slots order) (i :
     apart = l.apart;
   }
 
--- how many nodes lie in that of an entry, set
-pub inferiors_set : {slots : List Entry} {order : List ℕ} → IsListed slots order → (now : List Entry)
-    → listed slots order ≡ now → (i : ℕ) → i < length now
-    → (p : ℕ) → p ≡ get_or order i p → (x : Entry) → x ≡ get_or slots p x → (n : ℕ)
-    → listed (set slots p (record x { inferiors = n })) order ≡ set now i (record (entry_at now i) { inferiors = n })
-inferiors_set {slots} {order} l now view i within p is_p x is_x n =
-    let lt : i < length order = (let m = length_listed slots order in let v : length (listed slots order)
-    ≡ length now = ap length view in omega arith) in
-    let place : p ≡ get_or order i 0 = get_or_read order i p lt is_p 0 in
-    let slot : p < length slots = (let w : get_or order i 0 < 4097 = l.within i lt in let m : length slots ≡ 4097 =
-    l.size in omega arith) in
-    let here : x ≡ entry_at slots p = get_or_read slots p x slot is_x no_entry in
-    let entry : x ≡ entry_at now i = here ∙ ap (entry_at slots) place ∙ sym (listed_at slots order i lt)
-    ∙ ap (λ (es : List Entry). entry_at es i) view in
-    ap (λ q. listed (set slots q (record x { inferiors = n })) order) place
-    ∙ set_listed l i lt (record x { inferiors = n }) (ap (λ (d : Entry). d.place) (here ∙ ap (entry_at slots) place)
-    ∙ l.places i lt)
-    ∙ ap (λ (es : List Entry). set es i (record x { inferiors = n })) view
-    ∙ ap (λ (d : Entry). set now i (record d { inferiors = n })) entry
+-- the slot that the order names is there, and has the entry that is seen
+module _ {slots : List Entry} {order : List ℕ} (l : IsListed slots order) (now : List Entry)
+    (view : listed slots order ≡ now) (i : ℕ) (within : i < length now) (p : ℕ) (is_p : p ≡ get_or order i p) where
+  pub order_within : i < length order
+  order_within = (let m = length_listed slots order in let v : length (listed slots order) ≡ length now =
+      ap length view in omega arith)
+
+  place_is : p ≡ get_or order i 0
+  place_is = get_or_read order i p order_within is_p 0
+
+  pub slot_within : p < length slots
+  slot_within = (let w : get_or order i 0 < 4097 = l.within i order_within in let m : length slots ≡ 4097 =
+      l.size in let is = place_is in omega arith)
+
+  pub slot_is : (x : Entry) → x ≡ get_or slots p x → x ≡ entry_at now i
+  slot_is x is_x = get_or_read slots p x slot_within is_x no_entry ∙ ap (entry_at slots) place_is
+      ∙ sym (listed_at slots order i order_within) ∙ ap (λ (es : List Entry). entry_at es i) view
+
+  -- how many nodes lie in that of an entry, set
+  pub inferiors_set : (x : Entry) → x ≡ get_or slots p x → (n : ℕ)
+      → listed (set slots p (record x { inferiors = n })) order
+      ≡ set now i (record (entry_at now i) { inferiors = n })
+  inferiors_set x is_x n =
+      let here : x ≡ entry_at slots p = get_or_read slots p x slot_within is_x no_entry in
+      ap (λ q. listed (set slots q (record x { inferiors = n })) order) place_is
+      ∙ set_listed l i order_within (record x { inferiors = n })
+      (ap (λ (d : Entry). d.place) (here ∙ ap (entry_at slots) place_is) ∙ l.places i order_within)
+      ∙ ap (λ (es : List Entry). set es i (record x { inferiors = n })) view
+      ∙ ap (λ (d : Entry). set now i (record d { inferiors = n })) (slot_is x is_x)
 
 -- one entry more, in a place that no other has
 module _ {slots : List Entry} {order : List ℕ} (l : IsListed slots order) (e : Entry) (room : e.place < 4097)
