@@ -6,6 +6,7 @@ use book::{Book, entry_text};
 use book_check::{CheckFault, Rule, check_book};
 use flat_store::FlatStore;
 use listing::{listing_text, summary, summary_text};
+use no_memory::NoMemory;
 use script::script_text;
 use std::alloc::{AllocError, Global};
 
@@ -16,29 +17,34 @@ const MOST: usize = 134_217_728;
 /// summary.
 const ENDINGS: [Rule; 3] = [Rule::Incomplete, Rule::ZeroPage, Rule::WrongSum];
 
+/// Appends some text.
+fn push(text: &mut Vec<u8>, more: &str) -> Result<(), AllocError> {
+    Ok(text.extend_from_slice(more.as_bytes())?)
+}
+
 /// A script, a line `book`, and every entry of its book.
-fn entries_text(alloc: Global, book: &Book) -> Result<Vec<u8>, AllocError> {
-    let mut text = script_text(alloc, book.script()).map_err(|_| AllocError)?;
-    text.extend_from_slice(b"book\n")?;
+fn entries_text(alloc: Global, book: &Book) -> Result<Vec<u8>, NoMemory> {
+    let mut text = script_text(alloc, book.script())?;
+    push(&mut text, "book\n")?;
     for entry in book.entries() {
-        let line = entry_text(alloc, *entry).map_err(|_| AllocError)?;
-        text.extend_from_slice(line.as_bytes())?;
-        text.push(b'\n')?;
+        let line = entry_text(alloc, *entry)?;
+        push(&mut text, &line)?;
+        push(&mut text, "\n")?;
     }
     Ok(text)
 }
 
 /// A book with its script and its summary, as the judge of listings reads it.
-fn whole_text(alloc: Global, book: &Book, store: &FlatStore) -> Result<Vec<u8>, AllocError> {
+fn whole_text(alloc: Global, book: &Book, store: &FlatStore) -> Result<Vec<u8>, NoMemory> {
     let mut text = entries_text(alloc, book)?;
-    let summary = summary(alloc, book.script(), store).map_err(|_| AllocError)?;
-    let lines = summary_text(alloc, &summary).map_err(|_| AllocError)?;
-    text.extend_from_slice(lines.as_bytes())?;
+    let summary = summary(alloc, book.script(), store)?;
+    let lines = summary_text(alloc, &summary)?;
+    push(&mut text, &lines)?;
     Ok(text)
 }
 
 /// Whether both judges accept a text, or refuse it only by one of some rules.
-fn is_accepted(alloc: Global, text: &[u8], but: &[Rule]) -> Result<bool, AllocError> {
+fn is_accepted(alloc: Global, text: &[u8], but: &[Rule]) -> Result<bool, NoMemory> {
     if text.len() > MOST {
         return Ok(false);
     }
@@ -46,12 +52,12 @@ fn is_accepted(alloc: Global, text: &[u8], but: &[Rule]) -> Result<bool, AllocEr
         Ok(_) => Ok(true),
         Err(CheckFault::Refused(offence)) => Ok(but.iter().any(|rule| *rule == offence.rule)),
         Err(CheckFault::Script(_)) => Ok(false),
-        Err(CheckFault::Memory) => Err(AllocError),
+        Err(CheckFault::Memory) => Err(NoMemory),
     }
 }
 
 /// Whether each entry of a book may stand at its place, whatever a listing must have beyond its entries.
-pub(crate) fn may_stand(alloc: Global, book: &Book) -> Result<bool, AllocError> {
+pub(crate) fn may_stand(alloc: Global, book: &Book) -> Result<bool, NoMemory> {
     let text = entries_text(alloc, book)?;
     is_accepted(alloc, &text, &ENDINGS)
 }
@@ -63,14 +69,14 @@ pub(crate) fn verdict(
     book: &Book,
     store: &FlatStore,
     written: &[u8],
-) -> Result<&'static str, AllocError>
+) -> Result<&'static str, NoMemory>
     requires { IsLegal book.now.script book.now.entries }
 {
     let text = whole_text(alloc, book, store)?;
     if !is_accepted(alloc, &text, &[])? {
         return Ok("refused");
     }
-    let listing = listing_text(alloc, book).map_err(|_| AllocError)?;
+    let listing = listing_text(alloc, book)?;
     if listing.as_slice() == written {
         Ok("accepted and listed")
     } else {

@@ -7,13 +7,14 @@
 //! - `only WORDS` prints but the lines that begin with one of the words;
 //! - `words U.OFF ..` prints the words at these places of the segments of these uids, by the flat store after the book;
 //! - `calls` prints how often the first volume's disk was read and written;
-//! - `unread` has a source that fails as soon as it is read;
+//! - `reads N M` reads in pieces of N bytes, and the Mth read fails; `unread` has the first read fail;
+//! - `room N M` has room for N bytes that are written, and the Mth write fails, or none where M is 0;
 //! - `times N` runs the program N times, and each run must give the same.
 //!
-//! Without `times` the program runs with the input in one piece, in pieces of 1 byte and in pieces of 7. Behind what a
-//! run wrote stands what is told of its book: the pages that the root is charged for, which `times` leaves out, and
-//! `accepted and listed` where the flat store and custody accept each entry, each process has ended, no stored page is
-//! all zeros, and the text is the listing of the book.
+//! Without `times` and `reads` the program runs with the input in one piece, in pieces of 1 byte and in pieces of 7.
+//! Behind what a run wrote stands what is told of its book: the pages that the root is charged for, which `times` leaves
+//! out, and `accepted and listed` where the flat store and custody accept each entry, each process has ended, no stored
+//! page is all zeros, and the text is the listing of the book.
 
 mod answers;
 mod asking;

@@ -15,7 +15,7 @@ mod turns;
 use booting::Stuck;
 use case::Case;
 use instructions::Instruction;
-use std::alloc::AllocError;
+use no_memory::NoMemory;
 use std::sync::Wait;
 use std::thread::Threads;
 
@@ -26,7 +26,7 @@ fn line_text<'a, R: Threads + Wait + Sync + AllocGlobal>(
     line: &'a str,
 ) -> Result<String, Stuck> {
     let printed = case.follow(rt, Instruction::by(line)?)?;
-    format!(in rt.alloc(); "> {line}\n{printed}").map_err(|_| Stuck)
+    Ok(format!(in rt.alloc(); "> {line}\n{printed}")?)
 }
 
 /// What the lines of a case give.
@@ -38,7 +38,7 @@ fn lines_text<'a, R: Threads + Wait + Sync + AllocGlobal>(
     let mut text = String::new(rt.alloc());
     for line in lines.lines().filter(|line| !line.is_empty()) {
         let given = line_text(rt, case, line)?;
-        text.push_str(&given).map_err(|_| Stuck)?;
+        text.push_str(&given)?;
     }
     Ok(text)
 }
@@ -58,9 +58,9 @@ pub(crate) fn given<R: Threads + Wait + Sync + AllocGlobal>(
     rt: &R,
     script: &str,
     lines: &str,
-) -> Result<String, AllocError> {
+) -> Result<String, NoMemory> {
     match case_text(rt, script, lines) {
         Ok(printed) => Ok(printed),
-        Err(Stuck) => String::from_str(rt.alloc(), "the case can't go on\n"),
+        Err(Stuck) => Ok(String::from_str(rt.alloc(), "the case can't go on\n")?),
     }
 }

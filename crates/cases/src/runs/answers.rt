@@ -2,6 +2,7 @@ ghost use Rattle.std.specs.Prelude.{◌≤◌};
 
 use crate::runs::asking::Asked;
 use crate::runs::books::book_text;
+use no_memory::NoMemory;
 use runner::{Finished, Status, Words, multics};
 use site_io::{MemorySink, MemorySource, NoGate};
 use std::alloc::{AllocError, Global};
@@ -23,25 +24,30 @@ fn ending(status: Status) -> &'static str {
     }
 }
 
-/// A source of some bytes in pieces of this size, which may fail as soon as it is read.
+/// A list of one number.
+fn just(alloc: Global, number: u32) -> Result<Vec<u64>, AllocError> {
+    Ok(vec![in alloc; u64::from(number)]?)
+}
+
+/// A source of some bytes in pieces of this size, of which the read with a number fails.
 fn source_of(
     alloc: Global,
     bytes: &[u8],
     piece: usize,
-    unread: bool,
-) -> Result<MemorySource, AllocError>
+    failing: u32,
+) -> Result<MemorySource, NoMemory>
     requires { 1 ≤ piece }
 {
-    let mut fails = Vec::new(alloc);
-    if unread {
-        fails.push(1)?;
-    }
-    Ok(MemorySource::new(bytes.to_vec(alloc)?, piece, fails))
+    Ok(MemorySource::new(bytes.to_vec(alloc)?, piece, just(alloc, failing)?))
 }
 
-/// A sink for all that the program writes.
-fn wide_sink(alloc: Global) -> Result<MemorySink, AllocError> {
-    MemorySink::new(alloc, 65536, Vec::new(alloc)).map_err(|_| AllocError)
+/// A sink with the room that is asked for, of which the write with a number fails.
+fn sink_of(alloc: Global, asked: &Asked) -> Result<MemorySink, NoMemory> {
+    Ok(MemorySink::new(
+        alloc,
+        asked.room as usize,
+        just(alloc, asked.failing_write)?,
+    )?)
 }
 
 /// How a call ended, the lines that it wrote, and what is told of its book.
@@ -50,11 +56,11 @@ fn told(
     asked: &Asked,
     finished: &Finished,
     written: &[u8],
-) -> Result<String, AllocError> {
+) -> Result<String, NoMemory> {
     let ending = ending(finished.status);
     let lines = asked.lines_of(alloc, str::from_utf8(written).unwrap_or("no text\n"))?;
     let book = book_text(alloc, asked, finished, written)?;
-    format!(in alloc; "{ending}\n{lines}{book}")
+    Ok(format!(in alloc; "{ending}\n{lines}{book}")?)
 }
 
 /// Calls the program once, and tells of it.
@@ -64,7 +70,7 @@ fn call_text<R: Threads + Wait + Sync + AllocGlobal>(
     words: Words,
     source: &mut MemorySource,
     sink: &mut MemorySink,
-) -> Result<String, AllocError> {
+) -> Result<String, NoMemory> {
     let finished = multics(rt, rt.alloc(), words, source, sink, &NoGate);
     told(rt.alloc(), asked, &finished, sink.bytes())
 }
@@ -76,12 +82,12 @@ pub(crate) fn answer_text<R: Threads + Wait + Sync + AllocGlobal>(
     asked: &Asked,
     input: &[u8],
     piece: usize,
-) -> Result<String, AllocError>
+) -> Result<String, NoMemory>
     requires { 1 ≤ piece }
 {
     let alloc = rt.alloc();
     let words = asked.words(alloc)?;
-    let mut source = source_of(alloc, input, piece, asked.unread)?;
-    let mut sink = wide_sink(alloc)?;
+    let mut source = source_of(alloc, input, piece, asked.failing_read)?;
+    let mut sink = sink_of(alloc, asked)?;
     call_text(rt, asked, words, &mut source, &mut sink)
 }

@@ -1,7 +1,18 @@
 ghost use Rattle.std.specs.Prelude.{◌≤◌};
 
+use crate::first_word;
+use no_memory::NoMemory;
 use runner::Words;
 use std::alloc::{AllocError, Global};
+
+/// How many bytes are read in one piece, and may be written, where nothing else is asked.
+const WIDE: u32 = 65536;
+
+/// Two numbers with a space between.
+fn two_numbers(text: &str) -> (u32, u32) {
+    let (first, second) = first_word(text);
+    (first.parse().unwrap_or(0), second.parse().unwrap_or(0))
+}
 
 /// What a case asks.
 #[derive(Clone, Copy)]
@@ -14,8 +25,14 @@ pub(crate) struct Asked<'a> {
     pub(crate) places: &'a str,
     /// Whether it is told how often the first volume's disk was asked.
     pub(crate) calls: bool,
-    /// Whether the source fails as soon as it is read.
-    pub(crate) unread: bool,
+    /// Of how many bytes the pieces are in which the input is read; 0 for pieces of each size.
+    pieces: u32,
+    /// The number of the read that fails, counted from 1; 0 for none.
+    pub(crate) failing_read: u32,
+    /// How many bytes may be written.
+    pub(crate) room: u32,
+    /// The number of the write that fails; 0 for none.
+    pub(crate) failing_write: u32,
     /// How often the program runs on the input, all of it in one piece; 0 for once in pieces of each size.
     pub(crate) times: u32,
 }
@@ -29,7 +46,10 @@ impl<'a> Asked<'a> {
             only: "",
             places: "",
             calls: false,
-            unread: false,
+            pieces: 0,
+            failing_read: 0,
+            room: WIDE,
+            failing_write: 0,
             times: 0,
         };
         for option in rest.split(';') {
@@ -40,12 +60,14 @@ impl<'a> Asked<'a> {
 
     /// Takes one more of the options of a line.
     fn take(&mut self, option: &'a str) {
-        let (name, rest) = option.split_once(' ').unwrap_or((option, ""));
+        let (name, rest) = first_word(option);
         match name {
             "only" => self.only = rest,
             "words" => self.places = rest,
             "calls" => self.calls = true,
-            "unread" => self.unread = true,
+            "unread" => self.failing_read = 1,
+            "reads" => (self.pieces, self.failing_read) = two_numbers(rest),
+            "room" => (self.room, self.failing_write) = two_numbers(rest),
             "times" => self.times = rest.parse().unwrap_or(0),
             _ => (),
         }
@@ -61,9 +83,10 @@ impl<'a> Asked<'a> {
         ensures { 1 ≤ result }
     {
         match run {
+            _ if self.pieces > 0 => self.pieces as usize,
             1 if self.times == 0 => 1,
             2 if self.times == 0 => 7,
-            _ => 65536,
+            _ => WIDE as usize,
         }
     }
 
@@ -77,9 +100,9 @@ impl<'a> Asked<'a> {
     }
 
     /// The lines of a text that are to be printed.
-    pub(crate) fn lines_of(&self, alloc: Global, text: &str) -> Result<String, AllocError> {
+    pub(crate) fn lines_of(&self, alloc: Global, text: &str) -> Result<String, NoMemory> {
         if self.only.is_empty() {
-            return String::from_str(alloc, text);
+            return Ok(String::from_str(alloc, text)?);
         }
         let mut lines = String::new(alloc);
         for line in text.lines().filter(|line| self.is_printed(line)) {

@@ -6,9 +6,10 @@ use crate::judging::verdict;
 use crate::runs::asking::Asked;
 use book::Book;
 use bulk_store::AnyDrive;
-use flat_store::{FlatStore, NoMemory};
+use flat_store::FlatStore;
+use no_memory::NoMemory;
 use runner::Finished;
-use std::alloc::{AllocError, Global};
+use std::alloc::Global;
 use volumes::Volumes;
 
 /// How many pages the root is charged for after each entry of a book was allowed by the flat store and followed. None
@@ -27,26 +28,26 @@ fn followed(alloc: Global, book: &Book) -> Result<Option<u32>, NoMemory> {
 
 /// How many pages the root is charged for, by the flat store that allows and follows each entry of the book, and by the
 /// flat store after the book.
-fn root_line(alloc: Global, book: &Book, store: &FlatStore) -> Result<String, AllocError> {
+fn root_line(alloc: Global, book: &Book, store: &FlatStore) -> Result<String, NoMemory> {
     let after = store.used(1);
-    match followed(alloc, book).map_err(|_| AllocError)? {
-        Some(used) => format!(in alloc; "followed: {used}, after: {after}\n"),
-        None => String::from_str(alloc, "not allowed\n"),
+    match followed(alloc, book)? {
+        Some(used) => Ok(format!(in alloc; "followed: {used}, after: {after}\n")?),
+        None => Ok(String::from_str(alloc, "not allowed\n")?),
     }
 }
 
 /// The word at a place of a segment, which is a uid and an offset with a dot between.
-fn word_line(alloc: Global, store: &FlatStore, place: &str) -> Result<String, AllocError> {
+fn word_line(alloc: Global, store: &FlatStore, place: &str) -> Result<String, NoMemory> {
     let (uid, offset) = place.split_once('.').unwrap_or((place, ""));
     let (Ok(uid), Ok(offset)) = (uid.parse(), offset.parse()) else {
-        return format!(in alloc; "word {place}: no place\n");
+        return Ok(format!(in alloc; "word {place}: no place\n")?);
     };
     let word = store.word(uid, offset);
-    format!(in alloc; "word {place} = {word}\n")
+    Ok(format!(in alloc; "word {place} = {word}\n")?)
 }
 
 /// The words at the places that are asked for.
-fn words_text(alloc: Global, store: &FlatStore, places: &str) -> Result<String, AllocError> {
+fn words_text(alloc: Global, store: &FlatStore, places: &str) -> Result<String, NoMemory> {
     let mut text = String::new(alloc);
     for place in places.split(' ').filter(|place| !place.is_empty()) {
         let line = word_line(alloc, store, place)?;
@@ -57,17 +58,17 @@ fn words_text(alloc: Global, store: &FlatStore, places: &str) -> Result<String, 
 
 /// What is told of a book: where the program runs once, the pages that the root is charged for; the words that are
 /// asked for; and what the judges say of it, and of what was written.
-fn told_of(alloc: Global, asked: &Asked, book: &Book, written: &[u8]) -> Result<String, AllocError>
+fn told_of(alloc: Global, asked: &Asked, book: &Book, written: &[u8]) -> Result<String, NoMemory>
     requires { IsLegal book.now.script book.now.entries }
 {
-    let store = FlatStore::after(alloc, book).map_err(|_| AllocError)?;
+    let store = FlatStore::after(alloc, book)?;
     let root = match asked.times {
         0 => root_line(alloc, book, &store)?,
         _ => String::new(alloc),
     };
     let words = words_text(alloc, &store, asked.places)?;
     let verdict = verdict(alloc, book, &store, written)?;
-    format!(in alloc; "{root}{words}{verdict}\n")
+    Ok(format!(in alloc; "{root}{words}{verdict}\n")?)
 }
 
 /// How often the first volume's disk was read and written, where that is asked for.
@@ -75,12 +76,12 @@ fn calls_line(
     alloc: Global,
     asked: &Asked,
     volumes: &Volumes<AnyDrive>,
-) -> Result<String, AllocError> {
+) -> Result<String, NoMemory> {
     if !asked.calls || volumes.count() == 0 {
         return Ok(String::new(alloc));
     }
     let (reads, writes) = volumes.drive(0).calls();
-    format!(in alloc; "reads {reads}, writes {writes}\n")
+    Ok(format!(in alloc; "reads {reads}, writes {writes}\n")?)
 }
 
 /// What is told of the book and the disk of a run, whose listing is what was written. Empty where no machine booted.
@@ -89,12 +90,12 @@ pub(crate) fn book_text(
     asked: &Asked,
     finished: &Finished,
     written: &[u8],
-) -> Result<String, AllocError> {
+) -> Result<String, NoMemory> {
     match &finished.machine {
         Some(machine) => {
             let calls = calls_line(alloc, asked, machine.volumes())?;
             let told = told_of(alloc, asked, machine.book(), written)?;
-            format!(in alloc; "{calls}{told}")
+            Ok(format!(in alloc; "{calls}{told}")?)
         }
         None => Ok(String::new(alloc)),
     }

@@ -1,7 +1,8 @@
 use crate::first_line;
 use crate::runs::answers::answer_text;
 use crate::runs::asking::Asked;
-use std::alloc::{AllocError, Global};
+use no_memory::NoMemory;
+use std::alloc::Global;
 use std::sync::Wait;
 use std::thread::Threads;
 
@@ -10,20 +11,20 @@ fn answers<R: Threads + Wait + Sync + AllocGlobal>(
     rt: &R,
     asked: &Asked,
     input: &str,
-) -> Result<String, AllocError> {
+) -> Result<String, NoMemory> {
     let first = answer_text(rt, asked, input.as_bytes(), asked.piece(0))?;
     for run in 1..asked.runs() {
         let other = answer_text(rt, asked, input.as_bytes(), asked.piece(run))?;
         if other != first {
-            return format!(in rt.alloc(); "{first}after {run} runs: {other}");
+            return Ok(format!(in rt.alloc(); "{first}after {run} runs: {other}")?);
         }
     }
     Ok(first)
 }
 
 /// The lines that all cases of a group begin with, and those of one.
-fn joined(alloc: Global, front: &str, lines: &str) -> Result<String, AllocError> {
-    format!(in alloc; "{front}\n{lines}")
+fn joined(alloc: Global, front: &str, lines: &str) -> Result<String, NoMemory> {
+    Ok(format!(in alloc; "{front}\n{lines}")?)
 }
 
 /// The name of each case of a group, and what it gives.
@@ -32,7 +33,7 @@ fn group_text<R: Threads + Wait + Sync + AllocGlobal>(
     asked: &Asked,
     front: &str,
     parts: &str,
-) -> Result<String, AllocError> {
+) -> Result<String, NoMemory> {
     let mut text = String::new(rt.alloc());
     for part in parts.split("\n-- ") {
         let (name, lines) = first_line(part);
@@ -47,7 +48,7 @@ fn group_text<R: Threads + Wait + Sync + AllocGlobal>(
 pub(crate) fn given<R: Threads + Wait + Sync + AllocGlobal>(
     rt: &R,
     case: &str,
-) -> Result<String, AllocError> {
+) -> Result<String, NoMemory> {
     let (line, input) = first_line(case);
     let asked = Asked::by(line);
     match input.split_once("\n-- ") {

@@ -29,7 +29,7 @@ pub(crate) struct Case<'a> {
 
 /// A step of a processor, if there is one of this number.
 pub(crate) fn step(machine: &mut Machine<AnyDrive>, processor: u32) -> Result<Turn, Stuck> {
-    machine.reserve().map_err(|_| Stuck)?;
+    machine.reserve()?;
     if processor < machine.book().script().processors() {
         Ok(machine.step(processor))
     } else {
@@ -101,7 +101,7 @@ impl<'a> Case<'a> {
         let turn = step(&mut self.machine, processor)?;
         let mut printed = self.entries_from(alloc, before)?;
         let answer = turn_text(alloc, turn)?;
-        write!(printed, "= {answer}\n").map_err(|_| Stuck)?;
+        write!(printed, "= {answer}\n")?;
         Ok(printed)
     }
 
@@ -121,7 +121,7 @@ impl<'a> Case<'a> {
             }
             self.help(turn, other)?;
         }
-        String::from_str(alloc, "never seen\n").map_err(|_| Stuck)
+        Ok(String::from_str(alloc, "never seen\n")?)
     }
 
     /// Whether the last entry of a step that moved begins with a text, or the answer is this text.
@@ -132,7 +132,7 @@ impl<'a> Case<'a> {
         }
         match self.machine.book().entries().last() {
             Some(entry) => {
-                let line = entry_text(alloc, *entry).map_err(|_| Stuck)?;
+                let line = entry_text(alloc, *entry)?;
                 Ok(line.starts_with(text))
             }
             None => Ok(false),
@@ -157,9 +157,9 @@ impl<'a> Case<'a> {
             return Ok(printed);
         }
         for entry in self.machine.book().entries().iter().skip(place) {
-            let line = entry_text(alloc, *entry).map_err(|_| Stuck)?;
+            let line = entry_text(alloc, *entry)?;
             if self.is_printed(&line) {
-                write!(printed, "{line}\n").map_err(|_| Stuck)?;
+                write!(printed, "{line}\n")?;
             }
         }
         Ok(printed)
@@ -181,7 +181,7 @@ impl<'a> Case<'a> {
         } else {
             "none moved"
         };
-        write!(printed, "= {answer}\n").map_err(|_| Stuck)?;
+        write!(printed, "= {answer}\n")?;
         Ok(printed)
     }
 
@@ -189,19 +189,19 @@ impl<'a> Case<'a> {
     fn count(&self, alloc: Global, text: &str) -> Result<String, Stuck> {
         let mut count: usize = 0;
         for entry in self.machine.book().entries() {
-            let line = entry_text(alloc, *entry).map_err(|_| Stuck)?;
+            let line = entry_text(alloc, *entry)?;
             if line.as_str() == text {
                 count = count.saturating_add(1);
             }
         }
-        format!(in alloc; "= {count}\n").map_err(|_| Stuck)
+        Ok(format!(in alloc; "= {count}\n")?)
     }
 
     /// What each process was answered, a line for each.
     fn replies(&self, alloc: Global) -> Result<String, Stuck> {
         let mut printed = String::new(alloc);
         for process in 0..self.machine.book().script().processes() {
-            write!(printed, "process {process}").map_err(|_| Stuck)?;
+            write!(printed, "process {process}")?;
             for entry in self.machine.book().entries() {
                 match entry {
                     Entry::Do {
@@ -209,23 +209,23 @@ impl<'a> Case<'a> {
                         reply,
                         ..
                     } if *its == process => {
-                        write!(printed, ", {reply}").map_err(|_| Stuck)?;
+                        write!(printed, ", {reply}")?;
                     }
                     _ => (),
                 }
             }
-            printed.push('\n').map_err(|_| Stuck)?;
+            printed.push('\n')?;
         }
         Ok(printed)
     }
 
     /// What the judges say of the book.
     fn judged(&self, alloc: Global) -> Result<String, Stuck> {
-        let text = if may_stand(alloc, self.machine.book()).map_err(|_| Stuck)? {
+        let text = if may_stand(alloc, self.machine.book())? {
             String::from_str(alloc, "= each entry may stand\n")
         } else {
             String::from_str(alloc, "= an entry may not stand\n")
         };
-        text.map_err(|_| Stuck)
+        Ok(text?)
     }
 }

@@ -13,7 +13,7 @@ pub(crate) fn finish(machine: &mut Machine<AnyDrive>) -> Result<(), Stuck> {
     if machine.stopped() {
         return Err(Stuck);
     }
-    machine.finish().map_err(|_| Stuck)
+    Ok(machine.finish()?)
 }
 
 /// So many steps of a processor, and how many of them moved.
@@ -30,12 +30,12 @@ pub(crate) fn run_times(
     for _step in 0..times {
         cpus.push(processor).map_err(|_| Stuck)?;
     }
-    machine.run_schedule(cpus.as_slice()).map_err(|_| Stuck)
+    Ok(machine.run_schedule(cpus.as_slice())?)
 }
 
 /// Visits the next frame, and whether there was one.
 fn visit(machine: &mut Machine<AnyDrive>) -> Result<bool, Stuck> {
-    machine.reserve().map_err(|_| Stuck)?;
+    machine.reserve()?;
     if machine.ended() {
         Ok(machine.shutdown_step())
     } else {
@@ -59,7 +59,7 @@ pub(crate) fn calls(alloc: Global, machine: &Machine<AnyDrive>) -> Result<String
     let mut printed = String::new(alloc);
     for volume in 0..volumes.count() {
         let (reads, writes) = volumes.drive(volume).calls();
-        write!(printed, "volume {volume}: {reads} reads, {writes} writes\n").map_err(|_| Stuck)?;
+        write!(printed, "volume {volume}: {reads} reads, {writes} writes\n")?;
     }
     Ok(printed)
 }

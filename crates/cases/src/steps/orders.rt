@@ -35,7 +35,7 @@ fn draw_steps(machine: &mut Machine<AnyDrive>, seed: u32) -> Result<(), Stuck> {
 fn stands_after(alloc: Global, script: &str, seed: u32) -> Result<bool, Stuck> {
     let mut machine = booted(alloc, script)?;
     draw_steps(&mut machine, seed)?;
-    may_stand(alloc, machine.book()).map_err(|_| Stuck)
+    Ok(may_stand(alloc, machine.book())?)
 }
 
 /// Machines of a script, each with steps of processors drawn by chance, and how many of their books may stand.
@@ -46,7 +46,7 @@ pub(crate) fn lists(alloc: Global, script: &str, count: u32) -> Result<String, S
             standing = standing.saturating_add(1);
         }
     }
-    format!(in alloc; "= {standing} may stand\n").map_err(|_| Stuck)
+    Ok(format!(in alloc; "= {standing} may stand\n")?)
 }
 
 /// A step of each processor in turn, and whether all processes had ended before the last one.
@@ -71,7 +71,7 @@ pub(crate) fn rounds(machine: &mut Machine<AnyDrive>) -> Result<(), Stuck> {
 /// Whether all processes of a machine have ended and its book may stand.
 fn is_over(alloc: Global, machine: &mut Machine<AnyDrive>) -> Result<bool, Stuck> {
     let ended = step(machine, 0)? == Turn::Ended;
-    Ok(ended && may_stand(alloc, machine.book()).map_err(|_| Stuck)?)
+    Ok(ended && may_stand(alloc, machine.book())?)
 }
 
 /// Whether all processes of a machine have ended, and its book may stand, after its workers have made their steps.
@@ -96,5 +96,5 @@ pub(crate) fn workers<R: Threads + Wait + Sync + AllocGlobal>(
             standing = standing.saturating_add(1);
         }
     }
-    format!(in rt.alloc(); "= {standing} have ended and may stand\n").map_err(|_| Stuck)
+    Ok(format!(in rt.alloc(); "= {standing} have ended and may stand\n")?)
 }

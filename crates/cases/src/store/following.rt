@@ -2,8 +2,9 @@ use crate::store::asking::asked_text;
 use book::{Entry, Reply, read_entry};
 use flat_store::FlatStore;
 use mword::Word;
+use no_memory::NoMemory;
 use script::Script;
-use std::alloc::{AllocError, Global};
+use std::alloc::Global;
 
 /// Replies of which an entry has at most one.
 const REPLIES: [Reply; 15] = [
@@ -54,18 +55,14 @@ fn refuses_others(store: &FlatStore, script: &Script, entry: &Entry) -> bool {
 }
 
 /// Follows an entry that is lawful, with this reply alone; what is wrong with another is the answer.
-fn follow(
-    store: &mut FlatStore,
-    script: &Script,
-    entry: Entry,
-) -> Result<&'static str, AllocError> {
+fn follow(store: &mut FlatStore, script: &Script, entry: Entry) -> Result<&'static str, NoMemory> {
     if !store.allows(script, entry) {
         return Ok(": not lawful\n");
     }
     if !refuses_others(store, script, &entry) {
         return Ok(": lawful with another reply\n");
     }
-    store.follow(script, entry).map_err(|_| AllocError)?;
+    store.follow(script, entry)?;
     Ok("")
 }
 
@@ -76,7 +73,7 @@ fn push_done(
     script: &Script,
     store: &mut FlatStore,
     line: &str,
-) -> Result<(), AllocError> {
+) -> Result<(), NoMemory> {
     match read_entry(line.as_bytes()) {
         Some(entry) => {
             let wrong = follow(store, script, entry)?;
@@ -90,8 +87,8 @@ fn push_done(
 }
 
 /// What the lines below a script print.
-pub(crate) fn done_text(alloc: Global, script: &Script, lines: &str) -> Result<String, AllocError> {
-    let mut store = FlatStore::boot(alloc, script).map_err(|_| AllocError)?;
+pub(crate) fn done_text(alloc: Global, script: &Script, lines: &str) -> Result<String, NoMemory> {
+    let mut store = FlatStore::boot(alloc, script)?;
     let mut text = String::new(alloc);
     for line in lines.lines() {
         push_done(&mut text, alloc, script, &mut store, line)?;

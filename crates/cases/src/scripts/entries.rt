@@ -1,20 +1,21 @@
-use crate::scripts::outcomes::{bracketed, joined};
+use crate::texts::{bracketed, joined};
 use book::{entry_text, read_entry};
-use std::alloc::{AllocError, Global};
+use no_memory::NoMemory;
+use std::alloc::Global;
 
 /// The text of the entry that a text is, which must be that text again.
-fn read_text(alloc: Global, text: &str) -> Result<String, AllocError> {
+fn read_text(alloc: Global, text: &str) -> Result<String, NoMemory> {
     match read_entry(text.as_bytes()) {
-        Some(entry) => entry_text(alloc, entry).map_err(|_| AllocError),
-        None => String::from_str(alloc, "none"),
+        Some(entry) => entry_text(alloc, entry),
+        None => Ok(String::from_str(alloc, "none")?),
     }
 }
 
 /// The text of the entry that each line in brackets is.
-pub(crate) fn entries_text(alloc: Global, text: &str) -> Result<String, AllocError> {
+pub(crate) fn entries_text(alloc: Global, text: &str) -> Result<String, NoMemory> {
     let mut given = String::new(alloc);
     for case in text.lines().filter_map(bracketed) {
-        let line = joined(alloc, "", case)?;
+        let line = joined(alloc, "", case, '/')?;
         let entry = read_text(alloc, line.as_str())?;
         write!(given, "[{case}] {entry}\n")?;
     }

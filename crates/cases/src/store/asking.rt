@@ -1,8 +1,9 @@
 use book::read_entry;
 use flat_store::FlatStore;
-use listing::{NoMemory, summary, summary_text};
+use listing::{summary, summary_text};
+use no_memory::NoMemory;
 use script::Script;
-use std::alloc::{AllocError, Global};
+use std::alloc::Global;
 
 /// The root, which has the least uid.
 const ROOT: u32 = 1;
@@ -13,17 +14,17 @@ fn may_text(
     script: &Script,
     store: &FlatStore,
     line: &str,
-) -> Result<String, AllocError> {
+) -> Result<String, NoMemory> {
     let answer = match read_entry(line.as_bytes()) {
         Some(entry) if store.allows(script, entry) => "lawful",
         Some(_) => "not lawful",
         None => "no entry",
     };
-    format!(in alloc; "{line}: {answer}\n")
+    Ok(format!(in alloc; "{line}: {answer}\n")?)
 }
 
 /// How many pages each account is charged for that is charged.
-fn used_text(alloc: Global, store: &FlatStore) -> Result<String, AllocError> {
+fn used_text(alloc: Global, store: &FlatStore) -> Result<String, NoMemory> {
     let mut text = String::new(alloc);
     for uid in ROOT..store.accounts().next_uid() {
         let used = store.used(uid);
@@ -35,23 +36,23 @@ fn used_text(alloc: Global, store: &FlatStore) -> Result<String, AllocError> {
 }
 
 /// The word at an offset of the segment with a uid.
-fn word_text(alloc: Global, store: &FlatStore, place: &str) -> Result<String, AllocError> {
+fn word_text(alloc: Global, store: &FlatStore, place: &str) -> Result<String, NoMemory> {
     let (uid, offset) = place.split_once(' ').unwrap_or((place, ""));
     let (Ok(uid), Ok(offset)) = (uid.parse(), offset.parse()) else {
-        return format!(in alloc; "word {place}: no place\n");
+        return Ok(format!(in alloc; "word {place}: no place\n")?);
     };
     let word = store.word(uid, offset);
-    format!(in alloc; "word {uid} {offset} {word}\n")
+    Ok(format!(in alloc; "word {uid} {offset} {word}\n")?)
 }
 
 /// How many records and VTOC entries of a volume are in use.
-fn volume_text(alloc: Global, store: &FlatStore, number: &str) -> Result<String, AllocError> {
+fn volume_text(alloc: Global, store: &FlatStore, number: &str) -> Result<String, NoMemory> {
     let Ok(volume) = number.parse() else {
-        return format!(in alloc; "volume {number}: no number\n");
+        return Ok(format!(in alloc; "volume {number}: no number\n")?);
     };
     let taken = store.taken(volume);
     let entries = store.entries(volume);
-    format!(in alloc; "volume {volume} records {taken} entries {entries}\n")
+    Ok(format!(in alloc; "volume {volume} records {taken} entries {entries}\n")?)
 }
 
 /// The accounts and the volumes.
@@ -66,14 +67,14 @@ pub(crate) fn asked_text(
     script: &Script,
     store: &FlatStore,
     line: &str,
-) -> Result<String, AllocError> {
+) -> Result<String, NoMemory> {
     let (ask, rest) = line.split_once(' ').unwrap_or((line, ""));
     match ask {
         "may" => may_text(alloc, script, store, rest),
         "word" => word_text(alloc, store, rest),
         "volume" => volume_text(alloc, store, rest),
         "used" => used_text(alloc, store),
-        "summary" => ends_text(alloc, script, store).map_err(|_| AllocError),
-        _ => format!(in alloc; "{line}: neither an entry nor asked for\n"),
+        "summary" => ends_text(alloc, script, store),
+        _ => Ok(format!(in alloc; "{line}: neither an entry nor asked for\n")?),
     }
 }

@@ -1,0 +1,43 @@
+//! How the lines of a case are read that stand for texts of their own.
+
+use no_memory::NoMemory;
+use script::{Script, ScriptFault, read_script};
+use std::alloc::Global;
+
+/// The most bytes of a script.
+const MOST: usize = 4_194_304;
+
+/// What stands between the brackets of a line, if it has some.
+pub(crate) fn bracketed(line: &str) -> Option<&str> {
+    line.strip_prefix('[')?.strip_suffix(']')
+}
+
+/// A front, and a text after it in which a character stands for a line feed.
+pub(crate) fn joined(
+    alloc: Global,
+    front: &str,
+    text: &str,
+    feed: char,
+) -> Result<String, NoMemory> {
+    let mut joined = String::from_str(alloc, front)?;
+    for c in text.chars() {
+        joined.push(if c == feed { '\n' } else { c })?;
+    }
+    Ok(joined)
+}
+
+/// The script that a text is, or why it is none.
+pub(crate) fn read(alloc: Global, text: &str) -> Result<Script, ScriptFault> {
+    if text.len() > MOST {
+        return Err(ScriptFault::Memory);
+    }
+    read_script(alloc, text.as_bytes())
+}
+
+/// The script that a text is, which must be one.
+pub(crate) fn script_of(alloc: Global, text: &str) -> Result<Script, NoMemory> {
+    match read(alloc, text) {
+        Ok(script) => Ok(script),
+        Err(_) => Err(NoMemory),
+    }
+}
