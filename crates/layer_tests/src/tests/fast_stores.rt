@@ -1,8 +1,11 @@
-use bulk_store::{AnyDrive, BulkStore, CoreBulk, NoMemory};
+use bulk_store::{BulkStore, NoMemory};
 use mword::{Page, Word};
 use std::alloc::Global;
 use std::test::Fail;
 use volumes::{CoreDrive, Drive, FailLine};
+
+/// A fast store before a disk, both in core.
+type Store = BulkStore<CoreDrive, CoreDrive>;
 
 /// A call of a drive: a write of a page whose first word is given to a record, or a read of a record that should have
 /// such a page.
@@ -24,133 +27,123 @@ enum End {
 
 use End::{Done, Failed};
 
+/// The end of a call that was done, or wasn't.
+fn end_if(done: bool) -> End {
+    if done { Done } else { Failed }
+}
+
+/// Writes a page whose first word is this.
+fn end_of_write(store: &mut Store, r: u32, first: u64, page: &mut Page) -> End {
+    page.set(0, Word::new(first).unwrap_or(Word::ZERO));
+    end_if(r < store.size() && store.write_page(r, page).is_ok())
+}
+
+/// Reads a page, whose first word should be this.
+fn end_of_read(store: &mut Store, r: u32, first: u64, page: &mut Page) -> End {
+    let done = r < store.size() && store.read_page(r, page).is_ok();
+    if done && page.get(0).value() != first {
+        return End::OtherPage;
+    }
+    end_if(done)
+}
+
 /// Makes the call.
-fn end_of<D: Drive>(drive: &mut D, call: Call, page: &mut Page) -> End {
+fn end_of(store: &mut Store, call: Call, page: &mut Page) -> End {
     match call {
-        Write(r, first) => {
-            page.set(0, Word::new(first).unwrap_or(Word::ZERO));
-            if r < drive.size() && drive.write_page(r, page).is_ok() {
-                Done
-            } else {
-                Failed
-            }
-        }
-        Read(r, first) => {
-            if r >= drive.size() || drive.read_page(r, page).is_err() {
-                Failed
-            } else if page.get(0).value() == first {
-                Done
-            } else {
-                End::OtherPage
-            }
-        }
+        Write(r, first) => end_of_write(store, r, first, page),
+        Read(r, first) => end_of_read(store, r, first, page),
     }
 }
 
 /// Whether each call ends as told.
-fn end_as_told<D: Drive>(
-    alloc: Global,
-    drive: &mut D,
-    calls: &[(Call, End)],
-) -> Result<bool, NoMemory> {
-    let mut page = Page::zero(alloc).map_err(|_| NoMemory)?;
+fn end_as_told(store: &mut Store, calls: &[(Call, End)], page: &mut Page) -> bool {
     for (call, end) in calls {
-        if end_of(drive, *call, &mut page) != *end {
-            return Ok(false);
+        if end_of(store, *call, page) != *end {
+            return false;
         }
     }
-    Ok(true)
+    true
 }
 
-/// The reads and writes of two drives.
-#[derive(Clone, Copy, PartialEq, Eq)]
-struct Tally {
-    fast_reads: u64,
-    fast_writes: u64,
-    disk_reads: u64,
-    disk_writes: u64,
-}
+/// A line that names no call.
+const NONE: FailLine = FailLine {
+    write: false,
+    number: 0,
+    onward: false,
+};
 
-/// These counts.
-fn counts(fast_reads: u64, fast_writes: u64, disk_reads: u64, disk_writes: u64) -> Tally {
-    Tally {
-        fast_reads,
-        fast_writes,
-        disk_reads,
-        disk_writes,
-    }
-}
-
-/// The counts of the store's drives.
-fn counts_of(store: &BulkStore<CoreDrive, CoreDrive>) -> Tally {
-    let (fast_reads, fast_writes) = store.fast().calls();
-    let (disk_reads, disk_writes) = store.disk().calls();
-    counts(fast_reads, fast_writes, disk_reads, disk_writes)
-}
-
-/// The lines of a drive of which one call fails, or none.
-fn lines(alloc: Global, line: Option<FailLine>) -> Result<Vec<FailLine>, NoMemory> {
-    let mut lines = Vec::new(alloc);
-    if let Some(line) = line {
-        lines.push(line).map_err(|_| NoMemory)?;
-    }
-    Ok(lines)
-}
-
-/// The line that names one read.
-fn nth_read(number: u32) -> Option<FailLine> {
-    Some(FailLine {
-        write: false,
-        number,
-        onward: false,
-    })
-}
+/// The line that names the first read.
+const FIRST_READ: FailLine = FailLine {
+    write: false,
+    number: 1,
+    onward: false,
+};
 
 /// The line that names one write.
-fn nth_write(number: u32) -> Option<FailLine> {
-    Some(FailLine {
+fn nth_write(number: u32) -> FailLine {
+    FailLine {
         write: true,
         number,
         onward: false,
-    })
+    }
 }
 
-/// A store with so many places, at least one, before 16 records, whose drives fail by these lines.
-fn store(
-    alloc: Global,
+/// A store with so many places before 16 records, and the calls of its two drives that fail.
+#[derive(Clone, Copy)]
+struct Plan {
     places: u32,
-    fast: Option<FailLine>,
-    disk: Option<FailLine>,
-) -> Result<BulkStore<CoreDrive, CoreDrive>, NoMemory> {
-    let fast = CoreDrive::new(alloc, places, lines(alloc, fast)?)?;
-    let disk = CoreDrive::new(alloc, 16, lines(alloc, disk)?)?;
+    fast: FailLine,
+    disk: FailLine,
+}
+
+/// A drive of so many records, of which a call may fail.
+fn drive(alloc: Global, records: u32, line: FailLine) -> Result<CoreDrive, NoMemory> {
+    let lines = vec![in alloc; line].map_err(|_| NoMemory)?;
+    Ok(CoreDrive::new(alloc, records, lines)?)
+}
+
+/// The store of a plan with at least one place.
+fn store_of(alloc: Global, plan: Plan) -> Result<Store, NoMemory> {
+    let fast = drive(alloc, plan.places, plan.fast)?;
+    let disk = drive(alloc, 16, plan.disk)?;
     if fast.size() == 0 {
         return Err(NoMemory);
     }
     BulkStore::new(alloc, fast, disk)
 }
 
-/// Whether the calls of a store with no failing lines but one of the disk end as told, with these counts.
+/// The reads and writes of a fast store, and those of its disk.
+type Counts = ((u64, u64), (u64, u64));
+
+/// Whether the calls of the store of a plan end as told, with so many reads and writes of its drives.
 fn runs_as_told(
     alloc: Global,
-    places: u32,
-    disk: Option<FailLine>,
+    plan: Plan,
     calls: &[(Call, End)],
-    wanted: Tally,
+    counts: Counts,
 ) -> Result<bool, NoMemory> {
-    let mut store = store(alloc, places, None, disk)?;
-    Ok(end_as_told(alloc, &mut store, calls)? && counts_of(&store) == wanted)
+    let mut page = Page::zero(alloc).map_err(|_| NoMemory)?;
+    let mut store = store_of(alloc, plan)?;
+    let told = end_as_told(&mut store, calls, &mut page);
+    Ok(told && (store.fast().calls(), store.disk().calls()) == counts)
 }
 
-/// The same with one failing line of the fast store.
-fn runs_as_told_with_failing_fast_store(
-    alloc: Global,
-    fast: Option<FailLine>,
-    calls: &[(Call, End)],
-    wanted: Tally,
-) -> Result<bool, NoMemory> {
-    let mut store = store(alloc, 1, fast, None)?;
-    Ok(end_as_told(alloc, &mut store, calls)? && counts_of(&store) == wanted)
+/// A plan in which no call of the fast store fails.
+fn sure(places: u32, disk: FailLine) -> Plan {
+    Plan {
+        places,
+        fast: NONE,
+        disk,
+    }
+}
+
+/// A plan with one place, in which no call of the disk fails.
+fn single(fast: FailLine) -> Plan {
+    Plan {
+        places: 1,
+        fast,
+        disk: NONE,
+    }
 }
 
 /// What a machine of four frames asks of its drive where six pages are written and the first is read again: the pages
@@ -173,9 +166,13 @@ const SIX_PAGES: [(Call, End); 13] = [
 
 #[test]
 fn the_same_pages_are_read_back_with_any_number_of_places(rt: HostRuntime) -> Result<(), Fail> {
-    assert!(rt; runs_as_told(rt.alloc(), 1, None, &SIX_PAGES, counts(6, 6, 6, 5))?);
-    assert!(rt; runs_as_told(rt.alloc(), 2, None, &SIX_PAGES, counts(6, 6, 5, 4))?);
-    assert!(rt; runs_as_told(rt.alloc(), 8, None, &SIX_PAGES, counts(7, 6, 0, 0))?);
+    for (places, counts) in [
+        (1, ((6, 6), (6, 5))),
+        (2, ((6, 6), (5, 4))),
+        (8, ((7, 6), (0, 0))),
+    ] {
+        assert!(rt; runs_as_told(rt.alloc(), sure(places, NONE), &SIX_PAGES, counts)?);
+    }
     Ok(())
 }
 
@@ -195,12 +192,14 @@ fn five_pages(second: End, third: End) -> [(Call, End); 7] {
 
 #[test]
 fn a_write_fails_where_the_disk_fails_to_take_the_oldest(rt: HostRuntime) -> Result<(), Fail> {
-    let one = five_pages(Failed, Done);
-    assert!(rt; runs_as_told(rt.alloc(), 1, nth_write(1), &one, counts(5, 5, 1, 5))?);
-    let two = five_pages(Done, Failed);
-    assert!(rt; runs_as_told(rt.alloc(), 2, nth_write(1), &two, counts(4, 5, 0, 3))?);
-    let eight = five_pages(Done, Done);
-    assert!(rt; runs_as_told(rt.alloc(), 8, nth_write(1), &eight, counts(1, 6, 0, 0))?);
+    for (places, second, third, counts) in [
+        (1, Failed, Done, ((5, 5), (1, 5))),
+        (2, Done, Failed, ((4, 5), (0, 3))),
+        (8, Done, Done, ((1, 6), (0, 0))),
+    ] {
+        let plan = sure(places, nth_write(1));
+        assert!(rt; runs_as_told(rt.alloc(), plan, &five_pages(second, third), counts)?);
+    }
     Ok(())
 }
 
@@ -222,73 +221,16 @@ const OLDEST_STAYS: [(Call, End); 4] = [
     (Read(1, 0), Done),
 ];
 
-#[test]
-fn no_page_is_lost_where_the_fast_store_fails(rt: HostRuntime) -> Result<(), Fail> {
-    let out = counts(2, 3, 2, 1);
-    assert!(rt; runs_as_told_with_failing_fast_store(rt.alloc(), nth_write(2), &OLDEST_OUT, out)?);
-    let stays = counts(2, 1, 1, 0);
-    assert!(rt;
-        runs_as_told_with_failing_fast_store(rt.alloc(), nth_read(1), &OLDEST_STAYS, stays)?
-    );
-    Ok(())
-}
+/// A read of the disk that fails, and the next one.
+const READ_AGAIN: [(Call, End); 2] = [(Read(5, 0), Failed), (Read(5, 0), Done)];
 
 #[test]
-fn a_failed_read_of_the_disk_is_not_tried_again(rt: HostRuntime) -> Result<(), Fail> {
-    let calls = [(Read(5, 0), Failed), (Read(5, 0), Done)];
-    assert!(rt; runs_as_told(rt.alloc(), 2, nth_read(1), &calls, counts(0, 0, 2, 0))?);
-    Ok(())
-}
-
-#[test]
-fn a_held_record_has_the_place_that_it_was_given(rt: HostRuntime) -> Result<(), Fail> {
-    let mut store = store(rt.alloc(), 2, None, None)?;
-    let calls = [
-        (Write(5, 1), Done),
-        (Write(3, 2), Done),
-        (Write(4, 3), Done),
-    ];
-    assert!(rt; end_as_told(rt.alloc(), &mut store, &calls)?);
-    let held = [store.held(3), store.held(4), store.held(5), store.held(99)];
-    assert!(rt; held == [Some(1), Some(0), None, None]);
-    Ok(())
-}
-
-/// Whether the drive's calls end as told, and its disk had so many reads and writes.
-fn drive_runs_as_told(
-    alloc: Global,
-    mut drive: AnyDrive,
-    calls: &[(Call, End)],
-    wanted: (u64, u64),
-) -> Result<bool, NoMemory> {
-    let told = end_as_told(alloc, &mut drive, calls)?;
-    let (reads, writes) = drive.calls();
-    Ok(told && drive.size() == 16 && reads == wanted.0 && writes == wanted.1)
-}
-
-/// A disk of 16 records whose first write fails.
-fn failing_disk(alloc: Global) -> Result<CoreDrive, NoMemory> {
-    Ok(CoreDrive::new(alloc, 16, lines(alloc, nth_write(1))?)?)
-}
-
-#[test]
-fn a_drive_fails_where_its_disk_does(rt: HostRuntime) -> Result<(), Fail> {
-    let bulk = AnyDrive::Bulk(CoreBulk::new(rt.alloc(), 1, failing_disk(rt.alloc())?)?);
-    let calls = [
-        (Write(0, 10), Done),
-        (Write(1, 11), Failed),
-        (Read(0, 10), Done),
-        (Write(1, 11), Done),
-        (Read(1, 11), Done),
-        (Read(0, 10), Done),
-    ];
-    assert!(rt; drive_runs_as_told(rt.alloc(), bulk, &calls, (1, 2))?);
-    let plain = AnyDrive::Plain(failing_disk(rt.alloc())?);
-    let calls = [
-        (Write(0, 10), Failed),
-        (Write(0, 10), Done),
-        (Read(0, 10), Done),
-    ];
-    assert!(rt; drive_runs_as_told(rt.alloc(), plain, &calls, (1, 2))?);
+fn no_page_is_lost_and_no_call_made_again_where_one_fails(rt: HostRuntime) -> Result<(), Fail> {
+    let out = ((2, 3), (2, 1));
+    assert!(rt; runs_as_told(rt.alloc(), single(nth_write(2)), &OLDEST_OUT, out)?);
+    let stays = ((2, 1), (1, 0));
+    assert!(rt; runs_as_told(rt.alloc(), single(FIRST_READ), &OLDEST_STAYS, stays)?);
+    let read = ((0, 0), (2, 0));
+    assert!(rt; runs_as_told(rt.alloc(), sure(2, FIRST_READ), &READ_AGAIN, read)?);
     Ok(())
 }
