@@ -1,8 +1,8 @@
 //! A run of two processors that are held at certain points.
 
-use crate::asking::{PLAIN, ask_through};
+use crate::running::run;
 use runner::Status;
-use site_io::HoldGate;
+use site_io::{HoldGate, MemorySink};
 use std::process::Abort;
 use std::test::Fail;
 
@@ -44,9 +44,9 @@ fn a_reference_is_answered_on_one_thread_between_a_signal_and_what_follows_it_on
     rt: HostRuntime,
 ) -> Result<(), Fail> {
     let gate = HoldGate::new();
-    let answer = ask_through(&rt, &["run"], TWO, PLAIN, &gate)?;
-    assert!(rt; answer.status == Status::Done);
-    assert!(rt; answer.text.ends_with(ENDS));
+    let mut sink = MemorySink::new(rt.alloc(), 65536, Vec::new(rt.alloc()))?;
+    let (status, _) = run(&rt, TWO, &mut sink, &gate)?;
+    assert!(rt; status == Status::Done && sink.bytes().ends_with(ENDS));
     assert!(rt; gate.passed(&rt));
     Ok(())
 }
