@@ -11,13 +11,20 @@ use crate::texts::{bracketed, joined};
 use no_memory::NoMemory;
 use std::alloc::Global;
 
+/// A text, and what it is read as.
+fn text_line(alloc: Global, kind: &str, text: &str) -> Result<String, NoMemory> {
+    let whole = joined(alloc, "", text, '|')?;
+    let read = read_as(alloc, kind, whole.as_str())?;
+    Ok(format!(in alloc; "[{text}] {read}\n")?)
+}
+
 /// What each line of a case is read as.
 pub(crate) fn given(alloc: Global, kind: &str, lines: &str) -> Result<String, NoMemory> {
     let mut given = String::new(alloc);
-    for text in lines.lines().filter_map(bracketed) {
-        let whole = joined(alloc, "", text, '|')?;
-        let read = read_as(alloc, kind, whole.as_str())?;
-        write!(given, "[{text}] {read}\n")?;
+    for line in lines.lines() {
+        if let Some(text) = bracketed(line) {
+            given.push_str(text_line(alloc, kind, text)?.as_str())?;
+        }
     }
     Ok(given)
 }

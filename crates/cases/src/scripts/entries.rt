@@ -11,13 +11,20 @@ fn read_text(alloc: Global, text: &str) -> Result<String, NoMemory> {
     }
 }
 
+/// A case, and the text of the entry that it is.
+fn case_text(alloc: Global, case: &str) -> Result<String, NoMemory> {
+    let line = joined(alloc, "", case, '/')?;
+    let entry = read_text(alloc, line.as_str())?;
+    Ok(format!(in alloc; "[{case}] {entry}\n")?)
+}
+
 /// The text of the entry that each line in brackets is.
 pub(crate) fn entries_text(alloc: Global, text: &str) -> Result<String, NoMemory> {
     let mut given = String::new(alloc);
-    for case in text.lines().filter_map(bracketed) {
-        let line = joined(alloc, "", case, '/')?;
-        let entry = read_text(alloc, line.as_str())?;
-        write!(given, "[{case}] {entry}\n")?;
+    for line in text.lines() {
+        if let Some(case) = bracketed(line) {
+            given.push_str(case_text(alloc, case)?.as_str())?;
+        }
     }
     Ok(given)
 }

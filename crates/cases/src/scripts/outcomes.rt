@@ -23,14 +23,21 @@ fn front_of(text: &str) -> &str {
     }
 }
 
+/// What a case gives after a front.
+fn case_text(alloc: Global, front: &str, case: &str) -> Result<String, NoMemory> {
+    let script = joined(alloc, front, case, '/')?;
+    let outcome = outcome(alloc, script.as_str())?;
+    Ok(format!(in alloc; "[{case}] {outcome}\n")?)
+}
+
 /// What each line in brackets gives after the front.
 pub(crate) fn lines_text(alloc: Global, text: &str) -> Result<String, NoMemory> {
     let front = front_of(text);
     let mut given = String::new(alloc);
-    for case in text.lines().filter_map(bracketed) {
-        let script = joined(alloc, front, case, '/')?;
-        let outcome = outcome(alloc, script.as_str())?;
-        write!(given, "[{case}] {outcome}\n")?;
+    for line in text.lines() {
+        if let Some(case) = bracketed(line) {
+            given.push_str(case_text(alloc, front, case)?.as_str())?;
+        }
     }
     Ok(given)
 }
