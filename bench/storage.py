@@ -80,7 +80,7 @@ def counted(binary, commands):
             out.write("\n".join(["cases", "", "== a case", *HEAD, *commands, *STEPS, ""]))
         with open(source) as case:
             shown = subprocess.run(["valgrind", "--tool=callgrind", f"--callgrind-out-file={profile}",
-                                    f"--toggle-collect={STEP}", binary], stdin=case, capture_output=True, text=True)
+                                    f"--toggle-collect={STEP}*", binary], stdin=case, capture_output=True, text=True)
         if shown.stdout != "== a case\n> only nothing\n> finish\n":
             sys.exit(f"refused: {shown.stdout[:200]}")
         lines = subprocess.run(["callgrind_annotate", "--inclusive=yes", "--threshold=100", profile],
