@@ -9,16 +9,19 @@
 //! - `calls` prints how often the first volume's disk was read and written;
 //! - `reads N M` reads in pieces of N bytes, and the Mth read fails; `unread` has the first read fail;
 //! - `room N M` has room for N bytes that are written, and the Mth write fails, or none where M is 0;
+//! - `hold` holds two processors at certain points, and tells whether each hold took place;
 //! - `times N` runs the program N times, and each run must give the same.
 //!
 //! Without `times` and `reads` the program runs with the input in one piece, in pieces of 1 byte and in pieces of 7.
 //! Behind what a run wrote stands what is told of its book: the pages that the root is charged for, which `times`
 //! leaves out, and `accepted and listed` where the flat store and custody accept each entry, each process has ended, no
-//! stored page is all zeros, and the text is the listing of the book.
+//! stored page is all zeros, and the text is the listing of the book. Each reference that is answered through a frame
+//! must have passed the gate between two steps once.
 
 mod answers;
 mod asking;
 mod books;
+mod gates;
 mod groups;
 
 pub(crate) use groups::given;

@@ -2,7 +2,7 @@
 //!
 //! Such a case is a line `store`, a script, a line `book`, and lines that are done in their order. An entry must be
 //! lawful, and no other reply in its place; then it is followed. An entry after `may` isn't followed, but whether it is
-//! lawful is printed. `word U N` prints the word at offset N of the segment with uid U, `used` how many pages each
+//! lawful is printed. `word U.N` prints the word at offset N of the segment with uid U, `used` how many pages each
 //! account is charged for, `volume V` how many records and entries of that volume are in use, and `summary` the
 //! accounts and the volumes.
 

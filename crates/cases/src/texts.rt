@@ -1,5 +1,6 @@
-//! How the lines of a case are read that stand for texts of their own.
+//! How the lines of a case are read that stand for texts of their own, and what is printed of a word.
 
+use flat_store::FlatStore;
 use no_memory::NoMemory;
 use script::{Script, ScriptFault, read_script};
 use std::alloc::Global;
@@ -40,4 +41,14 @@ pub(crate) fn script_of(alloc: Global, text: &str) -> Result<Script, NoMemory> {
         Ok(script) => Ok(script),
         Err(_) => Err(NoMemory),
     }
+}
+
+/// The word at a place of a segment, which is a uid and an offset with a dot between.
+pub(crate) fn word_line(alloc: Global, store: &FlatStore, place: &str) -> Result<String, NoMemory> {
+    let (uid, offset) = place.split_once('.').unwrap_or((place, ""));
+    let (Ok(uid), Ok(offset)) = (uid.parse(), offset.parse()) else {
+        return Ok(format!(in alloc; "word {place}: no place\n")?);
+    };
+    let word = store.word(uid, offset);
+    Ok(format!(in alloc; "word {place} = {word}\n")?)
 }

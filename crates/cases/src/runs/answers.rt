@@ -2,9 +2,10 @@ ghost use Rattle.std.specs.Prelude.{◌≤◌};
 
 use crate::runs::asking::Asked;
 use crate::runs::books::book_text;
+use crate::runs::gates::RunGate;
 use no_memory::NoMemory;
 use runner::{Finished, Status, Words, multics};
-use site_io::{MemorySink, MemorySource, NoGate};
+use site_io::{MemorySink, MemorySource};
 use std::alloc::{AllocError, Global};
 use std::str;
 use std::sync::Wait;
@@ -50,17 +51,20 @@ fn sink_of(alloc: Global, asked: &Asked) -> Result<MemorySink, NoMemory> {
     )?)
 }
 
-/// How a call ended, the lines that it wrote, and what is told of its book.
-fn told(
-    alloc: Global,
+/// How a call ended, the lines that it wrote, what is told of its book, and what of the gate.
+fn told<R: Threads + Wait + Sync + AllocGlobal>(
+    rt: &R,
     asked: &Asked,
     finished: &Finished,
     written: &[u8],
+    gate: &RunGate,
 ) -> Result<String, NoMemory> {
+    let alloc = rt.alloc();
     let ending = ending(finished.status);
     let lines = asked.lines_of(alloc, str::from_utf8(written).unwrap_or("no text\n"))?;
     let book = book_text(alloc, asked, finished, written)?;
-    Ok(format!(in alloc; "{ending}\n{lines}{book}")?)
+    let passed = gate.text(rt, &finished.machine)?;
+    Ok(format!(in alloc; "{ending}\n{lines}{book}{passed}")?)
 }
 
 /// Calls the program once, and tells of it.
@@ -71,8 +75,9 @@ fn call_text<R: Threads + Wait + Sync + AllocGlobal>(
     source: &mut MemorySource,
     sink: &mut MemorySink,
 ) -> Result<String, NoMemory> {
-    let finished = multics(rt, rt.alloc(), words, source, sink, &NoGate);
-    told(rt.alloc(), asked, &finished, sink.bytes())
+    let gate = RunGate::new(asked.hold);
+    let finished = multics(rt, rt.alloc(), words, source, sink, &gate);
+    told(rt, asked, &finished, sink.bytes(), &gate)
 }
 
 /// What the program answers an input that comes in pieces of so many bytes: how it ended, what it wrote, and what is

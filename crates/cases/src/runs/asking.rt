@@ -33,6 +33,8 @@ pub(crate) struct Asked<'a> {
     pub(crate) room: u32,
     /// The number of the write that fails; 0 for none.
     pub(crate) failing_write: u32,
+    /// Whether two processors are held at certain points.
+    pub(crate) hold: bool,
     /// How often the program runs on the input, all of it in one piece; 0 for once in pieces of each size.
     pub(crate) times: u32,
 }
@@ -50,6 +52,7 @@ impl<'a> Asked<'a> {
             failing_read: 0,
             room: WIDE,
             failing_write: 0,
+            hold: false,
             times: 0,
         };
         for option in rest.split(';') {
@@ -65,6 +68,7 @@ impl<'a> Asked<'a> {
             "only" => self.only = rest,
             "words" => self.places = rest,
             "calls" => self.calls = true,
+            "hold" => self.hold = true,
             "unread" => self.failing_read = 1,
             "reads" => (self.pieces, self.failing_read) = two_numbers(rest),
             "room" => (self.room, self.failing_write) = two_numbers(rest),

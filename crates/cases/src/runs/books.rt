@@ -4,6 +4,7 @@ ghost use Rattle.flat_model.specs.Legal.{IsLegal};
 
 use crate::judging::verdict;
 use crate::runs::asking::Asked;
+use crate::texts::word_line;
 use book::Book;
 use bulk_store::AnyDrive;
 use flat_store::FlatStore;
@@ -12,11 +13,10 @@ use runner::Finished;
 use std::alloc::Global;
 use volumes::Volumes;
 
-/// How many pages the root is charged for after each entry of a book was allowed by the flat store and followed. None
+/// How many pages the root is charged for after each entry of a book was allowed by a flat store and followed. None
 /// where one wasn't allowed.
-fn followed(alloc: Global, book: &Book) -> Result<Option<u32>, NoMemory> {
+fn used_after(store: &mut FlatStore, book: &Book) -> Result<Option<u32>, NoMemory> {
     let script = book.script();
-    let mut store = FlatStore::boot(alloc, script)?;
     for entry in book.entries() {
         if !store.allows(script, *entry) {
             return Ok(None);
@@ -24,6 +24,12 @@ fn followed(alloc: Global, book: &Book) -> Result<Option<u32>, NoMemory> {
         store.follow(script, *entry)?;
     }
     Ok(Some(store.used(1)))
+}
+
+/// The same for the flat store that the book begins with.
+fn followed(alloc: Global, book: &Book) -> Result<Option<u32>, NoMemory> {
+    let mut store = FlatStore::boot(alloc, book.script())?;
+    used_after(&mut store, book)
 }
 
 /// How many pages the root is charged for, by the flat store that allows and follows each entry of the book, and by the
@@ -36,16 +42,6 @@ fn root_line(alloc: Global, book: &Book, store: &FlatStore) -> Result<String, No
     }
 }
 
-/// The word at a place of a segment, which is a uid and an offset with a dot between.
-fn word_line(alloc: Global, store: &FlatStore, place: &str) -> Result<String, NoMemory> {
-    let (uid, offset) = place.split_once('.').unwrap_or((place, ""));
-    let (Ok(uid), Ok(offset)) = (uid.parse(), offset.parse()) else {
-        return Ok(format!(in alloc; "word {place}: no place\n")?);
-    };
-    let word = store.word(uid, offset);
-    Ok(format!(in alloc; "word {place} = {word}\n")?)
-}
-
 /// The words at the places that are asked for.
 fn words_text(alloc: Global, store: &FlatStore, places: &str) -> Result<String, NoMemory> {
     let mut text = String::new(alloc);
@@ -56,19 +52,32 @@ fn words_text(alloc: Global, store: &FlatStore, places: &str) -> Result<String, 
     Ok(text)
 }
 
+/// What is told of a book, by the flat store after it.
+fn told_by(
+    alloc: Global,
+    asked: &Asked,
+    book: &Book,
+    store: &FlatStore,
+    written: &[u8],
+) -> Result<String, NoMemory>
+    requires { IsLegal book.now.script book.now.entries }
+{
+    let root = match asked.times {
+        0 => root_line(alloc, book, store)?,
+        _ => String::new(alloc),
+    };
+    let words = words_text(alloc, store, asked.places)?;
+    let verdict = verdict(alloc, book, store, written)?;
+    Ok(format!(in alloc; "{root}{words}{verdict}\n")?)
+}
+
 /// What is told of a book: where the program runs once, the pages that the root is charged for; the words that are
 /// asked for; and what the judges say of it, and of what was written.
 fn told_of(alloc: Global, asked: &Asked, book: &Book, written: &[u8]) -> Result<String, NoMemory>
     requires { IsLegal book.now.script book.now.entries }
 {
     let store = FlatStore::after(alloc, book)?;
-    let root = match asked.times {
-        0 => root_line(alloc, book, &store)?,
-        _ => String::new(alloc),
-    };
-    let words = words_text(alloc, &store, asked.places)?;
-    let verdict = verdict(alloc, book, &store, written)?;
-    Ok(format!(in alloc; "{root}{words}{verdict}\n")?)
+    told_by(alloc, asked, book, &store, written)
 }
 
 /// How often the first volume's disk was read and written, where that is asked for.

@@ -32,17 +32,22 @@ fn draw_steps(machine: &mut Machine<AnyDrive>, seed: u32) -> Result<(), Stuck> {
 }
 
 /// Whether the book of a machine may stand after steps of processors that are drawn from a seed.
-fn stands_after(alloc: Global, script: &str, seed: u32) -> Result<bool, Stuck> {
-    let mut machine = booted(alloc, script)?;
-    draw_steps(&mut machine, seed)?;
+fn stands_after(alloc: Global, machine: &mut Machine<AnyDrive>, seed: u32) -> Result<bool, Stuck> {
+    draw_steps(machine, seed)?;
     Ok(may_stand(alloc, machine.book())?)
+}
+
+/// Whether the book of the machine of a script may stand after steps that are drawn from a seed.
+fn script_stands_after(alloc: Global, script: &str, seed: u32) -> Result<bool, Stuck> {
+    let mut machine = booted(alloc, script)?;
+    stands_after(alloc, &mut machine, seed)
 }
 
 /// Machines of a script, each with steps of processors drawn by chance, and how many of their books may stand.
 pub(crate) fn lists(alloc: Global, script: &str, count: u32) -> Result<String, Stuck> {
     let mut standing: u32 = 0;
     for seed in 0..count {
-        if stands_after(alloc, script, seed)? {
+        if script_stands_after(alloc, script, seed)? {
             standing = standing.saturating_add(1);
         }
     }

@@ -1,3 +1,4 @@
+use crate::texts::word_line;
 use book::read_entry;
 use flat_store::FlatStore;
 use listing::{summary, summary_text};
@@ -35,16 +36,6 @@ fn used_text(alloc: Global, store: &FlatStore) -> Result<String, NoMemory> {
     Ok(text)
 }
 
-/// The word at an offset of the segment with a uid.
-fn word_text(alloc: Global, store: &FlatStore, place: &str) -> Result<String, NoMemory> {
-    let (uid, offset) = place.split_once(' ').unwrap_or((place, ""));
-    let (Ok(uid), Ok(offset)) = (uid.parse(), offset.parse()) else {
-        return Ok(format!(in alloc; "word {place}: no place\n")?);
-    };
-    let word = store.word(uid, offset);
-    Ok(format!(in alloc; "word {uid} {offset} {word}\n")?)
-}
-
 /// How many records and VTOC entries of a volume are in use.
 fn volume_text(alloc: Global, store: &FlatStore, number: &str) -> Result<String, NoMemory> {
     let Ok(volume) = number.parse() else {
@@ -71,7 +62,7 @@ pub(crate) fn asked_text(
     let (ask, rest) = line.split_once(' ').unwrap_or((line, ""));
     match ask {
         "may" => may_text(alloc, script, store, rest),
-        "word" => word_text(alloc, store, rest),
+        "word" => word_line(alloc, store, rest),
         "volume" => volume_text(alloc, store, rest),
         "used" => used_text(alloc, store),
         "summary" => ends_text(alloc, script, store),

@@ -86,12 +86,22 @@ fn push_done(
     Ok(())
 }
 
+/// What lines print that are done in their order.
+fn lines_text(
+    alloc: Global,
+    script: &Script,
+    store: &mut FlatStore,
+    lines: &str,
+) -> Result<String, NoMemory> {
+    let mut text = String::new(alloc);
+    for line in lines.lines() {
+        push_done(&mut text, alloc, script, store, line)?;
+    }
+    Ok(text)
+}
+
 /// What the lines below a script print.
 pub(crate) fn done_text(alloc: Global, script: &Script, lines: &str) -> Result<String, NoMemory> {
     let mut store = FlatStore::boot(alloc, script)?;
-    let mut text = String::new(alloc);
-    for line in lines.lines() {
-        push_done(&mut text, alloc, script, &mut store, line)?;
-    }
-    Ok(text)
+    lines_text(alloc, script, &mut store, lines)
 }
