@@ -1,34 +1,50 @@
 -- Cells in the order of uids as columns of numbers, lists of uids, and quota that goes from one directory to another.
-use Rattle.std.specs.Prelude.{◌≡◌, ◌≢◌, ℕ, ◌+◌, ◌<◌, ◌≤◌, ◌^◌, true, List, [], ◌∷◌, length, map, slice_index}
+use Rattle.std.specs.Prelude.{◌≡◌, ◌≢◌, ℕ, ◌+◌, ◌-◌, ◌<◌, ◌≤◌, ◌^◌, true, List, [], ◌∷◌, length, slice_index}
 use Rattle.tree_model.specs.Trees.{AreUnder}
 use Rattle.quota_cells.specs.declared.directories.Cell.{Cell}
-use Rattle.quota_cells.specs.declared.segments.Count.{Count}
-use Rattle.quota_cells.specs.Accounts.{has, covers}
-use Rattle.quota_cells.specs.Cells.{CellMaps, quota_in, load_in, no_cells, with_quota}
+use Rattle.quota_cells.specs.declared.directories.Pages.{Pages}
+use Rattle.quota_cells.specs.declared.directories.Pages.TheVariants.{More, Less}
+use Rattle.quota_cells.specs.Accounts.{has, covers, changed_where, with_beside, without_beside}
+use Rattle.quota_cells.specs.Cells.{CellMaps, quota_in, load_in, no_cells, with_loads, with_quota}
 
--- the maps of directories alone, of segments alone, and of both
-abbrev pub directory_maps : List Cell → CellMaps
-directory_maps cells = record no_cells {
-  directories = map (λ c. c.uid) cells;
-  quotas =
-      map (λ c. c.quota) cells;
-  loads = map (λ c. c.load) cells;
-}
+-- a number beside each of some uids, in their order
+pub record NumberMap : Type 0 where
+  pub uids : List ℕ
+  pub values : List ℕ
 
-abbrev pub segment_maps : List Count → CellMaps
-segment_maps counts = record no_cells { segments = map (λ c. c.uid) counts; stored = map (λ c. c.pages) counts }
+abbrev pub no_numbers : NumberMap
+no_numbers = record { uids = []; values = [] }
 
-abbrev pub both_maps : CellMaps → CellMaps → CellMaps
-both_maps d s = record d { segments = s.segments; stored = s.stored }
+-- the numbers with 0 of one uid more, and without that of a uid
+abbrev pub with_uid : NumberMap → ℕ → NumberMap
+with_uid m u = record { uids = with_beside m.uids m.uids u u; values = with_beside m.uids m.values u 0 }
+
+abbrev pub without_uid : NumberMap → ℕ → NumberMap
+without_uid m u = record { uids = without_beside m.uids m.uids u; values = without_beside m.uids m.values u }
+
+-- the maps of directories alone, by their quotas and loads, and these with the counts of segments
+abbrev pub directory_maps : NumberMap → List ℕ → CellMaps
+directory_maps quotas loads = record no_cells { directories = quotas.uids; quotas = quotas.values; loads = loads }
+
+abbrev pub both_maps : CellMaps → NumberMap → CellMaps
+both_maps d s = record d { segments = s.uids; stored = s.values }
 
 -- the directory's cell that stands there
-abbrev pub cell_from : CellMaps → ℕ → Cell
-cell_from c i = record {
-  uid = slice_index c.directories i;
-  quota = slice_index c.quotas i;
-  load =
-      slice_index c.loads i;
-}
+abbrev pub cell_from : CellMaps → ℕ → ℕ → Cell
+cell_from c u i = record { uid = u; quota = slice_index c.quotas i; load = slice_index c.loads i }
+
+-- a load once pages are counted on it, and whether they can be
+abbrev pub counted_on : Pages → ℕ → ℕ
+counted_on (More n) = λ w. w + n
+counted_on (Less n) = λ w. w - n
+
+abbrev pub HasRoom : Pages → ℕ → Type 0
+HasRoom (More n) w = w + n < 2 ^ 32
+HasRoom (Less n) w = n ≤ w
+
+-- pages counted on the loads of what covers a node below these directories
+abbrev pub counted : CellMaps → List ℕ → Pages → CellMaps
+counted c up pages = with_loads c (changed_where (counted_on pages) (covers (quota_in c) up) c.directories c.loads)
 
 -- a uid isn't there, and would stand at this place: smaller ones before it, greater ones from there on
 pub record IsGap (ks : List ℕ) (u i : ℕ) : Type 0 where
@@ -49,6 +65,13 @@ pub record IsPlaced (directories : List ℕ) (d : ℕ) (up : List ℕ) : Type 0 
   pub here : has directories d ≡ true
   pub there : AreThere directories up
   pub falls : IsFalling up
+
+-- A directory below these can have another quota: what becomes of the loads is a number of 32 bits.
+pub record CanChange (c : CellMaps) (up : List ℕ) (d pages : ℕ) : Type 0 where
+  pub there : AreThere c.directories up
+  pub falls : IsFalling up
+  pub appears : quota_in c d ≡ 0 → 0 < pages → (e : ℕ) → covers (quota_in c) up e ≡ true → load_in c d ≤ load_in c e
+  pub vanishes : pages ≡ 0 → (e : ℕ) → covers (quota_in c) up e ≡ true → load_in c e + load_in c d < 2 ^ 32
 
 -- One directory can give another so many pages: it has them, and what becomes of the loads is a number of 32 bits.
 pub record CanGive (c : CellMaps) (getter : ℕ) (above_getter : List ℕ) (giver : ℕ) (above_giver : List ℕ) (pages : ℕ) :

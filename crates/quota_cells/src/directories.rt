@@ -1,16 +1,16 @@
-//! The quota cells of directories, in the order of uids: look-ups by halving, and walks up from a node.
+//! The quota cells of directories, in the order of uids, and walks up from a node.
 
-ghost use Rattle.std.specs.Prelude.{◌≡◌, ◌≢◌, ℕ, ◌<◌, ◌≤◌, ◌+◌, ◌-◌, ◌^◌, ◌==◌, true, false, length};
-ghost use Rattle.std.specs.Prelude.{slice_index, slice_set, IfOk, IfErr};
+ghost use Rattle.std.specs.Prelude.{◌≡◌, ℕ, ◌<◌, ◌==◌, true, false, length, slice_index, slice_set, IfOk};
 ghost use Rattle.tree_model.specs.Tree.{account};
-ghost use Rattle.quota_cells.specs.Accounts.{has, covers};
-ghost use Rattle.quota_cells.specs.Cells.{IsRising, quota_in, load_in, root_cell, with_loads, lifted, lowered};
-ghost use Rattle.quota_cells.specs.Cells.{loads_then};
+ghost use Rattle.quota_cells.specs.Accounts.{has, covers, with_value};
+ghost use Rattle.quota_cells.specs.Cells.{IsRising, quota_in, load_in, root_cell, with_loads, loads_then};
 ghost use Rattle.quota_cells.specs.Cells.{with_quota, given, with_directory, without_directory};
-ghost use Rattle.quota_cells.specs.Columns.{IsGap, AreThere, IsFalling, CanGive, cell_from};
+ghost use Rattle.quota_cells.specs.Columns.{AreThere, IsFalling, CanChange, CanGive, cell_from};
+ghost use Rattle.quota_cells.specs.Columns.{HasRoom, counted_on, counted};
 ghost use Rattle.quota_cells.specs.Moves.{cell_in};
 
 use crate::CELLS;
+use crate::numbers::{Numbers, put};
 use dir_tree::ROOT;
 use std::alloc::{AllocError, Global};
 use std::marker::Model;
@@ -35,22 +35,45 @@ pub(crate) struct Placed<'a> {
     pub above: &'a [u32],
 }
 
-/// The quota cells of directories, in the order of uids, with room for 4097.
+/// Pages that are counted on loads, or are counted there no more.
+#[derive(Clone, Copy)]
+pub(crate) enum Pages {
+    /// So many more.
+    More(u32),
+    /// So many less.
+    Less(u32),
+}
+
+impl Pages {
+    /// A load once they are counted on it.
+    fn on(self, load: u32) -> u32
+        requires { HasRoom self load }
+        ensures { result ≡ counted_on self load }
+    {
+        match self {
+            Pages::More(pages) => load + pages,
+            Pages::Less(pages) => load - pages,
+        }
+    }
+}
+
+/// The quota cells of directories, in the order of uids, with room for 4097: their quotas, and the load of each.
 #[derive(Drop)]
 pub(crate) struct Directories {
-    cells: Vec<Cell>,
+    quotas: Numbers,
+    loads: Vec<u32>,
 }
 
 impl Model for Directories {
-    ghost use Rattle.std.specs.Prelude.{◌≤◌, vec_capacity};
-    ghost use Rattle.quota_cells.specs.Cells.{CellMaps, IsRising};
+    ghost use Rattle.std.specs.Prelude.{◌≡◌, ◌≤◌, length, vec_capacity};
+    ghost use Rattle.quota_cells.specs.Cells.{CellMaps};
     ghost use Rattle.quota_cells.specs.Columns.{directory_maps};
 
     ghost Value = { CellMaps };
 
-    ghost view = { λ d. directory_maps d.cells.items };
+    ghost view = { λ d. directory_maps d.quotas d.loads.items };
 
-    ghost invariant = { λ d. IsRising (directory_maps d.cells.items).directories × (4097 ≤ vec_capacity d.cells) };
+    ghost invariant = { λ d. (length d.loads.items ≡ length d.quotas.uids) × (4097 ≤ vec_capacity d.loads) };
 }
 
 impl Directories {
@@ -58,30 +81,19 @@ impl Directories {
     pub(crate) fn new(alloc: Global, root_quota: u32) -> Result<Directories, AllocError>
         ensures { IfOk result (λ d. d ≡ root_cell root_quota) }
     {
-        let mut cells = Vec::with_capacity(alloc, CELLS)?;
-        cells.push_reserved(Cell {
-            uid: ROOT,
-            quota: root_quota,
-            load: 0,
-        });
-        Ok(Directories { cells })
-    }
-
-    /// Where the cell of a directory stands, or where it would.
-    fn search(&self, uid: u32) -> Result<usize, usize>
-        ensures found { IfOk result (λ i. i < length self.now.directories) }
-        ensures is { IfOk result (λ i. slice_index self.now.directories i ≡ uid) }
-        ensures gap { IfErr result (λ i. IsGap self.now.directories uid i) }
-        ensures rising { IsRising self.now.directories }
-    {
-        self.cells.binary_search_by_key(&uid, |cell| cell.uid)
+        let quotas = Numbers::new(alloc)?;
+        let loads = Vec::with_capacity(alloc, CELLS)?;
+        let mut directories = Directories { quotas, loads };
+        directories.enter(ROOT);
+        directories.set_quota(ROOT, root_quota);
+        Ok(directories)
     }
 
     /// Whether a directory has a cell.
     pub(crate) fn has(&self, uid: u32) -> bool
         ensures { result ≡ has self.now.directories uid }
     {
-        self.search(uid).is_ok()
+        self.quotas.has(uid)
     }
 
     /// Where the cell of a directory stands, which is there.
@@ -89,27 +101,29 @@ impl Directories {
         requires { has self.now.directories uid ≡ true }
         ensures within { result < length self.now.directories }
         ensures is { slice_index self.now.directories result ≡ uid }
+        ensures rising { IsRising self.now.directories }
     {
-        match self.search(uid) {
-            Ok(at) => at,
-            Err(_) => unreachable!(),
-        }
+        self.quotas.place(uid)
     }
 
-    /// The cell that stands there.
-    fn cell_at(&self, at: usize) -> Cell
+    /// The cell of a directory that stands there.
+    fn cell_at(&self, uid: u32, at: usize) -> Cell
         requires { at < length self.now.directories }
-        ensures { result ≡ cell_from self.now at }
+        ensures { result ≡ cell_from self.now uid at }
     {
-        self.cells[at]
+        Cell {
+            uid,
+            quota: self.quotas.at(at),
+            load: self.loads[at],
+        }
     }
 
     /// The cell of a directory; an empty one where it has none.
     pub(crate) fn cell(&self, uid: u32) -> Cell
         ensures { result ≡ cell_in self.now uid }
     {
-        match self.search(uid) {
-            Ok(at) => self.cell_at(at),
+        match self.quotas.search(uid) {
+            Ok(at) => self.cell_at(uid, at),
             Err(_) => Cell {
                 uid,
                 quota: 0,
@@ -136,47 +150,29 @@ impl Directories {
         requires { at < length self.old.directories }
         ensures { self.new ≡ record self.old { loads = slice_set self.old.loads at load } }
     {
-        self.cells[at].load = load;
+        self.loads[at] = load;
     }
 
-    /// Sets the quota of the cell that stands there.
-    fn set_quota(&mut self, at: usize, quota: u32)
-        requires { at < length self.old.directories }
-        ensures { self.new ≡ record self.old { quotas = slice_set self.old.quotas at quota } }
+    /// Sets the quota of a directory.
+    fn set_quota(&mut self, uid: u32, quota: u32)
+        requires { has self.old.directories uid ≡ true }
+        ensures { self.new ≡ record self.old { quotas = with_value self.old.directories self.old.quotas uid quota } }
     {
-        self.cells[at].quota = quota;
+        self.quotas.set(uid, quota);
     }
 
-    /// Adds pages to the loads of the directories that cover a node below these.
-    pub(crate) fn lift(&mut self, up: &[u32], pages: u32)
+    /// Counts pages on the loads of the directories that cover a node below these.
+    pub(crate) fn count(&mut self, up: &[u32], pages: Pages)
         requires there { AreThere self.old.directories up.now }
         requires falls { IsFalling up.now }
-        requires room { (e : ℕ) → covers (quota_in self.old) up.now e ≡ true → load_in self.old e + pages < 2 ^ 32 }
-        ensures { self.new ≡ lifted self.old up.now pages }
+        requires room { (e : ℕ) → covers (quota_in self.old) up.now e ≡ true → HasRoom pages (load_in self.old e) }
+        ensures { self.new ≡ counted self.old up.now pages }
     {
-        let _ = &self.cells;
+        let _ = &self.loads;
         for directory in up {
             let at = self.place(*directory);
-            let cell = self.cell_at(at);
-            self.set_load(at, cell.load + pages);
-            if cell.quota > 0 {
-                return;
-            }
-        }
-    }
-
-    /// Takes pages from the loads of the directories that cover a node below these.
-    pub(crate) fn lower(&mut self, up: &[u32], pages: u32)
-        requires there { AreThere self.old.directories up.now }
-        requires falls { IsFalling up.now }
-        requires loads { (e : ℕ) → covers (quota_in self.old) up.now e ≡ true → pages ≤ load_in self.old e }
-        ensures { self.new ≡ lowered self.old up.now pages }
-    {
-        let _ = &self.cells;
-        for directory in up {
-            let at = self.place(*directory);
-            let cell = self.cell_at(at);
-            self.set_load(at, cell.load - pages);
+            let cell = self.cell_at(*directory, at);
+            self.set_load(at, pages.on(cell.load));
             if cell.quota > 0 {
                 return;
             }
@@ -185,40 +181,29 @@ impl Directories {
 
     /// What becomes of the loads where a directory below these is an account from now on, or isn't one any more.
     fn shift(&mut self, up: &[u32], directory: u32, pages: u32)
-        requires there { AreThere self.old.directories up.now }
-        requires falls { IsFalling up.now }
-        requires appears { quota_in self.old directory ≡ 0 → 0 < pages → (e : ℕ)
-            → covers (quota_in self.old) up.now e ≡ true → load_in self.old directory ≤ load_in self.old e }
-        requires vanishes { pages ≡ 0 → (e : ℕ) → covers (quota_in self.old) up.now e ≡ true
-            → load_in self.old e + load_in self.old directory < 2 ^ 32 }
+        requires { CanChange self.old up.now directory pages }
         ensures { self.new ≡ with_loads self.old (loads_then self.old up.now directory
             (quota_in self.old directory == 0) (pages == 0)) }
     {
         let cell = self.cell(directory);
         if cell.quota == 0 && pages > 0 {
-            self.lower(up, cell.load);
+            self.count(up, Pages::Less(cell.load));
             return;
         }
         if cell.quota > 0 && pages == 0 {
-            self.lift(up, cell.load);
+            self.count(up, Pages::More(cell.load));
         }
     }
 
     /// Gives a directory below these another quota, with what becomes of the loads.
     fn change(&mut self, up: &[u32], directory: u32, pages: u32)
         requires here { has self.old.directories directory ≡ true }
-        requires there { AreThere self.old.directories up.now }
-        requires falls { IsFalling up.now }
-        requires appears { quota_in self.old directory ≡ 0 → 0 < pages → (e : ℕ)
-            → covers (quota_in self.old) up.now e ≡ true → load_in self.old directory ≤ load_in self.old e }
-        requires vanishes { pages ≡ 0 → (e : ℕ) → covers (quota_in self.old) up.now e ≡ true
-            → load_in self.old e + load_in self.old directory < 2 ^ 32 }
+        requires can { CanChange self.old up.now directory pages }
         ensures { self.new ≡ with_quota self.old up.now directory pages }
     {
-        let _ = &self.cells;
-        let at = self.place(directory);
+        let _ = &self.loads;
         self.shift(up, directory, pages);
-        self.set_quota(at, pages);
+        self.set_quota(directory, pages);
     }
 
     /// Gives one directory so many pages of another's quota, with what becomes of the loads.
@@ -239,18 +224,8 @@ impl Directories {
         requires absent { has self.old.directories uid ≡ false }
         ensures { self.new ≡ with_directory self.old uid }
     {
-        let Err(at) = self.search(uid) else {
-            unreachable!()
-        };
-        let cell = Cell {
-            uid,
-            quota: 0,
-            load: 0,
-        };
-        match self.cells.insert(at, cell) {
-            Ok(()) => {}
-            Err(_) => unreachable!(),
-        }
+        let at = self.quotas.enter(uid);
+        put(&mut self.loads, at, 0);
     }
 
     /// Drops the cell of a directory.
@@ -258,7 +233,7 @@ impl Directories {
         requires { has self.old.directories uid ≡ true }
         ensures { self.new ≡ without_directory self.old uid }
     {
-        let at = self.place(uid);
-        self.cells.remove(at);
+        let at = self.quotas.leave(uid);
+        self.loads.remove(at);
     }
 }

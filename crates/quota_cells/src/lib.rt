@@ -7,13 +7,13 @@
 //! or added there, and no page is counted again.
 //!
 //! Costs: `new` takes all memory, once: 12 bytes for the cell of each of 4097 directories, and 8 for the count of each
-//! of 4097 segments. A look-up halves one of the lists: at most 13 looks. To go up is to read the directories above a
-//! node from the tree, at most 9 with one look-up each, and to look their cells up to the first account. `credit` goes
-//! up once from the segment, for one page or for many, and `charge` reads what is above it once, and looks it up twice:
-//! to see whether the account is full, and to count. `move_quota` reads what is above the directory, and then what is
-//! above its superior to see whether the quota may move, where it looks at no more than three accounts for one that
-//! would be above its quota; then it goes up from each of the two directories. `enter` and `leave` move a part of a
-//! list by one place. None but `new` takes memory.
+//! of 4097 segments, each number in a list of its own. A look-up halves a list of uids: at most 13 looks. To go up is
+//! to read the directories above a node from the tree, at most 9 with one look-up each, and to look their cells up to
+//! the first account. `credit` goes up once from the segment, for one page or for many, and `charge` reads what is
+//! above it once, and looks it up twice: to see whether the account is full, and to count. `move_quota` reads what is
+//! above the directory, and then what is above its superior to see whether the quota may move, where it looks at no
+//! more than three accounts for one that would be above its quota; then it goes up from each of the two directories.
+//! `enter` and `leave` move a part of two lists or of three by one place. None but `new` takes memory.
 #![tactic(auto)]
 
 ghost use Rattle.std.specs.Prelude.{◌≡◌, ◌≢◌, ◌<◌, ◌≤◌, ◌+◌, ◌-◌, ◌^◌, ◌==◌, ◌&&◌, ◌||◌, not, ℕ, Bool, true, false};
@@ -38,12 +38,12 @@ ghost use Rattle.std.specs.Int.{is_positive};
 
 mod directories;
 mod moves;
-mod segments;
+mod numbers;
 
 use dir_tree::{ROOT, Tree};
-use directories::{Cell, Directories, Placed};
+use directories::{Directories, Pages, Placed};
 pub use no_memory::NoMemory;
-use segments::Segments;
+use numbers::Numbers;
 use std::alloc::Global;
 use std::marker::Model;
 
@@ -78,7 +78,7 @@ pub const CELLS: usize = 4097;
 #[derive(Drop)]
 pub struct Cells {
     directories: Directories,
-    segments: Segments,
+    segments: Numbers,
 }
 
 impl Model for Cells {
@@ -113,7 +113,7 @@ impl Cells {
         ensures fits { IfOk result (λ cells. (volume entry : ℕ) → Fits (root_alone volume entry).nodes cells) }
     {
         let directories = Directories::new(alloc, root_quota)?;
-        let segments = Segments::new(alloc)?;
+        let segments = Numbers::new(alloc)?;
         Ok(Cells {
             directories,
             segments,
@@ -193,7 +193,7 @@ impl Cells {
         ensures quota { quota_in self.now seg ≡ 0 }
         ensures table { IsTable self.now }
     {
-        self.segments.stored(seg)
+        self.segments.look(seg)
     }
 
     /// The stored pages that an account is charged for; 0 where it is no account.
@@ -285,9 +285,9 @@ impl Cells {
         requires table { IsTable (charged self.old up.now seg) }
         ensures { self.new ≡ charged self.old up.now seg }
     {
-        let pages = self.segments.stored(seg) + 1;
+        let pages = self.segments.look(seg) + 1;
         self.segments.set(seg, pages);
-        self.directories.lift(up, 1);
+        self.directories.count(up, Pages::More(1));
     }
 
     /// Counts one stored page of a segment less, to the credit of the account that it has now.
@@ -329,9 +329,9 @@ impl Cells {
         requires table { IsTable (credited self.old up.now seg pages) }
         ensures { self.new ≡ credited self.old up.now seg pages }
     {
-        let left = self.segments.stored(seg) - pages;
+        let left = self.segments.look(seg) - pages;
         self.segments.set(seg, left);
-        self.directories.lower(up, pages);
+        self.directories.count(up, Pages::Less(pages));
     }
 
     /// What `move_quota` would refuse.
@@ -362,39 +362,39 @@ impl Cells {
         ensures table { IsTable self.now }
     {
         let _ = &self.directories;
-        if amount.is_positive() {
-            self.may_move_down(t, dir, superior, amount.unsigned_abs())
-        } else {
-            self.may_move_up(t, dir, superior, amount.unsigned_abs())
-        }
+        self.refusal(
+            t,
+            dir,
+            superior,
+            amount.is_positive(),
+            amount.unsigned_abs(),
+        )
     }
 
-    /// What a move of so many pages of quota from its superior to a directory would be refused for.
-    fn may_move_down(&self, t: &Tree, dir: u32, superior: u32, pages: u32) -> Result<(), MoveFault>
+    /// What a move of so many pages of quota between a directory and its superior would be refused for: down to the
+    /// directory, or up from it.
+    fn refusal(
+        &self,
+        t: &Tree,
+        dir: u32,
+        superior: u32,
+        down: bool,
+        pages: u32,
+    ) -> Result<(), MoveFault>
         requires lies { LiesIn t.now.nodes dir superior }
         requires pages { 0 < pages }
         requires table { IsTable self.now }
         requires fits { Fits t.now.nodes self.now }
-        ensures { result ≡ move_answer self.now (above (shapes t.now.nodes)) dir true pages }
+        ensures { result ≡ move_answer self.now (above (shapes t.now.nodes)) dir down pages }
     {
-        let up = t.superiors(superior);
         let below = self.directories.cell(dir);
         let above = self.directories.cell(superior);
+        if !down {
+            return moves::refusal_up(below, above, pages);
+        }
+        let up = t.superiors(superior);
         let account = self.directories.account(up.as_slice());
         moves::refusal_down(below, above, account, pages)
-    }
-
-    /// What a move of so many pages of quota from a directory to its superior would be refused for.
-    fn may_move_up(&self, t: &Tree, dir: u32, superior: u32, pages: u32) -> Result<(), MoveFault>
-        requires lies { LiesIn t.now.nodes dir superior }
-        requires pages { 0 < pages }
-        requires table { IsTable self.now }
-        requires fits { Fits t.now.nodes self.now }
-        ensures { result ≡ move_answer self.now (above (shapes t.now.nodes)) dir false pages }
-    {
-        let below = self.directories.cell(dir);
-        let above = self.directories.cell(superior);
-        moves::refusal_up(below, above, pages)
     }
 
     /// Moves quota between a directory and its immediate superior: a positive amount down to the directory, a

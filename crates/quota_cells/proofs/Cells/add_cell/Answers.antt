@@ -1,6 +1,6 @@
 use Rattle.std.proofs.Common.{◌≡◌, true, false, sym, subst}
 use Rattle.quota_cells.specs.Cells.{CellMaps, IsTable, has_cell}
-use Rattle.quota_cells.specs.Columns.{both_maps}
+use Rattle.quota_cells.specs.Columns.{NumberMap, both_maps}
 use Rattle.quota_cells.proofs.EnterLaws.{table_entered}
 use Rattle.quota_cells.proofs.Cells.add_cell.Goals as goal
 
@@ -13,6 +13,6 @@ invariant_of-self c =
 pub invariant_of-self-else-dir : goal.invariant_of-self-else-dir
 invariant_of-self-else-dir c =
     let absent = subst (λ (m : CellMaps). has_cell m c.args.uid ≡ false) (sym c.self.view_is) c.requires.absent in
-    subst (λ (m : CellMaps). IsTable (both_maps c.self.inside.directories m)) (sym c.enter-else-dir.ensures)
+    subst (λ (m : NumberMap). IsTable (both_maps c.self.inside.directories m)) (sym c.enter-else-dir.ensures.numbers)
     (table_entered (both_maps c.self.inside.directories c.self.inside.segments) c.self.invariant c.args.uid absent
     false)

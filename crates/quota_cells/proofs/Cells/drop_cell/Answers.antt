@@ -1,12 +1,12 @@
 use Rattle.std.proofs.Common.{◌≡◌, ℕ, true, false, sym, subst, ◌∙◌}
 use Rattle.quota_cells.specs.Accounts.{has}
 use Rattle.quota_cells.specs.Cells.{CellMaps, IsTable, has_cell, left, quota_in, stored_in}
-use Rattle.quota_cells.specs.Columns.{both_maps}
+use Rattle.quota_cells.specs.Columns.{NumberMap, both_maps}
 use Rattle.quota_cells.proofs.EnterLaws.{table_left}
 use Rattle.quota_cells.proofs.Cells.drop_cell.Goals as goal
 
 -- the cells without that of a uid, as they are where they were seen so
-left_table : (d s now : CellMaps) (uid : ℕ) → both_maps d s ≡ now → IsTable (both_maps d s) → has_cell now uid ≡ true
+left_table : (d : CellMaps) (s : NumberMap) (now : CellMaps) (uid : ℕ) → both_maps d s ≡ now → IsTable (both_maps d s) → has_cell now uid ≡ true
     → quota_in now uid ≡ 0 → stored_in now uid ≡ 0 → IsTable (left (both_maps d s) uid)
 left_table d s now uid seen table there quota stored =
     table_left (both_maps d s) table uid (subst (λ (m : CellMaps). has_cell m uid ≡ true) (sym seen) there)
@@ -24,7 +24,7 @@ invariant_of-self c =
 pub invariant_of-self-else-has : goal.invariant_of-self-else-has
 invariant_of-self-else-has c =
     let off : has c.self.inside.directories.directories c.args.uid ≡ false = sym c.has.ensures ∙ c.if-has.false in
-    subst (λ (m : CellMaps). IsTable (both_maps c.self.inside.directories m)) (sym c.leave-else-has.ensures)
+    subst (λ (m : NumberMap). IsTable (both_maps c.self.inside.directories m)) (sym c.leave-else-has.ensures.numbers)
     (rw off at (left_table c.self.inside.directories c.self.inside.segments c.args.self.now c.args.uid c.self.view_is
     c.self.invariant c.requires.cell c.requires.quota
     c.requires.stored))

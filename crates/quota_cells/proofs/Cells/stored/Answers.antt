@@ -8,6 +8,6 @@ use Rattle.quota_cells.specs.Laws.{look_absent}
 pub returns-clause-quota : goal.returns-clause-quota
 returns-clause-quota c =
     rw (← c.self.view_is) (look_absent c.self.inside.directories.directories c.self.inside.directories.quotas c.args.seg
-    (false_from_ne_true _ (λ is. both_ways (has c.self.inside.segments.segments c.args.seg)
+    (false_from_ne_true _ (λ is. both_ways (has c.self.inside.segments.uids c.args.seg)
     (c.self.invariant.apart c.args.seg is)
     (subst (λ (x : CellMaps). has x.segments c.args.seg ≡ true) (sym c.self.view_is) c.requires))))

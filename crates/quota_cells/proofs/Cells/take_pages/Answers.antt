@@ -4,8 +4,8 @@ use Rattle.quota_cells.specs.Cells.{CellMaps, quota_in, load_in, IsTable, credit
 use Rattle.quota_cells.specs.Columns.{both_maps}
 use Rattle.quota_cells.proofs.Cells.take_pages.Goals as goal
 
-pub lower-requires-clause-loads : goal.lower-requires-clause-loads
-lower-requires-clause-loads c = subst (λ (m : CellMaps). (e : ℕ) → covers (quota_in m) c.args.up.now e ≡ true
+pub count-requires-clause-room : goal.count-requires-clause-room
+count-requires-clause-room c = subst (λ (m : CellMaps). (e : ℕ) → covers (quota_in m) c.args.up.now e ≡ true
     → c.args.pages ≤ load_in m e)
     (sym c.self.view_is) c.requires.loads
 
@@ -15,10 +15,10 @@ invariant_of-self c =
     let table : IsTable (credited s c.args.up.now c.args.seg c.args.pages) =
     subst (λ (m : CellMaps). IsTable (credited m c.args.up.now c.args.seg c.args.pages)) (sym c.self.view_is)
     c.requires.table in
-    rw (c.lower.ensures, c.set.ensures, c.stored.ensures) table
+    rw (c.count.ensures, c.set.ensures, c.look.ensures) table
 
 pub returns : goal.returns
 returns c =
     let s : CellMaps = both_maps c.self.inside.directories c.self.inside.segments in
-    rw (c.lower.ensures, c.set.ensures, c.stored.ensures)
+    rw (c.count.ensures, c.set.ensures, c.look.ensures)
     (ap (λ (m : CellMaps). credited m c.args.up.now c.args.seg c.args.pages) c.self.view_is)

@@ -1,33 +1,28 @@
-use Rattle.std.proofs.Common.{◌≡◌, true, map, sym, ap, subst, ◌∙◌, arith}
-use Rattle.std.proofs.lemmas.Bool.{both_ways}
-use Rattle.quota_cells.specs.Accounts.{has}
-use Rattle.quota_cells.specs.Cells.{CellMaps, IsRising, with_directory}
-use Rattle.quota_cells.specs.Columns.{IsGap, directory_maps}
-use Rattle.quota_cells.proofs.PlaceLaws.{has_at}
-use Rattle.quota_cells.proofs.EditLaws.{rising_insert}
-use Rattle.quota_cells.proofs.RowLaws.{map-insert, entered_row}
+use Rattle.std.proofs.Common.{ap, ◌∙◌, refl, arith}
+use Rattle.std.proofs.lemmas.List.Edits.{length-insert}
+use Rattle.quota_cells.specs.Cells.{CellMaps, with_directory}
+use Rattle.quota_cells.specs.Columns.{directory_maps}
+use Rattle.quota_cells.proofs.RowLaws.{insert_beside}
 use Rattle.quota_cells.proofs.directories.Directories.enter.Goals as goal
-
-pub unreachable-requires : goal.unreachable-requires
-unreachable-requires c = both_ways _ c.requires.absent
-    (subst (λ u. has c.args.self.now.directories u ≡ true) c.in_default.ensures.is
-    (has_at c.args.self.now.directories c.in_default.field-0 c.in_default.ensures.found))
 
 pub invariant_of-self : goal.invariant_of-self
 invariant_of-self c =
-    let gap : IsGap (directory_maps c.self.inside.cells.items).directories c.args.uid c.in-Err.at =
-    subst (λ (m : CellMaps). IsGap m.directories c.args.uid c.in-Err.at) (sym c.self.view_is) c.in-Err.ensures.gap in (
-      subst IsRising (sym (ap (map (λ x. x.uid)) c.in-Ok.ensures.items
-          ∙ map-insert (λ x. x.uid) c.self.inside.cells.items c.in-Err.at
-          (record { uid = c.args.uid; quota = 0; load = 0 })))
-          (rising_insert (directory_maps c.self.inside.cells.items).directories c.args.uid c.in-Err.at
-          c.self.invariant.0 gap),
-      omega (arith, c.self.invariant.1, c.in-Ok.ensures.capacity),
+    let old = c.self.inside.quotas.uids in
+    let at = c.enter-at.result in
+    let uids = length-insert old at c.args.uid c.enter-at.ensures.gap.within in
+    let loads = length-insert c.self.inside.loads.items at 0 (rw c.self.invariant.0 c.enter-at.ensures.gap.within) in (
+      rw (
+        c.put.ensures.items,
+        c.enter-at.ensures.numbers,
+        ← insert_beside old old c.args.uid at c.args.uid refl
+            c.enter-at.ensures.gap,
+      ) (omega (arith, uids, loads, c.self.invariant.0)),
+      omega (arith, c.self.invariant.1, c.put.ensures.capacity),
     )
 
 pub returns : goal.returns
 returns c =
-    let gap : IsGap (directory_maps c.self.inside.cells.items).directories c.args.uid c.in-Err.at =
-    subst (λ (m : CellMaps). IsGap m.directories c.args.uid c.in-Err.at) (sym c.self.view_is) c.in-Err.ensures.gap in
-    ap directory_maps c.in-Ok.ensures.items ∙ entered_row c.self.inside.cells.items c.in-Err.at c.args.uid gap
+    let loads = c.put.ensures.items ∙ insert_beside c.self.inside.quotas.uids c.self.inside.loads.items c.args.uid
+    c.enter-at.result 0 c.self.invariant.0 c.enter-at.ensures.gap in
+    (λ i. directory_maps (c.enter-at.ensures.numbers i) (loads i))
     ∙ ap (λ (m : CellMaps). with_directory m c.args.uid) c.self.view_is

@@ -1,27 +1,33 @@
-use Rattle.std.proofs.Common.{◌<◌, length, map, get_or, sym, ap, subst, ◌∙◌, arith}
-use Rattle.quota_cells.specs.Cells.{CellMaps, IsRising, without_directory}
+use Rattle.std.proofs.Common.{ap, ◌∙◌, refl, arith}
+use Rattle.std.proofs.lemmas.List.Edits.{length-remove}
+use Rattle.quota_cells.specs.Accounts.{without_beside}
+use Rattle.quota_cells.specs.Cells.{CellMaps, without_directory}
 use Rattle.quota_cells.specs.Columns.{directory_maps}
-use Rattle.quota_cells.proofs.EditLaws.{rising_remove}
-use Rattle.quota_cells.proofs.RowLaws.{map-remove, left_row}
+use Rattle.quota_cells.proofs.RowLaws.{remove_beside}
 use Rattle.quota_cells.proofs.directories.Directories.leave.Goals as goal
 
 pub invariant_of-self : goal.invariant_of-self
 invariant_of-self c =
-    let within : c.place-at.result < length (directory_maps c.self.inside.cells.items).directories =
-    subst (λ (m : CellMaps). c.place-at.result < length m.directories) (sym c.self.view_is) c.place-at.ensures.within
-    in (
-      subst IsRising (sym (ap (map (λ x. x.uid)) c.remove.ensures.items
-          ∙ map-remove (λ x. x.uid) c.self.inside.cells.items c.place-at.result))
-          (rising_remove (directory_maps c.self.inside.cells.items).directories c.place-at.result c.self.invariant.0
-          within),
+    let old = c.self.inside.quotas.uids in
+    let at = c.leave-at.result in
+    let uids = length-remove old at c.leave-at.ensures.within in
+    let loads = length-remove c.self.inside.loads.items at (rw c.self.invariant.0 c.leave-at.ensures.within) in (
+      rw (
+        c.remove.ensures.items,
+        c.leave-at.ensures.numbers,
+        ← c.leave-at.ensures.is,
+        ← remove_beside old old at refl
+            c.leave-at.ensures.rising c.leave-at.ensures.within,
+      ) (omega (arith, uids, loads, c.self.invariant.0)),
       omega (arith, c.self.invariant.1, c.remove.ensures.capacity),
     )
 
 pub returns : goal.returns
 returns c =
-    let within : c.place-at.result < length (directory_maps c.self.inside.cells.items).directories =
-    subst (λ (m : CellMaps). c.place-at.result < length m.directories) (sym c.self.view_is) c.place-at.ensures.within in
-    ap directory_maps c.remove.ensures.items ∙ left_row c.self.inside.cells.items c.place-at.result c.self.invariant.0
-    within
-    ∙ ap (λ (m : CellMaps). without_directory m (get_or m.directories c.place-at.result 0)) c.self.view_is
-    ∙ ap (without_directory c.args.self.now) c.place-at.ensures.is
+    let us = c.self.inside.quotas.uids in
+    let loads = c.remove.ensures.items
+    ∙ remove_beside us c.self.inside.loads.items c.leave-at.result c.self.invariant.0 c.leave-at.ensures.rising
+    c.leave-at.ensures.within
+    ∙ ap (without_beside us c.self.inside.loads.items) c.leave-at.ensures.is in
+    (λ i. directory_maps (c.leave-at.ensures.numbers i) (loads i))
+    ∙ ap (λ (m : CellMaps). without_directory m c.args.uid) c.self.view_is

@@ -1,8 +1,0 @@
-use Rattle.std.proofs.Common.{◌∙◌}
-use Rattle.quota_cells.proofs.RowLaws.{decided}
-use Rattle.quota_cells.proofs.directories.Directories.has.Goals as goal
-
-pub returns : goal.returns
-returns c = c.is_ok.ensures.value ∙ decided c.args.self.now.directories c.args.uid c.search.result
-    c.search.ensures.found c.search.ensures.is
-    c.search.ensures.gap

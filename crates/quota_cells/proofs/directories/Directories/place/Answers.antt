@@ -1,7 +1,0 @@
-use Rattle.std.proofs.lemmas.Bool.{both_ways}
-use Rattle.quota_cells.proofs.PlaceLaws.{gap_absent}
-use Rattle.quota_cells.proofs.directories.Directories.place.Goals as goal
-
-pub unreachable-requires : goal.unreachable-requires
-unreachable-requires c = both_ways _ (gap_absent c.args.self.now.directories c.args.uid _ c.in-Err.ensures.gap)
-    c.requires
