@@ -13,7 +13,7 @@ use Rattle.tree_model.specs.Trees.{HasChains, EndsAtRoot}
 use Rattle.quota_cells.specs.Accounts.{has, covers, is_an_account}
 use Rattle.quota_cells.specs.Cells.{CellMaps, quota_in, load_in, Fits, IsTable, with_quota, IsRising, is_over}
 use Rattle.quota_cells.specs.Cells.{first_over}
-use Rattle.quota_cells.specs.Columns.{IsPlaced, CanGive}
+use Rattle.quota_cells.specs.Columns.{IsPlaced, CanGive, directories_of}
 use Rattle.quota_cells.proofs.AccountLaws.{covers_above}
 use Rattle.quota_cells.proofs.ColumnLaws.{two_le_sum}
 use Rattle.dir_tree.specs.Laws.{uid_shape, directory_in}
@@ -238,7 +238,7 @@ module _ (nodes : List Node) (c : CellMaps) (table : IsTable c) (fits : Fits nod
         falling f (f u) (chains.chain u);
   }
 
-  pub can_give : first_over c2 ≡ None → CanGive c g (f g) v (f v) n
+  pub can_give : first_over c2 ≡ None → CanGive (directories_of c) g (f g) v (f v) n
   can_give none = record {
     getter_placed = placed g here_g;
     giver_placed = placed v here_v;
@@ -251,5 +251,5 @@ module _ (nodes : List Node) (c : CellMaps) (table : IsTable c) (fits : Fits nod
     vanishes = λ all e is. room2 none all e is;
   }
 
-  pub gives : first_over c2 ≡ None → CanGive c g (f g) v (f v) n × IsTable c2
+  pub gives : first_over c2 ≡ None → CanGive (directories_of c) g (f g) v (f v) n × IsTable c2
   gives none = (can_give none, table2 none)

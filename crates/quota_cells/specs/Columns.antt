@@ -29,6 +29,10 @@ directory_maps quotas loads = record no_cells { directories = quotas.uids; quota
 abbrev pub both_maps : CellMaps → NumberMap → CellMaps
 both_maps d s = record d { segments = s.uids; stored = s.values }
 
+-- the maps of directories among these
+abbrev pub directories_of : CellMaps → CellMaps
+directories_of c = record no_cells { directories = c.directories; quotas = c.quotas; loads = c.loads }
+
 -- the directory's cell that stands there
 abbrev pub cell_from : CellMaps → ℕ → ℕ → Cell
 cell_from c u i = record { uid = u; quota = slice_index c.quotas i; load = slice_index c.loads i }

@@ -5,7 +5,7 @@ ghost use Rattle.tree_model.specs.Tree.{account};
 ghost use Rattle.quota_cells.specs.Accounts.{has, covers, with_value};
 ghost use Rattle.quota_cells.specs.Cells.{IsRising, quota_in, load_in, root_cell, with_loads, loads_then};
 ghost use Rattle.quota_cells.specs.Cells.{with_quota, given, with_directory, without_directory};
-ghost use Rattle.quota_cells.specs.Columns.{AreThere, IsFalling, CanChange, CanGive, cell_from};
+ghost use Rattle.quota_cells.specs.Columns.{AreThere, IsFalling, CanChange, CanGive, cell_from, directories_of};
 ghost use Rattle.quota_cells.specs.Columns.{HasRoom, counted_on, counted};
 ghost use Rattle.quota_cells.specs.Moves.{cell_in};
 
@@ -208,7 +208,8 @@ impl Directories {
 
     /// Gives one directory so many pages of another's quota, with what becomes of the loads.
     pub(crate) fn give(&mut self, getter: Placed, giver: Placed, pages: u32)
-        requires { CanGive self.old getter.directory getter.above.now giver.directory giver.above.now pages }
+        requires { CanGive (directories_of self.old) getter.directory getter.above.now giver.directory
+            giver.above.now pages }
         ensures { self.new ≡ given self.old getter.entry.directory getter.entry.above.now giver.entry.directory
             giver.entry.above.now pages }
     {

@@ -25,7 +25,7 @@ ghost use Rattle.dir_tree.specs.Nodes.{with_quotas, root_alone, is_in, is_direct
 ghost use Rattle.dir_tree.specs.Shape.{shapes};
 ghost use Rattle.tree_model.specs.Trees.{HasChains};
 ghost use Rattle.quota_cells.specs.Accounts.{has, covers, is_an_account};
-ghost use Rattle.quota_cells.specs.Columns.{AreThere, IsFalling, CanGive};
+ghost use Rattle.quota_cells.specs.Columns.{AreThere, IsFalling, CanGive, directories_of};
 ghost use Rattle.quota_cells.specs.Cells.{IsTable, quota_in, load_in, stored_in, used_in, Fits, AreWithin, root_cell};
 ghost use Rattle.quota_cells.specs.Cells.{charged, credited, charge_fault, has_cell, entered, left, Enters, Leaves};
 ghost use Rattle.quota_cells.specs.Cells.{moved};
@@ -480,7 +480,8 @@ impl Cells {
 
     /// Gives one directory so many pages of another's quota.
     fn give(&mut self, getter: Placed, giver: Placed, pages: u32)
-        requires can { CanGive self.old getter.directory getter.above.now giver.directory giver.above.now pages }
+        requires can { CanGive (directories_of self.old) getter.directory getter.above.now giver.directory
+            giver.above.now pages }
         requires table { IsTable (given self.old getter.directory getter.above.now giver.directory
             giver.above.now pages) }
         ensures { self.new ≡ given self.old getter.entry.directory getter.entry.above.now giver.entry.directory

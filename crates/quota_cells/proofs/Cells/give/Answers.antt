@@ -1,23 +1,12 @@
 use Rattle.std.proofs.Common.{◌∙◌, sym, ap, subst}
-use Rattle.quota_cells.specs.Columns.{CanGive, both_maps}
+use Rattle.quota_cells.specs.Columns.{CanGive, both_maps, directories_of}
 use Rattle.quota_cells.specs.Cells.{CellMaps, IsTable, given}
 use Rattle.quota_cells.proofs.Cells.give.Goals as goal
 
 pub give-requires : goal.give-requires
 give-requires c =
-    let can = subst (λ (m : CellMaps). CanGive m c.args.getter.directory c.args.getter.above.now c.args.giver.directory
-    c.args.giver.above.now c.args.pages)
-    (sym c.self.view_is) c.requires.can in
-    record {
-      getter_placed = can.getter_placed;
-      giver_placed = can.giver_placed;
-      other = can.other;
-      some = can.some;
-      enough = can.enough;
-      fits = can.fits;
-      appears = can.appears;
-      vanishes = can.vanishes;
-    }
+    subst (λ (m : CellMaps). CanGive (directories_of m) c.args.getter.directory c.args.getter.above.now
+    c.args.giver.directory c.args.giver.above.now c.args.pages) (sym c.self.view_is) c.requires.can
 
 pub invariant_of-self : goal.invariant_of-self
 invariant_of-self c =

@@ -1,6 +1,6 @@
 use Rattle.std.proofs.Common.{subst, ◌∙◌}
 use Rattle.quota_cells.specs.Cells.{IsTable, given}
-use Rattle.quota_cells.specs.Columns.{CanGive}
+use Rattle.quota_cells.specs.Columns.{CanGive, directories_of}
 use Rattle.quota_cells.proofs.OverLaws.{gives}
 use Rattle.quota_cells.proofs.Cells.transfer.Goals as goal
 use Rattle.dir_tree.specs.Laws.{directory_in}
@@ -14,7 +14,7 @@ superiors-above_giver-requires c = directory_in c.args.t.now.nodes c.args.giver 
 
 -- the getter can be given the pages, and the cells hold together then
 can : (c : goal.After-as_slice-2)
-    → CanGive c.args.self.now c.args.getter c.as_slice.result.now c.args.giver c.as_slice-2.result.now c.args.pages
+    → CanGive (directories_of c.args.self.now) c.args.getter c.as_slice.result.now c.args.giver c.as_slice-2.result.now c.args.pages
     × IsTable (given c.args.self.now c.args.getter c.as_slice.result.now c.args.giver c.as_slice-2.result.now
     c.args.pages)
 can c =
