@@ -8,7 +8,7 @@ use Rattle.tree_model.specs.Tree.{Node as Term}
 use Rattle.dir_tree.specs.declared.node.Node.{Node}
 use Rattle.dir_tree.specs.declared.entries.Entry.{Entry}
 use Rattle.dir_tree.specs.Index.{Places, Key, key_at, node_at, no_node}
-use Rattle.dir_tree.specs.Nodes.{with_changed, node_of, acl_of}
+use Rattle.dir_tree.specs.Nodes.{Branches, with_changed, node_of, acl_of}
 use Rattle.dir_tree.specs.Shape.{shape, shapes}
 use Rattle.tree_model.specs.Trees.{IsTree}
 use Rattle.dir_tree.specs.Kept.{entry_at, newest, IsKept, HasEntry}
@@ -135,3 +135,22 @@ others_kept u h keeps (n ∷ ns) v other = elim (cases_eq n.uid u) [
   | inr far ↦ rw (ne_eqb n.uid u far) (elim (cases_Bool (eqb n.uid v))
       [ inl is ↦ rw is refl | inr isnt ↦ rw isnt (others_kept u h keeps ns v other) ])
 ]
+
+-- what the tables show once a segment has been changed, where they showed this tree
+pub set_seen : {nodes : List Node} {es : List Entry} {free : List ℕ} {index : Places} {next : ℕ}
+    → IsKept nodes es free index next → (uid place : ℕ)
+    → (i : ℕ) × (i < length es) × ((entry_at es i).uid ≡ uid) × ((entry_at es i).place ≡ place)
+    → (h : Node → Node) → ((n : Node) → shape (h n) ≡ shape n) → (x : Node) → x ≡ get_or nodes place x
+    → {now : Branches} → record { nodes = newest nodes es; next = next } ≡ now → record {
+      kept : IsKept (set nodes place (h x)) es free index next;
+      tree : record { nodes = newest (set nodes place (h x)) es; next = next }
+          ≡ record now { nodes = with_changed uid h now.nodes };
+      shapes : shapes (newest (set nodes place (h x)) es) ≡ shapes now.nodes;
+    }
+set_seen {next = next} k uid place at h keeps x read seen =
+    let set = set_kept k uid place at h keeps x read in record {
+      kept = set.0;
+      tree = ap (λ (ns : List Node). record { nodes = ns; next = next }) set.1
+          ∙ ap (λ (t : Branches). record t { nodes = with_changed uid h t.nodes }) seen;
+      shapes = ap shapes set.1 ∙ shapes_changed uid h keeps _ ∙ ap (λ (t : Branches). shapes t.nodes) seen;
+    }

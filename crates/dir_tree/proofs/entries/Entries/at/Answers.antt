@@ -1,4 +1,4 @@
-use Rattle.dir_tree.proofs.SlotLemmas.{slot_within, slot_is}
+use Rattle.dir_tree.proofs.SlotLemmas.{slot_is}
 use Rattle.dir_tree.proofs.entries.Entries.at.Goals as goal
 
 pub returns : goal.returns
