@@ -58,7 +58,7 @@ module _ {nodes : List Node} {es : List Entry} {free : List ℕ} {index : Places
     old_key i lt = ap key_of (others (get_or index.places i 0)
         (λ e. no_place_yet (record { at = i; within = lt; is = e })))
 
-    pub sorted_still : IsSorted nodes' index.places
+    sorted_still : IsSorted nodes' index.places
     sorted_still i j lt in_j = rw (old_key i (omega arith), old_key j in_j) (k.sorted i j lt in_j)
 
     within_more : (p : ℕ) → p < length nodes → p < length nodes'
@@ -68,10 +68,10 @@ module _ {nodes : List Node} {es : List Entry} {free : List ℕ} {index : Places
       | inr some ↦ (let g : length nodes' ≡ length nodes = rw (ne_eqb (length free) 0 some) at grown in omega arith)
     ]
 
-    pub within_still : AreWithin nodes' index.places
+    within_still : AreWithin nodes' index.places
     within_still i lt = within_more (get_or index.places i 0) (places_within k i lt)
 
-    pub new_within : place < length nodes'
+    new_within : place < length nodes'
     new_within = elim (cases_eq (length free) 0) [
       | inl none ↦
           (let g : length nodes' ≡ length nodes + 1 = rw (eq-eqb (length free) 0 none) at grown in
@@ -80,6 +80,9 @@ module _ {nodes : List Node} {es : List Entry} {free : List ℕ} {index : Places
           (let last : place ≡ get_or free (length free - 1) 0 = rw (ne_eqb (length free) 0 some) at is_place in
           within_more place (rw last (k.free_within (length free - 1) (omega arith))))
     ]
+
+    pub asked : IsSorted nodes' index.places × AreWithin nodes' index.places × (place < length nodes')
+    asked = (sorted_still, within_still, new_within)
 
     -- no branch that is there has its key
     pub new_key : (s : ℕ) (n : Node) → node_at nodes' place ≡ n → n.superior ≡ Some s

@@ -5,10 +5,10 @@ use Rattle.dir_tree.specs.declared.node.Node.{Node}
 use Rattle.dir_tree.specs.declared.node.NewNode.{NewNode}
 use Rattle.dir_tree.specs.declared.entries.Entry.{Entry}
 use Rattle.dir_tree.specs.Nodes.{Branches, is_directory, add_fault_of, added as tree_added}
-use Rattle.dir_tree.specs.Index.{no_node}
+use Rattle.dir_tree.specs.Index.{IsSorted, AreWithin, no_node}
 use Rattle.dir_tree.specs.Shape.{shape, shapes}
 use Rattle.dir_tree.specs.Kept.{newest, recounted, IsCounted, IsKept}
-use Rattle.dir_tree.proofs.AddedLemmas.{place_unused, place_room, sorted_still, within_still, new_within, new_key}
+use Rattle.dir_tree.proofs.AddedLemmas.{place_unused, place_room, asked, new_key}
 use Rattle.dir_tree.proofs.AddedLemmas.{added}
 use Rattle.dir_tree.proofs.CountLemmas.{superior_there, pushed_few, counted_with, newest_recounted, kept_recounted}
 use Rattle.dir_tree.proofs.KeptLemmas.{no_fault}
@@ -50,23 +50,21 @@ insert-requires-clause-room c =
     (may_at c.args.superior c.args.new.name c.args.new.dir c.self.view_is c.requires.may) in
     omega (arith, c.self.invariant.0.branches, c.self.invariant.0.room)
 
+-- what the index asks for holds once the new node stands in its place
+ready : (c : goal.After-deref) → IsSorted c.store-place.new.nodes.items c.self.inside.index.places
+    × AreWithin c.store-place.new.nodes.items c.self.inside.index.places
+    × (c.store-place.result < length c.store-place.new.nodes.items)
+ready c = asked c.self.invariant.0 c.store-place.result c.store-place.ensures.place c.store-place.new.nodes.items
+    c.store-place.ensures.others c.store-place.ensures.count
+
 pub insert-requires-clause-sorted : goal.insert-requires-clause-sorted
-insert-requires-clause-sorted c = rw c.deref.ensures.value
-    (sorted_still c.self.invariant.0 c.store-place.result c.store-place.ensures.place c.store-place.new.nodes.items
-    c.store-place.ensures.others
-    c.store-place.ensures.count)
+insert-requires-clause-sorted c = rw c.deref.ensures.value (ready c).0
 
 pub insert-requires-clause-within : goal.insert-requires-clause-within
-insert-requires-clause-within c = rw c.deref.ensures.value
-    (within_still c.self.invariant.0 c.store-place.result c.store-place.ensures.place c.store-place.new.nodes.items
-    c.store-place.ensures.others
-    c.store-place.ensures.count)
+insert-requires-clause-within c = rw c.deref.ensures.value (ready c).1
 
 pub insert-requires-clause-node : goal.insert-requires-clause-node
-insert-requires-clause-node c = rw c.deref.ensures.value
-    (new_within c.self.invariant.0 c.store-place.result c.store-place.ensures.place c.store-place.new.nodes.items
-    c.store-place.ensures.others
-    c.store-place.ensures.count)
+insert-requires-clause-node c = rw c.deref.ensures.value (ready c).2
 
 pub insert-requires-clause-new : goal.insert-requires-clause-new
 insert-requires-clause-new c =
