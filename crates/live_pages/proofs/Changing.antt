@@ -128,15 +128,15 @@ module _ (z : Size) where
             hd.touch;
         word = hd.word;
       } in
-      let hand = subst (HandOk z.frames z.cpus s.words h.plan.watch h.holder h.given h.log id) has own.1.hand_ok in
+      let hand = subst (HandOk z.frames z.cpus s.words h.known.plan.watch h.known.holder h.known.given h.known.log id) has own.1.hand_ok in
       let entry = subst (λ x. HoldsHand x w.walk) has own.1.holds in
-      let binding : binding_at w.walk f ≡ current h.plan.watch f =
-      entry_is_current s.words h.plan.watch w.walk f entry.0 own.1.pass_ok entry.1 in
-      let page_is : page ≡ after h.given f (binding_at w.walk f) h.log = hand.3
-      ∙ ap (λ b. after h.given f b h.log) (sym binding) in
+      let binding : binding_at w.walk f ≡ current h.known.plan.watch f =
+      entry_is_current s.words h.known.plan.watch w.walk f entry.0 own.1.pass_ok entry.1 in
+      let page_is : page ≡ after h.known.given f (binding_at w.walk f) h.known.log = hand.3
+      ∙ ap (λ b. after h.known.given f b h.known.log) (sym binding) in
       let inside = hand.0 in
-      let cpu : w.walk.cpu < h.plan.watch.made = own.1.pass_ok.made in
-      let mine_few : length (mine w.walk.cpu h.log) < 2 ^ 32 =
+      let cpu : w.walk.cpu < h.known.plan.watch.made = own.1.pass_ok.made in
+      let mine_few : length (mine w.walk.cpu h.known.log) < 2 ^ 32 =
       subst (λ (l : List Made). length l < 2 ^ 32) own.1.made few in
       let m : ℕ = (n + 1) % 2 ^ 64 in
       let stays : (g : ℕ) → g < z.frames → get_or (set s.words (ticket_at z.frames z.cpus) m)
@@ -148,24 +148,19 @@ module _ (z : Size) where
         keeps,
         tt,
         record {
-          plan = h.plan;
-          keeper = h.keeper;
-          seat_of = h.seat_of;
-          holder = h.holder;
-          given = h.given;
-          log = e ∷ h.log;
-          book_ok = book_touched z.frames z.cpus s.words h.plan h.holder h.given h.log e n low refl refl cpu binding
+          known = record h.known { log = e ∷ h.known.log };
+          book_ok = book_touched z.frames z.cpus s.words h.known.plan h.known.holder h.known.given h.known.log e n low refl refl cpu binding
               (word
-              ∙ ap (answer hd.touch) page_is) mine_few own.1.out page h.plan.hand h.book_ok;
+              ∙ ap (answer hd.touch) page_is) mine_few own.1.out page h.known.plan.hand h.book_ok;
           slots_ok = λ g within free.
               let old = h.slots_ok g within (sym (stays g within) ∙ free) in
               let other : f ≢ g = λ is. hand.2 (ap (λ k. get_or s.words (turn_at z.frames z.cpus k) 0) is
               ∙ sym (stays g within) ∙ free) in
-              (old.0, old.1, old.2 ∙ sym (after_frame h.given g (current h.plan.watch g) e h.log other));
+              (old.0, old.1, old.2 ∙ sym (after_frame h.known.given g (current h.known.plan.watch g) e h.known.log other));
           turns_ok = λ g within busy.
               let old = h.turns_ok g within (λ is. busy (stays g within ∙ is)) in
-              dite (ℕ_discrete (h.holder g) id)
-              (λ (here : h.holder g ≡ id).
+              dite (ℕ_discrete (h.known.holder g) id)
+              (λ (here : h.known.holder g ≡ id).
               let is : old.0 ≡ Passing w = M.some-injective _ _ (sym old.2 ∙ ap (get_elem? s.views) here ∙ at) in
               let frame : f ≡ g = has_frame f g page old.1 (sym has ∙ sym (ap hand_of is) ∙ old.3) in (
                 Passing w',
@@ -173,39 +168,39 @@ module _ (z : Size) where
                 ap (get_elem? (set s.views id (Passing w'))) here ∙ set_at s.views id (Passing w) (Passing w') at,
                 ap (λ k. Has k hd.page) frame,
               ))
-              (λ (other : h.holder g ≢ id). (
+              (λ (other : h.known.holder g ≢ id). (
                 old.0,
                 old.1,
-                set_else s.views id (h.holder g) (Passing w') other
+                set_else s.views id (h.known.holder g) (Passing w') other
                     ∙ old.2,
                 old.3,
               ));
-          seats_ok = seats_stay (SeatOk z.frames z.cpus (set s.words (ticket_at z.frames z.cpus) m) h.plan h.keeper
-              h.seat_of h.holder h.given (e ∷ h.log))
+          seats_ok = seats_stay (SeatOk z.frames z.cpus (set s.words (ticket_at z.frames z.cpus) m) h.known.plan h.known.keeper
+              h.known.seat_of h.known.holder h.known.given (e ∷ h.known.log))
               s.views id (Passing w') (
                 own.0,
                 record {
                   all = own.1.all;
-                  pass_ok = pass_above z.frames z.cpus s.words h.plan.watch w.walk (ticket_at z.frames z.cpus) m
+                  pass_ok = pass_above z.frames z.cpus s.words h.known.plan.watch w.walk (ticket_at z.frames z.cpus) m
                       (omega arith) h.book_ok.plan_ok own.1.pass_ok;
-                  made = ap (λ (l : List Made). e ∷ l) own.1.made ∙ sym (mine_here w.walk.cpu e h.log refl);
+                  made = ap (λ (l : List Made). e ∷ l) own.1.made ∙ sym (mine_here w.walk.cpu e h.known.log refl);
                   hand_ok = (
                     hand.0,
                     hand.1,
                     (λ is. hand.2 (sym (stays f hand.0) ∙ is)),
                     after_touch ∙ ap (touched hd.touch) hand.3
-                        ∙ sym (after_here h.given f (current h.plan.watch f) e h.log refl binding),
+                        ∙ sym (after_here h.known.given f (current h.known.plan.watch f) e h.known.log refl binding),
                   );
                   holds = entry;
                   out = own.1.out;
                 },
               )
-              (λ j v other there. others s.words h.plan h.keeper h.seat_of h.holder h.given h.log e m own.0 hand.1 refl
+              (λ j v other there. others s.words h.known.plan h.known.keeper h.known.seat_of h.known.holder h.known.given h.known.log e m own.0 hand.1 refl
               refl h.book_ok.plan_ok j v other
               (h.seats_ok j v there));
         },
         λ g k rest is. (
-          own_below h.given h.log w.made n w.walk.cpu h.book_ok.legal own.1.made h.book_ok.ticket,
+          own_below h.known.given h.known.log w.made n w.walk.cpu h.book_ok.legal own.1.made h.book_ok.ticket,
           told n
               g k rest is,
         ),
@@ -360,12 +355,12 @@ module _ (z : Size) where
       let n : ℕ = 2 * (current k.watch f + 1) in
       let words' : List ℕ = set s.words (door_at f) n in
       let k' : Holder = bound_anew f hd.page k in
-      let given' : Given = regiven f (current k.watch f + 1) hd.page h.given in
-      let book : BookOk z.frames z.cpus s.words k h.given h.log =
-      subst (λ p. BookOk z.frames z.cpus s.words p h.given h.log) (sym own.1) h.book_ok in
-      let hand : HandOk z.frames z.cpus s.words k.watch h.holder h.given h.log id (Has f page) =
-      subst (HandOk z.frames z.cpus s.words k.watch h.holder h.given h.log id) has
-      (subst (λ p. HandOk z.frames z.cpus s.words p.watch h.holder h.given h.log id k.hand) (sym own.1) own.2) in
+      let given' : Given = regiven f (current k.watch f + 1) hd.page h.known.given in
+      let book : BookOk z.frames z.cpus s.words k h.known.given h.known.log =
+      subst (λ p. BookOk z.frames z.cpus s.words p h.known.given h.known.log) (sym own.1) h.book_ok in
+      let hand : HandOk z.frames z.cpus s.words k.watch h.known.holder h.known.given h.known.log id (Has f page) =
+      subst (HandOk z.frames z.cpus s.words k.watch h.known.holder h.known.given h.known.log id) has
+      (subst (λ p. HandOk z.frames z.cpus s.words p.watch h.known.holder h.known.given h.known.log id k.hand) (sym own.1) own.2) in
       let inside = hand.0 in
       let stays : (i : ℕ) → 1 + z.frames + z.cpus ≤ i → get_or words' i 0
       ≡ get_or s.words i 0 = λ i above. get_or-set_other s.words (door_at f) i n 0 (λ e. omega arith) in (
@@ -373,32 +368,27 @@ module _ (z : Size) where
         keeps,
         tt,
         record {
-          plan = k';
-          keeper = h.keeper;
-          seat_of = h.seat_of;
-          holder = h.holder;
-          given = given';
-          log = h.log;
+          known = record h.known { plan = k'; given = given' };
           book_ok = record {
             plan_ok = plan_admitted z.frames z.cpus s.words k.watch f inside book.plan_ok;
             room = (let l = length-set s.words (door_at f) n in let r = book.room in omega arith);
             parts = book.parts;
             ticket = stays (ticket_at z.frames z.cpus) (omega arith) ∙ book.ticket;
-            legal = legal_next z.cpus k.watch f hd.page h.given h.log book.bindings book.legal;
-            bindings = bindings_stay z.cpus k.watch (admitted f k.watch) h.log
+            legal = legal_next z.cpus k.watch f hd.page h.known.given h.known.log book.bindings book.legal;
+            bindings = bindings_stay z.cpus k.watch (admitted f k.watch) h.known.log
                 (current_up z.frames z.cpus s.words k.watch f inside book.plan_ok) book.bindings;
             few = book.few;
             left = (
-              left_stays given' k.watch (admitted f k.watch) h.log k.ended
+              left_stays given' k.watch (admitted f k.watch) h.known.log k.ended
                   (current_up z.frames z.cpus s.words k.watch f inside book.plan_ok)
-                  (left_next k.watch f hd.page h.given h.log k.ended book.left),
+                  (left_next k.watch f hd.page h.known.given h.known.log k.ended book.left),
               subst (λ j. current k.watch f < j) (sym (current_next z.frames z.cpus s.words k.watch f inside
                   book.plan_ok)) (omega arith),
-              ap page_of has ∙ hand.3 ∙ sym (after_else f (current k.watch f + 1) hd.page h.given f (current k.watch f)
-                  h.log (inr (λ e. omega arith))),
-              sym (regiven_here f (current k.watch f + 1) hd.page h.given),
+              ap page_of has ∙ hand.3 ∙ sym (after_else f (current k.watch f + 1) hd.page h.known.given f (current k.watch f)
+                  h.known.log (inr (λ e. omega arith))),
+              sym (regiven_here f (current k.watch f + 1) hd.page h.known.given),
             );
-            zeros = λ g. regiven_binding f (current k.watch f + 1) hd.page h.given g 0 (λ e. omega arith)
+            zeros = λ g. regiven_binding f (current k.watch f + 1) hd.page h.known.given g 0 (λ e. omega arith)
                 ∙ book.zeros g;
             given_is = λ g b. ap (cond (eqb g f && eqb b (current k.watch f + 1)) hd.page) (book.given_is g b);
             in_turn = (book.in_turn, book.last f);
@@ -416,14 +406,14 @@ module _ (z : Size) where
               λ e. hand.2 (ap (λ j. get_or s.words (turn_at z.frames z.cpus j) 0) (sym e) ∙ was) in (
                 old.0,
                 old.1,
-                old.2 ∙ ap (λ p. after h.given g (current p.watch g) h.log) (sym own.1)
-                    ∙ moved k.watch h.given h.log g other
+                old.2 ∙ ap (λ p. after h.known.given g (current p.watch g) h.known.log) (sym own.1)
+                    ∙ moved k.watch h.known.given h.known.log g other
                     (current_else z.frames z.cpus s.words k.watch f inside book.plan_ok g other),
               );
           turns_ok = λ g within busy.
               let old = h.turns_ok g within (λ e. busy (stays (turn_at z.frames z.cpus g) (omega arith) ∙ e)) in
-              dite (ℕ_discrete (h.holder g) id)
-              (λ (here : h.holder g ≡ id).
+              dite (ℕ_discrete (h.known.holder g) id)
+              (λ (here : h.known.holder g ≡ id).
               let is : old.0 ≡ Keeping k = M.some-injective _ _ (sym old.2 ∙ ap (get_elem? s.views) here ∙ at) in
               let frame : f ≡ g = has_frame f g page old.1 (sym has ∙ sym (ap hand_of is) ∙ old.3) in (
                 Keeping k',
@@ -431,14 +421,14 @@ module _ (z : Size) where
                 ap (get_elem? (set s.views id (Keeping k'))) here ∙ set_at s.views id (Keeping k) (Keeping k') at,
                 ap (λ j. Has j hd.page) frame,
               ))
-              (λ (other : h.holder g ≢ id). (
+              (λ (other : h.known.holder g ≢ id). (
                 old.0,
                 old.1,
-                set_else s.views id (h.holder g) (Keeping k') other
+                set_else s.views id (h.known.holder g) (Keeping k') other
                     ∙ old.2,
                 old.3,
               ));
-          seats_ok = seats_stay (SeatOk z.frames z.cpus words' k' h.keeper h.seat_of h.holder given' h.log) s.views id
+          seats_ok = seats_stay (SeatOk z.frames z.cpus words' k' h.known.keeper h.known.seat_of h.known.holder given' h.known.log) s.views id
               (Keeping k') (
                 own.0,
                 refl,
@@ -446,14 +436,14 @@ module _ (z : Size) where
                   inside,
                   hand.1,
                   (λ e. hand.2 (sym (stays (turn_at z.frames z.cpus f) (omega arith)) ∙ e)),
-                  sym (after_next z.cpus k.watch f hd.page h.given h.log book.bindings)
-                      ∙ ap (λ b. after given' f b h.log) (sym
+                  sym (after_next z.cpus k.watch f hd.page h.known.given h.known.log book.bindings)
+                      ∙ ap (λ b. after given' f b h.known.log) (sym
                       (current_next z.frames z.cpus s.words k.watch f inside book.plan_ok)),
                 ),
               )
-              (λ j v other there. others s.words h.keeper h.seat_of h.holder h.given h.log inside own.0 hand.1
+              (λ j v other there. others s.words h.known.keeper h.known.seat_of h.known.holder h.known.given h.known.log inside own.0 hand.1
               book.plan_ok stays j v other
-              (subst (λ p. SeatOk z.frames z.cpus s.words p h.keeper h.seat_of h.holder h.given h.log j v) (sym own.1)
+              (subst (λ p. SeatOk z.frames z.cpus s.words p h.known.keeper h.known.seat_of h.known.holder h.known.given h.known.log j v) (sym own.1)
               (h.seats_ok j v there)));
         },
         λ g x rest is. told g x rest is,

@@ -64,27 +64,22 @@ module _ (z : Size) where
       → Splits (InOrder z) id (Keeping k) (keeper_with_pass (Keeping k)) (pass_of_keeper (Keeping k))
   admits id k room row count s h at =
       let own = h.seats_ok id (Keeping k) at in
-      let book : BookOk z.frames z.cpus s.words k h.given h.log =
-      subst (λ p. BookOk z.frames z.cpus s.words p h.given h.log) (sym own.1) h.book_ok in
+      let book : BookOk z.frames z.cpus s.words k h.known.given h.known.log =
+      subst (λ p. BookOk z.frames z.cpus s.words p h.known.given h.known.log) (sym own.1) h.book_ok in
       let k' : Holder = watching (λ w. record w { made = w.made + 1 }) k in
       let longer : List View = set s.views id (Keeping k') in
-      let seat_of : ℕ → ℕ = put k.watch.made (length longer) h.seat_of in
+      let seat_of : ℕ → ℕ = put k.watch.made (length longer) h.known.seat_of in
       record {
-        plan = k';
-        keeper = h.keeper;
-        seat_of = seat_of;
-        holder = h.holder;
-        given = h.given;
-        log = h.log;
+        known = record h.known { plan = k'; seat_of = seat_of };
         book_ok = record {
           plan_ok = plan_admits z.frames z.cpus s.words k.watch room book.plan_ok;
           room = book.room;
           parts = book.parts;
           ticket = book.ticket;
           legal = book.legal;
-          bindings = bindings_stay z.cpus k.watch k'.watch h.log (λ f. omega arith) book.bindings;
+          bindings = bindings_stay z.cpus k.watch k'.watch h.known.log (λ f. omega arith) book.bindings;
           few = book.few;
-          left = left_stays h.given k.watch k'.watch h.log k.ended (λ f. omega arith) book.left;
+          left = left_stays h.known.given k.watch k'.watch h.known.log k.ended (λ f. omega arith) book.left;
           zeros = book.zeros;
           given_is = book.given_is;
           in_turn = book.in_turn;
@@ -92,42 +87,42 @@ module _ (z : Size) where
           unmade = λ c above. book.unmade c (omega arith);
           taken_in = book.taken_in;
         };
-        slots_ok = subst (λ p. SlotsOk z.frames z.cpus s.words s.homes p.watch h.given h.log) (sym own.1) h.slots_ok;
+        slots_ok = subst (λ p. SlotsOk z.frames z.cpus s.words s.homes p.watch h.known.given h.known.log) (sym own.1) h.slots_ok;
         turns_ok = λ f inside busy.
             let old = h.turns_ok f inside busy in
-            dite (ℕ_discrete (h.holder f) id)
-            (λ (here : h.holder f ≡ id).
+            dite (ℕ_discrete (h.known.holder f) id)
+            (λ (here : h.known.holder f ≡ id).
             let is : old.0 ≡ Keeping k = M.some-injective _ _ (sym old.2 ∙ ap (get_elem? s.views) here ∙ at) in (
               Keeping k',
               old.1,
-              at_longer longer (pass_of_keeper (Keeping k) ∷ []) (h.holder f) (Keeping k') (ap (get_elem? longer) here
+              at_longer longer (pass_of_keeper (Keeping k) ∷ []) (h.known.holder f) (Keeping k') (ap (get_elem? longer) here
                   ∙ set_at s.views id (Keeping k) (Keeping k') at),
               sym (ap hand_of is) ∙ old.3,
             ))
-            (λ (other : h.holder f ≢ id). (
+            (λ (other : h.known.holder f ≢ id). (
               old.0,
               old.1,
-              at_longer longer (pass_of_keeper (Keeping k) ∷ []) (h.holder f) old.0
-                  (set_else s.views id (h.holder f) (Keeping k') other ∙ old.2),
+              at_longer longer (pass_of_keeper (Keeping k) ∷ []) (h.known.holder f) old.0
+                  (set_else s.views id (h.known.holder f) (Keeping k') other ∙ old.2),
               old.3,
             ));
         seats_ok = λ j v e. ⊎_elim
             (λ (old : get_elem? longer j ≡ M.some v).
-            seats_stay (SeatOk z.frames z.cpus s.words k' h.keeper seat_of h.holder h.given h.log) s.views id
+            seats_stay (SeatOk z.frames z.cpus s.words k' h.known.keeper seat_of h.known.holder h.known.given h.known.log) s.views id
             (Keeping k') (
               own.0,
               refl,
-              subst (λ p. HandOk z.frames z.cpus s.words p.watch h.holder h.given h.log id k.hand)
+              subst (λ p. HandOk z.frames z.cpus s.words p.watch h.known.holder h.known.given h.known.log id k.hand)
                   (sym own.1) own.2,
             )
-            (λ i u other there. stays s.words h.keeper h.seat_of h.holder h.given h.log (length longer) own.0 i u other
-            (subst (λ p. SeatOk z.frames z.cpus s.words p h.keeper h.seat_of h.holder h.given h.log i u) (sym own.1)
+            (λ i u other there. stays s.words h.known.keeper h.known.seat_of h.known.holder h.known.given h.known.log (length longer) own.0 i u other
+            (subst (λ p. SeatOk z.frames z.cpus s.words p h.known.keeper h.known.seat_of h.known.holder h.known.given h.known.log i u) (sym own.1)
             (h.seats_ok i u there)))
             j v old)
             (λ (new : (j ≡ length longer) × (pass_of_keeper (Keeping k) ≡ v)).
-            subst (λ (x : ℕ × View). SeatOk z.frames z.cpus s.words k' h.keeper seat_of h.holder h.given h.log x.0 x.1)
+            subst (λ (x : ℕ × View). SeatOk z.frames z.cpus s.words k' h.known.keeper seat_of h.known.holder h.known.given h.known.log x.0 x.1)
             (λ i. (sym new.0 i, new.1 i)) (
-              put_here k.watch.made (length longer) h.seat_of,
+              put_here k.watch.made (length longer) h.known.seat_of,
               record {
                 all = count;
                 pass_ok = subst (λ n. PassOk z.frames z.cpus s.words k'.watch (blank n k.watch.made)) (sym row)
@@ -172,8 +167,8 @@ module _ (z : Size) where
       → Joins (InOrder z) id (Keeping k) other (Passing q) (taken_in (Keeping k) (Passing q)) (Spent (first_holder 0 0))
   takes_in id other k q free s h at apart there =
       let own = h.seats_ok id (Keeping k) at in
-      let book : BookOk z.frames z.cpus s.words k h.given h.log =
-      subst (λ p. BookOk z.frames z.cpus s.words p h.given h.log) (sym own.1) h.book_ok in
+      let book : BookOk z.frames z.cpus s.words k h.known.given h.known.log =
+      subst (λ p. BookOk z.frames z.cpus s.words p h.known.given h.known.log) (sym own.1) h.book_ok in
       let there' : get_elem? s.views other ≡ M.some (Passing q) =
       sym (set_else s.views id other (taken_in (Keeping k) (Passing q)) apart) ∙ there in
       let his = h.seats_ok other (Passing q) there' in
@@ -181,12 +176,7 @@ module _ (z : Size) where
       let made : q.walk.cpu < k.watch.made = subst (λ p. q.walk.cpu < p.watch.made) (sym own.1) his.1.pass_ok.made in
       let inside : q.walk.cpu < length k.parts = (let m = book.plan_ok.made in let c = book.parts in omega arith) in
       record {
-        plan = k';
-        keeper = h.keeper;
-        seat_of = h.seat_of;
-        holder = h.holder;
-        given = h.given;
-        log = h.log;
+        known = record h.known { plan = k' };
         book_ok = record {
           plan_ok = book.plan_ok;
           room = book.room;
@@ -209,40 +199,40 @@ module _ (z : Size) where
               (λ (same : c ≡ q.walk.cpu).
               let is : In q.made ≡ In list = sym (get_or-set_same k.parts q.walk.cpu (In q.made) Out inside)
               ∙ subst (λ j. get_or (set k.parts q.walk.cpu (In q.made)) j Out ≡ In list) same part in
-              sym (ap list_of is) ∙ his.1.made ∙ ap (λ j. mine j h.log) (sym same))
+              sym (ap list_of is) ∙ his.1.made ∙ ap (λ j. mine j h.known.log) (sym same))
               (λ (else : c ≢ q.walk.cpu). book.taken_in c list
               (sym (get_or-set_other k.parts q.walk.cpu c (In q.made) Out else) ∙ part));
         };
-        slots_ok = subst (λ p. SlotsOk z.frames z.cpus s.words s.homes p.watch h.given h.log) (sym own.1) h.slots_ok;
+        slots_ok = subst (λ p. SlotsOk z.frames z.cpus s.words s.homes p.watch h.known.given h.known.log) (sym own.1) h.slots_ok;
         turns_ok = λ f within busy.
             let old = h.turns_ok f within busy in
-            let away : h.holder f ≢ other = λ here. free_has f old.1 (sym free
+            let away : h.known.holder f ≢ other = λ here. free_has f old.1 (sym free
             ∙ sym (ap hand_of (M.some-injective _ _ (sym old.2 ∙ ap (get_elem? s.views) here ∙ there'))) ∙ old.3) in
-            dite (ℕ_discrete (h.holder f) id)
-            (λ (here : h.holder f ≡ id).
+            dite (ℕ_discrete (h.known.holder f) id)
+            (λ (here : h.known.holder f ≡ id).
             let is : old.0 ≡ Keeping k = M.some-injective _ _ (sym old.2 ∙ ap (get_elem? s.views) here ∙ at) in (
               Keeping k',
               old.1,
-              set_else (set s.views id (Keeping k')) other (h.holder f) (Spent (first_holder 0 0)) away
+              set_else (set s.views id (Keeping k')) other (h.known.holder f) (Spent (first_holder 0 0)) away
                   ∙ ap (get_elem? (set s.views id (Keeping k'))) here ∙ set_at s.views id (Keeping k) (Keeping k') at,
               sym (ap hand_of is) ∙ old.3,
             ))
-            (λ (else : h.holder f ≢ id). (
+            (λ (else : h.known.holder f ≢ id). (
               old.0,
               old.1,
-              set_else (set s.views id (Keeping k')) other (h.holder f) (Spent (first_holder 0 0)) away
-                  ∙ set_else s.views id (h.holder f) (Keeping k') else ∙ old.2,
+              set_else (set s.views id (Keeping k')) other (h.known.holder f) (Spent (first_holder 0 0)) away
+                  ∙ set_else s.views id (h.known.holder f) (Keeping k') else ∙ old.2,
               old.3,
             ));
-        seats_ok = seats_spent s.words s.views id other k' h.keeper h.seat_of h.holder h.given h.log (
+        seats_ok = seats_spent s.words s.views id other k' h.known.keeper h.known.seat_of h.known.holder h.known.given h.known.log (
           own.0,
           refl,
-          subst (λ p. HandOk z.frames z.cpus s.words p.watch h.holder h.given h.log id k.hand)
+          subst (λ p. HandOk z.frames z.cpus s.words p.watch h.known.holder h.known.given h.known.log id k.hand)
               (sym own.1) own.2,
         )
-            (λ j v not_id not_other e. stays s.words h.keeper h.seat_of h.holder h.given h.log own.0 his.0 j v not_id
+            (λ j v not_id not_other e. stays s.words h.known.keeper h.known.seat_of h.known.holder h.known.given h.known.log own.0 his.0 j v not_id
             not_other
-            (subst (λ p. SeatOk z.frames z.cpus s.words p h.keeper h.seat_of h.holder h.given h.log j v) (sym own.1)
+            (subst (λ p. SeatOk z.frames z.cpus s.words p h.known.keeper h.known.seat_of h.known.holder h.known.given h.known.log j v) (sym own.1)
             (h.seats_ok j v e)));
       }
     where
@@ -294,20 +284,15 @@ module _ (z : Size) where
   pub shows : (id : ℕ) (k : Holder) → Splits (InOrder z) id (Keeping k) (Keeping k) (Spent k)
   shows id k s h at =
       subst (λ vs. Kept z s.words s.homes (vs ++ Spent k ∷ [])) (sym (set_again s.views id (Keeping k) at)) record {
-        plan = h.plan;
-        keeper = h.keeper;
-        seat_of = h.seat_of;
-        holder = h.holder;
-        given = h.given;
-        log = h.log;
+        known = h.known;
         book_ok = h.book_ok;
         slots_ok = h.slots_ok;
         turns_ok = λ f inside busy. let old = h.turns_ok f inside busy in
-            (old.0, old.1, at_longer s.views (Spent k ∷ []) (h.holder f) old.0 old.2, old.3);
+            (old.0, old.1, at_longer s.views (Spent k ∷ []) (h.known.holder f) old.0 old.2, old.3);
         seats_ok = λ j v e. ⊎_elim
             (λ (old : get_elem? s.views j ≡ M.some v). h.seats_ok j v old)
             (λ (new : (j ≡ length s.views) × (Spent k ≡ v)). subst
-            (SeatOk z.frames z.cpus s.words h.plan h.keeper h.seat_of h.holder h.given h.log j) new.1 tt)
+            (SeatOk z.frames z.cpus s.words h.known.plan h.known.keeper h.known.seat_of h.known.holder h.known.given h.known.log j) new.1 tt)
             (snoc_place s.views (Spent k) v j e);
       }
 
@@ -364,12 +349,14 @@ module _ (z : Size) where
       → Kept z words (map M.some slots) (Keeping (first_holder z.frames z.cpus) ∷ [])
   opens words slots is zeros = subst (λ ws. Kept z ws (map M.some slots) (Keeping (first_holder z.frames z.cpus) ∷ []))
       (sym is) record {
-        plan = first_holder z.frames z.cpus;
-        keeper = 0;
-        seat_of = λ c. 0;
-        holder = λ f. 0;
-        given = λ f b. replicate 1024 0;
-        log = [];
+        known = record {
+          plan = first_holder z.frames z.cpus;
+          keeper = 0;
+          seat_of = λ c. 0;
+          holder = λ f. 0;
+          given = λ f b. replicate 1024 0;
+          log = [];
+        };
         book_ok = record {
           plan_ok = record {
             room = (let n = opening_length in omega arith);
@@ -429,13 +416,13 @@ no_turn_left : (z : Size) (words : List ℕ) (homes : List (M.Option (Option Hel
 no_turn_left z words homes views seat k h at free all f inside busy =
     let t = h.turns_ok f inside busy in
     let own = h.seats_ok seat (Keeping k) at in
-    of_view t.0 t.1 t.3 own.1 (h.seats_ok (h.holder f) t.0 t.2)
+    of_view t.0 t.1 t.3 own.1 (h.seats_ok (h.known.holder f) t.0 t.2)
   where
     out_in : {p : Rattle.live_pages.specs.declared.views.Part.Part} (made : List Made) → p ≡ Out → p ≡ In made → ⊥
     out_in made a i = absurd (cc)
 
-    of_view : (v : View) (page : List ℕ) → hand_of v ≡ Has f page → k ≡ h.plan
-        → SeatOk z.frames z.cpus words h.plan h.keeper h.seat_of h.holder h.given h.log (h.holder f) v → ⊥
+    of_view : (v : View) (page : List ℕ) → hand_of v ≡ Has f page → k ≡ h.known.plan
+        → SeatOk z.frames z.cpus words h.known.plan h.known.keeper h.known.seat_of h.known.holder h.known.given h.known.log (h.known.holder f) v → ⊥
     of_view (Passing q) page has is ok =
         let cpu : q.walk.cpu < z.cpus = (let m = ok.1.pass_ok.made in let n = h.book_ok.plan_ok.made in omega arith) in
         let there = all q.walk.cpu cpu in
@@ -446,21 +433,21 @@ no_turn_left z words homes views seat k h at free all f inside busy =
 pub all_in_is_legal : AllInIsLegal
 all_in_is_legal z words homes views seat k h at free all =
     let own = h.seats_ok seat (Keeping k) at in
-    let as_known : BookOk z.frames z.cpus words k h.given h.log =
-    subst (λ p. BookOk z.frames z.cpus words p h.given h.log) (sym own.1) h.book_ok in
-    let given : h.given ≡ page_given k.ended = λ i f b. as_known.given_is f b i in
-    let book : BookOk z.frames z.cpus words k (page_given k.ended) h.log =
-    subst (λ g. BookOk z.frames z.cpus words k g h.log) given as_known in (
-      all_of_one_thread z.frames z.cpus words k h.log book all,
-      all_ended_left z.frames z.cpus words k h.log book all,
+    let as_known : BookOk z.frames z.cpus words k h.known.given h.known.log =
+    subst (λ p. BookOk z.frames z.cpus words p h.known.given h.known.log) (sym own.1) h.book_ok in
+    let given : h.known.given ≡ page_given k.ended = λ i f b. as_known.given_is f b i in
+    let book : BookOk z.frames z.cpus words k (page_given k.ended) h.known.log =
+    subst (λ g. BookOk z.frames z.cpus words k g h.known.log) given as_known in (
+      all_of_one_thread z.frames z.cpus words k h.known.log book all,
+      all_ended_left z.frames z.cpus words k h.known.log book all,
       λ f inside. dite (ℕ_discrete (get_or words (turn_at z.frames z.cpus f) 0) 0)
           (λ (zero_word : get_or words (turn_at z.frames z.cpus f) 0 ≡ 0).
           let slot = h.slots_ok f inside zero_word in (
             slot.0,
             slot.1,
-            slot.2 ∙ ap (λ p. after h.given f (current p.watch f) h.log) (sym own.1)
-                ∙ ap (λ (g : Given). after g f (current k.watch f) h.log) given
-                ∙ sym (pages_are z.frames z.cpus words k h.log book all f (current k.watch f)),
+            slot.2 ∙ ap (λ p. after h.known.given f (current p.watch f) h.known.log) (sym own.1)
+                ∙ ap (λ (g : Given). after g f (current k.watch f) h.known.log) given
+                ∙ sym (pages_are z.frames z.cpus words k h.known.log book all f (current k.watch f)),
           ))
           (λ (busy : get_or words (turn_at z.frames z.cpus f) 0 ≢ 0). absurd
           (no_turn_left z words homes views seat k h at free all f inside busy)),
@@ -471,7 +458,7 @@ entry_names_current p f b named z words homes views seat w h at same inside =
     let own = h.seats_ok seat (Passing w) at in
     let holds : get_or w.walk.held f None ≡ Some b = ap (λ l. get_or l f None) same ∙ named in
     ap (λ x. x / 2) (h.book_ok.plan_ok.doors f inside)
-    ∙ sym (entry_is_current z words h.plan.watch w.walk f b own.1.pass_ok holds) ∙ ap binding_in holds
+    ∙ sym (entry_is_current z words h.known.plan.watch w.walk f b own.1.pass_ok holds) ∙ ap binding_in holds
 
 -- the binding of an entry that a pass holds
 pub held_is_current : (p : Walk) (f : ℕ) → HoldsEntry p f → IsCurrent p f (binding_at p f)
@@ -483,7 +470,7 @@ may_bind_is_free k cleared f noted may z words homes views seat h at seat' w the
     let own = h.seats_ok seat (Keeping k) at in
     let his = h.seats_ok seat' (Passing w) there in
     none_if (get_or w.walk.held f None)
-    (λ b e. holder_stands z words h.plan.watch w.walk cleared f b h.book_ok.plan_ok his.1.pass_ok
+    (λ b e. holder_stands z words h.known.plan.watch w.walk cleared f b h.book_ok.plan_ok his.1.pass_ok
     (subst (λ p. HasNoted p.watch cleared) own.1 noted)
     (subst (λ p. MayBind p.watch cleared f) own.1 may) e)
   where

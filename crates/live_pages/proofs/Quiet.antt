@@ -127,40 +127,35 @@ module _ (z : Size) where
       (w : Walker) (change : Walk → Walk)
       → (h : Kept z words homes views) → get_elem? views id ≡ M.some (Passing w) → w.hand ≡ Free
       → (change w.walk).cpu ≡ w.walk.cpu → Quiet z.frames z.cpus words words'
-      → (PassOk z.frames z.cpus words h.plan.watch w.walk → PlanOk z.frames z.cpus words' h.plan.watch)
-      → (PassOk z.frames z.cpus words h.plan.watch w.walk → PassOk z.frames z.cpus words' h.plan.watch (change w.walk))
-      → ((q : Walk) → q.cpu ≢ w.walk.cpu → PassOk z.frames z.cpus words h.plan.watch q
-      → PassOk z.frames z.cpus words' h.plan.watch q)
+      → (PassOk z.frames z.cpus words h.known.plan.watch w.walk → PlanOk z.frames z.cpus words' h.known.plan.watch)
+      → (PassOk z.frames z.cpus words h.known.plan.watch w.walk → PassOk z.frames z.cpus words' h.known.plan.watch (change w.walk))
+      → ((q : Walk) → q.cpu ≢ w.walk.cpu → PassOk z.frames z.cpus words h.known.plan.watch q
+      → PassOk z.frames z.cpus words' h.known.plan.watch q)
       → Kept z words' homes (set views id (Passing (walking change w)))
   pass_stepped words words' homes views id w change h at free cpu quiet plan own others =
       let mine = h.seats_ok id (Passing w) at in
       record {
-        plan = h.plan;
-        keeper = h.keeper;
-        seat_of = h.seat_of;
-        holder = h.holder;
-        given = h.given;
-        log = h.log;
-        book_ok = book_quiet z.frames z.cpus words words' h.given h.log quiet h.plan h.plan.watch (plan mine.1.pass_ok)
+        known = h.known;
+        book_ok = book_quiet z.frames z.cpus words words' h.known.given h.known.log quiet h.known.plan h.known.plan.watch (plan mine.1.pass_ok)
             (λ f. refl) refl h.book_ok;
-        slots_ok = slots_quiet z.frames z.cpus words words' h.given h.log quiet homes h.plan.watch h.plan.watch
+        slots_ok = slots_quiet z.frames z.cpus words words' h.known.given h.known.log quiet homes h.known.plan.watch h.known.plan.watch
             (λ f. refl) h.slots_ok;
-        turns_ok = turns_quiet z.frames z.cpus words words' h.given h.log quiet views h.holder id (Passing w)
+        turns_ok = turns_quiet z.frames z.cpus words words' h.known.given h.known.log quiet views h.known.holder id (Passing w)
             (Passing (walking change w)) at refl h.turns_ok;
-        seats_ok = seats_stay (SeatOk z.frames z.cpus words' h.plan h.keeper h.seat_of h.holder h.given h.log) views id
+        seats_ok = seats_stay (SeatOk z.frames z.cpus words' h.known.plan h.known.keeper h.known.seat_of h.known.holder h.known.given h.known.log) views id
             (Passing (walking change w)) (
-              ap h.seat_of cpu ∙ mine.0,
+              ap h.known.seat_of cpu ∙ mine.0,
               record {
                 all = mine.1.all;
                 pass_ok = own mine.1.pass_ok;
-                made = mine.1.made ∙ ap (λ c. Rattle.live_pages.specs.Touches.mine c h.log) (sym cpu);
-                hand_ok = subst (HandOk z.frames z.cpus words' h.plan.watch h.holder h.given h.log id) (sym free) tt;
+                made = mine.1.made ∙ ap (λ c. Rattle.live_pages.specs.Touches.mine c h.known.log) (sym cpu);
+                hand_ok = subst (HandOk z.frames z.cpus words' h.known.plan.watch h.known.holder h.known.given h.known.log id) (sym free) tt;
                 holds = subst (λ k. HoldsHand k (change w.walk)) (sym free) tt;
-                out = ap (λ c. get_or h.plan.parts c Rattle.live_pages.specs.declared.views.Part.TheVariants.Out) cpu
+                out = ap (λ c. get_or h.known.plan.parts c Rattle.live_pages.specs.declared.views.Part.TheVariants.Out) cpu
                     ∙ mine.1.out;
               },
             )
-            (λ j v other e. stays h.plan h.keeper h.seat_of h.holder h.given h.log mine.0 others j v other
+            (λ j v other e. stays h.known.plan h.known.keeper h.known.seat_of h.known.holder h.known.given h.known.log mine.0 others j v other
             (h.seats_ok j v e));
       }
     where
@@ -194,35 +189,30 @@ module _ (z : Size) where
       → Kept z words' homes (set views id (Keeping (watching change k)))
   keeper_stepped words words' homes views id k change h at quiet same made plan pass =
       let mine = h.seats_ok id (Keeping k) at in
-      let book : BookOk z.frames z.cpus words k h.given h.log =
-      subst (λ p. BookOk z.frames z.cpus words p h.given h.log) (sym mine.1) h.book_ok in
-      let slots : SlotsOk z.frames z.cpus words homes k.watch h.given h.log =
-      subst (λ p. SlotsOk z.frames z.cpus words homes p.watch h.given h.log) (sym mine.1) h.slots_ok in
-      let hand : HandOk z.frames z.cpus words k.watch h.holder h.given h.log id k.hand =
-      subst (λ p. HandOk z.frames z.cpus words p.watch h.holder h.given h.log id k.hand) (sym mine.1) mine.2 in
+      let book : BookOk z.frames z.cpus words k h.known.given h.known.log =
+      subst (λ p. BookOk z.frames z.cpus words p h.known.given h.known.log) (sym mine.1) h.book_ok in
+      let slots : SlotsOk z.frames z.cpus words homes k.watch h.known.given h.known.log =
+      subst (λ p. SlotsOk z.frames z.cpus words homes p.watch h.known.given h.known.log) (sym mine.1) h.slots_ok in
+      let hand : HandOk z.frames z.cpus words k.watch h.known.holder h.known.given h.known.log id k.hand =
+      subst (λ p. HandOk z.frames z.cpus words p.watch h.known.holder h.known.given h.known.log id k.hand) (sym mine.1) mine.2 in
       record {
-        plan = watching change k;
-        keeper = h.keeper;
-        seat_of = h.seat_of;
-        holder = h.holder;
-        given = h.given;
-        log = h.log;
-        book_ok = book_quiet z.frames z.cpus words words' h.given h.log quiet k (change k.watch) (plan book.plan_ok)
+        known = record h.known { plan = watching change k };
+        book_ok = book_quiet z.frames z.cpus words words' h.known.given h.known.log quiet k (change k.watch) (plan book.plan_ok)
             same made book;
-        slots_ok = slots_quiet z.frames z.cpus words words' h.given h.log quiet homes k.watch (change k.watch) same
+        slots_ok = slots_quiet z.frames z.cpus words words' h.known.given h.known.log quiet homes k.watch (change k.watch) same
             slots;
-        turns_ok = turns_quiet z.frames z.cpus words words' h.given h.log quiet views h.holder id (Keeping k)
+        turns_ok = turns_quiet z.frames z.cpus words words' h.known.given h.known.log quiet views h.known.holder id (Keeping k)
             (Keeping (watching change k)) at refl h.turns_ok;
-        seats_ok = seats_stay (SeatOk z.frames z.cpus words' (watching change k) h.keeper h.seat_of h.holder h.given
-            h.log) views id
+        seats_ok = seats_stay (SeatOk z.frames z.cpus words' (watching change k) h.known.keeper h.known.seat_of h.known.holder h.known.given
+            h.known.log) views id
             (Keeping (watching change k)) (
               mine.0,
               refl,
-              hand_quiet z.frames z.cpus words words' h.given h.log quiet h.holder k.watch
+              hand_quiet z.frames z.cpus words words' h.known.given h.known.log quiet h.known.holder k.watch
                   (change k.watch) id k.hand same hand,
             )
-            (λ j v other e. stays h.keeper h.seat_of h.holder h.given h.log mine.0 (pass book.plan_ok) j v other
-            (subst (λ p. SeatOk z.frames z.cpus words p h.keeper h.seat_of h.holder h.given h.log j v) (sym mine.1)
+            (λ j v other e. stays h.known.keeper h.known.seat_of h.known.holder h.known.given h.known.log mine.0 (pass book.plan_ok) j v other
+            (subst (λ p. SeatOk z.frames z.cpus words p h.known.keeper h.known.seat_of h.known.holder h.known.given h.known.log j v) (sym mine.1)
             (h.seats_ok j v e)));
       }
     where
@@ -251,10 +241,10 @@ module _ (z : Size) where
             (sym (set-get_or s.words (door_at f) 0))
             (pass_stepped s.words s.words s.homes s.views id w (filled f n) h at free (cpu_stays (eqb (n % 2) 0) n)
             (refl, λ i _. refl) (λ _. h.book_ok.plan_ok)
-            (λ ok. filled_ok z.frames z.cpus s.words h.plan.watch w.walk f n inside refl h.book_ok.plan_ok ok)
+            (λ ok. filled_ok z.frames z.cpus s.words h.known.plan.watch w.walk f n inside refl h.book_ok.plan_ok ok)
             (λ q _ ok. ok)),
         λ g e. (
-          least s.words h.plan.watch h.book_ok.plan_ok,
+          least s.words h.known.plan.watch h.book_ok.plan_ok,
           ap (λ j. (Passing (walking (filled j n) w), []))
               (omega arith),
         ),
@@ -281,7 +271,7 @@ module _ (z : Size) where
             (pass_stepped s.words s.words s.homes s.views id w (forgotten n) h at free refl (
               refl,
               λ i _. refl,
-            ) (λ _. h.book_ok.plan_ok) (λ ok. forgotten_ok z.frames z.cpus s.words h.plan.watch w.walk n refl
+            ) (λ _. h.book_ok.plan_ok) (λ ok. forgotten_ok z.frames z.cpus s.words h.known.plan.watch w.walk n refl
             h.book_ok.plan_ok ok)
             (λ q _ ok. ok)),
         refl,
@@ -297,9 +287,9 @@ module _ (z : Size) where
     pass_stepped s.words (set s.words (ack_at z.frames w.walk.cpu) w.walk.stamp) s.homes s.views id w acknowledged h at
         free refl
         (quiet_set z.frames z.cpus s.words (ack_at z.frames w.walk.cpu) w.walk.stamp (omega arith))
-        (λ ok. plan_acknowledged z.frames z.cpus s.words h.plan.watch w.walk h.book_ok.plan_ok ok)
-        (λ ok. acknowledged_ok z.frames z.cpus s.words h.plan.watch w.walk h.book_ok.plan_ok ok)
-        (λ q other ok. pass_stays z.frames z.cpus s.words h.plan.watch q (ack_at z.frames w.walk.cpu) w.walk.stamp
+        (λ ok. plan_acknowledged z.frames z.cpus s.words h.known.plan.watch w.walk h.book_ok.plan_ok ok)
+        (λ ok. acknowledged_ok z.frames z.cpus s.words h.known.plan.watch w.walk h.book_ok.plan_ok ok)
+        (λ q other ok. pass_stays z.frames z.cpus s.words h.known.plan.watch q (ack_at z.frames w.walk.cpu) w.walk.stamp
         (λ e. other (omega arith)) ok),
     refl,
   )

@@ -178,24 +178,19 @@ module _ (z : Size) where
   taken_kept : (s : State (Option Held) View) (h : Kept z s.words s.homes s.views) (id f : ℕ) (hd : Held) (v v' : View)
       (plan : Holder)
       → get_elem? s.views id ≡ M.some v → hand_of v ≡ Free → hand_of v' ≡ Has f hd.page → f < z.frames
-      → get_or s.words (turn_at z.frames z.cpus f) 0 ≡ 0 → (hand : Hand) → plan ≡ record h.plan { hand = hand }
-      → SeatOk z.frames z.cpus (set s.words (turn_at z.frames z.cpus f) 1) plan h.keeper h.seat_of (put f id h.holder)
-      h.given h.log id v'
-      → ((j : ℕ) (u : View) → j ≢ id → SeatOk z.frames z.cpus s.words h.plan h.keeper h.seat_of h.holder h.given h.log
+      → get_or s.words (turn_at z.frames z.cpus f) 0 ≡ 0 → (hand : Hand) → plan ≡ record h.known.plan { hand = hand }
+      → SeatOk z.frames z.cpus (set s.words (turn_at z.frames z.cpus f) 1) plan h.known.keeper h.known.seat_of (put f id h.known.holder)
+      h.known.given h.known.log id v'
+      → ((j : ℕ) (u : View) → j ≢ id → SeatOk z.frames z.cpus s.words h.known.plan h.known.keeper h.known.seat_of h.known.holder h.known.given h.known.log
       j u
-      → SeatOk z.frames z.cpus (set s.words (turn_at z.frames z.cpus f) 1) plan h.keeper h.seat_of (put f id h.holder)
-      h.given h.log j u)
+      → SeatOk z.frames z.cpus (set s.words (turn_at z.frames z.cpus f) 1) plan h.known.keeper h.known.seat_of (put f id h.known.holder)
+      h.known.given h.known.log j u)
       → Kept z (set s.words (turn_at z.frames z.cpus f) 1) (set s.homes f M.none) (set s.views id v')
   taken_kept s h id f hd v v' plan at free has inside zero_word hand plan_is mine others = record {
-    plan = plan;
-    keeper = h.keeper;
-    seat_of = h.seat_of;
-    holder = put f id h.holder;
-    given = h.given;
-    log = h.log;
-    book_ok = subst (λ p. BookOk z.frames z.cpus (set s.words (turn_at z.frames z.cpus f) 1) p h.given h.log)
+    known = record h.known { plan = plan; holder = put f id h.known.holder };
+    book_ok = subst (λ p. BookOk z.frames z.cpus (set s.words (turn_at z.frames z.cpus f) 1) p h.known.given h.known.log)
         (sym plan_is)
-        (book_turned z.frames z.cpus s.words f 1 inside h.plan h.given h.log hand h.book_ok);
+        (book_turned z.frames z.cpus s.words f 1 inside h.known.plan h.known.given h.known.log hand h.book_ok);
     slots_ok = λ g within zero. dite (ℕ_discrete g f)
         (λ (same : g ≡ f). let one = turn_here z.frames z.cpus s.words f 1 inside h.book_ok.room in
         let e : get_or (set s.words (turn_at z.frames z.cpus f) 1) (turn_at z.frames z.cpus f) 0
@@ -207,22 +202,22 @@ module _ (z : Size) where
           old.0,
           set_else s.homes f g M.none other ∙ old.1,
           old.2
-              ∙ ap (λ p. after h.given g (current p.watch g) h.log) (sym plan_is),
+              ∙ ap (λ p. after h.known.given g (current p.watch g) h.known.log) (sym plan_is),
         ));
     turns_ok = λ g within busy. dite (ℕ_discrete g f)
         (λ (same : g ≡ f). (
           v',
           hd.page,
-          ap (get_elem? (set s.views id v')) (ap (put f id h.holder) same ∙ put_here f id h.holder)
+          ap (get_elem? (set s.views id v')) (ap (put f id h.known.holder) same ∙ put_here f id h.known.holder)
               ∙ set_at s.views id v v' at,
           has ∙ ap (λ k. Has k hd.page) (sym same),
         ))
         (λ (other : g ≢ f).
-        turns_else z.frames z.cpus s.words f 1 inside s.views h.holder (put f id h.holder) id v v' g at other
+        turns_else z.frames z.cpus s.words f 1 inside s.views h.known.holder (put f id h.known.holder) id v v' g at other
         (λ page e. free_has g page (sym free ∙ e))
-        (λ o. put_else f g id h.holder o) h.turns_ok within busy);
-    seats_ok = seats_stay (SeatOk z.frames z.cpus (set s.words (turn_at z.frames z.cpus f) 1) plan h.keeper h.seat_of
-        (put f id h.holder) h.given h.log) s.views
+        (λ o. put_else f g id h.known.holder o) h.turns_ok within busy);
+    seats_ok = seats_stay (SeatOk z.frames z.cpus (set s.words (turn_at z.frames z.cpus f) 1) plan h.known.keeper h.known.seat_of
+        (put f id h.known.holder) h.known.given h.known.log) s.views
         id v' mine (λ j u other e. others j u other (h.seats_ok j u e));
   }
 
@@ -274,18 +269,18 @@ module _ (z : Size) where
         Passing (taken f slot.0.page w),
         takes f (Some slot.0),
         slot.1,
-        taken_kept s h id f slot.0 (Passing w) (Passing (taken f slot.0.page w)) h.plan at free refl inside hit
-            h.plan.hand refl (
+        taken_kept s h id f slot.0 (Passing w) (Passing (taken f slot.0.page w)) h.known.plan at free refl inside hit
+            h.known.plan.hand refl (
               mine.0,
               record {
                 all = mine.1.all;
-                pass_ok = pass_above z.frames z.cpus s.words h.plan.watch (having_read 0 w.walk)
+                pass_ok = pass_above z.frames z.cpus s.words h.known.plan.watch (having_read 0 w.walk)
                     (turn_at z.frames z.cpus f) 1 (omega arith) h.book_ok.plan_ok
                     mine.1.pass_ok;
                 made = mine.1.made;
                 hand_ok = (
                   inside,
-                  put_here f id h.holder,
+                  put_here f id h.known.holder,
                   (λ e. one_zero _ 0 (turn_here z.frames z.cpus s.words f 1 inside h.book_ok.room) refl e),
                   slot.2,
                 );
@@ -293,7 +288,7 @@ module _ (z : Size) where
                 out = mine.1.out;
               },
             )
-            (others_taken s.words h.plan h.plan.hand h.keeper h.seat_of h.holder h.given h.log id f inside hit
+            (others_taken s.words h.known.plan h.known.plan.hand h.known.keeper h.known.seat_of h.known.holder h.known.given h.known.log id f inside hit
             h.book_ok (λ _ _ _. refl)),
         λ g e. let same = frame g e in (
           (λ _. (
@@ -321,47 +316,42 @@ module _ (z : Size) where
   given_back_kept : (s : State (Option Held) View) (h : Kept z s.words s.homes s.views) (id f : ℕ) (hd : Held)
       (v v' : View) (plan : Holder)
       → get_elem? s.views id ≡ M.some v → hand_of v ≡ Has f hd.page → f < z.frames → f < length s.homes
-      → hd.page ≡ after h.given f (current h.plan.watch f) h.log → (hand : Hand) → plan ≡ record h.plan { hand = hand }
-      → SeatOk z.frames z.cpus (set s.words (turn_at z.frames z.cpus f) 0) plan h.keeper h.seat_of h.holder h.given
-      h.log id v'
-      → ((j : ℕ) (u : View) → j ≢ id → SeatOk z.frames z.cpus s.words h.plan h.keeper h.seat_of h.holder h.given h.log
+      → hd.page ≡ after h.known.given f (current h.known.plan.watch f) h.known.log → (hand : Hand) → plan ≡ record h.known.plan { hand = hand }
+      → SeatOk z.frames z.cpus (set s.words (turn_at z.frames z.cpus f) 0) plan h.known.keeper h.known.seat_of h.known.holder h.known.given
+      h.known.log id v'
+      → ((j : ℕ) (u : View) → j ≢ id → SeatOk z.frames z.cpus s.words h.known.plan h.known.keeper h.known.seat_of h.known.holder h.known.given h.known.log
       j u
-      → SeatOk z.frames z.cpus (set s.words (turn_at z.frames z.cpus f) 0) plan h.keeper h.seat_of h.holder h.given
-      h.log j u)
+      → SeatOk z.frames z.cpus (set s.words (turn_at z.frames z.cpus f) 0) plan h.known.keeper h.known.seat_of h.known.holder h.known.given
+      h.known.log j u)
       → Kept z (set s.words (turn_at z.frames z.cpus f) 0) (set s.homes f (M.some (Some hd))) (set s.views id v')
   given_back_kept s h id f hd v v' plan at has inside slot page hand plan_is own others = record {
-    plan = plan;
-    keeper = h.keeper;
-    seat_of = h.seat_of;
-    holder = h.holder;
-    given = h.given;
-    log = h.log;
-    book_ok = subst (λ p. BookOk z.frames z.cpus (set s.words (turn_at z.frames z.cpus f) 0) p h.given h.log)
+    known = record h.known { plan = plan };
+    book_ok = subst (λ p. BookOk z.frames z.cpus (set s.words (turn_at z.frames z.cpus f) 0) p h.known.given h.known.log)
         (sym plan_is)
-        (book_turned z.frames z.cpus s.words f 0 inside h.plan h.given h.log hand h.book_ok);
+        (book_turned z.frames z.cpus s.words f 0 inside h.known.plan h.known.given h.known.log hand h.book_ok);
     slots_ok = λ g within free. dite (ℕ_discrete g f)
         (λ (same : g ≡ f). (
           hd,
           ap (get_elem? (set s.homes f (M.some (Some hd)))) same ∙ set_here s.homes f (M.some (Some hd)) slot,
           page
-              ∙ ap (λ p. after h.given f (current p.watch f) h.log) (sym plan_is)
-              ∙ ap (λ k. after h.given k (current plan.watch k) h.log) (sym same),
+              ∙ ap (λ p. after h.known.given f (current p.watch f) h.known.log) (sym plan_is)
+              ∙ ap (λ k. after h.known.given k (current plan.watch k) h.known.log) (sym same),
         ))
         (λ (other : g ≢ f).
         let old = h.slots_ok g within (sym (turn_else z.frames z.cpus s.words f 0 inside g other) ∙ free) in (
           old.0,
           set_else s.homes f g (M.some (Some hd)) other ∙ old.1,
           old.2
-              ∙ ap (λ p. after h.given g (current p.watch g) h.log) (sym plan_is),
+              ∙ ap (λ p. after h.known.given g (current p.watch g) h.known.log) (sym plan_is),
         ));
     turns_ok = λ g within busy. dite (ℕ_discrete g f)
         (λ (same : g ≡ f). absurd (busy (ap (λ k. get_or (set s.words (turn_at z.frames z.cpus f) 0)
         (turn_at z.frames z.cpus k) 0) same
         ∙ turn_here z.frames z.cpus s.words f 0 inside h.book_ok.room)))
-        (λ (other : g ≢ f). turns_else z.frames z.cpus s.words f 0 inside s.views h.holder h.holder id v v' g at other
+        (λ (other : g ≢ f). turns_else z.frames z.cpus s.words f 0 inside s.views h.known.holder h.known.holder id v v' g at other
         (λ p e. other (has_frame g f p hd.page (sym e ∙ has))) (λ _. refl) h.turns_ok within busy);
-    seats_ok = seats_stay (SeatOk z.frames z.cpus (set s.words (turn_at z.frames z.cpus f) 0) plan h.keeper h.seat_of
-        h.holder h.given h.log) s.views id v' own
+    seats_ok = seats_stay (SeatOk z.frames z.cpus (set s.words (turn_at z.frames z.cpus f) 0) plan h.known.keeper h.known.seat_of
+        h.known.holder h.known.given h.known.log) s.views id v' own
         (λ j u other e. others j u other (h.seats_ok j u e));
   }
 
@@ -399,17 +389,17 @@ module _ (z : Size) where
       (λ _. Gives (step z.frames (turn_at z.frames z.cpus f) 0 0 M.none) (Passing w, (f, Some hd) ∷ []) 0)
   gives_turn id f w hd has s h homes at fits =
       let mine = h.seats_ok id (Passing w) at in
-      let hand = subst (HandOk z.frames z.cpus s.words h.plan.watch h.holder h.given h.log id) has mine.1.hand_ok in (
+      let hand = subst (HandOk z.frames z.cpus s.words h.known.plan.watch h.known.holder h.known.given h.known.log id) has mine.1.hand_ok in (
         Passing (record w { hand = Free }),
         gives,
         tt,
-        given_back_kept s h id f hd (Passing w) (Passing (record w { hand = Free })) h.plan at has hand.0
+        given_back_kept s h id f hd (Passing w) (Passing (record w { hand = Free })) h.known.plan at has hand.0
             (let i = hand.0 in
-            omega arith) hand.3 h.plan.hand refl (
+            omega arith) hand.3 h.known.plan.hand refl (
               mine.0,
               record {
                 all = mine.1.all;
-                pass_ok = pass_above z.frames z.cpus s.words h.plan.watch w.walk (turn_at z.frames z.cpus f) 0
+                pass_ok = pass_above z.frames z.cpus s.words h.known.plan.watch w.walk (turn_at z.frames z.cpus f) 0
                     (omega arith) h.book_ok.plan_ok mine.1.pass_ok;
                 made = mine.1.made;
                 hand_ok = tt;
@@ -417,7 +407,7 @@ module _ (z : Size) where
                 out = mine.1.out;
               },
             )
-            (others_given s.words h.plan h.plan.hand h.keeper h.seat_of h.holder h.given h.log id f hand.0 hand.1
+            (others_given s.words h.known.plan h.known.plan.hand h.known.keeper h.known.seat_of h.known.holder h.known.given h.known.log id f hand.0 hand.1
             h.book_ok (λ _ _ _. refl)),
         λ x rest e i. (Passing (record w { hand = Free }), tail_of (e i)),
       )
@@ -429,15 +419,15 @@ module _ (z : Size) where
       (λ _. KeeperGives (step z.frames (turn_at z.frames z.cpus f) 0 0 M.none) (Keeping k, (f, Some hd) ∷ []) 0)
   keeper_gives id f k hd has s h homes at fits =
       let mine = h.seats_ok id (Keeping k) at in
-      let hand = subst (HandOk z.frames z.cpus s.words h.plan.watch h.holder h.given h.log id) has mine.2 in (
+      let hand = subst (HandOk z.frames z.cpus s.words h.known.plan.watch h.known.holder h.known.given h.known.log id) has mine.2 in (
         Keeping (record k { hand = Free }),
         gives,
         tt,
-        given_back_kept s h id f hd (Keeping k) (Keeping (record k { hand = Free })) (record h.plan { hand = Free }) at
+        given_back_kept s h id f hd (Keeping k) (Keeping (record k { hand = Free })) (record h.known.plan { hand = Free }) at
             has hand.0 (let i = hand.0 in
             omega arith) hand.3 Free refl
             (mine.0, ap (with_hand Free) mine.1, tt)
-            (others_given s.words h.plan Free h.keeper h.seat_of h.holder h.given h.log id f hand.0 hand.1 h.book_ok
+            (others_given s.words h.known.plan Free h.known.keeper h.known.seat_of h.known.holder h.known.given h.known.log id f hand.0 hand.1 h.book_ok
             (λ j other is. absurd (other (sym is ∙ mine.0)))),
         λ x rest e i. (Keeping (record k { hand = Free }), tail_of (e i)),
       )
@@ -461,14 +451,14 @@ module _ (z : Size) where
   turn_is_free s h id f cleared k at free noted may inside busy =
       let t = h.turns_ok f inside busy in
       let mine = h.seats_ok id (Keeping k) at in
-      of_view t.0 t.2 t.3 mine.0 mine.1 (h.seats_ok (h.holder f) t.0 t.2)
+      of_view t.0 t.2 t.3 mine.0 mine.1 (h.seats_ok (h.known.holder f) t.0 t.2)
     where
-      of_view : (v : View) {page : List ℕ} → get_elem? s.views (h.holder f) ≡ M.some v → hand_of v ≡ Has f page
-          → h.keeper ≡ id → k ≡ h.plan
-          → SeatOk z.frames z.cpus s.words h.plan h.keeper h.seat_of h.holder h.given h.log (h.holder f) v → ⊥
+      of_view : (v : View) {page : List ℕ} → get_elem? s.views (h.known.holder f) ≡ M.some v → hand_of v ≡ Has f page
+          → h.known.keeper ≡ id → k ≡ h.known.plan
+          → SeatOk z.frames z.cpus s.words h.known.plan h.known.keeper h.known.seat_of h.known.holder h.known.given h.known.log (h.known.holder f) v → ⊥
       of_view (Passing q) {page} there has here is ok =
           let e = subst (λ x. HoldsHand x q.walk) has ok.1.holds in
-          holder_stands s.words h.plan.watch q.walk cleared f e.0 h.book_ok.plan_ok ok.1.pass_ok
+          holder_stands s.words h.known.plan.watch q.walk cleared f e.0 h.book_ok.plan_ok ok.1.pass_ok
           (subst (λ p. HasNoted p.watch cleared) is noted)
           (subst (λ p. MayBind p.watch cleared f) is may) e.1
       of_view (Keeping u) {page} there has here is ok =
@@ -494,18 +484,18 @@ module _ (z : Size) where
         takes f (Some slot.0),
         slot.1,
         taken_kept s h id f slot.0 (Keeping k) (Keeping (record k { hand = Has f slot.0.page }))
-            (record h.plan { hand = Has f slot.0.page }) at free refl
+            (record h.known.plan { hand = Has f slot.0.page }) at free refl
             inside hit (Has f slot.0.page) refl (
               mine.0,
               ap (with_hand (Has f slot.0.page)) mine.1,
               (
                 inside,
-                put_here f id h.holder,
+                put_here f id h.known.holder,
                 (λ e. one_zero _ 0 (turn_here z.frames z.cpus s.words f 1 inside h.book_ok.room) refl e),
                 slot.2,
               ),
             )
-            (others_taken s.words h.plan (Has f slot.0.page) h.keeper h.seat_of h.holder h.given h.log id f inside hit
+            (others_taken s.words h.known.plan (Has f slot.0.page) h.known.keeper h.known.seat_of h.known.holder h.known.given h.known.log id f inside hit
             h.book_ok
             (λ j other is. absurd (other (sym is ∙ mine.0)))),
         λ g e. (

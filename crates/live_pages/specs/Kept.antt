@@ -90,20 +90,24 @@ SeatOk frames cpus words plan keeper seat_of holder given log seat (Keeping k) =
     × HandOk frames cpus words plan.watch holder given log seat k.hand
 SeatOk frames cpus words plan keeper seat_of holder given log seat (Spent k) = Unit {0}
 
--- The rule: there are a plan, the keeper's seat, a seat for each processor, a holder for each turn, a page that each
--- binding was given, and the touches, beside which words, slots and all views are in order.
-pub record Kept (z : Size) (words : List ℕ) (homes : List (M.Option (Option Held))) (views : List View) : Type 0 where
+-- What stands behind words, slots and views: a plan, the keeper's seat, a seat for each processor, a holder for each
+-- turn, a page that each binding was given, and the touches.
+pub record Known : Type 0 where
   pub plan : Holder
   pub keeper : ℕ
   pub seat_of : ℕ → ℕ
   pub holder : ℕ → ℕ
   pub given : Given
   pub log : List Made
-  pub book_ok : BookOk z.frames z.cpus words plan given log
-  pub slots_ok : SlotsOk z.frames z.cpus words homes plan.watch given log
-  pub turns_ok : TurnsOk z.frames z.cpus words views holder
+
+-- The rule: there is something beside which words, slots and all views are in order.
+pub record Kept (z : Size) (words : List ℕ) (homes : List (M.Option (Option Held))) (views : List View) : Type 0 where
+  pub known : Known
+  pub book_ok : BookOk z.frames z.cpus words known.plan known.given known.log
+  pub slots_ok : SlotsOk z.frames z.cpus words homes known.plan.watch known.given known.log
+  pub turns_ok : TurnsOk z.frames z.cpus words views known.holder
   pub seats_ok : (seat : ℕ) (v : View) → get_elem? views seat ≡ M.some v
-      → SeatOk z.frames z.cpus words plan keeper seat_of holder given log seat v
+      → SeatOk z.frames z.cpus words known.plan known.keeper known.seat_of known.holder known.given known.log seat v
 
 -- the touches of every processor were taken in
 abbrev pub AllIn : ℕ → Holder → Type 0
