@@ -26,7 +26,7 @@ use Rattle.live_pages.specs.declared.views.Holder.{Holder}
 use Rattle.live_pages.specs.declared.views.View.{View}
 use Rattle.live_pages.specs.declared.views.View.TheVariants.{Passing, Keeping}
 use Rattle.live_pages.specs.Touches.{touched, answer}
-use Rattle.live_pages.specs.Turns.{Seat, opening_words, first_holder, first_walker, keeper_with_pass, pass_of_keeper}
+use Rattle.live_pages.specs.Turns.{Seat, Told, opening_words, first_holder, first_walker, keeper_with_pass, pass_of_keeper}
 use Rattle.live_pages.specs.Turns.{bound_anew, having_made, turn_at}
 use Rattle.live_pages.specs.Turns.{ticket_at, current, watching, walker_of, holder_of, Fills, Forgets, Acknowledges}
 use Rattle.live_pages.specs.Turns.{Closes, Raises, Looks, Takes, Draws}
@@ -120,6 +120,14 @@ module _ (z : Size) (slots id : ℕ) (m : Seat) where
       (keeper_takes z slots id f cleared (holder_of m.0) free noted may inside))
 
 module _ (z : Size) (slots id : ℕ) (m : Seat) (all : slots ≡ z.frames) where
+  -- a turn's word becomes 0 at this seat, if it may at what the seat is
+  given_at : (T : Told) (i turn : ℕ) (v : Seat) → m ≡ v → i ≡ turn
+      → Allows (InOrder z) z.frames id v turn (λ _. 0) (λ _. T (step z.frames turn 0 0 M.none) v 0)
+      → Allows (InOrder z) slots id m i (λ _. 0) (λ _. T (step slots i 0 0 M.none) m 0)
+  given_at T i turn v is place =
+      subst (λ (k : ℕ × ℕ × Seat). Allows (InOrder z) k.0 id k.2 k.1 (λ _. 0)
+      (λ _. T (step k.0 k.1 0 0 M.none) k.2 0)) (λ j. (sym all j, sym place j, sym is j))
+
   pub draws_at : (i f : ℕ) (hd : Held) (page : List ℕ) → m ≡ (Passing (walker_of m.0), (f, Some hd) ∷ []) → z.cpus ≤ 8
       → (walker_of m.0).hand ≡ Has f page
       → hd.page ≡ touched hd.touch page → hd.word ≡ answer hd.touch page → length (walker_of m.0).made < 2 ^ 32
@@ -137,11 +145,7 @@ module _ (z : Size) (slots id : ℕ) (m : Seat) (all : slots ≡ z.frames) where
       → i ≡ turn_at z.frames z.cpus f → Allows (InOrder z) slots id m i (λ _. 0)
       (λ _. Gives (step slots i 0 0 M.none) m 0)
   gives_turn_at i f hd is has place =
-      subst (λ (k : ℕ × ℕ). Allows (InOrder z) k.0 id m k.1 (λ _. 0) (λ _. Gives (step k.0 k.1 0 0 M.none) m 0))
-      (λ j. (sym all j, sym place j))
-      (subst (λ x. Allows (InOrder z) z.frames id x (turn_at z.frames z.cpus f) (λ _. 0)
-      (λ _. Gives (step z.frames (turn_at z.frames z.cpus f) 0 0 M.none) x 0)) (sym is)
-      (gives_turn z id f (walker_of m.0) hd has))
+      given_at Gives i (turn_at z.frames z.cpus f) _ is place (gives_turn z id f (walker_of m.0) hd has)
 
   pub binds_at : (f n cleared : ℕ) (hd : Held) (page : List ℕ) → m ≡ (Keeping (holder_of m.0), (f, Some hd) ∷ [])
       → (holder_of m.0).hand ≡ Has f page
@@ -161,11 +165,7 @@ module _ (z : Size) (slots id : ℕ) (m : Seat) (all : slots ≡ z.frames) where
       → i ≡ turn_at z.frames z.cpus f → Allows (InOrder z) slots id m i (λ _. 0)
       (λ _. KeeperGives (step slots i 0 0 M.none) m 0)
   keeper_gives_at i f hd is has place =
-      subst (λ (k : ℕ × ℕ). Allows (InOrder z) k.0 id m k.1 (λ _. 0) (λ _. KeeperGives (step k.0 k.1 0 0 M.none) m 0))
-      (λ j. (sym all j, sym place j))
-      (subst (λ x. Allows (InOrder z) z.frames id x (turn_at z.frames z.cpus f) (λ _. 0)
-      (λ _. KeeperGives (step z.frames (turn_at z.frames z.cpus f) 0 0 M.none) x 0)) (sym is)
-      (keeper_gives z id f (holder_of m.0) hd has))
+      given_at KeeperGives i (turn_at z.frames z.cpus f) _ is place (keeper_gives z id f (holder_of m.0) hd has)
 
 -- a pass whose fields are those of its view
 pub pass_fits : (m : Seat) (q : Walker) (cpu : ℕ) (held : List (Option ℕ)) (stamp : ℕ) → m ≡ (Passing q, []) → q.hand

@@ -30,7 +30,7 @@ use Rattle.live_pages.specs.declared.views.View.TheVariants.{Passing, Keeping, S
 use Rattle.live_pages.specs.Touches.{touched, answer, Given, ended_of, after, mine}
 use Rattle.live_pages.specs.Turns.{turn_at, ticket_at, current, hand_of, binding_in, binding_at, having_made, page_of}
 use Rattle.live_pages.specs.Turns.{admitted, bound_anew, Draws, Binds}
-use Rattle.live_pages.specs.Kept.{BookOk, HandOk, HoldsHand, SeatOk}
+use Rattle.live_pages.specs.Kept.{BookOk, TurnsOk, HandOk, HoldsHand, SeatOk}
 use Rattle.live_pages.proofs.Replay.{own_below, regiven_here, after_here, after_frame, after_else, after_next, regiven}
 use Rattle.live_pages.proofs.Replay.{regiven_binding, legal_next}
 use Rattle.live_pages.proofs.Replay.{left_next, bindings_stay, left_stays, left_touched, mine_here, mine_else}
@@ -95,6 +95,39 @@ module _ (frames cpus : ℕ) (words : List ℕ) where
         out_in : {p : Rattle.live_pages.specs.declared.views.Part.Part} (made : List Made) → p ≡ Out → p ≡ In made → ⊥
         out_in made a i = absurd (cc)
 
+-- the slot that lies in hand, where there is one
+abbrev first_of : List (ℕ × Option Held) → ℕ
+first_of [] = 0
+first_of (x ∷ xs) = x.0
+
+abbrev held_in : Held → Option Held → Held
+held_in hd None = hd
+held_in hd (Some y) = y
+
+abbrev held_of : Held → List (ℕ × Option Held) → Held
+held_of hd [] = hd
+held_of hd (x ∷ xs) = held_in hd x.1
+
+-- who has a turn has another page in hand, and each turn's word is what it was
+turns_with : (z : Size) (words words' : List ℕ) (views : List View) (holder : ℕ → ℕ) (id f : ℕ) (v v' : View)
+    (page page' : List ℕ)
+    → ((g : ℕ) → g < z.frames → get_or words' (turn_at z.frames z.cpus g) 0
+    ≡ get_or words (turn_at z.frames z.cpus g) 0)
+    → get_elem? views id ≡ M.some v → hand_of v ≡ Has f page → hand_of v' ≡ Has f page'
+    → TurnsOk z.frames z.cpus words views holder → TurnsOk z.frames z.cpus words' (set views id v') holder
+turns_with z words words' views holder id f v v' page page' stays at has has' ok g within busy =
+    let old = ok g within (λ is. busy (stays g within ∙ is)) in
+    dite (ℕ_discrete (holder g) id)
+    (λ (here : holder g ≡ id).
+    let is : old.0 ≡ v = M.some-injective _ _ (sym old.2 ∙ ap (get_elem? views) here ∙ at) in
+    let frame : f ≡ g = has_frame f g page old.1 (sym has ∙ sym (ap hand_of is) ∙ old.3) in (
+      v',
+      page',
+      ap (get_elem? (set views id v')) here ∙ set_at views id v v' at,
+      has' ∙ ap (λ k. Has k page') frame,
+    ))
+    (λ (other : holder g ≢ id). (old.0, old.1, set_else views id (holder g) v' other ∙ old.2, old.3))
+
 module _ (z : Size) where
   -- the binding that a pass's entry names is the frame's at that moment
   pub entry_is_current : (words : List ℕ) (plan : Watch) (p : Walk) (f b : ℕ) → PassOk z.frames z.cpus words plan p
@@ -128,7 +161,8 @@ module _ (z : Size) where
             hd.touch;
         word = hd.word;
       } in
-      let hand = subst (HandOk z.frames z.cpus s.words h.known.plan.watch h.known.holder h.known.given h.known.log id) has own.1.hand_ok in
+      let hand = subst (HandOk z.frames z.cpus s.words h.known.plan.watch h.known.holder h.known.given h.known.log id)
+      has own.1.hand_ok in
       let entry = subst (λ x. HoldsHand x w.walk) has own.1.holds in
       let binding : binding_at w.walk f ≡ current h.known.plan.watch f =
       entry_is_current s.words h.known.plan.watch w.walk f entry.0 own.1.pass_ok entry.1 in
@@ -149,33 +183,23 @@ module _ (z : Size) where
         tt,
         record {
           known = record h.known { log = e ∷ h.known.log };
-          book_ok = book_touched z.frames z.cpus s.words h.known.plan h.known.holder h.known.given h.known.log e n low refl refl cpu binding
+          book_ok = book_touched z.frames z.cpus s.words h.known.plan h.known.holder h.known.given h.known.log e n low
+              refl refl cpu binding
               (word
               ∙ ap (answer hd.touch) page_is) mine_few own.1.out page h.known.plan.hand h.book_ok;
           slots_ok = λ g within free.
               let old = h.slots_ok g within (sym (stays g within) ∙ free) in
               let other : f ≢ g = λ is. hand.2 (ap (λ k. get_or s.words (turn_at z.frames z.cpus k) 0) is
-              ∙ sym (stays g within) ∙ free) in
-              (old.0, old.1, old.2 ∙ sym (after_frame h.known.given g (current h.known.plan.watch g) e h.known.log other));
-          turns_ok = λ g within busy.
-              let old = h.turns_ok g within (λ is. busy (stays g within ∙ is)) in
-              dite (ℕ_discrete (h.known.holder g) id)
-              (λ (here : h.known.holder g ≡ id).
-              let is : old.0 ≡ Passing w = M.some-injective _ _ (sym old.2 ∙ ap (get_elem? s.views) here ∙ at) in
-              let frame : f ≡ g = has_frame f g page old.1 (sym has ∙ sym (ap hand_of is) ∙ old.3) in (
-                Passing w',
-                hd.page,
-                ap (get_elem? (set s.views id (Passing w'))) here ∙ set_at s.views id (Passing w) (Passing w') at,
-                ap (λ k. Has k hd.page) frame,
-              ))
-              (λ (other : h.known.holder g ≢ id). (
+              ∙ sym (stays g within) ∙ free) in (
                 old.0,
                 old.1,
-                set_else s.views id (h.known.holder g) (Passing w') other
-                    ∙ old.2,
-                old.3,
-              ));
-          seats_ok = seats_stay (SeatOk z.frames z.cpus (set s.words (ticket_at z.frames z.cpus) m) h.known.plan h.known.keeper
+                old.2 ∙ sym (after_frame h.known.given g (current h.known.plan.watch g) e h.known.log
+                    other),
+              );
+          turns_ok = turns_with z s.words (set s.words (ticket_at z.frames z.cpus) m) s.views h.known.holder id f
+              (Passing w) (Passing w') page hd.page stays at has refl h.turns_ok;
+          seats_ok = seats_stay (SeatOk z.frames z.cpus (set s.words (ticket_at z.frames z.cpus) m) h.known.plan
+              h.known.keeper
               h.known.seat_of h.known.holder h.known.given (e ∷ h.known.log))
               s.views id (Passing w') (
                 own.0,
@@ -195,7 +219,8 @@ module _ (z : Size) where
                   out = own.1.out;
                 },
               )
-              (λ j v other there. others s.words h.known.plan h.known.keeper h.known.seat_of h.known.holder h.known.given h.known.log e m own.0 hand.1 refl
+              (λ j v other there. others s.words h.known.plan h.known.keeper h.known.seat_of h.known.holder
+              h.known.given h.known.log e m own.0 hand.1 refl
               refl h.book_ok.plan_ok j v other
               (h.seats_ok j v there));
         },
@@ -212,22 +237,10 @@ module _ (z : Size) where
             (f, Some hd) ∷ [],
           ) (Passing (having_made n g k.touch k.word k.page w), (f, Some hd) ∷ [])
       told n g k rest is i = (
-        Passing (having_made n (first_of (is i)) (held_of (is i)).touch (held_of (is i)).word
-            (held_of (is i)).page w),
+        Passing (having_made n (first_of (is i)) (held_of hd (is i)).touch (held_of hd (is i)).word
+            (held_of hd (is i)).page w),
         (f, Some hd) ∷ [],
       )
-        where
-          first_of : List (ℕ × Option Held) → ℕ
-          first_of [] = 0
-          first_of (x ∷ xs) = x.0
-
-          held_in : Option Held → Held
-          held_in None = hd
-          held_in (Some y) = y
-
-          held_of : List (ℕ × Option Held) → Held
-          held_of [] = hd
-          held_of (x ∷ xs) = held_in x.1
 
       others : (words : List ℕ) (plan : Holder) (keeper : ℕ) (seat_of holder : ℕ → ℕ) (given : Given) (log : List Made)
           (e : Made) (m : ℕ)
@@ -360,7 +373,8 @@ module _ (z : Size) where
       subst (λ p. BookOk z.frames z.cpus s.words p h.known.given h.known.log) (sym own.1) h.book_ok in
       let hand : HandOk z.frames z.cpus s.words k.watch h.known.holder h.known.given h.known.log id (Has f page) =
       subst (HandOk z.frames z.cpus s.words k.watch h.known.holder h.known.given h.known.log id) has
-      (subst (λ p. HandOk z.frames z.cpus s.words p.watch h.known.holder h.known.given h.known.log id k.hand) (sym own.1) own.2) in
+      (subst (λ p. HandOk z.frames z.cpus s.words p.watch h.known.holder h.known.given h.known.log id k.hand) (sym
+      own.1) own.2) in
       let inside = hand.0 in
       let stays : (i : ℕ) → 1 + z.frames + z.cpus ≤ i → get_or words' i 0
       ≡ get_or s.words i 0 = λ i above. get_or-set_other s.words (door_at f) i n 0 (λ e. omega arith) in (
@@ -384,7 +398,8 @@ module _ (z : Size) where
                   (left_next k.watch f hd.page h.known.given h.known.log k.ended book.left),
               subst (λ j. current k.watch f < j) (sym (current_next z.frames z.cpus s.words k.watch f inside
                   book.plan_ok)) (omega arith),
-              ap page_of has ∙ hand.3 ∙ sym (after_else f (current k.watch f + 1) hd.page h.known.given f (current k.watch f)
+              ap page_of has ∙ hand.3 ∙ sym (after_else f (current k.watch f + 1) hd.page h.known.given f (current
+                  k.watch f)
                   h.known.log (inr (λ e. omega arith))),
               sym (regiven_here f (current k.watch f + 1) hd.page h.known.given),
             );
@@ -410,25 +425,10 @@ module _ (z : Size) where
                     ∙ moved k.watch h.known.given h.known.log g other
                     (current_else z.frames z.cpus s.words k.watch f inside book.plan_ok g other),
               );
-          turns_ok = λ g within busy.
-              let old = h.turns_ok g within (λ e. busy (stays (turn_at z.frames z.cpus g) (omega arith) ∙ e)) in
-              dite (ℕ_discrete (h.known.holder g) id)
-              (λ (here : h.known.holder g ≡ id).
-              let is : old.0 ≡ Keeping k = M.some-injective _ _ (sym old.2 ∙ ap (get_elem? s.views) here ∙ at) in
-              let frame : f ≡ g = has_frame f g page old.1 (sym has ∙ sym (ap hand_of is) ∙ old.3) in (
-                Keeping k',
-                hd.page,
-                ap (get_elem? (set s.views id (Keeping k'))) here ∙ set_at s.views id (Keeping k) (Keeping k') at,
-                ap (λ j. Has j hd.page) frame,
-              ))
-              (λ (other : h.known.holder g ≢ id). (
-                old.0,
-                old.1,
-                set_else s.views id (h.known.holder g) (Keeping k') other
-                    ∙ old.2,
-                old.3,
-              ));
-          seats_ok = seats_stay (SeatOk z.frames z.cpus words' k' h.known.keeper h.known.seat_of h.known.holder given' h.known.log) s.views id
+          turns_ok = turns_with z s.words words' s.views h.known.holder id f (Keeping k) (Keeping k') page hd.page
+              (λ g within. stays (turn_at z.frames z.cpus g) (omega arith)) at has refl h.turns_ok;
+          seats_ok = seats_stay (SeatOk z.frames z.cpus words' k' h.known.keeper h.known.seat_of h.known.holder given'
+              h.known.log) s.views id
               (Keeping k') (
                 own.0,
                 refl,
@@ -441,9 +441,11 @@ module _ (z : Size) where
                       (current_next z.frames z.cpus s.words k.watch f inside book.plan_ok)),
                 ),
               )
-              (λ j v other there. others s.words h.known.keeper h.known.seat_of h.known.holder h.known.given h.known.log inside own.0 hand.1
+              (λ j v other there. others s.words h.known.keeper h.known.seat_of h.known.holder h.known.given
+              h.known.log inside own.0 hand.1
               book.plan_ok stays j v other
-              (subst (λ p. SeatOk z.frames z.cpus s.words p h.known.keeper h.known.seat_of h.known.holder h.known.given h.known.log j v) (sym own.1)
+              (subst (λ p. SeatOk z.frames z.cpus s.words p h.known.keeper h.known.seat_of h.known.holder
+              h.known.given h.known.log j v) (sym own.1)
               (h.seats_ok j v there)));
         },
         λ g x rest is. told g x rest is,
@@ -452,19 +454,7 @@ module _ (z : Size) where
       told : (g : ℕ) (x : Held) (rest : List (ℕ × Option Held)) → (f, Some hd) ∷ [] ≡ (g, Some x) ∷ rest
           → ◌≡◌ {A = Me (Option Held) View} (Keeping (bound_anew f hd.page k), (f, Some hd) ∷ [])
           (Keeping (bound_anew g x.page k), (f, Some hd) ∷ [])
-      told g x rest is i = (Keeping (bound_anew (first_of (is i)) (held_of (is i)).page k), (f, Some hd) ∷ [])
-        where
-          first_of : List (ℕ × Option Held) → ℕ
-          first_of [] = 0
-          first_of (y ∷ ys) = y.0
-
-          held_in : Option Held → Held
-          held_in None = hd
-          held_in (Some y) = y
-
-          held_of : List (ℕ × Option Held) → Held
-          held_of [] = hd
-          held_of (y ∷ ys) = held_in y.1
+      told g x rest is i = (Keeping (bound_anew (first_of (is i)) (held_of hd (is i)).page k), (f, Some hd) ∷ [])
 
       moved : (plan : Watch) (given : Given) (log : List Made) (g : ℕ) → g ≢ f → current (admitted f plan) g
           ≡ current plan g

@@ -87,7 +87,8 @@ module _ (z : Size) where
           unmade = λ c above. book.unmade c (omega arith);
           taken_in = book.taken_in;
         };
-        slots_ok = subst (λ p. SlotsOk z.frames z.cpus s.words s.homes p.watch h.known.given h.known.log) (sym own.1) h.slots_ok;
+        slots_ok = subst (λ p. SlotsOk z.frames z.cpus s.words s.homes p.watch h.known.given h.known.log) (sym own.1)
+            h.slots_ok;
         turns_ok = λ f inside busy.
             let old = h.turns_ok f inside busy in
             dite (ℕ_discrete (h.known.holder f) id)
@@ -95,7 +96,8 @@ module _ (z : Size) where
             let is : old.0 ≡ Keeping k = M.some-injective _ _ (sym old.2 ∙ ap (get_elem? s.views) here ∙ at) in (
               Keeping k',
               old.1,
-              at_longer longer (pass_of_keeper (Keeping k) ∷ []) (h.known.holder f) (Keeping k') (ap (get_elem? longer) here
+              at_longer longer (pass_of_keeper (Keeping k) ∷ []) (h.known.holder f) (Keeping k') (ap (get_elem?
+                  longer) here
                   ∙ set_at s.views id (Keeping k) (Keeping k') at),
               sym (ap hand_of is) ∙ old.3,
             ))
@@ -108,19 +110,23 @@ module _ (z : Size) where
             ));
         seats_ok = λ j v e. ⊎_elim
             (λ (old : get_elem? longer j ≡ M.some v).
-            seats_stay (SeatOk z.frames z.cpus s.words k' h.known.keeper seat_of h.known.holder h.known.given h.known.log) s.views id
+            seats_stay (SeatOk z.frames z.cpus s.words k' h.known.keeper seat_of h.known.holder h.known.given
+            h.known.log) s.views id
             (Keeping k') (
               own.0,
               refl,
               subst (λ p. HandOk z.frames z.cpus s.words p.watch h.known.holder h.known.given h.known.log id k.hand)
                   (sym own.1) own.2,
             )
-            (λ i u other there. stays s.words h.known.keeper h.known.seat_of h.known.holder h.known.given h.known.log (length longer) own.0 i u other
-            (subst (λ p. SeatOk z.frames z.cpus s.words p h.known.keeper h.known.seat_of h.known.holder h.known.given h.known.log i u) (sym own.1)
+            (λ i u other there. stays s.words h.known.keeper h.known.seat_of h.known.holder h.known.given h.known.log
+            (length longer) own.0 i u other
+            (subst (λ p. SeatOk z.frames z.cpus s.words p h.known.keeper h.known.seat_of h.known.holder h.known.given
+            h.known.log i u) (sym own.1)
             (h.seats_ok i u there)))
             j v old)
             (λ (new : (j ≡ length longer) × (pass_of_keeper (Keeping k) ≡ v)).
-            subst (λ (x : ℕ × View). SeatOk z.frames z.cpus s.words k' h.known.keeper seat_of h.known.holder h.known.given h.known.log x.0 x.1)
+            subst (λ (x : ℕ × View). SeatOk z.frames z.cpus s.words k' h.known.keeper seat_of h.known.holder
+            h.known.given h.known.log x.0 x.1)
             (λ i. (sym new.0 i, new.1 i)) (
               put_here k.watch.made (length longer) h.known.seat_of,
               record {
@@ -203,7 +209,8 @@ module _ (z : Size) where
               (λ (else : c ≢ q.walk.cpu). book.taken_in c list
               (sym (get_or-set_other k.parts q.walk.cpu c (In q.made) Out else) ∙ part));
         };
-        slots_ok = subst (λ p. SlotsOk z.frames z.cpus s.words s.homes p.watch h.known.given h.known.log) (sym own.1) h.slots_ok;
+        slots_ok = subst (λ p. SlotsOk z.frames z.cpus s.words s.homes p.watch h.known.given h.known.log) (sym own.1)
+            h.slots_ok;
         turns_ok = λ f within busy.
             let old = h.turns_ok f within busy in
             let away : h.known.holder f ≢ other = λ here. free_has f old.1 (sym free
@@ -224,15 +231,18 @@ module _ (z : Size) where
                   ∙ set_else s.views id (h.known.holder f) (Keeping k') else ∙ old.2,
               old.3,
             ));
-        seats_ok = seats_spent s.words s.views id other k' h.known.keeper h.known.seat_of h.known.holder h.known.given h.known.log (
-          own.0,
-          refl,
-          subst (λ p. HandOk z.frames z.cpus s.words p.watch h.known.holder h.known.given h.known.log id k.hand)
-              (sym own.1) own.2,
-        )
-            (λ j v not_id not_other e. stays s.words h.known.keeper h.known.seat_of h.known.holder h.known.given h.known.log own.0 his.0 j v not_id
+        seats_ok = seats_spent s.words s.views id other k' h.known.keeper h.known.seat_of h.known.holder h.known.given
+            h.known.log (
+              own.0,
+              refl,
+              subst (λ p. HandOk z.frames z.cpus s.words p.watch h.known.holder h.known.given h.known.log id k.hand)
+                  (sym own.1) own.2,
+            )
+            (λ j v not_id not_other e. stays s.words h.known.keeper h.known.seat_of h.known.holder h.known.given
+            h.known.log own.0 his.0 j v not_id
             not_other
-            (subst (λ p. SeatOk z.frames z.cpus s.words p h.known.keeper h.known.seat_of h.known.holder h.known.given h.known.log j v) (sym own.1)
+            (subst (λ p. SeatOk z.frames z.cpus s.words p h.known.keeper h.known.seat_of h.known.holder h.known.given
+            h.known.log j v) (sym own.1)
             (h.seats_ok j v e)));
       }
     where
@@ -292,7 +302,8 @@ module _ (z : Size) where
         seats_ok = λ j v e. ⊎_elim
             (λ (old : get_elem? s.views j ≡ M.some v). h.seats_ok j v old)
             (λ (new : (j ≡ length s.views) × (Spent k ≡ v)). subst
-            (SeatOk z.frames z.cpus s.words h.known.plan h.known.keeper h.known.seat_of h.known.holder h.known.given h.known.log j) new.1 tt)
+            (SeatOk z.frames z.cpus s.words h.known.plan h.known.keeper h.known.seat_of h.known.holder h.known.given
+            h.known.log j) new.1 tt)
             (snoc_place s.views (Spent k) v j e);
       }
 
@@ -422,7 +433,8 @@ no_turn_left z words homes views seat k h at free all f inside busy =
     out_in made a i = absurd (cc)
 
     of_view : (v : View) (page : List ℕ) → hand_of v ≡ Has f page → k ≡ h.known.plan
-        → SeatOk z.frames z.cpus words h.known.plan h.known.keeper h.known.seat_of h.known.holder h.known.given h.known.log (h.known.holder f) v → ⊥
+        → SeatOk z.frames z.cpus words h.known.plan h.known.keeper h.known.seat_of h.known.holder h.known.given
+        h.known.log (h.known.holder f) v → ⊥
     of_view (Passing q) page has is ok =
         let cpu : q.walk.cpu < z.cpus = (let m = ok.1.pass_ok.made in let n = h.book_ok.plan_ok.made in omega arith) in
         let there = all q.walk.cpu cpu in

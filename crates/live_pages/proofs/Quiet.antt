@@ -128,7 +128,8 @@ module _ (z : Size) where
       → (h : Kept z words homes views) → get_elem? views id ≡ M.some (Passing w) → w.hand ≡ Free
       → (change w.walk).cpu ≡ w.walk.cpu → Quiet z.frames z.cpus words words'
       → (PassOk z.frames z.cpus words h.known.plan.watch w.walk → PlanOk z.frames z.cpus words' h.known.plan.watch)
-      → (PassOk z.frames z.cpus words h.known.plan.watch w.walk → PassOk z.frames z.cpus words' h.known.plan.watch (change w.walk))
+      → (PassOk z.frames z.cpus words h.known.plan.watch w.walk → PassOk z.frames z.cpus words' h.known.plan.watch
+      (change w.walk))
       → ((q : Walk) → q.cpu ≢ w.walk.cpu → PassOk z.frames z.cpus words h.known.plan.watch q
       → PassOk z.frames z.cpus words' h.known.plan.watch q)
       → Kept z words' homes (set views id (Passing (walking change w)))
@@ -136,26 +137,33 @@ module _ (z : Size) where
       let mine = h.seats_ok id (Passing w) at in
       record {
         known = h.known;
-        book_ok = book_quiet z.frames z.cpus words words' h.known.given h.known.log quiet h.known.plan h.known.plan.watch (plan mine.1.pass_ok)
+        book_ok = book_quiet z.frames z.cpus words words' h.known.given h.known.log quiet h.known.plan
+            h.known.plan.watch (plan mine.1.pass_ok)
             (λ f. refl) refl h.book_ok;
-        slots_ok = slots_quiet z.frames z.cpus words words' h.known.given h.known.log quiet homes h.known.plan.watch h.known.plan.watch
+        slots_ok = slots_quiet z.frames z.cpus words words' h.known.given h.known.log quiet homes h.known.plan.watch
+            h.known.plan.watch
             (λ f. refl) h.slots_ok;
-        turns_ok = turns_quiet z.frames z.cpus words words' h.known.given h.known.log quiet views h.known.holder id (Passing w)
+        turns_ok = turns_quiet z.frames z.cpus words words' h.known.given h.known.log quiet views h.known.holder id
+            (Passing w)
             (Passing (walking change w)) at refl h.turns_ok;
-        seats_ok = seats_stay (SeatOk z.frames z.cpus words' h.known.plan h.known.keeper h.known.seat_of h.known.holder h.known.given h.known.log) views id
+        seats_ok = seats_stay (SeatOk z.frames z.cpus words' h.known.plan h.known.keeper h.known.seat_of
+            h.known.holder h.known.given h.known.log) views id
             (Passing (walking change w)) (
               ap h.known.seat_of cpu ∙ mine.0,
               record {
                 all = mine.1.all;
                 pass_ok = own mine.1.pass_ok;
                 made = mine.1.made ∙ ap (λ c. Rattle.live_pages.specs.Touches.mine c h.known.log) (sym cpu);
-                hand_ok = subst (HandOk z.frames z.cpus words' h.known.plan.watch h.known.holder h.known.given h.known.log id) (sym free) tt;
+                hand_ok = subst (HandOk z.frames z.cpus words' h.known.plan.watch h.known.holder h.known.given
+                    h.known.log id) (sym free) tt;
                 holds = subst (λ k. HoldsHand k (change w.walk)) (sym free) tt;
-                out = ap (λ c. get_or h.known.plan.parts c Rattle.live_pages.specs.declared.views.Part.TheVariants.Out) cpu
+                out = ap (λ c. get_or h.known.plan.parts c
+                    Rattle.live_pages.specs.declared.views.Part.TheVariants.Out) cpu
                     ∙ mine.1.out;
               },
             )
-            (λ j v other e. stays h.known.plan h.known.keeper h.known.seat_of h.known.holder h.known.given h.known.log mine.0 others j v other
+            (λ j v other e. stays h.known.plan h.known.keeper h.known.seat_of h.known.holder h.known.given h.known.log
+            mine.0 others j v other
             (h.seats_ok j v e));
       }
     where
@@ -194,16 +202,21 @@ module _ (z : Size) where
       let slots : SlotsOk z.frames z.cpus words homes k.watch h.known.given h.known.log =
       subst (λ p. SlotsOk z.frames z.cpus words homes p.watch h.known.given h.known.log) (sym mine.1) h.slots_ok in
       let hand : HandOk z.frames z.cpus words k.watch h.known.holder h.known.given h.known.log id k.hand =
-      subst (λ p. HandOk z.frames z.cpus words p.watch h.known.holder h.known.given h.known.log id k.hand) (sym mine.1) mine.2 in
+      subst (λ p. HandOk z.frames z.cpus words p.watch h.known.holder h.known.given h.known.log id k.hand) (sym
+      mine.1) mine.2 in
       record {
         known = record h.known { plan = watching change k };
-        book_ok = book_quiet z.frames z.cpus words words' h.known.given h.known.log quiet k (change k.watch) (plan book.plan_ok)
+        book_ok = book_quiet z.frames z.cpus words words' h.known.given h.known.log quiet k (change k.watch) (plan
+            book.plan_ok)
             same made book;
-        slots_ok = slots_quiet z.frames z.cpus words words' h.known.given h.known.log quiet homes k.watch (change k.watch) same
+        slots_ok = slots_quiet z.frames z.cpus words words' h.known.given h.known.log quiet homes k.watch (change
+            k.watch) same
             slots;
-        turns_ok = turns_quiet z.frames z.cpus words words' h.known.given h.known.log quiet views h.known.holder id (Keeping k)
+        turns_ok = turns_quiet z.frames z.cpus words words' h.known.given h.known.log quiet views h.known.holder id
+            (Keeping k)
             (Keeping (watching change k)) at refl h.turns_ok;
-        seats_ok = seats_stay (SeatOk z.frames z.cpus words' (watching change k) h.known.keeper h.known.seat_of h.known.holder h.known.given
+        seats_ok = seats_stay (SeatOk z.frames z.cpus words' (watching change k) h.known.keeper h.known.seat_of
+            h.known.holder h.known.given
             h.known.log) views id
             (Keeping (watching change k)) (
               mine.0,
@@ -211,8 +224,10 @@ module _ (z : Size) where
               hand_quiet z.frames z.cpus words words' h.known.given h.known.log quiet h.known.holder k.watch
                   (change k.watch) id k.hand same hand,
             )
-            (λ j v other e. stays h.known.keeper h.known.seat_of h.known.holder h.known.given h.known.log mine.0 (pass book.plan_ok) j v other
-            (subst (λ p. SeatOk z.frames z.cpus words p h.known.keeper h.known.seat_of h.known.holder h.known.given h.known.log j v) (sym mine.1)
+            (λ j v other e. stays h.known.keeper h.known.seat_of h.known.holder h.known.given h.known.log mine.0 (pass
+            book.plan_ok) j v other
+            (subst (λ p. SeatOk z.frames z.cpus words p h.known.keeper h.known.seat_of h.known.holder h.known.given
+            h.known.log j v) (sym mine.1)
             (h.seats_ok j v e)));
       }
     where

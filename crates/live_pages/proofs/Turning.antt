@@ -179,16 +179,20 @@ module _ (z : Size) where
       (plan : Holder)
       → get_elem? s.views id ≡ M.some v → hand_of v ≡ Free → hand_of v' ≡ Has f hd.page → f < z.frames
       → get_or s.words (turn_at z.frames z.cpus f) 0 ≡ 0 → (hand : Hand) → plan ≡ record h.known.plan { hand = hand }
-      → SeatOk z.frames z.cpus (set s.words (turn_at z.frames z.cpus f) 1) plan h.known.keeper h.known.seat_of (put f id h.known.holder)
+      → SeatOk z.frames z.cpus (set s.words (turn_at z.frames z.cpus f) 1) plan h.known.keeper h.known.seat_of (put f
+      id h.known.holder)
       h.known.given h.known.log id v'
-      → ((j : ℕ) (u : View) → j ≢ id → SeatOk z.frames z.cpus s.words h.known.plan h.known.keeper h.known.seat_of h.known.holder h.known.given h.known.log
+      → ((j : ℕ) (u : View) → j ≢ id → SeatOk z.frames z.cpus s.words h.known.plan h.known.keeper h.known.seat_of
+      h.known.holder h.known.given h.known.log
       j u
-      → SeatOk z.frames z.cpus (set s.words (turn_at z.frames z.cpus f) 1) plan h.known.keeper h.known.seat_of (put f id h.known.holder)
+      → SeatOk z.frames z.cpus (set s.words (turn_at z.frames z.cpus f) 1) plan h.known.keeper h.known.seat_of (put f
+      id h.known.holder)
       h.known.given h.known.log j u)
       → Kept z (set s.words (turn_at z.frames z.cpus f) 1) (set s.homes f M.none) (set s.views id v')
   taken_kept s h id f hd v v' plan at free has inside zero_word hand plan_is mine others = record {
     known = record h.known { plan = plan; holder = put f id h.known.holder };
-    book_ok = subst (λ p. BookOk z.frames z.cpus (set s.words (turn_at z.frames z.cpus f) 1) p h.known.given h.known.log)
+    book_ok = subst (λ p. BookOk z.frames z.cpus (set s.words (turn_at z.frames z.cpus f) 1) p h.known.given
+        h.known.log)
         (sym plan_is)
         (book_turned z.frames z.cpus s.words f 1 inside h.known.plan h.known.given h.known.log hand h.book_ok);
     slots_ok = λ g within zero. dite (ℕ_discrete g f)
@@ -213,10 +217,12 @@ module _ (z : Size) where
           has ∙ ap (λ k. Has k hd.page) (sym same),
         ))
         (λ (other : g ≢ f).
-        turns_else z.frames z.cpus s.words f 1 inside s.views h.known.holder (put f id h.known.holder) id v v' g at other
+        turns_else z.frames z.cpus s.words f 1 inside s.views h.known.holder (put f id h.known.holder) id v v' g at
+        other
         (λ page e. free_has g page (sym free ∙ e))
         (λ o. put_else f g id h.known.holder o) h.turns_ok within busy);
-    seats_ok = seats_stay (SeatOk z.frames z.cpus (set s.words (turn_at z.frames z.cpus f) 1) plan h.known.keeper h.known.seat_of
+    seats_ok = seats_stay (SeatOk z.frames z.cpus (set s.words (turn_at z.frames z.cpus f) 1) plan h.known.keeper
+        h.known.seat_of
         (put f id h.known.holder) h.known.given h.known.log) s.views
         id v' mine (λ j u other e. others j u other (h.seats_ok j u e));
   }
@@ -288,7 +294,8 @@ module _ (z : Size) where
                 out = mine.1.out;
               },
             )
-            (others_taken s.words h.known.plan h.known.plan.hand h.known.keeper h.known.seat_of h.known.holder h.known.given h.known.log id f inside hit
+            (others_taken s.words h.known.plan h.known.plan.hand h.known.keeper h.known.seat_of h.known.holder
+            h.known.given h.known.log id f inside hit
             h.book_ok (λ _ _ _. refl)),
         λ g e. let same = frame g e in (
           (λ _. (
@@ -316,17 +323,22 @@ module _ (z : Size) where
   given_back_kept : (s : State (Option Held) View) (h : Kept z s.words s.homes s.views) (id f : ℕ) (hd : Held)
       (v v' : View) (plan : Holder)
       → get_elem? s.views id ≡ M.some v → hand_of v ≡ Has f hd.page → f < z.frames → f < length s.homes
-      → hd.page ≡ after h.known.given f (current h.known.plan.watch f) h.known.log → (hand : Hand) → plan ≡ record h.known.plan { hand = hand }
-      → SeatOk z.frames z.cpus (set s.words (turn_at z.frames z.cpus f) 0) plan h.known.keeper h.known.seat_of h.known.holder h.known.given
+      → hd.page ≡ after h.known.given f (current h.known.plan.watch f) h.known.log → (hand : Hand) → plan ≡ record
+      h.known.plan { hand = hand }
+      → SeatOk z.frames z.cpus (set s.words (turn_at z.frames z.cpus f) 0) plan h.known.keeper h.known.seat_of
+      h.known.holder h.known.given
       h.known.log id v'
-      → ((j : ℕ) (u : View) → j ≢ id → SeatOk z.frames z.cpus s.words h.known.plan h.known.keeper h.known.seat_of h.known.holder h.known.given h.known.log
+      → ((j : ℕ) (u : View) → j ≢ id → SeatOk z.frames z.cpus s.words h.known.plan h.known.keeper h.known.seat_of
+      h.known.holder h.known.given h.known.log
       j u
-      → SeatOk z.frames z.cpus (set s.words (turn_at z.frames z.cpus f) 0) plan h.known.keeper h.known.seat_of h.known.holder h.known.given
+      → SeatOk z.frames z.cpus (set s.words (turn_at z.frames z.cpus f) 0) plan h.known.keeper h.known.seat_of
+      h.known.holder h.known.given
       h.known.log j u)
       → Kept z (set s.words (turn_at z.frames z.cpus f) 0) (set s.homes f (M.some (Some hd))) (set s.views id v')
   given_back_kept s h id f hd v v' plan at has inside slot page hand plan_is own others = record {
     known = record h.known { plan = plan };
-    book_ok = subst (λ p. BookOk z.frames z.cpus (set s.words (turn_at z.frames z.cpus f) 0) p h.known.given h.known.log)
+    book_ok = subst (λ p. BookOk z.frames z.cpus (set s.words (turn_at z.frames z.cpus f) 0) p h.known.given
+        h.known.log)
         (sym plan_is)
         (book_turned z.frames z.cpus s.words f 0 inside h.known.plan h.known.given h.known.log hand h.book_ok);
     slots_ok = λ g within free. dite (ℕ_discrete g f)
@@ -348,9 +360,11 @@ module _ (z : Size) where
         (λ (same : g ≡ f). absurd (busy (ap (λ k. get_or (set s.words (turn_at z.frames z.cpus f) 0)
         (turn_at z.frames z.cpus k) 0) same
         ∙ turn_here z.frames z.cpus s.words f 0 inside h.book_ok.room)))
-        (λ (other : g ≢ f). turns_else z.frames z.cpus s.words f 0 inside s.views h.known.holder h.known.holder id v v' g at other
+        (λ (other : g ≢ f). turns_else z.frames z.cpus s.words f 0 inside s.views h.known.holder h.known.holder id v
+        v' g at other
         (λ p e. other (has_frame g f p hd.page (sym e ∙ has))) (λ _. refl) h.turns_ok within busy);
-    seats_ok = seats_stay (SeatOk z.frames z.cpus (set s.words (turn_at z.frames z.cpus f) 0) plan h.known.keeper h.known.seat_of
+    seats_ok = seats_stay (SeatOk z.frames z.cpus (set s.words (turn_at z.frames z.cpus f) 0) plan h.known.keeper
+        h.known.seat_of
         h.known.holder h.known.given h.known.log) s.views id v' own
         (λ j u other e. others j u other (h.seats_ok j u e));
   }
@@ -389,7 +403,8 @@ module _ (z : Size) where
       (λ _. Gives (step z.frames (turn_at z.frames z.cpus f) 0 0 M.none) (Passing w, (f, Some hd) ∷ []) 0)
   gives_turn id f w hd has s h homes at fits =
       let mine = h.seats_ok id (Passing w) at in
-      let hand = subst (HandOk z.frames z.cpus s.words h.known.plan.watch h.known.holder h.known.given h.known.log id) has mine.1.hand_ok in (
+      let hand = subst (HandOk z.frames z.cpus s.words h.known.plan.watch h.known.holder h.known.given h.known.log id)
+      has mine.1.hand_ok in (
         Passing (record w { hand = Free }),
         gives,
         tt,
@@ -407,7 +422,8 @@ module _ (z : Size) where
                 out = mine.1.out;
               },
             )
-            (others_given s.words h.known.plan h.known.plan.hand h.known.keeper h.known.seat_of h.known.holder h.known.given h.known.log id f hand.0 hand.1
+            (others_given s.words h.known.plan h.known.plan.hand h.known.keeper h.known.seat_of h.known.holder
+            h.known.given h.known.log id f hand.0 hand.1
             h.book_ok (λ _ _ _. refl)),
         λ x rest e i. (Passing (record w { hand = Free }), tail_of (e i)),
       )
@@ -419,15 +435,20 @@ module _ (z : Size) where
       (λ _. KeeperGives (step z.frames (turn_at z.frames z.cpus f) 0 0 M.none) (Keeping k, (f, Some hd) ∷ []) 0)
   keeper_gives id f k hd has s h homes at fits =
       let mine = h.seats_ok id (Keeping k) at in
-      let hand = subst (HandOk z.frames z.cpus s.words h.known.plan.watch h.known.holder h.known.given h.known.log id) has mine.2 in (
+      let hand = subst (HandOk z.frames z.cpus s.words h.known.plan.watch h.known.holder h.known.given h.known.log id)
+      has mine.2 in (
         Keeping (record k { hand = Free }),
         gives,
         tt,
-        given_back_kept s h id f hd (Keeping k) (Keeping (record k { hand = Free })) (record h.known.plan { hand = Free }) at
+        given_back_kept s h id f hd (Keeping k) (Keeping (record k { hand = Free })) (record h.known.plan {
+          hand =
+              Free;
+        }) at
             has hand.0 (let i = hand.0 in
             omega arith) hand.3 Free refl
             (mine.0, ap (with_hand Free) mine.1, tt)
-            (others_given s.words h.known.plan Free h.known.keeper h.known.seat_of h.known.holder h.known.given h.known.log id f hand.0 hand.1 h.book_ok
+            (others_given s.words h.known.plan Free h.known.keeper h.known.seat_of h.known.holder h.known.given
+            h.known.log id f hand.0 hand.1 h.book_ok
             (λ j other is. absurd (other (sym is ∙ mine.0)))),
         λ x rest e i. (Keeping (record k { hand = Free }), tail_of (e i)),
       )
@@ -455,7 +476,8 @@ module _ (z : Size) where
     where
       of_view : (v : View) {page : List ℕ} → get_elem? s.views (h.known.holder f) ≡ M.some v → hand_of v ≡ Has f page
           → h.known.keeper ≡ id → k ≡ h.known.plan
-          → SeatOk z.frames z.cpus s.words h.known.plan h.known.keeper h.known.seat_of h.known.holder h.known.given h.known.log (h.known.holder f) v → ⊥
+          → SeatOk z.frames z.cpus s.words h.known.plan h.known.keeper h.known.seat_of h.known.holder h.known.given
+          h.known.log (h.known.holder f) v → ⊥
       of_view (Passing q) {page} there has here is ok =
           let e = subst (λ x. HoldsHand x q.walk) has ok.1.holds in
           holder_stands s.words h.known.plan.watch q.walk cleared f e.0 h.book_ok.plan_ok ok.1.pass_ok
@@ -495,7 +517,8 @@ module _ (z : Size) where
                 slot.2,
               ),
             )
-            (others_taken s.words h.known.plan (Has f slot.0.page) h.known.keeper h.known.seat_of h.known.holder h.known.given h.known.log id f inside hit
+            (others_taken s.words h.known.plan (Has f slot.0.page) h.known.keeper h.known.seat_of h.known.holder
+            h.known.given h.known.log id f inside hit
             h.book_ok
             (λ j other is. absurd (other (sym is ∙ mine.0)))),
         λ g e. (

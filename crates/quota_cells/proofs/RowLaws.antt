@@ -4,6 +4,7 @@ use Rattle.std.proofs.Common.{drop, Result, Ok, Err, IfOk, IfErr, is_ok}
 use Rattle.std.proofs.Common.{refl, sym, ap, subst, ◌∙◌, arith, get_or, set, inl, inr}
 use Rattle.std.specs.List.{insert, remove}
 use Rattle.std.proofs.lemmas.List.{drop_more}
+use Rattle.std.proofs.lemmas.List.Edits.{length-insert, length-remove}
 use Rattle.std.proofs.lemmas.Bool.{cases_order, eq-eqb, ne_eqb, lt-ltb, le-ltb, or_cases, eqb-true}
 use Rattle.quota_cells.specs.Accounts.{has, with_beside, without_beside, covers, changed_where}
 use Rattle.quota_cells.specs.Cells.{CellMaps, IsRising, quota_in, load_in, with_loads}
@@ -45,6 +46,19 @@ remove_beside (k ∷ ks) (w ∷ vs) (suc i) len up lt =
     let less : k < get_or ks i 0 = up 0 (suc i) (omega arith) lt in
     rw (ne_eqb k (get_or ks i 0) (λ q. omega arith)) (ap (λ xs. w ∷ xs)
     (remove_beside ks vs i (omega arith) (rising_rest k ks up) (omega arith)))
+
+-- values stay as many as uids
+pub grown_beside : (ks vs : List ℕ) (i u v : ℕ) → length vs ≡ length ks → i ≤ length ks
+    → length (insert vs i v) ≡ length (insert ks i u)
+grown_beside ks vs i u v len le =
+    let keys = length-insert ks i u le in
+    let values = length-insert vs i v (rw len le) in omega arith
+
+pub shrunk_beside : (ks vs : List ℕ) (i : ℕ) → length vs ≡ length ks → i < length ks
+    → length (remove vs i) ≡ length (remove ks i)
+shrunk_beside ks vs i len lt =
+    let keys = length-remove ks i lt in
+    let values = length-remove vs i (rw len lt) in omega arith
 
 pub entered : (m : NumberMap) (at u : ℕ) → length m.values ≡ length m.uids → IsGap m.uids u at
     → record { uids = insert m.uids at u; values = insert m.values at 0 } ≡ with_uid m u

@@ -5,12 +5,16 @@ use Rattle.quota_cells.specs.declared.directories.Cell.{Cell}
 use Rattle.quota_cells.specs.declared.directories.Pages.{Pages}
 use Rattle.quota_cells.specs.declared.directories.Pages.TheVariants.{More, Less}
 use Rattle.quota_cells.specs.Accounts.{has, covers, changed_where, with_beside, without_beside}
-use Rattle.quota_cells.specs.Cells.{CellMaps, quota_in, load_in, no_cells, with_loads, with_quota}
+use Rattle.quota_cells.specs.Cells.{CellMaps, IsRising, quota_in, load_in, no_cells, with_loads, with_quota}
 
 -- a number beside each of some uids, in their order
 pub record NumberMap : Type 0 where
   pub uids : List ℕ
   pub values : List ℕ
+
+-- the uids rise, and there are as many numbers
+abbrev pub AreInOrder : List ℕ → List ℕ → Type 0
+AreInOrder uids values = IsRising uids × (length values ≡ length uids)
 
 abbrev pub no_numbers : NumberMap
 no_numbers = record { uids = []; values = [] }

@@ -19,16 +19,15 @@ pub(crate) struct Numbers {
 }
 
 impl Model for Numbers {
-    ghost use Rattle.std.specs.Prelude.{◌≡◌, ◌≤◌, length, vec_capacity};
-    ghost use Rattle.quota_cells.specs.Cells.{IsRising};
-    ghost use Rattle.quota_cells.specs.Columns.{NumberMap};
+    ghost use Rattle.std.specs.Prelude.{◌≤◌, vec_capacity};
+    ghost use Rattle.quota_cells.specs.Columns.{NumberMap, AreInOrder};
 
     ghost Value = { NumberMap };
 
     ghost view = { λ n. record { uids = n.uids.items; values = n.values.items } };
 
-    ghost invariant = { λ n. IsRising n.uids.items × (length n.values.items ≡ length n.uids.items)
-        × (4097 ≤ vec_capacity n.uids) × (4097 ≤ vec_capacity n.values) };
+    ghost invariant = { λ n. AreInOrder n.uids.items n.values.items × (4097 ≤ vec_capacity n.uids)
+        × (4097 ≤ vec_capacity n.values) };
 }
 
 impl Numbers {

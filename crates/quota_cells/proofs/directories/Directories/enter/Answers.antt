@@ -1,22 +1,20 @@
 use Rattle.std.proofs.Common.{ap, ◌∙◌, refl, arith}
-use Rattle.std.proofs.lemmas.List.Edits.{length-insert}
 use Rattle.quota_cells.specs.Cells.{CellMaps, with_directory}
 use Rattle.quota_cells.specs.Columns.{directory_maps}
-use Rattle.quota_cells.proofs.RowLaws.{insert_beside}
+use Rattle.quota_cells.proofs.RowLaws.{grown_beside, insert_beside}
 use Rattle.quota_cells.proofs.directories.Directories.enter.Goals as goal
 
 pub invariant_of-self : goal.invariant_of-self
 invariant_of-self c =
     let old = c.self.inside.quotas.uids in
-    let at = c.enter-at.result in
-    let uids = length-insert old at c.args.uid c.enter-at.ensures.gap.within in
-    let loads = length-insert c.self.inside.loads.items at 0 (rw c.self.invariant.0 c.enter-at.ensures.gap.within) in (
+    let gap = c.enter-at.ensures.gap in (
       rw (
         c.put.ensures.items,
         c.enter-at.ensures.numbers,
-        ← insert_beside old old c.args.uid at c.args.uid refl
-            c.enter-at.ensures.gap,
-      ) (omega (arith, uids, loads, c.self.invariant.0)),
+        ← insert_beside old old c.args.uid c.enter-at.result
+            c.args.uid refl gap,
+      ) (grown_beside old c.self.inside.loads.items c.enter-at.result c.args.uid 0
+          c.self.invariant.0 gap.within),
       omega (arith, c.self.invariant.1, c.put.ensures.capacity),
     )
 

@@ -1,24 +1,21 @@
 use Rattle.std.proofs.Common.{ap, ◌∙◌, refl, arith}
-use Rattle.std.proofs.lemmas.List.Edits.{length-remove}
 use Rattle.quota_cells.specs.Accounts.{without_beside}
 use Rattle.quota_cells.specs.Cells.{CellMaps, without_directory}
 use Rattle.quota_cells.specs.Columns.{directory_maps}
-use Rattle.quota_cells.proofs.RowLaws.{remove_beside}
+use Rattle.quota_cells.proofs.RowLaws.{remove_beside, shrunk_beside}
 use Rattle.quota_cells.proofs.directories.Directories.leave.Goals as goal
 
 pub invariant_of-self : goal.invariant_of-self
 invariant_of-self c =
     let old = c.self.inside.quotas.uids in
-    let at = c.leave-at.result in
-    let uids = length-remove old at c.leave-at.ensures.within in
-    let loads = length-remove c.self.inside.loads.items at (rw c.self.invariant.0 c.leave-at.ensures.within) in (
+    let left = c.leave-at.ensures in (
       rw (
         c.remove.ensures.items,
-        c.leave-at.ensures.numbers,
-        ← c.leave-at.ensures.is,
-        ← remove_beside old old at refl
-            c.leave-at.ensures.rising c.leave-at.ensures.within,
-      ) (omega (arith, uids, loads, c.self.invariant.0)),
+        left.numbers,
+        ← left.is,
+        ← remove_beside old old c.leave-at.result refl left.rising
+            left.within,
+      ) (shrunk_beside old c.self.inside.loads.items c.leave-at.result c.self.invariant.0 left.within),
       omega (arith, c.self.invariant.1, c.remove.ensures.capacity),
     )
 

@@ -1,12 +1,11 @@
 use Rattle.std.proofs.Common.{◌≡◌, true, sym, ap, subst, ◌∙◌, arith}
 use Rattle.std.proofs.lemmas.Bool.{both_ways}
-use Rattle.std.proofs.lemmas.List.Edits.{length-insert}
 use Rattle.quota_cells.specs.Accounts.{has}
 use Rattle.quota_cells.specs.Cells.{IsRising}
 use Rattle.quota_cells.specs.Columns.{IsGap, NumberMap, with_uid}
 use Rattle.quota_cells.proofs.PlaceLaws.{has_at}
 use Rattle.quota_cells.proofs.EditLaws.{rising_insert}
-use Rattle.quota_cells.proofs.RowLaws.{entered}
+use Rattle.quota_cells.proofs.RowLaws.{entered, grown_beside}
 use Rattle.quota_cells.proofs.numbers.Numbers.enter.Goals as goal
 
 pub unreachable-requires : goal.unreachable-requires
@@ -20,19 +19,21 @@ gap_inside c = subst (λ (m : NumberMap). IsGap m.uids c.args.uid c.in-Err.at) (
 
 pub invariant_of-self : goal.invariant_of-self
 invariant_of-self c =
-    let gap = gap_inside c in
-    let uids = length-insert c.self.inside.uids.items c.in-Err.at c.args.uid gap.within in
-    let values = length-insert c.self.inside.values.items c.in-Err.at 0 (rw c.self.invariant.1 gap.within) in (
-      subst IsRising (sym c.put.ensures.items) (rising_insert c.self.inside.uids.items c.args.uid c.in-Err.at
-          c.self.invariant.0 gap),
-      rw (c.put.ensures.items, c.put-2.ensures.items) (omega (arith, uids, values, c.self.invariant.1)),
-      omega (arith, c.self.invariant.2, c.put.ensures.capacity),
-      omega (arith, c.self.invariant.3, c.put-2.ensures.capacity),
+    let order = c.self.invariant.0 in
+    let gap = gap_inside c in (
+      (
+        subst IsRising (sym c.put.ensures.items) (rising_insert c.self.inside.uids.items c.args.uid c.in-Err.at order.0
+            gap),
+        rw (c.put.ensures.items, c.put-2.ensures.items) (grown_beside c.self.inside.uids.items
+            c.self.inside.values.items c.in-Err.at c.args.uid 0 order.1 gap.within),
+      ),
+      omega (arith, c.self.invariant.1, c.put.ensures.capacity),
+      omega (arith, c.self.invariant.2, c.put-2.ensures.capacity),
     )
 
 pub returns-clause-numbers : goal.returns-clause-numbers
 returns-clause-numbers c =
     (λ i. record { uids = c.put.ensures.items i; values = c.put-2.ensures.items i })
     ∙ entered (record { uids = c.self.inside.uids.items; values = c.self.inside.values.items }) c.in-Err.at c.args.uid
-    c.self.invariant.1 (gap_inside c)
+    c.self.invariant.0.1 (gap_inside c)
     ∙ ap (λ (m : NumberMap). with_uid m c.args.uid) c.self.view_is
