@@ -25,6 +25,10 @@ pub pass_fits : (m : Me (Unit {0}) View) (q : Walk) (cpu : ℕ) (held : List (Op
 pass_fits m q cpu held stamp is a b c = subst (λ x. PassFits x cpu held stamp) (sym is) record
     { seat = refl; cpu = a; held = b; stamp = c }
 
+-- a seat of doors has no slot in hand
+pub without_slots : {V S : Type 0} (m : V × List S) (v : V) → m ≡ (v, []) → m.1 ≡ []
+without_slots m v is = ap (λ x. x.1) is
+
 -- it came with the same doors as before
 pub pass_stays_of : (doors : DoorsModel) (now : PassModel) (t t' : TableId) (m m' : Me (Unit {0}) View) (q : Walk)
     → record { table = t; walk = walk_of m.0 } ≡ now → IsPassOf doors now → t' ≡ t → m' ≡ (Walking q, [])
@@ -60,61 +64,53 @@ keeper_stays_of doors now t t' cleared cleared' m m' w view ok same is a b c = r
 }
 
 -- what the keeper has noted once it has read the acknowledgements of the first few processors, each at least the stamp
-pub record ClearSoFar (doors : DoorsModel) (old now : KeeperModel) (stamp cpu : ℕ) : Type 0 where
-  pub keeper : IsKeeperOf doors now
-  pub only : OnlyNoted old.watch now.watch
-  pub looks : now.watch.looks ≡ old.watch.looks + cpu
-  pub noted : (c : ℕ) → c < cpu → stamp ≤ get_or now.watch.noted c 0
-  pub cleared : now.cleared ≡ old.cleared
+pub record NotedSoFar (old now : Watch) (stamp cpu : ℕ) : Type 0 where
+  pub only : OnlyNoted old now
+  pub looks : now.looks ≡ old.looks + cpu
+  pub noted : (c : ℕ) → c < cpu → stamp ≤ get_or now.noted c 0
 
-pub clear_starts : (doors : DoorsModel) (old : KeeperModel) (stamp : ℕ) → IsKeeperOf doors old
-    → ClearSoFar doors old old stamp 0
-clear_starts doors old stamp ok = record {
-  keeper = ok;
+pub noted_starts : (old : Watch) (stamp : ℕ) → NotedSoFar old old stamp 0
+noted_starts old stamp = record {
   only = record { made = refl; request = refl; doors = refl; since = refl };
   looks = omega arith;
   noted = λ c none. absurd (omega arith);
-  cleared = refl;
 }
 
-module _ (doors : DoorsModel) (old now next : KeeperModel) (stamp cpu seen : ℕ) where
-  pub only_noted : ClearSoFar doors old now stamp cpu → next.watch ≡ having_noted cpu seen now.watch
-      → OnlyNoted old.watch next.watch
-  only_noted so is = record {
+module _ (old now next : Watch) (stamp cpu seen : ℕ) (so : NotedSoFar old now stamp cpu)
+    (is : next ≡ having_noted cpu seen now) where
+  pub only_noted : OnlyNoted old next
+  only_noted = record {
     made = ap (λ w. w.made) is ∙ so.only.made;
     request = ap (λ w. w.request) is ∙ so.only.request;
     doors = ap (λ w. w.doors) is ∙ so.only.doors;
     since = ap (λ w. w.since) is ∙ so.only.since;
   }
 
-  pub noted_here : ClearSoFar doors old now stamp cpu → next.watch ≡ having_noted cpu seen now.watch → cpu < doors.cpus
-      → get_or next.watch.noted cpu 0 ≡ seen
-  noted_here so is inside = ap (λ w. get_or w.noted cpu 0) is
-      ∙ get_or-set_same now.watch.noted cpu seen 0 (let r = so.keeper.cpus in omega arith)
+  pub noted_here : cpu < length now.noted → get_or next.noted cpu 0 ≡ seen
+  noted_here inside = ap (λ w. get_or w.noted cpu 0) is ∙ get_or-set_same now.noted cpu seen 0 inside
 
-  pub noted_before : ClearSoFar doors old now stamp cpu → next.watch ≡ having_noted cpu seen now.watch → (c : ℕ)
-      → c < cpu → stamp ≤ get_or next.watch.noted c 0
-  noted_before so is c below = subst (λ k. stamp ≤ k) (sym
-      (ap (λ w. get_or w.noted c 0) is ∙ get_or-set_other now.watch.noted cpu c seen 0 (λ e. omega arith)))
+  pub noted_before : (c : ℕ) → c < cpu → stamp ≤ get_or next.noted c 0
+  noted_before c below = subst (λ k. stamp ≤ k) (sym
+      (ap (λ w. get_or w.noted c 0) is ∙ get_or-set_other now.noted cpu c seen 0 (λ e. omega arith)))
       (so.noted c below)
 
-  pub looked_once_more : ClearSoFar doors old now stamp cpu → next.watch ≡ having_noted cpu seen now.watch
-      → next.watch.looks ≡ old.watch.looks + cpu + 1
-  looked_once_more so is = ap (λ w. w.looks) is ∙ ap (λ k. k + 1) so.looks
+  pub looked_once_more : next.looks ≡ old.looks + cpu + 1
+  looked_once_more = ap (λ w. w.looks) is ∙ ap (λ k. k + 1) so.looks
 
-  pub clear_goes_on : ClearSoFar doors old now stamp cpu → IsKeeperOf doors next → next.watch
-      ≡ having_noted cpu seen now.watch → next.cleared ≡ now.cleared
-      → cpu < doors.cpus → stamp ≤ seen → ClearSoFar doors old next stamp (cpu + 1)
-  clear_goes_on so ok is same inside enough = record {
-    keeper = ok;
-    only = only_noted so is;
-    looks = (let l = looked_once_more so is in omega arith);
-    noted = λ c below. dite (ℕ_discrete c cpu) (λ (e : c ≡ cpu). subst (λ k. stamp ≤ get_or next.watch.noted k 0)
-        (sym e)
-        (subst (λ k. stamp ≤ k) (sym (noted_here so is inside)) enough))
-        (λ (other : c ≢ cpu). noted_before so is c (omega arith));
-    cleared = same ∙ so.cleared;
+  pub noted_goes_on : cpu < length now.noted → stamp ≤ seen → NotedSoFar old next stamp (cpu + 1)
+  noted_goes_on inside enough = record {
+    only = only_noted;
+    looks = (let l = looked_once_more in omega arith);
+    noted = λ c below. dite (ℕ_discrete c cpu) (λ (e : c ≡ cpu). subst (λ k. stamp ≤ get_or next.noted k 0) (sym e)
+        (subst (λ k. stamp ≤ k) (sym (noted_here inside)) enough))
+        (λ (other : c ≢ cpu). noted_before c (omega arith));
   }
+
+-- the keeper so far, as it asks
+pub record ClearSoFar (doors : DoorsModel) (old now : KeeperModel) (stamp cpu : ℕ) : Type 0 where
+  pub keeper : IsKeeperOf doors now
+  pub so : NotedSoFar old.watch now.watch stamp cpu
+  pub cleared : now.cleared ≡ old.cleared
 
 -- every new pass came with its doors
 pub all_first : (doors : DoorsModel) (n : ℕ) → n ≤ doors.cpus → All (IsPassOf doors) (first_passes doors n)

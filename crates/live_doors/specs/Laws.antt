@@ -159,12 +159,14 @@ module _ (frames cpus : ℕ) (words : List ℕ) (plan : Watch) where
     entries = ok.entries;
   }
 
-  pub plan_shut : (f : ℕ) → f < frames → PlanOk frames cpus words plan
-      → PlanOk frames cpus (set words (door_at f) (get_or plan.doors f 0 + 1)) (shut f plan)
-  plan_shut f inside k = let n : ℕ = get_or plan.doors f 0 + 1 in record {
+  -- the plan once a door's word, which is at least 1, is stored and known, with these stamps beside the doors
+  pub plan_stored : (f n : ℕ) (since : List ℕ) → f < frames → 1 ≤ n → length since ≡ frames
+      → PlanOk frames cpus words plan
+      → PlanOk frames cpus (set words (door_at f) n) (record plan { doors = set plan.doors f n; since = since })
+  plan_stored f n since inside least row k = record {
     room = (let l = length-set words (door_at f) n in let r = k.room in omega arith);
     doors_row = length-set plan.doors f n ∙ k.doors_row;
-    since_row = length-set plan.since f plan.request ∙ k.since_row;
+    since_row = row;
     noted_row = k.noted_row;
     made = k.made;
     request = get_or-set_other words (door_at f) 0 n 0 (λ e. omega arith) ∙ k.request;
@@ -187,6 +189,11 @@ module _ (frames cpus : ℕ) (words : List ℕ) (plan : Watch) where
     unmade = λ c above within. get_or-set_other words (door_at f) (ack_at frames c) n 0 (λ e. omega arith)
         ∙ k.unmade c above within;
   }
+
+  pub plan_shut : (f : ℕ) → f < frames → PlanOk frames cpus words plan
+      → PlanOk frames cpus (set words (door_at f) (get_or plan.doors f 0 + 1)) (shut f plan)
+  plan_shut f inside k = plan_stored f (get_or plan.doors f 0 + 1) (set plan.since f plan.request) inside
+      (omega arith) (length-set plan.since f plan.request ∙ k.since_row) k
 
   pub pass_shut : (f : ℕ) (q : Walk) → f < frames → get_or plan.doors f 0 % 2 ≡ 0 → PlanOk frames cpus words plan
       → PassOk frames cpus words plan q

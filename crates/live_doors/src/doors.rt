@@ -206,6 +206,7 @@ impl LiveDoors {
     }
 
     // Takes one pass in.
+    #[tactic(auto, using(crate::proofs::Keeps::takes_in, crate::proofs::Calls::without_slots))]
     fn take_in(&self, keeper: &mut Keeper, pass: Pass)
         requires keeper { IsKeeperOf self.now keeper.old }
         requires pass { IsPassOf self.now pass }

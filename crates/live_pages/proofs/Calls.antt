@@ -40,6 +40,8 @@ use Rattle.live_pages.proofs.Turning.{with_hand, takes_turn, gives_turn, keeper_
 use Rattle.live_pages.proofs.Changing.{draws, binds}
 use Rattle.live_pages.proofs.Ends.{admits, opens}
 use Rattle.live_pages.specs.Kept.{Kept}
+use Rattle.live_doors.proofs.Calls.{NotedSoFar}
+use Rattle.live_doors.specs.declared.views.Watch.{Watch}
 
 module _ (z : Size) (slots id : ℕ) (m : Seat) where
   pub fills_at : (f : ℕ) → m ≡ (Passing (walker_of m.0), []) → (walker_of m.0).hand ≡ Free → f < z.frames
@@ -215,71 +217,20 @@ keeper_stays_of pages now t t' cleared cleared' m m' k view ok same is a b c d =
   parts = ap (λ x. length (holder_of x.0).parts) is ∙ d ∙ ap (λ v. length v.holder.parts) view ∙ ok.parts;
 }
 
--- what the keeper has noted once it has read the acknowledgements of the first few processors, each at least the stamp
+-- the keeper so far, as it asks
 pub record ClearSoFar (pages : PagesModel) (old now : KeeperModel) (stamp cpu : ℕ) : Type 0 where
   pub keeper : IsKeeperOf pages now
-  pub only : OnlyNoted old.holder.watch now.holder.watch
+  pub so : NotedSoFar old.holder.watch now.holder.watch stamp cpu
   pub same : SameButWatch old.holder now.holder
-  pub looks : now.holder.watch.looks ≡ old.holder.watch.looks + cpu
-  pub noted : (c : ℕ) → c < cpu → stamp ≤ get_or now.holder.watch.noted c 0
   pub cleared : now.cleared ≡ old.cleared
 
-pub clear_starts : (pages : PagesModel) (old : KeeperModel) (stamp : ℕ) → IsKeeperOf pages old
-    → ClearSoFar pages old old stamp 0
-clear_starts pages old stamp ok = record {
-  keeper = ok;
-  only = record { made = refl; request = refl; doors = refl; since = refl };
-  same = record { hand = refl; ended = refl; parts = refl };
-  looks = omega arith;
-  noted = λ c none. absurd (omega arith);
-  cleared = refl;
+pub same_still : (old now next : Holder) (change : Watch → Watch) → SameButWatch old now
+    → next ≡ watching change now → SameButWatch old next
+same_still old now next change same is = record {
+  hand = ap (λ w. w.hand) is ∙ same.hand;
+  ended = ap (λ w. w.ended) is ∙ same.ended;
+  parts = ap (λ w. w.parts) is ∙ same.parts;
 }
-
-module _ (pages : PagesModel) (old now next : KeeperModel) (stamp cpu seen : ℕ) where
-  pub only_noted : ClearSoFar pages old now stamp cpu → next.holder ≡ watching (having_noted cpu seen) now.holder
-      → OnlyNoted old.holder.watch next.holder.watch
-  only_noted so is = record {
-    made = ap (λ w. w.watch.made) is ∙ so.only.made;
-    request = ap (λ w. w.watch.request) is ∙ so.only.request;
-    doors = ap (λ w. w.watch.doors) is ∙ so.only.doors;
-    since = ap (λ w. w.watch.since) is ∙ so.only.since;
-  }
-
-  pub same_but_watch : ClearSoFar pages old now stamp cpu → next.holder ≡ watching (having_noted cpu seen) now.holder
-      → SameButWatch old.holder next.holder
-  same_but_watch so is = record {
-    hand = ap (λ w. w.hand) is ∙ so.same.hand;
-    ended = ap (λ w. w.ended) is ∙ so.same.ended;
-    parts = ap (λ w. w.parts) is
-        ∙ so.same.parts;
-  }
-
-  pub noted_here : ClearSoFar pages old now stamp cpu → next.holder ≡ watching (having_noted cpu seen) now.holder
-      → cpu < pages.cpus
-      → get_or next.holder.watch.noted cpu 0 ≡ seen
-  noted_here so is inside = ap (λ w. get_or w.watch.noted cpu 0) is
-      ∙ get_or-set_same now.holder.watch.noted cpu seen 0 (let r = so.keeper.cpus in omega arith)
-
-  pub noted_before : ClearSoFar pages old now stamp cpu → next.holder ≡ watching (having_noted cpu seen) now.holder
-      → (c : ℕ) → c < cpu
-      → stamp ≤ get_or next.holder.watch.noted c 0
-  noted_before so is c below = subst (λ k. stamp ≤ k) (sym (ap (λ w. get_or w.watch.noted c 0) is
-      ∙ get_or-set_other now.holder.watch.noted cpu c seen 0 (λ e. omega arith))) (so.noted c below)
-
-  pub clear_goes_on : ClearSoFar pages old now stamp cpu → IsKeeperOf pages next → next.holder
-      ≡ watching (having_noted cpu seen) now.holder
-      → next.cleared ≡ now.cleared → cpu < pages.cpus → stamp ≤ seen → ClearSoFar pages old next stamp (cpu + 1)
-  clear_goes_on so ok is same inside enough = record {
-    keeper = ok;
-    only = only_noted so is;
-    same = same_but_watch so is;
-    looks = (let a = ap (λ w. w.watch.looks) is in let b = so.looks in omega arith);
-    noted = λ c below. dite (ℕ_discrete c cpu) (λ (e : c ≡ cpu). subst
-        (λ k. stamp ≤ get_or next.holder.watch.noted k 0) (sym e)
-        (subst (λ k. stamp ≤ k) (sym (noted_here so is inside)) enough))
-        (λ (other : c ≢ cpu). noted_before so is c (omega arith));
-    cleared = same ∙ so.cleared;
-  }
 
 -- what a touch needs of the slot in hand
 pub slot_there : (m : Seat) (f : ℕ) → HasInHand m f → (old : Option Held) × (m.1 ≡ (f, old) ∷ rest m.1)

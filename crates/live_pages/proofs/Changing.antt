@@ -15,7 +15,7 @@ use Rattle.live_doors.specs.declared.views.Watch.{Watch}
 use Rattle.live_doors.specs.Doors.{HasNoted, MayBind}
 use Rattle.live_doors.specs.Steps.{door_at, ack_at}
 use Rattle.live_doors.specs.Kept.{EntryOk, PlanOk, PassOk}
-use Rattle.live_doors.specs.Laws.{seats_stay}
+use Rattle.live_doors.specs.Laws.{plan_stored, seats_stay}
 use Rattle.live_pages.specs.declared.rule.Held.{Held}
 use Rattle.live_pages.specs.declared.rule.Size.{Size}
 use Rattle.live_pages.specs.declared.touch.Made.{Made}
@@ -318,29 +318,8 @@ module _ (frames cpus : ℕ) (words : List ℕ) (w : Watch) (f : ℕ) (inside : 
         (sym (ne_eqb b.frame g (λ e. other (sym e ∙ here)))))
 
     pub plan_admitted : PlanOk frames cpus (set words (door_at f) (2 * (get_or w.doors f 0 / 2 + 1))) (admitted f w)
-    plan_admitted = let n : ℕ = 2 * (get_or w.doors f 0 / 2 + 1) in record {
-      room = (let l = length-set words (door_at f) n in let r = k.room in omega arith);
-      doors_row = length-set w.doors f n ∙ k.doors_row;
-      since_row = k.since_row;
-      noted_row = k.noted_row;
-      made = k.made;
-      request = get_or-set_other words (door_at f) 0 n 0 (λ e. omega arith) ∙ k.request;
-      doors = λ g within. dite (ℕ_discrete g f)
-          (λ (same : g ≡ f). subst (λ j. get_or (set words (door_at f) n) (door_at j) 0 ≡ get_or (set w.doors f n) j 0)
-          (sym same)
-          (get_or-set_same words (door_at f) n 0 (let r = k.room in omega arith) ∙ sym door_here))
-          (λ (other : g ≢ f). get_or-set_other words (door_at f) (door_at g) n 0 (λ e. other (omega arith))
-          ∙ k.doors g within ∙ sym (door_else g other));
-      least = λ g within. dite (ℕ_discrete g f)
-          (λ (same : g ≡ f). subst (λ j. 1 ≤ get_or (set w.doors f n) j 0) (sym same)
-          (subst (λ j. 1 ≤ j) (sym door_here) (omega arith)))
-          (λ (other : g ≢ f). subst (λ j. 1 ≤ j) (sym (door_else g other)) (k.least g within));
-      noted = λ c within. subst (λ j. get_or w.noted c 0 ≤ j)
-          (sym (get_or-set_other words (door_at f) (ack_at frames c) n 0 (λ e. omega arith)))
-          (k.noted c within);
-      unmade = λ c above within. get_or-set_other words (door_at f) (ack_at frames c) n 0 (λ e. omega arith)
-          ∙ k.unmade c above within;
-    }
+    plan_admitted = plan_stored frames cpus words w f (2 * (get_or w.doors f 0 / 2 + 1)) w.since inside (omega arith)
+        k.since_row k
 
     pub pass_admitted : (q : Walk) → ((b : ℕ) → get_or q.held f None ≡ Some b → ⊥) → PassOk frames cpus words w q
         → PassOk frames cpus (set words (door_at f) (2 * (get_or w.doors f 0 / 2 + 1))) (admitted f w) q
