@@ -1,5 +1,5 @@
 -- What a call leaves, from what its step told.
-use Rattle.std.proofs.Common.{◌≡◌, ◌≢◌, ℕ, suc, zero, ◌+◌, ◌<◌, ◌≤◌, List, [], ◌∷◌, ◌++◌, length, Option, None, refl}
+use Rattle.std.proofs.Common.{◌≡◌, ◌≢◌, ℕ, suc, zero, ◌+◌, ◌<◌, ◌≤◌, List, [], ◌∷◌, ◌++◌, length, None, refl}
 use Rattle.std.proofs.Common.{sym, ap, subst, ◌∙◌, arith, get_or}
 use Rattle.std.proofs.Common.{take, drop, All}
 use mathlib.Core.Logic.{dite}
@@ -15,15 +15,14 @@ use Rattle.live_doors.specs.declared.views.View.{View}
 use Rattle.live_doors.specs.declared.views.View.TheVariants.{Walking, Keeping}
 use Rattle.live_doors.specs.Doors.{blank, first_watch, first_passes, AreNew, DoorsModel, PassModel}
 use Rattle.live_doors.specs.Doors.{KeeperModel, IsPassOf, IsKeeperOf}
-use Rattle.live_doors.specs.Doors.{OnlyNoted, HasNoted, having_noted}
+use Rattle.live_doors.specs.Doors.{OnlyNoted, having_noted}
+use Rattle.live_doors.specs.Beside.{EntryRows, KeeperRows, AreEntriesOf, AreRowsOf}
 use Rattle.live_doors.specs.Steps.{PassFits, KeeperFits, walk_of, watch_of}
 
 -- a pass whose fields are those of its view
-pub pass_fits : (m : Me (Unit {0}) View) (q : Walk) (cpu : ℕ) (held : List (Option ℕ)) (stamp : ℕ) → m
-    ≡ (Walking q, []) → cpu ≡ q.cpu → held ≡ q.held
-    → stamp ≡ q.stamp → PassFits m cpu held stamp
-pass_fits m q cpu held stamp is a b c = subst (λ x. PassFits x cpu held stamp) (sym is) record
-    { seat = refl; cpu = a; held = b; stamp = c }
+pub pass_fits : (m : Me (Unit {0}) View) (q : Walk) (e : EntryRows) → m ≡ (Walking q, []) → AreEntriesOf e q
+    → PassFits m e
+pass_fits m q e is entries = subst (λ x. PassFits x e) (sym is) record { seat = refl; entries = entries }
 
 -- a seat of doors has no slot in hand
 pub without_slots : {V S : Type 0} (m : V × List S) (v : V) → m ≡ (v, []) → m.1 ≡ []
@@ -41,13 +40,9 @@ pass_stays_of doors now t t' m m' q view ok same is row cpu = record {
 }
 
 -- a keeper whose fields are those of its view
-pub keeper_fits : (m : Me (Unit {0}) View) (w : Watch) (request : ℕ) (doors since : List ℕ) (cleared : ℕ) → m
-    ≡ (Keeping w, []) → request ≡ w.request
-    → doors ≡ w.doors → since ≡ w.since → length since ≡ length doors → HasNoted w cleared
-    → KeeperFits m request doors since cleared
-keeper_fits m w request doors since cleared is a b c e d =
-    subst (λ x. KeeperFits x request doors since cleared) (sym is) record
-    { seat = refl; request = a; doors = b; since = c; rows = e; cleared = d }
+pub keeper_fits : (m : Me (Unit {0}) View) (w : Watch) (r : KeeperRows) → m ≡ (Keeping w, []) → AreRowsOf r w
+    → KeeperFits m r
+keeper_fits m w r is rows = subst (λ x. KeeperFits x r) (sym is) record { seat = refl; rows = rows }
 
 -- it came with the same doors as before
 pub keeper_stays_of : (doors : DoorsModel) (now : KeeperModel) (t t' : TableId) (cleared cleared' : ℕ)

@@ -16,7 +16,10 @@ use Rattle.atomic_table.proofs.Lists.{at_set}
 use Rattle.live_doors.specs.declared.views.Walk.{Walk}
 use Rattle.live_doors.specs.declared.views.Watch.{Watch}
 use Rattle.live_doors.specs.Doors.{blank, having_read, holding, forgotten, acknowledged, shut, raised, having_noted}
-use Rattle.live_doors.specs.Doors.{HasNoted}
+use Rattle.live_doors.specs.Doors.{HasNoted, MayBind}
+use Rattle.live_doors.specs.Beside.{EntryRows, KeeperRows, AreEntriesOf, AreRowsOf, entered, entered_if, shut_rows, MayBindBy}
+use Rattle.live_doors.specs.declared.errors.Closed.{Closed}
+use Rattle.std.proofs.Common.{Result, Ok, Err, IfOk, IfErr}
 use Rattle.live_doors.specs.Steps.{door_at, ack_at, filled_if, filled}
 use Rattle.live_doors.specs.Kept.{EntryOk, PlanOk, EntriesOk, PassOk}
 
@@ -340,6 +343,88 @@ noted_still w c n stamp all low d inside =
     subst (λ k. get_or (set w.noted c n) k 0 ≡ n) (sym same)
     (get_or-set_same w.noted c n 0 (omega arith)) in let old = all c (omega arith) in omega arith)
     (λ (other : d ≢ c). subst (λ k. stamp ≤ k) (sym (get_or-set_other w.noted c d n 0 other)) (all d (omega arith)))
+
+-- a fill leaves as many entries, of the same processor
+pub filled_row : (f n : ℕ) (p : Walk) → (length (filled f n p).held ≡ length p.held) × ((filled f n p).cpu ≡ p.cpu)
+filled_row f n p = cases (eqb (n % 2) 0)
+  where
+    cases : (even : Bool) → (length (filled_if even f n p).held ≡ length p.held) × ((filled_if even f n p).cpu ≡ p.cpu)
+    cases true = (length-set p.held f (Some (n / 2)), refl)
+    cases false = (refl, refl)
+
+-- and what stands beside the seat follows
+pub entries_filled : (f n : ℕ) (e : EntryRows) (p : Walk) → AreEntriesOf e p
+    → AreEntriesOf (entered f n e) (filled f n p)
+entries_filled f n e p of = cases (eqb (n % 2) 0)
+  where
+    cases : (even : Bool) → AreEntriesOf (entered_if even f n e) (filled_if even f n p)
+    cases true = record { cpu = of.cpu; held = ap (λ l. set l f (Some (n / 2))) of.held; stamp = of.stamp }
+    cases false = record { cpu = of.cpu; held = of.held; stamp = of.stamp }
+
+pub entries_forgotten : (stamp : ℕ) (e : EntryRows) (p : Walk) → AreEntriesOf e p
+    → AreEntriesOf (record e { held = replicate (length e.held) None; stamp = stamp }) (forgotten stamp p)
+entries_forgotten stamp e p of = record {
+  cpu = of.cpu;
+  held = ap (λ (l : List (Option ℕ)). replicate {A = Option ℕ} (length l) None) of.held;
+  stamp = refl;
+}
+
+pub rows_shut : (f : ℕ) (r : KeeperRows) (w : Watch) → AreRowsOf r w → AreRowsOf (shut_rows f r) (shut f w)
+rows_shut f r w of = record {
+  request = of.request;
+  doors = ap (λ l. set l f (get_or l f 0 + 1)) of.doors;
+  since = (λ i. set (of.since i) f (of.request i));
+  rows = length-set r.since f r.request ∙ of.rows ∙ sym (length-set r.doors f (get_or r.doors f 0 + 1));
+  cleared = of.cleared;
+}
+
+pub rows_raised : (r : KeeperRows) (w : Watch) → AreRowsOf r w
+    → AreRowsOf (record r { request = r.request + 1 }) (raised w)
+rows_raised r w of = record {
+  request = ap (λ k. k + 1) of.request;
+  doors = of.doors;
+  since = of.since;
+  rows = of.rows;
+  cleared = of.cleared;
+}
+
+pub rows_noted : (c n : ℕ) (r : KeeperRows) (w : Watch) → AreRowsOf r w → get_or w.noted c 0 ≤ n
+    → AreRowsOf r (having_noted c n w)
+rows_noted c n r w of low = record {
+  request = of.request;
+  doors = of.doors;
+  since = of.since;
+  rows = of.rows;
+  cleared = noted_still w c n r.cleared of.cleared low;
+}
+
+pub may_bind_by : (r : KeeperRows) (w : Watch) (f : ℕ) → AreRowsOf r w → MayBindBy r.doors r.since r.cleared f
+    → MayBind w r.cleared f
+may_bind_by r w f of = subst (λ (x : List ℕ × List ℕ). MayBindBy x.0 x.1 r.cleared f)
+    (λ i. (of.doors i, of.since i))
+
+-- what a fill tells by its answer, of anything that sees what it does to what the pass knows
+pub when_bound : (r : Result ℕ Closed) (n : ℕ) → 1 ≤ n → IfOk r (λ b. n ≡ 2 * b) → IfOk r (λ b. 1 ≤ b)
+when_bound (Ok b) n least even = omega arith
+when_bound (Err e) n least even = tt
+
+pub when_admitted : {T : Type 0} (r : Result ℕ Closed) (f n : ℕ) (seen : (Walk → Walk) → T) (x : T)
+    → x ≡ seen (filled f n) → IfOk r (λ b. n ≡ 2 * b)
+    → IfOk r (λ b. x ≡ seen (λ p. holding f b (having_read (2 * b) p)))
+when_admitted (Ok b) f n seen x is even =
+    let half : n / 2 ≡ b = omega arith in
+    is ∙ ap seen (λ i p. filled_even f n p (λ e. omega arith) i)
+    ∙ ap (λ k. seen (λ p. holding f k (having_read (2 * k) p))) half
+when_admitted (Err e) f n seen x is even = tt
+
+pub when_closed : {T : Type 0} (r : Result ℕ Closed) (f n : ℕ) (seen : (Walk → Walk) → T) (x : T)
+    → x ≡ seen (filled f n) → IfErr r (λ e. (e.word ≡ n) × (n % 2 ≡ 1))
+    → IfErr r (λ e. (e.word % 2 ≡ 1) × (x ≡ seen (having_read e.word)))
+when_closed (Ok b) f n seen x is odd = tt
+when_closed (Err e) f n seen x is odd = (
+  ap (λ k. k % 2) odd.0 ∙ odd.1,
+  is ∙ ap seen (λ i p. filled_odd f n p odd.1 i) ∙ ap (λ k. seen (having_read k)) (sym odd.0),
+)
 
 -- a word that was read from a row
 pub word_of : (xs ys : List ℕ) (i x : ℕ) → x ≡ get_or xs i x → xs ≡ ys → i < length xs → x ≡ get_or ys i 0

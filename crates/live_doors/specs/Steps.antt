@@ -1,6 +1,6 @@
 -- What each kind of step on a word tells the seat that makes it.
 use Rattle.std.specs.Prelude.{◌≡◌, ℕ, ◌+◌, ◌/◌, ◌%◌, ◌≤◌, ◌==◌, List, [], ◌∷◌, ◌++◌, replicate, length, slice_index}
-use Rattle.std.specs.Prelude.{Bool, true, false, Option}
+use Rattle.std.specs.Prelude.{Bool, true, false}
 use Rattle.atomic_table.specs.Table.{Step, Me}
 use Rattle.atomic_table.specs.Seated.{TableId}
 use Rattle.live_doors.specs.declared.rule.Size.{Size}
@@ -9,7 +9,8 @@ use Rattle.live_doors.specs.declared.views.Watch.{Watch}
 use Rattle.live_doors.specs.declared.views.View.{View}
 use Rattle.live_doors.specs.declared.views.View.TheVariants.{Walking, Keeping, Spent}
 use Rattle.live_doors.specs.Doors.{blank, first_watch, having_read, holding, forgotten, acknowledged, shut, raised}
-use Rattle.live_doors.specs.Doors.{having_noted, HasNoted}
+use Rattle.live_doors.specs.Doors.{having_noted}
+use Rattle.live_doors.specs.Beside.{EntryRows, KeeperRows, AreEntriesOf, AreRowsOf}
 
 -- the word of frame f's door
 abbrev pub door_at : ℕ → ℕ
@@ -36,21 +37,14 @@ watch_of (Keeping w) = w
 watch_of Spent = first_watch 0 0 1
 
 -- what a pass has beside its seat is what the seat knows
-pub record PassFits (m : Me (Unit {0}) View) (number : ℕ) (entries : List (Option ℕ)) (last : ℕ) : Type 0 where
+pub record PassFits (m : Me (Unit {0}) View) (e : EntryRows) : Type 0 where
   pub seat : m ≡ (Walking (walk_of m.0), [])
-  pub cpu : number ≡ (walk_of m.0).cpu
-  pub held : entries ≡ (walk_of m.0).held
-  pub stamp : last ≡ (walk_of m.0).stamp
+  pub entries : AreEntriesOf e (walk_of m.0)
 
--- what the keeper has beside its seat is what the seat knows, with as many rows of the one kind as of the other, and an
--- acknowledgement of the greatest stamp for which all was clear from each processor
-pub record KeeperFits (m : Me (Unit {0}) View) (last : ℕ) (words stamps : List ℕ) (clear : ℕ) : Type 0 where
+-- what the keeper has beside its seat is what the seat knows
+pub record KeeperFits (m : Me (Unit {0}) View) (r : KeeperRows) : Type 0 where
   pub seat : m ≡ (Keeping (watch_of m.0), [])
-  pub request : last ≡ (watch_of m.0).request
-  pub doors : words ≡ (watch_of m.0).doors
-  pub since : stamps ≡ (watch_of m.0).since
-  pub rows : length stamps ≡ length words
-  pub cleared : HasNoted (watch_of m.0) clear
+  pub rows : AreRowsOf r (watch_of m.0)
 
 -- the table is of this size
 pub record DoorsFit (key : Size) (table : TableId) (f c : ℕ) : Type 0 where

@@ -12,6 +12,7 @@ use crate::errors::{Behind, Closed, NoMemory};
 use crate::keeper::Keeper;
 use crate::opening::begin;
 use crate::pass::Pass;
+use crate::rows::Rows;
 use crate::rule::{Acknowledge, Board, CloseDoor, Fill, Forget, Look, Raise, TakeIn};
 use crate::words::{REQUEST, acknowledgement_word, door_word};
 use atomic_table::Closed as Words;
@@ -92,12 +93,7 @@ impl LiveDoors {
     {
         let words = &self.table.shared;
         let word = words.load::<Fill>(&mut pass.seat, door_word(f));
-        if word % 2 == 1 {
-            return Err(Closed { word });
-        }
-        let binding = word / 2;
-        pass.held[f as usize] = Some(binding);
-        Ok(binding)
+        pass.entries.enter(f, word)
     }
 
     /// Reads the stamp that was raised last, drops every entry of the pass, and answers the stamp.
@@ -110,9 +106,7 @@ impl LiveDoors {
     {
         let words = &self.table.shared;
         let stamp = words.load::<Forget>(&mut pass.seat, REQUEST);
-        pass.stamp = stamp;
-        pass.held.fill(None);
-        stamp
+        pass.entries.forget(stamp)
     }
 
     /// Stores the stamp of the pass's last `forget` in the processor's own word, where the keeper reads it. That
@@ -125,8 +119,8 @@ impl LiveDoors {
         ensures acknowledged { pass.new.walk ≡ acknowledged pass.old.walk }
     {
         let words = &self.table.shared;
-        let word = acknowledgement_word(self.frames, pass.cpu);
-        let stamp = pass.stamp;
+        let word = acknowledgement_word(self.frames, pass.entries.cpu());
+        let stamp = pass.entries.stamp();
         words.store::<Acknowledge>(&mut pass.seat, word, stamp);
     }
 
@@ -141,10 +135,8 @@ impl LiveDoors {
         ensures cleared { keeper.new.cleared ≡ keeper.old.cleared }
     {
         let words = &self.table.shared;
-        let door = keeper.doors[f as usize] + 1;
+        let door = keeper.rows.shut(f);
         words.store::<CloseDoor>(&mut keeper.seat, door_word(f), door);
-        keeper.doors[f as usize] = door;
-        keeper.since[f as usize] = keeper.request;
     }
 
     /// Raises the next stamp, and answers it. One store; takes no memory and never waits. Source: own.
@@ -157,9 +149,8 @@ impl LiveDoors {
         ensures cleared { keeper.new.cleared ≡ keeper.old.cleared }
     {
         let words = &self.table.shared;
-        let stamp = keeper.request + 1;
+        let stamp = keeper.rows.raise();
         words.store::<Raise>(&mut keeper.seat, REQUEST, stamp);
-        keeper.request = stamp;
         stamp
     }
 
@@ -240,11 +231,8 @@ impl LiveDoors {
     {
         self.take_all_in(&mut keeper, passes);
         let LiveDoors { table, .. } = self;
-        let Keeper {
-            seat,
-            mut doors,
-            ..
-        } = keeper;
+        let Keeper { seat, rows } = keeper;
+        let Rows { mut doors, .. } = rows;
         let closed = table.close_with(seat);
         let request = closed.word(REQUEST);
         read_doors(&closed, doors.as_mut_slice());

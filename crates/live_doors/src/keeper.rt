@@ -3,6 +3,7 @@ ghost use Rattle.std.specs.Prelude.{◌≡◌, ◌<◌, ◌↔◌, length, max, 
 ghost use Rattle.live_doors.specs.Doors.{HasNoted, MayBind};
 ghost use Rattle.live_doors.specs.Kept.{HasNoHolder};
 
+use crate::rows::Rows;
 use crate::rule::Place;
 use std::marker::Model;
 
@@ -12,10 +13,7 @@ use std::marker::Model;
 #[derive(Drop)]
 pub struct Keeper {
     pub(crate) seat: Place,
-    pub(crate) request: u64,
-    pub(crate) doors: Vec<u64>,
-    pub(crate) since: Vec<u64>,
-    pub(crate) cleared: u64,
+    pub(crate) rows: Rows,
 }
 
 impl Model for Keeper {
@@ -24,9 +22,9 @@ impl Model for Keeper {
 
     ghost Value = { KeeperModel };
 
-    ghost view = { λ k. record { table = k.seat.table_id; watch = watch_of k.seat.me.0; cleared = k.cleared } };
+    ghost view = { λ k. record { table = k.seat.table_id; watch = watch_of k.seat.me.0; cleared = k.rows.cleared } };
 
-    ghost invariant = { λ k. KeeperFits k.seat.me k.request k.doors.items k.since.items k.cleared };
+    ghost invariant = { λ k. KeeperFits k.seat.me k.rows };
 }
 
 impl Keeper {
@@ -37,8 +35,7 @@ impl Keeper {
         ensures may_bind { IsTrue result ↔ MayBind self.now.watch self.now.cleared f }
         ensures no_holder { IsTrue result → HasNoHolder self.now.watch f }
     {
-        let door = self.doors[f as usize];
-        door == 1 || (door % 2 == 1 && self.since[f as usize] < self.cleared)
+        self.rows.may_bind(f)
     }
 
     // Every processor has acknowledged the stamp.
@@ -46,6 +43,6 @@ impl Keeper {
         requires { HasNoted self.old.watch stamp }
         ensures { self.new ≡ record self.old { cleared = max self.old.cleared stamp } }
     {
-        self.cleared = self.cleared.max(stamp);
+        self.rows.clear(stamp);
     }
 }

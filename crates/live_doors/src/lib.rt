@@ -6,20 +6,24 @@
 #![tactic(auto)]
 
 mod doors;
+mod entries;
 mod errors;
 mod keeper;
 mod laws;
 mod opening;
 mod pass;
+mod rows;
 mod rule;
 mod views;
 mod words;
 
 pub use doors::{Ended, LiveDoors};
+pub use entries::Entries;
 pub use errors::{Behind, Closed, NoMemory};
 pub use keeper::Keeper;
 pub use laws::{may_bind_has_no_holder, never_bound_has_no_holder, noted_is_clear};
 pub use pass::Pass;
+pub use rows::Rows;
 pub use rule::{Revocation, Size};
 pub use views::{View, Walk, Watch};
 pub use words::{REQUEST, acknowledgement_word, door_word};

@@ -4,9 +4,11 @@ ghost use Rattle.live_doors.specs.Steps.{first_words};
 ghost use Rattle.live_doors.specs.Doors.{IsKeeperOf, first_watch, blank, first_passes, AreNew};
 
 use crate::doors::LiveDoors;
+use crate::entries::Entries;
 use crate::errors::NoMemory;
 use crate::keeper::Keeper;
 use crate::pass::Pass;
+use crate::rows::Rows;
 use crate::rule::{Admit, Board, Size};
 use std::alloc::{AllocError, Global};
 
@@ -36,17 +38,10 @@ fn first_keeper(
         ≡ record { table = made.0.table; watch = first_watch frames cpus door; cleared = 0 }) }
 {
     let words = first_words(alloc, frames, cpus, door)?;
-    let doors = vec![in alloc; door; frames as usize]?;
-    let since = vec![in alloc; 0; frames as usize]?;
+    let rows = Rows::new(alloc, frames, door)?;
     let size = Size { frames, cpus, door };
     let (table, seat) = Board::of_words(alloc, words.as_slice(), &size)?;
-    let keeper = Keeper {
-        seat,
-        request: 0,
-        doors,
-        since,
-        cleared: 0,
-    };
+    let keeper = Keeper { seat, rows };
     Ok((
         LiveDoors {
             table,
@@ -70,14 +65,9 @@ fn admit(
     ensures keeper { OnOk result (keeper.new
         ≡ record keeper.old { watch = record keeper.old.watch { made = cpu + 1 } }) }
 {
-    let held = vec![in alloc; None; doors.frames as usize]?;
+    let entries = Entries::none(alloc, doors.frames, cpu)?;
     let seat = doors.table.shared.split_seat::<Admit>(&mut keeper.seat);
-    Ok(Pass {
-        seat,
-        cpu,
-        held,
-        stamp: 0,
-    })
+    Ok(Pass { seat, entries })
 }
 
 // The passes of all processors.

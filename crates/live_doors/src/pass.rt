@@ -2,6 +2,7 @@
 ghost use Rattle.std.specs.Prelude.{◌≡◌, ◌<◌, ◌↔◌, length, IsTrue};
 ghost use Rattle.live_doors.specs.Doors.{HoldsEntry};
 
+use crate::entries::Entries;
 use crate::rule::Place;
 use std::marker::Model;
 
@@ -11,9 +12,7 @@ use std::marker::Model;
 #[derive(Drop)]
 pub struct Pass {
     pub(crate) seat: Place,
-    pub(crate) cpu: u32,
-    pub(crate) held: Vec<Option<u64>>,
-    pub(crate) stamp: u64,
+    pub(crate) entries: Entries,
 }
 
 impl Model for Pass {
@@ -24,7 +23,7 @@ impl Model for Pass {
 
     ghost view = { λ p. record { table = p.seat.table_id; walk = walk_of p.seat.me.0 } };
 
-    ghost invariant = { λ p. PassFits p.seat.me p.cpu p.held.items p.stamp };
+    ghost invariant = { λ p. PassFits p.seat.me p.entries };
 }
 
 impl Pass {
@@ -33,6 +32,6 @@ impl Pass {
         requires { f < length self.now.walk.held }
         ensures { IsTrue result ↔ HoldsEntry self.now.walk f }
     {
-        self.held[f as usize].is_some()
+        self.entries.holds(f)
     }
 }

@@ -1,12 +1,12 @@
 -- The steps at seats that are known to be a pass's or the keeper's, and what a call leaves.
 use Rattle.std.proofs.Common.{◌≡◌, ◌≢◌, ℕ, suc, zero, ◌+◌, ◌*◌, ◌%◌, ◌^◌, ◌<◌, ◌≤◌, eqb, List, [], ◌∷◌, ◌++◌, length}
 use Rattle.std.proofs.Common.{replicate, Option, Some, None, refl}
-use Rattle.std.proofs.Common.{sym, ap, subst, ◌∙◌, arith, get_or, All, map, ◌/◌}
+use Rattle.std.proofs.Common.{sym, ap, subst, ◌∙◌, arith, get_or, set, All, map, ◌/◌}
 use mathlib.Core.Option as M
 use mathlib.Core.Logic.{dite}
 use native.Mathlib.Decide.{ℕ_discrete}
 use Rattle.std.proofs.lemmas.Option.{none-some}
-use Rattle.std.proofs.lemmas.List.{length-append, length-replicate, get_or-set_same, get_or-set_other}
+use Rattle.std.proofs.lemmas.List.{length-append, length-replicate, length-set}
 use Rattle.std.proofs.lemmas.List.{get_or-append-add, get_or_append_left}
 use prog.Atomic.{either}
 use Rattle.atomic_table.specs.Table.{step, rest, Allows, Splits}
@@ -14,9 +14,9 @@ use Rattle.atomic_table.proofs.Lists.{at_last, at_longer}
 use lib.ListN.{get_elem?}
 use Rattle.std.proofs.lemmas.List.Elements.{All-append}
 use Rattle.atomic_table.specs.Seated.{TableId}
-use Rattle.live_doors.specs.Doors.{HasNoted, MayBind, having_noted, OnlyNoted, having_read, holding}
-use Rattle.live_doors.specs.Steps.{ack_at, filled}
-use Rattle.live_doors.specs.Laws.{filled_odd, filled_even}
+use Rattle.live_doors.specs.Doors.{HasNoted, MayBind}
+use Rattle.live_doors.specs.Steps.{ack_at}
+use Rattle.live_doors.specs.Beside.{EntryRows, KeeperRows, AreEntriesOf, AreRowsOf}
 use Rattle.live_pages.specs.declared.rule.Held.{Held}
 use Rattle.live_pages.specs.declared.rule.Size.{Size}
 use Rattle.live_pages.specs.declared.touch.Touch.{Touch}
@@ -27,10 +27,10 @@ use Rattle.live_pages.specs.declared.views.View.{View}
 use Rattle.live_pages.specs.declared.views.View.TheVariants.{Passing, Keeping}
 use Rattle.live_pages.specs.Touches.{touched, answer}
 use Rattle.live_pages.specs.Turns.{Seat, Told, opening_words, first_holder, first_walker, keeper_with_pass, pass_of_keeper}
-use Rattle.live_pages.specs.Turns.{bound_anew, having_made, turn_at}
+use Rattle.live_pages.specs.Turns.{admitted, bound_anew, having_made, turn_at}
 use Rattle.live_pages.specs.Turns.{ticket_at, current, watching, walker_of, holder_of, Fills, Forgets, Acknowledges}
 use Rattle.live_pages.specs.Turns.{Closes, Raises, Looks, Takes, Draws}
-use Rattle.live_pages.specs.Turns.{Gives, KeeperTakes, Binds, KeeperGives, walking}
+use Rattle.live_pages.specs.Turns.{Gives, KeeperTakes, Binds, KeeperGives}
 use Rattle.live_pages.specs.Models.{PassFits, KeeperFits, PagesModel, PassModel, KeeperModel, IsPassOf, IsKeeperOf}
 use Rattle.live_pages.specs.Models.{SameButWatch, HasInHand, touched_in_hand}
 use Rattle.live_pages.specs.Models.{rebound, HaveZeroPages, first_passes, AreAll, AreNew}
@@ -170,11 +170,10 @@ module _ (z : Size) (slots id : ℕ) (m : Seat) (all : slots ≡ z.frames) where
       given_at KeeperGives i (turn_at z.frames z.cpus f) _ is place (keeper_gives z id f (holder_of m.0) hd has)
 
 -- a pass whose fields are those of its view
-pub pass_fits : (m : Seat) (q : Walker) (cpu : ℕ) (held : List (Option ℕ)) (stamp : ℕ) → m ≡ (Passing q, []) → q.hand
-    ≡ Free → cpu ≡ q.walk.cpu
-    → held ≡ q.walk.held → stamp ≡ q.walk.stamp → PassFits m cpu held stamp
-pass_fits m q cpu held stamp is free a b c = subst (λ x. PassFits x cpu held stamp) (sym is) record
-    { seat = refl; hand = free; cpu = a; held = b; stamp = c }
+pub pass_fits : (m : Seat) (q : Walker) (e : EntryRows) → m ≡ (Passing q, []) → q.hand ≡ Free
+    → AreEntriesOf e q.walk → PassFits m e
+pass_fits m q e is free entries = subst (λ x. PassFits x e) (sym is) record
+    { seat = refl; hand = free; entries = entries }
 
 -- it came with the same pages as before
 pub pass_stays_of : (pages : PagesModel) (now : PassModel) (t t' : TableId) (m m' : Seat) (q : Walker)
@@ -192,13 +191,20 @@ pass_stays_of pages now t t' m m' q view ok same is row cpu all = record {
 }
 
 -- a keeper whose fields are those of its view
-pub keeper_fits : (m : Seat) (k : Holder) (request : ℕ) (doors since : List ℕ) (cleared : ℕ) → m ≡ (Keeping k, [])
-    → k.hand ≡ Free → request ≡ k.watch.request
-    → doors ≡ k.watch.doors → since ≡ k.watch.since → length since ≡ length doors → HasNoted k.watch cleared
-    → KeeperFits m request doors since cleared
-keeper_fits m k request doors since cleared is free a b c e d =
-    subst (λ x. KeeperFits x request doors since cleared) (sym is) record
-    { seat = refl; hand = free; request = a; doors = b; since = c; rows = e; cleared = d }
+pub keeper_fits : (m : Seat) (k : Holder) (r : KeeperRows) → m ≡ (Keeping k, []) → k.hand ≡ Free
+    → AreRowsOf r k.watch → KeeperFits m r
+keeper_fits m k r is free rows = subst (λ x. KeeperFits x r) (sym is) record
+    { seat = refl; hand = free; rows = rows }
+
+pub rows_admitted : (f : ℕ) (r : KeeperRows) (w : Watch) → AreRowsOf r w
+    → AreRowsOf (record r { doors = set r.doors f (2 * (get_or r.doors f 0 / 2 + 1)) }) (admitted f w)
+rows_admitted f r w of = record {
+  request = of.request;
+  doors = ap (λ l. set l f (2 * (get_or l f 0 / 2 + 1))) of.doors;
+  since = of.since;
+  rows = of.rows ∙ sym (length-set r.doors f (2 * (get_or r.doors f 0 / 2 + 1)));
+  cleared = of.cleared;
+}
 
 -- it came with the same pages as before
 pub keeper_stays_of : (pages : PagesModel) (now : KeeperModel) (t t' : TableId) (cleared cleared' : ℕ) (m m' : Seat)
@@ -253,18 +259,6 @@ pub told_with : {m m' : Seat} {v w : View} {x : ℕ × Option Held} → m ≡ (v
 told_with {m} {m'} {v} {w} {x} is told = told ∙ ap (λ cs. (w, x ∷ cs)) (ap (λ x. x.1) is)
 
 -- a fill's look at a door that is closed, and at an open one
-pub closed_read : {m m' : Seat} (f word : ℕ) → m ≡ (Passing (walker_of m.0), []) → m'
-    ≡ (Passing (walking (filled f word) (walker_of m.0)), m.1) → word % 2 ≡ 1
-    → m' ≡ (Passing (walking (having_read word) (walker_of m.0)), [])
-closed_read {m} {m'} f word is told odd = told_alone is told
-    ∙ ap (λ q. (Passing (record (walker_of m.0) { walk = q }), [])) (filled_odd f word (walker_of m.0).walk odd)
-
-pub open_read : {m m' : Seat} (f word : ℕ) → m ≡ (Passing (walker_of m.0), []) → m'
-    ≡ (Passing (walking (filled f word) (walker_of m.0)), m.1) → word % 2 ≢ 1
-    → m' ≡ (Passing (walking (λ p. holding f (word / 2) (having_read (2 * (word / 2)) p)) (walker_of m.0)), [])
-open_read {m} {m'} f word is told even = told_alone is told
-    ∙ ap (λ q. (Passing (record (walker_of m.0) { walk = q }), [])) (filled_even f word (walker_of m.0).walk even)
-
 -- a seat, from what it has in hand
 pub with_slots : (m : Seat) {cs : List (ℕ × Option Held)} → m.1 ≡ cs → m ≡ (m.0, cs)
 with_slots m is = ap (λ cs. (m.0, cs)) is

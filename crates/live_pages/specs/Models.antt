@@ -8,7 +8,7 @@ use Rattle.live_pages.specs.declared.touch.Touch.{Touch}
 use Rattle.live_pages.specs.declared.views.Hand.TheVariants.{Free, Has}
 use Rattle.live_pages.specs.declared.views.Part.TheVariants.{In}
 use Rattle.live_pages.specs.declared.views.View.TheVariants.{Passing, Keeping}
-use Rattle.live_doors.specs.Doors.{HasNoted}
+use Rattle.live_doors.specs.Beside.{EntryRows, KeeperRows, AreEntriesOf, AreRowsOf}
 use Rattle.live_pages.specs.declared.rule.Held.{Held}
 use Rattle.live_pages.specs.declared.rule.Size.{Size}
 use Rattle.live_pages.specs.declared.views.Walker.{Walker}
@@ -49,23 +49,16 @@ pub record IsKeeperOf (pages : PagesModel) (keeper : KeeperModel) : Type 0 where
   pub parts : length keeper.holder.parts ≡ pages.cpus
 
 -- what a pass has beside its seat is what the seat knows, and it has no turn
-pub record PassFits (m : Seat) (number : ℕ) (entries : List (Option ℕ)) (last : ℕ) : Type 0 where
+pub record PassFits (m : Seat) (e : EntryRows) : Type 0 where
   pub seat : m ≡ (Passing (walker_of m.0), [])
   pub hand : (walker_of m.0).hand ≡ Free
-  pub cpu : number ≡ (walker_of m.0).walk.cpu
-  pub held : entries ≡ (walker_of m.0).walk.held
-  pub stamp : last ≡ (walker_of m.0).walk.stamp
+  pub entries : AreEntriesOf e (walker_of m.0).walk
 
--- what the keeper has beside its seat is what the seat knows, it has no turn, and from each processor it has an
--- acknowledgement of the greatest stamp for which all was clear
-pub record KeeperFits (m : Seat) (last : ℕ) (words stamps : List ℕ) (clear : ℕ) : Type 0 where
+-- what the keeper has beside its seat is what the seat knows, and it has no turn
+pub record KeeperFits (m : Seat) (r : KeeperRows) : Type 0 where
   pub seat : m ≡ (Keeping (holder_of m.0), [])
   pub hand : (holder_of m.0).hand ≡ Free
-  pub request : last ≡ (holder_of m.0).watch.request
-  pub doors : words ≡ (holder_of m.0).watch.doors
-  pub since : stamps ≡ (holder_of m.0).watch.since
-  pub rows : length stamps ≡ length words
-  pub cleared : HasNoted (holder_of m.0).watch clear
+  pub rows : AreRowsOf r (holder_of m.0).watch
 
 -- the table is of this size, and there is room for a page of each frame
 pub record PagesFit (key : Size) (table : TableId) (f c : ℕ) (left : List (List ℕ)) (capacity : ℕ) : Type 0 where

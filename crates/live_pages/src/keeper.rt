@@ -4,16 +4,14 @@ ghost use Rattle.live_doors.specs.Doors.{HasNoted, IsAdmitted, MayBind};
 ghost use Rattle.live_pages.specs.Kept.{HasNoHolder};
 
 use crate::rule::Place;
+use live_doors::Rows;
 use std::marker::Model;
 
 /// Who closes doors, raises stamps, asks for acknowledgements and binds frames.
 #[derive(Drop)]
 pub struct Keeper {
     pub(crate) seat: Place,
-    pub(crate) request: u64,
-    pub(crate) doors: Vec<u64>,
-    pub(crate) since: Vec<u64>,
-    pub(crate) cleared: u64,
+    pub(crate) rows: Rows,
 }
 
 impl Model for Keeper {
@@ -22,9 +20,9 @@ impl Model for Keeper {
 
     ghost Value = { KeeperModel };
 
-    ghost view = { λ k. record { table = k.seat.table_id; holder = holder_of k.seat.me.0; cleared = k.cleared } };
+    ghost view = { λ k. record { table = k.seat.table_id; holder = holder_of k.seat.me.0; cleared = k.rows.cleared } };
 
-    ghost invariant = { λ k. KeeperFits k.seat.me k.request k.doors.items k.since.items k.cleared };
+    ghost invariant = { λ k. KeeperFits k.seat.me k.rows };
 }
 
 impl Keeper {
@@ -33,7 +31,7 @@ impl Keeper {
         requires { f < length self.now.holder.watch.doors }
         ensures { IsTrue result ↔ IsAdmitted self.now.holder.watch f }
     {
-        self.doors[f as usize] % 2 == 0
+        self.rows.is_admitted(f)
     }
 
     /// Whether frame `f` may be bound anew: it was never bound, or it is closed and `all_clear` answered Ok for a
@@ -43,8 +41,7 @@ impl Keeper {
         ensures may_bind { IsTrue result ↔ MayBind self.now.holder.watch self.now.cleared f }
         ensures no_holder { IsTrue result → HasNoHolder self.now.holder f }
     {
-        let door = self.doors[f as usize];
-        door == 1 || (door % 2 == 1 && self.since[f as usize] < self.cleared)
+        self.rows.may_bind(f)
     }
 
     // Every processor has acknowledged the stamp.
@@ -52,6 +49,6 @@ impl Keeper {
         requires { HasNoted self.old.holder.watch stamp }
         ensures { self.new ≡ record self.old { cleared = max self.old.cleared stamp } }
     {
-        self.cleared = self.cleared.max(stamp);
+        self.rows.clear(stamp);
     }
 }

@@ -9,6 +9,7 @@ use crate::pages::LivePages;
 use crate::pass::Pass;
 use crate::rule::{Admit, Board, Held, Size};
 use crate::touch::Touch;
+use live_doors::{Entries, Rows};
 use mword::Page;
 use std::alloc::{AllocError, Global};
 
@@ -62,20 +63,13 @@ fn first_keeper(alloc: Global, frames: u32, cpus: u32) -> Result<(LivePages, Kee
 {
     let words = first_words(alloc, frames, cpus)?;
     let slots = first_slots(alloc, frames)?;
-    let doors = vec![in alloc; 1; frames as usize]?;
-    let since = vec![in alloc; 0; frames as usize]?;
+    let rows = Rows::new(alloc, frames, 1)?;
     let room = Vec::with_capacity(alloc, frames as usize)?;
     let size = Size { frames, cpus };
     let Ok((table, seat)) = Board::new(alloc, words.as_slice(), slots, &size) else {
         return Err(AllocError);
     };
-    let keeper = Keeper {
-        seat,
-        request: 0,
-        doors,
-        since,
-        cleared: 0,
-    };
+    let keeper = Keeper { seat, rows };
     Ok((
         LivePages {
             table,
@@ -101,14 +95,9 @@ fn admit(
     ensures keeper { OnOk result (keeper.new
         ≡ record keeper.old { holder = watching (λ w. record w { made = cpu + 1 }) keeper.old.holder }) }
 {
-    let held = vec![in alloc; None; pages.frames as usize]?;
+    let entries = Entries::none(alloc, pages.frames, cpu)?;
     let seat = pages.table.shared.split_seat::<Admit>(&mut keeper.seat);
-    Ok(Pass {
-        seat,
-        cpu,
-        held,
-        stamp: 0,
-    })
+    Ok(Pass { seat, entries })
 }
 
 // The passes of all processors.

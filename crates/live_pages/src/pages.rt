@@ -82,12 +82,7 @@ impl LivePages {
     {
         let words = &self.table.shared;
         let word = words.load::<Fill>(&mut pass.seat, door_word(f));
-        if word % 2 == 1 {
-            return Err(Closed { word });
-        }
-        let binding = word / 2;
-        pass.held[f as usize] = Some(binding);
-        Ok(binding)
+        pass.entries.enter(f, word)
     }
 
     /// Reads the stamp that was raised last, drops every entry of the pass, and answers the stamp.
@@ -100,9 +95,7 @@ impl LivePages {
     {
         let words = &self.table.shared;
         let stamp = words.load::<Forget>(&mut pass.seat, REQUEST);
-        pass.stamp = stamp;
-        pass.held.fill(None);
-        stamp
+        pass.entries.forget(stamp)
     }
 
     /// Stores the stamp of the pass's last `forget` in the processor's own word, where the keeper reads it. That
@@ -115,8 +108,8 @@ impl LivePages {
         ensures acknowledged { pass.new.walker ≡ walking acknowledged pass.old.walker }
     {
         let words = &self.table.shared;
-        let word = acknowledgement_word(self.frames, pass.cpu);
-        let stamp = pass.stamp;
+        let word = acknowledgement_word(self.frames, pass.entries.cpu());
+        let stamp = pass.entries.stamp();
         words.store::<Acknowledge>(&mut pass.seat, word, stamp);
     }
 
@@ -144,10 +137,8 @@ impl LivePages {
         ensures cleared { keeper.new.cleared ≡ keeper.old.cleared }
     {
         let words = &self.table.shared;
-        let door = keeper.doors[f as usize] + 1;
+        let door = keeper.rows.shut(f);
         words.store::<CloseDoor>(&mut keeper.seat, door_word(f), door);
-        keeper.doors[f as usize] = door;
-        keeper.since[f as usize] = keeper.request;
     }
 
     /// Raises the next stamp, and answers it. One store; takes no memory and never waits. Source: own.
@@ -160,9 +151,8 @@ impl LivePages {
         ensures cleared { keeper.new.cleared ≡ keeper.old.cleared }
     {
         let words = &self.table.shared;
-        let stamp = keeper.request + 1;
+        let stamp = keeper.rows.raise();
         words.store::<Raise>(&mut keeper.seat, REQUEST, stamp);
-        keeper.request = stamp;
         stamp
     }
 
@@ -310,12 +300,11 @@ impl LivePages {
         ensures cleared { keeper.new.cleared ≡ keeper.old.cleared }
     {
         let words = &self.table.shared;
-        let door = 2 * (keeper.doors[f as usize] / 2 + 1);
+        let door = keeper.rows.admit(f);
         words.compare_exchange::<KeeperTake>(&mut keeper.seat, self.turn_word(f), 0, 1);
         let old = self.swap_page(&mut keeper.seat, f, page);
         words.store::<Bind>(&mut keeper.seat, door_word(f), door);
         words.store::<KeeperGive>(&mut keeper.seat, self.turn_word(f), 0);
-        keeper.doors[f as usize] = door;
         old
     }
 }

@@ -3,6 +3,7 @@ ghost use Rattle.std.specs.Prelude.{◌≡◌, ◌<◌, ◌↔◌, length, IsTru
 ghost use Rattle.live_doors.specs.Doors.{HoldsEntry};
 
 use crate::rule::Place;
+use live_doors::Entries;
 use std::marker::Model;
 
 /// What one processor steps with. It holds entries of frames, each of the binding that its door admitted, and knows the
@@ -10,9 +11,7 @@ use std::marker::Model;
 #[derive(Drop)]
 pub struct Pass {
     pub(crate) seat: Place,
-    pub(crate) cpu: u32,
-    pub(crate) held: Vec<Option<u64>>,
-    pub(crate) stamp: u64,
+    pub(crate) entries: Entries,
 }
 
 impl Model for Pass {
@@ -23,7 +22,7 @@ impl Model for Pass {
 
     ghost view = { λ p. record { table = p.seat.table_id; walker = walker_of p.seat.me.0 } };
 
-    ghost invariant = { λ p. PassFits p.seat.me p.cpu p.held.items p.stamp };
+    ghost invariant = { λ p. PassFits p.seat.me p.entries };
 }
 
 impl Pass {
@@ -32,6 +31,6 @@ impl Pass {
         requires { f < length self.now.walker.walk.held }
         ensures { IsTrue result ↔ HoldsEntry self.now.walker.walk f }
     {
-        self.held[f as usize].is_some()
+        self.entries.holds(f)
     }
 }

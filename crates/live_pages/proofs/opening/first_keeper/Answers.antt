@@ -2,7 +2,7 @@ use Rattle.std.proofs.Common.{rules}
 use Rattle.live_pages.proofs.Calls.{opens_at}
 use Rattle.live_pages.proofs.opening.first_keeper.Goals as goal
 
-pub new-requires : goal.new-requires
-new-requires c = opens_at record { frames = c.args.frames; cpus = c.args.cpus } c.as_slice.result.now
+pub new-requires-2 : goal.new-requires-2
+new-requires-2 c = opens_at record { frames = c.args.frames; cpus = c.args.cpus } c.as_slice.result.now
     c.in_ok-slots.slots.items (search rules) (search rules)
     (search rules)

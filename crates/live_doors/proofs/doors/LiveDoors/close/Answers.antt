@@ -5,7 +5,7 @@ use Rattle.live_doors.proofs.doors.LiveDoors.close.Goals as goal
 
 pub returns-clause-doors : goal.returns-clause-doors
 returns-clause-doors c =
-    written_whole c.read_doors.new.doors c.keeper.inside.doors.items _ (search rules) (search rules)
+    written_whole c.read_doors.new.doors c.rows.inside.doors.items _ (search rules) (search rules)
     ∙ ended_doors c.self.inside.table.shared.key _ c.keeper.inside.seat.me _ c.read_doors.new.doors _
     c.keeper.invariant.seat
     c.close_with-closed.ensures.values.2 (search rules) (search rules)

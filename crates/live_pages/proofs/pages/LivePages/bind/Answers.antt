@@ -1,13 +1,12 @@
-use Rattle.std.proofs.Common.{rules, ◌≡◌, ◌+◌, ◌*◌, ◌/◌, [], Some, sym, ap, refl, ◌∙◌, subst, set}
+use Rattle.std.proofs.Common.{rules, ◌≡◌, ◌+◌, ◌*◌, ◌/◌, [], Some, sym, ap, refl, ◌∙◌, subst, get_or, set}
 use Rattle.std.proofs.lemmas.List.{length-set}
 use Rattle.live_doors.specs.Doors.{HasNoted, MayBind}
-use Rattle.live_doors.specs.Laws.{word_of}
 use Rattle.live_pages.specs.declared.views.View.TheVariants.{Keeping}
 use Rattle.live_pages.specs.Turns.{holder_of}
 use Rattle.live_pages.specs.Models.{rebound}
 use Rattle.live_pages.proofs.Ends.{may_bind_is_free}
 use Rattle.live_pages.proofs.Calls.{told_with, swapped, keeper_takes_at, binds_in_hand}
-use Rattle.live_pages.proofs.Calls.{keeper_gives_in_hand, bound_now, rebound_now, keeper_fits, keeper_stays_of}
+use Rattle.live_pages.proofs.Calls.{keeper_gives_in_hand, bound_now, rebound_now, keeper_fits, keeper_stays_of, rows_admitted}
 use Rattle.live_pages.proofs.pages.LivePages.bind.Goals as goal
 
 pub compare_exchange-requires : goal.compare_exchange-requires
@@ -15,7 +14,7 @@ compare_exchange-requires c = (
   search rules,
   search rules,
   keeper_takes_at c.self.inside.table.shared.key _ _ c.keeper.inside.seat.me _ c.args.f
-      c.keeper.inside.cleared c.keeper.invariant.seat c.keeper.invariant.hand c.keeper.invariant.cleared
+      c.keeper.inside.rows.cleared c.keeper.invariant.seat c.keeper.invariant.hand c.keeper.invariant.rows.cleared
       (subst (λ v. MayBind v.holder.watch v.cleared c.args.f) (sym c.keeper.view_is) c.requires.may_bind)
       (search rules) (search rules),
 )
@@ -29,15 +28,15 @@ pub store-requires : goal.store-requires
 store-requires c =
     let got = (c.compare_exchange.ensures.2 c.args.f (search rules)).1 in
     let there = swapped (told_with c.keeper.invariant.seat got.1) c.swap_page-old.ensures.new.1 in
-    let read = word_of c.keeper.inside.doors.items (holder_of c.keeper.inside.seat.me.0).watch.doors c.args.f
-    c.index.result.now c.index.ensures c.keeper.invariant.doors (search rules) in (
+    let door = c.admit-door.ensures.word ∙ ap (λ l. 2 * (get_or l c.args.f 0 / 2 + 1)) c.keeper.invariant.rows.doors
+    in (
       search rules,
       search rules,
       rw c.door_word.ensures (binds_in_hand c.self.inside.table.shared.key _ _ c.swap_page-old.new.seat.me
-          (search rules) c.args.f _ c.keeper.inside.cleared _ c.swap_page-old.ensures.new.0 got.0.page there refl
-          c.keeper.invariant.cleared
+          (search rules) c.args.f _ c.keeper.inside.rows.cleared _ c.swap_page-old.ensures.new.0 got.0.page there refl
+          c.keeper.invariant.rows.cleared
           (subst (λ v. MayBind v.holder.watch v.cleared c.args.f) (sym c.keeper.view_is) c.requires.may_bind)
-          (ap (λ x. 2 * (x / 2 + 1)) read)),
+          door),
     )
 
 pub store-requires-2 : goal.store-requires-2
@@ -52,7 +51,7 @@ store-requires-2 c =
     )
 
 -- the frame is bound to the page, and the turn is given back
-done : (c : goal.After-keeper-1) → c.store-2.new.seat.me
+done : (c : goal.After-store-2) → c.store-2.new.seat.me
     ≡ (Keeping (rebound c.args.f c.args.page c.swap_page-old.result (holder_of c.keeper.inside.seat.me.0)), [])
 done c =
     let k = holder_of c.keeper.inside.seat.me.0 in
@@ -69,14 +68,11 @@ done c =
 
 pub invariant_of-keeper : goal.invariant_of-keeper
 invariant_of-keeper c =
-    let row = (holder_of c.keeper.inside.seat.me.0).watch.doors in
-    let read = word_of c.keeper.inside.doors.items row c.args.f c.index.result.now c.index.ensures
-    c.keeper.invariant.doors (search rules) in
-    keeper_fits c.store-2.new.seat.me _ _ _ _ c.keeper.inside.cleared (done c) c.keeper.invariant.hand
-    c.keeper.invariant.request
-    (ap (λ l. set l c.args.f (2 * (c.index.result.now / 2 + 1))) c.keeper.invariant.doors
-    ∙ ap (λ x. set row c.args.f (2 * (x / 2 + 1))) read) c.keeper.invariant.since
-    (c.keeper.invariant.rows ∙ sym (length-set _ _ _)) c.keeper.invariant.cleared
+    let rows = c.admit-door.ensures.rows
+    ∙ ap (λ n. record c.keeper.inside.rows { doors = set c.keeper.inside.rows.doors c.args.f n })
+    c.admit-door.ensures.word in
+    keeper_fits c.store-2.new.seat.me _ _ (done c) c.keeper.invariant.hand (rw rows (rows_admitted c.args.f
+    c.keeper.inside.rows (holder_of c.keeper.inside.seat.me.0).watch c.keeper.invariant.rows))
 
 pub returns-clause-keeper : goal.returns-clause-keeper
 returns-clause-keeper c =
@@ -91,4 +87,4 @@ returns-clause-bound c = ap (λ x. holder_of x.0) (done c)
 
 pub returns-clause-no_holder : goal.returns-clause-no_holder
 returns-clause-no_holder c = may_bind_is_free c.args.keeper.now.holder c.args.keeper.now.cleared c.args.f
-    (subst (λ v. HasNoted v.holder.watch v.cleared) c.keeper.view_is c.keeper.invariant.cleared) c.requires.may_bind
+    (subst (λ v. HasNoted v.holder.watch v.cleared) c.keeper.view_is c.keeper.invariant.rows.cleared) c.requires.may_bind

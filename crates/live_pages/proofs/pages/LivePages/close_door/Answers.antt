@@ -1,5 +1,4 @@
-use Rattle.std.proofs.Common.{rules}
-use Rattle.live_doors.specs.Laws.{next_word}
+use Rattle.std.proofs.Common.{rules, ◌+◌, get_or, ap, ◌∙◌}
 use Rattle.live_pages.proofs.Calls.{closes_at}
 use Rattle.live_pages.proofs.pages.LivePages.close_door.Goals as goal
 
@@ -9,6 +8,6 @@ store-requires c = (
   search rules,
   rw c.door_word.ensures (closes_at c.self.inside.table.shared.key _ _ c.keeper.inside.seat.me c.args.f _
       c.keeper.invariant.seat (search rules)
-      (search rules) (search rules) (next_word c.keeper.inside.doors.items _ c.args.f _ c.index.ensures
-      c.keeper.invariant.doors (search rules))),
+      (search rules) (search rules) (c.shut-door.ensures.word
+      ∙ ap (λ l. get_or l c.args.f 0 + 1) c.keeper.invariant.rows.doors)),
 )

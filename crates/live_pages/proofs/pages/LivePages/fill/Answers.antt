@@ -1,8 +1,10 @@
-use Rattle.std.proofs.Common.{rules, ◌*◌, ◌/◌, set, Some, ap, refl, ◌∙◌, arith}
-use Rattle.std.proofs.lemmas.List.{length-set}
-use Rattle.live_doors.specs.Doors.{having_read, holding}
+use Rattle.std.proofs.Common.{rules, [], refl, ap, ◌≡◌, ◌∙◌}
+use Rattle.live_doors.specs.declared.views.Walk.{Walk}
+use Rattle.live_doors.specs.Steps.{filled}
+use Rattle.live_doors.specs.Laws.{filled_row, entries_filled, when_bound, when_admitted, when_closed}
+use Rattle.live_pages.specs.declared.views.View.TheVariants.{Passing}
 use Rattle.live_pages.specs.Turns.{walking, walker_of}
-use Rattle.live_pages.proofs.Calls.{closed_read, open_read, fills_at, pass_fits, pass_stays_of}
+use Rattle.live_pages.proofs.Calls.{told_alone, fills_at, pass_fits, pass_stays_of}
 use Rattle.live_pages.proofs.pages.LivePages.fill.Goals as goal
 
 pub load-word-requires : goal.load-word-requires
@@ -14,52 +16,36 @@ load-word-requires c = (
       c.pass.invariant.hand (search rules)),
 )
 
+-- what the seat knows once the door's word was read
+read : (c : goal.After-enter) → c.load-word.new.seat.me
+    ≡ (Passing (walking (filled c.args.f c.load-word.result) (walker_of c.pass.inside.seat.me.0)), [])
+read c = told_alone c.pass.invariant.seat (c.load-word.ensures.2 c.args.f c.door_word.ensures).1
+
+-- as it is seen
+seen : (c : goal.After-enter) → walker_of c.load-word.new.seat.me.0
+    ≡ walking (filled c.args.f c.load-word.result) c.args.pass.now.walker
+seen c = ap (λ x. walker_of x.0) (read c) ∙ ap (λ v. walking (filled c.args.f c.load-word.result) v.walker)
+    c.pass.view_is
+
 pub invariant_of-pass : goal.invariant_of-pass
-invariant_of-pass c = pass_fits c.load-word.new.seat.me _ _ _ _
-    (closed_read c.args.f c.load-word.result c.pass.invariant.seat
-    (c.load-word.ensures.2 c.args.f c.door_word.ensures).1 (search rules))
-    c.pass.invariant.hand c.pass.invariant.cpu
-    c.pass.invariant.held c.pass.invariant.stamp
-
-pub returns-then-word-eq1-clause-pass : goal.returns-then-word-eq1-clause-pass
-returns-then-word-eq1-clause-pass c =
-    pass_stays_of c.args.self.now c.args.pass.now _ c.load-word.new.seat.table_id c.pass.inside.seat.me
-    c.load-word.new.seat.me _ c.pass.view_is c.requires.pass
-    c.load-word.ensures.0
-    (closed_read c.args.f c.load-word.result c.pass.invariant.seat
-    (c.load-word.ensures.2 c.args.f c.door_word.ensures).1 (search rules)) refl refl refl
-
-pub returns-then-word-eq1-clause-closed : goal.returns-then-word-eq1-clause-closed
-returns-then-word-eq1-clause-closed c = (
-  search rules,
-  ap (λ x. walker_of x.0)
-      (closed_read c.args.f c.load-word.result c.pass.invariant.seat
-      (c.load-word.ensures.2 c.args.f c.door_word.ensures).1 (search rules))
-      ∙ ap (λ v. walking (having_read c.load-word.result) v.walker) c.pass.view_is,
-)
-
-pub invariant_of-pass-2 : goal.invariant_of-pass-2
-invariant_of-pass-2 c = pass_fits c.load-word.new.seat.me _ _ _ _
-    (open_read c.args.f c.load-word.result c.pass.invariant.seat (c.load-word.ensures.2 c.args.f c.door_word.ensures).1
-    (search rules)) c.pass.invariant.hand
-    c.pass.invariant.cpu
-    (ap (λ h. set h c.args.f (Some (c.load-word.result / 2))) c.pass.invariant.held) c.pass.invariant.stamp
+invariant_of-pass c = pass_fits c.load-word.new.seat.me _ _ (read c) c.pass.invariant.hand (rw c.enter.ensures.entries
+    (entries_filled c.args.f c.load-word.result c.pass.inside.entries (walker_of c.pass.inside.seat.me.0).walk
+    c.pass.invariant.entries))
 
 pub returns-clause-pass : goal.returns-clause-pass
 returns-clause-pass c =
+    let row = filled_row c.args.f c.load-word.result (walker_of c.pass.inside.seat.me.0).walk in
     pass_stays_of c.args.self.now c.args.pass.now _ c.load-word.new.seat.table_id c.pass.inside.seat.me
-    c.load-word.new.seat.me _ c.pass.view_is c.requires.pass
-    c.load-word.ensures.0
-    (open_read c.args.f c.load-word.result c.pass.invariant.seat (c.load-word.ensures.2 c.args.f c.door_word.ensures).1
-    (search rules))
-    (length-set _ _ _) refl refl
-
-pub returns-clause-admitted : goal.returns-clause-admitted
-returns-clause-admitted c = ap (λ x. walker_of x.0)
-    (open_read c.args.f c.load-word.result c.pass.invariant.seat (c.load-word.ensures.2 c.args.f c.door_word.ensures).1
-    (search rules))
-    ∙ ap (λ v. walking (λ p. holding c.args.f (c.load-word.result / 2) (having_read (2 * (c.load-word.result / 2)) p))
-    v.walker) c.pass.view_is
+    c.load-word.new.seat.me _ c.pass.view_is c.requires.pass c.load-word.ensures.0 (read c) row.0 row.1 refl
 
 pub returns-clause-bound : goal.returns-clause-bound
-returns-clause-bound c = let least = (c.load-word.ensures.2 c.args.f c.door_word.ensures).0 in omega arith
+returns-clause-bound c = when_bound c.enter.result c.load-word.result
+    (c.load-word.ensures.2 c.args.f c.door_word.ensures).0 c.enter.ensures.bound
+
+pub returns-clause-admitted : goal.returns-clause-admitted
+returns-clause-admitted c = when_admitted c.enter.result c.args.f c.load-word.result
+    (λ (h : Walk → Walk). walking h c.args.pass.now.walker) _ (seen c) c.enter.ensures.bound
+
+pub returns-clause-closed : goal.returns-clause-closed
+returns-clause-closed c = when_closed c.enter.result c.args.f c.load-word.result
+    (λ (h : Walk → Walk). walking h c.args.pass.now.walker) _ (seen c) c.enter.ensures.closed

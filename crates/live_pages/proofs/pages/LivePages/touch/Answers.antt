@@ -42,9 +42,9 @@ compare_exchange-word-requires c = (
 )
 
 pub invariant_of-pass : goal.invariant_of-pass
-invariant_of-pass c = pass_fits c.compare_exchange-word.new.seat.me _ _ _ _ (told_alone c.pass.invariant.seat
+invariant_of-pass c = pass_fits c.compare_exchange-word.new.seat.me _ _ (told_alone c.pass.invariant.seat
     ((c.compare_exchange-word.ensures.2 c.args.f (search rules)).1 c.if-word-ne0.true))
-    c.pass.invariant.hand c.pass.invariant.cpu c.pass.invariant.held c.pass.invariant.stamp
+    c.pass.invariant.hand c.pass.invariant.entries
 
 pub returns-then-word-ne0-clause-pass : goal.returns-then-word-ne0-clause-pass
 returns-then-word-ne0-clause-pass c =
@@ -76,8 +76,8 @@ touch_in_hand-requires-clause-few c =
     (subst (λ v. length v.walker.made < 2 ^ 32) (sym c.pass.view_is) c.requires.few)
 
 pub invariant_of-pass-2 : goal.invariant_of-pass-2
-invariant_of-pass-2 c = pass_fits c.touch_in_hand.new.seat.me _ _ _ _ (made c (search rules)) refl
-    c.pass.invariant.cpu c.pass.invariant.held c.pass.invariant.stamp
+invariant_of-pass-2 c = pass_fits c.touch_in_hand.new.seat.me _ _ (made c (search rules)) refl
+    c.pass.invariant.entries
 
 pub returns-clause-pass : goal.returns-clause-pass
 returns-clause-pass c =
