@@ -15,7 +15,7 @@ use Rattle.live_doors.specs.declared.views.View.{View}
 use Rattle.live_doors.specs.declared.views.View.TheVariants.{Walking, Keeping}
 use Rattle.live_doors.specs.Doors.{blank, first_watch, first_passes, AreNew, DoorsModel, PassModel}
 use Rattle.live_doors.specs.Doors.{KeeperModel, IsPassOf, IsKeeperOf}
-use Rattle.live_doors.specs.Doors.{OnlyNoted, having_noted}
+use Rattle.live_doors.specs.Doors.{OnlyNoted, HasNoted, having_noted}
 use Rattle.live_doors.specs.Beside.{EntryRows, KeeperRows, AreEntriesOf, AreRowsOf}
 use Rattle.live_doors.specs.Steps.{PassFits, KeeperFits, walk_of, watch_of}
 
@@ -40,9 +40,10 @@ pass_stays_of doors now t t' m m' q view ok same is row cpu = record {
 }
 
 -- a keeper whose fields are those of its view
-pub keeper_fits : (m : Me (Unit {0}) View) (w : Watch) (r : KeeperRows) → m ≡ (Keeping w, []) → AreRowsOf r w
-    → KeeperFits m r
-keeper_fits m w r is rows = subst (λ x. KeeperFits x r) (sym is) record { seat = refl; rows = rows }
+pub keeper_fits : (m : Me (Unit {0}) View) (w : Watch) (r : KeeperRows) (cleared : ℕ) → m ≡ (Keeping w, [])
+    → AreRowsOf r w → HasNoted w cleared → KeeperFits m r cleared
+keeper_fits m w r cleared is rows noted =
+    subst (λ x. KeeperFits x r cleared) (sym is) record { seat = refl; rows = rows; cleared = noted }
 
 -- it came with the same doors as before
 pub keeper_stays_of : (doors : DoorsModel) (now : KeeperModel) (t t' : TableId) (cleared cleared' : ℕ)

@@ -3,7 +3,6 @@ use Rattle.std.specs.Prelude.{◌≡◌, ℕ, ◌+◌, ◌/◌, ◌%◌, ◌<◌
 use Rattle.std.specs.Prelude.{Some, None, slice_index, slice_set}
 use Rattle.live_doors.specs.declared.views.Walk.{Walk}
 use Rattle.live_doors.specs.declared.views.Watch.{Watch}
-use Rattle.live_doors.specs.Doors.{HasNoted}
 
 -- the number of the processor, the entry of each frame, and the stamp that was read last
 pub record EntryRows : Type 0 where
@@ -31,25 +30,21 @@ entered_if false f word e = e
 abbrev pub entered : ℕ → ℕ → EntryRows → EntryRows
 entered f word e = entered_if (word % 2 == 0) f word e
 
--- the stamp that was raised last, the door word of each frame, the stamp that was the last one when it was closed, and
--- the greatest stamp for which all was clear
+-- the stamp that was raised last, the door word of each frame, and the stamp that was the last one when it was closed
 pub record KeeperRows : Type 0 where
   pub request : ℕ
   pub doors : List ℕ
   pub since : List ℕ
-  pub cleared : ℕ
 
--- These rows are those that the keeper knows, with as many of the one kind as of the other, and it has an
--- acknowledgement of the greatest stamp for which all was clear from each processor.
+-- these rows are those that the keeper knows, with as many of the one kind as of the other
 pub record AreRowsOf (r : KeeperRows) (w : Watch) : Type 0 where
   pub request : r.request ≡ w.request
   pub doors : r.doors ≡ w.doors
   pub since : r.since ≡ w.since
   pub rows : length r.since ≡ length r.doors
-  pub cleared : HasNoted w r.cleared
 
 abbrev pub first_rows : ℕ → ℕ → KeeperRows
-first_rows frames door = record { request = 0; doors = replicate frames door; since = replicate frames 0; cleared = 0 }
+first_rows frames door = record { request = 0; doors = replicate frames door; since = replicate frames 0 }
 
 -- the door of frame f is closed as of the last stamp
 abbrev pub shut_rows : ℕ → KeeperRows → KeeperRows

@@ -375,32 +375,20 @@ rows_shut f r w of = record {
   doors = ap (λ l. set l f (get_or l f 0 + 1)) of.doors;
   since = (λ i. set (of.since i) f (of.request i));
   rows = length-set r.since f r.request ∙ of.rows ∙ sym (length-set r.doors f (get_or r.doors f 0 + 1));
-  cleared = of.cleared;
 }
 
 pub rows_raised : (r : KeeperRows) (w : Watch) → AreRowsOf r w
     → AreRowsOf (record r { request = r.request + 1 }) (raised w)
-rows_raised r w of = record {
-  request = ap (λ k. k + 1) of.request;
-  doors = of.doors;
-  since = of.since;
-  rows = of.rows;
-  cleared = of.cleared;
-}
+rows_raised r w of =
+    record { request = ap (λ k. k + 1) of.request; doors = of.doors; since = of.since; rows = of.rows }
 
-pub rows_noted : (c n : ℕ) (r : KeeperRows) (w : Watch) → AreRowsOf r w → get_or w.noted c 0 ≤ n
-    → AreRowsOf r (having_noted c n w)
-rows_noted c n r w of low = record {
-  request = of.request;
-  doors = of.doors;
-  since = of.since;
-  rows = of.rows;
-  cleared = noted_still w c n r.cleared of.cleared low;
-}
+-- an acknowledgement that is read is beside these rows
+pub rows_noted : (c n : ℕ) (r : KeeperRows) (w : Watch) → AreRowsOf r w → AreRowsOf r (having_noted c n w)
+rows_noted c n r w of = record { request = of.request; doors = of.doors; since = of.since; rows = of.rows }
 
-pub may_bind_by : (r : KeeperRows) (w : Watch) (f : ℕ) → AreRowsOf r w → MayBindBy r.doors r.since r.cleared f
-    → MayBind w r.cleared f
-may_bind_by r w f of = subst (λ (x : List ℕ × List ℕ). MayBindBy x.0 x.1 r.cleared f)
+pub may_bind_by : (r : KeeperRows) (w : Watch) (cleared f : ℕ) → AreRowsOf r w
+    → MayBindBy r.doors r.since cleared f → MayBind w cleared f
+may_bind_by r w cleared f of = subst (λ (x : List ℕ × List ℕ). MayBindBy x.0 x.1 cleared f)
     (λ i. (of.doors i, of.since i))
 
 -- what a fill tells by its answer, of anything that sees what it does to what the pass knows

@@ -9,7 +9,7 @@ use Rattle.live_doors.specs.declared.views.Watch.{Watch}
 use Rattle.live_doors.specs.declared.views.View.{View}
 use Rattle.live_doors.specs.declared.views.View.TheVariants.{Walking, Keeping, Spent}
 use Rattle.live_doors.specs.Doors.{blank, first_watch, having_read, holding, forgotten, acknowledged, shut, raised}
-use Rattle.live_doors.specs.Doors.{having_noted}
+use Rattle.live_doors.specs.Doors.{having_noted, HasNoted}
 use Rattle.live_doors.specs.Beside.{EntryRows, KeeperRows, AreEntriesOf, AreRowsOf}
 
 -- the word of frame f's door
@@ -41,10 +41,12 @@ pub record PassFits (m : Me (Unit {0}) View) (e : EntryRows) : Type 0 where
   pub seat : m ≡ (Walking (walk_of m.0), [])
   pub entries : AreEntriesOf e (walk_of m.0)
 
--- what the keeper has beside its seat is what the seat knows
-pub record KeeperFits (m : Me (Unit {0}) View) (r : KeeperRows) : Type 0 where
+-- what the keeper has beside its seat is what the seat knows, and it has an acknowledgement of the greatest stamp for
+-- which all was clear from each processor
+pub record KeeperFits (m : Me (Unit {0}) View) (r : KeeperRows) (clear : ℕ) : Type 0 where
   pub seat : m ≡ (Keeping (watch_of m.0), [])
   pub rows : AreRowsOf r (watch_of m.0)
+  pub cleared : HasNoted (watch_of m.0) clear
 
 -- the table is of this size
 pub record DoorsFit (key : Size) (table : TableId) (f c : ℕ) : Type 0 where

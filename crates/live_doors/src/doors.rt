@@ -119,8 +119,7 @@ impl LiveDoors {
         ensures acknowledged { pass.new.walk ≡ acknowledged pass.old.walk }
     {
         let words = &self.table.shared;
-        let word = acknowledgement_word(self.frames, pass.entries.cpu());
-        let stamp = pass.entries.stamp();
+        let (word, stamp) = pass.entries.acknowledgement(self.frames);
         words.store::<Acknowledge>(&mut pass.seat, word, stamp);
     }
 
@@ -231,7 +230,7 @@ impl LiveDoors {
     {
         self.take_all_in(&mut keeper, passes);
         let LiveDoors { table, .. } = self;
-        let Keeper { seat, rows } = keeper;
+        let Keeper { seat, rows, .. } = keeper;
         let Rows { mut doors, .. } = rows;
         let closed = table.close_with(seat);
         let request = closed.word(REQUEST);

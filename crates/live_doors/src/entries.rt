@@ -2,8 +2,10 @@
 ghost use Rattle.std.specs.Prelude.{◌≡◌, ◌*◌, ◌%◌, ◌<◌, ◌↔◌, length, replicate, slice_index_or, IsTrue, IfOk, IfErr};
 ghost use Rattle.std.specs.Prelude.{ℕ, Some, None};
 ghost use Rattle.live_doors.specs.Beside.{no_entries, entered};
+ghost use Rattle.live_doors.specs.Steps.{ack_at};
 
 use crate::errors::Closed;
+use crate::words::acknowledgement_word;
 use std::alloc::{AllocError, Global};
 use std::marker::Model;
 
@@ -36,18 +38,11 @@ impl Entries {
         })
     }
 
-    /// The number of the processor.
-    pub fn cpu(&self) -> u32
-        ensures { result ≡ self.now.cpu }
+    /// The word of the processor's acknowledgement, where there are so many frames, and the stamp that was read last.
+    pub fn acknowledgement(&self, frames: u32) -> (usize, u64)
+        ensures { result ≡ (ack_at frames self.now.cpu, self.now.stamp) }
     {
-        self.cpu
-    }
-
-    /// The stamp that was read last.
-    pub fn stamp(&self) -> u64
-        ensures { result ≡ self.now.stamp }
-    {
-        self.stamp
+        (acknowledgement_word(frames, self.cpu), self.stamp)
     }
 
     /// Whether there is an entry of frame `f`.

@@ -1,19 +1,17 @@
 //! What the keeper has beside its seat. That of `live_pages` has the same.
-ghost use Rattle.std.specs.Prelude.{◌≡◌, ◌+◌, ◌*◌, ◌/◌, ◌%◌, ◌^◌, ◌<◌, ◌↔◌, length, max, slice_index};
+ghost use Rattle.std.specs.Prelude.{◌≡◌, ◌+◌, ◌*◌, ◌/◌, ◌%◌, ◌^◌, ◌<◌, ◌↔◌, length, slice_index};
 ghost use Rattle.std.specs.Prelude.{slice_set, IsTrue, IfOk};
 ghost use Rattle.live_doors.specs.Beside.{MayBindBy, first_rows, shut_rows};
 
 use std::alloc::{AllocError, Global};
 use std::marker::Model;
 
-/// The stamp that was raised last, the door of each frame with the stamp as of which it was closed, and the greatest
-/// stamp for which all was clear.
+/// The stamp that was raised last, and the door of each frame with the stamp as of which it was closed.
 #[derive(Drop)]
 pub struct Rows {
-    pub(crate) request: u64,
+    request: u64,
     pub(crate) doors: Vec<u64>,
-    pub(crate) since: Vec<u64>,
-    pub(crate) cleared: u64,
+    since: Vec<u64>,
 }
 
 impl Model for Rows {
@@ -21,8 +19,7 @@ impl Model for Rows {
 
     ghost Value = { KeeperRows };
 
-    ghost view = { λ r.
-        record { request = r.request; doors = r.doors.items; since = r.since.items; cleared = r.cleared } };
+    ghost view = { λ r. record { request = r.request; doors = r.doors.items; since = r.since.items } };
 }
 
 impl Rows {
@@ -36,7 +33,6 @@ impl Rows {
             request: 0,
             doors,
             since,
-            cleared: 0,
         })
     }
 
@@ -76,13 +72,6 @@ impl Rows {
         self.request
     }
 
-    /// Every processor has acknowledged the stamp.
-    pub fn clear(&mut self, stamp: u64)
-        ensures { self.new ≡ record self.old { cleared = max self.old.cleared stamp } }
-    {
-        self.cleared = self.cleared.max(stamp);
-    }
-
     /// Whether the door of frame `f` admits a binding.
     pub fn is_admitted(&self, f: u32) -> bool
         requires { f < length self.now.doors }
@@ -91,13 +80,13 @@ impl Rows {
         self.doors[f as usize] % 2 == 0
     }
 
-    /// Whether frame `f` was never bound, or is closed, and all was clear for a stamp that was raised since.
-    pub fn may_bind(&self, f: u32) -> bool
+    /// Whether frame `f` was never bound, or is closed, and a stamp up to this one was raised since.
+    pub fn may_bind(&self, f: u32, cleared: u64) -> bool
         requires door { f < length self.now.doors }
         requires since { f < length self.now.since }
-        ensures { IsTrue result ↔ MayBindBy self.now.doors self.now.since self.now.cleared f }
+        ensures { IsTrue result ↔ MayBindBy self.now.doors self.now.since cleared f }
     {
         let door = self.doors[f as usize];
-        door == 1 || (door % 2 == 1 && self.since[f as usize] < self.cleared)
+        door == 1 || (door % 2 == 1 && self.since[f as usize] < cleared)
     }
 }

@@ -191,10 +191,10 @@ pass_stays_of pages now t t' m m' q view ok same is row cpu all = record {
 }
 
 -- a keeper whose fields are those of its view
-pub keeper_fits : (m : Seat) (k : Holder) (r : KeeperRows) → m ≡ (Keeping k, []) → k.hand ≡ Free
-    → AreRowsOf r k.watch → KeeperFits m r
-keeper_fits m k r is free rows = subst (λ x. KeeperFits x r) (sym is) record
-    { seat = refl; hand = free; rows = rows }
+pub keeper_fits : (m : Seat) (k : Holder) (r : KeeperRows) (cleared : ℕ) → m ≡ (Keeping k, []) → k.hand ≡ Free
+    → AreRowsOf r k.watch → HasNoted k.watch cleared → KeeperFits m r cleared
+keeper_fits m k r cleared is free rows noted = subst (λ x. KeeperFits x r cleared) (sym is) record
+    { seat = refl; hand = free; rows = rows; cleared = noted }
 
 pub rows_admitted : (f : ℕ) (r : KeeperRows) (w : Watch) → AreRowsOf r w
     → AreRowsOf (record r { doors = set r.doors f (2 * (get_or r.doors f 0 / 2 + 1)) }) (admitted f w)
@@ -203,7 +203,6 @@ rows_admitted f r w of = record {
   doors = ap (λ l. set l f (2 * (get_or l f 0 / 2 + 1))) of.doors;
   since = of.since;
   rows = of.rows ∙ sym (length-set r.doors f (2 * (get_or r.doors f 0 / 2 + 1)));
-  cleared = of.cleared;
 }
 
 -- it came with the same pages as before

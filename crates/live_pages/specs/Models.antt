@@ -8,6 +8,7 @@ use Rattle.live_pages.specs.declared.touch.Touch.{Touch}
 use Rattle.live_pages.specs.declared.views.Hand.TheVariants.{Free, Has}
 use Rattle.live_pages.specs.declared.views.Part.TheVariants.{In}
 use Rattle.live_pages.specs.declared.views.View.TheVariants.{Passing, Keeping}
+use Rattle.live_doors.specs.Doors.{HasNoted}
 use Rattle.live_doors.specs.Beside.{EntryRows, KeeperRows, AreEntriesOf, AreRowsOf}
 use Rattle.live_pages.specs.declared.rule.Held.{Held}
 use Rattle.live_pages.specs.declared.rule.Size.{Size}
@@ -54,11 +55,13 @@ pub record PassFits (m : Seat) (e : EntryRows) : Type 0 where
   pub hand : (walker_of m.0).hand ≡ Free
   pub entries : AreEntriesOf e (walker_of m.0).walk
 
--- what the keeper has beside its seat is what the seat knows, and it has no turn
-pub record KeeperFits (m : Seat) (r : KeeperRows) : Type 0 where
+-- what the keeper has beside its seat is what the seat knows, it has no turn, and from each processor it has an
+-- acknowledgement of the greatest stamp for which all was clear
+pub record KeeperFits (m : Seat) (r : KeeperRows) (clear : ℕ) : Type 0 where
   pub seat : m ≡ (Keeping (holder_of m.0), [])
   pub hand : (holder_of m.0).hand ≡ Free
   pub rows : AreRowsOf r (holder_of m.0).watch
+  pub cleared : HasNoted (holder_of m.0).watch clear
 
 -- the table is of this size, and there is room for a page of each frame
 pub record PagesFit (key : Size) (table : TableId) (f c : ℕ) (left : List (List ℕ)) (capacity : ℕ) : Type 0 where

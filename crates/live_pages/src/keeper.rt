@@ -12,6 +12,7 @@ use std::marker::Model;
 pub struct Keeper {
     pub(crate) seat: Place,
     pub(crate) rows: Rows,
+    pub(crate) cleared: u64,
 }
 
 impl Model for Keeper {
@@ -20,9 +21,9 @@ impl Model for Keeper {
 
     ghost Value = { KeeperModel };
 
-    ghost view = { λ k. record { table = k.seat.table_id; holder = holder_of k.seat.me.0; cleared = k.rows.cleared } };
+    ghost view = { λ k. record { table = k.seat.table_id; holder = holder_of k.seat.me.0; cleared = k.cleared } };
 
-    ghost invariant = { λ k. KeeperFits k.seat.me k.rows };
+    ghost invariant = { λ k. KeeperFits k.seat.me k.rows k.cleared };
 }
 
 impl Keeper {
@@ -41,7 +42,7 @@ impl Keeper {
         ensures may_bind { IsTrue result ↔ MayBind self.now.holder.watch self.now.cleared f }
         ensures no_holder { IsTrue result → HasNoHolder self.now.holder f }
     {
-        self.rows.may_bind(f)
+        self.rows.may_bind(f, self.cleared)
     }
 
     // Every processor has acknowledged the stamp.
@@ -49,6 +50,6 @@ impl Keeper {
         requires { HasNoted self.old.holder.watch stamp }
         ensures { self.new ≡ record self.old { cleared = max self.old.cleared stamp } }
     {
-        self.rows.clear(stamp);
+        self.cleared = self.cleared.max(stamp);
     }
 }

@@ -108,8 +108,7 @@ impl LivePages {
         ensures acknowledged { pass.new.walker ≡ walking acknowledged pass.old.walker }
     {
         let words = &self.table.shared;
-        let word = acknowledgement_word(self.frames, pass.entries.cpu());
-        let stamp = pass.entries.stamp();
+        let (word, stamp) = pass.entries.acknowledgement(self.frames);
         words.store::<Acknowledge>(&mut pass.seat, word, stamp);
     }
 

@@ -1,4 +1,4 @@
-use Rattle.std.proofs.Common.{rules, ◌∙◌}
+use Rattle.std.proofs.Common.{rules, ap, ◌∙◌}
 use Rattle.live_doors.proofs.Keeps.{acknowledges_at}
 use Rattle.live_doors.proofs.doors.LiveDoors.acknowledge.Goals as goal
 
@@ -7,5 +7,5 @@ store-requires c = (
   search rules,
   search rules,
   acknowledges_at c.self.inside.table.shared.key _ _ _ _ c.pass.inside.seat.me c.pass.invariant.seat
-      (search rules) (c.stamp-stamp.ensures ∙ c.pass.invariant.entries.stamp),
+      (search rules) (ap (λ x. x.1) c.acknowledgement-word.ensures ∙ c.pass.invariant.entries.stamp),
 )

@@ -3,7 +3,7 @@ use Rattle.std.proofs.lemmas.List.{length-set}
 use Rattle.live_doors.specs.Steps.{watch_of}
 use Rattle.live_doors.proofs.Keeps.{looks_at}
 use Rattle.live_doors.proofs.Calls.{keeper_fits, keeper_stays_of}
-use Rattle.live_doors.specs.Laws.{rows_noted}
+use Rattle.live_doors.specs.Laws.{noted_still, rows_noted}
 use Rattle.live_doors.proofs.doors.LiveDoors.look.Goals as goal
 
 pub load-requires : goal.load-requires
@@ -17,8 +17,9 @@ load-requires c = (
 pub invariant_of-keeper : goal.invariant_of-keeper
 invariant_of-keeper c =
     let told = c.load.ensures.2 c.args.cpu (search rules) in
-    keeper_fits c.load.new.seat.me _ _ told.1 (rows_noted c.args.cpu c.load.result c.keeper.inside.rows
-    (watch_of c.keeper.inside.seat.me.0) c.keeper.invariant.rows told.0)
+    keeper_fits c.load.new.seat.me _ _ _ told.1 (rows_noted c.args.cpu c.load.result c.keeper.inside.rows
+    (watch_of c.keeper.inside.seat.me.0) c.keeper.invariant.rows) (noted_still (watch_of c.keeper.inside.seat.me.0)
+    c.args.cpu c.load.result _ c.keeper.invariant.cleared told.0)
 
 pub returns-clause-keeper : goal.returns-clause-keeper
 returns-clause-keeper c =

@@ -1,4 +1,4 @@
-use Rattle.std.proofs.Common.{rules, ◌∙◌}
+use Rattle.std.proofs.Common.{rules, ap, ◌∙◌}
 use Rattle.live_pages.proofs.Calls.{acknowledges_at}
 use Rattle.live_pages.proofs.pages.LivePages.acknowledge.Goals as goal
 
@@ -7,6 +7,5 @@ store-requires c = (
   search rules,
   search rules,
   acknowledges_at c.self.inside.table.shared.key _ _ c.pass.inside.seat.me _ _ c.pass.invariant.seat
-      c.pass.invariant.hand (search rules) (search rules) (c.stamp-stamp.ensures
-      ∙ c.pass.invariant.entries.stamp),
+      c.pass.invariant.hand (search rules) (search rules) (ap (λ x. x.1) c.acknowledgement-word.ensures ∙ c.pass.invariant.entries.stamp),
 )

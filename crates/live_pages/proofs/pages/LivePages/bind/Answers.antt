@@ -14,7 +14,7 @@ compare_exchange-requires c = (
   search rules,
   search rules,
   keeper_takes_at c.self.inside.table.shared.key _ _ c.keeper.inside.seat.me _ c.args.f
-      c.keeper.inside.rows.cleared c.keeper.invariant.seat c.keeper.invariant.hand c.keeper.invariant.rows.cleared
+      c.keeper.inside.cleared c.keeper.invariant.seat c.keeper.invariant.hand c.keeper.invariant.cleared
       (subst (λ v. MayBind v.holder.watch v.cleared c.args.f) (sym c.keeper.view_is) c.requires.may_bind)
       (search rules) (search rules),
 )
@@ -33,8 +33,8 @@ store-requires c =
       search rules,
       search rules,
       rw c.door_word.ensures (binds_in_hand c.self.inside.table.shared.key _ _ c.swap_page-old.new.seat.me
-          (search rules) c.args.f _ c.keeper.inside.rows.cleared _ c.swap_page-old.ensures.new.0 got.0.page there refl
-          c.keeper.invariant.rows.cleared
+          (search rules) c.args.f _ c.keeper.inside.cleared _ c.swap_page-old.ensures.new.0 got.0.page there refl
+          c.keeper.invariant.cleared
           (subst (λ v. MayBind v.holder.watch v.cleared c.args.f) (sym c.keeper.view_is) c.requires.may_bind)
           door),
     )
@@ -71,8 +71,8 @@ invariant_of-keeper c =
     let rows = c.admit-door.ensures.rows
     ∙ ap (λ n. record c.keeper.inside.rows { doors = set c.keeper.inside.rows.doors c.args.f n })
     c.admit-door.ensures.word in
-    keeper_fits c.store-2.new.seat.me _ _ (done c) c.keeper.invariant.hand (rw rows (rows_admitted c.args.f
-    c.keeper.inside.rows (holder_of c.keeper.inside.seat.me.0).watch c.keeper.invariant.rows))
+    keeper_fits c.store-2.new.seat.me _ _ _ (done c) c.keeper.invariant.hand (rw rows (rows_admitted c.args.f
+    c.keeper.inside.rows (holder_of c.keeper.inside.seat.me.0).watch c.keeper.invariant.rows)) c.keeper.invariant.cleared
 
 pub returns-clause-keeper : goal.returns-clause-keeper
 returns-clause-keeper c =
@@ -87,4 +87,4 @@ returns-clause-bound c = ap (λ x. holder_of x.0) (done c)
 
 pub returns-clause-no_holder : goal.returns-clause-no_holder
 returns-clause-no_holder c = may_bind_is_free c.args.keeper.now.holder c.args.keeper.now.cleared c.args.f
-    (subst (λ v. HasNoted v.holder.watch v.cleared) c.keeper.view_is c.keeper.invariant.rows.cleared) c.requires.may_bind
+    (subst (λ v. HasNoted v.holder.watch v.cleared) c.keeper.view_is c.keeper.invariant.cleared) c.requires.may_bind

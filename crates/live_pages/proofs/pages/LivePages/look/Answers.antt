@@ -1,7 +1,7 @@
 use Rattle.std.proofs.Common.{rules, ap, refl, ◌∙◌}
 use Rattle.std.proofs.lemmas.List.{length-set}
 use Rattle.live_doors.specs.Doors.{having_noted}
-use Rattle.live_doors.specs.Laws.{rows_noted}
+use Rattle.live_doors.specs.Laws.{noted_still, rows_noted}
 use Rattle.live_pages.specs.declared.views.View.TheVariants.{Keeping}
 use Rattle.live_pages.specs.Turns.{watching, holder_of}
 use Rattle.live_pages.proofs.Calls.{looks_at, keeper_fits, keeper_stays_of}
@@ -18,10 +18,12 @@ load-requires c = (
 pub invariant_of-keeper : goal.invariant_of-keeper
 invariant_of-keeper c =
     let told = c.load.ensures.2 c.args.cpu (search rules) in
-    keeper_fits c.load.new.seat.me _ _ (told.1
+    keeper_fits c.load.new.seat.me _ _ _ (told.1
     ∙ ap (λ cs. (Keeping (watching (having_noted c.args.cpu c.load.result) (holder_of c.keeper.inside.seat.me.0)), cs))
     (ap (λ m. m.1) c.keeper.invariant.seat)) c.keeper.invariant.hand (rows_noted c.args.cpu c.load.result
-    c.keeper.inside.rows (holder_of c.keeper.inside.seat.me.0).watch c.keeper.invariant.rows told.0)
+    c.keeper.inside.rows (holder_of c.keeper.inside.seat.me.0).watch c.keeper.invariant.rows)
+    (noted_still (holder_of c.keeper.inside.seat.me.0).watch c.args.cpu c.load.result _ c.keeper.invariant.cleared
+    told.0)
 
 pub returns-clause-keeper : goal.returns-clause-keeper
 returns-clause-keeper c = keeper_stays_of c.args.self.now c.args.keeper.now _ c.load.new.seat.table_id _ _
