@@ -198,10 +198,13 @@ module _ (frames cpus : ℕ) (words : List ℕ) (plan : Watch) where
   plan_shut f inside k = plan_stored f (get_or plan.doors f 0 + 1) (set plan.since f plan.request) inside
       (omega arith) (length-set plan.since f plan.request ∙ k.since_row) k
 
-  pub pass_shut : (f : ℕ) (q : Walk) → f < frames → get_or plan.doors f 0 % 2 ≡ 0 → PlanOk frames cpus words plan
+  -- and each pass beside it, where what it holds there is in order with that word
+  pub pass_stored : (f n : ℕ) (since : List ℕ) (q : Walk)
+      → ((b : ℕ) → get_or q.held f None ≡ Some b → EntryOk n (get_or since f 0) q.stamp b)
+      → ((g : ℕ) → g ≢ f → get_or since g 0 ≡ get_or plan.since g 0) → f < frames → PlanOk frames cpus words plan
       → PassOk frames cpus words plan q
-      → PassOk frames cpus (set words (door_at f) (get_or plan.doors f 0 + 1)) (shut f plan) q
-  pass_shut f q inside even k ok = let n : ℕ = get_or plan.doors f 0 + 1 in record {
+      → PassOk frames cpus (set words (door_at f) n) (record plan { doors = set plan.doors f n; since = since }) q
+  pass_stored f n since q here else inside k ok = record {
     made = ok.made;
     row = ok.row;
     stamp = ok.stamp;
@@ -209,22 +212,25 @@ module _ (frames cpus : ℕ) (words : List ℕ) (plan : Watch) where
     acked = ok.acked;
     bound = ok.bound;
     entries = λ g b e. dite (ℕ_discrete g f)
-        (λ (same : g ≡ f). subst (λ j. EntryOk (get_or (set plan.doors f n) j 0)
-        (get_or (set plan.since f plan.request) j 0) q.stamp b) (sym same)
-        (inr (
-          get_or-set_same plan.doors f n 0 (let r = k.doors_row in omega arith)
-              ∙ was b (subst (λ j. EntryOk (get_or plan.doors j 0) (get_or plan.since j 0) q.stamp b) same
-              (ok.entries g b e)),
-          subst (λ j. q.stamp ≤ j) (sym (get_or-set_same plan.since f plan.request 0
-              (let r = k.since_row in omega arith))) ok.stamp,
-        )))
+        (λ (same : g ≡ f). subst (λ j. EntryOk (get_or (set plan.doors f n) j 0) (get_or since j 0) q.stamp b)
+        (sym same)
+        (subst (λ d. EntryOk d (get_or since f 0) q.stamp b)
+        (sym (get_or-set_same plan.doors f n 0 (let r = k.doors_row in omega arith)))
+        (here b (subst (λ j. get_or q.held j None ≡ Some b) same e))))
         (λ (other : g ≢ f). subst (λ (x : ℕ × ℕ). EntryOk x.0 x.1 q.stamp b)
-        (λ i. (
-          sym (get_or-set_other plan.doors f g n 0 other) i,
-          sym
-              (get_or-set_other plan.since f g plan.request 0 other) i,
-        )) (ok.entries g b e));
+        (λ i. (sym (get_or-set_other plan.doors f g n 0 other) i, sym (else g other) i)) (ok.entries g b e));
   }
+
+  pub pass_shut : (f : ℕ) (q : Walk) → f < frames → get_or plan.doors f 0 % 2 ≡ 0 → PlanOk frames cpus words plan
+      → PassOk frames cpus words plan q
+      → PassOk frames cpus (set words (door_at f) (get_or plan.doors f 0 + 1)) (shut f plan) q
+  pass_shut f q inside even k ok = pass_stored f (get_or plan.doors f 0 + 1) (set plan.since f plan.request) q
+      (λ b e. inr (
+        was b (ok.entries f b e),
+        subst (λ j. q.stamp ≤ j) (sym (get_or-set_same plan.since f plan.request 0
+            (let r = k.since_row in omega arith))) ok.stamp,
+      ))
+      (λ g other. get_or-set_other plan.since f g plan.request 0 other) inside k ok
     where
       was : (b : ℕ) → EntryOk (get_or plan.doors f 0) (get_or plan.since f 0) q.stamp b → get_or plan.doors f 0 + 1
           ≡ 2 * b + 1

@@ -1,7 +1,8 @@
 //! The keeper of the doors.
 ghost use Rattle.std.specs.Prelude.{◌≡◌, ◌<◌, ◌↔◌, length, max, IsTrue};
-ghost use Rattle.live_doors.specs.Doors.{HasNoted, MayBind};
+ghost use Rattle.live_doors.specs.Doors.{HasNoted, MayBind, KeeperModel};
 ghost use Rattle.live_doors.specs.Kept.{HasNoHolder};
+ghost use Rattle.live_doors.specs.Steps.{watch_of, KeeperFits};
 
 use crate::rows::Rows;
 use crate::rule::Place;
@@ -14,13 +15,10 @@ use std::marker::Model;
 pub struct Keeper {
     pub(crate) seat: Place,
     pub(crate) rows: Rows,
-    pub(crate) cleared: u64,
+    cleared: u64,
 }
 
 impl Model for Keeper {
-    ghost use Rattle.live_doors.specs.Doors.{KeeperModel};
-    ghost use Rattle.live_doors.specs.Steps.{watch_of, KeeperFits};
-
     ghost Value = { KeeperModel };
 
     ghost view = { λ k. record { table = k.seat.table_id; watch = watch_of k.seat.me.0; cleared = k.cleared } };
@@ -29,6 +27,18 @@ impl Model for Keeper {
 }
 
 impl Keeper {
+    // The keeper of this seat, which has cleared nothing.
+    pub(crate) fn new(seat: Place, rows: Rows) -> Keeper
+        requires { KeeperFits seat.me rows 0 }
+        ensures { result ≡ record { table = seat.table_id; watch = watch_of seat.me.0; cleared = 0 } }
+    {
+        Keeper {
+            seat,
+            rows,
+            cleared: 0,
+        }
+    }
+
     /// Whether frame `f` may be bound anew: it was never bound, or it is closed and `all_clear` answered Ok for a
     /// stamp that was raised since. No pass then holds an entry of it. Takes no memory and constant time. Source: own.
     pub fn may_bind(&self, f: u32) -> bool

@@ -41,11 +41,7 @@ fn first_keeper(
     let rows = Rows::new(alloc, frames, door)?;
     let size = Size { frames, cpus, door };
     let (table, seat) = Board::of_words(alloc, words.as_slice(), &size)?;
-    let keeper = Keeper {
-        seat,
-        rows,
-        cleared: 0,
-    };
+    let keeper = Keeper::new(seat, rows);
     Ok((
         LiveDoors {
             table,

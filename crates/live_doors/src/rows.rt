@@ -1,7 +1,7 @@
 //! What the keeper has beside its seat. That of `live_pages` has the same.
 ghost use Rattle.std.specs.Prelude.{◌≡◌, ◌+◌, ◌*◌, ◌/◌, ◌%◌, ◌^◌, ◌<◌, ◌↔◌, length, slice_index};
 ghost use Rattle.std.specs.Prelude.{slice_set, IsTrue, IfOk};
-ghost use Rattle.live_doors.specs.Beside.{MayBindBy, first_rows, shut_rows};
+ghost use Rattle.live_doors.specs.Beside.{KeeperRows, MayBindBy, first_rows, shut_rows};
 
 use std::alloc::{AllocError, Global};
 use std::marker::Model;
@@ -15,8 +15,6 @@ pub struct Rows {
 }
 
 impl Model for Rows {
-    ghost use Rattle.live_doors.specs.Beside.{KeeperRows};
-
     ghost Value = { KeeperRows };
 
     ghost view = { λ r. record { request = r.request; doors = r.doors.items; since = r.since.items } };

@@ -122,10 +122,12 @@ module _ (z : Size) (slots id : ℕ) (m : Seat) where
       (keeper_takes z slots id f cleared (holder_of m.0) free noted may inside))
 
 module _ (z : Size) (slots id : ℕ) (m : Seat) (all : slots ≡ z.frames) where
-  -- a turn's word becomes 0 at this seat, if it may at what the seat is
+  -- a turn's word becomes 0 at this seat, as it may at what the seat is
+  abbrev Given : Told → ℕ → Type 0
+  Given T i = Allows (InOrder z) slots id m i (λ _. 0) (λ _. T (step slots i 0 0 M.none) m 0)
+
   given_at : (T : Told) (i turn : ℕ) (v : Seat) → m ≡ v → i ≡ turn
-      → Allows (InOrder z) z.frames id v turn (λ _. 0) (λ _. T (step z.frames turn 0 0 M.none) v 0)
-      → Allows (InOrder z) slots id m i (λ _. 0) (λ _. T (step slots i 0 0 M.none) m 0)
+      → Allows (InOrder z) z.frames id v turn (λ _. 0) (λ _. T (step z.frames turn 0 0 M.none) v 0) → Given T i
   given_at T i turn v is place =
       subst (λ (k : ℕ × ℕ × Seat). Allows (InOrder z) k.0 id k.2 k.1 (λ _. 0)
       (λ _. T (step k.0 k.1 0 0 M.none) k.2 0)) (λ j. (sym all j, sym place j, sym is j))
@@ -142,10 +144,8 @@ module _ (z : Size) (slots id : ℕ) (m : Seat) (all : slots ≡ z.frames) where
       (Draws (step z.frames (ticket_at z.frames z.cpus) 1 0 M.none) x)) (sym is)
       (draws z id f (walker_of m.0) hd page low has after_touch word few))
 
-  pub gives_turn_at : (i f : ℕ) (hd : Held) → m ≡ (Passing (walker_of m.0), (f, Some hd) ∷ []) → (walker_of m.0).hand
-      ≡ Has f hd.page
-      → i ≡ turn_at z.frames z.cpus f → Allows (InOrder z) slots id m i (λ _. 0)
-      (λ _. Gives (step slots i 0 0 M.none) m 0)
+  pub gives_turn_at : (i f : ℕ) (hd : Held) → m ≡ (Passing (walker_of m.0), (f, Some hd) ∷ [])
+      → (walker_of m.0).hand ≡ Has f hd.page → i ≡ turn_at z.frames z.cpus f → Given Gives i
   gives_turn_at i f hd is has place =
       given_at Gives i (turn_at z.frames z.cpus f) _ is place (gives_turn z id f (walker_of m.0) hd has)
 
@@ -162,10 +162,8 @@ module _ (z : Size) (slots id : ℕ) (m : Seat) (all : slots ≡ z.frames) where
       (2 * (current (holder_of m.0).watch f + 1)))) (sym is)
       (binds z id f cleared (holder_of m.0) hd page has noted may))
 
-  pub keeper_gives_at : (i f : ℕ) (hd : Held) → m ≡ (Keeping (holder_of m.0), (f, Some hd) ∷ []) → (holder_of m.0).hand
-      ≡ Has f hd.page
-      → i ≡ turn_at z.frames z.cpus f → Allows (InOrder z) slots id m i (λ _. 0)
-      (λ _. KeeperGives (step slots i 0 0 M.none) m 0)
+  pub keeper_gives_at : (i f : ℕ) (hd : Held) → m ≡ (Keeping (holder_of m.0), (f, Some hd) ∷ [])
+      → (holder_of m.0).hand ≡ Has f hd.page → i ≡ turn_at z.frames z.cpus f → Given KeeperGives i
   keeper_gives_at i f hd is has place =
       given_at KeeperGives i (turn_at z.frames z.cpus f) _ is place (keeper_gives z id f (holder_of m.0) hd has)
 

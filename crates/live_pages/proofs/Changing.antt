@@ -13,9 +13,9 @@ use Rattle.atomic_table.proofs.Lists.{set_else}
 use Rattle.live_doors.specs.declared.views.Walk.{Walk}
 use Rattle.live_doors.specs.declared.views.Watch.{Watch}
 use Rattle.live_doors.specs.Doors.{HasNoted, MayBind}
-use Rattle.live_doors.specs.Steps.{door_at, ack_at}
-use Rattle.live_doors.specs.Kept.{EntryOk, PlanOk, PassOk}
-use Rattle.live_doors.specs.Laws.{plan_stored, seats_stay}
+use Rattle.live_doors.specs.Steps.{door_at}
+use Rattle.live_doors.specs.Kept.{PlanOk, PassOk}
+use Rattle.live_doors.specs.Laws.{plan_stored, pass_stored, seats_stay}
 use Rattle.live_pages.specs.declared.rule.Held.{Held}
 use Rattle.live_pages.specs.declared.rule.Size.{Size}
 use Rattle.live_pages.specs.declared.touch.Made.{Made}
@@ -323,18 +323,8 @@ module _ (frames cpus : ℕ) (words : List ℕ) (w : Watch) (f : ℕ) (inside : 
 
     pub pass_admitted : (q : Walk) → ((b : ℕ) → get_or q.held f None ≡ Some b → ⊥) → PassOk frames cpus words w q
         → PassOk frames cpus (set words (door_at f) (2 * (get_or w.doors f 0 / 2 + 1))) (admitted f w) q
-    pass_admitted q none ok = let n : ℕ = 2 * (get_or w.doors f 0 / 2 + 1) in record {
-      made = ok.made;
-      row = ok.row;
-      stamp = ok.stamp;
-      word = get_or-set_other words (door_at f) (ack_at frames q.cpu) n 0 (λ e. omega arith) ∙ ok.word;
-      acked = ok.acked;
-      bound = ok.bound;
-      entries = λ g b e. dite (ℕ_discrete g f)
-          (λ (same : g ≡ f). absurd (none b (subst (λ j. get_or q.held j None ≡ Some b) same e)))
-          (λ (other : g ≢ f). subst (λ j. EntryOk j (get_or w.since g 0) q.stamp b) (sym (door_else g other))
-          (ok.entries g b e));
-    }
+    pass_admitted q none ok = pass_stored frames cpus words w f (2 * (get_or w.doors f 0 / 2 + 1)) w.since q
+        (λ b e. absurd (none b e)) (λ g other. refl) inside k ok
 
 module _ (z : Size) where
   pub binds : (id f cleared : ℕ) (k : Holder) (hd : Held) (page : List ℕ) → k.hand ≡ Has f page

@@ -398,13 +398,19 @@ module _ (z : Size) where
       )
   others_given words plan hand keeper seat_of holder given log id f inside here book keeps_plan j (Spent u) other k = tt
 
+  -- what is known of who has a turn, by what it has
+  in_hand : (s : State (Option Held) View) (h : Kept z s.words s.homes s.views) (id : ℕ) {x y : Hand} → x ≡ y
+      → HandOk z.frames z.cpus s.words h.known.plan.watch h.known.holder h.known.given h.known.log id x
+      → HandOk z.frames z.cpus s.words h.known.plan.watch h.known.holder h.known.given h.known.log id y
+  in_hand s h id =
+      subst (HandOk z.frames z.cpus s.words h.known.plan.watch h.known.holder h.known.given h.known.log id)
+
   pub gives_turn : (id f : ℕ) (w : Walker) (hd : Held) → w.hand ≡ Has f hd.page
       → Allows (InOrder z) z.frames id (Passing w, (f, Some hd) ∷ []) (turn_at z.frames z.cpus f) (λ _. 0)
       (λ _. Gives (step z.frames (turn_at z.frames z.cpus f) 0 0 M.none) (Passing w, (f, Some hd) ∷ []) 0)
   gives_turn id f w hd has s h homes at fits =
       let mine = h.seats_ok id (Passing w) at in
-      let hand = subst (HandOk z.frames z.cpus s.words h.known.plan.watch h.known.holder h.known.given h.known.log id)
-      has mine.1.hand_ok in (
+      let hand = in_hand s h id has mine.1.hand_ok in (
         Passing (record w { hand = Free }),
         gives,
         tt,
@@ -435,8 +441,7 @@ module _ (z : Size) where
       (λ _. KeeperGives (step z.frames (turn_at z.frames z.cpus f) 0 0 M.none) (Keeping k, (f, Some hd) ∷ []) 0)
   keeper_gives id f k hd has s h homes at fits =
       let mine = h.seats_ok id (Keeping k) at in
-      let hand = subst (HandOk z.frames z.cpus s.words h.known.plan.watch h.known.holder h.known.given h.known.log id)
-      has mine.2 in (
+      let hand = in_hand s h id has mine.2 in (
         Keeping (record k { hand = Free }),
         gives,
         tt,

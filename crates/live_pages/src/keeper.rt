@@ -2,6 +2,8 @@
 ghost use Rattle.std.specs.Prelude.{◌≡◌, ◌<◌, ◌↔◌, length, max, IsTrue};
 ghost use Rattle.live_doors.specs.Doors.{HasNoted, IsAdmitted, MayBind};
 ghost use Rattle.live_pages.specs.Kept.{HasNoHolder};
+ghost use Rattle.live_pages.specs.Models.{KeeperModel, KeeperFits};
+ghost use Rattle.live_pages.specs.Turns.{holder_of};
 
 use crate::rule::Place;
 use live_doors::Rows;
@@ -12,13 +14,10 @@ use std::marker::Model;
 pub struct Keeper {
     pub(crate) seat: Place,
     pub(crate) rows: Rows,
-    pub(crate) cleared: u64,
+    cleared: u64,
 }
 
 impl Model for Keeper {
-    ghost use Rattle.live_pages.specs.Models.{KeeperModel, KeeperFits};
-    ghost use Rattle.live_pages.specs.Turns.{holder_of};
-
     ghost Value = { KeeperModel };
 
     ghost view = { λ k. record { table = k.seat.table_id; holder = holder_of k.seat.me.0; cleared = k.cleared } };
@@ -27,6 +26,18 @@ impl Model for Keeper {
 }
 
 impl Keeper {
+    // The keeper of this seat, which has cleared nothing.
+    pub(crate) fn new(seat: Place, rows: Rows) -> Keeper
+        requires { KeeperFits seat.me rows 0 }
+        ensures { result ≡ record { table = seat.table_id; holder = holder_of seat.me.0; cleared = 0 } }
+    {
+        Keeper {
+            seat,
+            rows,
+            cleared: 0,
+        }
+    }
+
     /// Whether the door of frame `f` admits a binding. Takes no memory and constant time. Source: own.
     pub fn is_admitted(&self, f: u32) -> bool
         requires { f < length self.now.holder.watch.doors }

@@ -69,11 +69,7 @@ fn first_keeper(alloc: Global, frames: u32, cpus: u32) -> Result<(LivePages, Kee
     let Ok((table, seat)) = Board::new(alloc, words.as_slice(), slots, &size) else {
         return Err(AllocError);
     };
-    let keeper = Keeper {
-        seat,
-        rows,
-        cleared: 0,
-    };
+    let keeper = Keeper::new(seat, rows);
     Ok((
         LivePages {
             table,
