@@ -1,7 +1,6 @@
 //! The pass of a processor.
 ghost use Rattle.std.specs.Prelude.{◌≡◌, ◌<◌, ◌↔◌, length, IsTrue};
-ghost use Rattle.live_doors.specs.Doors.{HoldsEntry, PassModel};
-ghost use Rattle.live_doors.specs.Steps.{walk_of, PassFits};
+ghost use Rattle.live_doors.specs.Doors.{HoldsEntry};
 
 use crate::entries::Entries;
 use crate::rule::Place;
@@ -17,6 +16,9 @@ pub struct Pass {
 }
 
 impl Model for Pass {
+    ghost use Rattle.live_doors.specs.Doors.{PassModel};
+    ghost use Rattle.live_doors.specs.Steps.{walk_of, PassFits};
+
     ghost Value = { PassModel };
 
     ghost view = { λ p. record { table = p.seat.table_id; walk = walk_of p.seat.me.0 } };

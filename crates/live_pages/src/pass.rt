@@ -1,8 +1,6 @@
 //! The pass of a processor.
 ghost use Rattle.std.specs.Prelude.{◌≡◌, ◌<◌, ◌↔◌, length, IsTrue};
 ghost use Rattle.live_doors.specs.Doors.{HoldsEntry};
-ghost use Rattle.live_pages.specs.Models.{PassModel, PassFits};
-ghost use Rattle.live_pages.specs.Turns.{walker_of};
 
 use crate::rule::Place;
 use live_doors::Entries;
@@ -17,6 +15,9 @@ pub struct Pass {
 }
 
 impl Model for Pass {
+    ghost use Rattle.live_pages.specs.Models.{PassModel, PassFits};
+    ghost use Rattle.live_pages.specs.Turns.{walker_of};
+
     ghost Value = { PassModel };
 
     ghost view = { λ p. record { table = p.seat.table_id; walker = walker_of p.seat.me.0 } };
