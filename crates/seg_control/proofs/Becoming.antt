@@ -23,7 +23,7 @@ use Rattle.seg_control.specs.Kept.{IsHomeOf, IsInactive, HasTable, IsNotRead, ti
 use Rattle.seg_control.specs.Next.{FitsIn, filed_word, table_for, made_active}
 use Rattle.seg_control.proofs.Paged.{table_same, table_other}
 use Rattle.seg_control.proofs.Linked.{times_same}
-use Rattle.seg_control.proofs.Calls.{sizes_kept}
+use Rattle.seg_control.proofs.Calls.{sizes_kept, kept_with}
 
 -- ---- the page table by a file map
 
@@ -379,11 +379,4 @@ module _ (now : Plain) (ast : ActiveSegs) (links : Links) (place : ℕ) (k : IsK
 pub kept_hands : (found : Option ℕ) (now : Plain) (ast : ActiveSegs) (links : Links) (pool : ℕ) → IsKept now ast links
     → IsKept now (hand_past ast pool found) links
 kept_hands None now ast links pool k = k
-kept_hands (Some place) now ast links pool k = record {
-  paged = k.paged;
-  tree = k.tree;
-  places = k.places;
-  sized =
-      k.sized;
-  linked = k.linked;
-}
+kept_hands (Some place) now ast links pool k = kept_with _ k k.paged k.linked

@@ -60,17 +60,22 @@ kept_call old now ast links place uid p home t k at used tie others marks reads 
       linked = k.linked;
     }
 
--- a change of page control alone
-pub kept_paged : (old now : Plain) (ast : ActiveSegs) (links : Links) → IsKept old ast links
-    → ArePaged now ast.entries ast.tables → IsKept now ast links
-kept_paged old now ast links k paged = record {
+-- pages and links share the list of active entries alone, and the hands of the pools are in neither
+pub kept_with : {old now : Plain} {ast : ActiveSegs} {links those : Links} (hands : List ℕ) → IsKept old ast links
+    → ArePaged now ast.entries ast.tables → AreLinked ast.entries those
+    → IsKept now (record ast { hands = hands }) those
+kept_with hands k paged linked = record {
   paged = paged;
   tree = k.tree;
   places = k.places;
-  sized =
-      k.sized;
-  linked = k.linked;
+  sized = k.sized;
+  linked = linked;
 }
+
+-- a change of page control alone
+pub kept_paged : (old now : Plain) (ast : ActiveSegs) (links : Links) → IsKept old ast links
+    → ArePaged now ast.entries ast.tables → IsKept now ast links
+kept_paged old now ast links k paged = kept_with ast.hands k paged k.linked
 
 -- and where it changes no binding, VTOC or record
 pub kept_marks : {D : Type 0} (pages : D → List (List ℕ)) (old now : Paging D) (ast : ActiveSegs) (links : Links)
@@ -93,10 +98,10 @@ tie_of now ast links place uid home t k at is h = elim h [
 ]
 
 -- and so does one that is given for a segment that is being moved
-pub tied_home : (now : Plain) (ast : ActiveSegs) (links : Links) (place uid : ℕ) (home : Home) (t : List Ptw)
+pub tied_home : {now : Plain} {ast : ActiveSegs} {links : Links} {place uid : ℕ} {home : Home} {t : List Ptw}
     → IsKept now ast links → uid_at ast.entries place ≡ Some uid → place ≡ place_of ast.entries uid
     → t ≡ table_at ast.tables place → IsHomeFor now uid home (table_of ast uid) → IsTied now uid home t
-tied_home now ast links place uid home t k at is table h =
+tied_home {now = now} {ast = ast} {links = links} {place = place} {uid = uid} {home = home} {t = t} k at is table h =
     tie_of now ast links place uid home t k at table
     (subst (IsHomeFor now uid home) (sym (table ∙ ap (table_at ast.tables) is)) h)
 
@@ -122,6 +127,17 @@ marks_left (Ok left) old now uid f ok err g u q e =
 marks_left (Err e') old now uid f ok err g u q e = inr
     (ap (λ (b : List (Option (ℕ × ℕ))). binding_at b g) (sym err) ∙ e)
 
+-- a page whose word isn't that of one on its record alone was being read into no frame, and isn't now
+pub reads_kept : (old now : Plain) (ast : ActiveSegs) (links : Links) (place uid p : ℕ) → IsKept old ast links
+    → uid_at ast.entries place ≡ Some uid → is_out (ptw_at (table_at ast.tables place) p) ≡ false
+    → reads_of now.core ≡ reads_of old.core
+    → (f u q : ℕ) → read_at (reads_of now.core) f ≡ Some (u, q)
+    → (read_at (reads_of old.core) f ≡ Some (u, q)) × (u ≡ uid → q ≢ p)
+reads_kept old now ast links place uid p k at off reads f u q e =
+    let was : read_at (reads_of old.core) f ≡ Some (u, q) =
+    sym (ap (λ (x : List (Option (ℕ × ℕ))). read_at x f) reads) ∙ e in
+    (was, none_read old ast.entries ast.tables place uid p f u q k.paged k.tree at off was)
+
 pub kept_evicted : {E : Type 0} (result : Result Left E) (old now : Plain) (ast : ActiveSegs) (links : Links)
     (place uid p f r : ℕ) (home : Home) (t u : List Ptw)
     → IsKept old ast links → uid_at ast.entries place ≡ Some uid → place < length ast.entries → t
@@ -134,12 +150,8 @@ kept_evicted result old now ast links place uid p f r home t u k at within table
     reads =
     kept_call old now ast links place uid p home u k at within tie others
     (marks_left result (bindings old.core) (bindings now.core) uid f freed kept)
-    (λ g v q e.
-    (let was : read_at (reads_of old.core) g ≡ Some (v, q) =
-    sym (ap (λ (x : List (Option (ℕ × ℕ))). read_at x g) reads) ∙ e in
-    let no : is_out (ptw_at (table_at ast.tables place) p) ≡ false =
-    ap (λ (those : List Ptw). is_out (ptw_at those p)) (sym table) ∙ ap is_out leaving in
-    (was, none_read old ast.entries ast.tables place uid p g v q k.paged k.tree at no was)))
+    (reads_kept old now ast links place uid p k at
+    (ap (λ (those : List Ptw). is_out (ptw_at those p)) (sym table) ∙ ap is_out leaving) reads)
     (λ q ne. words_left_other result t u p r word q ne ∙ ap (λ (those : List Ptw). ptw_at those q) table)
     (length_left result t u p r word ∙ ap length table)
 
@@ -249,14 +261,7 @@ lost_bindings (Err e') old now home p f e = ap (λ (s : Plain). bindings s.core)
 -- a change of what leads to the active segments alone
 pub kept_links : (now : Plain) (ast : ActiveSegs) (links those : Links) → IsKept now ast links
     → AreLinked ast.entries those → IsKept now ast those
-kept_links now ast links those k linked = record {
-  paged = k.paged;
-  tree = k.tree;
-  places = k.places;
-  sized =
-      k.sized;
-  linked = linked;
-}
+kept_links now ast links those k linked = kept_with ast.hands k k.paged linked
 
 pub same_plain : {D : Type 0} (pages : D → List (List ℕ)) (now old : Paging D) → now ≡ old → plain pages now
     ≡ plain pages old

@@ -1,9 +1,9 @@
 -- How often a list has an element that passes a test.
-use Rattle.std.proofs.Common.{◌≡◌, ℕ, suc, zero, ◌<◌, ◌≤◌, ◌+◌, Bool, true, false, cond, eqb, ltb, not, List, [], ◌∷◌}
-use Rattle.std.proofs.Common.{◌++◌, length, None, Some, IsSome, refl}
+use Rattle.std.proofs.Common.{◌≡◌, ℕ, suc, zero, ◌<◌, ◌≤◌, ◌+◌, Bool, true, false, cond, eqb, not, List, [], ◌∷◌}
+use Rattle.std.proofs.Common.{◌++◌, length, IsSome, refl}
 use Rattle.std.proofs.Common.{sym, ap, ◌∙◌, ◌||◌, arith, get_or, count_by, position, map, remove}
-use Rattle.std.specs.List.{position_or_len, list_any}
-use Rattle.std.proofs.lemmas.Bool.{eqb-true, ltb-false, not-true, both_ways}
+use Rattle.std.specs.List.{list_any}
+use Rattle.std.proofs.lemmas.Bool.{eqb-true}
 use Rattle.std.proofs.lemmas.List.Sums.{sum_by_push, sum_by-remove, sum_by-cons, prefix_len_passes}
 
 abbrev pub weight : Bool → ℕ

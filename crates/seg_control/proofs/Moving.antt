@@ -21,8 +21,9 @@ use Rattle.page_control.specs.Effects.{words_here, after_create, dropped}
 use Rattle.seg_control.specs.Control.{Links, place_of, table_of, word_of}
 use Rattle.seg_control.specs.Kept.{read_at, IsHomeFor, IsOutAt, ArePaged, IsKept}
 use Rattle.seg_control.proofs.Frames.{none_started}
-use Rattle.seg_control.proofs.Paged.{set_cases, none_read, table_same, table_other}
-use Rattle.seg_control.proofs.Calls.{sizes_kept, kept_call, length_here, words_here_other, marks_here, tied_home}
+use Rattle.seg_control.proofs.Paged.{set_cases, table_same, table_other}
+use Rattle.seg_control.proofs.Calls.{sizes_kept, kept_call, length_here, words_here_other, marks_here, reads_kept}
+use Rattle.seg_control.proofs.Calls.{tied_home}
 
 -- ---- a page is made
 
@@ -43,12 +44,8 @@ pub kept_created : {T E : Type 0} (result : Result T E) (old now : Plain) (ast :
 kept_created result old now ast links place uid p f home t u k at within table null tie others word bound lost reads =
     kept_call old now ast links place uid p home u k at within tie others
     (marks_here result (bindings old.core) (bindings now.core) uid p f bound lost)
-    (λ g v q e.
-    (let was : read_at (reads_of old.core) g ≡ Some (v, q) =
-    sym (ap (λ (x : List (Option (ℕ × ℕ))). read_at x g) reads) ∙ e in
-    let off : is_out (ptw_at (table_at ast.tables place) p) ≡ false =
-    ap (λ (those : List Ptw). is_out (ptw_at those p)) (sym table) ∙ ap is_out null in
-    (was, none_read old ast.entries ast.tables place uid p g v q k.paged k.tree at off was)))
+    (reads_kept old now ast links place uid p k at
+    (ap (λ (those : List Ptw). is_out (ptw_at those p)) (sym table) ∙ ap is_out null) reads)
     (λ q ne. words_here_other result t u p f word q ne ∙ ap (λ (those : List Ptw). ptw_at those q) table)
     (length_here result t u p f word ∙ ap length table)
 
@@ -62,11 +59,11 @@ homed_uid s uid home e = of_entry _ e
     of_entry (Some entry) e = same_Some _ _ e
 
 -- an active segment is the one of its home
-pub homed_active : (now : Plain) (ast : ActiveSegs) (links : Links) (place uid : ℕ) (home : Home) (t : List Ptw)
+pub homed_active : {now : Plain} {ast : ActiveSegs} {links : Links} {place uid : ℕ} {home : Home} {t : List Ptw}
     → IsKept now ast links → uid_at ast.entries place ≡ Some uid → place ≡ place_of ast.entries uid
     → t ≡ table_at ast.tables place → IsHomeFor now uid home (table_of ast uid) → uid_of_home now home ≡ uid
-homed_active now ast links place uid home t k at is table h =
-    homed_uid now uid home (tied_home now ast links place uid home t k at is table h).used
+homed_active {now = now} {uid = uid} {home = home} k at is table h =
+    homed_uid now uid home (tied_home k at is table h).used
 
 marks_core : (old now : Core) (f : ℕ) → now ≡ with_frame old f Free → (g u q : ℕ) → binding_at (bindings now) g
     ≡ Some (u, q) → binding_at (bindings old) g ≡ Some (u, q)
@@ -195,8 +192,8 @@ kept_words old now ast links place uid p w t u k' same at within table off is ti
     }
 
 -- the word of the page in frame f changes, and page control nothing else
-pub moved_word : {D : Type 0} (pages : D → List (List ℕ)) (old now : Paging D) (ast : ActiveSegs) (links : Links)
-    (place uid f : ℕ) (was word : Ptw) (t u : List Ptw)
+pub moved_word : {D : Type 0} {old now : Paging D} {ast : ActiveSegs} {links : Links} {place uid : ℕ} {t u : List Ptw}
+    (pages : D → List (List ℕ)) (f : ℕ) (was word : Ptw)
     → IsKept (plain pages old) ast links → now ≡ old → uid_framed (frame_at old.core f) ≡ uid
     → word_of ast uid (number_in (frame_at old.core f)) ≡ was → is_out was ≡ false
     → uid_at ast.entries place ≡ Some uid → place < length ast.entries → place ≡ place_of ast.entries uid
@@ -204,7 +201,8 @@ pub moved_word : {D : Type 0} (pages : D → List (List ℕ)) (old now : Paging 
     → IsTableOf (bindings now.core) (uid_framed (frame_at old.core f)) u
     → ((v : ℕ) (home : Home) → IsTied (plain pages old) v home t → IsTied (plain pages now) v home u)
     → IsKept (plain pages now) (with_table ast place u) links
-moved_word pages old now ast links place uid f was word t u k same own its off at within is table words tied tie =
+moved_word {old = old} {now = now} {ast = ast} {links = links} {place = place} {uid = uid} {t = t} {u = u} pages f was
+    word k same own its off at within is table words tied tie =
     let p : ℕ = number_in (frame_at old.core f) in
     kept_words (plain pages old) (plain pages now) ast links place uid p word t u k (ap (plain pages) same) at within
     table

@@ -95,6 +95,7 @@ impl<D: Drive> Segs<D> {
 
     /// Reads word `at` through the bound frame `f`, whose used mark is on then. (Source: Bensoussan, Clingen and Daley
     /// 1972.)
+    #[tactic(auto, using(crate::proofs::Calls::kept_marks))]
     pub fn word(&mut self, f: u32, at: u32) -> Word
         requires bound { is_bound (frame_at self.old.pages.core f) ≡ true }
         requires at { at < 1024 }
@@ -112,6 +113,7 @@ impl<D: Drive> Segs<D> {
 
     /// Writes `w` at word `at` through the bound frame `f`, whose marks are both on then. (Source: Bensoussan, Clingen
     /// and Daley 1972.)
+    #[tactic(auto, using(crate::proofs::Calls::kept_marks))]
     pub fn put_word(&mut self, f: u32, at: u32, w: Word)
         requires bound { is_bound (frame_at self.old.pages.core f) ≡ true }
         requires at { at < 1024 }
@@ -132,6 +134,7 @@ impl<D: Drive> Segs<D> {
 
     /// Makes the words of the bound frame `f` from `at` on 0, turns both its marks on, and tells whether the whole page
     /// is zeros then. (Source: own.)
+    #[tactic(auto, using(crate::proofs::Calls::kept_marks))]
     pub fn cut_from(&mut self, f: u32, at: u32) -> bool
         requires bound { is_bound (frame_at self.old.pages.core f) ≡ true }
         requires at { at ≤ 1024 }

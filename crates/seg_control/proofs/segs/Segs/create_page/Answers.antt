@@ -1,4 +1,4 @@
-use Rattle.std.proofs.Common.{◌≡◌, ◌∙◌, ap, List, refl}
+use Rattle.std.proofs.Common.{rules, ◌≡◌, ◌∙◌, ap, List}
 use Rattle.page_table.specs.declared.Ptw.{Ptw}
 use Rattle.page_table.specs.declared.Ptw.TheVariants.{Null}
 use Rattle.page_table.specs.PageTable.{ptw_at}
@@ -10,8 +10,7 @@ use Rattle.seg_control.proofs.segs.Segs.create_page.Goals as goal
 
 pub create_page-requires-clause-tie : goal.create_page-requires-clause-tie
 create_page-requires-clause-tie g c =
-    tied_home (plain g.D.Drive.pages c.self.inside.pages) c.self.inside.ast c.self.inside.links c.place_in-place.result
-    c.args.uid c.args.home _ c.self.invariant c.place_in-place.ensures.at c.place_in-place.ensures.is
+    tied_home c.self.invariant c.place_in-place.ensures.at c.place_in-place.ensures.is
     c.table_mut.ensures.value (rw (← c.self.view_is) at c.requires.home)
 
 pub invariant_of-self : goal.invariant_of-self
@@ -33,17 +32,6 @@ invariant_of-self g c =
 
 pub returns : goal.returns
 returns g c =
-    rw (← c.self.view_is) (record {
-      effect = c.create_page.ensures.effect;
-      word = table_is_here c.create_page.result c.self.inside.ast c.place_in-place.result c.args.uid c.args.p
-          c.args.f _ _ c.place_in-place.ensures.is c.table_mut.ensures.value c.create_page.ensures.word;
-      full = c.create_page.ensures.full;
-      words = c.create_page.ensures.words;
-      stored = c.create_page.ensures.stored;
-      bound = c.create_page.ensures.bound;
-      reads = c.create_page.ensures.reads;
-      taken = c.create_page.ensures.taken;
-      counts = c.create_page.ensures.counts;
-      drives = c.create_page.ensures.drives;
-      links = refl;
-    })
+    let word = table_is_here c.create_page.result c.self.inside.ast c.place_in-place.result c.args.uid c.args.p
+    c.args.f _ _ c.place_in-place.ensures.is c.table_mut.ensures.value c.create_page.ensures.word in
+    rw (← c.self.view_is) (search rules)

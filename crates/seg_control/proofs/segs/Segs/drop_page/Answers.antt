@@ -1,4 +1,4 @@
-use Rattle.std.proofs.Common.{sym, ℕ, subst, refl, ap, ◌∙◌, List, replicate}
+use Rattle.std.proofs.Common.{rules, sym, ℕ, subst, ap, ◌∙◌, List, replicate}
 use Rattle.page_table.specs.declared.Ptw.{Ptw}
 use Rattle.page_table.specs.declared.Ptw.TheVariants.{Null}
 use Rattle.page_table.specs.PageTable.{ptw_at}
@@ -22,18 +22,15 @@ pub drop_page-requires-clause-tie : goal.drop_page-requires-clause-tie
 drop_page-requires-clause-tie g c =
     let home = rw (← c.self.view_is) at c.requires.home in
     subst (λ (u : ℕ). IsTied (plain g.D.Drive.pages c.self.inside.pages) u c.args.home c.table_mut.result.now)
-    (sym (homed_active (plain g.D.Drive.pages c.self.inside.pages) c.self.inside.ast c.self.inside.links
-    c.place_in-place.result c.args.uid c.args.home _ c.self.invariant c.place_in-place.ensures.at
+    (sym (homed_active c.self.invariant c.place_in-place.ensures.at
     c.place_in-place.ensures.is c.table_mut.ensures.value home))
-    (tied_home (plain g.D.Drive.pages c.self.inside.pages) c.self.inside.ast c.self.inside.links
-    c.place_in-place.result c.args.uid c.args.home _ c.self.invariant c.place_in-place.ensures.at
+    (tied_home c.self.invariant c.place_in-place.ensures.at
     c.place_in-place.ensures.is c.table_mut.ensures.value home)
 
 pub invariant_of-self : goal.invariant_of-self
 invariant_of-self g c =
     let idle = rw (← c.self.view_is) at c.requires.idle in
-    let its = homed_active (plain g.D.Drive.pages c.self.inside.pages) c.self.inside.ast c.self.inside.links
-    c.place_in-place.result c.args.uid c.args.home _ c.self.invariant c.place_in-place.ensures.at
+    let its = homed_active c.self.invariant c.place_in-place.ensures.at
     c.place_in-place.ensures.is c.table_mut.ensures.value (rw (← c.self.view_is) at c.requires.home) in
     kept_dropped (plain g.D.Drive.pages c.self.inside.pages) (plain g.D.Drive.pages c.drop_page.new.self)
     c.self.inside.ast c.self.inside.links
@@ -48,23 +45,15 @@ invariant_of-self g c =
 
 pub returns : goal.returns
 returns g c =
-    let its = homed_active (plain g.D.Drive.pages c.self.inside.pages) c.self.inside.ast c.self.inside.links
-    c.place_in-place.result c.args.uid c.args.home _ c.self.invariant c.place_in-place.ensures.at
+    let its = homed_active c.self.invariant c.place_in-place.ensures.at
     c.place_in-place.ensures.is c.table_mut.ensures.value (rw (← c.self.view_is) at c.requires.home) in
-    rw (← c.self.view_is) (record {
-      effect = c.drop_page.ensures.effect
-          ∙ ap (λ (those : List Ptw). dropped (plain g.D.Drive.pages c.self.inside.pages) c.args.home c.args.p
-          (ptw_at those c.args.p))
-          (c.table_mut.ensures.value ∙ ap (table_at c.self.inside.ast.tables) c.place_in-place.ensures.is);
-      word = table_is_set c.self.inside.ast c.place_in-place.result c.args.uid c.args.p Null _ _
-          c.place_in-place.ensures.is c.table_mut.ensures.value c.drop_page.ensures.word;
-      words = subst (λ (u : ℕ). ChangesWords (plain g.D.Drive.pages c.self.inside.pages)
-          (plain g.D.Drive.pages c.drop_page.new.self) u c.args.home c.args.p (replicate 1024 0)) its
-          c.drop_page.ensures.words;
-      stored = c.drop_page.ensures.stored;
-      reads = c.drop_page.ensures.reads;
-      taken = c.drop_page.ensures.taken;
-      counts = c.drop_page.ensures.counts;
-      drives = c.drop_page.ensures.drives;
-      links = refl;
-    })
+    let effect = c.drop_page.ensures.effect
+    ∙ ap (λ (those : List Ptw). dropped (plain g.D.Drive.pages c.self.inside.pages) c.args.home c.args.p
+    (ptw_at those c.args.p))
+    (c.table_mut.ensures.value ∙ ap (table_at c.self.inside.ast.tables) c.place_in-place.ensures.is) in
+    let word = table_is_set c.self.inside.ast c.place_in-place.result c.args.uid c.args.p Null _ _
+    c.place_in-place.ensures.is c.table_mut.ensures.value c.drop_page.ensures.word in
+    let words = subst (λ (u : ℕ). ChangesWords (plain g.D.Drive.pages c.self.inside.pages)
+    (plain g.D.Drive.pages c.drop_page.new.self) u c.args.home c.args.p (replicate 1024 0)) its
+    c.drop_page.ensures.words in
+    rw (← c.self.view_is) (search rules)

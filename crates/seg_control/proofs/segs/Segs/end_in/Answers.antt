@@ -1,4 +1,4 @@
-use Rattle.std.proofs.Common.{refl}
+use Rattle.std.proofs.Common.{rules}
 use Rattle.page_control.specs.Plain.{plain}
 use Rattle.seg_control.proofs.Frames.{started_for}
 use Rattle.seg_control.proofs.Calls.{tied_home, out_of, kept_read, table_is_here}
@@ -13,8 +13,7 @@ end_in-requires-clause-out g c =
 
 pub end_in-requires-clause-tie : goal.end_in-requires-clause-tie
 end_in-requires-clause-tie g c =
-    tied_home (plain g.D.Drive.pages c.self.inside.pages) c.self.inside.ast c.self.inside.links c.place_in-place.result
-    c.args.uid c.args.home _ c.self.invariant c.place_in-place.ensures.at c.place_in-place.ensures.is
+    tied_home c.self.invariant c.place_in-place.ensures.at c.place_in-place.ensures.is
     c.table_mut.ensures.value (rw (← c.self.view_is) at c.requires.home)
 
 pub invariant_of-self : goal.invariant_of-self
@@ -30,16 +29,6 @@ invariant_of-self g c =
 
 pub returns : goal.returns
 returns g c =
-    rw (← c.self.view_is) (record {
-      effect = c.end_in.ensures.effect;
-      word = table_is_here c.end_in.result c.self.inside.ast c.place_in-place.result c.args.uid c.args.p c.args.f _ _
-          c.place_in-place.ensures.is c.table_mut.ensures.value c.end_in.ensures.word;
-      words = c.end_in.ensures.words;
-      bound = c.end_in.ensures.bound;
-      lost = c.end_in.ensures.lost;
-      reads = c.end_in.ensures.reads;
-      tables = c.end_in.ensures.tables;
-      counts = c.end_in.ensures.counts;
-      drives = c.end_in.ensures.drives;
-      links = refl;
-    })
+    let word = table_is_here c.end_in.result c.self.inside.ast c.place_in-place.result c.args.uid c.args.p c.args.f _ _
+    c.place_in-place.ensures.is c.table_mut.ensures.value c.end_in.ensures.word in
+    rw (← c.self.view_is) (search rules)

@@ -1,4 +1,3 @@
-use Rattle.std.proofs.Common.{refl}
 use Rattle.page_control.specs.Plain.{plain}
 use Rattle.seg_control.proofs.Homes.{kept_erased}
 use Rattle.seg_control.proofs.segs.Segs.erase.Goals as goal
@@ -10,20 +9,3 @@ invariant_of-self g c =
     c.self.inside.links c.args.home
     c.self.invariant only c.erase.ensures.effect c.erase.ensures.home c.erase.ensures.uids c.erase.ensures.records
     c.erase.ensures.ties
-
-pub returns : goal.returns
-returns g c =
-    rw (← c.self.view_is) (record {
-      effect = c.erase.ensures.effect;
-      drives = c.erase.ensures.drives;
-      home = c.erase.ensures.home;
-      uids = c.erase.ensures.uids;
-      maps = c.erase.ensures.maps;
-      stored = c.erase.ensures.stored;
-      zeros = c.erase.ensures.zeros;
-      words = c.erase.ensures.words;
-      used = c.erase.ensures.used;
-      taken = c.erase.ensures.taken;
-      ast = refl;
-      links = refl;
-    })

@@ -1,4 +1,4 @@
-use Rattle.std.proofs.Common.{◌≡◌, ◌∙◌, ap, sym, refl, ℕ, List, subst}
+use Rattle.std.proofs.Common.{rules, ◌≡◌, ◌∙◌, ap, sym, ℕ, List, subst}
 use Rattle.page_table.specs.declared.Ptw.{Ptw}
 use Rattle.page_table.specs.declared.Ptw.TheVariants.{Leaving}
 use Rattle.page_table.specs.PageTable.{ptw_at}
@@ -23,8 +23,7 @@ pub evict-requires-clause-tie : goal.evict-requires-clause-tie
 evict-requires-clause-tie g c =
     let own = rw (← c.self.view_is) at c.requires.own in
     subst (λ (u : ℕ). IsTied (plain g.D.Drive.pages c.self.inside.pages) u c.args.home c.table_mut.result.now) (sym own)
-    (tied_home (plain g.D.Drive.pages c.self.inside.pages) c.self.inside.ast c.self.inside.links c.place_in-place.result
-    c.args.uid c.args.home _ c.self.invariant c.place_in-place.ensures.at c.place_in-place.ensures.is
+    (tied_home c.self.invariant c.place_in-place.ensures.at c.place_in-place.ensures.is
     c.table_mut.ensures.value (rw (← c.self.view_is) at c.requires.home))
 
 pub invariant_of-self : goal.invariant_of-self
@@ -53,20 +52,9 @@ pub returns : goal.returns
 returns g c =
     let p : ℕ = number_in (frame_at c.self.inside.pages.core c.args.f) in
     let own = rw (← c.self.view_is) at c.requires.own in
-    rw (← c.self.view_is) (record {
-      zeros = c.evict.ensures.zeros;
-      effect = c.evict.ensures.effect;
-      word = table_is_left c.evict.result c.self.inside.ast c.place_in-place.result c.args.uid p
-          (record_of (plain g.D.Drive.pages c.self.inside.pages) c.args.home p) _ _ c.place_in-place.ensures.is
-          c.table_mut.ensures.value c.evict.ensures.word;
-      words = subst (λ (u : ℕ). KeepsWords (plain g.D.Drive.pages c.self.inside.pages)
-          (plain g.D.Drive.pages c.evict.new.self) u c.args.home) own c.evict.ensures.words;
-      stored = c.evict.ensures.stored;
-      freed = c.evict.ensures.freed;
-      reads = c.evict.ensures.reads;
-      taken = c.evict.ensures.taken;
-      counts = c.evict.ensures.counts;
-      no_call = c.evict.ensures.no_call;
-      drives = c.evict.ensures.drives;
-      links = refl;
-    })
+    let word = table_is_left c.evict.result c.self.inside.ast c.place_in-place.result c.args.uid p
+    (record_of (plain g.D.Drive.pages c.self.inside.pages) c.args.home p) _ _ c.place_in-place.ensures.is
+    c.table_mut.ensures.value c.evict.ensures.word in
+    let words = subst (λ (u : ℕ). KeepsWords (plain g.D.Drive.pages c.self.inside.pages)
+    (plain g.D.Drive.pages c.evict.new.self) u c.args.home) own c.evict.ensures.words in
+    rw (← c.self.view_is) (search rules)

@@ -1,4 +1,3 @@
-use Rattle.std.proofs.Common.{refl}
 use Rattle.page_control.specs.Plain.{plain}
 use Rattle.seg_control.proofs.Homes.{kept_homed}
 use Rattle.seg_control.proofs.segs.Segs.new_home.Goals as goal
@@ -11,20 +10,3 @@ invariant_of-self g c =
     c.args.volume c.args.uid c.self.invariant has c.new_home.ensures.least c.new_home.ensures.effect
     c.new_home.ensures.home c.new_home.ensures.homes
     c.new_home.ensures.uids c.new_home.ensures.tie c.new_home.ensures.ties c.new_home.ensures.records
-
-pub returns : goal.returns
-returns g c =
-    rw (← c.self.view_is) (record {
-      least = c.new_home.ensures.least;
-      none = c.new_home.ensures.none;
-      effect = c.new_home.ensures.effect;
-      drives = c.new_home.ensures.drives;
-      home = c.new_home.ensures.home;
-      uids = c.new_home.ensures.uids;
-      maps = c.new_home.ensures.maps;
-      words = c.new_home.ensures.words;
-      stored = c.new_home.ensures.stored;
-      used = c.new_home.ensures.used;
-      ast = refl;
-      links = refl;
-    })

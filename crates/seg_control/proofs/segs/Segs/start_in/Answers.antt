@@ -1,4 +1,4 @@
-use Rattle.std.proofs.Common.{◌∙◌, ap, ℕ, refl}
+use Rattle.std.proofs.Common.{◌∙◌, ap, ℕ}
 use Rattle.page_table.specs.PageTable.{ptw_at}
 use Rattle.active_segs.specs.Active.{table_at}
 use Rattle.page_control.specs.Tied.{is_out}
@@ -19,15 +19,3 @@ invariant_of-self g c =
     (ap (λ (place : ℕ). is_out (ptw_at (table_at c.self.inside.ast.tables place) c.args.p)) c.place_in-place.ensures.is
     ∙ out)
     (none_started c.self.inside.pages.core c.args.uid c.args.p first) c.start_in.ensures.reads)
-
-pub returns : goal.returns
-returns g c =
-    rw (← c.self.view_is) (record {
-      started = c.start_in.ensures.started;
-      words = c.start_in.ensures.words;
-      bindings = c.start_in.ensures.bindings;
-      reads = c.start_in.ensures.reads;
-      volumes = c.start_in.ensures.volumes;
-      ast = refl;
-      links = refl;
-    })
