@@ -1,3 +1,4 @@
+use Rattle.std.proofs.Common.{rules}
 use Rattle.page_control.specs.Plain.{plain}
 use Rattle.page_control.proofs.Facts.{tied_volume}
 use Rattle.page_control.proofs.Calls.{Creates, tie_created, others_of_created, words_created, stored_created}
@@ -20,26 +21,17 @@ created g c = record {
 pub create_at-requires-clause-volume : goal.create_at-requires-clause-volume
 create_at-requires-clause-volume g c = tied_volume g.D.Drive.pages c.args.self.now _ _ _ c.requires.tie
 
-pub returns-clause-tie : goal.returns-clause-tie
-returns-clause-tie g c = tie_created c.create_at.result (created g c)
-
-pub returns-clause-others : goal.returns-clause-others
-returns-clause-others g c = others_of_created c.create_at.result (created g c)
-
-pub returns-clause-words : goal.returns-clause-words
-returns-clause-words g c = words_created c.create_at.result (created g c)
-
-pub returns-clause-stored : goal.returns-clause-stored
-returns-clause-stored g c = stored_created c.create_at.result (created g c)
-
-pub returns-clause-bound : goal.returns-clause-bound
-returns-clause-bound g c = bound_created c.create_at.result (created g c)
-
-pub returns-clause-reads : goal.returns-clause-reads
-returns-clause-reads g c = starts_created c.create_at.result (created g c)
-
-pub returns-clause-taken : goal.returns-clause-taken
-returns-clause-taken g c = taken_created c.create_at.result (created g c)
-
-pub returns-clause-counts : goal.returns-clause-counts
-returns-clause-counts g c = counts_of_created c.create_at.result (created g c)
+pub returns : goal.returns
+returns g c =
+    let call = created g c in
+    search (
+      rules,
+      tie_created,
+      others_of_created,
+      words_created,
+      stored_created,
+      bound_created,
+      starts_created,
+      taken_created,
+      counts_of_created,
+    )

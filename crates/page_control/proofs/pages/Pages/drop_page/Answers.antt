@@ -1,3 +1,4 @@
+use Rattle.std.proofs.Common.{rules}
 use Rattle.page_control.specs.Plain.{plain, uid_of_home}
 use Rattle.page_control.proofs.Calls.{Drops, tie_dropped, others_of_dropped, words_dropped, stored_dropped}
 use Rattle.page_control.proofs.Calls.{starts_dropped, taken_dropped, counts_of_dropped}
@@ -15,23 +16,16 @@ dropped g c = record {
   word = c.drop_at.ensures.word;
 }
 
-pub returns-clause-tie : goal.returns-clause-tie
-returns-clause-tie g c = tie_dropped (dropped g c)
-
-pub returns-clause-others : goal.returns-clause-others
-returns-clause-others g c = others_of_dropped (dropped g c)
-
-pub returns-clause-words : goal.returns-clause-words
-returns-clause-words g c = words_dropped (dropped g c)
-
-pub returns-clause-stored : goal.returns-clause-stored
-returns-clause-stored g c = stored_dropped (dropped g c)
-
-pub returns-clause-reads : goal.returns-clause-reads
-returns-clause-reads g c = starts_dropped (dropped g c)
-
-pub returns-clause-taken : goal.returns-clause-taken
-returns-clause-taken g c = taken_dropped (dropped g c)
-
-pub returns-clause-counts : goal.returns-clause-counts
-returns-clause-counts g c = counts_of_dropped (dropped g c)
+pub returns : goal.returns
+returns g c =
+    let call = dropped g c in
+    search (
+      rules,
+      tie_dropped,
+      others_of_dropped,
+      words_dropped,
+      stored_dropped,
+      starts_dropped,
+      taken_dropped,
+      counts_of_dropped,
+    )

@@ -1,3 +1,4 @@
+use Rattle.std.proofs.Common.{rules}
 use Rattle.core_map.specs.CoreMap.{frame_at}
 use Rattle.page_control.specs.Plain.{plain, number_in}
 use Rattle.page_control.specs.Tied.{uid_in}
@@ -12,26 +13,7 @@ evicted : (g : _) (c : goal.After-leave g)
     (number_in (frame_at c.args.self.now.core c.args.f)) c.args.f c.leave.result
 evicted g c = record { tie = c.requires.tie; leaving = c.requires.leaving; left = c.leave.ensures.left }
 
-pub returns-clause-tie : goal.returns-clause-tie
-returns-clause-tie g c = tie_left c.leave.result (evicted g c)
-
-pub returns-clause-others : goal.returns-clause-others
-returns-clause-others g c = others_left c.leave.result (evicted g c)
-
-pub returns-clause-words : goal.returns-clause-words
-returns-clause-words g c = words_of_left c.leave.result (evicted g c)
-
-pub returns-clause-stored : goal.returns-clause-stored
-returns-clause-stored g c = stored_left c.leave.result (evicted g c)
-
-pub returns-clause-freed : goal.returns-clause-freed
-returns-clause-freed g c = freed_left c.leave.result (evicted g c)
-
-pub returns-clause-reads : goal.returns-clause-reads
-returns-clause-reads g c = starts_left c.leave.result (evicted g c)
-
-pub returns-clause-taken : goal.returns-clause-taken
-returns-clause-taken g c = taken_left c.leave.result (evicted g c)
-
-pub returns-clause-counts : goal.returns-clause-counts
-returns-clause-counts g c = counts_left c.leave.result (evicted g c)
+pub returns : goal.returns
+returns g c =
+    let call = evicted g c in
+    search (rules, tie_left, others_left, words_of_left, stored_left, freed_left, starts_left, taken_left, counts_left)
