@@ -4,6 +4,7 @@ use Rattle.std.proofs.Common.{IsSome, IfSome, All, is_some, refl, sym}
 use Rattle.std.proofs.Common.{ap, subst, ◌∙◌, arith, get_or, set, sum, take, drop, []}
 use Rattle.std.proofs.lemmas.Bool.{both_ways}
 use Rattle.std.proofs.lemmas.List.{length-set, length-drop, length-take-le, get_or-take, get_or-drop, get_or_read}
+use Rattle.std.proofs.lemmas.List.{get_or_default}
 use Rattle.bitmap.specs.Bitmap.{in_use, IsLeastFree as IsFirstFree}
 use Rattle.page_table.specs.declared.Ptw.{Ptw}
 use Rattle.active_segs.specs.declared.Entry.{Entry}
@@ -29,6 +30,22 @@ pub searched_within : (xs : List (Option Entry)) (index : Pairs) (uid : ℕ) (r 
     → IfSome r (λ p. p < length xs)
 searched_within xs index uid None indexed is = tt
 searched_within xs index uid (Some p) indexed is = used_within xs p uid ((indexed.places p uid).0 (sym is))
+
+-- ---- a place that is read, where something is active
+
+pub record HasEntry (xs : List (Option Entry)) (place : ℕ) (entry : Entry) : Type 0 where
+  pub within : place < length xs
+  pub is : entry_at xs place ≡ Some entry
+
+pub used_entry : {inside old : ActiveSegs} {place : ℕ} {x : Option Entry} {entry : Entry} → inside ≡ old
+    → place < length old.entries → x ≡ get_or inside.entries place x → x ≡ Some entry
+    → HasEntry inside.entries place entry
+used_entry {inside = inside} {place = place} {x = x} view lt read is =
+    let within : place < length inside.entries = subst (λ (v : ActiveSegs). place < length v.entries) (sym view) lt in
+    record {
+      within = within;
+      is = sym (get_or_default inside.entries place x None within) ∙ sym read ∙ is;
+    }
 
 -- ---- the calls
 

@@ -196,6 +196,38 @@ module _ (xs : List (Option Entry)) (maps : List (List Bool)) (notes : AreNoted 
   flag_here r p b lt within = ap (λ (m : List Bool). in_use m p) (map_here r p b lt)
       ∙ get_or-set_same (map_of maps r) p b false within
 
+  -- what is active in place p changes, and the flag of p in the map of its superior: the maps are as many and as long
+  -- as before, and no other flag has changed
+  noted_with : (new : Option Entry) (above : Option ℕ) (p : ℕ) (b : Bool)
+      → ((place : ℕ) → place < length xs
+      → (in_use (map_of (noted maps above p b) place) p ≡ false) ↔ IsInferior (set xs p new) place p)
+      → ((place q : ℕ) → q ≢ p → IsInferior xs place q → IsInferior (set xs p new) place q)
+      → ((place q : ℕ) → q ≢ p → IsInferior (set xs p new) place q → IsInferior xs place q)
+      → AreNoted (set xs p new) (noted maps above p b)
+  noted_with new above p b here still was =
+      let size : length (set xs p new) ≡ length xs = length-set xs p new in
+      let many : length maps ≡ length xs = notes.maps in
+      record {
+        maps = as_many above p b ∙ many ∙ sym size;
+        as_long = λ place within. as_long_still above p b place (omega arith) ∙ notes.as_long place (omega arith)
+            ∙ sym size;
+        free = λ place q within within_q. elim (cases_eq q p) [
+          | inl same ↦
+              subst (λ (k : ℕ). (in_use (map_of (noted maps above p b) place) k ≡ false)
+              ↔ IsInferior (set xs p new) place k) (sym same)
+              (here place (omega arith))
+          | inr off ↦
+              (let kept : in_use (map_of (noted maps above p b) place) q ≡ in_use (map_of maps place) q =
+              elsewhere above p b place q (omega arith) off in
+              let old : (in_use (map_of maps place) q ≡ false) ↔ IsInferior xs place q =
+              notes.free place q (omega arith) (omega arith) in (
+                λ h. still place q off (old.0 (sym kept ∙ h)),
+                λ h. kept
+                    ∙ old.1 (was place q off h),
+              ))
+        ];
+      }
+
   -- ---- a segment becomes active
 
   module _ (tree : IsTree xs) (p uid : ℕ) (lt : p < length xs) (free : entry_at xs p ≡ None)
@@ -273,29 +305,8 @@ module _ (xs : List (Option Entry)) (maps : List (List Bool)) (notes : AreNoted 
         → AreNoted (set xs p (Some (record { uid = uid; superior = superior }))) (noted maps above p false)
     unfolding with_new
     noted_activated superior above placed =
-        let new : Option Entry = Some (record { uid = uid; superior = superior }) in
-        let size : length (set xs p new) ≡ length xs = length-set xs p new in
-        let many : length maps ≡ length xs = notes.maps in
-        record {
-          maps = as_many above p false ∙ many ∙ sym size;
-          as_long = λ place within. as_long_still above p false place (omega arith) ∙ notes.as_long place (omega arith)
-              ∙ sym size;
-          free = λ place q within within_q. elim (cases_eq q p) [
-            | inl same ↦
-                subst (λ (k : ℕ). (in_use (map_of (noted maps above p false) place) k ≡ false)
-                ↔ IsInferior (set xs p new) place k) (sym same)
-                (at_new superior above place (omega arith) placed)
-            | inr off ↦
-                (let kept : in_use (map_of (noted maps above p false) place) q ≡ in_use (map_of maps place) q =
-                elsewhere above p false place q (omega arith) off in
-                let old : (in_use (map_of maps place) q ≡ false) ↔ IsInferior xs place q =
-                notes.free place q (omega arith) (omega arith) in (
-                  λ h. still_inferior superior place q off (old.0 (sym kept ∙ h)),
-                  λ h. kept
-                      ∙ old.1 (was_inferior superior place q off h),
-                ))
-          ];
-        }
+        noted_with (Some (record { uid = uid; superior = superior })) above p false
+        (λ place within. at_new superior above place within placed) (still_inferior superior) (was_inferior superior)
 
   -- ---- nothing is active in a place any more
 
@@ -339,29 +350,8 @@ module _ (xs : List (Option Entry)) (maps : List (List Bool)) (notes : AreNoted 
         → IsSuperiorPlace xs superior above
         → AreNoted (set xs p None) (noted maps above p true)
     noted_deactivated superior above is_superior placed =
-        let size : length (set xs p None) ≡ length xs = length-set xs p None in
-        let many : length maps ≡ length xs = notes.maps in
-        record {
-          maps = as_many above p true ∙ many ∙ sym size;
-          as_long = λ place within. as_long_still above p true place (omega arith) ∙ notes.as_long place (omega arith)
-              ∙ sym size;
-          free = λ place q within within_q. elim (cases_eq q p) [
-            | inl same ↦ (
-              λ h.
-                  (let off : in_use (map_of (noted maps above p true) place) p ≡ false =
-                  subst (λ (k : ℕ). in_use (map_of (noted maps above p true) place) k ≡ false) same h in
-                  absurd (not_at_gone superior above place (omega arith) is_superior placed off)),
-              λ h. absurd (none-some h.0 (sym (superior_set xs p None lt)
-                  ∙ subst (λ (k : ℕ). superior_at (set xs p None) k ≡ Some h.0) same h.2)),
-            )
-            | inr off ↦
-                (let kept : in_use (map_of (noted maps above p true) place) q ≡ in_use (map_of maps place) q =
-                elsewhere above p true place q (omega arith) off in
-                let old : (in_use (map_of maps place) q ≡ false) ↔ IsInferior xs place q =
-                notes.free place q (omega arith) (omega arith) in (
-                  λ h. inferior_left place q off (old.0 (sym kept ∙ h)),
-                  λ h. kept
-                      ∙ old.1 (inferior_before place q off h),
-                ))
-          ];
-        }
+        noted_with None above p true
+        (λ place within. (
+          λ off. absurd (not_at_gone superior above place within is_superior placed off),
+          λ h. absurd (none-some h.0 (sym (superior_set xs p None lt) ∙ h.2)),
+        )) inferior_left inferior_before

@@ -172,21 +172,25 @@ module _ (sizes : List ℕ) (four : length sizes ≡ 4) where
       ∙ of_the_rest (size_of sizes 0) (blank 4) last_three place (omega arith)
       ∙ ap (λ (k : ℕ). table_at last_three (place - k)) n
 
+  -- past a pool come the tables of the next
+  past : (pool words : ℕ) (rest : List (List Ptw)) (place : ℕ) → pool < 4 → first_of sizes (suc pool) ≤ place
+      → (first_of sizes pool ≤ place → table_at (null_tables sizes) place
+      ≡ table_at (replicate (size_of sizes pool) (blank words) ++ rest) (place - first_of sizes pool))
+      → table_at (null_tables sizes) place ≡ table_at rest (place - first_of sizes (suc pool))
+  past pool words rest place lt le here =
+      let next : first_of sizes (suc pool) ≡ first_of sizes pool + size_of sizes pool =
+      first_more sizes pool (omega arith) in
+      let n : place - first_of sizes pool - size_of sizes pool ≡ place - first_of sizes (suc pool) = omega arith in
+      here (omega arith) ∙ of_the_rest (size_of sizes pool) (blank words) rest (place - first_of sizes pool)
+      (omega arith) ∙ ap (table_at rest) n
+
   past_second : (place : ℕ) → first_of sizes 2 ≤ place → table_at (null_tables sizes) place
       ≡ table_at last_two (place - first_of sizes 2)
-  past_second place le =
-      let b : first_of sizes 2 ≡ first_of sizes 1 + size_of sizes 1 = first_more sizes 1 (omega arith) in
-      let n : place - first_of sizes 1 - size_of sizes 1 ≡ place - first_of sizes 2 = omega arith in
-      past_first place (omega arith) ∙ of_the_rest (size_of sizes 1) (blank 16) last_two (place - first_of sizes 1)
-      (omega arith) ∙ ap (table_at last_two) n
+  past_second place le = past 1 16 last_two place (omega arith) le (past_first place)
 
   past_third : (place : ℕ) → first_of sizes 3 ≤ place → table_at (null_tables sizes) place
       ≡ table_at last (place - first_of sizes 3)
-  past_third place le =
-      let c : first_of sizes 3 ≡ first_of sizes 2 + size_of sizes 2 = first_more sizes 2 (omega arith) in
-      let n : place - first_of sizes 2 - size_of sizes 2 ≡ place - first_of sizes 3 = omega arith in
-      past_second place (omega arith) ∙ of_the_rest (size_of sizes 2) (blank 64) last (place - first_of sizes 2)
-      (omega arith) ∙ ap (table_at last) n
+  past_third place le = past 2 64 last place (omega arith) le (past_second place)
 
   pub are_null : AreNullTables sizes (null_tables sizes)
   are_null zero place lt in_pool =

@@ -89,7 +89,7 @@ impl Ast {
     {
         let total = pools::total(&pools);
         let used = pools::no_marks(alloc, &pools)?;
-        let entries = pools::no_entries(alloc, total as usize)?;
+        let entries = vec![in alloc; None; total as usize]?;
         let tables = pools::null_tables(alloc, &pools)?;
         let inferiors = inferiors::no_inferiors(alloc, total)?;
         let index = Index::new(alloc, total as usize)?;

@@ -32,17 +32,6 @@ pub(crate) fn no_marks(alloc: Global, sizes: &[u32]) -> Result<Vec<Bitmap>, NoMe
     Ok(used)
 }
 
-/// Places in which nothing is active.
-pub(crate) fn no_entries(alloc: Global, count: usize) -> Result<Vec<Option<Entry>>, NoMemory>
-    ensures { IfOk result (λ entries. entries.items ≡ replicate count None) }
-{
-    let mut entries = Vec::with_capacity(alloc, count)?;
-    for _place in 0..count {
-        entries.push_reserved(None);
-    }
-    Ok(entries)
-}
-
 /// A page table for each place, of as many words as its pool says, each of them `Null`.
 pub(crate) fn null_tables(alloc: Global, sizes: &[u32]) -> Result<Vec<PageTable>, NoMemory>
     requires four { length sizes.now ≡ 4 }

@@ -1,4 +1,4 @@
-use Rattle.std.proofs.Common.{◌≡◌, ◌∙◌, ℕ, List, sym, subst, sum, replicate, true, None, ap, arith}
+use Rattle.std.proofs.Common.{◌≡◌, ◌∙◌, ℕ, List, sym, subst, sum, replicate, true, None, ap, arith, rules}
 use Rattle.page_table.specs.declared.Ptw.{Ptw}
 use Rattle.active_segs.specs.Active.{AreNullTables}
 use Rattle.active_segs.proofs.NewLemmas.{kept_new, are_null}
@@ -7,10 +7,11 @@ use Rattle.active_segs.proofs.Ast.new.Goals as goal
 pub invariant_of-result : goal.invariant_of-result
 invariant_of-result c =
     let total : c.total-total.result ≡ sum c.args.pools = c.total-total.ensures in
+    let none : c.in_ok-entries.entries.items ≡ replicate c.total-total.result None = search rules in
     kept_new c.args.pools c.in_ok-used.used.items c.in_ok-entries.entries.items c.in_ok-tables.tables.items
     c.in_ok-inferiors.inferiors.items
     c.in_ok-index.index
-    (omega arith) c.requires c.in_ok-used.ensures (c.in_ok-entries.ensures ∙ ap (λ (n : ℕ). replicate n None) total)
+    (omega arith) c.requires c.in_ok-used.ensures (none ∙ ap (λ (n : ℕ). replicate n None) total)
     c.in_ok-tables.ensures
     (c.in_ok-inferiors.ensures ∙ ap (λ (n : ℕ). replicate n (replicate n true)) total) c.in_ok-index.ensures.empty
     (c.in_ok-index.ensures.room ∙ total)
