@@ -1,7 +1,7 @@
 //! The places of the four pools, and the maps of which are used.
 
 ghost use Rattle.std.specs.Prelude.{◌≡◌, ◌<◌, ◌≤◌, ◌+◌, true, false, length, sum, vec_len, vec_capacity, map};
-ghost use Rattle.std.specs.Prelude.{replicate, None, IfOk, OnOk, ◌++◌};
+ghost use Rattle.std.specs.Prelude.{replicate, IfOk, OnOk, ◌++◌};
 ghost use Rattle.page_table.specs.declared.Ptw.TheVariants.{Null};
 ghost use Rattle.active_segs.specs.Active.{null_tables};
 ghost use Rattle.bitmap.specs.Bitmap.{in_use};

@@ -36,7 +36,7 @@ use page_table::{PageTable, Ptw};
 use site_io::Failed;
 use std::alloc::Global;
 use std::marker::Model;
-use volumes::{Drive, Volumes};
+use volumes::{Drive, Volumes, zero_pages};
 
 /// The frames of core with their pages, and the volumes, seen as the core map, the words of each frame and the volumes.
 #[derive(Drop)]
@@ -709,17 +709,6 @@ impl<D: Drive> Pages<D> {
         }
         Ok(())
     }
-}
-
-/// As many pages of zeros.
-fn zero_pages(alloc: Global, count: u32) -> Result<Vec<Page>, NoMemory>
-    ensures { IfOk result (λ pages. pages.items ≡ replicate count (replicate 1024 0)) }
-{
-    let mut pages = Vec::with_capacity(alloc, count as usize)?;
-    for _ in 0..count {
-        pages.push_reserved(Page::zero(alloc)?);
-    }
-    Ok(pages)
 }
 
 /// The record that the word of page `p` names.

@@ -59,8 +59,8 @@ impl CoreDrive {
     }
 }
 
-/// As many pages of zeros.
-fn zero_pages(alloc: Global, count: u32) -> Result<Vec<Page>, NoMemory>
+/// As many pages of zeros. `NoMemory` is want of memory. It takes 8 KiB for each page. (Source: own.)
+pub fn zero_pages(alloc: Global, count: u32) -> Result<Vec<Page>, NoMemory>
     ensures { IfOk result (λ pages. pages.items ≡ replicate count (replicate 1024 0)) }
 {
     let mut pages = Vec::with_capacity(alloc, count as usize)?;

@@ -11,7 +11,7 @@ mod core_drive;
 mod drive;
 mod volumes;
 
-pub use core_drive::CoreDrive;
+pub use core_drive::{CoreDrive, zero_pages};
 pub use drive::{Drive, FailLine};
 pub use no_memory::NoMemory;
 pub use volumes::Volumes;
