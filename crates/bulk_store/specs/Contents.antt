@@ -1,6 +1,8 @@
 -- What a bulk store consists of: the pages of its two drives and the list of what is held (own).
 use Rattle.std.specs.Prelude.{◌≡◌, ◌<◌, ◌≤◌, ◌^◌, ◌⊎◌, ℕ, Bool, List, [], false, nat_lt, length, slice_index_or}
-use Rattle.std.specs.Prelude.{slice_set, if◌then◌else◌, Option, None, Some}
+use Rattle.std.specs.Prelude.{slice_set, if◌then◌else◌, Option, None, Some, IsTrue, OnErr, Result}
+use Rattle.site_io.specs.Faults.{Rose}
+use Rattle.site_io.specs.declared.stream.Failed.{Failed}
 use Rattle.volumes.specs.declared.drive.FailLine.{FailLine}
 use Rattle.volumes.specs.FailLine.{HasFewFaults}
 use Rattle.volumes.specs.FullPages.{HaveFullPages}
@@ -69,3 +71,17 @@ pub record GoesOn {X : Type 0} (pages : X → List (List ℕ)) (plan : X → Opt
   pub grows : faults old ≤ faults new
   pub few : HasFewFaults (plan old) (faults old) → HasFewFaults (plan new) (faults new)
   pub full : HaveFullPages (pages old) → HaveFullPages (pages new)
+
+-- besides what a write of record r stores: what a failed one leaves; both drives go on; and a write that needs the fast
+-- store alone leaves the disk as it is, and fails by the fast store
+pub record HasWritten {F D : Type 0} (fast_pages : F → List (List ℕ)) (fast_plan : F → Option (List FailLine))
+    (fast_faults : F → ℕ) (disk_pages : D → List (List ℕ)) (disk_plan : D → Option (List FailLine))
+    (disk_faults : D → ℕ) (old new : Parts F D) (r : ℕ) (result : Result (Unit {0}) Failed) : Type 0 where
+  pub err : OnErr result (AfterFailed (contents fast_pages disk_pages old) r (contents fast_pages disk_pages new))
+  pub fast : GoesOn fast_pages fast_plan fast_faults old.fast new.fast
+  pub disk : GoesOn disk_pages disk_plan disk_faults old.disk new.disk
+  pub alone : IsTrue (is_fast_write old.table.room old.table.held r) → new.disk ≡ old.disk
+  pub cause : IsTrue (is_fast_write old.table.room old.table.held r)
+      → OnErr result (Rose (fast_faults old.fast) (fast_faults new.fast))
+  pub rose : OnErr result (Rose (fast_faults old.fast) (fast_faults new.fast)
+      ⊎ Rose (disk_faults old.disk) (disk_faults new.disk))

@@ -1,9 +1,9 @@
-ghost use Rattle.std.specs.Prelude.{◌≡◌, ◌<◌, ◌⊎◌, Option, None, IfSome, IfNone, length, OnOk, OnErr, IsTrue};
+ghost use Rattle.std.specs.Prelude.{◌≡◌, ◌<◌, ◌⊎◌, None, IfSome, IfNone, length, OnOk, OnErr};
 ghost use Rattle.site_io.specs.Faults.{Rose};
-ghost use Rattle.bulk_store.specs.Held.{place_of, is_fast_write};
+ghost use Rattle.bulk_store.specs.Held.{place_of};
 ghost use Rattle.bulk_store.specs.Pages.{page_of};
 ghost use Rattle.bulk_store.specs.Contents.{contents, IsStore, GoesOn};
-ghost use Rattle.bulk_store.specs.Contents.{gave_up_oldest, took_in, wrote, wrote_new, AfterFailed};
+ghost use Rattle.bulk_store.specs.Contents.{gave_up_oldest, took_in, wrote, wrote_new, HasWritten};
 
 use crate::index::Index;
 use mword::Page;
@@ -64,16 +64,7 @@ impl<F: Drive, D: Drive> Parts<F, D> {
         requires within { r < length (D.pages self.old.disk) }
         ensures ok { OnOk result (contents F.pages D.pages self.new
             ≡ wrote_new (contents F.pages D.pages self.old) r from.now) }
-        ensures err { OnErr result (AfterFailed (contents F.pages D.pages self.old) r
-            (contents F.pages D.pages self.new)) }
-        ensures fast { GoesOn F.pages F.plan F.faults self.old.fast self.new.fast }
-        ensures disk { GoesOn D.pages D.plan D.faults self.old.disk self.new.disk }
-        ensures alone { IsTrue (is_fast_write self.old.table.room self.old.table.held r)
-            → self.new.disk ≡ self.old.disk }
-        ensures cause { IsTrue (is_fast_write self.old.table.room self.old.table.held r)
-            → OnErr result (Rose (F.faults self.old.fast) (F.faults self.new.fast)) }
-        ensures rose { OnErr result (Rose (F.faults self.old.fast) (F.faults self.new.fast)
-            ⊎ Rose (D.faults self.old.disk) (D.faults self.new.disk)) }
+        ensures written { HasWritten F.pages F.plan F.faults D.pages D.plan D.faults self.old self.new r result }
     {
         if self.table.has_free_place() {
             return self.take_in(r, from);
@@ -88,16 +79,7 @@ impl<F: Drive, D: Drive> Parts<F, D> {
         requires within { r < length (D.pages self.old.disk) }
         ensures ok { OnOk result (contents F.pages D.pages self.new
             ≡ wrote (contents F.pages D.pages self.old) r from.now) }
-        ensures err { OnErr result (AfterFailed (contents F.pages D.pages self.old) r
-            (contents F.pages D.pages self.new)) }
-        ensures fast { GoesOn F.pages F.plan F.faults self.old.fast self.new.fast }
-        ensures disk { GoesOn D.pages D.plan D.faults self.old.disk self.new.disk }
-        ensures alone { IsTrue (is_fast_write self.old.table.room self.old.table.held r)
-            → self.new.disk ≡ self.old.disk }
-        ensures cause { IsTrue (is_fast_write self.old.table.room self.old.table.held r)
-            → OnErr result (Rose (F.faults self.old.fast) (F.faults self.new.fast)) }
-        ensures rose { OnErr result (Rose (F.faults self.old.fast) (F.faults self.new.fast)
-            ⊎ Rose (D.faults self.old.disk) (D.faults self.new.disk)) }
+        ensures written { HasWritten F.pages F.plan F.faults D.pages D.plan D.faults self.old self.new r result }
     {
         match self.table.place(r) {
             Some(place) => self.fast.write_page(place, from),

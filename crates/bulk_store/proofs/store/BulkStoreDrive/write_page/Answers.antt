@@ -10,11 +10,11 @@ pub invariant_of-self : goal.invariant_of-self
 invariant_of-self g c =
     let within = within_disk g.F.Drive.pages g.D.Drive.pages _ _ _ _ c.args.r c.self.view_is c.requires in (
       stays_store c.write.result _ _ c.args.r c.args.from.now c.self.invariant.0 within c.write.ensures.ok
-          c.write.ensures.err,
-      c.write.ensures.fast.few c.self.invariant.1,
-      c.write.ensures.disk.few c.self.invariant.2,
-      c.write.ensures.fast.full c.self.invariant.3,
-      c.write.ensures.disk.full c.self.invariant.4,
+          c.write.ensures.written.err,
+      c.write.ensures.written.fast.few c.self.invariant.1,
+      c.write.ensures.written.disk.few c.self.invariant.2,
+      c.write.ensures.written.fast.full c.self.invariant.3,
+      c.write.ensures.written.disk.full c.self.invariant.4,
     )
 
 pub returns-clause-ok : goal.returns-clause-ok
@@ -32,11 +32,11 @@ returns-clause-list g c =
 pub returns-clause-err : goal.returns-clause-err
 returns-clause-err g c =
     rw (← c.self.view_is) (on_err c.write.result (λ is. (has_failed _ _ c.args.r c.self.invariant.0 is).pages)
-    c.write.ensures.err)
+    c.write.ensures.written.err)
 
 pub returns-clause-full : goal.returns-clause-full
 returns-clause-full g c =
     let within = within_disk g.F.Drive.pages g.D.Drive.pages _ _ _ _ c.args.r c.self.view_is c.requires in
     pages_full _ (stays_store c.write.result _ _ c.args.r c.args.from.now c.self.invariant.0 within c.write.ensures.ok
-    c.write.ensures.err)
-    (c.write.ensures.fast.full c.self.invariant.3) (c.write.ensures.disk.full c.self.invariant.4)
+    c.write.ensures.written.err)
+    (c.write.ensures.written.fast.full c.self.invariant.3) (c.write.ensures.written.disk.full c.self.invariant.4)
