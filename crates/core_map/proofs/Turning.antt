@@ -135,32 +135,23 @@ way_ahead n hand f le = rw (le-leb hand f le) refl
 way_behind : (n hand f : ℕ) → f < hand → way n hand f ≡ n + f - hand
 way_behind n hand f lt = rw (lt-leb hand f lt) refl
 
+-- what is nearer than a frame ahead of the hand is between the two
+nearer_ahead : (n hand f i : ℕ) → hand ≤ n → hand ≤ f → f < n → i < n → way n hand i < way n hand f
+    → (hand ≤ i) × (i < f)
+nearer_ahead n hand f i fits above below lt near = elim (below_or_past i hand) [
+  | inl under ↦ absurd (omega (arith, near, way_ahead n hand f above, way_behind n hand i under))
+  | inr over ↦ (over, omega (arith, near, way_ahead n hand f above, way_ahead n hand i over))
+]
+
 first_ahead : (p : Frame → Bool) (frames : List Frame) (hand f : ℕ) → hand ≤ length frames
     → IsFirst p frames hand (length frames) f
     → IsFirstFromHand (core_of frames hand) p f
 first_ahead p frames hand f fits h = record {
   within = h.below;
   here = h.here;
-  before = λ i lt near. elim (below_or_past i hand) [
-    | inl under ↦ absurd (omega (
-      arith,
-      near,
-      lt,
-      fits,
-      h.above,
-      h.below,
-      way_ahead (length frames) hand f h.above,
-      way_behind (length frames) hand i under,
-    ))
-    | inr over ↦ h.before i over (omega (
-      arith,
-      near,
-      h.above,
-      way_ahead (length frames) hand f h.above,
-      way_ahead
-          (length frames) hand i over,
-    ))
-  ];
+  before = λ i lt near.
+      (let between = nearer_ahead (length frames) hand f i fits h.above h.below lt near in
+      h.before i between.0 between.1);
 }
 
 first_behind : (p : Frame → Bool) (frames : List Frame) (hand f : ℕ) → hand ≤ length frames
@@ -190,25 +181,9 @@ passes_ahead : (old new : List Frame) (hand f : ℕ) → hand ≤ length old →
     → PassesOver (core_of old hand) new f
 passes_ahead old new hand f fits h = record {
   first = first_ahead is_idle old hand f fits h.first;
-  passed = λ i lt near. elim (below_or_past i hand) [
-    | inl under ↦ absurd (omega (
-      arith,
-      near,
-      lt,
-      fits,
-      h.first.above,
-      h.first.below,
-      way_ahead (length old) hand f h.first.above,
-      way_behind (length old) hand i under,
-    ))
-    | inr over ↦ h.marks.inside i over (omega (
-      arith,
-      near,
-      h.first.above,
-      way_ahead (length old) hand f h.first.above,
-      way_ahead (length old) hand i over,
-    ))
-  ];
+  passed = λ i lt near.
+      (let between = nearer_ahead (length old) hand f i fits h.first.above h.first.below lt near in
+      h.marks.inside i between.0 between.1);
   others = λ i lt far. elim (below_or_past i hand) [
     | inl under ↦ h.marks.before i under
     | inr over ↦ h.marks.after i (omega (
