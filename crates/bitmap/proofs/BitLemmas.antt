@@ -1,6 +1,6 @@
 use Rattle.std.proofs.Common.{◌≡◌, ◌≢◌, ℕ, suc, zero, ◌+◌, ◌/◌, ◌%◌, ◌<◌, Bool, true, false, cond, List, [], ◌∷◌}
 use Rattle.std.proofs.Common.{length, refl, sym, ◌∙◌, arith, get_or, set, add-one, inl, inr, slice_index, count_by}
-use Rattle.std.specs.Int.{w64}
+use Rattle.std.specs.Int.{bit_at, w64}
 use Rattle.std.proofs.lemmas.Bool.{cases_eq}
 use Rattle.std.proofs.lemmas.List.{get_or-set_same, get_or-set_other, length-set, ext_get_or, length_push}
 use Rattle.std.proofs.lemmas.List.{get_or_append_left, get_or_push}
@@ -44,32 +44,27 @@ off_without_bit ws r lt = rw (
       (r % 64) (omega arith),
 ) refl
 
--- every other bit is as before
-pub on_with_other : (ws : List ℕ) (r k : ℕ) → r / 64 < length ws → k ≢ r → bit_on (with_bit ws r) k ≡ bit_on ws k
-unfolding bit_on with_bit
-on_with_other ws r k lt ne = elim (cases_eq (k / 64) (r / 64)) [
+-- every other bit is as before, where it is so in the word that changes
+on_other : (ws : List ℕ) (word r k : ℕ) → r / 64 < length ws → k ≢ r
+    → (k % 64 ≢ r % 64 → bit_at word (k % 64) ≡ bit_at (slice_index ws (r / 64)) (k % 64))
+    → bit_on (set ws (r / 64) word) k ≡ bit_on ws k
+unfolding bit_on
+on_other ws word r k lt ne same = elim (cases_eq (k / 64) (r / 64)) [
   | inl e ↦ (let other : k % 64 ≢ r % 64 = omega arith in
-      rw (
-        e,
-        get_or-set_same ws (r / 64) _ 0 lt,
-        bit_at_set_other w64 (slice_index ws (r / 64)) (r % 64) (omega arith)
-            (k % 64) other,
-      ) refl)
-  | inr n ↦ rw (get_or-set_other ws (r / 64) (k / 64) _ 0 n) refl
+      rw (e, get_or-set_same ws (r / 64) word 0 lt, same other) refl)
+  | inr n ↦ rw (get_or-set_other ws (r / 64) (k / 64) word 0 n) refl
 ]
 
+pub on_with_other : (ws : List ℕ) (r k : ℕ) → r / 64 < length ws → k ≢ r → bit_on (with_bit ws r) k ≡ bit_on ws k
+unfolding with_bit
+on_with_other ws r k lt ne =
+    on_other ws _ r k lt ne (bit_at_set_other w64 (slice_index ws (r / 64)) (r % 64) (omega arith) (k % 64))
+
 pub on_without_other : (ws : List ℕ) (r k : ℕ) → r / 64 < length ws → k ≢ r → bit_on (without_bit ws r) k ≡ bit_on ws k
-unfolding bit_on without_bit
-on_without_other ws r k lt ne = elim (cases_eq (k / 64) (r / 64)) [
-  | inl e ↦ (let other : k % 64 ≢ r % 64 = omega arith in
-      rw (
-        e,
-        get_or-set_same ws (r / 64) _ 0 lt,
-        bit_at_clear_other w64 (slice_index ws (r / 64)) (r % 64)
-            (omega arith) (k % 64) (omega arith) other,
-      ) refl)
-  | inr n ↦ rw (get_or-set_other ws (r / 64) (k / 64) _ 0 n) refl
-]
+unfolding without_bit
+on_without_other ws r k lt ne =
+    on_other ws _ r k lt ne (bit_at_clear_other w64 (slice_index ws (r / 64)) (r % 64) (omega arith) (k % 64)
+    (omega arith))
 
 -- a word of ones has every bit on
 pub on_in_full_word : (ws : List ℕ) (r : ℕ) → slice_index ws (r / 64) ≡ 18446744073709551615 → bit_on ws r ≡ true

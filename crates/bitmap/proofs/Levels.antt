@@ -42,6 +42,35 @@ full_other : (b : Bool) (full : List ℕ) (w k : ℕ) → w / 64 < length full �
 full_other true full w k within ne = on_with_other full w k within ne
 full_other false full w k within ne = refl
 
+-- the two levels after bit r changes, and the bit of its word above
+levels_after : (ws full now above : List ℕ) (size used count r : ℕ) → HasTwoLevels ws full size used → r < size
+    → length now ≡ length ws → length above ≡ length full
+    → ((k : ℕ) → k ≢ r → bit_on now k ≡ bit_on ws k)
+    → ((w : ℕ) → w ≢ r / 64 → bit_on above w ≡ bit_on full w)
+    → ((w : ℕ) → w ≢ r / 64 → slice_index now w ≡ slice_index ws w)
+    → bit_on above (r / 64) ≡ eqb (slice_index now (r / 64)) 18446744073709551615
+    → count ≡ count_by (λ flag. flag) (flags_of now size) → HasTwoLevels now above size count
+levels_after ws full now above size used count r h lt words_as_many full_as_many others full_others words here counted =
+    let within : r / 64 < length ws = omega (arith, h.covers) in
+    record {
+      fits = h.fits;
+      covers = rw words_as_many h.covers;
+      short = rw words_as_many h.short;
+      padding = λ k past inside. let ne : k ≢ r = omega arith in
+          others k ne ∙ h.padding k past (rw (← words_as_many) inside);
+      full_covers = rw (words_as_many, full_as_many) h.full_covers;
+      full_short = rw full_as_many h.full_short;
+      full_padding = λ w over inside. let past : length ws ≤ w = rw (← words_as_many) over in
+          let ne : w ≢ r / 64 = omega arith in
+          full_others w ne ∙ h.full_padding w past (rw (← full_as_many) inside);
+      full_is = λ w inside. elim (cases_eq w (r / 64)) [
+        | inl e ↦ rw e here
+        | inr ne ↦ full_others w ne ∙ h.full_is w (rw (← words_as_many) inside)
+            ∙ ap (λ x. eqb x 18446744073709551615) (sym (words w ne))
+      ];
+      counted = counted;
+    }
+
 -- the two levels after a free number is taken
 pub levels_after_take : (ws full : List ℕ) (size used r : ℕ) → HasTwoLevels ws full size used → r < size → bit_on ws r
     ≡ false
@@ -52,28 +81,14 @@ levels_after_take ws full size used r h lt off =
     let now_full : Bool = eqb (slice_index (with_bit ws r) (r / 64)) 18446744073709551615 in
     let was_off : bit_on full (r / 64) ≡ false = h.full_is (r / 64) within
     ∙ off_test _ _ (off_word_has_room ws r off) in
-    record {
-      fits = h.fits;
-      covers = rw length_with_bit h.covers;
-      short = rw length_with_bit h.short;
-      padding = λ k above inside. let ne : k ≢ r = omega arith in
-          on_with_other ws r k within ne ∙ h.padding k above (rw (← length_with_bit ws r) inside);
-      full_covers = rw (length_with_bit ws r, length_full now_full full (r / 64)) h.full_covers;
-      full_short = rw (length_full now_full full (r / 64)) h.full_short;
-      full_padding = λ w above inside. let past : length ws ≤ w = rw (← length_with_bit ws r) above in
-          let ne : w ≢ r / 64 = omega arith in
-          full_other now_full full (r / 64) w upper ne
-          ∙ h.full_padding w past (rw (← length_full now_full full (r / 64)) inside);
-      full_is = λ w inside. elim (cases_eq w (r / 64)) [
-        | inl e ↦ rw e (full_same now_full full (r / 64) was_off upper)
-        | inr ne ↦ full_other now_full full (r / 64) w upper ne ∙ h.full_is w (rw (← length_with_bit ws r) inside)
-            ∙ ap (λ x. eqb x 18446744073709551615) (sym (word_with_other ws r w ne))
-      ];
-      counted = let flags_within : r < length (flags_of ws size) = rw length_flags lt in
-          let free : in_use (flags_of ws size) r ≡ false = flag_at ws size r false lt ∙ off in
-          ap (λ n. n + 1) h.counted ∙ sym (ap (count_by (λ flag. flag)) (flags_with_bit ws size r lt within)
-          ∙ count_with (flags_of ws size) r flags_within free);
-    }
+    let flags_within : r < length (flags_of ws size) = rw length_flags lt in
+    let free : in_use (flags_of ws size) r ≡ false = flag_at ws size r false lt ∙ off in
+    levels_after ws full (with_bit ws r) (full_after (with_bit ws r) full (r / 64)) size used (used + 1) r h lt
+    (length_with_bit ws r) (length_full now_full full (r / 64)) (λ k ne. on_with_other ws r k within ne)
+    (λ w ne. full_other now_full full (r / 64) w upper ne) (word_with_other ws r)
+    (full_same now_full full (r / 64) was_off upper)
+    (ap (λ n. n + 1) h.counted ∙ sym (ap (count_by (λ flag. flag)) (flags_with_bit ws size r lt within)
+    ∙ count_with (flags_of ws size) r flags_within free))
 
 -- the two levels after a number is given back
 pub levels_after_give : (ws full : List ℕ) (size used r : ℕ) → HasTwoLevels ws full size used → r < size → bit_on ws r
@@ -83,31 +98,16 @@ levels_after_give ws full size used r h lt on =
     let within : r / 64 < length ws = omega (arith, h.covers) in
     let upper : r / 64 / 64 < length full = omega (arith, h.full_covers) in
     let room = off_word_has_room (without_bit ws r) r (off_without_bit ws r within) in
-    record {
-      fits = h.fits;
-      covers = rw length_without_bit h.covers;
-      short = rw length_without_bit h.short;
-      padding = λ k above inside. let ne : k ≢ r = omega arith in
-          on_without_other ws r k within ne ∙ h.padding k above (rw (← length_without_bit ws r) inside);
-      full_covers = rw (length_without_bit ws r, length_without_bit full (r / 64)) h.full_covers;
-      full_short = rw (length_without_bit full (r / 64)) h.full_short;
-      full_padding = λ w above inside. let past : length ws ≤ w = rw (← length_without_bit ws r) above in
-          let ne : w ≢ r / 64 = omega arith in
-          on_without_other full (r / 64) w upper ne ∙ h.full_padding w past
-          (rw (← length_without_bit full (r / 64)) inside);
-      full_is = λ w inside. elim (cases_eq w (r / 64)) [
-        | inl e ↦ rw e (off_without_bit full (r / 64) upper ∙ sym (off_test _ _ room))
-        | inr ne ↦ on_without_other full (r / 64) w upper ne ∙ h.full_is w (rw (← length_without_bit ws r) inside)
-            ∙ ap (λ x. eqb x 18446744073709551615) (sym (word_without_other ws r w ne))
-      ];
-      counted = let flags_within : r < length (flags_of ws size) = rw length_flags lt in
-          let taken : in_use (flags_of ws size) r ≡ true = flag_at ws size r false lt ∙ on in
-          let one = count_without (flags_of ws size) r flags_within taken in
-          let is = ap (count_by (λ flag. flag)) (flags_without_bit ws size r lt within) in
-          let fewer : count_by (λ flag. flag) (flags_of (without_bit ws r) size) + 1 ≡ used = ap (λ n. n + 1) is ∙ one
-          ∙ sym h.counted in
-          omega (arith, fewer);
-    }
+    let flags_within : r < length (flags_of ws size) = rw length_flags lt in
+    let taken : in_use (flags_of ws size) r ≡ true = flag_at ws size r false lt ∙ on in
+    let one = count_without (flags_of ws size) r flags_within taken in
+    let is = ap (count_by (λ flag. flag)) (flags_without_bit ws size r lt within) in
+    let fewer : count_by (λ flag. flag) (flags_of (without_bit ws r) size) + 1 ≡ used = ap (λ n. n + 1) is ∙ one
+    ∙ sym h.counted in
+    levels_after ws full (without_bit ws r) (without_bit full (r / 64)) size used (used - 1) r h lt
+    (length_without_bit ws r) (length_without_bit full (r / 64)) (λ k ne. on_without_other ws r k within ne)
+    (λ w ne. on_without_other full (r / 64) w upper ne) (word_without_other ws r)
+    (off_without_bit full (r / 64) upper ∙ sym (off_test _ _ room)) (omega (arith, fewer))
 
 -- bit t of word w
 bit_in_word : (ws : List ℕ) (w t r : ℕ) → r / 64 ≡ w → r % 64 ≡ t → bit_on ws r ≡ eqb (bit_at (slice_index ws w) t) 1
