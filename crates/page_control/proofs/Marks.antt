@@ -22,7 +22,7 @@ use Rattle.page_control.specs.Tied.{vtoc_in, uid_at, uid_in, map_at, IsTableOf, 
 use Rattle.page_control.specs.Picture.{is_binding, words_held, words_of_page, words_at, is_filed_at, is_stored}
 use Rattle.page_control.specs.Picture.{changed_at, changed_page}
 use Rattle.page_control.specs.Ties.{IsTied, KeepsTies}
-use Rattle.page_control.proofs.Facts.{binding_is, bound_to, bindings_referred, here_within, leaving_within}
+use Rattle.page_control.proofs.Facts.{within_from, binding_is, bound_to, bindings_referred, here_within, leaving_within}
 use Rattle.page_control.proofs.Ties.{not_none, number_of, table_taken, table_back, map_taken, map_back}
 use Rattle.page_control.proofs.Pictures.{page, uid_part, off_and_on, binding_tells, found_at, in_frame_or_out}
 use Rattle.page_control.proofs.Pictures.{words_by, out_by}
@@ -238,22 +238,22 @@ words_written b bound those frames drives disks tables vtocs uid p f words bs fr
         ∙ sym (ap (λ (z : Bool). cond z words (words_of_page b those drives tables u h q)) passes)
 
 -- a frame is written through: both its marks are on, and it has these words
-pub ties_written : (s now : Plain) (f : ℕ) (words : List ℕ) → is_bound (frame_in s f) ≡ true
-    → now ≡ worded (referred s f true) f words → KeepsTies s now
-ties_written s now f words is effect = ties_marked s now (rw effect (marks_written s f words is))
+module _ (s now : Plain) (f : ℕ) (words : List ℕ) (effect : now ≡ worded (referred s f true) f words) where
+  pub bindings_written : bindings now.core ≡ bindings s.core
+  bindings_written = ap (λ (x : Plain). bindings x.core) effect ∙ bindings_referred s.core f true
 
-pub words_put : (s : Plain) (core : Core) (frames : List (List ℕ)) (disks : List (List (List ℕ)))
-    (vtocs : List (List (Option Entry))) (f : ℕ) (words : List ℕ) → is_bound (frame_in s f) ≡ true
-    → length s.frames ≡ length s.core.frames → core ≡ with_frame s.core f (after_reference (frame_in s f) true)
-    → (frames ≡ set s.frames f words) × (disks ≡ s.disks) × (vtocs ≡ s.vtocs) → IsBoundOnce (bindings s.core) f
-    → words_of_page (bindings core) frames disks vtocs
-    ≡ changed_page (words_at s) (uid_in (frame_in s f)) (number_in (frame_in s f)) words
-words_put s core frames disks vtocs f words is many bs those once =
-    let inside : f < length s.core.frames = bound_inside s.core f is in
-    words_written (bindings s.core) (bindings core) s.frames frames s.disks disks s.vtocs vtocs (uid_in (frame_in s f))
-    (number_in (frame_in s f)) f words (ap bindings bs ∙ bindings_referred s.core f true) those.0 those.1
-    those.2
-    (binding_is s.core f ∙ bound_to (frame_in s f) is) (omega (arith, inside, many)) once
+  pub ties_written : is_bound (frame_in s f) ≡ true → KeepsTies s now
+  ties_written is = ties_marked s now (rw effect (marks_written s f words is))
+
+  pub words_put : is_bound (frame_in s f) ≡ true → length (words_in s f) ≡ 1024 → IsBoundOnce (bindings s.core) f
+      → words_at now ≡ changed_page (words_at s) (uid_in (frame_in s f)) (number_in (frame_in s f)) words
+  words_put is size once =
+      words_written (bindings s.core) (bindings now.core) s.frames now.frames s.disks now.disks s.vtocs now.vtocs
+      (uid_in (frame_in s f)) (number_in (frame_in s f)) f words bindings_written
+      (ap (λ (x : Plain). x.frames) effect) (ap (λ (x : Plain). x.disks) effect) (ap (λ (x : Plain). x.vtocs) effect)
+      (binding_is s.core f ∙ bound_to (frame_in s f) is)
+      (within_from s.frames f [] (λ none. (let zero : length (words_in s f) ≡ 0 = ap length none in
+      omega (arith, zero, size)))) once
 
 -- a word changes, and says of its page what it said
 tie_worded : {s : Plain} {uid : ℕ} {home : Home} {t u : List Ptw} (p : ℕ) (word : Ptw) → IsTied s uid home t

@@ -166,7 +166,6 @@ impl<D: Drive> Pages<D> {
 
     /// Writes `w` at word `at` through the bound frame `f`, whose marks are both on then. It writes one word. (Source:
     /// Bensoussan, Clingen and Daley 1972.)
-    #[tactic(auto, using(crate::proofs::Facts::bindings_referred, std::proofs::lemmas::Grind::common_steps))]
     pub fn put_word(&mut self, f: u32, at: u32, w: Word)
         requires bound { is_bound (frame_at self.old.core f) ≡ true }
         requires at { at < 1024 }
@@ -180,13 +179,11 @@ impl<D: Drive> Pages<D> {
         ensures reads { reads_of self.new.core ≡ reads_of self.old.core }
         ensures volumes { self.new.volumes ≡ self.old.volumes }
     {
-        self.core.mark(f, true);
-        self.frames[f as usize].set(at, w);
+        self.put_at(f, at, w);
     }
 
     /// Makes the words of the bound frame `f` from `at` on 0, turns both its marks on, and tells whether the whole page
     /// is zeros then. (Source: own.)
-    #[tactic(auto, using(crate::proofs::Facts::bindings_referred, std::proofs::lemmas::Grind::common_steps))]
     pub fn cut_from(&mut self, f: u32, at: u32) -> bool
         requires bound { is_bound (frame_at self.old.core f) ≡ true }
         requires at { at ≤ 1024 }
@@ -201,9 +198,7 @@ impl<D: Drive> Pages<D> {
         ensures reads { reads_of self.new.core ≡ reads_of self.old.core }
         ensures volumes { self.new.volumes ≡ self.old.volumes }
     {
-        self.core.mark(f, true);
-        self.frames[f as usize].clear_from(at);
-        self.is_zero(f)
+        self.cut_at(f, at)
     }
 
     /// Takes page `p` of a segment out of storage: its record is given back, its word is `Null`, and its frame, if it
@@ -449,6 +444,36 @@ impl<D: Drive> Pages<D> {
     {
         let p = self.page_in(f);
         t.set(p, Ptw::Here(f));
+    }
+
+    /// The steps of `put_word`.
+    #[tactic(auto, using(crate::proofs::Facts::bindings_referred, std::proofs::lemmas::Grind::common_steps))]
+    fn put_at(&mut self, f: u32, at: u32, w: Word)
+        requires bound { is_bound (frame_at self.old.core f) ≡ true }
+        requires at { at < 1024 }
+        ensures put { plain D.pages self.new ≡ word_put (plain D.pages self.old) f at w }
+        ensures size { length (words_in (plain D.pages self.old) f) ≡ 1024 }
+        ensures reads { reads_of self.new.core ≡ reads_of self.old.core }
+        ensures volumes { self.new.volumes ≡ self.old.volumes }
+    {
+        self.core.mark(f, true);
+        self.frames[f as usize].set(at, w);
+    }
+
+    /// The steps of `cut_from`.
+    #[tactic(auto, using(crate::proofs::Facts::bindings_referred, std::proofs::lemmas::Grind::common_steps))]
+    fn cut_at(&mut self, f: u32, at: u32) -> bool
+        requires bound { is_bound (frame_at self.old.core f) ≡ true }
+        requires at { at ≤ 1024 }
+        ensures cut { plain D.pages self.new ≡ cut (plain D.pages self.old) f at }
+        ensures size { length (words_in (plain D.pages self.old) f) ≡ 1024 }
+        ensures zero { IsTrue result ↔ AreZero (words_in (plain D.pages self.new) f) }
+        ensures reads { reads_of self.new.core ≡ reads_of self.old.core }
+        ensures volumes { self.new.volumes ≡ self.old.volumes }
+    {
+        self.core.mark(f, true);
+        self.frames[f as usize].clear_from(at);
+        self.is_zero(f)
     }
 
     /// The steps of `drop_page`.

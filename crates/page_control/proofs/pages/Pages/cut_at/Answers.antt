@@ -1,0 +1,13 @@
+use Rattle.std.proofs.Common.{arith}
+use Rattle.std.proofs.lemmas.Grind.{common_steps}
+use Rattle.page_control.proofs.Facts.{bindings_referred}
+use Rattle.page_control.proofs.pages.Pages.cut_at.Goals as goal
+
+pub index_mut-requires : goal.index_mut-requires
+index_mut-requires g c = grind (arith, common_steps, bindings_referred)
+
+pub is_zero-requires : goal.is_zero-requires
+is_zero-requires g c = grind (arith, common_steps, bindings_referred)
+
+pub returns : goal.returns
+returns g c = grind (arith, common_steps, bindings_referred)
