@@ -51,10 +51,7 @@ machine_word = record { some = omega arith; bytes = refl }
 abbrev pub after_machine : ℕ → ℕ → List ℕ → DraftPlan
 after_machine processors frames pools = record blank {
   stage = stage.Quota;
-  processors = processors;
-  frames =
-      frames;
-  pools = pools;
+  plan = record blank.plan { processors = processors; frames = frames; pools = pools };
 }
 
 machine_again : (processors frames a b c d : ℕ) → 1 ≤ processors → processors ≤ 8 → 4 ≤ frames → frames ≤ 1024
@@ -100,16 +97,16 @@ machine_reaches processors frames (a ∷ b ∷ c ∷ d ∷ []) p0 p1 f0 f1 h =
 
 quota_again : (base : DraftPlan) (quota : ℕ) → quota ≤ 16384
     → line_at stage.Quota (record base { stage = stage.Quota }) (codes "quota") (decimal quota ∷ [])
-    ≡ Ok (record base { stage = stage.FirstVolume; quota = quota })
+    ≡ Ok (record base { stage = stage.FirstVolume; plan = record base.plan { quota = quota } })
 unfolding line_at quota_line one_field next_field no_fields
 quota_again base quota h = rw (number_again 0 16384 quota (omega arith) (omega arith) h) refl
 
 pub quota_reaches : (base : DraftPlan) (quota : ℕ) → quota ≤ 16384
     → Reaches (record base { stage = stage.Quota }) (ended (quota_text quota))
-    (record base { stage = stage.FirstVolume; quota = quota })
+    (record base { stage = stage.FirstVolume; plan = record base.plan { quota = quota } })
 unfolding quota_text
 quota_reaches base quota h =
-    reaches_line (record base { stage = stage.Quota }) (record base { stage = stage.FirstVolume; quota = quota })
+    reaches_line (record base { stage = stage.Quota }) (record base { stage = stage.FirstVolume; plan = record base.plan { quota = quota } })
     (quota_text quota) (codes "quota") (decimal quota ∷ [])
     (front_field (codes "quota") (decimal quota) (decimal quota ∷ []) (record { some = omega arith; bytes = refl })
     (last_field (decimal quota) (decimal_field quota (omega arith))))
@@ -137,20 +134,20 @@ volume_fields v h =
     (decimal_field v.records (omega (arith, r))) (last_field (decimal v.entries)
     (decimal_field v.entries (omega (arith, e))))))
 
-volume_line_again : (d : DraftPlan) (v : VolumeLine) → is_volume v ≡ true → list_any (has_name v.name) d.volumes
-    ≡ false → length d.volumes < 4 → sum_by records_of d.volumes + v.records ≤ 16384
+volume_line_again : (d : DraftPlan) (v : VolumeLine) → is_volume v ≡ true → list_any (has_name v.name) d.plan.volumes
+    ≡ false → length d.plan.volumes < 4 → sum_by records_of d.plan.volumes + v.records ≤ 16384
     → volume_line d (v.name ∷ decimal v.records ∷ decimal v.entries ∷ [])
-    ≡ Ok (record d { stage = stage.Volumes; volumes = d.volumes ++ v ∷ [] })
+    ≡ Ok (record d { stage = stage.Volumes; plan = record d.plan { volumes = d.plan.volumes ++ v ∷ [] } })
 unfolding volume_line new_volume_in three_fields two_fields one_field next_field no_fields is_volume
 volume_line_again d v h new room sum =
     let p = and_parts (is_name v.name) (is_from 1 16384 v.records && is_from 1 4097 v.entries) h in
     let q = and_parts (is_from 1 16384 v.records) (is_from 1 4097 v.entries) p.1 in
     let r = within 1 16384 v.records q.0 in
     let e = within 1 4097 v.entries q.1 in
-    let few : nat_le 4 (length d.volumes) ≡ false = grind (arith, nat_tests) in
-    let fits : nat_lt 16384 (sum_by records_of d.volumes + v.records) ≡ false = grind (arith, nat_tests) in
+    let few : nat_le 4 (length d.plan.volumes) ≡ false = grind (arith, nat_tests) in
+    let fits : nat_lt 16384 (sum_by records_of d.plan.volumes + v.records) ≡ false = grind (arith, nat_tests) in
     rw (
-      new_name_again d.volumes v.name p.0 new,
+      new_name_again d.plan.volumes v.name p.0 new,
       number_again 1 16384 v.records (omega arith) r.0 r.1,
       number_again 1
           4097 v.entries (omega arith) e.0 e.1,
@@ -173,14 +170,14 @@ volume_at _ d fields h = absurd (cc)
 
 volume_reaches : (base : DraftPlan) (s : Stage) (done : List VolumeLine) (v : VolumeLine) → takes_volume s ≡ true
     → is_volume v ≡ true → list_any (has_name v.name) done ≡ false → length done < 4
-    → sum_by records_of done + v.records ≤ 16384 → Reaches (record base { stage = s; volumes = done })
-    (ended (volume_text v)) (record base { stage = stage.Volumes; volumes = done ++ v ∷ [] })
+    → sum_by records_of done + v.records ≤ 16384 → Reaches (record base { stage = s; plan = record base.plan { volumes = done } })
+    (ended (volume_text v)) (record base { stage = stage.Volumes; plan = record base.plan { volumes = done ++ v ∷ [] } })
 volume_reaches base s done v takes h new room sum =
-    reaches_line (record base { stage = s; volumes = done })
-    (record base { stage = stage.Volumes; volumes = done ++ v ∷ [] }) (volume_text v) (codes "volume")
+    reaches_line (record base { stage = s; plan = record base.plan { volumes = done } })
+    (record base { stage = stage.Volumes; plan = record base.plan { volumes = done ++ v ∷ [] } }) (volume_text v) (codes "volume")
     (v.name ∷ decimal v.records ∷ decimal v.entries ∷ []) (volume_fields v h) refl
-    (volume_at s (record base { stage = s; volumes = done }) (v.name ∷ decimal v.records ∷ decimal v.entries ∷ [])
-    takes ∙ volume_line_again (record base { stage = s; volumes = done }) v h new room sum)
+    (volume_at s (record base { stage = s; plan = record base.plan { volumes = done } }) (v.name ∷ decimal v.records ∷ decimal v.entries ∷ [])
+    takes ∙ volume_line_again (record base { stage = s; plan = record base.plan { volumes = done } }) v h new room sum)
 
 -- what holds of the volumes that stand and of those that follow
 record FitVolumes (done vs : List VolumeLine) : Type 0 where
@@ -204,29 +201,29 @@ abbrev pub volumes_text : List VolumeLine → List ℕ
 volumes_text vs = flat_map (λ v. ended (volume_text v)) vs
 
 more_volumes : (base : DraftPlan) (done vs : List VolumeLine) → FitVolumes done vs
-    → Reaches (record base { stage = stage.Volumes; volumes = done }) (volumes_text vs)
-    (record base { stage = stage.Volumes; volumes = done ++ vs })
+    → Reaches (record base { stage = stage.Volumes; plan = record base.plan { volumes = done } }) (volumes_text vs)
+    (record base { stage = stage.Volumes; plan = record base.plan { volumes = done ++ vs } })
 more_volumes base done [] h = subst (λ (t : List VolumeLine). Reaches
-    (record base { stage = stage.Volumes; volumes = done }) [] (record base { stage = stage.Volumes; volumes = t }))
-    (sym (nil_after done)) (reaches_nothing (record base { stage = stage.Volumes; volumes = done }))
+    (record base { stage = stage.Volumes; plan = record base.plan { volumes = done } }) [] (record base { stage = stage.Volumes; plan = record base.plan { volumes = t } }))
+    (sym (nil_after done)) (reaches_nothing (record base { stage = stage.Volumes; plan = record base.plan { volumes = done } }))
 more_volumes base done (v ∷ vs) h =
-    reaches_both (record base { stage = stage.Volumes; volumes = done })
-    (record base { stage = stage.Volumes; volumes = done ++ v ∷ [] })
-    (record base { stage = stage.Volumes; volumes = done ++ v ∷ vs }) (ended (volume_text v)) (volumes_text vs)
+    reaches_both (record base { stage = stage.Volumes; plan = record base.plan { volumes = done } })
+    (record base { stage = stage.Volumes; plan = record base.plan { volumes = done ++ v ∷ [] } })
+    (record base { stage = stage.Volumes; plan = record base.plan { volumes = done ++ v ∷ vs } }) (ended (volume_text v)) (volumes_text vs)
     (volume_reaches base stage.Volumes done v refl (and_parts (is_volume v) (list_all is_volume vs) h.each).0
     (others_before done v vs h.own) (omega (arith, h.few)) (omega (arith, h.sum, sum_cons v vs)))
-    (subst (λ (t : List VolumeLine). Reaches (record base { stage = stage.Volumes; volumes = done ++ v ∷ [] })
-    (volumes_text vs) (record base { stage = stage.Volumes; volumes = t })) (append_assoc done (v ∷ []) vs)
+    (subst (λ (t : List VolumeLine). Reaches (record base { stage = stage.Volumes; plan = record base.plan { volumes = done ++ v ∷ [] } })
+    (volumes_text vs) (record base { stage = stage.Volumes; plan = record base.plan { volumes = t } })) (append_assoc done (v ∷ []) vs)
     (more_volumes base (done ++ v ∷ []) vs (fit_next done v vs h)))
 
 volumes_reach : (base : DraftPlan) (vs : List VolumeLine) → 1 ≤ length vs → FitVolumes [] vs
-    → Reaches (record base { stage = stage.FirstVolume; volumes = [] }) (volumes_text vs)
-    (record base { stage = stage.Volumes; volumes = vs })
+    → Reaches (record base { stage = stage.FirstVolume; plan = record base.plan { volumes = [] } }) (volumes_text vs)
+    (record base { stage = stage.Volumes; plan = record base.plan { volumes = vs } })
 volumes_reach base [] some h = absurd (omega arith)
 volumes_reach base (v ∷ vs) some h =
-    reaches_both (record base { stage = stage.FirstVolume; volumes = [] })
-    (record base { stage = stage.Volumes; volumes = v ∷ [] })
-    (record base { stage = stage.Volumes; volumes = v ∷ vs }) (ended (volume_text v)) (volumes_text vs)
+    reaches_both (record base { stage = stage.FirstVolume; plan = record base.plan { volumes = [] } })
+    (record base { stage = stage.Volumes; plan = record base.plan { volumes = v ∷ [] } })
+    (record base { stage = stage.Volumes; plan = record base.plan { volumes = v ∷ vs } }) (ended (volume_text v)) (volumes_text vs)
     (volume_reaches base stage.FirstVolume [] v refl (and_parts (is_volume v) (list_all is_volume vs) h.each).0
     (others_before [] v vs h.own) (omega (arith, h.few)) (omega (arith, h.sum, sum_cons v vs)))
     (more_volumes base (v ∷ []) vs (fit_next [] v vs h))
@@ -240,19 +237,19 @@ print_fields p word e h = subst (λ (t : List ℕ). HasFields t (codes "print" �
 
 print_again : (base : DraftPlan) (p : Print) (word : List ℕ) → print_in word ≡ Ok p
     → line_at stage.Volumes (record base { stage = stage.Volumes }) (codes "print") (word ∷ [])
-    ≡ Ok (record base { stage = stage.Bulks; print = p })
+    ≡ Ok (record base { stage = stage.Bulks; plan = record base.plan { print = p } })
 unfolding line_at after_volume print_line one_field next_field no_fields
 print_again base p word h = rw h refl
 
 print_reaches_by : (base : DraftPlan) (p : Print) (word : List ℕ) → print_text p ≡ codes "print" ++ (32 ∷ word)
     → IsField word → print_in word ≡ Ok p → Reaches (record base { stage = stage.Volumes }) (ended (print_text p))
-    (record base { stage = stage.Bulks; print = p })
+    (record base { stage = stage.Bulks; plan = record base.plan { print = p } })
 print_reaches_by base p word e f h =
-    reaches_line (record base { stage = stage.Volumes }) (record base { stage = stage.Bulks; print = p })
+    reaches_line (record base { stage = stage.Volumes }) (record base { stage = stage.Bulks; plan = record base.plan { print = p } })
     (print_text p) (codes "print") (word ∷ []) (print_fields p word e f) refl (print_again base p word h)
 
 print_reaches : (base : DraftPlan) (p : Print) → Reaches (record base { stage = stage.Volumes }) (ended (print_text p))
-    (record base { stage = stage.Bulks; print = p })
+    (record base { stage = stage.Bulks; plan = record base.plan { print = p } })
 unfolding print_text print_in
 print_reaches base print.Short = print_reaches_by base print.Short (codes "short") refl
     (record { some = omega arith; bytes = refl }) refl
@@ -282,15 +279,15 @@ bulk_fields vs b a h =
     (volume_field vs b.volume p.0 a.each) (last_field (decimal b.places)
     (decimal_field b.places (omega (arith, p)))))
 
-bulk_line_again : (d : DraftPlan) (b : Bulk) → AreVolumes d.volumes → is_bulk (length d.volumes) b ≡ true
-    → list_any (is_before b.volume) d.bulks ≡ false → bulk_line d
-    (volume_name d.volumes b.volume ∷ decimal b.places ∷ [])
-    ≡ Ok (record d { stage = stage.Bulks; bulks = d.bulks ++ b ∷ [] })
+bulk_line_again : (d : DraftPlan) (b : Bulk) → AreVolumes d.plan.volumes → is_bulk (length d.plan.volumes) b ≡ true
+    → list_any (is_before b.volume) d.plan.bulks ≡ false → bulk_line d
+    (volume_name d.plan.volumes b.volume ∷ decimal b.places ∷ [])
+    ≡ Ok (record d { stage = stage.Bulks; plan = record d.plan { bulks = d.plan.bulks ++ b ∷ [] } })
 unfolding bulk_line two_fields one_field next_field no_fields
 bulk_line_again d b a h new =
-    let p = bulk_parts (length d.volumes) b h in
+    let p = bulk_parts (length d.plan.volumes) b h in
     rw (
-      volume_again d.volumes b.volume p.0 a.each a.own,
+      volume_again d.plan.volumes b.volume p.0 a.each a.own,
       new,
       number_again 1 1024 b.places (omega arith)
           (omega (arith, p)) (omega (arith, p)),
@@ -307,28 +304,28 @@ record FitBulks (volumes : ℕ) (done bs : List Bulk) : Type 0 where
 abbrev pub bulks_text : List VolumeLine → List Bulk → List ℕ
 bulks_text vs bs = flat_map (λ b. ended (bulk_text vs b)) bs
 
-bulks_reach : (base : DraftPlan) (done bs : List Bulk) → AreVolumes base.volumes
-    → FitBulks (length base.volumes) done bs → Reaches (record base { stage = stage.Bulks; bulks = done })
-    (bulks_text base.volumes bs) (record base { stage = stage.Bulks; bulks = done ++ bs })
-bulks_reach base done [] a h = subst (λ (t : List Bulk). Reaches (record base { stage = stage.Bulks; bulks = done }) []
-    (record base { stage = stage.Bulks; bulks = t })) (sym (nil_after done))
-    (reaches_nothing (record base { stage = stage.Bulks; bulks = done }))
+bulks_reach : (base : DraftPlan) (done bs : List Bulk) → AreVolumes base.plan.volumes
+    → FitBulks (length base.plan.volumes) done bs → Reaches (record base { stage = stage.Bulks; plan = record base.plan { bulks = done } })
+    (bulks_text base.plan.volumes bs) (record base { stage = stage.Bulks; plan = record base.plan { bulks = done ++ bs } })
+bulks_reach base done [] a h = subst (λ (t : List Bulk). Reaches (record base { stage = stage.Bulks; plan = record base.plan { bulks = done } }) []
+    (record base { stage = stage.Bulks; plan = record base.plan { bulks = t } })) (sym (nil_after done))
+    (reaches_nothing (record base { stage = stage.Bulks; plan = record base.plan { bulks = done } }))
 bulks_reach base done (b ∷ bs) a h =
-    let parts = and_parts (is_bulk (length base.volumes) b) (list_all (is_bulk (length base.volumes)) bs) h.each in
-    reaches_both (record base { stage = stage.Bulks; bulks = done })
-    (record base { stage = stage.Bulks; bulks = done ++ b ∷ [] })
-    (record base { stage = stage.Bulks; bulks = done ++ b ∷ bs }) (ended (bulk_text base.volumes b))
-    (bulks_text base.volumes bs)
-    (reaches_line (record base { stage = stage.Bulks; bulks = done })
-    (record base { stage = stage.Bulks; bulks = done ++ b ∷ [] }) (bulk_text base.volumes b) (codes "bulk")
-    (volume_name base.volumes b.volume ∷ decimal b.places ∷ [])
-    (bulk_fields base.volumes b a parts.0) refl
-    (bulk_at (record base { stage = stage.Bulks; bulks = done })
-    (volume_name base.volumes b.volume ∷ decimal b.places ∷ [])
-    ∙ bulk_line_again (record base { stage = stage.Bulks; bulks = done }) b a parts.0
+    let parts = and_parts (is_bulk (length base.plan.volumes) b) (list_all (is_bulk (length base.plan.volumes)) bs) h.each in
+    reaches_both (record base { stage = stage.Bulks; plan = record base.plan { bulks = done } })
+    (record base { stage = stage.Bulks; plan = record base.plan { bulks = done ++ b ∷ [] } })
+    (record base { stage = stage.Bulks; plan = record base.plan { bulks = done ++ b ∷ bs } }) (ended (bulk_text base.plan.volumes b))
+    (bulks_text base.plan.volumes bs)
+    (reaches_line (record base { stage = stage.Bulks; plan = record base.plan { bulks = done } })
+    (record base { stage = stage.Bulks; plan = record base.plan { bulks = done ++ b ∷ [] } }) (bulk_text base.plan.volumes b) (codes "bulk")
+    (volume_name base.plan.volumes b.volume ∷ decimal b.places ∷ [])
+    (bulk_fields base.plan.volumes b a parts.0) refl
+    (bulk_at (record base { stage = stage.Bulks; plan = record base.plan { bulks = done } })
+    (volume_name base.plan.volumes b.volume ∷ decimal b.places ∷ [])
+    ∙ bulk_line_again (record base { stage = stage.Bulks; plan = record base.plan { bulks = done } }) b a parts.0
     (other_volumes done b bs h.own)))
-    (subst (λ (t : List Bulk). Reaches (record base { stage = stage.Bulks; bulks = done ++ b ∷ [] })
-    (bulks_text base.volumes bs) (record base { stage = stage.Bulks; bulks = t })) (append_assoc done (b ∷ []) bs)
+    (subst (λ (t : List Bulk). Reaches (record base { stage = stage.Bulks; plan = record base.plan { bulks = done ++ b ∷ [] } })
+    (bulks_text base.plan.volumes bs) (record base { stage = stage.Bulks; plan = record base.plan { bulks = t } })) (append_assoc done (b ∷ []) bs)
     (bulks_reach base (done ++ b ∷ []) bs a (record
     { each = parts.1; own = ap have_own_volumes (append_assoc done (b ∷ []) bs) ∙ h.own })))
 
@@ -360,15 +357,15 @@ fail_fields vs f a h =
     ((decimal f.number ++ onward_text f.onward) ∷ []) (write_field f.write)
     (last_field (decimal f.number ++ onward_text f.onward) (call_field f.number f.onward (omega (arith, p))))))
 
-fail_line_again : (d : DraftPlan) (f : Fail) → AreVolumes d.volumes → is_fail (length d.volumes) f ≡ true
-    → length d.fails < 100 → fail_line d (fail_fields_text d.volumes f)
-    ≡ Ok (record d { stage = stage.Fails; fails = d.fails ++ f ∷ [] })
+fail_line_again : (d : DraftPlan) (f : Fail) → AreVolumes d.plan.volumes → is_fail (length d.plan.volumes) f ≡ true
+    → length d.plan.fails < 100 → fail_line d (fail_fields_text d.plan.volumes f)
+    ≡ Ok (record d { stage = stage.Fails; plan = record d.plan { fails = d.plan.fails ++ f ∷ [] } })
 unfolding fail_line fail_in three_fields two_fields one_field next_field no_fields
 fail_line_again d f a h room =
-    let p = fail_parts (length d.volumes) f h in
-    let few : nat_lt (length d.fails) 100 ≡ true = grind (arith, nat_tests) in
+    let p = fail_parts (length d.plan.volumes) f h in
+    let few : nat_lt (length d.plan.fails) 100 ≡ true = grind (arith, nat_tests) in
     rw (
-      volume_again d.volumes f.volume p.0 a.each a.own,
+      volume_again d.plan.volumes f.volume p.0 a.each a.own,
       write_again f.write,
       call_again f.number f.onward
           (omega (arith, p)) (omega (arith, p)),
@@ -408,32 +405,32 @@ record FitFails (volumes : ℕ) (done fs : List Fail) : Type 0 where
 abbrev pub fails_text : List VolumeLine → List Fail → List ℕ
 fails_text vs fs = flat_map (λ f. ended (fail_text vs f)) fs
 
-fails_reach : (base : DraftPlan) (s : Stage) (done fs : List Fail) → takes_fail s ≡ true → AreVolumes base.volumes
-    → FitFails (length base.volumes) done fs → Reaches (record base { stage = s; fails = done })
-    (fails_text base.volumes fs) (record base { stage = stage_after_fails s fs; fails = done ++ fs })
-fails_reach base s done [] takes a h = subst (λ (t : List Fail). Reaches (record base { stage = s; fails = done }) []
-    (record base { stage = s; fails = t })) (sym (nil_after done))
-    (reaches_nothing (record base { stage = s; fails = done }))
+fails_reach : (base : DraftPlan) (s : Stage) (done fs : List Fail) → takes_fail s ≡ true → AreVolumes base.plan.volumes
+    → FitFails (length base.plan.volumes) done fs → Reaches (record base { stage = s; plan = record base.plan { fails = done } })
+    (fails_text base.plan.volumes fs) (record base { stage = stage_after_fails s fs; plan = record base.plan { fails = done ++ fs } })
+fails_reach base s done [] takes a h = subst (λ (t : List Fail). Reaches (record base { stage = s; plan = record base.plan { fails = done } }) []
+    (record base { stage = s; plan = record base.plan { fails = t } })) (sym (nil_after done))
+    (reaches_nothing (record base { stage = s; plan = record base.plan { fails = done } }))
 fails_reach base s done (f ∷ fs) takes a h =
-    let parts = and_parts (is_fail (length base.volumes) f) (list_all (is_fail (length base.volumes)) fs) h.each in
-    let rest : Reaches (record base { stage = stage.Fails; fails = done ++ f ∷ [] }) (fails_text base.volumes fs)
-    (record base { stage = stage_after_fails stage.Fails fs; fails = (done ++ f ∷ []) ++ fs }) =
+    let parts = and_parts (is_fail (length base.plan.volumes) f) (list_all (is_fail (length base.plan.volumes)) fs) h.each in
+    let rest : Reaches (record base { stage = stage.Fails; plan = record base.plan { fails = done ++ f ∷ [] } }) (fails_text base.plan.volumes fs)
+    (record base { stage = stage_after_fails stage.Fails fs; plan = record base.plan { fails = (done ++ f ∷ []) ++ fs } }) =
     fails_reach base stage.Fails (done ++ f ∷ []) fs refl a
     (record { each = parts.1; few = omega (arith, length-append done (f ∷ []), h.few) }) in
-    reaches_both (record base { stage = s; fails = done })
-    (record base { stage = stage.Fails; fails = done ++ f ∷ [] })
-    (record base { stage = stage.Fails; fails = done ++ f ∷ fs }) (ended (fail_text base.volumes f))
-    (fails_text base.volumes fs)
-    (reaches_line (record base { stage = s; fails = done })
-    (record base { stage = stage.Fails; fails = done ++ f ∷ [] }) (fail_text base.volumes f) (codes "fail")
-    (fail_fields_text base.volumes f)
-    (fail_fields base.volumes f a parts.0) refl
-    (fail_at s (record base { stage = s; fails = done }) (fail_fields_text base.volumes f) takes
-    ∙ fail_line_again (record base { stage = s; fails = done }) f a parts.0 (omega (arith, h.few))))
-    (subst (λ (t : Stage). Reaches (record base { stage = stage.Fails; fails = done ++ f ∷ [] })
-    (fails_text base.volumes fs) (record base { stage = t; fails = done ++ f ∷ fs })) (still_fails fs)
-    (subst (λ (t : List Fail). Reaches (record base { stage = stage.Fails; fails = done ++ f ∷ [] })
-    (fails_text base.volumes fs) (record base { stage = stage_after_fails stage.Fails fs; fails = t }))
+    reaches_both (record base { stage = s; plan = record base.plan { fails = done } })
+    (record base { stage = stage.Fails; plan = record base.plan { fails = done ++ f ∷ [] } })
+    (record base { stage = stage.Fails; plan = record base.plan { fails = done ++ f ∷ fs } }) (ended (fail_text base.plan.volumes f))
+    (fails_text base.plan.volumes fs)
+    (reaches_line (record base { stage = s; plan = record base.plan { fails = done } })
+    (record base { stage = stage.Fails; plan = record base.plan { fails = done ++ f ∷ [] } }) (fail_text base.plan.volumes f) (codes "fail")
+    (fail_fields_text base.plan.volumes f)
+    (fail_fields base.plan.volumes f a parts.0) refl
+    (fail_at s (record base { stage = s; plan = record base.plan { fails = done } }) (fail_fields_text base.plan.volumes f) takes
+    ∙ fail_line_again (record base { stage = s; plan = record base.plan { fails = done } }) f a parts.0 (omega (arith, h.few))))
+    (subst (λ (t : Stage). Reaches (record base { stage = stage.Fails; plan = record base.plan { fails = done ++ f ∷ [] } })
+    (fails_text base.plan.volumes fs) (record base { stage = t; plan = record base.plan { fails = done ++ f ∷ fs } })) (still_fails fs)
+    (subst (λ (t : List Fail). Reaches (record base { stage = stage.Fails; plan = record base.plan { fails = done ++ f ∷ [] } })
+    (fails_text base.plan.volumes fs) (record base { stage = stage_after_fails stage.Fails fs; plan = record base.plan { fails = t } }))
     (append_assoc done (f ∷ []) fs) rest))
 
 -- ---- the whole head
@@ -442,16 +439,7 @@ fails_reach base s done (f ∷ fs) takes a h =
 abbrev pub after_head : Plan → DraftPlan
 after_head p = record blank {
   stage = stage_after_fails stage.Bulks p.fails;
-  processors = p.processors;
-  frames =
-      p.frames;
-  pools = p.pools;
-  quota = p.quota;
-  volumes = p.volumes;
-  print = p.print;
-  bulks = p.bulks;
-  fails =
-      p.fails;
+  plan = record p { initializer = false; processes = [] };
 }
 
 pub are_volumes : (p : Plan) → IsPlan p → AreVolumes p.volumes
@@ -461,10 +449,10 @@ pub head_reaches : (p : Plan) → IsPlan p → Reaches blank (head_text p) (afte
 unfolding head_text
 head_reaches p h =
     let d1 = after_machine p.processors p.frames p.pools in
-    let d2 = record d1 { stage = stage.FirstVolume; quota = p.quota } in
-    let d3 = record d2 { stage = stage.Volumes; volumes = p.volumes } in
-    let d4 = record d3 { stage = stage.Bulks; print = p.print } in
-    let d5 = record d4 { bulks = p.bulks } in
+    let d2 = record d1 { stage = stage.FirstVolume; plan = record d1.plan { quota = p.quota } } in
+    let d3 = record d2 { stage = stage.Volumes; plan = record d2.plan { volumes = p.volumes } } in
+    let d4 = record d3 { stage = stage.Bulks; plan = record d3.plan { print = p.print } } in
+    let d5 = record d4 { plan = record d4.plan { bulks = p.bulks } } in
     let a = are_volumes p h in
     reaches_both blank d1 (after_head p) (ended (machine_text p.processors p.frames p.pools))
     (ended (quota_text p.quota) ++ (volumes_text p.volumes

@@ -16,7 +16,8 @@ use Rattle.script.proofs.PrincipalLaws.{who_field, who_in_again}
 use Rattle.script.proofs.Reaching.{Reaches, read_from, reaches_both, reaches_line, reaches_nothing}
 use Rattle.script.proofs.VolumeTexts.{AreVolumes}
 use Rattle.script.proofs.SmallLaws.{nil_after, not_true}
-use Rattle.script.specs.Drafts.{DraftPlan, initializer_who, plan_of}
+use Rattle.script.specs.CommandLists.{longer}
+use Rattle.script.specs.Drafts.{DraftPlan, initializer_who}
 use Rattle.script.specs.Fields.{lines_of}
 use Rattle.script.specs.Forms.{BeginsWithInitializer, ends_once, IsPlan, is_command, is_end, is_process, is_who}
 use Rattle.script.specs.Forms.{weight, weight_of}
@@ -34,49 +35,41 @@ use Rattle.script.specs.declared.plan.VolumeLine.{VolumeLine}
 
 -- ---- the commands of a process
 
-going_again : (d : DraftPlan) (c : Command) → AreVolumes d.volumes → is_command (length d.volumes) c ≡ true → is_end c
-    ≡ false → d.used + weight c ≤ 100000 → line_at stage.Commands d (word_text c) (fields_text d.volumes c)
-    ≡ Ok (record d { commands = d.commands ++ c ∷ []; used = d.used + weight c })
-unfolding line_at command_line
-going_again d c a h going le =
-    let few : nat_le (d.used + weight c) 100000 ≡ true = grind (arith, nat_tests) in
-    rw (command_again d.volumes c a h, few, going) refl
-
-end_again : (d : DraftPlan) (c : Command) → AreVolumes d.volumes → is_command (length d.volumes) c ≡ true → is_end c
-    ≡ true → d.used + weight c ≤ 100000 → line_at stage.Commands d (word_text c) (fields_text d.volumes c)
-    ≡ Ok (record d {
-      stage = stage.Processes;
-      processes = d.processes
-          ++ record { who = d.who; commands = d.commands ++ c ∷ [] } ∷ [];
-      commands = [];
-      used = d.used + weight c;
-    })
-unfolding line_at command_line
-end_again d c a h end le =
-    let few : nat_le (d.used + weight c) 100000 ≡ true = grind (arith, nat_tests) in
-    rw (command_again d.volumes c a h, few, end) refl
-
 -- inside a process, after these commands, with which so many came in all
 abbrev inside : DraftPlan → List Command → ℕ → DraftPlan
-inside base done u = record base { stage = stage.Commands; commands = done; used = u }
+inside base done u = record base { stage = stage.Commands; list = record { commands = done; used = u } }
 
 -- after a process of these commands
 abbrev behind : DraftPlan → List Command → ℕ → DraftPlan
 behind base done u = record base {
   stage = stage.Processes;
-  processes = base.processes
-      ++ record { who = base.who; commands = done } ∷ [];
-  commands = [];
-  used = u;
+  plan = record base.plan { processes = base.plan.processes ++ record { who = base.who; commands = done } ∷ [] };
+  list = record { commands = []; used = u };
 }
 
-command_reaches : (base next : DraftPlan) (done : List Command) (u : ℕ) (c : Command) → AreVolumes base.volumes
-    → is_command (length base.volumes) c ≡ true
-    → line_at stage.Commands (inside base done u) (word_text c) (fields_text base.volumes c) ≡ Ok next
-    → Reaches (inside base done u) (ended (command_text base.volumes c)) next
+going_again : (d : DraftPlan) (c : Command) → AreVolumes d.plan.volumes → is_command (length d.plan.volumes) c ≡ true → is_end c
+    ≡ false → d.list.used + weight c ≤ 100000 → line_at stage.Commands d (word_text c) (fields_text d.plan.volumes c)
+    ≡ Ok (record d { list = longer d.list c })
+unfolding line_at command_line
+going_again d c a h going le =
+    let few : nat_le (d.list.used + weight c) 100000 ≡ true = grind (arith, nat_tests) in
+    rw (command_again d.plan.volumes c a h, few, going) refl
+
+end_again : (d : DraftPlan) (c : Command) → AreVolumes d.plan.volumes → is_command (length d.plan.volumes) c ≡ true → is_end c
+    ≡ true → d.list.used + weight c ≤ 100000 → line_at stage.Commands d (word_text c) (fields_text d.plan.volumes c)
+    ≡ Ok (behind d (d.list.commands ++ c ∷ []) (d.list.used + weight c))
+unfolding line_at command_line
+end_again d c a h end le =
+    let few : nat_le (d.list.used + weight c) 100000 ≡ true = grind (arith, nat_tests) in
+    rw (command_again d.plan.volumes c a h, few, end) refl
+
+command_reaches : (base next : DraftPlan) (done : List Command) (u : ℕ) (c : Command) → AreVolumes base.plan.volumes
+    → is_command (length base.plan.volumes) c ≡ true
+    → line_at stage.Commands (inside base done u) (word_text c) (fields_text base.plan.volumes c) ≡ Ok next
+    → Reaches (inside base done u) (ended (command_text base.plan.volumes c)) next
 command_reaches base next done u c a h again =
-    reaches_line (inside base done u) next (command_text base.volumes c) (word_text c) (fields_text base.volumes c)
-    (command_fields base.volumes c a h) (word_is_no_comment c) again
+    reaches_line (inside base done u) next (command_text base.plan.volumes c) (word_text c) (fields_text base.plan.volumes c)
+    (command_fields base.plan.volumes c a h) (word_is_no_comment c) again
 
 never_ends : ends_once [] ≡ true → ⊥
 unfolding ends_once
@@ -99,33 +92,33 @@ weight_cons : (c : Command) (cs : List Command) → sum_by weight (c ∷ cs) ≡
 weight_cons c cs = let parts : sum_by weight (c ∷ cs) ≡ 0 + weight c + sum_by weight cs =
     sum_by-append weight (c ∷ []) cs in omega (arith, parts)
 
-commands_reach : (base : DraftPlan) (done : List Command) (u all : ℕ) (cs : List Command) → AreVolumes base.volumes
-    → list_all (is_command (length base.volumes)) cs ≡ true → ends_once cs ≡ true → u + sum_by weight cs ≡ all
-    → all ≤ 100000 → Reaches (inside base done u) (commands_text base.volumes cs) (behind base (done ++ cs) all)
+commands_reach : (base : DraftPlan) (done : List Command) (u all : ℕ) (cs : List Command) → AreVolumes base.plan.volumes
+    → list_all (is_command (length base.plan.volumes)) cs ≡ true → ends_once cs ≡ true → u + sum_by weight cs ≡ all
+    → all ≤ 100000 → Reaches (inside base done u) (commands_text base.plan.volumes cs) (behind base (done ++ cs) all)
 unfolding commands_text
 commands_reach base done u all [] a h ends e le = absurd (never_ends ends)
 commands_reach base done u all (c ∷ []) a h ends e le =
     let one : u + weight c ≡ all = omega (arith, e, weight_cons c []) in
-    let parts = and_parts (is_command (length base.volumes) c) true h in
-    subst (λ (t : ℕ). Reaches (inside base done u) (ended (command_text base.volumes c) ++ [])
+    let parts = and_parts (is_command (length base.plan.volumes) c) true h in
+    subst (λ (t : ℕ). Reaches (inside base done u) (ended (command_text base.plan.volumes c) ++ [])
     (behind base (done ++ c ∷ []) t)) one
     (reaches_both (inside base done u) (behind base (done ++ c ∷ []) (u + weight c))
-    (behind base (done ++ c ∷ []) (u + weight c)) (ended (command_text base.volumes c)) []
+    (behind base (done ++ c ∷ []) (u + weight c)) (ended (command_text base.plan.volumes c)) []
     (command_reaches base (behind base (done ++ c ∷ []) (u + weight c)) done u c a parts.0
     (end_again (inside base done u) c a parts.0 (last_ends c ends) (omega (arith, one, le))))
     (reaches_nothing (behind base (done ++ c ∷ []) (u + weight c))))
 commands_reach base done u all (c ∷ d ∷ cs) a h ends e le =
-    let parts = and_parts (is_command (length base.volumes) c) (list_all (is_command (length base.volumes)) (d ∷ cs)) h
+    let parts = and_parts (is_command (length base.plan.volumes) c) (list_all (is_command (length base.plan.volumes)) (d ∷ cs)) h
     in
     let later = later_ends c d cs ends in
     let rest : u + weight c + sum_by weight (d ∷ cs) ≡ all = omega (arith, e, weight_cons c (d ∷ cs)) in
     reaches_both (inside base done u) (inside base (done ++ c ∷ []) (u + weight c))
-    (behind base (done ++ c ∷ d ∷ cs) all) (ended (command_text base.volumes c))
-    (commands_text base.volumes (d ∷ cs))
+    (behind base (done ++ c ∷ d ∷ cs) all) (ended (command_text base.plan.volumes c))
+    (commands_text base.plan.volumes (d ∷ cs))
     (command_reaches base (inside base (done ++ c ∷ []) (u + weight c)) done u c a parts.0
     (going_again (inside base done u) c a parts.0 later.0 (omega (arith, rest, le))))
     (subst (λ (t : List Command). Reaches (inside base (done ++ c ∷ []) (u + weight c))
-    (commands_text base.volumes (d ∷ cs)) (behind base t all)) (append_assoc done (c ∷ []) (d ∷ cs))
+    (commands_text base.plan.volumes (d ∷ cs)) (behind base t all)) (append_assoc done (c ∷ []) (d ∷ cs))
     (commands_reach base (done ++ c ∷ []) (u + weight c) all (d ∷ cs) a parts.1 later.1 rest le))
 
 -- ---- the first line of a process
@@ -145,15 +138,15 @@ process_at stage.Fails d fields h = refl
 process_at stage.Processes d fields h = refl
 process_at _ d fields h = absurd (cc)
 
-process_again : (d : DraftPlan) (who : Who) → is_who who ≡ true → length d.processes < 32
+process_again : (d : DraftPlan) (who : Who) → is_who who ≡ true → length d.plan.processes < 32
     → process_line d (who_text who ∷ []) ≡ Ok (record d { stage = stage.Commands; who = who })
 unfolding process_line one_field next_field no_fields
 process_again d who h room =
-    let few : nat_lt (length d.processes) 32 ≡ true = grind (arith, nat_tests) in
+    let few : nat_lt (length d.plan.processes) 32 ≡ true = grind (arith, nat_tests) in
     rw (who_in_again who h, few) refl
 
 initializer_at : (s : Stage) (d : DraftPlan) → takes_fail s ≡ true → line_at s d (codes "initializer") []
-    ≡ Ok (record d { stage = stage.Commands; initializer = true; who = initializer_who })
+    ≡ Ok (record d { stage = stage.Commands; plan = record d.plan { initializer = true }; who = initializer_who })
 unfolding line_at after_bulk after_fail initializer_line no_fields
 initializer_at stage.Bulks d h = refl
 initializer_at stage.Fails d h = refl
@@ -166,7 +159,16 @@ initializer_at stage.Commands d h = absurd (cc)
 
 -- between processes, at a stage
 abbrev between : DraftPlan → Stage → List ProcessPlan → Who → ℕ → DraftPlan
-between base s done who u = record base { stage = s; processes = done; who = who; commands = []; used = u }
+between base s done who u = record base {
+  stage = s;
+  plan = record base.plan { processes = done };
+  who = who;
+  list = record { commands = []; used = u };
+}
+
+-- the process at the begin is the initializer
+abbrev initial : DraftPlan → DraftPlan
+initial base = record base { plan = record base.plan { initializer = true } }
 
 begin_reaches : (base : DraftPlan) (s : Stage) (done : List ProcessPlan) (before who : Who) (u : ℕ) → begins s ≡ true
     → is_who who ≡ true → length done < 32 → Reaches (between base s done before u) (ended (begin_text false who))
@@ -183,10 +185,10 @@ begin_reaches base s done before who u may h room =
 
 initializer_reaches : (base : DraftPlan) (s : Stage) (done : List ProcessPlan) (before who : Who) (u : ℕ)
     → takes_fail s ≡ true → Reaches (between base s done before u) (ended (begin_text true who))
-    (between (record base { initializer = true }) stage.Commands done initializer_who u)
+    (between (initial base) stage.Commands done initializer_who u)
 unfolding begin_text
 initializer_reaches base s done before who u may =
-    reaches_line (between base s done before u) (between (record base { initializer = true }) stage.Commands done
+    reaches_line (between base s done before u) (between (initial base) stage.Commands done
     initializer_who u) (begin_text true who) (codes "initializer") []
     (last_field (codes "initializer") (record { some = omega arith; bytes = refl }))
     refl
@@ -203,33 +205,33 @@ process_parts volumes x h =
     (p.0, q.0, q.1)
 
 process_reaches : (base : DraftPlan) (s : Stage) (done : List ProcessPlan) (before : Who) (u : ℕ) (x : ProcessPlan)
-    → begins s ≡ true → AreVolumes base.volumes → is_process (length base.volumes) x ≡ true → length done < 32
-    → u + weight_of x ≤ 100000 → Reaches (between base s done before u) (process_text base.volumes false x)
+    → begins s ≡ true → AreVolumes base.plan.volumes → is_process (length base.plan.volumes) x ≡ true → length done < 32
+    → u + weight_of x ≤ 100000 → Reaches (between base s done before u) (process_text base.plan.volumes false x)
     (between base stage.Processes (done ++ x ∷ []) x.who (u + weight_of x))
 unfolding process_text weight_of
 process_reaches base s done before u x may a h room le =
-    let p = process_parts (length base.volumes) x h in
+    let p = process_parts (length base.plan.volumes) x h in
     reaches_both (between base s done before u) (between base stage.Commands done x.who u)
     (between base stage.Processes (done ++ x ∷ []) x.who (u + weight_of x)) (ended (begin_text false x.who))
-    (commands_text base.volumes x.commands)
+    (commands_text base.plan.volumes x.commands)
     (begin_reaches base s done before x.who u may p.0 room)
-    (commands_reach (record base { processes = done; who = x.who }) [] u (u + weight_of x) x.commands a p.1 p.2 refl le)
+    (commands_reach (record base { plan = record base.plan { processes = done }; who = x.who }) [] u (u + weight_of x) x.commands a p.1 p.2 refl le)
 
 first_reaches : (base : DraftPlan) (s : Stage) (before : Who) (u : ℕ) (x : ProcessPlan) → takes_fail s ≡ true
-    → AreVolumes base.volumes → is_process (length base.volumes) x ≡ true → x.who ≡ initializer_who
-    → u + weight_of x ≤ 100000 → Reaches (between base s [] before u) (process_text base.volumes true x)
-    (between (record base { initializer = true }) stage.Processes (x ∷ []) initializer_who (u + weight_of x))
+    → AreVolumes base.plan.volumes → is_process (length base.plan.volumes) x ≡ true → x.who ≡ initializer_who
+    → u + weight_of x ≤ 100000 → Reaches (between base s [] before u) (process_text base.plan.volumes true x)
+    (between (initial base) stage.Processes (x ∷ []) initializer_who (u + weight_of x))
 unfolding process_text weight_of
 first_reaches base s before u x may a h who le =
-    let p = process_parts (length base.volumes) x h in
-    reaches_both (between base s [] before u) (between (record base { initializer = true }) stage.Commands []
-    initializer_who u) (between (record base { initializer = true }) stage.Processes (x ∷ []) initializer_who
-    (u + weight_of x)) (ended (begin_text true x.who)) (commands_text base.volumes x.commands)
+    let p = process_parts (length base.plan.volumes) x h in
+    reaches_both (between base s [] before u) (between (initial base) stage.Commands []
+    initializer_who u) (between (initial base) stage.Processes (x ∷ []) initializer_who
+    (u + weight_of x)) (ended (begin_text true x.who)) (commands_text base.plan.volumes x.commands)
     (initializer_reaches base s [] before x.who u may)
-    (subst (λ (w : Who). Reaches (between (record base { initializer = true }) stage.Commands [] initializer_who u)
-    (commands_text base.volumes x.commands) (between (record base { initializer = true }) stage.Processes
+    (subst (λ (w : Who). Reaches (between (initial base) stage.Commands [] initializer_who u)
+    (commands_text base.plan.volumes x.commands) (between (initial base) stage.Processes
     (record { who = w; commands = x.commands } ∷ []) initializer_who (u + weight_of x))) (sym who)
-    (commands_reach (record base { initializer = true; processes = []; who = initializer_who }) [] u (u + weight_of x)
+    (commands_reach (record base { plan = record base.plan { initializer = true; processes = [] }; who = initializer_who }) [] u (u + weight_of x)
     x.commands a p.1 p.2 refl le))
 
 -- ---- the end
@@ -245,7 +247,7 @@ fail_begins stage.Bulks h = refl
 fail_begins stage.Fails h = refl
 fail_begins _ h = absurd (cc)
 
-end_read : (n : ℕ) (d : DraftPlan) → is_whole d.stage ≡ true → read_from n d [] ≡ Ok (plan_of d)
+end_read : (n : ℕ) (d : DraftPlan) → is_whole d.stage ≡ true → read_from n d [] ≡ Ok d.plan
 unfolding lines_of finished
 end_read n d h = rw h refl
 
@@ -264,36 +266,36 @@ weight_of_cons x xs = let parts : sum_by weight_of (x ∷ xs) ≡ 0 + weight_of 
     sum_by-append weight_of (x ∷ []) xs in omega (arith, parts)
 
 processes_read : (base : DraftPlan) (s : Stage) (done : List ProcessPlan) (before : Who) (u : ℕ)
-    (xs : List ProcessPlan) (n : ℕ) → begins s ≡ true → AreVolumes base.volumes
-    → list_all (is_process (length base.volumes)) xs ≡ true → length done + length xs ≤ 32
+    (xs : List ProcessPlan) (n : ℕ) → begins s ≡ true → AreVolumes base.plan.volumes
+    → list_all (is_process (length base.plan.volumes)) xs ≡ true → length done + length xs ≤ 32
     → u + sum_by weight_of xs ≤ 100000 → read_from n (between base s done before u)
-    (processes_text base.volumes false xs) ≡ Ok (plan_of (record base { processes = done ++ xs }))
+    (processes_text base.plan.volumes false xs) ≡ Ok (record base.plan { processes = done ++ xs })
 processes_read base s done before u [] n may a h room le =
-    ap (read_from n (between base s done before u)) (no_processes base.volumes false)
+    ap (read_from n (between base s done before u)) (no_processes base.plan.volumes false)
     ∙ end_read n (between base s done before u) (begins_whole s may)
-    ∙ ap (λ (t : List ProcessPlan). Ok (plan_of (record base { processes = t }))) (sym (nil_after done))
+    ∙ ap (λ (t : List ProcessPlan). Ok (record base.plan { processes = t })) (sym (nil_after done))
 processes_read base s done before u (x ∷ xs) n may a h room le =
-    let parts = and_parts (is_process (length base.volumes) x) (list_all (is_process (length base.volumes)) xs) h in
+    let parts = and_parts (is_process (length base.plan.volumes) x) (list_all (is_process (length base.plan.volumes)) xs) h in
     let step = (process_reaches base s done before u x may a parts.0 (omega (arith, room))
-    (omega (arith, le, weight_of_cons x xs))).reads n (processes_text base.volumes false xs) in
-    ap (read_from n (between base s done before u)) (one_process base.volumes false x xs)
+    (omega (arith, le, weight_of_cons x xs))).reads n (processes_text base.plan.volumes false xs) in
+    ap (read_from n (between base s done before u)) (one_process base.plan.volumes false x xs)
     ∙ step.1
     ∙ processes_read base stage.Processes (done ++ x ∷ []) x.who (u + weight_of x) xs step.0 refl a parts.1
     (omega (arith, room, length-append done (x ∷ []))) (omega (arith, le, weight_of_cons x xs))
-    ∙ ap (λ (t : List ProcessPlan). Ok (plan_of (record base { processes = t }))) (append_assoc done (x ∷ []) xs)
+    ∙ ap (λ (t : List ProcessPlan). Ok (record base.plan { processes = t })) (append_assoc done (x ∷ []) xs)
 
 first_read : (base : DraftPlan) (s : Stage) (before : Who) (xs : List ProcessPlan) (n : ℕ) → takes_fail s ≡ true
-    → AreVolumes base.volumes → list_all (is_process (length base.volumes)) xs ≡ true → BeginsWithInitializer xs
+    → AreVolumes base.plan.volumes → list_all (is_process (length base.plan.volumes)) xs ≡ true → BeginsWithInitializer xs
     → length xs ≤ 32 → sum_by weight_of xs ≤ 100000 → read_from n (between base s [] before 0)
-    (processes_text base.volumes true xs) ≡ Ok (plan_of (record base { initializer = true; processes = xs }))
+    (processes_text base.plan.volumes true xs) ≡ Ok (record base.plan { initializer = true; processes = xs })
 first_read base s before [] n may a h first room le = absurd first
 first_read base s before (x ∷ xs) n may a h first room le =
-    let parts = and_parts (is_process (length base.volumes) x) (list_all (is_process (length base.volumes)) xs) h in
+    let parts = and_parts (is_process (length base.plan.volumes) x) (list_all (is_process (length base.plan.volumes)) xs) h in
     let step = (first_reaches base s before 0 x may a parts.0 first (omega (arith, le, weight_of_cons x xs))).reads n
-    (processes_text base.volumes false xs) in
-    ap (read_from n (between base s [] before 0)) (one_process base.volumes true x xs)
+    (processes_text base.plan.volumes false xs) in
+    ap (read_from n (between base s [] before 0)) (one_process base.plan.volumes true x xs)
     ∙ step.1
-    ∙ processes_read (record base { initializer = true }) stage.Processes (x ∷ []) initializer_who (0 + weight_of x) xs
+    ∙ processes_read (initial base) stage.Processes (x ∷ []) initializer_who (0 + weight_of x) xs
     step.0 refl a parts.1 (omega (arith, room)) (omega (arith, le, weight_of_cons x xs))
 
 after_head_read : (p : Plan) (first : Bool) (n : ℕ) → IsPlan p → p.initializer ≡ first

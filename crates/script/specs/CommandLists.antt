@@ -13,10 +13,13 @@ pub record ListPlan : Type 0 where
   pub commands : List Command
   pub used : ℕ
 
+-- the list with one command more
+abbrev pub longer : ListPlan → Command → ListPlan
+longer l c = record { commands = l.commands ++ c ∷ []; used = l.used + weight c }
+
 -- the command that was read comes next; at most 100,000 in all
 abbrev pub listed : ListPlan → Result Command Cause → Result ListPlan Cause
-listed l (Ok c) = only_if cause.Many (nat_le (l.used + weight c) 100000)
-    (record { commands = l.commands ++ c ∷ []; used = l.used + weight c })
+listed l (Ok c) = only_if cause.Many (nat_le (l.used + weight c) 100000) (longer l c)
 listed l (Err e) = Err e
 
 -- a list that was changed has the command that was read; where that is refused, or memory ran out, it is as before

@@ -3,6 +3,7 @@ use Rattle.std.specs.Prelude.{◌≡◌, ℕ, ◌+◌, ◌<◌, ◌≤◌, Bool,
 use Rattle.std.specs.List.{list_all}
 use Rattle.mnames.specs.Principals.{default_project}
 use Rattle.mnames.specs.declared.principals.Who.{Who}
+use Rattle.script.specs.CommandLists.{ListPlan}
 use Rattle.script.specs.Forms.{ArePools, BeginsWithInitializer, have_own_names, have_own_volumes, is_bulk, is_command}
 use Rattle.script.specs.Forms.{is_end, is_fail, is_process, is_volume, is_who, records_of, weight, weight_of}
 use Rattle.script.specs.Plans.{Plan, ProcessPlan}
@@ -11,27 +12,16 @@ use Rattle.script.specs.declared.drafts.Stage.{Stage}
 use Rattle.script.specs.declared.drafts.Stage.TheVariants as stage
 use Rattle.script.specs.declared.plan.Bulk.{Bulk}
 use Rattle.script.specs.declared.plan.Fail.{Fail}
-use Rattle.script.specs.declared.plan.Print.{Print}
 use Rattle.script.specs.declared.plan.Print.TheVariants as print
 use Rattle.script.specs.declared.plan.VolumeLine.{VolumeLine}
 
--- what may stand next; the parts of the plan so far; of the process whose commands stand next, or stood last, for whom
--- it runs and its commands before its end; and how many commands came in all, an await counted as its tries
+-- what may stand next; the plan so far; for whom the process runs whose commands stand next, or stood last; and its
+-- commands before its end
 pub record DraftPlan : Type 0 where
   pub stage : Stage
-  pub processors : ℕ
-  pub frames : ℕ
-  pub pools : List ℕ
-  pub quota : ℕ
-  pub volumes : List VolumeLine
-  pub print : Print
-  pub bulks : List Bulk
-  pub fails : List Fail
-  pub initializer : Bool
-  pub processes : List ProcessPlan
+  pub plan : Plan
   pub who : Who
-  pub commands : List Command
-  pub used : ℕ
+  pub list : ListPlan
 
 -- for whom the initializer runs
 abbrev pub initializer_who : Who
@@ -41,34 +31,20 @@ initializer_who = record { person = codes "Initializer"; project = default_proje
 abbrev pub blank : DraftPlan
 blank = record {
   stage = stage.Machine;
-  processors = 1;
-  frames = 4;
-  pools = 12 ∷ 1 ∷ 1 ∷ 1 ∷ [];
-  quota = 0;
-  volumes = [];
-  print = print.Replies;
-  bulks = [];
-  fails = [];
-  initializer = false;
-  processes = [];
+  plan = record {
+    processors = 1;
+    frames = 4;
+    pools = 12 ∷ 1 ∷ 1 ∷ 1 ∷ [];
+    quota = 0;
+    volumes = [];
+    print = print.Replies;
+    bulks = [];
+    fails = [];
+    initializer = false;
+    processes = [];
+  };
   who = initializer_who;
-  commands = [];
-  used = 0;
-}
-
--- the plan of a draft
-abbrev pub plan_of : DraftPlan → Plan
-plan_of d = record {
-  processors = d.processors;
-  frames = d.frames;
-  pools = d.pools;
-  quota = d.quota;
-  volumes = d.volumes;
-  print = d.print;
-  bulks = d.bulks;
-  fails = d.fails;
-  initializer = d.initializer;
-  processes = d.processes;
+  list = record { commands = []; used = 0 };
 }
 
 -- no volume must still come
@@ -100,34 +76,78 @@ is_head _ = true
 abbrev pub goes_on : Command → Bool
 goes_on c = not (is_end c)
 
--- the processes, the one whose commands stand next among them
-abbrev pub begun_at : Stage → DraftPlan → List ProcessPlan
-begun_at stage.Commands d = d.processes ++ record { who = d.who; commands = d.commands } ∷ []
-begun_at _ d = d.processes
+-- the processes and, where its commands stand next, the one that began
+abbrev pub begun_at : Stage → List ProcessPlan → ProcessPlan → List ProcessPlan
+begun_at stage.Commands done x = done ++ x ∷ []
+begun_at _ done x = done
+
+-- the process whose commands stand next, or stood last
+abbrev pub begun : DraftPlan → ProcessPlan
+begun d = record { who = d.who; commands = d.list.commands }
+
+-- what the line of the machine and that of the quota give
+pub record AreSizes (cores pages : ℕ) (places : List ℕ) (root : ℕ) : Type 0 where
+  pub processors : (1 ≤ cores) × (cores ≤ 8)
+  pub frames : (4 ≤ pages) × (pages ≤ 1024)
+  pub pools : ArePools places
+  pub quota : root ≤ 16384
+
+-- what the lines of volumes give
+pub record AreVolumes (volumes : List VolumeLine) : Type 0 where
+  pub few : length volumes ≤ 4
+  pub each : list_all is_volume volumes ≡ true
+  pub own : have_own_names volumes ≡ true
+  pub records : sum_by records_of volumes ≤ 16384
+
+-- what the lines of fast stores give, before so many volumes
+pub record AreBulks (volumes : ℕ) (bulks : List Bulk) : Type 0 where
+  pub each : list_all (is_bulk volumes) bulks ≡ true
+  pub apart : have_own_volumes bulks ≡ true
+
+-- what the lines of calls that fail give
+pub record AreFails (volumes : ℕ) (fails : List Fail) : Type 0 where
+  pub each : list_all (is_fail volumes) fails ≡ true
+  pub few : length fails ≤ 100
+
+-- what the lines before the first process give, beside the sizes
+pub record AreDisks (vs : List VolumeLine) (bs : List Bulk) (fs : List Fail) : Type 0 where
+  pub volumes : AreVolumes vs
+  pub bulks : AreBulks (length vs) bs
+  pub fails : AreFails (length vs) fs
+
+-- the processes that are whole
+pub record AreProcesses (volumes : ℕ) (processes : List ProcessPlan) : Type 0 where
+  pub each : list_all (is_process volumes) processes ≡ true
+  pub few : length processes ≤ 32
+
+-- a process before its end
+pub record IsBegun (volumes : ℕ) (x : ProcessPlan) : Type 0 where
+  pub who : is_who x.who ≡ true
+  pub each : list_all (is_command volumes) x.commands ≡ true
+  pub going : list_all goes_on x.commands ≡ true
+
+-- how many commands came in all
+pub record AreCounted (processes : List ProcessPlan) (list : ListPlan) : Type 0 where
+  pub weights : sum_by weight_of processes + sum_by weight list.commands ≤ list.used
+  pub used : list.used ≤ 100000
+
+-- the processes that are whole, the one that began, and how many commands these have
+pub record AreRuns (volumes : ℕ) (xs : List ProcessPlan) (x : ProcessPlan) (list : ListPlan) : Type 0 where
+  pub whole : AreProcesses volumes xs
+  pub begun : IsBegun volumes x
+  pub counts : AreCounted xs list
+
+-- what a plan has at a stage, and a process that began
+pub record IsAt (s : Stage) (p : Plan) (x : ProcessPlan) : Type 0 where
+  pub some : has_volume s ≡ true → 1 ≤ length p.volumes
+  pub early : is_early s ≡ true → (p.bulks ≡ []) × (p.fails ≡ []) × (x.commands ≡ [])
+  pub head : is_head s ≡ true → p.processes ≡ []
+  pub room : is_inside s ≡ true → length p.processes < 32
+  pub first : p.initializer ≡ true → BeginsWithInitializer (begun_at s p.processes x)
 
 -- what each draft keeps; it becomes what each script keeps
 pub record IsDraft (d : DraftPlan) : Type 0 where
-  pub processors : (1 ≤ d.processors) × (d.processors ≤ 8)
-  pub frames : (4 ≤ d.frames) × (d.frames ≤ 1024)
-  pub pools : ArePools d.pools
-  pub quota : d.quota ≤ 16384
-  pub some : has_volume d.stage ≡ true → 1 ≤ length d.volumes
-  pub few : length d.volumes ≤ 4
-  pub volumes : list_all is_volume d.volumes ≡ true
-  pub names : have_own_names d.volumes ≡ true
-  pub records : sum_by records_of d.volumes ≤ 16384
-  pub bulks : list_all (is_bulk (length d.volumes)) d.bulks ≡ true
-  pub apart : have_own_volumes d.bulks ≡ true
-  pub fails : list_all (is_fail (length d.volumes)) d.fails ≡ true
-  pub most : length d.fails ≤ 100
-  pub early : is_early d.stage ≡ true → (d.bulks ≡ []) × (d.fails ≡ []) × (d.commands ≡ [])
-  pub head : is_head d.stage ≡ true → d.processes ≡ []
-  pub room : is_inside d.stage ≡ true → length d.processes < 32
-  pub processes : length d.processes ≤ 32
-  pub each : list_all (is_process (length d.volumes)) d.processes ≡ true
-  pub first : d.initializer ≡ true → BeginsWithInitializer (begun_at d.stage d)
-  pub who : is_who d.who ≡ true
-  pub commands : list_all (is_command (length d.volumes)) d.commands ≡ true
-  pub going : list_all goes_on d.commands ≡ true
-  pub weights : sum_by weight_of d.processes + sum_by weight d.commands ≤ d.used
-  pub used : d.used ≤ 100000
+  pub sizes : AreSizes d.plan.processors d.plan.frames d.plan.pools d.plan.quota
+  pub disks : AreDisks d.plan.volumes d.plan.bulks d.plan.fails
+  pub runs : AreRuns (length d.plan.volumes) d.plan.processes (begun d) d.list
+  pub stage : IsAt d.stage d.plan (begun d)

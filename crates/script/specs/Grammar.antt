@@ -1,7 +1,7 @@
 -- The script of some bytes, or the first refusal (own).
 use Rattle.std.specs.Prelude.{◌≡◌, ℕ, ◌+◌, Bool, not, ◌&&◌, ◌==◌, if◌then◌else◌, List, [], ◌∷◌, fold, slice_index_or}
 use Rattle.std.specs.Prelude.{Result, Ok, Err}
-use Rattle.script.specs.Drafts.{DraftPlan, blank, has_volume, is_inside, plan_of}
+use Rattle.script.specs.Drafts.{DraftPlan, blank, has_volume, is_inside}
 use Rattle.script.specs.Fields.{lines_of, fields_of, is_printable}
 use Rattle.script.specs.Heads.{line_at}
 use Rattle.script.specs.Plans.{Plan}
@@ -41,7 +41,7 @@ is_whole s = has_volume s && not (is_inside s)
 
 -- the script of the lines up to the one of that number, which isn't there
 abbrev pub whole_or_missing : ℕ → DraftPlan → Result Plan Refusal
-whole_or_missing n d = if is_whole d.stage then Ok (plan_of d) else Err (record { line = n; cause = cause.Missing })
+whole_or_missing n d = if is_whole d.stage then Ok d.plan else Err (record { line = n; cause = cause.Missing })
 
 unfoldable pub finished : Result (ℕ × DraftPlan) Refusal → Result Plan Refusal
 finished (Ok s) = whole_or_missing s.0 s.1

@@ -4,6 +4,7 @@ use Rattle.std.specs.Prelude.{ℕ, ◌+◌, Bool, true, not, ◌||◌, nat_le, n
 use Rattle.std.specs.Prelude.{length, sum_by, Result, Ok, Err, codes}
 use Rattle.std.specs.List.{list_any}
 use Rattle.std.specs.Str.{bytes_eq}
+use Rattle.script.specs.CommandLists.{ListPlan, longer}
 use Rattle.script.specs.Commands.{command_of}
 use Rattle.script.specs.Drafts.{DraftPlan, initializer_who}
 use Rattle.script.specs.Forms.{is_before, is_end, records_of, weight}
@@ -33,18 +34,22 @@ machine_line d fields = do
   processors ← number_in 1 8 f.0
   frames ← number_in 4 1024 f.1
   pools ← pools_in f.2 f.3 f.4 f.5
-  Ok (record d { stage = stage.Quota; processors = processors; frames = frames; pools = pools })
+  Ok (record d {
+    stage = stage.Quota;
+    plan = record d.plan { processors = processors; frames = frames; pools = pools };
+  })
 
 -- `quota Q`
 unfoldable pub quota_line : DraftPlan → List (List ℕ) → Result DraftPlan Cause
 quota_line d fields = do
   f ← one_field fields
   quota ← number_in 0 16384 f
-  Ok (record d { stage = stage.FirstVolume; quota = quota })
+  Ok (record d { stage = stage.FirstVolume; plan = record d.plan { quota = quota } })
 
 -- a fifth volume, or records that together pass 16384
 abbrev pub is_volume_too_many : DraftPlan → ℕ → Bool
-is_volume_too_many d records = nat_le 4 (length d.volumes) || nat_lt 16384 (sum_by records_of d.volumes + records)
+is_volume_too_many d records = nat_le 4 (length d.plan.volumes)
+    || nat_lt 16384 (sum_by records_of d.plan.volumes + records)
 
 -- `NAME RECORDS ENTRIES`, of a volume whose name wasn't given before
 unfoldable pub new_volume_in : List VolumeLine → List (List ℕ) → Result VolumeLine Cause
@@ -58,25 +63,28 @@ new_volume_in volumes fields = do
 -- `volume NAME RECORDS ENTRIES`
 unfoldable pub volume_line : DraftPlan → List (List ℕ) → Result DraftPlan Cause
 volume_line d fields = do
-  v ← new_volume_in d.volumes fields
+  v ← new_volume_in d.plan.volumes fields
   if is_volume_too_many d v.records then Err cause.Many
-      else Ok (record d { stage = stage.Volumes; volumes = d.volumes ++ v ∷ [] })
+      else Ok (record d { stage = stage.Volumes; plan = record d.plan { volumes = d.plan.volumes ++ v ∷ [] } })
 
 -- `print MODE`
 unfoldable pub print_line : DraftPlan → List (List ℕ) → Result DraftPlan Cause
 print_line d fields = do
   f ← one_field fields
   mode ← print_in f
-  Ok (record d { stage = stage.Bulks; print = mode })
+  Ok (record d { stage = stage.Bulks; plan = record d.plan { print = mode } })
 
 -- `bulk NAME PLACES`, at most once for a volume
 unfoldable pub bulk_line : DraftPlan → List (List ℕ) → Result DraftPlan Cause
 bulk_line d fields = do
   f ← two_fields fields
-  volume ← volume_in d.volumes f.0
-  _ ← only_if cause.Twice (not (list_any (is_before volume) d.bulks)) volume
+  volume ← volume_in d.plan.volumes f.0
+  _ ← only_if cause.Twice (not (list_any (is_before volume) d.plan.bulks)) volume
   places ← number_in 1 1024 f.1
-  Ok (record d { stage = stage.Bulks; bulks = d.bulks ++ record { volume = volume; places = places } ∷ [] })
+  Ok (record d {
+    stage = stage.Bulks;
+    plan = record d.plan { bulks = d.plan.bulks ++ record { volume = volume; places = places } ∷ [] };
+  })
 
 -- `NAME read N` or `NAME write N`, or the same with `+` after it
 unfoldable pub fail_in : List VolumeLine → List (List ℕ) → Result Fail Cause
@@ -90,41 +98,40 @@ fail_in volumes fields = do
 -- `fail` and such a call; at most 100
 unfoldable pub fail_line : DraftPlan → List (List ℕ) → Result DraftPlan Cause
 fail_line d fields = do
-  f ← fail_in d.volumes fields
-  only_if cause.Many (nat_lt (length d.fails) 100) (record d { stage = stage.Fails; fails = d.fails ++ f ∷ [] })
+  f ← fail_in d.plan.volumes fields
+  only_if cause.Many (nat_lt (length d.plan.fails) 100)
+      (record d { stage = stage.Fails; plan = record d.plan { fails = d.plan.fails ++ f ∷ [] } })
 
 -- `initializer`: its commands stand next
 unfoldable pub initializer_line : DraftPlan → List (List ℕ) → Result DraftPlan Cause
 initializer_line d fields = do
   _ ← no_fields fields
-  Ok (record d { stage = stage.Commands; initializer = true; who = initializer_who })
+  Ok (record d { stage = stage.Commands; plan = record d.plan { initializer = true }; who = initializer_who })
 
 -- `process WHO`: its commands stand next; at most 32 processes
 unfoldable pub process_line : DraftPlan → List (List ℕ) → Result DraftPlan Cause
 process_line d fields = do
   f ← one_field fields
   who ← who_in f
-  only_if cause.Many (nat_lt (length d.processes) 32) (record d { stage = stage.Commands; who = who })
+  only_if cause.Many (nat_lt (length d.plan.processes) 32) (record d { stage = stage.Commands; who = who })
 
--- a command, with which so many came in all; at the end the process is whole
-abbrev pub with_command : DraftPlan → ℕ → Command → DraftPlan
-with_command d used c = if is_end c then record d {
+-- a command that came next in the list; at the end the process is whole
+abbrev pub with_command : DraftPlan → ListPlan → Command → DraftPlan
+with_command d l c = if is_end c then record d {
   stage = stage.Processes;
-  processes = d.processes
-      ++ record { who = d.who; commands = d.commands ++ c ∷ [] } ∷ [];
-  commands = [];
-  used = used;
+  plan = record d.plan { processes = d.plan.processes ++ record { who = d.who; commands = l.commands } ∷ [] };
+  list = record { commands = []; used = l.used };
 }
-    else record d { commands = d.commands ++ c ∷ []; used = used }
+    else record d { list = l }
 
 -- the command that was read comes next; at most 100,000 in all
 abbrev pub added : DraftPlan → Result Command Cause → Result DraftPlan Cause
-added d (Ok c) = only_if cause.Many (nat_le (d.used + weight c) 100000) (with_command d (d.used + weight c) c)
+added d (Ok c) = only_if cause.Many (nat_le (d.list.used + weight c) 100000) (with_command d (longer d.list c) c)
 added d (Err e) = Err e
 
 -- a command of a process
 unfoldable pub command_line : DraftPlan → List ℕ → List (List ℕ) → Result DraftPlan Cause
-command_line d word fields = added d (command_of d.volumes word fields)
+command_line d word fields = added d (command_of d.plan.volumes word fields)
 
 -- the lines that may stand after a process, after `fail`, after `print` or `bulk`, and after a volume
 unfoldable pub after_process : DraftPlan → List ℕ → List (List ℕ) → Result DraftPlan Cause

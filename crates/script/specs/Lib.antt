@@ -7,6 +7,7 @@ pub mod Forms
 pub mod Grammar
 pub mod Heads
 pub mod Lines
+pub mod Parts
 pub mod Plans
 pub mod Readers
 pub mod References

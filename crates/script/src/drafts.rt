@@ -1,7 +1,7 @@
 ghost use Rattle.std.specs.Prelude.{◌≡◌, ◌+◌, ◌<◌, ◌≤◌, false, true, codes, Ok, length, sum_by};
 ghost use Rattle.std.specs.List.{list_any};
 ghost use Rattle.std.specs.Str.{bytes_eq};
-ghost use Rattle.script.specs.Drafts.{blank, initializer_who, has_volume, is_early, is_head, is_inside, plan_of};
+ghost use Rattle.script.specs.Drafts.{blank, initializer_who, has_volume, is_early, is_head, is_inside};
 ghost use Rattle.script.specs.Fields.{fields_of, is_printable};
 ghost use Rattle.script.specs.Forms.{is_before, is_who, records_of};
 ghost use Rattle.script.specs.Grammar.{text_after, whole_or_missing};
@@ -14,7 +14,7 @@ ghost use Rattle.script.specs.declared.commands.Command.TheVariants.{End};
 use crate::command_list::CommandList;
 use crate::commands::{Command, Process};
 use crate::fields::{no_fields, one_field, six_fields, split_field, two_fields};
-use crate::plan::{Bulk, Fail, Print, Script, VolumeLine};
+use crate::plan::{Bulk, Parts, Print, Script, VolumeLine};
 use crate::refusals::{Cause, Refusal};
 use crate::values::{number_in, pools_in, print_in, who_in};
 use crate::volumes::{fail_in, new_volume_in, volume_in};
@@ -86,58 +86,20 @@ impl From<AllocError> for LineFault {
 #[derive(Drop)]
 pub struct Draft {
     stage: Stage,
-    processors: u32,
-    frames: u32,
-    pools: [u32; 4],
-    quota: u32,
-    volumes: Vec<VolumeLine>,
-    print: Print,
-    bulks: Vec<Bulk>,
-    fails: Vec<Fail>,
-    initializer: bool,
-    processes: Vec<Process>,
+    parts: Parts,
     who: Who,
     commands: CommandList,
 }
 
 impl Model for Draft {
     ghost use Rattle.script.specs.Drafts.{DraftPlan, IsDraft};
+    ghost use Rattle.script.specs.Parts.{plan_of};
 
     ghost Value = { DraftPlan };
 
-    ghost view = { λ d. record {
-      stage = d.stage;
-      processors = d.processors;
-      frames = d.frames;
-      pools = d.pools;
-      quota = d.quota;
-      volumes = d.volumes.items;
-      print = d.print;
-      bulks = d.bulks.items;
-      fails = d.fails.items;
-      initializer = d.initializer;
-      processes = d.processes.items;
-      who = d.who;
-      commands = d.commands.commands;
-      used = d.commands.used;
-    } };
+    ghost view = { λ d. record { stage = d.stage; plan = plan_of d.parts; who = d.who; list = d.commands } };
 
-    ghost invariant = { λ d. IsDraft (record {
-      stage = d.stage;
-      processors = d.processors;
-      frames = d.frames;
-      pools = d.pools;
-      quota = d.quota;
-      volumes = d.volumes.items;
-      print = d.print;
-      bulks = d.bulks.items;
-      fails = d.fails.items;
-      initializer = d.initializer;
-      processes = d.processes.items;
-      who = d.who;
-      commands = d.commands.commands;
-      used = d.commands.used;
-    }) };
+    ghost invariant = { λ d. IsDraft (record { stage = d.stage; plan = plan_of d.parts; who = d.who; list = d.commands }) };
 }
 
 /// For whom the initializer runs.
@@ -172,22 +134,23 @@ fn has_bulk(bulks: &[Bulk], volume: u32) -> bool
 
 impl Draft {
     /// What no line says.
-    #[tactic(auto, using(crate::proofs::DraftLaws::blank_is, std::proofs::lemmas::Grind::common_steps))]
     pub(crate) fn blank(alloc: Global) -> Draft
         ensures { result ≡ blank }
     {
         Draft {
             stage: Stage::Machine,
-            processors: 1,
-            frames: 4,
-            pools: [12, 1, 1, 1],
-            quota: 0,
-            volumes: Vec::new(alloc),
-            print: Print::Replies,
-            bulks: Vec::new(alloc),
-            fails: Vec::new(alloc),
-            initializer: false,
-            processes: Vec::new(alloc),
+            parts: Parts {
+                processors: 1,
+                frames: 4,
+                pools: [12, 1, 1, 1],
+                quota: 0,
+                volumes: Vec::new(alloc),
+                print: Print::Replies,
+                bulks: Vec::new(alloc),
+                fails: Vec::new(alloc),
+                initializer: false,
+                processes: Vec::new(alloc),
+            },
             who: initializer_who(),
             commands: CommandList::new(alloc),
         }
@@ -204,9 +167,9 @@ impl Draft {
         let frames = number_in(frames, 4, 1024)?;
         let pools = pools_in(four, sixteen, sixty_four, most)?;
         self.stage = Stage::Quota;
-        self.processors = processors;
-        self.frames = frames;
-        self.pools = pools;
+        self.parts.processors = processors;
+        self.parts.frames = frames;
+        self.parts.pools = pools;
         Ok(())
     }
 
@@ -219,7 +182,7 @@ impl Draft {
         let quota = one_field(line)?;
         let quota = number_in(quota, 0, 16384)?;
         self.stage = Stage::FirstVolume;
-        self.quota = quota;
+        self.parts.quota = quota;
         Ok(())
     }
 
@@ -233,7 +196,7 @@ impl Draft {
         let mode = one_field(line)?;
         let mode = print_in(mode)?;
         self.stage = Stage::Bulks;
-        self.print = mode;
+        self.parts.print = mode;
         Ok(())
     }
 
@@ -243,11 +206,13 @@ impl Draft {
         requires { is_early self.old.stage ≡ true }
         ensures { Steps self.new result (volume_line self.old (fields_of line.now)) }
     {
-        let volume = new_volume_in(&self.volumes, line)?;
-        if self.volumes.len() >= 4 || records_in(&self.volumes) + volume.records > 16384 {
+        let volume = new_volume_in(&self.parts.volumes, line)?;
+        if self.parts.volumes.len() >= 4
+            || records_in(&self.parts.volumes) + volume.records > 16384
+        {
             return Err(LineFault::Refused(Cause::Many));
         }
-        self.volumes.push(volume)?;
+        self.parts.volumes.push(volume)?;
         self.stage = Stage::Volumes;
         Ok(())
     }
@@ -260,12 +225,12 @@ impl Draft {
         ensures { Steps self.new result (bulk_line self.old (fields_of line.now)) }
     {
         let (volume, places) = two_fields(line)?;
-        let volume = volume_in(&self.volumes, volume)?;
-        if has_bulk(&self.bulks, volume) {
+        let volume = volume_in(&self.parts.volumes, volume)?;
+        if has_bulk(&self.parts.bulks, volume) {
             return Err(LineFault::Refused(Cause::Twice));
         }
         let places = number_in(places, 1, 1024)?;
-        self.bulks.push(Bulk { volume, places })?;
+        self.parts.bulks.push(Bulk { volume, places })?;
         self.stage = Stage::Bulks;
         Ok(())
     }
@@ -277,11 +242,11 @@ impl Draft {
         requires volume { has_volume self.old.stage ≡ true }
         ensures { Steps self.new result (fail_line self.old (fields_of line.now)) }
     {
-        let fail = fail_in(&self.volumes, line)?;
-        if self.fails.len() >= 100 {
+        let fail = fail_in(&self.parts.volumes, line)?;
+        if self.parts.fails.len() >= 100 {
             return Err(LineFault::Refused(Cause::Many));
         }
-        self.fails.push(fail)?;
+        self.parts.fails.push(fail)?;
         self.stage = Stage::Fails;
         Ok(())
     }
@@ -295,7 +260,7 @@ impl Draft {
     {
         no_fields(line)?;
         self.stage = Stage::Commands;
-        self.initializer = true;
+        self.parts.initializer = true;
         self.who = initializer_who();
         Ok(())
     }
@@ -309,7 +274,7 @@ impl Draft {
     {
         let who = one_field(line)?;
         let who = who_in(who)?;
-        if self.processes.len() >= 32 {
+        if self.parts.processes.len() >= 32 {
             return Err(LineFault::Refused(Cause::Many));
         }
         self.stage = Stage::Commands;
@@ -322,10 +287,11 @@ impl Draft {
         requires { is_inside self.old.stage ≡ true }
         ensures { Steps self.new result (added self.old (Ok End)) }
     {
-        self.processes.reserve(1)?;
+        self.parts.processes.reserve(1)?;
         self.commands.push(Command::End)?;
         let commands = self.commands.take(alloc);
-        self.processes
+        self.parts
+            .processes
             .push_reserved(Process::new(self.who.copied(), commands));
         self.stage = Stage::Processes;
         Ok(())
@@ -337,7 +303,7 @@ impl Draft {
         requires going { bytes_eq word.now (codes "end") ≡ false }
         ensures { Steps self.new result (command_line self.old word.now (fields_of line.now)) }
     {
-        self.commands.line(&self.volumes, word, line)
+        self.commands.line(&self.parts.volumes, word, line)
     }
 
     /// A command of a process, by its word and what follows the word.
@@ -470,24 +436,12 @@ impl Draft {
     pub(crate) fn into_script(self, line: u32) -> Result<Script, Refusal>
         ensures { result ≡ whole_or_missing line self }
     {
-        let pools = self.pools;
         match self.stage {
             Stage::Machine | Stage::Quota | Stage::FirstVolume | Stage::Commands => Err(Refusal {
                 line,
                 cause: Cause::Missing,
             }),
-            _ => Ok(Script {
-                processors: self.processors,
-                frames: self.frames,
-                pools,
-                quota: self.quota,
-                volumes: self.volumes,
-                print: self.print,
-                bulks: self.bulks,
-                fails: self.fails,
-                initializer: self.initializer,
-                processes: self.processes,
-            }),
+            _ => Ok(Script { parts: self.parts }),
         }
     }
 }

@@ -44,9 +44,9 @@ pub struct Fail {
     pub onward: bool,
 }
 
-/// A script that was read. A contract sees its plan.
+/// The parts of a script, whether or not its lines are all there.
 #[derive(Drop)]
-pub struct Script {
+pub struct Parts {
     pub(crate) processors: u32,
     pub(crate) frames: u32,
     pub(crate) pools: [u32; 4],
@@ -59,38 +59,22 @@ pub struct Script {
     pub(crate) processes: Vec<Process>,
 }
 
+/// A script that was read. A contract sees its plan.
+#[derive(Drop)]
+pub struct Script {
+    pub(crate) parts: Parts,
+}
+
 impl Model for Script {
+    ghost use Rattle.script.specs.Forms.{IsPlan};
+    ghost use Rattle.script.specs.Parts.{plan_of};
     ghost use Rattle.script.specs.Plans.{Plan};
 
     ghost Value = { Plan };
 
-    ghost view = { λ s. record {
-      processors = s.processors;
-      frames = s.frames;
-      pools = s.pools;
-      quota = s.quota;
-      volumes = s.volumes.items;
-      print = s.print;
-      bulks = s.bulks.items;
-      fails = s.fails.items;
-      initializer = s.initializer;
-      processes = s.processes.items;
-    } };
+    ghost view = { λ s. plan_of s.parts };
 
-    ghost use Rattle.script.specs.Forms.{IsPlan};
-
-    ghost invariant = { λ s. IsPlan (record {
-      processors = s.processors;
-      frames = s.frames;
-      pools = s.pools;
-      quota = s.quota;
-      volumes = s.volumes.items;
-      print = s.print;
-      bulks = s.bulks.items;
-      fails = s.fails.items;
-      initializer = s.initializer;
-      processes = s.processes.items;
-    }) };
+    ghost invariant = { λ s. IsPlan (plan_of s.parts) };
 }
 
 impl Script {
@@ -102,14 +86,14 @@ impl Script {
     pub fn processors(&self) -> u32
         ensures { result ≡ self.now.processors }
     {
-        self.processors
+        self.parts.processors
     }
 
     /// How many frames of core the machine has, of a page each.
     pub fn frames(&self) -> u32
         ensures { result ≡ self.now.frames }
     {
-        self.frames
+        self.parts.frames
     }
 
     /// How many places the four pools of the active segment table have: those of page tables of 4, 16,
@@ -117,49 +101,49 @@ impl Script {
     pub fn pools(&self) -> [u32; 4]
         ensures { result ≡ self.now.pools }
     {
-        self.pools
+        self.parts.pools
     }
 
     /// The quota of the root, in pages.
     pub fn quota(&self) -> u32
         ensures { result ≡ self.now.quota }
     {
-        self.quota
+        self.parts.quota
     }
 
     /// The volumes, in the order of the script.
     pub fn volumes(&self) -> &[VolumeLine]
         ensures { result.now ≡ self.now.volumes }
     {
-        &self.volumes
+        &self.parts.volumes
     }
 
     /// What the listing has.
     pub fn print(&self) -> Print
         ensures { result ≡ self.now.print }
     {
-        self.print
+        self.parts.print
     }
 
     /// The fast stores, in the order of the script.
     pub fn bulks(&self) -> &[Bulk]
         ensures { result.now ≡ self.now.bulks }
     {
-        &self.bulks
+        &self.parts.bulks
     }
 
     /// The calls of drives that fail, in the order of the script.
     pub fn fails(&self) -> &[Fail]
         ensures { result.now ≡ self.now.fails }
     {
-        &self.fails
+        &self.parts.fails
     }
 
     /// Whether process 0 is the initializer, before whose end no other process is ready.
     pub fn initializer(&self) -> bool
         ensures { result ≡ self.now.initializer }
     {
-        self.initializer
+        self.parts.initializer
     }
 
     /// How many processes the script has.
@@ -167,7 +151,7 @@ impl Script {
         ensures count { result ≡ length self.now.processes }
         ensures plan { IsPlan self.now }
     {
-        self.processes.len() as u32
+        self.parts.processes.len() as u32
     }
 
     /// For whom process `k` runs, counted from 0.
@@ -175,7 +159,7 @@ impl Script {
         requires { k < length self.now.processes }
         ensures { result.now ≡ who_of self.now k }
     {
-        self.processes[k as usize].who()
+        self.parts.processes[k as usize].who()
     }
 
     /// The commands of process `k`, counted from 0, in order; the last is `End`.
@@ -183,6 +167,6 @@ impl Script {
         requires { k < length self.now.processes }
         ensures { result.now ≡ commands_of self.now k }
     {
-        self.processes[k as usize].commands()
+        self.parts.processes[k as usize].commands()
     }
 }

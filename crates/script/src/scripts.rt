@@ -123,12 +123,13 @@ fn push_fails(out: &mut String, volumes: &[VolumeLine], fails: &[Fail]) -> Resul
 fn push_head(out: &mut String, script: &Script) -> Result<(), AllocError>
     ensures { OnOk result (string_bytes out.new ≡ string_bytes out.old ++ head_text script.now) }
 {
-    push_machine(out, script.processors, script.frames, script.pools)?;
-    push_quota(out, script.quota)?;
-    push_volumes(out, &script.volumes)?;
-    push_print(out, script.print)?;
-    push_bulks(out, &script.volumes, &script.bulks)?;
-    push_fails(out, &script.volumes, &script.fails)
+    let parts = &script.parts;
+    push_machine(out, parts.processors, parts.frames, parts.pools)?;
+    push_quota(out, parts.quota)?;
+    push_volumes(out, &parts.volumes)?;
+    push_print(out, parts.print)?;
+    push_bulks(out, &parts.volumes, &parts.bulks)?;
+    push_fails(out, &parts.volumes, &parts.fails)
 }
 
 /// Appends the lines of commands.
@@ -198,7 +199,8 @@ fn push_script(out: &mut String, script: &Script) -> Result<(), AllocError>
     ensures { OnOk result (string_bytes out.new ≡ string_bytes out.old ++ script_text script.now) }
 {
     push_head(out, script)?;
-    push_processes(out, &script.volumes, script.initializer, &script.processes)
+    let parts = &script.parts;
+    push_processes(out, &parts.volumes, parts.initializer, &parts.processes)
 }
 
 /// The canonical text of a script (own): one space between fields, no leading zeros, words of 12 octal digits, and a
