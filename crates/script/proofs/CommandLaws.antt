@@ -209,33 +209,47 @@ pub record Goes (volumes : ℕ) (c : Command) : Type 0 where
   pub range : is_command volumes c ≡ true
   pub going : is_end c ≡ false
 
+-- a command of a path alone
+alone_keeps : (volumes : ℕ) (make : List (List ℕ) → Command) (fields : List (List ℕ))
+    → ((path : List (List ℕ)) → is_path path ≡ true → Goes volumes (make path))
+    → Keeps (Goes volumes) (path_alone fields >>= (λ path. Ok (make path)))
+alone_keeps volumes make fields goes = then_keeps IsAPath (Goes volumes) (path_alone fields) _
+    (path_alone_keeps fields) (λ path p. keeps_ok (Goes volumes) (make path) (goes path p))
+
+-- a command of a place and a word
+placed_keeps : (volumes : ℕ) (make : ℕ → ℕ → ℕ → Command) (fields : List (List ℕ))
+    → ((p : ℕ × ℕ × ℕ) → IsPlaceAndWord p → Goes volumes (make p.0 p.1 p.2))
+    → Keeps (Goes volumes) (place_and_word fields >>= (λ p. Ok (make p.0 p.1 p.2)))
+placed_keeps volumes make fields goes = then_keeps IsPlaceAndWord (Goes volumes) (place_and_word fields) _
+    (place_and_word_keeps fields) (λ p h. keeps_ok (Goes volumes) (make p.0 p.1 p.2) (goes p h))
+
+-- a command of several fields, of which one is a path
+pathed_keeps : {F : Type 0} (volumes : ℕ) (r : Result F Cause) (first : F → List ℕ)
+    (f : F → List (List ℕ) → Result Command Cause)
+    → ((x : F) (path : List (List ℕ)) → is_path path ≡ true → Keeps (Goes volumes) (f x path))
+    → Keeps (Goes volumes) (r >>= (λ x. path_in (first x) >>= f x))
+pathed_keeps volumes r first f k = any_keeps (Goes volumes) r _ (λ x. then_keeps IsAPath (Goes volumes)
+    (path_in (first x)) (f x) (path_keeps (first x)) (k x))
+
 mkdir_keeps : (vs : List VolumeLine) (fields : List (List ℕ)) → Keeps (Goes (length vs)) (mkdir_of vs fields)
 unfolding mkdir_of is_command
 mkdir_keeps vs fields =
-    any_keeps (Goes (length vs)) (two_fields fields) _ (λ f.
-    then_keeps IsAPath (Goes (length vs)) (path_in f.0) _ (path_keeps f.0) (λ path p.
+    pathed_keeps (length vs) (two_fields fields) (λ f. f.0) _ (λ f path p.
     then_keeps (Below (length vs)) (Goes (length vs)) (volume_in vs f.1) _ (volume_keeps vs f.1) (λ volume v.
     keeps_ok (Goes (length vs)) (command.MkDir path volume)
-    (record { range = and_both (is_path path) (nat_lt volume (length vs)) p v; going = refl }))))
+    (record { range = and_both (is_path path) (nat_lt volume (length vs)) p v; going = refl })))
 
 mkseg_keeps : (vs : List VolumeLine) (fields : List (List ℕ)) → Keeps (Goes (length vs)) (mkseg_of vs fields)
 unfolding mkseg_of is_command
 mkseg_keeps vs fields =
-    any_keeps (Goes (length vs)) (three_fields fields) _ (λ f.
-    then_keeps IsAPath (Goes (length vs)) (path_in f.0) _ (path_keeps f.0) (λ path p.
+    pathed_keeps (length vs) (three_fields fields) (λ f. f.0) _ (λ f path p.
     then_keeps (From 1 256) (Goes (length vs)) (number_in 1 256 f.1) _ (number_keeps 1 256 f.1) (λ pages n.
     then_keeps (Below (length vs)) (Goes (length vs)) (volume_in vs f.2) _ (volume_keeps vs f.2) (λ volume v.
     keeps_ok (Goes (length vs)) (command.MkSeg path pages volume) (record {
       range = and_both (is_path path) (is_from 1 256 pages && nat_lt volume (length vs)) p
           (and_both (is_from 1 256 pages) (nat_lt volume (length vs)) n v);
       going = refl;
-    })))))
-
-initiate_keeps : (volumes : ℕ) (fields : List (List ℕ)) → Keeps (Goes volumes) (initiate_of fields)
-unfolding initiate_of is_command
-initiate_keeps volumes fields =
-    then_keeps IsAPath (Goes volumes) (path_alone fields) _ (path_alone_keeps fields)
-    (λ path p. keeps_ok (Goes volumes) (command.Initiate path) (record { range = p; going = refl }))
+    }))))
 
 terminate_keeps : (volumes : ℕ) (fields : List (List ℕ)) → Keeps (Goes volumes) (terminate_of fields)
 unfolding terminate_of is_command
@@ -250,18 +264,6 @@ read_keeps volumes fields =
     any_keeps (Goes volumes) (two_fields fields) _ (λ f.
     then_keeps IsAPlace (Goes volumes) (place_in f.0 f.1) _ (place_keeps f.0 f.1)
     (λ p h. keeps_ok (Goes volumes) (command.Read p.0 p.1) (record { range = h; going = refl })))
-
-write_keeps : (volumes : ℕ) (fields : List (List ℕ)) → Keeps (Goes volumes) (write_of fields)
-unfolding write_of is_command
-write_keeps volumes fields =
-    then_keeps IsPlaceAndWord (Goes volumes) (place_and_word fields) _ (place_and_word_keeps fields)
-    (λ p h. keeps_ok (Goes volumes) (command.Write p.0 p.1 p.2) (record { range = h; going = refl }))
-
-add_keeps : (volumes : ℕ) (fields : List (List ℕ)) → Keeps (Goes volumes) (add_of fields)
-unfolding add_of is_command
-add_keeps volumes fields =
-    then_keeps IsPlaceAndWord (Goes volumes) (place_and_word fields) _ (place_and_word_keeps fields)
-    (λ p h. keeps_ok (Goes volumes) (command.Add p.0 p.1 p.2) (record { range = h; going = refl }))
 
 await_keeps : (volumes : ℕ) (fields : List (List ℕ)) → Keeps (Goes volumes) (await_of fields)
 unfolding await_of is_command
@@ -279,12 +281,11 @@ await_keeps volumes fields =
 acl_keeps : (volumes : ℕ) (fields : List (List ℕ)) → Keeps (Goes volumes) (acl_of fields)
 unfolding acl_of is_command
 acl_keeps volumes fields =
-    any_keeps (Goes volumes) (three_fields fields) _ (λ f.
-    then_keeps IsAPath (Goes volumes) (path_in f.0) _ (path_keeps f.0) (λ path p.
+    pathed_keeps volumes (three_fields fields) (λ f. f.0) _ (λ f path p.
     then_keeps IsARow (Goes volumes) (row_in f.1) _ (row_keeps f.1) (λ row r.
     any_keeps (Goes volumes) (mode_in f.2) _ (λ mode.
     keeps_ok (Goes volumes) (command.Acl path row mode)
-    (record { range = and_both (is_path path) (is_row row) p r; going = refl })))))
+    (record { range = and_both (is_path path) (is_row row) p r; going = refl }))))
 
 length_keeps : (volumes : ℕ) (fields : List (List ℕ)) → Keeps (Goes volumes) (length_of fields)
 unfolding length_of is_command
@@ -304,26 +305,13 @@ truncate_keeps volumes fields =
       going = refl;
     }))
 
-delete_keeps : (volumes : ℕ) (fields : List (List ℕ)) → Keeps (Goes volumes) (delete_of fields)
-unfolding delete_of is_command
-delete_keeps volumes fields =
-    then_keeps IsAPath (Goes volumes) (path_alone fields) _ (path_alone_keeps fields)
-    (λ path p. keeps_ok (Goes volumes) (command.Delete path) (record { range = p; going = refl }))
-
 move_keeps : (volumes : ℕ) (fields : List (List ℕ)) → Keeps (Goes volumes) (move_of fields)
 unfolding move_of is_command
 move_keeps volumes fields =
-    any_keeps (Goes volumes) (two_fields fields) _ (λ f.
-    then_keeps IsAPath (Goes volumes) (path_in f.0) _ (path_keeps f.0) (λ path p.
+    pathed_keeps volumes (two_fields fields) (λ f. f.0) _ (λ f path p.
     then_keeps IsAnAmount (Goes volumes) (amount_in f.1) _ (amount_keeps f.1) (λ amount a.
     keeps_ok (Goes volumes) (command.Move path amount)
-    (record { range = and_both (is_path path) (is_from 1 16384 (unsigned_abs amount)) p a; going = refl }))))
-
-status_keeps : (volumes : ℕ) (fields : List (List ℕ)) → Keeps (Goes volumes) (status_of fields)
-unfolding status_of is_command
-status_keeps volumes fields =
-    then_keeps IsAPath (Goes volumes) (path_alone fields) _ (path_alone_keeps fields)
-    (λ path p. keeps_ok (Goes volumes) (command.Status path) (record { range = p; going = refl }))
+    (record { range = and_both (is_path path) (is_from 1 16384 (unsigned_abs amount)) p a; going = refl })))
 
 no_end : (volumes : ℕ) (b : Bool) (r : Result Command Cause) → b ≡ false
     → Keeps (Goes volumes) (cond b r (Err cause.Order))
@@ -332,35 +320,40 @@ no_end volumes false r h = keeps_err (Goes volumes) cause.Order
 
 other_keeps : (volumes : ℕ) (word : List ℕ) (fields : List (List ℕ)) → bytes_eq word (codes "end") ≡ false
     → Keeps (Goes volumes) (other_command_of word fields)
-unfolding other_command_of
+unfolding other_command_of status_of is_command
 other_keeps volumes word fields h =
     either_keeps (Goes volumes) (bytes_eq word (codes "acl")) _ _ (acl_keeps volumes fields)
     (either_keeps (Goes volumes) (bytes_eq word (codes "length")) _ _ (length_keeps volumes fields)
     (either_keeps (Goes volumes) (bytes_eq word (codes "truncate")) _ _ (truncate_keeps volumes fields)
     (either_keeps (Goes volumes) (bytes_eq word (codes "move")) _ _ (move_keeps volumes fields)
-    (either_keeps (Goes volumes) (bytes_eq word (codes "status")) _ _ (status_keeps volumes fields)
+    (either_keeps (Goes volumes) (bytes_eq word (codes "status")) _ _
+    (alone_keeps volumes command.Status fields (λ path p. record { range = p; going = refl }))
     (no_end volumes (bytes_eq word (codes "end")) _ h)))))
 
 reference_keeps : (volumes : ℕ) (word : List ℕ) (fields : List (List ℕ)) → bytes_eq word (codes "end") ≡ false
     → Keeps (Goes volumes) (reference_or word fields)
-unfolding reference_or
+unfolding reference_or write_of add_of is_command
 reference_keeps volumes word fields h =
     either_keeps (Goes volumes) (bytes_eq word (codes "read")) _ _ (read_keeps volumes fields)
-    (either_keeps (Goes volumes) (bytes_eq word (codes "write")) _ _ (write_keeps volumes fields)
-    (either_keeps (Goes volumes) (bytes_eq word (codes "add")) _ _ (add_keeps volumes fields)
+    (either_keeps (Goes volumes) (bytes_eq word (codes "write")) _ _
+    (placed_keeps volumes command.Write fields (λ p h. record { range = h; going = refl }))
+    (either_keeps (Goes volumes) (bytes_eq word (codes "add")) _ _
+    (placed_keeps volumes command.Add fields (λ p h. record { range = h; going = refl }))
     (either_keeps (Goes volumes) (bytes_eq word (codes "await")) _ _ (await_keeps volumes fields)
     (other_keeps volumes word fields h))))
 
 -- any line but that of the end
 pub command_keeps : (vs : List VolumeLine) (word : List ℕ) (fields : List (List ℕ))
     → bytes_eq word (codes "end") ≡ false → Keeps (Goes (length vs)) (command_of vs word fields)
-unfolding command_of
+unfolding command_of initiate_of delete_of is_command
 command_keeps vs word fields h =
     either_keeps (Goes (length vs)) (bytes_eq word (codes "mkdir")) _ _ (mkdir_keeps vs fields)
     (either_keeps (Goes (length vs)) (bytes_eq word (codes "mkseg")) _ _ (mkseg_keeps vs fields)
-    (either_keeps (Goes (length vs)) (bytes_eq word (codes "initiate")) _ _ (initiate_keeps (length vs) fields)
+    (either_keeps (Goes (length vs)) (bytes_eq word (codes "initiate")) _ _
+    (alone_keeps (length vs) command.Initiate fields (λ path p. record { range = p; going = refl }))
     (either_keeps (Goes (length vs)) (bytes_eq word (codes "terminate")) _ _ (terminate_keeps (length vs) fields)
-    (either_keeps (Goes (length vs)) (bytes_eq word (codes "delete")) _ _ (delete_keeps (length vs) fields)
+    (either_keeps (Goes (length vs)) (bytes_eq word (codes "delete")) _ _
+    (alone_keeps (length vs) command.Delete fields (λ path p. record { range = p; going = refl }))
     (reference_keeps (length vs) word fields h)))))
 
 -- the end alone has its word

@@ -219,25 +219,24 @@ read_again number offset a b = rw (
       offset (omega arith) (omega arith) b,
 ) refl
 
-write_again : (number offset word : ℕ) → number ≤ 255 → offset ≤ 999999 → word < 68719476736
-    → write_of (decimal number ∷ decimal offset ∷ octal_digits 12 word ∷ []) ≡ Ok (command.Write number offset word)
-unfolding write_of place_and_word place_in three_fields two_fields one_field next_field no_fields
-write_again number offset word a b w = rw (
+place_and_word_again : (number offset word : ℕ) → number ≤ 255 → offset ≤ 999999 → word < 68719476736
+    → place_and_word (decimal number ∷ decimal offset ∷ octal_digits 12 word ∷ []) ≡ Ok (number, offset, word)
+unfolding place_and_word place_in three_fields two_fields one_field next_field no_fields
+place_and_word_again number offset word a b w = rw (
   number_again 0 255 number (omega arith) (omega arith) a,
-  number_again 0
-      999999 offset (omega arith) (omega arith) b,
+  number_again 0 999999 offset (omega arith) (omega arith) b,
   word_again word w,
 ) refl
 
+write_again : (number offset word : ℕ) → number ≤ 255 → offset ≤ 999999 → word < 68719476736
+    → write_of (decimal number ∷ decimal offset ∷ octal_digits 12 word ∷ []) ≡ Ok (command.Write number offset word)
+unfolding write_of
+write_again number offset word a b w = rw (place_and_word_again number offset word a b w) refl
+
 add_again : (number offset word : ℕ) → number ≤ 255 → offset ≤ 999999 → word < 68719476736
     → add_of (decimal number ∷ decimal offset ∷ octal_digits 12 word ∷ []) ≡ Ok (command.Add number offset word)
-unfolding add_of place_and_word place_in three_fields two_fields one_field next_field no_fields
-add_again number offset word a b w = rw (
-  number_again 0 255 number (omega arith) (omega arith) a,
-  number_again 0 999999
-      offset (omega arith) (omega arith) b,
-  word_again word w,
-) refl
+unfolding add_of
+add_again number offset word a b w = rw (place_and_word_again number offset word a b w) refl
 
 await_again : (number offset word tries : ℕ) → number ≤ 255 → offset ≤ 999999 → word < 68719476736
     → is_from 1 100000 tries ≡ true → await_of (decimal number ∷ decimal offset ∷ octal_digits 12 word ∷ decimal tries

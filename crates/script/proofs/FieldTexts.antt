@@ -1,9 +1,10 @@
 -- Texts of fields with a space between them, and of lines with a line feed after each, read back (own).
-use Rattle.std.proofs.Common.{◌≡◌, ℕ, ◌≤◌, Bool, true, false, ◌&&◌, nat_le, eqb, List, [], ◌∷◌, ◌++◌, length, refl, ap}
+use Rattle.std.proofs.Common.{◌≡◌, ◌≢◌, ℕ, ◌≤◌, Bool, true, false, ◌&&◌, nat_le, eqb, List, [], ◌∷◌, ◌++◌, length, refl, ap}
 use Rattle.std.proofs.Common.{◌∙◌, arith}
 use Rattle.std.proofs.lemmas.Bool.Decides.{nat_tests}
 use Rattle.std.proofs.lemmas.List.Folds.{list_all-append}
 use Rattle.std.specs.List.{list_all}
+use Rattle.script.proofs.LineSteps.{line_byte, line_feed}
 use Rattle.script.proofs.PathLaws.{and_parts, and_both}
 use Rattle.script.specs.Fields.{lines_of, onto_piece, fields_of, onto_field, is_printable, is_printable_byte}
 
@@ -43,22 +44,14 @@ byte_is_printable b h = grind (arith, nat_tests)
 byte_is_no_space : (b : ℕ) → is_field_byte b ≡ true → eqb b 32 ≡ false
 byte_is_no_space b h = grind (arith, nat_tests)
 
-byte_is_no_feed : (b : ℕ) → is_printable_byte b ≡ true → eqb b 10 ≡ false
+byte_is_no_feed : (b : ℕ) → is_printable_byte b ≡ true → b ≢ 10
 byte_is_no_feed b h = grind (arith, nat_tests)
 
 -- ---- lines
 
-line_feed : (bs : List ℕ) → lines_of (10 ∷ bs) ≡ [] ∷ lines_of bs
-unfolding lines_of
-line_feed bs = refl
-
-line_byte : (b : ℕ) (bs : List ℕ) → eqb b 10 ≡ false → lines_of (b ∷ bs) ≡ onto_piece b (lines_of bs)
-unfolding lines_of
-line_byte b bs z = rw z refl
-
 cut : (line rest : List ℕ) → list_all is_printable_byte line ≡ true → lines_of (line ++ (10 ∷ rest)) ≡ line
     ∷ lines_of rest
-cut [] rest h = line_feed rest
+cut [] rest h = line_feed 10 rest refl
 cut (b ∷ bs) rest h =
     let parts = and_parts (is_printable_byte b) (list_all is_printable_byte bs) h in
     line_byte b (bs ++ (10 ∷ rest)) (byte_is_no_feed b parts.0) ∙ ap (onto_piece b) (cut bs rest parts.1)

@@ -4,6 +4,7 @@ mod DraftLaws
 mod FieldTexts
 mod HeadTexts
 mod LineLaws
+pub mod LineSteps
 mod NumberLaws
 mod PathLaws
 mod PrincipalLaws

@@ -1,40 +1,19 @@
 -- Laws of lines and fields (own).
 use Rattle.std.proofs.Common.{◌≡◌, ◌≢◌, ℕ, suc, zero, ◌+◌, ◌-◌, ◌<◌, ◌≤◌, true, false, ◌&&◌, eqb, List, [], ◌∷◌, ◌++◌}
-use Rattle.std.proofs.Common.{length, refl, sym, ap, ◌∙◌, arith, Bool, get_or, take, drop, drop-cons, add-one}
+use Rattle.std.proofs.Common.{length, refl, sym, ap, ◌∙◌, arith, Bool, get_or, take, drop, add-one}
 use Rattle.std.proofs.lemmas.Bool.Decides.{nat_tests}
 use Rattle.std.proofs.lemmas.Grind.{common_steps}
 use Rattle.std.proofs.lemmas.List.{take_all}
 use Rattle.std.proofs.lemmas.List.Folds.{list_all_more}
+use Rattle.script.proofs.LineSteps.{NoFeedBefore, all_left, drop_at, line_byte, line_feed, line_last, lines_nil}
 use Rattle.script.specs.Fields.{lines_of, onto_piece, fields_of, onto_field, is_printable, is_printable_byte}
-
-pub drop_at : (xs : List ℕ) (i : ℕ) → i < length xs → drop i xs ≡ get_or xs i 0 ∷ drop (i + 1) xs
-drop_at xs i h = rw (add-one, drop-cons xs i 0) refl
 
 nil_after : (x : List ℕ) → x ++ [] ≡ x
 nil_after [] = refl
 nil_after (b ∷ bs) = ap (λ t. b ∷ t) (nil_after bs)
 
-pub all_left : (xs : List ℕ) (i : ℕ) → take (length xs - i) (drop i xs) ≡ drop i xs
-all_left xs i = grind (arith, common_steps)
-
 none_left : (xs : List ℕ) (i : ℕ) → length xs ≤ i → drop i xs ≡ []
 none_left xs i h = grind (arith, common_steps)
-
--- no line feed stands before i
-abbrev pub NoFeedBefore : ℕ → List ℕ → Type 0
-NoFeedBefore i bs = (k : ℕ) → k < i → get_or bs k 0 ≢ 10
-
-lines_nil : lines_of [] ≡ []
-unfolding lines_of
-lines_nil = refl
-
-line_feed : (b : ℕ) (bs : List ℕ) → b ≡ 10 → lines_of (b ∷ bs) ≡ [] ∷ lines_of bs
-unfolding lines_of
-line_feed b bs e = rw e refl
-
-line_byte : (b : ℕ) (bs : List ℕ) → b ≢ 10 → lines_of (b ∷ bs) ≡ onto_piece b (lines_of bs)
-unfolding lines_of
-line_byte b bs ne = let z : eqb b 10 ≡ false = grind (arith, nat_tests) in rw z refl
 
 -- the first line ends before a line feed
 lines_split : (bs : List ℕ) (i : ℕ) → NoFeedBefore i bs → i < length bs → get_or bs i 0 ≡ 10 → lines_of bs ≡ take i bs
@@ -48,17 +27,6 @@ lines_split (b ∷ bs) (suc i) clear lt e =
 pub line_found : (bs : List ℕ) (i : ℕ) → NoFeedBefore i bs → i < length bs → get_or bs i 0 ≡ 10 → lines_of bs
     ≡ take i bs ∷ lines_of (take (length bs - (i + 1)) (drop (i + 1) bs))
 line_found bs i clear lt e = rw (all_left bs (i + 1), add-one) (lines_split bs i clear lt e)
-
--- the last line may lack its line feed
-lines_last : (b : ℕ) (bs : List ℕ) → NoFeedBefore (suc (length bs)) (b ∷ bs) → lines_of (b ∷ bs) ≡ (b ∷ bs) ∷ []
-lines_last b [] clear = line_byte b [] (clear 0 (omega arith)) ∙ rw lines_nil refl
-lines_last b (c ∷ cs) clear =
-    line_byte b (c ∷ cs) (clear 0 (omega arith)) ∙ ap (onto_piece b)
-    (lines_last c cs (λ k h. clear (suc k) (omega arith)))
-
-pub line_last : (bs : List ℕ) → NoFeedBefore (length bs) bs → 0 < length bs → lines_of bs ≡ bs ∷ lines_of []
-line_last [] clear some = absurd (omega arith)
-line_last (b ∷ bs) clear some = rw lines_nil (lines_last b bs clear)
 
 -- ---- printable bytes
 

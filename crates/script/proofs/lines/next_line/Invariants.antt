@@ -1,5 +1,5 @@
 use Rattle.std.proofs.Common.{◌≡◌, take}
-use Rattle.script.proofs.LineLaws.{NoFeedBefore}
+use Rattle.script.proofs.LineSteps.{NoFeedBefore}
 use Rattle.script.specs.Fields.{is_printable}
 use Rattle.script.proofs.lines.next_line.Given as goal
 
