@@ -223,6 +223,14 @@ placed_keeps : (volumes : ℕ) (make : ℕ → ℕ → ℕ → Command) (fields 
 placed_keeps volumes make fields goes = then_keeps IsPlaceAndWord (Goes volumes) (place_and_word fields) _
     (place_and_word_keeps fields) (λ p h. keeps_ok (Goes volumes) (make p.0 p.1 p.2) (goes p h))
 
+-- a command of a path and a number
+numbered_keeps : (volumes low high : ℕ) (make : List (List ℕ) → ℕ → Command) (fields : List (List ℕ))
+    → ((p : List (List ℕ) × ℕ) → IsPathAndNumber low high p → Goes volumes (make p.0 p.1))
+    → Keeps (Goes volumes) (path_and_number low high fields >>= (λ p. Ok (make p.0 p.1)))
+numbered_keeps volumes low high make fields goes = then_keeps (IsPathAndNumber low high) (Goes volumes)
+    (path_and_number low high fields) _ (path_and_number_keeps low high fields)
+    (λ p h. keeps_ok (Goes volumes) (make p.0 p.1) (goes p h))
+
 -- a command of several fields, of which one is a path
 pathed_keeps : {F : Type 0} (volumes : ℕ) (r : Result F Cause) (first : F → List ℕ)
     (f : F → List (List ℕ) → Result Command Cause)
@@ -287,24 +295,6 @@ acl_keeps volumes fields =
     keeps_ok (Goes volumes) (command.Acl path row mode)
     (record { range = and_both (is_path path) (is_row row) p r; going = refl }))))
 
-length_keeps : (volumes : ℕ) (fields : List (List ℕ)) → Keeps (Goes volumes) (length_of fields)
-unfolding length_of is_command
-length_keeps volumes fields =
-    then_keeps (IsPathAndNumber 1 256) (Goes volumes) (path_and_number 1 256 fields) _
-    (path_and_number_keeps 1 256 fields) (λ p h.
-    keeps_ok (Goes volumes) (command.Length p.0 p.1)
-    (record { range = and_both (is_path p.0) (is_from 1 256 p.1) h.path h.number; going = refl }))
-
-truncate_keeps : (volumes : ℕ) (fields : List (List ℕ)) → Keeps (Goes volumes) (truncate_of fields)
-unfolding truncate_of is_command
-truncate_keeps volumes fields =
-    then_keeps (IsPathAndNumber 0 262144) (Goes volumes) (path_and_number 0 262144 fields) _
-    (path_and_number_keeps 0 262144 fields) (λ p h.
-    keeps_ok (Goes volumes) (command.Truncate p.0 p.1) (record {
-      range = and_both (is_path p.0) (nat_le p.1 262144) h.path (up_to_most 262144 p.1 h.number);
-      going = refl;
-    }))
-
 move_keeps : (volumes : ℕ) (fields : List (List ℕ)) → Keeps (Goes volumes) (move_of fields)
 unfolding move_of is_command
 move_keeps volumes fields =
@@ -320,11 +310,19 @@ no_end volumes false r h = keeps_err (Goes volumes) cause.Order
 
 other_keeps : (volumes : ℕ) (word : List ℕ) (fields : List (List ℕ)) → bytes_eq word (codes "end") ≡ false
     → Keeps (Goes volumes) (other_command_of word fields)
-unfolding other_command_of status_of is_command
+unfolding other_command_of length_of truncate_of status_of is_command
 other_keeps volumes word fields h =
     either_keeps (Goes volumes) (bytes_eq word (codes "acl")) _ _ (acl_keeps volumes fields)
-    (either_keeps (Goes volumes) (bytes_eq word (codes "length")) _ _ (length_keeps volumes fields)
-    (either_keeps (Goes volumes) (bytes_eq word (codes "truncate")) _ _ (truncate_keeps volumes fields)
+    (either_keeps (Goes volumes) (bytes_eq word (codes "length")) _ _
+    (numbered_keeps volumes 1 256 command.Length fields (λ p h. record {
+      range = and_both (is_path p.0) (is_from 1 256 p.1) h.path h.number;
+      going = refl;
+    }))
+    (either_keeps (Goes volumes) (bytes_eq word (codes "truncate")) _ _
+    (numbered_keeps volumes 0 262144 command.Truncate fields (λ p h. record {
+      range = and_both (is_path p.0) (nat_le p.1 262144) h.path (up_to_most 262144 p.1 h.number);
+      going = refl;
+    }))
     (either_keeps (Goes volumes) (bytes_eq word (codes "move")) _ _ (move_keeps volumes fields)
     (either_keeps (Goes volumes) (bytes_eq word (codes "status")) _ _
     (alone_keeps volumes command.Status fields (λ path p. record { range = p; going = refl }))

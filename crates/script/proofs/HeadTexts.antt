@@ -260,13 +260,18 @@ print_reaches base print.All = print_reaches_by base print.All (codes "all") ref
 
 -- ---- fast stores
 
+-- the parts of a call or of places, of a volume and with a number
+numbered_parts : (volumes volume most n : ℕ) → (nat_lt volume volumes && is_from 1 most n) ≡ true → (volume < volumes)
+    × (1 ≤ n) × (n ≤ most)
+numbered_parts volumes volume most n h =
+    let p = and_parts (nat_lt volume volumes) (is_from 1 most n) h in
+    let w = within 1 most n p.1 in
+    (below volume volumes p.0, w.0, w.1)
+
 bulk_parts : (volumes : ℕ) (b : Bulk) → is_bulk volumes b ≡ true → (b.volume < volumes) × (1 ≤ b.places)
     × (b.places ≤ 1024)
 unfolding is_bulk
-bulk_parts volumes b h =
-    let p = and_parts (nat_lt b.volume volumes) (is_from 1 1024 b.places) h in
-    let w = within 1 1024 b.places p.1 in
-    (below b.volume volumes p.0, w.0, w.1)
+bulk_parts volumes b h = numbered_parts volumes b.volume 1024 b.places h
 
 bulk_fields : (vs : List VolumeLine) (b : Bulk) → AreVolumes vs → is_bulk (length vs) b ≡ true
     → HasFields (bulk_text vs b) (codes "bulk" ∷ volume_name vs b.volume ∷ decimal b.places ∷ [])
@@ -334,10 +339,7 @@ bulks_reach base done (b ∷ bs) a h =
 fail_parts : (volumes : ℕ) (f : Fail) → is_fail volumes f ≡ true → (f.volume < volumes) × (1 ≤ f.number)
     × (f.number ≤ 1000000)
 unfolding is_fail
-fail_parts volumes f h =
-    let p = and_parts (nat_lt f.volume volumes) (is_from 1 1000000 f.number) h in
-    let w = within 1 1000000 f.number p.1 in
-    (below f.volume volumes p.0, w.0, w.1)
+fail_parts volumes f h = numbered_parts volumes f.volume 1000000 f.number h
 
 -- the fields of the line of a call that fails, after its word
 abbrev fail_fields_text : List VolumeLine → Fail → List (List ℕ)

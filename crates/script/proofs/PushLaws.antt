@@ -24,12 +24,12 @@ all_push f [] x h e = and_both (f x) true e refl
 all_push f (y ∷ ys) x h e = let parts = and_parts (f y) (list_all f ys) h in and_both (f y) (list_all f (ys ++ x ∷ []))
     parts.0 (all_push f ys x parts.1 e)
 
+true_not_false : true ≡ false → ⊥
+true_not_false e = cc
+
 or_parts : (a b : Bool) → (a || b) ≡ false → (a ≡ false) × (b ≡ false)
 or_parts false b h = (refl, h)
-or_parts true b h = absurd (apart h)
-  where
-    apart : true ≡ false → ⊥
-    apart e = cc
+or_parts true b h = absurd (true_not_false h)
 
 or_neither : (a b : Bool) → a ≡ false → b ≡ false → (a || b) ≡ false
 or_neither a b x y = rw (x, y) refl
@@ -52,9 +52,6 @@ sum_push f xs x = sum_by-append f xs (x ∷ []) ∙ ap (λ n. sum_by f xs + n) o
 not_true : (z : Bool) → (z ≡ true → ⊥) → z ≡ false
 not_true true h = absurd (h refl)
 not_true false h = refl
-
-true_not_false : true ≡ false → ⊥
-true_not_false e = cc
 
 is_false : (z : Bool) → not z ≡ true → z ≡ false
 is_false false h = refl

@@ -6,6 +6,7 @@ use Rattle.mnames.specs.declared.principals.Who.{Who}
 use Rattle.script.specs.CommandLists.{ListPlan}
 use Rattle.script.specs.Forms.{ArePools, BeginsWithInitializer, have_own_names, have_own_volumes, is_bulk, is_command}
 use Rattle.script.specs.Forms.{is_end, is_fail, is_process, is_volume, is_who, records_of, weight, weight_of}
+use Rattle.script.specs.Parts.{plan_of}
 use Rattle.script.specs.Plans.{Plan, ProcessPlan}
 use Rattle.script.specs.declared.commands.Command.{Command}
 use Rattle.script.specs.declared.drafts.Stage.{Stage}
@@ -13,6 +14,7 @@ use Rattle.script.specs.declared.drafts.Stage.TheVariants as stage
 use Rattle.script.specs.declared.plan.Bulk.{Bulk}
 use Rattle.script.specs.declared.plan.Fail.{Fail}
 use Rattle.script.specs.declared.plan.Print.TheVariants as print
+use Rattle.script.specs.declared.plan.Parts.{Parts}
 use Rattle.script.specs.declared.plan.VolumeLine.{VolumeLine}
 
 -- what may stand next; the plan so far; for whom the process runs whose commands stand next, or stood last; and its
@@ -22,6 +24,10 @@ pub record DraftPlan : Type 0 where
   pub plan : Plan
   pub who : Who
   pub list : ListPlan
+
+-- the draft of these parts
+abbrev pub drafted : Stage → Parts → Who → ListPlan → DraftPlan
+drafted stage parts who list = record { stage = stage; plan = plan_of parts; who = who; list = list }
 
 -- for whom the initializer runs
 abbrev pub initializer_who : Who

@@ -92,14 +92,13 @@ pub struct Draft {
 }
 
 impl Model for Draft {
-    ghost use Rattle.script.specs.Drafts.{DraftPlan, IsDraft};
-    ghost use Rattle.script.specs.Parts.{plan_of};
+    ghost use Rattle.script.specs.Drafts.{DraftPlan, IsDraft, drafted};
 
     ghost Value = { DraftPlan };
 
-    ghost view = { λ d. record { stage = d.stage; plan = plan_of d.parts; who = d.who; list = d.commands } };
+    ghost view = { λ d. drafted d.stage d.parts d.who d.commands };
 
-    ghost invariant = { λ d. IsDraft (record { stage = d.stage; plan = plan_of d.parts; who = d.who; list = d.commands }) };
+    ghost invariant = { λ d. IsDraft (drafted d.stage d.parts d.who d.commands) };
 }
 
 /// For whom the initializer runs.
