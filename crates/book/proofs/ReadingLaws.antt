@@ -1,11 +1,11 @@
 -- That each entry's text is read back as the entry, and that nothing else is read.
 use Rattle.std.proofs.Common.{rules, ◌≡◌, ℕ, zero, suc, ◌+◌, ◌<◌, ◌≤◌, ◌^◌, ◌⊎◌, Bool, true, false, not, ◌&&◌, cond}
-use Rattle.std.proofs.Common.{eqb, List, [], ◌∷◌, ◌++◌, length, get_or, take, Option, Some, None, refl, sym, ap, subst}
+use Rattle.std.proofs.Common.{eqb, List, [], ◌∷◌, ◌++◌, length, get_or, take, drop, drop-cons, add-one, Option, Some, None, refl, sym, ap, subst}
 use Rattle.std.proofs.Common.{◌∙◌, arith, IfSome, inl, inr}
 use Rattle.std.specs.Prelude.{codes, nat_lt, nat_le, ◌==◌, ◌-◌, ◌*◌, ◌/◌, ◌%◌}
 use Rattle.std.specs.Char.{is_ascii_digit}
 use Rattle.std.specs.Fmt.{decimal}
-use Rattle.std.specs.List.{slice_split, list_all, join_with_byte, before_first, after_first, position_or_len}
+use Rattle.std.specs.List.{AllByRecursion, slice_split, list_all, join_with_byte, before_first, after_first, position_or_len}
 use Rattle.std.specs.Option.{option_map, option_and_then}
 use Rattle.std.specs.Str.{bytes_eq}
 use Rattle.std.specs.Str.Parse.{digits_value}
@@ -31,9 +31,9 @@ use Rattle.book.specs.declared.reading.Named.TheVariants as named
 use Rattle.book.specs.declared.replies.Reply.{Reply}
 use Rattle.book.specs.declared.replies.Reply.TheVariants as reply
 use Rattle.book.specs.Entries.{counted_text, entry_text, number_text, what_text}
-use Rattle.book.specs.Replies.{bare_text, reply_text}
+use Rattle.book.specs.Replies.{bare_replies, bare_text, reply_text}
 use Rattle.book.specs.Reading.{is_space, is_dot, is_plain, is_number, number_of, number_or_none, word_of, both}
-use Rattle.book.specs.Reading.{dotted_of, page_reply, path_reply, change_reply, first_there, bare_reply}
+use Rattle.book.specs.Reading.{dotted_of, named_reply, bare_reply}
 use Rattle.book.specs.Reading.{numbered_reply, status_reply, status_of, triple, reply_of, what_of, dropped_of}
 use Rattle.book.specs.Reading.{named_of, gone, back, filled, fill_of, fault_of, answered_of, do_of, of_one, of_two}
 use Rattle.book.specs.Reading.{of_three, plain_of, entry_of, entry_of_words, IsSmall, IsReply, IsWhat, IsEntry}
@@ -335,7 +335,7 @@ reply_lacks (reply.SegIs u l s) h = (refl, (spaceless u h.0, (refl, (spaceless l
 reply_lacks (reply.DirIs u q n) h = (refl, (spaceless u h.0, (refl, (spaceless q h.1, (refl, (spaceless n h.2, tt))))))
 
 reply_again : (r : Reply) → IsReply r → reply_of (reply_words r) ≡ Some r
-unfolding reply_of
+unfolding reply_of named_reply bare_text
 reply_again reply.Unknown h = refl
 reply_again reply.Gone h = refl
 reply_again reply.NoAccess h = refl
@@ -366,59 +366,46 @@ reply_again (reply.Over u) h = rw (number_again u h) refl
 reply_again (reply.SegIs u l s) h = rw (number_again u h.0, number_again l h.1, number_again s h.2) refl
 reply_again (reply.DirIs u q n) h = rw (number_again u h.0, number_again q h.1, number_again n h.2) refl
 
-page_only : (w : List ℕ) → IfSome (page_reply w) (λ r. reply_words r ≡ w ∷ [])
-page_only w = same w (codes "unknown") _ _ (λ o. IfSome o (λ r. reply_words r ≡ w ∷ []))
-    (λ e. ap (λ (x : List ℕ). x ∷ []) (sym e))
-    (same w (codes "gone") _ _ (λ o. IfSome o (λ r. reply_words r ≡ w ∷ [])) (λ e. ap (λ (x : List ℕ). x ∷ []) (sym e))
-    (same w (codes "noaccess") _ _ (λ o. IfSome o (λ r. reply_words r ≡ w ∷ []))
-    (λ e. ap (λ (x : List ℕ). x ∷ []) (sym e))
-    (same w (codes "length") _ _ (λ o. IfSome o (λ r. reply_words r ≡ w ∷ []))
-    (λ e. ap (λ (x : List ℕ). x ∷ []) (sym e))
-    (same w (codes "quota") _ _ (λ o. IfSome o (λ r. reply_words r ≡ w ∷ [])) (λ e. ap (λ (x : List ℕ). x ∷ []) (sym e))
-    (same w (codes "norecord") _ _ (λ o. IfSome o (λ r. reply_words r ≡ w ∷ []))
-    (λ e. ap (λ (x : List ℕ). x ∷ []) (sym e))
-    (same w (codes "device") _ _ (λ o. IfSome o (λ r. reply_words r ≡ w ∷ []))
-    (λ e. ap (λ (x : List ℕ). x ∷ []) (sym e))
-    (same w (codes "done") _ _ (λ o. IfSome o (λ r. reply_words r ≡ w ∷ [])) (λ e. ap (λ (x : List ℕ). x ∷ []) (sym e))
-    (tt))))))))
+first_left : (rs : List Reply) (k : ℕ) (r : Reply) → k < length rs → r ≡ get_or rs k r → drop k rs
+    ≡ r ∷ drop (k + 1) rs
+first_left rs k r lt here = rw (add-one, drop-cons rs k r, ← here) refl
 
-path_only : (w : List ℕ) → IfSome (path_reply w) (λ r. reply_words r ≡ w ∷ [])
-path_only w = same w (codes "nopath") _ _ (λ o. IfSome o (λ r. reply_words r ≡ w ∷ []))
-    (λ e. ap (λ (x : List ℕ). x ∷ []) (sym e))
-    (same w (codes "notdir") _ _ (λ o. IfSome o (λ r. reply_words r ≡ w ∷ []))
-    (λ e. ap (λ (x : List ℕ). x ∷ []) (sym e))
-    (same w (codes "isdir") _ _ (λ o. IfSome o (λ r. reply_words r ≡ w ∷ [])) (λ e. ap (λ (x : List ℕ). x ∷ []) (sym e))
-    (same w (codes "isseg") _ _ (λ o. IfSome o (λ r. reply_words r ≡ w ∷ [])) (λ e. ap (λ (x : List ℕ). x ∷ []) (sym e))
-    (same w (codes "exists") _ _ (λ o. IfSome o (λ r. reply_words r ≡ w ∷ []))
-    (λ e. ap (λ (x : List ℕ). x ∷ []) (sym e))
-    (same w (codes "deep") _ _ (λ o. IfSome o (λ r. reply_words r ≡ w ∷ [])) (λ e. ap (λ (x : List ℕ). x ∷ []) (sym e))
-    (same w (codes "room") _ _ (λ o. IfSome o (λ r. reply_words r ≡ w ∷ [])) (λ e. ap (λ (x : List ℕ). x ∷ []) (sym e))
-    (same w (codes "noentry") _ _ (λ o. IfSome o (λ r. reply_words r ≡ w ∷ []))
-    (λ e. ap (λ (x : List ℕ). x ∷ []) (sym e)) (tt))))))))
+-- each reply of one word has its text alone
+bare_words : AllByRecursion (λ r. reply_words r ≡ bare_text r ∷ []) bare_replies
+unfolding bare_text
+bare_words = search rules
 
-change_only : (w : List ℕ) → IfSome (change_reply w) (λ r. reply_words r ≡ w ∷ [])
-change_only w = same w (codes "full") _ _ (λ o. IfSome o (λ r. reply_words r ≡ w ∷ []))
-    (λ e. ap (λ (x : List ℕ). x ∷ []) (sym e))
-    (same w (codes "aclfull") _ _ (λ o. IfSome o (λ r. reply_words r ≡ w ∷ []))
-    (λ e. ap (λ (x : List ℕ). x ∷ []) (sym e))
-    (same w (codes "beyond") _ _ (λ o. IfSome o (λ r. reply_words r ≡ w ∷ []))
-    (λ e. ap (λ (x : List ℕ). x ∷ []) (sym e))
-    (same w (codes "notempty") _ _ (λ o. IfSome o (λ r. reply_words r ≡ w ∷ []))
-    (λ e. ap (λ (x : List ℕ). x ∷ []) (sym e))
-    (same w (codes "hasquota") _ _ (λ o. IfSome o (λ r. reply_words r ≡ w ∷ []))
-    (λ e. ap (λ (x : List ℕ). x ∷ []) (sym e))
-    (same w (codes "root") _ _ (λ o. IfSome o (λ r. reply_words r ≡ w ∷ [])) (λ e. ap (λ (x : List ℕ). x ∷ []) (sym e))
-    (same w (codes "toolittle") _ _ (λ o. IfSome o (λ r. reply_words r ≡ w ∷ []))
-    (λ e. ap (λ (x : List ℕ). x ∷ []) (sym e)) (tt)))))))
-
-first_only : {A : Type 0} (x y : Option A) (Q : A → Type 0) → IfSome x Q → IfSome y Q → IfSome (first_there x y) Q
-first_only None y Q h g = g
-first_only (Some a) y Q h g = h
+worded_only : (rs : List Reply) (w : List ℕ) → AllByRecursion (λ r. reply_words r ≡ bare_text r ∷ []) rs
+    → IfSome (named_reply rs w) (λ r. reply_words r ≡ w ∷ [])
+unfolding named_reply
+worded_only [] w h = tt
+worded_only (r ∷ rs) w h = same w (bare_text r) _ _ (λ o. IfSome o (λ x. reply_words x ≡ w ∷ []))
+    (λ e. h.0 ∙ ap (λ (x : List ℕ). x ∷ []) (sym e)) (worded_only rs w h.1)
 
 bare_only : (w : List ℕ) → IfSome (bare_reply w) (λ r. reply_words r ≡ w ∷ [])
-bare_only w = first_only (page_reply w) (first_there (path_reply w) (change_reply w)) (λ r. reply_words r ≡ w ∷ [])
-    (page_only w)
-    (first_only (path_reply w) (change_reply w) (λ r. reply_words r ≡ w ∷ []) (path_only w) (change_only w))
+bare_only w = worded_only bare_replies w bare_words
+
+-- the replies are gone through one after another
+pub named_here : (rs : List Reply) (w : List ℕ) (k : ℕ) (r : Reply) (o : Option Reply) → k < length rs → r
+    ≡ get_or rs k r
+    → bytes_eq w (bare_text r) ≡ true → named_reply (drop k rs) w ≡ o → Some r ≡ o
+unfolding named_reply
+named_here rs w k r o lt here is h =
+    sym (ap (λ (xs : List Reply). named_reply xs w) (first_left rs k r lt here) ∙ rw is refl) ∙ h
+
+pub named_later : (rs : List Reply) (w : List ℕ) (k : ℕ) (r : Reply) (o : Option Reply) → k < length rs → r
+    ≡ get_or rs k r
+    → bytes_eq w (bare_text r) ≡ false → named_reply (drop k rs) w ≡ o → named_reply (drop (k + 1) rs) w ≡ o
+unfolding named_reply
+named_later rs w k r o lt here isnt h =
+    sym (ap (λ (xs : List Reply). named_reply xs w) (first_left rs k r lt here) ∙ rw isnt refl) ∙ h
+
+pub named_nowhere : (rs : List Reply) (w : List ℕ) (k : ℕ) (o : Option Reply) → length rs ≤ k
+    → named_reply (drop k rs) w ≡ o → None ≡ o
+unfolding named_reply
+named_nowhere rs w k o ge h =
+    let none : drop k rs ≡ [] = grind (arith, common_steps) in
+    sym (ap (λ (xs : List Reply). named_reply xs w) none) ∙ h
 
 two : {A : Type 0} {a b c d : A} → a ≡ b → c ≡ d → a ∷ c ∷ [] ≡ b ∷ d ∷ []
 two e f = cc

@@ -13,6 +13,7 @@ use Rattle.book.specs.declared.entries.Entry.{Entry}
 use Rattle.book.specs.declared.entries.Entry.TheVariants as entry
 use Rattle.book.specs.declared.reading.Named.{Named}
 use Rattle.book.specs.declared.reading.Named.TheVariants as named
+use Rattle.book.specs.Replies.{bare_replies, bare_text}
 use Rattle.book.specs.declared.replies.Reply.{Reply}
 use Rattle.book.specs.declared.replies.Reply.TheVariants as reply
 
@@ -54,50 +55,13 @@ dotted_of t = both (number_of (before_first is_dot t)) (number_of (after_first i
 
 -- ---- replies
 
--- the replies of one word that a reference may have
-abbrev pub page_reply : List ℕ → Option Reply
-page_reply w =
-    if bytes_eq w (codes "unknown") then Some reply.Unknown
-    else if bytes_eq w (codes "gone") then Some reply.Gone
-    else if bytes_eq w (codes "noaccess") then Some reply.NoAccess
-    else if bytes_eq w (codes "length") then Some reply.Length
-    else if bytes_eq w (codes "quota") then Some reply.Quota
-    else if bytes_eq w (codes "norecord") then Some reply.NoRecord
-    else if bytes_eq w (codes "device") then Some reply.Device
-    else if bytes_eq w (codes "done") then Some reply.Done
-    else None
-
--- those of a path, and of what is made
-abbrev pub path_reply : List ℕ → Option Reply
-path_reply w =
-    if bytes_eq w (codes "nopath") then Some reply.NoPath
-    else if bytes_eq w (codes "notdir") then Some reply.NotDir
-    else if bytes_eq w (codes "isdir") then Some reply.IsDir
-    else if bytes_eq w (codes "isseg") then Some reply.IsSeg
-    else if bytes_eq w (codes "exists") then Some reply.Exists
-    else if bytes_eq w (codes "deep") then Some reply.Deep
-    else if bytes_eq w (codes "room") then Some reply.Room
-    else if bytes_eq w (codes "noentry") then Some reply.NoEntry
-    else None
-
--- those of other changes
-abbrev pub change_reply : List ℕ → Option Reply
-change_reply w =
-    if bytes_eq w (codes "full") then Some reply.Full
-    else if bytes_eq w (codes "aclfull") then Some reply.AclFull
-    else if bytes_eq w (codes "beyond") then Some reply.Beyond
-    else if bytes_eq w (codes "notempty") then Some reply.NotEmpty
-    else if bytes_eq w (codes "hasquota") then Some reply.HasQuota
-    else if bytes_eq w (codes "root") then Some reply.Root
-    else if bytes_eq w (codes "toolittle") then Some reply.TooLittle
-    else None
-
-abbrev pub first_there : {A : Type 0} → Option A → Option A → Option A
-first_there None other = other
-first_there (Some x) other = Some x
+-- the first of some replies of one word whose text a word is
+unfoldable pub named_reply : List Reply → List ℕ → Option Reply
+named_reply [] w = None
+named_reply (r ∷ rs) w = if bytes_eq w (bare_text r) then Some r else named_reply rs w
 
 abbrev pub bare_reply : List ℕ → Option Reply
-bare_reply w = first_there (page_reply w) (first_there (path_reply w) (change_reply w))
+bare_reply w = named_reply bare_replies w
 
 abbrev pub numbered_reply : List ℕ → ℕ → Option Reply
 numbered_reply w n =

@@ -1,5 +1,5 @@
 -- The text of a reply (own).
-use Rattle.std.specs.Prelude.{ℕ, List, [], ◌++◌, codes}
+use Rattle.std.specs.Prelude.{ℕ, List, [], ◌∷◌, ◌++◌, codes}
 use Rattle.std.specs.Fmt.{decimal}
 use Rattle.mword.specs.Octal.{octal_digits}
 use Rattle.book.specs.declared.replies.Reply.{Reply}
@@ -31,6 +31,14 @@ bare_text reply.HasQuota = codes "hasquota"
 bare_text reply.Root = codes "root"
 bare_text reply.TooLittle = codes "toolittle"
 bare_text _ = []
+
+-- the replies of one word
+abbrev pub bare_replies : List Reply
+bare_replies =
+    reply.Unknown ∷ reply.Gone ∷ reply.NoAccess ∷ reply.Length ∷ reply.Quota ∷ reply.NoRecord ∷ reply.Device
+    ∷ reply.Done ∷ reply.NoPath ∷ reply.NotDir ∷ reply.IsDir ∷ reply.IsSeg ∷ reply.Exists ∷ reply.Deep ∷ reply.Room
+    ∷ reply.NoEntry ∷ reply.Full ∷ reply.AclFull ∷ reply.Beyond ∷ reply.NotEmpty ∷ reply.HasQuota ∷ reply.Root
+    ∷ reply.TooLittle ∷ []
 
 unfoldable pub reply_text : Reply → List ℕ
 reply_text (reply.Word w) = codes "word " ++ octal_digits 12 w

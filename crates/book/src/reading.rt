@@ -2,17 +2,18 @@ ghost use Rattle.std.specs.Prelude.{◌≡◌, ◌==◌, ◌<◌, ◌≤◌, [],
 ghost use Rattle.std.specs.List.{position, slice_split};
 ghost use Rattle.book.specs.Entries.{entry_text};
 ghost use Rattle.book.specs.Reading.{is_plain, number_of, number_or_none, word_of, dotted_of};
-ghost use Rattle.book.specs.Reading.{page_reply, path_reply, change_reply, bare_reply, numbered_reply};
+ghost use Rattle.book.specs.Reading.{named_reply, bare_reply, numbered_reply};
 ghost use Rattle.book.specs.Reading.{status_reply, triple, reply_of, what_of, dropped_of, named_of, gone, back};
 ghost use Rattle.book.specs.Reading.{filled, fill_of, named_or_plain, pair_reply};
 ghost use Rattle.book.specs.Reading.{fault_of, do_of, of_one, of_two, of_three, plain_of, entry_of, entry_of_words};
 ghost use Rattle.book.specs.Reading.{is_space, IsEntry};
 
 use crate::entries::Entry;
-use crate::replies::Reply;
+use crate::replies::{Reply, bare_text};
 use arrayvec::ArrayVec;
 use assoc_mem::What;
 use mword::{Word, read_octal};
+use script::read_number;
 
 /// The most words that an entry has: a command's entry whose reply is what a segment or a directory is like.
 const MOST_WORDS: usize = 10;
@@ -32,22 +33,12 @@ fn is_plain(word: &[u8]) -> bool
 }
 
 /// The number that a word is: decimal digits without a leading zero, of 32 bits.
-#[tactic(auto, using(crate::proofs::Numbers::number_taken, std::proofs::lemmas::Grind::common_steps))]
+#[tactic(auto, using(crate::proofs::Numbers::plain_number, crate::proofs::Numbers::not_plain))]
 fn number(word: &[u8]) -> Option<u32>
     ensures { result ≡ number_of word.now }
 {
-    if !is_plain(word) {
-        return None;
-    }
-    let mut value: u64 = 0;
-    for byte in word {
-        match byte {
-            b'0'..=b'9' => value = value * 10 + u64::from(*byte - b'0'),
-            _ => return None,
-        }
-    }
-    if value < 0x1_0000_0000 {
-        Some(value as u32)
+    if is_plain(word) {
+        read_number(word)
     } else {
         None
     }
@@ -75,90 +66,48 @@ fn octal_word(text: &[u8]) -> Option<Word>
     }
 }
 
-/// A reply of one word that a reference may have.
-fn page_reply(word: &[u8]) -> Option<Reply>
-    ensures { result ≡ page_reply word.now }
+/// The first of some replies of one word whose text a word is.
+fn named_reply(replies: &[Reply], word: &[u8]) -> Option<Reply>
+    ensures { result ≡ named_reply replies.now word.now }
 {
-    if word == b"unknown".as_slice() {
-        Some(Reply::Unknown)
-    } else if word == b"gone".as_slice() {
-        Some(Reply::Gone)
-    } else if word == b"noaccess".as_slice() {
-        Some(Reply::NoAccess)
-    } else if word == b"length".as_slice() {
-        Some(Reply::Length)
-    } else if word == b"quota".as_slice() {
-        Some(Reply::Quota)
-    } else if word == b"norecord".as_slice() {
-        Some(Reply::NoRecord)
-    } else if word == b"device".as_slice() {
-        Some(Reply::Device)
-    } else if word == b"done".as_slice() {
-        Some(Reply::Done)
-    } else {
-        None
+    for reply in replies {
+        if word == bare_text(reply).as_bytes() {
+            return Some(*reply);
+        }
     }
-}
-
-/// A reply of one word of a path, or of what is made.
-fn path_reply(word: &[u8]) -> Option<Reply>
-    ensures { result ≡ path_reply word.now }
-{
-    if word == b"nopath".as_slice() {
-        Some(Reply::NoPath)
-    } else if word == b"notdir".as_slice() {
-        Some(Reply::NotDir)
-    } else if word == b"isdir".as_slice() {
-        Some(Reply::IsDir)
-    } else if word == b"isseg".as_slice() {
-        Some(Reply::IsSeg)
-    } else if word == b"exists".as_slice() {
-        Some(Reply::Exists)
-    } else if word == b"deep".as_slice() {
-        Some(Reply::Deep)
-    } else if word == b"room".as_slice() {
-        Some(Reply::Room)
-    } else if word == b"noentry".as_slice() {
-        Some(Reply::NoEntry)
-    } else {
-        None
-    }
-}
-
-/// A reply of one word of another change.
-fn change_reply(word: &[u8]) -> Option<Reply>
-    ensures { result ≡ change_reply word.now }
-{
-    if word == b"full".as_slice() {
-        Some(Reply::Full)
-    } else if word == b"aclfull".as_slice() {
-        Some(Reply::AclFull)
-    } else if word == b"beyond".as_slice() {
-        Some(Reply::Beyond)
-    } else if word == b"notempty".as_slice() {
-        Some(Reply::NotEmpty)
-    } else if word == b"hasquota".as_slice() {
-        Some(Reply::HasQuota)
-    } else if word == b"root".as_slice() {
-        Some(Reply::Root)
-    } else if word == b"toolittle".as_slice() {
-        Some(Reply::TooLittle)
-    } else {
-        None
-    }
+    None
 }
 
 /// A reply of one word.
 fn bare_reply(word: &[u8]) -> Option<Reply>
     ensures { result ≡ bare_reply word.now }
 {
-    if let Some(reply) = page_reply(word) {
-        return Some(reply);
-    }
-    if let Some(reply) = path_reply(word) {
-        return Some(reply);
-    }
-    change_reply(word)
+    let replies = [
+        Reply::Unknown,
+        Reply::Gone,
+        Reply::NoAccess,
+        Reply::Length,
+        Reply::Quota,
+        Reply::NoRecord,
+        Reply::Device,
+        Reply::Done,
+        Reply::NoPath,
+        Reply::NotDir,
+        Reply::IsDir,
+        Reply::IsSeg,
+        Reply::Exists,
+        Reply::Deep,
+        Reply::Room,
+        Reply::NoEntry,
+        Reply::Full,
+        Reply::AclFull,
+        Reply::Beyond,
+        Reply::NotEmpty,
+        Reply::HasQuota,
+        Reply::Root,
+        Reply::TooLittle,
+    ];
+    named_reply(&replies, word)
 }
 
 /// A reply of a word and a number.

@@ -72,7 +72,7 @@ pub enum Reply {
 
 /// The text of a reply of one word; of any other nothing.
 #[tactic(auto, unfolding(crate::specs::Replies::bare_text))]
-fn bare_text(reply: &Reply) -> &'static str
+pub(crate) fn bare_text(reply: &Reply) -> &'static str
     ensures { result.now ≡ bare_text reply.now }
 {
     match reply {
