@@ -85,27 +85,21 @@ seg_same c e b d k n h due (inr i) = inr (
 
 -- ---- nobody holds
 
+not_so : (z : Bool) → (z ≡ true → ⊥) → z ≡ false
+not_so false h = refl
+not_so true h = absurd (h refl)
+
 -- a processor that holds a page table word of a frame knows it to be current or going
 pub nobody_holds_page : (c : Custody) (b : Bool) (f : ℕ) → Fine c b → is_current_frame (c.frame f) ≡ false
     → is_going_frame (c.frame f) ≡ false
     → NobodyHoldsPage c f
-nobody_holds_page c b f fine current going d = by_held (has (c.seat d).pages f) refl
-  where
-    by_held : (z : Bool) → has (c.seat d).pages f ≡ z → z ≡ false
-    by_held false h = refl
-    by_held true h = elim (fine.page d f h) [ inl i ↦ absurd (no_and i current) | inr i ↦ absurd (no_and i.0 going) ]
+nobody_holds_page c b f fine current going d = not_so (has (c.seat d).pages f) (λ h. elim (fine.page d f h)
+    [ inl i ↦ no_and i current | inr i ↦ no_and i.0 going ])
 
 pub nobody_holds_seg : (c : Custody) (b : Bool) (k n : ℕ) → Fine c b → is_current_descriptor (c.descriptor k n) ≡ false
     → is_going_descriptor (c.descriptor k n) ≡ false → NobodyHoldsSeg c k n
-nobody_holds_seg c b k n fine current going d process = by_held (has (c.seat d).segs n) refl
-  where
-    by_held : (z : Bool) → has (c.seat d).segs n ≡ z → z ≡ false
-    by_held false h = refl
-    by_held true h = elim (fine.seg d k n process h) [
-      | inl i ↦ absurd (no_and i current)
-      | inr i ↦ absurd
-          (no_and i.0 going)
-    ]
+nobody_holds_seg c b k n fine current going d process = not_so (has (c.seat d).segs n) (λ h. elim
+    (fine.seg d k n process h) [ inl i ↦ no_and i current | inr i ↦ no_and i.0 going ])
 
 not_warned : (o : Option What) (t : What → Bool) → o ≡ None → (false ≡ true) ⊎ IsSomeAnd o (λ w. t w ≡ true) → ⊥
 not_warned o t none (inl i) = let no : false ≡ true = i in absurd cc
@@ -115,28 +109,19 @@ not_warned (Some w) t none (inr i) = let no : Some w ≡ None = none in absurd c
 -- once the signal was given and nobody is to drop anything, nobody holds what is going
 pub nobody_holds_going_page : (c : Custody) (f : ℕ) → Fine c false → NoneDue c → is_current_frame (c.frame f) ≡ false
     → NobodyHoldsPage c f
-nobody_holds_going_page c f fine none current d = by_held (has (c.seat d).pages f) refl
-  where
-    by_held : (z : Bool) → has (c.seat d).pages f ≡ z → z ≡ false
-    by_held false h = refl
-    by_held true h = elim (fine.page d f h) [
-      | inl i ↦ absurd (no_and i current)
-      | inr i ↦ absurd
-          (not_warned (c.seat d).due (λ w. names_frame c w f) (none d) i.1)
-    ]
+nobody_holds_going_page c f fine none current d = not_so (has (c.seat d).pages f) (λ h. elim (fine.page d f h) [
+  | inl i ↦ no_and i current
+  | inr i ↦ not_warned (c.seat d).due (λ w. names_frame c w f) (none d) i.1
+])
 
 pub nobody_holds_going_seg : (c : Custody) (k n : ℕ) → Fine c false → NoneDue c
     → is_current_descriptor (c.descriptor k n) ≡ false
     → NobodyHoldsSeg c k n
-nobody_holds_going_seg c k n fine none current d process = by_held (has (c.seat d).segs n) refl
-  where
-    by_held : (z : Bool) → has (c.seat d).segs n ≡ z → z ≡ false
-    by_held false h = refl
-    by_held true h = elim (fine.seg d k n process h) [
-      | inl i ↦ absurd (no_and i current)
-      | inr i ↦ absurd
-          (not_warned (c.seat d).due (λ w. names_descriptor c w k n) (none d) i.1)
-    ]
+nobody_holds_going_seg c k n fine none current d process = not_so (has (c.seat d).segs n) (λ h. elim
+    (fine.seg d k n process h) [
+      | inl i ↦ no_and i current
+      | inr i ↦ not_warned (c.seat d).due (λ w. names_descriptor c w k n) (none d) i.1
+    ])
 
 -- ---- frames and descriptors that nobody holds
 
@@ -293,67 +278,64 @@ due_kept : (c : Custody) (d : ℕ) (new : Seat) → new.due ≡ (c.seat d).due �
 due_kept c d new is e = by_place e d new (c.seat e) (λ x. x.due ≡ (c.seat e).due)
     (λ i. is ∙ ap (λ (j : ℕ). (c.seat j).due) (sym i)) (λ n. refl)
 
--- where a seat takes part, each that doesn't holds nothing as before
-idle_kept : (c : Custody) (b : Bool) (d : ℕ) (new : Seat) → Fine c b → new.online ≡ true → (e : ℕ)
-    → ((with_seat c d new).seat e).online ≡ false
-    → (((with_seat c d new).seat e).segs ≡ []) × (((with_seat c d new).seat e).pages ≡ [])
-idle_kept c b d new fine online e =
-    by_place e d new (c.seat e) (λ x. x.online ≡ false → (x.segs ≡ []) × (x.pages ≡ []))
-    (λ i off. absurd (no_and online off)) (λ n. fine.idle e)
+-- what a processor holds in its new seat is fine, and so is what the others hold
+seat_fine : (c : Custody) (b : Bool) (d : ℕ) (new : Seat) → Fine c b
+    → ((f : ℕ) → has new.pages f ≡ true → IsFinePage (with_seat c d new) b d f)
+    → ((k n : ℕ) → new.process ≡ Some k → has new.segs n ≡ true → IsFineSeg (with_seat c d new) b d k n)
+    → (new.online ≡ false → (new.segs ≡ []) × (new.pages ≡ [])) → Fine (with_seat c d new) b
+seat_fine c b d new fine pages segs idle = record {
+  page = λ e f. by_place e d new (c.seat e) (λ x. has x.pages f ≡ true → IsFinePage next b e f)
+      (λ i h. subst (λ (j : ℕ). IsFinePage next b j f) (sym i) (pages f h))
+      (λ n h. page_same c next b e f refl (other_due e n) (fine.page e f h));
+  seg = λ e k n. by_place e d new (c.seat e) (λ x. x.process ≡ Some k → has x.segs n ≡ true → IsFineSeg next b e k n)
+      (λ i process h. subst (λ (j : ℕ). IsFineSeg next b j k n) (sym i) (segs k n process h))
+      (λ m process h. seg_same c next b e k n refl (other_due e m) (fine.seg e k n process h));
+  idle = λ e. by_place e d new (c.seat e) (λ x. x.online ≡ false → (x.segs ≡ []) × (x.pages ≡ [])) (λ i. idle)
+      (λ n. fine.idle e);
+}
+  where
+    next : Custody
+    next = with_seat c d new
+
+    other_due : (e : ℕ) → e ≢ d → (next.seat e).due ≡ (c.seat e).due
+    other_due e n = by_place e d new (c.seat e) (λ x. x.due ≡ (c.seat e).due) (λ i. absurd (n i)) (λ m. refl)
 
 pub fill_page_fine : (c : Custody) (b : Bool) (d f : ℕ) → Fine c b → (c.seat d).online ≡ true
     → is_current_frame (c.frame f) ≡ true
     → Fine (with_seat c d (record (c.seat d) { pages = filled (c.seat d).pages f })) b
-fill_page_fine c b d f fine online current = record {
-  page = λ e g. by_place e d new (c.seat e) (λ x. has x.pages g ≡ true → IsFinePage next b e g)
-      (λ i h. subst (λ (j : ℕ). IsFinePage next b j g) (sym i) (here g h))
-      (λ n h. page_same c next b e g refl (due_kept c d new refl e) (fine.page e g h));
-  seg = λ e k n. by_place e d new (c.seat e) (λ x. x.process ≡ Some k → has x.segs n ≡ true → IsFineSeg next b e k n)
-      (λ i process h. subst (λ (j : ℕ). IsFineSeg next b j k n) (sym i)
-      (seg_same c next b d k n refl (due_kept c d new refl d) (fine.seg d k n process h)))
-      (λ m process h. seg_same c next b e k n refl (due_kept c d new refl e) (fine.seg e k n process h));
-  idle = idle_kept c b d new fine online;
-}
+fill_page_fine c b d f fine online current =
+    seat_fine c b d new fine here
+    (λ k n process h. seg_same c (with_seat c d new) b d k n refl (due_kept c d new refl d)
+    (fine.seg d k n process h)) (λ off. absurd (no_and online off))
   where
     new : Seat
     new = record (c.seat d) { pages = filled (c.seat d).pages f }
 
-    next : Custody
-    next = with_seat c d new
-
-    here : (g : ℕ) → has (filled (c.seat d).pages f) g ≡ true → IsFinePage next b d g
+    here : (g : ℕ) → has (filled (c.seat d).pages f) g ≡ true → IsFinePage (with_seat c d new) b d g
     here g h = elim (has-filled (c.seat d).pages f g h) [
       | inl e ↦ inl (ap (λ (i : ℕ). is_current_frame (c.frame i)) e ∙ current)
-      | inr held ↦ page_same c next b d g refl (due_kept c d new refl d) (fine.page d g held)
+      | inr held ↦ page_same c (with_seat c d new) b d g refl (due_kept c d new refl d) (fine.page d g held)
     ]
 
 pub fill_seg_fine : (c : Custody) (b : Bool) (d k n : ℕ) → Fine c b → (c.seat d).online ≡ true → (c.seat d).process
     ≡ Some k
     → is_current_descriptor (c.descriptor k n) ≡ true → Fine
     (with_seat c d (record (c.seat d) { segs = filled (c.seat d).segs n })) b
-fill_seg_fine c b d k n fine online its current = record {
-  page = λ e g. by_place e d new (c.seat e) (λ x. has x.pages g ≡ true → IsFinePage next b e g)
-      (λ i h. subst (λ (j : ℕ). IsFinePage next b j g) (sym i)
-      (page_same c next b d g refl (due_kept c d new refl d) (fine.page d g h)))
-      (λ m h. page_same c next b e g refl (due_kept c d new refl e) (fine.page e g h));
-  seg = λ e j m. by_place e d new (c.seat e) (λ x. x.process ≡ Some j → has x.segs m ≡ true → IsFineSeg next b e j m)
-      (λ i process h. subst (λ (l : ℕ). IsFineSeg next b l j m) (sym i) (here j m process h))
-      (λ o process h. seg_same c next b e j m refl (due_kept c d new refl e) (fine.seg e j m process h));
-  idle = idle_kept c b d new fine online;
-}
+fill_seg_fine c b d k n fine online its current =
+    seat_fine c b d new fine
+    (λ f h. page_same c (with_seat c d new) b d f refl (due_kept c d new refl d) (fine.page d f h)) here
+    (λ off. absurd (no_and online off))
   where
     new : Seat
     new = record (c.seat d) { segs = filled (c.seat d).segs n }
 
-    next : Custody
-    next = with_seat c d new
-
-    here : (j m : ℕ) → (c.seat d).process ≡ Some j → has (filled (c.seat d).segs n) m ≡ true → IsFineSeg next b d j m
+    here : (j m : ℕ) → (c.seat d).process ≡ Some j → has (filled (c.seat d).segs n) m ≡ true
+        → IsFineSeg (with_seat c d new) b d j m
     here j m process h = elim (has-filled (c.seat d).segs n m h) [
       | inl e ↦ let same : j ≡ k = cc (sym process ∙ its) in
           inl (ap is_current_descriptor (ap (λ (x : ℕ). c.descriptor x m) same ∙ ap (λ (x : ℕ). c.descriptor k x) e)
           ∙ current)
-      | inr held ↦ seg_same c next b d j m refl (due_kept c d new refl d) (fine.seg d j m process held)
+      | inr held ↦ seg_same c (with_seat c d new) b d j m refl (due_kept c d new refl d) (fine.seg d j m process held)
     ]
 
 -- ---- signals
@@ -451,25 +433,12 @@ signal_fine c b d w fine all = record {
 -- a processor that was to drop what is named has dropped it
 pub clear_fine : (c : Custody) (b : Bool) (d : ℕ) (w : What) → Fine c b → (c.seat d).due ≡ Some w
     → Fine (answered_clear c d w) b
-clear_fine c b d w fine its = record {
-  page = λ e f. by_place e d new (c.seat e) (λ x. has x.pages f ≡ true → IsFinePage next b e f)
-      (λ i h. subst (λ (j : ℕ). IsFinePage next b j f) (sym i) (here_page f h))
-      (λ n h. page_same c next b e f refl (other_due e n) (fine.page e f h));
-  seg = λ e k n. by_place e d new (c.seat e) (λ x. x.process ≡ Some k → has x.segs n ≡ true → IsFineSeg next b e k n)
-      (λ i process h. subst (λ (j : ℕ). IsFineSeg next b j k n) (sym i) (here_seg k n process h))
-      (λ m process h. seg_same c next b e k n refl (other_due e m) (fine.seg e k n process h));
-  idle = λ e. by_place e d new (c.seat e) (λ x. x.online ≡ false → (x.segs ≡ []) × (x.pages ≡ []))
-      (λ i off. cleared_none c w (c.seat d) (fine.idle d off)) (λ n. fine.idle e);
-}
+clear_fine c b d w fine its =
+    seat_fine c b d (record (cleared c w (c.seat d)) { due = None }) fine here_page here_seg
+    (λ off. cleared_none c w (c.seat d) (fine.idle d off))
   where
-    new : Seat
-    new = record (cleared c w (c.seat d)) { due = None }
-
     next : Custody
     next = answered_clear c d w
-
-    other_due : (e : ℕ) → e ≢ d → (next.seat e).due ≡ (c.seat e).due
-    other_due e n = by_place e d new (c.seat e) (λ x. x.due ≡ (c.seat e).due) (λ i. absurd (n i)) (λ m. refl)
 
     told_of : (t : What → Bool) → t w ≡ false → IsSomeAnd (c.seat d).due (λ v. t v ≡ true) → ⊥
     told_of t not_named i = no_and (subst (λ (o : Option What). IsSomeAnd o (λ v. t v ≡ true)) its i) not_named
