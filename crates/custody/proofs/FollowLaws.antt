@@ -1,6 +1,6 @@
 -- What an entry that is allowed makes of the tables is the custody after it; their sizes stay, and what is active is
 -- in the tree.
-use Rattle.std.proofs.Common.{◌≡◌, ◌<◌, ◌+◌, ℕ, Bool, true, false, List, [], ◌++◌, Option, Some, None, Result, Ok, Err}
+use Rattle.std.proofs.Common.{◌≡◌, ◌<◌, ◌+◌, ◌⊎◌, ℕ, Bool, true, false, List, [], ◌++◌, Option, Some, None, Result, Ok, Err}
 use Rattle.std.proofs.Common.{length, drop, set, refl, sym, ap, subst, ◌∙◌, inl, inr, arith}
 use Rattle.std.proofs.Common.{length-set}
 use Rattle.std.specs.Prelude.{is_some, IsSomeAnd, OnOk}
@@ -34,6 +34,16 @@ use Rattle.flat_store.specs.Shown.{Kept, Shows}
 pub on_ok : {A B : Type 0} (r : Result A B) (P Q : Type 0) → (P → Q) → OnOk r P → OnOk r Q
 on_ok (Ok x) P Q f h = f h
 on_ok (Err e) P Q f h = h
+
+-- what follows from each of six
+pub any_of_six : {A B C D E F P : Type 0} → A ⊎ (B ⊎ (C ⊎ (D ⊎ (E ⊎ F)))) → (A → P) → (B → P) → (C → P) → (D → P)
+    → (E → P) → (F → P) → P
+any_of_six (inl x) a b c d e f = a x
+any_of_six (inr (inl x)) a b c d e f = b x
+any_of_six (inr (inr (inl x))) a b c d e f = c x
+any_of_six (inr (inr (inr (inl x)))) a b c d e f = d x
+any_of_six (inr (inr (inr (inr (inl x))))) a b c d e f = e x
+any_of_six (inr (inr (inr (inr (inr x))))) a b c d e f = f x
 
 -- ---- places that are there
 

@@ -1,5 +1,5 @@
 -- What each entry changes in the tables (own).
-use Rattle.std.specs.Prelude.{◌≡◌, ◌<◌, ◌^◌, ◌+◌, ◌-◌, ℕ, Bool, true, false, not, ◌==◌, if◌then◌else◌, slice_set}
+use Rattle.std.specs.Prelude.{◌≡◌, ◌<◌, ◌+◌, ◌-◌, ℕ, Bool, true, false, not, ◌==◌, if◌then◌else◌, slice_set}
 use Rattle.std.specs.Prelude.{replicate, length, drop, List, [], ◌∷◌, ◌++◌, Option, Some, None}
 use Rattle.std.specs.List.{filter}
 use Rattle.assoc_mem.specs.declared.What.{What}

@@ -100,25 +100,15 @@ impl Active {
 fn pool_key(of: Option<ActiveUse>) -> Option<(u32, u32)>
     ensures { result ≡ pool_key of }
 {
-    match of {
-        Some(of) => Some((of.pool, 0)),
-        None => None,
-    }
+    of.map(|of| (of.pool, 0))
 }
 
 /// The key of its superior.
 fn superior_key(of: Option<ActiveUse>) -> Option<(u32, u32)>
     ensures { result ≡ superior_key of }
 {
-    match of {
-        Some(
-            ActiveUse {
-                superior: Some(superior),
-                ..
-            },
-        ) => Some((superior, 0)),
-        _ => None,
-    }
+    let superior = of?.superior?;
+    Some((superior, 0))
 }
 
 /// The list has a place for a uid from now on.

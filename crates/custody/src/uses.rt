@@ -58,10 +58,7 @@ pub(crate) fn descriptor_mark(of: DescriptorUse) -> Option<Mark>
 fn uid_key(mark: Option<Mark>) -> Option<(u32, u32)>
     ensures { result ≡ uid_key mark }
 {
-    match mark {
-        Some(mark) => Some((mark.uid, 0)),
-        None => None,
-    }
+    mark.map(|mark| (mark.uid, 0))
 }
 
 /// The key of its segment, where it is on its way out.

@@ -1,39 +1,19 @@
-use Rattle.std.proofs.Common.{◌≡◌, true, ap, inl, inr}
+use Rattle.std.proofs.Common.{◌≡◌, true, ap}
 use Rattle.custody.specs.Changes.{is_of_frame, is_of_seat}
-use Rattle.custody.proofs.FollowLaws.{on_ok}
+use Rattle.custody.proofs.FollowLaws.{any_of_six, on_ok}
 use Rattle.custody.proofs.tables.Custody.advance.Goals.{In-Online, In-Start}
 use Rattle.custody.proofs.tables.Custody.advance.Goals as goal
 
 -- the entries that are of a frame, and those of a processor alone
 of_frame : (c : In-Start) → is_of_frame c.args.e ≡ true
-of_frame c = elim c.in-Start.is [
-  | inl x ↦ ap is_of_frame x.3
-  | inr a ↦ elim a [
-    | inl x ↦ ap is_of_frame x.3
-    | inr b ↦ elim b [
-      | inl x ↦ ap is_of_frame x.1
-      | inr d ↦ elim d [
-        | inl x ↦ ap is_of_frame x.1
-        | inr e ↦ elim e [ inl x ↦ ap is_of_frame x.1 | inr x ↦ ap is_of_frame x.1 ]
-      ]
-    ]
-  ]
-]
+of_frame c =
+    any_of_six c.in-Start.is (λ x. ap is_of_frame x.3) (λ x. ap is_of_frame x.3) (λ x. ap is_of_frame x.1)
+    (λ x. ap is_of_frame x.1) (λ x. ap is_of_frame x.1) (λ x. ap is_of_frame x.1)
 
 of_seat : (c : In-Online) → is_of_seat c.args.e ≡ true
-of_seat c = elim c.in-Online.is [
-  | inl x ↦ ap is_of_seat x.1
-  | inr a ↦ elim a [
-    | inl x ↦ ap is_of_seat x.2
-    | inr b ↦ elim b [
-      | inl x ↦ ap is_of_seat x.2
-      | inr d ↦ elim d [
-        | inl x ↦ ap is_of_seat x.2
-        | inr e ↦ elim e [ inl x ↦ ap is_of_seat x.2 | inr x ↦ ap is_of_seat x.2 ]
-      ]
-    ]
-  ]
-]
+of_seat c =
+    any_of_six c.in-Online.is (λ x. ap is_of_seat x.1) (λ x. ap is_of_seat x.2) (λ x. ap is_of_seat x.2)
+    (λ x. ap is_of_seat x.2) (λ x. ap is_of_seat x.2) (λ x. ap is_of_seat x.2)
 
 pub returns-in-Start-clause-ok : goal.returns-in-Start-clause-ok
 returns-in-Start-clause-ok c =
