@@ -1,12 +1,14 @@
 -- A page is stored no more.
 use Rattle.std.proofs.Common.{◌≡◌, ℕ, ◌+◌, ◌-◌, ◌/◌, ◌%◌, ◌<◌, ◌≤◌, Bool, true, false, not, cond, eqb, ◌&&◌, List}
-use Rattle.std.proofs.Common.{length, set, Option, Some, None, is_some, refl, sym, ap, subst, ◌∙◌}
+use Rattle.std.proofs.Common.{length, set, Option, Some, None, Result, is_some, refl, sym, ap, subst, ◌∙◌}
 use Rattle.std.proofs.Common.{arith}
 use Rattle.std.specs.Prelude.{nat_le}
 use Rattle.accounts.specs.Maps.{AccountMaps, Counts, count_of, Recounts}
 use Rattle.script.specs.Plans.{Plan}
 use Rattle.tree_model.specs.Tree.{Node, volume_in, taken_on}
 use Rattle.tree_model.specs.Trees.{has_segment}
+use Rattle.book.specs.declared.replies.Reply.{Reply}
+use Rattle.flat_model.specs.Branches.{segment_at}
 use Rattle.flat_model.specs.Pages.{Words, is_stored, without_stored, IsOnce}
 use Rattle.flat_model.specs.Store.{Store, records_of}
 use Rattle.flat_model.proofs.PageLaws.{is_stored-without, once_without}
@@ -28,6 +30,12 @@ pub tree_inside : (p : Plan) (s : Store) (inside now : Held) → inside ≡ now 
     → ShowsTree s inside.accounts
 tree_inside p s inside now is h = (let holds = held_inside p s inside now is h in
     record { nodes = holds.nodes; next = holds.next; counts = holds.counts })
+
+-- the segment at a path, as holdings have the tree inside
+pub segment_inside : (p : Plan) (s : Store) (inside now : Held) (path : List (List ℕ)) (r : Result Node Reply) → inside
+    ≡ now → Holds p now s → segment_at inside.accounts.nodes path ≡ r → segment_at s.nodes path ≡ r
+segment_inside p s inside now path r is h found =
+    ap (λ (ns : List Node). segment_at ns path) (tree_inside p s inside now is h).nodes ∙ found
 
 pub stored_held : (p : Plan) (s : Store) (h : Held) (u q : ℕ) → Holds p h s → is_some (page_at h.pages u q) ≡ true
     → is_stored s.stored u q ≡ true
@@ -106,6 +114,10 @@ pub record Drops (h k : Held) (u q : ℕ) : Type 0 where
   pub records : k.records ≡ set h.records (volume_in h.accounts.nodes u)
       (drained (gauge_at h.records (volume_in h.accounts.nodes u)))
   pub entries : k.entries ≡ h.entries
+
+-- what is held with these pages, where entries of the VTOC stay
+abbrev pub with_pages : Held → AccountMaps → Paged → List Gauge → Held
+with_pages h accounts pages records = record h { accounts = accounts; pages = pages; records = records }
 
 pub drop_done : (h k : Held) (u q v : ℕ) → Recounts h.accounts k.accounts u (count_of h.accounts u - 1)
     → Puts h.pages k.pages u q None

@@ -15,28 +15,18 @@ use known_segs::Kst;
 use script::{Script, VolumeLine};
 use std::alloc::Global;
 
-/// A gauge for the records of each volume.
-fn records_gauges(alloc: Global, volumes: &[VolumeLine]) -> Result<Vec<Gauge>, NoMemory>
-    ensures { IfOk result (λ gauges. gauges.items ≡ map records_gauge volumes.now) }
+/// A gauge for the records of each volume, and one for its VTOC entries.
+fn gauges(alloc: Global, volumes: &[VolumeLine]) -> Result<(Vec<Gauge>, Vec<Gauge>), NoMemory>
+    ensures records { IfOk result (λ gauges. gauges.0.items ≡ map records_gauge volumes.now) }
+    ensures entries { IfOk result (λ gauges. gauges.1.items ≡ map entries_gauge volumes.now) }
 {
-    let mut gauges = Vec::new(alloc);
+    let mut records = Vec::new(alloc);
+    let mut entries = Vec::new(alloc);
     for volume in volumes {
-        let gauge = Gauge::new(volume.records);
-        gauges.push(gauge)?;
+        records.push(Gauge::new(volume.records))?;
+        entries.push(Gauge::new(volume.entries))?;
     }
-    Ok(gauges)
-}
-
-/// A gauge for the VTOC entries of each volume.
-fn entries_gauges(alloc: Global, volumes: &[VolumeLine]) -> Result<Vec<Gauge>, NoMemory>
-    ensures { IfOk result (λ gauges. gauges.items ≡ map entries_gauge volumes.now) }
-{
-    let mut gauges = Vec::new(alloc);
-    for volume in volumes {
-        let gauge = Gauge::new(volume.entries);
-        gauges.push(gauge)?;
-    }
-    Ok(gauges)
+    Ok((records, entries))
 }
 
 /// As many processes that know nothing.
@@ -68,8 +58,7 @@ impl Holdings {
         ensures { IfOk result (λ holdings. Holds script.now holdings (boot script.now)) }
     {
         let _processes = script.processes();
-        let records = records_gauges(alloc, script.volumes())?;
-        let mut entries = entries_gauges(alloc, script.volumes())?;
+        let (records, mut entries) = gauges(alloc, script.volumes())?;
         fill_at(&mut entries, 0);
         let accounts = Accounts::new(alloc, 0, 0, script.quota())?;
         let pages = Pages::new(alloc);

@@ -15,9 +15,10 @@ held c = record {
 
 holds : (c : After-new-pages) → Holds c.args.script.now (held c) (boot c.args.script.now)
 holds c = held_boot c.args.script.now (held c) c.processes-processes.ensures.plan
-    (built c.args.script.now (held c) c.quota.result c.volumes.result.now c.volumes-2.result.now
-    c.in_ok-entries.entries.items c.in_ok-accounts.ensures c.quota.ensures c.new-pages.ensures c.in_ok-records.ensures
-    c.volumes.ensures c.in_ok-entries.ensures c.volumes-2.ensures c.fill_at.ensures)
+    (built c.args.script.now (held c) c.quota.result c.volumes.result.now c.volumes.result.now
+    c.in_ok-records.entries.items c.in_ok-accounts.ensures c.quota.ensures c.new-pages.ensures
+    c.in_ok-records.ensures.records c.volumes.ensures c.in_ok-records.ensures.entries c.volumes.ensures
+    c.fill_at.ensures)
 
 pub invariant_of-result : goal.invariant_of-result
 invariant_of-result c = (c.args.script.now, boot c.args.script.now, holds c)

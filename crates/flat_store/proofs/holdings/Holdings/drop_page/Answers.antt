@@ -2,7 +2,7 @@ use Rattle.std.proofs.Common.{is_some, refl, sym, ap, ◌∙◌, eqb}
 use Rattle.flat_store.specs.contracts.holdings.Holdings.{the_view}
 use Rattle.flat_model.specs.Cuts.{without_pages}
 use Rattle.flat_store.specs.Shown.{Held, page_at}
-use Rattle.flat_store.proofs.DropLaws.{held_inside, count_there, drop_done, drop_shown, missing, segment_there, Drops}
+use Rattle.flat_store.proofs.DropLaws.{held_inside, count_there, drop_done, drop_shown, missing, segment_there, with_pages, Drops}
 use Rattle.flat_store.proofs.holdings.Holdings.drop_page.Goals.{After-drain_at}
 use Rattle.flat_store.proofs.holdings.Holdings.drop_page.Goals as goal
 
@@ -20,11 +20,7 @@ credit-requires-clause-stored c =
 
 -- what is held once the page is dropped
 abbrev after : After-drain_at → Held
-after c = record (the_view c.self.inside) {
-  accounts = c.credit.new.self;
-  pages = c.remove.new.self;
-  records = c.drain_at.new.gauges.items;
-}
+after c = with_pages (the_view c.self.inside) c.credit.new.self c.remove.new.self c.drain_at.new.gauges.items
 
 drops : (c : After-drain_at) → Drops (the_view c.self.inside) (after c) c.args.uid c.args.page
 drops c = drop_done (the_view c.self.inside) (after c) c.args.uid c.args.page c.volume_of-volume.result

@@ -1,23 +1,18 @@
-use Rattle.std.proofs.Common.{◌≡◌, true, false, List, refl, sym, ap, subst, ◌∙◌}
-use Rattle.tree_model.specs.Tree.{Node, quota_in}
-use Rattle.dir_tree.specs.Nodes.{as_term}
-use Rattle.flat_model.specs.Branches.{segment_at}
+use Rattle.std.proofs.Common.{◌≡◌, true, false, refl, sym, subst, ◌∙◌}
 use Rattle.flat_model.specs.Store.{Store}
 use Rattle.flat_store.specs.contracts.holdings.Holdings.{the_view}
 use Rattle.flat_store.specs.Shown.{Held, Holds}
 use Rattle.script.specs.Plans.{Plan}
 use Rattle.flat_model.specs.Pages.{is_stored_from}
 use Rattle.flat_store.proofs.ChangeLaws.{with_length}
-use Rattle.flat_store.proofs.DropLaws.{held_inside, tree_inside}
+use Rattle.flat_store.proofs.DropLaws.{held_inside, segment_inside}
 use Rattle.flat_store.proofs.EffectLaws.{after_length_is, length_asked, length_shown, length_stays}
 use Rattle.flat_store.proofs.holdings.Holdings.set_length.Goals.{After-set_length}
 use Rattle.flat_store.proofs.holdings.Holdings.set_length.Goals as goal
 
 pub returns-in-Err : goal.returns-in-Err
 returns-in-Err c = λ p s h effect.
-    let refused = ap (λ (ns : List Node). segment_at ns c.args.path.now) (tree_inside p s
-    (the_view c.self.inside) c.args.self.now c.self.view_is h).nodes
-    ∙ c.in-Err.ensures.err in
+    let refused = segment_inside p s (the_view c.self.inside) _ _ _ c.self.view_is h c.in-Err.ensures.err in
     subst (λ (x : Store). Holds p c.args.self.now x)
     (sym (length_stays s c.args.path.now c.args.pages c.in-Err.field-0 refused)) h
 
@@ -44,20 +39,14 @@ invariant_of-self c =
 
 pub returns-then-not-is_stored_from : goal.returns-then-not-is_stored_from
 returns-then-not-is_stored_from c = λ p s h effect.
-    let n : Node = as_term (quota_in c.self.inside.accounts.nodes) c.in-Ok.node.now in
-    let found = ap (λ (ns : List Node). segment_at ns c.args.path.now) (tree_inside p s (the_view c.self.inside)
-    c.args.self.now c.self.view_is h).nodes
-    ∙ c.in-Ok.ensures.ok in
+    let found = segment_inside p s (the_view c.self.inside) _ _ _ c.self.view_is h c.in-Ok.ensures.ok in
     let none = sym (c.is_stored_from.ensures p s h) ∙ c.if-not-is_stored_from.true in
-    subst (λ (x : Store). Holds p (after c) x) (sym (after_length_is s c.args.path.now c.args.pages n found))
+    subst (λ (x : Store). Holds p (after c) x) (sym (after_length_is s c.args.path.now c.args.pages _ found))
     (shown c p s (held_inside p s (the_view c.self.inside) c.args.self.now c.self.view_is h) none)
 
 pub returns-else-not-is_stored_from : goal.returns-else-not-is_stored_from
 returns-else-not-is_stored_from c = λ p s h effect.
-    let n : Node = as_term (quota_in c.self.inside.accounts.nodes) c.in-Ok.node.now in
-    let found = ap (λ (ns : List Node). segment_at ns c.args.path.now) (tree_inside p s (the_view c.self.inside)
-    c.args.self.now c.self.view_is h).nodes
-    ∙ c.in-Ok.ensures.ok in
+    let found = segment_inside p s (the_view c.self.inside) _ _ _ c.self.view_is h c.in-Ok.ensures.ok in
     let clash : true ≡ false = sym c.if-not-is_stored_from.false ∙ c.is_stored_from.ensures p s h
-    ∙ length_asked s c.args.path.now c.args.pages n found effect in
+    ∙ length_asked s c.args.path.now c.args.pages _ found effect in
     cc

@@ -5,7 +5,7 @@ use Rattle.flat_store.specs.contracts.holdings.Holdings.{the_view}
 use Rattle.flat_store.specs.Shown.{Held, Holds, page_at, pages_in, has_room}
 use Rattle.script.specs.Plans.{Plan}
 use Rattle.flat_model.specs.Store.{Store}
-use Rattle.flat_store.proofs.DropLaws.{held_inside}
+use Rattle.flat_store.proofs.DropLaws.{held_inside, with_pages}
 use Rattle.flat_store.proofs.PutLaws.{store_done, store_shown, never_full}
 use Rattle.flat_store.proofs.holdings.Holdings.store_word.Goals.{After-fill_at}
 use Rattle.flat_store.proofs.holdings.Holdings.store_word.Goals as goal
@@ -21,11 +21,7 @@ unreachable-requires c =
 
 -- what is held once the word is stored
 abbrev after : After-fill_at → Held
-after c = record (the_view c.self.inside) {
-  accounts = c.charge.new.self;
-  pages = c.put.new.self;
-  records = c.fill_at.new.gauges.items;
-}
+after c = with_pages (the_view c.self.inside) c.charge.new.self c.put.new.self c.fill_at.new.gauges.items
 
 shown : (c : After-fill_at) (p : Plan) (s : Store) → Holds p (the_view c.self.inside) s
     → has_room p s c.args.uid ≡ true → Holds p (after c) (written s c.args.uid c.args.offset c.args.word)
