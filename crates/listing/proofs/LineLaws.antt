@@ -149,7 +149,7 @@ names_end before names i now le h =
 pub ruleset push_names_steps = (names_start, names_more, names_end)
 
 -- what the proofs of `push_accounts`, `push_entries` and `push_volumes` are given
-pub ruleset push_each_steps = (each_start, each_more, each_end)
+pub ruleset push_each_steps = (each_start, each_more, each_end, common_steps)
 
 -- what the proof of `push_part` is given
 pub ruleset push_part_steps = (each_start, each_more, lines_end)

@@ -80,21 +80,13 @@ fn push_processes(out: &mut String, book: &Book) -> Result<(), AllocError>
     Ok(())
 }
 
-/// Appends the line of an entry, whatever it is.
-#[tactic(auto, unfolding(crate::specs::Listings::full_line))]
-fn push_entry(out: &mut String, entry: &Entry) -> Result<(), AllocError>
-    ensures { OnOk result (string_bytes out.new ≡ string_bytes out.old ++ full_line entry.now) }
-{
-    write!(out, "{entry}\n")
-}
-
 /// Appends a line for each entry, in order.
-#[tactic(auto, using(crate::proofs::LineLaws::push_each_steps, std::proofs::lemmas::Grind::common_steps))]
+#[tactic(auto, using(crate::proofs::LineLaws::push_each_steps), unfolding(crate::specs::Listings::full_line))]
 fn push_entries(out: &mut String, entries: &[Entry]) -> Result<(), AllocError>
     ensures { OnOk result (string_bytes out.new ≡ string_bytes out.old ++ flat_map full_line entries.now) }
 {
     for entry in entries {
-        push_entry(out, entry)?;
+        writeln!(out, "{entry}")?;
     }
     Ok(())
 }

@@ -40,25 +40,8 @@ fn push_account(out: &mut String, account: &AccountCount) -> Result<(), AllocErr
     write!(out, " quota {quota} used {used}\n")
 }
 
-/// Appends the line of a volume.
-#[tactic(auto, unfolding(crate::specs::Listings::volume_text))]
-fn push_volume(out: &mut String, count: &VolumeCount) -> Result<(), AllocError>
-    ensures { OnOk result (string_bytes out.new ≡ string_bytes out.old ++ volume_text count.now) }
-{
-    let volume = count.volume();
-    let name = &volume.name;
-    let records = volume.records;
-    let entries = volume.entries;
-    let taken = count.taken();
-    let used = count.used();
-    write!(
-        out,
-        "volume {name} records {records} taken {taken} entries {entries} taken {used}\n"
-    )
-}
-
 /// Appends a line for each account, in order.
-#[tactic(auto, using(crate::proofs::LineLaws::push_each_steps, std::proofs::lemmas::Grind::common_steps))]
+#[tactic(auto, using(crate::proofs::LineLaws::push_each_steps))]
 fn push_accounts(out: &mut String, accounts: &[AccountCount]) -> Result<(), AllocError>
     ensures { OnOk result (string_bytes out.new ≡ string_bytes out.old ++ flat_map account_text accounts.now) }
 {
@@ -69,12 +52,21 @@ fn push_accounts(out: &mut String, accounts: &[AccountCount]) -> Result<(), Allo
 }
 
 /// Appends a line for each volume, in order.
-#[tactic(auto, using(crate::proofs::LineLaws::push_each_steps, std::proofs::lemmas::Grind::common_steps))]
+#[tactic(auto, using(crate::proofs::LineLaws::push_each_steps), unfolding(crate::specs::Listings::volume_text))]
 fn push_volumes(out: &mut String, volumes: &[VolumeCount]) -> Result<(), AllocError>
     ensures { OnOk result (string_bytes out.new ≡ string_bytes out.old ++ flat_map volume_text volumes.now) }
 {
-    for volume in volumes {
-        push_volume(out, volume)?;
+    for count in volumes {
+        let volume = count.volume();
+        let name = &volume.name;
+        let records = volume.records;
+        let entries = volume.entries;
+        let taken = count.taken();
+        let used = count.used();
+        writeln!(
+            out,
+            "volume {name} records {records} taken {taken} entries {entries} taken {used}"
+        )?;
     }
     Ok(())
 }
