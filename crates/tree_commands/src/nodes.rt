@@ -11,10 +11,7 @@ use accounts::Accounts;
 pub fn pages_of(accounts: &Accounts, uid: u32) -> u32
     ensures { result ≡ pages_in accounts.now.nodes uid }
 {
-    match accounts.node(uid) {
-        Some(node) => node.length,
-        None => 0,
-    }
+    accounts.node(uid).map_or(0, |node| node.length)
 }
 
 /// The volume of a node; 0 where it isn't there.
@@ -22,8 +19,5 @@ pub fn pages_of(accounts: &Accounts, uid: u32) -> u32
 pub fn volume_of(accounts: &Accounts, uid: u32) -> u32
     ensures { result ≡ volume_in accounts.now.nodes uid }
 {
-    match accounts.node(uid) {
-        Some(node) => node.volume,
-        None => 0,
-    }
+    accounts.node(uid).map_or(0, |node| node.volume)
 }

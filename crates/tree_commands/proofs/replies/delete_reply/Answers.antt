@@ -7,8 +7,7 @@ use Rattle.flat_model.proofs.TreeReplies.{delete_refused, delete_told, from_fals
 use Rattle.tree_commands.proofs.replies.delete_reply.Goals as goal
 
 pub returns-in-Err : goal.returns-in-Err
-returns-in-Err c = λ s h. delete_refused s c.args.accounts.now.nodes c.args.path.now h.nodes c.in-Err.reply
-    c.in-Err.ensures.err
+returns-in-Err c = λ s h. delete_refused s _ _ h.nodes _ c.in-Err.ensures.err
 
 pub returns-then-is_err : goal.returns-then-is_err
 returns-then-is_err c = λ s h.
