@@ -1,11 +1,11 @@
 -- What the texts of names and labels keep.
-use Rattle.std.proofs.Common.{◌≡◌, ℕ, ◌<◌, ◌≤◌, Bool, true, false, List, [], ◌∷◌, length, arith, le-leb}
+use Rattle.std.proofs.Common.{◌≡◌, ℕ, ◌<◌, ◌≤◌, Bool, true, false, ◌&&◌, nat_le, List, [], ◌∷◌, length, arith, le-leb}
 use Rattle.std.proofs.lemmas.Bool.Decides.{nat_tests}
 use Rattle.std.proofs.lemmas.Str.Ascii.{IsAscii-nil, IsAscii-cons}
 use Rattle.std.specs.Str.{IsAscii, IsUtf8}
 use Rattle.std.proofs.lemmas.Str.{IsUtf8-from_ascii}
 use Rattle.std.specs.List.{list_all}
-use Rattle.mnames.specs.Names.{is_name, is_name_byte, is_label, is_label_byte}
+use Rattle.mnames.specs.Names.{IsShort, is_name, is_name_byte, is_label, is_label_byte}
 
 -- a test that only ASCII bytes pass
 all_ascii : (p : ℕ → Bool) → ((b : ℕ) → p b ≡ true → b < 128) → (bs : List ℕ) → list_all p bs ≡ true → IsAscii bs
@@ -19,21 +19,21 @@ name_byte_below b h = grind (arith, nat_tests)
 label_byte_below : (b : ℕ) → is_label_byte b ≡ true → b < 128
 label_byte_below b h = grind (arith, nat_tests)
 
-pub name_is_ascii : (text : List ℕ) → is_name text ≡ true → IsAscii text
+-- 1 to 32 bytes that pass such a test
+short_text : (p : ℕ → Bool) → ((b : ℕ) → p b ≡ true → b < 128) → (text : List ℕ)
+    → ((nat_le 1 (length text) && nat_le (length text) 32) && list_all p text) ≡ true → IsShort text
+short_text p below text h = record {
+  ascii = all_ascii p below text (grind (arith, nat_tests));
+  short = grind (arith, nat_tests);
+}
+
+pub name_is_short : (text : List ℕ) → is_name text ≡ true → IsShort text
 unfolding is_name
-name_is_ascii text h = all_ascii is_name_byte name_byte_below text (grind (arith, nat_tests))
+name_is_short text h = short_text is_name_byte name_byte_below text h
 
-pub name_is_short : (text : List ℕ) → is_name text ≡ true → length text ≤ 32
-unfolding is_name
-name_is_short text h = grind (arith, nat_tests)
-
-pub label_is_ascii : (text : List ℕ) → is_label text ≡ true → IsAscii text
+pub label_is_short : (text : List ℕ) → is_label text ≡ true → IsShort text
 unfolding is_label
-label_is_ascii text h = all_ascii is_label_byte label_byte_below text (grind (arith, nat_tests))
-
-pub label_is_short : (text : List ℕ) → is_label text ≡ true → length text ≤ 32
-unfolding is_label
-label_is_short text h = grind (arith, nat_tests)
+label_is_short text h = short_text is_label_byte label_byte_below text h
 
 pub ascii_is_utf8 : (bs : List ℕ) → IsAscii bs → IsUtf8 bs
 ascii_is_utf8 bs h = IsUtf8-from_ascii bs h
@@ -59,11 +59,5 @@ label_wrong_length text h = grind (arith, nat_tests)
 -- what tests of labels and names, and those that give them, go by
 pub ruleset label_test = (label_tested, label_wrong_length)
 
--- and the text of a label
-pub ruleset label_text = (label_is_ascii, label_is_short)
-
 -- a test of a name
 pub ruleset name_test = (name_tested, name_wrong_length)
-
--- and its text
-pub ruleset name_text = (name_is_ascii, name_is_short)

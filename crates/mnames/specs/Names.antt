@@ -3,6 +3,12 @@ use Rattle.std.specs.Prelude.{◌≡◌, ℕ, ◌<◌, ◌≤◌, Bool, ◌&&◌
 use Rattle.std.specs.Prelude.{IsTrue}
 use Rattle.std.specs.List.{list_all, AllByRecursion}
 use Rattle.std.specs.Char.{is_ascii_alphanumeric}
+use Rattle.std.specs.Str.{IsAscii}
+
+-- A text that a name or a label may keep in itself.
+pub record IsShort (text : List ℕ) : Type 0 where
+  pub ascii : IsAscii text
+  pub short : length text ≤ 32
 
 -- An ASCII letter, a digit, `_`, `.` or `-` (own).
 abbrev pub is_name_byte : ℕ → Bool

@@ -53,7 +53,7 @@ fn is_label(text: &[u8]) -> bool
 }
 
 /// The label that the text is. `None` exactly where it isn't one.
-#[tactic(auto, using(crate::proofs::ShortTexts::label_text, std::proofs::lemmas::Grind::common_steps))]
+#[tactic(auto, using(crate::proofs::ShortTexts::label_is_short, std::proofs::lemmas::Grind::common_steps))]
 pub fn read_label(text: &[u8]) -> Option<Label>
     ensures { result ≡ (if is_label text.now then Some text.now else None) }
 {

@@ -54,7 +54,7 @@ fn is_name(text: &[u8]) -> bool
 }
 
 /// The entry name that the text is. `None` exactly where it isn't one.
-#[tactic(auto, using(crate::proofs::ShortTexts::name_text, std::proofs::lemmas::Grind::common_steps))]
+#[tactic(auto, using(crate::proofs::ShortTexts::name_is_short, std::proofs::lemmas::Grind::common_steps))]
 pub fn read_name(text: &[u8]) -> Option<Name>
     ensures { result ≡ (if is_name text.now then Some text.now else None) }
 {

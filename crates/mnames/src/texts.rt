@@ -1,5 +1,6 @@
-ghost use Rattle.std.specs.Prelude.{◌≡◌, ◌≤◌, Some, length};
+ghost use Rattle.std.specs.Prelude.{◌≡◌, Some};
 ghost use Rattle.std.specs.Str.{IsAscii};
+ghost use Rattle.mnames.specs.Names.{IsShort};
 
 use std::marker::Model;
 use std::{fmt, str};
@@ -29,8 +30,7 @@ impl Model for ShortText {
 impl ShortText {
     /// The text that the bytes are.
     pub(crate) fn of(text: &[u8]) -> ShortText
-        requires ascii { IsAscii text.now }
-        requires short { length text.now ≤ NAME_BYTES }
+        requires { IsShort text.now }
         ensures { result ≡ text.now }
     {
         let mut bytes = [0; NAME_BYTES];
