@@ -1,5 +1,5 @@
 -- What the lines of a script so far say (own).
-use Rattle.std.specs.Prelude.{◌≡◌, ℕ, ◌+◌, ◌<◌, ◌≤◌, Bool, true, false, not, List, [], ◌∷◌, ◌++◌, length, sum_by, codes}
+use Rattle.std.specs.Prelude.{◌≡◌, ℕ, ◌+◌, ◌<◌, ◌≤◌, Bool, true, false, not, nat_le, ◌==◌, List, [], ◌∷◌, ◌++◌, length, sum_by, codes}
 use Rattle.std.specs.List.{list_all}
 use Rattle.mnames.specs.Principals.{default_project}
 use Rattle.mnames.specs.declared.principals.Who.{Who}
@@ -53,31 +53,32 @@ blank = record {
   list = record { commands = []; used = 0 };
 }
 
+-- how far the lines have come
+abbrev pub reach : Stage → ℕ
+reach stage.Machine = 0
+reach stage.Quota = 1
+reach stage.FirstVolume = 2
+reach stage.Volumes = 3
+reach stage.Bulks = 4
+reach stage.Fails = 5
+reach stage.Commands = 6
+reach stage.Processes = 7
+
 -- no volume must still come
 abbrev pub has_volume : Stage → Bool
-has_volume stage.Machine = false
-has_volume stage.Quota = false
-has_volume stage.FirstVolume = false
-has_volume _ = true
+has_volume s = nat_le 3 (reach s)
 
 -- a volume may still come, so nothing that names one came
 abbrev pub is_early : Stage → Bool
-is_early stage.Machine = true
-is_early stage.Quota = true
-is_early stage.FirstVolume = true
-is_early stage.Volumes = true
-is_early _ = false
+is_early s = nat_le (reach s) 3
 
 -- commands of a process stand next
 abbrev pub is_inside : Stage → Bool
-is_inside stage.Commands = true
-is_inside _ = false
+is_inside s = reach s == 6
 
 -- no process began
 abbrev pub is_head : Stage → Bool
-is_head stage.Commands = false
-is_head stage.Processes = false
-is_head _ = true
+is_head s = nat_le (reach s) 5
 
 abbrev pub goes_on : Command → Bool
 goes_on c = not (is_end c)

@@ -74,23 +74,16 @@ fn push_print(out: &mut String, print: Print) -> Result<(), AllocError>
     writeln!(out, "{line}")
 }
 
-/// Appends the line of a fast store.
-#[tactic(auto, unfolding(crate::specs::Scripts::bulk_text))]
-fn push_bulk(out: &mut String, volumes: &[VolumeLine], bulk: &Bulk) -> Result<(), AllocError>
-    ensures { OnOk result (string_bytes out.new ≡ string_bytes out.old ++ ended (bulk_text volumes.now bulk.now)) }
-{
-    let name = volume_name(volumes, bulk.volume);
-    let places = bulk.places;
-    writeln!(out, "bulk {name} {places}")
-}
-
 /// Appends the lines of the fast stores.
+#[tactic(auto, unfolding(crate::specs::Scripts::bulk_text))]
 fn push_bulks(out: &mut String, volumes: &[VolumeLine], bulks: &[Bulk]) -> Result<(), AllocError>
     ensures { OnOk result (string_bytes out.new ≡ string_bytes out.old
         ++ flat_map (λ b. ended (bulk_text volumes.now b)) bulks.now) }
 {
     for bulk in bulks {
-        push_bulk(out, volumes, bulk)?;
+        let name = volume_name(volumes, bulk.volume);
+        let places = bulk.places;
+        writeln!(out, "bulk {name} {places}")?;
     }
     Ok(())
 }
