@@ -9,6 +9,10 @@ ghost use Rattle.book.specs.Reading.{fault_of, do_of, of_one, of_two, of_three, 
 ghost use Rattle.book.specs.Reading.{is_space, IsEntry};
 
 use crate::entries::Entry;
+use crate::replies::Reply::{
+    AclFull, Beyond, Deep, Device, Done, Exists, Full, Gone, HasQuota, IsDir, IsSeg, Length,
+    NoAccess, NoEntry, NoPath, NoRecord, NotDir, NotEmpty, Quota, Room, Root, TooLittle, Unknown,
+};
 use crate::replies::{Reply, bare_text};
 use arrayvec::ArrayVec;
 use assoc_mem::What;
@@ -83,29 +87,9 @@ fn bare_reply(word: &[u8]) -> Option<Reply>
     ensures { result ≡ bare_reply word.now }
 {
     let replies = [
-        Reply::Unknown,
-        Reply::Gone,
-        Reply::NoAccess,
-        Reply::Length,
-        Reply::Quota,
-        Reply::NoRecord,
-        Reply::Device,
-        Reply::Done,
-        Reply::NoPath,
-        Reply::NotDir,
-        Reply::IsDir,
-        Reply::IsSeg,
-        Reply::Exists,
-        Reply::Deep,
-        Reply::Room,
-        Reply::NoEntry,
-        Reply::Full,
-        Reply::AclFull,
-        Reply::Beyond,
-        Reply::NotEmpty,
-        Reply::HasQuota,
-        Reply::Root,
-        Reply::TooLittle,
+        Unknown, Gone, NoAccess, Length, Quota, NoRecord, Device, Done, NoPath, NotDir, IsDir,
+        IsSeg, Exists, Deep, Room, NoEntry, Full, AclFull, Beyond, NotEmpty, HasQuota, Root,
+        TooLittle,
     ];
     named_reply(&replies, word)
 }
