@@ -74,13 +74,7 @@ pub after_next : (old new : Judged) (es : List Entry) (e : Entry) → IsAfter ol
     → ((s : Store) → Shows old.script old.store s → AreTablesOf old.script new.custody) → IsAfter new (es ++ e ∷ [])
 unfolding Allows
 after_next old new es e is entry allows same more custody nodes store tables =
-    subst (λ (p : Plan). IsAfter (record {
-      script = p;
-      store = new.store;
-      custody = new.custody;
-      entries =
-          new.entries;
-    }) (es ++ e ∷ [])) (sym same) next
+    subst (λ (p : Plan). IsAfter (record new { script = p }) (es ++ e ∷ [])) (sym same) next
   where
     p : Plan
     p = old.script

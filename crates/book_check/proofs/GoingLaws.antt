@@ -1,6 +1,7 @@
 -- How a listing goes on, line by line (own).
 use Rattle.std.proofs.Common.{◌≡◌, ℕ, ◌+◌, ◌<◌, ◌^◌, Bool, true, false, List, [], ◌∷◌, ◌++◌, length, Result, Ok, Err}
 use Rattle.std.proofs.Common.{refl, sym, ap, subst, ◌∙◌, arith}
+use Rattle.script.proofs.LineSteps.{lines_nil}
 use Rattle.script.specs.Fields.{lines_of}
 use Rattle.script.specs.Plans.{Plan}
 use Rattle.custody_model.specs.Custody.{Custody}
@@ -15,7 +16,6 @@ use Rattle.book_check.specs.declared.offences.CheckFault.{CheckFault}
 use Rattle.book_check.specs.declared.offences.CheckFault.TheVariants as fault
 use Rattle.book_check.specs.declared.judge.LineFault.{LineFault}
 use Rattle.book_check.specs.declared.judge.LineFault.TheVariants as broken
-use Rattle.book_check.proofs.LineLaws.{lines_nil}
 use Rattle.book_check.proofs.VerdictLaws.{judged_up, judged_down, passed, not_passed, fault_only, fault_there}
 
 pub reached_start : (j : Judged) (n : ℕ) (all : List (List ℕ)) → IsAfter j [] → IsReached j n all all
@@ -43,13 +43,7 @@ pub reached_next : (old new : Judged) (n : ℕ) (all left more : List (List ℕ)
     → is_summary line ≡ false → OnlyOne line → Takes old new line (Ok tt) → IsReached new n all more
 unfolding Takes
 reached_next old new n all left more line is cut before one takes =
-    subst (λ (p : Plan). IsReached (record {
-      script = p;
-      store = new.store;
-      custody = new.custody;
-      entries =
-          new.entries;
-    }) n all more) (sym next.script) whole
+    subst (λ (p : Plan). IsReached (record new { script = p }) n all more) (sym next.script) whole
   where
     next : IsNext old new is.entries line
     next = takes is.entries is.after

@@ -4,17 +4,14 @@ use Rattle.std.proofs.Common.{◌∙◌, arith, take, drop}
 use Rattle.std.proofs.lemmas.Grind.{common_steps}
 use Rattle.std.proofs.lemmas.List.{append_assoc, length-append, drop-drop}
 use Rattle.std.proofs.Math.Seq.{take-add}
+use Rattle.script.proofs.LineSteps.{all_left, lines_nil}
 use Rattle.script.specs.Fields.{lines_of}
 use Rattle.book_check.specs.Inputs.{is_book, script_lines, listing_lines, first_number}
 use Rattle.book_check.specs.Passing.{Closes, IsAtLine}
-use Rattle.book_check.proofs.LineLaws.{lines_nil}
 
 nil_after : {A : Type 0} (xs : List A) → xs ++ [] ≡ xs
 nil_after [] = refl
 nil_after (x ∷ xs) = ap (λ t. x ∷ t) (nil_after xs)
-
-all_left : (xs : List ℕ) (i : ℕ) → take (length xs - i) (drop i xs) ≡ drop i xs
-all_left xs i = grind (arith, common_steps)
 
 script_other : (line : List ℕ) (lines : List (List ℕ)) → is_book line ≡ false → script_lines (line ∷ lines) ≡ line
     ∷ script_lines lines

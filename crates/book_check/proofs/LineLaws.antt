@@ -1,27 +1,12 @@
 -- Laws of lines (own).
 use Rattle.std.proofs.Common.{◌≡◌, ◌≢◌, ℕ, suc, zero, ◌+◌, ◌-◌, ◌<◌, ◌≤◌, false, eqb, List, [], ◌∷◌, ◌++◌, length}
-use Rattle.std.proofs.Common.{refl, sym, ap, ◌∙◌, arith, get_or, take, drop, drop-cons, add-one}
+use Rattle.std.proofs.Common.{refl, sym, ap, ◌∙◌, arith, get_or, take, drop, add-one}
 use Rattle.std.proofs.lemmas.Bool.Decides.{nat_tests}
 use Rattle.std.proofs.lemmas.Grind.{common_steps}
+use Rattle.script.proofs.LineSteps.{NoFeedBefore, all_left, drop_at, line_byte, line_feed, line_last}
 use Rattle.script.specs.Fields.{lines_of, onto_piece}
 use Rattle.book_check.specs.Inputs.{after_spaces}
 use Rattle.book_check.specs.Passing.{Closes}
-
--- no line feed stands before i
-abbrev pub NoFeedBefore : ℕ → List ℕ → Type 0
-NoFeedBefore i bs = (k : ℕ) → k < i → get_or bs k 0 ≢ 10
-
-pub lines_nil : lines_of [] ≡ []
-unfolding lines_of
-lines_nil = refl
-
-line_feed : (b : ℕ) (bs : List ℕ) → b ≡ 10 → lines_of (b ∷ bs) ≡ [] ∷ lines_of bs
-unfolding lines_of
-line_feed b bs e = rw e refl
-
-line_byte : (b : ℕ) (bs : List ℕ) → b ≢ 10 → lines_of (b ∷ bs) ≡ onto_piece b (lines_of bs)
-unfolding lines_of
-line_byte b bs ne = let z : eqb b 10 ≡ false = grind (arith, nat_tests) in rw z refl
 
 -- the bytes up to the first line feed are a line, whatever follows
 closes_at : (bs : List ℕ) (i : ℕ) → NoFeedBefore i bs → i < length bs → get_or bs i 0 ≡ 10
@@ -34,9 +19,6 @@ closes_at (b ∷ bs) (suc i) clear lt e rest =
 
 take_drop : (bs : List ℕ) (i : ℕ) → take i bs ++ drop i bs ≡ bs
 take_drop bs i = grind (arith, common_steps)
-
-all_left : (xs : List ℕ) (i : ℕ) → take (length xs - i) (drop i xs) ≡ drop i xs
-all_left xs i = grind (arith, common_steps)
 
 length_left : (xs : List ℕ) (i : ℕ) → i ≤ length xs → length xs - length (drop i xs) ≡ i
 length_left xs i le = grind (arith, common_steps)
@@ -60,24 +42,10 @@ front_closes bs i clear lt e rest =
     ∙ omega arith in
     ap (λ (n : ℕ). lines_of (take n bs ++ rest)) place ∙ closes_at bs i clear lt e rest
 
--- the last line may lack its line feed
-lines_last : (b : ℕ) (bs : List ℕ) → NoFeedBefore (suc (length bs)) (b ∷ bs) → lines_of (b ∷ bs) ≡ (b ∷ bs) ∷ []
-lines_last b [] clear = line_byte b [] (clear 0 (omega arith)) ∙ rw lines_nil refl
-lines_last b (c ∷ cs) clear =
-    line_byte b (c ∷ cs) (clear 0 (omega arith)) ∙ ap (onto_piece b)
-    (lines_last c cs (λ k h. clear (suc k) (omega arith)))
-
-pub line_last : (bs : List ℕ) → NoFeedBefore (length bs) bs → 0 < length bs → lines_of bs ≡ bs ∷ lines_of []
-line_last [] clear some = absurd (omega arith)
-line_last (b ∷ bs) clear some = rw lines_nil (lines_last b bs clear)
-
 pub rest_last : (bs : List ℕ) → [] ≡ drop (length bs - 0) bs
 rest_last bs = grind (arith, common_steps)
 
 -- ---- spaces
-
-drop_at : (xs : List ℕ) (i : ℕ) → i < length xs → drop i xs ≡ get_or xs i 0 ∷ drop (i + 1) xs
-drop_at xs i h = rw (add-one, drop-cons xs i 0) refl
 
 after_space : (b : ℕ) (bs : List ℕ) → b ≡ 32 → after_spaces (b ∷ bs) ≡ after_spaces bs
 after_space b bs e = rw e refl

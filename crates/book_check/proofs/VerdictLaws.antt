@@ -199,15 +199,10 @@ judged_down p n lines v h = down v h.entries h.left h.texts h.stand h.finds
 
 -- ---- a line before the summary
 
-entry_first : (line : List ℕ) (more : List (List ℕ)) → is_summary line ≡ false → entry_lines (line ∷ more) ≡ line
-    ∷ entry_lines more
-unfolding entry_lines
-entry_first line more e = rw e refl
-
-summary_after : (line : List ℕ) (more : List (List ℕ)) → is_summary line ≡ false → summary_lines (line ∷ more)
-    ≡ summary_lines more
-unfolding summary_lines
-summary_after line more e = rw e refl
+entry_passed : (line : List ℕ) (more : List (List ℕ)) → is_summary line ≡ false → (entry_lines (line ∷ more) ≡ line
+    ∷ entry_lines more) × (summary_lines (line ∷ more) ≡ summary_lines more)
+unfolding entry_lines summary_lines
+entry_passed line more e = (rw e refl, rw e refl)
 
 one_line : (a b : List ℕ) (x y : List (List ℕ)) → a ∷ x ≡ b ∷ y → (a ≡ b) × (x ≡ y)
 one_line a b x y e = (cc, cc)
@@ -228,7 +223,7 @@ module _ (p : Plan) (n : ℕ) (es : List Entry) (line : List ℕ) (more : List (
         → MayStand p (es ++ f ∷ fs) → IsTextOf f line × (entry_lines more ≡ map entry_text fs ++ left)
     first_text fs f left texts stand =
         let parts = one_line line (entry_text f) (entry_lines more) (map entry_text fs ++ left)
-        (sym (entry_first line more before) ∙ texts) in
+        (sym (entry_passed line more before).0 ∙ texts) in
         (record { entry = entry_at es fs f stand.entries; text = sym parts.0 }, parts.1)
 
     module _ (e : Entry) (text : IsTextOf e line) (lawful : IsLawful p (store_after p es) e)
@@ -258,7 +253,7 @@ module _ (p : Plan) (n : ℕ) (es : List Entry) (line : List ℕ) (more : List (
                 ≡ map entry_text fs ++ left
                 → MayStand p (es ++ fs) → Finds p n (es ++ fs) left (summary_lines (line ∷ more)) w
                 → IsJudgedFrom p n (es ++ e ∷ []) more w
-            each w [] left texts stand finds = absurd (here w left (sym (entry_first line more before) ∙ texts) finds)
+            each w [] left texts stand finds = absurd (here w left (sym (entry_passed line more before).0 ∙ texts) finds)
             each w (f ∷ fs) left texts stand finds =
                 let parts = first_text fs f left texts stand in
                 let same : f ≡ e = one f e parts.0 text in
@@ -270,7 +265,7 @@ module _ (p : Plan) (n : ℕ) (es : List Entry) (line : List ℕ) (more : List (
                   texts = parts.1;
                   stand = subst (MayStand p) whole stand;
                   finds = subst (λ (xs : List (List ℕ)). Finds p n ((es ++ e ∷ []) ++ fs) left xs w)
-                      (summary_after line more before)
+                      (entry_passed line more before).1
                       (subst (λ (xs : List Entry). Finds p n xs left (summary_lines (line ∷ more)) w) whole finds);
                 }
 
@@ -278,13 +273,13 @@ module _ (p : Plan) (n : ℕ) (es : List Entry) (line : List ℕ) (more : List (
         not_passed h = record {
           entries = e ∷ h.entries;
           left = h.left;
-          texts = entry_first line more before ∙ ap (λ (l : List ℕ). l ∷ entry_lines more) (sym text.text)
+          texts = (entry_passed line more before).0 ∙ ap (λ (l : List ℕ). l ∷ entry_lines more) (sym text.text)
               ∙ ap (λ (x : List (List ℕ)). entry_text e ∷ x) h.texts;
           stand = back p es h.entries e h.stand;
           finds = subst (λ (xs : List Entry). Finds p n xs h.left (summary_lines (line ∷ more)) v)
               (append_assoc es (e ∷ []) h.entries)
               (subst (λ (xs : List (List ℕ)). Finds p n ((es ++ e ∷ []) ++ h.entries) h.left xs v)
-              (sym (summary_after line more before)) h.finds);
+              (sym (entry_passed line more before).1) h.finds);
         }
 
     -- the line is at fault
@@ -318,7 +313,7 @@ module _ (p : Plan) (n : ℕ) (es : List Entry) (line : List ℕ) (more : List (
               ≡ map entry_text fs ++ left
               → MayStand p (es ++ fs) → Finds p n (es ++ fs) left (summary_lines (line ∷ more)) w → w
               ≡ Err (fault.Refused offence)
-          each w [] left texts stands finds = here w left (sym (entry_first line more before) ∙ texts) finds
+          each w [] left texts stands finds = here w left (sym (entry_passed line more before).0 ∙ texts) finds
           each w (f ∷ fs) left texts stands finds =
               let parts = first_text fs f left texts stands in
               absurd (breaks_not p es line f r one parts.0 (lawful_at p es fs f stands.legal)
@@ -328,7 +323,7 @@ module _ (p : Plan) (n : ℕ) (es : List Entry) (line : List ℕ) (more : List (
       fault_there e = subst (IsJudgedFrom p n es (line ∷ more)) (sym e) (record {
         entries = [];
         left = line ∷ entry_lines more;
-        texts = entry_first line more before;
+        texts = (entry_passed line more before).0;
         stand = subst (MayStand p) (sym (nil_after es)) stand;
         finds = (
           ap (λ (xs : List Entry). n + length xs) (sym (nil_after es)),
