@@ -29,27 +29,18 @@ fn gauges(alloc: Global, volumes: &[VolumeLine]) -> Result<(Vec<Gauge>, Vec<Gaug
     Ok((records, entries))
 }
 
-/// As many processes that know nothing.
-fn knowing_nothing(alloc: Global, processes: u32) -> Result<Vec<Kst>, NoMemory>
-    ensures { IfOk result (λ known. known.items ≡ replicate processes (replicate 256 None)) }
+/// What as many processes know before their first command, which is nothing, and how far they have come.
+fn at_first(alloc: Global, processes: u32) -> Result<(Vec<Kst>, Vec<Progress>), NoMemory>
+    ensures known { IfOk result (λ r. r.0.items ≡ replicate processes (replicate 256 None)) }
+    ensures places { IfOk result (λ r. r.1.items ≡ replicate processes at_first) }
 {
     let mut known = Vec::new(alloc);
-    for _process in 0..processes {
-        let nothing = Kst::new(alloc)?;
-        known.push(nothing)?;
-    }
-    Ok(known)
-}
-
-/// As many processes before their first command.
-fn at_first(alloc: Global, processes: u32) -> Result<Vec<Progress>, NoMemory>
-    ensures { IfOk result (λ places. places.items ≡ replicate processes at_first) }
-{
     let mut places = Vec::new(alloc);
     for _process in 0..processes {
+        known.push(Kst::new(alloc)?)?;
         places.push(Progress::at_first())?;
     }
-    Ok(places)
+    Ok((known, places))
 }
 
 impl Holdings {
@@ -80,8 +71,7 @@ impl FlatStore {
         ensures { IfOk result (λ f. Shows script.now f (boot script.now)) }
     {
         let processes = script.processes();
-        let known = knowing_nothing(alloc, processes)?;
-        let processes = at_first(alloc, processes)?;
+        let (known, processes) = at_first(alloc, processes)?;
         let holdings = Holdings::boot(alloc, script)?;
         Ok(FlatStore {
             holdings,

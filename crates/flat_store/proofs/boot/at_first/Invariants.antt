@@ -1,6 +1,9 @@
-use Rattle.std.proofs.Common.{◌≡◌, replicate}
+use Rattle.std.proofs.Common.{◌≡◌, replicate, None}
 use Rattle.flat_model.specs.Store.{at_first}
 use Rattle.flat_store.proofs.boot.at_first.Given as goal
 
 abbrev pub invariant-loop-process : goal.invariant-loop-process
-invariant-loop-process l = l.places.items ≡ replicate l._process at_first
+invariant-loop-process l = record {
+  known : l.known.items ≡ replicate l._process (replicate 256 None);
+  places : l.places.items ≡ replicate l._process at_first;
+}

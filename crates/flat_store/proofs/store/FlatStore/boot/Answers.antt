@@ -10,8 +10,8 @@ returns c =
     let kept : Kept = record {
       held = c.in_ok-holdings.holdings;
       known = c.in_ok-known.known.items;
-      processes = c.in_ok-processes.processes.items;
+      processes = c.in_ok-known.processes.items;
     } in
     shown_boot p kept c.processes-processes.ensures.plan c.in_ok-holdings.ensures
-    (c.in_ok-known.ensures ∙ ap (λ (n : ℕ). replicate n (replicate 256 None)) c.processes-processes.ensures.count)
-    (c.in_ok-processes.ensures ∙ ap (λ (n : ℕ). replicate n at_first) c.processes-processes.ensures.count)
+    (c.in_ok-known.ensures.known ∙ ap (λ (n : ℕ). replicate n (replicate 256 None)) c.processes-processes.ensures.count)
+    (c.in_ok-known.ensures.places ∙ ap (λ (n : ℕ). replicate n at_first) c.processes-processes.ensures.count)
