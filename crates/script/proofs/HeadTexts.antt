@@ -19,7 +19,7 @@ use Rattle.script.proofs.SmallLaws.{below, nil_after, within}
 use Rattle.script.specs.Drafts.{DraftPlan, blank}
 use Rattle.script.specs.Forms.{ArePools, has_name, have_own_names, have_own_volumes, is_before, is_bulk, is_fail}
 use Rattle.script.specs.Forms.{is_from, is_volume, IsPlan, records_of}
-use Rattle.script.specs.Heads.{after_bulk, after_fail, after_volume, bulk_line, fail_line, line_at, machine_line}
+use Rattle.script.specs.Heads.{bulk_line, fail_line, later_at, line_at, machine_line}
 use Rattle.script.specs.Heads.{fail_in, new_volume_in, pools_in, print_line, quota_line, volume_line}
 use Rattle.script.specs.Lines.{four_fields, next_field, no_fields, one_field}
 use Rattle.script.specs.Lines.{print_in, six_fields, three_fields, two_fields}
@@ -58,7 +58,7 @@ machine_again : (processors frames a b c d : ℕ) → 1 ≤ processors → proce
     → ArePools (a ∷ b ∷ c ∷ d ∷ []) → line_at stage.Machine blank (codes "machine")
     (map decimal (processors ∷ frames ∷ a ∷ b ∷ c ∷ d ∷ []))
     ≡ Ok (after_machine processors frames (a ∷ b ∷ c ∷ d ∷ []))
-unfolding line_at machine_line pools_in six_fields four_fields three_fields two_fields one_field next_field no_fields
+unfolding line_at later_at machine_line pools_in six_fields four_fields three_fields two_fields one_field next_field no_fields
 machine_again processors frames a b c d p0 p1 f0 f1 h =
     let many : nat_le (a + b + c + d) 1024 ≡ true = grind (arith, nat_tests) in
     rw (
@@ -98,7 +98,7 @@ machine_reaches processors frames (a ∷ b ∷ c ∷ d ∷ []) p0 p1 f0 f1 h =
 quota_again : (base : DraftPlan) (quota : ℕ) → quota ≤ 16384
     → line_at stage.Quota (record base { stage = stage.Quota }) (codes "quota") (decimal quota ∷ [])
     ≡ Ok (record base { stage = stage.FirstVolume; plan = record base.plan { quota = quota } })
-unfolding line_at quota_line one_field next_field no_fields
+unfolding line_at later_at quota_line one_field next_field no_fields
 quota_again base quota h = rw (number_again 0 16384 quota (omega arith) (omega arith) h) refl
 
 pub quota_reaches : (base : DraftPlan) (quota : ℕ) → quota ≤ 16384
@@ -163,7 +163,7 @@ takes_volume _ = false
 
 volume_at : (s : Stage) (d : DraftPlan) (fields : List (List ℕ)) → takes_volume s ≡ true
     → line_at s d (codes "volume") fields ≡ volume_line d fields
-unfolding line_at after_volume
+unfolding line_at later_at
 volume_at stage.FirstVolume d fields h = refl
 volume_at stage.Volumes d fields h = refl
 volume_at _ d fields h = absurd (cc)
@@ -238,7 +238,7 @@ print_fields p word e h = subst (λ (t : List ℕ). HasFields t (codes "print" �
 print_again : (base : DraftPlan) (p : Print) (word : List ℕ) → print_in word ≡ Ok p
     → line_at stage.Volumes (record base { stage = stage.Volumes }) (codes "print") (word ∷ [])
     ≡ Ok (record base { stage = stage.Bulks; plan = record base.plan { print = p } })
-unfolding line_at after_volume print_line one_field next_field no_fields
+unfolding line_at later_at print_line one_field next_field no_fields
 print_again base p word h = rw h refl
 
 print_reaches_by : (base : DraftPlan) (p : Print) (word : List ℕ) → print_text p ≡ codes "print" ++ (32 ∷ word)
@@ -299,7 +299,7 @@ bulk_line_again d b a h new =
     ) refl
 
 bulk_at : (d : DraftPlan) (fields : List (List ℕ)) → line_at stage.Bulks d (codes "bulk") fields ≡ bulk_line d fields
-unfolding line_at after_bulk
+unfolding line_at later_at
 bulk_at d fields = refl
 
 record FitBulks (volumes : ℕ) (done bs : List Bulk) : Type 0 where
@@ -382,7 +382,7 @@ takes_fail _ = false
 
 fail_at : (s : Stage) (d : DraftPlan) (fields : List (List ℕ)) → takes_fail s ≡ true
     → line_at s d (codes "fail") fields ≡ fail_line d fields
-unfolding line_at after_bulk after_fail
+unfolding line_at later_at
 fail_at stage.Bulks d fields h = refl
 fail_at stage.Fails d fields h = refl
 fail_at _ d fields h = absurd (cc)

@@ -22,7 +22,7 @@ use Rattle.script.specs.Fields.{lines_of}
 use Rattle.script.specs.Forms.{BeginsWithInitializer, ends_once, IsPlan, is_command, is_end, is_process, is_who}
 use Rattle.script.specs.Forms.{weight, weight_of}
 use Rattle.script.specs.Grammar.{finished, is_whole, script_of}
-use Rattle.script.specs.Heads.{after_bulk, after_fail, after_process, command_line, initializer_line, line_at}
+use Rattle.script.specs.Heads.{command_line, initializer_line, later_at, line_at}
 use Rattle.script.specs.Heads.{process_line}
 use Rattle.script.specs.Lines.{next_field, no_fields, one_field}
 use Rattle.script.specs.Plans.{Plan, ProcessPlan}
@@ -50,7 +50,7 @@ behind base done u = record base {
 going_again : (d : DraftPlan) (c : Command) → AreVolumes d.plan.volumes → is_command (length d.plan.volumes) c ≡ true → is_end c
     ≡ false → d.list.used + weight c ≤ 100000 → line_at stage.Commands d (word_text c) (fields_text d.plan.volumes c)
     ≡ Ok (record d { list = longer d.list c })
-unfolding line_at command_line
+unfolding line_at later_at command_line
 going_again d c a h going le =
     let few : nat_le (d.list.used + weight c) 100000 ≡ true = grind (arith, nat_tests) in
     rw (command_again d.plan.volumes c a h, few, going) refl
@@ -58,7 +58,7 @@ going_again d c a h going le =
 end_again : (d : DraftPlan) (c : Command) → AreVolumes d.plan.volumes → is_command (length d.plan.volumes) c ≡ true → is_end c
     ≡ true → d.list.used + weight c ≤ 100000 → line_at stage.Commands d (word_text c) (fields_text d.plan.volumes c)
     ≡ Ok (behind d (d.list.commands ++ c ∷ []) (d.list.used + weight c))
-unfolding line_at command_line
+unfolding line_at later_at command_line
 end_again d c a h end le =
     let few : nat_le (d.list.used + weight c) 100000 ≡ true = grind (arith, nat_tests) in
     rw (command_again d.plan.volumes c a h, few, end) refl
@@ -132,7 +132,7 @@ begins _ = false
 
 process_at : (s : Stage) (d : DraftPlan) (fields : List (List ℕ)) → begins s ≡ true
     → line_at s d (codes "process") fields ≡ process_line d fields
-unfolding line_at after_bulk after_fail after_process
+unfolding line_at later_at
 process_at stage.Bulks d fields h = refl
 process_at stage.Fails d fields h = refl
 process_at stage.Processes d fields h = refl
@@ -147,7 +147,7 @@ process_again d who h room =
 
 initializer_at : (s : Stage) (d : DraftPlan) → takes_fail s ≡ true → line_at s d (codes "initializer") []
     ≡ Ok (record d { stage = stage.Commands; plan = record d.plan { initializer = true }; who = initializer_who })
-unfolding line_at after_bulk after_fail initializer_line no_fields
+unfolding line_at later_at initializer_line no_fields
 initializer_at stage.Bulks d h = refl
 initializer_at stage.Fails d h = refl
 initializer_at stage.Processes d h = absurd (cc)

@@ -1,13 +1,13 @@
 -- What each line adds to the draft of a script, and why it is refused (own). A line is its word and the fields after
 -- it.
-use Rattle.std.specs.Prelude.{ℕ, ◌+◌, Bool, true, not, ◌||◌, nat_le, nat_lt, if◌then◌else◌, List, [], ◌∷◌, ◌++◌}
+use Rattle.std.specs.Prelude.{ℕ, ◌+◌, Bool, true, not, ◌&&◌, ◌||◌, ◌==◌, nat_le, nat_lt, if◌then◌else◌, List, [], ◌∷◌, ◌++◌}
 use Rattle.std.specs.Prelude.{length, sum_by, Result, Ok, Err, codes}
 use Rattle.std.specs.List.{list_any}
 use Rattle.std.specs.Str.{bytes_eq}
 use Rattle.script.specs.CommandLists.{ListPlan, longer}
 use Rattle.script.specs.Commands.{command_of}
-use Rattle.script.specs.Drafts.{DraftPlan, initializer_who}
-use Rattle.script.specs.Forms.{is_before, is_end, records_of, weight}
+use Rattle.script.specs.Drafts.{DraftPlan, has_volume, initializer_who, is_inside, reach}
+use Rattle.script.specs.Forms.{is_before, is_end, is_from, records_of, weight}
 use Rattle.script.specs.Lines.{◌>>=◌, only_if, no_fields, one_field, two_fields, three_fields, six_fields, number_in}
 use Rattle.script.specs.Lines.{who_in, print_in, is_write_in, volume_in, new_name_in, call_in}
 use Rattle.script.specs.declared.commands.Command.{Command}
@@ -133,29 +133,21 @@ added d (Err e) = Err e
 unfoldable pub command_line : DraftPlan → List ℕ → List (List ℕ) → Result DraftPlan Cause
 command_line d word fields = added d (command_of d.plan.volumes word fields)
 
--- the lines that may stand after a process, after `fail`, after `print` or `bulk`, and after a volume
-unfoldable pub after_process : DraftPlan → List ℕ → List (List ℕ) → Result DraftPlan Cause
-after_process d word fields = if bytes_eq word (codes "process") then process_line d fields else Err cause.Order
-
-unfoldable pub after_fail : DraftPlan → List ℕ → List (List ℕ) → Result DraftPlan Cause
-after_fail d word fields = if bytes_eq word (codes "fail") then fail_line d fields
-    else if bytes_eq word (codes "initializer") then initializer_line d fields else after_process d word fields
-
-unfoldable pub after_bulk : DraftPlan → List ℕ → List (List ℕ) → Result DraftPlan Cause
-after_bulk d word fields = if bytes_eq word (codes "bulk") then bulk_line d fields else after_fail d word fields
-
-unfoldable pub after_volume : DraftPlan → List ℕ → List (List ℕ) → Result DraftPlan Cause
-after_volume d word fields = if bytes_eq word (codes "volume") then volume_line d fields
-    else if bytes_eq word (codes "print") then print_line d fields else after_bulk d word fields
+-- a call that fails, or the first line of a process, by where it may stand
+unfoldable pub later_at : Stage → DraftPlan → List ℕ → List (List ℕ) → Result DraftPlan Cause
+later_at s d word fields =
+    if is_from 3 5 (reach s) && bytes_eq word (codes "fail") then fail_line d fields
+    else if is_from 3 5 (reach s) && bytes_eq word (codes "initializer") then initializer_line d fields
+    else if has_volume s && bytes_eq word (codes "process") then process_line d fields
+    else Err cause.Order
 
 -- a line that isn't skipped, by what may stand there
 unfoldable pub line_at : Stage → DraftPlan → List ℕ → List (List ℕ) → Result DraftPlan Cause
-line_at stage.Machine d word fields = if bytes_eq word (codes "machine") then machine_line d fields else Err cause.Order
-line_at stage.Quota d word fields = if bytes_eq word (codes "quota") then quota_line d fields else Err cause.Order
-line_at stage.FirstVolume d word fields = if bytes_eq word (codes "volume") then volume_line d fields
-    else Err cause.Order
-line_at stage.Volumes d word fields = after_volume d word fields
-line_at stage.Bulks d word fields = after_bulk d word fields
-line_at stage.Fails d word fields = after_fail d word fields
-line_at stage.Commands d word fields = command_line d word fields
-line_at stage.Processes d word fields = after_process d word fields
+line_at s d word fields =
+    if is_inside s then command_line d word fields
+    else if reach s == 0 && bytes_eq word (codes "machine") then machine_line d fields
+    else if reach s == 1 && bytes_eq word (codes "quota") then quota_line d fields
+    else if is_from 2 3 (reach s) && bytes_eq word (codes "volume") then volume_line d fields
+    else if reach s == 3 && bytes_eq word (codes "print") then print_line d fields
+    else if is_from 3 4 (reach s) && bytes_eq word (codes "bulk") then bulk_line d fields
+    else later_at s d word fields

@@ -6,8 +6,7 @@ ghost use Rattle.script.specs.Fields.{fields_of, is_printable};
 ghost use Rattle.script.specs.Forms.{is_before, is_who, records_of};
 ghost use Rattle.script.specs.Grammar.{text_after, whole_or_missing};
 ghost use Rattle.script.specs.Heads.{machine_line, quota_line, volume_line, print_line, bulk_line, fail_line};
-ghost use Rattle.script.specs.Heads.{initializer_line, process_line, after_process, after_fail, after_bulk};
-ghost use Rattle.script.specs.Heads.{after_volume, added, command_line, line_at};
+ghost use Rattle.script.specs.Heads.{initializer_line, process_line, added, command_line, later_at, line_at};
 ghost use Rattle.script.specs.Readers.{Steps};
 ghost use Rattle.script.specs.declared.commands.Command.TheVariants.{End};
 
@@ -319,77 +318,21 @@ impl Draft {
         }
     }
 
-    /// A line that may stand after a process.
-    #[tactic(auto, unfolding(crate::specs::Heads::after_process))]
-    fn after_process(&mut self, word: &[u8], line: &[u8]) -> Result<(), LineFault>
-        requires between { is_inside self.old.stage ≡ false }
-        requires volume { has_volume self.old.stage ≡ true }
-        ensures { Steps self.new result (after_process self.old word.now (fields_of line.now)) }
-    {
-        if word == b"process".as_slice() {
-            self.process(line)
-        } else {
-            Err(LineFault::Refused(Cause::Order))
-        }
-    }
-
-    /// A line that may stand after a call that fails.
-    #[tactic(auto, unfolding(crate::specs::Heads::after_fail))]
-    fn after_fail(&mut self, word: &[u8], line: &[u8]) -> Result<(), LineFault>
-        requires head { is_head self.old.stage ≡ true }
-        requires volume { has_volume self.old.stage ≡ true }
-        ensures { Steps self.new result (after_fail self.old word.now (fields_of line.now)) }
-    {
-        if word == b"fail".as_slice() {
-            self.fail(line)
-        } else if word == b"initializer".as_slice() {
-            self.initializer(line)
-        } else {
-            self.after_process(word, line)
-        }
-    }
-
-    /// A line that may stand after `print` or a fast store.
-    #[tactic(auto, unfolding(crate::specs::Heads::after_bulk))]
-    fn after_bulk(&mut self, word: &[u8], line: &[u8]) -> Result<(), LineFault>
-        requires head { is_head self.old.stage ≡ true }
-        requires volume { has_volume self.old.stage ≡ true }
-        ensures { Steps self.new result (after_bulk self.old word.now (fields_of line.now)) }
-    {
-        if word == b"bulk".as_slice() {
-            self.bulk(line)
-        } else {
-            self.after_fail(word, line)
-        }
-    }
-
-    /// A line that may stand after a volume.
-    #[tactic(auto, unfolding(crate::specs::Heads::after_volume))]
-    fn after_volume(&mut self, word: &[u8], line: &[u8]) -> Result<(), LineFault>
-        requires early { is_early self.old.stage ≡ true }
-        requires head { is_head self.old.stage ≡ true }
-        requires volume { has_volume self.old.stage ≡ true }
-        ensures { Steps self.new result (after_volume self.old word.now (fields_of line.now)) }
-    {
-        if word == b"volume".as_slice() {
-            self.volume(line)
-        } else if word == b"print".as_slice() {
-            self.print(line)
-        } else {
-            self.after_bulk(word, line)
-        }
-    }
-
-    /// A line up to the first volume.
-    #[tactic(auto, unfolding(crate::specs::Heads::line_at))]
-    fn first_line(&mut self, word: &[u8], line: &[u8]) -> Result<(), LineFault>
-        requires { has_volume self.old.stage ≡ false }
-        ensures { Steps self.new result (line_at self.old.stage self.old word.now (fields_of line.now)) }
+    /// A call that fails, or the first line of a process, by its word and what follows the word.
+    #[tactic(auto, unfolding(crate::specs::Heads::later_at))]
+    fn later_line(&mut self, word: &[u8], line: &[u8]) -> Result<(), LineFault>
+        requires { is_inside self.old.stage ≡ false }
+        ensures { Steps self.new result (later_at self.old.stage self.old word.now (fields_of line.now)) }
     {
         match self.stage {
-            Stage::Machine if word == b"machine".as_slice() => self.machine(line),
-            Stage::Quota if word == b"quota".as_slice() => self.quota(line),
-            Stage::FirstVolume if word == b"volume".as_slice() => self.volume(line),
+            Stage::Volumes | Stage::Bulks | Stage::Fails if word == b"fail".as_slice() => {
+                self.fail(line)
+            }
+            Stage::Volumes | Stage::Bulks | Stage::Fails if word == b"initializer".as_slice() => {
+                self.initializer(line)
+            }
+            Stage::Volumes | Stage::Bulks | Stage::Fails | Stage::Processes
+                if word == b"process".as_slice() => { self.process(line) }
             _ => Err(LineFault::Refused(Cause::Order)),
         }
     }
@@ -400,12 +343,15 @@ impl Draft {
         ensures { Steps self.new result (line_at self.old.stage self.old word.now (fields_of line.now)) }
     {
         match self.stage {
-            Stage::Volumes => self.after_volume(word, line),
-            Stage::Bulks => self.after_bulk(word, line),
-            Stage::Fails => self.after_fail(word, line),
             Stage::Commands => self.command(alloc, word, line),
-            Stage::Processes => self.after_process(word, line),
-            _ => self.first_line(word, line),
+            Stage::Machine if word == b"machine".as_slice() => self.machine(line),
+            Stage::Quota if word == b"quota".as_slice() => self.quota(line),
+            Stage::FirstVolume | Stage::Volumes if word == b"volume".as_slice() => {
+                self.volume(line)
+            }
+            Stage::Volumes if word == b"print".as_slice() => self.print(line),
+            Stage::Volumes | Stage::Bulks if word == b"bulk".as_slice() => self.bulk(line),
+            _ => self.later_line(word, line),
         }
     }
 
