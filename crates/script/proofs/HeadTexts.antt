@@ -15,8 +15,8 @@ use Rattle.script.proofs.Reaching.{Reaches, reaches_both, reaches_line, reaches_
 use Rattle.script.proofs.ValueTexts.{decimal_field, name_field, number_again}
 use Rattle.script.proofs.VolumeTexts.{AreVolumes, call_again, call_field, new_name_again, volume_again}
 use Rattle.script.proofs.VolumeTexts.{volume_field, write_again, write_field}
-use Rattle.script.proofs.SmallLaws.{below, nil_after, within}
-use Rattle.script.specs.Drafts.{DraftPlan, blank}
+use Rattle.script.proofs.SmallLaws.{and_false, below, nil_after, outside, within}
+use Rattle.script.specs.Drafts.{DraftPlan, blank, reach}
 use Rattle.script.specs.Forms.{ArePools, has_name, have_own_names, have_own_volumes, is_before, is_bulk, is_fail}
 use Rattle.script.specs.Forms.{is_from, is_volume, IsPlan, records_of}
 use Rattle.script.specs.Heads.{bulk_line, fail_line, later_at, line_at, machine_line}
@@ -157,16 +157,12 @@ volume_line_again d v h new room sum =
 
 -- a volume may stand at this stage
 abbrev takes_volume : Stage → Bool
-takes_volume stage.FirstVolume = true
-takes_volume stage.Volumes = true
-takes_volume _ = false
+takes_volume s = is_from 2 3 (reach s)
 
 volume_at : (s : Stage) (d : DraftPlan) (fields : List (List ℕ)) → takes_volume s ≡ true
     → line_at s d (codes "volume") fields ≡ volume_line d fields
-unfolding line_at later_at
-volume_at stage.FirstVolume d fields h = refl
-volume_at stage.Volumes d fields h = refl
-volume_at _ d fields h = absurd (cc)
+unfolding line_at
+volume_at s d fields h = simp (and_false, outside s 2 3 (omega arith) h, h)
 
 volume_reaches : (base : DraftPlan) (s : Stage) (done : List VolumeLine) (v : VolumeLine) → takes_volume s ≡ true
     → is_volume v ≡ true → list_any (has_name v.name) done ≡ false → length done < 4
@@ -376,16 +372,12 @@ fail_line_again d f a h room =
 
 -- a call that fails may stand at this stage, or a process may begin
 abbrev pub takes_fail : Stage → Bool
-takes_fail stage.Bulks = true
-takes_fail stage.Fails = true
-takes_fail _ = false
+takes_fail s = is_from 3 5 (reach s)
 
 fail_at : (s : Stage) (d : DraftPlan) (fields : List (List ℕ)) → takes_fail s ≡ true
     → line_at s d (codes "fail") fields ≡ fail_line d fields
 unfolding line_at later_at
-fail_at stage.Bulks d fields h = refl
-fail_at stage.Fails d fields h = refl
-fail_at _ d fields h = absurd (cc)
+fail_at s d fields h = simp (and_false, outside s 3 5 (omega arith) h, h)
 
 -- the stage after calls that fail
 abbrev pub stage_after_fails : Stage → List Fail → Stage

@@ -15,9 +15,9 @@ use Rattle.script.proofs.PathLaws.{and_parts}
 use Rattle.script.proofs.PrincipalLaws.{who_field, who_in_again}
 use Rattle.script.proofs.Reaching.{Reaches, read_from, reaches_both, reaches_line, reaches_nothing}
 use Rattle.script.proofs.VolumeTexts.{AreVolumes}
-use Rattle.script.proofs.SmallLaws.{nil_after, not_true}
+use Rattle.script.proofs.SmallLaws.{and_false, nil_after, not_true, outside}
 use Rattle.script.specs.CommandLists.{longer}
-use Rattle.script.specs.Drafts.{DraftPlan, initializer_who}
+use Rattle.script.specs.Drafts.{DraftPlan, has_volume, initializer_who, is_inside}
 use Rattle.script.specs.Fields.{lines_of}
 use Rattle.script.specs.Forms.{BeginsWithInitializer, ends_once, IsPlan, is_command, is_end, is_process, is_who}
 use Rattle.script.specs.Forms.{weight, weight_of}
@@ -123,20 +123,12 @@ commands_reach base done u all (c ∷ d ∷ cs) a h ends e le =
 
 -- ---- the first line of a process
 
--- a process may begin at this stage
-abbrev begins : Stage → Bool
-begins stage.Bulks = true
-begins stage.Fails = true
-begins stage.Processes = true
-begins _ = false
-
-process_at : (s : Stage) (d : DraftPlan) (fields : List (List ℕ)) → begins s ≡ true
+process_at : (s : Stage) (d : DraftPlan) (fields : List (List ℕ)) → is_whole s ≡ true
     → line_at s d (codes "process") fields ≡ process_line d fields
 unfolding line_at later_at
-process_at stage.Bulks d fields h = refl
-process_at stage.Fails d fields h = refl
-process_at stage.Processes d fields h = refl
-process_at _ d fields h = absurd (cc)
+process_at s d fields h =
+    let parts = and_parts (has_volume s) (not (is_inside s)) h in
+    simp (and_false, not_true (is_inside s) parts.1, parts.0)
 
 process_again : (d : DraftPlan) (who : Who) → is_who who ≡ true → length d.plan.processes < 32
     → process_line d (who_text who ∷ []) ≡ Ok (record d { stage = stage.Commands; who = who })
@@ -148,14 +140,7 @@ process_again d who h room =
 initializer_at : (s : Stage) (d : DraftPlan) → takes_fail s ≡ true → line_at s d (codes "initializer") []
     ≡ Ok (record d { stage = stage.Commands; plan = record d.plan { initializer = true }; who = initializer_who })
 unfolding line_at later_at initializer_line no_fields
-initializer_at stage.Bulks d h = refl
-initializer_at stage.Fails d h = refl
-initializer_at stage.Processes d h = absurd (cc)
-initializer_at stage.Machine d h = absurd (cc)
-initializer_at stage.Quota d h = absurd (cc)
-initializer_at stage.FirstVolume d h = absurd (cc)
-initializer_at stage.Volumes d h = absurd (cc)
-initializer_at stage.Commands d h = absurd (cc)
+initializer_at s d h = simp (and_false, outside s 3 5 (omega arith) h, h)
 
 -- between processes, at a stage
 abbrev between : DraftPlan → Stage → List ProcessPlan → Who → ℕ → DraftPlan
@@ -170,7 +155,7 @@ between base s done who u = record base {
 abbrev initial : DraftPlan → DraftPlan
 initial base = record base { plan = record base.plan { initializer = true } }
 
-begin_reaches : (base : DraftPlan) (s : Stage) (done : List ProcessPlan) (before who : Who) (u : ℕ) → begins s ≡ true
+begin_reaches : (base : DraftPlan) (s : Stage) (done : List ProcessPlan) (before who : Who) (u : ℕ) → is_whole s ≡ true
     → is_who who ≡ true → length done < 32 → Reaches (between base s done before u) (ended (begin_text false who))
     (between base stage.Commands done who u)
 unfolding begin_text
@@ -205,7 +190,7 @@ process_parts volumes x h =
     (p.0, q.0, q.1)
 
 process_reaches : (base : DraftPlan) (s : Stage) (done : List ProcessPlan) (before : Who) (u : ℕ) (x : ProcessPlan)
-    → begins s ≡ true → AreVolumes base.plan.volumes → is_process (length base.plan.volumes) x ≡ true → length done < 32
+    → is_whole s ≡ true → AreVolumes base.plan.volumes → is_process (length base.plan.volumes) x ≡ true → length done < 32
     → u + weight_of x ≤ 100000 → Reaches (between base s done before u) (process_text base.plan.volumes false x)
     (between base stage.Processes (done ++ x ∷ []) x.who (u + weight_of x))
 unfolding process_text weight_of
@@ -236,16 +221,8 @@ first_reaches base s before u x may a h who le =
 
 -- ---- the end
 
-begins_whole : (s : Stage) → begins s ≡ true → is_whole s ≡ true
-begins_whole stage.Bulks h = refl
-begins_whole stage.Fails h = refl
-begins_whole stage.Processes h = refl
-begins_whole _ h = absurd (cc)
-
-fail_begins : (s : Stage) → takes_fail s ≡ true → begins s ≡ true
-fail_begins stage.Bulks h = refl
-fail_begins stage.Fails h = refl
-fail_begins _ h = absurd (cc)
+fail_whole : (s : Stage) → takes_fail s ≡ true → is_whole s ≡ true
+fail_whole s h = grind (arith, nat_tests)
 
 end_read : (n : ℕ) (d : DraftPlan) → is_whole d.stage ≡ true → read_from n d [] ≡ Ok d.plan
 unfolding lines_of finished
@@ -266,13 +243,13 @@ weight_of_cons x xs = let parts : sum_by weight_of (x ∷ xs) ≡ 0 + weight_of 
     sum_by-append weight_of (x ∷ []) xs in omega (arith, parts)
 
 processes_read : (base : DraftPlan) (s : Stage) (done : List ProcessPlan) (before : Who) (u : ℕ)
-    (xs : List ProcessPlan) (n : ℕ) → begins s ≡ true → AreVolumes base.plan.volumes
+    (xs : List ProcessPlan) (n : ℕ) → is_whole s ≡ true → AreVolumes base.plan.volumes
     → list_all (is_process (length base.plan.volumes)) xs ≡ true → length done + length xs ≤ 32
     → u + sum_by weight_of xs ≤ 100000 → read_from n (between base s done before u)
     (processes_text base.plan.volumes false xs) ≡ Ok (record base.plan { processes = done ++ xs })
 processes_read base s done before u [] n may a h room le =
     ap (read_from n (between base s done before u)) (no_processes base.plan.volumes false)
-    ∙ end_read n (between base s done before u) (begins_whole s may)
+    ∙ end_read n (between base s done before u) may
     ∙ ap (λ (t : List ProcessPlan). Ok (record base.plan { processes = t })) (sym (nil_after done))
 processes_read base s done before u (x ∷ xs) n may a h room le =
     let parts = and_parts (is_process (length base.plan.volumes) x) (list_all (is_process (length base.plan.volumes)) xs) h in
@@ -306,7 +283,7 @@ after_head_read p true n h e =
     ∙ ap (λ (b : Bool). Ok (record p { initializer = b })) (sym e)
 after_head_read p false n h e =
     processes_read (after_head p) (stage_after_fails stage.Bulks p.fails) [] initializer_who 0 p.processes n
-    (fail_begins (stage_after_fails stage.Bulks p.fails) (takes_after_fails p.fails)) (are_volumes p h) h.each
+    (fail_whole (stage_after_fails stage.Bulks p.fails) (takes_after_fails p.fails)) (are_volumes p h) h.each
     (omega (arith, h.processes)) (omega (arith, h.commands))
     ∙ ap (λ (b : Bool). Ok (record p { initializer = b })) (sym e)
 

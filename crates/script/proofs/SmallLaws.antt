@@ -1,8 +1,10 @@
 -- Small laws of tests and lists (own).
-use Rattle.std.proofs.Common.{◌≡◌, ℕ, ◌<◌, ◌≤◌, Bool, true, false, not, ◌||◌, nat_le, nat_lt, List, [], ◌∷◌, ◌++◌}
+use Rattle.std.proofs.Common.{◌≡◌, ℕ, ◌<◌, ◌≤◌, Bool, true, false, not, ◌&&◌, ◌||◌, nat_le, nat_lt, List, [], ◌∷◌, ◌++◌}
 use Rattle.std.proofs.Common.{refl, sym, ap, arith}
 use Rattle.std.proofs.lemmas.Bool.Decides.{nat_tests}
+use Rattle.script.specs.Drafts.{is_inside, reach}
 use Rattle.script.specs.Forms.{is_from}
+use Rattle.script.specs.declared.drafts.Stage.{Stage}
 
 pub nil_after : {X : Type 0} → (xs : List X) → xs ++ [] ≡ xs
 nil_after [] = refl
@@ -32,3 +34,11 @@ below n limit h = grind (arith, nat_tests)
 
 pub at_most : (n limit : ℕ) → nat_le n limit ≡ true → n ≤ limit
 at_most n limit h = grind (arith, nat_tests)
+
+pub and_false : (b : Bool) → (b && false) ≡ false
+and_false true = refl
+and_false false = refl
+
+-- between these stages no commands stand next
+pub outside : (s : Stage) (low high : ℕ) → high < 6 → is_from low high (reach s) ≡ true → is_inside s ≡ false
+outside s low high before h = grind (arith, nat_tests)
