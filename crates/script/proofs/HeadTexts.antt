@@ -19,8 +19,8 @@ use Rattle.script.proofs.SmallLaws.{and_false, below, nil_after, outside, within
 use Rattle.script.specs.Drafts.{DraftPlan, blank, reach}
 use Rattle.script.specs.Forms.{ArePools, has_name, have_own_names, have_own_volumes, is_before, is_bulk, is_fail}
 use Rattle.script.specs.Forms.{is_from, is_volume, IsPlan, records_of}
-use Rattle.script.specs.Heads.{bulk_line, fail_line, later_at, line_at, machine_line}
-use Rattle.script.specs.Heads.{fail_in, new_volume_in, pools_in, print_line, quota_line, volume_line}
+use Rattle.script.specs.Heads.{bulk_line, fail_line, later_at, line_at}
+use Rattle.script.specs.Heads.{fail_in, new_volume_in, pools_in, volume_line}
 use Rattle.script.specs.Lines.{four_fields, next_field, no_fields, one_field}
 use Rattle.script.specs.Lines.{print_in, six_fields, three_fields, two_fields}
 use Rattle.script.specs.Plans.{Plan}
@@ -58,7 +58,7 @@ machine_again : (processors frames a b c d : ℕ) → 1 ≤ processors → proce
     → ArePools (a ∷ b ∷ c ∷ d ∷ []) → line_at stage.Machine blank (codes "machine")
     (map decimal (processors ∷ frames ∷ a ∷ b ∷ c ∷ d ∷ []))
     ≡ Ok (after_machine processors frames (a ∷ b ∷ c ∷ d ∷ []))
-unfolding line_at later_at machine_line pools_in six_fields four_fields three_fields two_fields one_field next_field no_fields
+unfolding line_at later_at pools_in six_fields four_fields three_fields two_fields one_field next_field no_fields
 machine_again processors frames a b c d p0 p1 f0 f1 h =
     let many : nat_le (a + b + c + d) 1024 ≡ true = grind (arith, nat_tests) in
     rw (
@@ -98,7 +98,7 @@ machine_reaches processors frames (a ∷ b ∷ c ∷ d ∷ []) p0 p1 f0 f1 h =
 quota_again : (base : DraftPlan) (quota : ℕ) → quota ≤ 16384
     → line_at stage.Quota (record base { stage = stage.Quota }) (codes "quota") (decimal quota ∷ [])
     ≡ Ok (record base { stage = stage.FirstVolume; plan = record base.plan { quota = quota } })
-unfolding line_at later_at quota_line one_field next_field no_fields
+unfolding line_at later_at one_field next_field no_fields
 quota_again base quota h = rw (number_again 0 16384 quota (omega arith) (omega arith) h) refl
 
 pub quota_reaches : (base : DraftPlan) (quota : ℕ) → quota ≤ 16384
@@ -138,7 +138,7 @@ volume_line_again : (d : DraftPlan) (v : VolumeLine) → is_volume v ≡ true �
     ≡ false → length d.plan.volumes < 4 → sum_by records_of d.plan.volumes + v.records ≤ 16384
     → volume_line d (v.name ∷ decimal v.records ∷ decimal v.entries ∷ [])
     ≡ Ok (record d { stage = stage.Volumes; plan = record d.plan { volumes = d.plan.volumes ++ v ∷ [] } })
-unfolding volume_line new_volume_in three_fields two_fields one_field next_field no_fields is_volume
+unfolding new_volume_in three_fields two_fields one_field next_field no_fields is_volume
 volume_line_again d v h new room sum =
     let p = and_parts (is_name v.name) (is_from 1 16384 v.records && is_from 1 4097 v.entries) h in
     let q = and_parts (is_from 1 16384 v.records) (is_from 1 4097 v.entries) p.1 in
@@ -234,7 +234,7 @@ print_fields p word e h = subst (λ (t : List ℕ). HasFields t (codes "print" �
 print_again : (base : DraftPlan) (p : Print) (word : List ℕ) → print_in word ≡ Ok p
     → line_at stage.Volumes (record base { stage = stage.Volumes }) (codes "print") (word ∷ [])
     ≡ Ok (record base { stage = stage.Bulks; plan = record base.plan { print = p } })
-unfolding line_at later_at print_line one_field next_field no_fields
+unfolding line_at later_at one_field next_field no_fields
 print_again base p word h = rw h refl
 
 print_reaches_by : (base : DraftPlan) (p : Print) (word : List ℕ) → print_text p ≡ codes "print" ++ (32 ∷ word)
@@ -284,7 +284,7 @@ bulk_line_again : (d : DraftPlan) (b : Bulk) → AreVolumes d.plan.volumes → i
     → list_any (is_before b.volume) d.plan.bulks ≡ false → bulk_line d
     (volume_name d.plan.volumes b.volume ∷ decimal b.places ∷ [])
     ≡ Ok (record d { stage = stage.Bulks; plan = record d.plan { bulks = d.plan.bulks ++ b ∷ [] } })
-unfolding bulk_line two_fields one_field next_field no_fields
+unfolding two_fields one_field next_field no_fields
 bulk_line_again d b a h new =
     let p = bulk_parts (length d.plan.volumes) b h in
     rw (
@@ -358,7 +358,7 @@ fail_fields vs f a h =
 fail_line_again : (d : DraftPlan) (f : Fail) → AreVolumes d.plan.volumes → is_fail (length d.plan.volumes) f ≡ true
     → length d.plan.fails < 100 → fail_line d (fail_fields_text d.plan.volumes f)
     ≡ Ok (record d { stage = stage.Fails; plan = record d.plan { fails = d.plan.fails ++ f ∷ [] } })
-unfolding fail_line fail_in three_fields two_fields one_field next_field no_fields
+unfolding fail_in three_fields two_fields one_field next_field no_fields
 fail_line_again d f a h room =
     let p = fail_parts (length d.plan.volumes) f h in
     let few : nat_lt (length d.plan.fails) 100 ≡ true = grind (arith, nat_tests) in

@@ -22,7 +22,7 @@ use Rattle.script.specs.Fields.{lines_of}
 use Rattle.script.specs.Forms.{BeginsWithInitializer, ends_once, IsPlan, is_command, is_end, is_process, is_who}
 use Rattle.script.specs.Forms.{weight, weight_of}
 use Rattle.script.specs.Grammar.{finished, is_whole, script_of}
-use Rattle.script.specs.Heads.{command_line, initializer_line, later_at, line_at}
+use Rattle.script.specs.Heads.{command_line, later_at, line_at}
 use Rattle.script.specs.Heads.{process_line}
 use Rattle.script.specs.Lines.{next_field, no_fields, one_field}
 use Rattle.script.specs.Plans.{Plan, ProcessPlan}
@@ -132,14 +132,14 @@ process_at s d fields h =
 
 process_again : (d : DraftPlan) (who : Who) → is_who who ≡ true → length d.plan.processes < 32
     → process_line d (who_text who ∷ []) ≡ Ok (record d { stage = stage.Commands; who = who })
-unfolding process_line one_field next_field no_fields
+unfolding one_field next_field no_fields
 process_again d who h room =
     let few : nat_lt (length d.plan.processes) 32 ≡ true = grind (arith, nat_tests) in
     rw (who_in_again who h, few) refl
 
 initializer_at : (s : Stage) (d : DraftPlan) → takes_fail s ≡ true → line_at s d (codes "initializer") []
     ≡ Ok (record d { stage = stage.Commands; plan = record d.plan { initializer = true }; who = initializer_who })
-unfolding line_at later_at initializer_line no_fields
+unfolding line_at later_at no_fields
 initializer_at s d h = simp (and_false, outside s 3 5 (omega arith) h, h)
 
 -- between processes, at a stage

@@ -80,6 +80,11 @@ is_inside s = reach s == 6
 abbrev pub is_head : Stage → Bool
 is_head s = nat_le (reach s) 5
 
+-- the volumes came, and no process began
+pub record IsOpen (s : Stage) : Type 0 where
+  pub head : is_head s ≡ true
+  pub volume : has_volume s ≡ true
+
 abbrev pub goes_on : Command → Bool
 goes_on c = not (is_end c)
 

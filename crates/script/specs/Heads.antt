@@ -28,7 +28,7 @@ pools_in first second third last = do
   only_if cause.Many (nat_le (four + sixteen + sixty_four + most) 1024) (four ∷ sixteen ∷ sixty_four ∷ most ∷ [])
 
 -- `machine P F N4 N16 N64 N256`: processors, frames, and places in the pools
-unfoldable pub machine_line : DraftPlan → List (List ℕ) → Result DraftPlan Cause
+abbrev pub machine_line : DraftPlan → List (List ℕ) → Result DraftPlan Cause
 machine_line d fields = do
   f ← six_fields fields
   processors ← number_in 1 8 f.0
@@ -40,7 +40,7 @@ machine_line d fields = do
   })
 
 -- `quota Q`
-unfoldable pub quota_line : DraftPlan → List (List ℕ) → Result DraftPlan Cause
+abbrev pub quota_line : DraftPlan → List (List ℕ) → Result DraftPlan Cause
 quota_line d fields = do
   f ← one_field fields
   quota ← number_in 0 16384 f
@@ -61,21 +61,21 @@ new_volume_in volumes fields = do
   Ok (record { name = name; records = records; entries = entries })
 
 -- `volume NAME RECORDS ENTRIES`
-unfoldable pub volume_line : DraftPlan → List (List ℕ) → Result DraftPlan Cause
+abbrev pub volume_line : DraftPlan → List (List ℕ) → Result DraftPlan Cause
 volume_line d fields = do
   v ← new_volume_in d.plan.volumes fields
   if is_volume_too_many d v.records then Err cause.Many
       else Ok (record d { stage = stage.Volumes; plan = record d.plan { volumes = d.plan.volumes ++ v ∷ [] } })
 
 -- `print MODE`
-unfoldable pub print_line : DraftPlan → List (List ℕ) → Result DraftPlan Cause
+abbrev pub print_line : DraftPlan → List (List ℕ) → Result DraftPlan Cause
 print_line d fields = do
   f ← one_field fields
   mode ← print_in f
   Ok (record d { stage = stage.Bulks; plan = record d.plan { print = mode } })
 
 -- `bulk NAME PLACES`, at most once for a volume
-unfoldable pub bulk_line : DraftPlan → List (List ℕ) → Result DraftPlan Cause
+abbrev pub bulk_line : DraftPlan → List (List ℕ) → Result DraftPlan Cause
 bulk_line d fields = do
   f ← two_fields fields
   volume ← volume_in d.plan.volumes f.0
@@ -96,20 +96,20 @@ fail_in volumes fields = do
   Ok (record { volume = volume; write = write; number = call.0; onward = call.1 })
 
 -- `fail` and such a call; at most 100
-unfoldable pub fail_line : DraftPlan → List (List ℕ) → Result DraftPlan Cause
+abbrev pub fail_line : DraftPlan → List (List ℕ) → Result DraftPlan Cause
 fail_line d fields = do
   f ← fail_in d.plan.volumes fields
   only_if cause.Many (nat_lt (length d.plan.fails) 100)
       (record d { stage = stage.Fails; plan = record d.plan { fails = d.plan.fails ++ f ∷ [] } })
 
 -- `initializer`: its commands stand next
-unfoldable pub initializer_line : DraftPlan → List (List ℕ) → Result DraftPlan Cause
+abbrev pub initializer_line : DraftPlan → List (List ℕ) → Result DraftPlan Cause
 initializer_line d fields = do
   _ ← no_fields fields
   Ok (record d { stage = stage.Commands; plan = record d.plan { initializer = true }; who = initializer_who })
 
 -- `process WHO`: its commands stand next; at most 32 processes
-unfoldable pub process_line : DraftPlan → List (List ℕ) → Result DraftPlan Cause
+abbrev pub process_line : DraftPlan → List (List ℕ) → Result DraftPlan Cause
 process_line d fields = do
   f ← one_field fields
   who ← who_in f

@@ -1,7 +1,7 @@
 ghost use Rattle.std.specs.Prelude.{◌≡◌, ◌+◌, ◌<◌, ◌≤◌, false, true, codes, Ok, length, sum_by};
 ghost use Rattle.std.specs.List.{list_any};
 ghost use Rattle.std.specs.Str.{bytes_eq};
-ghost use Rattle.script.specs.Drafts.{blank, initializer_who, has_volume, is_early, is_head, is_inside};
+ghost use Rattle.script.specs.Drafts.{IsOpen, blank, initializer_who, has_volume, is_early, is_inside};
 ghost use Rattle.script.specs.Fields.{fields_of, is_printable};
 ghost use Rattle.script.specs.Forms.{is_before, is_who, records_of};
 ghost use Rattle.script.specs.Grammar.{text_after, whole_or_missing};
@@ -155,7 +155,6 @@ impl Draft {
     }
 
     /// `machine P F N4 N16 N64 N256`
-    #[tactic(auto, unfolding(crate::specs::Heads::machine_line))]
     fn machine(&mut self, line: &[u8]) -> Result<(), LineFault>
         requires { is_early self.old.stage ≡ true }
         ensures { Steps self.new result (machine_line self.old (fields_of line.now)) }
@@ -164,42 +163,61 @@ impl Draft {
         let processors = number_in(processors, 1, 8)?;
         let frames = number_in(frames, 4, 1024)?;
         let pools = pools_in(four, sixteen, sixty_four, most)?;
-        self.stage = Stage::Quota;
         self.parts.processors = processors;
         self.parts.frames = frames;
         self.parts.pools = pools;
+        self.stage = Stage::Quota;
         Ok(())
     }
 
     /// `quota Q`
-    #[tactic(auto, unfolding(crate::specs::Heads::quota_line))]
     fn quota(&mut self, line: &[u8]) -> Result<(), LineFault>
         requires { is_early self.old.stage ≡ true }
         ensures { Steps self.new result (quota_line self.old (fields_of line.now)) }
     {
-        let quota = one_field(line)?;
-        let quota = number_in(quota, 0, 16384)?;
+        self.parts.quota = number_in(one_field(line)?, 0, 16384)?;
         self.stage = Stage::FirstVolume;
-        self.parts.quota = quota;
         Ok(())
     }
 
     /// `print MODE`
-    #[tactic(auto, unfolding(crate::specs::Heads::print_line))]
     fn print(&mut self, line: &[u8]) -> Result<(), LineFault>
-        requires head { is_head self.old.stage ≡ true }
-        requires volume { has_volume self.old.stage ≡ true }
+        requires { IsOpen self.old.stage }
         ensures { Steps self.new result (print_line self.old (fields_of line.now)) }
     {
-        let mode = one_field(line)?;
-        let mode = print_in(mode)?;
+        self.parts.print = print_in(one_field(line)?)?;
         self.stage = Stage::Bulks;
-        self.parts.print = mode;
+        Ok(())
+    }
+
+    /// `initializer`
+    fn initializer(&mut self, line: &[u8]) -> Result<(), LineFault>
+        requires { IsOpen self.old.stage }
+        ensures { Steps self.new result (initializer_line self.old (fields_of line.now)) }
+    {
+        no_fields(line)?;
+        self.stage = Stage::Commands;
+        self.parts.initializer = true;
+        self.who = initializer_who();
+        Ok(())
+    }
+
+    /// `process WHO`
+    fn process(&mut self, line: &[u8]) -> Result<(), LineFault>
+        requires between { is_inside self.old.stage ≡ false }
+        requires volume { has_volume self.old.stage ≡ true }
+        ensures { Steps self.new result (process_line self.old (fields_of line.now)) }
+    {
+        let who = who_in(one_field(line)?)?;
+        if self.parts.processes.len() >= 32 {
+            return Err(LineFault::Refused(Cause::Many));
+        }
+        self.stage = Stage::Commands;
+        self.who = who;
         Ok(())
     }
 
     /// `volume NAME RECORDS ENTRIES`
-    #[tactic(auto, unfolding(crate::specs::Heads::volume_line))]
     fn volume(&mut self, line: &[u8]) -> Result<(), LineFault>
         requires { is_early self.old.stage ≡ true }
         ensures { Steps self.new result (volume_line self.old (fields_of line.now)) }
@@ -216,10 +234,8 @@ impl Draft {
     }
 
     /// `bulk NAME PLACES`
-    #[tactic(auto, unfolding(crate::specs::Heads::bulk_line))]
     fn bulk(&mut self, line: &[u8]) -> Result<(), LineFault>
-        requires head { is_head self.old.stage ≡ true }
-        requires volume { has_volume self.old.stage ≡ true }
+        requires { IsOpen self.old.stage }
         ensures { Steps self.new result (bulk_line self.old (fields_of line.now)) }
     {
         let (volume, places) = two_fields(line)?;
@@ -234,10 +250,8 @@ impl Draft {
     }
 
     /// `fail NAME read N`, `fail NAME write N`, or the same with `+` after it
-    #[tactic(auto, unfolding(crate::specs::Heads::fail_line))]
     fn fail(&mut self, line: &[u8]) -> Result<(), LineFault>
-        requires head { is_head self.old.stage ≡ true }
-        requires volume { has_volume self.old.stage ≡ true }
+        requires { IsOpen self.old.stage }
         ensures { Steps self.new result (fail_line self.old (fields_of line.now)) }
     {
         let fail = fail_in(&self.parts.volumes, line)?;
@@ -246,37 +260,6 @@ impl Draft {
         }
         self.parts.fails.push(fail)?;
         self.stage = Stage::Fails;
-        Ok(())
-    }
-
-    /// `initializer`
-    #[tactic(auto, unfolding(crate::specs::Heads::initializer_line))]
-    fn initializer(&mut self, line: &[u8]) -> Result<(), LineFault>
-        requires head { is_head self.old.stage ≡ true }
-        requires volume { has_volume self.old.stage ≡ true }
-        ensures { Steps self.new result (initializer_line self.old (fields_of line.now)) }
-    {
-        no_fields(line)?;
-        self.stage = Stage::Commands;
-        self.parts.initializer = true;
-        self.who = initializer_who();
-        Ok(())
-    }
-
-    /// `process WHO`
-    #[tactic(auto, unfolding(crate::specs::Heads::process_line))]
-    fn process(&mut self, line: &[u8]) -> Result<(), LineFault>
-        requires between { is_inside self.old.stage ≡ false }
-        requires volume { has_volume self.old.stage ≡ true }
-        ensures { Steps self.new result (process_line self.old (fields_of line.now)) }
-    {
-        let who = one_field(line)?;
-        let who = who_in(who)?;
-        if self.parts.processes.len() >= 32 {
-            return Err(LineFault::Refused(Cause::Many));
-        }
-        self.stage = Stage::Commands;
-        self.who = who;
         Ok(())
     }
 
