@@ -241,27 +241,6 @@ impl FlatStore {
         }
     }
 
-    /// Does what a command does that was answered so.
-    fn effect_of_reply(
-        &mut self,
-        script: &Script,
-        process: u32,
-        command: &Command,
-        reply: &Reply,
-    ) -> Result<(), NoMemory>
-        requires { process < length script.now.processes }
-        ensures ok { OnOk result ((s : Store) → IsShown script.now self.old s → s.next < 2 ^ 31
-            → (takes_effect reply.now ≡ true → takes_effect (reply_to_command script.now s process command.now) ≡ true)
-            → IsShown script.now self.new (answered script.now s process command.now reply.now)) }
-        ensures err { OnErr result (self.new ≡ self.old) }
-    {
-        if takes_effect(reply) {
-            self.take_effect(script, process, command)
-        } else {
-            Ok(())
-        }
-    }
-
     /// A command of a process was answered so.
     fn follow_do(
         &mut self,
@@ -277,7 +256,9 @@ impl FlatStore {
             → Shows script.now self.new (after_command script.now s process command.now reply.now)) }
         ensures err { OnErr result (self.new ≡ self.old) }
     {
-        self.effect_of_reply(script, process, command, reply)?;
+        if takes_effect(reply) {
+            self.take_effect(script, process, command)?;
+        }
         go_on(&mut self.processes, process, command, reply);
         Ok(())
     }
