@@ -9,6 +9,7 @@ ghost use Rattle.custody.specs.Tables.{AreNodes, AreTablesOf, HaveRoom, custody_
 ghost use Rattle.flat_store.specs.Shown.{Shows};
 
 use crate::NoMemory;
+use crate::rows::{cut, reconnected};
 use crate::tables::Custody;
 use book::Entry;
 use custody_model::{DescriptorUse, FrameUse};
@@ -49,11 +50,17 @@ impl Custody {
                 number,
                 uid,
             } => self.connect(store, process, number, uid),
-            Entry::Cut { process, number } => self.cut(process, number),
+            Entry::Cut { process, number } => {
+                let of = self.descriptor(process, number);
+                self.put_descriptor(process, number, cut(of))
+            }
             Entry::GoneSeg { process, number } => {
                 self.put_descriptor(process, number, DescriptorUse::Free)
             }
-            Entry::BackSeg { process, number } => self.reconnect(process, number),
+            Entry::BackSeg { process, number } => {
+                let of = self.descriptor(process, number);
+                self.put_descriptor(process, number, reconnected(of))
+            }
             _ => Ok(()),
         }
     }

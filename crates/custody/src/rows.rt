@@ -43,7 +43,7 @@ fn given_back(of: FrameUse) -> FrameUse
 }
 
 /// A descriptor is on its way out.
-fn cut(of: DescriptorUse) -> DescriptorUse
+pub(crate) fn cut(of: DescriptorUse) -> DescriptorUse
     ensures { result ≡ cut of }
 {
     match of {
@@ -53,7 +53,7 @@ fn cut(of: DescriptorUse) -> DescriptorUse
 }
 
 /// A descriptor that was on its way out is back.
-fn reconnected(of: DescriptorUse) -> DescriptorUse
+pub(crate) fn reconnected(of: DescriptorUse) -> DescriptorUse
     ensures { result ≡ reconnected of }
 {
     match of {
@@ -191,26 +191,6 @@ impl Custody {
     {
         let to = given_back(self.frames.at(frame));
         self.put_frame(frame, to)
-    }
-
-    /// A descriptor is on its way out.
-    pub(crate) fn cut(&mut self, process: u32, number: u32) -> Result<(), NoMemory>
-        ensures ok { OnOk result (self.new ≡ put_descriptor self.old process number
-            (cut (descriptor_at (row_at self.old.descriptors process) number))) }
-        ensures err { OnErr result (self.new ≡ self.old) }
-    {
-        let to = cut(self.descriptor(process, number));
-        self.put_descriptor(process, number, to)
-    }
-
-    /// A descriptor isn't on its way out any more.
-    pub(crate) fn reconnect(&mut self, process: u32, number: u32) -> Result<(), NoMemory>
-        ensures ok { OnOk result (self.new ≡ put_descriptor self.old process number
-            (reconnected (descriptor_at (row_at self.old.descriptors process) number))) }
-        ensures err { OnErr result (self.new ≡ self.old) }
-    {
-        let to = reconnected(self.descriptor(process, number));
-        self.put_descriptor(process, number, to)
     }
 
     /// A segment or directory is active from now on, as its node is.
