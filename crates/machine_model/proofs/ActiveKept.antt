@@ -19,7 +19,6 @@ use Rattle.flat_model.specs.References.{word_reply}
 use Rattle.custody_model.specs.Allowed.{MayActivate, MayDeactivate}
 use Rattle.custody_model.specs.Custody.{leads_to}
 use Rattle.custody_model.specs.Fine.{NoneDue}
-use Rattle.machine_model.specs.Chains.{without_cut}
 use Rattle.machine_model.specs.Changes.{gone_seg}
 use Rattle.machine_model.specs.Custodial.{KeepsBook, is_pending}
 use Rattle.machine_model.specs.Holding.{seen}
@@ -32,13 +31,13 @@ use Rattle.machine_model.specs.declared.CutDescriptor.{CutDescriptor}
 use Rattle.machine_model.specs.State.{Owner, State, Storage}
 use Rattle.machine_model.specs.Steps.{activated_at, connected_to, looking, old_word, page_created, page_made}
 use Rattle.machine_model.specs.Steps.{pages_after, told, went_through, with_owner, with_pages, with_store}
+use Rattle.machine_model.specs.Jobs.{without_first_cut}
 use Rattle.machine_model.proofs.ActiveLaws.{activate_keeps, deactivate_keeps}
 use Rattle.machine_model.proofs.ActiveSeen.{activate_seen, blank_less, deactivate_seen, inactive_blank, names_table}
 use Rattle.machine_model.proofs.ActiveSeen.{words_less, words_more, words_new}
 use Rattle.machine_model.proofs.AnswerLaws.{owner_keeps}
 use Rattle.machine_model.proofs.ChainLaws.{GoesOn, first_finish_seg, uncut_on}
 use Rattle.machine_model.proofs.DescriptorLaws.{CanConnect, connect_keeps, gone_seg_keeps}
-use Rattle.machine_model.proofs.FinishKept.{cut_less}
 use Rattle.machine_model.proofs.JobKept.{set_same}
 use Rattle.machine_model.proofs.KeepLaws.{faults_push}
 use Rattle.machine_model.proofs.MoveSeen.{connect_seen, made_seen}
@@ -113,14 +112,14 @@ segs_are_gone s [] k on = record { book = k; frames = on.frames; cut = on.cut; n
 segs_are_gone s (d ∷ ds) k on = segs_are_gone (seg_gone s d) ds (subst KeepsBook (sym one) book)
     (subst (λ (v : Seen). GoesOn v [] ds) (sym one) still)
   where
-    one : seen (seg_gone s d) ≡ gone_seg (seen s) d (without_cut s.owner)
-    one = ap (gone_seg (seen s) d) (cut_less s.owner)
+    one : seen (seg_gone s d) ≡ gone_seg (seen s) d (without_first_cut s.owner)
+    one = refl
 
-    book : KeepsBook (gone_seg (seen s) d (without_cut s.owner))
-    book = gone_seg_keeps (seen s) d (without_cut s.owner) k (first_finish_seg (seen s) [] d ds on)
+    book : KeepsBook (gone_seg (seen s) d (without_first_cut s.owner))
+    book = gone_seg_keeps (seen s) d (without_first_cut s.owner) k (first_finish_seg (seen s) [] d ds on)
 
-    still : GoesOn (gone_seg (seen s) d (without_cut s.owner)) [] ds
-    still = uncut_on (seen s) (gone_seg (seen s) d (without_cut s.owner)) [] d ds on on.none refl
+    still : GoesOn (gone_seg (seen s) d (without_first_cut s.owner)) [] ds
+    still = uncut_on (seen s) (gone_seg (seen s) d (without_first_cut s.owner)) [] d ds on on.none refl
 
 -- an owner that looks
 pub looks_idle : (c : ℕ) → IsIdle (Some (looking c))

@@ -12,23 +12,23 @@ use Rattle.page_control.specs.Plain.{frame_in}
 use Rattle.descriptor_seg.specs.declared.Sdw.{Sdw}
 use Rattle.seg_control.specs.Control.{place_of, sdws_at}
 use Rattle.flat_model.specs.Legal.{MayFault}
-use Rattle.machine_model.specs.Chains.{page_at, without_cut, without_frame}
+use Rattle.machine_model.specs.Chains.{page_at}
 use Rattle.machine_model.specs.Changes.{back, back_seg}
 use Rattle.machine_model.specs.Custodial.{KeepsBook}
 use Rattle.machine_model.specs.Holding.{seen}
 use Rattle.machine_model.specs.Jobs.{here_if, page_back, pages_back, seg_back, segs_back, with_relink}
-use Rattle.machine_model.specs.Jobs.{without_first_cut, without_first_frame, write_failed}
+use Rattle.machine_model.specs.Jobs.{write_failed}
 use Rattle.machine_model.specs.Keeps.{AreThere, Keeps, StoreSays, is_fault}
 use Rattle.machine_model.specs.Reads.{cut_of_owner, flat_of, frames_of_owner, process_at, run_at}
 use Rattle.machine_model.specs.Seen.{Seen}
 use Rattle.machine_model.specs.declared.CutDescriptor.{CutDescriptor}
 use Rattle.machine_model.specs.State.{State, Storage}
 use Rattle.machine_model.specs.Steps.{fault_told, looking, told, with_owner}
+use Rattle.machine_model.specs.Jobs.{without_first_cut, without_first_frame}
 use Rattle.machine_model.proofs.ActiveSeen.{active_place}
 use Rattle.machine_model.proofs.AnswerLaws.{fault_keeps}
 use Rattle.machine_model.proofs.ChainLaws.{GoesOn, back_on, first_finish, first_finish_seg, uncut_on}
 use Rattle.machine_model.proofs.DescriptorLaws.{back_seg_keeps}
-use Rattle.machine_model.proofs.FinishKept.{cut_less, frame_less}
 use Rattle.machine_model.proofs.FrameLaws.{CanFinish, back_keeps}
 use Rattle.machine_model.proofs.KeepLaws.{faults_push}
 use Rattle.machine_model.proofs.LeaveSeen.{back_seen}
@@ -93,17 +93,16 @@ pages_are_back s (f ∷ fs) ds tables k on there = let rest =
     p : ℕ
     p = (page_at (seen s) f).1
 
-    can : CanFinish (seen s) f u p (without_frame s.owner)
+    can : CanFinish (seen s) f u p (without_first_frame s.owner)
     can = first_finish (seen s) f fs ds k on
 
-    one : seen now ≡ back (seen s) f u p (without_frame s.owner)
+    one : seen now ≡ back (seen s) f u p (without_first_frame s.owner)
     one = back_seen s f u p (without_first_frame s.owner) tables k can.leaving
-        ∙ ap (back (seen s) f u p) (frame_less s.owner)
 
-    book : KeepsBook (back (seen s) f u p (without_frame s.owner))
-    book = back_keeps (seen s) f u p (without_frame s.owner) k can
+    book : KeepsBook (back (seen s) f u p (without_first_frame s.owner))
+    book = back_keeps (seen s) f u p (without_first_frame s.owner) k can
 
-    still : GoesOn (back (seen s) f u p (without_frame s.owner)) fs ds
+    still : GoesOn (back (seen s) f u p (without_first_frame s.owner)) fs ds
     still = back_on (seen s) f fs ds on
 
 -- ---- descriptors come back
@@ -152,15 +151,14 @@ segs_are_back s (d ∷ ds) tables k on there = let rest = segs_are_back now ds t
     now : State
     now = seg_back s d
 
-    one : seen now ≡ back_seg (seen s) d (without_cut s.owner)
+    one : seen now ≡ back_seg (seen s) d (without_first_cut s.owner)
     one = back_seg_seen s d (without_first_cut s.owner) there.0.0 there.0.1 (active_place s.store.ast d.uid there.0.2).1
-        ∙ ap (back_seg (seen s) d) (cut_less s.owner)
 
-    book : KeepsBook (back_seg (seen s) d (without_cut s.owner))
-    book = back_seg_keeps (seen s) d (without_cut s.owner) k (first_finish_seg (seen s) [] d ds on)
+    book : KeepsBook (back_seg (seen s) d (without_first_cut s.owner))
+    book = back_seg_keeps (seen s) d (without_first_cut s.owner) k (first_finish_seg (seen s) [] d ds on)
 
-    still : GoesOn (back_seg (seen s) d (without_cut s.owner)) [] ds
-    still = uncut_on (seen s) (back_seg (seen s) d (without_cut s.owner)) [] d ds on on.none refl
+    still : GoesOn (back_seg (seen s) d (without_first_cut s.owner)) [] ds
+    still = uncut_on (seen s) (back_seg (seen s) d (without_first_cut s.owner)) [] d ds on on.none refl
 
 -- ---- the process is told
 

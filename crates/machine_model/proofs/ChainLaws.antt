@@ -12,8 +12,7 @@ use Rattle.custody_model.specs.Custody.{uid_of_page, leads_to}
 use Rattle.custody_model.specs.Fine.{NoneDue}
 use Rattle.custody_model.specs.Next.{at_put_two}
 use Rattle.machine_model.specs.declared.Aim.{Aim}
-use Rattle.machine_model.specs.Chains.{page_at, page_or_zero, takes, cuts, backs, back_segs, gone_segs, gones}
-use Rattle.machine_model.specs.Chains.{without_frame, without_cut, frames_after, cut_after}
+use Rattle.machine_model.specs.Chains.{page_at, page_or_zero, takes, cuts, backs, back_segs, each_seg, gone_segs, gones}
 use Rattle.machine_model.specs.Changes.{taken, cut, back, back_seg, gone, gone_seg}
 use Rattle.machine_model.specs.Custodial.{AreApart, AreDistinct, IsAimed, IsShaped, FitsPhase, KeepsBook, has_cut}
 use Rattle.machine_model.specs.Custodial.{is_pending, names, says, waits_for}
@@ -21,6 +20,7 @@ use Rattle.machine_model.specs.Reads.{cut_of_owner, frames_of_owner}
 use Rattle.machine_model.specs.Seen.{Seen, bound_use, cut_uid, descriptor_use, frame_use, is_cut_at, read_use, shown}
 use Rattle.machine_model.specs.declared.CutDescriptor.{CutDescriptor}
 use Rattle.machine_model.specs.State.{Owner}
+use Rattle.machine_model.specs.Jobs.{rest_of, without_first_cut, without_first_frame}
 use Rattle.machine_model.proofs.DescriptorLaws.{CanFinishSeg, back_seg_keeps, cut_keeps, gone_seg_keeps}
 use Rattle.machine_model.proofs.DueLaws.{HasLeft, HasLeftCut, none_due}
 use Rattle.machine_model.proofs.FrameLaws.{CanFinish, back_keeps, gone_keeps, take_keeps}
@@ -243,11 +243,11 @@ record GoesLess (o now : Option Owner) (fs : List ℕ) (ds : List CutDescriptor)
   frames : frames_of_owner now ≡ fs
   cut : cut_of_owner now ≡ ds
 
-frame_goes : (o : Option Owner) → GoesLess o (without_frame o) (frames_after (frames_of_owner o)) (cut_of_owner o)
+frame_goes : (o : Option Owner) → GoesLess o (without_first_frame o) (rest_of (frames_of_owner o)) (cut_of_owner o)
 frame_goes None = record { pending = refl; says = refl; steady = λ h. h; frames = refl; cut = refl }
 frame_goes (Some o) = record { pending = refl; says = refl; steady = λ h. h; frames = refl; cut = refl }
 
-cut_goes : (o : Option Owner) → GoesLess o (without_cut o) (frames_of_owner o) (cut_after (cut_of_owner o))
+cut_goes : (o : Option Owner) → GoesLess o (without_first_cut o) (frames_of_owner o) (rest_of (cut_of_owner o))
 cut_goes None = record { pending = refl; says = refl; steady = λ h. h; frames = refl; cut = refl }
 cut_goes (Some o) = record { pending = refl; says = refl; steady = λ h. h; frames = refl; cut = refl }
 
@@ -263,16 +263,16 @@ left_by xs first left same quiet shaped =
 
 -- it goes on without its first frame
 left_first : (o : Option Owner) (f : ℕ) (fs : List ℕ) → frames_of_owner o ≡ f ∷ fs → says o ≡ None → IsSteady o
-    → HasLeft o (without_frame o) f
-left_first o f fs frames quiet steady = left_by fs frames ((frame_goes o).frames ∙ ap frames_after frames)
-    (frame_goes o).cut ((frame_goes o).says ∙ quiet) (shaped_steady (without_frame o) ((frame_goes o).steady steady))
+    → HasLeft o (without_first_frame o) f
+left_first o f fs frames quiet steady = left_by fs frames ((frame_goes o).frames ∙ ap rest_of frames)
+    (frame_goes o).cut ((frame_goes o).says ∙ quiet) (shaped_steady (without_first_frame o) ((frame_goes o).steady steady))
 
 -- and without its first descriptor
 left_first_cut : (o : Option Owner) (d : CutDescriptor) (ds : List CutDescriptor) → cut_of_owner o ≡ d ∷ ds
     → says o ≡ None → IsSteady o
-    → HasLeftCut o (without_cut o) d
-left_first_cut o d ds cut quiet steady = left_by ds cut ((cut_goes o).cut ∙ ap cut_after cut)
-    (cut_goes o).frames ((cut_goes o).says ∙ quiet) (shaped_steady (without_cut o) ((cut_goes o).steady steady))
+    → HasLeftCut o (without_first_cut o) d
+left_first_cut o d ds cut quiet steady = left_by ds cut ((cut_goes o).cut ∙ ap rest_of cut)
+    (cut_goes o).frames ((cut_goes o).says ∙ quiet) (shaped_steady (without_first_cut o) ((cut_goes o).steady steady))
 
 -- a frame that is going has a page whose word says so
 pub going_word : (v : Seen) (f : ℕ) → KeepsBook v → is_going_frame ((shown v).frame f) ≡ true
@@ -302,7 +302,7 @@ module _ (v : Seen) (f : ℕ) (fs : List ℕ) (ds : List CutDescriptor) (k : Kee
   first_going : is_going_frame ((shown v).frame f) ≡ true
   first_going = k.going_owned.frames f ∙ (ap (λ (gs : List ℕ). has gs f) on.frames ∙ has_head f fs)
 
-  pub first_finish : CanFinish v f (page_at v f).0 (page_at v f).1 (without_frame v.owner)
+  pub first_finish : CanFinish v f (page_at v f).0 (page_at v f).1 (without_first_frame v.owner)
   first_finish = record {
     leaving = going_word v f k first_going;
     none = on.none;
@@ -313,9 +313,9 @@ module _ (v : Seen) (f : ℕ) (fs : List ℕ) (ds : List CutDescriptor) (k : Kee
 
 -- the owner goes on without its first frame, whatever became of that
 pub back_on : (v : Seen) (f : ℕ) (fs : List ℕ) (ds : List CutDescriptor) → GoesOn v (f ∷ fs) ds
-    → GoesOn (back v f (page_at v f).0 (page_at v f).1 (without_frame v.owner)) fs ds
+    → GoesOn (back v f (page_at v f).0 (page_at v f).1 (without_first_frame v.owner)) fs ds
 back_on v f fs ds on = record {
-  frames = (frame_goes v.owner).frames ∙ ap frames_after on.frames;
+  frames = (frame_goes v.owner).frames ∙ ap rest_of on.frames;
   cut = (frame_goes v.owner).cut ∙ on.cut;
   none = on.none;
   still = (frame_goes v.owner).pending ∙ on.still;
@@ -326,21 +326,21 @@ back_on v f fs ds on = record {
 pub backs_keep : (v : Seen) (fs : List ℕ) (ds : List CutDescriptor) → KeepsBook v → GoesOn v fs ds
     → HasGone (backs v fs) [] ds
 backs_keep v [] ds k on = record { book = k; on = on }
-backs_keep v (f ∷ fs) ds k on = backs_keep (back v f (page_at v f).0 (page_at v f).1 (without_frame v.owner)) fs ds
-    (back_keeps v f (page_at v f).0 (page_at v f).1 (without_frame v.owner) k (first_finish v f fs ds k on))
+backs_keep v (f ∷ fs) ds k on = backs_keep (back v f (page_at v f).0 (page_at v f).1 (without_first_frame v.owner)) fs ds
+    (back_keeps v f (page_at v f).0 (page_at v f).1 (without_first_frame v.owner) k (first_finish v f fs ds k on))
     (back_on v f fs ds on)
 
 pub gones_keep : (v : Seen) (fs : List ℕ) (ds : List CutDescriptor) → KeepsBook v → GoesOn v fs ds
     → HasGone (gones v fs) [] ds
 gones_keep v [] ds k on = record { book = k; on = on }
 gones_keep v (f ∷ fs) ds k on = gones_keep (gone v f (page_at v f).0 (page_at v f).1 ptw.Null
-    (without_frame v.owner)) fs ds
-    (gone_keeps v f (page_at v f).0 (page_at v f).1 (without_frame v.owner) k
+    (without_first_frame v.owner)) fs ds
+    (gone_keeps v f (page_at v f).0 (page_at v f).1 (without_first_frame v.owner) k
     (first_finish v f fs ds k on) ptw.Null refl)
     (goes_with refl on.none (back_on v f fs ds on))
 
 pub first_finish_seg : (v : Seen) (fs : List ℕ) (d : CutDescriptor) (ds : List CutDescriptor) → GoesOn v fs (d ∷ ds)
-    → CanFinishSeg v d (without_cut v.owner)
+    → CanFinishSeg v d (without_first_cut v.owner)
 first_finish_seg v fs d ds on = record {
   none = on.none;
   still = on.still;
@@ -350,29 +350,37 @@ first_finish_seg v fs d ds on = record {
 
 pub uncut_on : (v now : Seen) (fs : List ℕ) (d : CutDescriptor) (ds : List CutDescriptor) → GoesOn v fs (d ∷ ds)
     → NoneDue (shown now)
-    → now.owner ≡ without_cut v.owner → GoesOn now fs ds
+    → now.owner ≡ without_first_cut v.owner → GoesOn now fs ds
 uncut_on v now fs d ds on none same = record {
   frames = ap frames_of_owner same ∙ ((cut_goes v.owner).frames ∙ on.frames);
-  cut = ap cut_of_owner same ∙ ((cut_goes v.owner).cut ∙ ap cut_after on.cut);
+  cut = ap cut_of_owner same ∙ ((cut_goes v.owner).cut ∙ ap rest_of on.cut);
   none = none;
   still = ap is_pending same ∙ ((cut_goes v.owner).pending ∙ on.still);
   quiet = ap says same ∙ ((cut_goes v.owner).says ∙ on.quiet);
   steady = subst IsSteady (sym same) ((cut_goes v.owner).steady on.steady);
 }
 
+-- one descriptor after the other, whatever is done to each, where the book is kept by it
+segs_keep : (step : Seen → CutDescriptor → Option Owner → Seen)
+    → ((v : Seen) (d : CutDescriptor) (o : Option Owner) → (step v d o).owner ≡ o)
+    → ((v : Seen) (d : CutDescriptor) (o : Option Owner) → NoneDue (shown v) → NoneDue (shown (step v d o)))
+    → ((v : Seen) (d : CutDescriptor) (o : Option Owner) → KeepsBook v → CanFinishSeg v d o → KeepsBook (step v d o))
+    → (v : Seen) (fs : List ℕ) (ds : List CutDescriptor) → KeepsBook v → GoesOn v fs ds
+    → HasGone (each_seg step v ds) fs []
+segs_keep step owner none keeps v fs [] k on = record { book = k; on = on }
+segs_keep step owner none keeps v fs (d ∷ ds) k on =
+    let now = step v d (without_first_cut v.owner) in
+    segs_keep step owner none keeps now fs ds
+    (keeps v d (without_first_cut v.owner) k (first_finish_seg v fs d ds on))
+    (uncut_on v now fs d ds on (none v d (without_first_cut v.owner) on.none) (owner v d (without_first_cut v.owner)))
+
 pub back_segs_keep : (v : Seen) (fs : List ℕ) (ds : List CutDescriptor) → KeepsBook v → GoesOn v fs ds
     → HasGone (back_segs v ds) fs []
-back_segs_keep v fs [] k on = record { book = k; on = on }
-back_segs_keep v fs (d ∷ ds) k on = back_segs_keep (back_seg v d (without_cut v.owner)) fs ds
-    (back_seg_keeps v d (without_cut v.owner) k (first_finish_seg v fs d ds on))
-    (uncut_on v (back_seg v d (without_cut v.owner)) fs d ds on on.none refl)
+back_segs_keep = segs_keep back_seg (λ v d o. refl) (λ v d o none. none) back_seg_keeps
 
 pub gone_segs_keep : (v : Seen) (fs : List ℕ) (ds : List CutDescriptor) → KeepsBook v → GoesOn v fs ds
     → HasGone (gone_segs v ds) fs []
-gone_segs_keep v fs [] k on = record { book = k; on = on }
-gone_segs_keep v fs (d ∷ ds) k on = gone_segs_keep (gone_seg v d (without_cut v.owner)) fs ds
-    (gone_seg_keeps v d (without_cut v.owner) k (first_finish_seg v fs d ds on))
-    (uncut_on v (gone_seg v d (without_cut v.owner)) fs d ds on on.none refl)
+gone_segs_keep = segs_keep gone_seg (λ v d o. refl) (λ v d o none. none) gone_seg_keeps
 
 -- all that a job has taken is gone or back, and every processor has cleared
 pub record IsDone (v : Seen) : Type 0 where

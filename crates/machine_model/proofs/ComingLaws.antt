@@ -29,12 +29,13 @@ unfolding is_command
 weight_some volumes (command.Await number offset word tries) h = grind (arith, nat_tests)
 weight_some volumes c h = omega arith
 
-command_at : (volumes : ℕ) (cs : List Command) (place : ℕ) (c : Command)
+-- each command of a script is in its ranges
+pub command_ranged : (volumes : ℕ) (cs : List Command) (place : ℕ) (c : Command)
     → list_all (is_command volumes) cs ≡ true → slice_get cs place ≡ Some c → is_command volumes c ≡ true
-command_at volumes [] place c are at = absurd cc
-command_at volumes (d ∷ cs) zero c are at =
+command_ranged volumes [] place c are at = absurd cc
+command_ranged volumes (d ∷ cs) zero c are at =
     let same : d ≡ c = cc in let is : is_command volumes d ≡ true = (and_parts _ _ are).0 in cc
-command_at volumes (d ∷ cs) (suc place) c are at = command_at volumes cs place c (and_parts _ _ are).1 at
+command_ranged volumes (d ∷ cs) (suc place) c are at = command_ranged volumes cs place c (and_parts _ _ are).1 at
 
 -- a try that doesn't end an `await` leaves another
 tries_less : (q : Progress) (c : Command) (r : Reply) → tries_on q c r ≡ true → q.tries + 1 < weight c
@@ -74,7 +75,7 @@ comes_to volumes cs place are lt =
       on = record {
         going = refl;
         next = it.at;
-        tries = weight_some volumes it.command (command_at volumes cs place it.command are it.at);
+        tries = weight_some volumes it.command (command_ranged volumes cs place it.command are it.at);
       };
     }
 

@@ -13,7 +13,7 @@ use Rattle.flat_model.specs.Branches.{parts_of}
 use Rattle.flat_model.specs.Store.{Store, progress_of}
 use Rattle.custody_model.specs.Allowed.{MayGo, MayLeave}
 use Rattle.custody_model.specs.Next.{queued as queued_by}
-use Rattle.machine_model.specs.Chains.{gone_segs, without_cut}
+use Rattle.machine_model.specs.Chains.{gone_segs}
 use Rattle.machine_model.specs.Changes.{counted, emptied, gone_seg, left}
 use Rattle.machine_model.specs.Commits.{committed, cut_entry, frame_entry, gone_entries, inactive_entries, left_after}
 use Rattle.machine_model.specs.Commits.{with_effect, with_made}
@@ -29,6 +29,7 @@ use Rattle.machine_model.specs.declared.Run.{Run}
 use Rattle.machine_model.specs.declared.CutDescriptor.{CutDescriptor}
 use Rattle.machine_model.specs.State.{Owner, State, Storage}
 use Rattle.machine_model.specs.Steps.{booked, left_at, queued, run_after, told, told_by, with_owner, with_store}
+use Rattle.machine_model.specs.Jobs.{without_first_cut}
 use Rattle.machine_model.proofs.AnswerLaws.{owner_keeps}
 use Rattle.machine_model.proofs.ChainLaws.{GoesOn, gone_segs_keep}
 use Rattle.machine_model.proofs.KeepLaws.{faults_push}
@@ -75,7 +76,7 @@ left_keeps_book s c k book there process may =
 gone_segs_is : (v : Seen) (ds : List CutDescriptor) (owner : Option Owner)
     → record (gone_segs v ds) { owner = owner } ≡ record v { owner = owner; entries = v.entries ++ map cut_entry ds }
 gone_segs_is v [] owner = λ i. record v { owner = owner; entries = sym (append-nil v.entries) i }
-gone_segs_is v (d ∷ ds) owner = gone_segs_is (gone_seg v d (without_cut v.owner)) ds owner
+gone_segs_is v (d ∷ ds) owner = gone_segs_is (gone_seg v d (without_first_cut v.owner)) ds owner
     ∙ (λ i. record v { owner = owner; entries = append_assoc v.entries (cut_entry d ∷ []) (map cut_entry ds) i })
 
 -- A job has taken descriptors alone, or nothing: they are gone, and it is over.

@@ -32,7 +32,7 @@ use Rattle.custody_model.specs.Custody.{has, is_going_descriptor, is_going_frame
 use Rattle.custody_model.specs.Effects.{HasNoDescriptor, HasNoPage, IsOutOfUse, OfNode}
 use Rattle.custody_model.specs.Next.{at_put}
 use Rattle.machine_model.specs.declared.CutDescriptor.{CutDescriptor}
-use Rattle.machine_model.specs.Chains.{cut_after, gone_segs, gones, page_at, without_cut, without_frame}
+use Rattle.machine_model.specs.Chains.{gone_segs, gones, page_at}
 use Rattle.machine_model.specs.Changes.{gone, gone_seg}
 use Rattle.machine_model.specs.Commits.{cut_entry, frames_freed, inactive_if}
 use Rattle.machine_model.specs.Custodial.{has_cut, names}
@@ -47,6 +47,7 @@ use Rattle.machine_model.specs.Seen.{read_use, shown}
 use Rattle.machine_model.specs.State.{Owner, State, Storage}
 use Rattle.machine_model.specs.Steps.{with_owner, with_pages}
 use Rattle.machine_model.specs.Taking.{IsTakenFor}
+use Rattle.machine_model.specs.Jobs.{rest_of, without_first_cut, without_first_frame}
 use Rattle.machine_model.proofs.ActiveSeen.{active_less}
 use Rattle.machine_model.proofs.ChainLaws.{going_word, has_head}
 use Rattle.machine_model.proofs.CommitAsks.{IsOut, RestsDelete, RestsDeleteInactive, RestsDescriptors}
@@ -234,18 +235,18 @@ not_above (n ∷ ns) u v h e = by (eqb n.uid v)
 -- the owner's descriptors once they are gone
 cut_gone : (v : Seen) (ds : List CutDescriptor) → cut_of_owner v.owner ≡ ds → cut_of_owner (gone_segs v ds).owner ≡ []
 cut_gone v [] e = e
-cut_gone v (d ∷ ds) e = cut_gone (gone_seg v d (without_cut v.owner)) ds (less v.owner ∙ ap cut_after e)
+cut_gone v (d ∷ ds) e = cut_gone (gone_seg v d (without_first_cut v.owner)) ds (less v.owner ∙ ap rest_of e)
   where
-    less : (o : Option Owner) → cut_of_owner (without_cut o) ≡ cut_after (cut_of_owner o)
+    less : (o : Option Owner) → cut_of_owner (without_first_cut o) ≡ rest_of (cut_of_owner o)
     less None = refl
     less (Some q) = refl
 
 cut_stays : (v : Seen) (fs : List ℕ) → cut_of_owner (gones v fs).owner ≡ cut_of_owner v.owner
 cut_stays v [] = refl
-cut_stays v (f ∷ fs) = cut_stays (gone v f (page_at v f).0 (page_at v f).1 ptw.Null (without_frame v.owner)) fs
+cut_stays v (f ∷ fs) = cut_stays (gone v f (page_at v f).0 (page_at v f).1 ptw.Null (without_first_frame v.owner)) fs
     ∙ less v.owner
   where
-    less : (o : Option Owner) → cut_of_owner (without_frame o) ≡ cut_of_owner o
+    less : (o : Option Owner) → cut_of_owner (without_first_frame o) ≡ cut_of_owner o
     less None = refl
     less (Some q) = refl
 

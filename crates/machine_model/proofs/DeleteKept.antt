@@ -18,7 +18,7 @@ use Rattle.seg_control.specs.Kept.{read_at}
 use Rattle.custody_model.specs.Allowed.{MayDeactivate}
 use Rattle.custody_model.specs.Custody.{has, leads_to}
 use Rattle.custody_model.specs.Next.{at_put}
-use Rattle.machine_model.specs.Chains.{gone_segs, gones, page_at, page_or_zero, without_cut, without_frame}
+use Rattle.machine_model.specs.Chains.{gone_segs, gones, page_at, page_or_zero}
 use Rattle.machine_model.specs.Changes.{deactivated as no_more_active, gone, gone_seg}
 use Rattle.machine_model.specs.Commits.{committed, cut_entry, frames_freed, gone_entries, lost}
 use Rattle.machine_model.specs.Custodial.{AreDistinct, KeepsBook, is_pending, names}
@@ -31,6 +31,7 @@ use Rattle.machine_model.specs.Seen.{Seen, cut_uid, descriptor_use, flat, shown}
 use Rattle.machine_model.specs.declared.CutDescriptor.{CutDescriptor}
 use Rattle.machine_model.specs.State.{State, Storage}
 use Rattle.machine_model.specs.Steps.{booked, with_owner, with_pages, with_store}
+use Rattle.machine_model.specs.Jobs.{without_first_cut, without_first_frame}
 use Rattle.machine_model.proofs.ActiveLaws.{deactivate_keeps}
 use Rattle.machine_model.proofs.ActiveSeen.{active_less, blank_less, deactivate_seen, words_less}
 use Rattle.machine_model.proofs.ChainLaws.{GoesOn, IsDone, gone_done, idle_done, going_word, gone_segs_keep, gones_keep}
@@ -94,15 +95,15 @@ freed_none b (f ∷ fs) none g = (λ i. freed (λ h. unread_put b f (none f (has
 
 pub gones_bound : (v : Seen) (fs : List ℕ) → (gones v fs).bound ≡ freed v.bound fs
 gones_bound v [] = refl
-gones_bound v (f ∷ fs) = gones_bound (gone v f (page_at v f).0 (page_at v f).1 ptw.Null (without_frame v.owner)) fs
+gones_bound v (f ∷ fs) = gones_bound (gone v f (page_at v f).0 (page_at v f).1 ptw.Null (without_first_frame v.owner)) fs
 
 pub gones_leave : (v : Seen) (fs : List ℕ) → LeavesRest v (gones v fs)
 gones_leave v [] = refl
-gones_leave v (f ∷ fs) = gones_leave (gone v f (page_at v f).0 (page_at v f).1 ptw.Null (without_frame v.owner)) fs
+gones_leave v (f ∷ fs) = gones_leave (gone v f (page_at v f).0 (page_at v f).1 ptw.Null (without_first_frame v.owner)) fs
 
 pub segs_leave : (v : Seen) (ds : List CutDescriptor) → LeavesRest v (gone_segs v ds)
 segs_leave v [] = refl
-segs_leave v (d ∷ ds) = segs_leave (gone_seg v d (without_cut v.owner)) ds
+segs_leave v (d ∷ ds) = segs_leave (gone_seg v d (without_first_cut v.owner)) ds
 
 -- so does a chain of both
 pub chain_leaves : (v : Seen) (fs : List ℕ) (ds : List CutDescriptor) → LeavesRest v (gone_segs (gones v fs) ds)
@@ -115,23 +116,23 @@ chain_leaves v fs ds = segs_leave (gones v fs) ds ∙ (λ i. record (gones_leave
 
 pub segs_bound : (v : Seen) (ds : List CutDescriptor) → (gone_segs v ds).bound ≡ v.bound
 segs_bound v [] = refl
-segs_bound v (d ∷ ds) = segs_bound (gone_seg v d (without_cut v.owner)) ds
+segs_bound v (d ∷ ds) = segs_bound (gone_seg v d (without_first_cut v.owner)) ds
 
 segs_words : (v : Seen) (ds : List CutDescriptor) → (gone_segs v ds).words ≡ v.words
 segs_words v [] = refl
-segs_words v (d ∷ ds) = segs_words (gone_seg v d (without_cut v.owner)) ds
+segs_words v (d ∷ ds) = segs_words (gone_seg v d (without_first_cut v.owner)) ds
 
 abbrev pub gone_entry : ℕ → Entry
 gone_entry f = entry.GonePage f
 
 pub gones_entries : (v : Seen) (fs : List ℕ) → (gones v fs).entries ≡ v.entries ++ map gone_entry fs
 gones_entries v [] = sym (append-nil v.entries)
-gones_entries v (f ∷ fs) = gones_entries (gone v f (page_at v f).0 (page_at v f).1 ptw.Null (without_frame v.owner)) fs
+gones_entries v (f ∷ fs) = gones_entries (gone v f (page_at v f).0 (page_at v f).1 ptw.Null (without_first_frame v.owner)) fs
     ∙ append_assoc v.entries (entry.GonePage f ∷ []) (map gone_entry fs)
 
 pub segs_entries : (v : Seen) (ds : List CutDescriptor) → (gone_segs v ds).entries ≡ v.entries ++ map cut_entry ds
 segs_entries v [] = sym (append-nil v.entries)
-segs_entries v (d ∷ ds) = segs_entries (gone_seg v d (without_cut v.owner)) ds
+segs_entries v (d ∷ ds) = segs_entries (gone_seg v d (without_first_cut v.owner)) ds
     ∙ append_assoc v.entries (cut_entry d ∷ []) (map cut_entry ds)
 
 -- a segment keeps its words where no page of it leaves a frame
@@ -144,7 +145,7 @@ gones_words v (f ∷ fs) u once its w q n = gones_words now fs u once.1 still w 
     (λ a b. absurd (n (a ∙ its f (has_head f fs)))) (λ m. refl)
   where
     now : Seen
-    now = gone v f (page_at v f).0 (page_at v f).1 ptw.Null (without_frame v.owner)
+    now = gone v f (page_at v f).0 (page_at v f).1 ptw.Null (without_first_frame v.owner)
 
     no_and : {b : Bool} → b ≡ true → b ≡ false → ⊥
     no_and t e = let no : true ≡ false = sym t ∙ e in cc

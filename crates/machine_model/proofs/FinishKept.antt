@@ -14,18 +14,18 @@ use Rattle.page_control.specs.Plain.{record_of, words_in}
 use Rattle.flat_model.specs.Legal.{MayRelease, after_entry}
 use Rattle.flat_model.specs.Store.{Store}
 use Rattle.custody_model.specs.Effects.{IsInNoFrame}
-use Rattle.machine_model.specs.Chains.{frames_after, page_at, page_or_zero, without_cut, without_frame}
+use Rattle.machine_model.specs.Chains.{page_at, page_or_zero}
 use Rattle.machine_model.specs.Changes.{gone, released}
 use Rattle.machine_model.specs.Custodial.{KeepsBook, is_out, names}
 use Rattle.machine_model.specs.Holding.{seen}
 use Rattle.machine_model.specs.Jobs.{entries_left, eviction_done, left_of, page_done, page_gone, page_in, with_left}
-use Rattle.machine_model.specs.Jobs.{without_first_cut, without_first_frame}
 use Rattle.machine_model.specs.Keeps.{IsAtWork, Keeps, StoreSays, is_fault}
 use Rattle.machine_model.specs.Reads.{flat_of, home_in, processor_at}
 use Rattle.machine_model.specs.Seen.{Seen, flat, shown}
 use Rattle.machine_model.specs.declared.CutDescriptor.{CutDescriptor}
 use Rattle.machine_model.specs.State.{Owner, State}
 use Rattle.machine_model.specs.Steps.{booked, looking, with_faults, with_owner, with_store}
+use Rattle.machine_model.specs.Jobs.{rest_of, without_first_frame}
 use Rattle.machine_model.proofs.ChainLaws.{GoesOn, first_finish}
 use Rattle.machine_model.proofs.FrameLaws.{CanFinish, gone_keeps, in_no_frame, release_keeps}
 use Rattle.machine_model.proofs.KeepLaws.{faults_push, flat_still}
@@ -135,28 +135,9 @@ eviction_kept s c f u p faults o k mine same rose can zeros says =
     (λ q h. subst (λ (d : ℕ). IsAtWork (processor_at s.processors d))
     (same ∙ ap (λ (x : Owner). x.cpu) (let is : looking c ≡ q = cc in is)) (k.at_work o mine))
 
--- an owner without its first frame
-pub frame_less : (o : Option Owner) → without_first_frame o ≡ without_frame o
-frame_less None = refl
-frame_less (Some o) = by o.frames
-  where
-    by : (fs : List ℕ) → without_first_frame (Some (record o { frames = fs }))
-        ≡ without_frame (Some (record o { frames = fs }))
-    by [] = refl
-    by (f ∷ fs) = refl
-
-pub cut_less : (o : Option Owner) → without_first_cut o ≡ without_cut o
-cut_less None = refl
-cut_less (Some o) = by o.cut
-  where
-    by : (ds : List CutDescriptor) → without_first_cut (Some (record o { cut = ds }))
-        ≡ without_cut (Some (record o { cut = ds }))
-    by [] = refl
-    by (d ∷ ds) = refl
-
-cpu_of_rest : (o q : Owner) → without_frame (Some o) ≡ Some q → o.cpu ≡ q.cpu
+cpu_of_rest : (o q : Owner) → without_first_frame (Some o) ≡ Some q → o.cpu ≡ q.cpu
 cpu_of_rest o q h = ap (λ (x : Owner). x.cpu)
-    (let is : ◌≡◌ {A = Owner} (record o { frames = frames_after o.frames }) q = cc in is)
+    (let is : ◌≡◌ {A = Owner} (record o { frames = rest_of o.frames }) q = cc in is)
 
 -- a deactivation goes on with the next page
 pub page_kept : (s : State) (f faults : ℕ) (fs : List ℕ) (ds : List CutDescriptor) (o : Owner) → Keeps s
@@ -167,7 +148,6 @@ pub page_kept : (s : State) (f faults : ℕ) (fs : List ℕ) (ds : List CutDescr
     → StoreSays (page_done (with_faults s faults) f) → Keeps (page_done (with_faults s faults) f)
 page_kept s f faults fs ds o k mine rose on zeros says =
     gone_kept s f (page_at (seen s) f).0 (page_at (seen s) f).1 faults (without_first_frame s.owner) k
-    (subst (CanFinish (seen s) f (page_at (seen s) f).0 (page_at (seen s) f).1) (sym (frame_less s.owner))
-    (first_finish (seen s) f fs ds k.book on)) rose zeros says
+    (first_finish (seen s) f fs ds k.book on) rose zeros says
     (λ q h. subst (λ (d : ℕ). IsAtWork (processor_at s.processors d))
-    (cpu_of_rest o q (ap without_frame (sym mine) ∙ (sym (frame_less s.owner) ∙ h))) (k.at_work o mine))
+    (cpu_of_rest o q (ap without_first_frame (sym mine) ∙ h)) (k.at_work o mine))

@@ -1,6 +1,7 @@
 -- What a job has taken isn't what its command wants, after each step.
 use Rattle.std.proofs.Common.{◌≡◌, ◌<◌, ℕ, zero, suc, Bool, true, false, not, ◌&&◌, cond, eqb, is_some, length}
 use Rattle.std.proofs.Common.{List, [], ◌∷◌, get_or, map, set, Option, Some, None, inl, inr, refl, sym, ap, subst, ◌∙◌}
+use Rattle.std.proofs.lemmas.Bool.{cond_both}
 use Rattle.std.proofs.lemmas.Bool.Decides.{eqb_tells}
 use Rattle.script.specs.Plans.{command_at}
 use Rattle.script.specs.References.{alters, reference_of}
@@ -44,6 +45,7 @@ use Rattle.machine_model.specs.State.{Owner, State, Storage}
 use Rattle.active_segs.specs.Active.{ActiveSegs}
 use Rattle.machine_model.specs.Steps.{old_word, pages_after, told, with_pages, with_store}
 use Rattle.machine_model.specs.Working.{IsWorking}
+use Rattle.machine_model.proofs.ActionCases.{action_by}
 use Rattle.machine_model.proofs.WorkStep.{other_next, set_process}
 use Rattle.page_control.specs.Effects.{referred, word_put}
 use Rattle.script.specs.References.{new_word}
@@ -215,10 +217,6 @@ module _ (s : State) (c : ℕ) (o : Outcome) (m : IsMachine s) (working : IsWork
   abbrev Fits : act.Action → Type 0
   Fits a = Keeps (after s c a o) → IsFitting (after s c a o)
 
-  pick : (b : Bool) (x y : act.Action) → (b ≡ true → Fits x) → (b ≡ false → Fits y) → Fits (cond b x y)
-  pick true x y f g = f refl
-  pick false x y f g = g refl
-
   abbrev p : Processor
   p = processor_at s.processors c
 
@@ -254,16 +252,16 @@ module _ (s : State) (c : ℕ) (o : Outcome) (m : IsMachine s) (working : IsWork
         by : (xs : List ℕ) → Fits (act.load_or_idle s xs)
         by [] i = fitting
         by (k ∷ ks) i = seat_fits _ _ i refl refl refl refl refl
-    run_fits (Some n) e kept = pick (act.has_had_its_turn p && not (act.is_empty s.ready)) act.Leave
-        (act.come_to s p.cpu n (next_command s n))
+    run_fits (Some n) e kept = cond_both (act.has_had_its_turn p && not (act.is_empty s.ready)) act.Leave
+        (act.come_to s p.cpu n (next_command s n)) Fits
         (λ h i. seat_fits _ _ i refl refl refl refl refl)
         (λ h. subst (λ (j : ℕ). Fits (act.come_to s p.cpu j (next_command s j))) (ap or_zero e)
         (come_fits (e ∙ ap (λ (x : Option ℕ). Some (or_zero x)) (sym e)) (next_command s (process_at s c)))) kept
 
     own_fits : (x : Option Owner) → s.owner ≡ x → Fits (act.own_or_run s c p x)
     own_fits None e kept = absurd (none_some (sym e ∙ mine))
-    own_fits (Some v) e kept = pick (eqb v.cpu c) (act.go_on_with s (or_zero p.cpu.process) v v.phase)
-        (act.run_process s p p.cpu.process)
+    own_fits (Some v) e kept = cond_both (eqb v.cpu c) (act.go_on_with s (or_zero p.cpu.process) v v.phase)
+        (act.run_process s p p.cpu.process) Fits
         (λ h. absurd (elim (eqb_tells v.cpu c) [
           | inl y ↦ other v e y.1
           | inr n ↦ no_and h n.0
@@ -281,11 +279,9 @@ module _ (s : State) (c : ℕ) (o : Outcome) (m : IsMachine s) (working : IsWork
 
     -- a processor that doesn't own the supervisor, and reads nothing, leaves the job as it was
     pub other_fits : Fits (action_of s c)
-    unfolding after action_of
-    other_fits = pick s.stopped act.IsStopped _ (λ h kept. fitting)
-        (λ h. pick (is_over s) act.HasEnded _ (λ e kept. fitting)
-        (λ e. pick (not p.cpu.online) act.Online _ (λ off kept. seat_fits _ _ kept refl refl refl refl refl)
-        (λ on. clear_fits p.cpu.due)))
+    unfolding after
+    other_fits = action_by Fits s c (λ kept. fitting) (λ kept. fitting)
+        (λ off kept. seat_fits _ _ kept refl refl refl refl refl) (λ on. clear_fits p.cpu.due)
 
 -- ---- each step
 

@@ -1,5 +1,6 @@
 pub mod AccessTakenAway
 pub mod Accounts
+pub mod ActionCases
 pub mod ActiveKept
 pub mod ActiveLaws
 pub mod ActiveSeen

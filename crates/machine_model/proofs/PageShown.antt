@@ -50,6 +50,31 @@ zeros_read zero i = refl
 zeros_read (suc n) zero = refl
 zeros_read (suc n) (suc i) = zeros_read n i
 
+module _ (s : State) (k : Keeps s) where
+  -- a page in a frame has the words of the frame
+  pub frame_words : (u f p : ℕ) → (seen s).bound f ≡ Some (u, p)
+      → words_at s.store.pages u (home_in s.store u) p ≡ words_in s.store.pages f
+  unfolding words_of_page
+  frame_words u f p bound = by (position (is_binding u p) (bindings s.store.pages.core)) refl
+    where
+      filed : Option ℕ
+      filed = record_at (vtoc_in s.store.pages.vtocs (home_in s.store u).volume) (home_in s.store u).entry p
+
+      by : (x : Option ℕ) → position (is_binding u p) (bindings s.store.pages.core) ≡ x
+          → words_held s.store.pages.frames (get_or s.store.pages.disks (home_in s.store u).volume []) filed x
+          ≡ words_in s.store.pages f
+      by None e = absurd (no_and (ap (is_binding u p) bound ∙ both_same u p u p refl refl)
+          (position_none (is_binding u p) (bindings s.store.pages.core) None f e refl))
+      by (Some g) e = ap (words_in s.store.pages) same
+        where
+          there : (seen s).bound g ≡ Some (u, p)
+          there = bound_tells u p ((seen s).bound g)
+              (position_at (is_binding u p) (bindings s.store.pages.core) None g e).1
+
+          same : g ≡ f
+          same = let one : ◌≡◌ {A = Option ℕ} (Some g) (Some f) =
+              sym (k.book.tied.named g u p there) ∙ k.book.tied.named f u p bound in cc
+
 module _ (s : State) (k : Keeps s) (u : ℕ) (active : is_active s.store.ast u ≡ true) where
   place_is : uid_at s.store.ast.entries (place_of s.store.ast.entries u) ≡ Some u
   place_is = (active_place s.store.ast u active).1
@@ -81,34 +106,10 @@ module _ (s : State) (k : Keeps s) (u : ℕ) (active : is_active s.store.ast u �
   words_are o = k.faithful.pages.words u o ∙ ap (λ (b : Bool). get_or (cond b
       (words_at s.store.pages u (home_in s.store u) (o / 1024)) (replicate 1024 0)) (o % 1024) 0) active_there
 
-  -- a page in a frame has the words of the frame
-  frame_words : (f p : ℕ) → (seen s).bound f ≡ Some (u, p)
-      → words_at s.store.pages u (home_in s.store u) p ≡ words_in s.store.pages f
-  unfolding words_of_page
-  frame_words f p bound = by (position (is_binding u p) (bindings s.store.pages.core)) refl
-    where
-      filed : Option ℕ
-      filed = record_at (vtoc_in s.store.pages.vtocs (home_in s.store u).volume) (home_in s.store u).entry p
-
-      by : (x : Option ℕ) → position (is_binding u p) (bindings s.store.pages.core) ≡ x
-          → words_held s.store.pages.frames (get_or s.store.pages.disks (home_in s.store u).volume []) filed x
-          ≡ words_in s.store.pages f
-      by None e = absurd (no_and (ap (is_binding u p) bound ∙ both_same u p u p refl refl)
-          (position_none (is_binding u p) (bindings s.store.pages.core) None f e refl))
-      by (Some g) e = ap (words_in s.store.pages) same
-        where
-          there : (seen s).bound g ≡ Some (u, p)
-          there = bound_tells u p ((seen s).bound g)
-              (position_at (is_binding u p) (bindings s.store.pages.core) None g e).1
-
-          same : g ≡ f
-          same = let one : ◌≡◌ {A = Option ℕ} (Some g) (Some f) =
-              sym (k.book.tied.named g u p there) ∙ k.book.tied.named f u p bound in cc
-
   pub bound_word : (f o : ℕ) → (seen s).bound f ≡ Some (u, o / 1024)
       → (flat_of s).words u o ≡ get_or (words_in s.store.pages f) (o % 1024) 0
   bound_word f o bound = words_are o
-      ∙ ap (λ (ws : List ℕ). get_or ws (o % 1024) 0) (frame_words f (o / 1024) bound)
+      ∙ ap (λ (ws : List ℕ). get_or ws (o % 1024) 0) (frame_words s k u f (o / 1024) bound)
 
   -- a page that has no record is all zeros
   null_words : (p : ℕ) → word_of s.store.ast u p ≡ ptw.Null

@@ -1,6 +1,7 @@
 -- No action answers by itself that a drive failed.
-use Rattle.std.proofs.Common.{◌≡◌, ℕ, Bool, true, false, not, ◌&&◌, cond, eqb, List, [], ◌∷◌, position}
+use Rattle.std.proofs.Common.{◌≡◌, ℕ, false, not, ◌&&◌, eqb, List, [], ◌∷◌, position}
 use Rattle.std.proofs.Common.{Option, Some, None, ap, ◌∙◌}
+use Rattle.std.proofs.lemmas.Bool.{cond_both}
 use Rattle.script.specs.References.{reference_of}
 use Rattle.script.specs.declared.commands.Command.{Command}
 use Rattle.script.specs.declared.commands.Reference.{Reference}
@@ -18,6 +19,7 @@ use Rattle.machine_model.specs.Actions as act
 use Rattle.machine_model.specs.Actions.{action_of, is_over}
 use Rattle.machine_model.specs.Reads.{flat_of, is_due, next_command, or_zero, processor_at}
 use Rattle.machine_model.specs.State.{Owner, State}
+use Rattle.machine_model.proofs.ActionCases.{action_by}
 use Rattle.machine_model.proofs.LookFacts.{LookFinds, look_finds}
 use Rattle.machine_model.proofs.PlainReplies.{command_plain, is_device, move_plainly, tells_device}
 
@@ -26,10 +28,6 @@ abbrev pub IsPlainly : act.Action → Type 0
 IsPlainly (act.Plain r) = is_device r ≡ false
 IsPlainly (act.Answer r) = is_device r ≡ false
 IsPlainly _ = Unit {0}
-
-pick : (b : Bool) (x y : act.Action) → IsPlainly x → IsPlainly y → IsPlainly (cond b x y)
-pick true x y h i = h
-pick false x y h i = i
 
 module _ (s : State) (c : ℕ) where
   abbrev p : Processor
@@ -61,8 +59,8 @@ module _ (s : State) (c : ℕ) where
       by : (xs : List ℕ) → IsPlainly (act.load_or_idle s xs)
       by [] = tt
       by (k ∷ ks) = tt
-  run_plain (Some k) = pick (act.has_had_its_turn p && not (act.is_empty s.ready)) act.Leave
-      (act.come_to s p.cpu k (next_command s k)) tt (come_plain k (next_command s k))
+  run_plain (Some k) = cond_both (act.has_had_its_turn p && not (act.is_empty s.ready)) act.Leave
+      (act.come_to s p.cpu k (next_command s k)) IsPlainly (λ had. tt) (λ going. come_plain k (next_command s k))
 
   look_plain : (k : ℕ) (cmd : Command) (a : act.Action) → LookFinds s k cmd a → IsPlainly a
   look_plain k cmd (act.Answer r) h = ap is_device h.reply ∙ command_plain s.plan (flat_of s) k cmd
@@ -91,8 +89,9 @@ module _ (s : State) (c : ℕ) where
 
   owner_plain : (x : Option Owner) → IsPlainly (act.own_or_run s c p x)
   owner_plain None = run_plain p.cpu.process
-  owner_plain (Some q) = pick (eqb q.cpu c) (act.go_on_with s (or_zero p.cpu.process) q q.phase)
-      (act.run_process s p p.cpu.process) (phase_plain (or_zero p.cpu.process) q q.phase) (run_plain p.cpu.process)
+  owner_plain (Some q) = cond_both (eqb q.cpu c) (act.go_on_with s (or_zero p.cpu.process) q q.phase)
+      (act.run_process s p p.cpu.process) IsPlainly (λ mine. phase_plain (or_zero p.cpu.process) q q.phase)
+      (λ other. run_plain p.cpu.process)
 
   transfer_plain : (x : Option Transfer) → IsPlainly (act.transfer_or s c p x)
   transfer_plain (Some t) = tt
@@ -103,6 +102,4 @@ module _ (s : State) (c : ℕ) where
   clear_plain None = transfer_plain p.cpu.transfer
 
   pub plain_action : IsPlainly (action_of s c)
-  unfolding action_of
-  plain_action = pick s.stopped act.IsStopped _ tt (pick (is_over s) act.HasEnded _ tt
-      (pick (not p.cpu.online) act.Online _ tt (clear_plain p.cpu.due)))
+  plain_action = action_by IsPlainly s c tt tt (λ off. tt) (λ on. clear_plain p.cpu.due)

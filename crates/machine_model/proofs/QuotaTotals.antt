@@ -20,6 +20,7 @@ use Rattle.tree_model.specs.Tree.{quota_in, walk_in, with_node, without_node}
 use Rattle.tree_model.specs.Trees.{AreBelow, AreDirectories, AreUnder, EndsAtRoot, HasChains, IsTree, Joins}
 use Rattle.tree_model.proofs.ChainLaws.{has_chains}
 use Rattle.tree_model.proofs.Finds.{IsMember}
+use Rattle.flat_model.proofs.FieldLaws.{field_found}
 use Rattle.flat_model.specs.Branches.{branch_at, changed, directory_at, node_at, only_directory, only_segment, parts_of}
 use Rattle.flat_model.specs.Branches.{segment_at, there_or, walked}
 use Rattle.flat_model.specs.Commands.{effect_of_tree_command, reply_to_tree_command, takes_effect}
@@ -247,13 +248,7 @@ branch_found ns (name ∷ names) n h = (
 )
 
 quota_found : (ns : List Node) (u : ℕ) (n : Node) → node_in ns u ≡ Some n → quota_in ns u ≡ n.quota
-quota_found [] u n h = absurd (let no : None ≡ Some n = h in cc)
-quota_found (m ∷ ms) u n h = by (eqb m.uid u) h (quota_found ms u n)
-  where
-    by : (b : Bool) → cond b (Some m) (node_in ms u) ≡ Some n
-        → (node_in ms u ≡ Some n → quota_in ms u ≡ n.quota) → cond b m.quota (quota_in ms u) ≡ n.quota
-    by true e rest = let same : m ≡ n = cc in ap (λ (x : Node). x.quota) same
-    by false e rest = rest e
+quota_found ns u n h = sym (field_found (λ ms. quota_in ms u) (λ x. x.quota) u (λ m ms. refl) ns n h)
 
 -- ---- each command
 

@@ -1,5 +1,5 @@
 -- What a processor reads into a frame is for the next command of its process through every action, until it is read.
-use Rattle.std.proofs.Common.{◌≡◌, ◌≢◌, ◌<◌, ℕ, ◌+◌, Bool, true, false, not, ◌&&◌, cond, eqb, is_some, length, List, []}
+use Rattle.std.proofs.Common.{◌≡◌, ◌≢◌, ◌<◌, ℕ, ◌+◌, Bool, true, false, ◌&&◌, cond, eqb, is_some, length, List, []}
 use Rattle.std.proofs.Common.{map, set, Option, Some, None, ◌⊎◌, inl, inr, refl, sym, ap, subst, ◌∙◌, arith}
 use Rattle.std.proofs.Common.{ℤ}
 use Rattle.std.proofs.lemmas.Bool.Decides.{eqb_tells}
@@ -49,6 +49,7 @@ use Rattle.machine_model.specs.State.{State, Storage}
 use Rattle.machine_model.specs.Steps.{fault_told, frame_lost, old_word, page_made, pages_after, started, told}
 use Rattle.machine_model.specs.Steps.{transfer_failed, transferred, with_faults, with_pages, with_store}
 use Rattle.machine_model.specs.Working.{IsReached, MayFailBy}
+use Rattle.machine_model.proofs.ActionCases.{action_by}
 use Rattle.machine_model.proofs.CommandFacts.{LeadsToSegment, truncate_stands}
 use Rattle.machine_model.proofs.CommitKept.{effected}
 use Rattle.machine_model.proofs.CommitRights.{LeavesNames, inactive_names, truncated_names}
@@ -256,16 +257,10 @@ past_any s c (act.EndTransfer t) e = tt
 past_any s c _ e = e
 
 pub is_past : (s : State) (c : ℕ) → IsPast s c (action_of s c)
-unfolding action_of
-is_past s c = pick s.stopped act.IsStopped _ tt (pick (is_over s) act.HasEnded _ tt
-    (pick (not p.cpu.online) act.Online _ tt (clear p.cpu.due)))
+is_past s c = action_by (IsPast s c) s c tt tt (λ off. tt) (λ on. clear p.cpu.due)
   where
     p : Processor
     p = processor_at s.processors c
-
-    pick : (b : Bool) (x y : act.Action) → IsPast s c x → IsPast s c y → IsPast s c (cond b x y)
-    pick true x y f g = f
-    pick false x y f g = g
 
     transfer : (x : Option Transfer) → p.cpu.transfer ≡ x → IsPast s c (transfer_or s c p x)
     transfer (Some t) e = tt

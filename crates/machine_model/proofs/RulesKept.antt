@@ -41,6 +41,7 @@ use Rattle.machine_model.specs.Seen.{shown}
 use Rattle.machine_model.specs.declared.Processor.{Processor}
 use Rattle.machine_model.specs.State.{Owner, State}
 use Rattle.machine_model.specs.Steps.{held_page, held_seg, uid_of_held}
+use Rattle.machine_model.proofs.ActionCases.{action_by}
 use Rattle.machine_model.proofs.FindLaws.{number_new, page_new}
 use Rattle.machine_model.proofs.KeepLaws.{IsNoOwner}
 use Rattle.machine_model.proofs.LookLaws.{look_is}
@@ -48,13 +49,11 @@ use Rattle.machine_model.proofs.RuleKept.{Asks, finish_can, look_can}
 use Rattle.machine_model.proofs.SeatLaws.{CanFillPage, CanFillSeg}
 use Rattle.machine_model.proofs.StepKept.{CanDo, CanLeave, IsMine, after_keeps, to_hold}
 use Rattle.machine_model.proofs.TieLaws.{none_some}
-use Rattle.std.proofs.lemmas.Bool.{not-true, not-false}
+use Rattle.std.proofs.lemmas.Bool.{cond_both, not-true, not-false}
 
--- a choice of two actions
-pick : (s : State) (c : ℕ) (o : Outcome) (b : Bool) (x y : act.Action) → (b ≡ true → Asks s c o x → CanDo s c o x)
-    → (b ≡ false → Asks s c o y → CanDo s c o y) → Asks s c o (cond b x y) → CanDo s c o (cond b x y)
-pick s c o true x y f g = f refl
-pick s c o false x y f g = g refl
+-- an action can be done whose conditions hold
+abbrev Can : State → ℕ → Outcome → act.Action → Type 0
+Can s c o a = Asks s c o a → CanDo s c o a
 
 -- a choice of two moves
 pick_move : (s : State) (c : ℕ) (o : Outcome) (r : Reference) (b : Bool) (x y : Move)
@@ -204,7 +203,7 @@ module _ (s : State) (c : ℕ) (o : Outcome) (k : Keeps s) (there : c < length s
       → p.cpu.process ≡ x
       → Asks s c o (run_process s p x) → CanDo s c o (run_process s p x)
   run_can other on due idle None e = load_can on e s.ready refl
-  run_can other on due idle (Some n) e = pick s c o (has_had_its_turn p && not (is_empty s.ready)) act.Leave _
+  run_can other on due idle (Some n) e = cond_both (has_had_its_turn p && not (is_empty s.ready)) act.Leave _ (Can s c o)
       (λ h asks. leave_can other n e h)
       (λ h. command_can s c o k there other (record { online = on; busy = ap is_some e; clear = due; idle = idle }) n e
       (next_command s n))
@@ -227,7 +226,7 @@ module _ (s : State) (c : ℕ) (o : Outcome) (k : Keeps s) (there : c < length s
   owner_can : p.cpu.online ≡ true → p.cpu.due ≡ None → p.cpu.transfer ≡ None → (x : Option Owner) → s.owner ≡ x
       → Asks s c o (own_or_run s c p x) → CanDo s c o (own_or_run s c p x)
   owner_can on due idle None e = run_can (λ q h. absurd (none_some (sym e ∙ h))) on due idle p.cpu.process refl
-  owner_can on due idle (Some q) e = pick s c o (q.cpu == c) _ _
+  owner_can on due idle (Some q) e = cond_both (q.cpu == c) _ _ (Can s c o)
       (λ same. phase_can (record { owner = q; mine = e; same = eqb_is q.cpu c same }) q.phase refl)
       (λ differ. run_can (λ x h y. eqb_isnt q.cpu c differ
       (ap (λ (z : Owner). z.cpu) (owner_is q x (sym e ∙ h)) ∙ y)) on due idle p.cpu.process refl)
@@ -253,11 +252,8 @@ module _ (s : State) (c : ℕ) (o : Outcome) (k : Keeps s) (there : c < length s
 
   -- what the action of a step asks
   pub action_can : Asks s c o (action_of s c) → CanDo s c o (action_of s c)
-  unfolding action_of
-  action_can = pick s c o s.stopped act.IsStopped _ (λ h asks. tt)
-      (λ h. pick s c o (is_over s) act.HasEnded _ (λ e asks. tt)
-      (λ e. pick s c o (not p.cpu.online) act.Online _ (λ off asks. not-true p.cpu.online off)
-      (λ on. clear_can (not-false p.cpu.online on) p.cpu.due refl)))
+  action_can = action_by (Can s c o) s c (λ asks. tt) (λ asks. tt) (λ off asks. not-true p.cpu.online off)
+      (λ on. clear_can (not-false p.cpu.online on) p.cpu.due refl)
 
   -- Each step keeps the machine's promise, whichever processor makes it.
   pub step_keeps : Asks s c o (action_of s c) → Keeps (after s c (action_of s c) o)

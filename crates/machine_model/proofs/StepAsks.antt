@@ -4,6 +4,7 @@ use Rattle.std.proofs.Common.{◌≡◌, ◌<◌, ℕ, ◌+◌, ◌*◌, Bool, t
 use Rattle.std.proofs.Common.{get_or, length, position, Option, Some, None, inl, inr, refl, sym, ap, subst, ◌∙◌}
 use Rattle.std.proofs.Common.{arith, zero, suc}
 use Rattle.std.specs.Prelude.{◌/◌, ◌%◌, nat_le}
+use Rattle.std.proofs.lemmas.Bool.{cond_both}
 use Rattle.std.proofs.lemmas.Bool.Decides.{eqb_tells}
 use Rattle.site_io.specs.Faults.{Rose}
 use Rattle.script.specs.References.{reference_of}
@@ -54,6 +55,7 @@ use Rattle.machine_model.specs.Reads.{next_command}
 use Rattle.machine_model.specs.Reads.{or_zero, process_at, processor_at}
 use Rattle.machine_model.specs.Said.{Says}
 use Rattle.machine_model.specs.State.{Owner, State}
+use Rattle.machine_model.proofs.ActionCases.{action_by}
 use Rattle.machine_model.proofs.ChainLaws.{going_word, has_head}
 use Rattle.machine_model.proofs.EmptyAsks.{length_asks, victim_asks}
 use Rattle.machine_model.proofs.LookAsks.{activate_asks, answer_asks, connect_asks, create_asks}
@@ -125,11 +127,6 @@ reads_answering s c m there r = let one = speaks s c (process_at s c) m there r.
 
 abbrev Follows : State → ℕ → Outcome → act.Action → Type 0
 Follows s c o a = Says s c o a → Asks s c o a
-
-pick : (s : State) (c : ℕ) (o : Outcome) (b : Bool) (x y : act.Action) → (b ≡ true → Follows s c o x)
-    → (b ≡ false → Follows s c o y) → Follows s c o (cond b x y)
-pick s c o true x y f g = f refl
-pick s c o false x y f g = g refl
 
 some_of : (x : Option ℕ) (n : ℕ) → x ≡ Some n → x ≡ Some (or_zero x)
 some_of x n h = h ∙ ap (λ (y : Option ℕ). Some (or_zero y)) (sym h)
@@ -257,8 +254,8 @@ module _ (s : State) (c : ℕ) (o : Outcome) (m : IsMachine s) (there : c < leng
       by : (xs : List ℕ) → Follows s c o (load_or_idle s xs)
       by [] says = tt
       by (n ∷ ns) says = tt
-  run_follows (Some n) e = pick s c o (has_had_its_turn p && not (is_empty s.ready)) act.Leave
-      (come_to s p.cpu n (next_command s n)) (λ h says. tt)
+  run_follows (Some n) e = cond_both (has_had_its_turn p && not (is_empty s.ready)) act.Leave
+      (come_to s p.cpu n (next_command s n)) (Follows s c o) (λ h says. tt)
       (λ h. subst (λ (j : ℕ). Follows s c o (come_to s p.cpu j (next_command s j))) (ap or_zero e)
       (come_follows (some_of p.cpu.process n e) (next_command s k) refl))
 
@@ -401,8 +398,8 @@ module _ (s : State) (c : ℕ) (o : Outcome) (m : IsMachine s) (there : c < leng
 
   owner_follows : (x : Option Owner) → s.owner ≡ x → Follows s c o (own_or_run s c p x)
   owner_follows None e = run_follows p.cpu.process refl
-  owner_follows (Some q) e = pick s c o (eqb q.cpu c) (go_on_with s k q q.phase) (run_process s p p.cpu.process)
-      (λ h. mine (same h)) (λ h. run_follows p.cpu.process refl)
+  owner_follows (Some q) e = cond_both (eqb q.cpu c) (go_on_with s k q q.phase) (run_process s p p.cpu.process)
+      (Follows s c o) (λ h. mine (same h)) (λ h. run_follows p.cpu.process refl)
     where
       same : eqb q.cpu c ≡ true → q.cpu ≡ c
       same h = elim (eqb_tells q.cpu c) [
@@ -429,8 +426,5 @@ module _ (s : State) (c : ℕ) (o : Outcome) (m : IsMachine s) (there : c < leng
 
   -- What a step asks follows.
   pub step_asks : Follows s c o (action_of s c)
-  unfolding action_of
-  step_asks = pick s c o s.stopped act.IsStopped _ (λ h says. tt)
-      (λ h. pick s c o (is_over s) act.HasEnded _ (λ e says. tt)
-      (λ e. pick s c o (not p.cpu.online) act.Online _ (λ off says. tt)
-      (λ on. clear_follows p.cpu.due)))
+  step_asks = action_by (Follows s c o) s c (λ says. tt) (λ says. tt) (λ off says. tt)
+      (λ on. clear_follows p.cpu.due)

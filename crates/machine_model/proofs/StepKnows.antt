@@ -1,7 +1,8 @@
 -- What the rules know where they choose an action: who owns the supervisor, and whose command it is.
-use Rattle.std.proofs.Common.{◌≡◌, ◌≢◌, ◌<◌, ℕ, Bool, true, false, not, ◌&&◌, cond, eqb, List, [], ◌∷◌}
+use Rattle.std.proofs.Common.{◌≡◌, ◌≢◌, ◌<◌, ℕ, true, false, not, ◌&&◌, eqb, List, [], ◌∷◌}
 use Rattle.std.proofs.Common.{length, position, Option, Some, None, inl, inr, refl, sym, ap, subst, ◌∙◌}
 use Rattle.std.proofs.Common.{◌⊎◌}
+use Rattle.std.proofs.lemmas.Bool.{cond_both}
 use Rattle.std.proofs.lemmas.Bool.Decides.{eqb_tells}
 use Rattle.script.specs.References.{reference_of}
 use Rattle.script.specs.declared.commands.Command.{Command}
@@ -9,6 +10,7 @@ use Rattle.script.specs.declared.commands.Reference.{Reference}
 use Rattle.assoc_mem.specs.declared.What.{What}
 use Rattle.assoc_mem.specs.declared.What.TheVariants as what
 use Rattle.machine_model.specs.Taking.{IsTakenBy, IsTakenFor, TakenIn}
+use Rattle.machine_model.proofs.ActionCases.{action_by}
 use Rattle.machine_model.proofs.JustTaken.{look_taken}
 use Rattle.machine_model.proofs.ReadyLaws.{IsOutOfUse}
 use Rattle.machine_model.proofs.TookKept.{CanTook}
@@ -93,11 +95,6 @@ Knows s c (act.FinishPage f) = IsEmptying s c × AnswersOne s c
 Knows s c act.Commit = Commits s c
 Knows s c _ = Unit {0}
 
-pick : (s : State) (c : ℕ) (b : Bool) (x y : act.Action) → (b ≡ true → Knows s c x)
-    → (b ≡ false → Knows s c y) → Knows s c (cond b x y)
-pick s c true x y f g = f refl
-pick s c false x y f g = g refl
-
 some_of : (x : Option ℕ) (n : ℕ) → x ≡ Some n → x ≡ Some (or_zero x)
 some_of x n h = h ∙ ap (λ (y : Option ℕ). Some (or_zero y)) (sym h)
 
@@ -170,8 +167,8 @@ module _ (s : State) (c : ℕ) (o : Outcome) (m : IsMachine s) (there : c < leng
         by : (xs : List ℕ) → Knows s c (load_or_idle s xs)
         by [] = tt
         by (n ∷ ns) = tt
-    run_knows other (Some n) e = pick s c (has_had_its_turn p && not (is_empty s.ready)) act.Leave
-        (come_to s p.cpu n (next_command s n)) (λ h. tt)
+    run_knows other (Some n) e = cond_both (has_had_its_turn p && not (is_empty s.ready)) act.Leave
+        (come_to s p.cpu n (next_command s n)) (Knows s c) (λ h. tt)
         (λ h. subst (λ (j : ℕ). Knows s c (come_to s p.cpu j (next_command s j))) (ap or_zero e)
         (come_knows other (some_of p.cpu.process n e) (next_command s k) refl))
 
@@ -281,8 +278,8 @@ module _ (s : State) (c : ℕ) (o : Outcome) (m : IsMachine s) (there : c < leng
 
     owner_knows : (x : Option Owner) → s.owner ≡ x → Knows s c (own_or_run s c p x)
     owner_knows None e = run_knows (λ q h. absurd (none_some (sym e ∙ h))) p.cpu.process refl
-    owner_knows (Some q) e = pick s c (eqb q.cpu c) (go_on_with s k q q.phase) (run_process s p p.cpu.process)
-        (λ h. mine (is h)) (λ h. run_knows (others h) p.cpu.process refl)
+    owner_knows (Some q) e = cond_both (eqb q.cpu c) (go_on_with s k q q.phase) (run_process s p p.cpu.process)
+        (Knows s c) (λ h. mine (is h)) (λ h. run_knows (others h) p.cpu.process refl)
       where
         is : eqb q.cpu c ≡ true → q.cpu ≡ c
         is h = elim (eqb_tells q.cpu c) [
@@ -313,8 +310,4 @@ module _ (s : State) (c : ℕ) (o : Outcome) (m : IsMachine s) (there : c < leng
 
     -- What the rules know of the action of a step.
     pub step_knows : Knows s c (action_of s c)
-    unfolding action_of
-    step_knows = pick s c s.stopped act.IsStopped _ (λ h. tt)
-        (λ h. pick s c (is_over s) act.HasEnded _ (λ e. tt)
-        (λ e. pick s c (not p.cpu.online) act.Online _ (λ off. tt)
-        (λ on. clear_knows p.cpu.due)))
+    step_knows = action_by (Knows s c) s c tt tt (λ off. tt) (λ on. clear_knows p.cpu.due)

@@ -18,7 +18,7 @@ use Rattle.seg_control.specs.Control.{is_for, word_of}
 use Rattle.seg_control.specs.Kept.{read_at}
 use Rattle.custody_model.specs.Custody.{Custody}
 use Rattle.custody_model.specs.Fine.{Fine}
-use Rattle.machine_model.specs.Chains.{page_at, without_frame}
+use Rattle.machine_model.specs.Chains.{page_at}
 use Rattle.machine_model.specs.Changes.{back, gone}
 use Rattle.machine_model.specs.Commits.{committed, cut_entry, gone_entries, stays, with_truncated}
 use Rattle.machine_model.specs.Custodial.{IsOwned, IsTied, KeepsBook, is_out, is_pending, names}
@@ -30,6 +30,7 @@ use Rattle.machine_model.specs.Seen.{Seen, bound_use, frame_use, shown}
 use Rattle.machine_model.specs.declared.CutDescriptor.{CutDescriptor}
 use Rattle.machine_model.specs.State.{State, Storage}
 use Rattle.machine_model.specs.Steps.{with_owner}
+use Rattle.machine_model.specs.Jobs.{without_first_frame}
 use Rattle.machine_model.proofs.ChainLaws.{GoesOn, HasGone, IsDone, gone_done, idle_done, back_on, first_finish}
 use Rattle.machine_model.proofs.CommitKept.{effected}
 use Rattle.machine_model.proofs.FrameLaws.{back_keeps, gone_keeps}
@@ -100,8 +101,8 @@ module _ (v : Seen) (words : ℕ → ℕ → Ptw) (k : KeepsBook v) (quiet : Qui
 
 -- the page in a frame is back, or has left it and is stored no more
 abbrev pub leaf : Seen → ℕ → Bool → Seen
-leaf v f true = back v f (page_at v f).0 (page_at v f).1 (without_frame v.owner)
-leaf v f false = gone v f (page_at v f).0 (page_at v f).1 ptw.Null (without_frame v.owner)
+leaf v f true = back v f (page_at v f).0 (page_at v f).1 (without_first_frame v.owner)
+leaf v f false = gone v f (page_at v f).0 (page_at v f).1 ptw.Null (without_first_frame v.owner)
 
 abbrev pub leaves : Seen → (ℕ → Bool) → List ℕ → Seen
 leaves v test [] = v
@@ -110,11 +111,11 @@ leaves v test (f ∷ fs) = leaves (leaf v f (test f)) test fs
 leaf_keeps : (v : Seen) (f : ℕ) (fs : List ℕ) (ds : List CutDescriptor) (b : Bool) → KeepsBook v → GoesOn v (f ∷ fs) ds
     → HasGone (leaf v f b) fs ds
 leaf_keeps v f fs ds true k on = record {
-  book = back_keeps v f (page_at v f).0 (page_at v f).1 (without_frame v.owner) k (first_finish v f fs ds k on);
+  book = back_keeps v f (page_at v f).0 (page_at v f).1 (without_first_frame v.owner) k (first_finish v f fs ds k on);
   on = back_on v f fs ds on;
 }
 leaf_keeps v f fs ds false k on = let back = back_on v f fs ds on in record {
-  book = gone_keeps v f (page_at v f).0 (page_at v f).1 (without_frame v.owner) k
+  book = gone_keeps v f (page_at v f).0 (page_at v f).1 (without_first_frame v.owner) k
       (first_finish v f fs ds k on) ptw.Null refl;
   on = goes_with refl back.none back;
 }

@@ -48,17 +48,21 @@ first_store p words disks = record {
 abbrev pub first_run : Run
 first_run = record { place = 0; tries = 0; ended = false }
 
-abbrev pub booted : Plan → List (List ℕ) → List (List (List ℕ)) → State
-booted p words disks = record {
+-- before the first entry, over a store: each process at its first command, and no processor takes part
+abbrev pub first_state : Plan → Storage → ℕ → ℕ → State
+first_state p st spare faults = record {
   plan = p;
   entries = [];
-  spare = 0;
-  store = first_store p words disks;
+  spare = spare;
+  store = st;
   runs = replicate (length p.processes) first_run;
   ready = ready_at_first p;
   processors = replicate p.processors no_processor;
   owner = None;
   stopped = false;
   visited = 0;
-  faults = 0;
+  faults = faults;
 }
+
+abbrev pub booted : Plan → List (List ℕ) → List (List (List ℕ)) → State
+booted p words disks = first_state p (first_store p words disks) 0 0

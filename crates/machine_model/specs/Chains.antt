@@ -6,6 +6,7 @@ use Rattle.page_table.specs.declared.Ptw.TheVariants as ptw
 use Rattle.machine_model.specs.declared.Aim.{Aim}
 use Rattle.machine_model.specs.Changes.{taken, cut, back, back_seg, gone, gone_seg}
 use Rattle.machine_model.specs.declared.CutDescriptor.{CutDescriptor}
+use Rattle.machine_model.specs.Jobs.{without_first_cut, without_first_frame}
 use Rattle.machine_model.specs.State.{Owner}
 use Rattle.machine_model.specs.Seen.{Seen}
 
@@ -27,37 +28,22 @@ abbrev pub cuts : Seen → ℕ → Aim → What → List CutDescriptor → Seen
 cuts v c aim w [] = v
 cuts v c aim w (d ∷ ds) = cuts (cut v c aim w d) c aim w ds
 
-abbrev pub frames_after : List ℕ → List ℕ
-frames_after [] = []
-frames_after (f ∷ fs) = fs
-
-abbrev pub cut_after : List CutDescriptor → List CutDescriptor
-cut_after [] = []
-cut_after (d ∷ ds) = ds
-
--- an owner without the first frame that it took, and without the first descriptor that it cut
-abbrev pub without_frame : Option Owner → Option Owner
-without_frame None = None
-without_frame (Some o) = Some (record o { frames = frames_after o.frames })
-
-abbrev pub without_cut : Option Owner → Option Owner
-without_cut None = None
-without_cut (Some o) = Some (record o { cut = cut_after o.cut })
-
 -- the pages in some frames are back, in the order in which they were taken; so are some descriptors; or these are gone
 abbrev pub backs : Seen → List ℕ → Seen
 backs v [] = v
-backs v (f ∷ fs) = backs (back v f (page_at v f).0 (page_at v f).1 (without_frame v.owner)) fs
+backs v (f ∷ fs) = backs (back v f (page_at v f).0 (page_at v f).1 (without_first_frame v.owner)) fs
+
+abbrev pub each_seg : (Seen → CutDescriptor → Option Owner → Seen) → Seen → List CutDescriptor → Seen
+each_seg step v [] = v
+each_seg step v (d ∷ ds) = each_seg step (step v d (without_first_cut v.owner)) ds
 
 abbrev pub back_segs : Seen → List CutDescriptor → Seen
-back_segs v [] = v
-back_segs v (d ∷ ds) = back_segs (back_seg v d (without_cut v.owner)) ds
+back_segs v ds = each_seg back_seg v ds
 
 abbrev pub gone_segs : Seen → List CutDescriptor → Seen
-gone_segs v [] = v
-gone_segs v (d ∷ ds) = gone_segs (gone_seg v d (without_cut v.owner)) ds
+gone_segs v ds = each_seg gone_seg v ds
 
 -- the pages in some frames have left them, and are stored no more
 abbrev pub gones : Seen → List ℕ → Seen
 gones v [] = v
-gones v (f ∷ fs) = gones (gone v f (page_at v f).0 (page_at v f).1 ptw.Null (without_frame v.owner)) fs
+gones v (f ∷ fs) = gones (gone v f (page_at v f).0 (page_at v f).1 ptw.Null (without_first_frame v.owner)) fs

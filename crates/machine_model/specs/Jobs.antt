@@ -112,13 +112,15 @@ eviction_begun s c f = take_one (with_store s (with_choice s.store f)) c aim.Evi
 
 -- ---- the last step of a deactivation
 
+-- a list without its first
+abbrev pub rest_of : {A : Type 0} → List A → List A
+rest_of [] = []
+rest_of (x ∷ xs) = xs
+
+-- an owner without the first descriptor that it cut
 abbrev pub without_first_cut : Option Owner → Option Owner
 without_first_cut None = None
 without_first_cut (Some o) = Some (record o { cut = rest_of o.cut })
-  where
-    rest_of : List CutDescriptor → List CutDescriptor
-    rest_of [] = []
-    rest_of (d ∷ ds) = ds
 
 -- the first descriptor that was cut is gone
 abbrev pub seg_gone : State → CutDescriptor → State
@@ -217,13 +219,10 @@ page_gone s f =
     let page = page_in s.store f in
     booked (with_store s (with_left s.store f how page)) (entries_left f how page)
 
+-- an owner without the first frame that it took
 abbrev pub without_first_frame : Option Owner → Option Owner
 without_first_frame None = None
 without_first_frame (Some o) = Some (record o { frames = rest_of o.frames })
-  where
-    rest_of : List ℕ → List ℕ
-    rest_of [] = []
-    rest_of (f ∷ fs) = fs
 
 -- after an eviction the look is made again; a deactivation goes on with the next page
 abbrev pub eviction_done : State → ℕ → ℕ → State

@@ -1,0 +1,18 @@
+-- What is true of the action of a step, by the rules in their order.
+use Rattle.std.proofs.Common.{◌≡◌, ℕ, true, false, not}
+use Rattle.std.proofs.lemmas.Bool.{cond_both}
+use Rattle.machine_model.specs.Actions as act
+use Rattle.machine_model.specs.Actions.{action_of, clear_or, is_over}
+use Rattle.machine_model.specs.Reads.{processor_at}
+use Rattle.machine_model.specs.State.{State}
+
+-- a stopped machine, one whose processes have ended, a processor that comes online, and one that takes part
+pub action_by : (P : act.Action → Type 0) (s : State) (c : ℕ) → P act.IsStopped → P act.HasEnded
+    → (not (processor_at s.processors c).cpu.online ≡ true → P act.Online)
+    → (not (processor_at s.processors c).cpu.online ≡ false
+    → P (clear_or s c (processor_at s.processors c) (processor_at s.processors c).cpu.due))
+    → P (action_of s c)
+unfolding action_of
+action_by P s c stopped ended online clear = cond_both s.stopped act.IsStopped _ P (λ h. stopped)
+    (λ h. cond_both (is_over s) act.HasEnded _ P (λ e. ended)
+    (λ e. cond_both (not (processor_at s.processors c).cpu.online) act.Online _ P online clear))
