@@ -1,6 +1,6 @@
 -- The chain of a node, and the next segment of it that becomes active.
 use Rattle.std.proofs.Common.{◌≡◌, ◌≢◌, ℕ, zero, suc, ◌-◌, ◌<◌, ◌≤◌, true, eqb, List, []}
-use Rattle.std.proofs.Common.{◌∷◌, length, map, Option, Some, None, get_or, set, is_some, refl, sym, ap, subst}
+use Rattle.std.proofs.Common.{◌∷◌, length, Option, Some, None, get_or, set, is_some, refl, sym, ap, subst}
 use Rattle.std.proofs.Common.{◌∙◌, arith, inl, inr}
 use Rattle.std.proofs.lemmas.Bool.{cases_Bool, cases_eq}
 use Rattle.std.proofs.lemmas.List.{get_or-map, get_or-reverse, get_or-set_other, length-map, length-reverse}
@@ -15,7 +15,6 @@ use Rattle.tree_model.specs.Trees.{IsTree}
 use Rattle.tree_model.proofs.TreeLaws.{IsUp, above_once, depth, superior_in, superior_up}
 use Rattle.descriptor_seg.specs.declared.Sdw.TheVariants.{Present}
 use Rattle.descriptor_seg.specs.Descriptors.{sdw_at}
-use Rattle.volumes.specs.Volumes.{HasParts, Vols}
 use Rattle.active_segs.specs.declared.Entry.{Entry}
 use Rattle.active_segs.specs.Active.{ActiveSegs, entry_at, superior_in as superior_of_entry}
 use Rattle.active_segs.specs.Active.{uid_at as uid_in_place, uid_in}
@@ -205,16 +204,6 @@ module _ (now : Plain) (ast : ActiveSegs) (links : Links) (a : AccountMaps) (who
           let within = h.counted.inside (link_at chain i).uid p (link_there i lt) on in
           let room = (link_room i lt).0 in
           absurd (omega (arith, within, room, le))
-
--- there are as many VTOCs as drives
-pub all_drives : {D : Type 0} (pages : D → List (List ℕ)) (v w : Vols D) → w ≡ v
-    → HasParts (map pages w.drives) w.records w.vtocs → length v.vtocs ≤ length v.drives
-all_drives {D} pages v w same parts =
-    let those : HasParts (map pages v.drives) v.records v.vtocs = subst (λ (x : Vols D). HasParts
-    (map pages x.drives) x.records x.vtocs) same parts in
-    let long : length (map pages v.drives) ≡ length v.drives = length-map v.drives pages in
-    let tables : length v.vtocs ≡ length (map pages v.drives) = those.tables in
-    omega (arith, long, tables)
 
 -- ---- what has become of it
 

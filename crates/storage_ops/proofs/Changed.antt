@@ -1,7 +1,7 @@
 -- A store whose nodes are changed, but for where they lie and what they are.
-use Rattle.std.proofs.Common.{◌≡◌, ℕ, ℤ, ◌/◌, ◌%◌, Bool, true, false, cond, eqb, List, [], ◌∷◌, map, Option, Some}
-use Rattle.std.proofs.Common.{None, Result}
-use Rattle.std.proofs.Common.{Ok, Err, get_or, refl, sym, ap, subst, ◌∙◌, ◌<◌, arith, inl, inr}
+use Rattle.std.proofs.Common.{◌≡◌, ℕ, ℤ, ◌/◌, ◌%◌, Bool, true, false, cond, eqb, List, map, Option, Some}
+use Rattle.std.proofs.Common.{None}
+use Rattle.std.proofs.Common.{Ok, get_or, refl, sym, ap, subst, ◌∙◌, ◌<◌, arith, inl, inr}
 use Rattle.std.proofs.lemmas.Bool.{cases_Bool}
 use Rattle.std.proofs.lemmas.Bool.Decides.{nat_tests}
 use Rattle.std.specs.Int.{is_positive}
@@ -11,14 +11,12 @@ use Rattle.mnames.specs.declared.principals.Who.{Who}
 use Rattle.mnames.specs.declared.rows.Row.{Row as Named}
 use Rattle.script.specs.Plans.{Plan}
 use Rattle.book.specs.declared.replies.Reply.{Reply}
-use Rattle.book.specs.declared.replies.Reply.TheVariants as reply
 use Rattle.accounts.specs.Maps.{AccountMaps, Changes, Counts}
 use Rattle.tree_model.specs.Access.{Row, with_row}
 use Rattle.tree_model.specs.Quotas.{getter_of, giver_of}
-use Rattle.tree_model.specs.Tree.{Node, Walk, LeadsTo, Missing, InSegment, above, node_in, pool_for, pool_of, walk_in}
-use Rattle.flat_model.specs.Branches.{branch_at, changed, directory_at, node_at, only_directory, only_segment}
+use Rattle.tree_model.specs.Tree.{Node, above, node_in, pool_for, pool_of}
+use Rattle.flat_model.specs.Branches.{changed, directory_at}
 use Rattle.flat_model.specs.Branches.{segment_at}
-use Rattle.flat_model.specs.Branches.{there_or, walked}
 use Rattle.flat_model.specs.Commands.{takes_effect}
 use Rattle.flat_model.specs.Rights.{after_acl, after_move, moved, nodes_moved, row_with}
 use Rattle.flat_model.specs.Store.{Store}

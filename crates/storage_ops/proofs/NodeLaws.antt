@@ -1,9 +1,6 @@
 -- What is read of a node that is there.
-use Rattle.std.proofs.Common.{Option, is_some, true, ◌≡◌, ℕ, eqb, List, [], ◌∷◌, Some, None, refl, sym, ap}
-use Rattle.std.proofs.Common.{inl, inr}
-use Rattle.std.proofs.lemmas.Bool.{cases_Bool}
-use Rattle.accounts.specs.Maps.{rows_in}
-use Rattle.storage_ops.specs.Shown.{is_there, pages_in, pages_of}
+use Rattle.std.proofs.Common.{Option, is_some, true, ◌≡◌, ℕ, List, Some, None, refl}
+use Rattle.storage_ops.specs.Shown.{is_there}
 use Rattle.tree_model.specs.Tree.{Node, node_in}
 
 -- where a node lies that is there

@@ -19,6 +19,7 @@ use Rattle.page_control.specs.Picture.{is_filed_at}
 use Rattle.page_control.specs.Tied.{has_record, map_at}
 use Rattle.seg_control.specs.Control.{Links, place_of, table_of, word_of}
 use Rattle.seg_control.specs.Kept.{IsKept}
+use Rattle.flat_model.proofs.FieldLaws.{field_found}
 use Rattle.storage_ops.specs.Shown.{IsStore, home_of, is_there, pages_in, pages_of}
 use Rattle.storage_ops.proofs.Homes.{filed_map}
 use Rattle.storage_ops.proofs.Lengths.{filed_there}
@@ -67,12 +68,7 @@ segment_of (n ∷ ns) u t d = elim (cases_Bool (eqb n.uid u)) [
 ]
 
 pub directory_found : (ns : List Node) (u : ℕ) (n : Node) → node_in ns u ≡ Some n → has_directory ns u ≡ n.directory
-directory_found [] u n e = cc
-directory_found (m ∷ ns) u n e = elim (cases_Bool (eqb m.uid u)) [
-  | inl is ↦ (let z : Some m ≡ Some n = rw is at e in let same : m ≡ n = cc in
-      rw is (ap (λ (x : Node). x.directory) same))
-  | inr isnt ↦ rw isnt (directory_found ns u n (rw isnt at e))
-]
+directory_found ns u n e = sym (field_found (λ ms. has_directory ms u) (λ x. x.directory) u (λ m ms. refl) ns n e)
 
 -- the page tables of the pool for so many pages have as many words
 pool_room : (pages : ℕ) → pages ≤ 256 → (pages ≤ 4 ^ (pool_for pages + 1)) × (pool_for pages < 4)

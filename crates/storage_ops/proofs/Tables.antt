@@ -1,7 +1,7 @@
 -- Tables of tables: what stands at a volume and a place there, once one is changed.
-use Rattle.std.proofs.Common.{◌≡◌, ℕ, ◌<◌, List, [], length, map}
+use Rattle.std.proofs.Common.{◌≤◌, ◌≡◌, ℕ, ◌<◌, List, [], length, map}
 use Rattle.std.proofs.Common.{Option, Some, None}
-use Rattle.std.proofs.Common.{sym, ap, subst, ◌∙◌, arith, inl, inr}
+use Rattle.std.proofs.Common.{sym, ap, ◌∙◌, arith, inl, inr}
 use Rattle.std.proofs.lemmas.Bool.{cases_lt}
 use Rattle.std.proofs.lemmas.List.{get_or_past, length-map}
 use Rattle.vtoc.specs.Vtoc.{Entry, entry_at, uid_of}
@@ -30,11 +30,10 @@ homed_entry vtocs home u e = elim (cases_lt home.entry (length (vtoc_in vtocs ho
       let clash : ◌≡◌ {A = Option ℕ} None (Some u) = sym none ∙ e in cc)
 ]
 
-pub drives_there : {D : Type 0} (pages : D → List (List ℕ)) (v w : Vols D) (n : ℕ) → w ≡ v
-    → HasParts (map pages w.drives) w.records w.vtocs → n < length v.vtocs → n < length v.drives
-drives_there pages v w n same parts lt =
-    let those : HasParts (map pages v.drives) v.records v.vtocs = subst (λ (x : Vols _). HasParts
-    (map pages x.drives) x.records x.vtocs) same parts in
+-- there are as many VTOCs as drives
+pub all_drives : {D : Type 0} (pages : D → List (List ℕ)) (v : Vols D)
+    → HasParts (map pages v.drives) v.records v.vtocs → length v.vtocs ≤ length v.drives
+all_drives pages v parts =
     let long : length (map pages v.drives) ≡ length v.drives = length-map v.drives pages in
-    let tables : length v.vtocs ≡ length (map pages v.drives) = those.tables in
-    omega (arith, lt, long, tables)
+    let tables : length v.vtocs ≡ length (map pages v.drives) = parts.tables in
+    omega (arith, long, tables)

@@ -1,22 +1,19 @@
 -- What a store has between calls, what is true of it, and which flat store it shows (Bensoussan, Clingen and Daley
 -- 1972; Organick 1972; the picture and the counts from scratch are own).
-use Rattle.std.specs.Prelude.{◌≡◌, ◌≢◌, ℕ, ℤ, ◌<◌, ◌≤◌, ◌/◌, ◌%◌, Bool, true, false, ◌&&◌, if◌then◌else◌, is_some}
+use Rattle.std.specs.Prelude.{◌≡◌, ◌≢◌, ℕ, ◌<◌, ◌≤◌, ◌/◌, ◌%◌, Bool, true, false, ◌&&◌, if◌then◌else◌, is_some}
 use Rattle.std.specs.Prelude.{map, replicate, length}
-use Rattle.std.specs.Prelude.{slice_index_or, count_by, List, Option, None, Some, Result, Ok}
+use Rattle.std.specs.Prelude.{slice_index_or, count_by, List, Option, None, Some, Ok}
 use Rattle.mnames.specs.declared.principals.Who.{Who}
 use Rattle.mnames.specs.declared.modes.Mode.{Mode}
 use Rattle.script.specs.Plans.{Plan, nobody}
 use Rattle.book.specs.declared.replies.Reply.{Reply}
 use Rattle.book.specs.declared.replies.Reply.TheVariants as reply
-use Rattle.tree_model.specs.Access.{Row, access_of}
-use Rattle.tree_model.specs.Tree.{Node, entries_on, has_directory, node_in, pool_of, quota_in, taken_on, volume_in}
-use Rattle.dir_tree.specs.declared.node.Node.{Node as Branch}
-use Rattle.dir_tree.specs.Nodes.{as_term}
+use Rattle.tree_model.specs.Access.{access_of}
+use Rattle.tree_model.specs.Tree.{Node, entries_on, has_directory, node_in, pool_of, taken_on, volume_in}
 use Rattle.known_segs.specs.Known.{uid_of}
-use Rattle.accounts.specs.Maps.{AccountMaps, Changes, Counts, count_of, entry_of, with_row_in}
-use Rattle.flat_model.specs.Branches.{directory_at, segment_at}
+use Rattle.accounts.specs.Maps.{AccountMaps, Counts, count_of, entry_of}
+use Rattle.flat_model.specs.Branches.{segment_at}
 use Rattle.flat_model.specs.Commands.{takes_effect}
-use Rattle.flat_model.specs.Rights.{nodes_moved}
 use Rattle.flat_model.specs.Pages.{is_stored, IsOnce}
 use Rattle.flat_model.specs.Store.{Store, records_of, entries_of}
 use Rattle.descriptor_seg.specs.declared.Sdw.TheVariants.{Present}

@@ -12,7 +12,7 @@ ghost use Rattle.flat_model.specs.Store.{Store as Flat};
 ghost use Rattle.storage_ops.specs.Connecting.{AreRights, HasOneToGo, IsChainDown, IsRight};
 ghost use Rattle.storage_ops.specs.Shown.{Shows, is_there};
 
-use crate::store::Store;
+use crate::store::{Store, look};
 use mnames::Mode;
 use seg_control::{Link, Next};
 use volumes::Drive;
@@ -48,7 +48,7 @@ impl<D: Drive> Store<D> {
         } }
         ensures shown { (p : Plan) (s : Flat) → Shows D.pages p s self.old → Shows D.pages p s self.new }
     {
-        let _kept = self.segs.pages();
+        look(&self.segs);
         self.segs.connect(process, number, uid, mode, pages);
     }
 
@@ -84,8 +84,7 @@ impl<D: Drive> Store<D> {
         ensures shown { (p : Plan) (s : Flat) → Shows D.pages p s self.old → Shows D.pages p s self.new }
     {
         let _root = self.accounts.root();
-        let _kst = self.segs.trailers();
-        let _count = self.segs.pages().volumes().count();
+        look(&self.segs);
         self.segs.activate_next(chain)
     }
 }

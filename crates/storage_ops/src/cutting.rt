@@ -17,7 +17,7 @@ ghost use Rattle.storage_ops.specs.Cut.{Unstores, is_here, leaves};
 ghost use Rattle.storage_ops.specs.CutOff.{CountsOthers, LosesPage, cut_at, cut_by, is_cleared, page_cleared};
 ghost use Rattle.storage_ops.specs.CutOff.{paged, pages_cut, pages_from};
 
-use crate::store::Store;
+use crate::store::{Store, look};
 use active_segs::Ast;
 use book::Reply;
 use mnames::Path;
@@ -71,7 +71,7 @@ impl<D: Drive> Store<D> {
         requires idle { IsNotStarted self.old.segs.pages.core uid page }
         ensures { LosesPage D.pages self.old self.new uid page }
     {
-        let _kept = self.segs.pages();
+        look(&self.segs);
         self.segs.drop_page(uid, page, home);
         self.accounts.credit(uid, 1);
     }
@@ -84,7 +84,7 @@ impl<D: Drive> Store<D> {
         requires idle { IsNotStarted self.old.segs.pages.core uid page }
         ensures { LosesPage D.pages self.old self.new uid page }
     {
-        let _kept = self.segs.pages();
+        look(&self.segs);
         if is_away(word_of(self.segs.ast(), uid, page)) {
             self.drop_page(uid, page, home);
         }
@@ -101,7 +101,7 @@ impl<D: Drive> Store<D> {
             (home_of self.old.accounts uid) uid (pages_from from (pages_in self.old.accounts.nodes uid)) }
         ensures others { CountsOthers self.old.accounts self.new.accounts uid }
     {
-        let _kept = self.segs.pages();
+        look(&self.segs);
         let home = self.home(uid);
         for page in from..pages_of(&self.accounts, uid) {
             self.unstore(uid, page, home);
@@ -125,7 +125,7 @@ impl<D: Drive> Store<D> {
         ensures told { result ≡ is_cleared (paged D.pages self.old uid) at (word_of self.old.segs.ast uid page) }
         ensures others { CountsOthers self.old.accounts self.new.accounts uid }
     {
-        let _kept = self.segs.pages();
+        look(&self.segs);
         match leaves(word_of(self.segs.ast(), uid, page)) {
             Some(f) => self.segs.cut_from(f, at),
             None => false,
@@ -144,7 +144,7 @@ impl<D: Drive> Store<D> {
             (word_of self.old.segs.ast uid (words / 1024)) }
         ensures others { CountsOthers self.old.accounts self.new.accounts uid }
     {
-        let _kept = self.segs.pages();
+        look(&self.segs);
         let home = self.home(uid);
         let page = words / PAGE;
         if self.clear_page(uid, page, words % PAGE) {

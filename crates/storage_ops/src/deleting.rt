@@ -20,7 +20,7 @@ ghost use Rattle.storage_ops.specs.Cut.{IsRemovable, IsRemovableAt, KeepsRest, T
 ghost use Rattle.storage_ops.specs.CutOff.{Erases, paged, put_out};
 
 use crate::replies::refusal;
-use crate::store::Store;
+use crate::store::{Store, look};
 use accounts::Accounts;
 use book::Reply;
 use mnames::Path;
@@ -85,7 +85,7 @@ impl<D: Drive> Store<D> {
             → paged D.pages self.new uid ≡ paged D.pages self.old uid }
         ensures home { home_of self.new.accounts uid ≡ home_of self.old.accounts uid }
     {
-        let _kept = self.segs.pages();
+        look(&self.segs);
         let Some(place) = self.segs.ast().search(uid) else {
             return;
         };
@@ -109,7 +109,7 @@ impl<D: Drive> Store<D> {
         ensures core { self.new.segs.pages.core ≡ self.old.segs.pages.core }
     {
         let _root = self.accounts.root();
-        let _kept = self.segs.pages();
+        look(&self.segs);
         let home = self.home(uid);
         uncount(&mut self.accounts, uid);
         self.segs.erase(home);

@@ -10,7 +10,7 @@ ghost use Rattle.storage_ops.specs.CutOff.{TakesHome};
 ghost use Rattle.storage_ops.specs.Shown.{Shows, answered, refusal, with_vtocs};
 
 use crate::replies::refusal;
-use crate::store::Store;
+use crate::store::{Store, look};
 use acl::Acl;
 use book::Reply;
 use dir_tree::{AddFault, NewNode};
@@ -71,7 +71,7 @@ impl<D: Drive> Store<D> {
           segs = with_vtocs self.old.segs self.new.segs.pages.volumes.vtocs;
         } }
     {
-        let _kept = self.segs.pages();
+        look(&self.segs);
         match self.accounts.may_add(superior, &new.name, new.dir) {
             Ok(()) => {}
             Err(AddFault::Exists) => return Reply::Exists,

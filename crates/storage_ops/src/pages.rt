@@ -25,7 +25,7 @@ ghost use Rattle.flat_model.specs.References.{written};
 ghost use Rattle.flat_model.specs.Store.{Store as Flat};
 ghost use Rattle.storage_ops.specs.Shown.{Shows, pages_in};
 
-use crate::store::Store;
+use crate::store::{Store, look};
 use mword::Word;
 use page_control::Home;
 use page_table::Ptw;
@@ -70,7 +70,7 @@ impl<D: Drive> Store<D> {
             (1024 * number_in (frame_at self.old.segs.pages.core f) + at) }
         ensures shown { (p : Plan) (s : Flat) → Shows D.pages p s self.old → Shows D.pages p s self.new }
     {
-        let _kept = self.segs.pages();
+        look(&self.segs);
         self.segs.word(f, at)
     }
 
@@ -86,7 +86,7 @@ impl<D: Drive> Store<D> {
         ensures zeros { (plan : Plan) (s : Flat) → Shows D.pages plan s self.now → result ≡ Null → (at : ℕ) → at < 1024
             → s.words uid (1024 * p + at) ≡ 0 }
     {
-        let _kept = self.segs.pages();
+        look(&self.segs);
         let ast = self.segs.ast();
         match ast.search(uid) {
             Some(place) => ast.table(place).get(p),
@@ -112,7 +112,7 @@ impl<D: Drive> Store<D> {
             → Shows D.pages p (written s (uid_in (frame_at self.old.segs.pages.core f))
             (1024 * number_in (frame_at self.old.segs.pages.core f) + at) w) self.new }
     {
-        let _kept = self.segs.pages();
+        look(&self.segs);
         self.segs.put_word(f, at, w);
     }
 

@@ -12,7 +12,7 @@ ghost use Rattle.storage_ops.specs.References.{brings_word, outside_by, outside_
 ghost use Rattle.storage_ops.specs.References.{room_by, room_in, room_refusal, target, want_of_room};
 ghost use Rattle.storage_ops.specs.Shown.{IsFound, IsThere, Shows, is_filed, is_there, refusal};
 
-use crate::store::Store;
+use crate::store::{Store, look};
 use book::Reply;
 use dir_tree::Node;
 use mnames::Who;
@@ -135,7 +135,7 @@ impl<D: Drive> Store<D> {
         ensures shown { (p : Plan) (s : Flat) → Shows D.pages p s self.now
             → result ≡ room_refusal p s process reference.now }
     {
-        let _kept = self.segs.pages();
+        look(&self.segs);
         match self.target(process, reference) {
             Ok(node) => self.room_in(node, reference),
             Err(_) => None,
@@ -148,7 +148,7 @@ impl<D: Drive> Store<D> {
         ensures { (p : Plan) (s : Flat) → Shows D.pages p s self.now
             → result ≡ refusal (reply_to_reference p s process reference.now) }
     {
-        let _kept = self.segs.pages();
+        look(&self.segs);
         match self.target(process, reference) {
             Ok(node) => self.room_in(node, reference),
             Err(reply) => Some(reply),

@@ -11,7 +11,7 @@ ghost use Rattle.flat_model.specs.Store.{boot};
 ghost use Rattle.storage_ops.specs.Shown.{AreFresh, Shows, empty_frames};
 
 use crate::NoMemory;
-use crate::store::Store;
+use crate::store::{Store, look};
 use accounts::Accounts;
 use mnames::Who;
 use page_control::Pages;
@@ -56,7 +56,7 @@ impl<D: Drive> Store<D> {
         let accounts = Accounts::new(alloc, 0, 0, script.quota())?;
         let pages = Pages::new(alloc, script.frames(), volumes)?;
         let mut segs = Segs::new(alloc, pages, script.pools(), processes)?;
-        let _kept = segs.pages();
+        look(&segs);
         let Some(entry) = segs.new_home(0, 1) else {
             unreachable!();
         };

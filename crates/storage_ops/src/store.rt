@@ -1,7 +1,8 @@
-ghost use Rattle.std.specs.Prelude.{◌≡◌, ◌<◌, length, true};
+ghost use Rattle.std.specs.Prelude.{◌≡◌, ◌<◌, length, map, true};
 ghost use Rattle.page_control.specs.Plain.{plain};
-ghost use Rattle.seg_control.specs.Kept.{IsHomeOf};
+ghost use Rattle.seg_control.specs.Kept.{IsHomeOf, IsKept};
 ghost use Rattle.storage_ops.specs.Shown.{IsStore, home_of, is_there};
+ghost use Rattle.volumes.specs.Volumes.{HasParts};
 
 use accounts::Accounts;
 use mnames::Who;
@@ -68,7 +69,7 @@ impl<D: Drive> Store<D> {
         ensures volume { result.volume < length self.now.segs.pages.volumes.drives }
         ensures own { IsHomeOf self.now.segs.pages.volumes.vtocs uid result }
     {
-        let _count = self.segs.pages().volumes().count();
+        look(&self.segs);
         match self.accounts.node(uid) {
             Some(node) => Home {
                 volume: node.volume,
@@ -77,4 +78,13 @@ impl<D: Drive> Store<D> {
             None => unreachable!(),
         }
     }
+}
+
+/// What is true between calls of segment control, and of the volumes below it, is told here.
+pub(crate) fn look<D: Drive>(segs: &Segs<D>)
+    ensures kept { IsKept (plain D.pages segs.now.pages) segs.now.ast segs.now.links }
+    ensures parts { HasParts (map D.pages segs.now.pages.volumes.drives) segs.now.pages.volumes.records
+        segs.now.pages.volumes.vtocs }
+{
+    let _count = segs.pages().volumes().count();
 }

@@ -28,7 +28,7 @@ ghost use Rattle.flat_model.specs.Store.{Store as Flat};
 ghost use Rattle.storage_ops.specs.Paged.{IsKnownAs, IsPageMade, IsSettled, MayCreate, done_or, page_left, page_made};
 ghost use Rattle.storage_ops.specs.Shown.{Shows, ShowsTree, pages_in};
 
-use crate::store::Store;
+use crate::store::{Store, look};
 use accounts::Accounts;
 use book::Reply;
 use mword::Word;
@@ -95,7 +95,7 @@ impl<D: Drive> Store<D> {
         ensures shown { (p : Plan) (s : Flat) → Shows D.pages p s self.old
             → Shows D.pages p (page_left s uid (number_in (frame_at self.old.segs.pages.core f)) result) self.new }
     {
-        let _kept = self.segs.pages();
+        look(&self.segs);
         let left = self.segs.evict(uid, home, f);
         settle(&mut self.accounts, uid, &left);
         left
@@ -150,7 +150,7 @@ impl<D: Drive> Store<D> {
             → Shows D.pages p (page_made s uid page at w) self.new) }
         ensures err { OnErr result (self.new ≡ self.old) }
     {
-        let _kept = self.segs.pages();
+        look(&self.segs);
         let home = self.home(uid);
         if self.is_full(home.volume) {
             return Err(full_reply(&self.accounts, uid));

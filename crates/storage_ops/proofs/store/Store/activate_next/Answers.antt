@@ -1,11 +1,12 @@
-use Rattle.std.proofs.Common.{◌≡◌, ℕ, length, sym, ap, subst, ◌∙◌}
-use Rattle.page_control.specs.Plain.{Paging, plain}
+use Rattle.std.proofs.Common.{◌≡◌, ℕ, length, sym, subst}
+use Rattle.page_control.specs.Plain.{plain}
 use Rattle.seg_control.specs.declared.Next.TheVariants as Next
 use Rattle.seg_control.specs.Next.{IsGoing, IsNext}
 use Rattle.storage_ops.specs.Connecting.{HasOneToGo, IsChainDown}
 use Rattle.storage_ops.specs.Shown.{Storage}
 use Rattle.storage_ops.proofs.Held.{held, shown_held}
-use Rattle.storage_ops.proofs.ChainDown.{all_drives, may_activate, shown_next, store_next}
+use Rattle.storage_ops.proofs.ChainDown.{may_activate, shown_next, store_next}
+use Rattle.storage_ops.proofs.Tables.{all_drives}
 use Rattle.storage_ops.proofs.store.Store.activate_next.Goals as goal
 
 pub activate_next-requires : goal.activate_next-requires
@@ -17,9 +18,7 @@ activate_next-requires g c =
     c.requires.off in
     may_activate (plain g.D.Drive.pages t.segs.pages) t.segs.ast t.segs.links t.accounts t.whos c.args.chain.now
     c.self.invariant c.root-root.ensures.tree down (length t.segs.pages.volumes.drives)
-    (all_drives g.D.Drive.pages t.segs.pages.volumes c.volumes.result.now
-    (c.volumes.ensures.volumes ∙ ap (λ (x : Paging g.row.D.Denot). x.volumes) c.pages.ensures.pages)
-    c.count-count.ensures.parts) off
+    (all_drives g.D.Drive.pages t.segs.pages.volumes c.look.ensures.parts) off
 
 pub returns-clause-next : goal.returns-clause-next
 returns-clause-next g c =
@@ -37,7 +36,7 @@ invariant_of-self g c =
     let down = subst (λ (x : Storage g.row.D.Denot). IsChainDown x.accounts c.args.chain.now) (sym c.self.view_is)
     c.requires.chain in
     store_next g.D.Drive.pages t.segs c.activate_next.new.self t.accounts t.whos c.args.chain.now
-    c.activate_next.result c.activate_next.ensures.next c.root-root.ensures.tree down c.trailers-kst.ensures.linked
+    c.activate_next.result c.activate_next.ensures.next c.root-root.ensures.tree down c.look.ensures.kept.linked
     c.self.invariant
 
 pub returns-clause-shown : goal.returns-clause-shown

@@ -35,12 +35,12 @@ word g c = leaving_is (word_of c.self.inside.segs.ast c.args.uid c.args.page) c.
 bound : (g : Over) (c : In-Some g) → binding_at (bindings c.self.inside.segs.pages.core) c.in-Some.f
     ≡ Some (c.args.uid, c.args.page)
 bound g c = leaving_bound (plain g.D.Drive.pages c.self.inside.segs.pages) c.self.inside.segs.ast
-    c.self.inside.segs.links c.self.inside.accounts c.self.inside.whos.items c.pages-kept.ensures.kept c.self.invariant
+    c.self.inside.segs.links c.self.inside.accounts c.self.inside.whos.items c.look.ensures.kept c.self.invariant
     c.args.uid c.args.page c.in-Some.f (active_held c.self.view_is c.args.uid c.requires.active) (word g c)
 
 there : (g : Over) (c : In-Some g) → is_there c.self.inside.accounts.nodes c.args.uid ≡ true
 there g c = active_there (plain g.D.Drive.pages c.self.inside.segs.pages) c.self.inside.segs.ast
-    c.self.inside.segs.links c.self.inside.accounts c.self.inside.whos.items c.pages-kept.ensures.kept c.self.invariant
+    c.self.inside.segs.links c.self.inside.accounts c.self.inside.whos.items c.look.ensures.kept c.self.invariant
     c.args.uid (active_held c.self.view_is c.args.uid c.requires.active)
 
 -- its words are those of its frame, before
@@ -48,7 +48,7 @@ before : (g : Over) (c : In-Some g) → picture c.self.inside.accounts
     (words_at (plain g.D.Drive.pages c.self.inside.segs.pages)) c.args.uid c.args.page
     ≡ words_in (plain g.D.Drive.pages c.self.inside.segs.pages) c.in-Some.f
 before g c = picture_bound (plain g.D.Drive.pages c.self.inside.segs.pages) c.self.inside.segs.ast
-    c.self.inside.segs.links c.self.inside.accounts c.self.inside.whos.items c.pages-kept.ensures.kept c.self.invariant
+    c.self.inside.segs.links c.self.inside.accounts c.self.inside.whos.items c.look.ensures.kept c.self.invariant
     c.args.uid c.args.page c.in-Some.f (active_held c.self.view_is c.args.uid c.requires.active) (word g c)
 
 -- and after
@@ -74,7 +74,7 @@ off : (g : Over) (c : In-None g) (p : Plan) (s : Flat) → Shows g.D.Drive.pages
     → is_stored s.stored c.args.uid c.args.page ≡ false
 off g c p s shown = shown.pages.stored c.args.uid c.args.page
     ∙ word_filed (plain g.D.Drive.pages c.self.inside.segs.pages) c.self.inside.segs.ast c.self.inside.segs.links
-    c.self.inside.accounts c.self.inside.whos.items c.pages-kept.ensures.kept c.self.invariant c.args.uid
+    c.self.inside.accounts c.self.inside.whos.items c.look.ensures.kept c.self.invariant c.args.uid
     (active_held c.self.view_is c.args.uid c.requires.active) c.args.page ∙ ap has_record (null g c)
 
 pub cut_from-requires-clause-bound : goal.cut_from-requires-clause-bound
@@ -106,7 +106,7 @@ returns-in-Some-clause-zero g c = λ p s h.
     let shown = shown_held c.self.view_is g.D.Drive.pages p s h in
     cut_told t.accounts t.segs.pages.volumes.vtocs (words_at now) _ c.args.uid c.args.page c.args.at
     (words_in now c.in-Some.f) (there g some) (before g some) (after g c) s c.cut_from.result shown.pages
-    (word_filed now t.segs.ast t.segs.links t.accounts t.whos c.pages-kept.ensures.kept c.self.invariant c.args.uid
+    (word_filed now t.segs.ast t.segs.links t.accounts t.whos c.look.ensures.kept c.self.invariant c.args.uid
     (active_held c.self.view_is c.args.uid c.requires.active) c.args.page ∙ ap has_record (word g some)) c.requires.at
     (frame_told now c.in-Some.f c.args.at c.cut_from.result _ c.cut_from.ensures.cut c.cut_from.ensures.zero)
 
@@ -118,7 +118,7 @@ returns-in-None-clause-shown g c = λ p s h.
     let shown = shown_held c.self.view_is g.D.Drive.pages p s h in
     subst (λ (x : Flat). Shows g.D.Drive.pages p x c.args.self.now)
     (sym (cleared_absent s c.args.uid c.args.page c.args.at (λ o at.
-    blank_shown g.D.Drive.pages p s (held c.self.view_is) c.pages-kept.ensures.kept c.self.invariant shown c.args.uid o
+    blank_shown g.D.Drive.pages p s (held c.self.view_is) c.look.ensures.kept c.self.invariant shown c.args.uid o
     (ap (is_stored s.stored c.args.uid) at ∙ off g c p s shown)))) h
 
 pub returns-in-None-clause-zero : goal.returns-in-None-clause-zero

@@ -20,7 +20,7 @@ home-home-requires g c =
     c.requires.past.active in
     ap (λ (x : Storage g.row.D.Denot). is_there x.accounts.nodes c.args.uid) (sym c.self.view_is)
     ∙ active_there (plain g.D.Drive.pages c.self.inside.segs.pages) c.self.inside.segs.ast c.self.inside.segs.links
-    c.self.inside.accounts c.self.inside.whos.items c.pages-kept.ensures.kept c.self.invariant c.args.uid active
+    c.self.inside.accounts c.self.inside.whos.items c.look.ensures.kept c.self.invariant c.args.uid active
 
 pub drop_page-requires-clause-home : goal.drop_page-requires-clause-home
 drop_page-requires-clause-home g c = c.home-home.ensures.home

@@ -23,7 +23,7 @@ home-home-requires g c =
     let active = active_held c.self.view_is c.args.uid c.requires.active in
     ap (λ (x : Storage g.row.D.Denot). is_there x.accounts.nodes c.args.uid) (sym c.self.view_is)
     ∙ active_there (plain g.D.Drive.pages c.self.inside.segs.pages) c.self.inside.segs.ast c.self.inside.segs.links
-    c.self.inside.accounts c.self.inside.whos.items c.pages-kept.ensures.kept c.self.invariant c.args.uid active
+    c.self.inside.accounts c.self.inside.whos.items c.look.ensures.kept c.self.invariant c.args.uid active
 
 pub loop-page-init : goal.loop-page-init
 loop-page-init g c =
@@ -32,7 +32,7 @@ loop-page-init g c =
           let shown = shown_held c.self.view_is g.D.Drive.pages p s h in
           subst (λ (x : Flat). Shows g.D.Drive.pages p x c.args.self.now)
           (sym (none_between s c.args.uid c.args.from
-          (blank_shown g.D.Drive.pages p s t c.pages-kept.ensures.kept c.self.invariant shown))) h,
+          (blank_shown g.D.Drive.pages p s t c.look.ensures.kept c.self.invariant shown))) h,
       unstores_same c.args.self.now c.args.self.now c.args.uid (λ q. false) (between c.args.from c.args.from)
           (λ q. between_none c.args.from q) (unstores_none c.args.self.now c.args.uid),
       omega arith,
@@ -94,7 +94,7 @@ returns-clause-shown g c = λ p s h.
     let t = held c.self.view_is in
     let now = plain g.D.Drive.pages t.segs.pages in
     let active = active_held c.self.view_is c.args.uid c.requires.active in
-    let there = active_there now t.segs.ast t.segs.links t.accounts t.whos c.pages-kept.ensures.kept c.self.invariant
+    let there = active_there now t.segs.ast t.segs.links t.accounts t.whos c.look.ensures.kept c.self.invariant
     c.args.uid active in
     let shown = shown_held c.self.view_is g.D.Drive.pages p s h in
     let size : pages_in t.accounts.nodes c.args.uid ≡ c.pages_of-page-end.result = sym c.pages_of-page-end.ensures in
@@ -102,7 +102,7 @@ returns-clause-shown g c = λ p s h.
     omega (arith, size, c.loop-page-test.false) in
     subst (λ (x : Flat). Shows g.D.Drive.pages p x c.loop-page.self)
     (all_between s c.args.uid c.args.from c.loop-page.page
-    (blank_shown g.D.Drive.pages p s t c.pages-kept.ensures.kept c.self.invariant shown)
+    (blank_shown g.D.Drive.pages p s t c.look.ensures.kept c.self.invariant shown)
     (λ q on. (let lt : q < pages_in t.accounts.nodes c.args.uid =
     c.self.invariant.counted.inside c.args.uid q there
     (sym (filed_there t.accounts t.segs.pages.volumes.vtocs c.args.uid q there) ∙ sym (shown.pages.stored c.args.uid q)
@@ -117,15 +117,15 @@ returns-clause-rest g c =
     let size : pages_in t.accounts.nodes c.args.uid ≡ c.pages_of-page-end.result = sym c.pages_of-page-end.ensures in
     let past : pages_in t.accounts.nodes c.args.uid ≤ c.loop-page.page =
     omega (arith, size, c.loop-page-test.false) in
-    let off = past_unfiled now t.segs.ast t.segs.links t.accounts t.whos c.pages-kept.ensures.kept c.self.invariant
+    let off = past_unfiled now t.segs.ast t.segs.links t.accounts t.whos c.look.ensures.kept c.self.invariant
     c.args.uid active c.loop-page.page past in
     unstores_past c.args.self.now c.loop-page.self c.args.uid c.args.from c.loop-page.page c.loop-page.invariant.1
     (λ q le. ap (λ (x : Storage g.row.D.Denot). word_of x.segs.ast c.args.uid q) (sym c.self.view_is)
     ∙ unrecorded (word_of t.segs.ast c.args.uid q) (sym (word_filed now t.segs.ast t.segs.links t.accounts t.whos
-    c.pages-kept.ensures.kept c.self.invariant c.args.uid active q) ∙ off q le))
+    c.look.ensures.kept c.self.invariant c.args.uid active q) ∙ off q le))
     (λ q le. subst (λ (x : Storage g.row.D.Denot). (f : ℕ) → binding_at (bindings x.segs.pages.core) f
     ≢ Some (c.args.uid, q)) c.self.view_is
-    (unfiled_unframed now t.segs.ast t.segs.links t.accounts t.whos c.pages-kept.ensures.kept c.self.invariant
+    (unfiled_unframed now t.segs.ast t.segs.links t.accounts t.whos c.look.ensures.kept c.self.invariant
     c.args.uid q (off q le)))
 
 pub returns-clause-exact : goal.returns-clause-exact

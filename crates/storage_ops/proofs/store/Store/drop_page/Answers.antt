@@ -13,25 +13,25 @@ use Rattle.storage_ops.specs.CutOff.{LosesPage}
 use Rattle.accounts.specs.Maps.{count_of}
 use Rattle.storage_ops.proofs.CutExactly.{dropped_exactly, other_counts}
 use Rattle.storage_ops.proofs.store.Store.drop_page.Given.{Over}
-use Rattle.storage_ops.proofs.store.Store.drop_page.Goals.{After-credit, After-pages-kept}
+use Rattle.storage_ops.proofs.store.Store.drop_page.Goals.{After-credit, After-look}
 use Rattle.storage_ops.proofs.store.Store.drop_page.Goals as goal
 
-away : (g : Over) (c : After-pages-kept g)
+away : (g : Over) (c : After-look g)
     → is_away (word_of c.self.inside.segs.ast c.args.uid c.args.page) ≡ true
 away g c = ap is_away (word_held c.self.view_is c.args.uid c.args.page) ∙ c.requires.away
 
 -- what is true of the page before
-may : (g : Over) (c : After-pages-kept g) → MayDrop (plain g.D.Drive.pages c.self.inside.segs.pages)
+may : (g : Over) (c : After-look g) → MayDrop (plain g.D.Drive.pages c.self.inside.segs.pages)
     c.self.inside.segs.ast c.self.inside.accounts c.args.uid c.args.page
 may g c = may_drop (plain g.D.Drive.pages c.self.inside.segs.pages) c.self.inside.segs.ast c.self.inside.segs.links
-    c.self.inside.accounts c.self.inside.whos.items c.args.uid c.args.page c.pages-kept.ensures.kept c.self.invariant
+    c.self.inside.accounts c.self.inside.whos.items c.args.uid c.args.page c.look.ensures.kept c.self.invariant
     (active_held c.self.view_is c.args.uid c.requires.active) (away g c)
 
 -- and what was done to it
 done : (g : Over) (c : After-credit g) → HasDropped (plain g.D.Drive.pages c.self.inside.segs.pages)
     (plain g.D.Drive.pages c.drop_page.new.self.pages) c.self.inside.accounts c.credit.new.self c.args.uid c.args.page
 done g c =
-    let before = may g (goal.at.returns g c).After-pages-kept in
+    let before = may g (goal.at.returns g c).After-look in
     drop_done (plain g.D.Drive.pages c.self.inside.segs.pages) (plain g.D.Drive.pages c.drop_page.new.self.pages)
     c.self.inside.accounts c.credit.new.self c.args.uid c.args.page c.args.home _
     (home_held c.self.view_is c.args.uid c.args.home c.requires.home) before.there before.filed
@@ -39,19 +39,19 @@ done g c =
     c.drop_page.ensures.counts c.credit.ensures
 
 pub drop_page-requires-clause-page : goal.drop_page-requires-clause-page
-drop_page-requires-clause-page g c = (may g (goal.at.drop_page-requires-clause-page g c).After-pages-kept).within
+drop_page-requires-clause-page g c = (may g (goal.at.drop_page-requires-clause-page g c).After-look).within
 
 pub drop_page-requires-clause-home : goal.drop_page-requires-clause-home
 drop_page-requires-clause-home g c =
     inl (subst (λ (h : Home). IsHomeOf c.self.inside.segs.pages.volumes.vtocs c.args.uid h)
     (sym (home_held c.self.view_is c.args.uid c.args.home c.requires.home))
-    (may g (goal.at.drop_page-requires-clause-home g c).After-pages-kept).home)
+    (may g (goal.at.drop_page-requires-clause-home g c).After-look).home)
 
 pub credit-requires-clause-segment : goal.credit-requires-clause-segment
-credit-requires-clause-segment g c = (may g (goal.at.credit-requires-clause-segment g c).After-pages-kept).segment
+credit-requires-clause-segment g c = (may g (goal.at.credit-requires-clause-segment g c).After-look).segment
 
 pub credit-requires-clause-stored : goal.credit-requires-clause-stored
-credit-requires-clause-stored g c = (may g (goal.at.credit-requires-clause-stored g c).After-pages-kept).some
+credit-requires-clause-stored g c = (may g (goal.at.credit-requires-clause-stored g c).After-look).some
 
 pub invariant_of-self : goal.invariant_of-self
 invariant_of-self g c =
@@ -61,7 +61,7 @@ invariant_of-self g c =
     (sym c.drop_page.ensures.links)
     (store_dropped old now c.self.inside.segs.ast c.drop_page.new.self.ast c.self.inside.segs.links
     c.self.inside.accounts c.credit.new.self c.self.inside.whos.items c.args.uid c.args.page (done g c)
-    (may g (goal.at.invariant_of-self g c).After-pages-kept).some
+    (may g (goal.at.invariant_of-self g c).After-look).some
     (ap (λ (x : ActiveSegs). x.entries) c.drop_page.ensures.word)
     (ap (λ (x : ActiveSegs). x.sizes) c.drop_page.ensures.word) c.self.invariant)
 
@@ -69,11 +69,11 @@ pub returns : goal.returns
 returns g c =
     let t = held c.self.view_is in
     let n = record t { accounts = c.credit.new.self; segs = c.drop_page.new.self } in
-    let kept = (goal.at.returns g c).After-pages-kept in
+    let kept = (goal.at.returns g c).After-look in
     subst (λ (x : Storage g.row.D.Denot). LosesPage g.D.Drive.pages x n c.args.uid c.args.page) c.self.view_is
     (record {
       rest = unstores_one g.D.Drive.pages t n c.args.uid c.args.page c.args.home
-          (active_held c.self.view_is c.args.uid c.requires.active) c.pages-kept.ensures.kept.places (may g kept)
+          (active_held c.self.view_is c.args.uid c.requires.active) c.look.ensures.kept.places (may g kept)
           (away g kept) c.credit.ensures c.drop_page.ensures.word c.drop_page.ensures.effect c.drop_page.ensures.reads
           c.drop_page.ensures.links refl c.drop_page.ensures.drives;
       shown = λ p s h. shown_dropped g.D.Drive.pages p s t n c.args.uid c.args.page (done g c)

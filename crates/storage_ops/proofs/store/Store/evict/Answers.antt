@@ -16,11 +16,11 @@ use Rattle.storage_ops.proofs.PageLeft.{may_release, shown_left, store_left}
 use Rattle.storage_ops.proofs.PagesLess.{leaving_words}
 use Rattle.storage_ops.proofs.Still.{own_home}
 use Rattle.storage_ops.proofs.store.Store.evict.Given.{Over}
-use Rattle.storage_ops.proofs.store.Store.evict.Goals.{After-pages-kept}
+use Rattle.storage_ops.proofs.store.Store.evict.Goals.{After-look}
 use Rattle.storage_ops.proofs.store.Store.evict.Goals as goal
 
 -- the page is of a segment, which has a stored page more than none
-stored : (g : Over) (c : After-pages-kept g) → (has_segment c.self.inside.accounts.nodes c.args.uid ≡ true)
+stored : (g : Over) (c : After-look g) → (has_segment c.self.inside.accounts.nodes c.args.uid ≡ true)
     × (1 ≤ count_of c.self.inside.accounts c.args.uid)
 stored g c =
     let t = held c.self.view_is in
@@ -28,9 +28,9 @@ stored g c =
     let number = number_in (frame_at t.segs.pages.core c.args.f) in
     let on = ap has_record (leaving_held c.self.view_is c.args.uid c.args.f c.requires.leaving) in (
       page_segment (plain g.D.Drive.pages t.segs.pages) t.segs.ast t.segs.links t.accounts t.whos
-          c.pages-kept.ensures.kept c.self.invariant c.args.uid active number on,
+          c.look.ensures.kept c.self.invariant c.args.uid active number on,
       page_counted (plain g.D.Drive.pages t.segs.pages) t.segs.ast t.segs.links t.accounts t.whos
-          c.pages-kept.ensures.kept c.self.invariant c.args.uid active number on,
+          c.look.ensures.kept c.self.invariant c.args.uid active number on,
     )
 
 pub invariant_of-self : goal.invariant_of-self
@@ -43,7 +43,7 @@ invariant_of-self g c =
     c.settle.new.accounts c.self.inside.whos.items) (sym c.evict-left.ensures.links)
     (store_left (plain g.D.Drive.pages t.segs.pages) (plain g.D.Drive.pages c.evict-left.new.self.pages) t.segs.ast
     c.evict-left.new.self.ast t.segs.links t.accounts c.settle.new.accounts t.whos c.args.uid c.args.home
-    (number_in (frame_at t.segs.pages.core c.args.f)) c.args.f c.pages-kept.ensures.kept c.self.invariant active
+    (number_in (frame_at t.segs.pages.core c.args.f)) c.args.f c.look.ensures.kept c.self.invariant active
     (own_home (plain g.D.Drive.pages t.segs.pages) t.accounts c.args.uid c.args.home _ c.self.invariant.housed home)
     (ap has_record leaving) c.evict-left.ensures.counts c.evict-left.result
     (record_of (plain g.D.Drive.pages t.segs.pages) c.args.home (number_in (frame_at t.segs.pages.core c.args.f)))
@@ -60,7 +60,7 @@ returns-clause-shown g c = λ p s h.
     subst (λ (x : Storage g.row.D.Denot). Shows g.D.Drive.pages p (page_left s c.args.uid
     (number_in (frame_at x.segs.pages.core c.args.f)) c.evict-left.result) u) c.self.view_is
     (shown_left g.D.Drive.pages p s t u c.args.uid c.args.home (number_in (frame_at t.segs.pages.core c.args.f))
-    c.args.f c.evict-left.result c.pages-kept.ensures.kept c.self.invariant active
+    c.args.f c.evict-left.result c.look.ensures.kept c.self.invariant active
     (own_home (plain g.D.Drive.pages t.segs.pages) t.accounts c.args.uid c.args.home _ c.self.invariant.housed home)
     (ap has_record leaving) refl c.evict-left.ensures.links c.evict-left.ensures.effect c.evict-left.ensures.stored
     c.evict-left.ensures.words c.evict-left.ensures.counts c.settle.ensures
@@ -68,11 +68,11 @@ returns-clause-shown g c = λ p s h.
 
 pub settle-requires-clause-segment : goal.settle-requires-clause-segment
 settle-requires-clause-segment g c =
-    (stored g (goal.at.settle-requires-clause-segment g c).After-pages-kept).0
+    (stored g (goal.at.settle-requires-clause-segment g c).After-look).0
 
 pub settle-requires-clause-stored : goal.settle-requires-clause-stored
 settle-requires-clause-stored g c =
-    (stored g (goal.at.settle-requires-clause-stored g c).After-pages-kept).1
+    (stored g (goal.at.settle-requires-clause-stored g c).After-look).1
 
 pub returns-clause-no_call : goal.returns-clause-no_call
 returns-clause-no_call g c =
@@ -91,9 +91,9 @@ returns-clause-may g c = λ p s h is.
     (number_in (frame_at x.segs.pages.core c.args.f)) ≡ Leaving c.args.f) (sym c.self.view_is) c.requires.leaving in
     subst (λ (x : Storage g.row.D.Denot). MayRelease s c.args.uid (number_in (frame_at x.segs.pages.core c.args.f)))
     c.self.view_is
-    (may_release g.D.Drive.pages p s t c.args.uid number (words_in old c.args.f) c.pages-kept.ensures.kept
+    (may_release g.D.Drive.pages p s t c.args.uid number (words_in old c.args.f) c.look.ensures.kept
     c.self.invariant active (ap has_record leaving)
-    (leaving_words old t.segs.ast t.segs.links t.accounts t.whos c.pages-kept.ensures.kept c.self.invariant c.args.uid
+    (leaving_words old t.segs.ast t.segs.links t.accounts t.whos c.look.ensures.kept c.self.invariant c.args.uid
     number c.args.f active leaving)
     (c.evict-left.ensures.zeros.0 is)
     (shown_held c.self.view_is g.D.Drive.pages p s h))

@@ -1,9 +1,8 @@
-use Rattle.std.proofs.Common.{◌<◌, length, sym, ap, subst, ◌∙◌, ℕ}
-use Rattle.page_control.specs.Plain.{Paging}
+use Rattle.std.proofs.Common.{◌<◌, length, sym, subst, ℕ, arith}
 use Rattle.storage_ops.specs.Shown.{Storage, home_of}
 use Rattle.flat_model.proofs.NodeLaws.{volume_found}
 use Rattle.storage_ops.proofs.Held.{there_held}
-use Rattle.storage_ops.proofs.Tables.{drives_there, homed_volume}
+use Rattle.storage_ops.proofs.Tables.{all_drives, homed_volume}
 use Rattle.storage_ops.proofs.store.Store.home.Goals as goal
 
 pub returns-clause-volume : goal.returns-clause-volume
@@ -11,10 +10,8 @@ returns-clause-volume g c =
     let there = there_held c.self.view_is c.args.uid c.requires in
     let lt = homed_volume c.self.inside.segs.pages.volumes.vtocs (home_of c.self.inside.accounts c.args.uid) c.args.uid
     (c.self.invariant.housed.homes c.args.uid there) in
-    let within = drives_there g.D.Drive.pages c.self.inside.segs.pages.volumes c.volumes.result.now _
-    (c.volumes.ensures.volumes ∙ ap (λ (x : Paging g.row.D.Denot). x.volumes) c.pages.ensures.pages)
-    c.count-count.ensures.parts lt in
+    let all = all_drives g.D.Drive.pages c.self.inside.segs.pages.volumes c.look.ensures.parts in
     subst (λ (n : ℕ). n < length c.args.self.now.segs.pages.volumes.drives)
     (sym (volume_found c.self.inside.accounts.nodes c.args.uid _ c.in-Some.ensures.some))
     (subst (λ (x : Storage g.row.D.Denot). (home_of c.self.inside.accounts c.args.uid).volume < length
-    x.segs.pages.volumes.drives) c.self.view_is within)
+    x.segs.pages.volumes.drives) c.self.view_is (omega (arith, all, lt)))

@@ -83,7 +83,7 @@ returns-clause-effect g c = λ p s d h below.
     g.D.Drive.pages p s t u refl refl refl refl c.new_home.ensures.links refl refl refl c.new_home.ensures.words
     (λ v. length_inside c.self.inside.segs.pages.volumes.vtocs c.args.new.volume c.in-Some.entry v _ _
     (ap (λ (x : Plain). x.vtocs) c.in-Some.ensures.effect))
-    c.pages-kept.ensures.kept
+    c.look.ensures.kept
     (λ place e. (let clash : true ≡ false = sym (c.self.invariant.active.there place c.self.inside.accounts.next e)
     ∙ ap is_some c.next_uid-uid.ensures.fresh in cc)) shown)
 

@@ -46,7 +46,7 @@ deactivate-requires-clause-away g c =
     let same = entries g (goal.at.deactivate-requires-clause-away g c).After-drop_from in
     let at = place g (goal.at.deactivate-requires-clause-away g c).In-Some in
     place_away c.drop_from.new.self.segs.ast c.in-Some.place c.args.uid
-    (subst (λ (e : List (Option Entry)). IsOneToOne e) (sym same) c.pages-kept.ensures.kept.tree.once)
+    (subst (λ (e : List (Option Entry)). IsOneToOne e) (sym same) c.look.ensures.kept.tree.once)
     (ap (λ (e : List (Option Entry)). uid_in_place e c.in-Some.place) same ∙ at)
     (λ q. c.drop_from.ensures.rest.gone q (from_zero q))
 
@@ -67,7 +67,7 @@ deactivate-requires-clause-cut g c =
     ap (λ (l : Links). trailers_of l.trailers c.in-Some.place) (c.drop_from.ensures.rest.links
     ∙ ap (λ (x : Storage g.row.D.Denot). x.segs.links) (sym c.self.view_is))
     ∙ place_cut c.self.inside.segs.ast.entries c.self.inside.segs.links c.in-Some.place c.args.uid
-    c.pages-kept.ensures.kept.linked.exact cut at
+    c.look.ensures.kept.linked.exact cut at
 
 pub returns-clause-shown : goal.returns-clause-shown
 returns-clause-shown g c = λ p s h. (
@@ -89,7 +89,7 @@ returns-clause-out g c =
     let at = place g (goal.at.returns-clause-out g c).In-Some in
     let same = ap (λ (x : Storage g.row.D.Denot). x.segs.ast.entries) c.self.view_is in
     out_active c.args.self.now c.drop_from.new.self c.deactivate.new.self c.in-Some.place c.args.uid
-    (subst (λ (e : List (Option Entry)). IsOneToOne e) same c.pages-kept.ensures.kept.tree.once)
+    (subst (λ (e : List (Option Entry)). IsOneToOne e) same c.look.ensures.kept.tree.once)
     (ap (λ (e : List (Option Entry)). uid_in_place e c.in-Some.place) (sym same) ∙ at) c.drop_from.ensures.rest
     c.deactivate.ensures.effect
 
@@ -103,7 +103,7 @@ returns-in_default-clause-out g c =
     } in
     subst (λ (x : Storage g.row.D.Denot). TakesOut x x c.args.uid) c.self.view_is
     (out_inactive _ c.args.uid inactive (λ f q e.
-    (let active = c.pages-kept.ensures.kept.paged.bound f c.args.uid q e in inactive.nowhere active.0 active.1)))
+    (let active = c.look.ensures.kept.paged.bound f c.args.uid q e in inactive.nowhere active.0 active.1)))
 
 pub returns-clause-active : goal.returns-clause-active
 returns-clause-active g c = λ active.

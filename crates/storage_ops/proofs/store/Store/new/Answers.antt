@@ -144,7 +144,7 @@ returns-clause-shown g c =
     g.D.Drive.pages p (blank p) t u refl refl refl refl c.new_home.ensures.links refl refl refl c.new_home.ensures.words
     (λ v. length_inside c.in_ok-segs.segs.pages.volumes.vtocs 0 c.in-Some.entry v _ _ (ap (λ
     (x : Plain). x.vtocs) c.in-Some.ensures.effect))
-    c.pages-kept.ensures.kept
+    c.look.ensures.kept
     (λ place e. none_active _ place 1 (ap (λ (x : Control g.row.D.Denot). uid_in_place x.ast.entries place)
     (sym c.in_ok-segs.ensures) ∙ e))
     (shown_nothing g.D.Drive.pages p t refl fresh known c.in_ok-whos.ensures))

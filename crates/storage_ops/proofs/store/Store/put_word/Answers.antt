@@ -20,7 +20,7 @@ returns-clause-shown g c = λ p s h.
     let bound = bound_held c.self.view_is c.args.f c.requires.bound in
     let shown = shown_held c.self.view_is g.D.Drive.pages p s h in
     let stored = shown.pages.stored uid number
-    ∙ bound_filed old t.segs.ast t.segs.links t.accounts t.whos c.pages-kept.ensures.kept c.self.invariant c.args.f
+    ∙ bound_filed old t.segs.ast t.segs.links t.accounts t.whos c.look.ensures.kept c.self.invariant c.args.f
     bound in
     subst (λ (x : Storage g.row.D.Denot). Shows g.D.Drive.pages p (written s
     (uid_in (frame_at x.segs.pages.core c.args.f)) (1024 * number_in (frame_at x.segs.pages.core c.args.f) + c.args.at)
@@ -29,7 +29,7 @@ returns-clause-shown g c = λ p s h.
     (written_there s uid number c.args.at c.args.w c.requires.at stored)
     (shown_put g.D.Drive.pages p s t u uid number c.args.at c.args.w (words_in old c.args.f) refl refl
     c.put_word.ensures.links c.put_word.ensures.volumes
-    (active_there old t.segs.ast t.segs.links t.accounts t.whos c.pages-kept.ensures.kept c.self.invariant uid
-    (bound_active old t.segs.ast t.segs.links c.pages-kept.ensures.kept c.args.f bound)) c.put_word.ensures.words
-    (bound_words old t.segs.ast t.segs.links c.pages-kept.ensures.kept c.args.f bound (home_of t.accounts uid))
+    (active_there old t.segs.ast t.segs.links t.accounts t.whos c.look.ensures.kept c.self.invariant uid
+    (bound_active old t.segs.ast t.segs.links c.look.ensures.kept c.args.f bound)) c.put_word.ensures.words
+    (bound_words old t.segs.ast t.segs.links c.look.ensures.kept c.args.f bound (home_of t.accounts uid))
     c.put_word.ensures.size c.requires.at shown))

@@ -20,7 +20,7 @@ use Rattle.storage_ops.proofs.PageFacts.{node_segment, word_within}
 use Rattle.storage_ops.proofs.PageMade.{shown_made, store_made}
 use Rattle.storage_ops.proofs.PageRoom.{all_taken, full_told, no_quota, no_record, on_ok, room, used_told}
 use Rattle.storage_ops.proofs.store.Store.store_page.Given.{Over}
-use Rattle.storage_ops.proofs.store.Store.store_page.Goals.{After-is_full, After-pages-kept}
+use Rattle.storage_ops.proofs.store.Store.store_page.Goals.{After-is_full, After-look}
 use Rattle.storage_ops.proofs.store.Store.store_page.Goals as goal
 
 -- whether the volume of the node is full
@@ -37,19 +37,19 @@ full g c p s n shown found =
     ∙ sym c.is_full.ensures
 
 -- an active segment is no directory
-segment : (g : Over) (c : After-pages-kept g)
+segment : (g : Over) (c : After-look g)
     → has_segment c.self.inside.accounts.nodes c.args.uid ≡ true
 segment g c =
     node_segment (plain g.D.Drive.pages c.self.inside.segs.pages) c.self.inside.segs.ast c.self.inside.segs.links
-    c.self.inside.accounts c.self.inside.whos.items c.pages-kept.ensures.kept c.self.invariant c.args.uid
+    c.self.inside.accounts c.self.inside.whos.items c.look.ensures.kept c.self.invariant c.args.uid
     (active_held c.self.view_is c.args.uid c.requires.active) c.args.page
     (length_held c.self.view_is c.args.uid c.args.page c.requires.page)
 
 pub full_reply-requires : goal.full_reply-requires
-full_reply-requires g c = segment g (goal.at.full_reply-requires g c).After-pages-kept
+full_reply-requires g c = segment g (goal.at.full_reply-requires g c).After-look
 
 pub charge-requires : goal.charge-requires
-charge-requires g c = segment g (goal.at.charge-requires g c).After-pages-kept
+charge-requires g c = segment g (goal.at.charge-requires g c).After-look
 
 pub returns-then-is_full-clause-answer : goal.returns-then-is_full-clause-answer
 returns-then-is_full-clause-answer g c = λ p s n h found.
@@ -77,7 +77,7 @@ create_page-requires-clause-page g c =
     let active = active_held c.self.view_is c.args.uid c.requires.active in
     let lt = length_held c.self.view_is c.args.uid c.args.page c.requires.page in
     word_within (plain g.D.Drive.pages t.segs.pages) t.segs.ast t.segs.links t.accounts t.whos
-    c.pages-kept.ensures.kept c.self.invariant c.args.uid active c.args.page lt
+    c.look.ensures.kept c.self.invariant c.args.uid active c.args.page lt
 
 pub unreachable-requires : goal.unreachable-requires
 unreachable-requires g c =
@@ -102,7 +102,7 @@ invariant_of-self-2 g c =
     c.charge.new.self c.self.inside.whos.items) (sym c.create_page.ensures.links)
     (store_made (plain g.D.Drive.pages t.segs.pages) (plain g.D.Drive.pages c.create_page.new.self.pages) t.segs.ast
     c.create_page.new.self.ast t.segs.links t.accounts c.charge.new.self t.whos c.args.uid c.home-home.result
-    c.args.page c.args.f c.args.at c.args.w c.pages-kept.ensures.kept c.self.invariant active home null
+    c.args.page c.args.f c.args.at c.args.w c.look.ensures.kept c.self.invariant active home null
     c.create_page.ensures.counts lt c.in-Ok.ensures.effect c.in-Ok.ensures.word c.in-Ok.ensures.stored
     c.in-Ok.ensures.taken (on_ok c.charge.result c.if-is_err.ensures.value c.charge.ensures.ok))
 
@@ -152,7 +152,7 @@ returns-clause-shown g c = λ p s h.
     let null = word_held c.self.view_is c.args.uid c.args.page ∙ c.requires.null in
     let home = home_held c.self.view_is c.args.uid c.home-home.result c.home-home.ensures.home in
     let shown = shown_held c.self.view_is g.D.Drive.pages p s h in
-    shown_made g.D.Drive.pages p s t u c.args.uid c.args.page c.args.at c.args.w c.pages-kept.ensures.kept
+    shown_made g.D.Drive.pages p s t u c.args.uid c.args.page c.args.at c.args.w c.look.ensures.kept
     c.self.invariant active null c.requires.at
     (on_ok c.charge.result c.if-is_err.ensures.value c.charge.ensures.ok) refl c.create_page.ensures.links
     (subst (λ (x : Home). ChangesStored (plain g.D.Drive.pages t.segs.pages) (plain g.D.Drive.pages u.segs.pages) x
