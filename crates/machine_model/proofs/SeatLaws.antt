@@ -12,7 +12,7 @@ use Rattle.flat_model.specs.Legal.{IsLawful, after_entry}
 use Rattle.flat_model.specs.Store.{progress_of}
 use Rattle.custody_model.specs.declared.DescriptorUse.TheVariants as descriptor
 use Rattle.custody_model.specs.Allowed.{IsAllowed, MayLeave, MayTakeSeg, IsFront}
-use Rattle.custody_model.specs.Custody.{Custody, has, is_current_frame, is_current_descriptor, leads_to}
+use Rattle.custody_model.specs.Custody.{Custody, Seat, has, is_current_frame, is_current_descriptor, leads_to}
 use Rattle.custody_model.specs.Fine.{FillsOnline, pending_after}
 use Rattle.custody_model.specs.Next.{at_put, custody_next, with_seat, queued}
 use Rattle.machine_model.specs.Changes.{reseated, came_online, taking_part, loaded, running, left, emptied, seg_filled}
@@ -29,38 +29,41 @@ use Rattle.machine_model.proofs.TieLaws.{none_some, use_bound}
 
 -- one processor changes, with the ready list and the book
 pub record Reseats (v : Seen) (c : ℕ) (p : Processor) (ready : List ℕ) (e : Entry) : Type 0 where
-  pub lawful : IsLawful v.plan (flat v) e
   pub allowed : IsAllowed v.plan (flat v) (shown v) e
   pub online : FillsOnline (shown v) e
   pub next : custody_next v.plan (flat v) (shown v) e ≡ record (with_seat (shown v) c (seat_of p)) { ready = ready }
-  pub pending : pending_after (is_pending v.owner) e ≡ is_pending v.owner
-  pub due : p.cpu.due ≡ (v.processors c).cpu.due
-  pub transfer : p.cpu.transfer ≡ (v.processors c).cpu.transfer
   pub right : HoldsRight v.bound (shown v).descriptor p
-  pub runs : (k : ℕ) → IsRun (progress_of (after_entry v.plan (flat v) e) k) (v.runs k)
 
-pub reseat_keeps : (v : Seen) (c : ℕ) (p : Processor) (ready : List ℕ) (e : Entry) → KeepsBook v → Reseats v c p ready e
+pub reseat_keeps : (v : Seen) (c : ℕ) (p : Processor) (ready : List ℕ) (e : Entry) → KeepsBook v
+    → IsLawful v.plan (flat v) e → pending_after (is_pending v.owner) e ≡ is_pending v.owner
+    → p.cpu.due ≡ (v.processors c).cpu.due → p.cpu.transfer ≡ (v.processors c).cpu.transfer
+    → ((k : ℕ) → IsRun (progress_of (after_entry v.plan (flat v) e) k) (v.runs k)) → Reseats v c p ready e
     → KeepsBook (reseated v c p ready e)
-reseat_keeps v c p ready e k r = book_next v e (reseated v c p ready e) refl refl k (record {
-  lawful = r.lawful;
+reseat_keeps v c p ready e k lawful pending due transfer runs r = book_next v e (reseated v c p ready e) refl refl k (record {
+  lawful = lawful;
   allowed = r.allowed;
   online = r.online;
   next = seats ∙ sym r.next;
-  pending = sym r.pending;
+  pending = sym pending;
   going_owned = subst (λ (x : Custody). IsOwned x v.owner) (sym r.next)
       (owned_like (shown v) (record (with_seat (shown v) c (seat_of p)) { ready = ready })
-      (like_seat (shown v) c (seat_of p) ready r.due) v.owner k.going_owned);
+      (like_seat (shown v) c (seat_of p) ready due) v.owner k.going_owned);
   tied = k.tied;
   holding_right = λ d. by_place (λ (x : Processor). HoldsRight v.bound (shown v).descriptor x) v.processors c p d
       (λ i. r.right) (λ n. k.holding_right d);
   under_way = under_way_alike v.reads v.processors (at_put v.processors c p)
       (λ d. by_place (λ (x : Processor). x.cpu.transfer ≡ (v.processors d).cpu.transfer) v.processors c p d
-      (λ i. r.transfer ∙ ap (λ (j : ℕ). (v.processors j).cpu.transfer) (sym i)) (λ n. refl)) k.under_way;
-  runs = r.runs;
+      (λ i. transfer ∙ ap (λ (j : ℕ). (v.processors j).cpu.transfer) (sym i)) (λ n. refl)) k.under_way;
+  runs = runs;
 })
   where
     seats : shown (reseated v c p ready e) ≡ record (with_seat (shown v) c (seat_of p)) { ready = ready }
     seats = λ i. record (shown v) { seat = λ d. put_map seat_of v.processors c p d i; ready = ready }
+
+-- a processor whose seat comes to the same
+same_seat : (v : Seen) (c : ℕ) (ready : List ℕ) {a b : Seat} → a ≡ b
+    → record (with_seat (shown v) c a) { ready = ready } ≡ record (with_seat (shown v) c b) { ready = ready }
+same_seat v c ready same = λ i. record (with_seat (shown v) c (same i)) { ready = ready }
 
 -- a processor that holds nothing
 right_empty : (v : Seen) (p : Processor) (process : Option ℕ)
@@ -82,14 +85,10 @@ right_empty v p process warned = record {
 pub online_keeps : (v : Seen) (c : ℕ) → KeepsBook v → c < v.plan.processors → (v.processors c).cpu.online ≡ false
     → KeepsBook (came_online v c)
 unfolding IsLawful after_entry custody_next
-online_keeps v c k inside off = reseat_keeps v c (taking_part (v.processors c)) v.ready (entry.Online c) k (record {
-  lawful = tt;
+online_keeps v c k inside off = reseat_keeps v c (taking_part (v.processors c)) v.ready (entry.Online c) k tt refl refl refl k.runs (record {
   allowed = record { processor = inside; offline = off };
   online = tt;
   next = refl;
-  pending = refl;
-  due = refl;
-  transfer = refl;
   right = let right = k.holding_right c in record {
     pages = right.pages;
     segs = right.segs;
@@ -98,7 +97,6 @@ online_keeps v c k inside off = reseat_keeps v c (taking_part (v.processors c)) 
     warned = λ w h.
         refl;
   };
-  runs = k.runs;
 })
 
 pub load_keeps : (v : Seen) (c n : ℕ) → KeepsBook v → (v.processors c).cpu.online ≡ true
@@ -106,31 +104,22 @@ pub load_keeps : (v : Seen) (c n : ℕ) → KeepsBook v → (v.processors c).cpu
     → IsFront v.ready n → KeepsBook (loaded v c n)
 unfolding IsLawful after_entry custody_next
 load_keeps v c n k on none front = reseat_keeps v c (running (v.processors c) n) (drop 1 v.ready) (entry.Load c n) k
+    tt refl refl refl k.runs
     (record {
-      lawful = tt;
       allowed = record { online = on; empty = none; front = front };
       online = tt;
       next = refl;
-      pending = refl;
-      due = refl;
-      transfer = refl;
       right = right_empty v (running (v.processors c) n) (Some n) (k.holding_right c).warned;
-      runs = k.runs;
     })
 
 pub leave_keeps : (v : Seen) (c : ℕ) → KeepsBook v → MayLeave (flat v) (shown v) c → KeepsBook (left v c)
 unfolding IsLawful after_entry custody_next
 leave_keeps v c k may = reseat_keeps v c (emptied (v.processors c))
-    (queued (flat v) v.ready (v.processors c).cpu.process) (entry.Leave c) k (record {
-      lawful = tt;
+    (queued (flat v) v.ready (v.processors c).cpu.process) (entry.Leave c) k tt refl refl refl k.runs (record {
       allowed = may;
       online = tt;
       next = refl;
-      pending = refl;
-      due = refl;
-      transfer = refl;
       right = right_empty v (emptied (v.processors c)) None (k.holding_right c).warned;
-      runs = k.runs;
     })
 
 -- a descriptor that is connected, and that the processor doesn't hold
@@ -144,18 +133,13 @@ pub fill_seg_keeps : (v : Seen) (c n : ℕ) (e : HeldSeg) → KeepsBook v → Ca
     → KeepsBook (seg_filled v c e)
 unfolding IsLawful after_entry custody_next
 fill_seg_keeps v c n e k can = reseat_keeps v c (with_held_seg (v.processors c) e) v.ready (entry.FillSeg c e.number) k
+    tt refl refl refl k.runs
     (record {
-      lawful = tt;
       allowed = may (v.processors c).cpu.process can.process;
       online = can.online;
-      next = λ i. record (with_seat (shown v) c (record
-          (seat_of (v.processors c)) {
-            segs = sym
-                (map_filled (λ x. x.number) (v.processors c).cpu.assoc.segs e right.few_segs) i;
-          })) { ready = v.ready };
-      pending = refl;
-      due = refl;
-      transfer = refl;
+      next = same_seat v c v.ready (λ i. record (seat_of (v.processors c)) {
+        segs = sym (map_filled (λ x. x.number) (v.processors c).cpu.assoc.segs e right.few_segs) i;
+      });
       right = record {
         pages = right.pages;
         segs = subst (λ (o : Option ℕ). AreOfProcess (shown v).descriptor o
@@ -167,7 +151,6 @@ fill_seg_keeps v c n e k can = reseat_keeps v c (with_held_seg (v.processors c) 
         few_segs = filled_few (v.processors c).cpu.assoc.segs e right.few_segs;
         warned = right.warned;
       };
-      runs = k.runs;
     })
   where
     right : HoldsRight v.bound (shown v).descriptor (v.processors c)
@@ -195,8 +178,8 @@ pub fill_page_keeps : (v : Seen) (c : ℕ) (e : HeldPage) → KeepsBook v → Ca
     → KeepsBook (page_filled v c e)
 unfolding IsLawful after_entry custody_next
 fill_page_keeps v c e k can = reseat_keeps v c (with_held_page (v.processors c) e) v.ready (entry.FillPage c e.frame) k
+    tt refl refl refl k.runs
     (record {
-      lawful = tt;
       allowed = record {
         processor = can.inside;
         current = ap is_current_frame (use_bound v.bound v.reads v.words k.tied e.frame e.uid e.page
@@ -204,14 +187,9 @@ fill_page_keeps v c e k can = reseat_keeps v c (with_held_page (v.processors c) 
         new = can.new;
       };
       online = can.online;
-      next = λ i. record (with_seat (shown v) c (record
-          (seat_of (v.processors c)) {
-            pages = sym
-                (map_filled (λ x. x.frame) (v.processors c).cpu.assoc.pages e right.few_pages) i;
-          })) { ready = v.ready };
-      pending = refl;
-      due = refl;
-      transfer = refl;
+      next = same_seat v c v.ready (λ i. record (seat_of (v.processors c)) {
+        pages = sym (map_filled (λ x. x.frame) (v.processors c).cpu.assoc.pages e right.few_pages) i;
+      });
       right = record {
         pages = pages_filled v.bound (v.processors c).cpu.assoc.pages e right.pages is;
         segs = right.segs;
@@ -219,7 +197,6 @@ fill_page_keeps v c e k can = reseat_keeps v c (with_held_page (v.processors c) 
         few_segs = right.few_segs;
         warned = right.warned;
       };
-      runs = k.runs;
     })
   where
     right : HoldsRight v.bound (shown v).descriptor (v.processors c)

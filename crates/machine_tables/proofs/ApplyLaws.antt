@@ -1,6 +1,5 @@
 -- The next command of a process takes effect in the store of the tables.
-use Rattle.std.proofs.Common.{◌≡◌, ℕ, List, map, Option, Some, None, sym, ap, subst, ◌∙◌}
-use Rattle.script.specs.References.{reference_of}
+use Rattle.std.proofs.Common.{◌≡◌, ℕ, List, map, Option, Some, sym, ap, subst, ◌∙◌}
 use Rattle.script.specs.declared.commands.Command.{Command}
 use Rattle.script.specs.declared.commands.Command.TheVariants as command
 use Rattle.script.specs.declared.commands.Reference.{Reference}

@@ -90,17 +90,23 @@ pub segments_same : (old new : AccountMaps) → HasColumns old → HasColumns ne
 segments_same old new before after nodes = rising_same new.segments old.segments after.rising before.rising
     (λ u. after.segments u ∙ (ap (λ (ns : List Node). has_segment ns u) nodes ∙ sym (before.segments u)))
 
+-- accounts whose nodes and counts are told
+pub maps_same : (new old : AccountMaps) (nodes : List Node) (counts : List ℕ) → new.nodes ≡ nodes
+    → new.entries ≡ old.entries → new.next ≡ old.next → new.segments ≡ old.segments → new.counts ≡ counts
+    → new ≡ record old { nodes = nodes; counts = counts }
+maps_same new old nodes counts a b c d e = (λ i. record {
+  nodes = a i;
+  entries = b i;
+  next = c i;
+  segments = d i;
+  counts = e i;
+})
+
 -- one count is told
 pub recounted : (old new : AccountMaps) (seg count : ℕ) → HasColumns old → HasColumns new
     → Recounts old new seg count
     → new ≡ record old { counts = with_value old.segments old.counts seg count }
-recounted old new seg count before after told = (λ i. record {
-  nodes = told.nodes i;
-  entries = told.entries i;
-  next = told.next i;
-  segments = segments i;
-  counts = counts i;
-})
+recounted old new seg count before after told = maps_same new old _ _ told.nodes told.entries told.next segments counts
   where
     segments : new.segments ≡ old.segments
     segments = segments_same old new before after told.nodes

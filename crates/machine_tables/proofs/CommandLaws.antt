@@ -1,8 +1,7 @@
 -- The command that a process comes to: its numbers are in their ranges.
-use Rattle.std.proofs.Common.{◌≡◌, ◌<◌, ℕ, zero, suc, true, List, [], ◌∷◌, length, Option, Some, None, arith}
+use Rattle.std.proofs.Common.{◌≡◌, ◌<◌, ℕ, true, List, length, Option, Some, None, arith}
 use Rattle.std.proofs.Common.{refl, ap, sym, subst, ◌∙◌, ◌≤◌, get_or, inl, inr}
 use Rattle.std.specs.Prelude.{IfSome, nat_le, slice_get}
-use Rattle.std.specs.List.{list_all}
 use Rattle.std.proofs.lemmas.Bool.{and_parts, cases_lt}
 use Rattle.std.proofs.lemmas.Bool.Decides.{nat_tests}
 use Rattle.std.proofs.lemmas.List.{get_or_past}
@@ -14,18 +13,11 @@ use Rattle.script.specs.declared.commands.Command.TheVariants as command
 use Rattle.script.specs.declared.commands.Reference.{Reference}
 use Rattle.machine_model.specs.Actions.{come_to, refer_or_take}
 use Rattle.machine_model.specs.State.{State}
-use Rattle.machine_model.proofs.ComingLaws.{scripts_are}
+use Rattle.machine_model.proofs.ComingLaws.{command_ranged, scripts_are}
 use Rattle.machine_model.proofs.LeftLaws.{no_process}
 use Rattle.machine_model.proofs.TieLaws.{none_some}
 use Rattle.machine_tables.specs.Meant.{refers}
 use Rattle.processor.specs.declared.Cpu.{Cpu}
-
-in_range : (volumes : ℕ) (cs : List Command) (place : ℕ) (c : Command)
-    → list_all (is_command volumes) cs ≡ true → slice_get cs place ≡ Some c → is_command volumes c ≡ true
-in_range volumes [] place c are at = absurd cc
-in_range volumes (d ∷ cs) zero c are at =
-    let same : d ≡ c = cc in let is : is_command volumes d ≡ true = (and_parts _ _ are).0 in cc
-in_range volumes (d ∷ cs) (suc place) c are at = in_range volumes cs place c (and_parts _ _ are).1 at
 
 no_command : (xs : List ProcessPlan) (k place : ℕ) → length xs ≤ k → slice_get (get_or xs k no_process).commands place
     ≡ None
@@ -34,7 +26,7 @@ no_command xs k place le = ap (λ (x : ProcessPlan). slice_get x.commands place)
 pub command_ranges : (p : Plan) (k place : ℕ) (c : Command) → IsPlan p → command_at p k place ≡ Some c
     → is_command (length p.volumes) c ≡ true
 command_ranges p k place c plan at = elim (cases_lt k (length p.processes)) [
-  | inl lt ↦ in_range (length p.volumes) _ place c ((scripts_are p plan).ranges k lt) at
+  | inl lt ↦ command_ranged (length p.volumes) _ place c ((scripts_are p plan).ranges k lt) at
   | inr le ↦ absurd (let none = no_command p.processes k place le in none_some (sym none ∙ at))
 ]
 

@@ -32,7 +32,7 @@ use Rattle.machine_model.specs.Keeps.{IsFaithful}
 use Rattle.machine_model.specs.Refusal.{uid_at_path, uid_of_node}
 use Rattle.machine_tables.specs.Committed.{TakesEffect}
 use Rattle.machine_tables.specs.Parts.{shown}
-use Rattle.machine_tables.proofs.ColumnLaws.{columns_same, rising_same}
+use Rattle.machine_tables.proofs.ColumnLaws.{columns_same, maps_same, rising_same}
 use Rattle.machine_tables.proofs.RefusalLaws.{shows_of}
 
 -- ---- what a path leads to
@@ -89,13 +89,8 @@ segments_kept f keeps (n ∷ ns) u =
 
 pub changed_nodes : (old new : AccountMaps) (f : Node → Node) → Keeps f → HasColumns old → HasColumns new
     → Changes old new (map f old.nodes) → new ≡ record old { nodes = map f old.nodes }
-changed_nodes old new f keeps before after told = (λ i. record {
-  nodes = told.nodes i;
-  entries = told.entries i;
-  next = told.next i;
-  segments = segments i;
-  counts = counts i;
-})
+changed_nodes old new f keeps before after told =
+    maps_same new old (map f old.nodes) old.counts told.nodes told.entries told.next segments counts
   where
     segments : new.segments ≡ old.segments
     segments = rising_same new.segments old.segments after.rising before.rising

@@ -1,11 +1,11 @@
 -- A page that is made: what the store asks, and what the tables have then.
-use Rattle.std.proofs.Common.{◌≡◌, ◌<◌, ℕ, ◌*◌, ◌+◌, List, Option, Some, None, refl, sym, ap, subst, ◌∙◌, arith}
+use Rattle.std.proofs.Common.{◌≡◌, ℕ, ◌+◌, List, Option, Some, None, refl, sym, ap, subst, ◌∙◌, arith}
 use Rattle.std.specs.Prelude.{Result, Ok}
 use Rattle.script.specs.Plans.{Plan}
 use Rattle.script.specs.declared.commands.Reference.{Reference}
 use Rattle.book.specs.declared.replies.Reply.{Reply}
 use Rattle.book.specs.declared.replies.Reply.TheVariants as reply
-use Rattle.accounts.specs.Maps.{AccountMaps, HasColumns, count_of}
+use Rattle.accounts.specs.Maps.{HasColumns, count_of}
 use Rattle.known_segs.specs.Known.{uid_of}
 use Rattle.tree_model.specs.Tree.{Node, node_in}
 use Rattle.flat_model.specs.References.{room_reply}

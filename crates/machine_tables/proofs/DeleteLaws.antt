@@ -1,6 +1,6 @@
 -- The pages of a node that is deleted: to drop them one after the other and to give all its records back at once come
 -- to the same, where the frames that they were in are free.
-use Rattle.std.proofs.Common.{◌≡◌, ◌≢◌, ◌<◌, ◌≤◌, ◌+◌, ℕ, suc, zero, Bool, true, false, ◌||◌, cond, eqb, length}
+use Rattle.std.proofs.Common.{◌≡◌, ◌≢◌, ◌<◌, ◌≤◌, ◌+◌, ◌-◌, ℕ, suc, zero, Bool, true, false, ◌||◌, cond, eqb, length}
 use Rattle.std.proofs.Common.{List, [], ◌∷◌, ◌++◌, get_or, set, ext_get_or, replicate, Option, Some, None, inl, inr}
 use Rattle.std.proofs.Common.{refl, sym, ap, ◌∙◌, arith}
 use Rattle.std.specs.List.{range_with_len}
@@ -211,6 +211,34 @@ drops_words : (x y : Paged) (uid p : ℕ) → word_of x.ast uid p ≢ Null → y
 drops_words x y uid p ne words q other = ap (λ (a : ActiveSegs). word_of a uid q) words
     ∙ word_kept x.ast uid p q (table_in x.ast uid p ne) other
 
+-- a page that has a record is dropped, and its frame is free, if it leaves one
+some_drops : (x : Paged) (home : Home) (uid p : ℕ) (w : Ptw) (core : Core) → word_of x.ast uid p ≡ w → w ≢ Null
+    → IsNamed x home uid
+    → ((fs : List ℕ) → frames_freed (record x.pages { core = core }) fs ≡ frames_freed x.pages (leaving w ++ fs))
+    → Drops x (record {
+      pages = unstored (record x.pages { core = core }) home p;
+      ast = worded x.ast uid p Null;
+      stored = x.stored - 1;
+    }) home uid p
+some_drops x home uid p w core at some h frees =
+    let free : Plain = record x.pages { core = core } in
+    let now : Paged = record {
+      pages = unstored free home p;
+      ast = worded x.ast uid p Null;
+      stored = x.stored - 1;
+    } in
+    let ne : word_of x.ast uid p ≢ Null = λ e. some (sym at ∙ e) in
+    let named = h.named p ne in
+    let used = used_core x.pages home core h.used in
+    record {
+      named = drops_named x now home uid p named.0 h named.1 ne refl (used_less free home p named.0 used named.1)
+          (filed_less free home p named.0 used named.1);
+      words = drops_words x now uid p ne refl;
+      erased_is = λ fs. erased_freed free home p named.0 fs used named.1
+          ∙ (ap (λ (s : Plain). erased s home) (frees fs)
+          ∙ ap (λ (v : Ptw). erased (frames_freed x.pages (leaving v ++ fs)) home) (sym at));
+    }
+
 pub page_drops : (x : Paged) (home : Home) (uid p : ℕ) (w : Ptw) → word_of x.ast uid p ≡ w → IsNamed x home uid
     → Drops x (page_cut x home uid p w) home uid p
 page_drops x home uid p Null at h = record {
@@ -219,37 +247,12 @@ page_drops x home uid p Null at h = record {
   erased_is = λ fs. ap (λ (w : Ptw). erased (frames_freed x.pages (leaving w ++ fs)) home) (sym at);
 }
 page_drops x home uid p (Out n) at h =
-    let ne : word_of x.ast uid p ≢ Null = λ e. (let no : Null ≡ Out n = sym e ∙ at in cc) in
-    let named = h.named p ne in
-    record {
-      named = drops_named x (page_cut x home uid p (Out n)) home uid p named.0 h named.1 ne refl
-          (used_less x.pages home p named.0 h.used named.1) (filed_less x.pages home p named.0 h.used named.1);
-      words = drops_words x (page_cut x home uid p (Out n)) uid p ne refl;
-      erased_is = λ fs. erased_freed x.pages home p named.0 fs h.used named.1
-          ∙ ap (λ (w : Ptw). erased (frames_freed x.pages (leaving w ++ fs)) home) (sym at);
-    }
+    some_drops x home uid p (Out n) x.pages.core at (λ no. (let is : Out n ≡ Null = no in cc)) h (λ fs. refl)
 page_drops x home uid p (Here f) at h =
-    let ne : word_of x.ast uid p ≢ Null = λ e. (let no : Null ≡ Here f = sym e ∙ at in cc) in
-    let named = h.named p ne in
-    record {
-      named = drops_named x (page_cut x home uid p (Here f)) home uid p named.0 h named.1 ne refl
-          (used_less x.pages home p named.0 h.used named.1) (filed_less x.pages home p named.0 h.used named.1);
-      words = drops_words x (page_cut x home uid p (Here f)) uid p ne refl;
-      erased_is = λ fs. erased_freed x.pages home p named.0 fs h.used named.1
-          ∙ ap (λ (w : Ptw). erased (frames_freed x.pages (leaving w ++ fs)) home) (sym at);
-    }
+    some_drops x home uid p (Here f) x.pages.core at (λ no. (let is : Here f ≡ Null = no in cc)) h (λ fs. refl)
 page_drops x home uid p (Leaving f) at h =
-    let ne : word_of x.ast uid p ≢ Null = λ e. (let no : Null ≡ Leaving f = sym e ∙ at in cc) in
-    let named = h.named p ne in
-    let used = used_core x.pages home (framed x.pages f Free).core h.used in
-    record {
-      named = drops_named x (page_cut x home uid p (Leaving f)) home uid p named.0 h named.1 ne refl
-          (used_less (framed x.pages f Free) home p named.0 used named.1)
-          (filed_less (framed x.pages f Free) home p named.0 used named.1);
-      words = drops_words x (page_cut x home uid p (Leaving f)) uid p ne refl;
-      erased_is = λ fs. erased_freed (framed x.pages f Free) home p named.0 fs used named.1
-          ∙ ap (λ (w : Ptw). erased (frames_freed x.pages (leaving w ++ fs)) home) (sym at);
-    }
+    some_drops x home uid p (Leaving f) (framed x.pages f Free).core at
+    (λ no. (let is : Leaving f ≡ Null = no in cc)) h (λ fs. refl)
 
 leaving_same : (x y : ActiveSegs) (uid from n : ℕ) → ((q : ℕ) → from ≤ q → word_of y uid q ≡ word_of x uid q)
     → leaving_in y uid (range_with_len from n) ≡ leaving_in x uid (range_with_len from n)

@@ -1,5 +1,5 @@
 -- A tree command that isn't refused takes effect, or tells what a node is like.
-use Rattle.std.proofs.Common.{◌≡◌, ℕ, ℤ, Bool, true, false, ◌&&◌, ◌==◌, nat_le, nat_lt, is_some, if◌then◌else◌, length}
+use Rattle.std.proofs.Common.{◌≡◌, ℕ, ℤ, Bool, true, false, ◌&&◌, ◌==◌, nat_le, is_some, if◌then◌else◌, length}
 use Rattle.std.proofs.Common.{List, [], ◌∷◌, Option, Some, None, refl, sym, ◌∙◌}
 use Rattle.std.specs.Prelude.{Result, Ok, Err}
 use Rattle.std.specs.List.{list_any}
@@ -10,14 +10,14 @@ use Rattle.script.specs.declared.commands.Command.TheVariants as command
 use Rattle.book.specs.declared.replies.Reply.{Reply}
 use Rattle.book.specs.declared.replies.Reply.TheVariants as reply
 use Rattle.tree_model.specs.Access.{takes_row}
-use Rattle.tree_model.specs.Quotas.{giver_of, over_in}
+use Rattle.tree_model.specs.Quotas.{over_in}
 use Rattle.tree_model.specs.Tree.{Node, Walk, LeadsTo, Missing, InSegment, above, branch_in, entries_on, is_inferior}
-use Rattle.tree_model.specs.Tree.{node_in, quota_in, walk_in}
+use Rattle.tree_model.specs.Tree.{node_in, walk_in}
 use Rattle.known_segs.specs.Known.{number_for}
 use Rattle.flat_model.specs.Branches.{branch_at, done_at, node_at, only_directory, only_segment, parts_of, segment_at}
 use Rattle.flat_model.specs.Branches.{directory_at, there_or, walked}
 use Rattle.flat_model.specs.Commands.{reply_to_tree_command, takes_effect}
-use Rattle.flat_model.specs.Making.{delete_of, delete_reply, make_at, make_in, make_of, make_reply}
+use Rattle.flat_model.specs.Making.{delete_of, delete_reply, make_at, make_of, make_reply}
 use Rattle.flat_model.specs.Naming.{initiate_of, initiate_reply, known_or_full, terminate_reply}
 use Rattle.flat_model.specs.Pages.{is_stored_from}
 use Rattle.flat_model.specs.Rights.{acl_of, acl_reply, done_or_over, move_of, move_reply, nodes_moved}

@@ -1,5 +1,5 @@
 -- The write of a page failed: what was taken is back.
-use Rattle.std.proofs.Common.{◌≡◌, ℕ, List, [], ◌∷◌, Option, Some, None, refl, sym, ap, subst, ◌∙◌}
+use Rattle.std.proofs.Common.{◌≡◌, ℕ, List, [], ◌∷◌, Some, refl, sym, ap, ◌∙◌}
 use Rattle.std.specs.Prelude.{Result, Err}
 use Rattle.page_control.specs.declared.Left.{Left}
 use Rattle.machine_model.specs.declared.CutDescriptor.{CutDescriptor}

@@ -1,15 +1,13 @@
 -- The tables at first: a store of the root alone on volumes of which nothing is in use.
-use Rattle.std.proofs.Common.{◌≡◌, ℕ, zero, suc, ◌+◌, Bool, true, false, List, [], ◌∷◌, map, length, get_or, set, sum}
+use Rattle.std.proofs.Common.{◌≡◌, ℕ, zero, suc, Bool, false, List, [], ◌∷◌, map, length, get_or, set, sum}
 use Rattle.std.proofs.Common.{replicate, Option, Some, None, refl, sym, ap, subst, ◌∙◌, arith}
 use Rattle.std.specs.Prelude.{slice_get}
 use Rattle.std.proofs.lemmas.List.{length-map, length-replicate}
-use Rattle.mnames.specs.declared.principals.Who.{Who}
 use Rattle.script.specs.Forms.{IsPlan}
 use Rattle.script.specs.Plans.{Plan}
 use Rattle.script.specs.declared.plan.VolumeLine.{VolumeLine}
-use Rattle.accounts.specs.Maps.{AccountMaps, root_alone}
-use Rattle.tree_model.specs.Tree.{Node}
-use Rattle.flat_model.specs.Store.{Store, boot, entries_in, entries_of, records_in, records_of}
+use Rattle.accounts.specs.Maps.{root_alone}
+use Rattle.flat_model.specs.Store.{Store, boot, entries_in, records_in}
 use Rattle.flat_model.proofs.BookLaws.{store_after-nil}
 use Rattle.vtoc.specs.Vtoc.{Entry as VtocEntry, entry_at, fresh_entry}
 use Rattle.bitmap.specs.Bitmap.{in_use}
@@ -20,13 +18,13 @@ use Rattle.active_segs.specs.Active.{ActiveSegs, no_segments}
 use Rattle.page_control.specs.Effects.{after_asked}
 use Rattle.page_control.specs.Plain.{Plain, plain}
 use Rattle.page_control.specs.Tied.{vtoc_in}
-use Rattle.seg_control.specs.Control.{Links}
 use Rattle.seg_control.specs.Effects.{no_links}
 use Rattle.seg_control.specs.Kept.{IsKept}
 use Rattle.storage_ops.specs.Shown.{AreFresh, IsStore, Shows, Storage as Stored, empty_frames}
-use Rattle.machine_model.specs.Boot.{booted, first_pages, first_store, first_vtocs, unused_entries, unused_records}
+use Rattle.machine_model.specs.Boot.{booted, first_pages, first_state, first_store, first_vtocs, unused_entries}
+use Rattle.machine_model.specs.Boot.{unused_records}
 use Rattle.machine_model.specs.Foreseen.{AllCome}
-use Rattle.machine_model.specs.Keeps.{AreAccounts, IsConserved, IsFaithful, StoreKept, StoreSays}
+use Rattle.machine_model.specs.Keeps.{AreAccounts, IsConserved, IsFaithful, StoreSays}
 use Rattle.machine_model.specs.Promise.{KeepsAll}
 use Rattle.machine_model.specs.State.{State, Storage}
 use Rattle.machine_model.proofs.FitsKept.{none_fits}
@@ -35,7 +33,7 @@ use Rattle.machine_model.proofs.MachineBoot.{boot_keeps_all}
 use Rattle.machine_model.proofs.TieLaws.{none_some}
 use Rattle.machine_model.proofs.TransferKept.{kept_with}
 use Rattle.machine_model.proofs.WorkStep.{none_work}
-use Rattle.machine_tables.specs.Parts.{first_state, first_words, shown}
+use Rattle.machine_tables.specs.Parts.{first_words, shown}
 
 -- ---- lists of nothing
 

@@ -1,5 +1,5 @@
 -- The next segment of the chain of a node: which it is, its pool, and what becomes of it.
-use Rattle.std.proofs.Common.{◌≡◌, ℕ, suc, zero, ◌+◌, ◌-◌, ◌<◌, ◌≤◌, Bool, true, false, not, cond, is_none, is_some}
+use Rattle.std.proofs.Common.{◌≡◌, ℕ, suc, zero, ◌+◌, ◌-◌, ◌<◌, ◌≤◌, Bool, true, false, not, cond, is_none}
 use Rattle.std.proofs.Common.{List, [], ◌∷◌, length, map, get_or, Option, Some, None, refl, sym, ap, subst, ◌∙◌, arith}
 use Rattle.std.specs.Prelude.{IsSome}
 use Rattle.std.specs.List.{find, range_with_len}
@@ -11,9 +11,8 @@ use Rattle.tree_model.specs.Tree.{Node, node_in}
 use Rattle.tree_model.specs.Trees.{IsTree}
 use Rattle.active_segs.specs.declared.Entry.{Entry}
 use Rattle.active_segs.specs.Active.{ActiveSegs, IsFull, IsLeastFree, entry_at}
-use Rattle.active_segs.specs.Pool.{IsInPool, first_of, size_of}
+use Rattle.active_segs.specs.Pool.{first_of, size_of}
 use Rattle.active_segs.specs.Victim.{HasOneOffChain, first_off_chain, hand_moved, hand_past}
-use Rattle.page_control.specs.declared.Home.{Home}
 use Rattle.page_control.specs.Tied.{map_at}
 use Rattle.seg_control.specs.declared.Link.{Link}
 use Rattle.seg_control.specs.Control.{place_of}

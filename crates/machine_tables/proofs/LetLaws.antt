@@ -12,7 +12,7 @@ use Rattle.machine_model.specs.Steps.{booked, with_owner}
 use Rattle.machine_tables.specs.Gone.{inactive_entry, left_entries, left_entry}
 use Rattle.machine_tables.specs.Owned.{HasOwner}
 use Rattle.machine_tables.specs.Parts.{Parts, with_state}
-use Rattle.machine_tables.proofs.JobLaws.{cut_same, frames_next, no_frame, owner_left}
+use Rattle.machine_tables.proofs.JobLaws.{cut_same, frames_next, none_left, owner_left}
 
 -- ---- entries
 
@@ -45,11 +45,11 @@ pub pages_first : (s : State) (kept : Option ℕ) → HasOwner s.owner → lengt
 pages_first s kept owner room = record { same = refl; owner = owner; room = room; cut = refl; spent = refl }
 
 pub pages_next : (s t first : State) (kept : Option ℕ) (f : ℕ) → PagesOn s first kept
-    → slice_get (frames_of_owner s.owner) 0 ≡ Some f
+    → Some f ≡ slice_get (frames_of_owner s.owner) 0
     → t ≡ booked (with_owner s (without_first_frame s.owner)) (left_entry kept f ∷ []) → PagesOn t first kept
 pages_next s t first kept f on at is = subst (λ (x : State). PagesOn x first kept) (sym is) (
     let rest = frames_of_owner (without_first_frame s.owner) in
-    let all : frames_of_owner s.owner ≡ f ∷ rest = frames_next s.owner f at in
+    let all : frames_of_owner s.owner ≡ f ∷ rest = frames_next s.owner f (sym at) in
     let count = ap length all in
     let room = on.room in
     let spent = on.spent in
@@ -69,7 +69,7 @@ pub pages_end : (s first : State) (kept : Option ℕ) → PagesOn s first kept
     → (s ≡ with_owner (booked first (map (left_entry kept) (frames_of_owner first.owner))) s.owner)
     × (s.spare + length (frames_of_owner first.owner) ≡ first.spare)
 pages_end s first kept on none =
-    let empty = no_frame (frames_of_owner s.owner) none in
+    let empty = none_left (frames_of_owner s.owner) none in
     let count = ap length empty in
     let spent = on.spent in (
       ap (λ (x : State). with_owner x s.owner) (ap (λ (x : State). with_owner x None)

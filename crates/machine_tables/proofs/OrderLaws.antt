@@ -9,7 +9,7 @@ use Rattle.page_table.specs.declared.Ptw.TheVariants.{Here, Leaving, Null, Out}
 use Rattle.page_table.specs.PageTable.{ptw_at}
 use Rattle.core_map.specs.declared.Frame.{Frame}
 use Rattle.core_map.specs.declared.Frame.TheVariants.{Free}
-use Rattle.core_map.specs.CoreMap.{after_reference}
+use Rattle.core_map.specs.CoreMap.{Core, after_reference}
 use Rattle.vtoc.specs.Vtoc.{Entry, with_record}
 use Rattle.active_segs.specs.Active.{ActiveSegs}
 use Rattle.page_control.specs.declared.Home.{Home}
@@ -166,45 +166,44 @@ module _ (x : Paged) (home : Home) (uid p q at f : ℕ) (word : word_of x.ast ui
       ∙ ap (λ (y : Frame). set (set x.pages.core.frames g Free) f (after_reference y true))
       (sym (get_or-set_other x.pages.core.frames g f Free Free apart))
 
+  -- the two pages, where the frames come to the same
+  dropped_order : (v : Ptw) (core : Core) → word_of x.ast uid q ≡ v → v ≢ Null
+      → core ≡ (drops (page_cut x home uid q v)).pages.core
+      → ◌≡◌ {A = Paged} (record {
+        pages = record (drops (page_cut x home uid q v)).pages {
+          core = core;
+          records = (unstored (unstored x.pages home p) home q).records;
+          vtocs = (unstored (unstored x.pages home p) home q).vtocs;
+        };
+        ast = worded (worded x.ast uid p Null) uid q Null;
+        stored = x.stored - 1 - 1;
+      }) (record {
+        pages = record (drops (page_cut x home uid q v)).pages {
+          records = (unstored (unstored x.pages home q) home p).records;
+          vtocs = (unstored (unstored x.pages home q) home p).vtocs;
+        };
+        ast = worded (worded x.ast uid q Null) uid p Null;
+        stored = x.stored - 1 - 1;
+      })
+  dropped_order v core is some same = (λ i. record {
+    pages = record (drops (page_cut x home uid q v)).pages {
+      core = same i;
+      records = records v is some i;
+      vtocs = vtocs v is some i;
+    };
+    ast = words_order x.ast uid p q Null Null within ne i;
+    stored = x.stored - 1 - 1;
+  })
+
   drops_order : (v : Ptw) → word_of x.ast uid q ≡ v → v ≢ Leaving f → Commutes drops v
   drops_order Null is apart = refl
-  drops_order (Out n) is apart =
-      let some : Out n ≢ Null = λ e. (let no : Out n ≡ Null = e in cc) in
-      let words = words_order x.ast uid p q Null Null within ne in
-      (λ i. record {
-        pages = record (drops (page_cut x home uid q (Out n))).pages {
-          records = records (Out n) is some i;
-          vtocs = vtocs (Out n) is some i;
-        };
-        ast = words i;
-        stored = x.stored - 1 - 1;
-      })
-  drops_order (Here n) is apart =
-      let some : Here n ≢ Null = λ e. (let no : Here n ≡ Null = e in cc) in
-      let words = words_order x.ast uid p q Null Null within ne in
-      (λ i. record {
-        pages = record (drops (page_cut x home uid q (Here n))).pages {
-          records = records (Here n) is some i;
-          vtocs = vtocs (Here n) is some i;
-        };
-        ast = words i;
-        stored = x.stored - 1 - 1;
-      })
-  drops_order (Leaving g) is apart =
-      let some : Leaving g ≢ Null = λ e. (let no : Leaving g ≡ Null = e in cc) in
-      let words = words_order x.ast uid p q Null Null within ne in
-      let frames_same = free_order g (λ e. apart (ap (λ (k : ℕ). Leaving k) (sym e)))
+  drops_order (Out n) is apart = dropped_order (Out n) _ is (λ e. (let no : Out n ≡ Null = e in cc)) refl
+  drops_order (Here n) is apart = dropped_order (Here n) _ is (λ e. (let no : Here n ≡ Null = e in cc)) refl
+  drops_order (Leaving g) is apart = dropped_order (Leaving g) _ is (λ e. (let no : Leaving g ≡ Null = e in cc))
+      (ap (λ (fs : List Frame). record x.pages.core { frames = fs })
+      (free_order g (λ e. apart (ap (λ (k : ℕ). Leaving k) (sym e)))
       (after_reference (frame_in x.pages f) true)
-      (after_reference (get_or (set x.pages.core.frames g Free) f Free) true) in
-      (λ i. record {
-        pages = record (drops (page_cut x home uid q (Leaving g))).pages {
-          core = record x.pages.core { frames = frames_same i };
-          records = records (Leaving g) is some i;
-          vtocs = vtocs (Leaving g) is some i;
-        };
-        ast = words i;
-        stored = x.stored - 1 - 1;
-      })
+      (after_reference (get_or (set x.pages.core.frames g Free) f Free) true)))
 
   stays_order : (v : Ptw) → word_of x.ast uid q ≡ v → v ≢ Leaving f → Commutes stays v
   stays_order Null is apart = refl

@@ -19,6 +19,22 @@ pub rest_end : {D : Type 0} (s first : Parts D) (x : State) → s ≡ with_state
     → s ≡ with_state first x
 rest_end s first x rest is = rest ∙ ap (with_state first) is
 
+-- the tables of such a loop, and what holds of the state
+pub record Going {D : Type 0} (On : State → State → Type 0) (now first : Parts D) : Type 0 where
+  pub on : On now.state first.state
+  pub rest : now ≡ with_state first now.state
+
+pub going : {D : Type 0} {On : State → State → Type 0} {now first : Parts D} → On now.state first.state
+    → now ≡ with_state first now.state → Going On now first
+going on rest = record { on = on; rest = rest }
+
+pub going_next : {D : Type 0} {On Next : State → State → Type 0} (s t first : Parts D) (x : State) → Going On s first
+    → t ≡ with_state s x → (t.state ≡ x → Next t.state first.state) → Going Next t first
+going_next s t first x going is on = record {
+  on = on (state_of s t x is);
+  rest = rest_next s t first x going.rest is;
+}
+
 -- the same tables over another store, whose drives are as before
 pub stored_is : {D : Type 0} (pages : D → List (List ℕ)) (faults : D → ℕ) (x now : Parts D) (t u : Stored D)
     (change : Storage → Storage) → x ≡ now → x ≡ with_stored x pages faults t

@@ -1,13 +1,13 @@
 -- The right of a process to a segment that is in the tree.
-use Rattle.std.proofs.Common.{◌≡◌, ℕ, true, false, eqb, is_some, List, [], ◌∷◌, Option, Some, None}
+use Rattle.std.proofs.Common.{◌≡◌, ℕ, true, false, is_some, List, Option, Some, None}
 use Rattle.std.proofs.Common.{refl, sym, ap}
-use Rattle.std.proofs.Common.{◌∙◌, inl, inr}
-use Rattle.std.proofs.lemmas.Bool.{cases_Bool}
+use Rattle.std.proofs.Common.{◌∙◌}
 use Rattle.mnames.specs.declared.modes.Mode.{Mode}
 use Rattle.mnames.specs.declared.principals.Who.{Who}
 use Rattle.accounts.specs.Maps.{rows_in}
 use Rattle.tree_model.specs.Access.{Row, access_of}
 use Rattle.tree_model.specs.Tree.{Node, node_in}
+use Rattle.flat_model.proofs.FieldLaws.{field_found}
 use Rattle.storage_ops.specs.Connecting.{IsRight}
 use Rattle.storage_ops.specs.Shown.{is_there, pages_in, pages_of, who_at}
 
@@ -16,12 +16,7 @@ there_is None h = absurd (let no : false ≡ true = h in cc)
 there_is (Some n) h = (n, refl)
 
 rows_found : (ns : List Node) (u : ℕ) (n : Node) → node_in ns u ≡ Some n → rows_in ns u ≡ n.rows
-rows_found [] u n h = cc
-rows_found (m ∷ ns) u n h = elim (cases_Bool (eqb m.uid u)) [
-  | inl is ↦ (let z : Some m ≡ Some n = rw is at h in let same : m ≡ n = cc in
-      rw is (ap (λ (x : Node). x.rows) same))
-  | inr isnt ↦ rw isnt (rows_found ns u n (rw isnt at h))
-]
+rows_found ns u n h = sym (field_found (λ ms. rows_in ms u) (λ x. x.rows) u (λ m ms. refl) ns n h)
 
 pub right_is : (ns : List Node) (whos : List Who) (k u : ℕ) (m : Mode) (pages : ℕ) → is_there ns u ≡ true
     → IsRight ns whos k u m pages → (m ≡ access_of (who_at whos k) (rows_in ns u)) × (pages ≡ pages_in ns u)

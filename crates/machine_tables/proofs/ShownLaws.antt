@@ -1,5 +1,5 @@
 -- What the calls on pages make of the flat store that is shown.
-use Rattle.std.proofs.Common.{◌≡◌, ◌<◌, ◌+◌, ◌*◌, ℕ, Bool, true, false, cond, refl, sym, ap, subst, ◌∙◌}
+use Rattle.std.proofs.Common.{◌≡◌, ◌+◌, ◌*◌, ℕ, Bool, true, false, cond, refl, sym, ap, subst, ◌∙◌}
 use Rattle.std.specs.Prelude.{◌%◌, List, IfOk, Result, Ok, Err}
 use Rattle.script.specs.Plans.{Plan}
 use Rattle.script.specs.declared.commands.Reference.{Reference}
@@ -8,7 +8,7 @@ use Rattle.flat_model.specs.References.{written}
 use Rattle.flat_model.specs.Store.{Store}
 use Rattle.core_map.specs.declared.Frame.{Frame}
 use Rattle.core_map.specs.declared.Frame.TheVariants.{Free, Started, Bound}
-use Rattle.core_map.specs.CoreMap.{Core, after_reference, bound_page, frame_at, is_bound}
+use Rattle.core_map.specs.CoreMap.{after_reference, bound_page, frame_at, is_bound}
 use Rattle.page_control.specs.declared.Left.{Left}
 use Rattle.page_control.specs.declared.Left.TheVariants.{Kept, Released}
 use Rattle.page_control.specs.Plain.{Plain, frame_in, number_in}

@@ -1,5 +1,5 @@
 -- A page that the shutdown takes: what is true of it then, and what stays.
-use Rattle.std.proofs.Common.{◌≡◌, ℕ, true, List, Option, Some, None, refl, sym, ap, subst, ◌∙◌}
+use Rattle.std.proofs.Common.{◌≡◌, ℕ, true, List, Option, Some, refl, sym, ap, subst, ◌∙◌}
 use Rattle.std.proofs.lemmas.List.{get_or-set_same}
 use Rattle.core_map.specs.CoreMap.{bound_page, is_bound}
 use Rattle.page_table.specs.declared.Ptw.{Ptw}
@@ -42,18 +42,3 @@ taken_leaving st f bound here =
 
     word : word_of st.ast x.0 x.1 ≡ Here f
     word = chosen_here st st f here refl refl bound
-
--- the frames, the VTOCs and the accounts are as they were
-pub leaving_pages : (st : Storage) (f : ℕ) → (with_leaving st f).pages ≡ st.pages
-leaving_pages st f = by (bound_page (frame_in st.pages f))
-  where
-    by : (o : Option (ℕ × ℕ)) → (leaving_if st f o).pages ≡ st.pages
-    by None = refl
-    by (Some page) = refl
-
-pub leaving_accounts : (st : Storage) (f : ℕ) → (with_leaving st f).accounts ≡ st.accounts
-leaving_accounts st f = by (bound_page (frame_in st.pages f))
-  where
-    by : (o : Option (ℕ × ℕ)) → (leaving_if st f o).accounts ≡ st.accounts
-    by None = refl
-    by (Some page) = refl

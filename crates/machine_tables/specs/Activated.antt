@@ -1,9 +1,9 @@
 -- What becomes of the next segment of a chain, by the tables.
-use Rattle.std.specs.Prelude.{◌≡◌, ℕ, map, List}
+use Rattle.std.specs.Prelude.{◌≡◌, ◌<◌, ℕ, true, map, IsSome, List, None}
 use Rattle.dir_tree.specs.Nodes.{chain_of}
 use Rattle.tree_model.specs.Tree.{node_in}
-use Rattle.active_segs.specs.Active.{ActiveSegs, IsFull, IsLeastFree}
-use Rattle.active_segs.specs.Victim.{hand_moved}
+use Rattle.active_segs.specs.Active.{IsFull, IsLeastFree}
+use Rattle.active_segs.specs.Victim.{HasItsSuperiors, HasOneOffChain, hand_moved}
 use Rattle.page_control.specs.Tied.{map_at}
 use Rattle.seg_control.specs.declared.Link.{Link}
 use Rattle.seg_control.specs.declared.Next.{Next}
@@ -11,8 +11,9 @@ use Rattle.seg_control.specs.declared.Next.TheVariants.{Activated, Victim, Whole
 use Rattle.seg_control.specs.Next.{AreActive, IsFirstInactive, link_at, made_active, superior_of, table_for, uids_of}
 use Rattle.seg_control.specs.Next.{words_in}
 use Rattle.storage_ops.specs.Connecting.{link_of}
+use Rattle.storage_ops.specs.Shown.{is_there}
 use Rattle.machine_model.specs.Actions.{pool_of_node}
-use Rattle.machine_model.specs.Reads.{first_inactive, or_zero}
+use Rattle.machine_model.specs.Reads.{first_inactive, free_place, or_zero}
 use Rattle.machine_model.specs.State.{Storage}
 
 -- the chain of a node, as links
@@ -44,3 +45,17 @@ abbrev pub Joins : Storage → Storage → List Link → Next → Type 0
 Joins old new chain (Activated place) = (i : ℕ) × JoinsAt old new chain place i
 Joins old new chain (Victim place) = (i : ℕ) × FindsFull old new chain i
 Joins old new chain Whole = AreActive old.ast.entries chain × (new ≡ old)
+
+-- The first segment of the chain of a node that isn't active has no place in its pool, and one off the chain can go.
+pub record NeedsVictim (st : Storage) (of : ℕ) : Type 0 where
+  pub there : is_there st.accounts.nodes of ≡ true
+  pub first : IsSome (first_inactive st.ast (chain_of st.accounts.nodes of))
+  pub full : free_place st.ast (wanted_pool st of) ≡ None
+  pub off : HasOneOffChain st.ast (wanted_pool st of) (chain_of st.accounts.nodes of)
+
+-- A pool has a victim for the chain of a node.
+pub record HasVictim (st : Storage) (of pool : ℕ) : Type 0 where
+  pub there : is_there st.accounts.nodes of ≡ true
+  pub few : pool < 4
+  pub off : HasOneOffChain st.ast pool (chain_of st.accounts.nodes of)
+  pub superiors : HasItsSuperiors st.ast.entries (chain_of st.accounts.nodes of)

@@ -1,10 +1,10 @@
 -- The owner of the supervisor, and what its job has taken.
-use Rattle.std.specs.Prelude.{◌≢◌, ℕ, List, [], ◌∷◌, ◌++◌, Option, Some, None}
+use Rattle.std.specs.Prelude.{◌≢◌, ◌≤◌, ◌+◌, ℕ, length, List, [], ◌∷◌, ◌++◌, Option, Some, None}
 use Rattle.assoc_mem.specs.declared.What.{What}
 use Rattle.machine_model.specs.declared.Aim.{Aim}
 use Rattle.machine_model.specs.declared.Phase.TheVariants.{Taken}
 use Rattle.machine_model.specs.declared.CutDescriptor.{CutDescriptor}
-use Rattle.machine_model.specs.State.{Owner}
+use Rattle.machine_model.specs.State.{Owner, State}
 use Rattle.machine_model.specs.Reads.{cut_of_owner, frames_of_owner}
 use Rattle.machine_tables.specs.declared.owner.Holder.{Holder}
 
@@ -28,3 +28,10 @@ took_frame o c a w f =
 abbrev pub took_cut : Option Owner → ℕ → Aim → What → CutDescriptor → Option Owner
 took_cut o c a w d =
     Some (record { cpu = c; phase = Taken a w; frames = frames_of_owner o; cut = cut_of_owner o ++ d ∷ [] })
+
+-- the owner can take these frames and cut these descriptors, and the book has room for what is told of it
+pub record CanTake (s : State) (frames : List ℕ) (cuts : List (ℕ × ℕ)) : Type 0 where
+  pub owner : HasOwner s.owner
+  pub pages : length (frames_of_owner s.owner) + length frames ≤ 256
+  pub descriptors : length (cut_of_owner s.owner) + length cuts ≤ 256
+  pub room : length frames + length cuts ≤ s.spare

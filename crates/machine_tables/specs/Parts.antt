@@ -1,14 +1,10 @@
 -- What the tables of a machine have.
-use Rattle.std.specs.Prelude.{◌≡◌, ℕ, true, false, length, replicate, sum_by, List, [], None, Result, Ok}
+use Rattle.std.specs.Prelude.{◌≡◌, ℕ, true, false, replicate, sum_by, List, Result, Ok}
 use Rattle.std.specs.Prelude.{Err}
-use Rattle.script.specs.Plans.{Plan}
 use Rattle.accounts.specs.Maps.{AccountMaps}
-use Rattle.custody_model.specs.Custody.{ready_at_first}
 use Rattle.page_control.specs.Plain.{Plain, plain}
 use Rattle.storage_ops.specs.Shown.{Storage as Stored}
 use Rattle.machine_model.specs.State.{State, Storage}
-use Rattle.machine_model.specs.Boot.{first_run}
-use Rattle.machine_model.specs.Reads.{no_processor}
 use Rattle.machine_model.specs.After.{Outcome}
 use Rattle.machine_model.specs.Steps.{with_faults, with_pages, with_store}
 
@@ -64,19 +60,3 @@ with_stored x pages faults t = record {
 -- so many frames of zeros
 abbrev pub first_words : ℕ → List (List ℕ)
 first_words frames = replicate frames (replicate 1024 0)
-
--- before the first entry, over a store: each process at its first command, and no processor takes part
-abbrev pub first_state : Plan → Storage → ℕ → ℕ → State
-first_state p st spare faults = record {
-  plan = p;
-  entries = [];
-  spare = spare;
-  store = st;
-  runs = replicate (length p.processes) first_run;
-  ready = ready_at_first p;
-  processors = replicate p.processors no_processor;
-  owner = None;
-  stopped = false;
-  visited = 0;
-  faults = faults;
-}

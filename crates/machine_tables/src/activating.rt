@@ -12,7 +12,7 @@ ghost use Rattle.machine_model.specs.Jobs.{victim_taken, with_hand_moved};
 ghost use Rattle.machine_model.specs.Reads.{cut_of_owner, first_inactive, frames_from, frames_of_owner, free_place};
 ghost use Rattle.machine_model.specs.Reads.{trailers_in};
 ghost use Rattle.machine_model.specs.Steps.{activated_at, with_active, with_store};
-ghost use Rattle.machine_tables.specs.Activated.{Joins, links_of, wanted_pool};
+ghost use Rattle.machine_tables.specs.Activated.{Joins, NeedsVictim, links_of, wanted_pool};
 ghost use Rattle.machine_tables.specs.Owned.{HasOwner};
 ghost use Rattle.machine_tables.specs.Parts.{with_state};
 ghost use Rattle.machine_tables.specs.Taken.{IsEmptied, is_bare};
@@ -61,8 +61,7 @@ impl<D: Drive> Tables<D> {
             → self.new ≡ with_state self.old (with_store self.old.state
             (with_active self.old.state.store uid result)) }
     {
-        let _accounts = self.accounts();
-        let _kept = self.look();
+        self.look();
         match self.join_next(of) {
             Next::Activated(place) => place,
             Next::Victim(_) | Next::Whole => unreachable!(),
@@ -90,17 +89,11 @@ impl<D: Drive> Tables<D> {
 
     /// The hand of the pool moves on that has no place for the first segment of the chain of a node that isn't active.
     fn pass_hand(&mut self, of: u32)
-        requires there { is_there self.old.state.store.accounts.nodes of ≡ true }
-        requires first { IsSome (first_inactive self.old.state.store.ast
-            (chain_of self.old.state.store.accounts.nodes of)) }
-        requires full { free_place self.old.state.store.ast (wanted_pool self.old.state.store of) ≡ None }
-        requires off { HasOneOffChain self.old.state.store.ast (wanted_pool self.old.state.store of)
-            (chain_of self.old.state.store.accounts.nodes of) }
+        requires { NeedsVictim self.old.state.store of }
         ensures { self.new ≡ with_state self.old (with_store self.old.state (with_hand_moved self.old.state.store
             (wanted_pool self.old.state.store of) (chain_of self.old.state.store.accounts.nodes of))) }
     {
-        let _accounts = self.accounts();
-        let _kept = self.look();
+        self.look();
         match self.join_next(of) {
             Next::Victim(_) => {}
             Next::Activated(_) | Next::Whole => unreachable!(),

@@ -9,6 +9,7 @@ ghost use Rattle.storage_ops.specs.Shown.{is_there};
 ghost use Rattle.machine_model.specs.Actions.{Action as Rule, Commit, Empty, activate_in, empty_victim};
 ghost use Rattle.machine_model.specs.Actions.{empty_when_read, pool_of_node, with_chain};
 ghost use Rattle.machine_model.specs.Reads.{first_inactive, free_place, is_active, or_zero};
+ghost use Rattle.machine_tables.specs.Activated.{HasVictim};
 ghost use Rattle.machine_tables.specs.Held.{MayLook};
 ghost use Rattle.machine_tables.specs.Meant.{meant, unless_first};
 ghost use Rattle.machine_tables.specs.Reading.{AreRead};
@@ -54,12 +55,7 @@ impl<D: Drive> Tables<D> {
 
     /// The place of the segment that has to go where a pool is full, for the chain of a node.
     fn victim(&self, of: u32, pool: u32) -> u32
-        requires there { is_there self.now.state.store.accounts.nodes of ≡ true }
-        requires pool { pool < 4 }
-        requires off { HasOneOffChain self.now.state.store.ast pool
-            (chain_of self.now.state.store.accounts.nodes of) }
-        requires superiors { HasItsSuperiors self.now.state.store.ast.entries
-            (chain_of self.now.state.store.accounts.nodes of) }
+        requires { HasVictim self.now.state.store of pool }
         ensures victim { victim_of self.now.state.store.ast pool
             (chain_of self.now.state.store.accounts.nodes of) ≡ Some result }
         ensures within { result < length self.now.state.store.ast.entries }
@@ -78,12 +74,7 @@ impl<D: Drive> Tables<D> {
 
     /// What is done where a pool is full: its victim is emptied, or a page of it that is being read in is waited for.
     pub(crate) fn empty_victim(&self, of: u32, pool: u32) -> Action
-        requires there { is_there self.now.state.store.accounts.nodes of ≡ true }
-        requires pool { pool < 4 }
-        requires off { HasOneOffChain self.now.state.store.ast pool
-            (chain_of self.now.state.store.accounts.nodes of) }
-        requires superiors { HasItsSuperiors self.now.state.store.ast.entries
-            (chain_of self.now.state.store.accounts.nodes of) }
+        requires victim { HasVictim self.now.state.store of pool }
         requires reads { AreRead self.now.state.store.pages.core self.now.state.processors }
         ensures { (k : ℕ) → meant self.now.state k result
             ≡ empty_victim self.now.state.store pool (chain_of self.now.state.store.accounts.nodes of)

@@ -10,7 +10,7 @@ ghost use Rattle.machine_model.specs.State.{Storage};
 ghost use Rattle.machine_model.specs.declared.Aim.TheVariants.{Committing};
 ghost use Rattle.machine_tables.specs.Claimed.{HasItsSegment, IsNumber, cuts_in, frames_for, needs_segment};
 ghost use Rattle.machine_tables.specs.Claimed.{of_segment, pairs_for, took_for, what_for};
-ghost use Rattle.machine_tables.specs.Owned.{HasOwner};
+ghost use Rattle.machine_tables.specs.Owned.{CanTake, HasOwner};
 ghost use Rattle.machine_tables.specs.Parts.{with_state};
 
 use crate::emptying::{first_taken, what_taken};
@@ -153,13 +153,8 @@ impl<D: Drive> Tables<D> {
         requires process { process < length self.old.state.store.links.known }
         requires active { needs_segment claim ≡ true → IsActive self.old.state.store.ast.entries claim.uid }
         requires number { IsNumber claim.cuts }
-        requires owner { HasOwner self.old.state.owner }
-        requires pages { length (frames_of_owner self.old.state.owner)
-            + length (frames_taken self.old.state.store claim.uid claim.low) ≤ 256 }
-        requires descriptors { length (cut_of_owner self.old.state.owner)
-            + length (cuts_in self.old.state.store process claim.uid claim.cuts) ≤ 256 }
-        requires room { length (frames_taken self.old.state.store claim.uid claim.low)
-            + length (cuts_in self.old.state.store process claim.uid claim.cuts) ≤ self.old.state.spare }
+        requires takes { CanTake self.old.state (frames_taken self.old.state.store claim.uid claim.low)
+            (cuts_in self.old.state.store process claim.uid claim.cuts) }
         ensures { self.new ≡ with_state self.old (took self.old.state c Committing claim.what
             (frames_taken self.old.state.store claim.uid claim.low)
             (cuts_in self.old.state.store process claim.uid claim.cuts)) }

@@ -24,7 +24,7 @@ ghost use Rattle.machine_tables.specs.Truncated.{IsCommittedBut};
 
 use crate::answering::command_at;
 use crate::committing::{
-    delete, initiate, make_dir, make_seg, move_quota, set_length, set_row, status, terminate,
+    delete, initiate, look, make_dir, make_seg, move_quota, set_length, set_row, status, terminate,
     truncate,
 };
 use crate::tables::Tables;
@@ -59,7 +59,7 @@ fn take_effect<D: Drive>(
     ensures { (frames : List ℕ) → OwnsFor (shown D.pages store.old) frames command.now
         → IsCommittedBut D.pages store.old store.new process frames command.now result.0 result.1 }
 {
-    let _accounts = store.accounts();
+    look(store);
     match command {
         Command::MkDir { path, volume } => (make_dir(store, path, *volume), None),
         Command::MkSeg {

@@ -1,6 +1,6 @@
 //! Tree commands take effect in the store, exactly as in the machine's model.
 
-ghost use Rattle.std.specs.Prelude.{◌≡◌, ◌<◌, ◌≤◌, ◌^◌, ℕ, List, None, length};
+ghost use Rattle.std.specs.Prelude.{◌≡◌, ◌<◌, ◌≤◌, ◌^◌, ℕ, List, None, length, map};
 ghost use Rattle.accounts.specs.Maps.{HasColumns};
 ghost use Rattle.tree_model.specs.Trees.{AreBelow, IsTree};
 ghost use Rattle.script.specs.declared.commands.Command.TheVariants.{Acl, Delete, Initiate, Length, MkDir, MkSeg};
@@ -9,9 +9,12 @@ ghost use Rattle.script.specs.Plans.{Plan};
 ghost use Rattle.flat_model.specs.Branches.{segment_at};
 ghost use Rattle.flat_model.specs.Store.{Store as Flat};
 ghost use Rattle.active_segs.specs.Active.{IsActive};
+ghost use Rattle.volumes.specs.Volumes.{HasParts};
+ghost use Rattle.page_control.specs.Plain.{plain};
 ghost use Rattle.seg_control.specs.Control.{leads_at, word_of};
+ghost use Rattle.seg_control.specs.Kept.{IsKept};
 ghost use Rattle.storage_ops.specs.Cut.{IsRemovableAt, IsTakenPastAt, leaves};
-ghost use Rattle.storage_ops.specs.Shown.{IsCutAt, IsInactiveAt, Shows};
+ghost use Rattle.storage_ops.specs.Shown.{IsCutAt, IsInactiveAt, IsStore, Shows};
 ghost use Rattle.machine_model.specs.Ready.{OwnsFor};
 ghost use Rattle.machine_tables.specs.Committed.{IsCommitted, TakesEffect};
 ghost use Rattle.machine_tables.specs.Parts.{shown};
@@ -41,15 +44,30 @@ pub(crate) fn accounts_of<D: Drive>(store: &Store<D>) -> &Accounts
     accounts
 }
 
+/// What is true of a store between calls is told here.
+pub(crate) fn look<D: Drive>(store: &Store<D>)
+    ensures columns { HasColumns store.now.accounts }
+    ensures tree { IsTree store.now.accounts.nodes }
+    ensures below { AreBelow store.now.accounts.next store.now.accounts.nodes }
+    ensures store { IsStore (plain D.pages store.now.segs.pages) store.now.segs.ast store.now.segs.links
+        store.now.accounts store.now.whos }
+    ensures kept { IsKept (plain D.pages store.now.segs.pages) store.now.segs.ast store.now.segs.links }
+    ensures parts { HasParts (map D.pages store.now.segs.pages.volumes.drives) store.now.segs.pages.volumes.records
+        store.now.segs.pages.volumes.vtocs }
+{
+    let _accounts = accounts_of(store);
+    let _count = store.segs().pages().volumes().count();
+}
+
 /// Makes a directory, unless that is refused.
 pub(crate) fn make_dir<D: Drive>(store: &mut Store<D>, path: &Path, volume: u32) -> Reply
     requires volume { volume < length store.old.segs.pages.volumes.drives }
     requires uids { store.old.accounts.next < 2 ^ 31 }
     ensures { (k : ℕ) → TakesEffect D.pages store.old store.new k (MkDir path.now volume) result }
 {
-    let _before = accounts_of(store);
+    look(store);
     let reply = store.make_dir(path, volume);
-    let _after = accounts_of(store);
+    look(store);
     reply
 }
 
@@ -67,9 +85,9 @@ pub(crate) fn make_seg<D: Drive>(
     requires most { pages ≤ 256 }
     ensures { TakesEffect D.pages store.old store.new process (MkSeg path.now pages volume) result }
 {
-    let _before = accounts_of(store);
+    look(store);
     let reply = store.make_seg(process, path, pages, volume);
-    let _after = accounts_of(store);
+    look(store);
     reply
 }
 
@@ -78,9 +96,9 @@ pub(crate) fn set_row<D: Drive>(store: &mut Store<D>, path: &Path, row: &Row, mo
     requires { IsCutAt store.old.accounts store.old.segs path.now }
     ensures { (k : ℕ) → TakesEffect D.pages store.old store.new k (Acl path.now row.now mode) result }
 {
-    let _before = accounts_of(store);
+    look(store);
     let reply = store.set_acl(path, row, mode);
-    let _after = accounts_of(store);
+    look(store);
     reply
 }
 
@@ -89,9 +107,9 @@ pub(crate) fn move_quota<D: Drive>(store: &mut Store<D>, path: &Path, amount: &i
     ensures { (k : ℕ) → TakesEffect D.pages store.old store.new k (Move path.now amount.now) result }
 {
     let amount = *amount;
-    let _before = accounts_of(store);
+    look(store);
     let reply = store.move_quota(path, amount);
-    let _after = accounts_of(store);
+    look(store);
     reply
 }
 
@@ -101,9 +119,9 @@ pub(crate) fn set_length<D: Drive>(store: &mut Store<D>, path: &Path, pages: u32
     requires most { pages ≤ 256 }
     ensures { (k : ℕ) → TakesEffect D.pages store.old store.new k (Length path.now pages) result }
 {
-    let _before = accounts_of(store);
+    look(store);
     let reply = store.set_length(path, pages);
-    let _after = accounts_of(store);
+    look(store);
     reply
 }
 
@@ -112,7 +130,7 @@ pub(crate) fn initiate<D: Drive>(store: &mut Store<D>, process: u32, path: &Path
     requires { process < length store.old.segs.links.known }
     ensures { TakesEffect D.pages store.old store.new process (Initiate path.now) result }
 {
-    let _segs = store.segs();
+    look(store);
     store.initiate(process, path)
 }
 
@@ -122,7 +140,7 @@ pub(crate) fn terminate<D: Drive>(store: &mut Store<D>, process: u32, number: u3
     requires cut { leads_at store.old.segs.links.descriptors process number ≡ None }
     ensures { TakesEffect D.pages store.old store.new process (Terminate number) result }
 {
-    let _segs = store.segs();
+    look(store);
     store.terminate(process, number)
 }
 
@@ -139,11 +157,9 @@ pub(crate) fn delete<D: Drive>(store: &mut Store<D>, path: &Path) -> Reply
     ensures { (k : ℕ) (frames : List ℕ) → OwnsFor (shown D.pages store.old) frames (Delete path.now)
         → IsCommitted D.pages store.old store.new k frames (Delete path.now) result }
 {
-    let _before = accounts_of(store);
-    let _volumes = store.segs().pages().volumes().count();
+    look(store);
     let reply = store.delete(path);
-    let _after = accounts_of(store);
-    let _segs = store.segs();
+    look(store);
     reply
 }
 
@@ -191,7 +207,7 @@ fn bring_back<D: Drive>(store: &mut Store<D>, uid: u32, page: u32) -> Option<u32
     } }
     ensures shown { (p : Plan) (s : Flat) → Shows D.pages p s store.old → Shows D.pages p s store.new }
 {
-    let _kept = store.segs().pages();
+    look(store);
     let frame = leaves(store.segs().ast(), uid, page)?;
     store.back(uid, frame);
     Some(frame)
@@ -208,13 +224,12 @@ pub(crate) fn truncate<D: Drive>(
     ensures { (k : ℕ) (frames : List ℕ) → OwnsFor (shown D.pages store.old) frames (Truncate path.now words)
         → IsCommittedBut D.pages store.old store.new k frames (Truncate path.now words) result.0 result.1 }
 {
-    let _before = accounts_of(store);
-    let _volumes = store.segs().pages().volumes().count();
+    look(store);
     let Some(uid) = segment_of(store.accounts(), path) else {
         return (store.truncate(path, words), None);
     };
     let reply = store.truncate(path, words);
-    let _after = accounts_of(store);
+    look(store);
     let kept = bring_back(store, uid, words / PAGE);
     (reply, kept)
 }

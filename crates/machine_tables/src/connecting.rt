@@ -7,6 +7,7 @@ ghost use Rattle.machine_model.specs.Reads.{cpu_at, length_in, mode_in};
 ghost use Rattle.machine_model.specs.Steps.{connected_to};
 ghost use Rattle.machine_tables.specs.Parts.{with_state};
 
+use crate::committing::look;
 use crate::tables::Tables;
 use book::Entry;
 use mnames::Mode;
@@ -22,7 +23,7 @@ impl<D: Drive> Tables<D> {
         ensures right { IsRight self.now.state.store.accounts.nodes self.now.state.store.whos process uid
             result.0 result.1 }
     {
-        let _segs = self.store.segs();
+        look(&self.store);
         self.store.right(process, uid)
     }
 

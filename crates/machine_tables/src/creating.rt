@@ -44,11 +44,11 @@ impl<D: Drive> Tables<D> {
             self.new.state.store }
     {
         let word = reference.kind.new_word(Word::ZERO);
-        let _before = self.accounts();
+        self.accounts();
         let made = self
             .store
             .create(process, reference.number, reference.offset, word, f);
-        let _after = self.accounts();
+        self.accounts();
         match made {
             Ok(()) => {}
             Err(_) => unreachable!(),

@@ -8,7 +8,7 @@ ghost use Rattle.machine_model.specs.Jobs.{cut_all, deactivation_begun, took};
 ghost use Rattle.machine_model.specs.Reads.{cut_of_owner, descriptor_of, frames_from, frames_of_owner};
 ghost use Rattle.machine_model.specs.Reads.{here_in, is_connected, trailers_in};
 ghost use Rattle.machine_tables.specs.Claimed.{number_in};
-ghost use Rattle.machine_tables.specs.Owned.{HasOwner};
+ghost use Rattle.machine_tables.specs.Owned.{CanTake, HasOwner};
 ghost use Rattle.machine_tables.specs.Parts.{with_state};
 ghost use Rattle.machine_tables.specs.Taken.{IsEmptied, is_bare};
 
@@ -82,13 +82,8 @@ impl<D: Drive> Tables<D> {
     /// The owner takes the pages of an active segment that are here, and cuts the descriptors that lead to it.
     fn take_segment(&mut self, c: u32, uid: u32)
         requires active { IsActive self.old.state.store.ast.entries uid }
-        requires owner { HasOwner self.old.state.owner }
-        requires pages { length (frames_of_owner self.old.state.owner)
-            + length (frames_from self.old.state.store.ast uid 0) ≤ 256 }
-        requires descriptors { length (cut_of_owner self.old.state.owner)
-            + length (trailers_in self.old.state.store uid) ≤ 256 }
-        requires room { length (frames_from self.old.state.store.ast uid 0)
-            + length (trailers_in self.old.state.store uid) ≤ self.old.state.spare }
+        requires takes { CanTake self.old.state (frames_from self.old.state.store.ast uid 0)
+            (trailers_in self.old.state.store uid) }
         ensures { self.new ≡ with_state self.old (took self.old.state c (Deactivating uid) (Seg uid)
             (frames_from self.old.state.store.ast uid 0) (trailers_in self.old.state.store uid)) }
     {

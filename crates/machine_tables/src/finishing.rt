@@ -149,9 +149,9 @@ impl<D: Drive> Tables<D> {
         ensures drives { CallsDrive D.plan D.places D.faults self.old.drives self.new.drives
             (home_in self.old.state.store (page_in self.old.state.store f).0).volume result }
     {
-        let _before = self.accounts();
+        self.accounts();
         let left = self.empty_frame(f);
-        let _after = self.accounts();
+        self.accounts();
         left
     }
 

@@ -82,10 +82,8 @@ impl<D: Drive> Tables<D> {
 
     /// A page is made for a reference, unless there is no room for it.
     fn create_or_refuse(&self, process: u32, reference: Reference, uid: u32, page: u32) -> Action
+        requires looks { MayLook self.now.state }
         requires known { process < length self.now.state.store.links.known }
-        requires faithful { IsFaithful self.now.state.plan (flat_of self.now.state) self.now.state.store }
-        requires frames { length self.now.state.store.pages.core.frames ≡ self.now.state.plan.frames }
-        requires reads { AreRead self.now.state.store.pages.core self.now.state.processors }
         ensures { (k : ℕ) → meant self.now.state k result
             ≡ create_unless (room_refusal self.now.state process reference)
             (room_for self.now.state.store.pages.core uid page (λ f. Create f uid page reference)) }
@@ -98,10 +96,8 @@ impl<D: Drive> Tables<D> {
 
     /// What is done for a page of zeros that has no record: it is made, where the reference writes another word.
     fn look_at_null(&self, process: u32, reference: Reference, uid: u32, page: u32) -> Action
+        requires looks { MayLook self.now.state }
         requires known { process < length self.now.state.store.links.known }
-        requires faithful { IsFaithful self.now.state.plan (flat_of self.now.state) self.now.state.store }
-        requires frames { length self.now.state.store.pages.core.frames ≡ self.now.state.plan.frames }
-        requires reads { AreRead self.now.state.store.pages.core self.now.state.processors }
         ensures { (k : ℕ) → meant self.now.state k result
             ≡ look_at_word self.now.state process reference uid page Null }
     {
@@ -123,10 +119,8 @@ impl<D: Drive> Tables<D> {
     ) -> Action
         requires active { IsActive self.now.state.store.ast.entries uid }
         requires page { page < length (table_of self.now.state.store.ast uid) }
+        requires looks { MayLook self.now.state }
         requires known { process < length self.now.state.store.links.known }
-        requires faithful { IsFaithful self.now.state.plan (flat_of self.now.state) self.now.state.store }
-        requires frames { length self.now.state.store.pages.core.frames ≡ self.now.state.plan.frames }
-        requires reads { AreRead self.now.state.store.pages.core self.now.state.processors }
         ensures { (k : ℕ) → meant self.now.state k result
             ≡ look_at_page self.now.state process reference uid page }
     {

@@ -2,11 +2,11 @@ ghost use Rattle.std.specs.Prelude.{◌≡◌, ◌<◌, ◌≤◌, ◌∷◌, []
 ghost use Rattle.std.specs.List.{sum_by};
 ghost use Rattle.custody_model.specs.Custody.{range, ready_at_first};
 ghost use Rattle.storage_ops.specs.Shown.{AreFresh};
-ghost use Rattle.machine_model.specs.Boot.{first_run, first_store};
+ghost use Rattle.machine_model.specs.Boot.{first_run, first_state, first_store};
 ghost use Rattle.machine_model.specs.Keeps.{StoreSays};
 ghost use Rattle.machine_model.specs.Reads.{no_processor};
 ghost use Rattle.traffic.specs.Queue.{Queue};
-ghost use Rattle.machine_tables.specs.Parts.{first_state, first_words, shown};
+ghost use Rattle.machine_tables.specs.Parts.{first_words, shown};
 
 use crate::owner::Job;
 use crate::tables::{NoMemory, Tables};

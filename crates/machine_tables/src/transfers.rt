@@ -12,6 +12,7 @@ ghost use Rattle.machine_model.specs.Reads.{cpu_at, home_in, next_command, proce
 ghost use Rattle.machine_model.specs.Steps.{brought, transfer_failed, transferred, with_faults, with_pages, with_store};
 ghost use Rattle.machine_tables.specs.Parts.{outcome_of, with_drives, with_state};
 
+use crate::committing::look;
 use crate::tables::Tables;
 use book::{Entry, Reply};
 use page_control::Home;
@@ -26,7 +27,7 @@ impl<D: Drive> Tables<D> {
         ensures home { result ≡ home_in self.now.state.store uid }
         ensures own { IsHomeOf self.now.state.store.pages.vtocs uid result }
     {
-        let _segs = self.store.segs();
+        look(&self.store);
         self.store.link(uid).home
     }
 

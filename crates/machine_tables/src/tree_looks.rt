@@ -20,6 +20,7 @@ ghost use Rattle.machine_tables.specs.Reading.{AreRead};
 ghost use Rattle.machine_tables.specs.Taken.{is_bare};
 
 use crate::action::Action;
+use crate::committing::look;
 use crate::emptying::first_taken;
 use crate::reading::Pages;
 use crate::tables::Tables;
@@ -38,7 +39,7 @@ impl<D: Drive> Tables<D> {
         requires faithful { IsFaithful self.now.state.plan (flat_of self.now.state) self.now.state.store }
         ensures { result ≡ refusal_of self.now.state process command.now }
     {
-        let _volumes = self.store.segs().pages().volumes().count();
+        look(&self.store);
         self.store.test(process, command)
     }
 

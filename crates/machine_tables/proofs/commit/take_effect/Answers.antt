@@ -35,7 +35,7 @@ make_dir-requires-clause-volume g c = dir_volume _ c.in-MkDir.path c.in-MkDir.vo
 
 pub make_seg-requires-clause-process : goal.make_seg-requires-clause-process
 make_seg-requires-clause-process g c =
-    subst (λ (n : ℕ). c.args.process < n) (sym c.accounts-accounts.ensures.store.known.processes) c.requires.knows
+    subst (λ (n : ℕ). c.args.process < n) (sym c.look.ensures.store.known.processes) c.requires.knows
 
 pub make_seg-requires-clause-volume : goal.make_seg-requires-clause-volume
 make_seg-requires-clause-volume g c = seg_volume _ c.in-MkSeg.path c.in-MkSeg.pages c.in-MkSeg.volume

@@ -1,4 +1,4 @@
-use Rattle.std.proofs.Common.{◌≡◌, ◌∙◌, ℕ, List, Some, ap, subst}
+use Rattle.std.proofs.Common.{◌≡◌, ◌∙◌, ℕ, List, Some, ap}
 use Rattle.page_control.specs.Plain.{plain}
 use Rattle.active_segs.specs.Active.{ActiveSegs, IsActive}
 use Rattle.seg_control.specs.Control.{Control, word_of}
@@ -10,17 +10,16 @@ use Rattle.machine_tables.proofs.committing.bring_back.Goals as goal
 
 -- the page comes back whose frame was found in the tables of the store
 found : {D : Type 0} (drive : D → List (List ℕ)) (t : Stored D) (uid p f : ℕ) {ast : ActiveSegs}
-    {seen held : Control D} → seen ≡ t.segs → ast ≡ seen.ast → held ≡ t.segs
-    → IsKept (plain drive held.pages) held.ast held.links → IsActive t.segs.ast.entries uid
+    {seen : Control D} → seen ≡ t.segs → ast ≡ seen.ast
+    → IsKept (plain drive t.segs.pages) t.segs.ast t.segs.links → IsActive t.segs.ast.entries uid
     → Some f ≡ leaves (word_of ast uid p) → ComesBack t uid p f
-found drive t uid p f seen_is ast_is held_is kept active left = comes_back drive t uid p f
-    (subst (λ (s : Control _). IsKept (plain drive s.pages) s.ast s.links) held_is kept) active
+found drive t uid p f seen_is ast_is kept active left = comes_back drive t uid p f kept active
     (left ∙ ap (λ (a : ActiveSegs). leaves (word_of a uid p)) (ast_is ∙ ap (λ (s : Control _). s.ast) seen_is))
 
 pub back-requires : goal.back-requires
 back-requires g c =
     let its = found g.D.Drive.pages c.args.store.now c.args.uid c.args.page c.in_ok-frame.frame
-    c.segs-2.ensures.segs c.ast.ensures.ast c.segs.ensures.segs c.pages-kept.ensures.kept c.requires
+    c.segs.ensures.segs c.ast.ensures.ast c.look.ensures.kept c.requires
     c.in_ok-frame.ensures in
     record {
       active = c.requires;
@@ -32,7 +31,7 @@ back-requires g c =
 pub returns-clause-effect : goal.returns-clause-effect
 returns-clause-effect g c =
     let its = found g.D.Drive.pages c.args.store.now c.args.uid c.args.page c.in_ok-frame.frame
-    c.segs-2.ensures.segs c.ast.ensures.ast c.segs.ensures.segs c.pages-kept.ensures.kept c.requires
+    c.segs.ensures.segs c.ast.ensures.ast c.look.ensures.kept c.requires
     c.in_ok-frame.ensures in
     c.back.ensures.effect ∙ ap (λ (a : ActiveSegs). record c.args.store.now {
       segs = record c.args.store.now.segs { ast = a };

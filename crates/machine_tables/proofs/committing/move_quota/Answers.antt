@@ -14,7 +14,7 @@ returns g c = λ k.
     (Move c.args.path.now amount) c.move_quota-reply.result) (to_z-of_z w32 c.args.amount.now fits)
     (move_committed g.D.Drive.pages c.args.store.now c.move_quota-reply.new.self
     k c.args.path.now (to_z w32 (of_z w32 c.args.amount.now)) c.move_quota-reply.result
-    c.accounts_of-before.ensures.columns c.accounts_of-after.ensures.columns
+    c.look.ensures.columns c.look-2.ensures.columns
     (record {
       answer = c.move_quota-reply.ensures.answer;
       effect = c.move_quota-reply.ensures.effect;

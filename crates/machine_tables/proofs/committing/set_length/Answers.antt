@@ -4,7 +4,7 @@ use Rattle.machine_tables.proofs.committing.set_length.Goals as goal
 pub returns : goal.returns
 returns g c = λ k. length_committed g.D.Drive.pages c.args.store.now c.set_length-reply.new.self
     k c.args.path.now c.args.pages c.set_length-reply.result
-    c.accounts_of-before.ensures.columns c.accounts_of-after.ensures.columns
+    c.look.ensures.columns c.look-2.ensures.columns
     (record {
       answer = c.set_length-reply.ensures.answer;
       effect = c.set_length-reply.ensures.effect;

@@ -4,7 +4,7 @@ use Rattle.machine_tables.proofs.committing.set_row.Goals as goal
 pub returns : goal.returns
 returns g c = λ k. row_committed g.D.Drive.pages c.args.store.now c.set_acl-reply.new.self
     k c.args.path.now c.args.row.now c.args.mode c.set_acl-reply.result
-    c.accounts_of-before.ensures.columns c.accounts_of-after.ensures.columns
+    c.look.ensures.columns c.look-2.ensures.columns
     (record {
       answer = c.set_acl-reply.ensures.answer;
       effect = c.set_acl-reply.ensures.effect;

@@ -6,9 +6,11 @@ pub pool-pool-requires : goal.pool-pool-requires
 pool-pool-requires g c = link_there c.args.self.now.state c.args.of c.args.uid c.requires.looks c.requires.there
     c.requires.first
 
-pub empty_victim-requires-clause-off : goal.empty_victim-requires-clause-off
-empty_victim-requires-clause-off g c = link_victim c.args.self.now.state c.args.of c.args.uid c.requires.looks
-    c.requires.there c.requires.first c.pool-pool.result (search rules) (search rules)
-
-pub empty_victim-requires-clause-superiors : goal.empty_victim-requires-clause-superiors
-empty_victim-requires-clause-superiors g c = link_superiors c.args.self.now.state c.args.of c.requires.looks
+pub empty_victim-requires-clause-victim : goal.empty_victim-requires-clause-victim
+empty_victim-requires-clause-victim g c = record {
+  there = c.requires.there;
+  few = search rules;
+  off = link_victim c.args.self.now.state c.args.of c.args.uid c.requires.looks
+      c.requires.there c.requires.first c.pool-pool.result (search rules) (search rules);
+  superiors = link_superiors c.args.self.now.state c.args.of c.requires.looks;
+}

@@ -1,8 +1,8 @@
 use Rattle.std.proofs.Common.{List, ap, map, ◌∙◌}
 use Rattle.std.specs.List.{sum_by}
-use Rattle.machine_model.specs.Boot.{first_store}
+use Rattle.machine_model.specs.Boot.{first_state, first_store}
 use Rattle.machine_model.specs.State.{Storage}
-use Rattle.machine_tables.specs.Parts.{first_state, first_words}
+use Rattle.machine_tables.specs.Parts.{first_words}
 use Rattle.machine_tables.proofs.FirstLaws.{says_boot, store_first}
 use Rattle.machine_tables.proofs.tables.Tables.boot.Goals as goal
 

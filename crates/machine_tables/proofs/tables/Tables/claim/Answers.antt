@@ -1,5 +1,4 @@
 use Rattle.std.proofs.Common.{◌≡◌, Some, length, refl, subst, sym}
-use Rattle.script.specs.declared.commands.Command.{Command}
 use Rattle.active_segs.specs.Active.{IsActive}
 use Rattle.machine_model.specs.Reads.{next_command, run_at}
 use Rattle.machine_model.specs.State.{State}

@@ -1,5 +1,4 @@
-use Rattle.std.proofs.Common.{◌∙◌, ap, length, map, rules, subst}
-use Rattle.volumes.specs.Volumes.{HasParts, Vols}
+use Rattle.std.proofs.Common.{◌∙◌, ap, length}
 use Rattle.machine_model.specs.Reads.{flat_of}
 use Rattle.machine_tables.specs.Parts.{Parts}
 use Rattle.machine_tables.proofs.InsideLaws.{inside_faithful, inside_shows}
@@ -16,8 +15,7 @@ test-requires-clause-ranges g c =
     (length c.self.inside.store.segs.pages.volumes.drives) c.args.command.now
     (drive_each g.D.Drive.pages c.self.inside.store.segs.pages.volumes.drives c.args.self.now.state.plan
     c.self.inside.store.segs.pages.volumes.records c.self.inside.store.segs.pages.volumes.vtocs c.requires.script
-    faithful.script.records (subst (λ (v : Vols g.row.D.Denot). HasParts (map g.D.Drive.pages v.drives) v.records
-    v.vtocs) (search rules) c.count-volumes.ensures.parts)) c.requires.ranges
+    faithful.script.records c.look.ensures.parts) c.requires.ranges
 
 pub returns : goal.returns
 returns g c = c.test.ensures c.args.self.now.state.plan (flat_of c.args.self.now.state)

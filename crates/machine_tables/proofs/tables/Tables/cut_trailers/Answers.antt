@@ -1,5 +1,5 @@
 use Rattle.machine_tables.proofs.CutLaws.{cut_smaller, cuts_end, cuts_next, one_few}
-use Rattle.machine_tables.proofs.PartLaws.{rest_end, rest_next, state_of}
+use Rattle.machine_tables.proofs.PartLaws.{going_next, rest_end, state_of}
 use Rattle.machine_tables.proofs.tables.Tables.cut_trailers.Goals as goal
 
 pub cut_one-requires-clause-few : goal.cut_one-requires-clause-few
@@ -19,13 +19,10 @@ loop-process-smaller g c =
     _ c.cut_one.ensures)
 
 pub loop-process-preserved : goal.loop-process-preserved
-loop-process-preserved g c = record {
-  on = cuts_next c.loop-process.self.state c.cut_one.new.self.state c.args.self.now.state c.args.c c.args.aim
-      c.args.what c.args.uid (c.in-Some.process, c.in-Some.number) c.loop-process.invariant.on c.in-Some.ensures.first
-      (state_of c.loop-process.self c.cut_one.new.self _ c.cut_one.ensures);
-  rest = rest_next c.loop-process.self c.cut_one.new.self c.args.self.now _ c.loop-process.invariant.rest
-      c.cut_one.ensures;
-}
+loop-process-preserved g c = going_next c.loop-process.self c.cut_one.new.self c.args.self.now _
+    c.loop-process.invariant c.cut_one.ensures
+    (cuts_next c.loop-process.self.state c.cut_one.new.self.state c.args.self.now.state c.args.c c.args.aim
+    c.args.what c.args.uid (c.in-Some.process, c.in-Some.number) c.loop-process.invariant.on c.in-Some.ensures.first)
 
 pub returns : goal.returns
 returns g c = rest_end c.loop-process.self c.args.self.now _ c.loop-process.invariant.rest

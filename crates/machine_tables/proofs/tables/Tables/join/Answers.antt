@@ -9,7 +9,7 @@ use Rattle.machine_tables.proofs.tables.Tables.join.Goals as goal
 
 pub join_next-requires-clause-off : goal.join_next-requires-clause-off
 join_next-requires-clause-off g c = free_to_go c.args.self.now.state.store c.args.self.now.state.store c.args.of
-    c.look-kept.ensures.counted c.accounts-accounts.ensures.tree c.requires.there c.requires.free
+    c.look.ensures.counted c.look.ensures.accounts.tree c.requires.there c.requires.free
 
 pub unreachable-requires : goal.unreachable-requires
 unreachable-requires g c =
@@ -17,21 +17,21 @@ unreachable-requires g c =
     let new : Storage = c.join_next.new.self.state.store in
     elim c.in-Victim.is [
       | inl v ↦ (let next = subst (λ (r : Next). Joins st new (links_of st c.args.of) r) v.1 c.join_next.ensures.next in
-          no_victim st new c.args.of c.look-kept.ensures.counted c.accounts-accounts.ensures.tree c.requires.there
+          no_victim st new c.args.of c.look.ensures.counted c.look.ensures.accounts.tree c.requires.there
           next.0 next.1.first c.requires.free next.1.full)
       | inr w ↦ (let next = subst (λ (r : Next). Joins st new (links_of st c.args.of) r) w c.join_next.ensures.next in
-          not_whole st new c.args.of c.look-kept.ensures.counted c.accounts-accounts.ensures.tree c.requires.there
+          not_whole st new c.args.of c.look.ensures.counted c.look.ensures.accounts.tree c.requires.there
           next.0 c.requires.first)
     ]
 
 pub returns-clause-place : goal.returns-clause-place
 returns-clause-place g c = joined_place c.args.self.now.state.store c.join_next.new.self.state.store c.args.of
-    c.look-kept.ensures.counted c.accounts-accounts.ensures.tree c.requires.there c.in-Activated.place
+    c.look.ensures.counted c.look.ensures.accounts.tree c.requires.there c.in-Activated.place
     c.in-Activated.ensures.next.0 c.in-Activated.ensures.next.1
 
 pub returns-clause-effect : goal.returns-clause-effect
 returns-clause-effect g c = λ uid wanted. c.in-Activated.ensures.rest
     ∙ ap (λ (st : Storage). with_state c.args.self.now (with_store c.args.self.now.state st))
     (joined_is c.args.self.now.state.store c.join_next.new.self.state.store c.args.of
-    c.look-kept.ensures.counted c.accounts-accounts.ensures.tree c.requires.there c.in-Activated.place
+    c.look.ensures.counted c.look.ensures.accounts.tree c.requires.there c.in-Activated.place
     c.in-Activated.ensures.next.0 uid c.in-Activated.ensures.next.1 wanted)

@@ -1,16 +1,12 @@
-use Rattle.std.proofs.Common.{sym, rules}
+use Rattle.std.proofs.Common.{rules}
 use Rattle.machine_tables.proofs.BackLaws.{goes_next}
 use Rattle.machine_tables.proofs.JobLaws.{cut_smaller}
+use Rattle.machine_tables.proofs.PartLaws.{going}
 use Rattle.machine_tables.proofs.tables.Tables.let_descriptors_go.Goals as goal
 
 pub loop-cut-preserved : goal.loop-cut-preserved
-loop-cut-preserved g c = record {
-  on = goes_next c.loop-cut.self.state c.note.new.self.state c.args.self.now.state c.in-Some.cut
-      c.loop-cut.invariant.on
-      (sym c.in-Some.ensures.first) (search rules);
-  rest = search rules;
-}
+loop-cut-preserved g c = going (goes_next _ _ _ c.in-Some.cut c.loop-cut.invariant.on
+    c.in-Some.ensures.first (search rules)) (search rules)
 
 pub loop-cut-smaller : goal.loop-cut-smaller
-loop-cut-smaller g c = cut_smaller c.loop-cut.self.state.owner c.note.new.self.state.owner c.in-Some.cut
-    (sym c.in-Some.ensures.first) (search rules)
+loop-cut-smaller g c = cut_smaller c.note.new.self c.loop-cut.invariant c.in-Some.ensures.first (search rules)

@@ -1,14 +1,11 @@
-use Rattle.std.proofs.Common.{◌≡◌, length}
+use Rattle.std.proofs.Common.{length}
 use Rattle.machine_model.specs.Reads.{cut_of_owner}
-use Rattle.machine_tables.specs.Parts.{with_state}
 use Rattle.machine_tables.proofs.BackLaws.{GoesOn}
+use Rattle.machine_tables.proofs.PartLaws.{Going}
 use Rattle.machine_tables.proofs.tables.Tables.let_descriptors_go.Given as goal
 
 abbrev pub invariant-loop-cut : goal.invariant-loop-cut
-invariant-loop-cut g l = record {
-  on : GoesOn l.self.state l.fn.self.state;
-  rest : l.self ≡ with_state l.fn.self l.self.state;
-}
+invariant-loop-cut g l = Going GoesOn l.self l.fn.self
 
 abbrev pub decreases-loop-cut : goal.decreases-loop-cut
 decreases-loop-cut g l = length (cut_of_owner l.self.state.owner)

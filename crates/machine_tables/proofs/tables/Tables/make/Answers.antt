@@ -33,7 +33,7 @@ returns-clause-made g c = λ uid known.
     stored_is g.D.Drive.pages g.D.Drive.faults _ c.args.self.now c.self.inside.store c.create-made.new.self
     (λ st. with_created st c.args.f uid p at c.new_word-word.result) c.self.view_is refl
     (created_is g.D.Drive.pages c.self.inside.store c.create-made.new.self uid p c.args.f at c.new_word-word.result
-    (subst (λ (st : Storage). HasColumns st.accounts) (sym inner) c.accounts-before.ensures.columns)
-    c.accounts-after.ensures.columns made) made.drives
+    (subst (λ (st : Storage). HasColumns st.accounts) (sym inner) c.accounts.ensures.columns)
+    c.accounts-2.ensures.columns made) made.drives
     ∙ ap (λ (w : ℕ). with_state c.args.self.now (with_store s (with_created s.store c.args.f uid p at w)))
     c.new_word-word.ensures

@@ -10,7 +10,7 @@ use Rattle.machine_tables.proofs.tables.Tables.pass_hand.Goals as goal
 
 pub join_next-requires-clause-off : goal.join_next-requires-clause-off
 join_next-requires-clause-off g c = off_to_go c.args.self.now.state.store c.args.self.now.state.store c.args.of
-    c.look-kept.ensures.counted c.accounts-accounts.ensures.tree c.requires.there c.requires.off
+    c.look.ensures.counted c.look.ensures.accounts.tree c.requires.there c.requires.off
 
 pub unreachable-requires : goal.unreachable-requires
 unreachable-requires g c =
@@ -18,10 +18,10 @@ unreachable-requires g c =
     let new : Storage = c.join_next.new.self.state.store in
     elim c.in-Activated.is [
       | inl a ↦ (let next = subst (λ (r : Next). Joins st new (links_of st c.args.of) r) a.1 c.join_next.ensures.next in
-          none_some (sym c.requires.full ∙ joined_place st new c.args.of c.look-kept.ensures.counted
-          c.accounts-accounts.ensures.tree c.requires.there a.0 next.0 next.1))
+          none_some (sym c.requires.full ∙ joined_place st new c.args.of c.look.ensures.counted
+          c.look.ensures.accounts.tree c.requires.there a.0 next.0 next.1))
       | inr w ↦ (let next = subst (λ (r : Next). Joins st new (links_of st c.args.of) r) w c.join_next.ensures.next in
-          not_whole st new c.args.of c.look-kept.ensures.counted c.accounts-accounts.ensures.tree c.requires.there
+          not_whole st new c.args.of c.look.ensures.counted c.look.ensures.accounts.tree c.requires.there
           next.0 c.requires.first)
     ]
 
@@ -29,5 +29,5 @@ pub returns : goal.returns
 returns g c = c.in-Victim.ensures.rest
     ∙ ap (λ (st : Storage). with_state c.args.self.now (with_store c.args.self.now.state st))
     (passed_is c.args.self.now.state.store c.join_next.new.self.state.store c.args.of
-    c.look-kept.ensures.counted c.accounts-accounts.ensures.tree c.requires.there
+    c.look.ensures.counted c.look.ensures.accounts.tree c.requires.there
     c.in-Victim.ensures.next.0 c.in-Victim.ensures.next.1)

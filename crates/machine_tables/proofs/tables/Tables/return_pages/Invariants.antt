@@ -1,14 +1,11 @@
-use Rattle.std.proofs.Common.{◌≡◌, length}
+use Rattle.std.proofs.Common.{length}
 use Rattle.machine_model.specs.Reads.{frames_of_owner}
-use Rattle.machine_tables.specs.Parts.{with_state}
 use Rattle.machine_tables.proofs.BackLaws.{BacksOn}
+use Rattle.machine_tables.proofs.PartLaws.{Going}
 use Rattle.machine_tables.proofs.tables.Tables.return_pages.Given as goal
 
 abbrev pub invariant-loop-frame : goal.invariant-loop-frame
-invariant-loop-frame g l = record {
-  on : BacksOn l.self.state l.fn.self.state;
-  rest : l.self ≡ with_state l.fn.self l.self.state;
-}
+invariant-loop-frame g l = Going BacksOn l.self l.fn.self
 
 abbrev pub decreases-loop-frame : goal.decreases-loop-frame
 decreases-loop-frame g l = length (frames_of_owner l.self.state.owner)

@@ -14,7 +14,7 @@ cut_claimed-requires g c =
     let can = claim_after c.args.self.now.state c.take_claimed.new.self.state c.args.c Committing c.args.claim.what
     (frames_taken c.args.self.now.state.store c.args.claim.uid c.args.claim.low) c.args.process c.args.claim.uid
     c.args.claim.cuts (state_of c.args.self.now c.take_claimed.new.self _ c.take_claimed.ensures) c.requires.process
-    c.requires.owner c.requires.descriptors c.requires.room in
+    c.requires.takes.owner c.requires.takes.descriptors c.requires.takes.room in
     record {
       process = can.knows;
       active = λ needs. subst (λ (s : State). IsActive s.store.ast.entries c.args.claim.uid)
