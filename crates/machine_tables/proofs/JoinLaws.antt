@@ -1,6 +1,7 @@
 -- The next segment of the chain of a node: which it is, its pool, and what becomes of it.
 use Rattle.std.proofs.Common.{◌≡◌, ℕ, suc, zero, ◌+◌, ◌-◌, ◌<◌, ◌≤◌, Bool, true, false, not, cond, is_none}
 use Rattle.std.proofs.Common.{List, [], ◌∷◌, length, map, get_or, Option, Some, None, refl, sym, ap, subst, ◌∙◌, arith}
+use Rattle.std.proofs.Common.{◌⊎◌, inl, inr}
 use Rattle.std.specs.Prelude.{IsSome}
 use Rattle.std.specs.List.{find, range_with_len}
 use Rattle.std.proofs.lemmas.List.{get_or-map, length-map}
@@ -15,6 +16,8 @@ use Rattle.active_segs.specs.Pool.{first_of, size_of}
 use Rattle.active_segs.specs.Victim.{HasOneOffChain, first_off_chain, hand_moved, hand_past}
 use Rattle.page_control.specs.Tied.{map_at}
 use Rattle.seg_control.specs.declared.Link.{Link}
+use Rattle.seg_control.specs.declared.Next.{Next}
+use Rattle.seg_control.specs.declared.Next.TheVariants.{Activated, Victim, Whole}
 use Rattle.seg_control.specs.Control.{place_of}
 use Rattle.seg_control.specs.Kept.{IsInactive}
 use Rattle.seg_control.specs.Next.{AreActive, IsFirstInactive, link_at, made_active, no_link, superior_of}
@@ -33,7 +36,7 @@ use Rattle.machine_model.proofs.ActiveSeen.{active_place}
 use Rattle.machine_model.proofs.FindLaws.{find_true}
 use Rattle.machine_model.proofs.TieLaws.{none_some}
 use Rattle.machine_model.proofs.TransferKept.{active_at}
-use Rattle.machine_tables.specs.Activated.{FindsFull, JoinsAt, links_of, wanted_pool}
+use Rattle.machine_tables.specs.Activated.{FindsFull, Joins, JoinsAt, NeedsVictim, links_of, wanted_pool}
 use Rattle.machine_tables.specs.Taken.{IsEmptied, is_bare}
 
 -- ---- what is found in a list
@@ -246,6 +249,19 @@ module _ (st new : Storage) (of : ℕ) (h : IsStore st.pages st.ast st.links st.
       by : (o : Option ℕ) → o ≡ None → IsSome o → ⊥
       by None e some = let no : false ≡ true = some in cc
       by (Some u) e some = none_some (sym e)
+
+  -- a segment whose pool has a free place becomes active, and one whose pool is full has the pool's hand pass
+  pub must_join : (r : Next) → Joins st new chain r → IsSome (first_inactive st.ast uids)
+      → IsSome (free_place st.ast (wanted_pool st of)) → ((place : ℕ) × (r ≡ Victim place)) ⊎ (r ≡ Whole) → ⊥
+  must_join r joins first free (inl v) = let next = subst (Joins st new chain) v.1 joins in
+      no_victim next.0 next.1.first free next.1.full
+  must_join r joins first free (inr w) = not_whole (subst (Joins st new chain) w joins).0 first
+
+  pub must_pass : (r : Next) → Joins st new chain r → NeedsVictim st of
+      → ((place : ℕ) × (r ≡ Activated place)) ⊎ (r ≡ Whole) → ⊥
+  must_pass r joins needs (inl a) = let next = subst (Joins st new chain) a.1 joins in
+      none_some (sym needs.full ∙ joined_place a.0 next.0 next.1)
+  must_pass r joins needs (inr w) = not_whole (subst (Joins st new chain) w joins).0 needs.first
 
 -- a victim of which there is nothing to take is empty after the hand has moved too
 pub bare_after : (st : Storage) (pool : ℕ) (us : List ℕ) (uid : ℕ)

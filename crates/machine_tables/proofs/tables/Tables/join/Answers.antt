@@ -1,10 +1,8 @@
-use Rattle.std.proofs.Common.{inl, inr, ap, subst, ◌∙◌}
-use Rattle.seg_control.specs.declared.Next.{Next}
+use Rattle.std.proofs.Common.{ap, ◌∙◌}
 use Rattle.machine_model.specs.State.{Storage}
 use Rattle.machine_model.specs.Steps.{with_store}
-use Rattle.machine_tables.specs.Activated.{Joins, links_of}
 use Rattle.machine_tables.specs.Parts.{with_state}
-use Rattle.machine_tables.proofs.JoinLaws.{free_to_go, joined_is, joined_place, no_victim, not_whole}
+use Rattle.machine_tables.proofs.JoinLaws.{free_to_go, joined_is, joined_place, must_join}
 use Rattle.machine_tables.proofs.tables.Tables.join.Goals as goal
 
 pub join_next-requires-clause-off : goal.join_next-requires-clause-off
@@ -12,17 +10,9 @@ join_next-requires-clause-off g c = free_to_go c.args.self.now.state.store c.arg
     c.look.ensures.counted c.look.ensures.accounts.tree c.requires.there c.requires.free
 
 pub unreachable-requires : goal.unreachable-requires
-unreachable-requires g c =
-    let st : Storage = c.args.self.now.state.store in
-    let new : Storage = c.join_next.new.self.state.store in
-    elim c.in-Victim.is [
-      | inl v ↦ (let next = subst (λ (r : Next). Joins st new (links_of st c.args.of) r) v.1 c.join_next.ensures.next in
-          no_victim st new c.args.of c.look.ensures.counted c.look.ensures.accounts.tree c.requires.there
-          next.0 next.1.first c.requires.free next.1.full)
-      | inr w ↦ (let next = subst (λ (r : Next). Joins st new (links_of st c.args.of) r) w c.join_next.ensures.next in
-          not_whole st new c.args.of c.look.ensures.counted c.look.ensures.accounts.tree c.requires.there
-          next.0 c.requires.first)
-    ]
+unreachable-requires g c = must_join c.args.self.now.state.store c.join_next.new.self.state.store c.args.of
+    c.look.ensures.counted c.look.ensures.accounts.tree c.requires.there _ c.join_next.ensures.next c.requires.first
+    c.requires.free c.in-Victim.is
 
 pub returns-clause-place : goal.returns-clause-place
 returns-clause-place g c = joined_place c.args.self.now.state.store c.join_next.new.self.state.store c.args.of
