@@ -1,6 +1,7 @@
 -- A processor that does more than take part, drop and load has a process.
-use Rattle.std.proofs.Common.{◌≡◌, ◌<◌, ℕ, length, Bool, true, false, not, cond, eqb, List, [], ◌∷◌, Option, Some, None}
+use Rattle.std.proofs.Common.{◌≡◌, ◌<◌, ℕ, length, true, false, eqb, List, [], ◌∷◌, Option, Some, None}
 use Rattle.std.proofs.Common.{inl, inr, refl, sym, ap, subst, ◌∙◌}
+use Rattle.std.proofs.lemmas.Bool.{cond_both}
 use Rattle.std.proofs.lemmas.Bool.Decides.{eqb_tells}
 use Rattle.assoc_mem.specs.declared.What.{What}
 use Rattle.processor.specs.declared.Transfer.{Transfer}
@@ -13,6 +14,7 @@ use Rattle.machine_model.specs.Keeps.{Keeps}
 use Rattle.machine_model.specs.Reading.{IsReading}
 use Rattle.machine_model.specs.Reads.{or_zero, process_at, processor_at}
 use Rattle.machine_model.specs.State.{Owner, State}
+use Rattle.machine_model.proofs.ActionCases.{action_by}
 use Rattle.machine_model.proofs.RuleKept.{process_here}
 use Rattle.machine_model.proofs.StepAsks.{reads_for}
 use Rattle.machine_tables.specs.Parts.{Parts}
@@ -22,11 +24,6 @@ use Rattle.machine.specs.Turns.{IsBusy, is_of_process}
 -- what its action tells of a processor
 abbrev pub Busy : State → ℕ → act.Action → Type 0
 Busy s c a = is_of_process a ≡ true → IsBusy s c
-
-pick : (s : State) (c : ℕ) (b : Bool) (x y : act.Action) → (b ≡ true → Busy s c x) → (b ≡ false → Busy s c y)
-    → Busy s c (cond b x y)
-pick s c true x y f g = f refl
-pick s c false x y f g = g refl
 
 module _ (s : State) (c : ℕ) (k : Keeps s) (reading : IsReading s) (there : c < length s.processors) where
   abbrev p : Processor
@@ -45,8 +42,8 @@ module _ (s : State) (c : ℕ) (k : Keeps s) (reading : IsReading s) (there : c 
 
   owner_busy : (x : Option Owner) → s.owner ≡ x → Busy s c (own_or_run s c p x)
   owner_busy None e = run_busy p.cpu.process refl
-  owner_busy (Some q) e = pick s c (eqb q.cpu c) (go_on_with s (process_at s c) q q.phase)
-      (run_process s p p.cpu.process)
+  owner_busy (Some q) e = cond_both (eqb q.cpu c) (go_on_with s (process_at s c) q q.phase)
+      (run_process s p p.cpu.process) (Busy s c)
       (λ h g. process_here s c (no_call s) k there (record { owner = q; mine = e; same = is h }))
       (λ h. run_busy p.cpu.process refl)
     where
@@ -65,11 +62,7 @@ module _ (s : State) (c : ℕ) (k : Keeps s) (reading : IsReading s) (there : c 
   clear_busy None = transfer_busy p.cpu.transfer refl
 
   step_busy : Busy s c (action_of s c)
-  unfolding action_of
-  step_busy = pick s c s.stopped act.IsStopped _ (λ h. none)
-      (λ h. pick s c (is_over s) act.HasEnded _ (λ e. none)
-      (λ e. pick s c (not p.cpu.online) act.Online _ (λ off. none)
-      (λ on. clear_busy p.cpu.due)))
+  step_busy = action_by (Busy s c) s c none none (λ off. none) (λ on. clear_busy p.cpu.due)
 
   -- the same by the action's name
   pub busy_of : (a : act.Action) → action_of s c ≡ a → Busy s c a

@@ -1,6 +1,6 @@
 -- What the calls ask that let a page go, and that the machine keeps its promise through them, however the call of the
 -- drive ended.
-use Rattle.std.proofs.Common.{◌≡◌, ◌<◌, ◌≤◌, ℕ, true, false, length, sum, List, ◌∷◌, Some, refl, sym, ap}
+use Rattle.std.proofs.Common.{◌≡◌, ◌<◌, ◌≤◌, ℕ, true, false, length, sum, List, ◌∷◌, refl, sym, ap}
 use Rattle.std.proofs.Common.{subst, ◌∙◌, arith}
 use Rattle.std.specs.Prelude.{Err, IfOk, Ok, OnErr, Result}
 use Rattle.site_io.specs.Faults.{Rose}

@@ -5,6 +5,7 @@ use Rattle.std.proofs.Common.{None, inl, inr, refl, sym, ap, subst, ◌∙◌}
 use Rattle.std.specs.Prelude.{◌/◌, nat_le}
 use Rattle.std.specs.List.{find}
 use Rattle.std.specs.Option.{option_map}
+use Rattle.std.proofs.lemmas.Bool.{cond_both}
 use Rattle.std.proofs.lemmas.Bool.Decides.{eqb_tells}
 use Rattle.assoc_mem.specs.declared.HeldPage.{HeldPage}
 use Rattle.assoc_mem.specs.declared.HeldSeg.{HeldSeg}
@@ -39,6 +40,7 @@ use Rattle.machine_model.specs.Custodial.{AreHeldPages}
 use Rattle.machine_model.specs.Holding.{seen}
 use Rattle.machine_model.specs.Reads.{descriptor_of, is_due, next_command, process_at, processor_at}
 use Rattle.machine_model.specs.State.{Owner, State}
+use Rattle.machine_model.proofs.ActionCases.{action_by}
 use Rattle.machine_model.proofs.LookFacts.{LookFinds, look_finds}
 use Rattle.machine_model.proofs.RuleKept.{HasWaited, IsLooking, look_idle, process_here}
 use Rattle.machine_model.proofs.SpeakLaws.{speaks}
@@ -76,11 +78,6 @@ Found s c (act.Deactivate u) = Waited s c (aim.Deactivating u) (λ fs. fs ≡ []
 Found s c act.TakeSupervisor = s.owner ≡ None
 Found s c act.GiveUp = IsMine s c
 Found s c _ = Unit {0}
-
-pick : (s : State) (c : ℕ) (b : Bool) (x y : act.Action) → (b ≡ true → Found s c x)
-    → (b ≡ false → Found s c y) → Found s c (cond b x y)
-pick s c true x y f g = f refl
-pick s c false x y f g = g refl
 
 -- the frame of a page that is held has the page
 page_held : (bound : ℕ → Option (ℕ × ℕ)) (es : List HeldPage) (u q f : ℕ)
@@ -159,8 +156,8 @@ module _ (s : State) (c : ℕ) (m : IsMachine s) (there : c < length s.processor
       by : (xs : List ℕ) → Found s c (load_or_idle s xs)
       by [] = tt
       by (n ∷ ns) = tt
-  run_found (Some n) = pick s c (has_had_its_turn p && not (is_empty s.ready)) act.Leave
-      (come_to s p.cpu n (next_command s n)) (λ h. tt) (λ h. come (next_command s n))
+  run_found (Some n) = cond_both (has_had_its_turn p && not (is_empty s.ready)) act.Leave
+      (come_to s p.cpu n (next_command s n)) (Found s c) (λ h. tt) (λ h. come (next_command s n))
     where
       refer : (x : Option Reference) → Found s c (refer_or_take s p.cpu n x)
       refer None = take_found s.owner refl
@@ -239,8 +236,8 @@ module _ (s : State) (c : ℕ) (m : IsMachine s) (there : c < length s.processor
 
   owner_found : (x : Option Owner) → s.owner ≡ x → Found s c (own_or_run s c p x)
   owner_found None e = run_found p.cpu.process
-  owner_found (Some q) e = pick s c (eqb q.cpu c) (go_on_with s k q q.phase) (run_process s p p.cpu.process)
-      (λ h. mine (is h)) (λ h. run_found p.cpu.process)
+  owner_found (Some q) e = cond_both (eqb q.cpu c) (go_on_with s k q q.phase) (run_process s p p.cpu.process)
+      (Found s c) (λ h. mine (is h)) (λ h. run_found p.cpu.process)
     where
       is : eqb q.cpu c ≡ true → q.cpu ≡ c
       is h = elim (eqb_tells q.cpu c) [
@@ -262,11 +259,7 @@ module _ (s : State) (c : ℕ) (m : IsMachine s) (there : c < length s.processor
 
   -- What the rules found of the action of a step.
   pub step_found : Found s c (action_of s c)
-  unfolding action_of
-  step_found = pick s c s.stopped act.IsStopped _ (λ h. tt)
-      (λ h. pick s c (is_over s) act.HasEnded _ (λ e. tt)
-      (λ e. pick s c (not p.cpu.online) act.Online _ (λ off. tt)
-      (λ on. clear_found p.cpu.due)))
+  step_found = action_by (Found s c) s c tt tt (λ off. tt) (λ on. clear_found p.cpu.due)
 
   -- the same by the action's name
   pub found_of : (a : act.Action) → action_of s c ≡ a → Found s c a

@@ -1,17 +1,16 @@
 -- What the calls ask that bring a segment of a chain nearer: it becomes active, or the victim of its pool is emptied.
-use Rattle.std.proofs.Common.{◌≡◌, ◌<◌, ◌≤◌, ◌+◌, ℕ, true, is_some, length, List, Option, Some, None, refl}
+use Rattle.std.proofs.Common.{◌≡◌, ◌<◌, ℕ, true, is_some, length, List, Option, Some, None, refl}
 use Rattle.std.proofs.Common.{sym}
-use Rattle.std.proofs.Common.{ap, subst, ◌∙◌, arith}
+use Rattle.std.proofs.Common.{ap, subst, ◌∙◌}
 use Rattle.std.specs.Prelude.{IsSome}
 use Rattle.std.proofs.lemmas.List.{length-set}
 use Rattle.script.specs.Forms.{ArePools}
 use Rattle.script.specs.declared.commands.Command.{Command}
 use Rattle.tree_model.specs.Tree.{node_in}
 use Rattle.dir_tree.specs.Nodes.{chain_of}
-use Rattle.active_segs.specs.Active.{ActiveSegs, HasNoInferior, uid_at}
+use Rattle.active_segs.specs.Active.{HasNoInferior, uid_at}
 use Rattle.active_segs.specs.Victim.{HasOneOffChain, first_off_chain, hand_past}
-use Rattle.seg_control.specs.Kept.{IsKept}
-use Rattle.storage_ops.specs.Shown.{IsStore, is_there}
+use Rattle.storage_ops.specs.Shown.{is_there}
 use Rattle.machine_model.specs.Actions as act
 use Rattle.machine_model.specs.Actions.{action_of, pool_of_node}
 use Rattle.machine_model.specs.After.{after, no_call}

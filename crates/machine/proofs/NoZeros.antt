@@ -21,19 +21,17 @@ use Rattle.page_control.specs.Tied.{IsInFrame, vtoc_in}
 use Rattle.seg_control.specs.Control.{place_of}
 use Rattle.seg_control.specs.Kept.{IsHomeOf}
 use Rattle.storage_ops.specs.Shown.{is_filed, is_there, picture}
-use Rattle.machine_model.specs.Holding.{seen}
 use Rattle.machine_model.specs.Jobs.{are_zeros}
 use Rattle.machine_model.specs.Keeps.{Keeps}
 use Rattle.machine_model.specs.Reads.{flat_of, home_in, is_active}
 use Rattle.machine_model.specs.State.{State}
 use Rattle.machine_model.specs.Visits.{WasVisited}
 use Rattle.machine_model.proofs.ActiveSeen.{active_place}
-use Rattle.machine_model.proofs.FindLaws.{position_at, position_none}
+use Rattle.machine_model.proofs.PageShown.{frame_words}
 use Rattle.machine_model.proofs.TakeSeen.{binding_is}
 use Rattle.machine_model.proofs.TieLaws.{none_some}
 use Rattle.machine_model.proofs.TransferKept.{active_at}
 use Rattle.machine.specs.Shut.{AllVisited, HasNoZeros, words_of}
-use Rattle.machine.proofs.DiskLaws.{binding_tells}
 use Rattle.machine.proofs.VisitNext.{bound_there}
 
 zeros_to : (ws : List ℕ) → AreZero ws → are_zeros ws ≡ true
@@ -48,13 +46,6 @@ within : (ws : List ℕ) (i d : ℕ) → i < length ws → get_or ws i d ≡ get
 within [] i d lt = absurd (omega arith)
 within (w ∷ ws) zero d lt = refl
 within (w ∷ ws) (suc i) d lt = within ws i d (omega arith)
-
--- a frame with a page is bound to it
-binds : (u p : ℕ) → is_binding u p (Some (u, p)) ≡ true
-binds u p = elim (eqb_tells u u) [
-  | inl a ↦ elim (eqb_tells p p) [ inl b ↦ rw (a.0, b.0) refl | inr n ↦ absurd (n.1 refl) ]
-  | inr n ↦ absurd (n.1 refl)
-]
 
 -- ---- pages of 1024 words
 
@@ -77,29 +68,6 @@ full_disk disks full v = elim (cases_lt v (length disks)) [
 -- ---- zeros
 
 module _ (s : State) (k : Keeps s) where
-  -- a page in a frame has the words of the frame
-  frame_words : (u f p : ℕ) → (seen s).bound f ≡ Some (u, p) → words_of s u p ≡ words_in s.store.pages f
-  unfolding words_of_page
-  frame_words u f p bound = by (position (is_binding u p) (bindings s.store.pages.core)) refl
-    where
-      filed : Option ℕ
-      filed = record_at (vtoc_in s.store.pages.vtocs (home_in s.store u).volume) (home_in s.store u).entry p
-
-      by : (x : Option ℕ) → position (is_binding u p) (bindings s.store.pages.core) ≡ x
-          → words_held s.store.pages.frames (get_or s.store.pages.disks (home_in s.store u).volume []) filed x
-          ≡ words_in s.store.pages f
-      by None e = absurd (let no : true ≡ false = sym (ap (is_binding u p) bound ∙ binds u p)
-          ∙ position_none (is_binding u p) (bindings s.store.pages.core) None f e refl in cc)
-      by (Some g) e = ap (words_in s.store.pages) same
-        where
-          there : (seen s).bound g ≡ Some (u, p)
-          there = binding_tells u p ((seen s).bound g)
-              (position_at (is_binding u p) (bindings s.store.pages.core) None g e).1
-
-          same : g ≡ f
-          same = let one : ◌≡◌ {A = Option ℕ} (Some g) (Some f) =
-              sym (k.book.tied.named g u p there) ∙ k.book.tied.named f u p bound in cc
-
   module _ (u p : ℕ) (stored : is_stored (flat_of s).stored u p ≡ true) where
     filed : is_filed s.store.accounts s.store.pages.vtocs u p ≡ true
     filed = sym (k.faithful.pages.stored u p) ∙ stored
@@ -158,7 +126,7 @@ module _ (s : State) (k : Keeps s) where
               visited : WasVisited s.store.pages s.entries f → ⊥
               visited (inl none) = none_some (sym none ∙ page)
               visited (inr stayed) = (let no : true ≡ false =
-                  sym (zeros_to (words_in s.store.pages f) (subst AreZero (frame_words u f p bound) zeros))
+                  sym (zeros_to (words_in s.store.pages f) (subst AreZero (frame_words s k u f p bound) zeros))
                   ∙ stayed.words in cc)
 
       some_word : length (words_of s u p) ≤ 1024 → is_zero_page (flat_of s).words u p ≡ false

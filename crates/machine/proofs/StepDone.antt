@@ -27,8 +27,9 @@ use Rattle.machine_model.specs.Steps.{went_through, with_owner}
 use Rattle.machine_model.proofs.ActiveKept.{segs_gone_rest}
 use Rattle.machine_tables.specs.Claimed.{frames_for, pairs_for, took_for, what_for}
 use Rattle.machine_tables.specs.Parts.{Parts, outcome_of, with_state}
-use Rattle.machine.specs.Turns.{IfStill, IsStep, IsTurn, turn_of, why_by}
+use Rattle.machine.specs.Turns.{IfStill, IsStep, IsTurn, MayDo, turn_of, why_by}
 use Rattle.machine.proofs.CommitStays.{commit_faults}
+use Rattle.machine.specs.declared.turn.Turn.{Turn}
 use Rattle.machine.specs.declared.turn.Turn.TheVariants as turn
 
 -- ---- the drives' count stays
@@ -324,3 +325,9 @@ module _ {D Plan : Type 0} (plan : D → Plan) (places : D → ℕ) (old new : P
       → IsTurn plan places old new c (turn.Waits (why_by w))
   unfolding after
   waits_turn w doing = quiet_turn (act.Waits w) s (λ h. h) doing refl refl
+
+-- the turn of what a processor may do
+pub turned : {D Plan : Type 0} {plan : D → Plan} {places : D → ℕ} {t u new : Parts D} {c : ℕ} {a : act.Action}
+    {r : Turn} → t ≡ u → MayDo u.state c a → (MayDo t.state c a → IsTurn plan places t new c r)
+    → IsTurn plan places u new c r
+turned same may by = rw (← same) (by (rw same may))

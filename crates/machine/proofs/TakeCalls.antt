@@ -11,8 +11,6 @@ use Rattle.trailers.specs.Trailer.{trailers_of}
 use Rattle.page_table.specs.declared.Ptw.{Ptw}
 use Rattle.active_segs.specs.Active.{IsActive}
 use Rattle.seg_control.specs.Control.{is_for, place_of, table_of}
-use Rattle.seg_control.specs.Kept.{IsKept}
-use Rattle.storage_ops.specs.Shown.{IsStore}
 use Rattle.machine_model.specs.declared.Aim.TheVariants as aim
 use Rattle.machine_model.specs.Actions as act
 use Rattle.machine_model.specs.Actions.{action_of, descriptors_taken, first_taken, frames_taken}
@@ -29,7 +27,7 @@ use Rattle.machine_model.proofs.TieLaws.{none_some}
 use Rattle.machine_tables.specs.Claimed.{HasItsSegment, frames_for, of_segment, pairs_for, took_for, what_for}
 use Rattle.machine_tables.specs.Meant.{taken_for}
 use Rattle.machine_tables.specs.Owned.{HasOwner}
-use Rattle.machine_tables.specs.Parts.{Parts, with_state}
+use Rattle.machine_tables.specs.Parts.{Parts}
 use Rattle.machine.specs.Promise.{IsSound}
 use Rattle.machine.specs.Turns.{is_of_process}
 use Rattle.machine.proofs.AloneLaws.{process_known, run_there}

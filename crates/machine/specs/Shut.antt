@@ -1,5 +1,5 @@
 -- What a step of the shutdown does (own).
-use Rattle.std.specs.Prelude.{◌≡◌, ◌≤◌, ◌<◌, ◌++◌, ◌∷◌, ℕ, true, count_by, length, map, sum_by, List, Option, Some}
+use Rattle.std.specs.Prelude.{◌≡◌, ◌≤◌, ◌<◌, ◌++◌, ◌∷◌, ℕ, true, count_by, sum_by, List, Option, Some}
 use Rattle.std.specs.Prelude.{None}
 use Rattle.site_io.specs.Faults.{Rose}
 use Rattle.mword.specs.Words.{AreZero}
@@ -11,25 +11,17 @@ use Rattle.flat_model.specs.Pages.{is_stored}
 use Rattle.custody_model.specs.Clean.{custody_after}
 use Rattle.custody_model.specs.Custody.{bound_page}
 use Rattle.page_control.specs.Picture.{words_at}
-use Rattle.machine_model.specs.After.{Outcome}
 use Rattle.machine_model.specs.Keeps.{is_fault}
 use Rattle.machine_model.specs.Reads.{flat_of, home_in}
 use Rattle.machine_model.specs.Shutdown.{after_visit}
 use Rattle.machine_model.specs.State.{State}
 use Rattle.machine_model.specs.Visits.{TellsBack, WasVisited}
 use Rattle.machine_tables.specs.Parts.{Parts}
+use Rattle.machine.specs.Turns.{GoesOn}
 
--- The next frame was visited, and nothing else was done. If a call of a drive failed, the drives count more failures
--- than before. The drives' plans and places stay, and so does the room of the ready list.
-pub record HasVisited {D Plan : Type 0} (plan : D → Plan) (places : D → ℕ) (old new : Parts D) : Type 0 where
-  pub outcome : Outcome
-  pub done : new.state ≡ after_visit old.state outcome
-  pub rose : outcome.failed ≡ true → Rose old.state.faults new.state.faults
-  pub grows : old.state.faults ≤ new.state.faults
-  pub plans : map plan new.drives ≡ map plan old.drives
-  pub stores : map places new.drives ≡ map places old.drives
-  pub count : length new.drives ≡ length old.drives
-  pub room : new.room ≡ old.room
+-- The next frame was visited, and nothing else was done.
+abbrev pub HasVisited : {D Plan : Type 0} → (D → Plan) → (D → ℕ) → Parts D → Parts D → Type 0
+HasVisited plan places old new = GoesOn plan places old new (λ o. after_visit old.state o)
 
 -- What the entries that a visit adds tell of the drives: a failure only where the drives' counts rose, one at the most,
 -- and of no process.

@@ -7,31 +7,36 @@ use Rattle.book.specs.declared.replies.Reply.TheVariants as reply
 use Rattle.custody_model.specs.Next.{released_by}
 use Rattle.flat_model.specs.Store.{progress_of}
 use Rattle.site_io.specs.Faults.{Rose}
-use Rattle.site_io.specs.declared.gate.Point.{Point}
-use Rattle.site_io.specs.declared.gate.Point.TheVariants as point
 use Rattle.machine_model.specs.Actions as act
 use Rattle.machine_model.specs.Actions.{action_of}
 use Rattle.machine_model.specs.After.{Outcome, after}
 use Rattle.machine_model.specs.Keeps.{is_fault}
 use Rattle.machine_model.specs.Reads.{cpu_at, flat_of, next_command, process_at, processor_at, run_at}
 use Rattle.machine_model.specs.State.{State}
+use Rattle.machine_model.specs.Turns.{point_of}
 use Rattle.machine_tables.specs.Parts.{Parts}
 use Rattle.machine_tables.specs.declared.action.Why.{Why}
 use Rattle.machine_tables.specs.declared.action.Why.TheVariants as why
 use Rattle.machine.specs.declared.turn.Turn.{Turn}
 use Rattle.machine.specs.declared.turn.Turn.TheVariants as turn
 
--- Processor c has done its one action, as the rules give it, and nothing else. If a call of a drive failed, the drives
--- count more failures than before. The drives' plans and places stay, and so does the room of the ready list.
-pub record IsStep {D Plan : Type 0} (plan : D → Plan) (places : D → ℕ) (old new : Parts D) (c : ℕ) : Type 0 where
+-- The machine has gone on to its next state, by how the call of a drive came out, and nothing else was done. If the call
+-- failed, the drives count more failures than before. The drives' plans and places stay, and so does the room of the
+-- ready list.
+pub record GoesOn {D Plan : Type 0} (plan : D → Plan) (places : D → ℕ) (old new : Parts D) (next : Outcome → State)
+    : Type 0 where
   pub outcome : Outcome
-  pub done : new.state ≡ after old.state c (action_of old.state c) outcome
+  pub done : new.state ≡ next outcome
   pub rose : outcome.failed ≡ true → Rose old.state.faults new.state.faults
   pub grows : old.state.faults ≤ new.state.faults
   pub plans : map plan new.drives ≡ map plan old.drives
   pub stores : map places new.drives ≡ map places old.drives
   pub count : length new.drives ≡ length old.drives
   pub room : new.room ≡ old.room
+
+-- Processor c has done its one action, as the rules give it, and nothing else.
+abbrev pub IsStep : {D Plan : Type 0} → (D → Plan) → (D → ℕ) → Parts D → Parts D → ℕ → Type 0
+IsStep plan places old new c = GoesOn plan places old new (λ o. after old.state c (action_of old.state c) o)
 
 -- The rules give processor c this action, and the book has room for what a step adds.
 pub record MayDo (s : State) (c : ℕ) (a : act.Action) : Type 0 where
@@ -73,14 +78,6 @@ why_by (act.ForOwner cpu) = why.ForOwner cpu
 why_by (act.ForClear cpu) = why.ForClear cpu
 why_by (act.ForTransfer frame) = why.ForTransfer frame
 why_by (act.WhileIdle busy) = why.WhileIdle busy
-
--- where a processor stands after an action
-abbrev pub point_of : State → ℕ → act.Action → Point
-point_of s c act.Online = point.Online
-point_of s c (act.Load process) = point.Loaded process
-point_of s c (act.Through frame reference) = point.Answered (process_at s c)
-point_of s c (act.Signal what) = point.Signalled
-point_of s c _ = point.Other
 
 -- what a step with this action is answered
 abbrev pub turn_of : State → ℕ → act.Action → Turn

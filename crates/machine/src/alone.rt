@@ -129,7 +129,7 @@ impl<D: Drive> Machine<D> {
         let word = self.tables.reach(frame, &reference);
         let reply = word_reply(word, &reference.kind);
         self.tables.tell(c, process, Some(frame), reply);
-        let _tables = self.tables.look();
+        self.tables.look();
         Turn::Moved(Point::Answered(process))
     }
 }

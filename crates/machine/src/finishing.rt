@@ -17,9 +17,9 @@ impl<D: Drive> Machine<D> {
         ensures { IsTurn D.plan D.places self.old self.new c result }
     {
         let process = self.to_answer(c);
-        let _before = self.tables.look();
+        self.tables.look();
         let _read = self.tables.end_transfer(c, process, transfer);
-        let _tables = self.tables.look();
+        self.tables.look();
         Turn::Moved(Point::Other)
     }
 
@@ -31,9 +31,9 @@ impl<D: Drive> Machine<D> {
         ensures { IsTurn D.plan D.places self.old self.new c result }
     {
         let process = self.to_answer(c);
-        let _before = self.tables.look();
+        self.tables.look();
         let _gone = self.tables.finish_eviction(c, process, frame);
-        let _tables = self.tables.look();
+        self.tables.look();
         Turn::Moved(Point::Other)
     }
 
@@ -45,9 +45,9 @@ impl<D: Drive> Machine<D> {
         ensures { IsTurn D.plan D.places self.old self.new c result }
     {
         let process = self.to_answer(c);
-        let _before = self.tables.look();
+        self.tables.look();
         let _gone = self.tables.finish_page(c, process, frame);
-        let _tables = self.tables.look();
+        self.tables.look();
         Turn::Moved(Point::Other)
     }
 }

@@ -18,7 +18,7 @@ impl<D: Drive> Machine<D> {
         ensures { IsTurn D.plan D.places self.old self.new c result }
     {
         let _place = self.tables.activate(uid, uid);
-        let _tables = self.tables.look();
+        self.tables.look();
         Turn::Moved(Point::Other)
     }
 
@@ -30,7 +30,7 @@ impl<D: Drive> Machine<D> {
         ensures { IsTurn D.plan D.places self.old self.new c result }
     {
         self.tables.take_victim(c, of, uid);
-        let _tables = self.tables.look();
+        self.tables.look();
         Turn::Moved(Point::Other)
     }
 }

@@ -108,10 +108,10 @@ impl<D: Drive> Machine<D> {
         ensures gone { HasGone D.plan D.places self.old self.new }
         ensures turned { IfOk result (λ answer. HasTurned self.old.state self.new.state c answer) }
     {
-        let _before = self.look();
+        self.look();
         self.reserve()?;
         let answer = self.step(c);
-        let _now = self.look();
+        self.look();
         Ok(answer)
     }
 
@@ -120,7 +120,7 @@ impl<D: Drive> Machine<D> {
         requires { MayWait self.now.state c (Waits why) }
         ensures { WaitsFor self.now.state c (Waits why) result }
     {
-        let _tables = self.look();
+        self.look();
         match why {
             Why::ForClear(late) => late,
             Why::ForTransfer(frame) => self.reader_of(frame),
@@ -149,7 +149,7 @@ impl<D: Drive> Machine<D> {
         ensures gone { HasGone D.plan D.places self.old self.new }
         ensures fell { OnOk result (JobFell (outline_of self.old.state) (outline_of self.new.state) c) }
     {
-        let _tables = self.look();
+        self.look();
         let answer = self.turn(c)?;
         match self.awaited(c, answer) {
             Some(late) => {
@@ -184,7 +184,7 @@ impl<D: Drive> Machine<D> {
         ensures gone { HasGone D.plan D.places self.old self.new }
         ensures done { OnOk result (CommandDone (outline_of self.old.state) (outline_of self.new.state) c) }
     {
-        let _tables = self.look();
+        self.look();
         self.turn(c)?;
         match self.owner() {
             Some(owner) => self.finish_job(owner),
@@ -200,7 +200,7 @@ impl<D: Drive> Machine<D> {
         ensures gone { HasGone D.plan D.places self.old self.new }
         ensures done { OnOk result (RoundDone (outline_of self.old.state) (outline_of self.new.state)) }
     {
-        let _tables = self.look();
+        self.look();
         let since = self.count(c);
         while self.is_still_at(c, since) {
             self.command_turn(c)?;
@@ -218,7 +218,7 @@ impl<D: Drive> Machine<D> {
         ensures gone { HasGone D.plan D.places self.old self.new }
         ensures done { OnOk result (RoundDone (outline_of self.old.state) (outline_of self.new.state)) }
     {
-        let _tables = self.look();
+        self.look();
         match self.first_running() {
             Some(c) => self.finish_command(c),
             None => {

@@ -52,7 +52,7 @@ impl<D: Drive> Machine<D> {
         ensures conserved { IsConserved result.now.script (store_after result.now.script result.now.entries) }
         ensures faults { count_by is_fault result.now.entries ≤ sum_by D.faults self.now.drives }
     {
-        let _tables = self.tables.look();
+        self.tables.look();
         let book = self.tables.book();
         let _entries = book.entries();
         book

@@ -29,7 +29,7 @@ impl<D: Drive> Machine<D> {
     {
         let process = self.to_answer(c);
         self.tables.create(c, process, frame, uid, page, reference);
-        let _tables = self.tables.look();
+        self.tables.look();
         Turn::Moved(Point::Other)
     }
 
@@ -43,7 +43,7 @@ impl<D: Drive> Machine<D> {
     {
         let process = self.busy(c);
         self.tables.take_away(c, process);
-        let _tables = self.tables.look();
+        self.tables.look();
         Turn::Moved(Point::Other)
     }
     /// The next command of the process of processor `c`, a tree command that isn't refused, takes effect: what its job
@@ -56,7 +56,7 @@ impl<D: Drive> Machine<D> {
         let process = self.to_answer(c);
         let _volumes = self.tables.volumes().count();
         self.tables.commit(c, process);
-        let _tables = self.tables.look();
+        self.tables.look();
         Turn::Moved(Point::Other)
     }
 }

@@ -41,7 +41,7 @@ impl<D: Drive> Machine<D> {
         ensures { IsTurn D.plan D.places self.old self.new c result }
     {
         self.tables.start(c, f, uid, p);
-        let _tables = self.tables.look();
+        self.tables.look();
         Turn::Moved(Point::Other)
     }
 
@@ -54,7 +54,7 @@ impl<D: Drive> Machine<D> {
     {
         let process = self.busy(c);
         self.tables.connect(c, process, number, uid);
-        let _tables = self.tables.look();
+        self.tables.look();
         Turn::Moved(Point::Other)
     }
 }
@@ -67,7 +67,7 @@ impl<D: Drive> Machine<D> {
         ensures { IsTurn D.plan D.places self.old self.new c result }
     {
         self.tables.deactivate(c, uid);
-        let _tables = self.tables.look();
+        self.tables.look();
         Turn::Moved(Point::Other)
     }
 
@@ -78,7 +78,7 @@ impl<D: Drive> Machine<D> {
         ensures { IsTurn D.plan D.places self.old self.new c result }
     {
         let _f = self.tables.evict(c);
-        let _tables = self.tables.look();
+        self.tables.look();
         Turn::Moved(Point::Other)
     }
 
@@ -90,7 +90,7 @@ impl<D: Drive> Machine<D> {
         ensures { IsTurn D.plan D.places self.old self.new c result }
     {
         self.tables.empty(c, uid);
-        let _tables = self.tables.look();
+        self.tables.look();
         Turn::Moved(Point::Other)
     }
 }

@@ -18,9 +18,9 @@ impl<D: Drive> Machine<D> {
         ensures faults { TellsLoss D.faults self.old self.new }
         ensures entries { Appends self.old.state.entries self.new.state.entries 320 }
     {
-        let _before = self.tables.look();
+        self.tables.look();
         let _visited = self.tables.visit();
-        let _tables = self.tables.look();
+        self.tables.look();
     }
 
     /// Whether there is a frame that the shutdown hasn't visited.

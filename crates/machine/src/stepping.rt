@@ -87,10 +87,10 @@ impl<D: Drive> Machine<D> {
         ensures still { IfStill result (self.new ≡ self.old) }
         ensures faults { TellsFaults D.faults self.old self.new (process_at self.old.state c) }
     {
-        let _before = self.tables.look();
+        self.tables.look();
         let action = self.action(c);
         let turn = self.act(c, action);
-        let _after = self.tables.look();
+        self.tables.look();
         turn
     }
 }

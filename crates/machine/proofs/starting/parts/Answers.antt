@@ -1,10 +1,13 @@
-use Rattle.std.proofs.Common.{◌∙◌, ap, arith, length, sym}
+use Rattle.std.proofs.Common.{◌<◌, ◌∙◌, ap, arith, length, sym}
 use Rattle.std.proofs.lemmas.Grind.{common_steps}
 use Rattle.machine.proofs.FirstParts.{part_told, parts_none}
+use Rattle.machine.proofs.starting.parts.Given.{Over}
+use Rattle.machine.proofs.starting.parts.Goals.{After-len}
 use Rattle.machine.proofs.starting.parts.Goals as goal
 
-pub part-part-requires : goal.part-part-requires
-part-part-requires g c = grind (
+-- the drive's line is there
+within : (g : Over) (c : After-len g) → c.len.result < length c.args.lines.now
+within g c = grind (
   arith,
   common_steps,
   c.loop-drive.invariant.1,
@@ -14,20 +17,15 @@ part-part-requires g c = grind (
   c.in-Some.ensures.steps,
 )
 
+pub part-part-requires : goal.part-part-requires
+part-part-requires g c = within g (goal.at.part-part-requires g c).After-len
+
 pub loop-drive-preserved : goal.loop-drive-preserved
 loop-drive-preserved g c = (
   part_told c.args.lines.now c.loop-drive.yielded c.in-Some.drive c.part-part.result c.loop-drive.parts.items _
       c.len.result c.loop-drive.invariant.0
       (grind (arith, common_steps, c.len.ensures, c.loop-drive.invariant.1))
-      (grind (
-        arith,
-        common_steps,
-        c.loop-drive.invariant.1,
-        c.loop-drive.invariant.2,
-        c.requires,
-        c.len.ensures,
-        c.in-Some.ensures.steps,
-      )) c.part-part.ensures c.in_ok-add.ensures,
+      (within g (goal.at.loop-drive-preserved g c).After-len) c.part-part.ensures c.in_ok-add.ensures,
   grind (arith, common_steps, c.loop-drive.invariant.1, c.in_ok-add.ensures),
   grind (arith, common_steps, c.loop-drive.invariant.2, c.in-Some.ensures.steps),
 )

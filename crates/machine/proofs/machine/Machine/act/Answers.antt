@@ -1,4 +1,4 @@
-use Rattle.std.proofs.Common.{refl, sym, ap, ◌∙◌}
+use Rattle.std.proofs.Common.{refl, ap, ◌∙◌}
 use Rattle.machine_model.specs.Reads.{process_at}
 use Rattle.machine_tables.specs.Meant.{meant}
 use Rattle.machine.proofs.StepDone.{ended_turn, stopped_turn}

@@ -27,4 +27,4 @@ invariant_of-self g c = activate_sound _ c.args.c c.self.invariant (rw c.self.vi
     (activated _ c.args.c c.self.invariant (rw c.self.view_is c.requires.there) c.args.uid c.args.place
     c.activate-place.result (rw c.self.view_is c.requires.doing)
     c.activate-place.ensures.place c.activate-place.new.self c.activate-place.ensures.effect)
-    c.look-tables.ensures.kept c.look-tables.ensures.counted
+    c.look.ensures.kept c.look.ensures.counted

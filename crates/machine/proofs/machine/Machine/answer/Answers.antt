@@ -8,6 +8,5 @@ returns g c = rw (← c.self.view_is) (plain_turn _ _ _ _ c.args.c c.to_answer-p
 
 pub invariant_of-self : goal.invariant_of-self
 invariant_of-self g c = rw c.tell.ensures (answer_sound _ c.args.c c.self.invariant
-    (rw c.self.view_is c.requires.there) c.to_answer-process.result c.args.reply
-    (rw c.self.view_is c.to_answer-process.ensures.process)
-    (rw c.self.view_is c.requires.doing))
+    c.to_answer-process.result c.args.reply (rw c.self.view_is c.to_answer-process.ensures.process)
+    (rw c.self.view_is c.requires))

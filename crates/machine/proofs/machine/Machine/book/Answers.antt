@@ -12,4 +12,4 @@ returns-clause-faults g c =
     let short : length c.entries-entries.result.now < 2 ^ 63 = search rules in
     let same = ap (λ (es : List Entry). length es) (c.entries-entries.ensures ∙ c.book-book.ensures.entries) in
     rw (c.book-book.ensures.entries, ← c.self.view_is) (few_told c.self.inside.tables.state
-    c.self.invariant.keeps.machine.keeps _ (omega (arith, short, same)) c.look-tables.ensures.faults)
+    c.self.invariant.keeps.machine.keeps _ (omega (arith, short, same)) c.look.ensures.faults)

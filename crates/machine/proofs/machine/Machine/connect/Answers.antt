@@ -18,5 +18,5 @@ returns g c = rw (← c.self.view_is) (connect_turn _ _ _ _ c.args.c c.args.numb
 
 pub invariant_of-self : goal.invariant_of-self
 invariant_of-self g c = connect_sound _ c.args.c c.self.invariant (rw c.self.view_is c.requires.there) c.args.number
-    c.args.uid (rw c.self.view_is c.requires.doing) _ c.connect.ensures c.look-tables.ensures.kept
-    c.look-tables.ensures.counted
+    c.args.uid (rw c.self.view_is c.requires.doing) _ c.connect.ensures c.look.ensures.kept
+    c.look.ensures.counted

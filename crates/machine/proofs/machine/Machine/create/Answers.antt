@@ -25,7 +25,7 @@ invariant_of-self g c = create_sound _ c.args.c c.self.invariant (rw c.self.view
     c.args.frame c.args.uid c.args.page c.args.reference (rw c.self.view_is c.requires.doing)
     c.to_answer-process.result (rw c.self.view_is c.to_answer-process.ensures.process) c.create.new.self
     c.create.ensures.effect (record {
-      kept = c.look-tables.ensures.kept;
-      counted = c.look-tables.ensures.counted;
-      accounts = c.look-tables.ensures.accounts;
+      kept = c.look.ensures.kept;
+      counted = c.look.ensures.counted;
+      accounts = c.look.ensures.accounts;
     }) c.create.ensures.shown

@@ -16,4 +16,4 @@ returns g c = rw (← c.self.view_is) (empty_turn _ _ _ _ c.args.c c.args.uid (r
 
 pub invariant_of-self : goal.invariant_of-self
 invariant_of-self g c = empty_sound _ c.args.c c.self.invariant (rw c.self.view_is c.requires.there) c.args.uid
-    (rw c.self.view_is c.requires.doing) _ c.empty.ensures c.look-tables.ensures.kept c.look-tables.ensures.counted
+    (rw c.self.view_is c.requires.doing) _ c.empty.ensures c.look.ensures.kept c.look.ensures.counted

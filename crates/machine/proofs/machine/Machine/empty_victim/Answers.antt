@@ -19,4 +19,4 @@ returns g c = rw (← c.self.view_is) (victim_turn _ _ _ c.take_victim.new.self 
 pub invariant_of-self : goal.invariant_of-self
 invariant_of-self g c = victim_keeps _ c.args.c c.self.invariant (rw c.self.view_is c.requires.there) c.args.pool
     c.args.of c.args.uid (rw c.self.view_is c.requires.doing) c.take_victim.new.self c.take_victim.ensures
-    c.look-tables.ensures.kept c.look-tables.ensures.counted
+    c.look.ensures.kept c.look.ensures.counted

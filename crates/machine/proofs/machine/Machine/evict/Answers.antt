@@ -19,4 +19,4 @@ returns g c = rw (← c.self.view_is) (evict_turn _ _ _ _ c.args.c c.evict-f.res
 pub invariant_of-self : goal.invariant_of-self
 invariant_of-self g c = evict_sound _ c.args.c c.self.invariant (rw c.self.view_is c.requires.there)
     (rw c.self.view_is c.requires.doing) c.evict-f.result c.evict-f.ensures.choice _ c.evict-f.ensures.effect
-    c.look-tables.ensures.kept c.look-tables.ensures.counted
+    c.look.ensures.kept c.look.ensures.counted

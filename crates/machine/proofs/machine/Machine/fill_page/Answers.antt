@@ -1,6 +1,6 @@
 use Rattle.machine.proofs.AloneLaws.{page_not_held}
-use Rattle.machine.proofs.Quiet.{fill_page_sound}
-use Rattle.machine.proofs.StepDone.{fill_page_turn}
+use Rattle.machine.proofs.Quiet.{fill_page_sound, sounded}
+use Rattle.machine.proofs.StepDone.{fill_page_turn, turned}
 use Rattle.machine.proofs.machine.Machine.fill_page.Goals as goal
 
 pub fill_page-requires-clause-new : goal.fill_page-requires-clause-new
@@ -8,9 +8,7 @@ fill_page-requires-clause-new g c = page_not_held _ c.args.c c.self.invariant (r
     c.args.frame c.args.reference (rw c.self.view_is c.requires.doing)
 
 pub returns : goal.returns
-returns g c = rw (← c.self.view_is) (fill_page_turn _ _ _ _ c.args.c c.args.frame c.args.reference
-    (rw c.self.view_is c.requires.doing) c.fill_page.ensures)
+returns g c = turned c.self.view_is c.requires (λ m. fill_page_turn _ _ _ _ _ _ _ m.doing c.fill_page.ensures)
 
 pub invariant_of-self : goal.invariant_of-self
-invariant_of-self g c = rw c.fill_page.ensures (fill_page_sound _ c.args.c c.self.invariant
-    (rw c.self.view_is c.requires.there) c.args.frame c.args.reference (rw c.self.view_is c.requires.doing))
+invariant_of-self g c = sounded c.self.view_is c.requires c.fill_page.ensures (fill_page_sound _ _ c.self.invariant _ _)

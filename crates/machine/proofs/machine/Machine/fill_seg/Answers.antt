@@ -1,6 +1,6 @@
 use Rattle.machine.proofs.AloneLaws.{number_there, process_known, seg_not_held}
-use Rattle.machine.proofs.Quiet.{fill_seg_sound}
-use Rattle.machine.proofs.StepDone.{fill_seg_turn}
+use Rattle.machine.proofs.Quiet.{fill_seg_sound, sounded}
+use Rattle.machine.proofs.StepDone.{fill_seg_turn, turned}
 use Rattle.machine.proofs.machine.Machine.fill_seg.Goals as goal
 
 pub fill_seg-requires-clause-known : goal.fill_seg-requires-clause-known
@@ -17,9 +17,7 @@ fill_seg-requires-clause-new g c = seg_not_held _ c.args.c c.self.invariant (rw 
     c.args.number (rw c.self.view_is c.requires.doing)
 
 pub returns : goal.returns
-returns g c = rw (← c.self.view_is) (fill_seg_turn _ _ _ _ c.args.c c.args.number (rw c.self.view_is c.requires.doing)
-    c.fill_seg.ensures)
+returns g c = turned c.self.view_is c.requires (λ m. fill_seg_turn _ _ _ _ _ _ m.doing c.fill_seg.ensures)
 
 pub invariant_of-self : goal.invariant_of-self
-invariant_of-self g c = rw c.fill_seg.ensures (fill_seg_sound _ c.args.c c.self.invariant
-    (rw c.self.view_is c.requires.there) c.args.number (rw c.self.view_is c.requires.doing))
+invariant_of-self g c = sounded c.self.view_is c.requires c.fill_seg.ensures (fill_seg_sound _ _ c.self.invariant _)

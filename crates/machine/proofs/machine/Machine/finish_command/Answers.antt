@@ -7,7 +7,7 @@ pub loop-self-init : goal.loop-self-init
 loop-self-init g c = record {
   gone = gone_self g.D.Drive.plan g.D.Drive.places c.args.self.now;
   free = c.requires.free;
-  way = way_begins c.args.self.now.state c.args.c c.count-since.result c.look-tables.ensures.kept c.requires.runs
+  way = way_begins c.args.self.now.state c.args.c c.count-since.result c.look.ensures.kept c.requires.runs
       c.count-since.ensures;
 }
 

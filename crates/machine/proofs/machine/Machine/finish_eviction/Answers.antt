@@ -20,7 +20,7 @@ returns g c = rw (← c.self.view_is) (eviction_turn _ _ _ c.finish_eviction-gon
     (rw c.self.view_is c.requires.there)
     c.args.frame c.finish_eviction-gone.result c.finish_eviction-gone.new.self c.finish_eviction-gone.ensures.state)
     c.finish_eviction-gone.ensures.drives (call_counts _ _ _ _ _ _ c.finish_eviction-gone.result _ _
-    c.finish_eviction-gone.ensures.drives c.look-before.ensures.faults c.look-tables.ensures.faults)
+    c.finish_eviction-gone.ensures.drives c.look.ensures.faults c.look-2.ensures.faults)
     c.finish_eviction-gone.ensures.room)
 
 pub invariant_of-self : goal.invariant_of-self
@@ -29,9 +29,9 @@ invariant_of-self g c = eviction_sound _ c.args.c c.self.invariant (rw c.self.vi
     c.finish_eviction-gone.ensures.state
     c.finish_eviction-gone.ensures.how c.finish_eviction-gone.ensures.shown
     (call_counts _ _ _ _ _ _ c.finish_eviction-gone.result _ _
-    c.finish_eviction-gone.ensures.drives c.look-before.ensures.faults c.look-tables.ensures.faults)
+    c.finish_eviction-gone.ensures.drives c.look.ensures.faults c.look-2.ensures.faults)
     c.finish_eviction-gone.ensures.room (record {
-      kept = c.look-tables.ensures.kept;
-      counted = c.look-tables.ensures.counted;
-      accounts = c.look-tables.ensures.accounts;
+      kept = c.look-2.ensures.kept;
+      counted = c.look-2.ensures.counted;
+      accounts = c.look-2.ensures.accounts;
     })

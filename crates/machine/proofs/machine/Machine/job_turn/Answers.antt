@@ -4,12 +4,12 @@ use Rattle.machine.proofs.LoopCalls.{owner_turned}
 use Rattle.machine.proofs.machine.Machine.job_turn.Goals as goal
 
 pub turn-requires : goal.turn-requires
-turn-requires g c = owner_planned _ c.args.c c.look-tables.ensures.kept c.requires.owner
+turn-requires g c = owner_planned _ c.args.c c.look.ensures.kept c.requires.owner
 
 pub awaited-requires : goal.awaited-requires
 awaited-requires g c = may_wait c.args.self.now.state _ c.args.c c.in_ok-answer.answer
     (owner_turned c.args.self.now.state _ c.args.c c.in_ok-answer.answer c.in_ok-answer.ensures.turned c.requires.on
-    (owner_there _ c.args.c c.look-tables.ensures.kept c.requires.owner) c.requires.owner)
+    (owner_there _ c.args.c c.look.ensures.kept c.requires.owner) c.requires.owner)
 
 pub turn-requires-in-Some : goal.turn-requires-in-Some
 turn-requires-in-Some g c = awaited_planned _ c.args.c c.in-Some.late c.in_ok-answer.answer
@@ -20,12 +20,12 @@ returns-in_ok-turn-in-Some-clause-fell g c = awaited_fell c.args.self.now.state 
     c.turn-in-Some.new.self.state c.args.c c.in-Some.late c.in_ok-turn-in-Some.field-0
     (c.in_ok-answer.ensures.gone.stopped ∙ c.requires.on) c.in_ok-turn-in-Some.ensures.turned c.in_ok-answer.answer
     (owner_turned c.args.self.now.state _ c.args.c c.in_ok-answer.answer c.in_ok-answer.ensures.turned c.requires.on
-    (owner_there _ c.args.c c.look-tables.ensures.kept c.requires.owner) c.requires.owner)
+    (owner_there _ c.args.c c.look.ensures.kept c.requires.owner) c.requires.owner)
     c.in-Some.ensures.some
 
 pub returns-in-None-clause-fell : goal.returns-in-None-clause-fell
 returns-in-None-clause-fell g c = moved_alone c.args.self.now.state c.turn.new.self.state c.args.c
     c.in_ok-answer.answer
     (owner_turned c.args.self.now.state _ c.args.c c.in_ok-answer.answer c.in_ok-answer.ensures.turned c.requires.on
-    (owner_there _ c.args.c c.look-tables.ensures.kept c.requires.owner) c.requires.owner)
+    (owner_there _ c.args.c c.look.ensures.kept c.requires.owner) c.requires.owner)
     c.in-None.ensures.none

@@ -18,5 +18,5 @@ returns g c = rw (← c.self.view_is) (start_turn _ _ _ _ c.args.c c.args.f c.ar
 
 pub invariant_of-self : goal.invariant_of-self
 invariant_of-self g c = start_sound _ c.args.c c.self.invariant (rw c.self.view_is c.requires.there) c.args.f
-    c.args.uid c.args.p (rw c.self.view_is c.requires.doing) _ c.start.ensures c.look-tables.ensures.kept
-    c.look-tables.ensures.counted
+    c.args.uid c.args.p (rw c.self.view_is c.requires.doing) _ c.start.ensures c.look.ensures.kept
+    c.look.ensures.counted

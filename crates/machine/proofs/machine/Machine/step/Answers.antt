@@ -21,5 +21,5 @@ returns g c =
       moved = step_changes _ _ c.args.self.now _ c.args.c _ sound there c.act-turn.ensures;
       still = c.act-turn.ensures.still;
       faults = step_faults _ _ c.args.self.now _ c.args.c _ sound there c.act-turn.ensures _
-          (rw (← c.self.view_is) c.look-before.ensures.faults) (rw (← c.self-2.view_is) c.look-after.ensures.faults);
+          (rw (← c.self.view_is) c.look.ensures.faults) (rw (← c.self-2.view_is) c.look-2.ensures.faults);
     }

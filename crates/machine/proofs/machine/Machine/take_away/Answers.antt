@@ -27,4 +27,4 @@ returns g c = rw (← c.self.view_is) (take_away_turn _ _ _ c.take_away.new.self
 pub invariant_of-self : goal.invariant_of-self
 invariant_of-self g c = take_sound _ c.args.c c.self.invariant (rw c.self.view_is c.requires.there)
     c.busy-process.result (rw c.self.view_is c.busy-process.ensures) (rw c.self.view_is c.requires.doing)
-    c.take_away.new.self c.take_away.ensures c.look-tables.ensures.kept c.look-tables.ensures.counted
+    c.take_away.new.self c.take_away.ensures c.look.ensures.kept c.look.ensures.counted

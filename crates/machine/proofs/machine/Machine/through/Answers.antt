@@ -31,7 +31,7 @@ invariant_of-self g c = through_sound _ c.args.c c.self.invariant (rw c.self.vie
     (rw c.self.view_is c.to_answer-process.ensures.process) _ _ c.reach-word.result c.word_reply-reply.result
     c.reach-word.ensures.effect c.reach-word.ensures.word c.word_reply-reply.ensures c.tell.ensures
     c.reach-word.ensures.shown (record {
-      kept = c.look-tables.ensures.kept;
-      counted = c.look-tables.ensures.counted;
-      accounts = c.look-tables.ensures.accounts;
+      kept = c.look.ensures.kept;
+      counted = c.look.ensures.counted;
+      accounts = c.look.ensures.accounts;
     })

@@ -9,4 +9,4 @@ returns-clause-gone g c = gone_step g.D.Drive.plan g.D.Drive.places c.args.self.
 pub returns-clause-turned : goal.returns-clause-turned
 returns-clause-turned g c = turned_by g.D.Drive.plan g.D.Drive.places c.args.self.now c.reserve.new.self
     c.step-answer.new.self c.args.c c.step-answer.result c.reserve.new.self.state.spare c.reserve.ensures.rest
-    c.look-before.ensures.kept c.look-now.ensures.kept c.step-answer.ensures.turn
+    c.look.ensures.kept c.look-2.ensures.kept c.step-answer.ensures.turn

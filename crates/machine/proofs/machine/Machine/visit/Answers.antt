@@ -26,13 +26,13 @@ pub returns-clause-done : goal.returns-clause-done
 returns-clause-done g c = rw (← c.self.view_is) (visit_done _ c.self.invariant (rw c.self.view_is c.requires.over)
     c.visit-visited.result c.visit-visited.new.self (rw c.self.view_is c.requires.more) c.visit-visited.ensures.state
     c.visit-visited.ensures.shown c.visit-visited.ensures.zeros
-    (call_counts _ _ _ _ _ _ c.visit-visited.result _ _ c.visit-visited.ensures.drives c.look-before.ensures.faults
-    c.look-tables.ensures.faults)
+    (call_counts _ _ _ _ _ _ c.visit-visited.result _ _ c.visit-visited.ensures.drives c.look.ensures.faults
+    c.look-2.ensures.faults)
     g.D.Drive.plan g.D.Drive.places g.D.Drive.faults _ c.visit-visited.ensures.drives c.visit-visited.ensures.room)
 
 pub returns-clause-faults : goal.returns-clause-faults
 returns-clause-faults g c = visited_tells g.D.Drive.plan g.D.Drive.places g.D.Drive.faults _ _
-    (returns-clause-done g c) (rw (← c.self.view_is) c.look-before.ensures.faults) c.look-tables.ensures.faults
+    (returns-clause-done g c) (rw (← c.self.view_is) c.look.ensures.faults) c.look-2.ensures.faults
 
 pub returns-clause-entries : goal.returns-clause-entries
 returns-clause-entries g c = visited_adds g.D.Drive.plan g.D.Drive.places _ _ (returns-clause-done g c)
@@ -41,10 +41,10 @@ pub invariant_of-self : goal.invariant_of-self
 invariant_of-self g c = visit_sound _ c.self.invariant (rw c.self.view_is c.requires.over) c.visit-visited.result
     c.visit-visited.new.self (rw c.self.view_is c.requires.more) c.visit-visited.ensures.state
     c.visit-visited.ensures.shown c.visit-visited.ensures.zeros
-    (call_counts _ _ _ _ _ _ c.visit-visited.result _ _ c.visit-visited.ensures.drives c.look-before.ensures.faults
-    c.look-tables.ensures.faults)
+    (call_counts _ _ _ _ _ _ c.visit-visited.result _ _ c.visit-visited.ensures.drives c.look.ensures.faults
+    c.look-2.ensures.faults)
     c.visit-visited.ensures.room (record {
-      kept = c.look-tables.ensures.kept;
-      counted = c.look-tables.ensures.counted;
-      accounts = c.look-tables.ensures.accounts;
+      kept = c.look-2.ensures.kept;
+      counted = c.look-2.ensures.counted;
+      accounts = c.look-2.ensures.accounts;
     })
