@@ -41,18 +41,19 @@ cut_same None = refl
 cut_same (Some o) = refl
 
 -- each step of a loop leaves one less
-pub frame_smaller : {D : Type 0} {On : State → State → Type 0} {s first : Parts D} {f : ℕ} (t : Parts D)
-    → Going On s first → Some f ≡ slice_get (frames_of_owner s.state.owner) 0
-    → t.state.owner ≡ without_first_frame s.state.owner
-    → length (frames_of_owner t.state.owner) < length (frames_of_owner s.state.owner)
-frame_smaller {D} {On} {s} {first} {f} t going h is =
-    let next = ap length (frames_next s.state.owner f (sym h)) in
-    let left = ap (λ (x : Option Owner). length (frames_of_owner x)) is in omega (arith, next, left)
+one_less : {A : Type 0} (items : Option Owner → List A) (o now left : Option Owner) (x : A)
+    → items o ≡ x ∷ items left → now ≡ left → length (items now) < length (items o)
+one_less items o now left x next is =
+    let more = ap length next in
+    let fewer = ap (λ (y : Option Owner). length (items y)) is in omega (arith, more, fewer)
 
-pub cut_smaller : {D : Type 0} {On : State → State → Type 0} {s first : Parts D} {d : CutDescriptor} (t : Parts D)
-    → Going On s first → Some d ≡ slice_get (cut_of_owner s.state.owner) 0
-    → t.state.owner ≡ without_first_cut s.state.owner
-    → length (cut_of_owner t.state.owner) < length (cut_of_owner s.state.owner)
-cut_smaller {D} {On} {s} {first} {d} t going h is =
-    let next = ap length (cuts_after s.state.owner d (sym h)) in
-    let left = ap (λ (x : Option Owner). length (cut_of_owner x)) is in omega (arith, next, left)
+module _ {D : Type 0} {On : State → State → Type 0} {s first : Parts D} (t : Parts D) (going : Going On s first) where
+  pub frame_smaller : {f : ℕ} → Some f ≡ slice_get (frames_of_owner s.state.owner) 0
+      → t.state.owner ≡ without_first_frame s.state.owner
+      → length (frames_of_owner t.state.owner) < length (frames_of_owner s.state.owner)
+  frame_smaller {f} h = one_less frames_of_owner s.state.owner _ _ f (frames_next s.state.owner f (sym h))
+
+  pub cut_smaller : {d : CutDescriptor} → Some d ≡ slice_get (cut_of_owner s.state.owner) 0
+      → t.state.owner ≡ without_first_cut s.state.owner
+      → length (cut_of_owner t.state.owner) < length (cut_of_owner s.state.owner)
+  cut_smaller {d} h = one_less cut_of_owner s.state.owner _ _ d (cuts_after s.state.owner d (sym h))
