@@ -1,5 +1,7 @@
+use Rattle.std.proofs.Common.{refl}
+use Rattle.machine_model.specs.After.{after}
 use Rattle.machine.proofs.AloneLaws.{page_not_held}
-use Rattle.machine.proofs.Quiet.{fill_page_sound, sounded}
+use Rattle.machine.proofs.Quiet.{quiet_sound}
 use Rattle.machine.proofs.StepDone.{fill_page_turn, turned}
 use Rattle.machine.proofs.machine.Machine.fill_page.Goals as goal
 
@@ -11,4 +13,5 @@ pub returns : goal.returns
 returns g c = turned c.self.view_is c.requires (λ m. fill_page_turn _ _ _ _ _ _ _ m.doing c.fill_page.ensures)
 
 pub invariant_of-self : goal.invariant_of-self
-invariant_of-self g c = sounded c.self.view_is c.requires c.fill_page.ensures (fill_page_sound _ _ c.self.invariant _ _)
+unfolding after
+invariant_of-self g c = quiet_sound c.self.invariant c.self.view_is c.requires c.fill_page.ensures refl refl refl

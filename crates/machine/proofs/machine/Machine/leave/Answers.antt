@@ -1,5 +1,7 @@
+use Rattle.std.proofs.Common.{refl}
+use Rattle.machine_model.specs.After.{after}
 use Rattle.machine.proofs.AloneLaws.{ready_room, run_there}
-use Rattle.machine.proofs.Quiet.{leave_sound, sounded}
+use Rattle.machine.proofs.Quiet.{quiet_sound}
 use Rattle.machine.proofs.StepDone.{leave_turn, turned}
 use Rattle.machine.proofs.machine.Machine.leave.Goals as goal
 
@@ -15,4 +17,5 @@ pub returns : goal.returns
 returns g c = turned c.self.view_is c.requires (λ m. leave_turn _ _ _ _ _ m.doing c.leave.ensures)
 
 pub invariant_of-self : goal.invariant_of-self
-invariant_of-self g c = sounded c.self.view_is c.requires c.leave.ensures (leave_sound _ _ c.self.invariant)
+unfolding after
+invariant_of-self g c = quiet_sound c.self.invariant c.self.view_is c.requires c.leave.ensures refl refl refl

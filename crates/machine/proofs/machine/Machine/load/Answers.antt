@@ -1,4 +1,6 @@
-use Rattle.machine.proofs.Quiet.{load_sound, sounded}
+use Rattle.std.proofs.Common.{refl}
+use Rattle.machine_model.specs.After.{after}
+use Rattle.machine.proofs.Quiet.{quiet_sound}
 use Rattle.machine.proofs.StepDone.{load_turn, turned}
 use Rattle.machine.proofs.machine.Machine.load.Goals as goal
 
@@ -6,4 +8,5 @@ pub returns : goal.returns
 returns g c = turned c.self.view_is c.requires (λ m. load_turn _ _ _ _ _ _ m.doing c.load.ensures)
 
 pub invariant_of-self : goal.invariant_of-self
-invariant_of-self g c = sounded c.self.view_is c.requires c.load.ensures (load_sound _ _ c.self.invariant _)
+unfolding after
+invariant_of-self g c = quiet_sound c.self.invariant c.self.view_is c.requires c.load.ensures refl refl refl
