@@ -7,6 +7,7 @@ use Rattle.std.specs.Int.RustNames.{unsigned_abs}
 use Rattle.mnames.specs.declared.modes.Mode.{Mode}
 use Rattle.mnames.specs.declared.rows.Row.{Row as Named}
 use Rattle.script.specs.Plans.{Plan}
+use Rattle.script.specs.declared.commands.Command.{Command}
 use Rattle.script.specs.declared.commands.Command.TheVariants as command
 use Rattle.book.specs.declared.replies.Reply.{Reply}
 use Rattle.book.specs.declared.replies.Reply.TheVariants as reply
@@ -19,7 +20,7 @@ use Rattle.tree_model.specs.Trees.{has_segment}
 use Rattle.flat_model.specs.Branches.{branch_at, directory_at, node_at, only_directory, only_segment, segment_at}
 use Rattle.flat_model.specs.Commands.{takes_effect}
 use Rattle.flat_model.specs.Naming.{after_initiate, after_terminate, initiate_of, initiate_reply, initiated}
-use Rattle.flat_model.specs.Rights.{nodes_moved, row_with}
+use Rattle.flat_model.specs.Rights.{row_with}
 use Rattle.flat_model.specs.Store.{Store}
 use Rattle.seg_control.specs.Control.{kst_at}
 use Rattle.storage_ops.specs.Cut.{Commits, HasLengthSet}
@@ -29,8 +30,8 @@ use Rattle.flat_model.proofs.PathRefusals.{segment_refuses}
 use Rattle.tree_model.specs.Access.{with_row as with_row_of}
 use Rattle.machine_model.specs.Commits.{with_effect}
 use Rattle.machine_model.specs.Keeps.{IsFaithful}
-use Rattle.machine_model.specs.Refusal.{uid_at_path, uid_of_node}
-use Rattle.machine_tables.specs.Committed.{TakesEffect}
+use Rattle.machine_model.specs.Refusal.{uid_at_path, uid_of_command, uid_of_node}
+use Rattle.machine_tables.specs.Committed.{HasEffect, IsCommitted, TakesEffect}
 use Rattle.machine_tables.specs.Parts.{shown}
 use Rattle.machine_tables.proofs.ColumnLaws.{columns_same, maps_same, rising_same}
 use Rattle.machine_tables.proofs.RefusalLaws.{shows_of}
@@ -108,62 +109,51 @@ accounts_shown : {D : Type 0} (drive : D → List (List ℕ)) (t u : Stored D) (
 accounts_shown drive t u a rest is = ap (shown drive) rest
     ∙ ap (λ (x : AccountMaps). record (shown drive t) { accounts = x }) is
 
-pub row_committed : {D : Type 0} (drive : D → List (List ℕ)) (t u : Stored D) (k : ℕ) (path : List (List ℕ))
-    (row : Named) (m : Mode) (r : Reply) → HasColumns t.accounts → HasColumns u.accounts
-    → Commits drive t u k (command.Acl path row m) r
-    → (takes_effect r ≡ true → HasRowSet t.accounts u.accounts path (row_with row m))
-    → u ≡ record t { accounts = u.accounts } → TakesEffect drive t u k (command.Acl path row m) r
-row_committed drive t u k path row m r before after does done rest frames = record {
-  does = does;
-  exact = λ p flat faithful takes. (let set = done takes in
-      accounts_shown drive t u (record t.accounts { nodes = map (changing set.node.uid) t.accounts.nodes }) rest
-      (changed_nodes t.accounts u.accounts (changing set.node.uid) (keeps_one set.node.uid
-      (λ n. record n { rows = with_row_of (row_with row m) n.rows }) (keeps_rows (with_row_of (row_with row m))))
-      before after set.effect)
+-- a command of which only nodes change
+module _ {D : Type 0} (drive : D → List (List ℕ)) (t u : Stored D) (k : ℕ) (r : Reply) (before : HasColumns t.accounts)
+    (after : HasColumns u.accounts) (rest : u ≡ record t { accounts = u.accounts }) where
+  nodes_shown : (f : Node → Node) → Keeps f → Changes t.accounts u.accounts (map f t.accounts.nodes)
+      → shown drive u ≡ record (shown drive t) { accounts = record t.accounts { nodes = map f t.accounts.nodes } }
+  nodes_shown f keeps told = accounts_shown drive t u (record t.accounts { nodes = map f t.accounts.nodes }) rest
+      (changed_nodes t.accounts u.accounts f keeps before after told)
+
+  by_nodes : (c : Command) (frames : List ℕ) → Commits drive t u k c r → (HasEffect c r
+      → shown drive u ≡ with_effect (shown drive t) k (uid_of_command (shown drive t) k c) frames c)
+      → IsCommitted drive t u k frames c r
+  by_nodes c frames does exact = record {
+    does = does;
+    exact = λ p flat faithful takes. exact takes;
+    drives = ap (λ (x : Stored _). x.segs.pages.volumes.drives) rest;
+  }
+
+  pub row_committed : (path : List (List ℕ)) (row : Named) (m : Mode) → Commits drive t u k (command.Acl path row m) r
+      → (takes_effect r ≡ true → HasRowSet t.accounts u.accounts path (row_with row m))
+      → TakesEffect drive t u k (command.Acl path row m) r
+  row_committed path row m does done frames = by_nodes (command.Acl path row m) frames does (λ takes.
+      (let set = done takes in
+      nodes_shown _ (keeps_one set.node.uid (λ n. record n { rows = with_row_of (row_with row m) n.rows })
+      (keeps_rows (with_row_of (row_with row m)))) set.effect
       ∙ ap (λ (v : ℕ). with_effect (shown drive t) k v frames (command.Acl path row m))
-      (sym (segment_uid t.accounts.nodes path set.node set.found)));
-  drives = ap (λ (x : Stored _). x.segs.pages.volumes.drives) rest;
-}
-  where
-    changing : ℕ → Node → Node
-    changing v n = cond (eqb n.uid v) (record n { rows = with_row_of (row_with row m) n.rows }) n
+      (sym (segment_uid t.accounts.nodes path set.node set.found))))
 
-pub length_committed : {D : Type 0} (drive : D → List (List ℕ)) (t u : Stored D) (k : ℕ) (path : List (List ℕ))
-    (pages : ℕ) (r : Reply) → HasColumns t.accounts → HasColumns u.accounts
-    → Commits drive t u k (command.Length path pages) r
-    → (takes_effect r ≡ true → HasLengthSet t.accounts u.accounts path pages)
-    → u ≡ record t { accounts = u.accounts } → TakesEffect drive t u k (command.Length path pages) r
-length_committed drive t u k path pages r before after does done rest frames = record {
-  does = does;
-  exact = λ p flat faithful takes. (let set = done takes in
-      accounts_shown drive t u (record t.accounts { nodes = map (changing set.node.uid) t.accounts.nodes }) rest
-      (changed_nodes t.accounts u.accounts (changing set.node.uid) (keeps_one set.node.uid
-      (λ n. record n { pages = pages }) (keeps_length pages)) before after set.effect)
+  pub length_committed : (path : List (List ℕ)) (pages : ℕ) → Commits drive t u k (command.Length path pages) r
+      → (takes_effect r ≡ true → HasLengthSet t.accounts u.accounts path pages)
+      → TakesEffect drive t u k (command.Length path pages) r
+  length_committed path pages does done frames = by_nodes (command.Length path pages) frames does (λ takes.
+      (let set = done takes in
+      nodes_shown _ (keeps_one set.node.uid (λ n. record n { pages = pages }) (keeps_length pages)) set.effect
       ∙ ap (λ (v : ℕ). with_effect (shown drive t) k v frames (command.Length path pages))
-      (sym (segment_uid t.accounts.nodes path set.node set.found)));
-  drives = ap (λ (x : Stored _). x.segs.pages.volumes.drives) rest;
-}
-  where
-    changing : ℕ → Node → Node
-    changing v n = cond (eqb n.uid v) (record n { pages = pages }) n
+      (sym (segment_uid t.accounts.nodes path set.node set.found))))
 
-pub move_committed : {D : Type 0} (drive : D → List (List ℕ)) (t u : Stored D) (k : ℕ) (path : List (List ℕ))
-    (amount : ℤ) (r : Reply) → HasColumns t.accounts → HasColumns u.accounts
-    → Commits drive t u k (command.Move path amount) r
-    → (takes_effect r ≡ true → HasMoved t.accounts u.accounts path amount)
-    → u ≡ record t { accounts = u.accounts } → TakesEffect drive t u k (command.Move path amount) r
-move_committed drive t u k path amount r before after does done rest frames = record {
-  does = does;
-  exact = λ p flat faithful takes. (let set = done takes in
-      accounts_shown drive t u (record t.accounts { nodes = nodes_moved t.accounts.nodes set.node.uid amount }) rest
-      (changed_nodes t.accounts u.accounts _ (keeps_moved
-      (giver_of (above t.accounts.nodes) set.node.uid (is_positive amount))
-      (getter_of (above t.accounts.nodes) set.node.uid (is_positive amount)) (unsigned_abs amount))
-      before after set.effect)
+  pub move_committed : (path : List (List ℕ)) (amount : ℤ) → Commits drive t u k (command.Move path amount) r
+      → (takes_effect r ≡ true → HasMoved t.accounts u.accounts path amount)
+      → TakesEffect drive t u k (command.Move path amount) r
+  move_committed path amount does done frames = by_nodes (command.Move path amount) frames does (λ takes.
+      (let set = done takes in
+      nodes_shown _ (keeps_moved (giver_of (above t.accounts.nodes) set.node.uid (is_positive amount))
+      (getter_of (above t.accounts.nodes) set.node.uid (is_positive amount)) (unsigned_abs amount)) set.effect
       ∙ ap (λ (v : ℕ). with_effect (shown drive t) k v frames (command.Move path amount))
-      (sym (directory_uid t.accounts.nodes path set.node set.found)));
-  drives = ap (λ (x : Stored _). x.segs.pages.volumes.drives) rest;
-}
+      (sym (directory_uid t.accounts.nodes path set.node set.found))))
 
 -- ---- numbers
 
