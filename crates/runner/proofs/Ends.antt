@@ -1,12 +1,15 @@
 -- How each way out of a call ends. (own)
-use Rattle.std.proofs.Common.{◌≡◌, ℕ, ◌+◌, List, [], Option, Some, None, IfSome, refl, sym, ap}
-use Rattle.std.proofs.Common.{subst, arith}
+use Rattle.std.proofs.Common.{◌≡◌, ℕ, ◌+◌, ◌<◌, List, [], length, Option, Some, None, IfSome, is_some, true, refl}
+use Rattle.std.proofs.Common.{sym, ap, subst, arith}
 use Rattle.std.specs.Io.KnownBytes.{Appends, Keeps}
 use Rattle.std.proofs.KnownBytes.{Keeps-refl, Consumes-nil}
 use Rattle.site_io.specs.Streams.{AppendsFront, ConsumesFront}
+use Rattle.site_io.specs.declared.whole.Unread.{Unread}
+use Rattle.site_io.specs.declared.whole.Unread.TheVariants as unread
 use Rattle.make_work.specs.Day.{made}
 use Rattle.drill.specs.Texts.{drill_text}
-use Rattle.runner.specs.Endings.{MayHaveRun, Change, Ends, EndsSo, Failed, Printed, Runs, Writes, limit_of, whole, cut}
+use Rattle.runner.specs.Endings.{Change, Ends, EndsSo, Failed, IsReading, MayHaveRun, Printed, Runs, Unreads, Writes}
+use Rattle.runner.specs.Endings.{cut, limit_of, whole}
 use Rattle.runner.specs.Runs.{Machine}
 use Rattle.runner.specs.Texts.{usage_text}
 use Rattle.runner.specs.declared.finished.Finished.{Finished}
@@ -42,6 +45,19 @@ ends_without asked src out f s is without so reads = record {
   only = λ _. without;
   reads = reads;
 }
+
+-- the source couldn't be read
+pub ends_unread : (asked : Option Form) (src out : Change) (f : Finished) (u : Unread) → IsReading asked
+    → is_some asked ≡ true → Unreads u f.status out → f.machine ≡ None
+    → (u ≡ unread.TooLong → IfSome src.before (λ bytes. limit_of asked < length bytes))
+    → (u ≡ unread.ReadFault → Failed src) → ConsumesFront src.before src.after (limit_of asked + 1)
+    → Ends asked src out f
+ends_unread asked src out f unread.TooLong reading some un without longer fault reads =
+    ends_without asked src out f status.TooLong un.0 without (reading, longer refl, un.1) reads
+ends_unread asked src out f unread.ReadFault reading some un without longer fault reads =
+    ends_without asked src out f status.ReadFault un.0 without (reading, fault refl, un.1) reads
+ends_unread asked src out f unread.Memory reading some un without longer fault reads =
+    ends_without asked src out f status.Memory un.0 without (some, un.1) reads
 
 -- what holds of the bytes that were read holds of those that the source tells
 pub of_told : (left : Option (List ℕ)) (bytes : List ℕ) (P : List ℕ → Type 0) → IfSome left (λ all. bytes ≡ all)

@@ -4,6 +4,8 @@ use Rattle.std.specs.Prelude.{Option, Some, None, is_some, IfSome, IsSomeAnd, Re
 use Rattle.std.specs.Io.KnownBytes.{Appends, Keeps}
 use Rattle.site_io.specs.Faults.{Rose}
 use Rattle.site_io.specs.Streams.{AppendsFront, ConsumesFront}
+use Rattle.site_io.specs.declared.whole.Unread.{Unread}
+use Rattle.site_io.specs.declared.whole.Unread.TheVariants as unread
 use Rattle.script.specs.Grammar.{script_of}
 use Rattle.script.specs.declared.refusals.Refusal.{Refusal}
 use Rattle.listing.specs.Listings.{listing_of}
@@ -102,6 +104,12 @@ Printed status.Done out text = WritesAll out text
 Printed status.WriteFault out text = WritesFront out text
 Printed status.Memory out text = WritesNothing out
 Printed _ out text = ⊥
+
+-- the status that a source comes to which can't be read, and what was written
+abbrev pub Unreads : Unread → Status → Change → Type 0
+Unreads unread.TooLong s out = (s ≡ status.TooLong) × Writes out too_long_text
+Unreads unread.ReadFault s out = (s ≡ status.ReadFault) × WritesNothing out
+Unreads unread.Memory s out = (s ≡ status.Memory) × WritesNothing out
 
 -- a refusal was written, or nothing for want of memory
 abbrev pub Refuses : Status → Refusal → Change → Type 0

@@ -6,9 +6,9 @@ ghost use Rattle.runner.specs.declared.words.Form.TheVariants as form;
 use crate::NoMemory;
 use crate::finished::{Finished, Status};
 use crate::printing::{print, with_text, without_machine, write_refusal};
-use crate::reading::TOO_LONG;
+use crate::reading::end_unread;
 use book_check::{CheckFault, Offence, check_book};
-use site_io::{Sink, Source, Unread, read_all};
+use site_io::{Sink, Source, read_all};
 use std::alloc::Global;
 
 /// The most bytes that a script with its listing has.
@@ -70,9 +70,7 @@ pub(crate) fn read_and_check<S: Source, K: Sink>(
 {
     let bytes = match read_all(alloc, src, LISTING_BYTES) {
         Ok(bytes) => bytes,
-        Err(Unread::TooLong) => return with_text(out, TOO_LONG, Status::TooLong),
-        Err(Unread::ReadFault) => return without_machine(Status::ReadFault),
-        Err(Unread::Memory) => return without_machine(Status::Memory),
+        Err(unread) => return end_unread(unread, out),
     };
     match check_book(alloc, &bytes) {
         Ok(entries) => write_accepted(alloc, entries, out),

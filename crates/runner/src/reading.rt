@@ -1,4 +1,5 @@
-ghost use Rattle.runner.specs.Endings.{change, Ends};
+ghost use Rattle.std.specs.Prelude.{◌≡◌, None};
+ghost use Rattle.runner.specs.Endings.{change, Ends, Unreads};
 ghost use Rattle.runner.specs.declared.words.Form.TheVariants as form;
 
 use crate::finished::{Finished, Status};
@@ -14,7 +15,20 @@ use std::thread::Threads;
 pub const SCRIPT_BYTES: usize = 4_194_304;
 
 /// What is written where the source has too many bytes.
-pub(crate) const TOO_LONG: &[u8] = b"script too long\n";
+const TOO_LONG: &[u8] = b"script too long\n";
+
+/// Ends a call whose source couldn't be read: of one that has too many bytes that is written.
+pub(crate) fn end_unread<K: Sink>(unread: Unread, out: &mut K) -> Finished
+    ensures unread { Unreads unread result.status
+        (change (K.held out.old) (K.held out.new) (K.faults out.old) (K.faults out.new)) }
+    ensures machine { result.machine ≡ None }
+{
+    match unread {
+        Unread::TooLong => with_text(out, TOO_LONG, Status::TooLong),
+        Unread::ReadFault => without_machine(Status::ReadFault),
+        Unread::Memory => without_machine(Status::Memory),
+    }
+}
 
 /// Reads a script from the source to its end, runs it, and writes its listing.
 pub(crate) fn read_and_run<R: Threads + Wait + Sync, S: Source, K: Sink, G: Gate + Sync>(
@@ -30,9 +44,7 @@ pub(crate) fn read_and_run<R: Threads + Wait + Sync, S: Source, K: Sink, G: Gate
 {
     let bytes = match read_all(alloc, src, SCRIPT_BYTES) {
         Ok(bytes) => bytes,
-        Err(Unread::TooLong) => return with_text(out, TOO_LONG, Status::TooLong),
-        Err(Unread::ReadFault) => return without_machine(Status::ReadFault),
-        Err(Unread::Memory) => return without_machine(Status::Memory),
+        Err(unread) => return end_unread(unread, out),
     };
     match read_script(alloc, &bytes) {
         Ok(script) => run_script(rt, alloc, script, out, gate),
