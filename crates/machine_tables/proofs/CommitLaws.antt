@@ -112,11 +112,6 @@ accounts_shown drive t u a rest is = ap (shown drive) rest
 -- a command of which only nodes change
 module _ {D : Type 0} (drive : D → List (List ℕ)) (t u : Stored D) (k : ℕ) (r : Reply) (before : HasColumns t.accounts)
     (after : HasColumns u.accounts) (rest : u ≡ record t { accounts = u.accounts }) where
-  nodes_shown : (f : Node → Node) → Keeps f → Changes t.accounts u.accounts (map f t.accounts.nodes)
-      → shown drive u ≡ record (shown drive t) { accounts = record t.accounts { nodes = map f t.accounts.nodes } }
-  nodes_shown f keeps told = accounts_shown drive t u (record t.accounts { nodes = map f t.accounts.nodes }) rest
-      (changed_nodes t.accounts u.accounts f keeps before after told)
-
   by_nodes : (c : Command) (frames : List ℕ) → Commits drive t u k c r → (HasEffect c r
       → shown drive u ≡ with_effect (shown drive t) k (uid_of_command (shown drive t) k c) frames c)
       → IsCommitted drive t u k frames c r
@@ -126,34 +121,41 @@ module _ {D : Type 0} (drive : D → List (List ℕ)) (t u : Stored D) (k : ℕ)
     drives = ap (λ (x : Stored _). x.segs.pages.volumes.drives) rest;
   }
 
+  nodes_shown : (c : Command) (frames : List ℕ) (f : Node → Node) (v : ℕ) → Keeps f
+      → Changes t.accounts u.accounts (map f t.accounts.nodes)
+      → record (shown drive t) { accounts = record t.accounts { nodes = map f t.accounts.nodes } }
+      ≡ with_effect (shown drive t) k v frames c → uid_of_command (shown drive t) k c ≡ v
+      → shown drive u ≡ with_effect (shown drive t) k (uid_of_command (shown drive t) k c) frames c
+  nodes_shown c frames f v keeps told same uid =
+      accounts_shown drive t u (record t.accounts { nodes = map f t.accounts.nodes }) rest
+      (changed_nodes t.accounts u.accounts f keeps before after told)
+      ∙ (same ∙ ap (λ (x : ℕ). with_effect (shown drive t) k x frames c) (sym uid))
+
   pub row_committed : (path : List (List ℕ)) (row : Named) (m : Mode) → Commits drive t u k (command.Acl path row m) r
       → (takes_effect r ≡ true → HasRowSet t.accounts u.accounts path (row_with row m))
       → TakesEffect drive t u k (command.Acl path row m) r
   row_committed path row m does done frames = by_nodes (command.Acl path row m) frames does (λ takes.
-      (let set = done takes in
-      nodes_shown _ (keeps_one set.node.uid (λ n. record n { rows = with_row_of (row_with row m) n.rows })
-      (keeps_rows (with_row_of (row_with row m)))) set.effect
-      ∙ ap (λ (v : ℕ). with_effect (shown drive t) k v frames (command.Acl path row m))
-      (sym (segment_uid t.accounts.nodes path set.node set.found))))
+      (let set = done takes in nodes_shown (command.Acl path row m) frames _ set.node.uid
+      (keeps_one set.node.uid (λ n. record n { rows = with_row_of (row_with row m) n.rows })
+      (keeps_rows (with_row_of (row_with row m)))) set.effect refl
+      (segment_uid t.accounts.nodes path set.node set.found)))
 
   pub length_committed : (path : List (List ℕ)) (pages : ℕ) → Commits drive t u k (command.Length path pages) r
       → (takes_effect r ≡ true → HasLengthSet t.accounts u.accounts path pages)
       → TakesEffect drive t u k (command.Length path pages) r
   length_committed path pages does done frames = by_nodes (command.Length path pages) frames does (λ takes.
-      (let set = done takes in
-      nodes_shown _ (keeps_one set.node.uid (λ n. record n { pages = pages }) (keeps_length pages)) set.effect
-      ∙ ap (λ (v : ℕ). with_effect (shown drive t) k v frames (command.Length path pages))
-      (sym (segment_uid t.accounts.nodes path set.node set.found))))
+      (let set = done takes in nodes_shown (command.Length path pages) frames _ set.node.uid
+      (keeps_one set.node.uid (λ n. record n { pages = pages }) (keeps_length pages)) set.effect refl
+      (segment_uid t.accounts.nodes path set.node set.found)))
 
   pub move_committed : (path : List (List ℕ)) (amount : ℤ) → Commits drive t u k (command.Move path amount) r
       → (takes_effect r ≡ true → HasMoved t.accounts u.accounts path amount)
       → TakesEffect drive t u k (command.Move path amount) r
   move_committed path amount does done frames = by_nodes (command.Move path amount) frames does (λ takes.
-      (let set = done takes in
-      nodes_shown _ (keeps_moved (giver_of (above t.accounts.nodes) set.node.uid (is_positive amount))
-      (getter_of (above t.accounts.nodes) set.node.uid (is_positive amount)) (unsigned_abs amount)) set.effect
-      ∙ ap (λ (v : ℕ). with_effect (shown drive t) k v frames (command.Move path amount))
-      (sym (directory_uid t.accounts.nodes path set.node set.found))))
+      (let set = done takes in nodes_shown (command.Move path amount) frames _ set.node.uid
+      (keeps_moved (giver_of (above t.accounts.nodes) set.node.uid (is_positive amount))
+      (getter_of (above t.accounts.nodes) set.node.uid (is_positive amount)) (unsigned_abs amount)) set.effect refl
+      (directory_uid t.accounts.nodes path set.node set.found)))
 
 -- ---- numbers
 

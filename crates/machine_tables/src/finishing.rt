@@ -33,9 +33,7 @@ use volumes::Drive;
 impl<D: Drive> Tables<D> {
     /// The page in a frame, which was on its way out, is here again.
     pub(crate) fn bring_back(&mut self, f: u32)
-        requires bound { is_bound (frame_at self.old.state.store.pages.core f) ≡ true }
-        requires leaving { word_of self.old.state.store.ast (page_in self.old.state.store f).0
-            (page_in self.old.state.store f).1 ≡ Leaving f }
+        requires { IsLeaving self.old.state.store f }
         ensures { self.new ≡ with_state self.old
             (with_store self.old.state (with_here self.old.state.store f)) }
     {
