@@ -8,6 +8,7 @@ use Rattle.page_table.specs.declared.Ptw.TheVariants.{Leaving, Null}
 use Rattle.vtoc.specs.Vtoc.{least_free_entry}
 use Rattle.active_segs.specs.Active.{ActiveSegs, IsActive, deactivated}
 use Rattle.page_control.specs.declared.Home.{Home}
+use Rattle.page_control.specs.Tied.{IsNotStarted}
 use Rattle.page_control.specs.Effects.{allocated, cut, dropped, erased}
 use Rattle.page_control.specs.Plain.{Plain, plain, vtoc_of, words_in}
 use Rattle.seg_control.specs.Control.{place_of, word_of}
@@ -104,6 +105,12 @@ pub record Erases {D : Type 0} (drive : D → List (List ℕ)) (old new : Storag
 -- no other segment has another count
 abbrev pub CountsOthers : AccountMaps → AccountMaps → ℕ → Type 0
 CountsOthers old new uid = (s : ℕ) → s ≢ uid → count_of new s ≡ count_of old s
+
+-- A page of an active segment, whose home this is, may be stored no more: no transfer of it has started.
+pub record MayLose {D : Type 0} (t : Storage D) (uid page : ℕ) (at : Home) : Type 0 where
+  pub home : at ≡ home_of t.accounts uid
+  pub active : IsActive t.segs.ast.entries uid
+  pub idle : IsNotStarted t.segs.pages.core uid page
 
 -- A page of an active segment is stored no more, in each flat store that is shown and in the tables. The accounts of
 -- all other segments count as before.

@@ -5,7 +5,7 @@ ghost use Rattle.tree_model.specs.Tree.{Node};
 ghost use Rattle.flat_model.specs.Branches.{segment_at};
 ghost use Rattle.page_table.specs.declared.Ptw.TheVariants.{Null};
 ghost use Rattle.active_segs.specs.Active.{IsActive};
-ghost use Rattle.page_control.specs.Tied.{IsNotStarted, is_away, is_out};
+ghost use Rattle.page_control.specs.Tied.{is_away, is_out};
 ghost use Rattle.seg_control.specs.Control.{word_of};
 ghost use Rattle.script.specs.Plans.{Plan};
 ghost use Rattle.flat_model.specs.Cuts.{cleared, cut_once, has_cleared, without_pages};
@@ -14,8 +14,8 @@ ghost use Rattle.flat_model.specs.Store.{Store as Flat};
 ghost use Rattle.storage_ops.specs.Shown.{Shows, answered, home_of, pages_in};
 ghost use Rattle.storage_ops.specs.Cut.{CutsPages, IsTakenFrom, IsTakenPast, IsTakenPastAt, KeepsRest};
 ghost use Rattle.storage_ops.specs.Cut.{Unstores, is_here, leaves};
-ghost use Rattle.storage_ops.specs.CutOff.{CountsOthers, LosesPage, cut_at, cut_by, is_cleared, page_cleared};
-ghost use Rattle.storage_ops.specs.CutOff.{paged, pages_cut, pages_from};
+ghost use Rattle.storage_ops.specs.CutOff.{CountsOthers, LosesPage, MayLose, cut_at, cut_by, is_cleared};
+ghost use Rattle.storage_ops.specs.CutOff.{page_cleared, paged, pages_cut, pages_from};
 
 use crate::store::{Store, look};
 use active_segs::Ast;
@@ -65,10 +65,8 @@ fn leaves(word: Ptw) -> Option<u32>
 impl<D: Drive> Store<D> {
     /// A stored page of an active segment is stored no more, and its account is credited.
     fn drop_page(&mut self, uid: u32, page: u32, home: Home)
-        requires home { home ≡ home_of self.old.accounts uid }
-        requires active { IsActive self.old.segs.ast.entries uid }
+        requires may { MayLose self.old uid page home }
         requires away { is_away (word_of self.old.segs.ast uid page) ≡ true }
-        requires idle { IsNotStarted self.old.segs.pages.core uid page }
         ensures { LosesPage D.pages self.old self.new uid page }
     {
         look(&self.segs);
@@ -78,13 +76,10 @@ impl<D: Drive> Store<D> {
 
     /// A page of an active segment is stored no more, if it was.
     fn unstore(&mut self, uid: u32, page: u32, home: Home)
-        requires home { home ≡ home_of self.old.accounts uid }
-        requires active { IsActive self.old.segs.ast.entries uid }
+        requires may { MayLose self.old uid page home }
         requires taken { is_here (word_of self.old.segs.ast uid page) ≡ false }
-        requires idle { IsNotStarted self.old.segs.pages.core uid page }
         ensures { LosesPage D.pages self.old self.new uid page }
     {
-        look(&self.segs);
         if is_away(word_of(self.segs.ast(), uid, page)) {
             self.drop_page(uid, page, home);
         }

@@ -22,23 +22,21 @@ home-home-requires g c =
     ∙ active_there (plain g.D.Drive.pages c.self.inside.segs.pages) c.self.inside.segs.ast c.self.inside.segs.links
     c.self.inside.accounts c.self.inside.whos.items c.look.ensures.kept c.self.invariant c.args.uid active
 
-pub drop_page-requires-clause-home : goal.drop_page-requires-clause-home
-drop_page-requires-clause-home g c = c.home-home.ensures.home
-    ∙ sym (home_still c.args.self.now c.clear_page.new.self c.args.uid (λ q. false) c.args.uid
-    c.clear_page.ensures.rest)
-
-pub drop_page-requires-clause-active : goal.drop_page-requires-clause-active
-drop_page-requires-clause-active g c = active_still c.args.self.now c.clear_page.new.self c.args.uid (λ q. false)
-    c.clear_page.ensures.rest c.requires.past.active
+pub drop_page-requires-clause-may : goal.drop_page-requires-clause-may
+drop_page-requires-clause-may g c = record {
+  home = c.home-home.ensures.home
+      ∙ sym (home_still c.args.self.now c.clear_page.new.self c.args.uid (λ q. false) c.args.uid
+      c.clear_page.ensures.rest);
+  active = active_still c.args.self.now c.clear_page.new.self c.args.uid (λ q. false) c.clear_page.ensures.rest
+      c.requires.past.active;
+  idle = idle_still c.args.self.now.segs.pages.core c.clear_page.new.self.segs.pages.core c.args.uid
+      (c.args.words / 1024) c.clear_page.ensures.rest.reads
+      (c.requires.past.past.idle (c.args.words / 1024) (omega arith));
+}
 
 pub drop_page-requires-clause-away : goal.drop_page-requires-clause-away
 drop_page-requires-clause-away g c = ap is_away (c.clear_page.ensures.rest.kept (c.args.words / 1024) refl)
     ∙ c.clear_page.ensures.away c.if-clear_page.true
-
-pub drop_page-requires-clause-idle : goal.drop_page-requires-clause-idle
-drop_page-requires-clause-idle g c = idle_still c.args.self.now.segs.pages.core c.clear_page.new.self.segs.pages.core
-    c.args.uid (c.args.words / 1024) c.clear_page.ensures.rest.reads
-    (c.requires.past.past.idle (c.args.words / 1024) (omega arith))
 
 pub returns-then-clear_page-clause-rest : goal.returns-then-clear_page-clause-rest
 returns-then-clear_page-clause-rest g c =

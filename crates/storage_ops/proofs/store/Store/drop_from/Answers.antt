@@ -42,24 +42,21 @@ loop-page-init g c =
       omega arith,
     )
 
-pub unstore-requires-clause-home : goal.unstore-requires-clause-home
-unstore-requires-clause-home g c = c.home-home.ensures.home
-    ∙ sym (home_still c.args.self.now c.loop-page.self c.args.uid (between c.args.from c.loop-page.page) c.args.uid
-    c.loop-page.invariant.1)
-
-pub unstore-requires-clause-active : goal.unstore-requires-clause-active
-unstore-requires-clause-active g c = active_still c.args.self.now c.loop-page.self c.args.uid
-    (between c.args.from c.loop-page.page) c.loop-page.invariant.1 c.requires.active
+pub unstore-requires-clause-may : goal.unstore-requires-clause-may
+unstore-requires-clause-may g c = record {
+  home = c.home-home.ensures.home
+      ∙ sym (home_still c.args.self.now c.loop-page.self c.args.uid (between c.args.from c.loop-page.page) c.args.uid
+      c.loop-page.invariant.1);
+  active = active_still c.args.self.now c.loop-page.self c.args.uid (between c.args.from c.loop-page.page)
+      c.loop-page.invariant.1 c.requires.active;
+  idle = idle_still c.args.self.now.segs.pages.core c.loop-page.self.segs.pages.core c.args.uid c.loop-page.page
+      c.loop-page.invariant.1.reads (c.requires.taken.idle c.loop-page.page c.loop-page.invariant.2);
+}
 
 pub unstore-requires-clause-taken : goal.unstore-requires-clause-taken
 unstore-requires-clause-taken g c =
     ap is_here (c.loop-page.invariant.1.kept c.loop-page.page (between_past c.args.from c.loop-page.page))
     ∙ c.requires.taken.taken c.loop-page.page c.loop-page.invariant.2
-
-pub unstore-requires-clause-idle : goal.unstore-requires-clause-idle
-unstore-requires-clause-idle g c = idle_still c.args.self.now.segs.pages.core c.loop-page.self.segs.pages.core
-    c.args.uid c.loop-page.page c.loop-page.invariant.1.reads
-    (c.requires.taken.idle c.loop-page.page c.loop-page.invariant.2)
 
 pub loop-page-preserved : goal.loop-page-preserved
 loop-page-preserved g c = (

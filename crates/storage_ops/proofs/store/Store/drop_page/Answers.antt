@@ -25,7 +25,7 @@ may : (g : Over) (c : After-look g) → MayDrop (plain g.D.Drive.pages c.self.in
     c.self.inside.segs.ast c.self.inside.accounts c.args.uid c.args.page
 may g c = may_drop (plain g.D.Drive.pages c.self.inside.segs.pages) c.self.inside.segs.ast c.self.inside.segs.links
     c.self.inside.accounts c.self.inside.whos.items c.args.uid c.args.page c.look.ensures.kept c.self.invariant
-    (active_held c.self.view_is c.args.uid c.requires.active) (away g c)
+    (active_held c.self.view_is c.args.uid c.requires.may.active) (away g c)
 
 -- and what was done to it
 done : (g : Over) (c : After-credit g) → HasDropped (plain g.D.Drive.pages c.self.inside.segs.pages)
@@ -34,7 +34,7 @@ done g c =
     let before = may g (goal.at.returns g c).After-look in
     drop_done (plain g.D.Drive.pages c.self.inside.segs.pages) (plain g.D.Drive.pages c.drop_page.new.self.pages)
     c.self.inside.accounts c.credit.new.self c.args.uid c.args.page c.args.home _
-    (home_held c.self.view_is c.args.uid c.args.home c.requires.home) before.there before.filed
+    (home_held c.self.view_is c.args.uid c.args.home c.requires.may.home) before.there before.filed
     c.drop_page.ensures.effect c.drop_page.ensures.words c.drop_page.ensures.stored c.drop_page.ensures.taken
     c.drop_page.ensures.counts c.credit.ensures
 
@@ -44,7 +44,7 @@ drop_page-requires-clause-page g c = (may g (goal.at.drop_page-requires-clause-p
 pub drop_page-requires-clause-home : goal.drop_page-requires-clause-home
 drop_page-requires-clause-home g c =
     inl (subst (λ (h : Home). IsHomeOf c.self.inside.segs.pages.volumes.vtocs c.args.uid h)
-    (sym (home_held c.self.view_is c.args.uid c.args.home c.requires.home))
+    (sym (home_held c.self.view_is c.args.uid c.args.home c.requires.may.home))
     (may g (goal.at.drop_page-requires-clause-home g c).After-look).home)
 
 pub credit-requires-clause-segment : goal.credit-requires-clause-segment
@@ -73,13 +73,13 @@ returns g c =
     subst (λ (x : Storage g.row.D.Denot). LosesPage g.D.Drive.pages x n c.args.uid c.args.page) c.self.view_is
     (record {
       rest = unstores_one g.D.Drive.pages t n c.args.uid c.args.page c.args.home
-          (active_held c.self.view_is c.args.uid c.requires.active) c.look.ensures.kept.places (may g kept)
+          (active_held c.self.view_is c.args.uid c.requires.may.active) c.look.ensures.kept.places (may g kept)
           (away g kept) c.credit.ensures c.drop_page.ensures.word c.drop_page.ensures.effect c.drop_page.ensures.reads
           c.drop_page.ensures.links refl c.drop_page.ensures.drives;
       shown = λ p s h. shown_dropped g.D.Drive.pages p s t n c.args.uid c.args.page (done g c)
           c.self.invariant.housed (ap (λ (l : Links). l.known) c.drop_page.ensures.links) refl h;
       exact = dropped_exactly g.D.Drive.pages t n c.args.uid c.args.page c.args.home
-          (home_held c.self.view_is c.args.uid c.args.home c.requires.home) (away g kept) c.drop_page.ensures.effect
+          (home_held c.self.view_is c.args.uid c.args.home c.requires.may.home) (away g kept) c.drop_page.ensures.effect
           c.drop_page.ensures.word c.credit.ensures;
       others = other_counts c.self.inside.accounts c.credit.new.self c.args.uid
           (count_of c.self.inside.accounts c.args.uid - 1) c.credit.ensures;
