@@ -202,10 +202,8 @@ impl LiveDoors {
         requires pass { IsPassOf self.now pass }
         ensures { keeper.new ≡ keeper.old }
     {
-        let Pass { seat, .. } = pass;
-        self.table
-            .shared
-            .join_seat::<TakeIn>(&mut keeper.seat, seat);
+        let words = &self.table.shared;
+        words.join_seat::<TakeIn>(&mut keeper.seat, pass.seat);
     }
 
     // Takes all passes in.

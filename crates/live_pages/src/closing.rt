@@ -50,10 +50,8 @@ impl LivePages {
         ensures keeper { IsKeeperOf self.now keeper.new }
         ensures taken { keeper.new ≡ record keeper.old { holder = taking_in pass keeper.old.holder } }
     {
-        let Pass { seat, .. } = pass;
-        self.table
-            .shared
-            .join_seat::<TakeIn>(&mut keeper.seat, seat);
+        let words = &self.table.shared;
+        words.join_seat::<TakeIn>(&mut keeper.seat, pass.seat);
     }
 
     // Takes all passes in.
