@@ -48,7 +48,10 @@ first_rows frames door = record { request = 0; doors = replicate frames door; si
 
 -- the door of frame f is closed as of the last stamp
 abbrev pub shut_rows : ℕ → KeeperRows → KeeperRows
-shut_rows f r = record r { doors = slice_set r.doors f (slice_index r.doors f + 1); since = slice_set r.since f r.request }
+shut_rows f r = record r {
+  doors = slice_set r.doors f (slice_index r.doors f + 1);
+  since = slice_set r.since f r.request;
+}
 
 -- Frame f was never bound, or it is closed, and all was clear for a stamp that was raised since.
 abbrev pub MayBindBy : List ℕ → List ℕ → ℕ → ℕ → Type 0

@@ -17,7 +17,8 @@ use Rattle.live_doors.specs.declared.views.Walk.{Walk}
 use Rattle.live_doors.specs.declared.views.Watch.{Watch}
 use Rattle.live_doors.specs.Doors.{blank, having_read, holding, forgotten, acknowledged, shut, raised, having_noted}
 use Rattle.live_doors.specs.Doors.{HasNoted, MayBind}
-use Rattle.live_doors.specs.Beside.{EntryRows, KeeperRows, AreEntriesOf, AreRowsOf, entered, entered_if, shut_rows, MayBindBy}
+use Rattle.live_doors.specs.Beside.{EntryRows, KeeperRows, AreEntriesOf, AreRowsOf, entered, entered_if, shut_rows}
+use Rattle.live_doors.specs.Beside.{MayBindBy}
 use Rattle.live_doors.specs.declared.errors.Closed.{Closed}
 use Rattle.std.proofs.Common.{Result, Ok, Err, IfOk, IfErr}
 use Rattle.live_doors.specs.Steps.{door_at, ack_at, filled_if, filled}

@@ -26,7 +26,8 @@ use Rattle.live_pages.specs.declared.views.Holder.{Holder}
 use Rattle.live_pages.specs.declared.views.View.{View}
 use Rattle.live_pages.specs.declared.views.View.TheVariants.{Passing, Keeping}
 use Rattle.live_pages.specs.Touches.{touched, answer}
-use Rattle.live_pages.specs.Turns.{Seat, Told, opening_words, first_holder, first_walker, keeper_with_pass, pass_of_keeper}
+use Rattle.live_pages.specs.Turns.{Seat, Told, opening_words, first_holder, first_walker, keeper_with_pass}
+use Rattle.live_pages.specs.Turns.{pass_of_keeper}
 use Rattle.live_pages.specs.Turns.{admitted, bound_anew, having_made, turn_at}
 use Rattle.live_pages.specs.Turns.{ticket_at, current, watching, walker_of, holder_of, Fills, Forgets, Acknowledges}
 use Rattle.live_pages.specs.Turns.{Closes, Raises, Looks, Takes, Draws}

@@ -6,7 +6,8 @@ use Rattle.quota_cells.proofs.EnterLaws.{table_left}
 use Rattle.quota_cells.proofs.Cells.drop_cell.Goals as goal
 
 -- the cells without that of a uid, as they are where they were seen so
-left_table : (d : CellMaps) (s : NumberMap) (now : CellMaps) (uid : ℕ) → both_maps d s ≡ now → IsTable (both_maps d s) → has_cell now uid ≡ true
+left_table : (d : CellMaps) (s : NumberMap) (now : CellMaps) (uid : ℕ) → both_maps d s ≡ now
+    → IsTable (both_maps d s) → has_cell now uid ≡ true
     → quota_in now uid ≡ 0 → stored_in now uid ≡ 0 → IsTable (left (both_maps d s) uid)
 left_table d s now uid seen table there quota stored =
     table_left (both_maps d s) table uid (subst (λ (m : CellMaps). has_cell m uid ≡ true) (sym seen) there)

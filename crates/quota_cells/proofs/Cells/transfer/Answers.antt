@@ -14,7 +14,8 @@ superiors-above_giver-requires c = directory_in c.args.t.now.nodes c.args.giver 
 
 -- the getter can be given the pages, and the cells hold together then
 can : (c : goal.After-as_slice-2)
-    → CanGive (directories_of c.args.self.now) c.args.getter c.as_slice.result.now c.args.giver c.as_slice-2.result.now c.args.pages
+    → CanGive (directories_of c.args.self.now) c.args.getter c.as_slice.result.now c.args.giver
+    c.as_slice-2.result.now c.args.pages
     × IsTable (given c.args.self.now c.args.getter c.as_slice.result.now c.args.giver c.as_slice-2.result.now
     c.args.pages)
 can c =

@@ -6,7 +6,8 @@ use Rattle.live_pages.specs.Turns.{holder_of}
 use Rattle.live_pages.specs.Models.{rebound}
 use Rattle.live_pages.proofs.Ends.{may_bind_is_free}
 use Rattle.live_pages.proofs.Calls.{told_with, swapped, keeper_takes_at, binds_in_hand}
-use Rattle.live_pages.proofs.Calls.{keeper_gives_in_hand, bound_now, rebound_now, keeper_fits, keeper_stays_of, rows_admitted}
+use Rattle.live_pages.proofs.Calls.{keeper_gives_in_hand, bound_now, rebound_now, keeper_fits, keeper_stays_of}
+use Rattle.live_pages.proofs.Calls.{rows_admitted}
 use Rattle.live_pages.proofs.pages.LivePages.bind.Goals as goal
 
 pub compare_exchange-requires : goal.compare_exchange-requires
@@ -72,7 +73,8 @@ invariant_of-keeper c =
     ∙ ap (λ n. record c.keeper.inside.rows { doors = set c.keeper.inside.rows.doors c.args.f n })
     c.admit-door.ensures.word in
     keeper_fits c.store-2.new.seat.me _ _ _ (done c) c.keeper.invariant.hand (rw rows (rows_admitted c.args.f
-    c.keeper.inside.rows (holder_of c.keeper.inside.seat.me.0).watch c.keeper.invariant.rows)) c.keeper.invariant.cleared
+    c.keeper.inside.rows (holder_of c.keeper.inside.seat.me.0).watch c.keeper.invariant.rows))
+    c.keeper.invariant.cleared
 
 pub returns-clause-keeper : goal.returns-clause-keeper
 returns-clause-keeper c =
