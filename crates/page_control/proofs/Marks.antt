@@ -238,22 +238,27 @@ words_written b bound those frames drives disks tables vtocs uid p f words bs fr
         ∙ sym (ap (λ (z : Bool). cond z words (words_of_page b those drives tables u h q)) passes)
 
 -- a frame is written through: both its marks are on, and it has these words
-module _ (s now : Plain) (f : ℕ) (words : List ℕ) (effect : now ≡ worded (referred s f true) f words) where
-  pub bindings_written : bindings now.core ≡ bindings s.core
-  bindings_written = ap (λ (x : Plain). bindings x.core) effect ∙ bindings_referred s.core f true
-
-  pub ties_written : is_bound (frame_in s f) ≡ true → KeepsTies s now
-  ties_written is = ties_marked s now (rw effect (marks_written s f words is))
-
-  pub words_put : is_bound (frame_in s f) ≡ true → length (words_in s f) ≡ 1024 → IsBoundOnce (bindings s.core) f
+pub record IsWritten (s now : Plain) (f : ℕ) (words : List ℕ) : Type 0 where
+  pub bound : bindings now.core ≡ bindings s.core
+  pub tied : KeepsTies s now
+  pub shown : IsBoundOnce (bindings s.core) f
       → words_at now ≡ changed_page (words_at s) (uid_in (frame_in s f)) (number_in (frame_in s f)) words
-  words_put is size once =
-      words_written (bindings s.core) (bindings now.core) s.frames now.frames s.disks now.disks s.vtocs now.vtocs
-      (uid_in (frame_in s f)) (number_in (frame_in s f)) f words bindings_written
-      (ap (λ (x : Plain). x.frames) effect) (ap (λ (x : Plain). x.disks) effect) (ap (λ (x : Plain). x.vtocs) effect)
-      (binding_is s.core f ∙ bound_to (frame_in s f) is)
-      (within_from s.frames f [] (λ none. (let zero : length (words_in s f) ≡ 0 = ap length none in
-      omega (arith, zero, size)))) once
+
+pub written : (s now : Plain) (f : ℕ) (words : List ℕ) → now ≡ worded (referred s f true) f words
+    → is_bound (frame_in s f) ≡ true → length (words_in s f) ≡ 1024 → IsWritten s now f words
+written s now f words effect is size =
+    let bound : bindings now.core ≡ bindings s.core = ap (λ (x : Plain). bindings x.core) effect
+    ∙ bindings_referred s.core f true in
+    let within : f < length s.frames = within_from s.frames f [] (λ none.
+    (let zero : length (words_in s f) ≡ 0 = ap length none in omega (arith, zero, size))) in
+    record {
+      bound = bound;
+      tied = ties_marked s now (rw effect (marks_written s f words is));
+      shown = words_written (bindings s.core) (bindings now.core) s.frames now.frames s.disks now.disks s.vtocs
+          now.vtocs (uid_in (frame_in s f)) (number_in (frame_in s f)) f words bound
+          (ap (λ (x : Plain). x.frames) effect) (ap (λ (x : Plain). x.disks) effect)
+          (ap (λ (x : Plain). x.vtocs) effect) (binding_is s.core f ∙ bound_to (frame_in s f) is) within;
+    }
 
 -- a word changes, and says of its page what it said
 tie_worded : {s : Plain} {uid : ℕ} {home : Home} {t u : List Ptw} (p : ℕ) (word : Ptw) → IsTied s uid home t

@@ -1,13 +1,8 @@
 use Rattle.std.proofs.Common.{rules}
-use Rattle.page_control.proofs.Marks.{bindings_written, ties_written, words_put}
+use Rattle.page_control.proofs.Marks.{written}
 use Rattle.page_control.proofs.pages.Pages.put_word.Goals as goal
 
 pub returns : goal.returns
 returns g c =
-    let effect = c.put_at.ensures.put in
-    search (
-      rules,
-      bindings_written _ _ c.args.f _ effect,
-      ties_written _ _ c.args.f _ effect c.requires.bound,
-      words_put _ _ c.args.f _ effect c.requires.bound c.put_at.ensures.size,
-    )
+    let call = written _ _ c.args.f _ c.put_at.ensures.put c.requires.bound c.put_at.ensures.size in
+    search (rules, call.shown)
