@@ -3,7 +3,7 @@ use Rattle.std.proofs.Common.{List, [], ◌∷◌, length, refl, sym, ap, ◌∙
 use Rattle.std.proofs.Common.{arith, inl, inr, ◌⊎◌}
 use Rattle.std.specs.Bool.{beq}
 use Rattle.std.specs.List.{list_any}
-use Rattle.std.proofs.lemmas.Bool.{lt-ltb, le-ltb}
+use Rattle.std.proofs.lemmas.Bool.{lt-ltb, le-ltb, or_parts}
 use Rattle.std.proofs.lemmas.Bool.Decides.{leb_tells, eqb_tells}
 use Rattle.site_io.specs.Faults.{Rose, counted}
 use Rattle.volumes.specs.declared.drive.FailLine.{FailLine}
@@ -116,22 +116,14 @@ one_line line a b single = by_kind line.write refl
     by_kind false kind = let none = named_other line true b (rw kind refl) in let one =
         (named_one line false a single).most in omega (arith, none, one)
 
-first_false : (p q : Bool) → (p || q) ≡ false → p ≡ false
-first_false false q h = refl
-first_false true q h = cc
-
-second_false : (p q : Bool) → (p || q) ≡ false → q ≡ false
-second_false false q h = h
-second_false true q h = cc
-
 -- without an onward line the lines name at most as many calls as they are
 pub few_faults : (lines : List FailLine) (a b : ℕ) → list_any (λ line. line.onward) lines ≡ false
     → named_calls lines false a + named_calls lines true b ≤ length lines
 few_faults [] a b none = let x = named_none false a in let y = named_none true b in omega (arith, x, y)
 few_faults (line ∷ lines) a b none =
-    let rest = few_faults lines a b (second_false line.onward (list_any (λ (line : FailLine). line.onward) lines) none)
-    in
-    let first = one_line line a b (first_false line.onward (list_any (λ (line : FailLine). line.onward) lines) none) in
+    let parts = or_parts line.onward (list_any (λ (line : FailLine). line.onward) lines) none in
+    let rest = few_faults lines a b parts.1 in
+    let first = one_line line a b parts.0 in
     omega (arith, rest, first, named_split line lines false a, named_split line lines true b)
 
 -- a call that a line names raises the count of faults, and no call lowers it
