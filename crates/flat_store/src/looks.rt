@@ -1,4 +1,4 @@
-ghost use Rattle.std.specs.Prelude.{◌≡◌, ◌/◌, ◌<◌, is_some, IsSome, None};
+ghost use Rattle.std.specs.Prelude.{◌≡◌, ◌/◌, ◌<◌, is_some, IsSome, None, Some, IfOk, IfErr};
 ghost use Rattle.script.specs.Plans.{Plan};
 ghost use Rattle.tree_model.specs.Tree.{entries_on, node_in, taken_on, used_by};
 ghost use Rattle.accounts.specs.Maps.{Counts};
@@ -17,10 +17,22 @@ use crate::progress::Progress;
 use crate::store::FlatStore;
 use accounts::Accounts;
 use book::Reply;
+use dir_tree::Node;
 use mnames::Path;
 use mword::Word;
 use script::Command;
 use tree_commands::{branch_at, node_at, segment_at};
+
+/// The uid of a node, where it was found.
+fn found_uid(found: Result<&Node, Reply>) -> Option<u32>
+    ensures some { IfOk found.entry (λ n. result ≡ Some n.now.uid) }
+    ensures none { IfErr found.entry (λ _. result ≡ None) }
+{
+    match found {
+        Ok(node) => Some(node.uid),
+        Err(_) => None,
+    }
+}
 
 impl FlatStore {
     /// The word at an offset, in words, of the segment of a uid; 0 where none was written.
@@ -129,10 +141,7 @@ impl FlatStore {
         ensures { (p : Plan) (store : Store) → Shows p self.now store
             → result ≡ uid_at (segment_at store.nodes path.now) }
     {
-        match segment_at(self.holdings.tree(), path) {
-            Ok(node) => Some(node.uid),
-            Err(_) => None,
-        }
+        found_uid(segment_at(self.holdings.tree(), path))
     }
 
     /// The uid of the directory or the segment that a path leads to, but the root. `None` where it leads to none.
@@ -140,20 +149,14 @@ impl FlatStore {
         ensures { (p : Plan) (store : Store) → Shows p self.now store
             → result ≡ uid_at (branch_at store.nodes path.now) }
     {
-        match branch_at(self.holdings.tree(), path) {
-            Ok(node) => Some(node.uid),
-            Err(_) => None,
-        }
+        found_uid(branch_at(self.holdings.tree(), path))
     }
 
     /// The uid of the directory or the segment that a path leads to. `None` where it leads to none.
     pub fn node_at(&self, path: &Path) -> Option<u32>
         ensures { (p : Plan) (store : Store) → Shows p self.now store → result ≡ uid_at (node_at store.nodes path.now) }
     {
-        match node_at(self.holdings.tree(), path) {
-            Ok(node) => Some(node.uid),
-            Err(_) => None,
-        }
+        found_uid(node_at(self.holdings.tree(), path))
     }
 
     /// The uid of the segment that a number of a process stands for. `None` where it stands for none, as from 256 on.
