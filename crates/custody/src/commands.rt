@@ -181,10 +181,8 @@ impl Custody {
         ensures { (p : Plan) (s : Store) → Shows p store.now s
             → Decides result (OfNode (λ n. HasNoDescriptor (custody_of self.now) n.uid) (segment_at s.nodes path.now)) }
     {
-        match store.segment_at(path) {
-            Some(uid) => self.has_no_descriptor(uid),
-            None => true,
-        }
+        let found = store.segment_at(path);
+        found.is_none_or(|uid| self.has_no_descriptor(uid))
     }
 
     /// Whether what is at a path is in no table, if there is anything.
@@ -192,10 +190,8 @@ impl Custody {
         ensures { (p : Plan) (s : Store) → Shows p store.now s
             → Decides result (OfNode (λ n. IsOutOfUse (custody_of self.now) n.uid) (branch_at s.nodes path.now)) }
     {
-        match store.branch_at(path) {
-            Some(uid) => self.is_out_of_use(uid),
-            None => true,
-        }
+        let found = store.branch_at(path);
+        found.is_none_or(|uid| self.is_out_of_use(uid))
     }
 
     /// Whether the segment at a path isn't active, if there is one.
@@ -203,10 +199,8 @@ impl Custody {
         ensures { (p : Plan) (s : Store) → Shows p store.now s
             → Decides result (OfNode (λ n. (custody_of self.now).active n.uid ≡ false) (segment_at s.nodes path.now)) }
     {
-        match store.segment_at(path) {
-            Some(uid) => self.is_inactive(uid),
-            None => true,
-        }
+        let found = store.segment_at(path);
+        found.is_none_or(|uid| self.is_inactive(uid))
     }
 
     /// Whether what a command takes away from its users is out of use.
