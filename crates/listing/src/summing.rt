@@ -2,6 +2,7 @@ ghost use Rattle.std.specs.Prelude.{◌≡◌, ◌==◌, ◌||◌, IfOk, is_some
 ghost use Rattle.script.specs.Plans.{Plan};
 ghost use Rattle.accounts.specs.Maps.{Counts};
 ghost use Rattle.tree_model.specs.Tree.{node_in};
+ghost use Rattle.tree_model.specs.Trees.{IsTree};
 ghost use Rattle.flat_model.specs.Store.{Store};
 ghost use Rattle.flat_store.specs.Shown.{Shows};
 ghost use Rattle.listing.specs.Listings.{trail_of, accounts_of, volumes_of, uses_of, summary_of};
@@ -28,13 +29,20 @@ fn below_root(chain: &[u32]) -> &[u32]
     }
 }
 
+/// The nodes are a tree: a fact for those that go over it.
+fn look(accounts: &Accounts)
+    ensures { IsTree accounts.now.nodes }
+{
+    let _root = accounts.root();
+}
+
 /// The names from the root down to a node.
 fn trail(alloc: Global, accounts: &Accounts, uid: u32) -> Result<Vec<Name>, AllocError>
     requires { is_some (node_in accounts.now.nodes uid) ≡ true }
     ensures { IfOk result (λ names. names.items ≡ trail_of accounts.now.nodes uid) }
 {
     let mut names = Vec::new(alloc);
-    let _root = accounts.root();
+    look(accounts);
     let chain = accounts.chain(uid);
     for step in below_root(chain.as_slice()) {
         if let Some(node) = accounts.node(*step) {
@@ -80,7 +88,7 @@ fn accounts_by_uid(alloc: Global, accounts: &Accounts) -> Result<Vec<AccountCoun
         → counts.items ≡ accounts_of s) }
 {
     let mut counts = Vec::new(alloc);
-    let _root = accounts.root();
+    look(accounts);
     for uid in ROOT..accounts.next_uid() {
         if let Some(count) = account_count(alloc, accounts, uid)? {
             counts.push(count)?;

@@ -1,7 +1,9 @@
 //! What is read of a node by its uid.
 
-ghost use Rattle.std.specs.Prelude.{◌≡◌};
-ghost use Rattle.tree_model.specs.Tree.{volume_in};
+ghost use Rattle.std.specs.Prelude.{◌≡◌, ◌≤◌, ℕ, List};
+ghost use Rattle.accounts.specs.Maps.{Counts};
+ghost use Rattle.tree_model.specs.Tree.{quota_in, used_by, volume_in};
+ghost use Rattle.tree_model.specs.Trees.{IsTree};
 ghost use Rattle.tree_commands.specs.Shown.{pages_in};
 
 use accounts::Accounts;
@@ -20,4 +22,13 @@ pub fn volume_of(accounts: &Accounts, uid: u32) -> u32
     ensures { result ≡ volume_in accounts.now.nodes uid }
 {
     accounts.node(uid).map_or(0, |node| node.volume)
+}
+
+/// The nodes are a tree, and each account is within its quota: facts for those that walk or change it.
+pub(crate) fn look(accounts: &Accounts)
+    ensures tree { IsTree accounts.now.nodes }
+    ensures within { (stored : List (ℕ × ℕ)) → Counts accounts.now stored → (account : ℕ)
+        → used_by accounts.now.nodes stored account ≤ quota_in accounts.now.nodes account }
+{
+    let _root = accounts.root();
 }

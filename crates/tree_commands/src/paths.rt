@@ -6,6 +6,7 @@ ghost use Rattle.tree_model.specs.Trees.{has_segment};
 ghost use Rattle.flat_model.specs.Branches.{branch_at, directory_at, node_at, segment_at};
 ghost use Rattle.tree_commands.specs.Shown.{IsFound, IsThere};
 
+use crate::nodes::look;
 use accounts::Accounts;
 use book::Reply;
 use dir_tree::{Node, PathFault};
@@ -63,7 +64,7 @@ pub fn branch_at<'a>(accounts: &'a Accounts, path: &Path) -> Result<&'a Node, Re
     ensures branch { IfOk result (λ n. n.now.uid ≢ 1) }
     ensures err { IfErr result (λ r. branch_at accounts.now.nodes path.now ≡ Err r) }
 {
-    let _root = accounts.root();
+    look(accounts);
     if path.names().is_empty() {
         return Err(Reply::Root);
     }

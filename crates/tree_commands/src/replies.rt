@@ -11,6 +11,7 @@ ghost use Rattle.flat_model.specs.Sizes.{truncate_reply};
 ghost use Rattle.flat_model.specs.Store.{Store as Flat, entries_of};
 ghost use Rattle.tree_commands.specs.Shown.{ShowsTree};
 
+use crate::nodes::look;
 use crate::paths::{branch_at, directory_at, node_at, segment_at};
 use accounts::Accounts;
 use book::Reply;
@@ -92,7 +93,7 @@ pub fn move_reply(accounts: &Accounts, path: &Path, amount: i32) -> Reply
         Err(reply) => return reply,
     };
     if amount == 0 {
-        let _root = accounts.root();
+        look(accounts);
         return Reply::Done;
     }
     match accounts.may_move(node.uid, amount) {

@@ -6,6 +6,7 @@ ghost use Rattle.flat_model.specs.Rights.{acl_reply, move_reply, row_with};
 ghost use Rattle.flat_model.specs.Store.{Store as Flat};
 ghost use Rattle.tree_commands.specs.Shown.{HasMoved, HasRowSet, ShowsTree};
 
+use crate::nodes::look;
 use crate::paths::{directory_at, segment_at};
 use accounts::Accounts;
 use book::Reply;
@@ -40,7 +41,7 @@ pub fn move_quota(accounts: &mut Accounts, path: &Path, amount: i32) -> Reply
         Err(reply) => return reply,
     };
     if amount == 0 {
-        let _root = accounts.root();
+        look(accounts);
         return Reply::Done;
     }
     match accounts.move_quota(uid, amount) {

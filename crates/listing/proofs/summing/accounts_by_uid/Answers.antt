@@ -4,11 +4,11 @@ use Rattle.listing.proofs.summing.accounts_by_uid.Goals.{in-Some+in_ok-push, in_
 use Rattle.listing.proofs.summing.accounts_by_uid.Goals as goal
 
 pub loop-uid-init : goal.loop-uid-init
-loop-uid-init c = λ s same counts. counts_start s _ _ c.root-root.ensures.tree same c.new-counts.ensures.items
+loop-uid-init c = λ s same counts. counts_start s _ _ c.look.ensures same c.new-counts.ensures.items
 
 pub loop-uid-preserved : goal.loop-uid-preserved
 loop-uid-preserved c = λ s same counts.
-    counts_more s _ c.loop-uid.uid c.loop-uid.counts.items _ c.in_ok-count.field-0 c.root-root.ensures.tree same
+    counts_more s _ c.loop-uid.uid c.loop-uid.counts.items _ c.in_ok-count.field-0 c.look.ensures same
     (c.in_ok-count.ensures s same counts)
     (c.loop-uid.invariant s same counts)
     (elim c.match-branch-2.branch [

@@ -29,7 +29,7 @@ returns-then-amount-eq0-clause-answer c = λ s h.
     move_nothing s c.args.accounts.now.nodes c.args.path.now h.nodes c.args.amount _
     (to_z-of_z w32 c.args.amount c.ranges.amount) (ap (to_z w32) c.if-amount-eq0.true)
     (as_term (quota_in c.args.accounts.now.nodes) c.in-Ok.node.now) c.in-Ok.ensures.ok
-    (c.root-root.ensures.within s.stored h.counts)
+    (c.look.ensures.within s.stored h.counts)
 
 pub returns-then-amount-eq0-clause-done : goal.returns-then-amount-eq0-clause-done
 returns-then-amount-eq0-clause-done c = λ on.
