@@ -219,22 +219,18 @@ impl Custody {
         }
     }
 
-    /// Whether a tree command may be answered so.
+    /// Whether a tree command may be answered so, without a frame.
     fn may_change_tree(
         &self,
         script: &Script,
         store: &FlatStore,
         process: u32,
-        frame: Option<u32>,
         command: &Command,
         reply: &Reply,
     ) -> bool
         ensures { (s : Store) → Shows script.now store.now s
-            → Decides result (MayChangeTree script.now s (custody_of self.now) process frame command.now reply.now) }
+            → Decides result (MayChangeTree script.now s (custody_of self.now) process None command.now reply.now) }
     {
-        if frame.is_some() {
-            return false;
-        }
         if is_effective(script, store, process, command, reply) {
             self.may_take_effect(store, process, command)
         } else {
@@ -259,7 +255,8 @@ impl Custody {
     {
         match command.reference() {
             Some(reference) => self.may_refer(store, cpu, process, frame, &reference, reply),
-            None => self.may_change_tree(script, store, process, frame, command, reply),
+            None if frame.is_some() => false,
+            None => self.may_change_tree(script, store, process, command, reply),
         }
     }
 
