@@ -8,7 +8,7 @@ ghost use Rattle.flat_model.specs.Pages.{without_words};
 ghost use Rattle.flat_model.specs.Store.{Store};
 ghost use Rattle.custody_model.specs.Custody.{bound_page};
 ghost use Rattle.custody_model.specs.Effects.{HasNoDescriptor, IsOutOfUse, LosesNoPage, MayTakeEffect, OfNode};
-ghost use Rattle.custody_model.specs.Allowed.{IsPageAt, MayAnswer, MayChangeTree, MayDo, MayGoThrough, MayGoWithout};
+ghost use Rattle.custody_model.specs.Allowed.{IsPageAt, MayAnswer, MayDo, MayGoThrough, MayGoWithout};
 ghost use Rattle.custody_model.specs.Allowed.{MayRefer};
 ghost use Rattle.custody_model.specs.Allowed.{is_device, is_effective, is_word_or_done, stores};
 ghost use Rattle.custody_model.specs.declared.DescriptorUse.TheVariants as descriptor;
@@ -219,25 +219,6 @@ impl Custody {
         }
     }
 
-    /// Whether a tree command may be answered so, without a frame.
-    fn may_change_tree(
-        &self,
-        script: &Script,
-        store: &FlatStore,
-        process: u32,
-        command: &Command,
-        reply: &Reply,
-    ) -> bool
-        ensures { (s : Store) → Shows script.now store.now s
-            → Decides result (MayChangeTree script.now s (custody_of self.now) process None command.now reply.now) }
-    {
-        if is_effective(script, store, process, command, reply) {
-            self.may_take_effect(store, process, command)
-        } else {
-            true
-        }
-    }
-
     /// Whether the command that a process comes to next may be answered so.
     fn may_answer(
         &self,
@@ -256,7 +237,10 @@ impl Custody {
         match command.reference() {
             Some(reference) => self.may_refer(store, cpu, process, frame, &reference, reply),
             None if frame.is_some() => false,
-            None => self.may_change_tree(script, store, process, command, reply),
+            None if is_effective(script, store, process, command, reply) => {
+                self.may_take_effect(store, process, command)
+            }
+            None => true,
         }
     }
 
