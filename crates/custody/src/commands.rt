@@ -8,7 +8,7 @@ ghost use Rattle.flat_model.specs.Pages.{without_words};
 ghost use Rattle.flat_model.specs.Store.{Store};
 ghost use Rattle.custody_model.specs.Custody.{bound_page};
 ghost use Rattle.custody_model.specs.Effects.{HasNoDescriptor, IsOutOfUse, LosesNoPage, MayTakeEffect, OfNode};
-ghost use Rattle.custody_model.specs.Allowed.{IsPageAt, MayAnswer, MayDo, MayGoThrough, MayGoWithout};
+ghost use Rattle.custody_model.specs.Allowed.{IsPageAt, MayDo, MayGoThrough, MayGoWithout};
 ghost use Rattle.custody_model.specs.Allowed.{MayRefer};
 ghost use Rattle.custody_model.specs.Allowed.{is_device, is_effective, is_word_or_done, stores};
 ghost use Rattle.custody_model.specs.declared.DescriptorUse.TheVariants as descriptor;
@@ -219,31 +219,6 @@ impl Custody {
         }
     }
 
-    /// Whether the command that a process comes to next may be answered so.
-    fn may_answer(
-        &self,
-        script: &Script,
-        store: &FlatStore,
-        process: u32,
-        cpu: u32,
-        frame: Option<u32>,
-        command: &Command,
-        reply: &Reply,
-    ) -> bool
-        ensures { (s : Store) → Shows script.now store.now s
-            → Decides result (MayAnswer script.now s (custody_of self.now) cpu process frame command.now reply.now
-            (reference_of command.now)) }
-    {
-        match command.reference() {
-            Some(reference) => self.may_refer(store, cpu, process, frame, &reference, reply),
-            None if frame.is_some() => false,
-            None if is_effective(script, store, process, command, reply) => {
-                self.may_take_effect(store, process, command)
-            }
-            None => true,
-        }
-    }
-
     /// Whether a processor may answer the next command of its process so, through this frame or without one.
     pub(crate) fn may_do(
         &self,
@@ -260,9 +235,16 @@ impl Custody {
         if !self.runs(cpu, process) {
             return false;
         }
-        match command_at(script, process, store.place(process)) {
-            Some(command) => self.may_answer(script, store, process, cpu, frame, command, reply),
-            None => false,
+        let Some(command) = command_at(script, process, store.place(process)) else {
+            return false;
+        };
+        match command.reference() {
+            Some(reference) => self.may_refer(store, cpu, process, frame, &reference, reply),
+            None if frame.is_some() => false,
+            None if is_effective(script, store, process, command, reply) => {
+                self.may_take_effect(store, process, command)
+            }
+            None => true,
         }
     }
 
