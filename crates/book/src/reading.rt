@@ -87,7 +87,7 @@ fn bare_reply(word: &[u8]) -> Option<Reply>
     ensures { result ≡ bare_reply word.now }
 {
     let replies = [
-        Unknown, Gone, NoAccess, Length, Quota, NoRecord, Device, Done, NoPath, NotDir, IsDir,
+        Done, Unknown, Gone, NoAccess, Length, Quota, NoRecord, Device, NoPath, NotDir, IsDir,
         IsSeg, Exists, Deep, Room, NoEntry, Full, AclFull, Beyond, NotEmpty, HasQuota, Root,
         TooLittle,
     ];
