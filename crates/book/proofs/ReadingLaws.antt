@@ -1,11 +1,13 @@
 -- That each entry's text is read back as the entry, and that nothing else is read.
 use Rattle.std.proofs.Common.{rules, ◌≡◌, ℕ, zero, suc, ◌+◌, ◌<◌, ◌≤◌, ◌^◌, ◌⊎◌, Bool, true, false, not, ◌&&◌, cond}
-use Rattle.std.proofs.Common.{eqb, List, [], ◌∷◌, ◌++◌, length, get_or, take, drop, drop-cons, add-one, Option, Some, None, refl, sym, ap, subst}
+use Rattle.std.proofs.Common.{eqb, List, [], ◌∷◌, ◌++◌, length, get_or, take, drop, drop-cons, add-one, Option, Some}
+use Rattle.std.proofs.Common.{None, refl, sym, ap, subst}
 use Rattle.std.proofs.Common.{◌∙◌, arith, IfSome, inl, inr}
 use Rattle.std.specs.Prelude.{codes, nat_lt, nat_le, ◌==◌, ◌-◌, ◌*◌, ◌/◌, ◌%◌}
 use Rattle.std.specs.Char.{is_ascii_digit}
 use Rattle.std.specs.Fmt.{decimal}
-use Rattle.std.specs.List.{AllByRecursion, slice_split, list_all, join_with_byte, before_first, after_first, position_or_len}
+use Rattle.std.specs.List.{AllByRecursion, slice_split, list_all, join_with_byte, before_first, after_first}
+use Rattle.std.specs.List.{position_or_len}
 use Rattle.std.specs.Option.{option_map, option_and_then}
 use Rattle.std.specs.Str.{bytes_eq}
 use Rattle.std.specs.Str.Parse.{digits_value}

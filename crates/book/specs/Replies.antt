@@ -35,7 +35,8 @@ bare_text _ = []
 -- the replies of one word; the one that is given most stands first
 abbrev pub bare_replies : List Reply
 bare_replies =
-    reply.Done ∷ reply.Unknown ∷ reply.Gone ∷ reply.NoAccess ∷ reply.Length ∷ reply.Quota ∷ reply.NoRecord ∷ reply.Device
+    reply.Done ∷ reply.Unknown ∷ reply.Gone ∷ reply.NoAccess ∷ reply.Length ∷ reply.Quota ∷ reply.NoRecord
+    ∷ reply.Device
     ∷ reply.NoPath ∷ reply.NotDir ∷ reply.IsDir ∷ reply.IsSeg ∷ reply.Exists ∷ reply.Deep ∷ reply.Room
     ∷ reply.NoEntry ∷ reply.Full ∷ reply.AclFull ∷ reply.Beyond ∷ reply.NotEmpty ∷ reply.HasQuota ∷ reply.Root
     ∷ reply.TooLittle ∷ []

@@ -106,7 +106,8 @@ pub quota_reaches : (base : DraftPlan) (quota : ℕ) → quota ≤ 16384
     (record base { stage = stage.FirstVolume; plan = record base.plan { quota = quota } })
 unfolding quota_text
 quota_reaches base quota h =
-    reaches_line (record base { stage = stage.Quota }) (record base { stage = stage.FirstVolume; plan = record base.plan { quota = quota } })
+    reaches_line (record base { stage = stage.Quota })
+    (record base { stage = stage.FirstVolume; plan = record base.plan { quota = quota } })
     (quota_text quota) (codes "quota") (decimal quota ∷ [])
     (front_field (codes "quota") (decimal quota) (decimal quota ∷ []) (record { some = omega arith; bytes = refl })
     (last_field (decimal quota) (decimal_field quota (omega arith))))
@@ -166,13 +167,17 @@ volume_at s d fields h = simp (and_false, outside s 2 3 (omega arith) h, h)
 
 volume_reaches : (base : DraftPlan) (s : Stage) (done : List VolumeLine) (v : VolumeLine) → takes_volume s ≡ true
     → is_volume v ≡ true → list_any (has_name v.name) done ≡ false → length done < 4
-    → sum_by records_of done + v.records ≤ 16384 → Reaches (record base { stage = s; plan = record base.plan { volumes = done } })
-    (ended (volume_text v)) (record base { stage = stage.Volumes; plan = record base.plan { volumes = done ++ v ∷ [] } })
+    → sum_by records_of done + v.records ≤ 16384 → Reaches
+    (record base { stage = s; plan = record base.plan { volumes = done } })
+    (ended (volume_text v))
+    (record base { stage = stage.Volumes; plan = record base.plan { volumes = done ++ v ∷ [] } })
 volume_reaches base s done v takes h new room sum =
     reaches_line (record base { stage = s; plan = record base.plan { volumes = done } })
-    (record base { stage = stage.Volumes; plan = record base.plan { volumes = done ++ v ∷ [] } }) (volume_text v) (codes "volume")
+    (record base { stage = stage.Volumes; plan = record base.plan { volumes = done ++ v ∷ [] } }) (volume_text v)
+    (codes "volume")
     (v.name ∷ decimal v.records ∷ decimal v.entries ∷ []) (volume_fields v h) refl
-    (volume_at s (record base { stage = s; plan = record base.plan { volumes = done } }) (v.name ∷ decimal v.records ∷ decimal v.entries ∷ [])
+    (volume_at s (record base { stage = s; plan = record base.plan { volumes = done } })
+    (v.name ∷ decimal v.records ∷ decimal v.entries ∷ [])
     takes ∙ volume_line_again (record base { stage = s; plan = record base.plan { volumes = done } }) v h new room sum)
 
 -- what holds of the volumes that stand and of those that follow
@@ -200,16 +205,21 @@ more_volumes : (base : DraftPlan) (done vs : List VolumeLine) → FitVolumes don
     → Reaches (record base { stage = stage.Volumes; plan = record base.plan { volumes = done } }) (volumes_text vs)
     (record base { stage = stage.Volumes; plan = record base.plan { volumes = done ++ vs } })
 more_volumes base done [] h = subst (λ (t : List VolumeLine). Reaches
-    (record base { stage = stage.Volumes; plan = record base.plan { volumes = done } }) [] (record base { stage = stage.Volumes; plan = record base.plan { volumes = t } }))
-    (sym (nil_after done)) (reaches_nothing (record base { stage = stage.Volumes; plan = record base.plan { volumes = done } }))
+    (record base { stage = stage.Volumes; plan = record base.plan { volumes = done } }) []
+    (record base { stage = stage.Volumes; plan = record base.plan { volumes = t } }))
+    (sym (nil_after done))
+    (reaches_nothing (record base { stage = stage.Volumes; plan = record base.plan { volumes = done } }))
 more_volumes base done (v ∷ vs) h =
     reaches_both (record base { stage = stage.Volumes; plan = record base.plan { volumes = done } })
     (record base { stage = stage.Volumes; plan = record base.plan { volumes = done ++ v ∷ [] } })
-    (record base { stage = stage.Volumes; plan = record base.plan { volumes = done ++ v ∷ vs } }) (ended (volume_text v)) (volumes_text vs)
+    (record base { stage = stage.Volumes; plan = record base.plan { volumes = done ++ v ∷ vs } })
+    (ended (volume_text v)) (volumes_text vs)
     (volume_reaches base stage.Volumes done v refl (and_parts (is_volume v) (list_all is_volume vs) h.each).0
     (others_before done v vs h.own) (omega (arith, h.few)) (omega (arith, h.sum, sum_cons v vs)))
-    (subst (λ (t : List VolumeLine). Reaches (record base { stage = stage.Volumes; plan = record base.plan { volumes = done ++ v ∷ [] } })
-    (volumes_text vs) (record base { stage = stage.Volumes; plan = record base.plan { volumes = t } })) (append_assoc done (v ∷ []) vs)
+    (subst (λ (t : List VolumeLine). Reaches
+    (record base { stage = stage.Volumes; plan = record base.plan { volumes = done ++ v ∷ [] } })
+    (volumes_text vs) (record base { stage = stage.Volumes; plan = record base.plan { volumes = t } }))
+    (append_assoc done (v ∷ []) vs)
     (more_volumes base (done ++ v ∷ []) vs (fit_next done v vs h)))
 
 volumes_reach : (base : DraftPlan) (vs : List VolumeLine) → 1 ≤ length vs → FitVolumes [] vs
@@ -219,7 +229,8 @@ volumes_reach base [] some h = absurd (omega arith)
 volumes_reach base (v ∷ vs) some h =
     reaches_both (record base { stage = stage.FirstVolume; plan = record base.plan { volumes = [] } })
     (record base { stage = stage.Volumes; plan = record base.plan { volumes = v ∷ [] } })
-    (record base { stage = stage.Volumes; plan = record base.plan { volumes = v ∷ vs } }) (ended (volume_text v)) (volumes_text vs)
+    (record base { stage = stage.Volumes; plan = record base.plan { volumes = v ∷ vs } }) (ended (volume_text v))
+    (volumes_text vs)
     (volume_reaches base stage.FirstVolume [] v refl (and_parts (is_volume v) (list_all is_volume vs) h.each).0
     (others_before [] v vs h.own) (omega (arith, h.few)) (omega (arith, h.sum, sum_cons v vs)))
     (more_volumes base (v ∷ []) vs (fit_next [] v vs h))
@@ -241,7 +252,8 @@ print_reaches_by : (base : DraftPlan) (p : Print) (word : List ℕ) → print_te
     → IsField word → print_in word ≡ Ok p → Reaches (record base { stage = stage.Volumes }) (ended (print_text p))
     (record base { stage = stage.Bulks; plan = record base.plan { print = p } })
 print_reaches_by base p word e f h =
-    reaches_line (record base { stage = stage.Volumes }) (record base { stage = stage.Bulks; plan = record base.plan { print = p } })
+    reaches_line (record base { stage = stage.Volumes })
+    (record base { stage = stage.Bulks; plan = record base.plan { print = p } })
     (print_text p) (codes "print") (word ∷ []) (print_fields p word e f) refl (print_again base p word h)
 
 print_reaches : (base : DraftPlan) (p : Print) → Reaches (record base { stage = stage.Volumes }) (ended (print_text p))
@@ -306,27 +318,35 @@ abbrev pub bulks_text : List VolumeLine → List Bulk → List ℕ
 bulks_text vs bs = flat_map (λ b. ended (bulk_text vs b)) bs
 
 bulks_reach : (base : DraftPlan) (done bs : List Bulk) → AreVolumes base.plan.volumes
-    → FitBulks (length base.plan.volumes) done bs → Reaches (record base { stage = stage.Bulks; plan = record base.plan { bulks = done } })
-    (bulks_text base.plan.volumes bs) (record base { stage = stage.Bulks; plan = record base.plan { bulks = done ++ bs } })
-bulks_reach base done [] a h = subst (λ (t : List Bulk). Reaches (record base { stage = stage.Bulks; plan = record base.plan { bulks = done } }) []
+    → FitBulks (length base.plan.volumes) done bs → Reaches
+    (record base { stage = stage.Bulks; plan = record base.plan { bulks = done } })
+    (bulks_text base.plan.volumes bs)
+    (record base { stage = stage.Bulks; plan = record base.plan { bulks = done ++ bs } })
+bulks_reach base done [] a h = subst
+    (λ (t : List Bulk). Reaches (record base { stage = stage.Bulks; plan = record base.plan { bulks = done } }) []
     (record base { stage = stage.Bulks; plan = record base.plan { bulks = t } })) (sym (nil_after done))
     (reaches_nothing (record base { stage = stage.Bulks; plan = record base.plan { bulks = done } }))
 bulks_reach base done (b ∷ bs) a h =
-    let parts = and_parts (is_bulk (length base.plan.volumes) b) (list_all (is_bulk (length base.plan.volumes)) bs) h.each in
+    let parts = and_parts (is_bulk (length base.plan.volumes) b)
+    (list_all (is_bulk (length base.plan.volumes)) bs) h.each in
     reaches_both (record base { stage = stage.Bulks; plan = record base.plan { bulks = done } })
     (record base { stage = stage.Bulks; plan = record base.plan { bulks = done ++ b ∷ [] } })
-    (record base { stage = stage.Bulks; plan = record base.plan { bulks = done ++ b ∷ bs } }) (ended (bulk_text base.plan.volumes b))
+    (record base { stage = stage.Bulks; plan = record base.plan { bulks = done ++ b ∷ bs } })
+    (ended (bulk_text base.plan.volumes b))
     (bulks_text base.plan.volumes bs)
     (reaches_line (record base { stage = stage.Bulks; plan = record base.plan { bulks = done } })
-    (record base { stage = stage.Bulks; plan = record base.plan { bulks = done ++ b ∷ [] } }) (bulk_text base.plan.volumes b) (codes "bulk")
+    (record base { stage = stage.Bulks; plan = record base.plan { bulks = done ++ b ∷ [] } })
+    (bulk_text base.plan.volumes b) (codes "bulk")
     (volume_name base.plan.volumes b.volume ∷ decimal b.places ∷ [])
     (bulk_fields base.plan.volumes b a parts.0) refl
     (bulk_at (record base { stage = stage.Bulks; plan = record base.plan { bulks = done } })
     (volume_name base.plan.volumes b.volume ∷ decimal b.places ∷ [])
     ∙ bulk_line_again (record base { stage = stage.Bulks; plan = record base.plan { bulks = done } }) b a parts.0
     (other_volumes done b bs h.own)))
-    (subst (λ (t : List Bulk). Reaches (record base { stage = stage.Bulks; plan = record base.plan { bulks = done ++ b ∷ [] } })
-    (bulks_text base.plan.volumes bs) (record base { stage = stage.Bulks; plan = record base.plan { bulks = t } })) (append_assoc done (b ∷ []) bs)
+    (subst (λ (t : List Bulk). Reaches
+    (record base { stage = stage.Bulks; plan = record base.plan { bulks = done ++ b ∷ [] } })
+    (bulks_text base.plan.volumes bs) (record base { stage = stage.Bulks; plan = record base.plan { bulks = t } }))
+    (append_assoc done (b ∷ []) bs)
     (bulks_reach base (done ++ b ∷ []) bs a (record
     { each = parts.1; own = ap have_own_volumes (append_assoc done (b ∷ []) bs) ∙ h.own })))
 
@@ -400,31 +420,50 @@ abbrev pub fails_text : List VolumeLine → List Fail → List ℕ
 fails_text vs fs = flat_map (λ f. ended (fail_text vs f)) fs
 
 fails_reach : (base : DraftPlan) (s : Stage) (done fs : List Fail) → takes_fail s ≡ true → AreVolumes base.plan.volumes
-    → FitFails (length base.plan.volumes) done fs → Reaches (record base { stage = s; plan = record base.plan { fails = done } })
-    (fails_text base.plan.volumes fs) (record base { stage = stage_after_fails s fs; plan = record base.plan { fails = done ++ fs } })
-fails_reach base s done [] takes a h = subst (λ (t : List Fail). Reaches (record base { stage = s; plan = record base.plan { fails = done } }) []
+    → FitFails (length base.plan.volumes) done fs → Reaches
+    (record base { stage = s; plan = record base.plan { fails = done } })
+    (fails_text base.plan.volumes fs)
+    (record base { stage = stage_after_fails s fs; plan = record base.plan { fails = done ++ fs } })
+fails_reach base s done [] takes a h = subst
+    (λ (t : List Fail). Reaches (record base { stage = s; plan = record base.plan { fails = done } }) []
     (record base { stage = s; plan = record base.plan { fails = t } })) (sym (nil_after done))
     (reaches_nothing (record base { stage = s; plan = record base.plan { fails = done } }))
 fails_reach base s done (f ∷ fs) takes a h =
-    let parts = and_parts (is_fail (length base.plan.volumes) f) (list_all (is_fail (length base.plan.volumes)) fs) h.each in
-    let rest : Reaches (record base { stage = stage.Fails; plan = record base.plan { fails = done ++ f ∷ [] } }) (fails_text base.plan.volumes fs)
-    (record base { stage = stage_after_fails stage.Fails fs; plan = record base.plan { fails = (done ++ f ∷ []) ++ fs } }) =
+    let parts = and_parts (is_fail (length base.plan.volumes) f)
+    (list_all (is_fail (length base.plan.volumes)) fs) h.each in
+    let rest : Reaches (record base { stage = stage.Fails; plan = record base.plan { fails = done ++ f ∷ [] } })
+    (fails_text base.plan.volumes fs)
+    (record base {
+      stage = stage_after_fails stage.Fails fs;
+      plan = record base.plan {
+        fails = (done ++ f ∷ [])
+            ++ fs;
+      };
+    }) =
     fails_reach base stage.Fails (done ++ f ∷ []) fs refl a
     (record { each = parts.1; few = omega (arith, length-append done (f ∷ []), h.few) }) in
     reaches_both (record base { stage = s; plan = record base.plan { fails = done } })
     (record base { stage = stage.Fails; plan = record base.plan { fails = done ++ f ∷ [] } })
-    (record base { stage = stage.Fails; plan = record base.plan { fails = done ++ f ∷ fs } }) (ended (fail_text base.plan.volumes f))
+    (record base { stage = stage.Fails; plan = record base.plan { fails = done ++ f ∷ fs } })
+    (ended (fail_text base.plan.volumes f))
     (fails_text base.plan.volumes fs)
     (reaches_line (record base { stage = s; plan = record base.plan { fails = done } })
-    (record base { stage = stage.Fails; plan = record base.plan { fails = done ++ f ∷ [] } }) (fail_text base.plan.volumes f) (codes "fail")
+    (record base { stage = stage.Fails; plan = record base.plan { fails = done ++ f ∷ [] } })
+    (fail_text base.plan.volumes f) (codes "fail")
     (fail_fields_text base.plan.volumes f)
     (fail_fields base.plan.volumes f a parts.0) refl
-    (fail_at s (record base { stage = s; plan = record base.plan { fails = done } }) (fail_fields_text base.plan.volumes f) takes
-    ∙ fail_line_again (record base { stage = s; plan = record base.plan { fails = done } }) f a parts.0 (omega (arith, h.few))))
-    (subst (λ (t : Stage). Reaches (record base { stage = stage.Fails; plan = record base.plan { fails = done ++ f ∷ [] } })
-    (fails_text base.plan.volumes fs) (record base { stage = t; plan = record base.plan { fails = done ++ f ∷ fs } })) (still_fails fs)
-    (subst (λ (t : List Fail). Reaches (record base { stage = stage.Fails; plan = record base.plan { fails = done ++ f ∷ [] } })
-    (fails_text base.plan.volumes fs) (record base { stage = stage_after_fails stage.Fails fs; plan = record base.plan { fails = t } }))
+    (fail_at s (record base { stage = s; plan = record base.plan { fails = done } })
+    (fail_fields_text base.plan.volumes f) takes
+    ∙ fail_line_again (record base { stage = s; plan = record base.plan { fails = done } }) f a parts.0
+    (omega (arith, h.few))))
+    (subst (λ (t : Stage). Reaches
+    (record base { stage = stage.Fails; plan = record base.plan { fails = done ++ f ∷ [] } })
+    (fails_text base.plan.volumes fs) (record base { stage = t; plan = record base.plan { fails = done ++ f ∷ fs } }))
+    (still_fails fs)
+    (subst (λ (t : List Fail). Reaches
+    (record base { stage = stage.Fails; plan = record base.plan { fails = done ++ f ∷ [] } })
+    (fails_text base.plan.volumes fs)
+    (record base { stage = stage_after_fails stage.Fails fs; plan = record base.plan { fails = t } }))
     (append_assoc done (f ∷ []) fs) rest))
 
 -- ---- the whole head

@@ -47,7 +47,8 @@ behind base done u = record base {
   list = record { commands = []; used = u };
 }
 
-going_again : (d : DraftPlan) (c : Command) → AreVolumes d.plan.volumes → is_command (length d.plan.volumes) c ≡ true → is_end c
+going_again : (d : DraftPlan) (c : Command) → AreVolumes d.plan.volumes → is_command (length d.plan.volumes) c ≡ true
+    → is_end c
     ≡ false → d.list.used + weight c ≤ 100000 → line_at stage.Commands d (word_text c) (fields_text d.plan.volumes c)
     ≡ Ok (record d { list = longer d.list c })
 unfolding line_at later_at command_line
@@ -55,7 +56,8 @@ going_again d c a h going le =
     let few : nat_le (d.list.used + weight c) 100000 ≡ true = grind (arith, nat_tests) in
     rw (command_again d.plan.volumes c a h, few, going) refl
 
-end_again : (d : DraftPlan) (c : Command) → AreVolumes d.plan.volumes → is_command (length d.plan.volumes) c ≡ true → is_end c
+end_again : (d : DraftPlan) (c : Command) → AreVolumes d.plan.volumes → is_command (length d.plan.volumes) c ≡ true
+    → is_end c
     ≡ true → d.list.used + weight c ≤ 100000 → line_at stage.Commands d (word_text c) (fields_text d.plan.volumes c)
     ≡ Ok (behind d (d.list.commands ++ c ∷ []) (d.list.used + weight c))
 unfolding line_at later_at command_line
@@ -68,7 +70,8 @@ command_reaches : (base next : DraftPlan) (done : List Command) (u : ℕ) (c : C
     → line_at stage.Commands (inside base done u) (word_text c) (fields_text base.plan.volumes c) ≡ Ok next
     → Reaches (inside base done u) (ended (command_text base.plan.volumes c)) next
 command_reaches base next done u c a h again =
-    reaches_line (inside base done u) next (command_text base.plan.volumes c) (word_text c) (fields_text base.plan.volumes c)
+    reaches_line (inside base done u) next (command_text base.plan.volumes c) (word_text c)
+    (fields_text base.plan.volumes c)
     (command_fields base.plan.volumes c a h) (word_is_no_comment c) again
 
 never_ends : ends_once [] ≡ true → ⊥
@@ -108,7 +111,8 @@ commands_reach base done u all (c ∷ []) a h ends e le =
     (end_again (inside base done u) c a parts.0 (last_ends c ends) (omega (arith, one, le))))
     (reaches_nothing (behind base (done ++ c ∷ []) (u + weight c))))
 commands_reach base done u all (c ∷ d ∷ cs) a h ends e le =
-    let parts = and_parts (is_command (length base.plan.volumes) c) (list_all (is_command (length base.plan.volumes)) (d ∷ cs)) h
+    let parts = and_parts (is_command (length base.plan.volumes) c)
+    (list_all (is_command (length base.plan.volumes)) (d ∷ cs)) h
     in
     let later = later_ends c d cs ends in
     let rest : u + weight c + sum_by weight (d ∷ cs) ≡ all = omega (arith, e, weight_cons c (d ∷ cs)) in
@@ -190,7 +194,8 @@ process_parts volumes x h =
     (p.0, q.0, q.1)
 
 process_reaches : (base : DraftPlan) (s : Stage) (done : List ProcessPlan) (before : Who) (u : ℕ) (x : ProcessPlan)
-    → is_whole s ≡ true → AreVolumes base.plan.volumes → is_process (length base.plan.volumes) x ≡ true → length done < 32
+    → is_whole s ≡ true → AreVolumes base.plan.volumes → is_process (length base.plan.volumes) x ≡ true
+    → length done < 32
     → u + weight_of x ≤ 100000 → Reaches (between base s done before u) (process_text base.plan.volumes false x)
     (between base stage.Processes (done ++ x ∷ []) x.who (u + weight_of x))
 unfolding process_text weight_of
@@ -200,7 +205,8 @@ process_reaches base s done before u x may a h room le =
     (between base stage.Processes (done ++ x ∷ []) x.who (u + weight_of x)) (ended (begin_text false x.who))
     (commands_text base.plan.volumes x.commands)
     (begin_reaches base s done before x.who u may p.0 room)
-    (commands_reach (record base { plan = record base.plan { processes = done }; who = x.who }) [] u (u + weight_of x) x.commands a p.1 p.2 refl le)
+    (commands_reach (record base { plan = record base.plan { processes = done }; who = x.who }) [] u
+    (u + weight_of x) x.commands a p.1 p.2 refl le)
 
 first_reaches : (base : DraftPlan) (s : Stage) (before : Who) (u : ℕ) (x : ProcessPlan) → takes_fail s ≡ true
     → AreVolumes base.plan.volumes → is_process (length base.plan.volumes) x ≡ true → x.who ≡ initializer_who
@@ -216,7 +222,9 @@ first_reaches base s before u x may a h who le =
     (subst (λ (w : Who). Reaches (between (initial base) stage.Commands [] initializer_who u)
     (commands_text base.plan.volumes x.commands) (between (initial base) stage.Processes
     (record { who = w; commands = x.commands } ∷ []) initializer_who (u + weight_of x))) (sym who)
-    (commands_reach (record base { plan = record base.plan { initializer = true; processes = [] }; who = initializer_who }) [] u (u + weight_of x)
+    (commands_reach
+    (record base { plan = record base.plan { initializer = true; processes = [] }; who = initializer_who }) [] u
+    (u + weight_of x)
     x.commands a p.1 p.2 refl le))
 
 -- ---- the end
@@ -252,7 +260,8 @@ processes_read base s done before u [] n may a h room le =
     ∙ end_read n (between base s done before u) may
     ∙ ap (λ (t : List ProcessPlan). Ok (record base.plan { processes = t })) (sym (nil_after done))
 processes_read base s done before u (x ∷ xs) n may a h room le =
-    let parts = and_parts (is_process (length base.plan.volumes) x) (list_all (is_process (length base.plan.volumes)) xs) h in
+    let parts = and_parts (is_process (length base.plan.volumes) x)
+    (list_all (is_process (length base.plan.volumes)) xs) h in
     let step = (process_reaches base s done before u x may a parts.0 (omega (arith, room))
     (omega (arith, le, weight_of_cons x xs))).reads n (processes_text base.plan.volumes false xs) in
     ap (read_from n (between base s done before u)) (one_process base.plan.volumes false x xs)
@@ -262,12 +271,14 @@ processes_read base s done before u (x ∷ xs) n may a h room le =
     ∙ ap (λ (t : List ProcessPlan). Ok (record base.plan { processes = t })) (append_assoc done (x ∷ []) xs)
 
 first_read : (base : DraftPlan) (s : Stage) (before : Who) (xs : List ProcessPlan) (n : ℕ) → takes_fail s ≡ true
-    → AreVolumes base.plan.volumes → list_all (is_process (length base.plan.volumes)) xs ≡ true → BeginsWithInitializer xs
+    → AreVolumes base.plan.volumes → list_all (is_process (length base.plan.volumes)) xs ≡ true
+    → BeginsWithInitializer xs
     → length xs ≤ 32 → sum_by weight_of xs ≤ 100000 → read_from n (between base s [] before 0)
     (processes_text base.plan.volumes true xs) ≡ Ok (record base.plan { initializer = true; processes = xs })
 first_read base s before [] n may a h first room le = absurd first
 first_read base s before (x ∷ xs) n may a h first room le =
-    let parts = and_parts (is_process (length base.plan.volumes) x) (list_all (is_process (length base.plan.volumes)) xs) h in
+    let parts = and_parts (is_process (length base.plan.volumes) x)
+    (list_all (is_process (length base.plan.volumes)) xs) h in
     let step = (first_reaches base s before 0 x may a parts.0 first (omega (arith, le, weight_of_cons x xs))).reads n
     (processes_text base.plan.volumes false xs) in
     ap (read_from n (between base s [] before 0)) (one_process base.plan.volumes true x xs)

@@ -1,5 +1,6 @@
 -- What the lines of a script so far say (own).
-use Rattle.std.specs.Prelude.{◌≡◌, ℕ, ◌+◌, ◌<◌, ◌≤◌, Bool, true, false, not, nat_le, ◌==◌, List, [], ◌∷◌, ◌++◌, length, sum_by, codes}
+use Rattle.std.specs.Prelude.{◌≡◌, ℕ, ◌+◌, ◌<◌, ◌≤◌, Bool, true, false, not, nat_le, ◌==◌, List, [], ◌∷◌, ◌++◌}
+use Rattle.std.specs.Prelude.{length, sum_by, codes}
 use Rattle.std.specs.List.{list_all}
 use Rattle.mnames.specs.Principals.{default_project}
 use Rattle.mnames.specs.declared.principals.Who.{Who}
