@@ -253,7 +253,8 @@ module _ (p : Plan) (n : ℕ) (es : List Entry) (line : List ℕ) (more : List (
                 ≡ map entry_text fs ++ left
                 → MayStand p (es ++ fs) → Finds p n (es ++ fs) left (summary_lines (line ∷ more)) w
                 → IsJudgedFrom p n (es ++ e ∷ []) more w
-            each w [] left texts stand finds = absurd (here w left (sym (entry_passed line more before).0 ∙ texts) finds)
+            each w [] left texts stand finds = absurd
+                (here w left (sym (entry_passed line more before).0 ∙ texts) finds)
             each w (f ∷ fs) left texts stand finds =
                 let parts = first_text fs f left texts stand in
                 let same : f ≡ e = one f e parts.0 text in
