@@ -1,6 +1,7 @@
 -- How many commands a processor has answered since it loaded its process, and where a process's next command stands.
-use Rattle.std.proofs.Common.{◌≡◌, ◌<◌, ◌+◌, ℕ, Bool, true, false, cond, eqb, List, [], ◌∷◌, length}
+use Rattle.std.proofs.Common.{◌≡◌, ◌<◌, ◌+◌, ℕ, eqb, List, [], ◌∷◌, length}
 use Rattle.std.proofs.Common.{Some, refl, sym, ap, ◌∙◌, arith}
+use Rattle.std.proofs.lemmas.Bool.{cond_both}
 use Rattle.assoc_mem.specs.declared.What.{What}
 use Rattle.script.specs.Plans.{Plan}
 use Rattle.book.specs.declared.entries.Entry.{Entry}
@@ -8,7 +9,7 @@ use Rattle.book.specs.declared.entries.Entry.TheVariants as entry
 use Rattle.flat_model.specs.Legal.{after_entry}
 use Rattle.flat_model.specs.Store.{Store, boot}
 use Rattle.custody_model.specs.Clean.{custody_after, custody_from}
-use Rattle.custody_model.specs.Custody.{Custody, Seat, cleared, nothing_held}
+use Rattle.custody_model.specs.Custody.{Custody, Seat, nothing_held}
 use Rattle.custody_model.specs.Next.{at_put, custody_next, told}
 use Rattle.custody_model.proofs.TurnLaws.{count_next}
 use Rattle.machine_model.proofs.Places.{by_place}
@@ -19,13 +20,8 @@ abbrev AreCounted : Custody → ℕ → Type 0
 AreCounted c n = (d k : ℕ) → (c.seat d).process ≡ Some k → (c.seat d).count < n
 
 told_same : (c : Custody) (i : ℕ) (w : What) (d : ℕ) → (told c i w d (c.seat d)).process ≡ (c.seat d).process
-told_same c i w d = by (eqb d i) (c.seat d).online
-  where
-    by : (b o : Bool) → (cond b (cleared c w (c.seat d))
-        (cond o (record (c.seat d) { due = Some w }) (c.seat d))).process ≡ (c.seat d).process
-    by true o = refl
-    by false true = refl
-    by false false = refl
+told_same c i w d = cond_both (eqb d i) _ _ (λ (x : Seat). x.process ≡ (c.seat d).process) (λ own. refl)
+    (λ other. cond_both (c.seat d).online _ _ (λ (x : Seat). x.process ≡ (c.seat d).process) (λ on. refl) (λ off. refl))
 
 -- the processor had that process before
 kept : (p : Plan) (s : Store) (c : Custody) (e : Entry) (n d k : ℕ) → AreCounted c n → (c.seat d).process ≡ Some k

@@ -16,7 +16,7 @@ use Rattle.machine_model.specs.declared.Processor.{Processor}
 use Rattle.machine_model.specs.declared.Run.{Run}
 use Rattle.machine_model.specs.State.{Owner}
 use Rattle.machine_model.proofs.BookNext.{book_apart, book_next}
-use Rattle.machine_model.proofs.HeldLaws.{under_way_alike}
+use Rattle.machine_model.proofs.HeldLaws.{right_like, under_way_alike}
 use Rattle.machine_model.proofs.OwnedLaws.{IsIdle, like_seat, owned_like, owned_idle}
 use Rattle.machine_model.proofs.Places.{by_place, put_map}
 use Rattle.machine_model.proofs.RunLaws.{runs_answered, runs_failed}
@@ -48,15 +48,7 @@ answer_keeps v c k place f r run keeps can =
           v.owner keeps.going_owned;
       tied = keeps.tied;
       holding_right = λ d. by_place (λ (x : Processor). HoldsRight v.bound (shown v).descriptor x) v.processors c p d
-          (λ i. (let was = keeps.holding_right c in
-          record {
-            pages = was.pages;
-            segs = was.segs;
-            few_pages = was.few_pages;
-            few_segs = was.few_segs;
-            warned =
-                was.warned;
-          }))
+          (λ i. right_like (v.processors c) p (keeps.holding_right c) refl refl (keeps.holding_right c).warned)
           (λ n. keeps.holding_right d);
       under_way = under_way_alike v.reads v.processors (at_put v.processors c p)
           (λ d. by_place (λ (x : Processor). x.cpu.transfer ≡ (v.processors d).cpu.transfer) v.processors c p d

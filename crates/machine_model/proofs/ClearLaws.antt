@@ -24,7 +24,7 @@ use Rattle.machine_model.specs.declared.Processor.{Processor}
 use Rattle.machine_model.specs.State.{Owner}
 use Rattle.machine_model.proofs.BookNext.{book_next}
 use Rattle.machine_model.proofs.DueLaws.{HasSaid, none_due, owned_signal, owned_clear}
-use Rattle.machine_model.proofs.HeldLaws.{pages_kept, segs_kept, few_kept, under_way_alike, kept_step}
+use Rattle.machine_model.proofs.HeldLaws.{pages_kept, right_like, segs_kept, few_kept, under_way_alike, kept_step}
 use Rattle.machine_model.proofs.Places.{by_place, put_map}
 use Rattle.machine_model.proofs.TieLaws.{none_some}
 use Rattle.machine_model.proofs.TieLaws.{bound_used}
@@ -118,13 +118,7 @@ told_right bound descriptor c w d p right = by (eqb d c) p.cpu.online refl
     by : (b online : Bool) → p.cpu.online ≡ online
         → HoldsRight bound descriptor (cond b (dropped p w) (cond online (warned p w) p))
     by true online e = dropped_right bound descriptor w p right
-    by false true e = record {
-      pages = right.pages;
-      segs = right.segs;
-      few_pages = right.few_pages;
-      few_segs = right.few_segs;
-      warned = λ v h. e;
-    }
+    by false true e = right_like p (warned p w) right refl refl (λ v h. e)
     by false false e = right
 
 told_transfer : (c : ℕ) (w : What) (d : ℕ) (p : Processor) → (told_at c w d p).cpu.transfer ≡ p.cpu.transfer
@@ -214,12 +208,6 @@ clear_keeps v c w k due = book_next v (entry.Clear c w) (cleared_at v c w) refl 
     seat_is = ap (λ (x : Seat). record x { due = None }) (dropped_seat v w (v.processors c) (k.holding_right c))
 
     right : HoldsRight v.bound (shown v).descriptor (done_dropping (v.processors c) w)
-    right = let right = dropped_right v.bound (shown v).descriptor w (v.processors c) (k.holding_right c) in
-        record {
-          pages = right.pages;
-          segs = right.segs;
-          few_pages = right.few_pages;
-          few_segs = right.few_segs;
-          warned
-              = λ v h. absurd (none_some h);
-        }
+    right = right_like (dropped (v.processors c) w) (done_dropping (v.processors c) w)
+        (dropped_right v.bound (shown v).descriptor w (v.processors c) (k.holding_right c)) refl refl
+        (λ v h. absurd (none_some h))

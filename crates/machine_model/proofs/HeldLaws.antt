@@ -5,7 +5,8 @@ use Rattle.std.proofs.Common.{map, filter, length, drop, Option, Some, None, inl
 use Rattle.std.proofs.lemmas.Bool.Decides.{eqb_tells, nat_tests}
 use Rattle.assoc_mem.specs.declared.HeldPage.{HeldPage}
 use Rattle.assoc_mem.specs.declared.HeldSeg.{HeldSeg}
-use Rattle.assoc_mem.specs.Held.{filled}
+use Rattle.assoc_mem.specs.declared.What.{What}
+use Rattle.assoc_mem.specs.Held.{Held, filled}
 use Rattle.custody_model.specs.declared.DescriptorUse.{DescriptorUse}
 use Rattle.custody_model.specs.Custody.{has, leads_to}
 use Rattle.custody_model.specs.Custody.{filled as filled_in}
@@ -168,6 +169,19 @@ segs_elsewhere descriptor k n x j (e ∷ es) none held = (
   segs_elsewhere descriptor k n x j es (λ i.
       (or_parts (eqb e.number n) (has (map (λ e. e.number) es) n) (none i)).1) held.1,
 )
+
+-- a processor that holds the same for the same process
+pub right_like : {bound : ℕ → Option (ℕ × ℕ)} {descriptor : ℕ → ℕ → DescriptorUse} (p q : Processor)
+    → HoldsRight bound descriptor p → q.cpu.assoc ≡ p.cpu.assoc → q.cpu.process ≡ p.cpu.process
+    → ((w : What) → q.cpu.due ≡ Some w → q.cpu.online ≡ true) → HoldsRight bound descriptor q
+right_like {bound} {descriptor} p q was assoc process warned = record {
+  pages = subst (λ (a : Held). AreHeldPages bound a.pages) (sym assoc) was.pages;
+  segs = subst (λ (o : Option ℕ). AreOfProcess descriptor o q.cpu.assoc.segs) (sym process)
+      (subst (λ (a : Held). AreOfProcess descriptor p.cpu.process a.segs) (sym assoc) was.segs);
+  few_pages = subst (λ (a : Held). length a.pages ≤ 16) (sym assoc) was.few_pages;
+  few_segs = subst (λ (a : Held). length a.segs ≤ 16) (sym assoc) was.few_segs;
+  warned = warned;
+}
 
 -- the same descriptors as far as what they lead to
 segs_alike : (old new : ℕ → ℕ → DescriptorUse) (k : ℕ) (es : List HeldSeg)

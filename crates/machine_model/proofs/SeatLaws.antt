@@ -22,7 +22,7 @@ use Rattle.machine_model.specs.Seen.{Seen, flat, shown, seat_of, descriptor_use,
 use Rattle.machine_model.specs.Reads.{cut_of_owner}
 use Rattle.machine_model.specs.declared.Processor.{Processor}
 use Rattle.machine_model.proofs.BookNext.{book_next}
-use Rattle.machine_model.proofs.HeldLaws.{map_filled, filled_few, pages_filled, segs_filled, under_way_alike}
+use Rattle.machine_model.proofs.HeldLaws.{map_filled, filled_few, pages_filled, right_like, segs_filled, under_way_alike}
 use Rattle.machine_model.proofs.OwnedLaws.{like_seat, owned_like}
 use Rattle.machine_model.proofs.Places.{by_place, put_map}
 use Rattle.machine_model.proofs.TieLaws.{none_some, use_bound}
@@ -89,14 +89,7 @@ online_keeps v c k inside off = reseat_keeps v c (taking_part (v.processors c)) 
   allowed = record { processor = inside; offline = off };
   online = tt;
   next = refl;
-  right = let right = k.holding_right c in record {
-    pages = right.pages;
-    segs = right.segs;
-    few_pages = right.few_pages;
-    few_segs = right.few_segs;
-    warned = λ w h.
-        refl;
-  };
+  right = right_like (v.processors c) (taking_part (v.processors c)) (k.holding_right c) refl refl (λ w h. refl);
 })
 
 pub load_keeps : (v : Seen) (c n : ℕ) → KeepsBook v → (v.processors c).cpu.online ≡ true

@@ -17,7 +17,7 @@ use Rattle.machine_model.specs.Seen.{Seen, shown, seat_of, frame_use, bound_use,
 use Rattle.machine_model.specs.declared.Processor.{Processor}
 use Rattle.machine_model.proofs.BookNext.{book_next}
 use Rattle.machine_model.proofs.FrameLaws.{in_no_frame}
-use Rattle.machine_model.proofs.HeldLaws.{right_frame}
+use Rattle.machine_model.proofs.HeldLaws.{right_frame, right_like}
 use Rattle.machine_model.proofs.OwnedLaws.{like_frame, owned_like}
 use Rattle.machine_model.proofs.Places.{by_place, one_place, put_here, put_other, put_two_here}
 use Rattle.machine_model.proofs.TieLaws.{none_some, out_none, page_is, tied_start, tied_lost, tied_here, other_use_here}
@@ -38,14 +38,8 @@ transfer_right : (bound : ℕ → Option (ℕ × ℕ)) (descriptor : ℕ → ℕ
 transfer_right bound descriptor processors c t right d =
     by_place (λ (p : Processor). HoldsRight bound descriptor p) processors c
     (with_transfer (processors c) t) d
-    (λ i. (let was = right c in record {
-      pages = was.pages;
-      segs = was.segs;
-      few_pages = was.few_pages;
-      few_segs =
-          was.few_segs;
-      warned = was.warned;
-    })) (λ n. right d)
+    (λ i. right_like (processors c) (with_transfer (processors c) t) (right c) refl refl (right c).warned)
+    (λ n. right d)
 
 transfer_of : (processors : ℕ → Processor) (c : ℕ) (t : Option Transfer)
     → (at_put processors c (with_transfer (processors c) t) c).cpu.transfer ≡ t

@@ -4,7 +4,7 @@ use Rattle.std.proofs.Common.{List, [], ◌∷◌, ◌++◌, Option, Some, None,
 use Rattle.std.specs.Prelude.{◌||◌, ◌==◌, count_by, filter, nat_lt, replicate, slice_get, sum_by}
 use Rattle.std.proofs.lemmas.List.{length-replicate, length_push}
 use Rattle.std.specs.List.{list_any}
-use Rattle.std.proofs.lemmas.Bool.{cases_eq}
+use Rattle.std.proofs.lemmas.Bool.{cases_eq, or_parts}
 use Rattle.std.proofs.lemmas.Bool.Decides.{nat_tests}
 use Rattle.std.proofs.lemmas.List.Sums.{count_by-le-length, length-filter, sum_by-cons}
 use Rattle.std.proofs.lemmas.Option.{get_or_from_slice_get, slice_get-map, slice_get_within}
@@ -138,19 +138,12 @@ sum_few count fails (d ∷ ds) v each =
     let sum = sum_by-cons count d ds in
     omega (arith, here, rest, more, sum)
 
-both_no : (a b : Bool) → (a || b) ≡ false → (a ≡ false) × (b ≡ false)
-both_no false b h = (refl, h)
-both_no true b h = absurd (true_false h)
-  where
-    true_false : true ≡ false → ⊥
-    true_false e = cc
-
 -- where no line goes on, none of a volume's does
 quiet : (fails : List Fail) (v : ℕ) → list_any (λ f. f.onward) fails ≡ false
     → list_any (λ (l : FailLine). l.onward) (lines_in fails v) ≡ false
 quiet [] v h = refl
 quiet (f ∷ fs) v h =
-    let parts = both_no f.onward (list_any (λ f. f.onward) fs) h in
+    let parts = or_parts f.onward (list_any (λ f. f.onward) fs) h in
     let rest = quiet fs v parts.1 in
     here (is_on v f) parts.0 rest
   where

@@ -2,7 +2,7 @@
 use Rattle.std.proofs.Common.{◌≡◌, ◌≢◌, ℕ, ◌+◌, ◌/◌, ◌<◌, ◌≤◌, Bool, true, false, cond, eqb, ◌&&◌, ◌||◌, List, []}
 use Rattle.std.proofs.Common.{get_or, length, map}
 use Rattle.std.proofs.Common.{nat_le, nat_lt, set, Option, Some, None, refl, sym, ap, subst, ◌∙◌, arith, inl, inr}
-use Rattle.std.proofs.lemmas.Bool.{cases_eq, cases_lt, eq-eqb, eqb-true, ne_eqb}
+use Rattle.std.proofs.lemmas.Bool.{cases_eq, cases_lt, eq-eqb, eqb-true, ne_eqb, or_parts}
 use Rattle.std.proofs.lemmas.Bool.Decides.{nat_tests}
 use Rattle.std.proofs.lemmas.List.{get_or-set_other, get_or-set_same, get_or_past, length-set}
 use Rattle.std.proofs.lemmas.Option.{same_Some}
@@ -197,7 +197,7 @@ unstores_both old mid new u t r x y = record {
   hands = y.hands ∙ x.hands;
   tables = λ place apart. y.tables place (λ is. apart (ap (λ (e : List (Option Entry)). uid_in_place e place)
       (sym x.places) ∙ is)) ∙ x.tables place apart;
-  kept = λ q off. y.kept q (right (t q) (r q) off) ∙ x.kept q (left (t q) (r q) off);
+  kept = λ q off. y.kept q (or_parts (t q) (r q) off).1 ∙ x.kept q (or_parts (t q) (r q) off).0;
   gone = λ q on. by q (t q) (r q) refl refl on;
   bound = λ f. y.bound f ∙ ap (unbound u r) (x.bound f)
       ∙ fused_bound u t r (binding_at (bindings old.segs.pages.core) f);
@@ -207,14 +207,6 @@ unstores_both old mid new u t r x y = record {
   drives = y.drives ∙ x.drives;
 }
   where
-    left : (a b : Bool) → (a || b) ≡ false → a ≡ false
-    left true b e = cc
-    left false b e = refl
-
-    right : (a b : Bool) → (a || b) ≡ false → b ≡ false
-    right true b e = cc
-    right false b e = e
-
     by : (q : ℕ) (a b : Bool) → t q ≡ a → r q ≡ b → (a || b) ≡ true → word_of new.segs.ast u q ≡ Null
     by q a true e f on = y.gone q f
     by q true false e f on = y.kept q f ∙ x.gone q e

@@ -1,0 +1,9 @@
+use Rattle.std.proofs.Common.{Err, ap, refl}
+use Rattle.site_io.specs.declared.whole.Unread.{Unread}
+use Rattle.runner.proofs.Ends.{ends_unread}
+use Rattle.runner.proofs.checking.read_and_check.Goals as goal
+
+pub returns-in-Err : goal.returns-in-Err
+returns-in-Err g c = ends_unread _ _ _ _ c.in-Err.unread tt refl c.end_unread.ensures.unread
+    c.end_unread.ensures.machine (λ e. c.in-Err.ensures.longer (ap (λ (u : Unread). Err u) e))
+    (λ e. c.in-Err.ensures.fault (ap (λ (u : Unread). Err u) e)) c.in-Err.ensures.front
