@@ -9,6 +9,7 @@
 //! - `calls` prints how often the first volume's disk was read and written;
 //! - `reads N M` reads in pieces of N bytes, and the Mth read fails; `unread` has the first read fail;
 //! - `room N M` has room for N bytes that are written, and the Mth write fails, or none where M is 0;
+//! - `day N` has the script of the day of N for its input;
 //! - `hold` holds two processors at certain points, and tells whether each hold took place;
 //! - `times N` runs the program N times, and each run must give the same.
 //!

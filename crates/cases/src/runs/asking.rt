@@ -33,6 +33,8 @@ pub(crate) struct Asked<'a> {
     pub(crate) room: u32,
     /// The number of the write that fails; 0 for none.
     pub(crate) failing_write: u32,
+    /// The number of the day whose script is the input, if it is one.
+    pub(crate) day: Option<u32>,
     /// Whether two processors are held at certain points.
     pub(crate) hold: bool,
     /// How often the program runs on the input, all of it in one piece; 0 for once in pieces of each size.
@@ -52,6 +54,7 @@ impl<'a> Asked<'a> {
             failing_read: 0,
             room: WIDE,
             failing_write: 0,
+            day: None,
             hold: false,
             times: 0,
         };
@@ -68,6 +71,7 @@ impl<'a> Asked<'a> {
             "only" => self.only = rest,
             "words" => self.places = rest,
             "calls" => self.calls = true,
+            "day" => self.day = rest.parse().ok(),
             "hold" => self.hold = true,
             "unread" => self.failing_read = 1,
             "reads" => (self.pieces, self.failing_read) = two_numbers(rest),

@@ -1,6 +1,7 @@
 use crate::first_line;
 use crate::runs::answers::answer_text;
 use crate::runs::asking::Asked;
+use make_work::make_script;
 use no_memory::NoMemory;
 use std::alloc::Global;
 use std::sync::Wait;
@@ -10,11 +11,11 @@ use std::thread::Threads;
 fn answers<R: Threads + Wait + Sync + AllocGlobal>(
     rt: &R,
     asked: &Asked,
-    input: &str,
+    input: &[u8],
 ) -> Result<String, NoMemory> {
-    let first = answer_text(rt, asked, input.as_bytes(), asked.piece(0))?;
+    let first = answer_text(rt, asked, input, asked.piece(0))?;
     for run in 1..asked.runs() {
-        let other = answer_text(rt, asked, input.as_bytes(), asked.piece(run))?;
+        let other = answer_text(rt, asked, input, asked.piece(run))?;
         if other != first {
             return Ok(format!(in rt.alloc(); "{first}after {run} runs: {other}")?);
         }
@@ -38,10 +39,20 @@ fn group_text<R: Threads + Wait + Sync + AllocGlobal>(
     for part in parts.split("\n-- ") {
         let (name, lines) = first_line(part);
         let input = joined(rt.alloc(), front, lines)?;
-        let given = answers(rt, asked, input.as_str())?;
+        let given = answers(rt, asked, input.as_bytes())?;
         write!(text, "-- {name}\n{given}")?;
     }
     Ok(text)
+}
+
+/// What the script of a day gives.
+fn day_text<R: Threads + Wait + Sync + AllocGlobal>(
+    rt: &R,
+    asked: &Asked,
+    number: u32,
+) -> Result<String, NoMemory> {
+    let script = make_script(rt.alloc(), number)?;
+    answers(rt, asked, &script)
 }
 
 /// What a case gives, whose first line asks.
@@ -51,8 +62,11 @@ pub(crate) fn given<R: Threads + Wait + Sync + AllocGlobal>(
 ) -> Result<String, NoMemory> {
     let (line, input) = first_line(case);
     let asked = Asked::by(line);
+    if let Some(number) = asked.day {
+        return day_text(rt, &asked, number);
+    }
     match input.split_once("\n-- ") {
         Some((front, parts)) => group_text(rt, &asked, front, parts),
-        None => answers(rt, &asked, input),
+        None => answers(rt, &asked, input.as_bytes()),
     }
 }
