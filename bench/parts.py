@@ -2,8 +2,8 @@
 """Says where the instructions of whole runs go: parts.py BINARY SCRIPT.., where BINARY is that of `multics`.
 
 For each script it prints the instructions of `multics run`, as valgrind's callgrind counts them, and those of its parts,
-each with what it calls: the script is read, the drives' pages are made, the tables are made, the steps, what comes behind
-the last one (the shutdown, the listing and its writing), and the rest: reading the bytes, room for entries, the lock.
+each with what it calls: the script is read, the drives' pages are made, the tables are made, the steps, and the rest:
+reading the bytes, room for entries, the lock, the shutdown, the listing and its writing.
 """
 import os
 import re
@@ -16,7 +16,6 @@ PARTS = {
     "drives": "volumes::core_drive::CoreDrive::new",
     "tables": "machine_tables::tables::Tables::boot",
     "steps": "machine::machine::Machine::step",
-    "ending": "runner::running::end_and_print",
 }
 
 
