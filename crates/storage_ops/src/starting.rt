@@ -31,6 +31,25 @@ fn whos_of(alloc: Global, script: &Script) -> Result<Vec<Who>, NoMemory>
     Ok(whos)
 }
 
+/// Segment control over the volumes of a script, with nothing in core, active or known.
+fn fresh_segs<D: Drive>(
+    alloc: Global,
+    script: &Script,
+    volumes: Volumes<D>,
+) -> Result<Segs<D>, NoMemory>
+    requires fresh { AreFresh script.now volumes.records volumes.vtocs }
+    ensures { IfOk result (λ segs. segs ≡ record {
+      pages = empty_frames script.now.frames volumes;
+      ast = no_segments script.now.pools;
+      links = no_links (sum script.now.pools) (length script.now.processes);
+    }) }
+{
+    let processes = script.processes();
+    let pages = Pages::new(alloc, script.frames(), volumes)?;
+    let segs = Segs::new(alloc, pages, script.pools(), processes)?;
+    Ok(segs)
+}
+
 impl<D: Drive> Store<D> {
     /// A store of the root alone, on the first volume: nothing is active, known, connected or stored. The volumes must
     /// have the script's sizes, with nothing of them in use. It takes all the memory that the store ever has.
@@ -51,11 +70,11 @@ impl<D: Drive> Store<D> {
         ensures inactive { IfOk result (λ t. t.segs.ast ≡ no_segments script.now.pools) }
         ensures drives { IfOk result (λ t. t.segs.pages.volumes.drives ≡ volumes.drives) }
     {
-        let processes = script.processes();
+        // This call tells the ranges of the script's numbers.
+        let _processes = script.processes();
         let whos = whos_of(alloc, script)?;
         let accounts = Accounts::new(alloc, 0, 0, script.quota())?;
-        let pages = Pages::new(alloc, script.frames(), volumes)?;
-        let mut segs = Segs::new(alloc, pages, script.pools(), processes)?;
+        let mut segs = fresh_segs(alloc, script, volumes)?;
         look(&segs);
         let Some(entry) = segs.new_home(0, 1) else {
             unreachable!();

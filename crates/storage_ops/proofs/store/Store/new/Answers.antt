@@ -1,39 +1,30 @@
-use Rattle.std.proofs.Common.{◌≡◌, ℕ, None, Some, true, false, length, is_some, replicate, sum, List}
-use Rattle.std.proofs.Common.{refl, sym, ap, subst, ◌∙◌, arith, ◌<◌, ◌≤◌}
+use Rattle.std.proofs.Common.{◌≡◌, ℕ, None, Some, true, false, length, is_some, replicate}
+use Rattle.std.proofs.Common.{refl, sym, ap, subst, ◌∙◌, arith, ◌<◌}
 use Rattle.std.proofs.lemmas.List.{length-replicate, length-map}
 use Rattle.script.specs.Plans.{Plan, ProcessPlan}
 use Rattle.accounts.specs.Maps.{root_alone}
 use Rattle.active_segs.specs.Active.{ActiveSegs, uid_at as uid_in_place}
 use Rattle.flat_model.specs.Store.{Store as Flat, root_of}
 use Rattle.page_control.specs.Effects.{after_asked}
-use Rattle.page_control.specs.Plain.{Paging, Plain, plain}
+use Rattle.page_control.specs.Plain.{Plain, plain}
 use Rattle.seg_control.specs.Control.{Control, Links}
-use Rattle.seg_control.specs.Effects.{no_links}
-use Rattle.storage_ops.specs.Shown.{AreFresh, IsStore, Shows, Storage, empty_frames}
-use Rattle.storage_ops.proofs.Fresh.{blank, boot_is, entries_some, entry_first, filed_fresh, none_active, none_known}
-use Rattle.storage_ops.proofs.Fresh.{nothing, pools_few}
-use Rattle.storage_ops.proofs.Fresh.{records_most, rest_fresh}
+use Rattle.storage_ops.specs.Shown.{AreFresh, IsStore, Shows, Storage}
+use Rattle.storage_ops.proofs.Fresh.{blank, boot_is, entries_some, entry_first, none_active, none_known}
+use Rattle.storage_ops.proofs.Fresh.{nothing}
+use Rattle.storage_ops.proofs.Fresh.{records_most}
 use Rattle.storage_ops.proofs.Fresh.{root_gains, shown_nothing, store_nothing}
 use Rattle.storage_ops.proofs.Homes.{HasNewHome, shown_new, store_new}
 use Rattle.storage_ops.proofs.Made.{length_inside}
 use Rattle.storage_ops.proofs.store.Store.new.Given.{Over}
-use Rattle.storage_ops.proofs.store.Store.new.Goals.{In-Some, In_ok-pages, In_ok-segs}
+use Rattle.storage_ops.proofs.store.Store.new.Goals.{In-Some, In_ok-segs}
 use Rattle.storage_ops.proofs.store.Store.new.Goals as goal
 
--- the volumes that pages are given, and those of segment control, are fresh
-fresh_pages : (g : Over) (c : In_ok-pages g)
-    → AreFresh c.args.script.now c.in_ok-pages.pages.volumes.records c.in_ok-pages.pages.volumes.vtocs
-fresh_pages g c =
-    subst (λ (x : Paging g.row.D.Denot). AreFresh c.args.script.now x.volumes.records x.volumes.vtocs)
-    (sym c.in_ok-pages.ensures) c.requires.fresh
-
+-- the volumes of segment control are fresh
 fresh_volumes : (g : Over) (c : In_ok-segs g)
     → AreFresh c.args.script.now c.in_ok-segs.segs.pages.volumes.records c.in_ok-segs.segs.pages.volumes.vtocs
 fresh_volumes g c =
     subst (λ (x : Control g.row.D.Denot). AreFresh c.args.script.now x.pages.volumes.records x.pages.volumes.vtocs)
-    (sym c.in_ok-segs.ensures)
-    (subst (λ (x : Paging g.row.D.Denot). AreFresh c.args.script.now x.volumes.records x.volumes.vtocs)
-    (sym c.in_ok-pages.ensures) c.requires.fresh)
+    (sym c.in_ok-segs.ensures) c.requires.fresh
 
 -- so the root has the first entry
 first_entry : (g : Over) (c : In-Some g)
@@ -42,21 +33,6 @@ first_entry : (g : Over) (c : In-Some g)
 first_entry g c fresh =
     entry_first (plain g.D.Drive.pages c.in_ok-segs.segs.pages) fresh.free fresh.unused c.in-Some.entry
     c.in-Some.ensures.least
-
-pub new-requires-3-clause-records : goal.new-requires-3-clause-records
-new-requires-3-clause-records g c =
-    let fresh = fresh_pages g (goal.at.new-requires-3-clause-records g c).In_ok-pages in
-    filed_fresh (plain g.D.Drive.pages c.in_ok-pages.pages) fresh.free fresh.unused
-
-pub new-requires-3-clause-rest : goal.new-requires-3-clause-rest
-new-requires-3-clause-rest g c =
-    let fresh = fresh_pages g (goal.at.new-requires-3-clause-rest g c).In_ok-pages in
-    rest_fresh (plain g.D.Drive.pages c.in_ok-pages.pages) fresh.free fresh.unused
-
-pub new-requires-3-clause-pools : goal.new-requires-3-clause-pools
-new-requires-3-clause-pools g c =
-    subst (λ (ps : List ℕ). sum ps ≤ 1024) (sym c.pools.ensures)
-    (pools_few c.args.script.now.pools c.processes-processes.ensures.plan.pools)
 
 pub new_home-requires-clause-homed : goal.new_home-requires-clause-homed
 new_home-requires-clause-homed g c = record {
@@ -99,8 +75,7 @@ invariant_of-result g c =
     let now : Plain = plain g.D.Drive.pages c.new_home.new.self.pages in
     let count : length c.in_ok-whos.whos.items ≡ length c.in_ok-segs.segs.links.known =
     ap length c.in_ok-whos.ensures ∙ length-map c.args.script.now.processes (λ (x : ProcessPlan). x.who)
-    ∙ sym c.processes-processes.ensures.count
-    ∙ sym (length-replicate c.processes-processes.result (replicate 256 None))
+    ∙ sym (length-replicate (length c.args.script.now.processes) (replicate 256 None))
     ∙ ap (λ (x : Control g.row.D.Denot). length x.links.known) (sym c.in_ok-segs.ensures) in
     let start = store_nothing old fresh.free fresh.unused c.in_ok-segs.segs.ast c.in_ok-segs.segs.links
     c.in_ok-whos.whos.items
@@ -135,8 +110,7 @@ returns-clause-shown g c =
       whos = c.in_ok-whos.whos.items;
     } in
     let u = record t { accounts = c.in_ok-accounts.accounts; segs = c.new_home.new.self } in
-    let known = ap (λ (x : Control g.row.D.Denot). x.links.known) c.in_ok-segs.ensures
-    ∙ ap (λ (n : ℕ). replicate n (replicate 256 None)) c.processes-processes.ensures.count in
+    let known = ap (λ (x : Control g.row.D.Denot). x.links.known) c.in_ok-segs.ensures in
     subst (λ (x : Flat). Shows g.D.Drive.pages p x u) (boot_is p c.quota.result c.quota.ensures)
     (shown_new nothing c.in_ok-accounts.accounts _ c.in-Some.entry old now (made g at.In-Some zero)
     c.in_ok-segs.segs.ast
@@ -160,14 +134,10 @@ returns-clause-pages g c =
     c.in-Some.ensures.effect
     ∙ ap (λ (e : ℕ). after_asked (plain g.D.Drive.pages c.in_ok-segs.segs.pages) 0 1 (Some e)) zero
     ∙ ap (λ (x : Control g.row.D.Denot). after_asked (plain g.D.Drive.pages x.pages) 0 1 (Some 0)) c.in_ok-segs.ensures
-    ∙ ap (λ (x : Paging g.row.D.Denot). after_asked (plain g.D.Drive.pages x) 0 1 (Some 0)) c.in_ok-pages.ensures
-    ∙ ap (λ (n : ℕ). after_asked (plain g.D.Drive.pages (empty_frames n c.args.volumes)) 0 1 (Some 0)) c.frames.ensures
 
 pub returns-clause-links : goal.returns-clause-links
 returns-clause-links g c =
     c.new_home.ensures.links ∙ ap (λ (x : Control g.row.D.Denot). x.links) c.in_ok-segs.ensures
-    ∙ ap (λ (ps : List ℕ). no_links (sum ps) c.processes-processes.result) c.pools.ensures
-    ∙ ap (no_links (sum c.args.script.now.pools)) c.processes-processes.ensures.count
 
 pub prove-unreachable-requires : goal.prove-unreachable-requires
 prove-unreachable-requires g c =

@@ -1,0 +1,51 @@
+use Rattle.std.proofs.Common.{ℕ, sym, ap, subst, ◌∙◌, ◌≤◌, sum, List}
+use Rattle.active_segs.specs.Active.{no_segments}
+use Rattle.page_control.specs.Plain.{Paging, plain}
+use Rattle.seg_control.specs.Control.{Control}
+use Rattle.seg_control.specs.Effects.{no_links}
+use Rattle.storage_ops.specs.Shown.{AreFresh, empty_frames}
+use Rattle.storage_ops.proofs.Fresh.{filed_fresh, pools_few, rest_fresh}
+use Rattle.storage_ops.proofs.starting.fresh_segs.Given.{Over}
+use Rattle.storage_ops.proofs.starting.fresh_segs.Goals.{In_ok-pages}
+use Rattle.storage_ops.proofs.starting.fresh_segs.Goals as goal
+
+-- the volumes that pages are given are fresh
+fresh_pages : (g : Over) (c : In_ok-pages g)
+    → AreFresh c.args.script.now c.in_ok-pages.pages.volumes.records c.in_ok-pages.pages.volumes.vtocs
+fresh_pages g c =
+    subst (λ (x : Paging g.row.D.Denot). AreFresh c.args.script.now x.volumes.records x.volumes.vtocs)
+    (sym c.in_ok-pages.ensures) c.requires.fresh
+
+pub new-requires-2-clause-records : goal.new-requires-2-clause-records
+new-requires-2-clause-records g c =
+    let fresh = fresh_pages g (goal.at.new-requires-2-clause-records g c).In_ok-pages in
+    filed_fresh (plain g.D.Drive.pages c.in_ok-pages.pages) fresh.free fresh.unused
+
+pub new-requires-2-clause-rest : goal.new-requires-2-clause-rest
+new-requires-2-clause-rest g c =
+    let fresh = fresh_pages g (goal.at.new-requires-2-clause-rest g c).In_ok-pages in
+    rest_fresh (plain g.D.Drive.pages c.in_ok-pages.pages) fresh.free fresh.unused
+
+pub new-requires-2-clause-pools : goal.new-requires-2-clause-pools
+new-requires-2-clause-pools g c =
+    subst (λ (ps : List ℕ). sum ps ≤ 1024) (sym c.pools.ensures)
+    (pools_few c.args.script.now.pools c.processes-processes.ensures.plan.pools)
+
+-- segment control over these pages, with so many places in the pools and so many processes
+abbrev fresh_control : {D : Type 0} → Paging D → List ℕ → ℕ → Control D
+fresh_control pages pools processes = record {
+  pages = pages;
+  ast = no_segments pools;
+  links = no_links (sum pools) processes;
+}
+
+pub returns : goal.returns
+returns g c =
+    let pages = c.in_ok-pages.ensures
+    ∙ ap (λ (n : ℕ). empty_frames n c.args.volumes) c.frames.ensures in
+    c.in_ok-segs.ensures
+    ∙ ap (λ (x : Paging g.row.D.Denot). fresh_control x c.pools.result c.processes-processes.result) pages
+    ∙ ap (λ (ps : List ℕ). fresh_control (empty_frames c.args.script.now.frames c.args.volumes) ps
+    c.processes-processes.result) c.pools.ensures
+    ∙ ap (fresh_control (empty_frames c.args.script.now.frames c.args.volumes) c.args.script.now.pools)
+    c.processes-processes.ensures.count
