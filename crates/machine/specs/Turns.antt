@@ -20,9 +20,9 @@ use Rattle.machine_tables.specs.declared.action.Why.TheVariants as why
 use Rattle.machine.specs.declared.turn.Turn.{Turn}
 use Rattle.machine.specs.declared.turn.Turn.TheVariants as turn
 
--- The machine has gone on to its next state, by how the call of a drive came out, and nothing else was done. If the call
--- failed, the drives count more failures than before. The drives' plans and places stay, and so does the room of the
--- ready list.
+-- The machine has gone on to its next state, by how the call of a drive came out, and nothing else was done. If the
+-- call failed, the drives count more failures than before. The drives' plans and places stay, and so does the room of
+-- the ready list.
 pub record GoesOn {D Plan : Type 0} (plan : D → Plan) (places : D → ℕ) (old new : Parts D) (next : Outcome → State)
     : Type 0 where
   pub outcome : Outcome

@@ -265,7 +265,8 @@ left_by xs first left same quiet shaped =
 left_first : (o : Option Owner) (f : ℕ) (fs : List ℕ) → frames_of_owner o ≡ f ∷ fs → says o ≡ None → IsSteady o
     → HasLeft o (without_first_frame o) f
 left_first o f fs frames quiet steady = left_by fs frames ((frame_goes o).frames ∙ ap rest_of frames)
-    (frame_goes o).cut ((frame_goes o).says ∙ quiet) (shaped_steady (without_first_frame o) ((frame_goes o).steady steady))
+    (frame_goes o).cut ((frame_goes o).says ∙ quiet)
+    (shaped_steady (without_first_frame o) ((frame_goes o).steady steady))
 
 -- and without its first descriptor
 left_first_cut : (o : Option Owner) (d : CutDescriptor) (ds : List CutDescriptor) → cut_of_owner o ≡ d ∷ ds
@@ -326,7 +327,8 @@ back_on v f fs ds on = record {
 pub backs_keep : (v : Seen) (fs : List ℕ) (ds : List CutDescriptor) → KeepsBook v → GoesOn v fs ds
     → HasGone (backs v fs) [] ds
 backs_keep v [] ds k on = record { book = k; on = on }
-backs_keep v (f ∷ fs) ds k on = backs_keep (back v f (page_at v f).0 (page_at v f).1 (without_first_frame v.owner)) fs ds
+backs_keep v (f ∷ fs) ds k on =
+    backs_keep (back v f (page_at v f).0 (page_at v f).1 (without_first_frame v.owner)) fs ds
     (back_keeps v f (page_at v f).0 (page_at v f).1 (without_first_frame v.owner) k (first_finish v f fs ds k on))
     (back_on v f fs ds on)
 

@@ -95,11 +95,13 @@ freed_none b (f ∷ fs) none g = (λ i. freed (λ h. unread_put b f (none f (has
 
 pub gones_bound : (v : Seen) (fs : List ℕ) → (gones v fs).bound ≡ freed v.bound fs
 gones_bound v [] = refl
-gones_bound v (f ∷ fs) = gones_bound (gone v f (page_at v f).0 (page_at v f).1 ptw.Null (without_first_frame v.owner)) fs
+gones_bound v (f ∷ fs) =
+    gones_bound (gone v f (page_at v f).0 (page_at v f).1 ptw.Null (without_first_frame v.owner)) fs
 
 pub gones_leave : (v : Seen) (fs : List ℕ) → LeavesRest v (gones v fs)
 gones_leave v [] = refl
-gones_leave v (f ∷ fs) = gones_leave (gone v f (page_at v f).0 (page_at v f).1 ptw.Null (without_first_frame v.owner)) fs
+gones_leave v (f ∷ fs) =
+    gones_leave (gone v f (page_at v f).0 (page_at v f).1 ptw.Null (without_first_frame v.owner)) fs
 
 pub segs_leave : (v : Seen) (ds : List CutDescriptor) → LeavesRest v (gone_segs v ds)
 segs_leave v [] = refl
@@ -127,7 +129,8 @@ gone_entry f = entry.GonePage f
 
 pub gones_entries : (v : Seen) (fs : List ℕ) → (gones v fs).entries ≡ v.entries ++ map gone_entry fs
 gones_entries v [] = sym (append-nil v.entries)
-gones_entries v (f ∷ fs) = gones_entries (gone v f (page_at v f).0 (page_at v f).1 ptw.Null (without_first_frame v.owner)) fs
+gones_entries v (f ∷ fs) =
+    gones_entries (gone v f (page_at v f).0 (page_at v f).1 ptw.Null (without_first_frame v.owner)) fs
     ∙ append_assoc v.entries (entry.GonePage f ∷ []) (map gone_entry fs)
 
 pub segs_entries : (v : Seen) (ds : List CutDescriptor) → (gone_segs v ds).entries ≡ v.entries ++ map cut_entry ds

@@ -203,7 +203,8 @@ module _ (s : State) (c : ℕ) (o : Outcome) (k : Keeps s) (there : c < length s
       → p.cpu.process ≡ x
       → Asks s c o (run_process s p x) → CanDo s c o (run_process s p x)
   run_can other on due idle None e = load_can on e s.ready refl
-  run_can other on due idle (Some n) e = cond_both (has_had_its_turn p && not (is_empty s.ready)) act.Leave _ (Can s c o)
+  run_can other on due idle (Some n) e =
+      cond_both (has_had_its_turn p && not (is_empty s.ready)) act.Leave _ (Can s c o)
       (λ h asks. leave_can other n e h)
       (λ h. command_can s c o k there other (record { online = on; busy = ap is_some e; clear = due; idle = idle }) n e
       (next_command s n))

@@ -22,7 +22,8 @@ use Rattle.machine_model.specs.Seen.{Seen, flat, shown, seat_of, descriptor_use,
 use Rattle.machine_model.specs.Reads.{cut_of_owner}
 use Rattle.machine_model.specs.declared.Processor.{Processor}
 use Rattle.machine_model.proofs.BookNext.{book_next}
-use Rattle.machine_model.proofs.HeldLaws.{map_filled, filled_few, pages_filled, right_like, segs_filled, under_way_alike}
+use Rattle.machine_model.proofs.HeldLaws.{map_filled, filled_few, pages_filled, right_like, segs_filled}
+use Rattle.machine_model.proofs.HeldLaws.{under_way_alike}
 use Rattle.machine_model.proofs.OwnedLaws.{like_seat, owned_like}
 use Rattle.machine_model.proofs.Places.{by_place, put_map}
 use Rattle.machine_model.proofs.TieLaws.{none_some, use_bound}
@@ -39,23 +40,24 @@ pub reseat_keeps : (v : Seen) (c : ℕ) (p : Processor) (ready : List ℕ) (e : 
     → p.cpu.due ≡ (v.processors c).cpu.due → p.cpu.transfer ≡ (v.processors c).cpu.transfer
     → ((k : ℕ) → IsRun (progress_of (after_entry v.plan (flat v) e) k) (v.runs k)) → Reseats v c p ready e
     → KeepsBook (reseated v c p ready e)
-reseat_keeps v c p ready e k lawful pending due transfer runs r = book_next v e (reseated v c p ready e) refl refl k (record {
-  lawful = lawful;
-  allowed = r.allowed;
-  online = r.online;
-  next = seats ∙ sym r.next;
-  pending = sym pending;
-  going_owned = subst (λ (x : Custody). IsOwned x v.owner) (sym r.next)
-      (owned_like (shown v) (record (with_seat (shown v) c (seat_of p)) { ready = ready })
-      (like_seat (shown v) c (seat_of p) ready due) v.owner k.going_owned);
-  tied = k.tied;
-  holding_right = λ d. by_place (λ (x : Processor). HoldsRight v.bound (shown v).descriptor x) v.processors c p d
-      (λ i. r.right) (λ n. k.holding_right d);
-  under_way = under_way_alike v.reads v.processors (at_put v.processors c p)
-      (λ d. by_place (λ (x : Processor). x.cpu.transfer ≡ (v.processors d).cpu.transfer) v.processors c p d
-      (λ i. transfer ∙ ap (λ (j : ℕ). (v.processors j).cpu.transfer) (sym i)) (λ n. refl)) k.under_way;
-  runs = runs;
-})
+reseat_keeps v c p ready e k lawful pending due transfer runs r =
+    book_next v e (reseated v c p ready e) refl refl k (record {
+      lawful = lawful;
+      allowed = r.allowed;
+      online = r.online;
+      next = seats ∙ sym r.next;
+      pending = sym pending;
+      going_owned = subst (λ (x : Custody). IsOwned x v.owner) (sym r.next)
+          (owned_like (shown v) (record (with_seat (shown v) c (seat_of p)) { ready = ready })
+          (like_seat (shown v) c (seat_of p) ready due) v.owner k.going_owned);
+      tied = k.tied;
+      holding_right = λ d. by_place (λ (x : Processor). HoldsRight v.bound (shown v).descriptor x) v.processors c p d
+          (λ i. r.right) (λ n. k.holding_right d);
+      under_way = under_way_alike v.reads v.processors (at_put v.processors c p)
+          (λ d. by_place (λ (x : Processor). x.cpu.transfer ≡ (v.processors d).cpu.transfer) v.processors c p d
+          (λ i. transfer ∙ ap (λ (j : ℕ). (v.processors j).cpu.transfer) (sym i)) (λ n. refl)) k.under_way;
+      runs = runs;
+    })
   where
     seats : shown (reseated v c p ready e) ≡ record (with_seat (shown v) c (seat_of p)) { ready = ready }
     seats = λ i. record (shown v) { seat = λ d. put_map seat_of v.processors c p d i; ready = ready }
@@ -85,12 +87,13 @@ right_empty v p process warned = record {
 pub online_keeps : (v : Seen) (c : ℕ) → KeepsBook v → c < v.plan.processors → (v.processors c).cpu.online ≡ false
     → KeepsBook (came_online v c)
 unfolding IsLawful after_entry custody_next
-online_keeps v c k inside off = reseat_keeps v c (taking_part (v.processors c)) v.ready (entry.Online c) k tt refl refl refl k.runs (record {
-  allowed = record { processor = inside; offline = off };
-  online = tt;
-  next = refl;
-  right = right_like (v.processors c) (taking_part (v.processors c)) (k.holding_right c) refl refl (λ w h. refl);
-})
+online_keeps v c k inside off = reseat_keeps v c (taking_part (v.processors c)) v.ready (entry.Online c) k tt refl refl
+    refl k.runs (record {
+      allowed = record { processor = inside; offline = off };
+      online = tt;
+      next = refl;
+      right = right_like (v.processors c) (taking_part (v.processors c)) (k.holding_right c) refl refl (λ w h. refl);
+    })
 
 pub load_keeps : (v : Seen) (c n : ℕ) → KeepsBook v → (v.processors c).cpu.online ≡ true
     → (v.processors c).cpu.process ≡ None
