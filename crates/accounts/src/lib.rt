@@ -78,18 +78,17 @@ impl Accounts {
         self.tree.node(uid)
     }
 
-    /// The uid of the root, below which each other node lies. A caller that asks for it learns that the nodes are a
-    /// tree, that each account is within its quota, and that the counts are those of the tree's segments.
-    pub fn root(&self) -> u32
-        ensures uid { result ≡ 1 }
+    /// What holds of the accounts between calls: the nodes are a tree, with uids below the next one; each account is
+    /// within its quota; and the counts are those of the tree's segments. It does nothing.
+    pub fn promise(&self)
         ensures tree { IsTree self.now.nodes }
+        ensures below { AreBelow self.now.next self.now.nodes }
         ensures columns { HasColumns self.now }
         ensures within { (stored : List (ℕ × ℕ)) → Counts self.now stored → (account : ℕ)
             → used_by self.now.nodes stored account ≤ quota_in self.now.nodes account }
     {
-        prove!(self.tree.node(self.tree.next_uid()).is_none());
-        let _used = self.cells.used(dir_tree::ROOT);
-        dir_tree::ROOT
+        self.tree.promise();
+        self.cells.promise();
     }
 
     /// The uid that the next new branch gets. No node has or had it.
@@ -146,7 +145,7 @@ impl Accounts {
             → result ≡ used_by self.now.nodes stored account }
         ensures within { result ≤ quota_in self.now.nodes account }
     {
-        let _ = self.tree.next_uid();
+        self.tree.promise();
         self.cells.used(account)
     }
 

@@ -136,6 +136,16 @@ impl Tree {
         self.next
     }
 
+    /// What holds of the tree between calls: its nodes are a tree, each leads up to the root, and each has a uid below
+    /// the next one. It does nothing.
+    pub fn promise(&self)
+        ensures tree { IsTree (shapes self.now.nodes) }
+        ensures chains { HasChains (shapes self.now.nodes) }
+        ensures below { AreBelow self.now.next (shapes self.now.nodes) }
+    {
+        let _ = &self.entries;
+    }
+
     /// The branch of this name in a directory. `None` exactly where there is none.
     fn branch(&self, directory: u32, name: &Name) -> Option<&Node>
         ensures some { IfSome result (λ n. branch_in (shapes self.now.nodes) directory name.now ≡ Some (shape n.now)) }

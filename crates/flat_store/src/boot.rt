@@ -48,7 +48,7 @@ impl Holdings {
     fn boot(alloc: Global, script: &Script) -> Result<Holdings, NoMemory>
         ensures { IfOk result (λ holdings. Holds script.now holdings (boot script.now)) }
     {
-        let _processes = script.processes();
+        script.promise();
         let (records, mut entries) = gauges(alloc, script.volumes())?;
         fill_at(&mut entries, 0);
         let accounts = Accounts::new(alloc, 0, 0, script.quota())?;

@@ -84,7 +84,7 @@ impl Holdings {
         ensures { (p : Plan) (s : Store) → Holds p self.old s
             → Holds p self.new (record s { nodes = without_node s.nodes uid }) }
     {
-        let _root = self.accounts.root();
+        self.accounts.promise();
         let volume = volume_of(&self.accounts, uid);
         self.accounts.remove(uid);
         drain_at(&mut self.entries, volume);

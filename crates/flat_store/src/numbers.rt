@@ -8,7 +8,7 @@ use known_segs::{Kst, NUMBERS};
 fn least_free(kst: &Kst) -> Option<u32>
     ensures { result ≡ least_free kst.now }
 {
-    let _first = kst.uid_of(0);
+    kst.promise();
     for number in 0..NUMBERS as u32 {
         if kst.uid_of(number).is_none() {
             return Some(number);

@@ -96,6 +96,14 @@ impl Kst {
         *self.places.get(n as usize)?
     }
 
+    /// What holds of the table between calls: it has 256 numbers, and no uid has two of them. It does nothing.
+    pub fn promise(&self)
+        ensures size { length self.now ≡ 256 }
+        ensures once { HasOneNumberEach self.now }
+    {
+        let _ = &self.places;
+    }
+
     /// Number `n` stands for nothing from now on. Costs one write.
     pub fn forget(&mut self, n: u32)
         requires known { IsSome (uid_of self.old n) }

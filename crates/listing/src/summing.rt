@@ -33,7 +33,7 @@ fn below_root(chain: &[u32]) -> &[u32]
 fn look(accounts: &Accounts)
     ensures { IsTree accounts.now.nodes }
 {
-    let _root = accounts.root();
+    accounts.promise();
 }
 
 /// The names from the root down to a node.
@@ -177,7 +177,7 @@ pub fn summary(alloc: Global, script: &Script, store: &FlatStore) -> Result<Summ
     ensures { IfOk result (λ summary. (s : Store) → Shows script.now store.now s
         → summary ≡ summary_of script.now s) }
 {
-    let _processes = script.processes();
+    script.promise();
     let uses = volume_uses(alloc, store, script.volumes().len() as u32)?;
     summary_of_counts(alloc, script, store.accounts(), &uses)
 }

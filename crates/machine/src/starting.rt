@@ -72,7 +72,7 @@ impl<D: Drive> Machine<D> {
         ensures entries { IfOk result (λ m. m.state.entries ≡ []) }
         ensures drives { IfOk result (λ m. m.drives ≡ drives.items) }
     {
-        let _plan = script.processes();
+        script.promise();
         let volumes = volumes(alloc, script.volumes(), drives)?;
         let tables = Tables::boot(alloc, script, volumes)?;
         Ok(Machine { tables })

@@ -39,8 +39,7 @@ pub(crate) fn accounts_of<D: Drive>(store: &Store<D>) -> &Accounts
     ensures below { AreBelow store.now.accounts.next store.now.accounts.nodes }
 {
     let accounts = store.accounts();
-    let _root = accounts.root();
-    let _next = accounts.next_uid();
+    accounts.promise();
     accounts
 }
 

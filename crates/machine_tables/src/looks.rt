@@ -24,7 +24,7 @@ impl<D: Drive> Tables<D> {
     {
         let segs = self.store.segs();
         let _pages = segs.pages();
-        let _root = self.store.accounts().root();
+        self.store.accounts().promise();
         self
     }
 

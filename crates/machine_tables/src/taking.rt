@@ -49,7 +49,7 @@ impl<D: Drive> Tables<D> {
         ensures tree { IsTree self.now.state.store.accounts.nodes }
     {
         let accounts = self.store.accounts();
-        let _root = accounts.root();
+        accounts.promise();
         accounts
     }
 

@@ -210,6 +210,14 @@ impl Cells {
         self.pages_used(a)
     }
 
+    /// What holds of the cells between calls: each account is within its quota. It does nothing.
+    pub fn promise(&self)
+        ensures within { AreWithin self.now }
+        ensures table { IsTable self.now }
+    {
+        let _ = &self.segments;
+    }
+
     /// What `used` gives, by the cells alone.
     fn pages_used(&self, a: u32) -> u32
         ensures used { result ≡ used_in self.now a }

@@ -81,7 +81,7 @@ pub fn drives_of(alloc: Global, script: &Script) -> Result<Vec<AnyDrive>, NoMemo
     ensures sizes { IfOk result (λ drives. map (λ d. length (any_pages d)) drives.items
         ≡ map (λ v. v.records) script.now.volumes) }
 {
-    let _processes = script.processes();
+    script.promise();
     let count = script.volumes().len() as u32;
     let mut drives = Vec::new(alloc);
     for v in 0..count {

@@ -154,6 +154,13 @@ impl Script {
         self.parts.processes.len() as u32
     }
 
+    /// What holds of each script: it is one that a text can be read as. It does nothing.
+    pub fn promise(&self)
+        ensures { IsPlan self.now }
+    {
+        let _ = &self.parts;
+    }
+
     /// For whom process `k` runs, counted from 0.
     pub fn who(&self, k: u32) -> &Who
         requires { k < length self.now.processes }

@@ -204,7 +204,7 @@ pub fn script_text(alloc: Global, script: &Script) -> Result<Vec<u8>, NoMemory>
     // it is read back as the script
     ensures again { IfOk result (λ text. script_of text.items ≡ Ok script.now) }
 {
-    let _processes = script.processes();
+    script.promise();
     let mut out = String::new(alloc);
     match push_script(&mut out, script) {
         Ok(()) => Ok(out.into_bytes()),

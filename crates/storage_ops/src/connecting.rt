@@ -83,7 +83,7 @@ impl<D: Drive> Store<D> {
         ensures rest { self.new ≡ record self.old { segs = self.new.segs } }
         ensures shown { (p : Plan) (s : Flat) → Shows D.pages p s self.old → Shows D.pages p s self.new }
     {
-        let _root = self.accounts.root();
+        self.accounts.promise();
         look(&self.segs);
         self.segs.activate_next(chain)
     }

@@ -108,7 +108,7 @@ impl<D: Drive> Store<D> {
             ≡ erased (plain D.pages self.old.segs.pages) (home_of self.old.accounts uid) }
         ensures core { self.new.segs.pages.core ≡ self.old.segs.pages.core }
     {
-        let _root = self.accounts.root();
+        self.accounts.promise();
         look(&self.segs);
         let home = self.home(uid);
         uncount(&mut self.accounts, uid);

@@ -30,5 +30,5 @@ pub(crate) fn look(accounts: &Accounts)
     ensures within { (stored : List (ℕ × ℕ)) → Counts accounts.now stored → (account : ℕ)
         → used_by accounts.now.nodes stored account ≤ quota_in accounts.now.nodes account }
 {
-    let _root = accounts.root();
+    accounts.promise();
 }

@@ -77,6 +77,17 @@ impl<D: Drive> Volumes<D> {
         self.drives.len() as u32
     }
 
+    /// What holds of the volumes between calls: each has as many records as its drive has pages, and a VTOC; the
+    /// failures of a drive whose failing calls are named are few; and each page has 1024 words. It does nothing.
+    /// (Source: own.)
+    pub fn promise(&self)
+        ensures parts { HasParts (map D.pages self.now.drives) self.now.records self.now.vtocs }
+        ensures few { HaveFewFaults D.plan D.faults self.now.drives }
+        ensures full { HaveFull D.pages self.now.drives }
+    {
+        let _ = &self.drives;
+    }
+
     /// Takes the least free record of volume `v` into use. None exactly where all of its records are in use; nothing
     /// has changed then. It costs what the record map's does. (Source: Organick 1972.)
     pub fn withdraw(&mut self, v: u32) -> Option<u32>

@@ -84,7 +84,7 @@ pub fn run_workers<D: Drive + Send, G: Gate + Sync, R: Threads + Wait + Sync>(
     ensures places { map D.places result.drives ≡ map D.places machine.drives }
 {
     let script = machine.book().script();
-    let _plan = script.processes();
+    script.promise();
     let mut cpus = numbers(script.processors());
     run_under_lock::<Brand, D, G, R>(rt, machine, gate, cpus.as_mut_slice())
 }

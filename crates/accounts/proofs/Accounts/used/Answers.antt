@@ -8,7 +8,7 @@ pub returns-clause-scratch : goal.returns-clause-scratch
 returns-clause-scratch c =
     subst (λ (a : AccountMaps). (stored : List (ℕ × ℕ)) → Counts a stored → c.used.result
     ≡ used_by a.nodes stored c.args.account) c.self.view_is
-    (λ stored holds. c.used.ensures.scratch c.self.inside.tree.nodes stored c.next_uid.ensures.chains c.self.invariant
+    (λ stored holds. c.used.ensures.scratch c.self.inside.tree.nodes stored c.promise.ensures.chains c.self.invariant
     holds)
 
 pub returns-clause-within : goal.returns-clause-within

@@ -10,4 +10,4 @@ returns-then-is_none c =
 
 pub returns : goal.returns
 returns c = none_free c.args.kst.now c.loop-number.number
-    (omega (arith, c.uid_of-first.ensures.size, c.loop-number-test.false)) c.loop-number.invariant
+    (omega (arith, c.promise.ensures.size, c.loop-number-test.false)) c.loop-number.invariant

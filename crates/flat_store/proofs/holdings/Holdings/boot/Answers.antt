@@ -14,7 +14,7 @@ held c = record {
 }
 
 holds : (c : After-new-pages) → Holds c.args.script.now (held c) (boot c.args.script.now)
-holds c = held_boot c.args.script.now (held c) c.processes-processes.ensures.plan
+holds c = held_boot c.args.script.now (held c) c.promise.ensures
     (built c.args.script.now (held c) c.quota.result c.volumes.result.now c.volumes.result.now
     c.in_ok-records.entries.items c.in_ok-accounts.ensures c.quota.ensures c.new-pages.ensures
     c.in_ok-records.ensures.records c.volumes.ensures c.in_ok-records.ensures.entries c.volumes.ensures

@@ -23,7 +23,7 @@ invariant_of-self c =
       record h.1 { nodes = without_node h.1.nodes c.args.uid },
       removed_shown h.0 h.1 before after c.args.uid c.volume_of-volume.result h.2 c.remove.ensures refl
           c.drain_at.ensures c.volume_of-volume.ensures
-          c.root-root.ensures.tree there
+          c.promise.ensures.tree there
           (λ page. ap (λ (x : Held). is_some (page_at x.pages c.args.uid page)) c.self.view_is ∙ c.requires.pages page),
     )
 
@@ -35,5 +35,5 @@ returns c = λ p s h.
     removed_shown p s before after c.args.uid c.volume_of-volume.result
     (held_inside p s before c.args.self.now c.self.view_is h) c.remove.ensures refl
     c.drain_at.ensures c.volume_of-volume.ensures
-    c.root-root.ensures.tree there (λ page. ap (λ (x : Held). is_some (page_at x.pages c.args.uid page)) c.self.view_is
+    c.promise.ensures.tree there (λ page. ap (λ (x : Held). is_some (page_at x.pages c.args.uid page)) c.self.view_is
     ∙ c.requires.pages page)

@@ -29,7 +29,7 @@ boot-requires-clause-fresh g c = subst (λ (v : Vols g.row.D.Denot). AreFresh c.
 
 pub invariant_of-result : goal.invariant_of-result
 invariant_of-result g c = record {
-  keeps = first_keeps c.args.script _ _ _ _ c.processes-plan.ensures.plan _ c.in_ok-tables.ensures.state
+  keeps = first_keeps c.args.script _ _ _ _ c.promise.ensures _ c.in_ok-tables.ensures.state
       c.in_ok-tables.ensures.says;
   room = c.in_ok-tables.ensures.room
       ∙ sym (ap (λ (s : State). length s.plan.processes) c.in_ok-tables.ensures.state);

@@ -17,7 +17,7 @@ activate_next-requires g c =
     let off = subst (λ (x : Storage g.row.D.Denot). HasOneToGo x.segs.ast c.args.chain.now) (sym c.self.view_is)
     c.requires.off in
     may_activate (plain g.D.Drive.pages t.segs.pages) t.segs.ast t.segs.links t.accounts t.whos c.args.chain.now
-    c.self.invariant c.root-root.ensures.tree down (length t.segs.pages.volumes.drives)
+    c.self.invariant c.promise.ensures.tree down (length t.segs.pages.volumes.drives)
     (all_drives g.D.Drive.pages t.segs.pages.volumes c.look.ensures.parts) off
 
 pub returns-clause-next : goal.returns-clause-next
@@ -36,7 +36,7 @@ invariant_of-self g c =
     let down = subst (λ (x : Storage g.row.D.Denot). IsChainDown x.accounts c.args.chain.now) (sym c.self.view_is)
     c.requires.chain in
     store_next g.D.Drive.pages t.segs c.activate_next.new.self t.accounts t.whos c.args.chain.now
-    c.activate_next.result c.activate_next.ensures.next c.root-root.ensures.tree down c.look.ensures.kept.linked
+    c.activate_next.result c.activate_next.ensures.next c.promise.ensures.tree down c.look.ensures.kept.linked
     c.self.invariant
 
 pub returns-clause-shown : goal.returns-clause-shown

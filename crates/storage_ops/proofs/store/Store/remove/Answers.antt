@@ -31,7 +31,7 @@ invariant_of-self g c =
     (sym c.erase.ensures.links)
     (store_removed old now c.self.inside.accounts c.uncount.new.accounts c.remove.new.self c.args.uid done
     c.self.invariant.housed c.self.inside.segs.ast c.self.inside.segs.links c.self.inside.whos.items found.0
-    c.root-root.ensures.tree found.1 inactive c.self.invariant))
+    c.promise.ensures.tree found.1 inactive c.self.invariant))
 
 pub returns-clause-rest : goal.returns-clause-rest
 returns-clause-rest g c =

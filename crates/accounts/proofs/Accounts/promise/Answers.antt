@@ -1,21 +1,27 @@
 use Rattle.std.proofs.Common.{◌≤◌, ℕ, List, ap, subst}
 use Rattle.tree_model.specs.Tree.{used_by, quota_in as quota_at}
+use Rattle.tree_model.specs.Trees.{AreBelow}
 use Rattle.quota_cells.specs.Cells.{quota_in}
 use Rattle.quota_cells.proofs.ScratchLaws.{used_same}
 use Rattle.accounts.specs.Maps.{AccountMaps, Counts, accounts_of}
 use Rattle.accounts.proofs.Laws.{columns, used_within}
-use Rattle.accounts.proofs.TreeLaws.{tree_shown}
-use Rattle.accounts.proofs.Accounts.root.Goals as goal
+use Rattle.accounts.proofs.TreeLaws.{later_any, tree_shown}
+use Rattle.accounts.proofs.Accounts.promise.Goals as goal
 
 pub returns-clause-tree : goal.returns-clause-tree
 returns-clause-tree c =
     tree_shown (quota_in c.self.inside.cells) c.self.inside.tree.nodes c.args.self.now.nodes
-    (ap (λ (a : AccountMaps). a.nodes) c.self.view_is) c.node.ensures.tree
+    (ap (λ (a : AccountMaps). a.nodes) c.self.view_is) c.promise.ensures.tree
+
+pub returns-clause-below : goal.returns-clause-below
+returns-clause-below c =
+    subst (λ (a : AccountMaps). AreBelow a.next a.nodes) c.self.view_is
+    (later_any (quota_in c.self.inside.cells) c.self.inside.tree.nodes c.self.inside.tree.next c.promise.ensures.below)
 
 pub returns-clause-columns : goal.returns-clause-columns
 returns-clause-columns c =
     columns c.self.inside.tree c.self.inside.cells c.args.self.now c.self.view_is c.self.invariant
-    c.used-used.ensures.table
+    c.promise-2.ensures.table
 
 pub returns-clause-within : goal.returns-clause-within
 returns-clause-within c =
@@ -23,6 +29,6 @@ returns-clause-within c =
     → used_by a.nodes stored account ≤ quota_at a.nodes account) c.self.view_is
     (λ stored holds account. subst (λ n. n ≤ quota_at (accounts_of c.self.inside.tree c.self.inside.cells).nodes
     account)
-    (used_same c.self.inside.tree.nodes c.self.inside.cells c.self.invariant c.node.ensures.chains
-    c.used-used.ensures.table.segments_rise c.used-used.ensures.table.stored_count stored holds account)
-    (used_within c.self.inside.tree c.self.inside.cells c.self.invariant c.used-used.ensures.within account))
+    (used_same c.self.inside.tree.nodes c.self.inside.cells c.self.invariant c.promise.ensures.chains
+    c.promise-2.ensures.table.segments_rise c.promise-2.ensures.table.stored_count stored holds account)
+    (used_within c.self.inside.tree c.self.inside.cells c.self.invariant c.promise-2.ensures.within account))
