@@ -1,10 +1,11 @@
 -- A drive in core without lines never fails.
 use Rattle.std.proofs.Common.{◌≡◌, ℕ, zero, suc, Bool, false, true, [], refl, ◌⊎◌, Option, None, Some, Result, Ok, Err}
-use Rattle.std.proofs.Common.{IsOk, IfSome, IfNone, OnErr, inl, inr}
+use Rattle.std.proofs.Common.{IsOk, IfSome, IfNone, OnOk, OnErr, inl, inr}
 use Rattle.std.proofs.Common.{arith}
 use Rattle.site_io.specs.Faults.{Rose}
-use Rattle.volumes.specs.FailLine.{named_calls}
+use Rattle.volumes.specs.FailLine.{IsOneMore, named_calls}
 use Rattle.volumes.specs.CoreDrive.{DriveState, faults_of}
+use Rattle.bulk_store.specs.Contents.{CountsBoth}
 
 named_none : (write : Bool) (n : ℕ) → named_calls [] write n ≡ 0
 unfolding named_calls
@@ -45,3 +46,17 @@ pub read_cause : {T E : Type 0} (P Q : Type 0) (place : Option ℕ) (result : Re
 read_cause P Q place (Ok v) never held other = tt
 read_cause P Q None (Err e) never held other = other
 read_cause P Q (Some p) (Err e) never held other = absurd (never held)
+
+-- where only the disk may fail, the counts of both are its own
+pub disk_told : {T E : Type 0} (fast fast' disk disk' : ℕ) (result : Result T E) → CountsBoth fast fast' disk disk' result
+    → OnOk result (disk' ≡ disk)
+disk_told fast fast' disk disk' (Ok v) counts = counts.told.1
+disk_told fast fast' disk disk' (Err e) counts = tt
+
+pub disk_once : {T E : Type 0} (fast fast' disk disk' : ℕ) (result : Result T E) → (Rose fast fast' → ⊥)
+    → CountsBoth fast fast' disk disk' result → OnErr result (IsOneMore disk disk')
+disk_once fast fast' disk disk' (Ok v) never counts = tt
+disk_once fast fast' disk disk' (Err e) never counts = elim counts.once [
+  | inl by_fast ↦ absurd (never by_fast.1)
+  | inr by_disk ↦ by_disk.0
+]

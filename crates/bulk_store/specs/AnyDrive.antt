@@ -1,7 +1,8 @@
 -- What callers see of a drive of either kind (own).
-use Rattle.std.specs.Prelude.{ℕ, List, length}
-use Rattle.volumes.specs.CoreDrive.{DriveState}
-use Rattle.bulk_store.specs.CoreBulk.{core_pages}
+use Rattle.std.specs.Prelude.{◌≡◌, ◌↔◌, ℕ, List, Result, IsErr, IsTrue, OnOk, OnErr, length, true, false}
+use Rattle.volumes.specs.FailLine.{names_next}
+use Rattle.volumes.specs.CoreDrive.{DriveState, after_read, after_write, after_done_write}
+use Rattle.bulk_store.specs.CoreBulk.{core_pages, CoreStore, HasReadBulk, HasWrittenBulk}
 use Rattle.bulk_store.specs.declared.any_drive.AnyDrive.{AnyDrive}
 use Rattle.bulk_store.specs.declared.any_drive.AnyDrive.TheVariants.{Plain, Bulk}
 
@@ -19,3 +20,22 @@ any_pages (Bulk store) = core_pages store
 abbrev pub any_places : AnyDrive → ℕ
 any_places (Plain drive) = 0
 any_places (Bulk store) = length store.fast.pages
+
+-- What a read of record r does to a drive of either kind. A disk alone has made one read more, which fails exactly where
+-- a line names it; with a fast store before it, it does what the bulk store does.
+abbrev pub HasReadAny : {T E : Type 0} → AnyDrive → AnyDrive → ℕ → Result T E → Type 0
+HasReadAny (Plain d) now r result =
+    (now ≡ Plain (after_read d)) × (IsErr result ↔ IsTrue (names_next d.fails false d.reads))
+HasReadAny (Bulk s) now r result = (t : CoreStore) × (now ≡ Bulk t) × HasReadBulk s t r
+
+-- What a write of record r does to it. A disk alone has made one write more, and has the page, or failed exactly where a
+-- line names that call.
+pub record HasWrittenDisk {T E : Type 0} (d : DriveState) (now : AnyDrive) (r : ℕ) (words : List ℕ)
+    (result : Result T E) : Type 0 where
+  pub fails : IsErr result ↔ IsTrue (names_next d.fails true d.writes)
+  pub ok : OnOk result (now ≡ Plain (after_done_write d r words))
+  pub err : OnErr result (now ≡ Plain (after_write d))
+
+abbrev pub HasWrittenAny : {T E : Type 0} → AnyDrive → AnyDrive → ℕ → List ℕ → Result T E → Type 0
+HasWrittenAny (Plain d) now r words result = HasWrittenDisk d now r words result
+HasWrittenAny (Bulk s) now r words result = (t : CoreStore) × (now ≡ Bulk t) × HasWrittenBulk s t r result

@@ -1,10 +1,10 @@
 -- What a bulk store consists of: the pages of its two drives and the list of what is held (own).
 use Rattle.std.specs.Prelude.{◌≡◌, ◌<◌, ◌≤◌, ◌^◌, ◌⊎◌, ℕ, Bool, List, [], false, nat_lt, length, slice_index_or}
-use Rattle.std.specs.Prelude.{slice_set, if◌then◌else◌, Option, None, Some, IsTrue, OnErr, Result}
+use Rattle.std.specs.Prelude.{slice_set, if◌then◌else◌, Option, None, Some, IsTrue, OnOk, OnErr, Result}
 use Rattle.site_io.specs.Faults.{Rose}
 use Rattle.site_io.specs.declared.stream.Failed.{Failed}
 use Rattle.volumes.specs.declared.drive.FailLine.{FailLine}
-use Rattle.volumes.specs.FailLine.{HasFewFaults}
+use Rattle.volumes.specs.FailLine.{HasFewFaults, IsOneMore}
 use Rattle.volumes.specs.FullPages.{HaveFullPages}
 use Rattle.bulk_store.specs.declared.parts.Parts.{Parts}
 use Rattle.bulk_store.specs.Held.{place_of, oldest_of, is_fast_write}
@@ -72,8 +72,18 @@ pub record GoesOn {X : Type 0} (pages : X → List (List ℕ)) (plan : X → Opt
   pub few : HasFewFaults (plan old) (faults old) → HasFewFaults (plan new) (faults new)
   pub full : HaveFullPages (pages old) → HaveFullPages (pages new)
 
--- besides what a write of record r stores: what a failed one leaves; both drives go on; and a write that needs the fast
--- store alone leaves the disk as it is, and fails by the fast store
+-- of the counts of two drives one is one more, since that drive failed, and the other is as before
+abbrev pub CountsOne : ℕ → ℕ → ℕ → ℕ → Type 0
+CountsOne fast fast' disk disk' =
+    (IsOneMore fast fast' × Rose fast fast' × (disk' ≡ disk)) ⊎ (IsOneMore disk disk' × Rose disk disk' × (fast' ≡ fast))
+
+-- what a call leaves of the counts of two drives: as before where it was done, and else one of them one more
+pub record CountsBoth {T E : Type 0} (fast fast' disk disk' : ℕ) (result : Result T E) : Type 0 where
+  pub told : OnOk result ((fast' ≡ fast) × (disk' ≡ disk))
+  pub once : OnErr result (CountsOne fast fast' disk disk')
+
+-- besides what a write of record r stores: what a failed one leaves; both drives go on, and count just the call that
+-- failed; and a write that needs the fast store alone leaves the disk as it is, and fails by the fast store
 pub record HasWritten {F D : Type 0} (fast_pages : F → List (List ℕ)) (fast_plan : F → Option (List FailLine))
     (fast_faults : F → ℕ) (disk_pages : D → List (List ℕ)) (disk_plan : D → Option (List FailLine))
     (disk_faults : D → ℕ) (old new : Parts F D) (r : ℕ) (result : Result (Unit {0}) Failed) : Type 0 where
@@ -85,3 +95,5 @@ pub record HasWritten {F D : Type 0} (fast_pages : F → List (List ℕ)) (fast_
       → OnErr result (Rose (fast_faults old.fast) (fast_faults new.fast))
   pub rose : OnErr result (Rose (fast_faults old.fast) (fast_faults new.fast)
       ⊎ Rose (disk_faults old.disk) (disk_faults new.disk))
+  pub counts : CountsBoth (fast_faults old.fast) (fast_faults new.fast) (disk_faults old.disk) (disk_faults new.disk)
+      result

@@ -1,10 +1,10 @@
 ghost use Rattle.std.specs.Prelude.{◌≡◌, ◌≤◌, ◌<◌, ◌+◌, false, true, [], Some, length, slice_index_or, slice_set, OnOk};
 ghost use Rattle.std.specs.Prelude.{OnErr};
 ghost use Rattle.site_io.specs.Faults.{Rose};
-ghost use Rattle.volumes.specs.FailLine.{named_calls, HasFewFaults};
+ghost use Rattle.volumes.specs.FailLine.{named_calls, HasFewFaults, IsOneMore};
 ghost use Rattle.volumes.specs.FullPages.{HaveFullPages};
 ghost use Rattle.volumes.specs.CoreDrive.{faults_of};
-ghost use Rattle.bulk_store.specs.AnyDrive.{disk_of, any_pages, any_places};
+ghost use Rattle.bulk_store.specs.AnyDrive.{disk_of, any_pages, any_places, HasReadAny, HasWrittenAny};
 
 use crate::core_bulk::CoreBulk;
 use mword::Page;
@@ -67,6 +67,9 @@ impl Drive for AnyDrive {
         ensures ok { OnOk result (to.new ≡ slice_index_or (any_pages self.old) r []) }
         ensures err { OnErr result (to.new ≡ to.old) }
         ensures pages { any_pages self.new ≡ any_pages self.old }
+        ensures does { HasReadAny self.old self.new r result }
+        ensures told { OnOk result (faults_of (disk_of self.new) ≡ faults_of (disk_of self.old)) }
+        ensures once { OnErr result (IsOneMore (faults_of (disk_of self.old)) (faults_of (disk_of self.new))) }
         ensures rose { OnErr result (Rose (faults_of (disk_of self.old)) (faults_of (disk_of self.new))) }
         ensures grows { faults_of (disk_of self.old) ≤ faults_of (disk_of self.new) }
         ensures plan { (disk_of self.new).fails ≡ (disk_of self.old).fails }
@@ -84,6 +87,9 @@ impl Drive for AnyDrive {
         ensures ok { OnOk result (any_pages self.new ≡ slice_set (any_pages self.old) r from.now) }
         ensures err { OnErr result (any_pages self.new ≡ any_pages self.old) }
         ensures full { HaveFullPages (any_pages self.new) }
+        ensures does { HasWrittenAny self.old self.new r from.now result }
+        ensures told { OnOk result (faults_of (disk_of self.new) ≡ faults_of (disk_of self.old)) }
+        ensures once { OnErr result (IsOneMore (faults_of (disk_of self.old)) (faults_of (disk_of self.new))) }
         ensures rose { OnErr result (Rose (faults_of (disk_of self.old)) (faults_of (disk_of self.new))) }
         ensures grows { faults_of (disk_of self.old) ≤ faults_of (disk_of self.new) }
         ensures plan { (disk_of self.new).fails ≡ (disk_of self.old).fails }

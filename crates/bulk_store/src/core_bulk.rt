@@ -1,11 +1,11 @@
 ghost use Rattle.std.specs.Prelude.{◌≡◌, ◌≤◌, ◌<◌, [], Some, length, slice_index_or, slice_set, IfOk, IfSome, OnOk};
 ghost use Rattle.std.specs.Prelude.{OnErr, IsOk, IsTrue};
 ghost use Rattle.site_io.specs.Faults.{Rose};
-ghost use Rattle.volumes.specs.FailLine.{HasFewFaults};
+ghost use Rattle.volumes.specs.FailLine.{HasFewFaults, IsOneMore};
 ghost use Rattle.volumes.specs.FullPages.{HaveFullPages};
 ghost use Rattle.volumes.specs.CoreDrive.{faults_of};
 ghost use Rattle.bulk_store.specs.Held.{place_of, is_fast_write};
-ghost use Rattle.bulk_store.specs.CoreBulk.{core_pages, fresh_store};
+ghost use Rattle.bulk_store.specs.CoreBulk.{core_pages, fresh_store, HasReadBulk, HasWrittenBulk};
 
 use crate::NoMemory;
 use crate::store::BulkStore;
@@ -76,7 +76,10 @@ impl Drive for CoreBulk {
         ensures ok { OnOk result (to.new ≡ slice_index_or (core_pages self.old) r []) }
         ensures err { OnErr result (to.new ≡ to.old) }
         ensures pages { core_pages self.new ≡ core_pages self.old }
+        ensures bulk { HasReadBulk self.old self.new r }
         ensures sure { IfSome (place_of self.old.held r) (λ _. IsOk result) }
+        ensures told { OnOk result (faults_of self.new.disk ≡ faults_of self.old.disk) }
+        ensures once { OnErr result (IsOneMore (faults_of self.old.disk) (faults_of self.new.disk)) }
         ensures rose { OnErr result (Rose (faults_of self.old.disk) (faults_of self.new.disk)) }
         ensures grows { faults_of self.old.disk ≤ faults_of self.new.disk }
         ensures plan { self.new.disk.fails ≡ self.old.disk.fails }
@@ -91,7 +94,10 @@ impl Drive for CoreBulk {
         ensures ok { OnOk result (core_pages self.new ≡ slice_set (core_pages self.old) r from.now) }
         ensures err { OnErr result (core_pages self.new ≡ core_pages self.old) }
         ensures full { HaveFullPages (core_pages self.new) }
+        ensures bulk { HasWrittenBulk self.old self.new r result }
         ensures sure { IsTrue (is_fast_write (length self.old.fast.pages) self.old.held r) → IsOk result }
+        ensures told { OnOk result (faults_of self.new.disk ≡ faults_of self.old.disk) }
+        ensures once { OnErr result (IsOneMore (faults_of self.old.disk) (faults_of self.new.disk)) }
         ensures rose { OnErr result (Rose (faults_of self.old.disk) (faults_of self.new.disk)) }
         ensures grows { faults_of self.old.disk ≤ faults_of self.new.disk }
         ensures plan { self.new.disk.fails ≡ self.old.disk.fails }

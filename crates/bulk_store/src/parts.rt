@@ -1,9 +1,10 @@
-ghost use Rattle.std.specs.Prelude.{◌≡◌, ◌<◌, ◌⊎◌, None, IfSome, IfNone, length, OnOk, OnErr};
+ghost use Rattle.std.specs.Prelude.{◌≡◌, ◌<◌, None, IfSome, IfNone, length, OnOk, OnErr};
 ghost use Rattle.site_io.specs.Faults.{Rose};
+ghost use Rattle.volumes.specs.FailLine.{IsOneMore};
 ghost use Rattle.bulk_store.specs.Held.{place_of};
 ghost use Rattle.bulk_store.specs.Pages.{page_of};
 ghost use Rattle.bulk_store.specs.Contents.{contents, IsStore, GoesOn};
-ghost use Rattle.bulk_store.specs.Contents.{gave_up_oldest, took_in, wrote, wrote_new, HasWritten};
+ghost use Rattle.bulk_store.specs.Contents.{gave_up_oldest, took_in, wrote, wrote_new, CountsBoth, HasWritten};
 
 use crate::index::Index;
 use mword::Page;
@@ -28,8 +29,8 @@ impl<F: Drive, D: Drive> Parts<F, D> {
         ensures ok { OnOk result (contents F.pages D.pages self.new
             ≡ gave_up_oldest (contents F.pages D.pages self.old)) }
         ensures err { OnErr result (contents F.pages D.pages self.new ≡ contents F.pages D.pages self.old) }
-        ensures rose { OnErr result (Rose (F.faults self.old.fast) (F.faults self.new.fast)
-            ⊎ Rose (D.faults self.old.disk) (D.faults self.new.disk)) }
+        ensures counts { CountsBoth (F.faults self.old.fast) (F.faults self.new.fast) (D.faults self.old.disk)
+            (D.faults self.new.disk) result }
         ensures fast { GoesOn F.pages F.plan F.faults self.old.fast self.new.fast }
         ensures disk { GoesOn D.pages D.plan D.faults self.old.disk self.new.disk }
     {
@@ -49,6 +50,8 @@ impl<F: Drive, D: Drive> Parts<F, D> {
             ≡ took_in (contents F.pages D.pages self.old) r from.now) }
         ensures err { OnErr result (contents F.pages D.pages self.new ≡ contents F.pages D.pages self.old) }
         ensures rose { OnErr result (Rose (F.faults self.old.fast) (F.faults self.new.fast)) }
+        ensures told { OnOk result (F.faults self.new.fast ≡ F.faults self.old.fast) }
+        ensures once { OnErr result (IsOneMore (F.faults self.old.fast) (F.faults self.new.fast)) }
         ensures fast { GoesOn F.pages F.plan F.faults self.old.fast self.new.fast }
         ensures disk { self.new.disk ≡ self.old.disk }
     {
@@ -97,6 +100,8 @@ impl<F: Drive, D: Drive> Parts<F, D> {
         ensures same { contents F.pages D.pages self.new ≡ contents F.pages D.pages self.old }
         ensures fast { GoesOn F.pages F.plan F.faults self.old.fast self.new.fast }
         ensures disk { GoesOn D.pages D.plan D.faults self.old.disk self.new.disk }
+        ensures counts { CountsBoth (F.faults self.old.fast) (F.faults self.new.fast) (D.faults self.old.disk)
+            (D.faults self.new.disk) result }
         ensures held { IfSome (place_of self.old.table.held r) (λ _. self.new.disk ≡ self.old.disk) }
         ensures held_rose { OnErr result (IfSome (place_of self.old.table.held r)
             (λ _. Rose (F.faults self.old.fast) (F.faults self.new.fast))) }

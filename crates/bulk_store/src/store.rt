@@ -4,7 +4,7 @@ ghost use Rattle.site_io.specs.Faults.{Rose};
 ghost use Rattle.volumes.specs.FailLine.{HasFewFaults};
 ghost use Rattle.volumes.specs.FullPages.{HaveFullPages};
 ghost use Rattle.bulk_store.specs.Held.{place_of, is_fast_write, BulkAfter};
-ghost use Rattle.bulk_store.specs.Contents.{GoesOn};
+ghost use Rattle.bulk_store.specs.Contents.{CountsBoth, GoesOn};
 ghost use Rattle.bulk_store.specs.Store.{store_pages, store_faults, store_plan, disk_after, FailedWrite};
 
 use crate::NoMemory;
@@ -76,7 +76,7 @@ impl<F: Drive, D: Drive> BulkStore<F, D> {
         &self.parts.fast
     }
 
-    /// The disk behind the fast store. (Source: own.)
+    /// The disk after the fast store. (Source: own.)
     pub fn disk(&self) -> &D
         ensures { result.now ≡ self.now.disk }
     {
@@ -118,6 +118,8 @@ impl<F: Drive, D: Drive> Drive for BulkStore<F, D> {
         ensures other { IfNone (place_of self.old.held r) (self.new.fast ≡ self.old.fast) }
         ensures other_rose { OnErr result (IfNone (place_of self.old.held r)
             (Rose (D.faults self.old.disk) (D.faults self.new.disk))) }
+        ensures counts { CountsBoth (F.faults self.old.fast) (F.faults self.new.fast) (D.faults self.old.disk)
+            (D.faults self.new.disk) result }
 
         // What becomes of the rest.
         ensures list { self.new.held ≡ self.old.held }
@@ -151,6 +153,8 @@ impl<F: Drive, D: Drive> Drive for BulkStore<F, D> {
             → OnErr result (Rose (F.faults self.old.fast) (F.faults self.new.fast)) }
         ensures either { OnErr result (Rose (F.faults self.old.fast) (F.faults self.new.fast)
             ⊎ Rose (D.faults self.old.disk) (D.faults self.new.disk)) }
+        ensures counts { CountsBoth (F.faults self.old.fast) (F.faults self.new.fast) (D.faults self.old.disk)
+            (D.faults self.new.disk) result }
 
         // What becomes of the rest.
         ensures places { length (F.pages self.new.fast) ≡ length (F.pages self.old.fast) }

@@ -7,7 +7,7 @@ use Rattle.std.proofs.lemmas.Bool.{lt-ltb, le-ltb, or_parts}
 use Rattle.std.proofs.lemmas.Bool.Decides.{leb_tells, eqb_tells}
 use Rattle.site_io.specs.Faults.{Rose, counted}
 use Rattle.volumes.specs.declared.drive.FailLine.{FailLine}
-use Rattle.volumes.specs.FailLine.{names, names_next, named_calls}
+use Rattle.volumes.specs.FailLine.{IsOneMore, names, names_next, named_calls}
 
 below_or_past : (a b : ℕ) → (a < b) ⊎ (b ≤ a)
 below_or_past a b = elim (leb_tells b a) [ inl h ↦ inr h.1 | inr h ↦ inl h.1 ]
@@ -135,6 +135,18 @@ rose_next lines write n now other fits is named =
     ∙ rw named refl in
     rw is (omega (arith, more))
 
+-- it raises it by one, and a call that no line names leaves it
+pub once_next : (lines : List FailLine) (write : Bool) (n now : ℕ) → n < 2 ^ 64 → now ≡ counted n
+    → names_next lines write n ≡ true → named_calls lines write now ≡ named_calls lines write n + 1
+once_next lines write n now fits is named = rw is (named_more lines write n fits ∙ rw named refl)
+
+pub same_next : (lines : List FailLine) (write : Bool) (n now : ℕ) → n < 2 ^ 64 → now ≡ counted n
+    → names_next lines write n ≡ false → named_calls lines write now ≡ named_calls lines write n
+same_next lines write n now fits is unnamed =
+    let more : named_calls lines write (counted n) ≡ named_calls lines write n + 0 = named_more lines write n fits
+    ∙ rw unnamed refl in
+    rw is (omega (arith, more))
+
 pub grows_next : (lines : List FailLine) (write : Bool) (n now : ℕ) → n < 2 ^ 64 → now ≡ counted n
     → named_calls lines write n ≤ named_calls lines write now
 grows_next lines write n now fits is = rw is (omega (arith, named_more lines write n fits))
@@ -167,7 +179,43 @@ pub write_grows : (lines : List FailLine) (reads writes now : ℕ) → writes < 
     true now
 write_grows lines reads writes now fits is = let more = grows_next lines true writes now fits is in omega (arith, more)
 
--- what a call of a drive in core tells of its faults
-pub ruleset read_faults = (few_faults, read_rose, read_grows)
+pub read_once : (lines fs : List FailLine) (reads writes now : ℕ) → reads < 2 ^ 64 → now ≡ counted reads → fs ≡ lines
+    → true ≡ names_next fs false reads
+    → IsOneMore (named_calls lines false reads + named_calls lines true writes)
+    (named_calls lines false now + named_calls lines true writes)
+read_once lines fs reads writes now fits is same named = λ low.
+    (let one = once_next lines false reads now fits is
+    (ap (λ (ls : List FailLine). names_next ls false reads) (sym same) ∙ sym named) in
+    omega (arith, one))
 
-pub ruleset write_faults = (few_faults, write_rose, write_grows)
+pub read_same : (lines fs : List FailLine) (reads writes now : ℕ) → reads < 2 ^ 64 → now ≡ counted reads → fs ≡ lines
+    → false ≡ names_next fs false reads
+    → named_calls lines false now + named_calls lines true writes ≡ named_calls lines false reads + named_calls lines
+    true writes
+read_same lines fs reads writes now fits is same unnamed =
+    let stays = same_next lines false reads now fits is
+    (ap (λ (ls : List FailLine). names_next ls false reads) (sym same) ∙ sym unnamed) in
+    omega (arith, stays)
+
+pub write_once : (lines fs : List FailLine) (reads writes now : ℕ) → writes < 2 ^ 64 → now ≡ counted writes → fs
+    ≡ lines → true ≡ names_next fs true writes
+    → IsOneMore (named_calls lines false reads + named_calls lines true writes)
+    (named_calls lines false reads + named_calls lines true now)
+write_once lines fs reads writes now fits is same named = λ low.
+    (let one = once_next lines true writes now fits is
+    (ap (λ (ls : List FailLine). names_next ls true writes) (sym same) ∙ sym named) in
+    omega (arith, one))
+
+pub write_same : (lines fs : List FailLine) (reads writes now : ℕ) → writes < 2 ^ 64 → now ≡ counted writes → fs
+    ≡ lines → false ≡ names_next fs true writes
+    → named_calls lines false reads + named_calls lines true now ≡ named_calls lines false reads + named_calls lines
+    true writes
+write_same lines fs reads writes now fits is same unnamed =
+    let stays = same_next lines true writes now fits is
+    (ap (λ (ls : List FailLine). names_next ls true writes) (sym same) ∙ sym unnamed) in
+    omega (arith, stays)
+
+-- what a call of a drive in core tells of its faults
+pub ruleset read_faults = (few_faults, read_rose, read_grows, read_once, read_same)
+
+pub ruleset write_faults = (few_faults, write_rose, write_grows, write_once, write_same)

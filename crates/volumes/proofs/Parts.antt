@@ -11,7 +11,7 @@ use Rattle.site_io.specs.declared.stream.Failed.{Failed}
 use Rattle.vtoc.specs.Vtoc.{Entry}
 use Rattle.volumes.specs.declared.Part.{Part}
 use Rattle.volumes.specs.declared.drive.FailLine.{FailLine}
-use Rattle.volumes.specs.FailLine.{HasFewFaults}
+use Rattle.volumes.specs.FailLine.{HasFewFaults, IsOneMore}
 use Rattle.volumes.specs.FullPages.{HaveFullPages}
 use Rattle.volumes.specs.Volumes.{Vols, HasParts, HaveFewFaults, HaveFull, KeepsOthers}
 
@@ -150,6 +150,23 @@ its_rose t (Err e) drives v x y lt read rose =
     let now : get_or (map t (set drives v y)) v 0 ≡ t y =
     get_or-map t (set drives v y) v y 0 (rw (length-set drives v y) lt) ∙ ap t (get_or-set_same drives v y y lt) in
     rw (before, now) rose
+
+pub its_once : {D : Type 0} (t : D → ℕ) (result : Result (Unit {0}) Failed) (drives : List D) (v : ℕ) (x y : D)
+    → v < length drives → x ≡ get_or drives v x
+    → OnErr result (IsOneMore (t x) (t y)) → OnErr result (IsOneMore (get_or (map t drives) v 0)
+    (get_or (map t (set drives v y)) v 0))
+its_once t (Ok u) drives v x y lt read once = tt
+its_once t (Err e) drives v x y lt read once =
+    let before : get_or (map t drives) v 0 ≡ t x = get_or-map t drives v x 0 lt ∙ sym (ap t read) in
+    let now : get_or (map t (set drives v y)) v 0 ≡ t y =
+    get_or-map t (set drives v y) v y 0 (rw (length-set drives v y) lt) ∙ ap t (get_or-set_same drives v y y lt) in
+    rw (before, now) once
+
+-- a call that was done leaves the counts of all
+pub told_with : {D : Type 0} (t : D → ℕ) (result : Result (Unit {0}) Failed) (drives : List D) (v : ℕ) (x y : D)
+    → x ≡ get_or drives v x → OnOk result (t y ≡ t x) → OnOk result (map t (set drives v y) ≡ map t drives)
+told_with t (Ok u) drives v x y read same = same_with t drives v x y read same
+told_with t (Err e) drives v x y read same = tt
 
 -- its place in the list
 pub drives_within : {D : Type 0} (drives : List D) (records : List (List Bool)) (vtocs : List (List (Option Entry)))

@@ -1,5 +1,5 @@
 -- The failures that a drive is told to make, and the ones that it made (own).
-use Rattle.std.specs.Prelude.{◌≡◌, ℕ, suc, zero, ◌+◌, ◌-◌, ◌^◌, ◌≤◌, ◌==◌, nat_le, nat_lt, ◌&&◌, if◌then◌else◌, Bool}
+use Rattle.std.specs.Prelude.{◌≡◌, ℕ, suc, zero, ◌+◌, ◌-◌, ◌^◌, ◌<◌, ◌≤◌, ◌==◌, nat_le, nat_lt, ◌&&◌, if◌then◌else◌, Bool}
 use Rattle.std.specs.Prelude.{false, List, length, Option, None, Some}
 use Rattle.std.specs.Bool.{beq}
 use Rattle.std.specs.List.{list_any}
@@ -20,6 +20,10 @@ unfoldable pub named_calls : List FailLine → Bool → ℕ → ℕ
 named_calls lines write zero = 0
 named_calls lines write (suc before) = named_calls lines write before +
     (if list_any (names write (suc before)) lines then 1 else 0)
+
+-- one failure more was counted, where the count isn't at its end, which is 2 ^ 63 at the least
+abbrev pub IsOneMore : ℕ → ℕ → Type 0
+IsOneMore before now = before < 2 ^ 63 → now ≡ before + 1
 
 -- where a plan is told and no line of it is onward, there are at most as many faults as lines
 abbrev pub HasFewFaults : Option (List FailLine) → ℕ → Type 0

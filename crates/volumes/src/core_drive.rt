@@ -2,7 +2,7 @@ ghost use Rattle.std.specs.Prelude.{◌≡◌, ◌≤◌, ◌<◌, ◌↔◌, �
 ghost use Rattle.std.specs.Prelude.{replicate, slice_index_or, slice_set, vec_len, IfOk, OnOk, OnErr, IsTrue, IsErr};
 ghost use Rattle.std.specs.List.{list_any};
 ghost use Rattle.site_io.specs.Faults.{Rose};
-ghost use Rattle.volumes.specs.FailLine.{names, names_next, HasFewFaults};
+ghost use Rattle.volumes.specs.FailLine.{names, names_next, HasFewFaults, IsOneMore};
 ghost use Rattle.volumes.specs.FullPages.{HaveFullPages};
 ghost use Rattle.volumes.specs.CoreDrive.{fresh_drive};
 
@@ -124,6 +124,8 @@ impl Drive for CoreDrive {
         ensures ok { OnOk result (to.new ≡ slice_index_or self.old.pages r []) }
         ensures err { OnErr result (to.new ≡ to.old) }
         ensures calls { self.new ≡ after_read self.old }
+        ensures told { OnOk result (faults_of self.new ≡ faults_of self.old) }
+        ensures once { OnErr result (IsOneMore (faults_of self.old) (faults_of self.new)) }
         ensures rose { OnErr result (Rose (faults_of self.old) (faults_of self.new)) }
         ensures grows { faults_of self.old ≤ faults_of self.new }
         ensures few { HasFewFaults (Some self.new.fails) (faults_of self.new) }
@@ -144,6 +146,8 @@ impl Drive for CoreDrive {
         ensures ok { OnOk result (self.new ≡ after_done_write self.old r from.now) }
         ensures err { OnErr result (self.new ≡ after_write self.old) }
         ensures full { HaveFullPages self.new.pages }
+        ensures told { OnOk result (faults_of self.new ≡ faults_of self.old) }
+        ensures once { OnErr result (IsOneMore (faults_of self.old) (faults_of self.new)) }
         ensures rose { OnErr result (Rose (faults_of self.old) (faults_of self.new)) }
         ensures grows { faults_of self.old ≤ faults_of self.new }
         ensures few { HasFewFaults (Some self.new.fails) (faults_of self.new) }

@@ -18,11 +18,11 @@ pub struct FailLine {
 
 /// A drive: a list of pages of 1024 words that can be read and written one at a time (Organick 1972).
 ///
-/// Its meanings are its `pages`; its `faults`, a count that never falls; its `plan`, which is the lines that name
+/// Its meanings are its `pages`; its `faults`, how many of its calls failed, a count that may stop at its end; its `plan`, which is the lines that name
 /// failing calls, where these are told; and its `places`, how many pages a fast store before it holds. (Source: own.)
 pub trait Drive: Drop {
     ghost use Rattle.volumes.specs.declared.drive.FailLine.{FailLine};
-    ghost use Rattle.volumes.specs.FailLine.{HasFewFaults};
+    ghost use Rattle.volumes.specs.FailLine.{HasFewFaults, IsOneMore};
     ghost use Rattle.volumes.specs.FullPages.{HaveFullPages};
 
     ghost pages: { Self → List (List ℕ) };
@@ -39,7 +39,8 @@ pub trait Drive: Drop {
         ensures few { HasFewFaults (plan self.now) (faults self.now) }
         ensures full { HaveFullPages (pages self.now) };
 
-    /// Reads page `r` into `to`. After `Failed`, `to` is as before; it comes only where `faults` rose.
+    /// Reads page `r` into `to`. After `Failed`, `to` is as before. `faults` counts exactly the calls that fail: it stays
+    /// where the page was read, and is one more after `Failed`, where it isn't at its end.
     fn read_page(&mut self, r: u32, to: &mut Page) -> Result<(), Failed>
         requires { r < length (pages self.old) }
         ensures ok { OnOk result (to.new ≡ slice_index_or (pages self.old) r []) }
@@ -47,14 +48,16 @@ pub trait Drive: Drop {
         ensures pages { pages self.new ≡ pages self.old }
 
         // What becomes of the other meanings.
+        ensures told { OnOk result (faults self.new ≡ faults self.old) }
+        ensures once { OnErr result (IsOneMore (faults self.old) (faults self.new)) }
         ensures rose { OnErr result (Rose (faults self.old) (faults self.new)) }
         ensures grows { faults self.old ≤ faults self.new }
         ensures plan { plan self.new ≡ plan self.old }
         ensures places { places self.new ≡ places self.old }
         ensures few { HasFewFaults (plan self.new) (faults self.new) };
 
-    /// Makes page `r` the page `from`, and leaves the others. After `Failed` no page has changed; it comes only where
-    /// `faults` rose.
+    /// Makes page `r` the page `from`, and leaves the others. After `Failed` no page has changed. `faults` counts exactly
+    /// the calls that fail, as with a read.
     fn write_page(&mut self, r: u32, from: &Page) -> Result<(), Failed>
         requires { r < length (pages self.old) }
         ensures ok { OnOk result (pages self.new ≡ slice_set (pages self.old) r from.now) }
@@ -62,6 +65,8 @@ pub trait Drive: Drop {
         ensures full { HaveFullPages (pages self.new) }
 
         // What becomes of the other meanings.
+        ensures told { OnOk result (faults self.new ≡ faults self.old) }
+        ensures once { OnErr result (IsOneMore (faults self.old) (faults self.new)) }
         ensures rose { OnErr result (Rose (faults self.old) (faults self.new)) }
         ensures grows { faults self.old ≤ faults self.new }
         ensures plan { plan self.new ≡ plan self.old }

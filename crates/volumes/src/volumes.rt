@@ -3,6 +3,7 @@ ghost use Rattle.std.specs.Prelude.{length, map, sum_by, All, slice_get, slice_i
 ghost use Rattle.std.specs.Prelude.{OnErr};
 ghost use Rattle.std.specs.Borrow.{sem};
 ghost use Rattle.site_io.specs.Faults.{Rose};
+ghost use Rattle.volumes.specs.FailLine.{IsOneMore};
 ghost use Rattle.record_map.specs.Bitmap.{in_use, least_free, IsLeastFree};
 ghost use Rattle.volumes.specs.Volumes.{records_at, used_at, vtoc_at, pages_at, faults_at, with_record_used, with_page};
 ghost use Rattle.volumes.specs.Volumes.{made_of, HasParts, HaveFewFaults, HaveFull, KeepsOthers, KeepsTables};
@@ -157,8 +158,8 @@ impl<D: Drive> Volumes<D> {
         &mut self.vtocs[v as usize]
     }
 
-    /// Reads record `r` of volume `v` into `to`. After `Failed`, `to` is as before; it comes only where the count of
-    /// that drive's faults rose, and so the sum of all. It costs one read of the drive. (Source: Organick 1972.)
+    /// Reads record `r` of volume `v` into `to`. After `Failed`, `to` is as before. The drives count a failure exactly
+    /// where there was one, and it is that drive's. It costs one read of the drive. (Source: Organick 1972.)
     #[tactic(auto, using(crate::proofs::Drives::one_drive))]
     pub fn read_page(&mut self, v: u32, r: u32, to: &mut Page) -> Result<(), Failed>
         requires volume { v < length self.old.drives }
@@ -169,6 +170,9 @@ impl<D: Drive> Volumes<D> {
         ensures pages { map D.pages self.new.drives ≡ map D.pages self.old.drives }
 
         // What becomes of the rest.
+        ensures told { OnOk result (map D.faults self.new.drives ≡ map D.faults self.old.drives) }
+        ensures once { OnErr result
+            (IsOneMore (faults_at D.faults self.old.drives v) (faults_at D.faults self.new.drives v)) }
         ensures rose { OnErr result (Rose (sum_by D.faults self.old.drives) (sum_by D.faults self.new.drives)) }
         ensures its { OnErr result
             (Rose (faults_at D.faults self.old.drives v) (faults_at D.faults self.new.drives v)) }
@@ -182,9 +186,8 @@ impl<D: Drive> Volumes<D> {
         self.drives[v as usize].read_page(r, to)
     }
 
-    /// Makes record `r` of volume `v` the page `from`. After `Failed` no page has changed; it comes only where the
-    /// count of that drive's faults rose, and so the sum of all. It costs one write of the drive. (Source: Organick
-    /// 1972.)
+    /// Makes record `r` of volume `v` the page `from`. After `Failed` no page has changed. The drives count a failure
+    /// exactly where there was one, and it is that drive's. It costs one write of the drive. (Source: Organick 1972.)
     #[tactic(auto, using(crate::proofs::Drives::one_drive))]
     pub fn write_page(&mut self, v: u32, r: u32, from: &Page) -> Result<(), Failed>
         requires volume { v < length self.old.drives }
@@ -193,6 +196,9 @@ impl<D: Drive> Volumes<D> {
         ensures err { OnErr result (map D.pages self.new.drives ≡ map D.pages self.old.drives) }
 
         // What becomes of the rest.
+        ensures told { OnOk result (map D.faults self.new.drives ≡ map D.faults self.old.drives) }
+        ensures once { OnErr result
+            (IsOneMore (faults_at D.faults self.old.drives v) (faults_at D.faults self.new.drives v)) }
         ensures rose { OnErr result (Rose (sum_by D.faults self.old.drives) (sum_by D.faults self.new.drives)) }
         ensures its { OnErr result
             (Rose (faults_at D.faults self.old.drives v) (faults_at D.faults self.new.drives v)) }

@@ -1,4 +1,4 @@
-use Rattle.bulk_store.proofs.Sure.{never_rises, sure_call, other_cause}
+use Rattle.bulk_store.proofs.Sure.{disk_once, disk_told, never_rises, sure_call, other_cause}
 use Rattle.bulk_store.proofs.core_bulk.CoreBulkDrive.write_page.Goals as goal
 
 pub returns-clause-sure : goal.returns-clause-sure
@@ -12,3 +12,12 @@ returns-clause-rose c =
     let never = never_rises c.self.inside.store.fast c.write_page.new.self.fast c.self.invariant.sure
     c.write_page.ensures.fast.same_plan in
     rw (← c.self.view_is) (other_cause _ _ c.write_page.result never c.write_page.ensures.either)
+
+pub returns-clause-told : goal.returns-clause-told
+returns-clause-told c = rw (← c.self.view_is) (disk_told _ _ _ _ c.write_page.result c.write_page.ensures.counts)
+
+pub returns-clause-once : goal.returns-clause-once
+returns-clause-once c =
+    let never = never_rises c.self.inside.store.fast c.write_page.new.self.fast c.self.invariant.sure
+    c.write_page.ensures.fast.same_plan in
+    rw (← c.self.view_is) (disk_once _ _ _ _ c.write_page.result never c.write_page.ensures.counts)

@@ -3,7 +3,7 @@ use Rattle.std.proofs.lemmas.Grind.{common_steps}
 use Rattle.std.proofs.Common.{ap, length}
 use Rattle.volumes.proofs.Drives.{one_drive}
 use Rattle.volumes.proofs.Parts.{parts_with_drive, same_with, few_with, sum_rose, sum_grows, its_rose, drives_within}
-use Rattle.volumes.proofs.Parts.{full_read, full_of_drive, full_with, keeps_others}
+use Rattle.volumes.proofs.Parts.{full_read, full_of_drive, full_with, its_once, keeps_others, told_with}
 use Rattle.volumes.proofs.volumes.Volumes.read_page.Goals as goal
 
 pub invariant_of-self : goal.invariant_of-self
@@ -19,4 +19,4 @@ invariant_of-self g c = (
 pub returns : goal.returns
 returns g c =
     let within = drives_within _ _ _ _ _ c.self.view_is c.requires.volume in
-    grind (arith, common_steps, one_drive, sum_rose, its_rose, sum_grows, same_with, keeps_others, full_read)
+    grind (arith, common_steps, one_drive, sum_rose, its_rose, sum_grows, same_with, keeps_others, its_once, told_with, full_read)
