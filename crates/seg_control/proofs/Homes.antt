@@ -14,7 +14,7 @@ use Rattle.page_control.specs.Tied.{IsTableOf, AreFiled, HasNoFrame, IsBlank, ui
 use Rattle.page_control.specs.Ties.{IsTied, KeepsTies}
 use Rattle.page_control.specs.Effects.{after_asked, erased}
 use Rattle.seg_control.specs.Control.{Links}
-use Rattle.seg_control.specs.Kept.{IsHomeOf, IsInactive, HasTable, HasHomeIfActive, ArePaged, IsKept}
+use Rattle.seg_control.specs.Kept.{IsHomeOf, IsInactive, HasTable, ArePaged, IsKept}
 use Rattle.seg_control.proofs.Calls.{kept_paged}
 
 home_cases : (a b : Home) → (a ≡ b) ⊎ (a ≢ b)
@@ -85,20 +85,9 @@ kept_erased old now ast links home k only effect gone uids filed ties =
 
 -- ---- a home is taken
 
-free_uid : (entry : Option VtocEntry) → is_none entry ≡ true → uid_of entry ≡ None
-free_uid None e = refl
-free_uid (Some entry) e = cc
-
--- the entry that is taken was free
-was_free : (old : Plain) (volume e : ℕ) → Some e ≡ least_free_entry (vtoc_of old volume)
-    → uid_homed old.vtocs (record { volume = volume; entry = e }) ≡ None
-was_free old volume e least =
-    let at = position-Some is_none (vtoc_of old volume) e None (sym least) in
-    free_uid (vtoc_entry (vtoc_of old volume) e) at.1
-
 pub kept_homed : (result : Option ℕ) (old now : Plain) (ast : ActiveSegs) (links : Links) (volume uid : ℕ)
     → IsKept old ast links
-    → HasHomeIfActive old.vtocs ast.entries uid → result ≡ least_free_entry (vtoc_of old volume) → now
+    → IsInactive ast.entries uid → result ≡ least_free_entry (vtoc_of old volume) → now
     ≡ after_asked old volume uid result
     → IfSome result (λ e. uid_homed now.vtocs (record { volume = volume; entry = e }) ≡ Some uid)
     → ((u : ℕ) (h : Home) → uid_homed old.vtocs h ≡ Some u → uid_homed now.vtocs h ≡ Some u)
@@ -109,9 +98,9 @@ pub kept_homed : (result : Option ℕ) (old now : Plain) (ast : ActiveSegs) (lin
     → IsTied now uid (record { volume = volume; entry = e }) words) → KeepsTies old now
     → (AreFiled old.records old.vtocs → AreFiled now.records now.vtocs)
     → IsKept now ast links
-kept_homed None old now ast links volume uid k has least effect home homes uids tie ties filed =
+kept_homed None old now ast links volume uid k idle least effect home homes uids tie ties filed =
     subst (λ (s : Plain). IsKept s ast links) (sym effect) k
-kept_homed (Some e) old now ast links volume uid k has least effect home homes uids tie ties filed =
+kept_homed (Some e) old now ast links volume uid k idle least effect home homes uids tie ties filed =
     kept_paged old now ast links k
     (paged_homes old now ast.entries ast.tables k.paged (ap (λ (s : Plain). s.core) effect) (filed k.paged.filed)
     (λ q u h at is. elim (home_cases h it) [
@@ -145,7 +134,4 @@ kept_homed (Some e) old now ast links volume uid k has least effect home homes u
     not_active : (q u : ℕ) (h : Home) → uid_at ast.entries q ≡ Some u → IsHomeOf now.vtocs u h → h ≡ it → ⊥
     not_active q u h at is same =
         let uid_is : uid ≡ u = same_Some _ _ (sym home ∙ ap (uid_homed now.vtocs) (sym same) ∙ is.used) in
-        let had = has.home (q, at ∙ ap (λ (n : ℕ). Some n) (sym uid_is)) in
-        let there : had.0 ≡ h = is.only had.0 (homes u had.0 (had.1 ∙ ap (λ (n : ℕ). Some n) uid_is)) in
-        none-some uid (sym (was_free old volume e least) ∙ ap (uid_homed old.vtocs) (sym same)
-        ∙ ap (uid_homed old.vtocs) (sym there) ∙ had.1)
+        idle.nowhere q (at ∙ ap (λ (n : ℕ). Some n) (sym uid_is))

@@ -125,11 +125,6 @@ IsHomeFor now uid home table = (IsHomeOf now.vtocs uid home) ⊎ (IsTied now uid
 pub record IsNotRead (core : Core) (entries : List (Option Entry)) (place : ℕ) : Type 0 where
   pub none : (f uid p : ℕ) → uid_at entries place ≡ Some uid → read_at (reads_of core) f ≢ Some (uid, p)
 
--- a segment that is active has a home
-pub record HasHomeIfActive (vtocs : List (List (Option VtocEntry))) (entries : List (Option Entry)) (uid : ℕ) : Type 0
-  where
-    pub home : IsActive entries uid → (home : Home) × (uid_homed vtocs home ≡ Some uid)
-
 -- no frame is bound, and none is being read into
 abbrev pub AreFree : Core → Type 0
 AreFree core = (f : ℕ) → frame_at core f ≡ Free

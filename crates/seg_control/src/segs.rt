@@ -23,7 +23,7 @@ ghost use Rattle.page_control.specs.Drives.{CallsDrive};
 ghost use Rattle.page_control.specs.Tied.{uid_in, is_out, is_away, map_at, IsNotStarted, HasNoFrame};
 ghost use Rattle.page_control.specs.Tied.{uid_at as uid_homed};
 ghost use Rattle.seg_control.specs.Control.{place_of, table_of, word_of};
-ghost use Rattle.seg_control.specs.Kept.{IsKept, IsHomeFor, IsHomeOf, HasHomeIfActive};
+ghost use Rattle.seg_control.specs.Kept.{IsKept, IsHomeFor, IsHomeOf, IsInactive};
 ghost use Rattle.seg_control.specs.Effects.{worded, table_here, table_left, taken_from, all_taken};
 
 use crate::links::Links;
@@ -342,12 +342,11 @@ impl<D: Drive> Segs<D> {
         take_from(self.ast.table_mut(aste), from);
     }
 
-    /// Takes the least free VTOC entry of a volume for a segment, with an empty file map. None exactly where all of its
-    /// entries are used; nothing has changed then. A segment that is active has a home already. (Source: Organick
-    /// 1972.)
+    /// Takes the least free VTOC entry of a volume for a segment that isn't active, with an empty file map. None exactly
+    /// where all of its entries are used; nothing has changed then. (Source: Organick 1972.)
     pub fn new_home(&mut self, volume: u32, uid: u32) -> Option<u32>
         requires volume { volume < length self.old.pages.volumes.drives }
-        requires homed { HasHomeIfActive self.old.pages.volumes.vtocs self.old.ast.entries uid }
+        requires inactive { IsInactive self.old.ast.entries uid }
         ensures least { result ≡ least_free_entry (vtoc_of (plain D.pages self.old.pages) volume) }
         ensures none { IfNone result (All (λ entry. IsSome entry) (vtoc_of (plain D.pages self.old.pages) volume)) }
         ensures effect { plain D.pages self.new.pages

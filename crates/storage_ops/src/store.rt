@@ -86,5 +86,5 @@ pub(crate) fn look<D: Drive>(segs: &Segs<D>)
     ensures parts { HasParts (map D.pages segs.now.pages.volumes.drives) segs.now.pages.volumes.records
         segs.now.pages.volumes.vtocs }
 {
-    let _count = segs.pages().volumes().count();
+    segs.pages().volumes().promise();
 }

@@ -7,4 +7,4 @@ pub returns-clause-parts : goal.returns-clause-parts
 returns-clause-parts g c =
     subst (λ (v : Vols g.row.D.Denot). HasParts (map g.D.Drive.pages v.drives) v.records v.vtocs)
     (c.volumes.ensures.volumes ∙ ap (λ (x : Paging g.row.D.Denot). x.volumes) c.pages.ensures.pages)
-    c.count-count.ensures.parts
+    c.promise.ensures.parts

@@ -39,6 +39,13 @@ returns-clause-answer g c = λ p s d h below.
     (ap (λ (ns : List Node). entries_on ns c.args.new.volume) shown.tree.nodes
     ∙ sym (c.self.invariant.taken.entries c.args.new.volume)))
 
+pub new_home-requires-clause-inactive : goal.new_home-requires-clause-inactive
+new_home-requires-clause-inactive g c = record {
+  nowhere = λ place e.
+      (let clash : true ≡ false = sym (c.self.invariant.active.there place c.self.inside.accounts.next
+      (e ∙ ap (λ (x : ℕ). Some x) c.next_uid-uid.ensures.uid)) ∙ ap is_some c.next_uid-uid.ensures.fresh in cc);
+}
+
 -- the node that is made, and its home
 abbrev node : (g : Over) (c : In-Ok-add g) → Node
 node g c = branch_of c.self.inside.accounts.next c.args.superior (record c.args.new { entry = c.in-Some.entry })

@@ -34,10 +34,10 @@ first_entry g c fresh =
     entry_first (plain g.D.Drive.pages c.in_ok-segs.segs.pages) fresh.free fresh.unused c.in-Some.entry
     c.in-Some.ensures.least
 
-pub new_home-requires-clause-homed : goal.new_home-requires-clause-homed
-new_home-requires-clause-homed g c = record {
-  home = λ active. absurd (none_active _ active.0 1
-      (ap (λ (x : Control g.row.D.Denot). uid_in_place x.ast.entries active.0) (sym c.in_ok-segs.ensures) ∙ active.1));
+pub new_home-requires-clause-inactive : goal.new_home-requires-clause-inactive
+new_home-requires-clause-inactive g c = record {
+  nowhere = λ place e. none_active _ place 1
+      (ap (λ (x : Control g.row.D.Denot). uid_in_place x.ast.entries place) (sym c.in_ok-segs.ensures) ∙ e);
 }
 
 pub unreachable-requires : goal.unreachable-requires
