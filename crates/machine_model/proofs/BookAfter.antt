@@ -38,6 +38,7 @@ use Rattle.machine_model.specs.Reads.{cut_of_owner, frames_from, frames_of_owner
 use Rattle.machine_model.specs.Reads.{trailers_in}
 use Rattle.machine_model.specs.Refusal.{reply_of, uid_of_command}
 use Rattle.machine_model.specs.State.{State, Storage}
+use Rattle.machine_model.specs.Turns.{calls_drive}
 use Rattle.machine_model.specs.Steps.{booked, fault_told, frame_lost, page_created, page_made, told, transfer_failed}
 use Rattle.machine_model.specs.Steps.{old_word, transferred, with_faults, with_store}
 use Rattle.machine_model.specs.Working.{OwnsFew}
@@ -96,10 +97,11 @@ quietly_as was_entries was_spare entries spare h = record {
   quiet = h.quiet;
 }
 
--- none does, or just one, of the process of processor c, where a call of a drive failed
-pub record IsBooked (s now : State) (c n : ℕ) (failed : Bool) : Type 0 where
+-- none does, or just one, of the process of processor c: where a call of a drive failed, if there is one
+pub record IsBooked (s now : State) (c n : ℕ) (calls failed : Bool) : Type 0 where
   pub booked : HasBooked s now n
-  pub tale : AreQuiet booked.more ⊎ ((failed ≡ true) × TellsFailure (process_at s c) booked.more)
+  pub tale : (AreQuiet booked.more × (calls ≡ true → failed ≡ false))
+      ⊎ ((failed ≡ true) × TellsFailure (process_at s c) booked.more)
 
 all_quiet : (xs ys : List Entry) → AreQuiet xs → AreQuiet ys → AreQuiet (xs ++ ys)
 all_quiet [] ys h i = i
@@ -224,7 +226,7 @@ raw_less s now m n a le = record {
 }
 
 failed_booked : (s : State) (c faults : ℕ) → OwnsFew s.owner → (failed : Bool) → failed ≡ true
-    → IsBooked s (write_failed s c faults) c 320 failed
+    → IsBooked s (write_failed s c faults) c 320 true failed
 unfolding raw_less raw_on raw_one
 failed_booked s c faults few failed did = record {
   booked = raw_less s (write_failed s c faults) _ 320
@@ -372,16 +374,19 @@ module _ (s : State) (c : ℕ) (o : Outcome) (keeps : Keeps s) (few : OwnsFew s.
       → length es ≤ 320 → AreQuiet es → IsQuietly s now 320
   some now es entries spare le quiet = booked_less s now (length es) 320 (one_booked s now es entries spare quiet) le
 
-  plainly : (now : State) → IsQuietly s now 320 → IsBooked s now c 320 o.failed
-  plainly now h = record { booked = h.booked; tale = inl h.quiet }
+  plainly : (now : State) → IsQuietly s now 320 → IsBooked s now c 320 false o.failed
+  plainly now h = record { booked = h.booked; tale = inl (h.quiet, λ calls. absurd (no_call calls)) }
+    where
+      no_call : false ≡ true → ⊥
+      no_call h = cc
 
-  by_end : (well ill : State) → IsQuietly s well 320 → ((f : Bool) → f ≡ true → IsBooked s ill c 320 f)
-      → IsBooked s (cond o.failed ill well) c 320 o.failed
+  by_end : (well ill : State) → IsQuietly s well 320 → ((f : Bool) → f ≡ true → IsBooked s ill c 320 true f)
+      → IsBooked s (cond o.failed ill well) c 320 true o.failed
   by_end well ill a b = by o.failed
     where
-      by : (f : Bool) → IsBooked s (cond f ill well) c 320 f
+      by : (f : Bool) → IsBooked s (cond f ill well) c 320 true f
       by true = b true refl
-      by false = record { booked = a.booked; tale = inl a.quiet }
+      by false = record { booked = a.booked; tale = inl (a.quiet, λ calls. refl) }
 
   victim_booked : (pool : ℕ) (chain : List ℕ) (u : ℕ) → IsQuietly s (victim_taken s c pool chain u) 320
   victim_booked pool chain u = by (first_off_chain s.store.ast pool chain)
@@ -404,7 +409,7 @@ module _ (s : State) (c : ℕ) (o : Outcome) (keeps : Keeps s) (few : OwnsFew s.
               })) c u) 320
           moved h = quietly_as refl refl refl refl h
 
-  lose_booked : (t : Transfer) (f : Bool) → f ≡ true → IsBooked s (transfer_failed s c t o.faults) c 320 f
+  lose_booked : (t : Transfer) (f : Bool) → f ≡ true → IsBooked s (transfer_failed s c t o.faults) c 320 true f
   unfolding raw_less raw_on raw_one
   lose_booked t f did = record {
     booked = raw_less s (transfer_failed s c t o.faults) 3 320
@@ -431,7 +436,7 @@ module _ (s : State) (c : ℕ) (o : Outcome) (keeps : Keeps s) (few : OwnsFew s.
       failing : State
       failing = fault_told (frame_lost s c t) (Some (process_at s c)) o.faults
 
-  end_booked : (a : act.Action) → Knows s c a → IsPlainly a → IsBooked s (after s c a o) c 320 o.failed
+  end_booked : (a : act.Action) → Knows s c a → IsPlainly a → IsBooked s (after s c a o) c 320 (calls_drive a) o.failed
   unfolding after
   end_booked (act.EndTransfer t) k plain = by_end (transferred (with_faults s o.faults) c t)
       (transfer_failed s c t o.faults)
@@ -484,7 +489,7 @@ module _ (s : State) (c : ℕ) (o : Outcome) (keeps : Keeps s) (few : OwnsFew s.
 
 -- A step appends 320 entries at the most, and there is room for so many less; and what it tells of the drives.
 pub told_after : (s : State) (c : ℕ) (o : Outcome) → KeepsAll s → c < length s.processors
-    → IsBooked s (after s c (action_of s c) o) c 320 o.failed
+    → IsBooked s (after s c (action_of s c) o) c 320 (calls_drive (action_of s c)) o.failed
 told_after s c o all there = end_booked s c o all.machine.keeps all.working.few (action_of s c)
     (step_knows s c o all.machine there all.working) (plain_action s c)
 

@@ -14,6 +14,7 @@ use Rattle.machine_model.specs.Keeps.{is_fault}
 use Rattle.machine_model.specs.Promise.{KeepsAll}
 use Rattle.machine_model.specs.Reads.{process_at}
 use Rattle.machine_model.specs.State.{State}
+use Rattle.machine_model.specs.Turns.{calls_drive}
 use Rattle.machine_model.proofs.BookAfter.{AreQuiet, HasBooked, TellsFailure, is_quiet, told_after}
 
 no_and : {b : Bool} → b ≡ true → b ≡ false → ⊥
@@ -101,24 +102,29 @@ told_once (b ∷ bs) rest [] ys k process quiet none e =
 told_once (b ∷ bs) rest (x ∷ xs) ys k process quiet none e =
     told_once bs rest xs ys k process (parts (is_quiet b) (list_all is_quiet bs) quiet).1 none (ap rest_of e)
 
--- At most one failure is told, of process k, where a call of a drive failed, and a process is told of it afterwards.
-pub record ToldRight (k : ℕ) (more : List Entry) (failed : Bool) : Type 0 where
+-- At most one failure is told, of process k: just where a call of a drive failed, if there is one; and a process is told
+-- of it afterwards.
+pub record ToldRight (k : ℕ) (more : List Entry) (calls failed : Bool) : Type 0 where
   pub few : count_by is_fault more ≤ 1
   pub only : 1 ≤ count_by is_fault more → failed ≡ true
+  pub each : calls ≡ true → failed ≡ true → 1 ≤ count_by is_fault more
   pub its : (xs ys : List Entry) (process : Option ℕ) → more ≡ xs ++ entry.Fault process ∷ ys → process ≡ Some k
   pub later : (xs ys : List Entry) (k place c : ℕ) (f : Option ℕ)
       → more ≡ xs ++ entry.Do k place c f reply.Device ∷ ys → 1 ≤ count_by is_fault xs
 
-told_right : (k : ℕ) (more : List Entry) (failed : Bool)
-    → AreQuiet more ⊎ ((failed ≡ true) × TellsFailure k more) → ToldRight k more failed
-told_right k more failed (inl quiet) = record {
+told_right : (k : ℕ) (more : List Entry) (calls failed : Bool)
+    → (AreQuiet more × (calls ≡ true → failed ≡ false)) ⊎ ((failed ≡ true) × TellsFailure k more)
+    → ToldRight k more calls failed
+told_right k more calls failed (inl both) = let quiet = both.0 in record {
   few = let none = quiet_none more quiet in omega (arith, none);
+  each = λ called did. absurd (no_and did (both.1 called));
   only = λ some. absurd (let none = quiet_none more quiet in omega (arith, none, some));
   its = λ xs ys process e. absurd (let none = quiet_none more quiet in let some = told_counts more xs ys process e in
       omega (arith, none, some));
   later = λ xs ys j place c f e. absurd (quiet_untold more xs ys j place c f quiet e);
 }
-told_right k more failed (inr told) = record {
+told_right k more calls failed (inr told) = record {
+  each = λ called did. told_counts more told.1.before (told.1.between ++ told.1.last ∷ []) (Some k) told.1.is;
   few = let all = ap (λ (es : List Entry). count_by is_fault es) told.1.is in
       let a = count_on told.1.before (entry.Fault (Some k) ∷ (told.1.between ++ told.1.last ∷ [])) in
       let b = count_cons (entry.Fault (Some k)) (told.1.between ++ told.1.last ∷ []) in
@@ -139,13 +145,13 @@ told_right k more failed (inr told) = record {
 }
 
 -- So do the entries of each step.
-pub record HasTold (s now : State) (c : ℕ) (failed : Bool) : Type 0 where
+pub record HasTold (s now : State) (c : ℕ) (calls failed : Bool) : Type 0 where
   pub booked : HasBooked s now 320
-  pub right : ToldRight (process_at s c) booked.more failed
+  pub right : ToldRight (process_at s c) booked.more calls failed
 
 pub faults_after : (s : State) (c : ℕ) (o : Outcome) → KeepsAll s → c < length s.processors
-    → HasTold s (after s c (action_of s c) o) c o.failed
+    → HasTold s (after s c (action_of s c) o) c (calls_drive (action_of s c)) o.failed
 faults_after s c o all there = let told = told_after s c o all there in record {
   booked = told.booked;
-  right = told_right (process_at s c) told.booked.more o.failed told.tale;
+  right = told_right (process_at s c) told.booked.more (calls_drive (action_of s c)) o.failed told.tale;
 }

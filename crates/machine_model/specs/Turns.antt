@@ -14,6 +14,13 @@ moves act.HasEnded = false
 moves (act.Waits why) = false
 moves _ = true
 
+-- whether a drive may be called
+abbrev pub calls_drive : act.Action → Bool
+calls_drive (act.EndTransfer t) = true
+calls_drive (act.FinishEviction f) = true
+calls_drive (act.FinishPage f) = true
+calls_drive _ = false
+
 -- the point that a step comes to: it came online, loaded a process, answered a reference through a frame, or signalled
 abbrev pub point_of : State → ℕ → act.Action → Point
 point_of s c act.Online = point.Online
