@@ -1,7 +1,8 @@
 -- What the tables of a machine have.
 use Rattle.std.specs.Prelude.{◌≡◌, ℕ, true, false, replicate, sum_by, List, Result, Ok}
-use Rattle.std.specs.Prelude.{Err}
+use Rattle.std.specs.Prelude.{Err, IsOk}
 use Rattle.accounts.specs.Maps.{AccountMaps}
+use Rattle.page_control.specs.Effects.{NeedsNoWrite}
 use Rattle.page_control.specs.Plain.{Plain, plain}
 use Rattle.storage_ops.specs.Shown.{Storage as Stored}
 use Rattle.machine_model.specs.State.{State, Storage}
@@ -38,6 +39,10 @@ KeepsSeats old new =
 abbrev pub outcome_of : {T E : Type 0} → Result T E → ℕ → Outcome
 outcome_of (Ok x) faults = record { failed = false; faults = faults }
 outcome_of (Err e) faults = record { failed = true; faults = faults }
+
+-- a page that is all zeros, or as its record has it, leaves its frame with no call of a drive
+abbrev pub SparesCall : {D T E : Type 0} → Plain → ℕ → List D → List D → Result T E → Type 0
+SparesCall pages f old new result = NeedsNoWrite pages f → IsOk result × (new ≡ old)
 
 -- a store, whose drives are seen as the words of their records
 abbrev pub shown : {D : Type 0} → (D → List (List ℕ)) → Stored D → Storage

@@ -61,7 +61,7 @@ impl<D: Drive> Tables<D> {
             → self.new ≡ with_state self.old (with_store self.old.state
             (with_active self.old.state.store uid result)) }
     {
-        self.look();
+        self.promise();
         match self.join_next(of) {
             Next::Activated(place) => place,
             Next::Victim(_) | Next::Whole => unreachable!(),
@@ -93,7 +93,7 @@ impl<D: Drive> Tables<D> {
         ensures { self.new ≡ with_state self.old (with_store self.old.state (with_hand_moved self.old.state.store
             (wanted_pool self.old.state.store of) (chain_of self.old.state.store.accounts.nodes of))) }
     {
-        self.look();
+        self.promise();
         match self.join_next(of) {
             Next::Victim(_) => {}
             Next::Activated(_) | Next::Whole => unreachable!(),

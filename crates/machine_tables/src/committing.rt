@@ -55,7 +55,7 @@ pub(crate) fn look<D: Drive>(store: &Store<D>)
         store.now.segs.pages.volumes.vtocs }
 {
     let _accounts = accounts_of(store);
-    let _count = store.segs().pages().volumes().count();
+    store.segs().pages().volumes().promise();
 }
 
 /// Makes a directory, unless that is refused.

@@ -18,7 +18,7 @@ ghost use Rattle.machine_model.specs.Reads.{cut_of_owner, frames_of_owner, home_
 ghost use Rattle.machine_model.specs.Said.{without_left};
 ghost use Rattle.machine_model.specs.Steps.{booked, with_faults, with_owner, with_store};
 ghost use Rattle.machine_tables.specs.Owned.{HasOwner};
-ghost use Rattle.machine_tables.specs.Parts.{KeepsSeats, outcome_of, with_accounts};
+ghost use Rattle.machine_tables.specs.Parts.{KeepsSeats, SparesCall, outcome_of, with_accounts};
 ghost use Rattle.machine_tables.specs.Parts.{with_drives, with_state};
 ghost use Rattle.machine_model.specs.Returned.{IsLeaving, IsRelinkable, MayComeBack, MayRelink};
 ghost use Rattle.machine_tables.specs.Returned.{MayFail};
@@ -125,6 +125,7 @@ impl<D: Drive> Tables<D> {
             (page_in self.old.state.store f).0 result }
         ensures shown { IfOk result (λ left. (p : Plan) (t : Flat) → IsFaithful p t self.old.state.store
             → IsFaithful p (without_left left (page_in self.old.state.store f) t) self.new.state.store) }
+        ensures no_call { SparesCall self.old.state.store.pages f self.old.drives self.new.drives result }
         ensures drives { CallsDrive D.plan D.places D.faults self.old.drives self.new.drives
             (home_in self.old.state.store (page_in self.old.state.store f).0).volume result }
     {
@@ -144,6 +145,7 @@ impl<D: Drive> Tables<D> {
         ensures err { OnErr result (self.new ≡ with_drives self.old self.new.drives self.new.state.faults) }
         ensures shown { IfOk result (λ left. (p : Plan) (t : Flat) → IsFaithful p t self.old.state.store
             → IsFaithful p (without_left left (page_in self.old.state.store f) t) self.new.state.store) }
+        ensures no_call { SparesCall self.old.state.store.pages f self.old.drives self.new.drives result }
         ensures drives { CallsDrive D.plan D.places D.faults self.old.drives self.new.drives
             (home_in self.old.state.store (page_in self.old.state.store f).0).volume result }
     {
@@ -205,6 +207,7 @@ impl<D: Drive> Tables<D> {
         ensures how { IfOk result (λ left. left ≡ left_of (words_in self.old.state.store.pages f)) }
         ensures shown { IfOk result (λ left. (p : Plan) (t : Flat) → IsFaithful p t self.old.state.store
             → IsFaithful p (without_left left (page_in self.old.state.store f) t) self.new.state.store) }
+        ensures no_call { SparesCall self.old.state.store.pages f self.old.drives self.new.drives result }
         ensures drives { CallsDrive D.plan D.places D.faults self.old.drives self.new.drives
             (home_in self.old.state.store (page_in self.old.state.store f).0).volume result }
     {
@@ -235,6 +238,7 @@ impl<D: Drive> Tables<D> {
         ensures how { IfOk result (λ left. left ≡ left_of (words_in self.old.state.store.pages f)) }
         ensures shown { IfOk result (λ left. (p : Plan) (t : Flat) → IsFaithful p t self.old.state.store
             → IsFaithful p (without_left left (page_in self.old.state.store f) t) self.new.state.store) }
+        ensures no_call { SparesCall self.old.state.store.pages f self.old.drives self.new.drives result }
         ensures drives { CallsDrive D.plan D.places D.faults self.old.drives self.new.drives
             (home_in self.old.state.store (page_in self.old.state.store f).0).volume result }
     {

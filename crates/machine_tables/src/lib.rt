@@ -3,7 +3,7 @@
 //! and asks no more than the tables that it changes; what the whole machine keeps is said above (Bensoussan, Clingen
 //! and Daley 1972; Corbató 1968).
 //!
-//! Costs: a call changes a processor, the book and at most one table. None but `reserve` takes memory.
+//! Costs: a call changes a processor, the book and at most one table. Only `new`, `boot` and `reserve` take memory.
 #![tactic(auto)]
 
 mod about;

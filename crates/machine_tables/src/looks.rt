@@ -10,22 +10,19 @@ use crate::tables::Tables;
 use volumes::Drive;
 
 impl<D: Drive> Tables<D> {
-    /// These tables. What their store promises between calls is told here: page tables, frames and file maps agree,
-    /// descriptors and trailers do, what is active is in the tree, which is one, no account is charged for more than
-    /// its quota, the running counts are the counts from scratch, and each failure of a drive is counted. (Source:
+    /// What the store of the tables promises between calls: page tables, frames and file maps agree, descriptors and
+    /// trailers do, what is active is in the tree, which is one, no account is charged for more than its quota, the
+    /// running counts are the counts from scratch, and each failure of a drive is counted. It does nothing. (Source:
     /// own.)
-    pub fn look(&self) -> &Tables<D>
-        ensures same { result.now ≡ self.now }
+    pub fn promise(&self)
         ensures kept { IsKept self.now.state.store.pages self.now.state.store.ast self.now.state.store.links }
         ensures counted { IsStore self.now.state.store.pages self.now.state.store.ast self.now.state.store.links
             self.now.state.store.accounts self.now.state.store.whos }
         ensures accounts { AreAccounts self.now.state.store.accounts }
         ensures faults { self.now.state.faults ≡ sum_by D.faults self.now.drives }
     {
-        let segs = self.store.segs();
-        let _pages = segs.pages();
+        self.store.segs().pages();
         self.store.accounts().promise();
-        self
     }
 
     /// The processor that owns the supervisor. (Source: own.)

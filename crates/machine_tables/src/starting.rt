@@ -170,10 +170,10 @@ impl<D: Drive> Tables<D> {
         ensures room { IfOk result (λ t. t.room ≡ length script.processes) }
         ensures drives { IfOk result (λ t. t.drives ≡ volumes.drives) }
     {
-        let _parts = volumes.count();
+        volumes.promise();
         let store = Store::new(alloc, &script, volumes)?;
         let tables = Tables::new(alloc, script, store)?;
-        let _says = tables.look();
+        tables.promise();
         Ok(tables)
     }
 }

@@ -38,7 +38,7 @@ impl<D: Drive> Tables<D> {
         ensures kept { IsKept self.now.state.store.pages self.now.state.store.ast self.now.state.store.links }
     {
         let segs = self.store.segs();
-        let _pages = segs.pages();
+        segs.pages();
         segs
     }
 

@@ -62,8 +62,8 @@ impl<D: Drive> Tables<D> {
     fn has_pages_from(&self, uid: u32, low: u32) -> bool
         ensures { result ≡ not (is_empty (frames_from self.now.state.store.ast uid low)) }
     {
-        let tables = self.look();
-        tables.is_active(uid) && tables.has_pages(uid, low)
+        self.promise();
+        self.is_active(uid) && self.has_pages(uid, low)
     }
 
     /// Whether a page is here that a tree command must have out of use.

@@ -12,7 +12,7 @@ ghost use Rattle.machine_model.specs.Keeps.{IsFaithful};
 ghost use Rattle.machine_model.specs.Reads.{home_in};
 ghost use Rattle.machine_model.specs.Shutdown.{after_visit, page_taken, visited_if};
 ghost use Rattle.machine_model.specs.Steps.{fault_told, with_faults};
-ghost use Rattle.machine_tables.specs.Parts.{outcome_of, with_state};
+ghost use Rattle.machine_tables.specs.Parts.{SparesCall, outcome_of, with_state};
 ghost use Rattle.machine_model.specs.Returned.{IsLeaving};
 ghost use Rattle.machine_tables.specs.Taken.{AreHere};
 ghost use Rattle.machine_tables.specs.Visited.{shown_left, shown_visited};
@@ -66,6 +66,7 @@ impl<D: Drive> Tables<D> {
         ensures shown { (p : Plan) (t : Flat) → IsFaithful p t self.old.state.store
             → IsFaithful p (shown_left result (page_in self.old.state.store f) t) self.new.state.store }
         ensures room { self.new.room ≡ self.old.room }
+        ensures no_call { SparesCall self.old.state.store.pages f self.old.drives self.new.drives result }
         ensures drives { CallsDrive D.plan D.places D.faults self.old.drives self.new.drives
             (home_in self.old.state.store (page_in self.old.state.store f).0).volume result }
     {
@@ -92,14 +93,15 @@ impl<D: Drive> Tables<D> {
             (bound_page (frame_at self.old.state.store.pages.core f)) t) self.new.state.store }
         ensures zeros { OnErr result (are_zeros (words_in self.old.state.store.pages f) ≡ false) }
         ensures room { self.new.room ≡ self.old.room }
+        ensures no_call { SparesCall self.old.state.store.pages f self.old.drives self.new.drives result }
         ensures drives { CallsDrive D.plan D.places D.faults self.old.drives self.new.drives
             (home_in self.old.state.store (page_in self.old.state.store f).0).volume result }
     {
         match self.segs().pages().frames().page_of(f) {
-            Some(_) => {
-                self.empty_bound(f)?;
-                Ok(())
-            }
+            Some(_) => match self.empty_bound(f) {
+                Ok(_) => Ok(()),
+                Err(failed) => Err(failed),
+            },
             None => Ok(()),
         }
     }
@@ -124,6 +126,7 @@ impl<D: Drive> Tables<D> {
         ensures zeros { OnErr result
             (are_zeros (words_in self.old.state.store.pages self.old.state.visited) ≡ false) }
         ensures room { self.new.room ≡ self.old.room }
+        ensures no_call { SparesCall self.old.state.store.pages self.old.state.visited self.old.drives self.new.drives result }
         ensures drives { CallsDrive D.plan D.places D.faults self.old.drives self.new.drives
             (home_in self.old.state.store (page_in self.old.state.store self.old.state.visited).0).volume result }
     {

@@ -12,4 +12,4 @@ returns-clause-kept g c = subst (λ (s : Control g.row.D.Denot). IsKept (plain g
 pub returns-clause-parts : goal.returns-clause-parts
 returns-clause-parts g c = subst (λ (v : Vols g.row.D.Denot). HasParts (map g.D.Drive.pages v.drives) v.records v.vtocs)
     (c.volumes.ensures.volumes ∙ ap (λ (x : Paging g.row.D.Denot). x.volumes) (c.pages.ensures.pages
-    ∙ ap (λ (s : Control g.row.D.Denot). s.pages) c.segs.ensures.segs)) c.count-count.ensures.parts
+    ∙ ap (λ (s : Control g.row.D.Denot). s.pages) c.segs.ensures.segs)) c.promise.ensures.parts

@@ -12,7 +12,7 @@ returns-clause-state g c =
     ∙ ap (λ (st : Storage). first_state c.args.script st c.in_ok-tables.tables.state.spare
     (sum_by g.D.Drive.faults c.in_ok-store.store.segs.pages.volumes.drives))
     (store_first g.D.Drive.pages c.args.script c.args.volumes c.requires.count c.requires.fresh
-    c.count-parts.ensures.parts c.in_ok-store.store c.in_ok-store.ensures.accounts c.in_ok-store.ensures.pages
+    c.promise.ensures.parts c.in_ok-store.store c.in_ok-store.ensures.accounts c.in_ok-store.ensures.pages
     c.in_ok-store.ensures.inactive c.in_ok-store.ensures.links c.in_ok-store.ensures.whos)
     ∙ ap (λ (ds : List g.row.D.Denot). first_state c.args.script
     (first_store c.args.script (first_words c.args.script.frames) (map g.D.Drive.pages c.args.volumes.drives))
@@ -21,6 +21,6 @@ returns-clause-state g c =
 pub returns-clause-says : goal.returns-clause-says
 returns-clause-says g c =
     says_boot g.D.Drive.pages c.args.script c.args.volumes c.in_ok-store.store c.in_ok-tables.tables.state
-    c.in_ok-tables.tables.state.spare _ c.in_ok-tables.ensures.state c.look-says.ensures.kept
-    c.look-says.ensures.counted c.look-says.ensures.accounts c.in_ok-store.ensures.shown
+    c.in_ok-tables.tables.state.spare _ c.in_ok-tables.ensures.state c.promise-2.ensures.kept
+    c.promise-2.ensures.counted c.promise-2.ensures.accounts c.in_ok-store.ensures.shown
     c.in_ok-store.ensures.inactive c.in_ok-store.ensures.pages
