@@ -6,10 +6,10 @@ use Rattle.site_io.specs.Faults.{Rose}
 use Rattle.volumes.specs.Volumes.{faults_at}
 use Rattle.page_control.specs.Drives.{CallsDrive}
 
-some_is : {D : Type 0} (x y : D) → Some x ≡ Some y → x ≡ y
+pub some_is : {D : Type 0} (x y : D) → Some x ≡ Some y → x ≡ y
 some_is x y h = cc
 
-same_sum : {D : Type 0} (faults : D → ℕ) (old new : List D) → length new ≡ length old
+pub same_sum : {D : Type 0} (faults : D → ℕ) (old new : List D) → length new ≡ length old
     → ((w : ℕ) → slice_get new w ≡ slice_get old w) → sum_by faults new ≡ sum_by faults old
 same_sum faults [] [] long same = refl
 same_sum faults [] (y ∷ ys) long same = absurd (omega (arith, long))
@@ -21,7 +21,7 @@ same_sum faults (x ∷ xs) (y ∷ ys) long same =
     let b = sum_by-cons faults x xs in
     omega (arith, head, rest, a, b)
 
-rose_sum : {D : Type 0} (faults : D → ℕ) (old new : List D) (v : ℕ) → length new ≡ length old
+pub rose_sum : {D : Type 0} (faults : D → ℕ) (old new : List D) (v : ℕ) → length new ≡ length old
     → ((w : ℕ) → w ≢ v → slice_get new w ≡ slice_get old w) → Rose (faults_at faults old v) (faults_at faults new v)
     → Rose (sum_by faults old) (sum_by faults new)
 rose_sum faults [] [] v long same rose = absurd (omega (arith, rose))

@@ -2,6 +2,7 @@ pub mod AccountLaws
 pub mod AloneLaws
 pub mod BackStays
 pub mod Busy
+pub mod CallLaws
 pub mod Changed
 pub mod ChoiceCalls
 pub mod CommitCalls

@@ -1,9 +1,11 @@
 -- What the loops that make a machine end come to, turn by turn.
-use Rattle.std.proofs.Common.{◌≡◌, ◌≤◌, ◌<◌, ℕ, ◌+◌, ◌++◌, [], Bool, true, false, cond, eqb, ◌&&◌, length, is_some}
+use Rattle.std.proofs.Common.{◌≡◌, ◌≤◌, ◌<◌, ℕ, ◌+◌, ◌++◌, ◌∷◌, [], Bool, true, false, cond, eqb, ◌&&◌, length, is_some}
 use Rattle.std.proofs.Common.{List, Option, Some, None, position, refl, sym, ap, subst, ◌∙◌, arith, inl, inr}
 use Rattle.std.proofs.lemmas.Bool.{cases_lt}
 use Rattle.std.proofs.lemmas.Bool.Decides.{eqb_tells}
-use Rattle.std.proofs.lemmas.List.{get_or_past}
+use Rattle.std.proofs.lemmas.List.{append-nil, get_or_past}
+use Rattle.std.specs.Prelude.{Err, Ok, OnErr, OnOk, Result}
+use Rattle.script.specs.Plans.{Plan}
 use Rattle.book.specs.declared.entries.Entry.{Entry}
 use Rattle.site_io.specs.declared.gate.Point.{Point}
 use Rattle.processor.specs.declared.Transfer.{Transfer}
@@ -16,7 +18,7 @@ use Rattle.machine_model.specs.Outline.{Outline, Runner, runner_at}
 use Rattle.machine_model.specs.Outline as outline
 use Rattle.machine_model.specs.Outlined.{around, keeper_of, outline_of, stage_of}
 use Rattle.machine_model.specs.Promise.{KeepsAll}
-use Rattle.machine_model.specs.Reads.{cpu_at, no_processor, processor_at}
+use Rattle.machine_model.specs.Reads.{cpu_at, no_processor, process_at, processor_at}
 use Rattle.machine_model.specs.Rounds.{HasStepped, IsGoing, IsOwnedBy}
 use Rattle.machine_model.specs.State.{Owner, State}
 use Rattle.machine_model.specs.Turns as model
@@ -33,55 +35,110 @@ use Rattle.machine_model.proofs.PoolsKept.{pools_kept}
 use Rattle.machine_tables.specs.Parts.{Parts}
 use Rattle.machine_tables.specs.declared.action.Why.{Why}
 use Rattle.machine_tables.specs.declared.action.Why.TheVariants as why
-use Rattle.machine.specs.Looped.{HasGone, HasMoved, HasTurned, MayWait, OwnerTurned, WaitsFor, is_into}
+use Rattle.machine.specs.Looped.{HasGone, HasMoved, HasStalled, HasTurned, MayWait, OwnerTurned, WaitsFor, is_into}
 use Rattle.machine.specs.Looped.{is_still_at, reads_into, with_spare}
-use Rattle.machine.specs.Turns.{Appends, IfStill, IsTurn, KeepsParts, turn_of, why_by}
+use Rattle.machine.specs.Schedules.{Grows, HasRun, HasStood, is_moved, tally, with_room}
+use Rattle.machine.specs.Turns.{Appends, IfStill, IsTurn, KeepsParts, TellsFaults, turn_of, why_by}
 use Rattle.machine.specs.declared.turn.Turn.{Turn}
 use Rattle.machine.specs.declared.turn.Turn.TheVariants as turn
 use Rattle.machine.proofs.RestLaws.{rest_kept}
+use Rattle.machine.proofs.RunLaws.{round_made, run_append, run_grows, run_grows_on, run_keeps, run_keeps_on}
 
 -- ---- steps, one after another
 
-module _ {D Plan : Type 0} (plan : D → Plan) (places : D → ℕ) where
-  pub gone_self : (a : Parts D) → HasGone plan places a a
-  gone_self a = record {
-    book = record { more = []; entries = sym (append_nil a.state.entries) };
-    kept = record { script = refl; plans = refl; stores = refl; count = refl };
-    stopped = refl;
-  }
+-- a step leaves whether the machine was stopped
+pub turn_stopped : {D X : Type 0} (plan : D → X) (places faults : D → ℕ) (old new : Parts D) (c : ℕ) (answer : Turn)
+    → IsTurn plan places faults old new c answer → new.state.stopped ≡ old.state.stopped
+turn_stopped plan places faults old new c answer h = ap (λ (s : State). s.stopped) h.step.done
+    ∙ (pools_kept old.state c (action_of old.state c) h.step.outcome).stopped
 
-  pub gone_on : (a b d : Parts D) → HasGone plan places a b → HasGone plan places b d → HasGone plan places a d
+module _ {D X : Type 0} (plan : D → X) (places faults : D → ℕ) where
+  pub gone_self : (a : Parts D) → HasGone plan places faults a a
+  gone_self a = record { cpus = []; moved = 0; run = (refl, refl); stopped = refl }
+
+  pub gone_on : (a b d : Parts D) → HasGone plan places faults a b → HasGone plan places faults b d
+      → HasGone plan places faults a d
   gone_on a b d one two = record {
-    book = record {
-      more = one.book.more ++ two.book.more;
-      entries = two.book.entries ∙ ap (λ (es : List Entry). es ++ two.book.more) one.book.entries
-          ∙ append_assoc a.state.entries one.book.more two.book.more;
-    };
-    kept = record {
-      script = two.kept.script ∙ one.kept.script;
-      plans = two.kept.plans ∙ one.kept.plans;
-      stores = two.kept.stores ∙ one.kept.stores;
-      count = two.kept.count ∙ one.kept.count;
-    };
+    cpus = one.cpus ++ two.cpus;
+    moved = one.moved + two.moved;
+    run = run_append plan places faults a b d one.cpus two.cpus one.moved two.moved one.run two.run;
     stopped = two.stopped ∙ one.stopped;
   }
 
+  pub stalled_on : (a b d : Parts D) → HasGone plan places faults a b → HasStalled plan places faults b d
+      → HasStalled plan places faults a d
+  stalled_on a b d one two = record { last = two.last; gone = gone_on a b two.last one two.gone; room = two.room }
+
   -- room was made, and a step
-  pub gone_step : (a b d : Parts D) (n : ℕ) → b ≡ record a { state = with_spare a.state n }
-      → Appends b.state.entries d.state.entries 320 → KeepsParts plan places b d
-      → d.state.stopped ≡ b.state.stopped → HasGone plan places a d
-  gone_step a b d n is more kept stopped = gone_on a b d (gone_room a b n is) (record {
-    book = record { more = more.more; entries = more.entries };
-    kept = kept;
-    stopped = stopped;
-  })
-    where
-      gone_room : (x y : Parts D) (m : ℕ) → y ≡ record x { state = with_spare x.state m } → HasGone plan places x y
-      gone_room x y m e = subst (λ (z : Parts D). HasGone plan places x z) (sym e) (record {
-        book = record { more = []; entries = sym (append_nil x.state.entries) };
-        kept = record { script = refl; plans = refl; stores = refl; count = refl };
-        stopped = refl;
-      })
+  pub gone_round : (a b d : Parts D) (c : ℕ) (answer : Turn) → b ≡ with_room a b.state.spare
+      → IsTurn plan places faults b d c answer → Appends b.state.entries d.state.entries 320
+      → KeepsParts plan places faults b d → TellsFaults faults b d (process_at b.state c)
+      → HasGone plan places faults a d
+  gone_round a b d c answer is turn more kept told = record {
+    cpus = c ∷ [];
+    moved = tally (is_moved answer);
+    run = (
+      d,
+      tally (is_moved answer),
+      0,
+      omega arith,
+      round_made plan places faults a b d c (tally (is_moved answer)) answer is turn more kept told refl,
+      (refl, refl),
+    );
+    stopped = turn_stopped plan places faults b d c answer turn ∙ ap (λ (t : Parts D). t.state.stopped) is;
+  }
+
+  -- there was no room for a step
+  pub stalled_at : (a b : Parts D) → b ≡ with_room a b.state.spare → HasStalled plan places faults a b
+  stalled_at a b is = record { last = a; gone = gone_self a; room = is }
+
+  pub stalled_stopped : (a b : Parts D) → HasStalled plan places faults a b → b.state.stopped ≡ a.state.stopped
+  stalled_stopped a b h = ap (λ (t : Parts D). t.state.stopped) h.room ∙ h.gone.stopped
+
+  -- ---- what follows
+
+  pub gone_run : (a b : Parts D) → HasGone plan places faults a b
+      → (cpus : List ℕ) × (moved : ℕ) × HasRun plan places faults a b cpus moved
+  gone_run a b h = (h.cpus, h.moved, h.run)
+
+  pub stalled_stood : (a b : Parts D) → HasStalled plan places faults a b
+      → (cpus : List ℕ) × HasStood plan places faults a b cpus
+  stalled_stood a b h = (
+    h.gone.cpus,
+    record {
+      before = h.gone.cpus;
+      rest = [];
+      cpus_are = sym (append-nil h.gone.cpus);
+      last = h.last;
+      moved = h.gone.moved;
+      run = h.gone.run;
+      room = h.room;
+    },
+  )
+
+  -- a processor of the script is one still
+  pub gone_planned : (a b : Parts D) (c : ℕ) → HasGone plan places faults a b → c < a.state.plan.processors
+      → c < b.state.plan.processors
+  gone_planned a b c h = subst (λ (p : Plan). c < p.processors)
+      (sym (run_keeps plan places faults a b h.cpus h.moved h.run).script)
+
+  -- however it ended
+  pub loop_grows : {T E : Type 0} (a b : Parts D) (r : Result T E) → OnOk r (HasGone plan places faults a b)
+      → OnErr r (HasStalled plan places faults a b) → Grows a.state.entries b.state.entries
+  loop_grows a b (Ok x) gone stalled = run_grows plan places faults a b gone.cpus gone.moved gone.run
+  loop_grows a b (Err e) gone stalled = run_grows_on plan places faults a b (stalled_stood a b stalled).0
+      (stalled_stood a b stalled).1
+
+  pub loop_keeps : {T E : Type 0} (a b : Parts D) (r : Result T E) → OnOk r (HasGone plan places faults a b)
+      → OnErr r (HasStalled plan places faults a b) → KeepsParts plan places faults a b
+  loop_keeps a b (Ok x) gone stalled = run_keeps plan places faults a b gone.cpus gone.moved gone.run
+  loop_keeps a b (Err e) gone stalled = run_keeps_on plan places faults a b (stalled_stood a b stalled).0
+      (stalled_stood a b stalled).1
+
+  pub loop_stopped : {T E : Type 0} (a b : Parts D) (r : Result T E) → OnOk r (HasGone plan places faults a b)
+      → OnErr r (HasStalled plan places faults a b) → b.state.stopped ≡ a.state.stopped
+  loop_stopped a b (Ok x) gone stalled = gone.stopped
+  loop_stopped a b (Err e) gone stalled = stalled_stopped a b stalled
 
 -- ---- a turn
 
@@ -90,18 +147,12 @@ roomy_outline : (s : State) (n : ℕ) → outline_of (with_spare s n) ≡ outlin
 unfolding outline_of
 roomy_outline s n = refl
 
--- a step leaves whether the machine was stopped
-pub turn_stopped : {D Plan : Type 0} (plan : D → Plan) (places : D → ℕ) (old new : Parts D) (c : ℕ) (answer : Turn)
-    → IsTurn plan places old new c answer → new.state.stopped ≡ old.state.stopped
-turn_stopped plan places old new c answer h = ap (λ (s : State). s.stopped) h.step.done
-    ∙ (pools_kept old.state c (action_of old.state c) h.step.outcome).stopped
-
 -- room was made, and a step
-pub turned_by : {D Plan : Type 0} (plan : D → Plan) (places : D → ℕ) (a b d : Parts D) (c : ℕ) (answer : Turn) (n : ℕ)
+pub turned_by : {D X : Type 0} (plan : D → X) (places faults : D → ℕ) (a b d : Parts D) (c : ℕ) (answer : Turn) (n : ℕ)
     → b ≡ record a { state = with_spare a.state n } → KeepsAll a.state → KeepsAll d.state
-    → IsTurn plan places b d c answer → HasTurned a.state d.state c answer
-turned_by plan places a b d c answer n is before now made =
-    by (subst (λ (x : Parts _). IsTurn plan places x d c answer) is made)
+    → IsTurn plan places faults b d c answer → HasTurned a.state d.state c answer
+turned_by plan places faults a b d c answer n is before now made =
+    by (subst (λ (x : Parts _). IsTurn plan places faults x d c answer) is made)
   where
     stays : (x : Turn) → IfStill x (d ≡ record a { state = with_spare a.state n })
         → IfStill x (d.state ≡ with_spare a.state n)
@@ -110,7 +161,8 @@ turned_by plan places a b d c answer n is before now made =
     stays turn.Ended h = ap (λ (t : Parts _). t.state) h
     stays turn.Stopped h = ap (λ (t : Parts _). t.state) h
 
-    by : IsTurn plan places (record a { state = with_spare a.state n }) d c answer → HasTurned a.state d.state c answer
+    by : IsTurn plan places faults (record a { state = with_spare a.state n }) d c answer
+        → HasTurned a.state d.state c answer
     by h = record {
       before = before;
       now = now;

@@ -2,7 +2,7 @@
 -- for each page that is still in a frame.
 use Rattle.std.proofs.Common.{◌≡◌, ◌<◌, ◌≤◌, ℕ, ◌+◌, ◌++◌, ◌∷◌, [], Bool, true, false, cond, List, Option, Some, None}
 use Rattle.std.proofs.Common.{inl, inr, refl, sym, ap, subst, ◌∙◌, arith}
-use Rattle.std.specs.Prelude.{◌⊎◌, count_by, sum_by}
+use Rattle.std.specs.Prelude.{◌⊎◌, count_by, map}
 use Rattle.std.specs.List.{list_all}
 use Rattle.std.proofs.lemmas.Bool.{and_parts}
 use Rattle.book.specs.declared.entries.Entry.{Entry}
@@ -26,7 +26,10 @@ use Rattle.machine_model.proofs.FlatAlike.{append_assoc, append_nil}
 use Rattle.machine_model.proofs.TakeSeen.{binding_is}
 use Rattle.machine_model.proofs.TieLaws.{none_some}
 use Rattle.machine_tables.specs.Parts.{Parts}
-use Rattle.machine.specs.Shut.{AllVisited, AreToldBack, HasVisited, TellsLoss}
+use Rattle.machine_model.specs.Reads.{home_in}
+use Rattle.machine.specs.Shut.{AllVisited, AreToldBack, CallsAtVisit, HasVisited, TellsLoss}
+use Rattle.machine.specs.Turns.{RoseAtOne}
+use Rattle.machine.proofs.CallLaws.{are_told}
 use Rattle.machine.proofs.VisitNext.{bound_there}
 
 -- ---- the entries of a visit
@@ -45,20 +48,33 @@ none_at [] ys k h = fault_of_none k (and_parts (of_none (entry.Fault k)) (list_a
 none_at (x ∷ xs) ys k h = none_at xs ys k
     (and_parts (of_none x) (list_all of_none (xs ++ entry.Fault k ∷ ys)) h).1
 
--- what is added tells no failure, or one where the drive failed; none is of a process
-record Tells (s now : State) (failed : Bool) : Type 0 where
+-- what is added tells no failure, or one just where the drive failed, if it was called; none is of a process
+record Tells (s now : State) (calls failed : Bool) : Type 0 where
   pub more : List Entry
   pub entries : now.entries ≡ s.entries ++ more
-  pub told : (count_by is_fault more ≡ 0) ⊎ ((count_by is_fault more ≡ 1) × (failed ≡ true))
+  pub told : ((count_by is_fault more ≡ 0) × (calls ≡ true → failed ≡ false))
+      ⊎ ((count_by is_fault more ≡ 1) × (failed ≡ true))
   pub quiet : list_all of_none more ≡ true
 
-few_by : (n : ℕ) (failed : Bool) → (n ≡ 0) ⊎ ((n ≡ 1) × (failed ≡ true)) → n ≤ 1
-few_by n failed (inl none) = omega (arith, none)
-few_by n failed (inr one) = let is = one.0 in omega (arith, is)
+abbrev Told : ℕ → Bool → Bool → Type 0
+Told n calls failed = ((n ≡ 0) × (calls ≡ true → failed ≡ false)) ⊎ ((n ≡ 1) × (failed ≡ true))
 
-only_by : (n : ℕ) (failed : Bool) → (n ≡ 0) ⊎ ((n ≡ 1) × (failed ≡ true)) → 1 ≤ n → failed ≡ true
-only_by n failed (inl none) some = absurd (omega (arith, none, some))
-only_by n failed (inr one) some = one.1
+few_by : (n : ℕ) (calls failed : Bool) → Told n calls failed → n ≤ 1
+few_by n calls failed (inl none) = let is = none.0 in omega (arith, is)
+few_by n calls failed (inr one) = let is = one.0 in omega (arith, is)
+
+only_by : (n : ℕ) (calls failed : Bool) → Told n calls failed → 1 ≤ n → failed ≡ true
+only_by n calls failed (inl none) some = absurd (let is = none.0 in omega (arith, is, some))
+only_by n calls failed (inr one) some = one.1
+
+each_by : (n : ℕ) (calls failed : Bool) → Told n calls failed → calls ≡ true → failed ≡ true → 1 ≤ n
+each_by n calls failed (inl none) called did = absurd (let well = none.1 called in cc)
+each_by n calls failed (inr one) called did = let is = one.0 in omega (arith, is)
+
+-- whether a page is let go
+abbrev is_called : Option (ℕ × ℕ) → Bool
+is_called None = false
+is_called (Some page) = true
 
 module _ (s : State) (o : Outcome) where
   abbrev f : ℕ
@@ -68,22 +84,22 @@ module _ (s : State) (o : Outcome) where
   out = page_taken s f
 
   gone : (how : Left) (page : ℕ × ℕ) (now : State)
-      → now.entries ≡ (s.entries ++ entry.Take f ∷ []) ++ entries_left f how page → Tells s now false
+      → now.entries ≡ (s.entries ++ entry.Take f ∷ []) ++ entries_left f how page → Tells s now true false
   gone left.Released page now e = record {
     more = entry.Take f ∷ entry.GonePage f ∷ entry.Release page.0 page.1 ∷ [];
     entries = e ∙ append_assoc s.entries (entry.Take f ∷ []) (entries_left f left.Released page);
-    told = inl refl;
+    told = inl (refl, λ called. refl);
     quiet = refl;
   }
   gone left.Kept page now e = record {
     more = entry.Take f ∷ entry.GonePage f ∷ [];
     entries = e ∙ append_assoc s.entries (entry.Take f ∷ []) (entries_left f left.Kept page);
-    told = inl refl;
+    told = inl (refl, λ called. refl);
     quiet = refl;
   }
 
   ended : (b : Bool) → Tells s (cond b (page_back (fault_told out None o.faults) f)
-      (page_gone (with_faults out o.faults) f)) b
+      (page_gone (with_faults out o.faults) f)) true b
   ended true = record {
     more = entry.Take f ∷ entry.Fault None ∷ entry.BackPage f ∷ [];
     entries = append_assoc (s.entries ++ entry.Take f ∷ []) (entry.Fault None ∷ []) (entry.BackPage f ∷ [])
@@ -94,28 +110,63 @@ module _ (s : State) (o : Outcome) where
   ended false = gone (left_of (words_in out.store.pages f)) (page_in out.store f)
       (page_gone (with_faults out o.faults) f) refl
 
-  visit_tells : Tells s (after_visit s o) o.failed
+  visit_tells : Tells s (after_visit s o) (is_called (bound_page (frame_in s.store.pages f))) o.failed
   visit_tells = by (bound_page (frame_in s.store.pages f))
     where
-      by : (x : Option (ℕ × ℕ)) → Tells s (record (visited_if s f o x) { visited = f + 1 }) o.failed
-      by None = record { more = []; entries = sym (append_nil s.entries); told = inl refl; quiet = refl }
+      by : (x : Option (ℕ × ℕ)) → Tells s (record (visited_if s f o x) { visited = f + 1 }) (is_called x) o.failed
+      by None = record {
+        more = [];
+        entries = sym (append_nil s.entries);
+        told = inl (refl, λ called. absurd (let no : false ≡ true = called in cc));
+        quiet = refl;
+      }
       by (Some page) = let now = ended o.failed in
           record { more = now.more; entries = now.entries; told = now.told; quiet = now.quiet }
 
+module _ {D : Type 0} (faults : D → ℕ) (s : State) (old new : List D) where
+  visit_same : (x : Option (ℕ × ℕ)) (failed : Bool) → CallsAtVisit faults s x old new failed → failed ≡ false
+      → map faults new ≡ map faults old
+  visit_same None failed h e = ap (map faults) h.0
+  visit_same (Some page) failed h e = h.called.told e
+
+  visit_rose : (x : Option (ℕ × ℕ)) (failed : Bool) → CallsAtVisit faults s x old new failed → failed ≡ true
+      → RoseAtOne faults old new
+  visit_rose None failed h e = absurd (let no = h.1 in cc)
+  visit_rose (Some page) failed h e = record {
+    volume = (home_in s.store (page_in s.store s.visited).0).volume;
+    others = h.called.others;
+    once = h.called.once e;
+    rose = h.called.rose e;
+  }
+
+  visit_called : (x : Option (ℕ × ℕ)) (failed : Bool) → CallsAtVisit faults s x old new failed → failed ≡ true
+      → is_called x ≡ true
+  visit_called None failed h e = absurd (let no = h.1 in cc)
+  visit_called (Some page) failed h e = refl
+
 module _ {D X : Type 0} (plan : D → X) (places faults : D → ℕ) (old new : Parts D) where
   -- What a visit tells of the drives.
-  pub visited_tells : HasVisited plan places old new → old.state.faults ≡ sum_by faults old.drives
-      → new.state.faults ≡ sum_by faults new.drives → TellsLoss faults old new
-  visited_tells h before now = record {
+  pub visited_tells : HasVisited plan places faults old new → TellsLoss faults old new
+  visited_tells h = record {
     more = told.more;
     entries = ap (λ (v : State). v.entries) h.done ∙ told.entries;
-    few = few_by (count_by is_fault told.more) h.outcome.failed told.told;
-    only = λ some. (let rose = h.rose (only_by (count_by is_fault told.more) h.outcome.failed told.told some) in
-        omega (arith, rose, before, now));
+    told = are_told faults old.drives new.drives (count_by is_fault told.more) failed
+        (few_by (count_by is_fault told.more) (is_called page) failed told.told)
+        (only_by (count_by is_fault told.more) (is_called page) failed told.told)
+        (λ did. each_by (count_by is_fault told.more) (is_called page) failed told.told
+        (visit_called faults old.state old.drives new.drives page failed h.calls_are did) did)
+        (visit_same faults old.state old.drives new.drives page failed h.calls_are)
+        (visit_rose faults old.state old.drives new.drives page failed h.calls_are);
     of_none = λ xs ys k e. none_at xs ys k (sym (ap (λ (es : List Entry). list_all of_none es) e) ∙ told.quiet);
   }
     where
-      told : Tells old.state (after_visit old.state h.outcome) h.outcome.failed
+      failed : Bool
+      failed = h.outcome.failed
+
+      page : Option (ℕ × ℕ)
+      page = bound_page (frame_in old.state.store.pages old.state.visited)
+
+      told : Tells old.state (after_visit old.state h.outcome) (is_called page) failed
       told = visit_tells old.state h.outcome
 
 -- where nothing is done nothing is told
@@ -123,8 +174,11 @@ pub still_tells : {D : Type 0} (faults : D → ℕ) (t : Parts D) → TellsLoss 
 still_tells faults t = record {
   more = [];
   entries = sym (append_nil t.state.entries);
-  few = few_by 0 false (inl refl);
-  only = λ some. absurd (let no : false ≡ true = only_by 0 false (inl refl) some in cc);
+  told = record {
+    few = omega arith;
+    none = λ none. refl;
+    one = λ one. absurd (let no : 0 ≡ 1 = one in omega (arith, no));
+  };
   of_none = λ xs ys k e. none_at xs ys k (sym (ap (λ (es : List Entry). list_all of_none es) e));
 }
 

@@ -1,11 +1,10 @@
 -- What processors come to that make their steps one after the other.
 use Rattle.std.proofs.Common.{◌≡◌, ◌≤◌, ◌+◌, ◌||◌, ℕ, Bool, true, false, length, map, List, [], ◌∷◌, ◌++◌, drop}
 use Rattle.std.proofs.Common.{◌<◌, get_or, take, Some, refl, sym, ap, subst, ◌∙◌, arith}
-use Rattle.std.specs.Prelude.{◌↔◌, Result, Ok, Err, IfOk, OnErr, sum_by}
+use Rattle.std.specs.Prelude.{◌↔◌, Result, Ok, Err, IfOk, OnErr, count_by}
 use Rattle.std.specs.List.{list_any}
 use Rattle.std.proofs.lemmas.Bool.{or_parts}
 use Rattle.std.proofs.lemmas.List.{take-append-drop, take_more}
-use Rattle.site_io.specs.Faults.{Rose}
 use Rattle.book.specs.declared.entries.Entry.{Entry}
 use Rattle.machine_model.specs.Actions.{action_of}
 use Rattle.machine_model.specs.Reads.{process_at}
@@ -14,8 +13,10 @@ use Rattle.machine_model.specs.Turns.{moves}
 use Rattle.machine_model.proofs.FlatAlike.{append_assoc, append_nil}
 use Rattle.machine_tables.specs.Parts.{Parts}
 use Rattle.machine.specs.Schedules.{Grows, HasRun, HasStood, IsRound, is_moved, tally, with_room, would_move}
-use Rattle.machine.specs.Turns.{Appends, IsTurn, KeepsParts, TellsFaults}
+use Rattle.machine.specs.Turns.{Appends, AreTold, IsTurn, KeepsParts, TellsFaults}
 use Rattle.machine.specs.declared.turn.Turn.{Turn}
+use Rattle.machine_model.specs.Keeps.{is_fault}
+use Rattle.machine.proofs.CallLaws.{keeps_on, keeps_same}
 use Rattle.machine.proofs.TurnLaws.{still_of, told_moves}
 
 -- the rules don't read how much room the book has
@@ -102,20 +103,27 @@ module _ {D Plan : Type 0} (plan : D → Plan) (places faults : D → ℕ) where
             ∙ append_assoc old.state.entries round.entries.more later.more);
       }
 
-  pub run_keeps : (old new : Parts D) (cs : List ℕ) (n : ℕ) → Run old new cs n → KeepsParts plan places old new
-  run_keeps old new [] n (same, none) = record {
-    script = ap (λ (t : Parts D). t.state.plan) same;
-    plans = ap (λ (t : Parts D). map plan t.drives) same;
-    stores = ap (λ (t : Parts D). map places t.drives) same;
-    count = ap (λ (t : Parts D). length t.drives) same;
-  }
+  pub run_keeps : (old new : Parts D) (cs : List ℕ) (n : ℕ) → Run old new cs n → KeepsParts plan places faults old new
+  run_keeps old new [] n (same, none) = keeps_same plan places faults old new
+      (ap (λ (t : Parts D). t.state.plan) same) (ap (λ (t : Parts D). t.state.entries) same)
+      (ap (λ (t : Parts D). t.drives) same)
   run_keeps old new (c ∷ cs) n (mid, one, rest, is, round, more) =
-      let later = run_keeps mid new cs rest more in record {
-        script = later.script ∙ round.kept.script;
-        plans = later.plans ∙ round.kept.plans;
-        stores = later.stores ∙ round.kept.stores;
-        count = later.count ∙ round.kept.count;
-      }
+      keeps_on plan places faults old mid new round.kept (run_keeps mid new cs rest more)
+
+  -- one list of processors after another
+  pub run_append : (old mid new : Parts D) (cs ds : List ℕ) (n m : ℕ) → Run old mid cs n → Run mid new ds m
+      → Run old new (cs ++ ds) (n + m)
+  run_append old mid new [] ds n m (same, none) more =
+      subst (λ (k : ℕ). Run old new ds k) (let zero_n = none in omega (arith, zero_n))
+      (subst (λ (t : Parts D). Run t new ds m) same more)
+  run_append old mid new (c ∷ cs) ds n m (next, one, rest, is, made, run) more = (
+    next,
+    one,
+    rest + m,
+    omega (arith, is),
+    made,
+    run_append next mid new cs ds rest m run more,
+  )
 
   -- one processor more makes its step
   pub run_on : (old mid new : Parts D) (cs : List ℕ) (n c one : ℕ) → Run old mid cs n → Round mid new c one
@@ -139,31 +147,26 @@ module _ {D Plan : Type 0} (plan : D → Plan) (places faults : D → ℕ) where
 
   -- room is made for a step, and it is made
   pub round_made : (old mid new : Parts D) (c one : ℕ) (answer : Turn) → mid ≡ with_room old mid.state.spare
-      → IsTurn plan places mid new c answer → Appends mid.state.entries new.state.entries 320
-      → KeepsParts plan places mid new → TellsFaults faults mid new (process_at mid.state c)
+      → IsTurn plan places faults mid new c answer → Appends mid.state.entries new.state.entries 320
+      → KeepsParts plan places faults mid new → TellsFaults faults mid new (process_at mid.state c)
       → one ≡ tally (is_moved answer) → Round old new c one
   round_made old mid new c one answer same turn appends keeps told is = record {
     spare = mid.state.spare;
     answer = answer;
     moved_is = is;
-    turn = subst (λ (t : Parts D). IsTurn plan places t new c answer) same turn;
+    turn = subst (λ (t : Parts D). IsTurn plan places faults t new c answer) same turn;
     entries = record {
       more = appends.more;
       entries = appends.entries ∙ ap (λ (t : Parts D). t.state.entries ++ appends.more) same;
       few = appends.few;
     };
-    kept = record {
-      script = keeps.script ∙ ap (λ (t : Parts D). t.state.plan) same;
-      plans = keeps.plans ∙ ap (λ (t : Parts D). map plan t.drives) same;
-      stores = keeps.stores ∙ ap (λ (t : Parts D). map places t.drives) same;
-      count = keeps.count ∙ ap (λ (t : Parts D). length t.drives) same;
-    };
+    kept = keeps_on plan places faults old mid new (keeps_same plan places faults old mid
+        (ap (λ (t : Parts D). t.state.plan) same) (ap (λ (t : Parts D). t.state.entries) same)
+        (ap (λ (t : Parts D). t.drives) same)) keeps;
     told = record {
       more = told.more;
       entries = told.entries ∙ ap (λ (t : Parts D). t.state.entries ++ told.more) same;
-      few = told.few;
-      only = λ some. subst (λ (t : Parts D). Rose (sum_by faults t.drives) (sum_by faults new.drives)) same
-          (told.only some);
+      told = subst (λ (t : Parts D). AreTold faults t.drives new.drives (count_by is_fault told.more)) same told.told;
       its = λ xs ys k e. told.its xs ys k e ∙ ap (λ (t : Parts D). Some (process_at t.state c)) same;
       later = told.later;
     };
@@ -200,16 +203,11 @@ module _ {D Plan : Type 0} (plan : D → Plan) (places faults : D → ℕ) where
       run = run_grows old stood.last stood.before stood.moved stood.run
 
   pub run_keeps_on : (old new : Parts D) (cs : List ℕ) → HasStood plan places faults old new cs
-      → KeepsParts plan places old new
-  run_keeps_on old new cs stood = record {
-    script = ap (λ (t : Parts D). t.state.plan) stood.room ∙ run.script;
-    plans = ap (λ (t : Parts D). map plan t.drives) stood.room ∙ run.plans;
-    stores = ap (λ (t : Parts D). map places t.drives) stood.room ∙ run.stores;
-    count = ap (λ (t : Parts D). length t.drives) stood.room ∙ run.count;
-  }
-    where
-      run : KeepsParts plan places old stood.last
-      run = run_keeps old stood.last stood.before stood.moved stood.run
+      → KeepsParts plan places faults old new
+  run_keeps_on old new cs stood = keeps_on plan places faults old stood.last new
+      (run_keeps old stood.last stood.before stood.moved stood.run)
+      (keeps_same plan places faults stood.last new (ap (λ (t : Parts D). t.state.plan) stood.room)
+      (ap (λ (t : Parts D). t.state.entries) stood.room) (ap (λ (t : Parts D). t.drives) stood.room))
 
   -- however it ended
   pub ran_grows : {E : Type 0} (old new : Parts D) (cs : List ℕ) (r : Result ℕ E) → IfOk r (Run old new cs)
@@ -218,7 +216,7 @@ module _ {D Plan : Type 0} (plan : D → Plan) (places faults : D → ℕ) where
   ran_grows old new cs (Err e) run stood = run_grows_on old new cs stood
 
   pub ran_keeps : {E : Type 0} (old new : Parts D) (cs : List ℕ) (r : Result ℕ E) → IfOk r (Run old new cs)
-      → OnErr r (HasStood plan places faults old new cs) → KeepsParts plan places old new
+      → OnErr r (HasStood plan places faults old new cs) → KeepsParts plan places faults old new
   ran_keeps old new cs (Ok n) run stood = run_keeps old new cs n run
   ran_keeps old new cs (Err e) run stood = run_keeps_on old new cs stood
 

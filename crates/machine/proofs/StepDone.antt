@@ -18,7 +18,8 @@ use Rattle.machine_model.specs.After.{after, no_call}
 use Rattle.machine_model.specs.Commits.{committed_at}
 use Rattle.machine_model.specs.Jobs.{cut_all, cut_one, deactivation_begun, emptied, eviction_begun}
 use Rattle.machine_model.specs.Jobs.{segment_taken, signalled, take_all, take_one, took, victim_taken, with_hand_moved}
-use Rattle.machine_model.specs.Reads.{cpu_at, cut_of_owner, frames_from, next_command, or_zero, process_at, trailers_in}
+use Rattle.machine_model.specs.Jobs.{page_in}
+use Rattle.machine_model.specs.Reads.{cpu_at, cut_of_owner, frames_from, home_in, next_command, or_zero, process_at, trailers_in}
 use Rattle.machine_model.specs.State.{State}
 use Rattle.machine_model.specs.Steps.{activated_at, answered, came_online, cleared_at, connected_to, left_at, loaded}
 use Rattle.machine_model.specs.Steps.{looking}
@@ -26,8 +27,9 @@ use Rattle.machine_model.specs.Steps.{page_created, page_filled, with_store, seg
 use Rattle.machine_model.specs.Steps.{went_through, with_owner}
 use Rattle.machine_model.proofs.ActiveKept.{segs_gone_rest}
 use Rattle.machine_tables.specs.Claimed.{frames_for, pairs_for, took_for, what_for}
-use Rattle.machine_tables.specs.Parts.{Parts, outcome_of, with_state}
-use Rattle.machine.specs.Turns.{IfStill, IsStep, IsTurn, MayDo, turn_of, why_by}
+use Rattle.machine_tables.specs.Parts.{Parts, SparesCall, outcome_of, with_state}
+use Rattle.machine.specs.Turns.{CallsAs, CallsNone, IfStill, IsStep, IsTurn, MayDo, turn_of, why_by}
+use Rattle.machine.proofs.CallLaws.{one_called, page_let_go}
 use Rattle.machine.proofs.CommitStays.{commit_faults}
 use Rattle.machine.specs.declared.turn.Turn.{Turn}
 use Rattle.machine.specs.declared.turn.Turn.TheVariants as turn
@@ -61,40 +63,48 @@ victim_faults s c pool chain u = segment_faults moved c u (frames_from moved.sto
 
 -- ---- a step
 
-module _ {D Plan : Type 0} (plan : D → Plan) (places : D → ℕ) (old new : Parts D) (c : ℕ) where
+module _ {D Plan : Type 0} (plan : D → Plan) (places faults : D → ℕ) (old new : Parts D) (c : ℕ) where
   abbrev s : State
   s = old.state
 
   -- a call that leaves the drives as they are
-  pub still_step : (a : act.Action) → action_of s c ≡ a → new.state ≡ after s c a (no_call s)
-      → new.state.faults ≡ s.faults → new.drives ≡ old.drives → new.room ≡ old.room → IsStep plan places old new c
-  still_step a doing done faults drives room = record {
+  pub still_step : (a : act.Action) → CallsAs faults s a old.drives new.drives false → action_of s c ≡ a
+      → new.state ≡ after s c a (no_call s)
+      → new.state.faults ≡ s.faults → new.drives ≡ old.drives → new.room ≡ old.room
+      → IsStep plan places faults old new c
+  still_step a calls doing done same drives room = record {
     outcome = no_call s;
     done = done ∙ ap (λ (y : act.Action). after s c y (no_call s)) (sym doing);
+    calls_are = subst (λ (y : act.Action). CallsAs faults s y old.drives new.drives false) (sym doing) calls;
     rose = λ h. absurd (let no : false ≡ true = h in cc);
-    grows = omega (arith, faults);
+    grows = omega (arith, same);
     plans = ap (map plan) drives;
     stores = ap (map places) drives;
     count = ap (λ (ds : List D). length ds) drives;
     room = room;
   }
 
-  quiet_step : (a : act.Action) (x : State) → action_of s c ≡ a → x ≡ after s c a (no_call s) → x.faults ≡ s.faults
-      → new ≡ with_state old x → IsStep plan places old new c
-  quiet_step a x doing same faults is = still_step a doing
+  quiet_step : (a : act.Action)
+      → (CallsNone old.drives new.drives false → CallsAs faults s a old.drives new.drives false) → (x : State)
+      → action_of s c ≡ a → x ≡ after s c a (no_call s) → x.faults ≡ s.faults
+      → new ≡ with_state old x → IsStep plan places faults old new c
+  quiet_step a calls x doing same stays is = still_step a (calls (ap (λ (t : Parts D). t.drives) is, refl)) doing
       (ap (λ (t : Parts D). t.state) is ∙ same)
-      (ap (λ (t : Parts D). t.state.faults) is ∙ faults) (ap (λ (t : Parts D). t.drives) is)
+      (ap (λ (t : Parts D). t.state.faults) is ∙ stays) (ap (λ (t : Parts D). t.drives) is)
       (ap (λ (t : Parts D). t.room) is)
 
   -- a call of one drive
-  pub drive_step : {T E : Type 0} (faults : D → ℕ) (a : act.Action) (v : ℕ) (r : Result T E) → action_of s c ≡ a
+  pub drive_step : {T E : Type 0} (a : act.Action) (v : ℕ) (r : Result T E)
+      → CallsAs faults s a old.drives new.drives (outcome_of r new.state.faults).failed → action_of s c ≡ a
       → new.state ≡ after s c a (outcome_of r new.state.faults)
       → CallsDrive plan places faults old.drives new.drives v r
       → (s.faults ≤ new.state.faults) × OnErr r (Rose s.faults new.state.faults) → new.room ≡ old.room
-      → IsStep plan places old new c
-  drive_step faults a v r doing done call counts room = record {
+      → IsStep plan places faults old new c
+  drive_step a v r calls doing done call counts room = record {
     outcome = outcome_of r new.state.faults;
     done = done ∙ ap (λ (y : act.Action). after s c y (outcome_of r new.state.faults)) (sym doing);
+    calls_are = subst (λ (y : act.Action). CallsAs faults s y old.drives new.drives
+        (outcome_of r new.state.faults).failed) (sym doing) calls;
     rose = rose r counts.1;
     grows = counts.0;
     plans = call.plans;
@@ -108,132 +118,135 @@ module _ {D Plan : Type 0} (plan : D → Plan) (places : D → ℕ) (old new : P
       rose (Ok x) h failed = absurd (let no : false ≡ true = failed in cc)
       rose (Err e) h failed = h
 
-  quiet_turn : (a : act.Action) (x : State) → (new ≡ with_state old x → IfStill (turn_of s c a) (new ≡ old))
+  quiet_turn : (a : act.Action)
+      → (CallsNone old.drives new.drives false → CallsAs faults s a old.drives new.drives false) → (x : State)
+      → (new ≡ with_state old x → IfStill (turn_of s c a) (new ≡ old))
       → action_of s c ≡ a → x ≡ after s c a (no_call s) → x.faults ≡ s.faults
-      → new ≡ with_state old x → IsTurn plan places old new c (turn_of s c a)
-  quiet_turn a x still doing same faults is = record {
-    step = quiet_step a x doing same faults is;
+      → new ≡ with_state old x → IsTurn plan places faults old new c (turn_of s c a)
+  quiet_turn a calls x still doing same stays is = record {
+    step = quiet_step a calls x doing same stays is;
     answer_is = ap (turn_of s c) (sym doing);
     still = still is;
   }
 
-  drive_turn : {T E : Type 0} (faults : D → ℕ) (a : act.Action) (v : ℕ) (r : Result T E)
+  drive_turn : {T E : Type 0} (a : act.Action) (v : ℕ) (r : Result T E)
+      → CallsAs faults s a old.drives new.drives (outcome_of r new.state.faults).failed
       → IfStill (turn_of s c a) (new ≡ old) → action_of s c ≡ a
       → new.state ≡ after s c a (outcome_of r new.state.faults)
       → CallsDrive plan places faults old.drives new.drives v r
       → (s.faults ≤ new.state.faults) × OnErr r (Rose s.faults new.state.faults) → new.room ≡ old.room
-      → IsTurn plan places old new c (turn_of s c a)
-  drive_turn faults a v r still doing done call counts room = record {
-    step = drive_step faults a v r doing done call counts room;
+      → IsTurn plan places faults old new c (turn_of s c a)
+  drive_turn a v r calls still doing done call counts room = record {
+    step = drive_step a v r calls doing done call counts room;
     answer_is = ap (turn_of s c) (sym doing);
     still = still;
   }
 
   -- ---- without the supervisor
 
-  pub online_turn : action_of s c ≡ act.Online → new ≡ with_state old (came_online s c) → IsTurn plan places old new c
+  pub online_turn : action_of s c ≡ act.Online → new ≡ with_state old (came_online s c) → IsTurn plan places faults old new c
       (turn.Moved point.Online)
   unfolding after
-  online_turn doing = quiet_turn act.Online (came_online s c) (λ h. tt) doing refl refl
+  online_turn doing = quiet_turn act.Online (λ h. h) (came_online s c) (λ h. tt) doing refl refl
 
   pub clear_turn : (w : What) → action_of s c ≡ act.Clear w → new ≡ with_state old (cleared_at s c w)
-      → IsTurn plan places old new c (turn.Moved point.Other)
+      → IsTurn plan places faults old new c (turn.Moved point.Other)
   unfolding after
-  clear_turn w doing = quiet_turn (act.Clear w) (cleared_at s c w) (λ h. tt) doing refl refl
+  clear_turn w doing = quiet_turn (act.Clear w) (λ h. h) (cleared_at s c w) (λ h. tt) doing refl refl
 
   pub load_turn : (k : ℕ) → action_of s c ≡ act.Load k → new ≡ with_state old (loaded s c k)
-      → IsTurn plan places old new c (turn.Moved (point.Loaded k))
+      → IsTurn plan places faults old new c (turn.Moved (point.Loaded k))
   unfolding after
-  load_turn k doing = quiet_turn (act.Load k) (loaded s c k) (λ h. tt) doing refl refl
+  load_turn k doing = quiet_turn (act.Load k) (λ h. h) (loaded s c k) (λ h. tt) doing refl refl
 
-  pub leave_turn : action_of s c ≡ act.Leave → new ≡ with_state old (left_at s c) → IsTurn plan places old new c
+  pub leave_turn : action_of s c ≡ act.Leave → new ≡ with_state old (left_at s c) → IsTurn plan places faults old new c
       (turn.Moved point.Other)
   unfolding after
-  leave_turn doing = quiet_turn act.Leave (left_at s c) (λ h. tt) doing refl refl
+  leave_turn doing = quiet_turn act.Leave (λ h. h) (left_at s c) (λ h. tt) doing refl refl
 
   pub fill_seg_turn : (n : ℕ) → action_of s c ≡ act.FillSeg n → new ≡ with_state old (seg_filled s c n)
-      → IsTurn plan places old new c (turn.Moved point.Other)
+      → IsTurn plan places faults old new c (turn.Moved point.Other)
   unfolding after
-  fill_seg_turn n doing = quiet_turn (act.FillSeg n) (seg_filled s c n) (λ h. tt) doing refl refl
+  fill_seg_turn n doing = quiet_turn (act.FillSeg n) (λ h. h) (seg_filled s c n) (λ h. tt) doing refl refl
 
   pub fill_page_turn : (f : ℕ) (r : Reference) → action_of s c ≡ act.FillPage f r
-      → new ≡ with_state old (page_filled s c f r) → IsTurn plan places old new c (turn.Moved point.Other)
+      → new ≡ with_state old (page_filled s c f r) → IsTurn plan places faults old new c (turn.Moved point.Other)
   unfolding after
-  fill_page_turn f r doing = quiet_turn (act.FillPage f r) (page_filled s c f r) (λ h. tt) doing refl refl
+  fill_page_turn f r doing = quiet_turn (act.FillPage f r) (λ h. h) (page_filled s c f r) (λ h. tt) doing refl refl
 
   gone_turn : (f : ℕ) (r : Reference) → action_of s c ≡ act.Through f r
       → new ≡ with_state old (went_through s c f r)
-      → IsTurn plan places old new c (turn.Moved (point.Answered (process_at s c)))
+      → IsTurn plan places faults old new c (turn.Moved (point.Answered (process_at s c)))
   unfolding after
-  gone_turn f r doing = quiet_turn (act.Through f r) (went_through s c f r) (λ h. tt) doing refl refl
+  gone_turn f r doing = quiet_turn (act.Through f r) (λ h. h) (went_through s c f r) (λ h. tt) doing refl refl
 
   pub through_turn : (f k : ℕ) (r : Reference) → (cpu_at s.processors c).process ≡ Some k
       → action_of s c ≡ act.Through f r → new ≡ with_state old (went_through s c f r)
-      → IsTurn plan places old new c (turn.Moved (point.Answered k))
-  through_turn f k r its doing is = subst (λ (j : ℕ). IsTurn plan places old new c (turn.Moved (point.Answered j)))
+      → IsTurn plan places faults old new c (turn.Moved (point.Answered k))
+  through_turn f k r its doing is = subst (λ (j : ℕ). IsTurn plan places faults old new c (turn.Moved (point.Answered j)))
       (ap or_zero its) (gone_turn f r doing is)
 
   told_turn : (r : Reply) → action_of s c ≡ act.Plain r → new ≡ with_state old (told s c None r)
-      → IsTurn plan places old new c (turn.Moved point.Other)
+      → IsTurn plan places faults old new c (turn.Moved point.Other)
   unfolding after
-  told_turn r doing = quiet_turn (act.Plain r) (told s c None r) (λ h. tt) doing refl refl
+  told_turn r doing = quiet_turn (act.Plain r) (λ h. h) (told s c None r) (λ h. tt) doing refl refl
 
   pub plain_turn : (k : ℕ) (r : Reply) → (cpu_at s.processors c).process ≡ Some k → action_of s c ≡ act.Plain r
-      → new ≡ with_state old (told_by s c k None r) → IsTurn plan places old new c (turn.Moved point.Other)
+      → new ≡ with_state old (told_by s c k None r) → IsTurn plan places faults old new c (turn.Moved point.Other)
   plain_turn k r its doing is = told_turn r doing
       (is ∙ ap (λ (j : ℕ). with_state old (told_by s c j None r)) (sym (ap or_zero its)))
 
   -- ---- the owner's looks
 
   pub take_turn : action_of s c ≡ act.TakeSupervisor → new ≡ with_state old (with_owner s (Some (looking c)))
-      → IsTurn plan places old new c (turn.Moved point.Other)
+      → IsTurn plan places faults old new c (turn.Moved point.Other)
   unfolding after
-  take_turn doing = quiet_turn act.TakeSupervisor (with_owner s (Some (looking c))) (λ h. tt) doing refl refl
+  take_turn doing = quiet_turn act.TakeSupervisor (λ h. h) (with_owner s (Some (looking c))) (λ h. tt) doing refl refl
 
   answered_turn : (r : Reply) → action_of s c ≡ act.Answer r → new ≡ with_state old (answered s c r)
-      → IsTurn plan places old new c (turn.Moved point.Other)
+      → IsTurn plan places faults old new c (turn.Moved point.Other)
   unfolding after
-  answered_turn r doing = quiet_turn (act.Answer r) (answered s c r) (λ h. tt) doing refl refl
+  answered_turn r doing = quiet_turn (act.Answer r) (λ h. h) (answered s c r) (λ h. tt) doing refl refl
 
   pub answer_turn : (k : ℕ) (r : Reply) → (cpu_at s.processors c).process ≡ Some k → action_of s c ≡ act.Answer r
       → new ≡ with_state old (with_owner (told_by s c k None r) None)
-      → IsTurn plan places old new c (turn.Moved point.Other)
+      → IsTurn plan places faults old new c (turn.Moved point.Other)
   answer_turn k r its doing is = answered_turn r doing
       (is ∙ ap (λ (j : ℕ). with_state old (with_owner (told_by s c j None r) None)) (sym (ap or_zero its)))
 
   pub give_up_turn : action_of s c ≡ act.GiveUp → new ≡ with_state old (with_owner s None)
-      → IsTurn plan places old new c (turn.Moved point.Other)
+      → IsTurn plan places faults old new c (turn.Moved point.Other)
   unfolding after
-  give_up_turn doing = quiet_turn act.GiveUp (with_owner s None) (λ h. tt) doing refl refl
+  give_up_turn doing = quiet_turn act.GiveUp (λ h. h) (with_owner s None) (λ h. tt) doing refl refl
 
   pub connect_turn : (n u : ℕ) → action_of s c ≡ act.Connect n u → new ≡ with_state old (connected_to s c n u)
-      → IsTurn plan places old new c (turn.Moved point.Other)
+      → IsTurn plan places faults old new c (turn.Moved point.Other)
   unfolding after
-  connect_turn n u doing = quiet_turn (act.Connect n u) (connected_to s c n u) (λ h. tt) doing refl refl
+  connect_turn n u doing = quiet_turn (act.Connect n u) (λ h. h) (connected_to s c n u) (λ h. tt) doing refl refl
 
   pub start_turn : (f u p : ℕ) → action_of s c ≡ act.Start f u p → new ≡ with_state old (started s c f u p)
-      → IsTurn plan places old new c (turn.Moved point.Other)
+      → IsTurn plan places faults old new c (turn.Moved point.Other)
   unfolding after
-  start_turn f u p doing = quiet_turn (act.Start f u p) (started s c f u p) (λ h. tt) doing refl refl
+  start_turn f u p doing = quiet_turn (act.Start f u p) (λ h. h) (started s c f u p) (λ h. tt) doing refl refl
 
   -- ---- what is taken
 
   pub evict_turn : (f : ℕ) → action_of s c ≡ act.Evict f → new ≡ with_state old (eviction_begun s c f)
-      → IsTurn plan places old new c (turn.Moved point.Other)
+      → IsTurn plan places faults old new c (turn.Moved point.Other)
   unfolding after
-  evict_turn f doing = quiet_turn (act.Evict f) (eviction_begun s c f) (λ h. tt) doing refl refl
+  evict_turn f doing = quiet_turn (act.Evict f) (λ h. h) (eviction_begun s c f) (λ h. tt) doing refl refl
 
   pub empty_turn : (u : ℕ) → action_of s c ≡ act.Empty u → new ≡ with_state old (deactivation_begun s c u)
-      → IsTurn plan places old new c (turn.Moved point.Other)
+      → IsTurn plan places faults old new c (turn.Moved point.Other)
   unfolding after
-  empty_turn u doing = quiet_turn (act.Empty u) (deactivation_begun s c u) (λ h. tt) doing refl
+  empty_turn u doing = quiet_turn (act.Empty u) (λ h. h) (deactivation_begun s c u) (λ h. tt) doing refl
       (segment_faults s c u (frames_from s.store.ast u 0) (trailers_in s.store u))
 
   pub take_away_turn : (k : ℕ) → action_of s c ≡ act.TakeAway (frames_for s.store k (next_command s k))
       (pairs_for s.store k (next_command s k)) (what_for s.store k (next_command s k))
-      → new ≡ with_state old (took_for s c k (next_command s k)) → IsTurn plan places old new c (turn.Moved point.Other)
+      → new ≡ with_state old (took_for s c k (next_command s k)) → IsTurn plan places faults old new c (turn.Moved point.Other)
   unfolding after
-  take_away_turn k doing = quiet_turn (act.TakeAway fs xs w) (took s c aim.Committing w fs xs) (λ h. tt) doing refl
+  take_away_turn k doing = quiet_turn (act.TakeAway fs xs w) (λ h. h) (took s c aim.Committing w fs xs) (λ h. tt) doing refl
       (took_faults s c aim.Committing w fs xs)
     where
       fs : List ℕ
@@ -246,88 +259,96 @@ module _ {D Plan : Type 0} (plan : D → Plan) (places : D → ℕ) (old new : P
       w = what_for s.store k (next_command s k)
 
   pub create_turn : (f u p : ℕ) (r : Reference) → action_of s c ≡ act.Create f u p r
-      → new ≡ with_state old (page_created s c f u p r) → IsTurn plan places old new c (turn.Moved point.Other)
+      → new ≡ with_state old (page_created s c f u p r) → IsTurn plan places faults old new c (turn.Moved point.Other)
   unfolding after
-  create_turn f u p r doing = quiet_turn (act.Create f u p r) (page_created s c f u p r) (λ h. tt) doing refl refl
+  create_turn f u p r doing = quiet_turn (act.Create f u p r) (λ h. h) (page_created s c f u p r) (λ h. tt) doing refl refl
 
   pub activate_turn : (u place : ℕ) → action_of s c ≡ act.Activate u place
-      → new ≡ with_state old (activated_at s u place) → IsTurn plan places old new c (turn.Moved point.Other)
+      → new ≡ with_state old (activated_at s u place) → IsTurn plan places faults old new c (turn.Moved point.Other)
   unfolding after
-  activate_turn u place doing = quiet_turn (act.Activate u place) (activated_at s u place) (λ h. tt) doing refl refl
+  activate_turn u place doing = quiet_turn (act.Activate u place) (λ h. h) (activated_at s u place) (λ h. tt) doing refl refl
 
   pub victim_turn : (pool : ℕ) (chain : List ℕ) (u : ℕ) → action_of s c ≡ act.EmptyVictim pool chain u
-      → new ≡ with_state old (victim_taken s c pool chain u) → IsTurn plan places old new c (turn.Moved point.Other)
+      → new ≡ with_state old (victim_taken s c pool chain u) → IsTurn plan places faults old new c (turn.Moved point.Other)
   unfolding after
-  victim_turn pool chain u doing = quiet_turn (act.EmptyVictim pool chain u) (victim_taken s c pool chain u) (λ h. tt)
+  victim_turn pool chain u doing = quiet_turn (act.EmptyVictim pool chain u) (λ h. h) (victim_taken s c pool chain u) (λ h. tt)
       doing refl (victim_faults s c pool chain u)
 
   -- ---- the phases that follow
 
   pub signal_turn : (w : What) → action_of s c ≡ act.Signal w → new ≡ with_state old (signalled s c w)
-      → IsTurn plan places old new c (turn.Moved point.Signalled)
+      → IsTurn plan places faults old new c (turn.Moved point.Signalled)
   unfolding after
-  signal_turn w doing = quiet_turn (act.Signal w) (signalled s c w) (λ h. tt) doing refl refl
+  signal_turn w doing = quiet_turn (act.Signal w) (λ h. h) (signalled s c w) (λ h. tt) doing refl refl
 
   pub deactivate_turn : (u : ℕ) → action_of s c ≡ act.Deactivate u → new ≡ with_state old (emptied s c u)
-      → IsTurn plan places old new c (turn.Moved point.Other)
+      → IsTurn plan places faults old new c (turn.Moved point.Other)
   unfolding after
-  deactivate_turn u doing = quiet_turn (act.Deactivate u) (emptied s c u) (λ h. tt) doing refl
+  deactivate_turn u doing = quiet_turn (act.Deactivate u) (λ h. h) (emptied s c u) (λ h. tt) doing refl
       ((segs_gone_rest s (cut_of_owner s.owner)).3)
 
   committed_turn : action_of s c ≡ act.Commit
       → new ≡ with_state old (committed_at s c (next_command s (process_at s c)))
-      → IsTurn plan places old new c (turn.Moved point.Other)
+      → IsTurn plan places faults old new c (turn.Moved point.Other)
   unfolding after
-  committed_turn doing = quiet_turn act.Commit (committed_at s c (next_command s (process_at s c))) (λ h. tt) doing refl
+  committed_turn doing = quiet_turn act.Commit (λ h. h) (committed_at s c (next_command s (process_at s c))) (λ h. tt) doing refl
       (commit_faults s c (next_command s (process_at s c)))
 
   pub commit_turn : (k : ℕ) → (cpu_at s.processors c).process ≡ Some k → action_of s c ≡ act.Commit
-      → new ≡ with_state old (committed_at s c (next_command s k)) → IsTurn plan places old new c
+      → new ≡ with_state old (committed_at s c (next_command s k)) → IsTurn plan places faults old new c
       (turn.Moved point.Other)
   commit_turn k its doing is = committed_turn doing
       (is ∙ ap (λ (j : ℕ). with_state old (committed_at s c (next_command s j))) (sym (ap or_zero its)))
 
   -- ---- calls of a drive
 
-  pub transfer_turn : {T E : Type 0} (faults : D → ℕ) (x : Transfer) (v : ℕ) (r : Result T E)
+  pub transfer_turn : {T E : Type 0} (x : Transfer) (r : Result T E)
       → action_of s c ≡ act.EndTransfer x → new.state ≡ after s c (act.EndTransfer x) (outcome_of r new.state.faults)
-      → CallsDrive plan places faults old.drives new.drives v r
+      → CallsDrive plan places faults old.drives new.drives (home_in s.store x.uid).volume r
       → (s.faults ≤ new.state.faults) × OnErr r (Rose s.faults new.state.faults) → new.room ≡ old.room
-      → IsTurn plan places old new c (turn.Moved point.Other)
-  transfer_turn faults x v r doing = drive_turn faults (act.EndTransfer x) v r tt doing
+      → IsTurn plan places faults old new c (turn.Moved point.Other)
+  transfer_turn x r doing done call = drive_turn (act.EndTransfer x) (home_in s.store x.uid).volume r
+      (one_called plan places faults old.drives new.drives (home_in s.store x.uid).volume r new.state.faults call) tt
+      doing done call
 
-  pub eviction_turn : {T E : Type 0} (faults : D → ℕ) (f : ℕ) (v : ℕ) (r : Result T E)
-      → action_of s c ≡ act.FinishEviction f
+  abbrev home_of : ℕ → ℕ
+  home_of f = (home_in s.store (page_in s.store f).0).volume
+
+  pub eviction_turn : {T E : Type 0} (f : ℕ) (r : Result T E) → action_of s c ≡ act.FinishEviction f
       → new.state ≡ after s c (act.FinishEviction f) (outcome_of r new.state.faults)
-      → CallsDrive plan places faults old.drives new.drives v r
+      → CallsDrive plan places faults old.drives new.drives (home_of f) r
+      → SparesCall s.store.pages f old.drives new.drives r
       → (s.faults ≤ new.state.faults) × OnErr r (Rose s.faults new.state.faults) → new.room ≡ old.room
-      → IsTurn plan places old new c (turn.Moved point.Other)
-  eviction_turn faults f v r doing = drive_turn faults (act.FinishEviction f) v r tt doing
+      → IsTurn plan places faults old new c (turn.Moved point.Other)
+  eviction_turn f r doing done call spares = drive_turn (act.FinishEviction f) (home_of f) r
+      (page_let_go plan places faults s f old.drives new.drives r new.state.faults call spares) tt doing done call
 
-  pub page_turn : {T E : Type 0} (faults : D → ℕ) (f : ℕ) (v : ℕ) (r : Result T E) → action_of s c ≡ act.FinishPage f
+  pub page_turn : {T E : Type 0} (f : ℕ) (r : Result T E) → action_of s c ≡ act.FinishPage f
       → new.state ≡ after s c (act.FinishPage f) (outcome_of r new.state.faults)
-      → CallsDrive plan places faults old.drives new.drives v r
+      → CallsDrive plan places faults old.drives new.drives (home_of f) r
+      → SparesCall s.store.pages f old.drives new.drives r
       → (s.faults ≤ new.state.faults) × OnErr r (Rose s.faults new.state.faults) → new.room ≡ old.room
-      → IsTurn plan places old new c (turn.Moved point.Other)
-  page_turn faults f v r doing = drive_turn faults (act.FinishPage f) v r tt doing
+      → IsTurn plan places faults old new c (turn.Moved point.Other)
+  page_turn f r doing done call spares = drive_turn (act.FinishPage f) (home_of f) r
+      (page_let_go plan places faults s f old.drives new.drives r new.state.faults call spares) tt doing done call
 
   -- ---- nothing is done
 
-  pub stopped_turn : action_of s c ≡ act.IsStopped → new ≡ old → IsTurn plan places old new c turn.Stopped
+  pub stopped_turn : action_of s c ≡ act.IsStopped → new ≡ old → IsTurn plan places faults old new c turn.Stopped
   unfolding after
-  stopped_turn doing = quiet_turn act.IsStopped s (λ h. h) doing refl refl
+  stopped_turn doing = quiet_turn act.IsStopped (λ h. h) s (λ h. h) doing refl refl
 
-  pub ended_turn : action_of s c ≡ act.HasEnded → new ≡ old → IsTurn plan places old new c turn.Ended
+  pub ended_turn : action_of s c ≡ act.HasEnded → new ≡ old → IsTurn plan places faults old new c turn.Ended
   unfolding after
-  ended_turn doing = quiet_turn act.HasEnded s (λ h. h) doing refl refl
+  ended_turn doing = quiet_turn act.HasEnded (λ h. h) s (λ h. h) doing refl refl
 
   pub waits_turn : (w : act.Why) → action_of s c ≡ act.Waits w → new ≡ old
-      → IsTurn plan places old new c (turn.Waits (why_by w))
+      → IsTurn plan places faults old new c (turn.Waits (why_by w))
   unfolding after
-  waits_turn w doing = quiet_turn (act.Waits w) s (λ h. h) doing refl refl
+  waits_turn w doing = quiet_turn (act.Waits w) (λ h. h) s (λ h. h) doing refl refl
 
 -- the turn of what a processor may do
-pub turned : {D Plan : Type 0} {plan : D → Plan} {places : D → ℕ} {t u new : Parts D} {c : ℕ} {a : act.Action}
-    {r : Turn} → t ≡ u → MayDo u.state c a → (MayDo t.state c a → IsTurn plan places t new c r)
-    → IsTurn plan places u new c r
+pub turned : {D Plan : Type 0} {plan : D → Plan} {places faults : D → ℕ} {t u new : Parts D} {c : ℕ} {a : act.Action}
+    {r : Turn} → t ≡ u → MayDo u.state c a → (MayDo t.state c a → IsTurn plan places faults t new c r)
+    → IsTurn plan places faults u new c r
 turned same may by = rw (← same) (by (rw same may))

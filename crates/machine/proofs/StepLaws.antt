@@ -1,11 +1,12 @@
 -- What is told of a step, by its turn.
-use Rattle.std.proofs.Common.{◌≡◌, ◌<◌, ℕ, true, length, sym, ap, subst, ◌∙◌, arith}
-use Rattle.std.specs.Prelude.{sum_by}
+use Rattle.std.proofs.Common.{◌≡◌, ◌<◌, ℕ, Bool, true, length, sym, ap, subst, ◌∙◌, arith}
+use Rattle.std.specs.Prelude.{count_by}
 use Rattle.machine_model.specs.Actions as act
 use Rattle.machine_model.specs.Actions.{action_of}
 use Rattle.machine_model.specs.After.{after}
 use Rattle.machine_model.specs.State.{State}
-use Rattle.machine_model.specs.Turns.{moves}
+use Rattle.machine_model.specs.Keeps.{is_fault}
+use Rattle.machine_model.specs.Turns.{calls_drive, moves}
 use Rattle.machine_model.specs.Reads.{process_at}
 use Rattle.machine_model.proofs.BookAfter.{HasBooked, entries_after}
 use Rattle.machine_model.proofs.FaultsBooked.{HasTold, faults_after}
@@ -19,12 +20,13 @@ use Rattle.machine.specs.Schedules.{is_moved}
 use Rattle.machine.specs.Turns.{Appends, Changes, IfMoved, IsTurn, KeepsParts, TellsFaults}
 use Rattle.machine.specs.declared.turn.Turn.{Turn}
 use Rattle.machine.specs.declared.turn.Turn.TheVariants as turn
+use Rattle.machine.proofs.CallLaws.{are_told, calls_called, calls_rose, calls_same, told_alike}
 use Rattle.machine.proofs.MovedLaws.{moved_changes}
 use Rattle.machine.proofs.StepDone.{waits_turn}
 use Rattle.machine.proofs.TurnLaws.{told_moves}
 
-module _ {D Plan : Type 0} (plan : D → Plan) (places : D → ℕ) (old new : Parts D) (c : ℕ) (answer : Turn)
-    (sound : IsSound old) (there : c < length old.state.processors) (made : IsTurn plan places old new c answer) where
+module _ {D Plan : Type 0} (plan : D → Plan) (places faults : D → ℕ) (old new : Parts D) (c : ℕ) (answer : Turn)
+    (sound : IsSound old) (there : c < length old.state.processors) (made : IsTurn plan places faults old new c answer) where
   pub step_appends : Appends old.state.entries new.state.entries 320
   step_appends = record {
     more = booked.more;
@@ -34,15 +36,6 @@ module _ {D Plan : Type 0} (plan : D → Plan) (places : D → ℕ) (old new : P
     where
       booked : HasBooked old.state (after old.state c (action_of old.state c) made.step.outcome) 320
       booked = entries_after old.state c made.step.outcome sound.keeps there
-
-  pub step_keeps : KeepsParts plan places old new
-  step_keeps = record {
-    script = ap (λ (s : State). s.plan) made.step.done
-        ∙ (pools_kept old.state c (action_of old.state c) made.step.outcome).plan;
-    plans = made.step.plans;
-    stores = made.step.stores;
-    count = made.step.count;
-  }
 
   -- what is done changes something
   pub step_changes : IfMoved answer (Changes old.state new.state)
@@ -58,19 +51,36 @@ module _ {D Plan : Type 0} (plan : D → Plan) (places : D → ℕ) (old new : P
       by turn.Ended e = tt
       by turn.Stopped e = tt
 
-  pub step_faults : (faults : D → ℕ) → old.state.faults ≡ sum_by faults old.drives
-      → new.state.faults ≡ sum_by faults new.drives → TellsFaults faults old new (process_at old.state c)
-  step_faults faults before now = record {
+  pub step_faults : TellsFaults faults old new (process_at old.state c)
+  step_faults = record {
     more = told.booked.more;
     entries = ap (λ (s : State). s.entries) made.step.done ∙ told.booked.entries;
-    few = told.right.few;
-    only = λ some. (let rose = made.step.rose (told.right.only some) in omega (arith, rose, before, now));
+    told = are_told faults old.drives new.drives (count_by is_fault told.booked.more) failed told.right.few
+        told.right.only
+        (λ did. told.right.each (calls_called faults old.drives new.drives old.state (action_of old.state c) failed
+        made.step.calls_are did) did)
+        (calls_same faults old.drives new.drives old.state (action_of old.state c) failed made.step.calls_are)
+        (calls_rose faults old.drives new.drives old.state (action_of old.state c) failed made.step.calls_are);
     its = told.right.its;
     later = told.right.later;
   }
     where
-      told : HasTold old.state (after old.state c (action_of old.state c) made.step.outcome) c made.step.outcome.failed
+      failed : Bool
+      failed = made.step.outcome.failed
+
+      told : HasTold old.state (after old.state c (action_of old.state c) made.step.outcome) c
+          (calls_drive (action_of old.state c)) failed
       told = faults_after old.state c made.step.outcome sound.keeps there
+
+  pub step_keeps : KeepsParts plan places faults old new
+  step_keeps = record {
+    script = ap (λ (s : State). s.plan) made.step.done
+        ∙ (pools_kept old.state c (action_of old.state c) made.step.outcome).plan;
+    plans = made.step.plans;
+    stores = made.step.stores;
+    count = made.step.count;
+    alike = told_alike faults old new step_faults.more step_faults.entries made.step.count step_faults.told;
+  }
 
 -- a processor of the script is one of the machine's
 pub processor_there : {D : Type 0} (t : Parts D) (c : ℕ) → IsSound t → c < t.state.plan.processors
@@ -78,13 +88,13 @@ pub processor_there : {D : Type 0} (t : Parts D) (c : ℕ) → IsSound t → c <
 processor_there t c sound within = let many = sound.keeps.machine.keeps.sizes.processors in omega (arith, many, within)
 
 -- a processor waits
-pub waits_told : {D Plan : Type 0} (plan : D → Plan) (places : D → ℕ) (old new : Parts D) (c : ℕ) (w : Why)
-    → action_of old.state c ≡ act.Waits (why_of w) → new ≡ old → IsTurn plan places old new c (turn.Waits w)
-waits_told plan places old new c (why.ForOwner cpu) doing same = waits_turn plan places old new c (act.ForOwner cpu)
+pub waits_told : {D Plan : Type 0} (plan : D → Plan) (places faults : D → ℕ) (old new : Parts D) (c : ℕ) (w : Why)
+    → action_of old.state c ≡ act.Waits (why_of w) → new ≡ old → IsTurn plan places faults old new c (turn.Waits w)
+waits_told plan places faults old new c (why.ForOwner cpu) doing same = waits_turn plan places faults old new c (act.ForOwner cpu)
     doing same
-waits_told plan places old new c (why.ForClear cpu) doing same = waits_turn plan places old new c (act.ForClear cpu)
+waits_told plan places faults old new c (why.ForClear cpu) doing same = waits_turn plan places faults old new c (act.ForClear cpu)
     doing same
-waits_told plan places old new c (why.ForTransfer frame) doing same =
-    waits_turn plan places old new c (act.ForTransfer frame) doing same
-waits_told plan places old new c (why.WhileIdle busy) doing same =
-    waits_turn plan places old new c (act.WhileIdle busy) doing same
+waits_told plan places faults old new c (why.ForTransfer frame) doing same =
+    waits_turn plan places faults old new c (act.ForTransfer frame) doing same
+waits_told plan places faults old new c (why.WhileIdle busy) doing same =
+    waits_turn plan places faults old new c (act.WhileIdle busy) doing same

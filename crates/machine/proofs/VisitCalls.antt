@@ -1,6 +1,6 @@
 -- A visit of the shutdown: what it asks of the tables, and that the machine keeps its promise.
 use Rattle.std.proofs.Common.{◌≡◌, ◌<◌, ◌≤◌, ℕ, ◌++◌, ◌∷◌, [], Bool, true, false, not, cond, ◌&&◌, length, sum}
-use Rattle.std.proofs.Common.{List, Option, Some, None, refl, sym, ap, subst, ◌∙◌, arith}
+use Rattle.std.proofs.Common.{List, Option, Some, None, inr, refl, sym, ap, subst, ◌∙◌, arith}
 use Rattle.std.specs.Prelude.{Err, Ok, OnErr, Result, nat_lt}
 use Rattle.std.specs.List.{list_any}
 use Rattle.std.proofs.lemmas.Bool.Decides.{nat_tests}
@@ -8,7 +8,9 @@ use Rattle.site_io.specs.Faults.{Rose}
 use Rattle.script.specs.Plans.{Plan}
 use Rattle.book.specs.declared.entries.Entry.{Entry}
 use Rattle.book.specs.declared.entries.Entry.TheVariants as entry
-use Rattle.core_map.specs.CoreMap.{bound_page, frame_at}
+use Rattle.core_map.specs.declared.Frame.{Frame}
+use Rattle.core_map.specs.declared.Frame.TheVariants as frame
+use Rattle.core_map.specs.CoreMap.{bound_page, frame_at, is_modified}
 use Rattle.flat_model.specs.Store.{Store}
 use Rattle.page_control.specs.declared.Left.{Left}
 use Rattle.page_control.specs.declared.Left.TheVariants as left
@@ -22,7 +24,7 @@ use Rattle.machine_model.specs.Jobs.{are_zeros, entries_left, here_if, leaving_i
 use Rattle.machine_model.specs.Jobs.{page_in}
 use Rattle.machine_model.specs.Keeps.{IsFaithful, Keeps, StoreKept}
 use Rattle.machine_model.specs.Promise.{KeepsAll}
-use Rattle.machine_model.specs.Reads.{frames_of_owner}
+use Rattle.machine_model.specs.Reads.{frames_of_owner, home_in}
 use Rattle.machine_model.specs.Said.{left_page}
 use Rattle.machine_model.specs.Shutdown.{after_visit, page_taken, visited_if}
 use Rattle.machine_model.specs.State.{State}
@@ -31,13 +33,15 @@ use Rattle.machine_model.specs.Visits.{AreVisited}
 use Rattle.machine_model.proofs.FlatAlike.{append_assoc, append_nil}
 use Rattle.machine_model.proofs.OverLaws.{over_free}
 use Rattle.machine_model.proofs.OwnerLaws.{bound_here}
+use Rattle.machine_model.proofs.TieLaws.{none_some}
 use Rattle.machine_model.proofs.VisitAll.{SameSeats, VisitSays, same_seats, visit_keeps_all}
-use Rattle.machine_tables.specs.Parts.{Parts, outcome_of}
+use Rattle.machine_tables.specs.Parts.{Parts, SparesCall, outcome_of}
 use Rattle.machine_tables.specs.Taken.{AreHere}
 use Rattle.machine_tables.specs.Visited.{shown_visited}
 use Rattle.machine.specs.Promise.{IsSound}
-use Rattle.machine.specs.Shut.{AllVisited, HasVisited}
-use Rattle.machine.specs.Turns.{Appends, KeepsParts}
+use Rattle.machine.specs.Shut.{AllVisited, CallsAtVisit, HasVisited, TellsLoss}
+use Rattle.machine.specs.Turns.{Appends, KeepsParts, LetsGo}
+use Rattle.machine.proofs.CallLaws.{page_let_go, told_alike}
 use Rattle.machine.proofs.Changed.{IsStoreOf}
 use Rattle.machine.proofs.DisksKept.{visit_disks}
 use Rattle.machine.proofs.VisitNext.{visited_next}
@@ -113,6 +117,12 @@ shown_stays s f o (Some page) t e = ap (λ (b : Bool). cond b t (left_page s f t
 
 -- ---- by how the call ended
 
+-- a frame that has no page isn't modified
+unbound_clean : (x : Frame) → bound_page x ≡ None → is_modified x ≡ false
+unbound_clean frame.Free e = refl
+unbound_clean (frame.Started uid page) e = refl
+unbound_clean (frame.Bound uid page used modified) e = absurd (none_some (sym e))
+
 rose_by : {T E : Type 0} (r : Result T E) (n : ℕ) (P : Type 0) → OnErr r P → (outcome_of r n).failed ≡ true → P
 rose_by (Ok x) n P h e = absurd (let no : false ≡ true = e in cc)
 rose_by (Err x) n P h e = h
@@ -186,11 +196,14 @@ module _ {D : Type 0} (t : Parts D) (sound : IsSound t) (over : is_over t.state 
     }
 
     -- what the visit did
-    pub visit_done : {X : Type 0} (plan : D → X) (places faults : D → ℕ) (v : ℕ)
-        → CallsDrive plan places faults t.drives now.drives v r → now.room ≡ t.room → HasVisited plan places t now
-    visit_done plan places faults v call room = record {
+    pub visit_done : {X : Type 0} (plan : D → X) (places faults : D → ℕ)
+        → CallsDrive plan places faults t.drives now.drives (home_in s.store (page_in s.store s.visited).0).volume r
+        → SparesCall s.store.pages s.visited t.drives now.drives r → now.room ≡ t.room
+        → HasVisited plan places faults t now
+    visit_done plan places faults call spares room = record {
       outcome = o;
       done = state;
+      calls_are = calls_at (bound_page (frame_in s.store.pages s.visited)) refl;
       rose = rose_by r now.state.faults (Rose s.faults now.state.faults) counts.1;
       grows = counts.0;
       plans = call.plans;
@@ -198,10 +211,19 @@ module _ {D : Type 0} (t : Parts D) (sound : IsSound t) (over : is_over t.state 
       count = call.count;
       room = room;
     }
+      where
+        goes : LetsGo faults s s.visited t.drives now.drives o.failed
+        goes = page_let_go plan places faults s s.visited t.drives now.drives r now.state.faults call spares
+
+        calls_at : (x : Option (ℕ × ℕ)) → bound_page (frame_in s.store.pages s.visited) ≡ x
+            → CallsAtVisit faults s x t.drives now.drives o.failed
+        calls_at None e = goes.spared (inr (unbound_clean (frame_in s.store.pages s.visited) e))
+        calls_at (Some page) e = goes
 
 -- ---- what follows
 
-module _ {D X : Type 0} (plan : D → X) (places : D → ℕ) (old new : Parts D) (h : HasVisited plan places old new) where
+module _ {D X : Type 0} (plan : D → X) (places faults : D → ℕ) (old new : Parts D)
+    (h : HasVisited plan places faults old new) where
   seats : SameSeats old.state (after_visit old.state h.outcome)
   seats = same_seats old.state h.outcome
 
@@ -209,12 +231,13 @@ module _ {D X : Type 0} (plan : D → X) (places : D → ℕ) (old new : Parts D
   visited_adds = subst (λ (v : State). Appends old.state.entries v.entries 320) (sym h.done)
       (visit_adds old.state h.outcome)
 
-  pub visited_parts : KeepsParts plan places old new
-  visited_parts = record {
+  pub visited_parts : TellsLoss faults old new → KeepsParts plan places faults old new
+  visited_parts told = record {
     script = ap (λ (v : State). v.plan) h.done ∙ seats.plan;
     plans = h.plans;
     stores = h.stores;
     count = h.count;
+    alike = told_alike faults old new told.more told.entries h.count told.told;
   }
 
   pub visited_over : is_over old.state ≡ true → is_over new.state ≡ true

@@ -1,5 +1,5 @@
 -- What the loops do that make a machine end: steps, one after another, each with room for its entries (own).
-use Rattle.std.specs.Prelude.{◌≡◌, ◌==◌, ◌&&◌, ℕ, Bool, false, Option, Some, None, is_some}
+use Rattle.std.specs.Prelude.{◌≡◌, ◌==◌, ◌&&◌, ℕ, Bool, false, List, Option, Some, None, is_some}
 use Rattle.processor.specs.declared.Transfer.{Transfer}
 use Rattle.machine_model.specs.Actions.{action_of}
 use Rattle.machine_model.specs.Looping.{AwaitsClear, AwaitsTransfer, IsReader, JobFell}
@@ -10,17 +10,24 @@ use Rattle.machine_model.specs.State.{State}
 use Rattle.machine_model.specs.declared.Processor.{Processor}
 use Rattle.machine_tables.specs.Parts.{Parts}
 use Rattle.machine_tables.specs.declared.action.Why.TheVariants as why
-use Rattle.machine.specs.Schedules.{Grows}
-use Rattle.machine.specs.Turns.{IfStill, KeepsParts, turn_of}
+use Rattle.machine.specs.Schedules.{HasRun, with_room}
+use Rattle.machine.specs.Turns.{IfStill, turn_of}
 use Rattle.machine.specs.declared.turn.Turn.{Turn}
 use Rattle.machine.specs.declared.turn.Turn.TheVariants as turn
 
--- Some steps were made: the book is lengthened; the script, the drives' plans and their places stay, and so does
--- whether the machine was stopped.
-pub record HasGone {D Plan : Type 0} (plan : D → Plan) (places : D → ℕ) (old new : Parts D) : Type 0 where
-  pub book : Grows old.state.entries new.state.entries
-  pub kept : KeepsParts plan places old new
+-- Processors have made their steps in some order, with room for the entries of each; whether the machine was stopped
+-- stays.
+pub record HasGone {D Plan : Type 0} (plan : D → Plan) (places faults : D → ℕ) (old new : Parts D) : Type 0 where
+  pub cpus : List ℕ
+  pub moved : ℕ
+  pub run : HasRun plan places faults old new cpus moved
   pub stopped : new.state.stopped ≡ old.state.stopped
+
+-- They have, and for the next step there was no room.
+pub record HasStalled {D Plan : Type 0} (plan : D → Plan) (places faults : D → ℕ) (old new : Parts D) : Type 0 where
+  pub last : Parts D
+  pub gone : HasGone plan places faults old last
+  pub room : new ≡ with_room last new.state.spare
 
 -- a book with room for so many entries more
 abbrev pub with_spare : State → ℕ → State

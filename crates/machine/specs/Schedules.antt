@@ -32,9 +32,9 @@ pub record IsRound {D Plan : Type 0} (plan : D → Plan) (places faults : D → 
   pub spare : ℕ
   pub answer : Turn
   pub moved_is : moved ≡ tally (is_moved answer)
-  pub turn : IsTurn plan places (with_room old spare) new c answer
+  pub turn : IsTurn plan places faults (with_room old spare) new c answer
   pub entries : Appends old.state.entries new.state.entries 320
-  pub kept : KeepsParts plan places old new
+  pub kept : KeepsParts plan places faults old new
   pub told : TellsFaults faults old new (process_at old.state c)
 
 -- The processors of a list did so one after the other, and so many of them moved.

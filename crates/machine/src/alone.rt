@@ -52,7 +52,7 @@ impl<D: Drive> Machine<D> {
     /// Processor `c` takes part from now on. (Source: own.)
     pub(crate) fn come_online(&mut self, c: u32) -> Turn
         requires { MayDo self.old.state c Online }
-        ensures { IsTurn D.plan D.places self.old self.new c result }
+        ensures { IsTurn D.plan D.places D.faults self.old self.new c result }
     {
         self.tables.come_online(c);
         Turn::Moved(Point::Online)
@@ -61,7 +61,7 @@ impl<D: Drive> Machine<D> {
     /// Processor `c` drops what it is to drop. (Source: Bensoussan, Clingen and Daley 1972.)
     pub(crate) fn clear(&mut self, c: u32, what: What) -> Turn
         requires { MayDo self.old.state c (Clear what) }
-        ensures { IsTurn D.plan D.places self.old self.new c result }
+        ensures { IsTurn D.plan D.places D.faults self.old self.new c result }
     {
         self.tables.clear(c, what);
         Turn::Moved(Point::Other)
@@ -70,7 +70,7 @@ impl<D: Drive> Machine<D> {
     /// Processor `c` loads the process at the front of the ready list. (Source: Corbató 1968.)
     pub(crate) fn load(&mut self, c: u32, process: u32) -> Turn
         requires { MayDo self.old.state c (Load process) }
-        ensures { IsTurn D.plan D.places self.old self.new c result }
+        ensures { IsTurn D.plan D.places D.faults self.old self.new c result }
     {
         self.tables.load(c, process);
         Turn::Moved(Point::Loaded(process))
@@ -79,7 +79,7 @@ impl<D: Drive> Machine<D> {
     /// Processor `c` gives its process up, which has had its turn or has ended. (Source: Corbató 1968.)
     pub(crate) fn leave(&mut self, c: u32) -> Turn
         requires { MayDo self.old.state c Leave }
-        ensures { IsTurn D.plan D.places self.old self.new c result }
+        ensures { IsTurn D.plan D.places D.faults self.old self.new c result }
     {
         let process = self.busy(c);
         self.tables.leave(c, process);
@@ -91,7 +91,7 @@ impl<D: Drive> Machine<D> {
     /// Processor `c` takes in the descriptor of a number of its process. (Source: Bensoussan, Clingen and Daley 1972.)
     pub(crate) fn fill_seg(&mut self, c: u32, number: u32) -> Turn
         requires { MayDo self.old.state c (FillSeg number) }
-        ensures { IsTurn D.plan D.places self.old self.new c result }
+        ensures { IsTurn D.plan D.places D.faults self.old self.new c result }
     {
         let process = self.busy(c);
         self.tables.fill_seg(c, process, number);
@@ -102,7 +102,7 @@ impl<D: Drive> Machine<D> {
     /// Clingen and Daley 1972.)
     pub(crate) fn fill_page(&mut self, c: u32, frame: u32, reference: Reference) -> Turn
         requires { MayDo self.old.state c (FillPage frame reference) }
-        ensures { IsTurn D.plan D.places self.old self.new c result }
+        ensures { IsTurn D.plan D.places D.faults self.old self.new c result }
     {
         self.tables.fill_page(c, frame, reference);
         Turn::Moved(Point::Other)
@@ -112,7 +112,7 @@ impl<D: Drive> Machine<D> {
     /// holds refuses, or one to a page that stays all zeros. (Source: Bensoussan, Clingen and Daley 1972.)
     pub(crate) fn answer(&mut self, c: u32, reply: Reply) -> Turn
         requires { MayDo self.old.state c (Plain reply) }
-        ensures { IsTurn D.plan D.places self.old self.new c result }
+        ensures { IsTurn D.plan D.places D.faults self.old self.new c result }
     {
         let process = self.to_answer(c);
         self.tables.tell(c, process, None, reply);
@@ -123,13 +123,13 @@ impl<D: Drive> Machine<D> {
     /// it. (Source: Bensoussan, Clingen and Daley 1972.)
     pub(crate) fn through(&mut self, c: u32, frame: u32, reference: Reference) -> Turn
         requires { MayDo self.old.state c (Through frame reference) }
-        ensures { IsTurn D.plan D.places self.old self.new c result }
+        ensures { IsTurn D.plan D.places D.faults self.old self.new c result }
     {
         let process = self.to_answer(c);
         let word = self.tables.reach(frame, &reference);
         let reply = word_reply(word, &reference.kind);
         self.tables.tell(c, process, Some(frame), reply);
-        self.tables.look();
+        self.tables.promise();
         Turn::Moved(Point::Answered(process))
     }
 }

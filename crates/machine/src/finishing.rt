@@ -14,12 +14,12 @@ impl<D: Drive> Machine<D> {
     /// the process is told of the failure and answered. It costs one read of the drive. (Source: own.)
     pub(crate) fn end_transfer(&mut self, c: u32, transfer: Transfer) -> Turn
         requires { MayDo self.old.state c (EndTransfer transfer) }
-        ensures { IsTurn D.plan D.places self.old self.new c result }
+        ensures { IsTurn D.plan D.places D.faults self.old self.new c result }
     {
         let process = self.to_answer(c);
-        self.tables.look();
+        self.tables.promise();
         let _read = self.tables.end_transfer(c, process, transfer);
-        self.tables.look();
+        self.tables.promise();
         Turn::Moved(Point::Other)
     }
 
@@ -28,12 +28,12 @@ impl<D: Drive> Machine<D> {
     /// the drive at the most. (Source: Bensoussan, Clingen and Daley 1972.)
     pub(crate) fn finish_eviction(&mut self, c: u32, frame: u32) -> Turn
         requires { MayDo self.old.state c (FinishEviction frame) }
-        ensures { IsTurn D.plan D.places self.old self.new c result }
+        ensures { IsTurn D.plan D.places D.faults self.old self.new c result }
     {
         let process = self.to_answer(c);
-        self.tables.look();
+        self.tables.promise();
         let _gone = self.tables.finish_eviction(c, process, frame);
-        self.tables.look();
+        self.tables.promise();
         Turn::Moved(Point::Other)
     }
 
@@ -42,12 +42,12 @@ impl<D: Drive> Machine<D> {
     /// the most. (Source: Bensoussan, Clingen and Daley 1972.)
     pub(crate) fn finish_page(&mut self, c: u32, frame: u32) -> Turn
         requires { MayDo self.old.state c (FinishPage frame) }
-        ensures { IsTurn D.plan D.places self.old self.new c result }
+        ensures { IsTurn D.plan D.places D.faults self.old self.new c result }
     {
         let process = self.to_answer(c);
-        self.tables.look();
+        self.tables.promise();
         let _gone = self.tables.finish_page(c, process, frame);
-        self.tables.look();
+        self.tables.promise();
         Turn::Moved(Point::Other)
     }
 }

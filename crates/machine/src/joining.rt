@@ -15,10 +15,10 @@ impl<D: Drive> Machine<D> {
     /// and Daley 1972; Organick 1972.)
     pub(crate) fn activate(&mut self, c: u32, uid: u32, place: u32) -> Turn
         requires { MayDo self.old.state c (Activate uid place) }
-        ensures { IsTurn D.plan D.places self.old self.new c result }
+        ensures { IsTurn D.plan D.places D.faults self.old self.new c result }
     {
         let _place = self.tables.activate(uid, uid);
-        self.tables.look();
+        self.tables.promise();
         Turn::Moved(Point::Other)
     }
 
@@ -27,10 +27,10 @@ impl<D: Drive> Machine<D> {
     /// (Source: Bensoussan, Clingen and Daley 1972; Organick 1972.)
     pub(crate) fn empty_victim(&mut self, c: u32, pool: u32, of: u32, uid: u32) -> Turn
         requires { MayDo self.old.state c (EmptyVictim pool (chain_of self.old.state.store.accounts.nodes of) uid) }
-        ensures { IsTurn D.plan D.places self.old self.new c result }
+        ensures { IsTurn D.plan D.places D.faults self.old self.new c result }
     {
         self.tables.take_victim(c, of, uid);
-        self.tables.look();
+        self.tables.promise();
         Turn::Moved(Point::Other)
     }
 }

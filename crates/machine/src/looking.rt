@@ -14,7 +14,7 @@ impl<D: Drive> Machine<D> {
     /// supervisor up. (Source: own.)
     pub(crate) fn refuse(&mut self, c: u32, reply: Reply) -> Turn
         requires { MayDo self.old.state c (Answer reply) }
-        ensures { IsTurn D.plan D.places self.old self.new c result }
+        ensures { IsTurn D.plan D.places D.faults self.old self.new c result }
     {
         let process = self.to_answer(c);
         self.tables.tell(c, process, None, reply);
@@ -25,7 +25,7 @@ impl<D: Drive> Machine<D> {
     /// Processor `_c`, which owns the supervisor and found nothing to do, gives it up. (Source: own.)
     pub(crate) fn give_up(&mut self, _c: u32) -> Turn
         requires { MayDo self.old.state _c GiveUp }
-        ensures { IsTurn D.plan D.places self.old self.new _c result }
+        ensures { IsTurn D.plan D.places D.faults self.old self.new _c result }
     {
         self.tables.give_up();
         Turn::Moved(Point::Other)

@@ -1,6 +1,7 @@
 //! The loops that make a machine end: over the steps of a job, over those of a command, and over all commands.
 
-ghost use Rattle.std.specs.Prelude.{◌≡◌, ◌<◌, ℕ, true, false, position, is_some, IfNone, IfOk, IfSome, None, OnOk};
+ghost use Rattle.std.specs.Prelude.{◌≡◌, ◌<◌, ℕ, true, false, position, is_some, IfNone, IfOk, IfSome, List, None};
+ghost use Rattle.std.specs.Prelude.{OnErr, OnOk};
 ghost use Rattle.machine_model.specs.Actions.{has_process, is_over};
 ghost use Rattle.machine_model.specs.Looping.{CommandDone, IsReader, JobDone, JobFell, RoundDone};
 ghost use Rattle.machine_model.specs.Outlined.{outline_of};
@@ -8,14 +9,15 @@ ghost use Rattle.machine_model.specs.Promise.{KeepsAll};
 ghost use Rattle.machine_model.specs.Reads.{cpu_at, processor_at};
 ghost use Rattle.machine_model.specs.Rounds.{IsOwnedBy};
 ghost use Rattle.machine.specs.declared.turn.Turn.TheVariants.{Waits};
-ghost use Rattle.machine.specs.Schedules.{Grows};
+ghost use Rattle.machine.specs.Schedules.{Grows, HasRun, HasStood};
 ghost use Rattle.machine.specs.Turns.{KeepsParts};
-ghost use Rattle.machine.specs.Looped.{HasGone, HasMoved, HasTurned, MayWait, WaitsFor, is_still_at, reads_into};
+ghost use Rattle.machine.specs.Looped.{HasGone, HasMoved, HasStalled, HasTurned, MayWait, WaitsFor, is_still_at};
+ghost use Rattle.machine.specs.Looped.{reads_into};
 
 use crate::machine::Machine;
 use crate::turn::Turn;
 use machine_model::Processor;
-use machine_tables::{NoMemory, Tables, Why};
+use machine_tables::{NoMemory, Why};
 use volumes::Drive;
 
 /// Whether a processor reads a page into a frame.
@@ -47,12 +49,11 @@ fn first_busy(processors: &[Processor]) -> Option<usize>
 }
 
 impl<D: Drive> Machine<D> {
-    /// The tables. What the machine promises between any two steps is told here.
-    fn look(&self) -> &Tables<D>
-        ensures same { result.now ≡ self.now }
-        ensures kept { KeepsAll self.now.state }
+    /// What the machine promises between any two steps. It does nothing.
+    fn promise(&self)
+        ensures { KeepsAll self.now.state }
     {
-        &self.tables
+        let _ = &self.tables;
     }
 
     /// The processor that owns the supervisor.
@@ -105,13 +106,14 @@ impl<D: Drive> Machine<D> {
     /// Processor `c` makes its step, with room for its entries.
     fn turn(&mut self, c: u32) -> Result<Turn, NoMemory>
         requires { c < self.old.state.plan.processors }
-        ensures gone { HasGone D.plan D.places self.old self.new }
+        ensures gone { OnOk result (HasGone D.plan D.places D.faults self.old self.new) }
+        ensures stalled { OnErr result (HasStalled D.plan D.places D.faults self.old self.new) }
         ensures turned { IfOk result (λ answer. HasTurned self.old.state self.new.state c answer) }
     {
-        self.look();
+        self.promise();
         self.reserve()?;
         let answer = self.step(c);
-        self.look();
+        self.promise();
         Ok(answer)
     }
 
@@ -120,7 +122,7 @@ impl<D: Drive> Machine<D> {
         requires { MayWait self.now.state c (Waits why) }
         ensures { WaitsFor self.now.state c (Waits why) result }
     {
-        self.look();
+        self.promise();
         match why {
             Why::ForClear(late) => late,
             Why::ForTransfer(frame) => self.reader_of(frame),
@@ -146,10 +148,11 @@ impl<D: Drive> Machine<D> {
     fn job_turn(&mut self, c: u32) -> Result<(), NoMemory>
         requires on { self.old.state.stopped ≡ false }
         requires owner { IsOwnedBy self.old.state c }
-        ensures gone { HasGone D.plan D.places self.old self.new }
+        ensures gone { OnOk result (HasGone D.plan D.places D.faults self.old self.new) }
+        ensures stalled { OnErr result (HasStalled D.plan D.places D.faults self.old self.new) }
         ensures fell { OnOk result (JobFell (outline_of self.old.state) (outline_of self.new.state) c) }
     {
-        self.look();
+        self.promise();
         let answer = self.turn(c)?;
         match self.awaited(c, answer) {
             Some(late) => {
@@ -164,7 +167,8 @@ impl<D: Drive> Machine<D> {
     fn finish_job(&mut self, c: u32) -> Result<(), NoMemory>
         requires on { self.old.state.stopped ≡ false }
         requires owner { IsOwnedBy self.old.state c }
-        ensures gone { HasGone D.plan D.places self.old self.new }
+        ensures gone { OnOk result (HasGone D.plan D.places D.faults self.old self.new) }
+        ensures stalled { OnErr result (HasStalled D.plan D.places D.faults self.old self.new) }
         ensures done { OnOk result (JobDone (outline_of self.old.state) (outline_of self.new.state) c) }
     {
         while let Some(owner) = self.owner() {
@@ -181,10 +185,11 @@ impl<D: Drive> Machine<D> {
         requires on { self.old.state.stopped ≡ false }
         requires free { self.old.state.owner ≡ None }
         requires runs { is_some (cpu_at self.old.state.processors c).process ≡ true }
-        ensures gone { HasGone D.plan D.places self.old self.new }
+        ensures gone { OnOk result (HasGone D.plan D.places D.faults self.old self.new) }
+        ensures stalled { OnErr result (HasStalled D.plan D.places D.faults self.old self.new) }
         ensures done { OnOk result (CommandDone (outline_of self.old.state) (outline_of self.new.state) c) }
     {
-        self.look();
+        self.promise();
         self.turn(c)?;
         match self.owner() {
             Some(owner) => self.finish_job(owner),
@@ -197,10 +202,11 @@ impl<D: Drive> Machine<D> {
         requires on { self.old.state.stopped ≡ false }
         requires free { self.old.state.owner ≡ None }
         requires runs { is_some (cpu_at self.old.state.processors c).process ≡ true }
-        ensures gone { HasGone D.plan D.places self.old self.new }
+        ensures gone { OnOk result (HasGone D.plan D.places D.faults self.old self.new) }
+        ensures stalled { OnErr result (HasStalled D.plan D.places D.faults self.old self.new) }
         ensures done { OnOk result (RoundDone (outline_of self.old.state) (outline_of self.new.state)) }
     {
-        self.look();
+        self.promise();
         let since = self.count(c);
         while self.is_still_at(c, since) {
             self.command_turn(c)?;
@@ -215,10 +221,11 @@ impl<D: Drive> Machine<D> {
         requires on { self.old.state.stopped ≡ false }
         requires free { self.old.state.owner ≡ None }
         requires more { is_over self.old.state ≡ false }
-        ensures gone { HasGone D.plan D.places self.old self.new }
+        ensures gone { OnOk result (HasGone D.plan D.places D.faults self.old self.new) }
+        ensures stalled { OnErr result (HasStalled D.plan D.places D.faults self.old self.new) }
         ensures done { OnOk result (RoundDone (outline_of self.old.state) (outline_of self.new.state)) }
     {
-        self.look();
+        self.promise();
         match self.first_running() {
             Some(c) => self.finish_command(c),
             None => {
@@ -231,7 +238,8 @@ impl<D: Drive> Machine<D> {
     /// Steps the owner of the supervisor, if there is one, until its job is over.
     fn settle(&mut self) -> Result<(), NoMemory>
         requires { self.old.state.stopped ≡ false }
-        ensures gone { HasGone D.plan D.places self.old self.new }
+        ensures gone { OnOk result (HasGone D.plan D.places D.faults self.old self.new) }
+        ensures stalled { OnErr result (HasStalled D.plan D.places D.faults self.old self.new) }
         ensures free { OnOk result (self.new.state.owner ≡ None) }
     {
         match self.owner() {
@@ -243,7 +251,8 @@ impl<D: Drive> Machine<D> {
     /// Steps processors until no process is ready or running.
     fn finish_all(&mut self) -> Result<(), NoMemory>
         requires { self.old.state.stopped ≡ false }
-        ensures gone { HasGone D.plan D.places self.old self.new }
+        ensures gone { OnOk result (HasGone D.plan D.places D.faults self.old self.new) }
+        ensures stalled { OnErr result (HasStalled D.plan D.places D.faults self.old self.new) }
         ensures ended { OnOk result (is_over self.new.state ≡ true) }
     {
         self.settle()?;
@@ -262,8 +271,11 @@ impl<D: Drive> Machine<D> {
     pub fn finish(&mut self) -> Result<(), NoMemory>
         requires { self.old.state.stopped ≡ false }
         ensures ended { OnOk result (is_over self.new.state ≡ true) }
+        ensures run { OnOk result ((cpus : List ℕ) × (moved : ℕ)
+            × HasRun D.plan D.places D.faults self.old self.new cpus moved) }
+        ensures stood { OnErr result ((cpus : List ℕ) × HasStood D.plan D.places D.faults self.old self.new cpus) }
         ensures entries { Grows self.old.state.entries self.new.state.entries }
-        ensures kept { KeepsParts D.plan D.places self.old self.new }
+        ensures kept { KeepsParts D.plan D.places D.faults self.old self.new }
         ensures on { self.new.state.stopped ≡ false }
     {
         self.finish_all()

@@ -1,4 +1,4 @@
-ghost use Rattle.std.specs.Prelude.{◌≡◌, ◌≤◌, ◌↔◌, ℕ, count_by, is_some, length, map, sum_by, true, OnOk};
+ghost use Rattle.std.specs.Prelude.{◌≡◌, ◌<◌, ◌≤◌, ◌^◌, ◌↔◌, ℕ, count_by, is_some, length, map, sum_by, true, OnOk};
 ghost use Rattle.tree_model.specs.Tree.{entries_on, taken_on};
 ghost use Rattle.accounts.specs.Maps.{Counts};
 ghost use Rattle.flat_model.specs.Legal.{IsComplete, IsLegal, store_after};
@@ -50,9 +50,10 @@ impl<D: Drive> Machine<D> {
         ensures legal { IsLegal result.now.script result.now.entries }
         ensures clean { IsClean result.now.script result.now.entries }
         ensures conserved { IsConserved result.now.script (store_after result.now.script result.now.entries) }
+        ensures few { length result.now.entries < 2 ^ 63 }
         ensures faults { count_by is_fault result.now.entries ≤ sum_by D.faults self.now.drives }
     {
-        self.tables.look();
+        self.tables.promise();
         let book = self.tables.book();
         let _entries = book.entries();
         book
@@ -120,9 +121,9 @@ impl<D: Drive> Machine<D> {
             (store_after self.now.state.plan self.now.state.entries)
             (custody_after self.now.state.plan self.now.state.entries) }
     {
-        let _store = self.tables.store();
+        self.tables.store();
         let volumes = self.tables.volumes();
-        let _count = volumes.count();
+        volumes.promise();
         volumes
     }
 }

@@ -25,11 +25,11 @@ impl<D: Drive> Machine<D> {
         reference: Reference,
     ) -> Turn
         requires { MayDo self.old.state c (Create frame uid page reference) }
-        ensures { IsTurn D.plan D.places self.old self.new c result }
+        ensures { IsTurn D.plan D.places D.faults self.old self.new c result }
     {
         let process = self.to_answer(c);
         self.tables.create(c, process, frame, uid, page, reference);
-        self.tables.look();
+        self.tables.promise();
         Turn::Moved(Point::Other)
     }
 
@@ -39,11 +39,11 @@ impl<D: Drive> Machine<D> {
     pub(crate) fn take_away(&mut self, c: u32) -> Turn
         requires { MayDo self.old.state c (taken_for self.old.state.store (process_at self.old.state c)
             (next_command self.old.state (process_at self.old.state c))) }
-        ensures { IsTurn D.plan D.places self.old self.new c result }
+        ensures { IsTurn D.plan D.places D.faults self.old self.new c result }
     {
         let process = self.busy(c);
         self.tables.take_away(c, process);
-        self.tables.look();
+        self.tables.promise();
         Turn::Moved(Point::Other)
     }
     /// The next command of the process of processor `c`, a tree command that isn't refused, takes effect: what its job
@@ -51,12 +51,12 @@ impl<D: Drive> Machine<D> {
     /// processor. (Source: Bensoussan, Clingen and Daley 1972; Organick 1972.)
     pub(crate) fn commit(&mut self, c: u32) -> Turn
         requires { MayDo self.old.state c Commit }
-        ensures { IsTurn D.plan D.places self.old self.new c result }
+        ensures { IsTurn D.plan D.places D.faults self.old self.new c result }
     {
         let process = self.to_answer(c);
-        let _volumes = self.tables.volumes().count();
+        self.tables.volumes().promise();
         self.tables.commit(c, process);
-        self.tables.look();
+        self.tables.promise();
         Turn::Moved(Point::Other)
     }
 }

@@ -16,7 +16,7 @@ impl<D: Drive> Machine<D> {
     /// Processor `c` owns the supervisor from now on, and looks. (Source: own.)
     pub(crate) fn take_supervisor(&mut self, c: u32) -> Turn
         requires { MayDo self.old.state c TakeSupervisor }
-        ensures { IsTurn D.plan D.places self.old self.new c result }
+        ensures { IsTurn D.plan D.places D.faults self.old self.new c result }
     {
         self.tables.take_supervisor(c);
         Turn::Moved(Point::Other)
@@ -26,7 +26,7 @@ impl<D: Drive> Machine<D> {
     /// (Source: Bensoussan, Clingen and Daley 1972.)
     pub(crate) fn signal(&mut self, c: u32, what: What) -> Turn
         requires { MayDo self.old.state c (Signal what) }
-        ensures { IsTurn D.plan D.places self.old self.new c result }
+        ensures { IsTurn D.plan D.places D.faults self.old self.new c result }
     {
         self.tables.signal(c, what);
         Turn::Moved(Point::Signalled)
@@ -38,10 +38,10 @@ impl<D: Drive> Machine<D> {
     /// up. (Source: own.)
     pub(crate) fn start(&mut self, c: u32, f: u32, uid: u32, p: u32) -> Turn
         requires { MayDo self.old.state c (Start f uid p) }
-        ensures { IsTurn D.plan D.places self.old self.new c result }
+        ensures { IsTurn D.plan D.places D.faults self.old self.new c result }
     {
         self.tables.start(c, f, uid, p);
-        self.tables.look();
+        self.tables.promise();
         Turn::Moved(Point::Other)
     }
 
@@ -50,11 +50,11 @@ impl<D: Drive> Machine<D> {
     /// 1972.)
     pub(crate) fn connect(&mut self, c: u32, number: u32, uid: u32) -> Turn
         requires { MayDo self.old.state c (Connect number uid) }
-        ensures { IsTurn D.plan D.places self.old self.new c result }
+        ensures { IsTurn D.plan D.places D.faults self.old self.new c result }
     {
         let process = self.busy(c);
         self.tables.connect(c, process, number, uid);
-        self.tables.look();
+        self.tables.promise();
         Turn::Moved(Point::Other)
     }
 }
@@ -64,10 +64,10 @@ impl<D: Drive> Machine<D> {
     /// again: the descriptors that it cut are gone. (Source: Bensoussan, Clingen and Daley 1972; Organick 1972.)
     pub(crate) fn deactivate(&mut self, c: u32, uid: u32) -> Turn
         requires { MayDo self.old.state c (Deactivate uid) }
-        ensures { IsTurn D.plan D.places self.old self.new c result }
+        ensures { IsTurn D.plan D.places D.faults self.old self.new c result }
     {
         self.tables.deactivate(c, uid);
-        self.tables.look();
+        self.tables.promise();
         Turn::Moved(Point::Other)
     }
 
@@ -75,10 +75,10 @@ impl<D: Drive> Machine<D> {
     /// 1968.)
     pub(crate) fn evict(&mut self, c: u32) -> Turn
         requires { MayDo self.old.state c (Evict (or_zero (clock_choice self.old.state.store.pages.core))) }
-        ensures { IsTurn D.plan D.places self.old self.new c result }
+        ensures { IsTurn D.plan D.places D.faults self.old self.new c result }
     {
         let _f = self.tables.evict(c);
-        self.tables.look();
+        self.tables.promise();
         Turn::Moved(Point::Other)
     }
 
@@ -87,10 +87,10 @@ impl<D: Drive> Machine<D> {
     /// where there are none it is inactive at once. (Source: Bensoussan, Clingen and Daley 1972; Organick 1972.)
     pub(crate) fn empty(&mut self, c: u32, uid: u32) -> Turn
         requires { MayDo self.old.state c (Empty uid) }
-        ensures { IsTurn D.plan D.places self.old self.new c result }
+        ensures { IsTurn D.plan D.places D.faults self.old self.new c result }
     {
         self.tables.empty(c, uid);
-        self.tables.look();
+        self.tables.promise();
         Turn::Moved(Point::Other)
     }
 }

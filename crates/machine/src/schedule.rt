@@ -57,7 +57,7 @@ impl<D: Drive> Machine<D> {
         ensures stood { OnErr result (HasStood D.plan D.places D.faults self.old self.new cpus.now) }
         ensures zero { IfOk result (λ moved. (moved ≡ 0) ↔ (list_any (would_move self.old.state) cpus.now ≡ false)) }
         ensures entries { Grows self.old.state.entries self.new.state.entries }
-        ensures kept { KeepsParts D.plan D.places self.old self.new }
+        ensures kept { KeepsParts D.plan D.places D.faults self.old self.new }
     {
         self.rounds(cpus)
     }

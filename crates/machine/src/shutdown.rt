@@ -14,13 +14,13 @@ impl<D: Drive> Machine<D> {
         requires over { is_over self.old.state ≡ true }
         requires more { self.old.state.visited < self.old.state.plan.frames }
         requires room { 320 ≤ self.old.state.spare }
-        ensures done { HasVisited D.plan D.places self.old self.new }
+        ensures done { HasVisited D.plan D.places D.faults self.old self.new }
         ensures faults { TellsLoss D.faults self.old self.new }
         ensures entries { Appends self.old.state.entries self.new.state.entries 320 }
     {
-        self.tables.look();
+        self.tables.promise();
         let _visited = self.tables.visit();
-        self.tables.look();
+        self.tables.promise();
     }
 
     /// Whether there is a frame that the shutdown hasn't visited.
@@ -32,7 +32,7 @@ impl<D: Drive> Machine<D> {
     {
         let pages = self.tables.store().segs().pages();
         let _frames = pages.frames();
-        let _count = pages.volumes().count();
+        pages.volumes().promise();
         self.tables.visited() < self.tables.book().script().frames()
     }
 
@@ -44,14 +44,14 @@ impl<D: Drive> Machine<D> {
         requires ended { is_over self.old.state ≡ true }
         requires room { 320 ≤ self.old.state.spare }
         ensures more { result ≡ nat_lt self.old.state.visited self.old.state.plan.frames }
-        ensures visit { result ≡ true → HasVisited D.plan D.places self.old self.new }
+        ensures visit { result ≡ true → HasVisited D.plan D.places D.faults self.old self.new }
         ensures still { result ≡ false → self.new ≡ self.old }
         ensures each { result ≡ false → AllVisited self.new.state }
         ensures told { result ≡ false → AreToldBack self.new.state.plan self.new.state.entries }
         ensures zeros { result ≡ false → HasNoZeros self.new.state }
         ensures faults { TellsLoss D.faults self.old self.new }
         ensures entries { Appends self.old.state.entries self.new.state.entries 320 }
-        ensures kept { KeepsParts D.plan D.places self.old self.new }
+        ensures kept { KeepsParts D.plan D.places D.faults self.old self.new }
         ensures ended { is_over self.new.state ≡ true }
     {
         if self.has_frames() {

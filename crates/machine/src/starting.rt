@@ -1,7 +1,9 @@
 //! A machine at first.
 
-ghost use Rattle.std.specs.Prelude.{◌≡◌, ◌<◌, ◌++◌, [], ◌∷◌, length, map, slice_get, IfOk, IfSome, OnOk};
+ghost use Rattle.std.specs.Prelude.{◌≡◌, ◌<◌, ◌++◌, [], ◌∷◌, length, map, slice_get, sum_by, IfOk, IfSome, OnOk};
 ghost use Rattle.volumes.specs.Volumes.{made_of};
+ghost use Rattle.machine_model.specs.Boot.{first_state, first_store};
+ghost use Rattle.machine_tables.specs.Parts.{first_words};
 ghost use Rattle.machine.specs.Starts.{parts_of};
 
 use crate::machine::Machine;
@@ -71,6 +73,9 @@ impl<D: Drive> Machine<D> {
         ensures script { IfOk result (λ m. m.state.plan ≡ script) }
         ensures entries { IfOk result (λ m. m.state.entries ≡ []) }
         ensures drives { IfOk result (λ m. m.drives ≡ drives.items) }
+        ensures room { IfOk result (λ m. m.room ≡ length script.processes) }
+        ensures state { IfOk result (λ m. m.state ≡ first_state script (first_store script (first_words script.frames)
+            (map D.pages drives.items)) m.state.spare (sum_by D.faults drives.items)) }
     {
         script.promise();
         let volumes = volumes(alloc, script.volumes(), drives)?;

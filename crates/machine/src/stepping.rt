@@ -23,7 +23,7 @@ impl<D: Drive> Machine<D> {
     /// Processor `c` does what it does in its next step.
     pub(crate) fn act(&mut self, c: u32, action: Action) -> Turn
         requires { MayDo self.old.state c (meant self.old.state (process_at self.old.state c) action) }
-        ensures { IsTurn D.plan D.places self.old self.new c result }
+        ensures { IsTurn D.plan D.places D.faults self.old self.new c result }
     {
         match action {
             Action::IsStopped => Turn::Stopped,
@@ -80,17 +80,17 @@ impl<D: Drive> Machine<D> {
     pub fn step(&mut self, c: u32) -> Turn
         requires processor { c < self.old.state.plan.processors }
         requires room { 320 ≤ self.old.state.spare }
-        ensures turn { IsTurn D.plan D.places self.old self.new c result }
+        ensures turn { IsTurn D.plan D.places D.faults self.old self.new c result }
         ensures entries { Appends self.old.state.entries self.new.state.entries 320 }
-        ensures kept { KeepsParts D.plan D.places self.old self.new }
+        ensures kept { KeepsParts D.plan D.places D.faults self.old self.new }
         ensures moved { IfMoved result (Changes self.old.state self.new.state) }
         ensures still { IfStill result (self.new ≡ self.old) }
         ensures faults { TellsFaults D.faults self.old self.new (process_at self.old.state c) }
     {
-        self.tables.look();
+        self.tables.promise();
         let action = self.action(c);
         let turn = self.act(c, action);
-        self.tables.look();
+        self.tables.promise();
         turn
     }
 }

@@ -15,7 +15,7 @@ activate-place-requires-clause-free g c = place_free _ c.args.c c.self.invariant
     c.args.uid c.args.place (rw c.self.view_is c.requires.doing)
 
 pub returns : goal.returns
-returns g c = rw (← c.self.view_is) (activate_turn _ _ _ c.activate-place.new.self c.args.c c.args.uid c.args.place
+returns g c = rw (← c.self.view_is) (activate_turn _ _ _ _ c.activate-place.new.self c.args.c c.args.uid c.args.place
     (rw c.self.view_is c.requires.doing)
     (activated _ c.args.c c.self.invariant (rw c.self.view_is c.requires.there) c.args.uid c.args.place
     c.activate-place.result (rw c.self.view_is c.requires.doing)
@@ -27,4 +27,4 @@ invariant_of-self g c = activate_sound _ c.args.c c.self.invariant (rw c.self.vi
     (activated _ c.args.c c.self.invariant (rw c.self.view_is c.requires.there) c.args.uid c.args.place
     c.activate-place.result (rw c.self.view_is c.requires.doing)
     c.activate-place.ensures.place c.activate-place.new.self c.activate-place.ensures.effect)
-    c.look.ensures.kept c.look.ensures.counted
+    c.promise.ensures.kept c.promise.ensures.counted

@@ -6,7 +6,7 @@ use Rattle.machine.specs.Looped.{MayWait, WaitsFor}
 use Rattle.machine.proofs.machine.Machine.awaited_by.Goals as goal
 
 pub reader_of-requires : goal.reader_of-requires
-reader_of-requires g c = reader_seen _ c.args.c c.in-ForTransfer.frame c.look.ensures.kept
+reader_of-requires g c = reader_seen _ c.args.c c.in-ForTransfer.frame c.promise.ensures
     (subst (λ (w : Why). MayWait c.args.self.now.state c.args.c (Waits w)) c.in-ForTransfer.is c.requires)
 
 pub returns-in-ForTransfer : goal.returns-in-ForTransfer

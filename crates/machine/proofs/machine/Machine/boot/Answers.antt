@@ -1,9 +1,11 @@
-use Rattle.std.proofs.Common.{◌∙◌, ap, length, List, subst, sym}
+use Rattle.std.proofs.Common.{◌∙◌, ap, length, List, map, subst, sum_by, sym}
 use Rattle.std.proofs.lemmas.List.{length-map}
 use Rattle.script.specs.declared.plan.VolumeLine.{VolumeLine}
 use Rattle.volumes.specs.Volumes.{Vols, made_of}
 use Rattle.storage_ops.specs.Shown.{AreFresh}
+use Rattle.machine_model.specs.Boot.{first_state, first_store}
 use Rattle.machine_model.specs.State.{State}
+use Rattle.machine_tables.specs.Parts.{first_words}
 use Rattle.machine_tables.proofs.FirstLaws.{first_keeps}
 use Rattle.machine.specs.Starts.{parts_of}
 use Rattle.machine.proofs.FirstParts.{are_fresh, as_many, drives_are}
@@ -49,6 +51,16 @@ invariant_of-result g c = record {
 pub returns-clause-drives : goal.returns-clause-drives
 returns-clause-drives g c = c.in_ok-tables.ensures.drives
     ∙ (ap (λ (v : Vols g.row.D.Denot). v.drives) (c.in_ok-volumes.ensures
+    ∙ ap (λ (ls : List VolumeLine). made_of g.D.Drive.pages (parts_of ls c.args.drives.items)) c.volumes.ensures)
+    ∙ drives_are g.D.Drive.pages c.args.script.volumes c.args.drives.items
+    (as_many g.D.Drive.pages c.args.script.volumes c.args.drives.items c.requires))
+
+pub returns-clause-state : goal.returns-clause-state
+returns-clause-state g c = c.in_ok-tables.ensures.state
+    ∙ ap (λ (ds : List g.row.D.Denot). first_state c.args.script (first_store c.args.script
+    (first_words c.args.script.frames) (map g.D.Drive.pages ds)) c.in_ok-tables.tables.state.spare
+    (sum_by g.D.Drive.faults ds))
+    (ap (λ (v : Vols g.row.D.Denot). v.drives) (c.in_ok-volumes.ensures
     ∙ ap (λ (ls : List VolumeLine). made_of g.D.Drive.pages (parts_of ls c.args.drives.items)) c.volumes.ensures)
     ∙ drives_are g.D.Drive.pages c.args.script.volumes c.args.drives.items
     (as_many g.D.Drive.pages c.args.script.volumes c.args.drives.items c.requires))

@@ -5,7 +5,7 @@ use Rattle.machine.proofs.StepDone.{clear_turn, turned}
 use Rattle.machine.proofs.machine.Machine.clear.Goals as goal
 
 pub returns : goal.returns
-returns g c = turned c.self.view_is c.requires (λ m. clear_turn _ _ _ _ _ _ m.doing c.clear.ensures)
+returns g c = turned c.self.view_is c.requires (λ m. clear_turn _ _ _ _ _ _ _ m.doing c.clear.ensures)
 
 pub invariant_of-self : goal.invariant_of-self
 unfolding after

@@ -5,7 +5,7 @@ use Rattle.machine.proofs.StepDone.{online_turn, turned}
 use Rattle.machine.proofs.machine.Machine.come_online.Goals as goal
 
 pub returns : goal.returns
-returns g c = turned c.self.view_is c.requires (λ m. online_turn _ _ _ _ _ m.doing c.come_online.ensures)
+returns g c = turned c.self.view_is c.requires (λ m. online_turn _ _ _ _ _ _ m.doing c.come_online.ensures)
 
 pub invariant_of-self : goal.invariant_of-self
 unfolding after

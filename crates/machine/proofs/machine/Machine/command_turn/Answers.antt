@@ -1,5 +1,5 @@
-use Rattle.std.proofs.lemmas.Result.{on_ok_weaker}
-use Rattle.machine.proofs.LoopCalls.{turn_free, turn_job}
+use Rattle.std.proofs.lemmas.Result.{on_err_weaker, on_ok_weaker}
+use Rattle.machine.proofs.LoopCalls.{gone_on, stalled_on, turn_free, turn_job}
 use Rattle.machine.proofs.machine.Machine.command_turn.Goals as goal
 
 pub returns-in-Some-clause-done : goal.returns-in-Some-clause-done
@@ -11,3 +11,13 @@ returns-in-Some-clause-done g c = on_ok_weaker c.finish_job.result
 pub returns-in-None-clause-done : goal.returns-in-None-clause-done
 returns-in-None-clause-done g c = turn_free c.args.self.now.state c.turn.new.self.state c.args.c c.in_ok-turn.field-0
     c.in_ok-turn.ensures.turned c.requires.on c.requires.free c.requires.runs c.in-None.ensures.none
+
+pub returns-in-Some-clause-gone : goal.returns-in-Some-clause-gone
+returns-in-Some-clause-gone g c = on_ok_weaker c.finish_job.result
+    (gone_on g.D.Drive.plan g.D.Drive.places g.D.Drive.faults c.args.self.now c.turn.new.self c.finish_job.new.self
+    c.in_ok-turn.ensures.gone) c.finish_job.ensures.gone
+
+pub returns-in-Some-clause-stalled : goal.returns-in-Some-clause-stalled
+returns-in-Some-clause-stalled g c = on_err_weaker c.finish_job.result
+    (stalled_on g.D.Drive.plan g.D.Drive.places g.D.Drive.faults c.args.self.now c.turn.new.self c.finish_job.new.self
+    c.in_ok-turn.ensures.gone) c.finish_job.ensures.stalled

@@ -6,12 +6,12 @@ pub commit-requires : goal.commit-requires
 commit-requires g c = may_commit _ c.args.c c.self.invariant (rw c.self.view_is c.requires.there)
     (rw c.self.view_is c.requires.doing) g.D.Drive.pages
     (rw (← c.volumes.ensures.drives, ← c.volumes.ensures.records, ← c.volumes.ensures.vtocs)
-    c.count-volumes.ensures.parts)
+    c.promise.ensures.parts)
     c.to_answer-process.result (rw c.self.view_is c.to_answer-process.ensures.process)
     (rw c.self.view_is c.to_answer-process.ensures.count) (rw c.self.view_is c.requires.room)
 
 pub returns : goal.returns
-returns g c = rw (← c.self.view_is) (commit_turn _ _ _ c.commit.new.self c.args.c c.to_answer-process.result
+returns g c = rw (← c.self.view_is) (commit_turn _ _ _ _ c.commit.new.self c.args.c c.to_answer-process.result
     (rw c.self.view_is c.to_answer-process.ensures.process) (rw c.self.view_is c.requires.doing)
     c.commit.ensures.effect)
 
@@ -20,7 +20,7 @@ invariant_of-self g c = commit_sound _ c.args.c c.self.invariant (rw c.self.view
     (rw c.self.view_is c.requires.doing) c.to_answer-process.result
     (rw c.self.view_is c.to_answer-process.ensures.process)
     c.commit.new.self c.commit.ensures.effect (record {
-      kept = c.look.ensures.kept;
-      counted = c.look.ensures.counted;
-      accounts = c.look.ensures.accounts;
+      kept = c.promise-2.ensures.kept;
+      counted = c.promise-2.ensures.counted;
+      accounts = c.promise-2.ensures.accounts;
     }) c.commit.ensures.shown

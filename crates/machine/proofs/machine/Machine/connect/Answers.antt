@@ -13,10 +13,10 @@ connect-requires g c =
     search rules
 
 pub returns : goal.returns
-returns g c = rw (← c.self.view_is) (connect_turn _ _ _ _ c.args.c c.args.number c.args.uid
+returns g c = rw (← c.self.view_is) (connect_turn _ _ _ _ _ c.args.c c.args.number c.args.uid
     (rw c.self.view_is c.requires.doing) c.connect.ensures)
 
 pub invariant_of-self : goal.invariant_of-self
 invariant_of-self g c = connect_sound _ c.args.c c.self.invariant (rw c.self.view_is c.requires.there) c.args.number
-    c.args.uid (rw c.self.view_is c.requires.doing) _ c.connect.ensures c.look.ensures.kept
-    c.look.ensures.counted
+    c.args.uid (rw c.self.view_is c.requires.doing) _ c.connect.ensures c.promise.ensures.kept
+    c.promise.ensures.counted

@@ -17,7 +17,7 @@ create-requires-clause-page g c = made_page _ c.args.c c.self.invariant (rw c.se
     c.args.frame c.args.uid c.args.page c.args.reference (rw c.self.view_is c.requires.doing)
 
 pub returns : goal.returns
-returns g c = rw (← c.self.view_is) (create_turn _ _ _ c.create.new.self c.args.c
+returns g c = rw (← c.self.view_is) (create_turn _ _ _ _ c.create.new.self c.args.c
     c.args.frame c.args.uid c.args.page c.args.reference (rw c.self.view_is c.requires.doing) c.create.ensures.effect)
 
 pub invariant_of-self : goal.invariant_of-self
@@ -25,7 +25,7 @@ invariant_of-self g c = create_sound _ c.args.c c.self.invariant (rw c.self.view
     c.args.frame c.args.uid c.args.page c.args.reference (rw c.self.view_is c.requires.doing)
     c.to_answer-process.result (rw c.self.view_is c.to_answer-process.ensures.process) c.create.new.self
     c.create.ensures.effect (record {
-      kept = c.look.ensures.kept;
-      counted = c.look.ensures.counted;
-      accounts = c.look.ensures.accounts;
+      kept = c.promise.ensures.kept;
+      counted = c.promise.ensures.counted;
+      accounts = c.promise.ensures.accounts;
     }) c.create.ensures.shown

@@ -17,10 +17,10 @@ deactivate-requires-clause-room g c = let few = c.self.invariant.keeps.working.f
     omega (arith, few, room)
 
 pub returns : goal.returns
-returns g c = rw (← c.self.view_is) (deactivate_turn _ _ _ _ c.args.c c.args.uid (rw c.self.view_is c.requires.doing)
+returns g c = rw (← c.self.view_is) (deactivate_turn _ _ _ _ _ c.args.c c.args.uid (rw c.self.view_is c.requires.doing)
     c.deactivate.ensures)
 
 pub invariant_of-self : goal.invariant_of-self
 invariant_of-self g c = deactivate_sound _ c.args.c c.self.invariant (rw c.self.view_is c.requires.there) c.args.uid
-    (rw c.self.view_is c.requires.doing) _ c.deactivate.ensures c.look.ensures.kept
-    c.look.ensures.counted
+    (rw c.self.view_is c.requires.doing) _ c.deactivate.ensures c.promise.ensures.kept
+    c.promise.ensures.counted

@@ -11,9 +11,9 @@ empty-requires g c =
     search rules
 
 pub returns : goal.returns
-returns g c = rw (← c.self.view_is) (empty_turn _ _ _ _ c.args.c c.args.uid (rw c.self.view_is c.requires.doing)
+returns g c = rw (← c.self.view_is) (empty_turn _ _ _ _ _ c.args.c c.args.uid (rw c.self.view_is c.requires.doing)
     c.empty.ensures)
 
 pub invariant_of-self : goal.invariant_of-self
 invariant_of-self g c = empty_sound _ c.args.c c.self.invariant (rw c.self.view_is c.requires.there) c.args.uid
-    (rw c.self.view_is c.requires.doing) _ c.empty.ensures c.look.ensures.kept c.look.ensures.counted
+    (rw c.self.view_is c.requires.doing) _ c.empty.ensures c.promise.ensures.kept c.promise.ensures.counted

@@ -11,7 +11,7 @@ take_victim-requires g c =
     search rules
 
 pub returns : goal.returns
-returns g c = rw (← c.self.view_is) (victim_turn _ _ _ c.take_victim.new.self c.args.c c.args.pool _ c.args.uid
+returns g c = rw (← c.self.view_is) (victim_turn _ _ _ _ c.take_victim.new.self c.args.c c.args.pool _ c.args.uid
     (rw c.self.view_is c.requires.doing)
     (victim_is _ c.args.c c.self.invariant (rw c.self.view_is c.requires.there) c.args.pool c.args.of c.args.uid
     (rw c.self.view_is c.requires.doing) c.take_victim.new.self c.take_victim.ensures))
@@ -19,4 +19,4 @@ returns g c = rw (← c.self.view_is) (victim_turn _ _ _ c.take_victim.new.self 
 pub invariant_of-self : goal.invariant_of-self
 invariant_of-self g c = victim_keeps _ c.args.c c.self.invariant (rw c.self.view_is c.requires.there) c.args.pool
     c.args.of c.args.uid (rw c.self.view_is c.requires.doing) c.take_victim.new.self c.take_victim.ensures
-    c.look.ensures.kept c.look.ensures.counted
+    c.promise.ensures.kept c.promise.ensures.counted

@@ -12,11 +12,11 @@ evict-f-requires g c =
     search rules
 
 pub returns : goal.returns
-returns g c = rw (← c.self.view_is) (evict_turn _ _ _ _ c.args.c c.evict-f.result
+returns g c = rw (← c.self.view_is) (evict_turn _ _ _ _ _ c.args.c c.evict-f.result
     (evict_doing _ c.args.c c.self.invariant (rw c.self.view_is c.requires.there) (rw c.self.view_is c.requires.doing)
     c.evict-f.result c.evict-f.ensures.choice) c.evict-f.ensures.effect)
 
 pub invariant_of-self : goal.invariant_of-self
 invariant_of-self g c = evict_sound _ c.args.c c.self.invariant (rw c.self.view_is c.requires.there)
     (rw c.self.view_is c.requires.doing) c.evict-f.result c.evict-f.ensures.choice _ c.evict-f.ensures.effect
-    c.look.ensures.kept c.look.ensures.counted
+    c.promise.ensures.kept c.promise.ensures.counted

@@ -10,7 +10,7 @@ fill_page-requires-clause-new g c = page_not_held _ c.args.c c.self.invariant (r
     c.args.frame c.args.reference (rw c.self.view_is c.requires.doing)
 
 pub returns : goal.returns
-returns g c = turned c.self.view_is c.requires (λ m. fill_page_turn _ _ _ _ _ _ _ m.doing c.fill_page.ensures)
+returns g c = turned c.self.view_is c.requires (λ m. fill_page_turn _ _ _ _ _ _ _ _ m.doing c.fill_page.ensures)
 
 pub invariant_of-self : goal.invariant_of-self
 unfolding after

@@ -19,7 +19,7 @@ fill_seg-requires-clause-new g c = seg_not_held _ c.args.c c.self.invariant (rw 
     c.args.number (rw c.self.view_is c.requires.doing)
 
 pub returns : goal.returns
-returns g c = turned c.self.view_is c.requires (λ m. fill_seg_turn _ _ _ _ _ _ m.doing c.fill_seg.ensures)
+returns g c = turned c.self.view_is c.requires (λ m. fill_seg_turn _ _ _ _ _ _ _ m.doing c.fill_seg.ensures)
 
 pub invariant_of-self : goal.invariant_of-self
 unfolding after

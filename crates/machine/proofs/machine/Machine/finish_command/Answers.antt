@@ -1,13 +1,13 @@
-use Rattle.std.proofs.Common.{sym, ◌∙◌}
+use Rattle.std.proofs.Common.{sym, ◌∙◌, rules}
 use Rattle.machine_model.proofs.MachineRounds.{command_freed}
-use Rattle.machine.proofs.LoopCalls.{gauge_falls, gone_on, gone_self, way_begins, way_ends, way_goes}
+use Rattle.machine.proofs.LoopCalls.{gauge_falls, gone_on, gone_planned, gone_self, running_planned, stalled_on, way_begins, way_ends, way_goes}
 use Rattle.machine.proofs.machine.Machine.finish_command.Goals as goal
 
 pub loop-self-init : goal.loop-self-init
 loop-self-init g c = record {
-  gone = gone_self g.D.Drive.plan g.D.Drive.places c.args.self.now;
+  gone = gone_self g.D.Drive.plan g.D.Drive.places g.D.Drive.faults c.args.self.now;
   free = c.requires.free;
-  way = way_begins c.args.self.now.state c.args.c c.count-since.result c.look.ensures.kept c.requires.runs
+  way = way_begins c.args.self.now.state c.args.c c.count-since.result c.promise.ensures c.requires.runs
       c.count-since.ensures;
 }
 
@@ -17,7 +17,7 @@ loop-self-smaller g c = gauge_falls c.loop-self.self.state c.command_turn.new.se
 
 pub loop-self-preserved : goal.loop-self-preserved
 loop-self-preserved g c = record {
-  gone = gone_on g.D.Drive.plan g.D.Drive.places c.args.self.now c.loop-self.self c.command_turn.new.self
+  gone = gone_on g.D.Drive.plan g.D.Drive.places g.D.Drive.faults c.args.self.now c.loop-self.self c.command_turn.new.self
       c.loop-self.invariant.gone c.in_ok-command_turn.ensures.gone;
   free = command_freed c.loop-self.self.state c.command_turn.new.self.state c.args.c
       c.in_ok-command_turn.ensures.done;
@@ -30,3 +30,15 @@ pub returns-clause-done : goal.returns-clause-done
 returns-clause-done g c = way_ends c.args.self.now.state c.loop-self.self.state c.args.c c.count-since.result
     c.is_still_at.ensures.kept c.loop-self.invariant.free c.loop-self.invariant.way
     (sym c.is_still_at.ensures.is ∙ c.loop-self-test.false)
+
+pub returns-in_err-command_turn-clause-stalled : goal.returns-in_err-command_turn-clause-stalled
+returns-in_err-command_turn-clause-stalled g c =
+    let stalled = stalled_on g.D.Drive.plan g.D.Drive.places g.D.Drive.faults
+    c.args.self.now c.loop-self.self c.command_turn.new.self c.loop-self.invariant.gone
+    c.in_err-command_turn.ensures.stalled in
+    search (rules, stalled)
+
+pub is_still_at-requires : goal.is_still_at-requires
+is_still_at-requires g c = gone_planned g.D.Drive.plan g.D.Drive.places g.D.Drive.faults c.args.self.now
+    c.loop-self.self c.args.c c.loop-self.invariant.gone
+    (running_planned c.args.self.now.state c.args.c c.promise.ensures c.requires.runs)

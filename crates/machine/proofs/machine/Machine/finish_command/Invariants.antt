@@ -7,7 +7,7 @@ use Rattle.machine.proofs.machine.Machine.finish_command.Given as goal
 
 abbrev pub invariant-loop-self : goal.invariant-loop-self
 invariant-loop-self g l = record {
-  gone : HasGone g.D.Drive.plan g.D.Drive.places l.fn.self l.self;
+  gone : HasGone g.D.Drive.plan g.D.Drive.places g.D.Drive.faults l.fn.self l.self;
   free : l.self.state.owner ≡ None;
   way : IsOnWay l.fn.self.state l.self.state l.c l.since;
 }

@@ -15,12 +15,12 @@ finish_page-gone-requires-clause-failing g c = may_fail _ c.args.c c.self.invari
     (rw c.self.view_is c.requires.doing)) (rw c.self.view_is c.requires.room)
 
 pub returns : goal.returns
-returns g c = rw (← c.self.view_is) (page_turn _ _ _ c.finish_page-gone.new.self c.args.c _ c.args.frame _
+returns g c = rw (← c.self.view_is) (page_turn _ _ _ _ c.finish_page-gone.new.self c.args.c c.args.frame
     c.finish_page-gone.result (rw c.self.view_is c.requires.doing) (page_after _ c.args.c c.self.invariant
     (rw c.self.view_is c.requires.there)
     c.args.frame c.finish_page-gone.result c.finish_page-gone.new.self c.finish_page-gone.ensures.state)
-    c.finish_page-gone.ensures.drives (call_counts _ _ _ _ _ _ c.finish_page-gone.result _ _
-    c.finish_page-gone.ensures.drives c.look.ensures.faults c.look-2.ensures.faults)
+    c.finish_page-gone.ensures.drives c.finish_page-gone.ensures.no_call (call_counts _ _ _ _ _ _ c.finish_page-gone.result _ _
+    c.finish_page-gone.ensures.drives c.promise.ensures.faults c.promise-2.ensures.faults)
     c.finish_page-gone.ensures.room)
 
 pub invariant_of-self : goal.invariant_of-self
@@ -29,9 +29,9 @@ invariant_of-self g c = page_sound _ c.args.c c.self.invariant (rw c.self.view_i
     c.finish_page-gone.ensures.state
     c.finish_page-gone.ensures.how c.finish_page-gone.ensures.shown (call_counts _ _ _ _ _ _ c.finish_page-gone.result
     _ _
-    c.finish_page-gone.ensures.drives c.look.ensures.faults c.look-2.ensures.faults)
+    c.finish_page-gone.ensures.drives c.promise.ensures.faults c.promise-2.ensures.faults)
     c.finish_page-gone.ensures.room (record {
-      kept = c.look-2.ensures.kept;
-      counted = c.look-2.ensures.counted;
-      accounts = c.look-2.ensures.accounts;
+      kept = c.promise-2.ensures.kept;
+      counted = c.promise-2.ensures.counted;
+      accounts = c.promise-2.ensures.accounts;
     })

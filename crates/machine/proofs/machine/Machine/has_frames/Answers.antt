@@ -26,7 +26,7 @@ returns-clause-zeros g c =
     (subst HaveFullPages (ap (λ (x : Paging g.row.D.Denot). x.frames) pages
     ∙ ap (λ (st : Storage). st.pages.frames) c.store.ensures.store) c.frames-frames.ensures.full)
     (subst (All HaveFullPages) (drives ∙ ap (λ (st : Storage). st.pages.disks) c.store.ensures.store)
-    (All-map HaveFullPages g.D.Drive.pages _ c.count-count.ensures.full))
+    (All-map HaveFullPages g.D.Drive.pages _ c.promise.ensures.full))
     (all_visited c.self.inside.tables.state c.self.invariant.visits
     (let visited = c.visited.ensures in let frames = c.frames.ensures in let script = c.script.ensures in
     let book = c.book.ensures.script in cc)))

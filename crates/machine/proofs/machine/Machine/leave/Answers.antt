@@ -14,7 +14,7 @@ leave-requires-clause-ready g c = ready_room _ c.args.c c.self.invariant c.busy-
     (rw c.self.view_is c.busy-process.ensures)
 
 pub returns : goal.returns
-returns g c = turned c.self.view_is c.requires (λ m. leave_turn _ _ _ _ _ m.doing c.leave.ensures)
+returns g c = turned c.self.view_is c.requires (λ m. leave_turn _ _ _ _ _ _ m.doing c.leave.ensures)
 
 pub invariant_of-self : goal.invariant_of-self
 unfolding after

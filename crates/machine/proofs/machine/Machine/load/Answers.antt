@@ -5,7 +5,7 @@ use Rattle.machine.proofs.StepDone.{load_turn, turned}
 use Rattle.machine.proofs.machine.Machine.load.Goals as goal
 
 pub returns : goal.returns
-returns g c = turned c.self.view_is c.requires (λ m. load_turn _ _ _ _ _ _ m.doing c.load.ensures)
+returns g c = turned c.self.view_is c.requires (λ m. load_turn _ _ _ _ _ _ _ m.doing c.load.ensures)
 
 pub invariant_of-self : goal.invariant_of-self
 unfolding after

@@ -5,7 +5,7 @@ use Rattle.machine.proofs.StepDone.{signal_turn, turned}
 use Rattle.machine.proofs.machine.Machine.signal.Goals as goal
 
 pub returns : goal.returns
-returns g c = turned c.self.view_is c.requires (λ m. signal_turn _ _ _ _ _ _ m.doing c.signal.ensures)
+returns g c = turned c.self.view_is c.requires (λ m. signal_turn _ _ _ _ _ _ _ m.doing c.signal.ensures)
 
 pub invariant_of-self : goal.invariant_of-self
 unfolding after

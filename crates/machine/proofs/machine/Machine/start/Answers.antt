@@ -13,10 +13,10 @@ start-requires g c =
     search rules
 
 pub returns : goal.returns
-returns g c = rw (← c.self.view_is) (start_turn _ _ _ _ c.args.c c.args.f c.args.uid c.args.p
+returns g c = rw (← c.self.view_is) (start_turn _ _ _ _ _ c.args.c c.args.f c.args.uid c.args.p
     (rw c.self.view_is c.requires.doing) c.start.ensures)
 
 pub invariant_of-self : goal.invariant_of-self
 invariant_of-self g c = start_sound _ c.args.c c.self.invariant (rw c.self.view_is c.requires.there) c.args.f
-    c.args.uid c.args.p (rw c.self.view_is c.requires.doing) _ c.start.ensures c.look.ensures.kept
-    c.look.ensures.counted
+    c.args.uid c.args.p (rw c.self.view_is c.requires.doing) _ c.start.ensures c.promise.ensures.kept
+    c.promise.ensures.counted

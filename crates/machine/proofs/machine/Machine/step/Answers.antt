@@ -16,10 +16,9 @@ returns g c =
     let there = processor_there c.args.self.now c.args.c sound c.requires.processor in
     record {
       turn = c.act-turn.ensures;
-      entries = step_appends _ _ c.args.self.now _ c.args.c _ sound there c.act-turn.ensures;
-      kept = step_keeps _ _ c.args.self.now _ c.args.c _ sound there c.act-turn.ensures;
-      moved = step_changes _ _ c.args.self.now _ c.args.c _ sound there c.act-turn.ensures;
+      entries = step_appends _ _ _ c.args.self.now _ c.args.c _ sound there c.act-turn.ensures;
+      kept = step_keeps _ _ _ c.args.self.now _ c.args.c _ sound there c.act-turn.ensures;
+      moved = step_changes _ _ _ c.args.self.now _ c.args.c _ sound there c.act-turn.ensures;
       still = c.act-turn.ensures.still;
-      faults = step_faults _ _ c.args.self.now _ c.args.c _ sound there c.act-turn.ensures _
-          (rw (← c.self.view_is) c.look.ensures.faults) (rw (← c.self-2.view_is) c.look-2.ensures.faults);
+      faults = step_faults _ _ _ c.args.self.now _ c.args.c _ sound there c.act-turn.ensures;
     }

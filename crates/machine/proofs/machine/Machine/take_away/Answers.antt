@@ -20,11 +20,11 @@ take_away-requires g c =
     search rules
 
 pub returns : goal.returns
-returns g c = rw (← c.self.view_is) (take_away_turn _ _ _ c.take_away.new.self c.args.c c.busy-process.result
+returns g c = rw (← c.self.view_is) (take_away_turn _ _ _ _ c.take_away.new.self c.args.c c.busy-process.result
     (take_doing _ c.args.c c.self.invariant (rw c.self.view_is c.requires.there) c.busy-process.result
     (rw c.self.view_is c.busy-process.ensures) (rw c.self.view_is c.requires.doing)) c.take_away.ensures)
 
 pub invariant_of-self : goal.invariant_of-self
 invariant_of-self g c = take_sound _ c.args.c c.self.invariant (rw c.self.view_is c.requires.there)
     c.busy-process.result (rw c.self.view_is c.busy-process.ensures) (rw c.self.view_is c.requires.doing)
-    c.take_away.new.self c.take_away.ensures c.look.ensures.kept c.look.ensures.counted
+    c.take_away.new.self c.take_away.ensures c.promise.ensures.kept c.promise.ensures.counted

@@ -16,7 +16,7 @@ pub tell-requires-clause-ready : goal.tell-requires-clause-ready
 tell-requires-clause-ready g c = rw c.reach-word.ensures.effect (rw c.self.view_is c.to_answer-process.ensures.ready)
 
 pub returns : goal.returns
-returns g c = rw (← c.self.view_is) (through_turn _ _ _ _ c.args.c c.args.frame c.to_answer-process.result
+returns g c = rw (← c.self.view_is) (through_turn _ _ _ _ _ c.args.c c.args.frame c.to_answer-process.result
     c.args.reference
     (rw c.self.view_is c.to_answer-process.ensures.process) (rw c.self.view_is c.requires.doing)
     (through_done _ c.args.c c.self.invariant (rw c.self.view_is c.requires.there) c.args.frame c.args.reference
@@ -31,7 +31,7 @@ invariant_of-self g c = through_sound _ c.args.c c.self.invariant (rw c.self.vie
     (rw c.self.view_is c.to_answer-process.ensures.process) _ _ c.reach-word.result c.word_reply-reply.result
     c.reach-word.ensures.effect c.reach-word.ensures.word c.word_reply-reply.ensures c.tell.ensures
     c.reach-word.ensures.shown (record {
-      kept = c.look.ensures.kept;
-      counted = c.look.ensures.counted;
-      accounts = c.look.ensures.accounts;
+      kept = c.promise.ensures.kept;
+      counted = c.promise.ensures.counted;
+      accounts = c.promise.ensures.accounts;
     })

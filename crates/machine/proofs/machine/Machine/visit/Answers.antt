@@ -26,25 +26,26 @@ pub returns-clause-done : goal.returns-clause-done
 returns-clause-done g c = rw (← c.self.view_is) (visit_done _ c.self.invariant (rw c.self.view_is c.requires.over)
     c.visit-visited.result c.visit-visited.new.self (rw c.self.view_is c.requires.more) c.visit-visited.ensures.state
     c.visit-visited.ensures.shown c.visit-visited.ensures.zeros
-    (call_counts _ _ _ _ _ _ c.visit-visited.result _ _ c.visit-visited.ensures.drives c.look.ensures.faults
-    c.look-2.ensures.faults)
-    g.D.Drive.plan g.D.Drive.places g.D.Drive.faults _ c.visit-visited.ensures.drives c.visit-visited.ensures.room)
+    (call_counts _ _ _ _ _ _ c.visit-visited.result _ _ c.visit-visited.ensures.drives c.promise.ensures.faults
+    c.promise-2.ensures.faults)
+    g.D.Drive.plan g.D.Drive.places g.D.Drive.faults c.visit-visited.ensures.drives c.visit-visited.ensures.no_call
+    c.visit-visited.ensures.room)
 
 pub returns-clause-faults : goal.returns-clause-faults
 returns-clause-faults g c = visited_tells g.D.Drive.plan g.D.Drive.places g.D.Drive.faults _ _
-    (returns-clause-done g c) (rw (← c.self.view_is) c.look.ensures.faults) c.look-2.ensures.faults
+    (returns-clause-done g c)
 
 pub returns-clause-entries : goal.returns-clause-entries
-returns-clause-entries g c = visited_adds g.D.Drive.plan g.D.Drive.places _ _ (returns-clause-done g c)
+returns-clause-entries g c = visited_adds g.D.Drive.plan g.D.Drive.places g.D.Drive.faults _ _ (returns-clause-done g c)
 
 pub invariant_of-self : goal.invariant_of-self
 invariant_of-self g c = visit_sound _ c.self.invariant (rw c.self.view_is c.requires.over) c.visit-visited.result
     c.visit-visited.new.self (rw c.self.view_is c.requires.more) c.visit-visited.ensures.state
     c.visit-visited.ensures.shown c.visit-visited.ensures.zeros
-    (call_counts _ _ _ _ _ _ c.visit-visited.result _ _ c.visit-visited.ensures.drives c.look.ensures.faults
-    c.look-2.ensures.faults)
+    (call_counts _ _ _ _ _ _ c.visit-visited.result _ _ c.visit-visited.ensures.drives c.promise.ensures.faults
+    c.promise-2.ensures.faults)
     c.visit-visited.ensures.room (record {
-      kept = c.look-2.ensures.kept;
-      counted = c.look-2.ensures.counted;
-      accounts = c.look-2.ensures.accounts;
+      kept = c.promise-2.ensures.kept;
+      counted = c.promise-2.ensures.counted;
+      accounts = c.promise-2.ensures.accounts;
     })

@@ -11,19 +11,19 @@ returns-clause-sizes g c = rw (← c.self.view_is) (drive_size g.D.Drive.pages c
     c.self.inside.tables.state.plan c.self.inside.tables.state.store.pages.records
     c.self.inside.tables.state.store.pages.vtocs c.self.invariant.keeps.machine.keeps.faithful.script.records
     (rw (← c.volumes-volumes.ensures.drives, ← c.volumes-volumes.ensures.records, ← c.volumes-volumes.ensures.vtocs)
-    c.count-count.ensures.parts))
+    c.promise.ensures.parts))
 
 pub returns-clause-on_disk : goal.returns-clause-on_disk
 returns-clause-on_disk g c = rw (← c.self.view_is) (on_volumes c.self.inside.tables.state
     c.self.invariant.keeps.machine.keeps _ _ _
-    (ap (map g.D.Drive.pages) (c.volumes-volumes.ensures.drives ∙ sym c.store-store.ensures.drives)
-    ∙ ap (λ (st : Storage). st.pages.disks) c.store-store.ensures.store)
+    (ap (map g.D.Drive.pages) (c.volumes-volumes.ensures.drives ∙ sym c.store.ensures.drives)
+    ∙ ap (λ (st : Storage). st.pages.disks) c.store.ensures.store)
     c.volumes-volumes.ensures.records c.volumes-volumes.ensures.vtocs)
 
 pub returns-clause-count : goal.returns-clause-count
 returns-clause-count g c = rw (← c.self.view_is) (sym (length-map _ g.D.Drive.pages)
-    ∙ (ap length (ap (map g.D.Drive.pages) (c.volumes-volumes.ensures.drives ∙ sym c.store-store.ensures.drives)
-    ∙ ap (λ (st : Storage). st.pages.disks) c.store-store.ensures.store) ∙ c.self.invariant.drives))
+    ∙ (ap length (ap (map g.D.Drive.pages) (c.volumes-volumes.ensures.drives ∙ sym c.store.ensures.drives)
+    ∙ ap (λ (st : Storage). st.pages.disks) c.store.ensures.store) ∙ c.self.invariant.drives))
 
 pub returns-clause-taken : goal.returns-clause-taken
 returns-clause-taken g c = rw (← c.self.view_is) (records_taken c.self.inside.tables.state
