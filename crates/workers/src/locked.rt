@@ -1,6 +1,7 @@
 //! What the lock round a machine holds.
 
 ghost use Rattle.std.specs.Prelude.{◌≡◌, ◌<◌, map};
+ghost use Rattle.workers.specs.Holds.{IsHold};
 
 use machine::{Machine, Turn};
 use std::marker::PhantomData;
@@ -58,10 +59,11 @@ impl<N: Run, D: Drive> Locked<N, D> {
         machine
     }
 
-    /// One hold of the lock: room for what a step may append to the book, and a step of processor `cpu`. A machine that
-    /// is refused the room is stopped.
+    /// One hold of the lock: room for what a step may append to the book, and one step of processor `cpu`, which is
+    /// answered so. A machine that is refused the room is stopped, and nothing else is done then.
     pub(crate) fn turn(&mut self, cpu: u32) -> Turn
         requires { cpu < N.cpus }
+        ensures { IsHold D.plan D.places self.old.machine self.new.machine cpu result }
     {
         match self.machine.reserve() {
             Ok(()) => self.machine.step(cpu),
