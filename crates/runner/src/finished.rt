@@ -1,3 +1,7 @@
+ghost use Rattle.std.specs.Prelude.{◌≡◌};
+ghost use Rattle.book_check.specs.declared.offences.Offence.{Offence};
+ghost use Rattle.script.specs.declared.refusals.Refusal.{Refusal};
+
 use book_check::Offence;
 use bulk_store::AnyDrive;
 use machine::Machine;
@@ -22,6 +26,30 @@ pub enum Status {
     Memory,
     /// A line of the listing is at fault, and breaks a rule.
     Refused(Offence),
+}
+
+impl Status {
+    /// The number that the program ends with. (Source: own.)
+    pub fn number(self) -> u8
+        ensures done { self ≡ Status.Done → result ≡ 0 }
+        ensures script { (r : Refusal) → self ≡ Status.Script r → result ≡ 1 }
+        ensures too_long { self ≡ Status.TooLong → result ≡ 1 }
+        ensures usage { self ≡ Status.Usage → result ≡ 2 }
+        ensures read_fault { self ≡ Status.ReadFault → result ≡ 3 }
+        ensures write_fault { self ≡ Status.WriteFault → result ≡ 4 }
+        ensures memory { self ≡ Status.Memory → result ≡ 5 }
+        ensures refused { (o : Offence) → self ≡ Status.Refused o → result ≡ 6 }
+    {
+        match self {
+            Status::Done => 0,
+            Status::Script(_) | Status::TooLong => 1,
+            Status::Usage => 2,
+            Status::ReadFault => 3,
+            Status::WriteFault => 4,
+            Status::Memory => 5,
+            Status::Refused(_) => 6,
+        }
+    }
 }
 
 /// What a call leaves.

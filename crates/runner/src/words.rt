@@ -1,22 +1,22 @@
-ghost use Rattle.std.specs.Prelude.{◌≡◌, ◌≤◌, map, string_bytes, IfSome};
+ghost use Rattle.std.specs.Prelude.{◌≡◌, ◌≤◌, map, IfSome};
 ghost use Rattle.script.specs.Fields.{number_of};
 ghost use Rattle.runner.specs.Words.{form_of, within, IsInRange};
 
 use script::read_number;
 use std::marker::Model;
 
-/// The program's arguments, without its name. A contract sees the list of their bytes.
+/// The program's arguments, without its name, which need not be text. A contract sees the list of their bytes.
 #[derive(Drop)]
 pub struct Words {
-    texts: Vec<String>,
+    words: Vec<Vec<u8>>,
 }
 
 impl Model for Words {
-    ghost use Rattle.std.specs.Prelude.{List, ℕ, map, string_bytes};
+    ghost use Rattle.std.specs.Prelude.{List, ℕ, map};
 
     ghost Value = { List (List ℕ) };
 
-    ghost view = { λ w. map string_bytes w.texts.items };
+    ghost view = { λ w. map (λ word. word.items) w.words.items };
 }
 
 /// What the words ask the program for.
@@ -38,21 +38,21 @@ pub enum Form {
     },
 }
 
-/// The number that a text is, where it is from low to high.
-fn number_within(text: &str, low: u32, high: u32) -> Option<u32>
-    ensures number { result ≡ within low high (number_of (text.now)) }
+/// The number that a word is, where it is from low to high.
+fn number_within(word: &[u8], low: u32, high: u32) -> Option<u32>
+    ensures number { result ≡ within low high (number_of word.now) }
     ensures low { IfSome result (λ n. low ≤ n) }
     ensures high { IfSome result (λ n. n ≤ high) }
 {
-    read_number(text.as_bytes()).filter(|number| low <= *number && *number <= high)
+    read_number(word).filter(|number| low <= *number && *number <= high)
 }
 
 impl Words {
-    /// The arguments of these texts.
-    pub fn new(texts: Vec<String>) -> Words
-        ensures { result ≡ map string_bytes texts.items }
+    /// The arguments of these bytes.
+    pub fn new(words: Vec<Vec<u8>>) -> Words
+        ensures { result ≡ map (λ word. word.items) words.items }
     {
-        Words { texts }
+        Words { words }
     }
 
     /// What they ask for. `None` where they are no form of the program.
@@ -61,18 +61,18 @@ impl Words {
         ensures form { result ≡ form_of self.now }
         ensures ranges { IfSome result IsInRange }
     {
-        match self.texts.as_slice() {
-            [word] if word.as_bytes() == b"run".as_slice() => Some(Form::Run),
-            [word] if word.as_bytes() == b"check".as_slice() => Some(Form::Check),
-            [word, number] if word.as_bytes() == b"make".as_slice() => {
-                Some(Form::Make(read_number(number.as_bytes())?))
+        match self.words.as_slice() {
+            [word] if word.as_slice() == b"run".as_slice() => Some(Form::Run),
+            [word] if word.as_slice() == b"check".as_slice() => Some(Form::Check),
+            [word, number] if word.as_slice() == b"make".as_slice() => {
+                Some(Form::Make(read_number(number)?))
             }
-            [word, processors, frames, adds, seed] if word.as_bytes() == b"drill".as_slice() => {
+            [word, processors, frames, adds, seed] if word.as_slice() == b"drill".as_slice() => {
                 Some(Form::Drill {
                     processors: number_within(processors, 1, 8)?,
                     frames: number_within(frames, 4, 64)?,
                     adds: number_within(adds, 1, 10_000)?,
-                    seed: read_number(seed.as_bytes())?,
+                    seed: read_number(seed)?,
                 })
             }
             _ => None,

@@ -100,11 +100,11 @@ impl<'a> Asked<'a> {
 
     /// The program's words.
     pub(crate) fn words(&self, alloc: Global) -> Result<Words, AllocError> {
-        let mut texts = Vec::new(alloc);
+        let mut words = Vec::new(alloc);
         for word in self.words.split('[').skip(1) {
-            texts.push(String::from_str(alloc, word.trim_end_matches("] "))?)?;
+            words.push(word.trim_end_matches("] ").as_bytes().to_vec(alloc)?)?;
         }
-        Ok(Words::new(texts))
+        Ok(Words::new(words))
     }
 
     /// The lines of a text that are to be printed.
