@@ -11,18 +11,22 @@
 //! - `room N M` has room for N bytes that are written, and the Mth write fails, or none where M is 0;
 //! - `day N` has the script of the day of N for its input;
 //! - `hold` holds two processors at certain points, and tells whether each hold took place;
+//! - `turns N` holds N processors so that they go in turn, and tells whether they did;
 //! - `times N` runs the program N times, and each run must give the same.
 //!
 //! Without `times` and `reads` the program runs with the input in one piece, in pieces of 1 byte and in pieces of 7.
 //! Behind what a run wrote stands what is told of its book: the pages that the root is charged for, which `times`
 //! leaves out, and `accepted and listed` where the flat store and custody accept each entry, each process has ended, no
-//! stored page is all zeros, and the text is the listing of the book. Each reference that is answered through a frame
-//! must have passed the gate between two steps once.
+//! stored page is all zeros, and the text is the listing of the book. Each processor must have passed the gate after
+//! each of its steps that the book tells: once where it came online, loaded a process, had a reference answered through
+//! a frame, or signalled, in that order; and all together as often as the entries need steps at the least.
 
 mod answers;
 mod asking;
 mod books;
 mod gates;
 mod groups;
+mod lockstep;
+mod passes;
 
 pub(crate) use groups::given;

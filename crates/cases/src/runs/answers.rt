@@ -75,7 +75,7 @@ fn call_text<R: Threads + Wait + Sync + AllocGlobal>(
     source: &mut MemorySource,
     sink: &mut MemorySink,
 ) -> Result<String, NoMemory> {
-    let gate = RunGate::new(asked.hold);
+    let gate = RunGate::new(rt.alloc(), asked);
     let finished = multics(rt, rt.alloc(), words, source, sink, &gate);
     told(rt, asked, &finished, sink.bytes(), &gate)
 }

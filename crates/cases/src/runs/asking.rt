@@ -14,6 +14,16 @@ fn two_numbers(text: &str) -> (u32, u32) {
     (first.parse().unwrap_or(0), second.parse().unwrap_or(0))
 }
 
+/// Which processors the gate of a run holds.
+#[derive(Clone, Copy)]
+pub(crate) enum Holding {
+    Nobody,
+    /// Two, at certain points.
+    Two,
+    /// So many, which go in turn.
+    Turns(u32),
+}
+
 /// What a case asks.
 #[derive(Clone, Copy)]
 pub(crate) struct Asked<'a> {
@@ -35,8 +45,8 @@ pub(crate) struct Asked<'a> {
     pub(crate) failing_write: u32,
     /// The number of the day whose script is the input, if it is one.
     pub(crate) day: Option<u32>,
-    /// Whether two processors are held at certain points.
-    pub(crate) hold: bool,
+    /// Which processors are held.
+    pub(crate) holding: Holding,
     /// How often the program runs on the input, all of it in one piece; 0 for once in pieces of each size.
     pub(crate) times: u32,
 }
@@ -55,7 +65,7 @@ impl<'a> Asked<'a> {
             room: WIDE,
             failing_write: 0,
             day: None,
-            hold: false,
+            holding: Holding::Nobody,
             times: 0,
         };
         for option in rest.split(';') {
@@ -72,7 +82,8 @@ impl<'a> Asked<'a> {
             "words" => self.places = rest,
             "calls" => self.calls = true,
             "day" => self.day = rest.parse().ok(),
-            "hold" => self.hold = true,
+            "hold" => self.holding = Holding::Two,
+            "turns" => self.holding = Holding::Turns(rest.parse().unwrap_or(0)),
             "unread" => self.failing_read = 1,
             "reads" => (self.pieces, self.failing_read) = two_numbers(rest),
             "room" => (self.room, self.failing_write) = two_numbers(rest),

@@ -1,84 +1,91 @@
 //! The gate that the processors of a run pass.
 
-use book::{Book, Entry};
+use crate::runs::asking::{Asked, Holding};
+use crate::runs::lockstep::Lockstep;
+use crate::runs::passes::{Pass, Passes, told_in};
+use book::Book;
 use bulk_store::AnyDrive;
 use machine::Machine;
 use no_memory::NoMemory;
 use site_io::{Gate, HoldGate, Point};
+use std::alloc::Global;
 use std::sync::{Mutex, Wait};
 use std::thread::Threads;
 
-/// A gate that counts the references that were answered through a frame, and holds two processors where that is asked.
+/// Whom a gate holds.
+#[derive(Drop)]
+enum Holds {
+    /// It lets each processor pass at once.
+    Nobody,
+    /// Two processors at certain points.
+    Two(HoldGate),
+    /// All processors, which go in turn.
+    Turns(Lockstep),
+}
+
+/// A gate that notes who passes, and holds processors where that is asked.
 #[derive(Drop)]
 pub(crate) struct RunGate {
-    answered: Mutex<u64>,
-    hold: Option<HoldGate>,
+    passes: Mutex<Passes>,
+    holds: Holds,
 }
 
 impl Gate for RunGate {
     fn hold<R: Threads + Wait + Sync>(&self, rt: &R, cpu: u32, point: Point) {
-        if matches!(point, Point::Answered(_)) {
-            let mut answered = self.answered.lock(rt);
-            *answered = answered.saturating_add(1);
-        }
-        if let Some(gate) = &self.hold {
-            gate.hold(rt, cpu, point);
-        }
-    }
-}
-
-/// Whether an entry answers a reference through a frame.
-fn is_framed(entry: &Entry) -> bool {
-    matches!(entry, Entry::Do { frame: Some(_), .. })
-}
-
-/// How many references a book answers through a frame.
-fn framed_in(book: &Book) -> u64 {
-    let mut count: u64 = 0;
-    for entry in book.entries() {
-        if is_framed(entry) {
-            count = count.saturating_add(1);
+        self.passes.lock(rt).note(Pass { cpu, point });
+        match &self.holds {
+            Holds::Nobody => (),
+            Holds::Two(gate) => gate.hold(rt, cpu, point),
+            Holds::Turns(gate) => gate.hold(rt, cpu, point),
         }
     }
-    count
 }
 
 impl RunGate {
-    /// A gate to which nobody has come, and which holds processors or lets each pass at once.
-    pub(crate) fn new(holds: bool) -> RunGate {
+    /// A gate to which nobody has come, and which holds the processors that are asked for.
+    pub(crate) fn new(alloc: Global, asked: &Asked) -> RunGate {
         RunGate {
-            answered: Mutex::new(0),
-            hold: holds.then(HoldGate::new),
+            passes: Mutex::new(Passes::new(alloc)),
+            holds: match asked.holding {
+                Holding::Nobody => Holds::Nobody,
+                Holding::Two => Holds::Two(HoldGate::new()),
+                Holding::Turns(processors) => Holds::Turns(Lockstep::new(processors)),
+            },
         }
     }
 
-    /// Whether each hold took place, where processors are held.
-    fn held_text<R: Threads + Wait + Sync>(&self, rt: &R) -> &'static str {
-        match &self.hold {
-            Some(gate) if gate.passed(rt) => "held\n",
-            Some(_) => "not held\n",
-            None => "",
+    /// Whether each hold took place, or the processors went in turn, where that is asked.
+    fn held_text<R: Threads + Wait + Sync>(&self, rt: &R, told: &[Pass]) -> &'static str {
+        match &self.holds {
+            Holds::Nobody => "",
+            Holds::Two(gate) if gate.passed(rt) => "held\n",
+            Holds::Two(_) => "not held\n",
+            Holds::Turns(gate) => gate.text(rt, told),
         }
     }
 
-    /// What is told of the gate after a run: whether each hold took place, and how often the gate was passed, where the
-    /// machine has a book that answers more or fewer references through a frame.
+    /// What is told of the gate after a run that left this book: whether each hold took place, and what is wrong with
+    /// the passes.
+    fn text_of<R: Threads + Wait + Sync + AllocGlobal>(
+        &self,
+        rt: &R,
+        book: &Book,
+    ) -> Result<String, NoMemory> {
+        let told = told_in(rt.alloc(), book)?;
+        let held = self.held_text(rt, told.as_slice());
+        let wrong = self.passes.lock(rt).text(rt.alloc(), book)?;
+        Ok(format!(in rt.alloc(); "{held}{wrong}")?)
+    }
+
+    /// The same of a run that left this machine, and nothing where it left none.
     pub(crate) fn text<R: Threads + Wait + Sync + AllocGlobal>(
         &self,
         rt: &R,
         machine: &Option<Machine<AnyDrive>>,
     ) -> Result<String, NoMemory> {
-        let held = self.held_text(rt);
-        let passed = *self.answered.lock(rt);
-        let framed = match machine {
-            Some(machine) => framed_in(machine.book()),
-            None => passed,
-        };
-        if passed == framed {
-            return Ok(String::from_str(rt.alloc(), held)?);
+        match machine {
+            Some(machine) => self.text_of(rt, machine.book()),
+            None => Ok(String::new(rt.alloc())),
         }
-        Ok(format!(in rt.alloc();
-            "{held}the gate was passed {passed} times, for {framed} references\n"
-        )?)
     }
 }
