@@ -2,19 +2,21 @@
 use Rattle.std.proofs.Common.{◌≡◌, ℕ, ◌<◌, ◌≤◌, ◌⊎◌, inl, inr, List, length, Option, Some, None, Result}
 use Rattle.std.proofs.Common.{Ok, Err, IfSome, refl, sym, ap, subst, ◌∙◌, arith}
 use Rattle.std.specs.Prelude.{IsSomeAnd}
-use Rattle.std.specs.Io.KnownBytes.{Appends}
-use Rattle.site_io.specs.Streams.{AppendsFront}
 use Rattle.script.specs.Grammar.{script_of}
 use Rattle.script.specs.Plans.{Plan}
 use Rattle.script.specs.declared.refusals.Refusal.{Refusal}
 use Rattle.listing.specs.Listings.{listing_of}
+use Rattle.make_work.specs.Day.{made}
+use Rattle.drill.specs.Texts.{drill_text}
 use Rattle.book_check.specs.Closing.{IsTheVerdict}
 use Rattle.book_check.specs.Verdicts.{IsVerdict}
 use Rattle.book_check.specs.declared.offences.CheckFault.{CheckFault}
 use Rattle.book_check.specs.declared.offences.CheckFault.TheVariants as fault
-use Rattle.runner.specs.Endings.{Change, Ends, EndsSo, Failed, HasPrinted, IsJudgedSo, IsStatusOf, Prints, Runs}
-use Rattle.runner.specs.Endings.{WritesAll, WritesFront}
+use Rattle.book_check.specs.declared.offences.Offence.{Offence}
+use Rattle.runner.specs.Endings.{Change, Ends, EndsSo, Failed, HasPrinted, IsJudgedSo, IsReading, IsRefused, IsStatusOf}
+use Rattle.runner.specs.Endings.{Printed, Runs, Says, WritesAll, WritesFront, limit_of}
 use Rattle.runner.specs.Runs.{IsShutDown, Machine}
+use Rattle.runner.specs.Texts.{accepted_text}
 use Rattle.runner.specs.declared.finished.Finished.{Finished}
 use Rattle.runner.specs.declared.finished.Status.{Status}
 use Rattle.runner.specs.declared.finished.Status.TheVariants as status
@@ -44,9 +46,27 @@ usage_there asked src out f h e = only_usage f.status src out f.machine
     (subst (λ (x : Option Form). EndsSo f.status x src out f.machine) e h.so)
 
 -- of a refusal the bytes alone
-pub fact_only : (left : Option (List ℕ)) (P Q : List ℕ → Type 0) → IfSome left (λ all. P all × Q all) → IfSome left Q
+fact_only : (left : Option (List ℕ)) (P Q : List ℕ → Type 0) → IfSome left (λ all. P all × Q all) → IfSome left Q
 fact_only None P Q h = tt
 fact_only (Some all) P Q h = h.1
+
+-- the script was refused so, of a form that reads one
+pub refused_so : (asked : Option Form) (src out : Change) (f : Finished) (r : Refusal) → Ends asked src out f
+    → f.status ≡ status.Script r → IsReading asked × IfSome src.before (λ bytes. IsRefused asked bytes r)
+refused_so asked src out f r h e =
+    let so = ended asked src out f (status.Script r) h e in
+    (so.0, fact_only src.before (λ bytes. length bytes ≤ limit_of asked) (λ bytes. IsRefused asked bytes r) so.1)
+
+-- a line of the listing is at fault, of `check`
+pub offence_so : (asked : Option Form) (src out : Change) (f : Finished) (o : Offence) → Ends asked src out f
+    → f.status ≡ status.Refused o
+    → (asked ≡ Some form.Check) × IfSome src.before (λ bytes. IsTheVerdict bytes (Err (fault.Refused o)))
+offence_so asked src out f o h e =
+    let so = ended asked src out f (status.Refused o) h e in (
+      so.0,
+      fact_only src.before (λ bytes. length bytes ≤ 134217728) (λ bytes. IsTheVerdict bytes (Err (fault.Refused o)))
+          so.1,
+    )
 
 -- of a machine that is there
 pub of_run : (src : Change) (machine : Option Machine) (P : Machine → Type 0) → ((m : Machine) → Runs src m → P m)
@@ -76,27 +96,61 @@ shut_down src out f asked Q get h run printed = each f.status printed
     each status.Memory p so = absurd p
     each (status.Refused o) p so = absurd p
 
-pub whole_only : (machine : Option Machine) (before after : Option (List ℕ))
-    → IsSomeAnd machine (λ m. IsShutDown m × Appends before after (listing_of m.state.plan m.state.entries))
-    → IsSomeAnd machine (λ m. Appends before after (listing_of m.state.plan m.state.entries))
-whole_only None before after h = h
-whole_only (Some m) before after h = h.1
+-- of a listing that was written, or a front of it, what was written
+listed : (machine : Option Machine) (P : List ℕ → Type 0)
+    → IsSomeAnd machine (λ m. IsShutDown m × P (listing_of m.state.plan m.state.entries))
+    → IsSomeAnd machine (λ m. P (listing_of m.state.plan m.state.entries))
+listed None P h = h
+listed (Some m) P h = h.1
 
-pub front_only : (machine : Option Machine) (out : Change)
-    → IsSomeAnd machine (λ m. IsShutDown m × WritesFront out (listing_of m.state.plan m.state.entries))
-    → IsSomeAnd machine (λ m. AppendsFront out.before out.after (listing_of m.state.plan m.state.entries))
-front_only None out h = h
-front_only (Some m) out h = h.1.front
+pub listed_so : (asked : Option Form) (src out : Change) (f : Finished) → Ends asked src out f → asked ≡ Some form.Run
+    → HasPrinted f.status
+    → IsSomeAnd f.machine (λ m. Printed f.status out (listing_of m.state.plan m.state.entries))
+listed_so asked src out f h run printed = each f.status printed
+    (subst (λ (x : Option Form). EndsSo f.status x src out f.machine) run h.so)
+  where
+    each : (s : Status) → HasPrinted s → EndsSo s (Some form.Run) src out f.machine
+        → IsSomeAnd f.machine (λ m. Printed s out (listing_of m.state.plan m.state.entries))
+    each status.Done p so = listed f.machine (WritesAll out) so
+    each status.WriteFault p so = listed f.machine (WritesFront out) so
+    each (status.Script r) p so = absurd p
+    each status.TooLong p so = absurd p
+    each status.Usage p so = absurd p
+    each status.ReadFault p so = absurd p
+    each status.Memory p so = absurd p
+    each (status.Refused o) p so = absurd p
 
--- a write failed
-pub write_failed : (asked : Option Form) (src : Change) (machine : Option Machine) (out : Change)
-    → Prints asked src machine (WritesFront out) → Failed out
-write_failed (Some form.Run) src (Some m) out h = h.1.fault
-write_failed (Some form.Run) src None out h = absurd h
-write_failed (Some form.Check) src machine out h = h.2.fault
-write_failed (Some (form.Make n)) src machine out h = h.fault
-write_failed (Some (form.Drill p f n seed)) src machine out h = h.fault
-write_failed None src machine out h = absurd h
+-- an input was accepted, and so it was written, or a front of that
+pub accepted_so : (asked : Option Form) (src out : Change) (f : Finished) → Ends asked src out f
+    → asked ≡ Some form.Check → HasPrinted f.status
+    → (entries : ℕ) × IsJudgedSo src (Ok entries) × Printed f.status out (accepted_text entries)
+accepted_so asked src out f h check printed = each f.status printed
+    (subst (λ (x : Option Form). EndsSo f.status x src out f.machine) check h.so)
+  where
+    each : (s : Status) → HasPrinted s → EndsSo s (Some form.Check) src out f.machine
+        → (entries : ℕ) × IsJudgedSo src (Ok entries) × Printed s out (accepted_text entries)
+    each status.Done p so = so
+    each status.WriteFault p so = so
+    each (status.Script r) p so = absurd p
+    each status.TooLong p so = absurd p
+    each status.Usage p so = absurd p
+    each status.ReadFault p so = absurd p
+    each status.Memory p so = absurd p
+    each (status.Refused o) p so = absurd p
+
+-- what was written where no output was
+pub said_so : (asked : Option Form) (src out : Change) (f : Finished) → Ends asked src out f → Says f.status out
+said_so asked src out f h = each f.status h.so
+  where
+    each : (s : Status) → EndsSo s asked src out f.machine → Says s out
+    each status.Usage so = so.1
+    each status.ReadFault so = so.2
+    each status.TooLong so = so.2
+    each (status.Script r) so = so.2
+    each (status.Refused o) so = so.2
+    each status.Memory so = so.1
+    each status.Done so = tt
+    each status.WriteFault so = tt
 
 -- what a run's ending says of the bytes
 pub data Verdict (s : Status) (bytes : List ℕ) (out : Change) : Type 0 where
@@ -181,49 +235,37 @@ found_done s bytes out (refused r e few was) fine p le is = absurd cc
 found_done s bytes out (printed q e few was) fine p le is = inl e
 found_done s bytes out (broken q e few was) fine p le is = absurd (fine e)
 
--- a script of a day is printed, or there was no memory for it
-made_done : (s : Status) (n : ℕ) (src out : Change) (machine : Option Machine) → (Failed out → ⊥)
-    → EndsSo s (Some (form.Make n)) src out machine
-    → (s ≡ status.Done) ⊎ (s ≡ status.Memory)
-made_done status.Done n src out machine fine h = inl refl
-made_done status.Memory n src out machine fine h = inr refl
-made_done status.WriteFault n src out machine fine h = absurd (fine h.fault)
-made_done status.Usage n src out machine fine h = absurd cc
-made_done status.ReadFault n src out machine fine h = absurd h.0
-made_done status.TooLong n src out machine fine h = absurd h.0
-made_done (status.Script r) n src out machine fine h = absurd h.0
-made_done (status.Refused o) n src out machine fine h = absurd cc
+-- the script of a day was printed, whole or in part, or there was no memory for it
+pub made_so : (asked : Option Form) (src out : Change) (f : Finished) (n : ℕ) → Ends asked src out f
+    → asked ≡ Some (form.Make n) → Printed f.status out (made n)
+made_so asked src out f n h e = each f.status (subst (λ (x : Option Form). EndsSo f.status x src out f.machine) e h.so)
+  where
+    each : (s : Status) → EndsSo s (Some (form.Make n)) src out f.machine → Printed s out (made n)
+    each status.Done so = so
+    each status.WriteFault so = so
+    each status.Memory so = so.1
+    each status.Usage so = absurd cc
+    each status.ReadFault so = absurd so.0
+    each status.TooLong so = absurd so.0
+    each (status.Script r) so = absurd so.0
+    each (status.Refused o) so = absurd cc
 
-pub found_made : (asked : Option Form) (src out : Change) (f : Finished) (n : ℕ) → Ends asked src out f → asked
-    ≡ Some (form.Make n) → (Failed out → ⊥)
-    → (f.status ≡ status.Done) ⊎ (f.status ≡ status.Memory)
-found_made asked src out f n h e fine = made_done f.status n src out f.machine fine
-    (subst (λ (x : Option Form). EndsSo f.status x src out f.machine) e h.so)
-
--- the text of a drill is printed, or there was no memory for it
-drilled_done : (s : Status) (p f n seed : ℕ) (src out : Change) (machine : Option Machine) → (Failed out → ⊥)
-    → EndsSo s (Some (form.Drill p f n seed)) src out machine → (s ≡ status.Done) ⊎ (s ≡ status.Memory)
-drilled_done status.Done p f n seed src out machine fine h = inl refl
-drilled_done status.Memory p f n seed src out machine fine h = inr refl
-drilled_done status.WriteFault p f n seed src out machine fine h = absurd (fine h.fault)
-drilled_done status.Usage p f n seed src out machine fine h = absurd cc
-drilled_done status.ReadFault p f n seed src out machine fine h = absurd h.0
-drilled_done status.TooLong p f n seed src out machine fine h = absurd h.0
-drilled_done (status.Script r) p f n seed src out machine fine h = absurd h.0
-drilled_done (status.Refused o) p f n seed src out machine fine h = absurd cc
-
-pub found_drilled : (asked : Option Form) (src out : Change) (f : Finished) (p frames n seed : ℕ) → Ends asked src out f
-    → asked ≡ Some (form.Drill p frames n seed) → (Failed out → ⊥) → (f.status ≡ status.Done)
-    ⊎ (f.status ≡ status.Memory)
-found_drilled asked src out f p frames n seed h e fine =
-    drilled_done f.status p frames n seed src out f.machine fine
-    (subst (λ (x : Option Form). EndsSo f.status x src out f.machine) e h.so)
-
--- what was printed, by the form that was asked for
-pub printed_in : (asked other : Option Form) (src : Change) (machine : Option Machine) (P : List ℕ → Type 0)
-    → Prints asked src machine P → asked ≡ other
-    → Prints other src machine P
-printed_in asked other src machine P h e = subst (λ (x : Option Form). Prints x src machine P) e h
+-- the text of a drill was
+pub drilled_so : (asked : Option Form) (src out : Change) (f : Finished) (p frames n seed : ℕ) → Ends asked src out f
+    → asked ≡ Some (form.Drill p frames n seed) → Printed f.status out (drill_text p frames n seed)
+drilled_so asked src out f p frames n seed h e =
+    each f.status (subst (λ (x : Option Form). EndsSo f.status x src out f.machine) e h.so)
+  where
+    each : (s : Status) → EndsSo s (Some (form.Drill p frames n seed)) src out f.machine
+        → Printed s out (drill_text p frames n seed)
+    each status.Done so = so
+    each status.WriteFault so = so
+    each status.Memory so = so.1
+    each status.Usage so = absurd cc
+    each status.ReadFault so = absurd so.0
+    each status.TooLong so = absurd so.0
+    each (status.Script r) so = absurd so.0
+    each (status.Refused o) so = absurd cc
 
 -- ---- a listing that was judged
 
@@ -282,10 +324,10 @@ found_fault asked src out f h check fine = each src.before refl
         (subst (λ (x : Option Form). EndsSo f.status x src out f.machine) check h.so)
 
 -- an input that is accepted is answered so, or there was no memory
-accepted_so : (s : Status) (bytes : List ℕ) (src out : Change) (machine : Option Machine) → (Failed src → ⊥)
+accepted_done : (s : Status) (bytes : List ℕ) (src out : Change) (machine : Option Machine) → (Failed src → ⊥)
     → (Failed out → ⊥) → src.before ≡ Some bytes → EndsSo s (Some form.Check) src out machine
     → (n : ℕ) → length bytes ≤ 134217728 → IsVerdict bytes (Ok n) → (s ≡ status.Done) ⊎ (s ≡ status.Memory)
-accepted_so s bytes src out machine fine whole told so n few is = each s so
+accepted_done s bytes src out machine fine whole told so n few is = each s so
   where
     fault_not : (e : CheckFault) → IsJudgedSo src (Err e) → ⊥
     fault_not e judged =
@@ -313,7 +355,7 @@ found_accepted asked src out f h check fine whole = each src.before refl
         → IfSome left (λ bytes. (n : ℕ) → length bytes ≤ 134217728 → IsVerdict bytes (Ok n)
         → (f.status ≡ status.Done) ⊎ (f.status ≡ status.Memory))
     each None told = tt
-    each (Some bytes) told = accepted_so f.status bytes src out f.machine fine whole told
+    each (Some bytes) told = accepted_done f.status bytes src out f.machine fine whole told
         (subst (λ (x : Option Form). EndsSo f.status x src out f.machine) check h.so)
 
 -- more bytes than a script with its listing may have are told, or there was no memory

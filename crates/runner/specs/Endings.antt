@@ -105,6 +105,17 @@ Printed status.WriteFault out text = WritesFront out text
 Printed status.Memory out text = WritesNothing out
 Printed _ out text = ⊥
 
+-- What was written under a status that has no output: its text, or nothing where a read failed or there was no memory.
+abbrev pub Says : Status → Change → Type 0
+Says status.Usage out = Writes out usage_text
+Says status.TooLong out = Writes out too_long_text
+Says (status.Script r) out = Writes out (refusal_text r)
+Says (status.Refused o) out = Writes out (offence_text o)
+Says status.ReadFault out = WritesNothing out
+Says status.Memory out = WritesNothing out
+Says status.Done out = Unit {0}
+Says status.WriteFault out = Unit {0}
+
 -- the status that a source comes to which can't be read, and what was written
 abbrev pub Unreads : Unread → Status → Change → Type 0
 Unreads unread.TooLong s out = (s ≡ status.TooLong) × Writes out too_long_text

@@ -1,8 +1,7 @@
 ghost use Rattle.std.specs.Prelude.{◌≡◌, ◌<◌, ◌+◌, ◌≤◌, ◌↔◌, ◌⊎◌, ℕ, Some, None, Ok, Err, length};
 ghost use Rattle.std.specs.Prelude.{IfSome, IsSomeAnd};
-ghost use Rattle.std.specs.Io.KnownBytes.{Appends, Keeps};
 ghost use Rattle.site_io.specs.Faults.{Rose};
-ghost use Rattle.site_io.specs.Streams.{AppendsFront, ConsumesFront};
+ghost use Rattle.site_io.specs.Streams.{ConsumesFront};
 ghost use Rattle.script.specs.Plans.{Plan};
 ghost use Rattle.script.specs.Grammar.{script_of};
 ghost use Rattle.script.specs.declared.refusals.Refusal.{Refusal};
@@ -14,14 +13,14 @@ ghost use Rattle.drill.specs.Texts.{drill_text};
 ghost use Rattle.make_work.specs.Day.{made};
 ghost use Rattle.runner.specs.Drives.{AreDrivesOf, TellsFaults};
 ghost use Rattle.runner.specs.Endings.{change, Ends, HasPrinted, IsReading, IsRefused, IsStatusOf, MayHaveRun};
-ghost use Rattle.runner.specs.Endings.{Writes, limit_of};
+ghost use Rattle.runner.specs.Endings.{Printed, Says, limit_of};
 ghost use Rattle.book_check.specs.Closing.{IsTheVerdict};
 ghost use Rattle.book_check.specs.Verdicts.{IsVerdict};
 ghost use Rattle.book_check.specs.declared.offences.CheckFault.{CheckFault};
 ghost use Rattle.book_check.specs.declared.offences.CheckFault.TheVariants as fault;
 ghost use Rattle.book_check.specs.declared.offences.Offence.{Offence};
 ghost use Rattle.runner.specs.Runs.{HoldsStore};
-ghost use Rattle.runner.specs.Texts.{accepted_text, offence_text, refusal_text, too_long_text, usage_text};
+ghost use Rattle.runner.specs.Texts.{accepted_text};
 ghost use Rattle.runner.specs.Words.{form_of, IsInRange};
 ghost use Rattle.runner.specs.declared.words.Form.TheVariants as form;
 
@@ -108,36 +107,30 @@ pub fn multics<R: Threads + Wait + Sync, S: Source, K: Sink, G: Gate + Sync>(
     out: &mut K,
     gate: &G,
 ) -> Finished
-    // The words are no form of the program: nothing is read, and the text is written.
-    ensures usage { (result.status ≡ Status.Usage) ↔ (form_of words ≡ None) }
-    ensures usage_text { result.status ≡ Status.Usage →
-        Writes (change (K.held out.old) (K.held out.new) (K.faults out.old) (K.faults out.new)) usage_text }
+    // How the call ended, and why; what it wrote, and what it left. Each clause below but `source` is a reading of it.
+    ensures ends { Ends (form_of words) (change (S.left src.old) (S.left src.new) (S.faults src.old) (S.faults src.new))
+        (change (K.held out.old) (K.held out.new) (K.faults out.old) (K.faults out.new)) result }
 
-    // But for `run` and `check` the source is as it was.
+    // But for `run` and `check` the source is as it was. Else at most one byte past the limit is read.
     ensures source { (IsReading (form_of words) → ⊥) → src.new ≡ src.old }
-
-    // A read failed, and nothing was written.
-    ensures read_fault { result.status ≡ Status.ReadFault → Rose (S.faults src.old) (S.faults src.new) }
-    ensures read_fault_text { result.status ≡ Status.ReadFault → Keeps (K.held out.old) (K.held out.new) }
-
-    // There are more bytes than a script may have, or a script with its listing. At most one more than that is read.
-    ensures too_long { result.status ≡ Status.TooLong →
-        IfSome (S.left src.old) (λ bytes. limit_of (form_of words) < length bytes) }
-    ensures too_long_text { result.status ≡ Status.TooLong →
-        Writes (change (K.held out.old) (K.held out.new) (K.faults out.old) (K.faults out.new)) too_long_text }
     ensures reads { ConsumesFront (S.left src.old) (S.left src.new) (limit_of (form_of words) + 1) }
 
-    // The script is refused, at its first line that is and for that line's first cause.
+    // Why it ended so: the words are no form of the program; a read failed; there are more bytes than a script may
+    // have, or a script with its listing; the script is refused, at its first line that is and for that line's first
+    // cause; or a line of the listing is the first at fault, and breaks that rule first.
+    ensures usage { (result.status ≡ Status.Usage) ↔ (form_of words ≡ None) }
+    ensures read_fault { result.status ≡ Status.ReadFault →
+        IsReading (form_of words) × Rose (S.faults src.old) (S.faults src.new) }
+    ensures too_long { result.status ≡ Status.TooLong →
+        IsReading (form_of words) × IfSome (S.left src.old) (λ bytes. limit_of (form_of words) < length bytes) }
     ensures refused { (r : Refusal) → result.status ≡ Status.Script r →
-        IfSome (S.left src.old) (λ bytes. IsRefused (form_of words) bytes r) }
-    ensures refused_text { (r : Refusal) → result.status ≡ Status.Script r →
-        Writes (change (K.held out.old) (K.held out.new) (K.faults out.old) (K.faults out.new)) (refusal_text r) }
-
-    // A line of the listing is the first at fault, and breaks that rule first.
+        IsReading (form_of words) × IfSome (S.left src.old) (λ bytes. IsRefused (form_of words) bytes r) }
     ensures offence { (o : Offence) → result.status ≡ Status.Refused o →
-        IfSome (S.left src.old) (λ bytes. IsTheVerdict bytes (Err (fault.Refused o))) }
-    ensures offence_text { (o : Offence) → result.status ≡ Status.Refused o →
-        Writes (change (K.held out.old) (K.held out.new) (K.faults out.old) (K.faults out.new)) (offence_text o) }
+        (form_of words ≡ Some form.Check)
+        × IfSome (S.left src.old) (λ bytes. IsTheVerdict bytes (Err (fault.Refused o))) }
+
+    // What was written where no output was: the status's text, or nothing.
+    ensures text { Says result.status (change (K.held out.old) (K.held out.new) (K.faults out.old) (K.faults out.new)) }
 
     // The machine of a run, however it ended: the book's script is that of the source's bytes; its entries are lawful
     // in the flat store, and allowed by who holds what. Its drives are those of the script's volumes, and the book
@@ -163,33 +156,23 @@ pub fn multics<R: Threads + Wait + Sync, S: Source, K: Sink, G: Gate + Sync>(
     ensures stayed { form_of words ≡ Some form.Run → HasPrinted result.status →
         IsSomeAnd result.machine (λ m. AreToldBack m.state.plan m.state.entries) }
 
-    // What is printed, whole or, where a write failed, a front of it.
-    ensures listing { form_of words ≡ Some form.Run → result.status ≡ Status.Done →
-        IsSomeAnd result.machine
-        (λ m. Appends (K.held out.old) (K.held out.new) (listing_of m.state.plan m.state.entries)) }
-    ensures front { form_of words ≡ Some form.Run → result.status ≡ Status.WriteFault →
-        IsSomeAnd result.machine
-        (λ m. AppendsFront (K.held out.old) (K.held out.new) (listing_of m.state.plan m.state.entries)) }
-    ensures made { (n : ℕ) → form_of words ≡ Some (form.Make n) → result.status ≡ Status.Done →
-        Appends (K.held out.old) (K.held out.new) (made n) }
-    ensures made_front { (n : ℕ) → form_of words ≡ Some (form.Make n) → result.status ≡ Status.WriteFault →
-        AppendsFront (K.held out.old) (K.held out.new) (made n) }
-    ensures drilled { (p f n seed : ℕ) → form_of words ≡ Some (form.Drill p f n seed) → result.status ≡ Status.Done →
-        Appends (K.held out.old) (K.held out.new) (drill_text p f n seed) }
-    ensures drilled_front { (p f n seed : ℕ) → form_of words ≡ Some (form.Drill p f n seed) →
-        result.status ≡ Status.WriteFault → AppendsFront (K.held out.old) (K.held out.new) (drill_text p f n seed) }
-    ensures accepted { form_of words ≡ Some form.Check → result.status ≡ Status.Done → (entries : ℕ)
+    // What is printed: whole; a front of it, where a write failed; or nothing, for want of memory.
+    ensures listing { form_of words ≡ Some form.Run → HasPrinted result.status →
+        IsSomeAnd result.machine (λ m. Printed result.status
+        (change (K.held out.old) (K.held out.new) (K.faults out.old) (K.faults out.new))
+        (listing_of m.state.plan m.state.entries)) }
+    ensures accepted { form_of words ≡ Some form.Check → HasPrinted result.status → (entries : ℕ)
         × IfSome (S.left src.old) (λ bytes. (length bytes ≤ 134217728) × IsTheVerdict bytes (Ok entries))
-        × Appends (K.held out.old) (K.held out.new) (accepted_text entries) }
-    ensures accepted_front { form_of words ≡ Some form.Check → result.status ≡ Status.WriteFault → (entries : ℕ)
-        × IfSome (S.left src.old) (λ bytes. (length bytes ≤ 134217728) × IsTheVerdict bytes (Ok entries))
-        × AppendsFront (K.held out.old) (K.held out.new) (accepted_text entries) }
-    ensures write_fault { result.status ≡ Status.WriteFault → Rose (K.faults out.old) (K.faults out.new) }
+        × Printed result.status (change (K.held out.old) (K.held out.new) (K.faults out.old) (K.faults out.new))
+        (accepted_text entries) }
+    ensures made { (n : ℕ) → form_of words ≡ Some (form.Make n) →
+        Printed result.status (change (K.held out.old) (K.held out.new) (K.faults out.old) (K.faults out.new))
+        (made n) }
+    ensures drilled { (p f n seed : ℕ) → form_of words ≡ Some (form.Drill p f n seed) →
+        Printed result.status (change (K.held out.old) (K.held out.new) (K.faults out.old) (K.faults out.new))
+        (drill_text p f n seed) }
 
-    // Want of memory: nothing was written.
-    ensures memory_text { result.status ≡ Status.Memory → Keeps (K.held out.old) (K.held out.new) }
-
-    // Each ending comes where its cause is there, unless memory runs out.
+    // Where no read fails, each ending of `run` and of `check` comes where its cause is there, unless memory runs out.
     ensures finds_too_long { form_of words ≡ Some form.Run → (Rose (S.faults src.old) (S.faults src.new) → ⊥) →
         IfSome (S.left src.old) (λ bytes. 4194304 < length bytes →
         (result.status ≡ Status.TooLong) ⊎ (result.status ≡ Status.Memory)) }
@@ -210,11 +193,6 @@ pub fn multics<R: Threads + Wait + Sync, S: Source, K: Sink, G: Gate + Sync>(
         (Rose (K.faults out.old) (K.faults out.new) → ⊥) →
         IfSome (S.left src.old) (λ bytes. (entries : ℕ) → length bytes ≤ 134217728 → IsVerdict bytes (Ok entries) →
         (result.status ≡ Status.Done) ⊎ (result.status ≡ Status.Memory)) }
-    ensures makes { (n : ℕ) → form_of words ≡ Some (form.Make n) → (Rose (K.faults out.old) (K.faults out.new) → ⊥) →
-        (result.status ≡ Status.Done) ⊎ (result.status ≡ Status.Memory) }
-    ensures drills { (p f n seed : ℕ) → form_of words ≡ Some (form.Drill p f n seed) →
-        (Rose (K.faults out.old) (K.faults out.new) → ⊥) →
-        (result.status ≡ Status.Done) ⊎ (result.status ≡ Status.Memory) }
 {
     answer(rt, alloc, words, src, out, gate)
 }
