@@ -1,16 +1,18 @@
 -- How each way out of a call ends. (own)
 use Rattle.std.proofs.Common.{◌≡◌, ℕ, ◌+◌, ◌<◌, List, [], length, Option, Some, None, IfSome, is_some, true, refl}
 use Rattle.std.proofs.Common.{sym, ap, subst, arith}
+use Rattle.std.specs.Prelude.{IsSomeAnd}
 use Rattle.std.specs.Io.KnownBytes.{Appends, Keeps}
 use Rattle.std.proofs.KnownBytes.{Keeps-refl, Consumes-nil}
 use Rattle.site_io.specs.Streams.{AppendsFront, ConsumesFront}
 use Rattle.site_io.specs.declared.whole.Unread.{Unread}
 use Rattle.site_io.specs.declared.whole.Unread.TheVariants as unread
+use Rattle.script.specs.Plans.{Plan}
 use Rattle.make_work.specs.Day.{made}
 use Rattle.drill.specs.Texts.{drill_text}
-use Rattle.runner.specs.Endings.{Change, Ends, EndsSo, Failed, IsReading, MayHaveRun, Printed, Runs, Unreads, Writes}
-use Rattle.runner.specs.Endings.{cut, limit_of, whole}
-use Rattle.runner.specs.Runs.{Machine}
+use Rattle.runner.specs.Endings.{Change, Ends, EndsSo, Failed, IsReading, LeavesRun, MayHaveRun, Printed, PrintsIfRun}
+use Rattle.runner.specs.Endings.{Runs, Unreads, Writes, cut, limit_of, whole}
+use Rattle.runner.specs.Runs.{IsRun, Machine}
 use Rattle.runner.specs.Texts.{usage_text}
 use Rattle.runner.specs.declared.finished.Finished.{Finished}
 use Rattle.runner.specs.declared.finished.Status.{Status}
@@ -116,6 +118,28 @@ asked_none asked src out f e s b text reads = asks asked None src out f e
 pub form_is : (form is : Form) (src out : Change) (f : Finished) → form ≡ is → Ends (Some is) src out f
     → Ends (Some form) src out f
 form_is form is src out f e h = asks (Some form) (Some is) src out f (ap Some e) h
+
+-- ---- a machine that was booted
+
+pub left_printed : (p : Plan) (s : Status) (machine : Option Machine) (out : Change)
+    → IsSomeAnd machine (λ m. LeavesRun p s m out) → PrintsIfRun s machine out
+left_printed p s None out h = absurd h
+left_printed p s (Some m) out h = h.printed
+
+pub left_script : (p : Plan) (s : Status) (machine : Option Machine) (out : Change)
+    → IsSomeAnd machine (λ m. LeavesRun p s m out) → IfSome machine (λ m. m.state.plan ≡ p)
+left_script p s None out h = tt
+left_script p s (Some m) out h = h.script
+
+pub left_run : (p : Plan) (s : Status) (machine : Option Machine) (out : Change)
+    → IsSomeAnd machine (λ m. LeavesRun p s m out) → IfSome machine IsRun
+left_run p s None out h = tt
+left_run p s (Some m) out h = h.run
+
+pub left_booted : (p : Plan) (s : Status) (machine : Option Machine) (out : Change)
+    → IsSomeAnd machine (λ m. LeavesRun p s m out) → IfSome machine (λ m. MayHaveRun s)
+left_booted p s None out h = tt
+left_booted p s (Some m) out h = h.status
 
 -- a text was written, whole or cut
 pub ruleset text_written = (text_whole, text_cut)

@@ -7,6 +7,7 @@ use Rattle.site_io.specs.Streams.{AppendsFront, ConsumesFront}
 use Rattle.site_io.specs.declared.whole.Unread.{Unread}
 use Rattle.site_io.specs.declared.whole.Unread.TheVariants as unread
 use Rattle.script.specs.Grammar.{script_of}
+use Rattle.script.specs.Plans.{Plan}
 use Rattle.script.specs.declared.refusals.Refusal.{Refusal}
 use Rattle.listing.specs.Listings.{listing_of}
 use Rattle.make_work.specs.Day.{made}
@@ -138,6 +139,13 @@ Offends _ o out = ⊥
 abbrev pub PrintsRun : Status → Machine → Change → Type 0
 PrintsRun status.Memory m out = WritesNothing out
 PrintsRun s m out = IsShutDown m × Printed s out (listing_of m.state.plan m.state.entries)
+
+-- what is left where a machine of a script was booted: a machine of that script, however its run ended
+pub record LeavesRun (p : Plan) (s : Status) (m : Machine) (out : Change) : Type 0 where
+  pub script : m.state.plan ≡ p
+  pub run : IsRun m
+  pub printed : PrintsRun s m out
+  pub status : MayHaveRun s
 
 -- there was no memory for a machine, or its listing was printed
 abbrev pub PrintsIfRun : Status → Option Machine → Change → Type 0

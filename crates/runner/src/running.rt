@@ -1,10 +1,10 @@
 //! A run of a script: the machine is booted, its workers make its steps, and what they left is ended and printed.
 
-ghost use Rattle.std.specs.Prelude.{◌≡◌, IfOk, IfSome};
+ghost use Rattle.std.specs.Prelude.{◌≡◌, IfOk, IfSome, IsSomeAnd};
 ghost use Rattle.machine.specs.Turns.{KeepsParts};
 ghost use Rattle.bulk_store.specs.AnyDrive.{any_places};
 ghost use Rattle.runner.specs.Drives.{AreTold, plan_of};
-ghost use Rattle.runner.specs.Endings.{change, MayHaveRun, PrintsIfRun, PrintsRun};
+ghost use Rattle.runner.specs.Endings.{change, LeavesRun, MayHaveRun, PrintsIfRun, PrintsRun};
 ghost use Rattle.runner.specs.Runs.{IsRun};
 
 use crate::NoMemory;
@@ -62,6 +62,24 @@ fn left(machine: Machine<AnyDrive>, status: Status) -> Finished
     }
 }
 
+/// Has workers step a machine that was booted, ends what they leave, and writes the listing. The machine is left, however
+/// that ended.
+fn run_machine<R: Threads + Wait + Sync, K: Sink, G: Gate + Sync>(
+    rt: &R,
+    alloc: Global,
+    machine: Machine<AnyDrive>,
+    out: &mut K,
+    gate: &G,
+) -> Finished
+    requires { AreTold machine.state.plan machine.drives }
+    ensures { IsSomeAnd result.machine (λ m. LeavesRun machine.state.plan result.status m
+        (change (K.held out.old) (K.held out.new) (K.faults out.old) (K.faults out.new))) }
+{
+    let mut machine = run_workers(rt, machine, gate);
+    let status = end_and_print(alloc, &mut machine, out);
+    left(machine, status)
+}
+
 /// Runs a script, and writes its listing.
 pub(crate) fn run_script<R: Threads + Wait + Sync, K: Sink, G: Gate + Sync>(
     rt: &R,
@@ -79,7 +97,5 @@ pub(crate) fn run_script<R: Threads + Wait + Sync, K: Sink, G: Gate + Sync>(
     let Ok(machine) = boot(alloc, script) else {
         return without_machine(Status::Memory);
     };
-    let mut machine = run_workers(rt, machine, gate);
-    let status = end_and_print(alloc, &mut machine, out);
-    left(machine, status)
+    run_machine(rt, alloc, machine, out, gate)
 }

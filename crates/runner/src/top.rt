@@ -134,8 +134,8 @@ pub fn multics<R: Threads + Wait + Sync, S: Source, K: Sink, G: Gate + Sync>(
 
     // The machine of a run, however it ended: the book's script is that of the source's bytes; its entries are lawful
     // in the flat store, and allowed by who holds what. Its drives are those of the script's volumes, and the book
-    // tells no more of their failures than there were. Under Done and WriteFault of `run` there is one, under Memory
-    // there may be one.
+    // tells no more of their failures than there were. Under Done and WriteFault of `run` there is one; under Memory
+    // there is one if it was booted, as `run_machine` says.
     ensures script { IfSome result.machine (λ m. IfSome (S.left src.old) (λ bytes. script_of bytes ≡ Ok m.state.plan)) }
     ensures legal { IfSome result.machine (λ m. IsLegal m.state.plan m.state.entries) }
     ensures clean { IfSome result.machine (λ m. IsClean m.state.plan m.state.entries) }

@@ -1,14 +1,14 @@
-use Rattle.std.proofs.Common.{sym, subst, ◌∙◌}
-use Rattle.script.specs.Plans.{Plan}
-use Rattle.runner.specs.Drives.{AreTold}
-use Rattle.runner.proofs.DriveLaws.{told_still}
+use Rattle.runner.proofs.Ends.{left_booted, left_printed, left_run, left_script}
 use Rattle.runner.proofs.running.run_script.Goals as goal
 
-pub left-requires : goal.left-requires
-left-requires g c =
-    let ended = c.end_and_print-status.ensures.kept in
-    let ran = c.run_workers-machine.ensures in
-    subst (λ (p : Plan). AreTold p c.end_and_print-status.new.machine.drives)
-    (sym (ended.script ∙ (ran.script ∙ c.in-Ok.ensures.script)))
-    (told_still c.args.script c.in-Ok.machine.drives c.end_and_print-status.new.machine.drives
-    (ended.plans ∙ ran.plans) (ended.stores ∙ ran.places) c.in-Ok.ensures.drives)
+pub returns-clause-printed : goal.returns-clause-printed
+returns-clause-printed g c = left_printed _ _ _ _ c.run_machine.ensures
+
+pub returns-clause-script : goal.returns-clause-script
+returns-clause-script g c = rw (← c.in-Ok.ensures.script) (left_script _ _ _ _ c.run_machine.ensures)
+
+pub returns-clause-run : goal.returns-clause-run
+returns-clause-run g c = left_run _ _ _ _ c.run_machine.ensures
+
+pub returns-clause-booted : goal.returns-clause-booted
+returns-clause-booted g c = left_booted _ _ _ _ c.run_machine.ensures
