@@ -1,7 +1,7 @@
 -- The drives of a script: how they are made, what of them stays, and how many of their calls fail.
-use Rattle.std.proofs.Common.{◌≡◌, ◌≢◌, ℕ, suc, ◌+◌, ◌≤◌, ◌⊎◌, inl, inr, Bool, true, false, cond, length, map}
+use Rattle.std.proofs.Common.{◌≡◌, ◌≢◌, ℕ, suc, ◌+◌, ◌-◌, ◌^◌, ◌<◌, ◌≤◌, ◌⊎◌, min, inl, inr, Bool, true, false, cond, length, map}
 use Rattle.std.proofs.Common.{List, [], ◌∷◌, ◌++◌, Option, Some, None, refl, sym, ap, subst, ◌∙◌, arith}
-use Rattle.std.specs.Prelude.{◌||◌, ◌==◌, count_by, filter, nat_lt, replicate, slice_get, sum_by}
+use Rattle.std.specs.Prelude.{Err, IfOk, Ok, Result, ◌||◌, ◌==◌, count_by, filter, nat_lt, replicate, slice_get, sum_by}
 use Rattle.std.proofs.lemmas.List.{length-replicate, length_push}
 use Rattle.std.specs.List.{list_any}
 use Rattle.std.proofs.lemmas.Bool.{cases_eq, or_parts}
@@ -23,6 +23,8 @@ use Rattle.flat_model.specs.Store.{records_in, records_of}
 use Rattle.bulk_store.specs.AnyDrive.{any_pages, any_places, disk_of}
 use Rattle.bulk_store.specs.declared.any_drive.AnyDrive.{AnyDrive}
 use Rattle.machine_model.specs.Keeps.{is_fault}
+use Rattle.machine.specs.Turns.{HaveCounted}
+use Rattle.runner.specs.Runs.{Machine}
 use Rattle.runner.specs.Drives.{AreTold, IsFresh, TellsFaults, faults_in, is_on, line_of, lines_in, places_in, plan_of}
 
 -- ---- each of a list, at its place
@@ -168,16 +170,16 @@ module _ (p : Plan) (drives : List AnyDrive) (told : AreTold p drives)
       ∙ (map_length line_of (filter (is_on v) p.fails) ∙ length-filter (is_on v) p.fails) in
       omega (arith, its, many)
 
-  pub told_faults : (entries : List Entry) → count_by is_fault entries ≤ sum_by faults_in drives
+  pub told_faults : (entries : List Entry) → count_by is_fault entries ≡ sum_by faults_in drives
       → TellsFaults p entries drives
-  told_faults entries most = record {
-    most = most;
+  told_faults entries all = record {
+    all = all;
     named = λ v d at. ap (λ (ls : List FailLine). named_calls ls false (disk_of d).reads
         + named_calls ls true (disk_of d).writes) (told.plans v d at);
     few = λ still.
-        let all = sum_few faults_in p.fails drives 0 (λ i d at. subst
+        let sum = sum_few faults_in p.fails drives 0 (λ i d at. subst
         (λ (k : ℕ). faults_in d ≤ count_by (is_on k) p.fails) (omega arith) (drive_few still i d at)) in
-        omega (arith, most, all);
+        omega (arith, all, sum);
   }
 
 -- ---- the drives as they are made
@@ -189,11 +191,13 @@ AreFresh p drives = (v : ℕ) (d : AnyDrive) → slice_get drives v ≡ Some d �
 -- and of one more
 pub fresh_more : (p : Plan) (v : ℕ) (drives now : List AnyDrive) (d : AnyDrive) → length drives ≡ v → AreFresh p drives
     → any_pages d ≡ replicate (records_of p v) (replicate 1024 0) → (disk_of d).fails ≡ lines_in p.fails v
-    → any_places d ≡ places_in p.bulks v → now ≡ drives ++ d ∷ [] → (length now ≡ v + 1) × AreFresh p now
-fresh_more p v drives now d many each pages plan places is = rw is (
+    → any_places d ≡ places_in p.bulks v → faults_in d ≡ 0 → now ≡ drives ++ d ∷ []
+    → (length now ≡ v + 1) × AreFresh p now
+fresh_more p v drives now d many each pages plan places none is = rw is (
   length_push drives d ∙ ap (λ (n : ℕ). n + 1) many,
   each_more (IsFresh p) drives d each (rw many (record {
     size = ap length pages ∙ length-replicate (records_of p v) (replicate 1024 0);
+    faults = none;
     plan = plan;
     places = places;
   })),
@@ -206,3 +210,33 @@ fresh_told p drives many each = record {
   plans = λ v d at. (each v d at).plan;
   places = λ v d at. (each v d at).places;
 }
+
+-- no call of theirs has failed
+pub fresh_faults : (p : Plan) (drives : List AnyDrive) → AreFresh p drives → sum_by faults_in drives ≡ 0
+fresh_faults p drives each = by drives (λ v d at. (each v d at).faults)
+  where
+    by : (ds : List AnyDrive) → ((v : ℕ) (d : AnyDrive) → slice_get ds v ≡ Some d → faults_in d ≡ 0)
+        → sum_by faults_in ds ≡ 0
+    by [] none = refl
+    by (d ∷ ds) none =
+        let here = none 0 d refl in
+        let rest = by ds (λ v e at. none (suc v) e at) in
+        let all = sum_by-cons faults_in d ds in
+        omega (arith, here, rest, all)
+
+-- what is counted since the boot is what is told since then
+pub all_counted : (entries : List Entry) (drives : List AnyDrive) → length entries < 2 ^ 63
+    → min (sum_by faults_in drives) (2 ^ 63) ≡ min (0 + (count_by is_fault entries - 0)) (2 ^ 63)
+    → count_by is_fault entries ≡ sum_by faults_in drives
+all_counted entries drives few same = let most = count_by-le-length is_fault entries in
+    omega (arith, few, same, most)
+
+-- a machine that was booted over them has counted nothing, and tells of nothing
+pub counted_boot : {E : Type 0} (r : Result Machine E) (drives : List AnyDrive) → sum_by faults_in drives ≡ 0
+    → IfOk r (λ m. m.state.entries ≡ []) → IfOk r (λ m. m.drives ≡ drives)
+    → IfOk r (λ m. HaveCounted faults_in 0 0 m)
+counted_boot (Ok m) drives none entries same =
+    let told : count_by is_fault m.state.entries ≡ 0 = ap (λ (es : List Entry). count_by is_fault es) entries in
+    let sum : sum_by faults_in m.drives ≡ 0 = ap (λ (ds : List AnyDrive). sum_by faults_in ds) same ∙ none in
+    record { grows = omega arith; drives = omega (arith, told, sum) }
+counted_boot (Err e) drives none entries same = tt

@@ -49,18 +49,19 @@ pub record AreDrivesOf (p : Plan) (drives : List AnyDrive) : Type 0 where
   pub told : AreTold p drives
   pub sizes : HaveSizes any_pages drives p
 
--- What a book tells of the drives' failures. There are at most as many `fault` entries as calls failed; those that
--- failed are the calls so far that the `fail` lines of their volume name; and where no `fail` line goes on, at most as
--- many as there are `fail` lines. So a script without `fail` lines has a book without `fault` entries.
+-- What a book tells of the drives' failures. There are exactly as many `fault` entries as calls failed; those that
+-- failed are the calls so far that the `fail` lines of their volume name; and where no `fail` line goes on, they are at
+-- most as many as there are `fail` lines. So a script without `fail` lines has a book without `fault` entries.
 pub record TellsFaults (p : Plan) (entries : List Entry) (drives : List AnyDrive) : Type 0 where
-  pub most : count_by is_fault entries ≤ sum_by faults_in drives
+  pub all : count_by is_fault entries ≡ sum_by faults_in drives
   pub named : (v : ℕ) (d : AnyDrive) → slice_get drives v ≡ Some d
       → faults_in d ≡ named_calls (lines_in p.fails v) false (disk_of d).reads
       + named_calls (lines_in p.fails v) true (disk_of d).writes
   pub few : list_any (λ f. f.onward) p.fails ≡ false → count_by is_fault entries ≤ length p.fails
 
--- a drive as it is made for volume v: of its size, and told so
+-- a drive as it is made for volume v: of its size, told so, and none of its calls has failed
 pub record IsFresh (p : Plan) (v : ℕ) (d : AnyDrive) : Type 0 where
   pub size : length (any_pages d) ≡ records_of p v
+  pub faults : faults_in d ≡ 0
   pub plan : (disk_of d).fails ≡ lines_in p.fails v
   pub places : any_places d ≡ places_in p.bulks v

@@ -19,7 +19,7 @@ HoldsStore m = IsOnDisk (map any_pages m.drives) m.state.store.pages.records m.s
     (store_after m.state.plan m.state.entries) (custody_after m.state.plan m.state.entries)
 
 -- What holds of the machine of a run from its boot on: its book is legal and clean, its drives are those of the
--- script's volumes, and its book tells no more of their failures than there were.
+-- script's volumes, and its book tells exactly of their failures.
 pub record IsRun (m : Machine) : Type 0 where
   pub legal : IsLegal m.state.plan m.state.entries
   pub clean : IsClean m.state.plan m.state.entries

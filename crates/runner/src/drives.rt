@@ -1,10 +1,10 @@
 //! The drives of a script's volumes.
 
-ghost use Rattle.std.specs.Prelude.{◌≡◌, ◌<◌, IfOk, length, map, replicate};
+ghost use Rattle.std.specs.Prelude.{◌≡◌, ◌<◌, IfOk, length, map, replicate, sum_by};
 ghost use Rattle.volumes.specs.CoreDrive.{faults_of, fresh_drive};
 ghost use Rattle.flat_model.specs.Store.{records_of};
 ghost use Rattle.bulk_store.specs.AnyDrive.{any_pages, any_places, disk_of as disk_in};
-ghost use Rattle.runner.specs.Drives.{lines_in, places_in, AreTold};
+ghost use Rattle.runner.specs.Drives.{faults_in, lines_in, places_in, AreTold};
 
 use crate::NoMemory;
 use bulk_store::{AnyDrive, CoreBulk};
@@ -54,7 +54,7 @@ fn disk_of(alloc: Global, script: &Script, v: u32) -> Result<CoreDrive, NoMemory
 }
 
 /// The drive of volume `v` of a script, counted from 0: as many pages of zeros as the volume has records, of which the
-/// calls fail that the script's `fail` lines name, behind a fast store where the script has a `bulk` line for it.
+/// calls fail that the script's `fail` lines name, after a fast store where the script has a `bulk` line for it.
 ///
 /// `NoMemory` is want of memory. It takes 8 KiB for each record, and for each page of the fast store. (Source: own.)
 pub fn drive_of(alloc: Global, script: &Script, v: u32) -> Result<AnyDrive, NoMemory>
@@ -80,6 +80,7 @@ pub fn drives_of(alloc: Global, script: &Script) -> Result<Vec<AnyDrive>, NoMemo
     ensures drives { IfOk result (λ drives. AreTold script.now drives.items) }
     ensures sizes { IfOk result (λ drives. map (λ d. length (any_pages d)) drives.items
         ≡ map (λ v. v.records) script.now.volumes) }
+    ensures faults { IfOk result (λ drives. sum_by faults_in drives.items ≡ 0) }
 {
     script.promise();
     let count = script.volumes().len() as u32;

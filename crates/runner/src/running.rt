@@ -1,9 +1,9 @@
 //! A run of a script: the machine is booted, its workers make its steps, and what they left is ended and printed.
 
 ghost use Rattle.std.specs.Prelude.{◌≡◌, IfOk, IfSome, IsSomeAnd};
-ghost use Rattle.machine.specs.Turns.{KeepsParts};
+ghost use Rattle.machine.specs.Turns.{HaveCounted, KeepsParts};
 ghost use Rattle.bulk_store.specs.AnyDrive.{any_places};
-ghost use Rattle.runner.specs.Drives.{AreTold, plan_of};
+ghost use Rattle.runner.specs.Drives.{AreTold, faults_in, plan_of};
 ghost use Rattle.runner.specs.Endings.{change, LeavesRun, MayHaveRun, PrintsIfRun, PrintsRun};
 ghost use Rattle.runner.specs.Runs.{IsRun};
 
@@ -26,6 +26,7 @@ use workers::run_workers;
 fn boot(alloc: Global, script: Script) -> Result<Machine<AnyDrive>, NoMemory>
     ensures script { IfOk result (λ m. m.state.plan ≡ script) }
     ensures drives { IfOk result (λ m. AreTold script m.drives) }
+    ensures counted { IfOk result (λ m. HaveCounted faults_in 0 0 m) }
 {
     let drives = drives_of(alloc, &script)?;
     Machine::boot(alloc, script, drives)
@@ -33,7 +34,7 @@ fn boot(alloc: Global, script: Script) -> Result<Machine<AnyDrive>, NoMemory>
 
 /// Ends what the workers left, and writes the listing.
 fn end_and_print<K: Sink>(alloc: Global, machine: &mut Machine<AnyDrive>, out: &mut K) -> Status
-    ensures kept { KeepsParts plan_of any_places machine.old machine.new }
+    ensures kept { KeepsParts plan_of any_places faults_in machine.old machine.new }
     ensures printed { PrintsRun result machine.new
         (change (K.held out.old) (K.held out.new) (K.faults out.old) (K.faults out.new)) }
     ensures status { MayHaveRun result }
@@ -49,13 +50,14 @@ fn end_and_print<K: Sink>(alloc: Global, machine: &mut Machine<AnyDrive>, out: &
 
 /// What is left of a run that came to a status.
 fn left(machine: Machine<AnyDrive>, status: Status) -> Finished
-    requires { AreTold machine.state.plan machine.drives }
+    requires told { AreTold machine.state.plan machine.drives }
+    requires counted { HaveCounted faults_in 0 0 machine }
     ensures status { result.status ≡ status }
     ensures machine { result.machine ≡ Some machine }
     ensures run { IsRun machine }
 {
-    let _book = machine.book();
-    let _count = machine.volumes().count();
+    machine.book();
+    machine.volumes().promise();
     Finished {
         status,
         machine: Some(machine),
@@ -71,7 +73,8 @@ fn run_machine<R: Threads + Wait + Sync, K: Sink, G: Gate + Sync>(
     out: &mut K,
     gate: &G,
 ) -> Finished
-    requires { AreTold machine.state.plan machine.drives }
+    requires told { AreTold machine.state.plan machine.drives }
+    requires counted { HaveCounted faults_in 0 0 machine }
     ensures { IsSomeAnd result.machine (λ m. LeavesRun machine.state.plan result.status m
         (change (K.held out.old) (K.held out.new) (K.faults out.old) (K.faults out.new))) }
 {

@@ -1,6 +1,7 @@
 //! What the lock round a machine holds.
 
 ghost use Rattle.std.specs.Prelude.{◌≡◌, ◌<◌, map};
+ghost use Rattle.machine.specs.Turns.{HaveCounted};
 ghost use Rattle.workers.specs.Holds.{IsHold};
 
 use machine::{Machine, Turn};
@@ -8,8 +9,8 @@ use std::marker::PhantomData;
 use volumes::Drive;
 
 /// Which run a machine belongs to: the script of its book, how many processors it has, and what is told of each drive
-/// from its boot on: the lines that name its failing calls, and how many pages the fast store before it holds. No value
-/// of such a type is made. (Source: own.)
+/// from its boot on: the lines that name its failing calls, and how many pages the fast store before it holds; and how
+/// many failures the drives had counted when the book told of so many. No value of such a type is made. (Source: own.)
 pub trait Run {
     ghost use Rattle.std.specs.Prelude.{ℕ, List, Option};
     ghost use Rattle.script.specs.Plans.{Plan};
@@ -22,6 +23,10 @@ pub trait Run {
     ghost plans: { List (Option (List FailLine)) };
 
     ghost places: { List ℕ };
+
+    ghost counted: { ℕ };
+
+    ghost told: { ℕ };
 }
 
 /// A machine that stays that of one run, whichever worker had it.
@@ -33,6 +38,7 @@ pub(crate) struct Locked<N: Run, D: Drive> {
     ghost cpus: { machine.state.plan.processors ≡ N.cpus },
     ghost plans: { map D.plan machine.drives ≡ N.plans },
     ghost places: { map D.places machine.drives ≡ N.places },
+    ghost alike: { HaveCounted D.faults N.counted N.told machine },
 }
 
 impl<N: Run, D: Drive> Locked<N, D> {
@@ -42,6 +48,7 @@ impl<N: Run, D: Drive> Locked<N, D> {
         requires cpus { machine.state.plan.processors ≡ N.cpus }
         requires plans { map D.plan machine.drives ≡ N.plans }
         requires places { map D.places machine.drives ≡ N.places }
+        requires alike { HaveCounted D.faults N.counted N.told machine }
     {
         Locked {
             machine,
@@ -54,6 +61,7 @@ impl<N: Run, D: Drive> Locked<N, D> {
         ensures script { result.state.plan ≡ N.script }
         ensures plans { map D.plan result.drives ≡ N.plans }
         ensures places { map D.places result.drives ≡ N.places }
+        ensures alike { HaveCounted D.faults N.counted N.told result }
     {
         let Locked { machine, of: _ } = self;
         machine
@@ -63,7 +71,7 @@ impl<N: Run, D: Drive> Locked<N, D> {
     /// answered so. A machine that is refused the room is stopped, and nothing else is done then.
     pub(crate) fn turn(&mut self, cpu: u32) -> Turn
         requires { cpu < N.cpus }
-        ensures { IsHold D.plan D.places self.old.machine self.new.machine cpu result }
+        ensures { IsHold D.plan D.places D.faults self.old.machine self.new.machine cpu result }
     {
         match self.machine.reserve() {
             Ok(()) => self.machine.step(cpu),

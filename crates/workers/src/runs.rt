@@ -1,6 +1,7 @@
 //! A machine with a worker for each of its processors.
 
 ghost use Rattle.std.specs.Prelude.{◌≡◌, ◌<◌, ◌≤◌, ℕ, All, length, map};
+ghost use Rattle.machine.specs.Turns.{CountsAlike, HaveCounted};
 
 use crate::locked::{Locked, Run};
 use crate::working::work;
@@ -26,6 +27,10 @@ impl Run for Brand {
     ghost plans = { [] };
 
     ghost places = { [] };
+
+    ghost counted = { 0 };
+
+    ghost told = { 0 };
 }
 
 /// The numbers of so many processors.
@@ -51,10 +56,12 @@ fn run_under_lock<N: Run + Send + Sync, D: Drive + Send, G: Gate + Sync, R: Thre
     requires of { machine.state.plan.processors ≡ N.cpus }
     requires plans { map D.plan machine.drives ≡ N.plans }
     requires places { map D.places machine.drives ≡ N.places }
+    requires alike { HaveCounted D.faults N.counted N.told machine }
     requires cpus { All (λ (c : ℕ). c < N.cpus) cpus.old }
     ensures script { result.state.plan ≡ N.script }
     ensures plans { map D.plan result.drives ≡ N.plans }
     ensures places { map D.places result.drives ≡ N.places }
+    ensures alike { HaveCounted D.faults N.counted N.told result }
 {
     let locked: Mutex<Locked<N, D>> = Mutex::new(Locked::of(machine));
     let workers = cpus.len();
@@ -82,6 +89,7 @@ pub fn run_workers<D: Drive + Send, G: Gate + Sync, R: Threads + Wait + Sync>(
     ensures script { result.state.plan ≡ machine.state.plan }
     ensures plans { map D.plan result.drives ≡ map D.plan machine.drives }
     ensures places { map D.places result.drives ≡ map D.places machine.drives }
+    ensures alike { CountsAlike D.faults machine result }
 {
     let script = machine.book().script();
     script.promise();
