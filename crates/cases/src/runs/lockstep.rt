@@ -11,8 +11,16 @@ const LOOKS: u32 = 250_000;
 /// How often a processor lets others go first between two looks.
 const YIELDS: u32 = 8;
 
-/// A gate at which a processor that came online, loaded a process, or had a reference answered waits until each other
-/// one has come to as many such points. So the answers of any two processors differ by one at the most, at any time.
+/// To how many points each processor comes in turn: where it came online, where it loaded a process, and where its
+/// first references were answered.
+const POINTS: u64 = 8;
+
+/// How many of these points are answers.
+const ANSWERS: u32 = 6;
+
+/// A gate at which processors come online, load a process, and have references answered in turn: from each such point
+/// on, a processor waits until each one before it has come to one more, and each one after it to as many. So their
+/// first answers are those of processors 0, 1 and so on, again and again, one of each.
 ///
 /// The first wait that ends by its looks lets all processors pass from then on.
 #[derive(Drop)]
@@ -33,23 +41,29 @@ fn is_common(point: Point) -> bool {
     matches!(point, Point::Online | Point::Loaded(_) | Point::Answered(_))
 }
 
-/// Marks one more at the place of a processor, and gives how many there are.
-fn count(counts: &mut [u64], cpu: u32) -> u64 {
-    match counts.get_mut(cpu as usize) {
-        Some(count) => {
-            *count = count.saturating_add(1);
-            *count
+impl Came {
+    /// Notes that a processor has come to one more point, and gives to how many it has come.
+    fn note(&mut self, cpu: u32) -> u64 {
+        match self.points.get_mut(cpu as usize) {
+            Some(points) => {
+                *points = points.saturating_add(1);
+                *points
+            }
+            None => 0,
         }
-        None => 0,
     }
-}
 
-/// Whether each of so many processors has come to so many points.
-fn have_come(points: &[u64], processors: u32, most: u64) -> bool {
-    points
-        .iter()
-        .take(processors as usize)
-        .all(|came| *came >= most)
+    /// Whether one of so many processors, which has come to so many points, may pass.
+    fn lets_pass(&self, processors: u32, cpu: u32, points: u64) -> bool {
+        for other in 0..processors {
+            let wanted = points.saturating_add(u64::from(other < cpu)).min(POINTS);
+            let came = self.points.get(other as usize).copied().unwrap_or(0);
+            if other != cpu && came < wanted {
+                return false;
+            }
+        }
+        true
+    }
 }
 
 impl Lockstep {
@@ -65,15 +79,15 @@ impl Lockstep {
     }
 
     /// Whether a processor that has come to so many points may pass.
-    fn lets_pass<R: Wait>(&self, rt: &R, points: u64) -> bool {
+    fn lets_pass<R: Wait>(&self, rt: &R, cpu: u32, points: u64) -> bool {
         let came = *self.came.lock(rt);
-        came.gave_up || have_come(came.points.as_slice(), self.processors, points)
+        came.gave_up || came.lets_pass(self.processors, cpu, points)
     }
 
     /// Waits until the processor may pass; false where the looks are used up before.
-    fn wait<R: Wait>(&self, rt: &R, points: u64) -> bool {
+    fn wait<R: Wait>(&self, rt: &R, cpu: u32, points: u64) -> bool {
         for _ in 0..LOOKS {
-            if self.lets_pass(rt, points) {
+            if self.lets_pass(rt, cpu, points) {
                 return true;
             }
             for _ in 0..YIELDS {
@@ -83,16 +97,10 @@ impl Lockstep {
         false
     }
 
-    /// Whether no wait ended by its looks, and each processor has come to a point.
-    fn is_kept<R: Wait>(&self, rt: &R) -> bool {
-        let came = *self.came.lock(rt);
-        !came.gave_up && have_come(came.points.as_slice(), self.processors, 1)
-    }
-
     /// What is told after a run whose book tells of these passes: whether the processors had their references answered
     /// in turn, by the gate and by the book.
     pub(crate) fn text<R: Wait>(&self, rt: &R, told: &[Pass]) -> &'static str {
-        if self.is_kept(rt) && are_in_turn(told, self.processors) {
+        if !self.came.lock(rt).gave_up && are_in_turn(told, self.processors) {
             "in turn\n"
         } else {
             "not in turn\n"
@@ -105,35 +113,31 @@ impl Gate for Lockstep {
         if !is_common(point) {
             return;
         }
-        let points = count(self.came.lock(rt).points.as_mut_slice(), cpu);
-        if !self.wait(rt, points) {
+        let points = self.came.lock(rt).note(cpu);
+        if !self.wait(rt, cpu, points) {
             self.came.lock(rt).gave_up = true;
         }
     }
 }
 
-/// Whether the counts of so many processors differ by one at the most.
-fn are_close(counts: &[u64], processors: u32) -> bool {
-    let counts = counts.iter().take(processors as usize);
-    let (mut least, mut most) = (u64::MAX, 0);
-    for count in counts {
-        least = least.min(*count);
-        most = most.max(*count);
-    }
-    most.saturating_sub(least) <= 1
+/// The processor after one.
+fn next(cpu: u32, processors: u32) -> u32 {
+    let next = cpu.saturating_add(1);
+    if next < processors { next } else { 0 }
 }
 
-/// Whether the answers of so many processors differ by one at the most after each of these passes, and come to more
-/// than one each.
+/// Whether the first answers among these passes are those of so many processors in turn.
 fn are_in_turn(told: &[Pass], processors: u32) -> bool {
-    let mut answers = [0; PROCESSORS];
+    let (mut turn, mut answers) = (0, 0);
+    let most = processors.saturating_mul(ANSWERS);
     for pass in told {
-        if matches!(pass.point, Point::Answered(_)) {
-            count(answers.as_mut_slice(), pass.cpu);
-        }
-        if !are_close(answers.as_slice(), processors) {
-            return false;
+        if matches!(pass.point, Point::Answered(_)) && answers < most {
+            if pass.cpu != turn {
+                return false;
+            }
+            turn = next(turn, processors);
+            answers += 1;
         }
     }
-    have_come(answers.as_slice(), processors, 2)
+    answers == most
 }
