@@ -72,8 +72,8 @@ noted_starts old stamp = record {
   noted = λ c none. absurd (omega arith);
 }
 
-module _ (old now next : Watch) (stamp cpu seen : ℕ) (so : NotedSoFar old now stamp cpu)
-    (is : next ≡ having_noted cpu seen now) where
+module _ (old now next : Watch) (stamp at cpu seen : ℕ) (so : NotedSoFar old now stamp cpu)
+    (is : next ≡ having_noted at cpu seen now) where
   pub only_noted : OnlyNoted old next
   only_noted = record {
     made = ap (λ w. w.made) is ∙ so.only.made;

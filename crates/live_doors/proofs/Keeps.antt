@@ -83,7 +83,7 @@ module _ (z : Size) where
         tt,
         pass_looked s.words s.views id 0 p (forgotten n p) h at refl
             (forgotten_ok z.frames z.cpus s.words h.plan p n refl h.plan_ok),
-        refl,
+        λ _. refl,
       )
 
   pub acknowledges : (slots id : ℕ) (p : Walk) → Allows (InOrder z) slots id (
@@ -180,25 +180,26 @@ module _ (z : Size) where
   pub looks : (slots id c : ℕ) (w : Watch) → c < z.cpus → length w.doors ≡ z.frames
       → Allows (InOrder z) slots id (Keeping w, []) (ack_at z.frames c) (λ n. n)
       (Looks (step slots (ack_at z.frames c) 0 0 none) (Keeping w, []))
-  looks slots id c w inside row s h homes at fits =
+  looks slots id c w inside row s h homes here fits =
+      let at : ℕ = ack_at z.frames c in
       let n : ℕ = get_or s.words (ack_at z.frames c) 0 in
-      let mine = h.seats_ok id (Keeping w) at in
+      let mine = h.seats_ok id (Keeping w) here in
       let low : get_or w.noted c 0 ≤ n =
       subst (λ k. get_or k.noted c 0 ≤ n) (sym mine.1) (h.plan_ok.noted c inside) in (
-        Keeping (having_noted c n w),
+        Keeping (having_noted at c n w),
         keeps,
         tt,
-        keeper_stepped s.words (set s.words (ack_at z.frames c) n) s.views id w (having_noted c n w) h at
-            (λ k. subst (λ ws. PlanOk z.frames z.cpus ws (having_noted c n w))
+        keeper_stepped s.words (set s.words (ack_at z.frames c) n) s.views id w (having_noted at c n w) h here
+            (λ k. subst (λ ws. PlanOk z.frames z.cpus ws (having_noted at c n w))
             (sym (set-get_or s.words (ack_at z.frames c) 0))
-            (plan_noted z.frames z.cpus s.words w c n inside refl k))
-            (λ _ q ok. subst (λ ws. PassOk z.frames z.cpus ws (having_noted c n w) q)
+            (plan_noted z.frames z.cpus s.words w at c n inside refl k))
+            (λ _ q ok. subst (λ ws. PassOk z.frames z.cpus ws (having_noted at c n w) q)
             (sym (set-get_or s.words (ack_at z.frames c) 0))
             ok),
         λ d e. let same : c ≡ d = omega arith in (
           subst (λ k. get_or w.noted k 0 ≤ n) same low,
           ap
-              (λ k. (Keeping (having_noted k n w), [])) same,
+              (λ k. (Keeping (having_noted at k n w), [])) same,
         ),
       )
 

@@ -46,8 +46,8 @@ first_watch frames cpus door = record {
   doors = replicate frames door;
   since = replicate frames 0;
   noted = replicate cpus 0;
-  looks =
-      0;
+  looks = 0;
+  looked_at = 0;
   last = 0;
 }
 
@@ -57,7 +57,15 @@ opening_watch frames cpus door = record (first_watch frames cpus door) { made = 
 
 -- a new pass, which holds nothing
 abbrev pub blank : ℕ → ℕ → Walk
-blank frames cpu = record { cpu = cpu; held = replicate frames None; stamp = 0; acked = 0; looks = 0; last = 0 }
+blank frames cpu = record {
+  cpu = cpu;
+  held = replicate frames None;
+  stamp = 0;
+  acked = 0;
+  looks = 0;
+  looked_at = 0;
+  last = 0;
+}
 
 -- the first n passes of these doors, each new, in order of processor
 abbrev pub first_passes : DoorsModel → ℕ → List PassModel
@@ -78,17 +86,17 @@ pub record AreNew (frames cpus door : ℕ) (doors : DoorsModel) (keeper : Keeper
 abbrev pub HoldsEntry : Walk → ℕ → Type 0
 HoldsEntry p f = (b : ℕ) × (slice_index_or p.held f None ≡ Some b)
 
--- A word was read. It is counted, and kept as the last one.
-abbrev pub having_read : ℕ → Walk → Walk
-having_read word p = record p { looks = p.looks + 1; last = word }
+-- The word at a place of the table was read. It is counted, and kept as the last one, with its place.
+abbrev pub having_read : ℕ → ℕ → Walk → Walk
+having_read at word p = record p { looks = p.looks + 1; looked_at = at; last = word }
 
 -- an entry of frame f, of binding b, is held
 abbrev pub holding : ℕ → ℕ → Walk → Walk
 holding f b p = record p { held = slice_set p.held f (Some b) }
 
--- the stamp was read, and nothing is held
+-- the stamp was read, in word 0, and nothing is held
 abbrev pub forgotten : ℕ → Walk → Walk
-forgotten stamp p = record p { held = replicate (length p.held) None; stamp = stamp; looks = p.looks + 1; last = stamp }
+forgotten stamp p = record (having_read 0 stamp p) { held = replicate (length p.held) None; stamp = stamp }
 
 -- the processor's own word has the stamp of the last `forget`
 abbrev pub acknowledged : Walk → Walk
@@ -110,9 +118,14 @@ shut f w = record w { doors = slice_set w.doors f (slice_index w.doors f + 1); s
 abbrev pub raised : Watch → Watch
 raised w = record w { request = w.request + 1 }
 
--- the acknowledgement of a processor was read
-abbrev pub having_noted : ℕ → ℕ → Watch → Watch
-having_noted cpu word w = record w { noted = slice_set w.noted cpu word; looks = w.looks + 1; last = word }
+-- the acknowledgement of a processor was read, at this place of the table
+abbrev pub having_noted : ℕ → ℕ → ℕ → Watch → Watch
+having_noted at cpu word w = record w {
+  noted = slice_set w.noted cpu word;
+  looks = w.looks + 1;
+  looked_at = at;
+  last = word;
+}
 
 -- only acknowledgements were read between these two
 pub record OnlyNoted (old new : Watch) : Type 0 where

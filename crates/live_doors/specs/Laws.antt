@@ -81,7 +81,7 @@ module _ (frames cpus : ℕ) (words : List ℕ) (plan : Watch) where
   filled_ok_if true p f n is inside door least ok = let e : n % 2 ≡ 0 = eqb-true _ _ is in let h : n ≡ 2 * (n / 2) =
       omega arith in
       let l : 1 ≤ n / 2 = omega arith in
-      holding_ok (having_read n p) f (n / 2) inside (door ∙ h) l ok
+      holding_ok (having_read (door_at f) n p) f (n / 2) inside (door ∙ h) l ok
   filled_ok_if false p f n is inside door least ok = ok
 
   pub filled_ok : (p : Walk) (f n : ℕ) → f < frames → n ≡ get_or words (door_at f) 0 → PlanOk frames cpus words plan
@@ -259,9 +259,9 @@ module _ (frames cpus : ℕ) (words : List ℕ) (plan : Watch) where
       → PassOk frames cpus (set words 0 (plan.request + 1)) (raised plan) q
   pass_raised q ok = further (omega arith) (omega arith) (pass_stays q 0 (plan.request + 1) (λ e. omega arith) ok)
 
-  pub plan_noted : (c n : ℕ) → c < cpus → n ≡ get_or words (ack_at frames c) 0 → PlanOk frames cpus words plan
-      → PlanOk frames cpus words (having_noted c n plan)
-  plan_noted c n inside is k = record {
+  pub plan_noted : (at c n : ℕ) → c < cpus → n ≡ get_or words (ack_at frames c) 0 → PlanOk frames cpus words plan
+      → PlanOk frames cpus words (having_noted at c n plan)
+  plan_noted at c n inside is k = record {
     room = k.room;
     doors_row = k.doors_row;
     since_row = k.since_row;
@@ -332,17 +332,18 @@ module _ (frames cpus : ℕ) (words : List ℕ) (plan : Watch) where
 -- ---- rows and their words
 
 -- a fill that finds an odd word only notes it
-pub filled_odd : (f n : ℕ) (p : Walk) → n % 2 ≡ 1 → filled f n p ≡ having_read n p
+pub filled_odd : (f n : ℕ) (p : Walk) → n % 2 ≡ 1 → filled f n p ≡ having_read (door_at f) n p
 filled_odd f n p odd = ap (λ b. filled_if b f n p) (ne_eqb (n % 2) 0 (λ e. omega arith))
 
 -- a fill that finds an even one holds the entry of its half
-pub filled_even : (f n : ℕ) (p : Walk) → n % 2 ≢ 1 → filled f n p ≡ holding f (n / 2) (having_read (2 * (n / 2)) p)
+pub filled_even : (f n : ℕ) (p : Walk) → n % 2 ≢ 1
+    → filled f n p ≡ holding f (n / 2) (having_read (door_at f) (2 * (n / 2)) p)
 filled_even f n p even = let h : n ≡ 2 * (n / 2) = omega arith in let e : n % 2 ≡ 0 = omega arith in
-    ap (λ b. filled_if b f n p) (eq-eqb (n % 2) 0 e) ∙ ap (λ k. holding f (n / 2) (having_read k p)) h
+    ap (λ b. filled_if b f n p) (eq-eqb (n % 2) 0 e) ∙ ap (λ k. holding f (n / 2) (having_read (door_at f) k p)) h
 
 -- each acknowledgement that was noted is still at least the stamp
 pub noted_still : (w : Watch) (c n stamp : ℕ) → HasNoted w stamp → get_or w.noted c 0 ≤ n
-    → HasNoted (having_noted c n w) stamp
+    → HasNoted (record w { noted = set w.noted c n }) stamp
 noted_still w c n stamp all low d inside =
     let l = length-set w.noted c n in
     dite (ℕ_discrete d c)
@@ -390,8 +391,8 @@ rows_raised r w of =
     record { request = ap (λ k. k + 1) of.request; doors = of.doors; since = of.since; rows = of.rows }
 
 -- an acknowledgement that is read is beside these rows
-pub rows_noted : (c n : ℕ) (r : KeeperRows) (w : Watch) → AreRowsOf r w → AreRowsOf r (having_noted c n w)
-rows_noted c n r w of = record { request = of.request; doors = of.doors; since = of.since; rows = of.rows }
+pub rows_noted : (at c n : ℕ) (r : KeeperRows) (w : Watch) → AreRowsOf r w → AreRowsOf r (having_noted at c n w)
+rows_noted at c n r w of = record { request = of.request; doors = of.doors; since = of.since; rows = of.rows }
 
 pub may_bind_by : (r : KeeperRows) (w : Watch) (cleared f : ℕ) → AreRowsOf r w
     → MayBindBy r.doors r.since cleared f → MayBind w cleared f
@@ -405,20 +406,20 @@ when_bound (Err e) n least even = tt
 
 pub when_admitted : {T : Type 0} (r : Result ℕ Closed) (f n : ℕ) (seen : (Walk → Walk) → T) (x : T)
     → x ≡ seen (filled f n) → IfOk r (λ b. n ≡ 2 * b)
-    → IfOk r (λ b. x ≡ seen (λ p. holding f b (having_read (2 * b) p)))
+    → IfOk r (λ b. x ≡ seen (λ p. holding f b (having_read (door_at f) (2 * b) p)))
 when_admitted (Ok b) f n seen x is even =
     let half : n / 2 ≡ b = omega arith in
     is ∙ ap seen (λ i p. filled_even f n p (λ e. omega arith) i)
-    ∙ ap (λ k. seen (λ p. holding f k (having_read (2 * k) p))) half
+    ∙ ap (λ k. seen (λ p. holding f k (having_read (door_at f) (2 * k) p))) half
 when_admitted (Err e) f n seen x is even = tt
 
 pub when_closed : {T : Type 0} (r : Result ℕ Closed) (f n : ℕ) (seen : (Walk → Walk) → T) (x : T)
     → x ≡ seen (filled f n) → IfErr r (λ e. (e.word ≡ n) × (n % 2 ≡ 1))
-    → IfErr r (λ e. (e.word % 2 ≡ 1) × (x ≡ seen (having_read e.word)))
+    → IfErr r (λ e. (e.word % 2 ≡ 1) × (x ≡ seen (having_read (door_at f) e.word)))
 when_closed (Ok b) f n seen x is odd = tt
 when_closed (Err e) f n seen x is odd = (
   ap (λ k. k % 2) odd.0 ∙ odd.1,
-  is ∙ ap seen (λ i p. filled_odd f n p odd.1 i) ∙ ap (λ k. seen (having_read k)) (sym odd.0),
+  is ∙ ap seen (λ i p. filled_odd f n p odd.1 i) ∙ ap (λ k. seen (having_read (door_at f) k)) (sym odd.0),
 )
 
 -- a word that was read from a row

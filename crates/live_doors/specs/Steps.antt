@@ -56,8 +56,8 @@ pub record DoorsFit (key : Size) (table : TableId) (f c : ℕ) : Type 0 where
   pub slots : table.slots ≡ 0
 
 abbrev pub filled_if : Bool → ℕ → ℕ → Walk → Walk
-filled_if true f word p = holding f (word / 2) (having_read word p)
-filled_if false f word p = having_read word p
+filled_if true f word p = holding f (word / 2) (having_read (door_at f) word p)
+filled_if false f word p = having_read (door_at f) word p
 
 -- An even word at a door admits its half, and the entry is held. An odd one is only noted.
 abbrev pub filled : ℕ → ℕ → Walk → Walk
@@ -80,7 +80,7 @@ abbrev pub Fills : Told
 Fills s old word new = (f : ℕ) → s.word ≡ door_at f → (1 ≤ word) × NowWalks new (filled f word (walk_of old.0))
 
 abbrev pub Forgets : Told
-Forgets s old word new = NowWalks new (forgotten word (walk_of old.0))
+Forgets s old word new = s.word ≡ 0 → NowWalks new (forgotten word (walk_of old.0))
 
 abbrev pub Acknowledges : Told
 Acknowledges s old word new = NowWalks new (acknowledged (walk_of old.0))
@@ -94,7 +94,7 @@ Raises s old word new = NowKeeps new (raised (watch_of old.0))
 -- an acknowledgement never falls
 abbrev pub Looks : Told
 Looks s old word new = (cpu : ℕ) → s.word ≡ ack_at (length (watch_of old.0).doors) cpu
-    → (slice_index (watch_of old.0).noted cpu ≤ word) × NowKeeps new (having_noted cpu word (watch_of old.0))
+    → (slice_index (watch_of old.0).noted cpu ≤ word) × NowKeeps new (having_noted s.word cpu word (watch_of old.0))
 
 -- the keeper has made one pass more
 abbrev pub keeper_with_pass : View → View

@@ -7,6 +7,7 @@ ghost use lib.ListN.{get_elem?};
 ghost use Rattle.live_doors.specs.Kept.{IsClearOf};
 ghost use Rattle.live_doors.specs.Doors.{IsPassOf, IsKeeperOf, IsAdmitted, OnlyNoted, HasNoted, having_read, holding};
 ghost use Rattle.live_doors.specs.Doors.{forgotten, acknowledged, shut, raised, having_noted, AreNew};
+ghost use Rattle.live_doors.specs.Steps.{door_at, ack_at};
 
 use crate::errors::{Behind, Closed, NoMemory};
 use crate::keeper::Keeper;
@@ -88,8 +89,10 @@ impl LiveDoors {
         requires frame { f < self.now.frames }
         ensures pass { IsPassOf self.now pass.new }
         ensures bound { IfOk result (λ b. 1 ≤ b) }
-        ensures admitted { IfOk result (λ b. pass.new.walk ≡ holding f b (having_read (2 * b) pass.old.walk)) }
-        ensures closed { IfErr result (λ e. (e.word % 2 ≡ 1) × (pass.new.walk ≡ having_read e.word pass.old.walk)) }
+        ensures admitted { IfOk result (λ b. pass.new.walk
+            ≡ holding f b (having_read (door_at f) (2 * b) pass.old.walk)) }
+        ensures closed { IfErr result (λ e. (e.word % 2 ≡ 1)
+            × (pass.new.walk ≡ having_read (door_at f) e.word pass.old.walk)) }
     {
         let words = &self.table.shared;
         let word = words.load::<Fill>(&mut pass.seat, door_word(f));
@@ -158,7 +161,7 @@ impl LiveDoors {
         requires keeper { IsKeeperOf self.now keeper.old }
         requires cpu { cpu < self.now.cpus }
         ensures keeper { IsKeeperOf self.now keeper.new }
-        ensures noted { keeper.new.watch ≡ having_noted cpu result keeper.old.watch }
+        ensures noted { keeper.new.watch ≡ having_noted (ack_at self.now.frames cpu) cpu result keeper.old.watch }
         ensures cleared { keeper.new.cleared ≡ keeper.old.cleared }
     {
         let word = acknowledgement_word(self.frames, cpu);
@@ -181,6 +184,7 @@ impl LiveDoors {
         ensures behind { IfErr result (λ b. (b.cpu < self.now.cpus) × (b.seen < stamp)) }
         ensures seen { IfErr result (λ b. (keeper.new.watch.last ≡ b.seen)
             × (slice_index keeper.new.watch.noted b.cpu ≡ b.seen)) }
+        ensures looked_at { IfErr result (λ b. keeper.new.watch.looked_at ≡ ack_at self.now.frames b.cpu) }
         ensures looked_so_far { IfErr result (λ b. keeper.new.watch.looks ≡ keeper.old.watch.looks + b.cpu + 1) }
         ensures first { IfErr result (λ b. (cpu : ℕ) → cpu < b.cpu → stamp ≤ slice_index keeper.new.watch.noted cpu) }
         ensures not_cleared { OnErr result (keeper.new.cleared ≡ keeper.old.cleared) }

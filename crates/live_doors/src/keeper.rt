@@ -1,6 +1,6 @@
 //! The keeper of the doors.
 ghost use Rattle.std.specs.Prelude.{◌≡◌, ◌<◌, ◌↔◌, length, max, IsTrue};
-ghost use Rattle.live_doors.specs.Doors.{HasNoted, MayBind, KeeperModel};
+ghost use Rattle.live_doors.specs.Doors.{HasNoted, IsAdmitted, MayBind, KeeperModel};
 ghost use Rattle.live_doors.specs.Kept.{HasNoHolder};
 ghost use Rattle.live_doors.specs.Steps.{watch_of, KeeperFits};
 
@@ -37,6 +37,21 @@ impl Keeper {
             rows,
             cleared: 0,
         }
+    }
+
+    /// The stamp that was raised last. Takes no memory and constant time. Source: own.
+    pub fn last_stamp(&self) -> u64
+        ensures { result ≡ self.now.watch.request }
+    {
+        self.rows.last_stamp()
+    }
+
+    /// Whether the door of frame `f` admits a binding. Takes no memory and constant time. Source: own.
+    pub fn is_admitted(&self, f: u32) -> bool
+        requires { f < length self.now.watch.doors }
+        ensures { IsTrue result ↔ IsAdmitted self.now.watch f }
+    {
+        self.rows.is_admitted(f)
     }
 
     /// Whether frame `f` may be bound anew: it was never bound, or it is closed and `all_clear` answered Ok for a

@@ -70,6 +70,21 @@ impl Rows {
         self.request
     }
 
+    /// The stamp that was raised last.
+    pub fn last_stamp(&self) -> u64
+        ensures { result ≡ self.now.request }
+    {
+        self.request
+    }
+
+    /// The binding that the door of frame `f` admits, or was closed on.
+    pub fn binding(&self, f: u32) -> u64
+        requires { f < length self.now.doors }
+        ensures { result ≡ slice_index self.now.doors f / 2 }
+    {
+        self.doors[f as usize] / 2
+    }
+
     /// Whether the door of frame `f` admits a binding.
     pub fn is_admitted(&self, f: u32) -> bool
         requires { f < length self.now.doors }

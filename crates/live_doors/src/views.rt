@@ -13,6 +13,8 @@ pub struct Walk {
     pub acked: u64,
     /// How many words were read.
     pub looks: u64,
+    /// Which word of the table was read last.
+    pub looked_at: u64,
     /// The word that was read last.
     pub last: u64,
 }
@@ -31,6 +33,8 @@ pub struct Watch {
     pub noted: [u64; 0],
     /// How many words were read.
     pub looks: u64,
+    /// Which word of the table was read last.
+    pub looked_at: u64,
     /// The word that was read last.
     pub last: u64,
 }

@@ -17,7 +17,7 @@ load-requires c = (
 pub invariant_of-keeper : goal.invariant_of-keeper
 invariant_of-keeper c =
     let told = c.load.ensures.2 c.args.cpu (search rules) in
-    keeper_fits c.load.new.seat.me _ _ _ told.1 (rows_noted c.args.cpu c.load.result c.keeper.inside.rows
+    keeper_fits c.load.new.seat.me _ _ _ told.1 (rows_noted _ c.args.cpu c.load.result c.keeper.inside.rows
     (watch_of c.keeper.inside.seat.me.0) c.keeper.invariant.rows) (noted_still (watch_of c.keeper.inside.seat.me.0)
     c.args.cpu c.load.result _ c.keeper.invariant.cleared told.0)
 
