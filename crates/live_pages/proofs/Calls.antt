@@ -169,10 +169,10 @@ module _ (z : Size) (slots id : ℕ) (m : Seat) (all : slots ≡ z.frames) where
       given_at KeeperGives i (turn_at z.frames z.cpus f) _ is place (keeper_gives z id f (holder_of m.0) hd has)
 
 -- a pass whose fields are those of its view
-pub pass_fits : (m : Seat) (q : Walker) (e : EntryRows) → m ≡ (Passing q, []) → q.hand ≡ Free
-    → AreEntriesOf e q.walk → PassFits m e
-pass_fits m q e is free entries = subst (λ x. PassFits x e) (sym is) record
-    { seat = refl; hand = free; entries = entries }
+pub pass_fits : (m : Seat) (q : Walker) (e : EntryRows) (touches : ℕ) → m ≡ (Passing q, []) → q.hand ≡ Free
+    → AreEntriesOf e q.walk → touches ≡ length q.made → PassFits m e touches
+pass_fits m q e touches is free entries count = subst (λ x. PassFits x e touches) (sym is) record
+    { seat = refl; hand = free; entries = entries; touches = count }
 
 -- it came with the same pages as before
 pub pass_stays_of : (pages : PagesModel) (now : PassModel) (t t' : TableId) (m m' : Seat) (q : Walker)

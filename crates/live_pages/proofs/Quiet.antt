@@ -289,7 +289,7 @@ module _ (z : Size) where
             ) (λ _. h.book_ok.plan_ok) (λ ok. forgotten_ok z.frames z.cpus s.words h.known.plan.watch w.walk n refl
             h.book_ok.plan_ok ok)
             (λ q _ ok. ok)),
-        refl,
+        λ _. refl,
       )
 
   pub acknowledges : (slots id : ℕ) (w : Walker) → w.hand ≡ Free → w.walk.cpu < z.cpus
@@ -355,23 +355,24 @@ module _ (z : Size) where
   pub looks : (slots id c : ℕ) (k : Holder) → c < z.cpus → length k.watch.doors ≡ z.frames
       → Allows (InOrder z) slots id (Keeping k, []) (ack_at z.frames c) (λ n. n)
       (Looks (step slots (ack_at z.frames c) 0 0 M.none) (Keeping k, []))
-  looks slots id c k inside row s h homes at fits =
+  looks slots id c k inside row s h homes here fits =
+      let at : ℕ = ack_at z.frames c in
       let n : ℕ = get_or s.words (ack_at z.frames c) 0 in
-      let mine = h.seats_ok id (Keeping k) at in
+      let mine = h.seats_ok id (Keeping k) here in
       let low : get_or k.watch.noted c 0 ≤ n = subst (λ p. get_or p.watch.noted c 0 ≤ n) (sym mine.1)
       (h.book_ok.plan_ok.noted c inside) in (
-        Keeping (watching (having_noted c n) k),
+        Keeping (watching (having_noted at c n) k),
         keeps,
         tt,
-        subst (λ ws. Kept z ws s.homes (set s.views id (Keeping (watching (having_noted c n) k))))
+        subst (λ ws. Kept z ws s.homes (set s.views id (Keeping (watching (having_noted at c n) k))))
             (sym (set-get_or s.words (ack_at z.frames c) 0))
-            (keeper_stepped s.words s.words s.homes s.views id k (having_noted c n) h at (
+            (keeper_stepped s.words s.words s.homes s.views id k (having_noted at c n) h here (
               refl,
               λ i _. refl,
-            ) (λ f. refl) refl (λ p. plan_noted z.frames z.cpus s.words k.watch c n inside refl p)
+            ) (λ f. refl) refl (λ p. plan_noted z.frames z.cpus s.words k.watch at c n inside refl p)
             (λ _ q ok. ok)),
         λ d e. let same : c ≡ d = omega arith in (
           subst (λ j. get_or k.watch.noted j 0 ≤ n) same low,
-          ap (λ j. (Keeping (watching (having_noted j n) k), [])) same,
+          ap (λ j. (Keeping (watching (having_noted at j n) k), [])) same,
         ),
       )

@@ -28,8 +28,8 @@ use Rattle.live_pages.specs.declared.views.Holder.{Holder}
 use Rattle.live_pages.specs.declared.views.View.{View}
 use Rattle.live_pages.specs.declared.views.View.TheVariants.{Passing, Keeping, Spent}
 use Rattle.live_pages.specs.Touches.{Given, after, mine}
-use Rattle.live_pages.specs.Turns.{turn_at, ticket_at, current, hand_of, walking, taken, page_of, Takes, Gives}
-use Rattle.live_pages.specs.Turns.{KeeperTakes, KeeperGives}
+use Rattle.live_pages.specs.Turns.{turn_at, turn_of, ticket_at, current, hand_of, walking, taken, page_of, Takes}
+use Rattle.live_pages.specs.Turns.{Gives, KeeperTakes, KeeperGives}
 use Rattle.live_pages.specs.Kept.{BookOk, TurnsOk, HandOk, HoldsHand, WalkerOk, SeatOk, Kept}
 use Rattle.live_pages.proofs.Quiet.{set_at, InOrder, pass_stepped}
 
@@ -265,8 +265,9 @@ module _ (z : Size) where
       (Takes (step slots (turn_at z.frames z.cpus f) 0 1 M.none) (Passing w, []))
   takes_turn slots id f b w free inside holds s h homes at fits =
       let mine = h.seats_ok id (Passing w) at in
-      let n : ℕ = get_or s.words (turn_at z.frames z.cpus f) 0 in
-      let frame : (g : ℕ) → turn_at z.frames z.cpus f ≡ turn_at (length w.walk.held) w.cpus g
+      let turn : ℕ = turn_at z.frames z.cpus f in
+      let n : ℕ = get_or s.words turn 0 in
+      let frame : (g : ℕ) → turn ≡ turn_at (length w.walk.held) w.cpus g
       → f ≡ g = λ g e. (let r = mine.1.pass_ok.row in let c = mine.1.all in omega arith) in
       exchanged n 0 1 (λ x. Owed z s id [] (turn_at z.frames z.cpus f) x
       (Takes (step slots (turn_at z.frames z.cpus f) 0 1 M.none) (Passing w, [])))
@@ -280,7 +281,8 @@ module _ (z : Size) where
               mine.0,
               record {
                 all = mine.1.all;
-                pass_ok = pass_above z.frames z.cpus s.words h.known.plan.watch (having_read 0 w.walk)
+                pass_ok = pass_above z.frames z.cpus s.words h.known.plan.watch
+                    (having_read (turn_of w f) 0 w.walk)
                     (turn_at z.frames z.cpus f) 1 (omega arith) h.book_ok.plan_ok
                     mine.1.pass_ok;
                 made = mine.1.made;
@@ -307,12 +309,12 @@ module _ (z : Size) where
         ),
       ))
       (λ (miss : n ≢ 0). (
-        Passing (walking (having_read n) w),
+        Passing (walking (having_read turn n) w),
         keeps,
         tt,
-        subst (λ ws. Kept z ws s.homes (set s.views id (Passing (walking (having_read n) w))))
+        subst (λ ws. Kept z ws s.homes (set s.views id (Passing (walking (having_read turn n) w))))
             (sym (set-get_or s.words (turn_at z.frames z.cpus f) 0))
-            (pass_stepped z s.words s.words s.homes s.views id w (having_read n) h at free refl (
+            (pass_stepped z s.words s.words s.homes s.views id w (having_read turn n) h at free refl (
               refl,
               λ i _. refl,
             ) (λ _. h.book_ok.plan_ok) (λ ok. ok) (λ q _ ok. ok)),

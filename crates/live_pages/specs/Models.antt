@@ -49,11 +49,12 @@ pub record IsKeeperOf (pages : PagesModel) (keeper : KeeperModel) : Type 0 where
   pub cpus : length keeper.holder.watch.noted ≡ pages.cpus
   pub parts : length keeper.holder.parts ≡ pages.cpus
 
--- what a pass has beside its seat is what the seat knows, and it has no turn
-pub record PassFits (m : Seat) (e : EntryRows) : Type 0 where
+-- what a pass has beside its seat is what the seat knows, as many touches were made, and it has no turn
+pub record PassFits (m : Seat) (e : EntryRows) (count : ℕ) : Type 0 where
   pub seat : m ≡ (Passing (walker_of m.0), [])
   pub hand : (walker_of m.0).hand ≡ Free
   pub entries : AreEntriesOf e (walker_of m.0).walk
+  pub touches : count ≡ length (walker_of m.0).made
 
 -- what the keeper has beside its seat is what the seat knows, it has no turn, and from each processor it has an
 -- acknowledgement of the greatest stamp for which all was clear

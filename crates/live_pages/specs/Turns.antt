@@ -84,7 +84,7 @@ Fills s old word new = (f : ℕ) → s.word ≡ door_at f → (1 ≤ word)
     × (new ≡ (Passing (walking (filled f word) (walker_of old.0)), old.1))
 
 abbrev pub Forgets : Told
-Forgets s old word new = new ≡ (Passing (walking (forgotten word) (walker_of old.0)), old.1)
+Forgets s old word new = s.word ≡ 0 → new ≡ (Passing (walking (forgotten word) (walker_of old.0)), old.1)
 
 abbrev pub Acknowledges : Told
 Acknowledges s old word new = new ≡ (Passing (walking acknowledged (walker_of old.0)), old.1)
@@ -98,7 +98,7 @@ Raises s old word new = new ≡ (Keeping (watching raised (holder_of old.0)), ol
 abbrev pub Looks : Told
 Looks s old word new = (cpu : ℕ) → s.word ≡ ack_at (length (holder_of old.0).watch.doors) cpu
     → (slice_index (holder_of old.0).watch.noted cpu ≤ word)
-    × (new ≡ (Keeping (watching (having_noted cpu word) (holder_of old.0)), old.1))
+    × (new ≡ (Keeping (watching (having_noted s.word cpu word) (holder_of old.0)), old.1))
 
 -- the touch that lies with the page in hand, if a page is
 abbrev pub page_in_hand : List (ℕ × Option Held) → Option Held
@@ -113,15 +113,19 @@ binding_in (Some b) = b
 abbrev pub binding_at : Walk → ℕ → ℕ
 binding_at p f = binding_in (slice_index_or p.held f None)
 
+-- the word of frame f's turn, as a pass knows it
+abbrev pub turn_of : Walker → ℕ → ℕ
+turn_of w f = turn_at (length w.walk.held) w.cpus f
+
 -- the pass read that the turn was free, and has it now, with this page
 abbrev pub taken : ℕ → List ℕ → Walker → Walker
-taken f page w = record w { walk = having_read 0 w.walk; hand = Has f page }
+taken f page w = record w { walk = having_read (turn_of w f) 0 w.walk; hand = Has f page }
 
 -- A pass has the turn of frame f, with the page that its slot held; or the word was not 0, and it is noted.
 abbrev pub Takes : Told
-Takes s old word new = (f : ℕ) → s.word ≡ turn_at (length (walker_of old.0).walk.held) (walker_of old.0).cpus f
+Takes s old word new = (f : ℕ) → s.word ≡ turn_of (walker_of old.0) f
     → (word ≡ 0 → (h : Held) × (new ≡ (Passing (taken f h.page (walker_of old.0)), (f, Some h) ∷ old.1)))
-    × (word ≢ 0 → new ≡ (Passing (walking (having_read word) (walker_of old.0)), old.1))
+    × (word ≢ 0 → new ≡ (Passing (walking (having_read s.word word) (walker_of old.0)), old.1))
 
 -- the pass has made this touch of frame f by this ticket, and has this page after it
 abbrev pub having_made : ℕ → ℕ → Touch → ℕ → List ℕ → Walker → Walker

@@ -3,7 +3,7 @@ ghost use Rattle.std.specs.Prelude.{◌≡◌, ◌<◌, ◌↔◌, length, max, 
 ghost use Rattle.live_doors.specs.Doors.{HasNoted, IsAdmitted, MayBind};
 ghost use Rattle.live_pages.specs.Kept.{HasNoHolder};
 ghost use Rattle.live_pages.specs.Models.{KeeperModel, KeeperFits};
-ghost use Rattle.live_pages.specs.Turns.{holder_of};
+ghost use Rattle.live_pages.specs.Turns.{current, holder_of};
 
 use crate::rule::Place;
 use live_doors::Rows;
@@ -36,6 +36,22 @@ impl Keeper {
             rows,
             cleared: 0,
         }
+    }
+
+    /// The stamp that was raised last. Takes no memory and constant time. Source: own.
+    pub fn last_stamp(&self) -> u64
+        ensures { result ≡ self.now.holder.watch.request }
+    {
+        self.rows.last_stamp()
+    }
+
+    /// The binding that the door of frame `f` admits, or was closed on; 0 where the frame was never bound. Takes no
+    /// memory and constant time. Source: own.
+    pub fn binding(&self, f: u32) -> u64
+        requires { f < length self.now.holder.watch.doors }
+        ensures { result ≡ current self.now.holder.watch f }
+    {
+        self.rows.binding(f)
     }
 
     /// Whether the door of frame `f` admits a binding. Takes no memory and constant time. Source: own.

@@ -97,7 +97,11 @@ fn admit(
 {
     let entries = Entries::none(alloc, pages.frames, cpu)?;
     let seat = pages.table.shared.split_seat::<Admit>(&mut keeper.seat);
-    Ok(Pass { seat, entries })
+    Ok(Pass {
+        seat,
+        entries,
+        touches: 0,
+    })
 }
 
 // The passes of all processors.

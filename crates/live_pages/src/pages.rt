@@ -4,6 +4,7 @@ ghost use Rattle.std.specs.Prelude.{Some, OnOk, OnErr, IfOk, IfErr};
 ghost use Rattle.live_pages.specs.declared.rule.Held.{Held};
 ghost use Rattle.live_doors.specs.Doors.{HoldsEntry, IsAdmitted, OnlyNoted, HasNoted, MayBind, having_read, holding};
 ghost use Rattle.live_doors.specs.Doors.{forgotten, acknowledged, shut, raised, having_noted};
+ghost use Rattle.live_doors.specs.Steps.{door_at, ack_at};
 ghost use Rattle.live_pages.specs.Kept.{IsClearOf, IsCurrent, HasNoHolder};
 ghost use Rattle.live_pages.specs.Touches.{place_of, AreBelow};
 ghost use Rattle.live_pages.specs.Turns.{walking, watching, walker_of, current, binding_at, turn_at, ticket_at};
@@ -76,9 +77,9 @@ impl LivePages {
         ensures pass { IsPassOf self.now pass.new }
         ensures bound { IfOk result (λ b. 1 ≤ b) }
         ensures admitted { IfOk result (λ b. pass.new.walker
-            ≡ walking (λ p. holding f b (having_read (2 * b) p)) pass.old.walker) }
+            ≡ walking (λ p. holding f b (having_read (door_at f) (2 * b) p)) pass.old.walker) }
         ensures closed { IfErr result (λ e. (e.word % 2 ≡ 1)
-            × (pass.new.walker ≡ walking (having_read e.word) pass.old.walker)) }
+            × (pass.new.walker ≡ walking (having_read (door_at f) e.word) pass.old.walker)) }
     {
         let words = &self.table.shared;
         let word = words.load::<Fill>(&mut pass.seat, door_word(f));
@@ -160,7 +161,8 @@ impl LivePages {
         requires keeper { IsKeeperOf self.now keeper.old }
         requires cpu { cpu < self.now.cpus }
         ensures keeper { IsKeeperOf self.now keeper.new }
-        ensures noted { keeper.new.holder ≡ watching (having_noted cpu result) keeper.old.holder }
+        ensures noted { keeper.new.holder
+            ≡ watching (having_noted (ack_at self.now.frames cpu) cpu result) keeper.old.holder }
         ensures cleared { keeper.new.cleared ≡ keeper.old.cleared }
     {
         let word = acknowledgement_word(self.frames, cpu);
@@ -184,6 +186,7 @@ impl LivePages {
         ensures behind { IfErr result (λ b. (b.cpu < self.now.cpus) × (b.seen < stamp)) }
         ensures seen { IfErr result (λ b. (keeper.new.holder.watch.last ≡ b.seen)
             × (slice_index keeper.new.holder.watch.noted b.cpu ≡ b.seen)) }
+        ensures looked_at { IfErr result (λ b. keeper.new.holder.watch.looked_at ≡ ack_at self.now.frames b.cpu) }
         ensures looked_so_far { IfErr result (λ b. keeper.new.holder.watch.looks
             ≡ keeper.old.holder.watch.looks + b.cpu + 1) }
         ensures first { IfErr result (λ b. (cpu : ℕ) → cpu < b.cpu
@@ -254,8 +257,8 @@ impl LivePages {
         ensures above { IfOk result (λ done. AreBelow done.ticket pass.old.walker.made) }
         ensures touched { IfOk result (λ done. pass.new.walker
             ≡ having_touched done.ticket f t done.word pass.old.walker) }
-        ensures busy { IfErr result (λ e. (e.word ≢ 0)
-            × (pass.new.walker ≡ walking (having_read e.word) pass.old.walker)) }
+        ensures busy { IfErr result (λ e. (e.word ≢ 0) × (pass.new.walker
+            ≡ walking (having_read (turn_at self.now.frames self.now.cpus f) e.word) pass.old.walker)) }
     {
         let words = &self.table.shared;
         let turn = self.turn_word(f);
@@ -263,7 +266,9 @@ impl LivePages {
         if word != 0 {
             return Err(Busy { word });
         }
-        Ok(self.touch_in_hand(&mut pass.seat, f, t))
+        let done = self.touch_in_hand(&mut pass.seat, f, t);
+        pass.touches += 1;
+        Ok(done)
     }
 
     // Puts the page into the slot in hand, and takes out the one that lay there.

@@ -12,6 +12,7 @@ use std::marker::Model;
 pub struct Pass {
     pub(crate) seat: Place,
     pub(crate) entries: Entries,
+    pub(crate) touches: u64,
 }
 
 impl Model for Pass {
@@ -22,10 +23,17 @@ impl Model for Pass {
 
     ghost view = { λ p. record { table = p.seat.table_id; walker = walker_of p.seat.me.0 } };
 
-    ghost invariant = { λ p. PassFits p.seat.me p.entries };
+    ghost invariant = { λ p. PassFits p.seat.me p.entries p.touches };
 }
 
 impl Pass {
+    /// How many touches the pass has made. Takes no memory and constant time. Source: own.
+    pub fn touches(&self) -> u64
+        ensures { result ≡ length self.now.walker.made }
+    {
+        self.touches
+    }
+
     /// Whether the pass holds an entry of frame `f`. Takes no memory and constant time. Source: own.
     pub fn holds(&self, f: u32) -> bool
         requires { f < length self.now.walker.walk.held }

@@ -28,9 +28,9 @@ seen c = ap (λ x. walker_of x.0) (read c) ∙ ap (λ v. walking (filled c.args.
     c.pass.view_is
 
 pub invariant_of-pass : goal.invariant_of-pass
-invariant_of-pass c = pass_fits c.load-word.new.seat.me _ _ (read c) c.pass.invariant.hand (rw c.enter.ensures.entries
+invariant_of-pass c = pass_fits c.load-word.new.seat.me _ _ _ (read c) c.pass.invariant.hand (rw c.enter.ensures.entries
     (entries_filled c.args.f c.load-word.result c.pass.inside.entries (walker_of c.pass.inside.seat.me.0).walk
-    c.pass.invariant.entries))
+    c.pass.invariant.entries)) c.pass.invariant.touches
 
 pub returns-clause-pass : goal.returns-clause-pass
 returns-clause-pass c =

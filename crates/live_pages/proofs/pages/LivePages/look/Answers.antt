@@ -1,10 +1,8 @@
-use Rattle.std.proofs.Common.{rules, ap, refl, ◌∙◌}
+use Rattle.std.proofs.Common.{rules, refl}
 use Rattle.std.proofs.lemmas.List.{length-set}
-use Rattle.live_doors.specs.Doors.{having_noted}
 use Rattle.live_doors.specs.Laws.{noted_still, rows_noted}
-use Rattle.live_pages.specs.declared.views.View.TheVariants.{Keeping}
-use Rattle.live_pages.specs.Turns.{watching, holder_of}
-use Rattle.live_pages.proofs.Calls.{looks_at, keeper_fits, keeper_stays_of}
+use Rattle.live_pages.specs.Turns.{holder_of}
+use Rattle.live_pages.proofs.Calls.{looks_at, keeper_fits, keeper_stays_of, told_alone}
 use Rattle.live_pages.proofs.pages.LivePages.look.Goals as goal
 
 pub load-requires : goal.load-requires
@@ -18,9 +16,7 @@ load-requires c = (
 pub invariant_of-keeper : goal.invariant_of-keeper
 invariant_of-keeper c =
     let told = c.load.ensures.2 c.args.cpu (search rules) in
-    keeper_fits c.load.new.seat.me _ _ _ (told.1
-    ∙ ap (λ cs. (Keeping (watching (having_noted c.args.cpu c.load.result) (holder_of c.keeper.inside.seat.me.0)), cs))
-    (ap (λ m. m.1) c.keeper.invariant.seat)) c.keeper.invariant.hand (rows_noted c.args.cpu c.load.result
+    keeper_fits c.load.new.seat.me _ _ _ (told_alone c.keeper.invariant.seat told.1) c.keeper.invariant.hand (rows_noted _ c.args.cpu c.load.result
     c.keeper.inside.rows (holder_of c.keeper.inside.seat.me.0).watch c.keeper.invariant.rows)
     (noted_still (holder_of c.keeper.inside.seat.me.0).watch c.args.cpu c.load.result _ c.keeper.invariant.cleared
     told.0)
@@ -28,7 +24,5 @@ invariant_of-keeper c =
 pub returns-clause-keeper : goal.returns-clause-keeper
 returns-clause-keeper c = keeper_stays_of c.args.self.now c.args.keeper.now _ c.load.new.seat.table_id _ _
     c.keeper.inside.seat.me c.load.new.seat.me _
-    c.keeper.view_is c.requires.keeper c.load.ensures.0 ((c.load.ensures.2 c.args.cpu (search rules)).1
-    ∙ ap (λ cs. (Keeping (watching (having_noted c.args.cpu c.load.result) (holder_of c.keeper.inside.seat.me.0)), cs))
-    (ap (λ m. m.1) c.keeper.invariant.seat))
-    refl refl (length-set _ _ _) refl
+    c.keeper.view_is c.requires.keeper c.load.ensures.0
+    (told_alone c.keeper.invariant.seat (c.load.ensures.2 c.args.cpu (search rules)).1) refl refl (length-set _ _ _) refl

@@ -17,15 +17,15 @@ has_turn c free = let got = (c.compare_exchange-word.ensures.2 c.args.f (search 
     (got.0, told_with c.pass.invariant.seat got.1)
 
 -- and after the touch it has none
-made : (c : goal.After-touch_in_hand) → c.compare_exchange-word.result ≡ 0
-    → c.touch_in_hand.new.seat.me ≡ (
-      Passing (having_touched c.touch_in_hand.result.ticket c.args.f c.args.t c.touch_in_hand.result.word
+made : (c : goal.After-pass-1) → c.compare_exchange-word.result ≡ 0
+    → c.touch_in_hand-done.new.seat.me ≡ (
+      Passing (having_touched c.touch_in_hand-done.result.ticket c.args.f c.args.t c.touch_in_hand-done.result.word
           (walker_of c.pass.inside.seat.me.0)),
       [],
     )
-made c free = c.touch_in_hand.ensures.touched
+made c free = c.touch_in_hand-done.ensures.touched
     ∙ ap (λ x. (
-      Passing (touched_in_hand c.touch_in_hand.result.ticket c.args.f c.args.t c.touch_in_hand.result.word
+      Passing (touched_in_hand c.touch_in_hand-done.result.ticket c.args.f c.args.t c.touch_in_hand-done.result.word
           (walker_of x.0)),
       [],
     )) (told_with c.pass.invariant.seat
@@ -42,9 +42,9 @@ compare_exchange-word-requires c = (
 )
 
 pub invariant_of-pass : goal.invariant_of-pass
-invariant_of-pass c = pass_fits c.compare_exchange-word.new.seat.me _ _ (told_alone c.pass.invariant.seat
+invariant_of-pass c = pass_fits c.compare_exchange-word.new.seat.me _ _ _ (told_alone c.pass.invariant.seat
     ((c.compare_exchange-word.ensures.2 c.args.f (search rules)).1 c.if-word-ne0.true))
-    c.pass.invariant.hand c.pass.invariant.entries
+    c.pass.invariant.hand c.pass.invariant.entries c.pass.invariant.touches
 
 pub returns-then-word-ne0-clause-pass : goal.returns-then-word-ne0-clause-pass
 returns-then-word-ne0-clause-pass c =
@@ -58,11 +58,13 @@ returns-then-word-ne0-clause-busy c = (
   c.if-word-ne0.true,
   ap (λ x. walker_of x.0) (told_alone c.pass.invariant.seat
       ((c.compare_exchange-word.ensures.2 c.args.f (search rules)).1 c.if-word-ne0.true))
-      ∙ ap (λ v. walking (having_read c.compare_exchange-word.result) v.walker) c.pass.view_is,
+      ∙ ap (λ v. walking (having_read c.turn_word-turn.result c.compare_exchange-word.result) v.walker) c.pass.view_is
+      ∙ ap (λ i. walking (having_read i c.compare_exchange-word.result) c.args.pass.now.walker)
+      c.turn_word-turn.ensures,
 )
 
-pub touch_in_hand-requires-clause-hand : goal.touch_in_hand-requires-clause-hand
-touch_in_hand-requires-clause-hand c =
+pub touch_in_hand-done-requires-clause-hand : goal.touch_in_hand-done-requires-clause-hand
+touch_in_hand-done-requires-clause-hand c =
     let there = has_turn c (search rules) in (
       there.0,
       self_form c.compare_exchange-word.new.seat.me (taken c.args.f there.0.page (walker_of c.pass.inside.seat.me.0))
@@ -70,32 +72,32 @@ touch_in_hand-requires-clause-hand c =
       ap (λ x. (walker_of x.0).hand) there.1,
     )
 
-pub touch_in_hand-requires-clause-few : goal.touch_in_hand-requires-clause-few
-touch_in_hand-requires-clause-few c =
+pub touch_in_hand-done-requires-clause-few : goal.touch_in_hand-done-requires-clause-few
+touch_in_hand-done-requires-clause-few c =
     subst (λ x. length (walker_of x.0).made < 2 ^ 32) (sym (has_turn c (search rules)).1)
     (subst (λ v. length v.walker.made < 2 ^ 32) (sym c.pass.view_is) c.requires.few)
 
 pub invariant_of-pass-2 : goal.invariant_of-pass-2
-invariant_of-pass-2 c = pass_fits c.touch_in_hand.new.seat.me _ _ (made c (search rules)) refl
-    c.pass.invariant.entries
+invariant_of-pass-2 c = pass_fits c.touch_in_hand-done.new.seat.me _ _ _ (made c (search rules)) refl
+    c.pass.invariant.entries (search rules)
 
 pub returns-clause-pass : goal.returns-clause-pass
 returns-clause-pass c =
-    pass_stays_of c.args.self.now c.args.pass.now _ c.touch_in_hand.new.seat.table_id c.pass.inside.seat.me
-    c.touch_in_hand.new.seat.me _ c.pass.view_is
-    c.requires.pass (c.touch_in_hand.ensures.seat.0 ∙ c.compare_exchange-word.ensures.0) (made c (search rules)) refl
+    pass_stays_of c.args.self.now c.args.pass.now _ c.touch_in_hand-done.new.seat.table_id c.pass.inside.seat.me
+    c.touch_in_hand-done.new.seat.me _ c.pass.view_is
+    c.requires.pass (c.touch_in_hand-done.ensures.seat.0 ∙ c.compare_exchange-word.ensures.0) (made c (search rules)) refl
     refl refl
 
 pub returns-clause-touched : goal.returns-clause-touched
 returns-clause-touched c = ap (λ x. walker_of x.0) (made c (search rules)) ∙ ap (λ v. having_touched
-    c.touch_in_hand.result.ticket c.args.f c.args.t c.touch_in_hand.result.word v.walker) c.pass.view_is
+    c.touch_in_hand-done.result.ticket c.args.f c.args.t c.touch_in_hand-done.result.word v.walker) c.pass.view_is
 
 pub returns-clause-above : goal.returns-clause-above
 returns-clause-above c =
     let got = (c.compare_exchange-word.ensures.2 c.args.f (search rules)).0 (search rules) in
-    subst (λ v. AreBelow c.touch_in_hand.result.ticket v.walker.made) c.pass.view_is
-    (subst (λ x. AreBelow c.touch_in_hand.result.ticket (walker_of x.0).made)
-    (told_with c.pass.invariant.seat got.1) c.touch_in_hand.ensures.above)
+    subst (λ v. AreBelow c.touch_in_hand-done.result.ticket v.walker.made) c.pass.view_is
+    (subst (λ x. AreBelow c.touch_in_hand-done.result.ticket (walker_of x.0).made)
+    (told_with c.pass.invariant.seat got.1) c.touch_in_hand-done.ensures.above)
 
 pub returns-clause-current : goal.returns-clause-current
 returns-clause-current c = held_is_current c.args.pass.now.walker.walk c.args.f c.requires.holds
