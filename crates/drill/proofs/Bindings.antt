@@ -97,18 +97,22 @@ bindings_sum cpus frames plan (e ∷ es) bs turn count ok adds =
     let last = last_add (λ f. weigh_of es f (current plan f)) (λ f. weight e f (current plan f)) frames in
     omega (arith, rest, one, ended, last)
 
-weigh_if : (t : Bool) (e : Made) (es : List Made) → weigh (mine_if t e es) ≡ weigh es + cond t (added e.touch) 0
-weigh_if true e es = refl
-weigh_if false e es = omega arith
+-- a measure of touches that adds up, of which each touch has its share
+module _ (all : List Made → ℕ) (share : Made → ℕ) (none : all [] ≡ 0)
+    (more : (e : Made) (es : List Made) → all (e ∷ es) ≡ all es + share e) where
+  measure_if : (t : Bool) (e : Made) (es : List Made) → all (mine_if t e es) ≡ all es + cond t (share e) 0
+  measure_if true e es = more e es
+  measure_if false e es = omega arith
 
--- all that the processors added is all that was added
-pub cpus_sum : (cpus : ℕ) (plan : Watch) (es : List Made) → AreOfBindings cpus plan es
-    → last_sum (λ c. weigh (mine c es)) cpus ≡ weigh es
-cpus_sum cpus plan [] ok = last_zero cpus
-cpus_sum cpus plan (e ∷ es) ok =
-    let rest = cpus_sum cpus plan es ok.0 in
-    let each = last_same (λ c. weigh (mine c (e ∷ es))) (λ c. weigh (mine c es) + at_point (added e.touch) e.cpu c) cpus
-    (λ c below. weigh_if (eqb e.cpu c) e (mine c es)) in
-    let both = last_add (λ c. weigh (mine c es)) (at_point (added e.touch) e.cpu) cpus in
-    let one = (point_sum (added e.touch) e.cpu cpus).0 ok.1 in
-    omega (arith, rest, each, both, one)
+  -- that of all processors is that of all touches
+  pub cpus_sum : (cpus : ℕ) (plan : Watch) (es : List Made) → AreOfBindings cpus plan es
+      → last_sum (λ c. all (mine c es)) cpus ≡ all es
+  cpus_sum cpus plan [] ok = last_same (λ c. all []) (λ c. 0) cpus (λ c below. none) ∙ last_zero cpus ∙ sym none
+  cpus_sum cpus plan (e ∷ es) ok =
+      let rest = cpus_sum cpus plan es ok.0 in
+      let each = last_same (λ c. all (mine c (e ∷ es))) (λ c. all (mine c es) + at_point (share e) e.cpu c) cpus
+      (λ c below. measure_if (eqb e.cpu c) e (mine c es)) in
+      let both = last_add (λ c. all (mine c es)) (at_point (share e) e.cpu) cpus in
+      let one = (point_sum (share e) e.cpu cpus).0 ok.1 in
+      let here = more e es in
+      omega (arith, rest, each, both, one, here)

@@ -17,13 +17,14 @@ use Rattle.live_pages.specs.Turns.{current}
 use Rattle.live_pages.specs.Models.{PagesModel, PassModel, KeeperModel, IsKeeperOf, taking_all_in}
 use Rattle.live_pages.specs.Ending.{in_order, made_by, pages_after, Binding, ended_bindings, last_bindings}
 use Rattle.live_pages.specs.Ending.{all_bindings, IsLeftAfterAll, IsOfOneThread}
-use Rattle.drill.specs.Work.{add_at, work_of, deed, AreFirstOf, sums_of}
-use Rattle.drill.specs.Roles.{done, words_to, words_left, TookZeros, AreDone, missing, first_words}
+use Rattle.drill.specs.Work.{add_at, work_of, added, deed, AreFirstOf, sums_of}
+use Rattle.drill.specs.Roles.{done, words_to, words_left, TookZeros, AreDone, missing, made_count, first_words}
 use Rattle.drill.proofs.Words.{words_few}
 use Rattle.drill.proofs.Sums.{last_sum, ended_sum, range_sum, last_same, last_range, same_few, all_sums}
 use Rattle.drill.proofs.Adds.{AreAdds, adds_reverse, done_adds, adds_all, weigh, weigh_of, weigh_reverse, first_word}
 use Rattle.drill.proofs.Bindings.{bindings_sum, cpus_sum}
-use Rattle.drill.proofs.Parts.{same_ended, touches_at, IsWorkTo, parts_work, made_sum, parts_sum, made_missing}
+use Rattle.drill.proofs.Parts.{same_ended, touches_at, IsWorkTo, parts_work, made_by_all, parts_sum, count_all}
+use Rattle.drill.proofs.Parts.{made_missing}
 
 map_append : (xs ys : List Made) → map deed (xs ++ ys) ≡ map deed xs ++ map deed ys
 map_append [] ys = refl
@@ -136,7 +137,7 @@ module _ (pages : PagesModel) (seed adds : ℕ) (ps : List PassModel) (keeper : 
       (done_adds pages.frames (seed + c) (length (touches_at ps keeper.holder c)) (touches_at ps keeper.holder c)
       end.some (own_work c below).deeds)))
 
-  ended_is : shown.ended ≡ keeper.holder.ended
+  pub ended_is : shown.ended ≡ keeper.holder.ended
   ended_is = ap (λ k. k.ended) end.taken ∙ same_ended ps keeper.holder
 
   given_is : (f b : ℕ) → page_given shown.ended f b ≡ replicate 1024 0
@@ -191,21 +192,28 @@ module _ (pages : PagesModel) (seed adds : ℕ) (ps : List PassModel) (keeper : 
       let word = word_left f (current shown.watch f) (get_or left f []) is in
       omega (arith, rest, word)
 
-  -- what the processors added is what their passes made
-  made_all : weigh (in_order shown) ≡ made_sum ps
-  made_all =
-      let touched = cpus_sum pages.cpus shown.watch (in_order shown) end.one_thread.bindings in
-      let each = last_same (λ c. weigh (mine c (in_order shown))) (λ c. weigh (touches_at ps keeper.holder c))
+  -- of a measure of touches that adds up: what the processors did is what their passes made
+  made_all : (measure : List Made → ℕ) (share : Made → ℕ) → measure [] ≡ 0
+      → ((e : Made) (es : List Made) → measure (e ∷ es) ≡ measure es + share e)
+      → ((es : List Made) → measure (reverse es) ≡ measure es)
+      → measure (in_order shown) ≡ made_by_all measure ps
+  made_all measure share none more turned =
+      let touched = cpus_sum measure share none more pages.cpus shown.watch (in_order shown) end.one_thread.bindings in
+      let each = last_same (λ c. measure (mine c (in_order shown))) (λ c. measure (touches_at ps keeper.holder c))
       pages.cpus
-      (λ c below. ap weigh (mine_is c below) ∙ weigh_reverse (touches_at ps keeper.holder c)) in
-      let range = last_range (λ c. weigh (touches_at ps keeper.holder c)) pages.cpus 0 in
+      (λ c below. ap measure (mine_is c below) ∙ turned (touches_at ps keeper.holder c)) in
+      let range = last_range (λ c. measure (touches_at ps keeper.holder c)) pages.cpus 0 in
       let at : 0 + pages.cpus ≡ pages.cpus = omega arith in
-      let from = ap (last_sum (λ c. weigh (touches_at ps keeper.holder c))) at in
-      let count = ap (range_sum (λ c. weigh (touches_at ps keeper.holder c)) 0) end.all in
+      let from = ap (last_sum (λ c. measure (touches_at ps keeper.holder c))) at in
+      let count = ap (range_sum (λ c. measure (touches_at ps keeper.holder c)) 0) end.all in
       let all = end.all in
       let parts = end.kept.parts in
-      let made = parts_sum pages seed adds ps 0 keeper.holder end.done (omega arith) in
+      let made = parts_sum measure pages seed adds ps 0 keeper.holder end.done (omega arith) in
       omega (arith, touched, each, range, from, count, made)
+
+  pub touches : made_count ps ≡ length (in_order shown)
+  touches = sym (made_all (λ (es : List Made). length es) (λ e. 1) refl (λ e es. omega arith)
+      (λ es. length-reverse es) ∙ count_all ps)
 
   pub total : (s u t : ℕ) → s ≡ words_left keeper.holder.ended % 2 ^ 36 → u ≡ missing adds ps % 2 ^ 36
       → t ≡ ((s + u) % 2 ^ 36 + first_words (length left) left) % 2 ^ 36
@@ -221,7 +229,7 @@ module _ (pages : PagesModel) (seed adds : ℕ) (ps : List PassModel) (keeper : 
       let bindings = bindings_sum pages.cpus pages.frames shown.watch (in_order shown) shown.ended
       end.one_thread.in_turn end.one_thread.last
       end.one_thread.bindings all_adds in
-      let made = made_all in
+      let made = made_all weigh (λ e. added e.touch) refl (λ e es. refl) weigh_reverse in
       let missing = made_missing pages seed adds 0 ps end.done in
       let cpus = ap (last_sum (λ i. words_to adds)) end.all in
       let sums = all_sums pages.frames adds seed pages.cpus in

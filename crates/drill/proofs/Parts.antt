@@ -11,7 +11,7 @@ use Rattle.live_pages.specs.declared.views.Holder.{Holder}
 use Rattle.live_pages.specs.Models.{PagesModel, PassModel, taking_all_in}
 use Rattle.live_pages.specs.Ending.{touches_in}
 use Rattle.drill.specs.Work.{deed}
-use Rattle.drill.specs.Roles.{done, words_to, AreDone, missing}
+use Rattle.drill.specs.Roles.{done, words_to, AreDone, missing, made_count}
 use Rattle.drill.proofs.Words.{words_mono}
 use Rattle.drill.proofs.Sums.{last_sum, range_sum, range_same}
 use Rattle.drill.proofs.Adds.{weigh, weigh_done}
@@ -63,23 +63,31 @@ parts_work pages seed adds (p ∷ ps) first k all room c from to =
     (parts_work pages seed adds ps (first + 1) k all.0 (omega arith) c (omega arith)
     (omega arith)))
 
+-- a measure of the touches of each pass, added up
+abbrev pub made_by_all : (List Made → ℕ) → List PassModel → ℕ
+made_by_all measure [] = 0
+made_by_all measure (p ∷ ps) = made_by_all measure ps + measure p.walker.made
+
 -- the words that the passes added, added up
 abbrev pub made_sum : List PassModel → ℕ
-made_sum [] = 0
-made_sum (p ∷ ps) = made_sum ps + weigh p.walker.made
+made_sum ps = made_by_all weigh ps
 
-pub parts_sum : (pages : PagesModel) (seed adds : ℕ) (ps : List PassModel) (first : ℕ) (k : Holder)
-    → AreDone pages seed adds first ps
+pub parts_sum : (measure : List Made → ℕ) (pages : PagesModel) (seed adds : ℕ) (ps : List PassModel) (first : ℕ)
+    (k : Holder) → AreDone pages seed adds first ps
     → first + length ps ≤ length k.parts
-    → range_sum (λ c. weigh (touches_at ps k c)) first (length ps) ≡ made_sum ps
-parts_sum pages seed adds [] first k all room = refl
-parts_sum pages seed adds (p ∷ ps) first k all room =
-    let here = ap weigh (part_here p ps k first all.1 (omega arith)) in
-    let rest = parts_sum pages seed adds ps (first + 1) k all.0 (omega arith) in
-    let same = range_same (λ c. weigh (touches_at (p ∷ ps) k c)) (λ c. weigh (touches_at ps k c)) (length ps)
+    → range_sum (λ c. measure (touches_at ps k c)) first (length ps) ≡ made_by_all measure ps
+parts_sum measure pages seed adds [] first k all room = refl
+parts_sum measure pages seed adds (p ∷ ps) first k all room =
+    let here = ap measure (part_here p ps k first all.1 (omega arith)) in
+    let rest = parts_sum measure pages seed adds ps (first + 1) k all.0 (omega arith) in
+    let same = range_same (λ c. measure (touches_at (p ∷ ps) k c)) (λ c. measure (touches_at ps k c)) (length ps)
     (first + 1)
-    (λ c le. let cpu = all.1 in ap weigh (part_else p ps k c (λ is. absurd (omega arith)))) in
+    (λ c le. let cpu = all.1 in ap measure (part_else p ps k c (λ is. absurd (omega arith)))) in
     omega (arith, here, rest, same)
+
+pub count_all : (ps : List PassModel) → made_by_all (λ (es : List Made). length es) ps ≡ made_count ps
+count_all [] = refl
+count_all (p ∷ ps) = ap (λ n. n + length p.walker.made) (count_all ps)
 
 -- what was added and what was not is all of the work
 pub made_missing : (pages : PagesModel) (seed adds first : ℕ) (ps : List PassModel) → AreDone pages seed adds first ps

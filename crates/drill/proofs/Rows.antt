@@ -12,7 +12,8 @@ use Rattle.live_pages.specs.Models.{PagesModel, PassModel, IsPassOf, first_passe
 use Rattle.drill.specs.declared.worker.Worker.{Worker}
 use Rattle.drill.specs.declared.roles.Role.{Role}
 use Rattle.drill.specs.declared.roles.Role.TheVariants.{Works}
-use Rattle.drill.specs.Roles.{done, words_to, HasDone, AreDone, missing, IsFresh, RoleFresh, RoleDone, EachRole}
+use Rattle.drill.specs.Roles.{done, words_to, HasDone, AreDone, missing, made_count, IsFresh, RoleFresh, RoleDone}
+use Rattle.drill.specs.Roles.{EachRole}
 use Rattle.drill.proofs.Adds.{done_count}
 
 tail_of : {X : Type 0} → List X → List X
@@ -103,6 +104,10 @@ missing_more : (adds : ℕ) (ps : List PassModel) (p : PassModel) → missing ad
 missing_more adds [] p = refl
 missing_more adds (q ∷ qs) p = let e = missing_more adds qs p in omega (arith, e)
 
+count_more : (ps : List PassModel) (p : PassModel) → made_count (ps ++ p ∷ []) ≡ made_count ps + length p.walker.made
+count_more [] p = refl
+count_more (q ∷ qs) p = let e = count_more qs p in omega (arith, e)
+
 -- a worker's pass was put into the row
 pub done_push : (pages : PagesModel) (seed adds cpus : ℕ) (roles rest : List Role) (r : Option Role) (role : Role)
     (w : Worker) (row now : List PassModel)
@@ -112,6 +117,7 @@ pub done_push : (pages : PagesModel) (seed adds cpus : ℕ) (roles rest : List R
     → length rest + 1 + length row ≡ cpus
     → EachRole (RoleDone pages seed adds cpus) rest × All (IsPassOf pages) now × AreDone pages seed adds 0 now
     × (missing adds now ≡ missing adds row + (words_to adds - words_to w.done))
+    × (made_count now ≡ made_count row + w.done) × (w.done ≤ adds)
 done_push pages seed adds cpus roles rest r role w row now popped some works each all are put count =
     let is = popped_is roles rest r role popped some ∙ ap (λ x. rest ++ x ∷ []) works in
     let whole : EachRole (RoleDone pages seed adds cpus) (rest ++ Works w ∷ []) =
@@ -134,6 +140,8 @@ done_push pages seed adds cpus roles rest r role w row now popped some works eac
           (omega arith)),
       ap (missing adds) put ∙ missing_more adds row w.pass
           ∙ ap (λ k. missing adds row + (words_to adds - words_to k)) number,
+      ap made_count put ∙ count_more row w.pass ∙ ap (λ k. made_count row + k) number,
+      few,
     )
 
 done_at : (pages : PagesModel) (seed adds first : ℕ) (ps : List PassModel) → AreDone pages seed adds first ps

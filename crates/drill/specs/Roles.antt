@@ -8,7 +8,7 @@ use Rattle.live_pages.specs.declared.touch.Bound.{Bound}
 use Rattle.live_pages.specs.Models.{PagesModel, PassModel, IsPassOf, IsKeeperOf}
 use Rattle.live_pages.specs.Turns.{current}
 use Rattle.live_pages.specs.declared.views.Holder.{Holder}
-use Rattle.live_pages.specs.Ending.{IsOfOneThread, IsLeftAfterAll, all_bindings, made_by}
+use Rattle.live_pages.specs.Ending.{IsOfOneThread, IsLeftAfterAll, all_bindings, in_order, made_by}
 use Rattle.drill.specs.declared.worker.Worker.{Worker}
 use Rattle.drill.specs.declared.kept.Kept.{Kept}
 use Rattle.drill.specs.declared.roles.Role.{Role}
@@ -51,6 +51,11 @@ abbrev pub missing : ℕ → List PassModel → ℕ
 missing adds [] = 0
 missing adds (p ∷ ps) = missing adds ps + (words_to adds - words_to (length p.walker.made))
 
+-- how many touches these passes have made
+abbrev pub made_count : List PassModel → ℕ
+made_count [] = 0
+made_count (p ∷ ps) = made_count ps + length p.walker.made
+
 -- the pass of one processor has tried to add a word to the first one of a frame's page, and has made that touch or none
 pub record HasTried (pages : PagesModel) (old new : PassModel) (f word : ℕ) (added : Bool) : Type 0 where
   pub pass : IsPassOf pages new
@@ -72,20 +77,25 @@ pub record IsDone (pages : PagesModel) (seed adds : ℕ) (w : Worker) : Type 0 w
   pub made : map deed w.pass.walker.made ≡ done pages.frames (seed + w.cpu) w.done
   pub few : w.done ≤ adds
 
--- The keeper has a page of zeros to hand in, has handed in nothing else, and has the sum of what it took out.
--- A frame was bound at most once for each stamp, and once before.
+-- The keeper has a page of zeros to hand in, has handed in nothing else, has the sum of what it took out, and has
+-- counted its bindings. A frame was bound at most once for each stamp, and once before, as each of 64 frames was.
 pub record IsKept (pages : PagesModel) (k : Kept) : Type 0 where
   pub keeper : IsKeeperOf pages k.keeper
   pub spare : IsSomeAnd k.spare (λ page. page ≡ replicate 1024 0)
   pub zeros : TookZeros k.keeper.holder.ended
   pub sum : k.sum ≡ words_left k.keeper.holder.ended % 2 ^ 36
   pub low : (f : ℕ) → current k.keeper.holder.watch f ≤ k.keeper.holder.watch.request + 1
+  pub bindings : k.bindings ≡ length k.keeper.holder.ended
+  pub few : k.bindings ≤ 64 + k.keeper.holder.watch.request
 
--- What the end of a drill tells, where `all` is the total and these pages are left: each processor's touches are the
--- first ones of its work, in order, the total is the sum of all work, and all is as one thread would have it.
-pub record IsEnd (cpus frames adds seed all : ℕ) (shown : Holder) (pages : List (List ℕ)) : Type 0 where
+-- What the end of a drill tells, where `all` is the total, so many bindings and touches were counted, and these pages
+-- are left: each processor's touches are the first ones of its work, in order, the total is the sum of all work, the
+-- counts are right, and all is as one thread would have it.
+pub record IsEnd (cpus frames adds seed all bound made : ℕ) (shown : Holder) (pages : List (List ℕ)) : Type 0 where
   pub front : (cpu : ℕ) → cpu < cpus → AreFirstOf (work_of frames (seed + cpu) adds) (made_by cpu shown)
   pub total : all ≡ sum (sums_of frames adds seed cpus)
+  pub bindings : bound ≡ length shown.ended
+  pub touches : made ≡ length (in_order shown)
   pub one_thread : IsOfOneThread cpus shown
   pub left : All (IsLeftAfterAll shown) (all_bindings pages shown)
 

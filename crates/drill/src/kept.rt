@@ -5,26 +5,31 @@ ghost use Rattle.live_pages.specs.Models.{IsKeeperOf, SameButWatch};
 ghost use Rattle.live_pages.specs.Turns.{current, admitted};
 ghost use Rattle.drill.specs.Roles.{IsKept, IsUnbound};
 
+use crate::waits::{Pause, Rounds};
 use crate::work::Size;
 use live_pages::{Keeper, LivePages};
 use mword::{Page, Word};
 use site_io::{Gate, Point};
 use std::sync::Wait;
-use std::thread;
 use std::thread::Threads;
 
 /// How often the keeper asks in a round.
 const QUESTIONS: u32 = 1024;
 
+/// How many turns the keeper gives way at most between two questions.
+const PAUSE: u32 = 64;
+
 /// How many rounds the keeper makes for each frame.
 const ROUNDS: u32 = 4;
 
-/// The keeper, the page of zeros that it binds next, and the sum of the first words of the pages that it took out.
+/// The keeper, the page of zeros that it binds next, the sum of the first words of the pages that it took out, and how
+/// many bindings it has made.
 #[derive(Drop)]
 pub(crate) struct Kept {
     pub(crate) keeper: Keeper,
     pub(crate) spare: Option<Page>,
     pub(crate) sum: Word,
+    pub(crate) bindings: u64,
 }
 
 // Binds frame f to the page of zeros, adds the first word of the page that it had to the sum, and clears that page.
@@ -34,9 +39,11 @@ fn renew(pages: &LivePages, kept: &mut Kept, f: u32)
     requires may_bind { MayBind kept.old.keeper.holder.watch kept.old.keeper.cleared f }
     requires low { current kept.old.keeper.holder.watch f ≤ kept.old.keeper.holder.watch.request }
     requires few { kept.old.keeper.holder.watch.request ≤ 256 }
+    requires bindings { kept.old.bindings < 64 + kept.old.keeper.holder.watch.request }
     ensures kept { IsKept pages.now kept.new }
     ensures request { kept.new.keeper.holder.watch.request ≡ kept.old.keeper.holder.watch.request }
     ensures doors { kept.new.keeper.holder.watch.doors ≡ (admitted f kept.old.keeper.holder.watch).doors }
+    ensures bindings { kept.new.bindings ≡ kept.old.bindings + 1 }
 {
     let Some(page) = kept.spare.take() else {
         unreachable!()
@@ -45,12 +52,14 @@ fn renew(pages: &LivePages, kept: &mut Kept, f: u32)
     kept.sum = kept.sum.plus(old.get(0));
     old.clear_from(0);
     kept.spare = Some(old);
+    kept.bindings += 1;
 }
 
 /// Binds every frame to a page of zeros, where none was ever bound.
 pub(crate) fn bind_all(pages: &LivePages, kept: &mut Kept, frames: u32)
     requires kept { IsKept pages.now kept.old }
-    requires frames { frames ≡ pages.now.frames }
+    requires frames { (frames ≡ pages.now.frames) × (frames ≤ 64) }
+    requires bindings { kept.old.bindings ≡ 0 }
     requires fresh { IsUnbound frames kept.old.keeper.holder.watch }
     ensures kept { IsKept pages.now kept.new }
     ensures request { kept.new.keeper.holder.watch.request ≡ kept.old.keeper.holder.watch.request }
@@ -60,18 +69,19 @@ pub(crate) fn bind_all(pages: &LivePages, kept: &mut Kept, frames: u32)
     }
 }
 
-// Asks whether all is clear, for as often as is allowed, and lets other threads go on after each answer that it is not.
+// Asks whether all is clear, for as often as is allowed, and gives way after each answer that it is not.
 fn ask(pages: &LivePages, keeper: &mut Keeper, stamp: u64)
     requires { IsKeeperOf pages.now keeper.old }
     ensures keeper { IsKeeperOf pages.now keeper.new }
     ensures noted { OnlyNoted keeper.old.holder.watch keeper.new.holder.watch }
     ensures same { SameButWatch keeper.old.holder keeper.new.holder }
 {
+    let mut pause = Pause::up_to(PAUSE);
     for _ in 0..QUESTIONS {
         if pages.all_clear(keeper, stamp).is_ok() {
             break;
         }
-        thread::yield_now();
+        pause.give_way();
     }
 }
 
@@ -93,12 +103,13 @@ fn round(pages: &LivePages, kept: &mut Kept, f: u32)
     }
 }
 
-/// Calls the gate once, and makes the keeper's rounds, in which the frames come in turn.
+/// Calls the gate once, makes the keeper's rounds, in which the frames come in turn, and says that they are over.
 pub(crate) fn keep<R: Threads + Wait + Sync, G: Gate>(
     rt: &R,
     pages: &LivePages,
     size: Size,
     gate: &G,
+    rounds: &Rounds,
     kept: &mut Kept,
 )
     requires kept { IsKept pages.now kept.old }
@@ -110,4 +121,5 @@ pub(crate) fn keep<R: Threads + Wait + Sync, G: Gate>(
     for r in 0..ROUNDS * size.frames {
         round(pages, kept, r % size.frames);
     }
+    rounds.end();
 }

@@ -11,6 +11,7 @@ mod kept;
 mod roles;
 mod run;
 mod text;
+mod waits;
 mod work;
 mod worker;
 

@@ -2,8 +2,10 @@
 ghost use Rattle.std.specs.Prelude.{◌≡◌, ◌+◌, ◌%◌, ◌^◌, ◌-◌, ◌<◌, ◌≤◌, [], All, vec_len, vec_capacity, IfOk};
 ghost use Rattle.live_pages.specs.Models.{IsPassOf, first_passes};
 ghost use Rattle.drill.specs.Roles.{IsKept, RoleFresh, RoleDone, EachRole, AreDone, words_to, missing};
+ghost use Rattle.drill.specs.Roles.{made_count};
 
 use crate::kept::{Kept, keep};
+use crate::waits::Rounds;
 use crate::work::{Size, words_to};
 use crate::worker::{Worker, work};
 use live_pages::{LivePages, Pass};
@@ -50,6 +52,7 @@ fn play<R: Threads + Wait + Sync, G: Gate>(
     pages: &LivePages,
     size: Size,
     gate: &G,
+    rounds: &Rounds,
     place: usize,
     role: &mut Role,
 )
@@ -59,8 +62,8 @@ fn play<R: Threads + Wait + Sync, G: Gate>(
     ensures { RoleDone pages.now size.seed size.adds size.cpus place role.new }
 {
     match role {
-        Role::Works(worker) => work(rt, pages, size, gate, worker),
-        Role::Keeps(kept) => keep(rt, pages, size, gate, kept),
+        Role::Works(worker) => work(rt, pages, size, gate, rounds, worker),
+        Role::Keeps(kept) => keep(rt, pages, size, gate, rounds, kept),
     }
 }
 
@@ -80,6 +83,7 @@ pub(crate) fn play_all<R: Threads + Wait + Sync, G: Gate + Sync>(
     ensures count { vec_len roles.new ≡ vec_len roles.old }
 {
     let threads = roles.len();
+    let rounds = Rounds::new();
     thread::for_each_mut(
         rt,
         roles.as_mut_slice(),
@@ -89,7 +93,7 @@ pub(crate) fn play_all<R: Threads + Wait + Sync, G: Gate + Sync>(
                 × RoleFresh pages.now size.cpus place role.old }
             ensures { RoleDone pages.entry.now size.seed size.adds size.cpus place role.new }
         {
-            play(rt, pages, size, gate, place, role);
+            play(rt, pages, size, gate, &rounds, place, role);
         },
     );
 }
@@ -122,30 +126,34 @@ fn unmade(adds: u32, done: u32) -> Word
     Word::new(left).unwrap_or(Word::ZERO)
 }
 
-/// Takes the passes of all processors, in order, and answers the sum of the words of the adds that they have not made.
+/// Takes the passes of all processors, in order, and answers the sum of the words of the adds that they have not made,
+/// and how many they have made.
 pub(crate) fn gather(
     pages: &LivePages,
     size: Size,
     mut roles: Vec<Role>,
     row: &mut Vec<Pass>,
-) -> Word
-    requires size { (size.cpus ≡ pages.now.cpus) × (size.adds ≤ 10000) }
+) -> (Word, u64)
+    requires size { (size.cpus ≡ pages.now.cpus) × (size.cpus ≤ 8) × (size.adds ≤ 10000) }
     requires roles { EachRole (RoleDone pages.now size.seed size.adds size.cpus) roles.items }
     requires count { vec_len roles ≡ size.cpus }
     requires row { (row.old.items ≡ []) × (size.cpus ≤ vec_capacity row.old) }
     ensures passes { All (IsPassOf pages.now) row.new.items }
     ensures done { AreDone pages.now size.seed size.adds 0 row.new.items }
     ensures count { vec_len row.new ≡ size.cpus }
-    ensures sum { result ≡ missing size.adds row.new.items % 2 ^ 36 }
+    ensures sum { result.0 ≡ missing size.adds row.new.items % 2 ^ 36 }
+    ensures touches { result.1 ≡ made_count row.new.items }
 {
     let mut sum = Word::ZERO;
+    let mut touches = 0;
     while let Some(role) = roles.pop() {
         let Role::Works(worker) = role else {
             unreachable!()
         };
         sum = sum.plus(unmade(size.adds, worker.done));
+        touches += u64::from(worker.done);
         let Worker { pass, .. } = worker;
         row.push_reserved(pass);
     }
-    sum
+    (sum, touches)
 }

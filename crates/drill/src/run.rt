@@ -1,7 +1,7 @@
 //! The whole drill.
-ghost use Rattle.std.specs.Prelude.{◌≡◌, ℕ, ◌+◌, ◌<◌, ◌≤◌, [], All, sum, IfOk, vec_len, vec_capacity};
+ghost use Rattle.std.specs.Prelude.{◌≡◌, ℕ, ◌+◌, ◌<◌, ◌≤◌, [], All, length, sum, IfOk, vec_len, vec_capacity};
 ghost use Rattle.live_pages.specs.Models.{IsKeeperOf, opening_holder};
-ghost use Rattle.live_pages.specs.Ending.{IsOfOneThread, IsLeftAfterAll, all_bindings, made_by};
+ghost use Rattle.live_pages.specs.Ending.{IsOfOneThread, IsLeftAfterAll, all_bindings, in_order, made_by};
 ghost use Rattle.drill.specs.Work.{work_of, AreFirstOf, sums_of};
 ghost use Rattle.drill.specs.Roles.{IsKept, RoleFresh, EachRole, IsEnd};
 
@@ -24,6 +24,10 @@ pub struct Drilled {
     pub sums: Vec<Word>,
     /// The sum of all that is in the pages, handed out or left, and of the adds that no touch made.
     pub total: Word,
+    /// How often a frame was bound: each at first, and those that were closed and cleared again.
+    pub bindings: u64,
+    /// How many adds were made by touches.
+    pub touches: u64,
     /// The pages that are left, with all touches and bindings.
     pub ended: Ended,
 }
@@ -33,13 +37,14 @@ fn first_kept(alloc: Global, pages: &LivePages, keeper: Keeper) -> Result<Kept, 
     requires keeper { IsKeeperOf pages.now keeper }
     requires new { keeper.holder ≡ opening_holder pages.now.frames pages.now.cpus }
     ensures kept { IfOk result (λ kept. IsKept pages.now kept) }
-    ensures keeper { IfOk result (λ kept. kept.keeper ≡ keeper) }
+    ensures keeper { IfOk result (λ kept. (kept.keeper ≡ keeper) × (kept.bindings ≡ 0)) }
 {
     let page = Page::zero(alloc)?;
     Ok(Kept {
         keeper,
         spare: Some(page),
         sum: Word::ZERO,
+        bindings: 0,
     })
 }
 
@@ -66,25 +71,29 @@ fn play_out<R: Threads + Wait + Sync, G: Gate + Sync>(
     gate: &G,
     mut roles: Vec<Role>,
     mut row: Vec<Pass>,
-) -> (Word, Ended)
+    sums: Vec<Word>,
+) -> Drilled
     requires size { (size.cpus ≡ pages.cpus) × (size.frames ≡ pages.frames) }
     requires few { (size.cpus ≤ 8) × (4 ≤ size.frames) × (size.frames ≤ 64) × (size.adds ≤ 10000) }
     requires roles { EachRole (RoleFresh pages size.cpus) roles.items × (vec_len roles ≡ size.cpus + 1) }
     requires row { (row.items ≡ []) × (size.cpus ≤ vec_capacity row) }
-    ensures { IsEnd size.cpus size.frames size.adds size.seed result.0 result.1.shown result.1.pages.items }
+    ensures end { IsEnd size.cpus size.frames size.adds size.seed result.total result.bindings result.touches
+        result.ended.shown result.ended.pages.items }
+    ensures sums { result.sums ≡ sums }
 {
     play_all(rt, &pages, size, gate, &mut roles);
     let kept = take_keeper(&pages, size, &mut roles);
-    let unmade = gather(&pages, size, roles, &mut row);
-    finish(pages, size, kept, row, unmade)
+    let (unmade, touches) = gather(&pages, size, roles, &mut row);
+    finish(pages, size, kept, row, unmade, touches, sums)
 }
 
 /// A drill of `p` processors over `f` frames, `n` adds each, and a keeper who binds the frames anew, each on a thread
 /// of its own. Processor `cpu` draws the frames of its adds from `seed + cpu` on.
 ///
 /// A processor tries each add at most 64 times and stops at the first that it can't make; after each that it made it
-/// calls the gate with `Answered` and its number. The keeper calls the gate once, with the number `p`, and makes four
-/// rounds for each frame, with at most 1024 questions each. How many adds are made is left to the schedule.
+/// calls the gate with `Answered` and its number. Then it rests until the keeper has ended, for a bounded number of
+/// times. The keeper calls the gate once, with the number `p`, and makes four rounds for each frame, with at most 1024
+/// questions each. How many adds and bindings are made is left to the schedule, and counted.
 ///
 /// The touches of each processor are the first ones of its work, in order. Whatever the schedule was, `sums` has for
 /// each processor the sum of its whole work, and `total`, which is added up from the pages and from what was not made,
@@ -107,6 +116,8 @@ pub fn drill<R: Threads + Wait + Sync, G: Gate + Sync>(
         AreFirstOf (work_of f (seed + cpu) n) (made_by cpu d.ended.shown)) }
     ensures sums { IfOk result (λ d. d.sums.items ≡ sums_of f n seed p) }
     ensures total { IfOk result (λ d. d.total ≡ sum (sums_of f n seed p)) }
+    ensures bindings { IfOk result (λ d. d.bindings ≡ length d.ended.shown.ended) }
+    ensures touches { IfOk result (λ d. d.touches ≡ length (in_order d.ended.shown)) }
     ensures one_thread { IfOk result (λ d. IsOfOneThread p d.ended.shown) }
     ensures left { IfOk result (λ d.
         All (IsLeftAfterAll d.ended.shown) (all_bindings d.ended.pages.items d.ended.shown)) }
@@ -120,6 +131,5 @@ pub fn drill<R: Threads + Wait + Sync, G: Gate + Sync>(
     let sums = sums_of(alloc, size)?;
     let row = Vec::with_capacity(alloc, p as usize)?;
     let (pages, roles) = set_out(alloc, size)?;
-    let (total, ended) = play_out(rt, pages, size, gate, roles, row);
-    Ok(Drilled { sums, total, ended })
+    Ok(play_out(rt, pages, size, gate, roles, row, sums))
 }

@@ -3,6 +3,7 @@ ghost use Rattle.std.specs.Prelude.{◌≡◌, ◌+◌, ◌^◌, ◌<◌, ◌≤
 ghost use Rattle.live_pages.specs.Models.{IsPassOf};
 ghost use Rattle.drill.specs.Roles.{IsFresh, IsDone, HasTried};
 
+use crate::waits::{Pause, Rounds};
 use crate::work::{Size, word_at};
 use draws::Draws;
 use live_pages::{LivePages, Pass, Touch};
@@ -14,6 +15,12 @@ use std::thread::Threads;
 
 /// How often an add is tried.
 const TRIES: u32 = 64;
+
+/// How many turns a worker gives way at most between two tries.
+const PAUSE: u32 = 8192;
+
+/// How often a worker that is done rests at most while the keeper makes its rounds.
+const RESTS: u32 = 4_000_000;
 
 /// A processor that adds, and how many of its adds were made.
 #[derive(Drop)]
@@ -37,29 +44,49 @@ fn try_once(pages: &LivePages, pass: &mut Pass, f: u32, word: Word) -> bool
     pass.holds(f) && pages.touch(pass, f, Touch::Add(0, word)).is_ok()
 }
 
-// Tries an add for as often as is allowed, and lets other threads go on after each try that failed.
+// Tries an add for as often as is allowed, and gives way after each try that failed, so that the keeper can admit the
+// frame anew.
 fn try_add(pages: &LivePages, pass: &mut Pass, f: u32, word: Word) -> bool
     requires pass { IsPassOf pages.now pass.old }
     requires frame { f < pages.now.frames }
     requires few { length pass.old.walker.made < 2 ^ 32 }
     ensures { HasTried pages.now pass.old pass.new f word result }
 {
+    let mut pause = Pause::up_to(PAUSE);
     for _ in 0..TRIES {
         if try_once(pages, pass, f, word) {
             return true;
         }
-        thread::yield_now();
+        pause.give_way();
     }
     false
 }
 
+// Rests, and goes on resting until the keeper's rounds are over, for as often as is allowed. A keeper is answered by
+// every processor, also by those that have no more to do.
+fn rest_out(pages: &LivePages, rounds: &Rounds, pass: &mut Pass)
+    requires { IsPassOf pages.now pass.old }
+    ensures pass { IsPassOf pages.now pass.new }
+    ensures cpu { pass.new.walker.walk.cpu ≡ pass.old.walker.walk.cpu }
+    ensures made { pass.new.walker.made ≡ pass.old.walker.made }
+{
+    for _ in 0..RESTS {
+        pages.rest(pass);
+        if rounds.are_over() {
+            break;
+        }
+        thread::yield_now();
+    }
+}
+
 /// Makes the adds of the processor, in order, up to the first that can't be made. Calls the gate after each one, and
-/// rests after every eighth and at the end.
+/// rests after every eighth, and at the end until the keeper's rounds are over.
 pub(crate) fn work<R: Threads + Wait + Sync, G: Gate>(
     rt: &R,
     pages: &LivePages,
     size: Size,
     gate: &G,
+    rounds: &Rounds,
     worker: &mut Worker,
 )
     requires fresh { IsFresh pages.now worker.old }
@@ -88,5 +115,5 @@ pub(crate) fn work<R: Threads + Wait + Sync, G: Gate>(
             pages.rest(&mut worker.pass);
         }
     }
-    pages.rest(&mut worker.pass);
+    rest_out(pages, rounds, &mut worker.pass);
 }

@@ -3,7 +3,7 @@ use Rattle.live_pages.specs.Ending.{made_by}
 use Rattle.drill.specs.Work.{work_of, AreFirstOf, sums_of}
 use Rattle.drill.specs.Roles.{first_words}
 use Rattle.drill.proofs.Rows.{done_all}
-use Rattle.drill.proofs.Closing.{AtClose, front, total}
+use Rattle.drill.proofs.Closing.{AtClose, front, ended_is, touches, total}
 use Rattle.drill.proofs.finish.finish.Goals as goal
 
 pub close-ended-requires-clause-all : goal.close-ended-requires-clause-all
@@ -11,8 +11,8 @@ close-ended-requires-clause-all c = done_all c.args.pages c.args.size.seed c.arg
     c.requires.row.0 (c.requires.row.1
     ∙ c.requires.size.0)
 
-pub returns : goal.returns
-returns c =
+pub returns-clause-end : goal.returns-clause-end
+returns-clause-end c =
     let size = c.args.size in
     let ended = c.close-ended.result in
     let end : AtClose c.args.pages size.seed size.adds c.args.row.items c.args.kept.keeper ended.shown
@@ -42,6 +42,8 @@ returns c =
       total = total _ _ _ _ _ _ _ end s u c.with_pages-total.result c.requires.kept.sum c.requires.unmade at
           ∙ ap (λ f. sum (sums_of f size.adds size.seed c.args.pages.cpus)) (sym c.requires.size.1)
           ∙ ap (λ n. sum (sums_of size.frames size.adds size.seed n)) (sym c.requires.size.0);
+      bindings = c.requires.kept.bindings ∙ ap (λ bs. length bs) (sym (ended_is _ _ _ _ _ _ _ end));
+      touches = c.requires.touches ∙ touches _ _ _ _ _ _ _ end;
       one_thread = search rules;
       left = c.close-ended.ensures.left;
     }

@@ -21,4 +21,18 @@ loop-role-preserved c =
     let own = c.unmade.ensures in
     let before = c.loop-role.invariant.5 in
     let more = step.3 in
-    (step.0, search rules, search rules, step.1, step.2, omega (arith, sum, own, before, more))
+    let touches = c.loop-role.invariant.6 in
+    let few = c.loop-role.invariant.7 in
+    let made = step.4 in
+    let done = step.5 in
+    let adds = c.requires.size.2 in
+    let longer : vec_len c.push_reserved.new.self ≡ vec_len row + 1 = search rules in (
+      step.0,
+      search rules,
+      search rules,
+      step.1,
+      step.2,
+      omega (arith, sum, own, before, more),
+      omega (arith, touches, made),
+      omega (arith, few, done, adds, longer),
+    )

@@ -1,6 +1,6 @@
-use Rattle.std.proofs.Common.{◌≡◌, ◌+◌, ◌%◌, ◌^◌, ◌≤◌, All, vec_len, vec_capacity}
+use Rattle.std.proofs.Common.{◌≡◌, ◌+◌, ◌*◌, ◌%◌, ◌^◌, ◌≤◌, All, vec_len, vec_capacity}
 use Rattle.live_pages.specs.Models.{IsPassOf}
-use Rattle.drill.specs.Roles.{RoleDone, EachRole, AreDone, missing}
+use Rattle.drill.specs.Roles.{RoleDone, EachRole, AreDone, missing, made_count}
 use Rattle.drill.proofs.roles.gather.Given as goal
 
 abbrev pub invariant-loop-role : goal.invariant-loop-role
@@ -10,6 +10,7 @@ invariant-loop-role l = EachRole (RoleDone l.pages l.size.seed l.size.adds l.siz
     × All (IsPassOf l.pages) l.row.items
     × AreDone l.pages l.size.seed l.size.adds 0 l.row.items
     × (l.sum ≡ missing l.size.adds l.row.items % 2 ^ 36)
+    × (l.touches ≡ made_count l.row.items) × (l.touches ≤ 10000 * vec_len l.row)
 
 abbrev pub decreases-loop-role : goal.decreases-loop-role
 decreases-loop-role l = vec_len l.roles

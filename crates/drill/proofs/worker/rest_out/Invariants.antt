@@ -1,0 +1,7 @@
+use Rattle.std.proofs.Common.{◌≡◌}
+use Rattle.live_pages.specs.Models.{IsPassOf}
+use Rattle.drill.proofs.worker.rest_out.Given as goal
+
+abbrev pub invariant-loop : goal.invariant-loop
+invariant-loop l = IsPassOf l.pages l.pass × (l.pass.walker.walk.cpu ≡ l.fn.pass.walker.walk.cpu)
+    × (l.pass.walker.made ≡ l.fn.pass.walker.made)
