@@ -44,9 +44,9 @@ fn try_once(pages: &LivePages, pass: &mut Pass, f: u32, word: Word) -> bool
     pass.holds(f) && pages.touch(pass, f, Touch::Add(0, word)).is_ok()
 }
 
-// Tries an add for as often as is allowed, and gives way after each try that failed, so that the keeper can admit the
-// frame anew.
-fn try_add(pages: &LivePages, pass: &mut Pass, f: u32, word: Word) -> bool
+// Tries an add for as often as is allowed, and gives way after each try that failed, so that the turn can be given back
+// or the frame admitted anew. A door that is closed after the keeper's rounds isn't waited for.
+fn try_add(pages: &LivePages, rounds: &Rounds, pass: &mut Pass, f: u32, word: Word) -> bool
     requires pass { IsPassOf pages.now pass.old }
     requires frame { f < pages.now.frames }
     requires few { length pass.old.walker.made < 2 ^ 32 }
@@ -57,7 +57,9 @@ fn try_add(pages: &LivePages, pass: &mut Pass, f: u32, word: Word) -> bool
         if try_once(pages, pass, f, word) {
             return true;
         }
-        pause.give_way();
+        if pass.holds(f) || !rounds.are_over() {
+            pause.give_way();
+        }
     }
     false
 }
@@ -106,7 +108,7 @@ pub(crate) fn work<R: Threads + Wait + Sync, G: Gate>(
     };
     for i in 0..adds {
         let f = draws.draw(frames);
-        if !try_add(pages, &mut worker.pass, f, word_at(i)) {
+        if !try_add(pages, rounds, &mut worker.pass, f, word_at(i)) {
             break;
         }
         worker.done = i + 1;
