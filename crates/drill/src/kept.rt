@@ -5,7 +5,7 @@ ghost use Rattle.live_pages.specs.Models.{IsKeeperOf, SameButWatch};
 ghost use Rattle.live_pages.specs.Turns.{current, admitted};
 ghost use Rattle.drill.specs.Roles.{IsKept, IsUnbound};
 
-use crate::waits::{Pause, Rounds};
+use crate::waits::{Pause, Rounds, give_way};
 use crate::work::Size;
 use live_pages::{Keeper, LivePages};
 use mword::{Page, Word};
@@ -17,7 +17,7 @@ use std::thread::Threads;
 const QUESTIONS: u32 = 1024;
 
 /// How many turns the keeper gives way at most between two questions.
-const PAUSE: u32 = 64;
+const PAUSE: u32 = 1024;
 
 /// How many rounds the keeper makes for each frame.
 const ROUNDS: u32 = 4;
@@ -69,8 +69,9 @@ pub(crate) fn bind_all(pages: &LivePages, kept: &mut Kept, frames: u32)
     }
 }
 
-// Asks whether all is clear, for as often as is allowed, and gives way after each answer that it is not.
-fn ask(pages: &LivePages, keeper: &mut Keeper, stamp: u64)
+// Asks whether all is clear, for as often as is allowed or until the rounds are over, and gives way after each answer
+// that it is not.
+fn ask(pages: &LivePages, rounds: &Rounds, keeper: &mut Keeper, stamp: u64)
     requires { IsKeeperOf pages.now keeper.old }
     ensures keeper { IsKeeperOf pages.now keeper.new }
     ensures noted { OnlyNoted keeper.old.holder.watch keeper.new.holder.watch }
@@ -78,15 +79,15 @@ fn ask(pages: &LivePages, keeper: &mut Keeper, stamp: u64)
 {
     let mut pause = Pause::up_to(PAUSE);
     for _ in 0..QUESTIONS {
-        if pages.all_clear(keeper, stamp).is_ok() {
+        if pages.all_clear(keeper, stamp).is_ok() || rounds.are_over() {
             break;
         }
-        pause.give_way();
+        give_way(pause.turns());
     }
 }
 
 // Closes the door of frame f if it is admitted, raises a stamp and asks, and binds the frame anew where it may.
-fn round(pages: &LivePages, kept: &mut Kept, f: u32)
+fn round(pages: &LivePages, rounds: &Rounds, kept: &mut Kept, f: u32)
     requires kept { IsKept pages.now kept.old }
     requires frame { f < pages.now.frames }
     requires few { kept.old.keeper.holder.watch.request < 256 }
@@ -97,7 +98,7 @@ fn round(pages: &LivePages, kept: &mut Kept, f: u32)
         pages.close_door(&mut kept.keeper, f);
     }
     let stamp = pages.raise(&mut kept.keeper);
-    ask(pages, &mut kept.keeper, stamp);
+    ask(pages, rounds, &mut kept.keeper, stamp);
     if kept.keeper.may_bind(f) {
         renew(pages, kept, f);
     }
@@ -119,7 +120,7 @@ pub(crate) fn keep<R: Threads + Wait + Sync, G: Gate>(
 {
     gate.hold(rt, size.cpus, Point::Other);
     for r in 0..ROUNDS * size.frames {
-        round(pages, kept, r % size.frames);
+        round(pages, rounds, kept, r % size.frames);
     }
     rounds.end();
 }

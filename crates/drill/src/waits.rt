@@ -1,8 +1,8 @@
-//! How threads of the drill wait for one another: by giving way to others, for so many times at most.
+//! How threads of the drill wait for one another: by giving way to others, for so many turns at most.
 use std::sync::atomic::{AtomicBool, Ordering};
 use std::thread;
 
-/// How long a thread gives way before it looks again: each time for twice as many turns, up to a bound.
+/// How many turns a thread gives way before it looks again: each time twice as many, up to a bound.
 #[derive(Drop)]
 pub(crate) struct Pause {
     turns: u32,
@@ -15,16 +15,23 @@ impl Pause {
         Pause { turns: 1, most }
     }
 
-    /// Lets other threads go first.
-    pub(crate) fn give_way(&mut self) {
-        for _ in 0..self.turns {
-            thread::yield_now();
-        }
-        self.turns = self.turns.saturating_mul(2).min(self.most);
+    /// How many turns to give way now.
+    pub(crate) fn turns(&mut self) -> u32 {
+        let turns = self.turns;
+        self.turns = turns.saturating_mul(2).min(self.most);
+        turns
     }
 }
 
-/// Whether the keeper has made its rounds.
+/// Lets other threads go first, so many times.
+pub(crate) fn give_way(turns: u32) {
+    for _ in 0..turns {
+        thread::yield_now();
+    }
+}
+
+/// Whether the keeper's rounds are over: it has made them, or a processor has ended. Who has ended rests no more, and
+/// so nothing is cleared any more.
 #[derive(Drop)]
 pub(crate) struct Rounds {
     over: AtomicBool,

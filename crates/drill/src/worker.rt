@@ -3,7 +3,7 @@ ghost use Rattle.std.specs.Prelude.{◌≡◌, ◌+◌, ◌^◌, ◌<◌, ◌≤
 ghost use Rattle.live_pages.specs.Models.{IsPassOf};
 ghost use Rattle.drill.specs.Roles.{IsFresh, IsDone, HasTried};
 
-use crate::waits::{Pause, Rounds};
+use crate::waits::{Pause, Rounds, give_way};
 use crate::work::{Size, word_at};
 use draws::Draws;
 use live_pages::{LivePages, Pass, Touch};
@@ -17,7 +17,7 @@ use std::thread::Threads;
 const TRIES: u32 = 64;
 
 /// How many turns a worker gives way at most between two tries.
-const PAUSE: u32 = 8192;
+const PAUSE: u32 = 65536;
 
 /// How often a worker that is done rests at most while the keeper makes its rounds.
 const RESTS: u32 = 4_000_000;
@@ -30,7 +30,7 @@ pub(crate) struct Worker {
     pub(crate) done: u32,
 }
 
-// Adds the word to the first one of the frame's page, if door and turn let it. At a closed door the pass forgets.
+// Adds the word to the first one of the frame's page, if door and turn let it.
 fn try_once(pages: &LivePages, pass: &mut Pass, f: u32, word: Word) -> bool
     requires pass { IsPassOf pages.now pass.old }
     requires frame { f < pages.now.frames }
@@ -38,14 +38,30 @@ fn try_once(pages: &LivePages, pass: &mut Pass, f: u32, word: Word) -> bool
     ensures { HasTried pages.now pass.old pass.new f word result }
 {
     if !pass.holds(f) && pages.fill(pass, f).is_err() {
-        pages.rest(pass);
         return false;
     }
     pass.holds(f) && pages.touch(pass, f, Touch::Add(0, word)).is_ok()
 }
 
-// Tries an add for as often as is allowed, and gives way after each try that failed, so that the turn can be given back
-// or the frame admitted anew. A door that is closed after the keeper's rounds isn't waited for.
+// Rests, so many times at most, while the keeper makes its rounds, and gives way each time. The keeper is answered so
+// by a processor that stands at a closed door, and by one that has no more to do.
+fn rest_for(pages: &LivePages, rounds: &Rounds, pass: &mut Pass, turns: u32)
+    requires { IsPassOf pages.now pass.old }
+    ensures pass { IsPassOf pages.now pass.new }
+    ensures cpu { pass.new.walker.walk.cpu ≡ pass.old.walker.walk.cpu }
+    ensures made { pass.new.walker.made ≡ pass.old.walker.made }
+{
+    for _ in 0..turns {
+        pages.rest(pass);
+        if rounds.are_over() {
+            break;
+        }
+        thread::yield_now();
+    }
+}
+
+// Tries an add for as often as is allowed. After each try that failed it gives way, so that the turn is given back, or
+// rests, so that the frame can be admitted anew.
 fn try_add(pages: &LivePages, rounds: &Rounds, pass: &mut Pass, f: u32, word: Word) -> bool
     requires pass { IsPassOf pages.now pass.old }
     requires frame { f < pages.now.frames }
@@ -57,28 +73,14 @@ fn try_add(pages: &LivePages, rounds: &Rounds, pass: &mut Pass, f: u32, word: Wo
         if try_once(pages, pass, f, word) {
             return true;
         }
-        if pass.holds(f) || !rounds.are_over() {
-            pause.give_way();
+        let turns = pause.turns();
+        if pass.holds(f) {
+            give_way(turns);
+        } else {
+            rest_for(pages, rounds, pass, turns);
         }
     }
     false
-}
-
-// Rests, and goes on resting until the keeper's rounds are over, for as often as is allowed. A keeper is answered by
-// every processor, also by those that have no more to do.
-fn rest_out(pages: &LivePages, rounds: &Rounds, pass: &mut Pass)
-    requires { IsPassOf pages.now pass.old }
-    ensures pass { IsPassOf pages.now pass.new }
-    ensures cpu { pass.new.walker.walk.cpu ≡ pass.old.walker.walk.cpu }
-    ensures made { pass.new.walker.made ≡ pass.old.walker.made }
-{
-    for _ in 0..RESTS {
-        pages.rest(pass);
-        if rounds.are_over() {
-            break;
-        }
-        thread::yield_now();
-    }
 }
 
 /// Makes the adds of the processor, in order, up to the first that can't be made. Calls the gate after each one, and
@@ -117,5 +119,6 @@ pub(crate) fn work<R: Threads + Wait + Sync, G: Gate>(
             pages.rest(&mut worker.pass);
         }
     }
-    rest_out(pages, rounds, &mut worker.pass);
+    rest_for(pages, rounds, &mut worker.pass, RESTS);
+    rounds.end();
 }

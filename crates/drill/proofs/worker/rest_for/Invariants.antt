@@ -1,6 +1,6 @@
 use Rattle.std.proofs.Common.{◌≡◌}
 use Rattle.live_pages.specs.Models.{IsPassOf}
-use Rattle.drill.proofs.worker.rest_out.Given as goal
+use Rattle.drill.proofs.worker.rest_for.Given as goal
 
 abbrev pub invariant-loop : goal.invariant-loop
 invariant-loop l = IsPassOf l.pages l.pass × (l.pass.walker.walk.cpu ≡ l.fn.pass.walker.walk.cpu)
