@@ -27,7 +27,9 @@ fn closes_frame_0(
     assert!(rt; zero.holds(0) && !zero.holds(1));
     doors.close_door(keeper, 0);
     assert!(rt; doors.fill(one, 0) == Err(Closed { word: 3 }));
+    assert!(rt; !keeper.is_admitted(0) && keeper.is_admitted(1));
     assert!(rt; doors.raise(keeper) == 1);
+    assert!(rt; keeper.last_stamp() == 1);
     assert!(rt; !keeper.may_bind(0));
 }
 

@@ -191,7 +191,9 @@ fn binds_anew(
     ensures zero { IsSame pages.now zero.old zero.new }
     ensures one { IsSame pages.now one.old one.new }
 {
+    assert!(rt; zero.touches() == 2 && one.touches() == 1);
     assert!(rt; pages.raise(keeper) == 1);
+    assert!(rt; keeper.last_stamp() == 1 && keeper.binding(0) == 1);
     assert!(rt; !keeper.may_bind(0));
     assert!(rt; pages.rest(zero) == 1);
     assert!(rt; pages.rest(one) == 1);
