@@ -10,6 +10,7 @@ pub mod PageLaws
 pub mod PathRefusals
 pub mod PlaceLaws
 pub mod QuotaLaws
+pub mod QuotaTotals
 pub mod RemoveLaws
 pub mod ScriptLaws
 pub mod TreeLaws
