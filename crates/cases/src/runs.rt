@@ -2,8 +2,10 @@
 //!
 //! The first line of such a case asks, and what follows is the input, which ends before the line feed of the next case:
 //! a blank line there leaves the input its last line feed. Where lines `-- NAME` stand in the input, it is a group:
-//! each of them begins a case of the lines before the first and those below it. The line that asks has the program's
-//! words, each in brackets, and then these, with `;` between:
+//! each of them begins a case of the lines before the first and those below it. Where a line `changes` stands in it,
+//! each line below that is a case of the input before it, with some of its lines changed: in pieces with ` | ` between
+//! them, of which `N` leaves line N out, and `N=TEXT` puts a text in its place, in which `/` stands for a line feed.
+//! The line that asks has the program's words, each in brackets, and then these, with `;` between:
 //! - `only WORDS` prints but the lines that begin with one of the words;
 //! - `words U.OFF ..` prints the words at these places of the segments of these uids, by the flat store after the book;
 //! - `calls` prints how often the first volume's disk was read and written;
@@ -24,6 +26,7 @@
 mod answers;
 mod asking;
 mod books;
+mod changes;
 mod gates;
 mod groups;
 mod lockstep;

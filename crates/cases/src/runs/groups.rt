@@ -1,6 +1,7 @@
 use crate::first_line;
 use crate::runs::answers::answer_text;
 use crate::runs::asking::Asked;
+use crate::runs::changes::changed;
 use make_work::make_script;
 use no_memory::NoMemory;
 use std::alloc::Global;
@@ -45,6 +46,22 @@ fn group_text<R: Threads + Wait + Sync + AllocGlobal>(
     Ok(text)
 }
 
+/// Each change of an input, and what the input gives with it.
+fn changes_text<R: Threads + Wait + Sync + AllocGlobal>(
+    rt: &R,
+    asked: &Asked,
+    input: &str,
+    changes: &str,
+) -> Result<String, NoMemory> {
+    let mut text = String::new(rt.alloc());
+    for change in changes.lines() {
+        let input = changed(rt.alloc(), input, change)?;
+        let given = answers(rt, asked, input.as_bytes())?;
+        write!(text, "-- {change}\n{given}")?;
+    }
+    Ok(text)
+}
+
 /// What the script of a day gives.
 fn day_text<R: Threads + Wait + Sync + AllocGlobal>(
     rt: &R,
@@ -64,6 +81,9 @@ pub(crate) fn given<R: Threads + Wait + Sync + AllocGlobal>(
     let asked = Asked::by(line);
     if let Some(number) = asked.day {
         return day_text(rt, &asked, number);
+    }
+    if let Some((input, changes)) = input.split_once("\nchanges\n") {
+        return changes_text(rt, &asked, input, changes);
     }
     match input.split_once("\n-- ") {
         Some((front, parts)) => group_text(rt, &asked, front, parts),
