@@ -1,8 +1,9 @@
 -- A page of zeros is given up; the zeros of a page that is cut.
-use Rattle.std.proofs.Common.{◌≡◌, ◌≢◌, ℕ, ◌+◌, ◌*◌, ◌/◌, ◌%◌, ◌<◌, ◌≤◌, Bool, true, false, cond, eqb, ◌&&◌, List, Some}
-use Rattle.std.proofs.Common.{None, IsTrue, ◌↔◌, is_some, refl, sym, ap, ◌∙◌, arith, inl, inr}
-use Rattle.std.specs.Prelude.{nat_le}
-use Rattle.std.proofs.lemmas.Bool.{cases_Bool, cases_eq}
+use Rattle.std.proofs.Common.{◌≡◌, ℕ, ◌+◌, ◌*◌, ◌/◌, ◌%◌, ◌<◌, ◌≤◌, Bool, true, false, cond, eqb, ◌&&◌, List, Some, Option}
+use Rattle.std.proofs.Common.{None, get_or, IsTrue, ◌↔◌, is_some, refl, sym, ap, ◌∙◌, arith, inl, inr}
+use Rattle.std.specs.Bool.{Decides}
+use Rattle.std.specs.Prelude.{nat_le, slice_index}
+use Rattle.std.proofs.lemmas.Bool.{cases_Bool}
 use Rattle.std.proofs.lemmas.Bool.Decides.{nat_tests}
 use Rattle.mword.specs.Words.{AreZero}
 use Rattle.script.specs.Plans.{Plan}
@@ -11,8 +12,8 @@ use Rattle.flat_model.specs.Pages.{Words, is_zero_page, without_stored, without_
 use Rattle.flat_model.specs.Store.{Store}
 use Rattle.flat_model.proofs.ZeroLaws.{words_zero, zero_words}
 use Rattle.flat_model.specs.Cuts.{without_pages}
-use Rattle.flat_store.specs.Shown.{Held, Holds, page_at}
-use Rattle.flat_store.proofs.CutLaws.{zero_told}
+use Rattle.flat_store.specs.Shown.{Held, Holds, page_at, word_in}
+use Rattle.flat_store.proofs.CutLaws.{no_words, zero_told}
 
 pub may_release : (p : Plan) (s : Store) (h : Held) (u q : ℕ) (ws : List ℕ) (r : Bool) → Holds p h s
     → page_at h.pages u q ≡ Some ws
@@ -62,27 +63,49 @@ all_zero s u from zeros = sym (words_zero (without_words s.words u from) u (from
         here false e = (let below : 1024 * (from / 1024) + i < from = grind (arith, nat_tests) in
             rw (own, e) (zeros (1024 * (from / 1024) + i) (omega arith) below))
 
-pub one_stays : (s : Store) (u from o w : ℕ) → from / 1024 * 1024 ≤ o → o < from → w ≡ s.words u o → w ≢ 0
-    → false ≡ is_zero_page (without_words s.words u from) u (from / 1024)
-one_stays s u from o w le lt is other =
-    elim (cases_Bool (is_zero_page (without_words s.words u from) u (from / 1024))) [
-      | inl zero_is ↦
-          (let place : o / 1024 ≡ from / 1024 = omega (arith, le, lt) in
-          let at : 1024 * (from / 1024) + o % 1024 ≡ o = omega (arith, place) in
-          let inside : o % 1024 < 1024 = omega arith in
-          let zero_there : without_words s.words u from u o ≡ 0 = ap (without_words s.words u from u) (sym at)
-          ∙ zero_words (without_words s.words u from) u (from / 1024) (o % 1024) zero_is inside in
-          let own : eqb u u ≡ true = grind (arith, nat_tests) in
-          let early : nat_le from o ≡ false = grind (arith, nat_tests) in
-          let stays : without_words s.words u from u o ≡ s.words u o = rw (own, early) refl in
-          absurd (other (is ∙ sym stays ∙ zero_there)))
-      | inr isnt ↦ sym isnt
-    ]
+module _ (p : Plan) (s : Store) (h : Held) (u from : ℕ) (holds : Holds p h s) where
+  -- the page that is cut is stored, with these words
+  pub cut_told : (ws : List ℕ) (r : Bool) → page_at h.pages u (from / 1024) ≡ Some ws
+      → Decides r ((i : ℕ) → i < from % 1024 → slice_index ws i ≡ 0)
+      → r ≡ is_zero_page (without_words s.words u from) u (from / 1024)
+  cut_told ws r found told = by r told
+    where
+      word : (i : ℕ) → i < from % 1024 → s.words u (1024 * (from / 1024) + i) ≡ slice_index ws i
+      word i lt =
+          let page : (1024 * (from / 1024) + i) / 1024 ≡ from / 1024 = omega (arith, lt) in
+          let place : (1024 * (from / 1024) + i) % 1024 ≡ i = omega (arith, lt) in
+          holds.pages.values u (1024 * (from / 1024) + i)
+          ∙ ap (λ (x : ℕ). word_in (page_at h.pages u x) ((1024 * (from / 1024) + i) % 1024)) page
+          ∙ ap (λ (x : Option (List ℕ)). word_in x ((1024 * (from / 1024) + i) % 1024)) found
+          ∙ ap (λ (x : ℕ). get_or ws x 0) place
 
-pub zeros_more : (words : ℕ → ℕ) (start offset : ℕ) → ((o : ℕ) → start ≤ o → o < offset → words o ≡ 0)
-    → words offset ≡ 0 → (o : ℕ) → start ≤ o
-    → o < offset + 1 → words o ≡ 0
-zeros_more words start offset before here o le lt = elim (cases_eq o offset) [
-  | inl same ↦ ap words same ∙ here
-  | inr other ↦ before o le (omega (arith, lt, other))
-]
+      zeros : ((i : ℕ) → i < from % 1024 → slice_index ws i ≡ 0) → (o : ℕ) → from / 1024 * 1024 ≤ o → o < from
+          → s.words u o ≡ 0
+      zeros each o le lt =
+          let at : 1024 * (from / 1024) + o % 1024 ≡ o = omega (arith, le, lt) in
+          let below : o % 1024 < from % 1024 = omega (arith, le, lt) in
+          ap (s.words u) (sym at) ∙ word (o % 1024) below ∙ each (o % 1024) below
+
+      stays : is_zero_page (without_words s.words u from) u (from / 1024) ≡ true → (i : ℕ) → i < from % 1024
+          → slice_index ws i ≡ 0
+      stays zero_is i lt =
+          let own : eqb u u ≡ true = grind (arith, nat_tests) in
+          let early : nat_le from (1024 * (from / 1024) + i) ≡ false = grind (arith, nat_tests) in
+          let same : without_words s.words u from u (1024 * (from / 1024) + i) ≡ s.words u (1024 * (from / 1024) + i) =
+          rw (own, early) refl in
+          sym (word i lt) ∙ sym same
+          ∙ zero_words (without_words s.words u from) u (from / 1024) i zero_is (omega (arith, lt))
+
+      by : (z : Bool) → Decides z ((i : ℕ) → i < from % 1024 → slice_index ws i ≡ 0)
+          → z ≡ is_zero_page (without_words s.words u from) u (from / 1024)
+      by true d = all_zero s u from (zeros (d.0 refl))
+      by false d = elim (cases_Bool (is_zero_page (without_words s.words u from) u (from / 1024))) [
+        | inl zero_is ↦ (let clash : false ≡ true = d.1 (stays zero_is) in absurd cc)
+        | inr isnt ↦ sym isnt
+      ]
+
+  -- it isn't stored
+  pub cut_absent : page_at h.pages u (from / 1024) ≡ None
+      → true ≡ is_zero_page (without_words s.words u from) u (from / 1024)
+  cut_absent none = all_zero s u from (λ o le lt.
+      no_words h.pages s u (from / 1024) holds.pages none o (omega (arith, le, lt)))

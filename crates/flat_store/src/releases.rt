@@ -1,4 +1,4 @@
-ghost use Rattle.std.specs.Prelude.{◌≡◌, ◌/◌, ◌↔◌, ◌==◌, IsTrue};
+ghost use Rattle.std.specs.Prelude.{◌≡◌, ◌/◌, ◌<◌, ◌≤◌, ◌↔◌, ◌==◌, ℕ, IsTrue, slice_index};
 ghost use Rattle.script.specs.Plans.{Plan};
 ghost use Rattle.flat_model.specs.Legal.{MayRelease};
 ghost use Rattle.flat_model.specs.Pages.{is_zero_page, without_stored, without_words};
@@ -41,12 +41,22 @@ impl Holdings {
         ensures { (p : Plan) (s : Store) → Holds p self.now s
             → result ≡ is_zero_page (without_words s.words uid words) uid (words / 1024) }
     {
-        let start = words / Page::WORDS * Page::WORDS;
-        for offset in start..words {
-            if self.word(uid, offset).value() != 0 {
-                return false;
-            }
+        match self.pages.get(uid, words / Page::WORDS) {
+            Some(page) => is_zero_below(page, words % Page::WORDS),
+            None => true,
         }
-        true
     }
+}
+
+/// Whether each word of a page below a place is 0. It stops at the first that isn't.
+fn is_zero_below(page: &Page, at: u32) -> bool
+    requires { at ≤ 1024 }
+    ensures { Decides result ((i : ℕ) → i < at → slice_index page.now i ≡ 0) }
+{
+    for i in 0..at {
+        if page.get(i).value() != 0 {
+            return false;
+        }
+    }
+    true
 }

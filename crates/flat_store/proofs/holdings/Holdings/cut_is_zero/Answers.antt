@@ -1,21 +1,17 @@
-use Rattle.std.proofs.Common.{◌*◌, ◌/◌, sym, ◌∙◌, arith}
-use Rattle.flat_store.proofs.ReleaseLaws.{all_zero, one_stays, zeros_more}
+use Rattle.flat_store.specs.contracts.holdings.Holdings.{the_view}
+use Rattle.flat_store.specs.Shown.{Held}
+use Rattle.flat_store.proofs.DropLaws.{held_inside}
+use Rattle.flat_store.proofs.ReleaseLaws.{cut_absent, cut_told}
 use Rattle.flat_store.proofs.holdings.Holdings.cut_is_zero.Goals as goal
 
-pub returns-then-value-ne0 : goal.returns-then-value-ne0
-returns-then-value-ne0 c = λ p s h.
-    one_stays s c.args.uid c.args.words c.loop-offset.offset c.value.result c.loop-offset.invariant.1
-    c.loop-offset-test.true
-    (c.value.ensures.value ∙ c.word.ensures p s h) c.if-value-ne0.true
+pub returns-in-Some : goal.returns-in-Some
+returns-in-Some c = λ p s h.
+    let before : Held = the_view c.self.inside in
+    cut_told p s before c.args.uid c.args.words (held_inside p s before c.args.self.now c.self.view_is h)
+    c.in-Some.page.now c.is_zero_below.result c.in-Some.ensures.some c.is_zero_below.ensures
 
-pub loop-offset-preserved : goal.loop-offset-preserved
-loop-offset-preserved c = (
-  λ p s h. zeros_more (s.words c.args.uid) (c.args.words / 1024 * 1024) c.loop-offset.offset
-      (c.loop-offset.invariant.0 p s h)
-      (sym (c.value.ensures.value ∙ c.word.ensures p s h) ∙ c.if-value-ne0.false),
-  omega (arith, c.loop-offset.invariant.1),
-)
-
-pub returns : goal.returns
-returns c = λ p s h. all_zero s c.args.uid c.args.words
-    (λ o le lt. c.loop-offset.invariant.0 p s h o le (omega (arith, lt, c.loop-offset-test.false)))
+pub returns-in-None : goal.returns-in-None
+returns-in-None c = λ p s h.
+    let before : Held = the_view c.self.inside in
+    cut_absent p s before c.args.uid c.args.words (held_inside p s before c.args.self.now c.self.view_is h)
+    c.in-None.ensures.none
