@@ -31,6 +31,7 @@ frames_free n few = record {
   going = λ a b. sym (none_counted _ frame.Free n refl);
   kinds = λ a b. sym (none_counted _ frame.Free n refl);
   pages = λ a b. sym (none_counted _ frame.Free n refl);
+  tight = λ a b idle. cc;
 }
 
 pub descriptors_free : AreDescriptors (replicate 256 descriptor.Free) (record { uids = []; going = []; kinds = [] })

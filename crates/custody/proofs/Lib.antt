@@ -1,4 +1,5 @@
 pub mod CountLaws
+pub mod ReachLaws
 pub mod TallyLaws
 pub mod LookLaws
 pub mod ScanLaws

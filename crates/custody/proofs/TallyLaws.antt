@@ -1,13 +1,13 @@
 -- What is counted of a list, as one element after the other changes.
-use Rattle.std.proofs.Common.{◌<◌, ◌≤◌, ◌^◌, ℕ, suc, zero, Bool, true, false, cond, eqb, ◌&&◌, List, [], ◌∷◌, Option}
+use Rattle.std.proofs.Common.{◌≡◌, ◌<◌, ◌≤◌, ◌^◌, ℕ, suc, zero, Bool, true, false, cond, eqb, ◌&&◌, List, [], ◌∷◌, Option}
 use Rattle.std.proofs.Common.{Some, None, length, get_or, set, length-set}
-use Rattle.std.proofs.Common.{◌∙◌, arith}
+use Rattle.std.proofs.Common.{◌∙◌, arith, inl, inr, subst, sym}
 use Rattle.std.specs.Prelude.{sum_by}
 use Rattle.std.proofs.lemmas.List.Sums.{sum_by-set, sum_by-cons}
 use Rattle.custody_model.specs.Custody.{page_of}
 use Rattle.custody_model.specs.declared.FrameUse.{FrameUse}
 use Rattle.custody_model.specs.declared.DescriptorUse.{DescriptorUse}
-use Rattle.custody.specs.Counts.{Counted, Keeps, Shifts, AreFew, count_at, key_bit}
+use Rattle.custody.specs.Counts.{AreFew, Counted, IsTight, Keeps, Readies, Shifts, count_at, key_bit}
 use Rattle.custody.specs.Uses.{UseCounted, IsTally, AreFrames, AreDescriptors, KeepUses, ShiftUses, AreFewUses}
 use Rattle.custody.specs.Uses.{frame_mark, descriptor_mark, uid_key, going_key}
 use Rattle.custody.specs.Uses.{kind_key}
@@ -48,7 +48,7 @@ tally_set {X} key xs old new i x d l t s = λ a b.
 
 pub tally_kept : {X : Type 0} (key : X → Option (ℕ × ℕ)) (xs : List X) (old new : Counted) → IsTally key xs old
     → Keeps old new → IsTally key xs new
-tally_kept key xs old new t k = λ a b. k.at a b ∙ t a b
+tally_kept key xs old new t k = λ a b. k a b ∙ t a b
 
 pub tally_few : {X : Type 0} (key : X → Option (ℕ × ℕ)) (xs : List X) (c : Counted) → length xs ≤ 2 ^ 32
     → IsTally key xs c → AreFew c
@@ -60,47 +60,63 @@ tally_few {X} key xs c l t = λ a b.
 
 -- ---- frames and descriptors
 
-pub frames_kept : (uses : List FrameUse) (c e : UseCounted) (p q : Counted) → AreFrames uses c p → KeepUses c e
-    → Keeps p q → AreFrames uses e q
-frames_kept uses c e p q t k j = record {
+-- memory was taken to count a use, and perhaps lacked for its page
+pub frames_kept : (uses : List FrameUse) (c e : UseCounted) (p : Counted) → AreFrames uses c p → KeepUses c e
+    → AreFrames uses e p
+frames_kept uses c e p t k = record {
   few = t.few;
   uids = tally_kept (λ x. uid_key (frame_mark x)) uses c.uids e.uids t.uids k.uids;
   going = tally_kept (λ x. going_key (frame_mark x)) uses c.going e.going t.going k.going;
   kinds = tally_kept (λ x. kind_key (frame_mark x)) uses c.kinds e.kinds t.kinds k.kinds;
-  pages = tally_kept page_of uses p q t.pages j;
+  pages = t.pages;
+  tight = t.tight;
 }
 
-pub frames_few : (uses : List FrameUse) (c : UseCounted) (p : Counted) → AreFrames uses c p → AreFewUses c × AreFew p
-frames_few uses c p t =
-    let l : length uses ≤ 2 ^ 32 = let h = t.few in omega (arith, h) in (
-      record {
-        uids = tally_few (λ x. uid_key (frame_mark x)) uses c.uids l t.uids;
-        going = tally_few (λ x. going_key (frame_mark x)) uses c.going l t.going;
-        kinds = tally_few (λ x. kind_key (frame_mark x)) uses c.kinds l t.kinds;
-      },
-      tally_few page_of uses p l t.pages,
-    )
+pub frames_lacking : (uses : List FrameUse) (c e : UseCounted) (p q : Counted) → AreFrames uses c p → KeepUses c e
+    → q ≡ p → AreFrames uses e q
+frames_lacking uses c e p q t k same = subst (λ (x : Counted). AreFrames uses e x) (sym same)
+    (frames_kept uses c e p t k)
 
--- no more pages are in frames, or being read into them, than there are frames
-pub pages_few : (uses : List FrameUse) (c : UseCounted) (p : Counted) → AreFrames uses c p → (a b : ℕ)
-    → count_at p a b ≤ 1024
-pages_few uses c p t a b =
-    let s = sum_small (λ y. key_bit (page_of y) a b) (λ y. bit_small (page_of y) a b) uses in
-    let g = t.pages a b in
-    let l = t.few in
-    omega (arith, l, s, g)
+frames_length : (uses : List FrameUse) (c : UseCounted) (p : Counted) → AreFrames uses c p → length uses ≤ 2 ^ 32
+frames_length uses c p t = let h = t.few in omega (arith, h)
 
-pub frames_put : (uses : List FrameUse) (c e : UseCounted) (p q : Counted) (f : ℕ) (x d : FrameUse) → f < length uses
-    → AreFrames uses c p
-    → ShiftUses c e (frame_mark (get_or uses f d)) (frame_mark x) → Shifts p q (page_of (get_or uses f d)) (page_of x)
-    → AreFrames (set uses f x) e q
-frames_put uses c e p q f x d l t s j = record {
-  few = rw (length-set uses f x) t.few;
-  uids = tally_set (λ x. uid_key (frame_mark x)) uses c.uids e.uids f x d l t.uids s.uids;
-  going = tally_set (λ x. going_key (frame_mark x)) uses c.going e.going f x d l t.going s.going;
-  kinds = tally_set (λ x. kind_key (frame_mark x)) uses c.kinds e.kinds f x d l t.kinds s.kinds;
-  pages = tally_set page_of uses p q f x d l t.pages j;
-}
+pub uses_few : (uses : List FrameUse) (c e : UseCounted) (p : Counted) → AreFrames uses c p → KeepUses c e
+    → AreFewUses e
+uses_few uses c e p t k =
+    let l = frames_length uses c p t in
+    let all = frames_kept uses c e p t k in
+    record {
+      uids = tally_few (λ x. uid_key (frame_mark x)) uses e.uids l all.uids;
+      going = tally_few (λ x. going_key (frame_mark x)) uses e.going l all.going;
+      kinds = tally_few (λ x. kind_key (frame_mark x)) uses e.kinds l all.kinds;
+    }
+
+pub pages_few : (uses : List FrameUse) (c : UseCounted) (p q : Counted) → AreFrames uses c p → Keeps p q → AreFew q
+pages_few uses c p q t k = tally_few page_of uses q (frames_length uses c p t) (tally_kept page_of uses p q t.pages k)
+
+-- what was there for nothing is counted now
+tight_put : (p q r : Counted) (from to : Option (ℕ × ℕ)) → IsTight p → Readies p q to → Shifts q r from to → IsTight r
+tight_put p q r from to tight ready s a b idle =
+    let before = s.idle a b idle in
+    elim (ready a b before.0) [
+      | inl was ↦ tight a b was
+      | inr one ↦ (let none = before.1 in omega (arith, one, none))
+    ]
+
+pub frames_put : (uses : List FrameUse) (c d e : UseCounted) (p q r : Counted) (f : ℕ) (x y : FrameUse)
+    → f < length uses → AreFrames uses c p → KeepUses c d → Keeps p q → Readies p q (page_of x)
+    → ShiftUses d e (frame_mark (get_or uses f y)) (frame_mark x) → Shifts q r (page_of (get_or uses f y)) (page_of x)
+    → AreFrames (set uses f x) e r
+frames_put uses c d e p q r f x y l t k j ready s i =
+    let all = frames_kept uses c d p t k in
+    record {
+      few = rw (length-set uses f x) t.few;
+      uids = tally_set (λ x. uid_key (frame_mark x)) uses d.uids e.uids f x y l all.uids s.uids;
+      going = tally_set (λ x. going_key (frame_mark x)) uses d.going e.going f x y l all.going s.going;
+      kinds = tally_set (λ x. kind_key (frame_mark x)) uses d.kinds e.kinds f x y l all.kinds s.kinds;
+      pages = tally_set page_of uses q r f x y l (tally_kept page_of uses p q t.pages j) i;
+      tight = tight_put p q r (page_of (get_or uses f y)) (page_of x) t.tight ready i;
+    }
 
 pub descriptors_kept : (uses : List DescriptorUse) (c e : UseCounted) → AreDescriptors uses c → KeepUses c e
     → AreDescriptors uses e
@@ -130,6 +146,6 @@ descriptors_put uses c e n x d l t s = record {
   kinds = tally_set (λ x. kind_key (descriptor_mark x)) uses c.kinds e.kinds n x d l t.kinds s.kinds;
 }
 
-pub ruleset frames_counted = (frames_kept, frames_put, frames_few)
+pub ruleset frames_counted = (frames_kept, frames_lacking, frames_put, uses_few, pages_few)
 
 pub ruleset descriptors_counted = (descriptors_kept, descriptors_put, descriptors_few)

@@ -1,6 +1,6 @@
 -- Counts by a key of two numbers (own).
-use Rattle.std.specs.Prelude.{◌≡◌, ◌<◌, ◌^◌, ℕ, zero, suc, ◌+◌, ◌-◌, Bool, true, ◌&&◌, ◌==◌, if◌then◌else◌, is_some}
-use Rattle.std.specs.Prelude.{List, Option, Some, None}
+use Rattle.std.specs.Prelude.{◌≡◌, ◌<◌, ◌^◌, ℕ, ◌+◌, ◌-◌, Bool, true, false, ◌&&◌, ◌==◌, if◌then◌else◌, is_some}
+use Rattle.std.specs.Prelude.{List, Option, Some, None, ◌⊎◌}
 use Rattle.std.specs.Ordering.{nat_cmp, ordering_then}
 use Rattle.std.specs.Map.{lookup}
 use Rattle.std.specs.BTreeMap.{is_at}
@@ -19,24 +19,26 @@ or_zero (Some n) = n
 abbrev pub count_at : Counted → ℕ → ℕ → ℕ
 count_at counts a b = or_zero (lookup (is_key a b) counts)
 
--- what is counted at all keys with a first number and a second one below a bound
-abbrev pub count_below : Counted → ℕ → ℕ → ℕ
-count_below counts a zero = 0
-count_below counts a (suc b) = count_below counts a b + count_at counts a b
-
 -- whether a key has its place among the counts
 abbrev pub has_place : Counted → ℕ → ℕ → Bool
 has_place counts a b = is_some (lookup (is_key a b) counts)
 
--- the count at one key is another from now on, and each key that had a place has it still
+-- a key has its place though nothing is counted at it
+abbrev pub IsIdle : Counted → ℕ → ℕ → Type 0
+IsIdle counts a b = lookup (is_key a b) counts ≡ Some 0
+
+-- what there is none of takes no place
+abbrev pub IsTight : Counted → Type 0
+IsTight counts = (a b : ℕ) → IsIdle counts a b → ⊥
+
+-- the count at one key is another from now on, and that key doesn't have its place for nothing
 pub record Recounts (old new : Counted) (a b n : ℕ) : Type 0 where
   pub at : (x y : ℕ) → count_at new x y ≡ (if a == x && b == y then n else count_at old x y)
-  pub places : (x y : ℕ) → has_place old x y ≡ true → has_place new x y ≡ true
+  pub idle : (x y : ℕ) → IsIdle new x y → IsIdle old x y × ((a == x && b == y) ≡ false)
 
--- all counts are as they were, and each key that had a place has it still
-pub record Keeps (old new : Counted) : Type 0 where
-  pub at : (x y : ℕ) → count_at new x y ≡ count_at old x y
-  pub places : (x y : ℕ) → has_place old x y ≡ true → has_place new x y ≡ true
+-- all counts are as they were
+abbrev pub Keeps : Counted → Counted → Type 0
+Keeps old new = (x y : ℕ) → count_at new x y ≡ count_at old x y
 
 -- ---- what is counted under at most one key
 
@@ -50,10 +52,14 @@ abbrev pub HasPlace : Counted → Option (ℕ × ℕ) → Type 0
 HasPlace counts None = Unit {0}
 HasPlace counts (Some k) = has_place counts k.0 k.1 ≡ true
 
--- something that was counted under one key is counted under another from now on
+-- no key has its place for nothing that didn't, but this one
+abbrev pub Readies : Counted → Counted → Option (ℕ × ℕ) → Type 0
+Readies old new key = (x y : ℕ) → IsIdle new x y → IsIdle old x y ⊎ (key_bit key x y ≡ 1)
+
+-- Something that was counted under one key is counted under another from now on, whose place isn't there for nothing.
 pub record Shifts (old new : Counted) (from to : Option (ℕ × ℕ)) : Type 0 where
-  pub at : (x y : ℕ) → count_at new x y ≡ count_at old x y - key_bit from x y + key_bit to x y
-  pub places : (x y : ℕ) → has_place old x y ≡ true → has_place new x y ≡ true
+  pub at : (x y : ℕ) → count_at new x y ≡ count_at old x y + key_bit to x y - key_bit from x y
+  pub idle : (x y : ℕ) → IsIdle new x y → IsIdle old x y × (key_bit to x y ≡ 0)
 
 -- no count is near the most that one takes
 abbrev pub AreFew : Counted → Type 0

@@ -1,13 +1,13 @@
 -- What frames and descriptors are used for, seen by what is counted of them: the segment, and whether it is on its way
 -- out (own).
-use Rattle.std.specs.Prelude.{◌≡◌, ◌≤◌, ℕ, true, false, ◌&&◌, ◌==◌, nat_lt, if◌then◌else◌, sum_by, slice_index_or}
+use Rattle.std.specs.Prelude.{◌≡◌, ◌≤◌, ℕ, true, false, if◌then◌else◌, sum_by, slice_index_or}
 use Rattle.std.specs.Prelude.{length, List, Option, Some, None}
 use Rattle.custody_model.specs.Custody.{page_of}
 use Rattle.custody_model.specs.declared.FrameUse.{FrameUse}
 use Rattle.custody_model.specs.declared.FrameUse.TheVariants as frame
 use Rattle.custody_model.specs.declared.DescriptorUse.{DescriptorUse}
 use Rattle.custody_model.specs.declared.DescriptorUse.TheVariants as descriptor
-use Rattle.custody.specs.Counts.{Counted, Keeps, Shifts, HasPlace, AreFew, count_at, key_bit}
+use Rattle.custody.specs.Counts.{AreFew, Counted, HasPlace, IsTight, Keeps, Shifts, count_at, key_bit}
 use Rattle.custody.specs.declared.uses.Mark.{Mark}
 
 -- the uses of frames and of the descriptors of a process; past the last there is none
@@ -81,14 +81,10 @@ pub record AreFrames (uses : List FrameUse) (c : UseCounted) (by_page : Counted)
   pub going : IsTally (λ x. going_key (frame_mark x)) uses c.going
   pub kinds : IsTally (λ x. kind_key (frame_mark x)) uses c.kinds
   pub pages : IsTally page_of uses by_page
+  pub tight : IsTight by_page
 
 pub record AreDescriptors (uses : List DescriptorUse) (c : UseCounted) : Type 0 where
   pub few : length uses ≤ 256
   pub uids : IsTally (λ x. uid_key (descriptor_mark x)) uses c.uids
   pub going : IsTally (λ x. going_key (descriptor_mark x)) uses c.going
   pub kinds : IsTally (λ x. kind_key (descriptor_mark x)) uses c.kinds
-
--- whether a page is one of a segment below a number, as a number
-abbrev pub below_bit : ℕ → ℕ → Option (ℕ × ℕ) → ℕ
-below_bit u pages None = 0
-below_bit u pages (Some x) = if x.0 == u && nat_lt x.1 pages then 1 else 0

@@ -1,12 +1,15 @@
-ghost use Rattle.std.specs.Prelude.{◌≡◌, ◌+◌, ◌-◌, ◌<◌, ◌≤◌, ◌^◌, ℕ, true, OnOk, [], Some, None};
-ghost use Rattle.custody.specs.Counts.{AreFew, HasPlace, Keeps, Recounts, Shifts, count_at, count_below, has_place};
+ghost use Rattle.std.specs.Prelude.{◌≡◌, ◌+◌, ◌-◌, ◌<◌, ◌≤◌, ◌^◌, ℕ, true, OnOk, OnErr, [], Some, None};
+ghost use Rattle.std.specs.Bool.{Decides};
+ghost use Rattle.custody.specs.Counts.{AreFew, HasPlace, IsTight, Keeps, Readies, Recounts, Shifts, count_at, has_place};
 
 use crate::NoMemory;
 use std::alloc::Global;
 use std::collections::BTreeMap;
 use std::marker::Model;
 
-/// How many there are of what two numbers name.
+/// How many there are of what two numbers name. What there is none of any more takes no place.
+///
+/// Each call but `new` costs a few searches in one ordered map, whose places are as many as there are keys with a count.
 #[derive(Drop)]
 pub(crate) struct Counts {
     entries: BTreeMap<(u32, u32), u64>,
@@ -40,25 +43,26 @@ impl Counts {
         }
     }
 
-    /// How many there are with a first number and with a second number below this.
-    pub(crate) fn below(&self, a: u32, bound: u32) -> u64
-        requires { (b : ℕ) → count_at self.now a b ≤ 1024 }
-        ensures { result ≡ count_below self.now a bound }
+    /// Whether there is any with a first number and with a second number from one on.
+    pub(crate) fn has_from(&self, a: u32, from: u32) -> bool
+        requires { IsTight self.now }
+        ensures { Decides result ((b : ℕ) × (from ≤ b) × (0 < count_at self.now a b)) }
     {
-        let mut count: u64 = 0;
-        for b in 0..bound {
-            count += self.at(a, b);
+        match self.entries.range((a, from)..).next() {
+            Some((key, _)) => key.0 == a,
+            None => false,
         }
-        count
     }
 
     /// Takes memory for its count.
     ///
     /// # Errors
-    /// `NoMemory` is want of memory.
+    /// `NoMemory` is want of memory; then nothing is changed.
     pub(crate) fn reserve(&mut self, a: u32, b: u32) -> Result<(), NoMemory>
         ensures keeps { Keeps self.old self.new }
+        ensures readies { Readies self.old self.new (Some (a, b)) }
         ensures ok { OnOk result (has_place self.new a b ≡ true) }
+        ensures err { OnErr result (self.new ≡ self.old) }
     {
         if self.entries.get(&(a, b)).is_some() {
             return Ok(());
@@ -71,7 +75,8 @@ impl Counts {
 
     /// The count of what has its place is this from now on.
     fn set(&mut self, a: u32, b: u32, to: u64)
-        requires { has_place self.old a b ≡ true }
+        requires place { has_place self.old a b ≡ true }
+        requires some { 0 < to }
         ensures { Recounts self.old self.new a b to }
     {
         if let Some(count) = self.entries.get_mut(&(a, b)) {
@@ -79,8 +84,15 @@ impl Counts {
         }
     }
 
+    /// There is none of it from now on, and it takes no place.
+    fn forget(&mut self, a: u32, b: u32)
+        ensures { Recounts self.old self.new a b 0 }
+    {
+        self.entries.remove(&(a, b));
+    }
+
     /// There is one more of it.
-    pub(crate) fn add(&mut self, a: u32, b: u32)
+    fn add(&mut self, a: u32, b: u32)
         requires place { has_place self.old a b ≡ true }
         requires few { count_at self.old a b + 1 < 2 ^ 64 }
         ensures { Recounts self.old self.new a b (count_at self.old a b + 1) }
@@ -89,24 +101,28 @@ impl Counts {
         self.set(a, b, count + 1);
     }
 
-    /// There is one less of it, unless there is none.
-    #[tactic(auto, using(crate::proofs::CountLaws::placed, crate::proofs::CountLaws::recounts_none))]
-    pub(crate) fn subtract(&mut self, a: u32, b: u32)
+    /// There is one less of it, unless there is none. What there is none of any more is forgotten.
+    #[tactic(auto, using(crate::proofs::CountLaws::placed, crate::proofs::CountLaws::last_left))]
+    fn subtract(&mut self, a: u32, b: u32)
         ensures { Recounts self.old self.new a b (count_at self.old a b - 1) }
     {
         let count = self.at(a, b);
-        if count > 0 {
+        if count > 1 {
             self.set(a, b, count - 1);
+        } else {
+            self.forget(a, b);
         }
     }
 
     /// Takes memory for the count of a key, where there is one.
     ///
     /// # Errors
-    /// `NoMemory` is want of memory.
+    /// `NoMemory` is want of memory; then nothing is changed.
     pub(crate) fn reserve_key(&mut self, key: Option<(u32, u32)>) -> Result<(), NoMemory>
         ensures keeps { Keeps self.old self.new }
+        ensures readies { Readies self.old self.new key }
         ensures ok { OnOk result (HasPlace self.new key) }
+        ensures err { OnErr result (self.new ≡ self.old) }
     {
         match key {
             Some((a, b)) => self.reserve(a, b),
@@ -136,14 +152,15 @@ impl Counts {
         }
     }
 
-    /// Something that was counted under one key is counted under another.
-    #[tactic(auto, using(crate::proofs::CountLaws::key_shifted))]
+    /// Something that was counted under one key is counted under another. It enters before it leaves, since the last of
+    /// a key takes its place with it.
+    #[tactic(auto, using(crate::proofs::CountLaws::shifted))]
     pub(crate) fn shift(&mut self, from: Option<(u32, u32)>, to: Option<(u32, u32)>)
         requires place { HasPlace self.old to }
         requires few { AreFew self.old }
         ensures { Shifts self.old self.new from to }
     {
-        self.leave(from);
         self.enter(to);
+        self.leave(from);
     }
 }

@@ -124,7 +124,7 @@ impl Custody {
     ///
     /// The tables must be those of the script, and each processor's count of command entries must have room for one
     /// more. An entry costs a few searches in ordered maps, and at most a look at what each processor holds, or at the
-    /// processes that are ready.
+    /// processes that are ready. The list of what is active grows to the greatest uid that became so.
     ///
     /// # Errors
     /// `NoMemory` is want of memory; then nothing is changed.

@@ -131,9 +131,8 @@ impl Frames {
     pub(crate) fn all_are_below(&self, uid: u32, pages: u32) -> bool
         ensures { Decides result ((f q : ℕ) → page_of (frame_at self.now f) ≡ Some (uid, q) → q < pages) }
     {
-        let below = self.pages.below(uid, pages);
-        let all = self.counts.of(uid);
-        below == all
+        let some = self.pages.has_from(uid, pages);
+        !some
     }
 }
 

@@ -142,7 +142,7 @@ impl UseCounts {
     ///
     /// # Errors
     /// `NoMemory` is want of memory.
-    #[tactic(auto, using(crate::proofs::CountLaws::keeps_all, crate::proofs::CountLaws::place_kept))]
+    #[tactic(auto, using(crate::proofs::CountLaws::keeps_all))]
     pub(crate) fn reserve(&mut self, mark: Option<Mark>) -> Result<(), NoMemory>
         ensures keeps { KeepUses self.old self.new }
         ensures ok { OnOk result (HavePlaces self.new mark) }

@@ -12,9 +12,9 @@ returns c = elim c.match-get_mut.branch [
       w.in-Some.is in
       rw w.self-inside-is (recounts c.self.inside.entries.entries c.args.self.now
       (c.get_mut.follows.lender c.args.to).entries c.args.a c.args.b c.args.to
-      c.self.view_is (((c.get_mut.follows.holds c.args.to).3 there).0)))
+      c.self.view_is c.requires.some (((c.get_mut.follows.holds c.args.to).3 there).0)))
   | in_default w ↦
       absurd (not_lent c.self.inside.entries.entries c.args.self.now c.args.a c.args.b c.get_mut.result c.self.view_is
       c.get_mut.ensures.value
-      w.in_default.is c.requires)
+      w.in_default.is c.requires.place)
 ]
