@@ -10,6 +10,8 @@ use Rattle.book.specs.Reading.{IsEntry}
 use Rattle.flat_model.specs.Legal.{IsLawful, after_entry, part, store_after, store_from}
 use Rattle.flat_model.specs.Store.{Store, at_first, boot}
 use Rattle.flat_model.proofs.BookLaws.{legal_nil, legal_push, store_after-nil, store_after-push}
+use Rattle.flat_model.proofs.QuotaTotals.{boot_total, entry_total, total}
+use Rattle.tree_model.specs.Trees.{IsTree}
 use Rattle.flat_store.specs.Shown.{Kept, Shows}
 use Rattle.custody_model.specs.Allowed.{IsAllowed}
 use Rattle.custody_model.specs.Clean.{custody_after}
@@ -54,6 +56,7 @@ after_boot p k c shows active held tables = record {
   turns = λ d. let idle : ((custody_after p []).seat d).count ≡ 0 =
       ap (λ (x : Custody). (x.seat d).count) (custody_after-nil p) in omega (arith, idle);
   ends = ends_boot p;
+  total = ap (λ (s : Store). total s.nodes) (store_after-nil p) ∙ boot_total p;
 }
 
 -- ---- one more entry
@@ -71,9 +74,10 @@ pub after_next : (old new : Judged) (es : List Entry) (e : Entry) → IsAfter ol
     → AreNodes (after_entry old.script s e).nodes new.custody.active)
     → ((s : Store) → Shows old.script old.store s → IsLawful old.script s e
     → Shows old.script new.store (after_entry old.script s e))
-    → ((s : Store) → Shows old.script old.store s → AreTablesOf old.script new.custody) → IsAfter new (es ++ e ∷ [])
+    → ((s : Store) → Shows old.script old.store s → AreTablesOf old.script new.custody)
+    → ((s : Store) → Shows old.script old.store s → IsTree s.nodes) → IsAfter new (es ++ e ∷ [])
 unfolding Allows
-after_next old new es e is entry allows same more custody nodes store tables =
+after_next old new es e is entry allows same more custody nodes store tables tree =
     subst (λ (p : Plan). IsAfter (record new { script = p }) (es ++ e ∷ [])) (sym same) next
   where
     p : Plan
@@ -120,6 +124,7 @@ after_next old new es e is entry allows same more custody nodes store tables =
           ap (λ (x : Custody). (x.seat d).count) held in
           omega (arith, before, step, now, longer);
       ends = ends_push p es e is.shown.shown.runners is.ends may.0;
+      total = ap (λ (x : Store). total x.nodes) later ∙ entry_total p s e (tree s is.shown) may.0 ∙ is.total;
     }
 
 -- ---- a line
@@ -217,10 +222,10 @@ module _ (p : Plan) (k : Kept) (t : Tables) (n : ℕ) (j : Judged) (e : Entry)
       → ((s : Store) → Shows p k s → AreNodes s.nodes t.active → IsLawful p s e
       → AreNodes (after_entry p s e).nodes tables.active)
       → ((s : Store) → Shows p k s → IsLawful p s e → Shows p kept (after_entry p s e))
-      → ((s : Store) → Shows p k s → AreTablesOf p tables)
+      → ((s : Store) → Shows p k s → AreTablesOf p tables) → ((s : Store) → Shows p k s → IsTree s.nodes)
       → IsAfter (record { script = p; store = kept; custody = tables; entries = n + 1 }) (es ++ e ∷ [])
-  followed es kept tables after entry allows custody nodes store are =
+  followed es kept tables after entry allows custody nodes store are tree =
       after_next (record { script = p; store = k; custody = t; entries = n })
       (record { script = p; store = kept; custody = tables; entries = n + 1 }) es e
       (subst (λ (x : Judged). IsAfter x es) (sym is) after) entry (subst (λ (x : Judged). Allows x e) (sym is) allows)
-      refl refl custody nodes store are
+      refl refl custody nodes store are tree

@@ -1,11 +1,16 @@
 -- What follows the entries (own).
 use Rattle.std.proofs.Common.{◌≡◌, ◌≢◌, ℕ, ◌+◌, ◌<◌, ◌≤◌, Bool, true, false, List, length, Result, Ok, Err, refl, sym}
-use Rattle.std.proofs.Common.{ap, subst, ◌∙◌, arith}
+use Rattle.std.proofs.Common.{ap, subst, ◌∙◌, arith, inl, inr}
+use Rattle.std.proofs.lemmas.Bool.{cases_Bool}
 use Rattle.std.specs.Bool.{Decides}
 use Rattle.script.specs.Fields.{lines_of}
 use Rattle.script.specs.Plans.{Plan}
 use Rattle.book.specs.declared.entries.Entry.{Entry}
-use Rattle.flat_model.specs.Legal.{IsComplete, store_after}
+use Rattle.flat_model.proofs.QuotaTotals.{all_within}
+use Rattle.flat_model.specs.Legal.{IsComplete, IsSettled, store_after}
+use Rattle.flat_model.specs.Pages.{is_stored, is_zero_page}
+use Rattle.tree_model.specs.Tree.{quota_in, used_by}
+use Rattle.tree_model.specs.Trees.{IsTree}
 use Rattle.flat_model.specs.Store.{Store, progress_of}
 use Rattle.flat_store.specs.Shown.{Kept, Shows}
 use Rattle.flat_store.specs.Zeros.{HasZeroPage}
@@ -28,6 +33,15 @@ pub all_ended : (p : Plan) (s : Store) (k : ℕ) → length p.processes ≤ k
     → ((j : ℕ) → j < k → (progress_of s j).ended ≡ true) → Decides true (HaveEnded p s)
 unfolding HaveEnded
 all_ended p s k most all = (λ e j lt. all j (omega (arith, lt, most)), λ h. refl)
+
+-- each stored page has a word other than 0
+no_zeros : (s : Store) → (HasZeroPage s → ⊥) → (u q : ℕ) → is_stored s.stored u q ≡ true
+    → is_zero_page s.words u q ≡ false
+unfolding HasZeroPage
+no_zeros s none u q there = elim (cases_Bool (is_zero_page s.words u q)) [
+  | inl e ↦ absurd (none (u, q, record { there = there; zeros = e }))
+  | inr m ↦ m
+]
 
 module _ (p : Plan) (k : Kept) (t : Tables) (n : ℕ) (j : Judged)
     (is : record { script = p; store = k; custody = t; entries = n } ≡ j) (first : ℕ)
@@ -69,6 +83,8 @@ module _ (p : Plan) (k : Kept) (t : Tables) (n : ℕ) (j : Judged)
         module _ (has : Bool) (zeros : (q : Plan) (s : Store) → Shows q k s → Decides has (HasZeroPage s))
             (none : has ≡ false) (text : List ℕ)
             (due : (s : Store) → Shows p k s → text ≡ summary_text (summary_of p s))
+            (tree : (s : Store) → Shows p k s → IsTree s.nodes)
+            (within : (s : Store) → Shows p k s → (a : ℕ) → used_by s.nodes s.stored a ≤ quota_in s.nodes a)
           where
             whole : (es : List Entry) → IsAfter (record { script = p; store = k; custody = t; entries = n }) es
                 → IsWhole p es
@@ -81,9 +97,23 @@ module _ (p : Plan) (k : Kept) (t : Tables) (n : ℕ) (j : Judged)
                 → lines_of text ≡ due_lines p es
             lines es after = ap lines_of (due (store_after p es) after.shown)
 
+            settled : (es : List Entry) → IsAfter (record { script = p; store = k; custody = t; entries = n }) es
+                → IsSettled p (store_after p es)
+            settled es after = record {
+              quotas = after.total;
+              within = all_within (store_after p es) (tree (store_after p es) after.shown)
+                  (within (store_after p es) after.shown);
+              words = no_zeros (store_after p es) (whole es after).zeros;
+            }
+
             pub closed_well : summary ≡ lines_of text → Closes j first summary (Ok n)
             unfolding Closes
-            closed_well same = to_parts (Ok n) (λ es after. (after.count, whole es after, same ∙ lines es after))
+            closed_well same = to_parts (Ok n) (λ es after. (
+              after.count,
+              whole es after,
+              same ∙ lines es after,
+              settled es after,
+            ))
 
             pub closed_wrong : (same : ℕ) (f : CheckFault) → same ≡ same_lines summary (lines_of text)
                 → summary ≢ lines_of text

@@ -153,7 +153,7 @@ judged_up p n lines (Ok count) h = record {
   left = [];
   texts = h.texts ∙ sym (nil_after (map entry_text h.entries));
   stand = h.stand;
-  finds = (h.all, h.whole, h.summary);
+  finds = (h.all, h.whole, h.summary, h.settled);
 }
 judged_up p n lines (Err (fault.Refused o)) h = up h.entries h.left h.texts h.stand h.breaks
   where
@@ -186,6 +186,7 @@ judged_down p n lines v h = down v h.entries h.left h.texts h.stand h.finds
       stand = stand;
       whole = finds.1;
       summary = finds.2;
+      settled = finds.3;
     }
     down (Ok count) es (l ∷ left) texts stand finds = absurd finds
     down (Err (fault.Refused o)) es [] texts stand finds =

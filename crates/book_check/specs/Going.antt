@@ -3,6 +3,7 @@ use Rattle.std.specs.Prelude.{◌≡◌, ◌↔◌, ℕ, ◌+◌, List, [], ◌�
 use Rattle.script.specs.Plans.{Plan}
 use Rattle.book.specs.declared.entries.Entry.{Entry}
 use Rattle.book.specs.Entries.{entry_text}
+use Rattle.flat_model.specs.Legal.{IsSettled, store_after}
 use Rattle.book_check.specs.Inputs.{entry_lines, summary_lines}
 use Rattle.book_check.specs.Judging.{Judged, IsAfter}
 use Rattle.book_check.specs.Verdicts.{Breaks, IsJudged, IsWhole, MayStand, due_lines}
@@ -11,7 +12,8 @@ use Rattle.book_check.specs.declared.offences.CheckFault.TheVariants as fault
 
 -- what is found after some entries, where these lines are left before the summary
 abbrev pub Finds : Plan → ℕ → List Entry → List (List ℕ) → List (List ℕ) → Result ℕ CheckFault → Type 0
-Finds p n es [] summary (Ok count) = (count ≡ length es) × IsWhole p es × (summary ≡ due_lines p es)
+Finds p n es [] summary (Ok count) =
+    (count ≡ length es) × IsWhole p es × (summary ≡ due_lines p es) × IsSettled p (store_after p es)
 Finds p n es (line ∷ left) summary (Ok count) = ⊥
 Finds p n es left summary (Err (fault.Refused o)) = Breaks p es (n + length es) left summary o.line o.rule
 Finds p n es left summary (Err _) = ⊥

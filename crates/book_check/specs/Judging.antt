@@ -1,5 +1,6 @@
 -- What is kept while a listing is judged (own).
 use Rattle.std.specs.Prelude.{◌≡◌, ◌<◌, ◌≤◌, ℕ, true, List, [], ◌∷◌, ◌++◌, length, Result, Ok, Err}
+use Rattle.std.specs.Prelude.{map, sum}
 use Rattle.std.specs.Bool.{Decides}
 use Rattle.script.specs.Plans.{Plan}
 use Rattle.book.specs.declared.entries.Entry.{Entry}
@@ -33,7 +34,7 @@ unfoldable pub HaveEnded : Plan → Store → Type 0
 HaveEnded p s = (k : ℕ) → k < length p.processes → (progress_of s k).ended ≡ true
 
 -- Such entries were accepted so far: they may stand one after the other, and what is kept is the flat store and the
--- custody after them. Each counts for at most one processor.
+-- custody after them. Each counts for at most one processor, and none changes what the quotas sum to.
 pub record IsAfter (j : Judged) (es : List Entry) : Type 0 where
   pub stand : MayStand j.script es
   pub shown : Shows j.script j.store (store_after j.script es)
@@ -43,6 +44,7 @@ pub record IsAfter (j : Judged) (es : List Entry) : Type 0 where
   pub count : j.entries ≡ length es
   pub turns : (d : ℕ) → ((custody_after j.script es).seat d).count ≤ length es
   pub ends : EndsAgree j.script es
+  pub total : sum (map (λ n. n.quota) (store_after j.script es).nodes) ≡ j.script.quota
 
 -- the flat store and custody allow an entry where they are as is kept
 unfoldable pub Allows : Judged → Entry → Type 0

@@ -7,7 +7,7 @@ use Rattle.script.specs.declared.refusals.Refusal.{Refusal}
 use Rattle.book.specs.declared.entries.Entry.{Entry}
 use Rattle.book.specs.Entries.{entry_text}
 use Rattle.book.specs.Reading.{IsEntry}
-use Rattle.flat_model.specs.Legal.{IsLawful, IsLegal, IsComplete, store_after}
+use Rattle.flat_model.specs.Legal.{IsLawful, IsLegal, IsComplete, IsSettled, store_after}
 use Rattle.flat_store.specs.Zeros.{HasZeroPage}
 use Rattle.custody_model.specs.Allowed.{IsAllowed}
 use Rattle.custody_model.specs.Clean.{IsClean, custody_after}
@@ -78,7 +78,8 @@ BreaksEnd p es n summary line _ = ⊥
 
 -- Lines are accepted, with so many entries: those before the summary are the texts of entries that may stand one after
 -- the other, their book is complete, no stored page is all zeros, and the summary is that of the accounts and the
--- volumes.
+-- volumes. So the store after them is settled: its quotas sum to the root's of the script, and each account is within
+-- its own.
 pub record IsAccepted (p : Plan) (lines : List (List ℕ)) (count : ℕ) : Type 0 where
   pub entries : List Entry
   pub texts : entry_lines lines ≡ map entry_text entries
@@ -86,6 +87,7 @@ pub record IsAccepted (p : Plan) (lines : List (List ℕ)) (count : ℕ) : Type 
   pub stand : MayStand p entries
   pub whole : IsWhole p entries
   pub summary : summary_lines lines ≡ due_lines p entries
+  pub settled : IsSettled p (store_after p entries)
 
 -- what the line is that follows some entries, which is line n: one that is left before the summary, or else the summary
 abbrev pub Breaks : Plan → List Entry → ℕ → List (List ℕ) → List (List ℕ) → ℕ → Rule → Type 0

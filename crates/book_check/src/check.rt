@@ -36,7 +36,8 @@ fn of_script(fault: ScriptFault) -> CheckFault
 /// Judges a listing of all entries, whoever made it (own). The bytes are a script, a line whose only field is `book`,
 /// and the lines of the listing: its entries, and the summary of the accounts and the volumes. The answer is the number
 /// of entries where each entry may stand at its place, each process has ended, no stored page is all zeros, and the
-/// summary is right. The last line may lack its line feed.
+/// summary is right. Then each reply is the flat store's, the quotas sum to the root's of the script, and each account
+/// is charged for exactly its stored pages, and for no more than its quota. The last line may lack its line feed.
 ///
 /// The bytes are read in place, and each line once; the lines of the script twice, since the line `book` is looked for
 /// first. Memory is taken for the script, the flat store, custody and the text of the summary.

@@ -9,7 +9,7 @@ ghost use Rattle.book_check.specs.declared.offences.CheckFault.TheVariants as Ch
 ghost use Rattle.book_check.specs.Judging.{HaveEnded};
 ghost use Rattle.book_check.specs.Verdicts.{same_lines};
 
-use crate::judge::Judge;
+use crate::judge::{Judge, accounts_promise};
 use crate::lines::next_line;
 use crate::offences::{CheckFault, Offence, Rule};
 use flat_store::FlatStore;
@@ -80,6 +80,7 @@ impl Judge {
         ensures { Closes self.now first (lines_of rest.now) result }
     {
         let line = first + self.entries;
+        accounts_promise(&self.store);
         if !have_ended(&self.script, &self.store) {
             return Err(refused(line, Rule::Incomplete));
         }

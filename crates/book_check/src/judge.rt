@@ -1,4 +1,9 @@
-ghost use Rattle.std.specs.Prelude.{◌≡◌, ◌+◌, ◌<◌, ◌^◌, ◌++◌, [], ◌∷◌, List, IfOk, IfNone, IfSome, OnOk};
+ghost use Rattle.std.specs.Prelude.{◌≡◌, ◌+◌, ◌<◌, ◌≤◌, ◌^◌, ◌++◌, ℕ, [], ◌∷◌, List, IfOk, IfNone, IfSome, OnOk};
+ghost use Rattle.script.specs.Plans.{Plan};
+ghost use Rattle.flat_model.specs.Store.{Store};
+ghost use Rattle.flat_store.specs.Shown.{Shows};
+ghost use Rattle.tree_model.specs.Tree.{quota_in, used_by};
+ghost use Rattle.tree_model.specs.Trees.{IsTree};
 ghost use Rattle.book.specs.declared.entries.Entry.{Entry};
 ghost use Rattle.book.specs.Reading.{IsEntry};
 ghost use Rattle.custody.specs.Tables.{AreTablesOf, HaveRoom};
@@ -38,6 +43,16 @@ impl Model for Judge {
     ghost Value = { Judged };
 
     ghost view = { λ j. record { script = j.script; store = j.store; custody = j.custody; entries = j.entries } };
+}
+
+/// What holds of the accounts of a flat store between calls: its nodes are a tree, and each account is within its
+/// quota. It does nothing.
+pub(crate) fn accounts_promise(store: &FlatStore)
+    ensures tree { (p : Plan) (s : Store) → Shows p store.now s → IsTree s.nodes }
+    ensures within { (p : Plan) (s : Store) → Shows p store.now s → (account : ℕ)
+        → used_by s.nodes s.stored account ≤ quota_in s.nodes account }
+{
+    store.accounts().promise();
 }
 
 impl Judge {
@@ -84,6 +99,7 @@ impl Judge {
     {
         // A check of this call wants the type of an entry's reply named.
         let _named: Option<Reply> = None;
+        accounts_promise(&self.store);
         self.custody.follow(&self.script, &self.store, *e)?;
         self.store.follow(&self.script, *e)?;
         self.entries += 1;

@@ -12,3 +12,4 @@ returns-clause-after c = λ es after entry. followed c.self.inside.script c.self
     c.args.e.now c.self.view_is es c.follow-2.new.self c.follow.new.self after entry c.requires.allowed
     c.in_ok-follow.ensures.custody
     c.in_ok-follow.ensures.nodes c.in_ok-follow-2.ensures.ok c.in_ok-follow.ensures.tables
+    (λ s. c.accounts_promise.ensures.tree c.self.inside.script s)
