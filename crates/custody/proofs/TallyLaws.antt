@@ -7,7 +7,7 @@ use Rattle.std.proofs.lemmas.List.Sums.{sum_by-set, sum_by-cons}
 use Rattle.custody_model.specs.Custody.{page_of}
 use Rattle.custody_model.specs.declared.FrameUse.{FrameUse}
 use Rattle.custody_model.specs.declared.DescriptorUse.{DescriptorUse}
-use Rattle.custody.specs.Counts.{AreFew, Counted, IsTight, Keeps, Readies, Shifts, count_at, key_bit}
+use Rattle.custody.specs.Counts.{AreFew, Counted, IsTight, Keeps, Readies, Shifts, key_bit}
 use Rattle.custody.specs.Uses.{UseCounted, IsTally, AreFrames, AreDescriptors, KeepUses, ShiftUses, AreFewUses}
 use Rattle.custody.specs.Uses.{frame_mark, descriptor_mark, uid_key, going_key}
 use Rattle.custody.specs.Uses.{kind_key}

@@ -1,6 +1,6 @@
 -- What a step's call of a drive comes to: which drive counts a failure more, and how many all of them do.
 use Rattle.std.proofs.Common.{◌≡◌, ◌≢◌, ◌≤◌, ◌<◌, ◌+◌, ◌-◌, ◌^◌, ◌++◌, ℕ, zero, suc, Bool, true, false, cond, length, map, min}
-use Rattle.std.proofs.Common.{List, [], ◌∷◌, Some, refl, sym, ap, ◌∙◌, arith, inl, inr}
+use Rattle.std.proofs.Common.{List, [], ◌∷◌, refl, sym, ap, ◌∙◌, arith, inl, inr}
 use Rattle.std.specs.Prelude.{Err, IsOk, Ok, Result, count_by, slice_get, sum_by}
 use Rattle.std.proofs.lemmas.Bool.{cases_lt}
 use Rattle.std.proofs.lemmas.List.Sums.{sum-map, sum_by-append, sum_by-cons}
@@ -8,7 +8,7 @@ use Rattle.std.specs.Prelude.{sum}
 use Rattle.site_io.specs.Faults.{Rose}
 use Rattle.book.specs.declared.entries.Entry.{Entry}
 use Rattle.volumes.specs.FailLine.{IsOneMore}
-use Rattle.volumes.specs.Volumes.{KeepsOthers, faults_at}
+use Rattle.volumes.specs.Volumes.{faults_at}
 use Rattle.page_control.specs.Drives.{CallsDrive}
 use Rattle.machine_model.specs.Actions as act
 use Rattle.machine_model.specs.Jobs.{page_in}

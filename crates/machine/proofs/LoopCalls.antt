@@ -6,7 +6,6 @@ use Rattle.std.proofs.lemmas.Bool.Decides.{eqb_tells}
 use Rattle.std.proofs.lemmas.List.{append-nil, get_or_past}
 use Rattle.std.specs.Prelude.{Err, Ok, OnErr, OnOk, Result}
 use Rattle.script.specs.Plans.{Plan}
-use Rattle.book.specs.declared.entries.Entry.{Entry}
 use Rattle.site_io.specs.declared.gate.Point.{Point}
 use Rattle.processor.specs.declared.Transfer.{Transfer}
 use Rattle.machine_model.specs.Actions as act
@@ -24,7 +23,6 @@ use Rattle.machine_model.specs.State.{Owner, State}
 use Rattle.machine_model.specs.Turns as model
 use Rattle.machine_model.specs.declared.Processor.{Processor}
 use Rattle.machine_model.proofs.FindLaws.{position_at, position_none}
-use Rattle.machine_model.proofs.FlatAlike.{append_assoc, append_nil}
 use Rattle.machine_model.proofs.LoopLaws.{round_done, way_falls, way_next}
 use Rattle.machine_model.proofs.MachineRounds as rounds
 use Rattle.machine_model.proofs.MachineRounds.{kept_of}

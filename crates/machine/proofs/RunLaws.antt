@@ -1,5 +1,5 @@
 -- What processors come to that make their steps one after the other.
-use Rattle.std.proofs.Common.{◌≡◌, ◌≤◌, ◌+◌, ◌||◌, ℕ, Bool, true, false, length, map, List, [], ◌∷◌, ◌++◌, drop}
+use Rattle.std.proofs.Common.{◌≡◌, ◌≤◌, ◌+◌, ◌||◌, ℕ, Bool, true, false, length, List, [], ◌∷◌, ◌++◌, drop}
 use Rattle.std.proofs.Common.{◌<◌, get_or, take, Some, refl, sym, ap, subst, ◌∙◌, arith}
 use Rattle.std.specs.Prelude.{◌↔◌, Result, Ok, Err, IfOk, OnErr, count_by}
 use Rattle.std.specs.List.{list_any}

@@ -1,11 +1,10 @@
 -- What is kept after a home is taken, or given up.
-use Rattle.std.proofs.Common.{◌≡◌, ◌≢◌, ◌⊎◌, ℕ, true, List, [], Option, None, Some, refl, sym, ap, subst, ◌∙◌, is_none}
+use Rattle.std.proofs.Common.{◌≡◌, ◌≢◌, ◌⊎◌, ℕ, List, [], Option, None, Some, refl, sym, ap, subst, ◌∙◌}
 use Rattle.std.proofs.Common.{arith, inl, inr, IfSome}
 use Rattle.std.proofs.lemmas.Bool.{cases_eq}
-use Rattle.std.proofs.lemmas.List.Quantifiers.{position-Some}
 use Rattle.std.proofs.lemmas.Option.{none-some, same_Some}
 use Rattle.page_table.specs.declared.Ptw.{Ptw}
-use Rattle.vtoc.specs.Vtoc.{Entry as VtocEntry, uid_of, entry_at as vtoc_entry, least_free_entry}
+use Rattle.vtoc.specs.Vtoc.{least_free_entry}
 use Rattle.active_segs.specs.declared.Entry.{Entry}
 use Rattle.active_segs.specs.Active.{ActiveSegs, uid_at, table_at, IsActive}
 use Rattle.page_control.specs.declared.Home.{Home}

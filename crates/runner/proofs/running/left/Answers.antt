@@ -1,5 +1,3 @@
-use Rattle.std.proofs.Common.{ap, length, List, arith}
-use Rattle.book.specs.declared.entries.Entry.{Entry}
 use Rattle.runner.proofs.DriveLaws.{all_counted, told_faults}
 use Rattle.runner.proofs.running.left.Goals as goal
 

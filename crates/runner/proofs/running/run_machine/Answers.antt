@@ -1,9 +1,7 @@
-use Rattle.std.proofs.Common.{sym, subst, ◌∙◌, Option}
-use Rattle.std.specs.Prelude.{IsSomeAnd}
+use Rattle.std.proofs.Common.{sym, subst, ◌∙◌}
 use Rattle.script.specs.Plans.{Plan}
 use Rattle.machine.proofs.CallLaws.{counted_on}
 use Rattle.runner.specs.Drives.{AreTold, faults_in}
-use Rattle.runner.specs.Endings.{LeavesRun, change}
 use Rattle.runner.proofs.DriveLaws.{told_still}
 use Rattle.runner.proofs.running.run_machine.Goals as goal
 
