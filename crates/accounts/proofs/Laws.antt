@@ -20,9 +20,8 @@ use Rattle.dir_tree.specs.Laws.{directory_shown as kind_of_directory, segment_sh
 use Rattle.dir_tree.specs.Laws.{segment_in, not_in_directory}
 use Rattle.dir_tree.specs.Index.{no_node}
 use Rattle.quota_cells.specs.Laws.{look_absent, on_directories, on_segments}
-use Rattle.accounts.specs.Maps.{AccountMaps, HasColumns, accounts_of, entry_of, branch_of, Recounts, Changes, Gains}
-use Rattle.accounts.specs.Maps.{Loses, Rehomes, rows_in}
-use Rattle.accounts.specs.Maps.{with_row_in}
+use Rattle.accounts.specs.Maps.{AccountMaps, HasColumns, accounts_of, count_of, entry_of, branch_of, Recounts, Changes}
+use Rattle.accounts.specs.Maps.{Gains, Loses, Rehomes, rows_in, with_row_in}
 
 -- ---- uids of the tree
 
@@ -169,6 +168,25 @@ used_within t c fits within a = rw (quota_shown t c fits a) (elim (cases_Bool (i
     | inr absent ↦ rw (is, look_absent c.directories c.loads a absent) (omega arith)
   ]
 ])
+
+-- no uid is both a directory's and a segment's
+never_both : (c : CellMaps) → IsTable c → (u : ℕ) → has c.segments u ≡ true → has c.directories u ≡ false
+never_both c table u seg = elim (cases_Bool (has c.directories u)) [
+  | inl dir ↦ (let no : true ≡ false = sym seg ∙ table.apart u dir in cc)
+  | inr isnt ↦ isnt
+]
+
+-- a segment has no quota, and a directory no stored page
+module _ (t : Branches) (c : CellMaps) (a : AccountMaps) (shown : accounts_of t c ≡ a) (fits : Fits t.nodes c)
+    (table : IsTable c) where
+  pub no_quota : (u : ℕ) → has_segment a.nodes u ≡ true → quota_at a.nodes u ≡ 0
+  no_quota u h = subst (λ (x : AccountMaps). quota_at x.nodes u ≡ 0) shown
+      (quota_shown t c fits u
+      ∙ look_absent c.directories c.quotas u (never_both c table u (segment_cell t c a shown fits u h)))
+
+  pub no_pages : (u : ℕ) → has_directory a.nodes u ≡ true → count_of a u ≡ 0
+  no_pages u h = subst (λ (x : AccountMaps). count_of x u ≡ 0) shown
+      (look_absent c.segments c.stored u (table.apart u (directory_cell t c a shown fits u h)))
 
 -- ---- changes
 

@@ -79,11 +79,14 @@ impl Accounts {
     }
 
     /// What holds of the accounts between calls: the nodes are a tree, with uids below the next one; each account is
-    /// within its quota; and the counts are those of the tree's segments. It does nothing.
+    /// within its quota, and no segment has one; and the counts are those of the tree's segments, so no directory has
+    /// stored pages of its own. It does nothing.
     pub fn promise(&self)
         ensures tree { IsTree self.now.nodes }
         ensures below { AreBelow self.now.next self.now.nodes }
         ensures columns { HasColumns self.now }
+        ensures quotas { (seg : ℕ) → has_segment self.now.nodes seg ≡ true → quota_in self.now.nodes seg ≡ 0 }
+        ensures counts { (dir : ℕ) → has_directory self.now.nodes dir ≡ true → count_of self.now dir ≡ 0 }
         ensures within { (stored : List (ℕ × ℕ)) → Counts self.now stored → (account : ℕ)
             → used_by self.now.nodes stored account ≤ quota_in self.now.nodes account }
     {

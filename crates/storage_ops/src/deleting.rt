@@ -36,9 +36,8 @@ fn uncount(accounts: &mut Accounts, uid: u32)
         Some(node) => node.dir,
         None => unreachable!(),
     };
-    if dir {
-        let _quota = accounts.quota(uid);
-    } else {
+    accounts.promise();
+    if !dir {
         let pages = accounts.stored(uid);
         accounts.credit(uid, pages);
     }

@@ -109,10 +109,10 @@ pub fn quota_of(accounts: &Accounts, node: &Node) -> u32
     requires segment { has_segment accounts.now.nodes node.now.uid ≡ not node.now.dir }
     ensures { result ≡ quota_in accounts.now.nodes node.now.uid }
 {
+    accounts.promise();
     if node.dir {
         accounts.quota(node.uid)
     } else {
-        let _stored = accounts.stored(node.uid);
         0
     }
 }

@@ -4,7 +4,7 @@ use Rattle.tree_model.specs.Trees.{AreBelow}
 use Rattle.quota_cells.specs.Cells.{quota_in}
 use Rattle.quota_cells.proofs.ScratchLaws.{used_same}
 use Rattle.accounts.specs.Maps.{AccountMaps, Counts, accounts_of}
-use Rattle.accounts.proofs.Laws.{columns, used_within}
+use Rattle.accounts.proofs.Laws.{columns, no_pages, no_quota, used_within}
 use Rattle.accounts.proofs.TreeLaws.{later_any, tree_shown}
 use Rattle.accounts.proofs.Accounts.promise.Goals as goal
 
@@ -32,3 +32,9 @@ returns-clause-within c =
     (used_same c.self.inside.tree.nodes c.self.inside.cells c.self.invariant c.promise.ensures.chains
     c.promise-2.ensures.table.segments_rise c.promise-2.ensures.table.stored_count stored holds account)
     (used_within c.self.inside.tree c.self.inside.cells c.self.invariant c.promise-2.ensures.within account))
+
+pub returns-clause-quotas : goal.returns-clause-quotas
+returns-clause-quotas c = no_quota _ _ _ c.self.view_is c.self.invariant c.promise-2.ensures.table
+
+pub returns-clause-counts : goal.returns-clause-counts
+returns-clause-counts c = no_pages _ _ _ c.self.view_is c.self.invariant c.promise-2.ensures.table
