@@ -133,6 +133,7 @@ impl Tree {
         ensures chains { HasChains (shapes self.now.nodes) }
         ensures below { AreBelow self.now.next (shapes self.now.nodes) }
     {
+        self.promise();
         self.next
     }
 

@@ -1,18 +1,5 @@
-use Rattle.std.proofs.Common.{◌<◌, subst, sym}
-use Rattle.dir_tree.specs.Kept.{newest}
-use Rattle.dir_tree.specs.Shape.{shapes}
-use Rattle.tree_model.proofs.ChainLaws.{has_chains}
-use Rattle.dir_tree.proofs.KeptLemmas.{below_newest, next_missing}
+use Rattle.dir_tree.proofs.KeptLemmas.{next_missing}
 use Rattle.dir_tree.proofs.Tree.next_uid.Goals as goal
 
 pub returns-clause-fresh : goal.returns-clause-fresh
 returns-clause-fresh c = rw (← c.self.view_is) (next_missing c.self.invariant.0)
-
-pub returns-clause-chains : goal.returns-clause-chains
-returns-clause-chains c = rw (← c.self.view_is) (has_chains
-    (shapes (newest c.self.inside.nodes.items c.self.inside.entries)) c.self.invariant.0.tree)
-
-pub returns-clause-below : goal.returns-clause-below
-returns-clause-below c = rw (← c.self.view_is)
-    (below_newest c.self.inside.next c.self.inside.nodes.items c.self.inside.entries
-    (λ i lt. subst (λ u. u < c.self.inside.next) (sym (c.self.invariant.0.uids i lt)) (c.self.invariant.0.below i lt)))
