@@ -44,7 +44,7 @@ use Rattle.flat_model.specs.References.{after_reference, written, written_by}
 
 -- ---- the nodes of a tree
 
-older : (n m : Node) (ms : List Node) (o : Option ℕ) → Joins ms o m → IsMember n ms → n.uid < m.uid
+pub older : (n m : Node) (ms : List Node) (o : Option ℕ) → Joins ms o m → IsMember n ms → n.uid < m.uid
 older n m ms None j h = absurd (subst (λ (ns : List Node). IsMember n ns) j.first h)
 older n m ms (Some s) j h = below ms j.later h
   where

@@ -14,7 +14,7 @@ use Rattle.tree_model.proofs.TreeLaws.{above_once, superior_in}
 use Rattle.dir_tree.specs.Nodes.{chain_of}
 use Rattle.active_segs.specs.Active.{ActiveSegs}
 use Rattle.machine_model.specs.Reads.{first_inactive, is_active}
-use Rattle.machine_model.proofs.QuotaTotals.{directory_node}
+use Rattle.flat_model.proofs.QuotaTotals.{directory_node}
 use Rattle.machine_model.proofs.TieLaws.{none_some}
 
 -- ---- the first of a list turned round

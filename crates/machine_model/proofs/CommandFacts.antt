@@ -19,7 +19,7 @@ use Rattle.machine_model.specs.Keeps.{Keeps}
 use Rattle.machine_model.specs.Reads.{flat_of}
 use Rattle.machine_model.specs.Refusal.{refusal_of, uid_at_path, uid_of_node}
 use Rattle.machine_model.specs.State.{State}
-use Rattle.machine_model.proofs.QuotaTotals.{branch_found, node_found, segment_found}
+use Rattle.flat_model.proofs.QuotaTotals.{branch_found, node_found, segment_found}
 
 no_and : {b : Bool} → b ≡ true → b ≡ false → ⊥
 no_and t f = let none : true ≡ false = sym t ∙ f in cc

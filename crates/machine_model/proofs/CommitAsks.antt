@@ -41,7 +41,7 @@ use Rattle.machine_model.specs.State.{State, Storage}
 use Rattle.machine_model.specs.Steps.{told, with_owner, with_pages}
 use Rattle.machine_model.proofs.CommitKept.{effected}
 use Rattle.machine_model.proofs.FlatAlike.{IsAlike, all_still, alike_by, done_alike, is_still, one_still, refused_alike}
-use Rattle.machine_model.proofs.QuotaTotals.{effect_total}
+use Rattle.flat_model.proofs.QuotaTotals.{effect_total}
 use Rattle.machine_model.proofs.SaysLaws.{none_rest, quotas, says_is}
 use Rattle.machine_model.proofs.SpeakLaws.{Speaks, can_tell}
 use Rattle.custody_model.specs.Effects.{OfNode}

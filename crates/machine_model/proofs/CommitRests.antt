@@ -58,7 +58,7 @@ use Rattle.machine_model.proofs.FinishKept.{bound_within}
 use Rattle.machine_model.proofs.FlatAlike.{all_still, is_still}
 use Rattle.machine_model.proofs.OwnedLaws.{cut_at_same}
 use Rattle.machine_model.proofs.Places.{by_place}
-use Rattle.machine_model.proofs.QuotaTotals.{branch_found, only_found}
+use Rattle.flat_model.proofs.QuotaTotals.{branch_found, only_found}
 use Rattle.machine_model.proofs.TieLaws.{none_some}
 use Rattle.machine_model.proofs.TransferKept.{active_at}
 use Rattle.machine_model.proofs.ChainLaws.{LeavesRest}

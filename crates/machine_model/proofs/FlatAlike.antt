@@ -1,24 +1,21 @@
 -- Flat stores that no store tells apart, and what the accounts of a store say of the one that it shows.
-use Rattle.std.proofs.Common.{◌≡◌, ◌≤◌, ◌<◌, ℕ, Bool, true, false, ◌&&◌, ◌||◌, not, cond, eqb, count_by, List, []}
-use Rattle.std.proofs.Common.{◌∷◌, ◌++◌}
-use Rattle.std.proofs.Common.{map, sum, Option, Some, None, inl, inr, refl, sym, ap, subst, ◌∙◌, arith, suc}
-use Rattle.std.specs.Prelude.{nat_lt}
+use Rattle.std.proofs.Common.{◌≡◌, ◌≤◌, ℕ, Bool, true, false, ◌&&◌, cond, eqb, count_by, List, [], ◌∷◌, ◌++◌}
+use Rattle.std.proofs.Common.{map, sum, Option, Some, None, refl, sym, ap, subst, ◌∙◌}
 use Rattle.std.specs.List.{list_all}
-use Rattle.std.proofs.lemmas.Bool.Decides.{eqb_tells, leb_tells}
 use Rattle.script.specs.Plans.{Plan, command_at}
 use Rattle.script.specs.declared.commands.Command.{Command}
 use Rattle.book.specs.declared.entries.Entry.{Entry}
 use Rattle.book.specs.declared.entries.Entry.TheVariants as entry
 use Rattle.book.specs.declared.replies.Reply.{Reply}
-use Rattle.tree_model.specs.Tree.{Node, is_account, quota_in, used_by}
-use Rattle.tree_model.specs.Trees.{AreBelow, IsTree, Joins}
-use Rattle.tree_model.proofs.Finds.{IsMember}
+use Rattle.tree_model.specs.Tree.{Node, quota_in, used_by}
+use Rattle.tree_model.specs.Trees.{IsTree}
 use Rattle.accounts.specs.Maps.{AccountMaps}
 use Rattle.flat_model.specs.Commands.{after_command, effect_of, gone_on, takes_effect}
 use Rattle.flat_model.specs.Legal.{after_do, after_entry, after_fault, is_within, store_after}
 use Rattle.flat_model.specs.Pages.{IsOnce, is_stored}
 use Rattle.flat_model.specs.Store.{Store, progress_of, with_progress}
 use Rattle.flat_model.proofs.BookLaws.{store_after-push}
+use Rattle.flat_model.proofs.QuotaTotals.{all_within}
 use Rattle.storage_ops.specs.Shown.{ShowsTree}
 use Rattle.machine_model.specs.Keeps.{AreAccounts, IsConserved, IsFaithful}
 use Rattle.machine_model.specs.State.{Storage}
@@ -157,52 +154,11 @@ done_alike p es k place c f r cmd next h = alike_by (do_done p (store_after p es
 
 -- ---- what the accounts say
 
-pub older : (n m : Node) (ms : List Node) (o : Option ℕ) → Joins ms o m → IsMember n ms → n.uid < m.uid
-older n m ms None j h = absurd (subst (λ (ns : List Node). IsMember n ns) j.first h)
-older n m ms (Some s) j h = below ms j.later h
-  where
-    below : (ns : List Node) → AreBelow m.uid ns → IsMember n ns → n.uid < m.uid
-    below [] b h = absurd h
-    below (x ∷ xs) b (inl e) = subst (λ (y : Node). y.uid < m.uid) (sym e) b.0
-    below (x ∷ xs) b (inr i) = below xs b.1 i
-
--- the quota of a node of a tree
-pub quota_of_member : (ns : List Node) (n : Node) → IsTree ns → IsMember n ns → quota_in ns n.uid ≡ n.quota
-quota_of_member [] n t h = absurd h
-quota_of_member (m ∷ ms) n t (inl e) = elim (eqb_tells m.uid n.uid) [
-  | inl same ↦ ap (λ (b : Bool). cond b m.quota (quota_in ms n.uid)) same.0 ∙ ap (λ (x : Node). x.quota) (sym e)
-  | inr other ↦ absurd (other.1 (ap (λ (x : Node). x.uid) (sym e)))
-]
-quota_of_member (m ∷ ms) n t (inr h) = elim (eqb_tells m.uid n.uid) [
-  | inl same ↦ (let later = older n m ms m.superior t.0 h in let is = same.1 in absurd (omega (arith, later, is)))
-  | inr other ↦ ap (λ (b : Bool). cond b m.quota (quota_in ms n.uid)) other.0 ∙ quota_of_member ms n t.1 h
-]
-
-all_members : {X : Type 0} (p : X → Bool) (xs : List X) → ((x : X) → IsMember x xs → p x ≡ true) → list_all p xs ≡ true
-all_members p [] h = refl
-all_members p (x ∷ xs) h = rw (h x (inl refl)) (all_members p xs (λ y i. h y (inr i)))
-
-not_less : (a b : ℕ) → b ≤ a → nat_lt a b ≡ false
-not_less a b h = elim (leb_tells (suc a) b) [
-  | inl e ↦ (let less = e.1 in absurd (omega (arith, less, h)))
-  | inr m ↦ m.0
-]
-
-or_true : (a : Bool) → (a || true) ≡ true
-or_true true = refl
-or_true false = refl
-
 -- each account of the flat store that is shown is within its quota
 pub within_all : (t : Store) (a : AccountMaps) → ShowsTree t a → AreAccounts a → list_all (is_within t) t.nodes ≡ true
-within_all t a shows are = all_members (is_within t) t.nodes (λ n h. ap (λ (b : Bool). not (is_account n) || not b)
-    (not_less n.quota (used_by t.nodes t.stored n.uid) (few n h)) ∙ or_true (not (is_account n)))
-  where
-    few : (n : Node) → IsMember n t.nodes → used_by t.nodes t.stored n.uid ≤ n.quota
-    few n h = let its : quota_in t.nodes n.uid ≡ n.quota = quota_of_member t.nodes n
-        (subst IsTree (sym shows.nodes) are.tree) h in
-        let all : used_by t.nodes t.stored n.uid ≤ quota_in t.nodes n.uid =
-        subst (λ (ns : List Node). used_by ns t.stored n.uid ≤ quota_in ns n.uid) (sym shows.nodes)
-        (are.within t.stored shows.counts n.uid) in omega (arith, its, all)
+within_all t a shows are = all_within t (subst IsTree (sym shows.nodes) are.tree) (λ account.
+    subst (λ (ns : List Node). used_by ns t.stored account ≤ quota_in ns account) (sym shows.nodes)
+    (are.within t.stored shows.counts account))
 
 pub conserved_by : (p : Plan) (t : Store) (st : Storage) → IsFaithful p t st → AreAccounts st.accounts
     → sum (map (λ n. n.quota) t.nodes) ≡ p.quota → IsConserved p t

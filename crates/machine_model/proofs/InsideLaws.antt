@@ -21,7 +21,7 @@ use Rattle.machine_model.specs.Reads.{flat_of, or_zero}
 use Rattle.machine_model.specs.Refusal.{is_of_room, is_outside, only, outside_refusal, room_refusal, uid_of_number}
 use Rattle.machine_model.specs.State.{State}
 use Rattle.machine_model.proofs.LookFacts.{IsInside}
-use Rattle.machine_model.proofs.QuotaTotals.{found_uid}
+use Rattle.flat_model.proofs.QuotaTotals.{found_uid}
 
 module _ (s : State) (k : ℕ) (r : Reference) (keeps : Keeps s) where
   abbrev t : Store

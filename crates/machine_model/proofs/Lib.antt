@@ -97,7 +97,6 @@ pub mod PlainAction
 pub mod PlainReplies
 pub mod Places
 pub mod PoolRoom
-pub mod QuotaTotals
 pub mod RankLaws
 pub mod ReadKept
 pub mod ReadLaws

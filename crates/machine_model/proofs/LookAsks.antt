@@ -63,7 +63,7 @@ use Rattle.machine_model.proofs.StepKept.{CanActivateAt, CanConnectTo, CanReply}
 use Rattle.machine_model.proofs.TieLaws.{none_some}
 use Rattle.machine_model.proofs.TransferKept.{active_at}
 use Rattle.machine_model.proofs.ListSizes.{pool_small}
-use Rattle.machine_model.proofs.FlatAlike.{older}
+use Rattle.flat_model.proofs.QuotaTotals.{older}
 use Rattle.machine_model.proofs.SpeakLaws.{speaks_like}
 use Rattle.machine_model.proofs.FindLaws.{first_idle}
 

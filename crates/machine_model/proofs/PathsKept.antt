@@ -12,7 +12,7 @@ use Rattle.tree_model.proofs.Finds.{IsMember, branch_found, found_member, found_
 use Rattle.tree_model.proofs.TreeLaws.{lies, only_branch}
 use Rattle.flat_model.specs.Branches.{node_at, only_segment, segment_at, there_or, walked}
 use Rattle.flat_model.proofs.RemoveLaws.{directory_gone, node_left}
-use Rattle.machine_model.proofs.QuotaTotals.{found_uid, only_found, there_found}
+use Rattle.flat_model.proofs.QuotaTotals.{found_uid, only_found, there_found}
 use Rattle.machine_model.proofs.TieLaws.{none_some}
 
 no_and : {b : Bool} → b ≡ true → b ≡ false → ⊥

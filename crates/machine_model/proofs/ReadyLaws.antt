@@ -34,7 +34,7 @@ use Rattle.machine_model.proofs.CommitRests.{linked_on, none_listed, page_bound}
 use Rattle.machine_model.proofs.JustLaws.{started_free}
 use Rattle.machine_model.proofs.ListLaws.{map_list}
 use Rattle.machine_model.proofs.PageShown.{stored_is}
-use Rattle.machine_model.proofs.QuotaTotals.{branch_found, only_found}
+use Rattle.flat_model.proofs.QuotaTotals.{branch_found, only_found}
 use Rattle.machine_model.proofs.TieLaws.{none_some}
 use Rattle.machine_model.proofs.TransferKept.{active_at}
 

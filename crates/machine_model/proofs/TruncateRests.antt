@@ -50,7 +50,7 @@ use Rattle.machine_model.proofs.PagesCut.{AreCutOff, HasPlaces, IsCutOff, bound_
 use Rattle.machine_model.proofs.PagesCut.{pages_cut_off, read_in, word_in}
 use Rattle.machine_model.proofs.PageShown.{bound_word}
 use Rattle.machine_model.proofs.Places.{by_place, by_places}
-use Rattle.machine_model.proofs.QuotaTotals.{only_found}
+use Rattle.flat_model.proofs.QuotaTotals.{only_found}
 use Rattle.machine_model.proofs.TakeSeen.{binding_is, words_put}
 use Rattle.machine_model.proofs.TieLaws.{none_some, page_is}
 use Rattle.machine_model.proofs.TruncateKept.{QuietWords, all_left, cut_store, leaf, leaves, segment}

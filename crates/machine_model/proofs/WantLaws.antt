@@ -26,7 +26,7 @@ use Rattle.machine_model.specs.State.{State}
 use Rattle.machine_model.proofs.LookFacts.{IsInside}
 use Rattle.machine_model.proofs.MoveAsks.{who_is}
 use Rattle.machine_model.proofs.OutlineReads.{at_outline}
-use Rattle.machine_model.proofs.QuotaTotals.{found_uid}
+use Rattle.flat_model.proofs.QuotaTotals.{found_uid}
 
 no_and : {b : Bool} → b ≡ true → b ≡ false → ⊥
 no_and t f = let none : true ≡ false = sym t ∙ f in cc

@@ -16,7 +16,7 @@ use Rattle.storage_ops.specs.Shown.{Shows, Storage as Stored, pages_of}
 use Rattle.machine_model.specs.Keeps.{IsFaithful}
 use Rattle.machine_model.specs.Steps.{charged, with_created}
 use Rattle.machine_model.specs.State.{Storage}
-use Rattle.machine_model.proofs.QuotaTotals.{found_uid}
+use Rattle.flat_model.proofs.QuotaTotals.{found_uid}
 use Rattle.machine_tables.specs.Made.{HasPlace}
 use Rattle.machine_tables.specs.Parts.{shown}
 use Rattle.machine_tables.proofs.ColumnLaws.{recounted}

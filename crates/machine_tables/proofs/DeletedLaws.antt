@@ -43,7 +43,7 @@ use Rattle.machine_model.specs.Refusal.{uid_at_path}
 use Rattle.machine_model.specs.State.{Storage}
 use Rattle.machine_model.specs.Steps.{with_pages}
 use Rattle.machine_model.proofs.ActiveSeen.{active_place, within_some}
-use Rattle.machine_model.proofs.QuotaTotals.{found_uid}
+use Rattle.flat_model.proofs.QuotaTotals.{found_uid}
 use Rattle.machine_model.proofs.TieLaws.{none_some}
 use Rattle.machine_model.proofs.TransferKept.{active_at}
 use Rattle.machine_model.proofs.WordLaws.{word_within}

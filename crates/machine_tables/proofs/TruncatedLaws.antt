@@ -52,7 +52,7 @@ use Rattle.machine_model.specs.Ready.{OwnsFor, OwnsFrom}
 use Rattle.machine_model.specs.State.{Storage}
 use Rattle.machine_model.proofs.ActiveSeen.{active_place}
 use Rattle.machine_model.proofs.ListLaws.{map_list}
-use Rattle.machine_model.proofs.QuotaTotals.{found_uid}
+use Rattle.flat_model.proofs.QuotaTotals.{found_uid}
 use Rattle.machine_model.proofs.TieLaws.{none_some, page_is}
 use Rattle.machine_model.proofs.TransferKept.{active_at}
 use Rattle.machine_tables.specs.Gone.{is_kept, left_entry}
