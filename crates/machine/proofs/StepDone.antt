@@ -3,6 +3,7 @@ use Rattle.std.proofs.Common.{◌≡◌, ◌≤◌, ℕ, true, false, length, ma
 use Rattle.std.proofs.Common.{sym, ap, subst, ◌∙◌, arith}
 use Rattle.std.specs.Prelude.{Err, Ok, OnErr, Result}
 use Rattle.site_io.specs.Faults.{Rose}
+use Rattle.site_io.specs.declared.gate.Point.{Point}
 use Rattle.site_io.specs.declared.gate.Point.TheVariants as point
 use Rattle.processor.specs.declared.Transfer.{Transfer}
 use Rattle.assoc_mem.specs.declared.What.{What}
@@ -142,109 +143,111 @@ module _ {D Plan : Type 0} (plan : D → Plan) (places faults : D → ℕ) (old 
     still = still;
   }
 
+  -- the step that was made is one of this point
+  abbrev HasMoved : Point → Type 0
+  HasMoved p = IsTurn plan places faults old new c (turn.Moved p)
+
   -- ---- without the supervisor
 
-  pub online_turn : action_of s c ≡ act.Online → new ≡ with_state old (came_online s c) → IsTurn plan places faults old new c
-      (turn.Moved point.Online)
+  pub online_turn : action_of s c ≡ act.Online → new ≡ with_state old (came_online s c) → HasMoved point.Online
   unfolding after
   online_turn doing = quiet_turn act.Online (λ h. h) (came_online s c) (λ h. tt) doing refl refl
 
   pub clear_turn : (w : What) → action_of s c ≡ act.Clear w → new ≡ with_state old (cleared_at s c w)
-      → IsTurn plan places faults old new c (turn.Moved point.Other)
+      → HasMoved point.Other
   unfolding after
   clear_turn w doing = quiet_turn (act.Clear w) (λ h. h) (cleared_at s c w) (λ h. tt) doing refl refl
 
   pub load_turn : (k : ℕ) → action_of s c ≡ act.Load k → new ≡ with_state old (loaded s c k)
-      → IsTurn plan places faults old new c (turn.Moved (point.Loaded k))
+      → HasMoved (point.Loaded k)
   unfolding after
   load_turn k doing = quiet_turn (act.Load k) (λ h. h) (loaded s c k) (λ h. tt) doing refl refl
 
-  pub leave_turn : action_of s c ≡ act.Leave → new ≡ with_state old (left_at s c) → IsTurn plan places faults old new c
-      (turn.Moved point.Other)
+  pub leave_turn : action_of s c ≡ act.Leave → new ≡ with_state old (left_at s c) → HasMoved point.Other
   unfolding after
   leave_turn doing = quiet_turn act.Leave (λ h. h) (left_at s c) (λ h. tt) doing refl refl
 
   pub fill_seg_turn : (n : ℕ) → action_of s c ≡ act.FillSeg n → new ≡ with_state old (seg_filled s c n)
-      → IsTurn plan places faults old new c (turn.Moved point.Other)
+      → HasMoved point.Other
   unfolding after
   fill_seg_turn n doing = quiet_turn (act.FillSeg n) (λ h. h) (seg_filled s c n) (λ h. tt) doing refl refl
 
   pub fill_page_turn : (f : ℕ) (r : Reference) → action_of s c ≡ act.FillPage f r
-      → new ≡ with_state old (page_filled s c f r) → IsTurn plan places faults old new c (turn.Moved point.Other)
+      → new ≡ with_state old (page_filled s c f r) → HasMoved point.Other
   unfolding after
   fill_page_turn f r doing = quiet_turn (act.FillPage f r) (λ h. h) (page_filled s c f r) (λ h. tt) doing refl refl
 
   gone_turn : (f : ℕ) (r : Reference) → action_of s c ≡ act.Through f r
       → new ≡ with_state old (went_through s c f r)
-      → IsTurn plan places faults old new c (turn.Moved (point.Answered (process_at s c)))
+      → HasMoved (point.Answered (process_at s c))
   unfolding after
   gone_turn f r doing = quiet_turn (act.Through f r) (λ h. h) (went_through s c f r) (λ h. tt) doing refl refl
 
   pub through_turn : (f k : ℕ) (r : Reference) → (cpu_at s.processors c).process ≡ Some k
       → action_of s c ≡ act.Through f r → new ≡ with_state old (went_through s c f r)
-      → IsTurn plan places faults old new c (turn.Moved (point.Answered k))
-  through_turn f k r its doing is = subst (λ (j : ℕ). IsTurn plan places faults old new c (turn.Moved (point.Answered j)))
+      → HasMoved (point.Answered k)
+  through_turn f k r its doing is = subst (λ (j : ℕ). HasMoved (point.Answered j))
       (ap or_zero its) (gone_turn f r doing is)
 
   told_turn : (r : Reply) → action_of s c ≡ act.Plain r → new ≡ with_state old (told s c None r)
-      → IsTurn plan places faults old new c (turn.Moved point.Other)
+      → HasMoved point.Other
   unfolding after
   told_turn r doing = quiet_turn (act.Plain r) (λ h. h) (told s c None r) (λ h. tt) doing refl refl
 
   pub plain_turn : (k : ℕ) (r : Reply) → (cpu_at s.processors c).process ≡ Some k → action_of s c ≡ act.Plain r
-      → new ≡ with_state old (told_by s c k None r) → IsTurn plan places faults old new c (turn.Moved point.Other)
+      → new ≡ with_state old (told_by s c k None r) → HasMoved point.Other
   plain_turn k r its doing is = told_turn r doing
       (is ∙ ap (λ (j : ℕ). with_state old (told_by s c j None r)) (sym (ap or_zero its)))
 
   -- ---- the owner's looks
 
   pub take_turn : action_of s c ≡ act.TakeSupervisor → new ≡ with_state old (with_owner s (Some (looking c)))
-      → IsTurn plan places faults old new c (turn.Moved point.Other)
+      → HasMoved point.Other
   unfolding after
   take_turn doing = quiet_turn act.TakeSupervisor (λ h. h) (with_owner s (Some (looking c))) (λ h. tt) doing refl refl
 
   answered_turn : (r : Reply) → action_of s c ≡ act.Answer r → new ≡ with_state old (answered s c r)
-      → IsTurn plan places faults old new c (turn.Moved point.Other)
+      → HasMoved point.Other
   unfolding after
   answered_turn r doing = quiet_turn (act.Answer r) (λ h. h) (answered s c r) (λ h. tt) doing refl refl
 
   pub answer_turn : (k : ℕ) (r : Reply) → (cpu_at s.processors c).process ≡ Some k → action_of s c ≡ act.Answer r
       → new ≡ with_state old (with_owner (told_by s c k None r) None)
-      → IsTurn plan places faults old new c (turn.Moved point.Other)
+      → HasMoved point.Other
   answer_turn k r its doing is = answered_turn r doing
       (is ∙ ap (λ (j : ℕ). with_state old (with_owner (told_by s c j None r) None)) (sym (ap or_zero its)))
 
   pub give_up_turn : action_of s c ≡ act.GiveUp → new ≡ with_state old (with_owner s None)
-      → IsTurn plan places faults old new c (turn.Moved point.Other)
+      → HasMoved point.Other
   unfolding after
   give_up_turn doing = quiet_turn act.GiveUp (λ h. h) (with_owner s None) (λ h. tt) doing refl refl
 
   pub connect_turn : (n u : ℕ) → action_of s c ≡ act.Connect n u → new ≡ with_state old (connected_to s c n u)
-      → IsTurn plan places faults old new c (turn.Moved point.Other)
+      → HasMoved point.Other
   unfolding after
   connect_turn n u doing = quiet_turn (act.Connect n u) (λ h. h) (connected_to s c n u) (λ h. tt) doing refl refl
 
   pub start_turn : (f u p : ℕ) → action_of s c ≡ act.Start f u p → new ≡ with_state old (started s c f u p)
-      → IsTurn plan places faults old new c (turn.Moved point.Other)
+      → HasMoved point.Other
   unfolding after
   start_turn f u p doing = quiet_turn (act.Start f u p) (λ h. h) (started s c f u p) (λ h. tt) doing refl refl
 
   -- ---- what is taken
 
   pub evict_turn : (f : ℕ) → action_of s c ≡ act.Evict f → new ≡ with_state old (eviction_begun s c f)
-      → IsTurn plan places faults old new c (turn.Moved point.Other)
+      → HasMoved point.Other
   unfolding after
   evict_turn f doing = quiet_turn (act.Evict f) (λ h. h) (eviction_begun s c f) (λ h. tt) doing refl refl
 
   pub empty_turn : (u : ℕ) → action_of s c ≡ act.Empty u → new ≡ with_state old (deactivation_begun s c u)
-      → IsTurn plan places faults old new c (turn.Moved point.Other)
+      → HasMoved point.Other
   unfolding after
   empty_turn u doing = quiet_turn (act.Empty u) (λ h. h) (deactivation_begun s c u) (λ h. tt) doing refl
       (segment_faults s c u (frames_from s.store.ast u 0) (trailers_in s.store u))
 
   pub take_away_turn : (k : ℕ) → action_of s c ≡ act.TakeAway (frames_for s.store k (next_command s k))
       (pairs_for s.store k (next_command s k)) (what_for s.store k (next_command s k))
-      → new ≡ with_state old (took_for s c k (next_command s k)) → IsTurn plan places faults old new c (turn.Moved point.Other)
+      → new ≡ with_state old (took_for s c k (next_command s k)) → HasMoved point.Other
   unfolding after
   take_away_turn k doing = quiet_turn (act.TakeAway fs xs w) (λ h. h) (took s c aim.Committing w fs xs) (λ h. tt) doing refl
       (took_faults s c aim.Committing w fs xs)
@@ -259,17 +262,17 @@ module _ {D Plan : Type 0} (plan : D → Plan) (places faults : D → ℕ) (old 
       w = what_for s.store k (next_command s k)
 
   pub create_turn : (f u p : ℕ) (r : Reference) → action_of s c ≡ act.Create f u p r
-      → new ≡ with_state old (page_created s c f u p r) → IsTurn plan places faults old new c (turn.Moved point.Other)
+      → new ≡ with_state old (page_created s c f u p r) → HasMoved point.Other
   unfolding after
   create_turn f u p r doing = quiet_turn (act.Create f u p r) (λ h. h) (page_created s c f u p r) (λ h. tt) doing refl refl
 
   pub activate_turn : (u place : ℕ) → action_of s c ≡ act.Activate u place
-      → new ≡ with_state old (activated_at s u place) → IsTurn plan places faults old new c (turn.Moved point.Other)
+      → new ≡ with_state old (activated_at s u place) → HasMoved point.Other
   unfolding after
   activate_turn u place doing = quiet_turn (act.Activate u place) (λ h. h) (activated_at s u place) (λ h. tt) doing refl refl
 
   pub victim_turn : (pool : ℕ) (chain : List ℕ) (u : ℕ) → action_of s c ≡ act.EmptyVictim pool chain u
-      → new ≡ with_state old (victim_taken s c pool chain u) → IsTurn plan places faults old new c (turn.Moved point.Other)
+      → new ≡ with_state old (victim_taken s c pool chain u) → HasMoved point.Other
   unfolding after
   victim_turn pool chain u doing = quiet_turn (act.EmptyVictim pool chain u) (λ h. h) (victim_taken s c pool chain u) (λ h. tt)
       doing refl (victim_faults s c pool chain u)
@@ -277,26 +280,25 @@ module _ {D Plan : Type 0} (plan : D → Plan) (places faults : D → ℕ) (old 
   -- ---- the phases that follow
 
   pub signal_turn : (w : What) → action_of s c ≡ act.Signal w → new ≡ with_state old (signalled s c w)
-      → IsTurn plan places faults old new c (turn.Moved point.Signalled)
+      → HasMoved point.Signalled
   unfolding after
   signal_turn w doing = quiet_turn (act.Signal w) (λ h. h) (signalled s c w) (λ h. tt) doing refl refl
 
   pub deactivate_turn : (u : ℕ) → action_of s c ≡ act.Deactivate u → new ≡ with_state old (emptied s c u)
-      → IsTurn plan places faults old new c (turn.Moved point.Other)
+      → HasMoved point.Other
   unfolding after
   deactivate_turn u doing = quiet_turn (act.Deactivate u) (λ h. h) (emptied s c u) (λ h. tt) doing refl
       ((segs_gone_rest s (cut_of_owner s.owner)).3)
 
   committed_turn : action_of s c ≡ act.Commit
       → new ≡ with_state old (committed_at s c (next_command s (process_at s c)))
-      → IsTurn plan places faults old new c (turn.Moved point.Other)
+      → HasMoved point.Other
   unfolding after
   committed_turn doing = quiet_turn act.Commit (λ h. h) (committed_at s c (next_command s (process_at s c))) (λ h. tt) doing refl
       (commit_faults s c (next_command s (process_at s c)))
 
   pub commit_turn : (k : ℕ) → (cpu_at s.processors c).process ≡ Some k → action_of s c ≡ act.Commit
-      → new ≡ with_state old (committed_at s c (next_command s k)) → IsTurn plan places faults old new c
-      (turn.Moved point.Other)
+      → new ≡ with_state old (committed_at s c (next_command s k)) → HasMoved point.Other
   commit_turn k its doing is = committed_turn doing
       (is ∙ ap (λ (j : ℕ). with_state old (committed_at s c (next_command s j))) (sym (ap or_zero its)))
 
@@ -306,7 +308,7 @@ module _ {D Plan : Type 0} (plan : D → Plan) (places faults : D → ℕ) (old 
       → action_of s c ≡ act.EndTransfer x → new.state ≡ after s c (act.EndTransfer x) (outcome_of r new.state.faults)
       → CallsDrive plan places faults old.drives new.drives (home_in s.store x.uid).volume r
       → (s.faults ≤ new.state.faults) × OnErr r (Rose s.faults new.state.faults) → new.room ≡ old.room
-      → IsTurn plan places faults old new c (turn.Moved point.Other)
+      → HasMoved point.Other
   transfer_turn x r doing done call = drive_turn (act.EndTransfer x) (home_in s.store x.uid).volume r
       (one_called plan places faults old.drives new.drives (home_in s.store x.uid).volume r new.state.faults call) tt
       doing done call
@@ -319,7 +321,7 @@ module _ {D Plan : Type 0} (plan : D → Plan) (places faults : D → ℕ) (old 
       → CallsDrive plan places faults old.drives new.drives (home_of f) r
       → SparesCall s.store.pages f old.drives new.drives r
       → (s.faults ≤ new.state.faults) × OnErr r (Rose s.faults new.state.faults) → new.room ≡ old.room
-      → IsTurn plan places faults old new c (turn.Moved point.Other)
+      → HasMoved point.Other
   eviction_turn f r doing done call spares = drive_turn (act.FinishEviction f) (home_of f) r
       (page_let_go plan places faults s f old.drives new.drives r new.state.faults call spares) tt doing done call
 
@@ -328,7 +330,7 @@ module _ {D Plan : Type 0} (plan : D → Plan) (places faults : D → ℕ) (old 
       → CallsDrive plan places faults old.drives new.drives (home_of f) r
       → SparesCall s.store.pages f old.drives new.drives r
       → (s.faults ≤ new.state.faults) × OnErr r (Rose s.faults new.state.faults) → new.room ≡ old.room
-      → IsTurn plan places faults old new c (turn.Moved point.Other)
+      → HasMoved point.Other
   page_turn f r doing done call spares = drive_turn (act.FinishPage f) (home_of f) r
       (page_let_go plan places faults s f old.drives new.drives r new.state.faults call spares) tt doing done call
 

@@ -14,7 +14,7 @@ use Rattle.book_check.specs.declared.offences.CheckFault.{CheckFault}
 use Rattle.book_check.specs.declared.offences.CheckFault.TheVariants as fault
 use Rattle.book_check.specs.declared.offences.Offence.{Offence}
 use Rattle.runner.specs.Endings.{Change, Ends, EndsSo, Failed, HasPrinted, IsJudgedSo, IsReading, IsRefused, IsStatusOf}
-use Rattle.runner.specs.Endings.{Printed, Runs, Says, WritesAll, WritesFront, limit_of}
+use Rattle.runner.specs.Endings.{Printed, Prints, Runs, Says, WritesAll, WritesFront, limit_of}
 use Rattle.runner.specs.Runs.{IsShutDown, Machine}
 use Rattle.runner.specs.Texts.{accepted_text}
 use Rattle.runner.specs.declared.finished.Finished.{Finished}
@@ -235,37 +235,34 @@ found_done s bytes out (refused r e few was) fine p le is = absurd cc
 found_done s bytes out (printed q e few was) fine p le is = inl e
 found_done s bytes out (broken q e few was) fine p le is = absurd (fine e)
 
--- the script of a day was printed, whole or in part, or there was no memory for it
+-- what is printed of a form that reads nothing, whole or in part, or there was no memory for it
+text_printed : (s : Status) (asked : Form) (src out : Change) (machine : Option Machine) (text : List ℕ)
+    → (IsReading (Some asked) → ⊥) → (Some asked ≡ Some form.Check → ⊥)
+    → ((W : List ℕ → Type 0) → Prints (Some asked) src machine W → W text)
+    → EndsSo s (Some asked) src out machine → Printed s out text
+text_printed status.Done asked src out machine text unread other prints so = prints (WritesAll out) so
+text_printed status.WriteFault asked src out machine text unread other prints so = prints (WritesFront out) so
+text_printed status.Memory asked src out machine text unread other prints so = so.1
+text_printed status.Usage asked src out machine text unread other prints so = absurd cc
+text_printed status.ReadFault asked src out machine text unread other prints so = absurd (unread so.0)
+text_printed status.TooLong asked src out machine text unread other prints so = absurd (unread so.0)
+text_printed (status.Script r) asked src out machine text unread other prints so = absurd (unread so.0)
+text_printed (status.Refused o) asked src out machine text unread other prints so = absurd (other so.0)
+
+-- the script of a day was printed so
 pub made_so : (asked : Option Form) (src out : Change) (f : Finished) (n : ℕ) → Ends asked src out f
     → asked ≡ Some (form.Make n) → Printed f.status out (made n)
-made_so asked src out f n h e = each f.status (subst (λ (x : Option Form). EndsSo f.status x src out f.machine) e h.so)
-  where
-    each : (s : Status) → EndsSo s (Some (form.Make n)) src out f.machine → Printed s out (made n)
-    each status.Done so = so
-    each status.WriteFault so = so
-    each status.Memory so = so.1
-    each status.Usage so = absurd cc
-    each status.ReadFault so = absurd so.0
-    each status.TooLong so = absurd so.0
-    each (status.Script r) so = absurd so.0
-    each (status.Refused o) so = absurd cc
+made_so asked src out f n h e = text_printed f.status (form.Make n) src out f.machine (made n) (λ reading. reading)
+    (λ check. (let no : Some (form.Make n) ≡ Some form.Check = check in cc)) (λ W text. text)
+    (subst (λ (x : Option Form). EndsSo f.status x src out f.machine) e h.so)
 
 -- the text of a drill was
 pub drilled_so : (asked : Option Form) (src out : Change) (f : Finished) (p frames n seed : ℕ) → Ends asked src out f
     → asked ≡ Some (form.Drill p frames n seed) → Printed f.status out (drill_text p frames n seed)
-drilled_so asked src out f p frames n seed h e =
-    each f.status (subst (λ (x : Option Form). EndsSo f.status x src out f.machine) e h.so)
-  where
-    each : (s : Status) → EndsSo s (Some (form.Drill p frames n seed)) src out f.machine
-        → Printed s out (drill_text p frames n seed)
-    each status.Done so = so
-    each status.WriteFault so = so
-    each status.Memory so = so.1
-    each status.Usage so = absurd cc
-    each status.ReadFault so = absurd so.0
-    each status.TooLong so = absurd so.0
-    each (status.Script r) so = absurd so.0
-    each (status.Refused o) so = absurd cc
+drilled_so asked src out f p frames n seed h e = text_printed f.status (form.Drill p frames n seed) src out f.machine
+    (drill_text p frames n seed) (λ reading. reading)
+    (λ check. (let no : Some (form.Drill p frames n seed) ≡ Some form.Check = check in cc)) (λ W text. text)
+    (subst (λ (x : Option Form). EndsSo f.status x src out f.machine) e h.so)
 
 -- ---- a listing that was judged
 

@@ -140,27 +140,28 @@ sum_rose t (Err e) drives v x y lt read rose =
     let part = get_or-le-sum_by t drives v x lt in
     omega (arith, step, same, part, rose)
 
+-- what a failure says of the count of its drive, said of the counts of all drives
+failed_count : {D : Type 0} (R : ℕ → ℕ → Type 0) (t : D → ℕ) (result : Result (Unit {0}) Failed) (drives : List D)
+    (v : ℕ) (x y : D) → v < length drives → x ≡ get_or drives v x
+    → OnErr result (R (t x) (t y)) → OnErr result (R (get_or (map t drives) v 0) (get_or (map t (set drives v y)) v 0))
+failed_count R t (Ok u) drives v x y lt read says = tt
+failed_count R t (Err e) drives v x y lt read says =
+    let before : get_or (map t drives) v 0 ≡ t x = get_or-map t drives v x 0 lt ∙ sym (ap t read) in
+    let now : get_or (map t (set drives v y)) v 0 ≡ t y =
+    get_or-map t (set drives v y) v y 0 (rw (length-set drives v y) lt) ∙ ap t (get_or-set_same drives v y y lt) in
+    rw (before, now) says
+
 pub its_rose : {D : Type 0} (t : D → ℕ) (result : Result (Unit {0}) Failed) (drives : List D) (v : ℕ) (x y : D)
     → v < length drives → x ≡ get_or drives v x
     → OnErr result (Rose (t x) (t y)) → OnErr result (Rose (get_or (map t drives) v 0)
     (get_or (map t (set drives v y)) v 0))
-its_rose t (Ok u) drives v x y lt read rose = tt
-its_rose t (Err e) drives v x y lt read rose =
-    let before : get_or (map t drives) v 0 ≡ t x = get_or-map t drives v x 0 lt ∙ sym (ap t read) in
-    let now : get_or (map t (set drives v y)) v 0 ≡ t y =
-    get_or-map t (set drives v y) v y 0 (rw (length-set drives v y) lt) ∙ ap t (get_or-set_same drives v y y lt) in
-    rw (before, now) rose
+its_rose t result drives v x y lt read rose = failed_count Rose t result drives v x y lt read rose
 
 pub its_once : {D : Type 0} (t : D → ℕ) (result : Result (Unit {0}) Failed) (drives : List D) (v : ℕ) (x y : D)
     → v < length drives → x ≡ get_or drives v x
     → OnErr result (IsOneMore (t x) (t y)) → OnErr result (IsOneMore (get_or (map t drives) v 0)
     (get_or (map t (set drives v y)) v 0))
-its_once t (Ok u) drives v x y lt read once = tt
-its_once t (Err e) drives v x y lt read once =
-    let before : get_or (map t drives) v 0 ≡ t x = get_or-map t drives v x 0 lt ∙ sym (ap t read) in
-    let now : get_or (map t (set drives v y)) v 0 ≡ t y =
-    get_or-map t (set drives v y) v y 0 (rw (length-set drives v y) lt) ∙ ap t (get_or-set_same drives v y y lt) in
-    rw (before, now) once
+its_once t result drives v x y lt read once = failed_count IsOneMore t result drives v x y lt read once
 
 -- a call that was done leaves the counts of all
 pub told_with : {D : Type 0} (t : D → ℕ) (result : Result (Unit {0}) Failed) (drives : List D) (v : ℕ) (x y : D)

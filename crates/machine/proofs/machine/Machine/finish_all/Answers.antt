@@ -11,7 +11,4 @@ loop-self-preserved g c = record {
 
 pub returns-in_err-finish_round-clause-stalled : goal.returns-in_err-finish_round-clause-stalled
 returns-in_err-finish_round-clause-stalled g c =
-    let stalled = stalled_on g.D.Drive.plan g.D.Drive.places g.D.Drive.faults
-    c.args.self.now c.loop-self.self c.finish_round.new.self c.loop-self.invariant.gone
-    c.in_err-finish_round.ensures.stalled in
-    search (rules, stalled)
+    let stalled = stalled_on _ _ _ _ _ _ c.loop-self.invariant.gone c.in_err-finish_round.ensures.stalled in search (rules, stalled)

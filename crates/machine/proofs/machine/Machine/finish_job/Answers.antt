@@ -23,7 +23,4 @@ returns-clause-done g c = job_end c.args.self.now.state c.loop-owner.self.state 
 
 pub returns-in_err-job_turn-clause-stalled : goal.returns-in_err-job_turn-clause-stalled
 returns-in_err-job_turn-clause-stalled g c =
-    let stalled = stalled_on g.D.Drive.plan g.D.Drive.places g.D.Drive.faults
-    c.args.self.now c.loop-owner.self c.job_turn.new.self c.loop-owner.invariant.gone
-    c.in_err-job_turn.ensures.stalled in
-    search (rules, stalled)
+    let stalled = stalled_on _ _ _ _ _ _ c.loop-owner.invariant.gone c.in_err-job_turn.ensures.stalled in search (rules, stalled)
