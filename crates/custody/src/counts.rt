@@ -1,6 +1,7 @@
 ghost use Rattle.std.specs.Prelude.{◌≡◌, ◌+◌, ◌-◌, ◌<◌, ◌≤◌, ◌^◌, ℕ, true, OnOk, OnErr, [], Some, None};
 ghost use Rattle.std.specs.Bool.{Decides};
-ghost use Rattle.custody.specs.Counts.{AreFew, HasPlace, IsTight, Keeps, Readies, Recounts, Shifts, count_at, has_place};
+ghost use Rattle.custody.specs.Counts.{AreFew, HasPlace, IsTight, Keeps, Readies, Recounts, Shifts};
+ghost use Rattle.custody.specs.Counts.{count_at, has_place};
 
 use crate::NoMemory;
 use std::alloc::Global;
@@ -9,7 +10,8 @@ use std::marker::Model;
 
 /// How many there are of what two numbers name. What there is none of any more takes no place.
 ///
-/// Each call but `new` costs a few searches in one ordered map, whose places are as many as there are keys with a count.
+/// Each call but `new` costs a few searches in one ordered map, whose places are as many as there are keys with a
+/// count.
 #[derive(Drop)]
 pub(crate) struct Counts {
     entries: BTreeMap<(u32, u32), u64>,

@@ -14,7 +14,8 @@ impl Custody {
     ///
     /// What is active must lie in the tree of that store as it did when it became active. An entry costs a few searches
     /// in ordered maps, and at most a look at what each processor holds, or at each process. A command that is no
-    /// reference costs besides what the flat store's reply to it does, and a `truncate` a look at the words of one page.
+    /// reference costs besides what the flat store's reply to it does, and a `truncate` a look at the words of one
+    /// page.
     pub fn allows(&self, script: &Script, store: &FlatStore, e: Entry) -> bool
         ensures { (s : Store) → Shows script.now store.now s → AreNodes s.nodes self.now.active
             → Decides result (IsAllowed script.now s (custody_of self.now) e) }

@@ -126,7 +126,8 @@ impl<D: Drive> Tables<D> {
         ensures zeros { OnErr result
             (are_zeros (words_in self.old.state.store.pages self.old.state.visited) ≡ false) }
         ensures room { self.new.room ≡ self.old.room }
-        ensures no_call { SparesCall self.old.state.store.pages self.old.state.visited self.old.drives self.new.drives result }
+        ensures no_call { SparesCall self.old.state.store.pages self.old.state.visited self.old.drives self.new.drives
+            result }
         ensures drives { CallsDrive D.plan D.places D.faults self.old.drives self.new.drives
             (home_in self.old.state.store (page_in self.old.state.store self.old.state.visited).0).volume result }
     {

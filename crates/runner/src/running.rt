@@ -64,8 +64,8 @@ fn left(machine: Machine<AnyDrive>, status: Status) -> Finished
     }
 }
 
-/// Has workers step a machine that was booted, ends what they leave, and writes the listing. The machine is left, however
-/// that ended.
+/// Has workers step a machine that was booted, ends what they leave, and writes the listing. The machine is left,
+/// however that ended.
 fn run_machine<R: Threads + Wait + Sync, K: Sink, G: Gate + Sync>(
     rt: &R,
     alloc: Global,

@@ -342,8 +342,8 @@ impl<D: Drive> Segs<D> {
         take_from(self.ast.table_mut(aste), from);
     }
 
-    /// Takes the least free VTOC entry of a volume for a segment that isn't active, with an empty file map. None exactly
-    /// where all of its entries are used; nothing has changed then. (Source: Organick 1972.)
+    /// Takes the least free VTOC entry of a volume for a segment that isn't active, with an empty file map. None
+    /// exactly where all of its entries are used; nothing has changed then. (Source: Organick 1972.)
     pub fn new_home(&mut self, volume: u32, uid: u32) -> Option<u32>
         requires volume { volume < length self.old.pages.volumes.drives }
         requires inactive { IsInactive self.old.ast.entries uid }

@@ -18,8 +18,9 @@ pub struct FailLine {
 
 /// A drive: a list of pages of 1024 words that can be read and written one at a time (Organick 1972).
 ///
-/// Its meanings are its `pages`; its `faults`, how many of its calls failed, a count that may stop at its end; its `plan`, which is the lines that name
-/// failing calls, where these are told; and its `places`, how many pages a fast store before it holds. (Source: own.)
+/// Its meanings are its `pages`; its `faults`, how many of its calls failed, a count that may stop at its end; its
+/// `plan`, which is the lines that name failing calls, where these are told; and its `places`, how many pages a fast
+/// store before it holds. (Source: own.)
 pub trait Drive: Drop {
     ghost use Rattle.volumes.specs.declared.drive.FailLine.{FailLine};
     ghost use Rattle.volumes.specs.FailLine.{HasFewFaults, IsOneMore};
@@ -39,8 +40,8 @@ pub trait Drive: Drop {
         ensures few { HasFewFaults (plan self.now) (faults self.now) }
         ensures full { HaveFullPages (pages self.now) };
 
-    /// Reads page `r` into `to`. After `Failed`, `to` is as before. `faults` counts exactly the calls that fail: it stays
-    /// where the page was read, and is one more after `Failed`, where it isn't at its end.
+    /// Reads page `r` into `to`. After `Failed`, `to` is as before. `faults` counts exactly the calls that fail: it
+    /// stays where the page was read, and is one more after `Failed`, where it isn't at its end.
     fn read_page(&mut self, r: u32, to: &mut Page) -> Result<(), Failed>
         requires { r < length (pages self.old) }
         ensures ok { OnOk result (to.new ≡ slice_index_or (pages self.old) r []) }
@@ -56,8 +57,8 @@ pub trait Drive: Drop {
         ensures places { places self.new ≡ places self.old }
         ensures few { HasFewFaults (plan self.new) (faults self.new) };
 
-    /// Makes page `r` the page `from`, and leaves the others. After `Failed` no page has changed. `faults` counts exactly
-    /// the calls that fail, as with a read.
+    /// Makes page `r` the page `from`, and leaves the others. After `Failed` no page has changed. `faults` counts
+    /// exactly the calls that fail, as with a read.
     fn write_page(&mut self, r: u32, from: &Page) -> Result<(), Failed>
         requires { r < length (pages self.old) }
         ensures ok { OnOk result (pages self.new ≡ slice_set (pages self.old) r from.now) }
