@@ -12,6 +12,7 @@ pub mod PlaceLaws
 pub mod QuotaLaws
 pub mod QuotaTotals
 pub mod RemoveLaws
+pub mod RoomLaws
 pub mod ScriptLaws
 pub mod TreeLaws
 pub mod TreeReplies

@@ -3,6 +3,7 @@ pub mod Commands
 pub mod Cuts
 pub mod Legal
 pub mod Making
+pub mod Moves
 pub mod Naming
 pub mod Pages
 pub mod References

@@ -25,6 +25,7 @@ pub mod PagesLess
 pub mod Refusals
 pub mod Removed
 pub mod Rest
+pub mod RoomsFound
 pub mod Still
 pub mod Tables
 pub mod Unstored

@@ -3,4 +3,5 @@ pub mod Cut
 pub mod CutOff
 pub mod Paged
 pub mod References
+pub mod Rooms
 pub mod Shown

@@ -15,6 +15,7 @@ mod connecting;
 mod cutting;
 mod deleting;
 mod making;
+mod moving;
 mod naming;
 mod pages;
 mod references;
