@@ -501,6 +501,7 @@ entry_words (entry.Start f u p) = codes "start" ∷ decimal f ∷ decimal u ∷ 
 entry_words (entry.Lose f) = codes "lose" ∷ decimal f ∷ []
 entry_words (entry.Here f u p) = codes "in" ∷ decimal f ∷ decimal u ∷ decimal p ∷ []
 entry_words (entry.Connect k n u) = codes "connect" ∷ decimal k ∷ decimal n ∷ decimal u ∷ []
+entry_words (entry.Moved k u w) = codes "moved" ∷ decimal k ∷ decimal u ∷ decimal w ∷ []
 entry_words (entry.Take f) = codes "take" ∷ decimal f ∷ []
 entry_words (entry.Cut k n) = codes "cut" ∷ decimal k ∷ decimal n ∷ []
 entry_words (entry.Signal c w) = codes "signal" ∷ decimal c ∷ what_words w
@@ -539,6 +540,7 @@ entry_text_is (entry.Start f u p) = refl
 entry_text_is (entry.Lose f) = refl
 entry_text_is (entry.Here f u p) = refl
 entry_text_is (entry.Connect k n u) = refl
+entry_text_is (entry.Moved k u w) = refl
 entry_text_is (entry.Take f) = refl
 entry_text_is (entry.Cut k n) = refl
 entry_text_is (entry.FillSeg c n) = refl
@@ -582,6 +584,7 @@ entry_lacks (entry.Start f u p) h = (refl, (spaceless f h.0, (spaceless u h.1, (
 entry_lacks (entry.Lose f) h = (refl, (spaceless f h, tt))
 entry_lacks (entry.Here f u p) h = (refl, (spaceless f h.0, (spaceless u h.1, (spaceless p h.2, tt))))
 entry_lacks (entry.Connect k n u) h = (refl, (spaceless k h.0, (spaceless n h.1, (spaceless u h.2, tt))))
+entry_lacks (entry.Moved k u w) h = (refl, (spaceless k h.0, (spaceless u h.1, (spaceless w h.2, tt))))
 entry_lacks (entry.Take f) h = (refl, (spaceless f h, tt))
 entry_lacks (entry.Cut k n) h = (refl, (spaceless k h.0, (spaceless n h.1, tt)))
 
@@ -612,6 +615,7 @@ entry_again (entry.Start f u p) h = rw (number_again f h.0, number_again u h.1, 
 entry_again (entry.Lose f) h = rw (number_again f h) refl
 entry_again (entry.Here f u p) h = rw (number_again f h.0, number_again u h.1, number_again p h.2) refl
 entry_again (entry.Connect k n u) h = rw (number_again k h.0, number_again n h.1, number_again u h.2) refl
+entry_again (entry.Moved k u w) h = rw (number_again k h.0, number_again u h.1, number_again w h.2) refl
 entry_again (entry.Take f) h = rw (number_again f h) refl
 entry_again (entry.Cut k n) h = rw (number_again k h.0, number_again n h.1) refl
 entry_again (entry.FillSeg c n) h = rw (number_again c h.0, number_again n h.1) refl
@@ -660,7 +664,9 @@ three_only w a b c n m l f g h = same w (codes "in") _ _ (λ o. IfSome o (λ x. 
     (λ e. four (sym e) f g h)
     (same w (codes "connect") _ _ (λ o. IfSome o (λ x. entry_words x ≡ w ∷ a ∷ b ∷ c ∷ []))
     (λ e. four (sym e) f g h)
-    (tt)))
+    (same w (codes "moved") _ _ (λ o. IfSome o (λ x. entry_words x ≡ w ∷ a ∷ b ∷ c ∷ []))
+    (λ e. four (sym e) f g h)
+    (tt))))
 
 plain_only : (w : List ℕ) (fields : List (List ℕ)) → IfSome (plain_of w fields) (λ x. entry_words x ≡ w ∷ fields)
 plain_only w [] = tt
@@ -918,6 +924,7 @@ entry_has (entry.Start f u p) = record { some = omega arith; few = omega arith }
 entry_has (entry.Lose f) = record { some = omega arith; few = omega arith }
 entry_has (entry.Here f u p) = record { some = omega arith; few = omega arith }
 entry_has (entry.Connect k n u) = record { some = omega arith; few = omega arith }
+entry_has (entry.Moved k u w) = record { some = omega arith; few = omega arith }
 entry_has (entry.Take f) = record { some = omega arith; few = omega arith }
 entry_has (entry.Cut k n) = record { some = omega arith; few = omega arith }
 entry_has (entry.FillSeg c n) = record { some = omega arith; few = omega arith }

@@ -50,6 +50,7 @@ counted_text (entry.Start frame uid page) = codes "start " ++ three_text frame u
 counted_text (entry.Lose frame) = codes "lose " ++ decimal frame
 counted_text (entry.Here frame uid page) = codes "in " ++ three_text frame uid page
 counted_text (entry.Connect process number uid) = codes "connect " ++ three_text process number uid
+counted_text (entry.Moved process uid volume) = codes "moved " ++ three_text process uid volume
 counted_text (entry.Take frame) = codes "take " ++ decimal frame
 counted_text (entry.Cut process number) = codes "cut " ++ two_text process number
 counted_text (entry.GonePage frame) = codes "gone page " ++ decimal frame

@@ -174,6 +174,7 @@ of_three w x =
     if bytes_eq w (codes "in") then Some (entry.Here x.0 x.1 x.2)
     else if bytes_eq w (codes "start") then Some (entry.Start x.0 x.1 x.2)
     else if bytes_eq w (codes "connect") then Some (entry.Connect x.0 x.1 x.2)
+    else if bytes_eq w (codes "moved") then Some (entry.Moved x.0 x.1 x.2)
     else None
 
 abbrev pub plain_of : List ℕ → List (List ℕ) → Option Entry
@@ -235,6 +236,7 @@ IsEntry (entry.Start f u p) = IsSmall f × IsSmall u × IsSmall p
 IsEntry (entry.Lose f) = IsSmall f
 IsEntry (entry.Here f u p) = IsSmall f × IsSmall u × IsSmall p
 IsEntry (entry.Connect k n u) = IsSmall k × IsSmall n × IsSmall u
+IsEntry (entry.Moved k u w) = IsSmall k × IsSmall u × IsSmall w
 IsEntry (entry.Take f) = IsSmall f
 IsEntry (entry.Cut k n) = IsSmall k × IsSmall n
 IsEntry (entry.Signal c w) = IsSmall c × IsWhat w

@@ -27,6 +27,12 @@ pub enum Entry {
     Fault {
         process: Option<u32>,
     },
+    /// For the write of this process the segment moved to the volume: that is its home from now on.
+    Moved {
+        process: u32,
+        uid: u32,
+        volume: u32,
+    },
     /// The processor takes part from now on.
     Online {
         cpu: u32,

@@ -357,6 +357,12 @@ fn of_three(word: &[u8], first: u32, second: u32, third: u32) -> Option<Entry>
             number: second,
             uid: third,
         })
+    } else if word == b"moved".as_slice() {
+        Some(Entry::Moved {
+            process: first,
+            uid: second,
+            volume: third,
+        })
     } else {
         None
     }

@@ -83,6 +83,11 @@ fn counted(entry: &Entry) -> (&'static str, Numbers)
             number,
             uid,
         } => ("connect ", Numbers::Three(process, number, uid)),
+        Entry::Moved {
+            process,
+            uid,
+            volume,
+        } => ("moved ", Numbers::Three(process, uid, volume)),
         Entry::Take { frame } => ("take ", Numbers::One(frame)),
         Entry::Cut { process, number } => ("cut ", Numbers::Two(process, number)),
         Entry::GonePage { frame } => ("gone page ", Numbers::One(frame)),

@@ -553,6 +553,7 @@ fine_next p s c b (entry.Do k i d f r) fine may online =
     (counted (c.seat d) ((c.seat d).count + 1) (is_try s k (next_command p s k) r) (fine.idle d)))
 fine_next p s c b (entry.Release u q) fine may online = fine
 fine_next p s c b (entry.Fault k) fine may online = fine
+fine_next p s c b (entry.Moved k u w) fine may online = fine
 fine_next p s c b (entry.Online d) fine may online = less_fine c b d (record (c.seat d) { online = true }) fine
     (come_online (c.seat d))
 fine_next p s c b (entry.Load d k) fine may online =

@@ -44,6 +44,7 @@ count_next p s c (entry.FillSeg j n) d = put_count c d j _ (omega arith)
 count_next p s c (entry.FillPage j f) d = put_count c d j _ (omega arith)
 count_next p s c (entry.Release u q) d = omega arith
 count_next p s c (entry.Fault k) d = omega arith
+count_next p s c (entry.Moved k u w) d = omega arith
 count_next p s c (entry.Activate u) d = omega arith
 count_next p s c (entry.Deactivate u) d = omega arith
 count_next p s c (entry.Start f u q) d = omega arith

@@ -65,6 +65,11 @@ pub record MayActivate (p : Plan) (s : Store) (c : Custody) (u : ℕ) : Type 0 w
   pub inactive : c.active u ≡ false
   pub node : IsSomeAnd (node_in s.nodes u) (MayJoin p s c)
 
+-- a segment may move to another volume: it is active, and no page of it is being read into a frame
+pub record MayRehome (c : Custody) (u : ℕ) : Type 0 where
+  pub active : c.active u ≡ true
+  pub still : (f q : ℕ) → c.frame f ≢ frame.Started u q
+
 abbrev pub superior_in : Option Node → Option ℕ
 superior_in None = None
 superior_in (Some n) = n.superior
@@ -218,6 +223,7 @@ abbrev pub IsAllowed : Plan → Store → Custody → Entry → Type 0
 IsAllowed p s c (entry.Do k i d f r) = MayDo p s c k d f r
 IsAllowed p s c (entry.Release u q) = IsInNoFrame c u q
 IsAllowed p s c (entry.Fault k) = Unit {0}
+IsAllowed p s c (entry.Moved k u w) = MayRehome c u
 IsAllowed p s c (entry.Online d) = MayComeOnline p c d
 IsAllowed p s c (entry.Load d k) = MayLoad c d k
 IsAllowed p s c (entry.Leave d) = MayLeave s c d

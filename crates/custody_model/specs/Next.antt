@@ -81,6 +81,7 @@ unfoldable pub custody_next : Plan → Store → Custody → Entry → Custody
 custody_next p s c (entry.Do k i d f r) = answered p s c d k (next_command p s k) r
 custody_next p s c (entry.Release u q) = c
 custody_next p s c (entry.Fault k) = c
+custody_next p s c (entry.Moved k u w) = c
 custody_next p s c (entry.Online d) = with_seat c d (record (c.seat d) { online = true })
 custody_next p s c (entry.Load d k) = loaded c d k
 custody_next p s c (entry.Leave d) = left s c d

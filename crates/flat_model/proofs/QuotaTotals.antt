@@ -468,6 +468,8 @@ entry_total p t (entry.Do k place cpu frame r) tree lawful =
     answer_total p t k (command_at p k place) r tree lawful.answer
 entry_total p t (entry.Release uid page) tree lawful = refl
 entry_total p t (entry.Fault process) tree lawful = fault_total t process
+entry_total p t (entry.Moved process uid volume) tree lawful =
+    changed_total t.nodes uid (λ n. record n { volume = volume }) (λ n. refl)
 entry_total p t _ tree lawful = refl
 
 -- before the first entry the root has all

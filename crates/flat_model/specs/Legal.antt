@@ -14,6 +14,7 @@ use Rattle.tree_model.specs.Tree.{Node, is_account, used_by}
 use Rattle.flat_model.specs.Pages.{is_stored, is_zero_page, without_stored}
 use Rattle.flat_model.specs.Store.{Store, Progress, boot, progress_of, with_progress, is_turn}
 use Rattle.flat_model.specs.Commands.{reply_to_command, after_command}
+use Rattle.flat_model.specs.Moves.{MayMove, moved}
 
 -- the refusals that come before any page is looked for
 abbrev pub is_early : Reply → Bool
@@ -75,6 +76,7 @@ unfoldable pub IsLawful : Plan → Store → Entry → Type 0
 IsLawful p s (entry.Do k place cpu frame r) = IsLawfulDo p s k place r
 IsLawful p s (entry.Release uid page) = MayRelease s uid page
 IsLawful p s (entry.Fault process) = MayFault s process
+IsLawful p s (entry.Moved process uid volume) = MayMove p s process uid volume
 IsLawful p s _ = Unit {0}
 
 abbrev pub after_do : Plan → Store → ℕ → Option Command → Reply → Store
@@ -90,6 +92,7 @@ unfoldable pub after_entry : Plan → Store → Entry → Store
 after_entry p s (entry.Do k place cpu frame r) = after_do p s k (command_at p k place) r
 after_entry p s (entry.Release uid page) = record s { stored = without_stored s.stored uid (λ q. q == page) }
 after_entry p s (entry.Fault process) = after_fault s process
+after_entry p s (entry.Moved process uid volume) = moved s uid volume
 after_entry p s _ = s
 
 -- the store after some entries

@@ -1,9 +1,16 @@
--- Where a segment may move to whose volume has no free record (Organick 1972).
-use Rattle.std.specs.Prelude.{ℕ, zero, suc, ◌-◌, Bool, not, ◌&&◌, ◌==◌, nat_lt, if◌then◌else◌, count_by, length}
+-- When a segment whose volume has no free record moves to another volume, and where it moves to (Organick 1972).
+use Rattle.std.specs.Prelude.{◌≡◌, ℕ, zero, suc, ◌*◌, ◌-◌, Bool, true, false, not, ◌&&◌, ◌==◌, nat_lt, nat_le}
+use Rattle.std.specs.Prelude.{if◌then◌else◌, count_by, length}
 use Rattle.std.specs.Prelude.{Option, Some, None}
-use Rattle.script.specs.Plans.{Plan}
-use Rattle.tree_model.specs.Tree.{entries_on, taken_on, volume_in}
-use Rattle.flat_model.specs.Store.{Store, entries_of, records_of}
+use Rattle.script.specs.Plans.{Plan, command_at, who_of}
+use Rattle.script.specs.References.{permits, reference_of}
+use Rattle.script.specs.declared.commands.Command.{Command}
+use Rattle.script.specs.declared.commands.Reference.{Reference}
+use Rattle.script.specs.declared.commands.RefKind.{RefKind}
+use Rattle.tree_model.specs.Access.{access_of}
+use Rattle.tree_model.specs.Tree.{Node, entries_on, node_in, taken_on, volume_in, with_node}
+use Rattle.flat_model.specs.References.{is_used_up, is_volume_full, stores_page}
+use Rattle.flat_model.specs.Store.{Store, entries_of, is_turn, known_uid, progress_of, records_of}
 
 -- how many pages of a segment are stored
 abbrev pub pages_stored : Store → ℕ → ℕ
@@ -28,3 +35,44 @@ first_below test (suc n) = first_or (first_below test n) (if test n then Some n 
 -- the first volume, in the order of the script, that has room for a segment
 abbrev pub room_for : Plan → Store → ℕ → Option ℕ
 room_for p s uid = first_below (has_room p s uid) (length p.volumes)
+
+-- ---- what a process waits for
+
+-- a reference to a segment that is refused for nothing but that no record of the segment's volume is free
+abbrev pub lacks_record : Plan → Store → ℕ → ℕ → RefKind → Node → Bool
+lacks_record p s k offset how n = permits (access_of (who_of p k) n.rows) how
+    && (not (nat_le (1024 * n.pages) offset)
+    && (stores_page s n.uid offset how && (not (is_used_up s n.uid) && is_volume_full p s n.volume)))
+
+abbrev pub lacks_at : Plan → Store → ℕ → ℕ → RefKind → Option Node → Bool
+lacks_at p s k offset how None = false
+lacks_at p s k offset how (Some n) = lacks_record p s k offset how n
+
+abbrev pub is_uid : Option ℕ → ℕ → Bool
+is_uid None uid = false
+is_uid (Some u) uid = u == uid
+
+abbrev pub awaits_by : Plan → Store → ℕ → ℕ → Option Reference → Bool
+awaits_by p s k uid None = false
+awaits_by p s k uid (Some r) = is_uid (known_uid s k r.number) uid
+    && lacks_at p s k r.offset r.kind (node_in s.nodes uid)
+
+abbrev pub awaits_in : Plan → Store → ℕ → ℕ → Option Command → Bool
+awaits_in p s k uid None = false
+awaits_in p s k uid (Some c) = awaits_by p s k uid (reference_of c)
+
+-- the next command of a process writes to the segment, and lacks a record alone
+unfoldable pub awaits_move : Plan → Store → ℕ → ℕ → Bool
+awaits_move p s k uid = awaits_in p s k uid (command_at p k (progress_of s k).place)
+
+-- A segment may move for a process that hasn't ended, whose turn it is, and whose next command lacks a record alone: to
+-- the first volume that has room.
+pub record MayMove (p : Plan) (s : Store) (k uid volume : ℕ) : Type 0 where
+  pub turn : is_turn p s k ≡ true
+  pub going : (progress_of s k).ended ≡ false
+  pub awaits : awaits_move p s k uid ≡ true
+  pub first : room_for p s uid ≡ Some volume
+
+-- the store once a segment has moved: its home is on the other volume, and all else is as it was
+abbrev pub moved : Store → ℕ → ℕ → Store
+moved s uid volume = record s { nodes = with_node s.nodes uid (λ n. record n { volume = volume }) }
