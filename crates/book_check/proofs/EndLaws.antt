@@ -148,6 +148,7 @@ module _ (p : Plan) (es : List Entry) (k : ℕ) (agree : Decides (progress_of (s
   end_pushed (entry.Do j place cpu f r) lt lawful = answered j place cpu f r lt lawful
   end_pushed (entry.Release u q) lt lawful = kept (entry.Release u q) refl refl
   end_pushed (entry.Fault o) lt lawful = kept (entry.Fault o) refl (failed o lawful)
+  end_pushed (entry.Moved j u w) lt lawful = kept (entry.Moved j u w) refl refl
   end_pushed (entry.Online c) lt lawful = kept (entry.Online c) refl refl
   end_pushed (entry.Load c j) lt lawful = kept (entry.Load c j) refl refl
   end_pushed (entry.Leave c) lt lawful = kept (entry.Leave c) refl refl

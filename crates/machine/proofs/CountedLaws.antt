@@ -60,6 +60,7 @@ counted_next p s c (entry.FillPage i f) n counted d k h =
     kept p s c (entry.FillPage i f) n d k counted (put_had c.seat i d k _ (λ x. x) h)
 counted_next p s c (entry.Release u q) n counted d k h = kept p s c (entry.Release u q) n d k counted h
 counted_next p s c (entry.Fault j) n counted d k h = kept p s c (entry.Fault j) n d k counted h
+counted_next p s c (entry.Moved j u w) n counted d k h = kept p s c (entry.Moved j u w) n d k counted h
 counted_next p s c (entry.Activate u) n counted d k h = kept p s c (entry.Activate u) n d k counted h
 counted_next p s c (entry.Deactivate u) n counted d k h = kept p s c (entry.Deactivate u) n d k counted h
 counted_next p s c (entry.Start f u q) n counted d k h = kept p s c (entry.Start f u q) n d k counted h

@@ -69,6 +69,7 @@ abbrev pub is_still : Entry → Bool
 is_still (entry.Do k place cpu frame r) = false
 is_still (entry.Release u q) = false
 is_still (entry.Fault k) = false
+is_still (entry.Moved k u w) = false
 is_still _ = true
 
 still_next : (p : Plan) (t : Store) (e : Entry) → is_still e ≡ true → after_entry p t e ≡ t
@@ -76,6 +77,7 @@ unfolding after_entry
 still_next p t (entry.Do k place cpu frame r) h = absurd (let no : false ≡ true = h in cc)
 still_next p t (entry.Release u q) h = absurd (let no : false ≡ true = h in cc)
 still_next p t (entry.Fault o) h = absurd (let no : false ≡ true = h in cc)
+still_next p t (entry.Moved k u w) h = absurd (let no : false ≡ true = h in cc)
 still_next p t _ h = refl
 
 -- one such entry more

@@ -86,6 +86,7 @@ module _ (Page : ℕ → ℕ → Type 0) (Descriptor : ℕ → ℕ → ℕ → T
   just_next p s c (entry.Do k i d f r) j h = seat_just c (custody_next p s c (entry.Do k i d f r)) refl refl j
   just_next p s c (entry.Release v q) j h = j
   just_next p s c (entry.Fault k) j h = j
+  just_next p s c (entry.Moved k u w) j h = j
   just_next p s c (entry.Online d) j h = seat_just c (custody_next p s c (entry.Online d)) refl refl j
   just_next p s c (entry.Load d k) j h = seat_just c (custody_next p s c (entry.Load d k)) refl refl j
   just_next p s c (entry.Leave d) j h = seat_just c (custody_next p s c (entry.Leave d)) refl refl j

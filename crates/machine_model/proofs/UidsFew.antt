@@ -188,6 +188,7 @@ entry_bounded p s (entry.Fault process) b h = by process h
     by None i = b
     by (Some k) i = moved_bounded p s (after_fault s (Some k)) k (record (progress_of s k) { faulted = true }) b
         (is_there s k i) refl (b.places k (is_there s k i)) (omega arith)
+entry_bounded p s (entry.Moved k uid volume) b h = record { count = b.count; places = b.places; next = b.next }
 entry_bounded p s _ b h = b
 
 book_bounded : (p : Plan) (s : Store) (es : List Entry) → IsBounded p s → IsLegalFrom p s es

@@ -74,6 +74,7 @@ unfolding custody_next
 whole_next p s c u (entry.Do k i d f r) w h = seat_whole c (custody_next p s c (entry.Do k i d f r)) u refl refl w
 whole_next p s c u (entry.Release v q) w h = w
 whole_next p s c u (entry.Fault k) w h = w
+whole_next p s c u (entry.Moved k v x) w h = w
 whole_next p s c u (entry.Online d) w h = seat_whole c (custody_next p s c (entry.Online d)) u refl refl w
 whole_next p s c u (entry.Load d k) w h = seat_whole c (custody_next p s c (entry.Load d k)) u refl refl w
 whole_next p s c u (entry.Leave d) w h = seat_whole c (custody_next p s c (entry.Leave d)) u refl refl w

@@ -57,6 +57,7 @@ fn takes_a_step(entry: &Entry) -> bool {
         | Entry::FillPage { .. } => true,
         Entry::Release { .. }
         | Entry::Fault { .. }
+        | Entry::Moved { .. }
         | Entry::Deactivate { .. }
         | Entry::Take { .. }
         | Entry::Cut { .. }
