@@ -85,6 +85,19 @@ function framesAreShown() {
   assert.equal(run.script.processes[0].who, "Smith");
 }
 
+/** A segment that moves is counted on its new volume from then on. */
+function movesAreCounted() {
+  const script = ["machine 1 4 12 1 1 1", "quota 9", "volume alpha 1 4", "volume beta 4 4", "process Smith",
+    "mkseg >s 2 alpha", "initiate >s", "write 0 0 1", "write 0 1024 1", "end", "book", ""].join("\n");
+  const listing = ["online 0", "load 0 0", "do 0.0 0 - made 2", "do 0.1 0 - known 0", "activate 1", "activate 2",
+    "connect 0 0 2", "in 0 2 0", "do 0.2 0 - done", "moved 0 2 1", ""].join("\n");
+  const run = multics.openListing(`${script}${listing}`, "");
+  assert.deepEqual(multics.summaryOf(run, multics.stateAfter(run, run.count)), ["> quota 9 used 1",
+    "volume alpha records 1 taken 0 entries 4 taken 1", "volume beta records 4 taken 1 entries 4 taken 1"]);
+  assert.equal(multics.meaningOf(run, run.count - 1),
+    "No record was free for process 0 (Smith)'s write: >s (2) has moved to volume beta.");
+}
+
 /** A listing of a million entries: the same entries again and again, between a load and a leave. */
 function longListing() {
   const turn = ["load 0 0", "fill 0 seg 0", "fill 0 page 0", "do 0.0 0 0 word 000000000000", "take 0", "signal 0 all",
@@ -174,7 +187,7 @@ function pageDraws() {
   assert.equal(text("said"), "There is no entry in this listing.");
 }
 
-const TESTS = [accountsAreTheSummary, revocationIsShown, framesAreShown, longListingIsQuick, backIsAsForth, pageDraws];
+const TESTS = [accountsAreTheSummary, revocationIsShown, framesAreShown, movesAreCounted, longListingIsQuick, backIsAsForth, pageDraws];
 for (const test of TESTS) {
   test();
   console.log(`viewer: ${test.name}: ok`);
