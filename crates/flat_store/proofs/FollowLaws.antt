@@ -10,6 +10,7 @@ use Rattle.book.specs.declared.replies.Reply.{Reply}
 use Rattle.flat_model.specs.Commands.{after_command, gone_on, reply_to_command, takes_effect}
 use Rattle.flat_model.specs.Legal.{IsAnswer, IsLawful, IsLawfulDo, MayAnswerDevice, MayFault, MayRelease, after_do}
 use Rattle.flat_model.specs.Legal.{after_entry, after_fault}
+use Rattle.flat_model.specs.Moves.{MayMove, moved}
 use Rattle.flat_model.specs.Pages.{without_stored}
 use Rattle.flat_model.specs.Store.{Progress, Store, progress_of, with_progress}
 use Rattle.flat_store.specs.Shown.{Holds, IsReached, IsShown, Kept, Shows, answered, progress_at}
@@ -104,6 +105,20 @@ release_shown p k n s u q h same holds = record {
   reached = record { plan = h.reached.plan; places = h.reached.places; uids = h.reached.uids };
 }
 
+-- a segment moved to another volume
+pub moved_shown : (p : Plan) (k n : Kept) (s : Store) (u w : ℕ) → Shows p k s → n ≡ record k { held = n.held }
+    → Holds p n.held (moved s u w) → Shows p n (moved s u w)
+moved_shown p k n s u w h same holds = record {
+  shown = subst (λ (x : Kept). IsShown p x (moved s u w)) (sym same) (record {
+    holds = holds;
+    known = h.shown.known;
+    processes = h.shown.processes;
+    knowers = h.shown.knowers;
+    runners = h.shown.runners;
+  });
+  reached = record { plan = h.reached.plan; places = h.reached.places; uids = h.reached.uids };
+}
+
 -- ---- by entry
 
 pub do_lawful : (p : Plan) (s : Store) (k place cpu : ℕ) (frame : Option ℕ) (r : Reply)
@@ -140,26 +155,39 @@ pub after_fault_is : (p : Plan) (s : Store) (o : Option ℕ) → after_fault s o
 unfolding after_entry
 after_fault_is p s o = refl
 
+pub moved_lawful : (p : Plan) (s : Store) (k u w : ℕ) → IsLawful p s (entry.Moved k u w) → MayMove p s k u w
+unfolding IsLawful
+moved_lawful p s k u w lawful = lawful
+
+pub after_moved_is : (p : Plan) (s : Store) (k u w : ℕ) → moved s u w ≡ after_entry p s (entry.Moved k u w)
+unfolding after_entry
+after_moved_is p s k u w = refl
+
 -- an entry that tells who holds what leaves the flat store alone
 pub quiet : (p : Plan) (s : Store) (e : Entry)
     → ((k place cpu : ℕ) (frame : Option ℕ) (r : Reply) → e ≡ entry.Do k place cpu frame r → ⊥)
     → ((u q : ℕ) → e ≡ entry.Release u q → ⊥)
-    → ((o : Option ℕ) → e ≡ entry.Fault o → ⊥) → s ≡ after_entry p s e
+    → ((o : Option ℕ) → e ≡ entry.Fault o → ⊥)
+    → ((k u w : ℕ) → e ≡ entry.Moved k u w → ⊥) → s ≡ after_entry p s e
 unfolding after_entry
-quiet p s (entry.Do k place cpu frame r) no_do no_release no_fault = absurd (no_do k place cpu frame r refl)
-quiet p s (entry.Release u q) no_do no_release no_fault = absurd (no_release u q refl)
-quiet p s (entry.Fault o) no_do no_release no_fault = absurd (no_fault o refl)
-quiet p s _ no_do no_release no_fault = refl
+quiet p s (entry.Do k place cpu frame r) no_do no_release no_fault no_moved = absurd (no_do k place cpu frame r refl)
+quiet p s (entry.Release u q) no_do no_release no_fault no_moved = absurd (no_release u q refl)
+quiet p s (entry.Fault o) no_do no_release no_fault no_moved = absurd (no_fault o refl)
+quiet p s (entry.Moved k u w) no_do no_release no_fault no_moved = absurd (no_moved k u w refl)
+quiet p s _ no_do no_release no_fault no_moved = refl
 
 pub quiet_lawful : (p : Plan) (s : Store) (e : Entry)
     → ((k place cpu : ℕ) (frame : Option ℕ) (r : Reply) → e ≡ entry.Do k place cpu frame r → ⊥)
     → ((u q : ℕ) → e ≡ entry.Release u q → ⊥)
-    → ((o : Option ℕ) → e ≡ entry.Fault o → ⊥) → IsLawful p s e
+    → ((o : Option ℕ) → e ≡ entry.Fault o → ⊥)
+    → ((k u w : ℕ) → e ≡ entry.Moved k u w → ⊥) → IsLawful p s e
 unfolding IsLawful
-quiet_lawful p s (entry.Do k place cpu frame r) no_do no_release no_fault = absurd (no_do k place cpu frame r refl)
-quiet_lawful p s (entry.Release u q) no_do no_release no_fault = absurd (no_release u q refl)
-quiet_lawful p s (entry.Fault o) no_do no_release no_fault = absurd (no_fault o refl)
-quiet_lawful p s _ no_do no_release no_fault = tt
+quiet_lawful p s (entry.Do k place cpu frame r) no_do no_release no_fault no_moved =
+    absurd (no_do k place cpu frame r refl)
+quiet_lawful p s (entry.Release u q) no_do no_release no_fault no_moved = absurd (no_release u q refl)
+quiet_lawful p s (entry.Fault o) no_do no_release no_fault no_moved = absurd (no_fault o refl)
+quiet_lawful p s (entry.Moved k u w) no_do no_release no_fault no_moved = absurd (no_moved k u w refl)
+quiet_lawful p s _ no_do no_release no_fault no_moved = tt
 
 -- ---- what is allowed
 
@@ -178,3 +206,8 @@ pub fault_allowed : (p : Plan) (s : Store) (o : Option ℕ) (z : Bool) → IsTru
     → IsTrue z ↔ IsLawful p s (entry.Fault o)
 unfolding IsLawful
 fault_allowed p s o z told = told
+
+pub moved_allowed : (p : Plan) (s : Store) (k u w : ℕ) (z : Bool) → IsTrue z ↔ MayMove p s k u w
+    → IsTrue z ↔ IsLawful p s (entry.Moved k u w)
+unfolding IsLawful
+moved_allowed p s k u w z told = told

@@ -5,7 +5,8 @@ use Rattle.std.proofs.lemmas.Bool.{cases_eq}
 use Rattle.std.proofs.lemmas.Bool.Decides.{nat_tests}
 use Rattle.flat_store.specs.Shown.{Gauge, gauge_at, filled, drained}
 
-set_here : {A : Type 0} (f : A → A) (d : A) (xs : List A) (i j : ℕ) → f d ≡ d
+-- what stands at a place once one is changed, also where none is there
+pub set_here : {A : Type 0} (f : A → A) (d : A) (xs : List A) (i j : ℕ) → f d ≡ d
     → get_or (set xs i (f (get_or xs i d))) j d ≡ cond (eqb j i) (f (get_or xs i d)) (get_or xs j d)
 set_here f d [] i j same = nothing (eqb j i)
   where

@@ -7,6 +7,7 @@ pub mod EffectLaws
 pub mod FollowLaws
 pub mod GaugeLaws
 pub mod MakeLaws
+pub mod MoveLaws
 pub mod NodeLaws
 pub mod NumberLaws
 pub mod OkLaws
@@ -18,6 +19,7 @@ pub mod ReferLaws
 pub mod ReleaseLaws
 pub mod RemoveLaws
 pub mod ReplyLaws
+pub mod RoomyLaws
 pub mod SizeLaws
 pub mod StoreLaws
 pub mod ZeroPages

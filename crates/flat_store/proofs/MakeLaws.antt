@@ -23,7 +23,8 @@ use Rattle.flat_store.specs.Shown.{pages_in}
 use Rattle.flat_store.proofs.GaugeLaws.{counts_more}
 use Rattle.flat_model.proofs.TreeReplies.{parts_are}
 
-no_segment : (ns : List Node) (u : ℕ) → node_in ns u ≡ None → has_segment ns u ≡ false
+-- no segment where there is no node
+pub no_segment : (ns : List Node) (u : ℕ) → node_in ns u ≡ None → has_segment ns u ≡ false
 no_segment [] u e = refl
 no_segment (n ∷ ns) u e = elim (cases_Bool (eqb n.uid u)) [
   | inl is ↦ (let z : Some n ≡ None = rw is at e in cc)

@@ -1,3 +1,4 @@
 pub mod Replies
+pub mod Roomy
 pub mod Shown
 pub mod Zeros

@@ -1,4 +1,5 @@
-ghost use Rattle.std.specs.Prelude.{◌≡◌, nat_le, slice_set};
+ghost use Rattle.std.specs.Prelude.{◌≡◌, ◌-◌, nat_le, slice_set};
+ghost use Rattle.flat_store.specs.Roomy.{drained_by, filled_by, shifted, with_drained, with_filled};
 ghost use Rattle.flat_store.specs.Shown.{gauge_at, is_full, filled, drained};
 
 use std::marker::Model;
@@ -59,6 +60,29 @@ impl Gauge {
     {
         self.used = self.used.saturating_sub(1);
     }
+
+    /// How much is free.
+    pub(crate) fn free(&self) -> u32
+        ensures { result ≡ self.now.most - self.now.used }
+    {
+        self.most - self.used
+    }
+
+    /// So many more are used, unless fewer are free.
+    pub(crate) fn fill_by(&mut self, count: u32)
+        ensures { self.new ≡ filled_by count self.old }
+    {
+        if count <= self.free() {
+            self.used += count;
+        }
+    }
+
+    /// So many less are used, down to none.
+    pub(crate) fn drain_by(&mut self, count: u32)
+        ensures { self.new ≡ drained_by count self.old }
+    {
+        self.used = self.used.saturating_sub(count);
+    }
 }
 
 /// How much is used of the gauge of that number.
@@ -98,4 +122,40 @@ pub(crate) fn drain_at(gauges: &mut Vec<Gauge>, i: u32)
     if let Some(gauge) = gauges.get_mut(i as usize) {
         gauge.drain();
     }
+}
+
+/// How much is free of the gauge of that number; nothing where there is none.
+pub(crate) fn free_at(gauges: &[Gauge], i: u32) -> u32
+    ensures { result ≡ (gauge_at gauges.now i).most - (gauge_at gauges.now i).used }
+{
+    match gauges.get(i as usize) {
+        Some(gauge) => gauge.free(),
+        None => 0,
+    }
+}
+
+/// So many less of the gauge of that number are used.
+fn drain_by(gauges: &mut Vec<Gauge>, i: u32, count: u32)
+    ensures { gauges.new.items ≡ with_drained gauges.old.items i count }
+{
+    if let Some(gauge) = gauges.get_mut(i as usize) {
+        gauge.drain_by(count);
+    }
+}
+
+/// So many more of the gauge of that number are used, unless fewer are free.
+fn fill_by(gauges: &mut Vec<Gauge>, i: u32, count: u32)
+    ensures { gauges.new.items ≡ with_filled gauges.old.items i count }
+{
+    if let Some(gauge) = gauges.get_mut(i as usize) {
+        gauge.fill_by(count);
+    }
+}
+
+/// What so many use of one gauge they use of another from now on, unless fewer are free there.
+pub(crate) fn shift(gauges: &mut Vec<Gauge>, from: u32, to: u32, count: u32)
+    ensures { gauges.new.items ≡ shifted gauges.old.items from to count }
+{
+    drain_by(gauges, from, count);
+    fill_by(gauges, to, count);
 }

@@ -49,7 +49,7 @@ fn is_faulted(processes: &[Progress], process: u32) -> bool
 
 impl FlatStore {
     /// Whether it is a process's turn: where the first process is the initializer, no other runs before it has ended.
-    fn is_turn(&self, script: &Script, process: u32) -> bool
+    pub(crate) fn is_turn(&self, script: &Script, process: u32) -> bool
         ensures { (s : Store) → Shows script.now self.now s → result ≡ is_turn script.now s process }
     {
         !script.initializer() || process == 0 || has_ended(&self.processes, 0)
@@ -93,7 +93,8 @@ impl FlatStore {
 
     /// Whether an entry is lawful in the flat store that is shown: a command that is answered as the flat store answers
     /// it, by a process that has come to it and whose turn it is; a page that is given up when it is all zeros; a
-    /// drive's failure of a process that hasn't ended, or of none where all have; each entry that tells who holds what.
+    /// drive's failure of a process that hasn't ended, or of none where all have; a segment that moves to the first
+    /// volume with room, for a process whose next command lacks a record alone; each entry that tells who holds what.
     pub fn allows(&self, script: &Script, e: Entry) -> bool
         ensures { (store : Store) → Shows script.now self.now store → (IsTrue result ↔ IsLawful script.now store e) }
     {
@@ -106,6 +107,11 @@ impl FlatStore {
             } => self.allows_do(script, process, place, &reply),
             Entry::Release { uid, page } => self.holdings.may_release(uid, page),
             Entry::Fault { process } => self.allows_fault(process),
+            Entry::Moved {
+                process,
+                uid,
+                volume,
+            } => self.allows_moved(script, process, uid, volume),
             _ => true,
         }
     }

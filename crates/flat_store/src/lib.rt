@@ -8,6 +8,7 @@ mod holdings;
 mod judging;
 mod looks;
 mod making;
+mod moving;
 mod numbers;
 mod pages;
 mod progress;

@@ -48,7 +48,7 @@ impl Holdings {
     }
 
     /// Whether a reference brings a word other than 0 into a page that isn't stored.
-    fn stores_page(&self, uid: u32, offset: u32, kind: &RefKind) -> bool
+    pub(crate) fn stores_page(&self, uid: u32, offset: u32, kind: &RefKind) -> bool
         ensures { (p : Plan) (s : Store) → Holds p self.now s → result ≡ stores_page s uid offset kind.now }
     {
         if !kind.alters() {

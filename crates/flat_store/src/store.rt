@@ -311,6 +311,10 @@ impl FlatStore {
                 self.follow_fault(process);
                 Ok(())
             }
+            Entry::Moved { uid, volume, .. } => {
+                self.follow_moved(uid, volume);
+                Ok(())
+            }
             _ => Ok(()),
         }
     }

@@ -2,7 +2,7 @@ use Rattle.std.proofs.Common.{IsTrue, ◌↔◌, refl, sym, subst}
 use Rattle.book.specs.declared.entries.Entry.{Entry}
 use Rattle.flat_model.specs.Legal.{IsLawful}
 use Rattle.flat_store.specs.Shown.{Kept, Shows}
-use Rattle.flat_store.proofs.FollowLaws.{do_allowed, fault_allowed, quiet_lawful, release_allowed}
+use Rattle.flat_store.proofs.FollowLaws.{do_allowed, fault_allowed, moved_allowed, quiet_lawful, release_allowed}
 use Rattle.flat_store.proofs.store.FlatStore.allows.Goals as goal
 
 pub returns-in-Do : goal.returns-in-Do
@@ -24,9 +24,15 @@ returns-in-Fault c = λ s h.
     (fault_allowed c.args.script.now s c.in-Fault.process c.allows_fault.result
     (c.allows_fault.ensures c.args.script.now s h))
 
+pub returns-in-Moved : goal.returns-in-Moved
+returns-in-Moved c = λ s h.
+    subst (λ (e : Entry). IsTrue c.allows_moved.result ↔ IsLawful c.args.script.now s e) (sym c.in-Moved.is)
+    (moved_allowed c.args.script.now s c.in-Moved.process c.in-Moved.uid c.in-Moved.volume c.allows_moved.result
+    (c.allows_moved.ensures s h))
+
 pub returns-in_default : goal.returns-in_default
 returns-in_default c = λ s h. (
   λ is. quiet_lawful c.args.script.now s c.args.e c.in_default.not-Do c.in_default.not-Release
-      c.in_default.not-Fault,
+      c.in_default.not-Fault c.in_default.not-Moved,
   λ lawful. refl,
 )

@@ -5,8 +5,8 @@ use Rattle.flat_model.specs.Commands.{after_command}
 use Rattle.flat_model.specs.Legal.{IsLawful, IsLawfulDo, after_entry}
 use Rattle.flat_model.specs.Store.{Store}
 use Rattle.flat_store.specs.Shown.{Shows}
-use Rattle.flat_store.proofs.FollowLaws.{after_do_is, after_fault_is, after_release_is, do_lawful, fault_lawful}
-use Rattle.flat_store.proofs.FollowLaws.{no_command, quiet, release_lawful}
+use Rattle.flat_store.proofs.FollowLaws.{after_do_is, after_fault_is, after_moved_is, after_release_is}
+use Rattle.flat_store.proofs.FollowLaws.{do_lawful, fault_lawful, moved_lawful, no_command, quiet, release_lawful}
 use Rattle.flat_store.proofs.OkLaws.{on_ok}
 use Rattle.flat_store.proofs.store.FlatStore.follow.Goals as goal
 
@@ -56,9 +56,20 @@ returns-in-Fault-clause-ok c = λ s h lawful.
     (c.follow_fault.ensures p s h
     (fault_lawful p s c.in-Fault.process (subst (λ (e : Entry). IsLawful p s e) c.in-Fault.is lawful))))
 
+pub returns-in-Moved-clause-ok : goal.returns-in-Moved-clause-ok
+returns-in-Moved-clause-ok c = λ s h lawful.
+    let p = c.args.script.now in
+    let k = c.in-Moved.process in
+    subst (λ (e : Entry). Shows p c.follow_moved.new.self (after_entry p s e)) (sym c.in-Moved.is)
+    (subst (λ (t : Store). Shows p c.follow_moved.new.self t) (after_moved_is p s k c.in-Moved.uid c.in-Moved.volume)
+    (c.follow_moved.ensures p s k h
+    (moved_lawful p s k c.in-Moved.uid c.in-Moved.volume
+    (subst (λ (e : Entry). IsLawful p s e) c.in-Moved.is lawful))))
+
 pub returns-in_default : goal.returns-in_default
 returns-in_default c = record {
   ok = λ s h lawful. subst (λ (t : Store). Shows c.args.script.now c.args.self.now t)
-      (quiet c.args.script.now s c.args.e c.in_default.not-Do c.in_default.not-Release c.in_default.not-Fault) h;
+      (quiet c.args.script.now s c.args.e c.in_default.not-Do c.in_default.not-Release c.in_default.not-Fault
+      c.in_default.not-Moved) h;
   err = tt;
 }

@@ -1,0 +1,31 @@
+use Rattle.std.proofs.Common.{ap, sym, ◌∙◌, arith}
+use Rattle.dir_tree.specs.Nodes.{as_term}
+use Rattle.mnames.specs.declared.modes.Mode.{Mode}
+use Rattle.mnames.specs.declared.principals.Who.{Who}
+use Rattle.script.specs.References.{permits}
+use Rattle.tree_model.specs.Access.{access_of}
+use Rattle.tree_model.specs.Tree.{Node, quota_in}
+use Rattle.flat_model.proofs.NodeLaws.{uid_found}
+use Rattle.flat_store.specs.Shown.{Held}
+use Rattle.flat_store.proofs.MoveLaws.{lacks_within}
+use Rattle.flat_store.proofs.NodeLaws.{pages_held}
+use Rattle.flat_store.proofs.ReplyLaws.{node_shown}
+use Rattle.flat_store.proofs.holdings.Holdings.lacks_at.Goals as goal
+
+pub lacks_record-requires : goal.lacks_record-requires
+lacks_record-requires c =
+    pages_held c.self.invariant.0 c.self.invariant.1 c.self.invariant.2 (sym c.self.view_is) c.args.uid
+    (as_term (quota_in c.self.inside.accounts.nodes) c.in-Some.node.now) c.in-Some.node.now.dir c.in-Some.ensures.some
+    c.in-Some.ensures.directory c.in-Some.ensures.segment (omega (arith, c.if-offset-node.false))
+
+pub returns : goal.returns
+returns c = λ p s k h who.
+    let n : Node = as_term (quota_in s.nodes) c.in-Some.node.now in
+    let found = node_shown s c.self.inside.accounts.nodes c.args.uid c.in-Some.node.now
+    (h.nodes ∙ ap (λ (x : Held). x.accounts.nodes) (sym c.self.view_is)) c.in-Some.ensures.some in
+    lacks_within p s k c.args.uid c.args.offset c.args.kind.now n c.lacks_record.result found
+    (uid_found s.nodes c.args.uid n found)
+    (ap (λ (w : Who). permits (access_of w c.in-Some.node.now.acl) c.args.kind.now) (sym who)
+    ∙ ap (λ (m : Mode). permits m c.args.kind.now) (sym c.access_of.ensures) ∙ sym c.permitted_by.ensures
+    ∙ c.if-not-permitted_by.false)
+    c.if-offset-node.false (c.lacks_record.ensures p s h)

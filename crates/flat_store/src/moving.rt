@@ -1,0 +1,191 @@
+//! Whether a segment whose volume has no free record may move to another volume, and the move (Organick 1972).
+
+ghost use Rattle.std.specs.Prelude.{◌≡◌, ◌↔◌, ◌<◌, ◌&&◌, ℕ, IsTrue, Some, length, not, true};
+ghost use Rattle.std.specs.Bool.{Decides};
+ghost use Rattle.script.specs.Plans.{Plan, who_of};
+ghost use Rattle.tree_model.specs.Tree.{node_in, volume_in};
+ghost use Rattle.tree_model.specs.Trees.{has_segment};
+ghost use Rattle.accounts.specs.Maps.{count_of};
+ghost use Rattle.flat_model.specs.Moves.{MayMove, awaits_by, awaits_move, has_room, lacks_at, moved, room_for};
+ghost use Rattle.flat_model.specs.References.{is_used_up, is_volume_full, stores_page};
+ghost use Rattle.flat_model.specs.Store.{Store};
+ghost use Rattle.flat_store.specs.Roomy.{IsLeast, is_roomy};
+ghost use Rattle.flat_store.specs.Shown.{Holds, IsShown, Shows};
+
+use crate::gauges::{Gauge, free_at, is_full_at, shift};
+use crate::holdings::Holdings;
+use crate::judging::{has_ended, place_of};
+use crate::numbers::uid_of;
+use crate::store::{FlatStore, command_at};
+use accounts::Accounts;
+use mnames::Who;
+use mword::Page;
+use script::{RefKind, Reference, Script};
+use tree_commands::volume_of;
+
+/// Whether a uid is that of a segment.
+#[tactic(auto, using(crate::proofs::MakeLaws::no_segment))]
+fn has_segment(accounts: &Accounts, uid: u32) -> bool
+    ensures { result ≡ has_segment accounts.now.nodes uid }
+{
+    match accounts.node(uid) {
+        Some(node) => !node.dir,
+        None => false,
+    }
+}
+
+/// How many pages of a segment are stored; 0 where there is no segment.
+#[tactic(auto, using(crate::proofs::RoomyLaws::none_counted))]
+fn stored_of(accounts: &Accounts, uid: u32) -> u32
+    ensures { result ≡ count_of accounts.now uid }
+{
+    accounts.promise();
+    if has_segment(accounts, uid) {
+        accounts.stored(uid)
+    } else {
+        0
+    }
+}
+
+/// Whether a volume other than a segment's own has more free records than so many pages, and a free VTOC entry.
+#[tactic(auto, using(crate::proofs::RoomyLaws::some_free))]
+fn is_roomy(records: &[Gauge], entries: &[Gauge], own: u32, pages: u32, volume: u32) -> bool
+    ensures { result ≡ is_roomy records.now entries.now own pages volume }
+{
+    volume != own && pages < free_at(records, volume) && 0 < free_at(entries, volume)
+}
+
+/// Whether a volume is the first that is roomy.
+fn is_first_roomy(records: &[Gauge], entries: &[Gauge], own: u32, pages: u32, volume: u32) -> bool
+    ensures { Decides result (IsLeast (is_roomy records.now entries.now own pages) volume) }
+{
+    if !is_roomy(records, entries, own, pages, volume) {
+        return false;
+    }
+    for other in 0..volume {
+        if is_roomy(records, entries, own, pages, other) {
+            return false;
+        }
+    }
+    true
+}
+
+impl Holdings {
+    /// Whether a volume is the first that has room for a segment. It looks at no volume past it.
+    fn is_first_room(&self, uid: u32, volume: u32) -> bool
+        ensures { (p : Plan) (s : Store) → Holds p self.now s → (IsTrue result ↔ room_for p s uid ≡ Some volume) }
+    {
+        let own = volume_of(&self.accounts, uid);
+        let pages = stored_of(&self.accounts, uid);
+        is_first_roomy(&self.records, &self.entries, own, pages, volume)
+    }
+
+    /// Whether a reference within a segment is refused for nothing but that its volume has no free record.
+    fn lacks_record(&self, uid: u32, volume: u32, offset: u32, kind: &RefKind) -> bool
+        requires { has_segment self.now.accounts.nodes uid ≡ true }
+        ensures { (p : Plan) (s : Store) → Holds p self.now s
+            → result ≡ (stores_page s uid offset kind.now && (not (is_used_up s uid) && is_volume_full p s volume)) }
+    {
+        self.stores_page(uid, offset, kind)
+            && (self.accounts.may_charge(uid).is_ok() && is_full_at(&self.records, volume))
+    }
+
+    /// Whether a principal's reference to a segment is refused for nothing but that its volume has no free record.
+    fn lacks_at(&self, who: &Who, uid: u32, offset: u32, kind: &RefKind) -> bool
+        ensures { (p : Plan) (s : Store) (k : ℕ) → Holds p self.now s → who.now ≡ who_of p k
+            → result ≡ lacks_at p s k offset kind.now (node_in s.nodes uid) }
+    {
+        let Some(node) = self.accounts.node(uid) else {
+            return false;
+        };
+        if !kind.permitted_by(node.acl.access_of(who)) {
+            return false;
+        }
+        if offset / Page::WORDS >= node.length {
+            return false;
+        }
+        self.lacks_record(uid, node.volume, offset, kind)
+    }
+
+    /// A segment has its home on another volume from now on, which is roomy. VTOC entries are only counted.
+    fn take_home(&mut self, uid: u32, own: u32, pages: u32, volume: u32)
+        requires segment { has_segment self.old.accounts.nodes uid ≡ true }
+        requires own { own ≡ volume_in self.old.accounts.nodes uid }
+        requires pages { pages ≡ count_of self.old.accounts uid }
+        requires roomy { is_roomy self.old.records self.old.entries own pages volume ≡ true }
+        ensures { (p : Plan) (s : Store) → Holds p self.old s → Holds p self.new (moved s uid volume) }
+    {
+        self.accounts.promise();
+        self.accounts.set_home(uid, volume, 0);
+        shift(&mut self.records, own, volume, pages);
+        shift(&mut self.entries, own, volume, 1);
+    }
+
+    /// A segment moves to another volume, unless that has no room for it.
+    fn rehome(&mut self, uid: u32, volume: u32)
+        ensures { (p : Plan) (s : Store) → Holds p self.old s → has_segment s.nodes uid ≡ true
+            → has_room p s uid volume ≡ true → Holds p self.new (moved s uid volume) }
+    {
+        let own = volume_of(&self.accounts, uid);
+        let pages = stored_of(&self.accounts, uid);
+        if has_segment(&self.accounts, uid)
+            && is_roomy(&self.records, &self.entries, own, pages, volume)
+        {
+            self.take_home(uid, own, pages, volume);
+        }
+    }
+}
+
+impl FlatStore {
+    /// Whether a process's reference is to this segment, and is refused for nothing but that its volume has no free
+    /// record.
+    fn awaits_by(&self, script: &Script, process: u32, uid: u32, reference: &Reference) -> bool
+        requires { process < length script.now.processes }
+        ensures { (s : Store) → IsShown script.now self.now s
+            → result ≡ awaits_by script.now s process uid (Some reference.now) }
+    {
+        let who = script.who(process);
+        match uid_of(&self.known, process, reference.number) {
+            Some(known) => {
+                known == uid
+                    && self
+                        .holdings
+                        .lacks_at(who, uid, reference.offset, &reference.kind)
+            }
+            None => false,
+        }
+    }
+
+    /// Whether the next command of a process writes to a segment, and lacks a record of its volume alone.
+    fn awaits_move(&self, script: &Script, process: u32, uid: u32) -> bool
+        ensures { (s : Store) → IsShown script.now self.now s → result ≡ awaits_move script.now s process uid }
+    {
+        let place = place_of(&self.processes, process);
+        let Some(command) = command_at(script, process, place) else {
+            return false;
+        };
+        match command.reference() {
+            Some(reference) => self.awaits_by(script, process, uid, &reference),
+            None => false,
+        }
+    }
+
+    /// Whether a segment may move to a volume for a process.
+    pub(crate) fn allows_moved(&self, script: &Script, process: u32, uid: u32, volume: u32) -> bool
+        ensures { (s : Store) → Shows script.now self.now s
+            → (IsTrue result ↔ MayMove script.now s process uid volume) }
+    {
+        if !self.is_turn(script, process) || has_ended(&self.processes, process) {
+            return false;
+        }
+        self.awaits_move(script, process, uid) && self.holdings.is_first_room(uid, volume)
+    }
+
+    /// A segment moved to a volume for a process.
+    pub(crate) fn follow_moved(&mut self, uid: u32, volume: u32)
+        ensures { (p : Plan) (s : Store) (k : ℕ) → Shows p self.old s → MayMove p s k uid volume
+            → Shows p self.new (moved s uid volume) }
+    {
+        self.holdings.rehome(uid, volume);
+    }
+}
