@@ -13,7 +13,7 @@ use Rattle.flat_model.specs.Pages.{Words, is_stored, without_stored, IsOnce}
 use Rattle.flat_model.specs.Store.{Store, records_of}
 use Rattle.flat_model.proofs.PageLaws.{is_stored-without, once_without}
 use Rattle.flat_model.proofs.CountLaws.{count_some, count_without, counted_less}
-use Rattle.flat_model.proofs.DropLaws.{IsBlank, all_between, between, flip_page, more_between, none_between}
+use Rattle.flat_model.proofs.DropLaws.{IsBlank, all_between, between, flip_page}
 use Rattle.flat_model.proofs.DropLaws.{none_missing}
 use Rattle.flat_store.specs.Shown.{Gauge, gauge_at, drained, Paged, page_at, word_in, Puts, Held, pages_in, HoldPages}
 use Rattle.flat_model.specs.Cuts.{without_pages}
@@ -100,10 +100,10 @@ taken_less nodes xs u q once on v = count_without (λ x. eqb (volume_in nodes x.
 pub records_dropped : (gauges : List Gauge) (most : ℕ → ℕ) (nodes : List Node) (xs : List (ℕ × ℕ)) (u q : ℕ) → IsOnce xs
     → is_stored xs u q ≡ true
     → ((v : ℕ) → gauge_at gauges v ≡ record { used = taken_on nodes xs v; most = most v })
-    → (v : ℕ) → gauge_at (set gauges (volume_in nodes u) (drained (gauge_at gauges (volume_in nodes u)))) v ≡
+    → (v : ℕ) → gauge_at (set gauges (volume_in nodes u) (drained 1 (gauge_at gauges (volume_in nodes u)))) v ≡
     record { used = taken_on nodes (without_stored xs u (λ r. eqb r q)) v; most = most v }
 records_dropped gauges most nodes xs u q once on are =
-    counts_less gauges (λ v. taken_on nodes xs v) (λ v. taken_on nodes (without_stored xs u (λ r. eqb r q)) v) most
+    counts_less gauges (λ v. taken_on nodes xs v) (λ v. taken_on nodes (without_stored xs u (λ r. eqb r q)) v) most 1
     (volume_in nodes u) are
     (taken_less nodes xs u q once on)
 
@@ -112,7 +112,7 @@ pub record Drops (h k : Held) (u q : ℕ) : Type 0 where
   pub accounts : Recounts h.accounts k.accounts u (count_of h.accounts u - 1)
   pub pages : Puts h.pages k.pages u q None
   pub records : k.records ≡ set h.records (volume_in h.accounts.nodes u)
-      (drained (gauge_at h.records (volume_in h.accounts.nodes u)))
+      (drained 1 (gauge_at h.records (volume_in h.accounts.nodes u)))
   pub entries : k.entries ≡ h.entries
 
 -- what is held with these pages, where entries of the VTOC stay
@@ -122,11 +122,11 @@ with_pages h accounts pages records = record h { accounts = accounts; pages = pa
 pub drop_done : (h k : Held) (u q v : ℕ) → Recounts h.accounts k.accounts u (count_of h.accounts u - 1)
     → Puts h.pages k.pages u q None
     → v ≡ volume_in h.accounts.nodes u
-    → k.records ≡ set h.records v (drained (gauge_at h.records v)) → k.entries ≡ h.entries → Drops h k u q
+    → k.records ≡ set h.records v (drained 1 (gauge_at h.records v)) → k.entries ≡ h.entries → Drops h k u q
 drop_done h k u q v counts put at less same = record {
   accounts = counts;
   pages = put;
-  records = less ∙ ap (λ (x : ℕ). set h.records x (drained (gauge_at h.records x))) at;
+  records = less ∙ ap (λ (x : ℕ). set h.records x (drained 1 (gauge_at h.records x))) at;
   entries = same;
 }
 
@@ -144,7 +144,7 @@ drop_shown p s h k u q holds there drops =
       inside = inside_without s.nodes s.stored u (λ r. eqb r q) holds.inside;
       flat = holds.flat;
       records = λ v. ap (λ (g : List Gauge). gauge_at g v) (drops.records
-          ∙ ap (λ (ns : List Node). set h.records (volume_in ns u) (drained (gauge_at h.records (volume_in ns u))))
+          ∙ ap (λ (ns : List Node). set h.records (volume_in ns u) (drained 1 (gauge_at h.records (volume_in ns u))))
           (sym holds.nodes))
           ∙ records_dropped h.records (records_of p) s.nodes s.stored u q once on holds.records v;
       entries = λ v. ap (λ (g : List Gauge). gauge_at g v) drops.entries ∙ holds.entries v;
@@ -169,18 +169,7 @@ pub missing : (p : Plan) (s : Store) (h : Held) (u q : ℕ) → Holds p h s → 
 missing p s h u q holds off = subst (λ (x : Store). Holds p h x)
     (sym (none_missing s u q (blank_held p s h holds) (holds.pages.there u q ∙ off))) holds
 
--- ---- the pages from one on, one after the other
-
-pub first_none : (p : Plan) (s : Store) (h : Held) (u from : ℕ) → Holds p h s
-    → Holds p h (without_pages s u (between from from))
-first_none p s h u from holds = subst (λ (x : Store). Holds p h x)
-    (sym (none_between s u from (blank_held p s h holds))) holds
-
-pub one_more : (p : Plan) (s : Store) (h : Held) (u from page : ℕ) → from ≤ page
-    → Holds p h (without_pages (without_pages s u (between from page)) u (λ q. eqb q page))
-    → Holds p h (without_pages s u (between from (page + 1)))
-one_more p s h u from page le holds = subst (λ (x : Store). Holds p h x) (more_between s u from page le) holds
-
+-- the pages from one on, where those up to the length of the segment are stored no more
 pub all_done : (p : Plan) (s : Store) (g h : Held) (u from page : ℕ) → Holds p g s → pages_in g.accounts.nodes u ≤ page
     → Holds p h (without_pages s u (between from page))
     → Holds p h (without_pages s u (λ q. nat_le from q))

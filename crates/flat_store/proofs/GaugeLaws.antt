@@ -22,33 +22,36 @@ set_here f d (x ∷ xs) (suc i) (suc j) same = set_here f d xs i j same
     both : (i j : ℕ) → eqb j i ≡ eqb (suc j) (suc i)
     both i j = grind (arith, nat_tests)
 
--- one less at a number, also where there is no gauge
-pub drained_at : (gauges : List Gauge) (i j : ℕ)
-    → gauge_at (set gauges i (drained (gauge_at gauges i))) j
-    ≡ cond (eqb j i) (drained (gauge_at gauges i)) (gauge_at gauges j)
-drained_at gauges i j = set_here drained (record { used = 0; most = 0 }) gauges i j refl
+abbrev pub gauge : ℕ → ℕ → Gauge
+gauge used most = record { used = used; most = most }
+
+-- so much less at a number, also where there is no gauge
+pub drained_at : (gauges : List Gauge) (n i j : ℕ)
+    → gauge_at (set gauges i (drained n (gauge_at gauges i))) j
+    ≡ cond (eqb j i) (drained n (gauge_at gauges i)) (gauge_at gauges j)
+drained_at gauges n i j = set_here (drained n) (gauge 0 0) gauges i j nothing
+  where
+    nothing : drained n (gauge 0 0) ≡ gauge 0 0
+    nothing = ap (λ (m : ℕ). gauge m 0) (omega arith)
 
 pub filled_at : (gauges : List Gauge) (i j : ℕ)
     → gauge_at (set gauges i (filled (gauge_at gauges i))) j
     ≡ cond (eqb j i) (filled (gauge_at gauges i)) (gauge_at gauges j)
 filled_at gauges i j = set_here filled (record { used = 0; most = 0 }) gauges i j refl
 
-abbrev pub gauge : ℕ → ℕ → Gauge
-gauge used most = record { used = used; most = most }
-
--- a gauge that counts what one more or less of changes
-pub counts_less : (gauges : List Gauge) (old new most : ℕ → ℕ) (i : ℕ)
+-- a gauge that counts what so much less, or one more, of changes
+pub counts_less : (gauges : List Gauge) (old new most : ℕ → ℕ) (n i : ℕ)
     → ((v : ℕ) → gauge_at gauges v ≡ gauge (old v) (most v))
-    → ((v : ℕ) → new v + cond {A = ℕ} (eqb i v) 1 0 ≡ old v)
-    → (v : ℕ) → gauge_at (set gauges i (drained (gauge_at gauges i))) v ≡ gauge (new v) (most v)
-counts_less gauges old new most i are less v = drained_at gauges i v ∙ elim (cases_eq i v) [
+    → ((v : ℕ) → new v + cond {A = ℕ} (eqb i v) n 0 ≡ old v)
+    → (v : ℕ) → gauge_at (set gauges i (drained n (gauge_at gauges i))) v ≡ gauge (new v) (most v)
+counts_less gauges old new most n i are less v = drained_at gauges n i v ∙ elim (cases_eq i v) [
   | inl same ↦
       (let here : eqb v i ≡ true = grind (arith, nat_tests) in
       let own : eqb i v ≡ true = grind (arith, nat_tests) in
-      let down : new v + 1 ≡ old v = rw own at (less v) in
-      let one : old v - 1 ≡ new v = omega (arith, down) in
-      rw here (ap (λ (j : ℕ). drained (gauge_at gauges j)) same ∙ ap drained (are v)
-      ∙ ap (λ (n : ℕ). gauge n (most v)) one))
+      let down : new v + n ≡ old v = rw own at (less v) in
+      let left : old v - n ≡ new v = omega (arith, down) in
+      rw here (ap (λ (j : ℕ). drained n (gauge_at gauges j)) same ∙ ap (drained n) (are v)
+      ∙ ap (λ (m : ℕ). gauge m (most v)) left))
   | inr other ↦
       (let here : eqb v i ≡ false = grind (arith, nat_tests) in
       let own : eqb i v ≡ false = grind (arith, nat_tests) in

@@ -4,6 +4,7 @@ pub mod CodeLaws
 pub mod CutLaws
 pub mod DropLaws
 pub mod EffectLaws
+pub mod ExtractLaws
 pub mod FollowLaws
 pub mod GaugeLaws
 pub mod MakeLaws
@@ -11,8 +12,10 @@ pub mod MoveLaws
 pub mod NodeLaws
 pub mod NumberLaws
 pub mod OkLaws
+pub mod OrderLaws
 pub mod OtherLaws
 pub mod PagedLaws
+pub mod PassLaws
 pub mod PutLaws
 pub mod ReachLaws
 pub mod ReferLaws
@@ -20,6 +23,7 @@ pub mod ReleaseLaws
 pub mod RemoveLaws
 pub mod ReplyLaws
 pub mod RoomyLaws
+pub mod ShedLaws
 pub mod SizeLaws
 pub mod StoreLaws
 pub mod ZeroPages

@@ -64,7 +64,7 @@ no_count p s h u holds none = holds.counts u ∙ none_counted s.stored u (none_s
 
 pub removed_shown : (p : Plan) (s : Store) (h k : Held) (u v : ℕ) → Holds p h s → Loses h.accounts k.accounts u
     → k ≡ record h { accounts = k.accounts; entries = k.entries }
-    → k.entries ≡ set h.entries v (drained (gauge_at h.entries v)) → v ≡ volume_in h.accounts.nodes u
+    → k.entries ≡ set h.entries v (drained 1 (gauge_at h.entries v)) → v ≡ volume_in h.accounts.nodes u
     → IsTree h.accounts.nodes
     → is_some (node_in h.accounts.nodes u) ≡ true
     → ((page : ℕ) → is_some (page_at h.pages u page) ≡ false) → Holds p k (record s { nodes = without_node s.nodes u })
@@ -84,9 +84,9 @@ removed_shown p s h k u v holds loses same less place tree there none =
       records = λ x. holds.records x
           ∙ ap (λ (n : ℕ). record { used = n; most = records_of p x }) (sym (taken_left s.nodes s.stored u x unstored));
       entries = λ x. ap (λ (g : List Gauge). gauge_at g x) (less
-          ∙ ap (λ (y : ℕ). set h.entries y (drained (gauge_at h.entries y))) at)
+          ∙ ap (λ (y : ℕ). set h.entries y (drained 1 (gauge_at h.entries y))) at)
           ∙ counts_less h.entries (λ y. entries_on s.nodes y) (λ y. entries_on (without_node s.nodes u) y)
-          (entries_of p) found.0.volume holds.entries
+          (entries_of p) 1 found.0.volume holds.entries
           (entries_less s.nodes u found.0 shape own) x;
     })
 

@@ -1,7 +1,7 @@
 -- What the program of the flat store keeps, and which flat store that shows (own).
 use Rattle.std.specs.Prelude.{sum_by, ◌≡◌, ◌≢◌, ◌<◌, ◌≤◌, ℕ, ◌+◌, ◌/◌, ◌%◌, Bool, true, false, ◌==◌}
 use Rattle.std.specs.Prelude.{if◌then◌else◌, is_some, length, replicate, ◌-◌, slice_index_or, List, [], ◌∷◌}
-use Rattle.std.specs.Prelude.{◌&&◌, ◌||◌, not, Option, Some, None, Result, Ok, Err}
+use Rattle.std.specs.Prelude.{◌&&◌, ◌||◌, not, count_by, Option, Some, None, Result, Ok, Err}
 use Rattle.std.specs.Ordering.{nat_cmp, ordering_then}
 use Rattle.std.specs.Map.{lookup}
 use Rattle.std.specs.BTreeMap.{is_at}
@@ -33,12 +33,12 @@ gauge_at gauges v = slice_index_or gauges v (record { used = 0; most = 0 })
 abbrev pub is_full : Gauge → Bool
 is_full g = g.used == g.most
 
--- one more, unless all is used; one less
+-- one more, unless all is used; so much less
 abbrev pub filled : Gauge → Gauge
 filled g = if g.used == g.most then g else record { used = g.used + 1; most = g.most }
 
-abbrev pub drained : Gauge → Gauge
-drained g = record { used = g.used - 1; most = g.most }
+abbrev pub drained : ℕ → Gauge → Gauge
+drained n g = record { used = g.used - n; most = g.most }
 
 -- The words of each stored page, by the uid of its segment and its number there.
 abbrev pub Paged : Type 0
@@ -64,6 +64,12 @@ words_in (Some words) = words
 -- the words of a page are others from now on, or it isn't there any more; all other pages are as they were
 pub record Puts (old new : Paged) (uid page : ℕ) (words : Option (List ℕ)) : Type 0 where
   pub at : (u q : ℕ) → page_at new u q ≡ (if is_page u q (uid, page) then words else page_at old u q)
+
+-- the pages of a segment that pass a test are gone, so many of those that are stored; all others are as they were
+pub record Sheds (old new : Paged) (uid : ℕ) (test : ℕ → Bool) (count : ℕ) : Type 0 where
+  pub at : (u q : ℕ) → page_at new u q ≡ (if u == uid && test q then None else page_at old u q)
+  pub counted : (stored : List (ℕ × ℕ)) → IsOnce stored → ((u q : ℕ) → is_stored stored u q ≡ is_some (page_at old u q))
+      → count ≡ count_by (λ x. x.0 == uid && test x.1) stored
 
 abbrev pub Cuts : Paged → Paged → ℕ → ℕ → ℕ → List ℕ → Type 0
 Cuts old new uid page at words = Puts old new uid page (Some (cut_at at words))

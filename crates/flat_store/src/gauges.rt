@@ -54,11 +54,11 @@ impl Gauge {
         }
     }
 
-    /// One less is used, unless none is.
-    pub(crate) fn drain(&mut self)
-        ensures { self.new ≡ drained self.old }
+    /// So much less is used, down to nothing.
+    pub(crate) fn drain(&mut self, count: u32)
+        ensures { self.new ≡ drained count self.old }
     {
-        self.used = self.used.saturating_sub(1);
+        self.used = self.used.saturating_sub(count);
     }
 
     /// How much is free.
@@ -115,12 +115,12 @@ pub(crate) fn fill_at(gauges: &mut Vec<Gauge>, i: u32)
     }
 }
 
-/// One less of the gauge of that number is used.
-pub(crate) fn drain_at(gauges: &mut Vec<Gauge>, i: u32)
-    ensures { gauges.new.items ≡ slice_set gauges.old.items i (drained (gauge_at gauges.old.items i)) }
+/// So much less of the gauge of that number is used.
+pub(crate) fn drain_at(gauges: &mut Vec<Gauge>, i: u32, count: u32)
+    ensures { gauges.new.items ≡ slice_set gauges.old.items i (drained count (gauge_at gauges.old.items i)) }
 {
     if let Some(gauge) = gauges.get_mut(i as usize) {
-        gauge.drain();
+        gauge.drain(count);
     }
 }
 

@@ -68,7 +68,7 @@ impl Holdings {
             let volume = volume_of(&self.accounts, uid);
             self.pages.remove(uid, page);
             self.accounts.credit(uid, 1);
-            drain_at(&mut self.records, volume);
+            drain_at(&mut self.records, volume, 1);
         }
     }
 
@@ -77,8 +77,12 @@ impl Holdings {
         ensures { (p : Plan) (s : Store) → Holds p self.old s
             → Holds p self.new (without_pages s uid (λ q. nat_le from q)) }
     {
-        for page in from..pages_of(&self.accounts, uid) {
-            self.drop_page(uid, page);
+        let end = pages_of(&self.accounts, uid);
+        let pages = self.pages.remove_between(uid, from, end);
+        if pages > 0 {
+            let volume = volume_of(&self.accounts, uid);
+            self.accounts.credit(uid, pages);
+            drain_at(&mut self.records, volume, pages);
         }
     }
 }

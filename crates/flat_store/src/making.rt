@@ -87,7 +87,7 @@ impl Holdings {
         self.accounts.promise();
         let volume = volume_of(&self.accounts, uid);
         self.accounts.remove(uid);
-        drain_at(&mut self.entries, volume);
+        drain_at(&mut self.entries, volume, 1);
     }
 
     /// The uid of the directory or the segment that a path leads to, where it may be deleted.

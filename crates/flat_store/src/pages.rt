@@ -1,9 +1,10 @@
 ghost use Rattle.std.specs.Prelude.{◌≡◌, ◌<◌, ◌≤◌, ◌↔◌, List, [], ℕ, false};
 ghost use Rattle.std.specs.Prelude.{Some, None, IfSome, IfNone, OnOk, OnErr, IsTrue, replicate, slice_set, is_some};
+ghost use Rattle.std.specs.Prelude.{◌&&◌, IsSome, nat_le, nat_lt};
 ghost use Rattle.mword.specs.Words.{AreZero};
 ghost use Rattle.std.specs.Bool.{Decides};
 ghost use Rattle.flat_model.specs.Cuts.{cut_at};
-ghost use Rattle.flat_store.specs.Shown.{page_at, words_in, Puts, Cuts};
+ghost use Rattle.flat_store.specs.Shown.{page_at, words_in, Puts, Cuts, Sheds};
 ghost use Rattle.flat_store.specs.Zeros.{KeepsZeroPage};
 
 use crate::NoMemory;
@@ -54,6 +55,16 @@ impl Pages {
         self.get(uid, page).is_some()
     }
 
+    /// Whether a page of a segment is stored from one on.
+    pub(crate) fn has_from(&self, uid: u32, from: u32) -> bool
+        ensures { Decides result ((q : ℕ) × (from ≤ q) × IsSome (page_at self.now uid q)) }
+    {
+        match self.pages.range((uid, from)..).next() {
+            Some((key, _)) => key.0 == uid,
+            None => false,
+        }
+    }
+
     /// Whether a page is all zeros. It looks at each page up to the first such one, and there up to the first word that
     /// isn't 0.
     #[tactic(auto, using(crate::proofs::ZeroPages::has_zero_page_steps, std::proofs::lemmas::Grind::common_steps))]
@@ -73,6 +84,16 @@ impl Pages {
         ensures { Puts self.old self.new uid page None }
     {
         self.pages.remove(&(uid, page));
+    }
+
+    /// The pages of a segment from one on and below an end are stored no more. How many they were. It searches for the
+    /// first of them, and goes on from there to each.
+    pub(crate) fn remove_between(&mut self, uid: u32, from: u32, end: u32) -> u32
+        ensures { Sheds self.old self.new uid (λ q. nat_le from q && nat_lt q end) result }
+    {
+        let before = self.pages.len();
+        for _ in self.pages.extract_if((uid, from)..(uid, end), |_, _| true) {}
+        (before - self.pages.len()) as u32
     }
 
     /// Writes a word into a page, which is stored from then on.

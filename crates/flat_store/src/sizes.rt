@@ -7,7 +7,7 @@ ghost use Rattle.flat_model.specs.Store.{Store};
 ghost use Rattle.flat_model.specs.Cuts.{cleared, cut_once, has_cleared};
 ghost use Rattle.flat_store.specs.Shown.{Holds};
 
-use crate::holdings::{Holdings, pages_of};
+use crate::holdings::Holdings;
 use book::Reply;
 use mnames::Path;
 use mword::Page;
@@ -18,12 +18,7 @@ impl Holdings {
     fn is_stored_from(&self, uid: u32, from: u32) -> bool
         ensures { (p : Plan) (s : Store) → Holds p self.now s → result ≡ is_stored_from s.stored uid from }
     {
-        for page in from..pages_of(&self.accounts, uid) {
-            if self.pages.has(uid, page) {
-                return true;
-            }
-        }
-        false
+        self.pages.has_from(uid, from)
     }
 
     /// What the change of a segment's length is answered.

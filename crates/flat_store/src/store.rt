@@ -34,9 +34,8 @@ use tree_commands::{
 ///
 /// Contracts speak of the flat store that it shows for a script (`Shows`). A page takes its 8 KiB only while it is
 /// stored. A look costs a few searches in ordered lists, but for these: the reply to `initiate` looks at each number of
-/// its process, that to `length` searches for each page past the new length, that to `move` may look at each node, and
-/// `has_zero_page` looks at each stored page. To follow a `truncate` or a `delete` costs a search for each page that the
-/// segment may have past the cut.
+/// its process, that to `move` may look at each node, and `has_zero_page` looks at each stored page. To follow a
+/// `truncate` or a `delete` costs a few searches too, and a step for each stored page past the cut.
 #[derive(Drop)]
 pub struct FlatStore {
     pub(crate) holdings: Holdings,

@@ -1,0 +1,206 @@
+-- Keys of two numbers in the order of a map: which lie in a range, and what the first one from a key on tells.
+use Rattle.std.proofs.Common.{◌≡◌, ◌<◌, ◌≤◌, ◌⊎◌, ℕ, suc, Bool, true, false, not, cond, eqb, leb, ltb}
+use Rattle.std.proofs.Common.{◌&&◌, ◌||◌, List, [], ◌∷◌}
+use Rattle.std.proofs.Common.{Option, Some, None, is_some, refl, sym, ap, subst, ◌∙◌, arith, inl, inr, IsSome}
+use Rattle.std.specs.Bool.{Decides}
+use Rattle.std.specs.BTreeMap.{BTreeMap, get}
+use Rattle.std.specs.BTreeMap.Range.{IsLeBy, IsRangeOf, range_contains}
+use Rattle.std.specs.List.{AllByRecursion, slice_get}
+use Rattle.std.specs.List.Sorted.{IsStrictlySortedBy}
+use Rattle.std.specs.Map.{keys_of, lookup}
+use Rattle.std.specs.Option.{IfSome}
+use Rattle.std.specs.Ordering.{is_eq, is_gt, is_le, nat_cmp, ordering_then}
+use Rattle.std.specs.declared.cmp.Ordering.{Ordering}
+use Rattle.std.specs.declared.cmp.Ordering.TheVariants.{Less, Equal, Greater}
+use Rattle.std.specs.declared.ops.Bound.TheVariants.{Included, Excluded, Unbounded}
+use Rattle.std.proofs.lemmas.Bool.Decides.{Decides-eqb, eqb_tells, leb_tells, nat_tests}
+use Rattle.std.proofs.lemmas.Map.Keys.{sorted_head, sorted_tail}
+use Rattle.flat_model.proofs.DropLaws.{flip_page}
+use Rattle.flat_model.proofs.KeyLaws.{key_is}
+use Rattle.flat_model.specs.Pages.{is_page, is_stored, IsOnce}
+use Rattle.flat_store.specs.Shown.{Paged, is_key, page_at}
+
+abbrev pub by_both : ℕ × ℕ → ℕ × ℕ → Ordering
+by_both x y = ordering_then (nat_cmp x.0 y.0) (nat_cmp x.1 y.1)
+
+compare : (a b : ℕ)
+    → ((nat_cmp a b ≡ Less) × (a < b)) ⊎ (((nat_cmp a b ≡ Equal) × (a ≡ b)) ⊎ ((nat_cmp a b ≡ Greater) × (b < a)))
+compare a b = elim (leb_tells (suc a) b) [
+  | inl l ↦ inl (ap (λ (t : Bool). cond t Less (cond (eqb a b) Equal Greater)) l.0, l.1)
+  | inr m ↦ inr (elim (eqb_tells a b) [
+    | inl e ↦ inl (
+      ap (λ (t : Bool). cond t Less (cond (eqb a b) Equal Greater)) m.0
+          ∙ ap (λ (t : Bool). cond t Equal Greater) e.0,
+      e.1,
+    )
+    | inr e ↦ inr (
+      ap (λ (t : Bool). cond t Less (cond (eqb a b) Equal Greater)) m.0
+          ∙ ap (λ (t : Bool). cond t Equal Greater) e.0,
+      past m.1 e.1,
+    )
+  ])
+]
+  where
+    past : b < suc a → (a ≡ b → ⊥) → b < a
+    past le apart = elim (leb_tells (suc b) a) [
+      | inl l ↦ l.1
+      | inr m ↦ (let other = m.1 in let same : a ≡ b = omega (arith, le, other) in absurd (apart same))
+    ]
+
+-- ---- a range of pages of one segment
+
+le_is : (a b : ℕ) → is_le (nat_cmp a b) ≡ leb a b
+le_is a b = elim (compare a b) [
+  | inl l ↦ (let less = l.1 in let e : leb a b ≡ true = grind (arith, nat_tests) in ap is_le l.0 ∙ sym e)
+  | inr m ↦ elim m [
+    | inl s ↦ (let same = s.1 in let e : leb a b ≡ true = grind (arith, nat_tests) in ap is_le s.0 ∙ sym e)
+    | inr g ↦ (let more = g.1 in let e : leb a b ≡ false = grind (arith, nat_tests) in ap is_le g.0 ∙ sym e)
+  ]
+]
+
+-- a key in the range from one page of a segment on, below another
+pub in_range : (u from end : ℕ) (k : ℕ × ℕ) → range_contains by_both (Included (u, from)) (Excluded (u, end)) k
+    ≡ (eqb k.0 u && (leb from k.1 && ltb k.1 end))
+in_range u from end k = elim (compare u k.0) [
+  | inl l ↦
+      (let less = l.1 in let e : eqb k.0 u ≡ false = grind (arith, nat_tests) in
+      ap (λ o. is_le (ordering_then o (nat_cmp from k.1)) && not (is_le (ordering_then o (nat_cmp end k.1)))) l.0
+      ∙ sym (ap (λ z. z && (leb from k.1 && ltb k.1 end)) e))
+  | inr m ↦ elim m [
+    | inl s ↦
+        (let same = s.1 in let e : eqb k.0 u ≡ true = grind (arith, nat_tests) in
+        let below : not (leb end k.1) ≡ ltb k.1 end = grind (arith, nat_tests) in
+        ap (λ o. is_le (ordering_then o (nat_cmp from k.1)) && not (is_le (ordering_then o (nat_cmp end k.1)))) s.0
+        ∙ ap (λ z. z && not (is_le (nat_cmp end k.1))) (le_is from k.1)
+        ∙ ap (λ z. leb from k.1 && not z) (le_is end k.1)
+        ∙ ap (λ z. leb from k.1 && z) below
+        ∙ sym (ap (λ z. z && (leb from k.1 && ltb k.1 end)) e))
+    | inr g ↦
+        (let more = g.1 in let e : eqb k.0 u ≡ false = grind (arith, nat_tests) in
+        ap (λ o. is_le (ordering_then o (nat_cmp from k.1)) && not (is_le (ordering_then o (nat_cmp end k.1)))) g.0
+        ∙ sym (ap (λ z. z && (leb from k.1 && ltb k.1 end)) e))
+  ]
+]
+
+-- ---- the keys as a list of pages
+
+apart : (k : ℕ × ℕ) (ks : List (ℕ × ℕ)) → AllByRecursion (λ y. by_both k y ≡ Less) ks → is_stored ks k.0 k.1 ≡ false
+apart k [] h = refl
+apart k (y ∷ ys) h = here (is_page k.0 k.1 y) (flip_page y.0 y.1 k.0 k.1 ∙ sym (key_is k.0 k.1 y.0 y.1) ∙ ap is_eq h.0)
+    (apart k ys h.1)
+  where
+    here : (z : Bool) → z ≡ false → is_stored ys k.0 k.1 ≡ false → (z || is_stored ys k.0 k.1) ≡ false
+    here true e ih = cc
+    here false e ih = ih
+
+pub keys_once : (ks : List (ℕ × ℕ)) → IsStrictlySortedBy by_both ks → IsOnce ks
+keys_once [] h = tt
+keys_once (k ∷ ks) h = (apart k ks (sorted_head by_both k ks h), keys_once ks (sorted_tail by_both k ks h))
+
+pub keys_stored : {X : Type 0} (es : List ((ℕ × ℕ) × X)) (u q : ℕ)
+    → is_stored (keys_of es) u q ≡ is_some (lookup (is_key u q) es)
+keys_stored [] u q = refl
+keys_stored (e ∷ es) u q =
+    here (is_page u q e.0) (is_key u q e.0) (flip_page e.0.0 e.0.1 u q ∙ sym (key_is u q e.0.0 e.0.1))
+    (keys_stored es u q)
+  where
+    here : (a b : Bool) → a ≡ b → is_stored (keys_of es) u q ≡ is_some (lookup (is_key u q) es)
+        → (a || is_stored (keys_of es) u q) ≡ is_some (cond b (Some e.1) (lookup (is_key u q) es))
+    here true true h ih = refl
+    here false false h ih = ih
+    here true false h ih = cc
+    here false true h ih = cc
+
+-- ---- the first page from one on
+
+not_both : {t : Bool} → t ≡ true → t ≡ false → ⊥
+not_both h g = let z : true ≡ false = sym h ∙ g in cc
+
+first_le : (x y : ℕ × ℕ) → IsLeBy by_both x y → x.0 ≤ y.0
+first_le x y h = elim (compare x.0 y.0) [
+  | inl l ↦ (let less = l.1 in omega (arith, less))
+  | inr m ↦ elim m [
+    | inl e ↦ (let same = e.1 in omega (arith, same))
+    | inr g ↦ absurd (not_both (ap (λ (o : Ordering). is_gt (ordering_then o (nat_cmp x.1 y.1))) g.0) h)
+  ]
+]
+
+second_le : (x y : ℕ × ℕ) → x.0 ≡ y.0 → IsLeBy by_both x y → x.1 ≤ y.1
+second_le x y same h = elim (compare x.1 y.1) [
+  | inl l ↦ (let less = l.1 in omega (arith, less))
+  | inr m ↦ elim m [
+    | inl e ↦ (let equal = e.1 in omega (arith, equal))
+    | inr g ↦ absurd (not_both (ap is_gt (tied x.0 y.0 same (nat_cmp x.1 y.1) ∙ g.0)) h)
+  ]
+]
+  where
+    tied : (a b : ℕ) → a ≡ b → (o : Ordering) → ordering_then (nat_cmp a b) o ≡ o
+    tied a b e o = elim (compare a b) [
+      | inl l ↦ (let less = l.1 in absurd (omega (arith, less, e)))
+      | inr m ↦ elim m [
+        | inl t ↦ ap (λ (z : Ordering). ordering_then z o) t.0
+        | inr g ↦ (let more = g.1 in absurd (omega (arith, more, e)))
+      ]
+    ]
+
+same_le : (a b c : ℕ) → b ≤ c → IsLeBy by_both (a, b) (a, c)
+same_le a b c le = elim (compare a a) [
+  | inl l ↦ (let less = l.1 in absurd (omega (arith, less)))
+  | inr m ↦ elim m [
+    | inl t ↦ ap (λ (o : Ordering). is_gt (ordering_then o (nat_cmp b c))) t.0 ∙ not_more
+    | inr g ↦ (let more = g.1 in absurd (omega (arith, more)))
+  ]
+]
+  where
+    not_more : is_gt (nat_cmp b c) ≡ false
+    not_more = elim (compare b c) [
+      | inl l ↦ ap is_gt l.0
+      | inr m ↦ elim m [
+        | inl e ↦ ap is_gt e.0
+        | inr g ↦ (let more = g.1 in absurd (omega (arith, more, le)))
+      ]
+    ]
+
+some_is : {X : Type 0} (o : Option X) (x : X) → o ≡ Some x → IsSome o
+some_is None x e = absurd (let z : None ≡ Some x = e in cc)
+some_is (Some y) x e = refl
+
+-- a page of a segment is stored from one on
+abbrev pub IsReached : Paged → ℕ → ℕ → Type 0
+IsReached pages u from = (q : ℕ) × (from ≤ q) × IsSome (page_at pages u q)
+
+module _ (m : BTreeMap (ℕ × ℕ) (List ℕ)) (r : Paged) (u from : ℕ)
+    (of : IsRangeOf by_both (Included (u, from)) Unbounded m r) where
+  pub first_tells : (e : (ℕ × ℕ) × List ℕ) (t : Paged) → r ≡ e ∷ t → Decides (eqb e.0.0 u) (IsReached m.entries u from)
+  first_tells e t is = (λ h. reached ((Decides-eqb e.0.0 u).0 h), λ h. (Decides-eqb e.0.0 u).1 (same h))
+    where
+      head : slice_get r 0 ≡ Some e
+      head = ap (λ (xs : Paged). slice_get xs 0) is
+
+      inside : (IsLeBy by_both (u, from) e.0 × (Unit {0})) × (get by_both m e.0 ≡ Some e.1)
+      inside = subst (λ (o : Option ((ℕ × ℕ) × List ℕ)). IfSome o (λ x. (IsLeBy by_both (u, from) x.0 × (Unit {0}))
+          × (get by_both m x.0 ≡ Some x.1))) head of.1
+
+      reached : e.0.0 ≡ u → IsReached m.entries u from
+      reached same = (
+        e.0.1,
+        second_le (u, from) e.0 (sym same) inside.0.0,
+        subst (λ (x : ℕ). IsSome (page_at m.entries x e.0.1)) same
+            (some_is (page_at m.entries e.0.0 e.0.1) e.1 inside.1),
+      )
+
+      same : IsReached m.entries u from → e.0.0 ≡ u
+      same (q, le, some) =
+          let least : IsLeBy by_both e.0 (u, q) = subst (λ (o : Option ((ℕ × ℕ) × List ℕ)). IfSome o (λ x.
+          IsLeBy by_both x.0 (u, q))) head (of.2 (u, q) (same_le u from q le, tt) some) in
+          let below = first_le e.0 (u, q) least in
+          let above = first_le (u, from) e.0 inside.0.0 in
+          omega (arith, below, above)
+
+  pub none_tells : r ≡ [] → Decides false (IsReached m.entries u from)
+  none_tells is = (λ h. absurd (let z : false ≡ true = h in cc), λ h. absurd (nothing h))
+    where
+      nothing : IsReached m.entries u from → ⊥
+      nothing (q, le, some) =
+          let none : page_at m.entries u q ≡ None = of.5 is (u, q) (same_le u from q le, tt) in
+          let clash : false ≡ true = sym (ap (λ (o : Option (List ℕ)). is_some o) none) ∙ some in cc
