@@ -24,7 +24,7 @@ none_counted f d (suc n) e =
     c in omega (arith, w, r, e)
 
 pub frames_free : (n : ℕ) → n ≤ 1024 → AreFrames (replicate n frame.Free)
-    (record { uids = []; going = []; kinds = [] }) []
+    (record { uids = []; going = []; kinds = [] }) [] []
 frames_free n few = record {
   few = let l = length-replicate n frame.Free in omega (arith, l, few);
   uids = λ a b. sym (none_counted _ frame.Free n refl);
@@ -32,6 +32,7 @@ frames_free n few = record {
   kinds = λ a b. sym (none_counted _ frame.Free n refl);
   pages = λ a b. sym (none_counted _ frame.Free n refl);
   tight = λ a b idle. cc;
+  started = λ a b. sym (none_counted _ frame.Free n refl);
 }
 
 pub descriptors_free : AreDescriptors (replicate 256 descriptor.Free) (record { uids = []; going = []; kinds = [] })
@@ -64,14 +65,15 @@ booted p t f d s a fs ds r ss = λ i. record {
   seat = λ e. (ap (λ (xs : List Seat). seat_at xs e) ss ∙ all_same s e offline) i;
 }
 
-pub frames_made : (n : ℕ) (uses : List FrameUse) (c : UseCounted) (p : Counted) → uses ≡ replicate n frame.Free
-    → c ≡ record { uids = []; going = []; kinds = [] } → p ≡ []
-    → n ≤ 1024 → AreFrames uses c p
-frames_made n uses c p u e f few =
-    subst (λ (q : Counted). AreFrames uses c q) (sym f)
-    (subst (λ (d : UseCounted). AreFrames uses d []) (sym e)
+pub frames_made : (n : ℕ) (uses : List FrameUse) (c : UseCounted) (p s : Counted) → uses ≡ replicate n frame.Free
+    → c ≡ record { uids = []; going = []; kinds = [] } → p ≡ [] → s ≡ []
+    → n ≤ 1024 → AreFrames uses c p s
+frames_made n uses c p s u e f g few =
+    subst (λ (z : Counted). AreFrames uses c p z) (sym g)
+    (subst (λ (q : Counted). AreFrames uses c q []) (sym f)
+    (subst (λ (d : UseCounted). AreFrames uses d [] []) (sym e)
     (subst (λ (xs : List FrameUse). AreFrames xs (record { uids = []; going = []; kinds = [] })
-    []) (sym u) (frames_free n few)))
+    [] []) (sym u) (frames_free n few))))
 
 pub range_end : (from n : ℕ) → range from (suc n) ≡ range from n ++ (from + n) ∷ []
 range_end from zero = let e : from ≡ from + 0 = omega arith in ap (λ (x : ℕ). x ∷ []) e

@@ -25,13 +25,13 @@ apart_from_zero : (n : ℕ) → n ≢ 0 → 0 < n
 apart_from_zero zero apart = absurd (apart refl)
 apart_from_zero (suc n) apart = omega arith
 
-pub below_decides : (uses now : List FrameUse) (c : UseCounted) (p : Counted) → uses ≡ now → AreFrames uses c p
-    → (r : Bool) (u k : ℕ) → Decides r ((b : ℕ) × (k ≤ b) × (0 < count_at p u b))
+pub below_decides : (uses now : List FrameUse) (c : UseCounted) (p s : Counted) → uses ≡ now
+    → AreFrames uses c p s → (r : Bool) (u k : ℕ) → Decides r ((b : ℕ) × (k ≤ b) × (0 < count_at p u b))
     → Decides (not r) ((f q : ℕ) → page_of (frame_at now f) ≡ Some (u, q) → q < k)
-below_decides uses now c p is t r u k d = (under r d.1, back r d.0)
+below_decides uses now c p s is t r u k d = (under r d.1, back r d.0)
   where
     none : (q : ℕ) → Decides (eqb (count_at p u q) 0) ((f : ℕ) → page_of (frame_at now f) ≢ Some (u, q))
-    none q = page_decides uses now c p is t (count_at p u q) u q refl
+    none q = page_decides uses now c p s is t (count_at p u q) u q refl
 
     under : (z : Bool) → ((b : ℕ) × (k ≤ b) × (0 < count_at p u b) → z ≡ true) → not z ≡ true → (f q : ℕ)
         → page_of (frame_at now f) ≡ Some (u, q) → q < k

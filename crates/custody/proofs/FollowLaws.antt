@@ -101,6 +101,7 @@ custody_advanced p kept s t v (entry.Do k i d f r) shows of may a =
     ap custody_of a ∙ (λ i. record (seat_put t d seat l i) { ready = t.ready ++ released_by p k command })
 custody_advanced p kept s t v (entry.Release u q) shows of may a = ap custody_of a
 custody_advanced p kept s t v (entry.Fault k) shows of may a = ap custody_of a
+custody_advanced p kept s t v (entry.Moved k u w) shows of may a = ap custody_of a
 custody_advanced p kept s t v (entry.Online d) shows of may a = ap custody_of a
     ∙ seat_put t d _ (seat_in p t d of may.processor)
 custody_advanced p kept s t v (entry.Load d k) shows of may a =
@@ -221,6 +222,7 @@ pub of_advanced : (p : Plan) (s : Store) (t v : Tables) (e : Entry) → AreTable
 of_advanced p s t v (entry.Do k i d f r) of a = rw a (of_seats p t _ _ (length-set t.seats d _) of)
 of_advanced p s t v (entry.Release u q) of a = rw a of
 of_advanced p s t v (entry.Fault k) of a = rw a of
+of_advanced p s t v (entry.Moved k u w) of a = rw a of
 of_advanced p s t v (entry.Online d) of a = rw a (of_seats p t _ _ (length-set t.seats d _) of)
 of_advanced p s t v (entry.Load d k) of a = rw a (of_seats p t _ _ (length-set t.seats d _) of)
 of_advanced p s t v (entry.Leave d) of a = rw a (of_seats p t _ _ (length-set t.seats d _) of)
@@ -270,6 +272,8 @@ active_advanced p s t v (entry.Release u q) a old nodes =
     same_active p s t v (entry.Release u q) (ap (λ (x : Tables). x.active) a) nodes
 active_advanced p s t v (entry.Fault k) a old nodes = same_active p s t v (entry.Fault k)
     (ap (λ (x : Tables). x.active) a) nodes
+active_advanced p s t v (entry.Moved k u w) a old nodes =
+    same_active p s t v (entry.Moved k u w) (ap (λ (x : Tables). x.active) a) nodes
 active_advanced p s t v (entry.Online d) a old nodes =
     same_active p s t v (entry.Online d) (ap (λ (x : Tables). x.active) a) nodes
 active_advanced p s t v (entry.Load d k) a old nodes =

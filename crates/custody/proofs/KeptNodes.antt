@@ -27,6 +27,7 @@ use Rattle.flat_model.specs.Commands.{effect_of, effect_by, effect_of_tree_comma
 use Rattle.flat_model.specs.Commands.{reply_to_command}
 use Rattle.flat_model.specs.Legal.{IsLawful, IsAnswer, after_do, after_entry}
 use Rattle.flat_model.specs.Making.{after_make, made_of, made_at, owner_row, after_delete, deleted}
+use Rattle.flat_model.specs.Moves.{moved as rehomed}
 use Rattle.flat_model.specs.Naming.{after_initiate, initiated, after_terminate}
 use Rattle.flat_model.specs.References.{after_reference, written_by}
 use Rattle.flat_model.specs.Rights.{after_acl, after_move, moved, row_with}
@@ -229,6 +230,22 @@ length_changed s uses pages (Ok x) off t = nodes_changed g s.nodes uses same kee
       | inr e ↦ rw e.0 h
     ]
 
+-- the volume of a segment
+volume_changed : (s : Store) (uses : List (Option ActiveUse)) (u volume : ℕ) → Stay s (rehomed s u volume) uses
+volume_changed s uses u volume t = nodes_changed g s.nodes uses same keeps t
+  where
+    g : Node → Node
+    g n = cond (eqb n.uid u) (record n { volume = volume }) n
+
+    same : (n : Node) → (g n).uid ≡ n.uid
+    same n = elim (eqb_tells n.uid u) [ inl e ↦ rw e.0 refl | inr e ↦ rw e.0 refl ]
+
+    keeps : (n : Node) (a : ActiveUse) → active_at uses n.uid ≡ Some a → IsAsActivated a n → IsAsActivated a (g n)
+    keeps n a is h = elim (eqb_tells n.uid u) [
+      | inl e ↦ rw e.0 (record { superior = h.superior; pool = h.pool })
+      | inr e ↦ rw e.0 h
+    ]
+
 quota_uid : (u : ℕ) (change : ℕ → ℕ) (n : Node) → (with_quota_of u change n).uid ≡ n.uid
 quota_uid u change n = elim (eqb_tells n.uid u) [ inl e ↦ rw e.0 refl | inr e ↦ rw e.0 refl ]
 
@@ -384,4 +401,5 @@ nodes_kept p s t (entry.Do k place d f r) new may lawful nodes = command_stays
 nodes_kept p s t (entry.Release u q) new may lawful nodes = nodes
 nodes_kept p s t (entry.Fault None) new may lawful nodes = nodes
 nodes_kept p s t (entry.Fault (Some k)) new may lawful nodes = nodes
+nodes_kept p s t (entry.Moved k u w) new may lawful nodes = volume_changed s t.active u w nodes
 nodes_kept p s t _ new may lawful nodes = nodes

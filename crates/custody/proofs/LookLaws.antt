@@ -17,7 +17,7 @@ use Rattle.custody.specs.Counts.{Counted, count_at, key_bit}
 use Rattle.custody.specs.Tables.{AreActive, active_at, is_in_pool, key_of, pool_key, superior_key, superior_of}
 use Rattle.custody.specs.declared.active.ActiveUse.{ActiveUse}
 use Rattle.custody.specs.Uses.{UseCounted, AreFrames, AreDescriptors, frame_at, descriptor_at, frame_mark}
-use Rattle.custody.specs.Uses.{descriptor_mark, uid_key, going_key, kind_key}
+use Rattle.custody.specs.Uses.{descriptor_mark, uid_key, going_key, kind_key, started_key}
 
 -- ---- sums
 
@@ -194,10 +194,10 @@ bit_le false = omega arith
 
 -- ---- frames
 
-pub page_decides : (uses now : List FrameUse) (c : UseCounted) (p : Counted) → uses ≡ now → AreFrames uses c p
-    → (n u q : ℕ) → n ≡ count_at p u q
+pub page_decides : (uses now : List FrameUse) (c : UseCounted) (p s : Counted) → uses ≡ now
+    → AreFrames uses c p s → (n u q : ℕ) → n ≡ count_at p u q
     → Decides (eqb n 0) ((f : ℕ) → page_of (frame_at now f) ≢ Some (u, q))
-page_decides uses now c p is t n u q e = subst (λ (xs : List FrameUse). Decides (eqb n 0)
+page_decides uses now c p s is t n u q e = subst (λ (xs : List FrameUse). Decides (eqb n 0)
     ((f : ℕ) → page_of (frame_at xs f) ≢ Some (u, q))) is
     (zero_decides (λ x. key_bit (page_of x) u q) (λ x. page_of x ≢ Some (u, q)) uses frame.Free n (e ∙ t.pages u q) refl
     (λ x. bit_zero (page_of x) u q) (λ x. zero_bit (page_of x) u q))
@@ -214,14 +214,35 @@ frame_uid_from (frame.Started v q) u z = uid_from v u z
 frame_uid_from (frame.Current v q) u z = uid_from v u z
 frame_uid_from (frame.Going v q) u z = uid_from v u z
 
-pub frames_of_decide : (uses now : List FrameUse) (c : UseCounted) (p : Counted) → uses ≡ now → AreFrames uses c p
-    → (n u : ℕ) → n ≡ count_at c.uids u 0
+pub frames_of_decide : (uses now : List FrameUse) (c : UseCounted) (p s : Counted) → uses ≡ now
+    → AreFrames uses c p s → (n u : ℕ) → n ≡ count_at c.uids u 0
     → Decides (eqb n 0) ((f : ℕ) → uid_of_page (page_of (frame_at now f)) ≢ Some u)
-frames_of_decide uses now c p is t n u e = subst (λ (xs : List FrameUse). Decides (eqb n 0)
+frames_of_decide uses now c p s is t n u e = subst (λ (xs : List FrameUse). Decides (eqb n 0)
     ((f : ℕ) → uid_of_page (page_of (frame_at xs f)) ≢ Some u)) is
     (zero_decides (λ x. key_bit (uid_key (frame_mark x)) u 0) (λ x. uid_of_page (page_of x) ≢ Some u) uses frame.Free n
     (e ∙ t.uids u 0) refl
     (λ x. frame_uid_to x u) (λ x. frame_uid_from x u))
+
+started_to : (x : FrameUse) (u : ℕ) → key_bit (started_key x) u 0 ≡ 0 → (q : ℕ) → x ≢ frame.Started u q
+started_to frame.Free u z q = λ e. cc
+started_to (frame.Started v p) u z q = λ e. uid_to v u z (ap (λ (x : FrameUse). uid_of_page (page_of x)) e)
+started_to (frame.Current v p) u z q = λ e. cc
+started_to (frame.Going v p) u z q = λ e. cc
+
+started_from : (x : FrameUse) (u : ℕ) → ((q : ℕ) → x ≢ frame.Started u q) → key_bit (started_key x) u 0 ≡ 0
+started_from frame.Free u h = refl
+started_from (frame.Started v p) u h =
+    uid_from v u (λ e. h p (ap (λ (o : Option ℕ). frame.Started (unwrap_or o 0) p) e))
+started_from (frame.Current v p) u h = refl
+started_from (frame.Going v p) u h = refl
+
+pub started_decides : (uses now : List FrameUse) (c : UseCounted) (p s : Counted) → uses ≡ now → AreFrames uses c p s
+    → (n u : ℕ) → n ≡ count_at s u 0
+    → Decides (eqb n 0) ((f q : ℕ) → frame_at now f ≢ frame.Started u q)
+started_decides uses now c p s is t n u e = subst (λ (xs : List FrameUse). Decides (eqb n 0)
+    ((f q : ℕ) → frame_at xs f ≢ frame.Started u q)) is
+    (zero_decides (λ x. key_bit (started_key x) u 0) (λ x. (q : ℕ) → x ≢ frame.Started u q) uses frame.Free n
+    (e ∙ t.started u 0) refl (λ x. started_to x u) (λ x. started_from x u))
 
 frame_goes_to : (x : FrameUse) → 0 < key_bit (kind_key (frame_mark x)) 1 0 → is_going_frame x ≡ true
 frame_goes_to frame.Free z = let no : ⊥ = omega (arith, z) in absurd no
@@ -235,10 +256,10 @@ frame_goes_from (frame.Started v q) e = let z : false ≡ true = e in let no : �
 frame_goes_from (frame.Current v q) e = let z : false ≡ true = e in let no : ⊥ = cc in absurd no
 frame_goes_from (frame.Going v q) e = omega arith
 
-pub frames_go_decide : (uses now : List FrameUse) (c : UseCounted) (p : Counted) → uses ≡ now → AreFrames uses c p
-    → (n : ℕ) → n ≡ count_at c.kinds 1 0
+pub frames_go_decide : (uses now : List FrameUse) (c : UseCounted) (p s : Counted) → uses ≡ now
+    → AreFrames uses c p s → (n : ℕ) → n ≡ count_at c.kinds 1 0
     → Decides (ltb 0 n) ((f : ℕ) × (is_going_frame (frame_at now f) ≡ true))
-frames_go_decide uses now c p is t n e = subst (λ (xs : List FrameUse). Decides (ltb 0 n)
+frames_go_decide uses now c p s is t n e = subst (λ (xs : List FrameUse). Decides (ltb 0 n)
     ((f : ℕ) × (is_going_frame (frame_at xs f) ≡ true))) is
     (some_decides (λ x. key_bit (kind_key (frame_mark x)) 1 0) (λ x. is_going_frame x ≡ true) uses frame.Free n (e
     ∙ t.kinds 1 0) refl frame_goes_to frame_goes_from)
@@ -263,12 +284,12 @@ frame_of_from u (frame.Started v q) h = refl
 frame_of_from u (frame.Current v q) h = refl
 frame_of_from u (frame.Going v q) h = named_from (eqb v u) (h refl)
 
-pub frames_only_of_decide : (uses now : List FrameUse) (c : UseCounted) (p : Counted) → uses ≡ now → AreFrames uses c p
-    → (n m u : ℕ)
+pub frames_only_of_decide : (uses now : List FrameUse) (c : UseCounted) (p s : Counted) → uses ≡ now
+    → AreFrames uses c p s → (n m u : ℕ)
     → n ≡ count_at c.going u 0 → m ≡ count_at c.kinds 1 0
     → Decides (eqb n m) ((f : ℕ) → is_going_frame (frame_at now f) ≡ true
     → is_uid u (uid_of_page (bound_page (frame_at now f))) ≡ true)
-frames_only_of_decide uses now c p is t n m u e g =
+frames_only_of_decide uses now c p s is t n m u e g =
     subst (λ (xs : List FrameUse). Decides (eqb n m) ((f : ℕ) → is_going_frame (frame_at xs f) ≡ true
     → is_uid u (uid_of_page (bound_page (frame_at xs f))) ≡ true)) is
     (same_decides (λ x. key_bit (going_key (frame_mark x)) u 0) (λ x. key_bit (kind_key (frame_mark x)) 1 0)
@@ -282,11 +303,11 @@ by_going (frame.Started v q) = inl refl
 by_going (frame.Current v q) = inl refl
 by_going (frame.Going v q) = inr refl
 
-pub frames_only_in_decide : (uses now : List FrameUse) (c : UseCounted) (p : Counted) → uses ≡ now → AreFrames uses c p
-    → (n m at : ℕ)
+pub frames_only_in_decide : (uses now : List FrameUse) (c : UseCounted) (p s : Counted) → uses ≡ now
+    → AreFrames uses c p s → (n m at : ℕ)
     → n ≡ count_at c.kinds 1 0 → m ≡ key_bit (kind_key (frame_mark (frame_at now at))) 1 0
     → Decides (eqb n m) ((f : ℕ) → is_going_frame (frame_at now f) ≡ true → eqb f at ≡ true)
-frames_only_in_decide uses now c p is t n m at e g =
+frames_only_in_decide uses now c p s is t n m at e g =
     let kind : FrameUse → ℕ = λ x. key_bit (kind_key (frame_mark x)) 1 0 in
     let d : Decides (eqb n (kind (get_or now at frame.Free))) ((i : ℕ) → i ≢ at → kind (get_or now i frame.Free) ≡ 0) =
     only_decides kind now frame.Free at n (e ∙ t.kinds 1 0 ∙ ap (λ (xs : List FrameUse). sum_by kind xs) is) refl in

@@ -1,6 +1,6 @@
 -- What is counted of a list, as one element after the other changes.
-use Rattle.std.proofs.Common.{◌≡◌, ◌<◌, ◌≤◌, ◌^◌, ℕ, suc, zero, Bool, true, false, cond, eqb, ◌&&◌, List, [], ◌∷◌, Option}
-use Rattle.std.proofs.Common.{Some, None, length, get_or, set, length-set}
+use Rattle.std.proofs.Common.{◌≡◌, ◌<◌, ◌≤◌, ◌^◌, ℕ, suc, zero, Bool, true, false, cond, eqb, ◌&&◌, List, []}
+use Rattle.std.proofs.Common.{◌∷◌, Option, Some, None, length, get_or, set, length-set}
 use Rattle.std.proofs.Common.{◌∙◌, arith, inl, inr, subst, sym}
 use Rattle.std.specs.Prelude.{sum_by}
 use Rattle.std.proofs.lemmas.List.Sums.{sum_by-set, sum_by-cons}
@@ -10,7 +10,7 @@ use Rattle.custody_model.specs.declared.DescriptorUse.{DescriptorUse}
 use Rattle.custody.specs.Counts.{AreFew, Counted, IsTight, Keeps, Readies, Shifts, key_bit}
 use Rattle.custody.specs.Uses.{UseCounted, IsTally, AreFrames, AreDescriptors, KeepUses, ShiftUses, AreFewUses}
 use Rattle.custody.specs.Uses.{frame_mark, descriptor_mark, uid_key, going_key}
-use Rattle.custody.specs.Uses.{kind_key}
+use Rattle.custody.specs.Uses.{kind_key, started_key}
 
 -- ---- sums
 
@@ -60,39 +60,61 @@ tally_few {X} key xs c l t = λ a b.
 
 -- ---- frames and descriptors
 
--- memory was taken to count a use, and perhaps lacked for its page
-pub frames_kept : (uses : List FrameUse) (c e : UseCounted) (p : Counted) → AreFrames uses c p → KeepUses c e
-    → AreFrames uses e p
-frames_kept uses c e p t k = record {
+-- memory was taken to count a use, and perhaps to count it where its page is being read
+pub frames_kept : (uses : List FrameUse) (c e : UseCounted) (p s : Counted) → AreFrames uses c p s → KeepUses c e
+    → AreFrames uses e p s
+frames_kept uses c e p s t k = record {
   few = t.few;
   uids = tally_kept (λ x. uid_key (frame_mark x)) uses c.uids e.uids t.uids k.uids;
   going = tally_kept (λ x. going_key (frame_mark x)) uses c.going e.going t.going k.going;
   kinds = tally_kept (λ x. kind_key (frame_mark x)) uses c.kinds e.kinds t.kinds k.kinds;
   pages = t.pages;
   tight = t.tight;
+  started = t.started;
 }
 
-pub frames_lacking : (uses : List FrameUse) (c e : UseCounted) (p q : Counted) → AreFrames uses c p → KeepUses c e
-    → q ≡ p → AreFrames uses e q
-frames_lacking uses c e p q t k same = subst (λ (x : Counted). AreFrames uses e x) (sym same)
-    (frames_kept uses c e p t k)
+pub frames_ready : (uses : List FrameUse) (c e : UseCounted) (p s z : Counted) → AreFrames uses c p s → KeepUses c e
+    → Keeps s z → AreFrames uses e p z
+frames_ready uses c e p s z t k j =
+    let all = frames_kept uses c e p s t k in
+    record {
+      few = all.few;
+      uids = all.uids;
+      going = all.going;
+      kinds = all.kinds;
+      pages = all.pages;
+      tight = all.tight;
+      started = tally_kept started_key uses s z t.started j;
+    }
 
-frames_length : (uses : List FrameUse) (c : UseCounted) (p : Counted) → AreFrames uses c p → length uses ≤ 2 ^ 32
-frames_length uses c p t = let h = t.few in omega (arith, h)
+-- memory lacked for its page
+pub frames_lacking : (uses : List FrameUse) (c e : UseCounted) (p q s z : Counted) → AreFrames uses c p s
+    → KeepUses c e → Keeps s z → q ≡ p → AreFrames uses e q z
+frames_lacking uses c e p q s z t k j same = subst (λ (x : Counted). AreFrames uses e x z) (sym same)
+    (frames_ready uses c e p s z t k j)
 
-pub uses_few : (uses : List FrameUse) (c e : UseCounted) (p : Counted) → AreFrames uses c p → KeepUses c e
+frames_length : (uses : List FrameUse) (c : UseCounted) (p s : Counted) → AreFrames uses c p s → length uses ≤ 2 ^ 32
+frames_length uses c p s t = let h = t.few in omega (arith, h)
+
+pub uses_few : (uses : List FrameUse) (c e : UseCounted) (p s : Counted) → AreFrames uses c p s → KeepUses c e
     → AreFewUses e
-uses_few uses c e p t k =
-    let l = frames_length uses c p t in
-    let all = frames_kept uses c e p t k in
+uses_few uses c e p s t k =
+    let l = frames_length uses c p s t in
+    let all = frames_kept uses c e p s t k in
     record {
       uids = tally_few (λ x. uid_key (frame_mark x)) uses e.uids l all.uids;
       going = tally_few (λ x. going_key (frame_mark x)) uses e.going l all.going;
       kinds = tally_few (λ x. kind_key (frame_mark x)) uses e.kinds l all.kinds;
     }
 
-pub pages_few : (uses : List FrameUse) (c : UseCounted) (p q : Counted) → AreFrames uses c p → Keeps p q → AreFew q
-pages_few uses c p q t k = tally_few page_of uses q (frames_length uses c p t) (tally_kept page_of uses p q t.pages k)
+pub pages_few : (uses : List FrameUse) (c : UseCounted) (p q s : Counted) → AreFrames uses c p s → Keeps p q → AreFew q
+pages_few uses c p q s t k = tally_few page_of uses q (frames_length uses c p s t)
+    (tally_kept page_of uses p q t.pages k)
+
+pub started_few : (uses : List FrameUse) (c : UseCounted) (p s z : Counted) → AreFrames uses c p s → Keeps s z
+    → AreFew z
+started_few uses c p s z t k = tally_few started_key uses z (frames_length uses c p s t)
+    (tally_kept started_key uses s z t.started k)
 
 -- what was there for nothing is counted now
 tight_put : (p q r : Counted) (from to : Option (ℕ × ℕ)) → IsTight p → Readies p q to → Shifts q r from to → IsTight r
@@ -103,19 +125,21 @@ tight_put p q r from to tight ready s a b idle =
       | inr one ↦ (let none = before.1 in omega (arith, one, none))
     ]
 
-pub frames_put : (uses : List FrameUse) (c d e : UseCounted) (p q r : Counted) (f : ℕ) (x y : FrameUse)
-    → f < length uses → AreFrames uses c p → KeepUses c d → Keeps p q → Readies p q (page_of x)
-    → ShiftUses d e (frame_mark (get_or uses f y)) (frame_mark x) → Shifts q r (page_of (get_or uses f y)) (page_of x)
-    → AreFrames (set uses f x) e r
-frames_put uses c d e p q r f x y l t k j ready s i =
-    let all = frames_kept uses c d p t k in
+pub frames_put : (uses : List FrameUse) (c d e : UseCounted) (p q r s y z : Counted) (f : ℕ) (x w : FrameUse)
+    → f < length uses → AreFrames uses c p s → KeepUses c d → Keeps p q → Readies p q (page_of x) → Keeps s y
+    → ShiftUses d e (frame_mark (get_or uses f w)) (frame_mark x) → Shifts q r (page_of (get_or uses f w)) (page_of x)
+    → Shifts y z (started_key (get_or uses f w)) (started_key x)
+    → AreFrames (set uses f x) e r z
+frames_put uses c d e p q r s y z f x w l t k j ready more h i g =
+    let all = frames_kept uses c d p s t k in
     record {
       few = rw (length-set uses f x) t.few;
-      uids = tally_set (λ x. uid_key (frame_mark x)) uses d.uids e.uids f x y l all.uids s.uids;
-      going = tally_set (λ x. going_key (frame_mark x)) uses d.going e.going f x y l all.going s.going;
-      kinds = tally_set (λ x. kind_key (frame_mark x)) uses d.kinds e.kinds f x y l all.kinds s.kinds;
-      pages = tally_set page_of uses q r f x y l (tally_kept page_of uses p q t.pages j) i;
-      tight = tight_put p q r (page_of (get_or uses f y)) (page_of x) t.tight ready i;
+      uids = tally_set (λ x. uid_key (frame_mark x)) uses d.uids e.uids f x w l all.uids h.uids;
+      going = tally_set (λ x. going_key (frame_mark x)) uses d.going e.going f x w l all.going h.going;
+      kinds = tally_set (λ x. kind_key (frame_mark x)) uses d.kinds e.kinds f x w l all.kinds h.kinds;
+      pages = tally_set page_of uses q r f x w l (tally_kept page_of uses p q t.pages j) i;
+      tight = tight_put p q r (page_of (get_or uses f w)) (page_of x) t.tight ready i;
+      started = tally_set started_key uses y z f x w l (tally_kept started_key uses s y t.started more) g;
     }
 
 pub descriptors_kept : (uses : List DescriptorUse) (c e : UseCounted) → AreDescriptors uses c → KeepUses c e
@@ -146,6 +170,6 @@ descriptors_put uses c e n x d l t s = record {
   kinds = tally_set (λ x. kind_key (descriptor_mark x)) uses c.kinds e.kinds n x d l t.kinds s.kinds;
 }
 
-pub ruleset frames_counted = (frames_kept, frames_lacking, frames_put, uses_few, pages_few)
+pub ruleset frames_counted = (frames_kept, frames_ready, frames_lacking, frames_put, uses_few, pages_few, started_few)
 
 pub ruleset descriptors_counted = (descriptors_kept, descriptors_put, descriptors_few)

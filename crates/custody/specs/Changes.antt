@@ -131,6 +131,7 @@ abbrev pub Advances : Plan → Store → Tables → Tables → Entry → Type 0
 Advances p s t v (entry.Do k i d f r) = v ≡ answer_at p s t d k (next_command p s k) r
 Advances p s t v (entry.Release u q) = v ≡ t
 Advances p s t v (entry.Fault k) = v ≡ t
+Advances p s t v (entry.Moved k u w) = v ≡ t
 Advances p s t v (entry.Online d) = v ≡ put_seat t d (record (seat_at t.seats d) { online = true })
 Advances p s t v (entry.Load d k) = v ≡ load_at t d k
 Advances p s t v (entry.Leave d) = v ≡ leave_at s t d

@@ -42,6 +42,11 @@ abbrev pub kind_key : Option Mark → Option (ℕ × ℕ)
 kind_key None = None
 kind_key (Some m) = if m.going then Some (1, 0) else Some (0, 0)
 
+-- the key of its segment, where a page of it is being read into the frame
+abbrev pub started_key : FrameUse → Option (ℕ × ℕ)
+started_key (frame.Started u q) = Some (u, 0)
+started_key _ = None
+
 -- the counts by segment, those of what is on its way out by segment, and those of what is on its way out and of what
 -- isn't
 pub record UseCounted : Type 0 where
@@ -75,13 +80,14 @@ pub record ShiftUses (old new : UseCounted) (from to : Option Mark) : Type 0 whe
 abbrev pub IsTally : {X : Type 0} → (X → Option (ℕ × ℕ)) → List X → Counted → Type 0
 IsTally key xs c = (a b : ℕ) → count_at c a b ≡ sum_by (λ x. key_bit (key x) a b) xs
 
-pub record AreFrames (uses : List FrameUse) (c : UseCounted) (by_page : Counted) : Type 0 where
+pub record AreFrames (uses : List FrameUse) (c : UseCounted) (by_page by_started : Counted) : Type 0 where
   pub few : length uses ≤ 1024
   pub uids : IsTally (λ x. uid_key (frame_mark x)) uses c.uids
   pub going : IsTally (λ x. going_key (frame_mark x)) uses c.going
   pub kinds : IsTally (λ x. kind_key (frame_mark x)) uses c.kinds
   pub pages : IsTally page_of uses by_page
   pub tight : IsTight by_page
+  pub started : IsTally started_key uses by_started
 
 pub record AreDescriptors (uses : List DescriptorUse) (c : UseCounted) : Type 0 where
   pub few : length uses ≤ 256

@@ -94,7 +94,7 @@ impl Custody {
                 reply,
                 ..
             } => self.answer(script, store, process, cpu, &reply),
-            Entry::Release { .. } | Entry::Fault { .. } => Ok(()),
+            Entry::Release { .. } | Entry::Fault { .. } | Entry::Moved { .. } => Ok(()),
             Entry::Leave { cpu } => self.leave(store, cpu),
             Entry::Activate { uid } => self.activate(store, uid),
             Entry::Deactivate { uid } => self.deactivate(uid),

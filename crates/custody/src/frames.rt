@@ -7,7 +7,7 @@ ghost use Rattle.custody.specs.Uses.{frame_at, frame_mark, kind_key};
 
 use crate::NoMemory;
 use crate::counts::Counts;
-use crate::uses::{UseCounts, frame_mark, page_of};
+use crate::uses::{UseCounts, frame_mark, page_of, started_key};
 use custody_model::FrameUse;
 use std::alloc::Global;
 use std::marker::Model;
@@ -20,6 +20,7 @@ pub(crate) struct Frames {
     uses: Vec<FrameUse>,
     counts: UseCounts,
     pages: Counts,
+    started: Counts,
 }
 
 impl Model for Frames {
@@ -31,7 +32,7 @@ impl Model for Frames {
 
     ghost view = { λ f. f.uses.items };
 
-    ghost invariant = { λ f. AreFrames f.uses.items f.counts f.pages };
+    ghost invariant = { λ f. AreFrames f.uses.items f.counts f.pages f.started };
 }
 
 impl Frames {
@@ -49,6 +50,7 @@ impl Frames {
             uses,
             counts: UseCounts::new(alloc),
             pages: Counts::new(alloc),
+            started: Counts::new(alloc),
         })
     }
 
@@ -76,10 +78,12 @@ impl Frames {
             return Ok(());
         }
         self.counts.reserve(frame_mark(to))?;
+        self.started.reserve_key(started_key(to))?;
         self.pages.reserve_key(page_of(to))?;
         let from = self.uses[at];
         self.counts.shift(frame_mark(from), frame_mark(to));
         self.pages.shift(page_of(from), page_of(to));
+        self.started.shift(started_key(from), started_key(to));
         self.uses[at] = to;
         Ok(())
     }
@@ -97,6 +101,14 @@ impl Frames {
         ensures { Decides result ((f : ℕ) → uid_of_page (page_of (frame_at self.now f)) ≢ Some uid) }
     {
         let count = self.counts.of(uid);
+        count == 0
+    }
+
+    /// Whether no page of a segment is being read into a frame.
+    pub(crate) fn has_none_started(&self, uid: u32) -> bool
+        ensures { Decides result ((f q : ℕ) → frame_at self.now f ≢ frame.Started uid q) }
+    {
+        let count = self.started.at(uid, 0);
         count == 0
     }
 

@@ -30,6 +30,7 @@ impl Custody {
             } => self.may_do(script, store, process, cpu, frame, &reply),
             Entry::Release { uid, page } => self.is_in_no_frame(uid, page),
             Entry::Fault { .. } => true,
+            Entry::Moved { uid, .. } => self.may_move(uid),
             Entry::Online { cpu } => self.may_come_online(script, cpu),
             Entry::Load { cpu, process } => self.may_load(cpu, process),
             Entry::Leave { cpu } => self.may_leave(store, cpu),

@@ -6,8 +6,8 @@ ghost use Rattle.custody_model.specs.Custody.{is_going_frame, is_started, is_uid
 ghost use Rattle.custody_model.specs.Effects.{HasNoDescriptor, HasNoPage, IsInNoFrame};
 ghost use Rattle.custody_model.specs.Allowed.{GoesDescriptor, GoesPage, IsFront, MayBeHere, MayComeOnline};
 ghost use Rattle.custody_model.specs.Allowed.{MayDeactivate, MayEndPage, MayEndSeg};
-ghost use Rattle.custody_model.specs.Allowed.{MayFillPage, MayFillSeg, MayLoad, MaySignal, MayStart, NamesAllGoing};
-ghost use Rattle.custody_model.specs.Allowed.{NobodyHoldsPage};
+ghost use Rattle.custody_model.specs.Allowed.{MayFillPage, MayFillSeg, MayLoad, MayRehome, MaySignal, MayStart};
+ghost use Rattle.custody_model.specs.Allowed.{NamesAllGoing, NobodyHoldsPage};
 ghost use Rattle.custody_model.specs.Allowed.{NobodyHoldsSeg, SomethingGoes, WasStarted, superior_in};
 ghost use Rattle.flat_model.specs.Store.{Store};
 ghost use Rattle.script.specs.Plans.{Plan};
@@ -210,6 +210,20 @@ impl Custody {
         ensures { Decides result (HasNoPage (custody_of self.now) uid) }
     {
         self.frames.has_none_of(uid)
+    }
+
+    /// Whether no page of a segment is being read into a frame.
+    fn has_no_started(&self, uid: u32) -> bool
+        ensures { Decides result ((f q : ℕ) → (custody_of self.now).frame f ≢ frame.Started uid q) }
+    {
+        self.frames.has_none_started(uid)
+    }
+
+    /// Whether a segment may move to another volume.
+    pub(crate) fn may_move(&self, uid: u32) -> bool
+        ensures { Decides result (MayRehome (custody_of self.now) uid) }
+    {
+        self.active.has(uid) && self.has_no_started(uid)
     }
 
     /// Whether a page may come into a free frame.

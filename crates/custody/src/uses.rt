@@ -2,7 +2,7 @@ ghost use Rattle.std.specs.Prelude.{◌≡◌, OnOk, []};
 ghost use Rattle.custody_model.specs.Custody.{page_of};
 ghost use Rattle.custody.specs.Counts.{count_at};
 ghost use Rattle.custody.specs.Uses.{AreFewUses, HavePlaces, KeepUses, ShiftUses, descriptor_mark, frame_mark};
-ghost use Rattle.custody.specs.Uses.{going_key, kind_key, uid_key};
+ghost use Rattle.custody.specs.Uses.{going_key, kind_key, started_key, uid_key};
 
 use crate::NoMemory;
 use crate::counts::Counts;
@@ -40,6 +40,16 @@ pub(crate) fn page_of(of: FrameUse) -> Option<(u32, u32)>
         FrameUse::Started { uid, page }
         | FrameUse::Current { uid, page }
         | FrameUse::Going { uid, page } => Some((uid, page)),
+    }
+}
+
+/// The key of its segment, where a page of it is being read into the frame.
+pub(crate) fn started_key(of: FrameUse) -> Option<(u32, u32)>
+    ensures { result ≡ started_key of }
+{
+    match of {
+        FrameUse::Started { uid, .. } => Some((uid, 0)),
+        _ => None,
     }
 }
 

@@ -1,4 +1,4 @@
-use Rattle.std.proofs.Common.{ℕ, ◌≤◌, ◌<◌, subst, sym, ◌∙◌, eqb, false}
+use Rattle.std.proofs.Common.{ℕ, ◌≤◌, ◌<◌, subst, sym, eqb, false}
 use Rattle.std.specs.Bool.{Decides}
 use Rattle.custody.specs.Counts.{Counted, IsTight, count_at}
 use Rattle.custody.proofs.ReachLaws.{first_tells, none_tells}

@@ -3,6 +3,6 @@ use Rattle.custody.proofs.frames.Frames.some_goes.Goals as goal
 
 pub returns : goal.returns
 returns c =
-    frames_go_decide c.self.inside.uses.items c.args.self.now c.self.inside.counts c.self.inside.pages c.self.view_is
-    c.self.invariant
+    frames_go_decide c.self.inside.uses.items c.args.self.now c.self.inside.counts c.self.inside.pages
+    c.self.inside.started c.self.view_is c.self.invariant
     c.going-count.result c.going-count.ensures
