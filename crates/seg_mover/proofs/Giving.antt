@@ -1,0 +1,119 @@
+-- A home that is given up, page by page.
+use Rattle.std.proofs.Common.{◌≡◌, ◌≢◌, ℕ, ◌+◌, ◌<◌, Bool, true, false, List, [], length, Option, None, Some, IsSome}
+use Rattle.std.proofs.Common.{refl, sym, ap, ◌∙◌, arith, get_or, set, subst, inl, inr}
+use Rattle.std.proofs.lemmas.Bool.{cases_eq}
+use Rattle.std.proofs.lemmas.List.{get_or_past, get_or-set_other, get_or-set_same, set_past, set-set, set-get_or}
+use Rattle.vtoc.specs.Vtoc.{Entry, with_record, HasFullMaps, NamesNoRecord}
+use Rattle.volumes.specs.Volumes.{Vols, records_at, vtoc_at, with_record_used, with_vtoc}
+use Rattle.seg_mover.specs.Homes.{entry_of, map_at, place_at}
+use Rattle.seg_mover.specs.Records.{AreKept, flags_given}
+use Rattle.seg_mover.specs.Moves.{given_back}
+use Rattle.seg_mover.specs.Steps.{with_place, page_given, IsPartGiven}
+use Rattle.seg_mover.proofs.Records.{below_or_past, given_less, given_none, kept_less, not_none}
+use Rattle.seg_mover.proofs.Places.{put, put_put, vtoc_within, still_used, entry_placed, map_placed, records_within}
+use Rattle.seg_mover.proofs.Places.{on_within, flags_used, vols_same}
+
+pub given_start : {D : Type 0} (old : Vols D) (home : ℕ × ℕ) → IsSome (entry_of old home)
+    → AreKept (records_at old home.0) (map_at old home) → IsPartGiven old old home 0
+given_start old home used kept =
+    record { used = used; kept = kept; rest = refl; gone = λ p lt. absurd (omega (arith, lt)) }
+
+-- one page more
+given_one : {D : Type 0} (now : Vols D) (home : ℕ × ℕ) (n r : ℕ) → place_at now home n ≡ Some r
+    → IsSome (entry_of now home)
+    → home.0 < length now.records
+    → given_back (with_place (with_record_used now home.0 r false) home n None) home ≡ given_back now home
+given_one now home n r is used rl =
+    let mid : Vols _ = with_record_used now home.0 r false in
+    let new : Vols _ = with_place mid home n None in
+    let flags : List Bool = records_at now home.0 in
+    let places : List (Option ℕ) = map_at now home in
+    let given : flags_given (records_at new home.0) (map_at new home) ≡ flags_given flags places =
+    ap (λ (fs : List Bool). flags_given fs (map_at new home)) (flags_used now home.0 r false rl)
+    ∙ ap (flags_given (set flags r false)) (map_placed mid home n None used)
+    ∙ given_less flags places n r is in
+    vols_same (given_back new home) (given_back now home) refl
+    (ap (set new.records home.0) given
+    ∙ set-set now.records home.0 (set flags r false) (flags_given flags places))
+    (put_put now.vtocs home.0 home.1 (with_record (entry_of now home) n None) None (vtoc_within now home used))
+
+more_gone : (old new : List (Option ℕ)) (n : ℕ) → ((p : ℕ) → p < n → get_or old p None ≡ None)
+    → ((p : ℕ) → p ≢ n → get_or new p None ≡ get_or old p None) → get_or new n None ≡ None → (p : ℕ) → p < n + 1
+    → get_or new p None ≡ None
+more_gone old new n gone same here p lt = elim (cases_eq p n) [
+  | inl at ↦ ap (λ (q : ℕ). get_or new q None) at ∙ here
+  | inr other ↦ same p other ∙ gone p (omega (arith, lt, other))
+]
+
+none_here : (places : List (Option ℕ)) (n : ℕ) → get_or (set places n None) n None ≡ None
+none_here places n = elim (below_or_past n (length places)) [
+  | inl lt ↦ get_or-set_same places n None None lt
+  | inr past ↦ ap (λ (ps : List (Option ℕ)). get_or ps n None) (set_past places n None past)
+      ∙ get_or_past places n None past
+]
+
+given_some_more : {D : Type 0} (old now new : Vols D) (home : ℕ × ℕ) (n r : ℕ) → IsPartGiven old now home n
+    → place_at now home n ≡ Some r → new ≡ with_place (with_record_used now home.0 r false) home n None
+    → IsPartGiven old new home (n + 1)
+given_some_more old now new home n r part is now_is =
+    let mid : Vols _ = with_record_used now home.0 r false in
+    let flags : List Bool = records_at now home.0 in
+    let places : List (Option ℕ) = map_at now home in
+    let rl : home.0 < length now.records =
+    records_within now home.0 r (on_within flags r (part.kept.used n r is)) in
+    let map_is : map_at (with_place mid home n None) home ≡ set places n None = map_placed mid home n None part.used in
+    rw now_is (record {
+      used = rw (entry_placed mid home n None part.used) (still_used (entry_of now home) n None part.used);
+      kept = rw (flags_used now home.0 r false rl, map_is) (kept_less flags places n r is part.kept);
+      rest = given_one now home n r is part.used rl ∙ part.rest;
+      gone = more_gone places (map_at (with_place mid home n None) home) n part.gone
+          (λ p other. ap (λ (ps : List (Option ℕ)). get_or ps p None) map_is
+          ∙ get_or-set_other places n p None None other)
+          (ap (λ (ps : List (Option ℕ)). get_or ps n None) map_is ∙ none_here places n);
+    })
+
+by_place : {D : Type 0} (old now new : Vols D) (home : ℕ × ℕ) (n : ℕ) (place : Option ℕ) → IsPartGiven old now home n
+    → place_at now home n ≡ place → new ≡ page_given now home n place → IsPartGiven old new home (n + 1)
+by_place old now new home n None part is now_is = rw now_is (record {
+  used = part.used;
+  kept = part.kept;
+  rest = part.rest;
+  gone = more_gone (map_at now home) (map_at now home) n part.gone (λ p other. refl) is;
+})
+by_place old now new home n (Some r) part is now_is = given_some_more old now new home n r part is now_is
+
+pub given_more : {D : Type 0} {old now : Vols D} {home : ℕ × ℕ} {n : ℕ} (new : Vols D) → IsPartGiven old now home n
+    → new ≡ page_given now home n (place_at now home n) → IsPartGiven old new home (n + 1)
+given_more {old = old} {now = now} {home = home} {n = n} new part is =
+    by_place old now new home n (place_at now home n) part refl is
+
+-- all pages
+pub names_none : {D : Type 0} {old now : Vols D} {home : ℕ × ℕ} → IsPartGiven old now home 256
+    → HasFullMaps (vtoc_at now home.0) → NamesNoRecord (vtoc_at now home.0) home.1
+names_none {now = now} {home = home} part full = record {
+  none = λ p. elim (below_or_past p 256) [
+    | inl lt ↦ part.gone p lt
+    | inr past ↦ get_or_past (map_at now home) p None (let long = full.places home.1 in omega (arith, long, past))
+  ];
+}
+
+pub given_end : {D : Type 0} {old now : Vols D} {home : ℕ × ℕ} (new : Vols D) → IsPartGiven old now home 256
+    → HasFullMaps (vtoc_at now home.0)
+    → new ≡ with_vtoc now home.0 (set (vtoc_at now home.0) home.1 None) → new ≡ given_back old home
+given_end {old = old} {now = now} {home = home} new part full is =
+    let flags : List Bool = records_at now home.0 in
+    is ∙ vols_same (with_vtoc now home.0 (set (vtoc_at now home.0) home.1 None)) (given_back now home) refl
+    (sym (ap (set now.records home.0) (given_none flags (map_at now home) (names_none part full).none)
+    ∙ set-get_or now.records home.0 [])) refl
+    ∙ part.rest
+
+pub all_given : {D : Type 0} {old now : Vols D} {home : ℕ × ℕ} {n : ℕ} → IsPartGiven old now home n → n ≡ 256
+    → IsPartGiven old now home 256
+all_given {old = old} {now = now} {home = home} part last = subst (IsPartGiven old now home) last part
+
+pub full_same : {table those : List (Option Entry)} → HasFullMaps table → table ≡ those → HasFullMaps those
+full_same full same = subst HasFullMaps same full
+
+pub names_same : (table those : List (Option Entry)) (e : ℕ) → table ≡ those → NamesNoRecord those e
+    → NamesNoRecord table e
+names_same table those e same none = rw same none

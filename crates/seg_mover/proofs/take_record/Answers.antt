@@ -1,0 +1,8 @@
+use Rattle.std.proofs.Common.{rules}
+use Rattle.volumes.specs.Volumes.{records_at}
+use Rattle.seg_mover.proofs.Records.{not_all}
+use Rattle.seg_mover.proofs.take_record.Goals as goal
+
+pub unreachable-requires : goal.unreachable-requires
+unreachable-requires g c =
+    not_all (records_at c.args.v.now c.args.to.0) (c.requires.room (search rules)) c.in-None.ensures.none
