@@ -1,5 +1,5 @@
 -- A home that is given up, page by page.
-use Rattle.std.proofs.Common.{◌≡◌, ◌≢◌, ℕ, ◌+◌, ◌<◌, Bool, true, false, List, [], length, Option, None, Some, IsSome}
+use Rattle.std.proofs.Common.{◌≡◌, ◌≢◌, ℕ, ◌+◌, ◌<◌, Bool, false, List, [], length, Option, None, Some, IsSome}
 use Rattle.std.proofs.Common.{refl, sym, ap, ◌∙◌, arith, get_or, set, subst, inl, inr}
 use Rattle.std.proofs.lemmas.Bool.{cases_eq}
 use Rattle.std.proofs.lemmas.List.{get_or_past, get_or-set_other, get_or-set_same, set_past, set-set, set-get_or}
@@ -9,8 +9,8 @@ use Rattle.seg_mover.specs.Homes.{entry_of, map_at, place_at}
 use Rattle.seg_mover.specs.Records.{AreKept, flags_given}
 use Rattle.seg_mover.specs.Moves.{given_back}
 use Rattle.seg_mover.specs.Steps.{with_place, page_given, IsPartGiven}
-use Rattle.seg_mover.proofs.Records.{below_or_past, given_less, given_none, kept_less, not_none}
-use Rattle.seg_mover.proofs.Places.{put, put_put, vtoc_within, still_used, entry_placed, map_placed, records_within}
+use Rattle.seg_mover.proofs.Records.{below_or_past, given_less, given_none, kept_less}
+use Rattle.seg_mover.proofs.Places.{put_put, vtoc_within, still_used, entry_placed, map_placed, records_within}
 use Rattle.seg_mover.proofs.Places.{on_within, flags_used, vols_same}
 
 pub given_start : {D : Type 0} (old : Vols D) (home : ℕ × ℕ) → IsSome (entry_of old home)

@@ -1,4 +1,9 @@
 pub mod Records
 pub mod Places
 pub mod Giving
+pub mod Given
 pub mod Beginning
+pub mod Begun
+pub mod Copying
+pub mod Choosing
+pub mod Words

@@ -1,15 +1,15 @@
 -- One place of a list of lists, and one entry of the VTOCs.
 use Rattle.std.proofs.Common.{◌≡◌, ◌≢◌, ℕ, ◌<◌, Bool, true, false, List, [], length, Option, None, Some, IsSome, is_some}
-use Rattle.std.proofs.Common.{refl, sym, ap, ◌∙◌, arith, get_or, set, inl, inr, replicate}
+use Rattle.std.proofs.Common.{refl, ap, ◌∙◌, arith, get_or, set, inl, inr, replicate}
 use Rattle.std.proofs.lemmas.Bool.{cases_eq}
 use Rattle.std.proofs.lemmas.List.{get_or-set_same, get_or-set_other, get_or_past, set-set, get_or-replicate, length-replicate}
 use Rattle.bitmap.specs.Bitmap.{in_use}
 use Rattle.vtoc.specs.FileMap.{no_records}
-use Rattle.vtoc.specs.Vtoc.{Entry, entry_at, uid_of, records_in, with_record}
+use Rattle.vtoc.specs.Vtoc.{Entry, uid_of, records_in, with_record}
 use Rattle.volumes.specs.Volumes.{Vols, records_at, vtoc_at, with_record_used}
-use Rattle.seg_mover.specs.Homes.{entry_of, uid_at, map_at, place_at}
+use Rattle.seg_mover.specs.Homes.{entry_of, map_at}
 use Rattle.seg_mover.specs.Steps.{with_place}
-use Rattle.seg_mover.proofs.Records.{below_or_past, not_none, off_and_on}
+use Rattle.seg_mover.proofs.Records.{below_or_past, off_and_on}
 
 pub within_from : {X : Type 0} (xs : List X) (i : ℕ) (d : X) → (get_or xs i d ≡ d → ⊥) → i < length xs
 within_from xs i d other = elim (below_or_past i (length xs)) [

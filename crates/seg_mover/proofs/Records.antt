@@ -6,7 +6,7 @@ use Rattle.std.specs.List.{position_or_len}
 use Rattle.std.proofs.lemmas.Bool.{cases_eq, lt-ltb}
 use Rattle.std.proofs.lemmas.Bool.Decides.{leb_tells}
 use Rattle.std.proofs.lemmas.List.{get_or-set_same, get_or-set_other, get_or_past, set_past, set-set, set_comm, set-get_or}
-use Rattle.std.proofs.lemmas.List.{length-set, get_or_default}
+use Rattle.std.proofs.lemmas.List.{length-set}
 use Rattle.std.proofs.lemmas.List.Elements.{All-head, All-tail}
 use Rattle.std.proofs.lemmas.List.Sums.{sum_by-cons, sum_by-set, fails_before_first}
 use Rattle.std.proofs.lemmas.List.Quantifiers.{position-Some}
@@ -115,9 +115,11 @@ adds_none less more places adds = record {
     fresh : (p r : ℕ) → get_or (None ∷ places) p None ≡ Some r → in_use less r ≡ false
     fresh zero r is = cc
     fresh (suc p) r is = adds.fresh p r is
+
     used : (p r : ℕ) → get_or (None ∷ places) p None ≡ Some r → in_use more r ≡ true
     used zero r is = cc
     used (suc p) r is = adds.kept.used p r is
+
     once : (p q r : ℕ) → get_or (None ∷ places) p None ≡ Some r → get_or (None ∷ places) q None ≡ Some r → p ≡ q
     once zero q r is it = cc
     once (suc p) zero r is it = cc
@@ -145,17 +147,21 @@ adds_some less more places r lt off adds = record {
   where
     here : in_use more r ≡ true
     here = adds.still r (taken_same less r lt)
+
     apart : (p : ℕ) → get_or places p None ≡ Some r → ⊥
     apart p is = off_and_on (in_use (set less r true) r) (adds.fresh p r is) (taken_same less r lt)
+
     fresh : (p s : ℕ) → get_or (Some r ∷ places) p None ≡ Some s → in_use less s ≡ false
     fresh zero s is = ap (in_use less) (sym (some_same r s is)) ∙ off
     fresh (suc p) s is = elim (cases_eq s r) [
       | inl same ↦ absurd (apart p (is ∙ ap Some same))
       | inr n ↦ sym (other_same less r s true n) ∙ adds.fresh p s is
     ]
+
     used : (p s : ℕ) → get_or (Some r ∷ places) p None ≡ Some s → in_use more s ≡ true
     used zero s is = ap (in_use more) (sym (some_same r s is)) ∙ here
     used (suc p) s is = adds.kept.used p s is
+
     once : (p q s : ℕ) → get_or (Some r ∷ places) p None ≡ Some s → get_or (Some r ∷ places) q None ≡ Some s → p ≡ q
     once zero zero s is it = refl
     once zero (suc q) s is it = absurd (apart q (it ∙ sym is))
@@ -333,8 +339,12 @@ with_some flags places q r is h =
       same = λ p. ap (λ (those : List (Option ℕ)). is_some (get_or those p None)) map_is ∙ same p;
       long = ap length map_is ∙ ap suc h.long;
       count = ap (count_by (λ (flag : Bool). flag)) flags_is
-          ∙ omega (arith, h.count, count_more flags r least.within least.free,
-          sum_by-cons (λ (place : Option ℕ). cond {A = ℕ} (is_some place) 1 0) (Some q) places);
+          ∙ omega (
+            arith,
+            h.count,
+            count_more flags r least.within least.free,
+            sum_by-cons (λ (place : Option ℕ). cond {A = ℕ} (is_some place) 1 0) (Some q) places,
+          );
       back = rw (flags_is, map_is) (given_set (flags_taken now places) (map_taken now places) r
           ∙ ap (λ (fs : List Bool). set fs r false) h.back ∙ off_again flags r least.free);
     }
@@ -357,3 +367,38 @@ has_taken flags (Some q ∷ places) room =
     let more = count_more flags found.0 least.within least.free in
     with_some flags places q found.0 found.1
     (has_taken (set flags found.0 true) places (omega (arith, step, room, more, length-set flags found.0 true)))
+
+-- ---- how many are given back
+
+kept_tail : (flags : List Bool) (place : Option ℕ) (places : List (Option ℕ)) → AreKept flags (place ∷ places)
+    → AreKept flags places
+kept_tail flags place places kept = record {
+  used = λ p r is. kept.used (suc p) r is;
+  once = λ p q r is it. suc_same p q (kept.once (suc p) (suc q) r is it);
+}
+  where
+    suc_same : (p q : ℕ) → suc p ≡ suc q → p ≡ q
+    suc_same p q same = omega (arith, same)
+
+count_less : (flags : List Bool) (r : ℕ) → in_use flags r ≡ true
+    → count_by (λ flag. flag) (set flags r false) + 1 ≡ count_by (λ flag. flag) flags
+count_less flags r on = elim (below_or_past r (length flags)) [
+  | inl lt ↦ (let step = sum_by-set (λ (flag : Bool). cond {A = ℕ} flag 1 0) flags r false false lt in
+      let one : cond {A = ℕ} (get_or flags r false) 1 0 ≡ 1 = rw on refl in
+      omega (arith, step, one))
+  | inr past ↦ absurd (off_and_on (in_use flags r) (get_or_past flags r false past) on)
+]
+
+pub count_given : (flags : List Bool) (places : List (Option ℕ)) → AreKept flags places
+    → count_by (λ flag. flag) (flags_given flags places) + count_by is_some places ≡ count_by (λ flag. flag) flags
+count_given flags [] kept = omega arith
+count_given flags (None ∷ places) kept =
+    let step = sum_by-cons (λ (place : Option ℕ). cond {A = ℕ} (is_some place) 1 0) None places in
+    let ih = count_given flags places (kept_tail flags None places kept) in
+    omega (arith, step, ih)
+count_given flags (Some r ∷ places) kept =
+    let step = sum_by-cons (λ (place : Option ℕ). cond {A = ℕ} (is_some place) 1 0) (Some r) places in
+    let less = count_less flags r (kept.used 0 r refl) in
+    let ih = count_given (set flags r false) places (kept_tail (set flags r false) None places
+    (kept_less flags (Some r ∷ places) 0 r refl kept)) in
+    omega (arith, step, less, ih)

@@ -1,12 +1,12 @@
 -- The pages of a segment that moves are copied from its old records to its new ones (own).
 use Rattle.std.specs.Prelude.{◌≡◌, ◌≢◌, ◌⊎◌, ℕ, zero, suc, ◌+◌, ◌-◌, ◌<◌, ◌≤◌, Bool, false, not, ◌&&◌, if◌then◌else◌}
 use Rattle.std.specs.Prelude.{List, [], Option, None, Some, Result, Ok, Err, is_some, length, map, sum_by, slice_get}
-use Rattle.std.specs.Prelude.{slice_index_or, OnOk, OnErr, true}
+use Rattle.std.specs.Prelude.{slice_index_or, IfOk, OnOk, OnErr, true}
 use Rattle.site_io.specs.Faults.{Rose}
 use Rattle.volumes.specs.FailLine.{IsOneMore}
 use Rattle.volumes.specs.Volumes.{Vols, faults_at, with_page}
 use Rattle.seg_mover.specs.declared.Mover.{Mover}
-use Rattle.seg_mover.specs.Homes.{map_at, place_at, words_filed}
+use Rattle.seg_mover.specs.Homes.{map_at, place_at, words_filed, words_of}
 use Rattle.seg_mover.specs.Moves.{number_or_zero}
 
 -- whether page p is to be copied: it has a record, and isn't to be skipped
@@ -50,6 +50,20 @@ abbrev pub moved_on : {T E : Type 0} → Mover → Option ℕ → Result T E →
 moved_on m None result = m
 moved_on m (Some p) (Ok x) = record m { next = p + 1 }
 moved_on m (Some p) (Err e) = m
+
+-- The volumes held `disks` and hold `now`, and the mover was `old` and is `new`, after a call that looked for the next
+-- page to copy.
+pub record HasCopied {D E : Type 0} (disks now : List (List (List ℕ))) (vols : Vols D) (old new : Mover)
+    (page : Option ℕ) (result : Result Bool E) : Type 0 where
+  pub answer : IfOk result (λ some. some ≡ is_some page)
+  pub mover : new ≡ moved_on old page result
+  pub pages : now ≡ after_copy disks vols old page result
+
+-- each page before page `next` of the mover that is to be copied has the same words at both homes
+pub record AreCopied {D : Type 0} (pages : D → List (List ℕ)) (vols : Vols D) (m : Mover) (skip : List Bool) :
+    Type 0 where
+  pub words : (p : ℕ) → p < m.next → is_to_copy (map_at vols m.from) skip p ≡ true → words_of pages vols m.to p
+      ≡ words_of pages vols m.from p
 
 -- ---- what a copy keeps of the drives
 

@@ -1,34 +1,51 @@
-use Rattle.std.proofs.Common.{rules, arith}
-use Rattle.seg_mover.proofs.Places.{used_some}
-use Rattle.seg_mover.proofs.Beginning.{can_store, begun_start, begun_more, begun_end, entry_now, has_room}
+use Rattle.seg_mover.proofs.Begun.{records_there, begins, begun_others, begun_uid, begun_same, begun_adds, begun_count}
+use Rattle.seg_mover.proofs.Begun.{begun_entries, begun_moving, begun_back}
 use Rattle.seg_mover.proofs.Mover.begin.Goals as goal
 
-pub loop-p-init : goal.loop-p-init
-loop-p-init g c =
-    begun_start c.take_entry.new.v c.requires
-    (can_store c.take_entry.result c.requires c.take_entry.ensures.least c.size.ensures.places (search rules))
-    c.take_entry.ensures.taken
+pub returns-clause-uid : goal.returns-clause-uid
+returns-clause-uid g c =
+    begun_uid (begins c.take_home-entry.new.v c.requires c.take_home-entry.ensures.least
+    (records_there g.D.Drive.pages c.args.v.now c.args.to c.promise.ensures.parts c.requires.target)
+    c.take_home-entry.ensures.begun c.take_home-entry.ensures.number)
 
-pub take_record-requires-clause-new_used : goal.take_record-requires-clause-new_used
-take_record-requires-clause-new_used g c =
-    used_some (entry_now
-    (can_store c.take_entry.result c.requires c.take_entry.ensures.least c.size.ensures.places (search rules))
-    c.loop-p.invariant)
+pub returns-clause-same : goal.returns-clause-same
+returns-clause-same g c =
+    begun_same (begins c.take_home-entry.new.v c.requires c.take_home-entry.ensures.least
+    (records_there g.D.Drive.pages c.args.v.now c.args.to c.promise.ensures.parts c.requires.target)
+    c.take_home-entry.ensures.begun c.take_home-entry.ensures.number)
 
-pub take_record-requires-clause-room : goal.take_record-requires-clause-room
-take_record-requires-clause-room g c =
-    has_room
-    (can_store c.take_entry.result c.requires c.take_entry.ensures.least c.size.ensures.places (search rules))
-    c.loop-p.invariant (search rules)
+pub returns-clause-adds : goal.returns-clause-adds
+returns-clause-adds g c =
+    begun_adds (begins c.take_home-entry.new.v c.requires c.take_home-entry.ensures.least
+    (records_there g.D.Drive.pages c.args.v.now c.args.to c.promise.ensures.parts c.requires.target)
+    c.take_home-entry.ensures.begun c.take_home-entry.ensures.number)
 
-pub loop-p-preserved : goal.loop-p-preserved
-loop-p-preserved g c =
-    begun_more c.take_record.new.v
-    (can_store c.take_entry.result c.requires c.take_entry.ensures.least c.size.ensures.places (search rules))
-    c.loop-p.invariant (search rules) c.take_record.ensures.none c.take_record.ensures.some
+pub returns-clause-taken : goal.returns-clause-taken
+returns-clause-taken g c =
+    begun_count (begins c.take_home-entry.new.v c.requires c.take_home-entry.ensures.least
+    (records_there g.D.Drive.pages c.args.v.now c.args.to c.promise.ensures.parts c.requires.target)
+    c.take_home-entry.ensures.begun c.take_home-entry.ensures.number)
 
-pub returns-clause-begun : goal.returns-clause-begun
-returns-clause-begun g c =
-    begun_end
-    (can_store c.take_entry.result c.requires c.take_entry.ensures.least c.size.ensures.places (search rules))
-    c.loop-p.invariant (omega arith) c.take_entry.ensures.number
+pub returns-clause-entries : goal.returns-clause-entries
+returns-clause-entries g c =
+    begun_entries (begins c.take_home-entry.new.v c.requires c.take_home-entry.ensures.least
+    (records_there g.D.Drive.pages c.args.v.now c.args.to c.promise.ensures.parts c.requires.target)
+    c.take_home-entry.ensures.begun c.take_home-entry.ensures.number)
+
+pub returns-clause-others : goal.returns-clause-others
+returns-clause-others g c =
+    begun_others (begins c.take_home-entry.new.v c.requires c.take_home-entry.ensures.least
+    (records_there g.D.Drive.pages c.args.v.now c.args.to c.promise.ensures.parts c.requires.target)
+    c.take_home-entry.ensures.begun c.take_home-entry.ensures.number)
+
+pub returns-clause-moving : goal.returns-clause-moving
+returns-clause-moving g c =
+    begun_moving (begins c.take_home-entry.new.v c.requires c.take_home-entry.ensures.least
+    (records_there g.D.Drive.pages c.args.v.now c.args.to c.promise.ensures.parts c.requires.target)
+    c.take_home-entry.ensures.begun c.take_home-entry.ensures.number)
+
+pub returns-clause-back : goal.returns-clause-back
+returns-clause-back g c =
+    begun_back (begins c.take_home-entry.new.v c.requires c.take_home-entry.ensures.least
+    (records_there g.D.Drive.pages c.args.v.now c.args.to c.promise.ensures.parts c.requires.target)
+    c.take_home-entry.ensures.begun c.take_home-entry.ensures.number)

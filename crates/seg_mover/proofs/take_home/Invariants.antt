@@ -1,5 +1,5 @@
 use Rattle.seg_mover.specs.Steps.{IsPartBegun}
-use Rattle.seg_mover.proofs.Mover.begin.Given as goal
+use Rattle.seg_mover.proofs.take_home.Given as goal
 
 abbrev pub invariant-loop-p : goal.invariant-loop-p
 invariant-loop-p g l = IsPartBegun l.fn.v l.v l.uid l.from l.home l.p

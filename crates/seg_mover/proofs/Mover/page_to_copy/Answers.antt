@@ -1,0 +1,19 @@
+use Rattle.std.proofs.Common.{rules, sym, ◌∙◌}
+use Rattle.seg_mover.specs.Homes.{map_at}
+use Rattle.seg_mover.proofs.Choosing.{first_here, first_skip, first_past}
+use Rattle.seg_mover.proofs.Mover.page_to_copy.Goals as goal
+
+pub returns-then-is_to_copy : goal.returns-then-is_to_copy
+returns-then-is_to_copy g c =
+    sym (first_here (map_at c.args.v.now c.args.self.now.from) c.args.skip.now c.loop-p.p (search rules) (search rules))
+    ∙ c.loop-p.invariant
+
+pub loop-p-preserved : goal.loop-p-preserved
+loop-p-preserved g c =
+    first_skip (map_at c.args.v.now c.args.self.now.from) c.args.skip.now c.loop-p.p (search rules) (search rules)
+    ∙ c.loop-p.invariant
+
+pub returns : goal.returns
+returns g c =
+    sym (first_past (map_at c.args.v.now c.args.self.now.from) c.args.skip.now c.loop-p.p (search rules))
+    ∙ c.loop-p.invariant
