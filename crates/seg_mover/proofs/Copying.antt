@@ -35,7 +35,11 @@ read_failed plan places faults old new v w result e is plans stores count others
   others = λ u other _. others.same u other;
   grows = grows;
   told = tt;
-  failed = inl (record { once = once; rose = its; others = λ u other. count_kept faults old new u (others.same u other) });
+  failed = inl (record {
+    once = once;
+    rose = its;
+    others = λ u other. count_kept faults old new u (others.same u other);
+  });
   rose = rose;
 })
 

@@ -42,7 +42,8 @@ given_adds {old = old} {home = home} h = rw (flags_are h) (gives (records_at old
 pub given_count : {D : Type 0} {old now : Vols D} {home : ℕ × ℕ} → Gives old now home
     → used_at now home.0 + count_by is_some (map_at old home) ≡ used_at old home.0
 given_count {old = old} {home = home} h =
-    ap (λ (flags : List Bool). count_by (λ (flag : Bool). flag) flags + count_by is_some (map_at old home)) (flags_are h)
+    ap (λ (flags : List Bool). count_by (λ (flag : Bool). flag) flags + count_by is_some (map_at old home))
+    (flags_are h)
     ∙ count_given (records_at old home.0) (map_at old home) h.kept
 
 entry_less : (table : List (Option Entry)) (e : ℕ) → e < length table → IsSome (entry_at table e)

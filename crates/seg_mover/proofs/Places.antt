@@ -1,8 +1,10 @@
 -- One place of a list of lists, and one entry of the VTOCs.
-use Rattle.std.proofs.Common.{◌≡◌, ◌≢◌, ℕ, ◌<◌, Bool, true, false, List, [], length, Option, None, Some, IsSome, is_some}
+use Rattle.std.proofs.Common.{◌≡◌, ◌≢◌, ℕ, ◌<◌, Bool, true, false, List, [], length, Option, None, Some, IsSome}
+use Rattle.std.proofs.Common.{is_some}
 use Rattle.std.proofs.Common.{refl, ap, ◌∙◌, arith, get_or, set, inl, inr, replicate}
 use Rattle.std.proofs.lemmas.Bool.{cases_eq}
-use Rattle.std.proofs.lemmas.List.{get_or-set_same, get_or-set_other, get_or_past, set-set, get_or-replicate, length-replicate}
+use Rattle.std.proofs.lemmas.List.{get_or-set_same, get_or-set_other, get_or_past, set-set, get_or-replicate}
+use Rattle.std.proofs.lemmas.List.{length-replicate}
 use Rattle.bitmap.specs.Bitmap.{in_use}
 use Rattle.vtoc.specs.FileMap.{no_records}
 use Rattle.vtoc.specs.Vtoc.{Entry, uid_of, records_in, with_record}

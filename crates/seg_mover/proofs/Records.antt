@@ -5,7 +5,8 @@ use Rattle.std.proofs.Common.{count_by, All}
 use Rattle.std.specs.List.{position_or_len}
 use Rattle.std.proofs.lemmas.Bool.{cases_eq, lt-ltb}
 use Rattle.std.proofs.lemmas.Bool.Decides.{leb_tells}
-use Rattle.std.proofs.lemmas.List.{get_or-set_same, get_or-set_other, get_or_past, set_past, set-set, set_comm, set-get_or}
+use Rattle.std.proofs.lemmas.List.{get_or-set_same, get_or-set_other, get_or_past, set_past, set-set, set_comm}
+use Rattle.std.proofs.lemmas.List.{set-get_or}
 use Rattle.std.proofs.lemmas.List.{length-set}
 use Rattle.std.proofs.lemmas.List.Elements.{All-head, All-tail}
 use Rattle.std.proofs.lemmas.List.Sums.{sum_by-cons, sum_by-set, fails_before_first}
@@ -51,7 +52,8 @@ off_from : (b : Bool) → not b ≡ true → b ≡ false
 off_from true h = cc
 off_from false h = refl
 
-pub least_there : (flags : List Bool) → count_by (λ flag. flag) flags < length flags → (r : ℕ) × (least_free flags ≡ Some r)
+pub least_there : (flags : List Bool) → count_by (λ flag. flag) flags < length flags
+    → (r : ℕ) × (least_free flags ≡ Some r)
 least_there flags few = elim (below_or_past (position_or_len not flags) (length flags)) [
   | inl lt ↦ (position_or_len not flags, rw (lt-ltb (position_or_len not flags) (length flags) lt) refl)
   | inr past ↦ absurd (let full : count_by (λ (flag : Bool). flag) flags ≡ length flags =
@@ -84,7 +86,8 @@ given_same flags r = elim (below_or_past r (length flags)) [
 pub other_same : (flags : List Bool) (r s : ℕ) (flag : Bool) → s ≢ r → in_use (set flags r flag) s ≡ in_use flags s
 other_same flags r s flag n = get_or-set_other flags r s flag false n
 
-still_taken : (flags : List Bool) (r s : ℕ) → r < length flags → in_use flags s ≡ true → in_use (set flags r true) s ≡ true
+still_taken : (flags : List Bool) (r s : ℕ) → r < length flags → in_use flags s ≡ true
+    → in_use (set flags r true) s ≡ true
 still_taken flags r s lt on = elim (cases_eq s r) [
   | inl same ↦ ap (in_use (set flags r true)) same ∙ taken_same flags r lt
   | inr n ↦ other_same flags r s true n ∙ on
@@ -310,7 +313,8 @@ taken_none flags = record {
   back = refl;
 }
 
-taken_more_none : (flags : List Bool) (places : List (Option ℕ)) → HasTaken flags places → HasTaken flags (None ∷ places)
+taken_more_none : (flags : List Bool) (places : List (Option ℕ)) → HasTaken flags places
+    → HasTaken flags (None ∷ places)
 taken_more_none flags places h = record {
   adds = adds_none flags (flags_taken flags places) (map_taken flags places) h.adds;
   same = same;

@@ -121,7 +121,8 @@ words_others pages old new m n skip result h q other =
     kept pages old new m.to q h.tables
     (elim (after_cases (map pages old.drives) (map pages new.drives) old m (page_to_copy old m skip) result
     h.step.pages) [
-      | inl same ↦ ap (λ (disks : List (List (List ℕ))). words_filed (get_or disks m.to.0 []) (place_at old m.to q)) same
+      | inl same ↦ ap (λ (disks : List (List (List ℕ))).
+          words_filed (get_or disks m.to.0 []) (place_at old m.to q)) same
       | inr one ↦ (let copy = copy_of pages old m skip one.0 h.moving h.parts one.1 in
           elsewhere pages old new m one.0 copy.0 q h.moving copy.1 one.2 (λ same. other (one.1 ∙ ap Some (sym same)))
           (place_at old m.to q) refl)
@@ -232,7 +233,8 @@ pub all_copied : {D E : Type 0} (pages : D → List (List ℕ)) (old new : Vols 
     → words_of pages new n.to p ≡ words_of pages new n.from p
 all_copied pages old new m n skip result h ended done =
     let none : page_to_copy old m skip ≡ None = none_from (page_to_copy old m skip)
-    (subst (λ (res : Result Bool _). IfOk res (λ some. some ≡ is_some (page_to_copy old m skip))) ended h.step.answer) in
+    (subst (λ (res : Result Bool _). IfOk res (λ some. some ≡ is_some (page_to_copy old m skip))) ended
+    h.step.answer) in
     let same : n ≡ m = h.step.mover ∙ ap (λ (page : Option ℕ). moved_on m page result) none in
     subst (λ (x : Mover). (p : ℕ) → p < 256 → is_to_copy (map_at new x.from) skip p ≡ true
     → words_of pages new x.to p ≡ words_of pages new x.from p) (sym same) (go none)

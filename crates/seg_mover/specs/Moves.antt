@@ -45,7 +45,8 @@ given_back vols home = record vols {
   vtocs = slice_set vols.vtocs home.0 (slice_set (vtoc_at vols home.0) home.1 None);
 }
 
--- the volumes after a move is committed, which gives the old home up, and after it is undone, which gives the new one up
+-- the volumes after a move is committed, which gives the old home up; and after it is undone, which gives the new one
+-- up
 abbrev pub committed : {D : Type 0} → Vols D → Mover → Vols D
 committed vols m = given_back vols m.from
 

@@ -1,4 +1,5 @@
--- Which records a segment takes on a volume, and which it gives back (Organick 1972; that it takes the least ones is own).
+-- Which records a segment takes on a volume, and which it gives back (Organick 1972; that it takes the least ones is
+-- own).
 use Rattle.std.specs.Prelude.{◌≡◌, ◌⊎◌, ℕ, Bool, true, false, List, [], ◌∷◌, length, Option, None, Some, slice_set}
 use Rattle.std.specs.Prelude.{slice_index_or}
 use Rattle.bitmap.specs.Bitmap.{in_use, least_free}

@@ -48,11 +48,11 @@ pub struct Mover {
 }
 
 impl Mover {
-    /// Begins to move segment `uid` from its home to volume `to`: takes the least free entry there, and for each page that
-    /// the old file map names, in order of page, the least free record.
+    /// Begins to move segment `uid` from its home to volume `to`: takes the least free entry there, and for each page
+    /// that the old file map names, in order of page, the least free record.
     ///
-    /// It asks that the volume is another, with a free entry and as many free records as the old file map names, and with
-    /// fewer than 65,536 in all. It reads the 256 places of one file map, and calls no drive. (Source: own.)
+    /// It asks that the volume is another, with a free entry and as many free records as the old file map names, and
+    /// with fewer than 65,536 in all. It reads the 256 places of one file map, and calls no drive. (Source: own.)
     pub fn begin<D: Drive>(v: &mut Volumes<D>, uid: u32, from: (u32, u32), to: u32) -> Mover
         requires { CanBegin v.old uid from to }
         ensures begun { v.new ≡ begun v.old uid from to }
@@ -79,12 +79,14 @@ impl Mover {
         }
     }
 
-    /// Copies the next page: the least one from `next` on that the file maps name and that `skip`, of 256 places, doesn't
-    /// say to leave out. It is read from its old record into `spare` and written to its new one; true is answered, and
-    /// `next` is past it. False exactly where there is no such page; nothing has changed then, and no drive was called.
+    /// Copies the next page: the least one from `next` on that the file maps name and that `skip`, of 256 places,
+    /// doesn't say to leave out. It is read from its old record into `spare` and written to its new one; true is
+    /// answered, and `next` is past it. False exactly where there is no such page: nothing has changed then, and no
+    /// drive was called.
     ///
-    /// `Failed` is a failure of one of the two drives, which that drive has counted. No page and no `next` has changed
-    /// then, and `spare` may hold the page that was read. It costs one read and one write of a drive. (Source: own.)
+    /// `Failed` is the failure of one of the two drives, which that drive alone has counted. No page of a drive and not
+    /// `next` has changed then, and `spare` may hold the page that was read. It costs a read of the one drive and a
+    /// write of the other. (Source: own.)
     pub fn copy_next<D: Drive>(
         &mut self,
         v: &mut Volumes<D>,
