@@ -2,6 +2,7 @@
 
 mod clock;
 mod fast_stores;
+mod moves;
 mod numbers;
 mod streams;
 mod words;

@@ -17,11 +17,12 @@ pub record CanBegin {D : Type 0} (vols : Vols D) (uid : ℕ) (from : ℕ × ℕ)
   pub room : used_at vols to + count_by is_some (map_at vols from) ≤ length (records_at vols to)
   pub short : length (records_at vols to) < 2 ^ 16
 
--- the least free entry of volume v, 0 where there is none
+-- the number that is there, and 0 where there is none
 abbrev pub number_or_zero : Option ℕ → ℕ
 number_or_zero None = 0
 number_or_zero (Some n) = n
 
+-- the least free entry of volume v
 abbrev pub entry_for : {D : Type 0} → Vols D → ℕ → ℕ
 entry_for vols v = number_or_zero (least_free_entry (vtoc_at vols v))
 

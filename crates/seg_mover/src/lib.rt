@@ -2,8 +2,8 @@
 //!
 //! A move begins with a second home on the new volume, whose file map names a record for exactly the pages that the old
 //! one names (`Mover::begin`). Page after page is copied then (`copy_next`). Last the old home is given up (`commit`),
-//! or, where the move can't be done, the new one (`undo`). That a full volume has a segment moved is of Multics
-//! (Organick 1972); the steps are own.
+//! or, where the move can't be done, the new one (`undo`). Volumes, records and file maps are of Multics (Organick
+//! 1972); the steps of a move are own.
 //!
 //! A home is a volume and an entry of its VTOC, as a pair. Pages have 1024 words, and a segment has at most 256 of
 //! them; a record is the place of one page.

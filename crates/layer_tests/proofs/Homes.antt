@@ -1,0 +1,129 @@
+-- A record that the tests of moves take at a home.
+use Rattle.std.proofs.Common.{◌≡◌, ◌⊎◌, ℕ, ◌<◌, ◌≤◌, Bool, true, false, List, [], length, Option, None, Some}
+use Rattle.std.proofs.Common.{IsSome, refl, sym, ap, ◌∙◌, arith, get_or, set, inl, inr}
+use Rattle.std.proofs.lemmas.Bool.{cases_eq}
+use Rattle.std.proofs.lemmas.Bool.Decides.{leb_tells}
+use Rattle.std.proofs.lemmas.List.{get_or-set_same, get_or-set_other, get_or_past, length-set}
+use Rattle.bitmap.specs.Bitmap.{in_use, IsLeastFree}
+use Rattle.vtoc.specs.Vtoc.{Entry, records_in, with_record}
+use Rattle.volumes.specs.Volumes.{Vols, records_at, vtoc_at, with_record_used, with_vtoc}
+use Rattle.seg_mover.specs.Homes.{entry_of, map_at}
+use Rattle.seg_mover.specs.Records.{AreKept}
+use Rattle.layer_tests.specs.Homes.{IsHome}
+
+below_or_past : (a b : ℕ) → (a < b) ⊎ (b ≤ a)
+below_or_past a b = elim (leb_tells b a) [ inl h ↦ inr h.1 | inr h ↦ inl h.1 ]
+
+not_none : {A : Type 0} (x : Option A) (a : A) → x ≡ None → x ≡ Some a → ⊥
+not_none x a h i = cc
+
+off_and_on : (b : Bool) → b ≡ false → b ≡ true → ⊥
+off_and_on b h i = cc
+
+within_from : {X : Type 0} (xs : List X) (i : ℕ) (d : X) → (get_or xs i d ≡ d → ⊥) → i < length xs
+within_from xs i d other = elim (below_or_past i (length xs)) [
+  | inl lt ↦ lt
+  | inr past ↦ absurd (other (get_or_past xs i d past))
+]
+
+list_within : {X : Type 0} (xs : List (List X)) (v e : ℕ) → e < length (get_or xs v []) → v < length xs
+list_within xs v e lt = within_from xs v [] (λ none. (let no : length (get_or xs v []) ≡ 0 =
+    ap length none in omega (arith, no, lt)))
+
+-- place e of list v becomes x
+put_here : {X : Type 0} (xs : List (List X)) (v e : ℕ) (x d : X) → e < length (get_or xs v [])
+    → get_or (get_or (set xs v (set (get_or xs v []) e x)) v []) e d ≡ x
+put_here xs v e x d el =
+    ap (λ (ys : List _). get_or ys e d)
+    (get_or-set_same xs v (set (get_or xs v []) e x) [] (list_within xs v e el))
+    ∙ get_or-set_same (get_or xs v []) e x d el
+
+-- ---- a record that is filed
+
+some_same : (r s : ℕ) → Some r ≡ Some s → r ≡ s
+some_same r s is = cc
+
+-- the place of another page, or the record that was put
+put_names : (places : List (Option ℕ)) (n p r s : ℕ) → get_or (set places n (Some r)) p None ≡ Some s
+    → ((p ≡ n) × (s ≡ r)) ⊎ (get_or places p None ≡ Some s)
+put_names places n p r s is = elim (cases_eq p n) [
+  | inl same ↦ elim (below_or_past n (length places)) [
+    | inl lt ↦ inl (
+      same,
+      some_same s r (sym is ∙ ap (λ (q : ℕ). get_or (set places n (Some r)) q None) same
+          ∙ get_or-set_same places n (Some r) None lt),
+    )
+    | inr past ↦ absurd (not_none (get_or (set places n (Some r)) p None) s (none_past same past) is)
+  ]
+  | inr other ↦ inr (sym (get_or-set_other places n p (Some r) None other) ∙ is)
+]
+  where
+    none_past : p ≡ n → length places ≤ n → get_or (set places n (Some r)) p None ≡ None
+    none_past same past = get_or_past (set places n (Some r)) p None
+        (let long = length-set places n (Some r) in omega (arith, long, same, past))
+
+kept_more : (flags : List Bool) (places : List (Option ℕ)) (n r : ℕ) → IsLeastFree flags r → AreKept flags places
+    → AreKept (set flags r true) (set places n (Some r))
+kept_more flags places n r least kept = record { used = used; once = once }
+  where
+    apart : (p : ℕ) → get_or places p None ≡ Some r → ⊥
+    apart p at = off_and_on (in_use flags r) least.free (kept.used p r at)
+
+    here : in_use (set flags r true) r ≡ true
+    here = get_or-set_same flags r true false least.within
+
+    used : (p s : ℕ) → get_or (set places n (Some r)) p None ≡ Some s → in_use (set flags r true) s ≡ true
+    used p s is = elim (put_names places n p r s is) [
+      | inl put ↦ ap (in_use (set flags r true)) put.1 ∙ here
+      | inr at ↦ elim (cases_eq s r) [
+        | inl same ↦ ap (in_use (set flags r true)) same ∙ here
+        | inr other ↦ get_or-set_other flags r s true false other ∙ kept.used p s at
+      ]
+    ]
+
+    once : (p q s : ℕ) → get_or (set places n (Some r)) p None ≡ Some s → get_or (set places n (Some r)) q None ≡ Some s
+        → p ≡ q
+    once p q s is it = elim (put_names places n p r s is) [
+      | inl put ↦ elim (put_names places n q r s it) [
+        | inl too ↦ put.0 ∙ sym too.0
+        | inr at ↦ absurd (apart q (at ∙ ap Some put.1))
+      ]
+      | inr at ↦ elim (put_names places n q r s it) [
+        | inl too ↦ absurd (apart p (at ∙ ap Some too.1))
+        | inr then ↦ kept.once p q s at then
+      ]
+    ]
+
+entry_within : {D : Type 0} (vols : Vols D) (home : ℕ × ℕ) → IsSome (entry_of vols home)
+    → home.1 < length (vtoc_at vols home.0)
+entry_within vols home used = within_from (vtoc_at vols home.0) home.1 None (not_free (entry_of vols home) used)
+  where
+    not_free : (entry : Option Entry) → IsSome entry → entry ≡ None → ⊥
+    not_free None used is = cc
+    not_free (Some entry) used is = cc
+
+map_with : (entry : Option Entry) (p : ℕ) (place : Option ℕ) → IsSome entry
+    → IsSome (with_record entry p place) × (records_in (with_record entry p place) ≡ set (records_in entry) p place)
+map_with None p place used = cc
+map_with (Some entry) p place used = (refl, refl)
+
+pub filed_home : {D : Type 0} (old now : Vols D) (home : ℕ × ℕ) (n r : ℕ) → IsHome old home
+    → IsLeastFree (records_at old home.0) r
+    → now ≡ with_vtoc (with_record_used old home.0 r true) home.0
+    (set (vtoc_at old home.0) home.1 (with_record (entry_of old home) n (Some r)))
+    → IsHome now home
+filed_home old now home n r h least is =
+    let new : Vols _ = with_vtoc (with_record_used old home.0 r true) home.0
+    (set (vtoc_at old home.0) home.1 (with_record (entry_of old home) n (Some r))) in
+    let entry : entry_of new home ≡ with_record (entry_of old home) n (Some r) =
+    put_here old.vtocs home.0 home.1 (with_record (entry_of old home) n (Some r)) None (entry_within old home h.used) in
+    let with = map_with (entry_of old home) n (Some r) h.used in
+    let flags : records_at new home.0 ≡ set (records_at old home.0) r true =
+    get_or-set_same old.records home.0 (set (records_at old home.0) r true) []
+    (list_within old.records home.0 r least.within) in
+    let map_is : map_at new home ≡ set (map_at old home) n (Some r) = ap records_in entry ∙ with.1 in
+    rw is (record {
+      volume = h.volume;
+      used = rw entry with.0;
+      kept = rw (flags, map_is) (kept_more (records_at old home.0) (map_at old home) n r least h.kept);
+    })

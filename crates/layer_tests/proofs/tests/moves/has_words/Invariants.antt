@@ -1,0 +1,5 @@
+use Rattle.layer_tests.specs.Homes.{IsHome}
+use Rattle.layer_tests.proofs.tests.moves.has_words.Given as goal
+
+abbrev pub invariant-loop-p : goal.invariant-loop-p
+invariant-loop-p l = IsHome l.v l.home

@@ -1,0 +1,5 @@
+use Rattle.layer_tests.specs.Homes.{IsHome}
+use Rattle.layer_tests.proofs.tests.moves.segment.Given as goal
+
+abbrev pub invariant-loop-p : goal.invariant-loop-p
+invariant-loop-p g l = IsHome l.v l.home
