@@ -15,8 +15,8 @@ const TURNS: u32 = 1_000_000;
 /// How often a thread lets others go first in a turn.
 const YIELDS: u32 = 8;
 
-/// How many runs are looked at together.
-const RUNS: u32 = 20;
+/// How many drills are tried.
+const RUNS: u32 = 10;
 
 // Holds the keeper, and each of two processors at its first touch, until all three have come, and counts the touches.
 #[derive(Drop)]
@@ -105,20 +105,51 @@ fn two_processors_touch_while_the_keeper_waits(rt: HostRuntime) -> Result<(), No
     Ok(())
 }
 
-// In each run a frame is bound again. Over all, 200 adds and 16 rounds a run, at least half of the adds are made by
-// touches, and in more than three of four rounds a frame is bound again: a keeper that asks for an earlier stamp than
-// the one that it raised can bind in every other round at most.
+// In each run more than half of the 16 rounds bind a frame again: a keeper that asks for an earlier stamp than the one
+// that it raised can bind in every other round at most. And at least half of the 200 adds are made by touches: few are
+// where a processor that stands at a closed door doesn't answer the keeper.
 #[test]
 fn frames_are_bound_again_while_two_processors_touch(rt: HostRuntime) -> Result<(), NoMemory> {
-    let mut all_bound: u64 = 0;
-    let mut all_touches: u64 = 0;
     for seed in 0..RUNS {
         let (bound, touches) = run(&rt, rt.alloc(), seed)?;
-        assert!(&rt; bound > 0);
-        all_bound = all_bound.saturating_add(bound);
-        all_touches = all_touches.saturating_add(touches);
+        assert!(&rt; bound > 8);
+        assert!(&rt; touches >= 100);
     }
-    assert!(&rt; all_touches >= 2000);
-    assert!(&rt; all_bound > 240);
+    Ok(())
+}
+
+// Holds the keeper until two processors have made their 200 adds, and counts the touches.
+#[derive(Drop)]
+struct Late {
+    touches: AtomicU64,
+}
+
+impl Gate for Late {
+    fn hold<R: Threads + Wait + Sync>(&self, _rt: &R, _cpu: u32, point: Point) {
+        if matches!(point, Point::Answered(_)) {
+            self.touches.fetch_add(1, Ordering::SeqCst);
+            return;
+        }
+        for _ in 0..TURNS {
+            if self.touches.load(Ordering::SeqCst) == 200 {
+                return;
+            }
+            for _ in 0..YIELDS {
+                thread::yield_now();
+            }
+        }
+    }
+}
+
+// All adds are made before the first door closes, and then more than half of the 16 rounds bind a frame again: a
+// processor that is done answers the keeper until its rounds are over.
+#[test]
+fn who_is_done_answers_the_keeper(rt: HostRuntime) -> Result<(), NoMemory> {
+    let late = Late {
+        touches: AtomicU64::new(0),
+    };
+    let drilled = drill(&rt, rt.alloc(), 2, 4, 100, 1, &late)?;
+    assert!(&rt; drilled.touches == 200);
+    assert!(&rt; drilled.bindings > 12);
     Ok(())
 }
