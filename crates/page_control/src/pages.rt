@@ -311,7 +311,8 @@ impl<D: Drive> Pages<D> {
     }
 
     /// Reads page `p` of segment `uid` into the frame `f` that was started for it, and binds the frame to it. After
-    /// `Failed`, which its drive has counted, `f` is free, and the rest as before. It costs one read of the drive. (Source: Bensoussan, Clingen and Daley 1972.)
+    /// `Failed`, which its drive has counted, `f` is free, and the rest as before. It costs one read of the drive.
+    /// (Source: Bensoussan, Clingen and Daley 1972.)
     pub fn end_in(
         &mut self,
         t: &mut PageTable,
@@ -397,8 +398,8 @@ impl<D: Drive> Pages<D> {
     }
 
     /// Empties frame `f`, whose page is on its way out. A page that is all zeros gives its record back, with no call of
-    /// a drive; one whose modified mark is on is written to its record. After `Failed`, which its drive has counted, the
-    /// page is still leaving. (Source: Organick 1972.)
+    /// a drive; one whose modified mark is on is written to its record. After `Failed`, which its drive has counted,
+    /// the page is still leaving. (Source: Organick 1972.)
     pub fn evict(&mut self, t: &mut PageTable, home: Home, f: u32) -> Result<Left, Failed>
         requires bound { is_bound (frame_at self.old.core f) ≡ true }
         requires leaving { ptw_at t.old (number_in (frame_at self.old.core f)) ≡ Leaving f }
