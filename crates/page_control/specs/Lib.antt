@@ -15,3 +15,4 @@ pub mod Ties
 pub mod Drives
 pub mod Steps
 pub mod Erasing
+pub mod Lending

@@ -13,6 +13,10 @@ pub record Paging (D : Type 0) : Type 0 where
   pub frames : List (List ℕ)
   pub volumes : Vols D
 
+-- the same after the volumes have changed
+abbrev pub with_volumes : {D : Type 0} → Paging D → Vols D → Paging D
+with_volumes s volumes = record s { volumes = volumes }
+
 -- the same with the pages of each drive in place of the drive
 pub record Plain : Type 0 where
   pub core : Core

@@ -2,6 +2,7 @@ ghost use Rattle.std.specs.Prelude.{◌≡◌, ◌≢◌, ◌+◌, ◌≤◌, �
 ghost use Rattle.std.specs.Prelude.{Ok, length, take, replicate, slice_index, slice_set, All, IsTrue, IsSome};
 ghost use Rattle.std.specs.Prelude.{IsOk, IsErr, IfOk, IfSome, IfNone, OnOk, OnErr};
 ghost use Rattle.std.specs.List.{list_any};
+ghost use Rattle.std.specs.Borrow.{sem};
 ghost use Rattle.core_map.specs.declared.Frame.TheVariants.{Free, Started, Bound};
 ghost use Rattle.core_map.specs.CoreMap.{reads_of, frame_at, with_frame, is_bound, is_modified};
 ghost use Rattle.core_map.specs.Clock.{IsClockChoice, clock_choice, after_choice};
@@ -27,6 +28,7 @@ ghost use Rattle.page_control.specs.Tied.{IsTableOf, HasNoFrame, IsMapOf, AreFil
 ghost use Rattle.page_control.specs.Tied.{IsBoundTo, IsInFrame, IsBlank};
 ghost use Rattle.page_control.specs.Tied.{uid_at, map_at, frame_of, uid_in, is_away, is_out};
 ghost use Rattle.page_control.specs.Ties.{IsTied, IsSeen, KeepsOthers, KeepsTies};
+ghost use Rattle.page_control.specs.Lending.{lends_volumes};
 ghost use Rattle.page_control.specs.declared.Home.{Home};
 
 use crate::{Home, Left, NoMemory, NoRecord};
@@ -98,6 +100,14 @@ impl<D: Drive> Pages<D> {
             → words_at (plain D.pages self.now) uid home p ≡ words_out (plain D.pages self.now) home p }
     {
         &self.volumes
+    }
+
+    /// Lends the volumes, and nothing else. It finds them at once. (Source: own.)
+    pub fn volumes_mut(&mut self) -> &mut Volumes<D>
+        ensures* writes_back { sem 𝓛 (lends_volumes D.row D.Drive self.entry result) }
+        ensures value { result.now ≡ self.old.volumes }
+    {
+        &mut self.volumes
     }
 
     /// The word of page `p`, which tells where the page of a segment is. It reads one word. (Source: Bensoussan,
