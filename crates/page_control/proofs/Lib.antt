@@ -8,6 +8,8 @@ pub mod Naming
 pub mod Counting
 pub mod Turns
 pub mod Marks
+pub mod Modified
+pub mod Moved
 pub mod Touching
 pub mod Homes
 pub mod Erasing

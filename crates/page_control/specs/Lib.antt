@@ -13,6 +13,7 @@ pub mod Picture
 pub mod Counts
 pub mod Ties
 pub mod Drives
+pub mod Moves
 pub mod Steps
 pub mod Erasing
 pub mod Lending

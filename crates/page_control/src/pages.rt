@@ -1,6 +1,6 @@
 ghost use Rattle.std.specs.Prelude.{◌≡◌, ◌≢◌, ◌+◌, ◌≤◌, ◌-◌, ◌++◌, ◌<◌, ◌↔◌, ℕ, true, false, List, Option, Some, None};
-ghost use Rattle.std.specs.Prelude.{Ok, length, take, replicate, slice_index, slice_set, All, IsTrue, IsSome};
-ghost use Rattle.std.specs.Prelude.{IsOk, IsErr, IfOk, IfSome, IfNone, OnOk, OnErr};
+ghost use Rattle.std.specs.Prelude.{Ok, length, take, replicate, slice_index, slice_index_or, slice_set, All, IsTrue};
+ghost use Rattle.std.specs.Prelude.{IsSome, IsOk, IsErr, IfOk, IfSome, IfNone, OnOk, OnErr};
 ghost use Rattle.std.specs.List.{list_any};
 ghost use Rattle.std.specs.Borrow.{sem};
 ghost use Rattle.core_map.specs.declared.Frame.TheVariants.{Free, Started, Bound};
@@ -10,7 +10,7 @@ ghost use Rattle.mword.specs.Words.{AreZero};
 ghost use Rattle.page_table.specs.declared.Ptw.{Ptw};
 ghost use Rattle.page_table.specs.declared.Ptw.TheVariants.{Null, Out, Here, Leaving};
 ghost use Rattle.page_table.specs.PageTable.{ptw_at};
-ghost use Rattle.vtoc.specs.Vtoc.{least_free_entry};
+ghost use Rattle.vtoc.specs.Vtoc.{least_free_entry, entry_at, records_in};
 ghost use Rattle.volumes.specs.FullPages.{HaveFullPages};
 ghost use Rattle.volumes.specs.Volumes.{KeepsTables};
 ghost use Rattle.page_control.specs.Plain.{Paging, Plain, plain, words_in, number_in, flags_of, vtoc_of, bindings};
@@ -29,6 +29,7 @@ ghost use Rattle.page_control.specs.Tied.{IsBoundTo, IsInFrame, IsBlank};
 ghost use Rattle.page_control.specs.Tied.{uid_at, map_at, frame_of, uid_in, is_away, is_out};
 ghost use Rattle.page_control.specs.Ties.{IsTied, IsSeen, KeepsOthers, KeepsTies};
 ghost use Rattle.page_control.specs.Lending.{lends_volumes};
+ghost use Rattle.page_control.specs.Moves.{IsHomeFor, IsCopied, rehomed_word, rehomed, all_modified};
 ghost use Rattle.page_control.specs.declared.Home.{Home};
 
 use crate::{Home, Left, NoMemory, NoRecord};
@@ -39,6 +40,7 @@ use site_io::Failed;
 use std::alloc::Global;
 use std::marker::Model;
 use volumes::{Drive, Volumes, zero_pages};
+use vtoc::Vtoc;
 
 /// The frames of core with their pages, and the volumes, seen as the core map, the words of each frame and the volumes.
 #[derive(Drop)]
@@ -439,6 +441,39 @@ impl<D: Drive> Pages<D> {
         self.leave(t, home, f)
     }
 
+    /// Gives segment `uid` another home, whose file map names a record for exactly the pages that have one. Each word
+    /// of its page table that is `Out` names the page's record there, and the modified marks of the segment's frames
+    /// are on, so that their pages are written there as they leave.
+    ///
+    /// The segment is as it was, where each page that is on its record alone was copied to its new one. It reads each
+    /// word of the table twice, and a place of the file map for each. (Source: own.)
+    pub fn rehome(&mut self, t: &mut PageTable, uid: u32, home: Home)
+        requires pages { length t.old ≤ 256 }
+        requires table { IsTableOf (bindings self.old.core) uid t.old }
+        requires home { IsHomeFor (plain D.pages self.old) uid home t.old }
+        ensures effect { self.new ≡ record self.old { core = all_modified self.old.core uid } }
+        ensures table { t.new ≡ rehomed t.old (map_at self.old.volumes.vtocs home) }
+        ensures size { length t.new ≡ length t.old }
+        ensures word { (p : ℕ) → ptw_at t.new p
+            ≡ rehomed_word (ptw_at t.old p) (slice_index_or (map_at self.old.volumes.vtocs home) p None) }
+
+        // What becomes of the segment that was tied to the home that it had.
+        ensures tie { (from : Home) → IsTied (plain D.pages self.old) uid from t.old
+            → IsCopied (plain D.pages self.old) t.old from home (length t.old)
+            → IsTied (plain D.pages self.new) uid home t.new }
+        ensures moved { (from : Home) (p : ℕ) → IsTied (plain D.pages self.old) uid from t.old
+            → IsCopied (plain D.pages self.old) t.old from home (length t.old)
+            → words_at (plain D.pages self.new) uid home p ≡ words_at (plain D.pages self.old) uid from p }
+
+        // What becomes of the rest.
+        ensures words { words_at (plain D.pages self.new) ≡ words_at (plain D.pages self.old) }
+        ensures ties { KeepsTies (plain D.pages self.old) (plain D.pages self.new) }
+        ensures bindings { bindings self.new.core ≡ bindings self.old.core }
+        ensures reads { reads_of self.new.core ≡ reads_of self.old.core }
+    {
+        self.rehome_all(t, uid, home);
+    }
+
     /// Lets references go through the word of the page in frame `f` again, which was on its way out. (Source: own.)
     #[tactic(auto, using(crate::proofs::Marks::word_back, std::proofs::lemmas::Grind::common_steps))]
     pub fn back(&mut self, t: &mut PageTable, f: u32)
@@ -611,6 +646,18 @@ impl<D: Drive> Pages<D> {
         }
     }
 
+    /// The steps of `rehome`.
+    fn rehome_all(&mut self, t: &mut PageTable, uid: u32, home: Home)
+        requires pages { length t.old ≤ 256 }
+        requires table { IsTableOf (bindings self.old.core) uid t.old }
+        requires home { IsHomeFor (plain D.pages self.old) uid home t.old }
+        ensures effect { self.new ≡ record self.old { core = all_modified self.old.core uid } }
+        ensures table { t.new ≡ rehomed t.old (map_at self.old.volumes.vtocs home) }
+    {
+        mark_all(&mut self.core, t, uid);
+        rename(t, self.volumes.vtoc(home.volume), home.entry);
+    }
+
     /// The steps of `evict`.
     #[tactic(auto, using(crate::proofs::Facts::page_leaves, std::proofs::lemmas::Grind::common_steps))]
     fn leave(&mut self, t: &mut PageTable, home: Home, f: u32) -> Result<Left, Failed>
@@ -755,5 +802,32 @@ fn record_out(t: &PageTable, p: u32) -> u32
     match t.get(p) {
         Ptw::Out(r) => r,
         Ptw::Null | Ptw::Here(_) | Ptw::Leaving(_) => unreachable!(),
+    }
+}
+
+/// Turns the modified marks of the frames of segment `uid` on, which are those that its page table names. The uid is
+/// for the contract alone.
+fn mark_all(core: &mut CoreMap, t: &PageTable, uid: u32)
+    requires { IsTableOf (bindings core.old) uid t.now }
+    ensures { core.new ≡ all_modified core.old uid }
+{
+    for p in 0..t.size() {
+        match t.get(p) {
+            Ptw::Here(f) | Ptw::Leaving(f) => core.changed(f),
+            Ptw::Null | Ptw::Out(_) => {}
+        }
+    }
+}
+
+/// Makes each word that is `Out` name the record that the file map of a used entry names for its page, if it names one.
+fn rename(t: &mut PageTable, vtoc: &Vtoc, entry: u32)
+    requires pages { length t.old ≤ 256 }
+    requires used { IsSome (entry_at vtoc.now entry) }
+    ensures { t.new ≡ rehomed t.old (records_in (entry_at vtoc.now entry)) }
+{
+    for p in 0..t.size() {
+        if let (Ptw::Out(_), Some(r)) = (t.get(p), vtoc.file_map(entry, p)) {
+            t.set(p, Ptw::Out(r));
+        }
     }
 }

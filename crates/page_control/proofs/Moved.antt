@@ -1,0 +1,261 @@
+-- A segment whose pages are copied is tied to its new home, with the words that it had.
+use Rattle.std.proofs.Common.{◌≡◌, ◌⊎◌, ℕ, zero, suc, ◌<◌, ◌≤◌, arith, false, List, [], ◌∷◌, length, Option, None, Some}
+use Rattle.std.proofs.Common.{refl, sym, ap, subst, ◌∙◌, get_or, set, is_some, inl, inr}
+use Rattle.std.specs.List.{position}
+use Rattle.std.proofs.lemmas.Bool.{cases_eq}
+use Rattle.std.proofs.lemmas.List.{ext_get_or, get_or-set_same, get_or-set_other, length-set}
+use Rattle.core_map.specs.CoreMap.{is_modified, reads_of}
+use Rattle.mword.specs.Words.{AreZero}
+use Rattle.page_table.specs.declared.Ptw.{Ptw}
+use Rattle.page_table.specs.declared.Ptw.TheVariants.{Null, Out, Here, Leaving}
+use Rattle.page_table.specs.PageTable.{ptw_at}
+use Rattle.page_control.specs.declared.Home.{Home}
+use Rattle.page_control.specs.Plain.{Plain, bindings, binding_at, disk_of, filed, frame_in}
+use Rattle.page_control.specs.Tied.{frame_of, has_record, map_at, IsMapOf, IsTableOf}
+use Rattle.page_control.specs.Picture.{is_binding, is_filed_at, is_stored, words_at, words_filed, words_held}
+use Rattle.page_control.specs.Picture.{words_of_page, words_out}
+use Rattle.page_control.specs.Ties.{IsTied, KeepsTies}
+use Rattle.page_control.specs.Moves.{IsHomeFor, IsCopied, rehomed_word, rehomed}
+use Rattle.page_control.proofs.Facts.{within_from}
+use Rattle.page_control.proofs.Ties.{frame_same, not_none}
+use Rattle.page_control.proofs.Pictures.{found_at, off_and_on, words_by}
+use Rattle.page_control.proofs.Marks.{ties_marked, words_marked}
+use Rattle.page_control.proofs.Modified.{remarked, bindings_modified, reads_modified, marks_modified, all_on}
+
+-- ---- the page table
+
+pub rehomed_length : (t : List Ptw) (places : List (Option ℕ)) → length (rehomed t places) ≡ length t
+unfolding rehomed
+rehomed_length [] places = refl
+rehomed_length (w ∷ t) [] = ap suc (rehomed_length t [])
+rehomed_length (w ∷ t) (place ∷ places) = ap suc (rehomed_length t places)
+
+pub rehomed_at : (t : List Ptw) (places : List (Option ℕ)) (p : ℕ) → ptw_at (rehomed t places) p
+    ≡ rehomed_word (ptw_at t p) (get_or places p None)
+unfolding rehomed
+rehomed_at [] places p = refl
+rehomed_at (w ∷ t) [] zero = refl
+rehomed_at (w ∷ t) [] (suc p) = rehomed_at t [] p
+rehomed_at (w ∷ t) (place ∷ places) zero = refl
+rehomed_at (w ∷ t) (place ∷ places) (suc p) = rehomed_at t places p
+
+-- the words before page n name the records of the file map
+pub record IsPartRehomed (old now : List Ptw) (places : List (Option ℕ)) (n : ℕ) : Type 0 where
+  pub count : length now ≡ length old
+  pub done : (p : ℕ) → p < n → ptw_at now p ≡ rehomed_word (ptw_at old p) (get_or places p None)
+  pub left : (p : ℕ) → n ≤ p → ptw_at now p ≡ ptw_at old p
+
+pub part_start : (t : List Ptw) (places : List (Option ℕ)) → IsPartRehomed t t places 0
+part_start t places = record { count = refl; done = λ p lt. absurd (omega (arith, lt)); left = λ p le. refl }
+
+-- the next word becomes the one that it should be
+pub part_put : (old now next : List Ptw) (places : List (Option ℕ)) (n : ℕ) → IsPartRehomed old now places n
+    → length next ≡ length now → ptw_at next n ≡ rehomed_word (ptw_at old n) (get_or places n None)
+    → ((p : ℕ) → (p ≡ n → ⊥) → ptw_at next p ≡ ptw_at now p) → IsPartRehomed old next places (suc n)
+part_put old now next places n part count here others = record {
+  count = count ∙ part.count;
+  done = λ p lt. elim (cases_eq p n) [
+    | inl same ↦ ap (ptw_at next) same ∙ here
+        ∙ ap (λ (k : ℕ). rehomed_word (ptw_at old k) (get_or places k None)) (sym same)
+    | inr other ↦ others p other ∙ part.done p (omega (arith, lt, other))
+  ];
+  left = λ p le. others p (λ same. omega (arith, le, same)) ∙ part.left p (omega (arith, le));
+}
+
+pub part_set : (old now : List Ptw) (places : List (Option ℕ)) (n r q : ℕ) → IsPartRehomed old now places n
+    → n < length now → ptw_at now n ≡ Out r → get_or places n None ≡ Some q
+    → IsPartRehomed old (set now n (Out q)) places (suc n)
+part_set old now places n r q part lt out place = part_put old now (set now n (Out q)) places n part
+    (length-set now n (Out q))
+    (get_or-set_same now n (Out q) Null lt
+    ∙ sym (rw (place, sym (part.left n (omega arith)) ∙ out) refl))
+    (λ p other. get_or-set_other now n p (Out q) Null other)
+
+-- or is it already
+pub part_kept : (old now : List Ptw) (places : List (Option ℕ)) (n : ℕ) → IsPartRehomed old now places n
+    → ((r q : ℕ) → ptw_at now n ≡ Out r → get_or places n None ≡ Some q → ⊥) → IsPartRehomed old now places (suc n)
+part_kept old now places n part other = part_put old now now places n part refl
+    (part.left n (omega arith) ∙ stays (ptw_at old n) (get_or places n None)
+    (λ r q out place. other r q (part.left n (omega arith) ∙ out) place))
+    (λ p n. refl)
+  where
+    stays : (w : Ptw) (place : Option ℕ) → ((r q : ℕ) → w ≡ Out r → place ≡ Some q → ⊥) → w ≡ rehomed_word w place
+    stays Null place other = refl
+    stays (Out r) None other = refl
+    stays (Out r) (Some q) other = absurd (other r q refl refl)
+    stays (Here f) place other = refl
+    stays (Leaving f) place other = refl
+
+pub part_end : (old now : List Ptw) (places : List (Option ℕ)) (n : ℕ) → IsPartRehomed old now places n
+    → length old ≤ n → now ≡ rehomed old places
+part_end old now places n part past_end =
+    let count = part.count in
+    ext_get_or Null now (rehomed old places) (count ∙ sym (rehomed_length old places))
+    (λ i lt. part.done i (omega (arith, lt, count, past_end)) ∙ sym (rehomed_at old places i))
+
+-- a word names the frame that it named, and says as before whether the page has a record
+frame_rehomed : (w : Ptw) (place : Option ℕ) → frame_of (rehomed_word w place) ≡ frame_of w
+frame_rehomed Null place = refl
+frame_rehomed (Out r) None = refl
+frame_rehomed (Out r) (Some q) = refl
+frame_rehomed (Here f) place = refl
+frame_rehomed (Leaving f) place = refl
+
+record_rehomed : (w : Ptw) (place : Option ℕ) → has_record (rehomed_word w place) ≡ has_record w
+record_rehomed Null place = refl
+record_rehomed (Out r) None = refl
+record_rehomed (Out r) (Some q) = refl
+record_rehomed (Here f) place = refl
+record_rehomed (Leaving f) place = refl
+
+-- one that names a record names the one of the file map
+out_rehomed : (w : Ptw) (place : Option ℕ) (r : ℕ) → is_some place ≡ has_record w → rehomed_word w place ≡ Out r
+    → place ≡ Some r
+out_rehomed Null place r same is = cc
+out_rehomed (Out k) None r same is = cc
+out_rehomed (Out k) (Some q) r same is = cc
+out_rehomed (Here f) place r same is = cc
+out_rehomed (Leaving f) place r same is = cc
+
+-- the table is that of the segment still
+table_rehomed : (bound : List (Option (ℕ × ℕ))) (uid : ℕ) (t : List Ptw) (places : List (Option ℕ))
+    → IsTableOf bound uid t → IsTableOf bound uid (rehomed t places)
+table_rehomed bound uid t places h =
+    let same : (p : ℕ) → frame_of (ptw_at (rehomed t places) p) ≡ frame_of (ptw_at t p) =
+    λ p. ap frame_of (rehomed_at t places p) ∙ frame_rehomed (ptw_at t p) (get_or places p None) in
+    record {
+      named = λ f p is. same p ∙ h.named f p is;
+      back = λ f p is. h.back f p (sym (same p) ∙ is);
+    }
+
+-- and its words go by the other file map, where that names records for the same pages
+map_rehomed : (places : List (Option ℕ)) (t : List Ptw)
+    → ((p : ℕ) → is_some (get_or places p None) ≡ has_record (ptw_at t p)) → IsMapOf places (rehomed t places)
+map_rehomed places t stored = record {
+  stored = λ p. stored p ∙ sym (ap has_record (rehomed_at t places p)
+      ∙ record_rehomed (ptw_at t p) (get_or places p None));
+  out = λ p r is. out_rehomed (ptw_at t p) (get_or places p None) r (stored p) (sym (rehomed_at t places p) ∙ is);
+}
+
+-- ---- the words
+
+-- a page of a table is nowhere, on its record alone, or in a frame
+word_cases : (w : Ptw) → ((f : ℕ) × (frame_of w ≡ Some f)) ⊎ ((has_record w ≡ false) ⊎ ((r : ℕ) × (w ≡ Out r)))
+word_cases Null = inr (inl refl)
+word_cases (Out r) = inr (inr (r, refl))
+word_cases (Here f) = inl (f, refl)
+word_cases (Leaving f) = inl (f, refl)
+
+none_of : (x : Option ℕ) → is_some x ≡ false → x ≡ None
+none_of None h = refl
+none_of (Some r) h = cc
+
+-- a page that is in no frame has the same words at both homes, once it is copied
+out_same : (s : Plain) (uid : ℕ) (from to : Home) (t : List Ptw) (p : ℕ) → IsTied s uid from t → IsHomeFor s uid to t
+    → IsCopied s t from to (length t) → ((f : ℕ) → frame_of (ptw_at t p) ≡ Some f → ⊥)
+    → words_out s to p ≡ words_out s from p
+out_same s uid from to t p tie home copied away = elim (word_cases (ptw_at t p)) [
+  | inl in_frame ↦ absurd (away in_frame.0 in_frame.1)
+  | inr (inl null) ↦ (let none : filed s from p ≡ None = none_of (filed s from p) (tie.map.stored p ∙ null) in
+      let also : filed s to p ≡ None = none_of (filed s to p) (home.stored p ∙ null) in
+      ap (words_filed (disk_of s to.volume)) also ∙ sym (ap (words_filed (disk_of s from.volume)) none))
+  | inr (inr out) ↦ copied.words p out.0
+      (within_from t p Null (λ e. (let off : Null ≡ Out out.0 = sym e ∙ out.1 in cc))) out.1
+]
+
+held_same : (frames : List (List ℕ)) (disk now : List (List ℕ)) (place other : Option ℕ) (f : Option ℕ)
+    → (f ≡ None → words_filed now other ≡ words_filed disk place)
+    → words_held frames now other f ≡ words_held frames disk place f
+held_same frames disk now place other None same = same refl
+held_same frames disk now place other (Some f) same = refl
+
+-- the words of each page at the new home are those that it had
+words_moved : (s : Plain) (uid : ℕ) (from to : Home) (t : List Ptw) (p : ℕ) → IsTied s uid from t
+    → IsHomeFor s uid to t → IsCopied s t from to (length t) → words_at s uid to p ≡ words_at s uid from p
+unfolding words_of_page
+words_moved s uid from to t p tie home copied =
+    held_same s.frames (disk_of s from.volume) (disk_of s to.volume) (filed s from p) (filed s to p)
+    (position (is_binding uid p) (bindings s.core))
+    (λ none. out_same s uid from to t p tie home copied (λ f named.
+    not_none (position (is_binding uid p) (bindings s.core)) f none (bound_at f (tie.table.back f p named))))
+  where
+    bound_at : (f : ℕ) → binding_at (bindings s.core) f ≡ Some (uid, p)
+        → position (is_binding uid p) (bindings s.core) ≡ Some f
+    bound_at f here = found_at (bindings s.core) uid p f here (λ g there.
+        frame_same (frame_of (ptw_at t p)) g f (tie.table.named g p there) (tie.table.named f p here))
+
+pub words_rehomed : (s : Plain) (uid : ℕ) (from to : Home) (t : List Ptw) (p : ℕ) → IsTied s uid from t
+    → IsHomeFor s uid to t → IsCopied s t from to (length t)
+    → words_at (remarked s uid) uid to p ≡ words_at s uid from p
+words_rehomed s uid from to t p tie home copied =
+    words_by s (remarked s uid) uid to p (bindings_modified s.core uid) refl refl refl
+    ∙ words_moved s uid from to t p tie home copied
+
+-- ---- the tie
+
+stored_moved : (s : Plain) (from to : Home) (p : ℕ)
+    → is_some (get_or (map_at s.vtocs to) p None) ≡ is_some (get_or (map_at s.vtocs from) p None)
+    → is_stored s to p ≡ is_stored s from p
+unfolding is_filed_at
+stored_moved s from to p same = same
+
+pub tie_rehomed : (s : Plain) (uid : ℕ) (from to : Home) (t : List Ptw) → IsTied s uid from t → IsHomeFor s uid to t
+    → IsCopied s t from to (length t) → IsTied (remarked s uid) uid to (rehomed t (map_at s.vtocs to))
+tie_rehomed s uid from to t tie home copied = record {
+  volume = home.volume;
+  used = home.used;
+  pages = rw (rehomed_length t (map_at s.vtocs to)) tie.pages;
+  table = rw (bindings_modified s.core uid) (table_rehomed (bindings s.core) uid t (map_at s.vtocs to) tie.table);
+  map = map_rehomed (map_at s.vtocs to) t home.stored;
+  records = tie.records;
+  clean = λ f p off at. absurd (off_and_on (is_modified (frame_in (remarked s uid) f)) off
+      (all_on s uid f p
+      (ap (λ (b : List (Option (ℕ × ℕ))). binding_at b f) (sym (bindings_modified s.core uid)) ∙ at)));
+  zeros = λ p on all. rw (bindings_modified s.core uid)
+      (tie.zeros p (sym (stored_moved s from to p (home.stored p ∙ sym (tie.map.stored p))) ∙ on)
+      (subst AreZero (words_rehomed s uid from to t p tie home copied) all));
+}
+
+-- what the steps of `rehome` give
+pub record Rehomes (s now : Plain) (t u : List Ptw) (uid : ℕ) (home : Home) : Type 0 where
+  pub effect : now ≡ remarked s uid
+  pub table : u ≡ rehomed t (map_at s.vtocs home)
+  pub fits : IsHomeFor s uid home t
+
+pub size_rehomed : {s now : Plain} {t u : List Ptw} {uid : ℕ} {home : Home} → Rehomes s now t u uid home
+    → length u ≡ length t
+size_rehomed {s = s} {t = t} {home = home} r = ap length r.table ∙ rehomed_length t (map_at s.vtocs home)
+
+pub word_rehomed : {s now : Plain} {t u : List Ptw} {uid : ℕ} {home : Home} → Rehomes s now t u uid home → (p : ℕ)
+    → ptw_at u p ≡ rehomed_word (ptw_at t p) (get_or (map_at s.vtocs home) p None)
+word_rehomed {s = s} {t = t} {home = home} r p =
+    ap (λ (words : List Ptw). ptw_at words p) r.table ∙ rehomed_at t (map_at s.vtocs home) p
+
+pub tie_moved : {s now : Plain} {t u : List Ptw} {uid : ℕ} {home : Home} → Rehomes s now t u uid home → (from : Home)
+    → IsTied s uid from t → IsCopied s t from home (length t) → IsTied now uid home u
+tie_moved {s = s} {t = t} {uid = uid} {home = home} r from tie copied =
+    rw (r.effect, r.table) (tie_rehomed s uid from home t tie r.fits copied)
+
+pub page_moved : {s now : Plain} {t u : List Ptw} {uid : ℕ} {home : Home} → Rehomes s now t u uid home
+    → (from : Home) (p : ℕ) → IsTied s uid from t → IsCopied s t from home (length t)
+    → words_at now uid home p ≡ words_at s uid from p
+page_moved {s = s} {t = t} {uid = uid} {home = home} r from p tie copied =
+    ap (λ (x : Plain). words_at x uid home p) r.effect ∙ words_rehomed s uid from home t p tie r.fits copied
+
+pub words_same : {s now : Plain} {t u : List Ptw} {uid : ℕ} {home : Home} → Rehomes s now t u uid home
+    → words_at now ≡ words_at s
+words_same {s = s} {uid = uid} r =
+    ap (λ (x : Plain). words_at x) r.effect
+    ∙ words_marked s (remarked s uid) (bindings_modified s.core uid) refl refl refl
+
+pub ties_same : {s now : Plain} {t u : List Ptw} {uid : ℕ} {home : Home} → Rehomes s now t u uid home
+    → KeepsTies s now
+ties_same {s = s} {uid = uid} r = rw r.effect (ties_marked s (remarked s uid) (marks_modified s uid))
+
+pub bindings_same : {s now : Plain} {t u : List Ptw} {uid : ℕ} {home : Home} → Rehomes s now t u uid home
+    → bindings now.core ≡ bindings s.core
+bindings_same {s = s} {uid = uid} r = ap (λ (x : Plain). bindings x.core) r.effect ∙ bindings_modified s.core uid
+
+pub reads_same : {s now : Plain} {t u : List Ptw} {uid : ℕ} {home : Home} → Rehomes s now t u uid home
+    → reads_of now.core ≡ reads_of s.core
+reads_same {s = s} {uid = uid} r = ap (λ (x : Plain). reads_of x.core) r.effect ∙ reads_modified s.core uid

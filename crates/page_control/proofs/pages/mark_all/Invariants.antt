@@ -1,0 +1,6 @@
+use Rattle.std.proofs.Common.{◌≡◌}
+use Rattle.page_control.specs.Moves.{part_modified}
+use Rattle.page_control.proofs.pages.mark_all.Given as goal
+
+abbrev pub invariant-loop-p : goal.invariant-loop-p
+invariant-loop-p l = l.core ≡ part_modified l.fn.core l.uid l.p
