@@ -4,7 +4,7 @@ use Rattle.std.proofs.Common.{refl, sym, ap, subst, ◌∙◌, get_or, set, is_s
 use Rattle.std.specs.List.{position}
 use Rattle.std.proofs.lemmas.Bool.{cases_eq}
 use Rattle.std.proofs.lemmas.List.{ext_get_or, get_or-set_same, get_or-set_other, length-set}
-use Rattle.core_map.specs.CoreMap.{is_modified, reads_of}
+use Rattle.core_map.specs.CoreMap.{Core, frame_at, is_modified, reads_of}
 use Rattle.mword.specs.Words.{AreZero}
 use Rattle.page_table.specs.declared.Ptw.{Ptw}
 use Rattle.page_table.specs.declared.Ptw.TheVariants.{Null, Out, Here, Leaving}
@@ -15,7 +15,7 @@ use Rattle.page_control.specs.Tied.{frame_of, has_record, map_at, IsMapOf, IsTab
 use Rattle.page_control.specs.Picture.{is_binding, is_filed_at, is_stored, words_at, words_filed, words_held}
 use Rattle.page_control.specs.Picture.{words_of_page, words_out}
 use Rattle.page_control.specs.Ties.{IsTied, KeepsTies}
-use Rattle.page_control.specs.Moves.{IsHomeFor, IsCopied, rehomed_word, rehomed}
+use Rattle.page_control.specs.Moves.{IsHomeFor, IsCopied, KeepsHome, rehomed_word, rehomed}
 use Rattle.page_control.proofs.Facts.{within_from}
 use Rattle.page_control.proofs.Ties.{frame_same, not_none}
 use Rattle.page_control.proofs.Pictures.{found_at, off_and_on, words_by}
@@ -259,3 +259,45 @@ bindings_same {s = s} {uid = uid} r = ap (λ (x : Plain). bindings x.core) r.eff
 pub reads_same : {s now : Plain} {t u : List Ptw} {uid : ℕ} {home : Home} → Rehomes s now t u uid home
     → reads_of now.core ≡ reads_of s.core
 reads_same {s = s} {uid = uid} r = ap (λ (x : Plain). reads_of x.core) r.effect ∙ reads_modified s.core uid
+
+-- ---- other homes, while the volumes change
+
+held_by : (frames : List (List ℕ)) (disk now : List (List ℕ)) (place other f : Option ℕ)
+    → words_filed now other ≡ words_filed disk place → words_held frames now other f ≡ words_held frames disk place f
+held_by frames disk now place other None same = same
+held_by frames disk now place other (Some f) same = refl
+
+-- a home of which all stays has the words that it had
+pub words_of_home : (s now : Plain) (uid : ℕ) (home : Home) (p : ℕ) → now.core ≡ s.core → now.frames ≡ s.frames
+    → KeepsHome s now home → words_at now uid home p ≡ words_at s uid home p
+unfolding words_of_page
+words_of_home s now uid home p core frames keeps =
+    ap (λ (b : List (Option (ℕ × ℕ))). words_held now.frames (disk_of now home.volume) (filed now home p)
+    (position (is_binding uid p) b)) (ap bindings core)
+    ∙ ap (λ (f : List (List ℕ)). words_held f (disk_of now home.volume) (filed now home p)
+    (position (is_binding uid p) (bindings s.core))) frames
+    ∙ held_by s.frames (disk_of s home.volume) (disk_of now home.volume) (filed s home p) (filed now home p)
+    (position (is_binding uid p) (bindings s.core)) (keeps.words p)
+
+stored_of_home : (s now : Plain) (home : Home) (p : ℕ) → KeepsHome s now home → is_stored now home p
+    ≡ is_stored s home p
+unfolding is_filed_at
+stored_of_home s now home p keeps = ap (λ (places : List (Option ℕ)). is_some (get_or places p None)) keeps.map
+
+-- and is tied as it was
+pub tie_of_home : (s now : Plain) (uid : ℕ) (home : Home) (t : List Ptw) → now.core ≡ s.core → now.frames ≡ s.frames
+    → KeepsHome s now home → IsTied s uid home t → IsTied now uid home t
+tie_of_home s now uid home t core frames keeps tie = record {
+  volume = rw keeps.volumes tie.volume;
+  used = keeps.uid ∙ tie.used;
+  pages = tie.pages;
+  table = rw core tie.table;
+  map = rw keeps.map tie.map;
+  records = keeps.records;
+  clean = λ f p off at. ap (λ (all : List (List ℕ)). get_or all f []) frames
+      ∙ tie.clean f p (ap (λ (c : Core). is_modified (frame_at c f)) (sym core) ∙ off)
+      (ap (λ (c : Core). binding_at (bindings c) f) (sym core) ∙ at)
+      ∙ sym (keeps.words p);
+  zeros = λ p on all. rw core (tie.zeros p (sym (stored_of_home s now home p keeps) ∙ on)
+      (subst AreZero (words_of_home s now uid home p core frames keeps) all));
+}

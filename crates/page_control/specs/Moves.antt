@@ -9,7 +9,7 @@ use Rattle.page_table.specs.declared.Ptw.TheVariants.{Null, Out, Here, Leaving}
 use Rattle.page_table.specs.PageTable.{ptw_at}
 use Rattle.page_control.specs.declared.Home.{Home}
 use Rattle.page_control.specs.Plain.{Plain}
-use Rattle.page_control.specs.Tied.{uid_at, map_at, has_record}
+use Rattle.page_control.specs.Tied.{AreFiled, uid_at, map_at, has_record}
 use Rattle.page_control.specs.Picture.{words_out}
 
 -- A home for the segment of a page table: a used VTOC entry of the segment, on a volume that is there, whose file map
@@ -22,6 +22,15 @@ pub record IsHomeFor (s : Plain) (uid : ℕ) (home : Home) (table : List Ptw) : 
 -- Each page before page n that is on its record alone has the same words at both homes.
 pub record IsCopied (s : Plain) (table : List Ptw) (from to : Home) (n : ℕ) : Type 0 where
   pub words : (p r : ℕ) → p < n → ptw_at table p ≡ Out r → words_out s to p ≡ words_out s from p
+
+-- What the volumes have of a home stays: its entry, its file map, and the words of the records that this names. The
+-- records in use are those that file maps name.
+pub record KeepsHome (old new : Plain) (home : Home) : Type 0 where
+  pub uid : uid_at new.vtocs home ≡ uid_at old.vtocs home
+  pub map : map_at new.vtocs home ≡ map_at old.vtocs home
+  pub words : (p : ℕ) → words_out new home p ≡ words_out old home p
+  pub volumes : length new.disks ≡ length old.disks
+  pub records : AreFiled new.records new.vtocs
 
 -- the word of a page for which another file map names this record, or none: a page that is on its record alone is on
 -- that one

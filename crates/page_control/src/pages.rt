@@ -12,9 +12,9 @@ ghost use Rattle.page_table.specs.declared.Ptw.TheVariants.{Null, Out, Here, Lea
 ghost use Rattle.page_table.specs.PageTable.{ptw_at};
 ghost use Rattle.vtoc.specs.Vtoc.{least_free_entry, entry_at, records_in};
 ghost use Rattle.volumes.specs.FullPages.{HaveFullPages};
-ghost use Rattle.volumes.specs.Volumes.{KeepsTables};
+ghost use Rattle.volumes.specs.Volumes.{Vols, KeepsTables};
 ghost use Rattle.page_control.specs.Plain.{Paging, Plain, plain, words_in, number_in, flags_of, vtoc_of, bindings};
-ghost use Rattle.page_control.specs.Plain.{disk_of, entry_of, filed, record_of, uid_of_home};
+ghost use Rattle.page_control.specs.Plain.{disk_of, entry_of, filed, record_of, uid_of_home, with_volumes};
 ghost use Rattle.page_control.specs.Effects.{framed, erased, word_put, referred, cut, unstored, dropped, saved, filled};
 ghost use Rattle.page_control.specs.Effects.{after_evict, after_read, after_create, after_asked, words_left};
 ghost use Rattle.page_control.specs.Effects.{words_here, NeedsNoWrite};
@@ -29,7 +29,7 @@ ghost use Rattle.page_control.specs.Tied.{IsBoundTo, IsInFrame, IsBlank};
 ghost use Rattle.page_control.specs.Tied.{uid_at, map_at, frame_of, uid_in, is_away, is_out};
 ghost use Rattle.page_control.specs.Ties.{IsTied, IsSeen, KeepsOthers, KeepsTies};
 ghost use Rattle.page_control.specs.Lending.{lends_volumes};
-ghost use Rattle.page_control.specs.Moves.{IsHomeFor, IsCopied, rehomed_word, rehomed, all_modified};
+ghost use Rattle.page_control.specs.Moves.{IsHomeFor, IsCopied, KeepsHome, rehomed_word, rehomed, all_modified};
 ghost use Rattle.page_control.specs.declared.Home.{Home};
 
 use crate::{Home, Left, NoMemory, NoRecord};
@@ -104,10 +104,19 @@ impl<D: Drive> Pages<D> {
         &self.volumes
     }
 
-    /// Lends the volumes, and nothing else. It finds them at once. (Source: own.)
+    /// Lends the volumes, and nothing else. What is true of a segment at its home stays true, where those that come back
+    /// keep what they have of this home. It finds them at once. (Source: own.)
     pub fn volumes_mut(&mut self) -> &mut Volumes<D>
         ensures* writes_back { sem 𝓛 (lends_volumes D.row D.Drive self.entry result) }
         ensures value { result.now ≡ self.old.volumes }
+        ensures words { (volumes : Vols D) (uid : ℕ) (home : Home) (p : ℕ)
+            → KeepsHome (plain D.pages self.old) (plain D.pages (with_volumes self.old volumes)) home
+            → words_at (plain D.pages (with_volumes self.old volumes)) uid home p
+            ≡ words_at (plain D.pages self.old) uid home p }
+        ensures ties { (volumes : Vols D) (uid : ℕ) (home : Home) (words : List Ptw)
+            → KeepsHome (plain D.pages self.old) (plain D.pages (with_volumes self.old volumes)) home
+            → IsTied (plain D.pages self.old) uid home words
+            → IsTied (plain D.pages (with_volumes self.old volumes)) uid home words }
     {
         &mut self.volumes
     }
