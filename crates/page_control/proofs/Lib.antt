@@ -10,6 +10,7 @@ pub mod Turns
 pub mod Marks
 pub mod Modified
 pub mod Moved
+pub mod Copied
 pub mod Touching
 pub mod Homes
 pub mod Erasing

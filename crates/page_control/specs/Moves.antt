@@ -7,8 +7,9 @@ use Rattle.core_map.specs.CoreMap.{Core}
 use Rattle.page_table.specs.declared.Ptw.{Ptw}
 use Rattle.page_table.specs.declared.Ptw.TheVariants.{Null, Out, Here, Leaving}
 use Rattle.page_table.specs.PageTable.{ptw_at}
+use Rattle.volumes.specs.Volumes.{with_page}
 use Rattle.page_control.specs.declared.Home.{Home}
-use Rattle.page_control.specs.Plain.{Plain}
+use Rattle.page_control.specs.Plain.{Plain, disk_of, filed}
 use Rattle.page_control.specs.Tied.{AreFiled, uid_at, map_at, has_record}
 use Rattle.page_control.specs.Picture.{words_out}
 
@@ -31,6 +32,18 @@ pub record KeepsHome (old new : Plain) (home : Home) : Type 0 where
   pub words : (p : ℕ) → words_out new home p ≡ words_out old home p
   pub volumes : length new.disks ≡ length old.disks
   pub records : AreFiled new.records new.vtocs
+
+-- record r of volume v has these words
+abbrev pub written : Plain → ℕ → ℕ → List ℕ → Plain
+written s v r words = record s { disks = with_page s.disks v r words }
+
+-- Page p at a home, which is on record r there, has got these words. The records in use are those that file maps name.
+pub record IsWrittenAt (old new : Plain) (home : Home) (p r : ℕ) (words : List ℕ) : Type 0 where
+  pub effect : new ≡ written old home.volume r words
+  pub its : filed old home p ≡ Some r
+  pub volume : home.volume < length old.disks
+  pub within : r < length (disk_of old home.volume)
+  pub records : AreFiled old.records old.vtocs
 
 -- the word of a page for which another file map names this record, or none: a page that is on its record alone is on
 -- that one

@@ -104,8 +104,8 @@ impl<D: Drive> Pages<D> {
         &self.volumes
     }
 
-    /// Lends the volumes, and nothing else. What is true of a segment at its home stays true, where those that come back
-    /// keep what they have of this home. It finds them at once. (Source: own.)
+    /// Lends the volumes, and nothing else. What is true of a segment at its home stays true, where the volumes that
+    /// come back have of this home what they had. It finds them at once. (Source: own.)
     pub fn volumes_mut(&mut self) -> &mut Volumes<D>
         ensures* writes_back { sem 𝓛 (lends_volumes D.row D.Drive self.entry result) }
         ensures value { result.now ≡ self.old.volumes }

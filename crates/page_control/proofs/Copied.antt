@@ -1,0 +1,86 @@
+-- A page that is copied to its record at another home, for the proofs of the crates above.
+use Rattle.std.proofs.Common.{◌≡◌, ◌≢◌, ℕ, ◌+◌, ◌<◌, ◌≤◌, arith, List, [], length, Some, refl, sym, ap, ◌∙◌}
+use Rattle.std.proofs.Common.{get_or, set, inl, inr}
+use Rattle.std.proofs.lemmas.Bool.{cases_eq}
+use Rattle.std.proofs.lemmas.Bool.Decides.{leb_tells}
+use Rattle.std.proofs.lemmas.List.{get_or-set_same, get_or-set_other, length-set}
+use Rattle.page_table.specs.declared.Ptw.{Ptw}
+use Rattle.page_table.specs.declared.Ptw.TheVariants.{Out}
+use Rattle.page_table.specs.PageTable.{ptw_at}
+use Rattle.vtoc.specs.Vtoc.{record_at}
+use Rattle.page_control.specs.declared.Home.{Home}
+use Rattle.page_control.specs.Plain.{Plain, disk_of, filed}
+use Rattle.page_control.specs.Tied.{vtoc_in}
+use Rattle.page_control.specs.Picture.{words_filed, words_out}
+use Rattle.page_control.specs.Moves.{IsCopied, IsWrittenAt, KeepsHome, written}
+use Rattle.page_control.proofs.Pictures.{filed_same}
+
+-- the pages of the volume whose record is written
+disk_here : (s : Plain) (v r : ℕ) (words : List ℕ) → v < length s.disks
+    → disk_of (written s v r words) v ≡ set (disk_of s v) r words
+disk_here s v r words lt = get_or-set_same s.disks v (set (disk_of s v) r words) [] lt
+
+-- a page has the words that it had on its record, where that is another one
+out_other : (s : Plain) (v r q : ℕ) (words : List ℕ) (h : Home) → v < length s.disks
+    → (h.volume ≡ v → filed s h q ≡ Some r → ⊥) → words_out (written s v r words) h q ≡ words_out s h q
+out_other s v r q words h lt other = elim (cases_eq h.volume v) [
+  | inr n ↦ ap (λ (disk : List (List ℕ)). words_filed disk (filed s h q))
+      (get_or-set_other s.disks v h.volume (set (disk_of s v) r words) [] n)
+  | inl same ↦ filed_same (disk_of s h.volume) (disk_of (written s v r words) h.volume) (filed s h q) (λ k named.
+      ap (λ (w : ℕ). get_or (disk_of (written s v r words) w) k []) same
+      ∙ ap (λ (disk : List (List ℕ)). get_or disk k []) (disk_here s v r words lt)
+      ∙ get_or-set_other (disk_of s v) r k words [] (λ hit. other same (named ∙ ap Some hit))
+      ∙ ap (λ (w : ℕ). get_or (disk_of s w) k []) (sym same))
+]
+
+-- no other page of any home is on the record
+apart : {s now : Plain} {to : Home} {p r : ℕ} {words : List ℕ} → IsWrittenAt s now to p r words → (h : Home) (q : ℕ)
+    → (h ≡ to → q ≡ p → ⊥) → h.volume ≡ to.volume → filed s h q ≡ Some r → ⊥
+apart {s = s} {to = to} {p = p} {r = r} w h q other same named =
+    let at : record_at (vtoc_in s.vtocs to.volume) h.entry q ≡ Some r =
+    ap (λ (v : ℕ). record_at (vtoc_in s.vtocs v) h.entry q) (sym same) ∙ named in
+    let one = w.records.once to.volume h.entry q to.entry p r at w.its in
+    other (λ i. record { volume = same i; entry = one.0 i }) one.1
+
+pub out_kept : {s now : Plain} {to : Home} {p r : ℕ} {words : List ℕ} → IsWrittenAt s now to p r words
+    → (h : Home) (q : ℕ) → (h ≡ to → q ≡ p → ⊥) → words_out now h q ≡ words_out s h q
+out_kept {s = s} {to = to} {r = r} {words = words} w h q other =
+    rw w.effect (out_other s to.volume r q words h w.volume (apart w h q other))
+
+pub out_now : {s now : Plain} {to : Home} {p r : ℕ} {words : List ℕ} → IsWrittenAt s now to p r words
+    → words_out now to p ≡ words
+out_now {s = s} {to = to} {r = r} {words = words} w =
+    rw w.effect (ap (words_filed (disk_of (written s to.volume r words) to.volume)) w.its
+    ∙ ap (λ (disk : List (List ℕ)). get_or disk r []) (disk_here s to.volume r words w.volume)
+    ∙ get_or-set_same (disk_of s to.volume) r words [] w.within)
+
+-- every other home stays
+pub home_kept : {s now : Plain} {to : Home} {p r : ℕ} {words : List ℕ} → IsWrittenAt s now to p r words → (h : Home)
+    → h ≢ to → KeepsHome s now h
+home_kept {s = s} {to = to} {r = r} {words = words} w h other = rw w.effect (record {
+  uid = refl;
+  map = refl;
+  words = λ q. out_other s to.volume r q words h w.volume (apart w h q (λ same page. other same));
+  volumes = length-set s.disks to.volume (set (disk_of s to.volume) r words);
+  records = w.records;
+})
+
+-- and where the words are those of the page at the home that it has, one page more is copied
+pub page_copied : {s now : Plain} {from to : Home} {n p r : ℕ} {words : List ℕ} (t : List Ptw)
+    → IsWrittenAt s now to p r words → words ≡ words_out s from p → from ≢ to → IsCopied s t from to n
+    → ((q k : ℕ) → n ≤ q → q < p → ptw_at t q ≡ Out k → ⊥) → IsCopied now t from to (p + 1)
+page_copied {s = s} {now = now} {from = from} {to = to} {n = n} {p = p} t w same other copied none = record {
+  words = λ q k lt out. elim (cases_eq q p) [
+    | inl is ↦ ap (words_out now to) is ∙ out_now w ∙ same ∙ sym (out_kept w from p (λ e x. other e))
+        ∙ ap (words_out now from) (sym is)
+    | inr isnt ↦ out_kept w to q (λ e is. isnt is)
+        ∙ copied.words q k (before q k lt isnt out) out
+        ∙ sym (out_kept w from q (λ e x. other e))
+  ];
+}
+  where
+    before : (q k : ℕ) → q < p + 1 → q ≢ p → ptw_at t q ≡ Out k → q < n
+    before q k lt isnt out = elim (leb_tells n q) [
+      | inl past ↦ absurd (none q k past.1 (omega (arith, lt, isnt)) out)
+      | inr less ↦ (let short = less.1 in omega (arith, short))
+    ]
