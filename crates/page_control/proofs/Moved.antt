@@ -219,22 +219,34 @@ tie_rehomed s uid from to t tie home copied = record {
 -- what the steps of `rehome` give
 pub record Rehomes (s now : Plain) (t u : List Ptw) (uid : ℕ) (home : Home) : Type 0 where
   pub effect : now ≡ remarked s uid
-  pub table : u ≡ rehomed t (map_at s.vtocs home)
+  pub words : u ≡ rehomed t (map_at s.vtocs home)
+  pub table : IsTableOf (bindings s.core) uid t
   pub fits : IsHomeFor s uid home t
 
 pub size_rehomed : {s now : Plain} {t u : List Ptw} {uid : ℕ} {home : Home} → Rehomes s now t u uid home
     → length u ≡ length t
-size_rehomed {s = s} {t = t} {home = home} r = ap length r.table ∙ rehomed_length t (map_at s.vtocs home)
+size_rehomed {s = s} {t = t} {home = home} r = ap length r.words ∙ rehomed_length t (map_at s.vtocs home)
 
 pub word_rehomed : {s now : Plain} {t u : List Ptw} {uid : ℕ} {home : Home} → Rehomes s now t u uid home → (p : ℕ)
     → ptw_at u p ≡ rehomed_word (ptw_at t p) (get_or (map_at s.vtocs home) p None)
 word_rehomed {s = s} {t = t} {home = home} r p =
-    ap (λ (words : List Ptw). ptw_at words p) r.table ∙ rehomed_at t (map_at s.vtocs home) p
+    ap (λ (words : List Ptw). ptw_at words p) r.words ∙ rehomed_at t (map_at s.vtocs home) p
+
+pub table_now : {s now : Plain} {t u : List Ptw} {uid : ℕ} {home : Home} → Rehomes s now t u uid home
+    → IsTableOf (bindings now.core) uid u
+table_now {s = s} {t = t} {uid = uid} {home = home} r =
+    rw (r.effect, r.words, bindings_modified s.core uid)
+    (table_rehomed (bindings s.core) uid t (map_at s.vtocs home) r.table)
+
+pub map_now : {s now : Plain} {t u : List Ptw} {uid : ℕ} {home : Home} → Rehomes s now t u uid home
+    → IsMapOf (map_at now.vtocs home) u
+map_now {s = s} {t = t} {home = home} r =
+    rw (r.effect, r.words) (map_rehomed (map_at s.vtocs home) t r.fits.stored)
 
 pub tie_moved : {s now : Plain} {t u : List Ptw} {uid : ℕ} {home : Home} → Rehomes s now t u uid home → (from : Home)
     → IsTied s uid from t → IsCopied s t from home (length t) → IsTied now uid home u
 tie_moved {s = s} {t = t} {uid = uid} {home = home} r from tie copied =
-    rw (r.effect, r.table) (tie_rehomed s uid from home t tie r.fits copied)
+    rw (r.effect, r.words) (tie_rehomed s uid from home t tie r.fits copied)
 
 pub page_moved : {s now : Plain} {t u : List Ptw} {uid : ℕ} {home : Home} → Rehomes s now t u uid home
     → (from : Home) (p : ℕ) → IsTied s uid from t → IsCopied s t from home (length t)

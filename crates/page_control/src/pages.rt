@@ -461,10 +461,12 @@ impl<D: Drive> Pages<D> {
         requires table { IsTableOf (bindings self.old.core) uid t.old }
         requires home { IsHomeFor (plain D.pages self.old) uid home t.old }
         ensures effect { self.new ≡ record self.old { core = all_modified self.old.core uid } }
-        ensures table { t.new ≡ rehomed t.old (map_at self.old.volumes.vtocs home) }
+        ensures rehomed { t.new ≡ rehomed t.old (map_at self.old.volumes.vtocs home) }
         ensures size { length t.new ≡ length t.old }
         ensures word { (p : ℕ) → ptw_at t.new p
             ≡ rehomed_word (ptw_at t.old p) (slice_index_or (map_at self.old.volumes.vtocs home) p None) }
+        ensures table { IsTableOf (bindings self.new.core) uid t.new }
+        ensures map { IsMapOf (map_at self.new.volumes.vtocs home) t.new }
 
         // What becomes of the segment that was tied to the home that it had.
         ensures tie { (from : Home) → IsTied (plain D.pages self.old) uid from t.old
@@ -661,7 +663,7 @@ impl<D: Drive> Pages<D> {
         requires table { IsTableOf (bindings self.old.core) uid t.old }
         requires home { IsHomeFor (plain D.pages self.old) uid home t.old }
         ensures effect { self.new ≡ record self.old { core = all_modified self.old.core uid } }
-        ensures table { t.new ≡ rehomed t.old (map_at self.old.volumes.vtocs home) }
+        ensures rehomed { t.new ≡ rehomed t.old (map_at self.old.volumes.vtocs home) }
     {
         mark_all(&mut self.core, t, uid);
         rename(t, self.volumes.vtoc(home.volume), home.entry);

@@ -1,7 +1,7 @@
 use Rattle.std.proofs.Common.{ap}
 use Rattle.page_control.specs.Plain.{plain}
 use Rattle.page_control.proofs.Moved.{Rehomes, size_rehomed, word_rehomed, tie_moved, page_moved, words_same, ties_same}
-use Rattle.page_control.proofs.Moved.{bindings_same, reads_same}
+use Rattle.page_control.proofs.Moved.{bindings_same, reads_same, table_now, map_now}
 use Rattle.page_control.proofs.pages.Pages.rehome.Goals as goal
 
 -- what its steps left
@@ -10,14 +10,17 @@ rehomes : (g : _) (c : goal.After-rehome_all g)
     c.rehome_all.new.t c.args.uid c.args.home
 rehomes g c = record {
   effect = ap (plain g.D.Drive.pages) c.rehome_all.ensures.effect;
-  table = c.rehome_all.ensures.table;
+  words = c.rehome_all.ensures.rehomed;
+  table = c.requires.table;
   fits = c.requires.home;
 }
 
 pub returns : goal.returns
 returns g c = record {
   effect = c.rehome_all.ensures.effect;
-  table = c.rehome_all.ensures.table;
+  rehomed = c.rehome_all.ensures.rehomed;
+  table = table_now (rehomes g c);
+  map = map_now (rehomes g c);
   size = size_rehomed (rehomes g c);
   word = word_rehomed (rehomes g c);
   tie = tie_moved (rehomes g c);
