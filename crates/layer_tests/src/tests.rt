@@ -4,5 +4,6 @@ mod clock;
 mod fast_stores;
 mod moves;
 mod numbers;
+mod rehoming;
 mod streams;
 mod words;

@@ -1,0 +1,96 @@
+-- What the test of a segment that moves goes by: volumes and tables of which nothing is in use, and file maps.
+use Rattle.std.proofs.Common.{◌≡◌, ◌≢◌, ◌<◌, ℕ, zero, suc, Bool, true, false, List, [], ◌∷◌, length, map}
+use Rattle.std.proofs.Common.{Option, None, Some, replicate, is_some}
+use Rattle.std.specs.Prelude.{Result, Ok, Err, IfOk}
+use Rattle.std.proofs.Common.{refl, sym, ap, ◌∙◌, arith, get_or}
+use Rattle.std.proofs.Math.ListN.{get_or-map}
+use Rattle.std.proofs.lemmas.List.{length-replicate}
+use Rattle.core_map.specs.declared.Frame.TheVariants.{Free, Started}
+use Rattle.core_map.specs.CoreMap.{Core, frame_at, reads_of, started_page}
+use Rattle.vtoc.specs.FileMap.{no_records}
+use Rattle.vtoc.specs.Vtoc.{Entry, entry_at, record_at, records_in}
+use Rattle.volumes.specs.declared.Part.{Part}
+use Rattle.volumes.specs.Volumes.{Vols, made_of}
+use Rattle.page_table.specs.declared.Ptw.{Ptw}
+use Rattle.page_table.specs.declared.Ptw.TheVariants.{Null}
+use Rattle.page_table.specs.PageTable.{ptw_at}
+use Rattle.page_control.specs.Tied.{AreFiled, IsBlank, IsNotStarted, flags_in, has_record, vtoc_in}
+
+-- one of many equal ones, where the default is the same
+alike : {X : Type 0} (n i : ℕ) (x : X) → get_or (replicate n x) i x ≡ x
+alike zero i x = refl
+alike (suc n) zero x = refl
+alike (suc n) (suc i) x = alike n i x
+
+abbrev no_entry : Option Entry
+no_entry = None
+
+abbrev no_place : Option ℕ
+no_place = None
+
+no_record : (q : ℕ) → get_or no_records q None ≡ None
+unfolding no_records
+no_record q = alike 256 q no_place
+
+-- volumes as they are made
+vtoc_made : {D : Type 0} (parts : List (Part D)) (v e : ℕ)
+    → entry_at (vtoc_in (map (λ (part : Part D). replicate part.entries no_entry) parts) v) e ≡ None
+vtoc_made [] v e = refl
+vtoc_made (x ∷ parts) zero e = alike x.entries e no_entry
+vtoc_made (x ∷ parts) (suc v) e = vtoc_made parts v e
+
+flags_made : {D : Type 0} (pages : D → List (List ℕ)) (parts : List (Part D)) (v r : ℕ)
+    → get_or (flags_in (map (λ (part : Part D). replicate (length (pages part.drive)) false) parts) v) r false ≡ false
+flags_made pages [] v r = refl
+flags_made pages (x ∷ parts) zero r = alike (length (pages x.drive)) r false
+flags_made pages (x ∷ parts) (suc v) r = flags_made pages parts v r
+
+not_some : (x : Option ℕ) (r : ℕ) → x ≡ None → x ≡ Some r → ⊥
+not_some x r none some = cc
+
+on_and_off : (b : Bool) → b ≡ false → b ≡ true → ⊥
+on_and_off b off on = cc
+
+pub filed_made : {D : Type 0} (pages : D → List (List ℕ)) (parts : List (Part D))
+    → AreFiled (made_of pages parts).records (made_of pages parts).vtocs
+filed_made {D} pages parts = record {
+  used = λ v e p r is. absurd (never v e p r is);
+  once = λ v e p g q r is also. absurd (never v e p r is);
+  named = λ v r on. absurd (on_and_off _ (flags_made pages parts v r) on);
+}
+  where
+    never : (v e p r : ℕ) → record_at (vtoc_in (made_of pages parts).vtocs v) e p ≡ Some r → ⊥
+    never v e p r is = not_some _ r
+        (ap (λ (entry : Option Entry). get_or (records_in entry) p None) (vtoc_made parts v e) ∙ no_record p) is
+
+-- a page table of no page
+pub blank : (n : ℕ) → n ≡ 256 → IsBlank (replicate n Null)
+blank n is = record { pages = omega (arith, is, length-replicate n Null); null = λ p. alike n p Null }
+
+-- no frame is started where none was
+pub idle : (core : Core) (n uid p : ℕ) → reads_of core ≡ replicate n None → IsNotStarted core uid p
+idle core n uid p reads = record { none = λ f is. started f is }
+  where
+    no_page : Option (ℕ × ℕ)
+    no_page = None
+
+    started : (f : ℕ) → frame_at core f ≢ Started uid p
+    started f is =
+        let none : started_page (frame_at core f) ≡ None =
+        sym (get_or-map started_page core.frames f Free)
+        ∙ ap (λ (reads : List (Option (ℕ × ℕ))). get_or reads f None) reads ∙ alike n f no_page in
+        let some : started_page (frame_at core f) ≡ Some (uid, p) = ap started_page is in
+        cc
+
+-- the file map of an entry names a record for those of the first pages that the table says have one
+pub record NamesPages (vtoc : List (Option Entry)) (entry : ℕ) (t : List Ptw) (n : ℕ) : Type 0 where
+  pub pages : (p : ℕ) → p < n → is_some (record_at vtoc entry p) ≡ has_record (ptw_at t p)
+
+pub names_none : (vtoc : List (Option Entry)) (entry : ℕ) (t : List Ptw) → NamesPages vtoc entry t 0
+names_none vtoc entry t = record { pages = λ p lt. absurd (omega (arith, lt)) }
+
+-- volumes are filed as they are made, if they are
+pub filed_new : {D E : Type 0} (pages : D → List (List ℕ)) (parts : List (Part D)) (result : Result (Vols D) E)
+    → IfOk result (λ v. v ≡ made_of pages parts) → IfOk result (λ v. AreFiled v.records v.vtocs)
+filed_new pages parts (Ok v) is = rw is (filed_made pages parts)
+filed_new pages parts (Err e) is = tt
