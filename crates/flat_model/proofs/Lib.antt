@@ -7,6 +7,7 @@ pub mod KeyLaws
 pub mod NodeLaws
 pub mod NumberLaws
 pub mod PageLaws
+pub mod PairLaws
 pub mod PathRefusals
 pub mod PlaceLaws
 pub mod QuotaLaws

@@ -1,5 +1,5 @@
 -- Keys of two numbers in the order of a map: which lie in a range, and what the first one from a key on tells.
-use Rattle.std.proofs.Common.{◌≡◌, ◌<◌, ◌≤◌, ◌⊎◌, ℕ, suc, Bool, true, false, not, cond, eqb, leb, ltb}
+use Rattle.std.proofs.Common.{◌≡◌, ◌≤◌, ℕ, Bool, true, false, not, cond, eqb, leb, ltb}
 use Rattle.std.proofs.Common.{◌&&◌, ◌||◌, List, [], ◌∷◌}
 use Rattle.std.proofs.Common.{Option, Some, None, is_some, refl, sym, ap, subst, ◌∙◌, arith, inl, inr, IsSome}
 use Rattle.std.specs.Bool.{Decides}
@@ -9,43 +9,16 @@ use Rattle.std.specs.List.{AllByRecursion, slice_get}
 use Rattle.std.specs.List.Sorted.{IsStrictlySortedBy}
 use Rattle.std.specs.Map.{keys_of, lookup}
 use Rattle.std.specs.Option.{IfSome}
-use Rattle.std.specs.Ordering.{is_eq, is_gt, is_le, nat_cmp, ordering_then}
-use Rattle.std.specs.declared.cmp.Ordering.{Ordering}
-use Rattle.std.specs.declared.cmp.Ordering.TheVariants.{Less, Equal, Greater}
+use Rattle.std.specs.Ordering.{is_eq, is_le, nat_cmp, ordering_then}
+use Rattle.std.specs.declared.cmp.Ordering.TheVariants.{Less}
 use Rattle.std.specs.declared.ops.Bound.TheVariants.{Included, Excluded, Unbounded}
-use Rattle.std.proofs.lemmas.Bool.Decides.{Decides-eqb, eqb_tells, leb_tells, nat_tests}
+use Rattle.std.proofs.lemmas.Bool.Decides.{Decides-eqb, nat_tests}
 use Rattle.std.proofs.lemmas.Map.Keys.{sorted_head, sorted_tail}
 use Rattle.flat_model.proofs.DropLaws.{flip_page}
 use Rattle.flat_model.proofs.KeyLaws.{key_is}
+use Rattle.flat_model.proofs.PairLaws.{by_both, compare, first_le, same_le, second_le}
 use Rattle.flat_model.specs.Pages.{is_page, is_stored, IsOnce}
 use Rattle.flat_store.specs.Shown.{Paged, is_key, page_at}
-
-abbrev pub by_both : ℕ × ℕ → ℕ × ℕ → Ordering
-by_both x y = ordering_then (nat_cmp x.0 y.0) (nat_cmp x.1 y.1)
-
-compare : (a b : ℕ)
-    → ((nat_cmp a b ≡ Less) × (a < b)) ⊎ (((nat_cmp a b ≡ Equal) × (a ≡ b)) ⊎ ((nat_cmp a b ≡ Greater) × (b < a)))
-compare a b = elim (leb_tells (suc a) b) [
-  | inl l ↦ inl (ap (λ (t : Bool). cond t Less (cond (eqb a b) Equal Greater)) l.0, l.1)
-  | inr m ↦ inr (elim (eqb_tells a b) [
-    | inl e ↦ inl (
-      ap (λ (t : Bool). cond t Less (cond (eqb a b) Equal Greater)) m.0
-          ∙ ap (λ (t : Bool). cond t Equal Greater) e.0,
-      e.1,
-    )
-    | inr e ↦ inr (
-      ap (λ (t : Bool). cond t Less (cond (eqb a b) Equal Greater)) m.0
-          ∙ ap (λ (t : Bool). cond t Equal Greater) e.0,
-      past m.1 e.1,
-    )
-  ])
-]
-  where
-    past : b < suc a → (a ≡ b → ⊥) → b < a
-    past le apart = elim (leb_tells (suc b) a) [
-      | inl l ↦ l.1
-      | inr m ↦ (let other = m.1 in let same : a ≡ b = omega (arith, le, other) in absurd (apart same))
-    ]
 
 -- ---- a range of pages of one segment
 
@@ -112,54 +85,6 @@ keys_stored (e ∷ es) u q =
     here false true h ih = cc
 
 -- ---- the first page from one on
-
-not_both : {t : Bool} → t ≡ true → t ≡ false → ⊥
-not_both h g = let z : true ≡ false = sym h ∙ g in cc
-
-first_le : (x y : ℕ × ℕ) → IsLeBy by_both x y → x.0 ≤ y.0
-first_le x y h = elim (compare x.0 y.0) [
-  | inl l ↦ (let less = l.1 in omega (arith, less))
-  | inr m ↦ elim m [
-    | inl e ↦ (let same = e.1 in omega (arith, same))
-    | inr g ↦ absurd (not_both (ap (λ (o : Ordering). is_gt (ordering_then o (nat_cmp x.1 y.1))) g.0) h)
-  ]
-]
-
-second_le : (x y : ℕ × ℕ) → x.0 ≡ y.0 → IsLeBy by_both x y → x.1 ≤ y.1
-second_le x y same h = elim (compare x.1 y.1) [
-  | inl l ↦ (let less = l.1 in omega (arith, less))
-  | inr m ↦ elim m [
-    | inl e ↦ (let equal = e.1 in omega (arith, equal))
-    | inr g ↦ absurd (not_both (ap is_gt (tied x.0 y.0 same (nat_cmp x.1 y.1) ∙ g.0)) h)
-  ]
-]
-  where
-    tied : (a b : ℕ) → a ≡ b → (o : Ordering) → ordering_then (nat_cmp a b) o ≡ o
-    tied a b e o = elim (compare a b) [
-      | inl l ↦ (let less = l.1 in absurd (omega (arith, less, e)))
-      | inr m ↦ elim m [
-        | inl t ↦ ap (λ (z : Ordering). ordering_then z o) t.0
-        | inr g ↦ (let more = g.1 in absurd (omega (arith, more, e)))
-      ]
-    ]
-
-same_le : (a b c : ℕ) → b ≤ c → IsLeBy by_both (a, b) (a, c)
-same_le a b c le = elim (compare a a) [
-  | inl l ↦ (let less = l.1 in absurd (omega (arith, less)))
-  | inr m ↦ elim m [
-    | inl t ↦ ap (λ (o : Ordering). is_gt (ordering_then o (nat_cmp b c))) t.0 ∙ not_more
-    | inr g ↦ (let more = g.1 in absurd (omega (arith, more)))
-  ]
-]
-  where
-    not_more : is_gt (nat_cmp b c) ≡ false
-    not_more = elim (compare b c) [
-      | inl l ↦ ap is_gt l.0
-      | inr m ↦ elim m [
-        | inl e ↦ ap is_gt e.0
-        | inr g ↦ (let more = g.1 in absurd (omega (arith, more, le)))
-      ]
-    ]
 
 some_is : {X : Type 0} (o : Option X) (x : X) → o ≡ Some x → IsSome o
 some_is None x e = absurd (let z : None ≡ Some x = e in cc)

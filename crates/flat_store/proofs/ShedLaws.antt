@@ -27,7 +27,8 @@ use Rattle.flat_store.specs.Shown.{HoldPages, Holds}
 use Rattle.flat_store.proofs.DropLaws.{all_done, inside_without}
 use Rattle.flat_store.proofs.ExtractLaws.{length_passing}
 use Rattle.flat_store.proofs.GaugeLaws.{counts_less}
-use Rattle.flat_store.proofs.OrderLaws.{by_both, in_range, keys_once, keys_stored}
+use Rattle.flat_model.proofs.PairLaws.{by_both}
+use Rattle.flat_store.proofs.OrderLaws.{in_range, keys_once, keys_stored}
 use Rattle.flat_store.proofs.PassLaws.{count_less, few, none_counted, one_there, same_count}
 
 -- ---- the pages of a segment from one on and below an end

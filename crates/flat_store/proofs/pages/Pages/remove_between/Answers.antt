@@ -4,7 +4,7 @@ use Rattle.std.specs.BTreeMap.ExtractIf.{extract_if_rest}
 use Rattle.std.specs.BTreeMap.Range.{range_contains}
 use Rattle.flat_store.specs.Shown.{Paged, Sheds}
 use Rattle.flat_store.proofs.ExtractLaws.{extracted}
-use Rattle.flat_store.proofs.OrderLaws.{by_both}
+use Rattle.flat_model.proofs.PairLaws.{by_both}
 use Rattle.flat_store.proofs.ShedLaws.{between, gone, gone_few, sheds}
 use Rattle.flat_store.proofs.pages.Pages.remove_between.Goals.{After-len}
 use Rattle.flat_store.proofs.pages.Pages.remove_between.Goals as goal
