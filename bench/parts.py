@@ -14,7 +14,7 @@ import tempfile
 PARTS = {
     "reading": "script::reader::read_script",
     "drives": "volumes::core_drive::CoreDrive::new",
-    "tables": "machine_tables::tables::Tables::boot",
+    "tables": "machine::machine::Machine::boot",
     "steps": "machine::machine::Machine::step",
 }
 
