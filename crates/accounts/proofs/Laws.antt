@@ -14,14 +14,14 @@ use Rattle.dir_tree.specs.Nodes.{Branches, as_term, with_quotas, node_of, is_in,
 use Rattle.dir_tree.specs.Nodes.{removed, without, unless, with_length}
 use Rattle.dir_tree.specs.Nodes.{with_changed, with_acl, with_home, acl_of}
 use Rattle.dir_tree.specs.Shape.{shape, shapes}
-use Rattle.quota_cells.specs.Accounts.{look, has, is_an_account}
+use Rattle.quota_cells.specs.Accounts.{look, has, is_an_account, with_value}
 use Rattle.quota_cells.specs.Cells.{CellMaps, IsTable, quota_in, stored_in, used_in, AreWithin, Fits, Enters, Leaves}
 use Rattle.dir_tree.specs.Laws.{directory_shown as kind_of_directory, segment_shown as kind_of_segment, uid_shown}
 use Rattle.dir_tree.specs.Laws.{segment_in, not_in_directory}
 use Rattle.dir_tree.specs.Index.{no_node}
 use Rattle.quota_cells.specs.Laws.{look_absent, on_directories, on_segments}
 use Rattle.accounts.specs.Maps.{AccountMaps, HasColumns, accounts_of, count_of, entry_of, branch_of, Recounts, Changes}
-use Rattle.accounts.specs.Maps.{Gains, Loses, Rehomes, rows_in, with_row_in}
+use Rattle.accounts.specs.Maps.{Gains, Loses, Rehomes, rehomed, rows_in, with_row_in}
 
 -- ---- uids of the tree
 
@@ -422,3 +422,29 @@ home_shown old new c uid volume entry seg is = record {
   next = ap (λ (t : Branches). t.next) is;
   counts = λ s. refl;
 }
+
+-- no two nodes of a tree have the same uid, so the entry that is set is that of the first node of the uid
+entries_set : (q : ℕ → ℕ) (ns : List Node) (uid volume entry : ℕ) → IsTree (shapes ns)
+    → map (λ n. n.entry) (with_changed uid (λ n. record n { volume = volume; entry = entry }) ns)
+    ≡ with_value (map (λ n. n.uid) (with_quotas q ns)) (map (λ n. n.entry) ns) uid entry
+entries_set q [] uid volume entry tree = refl
+entries_set q (n ∷ ns) uid volume entry tree = elim (cases_eq n.uid uid) [
+  | inl same ↦
+      (let below : AreBelow uid (shapes ns) = subst (λ u. AreBelow u (shapes ns)) same
+      (below_all (shapes ns) n.superior (shape n) tree.0) in
+      rw (eq-eqb n.uid uid same)
+      (ap (λ (ms : List Node). entry ∷ map (λ n. n.entry) ms) (none_changed ns uid _ below)))
+  | inr other ↦ rw (ne_eqb n.uid uid other)
+      (ap (λ (es : List ℕ). n.entry ∷ es) (entries_set q ns uid volume entry tree.1))
+]
+
+pub home_exact : (old new : Branches) (c : CellMaps) (uid volume entry : ℕ) → IsTree (shapes old.nodes)
+    → new ≡ with_home old uid volume entry
+    → accounts_of new c ≡ rehomed (accounts_of old c) uid volume entry
+home_exact old new c uid volume entry tree is =
+    ap (λ (t : Branches). accounts_of t c) is
+    ∙ ap (λ (ns : List Term). record (accounts_of (with_home old uid volume entry) c) { nodes = ns })
+    (changed_nodes (quota_in c) uid (λ n. record n { volume = volume; entry = entry })
+    (λ n. record n { volume = volume }) (λ n. refl) old.nodes)
+    ∙ ap (λ (es : List ℕ). record (rehomed (accounts_of old c) uid volume entry) { entries = es })
+    (entries_set (quota_in c) old.nodes uid volume entry tree)

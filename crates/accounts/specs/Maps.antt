@@ -7,7 +7,7 @@ use Rattle.tree_model.specs.Tree.{Node, with_node, without_node}
 use Rattle.tree_model.specs.Trees.{has_segment}
 use Rattle.dir_tree.specs.declared.node.NewNode.{NewNode}
 use Rattle.dir_tree.specs.Nodes.{Branches, with_quotas}
-use Rattle.quota_cells.specs.Accounts.{has, look}
+use Rattle.quota_cells.specs.Accounts.{has, look, with_value}
 use Rattle.quota_cells.specs.Cells.{CellMaps, IsRising, quota_in}
 
 pub record AccountMaps : Type 0 where
@@ -121,3 +121,10 @@ pub record Rehomes (old new : AccountMaps) (seg volume entry : ℕ) : Type 0 whe
   pub entries : (u : ℕ) → entry_of new u ≡ (if seg == u then entry else entry_of old u)
   pub next : new.next ≡ old.next
   pub counts : (s : ℕ) → count_of new s ≡ count_of old s
+
+-- the accounts once a segment has another home
+abbrev pub rehomed : AccountMaps → ℕ → ℕ → ℕ → AccountMaps
+rehomed a seg volume entry = record a {
+  nodes = with_node a.nodes seg (λ n. record n { volume = volume });
+  entries = with_value (map (λ n. n.uid) a.nodes) a.entries seg entry;
+}

@@ -19,7 +19,7 @@ ghost use Rattle.tree_model.specs.Quotas.{tree_moved};
 ghost use Rattle.dir_tree.specs.Nodes.{add_fault_of, as_term, chain_of, has_inferior, path_answer, unless};
 ghost use Rattle.quota_cells.specs.Scratch.{charge_answer, scratch_answer};
 ghost use Rattle.accounts.specs.Maps.{Counts, HasColumns, count_of, entry_of, root_alone, branch_of};
-ghost use Rattle.accounts.specs.Maps.{Recounts, Changes, Gains, Loses, Rehomes, rows_in, with_row_in};
+ghost use Rattle.accounts.specs.Maps.{Recounts, Changes, Gains, Loses, Rehomes, rehomed, rows_in, with_row_in};
 
 use acl::AclFull;
 use arrayvec::ArrayVec;
@@ -289,8 +289,10 @@ impl Accounts {
     /// Sets the home of a segment: its volume, and its entry in the VTOC of that volume.
     pub fn set_home(&mut self, seg: u32, volume: u32, entry: u32)
         requires { has_segment self.old.nodes seg ≡ true }
-        ensures { Rehomes self.old self.new seg volume entry }
+        ensures home { Rehomes self.old self.new seg volume entry }
+        ensures effect { self.new ≡ rehomed self.old seg volume entry }
     {
+        self.tree.promise();
         self.tree.set_home(seg, volume, entry);
     }
 
