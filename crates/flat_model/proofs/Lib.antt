@@ -3,6 +3,7 @@ pub mod CountLaws
 pub mod CutLaws
 pub mod DropLaws
 pub mod FieldLaws
+pub mod HeldLaws
 pub mod KeyLaws
 pub mod NodeLaws
 pub mod NumberLaws

@@ -443,7 +443,7 @@ command_total p t k c r tree answer = by (takes_effect r) refl
   where
     own : takes_effect r ≡ true → takes_effect (reply_to_command p t k c) ≡ true
     own h = elim answer [
-      | inl same ↦ ap takes_effect (sym same) ∙ h
+      | inl due ↦ ap takes_effect (sym due.own) ∙ h
       | inr other ↦ absurd (let no : false ≡ true = ap takes_effect (sym other.device) ∙ h in cc)
     ]
 

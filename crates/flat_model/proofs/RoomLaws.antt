@@ -6,7 +6,7 @@ use Rattle.std.proofs.lemmas.Bool.{cases_eq}
 use Rattle.std.proofs.lemmas.Bool.Decides.{leb_tells}
 use Rattle.std.proofs.lemmas.Option.{slice_get_past}
 use Rattle.script.specs.Plans.{Plan}
-use Rattle.flat_model.specs.Moves.{first_below, has_room, pages_stored, room_for}
+use Rattle.flat_model.specs.Rooms.{first_below, has_room, pages_stored, room_for}
 use Rattle.flat_model.specs.Store.{Store, records_in, records_of}
 use Rattle.tree_model.specs.Tree.{taken_on}
 

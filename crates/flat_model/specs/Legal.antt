@@ -14,7 +14,7 @@ use Rattle.tree_model.specs.Tree.{Node, is_account, used_by}
 use Rattle.flat_model.specs.Pages.{is_stored, is_zero_page, without_stored}
 use Rattle.flat_model.specs.Store.{Store, Progress, boot, progress_of, with_progress, is_turn}
 use Rattle.flat_model.specs.Commands.{reply_to_command, after_command}
-use Rattle.flat_model.specs.Moves.{MayMove, moved}
+use Rattle.flat_model.specs.Moves.{MayMove, is_held_back, moved}
 
 -- the refusals that come before any page is looked for
 abbrev pub is_early : Reply → Bool
@@ -38,6 +38,11 @@ moves_pages _ = false
 abbrev pub may_fail : Command → Reply → Bool
 may_fail c due = if is_some (reference_of c) then not (is_early due) else moves_pages c && is_done due
 
+-- the flat store's reply, where it isn't held back until a segment has moved
+pub record MayAnswerDue (held : Bool) (due given : Reply) : Type 0 where
+  pub own : given ≡ due
+  pub free : held ≡ false
+
 -- a drive's failure was told of the process since its last answer, and may be told in place of this reply
 pub record MayAnswerDevice (faulted : Bool) (c : Command) (due given : Reply) : Type 0 where
   pub device : given ≡ reply.Device
@@ -47,7 +52,7 @@ pub record MayAnswerDevice (faulted : Bool) (c : Command) (due given : Reply) : 
 -- the answer of a command that is there: the flat store's, or a drive's failure
 abbrev pub IsAnswer : Plan → Store → ℕ → Option Command → Reply → Type 0
 IsAnswer p s k None r = ⊥
-IsAnswer p s k (Some c) r = (r ≡ reply_to_command p s k c)
+IsAnswer p s k (Some c) r = MayAnswerDue (is_held_back p s k c) (reply_to_command p s k c) r
     ⊎ MayAnswerDevice (progress_of s k).faulted c (reply_to_command p s k c) r
 
 -- a command may be answered so: it is its process's turn, the process hasn't ended, and it is the process's next

@@ -8,5 +8,6 @@ pub mod Naming
 pub mod Pages
 pub mod References
 pub mod Rights
+pub mod Rooms
 pub mod Sizes
 pub mod Store

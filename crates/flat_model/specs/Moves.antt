@@ -1,42 +1,15 @@
--- When a segment whose volume has no free record moves to another volume, and where it moves to (Organick 1972).
-use Rattle.std.specs.Prelude.{◌≡◌, ℕ, zero, suc, ◌*◌, ◌-◌, Bool, true, false, not, ◌&&◌, ◌==◌, nat_lt, nat_le}
-use Rattle.std.specs.Prelude.{if◌then◌else◌, count_by, length}
-use Rattle.std.specs.Prelude.{Option, Some, None}
+-- When a segment whose volume has no free record moves to another volume, and what waits for that (Organick 1972).
+use Rattle.std.specs.Prelude.{◌≡◌, ℕ, ◌*◌, Bool, true, false, not, ◌&&◌, ◌==◌, nat_le, is_some, Option, Some, None}
 use Rattle.script.specs.Plans.{Plan, command_at, who_of}
 use Rattle.script.specs.References.{permits, reference_of}
 use Rattle.script.specs.declared.commands.Command.{Command}
 use Rattle.script.specs.declared.commands.Reference.{Reference}
 use Rattle.script.specs.declared.commands.RefKind.{RefKind}
 use Rattle.tree_model.specs.Access.{access_of}
-use Rattle.tree_model.specs.Tree.{Node, entries_on, node_in, taken_on, volume_in, with_node}
+use Rattle.tree_model.specs.Tree.{Node, node_in, with_node}
 use Rattle.flat_model.specs.References.{is_used_up, is_volume_full, stores_page}
-use Rattle.flat_model.specs.Store.{Store, entries_of, is_turn, known_uid, progress_of, records_of}
-
--- how many pages of a segment are stored
-abbrev pub pages_stored : Store → ℕ → ℕ
-pages_stored s uid = count_by (λ x. x.0 == uid) s.stored
-
--- A volume has room for a segment where it isn't the segment's own, its free records are more than the stored pages of
--- the segment, and it has a free VTOC entry.
-abbrev pub has_room : Plan → Store → ℕ → ℕ → Bool
-has_room p s uid volume = not (volume == volume_in s.nodes uid)
-    && (nat_lt (pages_stored s uid) (records_of p volume - taken_on s.nodes s.stored volume)
-    && nat_lt (entries_on s.nodes volume) (entries_of p volume))
-
--- the least of so many numbers, from 0 on, that passes a test
-abbrev pub first_below : (ℕ → Bool) → ℕ → Option ℕ
-first_below test zero = None
-first_below test (suc n) = first_or (first_below test n) (if test n then Some n else None)
-  where
-    first_or : Option ℕ → Option ℕ → Option ℕ
-    first_or None next = next
-    first_or (Some v) next = Some v
-
--- the first volume, in the order of the script, that has room for a segment
-abbrev pub room_for : Plan → Store → ℕ → Option ℕ
-room_for p s uid = first_below (has_room p s uid) (length p.volumes)
-
--- ---- what a process waits for
+use Rattle.flat_model.specs.Rooms.{room_for}
+use Rattle.flat_model.specs.Store.{Store, is_turn, known_uid, progress_of}
 
 -- a reference to a segment that is refused for nothing but that no record of the segment's volume is free
 abbrev pub lacks_record : Plan → Store → ℕ → ℕ → RefKind → Node → Bool
@@ -47,6 +20,30 @@ lacks_record p s k offset how n = permits (access_of (who_of p k) n.rows) how
 abbrev pub lacks_at : Plan → Store → ℕ → ℕ → RefKind → Option Node → Bool
 lacks_at p s k offset how None = false
 lacks_at p s k offset how (Some n) = lacks_record p s k offset how n
+
+-- ---- a reply that is held back
+
+-- the reply is held back until the segment has moved: the reference lacks a record alone, and a volume has room
+abbrev pub is_held_in : Plan → Store → ℕ → ℕ → RefKind → Node → Bool
+is_held_in p s k offset how n = lacks_record p s k offset how n && is_some (room_for p s n.uid)
+
+abbrev pub is_held_at : Plan → Store → ℕ → ℕ → RefKind → Option Node → Bool
+is_held_at p s k offset how None = false
+is_held_at p s k offset how (Some n) = is_held_in p s k offset how n
+
+abbrev pub is_held_of : Plan → Store → ℕ → ℕ → RefKind → Option ℕ → Bool
+is_held_of p s k offset how None = false
+is_held_of p s k offset how (Some uid) = is_held_at p s k offset how (node_in s.nodes uid)
+
+abbrev pub is_held_by : Plan → Store → ℕ → Option Reference → Bool
+is_held_by p s k None = false
+is_held_by p s k (Some r) = is_held_of p s k r.offset r.kind (known_uid s k r.number)
+
+-- the reply to a command is held back until a segment has moved; that of a tree command never is
+unfoldable pub is_held_back : Plan → Store → ℕ → Command → Bool
+is_held_back p s k c = is_held_by p s k (reference_of c)
+
+-- ---- what may move
 
 abbrev pub is_uid : Option ℕ → ℕ → Bool
 is_uid None uid = false

@@ -1,6 +1,6 @@
 -- What a reference to a word is answered, and what it changes (Bensoussan, Clingen and Daley 1972; quota and records
 -- are those of Organick 1972).
-use Rattle.std.specs.Prelude.{ℕ, ◌*◌, ◌/◌, Bool, not, ◌&&◌, ◌==◌, nat_le, if◌then◌else◌}
+use Rattle.std.specs.Prelude.{ℕ, ◌*◌, ◌/◌, Bool, not, ◌&&◌, ◌==◌, nat_le, if◌then◌else◌, is_none}
 use Rattle.std.specs.Prelude.{Option, Some, None}
 use Rattle.script.specs.Plans.{Plan, who_of}
 use Rattle.script.specs.References.{alters, new_word, permits}
@@ -12,6 +12,7 @@ use Rattle.book.specs.declared.replies.Reply.TheVariants as reply
 use Rattle.tree_model.specs.Access.{access_of}
 use Rattle.tree_model.specs.Tree.{Node, node_in, quota_in, account_of, used_by, taken_on}
 use Rattle.flat_model.specs.Pages.{is_stored, with_stored, with_word}
+use Rattle.flat_model.specs.Rooms.{room_for}
 use Rattle.flat_model.specs.Store.{Store, records_of, known_uid}
 
 -- a word other than 0 comes into a page that isn't stored
@@ -27,10 +28,14 @@ is_used_up s uid = used_by s.nodes s.stored (account_of s.nodes uid) == quota_in
 abbrev pub is_volume_full : Plan → Store → ℕ → Bool
 is_volume_full p s volume = taken_on s.nodes s.stored volume == records_of p volume
 
+-- all records of a segment's volume are taken, and no other volume has room for the segment
+abbrev pub is_out_of_room : Plan → Store → Node → Bool
+is_out_of_room p s n = is_volume_full p s n.volume && is_none (room_for p s n.uid)
+
 -- where there is no room for a page more of a segment: quota, then norecord; else another reply
 abbrev pub room_reply : Plan → Store → Node → Reply → Reply
 room_reply p s n otherwise = if is_used_up s n.uid then reply.Quota
-    else if is_volume_full p s n.volume then reply.NoRecord else otherwise
+    else if is_out_of_room p s n then reply.NoRecord else otherwise
 
 -- a read is answered with the word, an addition with the new one
 abbrev pub word_reply : ℕ → RefKind → Reply
