@@ -8,9 +8,9 @@ use Rattle.book.specs.declared.entries.Entry.{Entry}
 use Rattle.book.specs.declared.entries.Entry.TheVariants as entry
 use Rattle.book.specs.declared.replies.Reply.{Reply}
 use Rattle.flat_model.specs.Commands.{after_command, gone_on, reply_to_command, takes_effect}
-use Rattle.flat_model.specs.Legal.{IsAnswer, IsLawful, IsLawfulDo, MayAnswerDevice, MayFault, MayRelease, after_do}
-use Rattle.flat_model.specs.Legal.{after_entry, after_fault}
-use Rattle.flat_model.specs.Moves.{MayMove, moved}
+use Rattle.flat_model.specs.Legal.{IsAnswer, IsLawful, IsLawfulDo, MayAnswerDevice, MayAnswerDue, MayFault, MayRelease}
+use Rattle.flat_model.specs.Legal.{after_do, after_entry, after_fault}
+use Rattle.flat_model.specs.Moves.{MayMove, is_held_back, moved}
 use Rattle.flat_model.specs.Pages.{without_stored}
 use Rattle.flat_model.specs.Store.{Progress, Store, progress_of, with_progress}
 use Rattle.flat_store.specs.Shown.{Holds, IsReached, IsShown, Kept, Shows, answered, progress_at}
@@ -18,17 +18,17 @@ use Rattle.flat_model.proofs.PlaceLaws.{place_fits, place_within}
 use Rattle.flat_store.proofs.ReachLaws.{answered_advances, reached_fault, reached_on}
 use Rattle.flat_store.proofs.StoreLaws.{holds_beside}
 
--- an answer that took effect is the flat store's
+-- an answer that took effect is the flat store's, and wasn't held back
 pub effect_due : (p : Plan) (s : Store) (k place : ℕ) (c : Command) (r : Reply) → command_at p k place ≡ Some c
     → IsLawfulDo p s k place r
-    → takes_effect r ≡ true → takes_effect (reply_to_command p s k c) ≡ true
+    → takes_effect r ≡ true → (takes_effect (reply_to_command p s k c) ≡ true) × (is_held_back p s k c ≡ false)
 effect_due p s k place c r at lawful effect =
     by_answer (subst (λ (o : Option Command). IsAnswer p s k o r) at lawful.answer)
   where
-    by_answer : (r ≡ reply_to_command p s k c)
+    by_answer : MayAnswerDue (is_held_back p s k c) (reply_to_command p s k c) r
         ⊎ MayAnswerDevice (progress_of s k).faulted c (reply_to_command p s k c) r
-        → takes_effect (reply_to_command p s k c) ≡ true
-    by_answer (inl same) = ap takes_effect (sym same) ∙ effect
+        → (takes_effect (reply_to_command p s k c) ≡ true) × (is_held_back p s k c ≡ false)
+    by_answer (inl due) = (ap takes_effect (sym due.own) ∙ effect, due.free)
     by_answer (inr told) = (let clash : true ≡ false = sym effect ∙ ap takes_effect told.device in cc)
 
 -- how far a process has come is changed alone

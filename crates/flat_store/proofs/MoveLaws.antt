@@ -1,7 +1,7 @@
 -- A segment moves to another volume.
 use Rattle.std.proofs.Common.{◌≡◌, ◌≢◌, ℕ, ◌+◌, ◌*◌, ◌/◌, ◌-◌, ◌<◌, ◌≤◌, Bool, true, false, not, ◌&&◌, cond}
 use Rattle.std.proofs.Common.{eqb, List, [], ◌∷◌, Option, Some, None, Result, Ok, Err, is_ok, refl, sym, ap, subst}
-use Rattle.std.proofs.Common.{◌∙◌, arith, inl, inr, length}
+use Rattle.std.proofs.Common.{◌∙◌, arith, inl, inr, is_some, length}
 use Rattle.std.specs.Prelude.{count_by, nat_le, nat_lt}
 use Rattle.std.proofs.lemmas.Bool.{cases_Bool, cases_eq}
 use Rattle.std.proofs.lemmas.Bool.Decides.{nat_tests}
@@ -17,10 +17,12 @@ use Rattle.script.specs.declared.commands.RefKind.{RefKind}
 use Rattle.tree_model.specs.Access.{access_of}
 use Rattle.tree_model.specs.Tree.{Node, account_of, entries_on, has_directory, node_in, taken_on, volume_in, with_node}
 use Rattle.tree_model.specs.Trees.{AreBelow, IsTree, Joins, has_segment}
-use Rattle.flat_model.specs.Moves.{MayMove, awaits_by, awaits_in, awaits_move, has_room, is_uid, lacks_at, moved}
+use Rattle.flat_model.specs.Moves.{MayMove, awaits_by, awaits_in, awaits_move, is_held_at, is_uid, lacks_at, moved}
 use Rattle.flat_model.specs.References.{is_used_up, is_volume_full, stores_page}
+use Rattle.flat_model.specs.Rooms.{has_room, room_for}
 use Rattle.flat_model.specs.Store.{Store, entries_of, known_uid, progress_of, records_of}
 use Rattle.flat_model.proofs.FieldLaws.{field_found, field_kept, field_mapped}
+use Rattle.flat_model.proofs.NodeLaws.{uid_found}
 use Rattle.flat_store.specs.Roomy.{is_roomy, shifted}
 use Rattle.flat_store.specs.Shown.{AreFlat, Gauge, Held, HoldPages, Holds, gauge_at, is_full, pages_in}
 use Rattle.flat_store.proofs.NodeLaws.{has_pages}
@@ -306,6 +308,32 @@ pub awaits_told : (p : Plan) (s : Store) (k u place : ℕ) (c : Command) (o : Op
 unfolding awaits_move
 awaits_told p s k u place c o z at found is told = told ∙ ap (awaits_by p s k u) is
     ∙ sym (ap (awaits_in p s k u) (ap (command_at p k) (sym at) ∙ found))
+
+-- ---- a reply that is held back
+
+-- what lacks a record is held back where a volume has room
+held_told : (p : Plan) (s : Store) (k u o : ℕ) (how : RefKind) (lacks : Bool) (room : Option ℕ)
+    → lacks ≡ lacks_at p s k o how (node_in s.nodes u) → room ≡ room_for p s u
+    → (lacks && is_some room) ≡ is_held_at p s k o how (node_in s.nodes u)
+held_told p s k u o how lacks room is at = rw (is, at) (by (node_in s.nodes u) refl)
+  where
+    by : (found : Option Node) → node_in s.nodes u ≡ found
+        → (lacks_at p s k o how found && is_some (room_for p s u)) ≡ is_held_at p s k o how found
+    by None e = refl
+    by (Some n) e = ap (λ (x : ℕ). lacks_at p s k o how (Some n) && is_some (room_for p s x))
+        (sym (uid_found s.nodes u n e))
+
+pub held_lacking : (p : Plan) (s : Store) (k u o : ℕ) (how : RefKind) (lacks z : Bool) (room : Option ℕ)
+    → lacks ≡ lacks_at p s k o how (node_in s.nodes u) → lacks ≡ true → room ≡ room_for p s u → z ≡ is_some room
+    → z ≡ is_held_at p s k o how (node_in s.nodes u)
+held_lacking p s k u o how lacks z room is on at told =
+    told ∙ ap (λ (b : Bool). b && is_some room) (sym on) ∙ held_told p s k u o how lacks room is at
+
+pub held_nothing : (p : Plan) (s : Store) (k u o : ℕ) (how : RefKind) (lacks : Bool)
+    → lacks ≡ lacks_at p s k o how (node_in s.nodes u) → lacks ≡ false
+    → lacks ≡ is_held_at p s k o how (node_in s.nodes u)
+held_nothing p s k u o how lacks is off = off ∙ ap (λ (b : Bool). b && is_some (room_for p s u)) (sym off)
+    ∙ held_told p s k u o how lacks (room_for p s u) is refl
 
 -- a volume that a segment may move to has room
 pub room_there : (p : Plan) (s : Store) (k u w : ℕ) → MayMove p s k u w → has_room p s u w ≡ true

@@ -1,18 +1,18 @@
 -- Gauges from one of which so much goes over to another, and which volume is the first with room.
 use Rattle.std.proofs.Common.{◌≡◌, ◌≢◌, ℕ, suc, zero, ◌+◌, ◌-◌, ◌<◌, ◌≤◌, Bool, true, false, cond, eqb}
-use Rattle.std.proofs.Common.{List, length, Option, Some, None, IsTrue, ◌↔◌, refl, sym, ap, ◌∙◌, arith, inl, inr}
-use Rattle.std.specs.Prelude.{nat_le, nat_lt}
-use Rattle.std.specs.Bool.{Decides}
+use Rattle.std.proofs.Common.{List, length, Option, Some, None, refl, sym, ap, ◌∙◌, arith, inl, inr}
+use Rattle.std.specs.Prelude.{IfNone, IfSome, nat_le, nat_lt}
 use Rattle.std.proofs.lemmas.Bool.{cases_eq}
 use Rattle.std.proofs.lemmas.Bool.Decides.{nat_tests}
+use Rattle.std.proofs.lemmas.List.{get_or_past}
 use Rattle.accounts.specs.Maps.{AccountMaps, HasColumns, count_of}
 use Rattle.quota_cells.specs.Laws.{look_absent}
 use Rattle.script.specs.Plans.{Plan}
 use Rattle.tree_model.specs.Tree.{volume_in}
 use Rattle.tree_model.specs.Trees.{has_segment}
-use Rattle.flat_model.specs.Moves.{first_below, has_room, room_for}
-use Rattle.flat_model.specs.Store.{Store}
-use Rattle.flat_model.proofs.RoomLaws.{room_is}
+use Rattle.flat_model.specs.Rooms.{first_below, has_room, room_for}
+use Rattle.flat_model.specs.Store.{Store, records_of}
+use Rattle.flat_model.proofs.RoomLaws.{room_is, room_none}
 use Rattle.flat_store.specs.Roomy.{IsLeast, drained_by, filled_by, is_roomy, shifted, with_drained, with_filled}
 use Rattle.flat_store.specs.Shown.{Gauge, Held, Holds, gauge_at}
 use Rattle.flat_store.proofs.GaugeLaws.{gauge, set_here}
@@ -131,20 +131,27 @@ first_told test (suc n) v found = here (first_below test n) refl (first_told tes
           below = λ m lt. none_told test n e m (omega (arith, lt, at));
         }
 
--- the least volume that the gauges find roomy is the flat store's first with room
-pub room_told : (p : Plan) (s : Store) (h : Held) (u own count w : ℕ) (r : Bool) → Holds p h s
-    → own ≡ volume_in h.accounts.nodes u → count ≡ count_of h.accounts u
-    → Decides r (IsLeast (is_roomy h.records h.entries own count) w) → IsTrue r ↔ room_for p s u ≡ Some w
-room_told p s h u own count w r holds home stored told = (
-  λ is.
-      (let least = told.0 is in
-      sym (room_is p s u w (sym (same w) ∙ least.passes) (λ v lt. sym (same v) ∙ least.below v lt))),
-  λ found.
-      (let least = first_told (has_room p s u) (length p.volumes) w found in
-      told.1 (record { passes = same w ∙ least.passes; below = λ v lt. same v ∙ least.below v lt })),
-)
+-- the first volume that the gauges find roomy is the flat store's first with room
+pub room_found : (p : Plan) (s : Store) (h : Held) (u own count : ℕ) (records entries : List Gauge) → Holds p h s
+    → own ≡ volume_in h.accounts.nodes u → count ≡ count_of h.accounts u → records ≡ h.records → entries ≡ h.entries
+    → (found : Option ℕ) → IfSome found (λ w. is_roomy records entries own count w ≡ true)
+    → IfSome found (λ w. (v : ℕ) → v < w → is_roomy records entries own count v ≡ false)
+    → IfNone found ((v : ℕ) → v < length records → is_roomy records entries own count v ≡ false)
+    → found ≡ room_for p s u
+room_found p s h u own count records entries holds home stored gauges places = each
   where
-    same : (v : ℕ) → is_roomy h.records h.entries own count v ≡ has_room p s u v
-    same v = ap (λ (x : ℕ). is_roomy h.records h.entries x count v) home
-        ∙ ap (λ (x : ℕ). is_roomy h.records h.entries (volume_in h.accounts.nodes u) x v) stored
-        ∙ same_room p s h holds u v
+    same : (v : ℕ) → is_roomy records entries own count v ≡ has_room p s u v
+    same v = rw (home, stored, gauges, places) (same_room p s h holds u v)
+
+    -- past the last gauge the script has no records
+    past : (v : ℕ) → length records ≤ v → records_of p v ≡ 0
+    past v out = sym (ap (λ (g : Gauge). g.most) (holds.records v))
+        ∙ ap (λ (gs : List Gauge). (gauge_at gs v).most) (sym gauges)
+        ∙ ap (λ (g : Gauge). g.most) (get_or_past records v (gauge 0 0) out)
+
+    each : (found : Option ℕ) → IfSome found (λ w. is_roomy records entries own count w ≡ true)
+        → IfSome found (λ w. (v : ℕ) → v < w → is_roomy records entries own count v ≡ false)
+        → IfNone found ((v : ℕ) → v < length records → is_roomy records entries own count v ≡ false)
+        → found ≡ room_for p s u
+    each (Some w) has first none = room_is p s u w (sym (same w) ∙ has) (λ v lt. sym (same v) ∙ first v lt)
+    each None has first none = room_none p s u (length records) (λ v lt. sym (same v) ∙ none v lt) past

@@ -3,6 +3,7 @@ use Rattle.std.proofs.Common.{◌≡◌, ℕ, Bool, true, false, cond, zero, suc
 use Rattle.std.proofs.Common.{Result, Ok, Err, is_some, length, set, get_or, refl, sym, ap, subst, ◌∙◌}
 use Rattle.std.proofs.lemmas.List.{length-set}
 use Rattle.script.specs.Plans.{Plan}
+use Rattle.script.specs.References.{reference_of}
 use Rattle.script.specs.declared.commands.Command.{Command}
 use Rattle.script.specs.declared.commands.Reference.{Reference}
 use Rattle.book.specs.declared.replies.Reply.{Reply}
@@ -14,6 +15,7 @@ use Rattle.tree_commands.specs.Shown.{ShowsTree}
 use Rattle.flat_model.specs.Branches.{segment_at}
 use Rattle.flat_model.specs.Naming.{after_initiate, after_terminate, initiated, initiate_of, initiate_reply}
 use Rattle.flat_model.specs.Naming.{known_or_full, terminate_reply}
+use Rattle.flat_model.specs.Moves.{is_held_back, is_held_by, is_held_of}
 use Rattle.flat_model.specs.References.{after_reference, reply_at, reply_of, reply_to_reference, written_by}
 use Rattle.flat_model.specs.Store.{Store, known_uid, numbers_of, with_numbers, Progress}
 use Rattle.flat_store.specs.Shown.{Holds, IsShown, Kept, numbers_at, Held}
@@ -62,6 +64,16 @@ module _ (p : Plan) (k : Kept) (s : Store) (h : IsShown p k s) where
       → reply_of p s process r.offset r.kind o ≡ reply_to_reference p s process r
   unfolding reply_to_reference
   reference_told process r o is = sym (ap (reply_of p s process r.offset r.kind) (uid_known process r.number o is))
+
+-- whether a reply is held back
+pub held_asked : (p : Plan) (s : Store) (process : ℕ) (r : Reference) (o : Option ℕ) → known_uid s process r.number ≡ o
+    → is_held_by p s process (Some r) ≡ false → is_held_of p s process r.offset r.kind o ≡ false
+held_asked p s process r o is free = sym (ap (is_held_of p s process r.offset r.kind) is) ∙ free
+
+pub held_command : (p : Plan) (s : Store) (process : ℕ) (c : Command) (o : Option Reference) (z : Bool)
+    → o ≡ reference_of c → z ≡ is_held_by p s process o → z ≡ is_held_back p s process c
+unfolding is_held_back
+held_command p s process c o z is told = told ∙ ap (is_held_by p s process) is
 
 past : {A : Type 0} (xs : List A) (i : ℕ) (d : A) → length xs ≤ i → get_or xs i d ≡ d
 past [] i d le = refl

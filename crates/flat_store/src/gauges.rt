@@ -125,10 +125,10 @@ pub(crate) fn drain_at(gauges: &mut Vec<Gauge>, i: u32, count: u32)
 }
 
 /// How much is free of the gauge of that number; nothing where there is none.
-pub(crate) fn free_at(gauges: &[Gauge], i: u32) -> u32
+pub(crate) fn free_at(gauges: &[Gauge], i: usize) -> u32
     ensures { result ≡ (gauge_at gauges.now i).most - (gauge_at gauges.now i).used }
 {
-    match gauges.get(i as usize) {
+    match gauges.get(i) {
         Some(gauge) => gauge.free(),
         None => 0,
     }

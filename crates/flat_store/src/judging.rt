@@ -1,4 +1,4 @@
-ghost use Rattle.std.specs.Prelude.{◌≡◌, ◌↔◌, ◌==◌, IsTrue, Some, None};
+ghost use Rattle.std.specs.Prelude.{◌≡◌, ◌↔◌, ◌<◌, ◌==◌, IsTrue, Some, None, length};
 ghost use Rattle.script.specs.Plans.{Plan, command_at};
 ghost use Rattle.flat_model.specs.Legal.{IsAnswer, IsLawful, IsLawfulDo, MayFault, have_ended};
 ghost use Rattle.flat_model.specs.Store.{Store, is_turn};
@@ -57,11 +57,14 @@ impl FlatStore {
 
     /// Whether a process may be answered so to a command.
     fn may_answer(&self, script: &Script, process: u32, command: &Command, reply: &Reply) -> bool
+        requires { process < length script.now.processes }
         ensures { (s : Store) → Shows script.now self.now s
             → (IsTrue result ↔ IsAnswer script.now s process (Some command.now) reply.now) }
     {
+        let held = self.is_held_back(script, process, command);
+        let faulted = is_faulted(&self.processes, process);
         let due = self.reply_to(script, process, command);
-        is_answer(is_faulted(&self.processes, process), command, &due, reply)
+        is_answer(held, faulted, command, &due, reply)
     }
 
     /// Whether the command at a place of a process may be answered so.
@@ -92,9 +95,10 @@ impl FlatStore {
     }
 
     /// Whether an entry is lawful in the flat store that is shown: a command that is answered as the flat store answers
-    /// it, by a process that has come to it and whose turn it is; a page that is given up when it is all zeros; a
-    /// drive's failure of a process that hasn't ended, or of none where all have; a segment that moves to the first
-    /// volume with room, for a process whose next command lacks a record alone; each entry that tells who holds what.
+    /// it, by a process that has come to it and whose turn it is, and not before a segment that it needs has moved; a
+    /// page that is given up when it is all zeros; a drive's failure of a process that hasn't ended, or of none where
+    /// all have; a segment that moves to the first volume with room, for a process whose next command lacks a record
+    /// alone; each entry that tells who holds what.
     pub fn allows(&self, script: &Script, e: Entry) -> bool
         ensures { (store : Store) → Shows script.now self.now store → (IsTrue result ↔ IsLawful script.now store e) }
     {

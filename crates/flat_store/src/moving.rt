@@ -1,13 +1,14 @@
 //! Whether a segment whose volume has no free record may move to another volume, and the move (Organick 1972).
 
-ghost use Rattle.std.specs.Prelude.{◌≡◌, ◌↔◌, ◌<◌, ◌&&◌, ℕ, IsTrue, Some, length, not, true};
-ghost use Rattle.std.specs.Bool.{Decides};
+ghost use Rattle.std.specs.Prelude.{◌≡◌, ◌↔◌, ◌<◌, ◌&&◌, ℕ, IfNone, IfSome, IsTrue, Some, false, length, not, true};
 ghost use Rattle.script.specs.Plans.{Plan, who_of};
 ghost use Rattle.tree_model.specs.Tree.{node_in, volume_in};
 ghost use Rattle.tree_model.specs.Trees.{has_segment};
 ghost use Rattle.accounts.specs.Maps.{count_of};
-ghost use Rattle.flat_model.specs.Moves.{MayMove, awaits_by, awaits_move, has_room, lacks_at, moved, room_for};
+ghost use Rattle.flat_model.specs.Moves.{MayMove, awaits_by, awaits_move, is_held_at, is_held_back, is_held_by};
+ghost use Rattle.flat_model.specs.Moves.{lacks_at, moved};
 ghost use Rattle.flat_model.specs.References.{is_used_up, is_volume_full, stores_page};
+ghost use Rattle.flat_model.specs.Rooms.{has_room, room_for};
 ghost use Rattle.flat_model.specs.Store.{Store};
 ghost use Rattle.flat_store.specs.Roomy.{IsLeast, is_roomy};
 ghost use Rattle.flat_store.specs.Shown.{Holds, IsShown, Shows};
@@ -20,7 +21,7 @@ use crate::store::{FlatStore, command_at};
 use accounts::Accounts;
 use mnames::Who;
 use mword::Page;
-use script::{RefKind, Reference, Script};
+use script::{Command, RefKind, Reference, Script};
 use tree_commands::volume_of;
 
 /// Whether a uid is that of a segment.
@@ -49,38 +50,38 @@ fn stored_of(accounts: &Accounts, uid: u32) -> u32
 
 /// Whether a volume other than a segment's own has more free records than so many pages, and a free VTOC entry.
 #[tactic(auto, using(crate::proofs::RoomyLaws::some_free))]
-fn is_roomy(records: &[Gauge], entries: &[Gauge], own: u32, pages: u32, volume: u32) -> bool
+fn is_roomy(records: &[Gauge], entries: &[Gauge], own: u32, pages: u32, volume: usize) -> bool
     ensures { result ≡ is_roomy records.now entries.now own pages volume }
 {
-    volume != own && pages < free_at(records, volume) && 0 < free_at(entries, volume)
+    volume != own as usize && pages < free_at(records, volume) && 0 < free_at(entries, volume)
 }
 
-/// Whether a volume is the first that is roomy.
-fn is_first_roomy(records: &[Gauge], entries: &[Gauge], own: u32, pages: u32, volume: u32) -> bool
-    ensures { Decides result (IsLeast (is_roomy records.now entries.now own pages) volume) }
+/// The first volume that is roomy.
+fn first_roomy(records: &[Gauge], entries: &[Gauge], own: u32, pages: u32) -> Option<usize>
+    ensures some { IfSome result (λ w. is_roomy records.now entries.now own pages w ≡ true) }
+    ensures first { IfSome result (λ w. (v : ℕ) → v < w → is_roomy records.now entries.now own pages v ≡ false) }
+    ensures none { IfNone result ((v : ℕ) → v < length records.now
+        → is_roomy records.now entries.now own pages v ≡ false) }
 {
-    if !is_roomy(records, entries, own, pages, volume) {
-        return false;
-    }
-    for other in 0..volume {
-        if is_roomy(records, entries, own, pages, other) {
-            return false;
+    for volume in 0..records.len() {
+        if is_roomy(records, entries, own, pages, volume) {
+            return Some(volume);
         }
     }
-    true
+    None
 }
 
 impl Holdings {
-    /// Whether a volume is the first that has room for a segment. It looks at no volume past it.
-    fn is_first_room(&self, uid: u32, volume: u32) -> bool
-        ensures { (p : Plan) (s : Store) → Holds p self.now s → (IsTrue result ↔ room_for p s uid ≡ Some volume) }
+    /// The first volume, in the order of the script, that has room for a segment. It looks at each volume once.
+    pub(crate) fn room_for(&self, uid: u32) -> Option<usize>
+        ensures { (p : Plan) (s : Store) → Holds p self.now s → result ≡ room_for p s uid }
     {
         let own = volume_of(&self.accounts, uid);
         let pages = stored_of(&self.accounts, uid);
-        is_first_roomy(&self.records, &self.entries, own, pages, volume)
+        first_roomy(&self.records, &self.entries, own, pages)
     }
 
-    /// Whether a reference within a segment is refused for nothing but that its volume has no free record.
+    /// Whether a reference within a segment lacks nothing but a free record of its volume.
     fn lacks_record(&self, uid: u32, volume: u32, offset: u32, kind: &RefKind) -> bool
         requires { has_segment self.now.accounts.nodes uid ≡ true }
         ensures { (p : Plan) (s : Store) → Holds p self.now s
@@ -90,7 +91,7 @@ impl Holdings {
             && (self.accounts.may_charge(uid).is_ok() && is_full_at(&self.records, volume))
     }
 
-    /// Whether a principal's reference to a segment is refused for nothing but that its volume has no free record.
+    /// Whether a principal's reference to a segment lacks nothing but a free record of its volume.
     fn lacks_at(&self, who: &Who, uid: u32, offset: u32, kind: &RefKind) -> bool
         ensures { (p : Plan) (s : Store) (k : ℕ) → Holds p self.now s → who.now ≡ who_of p k
             → result ≡ lacks_at p s k offset kind.now (node_in s.nodes uid) }
@@ -105,6 +106,15 @@ impl Holdings {
             return false;
         }
         self.lacks_record(uid, node.volume, offset, kind)
+    }
+
+    /// Whether the reply to a principal's reference is held back until its segment has moved: it lacks a record alone,
+    /// and a volume has room for the segment.
+    fn is_held_at(&self, who: &Who, uid: u32, offset: u32, kind: &RefKind) -> bool
+        ensures { (p : Plan) (s : Store) (k : ℕ) → Holds p self.now s → who.now ≡ who_of p k
+            → result ≡ is_held_at p s k offset kind.now (node_in s.nodes uid) }
+    {
+        self.lacks_at(who, uid, offset, kind) && self.room_for(uid).is_some()
     }
 
     /// A segment has its home on another volume from now on, which is roomy. VTOC entries are only counted.
@@ -129,7 +139,7 @@ impl Holdings {
         let own = volume_of(&self.accounts, uid);
         let pages = stored_of(&self.accounts, uid);
         if has_segment(&self.accounts, uid)
-            && is_roomy(&self.records, &self.entries, own, pages, volume)
+            && is_roomy(&self.records, &self.entries, own, pages, volume as usize)
         {
             self.take_home(uid, own, pages, volume);
         }
@@ -137,8 +147,34 @@ impl Holdings {
 }
 
 impl FlatStore {
-    /// Whether a process's reference is to this segment, and is refused for nothing but that its volume has no free
-    /// record.
+    /// Whether the reply to a process's reference is held back until its segment has moved.
+    fn is_held_by(&self, script: &Script, process: u32, reference: &Reference) -> bool
+        requires { process < length script.now.processes }
+        ensures { (s : Store) → IsShown script.now self.now s
+            → result ≡ is_held_by script.now s process (Some reference.now) }
+    {
+        let who = script.who(process);
+        match uid_of(&self.known, process, reference.number) {
+            Some(uid) => self
+                .holdings
+                .is_held_at(who, uid, reference.offset, &reference.kind),
+            None => false,
+        }
+    }
+
+    /// Whether the reply to a command of a process is held back until a segment has moved.
+    pub(crate) fn is_held_back(&self, script: &Script, process: u32, command: &Command) -> bool
+        requires { process < length script.now.processes }
+        ensures { (s : Store) → IsShown script.now self.now s
+            → result ≡ is_held_back script.now s process command.now }
+    {
+        match command.reference() {
+            Some(reference) => self.is_held_by(script, process, &reference),
+            None => false,
+        }
+    }
+
+    /// Whether a process's reference is to this segment, and lacks nothing but a free record of its volume.
     fn awaits_by(&self, script: &Script, process: u32, uid: u32, reference: &Reference) -> bool
         requires { process < length script.now.processes }
         ensures { (s : Store) → IsShown script.now self.now s
@@ -178,7 +214,8 @@ impl FlatStore {
         if !self.is_turn(script, process) || has_ended(&self.processes, process) {
             return false;
         }
-        self.awaits_move(script, process, uid) && self.holdings.is_first_room(uid, volume)
+        self.awaits_move(script, process, uid)
+            && self.holdings.room_for(uid) == Some(volume as usize)
     }
 
     /// A segment moved to a volume for a process.

@@ -2,6 +2,7 @@ ghost use Rattle.std.specs.Prelude.{◌≡◌, ◌≢◌, ◌<◌, ◌/◌, ℕ,
 ghost use Rattle.script.specs.Plans.{Plan, who_of};
 ghost use Rattle.tree_model.specs.Tree.{Node, node_in};
 ghost use Rattle.tree_model.specs.Trees.{has_segment};
+ghost use Rattle.flat_model.specs.Moves.{is_held_at};
 ghost use Rattle.flat_model.specs.Pages.{is_stored};
 ghost use Rattle.flat_model.specs.References.{reply_at, room_reply};
 ghost use Rattle.flat_model.specs.References.{stores_page, word_reply, written, written_by};
@@ -59,7 +60,7 @@ impl Holdings {
     }
 
     /// What a reference is answered that stores a page more of a segment: `Quota` where its account has used up its
-    /// quota, `NoRecord` where all records of its volume are taken; else as it would be.
+    /// quota, `NoRecord` where all records of its volume are taken and no volume has room for it; else as it would be.
     fn room_reply(&self, uid: u32, volume: u32, otherwise: Reply) -> Reply
         requires { has_segment self.now.accounts.nodes uid ≡ true }
         ensures { (p : Plan) (s : Store) (n : Node) → Holds p self.now s → n.uid ≡ uid → n.volume ≡ volume
@@ -67,7 +68,7 @@ impl Holdings {
     {
         if self.accounts.may_charge(uid).is_err() {
             Reply::Quota
-        } else if is_full_at(&self.records, volume) {
+        } else if is_full_at(&self.records, volume) && self.room_for(uid).is_none() {
             Reply::NoRecord
         } else {
             otherwise
@@ -166,13 +167,14 @@ impl Holdings {
         self.store_word(uid, offset, word)
     }
 
-    /// Does what a reference to a segment does that isn't refused.
+    /// Does what a reference to a segment does that is neither refused nor held back.
     ///
     /// # Errors
     /// `NoMemory` is want of memory for a page; then nothing is changed.
     pub(crate) fn refer(&mut self, uid: u32, offset: u32, kind: &RefKind) -> Result<(), NoMemory>
         ensures ok { OnOk result ((p : Plan) (s : Store) (k : ℕ) → Holds p self.old s
             → takes_effect (reply_at p s k offset kind.now (node_in s.nodes uid)) ≡ true
+            → is_held_at p s k offset kind.now (node_in s.nodes uid) ≡ false
             → Holds p self.new (written_by s offset kind.now (Some uid))) }
         ensures err { OnErr result (self.new ≡ self.old) }
     {

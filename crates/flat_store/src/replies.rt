@@ -1,6 +1,6 @@
 ghost use Rattle.std.specs.Prelude.{◌≡◌, ◌↔◌, ◌⊎◌, IsTrue};
 ghost use Rattle.flat_model.specs.Commands.{takes_effect};
-ghost use Rattle.flat_model.specs.Legal.{is_early, may_fail, MayAnswerDevice};
+ghost use Rattle.flat_model.specs.Legal.{is_early, may_fail, MayAnswerDevice, MayAnswerDue};
 ghost use Rattle.flat_store.specs.Replies.{reply_code};
 
 use book::Reply;
@@ -75,11 +75,20 @@ fn may_fail(command: &Command, due: &Reply) -> bool
     moves_pages && matches!(due, Reply::Done)
 }
 
-/// Whether a command may be answered so, where this reply is due: with it, or with a drive's failure.
-pub(crate) fn is_answer(faulted: bool, command: &Command, due: &Reply, given: &Reply) -> bool
-    ensures { IsTrue result ↔ ((given.now ≡ due.now) ⊎ MayAnswerDevice faulted command.now due.now given.now) }
+/// Whether a command may be answered so, where this reply is due: with it, unless it is held back, or with a drive's
+/// failure.
+pub(crate) fn is_answer(
+    held: bool,
+    faulted: bool,
+    command: &Command,
+    due: &Reply,
+    given: &Reply,
+) -> bool
+    ensures { IsTrue result ↔ (MayAnswerDue held due.now given.now
+        ⊎ MayAnswerDevice faulted command.now due.now given.now) }
 {
-    is_due(given, due) || (faulted && may_fail(command, due) && matches!(given, Reply::Device))
+    let failed = faulted && may_fail(command, due) && matches!(given, Reply::Device);
+    failed || (!held && is_due(given, due))
 }
 
 /// Whether a command took effect that was answered so.

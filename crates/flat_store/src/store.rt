@@ -1,9 +1,10 @@
-ghost use Rattle.std.specs.Prelude.{◌≡◌, ◌<◌, ◌^◌, ◌==◌, ℕ, true, length, IfSome, IfNone, OnOk, OnErr, Some, None};
+ghost use Rattle.std.specs.Prelude.{◌≡◌, ◌<◌, ◌^◌, ◌==◌, ℕ, true, false, length, IfSome, IfNone, OnOk, OnErr, Some, None};
 ghost use Rattle.known_segs.specs.Known.{uid_of};
 ghost use Rattle.script.specs.Plans.{command_at};
 ghost use Rattle.flat_model.specs.Commands.{after_command, effect_of, effect_of_tree_command};
 ghost use Rattle.flat_model.specs.Commands.{reply_to_command, reply_to_tree_command, takes_effect};
 ghost use Rattle.flat_model.specs.Legal.{IsLawful, IsLawfulDo, MayFault, MayRelease, after_entry, after_fault};
+ghost use Rattle.flat_model.specs.Moves.{is_held_back, is_held_by};
 ghost use Rattle.flat_model.specs.Pages.{without_stored};
 ghost use Rattle.flat_model.specs.Naming.{initiate_reply, after_initiate, terminate_reply, after_terminate};
 ghost use Rattle.flat_model.specs.Rights.{move_reply, after_move};
@@ -34,8 +35,9 @@ use tree_commands::{
 ///
 /// Contracts speak of the flat store that it shows for a script (`Shows`). A page takes its 8 KiB only while it is
 /// stored. A look costs a few searches in ordered lists, but for these: the reply to `initiate` looks at each number of
-/// its process, that to `move` may look at each node, and `has_zero_page` looks at each stored page. To follow a
-/// `truncate` or a `delete` costs a few searches too, and a step for each stored page past the cut.
+/// its process, that to `move` may look at each node, that to a write whose volume is full looks at each volume, and
+/// `has_zero_page` looks at each stored page. To follow a `truncate` or a `delete` costs a few searches too, and a step
+/// for each stored page past the cut.
 #[derive(Drop)]
 pub struct FlatStore {
     pub(crate) holdings: Holdings,
@@ -164,10 +166,11 @@ impl FlatStore {
         forget(&mut self.known, process, number);
     }
 
-    /// Does what a reference does that isn't refused.
+    /// Does what a reference does that is neither refused nor held back.
     fn refer(&mut self, process: u32, reference: &Reference) -> Result<(), NoMemory>
         ensures ok { OnOk result ((p : Plan) (s : Store) → IsShown p self.old s
             → takes_effect (reply_to_reference p s process reference.now) ≡ true
+            → is_held_by p s process (Some reference.now) ≡ false
             → IsShown p self.new (after_reference s process reference.now)) }
         ensures err { OnErr result (self.new ≡ self.old) }
     {
@@ -221,7 +224,7 @@ impl FlatStore {
         }
     }
 
-    /// Does what a command does that isn't refused.
+    /// Does what a command does that is neither refused nor held back.
     fn take_effect(
         &mut self,
         script: &Script,
@@ -231,6 +234,7 @@ impl FlatStore {
         requires { process < length script.now.processes }
         ensures ok { OnOk result ((s : Store) → IsShown script.now self.old s → s.next < 2 ^ 31
             → takes_effect (reply_to_command script.now s process command.now) ≡ true
+            → is_held_back script.now s process command.now ≡ false
             → IsShown script.now self.new (effect_of script.now s process command.now)) }
         ensures err { OnErr result (self.new ≡ self.old) }
     {

@@ -1,8 +1,9 @@
-use Rattle.std.proofs.Common.{◌≡◌, ◌<◌, ◌/◌, ℕ, true, Some, sym, ap, subst, arith, ◌∙◌}
+use Rattle.std.proofs.Common.{◌≡◌, ◌<◌, ◌/◌, ℕ, true, false, Some, sym, ap, subst, arith, ◌∙◌}
 use Rattle.script.specs.Plans.{Plan}
 use Rattle.tree_model.specs.Tree.{Node, node_in, quota_in}
 use Rattle.dir_tree.specs.Nodes.{as_term}
 use Rattle.flat_model.specs.Commands.{takes_effect}
+use Rattle.flat_model.specs.Moves.{is_held_at}
 use Rattle.script.specs.References.{new_word}
 use Rattle.flat_model.specs.References.{reply_at, written, written_by}
 use Rattle.flat_model.specs.Store.{Store}
@@ -35,8 +36,9 @@ returns-clause-ok c =
     → Holds p c.write.new.self (written s c.args.uid c.args.offset c.new_word-word.result))
     ((p : Plan) (s : Store) (k : ℕ) → Holds p c.args.self.now s
     → takes_effect (reply_at p s k c.args.offset c.args.kind.now (node_in s.nodes c.args.uid)) ≡ true
+    → is_held_at p s k c.args.offset c.args.kind.now (node_in s.nodes c.args.uid) ≡ false
     → Holds p c.write.new.self (written_by s c.args.offset c.args.kind.now (Some c.args.uid)))
-    (λ f p s k h effect.
+    (λ f p s k h effect held.
     let n : Node = as_term (quota_in s.nodes) c.in-Some.node.now in
     let found = node_shown s c.self.inside.accounts.nodes c.args.uid c.in-Some.node.now
     (h.nodes ∙ ap (λ (x : Held). x.accounts.nodes) (sym c.self.view_is)) c.in-Some.ensures.some in
@@ -44,5 +46,5 @@ returns-clause-ok c =
     let is = c.new_word-word.ensures ∙ ap (λ (w : ℕ). new_word w c.args.kind.now) (c.word.ensures p s h) in
     refer_shown p s c.write.new.self c.args.uid c.args.offset c.new_word-word.result c.args.kind.now alters_it is
     (f p s h (may_refer p s k c.args.uid c.args.offset c.new_word-word.result c.args.kind.now n found alters_it is
-    effect)))
+    effect held)))
     c.write.ensures.ok

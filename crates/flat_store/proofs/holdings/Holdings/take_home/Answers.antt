@@ -31,7 +31,7 @@ shown c p s holds = moved_held p s (the_view c.self.inside) (after c) c.args.uid
     (ap (λ (x : Held). is_roomy x.records x.entries c.args.own c.args.pages c.args.volume) c.self.view_is
     ∙ c.requires.roomy)
     (record {
-      accounts = c.set_home.ensures;
+      accounts = c.set_home.ensures.home;
       pages = refl;
       records = c.shift.ensures;
       entries = c.shift-2.ensures;

@@ -16,9 +16,9 @@ returns-clause-ok c = λ s place h at lawful.
     (answered p s c.args.process c.args.command.now c.args.reply.now) = elim c.if-takes_effect.branch [
       | then-takes_effect+in_ok-take_effect w ↦
           let takes = sym c.takes_effect.ensures ∙ w.if-takes_effect.true in
+          let due = effect_due p s c.args.process place c.args.command.now c.args.reply.now at lawful takes in
           rw takes (subst (λ (k : Kept). IsShown p k (effect_of p s c.args.process c.args.command.now)) (sym w.self-is)
-          (w.in_ok-take_effect.ensures.ok s h.shown (few_uids p s h.reached)
-          (effect_due p s c.args.process place c.args.command.now c.args.reply.now at lawful takes)))
+          (w.in_ok-take_effect.ensures.ok s h.shown (few_uids p s h.reached) due.0 due.1))
       | else-takes_effect w ↦
           rw (sym c.takes_effect.ensures ∙ w.if-takes_effect.false)
           (subst (λ (k : Kept). IsShown p k s) (sym w.self-is) h.shown)

@@ -5,11 +5,11 @@ use Rattle.flat_store.specs.contracts.store.FlatStore.{the_view}
 use Rattle.flat_store.specs.Shown.{Kept, IsShown, numbers_at}
 use Rattle.flat_model.specs.References.{written_by}
 use Rattle.flat_store.proofs.OtherLaws.{written_keeps}
-use Rattle.flat_store.proofs.StoreLaws.{after_reference_is, effect_shown, reference_asked, uid_known}
+use Rattle.flat_store.proofs.StoreLaws.{after_reference_is, effect_shown, held_asked, reference_asked, uid_known}
 use Rattle.flat_store.proofs.store.FlatStore.refer.Goals as goal
 
 pub returns-in_ok-refer-clause-ok : goal.returns-in_ok-refer-clause-ok
-returns-in_ok-refer-clause-ok c = λ p s h effect.
+returns-in_ok-refer-clause-ok c = λ p s h effect held.
     let inside : Kept = the_view c.self.inside in
     let after : Kept = record inside { held = c.refer.new.self } in
     let shown = subst (λ (k : Kept). IsShown p k s) (sym c.self.view_is) h in
@@ -18,7 +18,8 @@ returns-in_ok-refer-clause-ok c = λ p s h effect.
     c.deref.ensures.value in
     let is = uid_known p inside s shown c.args.process c.args.reference.now.number (Some c.in-Some.uid) uid in
     let done = c.in_ok-refer.ensures.ok p s c.args.process shown.holds
-    (reference_asked p s c.args.process c.args.reference.now c.in-Some.uid is effect) in
+    (reference_asked p s c.args.process c.args.reference.now c.in-Some.uid is effect)
+    (held_asked p s c.args.process c.args.reference.now (Some c.in-Some.uid) is held) in
     subst (λ (x : Store). IsShown p after x)
     (after_reference_is s c.args.process c.args.reference.now (Some c.in-Some.uid) is)
     (effect_shown p inside after s
@@ -26,7 +27,7 @@ returns-in_ok-refer-clause-ok c = λ p s h effect.
     (written_keeps s c.args.reference.now.offset c.args.reference.now.kind (Some c.in-Some.uid)) refl)
 
 pub returns-in_default-clause-ok : goal.returns-in_default-clause-ok
-returns-in_default-clause-ok c = λ p s h effect.
+returns-in_default-clause-ok c = λ p s h effect held.
     let inside : Kept = the_view c.self.inside in
     let shown = subst (λ (k : Kept). IsShown p k s) (sym c.self.view_is) h in
     let uid = c.in_default.ensures.uid
