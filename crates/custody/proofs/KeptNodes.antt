@@ -346,7 +346,7 @@ effect_stays p s t k d f c r None new may takes told =
 due_answer : (p : Plan) (s : Store) (k : ℕ) (c : Command) (r : Reply) → IsAnswer p s k (Some c) r → takes_effect r
     ≡ true
     → (takes_effect (reply_to_command p s k c) ≡ true) × (is_device r ≡ false)
-due_answer p s k c r (inl e) takes = (subst (λ (x : Reply). takes_effect x ≡ true) e takes, no_device r takes)
+due_answer p s k c r (inl e) takes = (subst (λ (x : Reply). takes_effect x ≡ true) e.own takes, no_device r takes)
   where
     no_device : (r : Reply) → takes_effect r ≡ true → is_device r ≡ false
     no_device (reply.Word w) h = refl
