@@ -11,15 +11,14 @@ use Rattle.page_table.specs.PageTable.{ptw_at}
 use Rattle.active_segs.specs.Active.{ActiveSegs, uid_at, table_at, with_table}
 use Rattle.page_control.specs.declared.Home.{Home}
 use Rattle.page_control.specs.declared.Left.{Left}
-use Rattle.page_control.specs.Plain.{Paging, Plain, plain, bindings, binding_at}
+use Rattle.page_control.specs.Plain.{Plain, bindings, binding_at}
 use Rattle.page_control.specs.Tied.{is_out}
-use Rattle.page_control.specs.Ties.{IsTied, KeepsOthers, KeepsTies}
+use Rattle.page_control.specs.Ties.{IsTied, KeepsOthers}
 use Rattle.page_control.specs.Effects.{words_left, words_here, word_of_left, after_evict}
 use Rattle.seg_control.specs.Control.{Links, place_of, table_of}
 use Rattle.seg_control.specs.Effects.{worded, table_here, table_left}
 use Rattle.seg_control.specs.Kept.{read_at, IsHomeFor, HaveSizes, ArePaged, AreLinked, IsKept}
-use Rattle.seg_control.proofs.Frames.{same_vtocs, same_records}
-use Rattle.seg_control.proofs.Paged.{set_cases, none_read, table_same, table_other, IsCall, paged_call, paged_same}
+use Rattle.seg_control.proofs.Paged.{set_cases, none_read, table_same, table_other, IsCall, paged_call}
 
 -- a table of the same length
 pub sizes_kept : (sizes : List ℕ) (ptws : List (List Ptw)) (place : ℕ) (t : List Ptw) → place < length ptws → length t
@@ -76,16 +75,6 @@ kept_with hands k paged linked = record {
 pub kept_paged : (old now : Plain) (ast : ActiveSegs) (links : Links) → IsKept old ast links
     → ArePaged now ast.entries ast.tables → IsKept now ast links
 kept_paged old now ast links k paged = kept_with ast.hands k paged k.linked
-
--- and where it changes no binding, VTOC or record
-pub kept_marks : {D : Type 0} (pages : D → List (List ℕ)) (old now : Paging D) (ast : ActiveSegs) (links : Links)
-    → IsKept (plain pages old) ast links → bindings now.core ≡ bindings old.core → now.volumes ≡ old.volumes
-    → KeepsTies (plain pages old) (plain pages now) → reads_of now.core ≡ reads_of old.core
-    → IsKept (plain pages now) ast links
-kept_marks pages old now ast links k bound volumes ties reads =
-    kept_paged (plain pages old) (plain pages now) ast links k
-    (paged_same (plain pages old) (plain pages now) ast.entries ast.tables k.paged bound
-    (same_vtocs now.volumes old.volumes volumes) (same_records now.volumes old.volumes volumes) ties reads)
 
 -- the home of an active segment agrees with its page table
 tie_of : (now : Plain) (ast : ActiveSegs) (links : Links) (place uid : ℕ) (home : Home) (t : List Ptw)
@@ -257,12 +246,3 @@ pub lost_bindings : {E : Type 0} (result : Result Left E) (old now : Plain) (hom
     → OnErr result (bindings now.core ≡ bindings old.core)
 lost_bindings (Ok left) old now home p f e = tt
 lost_bindings (Err e') old now home p f e = ap (λ (s : Plain). bindings s.core) e
-
--- a change of what leads to the active segments alone
-pub kept_links : (now : Plain) (ast : ActiveSegs) (links those : Links) → IsKept now ast links
-    → AreLinked ast.entries those → IsKept now ast those
-kept_links now ast links those k linked = kept_with ast.hands k k.paged linked
-
-pub same_plain : {D : Type 0} (pages : D → List (List ℕ)) (now old : Paging D) → now ≡ old → plain pages now
-    ≡ plain pages old
-same_plain pages now old e = ap (plain pages) e

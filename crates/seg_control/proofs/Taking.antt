@@ -14,7 +14,7 @@ use Rattle.seg_control.specs.Effects.{gone, taken_from, all_taken}
 use Rattle.seg_control.specs.Kept.{IsKept}
 use Rattle.seg_control.proofs.Calls.{sizes_kept}
 use Rattle.seg_control.proofs.Becoming.{retied}
-use Rattle.seg_control.proofs.Moving.{paged_words}
+use Rattle.seg_control.proofs.Making.{paged_words}
 
 taken_zero : (t : List Ptw) → taken_from 0 t ≡ map gone t
 unfolding taken_from

@@ -10,6 +10,7 @@ use Rattle.descriptor_seg.specs.Descriptors.{sdw_at}
 use Rattle.active_segs.specs.declared.Entry.{Entry}
 use Rattle.active_segs.specs.Active.{ActiveSegs, table_at}
 use Rattle.page_control.specs.Plain.{Paging}
+use Rattle.seg_mover.specs.declared.Mover.{Mover}
 
 -- the trailers of each place, and the known segment table and the descriptor segment of each process
 pub record Links : Type 0 where
@@ -17,11 +18,13 @@ pub record Links : Type 0 where
   pub known : List (List (Option ℕ))
   pub descriptors : List (List Sdw)
 
--- page control over drives of type D, the active segments, and what leads to them
+-- Page control over drives of type D, the active segments, and what leads to them; and the segment that is moving to
+-- another volume, if one is. The volumes are those at rest: without the home that the move has taken.
 pub record Control (D : Type 0) : Type 0 where
   pub pages : Paging D
   pub ast : ActiveSegs
   pub links : Links
+  pub moving : Option Mover
 
 -- the known segment table and the descriptor segment of a process
 abbrev pub kst_at : List (List (Option ℕ)) → ℕ → List (Option ℕ)

@@ -20,6 +20,7 @@ use crate::segs::Segs;
 use crate::{Link, Next, NoMemory};
 use active_segs::Ast;
 use arrayvec::ArrayVec;
+use mword::Page;
 use page_control::Pages;
 use page_table::{PageTable, Ptw};
 use std::alloc::Global;
@@ -28,8 +29,8 @@ use vtoc::Vtoc;
 
 impl<D: Drive> Segs<D> {
     /// Segment control over these pages, with pools of these numbers of places, whose page tables have 4, 16, 64 and
-    /// 256 words. Nothing is active, known or connected. `NoMemory` is want of memory. (Source: Bensoussan, Clingen and
-    /// Daley 1972.)
+    /// 256 words. Nothing is active, known or connected, and no segment moves. `NoMemory` is want of memory. (Source:
+    /// Bensoussan, Clingen and Daley 1972.)
     pub fn new(
         alloc: Global,
         pages: Pages<D>,
@@ -42,12 +43,24 @@ impl<D: Drive> Segs<D> {
         requires records { AreFiled pages.volumes.records pages.volumes.vtocs }
         requires rest { AreAtRest (plain D.pages pages) }
         ensures { IfOk result
-            (λ s. s ≡ record { pages = pages; ast = no_segments pools; links = no_links (sum pools) processes }) }
+            (λ s. s ≡ record {
+              pages = pages;
+              ast = no_segments pools;
+              links = no_links (sum pools) processes;
+              moving = None;
+            }) }
     {
         let places = places_of(&pools);
         let ast = Ast::new(alloc, pools)?;
         let links = Links::new(alloc, places, processes)?;
-        Ok(Segs { pages, ast, links })
+        let spare = Page::zero(alloc)?;
+        Ok(Segs {
+            pages,
+            ast,
+            links,
+            moving: None,
+            spare,
+        })
     }
 
     /// Makes the first segment of a chain active that isn't, in the least free place of its pool, with the page table
@@ -55,7 +68,8 @@ impl<D: Drive> Segs<D> {
     /// hand moves on. The chain is looked at up to that segment. To fill the page table costs a write for each of its
     /// words. (Source: Bensoussan, Clingen and Daley 1972; Organick 1972.)
     pub fn activate_next(&mut self, chain: &[Link]) -> Next
-        requires { MayActivate self.old.ast self.old.pages.volumes.vtocs (length self.old.pages.volumes.drives)
+        requires still { self.old.moving ≡ None }
+        requires chain { MayActivate self.old.ast self.old.pages.volumes.vtocs (length self.old.pages.volumes.drives)
             chain.now }
         ensures next { IsNext self.old self.new chain.now result }
         ensures victim { (place : ℕ) → IsGoing self.old.ast chain.now place → result ≡ Next.Victim place }
@@ -93,6 +107,7 @@ impl<D: Drive> Segs<D> {
     /// below it, no page of it is in a frame, on its way out or being read, and no descriptor leads there. (Source:
     /// Bensoussan, Clingen and Daley 1972; Organick 1972.)
     pub fn deactivate(&mut self, place: u32)
+        requires still { self.old.moving ≡ None }
         requires place { place < length self.old.ast.entries }
         requires leaf { HasNoInferior self.old.ast.entries place }
         requires away { All IsAway (table_at self.old.ast.tables place) }
@@ -105,6 +120,7 @@ impl<D: Drive> Segs<D> {
 
     /// Makes the segment of a link active in a free place, below this superior.
     fn make_active(&mut self, place: u32, link: Link, superior: Option<u32>)
+        requires still { self.old.moving ≡ None }
         requires pool { link.pool < 4 }
         requires least { IsLeastFree self.old.ast link.pool place }
         requires place { place < length self.old.ast.entries }

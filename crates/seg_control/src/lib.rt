@@ -4,6 +4,9 @@
 //! with the file map of its home. Descriptors of processes lead to that place, and a trailer for each leads back, so
 //! that all can be cut before the segment changes or goes (Bensoussan, Clingen and Daley 1972; Organick 1972).
 //!
+//! One segment at a time may move to another volume: it takes a second home there, its pages are copied one by one,
+//! and it has the new home alone once the move is committed, or the old one where it is undone.
+//!
 //! Costs: a segment is found among the active ones by halving; pages, frames, words, descriptors and numbers by their
 //! places. Page tables are lent, and none is copied. What costs more stands at its call. None but `new` takes memory.
 #![tactic(auto)]
@@ -11,6 +14,7 @@
 mod activating;
 mod linking;
 mod links;
+mod moving;
 mod segs;
 
 pub use no_memory::NoMemory;

@@ -9,7 +9,7 @@ ghost use Rattle.core_map.specs.Clock.{IsClockChoice, clock_choice, after_choice
 ghost use Rattle.mword.specs.Words.{AreZero};
 ghost use Rattle.page_table.specs.declared.Ptw.TheVariants.{Null, Out, Here, Leaving};
 ghost use Rattle.vtoc.specs.Vtoc.{least_free_entry};
-ghost use Rattle.volumes.specs.Volumes.{KeepsTables};
+ghost use Rattle.volumes.specs.Volumes.{HasParts, KeepsTables};
 ghost use Rattle.active_segs.specs.Active.{uid_at, table_at, entry_at, IsActive, IsTree, HasShape};
 ghost use Rattle.page_control.specs.declared.Home.{Home};
 ghost use Rattle.page_control.specs.Plain.{Plain, plain, bindings, words_in, number_in, flags_of, vtoc_of, record_of};
@@ -25,18 +25,22 @@ ghost use Rattle.page_control.specs.Tied.{uid_at as uid_homed};
 ghost use Rattle.seg_control.specs.Control.{place_of, table_of, word_of};
 ghost use Rattle.seg_control.specs.Kept.{IsKept, IsHomeFor, IsHomeOf, IsInactive};
 ghost use Rattle.seg_control.specs.Effects.{worded, table_here, table_left, taken_from, all_taken};
+ghost use Rattle.seg_control.specs.Moving.{in_move, IsUnderWay};
 
 use crate::links::Links;
 use active_segs::Ast;
-use mword::Word;
+use mword::{Page, Word};
 use page_control::{Home, Left, NoRecord, Pages};
 use page_table::{PageTable, Ptw};
+use seg_mover::Mover;
 use site_io::Failed;
 use std::marker::Model;
 use volumes::Drive;
 
 /// Segment control over drives of one kind. A contract sees page control, the active segments, the trailers and, for
-/// each process, its known segment table and its descriptor segment.
+/// each process, its known segment table and its descriptor segment; and the segment that moves to another volume, if
+/// one does. It sees the volumes at rest: without the home that the move has taken. Calls that change homes, file maps
+/// or the words of page tables ask that no segment moves; only a page that was being read still comes into its frame.
 ///
 /// Between calls the page table of each active segment agrees with the frames, and with the file map of its home; a
 /// page of a segment that isn't active is in no frame; the superiors of active segments are active; and the trailers of
@@ -46,26 +50,35 @@ pub struct Segs<D: Drive> {
     pub(crate) pages: Pages<D>,
     pub(crate) ast: Ast,
     pub(crate) links: Links,
+    /// The move under way, if there is one.
+    pub(crate) moving: Option<Mover>,
+    /// Takes the page that a move copies.
+    pub(crate) spare: Page,
 }
 
 impl<D: Drive> Model for Segs<D> {
-    ghost use Rattle.page_control.specs.Plain.{plain};
     ghost use Rattle.seg_control.specs.Control.{Control};
-    ghost use Rattle.seg_control.specs.Kept.{IsKept};
+    ghost use Rattle.seg_control.specs.Moving.{IsKeptAtRest, at_rest};
 
     ghost Value = { Control D };
 
-    ghost view = { λ s. record { pages = s.pages; ast = s.ast; links = s.links } };
+    ghost view = { λ s. record { pages = at_rest s.pages s.moving; ast = s.ast; links = s.links; moving = s.moving } };
 
-    ghost invariant = { λ s. IsKept (plain D.pages s.pages) s.ast s.links };
+    ghost invariant = { λ s. IsKeptAtRest D.pages s.pages s.ast s.links s.moving };
 }
 
 impl<D: Drive> Segs<D> {
-    /// Page control. What is true of segment control between calls is told here. (Source: own.)
+    /// Page control, with the volumes as they are. What is true of segment control between calls is told here. (Source:
+    /// own.)
     pub fn pages(&self) -> &Pages<D>
-        ensures pages { result.now ≡ self.now.pages }
+        ensures pages { result.now
+            ≡ record self.now.pages { volumes = in_move self.now.pages.volumes self.now.moving } }
         ensures kept { IsKept (plain D.pages self.now.pages) self.now.ast self.now.links }
+        ensures parts { HasParts (map D.pages self.now.pages.volumes.drives) self.now.pages.volumes.records
+            self.now.pages.volumes.vtocs }
+        ensures moving { IfSome self.now.moving (IsUnderWay self.now) }
     {
+        self.pages.volumes().promise();
         &self.pages
     }
 
@@ -95,7 +108,6 @@ impl<D: Drive> Segs<D> {
 
     /// Reads word `at` through the bound frame `f`, whose used mark is on then. (Source: Bensoussan, Clingen and Daley
     /// 1972.)
-    #[tactic(auto, using(crate::proofs::Calls::kept_marks))]
     pub fn word(&mut self, f: u32, at: u32) -> Word
         requires bound { is_bound (frame_at self.old.pages.core f) ≡ true }
         requires at { at < 1024 }
@@ -107,13 +119,13 @@ impl<D: Drive> Segs<D> {
         ensures volumes { self.new.pages.volumes ≡ self.old.pages.volumes }
         ensures ast { self.new.ast ≡ self.old.ast }
         ensures links { self.new.links ≡ self.old.links }
+        ensures moving { self.new.moving ≡ self.old.moving }
     {
         self.pages.word(f, at)
     }
 
     /// Writes `w` at word `at` through the bound frame `f`, whose marks are both on then. (Source: Bensoussan, Clingen
     /// and Daley 1972.)
-    #[tactic(auto, using(crate::proofs::Calls::kept_marks))]
     pub fn put_word(&mut self, f: u32, at: u32, w: Word)
         requires bound { is_bound (frame_at self.old.pages.core f) ≡ true }
         requires at { at < 1024 }
@@ -128,13 +140,13 @@ impl<D: Drive> Segs<D> {
         ensures volumes { self.new.pages.volumes ≡ self.old.pages.volumes }
         ensures ast { self.new.ast ≡ self.old.ast }
         ensures links { self.new.links ≡ self.old.links }
+        ensures moving { self.new.moving ≡ self.old.moving }
     {
         self.pages.put_word(f, at, w);
     }
 
     /// Makes the words of the bound frame `f` from `at` on 0, turns both its marks on, and tells whether the whole page
     /// is zeros then. (Source: own.)
-    #[tactic(auto, using(crate::proofs::Calls::kept_marks))]
     pub fn cut_from(&mut self, f: u32, at: u32) -> bool
         requires bound { is_bound (frame_at self.old.pages.core f) ≡ true }
         requires at { at ≤ 1024 }
@@ -149,6 +161,7 @@ impl<D: Drive> Segs<D> {
         ensures volumes { self.new.pages.volumes ≡ self.old.pages.volumes }
         ensures ast { self.new.ast ≡ self.old.ast }
         ensures links { self.new.links ≡ self.old.links }
+        ensures moving { self.new.moving ≡ self.old.moving }
     {
         self.pages.cut_from(f, at)
     }
@@ -156,6 +169,7 @@ impl<D: Drive> Segs<D> {
     /// Notes that page `p` of an active segment, which is on its record alone, is being read into the free frame `f`.
     /// (Source: own.)
     pub fn start_in(&mut self, uid: u32, p: u32, f: u32)
+        requires still { self.old.moving ≡ None }
         requires active { IsActive self.old.ast.entries uid }
         requires page { p < length (table_of self.old.ast uid) }
         requires out { is_out (word_of self.old.ast uid p) ≡ true }
@@ -170,6 +184,7 @@ impl<D: Drive> Segs<D> {
         ensures volumes { self.new.pages.volumes ≡ self.old.pages.volumes }
         ensures ast { self.new.ast ≡ self.old.ast }
         ensures links { self.new.links ≡ self.old.links }
+        ensures moving { self.new.moving ≡ self.old.moving }
     {
         let place = place_in(&self.ast, uid);
         self.pages.start_in(self.ast.table(place), uid, p, f);
@@ -196,6 +211,7 @@ impl<D: Drive> Segs<D> {
         ensures drives { CallsDrive D.plan D.places D.faults self.old.pages.volumes.drives
             self.new.pages.volumes.drives home.volume result }
         ensures links { self.new.links ≡ self.old.links }
+        ensures moving { self.new.moving ≡ self.old.moving }
     {
         let place = place_in(&self.ast, uid);
         self.pages
@@ -206,6 +222,7 @@ impl<D: Drive> Segs<D> {
     /// a drive; one whose modified mark is on is written to its record. `Failed` comes only where the faults of its
     /// drive rose; the page is still leaving then. (Source: Organick 1972.)
     pub fn evict(&mut self, uid: u32, home: Home, f: u32) -> Result<Left, Failed>
+        requires still { self.old.moving ≡ None }
         requires active { IsActive self.old.ast.entries uid }
         requires bound { is_bound (frame_at self.old.pages.core f) ≡ true }
         requires own { uid_in (frame_at self.old.pages.core f) ≡ uid }
@@ -230,6 +247,7 @@ impl<D: Drive> Segs<D> {
         ensures drives { CallsDrive D.plan D.places D.faults self.old.pages.volumes.drives
             self.new.pages.volumes.drives home.volume result }
         ensures links { self.new.links ≡ self.old.links }
+        ensures moving { self.new.moving ≡ self.old.moving }
     {
         let place = place_in(&self.ast, uid);
         self.pages.evict(self.ast.table_mut(place), home, f)
@@ -247,6 +265,7 @@ impl<D: Drive> Segs<D> {
         at: u32,
         w: Word,
     ) -> Result<(), NoRecord>
+        requires still { self.old.moving ≡ None }
         requires active { IsActive self.old.ast.entries uid }
         requires page { p < length (table_of self.old.ast uid) }
         requires null { word_of self.old.ast uid p ≡ Null }
@@ -272,6 +291,7 @@ impl<D: Drive> Segs<D> {
         ensures counts { KeepsCounts (plain D.pages self.old.pages) (plain D.pages self.new.pages) }
         ensures drives { self.new.pages.volumes.drives ≡ self.old.pages.volumes.drives }
         ensures links { self.new.links ≡ self.old.links }
+        ensures moving { self.new.moving ≡ self.old.moving }
     {
         let place = place_in(&self.ast, uid);
         self.pages
@@ -281,6 +301,7 @@ impl<D: Drive> Segs<D> {
     /// Takes page `p` of an active segment out of storage: its record is given back, its word is `Null`, and its frame,
     /// if it has one, is free. (Source: Organick 1972.)
     pub fn drop_page(&mut self, uid: u32, p: u32, home: Home)
+        requires still { self.old.moving ≡ None }
         requires active { IsActive self.old.ast.entries uid }
         requires page { p < length (table_of self.old.ast uid) }
         requires away { is_away (word_of self.old.ast uid p) ≡ true }
@@ -298,6 +319,7 @@ impl<D: Drive> Segs<D> {
         ensures counts { KeepsCounts (plain D.pages self.old.pages) (plain D.pages self.new.pages) }
         ensures drives { self.new.pages.volumes.drives ≡ self.old.pages.volumes.drives }
         ensures links { self.new.links ≡ self.old.links }
+        ensures moving { self.new.moving ≡ self.old.moving }
     {
         let place = place_in(&self.ast, uid);
         self.pages.drop_page(self.ast.table_mut(place), p, home);
@@ -306,6 +328,7 @@ impl<D: Drive> Segs<D> {
     /// Lets no more references go through the word of the page in frame `f`, which is on its way out from now on.
     /// (Source: own.)
     pub fn take(&mut self, uid: u32, f: u32)
+        requires still { self.old.moving ≡ None }
         requires active { IsActive self.old.ast.entries uid }
         requires bound { is_bound (frame_at self.old.pages.core f) ≡ true }
         requires own { uid_in (frame_at self.old.pages.core f) ≡ uid }
@@ -320,6 +343,7 @@ impl<D: Drive> Segs<D> {
 
     /// Lets references go through the word of the page in frame `f` again, which was on its way out. (Source: own.)
     pub fn back(&mut self, uid: u32, f: u32)
+        requires still { self.old.moving ≡ None }
         requires active { IsActive self.old.ast.entries uid }
         requires bound { is_bound (frame_at self.old.pages.core f) ≡ true }
         requires own { uid_in (frame_at self.old.pages.core f) ≡ uid }
@@ -336,7 +360,8 @@ impl<D: Drive> Segs<D> {
     /// `from` or above: all of them are on their way out from now on. It looks at each word from there on. (Source:
     /// own.)
     pub fn take_all(&mut self, aste: u32, from: u32)
-        requires { aste < length self.old.ast.entries }
+        requires still { self.old.moving ≡ None }
+        requires place { aste < length self.old.ast.entries }
         ensures effect { self.new ≡ record self.old { ast = all_taken self.old.ast aste from } }
     {
         take_from(self.ast.table_mut(aste), from);
@@ -345,6 +370,7 @@ impl<D: Drive> Segs<D> {
     /// Takes the least free VTOC entry of a volume for a segment that isn't active, with an empty file map. None
     /// exactly where all of its entries are used; nothing has changed then. (Source: Organick 1972.)
     pub fn new_home(&mut self, volume: u32, uid: u32) -> Option<u32>
+        requires still { self.old.moving ≡ None }
         requires volume { volume < length self.old.pages.volumes.drives }
         requires inactive { IsInactive self.old.ast.entries uid }
         ensures least { result ≡ least_free_entry (vtoc_of (plain D.pages self.old.pages) volume) }
@@ -364,6 +390,7 @@ impl<D: Drive> Segs<D> {
             ≡ one_more (used self.old.pages.volumes.vtocs) volume) }
         ensures ast { self.new.ast ≡ self.old.ast }
         ensures links { self.new.links ≡ self.old.links }
+        ensures moving { self.new.moving ≡ self.old.moving }
     {
         self.pages.new_home(volume, uid)
     }
@@ -371,6 +398,7 @@ impl<D: Drive> Segs<D> {
     /// Gives back each record that the file map at the one home of a segment names, and frees the entry. It reads each
     /// of the 256 places of the file map. (Source: Organick 1972.)
     pub fn erase(&mut self, home: Home)
+        requires still { self.old.moving ≡ None }
         requires volume { home.volume < length self.old.pages.volumes.drives }
         requires home { IsHomeOf self.old.pages.volumes.vtocs (uid_of_home (plain D.pages self.old.pages) home) home }
         ensures effect { plain D.pages self.new.pages ≡ erased (plain D.pages self.old.pages) home }
@@ -392,6 +420,7 @@ impl<D: Drive> Segs<D> {
             + named_on self.old.pages.volumes.vtocs home v ≡ taken self.old.pages.volumes.records v }
         ensures ast { self.new.ast ≡ self.old.ast }
         ensures links { self.new.links ≡ self.old.links }
+        ensures moving { self.new.moving ≡ self.old.moving }
     {
         self.pages.erase(home);
     }

@@ -1,10 +1,18 @@
-use Rattle.std.proofs.Common.{rules}
-use Rattle.seg_control.proofs.Paged.{paged_same}
-use Rattle.seg_control.proofs.Calls.{kept_paged}
+use Rattle.std.proofs.Common.{ap}
+use Rattle.page_control.specs.Plain.{Paging, plain}
+use Rattle.seg_control.specs.Moving.{volumes_of}
+use Rattle.seg_control.proofs.Resting.{kept_rest, words_rest}
 use Rattle.seg_control.proofs.segs.Segs.choose.Goals as goal
 
 pub invariant_of-self : goal.invariant_of-self
 invariant_of-self g c =
-    kept_paged _ _ _ _ c.self.invariant
-    (paged_same _ _ _ _ c.self.invariant.paged c.choose.ensures.bindings (search rules) (search rules)
-    c.choose.ensures.ties c.choose.ensures.reads)
+    kept_rest g.D.Drive.pages c.self.inside.pages c.choose.new.self c.self.inside.ast c.self.inside.links
+    c.self.inside.moving c.self.invariant
+    (ap (λ (s : Paging g.row.D.Denot). volumes_of (plain g.D.Drive.pages s)) c.choose.ensures.effect)
+    c.choose.ensures.bindings c.choose.ensures.reads c.choose.ensures.ties
+
+pub returns-clause-words : goal.returns-clause-words
+returns-clause-words g c =
+    rw (← c.self.view_is) (words_rest g.D.Drive.pages c.self.inside.pages c.choose.new.self c.self.inside.moving
+    (ap (λ (s : Paging g.row.D.Denot). volumes_of (plain g.D.Drive.pages s)) c.choose.ensures.effect)
+    c.choose.ensures.bindings (ap (λ (s : Paging g.row.D.Denot). s.frames) c.choose.ensures.effect))

@@ -1,22 +1,23 @@
-use Rattle.page_control.specs.Plain.{plain}
-use Rattle.seg_control.proofs.Calls.{kept_links}
 use Rattle.seg_control.proofs.Connected.{leading, cut_place, cut_there, linked_cut}
+use Rattle.seg_control.proofs.Resting.{kept_linked}
 use Rattle.seg_control.proofs.segs.Segs.cut_one.Goals as goal
 
 pub cut-requires-clause-place : goal.cut-requires-clause-place
 cut-requires-clause-place g c =
     cut_place c.self.inside.ast.entries c.self.inside.links c.args.process c.args.number c.in-Present.aste
-    c.self.invariant.linked (leading _ c.args.process c.args.number _ _ c.in-Present.ensures.word c.descriptors.ensures)
+    c.self.invariant.kept.linked
+    (leading _ c.args.process c.args.number _ _ c.in-Present.ensures.word c.descriptors.ensures)
 
 pub cut-requires-clause-there : goal.cut-requires-clause-there
 cut-requires-clause-there g c =
     cut_there c.self.inside.ast.entries c.self.inside.links c.args.process c.args.number c.in-Present.aste
-    c.self.invariant.linked (leading _ c.args.process c.args.number _ _ c.in-Present.ensures.word c.descriptors.ensures)
+    c.self.invariant.kept.linked
+    (leading _ c.args.process c.args.number _ _ c.in-Present.ensures.word c.descriptors.ensures)
 
 pub invariant_of-self : goal.invariant_of-self
 invariant_of-self g c =
-    kept_links (plain g.D.Drive.pages c.self.inside.pages) c.self.inside.ast c.self.inside.links _ c.self.invariant
+    kept_linked c.self.invariant
     (rw c.cut.ensures
     (linked_cut c.self.inside.ast.entries c.self.inside.links c.args.process c.args.number c.in-Present.aste
-    c.self.invariant.linked
+    c.self.invariant.kept.linked
     (leading _ c.args.process c.args.number _ _ c.in-Present.ensures.word c.descriptors.ensures)))

@@ -1,11 +1,16 @@
 use Rattle.page_control.specs.Plain.{plain}
 use Rattle.seg_control.proofs.Homes.{kept_erased}
+use Rattle.seg_control.proofs.Resting.{kept_still, still_kept}
 use Rattle.seg_control.proofs.segs.Segs.erase.Goals as goal
 
 pub invariant_of-self : goal.invariant_of-self
 invariant_of-self g c =
-    let only = rw (← c.self.view_is) at c.requires.home in
-    kept_erased (plain g.D.Drive.pages c.self.inside.pages) (plain g.D.Drive.pages c.erase.new.self) c.self.inside.ast
+    let still = rw (← c.self.view_is) at c.requires.still in
+    let k = kept_still g.D.Drive.pages c.self.inside.pages c.self.inside.ast c.self.inside.links c.self.inside.moving
+    still c.self.invariant in
+    let only = rw (← c.self.view_is, still) at c.requires.home in
+    still_kept g.D.Drive.pages c.erase.new.self _ _ c.self.inside.moving still
+    (kept_erased (plain g.D.Drive.pages c.self.inside.pages) (plain g.D.Drive.pages c.erase.new.self) c.self.inside.ast
     c.self.inside.links c.args.home
-    c.self.invariant only c.erase.ensures.effect c.erase.ensures.home c.erase.ensures.uids c.erase.ensures.records
-    c.erase.ensures.ties
+    k only c.erase.ensures.effect c.erase.ensures.home c.erase.ensures.uids c.erase.ensures.records
+    c.erase.ensures.ties)

@@ -1,17 +1,16 @@
 use Rattle.std.proofs.Common.{◌≡◌, ◌<◌, ◌∙◌, rules, None, length}
 use Rattle.known_segs.specs.Known.{without_number}
-use Rattle.page_control.specs.Plain.{plain}
 use Rattle.seg_control.specs.Control.{kst_at, leads_at}
-use Rattle.seg_control.proofs.Calls.{kept_links}
 use Rattle.seg_control.proofs.Connected.{linked_known, size_without, known_without}
+use Rattle.seg_control.proofs.Resting.{kept_linked}
 use Rattle.seg_control.proofs.segs.Segs.forget.Goals as goal
 
 pub invariant_of-self : goal.invariant_of-self
 invariant_of-self g c =
     let within : c.args.process < length c.self.inside.links.known = search rules in
     let cut : leads_at c.self.inside.links.descriptors c.args.process c.args.number ≡ None = search rules in
-    let k = c.self.invariant in
-    kept_links (plain g.D.Drive.pages c.self.inside.pages) c.self.inside.ast c.self.inside.links _ k
+    let k = c.self.invariant.kept in
+    kept_linked c.self.invariant
     (rw c.forget.ensures.effect
     (linked_known c.self.inside.ast.entries c.self.inside.links c.args.process
     (without_number (kst_at c.self.inside.links.known c.args.process) c.args.number) k.linked within

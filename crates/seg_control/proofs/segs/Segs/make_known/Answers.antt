@@ -1,16 +1,15 @@
 use Rattle.std.proofs.Common.{◌<◌, ◌∙◌, rules, length}
 use Rattle.known_segs.specs.Known.{with_number}
-use Rattle.page_control.specs.Plain.{plain}
 use Rattle.seg_control.specs.Control.{kst_at}
-use Rattle.seg_control.proofs.Calls.{kept_links}
 use Rattle.seg_control.proofs.Connected.{linked_known}
+use Rattle.seg_control.proofs.Resting.{kept_linked}
 use Rattle.seg_control.proofs.segs.Segs.make_known.Goals as goal
 
 pub invariant_of-self : goal.invariant_of-self
 invariant_of-self g c =
     let within : c.args.process < length c.self.inside.links.known = search rules in
-    let k = c.self.invariant in
-    kept_links (plain g.D.Drive.pages c.self.inside.pages) c.self.inside.ast c.self.inside.links _ k
+    let k = c.self.invariant.kept in
+    kept_linked c.self.invariant
     (rw c.make_known.ensures.effect
     (linked_known c.self.inside.ast.entries c.self.inside.links c.args.process
     (with_number (kst_at c.self.inside.links.known c.args.process) c.args.uid c.make_known.result) k.linked within

@@ -1,11 +1,13 @@
 use Rattle.std.proofs.Common.{◌∙◌, length, rules}
+use Rattle.seg_control.specs.Moving.{at_rest}
 use Rattle.seg_control.proofs.Chains.{given_superiors, not_stuck_active, not_stuck_free, if_none}
 use Rattle.seg_control.proofs.segs.Segs.next_victim.Goals as goal
 
 pub next_victim-requires-clause-superiors : goal.next_victim-requires-clause-superiors
 next_victim-requires-clause-superiors g c =
-    given_superiors c.self.inside.ast c.self.inside.pages.volumes.vtocs (length c.self.inside.pages.volumes.drives)
-    c.args.chain.now _ (c.deref.ensures.0 ∙ c.uids_in.ensures) (search rules)
+    given_superiors c.self.inside.ast (at_rest c.self.inside.pages c.self.inside.moving).volumes.vtocs
+    (length c.self.inside.pages.volumes.drives) c.args.chain.now _ (c.deref.ensures.0 ∙ c.uids_in.ensures)
+    (search rules)
 
 pub returns-in_err-i-clause-none : goal.returns-in_err-i-clause-none
 returns-in_err-i-clause-none g c =
