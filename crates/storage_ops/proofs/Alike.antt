@@ -47,13 +47,21 @@ map_cond : (f : Node → Node) (z : Bool) (n : Node) (o : Option Node)
 map_cond f true n o = refl
 map_cond f false n o = refl
 
-module _ (f : Node → Node) (keeps : Keeps f) where
+module _ (f : Node → Node) (uid : (n : Node) → (f n).uid ≡ n.uid) where
   pub node_map : (ns : List Node) (u : ℕ) → node_in (map f ns) u ≡ map_node f (node_in ns u)
   node_map [] u = refl
   node_map (n ∷ ns) u =
-      ap (λ (x : ℕ). cond (eqb x u) (Some (f n)) (node_in (map f ns) u)) (keeps.uid n)
+      ap (λ (x : ℕ). cond (eqb x u) (Some (f n)) (node_in (map f ns) u)) (uid n)
       ∙ ap (cond (eqb n.uid u) (Some (f n))) (node_map ns u) ∙ map_cond f (eqb n.uid u) n (node_in ns u)
 
+  pub there_map : (ns : List Node) (u : ℕ) → is_there (map f ns) u ≡ is_there ns u
+  there_map ns u = ap is_some (node_map ns u) ∙ by (node_in ns u)
+    where
+      by : (o : Option Node) → is_some (map_node f o) ≡ is_some o
+      by None = refl
+      by (Some n) = refl
+
+module _ (f : Node → Node) (keeps : Keeps f) where
   pub volume_map : (ns : List Node) (u : ℕ) → volume_in (map f ns) u ≡ volume_in ns u
   volume_map ns u = field_mapped (λ (xs : List Node). volume_in xs u) (λ (x : Node). x.volume) u (λ m xs. refl) f
       keeps.uid keeps.volume ns
@@ -67,14 +75,9 @@ module _ (f : Node → Node) (keeps : Keeps f) where
   uids_map (n ∷ ns) = ap (λ (x : ℕ). x ∷ map (λ n. n.uid) (map f ns)) (keeps.uid n)
       ∙ ap (λ (xs : List ℕ). n.uid ∷ xs) (uids_map ns)
 
-  there_map : (o : Option Node) → is_some (map_node f o) ≡ is_some o
-  there_map None = refl
-  there_map (Some n) = refl
-
   pub alike_changed : (a b : AccountMaps) → Changes a b (map f a.nodes) → AreAlike a b
   alike_changed a b c = record {
-    there = λ u. ap (λ (ns : List Node). is_there ns u) c.nodes ∙ ap is_some (node_map a.nodes u)
-        ∙ there_map (node_in a.nodes u);
+    there = λ u. ap (λ (ns : List Node). is_there ns u) c.nodes ∙ there_map f keeps.uid a.nodes u;
     homes = λ u. ap (λ (v : ℕ). record { volume = v; entry = entry_of b u })
         (ap (λ (ns : List Node). volume_in ns u) c.nodes ∙ volume_map a.nodes u)
         ∙ ap (λ (e : ℕ). record { volume = volume_in a.nodes u; entry = e })
@@ -144,19 +147,20 @@ was_there f (Some m) n e = (m, refl, some_same n e)
     some_same : (n : Node) → ◌≡◌ {A = Option Node} (Some (f m)) (Some n) → n ≡ f m
     some_same n e = cc
 
-module _ (f : Node → Node) (keeps : Keeps f) (a b : AccountMaps) (changes : Changes a b (map f a.nodes)) where
+module _ (f : Node → Node) (uid : (n : Node) → (f n).uid ≡ n.uid) (a b : AccountMaps)
+    (nodes : b.nodes ≡ map f a.nodes) where
   pub before : (u : ℕ) (n : Node) → node_in b.nodes u ≡ Some n → (m : Node) × (node_in a.nodes u ≡ Some m) × (n ≡ f m)
   before u n e = was_there f (node_in a.nodes u) n
-      (sym (node_map f keeps a.nodes u) ∙ ap (λ (ns : List Node). node_in ns u) (sym changes.nodes) ∙ e)
+      (sym (node_map f uid a.nodes u) ∙ ap (λ (ns : List Node). node_in ns u) (sym nodes) ∙ e)
 
-  pub active_alike : (ast : ActiveSegs) → AreInTree a.nodes ast
+  pub active_alike : ((n : Node) → (f n).superior ≡ n.superior) → (ast : ActiveSegs) → AreInTree a.nodes ast
       → ((place u : ℕ) (m : Node) → uid_in_place ast.entries place ≡ Some u → node_in a.nodes u ≡ Some m
       → pool_of (f m) ≡ pool_of m)
       → AreInTree b.nodes ast
-  active_alike ast h pools = record {
-    there = λ place u e. (alike_changed f keeps a b changes).there u ∙ h.there place u e;
+  active_alike superior ast h pools = record {
+    there = λ place u e. ap (λ (ns : List Node). is_there ns u) nodes ∙ there_map f uid a.nodes u ∙ h.there place u e;
     superiors = λ place u n e found. (let was = before u n found in
-        h.superiors place u was.0 e was.1 ∙ sym (keeps.superior was.0) ∙ ap (λ (x : Node). x.superior) (sym was.2));
+        h.superiors place u was.0 e was.1 ∙ sym (superior was.0) ∙ ap (λ (x : Node). x.superior) (sym was.2));
     pools = λ place u n e found. (let was = before u n found in
         subst (λ (pool : ℕ). IsInPool ast.sizes pool place)
         (sym (pools place u was.0 e was.1) ∙ ap pool_of (sym was.2)) (h.pools place u was.0 e was.1));

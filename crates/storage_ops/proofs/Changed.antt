@@ -38,7 +38,7 @@ use Rattle.flat_model.proofs.NodeLaws.{uid_found}
 
 module _ (f : Node → Node) (keeps : Keeps f) (a b : AccountMaps) (changes : Changes a b (map f a.nodes)) where
   pages_map : ((n : Node) → (f n).pages ≡ n.pages) → (u : ℕ) → pages_in b.nodes u ≡ pages_in a.nodes u
-  pages_map same u = ap (λ (ns : List Node). pages_in ns u) changes.nodes ∙ ap pages_of (node_map f keeps a.nodes u)
+  pages_map same u = ap (λ (ns : List Node). pages_in ns u) changes.nodes ∙ ap pages_of (node_map f keeps.uid a.nodes u)
       ∙ here (node_in a.nodes u)
     where
       here : (o : Option Node) → pages_of (map_node f o) ≡ pages_of o
@@ -60,8 +60,8 @@ module _ (f : Node → Node) (keeps : Keeps f) (a b : AccountMaps) (changes : Ch
     housed = housed_alike a b alike now.vtocs h.housed;
     counted = counted_alike a b alike now.vtocs h.counted (pages_map pages);
     taken = taken_alike a b alike now.records now.vtocs h.taken;
-    active = active_alike f keeps a b changes ast h.active (λ place u m e found. pool_map pages m);
-    rights = rights_alike f keeps a b changes ast.entries links whos h.rights
+    active = active_alike f keeps.uid a b changes.nodes keeps.superior ast h.active (λ place u m e found. pool_map pages m);
+    rights = rights_alike f keeps.uid a b changes.nodes ast.entries links whos h.rights
         (λ process number place n u mode m d e found. (rows process number place n u mode m d e found, pages m));
     known = record {
       older = λ process number u e. subst (λ (x : ℕ). u < x) (sym changes.next) (h.known.older process number u e);

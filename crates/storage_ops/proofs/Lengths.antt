@@ -103,7 +103,7 @@ module _ (a b : AccountMaps) (u pages : ℕ) (segment : has_segment a.nodes u �
   pages_other : (v : ℕ) → v ≢ u → pages_in b.nodes v ≡ pages_in a.nodes v
   pages_other v ne =
       ap (λ (ns : List Node). pages_in ns v) changes.nodes ∙ ap pages_of (node_map (length_change u pages)
-      (keeps_change u pages) a.nodes v)
+      (keeps_change u pages).uid a.nodes v)
       ∙ by (node_in a.nodes v) refl
     where
       by : (o : Option Node) → node_in a.nodes v ≡ o → pages_of (map_node (length_change u pages) o) ≡ pages_of o
@@ -113,7 +113,7 @@ module _ (a b : AccountMaps) (u pages : ℕ) (segment : has_segment a.nodes u �
   pages_here : (n : Node) → node_in a.nodes u ≡ Some n → pages_in b.nodes u ≡ pages
   pages_here n e =
       ap (λ (ns : List Node). pages_in ns u) changes.nodes ∙ ap pages_of (node_map (length_change u pages)
-      (keeps_change u pages) a.nodes u)
+      (keeps_change u pages).uid a.nodes u)
       ∙ ap (λ (o : Option Node). pages_of (map_node (length_change u pages) o)) e
       ∙ ap (λ (z : Bool). (cond z (record n { pages = pages }) n).pages) own
     where
@@ -155,9 +155,11 @@ module _ (a b : AccountMaps) (u pages : ℕ) (segment : has_segment a.nodes u �
           ];
         };
         taken = taken_alike a b alike now.records now.vtocs h.taken;
-        active = active_alike (length_change u pages) (keeps_change u pages) a b changes ast h.active
+        active = active_alike (length_change u pages) (keeps_change u pages).uid a b changes.nodes
+            (keeps_change u pages).superior ast h.active
             (λ place v m e here. ap pool_of (unchanged place v m e here));
-        rights = rights_alike (length_change u pages) (keeps_change u pages) a b changes ast.entries links whos h.rights
+        rights = rights_alike (length_change u pages) (keeps_change u pages).uid a b changes.nodes ast.entries links whos
+            h.rights
             (λ process number place k v mode m d e here. (
               ap (λ (x : Node). x.rows) (unchanged place v m e here),
               ap

@@ -12,6 +12,7 @@ pub mod Lengths
 pub mod Less
 pub mod LinkLaws
 pub mod Made
+pub mod MoveFacts
 pub mod NamingLaws
 pub mod NodeLaws
 pub mod PageFacts
@@ -23,9 +24,11 @@ pub mod PageWords
 pub mod Paged
 pub mod PagesLess
 pub mod Refusals
+pub mod Rehomed
 pub mod Removed
 pub mod Rest
 pub mod RoomsFound
 pub mod Still
 pub mod Tables
 pub mod Unstored
+pub mod VolumeMoved

@@ -1,7 +1,7 @@
 -- Whether there is room for a page more of a segment: quota of its account, and a record of its volume.
-use Rattle.std.proofs.Common.{◌≡◌, ◌≢◌, ℕ, suc, ◌+◌, ◌*◌, ◌/◌, ◌%◌, Bool, true, false, cond, eqb, List, []}
+use Rattle.std.proofs.Common.{◌≡◌, ◌≢◌, ℕ, suc, ◌+◌, ◌*◌, ◌/◌, ◌%◌, Bool, true, false, cond, eqb, ◌&&◌, List, []}
 use Rattle.std.proofs.Common.{◌∷◌, All, OnOk, length, Some, Result, Ok, Err, is_err, refl, sym, ap, ◌∙◌, arith}
-use Rattle.std.specs.Prelude.{count_by}
+use Rattle.std.specs.Prelude.{count_by, is_none}
 use Rattle.std.proofs.lemmas.Bool.{ne_eqb}
 use Rattle.std.proofs.lemmas.List.Sums.{sum_by-cons}
 use Rattle.script.specs.Plans.{Plan}
@@ -12,7 +12,9 @@ use Rattle.quota_cells.specs.declared.Full.{Full}
 use Rattle.quota_cells.specs.Scratch.{charge_answer}
 use Rattle.tree_model.specs.Tree.{Node, account_of, taken_on}
 use Rattle.flat_model.specs.Pages.{with_stored, with_word}
-use Rattle.flat_model.specs.References.{after_reference, is_used_up, is_volume_full, room_reply, written_by}
+use Rattle.flat_model.specs.References.{after_reference, is_out_of_room, is_used_up, is_volume_full, room_reply}
+use Rattle.flat_model.specs.References.{written_by}
+use Rattle.flat_model.specs.Rooms.{room_for}
 use Rattle.flat_model.specs.Store.{Store, known_uid}
 use Rattle.page_control.specs.Plain.{plain}
 use Rattle.page_control.specs.Counts.{is_full, size}
@@ -67,28 +69,26 @@ full_told drive p s t v store h =
 -- ---- the answers
 
 module _ (p : Plan) (s : Store) (n : Node) where
-  -- no record is left
-  pub no_record : (used full : Bool) → is_used_up s n.uid ≡ used → is_volume_full p s n.volume ≡ full → full ≡ true
+  -- no record is left, and no volume has room
+  pub no_record : (used out : Bool) → is_used_up s n.uid ≡ used → is_out_of_room p s n ≡ out → out ≡ true
       → Err (cond used reply.Quota reply.NoRecord) ≡ done_or (room_reply p s n reply.Done)
-  no_record true full at_used at_full on = sym (ap (λ (z : Bool). done_or (cond z reply.Quota (cond (is_volume_full p s
-      n.volume) reply.NoRecord reply.Done))) at_used)
-  no_record false full at_used at_full on =
-      sym (ap (λ (z : Bool). done_or (cond z reply.Quota (cond (is_volume_full p s n.volume)
-      reply.NoRecord reply.Done)))
-      at_used ∙ ap (λ (z : Bool). done_or (cond z reply.NoRecord reply.Done)) (at_full ∙ on))
+  no_record true out at_used at_out on = sym (ap (λ (z : Bool). done_or (cond z reply.Quota (cond (is_out_of_room p s n)
+      reply.NoRecord reply.Done))) at_used)
+  no_record false out at_used at_out on =
+      sym (ap (λ (z : Bool). done_or (cond z reply.Quota (cond (is_out_of_room p s n) reply.NoRecord reply.Done)))
+      at_used ∙ ap (λ (z : Bool). done_or (cond z reply.NoRecord reply.Done)) (at_out ∙ on))
 
   -- no quota is left
   pub no_quota : is_used_up s n.uid ≡ true → Err reply.Quota ≡ done_or (room_reply p s n reply.Done)
-  no_quota at_used = sym (ap (λ (z : Bool). done_or (cond z reply.Quota (cond (is_volume_full p s n.volume)
+  no_quota at_used = sym (ap (λ (z : Bool). done_or (cond z reply.Quota (cond (is_out_of_room p s n)
       reply.NoRecord reply.Done))) at_used)
 
   -- both are
   pub room : is_used_up s n.uid ≡ false → is_volume_full p s n.volume ≡ false
       → Ok tt ≡ done_or (room_reply p s n reply.Done)
   room at_used at_full =
-      sym (ap (λ (z : Bool). done_or (cond z reply.Quota (cond (is_volume_full p s n.volume)
-      reply.NoRecord reply.Done)))
-      at_used ∙ ap (λ (z : Bool). done_or (cond z reply.NoRecord reply.Done)) at_full)
+      sym (ap (λ (z : Bool). done_or (cond z reply.Quota (cond (is_out_of_room p s n) reply.NoRecord reply.Done)))
+      at_used ∙ ap (λ (z : Bool). done_or (cond (z && is_none (room_for p s n.uid)) reply.NoRecord reply.Done)) at_full)
 
 -- ---- by process and number
 

@@ -373,10 +373,10 @@ pub unstores_one : {D : Type 0} (drive : D → List (List ℕ)) (t n : Storage D
     → Recounts t.accounts n.accounts u (count_of t.accounts u - 1)
     → n.segs.ast ≡ worded t.segs.ast u q Null
     → plain drive n.segs.pages ≡ dropped (plain drive t.segs.pages) home q (word_of t.segs.ast u q)
-    → reads_of n.segs.pages.core ≡ reads_of t.segs.pages.core → n.segs.links ≡ t.segs.links → n.whos ≡ t.whos
-    → n.segs.pages.volumes.drives ≡ t.segs.pages.volumes.drives
+    → reads_of n.segs.pages.core ≡ reads_of t.segs.pages.core → n.segs.links ≡ t.segs.links
+    → n.segs.moving ≡ t.segs.moving → n.whos ≡ t.whos → n.segs.pages.volumes.drives ≡ t.segs.pages.volumes.drives
     → Unstores t n u (λ r. eqb r q)
-unstores_one drive t n u q home active places may away re word effect reads links whos drives = record {
+unstores_one drive t n u q home active places may away re word effect reads links moving whos drives = record {
   nodes = re.nodes;
   entries = re.entries;
   next = re.next;
@@ -394,6 +394,7 @@ unstores_one drive t n u q home active places may away re word effect reads link
       (word_of t.segs.ast u q) may.table refl (away_isnt_here (word_of t.segs.ast u q) away) effect;
   reads = reads;
   links = links;
+  moving = moving;
   whos = whos;
   drives = drives;
 }
@@ -495,9 +496,9 @@ leaving_is (Leaving g) f e = ap Leaving (same_Some g f e)
 -- nothing but the words and the marks of a frame is changed
 pub unstores_cut : {D : Type 0} (t n : Storage D) (u : ℕ) → n.accounts ≡ t.accounts → n.segs.ast ≡ t.segs.ast
     → bindings n.segs.pages.core ≡ bindings t.segs.pages.core → reads_of n.segs.pages.core ≡ reads_of t.segs.pages.core
-    → n.segs.links ≡ t.segs.links → n.whos ≡ t.whos → n.segs.pages.volumes ≡ t.segs.pages.volumes
-    → Unstores t n u (λ q. false)
-unstores_cut t n u accounts ast bound reads links whos volumes = record {
+    → n.segs.links ≡ t.segs.links → n.segs.moving ≡ t.segs.moving → n.whos ≡ t.whos
+    → n.segs.pages.volumes ≡ t.segs.pages.volumes → Unstores t n u (λ q. false)
+unstores_cut t n u accounts ast bound reads links moving whos volumes = record {
   nodes = ap (λ (x : AccountMaps). x.nodes) accounts;
   entries = ap (λ (x : AccountMaps). x.entries) accounts;
   next = ap (λ (x : AccountMaps). x.next) accounts;
@@ -511,6 +512,7 @@ unstores_cut t n u accounts ast bound reads links whos volumes = record {
       ∙ none_bound u (binding_at (bindings t.segs.pages.core) f);
   reads = reads;
   links = links;
+  moving = moving;
   whos = whos;
   drives = ap (λ (v : Vols _). v.drives) volumes;
 }

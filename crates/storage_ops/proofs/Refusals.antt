@@ -1,7 +1,7 @@
 -- What refuses a reference, by the tables and by the flat store that they show.
 use Rattle.std.proofs.Common.{◌≡◌, ℕ, ◌*◌, ◌<◌, ◌/◌, Bool, true, false, cond, eqb, not, ◌&&◌, List, [], Option, Some}
-use Rattle.std.proofs.Common.{None, Result, Ok, Err, get_or, is_some, refl, sym, ap, subst, ◌∙◌, arith, inl, inr}
-use Rattle.std.specs.Prelude.{nat_le}
+use Rattle.std.proofs.Common.{None, Result, Ok, Err, get_or, is_some, map, refl, sym, ap, subst, ◌∙◌, arith, inl, inr}
+use Rattle.std.specs.Prelude.{is_none, nat_le}
 use Rattle.std.proofs.lemmas.Bool.{cases_Bool}
 use Rattle.std.proofs.lemmas.Bool.Decides.{nat_tests}
 use Rattle.std.proofs.Math.ListN.{get_or-map}
@@ -18,21 +18,23 @@ use Rattle.tree_model.specs.Tree.{Node, has_directory, node_in}
 use Rattle.tree_model.specs.Trees.{has_segment}
 use Rattle.accounts.specs.Maps.{AccountMaps}
 use Rattle.vtoc.specs.Vtoc.{Entry}
+use Rattle.volumes.specs.Volumes.{HasParts}
 use Rattle.flat_model.specs.Pages.{is_stored}
 use Rattle.script.specs.References.{new_word, permits}
-use Rattle.flat_model.specs.References.{is_used_up, is_volume_full, reply_at, reply_of}
+use Rattle.flat_model.specs.References.{is_out_of_room, is_used_up, is_volume_full, reply_at, reply_of}
 use Rattle.flat_model.specs.References.{reply_to_reference, stores_page, word_reply}
 use Rattle.flat_model.specs.Store.{Store}
-use Rattle.page_control.specs.Counts.{is_full}
 use Rattle.page_control.specs.Plain.{plain}
 use Rattle.seg_control.specs.Kept.{IsKept}
 use Rattle.storage_ops.specs.References.{brings_word, is_of_room, is_outside, only, outside_by, outside_refusal}
 use Rattle.storage_ops.specs.References.{refusal_in, refused_by, room_by, room_in, room_refusal, target, target_at}
-use Rattle.storage_ops.specs.References.{is_spent, target_of, unless, want_of_room}
+use Rattle.storage_ops.specs.References.{is_out_of_room as has_no_room, is_spent, target_of, unless, want_of_room}
+use Rattle.storage_ops.specs.Rooms.{room_of}
 use Rattle.storage_ops.specs.Shown.{AreCounted, IsStore, Shows, Storage, is_filed, pages_in, pages_of, refusal, who_at}
 use Rattle.storage_ops.proofs.Held.{shown_held}
 use Rattle.storage_ops.proofs.PageFacts.{segment_of}
 use Rattle.storage_ops.proofs.PageRoom.{full_told}
+use Rattle.storage_ops.proofs.RoomsFound.{room_shown as room_is_shown}
 use Rattle.storage_ops.proofs.Paged.{blank_shown}
 
 -- ---- replies
@@ -121,7 +123,7 @@ stores_told s uid offset (kind.Add w) blank = by (is_stored s.stored uid (offset
 abbrev reply_for : Plan → Store → Reference → Result Node Reply → Reply
 reply_for p s r (Err e) = e
 reply_for p s r (Ok n) = reply_on (stores_page s n.uid r.offset r.kind) (is_used_up s n.uid)
-    (is_volume_full p s n.volume) (word_reply (s.words n.uid r.offset) r.kind)
+    (is_out_of_room p s n) (word_reply (s.words n.uid r.offset) r.kind)
 
 -- what stands where a page can't be looked at
 abbrev is_outside_of : Result Node Reply → Bool
@@ -224,13 +226,12 @@ long_segment a vtocs h u offset n found lt = segment_of a.nodes u (ap is_some fo
           absurd (omega (arith, none, same, lt)))
     ])
 
--- why a page more can't be stored, by whether the account and the volume are used up
-pub want_told : {D : Type 0} (t : Storage D) (stored : List (ℕ × ℕ)) (n : Node) (spent full : Bool)
-    → is_spent t.accounts.nodes stored n.uid ≡ spent → is_full t.segs.pages.volumes.records n.volume ≡ full
-    → want_of_room t stored n ≡ cond spent (Some reply.Quota) (cond full (Some reply.NoRecord) None)
-want_told t stored n spent full at_account at_volume =
-    ap (λ (z : Bool). cond z (Some reply.Quota) (cond (is_full t.segs.pages.volumes.records n.volume)
-    (Some reply.NoRecord) None)) at_account
+-- why a page more can't be stored, by whether the account is used up, and the volume with no other that has room
+pub want_told : {D : Type 0} (t : Storage D) (stored : List (ℕ × ℕ)) (n : Node) (spent out : Bool)
+    → is_spent t.accounts.nodes stored n.uid ≡ spent → has_no_room t n ≡ out
+    → want_of_room t stored n ≡ cond spent (Some reply.Quota) (cond out (Some reply.NoRecord) None)
+want_told t stored n spent out at_account at_volume =
+    ap (λ (z : Bool). cond z (Some reply.Quota) (cond (has_no_room t n) (Some reply.NoRecord) None)) at_account
     ∙ ap (λ (z : Bool). cond spent (Some reply.Quota) (cond z (Some reply.NoRecord) None)) at_volume
 
 -- ---- by both
@@ -241,7 +242,7 @@ module _ {D : Type 0} (drive : D → List (List ℕ)) (p : Plan) (s : Store) (t 
       → only is_outside (reply_for p s r found) ≡ outside_by found
   outside_told (Err e) is = (outside_only e is).0
   outside_told (Ok n) is = (room_told (stores_page s n.uid r.offset r.kind) (is_used_up s n.uid)
-      (is_volume_full p s n.volume) (s.words n.uid r.offset) r.kind).0
+      (is_out_of_room p s n) (s.words n.uid r.offset) r.kind).0
 
   pub outside_shown : outside_by (target t k r) ≡ outside_refusal p s k r
   unfolding outside_refusal
@@ -251,9 +252,16 @@ module _ {D : Type 0} (drive : D → List (List ℕ)) (p : Plan) (s : Store) (t 
 module _ {D : Type 0} (drive : D → List (List ℕ)) (p : Plan) (s : Store) (t : Storage D)
     (kept : IsKept (plain drive t.segs.pages) t.segs.ast t.segs.links)
     (store : IsStore (plain drive t.segs.pages) t.segs.ast t.segs.links t.accounts t.whos) (h : Shows drive p s t)
+    (parts : HasParts (map drive t.segs.pages.volumes.drives) t.segs.pages.volumes.records t.segs.pages.volumes.vtocs)
     (k : ℕ) (r : Reference) where
+  -- there is no room in the tables exactly where there is none in the flat store
+  no_room_shown : (n : Node) → has_no_room t n ≡ is_out_of_room p s n
+  no_room_shown n =
+      ap (λ (z : Bool). z && is_none (room_of t n.uid)) (full_told drive p s t n.volume store h)
+      ∙ ap (λ (o : Option ℕ). is_volume_full p s n.volume && is_none o) (room_is_shown drive p s t h store n.uid parts)
+
   room_shown : (n : Node) → room_in t s.stored r n
-      ≡ room_on (stores_page s n.uid r.offset r.kind) (is_used_up s n.uid) (is_volume_full p s n.volume)
+      ≡ room_on (stores_page s n.uid r.offset r.kind) (is_used_up s n.uid) (is_out_of_room p s n)
   room_shown n =
       let stores : (brings_word r.kind
       && not (is_filed t.accounts t.segs.pages.volumes.vtocs n.uid (r.offset / 1024)))
@@ -261,18 +269,18 @@ module _ {D : Type 0} (drive : D → List (List ℕ)) (p : Plan) (s : Store) (t 
       ap (λ (z : Bool). brings_word r.kind && not z) (sym (h.pages.stored n.uid (r.offset / 1024)))
       ∙ sym (stores_told s n.uid r.offset r.kind (blank_shown drive p s t kept store h n.uid r.offset)) in
       ap (λ (z : Bool). room_on z (is_spent t.accounts.nodes s.stored n.uid)
-      (is_full t.segs.pages.volumes.records n.volume)) stores
+      (has_no_room t n)) stores
       ∙ ap (λ (ns : List Node). room_on (stores_page s n.uid r.offset r.kind) (is_spent ns s.stored n.uid)
-      (is_full t.segs.pages.volumes.records n.volume)) (sym h.tree.nodes)
+      (has_no_room t n)) (sym h.tree.nodes)
       ∙ ap (room_on (stores_page s n.uid r.offset r.kind) (is_used_up s n.uid))
-      (full_told drive p s t n.volume store h)
+      (no_room_shown n)
 
   told : (found : Result Node Reply) → is_outside_of found ≡ true
       → (only is_of_room (reply_for p s r found) ≡ room_by t s.stored r found)
       × (refusal (reply_for p s r found) ≡ refused_by t s.stored r found)
   told (Err e) is = ((outside_only e is).1, (outside_only e is).2)
   told (Ok n) is =
-      let all = room_told (stores_page s n.uid r.offset r.kind) (is_used_up s n.uid) (is_volume_full p s n.volume)
+      let all = room_told (stores_page s n.uid r.offset r.kind) (is_used_up s n.uid) (is_out_of_room p s n)
       (s.words n.uid r.offset) r.kind in
       (all.1 ∙ sym (room_shown n), all.2 ∙ sym (room_shown n))
 
@@ -289,13 +297,14 @@ module _ {D : Type 0} (drive : D → List (List ℕ)) (p : Plan) (s : Store) (t 
 module _ {D : Type 0} (drive : D → List (List ℕ)) (p : Plan) (s : Store) {t now : Storage D} (same : t ≡ now)
     (kept : IsKept (plain drive t.segs.pages) t.segs.ast t.segs.links)
     (store : IsStore (plain drive t.segs.pages) t.segs.ast t.segs.links t.accounts t.whos) (h : Shows drive p s now)
+    (parts : HasParts (map drive t.segs.pages.volumes.drives) t.segs.pages.volumes.records t.segs.pages.volumes.vtocs)
     (k : ℕ) (r : Reference) (found : Result Node Reply) (is : target now k r ≡ found) where
   pub room_found : room_by now s.stored r found ≡ room_refusal p s k r
   room_found = ap (room_by now s.stored r) (sym is)
       ∙ subst (λ (x : Storage D). room_by x s.stored r (target x k r) ≡ room_refusal p s k r) same
-      (room_refused drive p s t kept store (shown_held same drive p s h) k r)
+      (room_refused drive p s t kept store (shown_held same drive p s h) parts k r)
 
   pub reference_found : refused_by now s.stored r found ≡ refusal (reply_to_reference p s k r)
   reference_found = ap (refused_by now s.stored r) (sym is)
       ∙ subst (λ (x : Storage D). refused_by x s.stored r (target x k r) ≡ refusal (reply_to_reference p s k r)) same
-      (reference_refused drive p s t kept store (shown_held same drive p s h) k r)
+      (reference_refused drive p s t kept store (shown_held same drive p s h) parts k r)

@@ -26,6 +26,7 @@ pub rest_both : {D : Type 0} (old mid new : Storage D) → KeepsRest old mid →
 rest_both old mid new x y = record {
   descriptors = y.descriptors ∙ x.descriptors;
   trailers = y.trailers ∙ x.trailers;
+  moving = y.moving ∙ x.moving;
   whos = y.whos ∙ x.whos;
   drives = y.drives ∙ x.drives;
   reads = y.reads ∙ x.reads;
@@ -50,6 +51,7 @@ pub rest_unstored : {D : Type 0} (old new : Storage D) (u : ℕ) (test : ℕ →
 rest_unstored old new u test x = record {
   descriptors = ap (λ (l : Links). l.descriptors) x.links;
   trailers = ap (λ (l : Links). l.trailers) x.links;
+  moving = x.moving;
   whos = x.whos;
   drives = x.drives;
   reads = x.reads;
@@ -73,6 +75,7 @@ rest_left {D} old new a vtocs known entries tables active is = subst (λ (x : St
     (record {
       descriptors = refl;
       trailers = refl;
+      moving = refl;
       whos = refl;
       drives = refl;
       reads = refl;
@@ -114,11 +117,12 @@ rest_inactive old new place is = rest_left old new old.accounts old.segs.pages.v
 -- a home is free
 pub rest_erased : {D : Type 0} (drive : D → List (List ℕ)) (t n : Storage D) (home : Home)
     → plain drive n.segs.pages ≡ erased (plain drive t.segs.pages) home → n.segs.ast ≡ t.segs.ast
-    → n.segs.links ≡ t.segs.links → n.whos ≡ t.whos
+    → n.segs.links ≡ t.segs.links → n.segs.moving ≡ t.segs.moving → n.whos ≡ t.whos
     → n.segs.pages.volumes.drives ≡ t.segs.pages.volumes.drives → KeepsRest t n
-rest_erased drive t n home effect ast links whos drives = record {
+rest_erased drive t n home effect ast links moving whos drives = record {
   descriptors = ap (λ (l : Links). l.descriptors) links;
   trailers = ap (λ (l : Links). l.trailers) links;
+  moving = moving;
   whos = whos;
   drives = drives;
   reads = ap (λ (s : Plain). reads_of s.core) effect;

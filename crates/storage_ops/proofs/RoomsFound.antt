@@ -1,23 +1,67 @@
 -- The volume that has room in the tables is the one that has it in the flat store that is shown.
-use Rattle.std.proofs.Common.{◌≡◌, ◌<◌, ◌≤◌, ℕ, Bool, true, false, List, [], Option, Some, None, refl, sym, ap}
-use Rattle.std.proofs.Common.{◌∙◌, arith, length, map, count_by}
-use Rattle.std.specs.Prelude.{IfNone, IfSome}
+use Rattle.std.proofs.Common.{◌≡◌, ◌⊎◌, ◌<◌, ◌≤◌, ℕ, zero, suc, Bool, true, false, cond, List, [], Some, None, refl, sym, ap}
+use Rattle.std.proofs.Common.{◌∙◌, arith, inl, inr, length, map, count_by}
+use Rattle.std.proofs.lemmas.Bool.{cases_Bool, cases_eq}
 use Rattle.std.proofs.lemmas.List.{get_or_past, length-map}
 use Rattle.std.proofs.lemmas.List.Sums.{count_by-le-length}
 use Rattle.script.specs.Plans.{Plan}
 use Rattle.tree_model.specs.Tree.{entries_on, taken_on, volume_in}
-use Rattle.accounts.specs.Maps.{AccountMaps, count_of}
-use Rattle.flat_model.specs.Moves.{has_room, room_for}
+use Rattle.accounts.specs.Maps.{count_of}
+use Rattle.flat_model.specs.Rooms.{has_room, room_for}
 use Rattle.flat_model.specs.Store.{Store, records_of}
-use Rattle.flat_model.proofs.RoomLaws.{room_is, room_none}
+use Rattle.flat_model.proofs.RoomLaws.{first_is, first_none, room_is, room_none}
+use Rattle.page_control.specs.Counts.{is_full}
 use Rattle.page_control.specs.Plain.{plain}
 use Rattle.volumes.specs.Volumes.{HasParts, Vols}
-use Rattle.storage_ops.specs.Rooms.{is_roomy}
+use Rattle.storage_ops.specs.Rooms.{first_roomy, is_roomy, move_target, room_of}
 use Rattle.storage_ops.specs.Shown.{IsStore, Shows, Storage}
 
 -- no volume has more records in use than it has
 pub few_used : (flags : List Bool) → count_by (λ flag. flag) flags ≤ length flags
 few_used flags = count_by-le-length (λ flag. flag) flags
+
+-- the least number below n that passes a test
+record IsLeast (test : ℕ → Bool) (n : ℕ) : Type 0 where
+  least : ℕ
+  within : least < n
+  passes : test least ≡ true
+  first : (v : ℕ) → v < least → test v ≡ false
+
+-- there is one, or none passes
+least : (test : ℕ → Bool) (n : ℕ) → IsLeast test n ⊎ ((v : ℕ) → v < n → test v ≡ false)
+least test zero = inr (λ v lt. absurd (omega (arith, lt)))
+least test (suc n) = elim (least test n) [
+  | inl found ↦ (let lt = found.within in inl (record {
+    least = found.least;
+    within = omega (arith, lt);
+    passes = found.passes;
+    first = found.first;
+  }))
+  | inr none ↦ elim (cases_Bool (test n)) [
+    | inl is ↦ inl (record { least = n; within = omega arith; passes = is; first = none })
+    | inr isnt ↦ inr (λ v lt. elim (cases_eq v n) [
+      | inl same ↦ ap test same ∙ isnt
+      | inr ne ↦ none v (omega (arith, lt, ne))
+    ])
+  ]
+]
+
+-- a search that ends at the first volume with room
+pub first_here : {D : Type 0} (vols : Vols D) (own pages w : ℕ) → w < length vols.drives
+    → is_roomy vols own pages w ≡ true → ((v : ℕ) → v < w → is_roomy vols own pages v ≡ false)
+    → Some w ≡ first_roomy vols own pages
+first_here vols own pages w within has first = sym (first_is (is_roomy vols own pages) (length vols.drives) w within has first)
+
+-- and one that comes to the end
+pub first_nowhere : {D : Type 0} (vols : Vols D) (own pages : ℕ)
+    → ((v : ℕ) → v < length vols.drives → is_roomy vols own pages v ≡ false) → None ≡ first_roomy vols own pages
+first_nowhere vols own pages none = sym (first_none (is_roomy vols own pages) (length vols.drives) none)
+
+-- a segment that needn't move, and whose volume is full, has room nowhere
+pub none_roomy : {D : Type 0} (t : Storage D) (uid : ℕ)
+    → is_full t.segs.pages.volumes.records (volume_in t.accounts.nodes uid) ≡ true → move_target t uid ≡ None
+    → room_of t uid ≡ None
+none_roomy t uid full none = sym (ap (λ (z : Bool). cond z (room_of t uid) None) full) ∙ none
 
 module _ {D : Type 0} (drive : D → List (List ℕ)) (p : Plan) (s : Store) (t : Storage D) (shows : Shows drive p s t)
     (kept : IsStore (plain drive t.segs.pages) t.segs.ast t.segs.links t.accounts t.whos) where
@@ -41,23 +85,18 @@ module _ {D : Type 0} (drive : D → List (List ℕ)) (p : Plan) (s : Store) (t 
       let used = kept.taken.entries v ∙ ap (λ ns. entries_on ns v) (sym shows.tree.nodes) in
       rw (home, shows.tree.counts uid, taken, used, shows.script.records v, shows.script.entries v) refl
 
-  -- a search of the volumes finds the flat store's
-  pub room_found : (vols : Vols D) (a : AccountMaps) (uid own pages : ℕ) → vols ≡ t.segs.pages.volumes
-      → a ≡ t.accounts → own ≡ volume_in a.nodes uid → pages ≡ count_of a uid
+  -- the volume that the tables find is the flat store's
+  pub room_shown : (uid : ℕ)
       → HasParts (map drive t.segs.pages.volumes.drives) t.segs.pages.volumes.records t.segs.pages.volumes.vtocs
-      → (found : Option ℕ) → IfSome found (λ w. is_roomy vols own pages w ≡ true)
-      → IfSome found (λ w. (v : ℕ) → v < w → is_roomy vols own pages v ≡ false)
-      → IfNone found ((v : ℕ) → v < length vols.drives → is_roomy vols own pages v ≡ false)
-      → found ≡ room_for p s uid
-  room_found vols a uid own pages are is home stored parts found has first none = each found has first none
+      → room_of t uid ≡ room_for p s uid
+  room_shown uid parts = elim (least test (length t.segs.pages.volumes.drives)) [
+    | inl found ↦ first_is test (length t.segs.pages.volumes.drives) found.least found.within found.passes found.first
+        ∙ room_is p s uid found.least (sym (same_room uid found.least) ∙ found.passes)
+        (λ v lt. sym (same_room uid v) ∙ found.first v lt)
+    | inr none ↦ first_none test (length t.segs.pages.volumes.drives) none
+        ∙ room_none p s uid (length t.segs.pages.volumes.drives) (λ v lt. sym (same_room uid v) ∙ none v lt)
+        (past parts)
+  ]
     where
-      same : (v : ℕ) → is_roomy vols own pages v ≡ has_room p s uid v
-      same v = rw (are, home, stored, is) (same_room uid v)
-
-      each : (found : Option ℕ) → IfSome found (λ w. is_roomy vols own pages w ≡ true)
-          → IfSome found (λ w. (v : ℕ) → v < w → is_roomy vols own pages v ≡ false)
-          → IfNone found ((v : ℕ) → v < length vols.drives → is_roomy vols own pages v ≡ false)
-          → found ≡ room_for p s uid
-      each (Some w) has first none = room_is p s uid w (sym (same w) ∙ has) (λ v lt. sym (same v) ∙ first v lt)
-      each None has first none = room_none p s uid (length vols.drives) (λ v lt. sym (same v) ∙ none v lt)
-          (λ v out. past parts v (let many = ap (λ (x : Vols D). length x.drives) are in omega (arith, many, out)))
+      test : ℕ → Bool
+      test = is_roomy t.segs.pages.volumes (volume_in t.accounts.nodes uid) (count_of t.accounts uid)

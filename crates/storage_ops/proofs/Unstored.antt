@@ -178,6 +178,7 @@ unstores_still t u test gone bound = record {
   bound = bound;
   reads = refl;
   links = refl;
+  moving = refl;
   whos = refl;
   drives = refl;
 }
@@ -203,6 +204,7 @@ unstores_both old mid new u t r x y = record {
       ∙ fused_bound u t r (binding_at (bindings old.segs.pages.core) f);
   reads = y.reads ∙ x.reads;
   links = y.links ∙ x.links;
+  moving = y.moving ∙ x.moving;
   whos = y.whos ∙ x.whos;
   drives = y.drives ∙ x.drives;
 }
@@ -237,6 +239,7 @@ unstores_past old new u from page x null unframed = record {
   bound = λ f. x.bound f ∙ by f (binding_at (bindings old.segs.pages.core) f) refl;
   reads = x.reads;
   links = x.links;
+  moving = x.moving;
   whos = x.whos;
   drives = x.drives;
 }

@@ -80,6 +80,7 @@ pub record Unstores {D : Type 0} (old new : Storage D) (uid : ℕ) (test : ℕ �
       ≡ unbound uid test (binding_at (bindings old.segs.pages.core) f)
   pub reads : reads_of new.segs.pages.core ≡ reads_of old.segs.pages.core
   pub links : new.segs.links ≡ old.segs.links
+  pub moving : new.segs.moving ≡ old.segs.moving
   pub whos : new.whos ≡ old.whos
   pub drives : new.segs.pages.volumes.drives ≡ old.segs.pages.volumes.drives
 
@@ -127,6 +128,7 @@ pub record TakesOut {D : Type 0} (old new : Storage D) (uid : ℕ) : Type 0 wher
 pub record KeepsRest {D : Type 0} (old new : Storage D) : Type 0 where
   pub descriptors : new.segs.links.descriptors ≡ old.segs.links.descriptors
   pub trailers : new.segs.links.trailers ≡ old.segs.links.trailers
+  pub moving : new.segs.moving ≡ old.segs.moving
   pub whos : new.whos ≡ old.whos
   pub drives : new.segs.pages.volumes.drives ≡ old.segs.pages.volumes.drives
   pub reads : reads_of new.segs.pages.core ≡ reads_of old.segs.pages.core

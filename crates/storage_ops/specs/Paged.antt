@@ -77,4 +77,5 @@ pub record IsPageMade {D : Type 0} (drive : D → List (List ℕ)) (old new : St
   pub drives : new.segs.pages.volumes.drives ≡ old.segs.pages.volumes.drives
   pub charged : Recounts old.accounts new.accounts uid (count_of old.accounts uid + 1)
   pub links : new.segs.links ≡ old.segs.links
+  pub moving : new.segs.moving ≡ old.segs.moving
   pub whos : new.whos ≡ old.whos

@@ -1,7 +1,7 @@
 -- What refuses a reference to a word of a segment: by the flat store that is shown, and by the tables (Bensoussan,
 -- Clingen and Daley 1972; quota and records are those of Organick 1972).
 use Rattle.std.specs.Prelude.{ℕ, ◌*◌, ◌/◌, Bool, true, false, not, ◌&&◌, ◌==◌, nat_le, if◌then◌else◌, List}
-use Rattle.std.specs.Prelude.{Option, Some, None, Result, Ok, Err}
+use Rattle.std.specs.Prelude.{Option, Some, None, is_none, Result, Ok, Err}
 use Rattle.mnames.specs.declared.principals.Who.{Who}
 use Rattle.script.specs.Plans.{Plan}
 use Rattle.script.specs.declared.commands.RefKind.{RefKind}
@@ -16,6 +16,7 @@ use Rattle.flat_model.specs.References.{reply_to_reference}
 use Rattle.flat_model.specs.Store.{Store}
 use Rattle.page_control.specs.Counts.{is_full}
 use Rattle.seg_control.specs.Control.{kst_at}
+use Rattle.storage_ops.specs.Rooms.{room_of}
 use Rattle.storage_ops.specs.Shown.{Storage, is_filed, who_at}
 
 -- ---- by the flat store
@@ -32,7 +33,8 @@ is_outside reply.NoAccess = true
 is_outside reply.Length = true
 is_outside _ = false
 
--- those of a page that can't be made: the account has used up its quota, or the volume's records are all in use
+-- those of a page that can't be made: the account has used up its quota, or the volume's records are all in use and no
+-- other has room for the segment
 abbrev pub is_of_room : Reply → Bool
 is_of_room reply.Quota = true
 is_of_room reply.NoRecord = true
@@ -80,11 +82,15 @@ brings_word how = alters how && not (new_word 0 how == 0)
 abbrev pub is_spent : List Node → List (ℕ × ℕ) → ℕ → Bool
 is_spent nodes stored uid = used_by nodes stored (account_of nodes uid) == quota_in nodes (account_of nodes uid)
 
+-- all records of a segment's volume are in use, and no other volume has room for the segment
+abbrev pub is_out_of_room : {D : Type 0} → Storage D → Node → Bool
+is_out_of_room t n = is_full t.segs.pages.volumes.records n.volume && is_none (room_of t n.uid)
+
 -- why a page more of a segment can't be stored: quota, then norecord
 abbrev pub want_of_room : {D : Type 0} → Storage D → List (ℕ × ℕ) → Node → Option Reply
 want_of_room t stored n =
     if is_spent t.accounts.nodes stored n.uid then Some reply.Quota
-    else if is_full t.segs.pages.volumes.records n.volume then Some reply.NoRecord
+    else if is_out_of_room t n then Some reply.NoRecord
     else None
 
 -- of a reference that stores a page more of its segment

@@ -31,6 +31,7 @@ impl<D: Drive> Store<D> {
 
     /// Does a command that makes no reference, and says so.
     fn commit_tree(&mut self, process: u32, command: &Command) -> Reply
+        requires still { self.old.segs.moving ≡ None }
         requires process { process < length self.old.segs.links.known }
         requires ranges { is_command (length self.old.segs.pages.volumes.drives) command.now ≡ true }
         requires uids { self.old.accounts.next < 2 ^ 31 }
@@ -66,6 +67,7 @@ impl<D: Drive> Store<D> {
     /// `test` would say so. What must be taken, cut or made inactive before must have been. (Source: Bensoussan,
     /// Clingen and Daley 1972; Organick 1972.)
     pub fn commit(&mut self, process: u32, command: &Command) -> Reply
+        requires still { self.old.segs.moving ≡ None }
         requires process { process < length self.old.segs.links.known }
         requires ranges { is_command (length self.old.segs.pages.volumes.drives) command.now ≡ true }
         requires tree { reference_of command.now ≡ None }

@@ -76,6 +76,7 @@ impl<D: Drive> Store<D> {
     /// hand moves on. The chain is that of a node of the tree. What is shown stays. (Source: Bensoussan, Clingen and
     /// Daley 1972; Organick 1972.)
     pub fn activate_next(&mut self, chain: &[Link]) -> Next
+        requires still { self.old.segs.moving ≡ None }
         requires chain { IsChainDown self.old.accounts chain.now }
         requires off { HasOneToGo self.old.segs.ast chain.now }
         ensures next { IsNext self.old.segs self.new.segs chain.now result }

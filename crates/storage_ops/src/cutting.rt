@@ -1,6 +1,6 @@
 //! Pages are stored no more, and segments are truncated.
 
-ghost use Rattle.std.specs.Prelude.{◌≡◌, ◌<◌, ◌≤◌, ◌/◌, ◌%◌, nat_le, true, false, ◌&&◌, ◌==◌, Ok};
+ghost use Rattle.std.specs.Prelude.{◌≡◌, ◌<◌, ◌≤◌, ◌/◌, ◌%◌, nat_le, true, false, ◌&&◌, ◌==◌, Ok, None};
 ghost use Rattle.tree_model.specs.Tree.{Node};
 ghost use Rattle.flat_model.specs.Branches.{segment_at};
 ghost use Rattle.page_table.specs.declared.Ptw.TheVariants.{Null};
@@ -65,6 +65,7 @@ fn leaves(word: Ptw) -> Option<u32>
 impl<D: Drive> Store<D> {
     /// A stored page of an active segment is stored no more, and its account is credited.
     fn drop_page(&mut self, uid: u32, page: u32, home: Home)
+        requires still { self.old.segs.moving ≡ None }
         requires may { MayLose self.old uid page home }
         requires away { is_away (word_of self.old.segs.ast uid page) ≡ true }
         ensures { LosesPage D.pages self.old self.new uid page }
@@ -76,6 +77,7 @@ impl<D: Drive> Store<D> {
 
     /// A page of an active segment is stored no more, if it was.
     fn unstore(&mut self, uid: u32, page: u32, home: Home)
+        requires still { self.old.segs.moving ≡ None }
         requires may { MayLose self.old uid page home }
         requires taken { is_here (word_of self.old.segs.ast uid page) ≡ false }
         ensures { LosesPage D.pages self.old self.new uid page }
@@ -87,6 +89,7 @@ impl<D: Drive> Store<D> {
 
     /// The pages of an active segment from one on are stored no more. It looks at the words of those pages alone.
     pub(crate) fn drop_from(&mut self, uid: u32, from: u32)
+        requires still { self.old.segs.moving ≡ None }
         requires active { IsActive self.old.segs.ast.entries uid }
         requires taken { IsTakenFrom self.old.segs uid from }
         ensures rest { Unstores self.old self.new uid (λ q. nat_le from q) }
@@ -129,6 +132,7 @@ impl<D: Drive> Store<D> {
 
     /// The words of the page that an offset cuts become 0 from it on. A page of zeros is stored no more, and told of.
     fn cut_page(&mut self, uid: u32, words: u32) -> bool
+        requires still { self.old.segs.moving ≡ None }
         requires past { IsTakenPast self.old.segs uid words }
         requires out { is_out (word_of self.old.segs.ast uid (words / 1024)) ≡ false }
         ensures rest { Unstores self.old self.new uid (λ q. result && q == words / 1024) }
@@ -152,7 +156,8 @@ impl<D: Drive> Store<D> {
 
     /// The words of an active segment from an offset on become 0, and the pages that are lost by it are stored no more.
     fn cut_off(&mut self, uid: u32, words: u32)
-        requires { IsTakenPast self.old.segs uid words }
+        requires still { self.old.segs.moving ≡ None }
+        requires past { IsTakenPast self.old.segs uid words }
         ensures pages { CutsPages self.old self.new uid words }
         ensures shown { (p : Plan) (s : Flat) → Shows D.pages p s self.old
             → Shows D.pages p (cut_off s uid words) self.new }
@@ -174,7 +179,8 @@ impl<D: Drive> Store<D> {
     /// be active, no reference must go through the words of those pages, and the one that is cut must not be on its
     /// record alone. (Source: Bensoussan, Clingen and Daley 1972.)
     pub fn truncate(&mut self, path: &Path, words: u32) -> Reply
-        requires { IsTakenPastAt self.old.accounts self.old.segs path.now words }
+        requires still { self.old.segs.moving ≡ None }
+        requires past { IsTakenPastAt self.old.accounts self.old.segs path.now words }
         ensures answer { (p : Plan) (s : Flat) → Shows D.pages p s self.old → result ≡ truncate_reply s path.now }
         ensures effect { (p : Plan) (s : Flat) → Shows D.pages p s self.old
             → Shows D.pages p (answered result s (after_truncate s path.now words)) self.new }

@@ -1,6 +1,6 @@
 //! Directories and segments are deleted, and told of.
 
-ghost use Rattle.std.specs.Prelude.{◌≡◌, ◌≢◌, true, false, Some, Ok};
+ghost use Rattle.std.specs.Prelude.{◌≡◌, ◌≢◌, true, false, Some, Ok, None};
 ghost use Rattle.tree_model.specs.Tree.{Node as Term, quota_in};
 ghost use Rattle.flat_model.specs.Branches.{branch_at};
 ghost use Rattle.flat_model.specs.Commands.{takes_effect};
@@ -69,6 +69,7 @@ impl<D: Drive> Store<D> {
 
     /// Makes a node without inferior inactive, if it was active; its pages are stored no more then.
     fn make_inactive(&mut self, uid: u32)
+        requires still { self.old.segs.moving ≡ None }
         requires empty { has_inferior self.old.accounts.nodes uid ≡ false }
         requires ready { IsRemovable self.old.segs uid }
         ensures nodes { self.new.accounts.nodes ≡ self.old.accounts.nodes }
@@ -94,6 +95,7 @@ impl<D: Drive> Store<D> {
 
     /// Takes a node out that isn't active and has neither inferior nor quota, with its home and its stored pages.
     fn remove(&mut self, uid: u32)
+        requires still { self.old.segs.moving ≡ None }
         requires there { is_there self.old.accounts.nodes uid ≡ true }
         requires branch { uid ≢ 1 }
         requires empty { has_inferior self.old.accounts.nodes uid ≡ false }
@@ -119,7 +121,8 @@ impl<D: Drive> Store<D> {
     /// records and its VTOC entry are free. No descriptor must lead to it, and no reference go through the words of its
     /// pages. (Source: Bensoussan, Clingen and Daley 1972; Organick 1972.)
     pub fn delete(&mut self, path: &Path) -> Reply
-        requires { IsRemovableAt self.old.accounts self.old.segs path.now }
+        requires still { self.old.segs.moving ≡ None }
+        requires ready { IsRemovableAt self.old.accounts self.old.segs path.now }
         ensures answer { (p : Plan) (s : Flat) → Shows D.pages p s self.old → result ≡ delete_reply s path.now }
         ensures effect { (p : Plan) (s : Flat) → Shows D.pages p s self.old
             → Shows D.pages p (answered result s (after_delete s path.now)) self.new }

@@ -1,6 +1,6 @@
 //! Directories and segments are made.
 
-ghost use Rattle.std.specs.Prelude.{◌≡◌, ◌<◌, ◌≤◌, ◌^◌, ℕ, true, false, nat_le, length, ◌∷◌, []};
+ghost use Rattle.std.specs.Prelude.{◌≡◌, ◌<◌, ◌≤◌, ◌^◌, ℕ, true, false, nat_le, length, ◌∷◌, [], None};
 ghost use Rattle.tree_model.specs.Tree.{Node as Term, has_directory, entries_on};
 ghost use Rattle.script.specs.Plans.{Plan, who_of};
 ghost use Rattle.flat_model.specs.Making.{after_make, made_in, make_in, make_reply, owner_row};
@@ -10,7 +10,7 @@ ghost use Rattle.storage_ops.specs.CutOff.{TakesHome};
 ghost use Rattle.storage_ops.specs.Shown.{Shows, answered, refusal, with_vtocs};
 
 use crate::replies::refusal;
-use crate::store::{Store, look};
+use crate::store::{Store, look, volumes_at_rest};
 use acl::Acl;
 use book::Reply;
 use dir_tree::{AddFault, NewNode};
@@ -21,11 +21,12 @@ use volumes::Drive;
 impl<D: Drive> Store<D> {
     /// Whether the VTOC entries of a volume are all in use.
     fn has_no_entry(&self, volume: u32) -> bool
-        requires { volume < length self.now.segs.pages.volumes.drives }
+        requires still { self.now.segs.moving ≡ None }
+        requires volume { volume < length self.now.segs.pages.volumes.drives }
         ensures { (p : Plan) (s : Flat) → Shows D.pages p s self.now
             → result ≡ nat_le (entries_of p volume) (entries_on s.nodes volume) }
     {
-        let vtoc = self.segs.pages().volumes().vtoc(volume);
+        let vtoc = volumes_at_rest(&self.segs).vtoc(volume);
         vtoc.size() <= vtoc.used()
     }
 
@@ -34,7 +35,8 @@ impl<D: Drive> Store<D> {
     /// eight others and the root; `Room` where there are 4096 branches; else `NoEntry` exactly where the VTOC entries
     /// of the volume are all in use. (Source: Bensoussan, Clingen and Daley 1972; Organick 1972.)
     pub fn make_dir_refusal(&self, path: &Path, volume: u32) -> Option<Reply>
-        requires { volume < length self.now.segs.pages.volumes.drives }
+        requires still { self.now.segs.moving ≡ None }
+        requires volume { volume < length self.now.segs.pages.volumes.drives }
         ensures { (p : Plan) (s : Flat) → Shows D.pages p s self.now
             → result ≡ refusal (make_reply p s path.now volume true) }
     {
@@ -45,7 +47,8 @@ impl<D: Drive> Store<D> {
     /// What refuses the making of a segment: the same as of a directory, but for `Deep`. (Source: Bensoussan, Clingen
     /// and Daley 1972; Organick 1972.)
     pub fn make_seg_refusal(&self, path: &Path, volume: u32) -> Option<Reply>
-        requires { volume < length self.now.segs.pages.volumes.drives }
+        requires still { self.now.segs.moving ≡ None }
+        requires volume { volume < length self.now.segs.pages.volumes.drives }
         ensures { (p : Plan) (s : Flat) → Shows D.pages p s self.now
             → result ≡ refusal (make_reply p s path.now volume false) }
     {
@@ -55,6 +58,7 @@ impl<D: Drive> Store<D> {
 
     /// Makes a directory or a segment in a directory, unless that is refused.
     fn make_branch(&mut self, superior: u32, new: NewNode) -> Reply
+        requires still { self.old.segs.moving ≡ None }
         requires directory { has_directory self.old.accounts.nodes superior ≡ true }
         requires volume { new.volume < length self.old.segs.pages.volumes.drives }
         requires uids { self.old.accounts.next < 2 ^ 31 }
@@ -90,6 +94,7 @@ impl<D: Drive> Store<D> {
 
     /// Makes a directory or a segment, and gives `Made` with its uid, or what refuses it.
     fn make(&mut self, path: &Path, volume: u32, dir: bool, pages: u32, acl: Acl) -> Reply
+        requires still { self.old.segs.moving ≡ None }
         requires volume { volume < length self.old.segs.pages.volumes.drives }
         requires uids { self.old.accounts.next < 2 ^ 31 }
         requires most { pages ≤ 256 }
@@ -130,6 +135,7 @@ impl<D: Drive> Store<D> {
     /// Makes a directory with quota 0 on a volume, and gives `Made` with its uid, or what refuses it. (Source:
     /// Bensoussan, Clingen and Daley 1972; Organick 1972.)
     pub fn make_dir(&mut self, path: &Path, volume: u32) -> Reply
+        requires still { self.old.segs.moving ≡ None }
         requires volume { volume < length self.old.segs.pages.volumes.drives }
         requires uids { self.old.accounts.next < 2 ^ 31 }
         ensures answer { (p : Plan) (s : Flat) → Shows D.pages p s self.old
@@ -149,6 +155,7 @@ impl<D: Drive> Store<D> {
     /// read and write. It gives `Made` with its uid, or what refuses it. (Source: Bensoussan, Clingen and Daley 1972;
     /// Organick 1972.)
     pub fn make_seg(&mut self, process: u32, path: &Path, pages: u32, volume: u32) -> Reply
+        requires still { self.old.segs.moving ≡ None }
         requires process { process < length self.old.whos }
         requires volume { volume < length self.old.segs.pages.volumes.drives }
         requires uids { self.old.accounts.next < 2 ^ 31 }

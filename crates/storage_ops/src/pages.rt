@@ -119,6 +119,7 @@ impl<D: Drive> Store<D> {
     /// Notes that page `p` of an active segment, which is on its record alone, is being read into the free frame `f`.
     /// What is shown stays. (Source: own.)
     pub fn start_in(&mut self, uid: u32, p: u32, f: u32)
+        requires still { self.old.segs.moving ≡ None }
         requires active { IsActive self.old.segs.ast.entries uid }
         requires page { p < length (table_of self.old.segs.ast uid) }
         requires out { is_out (word_of self.old.segs.ast uid p) ≡ true }
@@ -141,6 +142,7 @@ impl<D: Drive> Store<D> {
     /// Lets no more references go through the word of the page in frame `f`, which is on its way out from now on. What
     /// is shown stays. (Source: own.)
     pub fn take(&mut self, uid: u32, f: u32)
+        requires still { self.old.segs.moving ≡ None }
         requires active { IsActive self.old.segs.ast.entries uid }
         requires bound { is_bound (frame_at self.old.segs.pages.core f) ≡ true }
         requires own { uid_in (frame_at self.old.segs.pages.core f) ≡ uid }
@@ -158,6 +160,7 @@ impl<D: Drive> Store<D> {
     /// Lets references go through the word of the page in frame `f` again, which was on its way out. What is shown
     /// stays. (Source: own.)
     pub fn back(&mut self, uid: u32, f: u32)
+        requires still { self.old.segs.moving ≡ None }
         requires active { IsActive self.old.segs.ast.entries uid }
         requires bound { is_bound (frame_at self.old.segs.pages.core f) ≡ true }
         requires own { uid_in (frame_at self.old.segs.pages.core f) ≡ uid }
@@ -176,7 +179,8 @@ impl<D: Drive> Store<D> {
     /// Lets no more references go through the words of those pages of a place that are in a frame and have number
     /// `from` or above. What is shown stays. It looks at each word from there on. (Source: own.)
     pub fn take_all(&mut self, aste: u32, from: u32)
-        requires { aste < length self.old.segs.ast.entries }
+        requires still { self.old.segs.moving ≡ None }
+        requires place { aste < length self.old.segs.ast.entries }
         ensures effect { self.new ≡ record self.old {
           segs = record self.old.segs {
             ast = all_taken self.old.segs.ast aste from;
@@ -220,6 +224,7 @@ impl<D: Drive> Store<D> {
     /// out or being read, and no descriptor leads there. What is shown stays. (Source: Bensoussan, Clingen and Daley
     /// 1972; Organick 1972.)
     pub fn deactivate(&mut self, place: u32)
+        requires still { self.old.segs.moving ≡ None }
         requires place { place < length self.old.segs.ast.entries }
         requires leaf { HasNoInferior self.old.segs.ast.entries place }
         requires away { All IsAway (table_at self.old.segs.ast.tables place) }

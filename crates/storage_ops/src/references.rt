@@ -1,6 +1,6 @@
 //! What refuses a reference to a word of a segment.
 
-ghost use Rattle.std.specs.Prelude.{◌≡◌, ◌<◌, ◌*◌, ℕ, List, IfOk, IfErr, length, true, Some};
+ghost use Rattle.std.specs.Prelude.{◌≡◌, ◌<◌, ◌*◌, ℕ, List, IfOk, IfErr, length, true, Some, None};
 ghost use Rattle.tree_model.specs.Tree.{quota_in};
 ghost use Rattle.tree_model.specs.Trees.{has_segment};
 ghost use Rattle.dir_tree.specs.Nodes.{as_term};
@@ -8,11 +8,11 @@ ghost use Rattle.accounts.specs.Maps.{Counts};
 ghost use Rattle.script.specs.Plans.{Plan};
 ghost use Rattle.flat_model.specs.References.{reply_to_reference};
 ghost use Rattle.flat_model.specs.Store.{Store as Flat};
-ghost use Rattle.storage_ops.specs.References.{brings_word, outside_by, outside_refusal, refusal_in};
+ghost use Rattle.storage_ops.specs.References.{brings_word, is_out_of_room, outside_by, outside_refusal, refusal_in};
 ghost use Rattle.storage_ops.specs.References.{room_by, room_in, room_refusal, target, want_of_room};
 ghost use Rattle.storage_ops.specs.Shown.{IsFound, IsThere, Shows, is_filed, is_there, refusal};
 
-use crate::store::{Store, look};
+use crate::store::{Store, look, volumes_at_rest};
 use book::Reply;
 use dir_tree::Node;
 use mnames::Who;
@@ -66,26 +66,39 @@ impl<D: Drive> Store<D> {
 
     /// Whether a page of a node is stored. It looks at one place of the file map.
     fn is_stored(&self, uid: u32, page: u32) -> bool
+        requires still { self.now.segs.moving ≡ None }
         requires there { is_there self.now.accounts.nodes uid ≡ true }
         requires page { page < 256 }
         ensures { result ≡ is_filed self.now.accounts self.now.segs.pages.volumes.vtocs uid page }
     {
         let home = self.home(uid);
-        let vtoc = self.segs.pages().volumes().vtoc(home.volume);
+        let vtoc = volumes_at_rest(&self.segs).vtoc(home.volume);
         vtoc.file_map(home.entry, page).is_some()
     }
 
-    /// Why a page more of a segment can't be stored: want of quota comes before want of a record.
+    /// Whether all records of a segment's volume are in use, and no other volume has room for the segment.
+    fn is_out_of_room(&self, node: &Node) -> bool
+        requires still { self.now.segs.moving ≡ None }
+        requires there { IsThere self.now.accounts.nodes node.now }
+        requires segment { has_segment self.now.accounts.nodes node.now.uid ≡ true }
+        ensures { result ≡ is_out_of_room self.now (as_term (quota_in self.now.accounts.nodes) node.now) }
+    {
+        let home = self.home(node.uid);
+        self.is_full(home.volume) && self.room_for(node.uid).is_none()
+    }
+
+    /// Why a page more of a segment can't be stored: want of quota comes before want of a record, which is only told
+    /// where no other volume has room for the segment.
     fn want_of_room(&self, node: &Node) -> Option<Reply>
+        requires still { self.now.segs.moving ≡ None }
         requires there { IsThere self.now.accounts.nodes node.now }
         requires segment { has_segment self.now.accounts.nodes node.now.uid ≡ true }
         ensures { (stored : List (ℕ × ℕ)) → Counts self.now.accounts stored
             → result ≡ want_of_room self.now stored (as_term (quota_in self.now.accounts.nodes) node.now) }
     {
-        let home = self.home(node.uid);
         if self.accounts.may_charge(node.uid).is_err() {
             Some(Reply::Quota)
-        } else if self.is_full(home.volume) {
+        } else if self.is_out_of_room(node) {
             Some(Reply::NoRecord)
         } else {
             None
@@ -94,6 +107,7 @@ impl<D: Drive> Store<D> {
 
     /// Why a reference can't store a page more of its segment, where neither access nor the length refuses it.
     fn room_in(&self, node: &Node, reference: &Reference) -> Option<Reply>
+        requires still { self.now.segs.moving ≡ None }
         requires there { IsThere self.now.accounts.nodes node.now }
         requires within { reference.now.offset < 1024 * node.now.length }
         ensures { (stored : List (ℕ × ℕ)) → Counts self.now.accounts stored
@@ -126,10 +140,11 @@ impl<D: Drive> Store<D> {
 
     /// What refuses that a reference of a process stores a page more, where nothing else refuses it: of one that brings
     /// a word other than 0 into a page that isn't stored, `Quota` where the account of the segment has used all of its
-    /// quota, else `NoRecord` where all records of the volume are in use. It looks at one place of the file map, and
-    /// climbs to the account. (Source: Organick 1972.)
+    /// quota, else `NoRecord` where all records of its volume are in use and no other volume has room for it. It looks
+    /// at one place of the file map, climbs to the account, and may look at each volume once. (Source: Organick 1972.)
     pub fn room_refusal(&self, process: u32, reference: &Reference) -> Option<Reply>
-        requires { process < length self.now.segs.links.known }
+        requires still { self.now.segs.moving ≡ None }
+        requires process { process < length self.now.segs.links.known }
         ensures tables { (stored : List (ℕ × ℕ)) → Counts self.now.accounts stored
             → result ≡ room_by self.now stored reference.now (target self.now process reference.now) }
         ensures shown { (p : Plan) (s : Flat) → Shows D.pages p s self.now
@@ -144,7 +159,8 @@ impl<D: Drive> Store<D> {
 
     /// What refuses a reference of a process.
     pub(crate) fn reference_refusal(&self, process: u32, reference: &Reference) -> Option<Reply>
-        requires { process < length self.now.segs.links.known }
+        requires still { self.now.segs.moving ≡ None }
+        requires process { process < length self.now.segs.links.known }
         ensures { (p : Plan) (s : Flat) → Shows D.pages p s self.now
             → result ≡ refusal (reply_to_reference p s process reference.now) }
     {

@@ -1,6 +1,6 @@
 //! The length of a segment is changed, and its words are cut off.
 
-ghost use Rattle.std.specs.Prelude.{◌≡◌, ◌≤◌, ◌<◌, ℕ, IsSome, is_some, true, false};
+ghost use Rattle.std.specs.Prelude.{◌≡◌, ◌≤◌, ◌<◌, ℕ, IsSome, is_some, true, false, None};
 ghost use Rattle.vtoc.specs.Vtoc.{entry_at, record_at};
 ghost use Rattle.script.specs.Plans.{Plan};
 ghost use Rattle.flat_model.specs.Pages.{is_stored_from};
@@ -11,7 +11,7 @@ ghost use Rattle.storage_ops.specs.Cut.{HasLengthSet};
 ghost use Rattle.storage_ops.specs.Shown.{IsInactiveAt, Shows, answered, is_filed, is_there, refusal};
 
 use crate::replies::refusal;
-use crate::store::Store;
+use crate::store::{Store, volumes_at_rest};
 use book::Reply;
 use mnames::Path;
 use tree_commands::{pages_of, segment_at, truncate_reply};
@@ -36,7 +36,8 @@ fn names_from(vtoc: &Vtoc, entry: u32, from: u32, to: u32) -> bool
 impl<D: Drive> Store<D> {
     /// Whether a page of a node is stored whose number is this one or above. It looks at the pages of that node alone.
     fn stores_from(&self, uid: u32, from: u32) -> bool
-        requires { is_there self.now.accounts.nodes uid ≡ true }
+        requires still { self.now.segs.moving ≡ None }
+        requires there { is_there self.now.accounts.nodes uid ≡ true }
         ensures answer { (p : Plan) (s : Flat) → Shows D.pages p s self.now
             → result ≡ is_stored_from s.stored uid from }
         ensures none { result ≡ false → (q : ℕ) → is_filed self.now.accounts self.now.segs.pages.volumes.vtocs uid q
@@ -45,7 +46,7 @@ impl<D: Drive> Store<D> {
         let home = self.home(uid);
         let length = pages_of(&self.accounts, uid);
         names_from(
-            self.segs.pages().volumes().vtoc(home.volume),
+            volumes_at_rest(&self.segs).vtoc(home.volume),
             home.entry,
             from,
             length,
@@ -62,6 +63,7 @@ impl<D: Drive> Store<D> {
     /// What refuses the change of a segment's length: what the path leads to; else `Beyond` exactly where a page is
     /// stored whose number is the new length or above. (Source: Bensoussan, Clingen and Daley 1972.)
     pub fn length_refusal(&self, path: &Path, pages: u32) -> Option<Reply>
+        requires still { self.now.segs.moving ≡ None }
         ensures { (p : Plan) (s : Flat) → Shows D.pages p s self.now
             → result ≡ refusal (length_reply s path.now pages) }
     {
@@ -80,6 +82,7 @@ impl<D: Drive> Store<D> {
     /// Sets the length of a segment, in pages, and gives `Done`, or what refuses it. The segment must not be active.
     /// (Source: Bensoussan, Clingen and Daley 1972.)
     pub fn set_length(&mut self, path: &Path, pages: u32) -> Reply
+        requires still { self.old.segs.moving ≡ None }
         requires inactive { IsInactiveAt self.old.accounts self.old.segs path.now }
         requires most { pages ≤ 256 }
         ensures answer { (p : Plan) (s : Flat) → Shows D.pages p s self.old

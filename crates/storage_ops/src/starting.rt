@@ -1,6 +1,6 @@
 //! The root alone.
 
-ghost use Rattle.std.specs.Prelude.{◌≡◌, IfOk, Some, length, map, sum};
+ghost use Rattle.std.specs.Prelude.{◌≡◌, IfOk, Some, length, map, sum, None};
 ghost use Rattle.accounts.specs.Maps.{root_alone};
 ghost use Rattle.page_control.specs.Effects.{after_asked};
 ghost use Rattle.page_control.specs.Plain.{plain};
@@ -42,6 +42,7 @@ fn fresh_segs<D: Drive>(
       pages = empty_frames script.now.frames volumes;
       ast = no_segments script.now.pools;
       links = no_links (sum script.now.pools) (length script.now.processes);
+      moving = None;
     }) }
 {
     let processes = script.processes();
@@ -69,6 +70,7 @@ impl<D: Drive> Store<D> {
         ensures free { IfOk result (λ t. AreFree t.segs.pages.core) }
         ensures inactive { IfOk result (λ t. t.segs.ast ≡ no_segments script.now.pools) }
         ensures drives { IfOk result (λ t. t.segs.pages.volumes.drives ≡ volumes.drives) }
+        ensures still { IfOk result (λ t. t.segs.moving ≡ None) }
     {
         // This call tells the ranges of the script's numbers.
         let _processes = script.processes();

@@ -1,4 +1,4 @@
-ghost use Rattle.std.specs.Prelude.{◌≡◌, ◌<◌, length, map, true};
+ghost use Rattle.std.specs.Prelude.{◌≡◌, ◌<◌, length, map, None, true};
 ghost use Rattle.page_control.specs.Plain.{plain};
 ghost use Rattle.seg_control.specs.Kept.{IsHomeOf, IsKept};
 ghost use Rattle.storage_ops.specs.Shown.{IsStore, home_of, is_there};
@@ -9,7 +9,7 @@ use mnames::Who;
 use page_control::Home;
 use seg_control::Segs;
 use std::marker::Model;
-use volumes::Drive;
+use volumes::{Drive, Volumes};
 
 /// The directory tree with its accounts, over segment control on drives of one kind, and for whom each process runs
 /// (Bensoussan, Clingen and Daley 1972; Organick 1972).
@@ -86,5 +86,13 @@ pub(crate) fn look<D: Drive>(segs: &Segs<D>)
     ensures parts { HasParts (map D.pages segs.now.pages.volumes.drives) segs.now.pages.volumes.records
         segs.now.pages.volumes.vtocs }
 {
-    segs.pages().volumes().promise();
+    let _pages = segs.pages();
+}
+
+/// The volumes, while no segment moves.
+pub(crate) fn volumes_at_rest<D: Drive>(segs: &Segs<D>) -> &Volumes<D>
+    requires { segs.now.moving ≡ None }
+    ensures { result.now ≡ segs.now.pages.volumes }
+{
+    segs.pages().volumes()
 }

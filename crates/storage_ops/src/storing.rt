@@ -26,9 +26,10 @@ ghost use Rattle.script.specs.Plans.{Plan};
 ghost use Rattle.flat_model.specs.Legal.{MayRelease};
 ghost use Rattle.flat_model.specs.Store.{Store as Flat};
 ghost use Rattle.storage_ops.specs.Paged.{IsKnownAs, IsPageMade, IsSettled, MayCreate, done_or, page_left, page_made};
+ghost use Rattle.storage_ops.specs.Rooms.{move_target};
 ghost use Rattle.storage_ops.specs.Shown.{Shows, ShowsTree, pages_in};
 
-use crate::store::{Store, look};
+use crate::store::{Store, look, volumes_at_rest};
 use accounts::Accounts;
 use book::Reply;
 use mword::Word;
@@ -56,6 +57,7 @@ impl<D: Drive> Store<D> {
     /// # Errors
     /// `Failed` only where the faults of its drive rose; the page is still leaving then, and what is shown stays.
     pub fn evict(&mut self, uid: u32, home: Home, f: u32) -> Result<Left, Failed>
+        requires still { self.old.segs.moving ≡ None }
         requires active { IsActive self.old.segs.ast.entries uid }
         requires bound { is_bound (frame_at self.old.segs.pages.core f) ≡ true }
         requires own { uid_in (frame_at self.old.segs.pages.core f) ≡ uid }
@@ -107,7 +109,7 @@ impl<D: Drive> Store<D> {
     ///
     /// # Errors
     /// `Quota` exactly where the account has used all of its quota, else `NoRecord` exactly where all records of the
-    /// volume are in use. Nothing has changed then.
+    /// volume are in use; no other volume has room for the segment then. Nothing has changed then.
     pub fn create(
         &mut self,
         process: u32,
@@ -116,8 +118,11 @@ impl<D: Drive> Store<D> {
         w: Word,
         f: u32,
     ) -> Result<(), Reply>
+        requires still { self.old.segs.moving ≡ None }
         requires process { process < length self.old.segs.links.known }
         requires may { MayCreate self.old process number offset f }
+        requires room { (uid : ℕ) → uid_of (kst_at self.old.segs.links.known process) number ≡ Some uid
+            → move_target self.old uid ≡ None }
         requires word { w ≢ 0 }
         ensures answer { (p : Plan) (s : Flat) (n : Node) → Shows D.pages p s self.old
             → IsKnownAs s process number n → result ≡ done_or (room_reply p s n Reply.Done) }
@@ -137,12 +142,14 @@ impl<D: Drive> Store<D> {
 
     /// Makes a page of an active segment with one word in it.
     fn store_page(&mut self, uid: u32, page: u32, at: u32, w: Word, f: u32) -> Result<(), Reply>
+        requires still { self.old.segs.moving ≡ None }
         requires active { IsActive self.old.segs.ast.entries uid }
         requires page { page < pages_in self.old.accounts.nodes uid }
         requires null { word_of self.old.segs.ast uid page ≡ Null }
         requires frame { f < length self.old.segs.pages.core.frames }
         requires free { frame_at self.old.segs.pages.core f ≡ Free }
         requires at { at < 1024 }
+        requires room { move_target self.old uid ≡ None }
         ensures answer { (p : Plan) (s : Flat) (n : Node) → Shows D.pages p s self.old
             → node_in s.nodes uid ≡ Some n → result ≡ done_or (room_reply p s n Reply.Done) }
         ensures made { OnOk result (IsPageMade D.pages self.old self.new uid page f at w) }
@@ -166,10 +173,11 @@ impl<D: Drive> Store<D> {
 
     /// Whether all records of a volume are in use.
     pub(crate) fn is_full(&self, volume: u32) -> bool
-        requires { volume < length self.now.segs.pages.volumes.drives }
+        requires still { self.now.segs.moving ≡ None }
+        requires volume { volume < length self.now.segs.pages.volumes.drives }
         ensures { result ≡ is_full self.now.segs.pages.volumes.records volume }
     {
-        let volumes = self.segs.pages().volumes();
+        let volumes = volumes_at_rest(&self.segs);
         volumes.taken(volume) == volumes.size(volume)
     }
 }

@@ -27,6 +27,7 @@ impl<D: Drive> Store<D> {
     /// What refuses a command that makes no reference; None for a reference, as for the end.
     #[tactic(auto, using(crate::proofs::Fresh::volume_there))]
     fn tree_refusal(&self, process: u32, command: &Command) -> Option<Reply>
+        requires still { self.now.segs.moving ≡ None }
         requires process { process < length self.now.segs.links.known }
         requires ranges { is_command (length self.now.segs.pages.volumes.drives) command.now ≡ true }
         ensures { (p : Plan) (s : Flat) → Shows D.pages p s self.now
@@ -52,6 +53,7 @@ impl<D: Drive> Store<D> {
     /// segment, and then by want of room for a page more; each try of an `await` is a read. (Source: Bensoussan,
     /// Clingen and Daley 1972; Organick 1972.)
     pub fn test(&self, process: u32, command: &Command) -> Option<Reply>
+        requires still { self.now.segs.moving ≡ None }
         requires process { process < length self.now.segs.links.known }
         requires ranges { is_command (length self.now.segs.pages.volumes.drives) command.now ≡ true }
         ensures { (p : Plan) (s : Flat) → Shows D.pages p s self.now

@@ -1,4 +1,4 @@
-use Rattle.std.proofs.Common.{ℕ, sym, ap, subst, ◌∙◌, ◌≤◌, sum, List}
+use Rattle.std.proofs.Common.{ℕ, sym, ap, subst, ◌∙◌, ◌≤◌, sum, List, None}
 use Rattle.active_segs.specs.Active.{no_segments}
 use Rattle.page_control.specs.Plain.{Paging, plain}
 use Rattle.seg_control.specs.Control.{Control}
@@ -37,6 +37,7 @@ fresh_control pages pools processes = record {
   pages = pages;
   ast = no_segments pools;
   links = no_links (sum pools) processes;
+  moving = None;
 }
 
 pub returns : goal.returns

@@ -9,8 +9,8 @@ use Rattle.storage_ops.proofs.ChainDown.{may_activate, shown_next, store_next}
 use Rattle.storage_ops.proofs.Tables.{all_drives}
 use Rattle.storage_ops.proofs.store.Store.activate_next.Goals as goal
 
-pub activate_next-requires : goal.activate_next-requires
-activate_next-requires g c =
+pub activate_next-requires-clause-chain : goal.activate_next-requires-clause-chain
+activate_next-requires-clause-chain g c =
     let t = held c.self.view_is in
     let down = subst (λ (x : Storage g.row.D.Denot). IsChainDown x.accounts c.args.chain.now) (sym c.self.view_is)
     c.requires.chain in

@@ -88,7 +88,7 @@ returns-in-Some-clause-rest g c =
     let n = record t { segs = c.cut_from.new.self } in
     subst (λ (x : Storage g.row.D.Denot). Unstores x n c.args.uid (λ q. false)) c.self.view_is
     (unstores_cut t n c.args.uid refl c.cut_from.ensures.ast c.cut_from.ensures.bindings c.cut_from.ensures.reads
-    c.cut_from.ensures.links refl c.cut_from.ensures.volumes)
+    c.cut_from.ensures.links c.cut_from.ensures.moving refl c.cut_from.ensures.volumes)
 
 pub returns-in-Some-clause-shown : goal.returns-in-Some-clause-shown
 returns-in-Some-clause-shown g c = λ p s h.

@@ -34,8 +34,8 @@ set_length-requires-clause-most g c =
     (subst (λ (x : Command). is_command (length c.args.self.now.segs.pages.volumes.drives) x ≡ true) c.in-Length.is
     c.requires.ranges)
 
-pub truncate-requires : goal.truncate-requires
-truncate-requires g c = subst (λ (x : Command). IsReady c.args.self.now c.args.process x) c.in-Truncate.is
+pub truncate-requires-clause-past : goal.truncate-requires-clause-past
+truncate-requires-clause-past g c = subst (λ (x : Command). IsReady c.args.self.now c.args.process x) c.in-Truncate.is
     c.requires.ready
 
 pub returns-in-MkDir-clause-rest : goal.returns-in-MkDir-clause-rest

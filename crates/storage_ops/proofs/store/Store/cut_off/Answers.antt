@@ -14,7 +14,7 @@ use Rattle.storage_ops.proofs.store.Store.cut_off.Goals as goal
 
 pub cut_page-requires-clause-past : goal.cut_page-requires-clause-past
 cut_page-requires-clause-past g c = taken_past c.args.self.now c.drop_from-else-words-eq0.new.self c.args.uid
-    c.args.words c.drop_from-else-words-eq0.ensures.rest c.requires
+    c.args.words c.drop_from-else-words-eq0.ensures.rest c.requires.past
 
 pub returns-then-words-eq0-clause-pages : goal.returns-then-words-eq0-clause-pages
 returns-then-words-eq0-clause-pages g c =

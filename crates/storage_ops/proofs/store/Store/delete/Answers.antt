@@ -48,7 +48,7 @@ returns-then-quota_of-gt0-clause-answer g c = λ p s h.
 pub make_inactive-requires-clause-ready : goal.make_inactive-requires-clause-ready
 make_inactive-requires-clause-ready g c =
     let ready = subst (λ (x : Storage g.row.D.Denot). IsRemovableAt x.accounts x.segs c.args.path.now)
-    (sym c.self.view_is) c.requires in
+    (sym c.self.view_is) c.requires.ready in
     subst (λ (x : Storage g.row.D.Denot). IsRemovable x.segs c.in-Ok.node.now.uid) c.self.view_is
     (ready (as_term (quota_in c.self.inside.accounts.nodes) c.in-Ok.node.now) c.in-Ok.ensures.ok)
 

@@ -75,7 +75,7 @@ returns g c =
       rest = unstores_one g.D.Drive.pages t n c.args.uid c.args.page c.args.home
           (active_held c.self.view_is c.args.uid c.requires.may.active) c.look.ensures.kept.places (may g kept)
           (away g kept) c.credit.ensures c.drop_page.ensures.word c.drop_page.ensures.effect c.drop_page.ensures.reads
-          c.drop_page.ensures.links refl c.drop_page.ensures.drives;
+          c.drop_page.ensures.links c.drop_page.ensures.moving refl c.drop_page.ensures.drives;
       shown = λ p s h. shown_dropped g.D.Drive.pages p s t n c.args.uid c.args.page (done g c)
           c.self.invariant.housed (ap (λ (l : Links). l.known) c.drop_page.ensures.links) refl h;
       exact = dropped_exactly g.D.Drive.pages t n c.args.uid c.args.page c.args.home

@@ -1,6 +1,5 @@
 use Rattle.std.proofs.Common.{is_some, ap, ◌∙◌}
 use Rattle.volumes.specs.Volumes.{Vols, vtoc_at}
-use Rattle.page_control.specs.Plain.{Paging}
 use Rattle.storage_ops.specs.Shown.{Storage, is_filed}
 use Rattle.storage_ops.proofs.Held.{home_held, there_held}
 use Rattle.storage_ops.proofs.Lengths.{record_told}
@@ -11,7 +10,7 @@ returns g c =
     let there = there_held c.self.view_is c.args.uid c.requires.there in
     let home = home_held c.self.view_is c.args.uid c.home-home.result c.home-home.ensures.home in
     let table = c.vtoc-vtoc.ensures ∙ ap (λ (x : Vols g.row.D.Denot). vtoc_at x c.home-home.result.volume)
-    (c.volumes.ensures.volumes ∙ ap (λ (x : Paging g.row.D.Denot). x.volumes) c.pages.ensures.pages) in
+    c.volumes_at_rest.ensures in
     c.is_some.ensures ∙ ap is_some c.file_map.ensures
     ∙ record_told c.self.inside.accounts c.self.inside.segs.pages.volumes.vtocs c.args.uid c.home-home.result
     c.vtoc-vtoc.result.now there home table c.args.page

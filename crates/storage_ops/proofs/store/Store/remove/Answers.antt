@@ -39,7 +39,7 @@ returns-clause-rest g c =
     let n = record t { accounts = c.remove.new.self; segs = c.erase.new.self } in
     subst (λ (x : Storage g.row.D.Denot). KeepsRest x n) c.self.view_is
     (rest_erased g.D.Drive.pages t n c.home-home.result c.erase.ensures.effect c.erase.ensures.ast
-    c.erase.ensures.links refl c.erase.ensures.drives)
+    c.erase.ensures.links c.erase.ensures.moving refl c.erase.ensures.drives)
 
 pub returns-clause-shown : goal.returns-clause-shown
 returns-clause-shown g c = λ p s h.

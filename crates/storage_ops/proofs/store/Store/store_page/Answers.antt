@@ -1,8 +1,10 @@
-use Rattle.std.proofs.Common.{◌≡◌, ℕ, true, false, cond, List, Err, set, replicate, refl, sym, ap, subst, ◌∙◌, Some}
+use Rattle.std.proofs.Common.{◌≡◌, ℕ, Bool, true, false, cond, ◌&&◌, List, Err, set, replicate, refl, sym, ap, subst, ◌∙◌, Some}
+use Rattle.std.specs.Prelude.{is_none}
 use Rattle.book.specs.declared.replies.Reply.TheVariants as reply
 use Rattle.std.proofs.lemmas.Bool.{eq-eqb}
 use Rattle.tree_model.specs.Tree.{Node, volume_in, node_in}
-use Rattle.flat_model.specs.References.{is_used_up, is_volume_full}
+use Rattle.flat_model.specs.References.{is_out_of_room, is_used_up, is_volume_full}
+use Rattle.flat_model.specs.Rooms.{room_for}
 use Rattle.page_control.specs.declared.Home.{Home}
 use Rattle.page_control.specs.Plain.{plain}
 use Rattle.page_control.specs.Counts.{is_full, one_more, size, taken}
@@ -10,6 +12,7 @@ use Rattle.page_control.specs.Effects.{created, next_record}
 use Rattle.page_control.specs.Picture.{ChangesStored, ChangesWords}
 use Rattle.seg_control.specs.Control.{Links}
 use Rattle.storage_ops.specs.Paged.{IsPageMade}
+use Rattle.storage_ops.specs.Rooms.{move_target}
 use Rattle.storage_ops.specs.Shown.{IsStore, Shows, Storage}
 use Rattle.flat_model.proofs.NodeLaws.{uid_found, volume_found}
 use Rattle.script.specs.Plans.{Plan}
@@ -18,6 +21,7 @@ use Rattle.tree_model.specs.Trees.{has_segment}
 use Rattle.storage_ops.proofs.Held.{active_held, held, home_held, length_held, shown_held, word_held}
 use Rattle.storage_ops.proofs.PageFacts.{node_segment, word_within}
 use Rattle.storage_ops.proofs.PageMade.{shown_made, store_made}
+use Rattle.storage_ops.proofs.RoomsFound.{none_roomy, room_shown}
 use Rattle.storage_ops.proofs.PageRoom.{all_taken, full_told, no_quota, no_record, on_ok, room, used_told}
 use Rattle.storage_ops.proofs.store.Store.store_page.Given.{Over}
 use Rattle.storage_ops.proofs.store.Store.store_page.Goals.{After-is_full, After-look}
@@ -57,10 +61,19 @@ returns-then-is_full-clause-answer g c = λ p s n h found.
     let home = home_held c.self.view_is c.args.uid c.home-home.result c.home-home.ensures.home in
     let shown = shown_held c.self.view_is g.D.Drive.pages p s h in
     let uid = uid_found s.nodes c.args.uid n found in
+    let used_up : is_full t.segs.pages.volumes.records (volume_in t.accounts.nodes c.args.uid) ≡ true =
+    ap (λ (x : Home). is_full t.segs.pages.volumes.records x.volume) (sym home)
+    ∙ ap (λ (x : Storage g.row.D.Denot). is_full x.segs.pages.volumes.records c.home-home.result.volume) c.self.view_is
+    ∙ sym c.is_full.ensures ∙ c.if-is_full.true in
     ap Err (c.full_reply.ensures s shown.tree ∙ ap (λ (x : ℕ). cond (is_used_up s x) reply.Quota reply.NoRecord)
     (sym uid))
-    ∙ no_record p s n (is_used_up s n.uid) (is_volume_full p s n.volume) refl refl
+    ∙ no_record p s n (is_used_up s n.uid) (is_out_of_room p s n) refl refl
+    (ap (λ (z : Bool). z && is_none (room_for p s n.uid))
     (full g (goal.at.returns-then-is_full-clause-answer g c).After-is_full p s n shown found ∙ c.if-is_full.true)
+    ∙ ap is_none (ap (room_for p s) uid
+    ∙ sym (room_shown g.D.Drive.pages p s t shown c.self.invariant c.args.uid c.look.ensures.parts)
+    ∙ none_roomy t c.args.uid used_up (ap (λ (x : Storage g.row.D.Denot). move_target x c.args.uid) c.self.view_is
+    ∙ c.requires.room)))
 
 pub returns-then-is_err-clause-answer : goal.returns-then-is_err-clause-answer
 returns-then-is_err-clause-answer g c = λ p s n h found.
@@ -141,6 +154,7 @@ returns-clause-made g c =
       drives = c.create_page.ensures.drives;
       charged = on_ok c.charge.result c.if-is_err.ensures.value c.charge.ensures.ok;
       links = c.create_page.ensures.links;
+      moving = c.create_page.ensures.moving;
       whos = refl;
     })
 

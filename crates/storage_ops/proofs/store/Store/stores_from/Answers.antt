@@ -1,7 +1,6 @@
 use Rattle.std.proofs.Common.{◌≡◌, ◌≤◌, ◌<◌, ℕ, is_some, false, ap, subst, ◌∙◌}
 use Rattle.vtoc.specs.Vtoc.{record_at}
 use Rattle.volumes.specs.Volumes.{Vols, vtoc_at}
-use Rattle.page_control.specs.Plain.{Paging}
 use Rattle.storage_ops.specs.Shown.{Storage, is_filed}
 use Rattle.storage_ops.proofs.Held.{held, home_held, shown_held, there_held}
 use Rattle.storage_ops.proofs.Lengths.{from_told, within_told}
@@ -10,11 +9,11 @@ use Rattle.storage_ops.proofs.store.Store.stores_from.Goals as goal
 pub returns-clause-answer : goal.returns-clause-answer
 returns-clause-answer g c = λ p s h.
     let here = held c.self.view_is in
-    let there = there_held c.self.view_is c.args.uid c.requires in
+    let there = there_held c.self.view_is c.args.uid c.requires.there in
     let home = home_held c.self.view_is c.args.uid c.home-home.result c.home-home.ensures.home in
     let shown = shown_held c.self.view_is g.D.Drive.pages p s h in
     let table = c.vtoc.ensures ∙ ap (λ (x : Vols g.row.D.Denot). vtoc_at x c.home-home.result.volume)
-    (c.volumes.ensures.volumes ∙ ap (λ (x : Paging g.row.D.Denot). x.volumes) c.pages.ensures.pages) in
+    c.volumes_at_rest.ensures in
     from_told here.accounts here.segs.pages.volumes.vtocs c.args.uid c.home-home.result c.vtoc.result.now there home
     table
     s.stored c.args.from c.names_from.result shown.pages.stored c.self.invariant.counted c.names_from.ensures.some
@@ -25,10 +24,10 @@ returns-clause-answer g c = λ p s h.
 pub returns-clause-none : goal.returns-clause-none
 returns-clause-none g c = λ off q on.
     let here = held c.self.view_is in
-    let there = there_held c.self.view_is c.args.uid c.requires in
+    let there = there_held c.self.view_is c.args.uid c.requires.there in
     let home = home_held c.self.view_is c.args.uid c.home-home.result c.home-home.ensures.home in
     let table = c.vtoc.ensures ∙ ap (λ (x : Vols g.row.D.Denot). vtoc_at x c.home-home.result.volume)
-    (c.volumes.ensures.volumes ∙ ap (λ (x : Paging g.row.D.Denot). x.volumes) c.pages.ensures.pages) in
+    c.volumes_at_rest.ensures in
     within_told here.accounts here.segs.pages.volumes.vtocs c.args.uid c.home-home.result c.vtoc.result.now there
     home table
     c.args.from c.names_from.result c.self.invariant.counted

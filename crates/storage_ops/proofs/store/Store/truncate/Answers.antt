@@ -34,10 +34,10 @@ pub returns-in-Err-clause-effect : goal.returns-in-Err-clause-effect
 returns-in-Err-clause-effect g c = λ p s h.
     rw (segment_refuses c.self.inside.accounts.nodes c.args.path.now c.in-Err.reply c.in-Err.ensures.err) h
 
-pub cut_off-requires : goal.cut_off-requires
-cut_off-requires g c =
+pub cut_off-requires-clause-past : goal.cut_off-requires-clause-past
+cut_off-requires-clause-past g c =
     let past = subst (λ (x : Storage g.row.D.Denot). IsTakenPastAt x.accounts x.segs c.args.path.now c.args.words)
-    (sym c.self.view_is) c.requires in
+    (sym c.self.view_is) c.requires.past in
     subst (λ (x : Storage g.row.D.Denot). IsTakenPast x.segs c.in-Ok.node.now.uid c.args.words) c.self.view_is
     (past (as_term (quota_in c.self.inside.accounts.nodes) c.in-Ok.node.now) c.in-Ok.ensures.ok)
 

@@ -4,24 +4,21 @@ use Rattle.quota_cells.specs.Scratch.{charge_answer}
 use Rattle.book.specs.declared.replies.Reply.TheVariants as reply
 use Rattle.tree_model.specs.Tree.{quota_in}
 use Rattle.dir_tree.specs.Nodes.{as_term}
-use Rattle.flat_model.proofs.NodeLaws.{volume_found}
-use Rattle.page_control.specs.declared.Home.{Home}
-use Rattle.page_control.specs.Counts.{is_full}
 use Rattle.storage_ops.specs.References.{is_spent, want_of_room}
 use Rattle.storage_ops.specs.Shown.{Storage}
 use Rattle.std.specs.Result.{is_err}
 use Rattle.storage_ops.proofs.PageRoom.{spent_told}
 use Rattle.storage_ops.proofs.Refusals.{want_told}
 use Rattle.storage_ops.proofs.store.Store.want_of_room.Given.{Over}
-use Rattle.storage_ops.proofs.store.Store.want_of_room.Goals.{After-is_full}
+use Rattle.storage_ops.proofs.store.Store.want_of_room.Goals.{After-is_out_of_room}
 use Rattle.storage_ops.proofs.store.Store.want_of_room.Goals as goal
 
--- of an account that isn't spent, whether the volume of the node is full tells all
-told : (g : Over) (c : After-is_full g) (stored : List (ℕ × ℕ)) → Counts c.args.self.now.accounts stored
-    → is_err c.may_charge.result ≡ false → (full : Bool) → c.is_full.result ≡ full
-    → cond full (Some reply.NoRecord) None
+-- of an account that isn't spent, whether there is no room for the node tells all
+told : (g : Over) (c : After-is_out_of_room g) (stored : List (ℕ × ℕ)) → Counts c.args.self.now.accounts stored
+    → is_err c.may_charge.result ≡ false → (out : Bool) → c.is_out_of_room.result ≡ out
+    → cond out (Some reply.NoRecord) None
     ≡ want_of_room c.args.self.now stored (as_term (quota_in c.args.self.now.accounts.nodes) c.args.node.now)
-told g c stored counts room full is =
+told g c stored counts room out is =
     let now = c.args.self.now in
     let n = as_term (quota_in now.accounts.nodes) c.args.node.now in
     let spent : is_spent now.accounts.nodes stored n.uid ≡ false =
@@ -29,15 +26,14 @@ told g c stored counts room full is =
     (c.may_charge.ensures stored (subst (λ (x : Storage g.row.D.Denot). Counts x.accounts stored) (sym c.self.view_is)
     counts) ∙ ap (λ (x : Storage g.row.D.Denot). charge_answer x.accounts.nodes stored n.uid) c.self.view_is))
     ∙ room in
-    let volume : n.volume ≡ c.home-home.result.volume = volume_found now.accounts.nodes n.uid n c.requires.there
-    ∙ ap (λ (h : Home). h.volume) (sym c.home-home.ensures.home) in
-    sym (want_told now stored n false full spent
-    (ap (is_full now.segs.pages.volumes.records) volume ∙ sym c.is_full.ensures ∙ is))
+    sym (want_told now stored n false out spent (sym c.is_out_of_room.ensures ∙ is))
 
-pub returns-then-is_full : goal.returns-then-is_full
-returns-then-is_full g c = λ stored counts. told g (goal.at.returns-then-is_full g c).After-is_full stored counts
-    (sym c.if-is_err.ensures.value) true c.if-is_full.true
+pub returns-then-is_out_of_room : goal.returns-then-is_out_of_room
+returns-then-is_out_of_room g c = λ stored counts.
+    told g (goal.at.returns-then-is_out_of_room g c).After-is_out_of_room stored counts
+    (sym c.if-is_err.ensures.value) true c.if-is_out_of_room.true
 
-pub returns-else-is_full : goal.returns-else-is_full
-returns-else-is_full g c = λ stored counts. told g (goal.at.returns-else-is_full g c).After-is_full stored counts
-    (sym c.if-is_err.ensures.value) false c.if-is_full.false
+pub returns-else-is_out_of_room : goal.returns-else-is_out_of_room
+returns-else-is_out_of_room g c = λ stored counts.
+    told g (goal.at.returns-else-is_out_of_room g c).After-is_out_of_room stored counts
+    (sym c.if-is_err.ensures.value) false c.if-is_out_of_room.false

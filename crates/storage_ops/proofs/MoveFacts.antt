@@ -1,0 +1,116 @@
+-- What the calls of a move ask and leave, by what is true of a store.
+use Rattle.std.proofs.Common.{◌≡◌, ℕ, ◌+◌, ◌-◌, ◌<◌, ◌≤◌, Bool, true, false, not, ◌&&◌, List, [], ◌∷◌}
+use Rattle.std.proofs.Common.{Option, Some, None, get_or, length, map, set, refl, sym, ap, ◌∙◌, arith, inl, inr}
+use Rattle.std.specs.Prelude.{nat_lt}
+use Rattle.std.proofs.lemmas.Bool.{cases_eq, cases_lt, eq-eqb}
+use Rattle.std.proofs.lemmas.Bool.Decides.{nat_tests}
+use Rattle.std.proofs.lemmas.List.{get_or-set_other, get_or-set_same, get_or_past, length-set}
+use Rattle.bitmap.specs.Bitmap.{least_free}
+use Rattle.volumes.specs.Volumes.{HasParts, Vols, records_at, used_at, vtoc_at}
+use Rattle.active_segs.specs.Active.{IsActive}
+use Rattle.accounts.specs.Maps.{count_of}
+use Rattle.page_control.specs.Plain.{plain}
+use Rattle.page_control.specs.Counts.{entries, size}
+use Rattle.seg_mover.specs.declared.Mover.{Mover}
+use Rattle.seg_mover.specs.Homes.{map_at}
+use Rattle.seg_mover.specs.Moves.{CanBegin, begun}
+use Rattle.seg_mover.specs.Records.{flags_given, flags_taken, with_taken}
+use Rattle.seg_control.specs.Control.{Control}
+use Rattle.seg_control.specs.Kept.{IsKept}
+use Rattle.seg_control.specs.Moving.{move_committed, pair_of}
+use Rattle.storage_ops.specs.Rooms.{is_roomy}
+use Rattle.storage_ops.specs.Shown.{IsStore, Storage, home_of, is_there, named_at}
+use Rattle.storage_ops.proofs.Paged.{active_there}
+use Rattle.storage_ops.proofs.Tables.{all_drives, homed_volume}
+
+-- ---- a move may begin
+
+roomy_parts : (a b c : Bool) → (not a && (b && c)) ≡ true → (a ≡ false) × (b ≡ true) × (c ≡ true)
+roomy_parts true b c e = cc
+roomy_parts false true true e = (refl, refl, refl)
+roomy_parts false true false e = cc
+roomy_parts false false c e = cc
+
+-- a free record for each stored page
+room_enough : (pages all in_use : ℕ) → nat_lt pages (all - in_use) ≡ true → in_use + pages ≤ all
+room_enough pages all in_use e = (let lt : pages < all - in_use = grind (arith, nat_tests) in omega (arith, lt))
+
+module _ {D : Type 0} (drive : D → List (List ℕ)) (t : Storage D) (u : ℕ)
+    (kept : IsKept (plain drive t.segs.pages) t.segs.ast t.segs.links)
+    (store : IsStore (plain drive t.segs.pages) t.segs.ast t.segs.links t.accounts t.whos)
+    (active : IsActive t.segs.ast.entries u) where
+  there : is_there t.accounts.nodes u ≡ true
+  there = active_there (plain drive t.segs.pages) t.segs.ast t.segs.links t.accounts t.whos kept store u active
+
+  pub may_begin : HasParts (map drive t.segs.pages.volumes.drives) t.segs.pages.volumes.records
+      t.segs.pages.volumes.vtocs → (to : ℕ) → to < length t.segs.pages.volumes.drives
+      → is_roomy t.segs.pages.volumes (home_of t.accounts u).volume (count_of t.accounts u) to ≡ true
+      → CanBegin t.segs.pages.volumes u (pair_of (home_of t.accounts u)) to
+  may_begin parts to within roomy = (
+      let has = roomy_parts _ _ _ roomy in
+      let used = store.housed.homes u there in
+      let on = homed_volume t.segs.pages.volumes.vtocs (home_of t.accounts u) u used in
+      let all = all_drives drive t.segs.pages.volumes parts in
+      let named : named_at t.segs.pages.volumes.vtocs (home_of t.accounts u) ≡ count_of t.accounts u =
+      store.counted.counts u there in
+      let enough = room_enough (count_of t.accounts u) (length (records_at t.segs.pages.volumes to))
+      (used_at t.segs.pages.volumes to) has.1 in
+      record {
+        source = omega (arith, on, all);
+        target = within;
+        other = λ same. (let clash : true ≡ false = sym (eq-eqb to (home_of t.accounts u).volume (sym same))
+            ∙ has.0 in cc);
+        used = used;
+        entry = lt_of _ _ has.2;
+        room = omega (arith, named, enough);
+        short = store.taken.short to;
+      })
+    where
+      lt_of : (n m : ℕ) → nat_lt n m ≡ true → n < m
+      lt_of n m e = grind (arith, nat_tests)
+
+-- ---- a move leaves the sizes of the volumes
+
+-- a table in place of one of the same length
+size_set : {X : Type 0} (xs : List (List X)) (v : ℕ) (ys : List X) → length ys ≡ length (get_or xs v []) → (w : ℕ)
+    → length (get_or (set xs v ys) w []) ≡ length (get_or xs w [])
+size_set xs v ys same w = elim (cases_eq w v) [
+  | inr ne ↦ ap length (get_or-set_other xs v w ys [] ne)
+  | inl is ↦ elim (cases_lt v (length xs)) [
+    | inl lt ↦ ap (λ (n : ℕ). length (get_or (set xs v ys) n [])) is ∙ ap length (get_or-set_same xs v ys [] lt) ∙ same
+        ∙ ap (λ (n : ℕ). length (get_or xs n [])) (sym is)
+    | inr past ↦
+        (let long : length (set xs v ys) ≡ length xs = length-set xs v ys in
+        ap length (get_or_past (set xs v ys) w [] (omega (arith, long, past, is)))
+        ∙ sym (ap length (get_or_past xs w [] (omega (arith, past, is)))))
+  ]
+]
+
+taken_length : (flags : List Bool) (places : List (Option ℕ)) → length (flags_taken flags places) ≡ length flags
+taken_length flags [] = refl
+taken_length flags (None ∷ places) = taken_length flags places
+taken_length flags (Some r ∷ places) = taken_length (with_taken flags (least_free flags)) places ∙ one (least_free flags)
+  where
+    one : (o : Option ℕ) → length (with_taken flags o) ≡ length flags
+    one None = refl
+    one (Some q) = length-set flags q true
+
+given_length : (flags : List Bool) (places : List (Option ℕ)) → length (flags_given flags places) ≡ length flags
+given_length flags [] = refl
+given_length flags (None ∷ places) = given_length flags places
+given_length flags (Some r ∷ places) = given_length (set flags r false) places ∙ length-set flags r false
+
+module _ {D : Type 0} (c : Control D) (m : Mover) where
+  abbrev vols : Vols D
+  vols = begun c.pages.volumes m.uid m.from m.to.0
+
+  pub committed_sizes : (v : ℕ) → size (move_committed c m).pages.volumes.records v ≡ size c.pages.volumes.records v
+  committed_sizes v =
+      size_set vols.records m.from.0 _ (given_length (records_at vols m.from.0) (map_at vols m.from)) v
+      ∙ size_set c.pages.volumes.records m.to.0 _
+      (taken_length (records_at c.pages.volumes m.to.0) (map_at c.pages.volumes m.from)) v
+
+  pub committed_entries : (v : ℕ) → entries (move_committed c m).pages.volumes.vtocs v ≡ entries c.pages.volumes.vtocs v
+  committed_entries v =
+      size_set vols.vtocs m.from.0 _ (length-set (vtoc_at vols m.from.0) m.from.1 None) v
+      ∙ size_set c.pages.volumes.vtocs m.to.0 _ (length-set (vtoc_at c.pages.volumes m.to.0) _ _) v

@@ -1,0 +1,151 @@
+-- A node gets another volume: what is read of the nodes, and counted on each volume.
+use Rattle.std.proofs.Common.{◌≡◌, ◌≢◌, ℕ, ◌+◌, ◌<◌, Bool, true, false, cond, eqb, List, [], ◌∷◌, map, Option, Some}
+use Rattle.std.proofs.Common.{None, refl, sym, ap, subst, ◌∙◌, arith, inl, inr}
+use Rattle.std.specs.Prelude.{count_by}
+use Rattle.std.proofs.lemmas.Bool.{cases_Bool, cases_eq, eq-eqb, eqb-true, ne_eqb}
+use Rattle.std.proofs.lemmas.List.Sums.{sum_by-cons}
+use Rattle.tree_model.specs.Tree.{Node, entries_on, has_directory, node_in, taken_on, volume_in}
+use Rattle.tree_model.specs.Trees.{AreBelow, IsTree, Joins}
+use Rattle.flat_model.proofs.FieldLaws.{field_kept, field_mapped}
+use Rattle.storage_ops.specs.Shown.{is_there}
+
+-- a node, on another volume where it has this uid
+abbrev pub on_volume : ℕ → ℕ → Node → Node
+on_volume u w n = cond (eqb n.uid u) (record n { volume = w }) n
+
+module _ (u w : ℕ) where
+  pub uid_on : (n : Node) → (on_volume u w n).uid ≡ n.uid
+  uid_on = field_kept (λ (x : Node). x.uid) (λ n. record n { volume = w }) u (λ n. refl)
+
+  pub superior_on : (n : Node) → (on_volume u w n).superior ≡ n.superior
+  superior_on = field_kept (λ (x : Node). x.superior) (λ n. record n { volume = w }) u (λ n. refl)
+
+  pub kind_on : (n : Node) → (on_volume u w n).directory ≡ n.directory
+  kind_on = field_kept (λ (x : Node). x.directory) (λ n. record n { volume = w }) u (λ n. refl)
+
+  pub pages_on : (n : Node) → (on_volume u w n).pages ≡ n.pages
+  pages_on = field_kept (λ (x : Node). x.pages) (λ n. record n { volume = w }) u (λ n. refl)
+
+  pub rows_on : (n : Node) → (on_volume u w n).rows ≡ n.rows
+  rows_on = field_kept (λ (x : Node). x.rows) (λ n. record n { volume = w }) u (λ n. refl)
+
+  pub uids_on : (ns : List Node) → map (λ n. n.uid) (map (on_volume u w) ns) ≡ map (λ n. n.uid) ns
+  uids_on [] = refl
+  uids_on (n ∷ ns) = ap (λ (x : ℕ). x ∷ map (λ n. n.uid) (map (on_volume u w) ns)) (uid_on n)
+      ∙ ap (λ (xs : List ℕ). n.uid ∷ xs) (uids_on ns)
+
+  pub directory_on : (ns : List Node) (v : ℕ) → has_directory (map (on_volume u w) ns) v ≡ has_directory ns v
+  directory_on ns v = field_mapped (λ (xs : List Node). has_directory xs v) (λ (x : Node). x.directory) v
+      (λ m xs. refl) (on_volume u w) uid_on kind_on ns
+
+  -- ---- its volume
+
+  pub volume_here : (ns : List Node) → is_there ns u ≡ true → volume_in (map (on_volume u w) ns) u ≡ w
+  volume_here [] there = cc
+  volume_here (n ∷ ns) there = elim (cases_Bool (eqb n.uid u)) [
+    | inl is ↦ rw (is, is) refl
+    | inr isnt ↦ rw (isnt, isnt) (volume_here ns (rw isnt at there))
+  ]
+
+  pub volume_else : (ns : List Node) (v : ℕ) → v ≢ u → volume_in (map (on_volume u w) ns) v ≡ volume_in ns v
+  volume_else [] v ne = refl
+  volume_else (n ∷ ns) v ne = elim (cases_Bool (eqb n.uid u)) [
+    | inl is ↦
+        (let same : n.uid ≡ u = eqb-true n.uid u is in
+        let other : eqb n.uid v ≡ false = ne_eqb n.uid v (λ e. ne (sym e ∙ same)) in
+        rw (is, other) (volume_else ns v ne))
+    | inr isnt ↦ rw isnt (ap (cond (eqb n.uid v) n.volume) (volume_else ns v ne))
+  ]
+
+-- ---- stored pages
+
+-- where pages of one segment alone are weighed by another volume, those of that segment change sides
+moved_sides : (f g : ℕ → ℕ) (u : ℕ) → ((x : ℕ) → x ≢ u → f x ≡ g x) → (stored : List (ℕ × ℕ)) (v : ℕ)
+    → count_by (λ x. eqb (f x.0) v) stored + cond {A = ℕ} (eqb (g u) v) (count_by (λ x. eqb x.0 u) stored) 0
+    ≡ count_by (λ x. eqb (g x.0) v) stored + cond {A = ℕ} (eqb (f u) v) (count_by (λ x. eqb x.0 u) stored) 0
+moved_sides f g u else [] v = by (eqb (g u) v) (eqb (f u) v)
+  where
+    by : (a b : Bool) → 0 + cond {A = ℕ} a 0 0 ≡ 0 + cond {A = ℕ} b 0 0
+    by true true = refl
+    by true false = refl
+    by false true = refl
+    by false false = refl
+moved_sides f g u else (x ∷ xs) v = elim (cases_eq x.0 u) [
+  | inl same ↦ rw (first_f, first_g, first_u, eq-eqb x.0 u same, same)
+      (here (eqb (f u) v) (eqb (g u) v) _ _ _ (moved_sides f g u else xs v))
+  | inr ne ↦ rw (first_f, first_g, first_u, ne_eqb x.0 u ne, else x.0 ne)
+      (there (eqb (f u) v) (eqb (g u) v) (eqb (g x.0) v) _ _ _ (moved_sides f g u else xs v))
+]
+  where
+    first_f : count_by (λ y. eqb (f y.0) v) (x ∷ xs) ≡ cond {A = ℕ} (eqb (f x.0) v) 1 0 + count_by
+        (λ y. eqb (f y.0) v) xs
+    first_f = sum_by-cons (λ (y : ℕ × ℕ). cond (eqb (f y.0) v) 1 0) x xs
+
+    first_g : count_by (λ y. eqb (g y.0) v) (x ∷ xs) ≡ cond {A = ℕ} (eqb (g x.0) v) 1 0 + count_by
+        (λ y. eqb (g y.0) v) xs
+    first_g = sum_by-cons (λ (y : ℕ × ℕ). cond (eqb (g y.0) v) 1 0) x xs
+
+    first_u : count_by (λ y. eqb y.0 u) (x ∷ xs) ≡ cond {A = ℕ} (eqb x.0 u) 1 0 + count_by (λ y. eqb y.0 u) xs
+    first_u = sum_by-cons (λ (y : ℕ × ℕ). cond (eqb y.0 u) 1 0) x xs
+
+    here : (a b : Bool) (m n c : ℕ) → m + cond {A = ℕ} b c 0 ≡ n + cond {A = ℕ} a c 0
+        → cond {A = ℕ} a 1 0 + m + cond {A = ℕ} b (1 + c) 0 ≡ cond {A = ℕ} b 1 0 + n + cond {A = ℕ} a (1 + c) 0
+    here true true m n c ih = omega (arith, ih)
+    here true false m n c ih = omega (arith, ih)
+    here false true m n c ih = omega (arith, ih)
+    here false false m n c ih = omega (arith, ih)
+
+    there : (a b z : Bool) (m n c : ℕ) → m + cond {A = ℕ} b c 0 ≡ n + cond {A = ℕ} a c 0
+        → cond {A = ℕ} z 1 0 + m + cond {A = ℕ} b (0 + c) 0 ≡ cond {A = ℕ} z 1 0 + n + cond {A = ℕ} a (0 + c) 0
+    there true true z m n c ih = omega (arith, ih)
+    there true false z m n c ih = omega (arith, ih)
+    there false true z m n c ih = omega (arith, ih)
+    there false false z m n c ih = omega (arith, ih)
+
+pub taken_moved : (ns : List Node) (u w : ℕ) → is_there ns u ≡ true → (stored : List (ℕ × ℕ)) (v : ℕ)
+    → taken_on (map (on_volume u w) ns) stored v
+    + cond {A = ℕ} (eqb (volume_in ns u) v) (count_by (λ x. eqb x.0 u) stored) 0
+    ≡ taken_on ns stored v + cond {A = ℕ} (eqb w v) (count_by (λ x. eqb x.0 u) stored) 0
+unfolding taken_on
+taken_moved ns u w there stored v =
+    subst (λ (x : ℕ). taken_on (map (on_volume u w) ns) stored v
+    + cond {A = ℕ} (eqb (volume_in ns u) v) (count_by (λ x. eqb x.0 u) stored) 0
+    ≡ taken_on ns stored v + cond {A = ℕ} (eqb x v) (count_by (λ x. eqb x.0 u) stored) 0)
+    (volume_here u w ns there)
+    (moved_sides (volume_in (map (on_volume u w) ns)) (volume_in ns) u (λ x ne. volume_else u w ns x ne) stored v)
+
+-- ---- VTOC entries
+
+below_all : (ns : List Node) (o : Option ℕ) (n : Node) → Joins ns o n → AreBelow n.uid ns
+below_all ns None n j = rw j.first tt
+below_all ns (Some s) n j = j.later
+
+none_on : (u w : ℕ) (ns : List Node) → AreBelow u ns → map (on_volume u w) ns ≡ ns
+none_on u w [] below = refl
+none_on u w (n ∷ ns) below =
+    (let lt : n.uid < u = below.0 in rw (ne_eqb n.uid u (λ e. omega (arith, lt, e)))
+    (ap (λ (ms : List Node). n ∷ ms) (none_on u w ns below.1)))
+
+pub entries_moved : (ns : List Node) → IsTree ns → (u w : ℕ) (n : Node) → node_in ns u ≡ Some n → (v : ℕ)
+    → entries_on (map (on_volume u w) ns) v + cond {A = ℕ} (eqb n.volume v) 1 0
+    ≡ entries_on ns v + cond {A = ℕ} (eqb w v) 1 0
+unfolding entries_on
+entries_moved [] tree u w n found v = cc
+entries_moved (m ∷ ns) tree u w n found v = elim (cases_eq m.uid u) [
+  | inl same ↦
+      (let z : Some m ≡ Some n = rw (eq-eqb m.uid u same) at found in
+      let is : m ≡ n = some_same z in
+      let below : AreBelow u ns = subst (λ x. AreBelow x ns) same (below_all ns m.superior m tree.0) in
+      rw (eq-eqb m.uid u same, none_on u w ns below, first (record m { volume = w }) ns, first m ns, ← is)
+      (omega arith))
+  | inr ne ↦
+      (let rest = entries_moved ns tree.1 u w n (rw (ne_eqb m.uid u ne) at found) v in
+      rw (ne_eqb m.uid u ne, first m (map (on_volume u w) ns), first m ns) (omega (arith, rest)))
+]
+  where
+    some_same : ◌≡◌ {A = Option Node} (Some m) (Some n) → m ≡ n
+    some_same e = cc
+
+    first : (x : Node) (xs : List Node) → count_by (λ y. eqb y.volume v) (x ∷ xs)
+        ≡ cond {A = ℕ} (eqb x.volume v) 1 0 + count_by (λ y. eqb y.volume v) xs
+    first x xs = sum_by-cons (λ (y : Node). cond (eqb y.volume v) 1 0) x xs

@@ -1,0 +1,24 @@
+use Rattle.std.proofs.Common.{◌≡◌, ◌<◌, ℕ, true, length, sym, ap, subst, ◌∙◌}
+use Rattle.accounts.specs.Maps.{count_of}
+use Rattle.seg_mover.specs.Moves.{CanBegin}
+use Rattle.seg_control.specs.Moving.{pair_of}
+use Rattle.storage_ops.specs.Rooms.{is_roomy}
+use Rattle.storage_ops.specs.Shown.{Storage, home_of}
+use Rattle.storage_ops.proofs.Held.{active_held, held}
+use Rattle.storage_ops.proofs.MoveFacts.{may_begin}
+use Rattle.storage_ops.proofs.store.Store.move_begin.Goals as goal
+
+pub move_begin-requires-clause-can : goal.move_begin-requires-clause-can
+move_begin-requires-clause-can g c =
+    let t = held c.self.view_is in
+    let from : c.args.from ≡ pair_of (home_of t.accounts c.args.uid) =
+    c.requires.home ∙ ap (λ (x : Storage g.row.D.Denot). pair_of (home_of x.accounts c.args.uid)) (sym c.self.view_is) in
+    let to = subst (λ (x : Storage g.row.D.Denot). c.args.to < length x.segs.pages.volumes.drives) (sym c.self.view_is)
+    c.requires.volume in
+    let roomy = subst (λ (x : Storage g.row.D.Denot). is_roomy x.segs.pages.volumes c.args.from.0
+    (count_of x.accounts c.args.uid) c.args.to ≡ true) (sym c.self.view_is) c.requires.room in
+    subst (λ (x : ℕ × ℕ). CanBegin t.segs.pages.volumes c.args.uid x c.args.to) (sym from)
+    (may_begin g.D.Drive.pages t c.args.uid c.look.ensures.kept c.self.invariant
+    (active_held c.self.view_is c.args.uid c.requires.active) c.look.ensures.parts c.args.to to
+    (subst (λ (x : ℕ × ℕ). is_roomy t.segs.pages.volumes x.0 (count_of t.accounts c.args.uid) c.args.to ≡ true) from
+    roomy))

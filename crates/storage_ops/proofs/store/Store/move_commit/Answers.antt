@@ -1,0 +1,77 @@
+use Rattle.std.proofs.Common.{◌≡◌, Option, Some, refl, sym, ap, subst, ◌∙◌}
+use Rattle.std.specs.Prelude.{IfSome}
+use Rattle.tree_model.specs.Trees.{has_segment}
+use Rattle.page_control.specs.declared.Home.{Home}
+use Rattle.page_control.specs.Counts.{entries, size}
+use Rattle.page_control.specs.Plain.{plain}
+use Rattle.seg_mover.specs.declared.Mover.{Mover}
+use Rattle.seg_control.specs.Control.{Control, Links}
+use Rattle.seg_control.specs.Moving.{IsUnderWay, home_at}
+use Rattle.storage_ops.specs.Shown.{IsStore, Storage, home_of}
+use Rattle.storage_ops.proofs.Held.{held, shown_held}
+use Rattle.storage_ops.proofs.MoveFacts.{committed_entries, committed_sizes}
+use Rattle.storage_ops.proofs.NodeLaws.{segment_there}
+use Rattle.storage_ops.proofs.Rehomed.{HasRehomed, shown_rehomed, store_rehomed}
+use Rattle.storage_ops.proofs.store.Store.move_commit.Given.{Over}
+use Rattle.storage_ops.proofs.store.Store.move_commit.Goals.{After-set_home}
+use Rattle.storage_ops.proofs.store.Store.move_commit.Goals as goal
+
+-- the home that the segment leaves is the node's
+left : (g : Over) (c : After-set_home g) → home_at c.args.m.from ≡ home_of c.self.inside.accounts c.args.m.uid
+left g c =
+    let moving : c.self.inside.segs.moving ≡ Some c.args.m =
+    ap (λ (x : Storage g.row.D.Denot). x.segs.moving) c.self.view_is ∙ c.requires.moving in
+    let way = subst (λ (o : Option Mover). IfSome o (IsUnderWay c.self.inside.segs)) moving c.look_at_move.ensures in
+    c.self.invariant.housed.only (home_at c.args.m.from) c.args.m.uid way.home.used
+
+-- what has become of its home
+done : (g : Over) (c : After-set_home g)
+    → HasRehomed (plain g.D.Drive.pages c.self.inside.segs.pages) (plain g.D.Drive.pages c.move_commit-home.new.self.pages)
+    c.self.inside.accounts c.set_home.new.self c.args.m.uid (home_of c.self.inside.accounts c.args.m.uid)
+    (home_at c.args.m.to)
+done g c =
+    let segment = ap (λ (x : Storage g.row.D.Denot). has_segment x.accounts.nodes c.args.m.uid) c.self.view_is
+    ∙ c.requires.segment in
+    subst (λ (from : Home). HasRehomed (plain g.D.Drive.pages c.self.inside.segs.pages)
+    (plain g.D.Drive.pages c.move_commit-home.new.self.pages) c.self.inside.accounts c.set_home.new.self
+    c.args.m.uid from (home_at c.args.m.to)) (left g c) (record {
+      there = segment_there c.self.inside.accounts.nodes c.args.m.uid segment;
+      rehomes = c.set_home.ensures.home;
+      here = c.move_commit-home.ensures.to;
+      gone = c.move_commit-home.ensures.from;
+      free = c.move_commit-home.ensures.free;
+      uids = c.move_commit-home.ensures.uids;
+      maps = c.move_commit-home.ensures.maps;
+      filed = c.move_commit-home.ensures.stored;
+      named = c.move_commit-home.ensures.named;
+      taken_moves = c.move_commit-home.ensures.taken;
+      left = c.move_commit-home.ensures.left;
+      gained = c.move_commit-home.ensures.gained;
+      beside = c.move_commit-home.ensures.entries;
+      words = c.move_commit-home.ensures.moved;
+      others = c.move_commit-home.ensures.words;
+      sizes = λ v. ap (λ (x : Control g.row.D.Denot). size x.pages.volumes.records v) c.move_commit-home.ensures.effect
+          ∙ committed_sizes c.self.inside.segs c.args.m v;
+      places = λ v. ap (λ (x : Control g.row.D.Denot). entries x.pages.volumes.vtocs v) c.move_commit-home.ensures.effect
+          ∙ committed_entries c.self.inside.segs c.args.m v;
+    })
+
+pub invariant_of-self : goal.invariant_of-self
+invariant_of-self g c =
+    let t = held c.self.view_is in
+    let now = c.move_commit-home.new.self in
+    let links = ap (λ (x : Control g.row.D.Denot). x.links) c.move_commit-home.ensures.effect in
+    subst (λ (x : Links). IsStore (plain g.D.Drive.pages now.pages) now.ast x c.set_home.new.self t.whos) (sym links)
+    (store_rehomed (plain g.D.Drive.pages t.segs.pages) (plain g.D.Drive.pages now.pages) t.accounts
+    c.set_home.new.self c.args.m.uid (home_at c.args.m.to) (done g c) c.self.invariant.housed t.segs.ast now.ast
+    t.segs.links t.whos c.promise.ensures.tree
+    (ap (λ (x : Control g.row.D.Denot). x.ast.entries) c.move_commit-home.ensures.effect)
+    (ap (λ (x : Control g.row.D.Denot). x.ast.sizes) c.move_commit-home.ensures.effect) c.self.invariant)
+
+pub returns-clause-shown : goal.returns-clause-shown
+returns-clause-shown g c = λ p s h.
+    let t = held c.self.view_is in
+    let n = record t { accounts = c.set_home.new.self; segs = c.move_commit-home.new.self } in
+    shown_rehomed g.D.Drive.pages p s t n c.args.m.uid (home_at c.args.m.to) (done g c) c.self.invariant.housed
+    (ap (λ (x : Control g.row.D.Denot). x.links) c.move_commit-home.ensures.effect) refl
+    (shown_held c.self.view_is g.D.Drive.pages p s h)
