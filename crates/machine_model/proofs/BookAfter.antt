@@ -32,6 +32,7 @@ use Rattle.machine_model.specs.Jobs.{page_back, page_done}
 use Rattle.machine_model.specs.Jobs.{page_in, pages_back, seg_back, seg_gone, segment_taken, segs_back, segs_gone}
 use Rattle.machine_model.specs.Jobs.{take_all, take_one, took, victim_taken, write_failed}
 use Rattle.machine_model.specs.Keeps.{Keeps, is_fault}
+use Rattle.machine_model.specs.Moves.{copy_failed, page_copied, without_move}
 use Rattle.machine_model.specs.Promise.{KeepsAll}
 use Rattle.machine_model.specs.Reads.{flat_of, run_at}
 use Rattle.machine_model.specs.Reads.{cut_of_owner, frames_from, frames_of_owner, is_active, next_command, process_at}
@@ -436,6 +437,31 @@ module _ (s : State) (c : ℕ) (o : Outcome) (keeps : Keeps s) (few : OwnsFew s.
       failing : State
       failing = fault_told (frame_lost s c t) (Some (process_at s c)) o.faults
 
+  copy_booked : (f : Bool) → f ≡ true → IsBooked s (copy_failed s c o.faults) c 320 true f
+  unfolding raw_less raw_on raw_one
+  copy_booked f did = record {
+    booked = raw_less s (copy_failed s c o.faults) 2 320
+        (raw_on s failing (copy_failed s c o.faults) 1 1
+        (raw_one s failing (entry.Fault (Some (process_at s c)) ∷ []) refl refl)
+        (raw_one failing (copy_failed s c o.faults) (entry.Do (process_at failing c) _ c None reply.Device ∷ []) refl
+        refl)) (omega arith);
+    tale = inr (
+      did,
+      record {
+        before = [];
+        between = [];
+        last = entry.Do (process_at failing c) _ c None reply.Device;
+        is = refl;
+        quiet_before = refl;
+        quiet_between = refl;
+        last_is = refl;
+      },
+    );
+  }
+    where
+      failing : State
+      failing = fault_told (with_store s (without_move s.store)) (Some (process_at s c)) o.faults
+
   end_booked : (a : act.Action) → Knows s c a → IsPlainly a → IsBooked s (after s c a o) c 320 (calls_drive a) o.failed
   unfolding after
   end_booked (act.EndTransfer t) k plain = by_end (transferred (with_faults s o.faults) c t)
@@ -447,6 +473,8 @@ module _ (s : State) (c : ℕ) (o : Outcome) (keeps : Keeps s) (few : OwnsFew s.
   end_booked (act.FinishPage f) k plain = by_end (page_done (with_faults s o.faults) f)
       (write_failed s c o.faults) (gone_booked s (page_done (with_faults s o.faults) f) f refl refl)
       (failed_booked s c o.faults few)
+  end_booked (act.CopyPage m page) k plain = by_end (page_copied (with_faults s o.faults) c m page)
+      (copy_failed s c o.faults) (none _ refl refl) copy_booked
   end_booked act.IsStopped k plain = plainly _ (none s refl refl)
   end_booked act.HasEnded k plain = plainly _ (none s refl refl)
   end_booked (act.Waits why) k plain = plainly _ (none s refl refl)
@@ -482,6 +510,9 @@ module _ (s : State) (c : ℕ) (o : Outcome) (keeps : Keeps s) (few : OwnsFew s.
   end_booked (act.TakeAway fs pairs w) k plain = plainly _ (booked_less s (took s c aim.Committing w fs pairs) _ 320
       (took_booked s c aim.Committing w fs pairs)
       (let le = few_taken s (process_at s c) k.4.command fs pairs keeps k.4.finds in omega (arith, le)))
+  end_booked (act.BeginMove u volume) k plain = plainly _ (none _ refl refl)
+  end_booked (act.CommitMove m) k plain = plainly _ (some _ (entry.Moved (process_at s c) m.uid m.to.0 ∷ []) refl refl
+      (omega arith) refl)
   end_booked (act.Signal w) k plain = plainly _ (some _ (entry.Signal c w ∷ []) refl refl (omega arith) refl)
   end_booked (act.Deactivate u) k plain =
       plainly _ (booked_less s (emptied s c u) _ 320 (emptied_booked s c u) (omega (arith, few)))

@@ -140,6 +140,7 @@ says_waits (Some o) w h = by o.phase h
     by phase.Looking h = refl
     by (phase.Taken aim w) h = refl
     by (phase.Waiting aim w) h = absurd (none_some h)
+    by (phase.Moving m) h = absurd (none_some h)
 
 -- the owner is to signal this, and waits for it afterwards
 pub record CanSignal (v : Seen) (c : ℕ) (w : What) (owner : Option Owner) : Type 0 where

@@ -14,6 +14,7 @@ use Rattle.flat_model.specs.References.{word_reply}
 use Rattle.machine_model.specs.declared.Processor.{Processor}
 use Rattle.machine_model.specs.declared.Run.{Run}
 use Rattle.machine_model.specs.declared.CutDescriptor.{CutDescriptor}
+use Rattle.machine_model.specs.Moves.{copy_failed, page_copied}
 use Rattle.machine_model.specs.State.{State}
 use Rattle.processor.specs.declared.Transfer.{Transfer}
 use Rattle.machine_model.specs.Reads.{cut_of_owner, frames_of_owner, frames_from, next_command, no_processor, or_zero}
@@ -55,6 +56,7 @@ tells (act.Answer r) = true
 tells (act.Create f uid p r) = true
 tells (act.FinishEviction f) = true
 tells (act.FinishPage f) = true
+tells (act.CopyPage m p) = true
 tells act.Commit = true
 tells _ = false
 
@@ -240,6 +242,11 @@ tale s c (act.EmptyVictim pool chain uid) o =
     inl (chained s t (victim_taken s c pool chain uid) (same_runs refl refl)
     (segment t c uid (frames_from t.store.ast uid 0) (trailers_in t.store uid)))
 tale s c (act.TakeAway fs pairs w) o = inl (all_taken s c aim.Committing w fs pairs)
+tale s c (act.BeginMove uid volume) o = inl (same_runs refl refl)
+tale s c (act.CopyPage m p) o =
+    either (Tale s c (act.CopyPage m p)) o.failed (page_copied (with_faults s o.faults) c m p)
+    (copy_failed s c o.faults) (inl (same_runs refl refl)) (inr (refl, its_own reply.Device refl refl))
+tale s c (act.CommitMove m) o = inl (same_runs refl refl)
 tale s c (act.Signal w) o = inl (same_runs refl refl)
 tale s c (act.FinishEviction f) o =
     either (Tale s c (act.FinishEviction f)) o.failed (eviction_done (with_faults s o.faults) c f)

@@ -41,6 +41,7 @@ use Rattle.machine_model.specs.State.{State, Storage}
 use Rattle.machine_model.specs.Steps.{told, with_owner, with_pages}
 use Rattle.machine_model.proofs.CommitKept.{effected}
 use Rattle.machine_model.proofs.FlatAlike.{IsAlike, all_still, alike_by, done_alike, is_still, one_still, refused_alike}
+use Rattle.flat_model.proofs.HeldLaws.{tree_free}
 use Rattle.flat_model.proofs.QuotaTotals.{effect_total}
 use Rattle.machine_model.proofs.SaysLaws.{none_rest, quotas, says_is}
 use Rattle.machine_model.proofs.SpeakLaws.{Speaks, can_tell}
@@ -219,7 +220,10 @@ module _ (s : State) (c : ℕ) (o : Outcome) (keeps : Keeps s) (cmd : Command) (
   -- It may be answered, where what it takes away is out of use.
   pub commit_tell : MayTakeEffect (flat_of s) (shown (seen b)) k cmd → CanTell b c k None (reply_of s k cmd)
   commit_tell out = can_tell b c k cmd None (reply_of s k cmd) speaks_still
-      (inl (is_reply ∙ ap (λ (t : Store). reply_to_command s.plan t k cmd) (sym still)))
+      (inl (record {
+        own = is_reply ∙ ap (λ (t : Store). reply_to_command s.plan t k cmd) (sym still);
+        free = tree_free s.plan (flat_of b) k cmd tree;
+      }))
       (subst (λ (x : Option Reference). MayAnswerBy s.plan (flat_of b) (shown (seen b)) c k None cmd
       (reply_of s k cmd) x)
       (sym tree) (record {

@@ -18,7 +18,9 @@ use Rattle.seg_control.specs.Control.{kst_at}
 use Rattle.flat_model.proofs.RemoveLaws.{node_gone, node_left}
 use Rattle.tree_model.specs.Access.{access_of}
 use Rattle.storage_ops.specs.Shown.{who_at}
+use Rattle.seg_mover.specs.declared.Mover.{Mover}
 use Rattle.machine_model.specs.Entitled.{AreEntitled, HoldEntitled, IsEntitled}
+use Rattle.machine_model.specs.Moves.{move_committed}
 use Rattle.machine_model.specs.Reads.{cpu_at}
 use Rattle.machine_model.specs.declared.Processor.{Processor}
 use Rattle.script.specs.declared.commands.Command.{Command}
@@ -169,6 +171,23 @@ from_quota ns d next amount = record {
       (λ m. ap (λ (x : Node). x.rows) (quota_moves ns d amount m))
       (λ m. ap (λ (x : Node). x.pages) (quota_moves ns d amount m)) ns u n h;
 }
+
+-- a segment that moves to another volume
+from_moved : (ns : List Node) (u volume next : ℕ)
+    → HaveFrom ns (with_node ns u (λ n. record n { volume = volume })) next
+from_moved ns u volume next = record {
+  each = λ v n less h. map_from (λ m. cond (eqb m.uid u) (record m { volume = volume }) m)
+      (λ m. by (λ x. x.uid ≡ m.uid) m refl refl) (λ m. by (λ x. x.rows ≡ m.rows) m refl refl)
+      (λ m. by (λ x. x.pages ≡ m.pages) m refl refl) ns v n h;
+}
+  where
+    by : (P : Node → Type 0) (m : Node) → P (record m { volume = volume }) → P m
+        → P (cond (eqb m.uid u) (record m { volume = volume }) m)
+    by P m moved still = choose (eqb m.uid u)
+      where
+        choose : (b : Bool) → P (cond b (record m { volume = volume }) m)
+        choose true = moved
+        choose false = still
 
 -- ---- the commands
 
@@ -371,6 +390,11 @@ module _ (s : State) (c : ℕ) (k : Keeps s) (there : c < length s.processors) (
           (home_in s.store u))) u)
       names = inactive_names s.store (with_pages s.store (erased (frames_freed s.store.pages frames)
           (home_in s.store u))) u (record { nodes = refl; whos = refl; known = refl })
+
+  -- What processors hold stays so once a segment has moved.
+  pub moved_entitled : (m : Mover) → IsEntitledToAll (move_committed s c m)
+  moved_entitled m = hold_from s.store.accounts.nodes _ s.store.whos s.store.links.known s.store.accounts.next
+      (from_moved s.store.accounts.nodes m.uid m.to.0 s.store.accounts.next) k.store.counted.known.older s.processors h
 
   -- What processors hold stays so after a command.
   pub commit_entitled : (x : Option Command) → Keeps (committed_at s c x) → IsEntitledToAll (committed_at s c x)

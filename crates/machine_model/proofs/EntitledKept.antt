@@ -32,6 +32,7 @@ use Rattle.machine_model.specs.Jobs.{segs_back}
 use Rattle.machine_model.specs.Jobs.{segs_gone, take_one, told_at, told_from, took, victim_taken}
 use Rattle.machine_model.specs.Jobs.{with_choice, with_hand_moved, with_left, write_failed}
 use Rattle.machine_model.specs.Keeps.{Keeps}
+use Rattle.machine_model.specs.Moves.{copy_failed, move_committed, page_copied}
 use Rattle.machine_model.specs.Reads.{cpu_at, cut_of_owner, descriptor_of, frames_from, frames_of_owner, no_processor}
 use Rattle.machine_model.specs.Reads.{or_zero, process_at, processor_at, trailers_in}
 use Rattle.machine_model.specs.State.{State}
@@ -204,9 +205,10 @@ evicted s c f = by (left_of (words_in s.store.pages f))
 
 -- ---- each action
 
--- what a commit leaves
+-- what a commit, and the end of a move, leave
 abbrev pub MayEntitle : State → ℕ → Outcome → act.Action → Type 0
 MayEntitle s c o act.Commit = IsEntitledToAll (after s c act.Commit o)
+MayEntitle s c o (act.CommitMove m) = IsEntitledToAll (move_committed s c m)
 MayEntitle s c o _ = Unit {0}
 
 by_end : (o : Outcome) (well ill : State) → IsEntitledToAll well → IsEntitledToAll ill
@@ -327,6 +329,10 @@ module _ (s : State) (c : ℕ) (o : Outcome) (k : Keeps s) (there : c < length s
       (trailers_in (with_store s (with_hand_moved s.store pool chain)).store u))) h
   entitled_kept (act.TakeAway fs pairs w) can may = names_kept s (took s c aim.Committing w fs pairs)
       (all_taken s c aim.Committing w fs pairs) h
+  entitled_kept (act.BeginMove u volume) can may = h
+  entitled_kept (act.CopyPage m p) can may = by_end o (page_copied (with_faults s o.faults) c m p)
+      (copy_failed s c o.faults) h (one _ held)
+  entitled_kept (act.CommitMove m) can may = may
   entitled_kept (act.Signal w) can may = told_entitled nodes s.store.whos s.store.links.known c w s.processors h
   entitled_kept (act.FinishEviction f) can may = by_end o (eviction_done (with_faults s o.faults) c f)
       (write_failed s c o.faults) (names_kept s (eviction_done (with_faults s o.faults) c f)

@@ -20,7 +20,7 @@ use Rattle.flat_model.specs.Branches.{done_at, segment_at}
 use Rattle.flat_model.specs.Commands.{is_end, reply_by, reply_to_command}
 use Rattle.flat_model.specs.Legal.{is_done, is_early, may_fail, moves_pages}
 use Rattle.script.specs.References.{permits}
-use Rattle.flat_model.specs.References.{is_used_up, is_volume_full, reply_at, reply_of, reply_to_reference}
+use Rattle.flat_model.specs.References.{is_used_up, is_out_of_room, reply_at, reply_of, reply_to_reference}
 use Rattle.flat_model.specs.References.{stores_page, word_reply}
 use Rattle.flat_model.specs.Sizes.{length_of, length_reply, truncate_reply}
 use Rattle.flat_model.specs.Store.{Store, known_uid}
@@ -43,7 +43,7 @@ module _ (s : State) (k : ℕ) (t : Store) (shown : IsFaithful s.plan t s.store)
   reached_late r h = ap is_early (ap (reply_of s.plan t k r.offset r.kind) known
       ∙ ap (reply_at s.plan t k r.offset r.kind) there)
       ∙ by (permits (access_of (who_of s.plan k) h.node.rows) r.kind) (nat_le (1024 * h.node.pages) r.offset)
-      (stores_page t h.node.uid r.offset r.kind) (is_used_up t h.node.uid) (is_volume_full s.plan t h.node.volume) short
+      (stores_page t h.node.uid r.offset r.kind) (is_used_up t h.node.uid) (is_out_of_room s.plan t h.node) short
     where
       known : known_uid t k r.number ≡ Some h.uid
       known = ap (λ (x : List (List (Option ℕ))). uid_of (kst_at x k) r.number) shown.known ∙ h.stands

@@ -1,6 +1,7 @@
 -- What a job has taken isn't what its command wants, after each step.
 use Rattle.std.proofs.Common.{◌≡◌, ◌<◌, ℕ, zero, suc, Bool, true, false, not, ◌&&◌, cond, eqb, is_some, length}
 use Rattle.std.proofs.Common.{List, [], ◌∷◌, get_or, map, set, Option, Some, None, inl, inr, refl, sym, ap, subst, ◌∙◌}
+use Rattle.std.proofs.Common.{arith}
 use Rattle.std.proofs.lemmas.Bool.{cond_both}
 use Rattle.std.proofs.lemmas.Bool.Decides.{eqb_tells}
 use Rattle.script.specs.Plans.{command_at}
@@ -108,6 +109,9 @@ fits_on s now kept fitting owner stays = record { fits = λ q h. by q h q.phase 
         (work_stays s now q.cpu q.frames a (stays q (sym owner ∙ h))
         (subst (λ (x : Phase). FitsStage (outline_of s) (want_at (outline_of s) q.cpu)
         (stage_of (entries_of s) q.frames x)) e (fitting.fits q (sym owner ∙ h))))
+    by q h (phase.Moving m) e = subst (λ (x : Phase). FitsStage (outline_of now) (want_at (outline_of now) q.cpu)
+        (stage_of (entries_of now) q.frames x)) (sym e)
+        (none_due now kept (ap waits_for h ∙ ap waits_in e), omega arith)
 
 pub none_fits : (now : State) → now.owner ≡ None → IsFitting now
 none_fits now none = record { fits = λ q h. absurd (none_some (sym none ∙ h)) }
@@ -340,7 +344,7 @@ module _ (s : State) (c : ℕ) (o : Outcome) (m : IsMachine s) (entitled : IsEnt
               (subst (λ (n : ℕ). c < n) (sym (long_outline s)) there) (sizes_seen now after_m)
               (λ i. kept_seen now after_m after_reading (none_fits now (no_owner now i.owner)))
               (λ h i. kept_seen now after_m after_reading (replied h i))
-              (step_outlined s c o going (foresees s c m entitled reading fitting there))
+              (step_outlined s c o going (foresees s c m entitled reading working fitting there))
 
       by : (b : Bool) → s.stopped ≡ b → IsFitting now
       by true e = stopped_fits s c o fitting e

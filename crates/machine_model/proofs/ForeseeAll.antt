@@ -2,14 +2,18 @@
 use Rattle.std.proofs.Common.{◌≡◌, ◌≢◌, ◌<◌, ℕ, length, suc, List, [], Option, Some, None, refl, sym, ap, subst, ◌∙◌}
 use Rattle.std.proofs.Common.{arith}
 use Rattle.assoc_mem.specs.declared.What.{What}
+use Rattle.seg_mover.specs.declared.Mover.{Mover}
 use Rattle.machine_model.specs.declared.Aim.TheVariants as aim
 use Rattle.machine_model.specs.declared.Phase.{Phase}
 use Rattle.machine_model.specs.declared.Phase.TheVariants as phase
 use Rattle.machine_model.specs.Actions as act
 use Rattle.machine_model.specs.Custodial.{FitsPhase, IsShaped}
 use Rattle.machine_model.specs.Entitled.{IsEntitledToAll}
+use Rattle.machine_model.specs.Finishing.{HasMoved}
 use Rattle.machine_model.specs.Fitting.{IsFitting}
-use Rattle.machine_model.specs.Foreseen.{Foresees, IsLook}
+use Rattle.machine_model.specs.Foreseen.{Foresees, IsLook, full_there}
+use Rattle.machine_model.specs.Lacking.{IsMovedFor, MovesForNext, MovesIn, tables_of}
+use Rattle.machine_model.specs.Outlined.{outline_of}
 use Rattle.machine_model.specs.Promise.{IsMachine}
 use Rattle.machine_model.specs.Reading.{IsReading}
 use Rattle.machine_model.specs.Reads.{cpu_at, next_command, or_zero, process_at, processor_at}
@@ -17,18 +21,20 @@ use Rattle.machine_model.specs.State.{Owner, State}
 use Rattle.machine_model.proofs.EnterSeen.{may_enter, may_lose}
 use Rattle.machine_model.proofs.ForeseeLaws.{has_answer, looks_empty, off_quiet}
 use Rattle.machine_model.proofs.LookSeen.{look_seen}
+use Rattle.machine_model.proofs.MovedSeen.{moved_seen}
 use Rattle.machine_model.proofs.OutlineSeen.{kept_seen}
 use Rattle.machine_model.proofs.ReleaseSeen.{leaves_may}
 use Rattle.machine_model.proofs.SpeakLaws.{speaks}
 use Rattle.std.proofs.Common.{true, false, is_some}
 use Rattle.machine_model.specs.Keeps.{IsAtWork}
+use Rattle.machine_model.specs.Working.{IsWorking}
 
 some_of : (x : Option ℕ) → is_some x ≡ true → x ≡ Some (or_zero x)
 some_of None h = absurd (let none : false ≡ true = h in cc)
 some_of (Some n) h = refl
 
 module _ (s : State) (c : ℕ) (m : IsMachine s) (entitled : IsEntitledToAll s) (reading : IsReading s)
-    (fitting : IsFitting s) (there : c < length s.processors) where
+    (working : IsWorking s) (fitting : IsFitting s) (there : c < length s.processors) where
   -- an eviction has its frame
   evicts : (o : Owner) (w : What) → s.owner ≡ Some o → o.phase ≡ phase.Waiting aim.Evicting w → o.frames ≢ []
   evicts o w mine waits none = let shape : FitsPhase (phase.Waiting aim.Evicting w) o.frames o.cut =
@@ -43,6 +49,19 @@ module _ (s : State) (c : ℕ) (m : IsMachine s) (entitled : IsEntitledToAll s) 
       (subst (λ (d : ℕ). IsAtWork (processor_at s.processors d)) same (m.keeps.at_work o mine)).busy) in
       look_seen s c m one.0 one.1 o mine is same
 
+  -- a segment that moves does so for the command of the owner's process
+  moves : (o : Owner) (x : Mover) → s.owner ≡ Some o → o.phase ≡ phase.Moving x → o.cpu ≡ c
+      → HasMoved (outline_of s) c (full_there s.store x)
+  moves o x mine is same = let one = speaks s c (process_at s c) m there (some_of (cpu_at s.processors c).process
+      (subst (λ (d : ℕ). IsAtWork (processor_at s.processors d)) same (m.keeps.at_work o mine)).busy) in
+      moved_seen s m.keeps (process_at s c) x one.0 rests.active
+      (subst (MovesForNext (tables_of s.store) (process_at s c) x) one.1.next rests.moves) c one.1.its one.1.next
+    where
+      rests : IsMovedFor s.store (process_at s c) x (next_command s (process_at s c))
+      rests = subst (λ (d : ℕ). IsMovedFor s.store (process_at s d) x (next_command s (process_at s d))) same
+          (subst (λ (ph : Phase). MovesIn ph s.store (process_at s o.cpu) (next_command s (process_at s o.cpu))) is
+          (working.moves o mine))
+
   pub foresees : Foresees s c
   foresees = record {
     kept = kept_seen s m reading fitting;
@@ -53,5 +72,6 @@ module _ (s : State) (c : ℕ) (m : IsMachine s) (entitled : IsEntitledToAll s) 
     evicts = evicts;
     looks = looks;
     leaves = leaves_may s m.keeps;
+    moves = moves;
     enters = may_enter s c m entitled there;
   }

@@ -7,12 +7,14 @@ use Rattle.std.proofs.lemmas.List.{get_or-set_same}
 use Rattle.core_map.specs.declared.Frame.TheVariants as frame
 use Rattle.processor.specs.declared.Transfer.{Transfer}
 use Rattle.machine_model.specs.Outline.{Want, Refer, Truncate, Length, Other, Runner, no_runner, EvictFrame}
-use Rattle.machine_model.specs.Outline.{EmptyPlace, CommitCommand, Stage, Look, Taken, Waiting, Outline, runner_at}
+use Rattle.machine_model.specs.Outline.{EmptyPlace, CommitCommand, Stage, Look, Taken, Waiting, Copying, Outline}
+use Rattle.machine_model.specs.Outline.{runner_at}
 use Rattle.machine_model.specs.Outline.{want_at, at_stage, with_entry, with_frame}
-use Rattle.machine_model.specs.Measures.{is_here, page_fits, wanted_fits, wanted_link, want_lack, lack, over, offline}
-use Rattle.machine_model.specs.Measures.{all_rank, is_over}
+use Rattle.machine_model.specs.Measures.{is_here, page_fits, reads_page, wanted_fits, wanted_link, want_lack}
+use Rattle.machine_model.specs.Measures.{all_rank, is_over, lack, offline, over}
 use Rattle.machine_model.specs.Finishing.{IsIn, JobStep, activates, connects, takes_segment, takes_frame}
 use Rattle.machine_model.specs.Finishing.{takes_for_commit, signals, frees_frame, frees_page, empties, empties_at_once}
+use Rattle.machine_model.specs.Finishing.{begins_move, copies, commits_move, HasMoved}
 use Rattle.machine_model.specs.Finishing.{gives_up, starts, answers, AreAlike, CanStart, IsWantedPage, IsAnswered}
 use Rattle.machine_model.specs.Finishing.{with_link, with_runners, with_stored, without_owner, now_reading, entry_for}
 use Rattle.machine_model.specs.OutlineKept.{IsKept}
@@ -75,18 +77,38 @@ under_way s t c stage owner alike left ready fits = inl (record {
 })
 
 -- a frame that was taken is free
-freed : (s : Outline) (c f : ℕ) (stored : ℕ → ℕ → Bool) (stage : Stage)
+freed : (s : Outline) (c f : ℕ) (stored : ℕ → ℕ → Bool) (full : ℕ → Bool) (stage : Stage)
     → (wanted_fits s (want_at s c) (runner_at s.runners c).reading ≡ true
-    → wanted_fits (with_stored (with_frame s f frame.Free) stored) (want_at s c) (runner_at s.runners c).reading ≡ true)
-    → Goes s (with_stored (at_stage (with_frame s f frame.Free) c stage) stored) c
-freed s c f stored stage fits = inl (record {
+    → wanted_fits (with_stored (with_frame s f frame.Free) stored full) (want_at s c) (runner_at s.runners c).reading
+    ≡ true)
+    → Goes s (with_stored (at_stage (with_frame s f frame.Free) c stage) stored full) c
+freed s c f stored full stage fits = inl (record {
   stage = stage;
   in_job = refl;
-  same = same_alike s (with_stored (at_stage (with_frame s f frame.Free) c stage) stored) c (alike_self s.runners c)
-      refl refl;
-  lack = lack_le s (with_stored (with_frame s f frame.Free) stored) (want_at s c) (runner_at s.runners c).linked
+  same = same_alike s (with_stored (at_stage (with_frame s f frame.Free) c stage) stored full) c
+      (alike_self s.runners c) refl refl;
+  lack = lack_le s (with_stored (with_frame s f frame.Free) stored full) (want_at s c) (runner_at s.runners c).linked
       (runner_at s.runners c).linked (runner_at s.runners c).reading (runner_at s.runners c).reading (λ h. h) fits;
 })
+
+-- what fits a command that makes a page doesn't ask whether the page is stored
+made_fits : (s : Outline) (c : ℕ) (stored : ℕ → ℕ → Bool) (full : ℕ → Bool) → HasMoved s c full
+    → wanted_fits (with_stored s stored full) (want_at s c) (runner_at s.runners c).reading
+    ≡ wanted_fits s (want_at s c) (runner_at s.runners c).reading
+made_fits s c stored full has = by (want_at s c) has.want
+  where
+    made : (b : Bool) → b && not true ≡ false
+    made false = refl
+    made true = refl
+
+    by : (w : Want) → w ≡ Refer has.chain has.uid has.page true
+        → wanted_fits (with_stored s stored full) w (runner_at s.runners c).reading
+        ≡ wanted_fits s w (runner_at s.runners c).reading
+    by w is = subst (λ (x : Want). wanted_fits (with_stored s stored full) x (runner_at s.runners c).reading
+        ≡ wanted_fits s x (runner_at s.runners c).reading) (sym is)
+        (ap (λ (b : Bool). is_here s.frames has.uid has.page
+        || (reads_page (runner_at s.runners c).reading has.uid has.page || b))
+        (made (not (stored has.uid has.page)) ∙ sym (made (not (s.stored has.uid has.page)))))
 
 -- ---- one processor changes
 
@@ -221,17 +243,25 @@ goes s c t k l (takes_for_commit runners owner alike) =
     refl refl
 goes s c t k l (signals w runners owner alike) =
     under_way s (with_runners (at_stage s c (Waiting w)) runners) c (Waiting w) refl alike refl refl refl
-goes s c t k l (frees_frame f stored owner due may) =
+goes s c t k l (frees_frame f stored full owner due may) =
     let taken = (k.job.fits c (Waiting (EvictFrame f)) owner).0 in
-    freed s c f stored Look (freed_fits s f stored (want_at s c) (runner_at s.runners c).reading taken.0 taken.1 may)
-goes s c t k l (frees_page place f rest stored owner due may) =
+    freed s c f stored full Look
+    (freed_fits s f stored full (want_at s c) (runner_at s.runners c).reading taken.0 taken.1 may)
+goes s c t k l (frees_page place f rest stored full owner due may) =
     let taken = (k.job.fits c (Waiting (EmptyPlace place (f ∷ rest))) owner).0.0 in
-    freed s c f stored (Waiting (EmptyPlace place rest))
-    (freed_fits s f stored (want_at s c) (runner_at s.runners c).reading taken.0 taken.1 may)
+    freed s c f stored full (Waiting (EmptyPlace place rest))
+    (freed_fits s f stored full (want_at s c) (runner_at s.runners c).reading taken.0 taken.1 may)
 goes s c t k l (empties place runners owner due alike none) =
     under_way s (with_runners (at_stage (with_entry s place None) c Look) runners) c Look refl alike refl refl refl
 goes s c t k l (empties_at_once place can) =
     under_way s (with_entry s place None) c Look can.look (alike_self s.runners c) refl refl refl
+goes s c t k l (begins_move left owner few) =
+    under_way s (at_stage s c (Copying left)) c (Copying left) refl (alike_self s.runners c) refl refl refl
+goes s c t k l (copies left fewer owner less) =
+    under_way s (at_stage s c (Copying fewer)) c (Copying fewer) refl (alike_self s.runners c) refl refl refl
+goes s c t k l (commits_move left stored full owner has) =
+    under_way s (with_stored (at_stage s c Look) stored full) c Look refl (alike_self s.runners c) refl refl
+    (made_fits s c stored full has)
 goes s c t k l (gives_up chain uid page makes owner want fits) = inr (inr (record {
   owner = refl;
   same = same_self s (without_owner s) c refl (all_le s (without_owner s) refl (le_refl _) refl (le_refl _));

@@ -15,6 +15,7 @@ use Rattle.machine_model.specs.After.{Outcome, after}
 use Rattle.machine_model.specs.Commits.{committed_at}
 use Rattle.machine_model.specs.Jobs.{emptied, eviction_begun, eviction_done, page_done, told_at}
 use Rattle.machine_model.specs.Jobs.{told_from, victim_taken, with_choice, with_hand_moved, write_failed}
+use Rattle.machine_model.specs.Moves.{copy_failed, page_copied}
 use Rattle.machine_model.specs.Reads.{cpu_at, frames_from, next_command, no_processor}
 use Rattle.machine_model.specs.Reads.{process_at, processor_at, trailers_in}
 use Rattle.machine_model.specs.Visits.{AreIdle}
@@ -138,6 +139,10 @@ module _ (s : State) (c : ℕ) (o : Outcome) (there : c < length s.processors) (
       (frames_from (with_store s (with_hand_moved s.store pool chain)).store.ast u 0)
       (trailers_in (with_store s (with_hand_moved s.store pool chain)).store u)))
   idle_kept (act.TakeAway fs pairs w) busy = same _ (all_taken s c aim.Committing w fs pairs)
+  idle_kept (act.BeginMove u volume) busy = h
+  idle_kept (act.CopyPage m page) busy = by_end (page_copied (with_faults s o.faults) c m page)
+      (copy_failed s c o.faults) h (one _ own)
+  idle_kept (act.CommitMove m) busy = h
   idle_kept (act.Signal w) busy = told_idle c w s.processors h
   idle_kept (act.FinishEviction f) busy = by_end (eviction_done (with_faults s o.faults) c f)
       (write_failed s c o.faults) (same (eviction_done (with_faults s o.faults) c f)

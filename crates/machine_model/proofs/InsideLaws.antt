@@ -1,26 +1,32 @@
 -- What the flat store answers a reference that isn't refused before its page is looked at.
 use Rattle.std.proofs.Common.{◌≡◌, ◌<◌, ℕ, ◌*◌, Bool, true, false, not, ◌&&◌, cond, eqb, List, Option, Some, None}
-use Rattle.std.proofs.Common.{inl, inr, refl, sym, ap, subst, ◌∙◌, arith}
+use Rattle.std.proofs.Common.{inl, inr, refl, sym, ap, subst, ◌∙◌, arith, is_some}
 use Rattle.std.specs.Prelude.{◌/◌, nat_le}
 use Rattle.std.proofs.lemmas.Bool.Decides.{leb_tells}
 use Rattle.script.specs.Plans.{who_of}
+use Rattle.script.specs.declared.commands.Command.{Command}
 use Rattle.script.specs.declared.commands.Reference.{Reference}
 use Rattle.book.specs.declared.replies.Reply.{Reply}
 use Rattle.book.specs.declared.replies.Reply.TheVariants as reply
 use Rattle.tree_model.specs.Access.{access_of}
 use Rattle.tree_model.specs.Tree.{Node, node_in}
+use Rattle.flat_model.specs.Moves.{is_held_back, is_held_in}
 use Rattle.flat_model.specs.Pages.{is_stored}
-use Rattle.script.specs.References.{alters, new_word, permits}
-use Rattle.flat_model.specs.References.{is_used_up, is_volume_full, reply_at, reply_of}
-use Rattle.flat_model.specs.References.{reply_to_reference, room_reply, stores_page, word_reply}
+use Rattle.script.specs.References.{alters, new_word, permits, reference_of}
+use Rattle.flat_model.specs.References.{is_used_up, is_out_of_room, reply_at, reply_of}
+use Rattle.flat_model.specs.References.{reply_to_reference, room_reply, stores_page, word_reply, is_volume_full}
+use Rattle.flat_model.specs.Rooms.{room_for}
 use Rattle.flat_model.specs.Store.{Store, known_uid}
 use Rattle.known_segs.specs.Known.{uid_of}
 use Rattle.seg_control.specs.Control.{kst_at}
 use Rattle.machine_model.specs.Keeps.{Keeps}
 use Rattle.machine_model.specs.Reads.{flat_of, or_zero}
 use Rattle.machine_model.specs.Refusal.{is_of_room, is_outside, only, outside_refusal, room_refusal, uid_of_number}
+use Rattle.machine_model.specs.Refusal.{move_to}
 use Rattle.machine_model.specs.State.{State}
 use Rattle.machine_model.proofs.LookFacts.{IsInside}
+use Rattle.flat_model.proofs.HeldLaws.{held_by, held_in, held_of, held_parts}
+use Rattle.flat_model.proofs.NodeLaws.{volume_found}
 use Rattle.flat_model.proofs.QuotaTotals.{found_uid}
 
 module _ (s : State) (k : ℕ) (r : Reference) (keeps : Keeps s) where
@@ -104,35 +110,40 @@ module _ (s : State) (k : ℕ) (r : Reference) (keeps : Keeps s) where
           | inr m ↦ m.0
         ]
 
-    -- of a page that is stored
-    pub stored_due : is_stored t.stored u (r.offset / 1024) ≡ true → reply_to_reference s.plan t k r ≡ word
-    stored_due h = due_is ∙ ap (λ (b : Bool). cond b (room_reply s.plan t inside.node word) word)
-        (ap (λ (b : Bool). alters r.kind && (not (eqb (new_word (t.words u r.offset) r.kind) 0) && not b)) h
-        ∙ no_page (alters r.kind) (not (eqb (new_word (t.words u r.offset) r.kind) 0)))
+    -- no page more is stored for a page that is, or for one of zeros to which no other word comes
+    stored_same : is_stored t.stored u (r.offset / 1024) ≡ true → stores_page t u r.offset r.kind ≡ false
+    stored_same h = ap (λ (b : Bool). alters r.kind && (not (eqb (new_word (t.words u r.offset) r.kind) 0) && not b)) h
+        ∙ no_page (alters r.kind) (not (eqb (new_word (t.words u r.offset) r.kind) 0))
       where
         no_page : (a b : Bool) → (a && (b && false)) ≡ false
         no_page true true = refl
         no_page true false = refl
         no_page false b = refl
 
-    -- of a page of zeros to which no other word comes
-    pub zero_due : t.words u r.offset ≡ 0 → eqb (new_word 0 r.kind) 0 ≡ true
-        → reply_to_reference s.plan t k r ≡ word_reply 0 r.kind
-    zero_due zero h = due_is ∙ (ap (λ (b : Bool). cond b (room_reply s.plan t inside.node word) word)
-        (ap (λ (w : ℕ). alters r.kind && (not (eqb (new_word w r.kind) 0)
+    zero_same : t.words u r.offset ≡ 0 → eqb (new_word 0 r.kind) 0 ≡ true → stores_page t u r.offset r.kind ≡ false
+    zero_same zero h = ap (λ (w : ℕ). alters r.kind && (not (eqb (new_word w r.kind) 0)
         && not (is_stored t.stored u (r.offset / 1024)))) zero
         ∙ (ap (λ (b : Bool). alters r.kind && (not b && not (is_stored t.stored u (r.offset / 1024)))) h
-        ∙ none (alters r.kind))) ∙ ap (λ (w : ℕ). word_reply w r.kind) zero)
+        ∙ none (alters r.kind))
       where
         none : (a : Bool) → (a && false) ≡ false
         none true = refl
         none false = refl
 
+    -- what such a page is answered
+    pub stored_due : is_stored t.stored u (r.offset / 1024) ≡ true → reply_to_reference s.plan t k r ≡ word
+    stored_due h = due_is ∙ ap (λ (b : Bool). cond b (room_reply s.plan t inside.node word) word) (stored_same h)
+
+    pub zero_due : t.words u r.offset ≡ 0 → eqb (new_word 0 r.kind) 0 ≡ true
+        → reply_to_reference s.plan t k r ≡ word_reply 0 r.kind
+    zero_due zero h = due_is ∙ (ap (λ (b : Bool). cond b (room_reply s.plan t inside.node word) word)
+        (zero_same zero h) ∙ ap (λ (w : ℕ). word_reply w r.kind) zero)
+
     -- of one for which there is room
     pub room_due : room_refusal s k r ≡ None → reply_to_reference s.plan t k r ≡ word
     unfolding room_refusal
     room_due h = due_is ∙ by (stores_page t u r.offset r.kind) (is_used_up t inside.node.uid)
-        (is_volume_full s.plan t inside.node.volume)
+        (is_out_of_room s.plan t inside.node)
         (sym (ap (only is_of_room) due_is) ∙ h)
       where
         by : (a b d : Bool) → only is_of_room (cond a (cond b reply.Quota (cond d reply.NoRecord word)) word) ≡ None
@@ -141,3 +152,42 @@ module _ (s : State) (k : ℕ) (r : Reference) (keeps : Keeps s) where
         by true false true i = absurd (let none : Some reply.NoRecord ≡ None = i in cc)
         by true false false i = refl
         by false b d i = refl
+
+    -- ---- what isn't held back
+
+    module _ (cmd : Command) (is : reference_of cmd ≡ Some r) where
+      held_is : is_held_back s.plan t k cmd ≡ is_held_in s.plan t k r.offset r.kind inside.node
+      held_is = held_by s.plan t k cmd (Some r) is
+          ∙ (held_of s.plan t k r (Some u) inside.known
+          ∙ held_in s.plan t k r.offset u r.kind (Some inside.node) inside.there)
+
+      -- where no page more is stored
+      same_free : stores_page t u r.offset r.kind ≡ false → is_held_back s.plan t k cmd ≡ false
+      same_free same = held_is ∙ by (is_held_in s.plan t k r.offset r.kind inside.node) refl
+        where
+          by : (z : Bool) → is_held_in s.plan t k r.offset r.kind inside.node ≡ z → z ≡ false
+          by true held = sym ((held_parts s.plan t k r.offset r.kind inside.node held).2)
+              ∙ (ap (λ (v : ℕ). stores_page t v r.offset r.kind)
+              (found_uid t.nodes u inside.node inside.there) ∙ same)
+          by false held = refl
+
+      pub stored_free : is_stored t.stored u (r.offset / 1024) ≡ true → is_held_back s.plan t k cmd ≡ false
+      stored_free h = same_free (stored_same h)
+
+      pub zero_free : t.words u r.offset ≡ 0 → eqb (new_word 0 r.kind) 0 ≡ true → is_held_back s.plan t k cmd ≡ false
+      zero_free zero h = same_free (zero_same zero h)
+
+      -- where the segment stays on its volume
+      pub stays_free : move_to s u ≡ None → is_held_back s.plan t k cmd ≡ false
+      unfolding move_to
+      stays_free stays = held_is ∙ by (is_held_in s.plan t k r.offset r.kind inside.node) refl
+        where
+          room : is_volume_full s.plan t inside.node.volume ≡ true → room_for s.plan t inside.node.uid ≡ None
+          room full = ap (room_for s.plan t) (found_uid t.nodes u inside.node inside.there)
+              ∙ (sym (ap (λ (b : Bool). cond b (room_for s.plan t u) None)
+              (ap (is_volume_full s.plan t) (sym (volume_found t.nodes u inside.node inside.there)) ∙ full)) ∙ stays)
+
+          by : (z : Bool) → is_held_in s.plan t k r.offset r.kind inside.node ≡ z → z ≡ false
+          by true held = let parts = held_parts s.plan t k r.offset r.kind inside.node held in
+              sym parts.5 ∙ ap (λ (x : Option ℕ). is_some x) (room parts.4)
+          by false held = refl

@@ -19,6 +19,7 @@ use Rattle.machine_model.specs.Custodial.{IsRun}
 use Rattle.machine_model.specs.Holding.{seen}
 use Rattle.machine_model.specs.Jobs.{pages_back, write_failed}
 use Rattle.machine_model.specs.Keeps.{IsFaithful, Keeps, StoreSays}
+use Rattle.machine_model.specs.Moves.{copy_failed}
 use Rattle.machine_model.specs.Reads.{cpu_at, cut_of_owner, flat_of, frames_of_owner, next_command, process_at}
 use Rattle.machine_model.specs.Reads.{processor_at}
 use Rattle.machine_model.specs.Reads.{or_zero, run_at}
@@ -34,6 +35,7 @@ use Rattle.processor.specs.declared.Transfer.{Transfer}
 use Rattle.machine_model.specs.Steps.{frame_lost, transfer_failed}
 use Rattle.machine_model.specs.Reads.{cpu_at, no_processor}
 use Rattle.machine_model.proofs.FlatAlike.{one_still}
+use Rattle.machine_model.proofs.MovingKept.{copy_failing}
 use Rattle.machine_model.proofs.StepKept.{CanLose}
 use Rattle.machine_model.specs.declared.Run.{Run}
 use Rattle.machine_model.proofs.BackKept.{all_back}
@@ -45,7 +47,7 @@ use Rattle.machine_model.proofs.RunLaws.{runs_failed}
 use Rattle.machine_model.proofs.SaysLaws.{back_on, pages_are_back, segs_are_back}
 use Rattle.machine_model.proofs.ScheduleKept.{IsAnswering, Sits, all_pages_back, all_segs_back, sits_on, still}
 use Rattle.machine_model.proofs.SpeakLaws.{Speaks, can_tell}
-use Rattle.machine_model.proofs.StepKept.{CanFailWrite}
+use Rattle.machine_model.proofs.StepKept.{CanFailWrite, CanFailCopy}
 use Rattle.machine_model.proofs.TellKept.{CanTell}
 
 -- ---- a failure is told
@@ -153,6 +155,19 @@ module _ (s : State) (c : ℕ) (o : Outcome) (cmd : Command) (keeps : Keeps s) (
           ∙ fails_more s (process_at s c) (flat_of s) keeps.faithful cmd may;
     },
   )
+
+-- ---- a page of a segment that moves can't be copied
+
+pub copy_asks : (s : State) (c : ℕ) (o : Outcome) (cmd : Command) → Keeps s → Speaks s c (process_at s c) cmd
+    → MayFailBy s.store (process_at s c) (Some cmd) → Rose s.faults o.faults → StoreSays (copy_failed s c o.faults)
+    → CanFailCopy s c o
+copy_asks s c o cmd keeps sp may rose says = record {
+  rose = rose;
+  may = (sp.runs (process_at s c)).ended ∙ sp.going;
+  tell = failure_tell s (copy_failing s c o.faults) c (process_at s c) cmd keeps sp (still refl refl refl refl)
+      (fault_is s (process_at s c)) may;
+  says = says;
+}
 
 -- ---- a page can't be read in
 

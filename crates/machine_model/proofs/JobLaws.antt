@@ -1,22 +1,26 @@
 -- Each step of the owner makes the measure of its job fall.
 use Rattle.std.proofs.Common.{◌≡◌, ◌≤◌, ◌<◌, ℕ, ◌+◌, Bool, true, false, cond, List, [], ◌∷◌, length, Option, None, set}
+use Rattle.std.proofs.Common.{◌&&◌}
 use Rattle.std.proofs.Common.{refl, sym, ap, subst, le_refl, le_of_eq, arith}
 use Rattle.std.proofs.lemmas.List.{get_or-set_same}
 use Rattle.core_map.specs.declared.Frame.{Frame}
 use Rattle.core_map.specs.declared.Frame.TheVariants as frame
 use Rattle.active_segs.specs.declared.Entry.{Entry}
 use Rattle.machine_model.specs.Outline.{Want, Refer, Truncate, Length, Other, Runner, no_runner, Work, EvictFrame}
-use Rattle.machine_model.specs.Outline.{EmptyPlace, CommitCommand, Stage, Look, Taken, Waiting, Keeper, Outline}
+use Rattle.machine_model.specs.Outline.{EmptyPlace, CommitCommand, Stage, Look, Taken, Waiting, Copying, Keeper}
+use Rattle.machine_model.specs.Outline.{Outline}
 use Rattle.machine_model.specs.Outline.{runner_at, want_at, at_stage}
 use Rattle.machine_model.specs.Measures.{IsSmall, chain_of, idle_links, off_links, readers, has_free, unlinked}
-use Rattle.machine_model.specs.Measures.{frame_lack, work_left, stage_left, parts_of, rank_of, job_left, job_rank}
+use Rattle.machine_model.specs.Measures.{frame_lack, room_lack, work_left, stage_left, parts_of, rank_of, job_left}
+use Rattle.machine_model.specs.Measures.{job_rank}
 use Rattle.machine_model.specs.Finishing.{IsIn, JobStep, activates, connects, takes_segment, takes_frame}
 use Rattle.machine_model.specs.Finishing.{takes_for_commit, signals, frees_frame, frees_page, empties, empties_at_once}
+use Rattle.machine_model.specs.Finishing.{begins_move, copies, commits_move, HasMoved}
 use Rattle.machine_model.specs.Finishing.{gives_up, starts, answers, AreAlike, with_link, with_runners}
 use Rattle.machine_model.specs.OutlineKept.{IsKept, FitsStage, FitsWork}
 use Rattle.machine_model.proofs.CountLaws.{activation_falls, emptying_off, emptying_idle, freed_is_free, readers_like}
 use Rattle.machine_model.proofs.CountLaws.{readers_set, dues_few, idle_few, off_few}
-use Rattle.machine_model.proofs.RankLaws.{falls_idle, falls_off, falls_link, falls_frame, falls_stage}
+use Rattle.machine_model.proofs.RankLaws.{falls_idle, falls_off, falls_link, falls_room, falls_frame, falls_stage}
 
 -- the measure of a job by its owner and stage
 pub ranked : (s : Outline) (c : ℕ) (stage : Stage) → IsIn s c stage
@@ -39,6 +43,16 @@ bit_small : (b : Bool) → cond {A = ℕ} b 0 1 < 2
 bit_small true = omega arith
 bit_small false = omega arith
 
+one_small : (b : Bool) → cond {A = ℕ} b 1 0 < 2
+one_small true = omega arith
+one_small false = omega arith
+
+room_small : (full : ℕ → Bool) (w : Want) → room_lack full w < 2
+room_small full (Refer chain uid page makes) = one_small (makes && full uid)
+room_small full (Truncate chain uid cut) = omega arith
+room_small full (Length uid) = omega arith
+room_small full Other = omega arith
+
 pub frame_small : (stage : Stage) (frames : List Frame) → frame_lack stage frames < 2
 frame_small Look frames = bit_small (has_free frames)
 frame_small (Taken (EvictFrame f)) frames = omega arith
@@ -47,6 +61,7 @@ frame_small (Taken CommitCommand) frames = bit_small (has_free frames)
 frame_small (Waiting (EvictFrame f)) frames = omega arith
 frame_small (Waiting (EmptyPlace place rest)) frames = bit_small (has_free frames)
 frame_small (Waiting CommitCommand) frames = bit_small (has_free frames)
+frame_small (Copying left) frames = bit_small (has_free frames)
 
 work_small : (s : Outline) (w : Want) (work : Work) → FitsWork s w work → work_left work ≤ 257
 work_small s w (EvictFrame f) fits = omega arith
@@ -57,6 +72,7 @@ stage_small : (s : Outline) (w : Want) (stage : Stage) → FitsStage s w stage �
 stage_small s w Look fits = omega arith
 stage_small s w (Taken work) fits = let few = work_small s w work fits in omega (arith, few)
 stage_small s w (Waiting work) fits = let few = work_small s w work fits in omega (arith, few)
+stage_small s w (Copying left) fits = let few = fits.1 in omega (arith, few)
 
 pub small_of : (t : Outline) (c : ℕ) (stage : Stage) → IsKept t → IsIn t c stage
     → IsSmall (parts_of t (runner_at t.runners c) stage)
@@ -72,6 +88,7 @@ small_of t c stage kept owner =
       idle = omega (arith, idle, links);
       off = omega (arith, off, entries);
       link = link_small (want_at t c) (runner_at t.runners c).linked;
+      room = room_small t.full (want_at t c);
       frame = frame_small stage t.frames;
       stage = stage_small t (want_at t c) stage (kept.job.fits c stage owner);
       due = omega (arith, due, runners);
@@ -95,6 +112,22 @@ link_like x y want linked = rw (want, linked) (le_refl _)
 link_falls : (w : Want) (b : Bool) (chain : List ℕ) (uid page : ℕ) (makes : Bool) → w ≡ Refer chain uid page makes
     → b ≡ false → unlinked w true < unlinked w b
 link_falls w b chain uid page makes is off = rw (is, off) (omega arith)
+
+room_like : (full : ℕ → Bool) (v w : Want) → v ≡ w → room_lack full v ≤ room_lack full w
+room_like full v w h = rw h (le_refl _)
+
+-- no volume has fewer free records
+room_less : (s : Outline) (now : ℕ → Bool) (w : Want) → ((uid : ℕ) → now uid ≡ true → s.full uid ≡ true)
+    → room_lack now w ≤ room_lack s.full w
+room_less s now (Refer chain uid page makes) less = by makes (now uid) (s.full uid) (less uid)
+  where
+    by : (m a b : Bool) → (a ≡ true → b ≡ true) → cond {A = ℕ} (m && a) 1 0 ≤ cond {A = ℕ} (m && b) 1 0
+    by true true b h = rw (h refl) (le_refl _)
+    by true false b h = omega arith
+    by false a b h = le_refl _
+room_less s now (Truncate chain uid cut) less = le_refl _
+room_less s now (Length uid) less = le_refl _
+room_less s now Other less = le_refl _
 
 idle_like : (entries : List (Option Entry)) (v w : Want) → v ≡ w
     → idle_links entries (chain_of v) ≤ idle_links entries (chain_of w)
@@ -126,7 +159,8 @@ stage_falls s c runners a b owner alike kept frame less =
     (falls_stage _ _ (small_of (with_runners (at_stage s c b) runners) c b kept refl)
     (le_of_eq (readers_like s.runners runners alike.count alike.reading))
     (idle_like s.entries _ _ alike.want) (off_like s.entries _ _ alike.want)
-    (link_like (runner_at s.runners c) (runner_at runners c) alike.want alike.linked) frame less)
+    (link_like (runner_at s.runners c) (runner_at runners c) alike.want alike.linked)
+    (room_like s.full _ _ alike.want) frame less)
 
 full_lacks : (frames : List Frame) → has_free frames ≡ false → 1 ≤ frame_lack Look frames
 full_lacks frames full = rw full (omega arith)
@@ -163,6 +197,11 @@ connect_falls s c chain uid page makes kept now owner want off =
     less = falls_link _ _ small reading (le_refl _) (le_refl _)
         (link_falls (want_at s c) (runner_at s.runners c).linked chain uid page makes want off)
 
+-- a segment has moved to a volume where a record is free
+room_falls : (s : Outline) (c : ℕ) (full : ℕ → Bool) → HasMoved s c full
+    → room_lack full (want_at s c) < room_lack s.full (want_at s c)
+room_falls s c full h = rw (h.want, h.lacked, h.has) (omega arith)
+
 -- Each step of the owner makes the measure of its job fall.
 pub job_falls : (s : Outline) (c : ℕ) (t : Outline) → IsKept s → IsKept t → JobStep s c t → job_rank t < job_rank s
 job_falls s c t k l (activates place uid superior can) =
@@ -185,17 +224,18 @@ job_falls s c t k l (signals (EmptyPlace place rest) runners owner alike) =
     (omega arith)
 job_falls s c t k l (signals CommitCommand runners owner alike) =
     stage_falls s c runners (Taken CommitCommand) (Waiting CommitCommand) owner alike l (le_refl _) (omega arith)
-job_falls s c t k l (frees_frame f stored owner due may) =
+job_falls s c t k l (frees_frame f stored full owner due may) =
     let within : f < length s.frames = (k.job.fits c (Waiting (EvictFrame f)) owner).0.0 in
     let lacks = freed_lacks s.frames f within in
     between s _ c (Waiting (EvictFrame f)) Look owner refl
-    (falls_frame _ _ (small_of _ c Look l refl) (le_refl _) (le_refl _) (le_refl _) (le_refl _) (omega (arith, lacks)))
-job_falls s c t k l (frees_page place f rest stored owner due may) =
+    (falls_frame _ _ (small_of _ c Look l refl) (le_refl _) (le_refl _) (le_refl _) (le_refl _)
+    (room_less s full (want_at s c) may.room) (omega (arith, lacks)))
+job_falls s c t k l (frees_page place f rest stored full owner due may) =
     let within : f < length s.frames = (k.job.fits c (Waiting (EmptyPlace place (f ∷ rest))) owner).0.0.0 in
     let lacks = freed_lacks s.frames f within in
     between s _ c (Waiting (EmptyPlace place (f ∷ rest))) (Waiting (EmptyPlace place rest)) owner refl
     (falls_stage _ _ (small_of _ c (Waiting (EmptyPlace place rest)) l refl) (le_refl _) (le_refl _) (le_refl _)
-    (le_refl _) (omega (arith, lacks)) (omega arith))
+    (le_refl _) (room_less s full (want_at s c) may.room) (omega (arith, lacks)) (omega arith))
 job_falls s c t k l (empties place runners owner due alike none) =
     let fits = k.job.fits c (Waiting (EmptyPlace place [])) owner in
     let chain : List ℕ = chain_of (want_at s c) in
@@ -211,6 +251,15 @@ job_falls s c t k l (empties_at_once place can) =
     between s _ c Look Look can.look can.look
     (falls_off _ _ (small_of _ c Look l can.look) (le_refl _) (emptying_idle s.entries place chain can.off can.within)
     (emptying_off s.entries place chain can.off can.within))
+job_falls s c t k l (begins_move left owner few) =
+    stage_falls s c s.runners Look (Copying left) owner (alike_self s.runners c) l (le_refl _) (omega (arith, few))
+job_falls s c t k l (copies left fewer owner less) =
+    stage_falls s c s.runners (Copying left) (Copying fewer) owner (alike_self s.runners c) l (le_refl _)
+    (omega (arith, less))
+job_falls s c t k l (commits_move left stored full owner has) =
+    between s _ c (Copying left) Look owner refl
+    (falls_room _ _ (small_of _ c Look l refl) (le_refl _) (le_refl _) (le_refl _) (le_refl _)
+    (room_falls s c full has))
 job_falls s c t k l (gives_up chain uid page makes owner want fits) = over_falls s _ c Look owner refl
 job_falls s c t k l (starts f uid page can) = over_falls s _ c Look can.look refl
 job_falls s c t k l (answers stage _ owner due given) = over_falls s t c stage owner given.owner

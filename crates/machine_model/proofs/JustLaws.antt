@@ -210,3 +210,4 @@ pub taken_in : (ph : Phase) (s now : State) (k : ℕ) (x : Option Command) → L
 taken_in phase.Looking s now k x l fails h = tt
 taken_in (phase.Taken a w) s now k x l fails h = taken_to a s now k x l fails h
 taken_in (phase.Waiting a w) s now k x l fails h = taken_to a s now k x l fails h
+taken_in (phase.Moving m) s now k x l fails h = tt

@@ -13,12 +13,15 @@ use Rattle.active_segs.specs.Active.{entry_at, uid_in}
 use Rattle.active_segs.specs.Victim.{off_chain, IsOffChain}
 use Rattle.processor.specs.declared.Transfer.{Transfer}
 use Rattle.machine_model.specs.Outline.{Want, Refer, Truncate, Length, Other, Runner, no_runner, Work, EvictFrame}
-use Rattle.machine_model.specs.Outline.{EmptyPlace, CommitCommand, Stage, Look, Taken, Waiting, Keeper, Outline, Turn}
+use Rattle.machine_model.specs.Outline.{EmptyPlace, CommitCommand, Stage, Look, Taken, Waiting, Copying, Keeper}
+use Rattle.machine_model.specs.Outline.{Outline}
+use Rattle.machine_model.specs.Outline.{Turn}
 use Rattle.machine_model.specs.Outline.{runner_at, want_at, at_stage, with_runner, with_frame, with_entry, frame_in}
 use Rattle.machine_model.specs.Measures.{chain_of, is_of, is_here, dues}
 use Rattle.machine_model.specs.Finishing.{Comes, Clears, Loads, Leaves, Commands, rule_of, owns, IsIn, JobStep}
 use Rattle.machine_model.specs.Finishing.{activates, connects, takes_segment, takes_frame, takes_for_commit, signals}
 use Rattle.machine_model.specs.Finishing.{frees_frame, frees_page, empties, empties_at_once, gives_up, starts, answers}
+use Rattle.machine_model.specs.Finishing.{begins_move, copies, commits_move}
 use Rattle.machine_model.specs.Finishing.{AreAlike, AreOf, CanStart, is_bound, is_wanted_here, page_of, uid_of}
 use Rattle.machine_model.specs.Finishing.{with_link, with_runners, with_stored, without_owner, now_reading, entry_for}
 use Rattle.machine_model.specs.Finishing.{IsAnswered, Step, ends, comes, clears, reads, loses, works, awaits_clear}
@@ -220,12 +223,14 @@ fits_read s t w (Taken work) f x lt started frames entries due h =
     fits_read_work s t w work f x lt started frames entries h
 fits_read s t w (Waiting work) f x lt started frames entries due h =
     fits_read_work s t w work f x lt started frames entries h
+fits_read s t w (Copying left) f x lt started frames entries due h = (due h.0, h.1)
 
 fits_still : (s t : Outline) (w : Want) (stage : Stage) → t.frames ≡ s.frames → t.entries ≡ s.entries
     → (dues s.runners ≡ 0 → dues t.runners ≡ 0) → FitsStage s w stage → FitsStage t w stage
 fits_still s t w Look frames entries due h = due h
 fits_still s t w (Taken work) frames entries due h = fits_alike s t w w work refl frames entries h
 fits_still s t w (Waiting work) frames entries due h = fits_alike s t w w work refl frames entries h
+fits_still s t w (Copying left) frames entries due h = (due h.0, h.1)
 
 -- ---- a processor other than the owner changes
 
@@ -350,18 +355,18 @@ job_keeps s c t k sizes given (signals w runners owner alike) =
     (fits_alike s (with_runners (at_stage s c (Waiting w)) runners) (want_at s c) (runner_at runners c).want w
     alike.want refl
     refl (k.job.fits c (Taken w) owner)))
-job_keeps s c t k sizes given (frees_frame f stored owner due may) =
+job_keeps s c t k sizes given (frees_frame f stored full owner due may) =
     let taken = (k.job.fits c (Waiting (EvictFrame f)) owner).0 in
-    kept (with_stored (at_stage (with_frame s f frame.Free) c Look) stored) sizes
+    kept (with_stored (at_stage (with_frame s f frame.Free) c Look) stored full) sizes
     (freed_tied s (want_at s c) f k taken.0 taken.1)
-    (job_of (with_stored (at_stage (with_frame s f frame.Free) c Look) stored) c Look refl
+    (job_of (with_stored (at_stage (with_frame s f frame.Free) c Look) stored full) c Look refl
     (k.job.at_work c (Waiting (EvictFrame f)) owner) due)
-job_keeps s c t k sizes given (frees_page place f rest stored owner due may) =
+job_keeps s c t k sizes given (frees_page place f rest stored full owner due may) =
     let fits = k.job.fits c (Waiting (EmptyPlace place (f ∷ rest))) owner in
     let few : suc (length rest) ≤ 256 = fits.1 in
-    kept (with_stored (at_stage (with_frame s f frame.Free) c (Waiting (EmptyPlace place rest))) stored) sizes
+    kept (with_stored (at_stage (with_frame s f frame.Free) c (Waiting (EmptyPlace place rest))) stored full) sizes
     (freed_tied s (want_at s c) f k fits.0.0.0 fits.0.0.1)
-    (job_of (with_stored (at_stage (with_frame s f frame.Free) c (Waiting (EmptyPlace place rest))) stored) c
+    (job_of (with_stored (at_stage (with_frame s f frame.Free) c (Waiting (EmptyPlace place rest))) stored full) c
     (Waiting (EmptyPlace place rest)) refl (k.job.at_work c (Waiting (EmptyPlace place (f ∷ rest))) owner)
     (rest_spared s.frames (want_at s c) f rest fits.0, omega (arith, few), fits.2, fits.3))
 job_keeps s c t k sizes given (empties place runners owner due alike none) =
@@ -372,6 +377,20 @@ job_keeps s c t k sizes given (empties place runners owner due alike none) =
 job_keeps s c t k sizes given (empties_at_once place can) =
     kept (with_entry s place None) sizes k.tied
     (job_of (with_entry s place None) c Look can.look (k.job.at_work c Look can.look) (k.job.fits c Look can.look))
+job_keeps s c t k sizes given (begins_move left owner few) =
+    kept (at_stage s c (Copying left)) sizes k.tied
+    (job_of (at_stage s c (Copying left)) c (Copying left) refl (k.job.at_work c Look owner)
+    (k.job.fits c Look owner, few))
+job_keeps s c t k sizes given (copies left fewer owner less) =
+    let fits = k.job.fits c (Copying left) owner in
+    let few = fits.1 in
+    kept (at_stage s c (Copying fewer)) sizes k.tied
+    (job_of (at_stage s c (Copying fewer)) c (Copying fewer) refl (k.job.at_work c (Copying left) owner)
+    (fits.0, omega (arith, few, less)))
+job_keeps s c t k sizes given (commits_move left stored full owner has) =
+    kept (with_stored (at_stage s c Look) stored full) sizes k.tied
+    (job_of (with_stored (at_stage s c Look) stored full) c Look refl (k.job.at_work c (Copying left) owner)
+    (k.job.fits c (Copying left) owner).0)
 job_keeps s c t k sizes given (gives_up chain uid page makes owner want fits) =
     kept (without_owner s) sizes k.tied (job_none (without_owner s) refl (k.job.fits c Look owner))
 job_keeps s c t k sizes given (starts f uid page can) = start_kept s c f uid page k sizes can

@@ -160,25 +160,27 @@ not_page (frame.Bound u q used modified) uid page out h =
     same : (i j : ℕ) → i ≡ j → eqb i j ≡ true
     same i j e = elim (eqb_tells i j) [ inl x ↦ x.0 | inr x ↦ absurd (x.1 e) ]
 
-pub freed_fits : (s : Outline) (f : ℕ) (stored : ℕ → ℕ → Bool) (w : Want) (r : Option Transfer) → f < length s.frames
-    → is_spared w (frame_in s.frames f) ≡ true → MayRelease s f stored
-    → wanted_fits s w r ≡ true → wanted_fits (with_stored (with_frame s f frame.Free) stored) w r ≡ true
-freed_fits s f stored (Refer chain uid page makes) r lt spared may h =
-    page_same s f stored uid page makes r lt (spared_not (Refer chain uid page makes) (frame_in s.frames f) spared)
+pub freed_fits : (s : Outline) (f : ℕ) (stored : ℕ → ℕ → Bool) (full : ℕ → Bool) (w : Want) (r : Option Transfer)
+    → f < length s.frames → is_spared w (frame_in s.frames f) ≡ true → MayRelease s f stored full
+    → wanted_fits s w r ≡ true → wanted_fits (with_stored (with_frame s f frame.Free) stored full) w r ≡ true
+freed_fits s f stored full (Refer chain uid page makes) r lt spared may h =
+    page_same s f stored full uid page makes r lt (spared_not (Refer chain uid page makes) (frame_in s.frames f) spared)
     may ∙ h
   where
-    page_same : (s : Outline) (f : ℕ) (stored : ℕ → ℕ → Bool) (uid page : ℕ) (makes : Bool) (r : Option Transfer)
-        → f < length s.frames → is_of uid page (frame_in s.frames f) ≡ false → MayRelease s f stored
-        → page_fits (with_stored (with_frame s f frame.Free) stored) r uid page makes ≡ page_fits s r uid page makes
-    page_same s f stored uid page makes r lt out may =
+    page_same : (s : Outline) (f : ℕ) (stored : ℕ → ℕ → Bool) (full : ℕ → Bool) (uid page : ℕ) (makes : Bool)
+        (r : Option Transfer)
+        → f < length s.frames → is_of uid page (frame_in s.frames f) ≡ false → MayRelease s f stored full
+        → page_fits (with_stored (with_frame s f frame.Free) stored full) r uid page makes
+        ≡ page_fits s r uid page makes
+    page_same s f stored full uid page makes r lt out may =
         let here = here_same s.frames f uid page frame.Free lt out refl in
         let kept = may.others uid page (not_page (frame_in s.frames f) uid page out) in
         rw (here, kept) refl
-freed_fits s f stored (Truncate chain uid None) r lt spared may h = refl
-freed_fits s f stored (Truncate chain uid (Some page)) r lt spared may h =
+freed_fits s f stored full (Truncate chain uid None) r lt spared may h = refl
+freed_fits s f stored full (Truncate chain uid (Some page)) r lt spared may h =
     let out = spared_not (Truncate chain uid (Some page)) (frame_in s.frames f) spared in
     let here = here_same s.frames f uid page frame.Free lt out refl in
     let kept = may.others uid page (not_page (frame_in s.frames f) uid page out) in
     rw (here, kept) h
-freed_fits s f stored (Length uid) r lt spared may h = refl
-freed_fits s f stored Other r lt spared may h = refl
+freed_fits s f stored full (Length uid) r lt spared may h = refl
+freed_fits s f stored full Other r lt spared may h = refl

@@ -20,6 +20,7 @@ pub mod CommandFacts
 pub mod CommandLaws
 pub mod CommitKept
 pub mod CountLaws
+pub mod CountsAlike
 pub mod CutPages
 pub mod CutRights
 pub mod DeleteKept
@@ -56,6 +57,7 @@ pub mod KeepLaws
 pub mod KeptLaws
 pub mod LackLaws
 pub mod LateWord
+pub mod LackingLaws
 pub mod LeafLaws
 pub mod LeaveSeen
 pub mod LeftLaws
@@ -69,7 +71,12 @@ pub mod LookSeen
 pub mod LoopLaws
 pub mod MachineRounds
 pub mod MoveAsks
+pub mod MoveFound
 pub mod MoveSeen
+pub mod MovedSeen
+pub mod MoverTied
+pub mod MovingKept
+pub mod MovingSays
 pub mod NumberLaws
 pub mod OffChain
 pub mod OneProcess
@@ -80,6 +87,7 @@ pub mod OutlineAnswer
 pub mod OutlineBoot
 pub mod OutlineEnd
 pub mod OutlineJob
+pub mod OutlineMove
 pub mod OutlineLoss
 pub mod OutlineOwner
 pub mod OutlineReads
@@ -113,6 +121,7 @@ pub mod ScheduleKept
 pub mod ScheduleLaws
 pub mod SeatLaws
 pub mod SeenLaws
+pub mod SegmentMoved
 pub mod SharedSegment
 pub mod SpeakLaws
 pub mod StepAsks
@@ -154,6 +163,7 @@ pub mod VisitAll
 pub mod VisitKept
 pub mod WaitForTransfer
 pub mod WantLaws
+pub mod WantMoved
 pub mod WholeKept
 pub mod WholeLaws
 pub mod WordLaws

@@ -25,6 +25,7 @@ use Rattle.seg_control.specs.Control.{kst_at, leads, place_of, table_of, word_of
 use Rattle.seg_control.specs.Kept.{IsKnownAt}
 use Rattle.page_control.specs.Tied.{has_record}
 use Rattle.flat_model.specs.Commands.{reply_by, reply_to_command}
+use Rattle.flat_model.specs.Moves.{is_held_back}
 use Rattle.flat_model.specs.References.{word_reply}
 use Rattle.flat_model.specs.Store.{Store, known_uid, progress_of}
 use Rattle.custody_model.specs.Allowed.{MayActivate, MayAnswer as MayAnswerBy, MayJoin, stores}
@@ -49,7 +50,7 @@ use Rattle.machine_model.proofs.ChainFacts.{chain_active, first_there, superior_
 use Rattle.machine_model.proofs.CommandFacts.{truncate_stands}
 use Rattle.machine_model.proofs.FindLaws.{find_true}
 use Rattle.machine_model.proofs.FlatAlike.{one_still}
-use Rattle.machine_model.proofs.InsideLaws.{inside_is, room_due}
+use Rattle.machine_model.proofs.InsideLaws.{inside_is, room_due, stays_free}
 use Rattle.machine_model.proofs.ListLaws.{within_by}
 use Rattle.machine_model.proofs.LookFacts.{FindsLink, FindsPage, FindsPlace, FindsRoom, IsAbout}
 use Rattle.machine_model.proofs.LookFacts.{IsInside, IsRefused}
@@ -323,7 +324,10 @@ module _ (s : State) (c : ℕ) (o : Outcome) (m : IsMachine s) (idle : IsIdle s.
     active = (active_place s.store.ast u active).0;
     inner = page_inner u p inside.node active (sym (flat_node u) ∙ inside.there)
         (let within = inside.within in let page = finds.finds.page in omega (arith, within, page));
-    tell = can_tell (page_made s f u p r) c k cmd None (word_reply 0 r.kind) (still_speaks f u p r) (inl due) may;
+    tell = can_tell (page_made s f u p r) c k cmd None (word_reply 0 r.kind) (still_speaks f u p r) (inl (record {
+      own = due;
+      free = free;
+    })) may;
     says = created_says s c o f u u p r cmd keeps says speaks.next finds.finds.is inside.known zero_word finds.word;
   }
     where
@@ -338,6 +342,11 @@ module _ (s : State) (c : ℕ) (o : Outcome) (m : IsMachine s) (idle : IsIdle s.
 
       zero_word : (flat_of s).words u r.offset ≡ 0
       zero_word = null_word s keeps u active r.offset null
+
+      -- its segment stays, so the reply isn't held back
+      free : is_held_back s.plan (flat_of (page_made s f u p r)) k cmd ≡ false
+      free = ap (λ (t : Store). is_held_back s.plan t k cmd) (one_still s.plan s.entries (entry.Here f u p) refl)
+          ∙ stays_free s k r keeps u inside cmd finds.finds.is finds.stays
 
       flat_same : flat_of (page_made s f u p r) ≡ flat_of s
       flat_same = one_still s.plan s.entries (entry.Here f u p) refl

@@ -37,11 +37,12 @@ use Rattle.machine_model.specs.Actions.{frame_read_from, frames_taken, into_fram
 use Rattle.machine_model.specs.Actions.{look_for, look_for_reference, look_inside, look_of}
 use Rattle.machine_model.specs.Actions.{look_to_change, look_to_take, look_unless, pool_of_node, room_for}
 use Rattle.machine_model.specs.Actions.{take_or_commit, unless_read, what_taken, with_chain, with_cut_page}
+use Rattle.machine_model.specs.Actions.{look_to_create, move_or}
 use Rattle.machine_model.specs.Custodial.{is_out}
 use Rattle.machine_model.specs.Reads.{descriptor_of, first_inactive, flat_of, frame_reading, free_place, is_active}
 use Rattle.machine_model.specs.Reads.{is_page_of, or_zero}
 use Rattle.machine_model.specs.Refusal.{is_of_room, is_outside, only, outside_refusal, refusal_of, room_refusal}
-use Rattle.machine_model.specs.Refusal.{uid_of_command, uid_of_number}
+use Rattle.machine_model.specs.Refusal.{uid_of_command, uid_of_number, move_to}
 use Rattle.machine_model.specs.State.{State}
 use Rattle.machine_model.proofs.FindLaws.{position_at}
 use Rattle.flat_model.specs.Commands.{reply_to_tree_command}
@@ -112,14 +113,25 @@ pub record FindsPage (s : State) (k : ℕ) (cmd : Command) (r : Reference) (u p 
   pub linked : descriptor_of s.store.links k r.number ≡ sdw.Present aste mode pages
   pub page : r.offset / 1024 ≡ p
 
--- a page may be made
+-- a page may be made, and its segment stays where it is
 pub record FindsRoom (s : State) (k : ℕ) (cmd : Command) (f u p : ℕ) (r : Reference) : Type 0 where
   pub finds : FindsPage s k cmd r u p
   pub null : word_of s.store.ast u p ≡ ptw.Null
   pub word : eqb (new_word 0 r.kind) 0 ≡ false
   pub room : room_refusal s k r ≡ None
+  pub stays : move_to s u ≡ None
   pub frame : least_free_frame s.store.pages.core ≡ Some f
   pub unread : frame_reading s.store.pages.core u (λ q. eqb q p) ≡ None
+
+-- a page may be made once its segment has moved
+pub record FindsMove (s : State) (k : ℕ) (cmd : Command) (u volume : ℕ) : Type 0 where
+  pub reference : Reference
+  pub finds : FindsPage s k cmd reference u (reference.offset / 1024)
+  pub null : word_of s.store.ast u (reference.offset / 1024) ≡ ptw.Null
+  pub word : eqb (new_word 0 reference.kind) 0 ≡ false
+  pub room : room_refusal s k reference ≡ None
+  pub moves : move_to s u ≡ Some volume
+  pub unread : frame_reading s.store.pages.core u any_page ≡ None
 
 -- a `truncate` whose chain is active, and which cuts this page
 pub record FindsCut (s : State) (k : ℕ) (cmd : Command) (u p : ℕ) : Type 0 where
@@ -213,6 +225,7 @@ LookFinds s k cmd (act.Empty u) = FindsActive s k cmd u
 LookFinds s k cmd (act.EmptyVictim pool chain u) = FindsVictim s k cmd pool chain u
 LookFinds s k cmd (act.TakeAway fs pairs w) = FindsTaken s k cmd fs pairs
     × (w ≡ what_taken (uid_of_command s.store k cmd) cmd) × ((fs ≢ []) ⊎ (pairs ≢ []))
+LookFinds s k cmd (act.BeginMove u volume) = FindsMove s k cmd u volume
 LookFinds s k cmd act.Commit = FindsTaken s k cmd [] []
 LookFinds s k cmd _ = ⊥
 
@@ -390,22 +403,38 @@ module _ (s : State) (k : ℕ) (cmd : Command) where
         word_finds : (w : Ptw) → word_of s.store.ast uid p ≡ w → LookFinds s k cmd (look_at_word s k r uid p w)
         word_finds ptw.Null e = by (eqb (new_word 0 r.kind) 0) refl
           where
-            create : (x : Option Reply) → room_refusal s k r ≡ x → eqb (new_word 0 r.kind) 0 ≡ false
-                → LookFinds s k cmd (create_unless x (room_for core uid p (λ f. act.Create f uid p r)))
-            create (Some x) h word = refused_room x h
-            create None h word = room_finds uid p (inl (r, page_of))
+            moves : (x : Option ℕ) → move_to s uid ≡ x → room_refusal s k r ≡ None → eqb (new_word 0 r.kind) 0 ≡ false
+                → LookFinds s k cmd (move_or core uid x (room_for core uid p (λ f. act.Create f uid p r)))
+            moves (Some volume) m h word = unless_finds uid any_page (frame_reading core uid any_page)
+                (act.BeginMove uid volume) refl (λ unread. record {
+                  reference = r;
+                  finds = page_of;
+                  null = e;
+                  word = word;
+                  room = h;
+                  moves = m;
+                  unread = unread;
+                })
+            moves None m h word = room_finds uid p (inl (r, page_of))
                 (λ g here. (let no : ptw.Null ≡ ptw.Here g = sym e ∙ here in cc)) (λ f. act.Create f uid p r)
                 (λ f free unread. record {
                   finds = page_of;
                   null = e;
                   word = word;
                   room = h;
+                  stays = m;
                   frame = free;
                   unread = unread;
                 })
 
-            by : (b : Bool) → eqb (new_word 0 r.kind) 0 ≡ b → LookFinds s k cmd (cond b act.GiveUp
-                (create_unless (room_refusal s k r) (room_for core uid p (λ f. act.Create f uid p r))))
+            create : (x : Option Reply) → room_refusal s k r ≡ x → eqb (new_word 0 r.kind) 0 ≡ false
+                → LookFinds s k cmd (create_unless x
+                (move_or core uid (move_to s uid) (room_for core uid p (λ f. act.Create f uid p r))))
+            create (Some x) h word = refused_room x h
+            create None h word = moves (move_to s uid) refl h word
+
+            by : (b : Bool) → eqb (new_word 0 r.kind) 0 ≡ b
+                → LookFinds s k cmd (cond b act.GiveUp (look_to_create s k r uid p))
             by true h = all_of ptw.Null e refl (λ i. h)
             by false h = create (room_refusal s k r) refl h
         word_finds (ptw.Out n) e = room_finds uid p (inl (r, page_of))

@@ -26,9 +26,11 @@ use Rattle.machine_model.specs.Actions.{frame_read_from, frames_taken, into_fram
 use Rattle.machine_model.specs.Actions.{look_for, look_for_command, look_for_reference, look_inside, look_of}
 use Rattle.machine_model.specs.Actions.{look_to_change, look_to_take, look_unless, pool_of_node, room_for}
 use Rattle.machine_model.specs.Actions.{take_or_commit, unless_read, what_taken, with_chain, with_cut_page}
+use Rattle.machine_model.specs.Actions.{look_to_create, move_or}
 use Rattle.machine_model.specs.Custodial.{is_out}
 use Rattle.machine_model.specs.Reads.{first_inactive, frame_reading, free_place, is_active, descriptor_of}
 use Rattle.machine_model.specs.Refusal.{outside_refusal, refusal_of, room_refusal, uid_of_command, uid_of_number}
+use Rattle.machine_model.specs.Refusal.{move_to}
 use Rattle.machine_model.specs.State.{State}
 
 -- An action that a look may come to. A page is read into the least free frame where it is read into none, and made in
@@ -48,6 +50,7 @@ IsLook s (act.Evict f) = clock_choice s.store.pages.core ≡ Some f
 IsLook s (act.Empty u) = Unit {0}
 IsLook s (act.EmptyVictim pool chain u) = Unit {0}
 IsLook s (act.TakeAway fs pairs w) = Unit {0}
+IsLook s (act.BeginMove u volume) = Unit {0}
 IsLook s act.Commit = Unit {0}
 IsLook s _ = ⊥
 
@@ -119,15 +122,20 @@ module _ (s : State) where
   create_look (Some r) a h = tt
   create_look None a h = h
 
+  move_look : (u : ℕ) (x : Option ℕ) (a : act.Action) → IsLook s a → IsLook s (move_or core u x a)
+  move_look u None a h = h
+  move_look u (Some volume) a h = unless_look (frame_reading core u any_page) (act.BeginMove u volume) tt
+
   word_look : (k : ℕ) (r : Reference) (u p : ℕ) (w : Ptw) → word_of s.store.ast u p ≡ w
       → IsLook s (look_at_word s k r u p w)
   word_look k r u p ptw.Null e = by (new_word 0 r.kind == 0)
     where
-      by : (b : Bool) → IsLook s (cond b act.GiveUp
-          (create_unless (room_refusal s k r) (room_for core u p (λ f. act.Create f u p r))))
+      by : (b : Bool) → IsLook s (cond b act.GiveUp (look_to_create s k r u p))
       by true = tt
-      by false = create_look (room_refusal s k r) (room_for core u p (λ f. act.Create f u p r))
-          (room_look u p (λ f. act.Create f u p r) (λ f free unread. (free, e)))
+      by false = create_look (room_refusal s k r)
+          (move_or core u (move_to s u) (room_for core u p (λ f. act.Create f u p r)))
+          (move_look u (move_to s u) (room_for core u p (λ f. act.Create f u p r))
+          (room_look u p (λ f. act.Create f u p r) (λ f free unread. (free, e))))
   word_look k r u p (ptw.Out n) e = room_look u p (λ f. act.Start f u p) (λ f free unread. (free, unread, ap is_out e))
   word_look k r u p (ptw.Here f) e = tt
   word_look k r u p (ptw.Leaving f) e = tt

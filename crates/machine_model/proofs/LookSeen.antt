@@ -550,6 +550,7 @@ module _ (s : State) (c : ℕ) (m : IsMachine s) (cmd : Command) (sp : Speaks s 
     tree_link s (took s c aim.Committing w fs pairs) c k sp.its (all_taken s c aim.Committing w fs pairs) cmd sp.next
         h.0.tree,
   )
+  looks_like (act.BeginMove u volume) h = tt
   looks_like act.Commit h = may
   looks_like _ h = absurd h
 

@@ -91,6 +91,7 @@ module _ (p : Plan) (words : List (List ℕ)) (disks : List (List (List ℕ))) (
       come = booted_come p words disks script;
       scheduled = first_scheduled;
       pools = refl;
+      moving = refl;
     };
     entitled = record { each = λ d k h. absurd (nobody d k h) };
     reading = record { each = λ d t h. absurd (reads_nothing d t h) };

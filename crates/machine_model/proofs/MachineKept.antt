@@ -6,12 +6,14 @@ use Rattle.machine_model.specs.Actions as act
 use Rattle.machine_model.specs.Actions.{action_of}
 use Rattle.machine_model.specs.After.{Outcome, after}
 use Rattle.machine_model.specs.Keeps.{Keeps}
+use Rattle.machine_model.specs.Movers.{AsksMover, mover_of}
 use Rattle.machine_model.specs.Promise.{IsMachine, KeepsAll}
 use Rattle.machine_model.specs.Said.{Says}
 use Rattle.machine_model.specs.State.{State}
 use Rattle.machine_model.proofs.EntitledKept.{MayEntitle, entitled_kept}
-use Rattle.machine_model.proofs.CommitRights.{commit_entitled}
+use Rattle.machine_model.proofs.CommitRights.{commit_entitled, moved_entitled}
 use Rattle.machine_model.specs.Reads.{next_command, process_at}
+use Rattle.machine_model.proofs.MoverTied.{action_asks, tie_kept}
 use Rattle.machine_model.proofs.PoolsKept.{SamePools, pools_kept}
 use Rattle.machine_model.proofs.RulesKept.{action_can}
 use Rattle.machine_model.proofs.ScheduleKept.{schedule_kept}
@@ -40,17 +42,20 @@ module _ (s : State) (c : ℕ) (o : Outcome) (all : KeepsAll s) (there : c < len
   entitles : (a : act.Action) → Keeps (after s c a o) → MayEntitle s c o a
   unfolding after
   entitles act.Commit kept = commit_entitled s c m.keeps there all.entitled (next_command s (process_at s c)) kept
+  entitles (act.CommitMove x) kept = moved_entitled s c m.keeps there all.entitled x
   entitles _ kept = tt
 
   -- an action that may be done, of which the rules know what they do
-  done : (a : act.Action) → CanDo s c o a → Knows s c a → IsPast s c a → KeepsMost (after s c a o)
-  done a can knows past = record {
+  done : (a : act.Action) → CanDo s c o a → Knows s c a → IsPast s c a → AsksMover a (mover_of s.owner)
+      → KeepsMost (after s c a o)
+  done a can knows past fits = record {
     machine = record {
       keeps = keeps;
       script = subst IsPlan (sym pools.plan) m.script;
       come = comes s c o m there all.reading a can knows;
       scheduled = schedule_kept s c o m.scheduled there a (may_schedule s c o m there all.reading a can knows);
       pools = pools.sizes ∙ (m.pools ∙ ap (λ (p : Plan). p.pools) (sym pools.plan));
+      moving = tie_kept s c o m.moving a fits;
     };
     entitled = entitled_kept s c o m.keeps there all.entitled a can (entitles a keeps);
     reading = reading_kept s c o m there all.reading a (may_read s c o m there all.reading a can knows past) keeps;
@@ -76,4 +81,4 @@ module _ (s : State) (c : ℕ) (o : Outcome) (all : KeepsAll s) (there : c < len
       most : KeepsMost (after s c (action_of s c) o)
       most = done (action_of s c)
           (action_can s c o m.keeps there (step_asks s c o m there all.entitled all.reading all.working says))
-          (step_knows s c o m there all.working) (is_past s c)
+          (step_knows s c o m there all.working) (is_past s c) (action_asks s c)

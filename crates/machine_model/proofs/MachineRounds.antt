@@ -42,7 +42,8 @@ pub machine_step : (s t : State) (c : ℕ) → IsGoing s → c < length s.proces
     → Step (outline_of s) c (turn_of (action_of s c)) (outline_of t)
 machine_step s t c going there stepped = subst (λ (x : State). Step (outline_of s) c (turn_of (action_of s c))
     (outline_of x)) (sym stepped.done) (step_outlined s c stepped.outcome going.on
-    (foresees s c going.keeps.machine going.keeps.entitled going.keeps.reading going.keeps.fitting there))
+    (foresees s c going.keeps.machine going.keeps.entitled going.keeps.reading going.keeps.working
+    going.keeps.fitting there))
 
 -- a machine that wasn't stopped isn't after its step
 pub goes_still : (s t : State) (c : ℕ) → IsGoing s → HasStepped s t c → KeepsAll t → IsGoing t

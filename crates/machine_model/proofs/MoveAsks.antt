@@ -57,7 +57,7 @@ use Rattle.machine_model.proofs.ActiveKept.{through_seen}
 use Rattle.machine_model.proofs.ChainLaws.{bound_shown}
 use Rattle.machine_model.proofs.FindLaws.{find_true}
 use Rattle.machine_model.proofs.FlatAlike.{IsAlike, alike}
-use Rattle.machine_model.proofs.InsideLaws.{stored_due, zero_due}
+use Rattle.machine_model.proofs.InsideLaws.{stored_due, zero_due, zero_free, stored_free}
 use Rattle.machine_model.proofs.LookFacts.{IsInside}
 use Rattle.machine_model.proofs.PageShown.{active_there, bound_word, null_word, stored_is}
 use Rattle.machine_model.proofs.SaysLaws.{plain_says, refused_says, through_says}
@@ -304,7 +304,10 @@ module _ (s : State) (c : ℕ) (keeps : Keeps s) (entitled : IsEntitledToAll s) 
     unfolding after_reference
     zero_asks null stays = record {
       tell = can_tell s c k cmd None (word_reply 0 r.kind) speaks
-          (inl (due (word_reply 0 r.kind) (zero_due s k r keeps h.uid inside zero_word stays)))
+          (inl (record {
+            own = due (word_reply 0 r.kind) (zero_due s k r keeps h.uid inside zero_word stays);
+            free = zero_free s k r keeps h.uid inside cmd is zero_word stays;
+          }))
           (subst (λ (x : Option Reference). MayAnswerBy s.plan t (shown (seen s)) c k None cmd (word_reply 0 r.kind) x)
           (sym is) (inr (ap (λ (x : Option ℕ). stores t x r.offset) known
           ∙ (stored_is s keeps h.uid held_active (r.offset / 1024) ∙ ap has_record null))));
@@ -380,8 +383,11 @@ module _ (s : State) (c : ℕ) (keeps : Keeps s) (entitled : IsEntitledToAll s) 
 
         tells : CanTell s c k (Some f) answer
         tells = can_tell s c k cmd (Some f) answer speaks
-            (inl (ap (λ (w : ℕ). word_reply w r.kind) old_is
-            ∙ due (word_reply (t.words h.uid r.offset) r.kind) (stored_due s k r keeps h.uid inside stored)))
+            (inl (record {
+              own = ap (λ (w : ℕ). word_reply w r.kind) old_is
+                  ∙ due (word_reply (t.words h.uid r.offset) r.kind) (stored_due s k r keeps h.uid inside stored);
+              free = stored_free s k r keeps h.uid inside cmd is stored;
+            }))
             (subst (λ (x : Option Reference). MayAnswerBy s.plan t (shown (seen s)) c k (Some f) cmd answer x) (sym is)
             (record {
               segment = seg_has (cpu_at s.processors c).assoc.segs r.number h held;

@@ -29,7 +29,7 @@ use Rattle.machine_model.specs.Finishing.{starts, CanEmpty, CanStart, MayRelease
 use Rattle.machine_model.specs.Finishing.{without_owner, now_reading}
 use Rattle.machine_model.specs.Outlined.{Around, around, bare, runner_by, runner_of, first_frame, stage_of, keeper_of}
 use Rattle.machine_model.specs.Outlined.{outline_of}
-use Rattle.machine_model.specs.Foreseen.{stored_then}
+use Rattle.machine_model.specs.Foreseen.{full_then, stored_then}
 use Rattle.machine_model.proofs.JobLaws.{alike_self}
 use Rattle.machine_model.proofs.OutlineReads.{at_outline, set_map}
 use Rattle.machine_model.proofs.OutlineJob.{job_to, in_job, in_look}
@@ -47,7 +47,7 @@ left_nodes a uid left.Kept = refl
 
 -- the outline once a page has left its frame, and the owner is this
 gone_outline : (s : State) (f : ℕ) (k : Option Owner) → outline_of (with_owner (page_gone s f) k)
-    ≡ record (with_stored (with_frame (outline_of s) f frame.Free) (stored_then s f))
+    ≡ record (with_stored (with_frame (outline_of s) f frame.Free) (stored_then s f) (full_then s f))
     { owner = keeper_of s.store.ast.entries k }
 unfolding outline_of
 gone_outline s f k = λ i. record {
@@ -62,6 +62,7 @@ gone_outline s f k = λ i. record {
       ∙ set_map bare s.store.pages.core.frames f frame.Free) i;
   entries = s.store.ast.entries;
   stored = stored_then s f;
+  full = full_then s f;
   owner = keeper_of s.store.ast.entries k;
   ready = length s.ready;
   left = (outline_of s).left;
@@ -80,12 +81,12 @@ noted_outline s n = refl
 
 pub eviction_outlined : (s : State) (o : Owner) (w : What) (f : ℕ) (rest : List ℕ) → s.owner ≡ Some o
     → o.phase ≡ phase.Waiting aim.Evicting w → o.frames ≡ f ∷ rest → dues (outline_of s).runners ≡ 0
-    → MayRelease (outline_of s) f (stored_then s f)
+    → MayRelease (outline_of s) f (stored_then s f) (full_then s f)
     → JobStep (outline_of s) o.cpu (outline_of (eviction_done s o.cpu f))
 eviction_outlined s o w f rest owner h frames due may =
-    job_to (outline_of s) (with_stored (at_stage (with_frame (outline_of s) f frame.Free) o.cpu Look) (stored_then s f))
-    (outline_of (eviction_done s o.cpu f)) o.cpu (sym (gone_outline s f (Some (looking o.cpu))))
-    (frees_frame f (stored_then s f) (in_stage s o (phase.Waiting aim.Evicting w) owner h
+    job_to (outline_of s) (with_stored (at_stage (with_frame (outline_of s) f frame.Free) o.cpu Look) (stored_then s f)
+    (full_then s f)) (outline_of (eviction_done s o.cpu f)) o.cpu (sym (gone_outline s f (Some (looking o.cpu))))
+    (frees_frame f (stored_then s f) (full_then s f) (in_stage s o (phase.Waiting aim.Evicting w) owner h
     ∙ ap (λ (xs : List ℕ). Some (record { cpu = o.cpu; stage = Waiting (EvictFrame (first_frame xs)) })) frames) due
     may)
 
@@ -98,7 +99,7 @@ rest_keeper entries o uid w f rest h frames =
     (λ i. record { cpu = o.cpu; phase = h i; frames = frames i; cut = o.cut })
 
 done_outline : (s : State) (f : ℕ) → outline_of (page_done s f)
-    ≡ record (with_stored (with_frame (outline_of s) f frame.Free) (stored_then s f))
+    ≡ record (with_stored (with_frame (outline_of s) f frame.Free) (stored_then s f) (full_then s f))
     { owner = keeper_of s.store.ast.entries (without_first_frame s.owner) }
 done_outline s f = gone_outline s f (without_first_frame s.owner)
 
@@ -108,16 +109,17 @@ empties_next cpu place frames = Some (record { cpu = cpu; stage = Waiting (Empty
 
 pub page_outlined : (s : State) (o : Owner) (uid : ℕ) (w : What) (f : ℕ) (rest : List ℕ) → s.owner ≡ Some o
     → o.phase ≡ phase.Waiting (aim.Deactivating uid) w → o.frames ≡ f ∷ rest → dues (outline_of s).runners ≡ 0
-    → MayRelease (outline_of s) f (stored_then s f) → JobStep (outline_of s) o.cpu (outline_of (page_done s f))
+    → MayRelease (outline_of s) f (stored_then s f) (full_then s f)
+    → JobStep (outline_of s) o.cpu (outline_of (page_done s f))
 page_outlined s o uid w f rest owner h frames due may =
     job_to (outline_of s) (with_stored (at_stage (with_frame (outline_of s) f frame.Free) o.cpu
-    (Waiting (EmptyPlace (place_of s.store.ast.entries uid) rest))) (stored_then s f)) (outline_of (page_done s f))
-    o.cpu
-    (ap (λ (k : Option Keeper). record (with_stored (with_frame (outline_of s) f frame.Free) (stored_then s f))
-    { owner = k })
+    (Waiting (EmptyPlace (place_of s.store.ast.entries uid) rest))) (stored_then s f) (full_then s f))
+    (outline_of (page_done s f)) o.cpu
+    (ap (λ (k : Option Keeper). record (with_stored (with_frame (outline_of s) f frame.Free) (stored_then s f)
+    (full_then s f)) { owner = k })
     (sym (ap (λ (x : Option Owner). keeper_of s.store.ast.entries (without_first_frame x)) owner
     ∙ rest_keeper s.store.ast.entries o uid w f rest h frames)) ∙ sym (done_outline s f))
-    (frees_page (place_of s.store.ast.entries uid) f rest (stored_then s f)
+    (frees_page (place_of s.store.ast.entries uid) f rest (stored_then s f) (full_then s f)
     (in_stage s o (phase.Waiting (aim.Deactivating uid) w) owner h
     ∙ ap (empties_next o.cpu (place_of s.store.ast.entries uid)) frames)
     due may)

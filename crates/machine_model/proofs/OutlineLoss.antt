@@ -141,6 +141,7 @@ failed_outline s c k n t x can placed out = λ i. record {
   frames = set_map bare s.store.pages.core.frames t.frame frame.Free i;
   entries = (outline_of s).entries;
   stored = (outline_of s).stored;
+  full = (outline_of s).full;
   owner = (outline_of s).owner;
   ready = failed_ready s c k n t x can out i;
   left = left_is (transfer_failed s c t n);

@@ -2,7 +2,7 @@
 -- step of the machine is.
 use Rattle.std.proofs.Common.{◌≡◌, ◌≢◌, ◌≤◌, ℕ, zero, suc, Bool, true, false, not, cond, ◌&&◌, eqb, List, [], ◌∷◌}
 use Rattle.std.proofs.Common.{length, position, count_by, Option, Some, None, is_some, get_or, refl, sym, ap, subst}
-use Rattle.std.proofs.Common.{◌∙◌, inl, inr, arith}
+use Rattle.std.proofs.Common.{◌∙◌, inl, inr, arith, ◌-◌}
 use Rattle.std.specs.List.{position_or_len}
 use Rattle.std.proofs.lemmas.Bool.{cases_lt}
 use Rattle.std.proofs.lemmas.Bool.Decides.{Decides-ltb, eqb_tells}
@@ -13,12 +13,15 @@ use Rattle.script.specs.declared.commands.Command.{Command}
 use Rattle.assoc_mem.specs.declared.What.{What}
 use Rattle.assoc_mem.specs.declared.What.TheVariants as what
 use Rattle.active_segs.specs.Victim.{first_off_chain, hand_past}
-use Rattle.seg_control.specs.Control.{place_of}
+use Rattle.seg_control.specs.Control.{place_of, table_of}
+use Rattle.seg_control.specs.Moving.{next_out}
 use Rattle.processor.specs.declared.Transfer.{Transfer}
+use Rattle.seg_mover.specs.declared.Mover.{Mover}
 use Rattle.machine_model.specs.declared.Aim.{Aim}
 use Rattle.machine_model.specs.declared.Aim.TheVariants as aim
 use Rattle.machine_model.specs.declared.Phase.{Phase}
 use Rattle.machine_model.specs.declared.Phase.TheVariants as phase
+use Rattle.machine_model.specs.Moves.{copy_failed, page_copied}
 use Rattle.machine_model.specs.State.{State, Owner}
 use Rattle.machine_model.specs.Reads.{or_zero, no_processor, is_due, next_command, processor_at, cpu_at, process_at}
 use Rattle.machine_model.specs.Reads.{frames_of_owner, frames_from, trailers_in}
@@ -29,12 +32,13 @@ use Rattle.machine_model.specs.Turns.{turn_of}
 use Rattle.machine_model.specs.Steps.{connected_to, with_faults, with_store}
 use Rattle.machine_model.specs.Jobs.{deactivation_begun, eviction_done, page_done, segment_taken, took, write_failed}
 use Rattle.machine_model.specs.Commits.{committed, committed_at}
-use Rattle.machine_model.specs.Outline.{Moved, Runner, no_runner, Stage, Look}
+use Rattle.machine_model.specs.Outline.{Moved, Runner, no_runner, Stage, Look, Copying}
 use Rattle.machine_model.specs.Measures.{dues}
 use Rattle.machine_model.specs.Finishing.{Works, rule_of, IsIn, JobStep, Step, works, AreOf, CanEmpty}
 use Rattle.machine_model.specs.Outlined.{around, stage_of, outline_of}
 use Rattle.machine_model.specs.Foreseen.{Foresees, HasDescriptor, IsLook, KeepsLink, MayAnswer, MayEmpty}
 use Rattle.machine_model.proofs.CountLaws.{count_cons}
+use Rattle.machine_model.proofs.OutlineMove.{copy_failed_outlined, copy_outlined, move_outlined, begin_outlined}
 use Rattle.machine_model.proofs.OutlineReads.{at_outline, is_owner, seen_due}
 use Rattle.machine_model.proofs.OutlineAlone.{clear_outlined, online_outlined}
 use Rattle.machine_model.proofs.OutlineJob.{activate_outlined, connect_outlined, in_job, in_look}
@@ -160,6 +164,7 @@ module _ (s : State) (o : Owner) (out : Outcome) (f : Foresees s o.cpu) (rule : 
       works _ rule (take_away_outlined s (took s o.cpu aim.Committing w fs pairs) o.cpu w fs
       (took_like s o.cpu aim.Committing w fs pairs) (took_owner s o.cpu aim.Committing w fs pairs taken_none may.0)
       (in_look s o owner looks) may.1)
+  look_goal (act.BeginMove u volume) may = works _ rule (begin_outlined s o u volume owner looks)
   look_goal act.Commit may = commit_goal s o.cpu out Look rule (in_look s o owner looks) due_none may
   look_goal _ may = absurd may
 
@@ -264,6 +269,21 @@ module _ (s : State) (o : Owner) (out : Outcome) (f : Foresees s o.cpu) (rule : 
       awaits_clear_outlined s o a w d rule owner waits (position-Some is_due s.processors d no_processor is).1
   cleared_goal a w waits None is = finish_goal a w o.frames waits refl (dues_over s o.cpu f is)
 
+  move_goal : (m : Mover) → o.phase ≡ phase.Moving m → (x : Option ℕ)
+      → next_out (table_of s.store.ast m.uid) m.next ≡ x → Goal s o.cpu out (act.copy_or_commit m x)
+  unfolding after
+  move_goal m moves (Some p) next = by out.failed
+    where
+      due : dues (outline_of s).runners ≡ 0
+      due = (f.kept.job.fits o.cpu (Copying (256 - m.next)) (in_stage s o (phase.Moving m) owner moves)).0
+
+      by : (b : Bool) → Step (outline_of s) o.cpu Moved (outline_of (cond b (copy_failed s o.cpu out.faults)
+          (page_copied (with_faults s out.faults) o.cpu m p)))
+      by true = works _ rule (copy_failed_outlined s o m may_answer.process out.faults may_answer.command owner moves
+          due may_answer.can)
+      by false = works _ rule (copy_outlined s o m p out.faults owner moves next)
+  move_goal m moves None next = works _ rule (move_outlined s o m owner moves (f.moves o m owner moves refl))
+
   phase_goal : (ph : Phase) → o.phase ≡ ph → Goal s o.cpu out (act.go_on_with s (process_at s o.cpu) o ph)
   unfolding after
   phase_goal phase.Looking looks =
@@ -271,6 +291,7 @@ module _ (s : State) (o : Owner) (out : Outcome) (f : Foresees s o.cpu) (rule : 
       (f.looks o owner looks refl)
   phase_goal (phase.Taken a w) taken = works _ rule (signal_outlined s o a w w owner taken)
   phase_goal (phase.Waiting a w) waits = cleared_goal a w waits (position is_due s.processors) refl
+  phase_goal (phase.Moving m) moves = move_goal m moves (next_out (table_of s.store.ast m.uid) m.next) refl
 
 -- ---- the rules
 

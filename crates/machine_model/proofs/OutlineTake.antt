@@ -34,7 +34,7 @@ use Rattle.machine_model.specs.Outline.{Runner, EvictFrame, Look, Taken, Waiting
 use Rattle.machine_model.specs.Outline.{at_stage}
 use Rattle.machine_model.specs.Finishing.{IsIn, JobStep, takes_segment, takes_frame, takes_for_commit, signals}
 use Rattle.machine_model.specs.Finishing.{CanEmpty, CanEvict, AreAlike, AreOf, with_runners}
-use Rattle.machine_model.specs.Outlined.{Around, around, bare, left_in, want_of, runner_by}
+use Rattle.machine_model.specs.Outlined.{Around, around, bare, lacks_record, left_in, want_of, runner_by}
 use Rattle.machine_model.specs.Outlined.{runner_of, first_frame, work_of, stage_of, keeper_of, outline_of}
 use Rattle.machine_model.proofs.OutlineReads.{map_at, seen_online, seen_running, seen_due, seen_reading, seen_since}
 use Rattle.machine_model.proofs.OutlineReads.{seen_tried}
@@ -217,6 +217,7 @@ like_outline s t like = λ i. record {
   frames = map bare (like.pages i).core.frames;
   entries = like.entries i;
   stored = is_filed (like.accounts i) (like.pages i).vtocs;
+  full = lacks_record (like.accounts i).nodes (like.pages i).records;
   owner = keeper_of (like.entries i) t.owner;
   ready = length (like.ready i);
   left = left_in (like.plan i).processes (like.runs i);
@@ -321,6 +322,8 @@ evicted_outline s c f none = λ i. record {
   entries = (sym (leaving_entries (with_choice s.store f) f (taken_page s f))) i;
   stored = (sym (λ j. is_filed (leaving_accounts (with_choice s.store f) f (taken_page s f) j)
       (pages s f j).vtocs)) i;
+  full = (sym (λ j. lacks_record (leaving_accounts (with_choice s.store f) f (taken_page s f) j).nodes
+      (pages s f j).records)) i;
   owner = (sym (owner s c f none)) i;
   ready = length s.ready;
   left = left_in s.plan.processes s.runs;

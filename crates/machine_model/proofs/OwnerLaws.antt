@@ -6,6 +6,7 @@ use Rattle.page_table.specs.declared.Ptw.TheVariants as ptw
 use Rattle.custody_model.specs.Allowed.{NamesAllGoing}
 use Rattle.custody_model.specs.Custody.{Custody, has, is_going_frame}
 use Rattle.custody_model.specs.Fine.{Fine, NoneDue}
+use Rattle.seg_mover.specs.declared.Mover.{Mover}
 use Rattle.machine_model.specs.declared.Phase.{Phase}
 use Rattle.machine_model.specs.declared.Phase.TheVariants as phase
 use Rattle.machine_model.specs.Custodial.{FitsPhase, HoldsRight, IsOwned, KeepsBook, has_cut, is_pending, names}
@@ -29,6 +30,20 @@ looking_idle c o k looks = record {
   where
     parts : (o.frames ≡ []) × (o.cut ≡ [])
     parts = subst (λ (x : Phase). FitsPhase x o.frames o.cut) looks k.shaped
+
+-- nor has one that moves a segment
+pub moves_idle : (c : Custody) (o : Owner) (m : Mover) → IsOwned c (Some o) → o.phase ≡ phase.Moving m
+    → IsIdle (Some o)
+moves_idle c o m k moves = record {
+  frames = parts.0;
+  cut = parts.1;
+  waits = ap waits_in moves;
+  says = ap says_in moves;
+  shaped = k.shaped;
+}
+  where
+    parts : (o.frames ≡ []) × (o.cut ≡ [])
+    parts = subst (λ (x : Phase). FitsPhase x o.frames o.cut) moves k.shaped
 
 -- where nothing goes, anything names all that goes
 pub idle_names : (c : Custody) (o : Option Owner) (w : What) → IsOwned c o → frames_of_owner o ≡ []

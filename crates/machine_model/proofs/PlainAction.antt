@@ -9,7 +9,8 @@ use Rattle.assoc_mem.specs.declared.What.{What}
 use Rattle.processor.specs.declared.Move.{Move}
 use Rattle.processor.specs.declared.Move.TheVariants as move
 use Rattle.processor.specs.declared.Transfer.{Transfer}
-use Rattle.seg_control.specs.Control.{sdws_at, word_of}
+use Rattle.seg_control.specs.Control.{sdws_at, table_of, word_of}
+use Rattle.seg_control.specs.Moving.{next_out}
 use Rattle.machine_model.specs.declared.Aim.{Aim}
 use Rattle.machine_model.specs.declared.Aim.TheVariants as aim
 use Rattle.machine_model.specs.declared.Phase.{Phase}
@@ -86,6 +87,11 @@ module _ (s : State) (c : ℕ) where
       by : (x : Option ℕ) → IsPlainly (act.once_cleared x (act.finish_of a q.frames))
       by None = finish_plain a q.frames
       by (Some d) = tt
+  phase_plain k q (phase.Moving m) = by (next_out (table_of s.store.ast m.uid) m.next)
+    where
+      by : (x : Option ℕ) → IsPlainly (act.copy_or_commit m x)
+      by None = tt
+      by (Some page) = tt
 
   owner_plain : (x : Option Owner) → IsPlainly (act.own_or_run s c p x)
   owner_plain None = run_plain p.cpu.process

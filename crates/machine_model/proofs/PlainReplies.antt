@@ -23,7 +23,7 @@ use Rattle.flat_model.specs.Commands.{reply_by, reply_to_command, reply_to_tree_
 use Rattle.flat_model.specs.Making.{delete_of, delete_reply, make_at, make_of, make_reply}
 use Rattle.flat_model.specs.Naming.{initiate_of, initiate_reply, known_or_full, status_of, status_reply}
 use Rattle.flat_model.specs.Naming.{terminate_reply}
-use Rattle.flat_model.specs.References.{is_used_up, is_volume_full, stores_page}
+use Rattle.flat_model.specs.References.{is_used_up, is_out_of_room, stores_page}
 use Rattle.flat_model.specs.References.{reply_at, reply_in, reply_of, reply_to_reference, word_reply}
 use Rattle.flat_model.specs.Rights.{acl_of, acl_reply, done_or_over, move_of, move_reply, nodes_moved}
 use Rattle.flat_model.specs.Pages.{is_stored_from}
@@ -202,7 +202,7 @@ reference_plain p s k r = by (known_uid s k r.number)
         (two_of (nat_le (1024 * n.pages) r.offset) reply.Length _ refl
         (two_of (stores_page s n.uid r.offset r.kind) _ _
         (two_of (is_used_up s n.uid) reply.Quota _ refl
-        (two_of (is_volume_full p s n.volume) reply.NoRecord _ refl (word_plain (s.words n.uid r.offset) r.kind)))
+        (two_of (is_out_of_room p s n) reply.NoRecord _ refl (word_plain (s.words n.uid r.offset) r.kind)))
         (word_plain (s.words n.uid r.offset) r.kind)))
 
     there : (x : Option Node) → is_device (reply_at p s k r.offset r.kind x) ≡ false

@@ -23,6 +23,7 @@ use Rattle.machine_model.specs.Commits.{without_page}
 use Rattle.machine_model.specs.Jobs.{cut_all, cut_one, emptied, eviction_begun, eviction_done, leaving_if}
 use Rattle.machine_model.specs.Jobs.{page_back, page_done, pages_back, seg_back, seg_gone, segment_taken, segs_back}
 use Rattle.machine_model.specs.Jobs.{segs_gone, take_all, take_one, took, victim_taken, with_choice, with_hand_moved}
+use Rattle.machine_model.specs.Moves.{copy_failed, page_copied}
 use Rattle.machine_model.specs.Refusal.{uid_of_command}
 use Rattle.machine_model.specs.Jobs.{with_inactive, with_here, write_failed}
 use Rattle.machine_model.specs.Reads.{cut_of_owner, frames_from, frames_of_owner, home_in, is_active, next_command}
@@ -188,6 +189,8 @@ pools_kept s c (act.EmptyVictim pool chain u) o = on s
     (frames_from (with_store s (with_hand_moved s.store pool chain)).store.ast u 0)
     (trailers_in (with_store s (with_hand_moved s.store pool chain)).store u))
 pools_kept s c (act.TakeAway fs pairs w) o = all_taken s c aim.Committing w fs pairs
+pools_kept s c (act.CopyPage m page) o = either o.failed (page_copied (with_faults s o.faults) c m page)
+    (copy_failed s c o.faults) (pools_stay refl refl refl refl) (pools_stay refl refl refl refl)
 pools_kept s c (act.FinishEviction f) o = either o.failed (eviction_done (with_faults s o.faults) c f)
     (write_failed s c o.faults) (pools_stay refl refl refl refl) (failed s c o.faults)
 pools_kept s c (act.FinishPage f) o = either o.failed (page_done (with_faults s o.faults) f)

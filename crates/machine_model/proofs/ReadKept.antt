@@ -39,6 +39,7 @@ use Rattle.machine_model.specs.Custodial.{is_out}
 use Rattle.machine_model.specs.Jobs.{emptied, eviction_begun, eviction_done, page_done, pages_back, segs_back}
 use Rattle.machine_model.specs.Jobs.{told_from, took, victim_taken, with_choice, with_hand_moved, write_failed}
 use Rattle.machine_model.specs.Keeps.{Keeps}
+use Rattle.machine_model.specs.Moves.{copy_failed, page_copied, without_move}
 use Rattle.machine_model.specs.Promise.{IsMachine}
 use Rattle.machine_model.specs.Reading.{AllRead, IsReadFor, IsReading, Refers, Truncates, Wants}
 use Rattle.machine_model.specs.Reads.{cpu_at, cut_of_owner, frames_from, frames_of_owner, home_in, is_active}
@@ -70,6 +71,20 @@ use Rattle.machine_model.proofs.CommitRights.{node_moved}
 
 no_and : {b : Bool} → b ≡ true → b ≡ false → ⊥
 no_and t f = let none : true ≡ false = sym t ∙ f in cc
+
+-- one node changes
+pub with_names : (v : ℕ) (change : Node → Node) → KeepsName change
+    → KeepsName (λ n. cond (eqb n.uid v) (change n) n)
+with_names v change same = record {
+  uid = λ n. by (λ x. x.uid ≡ n.uid) n (eqb n.uid v) (same.uid n) refl;
+  superior = λ n. by (λ x. x.superior ≡ n.superior) n (eqb n.uid v) (same.superior n) refl;
+  name = λ n. by (λ x. x.name ≡ n.name) n (eqb n.uid v) (same.name n) refl;
+  directory = λ n. by (λ x. x.directory ≡ n.directory) n (eqb n.uid v) (same.directory n) refl;
+}
+  where
+    by : (P : Node → Type 0) (n : Node) (b : Bool) → P (change n) → P n → P (cond b (change n) n)
+    by P n true y z = y
+    by P n false y z = z
 
 -- ---- a processor goes on reading
 
@@ -289,6 +304,7 @@ MayRead s c o (act.Start f u q) = ((cpu_at s.processors c).process ≡ Some (pro
     × ((x : Command) × (next_command s (process_at s c) ≡ Some x) × FindsOut s (process_at s c) x f u q)
 MayRead s c o (act.FinishEviction f) = Answers s c
 MayRead s c o (act.FinishPage f) = Answers s c
+MayRead s c o (act.CopyPage m q) = Answers s c
 MayRead s c o act.Commit = Answers s c
 MayRead s c o _ = Unit {0}
 
@@ -437,19 +453,6 @@ module _ (s : State) (c : ℕ) (o : Outcome) (m : IsMachine s) (there : c < leng
         (ap (λ (qs : List Processor). (cpu_at qs d).transfer) ps
         ∙ (ap (λ (y : Processor). y.cpu.transfer) (get_or-set_other s.processors c d x no_processor n) ∙ e)))
 
-    with_names : (v : ℕ) (change : Node → Node) → KeepsName change
-        → KeepsName (λ n. cond (eqb n.uid v) (change n) n)
-    with_names v change same = record {
-      uid = λ n. by (λ x. x.uid ≡ n.uid) n (eqb n.uid v) (same.uid n) refl;
-      superior = λ n. by (λ x. x.superior ≡ n.superior) n (eqb n.uid v) (same.superior n) refl;
-      name = λ n. by (λ x. x.name ≡ n.name) n (eqb n.uid v) (same.name n) refl;
-      directory = λ n. by (λ x. x.directory ≡ n.directory) n (eqb n.uid v) (same.directory n) refl;
-    }
-      where
-        by : (P : Node → Type 0) (n : Node) (b : Bool) → P (change n) → P n → P (cond b (change n) n)
-        by P n true y z = y
-        by P n false y z = z
-
     moved_names : (u : ℕ) (amount : ℤ) → KeepsName (node_moved nodes u amount)
     moved_names u amount = record {
       uid = λ n. ap (λ (x : Node). x.uid) (quota_moves nodes u amount n);
@@ -581,6 +584,22 @@ module _ (s : State) (c : ℕ) (o : Outcome) (m : IsMachine s) (there : c < leng
       now = with_store s (with_hand_moved s.store pool chain)
   reading_kept (act.TakeAway fs pairs w) may kept = reads_like s (took s c aim.Committing w fs pairs)
       (names.all_taken s c aim.Committing w fs pairs) (seats.all_taken s c aim.Committing w fs pairs) h
+  reading_kept (act.BeginMove u volume) may kept = h
+  reading_kept (act.CopyPage m q) may kept = by_end o (page_copied (with_faults s o.faults) c m q)
+      (copy_failed s c o.faults) h
+      (told_read (fault_told (with_store s (without_move s.store)) (Some k) o.faults) c None reply.Device h there may.0
+      (elsewhere may.1))
+  reading_kept (act.CommitMove m) may kept = record {
+    each = λ d. still_reads s.plan s.runs nodes known s.processors h s.runs (map (λ n. cond (eqb n.uid m.uid)
+        (record n { volume = m.to.0 }) n) nodes) known s.processors d (record {
+          transfer = refl;
+          process = refl;
+          run = λ i x. refl;
+          numbers = λ i x. refl;
+          paths = λ y x. paths_changed _ (with_names m.uid _
+              (record { uid = λ n. refl; superior = λ n. refl; name = λ n. refl; directory = λ n. refl })) nodes y.uid;
+        });
+  }
   reading_kept (act.Signal w) may kept = record {
     each = λ d t e. still_reads s.plan s.runs nodes known s.processors h s.runs nodes known
         (told_from c w 0 s.processors) d (record {

@@ -1,22 +1,28 @@
--- Once a page has left its frame, just that page may be stored no more.
+-- Once a page has left its frame, just that page may be stored no more, and no volume has fewer free records.
 use Rattle.std.proofs.Common.{◌≡◌, ◌≢◌, ℕ, zero, suc, Bool, true, false, ◌&&◌, is_some, List, [], ◌∷◌}
 use Rattle.std.proofs.Common.{get_or, set, Option, Some, None, ◌⊎◌, inl, inr, refl, sym, ap, ◌∙◌}
+use Rattle.std.proofs.Common.{◌≤◌, arith, cond, count_by, eqb, le_refl, length}
+use Rattle.std.proofs.lemmas.Bool.Decides.{eqb_tells}
+use Rattle.std.proofs.lemmas.List.{length-set}
+use Rattle.std.proofs.lemmas.List.Sums.{count_by-le-length, sum_by-cons}
+use Rattle.tree_model.specs.Tree.{volume_in}
+use Rattle.page_control.specs.Counts.{is_full}
 use Rattle.vtoc.specs.Vtoc.{Entry, entry_at, record_at, records_in, with_record}
 use Rattle.page_control.specs.declared.Home.{Home}
 use Rattle.page_control.specs.declared.Left.{Left}
 use Rattle.page_control.specs.declared.Left.TheVariants as left
 use Rattle.page_control.specs.Picture.{is_filed_at}
-use Rattle.page_control.specs.Plain.{words_in}
-use Rattle.page_control.specs.Tied.{uid_at, vtoc_in}
+use Rattle.page_control.specs.Plain.{record_of, words_in}
+use Rattle.page_control.specs.Tied.{flags_in, uid_at, vtoc_in}
 use Rattle.storage_ops.specs.Shown.{home_of, is_filed, is_there}
 use Rattle.custody_model.specs.Custody.{has, is_going_frame}
 use Rattle.machine_model.specs.Finishing.{MayRelease, page_of}
-use Rattle.machine_model.specs.Foreseen.{stored_then}
+use Rattle.machine_model.specs.Foreseen.{full_then, stored_then}
 use Rattle.machine_model.specs.Holding.{seen}
 use Rattle.machine_model.specs.Jobs.{left_of, page_in, page_or_zero, with_left}
 use Rattle.machine_model.specs.Keeps.{Keeps}
 use Rattle.machine_model.specs.Outline.{frame_in}
-use Rattle.machine_model.specs.Outlined.{outline_of}
+use Rattle.machine_model.specs.Outlined.{lacks_record, outline_of}
 use Rattle.machine_model.specs.Reads.{frames_of_owner, home_in}
 use Rattle.machine_model.specs.Seen.{shown}
 use Rattle.machine_model.specs.State.{State}
@@ -81,6 +87,52 @@ module _ (vtocs : List (List (Option Entry))) (home : Home) (p : ℕ) where
             ∙ ap (λ (v : ℕ). is_some (record_at (vtoc_in vtocs v) at.entry q)) (sym is.0))
       ]
 
+-- ---- records
+
+-- a record that is given back makes no volume full
+count_less : (flags : List Bool) (r : ℕ) → count_by (λ flag. flag) (set flags r false) ≤ count_by (λ flag. flag) flags
+count_less [] r = le_refl _
+count_less (x ∷ xs) zero =
+    let one = sum_by-cons (λ flag. cond {A = ℕ} flag 1 0) false xs in
+    let two = sum_by-cons (λ flag. cond {A = ℕ} flag 1 0) x xs in
+    omega (arith, one, two)
+count_less (x ∷ xs) (suc r) =
+    let one = sum_by-cons (λ flag. cond {A = ℕ} flag 1 0) x (set xs r false) in
+    let two = sum_by-cons (λ flag. cond {A = ℕ} flag 1 0) x xs in
+    let rest = count_less xs r in
+    omega (arith, one, two, rest)
+
+all_in_use : (flags : List Bool) (r : ℕ)
+    → eqb (count_by (λ flag. flag) (set flags r false)) (length (set flags r false)) ≡ true
+    → eqb (count_by (λ flag. flag) flags) (length flags) ≡ true
+all_in_use flags r h = elim (eqb_tells (count_by (λ flag. flag) flags) (length flags)) [
+  | inl e ↦ e.0
+  | inr n ↦ absurd (n.1 (omega (arith, less, most, same, now)))
+]
+  where
+    less : count_by (λ flag. flag) (set flags r false) ≤ count_by (λ flag. flag) flags
+    less = count_less flags r
+
+    most : count_by (λ flag. flag) flags ≤ length flags
+    most = count_by-le-length (λ flag. flag) flags
+
+    same : length (set flags r false) ≡ length flags
+    same = length-set flags r false
+
+    now : count_by (λ flag. flag) (set flags r false) ≡ length (set flags r false)
+    now = elim (eqb_tells (count_by (λ flag. flag) (set flags r false)) (length (set flags r false))) [
+      | inl e ↦ e.1
+      | inr n ↦ absurd (no_and h n.0)
+    ]
+
+given_full : (records : List (List Bool)) (v r w : ℕ)
+    → is_full (set records v (set (flags_in records v) r false)) w ≡ true → is_full records w ≡ true
+given_full records v r w h = elim (set_either records v (set (flags_in records v) r false) w []) [
+  | inl same ↦ ap (λ (fs : List Bool). eqb (count_by (λ flag. flag) fs) (length fs)) (sym same) ∙ h
+  | inr is ↦ ap (λ (i : ℕ). is_full records i) is.0 ∙ all_in_use (flags_in records v) r
+      (ap (λ (fs : List Bool). eqb (count_by (λ flag. flag) fs) (length fs)) (sym is.1) ∙ h)
+]
+
 -- ---- a page
 
 module _ (s : State) (k : Keeps s) (f u p : ℕ) (here : page_in s.store f ≡ (u, p))
@@ -106,10 +158,18 @@ module _ (s : State) (k : Keeps s) (f u p : ℕ) (here : page_in s.store f ≡ (
               let one : Some v ≡ Some u = sym mine
               ∙ (λ i. uid_at s.store.pages.vtocs (record { volume = a i; entry = b i })) ∙ its in cc
 
+  full_less : (how : Left) (page : ℕ × ℕ) (v : ℕ)
+      → lacks_record (with_left s.store f how page).accounts.nodes (with_left s.store f how page).pages.records v ≡ true
+      → lacks_record s.store.accounts.nodes s.store.pages.records v ≡ true
+  full_less left.Kept page v h = h
+  full_less left.Released page v h = given_full s.store.pages.records (home_in s.store page.0).volume
+      (record_of s.store.pages (home_in s.store page.0) page.1) (volume_in s.store.accounts.nodes v) h
+
   pub releases : page_of (frame_in (outline_of s).frames f) ≡ Some (u, p)
-      → MayRelease (outline_of s) f (stored_then s f)
+      → MayRelease (outline_of s) f (stored_then s f) (full_then s f)
   unfolding outline_of
   releases is = record {
+    room = full_less (left_of (words_in s.store.pages f)) (page_in s.store f);
     others = λ v q n. ap (λ (page : ℕ × ℕ). is_filed
         (with_left s.store f (left_of (words_in s.store.pages f)) page).accounts
         (with_left s.store f (left_of (words_in s.store.pages f)) page).pages.vtocs v q) here
@@ -123,7 +183,7 @@ bound_is_there s k f u p h = let active = k.store.kept.paged.bound f u p h in
 
 -- each page that the owner has taken may leave its frame
 pub leaves_may : (s : State) → Keeps s → (o : Owner) (f : ℕ) (fs : List ℕ) → s.owner ≡ Some o → o.frames ≡ f ∷ fs
-    → MayRelease (outline_of s) f (stored_then s f)
+    → MayRelease (outline_of s) f (stored_then s f) (full_then s f)
 leaves_may s k o f fs mine frames = by ((seen s).bound f) refl going
   where
     going : is_going_frame ((shown (seen s)).frame f) ≡ true
@@ -136,7 +196,7 @@ leaves_may s k o f fs mine frames = by ((seen s).bound f) refl going
 
     by : (x : Option (ℕ × ℕ)) → (seen s).bound f ≡ x
         → is_going_frame (frame_use (seen s).words x ((seen s).reads f)) ≡ true
-        → MayRelease (outline_of s) f (stored_then s f)
+        → MayRelease (outline_of s) f (stored_then s f) (full_then s f)
     by None e h = absurd (no_and h (read ((seen s).reads f)))
     by (Some page) e h = releases s k f page.0 page.1 (ap page_or_zero (sym (map_list bound_page
         s.store.pages.core.frames f frame.Free) ∙ e)) (bound_is_there s k f page.0 page.1 e)

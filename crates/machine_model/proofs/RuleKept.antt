@@ -12,19 +12,22 @@ use Rattle.page_control.specs.Plain.{words_in}
 use Rattle.processor.specs.declared.Transfer.{Transfer}
 use Rattle.seg_control.specs.Control.{is_for, place_of, table_of, word_of}
 use Rattle.flat_model.specs.Legal.{MayRelease}
+use Rattle.flat_model.specs.Moves.{MayMove}
 use Rattle.flat_model.specs.References.{word_reply}
 use Rattle.custody_model.specs.Custody.{has, is_going_frame}
 use Rattle.custody_model.specs.Fine.{NoneDue}
-use Rattle.custody_model.specs.Allowed.{MayDeactivate}
+use Rattle.custody_model.specs.Allowed.{MayDeactivate, MayRehome}
+use Rattle.seg_mover.specs.declared.Mover.{Mover}
 use Rattle.machine_model.specs.declared.Aim.{Aim}
 use Rattle.machine_model.specs.declared.Aim.TheVariants as aim
 use Rattle.machine_model.specs.declared.Phase.{Phase}
 use Rattle.machine_model.specs.declared.Phase.TheVariants as phase
 use Rattle.machine_model.specs.Actions as act
-use Rattle.machine_model.specs.Actions.{finish_of}
+use Rattle.machine_model.specs.Actions.{finish_of, copy_or_commit}
 use Rattle.machine_model.specs.After.{Outcome}
 use Rattle.machine_model.specs.Chains.{gone_segs, gones, page_at}
 use Rattle.mnames.specs.declared.paths.Path.{Path}
+use Rattle.machine_model.specs.Moves.{move_begun, move_committed, page_copied}
 use Rattle.machine_model.specs.Reads.{is_active}
 use Rattle.machine_model.specs.Refusal.{uid_of_command}
 use Rattle.machine_model.specs.Commits.{stays}
@@ -51,10 +54,11 @@ use Rattle.machine_model.proofs.DueLaws.{none_due}
 use Rattle.machine_model.proofs.FindLaws.{choice_bound, free_frame, position_none, unread_page}
 use Rattle.machine_model.proofs.LookLaws.{IsLook}
 use Rattle.machine_model.proofs.OwnedLaws.{IsIdle}
-use Rattle.machine_model.proofs.OwnerLaws.{looking_idle}
+use Rattle.machine_model.proofs.OwnerLaws.{looking_idle, moves_idle}
 use Rattle.machine_model.proofs.StepKept.{CanTakeSegment, hand_kept, CanActivateAt, CanCommit, CanDo, CanEmpty}
 use Rattle.machine_model.proofs.StepKept.{CanConnectTo}
 use Rattle.machine_model.proofs.StepKept.{CanFailWrite, CanGoThrough, CanLose, CanReply, IsCommitted, IsMine}
+use Rattle.machine_model.proofs.StepKept.{CanFailCopy}
 use Rattle.machine_model.proofs.TakeLists.{segment_takes}
 use Rattle.machine_model.specs.Jobs.{with_hand_moved}
 use Rattle.machine_model.specs.Reads.{frames_from, trailers_in}
@@ -101,6 +105,16 @@ pub record AsksEmptied (s : State) (c u : ℕ) : Type 0 where
   pub may : MayDeactivate (flat_of (segs_gone s (cut_of_owner s.owner)))
       (shown (seen (segs_gone s (cut_of_owner s.owner)))) u
   pub says : StoreSays (emptied s c u)
+
+-- a page of a segment that moves is copied; and the segment has moved
+pub record AsksCopy (s : State) (c : ℕ) (m : Mover) (p : ℕ) (o : Outcome) : Type 0 where
+  pub well : o.failed ≡ false → (s.faults ≤ o.faults) × StoreSays (page_copied (with_faults s o.faults) c m p)
+  pub ill : o.failed ≡ true → CanFailCopy s c o
+
+pub record AsksMoved (s : State) (c : ℕ) (m : Mover) : Type 0 where
+  pub may : MayMove s.plan (flat_of s) (process_at s c) m.uid m.to.0
+  pub rehomes : MayRehome (shown (seen s)) m.uid
+  pub says : StoreSays (move_committed s c m)
 
 -- of a segment that is to be inactive: where nothing of it is here or connected it is so at once
 abbrev pub AsksSegment : State → ℕ → ℕ → List ℕ → List (ℕ × ℕ) → Type 0
@@ -166,6 +180,9 @@ Asks s c o (act.EmptyVictim pool chain u) = AsksVictim s c pool chain u
 Asks s c o (act.TakeAway fs pairs w) = AsksTake s c w fs pairs
 Asks s c o (act.FinishEviction f) = AsksFinish s c f o (eviction_done (with_faults s o.faults) c f)
 Asks s c o (act.FinishPage f) = AsksFinish s c f o (page_done (with_faults s o.faults) f)
+Asks s c o (act.BeginMove u volume) = StoreSays (move_begun s c u volume)
+Asks s c o (act.CopyPage m p) = AsksCopy s c m p o
+Asks s c o (act.CommitMove m) = AsksMoved s c m
 Asks s c o (act.Deactivate u) = AsksEmptied s c u
 Asks s c o act.Commit = AsksCommit s c (process_at s c) (next_command s (process_at s c))
 Asks s c o _ = Unit {0}
@@ -278,6 +295,11 @@ pub record IsLooking (s : State) (c : ℕ) : Type 0 where
   pub owner : IsMine s c
   pub looks : owner.owner.phase ≡ phase.Looking
 
+-- the owner moves a segment
+pub record IsMoving (s : State) (c : ℕ) (m : Mover) : Type 0 where
+  pub owner : IsMine s c
+  pub moves : owner.owner.phase ≡ phase.Moving m
+
 -- the owner waits, and every processor has cleared
 pub record HasWaited (s : State) (c : ℕ) (a : Aim) (w : What) : Type 0 where
   pub owner : IsMine s c
@@ -384,11 +406,41 @@ module _ (s : State) (c : ℕ) (o : Outcome) (k : Keeps s) (there : c < length s
   }
   look_can (act.TakeAway fs pairs w) h l asks =
       record { can = asks.can; owns = owns_here l.owner; works = works_here l.owner; says = asks.says }
+  look_can (act.BeginMove u volume) h l asks =
+      record { owner = l.owner; idle = look_idle l; still = look_still l; says = asks }
   look_can act.Commit h l asks = commit_can s c (process_at s c) (next_command s (process_at s c)) k.book
       (process_here l.owner) refl (look_ready l) asks
   look_can act.IsStopped h l asks = tt
   look_can act.HasEnded h l asks = tt
   look_can _ h l asks = absurd h
+
+  -- ---- a segment moves
+
+  pub move_idle : (m : Mover) → IsMoving s c m → IsIdle s.owner
+  move_idle m x = subst IsIdle (sym x.owner.mine)
+      (moves_idle (shown (seen s)) x.owner.owner m (subst (IsOwned (shown (seen s))) x.owner.mine k.book.going_owned)
+      x.moves)
+
+  move_still : (m : Mover) → IsMoving s c m → is_pending s.owner ≡ false
+  move_still m x = ap is_pending x.owner.mine ∙ ap is_pending_in x.moves
+
+  pub move_can : (m : Mover) (x : Option ℕ) → IsMoving s c m → Asks s c o (copy_or_commit m x)
+      → CanDo s c o (copy_or_commit m x)
+  move_can m (Some p) is asks = record {
+    owner = is.owner;
+    idle = move_idle m is;
+    still = move_still m is;
+    well = asks.well;
+    ill = asks.ill;
+  }
+  move_can m None is asks = record {
+    owner = is.owner;
+    idle = move_idle m is;
+    still = move_still m is;
+    may = asks.may;
+    rehomes = asks.rehomes;
+    says = asks.says;
+  }
 
   -- ---- what was taken goes
 

@@ -21,7 +21,8 @@ use Rattle.processor.specs.Moves.{by_descriptor, by_page, by_seg, by_word}
 use Rattle.processor.specs.declared.Move.{Move}
 use Rattle.processor.specs.declared.Move.TheVariants as move
 use Rattle.processor.specs.declared.Transfer.{Transfer}
-use Rattle.seg_control.specs.Control.{leads, sdws_at, word_of}
+use Rattle.seg_control.specs.Control.{leads, sdws_at, word_of, table_of}
+use Rattle.seg_control.specs.Moving.{next_out}
 use Rattle.script.specs.References.{new_word, permits}
 use Rattle.flat_model.specs.References.{word_reply}
 use Rattle.custody_model.specs.Allowed.{HasHadItsTurn, IsFront, MayGo}
@@ -45,7 +46,7 @@ use Rattle.machine_model.proofs.ActionCases.{action_by}
 use Rattle.machine_model.proofs.FindLaws.{number_new, page_new}
 use Rattle.machine_model.proofs.KeepLaws.{IsNoOwner}
 use Rattle.machine_model.proofs.LookLaws.{look_is}
-use Rattle.machine_model.proofs.RuleKept.{Asks, finish_can, look_can}
+use Rattle.machine_model.proofs.RuleKept.{Asks, finish_can, look_can, move_can}
 use Rattle.machine_model.proofs.SeatLaws.{CanFillPage, CanFillSeg}
 use Rattle.machine_model.proofs.StepKept.{CanDo, CanLeave, IsMine, after_keeps, to_hold}
 use Rattle.machine_model.proofs.TieLaws.{none_some}
@@ -223,6 +224,8 @@ module _ (s : State) (c : ℕ) (o : Outcome) (k : Keeps s) (there : c < length s
       cleared_can None h asks = finish_can s c o k there a w m.owner.frames
           (record { owner = m; waits = e; cleared = h }) refl asks
       cleared_can (Some d) h asks = tt
+  phase_can m (phase.Moving x) e asks = move_can s c o k there x (next_out (table_of s.store.ast x.uid) x.next)
+      (record { owner = m; moves = e }) asks
 
   owner_can : p.cpu.online ≡ true → p.cpu.due ≡ None → p.cpu.transfer ≡ None → (x : Option Owner) → s.owner ≡ x
       → Asks s c o (own_or_run s c p x) → CanDo s c o (own_or_run s c p x)

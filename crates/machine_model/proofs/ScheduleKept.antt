@@ -26,6 +26,7 @@ use Rattle.machine_model.specs.Commits.{committed_at}
 use Rattle.machine_model.specs.Jobs.{cut_all, cut_one, emptied, page_back, pages_back}
 use Rattle.machine_model.specs.Jobs.{seg_back, seg_gone, segment_taken, segs_back, segs_gone, take_all}
 use Rattle.machine_model.specs.Jobs.{take_one, told_from, took, with_hand_moved, write_failed}
+use Rattle.machine_model.specs.Moves.{copy_failed, without_move}
 use Rattle.machine_model.specs.Reads.{cpu_at, cut_of_owner, frames_from, frames_of_owner, next_command, no_processor}
 use Rattle.machine_model.specs.Reads.{or_zero, process_at, processor_at, run_at, trailers_in}
 use Rattle.machine_model.specs.Refusal.{reply_of}
@@ -207,6 +208,7 @@ MaySchedule s c o (act.Answer r) = IsAnswering s c
 MaySchedule s c o (act.Create f u p r) = IsAnswering s c
 MaySchedule s c o (act.FinishEviction f) = o.failed ≡ true → IsAnswering s c
 MaySchedule s c o (act.FinishPage f) = o.failed ≡ true → IsAnswering s c
+MaySchedule s c o (act.CopyPage m p) = o.failed ≡ true → IsAnswering s c
 MaySchedule s c o act.Commit = (k : ℕ) × ((cpu_at s.processors c).process ≡ Some k) × (k < length s.runs)
 MaySchedule s c o _ = Unit {0}
 
@@ -334,6 +336,11 @@ module _ (s : State) (c : ℕ) (o : Outcome) (h : IsScheduled s) (there : c < le
       (frames_from (with_hand_moved s.store pool chain).ast u 0) (trailers_in
       (with_hand_moved s.store pool chain) u))) h
   schedule_kept (act.TakeAway fs pairs w) may = sits_kept s _ (all_taken s c aim.Committing w fs pairs) h
+  schedule_kept (act.BeginMove u volume) may = h
+  schedule_kept (act.CopyPage m p) may = by_end o _ (copy_failed s c o.faults) h
+      (λ failed. told_after s (fault_told (with_store s (without_move s.store)) (Some (process_at s c)) o.faults) c None
+      reply.Device (still refl refl refl refl) h there (may failed))
+  schedule_kept (act.CommitMove m) may = h
   schedule_kept (act.Signal w) may =
       seats_kept s.plan s.runs s.ready s.processors (told_from c w 0 s.processors) (told_seats s c w) h
   schedule_kept (act.FinishEviction f) may = by_end o _ (write_failed s c o.faults) h (λ failed. failed_kept

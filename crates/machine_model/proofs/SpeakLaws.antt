@@ -12,6 +12,7 @@ use Rattle.book.specs.declared.replies.Reply.TheVariants as reply
 use Rattle.flat_model.specs.Commands.{reply_to_command, takes_effect}
 use Rattle.flat_model.specs.Legal.{IsAnswer}
 use Rattle.flat_model.specs.Store.{is_turn, progress_of}
+use Rattle.flat_model.proofs.HeldLaws.{refused_free}
 use Rattle.storage_ops.specs.Shown.{is_refusal}
 use Rattle.custody_model.specs.Allowed.{MayAnswer as MayAnswerBy, is_word_or_done}
 use Rattle.machine_model.specs.Custodial.{IsRun}
@@ -87,7 +88,8 @@ speaks_like {s = s} {now = now} {c = c} {k = k} processors runs plan go sp = rec
   runs = go;
 }
 
-turn_is : (s : State) (c k : ℕ) (cmd : Command) → Speaks s c k cmd → is_turn s.plan (flat_of s) k ≡ true
+-- and it is its turn in the flat store
+pub turn_is : (s : State) (c k : ℕ) (cmd : Command) → Speaks s c k cmd → is_turn s.plan (flat_of s) k ≡ true
 turn_is s c k cmd h = by h.turn
   where
     or_right : (a : Bool) {b : Bool} → b ≡ true → (a || b) ≡ true
@@ -139,7 +141,10 @@ refusal_quiet _ h = (refl, refl)
 -- what refuses a command may be told at once
 pub can_refuse : (s : State) (c k : ℕ) (cmd : Command) (r : Reply) → Speaks s c k cmd
     → r ≡ reply_to_command s.plan (flat_of s) k cmd → is_refusal r ≡ true → CanTell s c k None r
-can_refuse s c k cmd r h is refuses = can_tell s c k cmd None r h (inl is) (by (reference_of cmd))
+can_refuse s c k cmd r h is refuses = can_tell s c k cmd None r h (inl (record {
+  own = is;
+  free = refused_free s.plan (flat_of s) k cmd (ap takes_effect (sym is) ∙ quiet.0);
+})) (by (reference_of cmd))
   where
     quiet : (takes_effect r ≡ false) × (is_word_or_done r ≡ false)
     quiet = refusal_quiet r refuses

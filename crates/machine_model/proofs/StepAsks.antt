@@ -25,9 +25,13 @@ use Rattle.processor.specs.Moves.{by_descriptor, by_held, by_page, by_seg, by_wo
 use Rattle.processor.specs.declared.Move.TheVariants as move
 use Rattle.processor.specs.declared.Transfer.{Transfer}
 use Rattle.book.specs.declared.replies.Reply.TheVariants as reply
+use Rattle.flat_model.specs.Moves.{MayMove}
 use Rattle.flat_model.specs.References.{word_reply}
+use Rattle.seg_mover.specs.declared.Mover.{Mover}
+use Rattle.machine_model.specs.Lacking.{IsMovedFor}
 use Rattle.machine_model.specs.Reads.{is_active}
-use Rattle.seg_control.specs.Control.{sdws_at, word_of}
+use Rattle.seg_control.specs.Control.{sdws_at, word_of, table_of}
+use Rattle.seg_control.specs.Moving.{next_out}
 use Rattle.flat_model.specs.Legal.{MayRelease}
 use Rattle.script.specs.References.{new_word, permits}
 use Rattle.flat_model.proofs.ZeroLaws.{words_zero}
@@ -40,7 +44,7 @@ use Rattle.machine_model.specs.declared.Processor.{Processor}
 use Rattle.machine_model.specs.Actions as act
 use Rattle.machine_model.specs.Actions.{action_of, by_move, clear_or, come_to, finish_of, go_on_with, has_had_its_turn}
 use Rattle.machine_model.specs.Actions.{is_empty, is_over, load_or_idle, look_of, move_of, once_cleared, own_or_run}
-use Rattle.machine_model.specs.Actions.{refer_or_take, run_process, take_or_wait, transfer_or}
+use Rattle.machine_model.specs.Actions.{refer_or_take, run_process, take_or_wait, transfer_or, copy_or_commit}
 use Rattle.machine_model.specs.After.{Outcome}
 use Rattle.machine_model.specs.Chains.{page_at}
 use Rattle.machine_model.specs.Custodial.{names}
@@ -58,9 +62,11 @@ use Rattle.machine_model.specs.State.{Owner, State}
 use Rattle.machine_model.proofs.ActionCases.{action_by}
 use Rattle.machine_model.proofs.ChainLaws.{going_word, has_head}
 use Rattle.machine_model.proofs.EmptyAsks.{length_asks, victim_asks}
+use Rattle.machine_model.proofs.LackingLaws.{may_move, may_rehome}
 use Rattle.machine_model.proofs.LookAsks.{activate_asks, answer_asks, connect_asks, create_asks}
 use Rattle.machine_model.proofs.LookFacts.{LookFinds, look_finds}
 use Rattle.machine_model.proofs.MoveAsks.{length_asks as too_long_asks, no_access_asks, through_asks, zero_asks}
+use Rattle.machine_model.proofs.MovingSays.{copied_says, copy_failed_says, moved_says, begun_says}
 use Rattle.machine_model.proofs.OwnedLaws.{IsIdle}
 use Rattle.machine_model.proofs.PageShown.{bound_word, stored_is}
 use Rattle.machine_model.proofs.RuleKept.{Asks, AsksCommit, IsLooking, look_idle, look_still}
@@ -82,12 +88,12 @@ use Rattle.machine_model.proofs.ActiveKept.{segs_are_gone}
 use Rattle.machine_model.proofs.ChainLaws.{GoesOn}
 use Rattle.machine_model.proofs.CommandRests.{commit_rests}
 use Rattle.machine_model.proofs.CommitAsks.{commit_asks, look_plainly, taken_plainly}
-use Rattle.machine_model.proofs.JobAsks.{read_asks, write_asks}
+use Rattle.machine_model.proofs.JobAsks.{read_asks, write_asks, copy_asks}
 use Rattle.machine_model.proofs.JustTaken.{look_taken}
 use Rattle.machine_model.specs.Steps.{is_its_end}
 use Rattle.machine_model.proofs.FailLaws.{fails_more}
 use Rattle.machine_model.proofs.SaysLaws.{failed_says}
-use Rattle.machine_model.proofs.RuleKept.{HasWaited, wait_goes, wait_shape}
+use Rattle.machine_model.proofs.RuleKept.{HasWaited, wait_goes, wait_shape, IsMoving}
 use Rattle.machine_model.proofs.SaysLaws.{gone_is}
 use Rattle.machine_model.proofs.WholeKept.{may_deactivate}
 use Rattle.machine_model.proofs.SpeakLaws.{Speaks, speaks}
@@ -98,6 +104,7 @@ use Rattle.machine_model.proofs.TieLaws.{none_some}
 use Rattle.machine_model.proofs.TransferKept.{active_at}
 use Rattle.machine_model.proofs.SpeakLaws.{speaks_of}
 use Rattle.machine_model.proofs.TakeAsks.{takes_none}
+use Rattle.machine_model.proofs.WorkStep.{moving_fails, moving_rests}
 
 -- ---- a page is read
 
@@ -303,6 +310,9 @@ module _ (s : State) (c : ℕ) (o : Outcome) (m : IsMachine s) (there : c < leng
     look_follows (act.FinishEviction f) h says = absurd h
     look_follows (act.FinishPage f) h says = absurd h
     look_follows (act.Deactivate u) h says = absurd h
+    look_follows (act.BeginMove u volume) h says = begun_says s c o m.keeps u volume says
+    look_follows (act.CopyPage x n) h says = absurd h
+    look_follows (act.CommitMove x) h says = absurd h
 
   -- ---- what was taken goes
 
@@ -381,6 +391,27 @@ module _ (s : State) (c : ℕ) (o : Outcome) (m : IsMachine s) (there : c < leng
       (taken_plainly s c one.0 (subst TakesSome one.1.next (fails_by aim.Committing w x))) says
       (commit_rests s c m.keeps one.0 (subst (IsTakenBy s k) one.1.next (taken_by w x))))
 
+  -- a segment moves
+  move_follows : (x : Mover) → IsMoving s c x → p.cpu.process ≡ Some k → (next : Option ℕ)
+      → Follows s c o (copy_or_commit x next)
+  move_follows x moving its (Some n) says = record {
+    well = λ h. (says.never_less, copied_says s c o m.keeps x n says h);
+    ill = λ h. (let one = speaks s c k m there its in copy_asks s c o one.0 m.keeps one.1
+        (subst (MayFailBy s.store k) one.1.next (moving_fails s c o m working x moving)) (says.counted h)
+        (copy_failed_says s c o m.keeps x n says h));
+  }
+  move_follows x moving its None says = record {
+    may = moves;
+    rehomes = may_rehome s k x (next_command s k) rests;
+    says = moved_says s c o m.keeps x says moves;
+  }
+    where
+      rests : IsMovedFor s.store k x (next_command s k)
+      rests = moving_rests s c o m working x moving
+
+      moves : MayMove s.plan (flat_of s) k x.uid x.to.0
+      moves = let one = speaks s c k m there its in may_move s c k one.0 x m.keeps one.1 rests
+
   phase_follows : (q : IsMine s c) → p.cpu.process ≡ Some k → (x : Phase) → q.owner.phase ≡ x
       → Follows s c o (go_on_with s k q.owner x)
   phase_follows q its phase.Looking e = let one = speaks s c k m there its in
@@ -393,6 +424,8 @@ module _ (s : State) (c : ℕ) (o : Outcome) (m : IsMachine s) (there : c < leng
           → Follows s c o (once_cleared x (finish_of a q.owner.frames))
       by None h = finish_follows a w (record { owner = q; waits = e; cleared = h }) its q.owner.frames refl
       by (Some d) h = λ says. tt
+  phase_follows q its (phase.Moving x) e =
+      move_follows x (record { owner = q; moves = e }) its (next_out (table_of s.store.ast x.uid) x.next)
 
   -- ---- the rules in their order
 

@@ -82,6 +82,9 @@ module _ (s : State) (c : ℕ) (o : Outcome) (m : IsMachine s) (there : c < leng
     may_schedule (act.Empty u) can knows = tt
     may_schedule (act.EmptyVictim pool chain u) can knows = tt
     may_schedule (act.TakeAway fs pairs w) can knows = tt
+    may_schedule (act.BeginMove u volume) can knows = tt
+    may_schedule (act.CopyPage x p) can knows = λ e. answering s c knows.one
+    may_schedule (act.CommitMove x) can knows = tt
     may_schedule (act.Signal w) can knows = tt
     may_schedule (act.FinishEviction f) can knows = λ e. answering s c knows
     may_schedule (act.FinishPage f) can knows = λ e. answering s c knows.1
@@ -125,6 +128,9 @@ module _ (s : State) (c : ℕ) (o : Outcome) (m : IsMachine s) (there : c < leng
           (look_taken s c (process_at s c) knows.4.command w fs pairs m.keeps knows.1 knows.4.finds can.can),
       few_taken s (process_at s c) knows.4.command fs pairs m.keeps knows.4.finds,
     )
+    may_work (act.BeginMove u volume) can knows = knows
+    may_work (act.CopyPage x p) can knows = knows.moving
+    may_work (act.CommitMove x) can knows = tt
     may_work (act.Signal w) can knows = can.owner
     may_work (act.FinishEviction f) can knows = tt
     may_work (act.FinishPage f) can knows = knows.0
@@ -160,6 +166,8 @@ module _ (s : State) (c : ℕ) (o : Outcome) (m : IsMachine s) (there : c < leng
         (λ h. may_answer s c (process_at s c) m there knows.speaks.its)
     comes (act.FinishPage f) can knows = all_come s c (act.FinishPage f) o m.script m.come
         (λ h. may_answer s c (process_at s c) m there knows.1.speaks.its)
+    comes (act.CopyPage x p) can knows = all_come s c (act.CopyPage x p) o m.script m.come
+        (λ h. may_answer s c (process_at s c) m there knows.one.speaks.its)
     comes act.Commit can knows = all_come s c act.Commit o m.script m.come
         (λ h. may_answer s c (process_at s c) m there knows.speaks.its)
     comes act.IsStopped can knows = quiet act.IsStopped refl
@@ -180,6 +188,8 @@ module _ (s : State) (c : ℕ) (o : Outcome) (m : IsMachine s) (there : c < leng
     comes (act.Empty u) can knows = quiet (act.Empty u) refl
     comes (act.EmptyVictim pool chain u) can knows = quiet (act.EmptyVictim pool chain u) refl
     comes (act.TakeAway fs pairs w) can knows = quiet (act.TakeAway fs pairs w) refl
+    comes (act.BeginMove u volume) can knows = quiet (act.BeginMove u volume) refl
+    comes (act.CommitMove x) can knows = quiet (act.CommitMove x) refl
     comes (act.Signal w) can knows = quiet (act.Signal w) refl
     comes (act.Deactivate u) can knows = quiet (act.Deactivate u) refl
 
@@ -208,6 +218,9 @@ module _ (s : State) (c : ℕ) (o : Outcome) (m : IsMachine s) (there : c < leng
     may_read (act.Empty u) can knows past = tt
     may_read (act.EmptyVictim pool chain u) can knows past = tt
     may_read (act.TakeAway fs pairs w) can knows past = tt
+    may_read (act.BeginMove u volume) can knows past = tt
+    may_read (act.CopyPage x p) can knows past = (past, knows.one.speaks.its)
+    may_read (act.CommitMove x) can knows past = tt
     may_read (act.Signal w) can knows past = tt
     may_read (act.FinishEviction f) can knows past = (past, knows.speaks.its)
     may_read (act.FinishPage f) can knows past = (past, knows.1.speaks.its)

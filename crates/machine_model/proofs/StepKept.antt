@@ -19,8 +19,10 @@ use Rattle.active_segs.specs.Victim.{first_off_chain, hand_past}
 use Rattle.processor.specs.declared.Transfer.{Transfer}
 use Rattle.seg_control.specs.Control.{place_of, sdws_at, table_of}
 use Rattle.flat_model.specs.Legal.{MayFault, MayRelease}
+use Rattle.flat_model.specs.Moves.{MayMove}
 use Rattle.flat_model.specs.References.{word_reply}
-use Rattle.custody_model.specs.Allowed.{IsFront, MayActivate, MayDeactivate, MayLeave}
+use Rattle.custody_model.specs.Allowed.{IsFront, MayActivate, MayDeactivate, MayLeave, MayRehome}
+use Rattle.seg_mover.specs.declared.Mover.{Mover}
 use Rattle.machine_model.specs.declared.Aim.{Aim}
 use Rattle.machine_model.specs.declared.Aim.TheVariants as aim
 use Rattle.machine_model.specs.declared.Phase.TheVariants as phase
@@ -33,6 +35,7 @@ use Rattle.machine_model.specs.Holding.{seen}
 use Rattle.machine_model.specs.Jobs.{emptied, eviction_begun, eviction_done, left_of, page_done, segment_taken}
 use Rattle.machine_model.specs.Jobs.{segs_gone, took, with_hand_moved, write_failed}
 use Rattle.machine_model.specs.Keeps.{IsAtWork, Keeps, StoreSays}
+use Rattle.machine_model.specs.Moves.{copy_failed, move_begun, move_committed, page_copied}
 use Rattle.machine_model.specs.Reads.{cpu_at, cut_of_owner, descriptor_of, flat_of, frames_from, frames_of_owner}
 use Rattle.machine_model.specs.Reads.{next_command, process_at, processor_at, trailers_in}
 use Rattle.machine_model.specs.Refusal.{reply_of}
@@ -54,6 +57,7 @@ use Rattle.machine_model.proofs.FrameLaws.{CanFinish}
 use Rattle.machine_model.proofs.JobKept.{evict_kept, signal_kept}
 use Rattle.machine_model.proofs.KeepLaws.{IsNoOwner, clear_kept, fill_page_kept, fill_seg_kept, leave_kept, load_kept}
 use Rattle.machine_model.proofs.KeepLaws.{online_kept}
+use Rattle.machine_model.proofs.MovingKept.{begun_kept, copied_kept, copy_failed_kept, copy_failing, moved_kept}
 use Rattle.machine_model.proofs.OwnedLaws.{IsIdle, nobody}
 use Rattle.machine_model.proofs.SeatLaws.{CanFillPage, CanFillSeg}
 use Rattle.machine_model.proofs.TellKept.{CanTell, owner_kept, tell_kept}
@@ -183,6 +187,35 @@ pub record CanEmptyVictim (s : State) (c pool : ℕ) (chain : List ℕ) (u : ℕ
   pub says : StoreSays (with_store s (with_hand_moved s.store pool chain))
   pub can : CanEmpty (with_store s (with_hand_moved s.store pool chain)) c u
 
+-- a segment begins to move, and a page of it is copied: the job has taken nothing
+pub record CanBeginMove (s : State) (c u volume : ℕ) : Type 0 where
+  pub owner : IsMine s c
+  pub idle : IsIdle s.owner
+  pub still : is_pending s.owner ≡ false
+  pub says : StoreSays (move_begun s c u volume)
+
+pub record CanFailCopy (s : State) (c : ℕ) (o : Outcome) : Type 0 where
+  pub rose : Rose s.faults o.faults
+  pub may : MayFault (flat_of s) (Some (process_at s c))
+  pub tell : CanTell (copy_failing s c o.faults) c (process_at s c) None reply.Device
+  pub says : StoreSays (copy_failed s c o.faults)
+
+pub record CanCopy (s : State) (c : ℕ) (m : Mover) (p : ℕ) (o : Outcome) : Type 0 where
+  pub owner : IsMine s c
+  pub idle : IsIdle s.owner
+  pub still : is_pending s.owner ≡ false
+  pub well : o.failed ≡ false → (s.faults ≤ o.faults) × StoreSays (page_copied (with_faults s o.faults) c m p)
+  pub ill : o.failed ≡ true → CanFailCopy s c o
+
+-- it has moved: the flat store and custody allow it
+pub record CanCommitMove (s : State) (c : ℕ) (m : Mover) : Type 0 where
+  pub owner : IsMine s c
+  pub idle : IsIdle s.owner
+  pub still : is_pending s.owner ≡ false
+  pub may : MayMove s.plan (flat_of s) (process_at s c) m.uid m.to.0
+  pub rehomes : MayRehome (shown (seen s)) m.uid
+  pub says : StoreSays (move_committed s c m)
+
 pub record CanSignalNow (s : State) (c : ℕ) (w : What) : Type 0 where
   pub owner : IsMine s c
   pub aim : Aim
@@ -274,6 +307,9 @@ CanDo s c o (act.Evict f) = CanEvict s c f
 CanDo s c o (act.Empty u) = CanEmpty s c u
 CanDo s c o (act.EmptyVictim pool chain u) = CanEmptyVictim s c pool chain u
 CanDo s c o (act.TakeAway fs pairs w) = CanTakeAway s c aim.Committing w fs pairs
+CanDo s c o (act.BeginMove u volume) = CanBeginMove s c u volume
+CanDo s c o (act.CopyPage m p) = CanCopy s c m p o
+CanDo s c o (act.CommitMove m) = CanCommitMove s c m
 CanDo s c o (act.Signal w) = CanSignalNow s c w
 CanDo s c o (act.FinishEviction f) = CanFinishEviction s c f o
 CanDo s c o (act.FinishPage f) = CanFinishPage s c f o
@@ -348,6 +384,10 @@ commit_done s c k (Some (command.Delete path)) keeps (inr can) = delete_inactive
 commit_done s c k (Some cmd) keeps can = commit_kept s c k cmd keeps can.pages can.none can.over can.stays can.its
     can.tell can.says
 
+-- the owner is this processor, at work
+works_mine : (s : State) (c : ℕ) → Keeps s → IsMine s c → IsAtWork (processor_at s.processors c)
+works_mine s c k m = subst (λ (d : ℕ). IsAtWork (processor_at s.processors d)) m.same (k.at_work m.owner m.mine)
+
 -- What an action asks is all that it wants to keep the promise.
 pub after_keeps : (s : State) (c : ℕ) (o : Outcome) (a : act.Action) → Keeps s → c < length s.processors
     → CanDo s c o a → Keeps (after s c a o)
@@ -395,6 +435,15 @@ after_keeps s c o (act.EmptyVictim pool chain u) k there can =
     (hand_kept s pool chain k can.says) can.can
 after_keeps s c o (act.TakeAway fs pairs w) k there can =
     took_kept s c aim.Committing w fs pairs k can.can can.owns can.works can.says
+after_keeps s c o (act.BeginMove u volume) k there can =
+    begun_kept s c k can.idle can.still (works_mine s c k can.owner) u volume can.says
+after_keeps s c o (act.CopyPage m p) k there can =
+    by_end o (page_copied (with_faults s o.faults) c m p) (copy_failed s c o.faults)
+    (λ e. (let w = can.well e in copied_kept s c k can.idle can.still (works_mine s c k can.owner) m p o.faults w.0
+    w.1))
+    (λ e. (let i = can.ill e in copy_failed_kept s c o.faults k can.idle can.still i.rose i.may i.tell i.says))
+after_keeps s c o (act.CommitMove m) k there can =
+    moved_kept s c m k can.idle can.still (works_mine s c k can.owner) can.may can.rehomes can.says
 after_keeps s c o (act.Signal w) k there can =
     signal_kept s c can.owner.owner can.aim w k can.owner.mine can.owner.same can.taken
 after_keeps s c o (act.FinishEviction f) k there can =

@@ -1,7 +1,7 @@
 -- What the rules know where they choose an action: who owns the supervisor, and whose command it is.
 use Rattle.std.proofs.Common.{◌≡◌, ◌≢◌, ◌<◌, ℕ, true, false, not, ◌&&◌, eqb, List, [], ◌∷◌}
 use Rattle.std.proofs.Common.{length, position, Option, Some, None, inl, inr, refl, sym, ap, subst, ◌∙◌}
-use Rattle.std.proofs.Common.{◌⊎◌}
+use Rattle.std.proofs.Common.{◌⊎◌, ◌/◌}
 use Rattle.std.proofs.lemmas.Bool.{cond_both}
 use Rattle.std.proofs.lemmas.Bool.Decides.{eqb_tells}
 use Rattle.script.specs.References.{reference_of}
@@ -9,9 +9,15 @@ use Rattle.script.specs.declared.commands.Command.{Command}
 use Rattle.script.specs.declared.commands.Reference.{Reference}
 use Rattle.assoc_mem.specs.declared.What.{What}
 use Rattle.assoc_mem.specs.declared.What.TheVariants as what
+use Rattle.seg_mover.specs.declared.Mover.{Mover}
+use Rattle.seg_control.specs.Control.{table_of}
+use Rattle.seg_control.specs.Moving.{next_out}
+use Rattle.machine_model.specs.Lacking.{IsMovedFor}
 use Rattle.machine_model.specs.Taking.{IsTakenBy, IsTakenFor, TakenIn}
 use Rattle.machine_model.proofs.ActionCases.{action_by}
 use Rattle.machine_model.proofs.JustTaken.{look_taken}
+use Rattle.machine_model.proofs.LookAsks.{page_active}
+use Rattle.machine_model.proofs.MoveFound.{move_found}
 use Rattle.machine_model.proofs.ReadyLaws.{IsOutOfUse}
 use Rattle.machine_model.proofs.TookKept.{CanTook}
 use Rattle.processor.specs.declared.Move.TheVariants as move
@@ -24,7 +30,7 @@ use Rattle.machine_model.specs.declared.Processor.{Processor}
 use Rattle.machine_model.specs.Actions as act
 use Rattle.machine_model.specs.Actions.{action_of, by_move, clear_or, come_to, finish_of, go_on_with, has_had_its_turn}
 use Rattle.machine_model.specs.Actions.{is_empty, is_over, load_or_idle, look_of, move_of, once_cleared, own_or_run}
-use Rattle.machine_model.specs.Actions.{refer_or_take, run_process, take_or_wait, transfer_or}
+use Rattle.machine_model.specs.Actions.{refer_or_take, run_process, take_or_wait, transfer_or, copy_or_commit}
 use Rattle.machine_model.specs.After.{Outcome}
 use Rattle.machine_model.specs.Promise.{IsMachine}
 use Rattle.machine_model.specs.Reads.{flat_of, is_due, next_command}
@@ -33,7 +39,7 @@ use Rattle.machine_model.specs.State.{Owner, State}
 use Rattle.machine_model.proofs.LookFacts.{LookFinds, look_finds}
 use Rattle.machine_model.proofs.OwnedLaws.{IsIdle}
 use Rattle.machine_model.proofs.RuleKept.{IsLooking, look_idle}
-use Rattle.machine_model.proofs.RuleKept.{process_here}
+use Rattle.machine_model.proofs.RuleKept.{process_here, IsMoving}
 use Rattle.machine_model.specs.Working.{FailsIn, IsWorking, MayFailBy, TakesSome}
 use Rattle.machine_model.proofs.SpeakLaws.{Speaks, speaks}
 use Rattle.machine_model.proofs.StandLaws.{takes_tree}
@@ -47,7 +53,8 @@ use Rattle.processor.specs.declared.Move.{Move}
 use Rattle.machine_model.proofs.FailLaws.{fails_more}
 use Rattle.machine_model.proofs.KeepLaws.{IsNoOwner}
 use Rattle.machine_model.proofs.LookFacts.{FindsActive, FindsFull, FindsOut, FindsTaken, FindsVictim}
-use Rattle.machine_model.proofs.WorkStep.{IsEmptying, Looks}
+use Rattle.machine_model.proofs.WorkKept.{page_fails}
+use Rattle.machine_model.proofs.WorkStep.{IsEmptying, Looks, BeginsMove, moving_rests}
 use Rattle.machine_model.proofs.SpeakLaws.{speaks_of}
 use Rattle.machine_model.proofs.TakeAsks.{takes_none}
 
@@ -77,6 +84,19 @@ pub record FindsFor (s : State) (c : ℕ) (fs : List ℕ) (pairs : List (ℕ × 
   pub next : next_command s (process_at s c) ≡ Some command
   pub finds : FindsTaken s (process_at s c) command fs pairs
 
+-- the owner copies the next page of the segment that it moves, or there is none any more
+pub record CopiesNext (s : State) (c : ℕ) (m : Mover) (p : ℕ) : Type 0 where
+  pub moving : IsMoving s c m
+  pub one : AnswersOne s c
+  pub rests : IsMovedFor s.store (process_at s c) m (next_command s (process_at s c))
+  pub next : next_out (table_of s.store.ast m.uid) m.next ≡ Some p
+
+pub record EndsMove (s : State) (c : ℕ) (m : Mover) : Type 0 where
+  pub moving : IsMoving s c m
+  pub one : AnswersOne s c
+  pub rests : IsMovedFor s.store (process_at s c) m (next_command s (process_at s c))
+  pub done : next_out (table_of s.store.ast m.uid) m.next ≡ None
+
 abbrev pub Knows : State → ℕ → act.Action → Type 0
 Knows s c (act.Through f r) = RunsAlone s c
 Knows s c (act.Plain r) = RunsAlone s c
@@ -92,6 +112,9 @@ Knows s c (act.TakeAway fs pairs w) = IsLooking s c × IsIdle s.owner × ((fs �
     × TakesSome (next_command s (process_at s c)) × FindsFor s c fs pairs
 Knows s c (act.FinishEviction f) = AnswersOne s c
 Knows s c (act.FinishPage f) = IsEmptying s c × AnswersOne s c
+Knows s c (act.BeginMove u volume) = BeginsMove s c u volume
+Knows s c (act.CopyPage m p) = CopiesNext s c m p
+Knows s c (act.CommitMove m) = EndsMove s c m
 Knows s c act.Commit = Commits s c
 Knows s c _ = Unit {0}
 
@@ -216,6 +239,16 @@ module _ (s : State) (c : ℕ) (o : Outcome) (m : IsMachine s) (there : c < leng
       look_knows (act.FinishEviction f) h = absurd h
       look_knows (act.FinishPage f) h = absurd h
       look_knows (act.Start f u q) h = (cmd, sp, h)
+      look_knows (act.BeginMove u volume) h = record {
+        looking = l;
+        fails = subst (MayFailBy s.store k) (sym sp.next)
+            (page_fails s k cmd m.keeps u (h.reference.offset / 1024) (inl (h.reference, h.finds)));
+        moves = move_found s k cmd m.keeps u volume h
+            (page_active s c o m idle cmd sp h.reference u (h.reference.offset / 1024) h.finds)
+            (next_command s k) sp.next;
+      }
+      look_knows (act.CopyPage x q) h = absurd h
+      look_knows (act.CommitMove x) h = absurd h
       look_knows _ h = tt
 
     -- ---- what was taken goes
@@ -273,6 +306,19 @@ module _ (s : State) (c : ℕ) (o : Outcome) (m : IsMachine s) (there : c < leng
         by : (x : Option ℕ) → Knows s c (once_cleared x (finish_of a q.owner.frames))
         by None = finish_knows q its a w e q.owner.frames
         by (Some d) = tt
+    phase_knows q its (phase.Moving x) e = by (next_out (table_of s.store.ast x.uid) x.next) refl
+      where
+        moving : IsMoving s c x
+        moving = record { owner = q; moves = e }
+
+        one : AnswersOne s c
+        one = fails_knows q its (subst (λ (y : Phase). FailsIn y s.store (process_at s q.owner.cpu)
+            (next_command s (process_at s q.owner.cpu))) e (working.fails q.owner q.mine))
+
+        by : (y : Option ℕ) → next_out (table_of s.store.ast x.uid) x.next ≡ y → Knows s c (copy_or_commit x y)
+        by (Some n) h =
+            record { moving = moving; one = one; rests = moving_rests s c o m working x moving; next = h }
+        by None h = record { moving = moving; one = one; rests = moving_rests s c o m working x moving; done = h }
 
     -- ---- the rules in their order
 

@@ -124,7 +124,7 @@ cleared_falls s c d x k awaits cleared =
     (parts_of s (runner_at s.runners c) stage))
     (sym same)
     (falls_due (parts_of s (runner_at s.runners c) stage) (parts_of (with_runner s d x) (runner_at s.runners c) stage)
-    (omega (arith, read, read_same)) (le_refl _) (le_refl _) (le_refl _) (le_refl _) (le_refl _)
+    (omega (arith, read, read_same)) (le_refl _) (le_refl _) (le_refl _) (le_refl _) (le_refl _) (le_refl _)
     (omega (arith, count, was, now))) in (
       omega (arith, rank_s, rank_t, less),
       record {

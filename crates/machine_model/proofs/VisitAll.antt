@@ -23,6 +23,7 @@ use Rattle.machine_model.specs.Foreseen.{AllCome, Comes}
 use Rattle.machine_model.specs.Jobs.{are_zeros, here_if, leaving_if, left_of, page_back, page_gone, page_in, with_here}
 use Rattle.machine_model.specs.Jobs.{without_first_frame}
 use Rattle.machine_model.specs.Keeps.{IsFaithful, Keeps, StoreKept, StoreSays}
+use Rattle.machine_model.specs.Movers.{mover_of}
 use Rattle.machine_model.specs.Promise.{KeepsAll}
 use Rattle.machine_model.specs.Reads.{cpu_at, cut_of_owner, flat_of, home_in, run_at}
 use Rattle.machine_model.specs.Scheduled.{AreScheduled, IsScheduled}
@@ -33,6 +34,7 @@ use Rattle.machine_model.specs.State.{Owner, State}
 use Rattle.machine_model.specs.Steps.{fault_told, with_faults}
 use Rattle.machine_model.specs.Visits.{AreIdle}
 use Rattle.machine_model.proofs.FlatAlike.{IsAlike, alike, alike_by, alike_on, fault_alike, one_still}
+use Rattle.machine_model.proofs.MoverTied.{here_moving, leaving_moving}
 use Rattle.machine_model.proofs.OutlineTake.{took_like}
 use Rattle.machine_model.proofs.OverLaws.{over_bare, over_faults, over_free, over_none, over_unread}
 use Rattle.machine_model.proofs.SaysLaws.{left_count, left_flat, left_nodes, none_rest, says_by}
@@ -63,11 +65,19 @@ pub record SameSeats (s t : State) : Type 0 where
   pub processors : t.processors ≡ s.processors
   pub sizes : t.store.ast.sizes ≡ s.store.ast.sizes
   pub stopped : t.stopped ≡ s.stopped
+  pub moving : t.store.moving ≡ s.store.moving
 
 seated : {s t : State} → t.plan ≡ s.plan → t.runs ≡ s.runs → t.ready ≡ s.ready → t.processors ≡ s.processors
-    → t.store.ast.sizes ≡ s.store.ast.sizes → t.stopped ≡ s.stopped → SameSeats s t
-seated plan runs ready processors sizes stopped =
-    record { plan = plan; runs = runs; ready = ready; processors = processors; sizes = sizes; stopped = stopped }
+    → t.store.ast.sizes ≡ s.store.ast.sizes → t.stopped ≡ s.stopped → t.store.moving ≡ s.store.moving → SameSeats s t
+seated plan runs ready processors sizes stopped moving = record {
+  plan = plan;
+  runs = runs;
+  ready = ready;
+  processors = processors;
+  sizes = sizes;
+  stopped = stopped;
+  moving = moving;
+}
 
 module _ (s : State) (o : Outcome) where
   abbrev f : ℕ
@@ -89,6 +99,9 @@ module _ (s : State) (o : Outcome) where
       by : (x : Option (ℕ × ℕ)) → (leaving_if s.store f x).ast.sizes ≡ s.store.ast.sizes
       by None = refl
       by (Some page) = refl
+
+  taken_moving : taken.store.moving ≡ s.store.moving
+  taken_moving = leaving_moving s.store f (bound_page (frame_in s.store.pages f))
 
   taken_flat : flat_of taken ≡ flat_of s
   taken_flat = one_still s.plan s.entries (entry.Take f) refl
@@ -117,10 +130,11 @@ module _ (s : State) (o : Outcome) where
       ended : (b : Bool) → SameSeats s (record (cond b back gone) { visited = f + 1 })
       ended true = seated refl refl refl refl
           (back_sizes (bound_page (frame_in taken.store.pages f)) ∙ taken_sizes) refl
-      ended false = seated refl refl refl refl taken_sizes refl
+          (here_moving taken.store f ∙ taken_moving)
+      ended false = seated refl refl refl refl taken_sizes refl taken_moving
 
       by : (x : Option (ℕ × ℕ)) → SameSeats s (record (visited_if s f o x) { visited = f + 1 })
-      by None = seated refl refl refl refl refl refl
+      by None = seated refl refl refl refl refl refl refl
       by (Some page) = ended o.failed
 
 -- ---- the whole promise
@@ -265,6 +279,7 @@ module _ (s : State) (o : Outcome) (all : KeepsAll s) (over : is_over s ≡ true
       come = come;
       scheduled = scheduled;
       pools = seats.sizes ∙ (all.machine.pools ∙ ap (λ (p : Plan). p.pools) (sym seats.plan));
+      moving = seats.moving ∙ (all.machine.moving ∙ (ap mover_of none ∙ sym (ap mover_of free)));
     };
     entitled = record { each = λ d k h. absurd (none_some (sym (unrun d) ∙ h)) };
     reading = record { each = λ d t h. absurd (unread d t h) };

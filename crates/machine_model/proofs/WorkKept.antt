@@ -1,6 +1,6 @@
 -- What the owner's job rests on stays so through every action.
 use Rattle.std.proofs.Common.{◌≡◌, ◌≤◌, ℕ, Bool, true, false, cond, List, [], ◌∷◌, ◌++◌}
-use Rattle.std.proofs.Common.{Option, Some, None, ◌⊎◌, inl, inr, refl, sym, ap, subst, ◌∙◌, arith}
+use Rattle.std.proofs.Common.{Option, Some, None, ◌⊎◌, inl, inr, refl, sym, ap, subst, ◌∙◌, arith, get_or, set}
 use Rattle.std.specs.Prelude.{nat_le, Result, Ok}
 use Rattle.std.proofs.lemmas.Bool.Decides.{leb_tells}
 use Rattle.script.specs.Plans.{Plan}
@@ -21,24 +21,34 @@ use Rattle.storage_ops.specs.Shown.{is_filed, refusal}
 use Rattle.custody_model.specs.Clean.{custody_after}
 use Rattle.custody_model.specs.Custody.{Custody}
 use Rattle.custody_model.proofs.CleanLaws.{custody_after-push}
+use Rattle.seg_mover.specs.declared.Mover.{Mover}
+use Rattle.core_map.specs.CoreMap.{Core, reads_of, after_reference, frame_at, started_page, with_frame}
 use Rattle.machine_model.specs.declared.Aim.{Aim}
 use Rattle.machine_model.specs.declared.Aim.TheVariants as aim
 use Rattle.machine_model.specs.declared.Phase.{Phase}
 use Rattle.machine_model.specs.declared.Phase.TheVariants as phase
 use Rattle.machine_model.specs.Holding.{holding}
 use Rattle.machine_model.specs.Keeps.{Keeps}
-use Rattle.machine_model.specs.Reads.{flat_of}
+use Rattle.machine_model.specs.Lacking.{IsMovedFor, MovesForNext, MovesIn, Tables, tables_of}
+use Rattle.machine_model.specs.Moves.{past_page, with_copy}
+use Rattle.machine_model.specs.Reads.{flat_of, is_active}
 use Rattle.machine_model.specs.Refusal.{outside_refusal, refusal_of, uid_of_number}
 use Rattle.known_segs.specs.Known.{uid_of}
 use Rattle.seg_control.specs.Control.{kst_at}
+use Rattle.seg_control.specs.Kept.{read_at}
+use Rattle.seg_control.specs.Moving.{IsUnread}
 use Rattle.machine_model.specs.State.{State, Storage}
 use Rattle.machine_model.specs.Whole.{IsWhole, Spares}
 use Rattle.machine_model.specs.Working.{FailsBy, FailsIn, MayChange, MayFailBy}
 use Rattle.machine_model.proofs.CommandFacts.{LeadsToSegment, length_stands, truncate_stands}
 use Rattle.machine_model.proofs.InsideLaws.{inside_is}
+use Rattle.machine_model.proofs.ListLaws.{map_list}
 use Rattle.machine_model.proofs.LookFacts.{FindsActive, FindsCut, FindsPage, IsAbout}
+use Rattle.machine_model.proofs.ReleaseSeen.{set_either}
 use Rattle.machine_model.proofs.WholeLaws.{whole_next}
 use Rattle.std.proofs.lemmas.List.{append-nil, append_assoc}
+use Rattle.core_map.specs.declared.Frame.{Frame}
+use Rattle.core_map.specs.declared.Frame.TheVariants as frame
 
 no_and : {b : Bool} → b ≡ true → b ≡ false → ⊥
 no_and t f = let none : true ≡ false = sym t ∙ f in cc
@@ -110,6 +120,87 @@ pub fails_in_less : (ph : Phase) (old now : Storage) (k : ℕ) (x : Option Comma
 fails_in_less phase.Looking old now k x less h = tt
 fails_in_less (phase.Taken a w) old now k x less h = fails_by_less a old now k x less h
 fails_in_less (phase.Waiting a w) old now k x less h = fails_by_less a old now k x less h
+fails_in_less (phase.Moving m) old now k x less h = fails_less old now k x less h
+
+-- ---- what a move rests on, by tables that are as before
+
+-- the same accounts, records and VTOCs: no page more is stored
+pub same_less : (old now : Storage) → tables_of now ≡ tables_of old → IsLess old now
+same_less old now same = record {
+  nodes = ap (λ (t : Tables). t.accounts.nodes) same;
+  known = ap (λ (t : Tables). t.known) same;
+  filed = λ u q h. ap (λ (t : Tables). is_filed t.accounts t.vtocs u q) same ∙ h;
+}
+
+-- what is active is so still, and no page more is being read into a frame
+pub record LeavesMove (old now : Storage) : Type 0 where
+  pub tables : tables_of now ≡ tables_of old
+  pub active : (u : ℕ) → is_active now.ast u ≡ is_active old.ast u
+  pub unread : (u : ℕ) → IsUnread old.pages.core u → IsUnread now.pages.core u
+
+pub moved_on : (old now : Storage) (k : ℕ) (m : Mover) (x : Option Command) → LeavesMove old now
+    → IsMovedFor old k m x → IsMovedFor now k m x
+moved_on old now k m x leaves h = record {
+  moves = subst (λ (t : Tables). MovesForNext t k m x) (sym leaves.tables) h.moves;
+  active = leaves.active m.uid ∙ h.active;
+  unread = leaves.unread m.uid h.unread;
+}
+
+pub moves_in_on : (ph : Phase) (old now : Storage) (k : ℕ) (x : Option Command) → LeavesMove old now
+    → MovesIn ph old k x → MovesIn ph now k x
+moves_in_on phase.Looking old now k x leaves h = tt
+moves_in_on (phase.Taken a w) old now k x leaves h = tt
+moves_in_on (phase.Waiting a w) old now k x leaves h = tt
+moves_in_on (phase.Moving m) old now k x leaves h = moved_on old now k m x leaves h
+
+-- a page is copied: the move goes on past it
+past_moves : (t : Tables) (k : ℕ) (m : Mover) (p : ℕ) (x : Option Command) → MovesForNext t k m x
+    → MovesForNext t k (past_page m p) x
+past_moves t k m p None h = h
+past_moves t k m p (Some c) h = record {
+  reference = h.reference;
+  is = h.is;
+  lacks = h.lacks;
+  first = h.first;
+  its = ap (λ (x : Mover). past_page x p) h.its;
+}
+
+pub past_moved : (st : Storage) (k : ℕ) (m : Mover) (p : ℕ) (x : Option Command) → IsMovedFor st k m x
+    → IsMovedFor (with_copy st m p) k (past_page m p) x
+past_moved st k m p x h = record {
+  moves = past_moves (tables_of st) k m p x h.moves;
+  active = h.active;
+  unread = h.unread;
+}
+
+-- the frames into which pages are being read are as they were, or fewer
+pub unread_less : (old now : Core) (u : ℕ)
+    → ((f : ℕ) (page : ℕ × ℕ) → read_at (reads_of now) f ≡ Some page → read_at (reads_of old) f ≡ Some page)
+    → IsUnread old u → IsUnread now u
+unread_less old now u less h = record { none = λ f p e. h.none f p (less f (u, p) e) }
+
+-- one frame changes, and no page more is being read into it
+pub frame_less : (core : Core) (f : ℕ) (y : Frame)
+    → ((page : ℕ × ℕ) → started_page y ≡ Some page → started_page (frame_at core f) ≡ Some page)
+    → (g : ℕ) (page : ℕ × ℕ) → read_at (reads_of (with_frame core f y)) g ≡ Some page
+    → read_at (reads_of core) g ≡ Some page
+frame_less core f y less g page h = map_list started_page core.frames g frame.Free
+    ∙ by (sym (map_list started_page (set core.frames f y) g frame.Free) ∙ h)
+  where
+    by : started_page (get_or (set core.frames f y) g frame.Free) ≡ Some page
+        → started_page (get_or core.frames g frame.Free) ≡ Some page
+    by e = elim (set_either core.frames f y g frame.Free) [
+      | inl same ↦ ap started_page (sym same) ∙ e
+      | inr is ↦ ap (λ (i : ℕ). started_page (get_or core.frames i frame.Free)) is.0
+          ∙ less page (ap started_page (sym is.1) ∙ e)
+    ]
+
+-- a reference reads no page into its frame
+pub referred_less : (x : Frame) (wrote : Bool) (page : ℕ × ℕ) → started_page (after_reference x wrote) ≡ Some page
+    → started_page x ≡ Some page
+referred_less frame.Free wrote page h = h
+referred_less (frame.Started u q) wrote page h = h
+referred_less (frame.Bound u q used modified) wrote page h = h
 
 -- ---- what a look finds
 

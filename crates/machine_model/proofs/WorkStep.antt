@@ -4,11 +4,16 @@ use Rattle.std.proofs.Common.{set, Option, Some, None, ◌⊎◌, inl, inr, refl
 use Rattle.std.proofs.lemmas.Bool.Decides.{eqb_tells}
 use Rattle.std.proofs.lemmas.List.{get_or-set_other, get_or-set_same, length-append}
 use Rattle.std.proofs.Common.{◌≤◌, ◌+◌, arith, length}
+use Rattle.seg_mover.specs.declared.Mover.{Mover}
+use Rattle.core_map.specs.CoreMap.{frame_at}
+use Rattle.core_map.specs.declared.Frame.TheVariants.{Bound, Free}
 use Rattle.machine_model.specs.declared.CutDescriptor.{CutDescriptor}
+use Rattle.machine_model.specs.Lacking.{IsMovedFor, MovesIn, tables_of}
+use Rattle.machine_model.specs.Moves.{copy_failed, move_begun, mover_to, moving, page_copied, past_page}
+use Rattle.machine_model.specs.Moves.{with_copy, with_move}
 use Rattle.machine_model.specs.Reads.{frames_of_owner}
 use Rattle.std.specs.Prelude.{◌%◌}
 use Rattle.script.specs.declared.commands.Reference.{Reference}
-use Rattle.vtoc.specs.Vtoc.{Entry as VtocEntry}
 use Rattle.page_control.specs.Effects.{referred, word_put}
 use Rattle.active_segs.specs.Active.{HasNoInferior, uid_at}
 use Rattle.script.specs.References.{alters, new_word}
@@ -41,6 +46,7 @@ use Rattle.active_segs.specs.declared.Entry.{Entry as Segment}
 use Rattle.accounts.specs.Maps.{AccountMaps}
 use Rattle.page_control.specs.Plain.{Plain}
 use Rattle.seg_control.specs.Control.{is_for, word_of}
+use Rattle.seg_control.specs.Moving.{IsUnread}
 use Rattle.page_table.specs.declared.Ptw.TheVariants as ptw
 use Rattle.machine_model.specs.Custodial.{is_out}
 use Rattle.machine_model.proofs.OutLaws.{NoneOut, word_out}
@@ -88,7 +94,7 @@ use Rattle.machine_model.proofs.NumberLaws.{cut_less_frame, cut_signalled, less_
 use Rattle.machine_model.proofs.NumberLaws.{took_numbered}
 use Rattle.machine_model.proofs.OutlineTake.{HasTakenFrames, LooksLike, took_like, took_owner}
 use Rattle.machine_model.proofs.OwnedLaws.{IsIdle}
-use Rattle.machine_model.proofs.RuleKept.{IsLooking}
+use Rattle.machine_model.proofs.RuleKept.{IsLooking, IsMoving}
 use Rattle.machine_model.proofs.SaysLaws.{left_flat}
 use Rattle.machine_model.proofs.ScheduleKept.{told_seats}
 use Rattle.machine_model.proofs.StandLaws.{stands_on}
@@ -99,6 +105,8 @@ use Rattle.machine_model.proofs.TieLaws.{none_some}
 use Rattle.machine_model.proofs.TookKept.{ArePairs}
 use Rattle.machine_model.proofs.WholeLaws.{started_spares, whole_idle}
 use Rattle.machine_model.proofs.WorkKept.{AllSpare, IsLess, fails_in_less, fails_less, whole_on}
+use Rattle.machine_model.proofs.WorkKept.{frame_less, moved_on, moves_in_on, past_moved, referred_less, same_less}
+use Rattle.machine_model.proofs.WorkKept.{unread_less}
 use Rattle.std.proofs.lemmas.List.{append_assoc}
 
 -- ---- the owner makes nothing inactive
@@ -110,6 +118,7 @@ none_work now none = record {
   fails = λ o h. absurd (none_some (sym none ∙ h));
   numbered = subst (λ (o : Option Owner). AreNumbered now.store.links.known (cut_of_owner o)) (sym none) tt;
   taken = λ o h. absurd (none_some (sym none ∙ h));
+  moves = λ o h. absurd (none_some (sym none ∙ h));
   few = subst OwnsFew (sym none) (omega arith);
 }
 
@@ -129,16 +138,21 @@ looking_work now q mine looks numbered few = record {
       (sym (ap (λ (x : Owner). x.phase) (some_same o q (sym h ∙ mine)) ∙ looks)) tt;
   taken = λ o h. subst (λ (x : Phase). TakenIn x now (process_at now o.cpu) (next_command now (process_at now o.cpu)))
       (sym (ap (λ (x : Owner). x.phase) (some_same o q (sym h ∙ mine)) ∙ looks)) tt;
+  moves = λ o h. subst (λ (x : Phase). MovesIn x now.store (process_at now o.cpu)
+      (next_command now (process_at now o.cpu)))
+      (sym (ap (λ (x : Owner). x.phase) (some_same o q (sym h ∙ mine)) ∙ looks)) tt;
 }
 
 -- ---- another processor's action
 
--- It leaves the owner, the tree, the numbers and what is active; the owner's process comes to the same command; and its
--- entries bring nothing of a segment that is going, and nothing that is taken for a command.
+-- It leaves the owner, the accounts, the records, the VTOCs, the numbers and what is active; the owner's process comes
+-- to the same command; its entries bring nothing of a segment that is going, and nothing that is taken for a command;
+-- and no page more is being read into a frame.
 pub record Leaves (s now : State) : Type 1 where
   pub owner : now.owner ≡ s.owner
   pub plan : now.plan ≡ s.plan
-  pub less : IsLess s.store now.store
+  pub tables : tables_of now.store ≡ tables_of s.store
+  pub unread : (u : ℕ) → IsUnread s.store.pages.core u → IsUnread now.store.pages.core u
   pub active : (u : ℕ) → is_active now.store.ast u ≡ is_active s.store.ast u
   pub out : NoneOut s.store.ast now.store.ast
   pub more : List Entry
@@ -161,34 +175,39 @@ leaf_like old now u nodes active h = record {
 pub leaves_work : (s now : State) → Keeps s → Keeps now → IsWorking s → Leaves s now → IsWorking now
 leaves_work s now k kept w l = record {
   few = subst OwnsFew (sym l.owner) w.few;
-  numbered = subst (λ (x : List (List (Option ℕ))). AreNumbered x (cut_of_owner now.owner)) (sym l.less.known)
+  numbered = subst (λ (x : List (List (Option ℕ))). AreNumbered x (cut_of_owner now.owner)) (sym less.known)
       (subst (λ (x : Option Owner). AreNumbered s.store.links.known (cut_of_owner x)) (sym l.owner) w.numbered);
   whole = record {
     whole = λ u h. (let goes = ap going_for (sym l.owner) ∙ h in
         whole_on s now l.more u k kept l.plan l.book (w.whole.whole u goes) (l.spares u goes));
   };
-  leaf = λ u h. leaf_like s.store now.store u l.less.nodes l.active (w.leaf u (ap going_for (sym l.owner) ∙ h));
+  leaf = λ u h. leaf_like s.store now.store u less.nodes l.active (w.leaf u (ap going_for (sym l.owner) ∙ h));
   fails = λ o h. (let was = sym l.owner ∙ h in
       subst (λ (j : ℕ). FailsIn o.phase now.store j (next_command now j)) (sym (l.process o was))
       (subst (λ (x : Option Command). FailsIn o.phase now.store (process_at s o.cpu) x) (sym (l.next o was))
-      (fails_in_less o.phase s.store now.store (process_at s o.cpu) (next_command s (process_at s o.cpu)) l.less
+      (fails_in_less o.phase s.store now.store (process_at s o.cpu) (next_command s (process_at s o.cpu)) less
       (w.fails o was))));
   taken = λ o h. (let was = sym l.owner ∙ h in
       subst (λ (j : ℕ). TakenIn o.phase now j (next_command now j)) (sym (l.process o was))
       (subst (λ (x : Option Command). TakenIn o.phase now (process_at s o.cpu) x) (sym (l.next o was))
       (taken_in o.phase s now (process_at s o.cpu) (next_command s (process_at s o.cpu)) (record {
-        nodes = l.less.nodes;
-        known = l.less.known;
+        nodes = less.nodes;
+        known = less.known;
         active = l.active;
         out = l.out;
         just = λ Page Descriptor j. just_on Page Descriptor s now l.more k kept l.plan l.book j
             (l.stays Page Descriptor j);
-        stands = stands_on s now k kept l.less.nodes l.less.known;
+        stands = stands_on s now k kept less.nodes less.known;
       }) (w.fails o was) (w.taken o was))));
+  moves = λ o h. (let was = sym l.owner ∙ h in
+      subst (λ (j : ℕ). MovesIn o.phase now.store j (next_command now j)) (sym (l.process o was))
+      (subst (λ (x : Option Command). MovesIn o.phase now.store (process_at s o.cpu) x) (sym (l.next o was))
+      (moves_in_on o.phase s.store now.store (process_at s o.cpu) (next_command s (process_at s o.cpu))
+      (record { tables = l.tables; active = l.active; unread = l.unread }) (w.moves o was))));
 }
-
-same_less : (st : Storage) → IsLess st st
-same_less st = record { nodes = refl; known = refl; filed = λ u q h. h }
+  where
+    less : IsLess s.store now.store
+    less = same_less s.store now.store l.tables
 
 module _ (s : State) (c : ℕ) (k : Keeps s) (w : IsWorking s) (other : IsNoOwner s c) where
   -- one processor changes alone
@@ -207,7 +226,8 @@ module _ (s : State) (c : ℕ) (k : Keeps s) (w : IsWorking s) (other : IsNoOwne
   seat_work now p e kept same spares stays = leaves_work s now k kept w (record {
     owner = ap (λ (t : State). t.owner) same;
     plan = ap (λ (t : State). t.plan) same;
-    less = subst (λ (t : State). IsLess s.store t.store) (sym same) (same_less s.store);
+    tables = ap (λ (t : State). tables_of t.store) same;
+    unread = λ u h. subst (λ (t : State). IsUnread t.store.pages.core u) (sym same) h;
     active = λ u. ap (λ (t : State). is_active t.store.ast u) same;
     out = λ u q e. ap (λ (t : State). is_out (word_of t.store.ast u q)) same ∙ e;
     more = e ∷ [];
@@ -269,6 +289,8 @@ module _ (s : State) (c u : ℕ) (k : Keeps s) (idle : IsIdle s.owner) (none : g
         }) fails)));
     taken = λ q h. subst (λ (x : Owner). TakenIn x.phase now (process_at now x.cpu)
         (next_command now (process_at now x.cpu))) (some_same _ q (sym has.owner ∙ h)) tt;
+    moves = λ q h. subst (λ (x : Owner). MovesIn x.phase now.store (process_at now x.cpu)
+        (next_command now (process_at now x.cpu))) (some_same _ q (sym has.owner ∙ h)) tt;
   }
     where
       now : State
@@ -320,18 +342,28 @@ module _ (s : State) (c : ℕ) (k : Keeps s) (w : IsWorking s) where
       by phase.Looking = refl
       by (phase.Taken a v) = refl
       by (phase.Waiting a v) = refl
+      by (phase.Moving m) = refl
 
   fails_signalled : (x : Phase) (st : Storage) (j : ℕ) (y : Option Command) → FailsIn x st j y
       → FailsIn (phase_signalled x) st j y
   fails_signalled phase.Looking st j y h = h
   fails_signalled (phase.Taken a v) st j y h = h
   fails_signalled (phase.Waiting a v) st j y h = h
+  fails_signalled (phase.Moving m) st j y h = h
+
+  moves_signalled : (x : Phase) (st : Storage) (j : ℕ) (y : Option Command) → MovesIn x st j y
+      → MovesIn (phase_signalled x) st j y
+  moves_signalled phase.Looking st j y h = h
+  moves_signalled (phase.Taken a v) st j y h = h
+  moves_signalled (phase.Waiting a v) st j y h = h
+  moves_signalled (phase.Moving m) st j y h = h
 
   taken_signalled : (x : Phase) (now : State) (j : ℕ) (y : Option Command) → TakenIn x now j y
       → TakenIn (phase_signalled x) now j y
   taken_signalled phase.Looking now j y h = h
   taken_signalled (phase.Taken a v) now j y h = h
   taken_signalled (phase.Waiting a v) now j y h = h
+  taken_signalled (phase.Moving m) now j y h = h
 
   signal_work : (what : What) → Keeps (signalled s c what) → IsWorking (signalled s c what)
   signal_work what kept = record {
@@ -344,8 +376,20 @@ module _ (s : State) (c : ℕ) (k : Keeps s) (w : IsWorking s) where
     numbered = subst (AreNumbered s.store.links.known) (sym (cut_signalled s.owner)) w.numbered;
     few = signalled_few s.owner w.few;
     taken = λ q h. takes s.owner refl q h;
+    moves = λ q h. moved s.owner refl q h;
   }
     where
+      moved : (o : Option Owner) → s.owner ≡ o → (q : Owner) → owner_signalled o ≡ Some q
+          → MovesIn q.phase s.store (process_at (signalled s c what) q.cpu)
+          (next_command (signalled s c what) (process_at (signalled s c what) q.cpu))
+      moved None e q h = absurd (none_some h)
+      moved (Some x) e q h = subst (λ (y : Owner). MovesIn y.phase s.store (process_at (signalled s c what) y.cpu)
+          (next_command (signalled s c what) (process_at (signalled s c what) y.cpu)))
+          (some_same _ q h)
+          (subst (λ (j : ℕ). MovesIn (phase_signalled x.phase) s.store j (next_command (signalled s c what) j))
+          (sym (ap or_zero ((told_seats s c what).process x.cpu)))
+          (moves_signalled x.phase s.store (process_at s x.cpu) (next_command s (process_at s x.cpu)) (w.moves x e)))
+
       left : LeavesTaken s (signalled s c what)
       left = record {
         nodes = refl;
@@ -410,10 +454,20 @@ module _ (s : State) (c : ℕ) (k : Keeps s) (w : IsWorking s) where
     numbered = subst (AreNumbered s.store.links.known) (sym (cut_less_frame s.owner)) w.numbered;
     few = less_few s.owner w.few;
     taken = λ q h. takes s.owner refl q h;
+    moves = λ q h. moved s.owner refl q h;
   }
     where
       now : State
       now = page_done (with_faults s faults) f
+
+      moved : (o : Option Owner) → s.owner ≡ o → (q : Owner) → without_first_frame o ≡ Some q
+          → MovesIn q.phase now.store (process_at s q.cpu) (next_command s (process_at s q.cpu))
+      moved None e q h = absurd (none_some h)
+      moved (Some x) e q h = subst (λ (y : Owner). MovesIn y.phase now.store (process_at s y.cpu)
+          (next_command s (process_at s y.cpu))) (some_same _ q h)
+          (subst (λ (y : Phase). MovesIn y now.store (process_at s x.cpu) (next_command s (process_at s x.cpu)))
+          (sym (ap (λ (y : Owner). y.phase) (some_same x emptying.owner.owner (sym e ∙ emptying.owner.mine))
+          ∙ emptying.waits)) tt)
 
       takes : (o : Option Owner) → s.owner ≡ o → (q : Owner) → without_first_frame o ≡ Some q
           → TakenIn q.phase now (process_at s q.cpu) (next_command s (process_at s q.cpu))
@@ -464,6 +518,12 @@ pub record Looks (s : State) (c : ℕ) (Finds : Command → Type 0) : Type 0 whe
   pub next : next_command s (process_at s c) ≡ Some command
   pub finds : Finds command
 
+-- a look finds that a segment moves for the command of its process
+pub record BeginsMove (s : State) (c u volume : ℕ) : Type 0 where
+  pub looking : IsLooking s c
+  pub fails : MayFailBy s.store (process_at s c) (next_command s (process_at s c))
+  pub moves : IsMovedFor s.store (process_at s c) (mover_to s.store u volume) (next_command s (process_at s c))
+
 -- what an action asks of the owner's job
 abbrev pub MayWork : State → ℕ → Outcome → act.Action → Type 0
 MayWork s c o act.Online = IsNoOwner s c
@@ -487,6 +547,8 @@ MayWork s c o (act.TakeAway fs pairs w) = IsLooking s c × IsIdle s.owner × ((f
     × (length fs + length pairs ≤ 288)
 MayWork s c o (act.Signal w) = IsMine s c
 MayWork s c o (act.FinishPage f) = IsEmptying s c
+MayWork s c o (act.BeginMove u volume) = BeginsMove s c u volume
+MayWork s c o (act.CopyPage m p) = IsMoving s c m
 MayWork s c o _ = Unit {0}
 
 by_end : (o : Outcome) (well ill : State) → Keeps (cond o.failed ill well) → (Keeps well → IsWorking well)
@@ -506,22 +568,25 @@ module _ (s : State) (c : ℕ) (o : Outcome) (m : IsMachine s) (w : IsWorking s)
 
   -- another process's command is answered, through a frame or without one
   other_told : (st : Storage) (f : Option ℕ) (r : Reply) → IsNoOwner s c
-      → (cpu_at s.processors c).process ≡ Some (process_at s c) → IsLess s.store st
+      → (cpu_at s.processors c).process ≡ Some (process_at s c) → tables_of st ≡ tables_of s.store
+      → ((u : ℕ) → IsUnread s.store.pages.core u → IsUnread st.pages.core u)
       → ((u : ℕ) → is_active st.ast u ≡ is_active s.store.ast u) → NoneOut s.store.ast st.ast
       → Keeps (told (with_store s st) c f r) → IsWorking (told (with_store s st) c f r)
-  other_told st f r other its less active out kept = leaves_work s (told (with_store s st) c f r) keeps kept w (record {
-    owner = refl;
-    plan = refl;
-    less = less;
-    active = active;
-    out = out;
-    more = entry.Do (process_at s c) (run_at s.runs (process_at s c)).place c f r ∷ [];
-    book = refl;
-    spares = λ u h. (tt, tt);
-    stays = λ Page Descriptor j. (tt, tt);
-    process = λ q h. ap or_zero (set_process s c keeps w other _ q h);
-    next = λ q h. other_next s c keeps w other q _ h m its;
-  })
+  other_told st f r other its tables unread active out kept =
+      leaves_work s (told (with_store s st) c f r) keeps kept w (record {
+        owner = refl;
+        plan = refl;
+        tables = tables;
+        unread = unread;
+        active = active;
+        out = out;
+        more = entry.Do (process_at s c) (run_at s.runs (process_at s c)).place c f r ∷ [];
+        book = refl;
+        spares = λ u h. (tt, tt);
+        stays = λ Page Descriptor j. (tt, tt);
+        process = λ q h. ap or_zero (set_process s c keeps w other _ q h);
+        next = λ q h. other_next s c keeps w other q _ h m its;
+      })
 
   -- a transfer's frame was being read into
   was_started : (t : Transfer) → (cpu_at s.processors c).transfer ≡ Some t
@@ -530,19 +595,21 @@ module _ (s : State) (c : ℕ) (o : Outcome) (m : IsMachine s) (w : IsWorking s)
       ap (λ (x : Option (ℕ × ℕ)). frame_use (seen s).words x ((seen s).reads t.frame))
       (keeps.book.tied.unbound t.frame t.uid t.page reads) ∙ ap read_use reads
 
-  pages_less : (f : ℕ) (r : Reference) → IsLess s.store (with_pages s.store (pages_after s.store.pages f r))
-  pages_less f r = record {
-    nodes = refl;
-    known = refl;
-    filed = λ u q e. ap (λ (v : List (List (Option VtocEntry))). is_filed s.store.accounts v u q) (by
-        (alters r.kind)) ∙ e;
-  }
-    where
-      by : (b : Bool) → (cond b (word_put s.store.pages f (r.offset % 1024) (new_word
-          (old_word s.store.pages f r) r.kind))
-          (referred s.store.pages f false)).vtocs ≡ s.store.pages.vtocs
-      by true = refl
-      by false = refl
+  -- the pages after a reference through a frame, by whether it writes
+  abbrev pages_by : ℕ → Reference → Bool → Storage
+  pages_by f r writes = with_pages s.store (cond writes (word_put s.store.pages f (r.offset % 1024)
+      (new_word (old_word s.store.pages f r) r.kind)) (referred s.store.pages f false))
+
+  pages_tables : (f : ℕ) (r : Reference) (writes : Bool) → tables_of (pages_by f r writes) ≡ tables_of s.store
+  pages_tables f r true = refl
+  pages_tables f r false = refl
+
+  pages_unread : (f : ℕ) (r : Reference) (writes : Bool) (u : ℕ) → IsUnread s.store.pages.core u
+      → IsUnread (pages_by f r writes).pages.core u
+  pages_unread f r true u h = unread_less s.store.pages.core _ u
+      (frame_less s.store.pages.core f _ (referred_less (frame_at s.store.pages.core f) true)) h
+  pages_unread f r false u h = unread_less s.store.pages.core _ u
+      (frame_less s.store.pages.core f _ (referred_less (frame_at s.store.pages.core f) false)) h
 
   victim_fails : (pool : ℕ) (chain : List ℕ) (u : ℕ) → Looks s c (λ x. FindsVictim s (process_at s c) x pool chain u)
       → IsWorking (victim_taken s c pool chain u)
@@ -622,6 +689,35 @@ module _ (s : State) (c : ℕ) (o : Outcome) (m : IsMachine s) (w : IsWorking s)
       same : leads.node.uid ≡ u
       same = sym leads.uid ∙ (sym (ap (uid_of_command s.store (process_at s c)) l.finds.is) ∙ l.finds.uid)
 
+  -- a move goes on, and its owner has taken nothing
+  move_work : (now : State) (m : Mover) → now.owner ≡ Some (moving c m)
+      → MayFailBy now.store (process_at now c) (next_command now (process_at now c))
+      → IsMovedFor now.store (process_at now c) m (next_command now (process_at now c)) → IsWorking now
+  move_work now m mine fails moves = record {
+    whole = whole_idle now (ap going_for mine);
+    few = subst OwnsFew (sym mine) (omega arith);
+    numbered = subst (λ (x : Option Owner). AreNumbered now.store.links.known (cut_of_owner x)) (sym mine) tt;
+    leaf = λ u h. absurd (none_some (sym (ap going_for mine) ∙ h));
+    fails = λ q h. subst (λ (y : Owner). FailsIn y.phase now.store (process_at now y.cpu)
+        (next_command now (process_at now y.cpu))) (some_same _ q (sym mine ∙ h)) fails;
+    taken = λ q h. subst (λ (y : Owner). TakenIn y.phase now (process_at now y.cpu)
+        (next_command now (process_at now y.cpu))) (some_same _ q (sym mine ∙ h)) tt;
+    moves = λ q h. subst (λ (y : Owner). MovesIn y.phase now.store (process_at now y.cpu)
+        (next_command now (process_at now y.cpu))) (some_same _ q (sym mine ∙ h)) moves;
+  }
+
+  -- what the owner rests on that moves a segment
+  pub moving_fails : (m : Mover) → IsMoving s c m → MayFailBy s.store (process_at s c) (next_command s (process_at s c))
+  moving_fails m x = subst (λ (j : ℕ). MayFailBy s.store (process_at s j) (next_command s (process_at s j)))
+      x.owner.same (subst (λ (y : Phase). FailsIn y s.store (process_at s x.owner.owner.cpu)
+      (next_command s (process_at s x.owner.owner.cpu))) x.moves (w.fails x.owner.owner x.owner.mine))
+
+  pub moving_rests : (m : Mover) → IsMoving s c m
+      → IsMovedFor s.store (process_at s c) m (next_command s (process_at s c))
+  moving_rests m x = subst (λ (j : ℕ). IsMovedFor s.store (process_at s j) m (next_command s (process_at s j)))
+      x.owner.same (subst (λ (y : Phase). MovesIn y s.store (process_at s x.owner.owner.cpu)
+      (next_command s (process_at s x.owner.owner.cpu))) x.moves (w.moves x.owner.owner x.owner.mine))
+
   commits : (x : Option Command) → IsWorking (committed_at s c x)
   commits None = w
   commits (Some cmd) = none_work _ refl
@@ -641,7 +737,9 @@ module _ (s : State) (c : ℕ) (o : Outcome) (m : IsMachine s) (w : IsWorking s)
       (λ kept_well. leaves_work s (transferred (with_faults s o.faults) c t) keeps kept_well w (record {
         owner = refl;
         plan = refl;
-        less = record { nodes = refl; known = refl; filed = λ u q e. e };
+        tables = refl;
+        unread = λ u h. unread_less s.store.pages.core _ u (frame_less s.store.pages.core t.frame
+            (Bound t.uid t.page false false) (λ page e. absurd (none_some e))) h;
         active = λ u. refl;
         out = word_out s.store.ast t.uid t.page (ptw.Here t.frame) refl;
         more = entry.Here t.frame t.uid t.page ∷ [];
@@ -661,7 +759,9 @@ module _ (s : State) (c : ℕ) (o : Outcome) (m : IsMachine s) (w : IsWorking s)
       (λ failed kept_ill. leaves_work s (transfer_failed s c t o.faults) keeps kept_ill w (record {
         owner = refl;
         plan = refl;
-        less = record { nodes = refl; known = refl; filed = λ u q e. e };
+        tables = refl;
+        unread = λ u h. unread_less s.store.pages.core _ u (frame_less s.store.pages.core t.frame Free
+            (λ page e. absurd (none_some e))) h;
         active = λ u. refl;
         out = λ u q e. e;
         more = entry.Lose t.frame ∷ entry.Fault (Some (process_at s c))
@@ -689,9 +789,10 @@ module _ (s : State) (c : ℕ) (o : Outcome) (m : IsMachine s) (w : IsWorking s)
   work_kept (act.FillPage f r) may kept =
       seat_work s c keeps w may _ _ (entry.FillPage c f) kept refl (λ u. (tt, tt)) (λ Page. (tt, tt))
   work_kept (act.Through f r) may kept = other_told (with_pages s.store (pages_after s.store.pages f r)) (Some f)
-      (word_reply (old_word s.store.pages f r) r.kind) may.0 may.1 (pages_less f r) (λ u. refl) (λ u q e. e) kept
+      (word_reply (old_word s.store.pages f r) r.kind) may.0 may.1 (pages_tables f r (alters r.kind))
+      (pages_unread f r (alters r.kind)) (λ u. refl) (λ u q e. e) kept
   work_kept (act.Plain r) may kept =
-      other_told s.store None r may.0 may.1 (same_less s.store) (λ u. refl) (λ u q e. e) kept
+      other_told s.store None r may.0 may.1 refl (λ u h. h) (λ u. refl) (λ u q e. e) kept
   work_kept act.TakeSupervisor may kept = looking_work _ (looking c) refl refl tt (omega arith)
   work_kept (act.Answer r) may kept = none_work _ refl
   work_kept act.GiveUp may kept = none_work _ refl
@@ -712,6 +813,8 @@ module _ (s : State) (c : ℕ) (o : Outcome) (m : IsMachine s) (w : IsWorking s)
         (fails_less s.store (eviction_begun s c f).store (process_at s c) (Some may.command)
         (taking_less f) (page_fails s (process_at s c) may.command keeps may.finds.uid may.finds.page may.finds.case)));
     taken = λ q h. subst (λ (y : Owner). TakenIn y.phase (eviction_begun s c f) (process_at s y.cpu)
+        (next_command s (process_at s y.cpu))) (some_same _ q h) tt;
+    moves = λ q h. subst (λ (y : Owner). MovesIn y.phase (eviction_begun s c f).store (process_at s y.cpu)
         (next_command s (process_at s y.cpu))) (some_same _ q h) tt;
   }
   work_kept (act.Empty u) may kept = begun_work s c u keeps may.idle (looking_goes s c may.looking) may.finds.active
@@ -749,7 +852,29 @@ module _ (s : State) (c : ℕ) (o : Outcome) (m : IsMachine s) (w : IsWorking s)
             (subst (IsTakenBy (took s c aim.Committing v fs pairs) (process_at s c))
             (λ i. command_at (sym (took_like s c aim.Committing v fs pairs).plan i) (process_at s c)
             (run_at (sym (took_like s c aim.Committing v fs pairs).runs i) (process_at s c)).place) may.5));
+        moves = λ q h. subst (λ (y : Owner). MovesIn y.phase (took s c aim.Committing v fs pairs).store
+            (process_at (took s c aim.Committing v fs pairs) y.cpu)
+            (next_command (took s c aim.Committing v fs pairs) (process_at (took s c aim.Committing v fs pairs) y.cpu)))
+            (some_same _ q (sym has.owner ∙ h)) tt;
       }
+  work_kept (act.BeginMove u volume) may kept = move_work (move_begun s c u volume) (mover_to s.store u volume) refl
+      (fails_less s.store (with_move s.store (mover_to s.store u volume)) (process_at s c)
+      (next_command s (process_at s c)) (same_less s.store (with_move s.store (mover_to s.store u volume)) refl)
+      may.fails)
+      (moved_on s.store (with_move s.store (mover_to s.store u volume)) (process_at s c) (mover_to s.store u volume)
+      (next_command s (process_at s c)) (record {
+        tables = refl;
+        active = λ v. refl;
+        unread = λ v h. h;
+      }) may.moves)
+  work_kept (act.CopyPage m page) may kept = by_end o (page_copied (with_faults s o.faults) c m page)
+      (copy_failed s c o.faults) kept
+      (λ h. move_work (page_copied (with_faults s o.faults) c m page) (past_page m page) refl
+      (fails_less s.store (with_copy s.store m page) (process_at s c) (next_command s (process_at s c))
+      (same_less s.store (with_copy s.store m page) refl) (moving_fails m may))
+      (past_moved s.store (process_at s c) m page (next_command s (process_at s c)) (moving_rests m may)))
+      (λ e h. none_work _ refl)
+  work_kept (act.CommitMove m) may kept = looking_work _ (looking c) refl refl tt (omega arith)
   work_kept (act.Signal v) may kept = signal_work s c keeps w v kept
   work_kept (act.FinishEviction f) may kept = by_end o (eviction_done (with_faults s o.faults) c f)
       (write_failed s c o.faults) kept (λ h. looking_work _ (looking c) refl refl tt (omega arith))

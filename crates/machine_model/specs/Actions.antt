@@ -21,7 +21,9 @@ use Rattle.descriptor_seg.specs.declared.Sdw.{Sdw}
 use Rattle.descriptor_seg.specs.declared.Sdw.TheVariants as sdw
 use Rattle.active_segs.specs.Active.{uid_at}
 use Rattle.active_segs.specs.Victim.{victim_of}
-use Rattle.seg_control.specs.Control.{sdws_at, word_of}
+use Rattle.seg_control.specs.Control.{sdws_at, table_of, word_of}
+use Rattle.seg_control.specs.Moving.{next_out}
+use Rattle.seg_mover.specs.declared.Mover.{Mover}
 use Rattle.processor.specs.declared.Cpu.{Cpu}
 use Rattle.processor.specs.declared.Move.{Move}
 use Rattle.processor.specs.declared.Move.TheVariants as move
@@ -37,6 +39,7 @@ use Rattle.machine_model.specs.Reads.{or_zero, processor_at, next_command, is_du
 use Rattle.machine_model.specs.Reads.{free_place, frame_reading, frames_from, descriptor_of, is_connected}
 use Rattle.machine_model.specs.Reads.{connected_of, trailers_in}
 use Rattle.machine_model.specs.Refusal.{outside_refusal, room_refusal, refusal_of, uid_of_number, uid_of_command}
+use Rattle.machine_model.specs.Refusal.{move_to}
 
 -- what a step waits for: that a processor gives the supervisor up, that one clears, that a page is read into a frame,
 -- or work, while so many processors have a process
@@ -76,6 +79,11 @@ pub data Action : Type 0 where
   Empty : (uid : ℕ) → Action
   EmptyVictim : (pool : ℕ) (chain : List ℕ) (uid : ℕ) → Action
   TakeAway : (frames : List ℕ) (descriptors : List (ℕ × ℕ)) (what : What) → Action
+  -- a look that begins to move a segment to a volume that has room for it; then a page of it is copied in each step;
+  -- and last its home is there
+  BeginMove : (uid volume : ℕ) → Action
+  CopyPage : (mover : Mover) (page : ℕ) → Action
+  CommitMove : (mover : Mover) → Action
   -- the phases that follow
   Signal : (what : What) → Action
   FinishEviction : (frame : ℕ) → Action
@@ -143,10 +151,19 @@ abbrev pub create_unless : Option Reply → Action → Action
 create_unless (Some r) create = Answer r
 create_unless None create = create
 
+-- where the segment must move first it does, unless a page of it is being read into a frame
+abbrev pub move_or : Core → ℕ → Option ℕ → Action → Action
+move_or core uid None create = create
+move_or core uid (Some volume) create = unless_read (frame_reading core uid any_page) (BeginMove uid volume)
+
+-- a page that has no record and is to be stored
+abbrev pub look_to_create : State → ℕ → Reference → ℕ → ℕ → Action
+look_to_create s k r uid p = create_unless (room_refusal s k r)
+    (move_or s.store.pages.core uid (move_to s uid)
+    (room_for s.store.pages.core uid p (λ f. Create f uid p r)))
+
 abbrev pub look_at_word : State → ℕ → Reference → ℕ → ℕ → Ptw → Action
-look_at_word s k r uid p ptw.Null =
-    if new_word 0 r.kind == 0 then GiveUp
-    else create_unless (room_refusal s k r) (room_for s.store.pages.core uid p (λ f. Create f uid p r))
+look_at_word s k r uid p ptw.Null = if new_word 0 r.kind == 0 then GiveUp else look_to_create s k r uid p
 look_at_word s k r uid p (ptw.Out n) = room_for s.store.pages.core uid p (λ f. Start f uid p)
 look_at_word s k r uid p (ptw.Here f) = GiveUp
 look_at_word s k r uid p (ptw.Leaving f) = GiveUp
@@ -231,6 +248,14 @@ look_for_command s k c = look_unless s k c (refusal_of s k c)
 
 -- ---- the owner of the supervisor
 
+-- the next page of a segment that moves is copied, and after the last one its home is on the other volume
+abbrev pub copy_or_commit : Mover → Option ℕ → Action
+copy_or_commit m (Some p) = CopyPage m p
+copy_or_commit m None = CommitMove m
+
+abbrev pub move_on : Storage → Mover → Action
+move_on st m = copy_or_commit m (next_out (table_of st.ast m.uid) m.next)
+
 abbrev pub look_for : State → ℕ → Command → Option Reference → Action
 look_for s k c (Some r) = look_for_reference s k r
 look_for s k c None = look_for_command s k c
@@ -256,6 +281,7 @@ abbrev pub go_on_with : State → ℕ → Owner → Phase → Action
 go_on_with s k o phase.Looking = look_of s k (next_command s k)
 go_on_with s k o (phase.Taken aim w) = Signal w
 go_on_with s k o (phase.Waiting aim w) = once_cleared (position is_due s.processors) (finish_of aim o.frames)
+go_on_with s k o (phase.Moving m) = move_on s.store m
 
 -- ---- the rules of a step
 

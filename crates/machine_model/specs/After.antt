@@ -10,6 +10,7 @@ use Rattle.machine_model.specs.Steps.{transferred, went_through, with_faults, wi
 use Rattle.machine_model.specs.Jobs.{deactivation_begun, emptied, eviction_begun, eviction_done, page_done, signalled}
 use Rattle.machine_model.specs.Jobs.{took, victim_taken, write_failed}
 use Rattle.machine_model.specs.Commits.{committed_at}
+use Rattle.machine_model.specs.Moves.{copy_failed, move_begun, move_committed, page_copied}
 
 -- whether the call failed, and how many calls of the drives have failed then
 pub record Outcome : Type 0 where
@@ -48,6 +49,9 @@ after s c (act.Evict f) o = eviction_begun s c f
 after s c (act.Empty uid) o = deactivation_begun s c uid
 after s c (act.EmptyVictim pool chain uid) o = victim_taken s c pool chain uid
 after s c (act.TakeAway fs pairs w) o = took s c aim.Committing w fs pairs
+after s c (act.BeginMove uid volume) o = move_begun s c uid volume
+after s c (act.CopyPage m p) o = by_outcome o (page_copied (with_faults s o.faults) c m p) (copy_failed s c o.faults)
+after s c (act.CommitMove m) o = move_committed s c m
 after s c (act.Signal w) o = signalled s c w
 after s c (act.FinishEviction f) o =
     by_outcome o (eviction_done (with_faults s o.faults) c f) (write_failed s c o.faults)

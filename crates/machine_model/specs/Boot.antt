@@ -42,6 +42,7 @@ first_store p words disks = record {
   ast = no_segments p.pools;
   links = no_links (sum p.pools) (length p.processes);
   whos = map (λ x. x.who) p.processes;
+  moving = None;
 }
 
 -- a process before its first command

@@ -34,6 +34,7 @@ abbrev pub is_pending_in : Phase → Bool
 is_pending_in phase.Looking = false
 is_pending_in (phase.Taken aim w) = true
 is_pending_in (phase.Waiting aim w) = false
+is_pending_in (phase.Moving m) = false
 
 abbrev pub is_pending : Option Owner → Bool
 is_pending None = false
@@ -44,6 +45,7 @@ abbrev pub says_in : Phase → Option What
 says_in phase.Looking = None
 says_in (phase.Taken aim w) = Some w
 says_in (phase.Waiting aim w) = None
+says_in (phase.Moving m) = None
 
 abbrev pub says : Option Owner → Option What
 says None = None
@@ -54,6 +56,7 @@ abbrev pub waits_in : Phase → Option What
 waits_in phase.Looking = None
 waits_in (phase.Taken aim w) = None
 waits_in (phase.Waiting aim w) = Some w
+waits_in (phase.Moving m) = None
 
 abbrev pub waits_for : Option Owner → Option What
 waits_for None = None
@@ -65,11 +68,12 @@ IsAimed aim.Evicting w frames cut = (f : ℕ) × (frames ≡ f ∷ []) × (w ≡
 IsAimed (aim.Deactivating u) w frames cut = w ≡ what.Seg u
 IsAimed aim.Committing w frames cut = Unit {0}
 
--- a job that looks has taken nothing
+-- a job that looks, or moves a segment, has taken nothing
 abbrev pub FitsPhase : Phase → List ℕ → List CutDescriptor → Type 0
 FitsPhase phase.Looking frames cut = (frames ≡ []) × (cut ≡ [])
 FitsPhase (phase.Taken aim w) frames cut = IsAimed aim w frames cut
 FitsPhase (phase.Waiting aim w) frames cut = IsAimed aim w frames cut
+FitsPhase (phase.Moving m) frames cut = (frames ≡ []) × (cut ≡ [])
 
 abbrev pub IsShaped : Option Owner → Type 0
 IsShaped None = Unit {0}

@@ -10,7 +10,8 @@ use Rattle.active_segs.specs.Victim.{IsOffChain}
 use Rattle.processor.specs.declared.Transfer.{Transfer}
 use Rattle.machine_model.specs.Actions.{ForOwner, ForClear, ForTransfer, WhileIdle}
 use Rattle.machine_model.specs.Outline.{Want, Refer, Truncate, Runner, Work, EvictFrame, EmptyPlace, CommitCommand}
-use Rattle.machine_model.specs.Outline.{Stage, Look, Taken, Waiting, Keeper, Outline, Turn, Moved, WaitsFor, Ended}
+use Rattle.machine_model.specs.Outline.{Stage, Look, Taken, Waiting, Copying, Keeper, Outline, Turn, Moved}
+use Rattle.machine_model.specs.Outline.{WaitsFor, Ended}
 use Rattle.machine_model.specs.Outline.{runner_at, frame_in, want_at, with_runner, with_frame, with_entry, at_stage}
 use Rattle.machine_model.specs.Measures.{chain_of, is_active, dues, has_free, is_here, lack, missing, is_over}
 
@@ -106,9 +107,10 @@ AreOf s place (f ∷ fs) =
     ((f < length s.frames) × (is_bound (frame_in s.frames f) ≡ true)
     × (uid_of (page_of (frame_in s.frames f)) ≡ uid_in (entry_at s.entries place))) × AreOf s place fs
 
--- what is stored changes at the page of a frame alone
-pub record MayRelease (s : Outline) (f : ℕ) (stored : ℕ → ℕ → Bool) : Type 0 where
+-- what is stored changes at the page of a frame alone, and no volume has fewer free records
+pub record MayRelease (s : Outline) (f : ℕ) (stored : ℕ → ℕ → Bool) (full : ℕ → Bool) : Type 0 where
   pub others : (uid page : ℕ) → page_of (frame_in s.frames f) ≢ Some (uid, page) → stored uid page ≡ s.stored uid page
+  pub room : (uid : ℕ) → full uid ≡ true → s.full uid ≡ true
 
 -- Of each processor what its own rules read stands, and of processor c all but what it holds: a take, a signal and the
 -- end of a deactivation change what others have connected, hold and are to drop.
@@ -136,6 +138,15 @@ pub record IsReplied (s : Outline) (c : ℕ) (t : Outline) : Type 0 where
   pub fewer : t.left < s.left
   pub since : (runner_at t.runners c).since ≡ (runner_at s.runners c).since + 1
 
+-- the command lacked a record, and its segment has moved to a volume where one is free
+pub record HasMoved (s : Outline) (c : ℕ) (full : ℕ → Bool) : Type 0 where
+  pub chain : List ℕ
+  pub uid : ℕ
+  pub page : ℕ
+  pub want : want_at s c ≡ Refer chain uid page true
+  pub lacked : s.full uid ≡ true
+  pub has : full uid ≡ false
+
 -- ---- the steps of the owner
 
 abbrev pub with_link : Outline → ℕ → Outline
@@ -144,8 +155,8 @@ with_link s c = with_runner s c (record (runner_at s.runners c) { linked = true 
 abbrev pub with_runners : Outline → List Runner → Outline
 with_runners s runners = record s { runners = runners }
 
-abbrev pub with_stored : Outline → (ℕ → ℕ → Bool) → Outline
-with_stored s stored = record s { stored = stored }
+abbrev pub with_stored : Outline → (ℕ → ℕ → Bool) → (ℕ → Bool) → Outline
+with_stored s stored full = record s { stored = stored; full = full }
 
 abbrev pub without_owner : Outline → Outline
 without_owner s = record s { owner = None }
@@ -171,15 +182,20 @@ pub data JobStep (s : Outline) (c : ℕ) : Outline → Type 0 where
       → JobStep s c (with_runners (at_stage s c (Taken CommitCommand)) runners)
   signals : (w : Work) (runners : List Runner) → IsIn s c (Taken w) → AreAlike s.runners runners c
       → JobStep s c (with_runners (at_stage s c (Waiting w)) runners)
-  frees_frame : (f : ℕ) (stored : ℕ → ℕ → Bool) → IsIn s c (Waiting (EvictFrame f)) → dues s.runners ≡ 0
-      → MayRelease s f stored → JobStep s c (with_stored (at_stage (with_frame s f frame.Free) c Look) stored)
-  frees_page : (place f : ℕ) (rest : List ℕ) (stored : ℕ → ℕ → Bool) → IsIn s c (Waiting (EmptyPlace place (f ∷ rest)))
-      → dues s.runners ≡ 0 → MayRelease s f stored
-      → JobStep s c (with_stored (at_stage (with_frame s f frame.Free) c (Waiting (EmptyPlace place rest))) stored)
+  frees_frame : (f : ℕ) (stored : ℕ → ℕ → Bool) (full : ℕ → Bool) → IsIn s c (Waiting (EvictFrame f))
+      → dues s.runners ≡ 0 → MayRelease s f stored full
+      → JobStep s c (with_stored (at_stage (with_frame s f frame.Free) c Look) stored full)
+  frees_page : (place f : ℕ) (rest : List ℕ) (stored : ℕ → ℕ → Bool) (full : ℕ → Bool)
+      → IsIn s c (Waiting (EmptyPlace place (f ∷ rest))) → dues s.runners ≡ 0 → MayRelease s f stored full
+      → JobStep s c (with_stored (at_stage (with_frame s f frame.Free) c (Waiting (EmptyPlace place rest))) stored full)
   empties : (place : ℕ) (runners : List Runner) → IsIn s c (Waiting (EmptyPlace place [])) → dues s.runners ≡ 0
       → AreAlike s.runners runners c → dues runners ≡ 0
       → JobStep s c (with_runners (at_stage (with_entry s place None) c Look) runners)
   empties_at_once : (place : ℕ) → CanEmpty s c place → JobStep s c (with_entry s place None)
+  begins_move : (left : ℕ) → IsIn s c Look → left ≤ 256 → JobStep s c (at_stage s c (Copying left))
+  copies : (left fewer : ℕ) → IsIn s c (Copying left) → fewer < left → JobStep s c (at_stage s c (Copying fewer))
+  commits_move : (left : ℕ) (stored : ℕ → ℕ → Bool) (full : ℕ → Bool) → IsIn s c (Copying left) → HasMoved s c full
+      → JobStep s c (with_stored (at_stage s c Look) stored full)
   gives_up : (chain : List ℕ) (uid page : ℕ) (makes : Bool) → IsIn s c Look → want_at s c ≡ Refer chain uid page makes
       → lack s (runner_at s.runners c) ≡ 0 → JobStep s c (without_owner s)
   starts : (f uid page : ℕ) → CanStart s c f uid page → JobStep s c (without_owner (now_reading s c f uid page))

@@ -13,19 +13,21 @@ use Rattle.assoc_mem.specs.Held.{seg_of}
 use Rattle.core_map.specs.declared.Frame.TheVariants as frame
 use Rattle.seg_control.specs.Control.{Links, place_of, sdws_at}
 use Rattle.storage_ops.specs.Shown.{is_filed}
+use Rattle.seg_mover.specs.declared.Mover.{Mover}
 use Rattle.machine_model.specs.declared.Processor.{Processor}
 use Rattle.machine_model.specs.declared.Run.{Run}
-use Rattle.machine_model.specs.State.{State, Owner}
+use Rattle.machine_model.specs.State.{State, Storage, Owner}
 use Rattle.machine_model.specs.Reads.{next_command, cpu_at, processor_at, process_at, run_at, frames_from}
 use Rattle.machine_model.specs.Actions as act
 use Rattle.machine_model.specs.Jobs.{deactivation_begun, page_gone, took, victim_taken}
+use Rattle.machine_model.specs.Moves.{with_moved}
 use Rattle.machine_model.specs.OutlineKept.{IsKept}
 use Rattle.machine_model.specs.declared.Aim.TheVariants as aim
 use Rattle.machine_model.specs.declared.Phase.TheVariants as phase
 use Rattle.machine_model.specs.Outline.{Refer, runner_at, want_at}
 use Rattle.machine_model.specs.Measures.{lack}
-use Rattle.machine_model.specs.Finishing.{AreOf, CanActivate, CanEmpty, CanEvict, CanStart, MayRelease}
-use Rattle.machine_model.specs.Outlined.{around, reference_in, holds_page, runner_of, outline_of}
+use Rattle.machine_model.specs.Finishing.{AreOf, CanActivate, CanEmpty, CanEvict, CanStart, HasMoved, MayRelease}
+use Rattle.machine_model.specs.Outlined.{around, reference_in, holds_page, runner_of, outline_of, lacks_record}
 
 -- a process that goes on comes to a command next, and has tried it less often than it may
 pub record GoesOn (commands : List Command) (run : Run) (c : Command) : Type 0 where
@@ -137,6 +139,14 @@ pub record MayEmpty (s t : State) (c uid : ℕ) : Type 0 where
 abbrev pub stored_then : State → ℕ → ℕ → ℕ → Bool
 stored_then s f = is_filed (page_gone s f).store.accounts (page_gone s f).store.pages.vtocs
 
+-- and the segments of whose volume no record is free then
+abbrev pub full_then : State → ℕ → ℕ → Bool
+full_then s f = lacks_record (page_gone s f).store.accounts.nodes (page_gone s f).store.pages.records
+
+-- and once a segment has moved
+abbrev pub full_there : Storage → Mover → ℕ → Bool
+full_there st m = lacks_record (with_moved st m).accounts.nodes (with_moved st m).pages.records
+
 pub record IsReading (s : State) (f : ℕ) : Type 0 where
   pub uid : ℕ
   pub page : ℕ
@@ -155,6 +165,7 @@ IsLook s c (act.Evict f) = CanEvict (outline_of s) c f
 IsLook s c (act.Empty uid) = MayEmpty s (deactivation_begun s c uid) c uid
 IsLook s c (act.EmptyVictim pool chain uid) = MayEmpty s (victim_taken s c pool chain uid) c uid
 IsLook s c (act.TakeAway fs pairs w) = ((fs ≢ []) ⊎ (pairs ≢ [])) × KeepsLink s (took s c aim.Committing w fs pairs) c
+IsLook s c (act.BeginMove uid volume) = Unit {0}
 IsLook s c act.Commit = MayAnswer s c
 IsLook s c _ = ⊥
 
@@ -171,7 +182,10 @@ pub record Foresees (s : State) (c : ℕ) : Type 0 where
   pub looks : (o : Owner) → s.owner ≡ Some o → o.phase ≡ phase.Looking → o.cpu ≡ c
       → IsLook s c (act.look_of s (process_at s c) (next_command s (process_at s c)))
   pub leaves : (o : Owner) (f : ℕ) (fs : List ℕ) → s.owner ≡ Some o → o.frames ≡ f ∷ fs
-      → MayRelease (outline_of s) f (stored_then s f)
+      → MayRelease (outline_of s) f (stored_then s f) (full_then s f)
+  -- a segment that has moved gives its command the record that it lacks
+  pub moves : (o : Owner) (m : Mover) → s.owner ≡ Some o → o.phase ≡ phase.Moving m → o.cpu ≡ c
+      → HasMoved (outline_of s) c (full_there s.store m)
   -- a processor that takes the supervisor needs it
   pub enters : s.owner ≡ None → (cpu_at s.processors c).transfer ≡ None
       → act.come_to s (cpu_at s.processors c) (process_at s c) (next_command s (process_at s c)) ≡ act.TakeSupervisor

@@ -175,6 +175,7 @@ abbrev pub phase_signalled : Phase → Phase
 phase_signalled phase.Looking = phase.Looking
 phase_signalled (phase.Taken a w) = phase.Waiting a w
 phase_signalled (phase.Waiting a w) = phase.Waiting a w
+phase_signalled (phase.Moving m) = phase.Moving m
 
 abbrev pub owner_signalled : Option Owner → Option Owner
 owner_signalled None = None

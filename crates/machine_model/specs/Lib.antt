@@ -12,8 +12,11 @@ pub mod Foreseen
 pub mod Holding
 pub mod Jobs
 pub mod Keeps
+pub mod Lacking
 pub mod Looping
 pub mod Measures
+pub mod Movers
+pub mod Moves
 pub mod Outline
 pub mod OutlineKept
 pub mod Outlined

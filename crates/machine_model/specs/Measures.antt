@@ -12,7 +12,7 @@ use Rattle.active_segs.specs.Victim.{off_chain}
 use Rattle.seg_control.specs.Control.{is_for}
 use Rattle.processor.specs.declared.Transfer.{Transfer}
 use Rattle.machine_model.specs.Outline.{Want, Refer, Truncate, Length, Other, Runner, Work, EvictFrame, EmptyPlace}
-use Rattle.machine_model.specs.Outline.{CommitCommand, Stage, Look, Taken, Waiting, Keeper, Outline, runner_at}
+use Rattle.machine_model.specs.Outline.{CommitCommand, Stage, Look, Taken, Waiting, Copying, Keeper, Outline, runner_at}
 
 -- ---- a job
 
@@ -50,6 +50,13 @@ unlinked (Truncate chain uid cut) linked = 0
 unlinked (Length uid) linked = 0
 unlinked Other linked = 0
 
+-- A record lacks where a reference makes a page of a segment of whose volume none is free.
+abbrev pub room_lack : (ℕ → Bool) → Want → ℕ
+room_lack full (Refer chain uid page makes) = if makes && full uid then 1 else 0
+room_lack full (Truncate chain uid cut) = 0
+room_lack full (Length uid) = 0
+room_lack full Other = 0
+
 -- A frame lacks where none is free. An eviction that is under way is to give one, and counts as a frame that lacks
 -- until it has, whatever else is free by then.
 abbrev pub frame_lack : Stage → List Frame → ℕ
@@ -67,6 +74,7 @@ abbrev pub stage_left : Stage → ℕ
 stage_left Look = 300
 stage_left (Taken work) = work_left work + 1
 stage_left (Waiting work) = work_left work
+stage_left (Copying left) = left + 1
 
 -- the parts of a job's measure, the first that differs deciding
 pub record Parts : Type 0 where
@@ -74,6 +82,7 @@ pub record Parts : Type 0 where
   pub idle : ℕ
   pub off : ℕ
   pub link : ℕ
+  pub room : ℕ
   pub frame : ℕ
   pub stage : ℕ
   pub due : ℕ
@@ -84,6 +93,7 @@ parts_of s x stage = record {
   idle = idle_links s.entries (chain_of x.want);
   off = off_links s.entries (chain_of x.want);
   link = unlinked x.want x.linked;
+  room = room_lack s.full x.want;
   frame = frame_lack stage s.frames;
   stage = stage_left stage;
   due = dues s.runners;
@@ -91,13 +101,16 @@ parts_of s x stage = record {
 
 -- one number, in which each part has room
 abbrev pub rank_of : Parts → ℕ
-rank_of p = (((((p.reading * 16 + p.idle) * 2048 + p.off) * 2 + p.link) * 2 + p.frame) * 512 + p.stage) * 16 + p.due
+rank_of p =
+    ((((((p.reading * 16 + p.idle) * 2048 + p.off) * 2 + p.link) * 2 + p.room) * 2 + p.frame) * 512 + p.stage) * 16
+    + p.due
 
 -- each part but the first is below its room
 pub record IsSmall (p : Parts) : Type 0 where
   pub idle : p.idle < 16
   pub off : p.off < 2048
   pub link : p.link < 2
+  pub room : p.room < 2
   pub frame : p.frame < 2
   pub stage : p.stage < 512
   pub due : p.due < 16

@@ -38,22 +38,25 @@ pub data Work : Type 0 where
   EmptyPlace : (place : ℕ) (frames : List ℕ) → Work
   CommitCommand : Work
 
+-- how far the owner has come; while it moves a segment, how many pages may still be to be copied
 pub data Stage : Type 0 where
   Look : Stage
   Taken : (work : Work) → Stage
   Waiting : (work : Work) → Stage
+  Copying : (left : ℕ) → Stage
 
 pub record Keeper : Type 0 where
   pub cpu : ℕ
   pub stage : Stage
 
--- the processors; the frames; the active segments; which pages are stored; the owner of the supervisor; how many
--- processes are ready; how many commands and tries are still to come
+-- the processors; the frames; the active segments; which pages are stored; the segments of whose volume no record is
+-- free; the owner of the supervisor; how many processes are ready; how many commands and tries are still to come
 pub record Outline : Type 0 where
   pub runners : List Runner
   pub frames : List Frame
   pub entries : List (Option Entry)
   pub stored : ℕ → ℕ → Bool
+  pub full : ℕ → Bool
   pub owner : Option Keeper
   pub ready : ℕ
   pub left : ℕ

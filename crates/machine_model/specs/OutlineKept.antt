@@ -6,7 +6,8 @@ use Rattle.core_map.specs.declared.Frame.TheVariants as frame
 use Rattle.active_segs.specs.Victim.{IsOffChain}
 use Rattle.processor.specs.declared.Transfer.{Transfer}
 use Rattle.machine_model.specs.Outline.{Want, Refer, Truncate, Length, Other, Runner, Work, EvictFrame, EmptyPlace}
-use Rattle.machine_model.specs.Outline.{CommitCommand, Stage, Look, Taken, Waiting, Outline, runner_at, frame_in}
+use Rattle.machine_model.specs.Outline.{CommitCommand, Stage, Look, Taken, Waiting, Copying, Outline, runner_at}
+use Rattle.machine_model.specs.Outline.{frame_in}
 use Rattle.machine_model.specs.Outline.{want_at}
 use Rattle.machine_model.specs.Measures.{chain_of, dues, is_of}
 use Rattle.machine_model.specs.Finishing.{IsIn}
@@ -67,6 +68,7 @@ abbrev pub FitsStage : Outline → Want → Stage → Type 0
 FitsStage s w Look = dues s.runners ≡ 0
 FitsStage s w (Taken work) = FitsWork s w work
 FitsStage s w (Waiting work) = FitsWork s w work
+FitsStage s w (Copying left) = (dues s.runners ≡ 0) × (left ≤ 256)
 
 -- the owner has a process, and nothing that comes before its job
 pub record IsAtWork (runners : List Runner) (c : ℕ) : Type 0 where

@@ -11,7 +11,7 @@ use Rattle.script.specs.declared.commands.Reference.{Reference}
 use Rattle.book.specs.declared.replies.Reply.{Reply}
 use Rattle.assoc_mem.specs.Held.{Held, frame_of, seg_of}
 use Rattle.tree_model.specs.Access.{access_of}
-use Rattle.tree_model.specs.Tree.{Node, node_in}
+use Rattle.tree_model.specs.Tree.{Node, node_in, volume_in}
 use Rattle.dir_tree.specs.Nodes.{chain_of}
 use Rattle.known_segs.specs.Known.{uid_of}
 use Rattle.flat_model.specs.Branches.{segment_at}
@@ -19,6 +19,7 @@ use Rattle.script.specs.References.{new_word, permits}
 use Rattle.active_segs.specs.declared.Entry.{Entry}
 use Rattle.core_map.specs.declared.Frame.{Frame}
 use Rattle.core_map.specs.declared.Frame.TheVariants as frame
+use Rattle.page_control.specs.Counts.{is_full}
 use Rattle.seg_control.specs.Control.{Links, kst_at, place_of}
 use Rattle.storage_ops.specs.Shown.{is_filed, who_at}
 use Rattle.machine_model.specs.declared.Aim.{Aim}
@@ -31,7 +32,8 @@ use Rattle.machine_model.specs.State.{State, Owner}
 use Rattle.machine_model.specs.Reads.{descriptor_of, is_connected, next_command}
 use Rattle.machine_model.specs.Steps.{uid_of_held}
 use Rattle.machine_model.specs.Outline.{Want, Refer, Truncate, Length, Other, Runner, no_runner, Work, EvictFrame}
-use Rattle.machine_model.specs.Outline.{EmptyPlace, CommitCommand, Stage, Look, Taken, Waiting, Keeper, Outline}
+use Rattle.machine_model.specs.Outline.{EmptyPlace, CommitCommand, Stage, Look, Taken, Waiting, Copying, Keeper}
+use Rattle.machine_model.specs.Outline.{Outline}
 
 -- what a processor's outline reads beside the processor: the tree, the principals, what leads to segments, and the
 -- next command of each process
@@ -147,6 +149,7 @@ abbrev pub stage_of : List (Option Entry) → List ℕ → Phase → Stage
 stage_of entries frames phase.Looking = Look
 stage_of entries frames (phase.Taken a w) = Taken (work_of entries frames a)
 stage_of entries frames (phase.Waiting a w) = Waiting (work_of entries frames a)
+stage_of entries frames (phase.Moving m) = Copying (256 - m.next)
 
 abbrev pub keeper_of : List (Option Entry) → Option Owner → Option Keeper
 keeper_of entries None = None
@@ -163,6 +166,12 @@ left_in [] runs = 0
 left_in (x ∷ xs) [] = 0
 left_in (x ∷ xs) (run ∷ runs) = left_of x.commands run + left_in xs runs
 
+-- ---- volumes
+
+-- no record of a segment's volume is free
+abbrev pub lacks_record : List Node → List (List Bool) → ℕ → Bool
+lacks_record nodes records uid = is_full records (volume_in nodes uid)
+
 -- ---- the whole
 
 -- a frame without its marks, which no measure reads
@@ -177,6 +186,7 @@ outline_of s = record {
   frames = map bare s.store.pages.core.frames;
   entries = s.store.ast.entries;
   stored = is_filed s.store.accounts s.store.pages.vtocs;
+  full = lacks_record s.store.accounts.nodes s.store.pages.records;
   owner = keeper_of s.store.ast.entries s.owner;
   ready = length s.ready;
   left = left_in s.plan.processes s.runs;

@@ -1,15 +1,17 @@
 -- What the owner of the supervisor answers its process at once: what the flat store after the book refuses the next
--- command (Bensoussan, Clingen and Daley 1972; Organick 1972).
-use Rattle.std.specs.Prelude.{ℕ, Bool, List, Option, Result, Ok, Err}
+-- command; and where a segment moves to before a page of it is stored (Bensoussan, Clingen and Daley 1972; Organick
+-- 1972).
+use Rattle.std.specs.Prelude.{ℕ, Bool, List, Option, Result, Ok, Err, None, if◌then◌else◌}
 use Rattle.script.specs.declared.commands.Command.{Command}
 use Rattle.script.specs.declared.commands.Command.TheVariants as command
 use Rattle.script.specs.declared.commands.Reference.{Reference}
 use Rattle.book.specs.declared.replies.Reply.{Reply}
-use Rattle.tree_model.specs.Tree.{Node}
+use Rattle.tree_model.specs.Tree.{Node, volume_in}
 use Rattle.known_segs.specs.Known.{uid_of}
 use Rattle.flat_model.specs.Branches.{node_at}
 use Rattle.flat_model.specs.Commands.{reply_to_tree_command}
-use Rattle.flat_model.specs.References.{reply_to_reference}
+use Rattle.flat_model.specs.References.{reply_to_reference, is_volume_full}
+use Rattle.flat_model.specs.Rooms.{room_for}
 use Rattle.seg_control.specs.Control.{kst_at}
 use Rattle.storage_ops.specs.References as references
 use Rattle.storage_ops.specs.Shown.{refusal}
@@ -32,6 +34,13 @@ outside_refusal s k r = only is_outside (reply_to_reference s.plan (flat_of s) k
 
 unfoldable pub room_refusal : State → ℕ → Reference → Option Reply
 room_refusal s k r = only is_of_room (reply_to_reference s.plan (flat_of s) k r)
+
+-- the volume that a segment moves to before a page more of it is stored: the first that has room for it, where all
+-- records of its own are taken
+unfoldable pub move_to : State → ℕ → Option ℕ
+move_to s uid =
+    if is_volume_full s.plan (flat_of s) (volume_in (flat_of s).nodes uid) then room_for s.plan (flat_of s) uid
+    else None
 
 -- the refusal of a tree command, where one holds
 unfoldable pub refusal_of : State → ℕ → Command → Option Reply

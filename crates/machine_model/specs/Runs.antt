@@ -28,9 +28,11 @@ use Rattle.flat_model.specs.Store.{boot}
 use Rattle.core_map.specs.Clock.{passed_over}
 use Rattle.active_segs.specs.Victim.{leaf_below}
 use Rattle.seg_control.specs.Control.{place_of}
+use Rattle.seg_control.specs.Moving.{first_out}
 use Rattle.seg_control.specs.Next.{table_for}
+use Rattle.page_control.specs.Moves.{rehomed}
 use Rattle.machine_model.specs.State.{State}
-use Rattle.machine_model.specs.Refusal.{refusal_of, outside_refusal, room_refusal, reply_of}
+use Rattle.machine_model.specs.Refusal.{refusal_of, outside_refusal, room_refusal, reply_of, move_to}
 use Rattle.machine_model.specs.Actions.{action_of, is_over}
 use Rattle.machine_model.specs.After.{after, no_call}
 use Rattle.machine_model.specs.Boot.{booted}
@@ -121,11 +123,11 @@ replies_in (e ∷ es) = replies_in es
 
 -- The entries of a book. A row unfolds this name, and computes what its line names.
 unfoldable pub book_of : State → List Entry
-unfolding action_of after refusal_of outside_refusal room_refusal reply_of store_after store_from after_entry boot
-    after_command reply_to_reference after_reference make_reply after_make delete_reply after_delete initiate_reply
-    after_initiate terminate_reply after_terminate status_reply acl_reply after_acl move_reply after_move length_reply
-    after_length truncate_reply after_truncate node_at is_zero_page with_stored without_stored access_of over_in used_by
-    taken_on entries_on passed_over leaf_below place_of table_for no_records
+unfolding action_of after refusal_of outside_refusal room_refusal move_to reply_of store_after store_from after_entry
+    boot after_command reply_to_reference after_reference make_reply after_make delete_reply after_delete
+    initiate_reply after_initiate terminate_reply after_terminate status_reply acl_reply after_acl move_reply
+    after_move length_reply after_length truncate_reply after_truncate node_at is_zero_page with_stored without_stored
+    access_of over_in used_by taken_on entries_on passed_over leaf_below place_of table_for no_records first_out rehomed
 book_of s = s.entries
 
 -- the same of the replies alone

@@ -9,6 +9,7 @@ use Rattle.flat_model.specs.Commands.{effect_of}
 use Rattle.flat_model.specs.Pages.{without_stored}
 use Rattle.script.specs.References.{alters, new_word}
 use Rattle.flat_model.specs.References.{after_reference, written}
+use Rattle.flat_model.specs.Moves.{moved}
 use Rattle.flat_model.specs.Store.{Store}
 use Rattle.page_control.specs.declared.Left.{Left}
 use Rattle.page_control.specs.declared.Left.TheVariants as left
@@ -58,6 +59,7 @@ shown_after s c o (act.Create f uid page r) t = with_made_page s c r t
 shown_after s c o (act.FinishEviction f) t = if o.failed then t else left_page s f t
 shown_after s c o (act.FinishPage f) t = if o.failed then t else left_page s f t
 shown_after s c o act.Commit t = with_command s (process_at s c) (next_command s (process_at s c)) t
+shown_after s c o (act.CommitMove m) t = moved t m.uid m.to.0
 shown_after s c o _ t = t
 
 -- ---- what the calls say

@@ -9,19 +9,22 @@ use Rattle.accounts.specs.Maps.{AccountMaps}
 use Rattle.page_control.specs.Plain.{Plain}
 use Rattle.active_segs.specs.Active.{ActiveSegs}
 use Rattle.seg_control.specs.Control.{Links}
+use Rattle.seg_mover.specs.declared.Mover.{Mover}
 use Rattle.machine_model.specs.declared.Phase.{Phase}
 use Rattle.machine_model.specs.declared.Processor.{Processor}
 use Rattle.machine_model.specs.declared.Run.{Run}
 use Rattle.machine_model.specs.declared.CutDescriptor.{CutDescriptor}
 
 -- The tree with its accounts; the core map, the words in the frames and on the drives, the records and the VTOCs; the
--- active segments; the trailers, the numbers and the descriptors; for whom each process runs.
+-- active segments; the trailers, the numbers and the descriptors; for whom each process runs; and the segment that is
+-- moving to another volume, if one is. The volumes are those at rest: without the home that the move has taken.
 pub record Storage : Type 0 where
   pub accounts : AccountMaps
   pub pages : Plain
   pub ast : ActiveSegs
   pub links : Links
   pub whos : List Who
+  pub moving : Option Mover
 
 -- The processor that owns the supervisor; how far its job has come; the frames that the job took, and the descriptors
 -- that it cut, in the order in which it came to them.

@@ -73,3 +73,4 @@ abbrev pub TakenIn : Phase → State → ℕ → Option Command → Type 0
 TakenIn phase.Looking s k c = Unit {0}
 TakenIn (phase.Taken a w) s k c = TakenTo a s k c
 TakenIn (phase.Waiting a w) s k c = TakenTo a s k c
+TakenIn (phase.Moving m) s k c = Unit {0}

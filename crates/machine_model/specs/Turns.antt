@@ -19,6 +19,7 @@ abbrev pub calls_drive : act.Action → Bool
 calls_drive (act.EndTransfer t) = true
 calls_drive (act.FinishEviction f) = true
 calls_drive (act.FinishPage f) = true
+calls_drive (act.CopyPage m p) = true
 calls_drive _ = false
 
 -- the point that a step comes to: it came online, loaded a process, answered a reference through a frame, or signalled

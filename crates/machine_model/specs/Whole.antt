@@ -26,6 +26,7 @@ abbrev pub goes_in : Phase → Option ℕ
 goes_in phase.Looking = None
 goes_in (phase.Taken aim w) = aimed_at aim
 goes_in (phase.Waiting aim w) = aimed_at aim
+goes_in (phase.Moving m) = None
 
 abbrev pub going_for : Option Owner → Option ℕ
 going_for None = None

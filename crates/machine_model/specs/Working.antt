@@ -1,6 +1,6 @@
 -- What the owner's job rests on: while it makes room, that a drive's failure may be told of its command, and that the
--- segment that it makes inactive is a leaf that it took whole; otherwise, that its command is one that takes, and that
--- it took just that.
+-- segment that it makes inactive is a leaf that it took whole; while it moves a segment, what the beginning of the move
+-- found; otherwise, that its command is one that takes, and that it took just that.
 use Rattle.std.specs.Prelude.{◌≡◌, ◌≢◌, ◌⊎◌, ◌<◌, ◌≤◌, ◌*◌, ℕ, Bool, true, false, List, [], ◌∷◌, Option, Some}
 use Rattle.std.specs.Prelude.{◌+◌, length, None, Ok}
 use Rattle.script.specs.References.{reference_of}
@@ -17,6 +17,7 @@ use Rattle.machine_model.specs.declared.Aim.{Aim}
 use Rattle.machine_model.specs.declared.Aim.TheVariants as aim
 use Rattle.machine_model.specs.declared.Phase.{Phase}
 use Rattle.machine_model.specs.declared.Phase.TheVariants as phase
+use Rattle.machine_model.specs.Lacking.{MovesIn}
 use Rattle.machine_model.specs.Reads.{cut_of_owner, frames_of_owner, is_active, next_command, process_at}
 use Rattle.machine_model.specs.declared.CutDescriptor.{CutDescriptor}
 use Rattle.machine_model.specs.State.{Owner, State, Storage}
@@ -63,6 +64,7 @@ abbrev pub FailsIn : Phase → Storage → ℕ → Option Command → Type 0
 FailsIn phase.Looking st k c = Unit {0}
 FailsIn (phase.Taken a w) st k c = FailsBy a st k c
 FailsIn (phase.Waiting a w) st k c = FailsBy a st k c
+FailsIn (phase.Moving m) st k c = MayFailBy st k c
 
 -- a segment is active, and no active one lies below it
 pub record IsLeaf (st : Storage) (u : ℕ) : Type 0 where
@@ -89,3 +91,6 @@ pub record IsWorking (s : State) : Type 0 where
       → FailsIn o.phase s.store (process_at s o.cpu) (next_command s (process_at s o.cpu))
   pub taken : (o : Owner) → s.owner ≡ Some o
       → TakenIn o.phase s (process_at s o.cpu) (next_command s (process_at s o.cpu))
+  -- what the beginning of a move found
+  pub moves : (o : Owner) → s.owner ≡ Some o
+      → MovesIn o.phase s.store (process_at s o.cpu) (next_command s (process_at s o.cpu))

@@ -6,6 +6,7 @@
 use assoc_mem::What;
 use mnames::Mode;
 use processor::Cpu;
+use seg_mover::Mover;
 
 /// A processor, and the turn of its process: how many commands it answered since it loaded it, and whether the last of
 /// them was a try that didn't end its `await` (Corbató 1968).
@@ -68,4 +69,6 @@ pub enum Phase {
     Taken { aim: Aim, what: What },
     /// It signalled this, and waits until every processor has cleared.
     Waiting { aim: Aim, what: What },
+    /// It moves a segment to another volume, a page in each step.
+    Moving { mover: Mover },
 }

@@ -1,0 +1,203 @@
+-- What a move rests on by the tables is what the flat store and custody ask of it.
+use Rattle.std.proofs.Common.{◌≡◌, ◌≢◌, ◌*◌, ℕ, Bool, true, false, ◌&&◌, eqb, List, Option, Some}
+use Rattle.std.proofs.Common.{None, inl, inr, refl, sym, ap, subst, ◌∙◌, arith, cond}
+use Rattle.std.specs.Prelude.{◌/◌, nat_le}
+use Rattle.std.proofs.lemmas.Bool.Decides.{eqb_tells, leb_tells}
+use Rattle.mnames.specs.declared.principals.Who.{Who}
+use Rattle.script.specs.Plans.{command_at, who_of}
+use Rattle.script.specs.References.{alters, new_word, permits}
+use Rattle.script.specs.declared.commands.Command.{Command}
+use Rattle.script.specs.declared.commands.RefKind.{RefKind}
+use Rattle.script.specs.declared.commands.RefKind.TheVariants as kind
+use Rattle.script.specs.declared.commands.Reference.{Reference}
+use Rattle.tree_model.specs.Access.{access_of}
+use Rattle.tree_model.specs.Tree.{Node, entries_on, node_in, taken_on, volume_in}
+use Rattle.flat_model.specs.Moves.{MayMove, awaits_by, awaits_in, awaits_move, is_uid, lacks_at, lacks_record}
+use Rattle.flat_model.specs.Pages.{is_stored}
+use Rattle.flat_model.specs.References.{is_used_up, is_volume_full, stores_page}
+use Rattle.flat_model.specs.Rooms.{room_for, has_room as has_room_flat}
+use Rattle.flat_model.specs.Store.{Store, known_uid}
+use Rattle.flat_model.proofs.NodeLaws.{volume_found}
+use Rattle.flat_model.proofs.QuotaTotals.{found_uid}
+use Rattle.flat_model.proofs.RoomLaws.{room_is}
+use Rattle.known_segs.specs.Known.{uid_of}
+use Rattle.page_table.specs.declared.Ptw.{Ptw}
+use Rattle.page_table.specs.declared.Ptw.TheVariants as ptw
+use Rattle.page_control.specs.Counts.{is_full, size}
+use Rattle.page_control.specs.Tied.{has_record}
+use Rattle.seg_mover.specs.declared.Mover.{Mover}
+use Rattle.seg_control.specs.Control.{kst_at, word_of}
+use Rattle.storage_ops.specs.References.{is_spent}
+use Rattle.custody_model.specs.Allowed.{MayRehome}
+use Rattle.custody_model.specs.declared.FrameUse.TheVariants as frame
+use Rattle.machine_model.specs.Holding.{seen}
+use Rattle.machine_model.specs.Keeps.{Keeps}
+use Rattle.machine_model.specs.Lacking.{IsFirstWithRoom, IsMovedFor, LacksRecord, MovesFor, MovesForNext, has_room}
+use Rattle.machine_model.specs.Lacking.{tables_of}
+use Rattle.machine_model.specs.Reads.{flat_of, is_active, next_command}
+use Rattle.machine_model.specs.Refusal.{move_to}
+use Rattle.machine_model.specs.Seen.{bound_use, frame_use, shown}
+use Rattle.machine_model.specs.State.{State}
+use Rattle.machine_model.proofs.LookFacts.{IsInside}
+use Rattle.machine_model.proofs.MoveAsks.{who_is}
+use Rattle.machine_model.proofs.PageShown.{null_word, stored_is}
+use Rattle.machine_model.proofs.SpeakLaws.{Speaks, turn_is}
+
+no_and : {b : Bool} → b ≡ true → b ≡ false → ⊥
+no_and t f = let none : true ≡ false = sym t ∙ f in cc
+
+-- a word that a reference brings into a page of zeros is written
+pub brings_alters : (how : RefKind) → eqb (new_word 0 how) 0 ≡ false → alters how ≡ true
+brings_alters kind.Read h = absurd (no_and refl h)
+brings_alters (kind.Write w) h = refl
+brings_alters (kind.Add w) h = refl
+
+module _ (s : State) (keeps : Keeps s) where
+  abbrev t : Store
+  t = flat_of s
+
+  -- ---- volumes
+
+  -- no record of a volume is free in the flat store where none is by the tables
+  pub full_is : (v : ℕ) → is_full s.store.pages.records v ≡ is_volume_full s.plan t v
+  full_is v = ap (λ (n : ℕ). eqb n (size s.store.pages.records v))
+      (keeps.store.counted.taken.records t.stored v keeps.faithful.tree.counts
+      ∙ ap (λ (ns : List Node). taken_on ns t.stored v) (sym keeps.faithful.tree.nodes))
+      ∙ ap (λ (n : ℕ). eqb (taken_on t.nodes t.stored v) n) (sym (keeps.faithful.script.records v))
+
+  -- where a segment moves to, by the tables for whether its volume is full
+  pub move_is : (u : ℕ) → move_to s u
+      ≡ cond (is_full s.store.pages.records (volume_in s.store.accounts.nodes u)) (room_for s.plan t u) None
+  unfolding move_to
+  move_is u = ap (λ (b : Bool). cond b (room_for s.plan t u) None)
+      (ap (λ (ns : List Node). is_volume_full s.plan t (volume_in ns u)) keeps.faithful.tree.nodes
+      ∙ sym (full_is (volume_in s.store.accounts.nodes u)))
+
+  -- a volume has room for a segment there where it has by the tables
+  pub room_same : (u v : ℕ) → has_room (tables_of s.store) u v ≡ has_room_flat s.plan t u v
+  room_same u v =
+      let home = ap (λ (ns : List Node). volume_in ns u) keeps.faithful.tree.nodes in
+      let taken = keeps.store.counted.taken.records t.stored v keeps.faithful.tree.counts
+      ∙ ap (λ (ns : List Node). taken_on ns t.stored v) (sym keeps.faithful.tree.nodes) in
+      let used = keeps.store.counted.taken.entries v
+      ∙ ap (λ (ns : List Node). entries_on ns v) (sym keeps.faithful.tree.nodes) in
+      rw (
+        home,
+        keeps.faithful.tree.counts u,
+        taken,
+        used,
+        keeps.faithful.script.records v,
+        keeps.faithful.script.entries v,
+      ) refl
+
+  first_room : (u v : ℕ) → IsFirstWithRoom (tables_of s.store) u v → room_for s.plan t u ≡ Some v
+  first_room u v h = sym (room_is s.plan t u v (sym (room_same u v) ∙ h.room)
+      (λ w less. sym (room_same u w) ∙ h.before w less))
+
+  -- ---- the reference
+
+  module _ (k u : ℕ) (r : Reference) (active : is_active s.store.ast u ≡ true)
+      (h : LacksRecord (tables_of s.store) k u r) where
+    same : h.node.uid ≡ u
+    same = found_uid s.store.accounts.nodes u h.node h.there
+
+    unstored : is_stored t.stored u (r.offset / 1024) ≡ false
+    unstored = keeps.faithful.pages.stored u (r.offset / 1024) ∙ h.unstored
+
+    blank : t.words u r.offset ≡ 0
+    blank = null_word s keeps u active r.offset (null (word_of s.store.ast u (r.offset / 1024))
+        (sym (stored_is s keeps u active (r.offset / 1024)) ∙ unstored))
+      where
+        null : (w : Ptw) → has_record w ≡ false → w ≡ ptw.Null
+        null ptw.Null e = refl
+        null (ptw.Out n) e = absurd (no_and refl e)
+        null (ptw.Here f) e = absurd (no_and refl e)
+        null (ptw.Leaving f) e = absurd (no_and refl e)
+
+    stores : stores_page t u r.offset r.kind ≡ true
+    stores = rw (brings_alters r.kind h.word, blank, h.word, unstored) refl
+
+    unspent : is_used_up t u ≡ false
+    unspent = ap (λ (ns : List Node). is_spent ns t.stored u) keeps.faithful.tree.nodes
+        ∙ h.unspent t.stored keeps.faithful.tree.counts
+
+    full : is_volume_full s.plan t h.node.volume ≡ true
+    full = ap (is_volume_full s.plan t) (volume_found s.store.accounts.nodes u h.node h.there)
+        ∙ (sym (full_is (volume_in s.store.accounts.nodes u)) ∙ h.full)
+
+    permitted : permits (access_of (who_of s.plan k) h.node.rows) r.kind ≡ true
+    permitted = ap (λ (w : Who). permits (access_of w h.node.rows) r.kind) (sym (who_is s keeps k)) ∙ h.permitted
+
+    short : nat_le (1024 * h.node.pages) r.offset ≡ false
+    short = elim (leb_tells (1024 * h.node.pages) r.offset) [
+      | inl e ↦ (let le = e.1 in let lt = h.within in absurd (omega (arith, le, lt)))
+      | inr m ↦ m.0
+    ]
+
+    -- it lacks a record alone
+    pub lacks : lacks_record s.plan t k r.offset r.kind h.node ≡ true
+    lacks = rw (permitted, short, same, stores, unspent, full) refl
+
+    known : known_uid t k r.number ≡ Some u
+    known = ap (λ (x : List (List (Option ℕ))). uid_of (kst_at x k) r.number) keeps.faithful.known ∙ h.stands
+
+    there : node_in t.nodes u ≡ Some h.node
+    there = ap (λ (ns : List Node). node_in ns u) keeps.faithful.tree.nodes ∙ h.there
+
+    -- it isn't refused before its page is looked at
+    pub inside : IsInside s k r u
+    inside = record {
+      known = known;
+      node = h.node;
+      there = there;
+      permitted = permitted;
+      within = h.within;
+    }
+
+    its : is_uid (Some u) u ≡ true
+    its = elim (eqb_tells u u) [ inl e ↦ e.0 | inr n ↦ absurd (n.1 refl) ]
+
+    pub awaits : awaits_by s.plan t k u (Some r) ≡ true
+    awaits = ap (λ (x : Option ℕ). is_uid x u && lacks_at s.plan t k r.offset r.kind (node_in t.nodes u)) known
+        ∙ (ap (λ (b : Bool). b && lacks_at s.plan t k r.offset r.kind (node_in t.nodes u)) its
+        ∙ (ap (lacks_at s.plan t k r.offset r.kind) there ∙ lacks))
+
+-- ---- the flat store
+
+pub may_move : (s : State) (c k : ℕ) (cmd : Command) (m : Mover) → Keeps s → Speaks s c k cmd
+    → IsMovedFor s.store k m (next_command s k) → MayMove s.plan (flat_of s) k m.uid m.to.0
+unfolding awaits_move
+may_move s c k cmd m keeps sp h = record {
+  turn = turn_is s c k cmd sp;
+  going = (sp.runs k).ended ∙ sp.going;
+  awaits = ap (λ (n : ℕ). awaits_in s.plan (flat_of s) k m.uid (command_at s.plan k n)) (sp.runs k).place
+      ∙ (ap (awaits_in s.plan (flat_of s) k m.uid) sp.next
+      ∙ (ap (awaits_by s.plan (flat_of s) k m.uid) moves.is
+      ∙ awaits s keeps k m.uid moves.reference h.active moves.lacks));
+  first = first_room s keeps m.uid m.to.0 moves.first;
+}
+  where
+    moves : MovesFor (tables_of s.store) k m cmd
+    moves = subst (MovesForNext (tables_of s.store) k m) sp.next h.moves
+
+-- ---- custody
+
+pub may_rehome : (s : State) (k : ℕ) (m : Mover) (x : Option Command) → IsMovedFor s.store k m x
+    → MayRehome (shown (seen s)) m.uid
+may_rehome s k m x h = record {
+  active = h.active;
+  still = λ f q e. by f q ((seen s).bound f) ((seen s).reads f) refl e;
+}
+  where
+    bound : (page : ℕ × ℕ) (w : Ptw) (q : ℕ) → bound_use page w ≢ frame.Started m.uid q
+    bound page ptw.Null q e = let no : frame.Current page.0 page.1 ≡ frame.Started m.uid q = e in cc
+    bound page (ptw.Out r) q e = let no : frame.Current page.0 page.1 ≡ frame.Started m.uid q = e in cc
+    bound page (ptw.Here f) q e = let no : frame.Current page.0 page.1 ≡ frame.Started m.uid q = e in cc
+    bound page (ptw.Leaving f) q e = let no : frame.Going page.0 page.1 ≡ frame.Started m.uid q = e in cc
+
+    by : (f q : ℕ) (b y : Option (ℕ × ℕ)) → (seen s).reads f ≡ y
+        → frame_use (seen s).words b y ≡ frame.Started m.uid q → ⊥
+    by f q (Some page) y e i = bound page ((seen s).words page.0 page.1) q i
+    by f q None None e i = let no : frame.Free ≡ frame.Started m.uid q = i in cc
+    by f q None (Some page) e i = h.unread.none f q (e ∙ (let is : frame.Started page.0 page.1
+        ≡ frame.Started m.uid q = i in let u : page.0 ≡ m.uid = cc in let p : page.1 ≡ q = cc in λ j. Some (u j, p j)))

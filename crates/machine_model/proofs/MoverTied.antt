@@ -1,0 +1,319 @@
+-- The move that segment control has under way is that of the supervisor's owner, after each action.
+use Rattle.std.proofs.Common.{◌≡◌, ℕ, Bool, true, false, cond, eqb, not, ◌&&◌, List, [], ◌∷◌, position, Option, Some}
+use Rattle.std.proofs.Common.{None}
+use Rattle.std.proofs.Common.{refl, sym, ap, subst, ◌∙◌}
+use Rattle.std.proofs.lemmas.Bool.{cond_both}
+use Rattle.script.specs.References.{reference_of}
+use Rattle.script.specs.declared.commands.Command.{Command}
+use Rattle.script.specs.declared.commands.Command.TheVariants as command
+use Rattle.script.specs.declared.commands.Reference.{Reference}
+use Rattle.assoc_mem.specs.declared.What.{What}
+use Rattle.assoc_mem.specs.declared.What.TheVariants as what
+use Rattle.page_table.specs.declared.Ptw.{Ptw}
+use Rattle.page_table.specs.declared.Ptw.TheVariants as ptw
+use Rattle.core_map.specs.CoreMap.{bound_page}
+use Rattle.page_control.specs.Effects.{erased}
+use Rattle.page_control.specs.Plain.{frame_in}
+use Rattle.processor.specs.declared.Move.{Move}
+use Rattle.processor.specs.declared.Move.TheVariants as move
+use Rattle.processor.specs.declared.Transfer.{Transfer}
+use Rattle.seg_control.specs.Control.{table_of}
+use Rattle.seg_control.specs.Moving.{next_out}
+use Rattle.machine_model.specs.declared.Aim.{Aim}
+use Rattle.machine_model.specs.declared.Aim.TheVariants as aim
+use Rattle.machine_model.specs.declared.CutDescriptor.{CutDescriptor}
+use Rattle.machine_model.specs.declared.Phase.{Phase}
+use Rattle.machine_model.specs.declared.Phase.TheVariants as phase
+use Rattle.machine_model.specs.declared.Processor.{Processor}
+use Rattle.machine_model.specs.Actions as act
+use Rattle.machine_model.specs.Actions.{action_of, by_move, clear_or, come_to, copy_or_commit, finish_of, go_on_with}
+use Rattle.machine_model.specs.Actions.{has_had_its_turn, is_empty, load_or_idle, look_of, once_cleared, own_or_run}
+use Rattle.machine_model.specs.Actions.{refer_or_take, run_process, take_or_wait, transfer_or}
+use Rattle.machine_model.specs.After.{Outcome, after}
+use Rattle.machine_model.specs.Commits.{committed, committed_at, frames_freed, with_deleted, with_effect}
+use Rattle.machine_model.specs.Commits.{with_truncated}
+use Rattle.machine_model.specs.Commits.{without_page}
+use Rattle.machine_model.specs.Jobs.{cut_all, cut_one, emptied, here_if, leaving_if, owner_signalled}
+use Rattle.machine_model.specs.Jobs.{page_back, page_done, pages_back, seg_back, seg_gone, segment_taken, segs_back}
+use Rattle.machine_model.specs.Jobs.{segs_gone, take_all, take_one, took, with_choice, with_hand_moved, with_here}
+use Rattle.machine_model.specs.Jobs.{with_inactive, without_first_frame, write_failed, phase_signalled, eviction_done}
+use Rattle.machine_model.specs.Movers.{AsksMover, mover_in, mover_of}
+use Rattle.machine_model.specs.Moves.{copy_failed, page_copied}
+use Rattle.machine_model.specs.Promise.{IsMachine}
+use Rattle.machine_model.specs.Reads.{cut_of_owner, frames_from, frames_of_owner, home_in, is_active, is_due}
+use Rattle.machine_model.specs.Reads.{next_command}
+use Rattle.machine_model.specs.Reads.{process_at, processor_at, trailers_in}
+use Rattle.machine_model.specs.Refusal.{uid_of_command}
+use Rattle.machine_model.specs.State.{Owner, State, Storage}
+use Rattle.machine_model.specs.Steps.{fault_told, with_pages, with_store, with_faults, transferred, transfer_failed}
+use Rattle.machine_model.proofs.ActionCases.{action_by}
+use Rattle.machine_model.proofs.EffectLaws.{effect_has, truncated_has}
+use Rattle.machine_model.proofs.LookLaws.{IsLook, look_is}
+
+-- ---- what the rules know
+
+take_asks : (x : Option Owner) → AsksMover (take_or_wait x) (mover_of x)
+take_asks None = refl
+take_asks (Some o) = tt
+
+move_asks : (x : Option Owner) (r : Reference) (y : Move) → AsksMover (by_move x r y) (mover_of x)
+move_asks x r move.FillSeg = tt
+move_asks x r (move.FillPage f) = tt
+move_asks x r (move.Through f) = tt
+move_asks x r (move.Plain answer) = tt
+move_asks x r move.Fault = take_asks x
+
+look_asks : (s : State) (a : act.Action) → IsLook s a → AsksMover a None
+look_asks s (act.Waits why) h = tt
+look_asks s (act.Answer r) h = refl
+look_asks s act.GiveUp h = refl
+look_asks s (act.Activate u place) h = refl
+look_asks s (act.Connect n u) h = refl
+look_asks s (act.Create f u p r) h = refl
+look_asks s (act.Start f u p) h = refl
+look_asks s (act.Evict f) h = refl
+look_asks s (act.Empty u) h = refl
+look_asks s (act.EmptyVictim pool chain u) h = refl
+look_asks s (act.TakeAway fs pairs w) h = refl
+look_asks s (act.BeginMove u volume) h = refl
+look_asks s act.Commit h = refl
+look_asks s _ h = absurd h
+
+finish_asks : (a : Aim) (fs : List ℕ) → AsksMover (finish_of a fs) None
+finish_asks aim.Evicting [] = refl
+finish_asks aim.Evicting (f ∷ fs) = refl
+finish_asks (aim.Deactivating u) [] = refl
+finish_asks (aim.Deactivating u) (f ∷ fs) = refl
+finish_asks aim.Committing fs = refl
+
+module _ (s : State) (c : ℕ) where
+  abbrev Fits : act.Action → Type 0
+  Fits a = AsksMover a (mover_of s.owner)
+
+  abbrev p : Processor
+  p = processor_at s.processors c
+
+  come_asks : (k : ℕ) (x : Option Command) → Fits (come_to s p.cpu k x)
+  come_asks k None = take_asks s.owner
+  come_asks k (Some cmd) = by (reference_of cmd)
+    where
+      by : (r : Option Reference) → Fits (refer_or_take s p.cpu k r)
+      by None = take_asks s.owner
+      by (Some r) = move_asks s.owner r (act.move_of s p.cpu k r)
+
+  load_asks : (x : List ℕ) → Fits (load_or_idle s x)
+  load_asks [] = tt
+  load_asks (k ∷ ks) = tt
+
+  run_asks : (x : Option ℕ) → Fits (run_process s p x)
+  run_asks None = load_asks s.ready
+  run_asks (Some k) = cond_both (has_had_its_turn p && not (is_empty s.ready)) act.Leave _ Fits (λ h. tt)
+      (λ h. come_asks k (next_command s k))
+
+  go_asks : (k : ℕ) (o : Owner) (x : Phase) → AsksMover (go_on_with s k o x) (mover_in x)
+  go_asks k o phase.Looking = look_asks s (look_of s k (next_command s k)) (look_is s k (next_command s k))
+  go_asks k o (phase.Taken a w) = refl
+  go_asks k o (phase.Waiting a w) = by (position is_due s.processors)
+    where
+      by : (x : Option ℕ) → AsksMover (once_cleared x (finish_of a o.frames)) None
+      by None = finish_asks a o.frames
+      by (Some d) = tt
+  go_asks k o (phase.Moving m) = by (next_out (table_of s.store.ast m.uid) m.next)
+    where
+      by : (x : Option ℕ) → AsksMover (copy_or_commit m x) (Some m)
+      by (Some q) = refl
+      by None = refl
+
+  own_asks : (x : Option Owner) → s.owner ≡ x → Fits (own_or_run s c p x)
+  own_asks None e = run_asks p.cpu.process
+  own_asks (Some o) e = cond_both (eqb o.cpu c) _ _ Fits
+      (λ h. subst (AsksMover (go_on_with s (process_at s c) o o.phase)) (sym (ap mover_of e))
+      (go_asks (process_at s c) o o.phase))
+      (λ h. run_asks p.cpu.process)
+
+  transfer_asks : (x : Option Transfer) → Fits (transfer_or s c p x)
+  transfer_asks (Some t) = tt
+  transfer_asks None = own_asks s.owner refl
+
+  clear_asks : (x : Option What) → Fits (clear_or s c p x)
+  clear_asks (Some w) = tt
+  clear_asks None = transfer_asks p.cpu.transfer
+
+  -- the action of a step is one of the move that the owner makes, or one that no move excludes
+  pub action_asks : AsksMover (action_of s c) (mover_of s.owner)
+  action_asks = action_by Fits s c tt tt (λ off. tt) (λ on. clear_asks p.cpu.due)
+
+-- An action that a move excludes is done where segment control has none under way, and a step of a move is one of the
+-- move that it has.
+pub moving_fits : (s : State) (c : ℕ) (a : act.Action) → IsMachine s → action_of s c ≡ a → AsksMover a s.store.moving
+moving_fits s c a m is = subst (λ (x : act.Action). AsksMover x s.store.moving) is
+    (subst (AsksMover (action_of s c)) (sym m.moving) (action_asks s c))
+
+-- by the phase of the owner; and where nobody owns the supervisor
+pub moving_by : (s : State) (o : Owner) (x : Phase) → IsMachine s → s.owner ≡ Some o → o.phase ≡ x
+    → s.store.moving ≡ mover_in x
+moving_by s o x m mine is = m.moving ∙ (ap mover_of mine ∙ ap mover_in is)
+
+pub moving_none : (s : State) → IsMachine s → s.owner ≡ None → s.store.moving ≡ None
+moving_none s m free = m.moving ∙ ap mover_of free
+
+-- ---- no move is under way
+
+record IsStill (s : State) : Type 0 where
+  pub moving : s.store.moving ≡ None
+  pub owner : mover_of s.owner ≡ None
+
+still : {s : State} → s.store.moving ≡ None → mover_of s.owner ≡ None → IsStill s
+still moving owner = record { moving = moving; owner = owner }
+
+pub leaving_moving : (st : Storage) (f : ℕ) (x : Option (ℕ × ℕ)) → (leaving_if st f x).moving ≡ st.moving
+leaving_moving st f None = refl
+leaving_moving st f (Some page) = refl
+
+pub here_moving : (st : Storage) (f : ℕ) → (with_here st f).moving ≡ st.moving
+here_moving st f = by (bound_page (frame_in st.pages f))
+  where
+    by : (x : Option (ℕ × ℕ)) → (here_if st f x).moving ≡ st.moving
+    by None = refl
+    by (Some page) = refl
+
+taken : (s : State) (c : ℕ) (a : Aim) (w : What) (fs : List ℕ) → IsStill s → IsStill (take_all s c a w fs)
+taken s c a w [] h = h
+taken s c a w (f ∷ fs) h = taken (take_one s c a w f) c a w fs
+    (still (leaving_moving s.store f (bound_page (frame_in s.store.pages f)) ∙ h.moving) refl)
+
+all_cut : (s : State) (c : ℕ) (a : Aim) (w : What) (pairs : List (ℕ × ℕ)) → IsStill s
+    → IsStill (cut_all s c a w pairs)
+all_cut s c a w [] h = h
+all_cut s c a w (x ∷ xs) h = all_cut (cut_one s c a w x) c a w xs (still h.moving refl)
+
+all_taken : (s : State) (c : ℕ) (a : Aim) (w : What) (fs : List ℕ) (pairs : List (ℕ × ℕ)) → IsStill s
+    → IsStill (took s c a w fs pairs)
+all_taken s c a w fs pairs h = all_cut (take_all s c a w fs) c a w pairs (taken s c a w fs h)
+
+segs_moving : (s : State) (ds : List CutDescriptor) → (segs_gone s ds).store.moving ≡ s.store.moving
+segs_moving s [] = refl
+segs_moving s (d ∷ ds) = segs_moving (seg_gone s d) ds
+
+is_emptied : (s : State) (c u : ℕ) → IsStill s → IsStill (emptied s c u)
+is_emptied s c u h = still (segs_moving s (cut_of_owner s.owner) ∙ h.moving) refl
+
+segment : (s : State) (c u : ℕ) (fs : List ℕ) (pairs : List (ℕ × ℕ)) → IsStill s
+    → IsStill (segment_taken s c u fs pairs)
+segment s c u [] [] h = is_emptied s c u h
+segment s c u [] (x ∷ xs) h = all_taken s c (aim.Deactivating u) (what.Seg u) [] (x ∷ xs) h
+segment s c u (f ∷ fs) pairs h = all_taken s c (aim.Deactivating u) (what.Seg u) (f ∷ fs) pairs h
+
+signalled_mover : (x : Option Owner) → mover_of (owner_signalled x) ≡ mover_of x
+signalled_mover None = refl
+signalled_mover (Some o) = by o.phase
+  where
+    by : (x : Phase) → mover_in (phase_signalled x) ≡ mover_in x
+    by phase.Looking = refl
+    by (phase.Taken a w) = refl
+    by (phase.Waiting a w) = refl
+    by (phase.Moving m) = refl
+
+fewer_mover : (x : Option Owner) → mover_of (without_first_frame x) ≡ mover_of x
+fewer_mover None = refl
+fewer_mover (Some o) = refl
+
+-- ---- a write failed
+
+pages_moving : (s : State) (fs : List ℕ) → (pages_back s fs).store.moving ≡ s.store.moving
+pages_moving s [] = refl
+pages_moving s (f ∷ fs) = pages_moving (page_back s f) fs ∙ here_moving s.store f
+
+back_moving : (s : State) (ds : List CutDescriptor) → (segs_back s ds).store.moving ≡ s.store.moving
+back_moving s [] = refl
+back_moving s (d ∷ ds) = back_moving (seg_back s d) ds
+
+failed : (s : State) (c faults : ℕ) → IsStill s → IsStill (write_failed s c faults)
+failed s c faults h = still
+    (back_moving (pages_back (fault_told s (Some (process_at s c)) faults) (frames_of_owner s.owner))
+    (cut_of_owner s.owner)
+    ∙ (pages_moving (fault_told s (Some (process_at s c)) faults) (frames_of_owner s.owner) ∙ h.moving)) refl
+
+-- ---- a command takes effect
+
+page_cut : (st : Storage) (u p : ℕ) (w : Ptw) → (without_page st u p w).moving ≡ st.moving
+page_cut st u p ptw.Null = refl
+page_cut st u p _ = refl
+
+truncated : (st : Storage) (u words : ℕ) → (with_truncated st u words).moving ≡ st.moving
+truncated st u words = truncated_has (λ t. t.moving ≡ st.moving) (record {
+  without = λ t u p w h. page_cut t u p w ∙ h;
+  shortened = λ t f at h. h;
+  here = λ t f u p h. h;
+}) st u words refl
+
+deleted : (st : Storage) (u : ℕ) (frames : List ℕ) → (with_deleted st u frames).moving ≡ st.moving
+deleted st u frames = by (is_active st.ast u)
+  where
+    by : (b : Bool) → (cond b (with_inactive (with_pages st (erased (frames_freed st.pages frames) (home_in st u))) u)
+        (with_pages st (erased (frames_freed st.pages frames) (home_in st u)))).moving ≡ st.moving
+    by true = refl
+    by false = refl
+
+effect : (st : Storage) (k u : ℕ) (frames : List ℕ) (c : Command) → (with_effect st k u frames c).moving ≡ st.moving
+effect st k u frames c = effect_has (λ t. t.moving ≡ st.moving) st k u frames c (λ accounts links. refl)
+    (λ n. refl) (λ words. truncated st u words) (deleted st u frames)
+
+commits : (s : State) (c : ℕ) (x : Option Command) → IsStill s → IsStill (committed_at s c x)
+commits s c None h = h
+commits s c (Some cmd) h = by cmd
+    (effect s.store (process_at s c) (uid_of_command s.store (process_at s c) cmd) (frames_of_owner s.owner) cmd)
+  where
+    by : (x : Command)
+        → (with_effect s.store (process_at s c) (uid_of_command s.store (process_at s c) x) (frames_of_owner s.owner)
+        x).moving ≡ s.store.moving
+        → IsStill (committed s c (process_at s c) x)
+    by command.End e = still (e ∙ h.moving) refl
+    by _ e = still (e ∙ h.moving) refl
+
+-- ---- each action
+
+-- the tie, as it is kept
+abbrev pub IsTied : State → Type 0
+IsTied s = s.store.moving ≡ mover_of s.owner
+
+tied : {s : State} → IsStill s → IsTied s
+tied h = h.moving ∙ sym h.owner
+
+tied_either : (b : Bool) (x y : State) → IsTied x → IsTied y → IsTied (cond b y x)
+tied_either true x y a b = b
+tied_either false x y a b = a
+
+module _ (s : State) (c : ℕ) (o : Outcome) (h : IsTied s) where
+  idle : mover_of s.owner ≡ None → IsStill s
+  idle none = still (h ∙ none) none
+
+  pub tie_kept : (a : act.Action) → AsksMover a (mover_of s.owner) → IsTied (after s c a o)
+  unfolding after
+  tie_kept (act.EndTransfer t) asks = tied_either o.failed (transferred (with_faults s o.faults) c t)
+      (transfer_failed s c t o.faults) h h
+  tie_kept act.TakeSupervisor asks = h ∙ asks
+  tie_kept (act.Answer r) asks = h ∙ asks
+  tie_kept act.GiveUp asks = h ∙ asks
+  tie_kept (act.Create f u p r) asks = h ∙ asks
+  tie_kept (act.Start f u p) asks = h ∙ asks
+  tie_kept (act.Evict f) asks = tied (taken (with_store s (with_choice s.store f)) c aim.Evicting (what.Page f)
+      (f ∷ []) (still (h ∙ asks) asks))
+  tie_kept (act.Empty u) asks = tied (segment s c u (frames_from s.store.ast u 0) (trailers_in s.store u) (idle asks))
+  tie_kept (act.EmptyVictim pool chain u) asks = tied
+      (segment (with_store s (with_hand_moved s.store pool chain)) c u
+      (frames_from (with_store s (with_hand_moved s.store pool chain)).store.ast u 0)
+      (trailers_in (with_store s (with_hand_moved s.store pool chain)).store u) (still (h ∙ asks) asks))
+  tie_kept (act.TakeAway fs pairs w) asks = tied (all_taken s c aim.Committing w fs pairs (idle asks))
+  tie_kept (act.BeginMove u volume) asks = refl
+  tie_kept (act.CopyPage m p) asks = tied_either o.failed (page_copied (with_faults s o.faults) c m p)
+      (copy_failed s c o.faults) refl refl
+  tie_kept (act.CommitMove m) asks = refl
+  tie_kept (act.Signal w) asks = h ∙ sym (signalled_mover s.owner)
+  tie_kept (act.FinishEviction f) asks = tied_either o.failed (eviction_done (with_faults s o.faults) c f)
+      (write_failed s c o.faults) (h ∙ asks) (tied (failed s c o.faults (idle asks)))
+  tie_kept (act.FinishPage f) asks = tied_either o.failed (page_done (with_faults s o.faults) f)
+      (write_failed s c o.faults) (h ∙ sym (fewer_mover s.owner)) (tied (failed s c o.faults (idle asks)))
+  tie_kept (act.Deactivate u) asks = tied (is_emptied s c u (idle asks))
+  tie_kept act.Commit asks = tied (commits s c (next_command s (process_at s c)) (idle asks))
+  tie_kept _ asks = h

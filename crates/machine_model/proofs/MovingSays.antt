@@ -1,0 +1,61 @@
+-- What the store says after each step of a move, by what its calls say of it.
+use Rattle.std.proofs.Common.{◌≡◌, ℕ, Bool, true, false, cond, Some, refl, sym, ap}
+use Rattle.std.proofs.Common.{subst, ◌∙◌, None}
+use Rattle.std.proofs.lemmas.List.{length-map}
+use Rattle.book.specs.declared.entries.Entry.TheVariants as entry
+use Rattle.book.specs.declared.replies.Reply.TheVariants as reply
+use Rattle.tree_model.specs.Trees.{IsTree}
+use Rattle.flat_model.specs.Legal.{IsLawful, after_entry}
+use Rattle.flat_model.specs.Moves.{MayMove, moved}
+use Rattle.flat_model.proofs.BookLaws.{store_after-push}
+use Rattle.flat_model.proofs.QuotaTotals.{entry_total}
+use Rattle.page_control.specs.Moves.{modified_of}
+use Rattle.seg_mover.specs.declared.Mover.{Mover}
+use Rattle.machine_model.specs.Actions as act
+use Rattle.machine_model.specs.After.{Outcome, after}
+use Rattle.machine_model.specs.Keeps.{Keeps, StoreSays}
+use Rattle.machine_model.specs.Moves.{copy_failed, move_begun, move_committed, page_copied, without_move}
+use Rattle.machine_model.specs.Reads.{flat_of, process_at, run_at}
+use Rattle.machine_model.specs.Said.{Says}
+use Rattle.machine_model.specs.State.{State}
+use Rattle.machine_model.specs.Steps.{fault_told, with_faults, with_store}
+use Rattle.machine_model.proofs.FlatAlike.{alike, alike_by, alike_on, fault_alike, refused_alike}
+use Rattle.machine_model.proofs.SaysLaws.{none_rest, says_is}
+
+module _ (s : State) (c : ℕ) (o : Outcome) (k : Keeps s) where
+  pub begun_says : (u volume : ℕ) → Says s c o (act.BeginMove u volume) → StoreSays (move_begun s c u volume)
+  unfolding after
+  begun_says u volume says = says_is s c o (act.BeginMove u volume) (move_begun s c u volume) k says refl
+      (alike (flat_of s)) k.conserved.total (none_rest s (move_begun s c u volume) refl refl refl)
+
+  pub copied_says : (m : Mover) (p : ℕ) → Says s c o (act.CopyPage m p) → o.failed ≡ false
+      → StoreSays (page_copied (with_faults s o.faults) c m p)
+  unfolding after
+  copied_says m p says h = says_is s c o (act.CopyPage m p) now k says
+      (ap (λ (b : Bool). cond b (copy_failed s c o.faults) now) h) (alike (flat_of s)) k.conserved.total
+      (none_rest s now refl refl refl)
+    where
+      now : State
+      now = page_copied (with_faults s o.faults) c m p
+
+  pub copy_failed_says : (m : Mover) (p : ℕ) → Says s c o (act.CopyPage m p) → o.failed ≡ true
+      → StoreSays (copy_failed s c o.faults)
+  unfolding after
+  copy_failed_says m p says h = says_is s c o (act.CopyPage m p) (copy_failed s c o.faults) k says
+      (ap (λ (b : Bool). cond b (copy_failed s c o.faults) (page_copied (with_faults s o.faults) c m p)) h)
+      (alike_on (fault_alike s.plan s.entries (Some (process_at s c)))
+      (refused_alike s.plan failing.entries (process_at s c) (run_at s.runs (process_at s c)).place c None reply.Device
+      refl)) k.conserved.total (none_rest s (copy_failed s c o.faults) refl refl refl)
+    where
+      failing : State
+      failing = fault_told (with_store s (without_move s.store)) (Some (process_at s c)) o.faults
+
+  pub moved_says : (m : Mover) → Says s c o (act.CommitMove m)
+      → MayMove s.plan (flat_of s) (process_at s c) m.uid m.to.0 → StoreSays (move_committed s c m)
+  unfolding after after_entry IsLawful
+  moved_says m says may = says_is s c o (act.CommitMove m) (move_committed s c m) k says refl
+      (alike_by (alike (moved (flat_of s) m.uid m.to.0)) (store_after-push s.plan s.entries
+      (entry.Moved (process_at s c) m.uid m.to.0)))
+      (entry_total s.plan (flat_of s) (entry.Moved (process_at s c) m.uid m.to.0)
+      (subst IsTree (sym k.faithful.tree.nodes) k.store.accounts.tree) may ∙ k.conserved.total)
+      (none_rest s (move_committed s c m) refl (length-map s.store.pages.core.frames (modified_of m.uid)) refl)
