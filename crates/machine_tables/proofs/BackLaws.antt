@@ -1,5 +1,5 @@
 -- What the owner took comes back, one after the other, or is gone.
-use Rattle.std.proofs.Common.{◌≡◌, ◌+◌, ◌-◌, ◌≤◌, ℕ, List, ◌∷◌, length, Option, Some, refl, sym, ap}
+use Rattle.std.proofs.Common.{◌≡◌, ◌+◌, ◌-◌, ◌≤◌, ℕ, List, ◌∷◌, length, Option, Some, None, refl, sym, ap}
 use Rattle.std.proofs.Common.{subst, ◌∙◌, arith}
 use Rattle.std.specs.Prelude.{slice_get}
 use Rattle.machine_model.specs.declared.CutDescriptor.{CutDescriptor}
@@ -10,6 +10,7 @@ use Rattle.machine_model.specs.State.{Owner, State}
 use Rattle.machine_tables.specs.Owned.{HasOwner}
 use Rattle.machine_tables.specs.Parts.{KeepsSeats}
 use Rattle.machine_model.specs.Returned.{MayComeBack, MayRelink}
+use Rattle.machine_model.proofs.MoverTied.{here_moving}
 use Rattle.machine_tables.proofs.JobLaws.{cut_same, cuts_after, frames_next}
 use Rattle.machine_tables.proofs.JobLaws.{owner_left}
 use Rattle.machine_tables.proofs.JobLaws.{owner_less}
@@ -45,6 +46,7 @@ pub record BacksOn (now first : State) : Type 0 where
   pub may : MayComeBack now.store (frames_of_owner now.owner)
   pub seats : KeepsSeats first now
   pub cut : cut_of_owner now.owner ≡ cut_of_owner first.owner
+  pub still : now.store.moving ≡ None
 
 pub backs_next : (s t first : State) (f : ℕ) → BacksOn s first → Some f ≡ slice_get (frames_of_owner s.owner) 0
     → t ≡ page_back s f → KeepsSeats first t → BacksOn t first
@@ -60,6 +62,7 @@ backs_next s t first f on h is seats =
           (subst (MayComeBack s.store) next on.may).1;
       seats = seats;
       cut = ap (λ (x : State). cut_of_owner x.owner) is ∙ cut_same s.owner ∙ on.cut;
+      still = ap (λ (x : State). x.store.moving) is ∙ here_moving s.store f ∙ on.still;
     }
 
 -- ---- descriptors come back

@@ -292,6 +292,7 @@ module _ {D : Type 0} (drive : D → List (List ℕ)) (t u : Stored D) (path : L
         ast = erased_it.ast i;
         links = links_left n frames p flat faithful now erased_it.pages i;
         whos = rest.whos i;
+        moving = rest.moving i;
       })
       ∙ sym (ap (λ (x : Storage). record x { accounts = lost t.accounts n.uid }) (inactive_rest next n.uid))
 

@@ -107,14 +107,15 @@ module _ {D : Type 0} (pages : D → List (List ℕ)) (p : Plan) (v : Vols D)
   pub store_first : (t : Stored D) → t.accounts ≡ root_alone 0 0 p.quota
       → plain pages t.segs.pages ≡ after_asked (plain pages (empty_frames p.frames v)) 0 1 (Some 0)
       → t.segs.ast ≡ no_segments p.pools → t.segs.links ≡ no_links (sum p.pools) (length p.processes)
-      → t.whos ≡ map (λ x. x.who) p.processes
+      → t.whos ≡ map (λ x. x.who) p.processes → t.segs.moving ≡ None
       → shown pages t ≡ first_store p (first_words p.frames) (map pages v.drives)
-  store_first t accounts paged ast links whos = λ i. record {
+  store_first t accounts paged ast links whos still = λ i. record {
     accounts = accounts i;
     pages = (paged ∙ pages_first) i;
     ast = ast i;
     links = links i;
     whos = whos i;
+    moving = still i;
   }
 
 -- ---- what it says
@@ -182,6 +183,7 @@ module _ (p : Plan) (words : List (List ℕ)) (disks : List (List (List ℕ))) (
       come = come_first booting.machine.come;
       scheduled = booting.machine.scheduled;
       pools = refl;
+      moving = refl;
     };
     entitled = booting.entitled;
     reading = booting.reading;

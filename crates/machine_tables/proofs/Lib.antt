@@ -29,6 +29,7 @@ pub mod LinkLaws
 pub mod LookLaws
 pub mod MakeLaws
 pub mod MoveLaws
+pub mod NextOut
 pub mod OrderLaws
 pub mod PageLaws
 pub mod PartLaws

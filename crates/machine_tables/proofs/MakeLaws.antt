@@ -121,6 +121,7 @@ module _ {D : Type 0} (drive : D → List (List ℕ)) (t u : Stored D) (before :
     ast = ap (λ (x : Stored D). x.segs.ast) rest i;
     links = ap (λ (x : Stored D). x.segs.links) rest i;
     whos = ap (λ (x : Stored D). x.whos) rest i;
+    moving = ap (λ (x : Stored D). x.segs.moving) rest i;
   })
 
 module _ {D : Type 0} (drive : D → List (List ℕ)) (t u : Stored D) (before : HasColumns t.accounts)

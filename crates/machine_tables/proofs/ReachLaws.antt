@@ -5,6 +5,7 @@ use Rattle.std.proofs.Common.{ap, subst, ◌∙◌, arith}
 use Rattle.std.specs.Prelude.{◌/◌}
 use Rattle.script.specs.declared.commands.Reference.{Reference}
 use Rattle.tree_model.specs.Tree.{Node, node_in, pool_of}
+use Rattle.tree_model.specs.Trees.{has_segment}
 use Rattle.descriptor_seg.specs.declared.Sdw.{Sdw}
 use Rattle.descriptor_seg.specs.declared.Sdw.TheVariants as sdw
 use Rattle.active_segs.specs.Active.{IsActive, uid_at}
@@ -12,6 +13,7 @@ use Rattle.seg_control.specs.Control.{leads, place_of, table_of}
 use Rattle.seg_control.specs.Kept.{IsKept}
 use Rattle.storage_ops.specs.Shown.{is_there, pages_of}
 use Rattle.storage_ops.proofs.PageFacts.{directory_found, room_of}
+use Rattle.storage_ops.proofs.Refusals.{long_segment}
 use Rattle.machine_model.specs.Actions.{look_at_descriptor, look_at_page}
 use Rattle.machine_model.specs.Keeps.{Keeps}
 use Rattle.machine_model.specs.Reads.{descriptor_of, is_connected, or_zero}
@@ -45,6 +47,10 @@ module _ (s : State) (k : ℕ) (r : Reference) (keeps : Keeps s) (within : outsi
   -- its segment is there
   pub segment_there : is_there s.store.accounts.nodes u ≡ true
   segment_there = ap is_some its_node
+
+  pub segment_is : has_segment s.store.accounts.nodes u ≡ true
+  segment_is = long_segment s.store.accounts s.store.pages.vtocs keeps.store.counted.counted u r.offset inside.node
+      its_node inside.within
 
   -- its page has a word in the page table
   pub page_there : IsActive s.store.ast.entries u → r.offset / 1024 < length (table_of s.store.ast u)

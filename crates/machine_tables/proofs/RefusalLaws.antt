@@ -1,5 +1,5 @@
 -- What the store refuses is what the model refuses by the flat store after the book.
-use Rattle.std.proofs.Common.{◌≡◌, ℕ, List, Option, None, refl, ap}
+use Rattle.std.proofs.Common.{◌≡◌, ℕ, cond, List, Option, None, refl, ap}
 use Rattle.script.specs.Plans.{Plan}
 use Rattle.script.specs.References.{reference_of}
 use Rattle.script.specs.declared.commands.Command.{Command}
@@ -7,7 +7,9 @@ use Rattle.script.specs.declared.commands.Reference.{Reference}
 use Rattle.book.specs.declared.replies.Reply.{Reply}
 use Rattle.book.specs.declared.replies.Reply.TheVariants as reply
 use Rattle.flat_model.specs.Commands.{reply_by, reply_to_command}
-use Rattle.flat_model.specs.References.{reply_to_reference}
+use Rattle.tree_model.specs.Tree.{volume_in}
+use Rattle.flat_model.specs.References.{is_volume_full, reply_to_reference}
+use Rattle.flat_model.specs.Rooms.{room_for}
 use Rattle.flat_model.specs.Store.{Store}
 use Rattle.storage_ops.specs.References as stored
 use Rattle.storage_ops.specs.Shown.{Shows, Storage as Stored, refusal}
@@ -16,6 +18,13 @@ use Rattle.machine_model.specs.Reads.{flat_of}
 use Rattle.machine_model.specs.Refusal as model
 use Rattle.machine_model.specs.State.{State}
 use Rattle.machine_tables.specs.Parts.{shown}
+
+-- where a segment moves to before a page more of it is made
+pub moves_is : (s : State) (u : ℕ)
+    → cond (is_volume_full s.plan (flat_of s) (volume_in (flat_of s).nodes u)) (room_for s.plan (flat_of s) u) None
+    ≡ model.move_to s u
+unfolding model.move_to
+moves_is s u = refl
 
 pub shows_of : {D : Type 0} (drive : D → List (List ℕ)) (p : Plan) (t : Store) (st : Stored D)
     → IsFaithful p t (shown drive st) → Shows drive p t st

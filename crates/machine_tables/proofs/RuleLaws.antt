@@ -1,12 +1,19 @@
 -- The rules of a step, in their order.
-use Rattle.std.proofs.Common.{◌≡◌, ℕ, true, false, List, Option, Some, None, refl, subst}
+use Rattle.std.proofs.Common.{◌≡◌, ◌≤◌, ℕ, true, false, length, List, Option, Some, None, refl, ap, subst, ◌∙◌}
 use Rattle.std.specs.Prelude.{IfNone, IsSome}
 use Rattle.machine_model.specs.Actions as act
 use Rattle.machine_model.specs.Actions.{action_of, is_over}
+use Rattle.active_segs.specs.Active.{IsActive}
+use Rattle.seg_mover.specs.declared.Mover.{Mover}
+use Rattle.seg_control.specs.Control.{table_of}
 use Rattle.machine_model.specs.Keeps.{Keeps}
+use Rattle.machine_model.specs.Movers.{mover_in, mover_of}
 use Rattle.machine_model.specs.Reads.{cpu_at, processor_at}
 use Rattle.machine_model.specs.State.{State}
 use Rattle.machine_model.specs.declared.CutDescriptor.{CutDescriptor}
+use Rattle.machine_model.specs.declared.Phase.TheVariants as phase
+use Rattle.machine_model.proofs.ListSizes.{table_few}
+use Rattle.machine_model.proofs.TransferKept.{active_at}
 use Rattle.machine_tables.specs.Meant.{rule_of}
 use Rattle.machine_tables.specs.Owned.{owner_by, owner_of}
 use Rattle.machine_tables.specs.declared.owner.Holder.{Holder}
@@ -33,3 +40,26 @@ owner_busy s c h frames cut keeps is here = subst (λ (d : ℕ). IsSome (cpu_at 
 pub if_none : {X : Type 0} {P : Type 0} (o : Option X) → P → IfNone o P
 if_none None p = p
 if_none (Some x) p = tt
+
+-- an owner that looks moves no segment
+pub looking_still : (s : State) (h : Holder) (frames : List ℕ) (cut : List CutDescriptor)
+    → s.store.moving ≡ mover_of s.owner → s.owner ≡ owner_of (Some h) frames cut → h.phase ≡ phase.Looking
+    → s.store.moving ≡ None
+looking_still s h frames cut moving is looks = moving ∙ (ap mover_of is ∙ ap mover_in looks)
+
+-- a segment that the owner moves is active
+pub moved_active : (s : State) (h : Holder) (frames : List ℕ) (cut : List CutDescriptor)
+    → s.store.moving ≡ mover_of s.owner
+    → ((m : Mover) → s.store.moving ≡ Some m → IsActive s.store.ast.entries m.uid)
+    → s.owner ≡ owner_of (Some h) frames cut → (m : Mover) → h.phase ≡ phase.Moving m
+    → IsActive s.store.ast.entries m.uid
+moved_active s h frames cut moving active is m moves = active m (moving ∙ (ap mover_of is ∙ ap mover_in moves))
+
+-- and its page table has 256 words at the most
+pub moved_short : (s : State) (keeps : Keeps s) (m : Mover) → IsActive s.store.ast.entries m.uid
+    → length (table_of s.store.ast m.uid) ≤ 256
+moved_short s keeps m active = table_few s m.uid keeps (active_at s.store.ast active.0 m.uid active.1)
+
+pub if_none_of : {X : Type 0} {P Q : Type 0} (o : Option X) → (P → Q) → IfNone o P → IfNone o Q
+if_none_of None f p = f p
+if_none_of (Some x) f p = tt

@@ -1,7 +1,7 @@
 -- Pages of a segment that are taken one after the other.
 use Rattle.std.proofs.Common.{◌≡◌, ◌+◌, ◌<◌, ◌≤◌, ℕ, true, List, [], ◌∷◌, ◌++◌, length}
 use Rattle.std.proofs.Common.{drop, set}
-use Rattle.std.proofs.Common.{Option, Some, refl, sym, ap, ◌∙◌, arith, inl, inr, length-append, subst}
+use Rattle.std.proofs.Common.{Option, Some, None, refl, sym, ap, ◌∙◌, arith, inl, inr, length-append, subst}
 use Rattle.std.proofs.lemmas.Bool.{cases_lt}
 use Rattle.std.proofs.lemmas.List.{drop-set-lt, drop_more, get_or-set_same, get_or_past, length-set}
 use Rattle.std.proofs.Math.ListN.{drop_of_length-le}
@@ -22,6 +22,7 @@ use Rattle.machine_model.specs.Jobs.{leaving_if, page_in, page_or_zero, take_all
 use Rattle.machine_model.specs.Reads.{frames_from, frames_in, frames_of_owner, here_in}
 use Rattle.machine_model.specs.State.{State, Storage}
 use Rattle.machine_model.specs.Steps.{with_word}
+use Rattle.machine_model.proofs.MoverTied.{leaving_moving}
 use Rattle.machine_model.proofs.TieLaws.{none_some, page_is}
 use Rattle.machine_tables.specs.Owned.{HasOwner}
 use Rattle.machine_tables.specs.Taken.{LeavesPast}
@@ -105,6 +106,13 @@ pub past_taken : (s : State) (c : ℕ) (a : Aim) (w : What) (f u p : ℕ)
 past_taken s c a w f u p bound lt = subst (λ (st : Storage). LeavesPast s.store.ast st.ast u p)
     (left_in s.store f u p bound) (past_worded s.store.ast u p (Leaving f) lt)
 
+-- no segment moves while pages are taken
+takes_still : (s : State) (c : ℕ) (a : Aim) (w : What) (fs : List ℕ) → s.store.moving ≡ None
+    → (take_all s c a w fs).store.moving ≡ None
+takes_still s c a w [] h = h
+takes_still s c a w (f ∷ fs) h = takes_still (take_one s c a w f) c a w fs
+    (leaving_moving s.store f (bound_page (frame_in s.store.pages f)) ∙ h)
+
 -- so far as the pages of a segment are taken from a number on, the rest leads to the same
 pub record TakesOn (now first : State) (c : ℕ) (a : Aim) (w : What) (u p low : ℕ) : Type 0 where
   pub same : take_all now c a w (frames_from now.store.ast u p)
@@ -114,6 +122,7 @@ pub record TakesOn (now first : State) (c : ℕ) (a : Aim) (w : What) (u p low :
   pub owner : HasOwner now.owner
   pub few : length (frames_of_owner now.owner) + length (frames_from now.store.ast u p) ≤ 256
   pub room : length (frames_from now.store.ast u p) ≤ now.spare
+  pub still : now.store.moving ≡ None
 
 -- what the next page asks
 pub here_few : (s first : State) (c : ℕ) (a : Aim) (w : What) (u p low : ℕ) → TakesOn s first c a w u p low
@@ -151,6 +160,7 @@ takes_next s t first c a w u p low on lt is past =
       owner = subst (λ (x : State). HasOwner x.owner) (sym is) (owner_still s c a w hs on.owner);
       few = omega (arith, count, less, few, more);
       room = omega (arith, count, less, room, spent, spare);
+      still = ap (λ (x : State). x.store.moving) is ∙ takes_still s c a w hs on.still;
     }
 
 pub takes_end : (s first : State) (c : ℕ) (a : Aim) (w : What) (u p low : ℕ) → TakesOn s first c a w u p low

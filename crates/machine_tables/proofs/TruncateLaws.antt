@@ -59,10 +59,11 @@ pub record KeepsOthers (old now : Storage) (uid : ℕ) : Type 0 where
   pub counts : (s : ℕ) → s ≢ uid → count_of now.accounts s ≡ count_of old.accounts s
   pub links : now.links ≡ old.links
   pub whos : now.whos ≡ old.whos
+  pub moving : now.moving ≡ old.moving
 
 keeps_same : (old now : Storage) (uid : ℕ) → now.accounts ≡ old.accounts → now.links ≡ old.links → now.whos ≡ old.whos
-    → KeepsOthers old now uid
-keeps_same old now uid accounts links whos = record {
+    → now.moving ≡ old.moving → KeepsOthers old now uid
+keeps_same old now uid accounts links whos moving = record {
   nodes = ap (λ (a : AccountMaps). a.nodes) accounts;
   entries = ap (λ (a : AccountMaps). a.entries) accounts;
   next = ap (λ (a : AccountMaps). a.next) accounts;
@@ -71,10 +72,11 @@ keeps_same old now uid accounts links whos = record {
   counts = λ s other. ap (λ (a : AccountMaps). count_of a s) accounts;
   links = links;
   whos = whos;
+  moving = moving;
 }
 
 keeps_all : (st : Storage) (uid : ℕ) → KeepsOthers st st uid
-keeps_all st uid = keeps_same st st uid refl refl refl
+keeps_all st uid = keeps_same st st uid refl refl refl refl
 
 keeps_both : (a b c : Storage) (uid : ℕ) → KeepsOthers a b uid → KeepsOthers b c uid → KeepsOthers a c uid
 keeps_both a b c uid x y = record {
@@ -86,14 +88,15 @@ keeps_both a b c uid x y = record {
   counts = λ s other. y.counts s other ∙ x.counts s other;
   links = y.links ∙ x.links;
   whos = y.whos ∙ x.whos;
+  moving = y.moving ∙ x.moving;
 }
 
 -- a page less is counted
 keeps_credited : (st now : Storage) (uid : ℕ) → now.accounts
     ≡ record st.accounts {
       counts = with_value st.accounts.segments st.accounts.counts uid (count_of st.accounts uid - 1);
-    } → now.links ≡ st.links → now.whos ≡ st.whos → KeepsOthers st now uid
-keeps_credited st now uid is links whos = record {
+    } → now.links ≡ st.links → now.whos ≡ st.whos → now.moving ≡ st.moving → KeepsOthers st now uid
+keeps_credited st now uid is links whos moving = record {
   nodes = ap (λ (a : AccountMaps). a.nodes) is;
   entries = ap (λ (a : AccountMaps). a.entries) is;
   next = ap (λ (a : AccountMaps). a.next) is;
@@ -104,6 +107,7 @@ keeps_credited st now uid is links whos = record {
       st.accounts.counts uid (count_of st.accounts uid - 1) s (λ e. other (sym e));
   links = links;
   whos = whos;
+  moving = moving;
 }
 
 -- ---- pages that are stored no more
@@ -123,9 +127,9 @@ without_told st uid p (Leaving f) =
 
 without_keeps : (st : Storage) (uid p : ℕ) (w : Ptw) → KeepsOthers st (without_page st uid p w) uid
 without_keeps st uid p Null = keeps_all st uid
-without_keeps st uid p (Out r) = keeps_credited st (without_page st uid p (Out r)) uid refl refl refl
-without_keeps st uid p (Here f) = keeps_credited st (without_page st uid p (Here f)) uid refl refl refl
-without_keeps st uid p (Leaving f) = keeps_credited st (without_page st uid p (Leaving f)) uid refl refl refl
+without_keeps st uid p (Out r) = keeps_credited st (without_page st uid p (Out r)) uid refl refl refl refl
+without_keeps st uid p (Here f) = keeps_credited st (without_page st uid p (Here f)) uid refl refl refl refl
+without_keeps st uid p (Leaving f) = keeps_credited st (without_page st uid p (Leaving f)) uid refl refl refl refl
 
 -- the home of a segment stays
 home_same : (old now : Storage) (uid : ℕ) → KeepsOthers old now uid → home_in now uid ≡ home_in old uid
@@ -198,9 +202,9 @@ module _ (st : Storage) (uid p at f : ℕ) (bound : bound_page (frame_in st.page
 
   leaving_keeps : (b : Bool) → KeepsOthers st (ends b) uid
   leaving_keeps true = keeps_both st cleared (without_page cleared uid p (Leaving f)) uid
-      (keeps_same st cleared uid refl refl refl) (without_keeps cleared uid p (Leaving f))
+      (keeps_same st cleared uid refl refl refl refl) (without_keeps cleared uid p (Leaving f))
   leaving_keeps false = subst (λ (x : Storage). KeepsOthers st x uid) (sym stays_is)
-      (keeps_same st (here_if cleared f (Some (uid, p))) uid refl refl refl)
+      (keeps_same st (here_if cleared f (Some (uid, p))) uid refl refl refl refl)
 
 pub cut_told : (st : Storage) (uid p at : ℕ) (w : Ptw) → IsCuttable st uid p w
     → told_of (with_cut st uid p at w) uid ≡ cut_first (told_of st uid) (home_in st uid) uid p at w

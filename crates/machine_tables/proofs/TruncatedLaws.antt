@@ -396,6 +396,7 @@ module _ {D : Type 0} (drive : D → List (List ℕ)) (t m u : Stored D) (n : No
     ast = ap (λ (x : Paged). x.ast) (sym told) i;
     links = (pages.unstores.links ∙ sym keeps.links) i;
     whos = (pages.unstores.whos ∙ sym keeps.whos) i;
+    moving = (pages.unstores.moving ∙ sym keeps.moving) i;
   })
 
   -- ---- the frames that were taken

@@ -4,6 +4,7 @@ pub mod Committed
 pub mod Gone
 pub mod Held
 pub mod Made
+pub mod Moved
 pub mod Meant
 pub mod Owned
 pub mod Parts

@@ -1,5 +1,5 @@
 -- When a page may be made for a reference (Organick 1972).
-use Rattle.std.specs.Prelude.{◌≡◌, ◌≢◌, ◌<◌, ℕ, ◌*◌, ◌/◌, length, Some}
+use Rattle.std.specs.Prelude.{◌≡◌, ◌≢◌, ◌<◌, ℕ, ◌*◌, ◌/◌, length, Some, None}
 use Rattle.script.specs.References.{new_word}
 use Rattle.script.specs.declared.commands.RefKind.TheVariants.{Write}
 use Rattle.script.specs.declared.commands.Reference.{Reference}
@@ -15,6 +15,7 @@ use Rattle.flat_model.specs.References.{room_reply}
 use Rattle.storage_ops.specs.Shown.{pages_in}
 use Rattle.machine_model.specs.Keeps.{IsFaithful}
 use Rattle.machine_model.specs.Reads.{flat_of}
+use Rattle.machine_model.specs.Refusal.{move_to}
 use Rattle.machine_model.specs.State.{State, Storage}
 
 -- the reference that writes the word which another one leaves in a page of zeros
@@ -34,8 +35,9 @@ pub record HasPlace (st : Storage) (k f : ℕ) (r : Reference) : Type 0 where
   pub frame : f < length st.pages.core.frames
   pub free : frame_at st.pages.core f ≡ Free
 
--- That, and there is room for the page, by the flat store after the book.
+-- That, and there is room for the page on the volume of its segment, by the flat store after the book.
 pub record IsMakeable (s : State) (k f : ℕ) (r : Reference) : Type 0 where
   pub place : HasPlace s.store k f r
   pub faithful : IsFaithful s.plan (flat_of s) s.store
   pub room : (n : Node) → node_in (flat_of s).nodes place.uid ≡ Some n → room_reply s.plan (flat_of s) n Done ≡ Done
+  pub stays : move_to s place.uid ≡ None

@@ -52,6 +52,7 @@ shown pages t = record {
   ast = t.segs.ast;
   links = t.segs.links;
   whos = t.whos;
+  moving = t.segs.moving;
 }
 
 -- the same tables over another store

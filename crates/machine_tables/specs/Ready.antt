@@ -16,6 +16,7 @@ use Rattle.machine_tables.specs.Parts.{Parts}
 -- The next command of a process is a tree command that isn't refused and may take effect: what it must have out of use
 -- is, and its job has taken just that.
 pub record IsApplicable {D : Type 0} (t : Parts D) (process : ℕ) (x : Command) : Type 0 where
+  pub still : t.state.store.moving ≡ None
   pub run : process < length t.state.runs
   pub knows : process < length t.state.store.links.known
   pub next : next_command t.state process ≡ Some x

@@ -4,6 +4,7 @@ use assoc_mem::What;
 use book::Reply;
 use processor::Transfer;
 use script::Reference;
+use seg_mover::Mover;
 
 /// What a step of a processor waits for (own).
 #[derive(Clone, Copy, PartialEq, Eq)]
@@ -102,6 +103,22 @@ pub enum Action {
     },
     /// What a tree command must have out of use is taken.
     TakeAway,
+    /// A segment begins to move to a volume that has room for it.
+    BeginMove {
+        /// The segment.
+        uid: u32,
+        /// The volume.
+        volume: u32,
+    },
+    /// A page of a segment that moves is copied.
+    CopyPage {
+        /// The move.
+        mover: Mover,
+        /// The page.
+        page: u32,
+    },
+    /// A segment of which each page is copied has its home on the other volume.
+    CommitMove(Mover),
     /// The other processors are told what to drop.
     Signal(What),
     /// The page in a frame leaves it, and the look is made again.

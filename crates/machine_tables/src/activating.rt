@@ -39,6 +39,7 @@ impl<D: Drive> Tables<D> {
 
     /// What becomes of the next segment of the chain of a node that isn't active.
     fn join_next(&mut self, of: u32) -> Next
+        requires still { self.old.state.store.moving ≡ None }
         requires there { is_there self.old.state.store.accounts.nodes of ≡ true }
         requires off { HasOneToGo self.old.state.store.ast (links_of self.old.state.store of) }
         ensures next { Joins self.old.state.store self.new.state.store (links_of self.old.state.store of) result }
@@ -51,6 +52,7 @@ impl<D: Drive> Tables<D> {
     /// The first segment of the chain of a node that isn't active becomes so, in the least free place of its pool,
     /// which is given.
     fn join(&mut self, of: u32) -> u32
+        requires still { self.old.state.store.moving ≡ None }
         requires there { is_there self.old.state.store.accounts.nodes of ≡ true }
         requires first { IsSome (first_inactive self.old.state.store.ast
             (chain_of self.old.state.store.accounts.nodes of)) }
@@ -72,6 +74,7 @@ impl<D: Drive> Tables<D> {
     /// gets the least such place, which is given, and the page table that its file map tells. It costs a write for each
     /// word of the page table. (Source: Bensoussan, Clingen and Daley 1972; Organick 1972.)
     pub fn activate(&mut self, of: u32, uid: u32) -> u32
+        requires still { self.old.state.store.moving ≡ None }
         requires there { is_there self.old.state.store.accounts.nodes of ≡ true }
         requires first { first_inactive self.old.state.store.ast (chain_of self.old.state.store.accounts.nodes of)
             ≡ Some uid }
@@ -89,7 +92,8 @@ impl<D: Drive> Tables<D> {
 
     /// The hand of the pool moves on that has no place for the first segment of the chain of a node that isn't active.
     fn pass_hand(&mut self, of: u32)
-        requires { NeedsVictim self.old.state.store of }
+        requires still { self.old.state.store.moving ≡ None }
+        requires victim { NeedsVictim self.old.state.store of }
         ensures { self.new ≡ with_state self.old (with_store self.old.state (with_hand_moved self.old.state.store
             (wanted_pool self.old.state.store of) (chain_of self.old.state.store.accounts.nodes of))) }
     {
@@ -104,6 +108,7 @@ impl<D: Drive> Tables<D> {
     /// place for the first segment of the chain of a node that isn't active. The pool's hand moves on. (Source:
     /// Bensoussan, Clingen and Daley 1972; Organick 1972.)
     pub fn take_victim(&mut self, c: u32, of: u32, uid: u32)
+        requires still { self.old.state.store.moving ≡ None }
         requires there { is_there self.old.state.store.accounts.nodes of ≡ true }
         requires first { IsSome (first_inactive self.old.state.store.ast
             (chain_of self.old.state.store.accounts.nodes of)) }

@@ -168,6 +168,7 @@ impl<D: Drive> Tables<D> {
     fn own_or_run(&self, c: u32) -> Option<Action>
         requires may { MayChoose self.now.state c }
         ensures looks { IfNone result (IsSome (cpu_at self.now.state.processors c).process) }
+        ensures still { IfNone result (self.now.state.store.moving ≡ None) }
         ensures rule { or_look self.now.state (process_at self.now.state c) result ≡ own_or_run self.now.state c
             (processor_at self.now.state.processors c) self.now.state.owner }
     {
@@ -182,6 +183,7 @@ impl<D: Drive> Tables<D> {
     fn work(&self, c: u32) -> Option<Action>
         requires may { MayChoose self.now.state c }
         ensures looks { IfNone result (IsSome (cpu_at self.now.state.processors c).process) }
+        ensures still { IfNone result (self.now.state.store.moving ≡ None) }
         ensures rule { or_look self.now.state (process_at self.now.state c) result ≡ rule_of self.now.state c
             (processor_at self.now.state.processors c) }
     {
@@ -201,6 +203,7 @@ impl<D: Drive> Tables<D> {
     pub(crate) fn by_rules(&self, c: u32) -> Option<Action>
         requires may { MayChoose self.now.state c }
         ensures looks { IfNone result (IsSome (cpu_at self.now.state.processors c).process) }
+        ensures still { IfNone result (self.now.state.store.moving ≡ None) }
         ensures rule { or_look self.now.state (process_at self.now.state c) result ≡ action_of self.now.state c }
     {
         if self.stopped {

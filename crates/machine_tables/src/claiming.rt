@@ -1,6 +1,6 @@
 //! What a tree command must have out of use is taken.
 
-ghost use Rattle.std.specs.Prelude.{◌≡◌, ◌<◌, ◌≤◌, ◌+◌, ℕ, length, true};
+ghost use Rattle.std.specs.Prelude.{◌≡◌, ◌<◌, ◌≤◌, ◌+◌, ℕ, length, true, None};
 ghost use Rattle.script.specs.Forms.{is_command};
 ghost use Rattle.active_segs.specs.Active.{IsActive};
 ghost use Rattle.machine_model.specs.Actions.{descriptors_taken, first_taken, frames_taken};
@@ -98,6 +98,7 @@ impl<D: Drive> Tables<D> {
 
     /// The owner takes the pages that a claim names.
     fn take_claimed(&mut self, c: u32, claim: Claim)
+        requires still { self.old.state.store.moving ≡ None }
         requires active { needs_segment claim ≡ true → IsActive self.old.state.store.ast.entries claim.uid }
         requires owner { HasOwner self.old.state.owner }
         requires few { length (frames_of_owner self.old.state.owner)
@@ -150,6 +151,7 @@ impl<D: Drive> Tables<D> {
 
     /// The owner takes what a claim names.
     fn take_claim(&mut self, c: u32, process: u32, claim: Claim)
+        requires still { self.old.state.store.moving ≡ None }
         requires process { process < length self.old.state.store.links.known }
         requires active { needs_segment claim ≡ true → IsActive self.old.state.store.ast.entries claim.uid }
         requires number { IsNumber claim.cuts }
@@ -168,6 +170,7 @@ impl<D: Drive> Tables<D> {
     /// descriptors that lead to the segment, of a `terminate` that of its number, of an `end` those of the process,
     /// which are cut. (Source: Bensoussan, Clingen and Daley 1972; Organick 1972.)
     pub fn take_away(&mut self, c: u32, process: u32)
+        requires still { self.old.state.store.moving ≡ None }
         requires run { process < length self.old.state.runs }
         requires knows { process < length self.old.state.store.links.known }
         requires segment { HasItsSegment self.old.state.store process (next_command self.old.state process) }

@@ -51,6 +51,7 @@ fn take_effect<D: Drive>(
     process: u32,
     command: &Command,
 ) -> (Reply, Option<u32>)
+    requires still { store.old.segs.moving ≡ None }
     requires knows { process < length store.old.segs.links.known }
     requires ranges { is_command (length store.old.segs.pages.volumes.drives) command.now ≡ true }
     requires tree { reference_of command.now ≡ None }

@@ -55,11 +55,12 @@ pub(crate) fn look<D: Drive>(store: &Store<D>)
         store.now.segs.pages.volumes.vtocs }
 {
     let _accounts = accounts_of(store);
-    store.segs().pages().volumes().promise();
+    store.segs().pages();
 }
 
 /// Makes a directory, unless that is refused.
 pub(crate) fn make_dir<D: Drive>(store: &mut Store<D>, path: &Path, volume: u32) -> Reply
+    requires still { store.old.segs.moving ≡ None }
     requires volume { volume < length store.old.segs.pages.volumes.drives }
     requires uids { store.old.accounts.next < 2 ^ 31 }
     ensures { (k : ℕ) → TakesEffect D.pages store.old store.new k (MkDir path.now volume) result }
@@ -78,6 +79,7 @@ pub(crate) fn make_seg<D: Drive>(
     pages: u32,
     volume: u32,
 ) -> Reply
+    requires still { store.old.segs.moving ≡ None }
     requires process { process < length store.old.whos }
     requires volume { volume < length store.old.segs.pages.volumes.drives }
     requires uids { store.old.accounts.next < 2 ^ 31 }
@@ -114,6 +116,7 @@ pub(crate) fn move_quota<D: Drive>(store: &mut Store<D>, path: &Path, amount: &i
 
 /// Sets the length of a segment, unless that is refused.
 pub(crate) fn set_length<D: Drive>(store: &mut Store<D>, path: &Path, pages: u32) -> Reply
+    requires still { store.old.segs.moving ≡ None }
     requires inactive { IsInactiveAt store.old.accounts store.old.segs path.now }
     requires most { pages ≤ 256 }
     ensures { (k : ℕ) → TakesEffect D.pages store.old store.new k (Length path.now pages) result }
@@ -152,7 +155,8 @@ pub(crate) fn status<D: Drive>(store: &mut Store<D>, path: &Path) -> Reply
 
 /// Deletes a directory or a segment, unless that is refused.
 pub(crate) fn delete<D: Drive>(store: &mut Store<D>, path: &Path) -> Reply
-    requires { IsRemovableAt store.old.accounts store.old.segs path.now }
+    requires still { store.old.segs.moving ≡ None }
+    requires removable { IsRemovableAt store.old.accounts store.old.segs path.now }
     ensures { (k : ℕ) (frames : List ℕ) → OwnsFor (shown D.pages store.old) frames (Delete path.now)
         → IsCommitted D.pages store.old store.new k frames (Delete path.now) result }
 {
@@ -197,7 +201,8 @@ fn leaves(ast: &Ast, uid: u32, page: u32) -> Option<u32>
 /// References go again through the word of a page of an active segment, if it is on its way out: the frame that it is
 /// in.
 fn bring_back<D: Drive>(store: &mut Store<D>, uid: u32, page: u32) -> Option<u32>
-    requires { IsActive store.old.segs.ast.entries uid }
+    requires still { store.old.segs.moving ≡ None }
+    requires active { IsActive store.old.segs.ast.entries uid }
     ensures frame { result ≡ leaves (word_of store.old.segs.ast uid page) }
     ensures effect { store.new ≡ record store.old {
       segs = record store.old.segs {
@@ -219,7 +224,8 @@ pub(crate) fn truncate<D: Drive>(
     path: &Path,
     words: u32,
 ) -> (Reply, Option<u32>)
-    requires { IsTakenPastAt store.old.accounts store.old.segs path.now words }
+    requires still { store.old.segs.moving ≡ None }
+    requires taken { IsTakenPastAt store.old.accounts store.old.segs path.now words }
     ensures { (k : ℕ) (frames : List ℕ) → OwnsFor (shown D.pages store.old) frames (Truncate path.now words)
         → IsCommittedBut D.pages store.old store.new k frames (Truncate path.now words) result.0 result.1 }
 {

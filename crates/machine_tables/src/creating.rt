@@ -13,6 +13,7 @@ ghost use Rattle.machine_model.specs.Steps.{page_created, with_created, with_sto
 ghost use Rattle.machine_tables.specs.Made.{IsMakeable, page_reference};
 ghost use Rattle.machine_tables.specs.Parts.{with_state};
 
+use crate::committing::look;
 use crate::tables::Tables;
 use book::{Entry, Reply};
 use mword::Word;
@@ -34,7 +35,8 @@ impl<D: Drive> Tables<D> {
     /// A page of an active segment is made in a free frame, all zeros but the word that a reference of a process leaves
     /// there; its account is charged for it.
     fn make(&mut self, process: u32, f: u32, reference: &Reference)
-        requires { IsMakeable self.old.state process f reference.now }
+        requires still { self.old.state.store.moving ≡ None }
+        requires makeable { IsMakeable self.old.state process f reference.now }
         ensures made { (uid : ℕ) → uid_of (kst_at self.old.state.store.links.known process) reference.now.number
             ≡ Some uid → self.new ≡ with_state self.old (with_store self.old.state
             (with_created self.old.state.store f uid (reference.now.offset / 1024) (reference.now.offset % 1024)
@@ -44,7 +46,7 @@ impl<D: Drive> Tables<D> {
             self.new.state.store }
     {
         let word = reference.kind.new_word(Word::ZERO);
-        self.accounts();
+        look(&self.store);
         let made = self
             .store
             .create(process, reference.number, reference.offset, word, f);
@@ -67,6 +69,7 @@ impl<D: Drive> Tables<D> {
         page: u32,
         reference: Reference,
     )
+        requires still { self.old.state.store.moving ≡ None }
         requires processor { c < length self.old.state.processors }
         requires process { (cpu_at self.old.state.processors c).process ≡ Some process }
         requires makeable { IsMakeable self.old.state process f reference }

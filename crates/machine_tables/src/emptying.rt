@@ -81,6 +81,7 @@ impl<D: Drive> Tables<D> {
 
     /// The owner takes the pages of an active segment that are here, and cuts the descriptors that lead to it.
     fn take_segment(&mut self, c: u32, uid: u32)
+        requires still { self.old.state.store.moving ≡ None }
         requires active { IsActive self.old.state.store.ast.entries uid }
         requires takes { CanTake self.old.state (frames_from self.old.state.store.ast uid 0)
             (trailers_in self.old.state.store uid) }
@@ -96,6 +97,7 @@ impl<D: Drive> Tables<D> {
     /// that it becomes inactive; where there are none it is inactive at once. (Source: Bensoussan, Clingen and Daley
     /// 1972; Organick 1972.)
     pub fn empty(&mut self, c: u32, uid: u32)
+        requires still { self.old.state.store.moving ≡ None }
         requires active { IsActive self.old.state.store.ast.entries uid }
         requires owner { HasOwner self.old.state.owner }
         requires pages { length (frames_of_owner self.old.state.owner)

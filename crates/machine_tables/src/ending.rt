@@ -42,6 +42,7 @@ impl<D: Drive> Tables<D> {
 
     /// A segment that is empty isn't active any more.
     fn make_inactive(&mut self, uid: u32)
+        requires still { self.old.state.store.moving ≡ None }
         requires empty { IsEmptied self.old.state.store uid }
         requires room { 0 < self.old.state.spare }
         ensures { self.new ≡ with_state self.old (deactivated_one self.old.state uid) }
@@ -54,6 +55,7 @@ impl<D: Drive> Tables<D> {
     /// Processor `c` makes a segment inactive of which everything was taken, and looks again: the descriptors that it
     /// cut are gone. (Source: Bensoussan, Clingen and Daley 1972; Organick 1972.)
     pub fn deactivate(&mut self, c: u32, uid: u32)
+        requires still { self.old.state.store.moving ≡ None }
         requires owner { HasOwner self.old.state.owner }
         requires empty { IsEmptied self.old.state.store uid }
         requires room { length (cut_of_owner self.old.state.owner) + 1 ≤ self.old.state.spare }

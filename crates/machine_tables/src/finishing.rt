@@ -33,7 +33,8 @@ use volumes::Drive;
 impl<D: Drive> Tables<D> {
     /// The page in a frame, which was on its way out, is here again.
     pub(crate) fn bring_back(&mut self, f: u32)
-        requires { IsLeaving self.old.state.store f }
+        requires still { self.old.state.store.moving ≡ None }
+        requires leaving { IsLeaving self.old.state.store f }
         ensures { self.new ≡ with_state self.old
             (with_store self.old.state (with_here self.old.state.store f)) }
     {
@@ -62,6 +63,7 @@ impl<D: Drive> Tables<D> {
 
     /// The pages that the owner took are here again, in the order in which it took them.
     fn return_pages(&mut self)
+        requires still { self.old.state.store.moving ≡ None }
         requires owner { HasOwner self.old.state.owner }
         requires back { MayComeBack self.old.state.store (frames_of_owner self.old.state.owner) }
         requires room { length (frames_of_owner self.old.state.owner) ≤ self.old.state.spare }
@@ -114,7 +116,8 @@ impl<D: Drive> Tables<D> {
     /// The page in a frame, which is on its way out, leaves it, unless the drive fails. What its accounts are then is
     /// told by `settled`.
     fn empty_frame(&mut self, f: u32) -> Result<Left, Failed>
-        requires { IsLeaving self.old.state.store f }
+        requires still { self.old.state.store.moving ≡ None }
+        requires leaving { IsLeaving self.old.state.store f }
         ensures how { IfOk result (λ left. left ≡ left_of (words_in self.old.state.store.pages f)) }
         ensures ok { IfOk result (λ left. self.new ≡ with_drives (with_state self.old (with_store self.old.state
             (with_accounts (with_left self.old.state.store f left (page_in self.old.state.store f))
@@ -136,7 +139,8 @@ impl<D: Drive> Tables<D> {
 
     /// The page in a frame, which is on its way out, leaves it, unless the drive fails.
     pub(crate) fn let_go(&mut self, f: u32) -> Result<Left, Failed>
-        requires { IsLeaving self.old.state.store f }
+        requires still { self.old.state.store.moving ≡ None }
+        requires leaving { IsLeaving self.old.state.store f }
         ensures how { IfOk result (λ left. left ≡ left_of (words_in self.old.state.store.pages f)) }
         ensures ok { IfOk result (λ left. self.new ≡ with_drives (with_state self.old (with_store self.old.state
             (with_left self.old.state.store f left (page_in self.old.state.store f))))
@@ -157,7 +161,8 @@ impl<D: Drive> Tables<D> {
 
     /// What was taken comes back, and the process is answered; the drives have counted the failure.
     fn return_all(&mut self, c: u32, process: u32)
-        requires { MayFail self.old c process }
+        requires still { self.old.state.store.moving ≡ None }
+        requires failing { MayFail self.old c process }
         ensures { self.new ≡ with_state self.old (write_failed self.old.state c self.old.state.faults) }
     {
         self.tell_fault(Some(process));
@@ -198,6 +203,7 @@ impl<D: Drive> Tables<D> {
     /// # Errors
     /// `Failed` exactly where the drive failed.
     pub fn finish_page(&mut self, c: u32, process: u32, f: u32) -> Result<Left, Failed>
+        requires still { self.old.state.store.moving ≡ None }
         requires leaving { IsLeaving self.old.state.store f }
         requires failing { MayFail self.old c process }
         ensures state { self.new.state ≡ by_outcome (outcome_of result self.new.state.faults)
@@ -229,6 +235,7 @@ impl<D: Drive> Tables<D> {
     /// # Errors
     /// `Failed` exactly where the drive failed.
     pub fn finish_eviction(&mut self, c: u32, process: u32, f: u32) -> Result<Left, Failed>
+        requires still { self.old.state.store.moving ≡ None }
         requires leaving { IsLeaving self.old.state.store f }
         requires failing { MayFail self.old c process }
         ensures state { self.new.state ≡ by_outcome (outcome_of result self.new.state.faults)

@@ -24,6 +24,7 @@ mod finishing;
 mod frames;
 mod looking;
 mod looks;
+mod moving;
 mod next_looks;
 mod owner;
 mod owning;

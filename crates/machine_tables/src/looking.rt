@@ -1,21 +1,24 @@
 //! What the owner of the supervisor does for a reference.
 
-ghost use Rattle.std.specs.Prelude.{◌≡◌, ◌<◌, ◌==◌, ℕ, length, None};
+ghost use Rattle.std.specs.Prelude.{◌≡◌, ◌<◌, ◌==◌, ℕ, length, true, None};
 ghost use Rattle.script.specs.References.{new_word};
 ghost use Rattle.page_table.specs.declared.Ptw.TheVariants.{Null};
 ghost use Rattle.descriptor_seg.specs.declared.Sdw.TheVariants.{Fault};
 ghost use Rattle.active_segs.specs.Active.{IsActive};
+ghost use Rattle.tree_model.specs.Trees.{has_segment};
 ghost use Rattle.seg_control.specs.Control.{table_of};
-ghost use Rattle.machine_model.specs.Actions.{Create, Start, create_unless, look_at_descriptor, look_at_page};
-ghost use Rattle.machine_model.specs.Actions.{look_at_word, look_for_reference, room_for};
+ghost use Rattle.machine_model.specs.Actions.{BeginMove, Create, Start, any_page, look_at_descriptor};
+ghost use Rattle.machine_model.specs.Actions.{look_at_page, look_at_word, look_for_reference, look_to_create, move_or};
+ghost use Rattle.machine_model.specs.Actions.{room_for, unless_read};
 ghost use Rattle.machine_model.specs.Keeps.{IsFaithful};
-ghost use Rattle.machine_model.specs.Reads.{descriptor_of, flat_of};
-ghost use Rattle.machine_model.specs.Refusal.{outside_refusal, room_refusal, uid_of_number};
+ghost use Rattle.machine_model.specs.Reads.{descriptor_of, flat_of, frame_reading};
+ghost use Rattle.machine_model.specs.Refusal.{move_to, outside_refusal, room_refusal, uid_of_number};
 ghost use Rattle.machine_tables.specs.Held.{MayLook};
 ghost use Rattle.machine_tables.specs.Meant.{meant};
 ghost use Rattle.machine_tables.specs.Reading.{AreRead};
 
 use crate::action::Action;
+use crate::reading::Pages;
 use crate::tables::Tables;
 use book::Reply;
 use mword::Word;
@@ -42,6 +45,7 @@ impl<D: Drive> Tables<D> {
 
     /// What refuses that a reference of a process stores a page more, by the flat store after the book.
     fn room_refusal(&self, process: u32, reference: &Reference) -> Option<Reply>
+        requires still { self.now.state.store.moving ≡ None }
         requires known { process < length self.now.state.store.links.known }
         requires faithful { IsFaithful self.now.state.plan (flat_of self.now.state) self.now.state.store }
         ensures { result ≡ room_refusal self.now.state process reference.now }
@@ -80,22 +84,60 @@ impl<D: Drive> Tables<D> {
         }
     }
 
+    /// The volume that a segment moves to before a page more of it is made: the first that has room for it, where all
+    /// records of its own are taken.
+    fn move_to(&self, uid: u32) -> Option<u32>
+        requires segment { has_segment self.now.state.store.accounts.nodes uid ≡ true }
+        requires looks { MayLook self.now.state }
+        ensures { result ≡ move_to self.now.state uid }
+    {
+        self.store.move_target(uid)
+    }
+
+    /// A segment moves to a volume, unless a page of it is being read into a frame.
+    fn begin_moving(&self, uid: u32, volume: u32) -> Action
+        requires frames { length self.now.state.store.pages.core.frames ≡ self.now.state.plan.frames }
+        requires reads { AreRead self.now.state.store.pages.core self.now.state.processors }
+        ensures { (k : ℕ) → meant self.now.state k result
+            ≡ unless_read (frame_reading self.now.state.store.pages.core uid any_page) (BeginMove uid volume) }
+    {
+        match self.first_read(uid, Pages::Any) {
+            Some(first) => first,
+            None => Action::BeginMove { uid, volume },
+        }
+    }
+
+    /// A page is made in a frame for a reference, once its segment has moved where it must.
+    fn move_or_make(&self, reference: Reference, uid: u32, page: u32) -> Action
+        requires segment { has_segment self.now.state.store.accounts.nodes uid ≡ true }
+        requires looks { MayLook self.now.state }
+        ensures { (k : ℕ) → meant self.now.state k result
+            ≡ move_or self.now.state.store.pages.core uid (move_to self.now.state uid)
+            (room_for self.now.state.store.pages.core uid page (λ f. Create f uid page reference)) }
+    {
+        match self.move_to(uid) {
+            Some(volume) => self.begin_moving(uid, volume),
+            None => self.make_page(reference, uid, page),
+        }
+    }
+
     /// A page is made for a reference, unless there is no room for it.
     fn create_or_refuse(&self, process: u32, reference: Reference, uid: u32, page: u32) -> Action
+        requires segment { has_segment self.now.state.store.accounts.nodes uid ≡ true }
         requires looks { MayLook self.now.state }
         requires known { process < length self.now.state.store.links.known }
         ensures { (k : ℕ) → meant self.now.state k result
-            ≡ create_unless (room_refusal self.now.state process reference)
-            (room_for self.now.state.store.pages.core uid page (λ f. Create f uid page reference)) }
+            ≡ look_to_create self.now.state process reference uid page }
     {
         match self.room_refusal(process, &reference) {
             Some(refused) => Action::Answer(refused),
-            None => self.make_page(reference, uid, page),
+            None => self.move_or_make(reference, uid, page),
         }
     }
 
     /// What is done for a page of zeros that has no record: it is made, where the reference writes another word.
     fn look_at_null(&self, process: u32, reference: Reference, uid: u32, page: u32) -> Action
+        requires segment { has_segment self.now.state.store.accounts.nodes uid ≡ true }
         requires looks { MayLook self.now.state }
         requires known { process < length self.now.state.store.links.known }
         ensures { (k : ℕ) → meant self.now.state k result
@@ -119,6 +161,7 @@ impl<D: Drive> Tables<D> {
     ) -> Action
         requires active { IsActive self.now.state.store.ast.entries uid }
         requires page { page < length (table_of self.now.state.store.ast uid) }
+        requires segment { has_segment self.now.state.store.accounts.nodes uid ≡ true }
         requires looks { MayLook self.now.state }
         requires known { process < length self.now.state.store.links.known }
         ensures { (k : ℕ) → meant self.now.state k result

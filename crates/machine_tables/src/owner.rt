@@ -1,5 +1,6 @@
 ghost use Rattle.std.specs.Prelude.{◌≡◌, ◌<◌, ◌∷◌, [], drop, length, Some, None, IfOk, IfSome, IfNone, slice_get};
 ghost use Rattle.machine_model.specs.Jobs.{owner_signalled, without_first_cut, without_first_frame};
+ghost use Rattle.machine_model.specs.Moves.{moving};
 ghost use Rattle.machine_model.specs.Reads.{cut_of_owner, frames_of_owner};
 ghost use Rattle.machine_model.specs.Steps.{looking};
 ghost use Rattle.machine_tables.specs.Owned.{HasOwner, owner_of, took_cut, took_frame};
@@ -8,6 +9,7 @@ use crate::tables::NoMemory;
 use assoc_mem::What;
 use circular_buffer::HeapCircularBuffer;
 use machine_model::{Aim, CutDescriptor, Phase};
+use seg_mover::Mover;
 use std::alloc::Global;
 use std::marker::Model;
 
@@ -89,6 +91,18 @@ impl Job {
         self.holder = Some(Holder {
             cpu,
             phase: Phase::Looking,
+        });
+    }
+
+    /// A processor owns the supervisor from now on, and moves a segment.
+    pub(crate) fn move_on(&mut self, cpu: u32, mover: Mover)
+        ensures { self.new ≡ Some (moving cpu mover) }
+    {
+        self.frames.clear();
+        self.cut.clear();
+        self.holder = Some(Holder {
+            cpu,
+            phase: Phase::Moving { mover },
         });
     }
 

@@ -1,8 +1,12 @@
 //! What the owner of the supervisor does next, by the phase of its job.
 
-ghost use Rattle.std.specs.Prelude.{◌≡◌, ℕ, length, position};
+ghost use Rattle.std.specs.Prelude.{◌≡◌, ◌≤◌, ℕ, IfNone, length, position};
+ghost use Rattle.active_segs.specs.Active.{IsActive};
+ghost use Rattle.seg_mover.specs.declared.Mover.{Mover};
+ghost use Rattle.seg_control.specs.Control.{table_of};
 ghost use Rattle.machine_model.specs.Actions.{finish_of, go_on_with, once_cleared};
 ghost use Rattle.machine_model.specs.Reads.{cut_of_owner, frames_of_owner, is_due};
+ghost use Rattle.machine_model.specs.declared.Phase.TheVariants.{Looking, Moving};
 ghost use Rattle.machine_tables.specs.Meant.{meant, or_look};
 ghost use Rattle.machine_tables.specs.Owned.{HasOwner, owner_by};
 
@@ -69,13 +73,18 @@ impl<D: Drive> Tables<D> {
     pub(crate) fn go_on(&self, holder: Holder) -> Option<Action>
         requires count { length self.now.state.processors ≡ self.now.state.plan.processors }
         requires owner { HasOwner self.now.state.owner }
-        ensures { (k : ℕ) → or_look self.now.state k result ≡ go_on_with self.now.state k
+        requires moves { (m : Mover) → holder.phase ≡ Moving m → IsActive self.now.state.store.ast.entries m.uid }
+        requires short { (m : Mover) → holder.phase ≡ Moving m
+            → length (table_of self.now.state.store.ast m.uid) ≤ 256 }
+        ensures looking { IfNone result (holder.phase ≡ Looking) }
+        ensures rule { (k : ℕ) → or_look self.now.state k result ≡ go_on_with self.now.state k
             (owner_by holder (frames_of_owner self.now.state.owner) (cut_of_owner self.now.state.owner)) holder.phase }
     {
         match holder.phase {
             Phase::Looking => None,
             Phase::Taken { what, .. } => Some(Action::Signal(what)),
             Phase::Waiting { aim, .. } => Some(self.await_clears(aim)),
+            Phase::Moving { mover } => Some(self.move_on(mover)),
         }
     }
 }

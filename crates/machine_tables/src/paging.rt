@@ -84,6 +84,7 @@ impl<D: Drive> Tables<D> {
     /// Processor `c` reads page `p` of an active segment into the free frame `f` from now on, and gives the supervisor
     /// up. (Source: own.)
     pub fn start(&mut self, c: u32, f: u32, uid: u32, p: u32)
+        requires still { self.old.state.store.moving ≡ None }
         requires processor { c < length self.old.state.processors }
         requires active { IsActive self.old.state.store.ast.entries uid }
         requires page { p < length (table_of self.old.state.store.ast uid) }

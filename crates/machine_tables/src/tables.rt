@@ -1,7 +1,9 @@
-ghost use Rattle.std.specs.Prelude.{◌≡◌, ◌<◌, ◌≤◌, ◌∷◌, [], length, OnOk, Some, None, true, IfSome, IfNone};
+ghost use Rattle.std.specs.Prelude.{◌≡◌, ◌<◌, ◌≤◌, ◌∷◌, [], length, map, OnOk, Some, None, true, IfSome, IfNone};
 ghost use Rattle.machine_model.specs.Reads.{next_command, processor_at, run_at};
 ghost use Rattle.machine_model.specs.Steps.{booked, with_owner};
 ghost use Rattle.machine_tables.specs.Parts.{Parts, shown};
+ghost use Rattle.seg_control.specs.Moving.{in_move, volumes_of};
+ghost use Rattle.volumes.specs.Volumes.{HasParts};
 
 use crate::owner::Job;
 use book::{Book, Entry, Reply};
@@ -95,11 +97,16 @@ impl<D: Drive> Tables<D> {
         &self.store
     }
 
-    /// The volumes: their drives, which records of them are in use, and their VTOCs. (Source: own.)
+    /// The volumes: their drives, which records of them are in use, and their VTOCs, with what a move has taken that is
+    /// under way. (Source: own.)
     pub fn volumes(&self) -> &Volumes<D>
         ensures drives { result.now.drives ≡ self.now.drives }
-        ensures records { result.now.records ≡ self.now.state.store.pages.records }
-        ensures vtocs { result.now.vtocs ≡ self.now.state.store.pages.vtocs }
+        ensures records { result.now.records
+            ≡ (in_move (volumes_of self.now.state.store.pages) self.now.state.store.moving).records }
+        ensures vtocs { result.now.vtocs
+            ≡ (in_move (volumes_of self.now.state.store.pages) self.now.state.store.moving).vtocs }
+        ensures parts { HasParts (map D.pages self.now.drives) self.now.state.store.pages.records
+            self.now.state.store.pages.vtocs }
     {
         self.store.segs().pages().volumes()
     }

@@ -80,6 +80,7 @@ impl<D: Drive> Tables<D> {
 
     /// The page in a frame is on its way out.
     pub(crate) fn send_off(&mut self, f: u32)
+        requires still { self.old.state.store.moving ≡ None }
         requires bound { is_bound (frame_at self.old.state.store.pages.core f) ≡ true }
         requires here { word_of self.old.state.store.ast (page_in self.old.state.store f).0
             (page_in self.old.state.store f).1 ≡ Here f }
@@ -92,6 +93,7 @@ impl<D: Drive> Tables<D> {
 
     /// The owner takes the page in a frame, which is on its way out then.
     pub(crate) fn take_one(&mut self, c: u32, aim: Aim, what: What, f: u32)
+        requires still { self.old.state.store.moving ≡ None }
         requires bound { is_bound (frame_at self.old.state.store.pages.core f) ≡ true }
         requires here { word_of self.old.state.store.ast (page_in self.old.state.store f).0
             (page_in self.old.state.store f).1 ≡ Here f }
@@ -122,6 +124,7 @@ impl<D: Drive> Tables<D> {
 
     /// The owner takes a page of an active segment, if it is here.
     fn take_page(&mut self, c: u32, aim: Aim, what: What, uid: u32, p: u32)
+        requires still { self.old.state.store.moving ≡ None }
         requires active { IsActive self.old.state.store.ast.entries uid }
         requires page { p < length (table_of self.old.state.store.ast uid) }
         requires owner { HasOwner self.old.state.owner }
@@ -147,6 +150,7 @@ impl<D: Drive> Tables<D> {
 
     /// The owner takes the pages of an active segment that are here, from a number on, in their order.
     pub(crate) fn take_pages(&mut self, c: u32, aim: Aim, what: What, uid: u32, low: u32)
+        requires still { self.old.state.store.moving ≡ None }
         requires active { IsActive self.old.state.store.ast.entries uid }
         requires owner { HasOwner self.old.state.owner }
         requires few { length (frames_of_owner self.old.state.owner)
@@ -251,6 +255,7 @@ impl<D: Drive> Tables<D> {
     /// Processor `c` takes the page in the frame that the clock chooses, and gives the frame's number. No page is on
     /// its way out yet. (Source: Corbató 1968.)
     pub fn evict(&mut self, c: u32) -> u32
+        requires still { self.old.state.store.moving ≡ None }
         requires bound { list_any is_bound self.old.state.store.pages.core.frames ≡ true }
         requires here { AreHere self.old.state.store }
         requires owner { HasOwner self.old.state.owner }

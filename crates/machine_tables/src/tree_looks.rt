@@ -32,6 +32,7 @@ use volumes::Drive;
 impl<D: Drive> Tables<D> {
     /// What refuses a tree command of a process, by the flat store after the book.
     pub(crate) fn command_refusal(&self, process: u32, command: &Command) -> Option<Reply>
+        requires still { self.now.state.store.moving ≡ None }
         requires known { process < length self.now.state.store.links.known }
         requires script { IsPlan self.now.state.plan }
         requires ranges { is_command (length self.now.state.plan.volumes) command.now ≡ true }

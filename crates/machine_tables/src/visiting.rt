@@ -26,6 +26,7 @@ use volumes::Drive;
 impl<D: Drive> Tables<D> {
     /// The page in a bound frame, which is here, is on its way out.
     fn take_out(&mut self, f: u32)
+        requires still { self.old.state.store.moving ≡ None }
         requires bound { is_bound (frame_at self.old.state.store.pages.core f) ≡ true }
         requires here { AreHere self.old.state.store }
         requires room { 0 < self.old.state.spare }
@@ -39,6 +40,7 @@ impl<D: Drive> Tables<D> {
 
     /// The page in a frame, which is on its way out, is here again: the drive failed.
     fn take_back(&mut self, f: u32)
+        requires still { self.old.state.store.moving ≡ None }
         requires leaving { IsLeaving self.old.state.store f }
         requires owner { self.old.state.owner ≡ None }
         requires room { 2 ≤ self.old.state.spare }
@@ -54,6 +56,7 @@ impl<D: Drive> Tables<D> {
 impl<D: Drive> Tables<D> {
     /// The page in a bound frame, which is here, leaves it; where the drive fails it is here again.
     fn empty_bound(&mut self, f: u32) -> Result<Left, Failed>
+        requires still { self.old.state.store.moving ≡ None }
         requires bound { is_bound (frame_at self.old.state.store.pages.core f) ≡ true }
         requires here { AreHere self.old.state.store }
         requires owner { self.old.state.owner ≡ None }
@@ -82,6 +85,7 @@ impl<D: Drive> Tables<D> {
 
     /// The page in a frame, if there is one, leaves it; where the drive fails it is here again.
     fn visit_frame(&mut self, f: u32) -> Result<(), Failed>
+        requires still { self.old.state.store.moving ≡ None }
         requires frame { f < length self.old.state.store.pages.core.frames }
         requires here { AreHere self.old.state.store }
         requires owner { self.old.state.owner ≡ None }
@@ -112,6 +116,7 @@ impl<D: Drive> Tables<D> {
     /// # Errors
     /// `Failed` exactly where the drive failed.
     pub fn visit(&mut self) -> Result<(), Failed>
+        requires still { self.old.state.store.moving ≡ None }
         requires count { length self.old.state.store.pages.core.frames ≡ self.old.state.plan.frames }
         requires frame { self.old.state.visited < length self.old.state.store.pages.core.frames }
         requires here { AreHere self.old.state.store }

@@ -49,8 +49,8 @@ pub set_length-requires-clause-most : goal.set_length-requires-clause-most
 set_length-requires-clause-most g c = new_length _ c.in-Length.path c.in-Length.pages
     (ranges _ c.in-Length.is c.requires.ranges)
 
-pub truncate-requires : goal.truncate-requires
-truncate-requires g c = subst (λ (x : Command). IsReady c.args.store.now c.args.process x) c.in-Truncate.is
+pub truncate-requires-clause-taken : goal.truncate-requires-clause-taken
+truncate-requires-clause-taken g c = subst (λ (x : Command). IsReady c.args.store.now c.args.process x) c.in-Truncate.is
     c.requires.ready
 
 pub returns-in-MkDir : goal.returns-in-MkDir

@@ -19,10 +19,11 @@ found drive t uid p f seen_is ast_is kept active left = comes_back drive t uid p
 pub back-requires : goal.back-requires
 back-requires g c =
     let its = found g.D.Drive.pages c.args.store.now c.args.uid c.args.page c.in_ok-frame.frame
-    c.segs.ensures.segs c.ast.ensures.ast c.look.ensures.kept c.requires
+    c.segs.ensures.segs c.ast.ensures.ast c.look.ensures.kept c.requires.active
     c.in_ok-frame.ensures in
     record {
-      active = c.requires;
+      still = c.requires.still;
+      active = c.requires.active;
       bound = its.bound;
       own = its.own;
       leaving = ap (word_of c.args.store.now.segs.ast c.args.uid) its.number ∙ its.word;
@@ -31,7 +32,7 @@ back-requires g c =
 pub returns-clause-effect : goal.returns-clause-effect
 returns-clause-effect g c =
     let its = found g.D.Drive.pages c.args.store.now c.args.uid c.args.page c.in_ok-frame.frame
-    c.segs.ensures.segs c.ast.ensures.ast c.look.ensures.kept c.requires
+    c.segs.ensures.segs c.ast.ensures.ast c.look.ensures.kept c.requires.active
     c.in_ok-frame.ensures in
     c.back.ensures.effect ∙ ap (λ (a : ActiveSegs). record c.args.store.now {
       segs = record c.args.store.now.segs { ast = a };

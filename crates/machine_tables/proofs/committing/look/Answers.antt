@@ -1,8 +1,8 @@
-use Rattle.std.proofs.Common.{◌∙◌, ap, map, subst}
-use Rattle.page_control.specs.Plain.{Paging, plain}
+use Rattle.std.proofs.Common.{map, subst}
+use Rattle.page_control.specs.Plain.{plain}
 use Rattle.seg_control.specs.Control.{Control}
 use Rattle.seg_control.specs.Kept.{IsKept}
-use Rattle.volumes.specs.Volumes.{HasParts, Vols}
+use Rattle.volumes.specs.Volumes.{HasParts}
 use Rattle.machine_tables.proofs.committing.look.Goals as goal
 
 pub returns-clause-kept : goal.returns-clause-kept
@@ -10,6 +10,5 @@ returns-clause-kept g c = subst (λ (s : Control g.row.D.Denot). IsKept (plain g
     c.segs.ensures.segs c.pages.ensures.kept
 
 pub returns-clause-parts : goal.returns-clause-parts
-returns-clause-parts g c = subst (λ (v : Vols g.row.D.Denot). HasParts (map g.D.Drive.pages v.drives) v.records v.vtocs)
-    (c.volumes.ensures.volumes ∙ ap (λ (x : Paging g.row.D.Denot). x.volumes) (c.pages.ensures.pages
-    ∙ ap (λ (s : Control g.row.D.Denot). s.pages) c.segs.ensures.segs)) c.promise.ensures.parts
+returns-clause-parts g c = subst (λ (s : Control g.row.D.Denot). HasParts (map g.D.Drive.pages s.pages.volumes.drives)
+    s.pages.volumes.records s.pages.volumes.vtocs) c.segs.ensures.segs c.pages.ensures.parts

@@ -12,12 +12,13 @@ returns-in_default g c = λ k frames owns. truncate_refused g.D.Drive.pages c.ar
     (sym c.in_default.is ∙ c.segment_of.ensures
     ∙ ap (λ (a : AccountMaps). uid_found (segment_at a.nodes c.args.path.now)) c.accounts.ensures.accounts) k frames
 
-pub bring_back-kept-requires : goal.bring_back-kept-requires
-bring_back-kept-requires g c = still_active g.D.Drive.pages c.args.store.now c.truncate-reply.new.self c.args.path.now
+pub bring_back-kept-requires-clause-active : goal.bring_back-kept-requires-clause-active
+bring_back-kept-requires-clause-active g c = still_active g.D.Drive.pages c.args.store.now c.truncate-reply.new.self
+    c.args.path.now
     c.args.words c.truncate-reply.result c.truncate-reply.ensures.answer c.truncate-reply.ensures.effect
     c.truncate-reply.ensures.rest c.truncate-reply.new.self c.look.ensures.columns c.look-2.ensures.columns
     c.look.ensures.kept c.look.ensures.store c.look.ensures.parts
-    c.requires c.truncate-reply.ensures.pages c.truncate-reply.ensures.exact c.truncate-reply.ensures.others
+    c.requires.taken c.truncate-reply.ensures.pages c.truncate-reply.ensures.exact c.truncate-reply.ensures.others
     c.in-Some.uid
     (sym c.in-Some.is ∙ c.segment_of.ensures
     ∙ ap (λ (a : AccountMaps). uid_found (segment_at a.nodes c.args.path.now)) c.accounts.ensures.accounts)
@@ -27,7 +28,7 @@ returns g c = λ k frames owns. truncate_committed g.D.Drive.pages c.args.store.
     c.args.path.now c.args.words c.truncate-reply.result c.truncate-reply.ensures.answer
     c.truncate-reply.ensures.effect c.truncate-reply.ensures.rest c.bring_back-kept.new.store
     c.look.ensures.columns c.look-2.ensures.columns c.look.ensures.kept c.look.ensures.store c.look.ensures.parts
-    c.requires c.truncate-reply.ensures.pages c.truncate-reply.ensures.exact c.truncate-reply.ensures.others
+    c.requires.taken c.truncate-reply.ensures.pages c.truncate-reply.ensures.exact c.truncate-reply.ensures.others
     c.in-Some.uid
     (sym c.in-Some.is ∙ c.segment_of.ensures
     ∙ ap (λ (a : AccountMaps). uid_found (segment_at a.nodes c.args.path.now)) c.accounts.ensures.accounts)

@@ -20,5 +20,6 @@ returns-clause-zeros g c =
 
 pub returns-clause-shown : goal.returns-clause-shown
 returns-clause-shown g c = left_shown g.D.Drive.pages c.args.self.now c.self.inside.store c.evict.new.self c.args.f _
-    c.evict.result (ap (λ (x : Parts g.row.D.Denot). x.state.store) c.self.view_is) c.requires.bound (search rules)
+    c.evict.result (ap (λ (x : Parts g.row.D.Denot). x.state.store) c.self.view_is) c.requires.leaving.bound
+    (search rules)
     (λ p t. c.evict.ensures.shown p t)

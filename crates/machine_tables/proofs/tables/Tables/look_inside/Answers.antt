@@ -1,10 +1,11 @@
-use Rattle.std.proofs.Common.{◌<◌, ℕ, length, rules, subst, sym}
+use Rattle.std.proofs.Common.{◌≡◌, ◌<◌, ℕ, length, rules, subst, sym, true}
 use Rattle.std.specs.Prelude.{◌/◌}
+use Rattle.tree_model.specs.Trees.{has_segment}
 use Rattle.active_segs.specs.Active.{IsActive}
 use Rattle.seg_control.specs.Control.{table_of}
 use Rattle.machine_model.specs.Refusal.{uid_of_number}
 use Rattle.machine_model.specs.State.{State}
-use Rattle.machine_tables.proofs.ReachLaws.{connected_active, page_there}
+use Rattle.machine_tables.proofs.ReachLaws.{connected_active, page_there, segment_is}
 use Rattle.machine_tables.proofs.tables.Tables.look_inside.Goals as goal
 
 pub look_at_page-requires-clause-active : goal.look_at_page-requires-clause-active
@@ -21,3 +22,8 @@ look_at_page-requires-clause-page g c =
     subst (λ (u : ℕ). c.args.reference.offset / 1024 < length (table_of s.store.ast u))
     (sym c.uid_of_number-uid.ensures)
     (page_there s c.args.process c.args.reference c.requires.looks.keeps c.requires.inside active)
+
+pub look_at_page-requires-clause-segment : goal.look_at_page-requires-clause-segment
+look_at_page-requires-clause-segment g c =
+    subst (λ (u : ℕ). has_segment c.args.self.now.state.store.accounts.nodes u ≡ true) (sym c.uid_of_number-uid.ensures)
+    (segment_is c.args.self.now.state c.args.process c.args.reference c.requires.looks.keeps c.requires.inside)

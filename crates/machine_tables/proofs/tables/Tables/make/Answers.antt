@@ -1,15 +1,26 @@
 use Rattle.std.proofs.Common.{◌≡◌, ℕ, Some, refl, ap, subst, sym, ◌∙◌}
 use Rattle.std.specs.Prelude.{◌/◌, ◌%◌}
-use Rattle.accounts.specs.Maps.{HasColumns}
 use Rattle.known_segs.specs.Known.{uid_of}
 use Rattle.seg_control.specs.Control.{kst_at}
 use Rattle.machine_model.specs.Reads.{flat_of}
 use Rattle.machine_model.specs.State.{State, Storage}
 use Rattle.machine_model.specs.Steps.{with_created, with_store}
 use Rattle.machine_tables.specs.Parts.{Parts, shown, with_state}
-use Rattle.machine_tables.proofs.CreateLaws.{created_is, made_surely}
+use Rattle.machine_tables.proofs.CreateLaws.{created_is, made_surely, stays}
+use Rattle.machine_tables.proofs.InsideLaws.{inside_shows}
 use Rattle.machine_tables.proofs.PartLaws.{stored_is}
 use Rattle.machine_tables.proofs.tables.Tables.make.Goals as goal
+
+pub create-made-requires-clause-room : goal.create-made-requires-clause-room
+create-made-requires-clause-room g c = λ uid known.
+    let s : State = c.args.self.now.state in
+    let inner : shown g.D.Drive.pages c.self.inside.store ≡ s.store =
+    ap (λ (t : Parts g.row.D.Denot). t.state.store) c.self.view_is in
+    stays g.D.Drive.pages s c.self.inside.store c.args.process c.args.f c.args.reference.now uid
+    (inside_shows g.D.Drive.pages c.args.self.now c.self.inside.store (flat_of s) inner c.requires.makeable.faithful)
+    c.look.ensures.store c.look.ensures.parts c.requires.makeable
+    (ap (λ (st : Storage). uid_of (kst_at st.links.known c.args.process) c.args.reference.now.number) (sym inner)
+    ∙ known)
 
 pub unreachable-requires : goal.unreachable-requires
 unreachable-requires g c =
@@ -17,7 +28,8 @@ unreachable-requires g c =
     let inner : shown g.D.Drive.pages c.self.inside.store ≡ s.store =
     ap (λ (t : Parts g.row.D.Denot). t.state.store) c.self.view_is in
     let done = made_surely g.D.Drive.pages c.self.inside.store s.store c.args.process c.args.f c.args.reference.now
-    s.plan (flat_of s) c.create-made.result inner c.requires.place c.requires.faithful c.requires.room
+    s.plan (flat_of s) c.create-made.result inner c.requires.makeable.place c.requires.makeable.faithful
+    c.requires.makeable.room
     c.create-made.ensures.answer in
     let no = sym c.in-Err.is ∙ done in cc
 
@@ -33,7 +45,6 @@ returns-clause-made g c = λ uid known.
     stored_is g.D.Drive.pages g.D.Drive.faults _ c.args.self.now c.self.inside.store c.create-made.new.self
     (λ st. with_created st c.args.f uid p at c.new_word-word.result) c.self.view_is refl
     (created_is g.D.Drive.pages c.self.inside.store c.create-made.new.self uid p c.args.f at c.new_word-word.result
-    (subst (λ (st : Storage). HasColumns st.accounts) (sym inner) c.accounts.ensures.columns)
-    c.accounts-2.ensures.columns made) made.drives
+    c.look.ensures.columns c.accounts.ensures.columns made) made.drives
     ∙ ap (λ (w : ℕ). with_state c.args.self.now (with_store s (with_created s.store c.args.f uid p at w)))
     c.new_word-word.ensures

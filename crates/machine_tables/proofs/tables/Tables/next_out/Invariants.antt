@@ -1,0 +1,8 @@
+use Rattle.std.proofs.Common.{◌≡◌}
+use Rattle.seg_control.specs.Control.{table_of}
+use Rattle.seg_control.specs.Moving.{next_out}
+use Rattle.machine_tables.proofs.tables.Tables.next_out.Given as goal
+
+abbrev pub invariant-loop-page : goal.invariant-loop-page
+invariant-loop-page g l = next_out (table_of l.fn.self.state.store.ast l.fn.uid) l.fn.from
+    ≡ next_out (table_of l.fn.self.state.store.ast l.fn.uid) l.page
