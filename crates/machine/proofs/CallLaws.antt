@@ -1,7 +1,7 @@
 -- What a step's call of a drive comes to: which drive counts a failure more, and how many all of them do.
-use Rattle.std.proofs.Common.{◌≡◌, ◌≢◌, ◌≤◌, ◌<◌, ◌+◌, ◌^◌, ◌++◌, ℕ, zero, suc, Bool, true, false, cond, length, map, min}
-use Rattle.std.proofs.Common.{List, [], ◌∷◌, refl, sym, ap, ◌∙◌, arith, inl, inr}
-use Rattle.std.specs.Prelude.{Err, IsOk, Ok, Result, count_by, slice_get, sum_by}
+use Rattle.std.proofs.Common.{◌≡◌, ◌≢◌, ◌⊎◌, ◌≤◌, ◌<◌, ◌+◌, ◌^◌, ◌++◌, ℕ, zero, suc, Bool, true, false, cond}
+use Rattle.std.proofs.Common.{length, map, min, List, [], ◌∷◌, refl, sym, ap, ◌∙◌, arith, inl, inr}
+use Rattle.std.specs.Prelude.{Err, IsOk, Ok, Result, count_by, sum_by}
 use Rattle.std.proofs.lemmas.Bool.{cases_lt}
 use Rattle.std.proofs.lemmas.List.Sums.{sum-map, sum_by-append, sum_by-cons}
 use Rattle.std.specs.Prelude.{sum}
@@ -10,6 +10,7 @@ use Rattle.book.specs.declared.entries.Entry.{Entry}
 use Rattle.volumes.specs.FailLine.{IsOneMore}
 use Rattle.volumes.specs.Volumes.{faults_at}
 use Rattle.page_control.specs.Drives.{CallsDrive}
+use Rattle.seg_mover.specs.Copies.{CallsDrives, FailedAt}
 use Rattle.machine_model.specs.Actions as act
 use Rattle.machine_model.specs.Jobs.{page_in}
 use Rattle.machine_model.specs.Keeps.{is_fault}
@@ -18,8 +19,8 @@ use Rattle.machine_model.specs.State.{State}
 use Rattle.machine_model.specs.Turns.{calls_drive}
 use Rattle.machine_tables.specs.Parts.{Parts, SparesCall, outcome_of}
 use Rattle.machine.specs.Turns.{AreTold, CallsAs, CallsNone, CallsOne, CountsAlike, HaveCounted, KeepsParts, LetsGo}
-use Rattle.machine.specs.Turns.{RoseAtOne}
-use Rattle.machine.proofs.DriveCounts.{rose_sum, same_sum, some_is}
+use Rattle.machine.specs.Turns.{CallsTwo, RoseAtOne}
+use Rattle.machine.proofs.DriveCounts.{counted_same, rose_sum, same_sum}
 
 not_both : {b : Bool} → b ≡ true → b ≡ false → ⊥
 not_both t f = cc
@@ -57,17 +58,46 @@ page_let_go plan places faults s f old new r n call spares = record {
   spared = λ need. none_called old new r n (spares need);
 }
 
+-- a page is copied
+pub two_called : {D Plan T E : Type 0} (plan : D → Plan) (places faults : D → ℕ) (old new : List D) (v w : ℕ)
+    (r : Result T E) (n : ℕ) → CallsDrives plan places faults old new v w r
+    → CallsTwo faults old new v w (outcome_of r n).failed
+two_called plan places faults old new v w (Ok x) n call = record {
+  others = call.others;
+  told = λ e. call.told;
+  once = λ e. absurd (let no : false ≡ true = e in cc);
+}
+two_called plan places faults old new v w (Err x) n call = record {
+  others = call.others;
+  told = λ e. absurd (let no : true ≡ false = e in cc);
+  once = λ e. call.failed;
+}
+
 -- ---- what an action's call comes to
 
 module _ {D : Type 0} (faults : D → ℕ) (old new : List D) where
   one_rose : (v : ℕ) (failed : Bool) → CallsOne faults old new v failed → failed ≡ true → RoseAtOne faults old new
-  one_rose v failed h e = record { volume = v; others = h.others; once = h.once e; rose = h.rose e }
+  one_rose v failed h e = record {
+    volume = v;
+    failed = record {
+      once = h.once e;
+      rose = h.rose e;
+      others = λ w ne. counted_same faults old new w (h.others.same w ne);
+    };
+  }
+
+  two_rose : {v w : ℕ} → FailedAt faults old new v ⊎ FailedAt faults old new w → RoseAtOne faults old new
+  two_rose {v} {w} h = elim h [
+    | inl a ↦ record { volume = v; failed = a }
+    | inr b ↦ record { volume = w; failed = b }
+  ]
 
   pub calls_same : (s : State) (a : act.Action) (failed : Bool) → CallsAs faults s a old new failed → failed ≡ false
       → map faults new ≡ map faults old
   calls_same s (act.EndTransfer t) failed h e = h.told e
   calls_same s (act.FinishEviction f) failed h e = h.called.told e
   calls_same s (act.FinishPage f) failed h e = h.called.told e
+  calls_same s (act.CopyPage m p) failed h e = h.told e
   calls_same s _ failed h e = ap (map faults) h.0
 
   pub calls_rose : (s : State) (a : act.Action) (failed : Bool) → CallsAs faults s a old new failed → failed ≡ true
@@ -77,6 +107,7 @@ module _ {D : Type 0} (faults : D → ℕ) (old new : List D) where
       one_rose (home_in s.store (page_in s.store f).0).volume failed h.called e
   calls_rose s (act.FinishPage f) failed h e =
       one_rose (home_in s.store (page_in s.store f).0).volume failed h.called e
+  calls_rose s (act.CopyPage m p) failed h e = two_rose (h.once e)
   calls_rose s _ failed h e = absurd (not_both e h.1)
 
   pub calls_called : (s : State) (a : act.Action) (failed : Bool) → CallsAs faults s a old new failed
@@ -84,6 +115,7 @@ module _ {D : Type 0} (faults : D → ℕ) (old new : List D) where
   calls_called s (act.EndTransfer t) failed h e = refl
   calls_called s (act.FinishEviction f) failed h e = refl
   calls_called s (act.FinishPage f) failed h e = refl
+  calls_called s (act.CopyPage m p) failed h e = refl
   calls_called s _ failed h e = absurd (not_both e h.1)
 
   -- what is told of it
@@ -104,10 +136,14 @@ module _ {D : Type 0} (faults : D → ℕ) (old new : List D) where
 -- ---- sums
 
 one_sum : {D : Type 0} (faults : D → ℕ) (old new : List D) (v : ℕ) → length new ≡ length old
-    → ((w : ℕ) → w ≢ v → slice_get new w ≡ slice_get old w)
+    → ((w : ℕ) → w ≢ v → faults_at faults new w ≡ faults_at faults old w)
     → IsOneMore (faults_at faults old v) (faults_at faults new v)
     → sum_by faults old < 2 ^ 63 → sum_by faults new ≡ sum_by faults old + 1
-one_sum faults [] [] v long same once low = absurd (let one : 0 ≡ 0 + 1 = once (omega arith) in omega (arith, one))
+one_sum faults [] [] v long same once low = absurd (none v once)
+  where
+    none : (v : ℕ) → IsOneMore (faults_at faults [] v) (faults_at faults [] v) → ⊥
+    none zero once = let one : 0 ≡ 0 + 1 = once (omega arith) in omega (arith, one)
+    none (suc v) once = let one : 0 ≡ 0 + 1 = once (omega arith) in omega (arith, one)
 one_sum faults [] (y ∷ ys) v long same once low = absurd (omega (arith, long))
 one_sum faults (x ∷ xs) [] v long same once low = absurd (omega (arith, long))
 one_sum faults (x ∷ xs) (y ∷ ys) zero long same once low =
@@ -117,7 +153,7 @@ one_sum faults (x ∷ xs) (y ∷ ys) zero long same once low =
     let one : faults y ≡ faults x + 1 = once (omega (arith, low, b)) in
     omega (arith, one, rest, a, b)
 one_sum faults (x ∷ xs) (y ∷ ys) (suc v) long same once low =
-    let head = ap faults (some_is y x (same 0 (λ e. absurd (omega (arith, e))))) in
+    let head : faults y ≡ faults x = same 0 (λ e. absurd (omega (arith, e))) in
     let a = sum_by-cons faults y ys in
     let b = sum_by-cons faults x xs in
     let rest = one_sum faults xs ys v (omega (arith, long)) (λ w ne. same (suc w) (λ e. ne (omega (arith, e)))) once
@@ -148,8 +184,8 @@ told_sum faults old new told long h = elim (cases_lt told 1) [
   | inr some ↦ (let few = h.few in let one_told : told ≡ 1 = omega (arith, some, few) in
       let rose = h.one one_told in
       capped_one (sum_by faults old) (sum_by faults new) told one_told
-      (rose_sum faults old new rose.volume long rose.others.same rose.rose)
-      (one_sum faults old new rose.volume long rose.others.same rose.once))
+      (rose_sum faults old new rose.volume long rose.failed.others rose.failed.rose)
+      (one_sum faults old new rose.volume long rose.failed.others rose.failed.once))
 ]
 
 count_on : (xs ys : List Entry) → count_by is_fault (xs ++ ys) ≡ count_by is_fault xs + count_by is_fault ys

@@ -5,8 +5,9 @@ use Rattle.std.specs.Prelude.{IfSome}
 use Rattle.std.specs.List.{find}
 use Rattle.assoc_mem.specs.declared.HeldSeg.{HeldSeg}
 use Rattle.assoc_mem.specs.Held.{is_number}
+use Rattle.seg_mover.specs.declared.Mover.{Mover}
 use Rattle.tree_model.specs.Tree.{Node, node_in, pool_of}
-use Rattle.active_segs.specs.Active.{table_at, uid_at}
+use Rattle.active_segs.specs.Active.{IsActive, table_at, uid_at}
 use Rattle.custody_model.specs.Custody.{leads_to}
 use Rattle.seg_control.specs.Control.{place_of}
 use Rattle.storage_ops.specs.Shown.{pages_of}
@@ -16,9 +17,13 @@ use Rattle.machine_model.specs.Custodial.{AreHeldSegs, AreOfProcess}
 use Rattle.machine_model.specs.Entitled.{IsEntitled}
 use Rattle.machine_model.specs.Holding.{seen}
 use Rattle.machine_model.specs.Keeps.{Keeps}
-use Rattle.machine_model.specs.Reads.{cpu_at, is_active}
+use Rattle.machine_model.specs.Lacking.{MovesIn}
+use Rattle.machine_model.specs.Movers.{mover_in, mover_of}
+use Rattle.machine_model.specs.declared.Phase.{Phase}
+use Rattle.machine_model.specs.declared.Phase.TheVariants as phase
+use Rattle.machine_model.specs.Reads.{cpu_at, is_active, next_command, process_at}
 use Rattle.machine_model.specs.Seen.{shown}
-use Rattle.machine_model.specs.State.{State}
+use Rattle.machine_model.specs.State.{Owner, State}
 use Rattle.machine_model.proofs.ActiveSeen.{active_place}
 use Rattle.machine_model.proofs.MoveAsks.{descriptor_active, entitled_all, leads_all, seg_found}
 use Rattle.machine_model.proofs.PageShown.{active_there}
@@ -99,6 +104,27 @@ module _ {D : Type 0} (t : Parts D) (c : ℕ) (sound : IsSound t) (there : c < l
       by None e = tt
       by (Some h) e = of_process h e (cpu_at s.processors c).process refl
 
+  some_same : {a b : Mover} → Some a ≡ Some b → a ≡ b
+  some_same e = cc
+
+  -- the segment that moves is active
+  moves_active : (m : Mover) → (x : Option Owner) → s.owner ≡ x → mover_of x ≡ Some m
+      → IsActive s.store.ast.entries m.uid
+  moves_active m None e h = absurd (none_some h)
+  moves_active m (Some q) e h = by q.phase (sound.keeps.working.moves q e) h
+    where
+      by : (y : Phase) → MovesIn y s.store (process_at s q.cpu) (next_command s (process_at s q.cpu))
+          → mover_in y ≡ Some m → IsActive s.store.ast.entries m.uid
+      by phase.Looking rests i = absurd (none_some i)
+      by (phase.Taken a w) rests i = absurd (none_some i)
+      by (phase.Waiting a w) rests i = absurd (none_some i)
+      by (phase.Moving n) rests i = let same : n ≡ m = some_same i in
+          subst (λ (x : Mover). IsActive s.store.ast.entries x.uid) same
+          (place_of s.store.ast.entries n.uid, (active_place s.store.ast n.uid rests.active).1)
+
+  moved_active : (m : Mover) → s.store.moving ≡ Some m → IsActive s.store.ast.entries m.uid
+  moved_active m e = moves_active m s.owner refl (sym sound.keeps.machine.moving ∙ e)
+
   pub may_choose : MayChoose s c
   may_choose = record {
     processor = there;
@@ -106,5 +132,9 @@ module _ {D : Type 0} (t : Parts D) (c : ℕ) (sound : IsSound t) (there : c < l
     run = run_there t c sound;
     known = process_known t c sound there;
     held = held_long;
-    looks = record { keeps = keeps; script = sound.keeps.machine.script; pools = sound.keeps.machine.pools };
+    keeps = keeps;
+    script = sound.keeps.machine.script;
+    pools = sound.keeps.machine.pools;
+    moving = sound.keeps.machine.moving;
+    moves = moved_active;
   }

@@ -28,7 +28,7 @@ use Rattle.machine.proofs.AloneLaws.{leaving_room, place_room, process_known, ru
 use Rattle.machine.proofs.Busy.{busy_for}
 use Rattle.machine.proofs.Changed.{HasPlaces, IsStoreOf, changed_sound}
 use Rattle.machine.proofs.CommitStays.{commit_counts}
-use Rattle.machine.proofs.OwnerCalls.{owned}
+use Rattle.machine.proofs.OwnerCalls.{owned, still_for}
 
 -- There are as many places as the pools have, still.
 pub commit_places : (s : State) (c : ℕ) (o : Outcome) → HasPlaces s.store → HasPlaces (after s c act.Commit o).store
@@ -71,6 +71,7 @@ module _ {D : Type 0} (t : Parts D) (c : ℕ) (sound : IsSound t) (there : c < l
   applies : (pages : D → List (List ℕ)) → HasParts (map pages t.drives) s.store.pages.records s.store.pages.vtocs
       → IsApplicable t k x
   applies pages parts = record {
+    still = still_for t c sound there act.Commit doing;
     run = run_there t c sound k its_process;
     knows = process_known t c sound there k its_process;
     next = stands.speaks.next;

@@ -21,7 +21,7 @@ use Rattle.seg_control.specs.Control.{kst_at, leads, word_of}
 use Rattle.seg_control.specs.Kept.{IsKnownAt}
 use Rattle.storage_ops.specs.Shown.{pages_of}
 use Rattle.flat_model.specs.Pages.{is_stored}
-use Rattle.flat_model.specs.References.{after_reference, is_used_up, is_volume_full, room_reply, stores_page}
+use Rattle.flat_model.specs.References.{after_reference, is_out_of_room, is_used_up, room_reply, stores_page}
 use Rattle.flat_model.specs.References.{word_reply}
 use Rattle.flat_model.specs.Store.{Store}
 use Rattle.machine_model.specs.Actions as act
@@ -99,7 +99,7 @@ module _ {D : Type 0} (t : Parts D) (c : ℕ) (sound : IsSound t) (there : c < l
 
   has_room : room_reply s.plan (flat_of s) inside.node reply.Done ≡ reply.Done
   unfolding room_refusal
-  has_room = by (is_used_up (flat_of s) inside.node.uid) (is_volume_full s.plan (flat_of s) inside.node.volume)
+  has_room = by (is_used_up (flat_of s) inside.node.uid) (is_out_of_room s.plan (flat_of s) inside.node)
       (sym (ap (only is_of_room) (due_is s k r keeps u inside
       ∙ ap (λ (b : Bool). cond b (room_reply s.plan (flat_of s) inside.node word) word) stores))
       ∙ looked.finds.room)
@@ -144,6 +144,7 @@ module _ {D : Type 0} (t : Parts D) (c : ℕ) (sound : IsSound t) (there : c < l
     faithful = keeps.faithful;
     room = λ n e. subst (λ (x : Node). room_reply s.plan (flat_of s) x reply.Done ≡ reply.Done)
         (same (sym inside.there ∙ e)) has_room;
+    stays = looked.finds.stays;
   }
     where
       same : {a b : Node} → Some a ≡ Some b → a ≡ b

@@ -8,12 +8,15 @@ use Rattle.flat_model.specs.Pages.{is_stored}
 use Rattle.custody_model.specs.Clean.{custody_after}
 use Rattle.custody_model.specs.Custody.{Custody, bound_page}
 use Rattle.vtoc.specs.Vtoc.{Entry, record_at}
+use Rattle.volumes.specs.Volumes.{Vols}
 use Rattle.page_table.specs.declared.Ptw.{Ptw}
 use Rattle.page_table.specs.declared.Ptw.TheVariants as ptw
 use Rattle.page_control.specs.declared.Home.{Home}
 use Rattle.page_control.specs.Picture.{is_binding, is_filed_at, words_at, words_filed, words_held, words_of_page}
 use Rattle.page_control.specs.Plain.{bindings}
 use Rattle.page_control.specs.Tied.{uid_at, vtoc_in}
+use Rattle.seg_mover.specs.declared.Mover.{Mover}
+use Rattle.seg_control.specs.Moving.{in_move}
 use Rattle.storage_ops.specs.Shown.{home_of, is_filed, is_there, picture}
 use Rattle.machine_model.specs.Holding.{seen}
 use Rattle.machine_model.specs.Keeps.{Keeps}
@@ -55,6 +58,19 @@ volume_is (m ∷ ns) u n e = by (eqb m.uid u) e (volume_is ns u n)
         → cond b m.volume (volume_in ns u) ≡ n.volume
     by true same rest = let is : m ≡ n = cc in ap (λ (x : Node). x.volume) is
     by false later rest = rest later
+
+-- where no segment moves, the volumes are as they are at rest
+pub records_still : (vols : Vols (List (List ℕ))) (x : Option Mover) → x ≡ None
+    → (in_move vols x).records ≡ vols.records
+records_still vols x none = ap (λ (y : Option Mover). (in_move vols y).records) none
+
+pub vtocs_still : (vols : Vols (List (List ℕ))) (x : Option Mover) → x ≡ None → (in_move vols x).vtocs ≡ vols.vtocs
+vtocs_still vols x none = ap (λ (y : Option Mover). (in_move vols y).vtocs) none
+
+-- a move takes records and an entry, and no drive
+pub drives_in_move : {D : Type 0} (vols : Vols D) (x : Option Mover) → (in_move vols x).drives ≡ vols.drives
+drives_in_move vols None = refl
+drives_in_move vols (Some m) = refl
 
 module _ (s : State) (keeps : Keeps s) where
   abbrev nodes : List Node

@@ -23,6 +23,7 @@ use Rattle.machine_model.specs.Jobs.{cut_all, cut_one, eviction_done, leaving_if
 use Rattle.machine_model.specs.Jobs.{page_back, page_done, page_gone, page_in, pages_back, seg_back}
 use Rattle.machine_model.specs.Jobs.{seg_gone, segment_taken, segs_back, segs_gone, take_all, take_one, took}
 use Rattle.machine_model.specs.Jobs.{with_choice, with_hand_moved, with_here, write_failed}
+use Rattle.machine_model.specs.Moves.{copy_failed, page_copied}
 use Rattle.machine_model.specs.Reads.{cut_of_owner, frames_from, frames_of_owner, home_in, next_command}
 use Rattle.machine_model.specs.Reads.{process_at, trailers_in}
 use Rattle.machine_model.specs.Shutdown.{after_visit, page_taken, visited_if}
@@ -137,6 +138,8 @@ disks_kept s c (act.FinishEviction f) o = either o.failed (eviction_done (with_f
     (write_failed s c o.faults) (gone s f) (failed s c o.faults)
 disks_kept s c (act.FinishPage f) o = either o.failed (page_done (with_faults s o.faults) f)
     (write_failed s c o.faults) (gone s f) (failed s c o.faults)
+disks_kept s c (act.CopyPage m p) o = either o.failed (page_copied (with_faults s o.faults) c m p)
+    (copy_failed s c o.faults) (length-set s.store.pages.disks m.to.0 _) refl
 disks_kept s c (act.Deactivate u) o = all_gone s (cut_of_owner s.owner)
 disks_kept s c act.Commit o = commits s c (next_command s (process_at s c))
 disks_kept s c _ o = refl

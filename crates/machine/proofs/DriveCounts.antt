@@ -1,30 +1,52 @@
 -- The count of one drive's failures rises, and those of the others stay: so the count of all rises.
-use Rattle.std.proofs.Common.{◌≡◌, ◌≢◌, ◌≤◌, ℕ, zero, suc, length, List, [], ◌∷◌, Some, refl, ap, arith}
+use Rattle.std.proofs.Common.{◌≡◌, ◌≢◌, ◌≤◌, ℕ, zero, suc, length, List, [], ◌∷◌, Option, Some, None, refl, sym, ap}
+use Rattle.std.proofs.Common.{◌∙◌, arith}
 use Rattle.std.specs.Prelude.{OnErr, Result, Ok, Err, slice_get, sum_by}
 use Rattle.std.proofs.lemmas.List.Sums.{sum_by-cons}
 use Rattle.site_io.specs.Faults.{Rose}
 use Rattle.volumes.specs.Volumes.{faults_at}
 use Rattle.page_control.specs.Drives.{CallsDrive}
+use Rattle.seg_mover.specs.Copies.{CallsDrives}
 
-pub some_is : {D : Type 0} (x y : D) → Some x ≡ Some y → x ≡ y
-some_is x y h = cc
+-- what a drive that may be there counts
+abbrev counted : {D : Type 0} → (D → ℕ) → Option D → ℕ
+counted faults None = 0
+counted faults (Some d) = faults d
+
+counted_at : {D : Type 0} (faults : D → ℕ) (drives : List D) (v : ℕ)
+    → faults_at faults drives v ≡ counted faults (slice_get drives v)
+counted_at faults [] zero = refl
+counted_at faults [] (suc v) = refl
+counted_at faults (d ∷ ds) zero = refl
+counted_at faults (d ∷ ds) (suc v) = counted_at faults ds v
+
+-- a drive that is as it was counts as many
+pub counted_same : {D : Type 0} (faults : D → ℕ) (old new : List D) (v : ℕ) → slice_get new v ≡ slice_get old v
+    → faults_at faults new v ≡ faults_at faults old v
+counted_same faults old new v same =
+    counted_at faults new v ∙ ap (counted faults) same ∙ sym (counted_at faults old v)
 
 pub same_sum : {D : Type 0} (faults : D → ℕ) (old new : List D) → length new ≡ length old
-    → ((w : ℕ) → slice_get new w ≡ slice_get old w) → sum_by faults new ≡ sum_by faults old
+    → ((w : ℕ) → faults_at faults new w ≡ faults_at faults old w) → sum_by faults new ≡ sum_by faults old
 same_sum faults [] [] long same = refl
 same_sum faults [] (y ∷ ys) long same = absurd (omega (arith, long))
 same_sum faults (x ∷ xs) [] long same = absurd (omega (arith, long))
 same_sum faults (x ∷ xs) (y ∷ ys) long same =
-    let head = ap faults (some_is y x (same 0)) in
+    let head : faults y ≡ faults x = same 0 in
     let rest = same_sum faults xs ys (omega (arith, long)) (λ w. same (suc w)) in
     let a = sum_by-cons faults y ys in
     let b = sum_by-cons faults x xs in
     omega (arith, head, rest, a, b)
 
 pub rose_sum : {D : Type 0} (faults : D → ℕ) (old new : List D) (v : ℕ) → length new ≡ length old
-    → ((w : ℕ) → w ≢ v → slice_get new w ≡ slice_get old w) → Rose (faults_at faults old v) (faults_at faults new v)
+    → ((w : ℕ) → w ≢ v → faults_at faults new w ≡ faults_at faults old w)
+    → Rose (faults_at faults old v) (faults_at faults new v)
     → Rose (sum_by faults old) (sum_by faults new)
-rose_sum faults [] [] v long same rose = absurd (omega (arith, rose))
+rose_sum faults [] [] v long same rose = absurd (none v rose)
+  where
+    none : (v : ℕ) → Rose (faults_at faults [] v) (faults_at faults [] v) → ⊥
+    none zero rose = omega (arith, rose)
+    none (suc v) rose = omega (arith, rose)
 rose_sum faults [] (y ∷ ys) v long same rose = absurd (omega (arith, long))
 rose_sum faults (x ∷ xs) [] v long same rose = absurd (omega (arith, long))
 rose_sum faults (x ∷ xs) (y ∷ ys) zero long same rose =
@@ -33,7 +55,7 @@ rose_sum faults (x ∷ xs) (y ∷ ys) zero long same rose =
     let b = sum_by-cons faults x xs in
     omega (arith, rose, rest, a, b)
 rose_sum faults (x ∷ xs) (y ∷ ys) (suc v) long same rose =
-    let head = ap faults (some_is y x (same 0 (λ e. absurd (omega (arith, e))))) in
+    let head : faults y ≡ faults x = same 0 (λ e. absurd (omega (arith, e))) in
     let rest = rose_sum faults xs ys v (omega (arith, long)) (λ w ne. same (suc w) (λ e. ne (omega (arith, e)))) rose in
     let a = sum_by-cons faults y ys in
     let b = sum_by-cons faults x xs in
@@ -45,7 +67,7 @@ pub call_rose : {D Plan T E : Type 0} (plan : D → Plan) (places faults : D →
     → OnErr result (Rose (sum_by faults old) (sum_by faults new))
 call_rose plan places faults old new v (Ok x) call = tt
 call_rose plan places faults old new v (Err e) call =
-    rose_sum faults old new v call.count call.others.same call.rose
+    rose_sum faults old new v call.count (λ w ne. counted_same faults old new w (call.others.same w ne)) call.rose
 
 -- the counts before and after it, as the machine has them
 pub call_counts : {D Plan T E : Type 0} (plan : D → Plan) (places faults : D → ℕ) (old new : List D) (v : ℕ)
@@ -56,4 +78,15 @@ call_counts plan places faults old new v (Ok x) before now call was is =
 call_counts plan places faults old new v (Err e) before now call was is =
     let grows = call.grows in
     let rose = call_rose plan places faults old new v (Err e) call in
+    (omega (arith, grows, was, is), omega (arith, rose, was, is))
+
+-- the same of a copy, which calls two drives
+pub copy_counts : {D Plan T E : Type 0} (plan : D → Plan) (places faults : D → ℕ) (old new : List D) (v w : ℕ)
+    (result : Result T E) (before now : ℕ) → CallsDrives plan places faults old new v w result
+    → before ≡ sum_by faults old → now ≡ sum_by faults new → (before ≤ now) × OnErr result (Rose before now)
+copy_counts plan places faults old new v w (Ok x) before now call was is =
+    let grows = call.grows in (omega (arith, grows, was, is), tt)
+copy_counts plan places faults old new v w (Err e) before now call was is =
+    let grows = call.grows in
+    let rose = call.rose in
     (omega (arith, grows, was, is), omega (arith, rose, was, is))

@@ -17,7 +17,8 @@ use Rattle.page_table.specs.declared.Ptw.{Ptw}
 use Rattle.page_table.specs.declared.Ptw.TheVariants as ptw
 use Rattle.flat_model.specs.References.{word_reply}
 use Rattle.script.specs.References.{new_word, permits}
-use Rattle.seg_control.specs.Control.{sdws_at, word_of}
+use Rattle.seg_control.specs.Control.{sdws_at, table_of, word_of}
+use Rattle.seg_control.specs.Moving.{next_out}
 use Rattle.processor.specs.Moves.{by_descriptor, by_held, by_page, by_seg, by_word}
 use Rattle.script.specs.References.{reference_of}
 use Rattle.script.specs.declared.commands.Command.{Command}
@@ -31,7 +32,8 @@ use Rattle.machine_model.specs.declared.Phase.{Phase}
 use Rattle.machine_model.specs.declared.Phase.TheVariants as phase
 use Rattle.machine_model.specs.declared.Processor.{Processor}
 use Rattle.machine_model.specs.Actions as act
-use Rattle.machine_model.specs.Actions.{action_of, by_move, clear_or, come_to, finish_of, go_on_with, has_had_its_turn}
+use Rattle.machine_model.specs.Actions.{action_of, by_move, clear_or, come_to, copy_or_commit, finish_of}
+use Rattle.machine_model.specs.Actions.{go_on_with, has_had_its_turn}
 use Rattle.machine_model.specs.Actions.{is_empty, is_over, load_or_idle, look_of, move_of, once_cleared, own_or_run}
 use Rattle.machine_model.specs.Actions.{refer_or_take, run_process, take_or_wait, transfer_or}
 use Rattle.machine_model.specs.After.{no_call}
@@ -208,6 +210,9 @@ module _ (s : State) (c : ℕ) (m : IsMachine s) (there : c < length s.processor
     look_found act.TakeSupervisor h = absurd h
     look_found (act.Signal w) h = tt
     look_found (act.Deactivate u) h = absurd h
+    look_found (act.BeginMove u volume) h = tt
+    look_found (act.CopyPage x q) h = absurd h
+    look_found (act.CommitMove x) h = absurd h
 
   -- ---- what was taken goes
 
@@ -231,6 +236,11 @@ module _ (s : State) (c : ℕ) (m : IsMachine s) (there : c < length s.processor
           → Found s c (once_cleared x (finish_of a q.owner.frames))
       by None i = finish_found a w (record { owner = q; waits = e; cleared = i }) q.owner.frames refl
       by (Some d) i = tt
+  phase_found q its (phase.Moving x) e = by (next_out (table_of s.store.ast x.uid) x.next)
+    where
+      by : (y : Option ℕ) → Found s c (copy_or_commit x y)
+      by None = tt
+      by (Some n) = tt
 
   -- ---- the rules in their order
 

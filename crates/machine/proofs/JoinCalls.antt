@@ -34,7 +34,7 @@ use Rattle.machine.specs.Promise.{IsSound}
 use Rattle.machine.specs.Turns.{IsBusy}
 use Rattle.machine.proofs.Busy.{busy_for}
 use Rattle.machine.proofs.Found.{Looked, found_of}
-use Rattle.machine.proofs.OwnerCalls.{IsEmptiable, SoundIn, emptiable_by, kept_through, owned}
+use Rattle.machine.proofs.OwnerCalls.{IsEmptiable, SoundIn, emptiable_by, kept_through, owned, still_for}
 use Rattle.machine.proofs.Stays.{ShowsAs, same_as, tables_as, then_as}
 use Rattle.machine.proofs.TakingStays.{begun_as}
 
@@ -147,7 +147,8 @@ module _ {D : Type 0} (t : Parts D) (c : ℕ) (sound : IsSound t) (there : c < l
     at = leaf.1 ∙ ap (λ (x : ℕ). Some x) (sym (looked.finds.uid ∙ ap or_zero leaf.1))
 
     victim_emptiable : IsEmptiable t c sound there u
-    victim_emptiable = emptiable_by t c sound there u looked.idle (owned t c sound there looked.looking.owner)
+    victim_emptiable = emptiable_by t c sound there u (still_for t c sound there
+        (act.EmptyVictim pool chain u) doing) looked.idle (owned t c sound there looked.looking.owner)
         (active_at s.store.ast looked.finds.place u at) looked.finds.unread
         (leaf_inferiors s looked.finds.place u keeps at leaf.2)
 

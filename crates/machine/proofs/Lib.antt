@@ -20,6 +20,7 @@ pub mod Found
 pub mod JoinCalls
 pub mod LoopCalls
 pub mod LossTold
+pub mod MoveCalls
 pub mod MovedLaws
 pub mod NoZeros
 pub mod OwnerCalls

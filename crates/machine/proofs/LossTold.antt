@@ -30,6 +30,7 @@ use Rattle.machine_model.specs.Reads.{home_in}
 use Rattle.machine.specs.Shut.{AllVisited, AreToldBack, CallsAtVisit, HasVisited, TellsLoss}
 use Rattle.machine.specs.Turns.{RoseAtOne}
 use Rattle.machine.proofs.CallLaws.{are_told}
+use Rattle.machine.proofs.DriveCounts.{counted_same}
 use Rattle.machine.proofs.VisitNext.{bound_there}
 
 -- ---- the entries of a visit
@@ -134,9 +135,11 @@ module _ {D : Type 0} (faults : D → ℕ) (s : State) (old new : List D) where
   visit_rose None failed h e = absurd (let no = h.1 in cc)
   visit_rose (Some page) failed h e = record {
     volume = (home_in s.store (page_in s.store s.visited).0).volume;
-    others = h.called.others;
-    once = h.called.once e;
-    rose = h.called.rose e;
+    failed = record {
+      once = h.called.once e;
+      rose = h.called.rose e;
+      others = λ w ne. counted_same faults old new w (h.called.others.same w ne);
+    };
   }
 
   visit_called : (x : Option (ℕ × ℕ)) (failed : Bool) → CallsAtVisit faults s x old new failed → failed ≡ true

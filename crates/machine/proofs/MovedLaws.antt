@@ -1,6 +1,6 @@
 -- A step that moves lengthens the book, or changes the owner of the supervisor or how far the owner's job has come.
-use Rattle.std.proofs.Common.{◌≡◌, ◌≢◌, ◌⊎◌, ◌<◌, ◌≤◌, ◌+◌, ℕ, Bool, true, false, cond, length, List, [], ◌∷◌, ◌++◌}
-use Rattle.std.proofs.Common.{Option, Some, None, inl, inr, refl, sym, subst, ◌∙◌, arith}
+use Rattle.std.proofs.Common.{◌≡◌, ◌≢◌, ◌⊎◌, ◌<◌, ◌≤◌, ◌+◌, ◌-◌, ℕ, Bool, true, false, cond, length, List, [], ◌∷◌}
+use Rattle.std.proofs.Common.{◌++◌, Option, Some, None, inl, inr, refl, sym, subst, ◌∙◌, arith}
 use Rattle.std.proofs.lemmas.List.{length-append}
 use Rattle.script.specs.declared.commands.Command.{Command}
 use Rattle.script.specs.declared.commands.Command.TheVariants as command
@@ -16,6 +16,9 @@ use Rattle.page_control.specs.Plain.{words_in}
 use Rattle.machine_model.specs.declared.Aim.{Aim}
 use Rattle.machine_model.specs.declared.Aim.TheVariants as aim
 use Rattle.machine_model.specs.declared.CutDescriptor.{CutDescriptor}
+use Rattle.machine_model.specs.declared.Phase.{Phase}
+use Rattle.machine_model.specs.declared.Phase.TheVariants as phase
+use Rattle.machine_model.specs.Moves.{copy_failed, move_begun, page_copied, without_move}
 use Rattle.machine_model.specs.Actions as act
 use Rattle.machine_model.specs.Actions.{action_of}
 use Rattle.machine_model.specs.After.{Outcome, after, by_outcome}
@@ -24,14 +27,18 @@ use Rattle.machine_model.specs.Jobs.{cut_all, cut_one, emptied, entries_left, ev
 use Rattle.machine_model.specs.Jobs.{page_done, page_in, pages_back, seg_back, seg_gone, segment_taken, segs_back}
 use Rattle.machine_model.specs.Jobs.{segs_gone, take_all, take_one, took, with_hand_moved, write_failed}
 use Rattle.machine_model.specs.Promise.{KeepsAll}
+use Rattle.seg_mover.specs.declared.Mover.{Mover}
+use Rattle.seg_control.specs.Control.{table_of}
 use Rattle.machine_model.specs.Reads.{cut_of_owner, frames_from, frames_of_owner, process_at, run_at}
 use Rattle.machine_model.specs.Reads.{trailers_in}
 use Rattle.machine_model.specs.Refusal.{reply_of, uid_of_command}
-use Rattle.machine_model.specs.State.{State}
+use Rattle.machine_model.specs.State.{Owner, State}
 use Rattle.machine_model.specs.Steps.{booked, fault_told, frame_lost, told, transfer_failed}
 use Rattle.machine_model.specs.Steps.{transferred, with_faults, with_store}
 use Rattle.machine_model.specs.Turns.{moves}
-use Rattle.machine_model.proofs.StepKnows.{Knows, step_knows}
+use Rattle.machine_model.proofs.OutlineMove.{first_past}
+use Rattle.machine_model.proofs.StepKnows.{CopiesNext, Knows, step_knows}
+use Rattle.machine_model.proofs.WorkStep.{BeginsMove}
 use Rattle.machine_model.proofs.TieLaws.{none_some}
 use Rattle.machine.specs.Turns.{Changes}
 use Rattle.machine.proofs.Found.{Found, step_found}
@@ -176,6 +183,47 @@ committed_longer s c k x =
     let rest = left_size (told (let_go s k x) c None (reply_of s k x)) c x in
     omega (arith, gone, one, rest)
 
+-- ---- a segment moves
+
+-- the machine once a process was told of a failed copy
+abbrev copy_told : State → ℕ → ℕ → State
+copy_told s c n = fault_told (with_store s (without_move s.store)) (Some (process_at s c)) n
+
+copy_longer : (s : State) (c n : ℕ) → IsLonger s (copy_failed s c n)
+copy_longer s c n =
+    let fault = length-append s.entries (entry.Fault (Some (process_at s c)) ∷ []) in
+    let last = length-append (copy_told s c n).entries (entry.Do (process_at (copy_told s c n) c)
+    (run_at (copy_told s c n).runs (process_at (copy_told s c n) c)).place c None reply.Device ∷ []) in
+    omega (arith, fault, last)
+
+-- what the owner does
+phases : {a b : Owner} → Some a ≡ Some b → a.phase ≡ b.phase
+phases e = cc
+
+begin_changes : (s : State) (c u volume : ℕ) → BeginsMove s c u volume → (move_begun s c u volume).owner ≢ s.owner
+begin_changes s c u volume k e =
+    let looks : Phase = k.looking.owner.owner.phase in
+    let no : phase.Moving _ ≡ phase.Looking = phases (e ∙ k.looking.owner.mine) ∙ k.looking.looks in cc
+
+-- the next page that is copied is past the one before
+next_of : {m n : Mover} → phase.Moving m ≡ phase.Moving n → m.next ≡ n.next
+next_of e = cc
+
+copy_changes : (s : State) (c : ℕ) (m : Mover) (p n : ℕ) → CopiesNext s c m p
+    → (page_copied (with_faults s n) c m p).owner ≢ s.owner
+copy_changes s c m p n k e =
+    let past = (first_past (table_of s.store.ast m.uid) (256 - m.next) m.next p k.next).0 in
+    let same : p + 1 ≡ m.next = next_of (phases (e ∙ k.moving.owner.mine) ∙ k.moving.moves) in
+    omega (arith, past, same)
+
+copied_changes : (s : State) (c : ℕ) (m : Mover) (p : ℕ) (o : Outcome) → CopiesNext s c m p
+    → Changes s (by_outcome o (page_copied (with_faults s o.faults) c m p) (copy_failed s c o.faults))
+copied_changes s c m p o k = by o.failed
+  where
+    by : (f : Bool) → Changes s (cond f (copy_failed s c o.faults) (page_copied (with_faults s o.faults) c m p))
+    by true = inl (copy_longer s c o.faults)
+    by false = inr (copy_changes s c m p o.faults k)
+
 -- ---- each action
 
 module _ (s : State) (c : ℕ) (o : Outcome) where
@@ -220,6 +268,9 @@ module _ (s : State) (c : ℕ) (o : Outcome) where
   changes (act.FinishPage n) k f m = inl (by_longer s o (page_done (with_faults s o.faults) n)
       (write_failed s c o.faults) (page_longer s n) (failed_longer s c o.faults))
   changes (act.Deactivate u) k f m = inl (emptied_longer s c u)
+  changes (act.BeginMove u volume) k f m = inr (begin_changes s c u volume k)
+  changes (act.CopyPage x n) k f m = copied_changes s c x n o k
+  changes (act.CommitMove x) k f m = inl (one _)
   changes act.Commit k f m = inl (subst (λ (x : Option Command). IsLonger s (committed_at s c x))
       (sym k.speaks.next) (committed_longer s c (process_at s c) k.command))
 

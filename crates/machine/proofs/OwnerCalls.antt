@@ -29,6 +29,8 @@ use Rattle.machine_model.proofs.ActiveSeen.{active_place, within_some}
 use Rattle.machine_model.proofs.ChainFacts.{chain_active}
 use Rattle.machine_model.proofs.FindLaws.{free_frame, position_at, unread_page}
 use Rattle.machine_model.proofs.InsideLaws.{inside_is}
+use Rattle.machine_model.specs.Movers.{AsksMover}
+use Rattle.machine_model.proofs.MoverTied.{moving_fits}
 use Rattle.machine_model.proofs.ListLaws.{map_list, within_by}
 use Rattle.machine_model.proofs.LookFacts.{IsInside}
 use Rattle.machine_model.proofs.TieLaws.{none_some}
@@ -73,6 +75,7 @@ use Rattle.machine.proofs.Stays.{ShowsAs, core_as, stays_sound, tables_as, then_
 
 -- a page may be read into a frame
 pub record IsReadable (st : Storage) (f u p : ℕ) : Type 0 where
+  pub still : st.moving ≡ None
   pub active : IsActive st.ast.entries u
   pub page : p < length (table_of st.ast u)
   pub out : is_out (word_of st.ast u p) ≡ true
@@ -117,6 +120,10 @@ module _ {D : Type 0} (t : Parts D) (c : ℕ) (sound : IsSound t) (there : c < l
   abbrev keeps : Keeps s
   keeps = sound.keeps.machine.keeps
 
+  -- what an action asks of the move that segment control has under way
+  pub still_for : (a : Action) → action_of s c ≡ a → AsksMover a s.store.moving
+  still_for a doing = moving_fits s c a sound.keeps.machine doing
+
   -- the machine after an action that makes no call of a drive, and shows what it showed
   pub kept_through : (a : Action) (v : State) → v ≡ after s c a (no_call s) → action_of s c ≡ a
       → shown_after s c (no_call s) a ≡ (λ x. x)
@@ -130,6 +137,7 @@ module _ {D : Type 0} (t : Parts D) (c : ℕ) (sound : IsSound t) (there : c < l
   pub readable : (f u p : ℕ) → action_of s c ≡ act.Start f u p → IsReadable s.store f u p
   unfolding place_of
   readable f u p doing = record {
+    still = still_for (act.Start f u p) doing;
     active = active_there s.store u active;
     page = within.1;
     out = out_is (word_of s.store.ast u p) l.finds.out;
@@ -240,6 +248,7 @@ module _ {D : Type 0} (t : Parts D) (c : ℕ) (sound : IsSound t) (there : c < l
 
   -- what an eviction asks: some frame is bound, no page is on its way out, and the owner has taken nothing
   pub record IsEvictable : Type 0 where
+    pub still : s.store.moving ≡ None
     pub bound : list_any is_bound s.store.pages.core.frames ≡ true
     pub here : AreHere s.store
     pub owner : HasOwner s.owner
@@ -247,6 +256,7 @@ module _ {D : Type 0} (t : Parts D) (c : ℕ) (sound : IsSound t) (there : c < l
 
   pub evictable : Evicts → IsEvictable
   evictable h = record {
+    still = still_for (act.Evict (or_zero (clock_choice s.store.pages.core))) h;
     bound = any_at is_bound s.store.pages.core.frames (chosen h).0 frame.Free
         (bound_is (frame_at s.store.pages.core (chosen h).0) at.0
         (sym (map_list bound_page s.store.pages.core.frames (chosen h).0 frame.Free) ∙ at.1)) refl;
@@ -285,6 +295,7 @@ module _ {D : Type 0} (t : Parts D) (c : ℕ) (sound : IsSound t) (there : c < l
   -- What the emptying of a segment asks: it is active, and the owner has taken nothing; it takes 256 pages and 32
   -- descriptors at the most, and where there is nothing to take the segment may be inactive at once.
   pub record IsEmptiable (u : ℕ) : Type 0 where
+    pub still : s.store.moving ≡ None
     pub active : IsActive s.store.ast.entries u
     pub owner : HasOwner s.owner
     pub pages : length (frames_of_owner s.owner) + length (frames_from s.store.ast u 0) ≤ 256
@@ -294,11 +305,13 @@ module _ {D : Type 0} (t : Parts D) (c : ℕ) (sound : IsSound t) (there : c < l
         + (length (trailers_in s.store u) + (length (cut_of_owner s.owner) + 1)) ≤ s.spare
 
   -- a segment without active inferiors, of which nothing is being read
-  pub emptiable_by : (u : ℕ) → IsIdle s.owner → HasOwner s.owner → is_active s.store.ast u ≡ true
+  pub emptiable_by : (u : ℕ) → s.store.moving ≡ None → IsIdle s.owner → HasOwner s.owner
+      → is_active s.store.ast u ≡ true
       → frame_reading s.store.pages.core u any_page ≡ None
       → ((v : ℕ) → is_active s.store.ast v ≡ true → superior_in (node_in (flat_of s).nodes v) ≢ Some u)
       → IsEmptiable u
-  emptiable_by u idle owner active unread inferiors = record {
+  emptiable_by u still idle owner active unread inferiors = record {
+    still = still;
     active = active_there s.store u active;
     owner = owner;
     pages = omega (arith, no_frames, few_pages);
@@ -331,7 +344,8 @@ module _ {D : Type 0} (t : Parts D) (c : ℕ) (sound : IsSound t) (there : c < l
       by (f ∷ fs) xs h none none_cut = absurd (let no : false ≡ true = h in cc)
 
   pub emptiable : (u : ℕ) → action_of s c ≡ act.Empty u → IsEmptiable u
-  emptiable u doing = emptiable_by u l.idle (owned l.looking.owner) l.finds.active l.finds.unread
+  emptiable u doing = emptiable_by u (still_for (act.Empty u) doing) l.idle (owned l.looking.owner)
+      l.finds.active l.finds.unread
       (λ v active. segment_inferiors s u leads_there.node keeps
       (ap (node_in s.store.accounts.nodes) (sym same) ∙ leads_there.there) leads_there.segment v)
     where

@@ -50,6 +50,7 @@ module _ (s : State) (spare : ℕ) (stopped : Bool) where
     come = come_still h.come;
     scheduled = h.scheduled;
     pools = h.pools;
+    moving = h.moving;
   }
 
   command_still : (k : ℕ) (c : Option Command) → IsTakenBy s k c → IsTakenBy now k c
@@ -76,6 +77,7 @@ module _ (s : State) (spare : ℕ) (stopped : Bool) where
   taken_still phase.Looking k c h = tt
   taken_still (phase.Taken a w) k c h = by_aim a k c h
   taken_still (phase.Waiting a w) k c h = by_aim a k c h
+  taken_still (phase.Moving m) k c h = tt
 
   working_still : IsWorking s → IsWorking now
   working_still h = record {
@@ -85,6 +87,7 @@ module _ (s : State) (spare : ℕ) (stopped : Bool) where
     leaf = h.leaf;
     fails = h.fails;
     taken = λ o own. taken_still o.phase (process_at s o.cpu) (next_command s (process_at s o.cpu)) (h.taken o own);
+    moves = h.moves;
   }
 
   fitting_still : IsFitting s → IsFitting now

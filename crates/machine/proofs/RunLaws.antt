@@ -8,7 +8,7 @@ use Rattle.std.proofs.lemmas.List.{take-append-drop, take_more}
 use Rattle.book.specs.declared.entries.Entry.{Entry}
 use Rattle.machine_model.specs.Actions.{action_of}
 use Rattle.machine_model.specs.Reads.{process_at}
-use Rattle.machine_model.specs.Refusal.{outside_refusal, refusal_of, room_refusal}
+use Rattle.machine_model.specs.Refusal.{move_to, outside_refusal, refusal_of, room_refusal}
 use Rattle.machine_model.specs.Turns.{moves}
 use Rattle.machine_model.proofs.FlatAlike.{append_assoc, append_nil}
 use Rattle.machine_tables.specs.Parts.{Parts}
@@ -21,7 +21,7 @@ use Rattle.machine.proofs.TurnLaws.{still_of, told_moves}
 
 -- the rules don't read how much room the book has
 same_action : {D : Type 0} (t : Parts D) (spare c : ℕ) → action_of (with_room t spare).state c ≡ action_of t.state c
-unfolding action_of refusal_of outside_refusal room_refusal
+unfolding action_of refusal_of outside_refusal room_refusal move_to
 same_action t spare c = refl
 
 module _ {D Plan : Type 0} (plan : D → Plan) (places faults : D → ℕ) where

@@ -11,6 +11,8 @@ use Rattle.assoc_mem.specs.declared.What.TheVariants as what
 use Rattle.book.specs.declared.replies.Reply.{Reply}
 use Rattle.script.specs.declared.commands.Reference.{Reference}
 use Rattle.page_control.specs.Drives.{CallsDrive}
+use Rattle.seg_mover.specs.Copies.{CallsDrives}
+use Rattle.seg_mover.specs.declared.Mover.{Mover}
 use Rattle.machine_model.specs.declared.Aim.{Aim}
 use Rattle.machine_model.specs.declared.Aim.TheVariants as aim
 use Rattle.machine_model.specs.Actions as act
@@ -20,6 +22,7 @@ use Rattle.machine_model.specs.Commits.{committed_at}
 use Rattle.machine_model.specs.Jobs.{cut_all, cut_one, deactivation_begun, emptied, eviction_begun}
 use Rattle.machine_model.specs.Jobs.{segment_taken, signalled, take_all, take_one, took, victim_taken, with_hand_moved}
 use Rattle.machine_model.specs.Jobs.{page_in}
+use Rattle.machine_model.specs.Moves.{move_begun, move_committed}
 use Rattle.machine_model.specs.Reads.{cpu_at, cut_of_owner, frames_from, home_in, next_command, or_zero, process_at, trailers_in}
 use Rattle.machine_model.specs.State.{State}
 use Rattle.machine_model.specs.Steps.{activated_at, answered, came_online, cleared_at, connected_to, left_at, loaded}
@@ -30,7 +33,7 @@ use Rattle.machine_model.proofs.ActiveKept.{segs_gone_rest}
 use Rattle.machine_tables.specs.Claimed.{frames_for, pairs_for, took_for, what_for}
 use Rattle.machine_tables.specs.Parts.{Parts, SparesCall, outcome_of, with_state}
 use Rattle.machine.specs.Turns.{CallsAs, CallsNone, IfStill, IsStep, IsTurn, MayDo, turn_of, why_by}
-use Rattle.machine.proofs.CallLaws.{one_called, page_let_go}
+use Rattle.machine.proofs.CallLaws.{one_called, page_let_go, two_called}
 use Rattle.machine.proofs.CommitStays.{commit_faults}
 use Rattle.machine.specs.declared.turn.Turn.{Turn}
 use Rattle.machine.specs.declared.turn.Turn.TheVariants as turn
@@ -94,23 +97,24 @@ module _ {D Plan : Type 0} (plan : D → Plan) (places faults : D → ℕ) (old 
       (ap (λ (t : Parts D). t.state.faults) is ∙ stays) (ap (λ (t : Parts D). t.drives) is)
       (ap (λ (t : Parts D). t.room) is)
 
-  -- a call of one drive
-  pub drive_step : {T E : Type 0} (a : act.Action) (v : ℕ) (r : Result T E)
+  -- a call of one drive, or of two
+  called_step : {T E : Type 0} (a : act.Action) (r : Result T E)
       → CallsAs faults s a old.drives new.drives (outcome_of r new.state.faults).failed → action_of s c ≡ a
       → new.state ≡ after s c a (outcome_of r new.state.faults)
-      → CallsDrive plan places faults old.drives new.drives v r
+      → map plan new.drives ≡ map plan old.drives → map places new.drives ≡ map places old.drives
+      → length new.drives ≡ length old.drives
       → (s.faults ≤ new.state.faults) × OnErr r (Rose s.faults new.state.faults) → new.room ≡ old.room
       → IsStep plan places faults old new c
-  drive_step a v r calls doing done call counts room = record {
+  called_step a r calls doing done plans stores count counts room = record {
     outcome = outcome_of r new.state.faults;
     done = done ∙ ap (λ (y : act.Action). after s c y (outcome_of r new.state.faults)) (sym doing);
     calls_are = subst (λ (y : act.Action). CallsAs faults s y old.drives new.drives
         (outcome_of r new.state.faults).failed) (sym doing) calls;
     rose = rose r counts.1;
     grows = counts.0;
-    plans = call.plans;
-    stores = call.stores;
-    count = call.count;
+    plans = plans;
+    stores = stores;
+    count = count;
     room = room;
   }
     where
@@ -118,6 +122,15 @@ module _ {D Plan : Type 0} (plan : D → Plan) (places faults : D → ℕ) (old 
           → (outcome_of y new.state.faults).failed ≡ true → Rose s.faults new.state.faults
       rose (Ok x) h failed = absurd (let no : false ≡ true = failed in cc)
       rose (Err e) h failed = h
+
+  pub drive_step : {T E : Type 0} (a : act.Action) (v : ℕ) (r : Result T E)
+      → CallsAs faults s a old.drives new.drives (outcome_of r new.state.faults).failed → action_of s c ≡ a
+      → new.state ≡ after s c a (outcome_of r new.state.faults)
+      → CallsDrive plan places faults old.drives new.drives v r
+      → (s.faults ≤ new.state.faults) × OnErr r (Rose s.faults new.state.faults) → new.room ≡ old.room
+      → IsStep plan places faults old new c
+  drive_step a v r calls doing done call =
+      called_step a r calls doing done call.plans call.stores call.count
 
   quiet_turn : (a : act.Action)
       → (CallsNone old.drives new.drives false → CallsAs faults s a old.drives new.drives false) → (x : State)
@@ -324,6 +337,30 @@ module _ {D Plan : Type 0} (plan : D → Plan) (places faults : D → ℕ) (old 
       → HasMoved point.Other
   eviction_turn f r doing done call spares = drive_turn (act.FinishEviction f) (home_of f) r
       (page_let_go plan places faults s f old.drives new.drives r new.state.faults call spares) tt doing done call
+
+  pub copy_turn : {T E : Type 0} (m : Mover) (p : ℕ) (r : Result T E) → action_of s c ≡ act.CopyPage m p
+      → new.state ≡ after s c (act.CopyPage m p) (outcome_of r new.state.faults)
+      → CallsDrives plan places faults old.drives new.drives m.from.0 m.to.0 r
+      → (s.faults ≤ new.state.faults) × OnErr r (Rose s.faults new.state.faults) → new.room ≡ old.room
+      → HasMoved point.Other
+  copy_turn m p r doing done call counts room = record {
+    step = called_step (act.CopyPage m p) r
+        (two_called plan places faults old.drives new.drives m.from.0 m.to.0 r new.state.faults call) doing done
+        call.plans call.stores call.count counts room;
+    answer_is = ap (turn_of s c) (sym doing);
+    still = tt;
+  }
+
+  pub begin_turn : (u volume : ℕ) → action_of s c ≡ act.BeginMove u volume
+      → new ≡ with_state old (move_begun s c u volume) → HasMoved point.Other
+  unfolding after
+  begin_turn u volume doing =
+      quiet_turn (act.BeginMove u volume) (λ h. h) (move_begun s c u volume) (λ h. tt) doing refl refl
+
+  pub move_turn : (m : Mover) → action_of s c ≡ act.CommitMove m → new ≡ with_state old (move_committed s c m)
+      → HasMoved point.Other
+  unfolding after
+  move_turn m doing = quiet_turn (act.CommitMove m) (λ h. h) (move_committed s c m) (λ h. tt) doing refl refl
 
   pub page_turn : {T E : Type 0} (f : ℕ) (r : Result T E) → action_of s c ≡ act.FinishPage f
       → new.state ≡ after s c (act.FinishPage f) (outcome_of r new.state.faults)

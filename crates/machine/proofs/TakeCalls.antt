@@ -32,7 +32,7 @@ use Rattle.machine.specs.Promise.{IsSound}
 use Rattle.machine.specs.Turns.{is_of_process}
 use Rattle.machine.proofs.AloneLaws.{process_known, run_there}
 use Rattle.machine.proofs.Found.{Looked, found_of}
-use Rattle.machine.proofs.OwnerCalls.{SoundIn, kept_through, owned}
+use Rattle.machine.proofs.OwnerCalls.{SoundIn, kept_through, owned, still_for}
 use Rattle.machine.proofs.TakingStays.{took_as}
 
 -- ---- how much is taken
@@ -157,6 +157,7 @@ module _ {D : Type 0} (t : Parts D) (c : ℕ) (sound : IsSound t) (there : c < l
 
     -- what the call asks that takes it: the process runs and has numbers, and there is room for all that is taken
     pub record IsTakeable : Type 0 where
+      pub still : s.store.moving ≡ None
       pub run : k < length s.runs
       pub knows : k < length s.store.links.known
       pub segment : HasItsSegment s.store k next
@@ -167,6 +168,7 @@ module _ {D : Type 0} (t : Parts D) (c : ℕ) (sound : IsSound t) (there : c < l
 
     pub takeable : 320 ≤ s.spare → IsTakeable
     takeable room = record {
+      still = still_for t c sound there (taking k next) takes;
       run = run_there t c sound k its;
       knows = process_known t c sound there k its;
       segment = its_segment next some_taken;

@@ -23,6 +23,7 @@ use Rattle.machine_model.specs.Holding.{seen}
 use Rattle.machine_model.specs.Jobs.{are_zeros, entries_left, here_if, leaving_if, left_of, page_back, page_gone}
 use Rattle.machine_model.specs.Jobs.{page_in}
 use Rattle.machine_model.specs.Keeps.{IsFaithful, Keeps, StoreKept}
+use Rattle.machine_model.specs.Movers.{mover_of}
 use Rattle.machine_model.specs.Promise.{KeepsAll}
 use Rattle.machine_model.specs.Reads.{frames_of_owner, home_in}
 use Rattle.machine_model.specs.Said.{left_page}
@@ -140,6 +141,10 @@ module _ {D : Type 0} (t : Parts D) (sound : IsSound t) (over : is_over t.state 
 
   pub over_owner : s.owner ≡ None
   over_owner = over_free s sound.keeps over
+
+  -- no segment moves
+  pub over_still : s.store.moving ≡ None
+  over_still = sound.keeps.machine.moving ∙ ap mover_of over_owner
 
   -- no page is on its way out
   pub visit_here : AreHere s.store

@@ -1,6 +1,6 @@
 -- What a step of a processor does, and what it is answered (own).
 use Rattle.std.specs.Prelude.{◌≡◌, ◌≢◌, ◌⊎◌, ◌<◌, ◌≤◌, ◌+◌, ◌-◌, ◌^◌, ◌++◌, ◌∷◌, ℕ, Bool, true, false, count_by, length}
-use Rattle.std.specs.Prelude.{map, min, sum_by, List, Option, Some}
+use Rattle.std.specs.Prelude.{map, min, slice_get, sum_by, List, Option, Some}
 use Rattle.book.specs.declared.entries.Entry.{Entry}
 use Rattle.book.specs.declared.entries.Entry.TheVariants as entry
 use Rattle.book.specs.declared.replies.Reply.TheVariants as reply
@@ -10,6 +10,7 @@ use Rattle.site_io.specs.Faults.{Rose}
 use Rattle.volumes.specs.FailLine.{IsOneMore}
 use Rattle.volumes.specs.Volumes.{KeepsOthers, faults_at}
 use Rattle.page_control.specs.Effects.{NeedsNoWrite}
+use Rattle.seg_mover.specs.Copies.{FailedAt}
 use Rattle.machine_model.specs.Actions as act
 use Rattle.machine_model.specs.Actions.{action_of}
 use Rattle.machine_model.specs.After.{Outcome, after}
@@ -41,12 +42,20 @@ pub record LetsGo {D : Type 0} (faults : D → ℕ) (s : State) (f : ℕ) (old n
   pub called : CallsOne faults old new (home_in s.store (page_in s.store f).0).volume failed
   pub spared : NeedsNoWrite s.store.pages f → CallsNone old new failed
 
+-- The drives of volumes v and w were called, and no other. Each has counted the calls of it that fail: none where the
+-- copy was done; and where it failed, just one of the two drives counts one more.
+pub record CallsTwo {D : Type 0} (faults : D → ℕ) (old new : List D) (v w : ℕ) (failed : Bool) : Type 0 where
+  pub others : (u : ℕ) → u ≢ v → u ≢ w → slice_get new u ≡ slice_get old u
+  pub told : failed ≡ false → map faults new ≡ map faults old
+  pub once : failed ≡ true → FailedAt faults old new v ⊎ FailedAt faults old new w
+
 -- What an action makes of the drives: a page that comes in is read from its home, one that leaves its frame is let go,
--- and no other action calls a drive.
+-- one that is copied is read from the one volume and written to the other, and no other action calls a drive.
 abbrev pub CallsAs : {D : Type 0} → (D → ℕ) → State → act.Action → List D → List D → Bool → Type 0
 CallsAs faults s (act.EndTransfer t) old new failed = CallsOne faults old new (home_in s.store t.uid).volume failed
 CallsAs faults s (act.FinishEviction f) old new failed = LetsGo faults s f old new failed
 CallsAs faults s (act.FinishPage f) old new failed = LetsGo faults s f old new failed
+CallsAs faults s (act.CopyPage m p) old new failed = CallsTwo faults old new m.from.0 m.to.0 failed
 CallsAs faults s _ old new failed = CallsNone old new failed
 
 -- The machine has gone on to its next state, by how the call of a drive came out, and nothing else was done. What became
@@ -163,12 +172,10 @@ pub record KeepsParts {D Plan : Type 0} (plan : D → Plan) (places faults : D �
   pub count : length new.drives ≡ length old.drives
   pub alike : CountsAlike faults old new
 
--- one drive counts one failure more, and the others are as they were
+-- one drive counts one failure more, and the others as many as they did
 pub record RoseAtOne {D : Type 0} (faults : D → ℕ) (old new : List D) : Type 0 where
   pub volume : ℕ
-  pub others : KeepsOthers old new volume
-  pub once : IsOneMore (faults_at faults old volume) (faults_at faults new volume)
-  pub rose : Rose (faults_at faults old volume) (faults_at faults new volume)
+  pub failed : FailedAt faults old new volume
 
 -- The drives count just the failures of which so many are told, none or one: none more, or one more of one drive.
 pub record AreTold {D : Type 0} (faults : D → ℕ) (old new : List D) (told : ℕ) : Type 0 where

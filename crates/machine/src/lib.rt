@@ -9,6 +9,7 @@ mod looking;
 mod looping;
 mod machine;
 mod making;
+mod moving;
 mod owning;
 mod schedule;
 mod shutdown;

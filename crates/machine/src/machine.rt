@@ -1,4 +1,5 @@
-ghost use Rattle.std.specs.Prelude.{◌≡◌, ◌<◌, ◌≤◌, ◌^◌, ◌↔◌, ℕ, count_by, is_some, length, map, sum_by, true, OnOk};
+ghost use Rattle.std.specs.Prelude.{◌≡◌, ◌<◌, ◌≤◌, ◌^◌, ◌↔◌, ℕ, count_by, is_some, length, map, sum_by, true, None};
+ghost use Rattle.std.specs.Prelude.{OnOk};
 ghost use Rattle.tree_model.specs.Tree.{entries_on, taken_on};
 ghost use Rattle.accounts.specs.Maps.{Counts};
 ghost use Rattle.flat_model.specs.Legal.{IsComplete, IsLegal, store_after};
@@ -7,6 +8,7 @@ ghost use Rattle.volumes.specs.Volumes.{used_at, vtoc_at};
 ghost use Rattle.machine_model.specs.Actions.{is_over};
 ghost use Rattle.machine_model.specs.Keeps.{IsConserved, is_fault};
 ghost use Rattle.machine_model.specs.Reads.{flat_of};
+ghost use Rattle.seg_control.specs.Moving.{in_move, volumes_of};
 ghost use Rattle.machine.specs.OnDisk.{IsOnDisk};
 ghost use Rattle.machine.specs.Sizes.{HaveSizes};
 ghost use Rattle.machine.specs.Turns.{HaveEnded};
@@ -85,11 +87,13 @@ impl<D: Drive> Machine<D> {
     {
         self.tables.stopped()
     }
-    /// Whether every process has ended: none is ready or running. It goes round the processors. (Source: own.)
+    /// Whether every process has ended: none is ready or running, and no segment moves. It goes round the processors.
+    /// (Source: own.)
     pub fn ended(&self) -> bool
         ensures over { result ≡ is_over self.now.state }
         ensures ended { (result ≡ true) ↔ HaveEnded self.now.state }
         ensures complete { result ≡ true → IsComplete self.now.state.plan self.now.state.entries }
+        ensures still { result ≡ true → self.now.state.store.moving ≡ None }
     {
         self.tables.is_over()
     }
@@ -105,9 +109,36 @@ impl<D: Drive> Machine<D> {
     }
 
     /// The volumes, one for each of the script, with their drives, each of the size that the script gives its volume.
-    /// They hold the flat store after the book, but for the words of the pages that are in frames: as many records of a
-    /// volume are in use as pages are stored on it, and as many entries as it has nodes. (Source: Organick 1972.)
+    /// While no segment moves they hold the flat store after the book, but for the words of pages that are in frames:
+    /// as many records of a volume are in use as pages are stored on it, and as many entries as it has nodes. A move
+    /// under way has taken a home more: its records and its entry are in use, too. (Source: Organick 1972.)
     pub fn volumes(&self) -> &Volumes<D>
+        ensures drives { result.now.drives ≡ self.now.drives }
+        ensures records { result.now.records
+            ≡ (in_move (volumes_of self.now.state.store.pages) self.now.state.store.moving).records }
+        ensures vtocs { result.now.vtocs
+            ≡ (in_move (volumes_of self.now.state.store.pages) self.now.state.store.moving).vtocs }
+        ensures count { length result.now.drives ≡ length self.now.state.plan.volumes }
+        ensures sizes { HaveSizes D.pages self.now.drives self.now.state.plan }
+        ensures taken { self.now.state.store.moving ≡ None → (v : ℕ) → used_at result.now v
+            ≡ taken_on (flat_of self.now.state).nodes (flat_of self.now.state).stored v }
+        ensures entries { self.now.state.store.moving ≡ None → (v : ℕ) → count_by is_some (vtoc_at result.now v)
+            ≡ entries_on (flat_of self.now.state).nodes v }
+        ensures on_disk { self.now.state.store.moving ≡ None
+            → IsOnDisk (map D.pages result.now.drives) result.now.records result.now.vtocs
+            (store_after self.now.state.plan self.now.state.entries)
+            (custody_after self.now.state.plan self.now.state.entries) }
+    {
+        self.tables.store();
+        let volumes = self.tables.volumes();
+        volumes.promise();
+        volumes
+    }
+
+    /// The volumes of a machine in which no segment moves: they hold the flat store after the book, but for the words of
+    /// the pages that are in frames, and nothing else is in use. (Source: Organick 1972.)
+    pub fn volumes_at_rest(&self) -> &Volumes<D>
+        requires { self.now.state.store.moving ≡ None }
         ensures drives { result.now.drives ≡ self.now.drives }
         ensures records { result.now.records ≡ self.now.state.store.pages.records }
         ensures vtocs { result.now.vtocs ≡ self.now.state.store.pages.vtocs }
@@ -121,9 +152,6 @@ impl<D: Drive> Machine<D> {
             (store_after self.now.state.plan self.now.state.entries)
             (custody_after self.now.state.plan self.now.state.entries) }
     {
-        self.tables.store();
-        let volumes = self.tables.volumes();
-        volumes.promise();
-        volumes
+        self.volumes()
     }
 }

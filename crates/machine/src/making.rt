@@ -54,7 +54,7 @@ impl<D: Drive> Machine<D> {
         ensures { IsTurn D.plan D.places D.faults self.old self.new c result }
     {
         let process = self.to_answer(c);
-        self.tables.volumes().promise();
+        self.tables.volumes();
         self.tables.commit(c, process);
         self.tables.promise();
         Turn::Moved(Point::Other)

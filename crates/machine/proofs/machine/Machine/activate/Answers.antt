@@ -1,6 +1,12 @@
+use Rattle.machine_model.specs.Actions as act
+use Rattle.machine.proofs.OwnerCalls.{still_for}
 use Rattle.machine.proofs.JoinCalls.{activate_sound, activated, link_first, link_there, place_free}
 use Rattle.machine.proofs.StepDone.{activate_turn}
 use Rattle.machine.proofs.machine.Machine.activate.Goals as goal
+
+pub activate-place-requires-clause-still : goal.activate-place-requires-clause-still
+activate-place-requires-clause-still g c = still_for _ c.args.c c.self.invariant (rw c.self.view_is c.requires.there)
+    (act.Activate c.args.uid c.args.place) (rw c.self.view_is c.requires.doing)
 
 pub activate-place-requires-clause-there : goal.activate-place-requires-clause-there
 activate-place-requires-clause-there g c = link_there _ c.args.c c.self.invariant (rw c.self.view_is c.requires.there)

@@ -5,8 +5,7 @@ use Rattle.machine.proofs.machine.Machine.commit.Goals as goal
 pub commit-requires : goal.commit-requires
 commit-requires g c = may_commit _ c.args.c c.self.invariant (rw c.self.view_is c.requires.there)
     (rw c.self.view_is c.requires.doing) g.D.Drive.pages
-    (rw (← c.volumes.ensures.drives, ← c.volumes.ensures.records, ← c.volumes.ensures.vtocs)
-    c.promise.ensures.parts)
+    c.volumes.ensures.parts
     c.to_answer-process.result (rw c.self.view_is c.to_answer-process.ensures.process)
     (rw c.self.view_is c.to_answer-process.ensures.count) (rw c.self.view_is c.requires.room)
 
@@ -20,7 +19,7 @@ invariant_of-self g c = commit_sound _ c.args.c c.self.invariant (rw c.self.view
     (rw c.self.view_is c.requires.doing) c.to_answer-process.result
     (rw c.self.view_is c.to_answer-process.ensures.process)
     c.commit.new.self c.commit.ensures.effect (record {
-      kept = c.promise-2.ensures.kept;
-      counted = c.promise-2.ensures.counted;
-      accounts = c.promise-2.ensures.accounts;
+      kept = c.promise.ensures.kept;
+      counted = c.promise.ensures.counted;
+      accounts = c.promise.ensures.accounts;
     }) c.commit.ensures.shown

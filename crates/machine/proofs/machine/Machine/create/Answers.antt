@@ -1,6 +1,12 @@
+use Rattle.machine_model.specs.Actions as act
+use Rattle.machine.proofs.OwnerCalls.{still_for}
 use Rattle.machine.proofs.CreateCalls.{create_sound, made_known, made_page, makeable}
 use Rattle.machine.proofs.StepDone.{create_turn}
 use Rattle.machine.proofs.machine.Machine.create.Goals as goal
+
+pub create-requires-clause-still : goal.create-requires-clause-still
+create-requires-clause-still g c = still_for _ c.args.c c.self.invariant (rw c.self.view_is c.requires.there)
+    (act.Create c.args.frame c.args.uid c.args.page c.args.reference) (rw c.self.view_is c.requires.doing)
 
 pub create-requires-clause-makeable : goal.create-requires-clause-makeable
 create-requires-clause-makeable g c = makeable _ c.args.c c.self.invariant (rw c.self.view_is c.requires.there)

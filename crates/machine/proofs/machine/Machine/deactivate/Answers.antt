@@ -1,7 +1,12 @@
 use Rattle.std.proofs.Common.{◌≤◌, arith}
-use Rattle.machine.proofs.OwnerCalls.{deactivate_sound, inactive_emptied, inactive_owner}
+use Rattle.machine_model.specs.Actions as act
+use Rattle.machine.proofs.OwnerCalls.{deactivate_sound, inactive_emptied, inactive_owner, still_for}
 use Rattle.machine.proofs.StepDone.{deactivate_turn}
 use Rattle.machine.proofs.machine.Machine.deactivate.Goals as goal
+
+pub deactivate-requires-clause-still : goal.deactivate-requires-clause-still
+deactivate-requires-clause-still g c = still_for _ c.args.c c.self.invariant (rw c.self.view_is c.requires.there)
+    (act.Deactivate c.args.uid) (rw c.self.view_is c.requires.doing)
 
 pub deactivate-requires-clause-owner : goal.deactivate-requires-clause-owner
 deactivate-requires-clause-owner g c = inactive_owner _ c.args.c c.self.invariant (rw c.self.view_is c.requires.there)

@@ -1,5 +1,6 @@
 use Rattle.machine_model.proofs.AllEnded.{over_complete}
 use Rattle.machine.proofs.EndedLaws.{over_ended}
+use Rattle.machine.proofs.VisitCalls.{over_still}
 use Rattle.machine.proofs.machine.Machine.ended.Goals as goal
 
 pub returns-clause-ended : goal.returns-clause-ended
@@ -7,3 +8,6 @@ returns-clause-ended g c = rw (c.is_over.ensures, ← c.self.view_is) (over_ende
 
 pub returns-clause-complete : goal.returns-clause-complete
 returns-clause-complete g c = rw (c.is_over.ensures, ← c.self.view_is) (over_complete _ c.self.invariant.keeps)
+
+pub returns-clause-still : goal.returns-clause-still
+returns-clause-still g c = rw (c.is_over.ensures, ← c.self.view_is) (over_still _ c.self.invariant)

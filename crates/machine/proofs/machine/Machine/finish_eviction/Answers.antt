@@ -1,7 +1,13 @@
+use Rattle.machine_model.specs.Actions as act
+use Rattle.machine.proofs.OwnerCalls.{still_for}
 use Rattle.machine.proofs.DriveCounts.{call_counts}
 use Rattle.machine.proofs.FinishCalls.{may_fail, eviction_after, eviction_leaves, eviction_owner, eviction_sound}
 use Rattle.machine.proofs.StepDone.{eviction_turn}
 use Rattle.machine.proofs.machine.Machine.finish_eviction.Goals as goal
+
+pub finish_eviction-gone-requires-clause-still : goal.finish_eviction-gone-requires-clause-still
+finish_eviction-gone-requires-clause-still g c = still_for _ c.args.c c.self.invariant
+    (rw c.self.view_is c.requires.there) (act.FinishEviction c.args.frame) (rw c.self.view_is c.requires.doing)
 
 pub finish_eviction-gone-requires-clause-leaving : goal.finish_eviction-gone-requires-clause-leaving
 finish_eviction-gone-requires-clause-leaving g c = eviction_leaves _ c.args.c c.self.invariant

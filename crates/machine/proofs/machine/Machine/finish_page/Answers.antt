@@ -1,7 +1,13 @@
+use Rattle.machine_model.specs.Actions as act
+use Rattle.machine.proofs.OwnerCalls.{still_for}
 use Rattle.machine.proofs.DriveCounts.{call_counts}
 use Rattle.machine.proofs.FinishCalls.{may_fail, page_after, page_leaves, page_owner, page_sound}
 use Rattle.machine.proofs.StepDone.{page_turn}
 use Rattle.machine.proofs.machine.Machine.finish_page.Goals as goal
+
+pub finish_page-gone-requires-clause-still : goal.finish_page-gone-requires-clause-still
+finish_page-gone-requires-clause-still g c = still_for _ c.args.c c.self.invariant (rw c.self.view_is c.requires.there)
+    (act.FinishPage c.args.frame) (rw c.self.view_is c.requires.doing)
 
 pub finish_page-gone-requires-clause-leaving : goal.finish_page-gone-requires-clause-leaving
 finish_page-gone-requires-clause-leaving g c = page_leaves _ c.args.c c.self.invariant

@@ -6,6 +6,7 @@ use Rattle.volumes.specs.Volumes.{Vols}
 use Rattle.page_control.specs.Plain.{Paging}
 use Rattle.seg_control.specs.Control.{Control}
 use Rattle.machine_model.specs.State.{Storage}
+use Rattle.machine.proofs.DiskLaws.{drives_in_move}
 use Rattle.machine.proofs.LossTold.{told_back}
 use Rattle.machine.proofs.NoZeros.{has_no_zeros}
 use Rattle.machine.proofs.VisitCalls.{all_visited}
@@ -19,11 +20,14 @@ returns-clause-told g c = rw (← c.self.view_is) (λ past. told_back c.self.ins
 
 pub returns-clause-zeros : goal.returns-clause-zeros
 returns-clause-zeros g c =
-    let pages = c.pages-pages.ensures.pages ∙ ap (λ (x : Control g.row.D.Denot). x.pages) c.segs.ensures.segs in
+    let pages = ap (λ (x : Control g.row.D.Denot). x.pages) c.segs.ensures.segs in
     let drives = ap (λ (x : Vols g.row.D.Denot). map g.D.Drive.pages x.drives)
-    (c.volumes.ensures.volumes ∙ ap (λ (x : Paging g.row.D.Denot). x.volumes) pages) in
+    (c.volumes.ensures.volumes ∙ ap (λ (x : Paging g.row.D.Denot). x.volumes) c.pages-pages.ensures.pages)
+    ∙ (ap (map g.D.Drive.pages) (drives_in_move _ _)
+    ∙ ap (λ (x : Paging g.row.D.Denot). map g.D.Drive.pages x.volumes.drives) pages) in
     rw (← c.self.view_is) (λ past. has_no_zeros c.self.inside.tables.state c.self.invariant.keeps.machine.keeps
-    (subst HaveFullPages (ap (λ (x : Paging g.row.D.Denot). x.frames) pages
+    (subst HaveFullPages (ap (λ (x : Paging g.row.D.Denot). x.frames) c.pages-pages.ensures.pages
+    ∙ ap (λ (x : Paging g.row.D.Denot). x.frames) pages
     ∙ ap (λ (st : Storage). st.pages.frames) c.store.ensures.store) c.frames-frames.ensures.full)
     (subst (All HaveFullPages) (drives ∙ ap (λ (st : Storage). st.pages.disks) c.store.ensures.store)
     (All-map HaveFullPages g.D.Drive.pages _ c.promise.ensures.full))

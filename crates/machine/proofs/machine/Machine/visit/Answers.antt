@@ -1,8 +1,8 @@
 use Rattle.std.proofs.Common.{◌≤◌, arith}
 use Rattle.machine.proofs.DriveCounts.{call_counts}
 use Rattle.machine.proofs.LossTold.{visited_tells}
-use Rattle.machine.proofs.VisitCalls.{frames_planned, over_owner, visit_done, visit_here, visit_sound, visit_within}
-use Rattle.machine.proofs.VisitCalls.{visited_adds}
+use Rattle.machine.proofs.VisitCalls.{frames_planned, over_owner, over_still, visit_done, visit_here, visit_sound}
+use Rattle.machine.proofs.VisitCalls.{visit_within, visited_adds}
 use Rattle.machine.proofs.machine.Machine.visit.Goals as goal
 
 pub visit-visited-requires-clause-count : goal.visit-visited-requires-clause-count
@@ -14,6 +14,9 @@ visit-visited-requires-clause-frame g c = visit_within _ c.self.invariant (rw c.
 
 pub visit-visited-requires-clause-here : goal.visit-visited-requires-clause-here
 visit-visited-requires-clause-here g c = visit_here _ c.self.invariant (rw c.self.view_is c.requires.over)
+
+pub visit-visited-requires-clause-still : goal.visit-visited-requires-clause-still
+visit-visited-requires-clause-still g c = over_still _ c.self.invariant (rw c.self.view_is c.requires.over)
 
 pub visit-visited-requires-clause-owner : goal.visit-visited-requires-clause-owner
 visit-visited-requires-clause-owner g c = over_owner _ c.self.invariant (rw c.self.view_is c.requires.over)

@@ -2,7 +2,7 @@ use Rattle.std.proofs.Common.{◌∙◌, ap, length, map, sym}
 use Rattle.std.proofs.lemmas.List.{length-map}
 use Rattle.machine_model.specs.State.{Storage}
 use Rattle.machine.proofs.AccountLaws.{entries_taken, records_taken}
-use Rattle.machine.proofs.DiskLaws.{on_volumes}
+use Rattle.machine.proofs.DiskLaws.{on_volumes, records_still, vtocs_still}
 use Rattle.machine.proofs.SizeLaws.{drive_size}
 use Rattle.machine.proofs.machine.Machine.volumes.Goals as goal
 
@@ -10,15 +10,15 @@ pub returns-clause-sizes : goal.returns-clause-sizes
 returns-clause-sizes g c = rw (← c.self.view_is) (drive_size g.D.Drive.pages c.self.inside.tables.drives
     c.self.inside.tables.state.plan c.self.inside.tables.state.store.pages.records
     c.self.inside.tables.state.store.pages.vtocs c.self.invariant.keeps.machine.keeps.faithful.script.records
-    (rw (← c.volumes-volumes.ensures.drives, ← c.volumes-volumes.ensures.records, ← c.volumes-volumes.ensures.vtocs)
-    c.promise.ensures.parts))
+    c.volumes-volumes.ensures.parts)
 
 pub returns-clause-on_disk : goal.returns-clause-on_disk
-returns-clause-on_disk g c = rw (← c.self.view_is) (on_volumes c.self.inside.tables.state
+returns-clause-on_disk g c = rw (← c.self.view_is) (λ still. on_volumes c.self.inside.tables.state
     c.self.invariant.keeps.machine.keeps _ _ _
     (ap (map g.D.Drive.pages) (c.volumes-volumes.ensures.drives ∙ sym c.store.ensures.drives)
     ∙ ap (λ (st : Storage). st.pages.disks) c.store.ensures.store)
-    c.volumes-volumes.ensures.records c.volumes-volumes.ensures.vtocs)
+    (c.volumes-volumes.ensures.records ∙ records_still _ _ still)
+    (c.volumes-volumes.ensures.vtocs ∙ vtocs_still _ _ still))
 
 pub returns-clause-count : goal.returns-clause-count
 returns-clause-count g c = rw (← c.self.view_is) (sym (length-map _ g.D.Drive.pages)
@@ -26,9 +26,9 @@ returns-clause-count g c = rw (← c.self.view_is) (sym (length-map _ g.D.Drive.
     ∙ ap (λ (st : Storage). st.pages.disks) c.store.ensures.store) ∙ c.self.invariant.drives))
 
 pub returns-clause-taken : goal.returns-clause-taken
-returns-clause-taken g c = rw (← c.self.view_is) (records_taken c.self.inside.tables.state
-    c.self.invariant.keeps.machine.keeps _ c.volumes-volumes.ensures.records)
+returns-clause-taken g c = rw (← c.self.view_is) (λ still. records_taken c.self.inside.tables.state
+    c.self.invariant.keeps.machine.keeps _ (c.volumes-volumes.ensures.records ∙ records_still _ _ still))
 
 pub returns-clause-entries : goal.returns-clause-entries
-returns-clause-entries g c = rw (← c.self.view_is) (entries_taken c.self.inside.tables.state
-    c.self.invariant.keeps.machine.keeps _ c.volumes-volumes.ensures.vtocs)
+returns-clause-entries g c = rw (← c.self.view_is) (λ still. entries_taken c.self.inside.tables.state
+    c.self.invariant.keeps.machine.keeps _ (c.volumes-volumes.ensures.vtocs ∙ vtocs_still _ _ still))
