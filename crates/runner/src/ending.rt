@@ -1,6 +1,6 @@
 //! The end of a run: what the workers left is finished, and the frames are visited.
 
-ghost use Rattle.std.specs.Prelude.{◌≡◌, true, OnOk};
+ghost use Rattle.std.specs.Prelude.{◌≡◌, true, None, OnOk};
 ghost use Rattle.machine_model.specs.Actions.{is_over};
 ghost use Rattle.machine.specs.Turns.{KeepsParts};
 ghost use Rattle.bulk_store.specs.AnyDrive.{any_places};
@@ -30,12 +30,13 @@ fn visit_frames(machine: &mut Machine<AnyDrive>) -> Result<(), NoMemory>
 pub(crate) fn end(machine: &mut Machine<AnyDrive>) -> Result<(), NoMemory>
     ensures kept { KeepsParts plan_of any_places faults_in machine.old machine.new }
     ensures ended { OnOk result (IsShutDown machine.new) }
+    ensures still { OnOk result (machine.new.state.store.moving ≡ None) }
 {
     if machine.stopped() || machine.finish().is_err() {
         return Err(NoMemory);
     }
     visit_frames(machine)?;
     machine.ended();
-    machine.volumes();
+    machine.volumes_at_rest();
     Ok(())
 }

@@ -1,6 +1,6 @@
 //! The listing of a machine, by its own counts.
 
-ghost use Rattle.std.specs.Prelude.{◌≡◌, IfOk, length};
+ghost use Rattle.std.specs.Prelude.{◌≡◌, None, IfOk, length};
 ghost use Rattle.flat_model.specs.Legal.{store_after};
 ghost use Rattle.listing.specs.Listings.{listing_of, summary_of, uses_of};
 
@@ -10,12 +10,13 @@ use listing::{Summary, VolumeUse, listing_of_summary, summary_of_counts};
 use machine::Machine;
 use std::alloc::Global;
 
-/// How many records and VTOC entries of each volume are in use.
+/// How many records and VTOC entries of each volume are in use, where no segment moves.
 fn uses(alloc: Global, machine: &Machine<AnyDrive>) -> Result<Vec<VolumeUse>, NoMemory>
+    requires { machine.now.state.store.moving ≡ None }
     ensures { IfOk result (λ uses. uses.items ≡ uses_of (store_after machine.now.state.plan machine.now.state.entries)
         (length machine.now.state.plan.volumes)) }
 {
-    let volumes = machine.volumes();
+    let volumes = machine.volumes_at_rest();
     let count = volumes.count();
     let mut uses = Vec::new(alloc);
     for v in 0..count {
@@ -26,8 +27,9 @@ fn uses(alloc: Global, machine: &Machine<AnyDrive>) -> Result<Vec<VolumeUse>, No
     Ok(uses)
 }
 
-/// The accounts and the volumes, as the machine counts them.
+/// The accounts and the volumes, as the machine counts them, where no segment moves.
 fn summary(alloc: Global, machine: &Machine<AnyDrive>) -> Result<Summary, NoMemory>
+    requires { machine.now.state.store.moving ≡ None }
     ensures { IfOk result (λ summary. summary
         ≡ summary_of machine.now.state.plan (store_after machine.now.state.plan machine.now.state.entries)) }
 {
@@ -35,8 +37,9 @@ fn summary(alloc: Global, machine: &Machine<AnyDrive>) -> Result<Summary, NoMemo
     summary_of_counts(alloc, machine.book().script(), machine.accounts(), &uses)
 }
 
-/// The listing of a machine's book.
+/// The listing of a machine's book, where no segment moves.
 pub(crate) fn listing(alloc: Global, machine: &Machine<AnyDrive>) -> Result<Vec<u8>, NoMemory>
+    requires { machine.now.state.store.moving ≡ None }
     ensures { IfOk result (λ text. text.items ≡ listing_of machine.now.state.plan machine.now.state.entries) }
 {
     let summary = summary(alloc, machine)?;
