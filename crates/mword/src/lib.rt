@@ -9,6 +9,6 @@ mod text;
 mod word;
 
 pub use no_memory::NoMemory;
-pub use page::Page;
+pub use page::{Block, Page};
 pub use text::{octal, read_octal};
 pub use word::Word;

@@ -69,6 +69,14 @@ impl Page {
         self.words.copy_from_slice(&other.words);
     }
 
+    /// Copies the words of a block. Takes no memory.
+    pub fn copy_from_block(&mut self, block: &Block)
+        ensures words { self.new ≡ block.now }
+        ensures size { length self.new ≡ 1024 }
+    {
+        self.words.copy_from_slice(&block.words);
+    }
+
     /// Writes 0 at each place from `i` on, and leaves those before it as they are.
     pub fn clear_from(&mut self, i: u32)
         requires { i ≤ 1024 }
@@ -87,6 +95,53 @@ impl Page {
         ensures words { AreWords self.now }
     {
         blocks_are_zero(&self.words)
+    }
+}
+
+/// The words of a page in place, 8 KiB, seen as the list of its 1024 words.
+///
+/// Many in one `Vec` take memory once for all, but to move one copies its words.
+#[derive(Drop)]
+pub struct Block {
+    words: [u64; 1024],
+}
+
+impl Model for Block {
+    ghost use Rattle.std.specs.Prelude.{ℕ, List};
+
+    ghost Value = { List ℕ };
+
+    ghost use Rattle.mword.specs.Words.{AreWords};
+
+    ghost view = { λ b. b.words };
+
+    ghost invariant = { λ b. AreWords b.words };
+}
+
+impl Block {
+    /// A block of zeros.
+    pub fn zero() -> Block
+        ensures { result ≡ replicate 1024 0 }
+    {
+        Block { words: [0; 1024] }
+    }
+
+    /// A block of the words of a page.
+    pub fn of(page: &Page) -> Block
+        ensures words { result ≡ page.now }
+        ensures size { length result ≡ 1024 }
+    {
+        let mut words = [0; 1024];
+        words.copy_from_slice(&page.words);
+        Block { words }
+    }
+
+    /// Copies the words of a page.
+    pub fn copy_from(&mut self, page: &Page)
+        ensures words { self.new ≡ page.now }
+        ensures size { length self.new ≡ 1024 }
+    {
+        self.words.copy_from_slice(&page.words);
     }
 }
 

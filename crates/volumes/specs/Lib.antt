@@ -4,5 +4,6 @@ pub use Rattle.vtoc.specs.Vtoc
 pub mod FailLine
 pub mod FullPages
 pub mod CoreDrive
+pub mod CorePages
 pub mod Volumes
 pub mod Lending

@@ -7,6 +7,7 @@ ghost use Rattle.volumes.specs.FullPages.{HaveFullPages};
 ghost use Rattle.volumes.specs.CoreDrive.{fresh_drive};
 
 use crate::NoMemory;
+use crate::core_pages::CorePages;
 use crate::drive::{Drive, FailLine};
 use mword::Page;
 use site_io::Failed;
@@ -17,32 +18,31 @@ use std::marker::Model;
 /// its numbers of reads and writes so far. (Source: own.)
 #[derive(Drop)]
 pub struct CoreDrive {
-    pages: Vec<Page>,
+    pages: CorePages,
     fails: Vec<FailLine>,
     reads: u64,
     writes: u64,
 }
 
 impl Model for CoreDrive {
-    ghost use Rattle.std.specs.Prelude.{◌<◌, ◌^◌, vec_len};
+    ghost use Rattle.std.specs.Prelude.{◌<◌, ◌^◌};
     ghost use Rattle.volumes.specs.CoreDrive.{DriveState};
     ghost use Rattle.volumes.specs.FullPages.{HaveFullPages};
 
     ghost Value = { DriveState };
 
-    ghost view = { λ d. record { pages = d.pages.items; fails = d.fails.items; reads = d.reads; writes = d.writes } };
+    ghost view = { λ d. record { pages = d.pages; fails = d.fails.items; reads = d.reads; writes = d.writes } };
 
-    ghost invariant = { λ d. (vec_len d.pages < 2 ^ 32) × (d.reads < 2 ^ 64) × (d.writes < 2 ^ 64)
-        × HaveFullPages d.pages.items };
+    ghost invariant = { λ d. (d.reads < 2 ^ 64) × (d.writes < 2 ^ 64) × HaveFullPages d.pages };
 }
 
 impl CoreDrive {
     /// A drive of `records` pages of zeros, of which the calls that `fails` names fail. `NoMemory` is want of memory.
-    /// It takes 8 KiB for each page.
+    /// It takes room of 8 KiB for each page, and writes none.
     pub fn new(alloc: Global, records: u32, fails: Vec<FailLine>) -> Result<CoreDrive, NoMemory>
         ensures { IfOk result (λ d. d ≡ fresh_drive records fails.items) }
     {
-        let pages = zero_pages(alloc, records)?;
+        let pages = CorePages::new(alloc, records)?;
         Ok(CoreDrive {
             pages,
             fails,
@@ -114,7 +114,7 @@ impl Drive for CoreDrive {
         ensures few { HasFewFaults (Some self.now.fails) (faults_of self.now) }
         ensures full { HaveFullPages self.now.pages }
     {
-        self.pages.len() as u32
+        self.pages.size()
     }
 
     #[tactic(auto, using(crate::proofs::Faults::read_faults))]
@@ -135,7 +135,7 @@ impl Drive for CoreDrive {
         if fails {
             return Err(Failed);
         }
-        to.copy_from(&self.pages[r as usize]);
+        self.pages.read(r, to);
         Ok(())
     }
 
@@ -157,7 +157,7 @@ impl Drive for CoreDrive {
         if fails {
             return Err(Failed);
         }
-        self.pages[r as usize].copy_from(from);
+        self.pages.write(r, from);
         Ok(())
     }
 }

@@ -3,6 +3,3 @@ use Rattle.volumes.proofs.core_drive.CoreDriveDrive.size.Goals as goal
 
 pub returns-clause-few : goal.returns-clause-few
 returns-clause-few c = few_faults _ _ _
-
-pub returns-clause-full : goal.returns-clause-full
-returns-clause-full c = rw (← c.self.view_is) c.self.invariant.3

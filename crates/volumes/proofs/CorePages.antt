@@ -1,0 +1,159 @@
+-- What a list of pages in core holds, of which the first are held and the rest are zeros.
+use Rattle.std.proofs.Common.{◌≡◌, ℕ, suc, ◌+◌, ◌-◌, ◌≤◌, ◌<◌, List, [], ◌∷◌, ◌++◌, length, refl, sym, ap, ◌∙◌}
+use Rattle.std.proofs.Common.{arith, get_or, set, replicate}
+use Rattle.std.proofs.lemmas.List.{append_assoc, drop-replicate, get_or-append_right, get_or-replicate, get_or_append_left}
+use Rattle.std.proofs.lemmas.List.{length-append, length-replicate, set-append_left, set-append_right, set_split}
+use Rattle.std.proofs.lemmas.List.{length-set, length_push, replicate_more, take-replicate}
+use Rattle.std.proofs.lemmas.List.Elements.{All-append, All-push, All-replicate, All-set}
+use Rattle.volumes.specs.CorePages.{pages_of, AreHeld}
+use Rattle.volumes.specs.FullPages.{HaveFullPages}
+
+abbrev Pages : Type 0
+Pages = List (List ℕ)
+
+abbrev zeros : List ℕ
+zeros = replicate 1024 0
+
+zeros_full : length zeros ≡ 1024
+zeros_full = length-replicate {A = ℕ} 1024 0
+
+abbrev rest : ℕ → Pages
+rest count = replicate count zeros
+
+rest_full : (count : ℕ) → HaveFullPages (rest count)
+rest_full count = All-replicate (λ words. length words ≡ 1024) count zeros zeros_full
+
+pub length_pages : (held : Pages) (size room : ℕ) → AreHeld held size room → length (pages_of held size) ≡ size
+unfolding pages_of
+length_pages held size room h =
+    let both = length-append held (rest (size - length held)) in
+    let more = length-replicate {A = List ℕ} (size - length held) zeros in
+    let within = h.within in
+    omega (arith, both, more, within)
+
+pub full_pages : (held : Pages) (size room : ℕ) → AreHeld held size room → HaveFullPages (pages_of held size)
+unfolding pages_of
+full_pages held size room h = All-append (λ words. length words ≡ 1024) held (rest (size - length held)) h.full
+    (rest_full (size - length held))
+
+pub new_pages : (held : Pages) (size : ℕ) → held ≡ [] → pages_of held size ≡ rest size
+unfolding pages_of
+new_pages held size none =
+    let all : size - 0 ≡ size = omega arith in
+    rw (none, all) refl
+
+pub read_held : (held : Pages) (size r : ℕ) → r < length held → get_or (pages_of held size) r [] ≡ get_or held r []
+unfolding pages_of
+read_held held size r lt = get_or_append_left held (rest (size - length held)) [] r lt
+
+pub read_past : (held : Pages) (size r : ℕ) → length held ≤ r → r < size → get_or (pages_of held size) r [] ≡ zeros
+unfolding pages_of
+read_past held size r past lt = get_or-append_right held (rest (size - length held)) (length held) r [] refl past
+    ∙ get_or-replicate (size - length held) (r - length held) zeros [] (omega arith)
+
+pub write_held : (held : Pages) (size r : ℕ) (words : List ℕ) → r < length held
+    → pages_of (set held r words) size ≡ set (pages_of held size) r words
+unfolding pages_of
+write_held held size r words lt = rw (length-set held r words) (sym (set-append_left held (rest (size - length held)) r
+    words lt))
+
+set_rest : (count k : ℕ) (words : List ℕ) → k < count → set (rest count) k words ≡ rest k
+    ++ words ∷ rest (count - suc k)
+set_rest count k words lt =
+    let long = length-replicate {A = List ℕ} count zeros in
+    rw (
+      set_split (rest count) k words (omega (arith, long)),
+      take-replicate k count zeros (omega arith),
+      drop-replicate (suc k) count zeros,
+    ) refl
+
+length_reached : (held : Pages) (r : ℕ) → length held ≤ r → length (held ++ rest (r - length held)) ≡ r
+length_reached held r past =
+    let both = length-append held (rest (r - length held)) in
+    let more = length-replicate {A = List ℕ} (r - length held) zeros in
+    omega (arith, both, more)
+
+pub write_past : (held : Pages) (size r : ℕ) (words : List ℕ) → length held ≤ r → r < size
+    → pages_of ((held ++ rest (r - length held)) ++ words ∷ []) size ≡ set (pages_of held size) r words
+unfolding pages_of
+write_past held size r words past lt =
+    let reach : length (held ++ rest (r - length held)) ≡ r = length_reached held r past in
+    let long : length ((held ++ rest (r - length held)) ++ words ∷ []) ≡ r + 1 =
+    length_push (held ++ rest (r - length held)) words ∙ ap (λ n. n + 1) reach in
+    let left : size - length held - suc (r - length held) ≡ size - (r + 1) = omega arith in
+    rw (
+      long,
+      append_assoc (held ++ rest (r - length held)) (words ∷ []) (rest (size - (r + 1))),
+      append_assoc held (rest (r - length held)) (words ∷ rest (size - (r + 1))),
+      set-append_right held (rest (size - length held)) (length held) r words refl past,
+      set_rest (size - length held) (r - length held) words (omega arith),
+      left,
+    ) refl
+
+pub written_held : (held : Pages) (size room r : ℕ) (words : List ℕ) → AreHeld held size room → length words ≡ 1024
+    → AreHeld (set held r words) size room
+written_held held size room r words h full =
+    let long = length-set held r words in
+    let within = h.within in
+    record {
+      within = omega (arith, long, within);
+      roomy = h.roomy;
+      short = h.short;
+      full = All-set (λ page. length page ≡ 1024) held r words full h.full;
+    }
+
+pub written_past : (held : Pages) (size room r : ℕ) (words : List ℕ) → AreHeld held size room → length words ≡ 1024
+    → length held ≤ r → r < size → AreHeld ((held ++ rest (r - length held)) ++ words ∷ []) size room
+written_past held size room r words h full past lt =
+    let reach : length (held ++ rest (r - length held)) ≡ r = length_reached held r past in
+    let long = length_push (held ++ rest (r - length held)) words in
+    record {
+      within = omega (arith, long, reach);
+      roomy = h.roomy;
+      short = h.short;
+      full = All-push (λ page. length page ≡ 1024) (held ++ rest (r - length held)) words
+          (All-append (λ page. length page ≡ 1024) held (rest (r - length held)) h.full
+          (rest_full (r - length held))) full;
+    }
+
+pub new_full : (held : Pages) (size : ℕ) → held ≡ [] → HaveFullPages (pages_of held size)
+new_full held size none = rw (new_pages held size none) (rest_full size)
+
+pub below_size : (held : Pages) (size room : ℕ) (pages : Pages) (r : ℕ) → AreHeld held size room
+    → pages_of held size ≡ pages → r < length pages → r < size
+below_size held size room pages r h view lt =
+    let all = length_pages held size room h in
+    let same = ap length view in
+    omega (arith, all, same, lt)
+
+pub reach_more : (old now next : Pages) (counter : ℕ) (words : List ℕ) → now ≡ old ++ rest (counter - length old)
+    → length old ≤ counter → next ≡ now ++ words ∷ [] → words ≡ zeros → next ≡ old ++ rest (counter + 1 - length old)
+reach_more old now next counter words reached past is zero =
+    let one : counter + 1 - length old ≡ counter - length old + 1 = omega arith in
+    rw (
+      is,
+      zero,
+      reached,
+      one,
+      append_assoc old (rest (counter - length old)) (zeros ∷ []),
+      replicate_more (counter - length old) zeros,
+    ) refl
+
+-- a page that is held is written
+pub write_held_page : (held pages : Pages) (size r : ℕ) (words from : List ℕ) → pages_of held size ≡ pages
+    → r < length held → words ≡ from → pages_of (set held r words) size ≡ set pages r from
+write_held_page held pages size r words from view lt is =
+    rw is (write_held held size r from lt) ∙ ap (λ (ps : Pages). set ps r from) view
+
+-- a page past those held is written
+pub write_past_page : (held now next pages : Pages) (size r : ℕ) (words from : List ℕ) → pages_of held size ≡ pages
+    → length held ≤ r → r < size → now ≡ held ++ rest (r - length held) → next ≡ now ++ words ∷ [] → words ≡ from
+    → pages_of next size ≡ set pages r from
+write_past_page held now next pages size r words from view past lt reach is same =
+    rw (is, reach, same) (write_past held size r from past lt) ∙ ap (λ (ps : Pages). set ps r from) view
+
+pub held_past_page : (held now next : Pages) (size room room' r : ℕ) (words : List ℕ) → AreHeld held size room
+    → room' ≡ room → length words ≡ 1024 → length held ≤ r → r < size → now ≡ held ++ rest (r - length held)
+    → next ≡ now ++ words ∷ [] → AreHeld next size room'
+held_past_page held now next size room room' r words h same full past lt reach is =
+    rw (same, is, reach) (written_past held size room r words h full past lt)
