@@ -1,5 +1,6 @@
 use Rattle.std.proofs.Common.{◌≡◌, ◌≢◌, ℕ, zero, suc, ◌<◌, List, ◌∷◌, length, Option, None, Some, refl, sym, ap, ◌∙◌}
-use Rattle.std.proofs.Common.{get_or, set, replicate, inl, inr}
+use Rattle.std.proofs.Common.{get_or, set, replicate, inl, inr, [], Bool, true, false, ◌&&◌, ◌==◌, ◌↔◌, IsTrue, map}
+use Rattle.std.specs.List.{list_all}
 use Rattle.std.proofs.lemmas.Bool.Decides.{eqb_tells}
 use Rattle.std.proofs.lemmas.List.{map-set, get_or-map}
 use Rattle.vtoc.specs.FileMap.{no_records, record_of, records_of}
@@ -34,3 +35,24 @@ map_none (suc n) = ap (λ (xs : List (Option ℕ)). None ∷ xs) (map_none n)
 pub codes_of_none : records_of (replicate 256 65535) ≡ no_records
 unfolding no_records
 codes_of_none = map_none 256
+
+-- a map names no record where each code is the highest
+none_step : (none rest : Bool) (code : ℕ) (places : List (Option ℕ)) → none ≡ (code == 65535)
+    → (IsTrue rest ↔ ((p : ℕ) → get_or places p None ≡ None))
+    → (IsTrue (none && rest) ↔ ((p : ℕ) → get_or (record_of code ∷ places) p None ≡ None))
+none_step true rest code places is ih = rw (← is) (λ t. at t, λ h. ih.1 (λ p. h (suc p)))
+  where
+    at : IsTrue rest → (p : ℕ) → get_or (None ∷ places) p None ≡ None
+    at t zero = refl
+    at t (suc p) = ih.0 t p
+none_step false rest code places is ih = rw (← is) (λ t. cc, λ h. absurd (let no = h 0 in cc))
+
+pub none_is : (codes : List ℕ)
+    → (IsTrue (list_all (λ code. code == 65535) codes) ↔ ((p : ℕ) → get_or (records_of codes) p None ≡ None))
+unfolding records_of
+none_is [] = (λ t p. refl, λ h. refl)
+none_is (code ∷ codes) = none_step (code == 65535) _ code (map record_of codes) refl (none_is codes)
+
+pub names_none : (codes : List ℕ) (places : List (Option ℕ)) (none : Bool) → records_of codes ≡ places
+    → none ≡ list_all (λ code. code == 65535) codes → (IsTrue none ↔ ((p : ℕ) → get_or places p None ≡ None))
+names_none codes places none view is = rw (is, ← view) (none_is codes)

@@ -1,7 +1,7 @@
 use Rattle.std.proofs.Common.{◌≡◌, ℕ, zero, suc, ◌+◌, ◌<◌, ◌≤◌, ◌^◌, Bool, true, false, not, cond, List, [], ◌∷◌}
 use Rattle.std.proofs.Common.{length, Option, None, Some, refl, sym, ap}
 use Rattle.std.proofs.Common.{◌∙◌, arith, get_or, set, replicate, map, inl, inr, ◌⊎◌, IsSome, is_some, is_none}
-use Rattle.std.proofs.Common.{count_by, All}
+use Rattle.std.proofs.Common.{count_by, All, IsTrue, ◌↔◌}
 use Rattle.std.specs.List.{prefix_len}
 use Rattle.std.proofs.lemmas.Bool.{cases_eq}
 use Rattle.std.proofs.lemmas.Bool.Decides.{leb_tells}
@@ -419,3 +419,15 @@ allocate_empty flags slots table e uid h view least =
       none = λ p. ap (λ (entry : Option Entry). get_or (records_in entry) p None)
           (get_or-set_same table e (fresh_entry uid) None lt) ∙ none_named p;
     }
+
+-- an entry names no record where its slot's map doesn't
+pub names_none : (flags : List Bool) (slots : List Slot) (table : List (Option Entry)) (e : ℕ) (x : Slot) (none : Bool)
+    → IsMarked flags slots → table_of slots ≡ table → x ≡ slot_at slots e
+    → (IsTrue none ↔ ((p : ℕ) → get_or x.map p None ≡ None))
+    → (IsTrue none ↔ NamesNoRecord table e)
+names_none flags slots table e x none h view slot is =
+    let same : records_in (entry_at table e) ≡ x.map = (kept flags slots table e h view).records
+    ∙ ap (λ (s : Slot). s.map) (sym slot) in (
+      λ t. record { none = λ p. ap (λ (m : List (Option ℕ)). get_or m p None) same ∙ is.0 t p },
+      λ n. is.1 (λ p. ap (λ (m : List (Option ℕ)). get_or m p None) (sym same) ∙ n.none p),
+    )

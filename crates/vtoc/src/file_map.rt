@@ -1,4 +1,6 @@
 ghost use Rattle.std.specs.Prelude.{◌≡◌, ◌<◌, ◌^◌, ◌-◌, ℕ, List, Option, length, slice_set, slice_index_or, None};
+ghost use Rattle.std.specs.Prelude.{◌↔◌, ◌==◌, IsTrue};
+ghost use Rattle.std.specs.List.{list_all};
 ghost use Rattle.std.specs.Option.{ForSome};
 ghost use Rattle.vtoc.specs.FileMap.{no_records, record_of};
 
@@ -48,6 +50,13 @@ impl FileMap {
         }
     }
 
+    /// Whether it names no record. It looks at all places, several at once.
+    pub fn names_none(&self) -> bool
+        ensures { IsTrue result ↔ ((p : ℕ) → slice_index_or self.now p None ≡ None) }
+    {
+        name_no_record(&self.codes)
+    }
+
     /// Names `r` as the record of page `p`.
     pub fn put(&mut self, p: u32, r: Option<u32>)
         requires page { p < 256 }
@@ -67,4 +76,16 @@ fn code_of(r: Option<u32>) -> u16
         Some(record) => record as u16,
         None => NO_RECORD,
     }
+}
+
+/// Whether each code names no record.
+#[tactic(auto, using(std::proofs::lemmas::Grind::common_steps))]
+fn name_no_record(codes: &[u16; PAGES]) -> bool
+    ensures { result ≡ list_all (λ code. code == 65535) codes.now }
+{
+    let mut none = true;
+    for p in 0..PAGES {
+        none &= codes[p] == NO_RECORD;
+    }
+    none
 }

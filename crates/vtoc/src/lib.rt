@@ -5,14 +5,15 @@
 //!
 //! Costs: `new` takes memory for all entries, 520 bytes each at most, and for a bit map of them. `allocate` reads a
 //! few words of the bit map, writes one or two, and one uid; `free` writes two words and one uid. `used` and `size`
-//! read a number, `uid_at` one uid, and `file_map` and `put_file_map` touch one place of one map. No call walks over
-//! entries or over a map, since a free entry's map is always empty, and none but `new` takes memory.
+//! read a number, `uid_at` one uid, and `file_map` and `put_file_map` touch one place of one map. `names_none` looks at
+//! the 512 bytes of one map, several places at once. No call walks over entries, since a free entry's map is always
+//! empty, and none but `new` takes memory.
 #![tactic(auto)]
 
 mod file_map;
 
 ghost use Rattle.std.specs.Prelude.{◌≡◌, ◌<◌, ◌^◌, ◌+◌, ◌-◌, List, Option, None, Some, length, replicate, slice_set};
-ghost use Rattle.std.specs.Prelude.{count_by, is_some, All, IsSome, IfOk, IfSome, IfNone};
+ghost use Rattle.std.specs.Prelude.{◌↔◌, count_by, is_some, All, IsSome, IsTrue, IfOk, IfSome, IfNone};
 ghost use Rattle.std.specs.Option.{ForSome};
 ghost use Rattle.vtoc.specs.Vtoc.{Entry, entry_at, uid_of, record_at, fresh_entry, with_record, least_free_entry};
 ghost use Rattle.vtoc.specs.Vtoc.{IsLeastFreeEntry, HasFullMaps, NamesNoRecord};
@@ -100,6 +101,15 @@ impl Vtoc {
         ensures { result ≡ record_at self.now e p }
     {
         self.slots[e as usize].map.get(p)
+    }
+
+    /// Whether the file map of the used entry `e` names no record. It looks at all places of the map, several at once.
+    /// (Source: own.)
+    pub fn names_none(&self, e: u32) -> bool
+        requires { IsSome (entry_at self.now e) }
+        ensures { IsTrue result ↔ NamesNoRecord self.now e }
+    {
+        self.slots[e as usize].map.names_none()
     }
 
     /// Names `r` as the record of page `p` in the file map of the used entry `e`, or no record. A record is below

@@ -1,0 +1,6 @@
+use Rattle.std.proofs.Common.{◌≡◌, ◌==◌, take}
+use Rattle.std.specs.List.{list_all}
+use Rattle.vtoc.proofs.file_map.name_no_record.Given as goal
+
+abbrev pub invariant-loop-p : goal.invariant-loop-p
+invariant-loop-p l = l.none ≡ list_all (λ code. code == 65535) (take l.p l.codes)
