@@ -1,11 +1,11 @@
 -- A segment that is erased.
-use Rattle.std.proofs.Common.{◌≡◌, ◌≢◌, ℕ, ◌+◌, ◌<◌, Bool, true, false, List, [], ◌∷◌, length, Option, None, Some}
+use Rattle.std.proofs.Common.{◌≡◌, ◌≢◌, ℕ, suc, ◌+◌, ◌<◌, Bool, true, false, List, [], ◌∷◌, length, Option, None, Some}
 use Rattle.std.proofs.Common.{refl, sym, ap, ◌∙◌, arith, get_or, set, drop}
 use Rattle.std.proofs.Common.{is_some, count_by, replicate, inl, inr, subst}
 use Rattle.std.proofs.lemmas.Bool.{cases_eq}
 use Rattle.std.proofs.lemmas.Bool.Decides.{leb_tells}
 use Rattle.std.proofs.lemmas.List.{get_or-set_same, get_or-set_other, get_or_past, set-set, set-get_or, at_drop_all}
-use Rattle.std.proofs.lemmas.List.{at_drop_more, drop-set-lt}
+use Rattle.std.proofs.lemmas.List.{at_drop_more, drop-set-lt, get_or-drop}
 use Rattle.vtoc.specs.Vtoc.{Entry, entry_at, records_in, uid_of, with_record, HasFullMaps, NamesNoRecord}
 use Rattle.bitmap.specs.Bitmap.{in_use}
 use Rattle.page_table.specs.declared.Ptw.{Ptw}
@@ -125,6 +125,35 @@ part_some old s now uid home n is there part =
       records = filed_unstored s.records s.vtocs uid n r home part.records h there;
       count = count_some old s uid home n r h there on part.count;
     })
+
+-- a file map that names no record has none to give back
+freed_none : (flags : List Bool) (places : List (Option ℕ)) → ((p : ℕ) → get_or places p None ≡ None)
+    → freed flags places ≡ flags
+freed_none flags [] none = refl
+freed_none flags (None ∷ places) none = freed_none flags places (λ p. none (suc p))
+freed_none flags (Some r ∷ places) none = absurd (not_none (Some r) r (none 0) refl)
+
+pub part_empty : (s : Plain) (uid : ℕ) (home : Home) (table : List (Option Entry)) → uid_at s.vtocs home ≡ Some uid
+    → AreFiled s.records s.vtocs → table ≡ vtoc_in s.vtocs home.volume → NamesNoRecord table home.entry
+    → IsPartErased s s uid home 256
+part_empty s uid home table h filed is empty =
+    let places : List (Option ℕ) = file_map_of s home in
+    let none : (p : ℕ) → get_or places p None ≡ None = (subst (λ (t : List (Option Entry)). NamesNoRecord t home.entry)
+    is empty).none in
+    let flags : List Bool = flags_of s home.volume in
+    record {
+      rest = ap (λ (bits : List Bool). record s {
+        records = set s.records home.volume bits;
+        vtocs =
+            put s.vtocs home.volume home.entry None;
+      })
+          (freed_none flags (drop 256 places) (λ p. get_or-drop 256 places p None ∙ none (256 + p))
+          ∙ sym (freed_none flags places none));
+      gone = λ p lt. none p;
+      at = h;
+      records = filed;
+      count = refl;
+    }
 
 -- all pages have given their records back
 pub record Ended (old s : Plain) (uid : ℕ) (home : Home) : Type 0 where

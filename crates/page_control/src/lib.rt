@@ -6,9 +6,9 @@
 //! with the file map.
 //!
 //! Costs: a call finds frames, words, records and places of file maps by their numbers, and walks over none of them
-//! but in `choose`, in `erase`, which reads the 256 places of one file map, and in `rehome`, which reads a page table
-//! and as much of a file map. `end_in` costs one read of a drive, `evict` one write at most. None but `new` takes
-//! memory.
+//! but in `choose`, in `erase`, which reads one file map, several places at once where it names no record, and in
+//! `rehome`, which reads a page table and as much of a file map. `end_in` costs one read of a drive, `evict` one write
+//! at most. None but `new` takes memory.
 //!
 //! The words of a page, and whether it is stored, go by the segment and its home: while a segment moves between
 //! volumes it has two homes, and a call that concerns one of them says nothing of the other. What a call asks of a

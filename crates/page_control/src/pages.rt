@@ -279,8 +279,8 @@ impl<D: Drive> Pages<D> {
         self.ask(volume, uid)
     }
 
-    /// Gives back each record that the file map at a home names, and frees the entry. It reads each of the 256 places
-    /// of the file map. (Source: Organick 1972.)
+    /// Gives back each record that the file map at a home names, and frees the entry. It reads the file map: several
+    /// places at once, and where they name a record each of the 256. (Source: Organick 1972.)
     pub fn erase(&mut self, home: Home)
         requires volume { home.volume < length self.old.volumes.drives }
         requires home { uid_at self.old.volumes.vtocs home ≡ Some (uid_of_home (plain D.pages self.old) home) }
@@ -576,9 +576,7 @@ impl<D: Drive> Pages<D> {
         ensures core { self.new.core ≡ self.old.core }
         ensures drives { self.new.volumes.drives ≡ self.old.volumes.drives }
     {
-        for p in 0..256 {
-            self.give_back(home, p);
-        }
+        self.give_back_all(home);
         prove!(home.entry < self.volumes.vtoc(home.volume).size());
         self.volumes.vtoc_mut(home.volume).free(home.entry);
     }
@@ -744,6 +742,25 @@ impl<D: Drive> Pages<D> {
                 r
             }
             None => unreachable!(),
+        }
+    }
+
+    /// Gives back the record of each page at a home that has one.
+    #[tactic(auto, using(crate::proofs::Facts::home_used, std::proofs::lemmas::Grind::common_steps))]
+    fn give_back_all(&mut self, home: Home)
+        requires volume { home.volume < length self.old.volumes.drives }
+        requires home { uid_at self.old.volumes.vtocs home ≡ Some (uid_of_home (plain D.pages self.old) home) }
+        requires records { AreFiled self.old.volumes.records self.old.volumes.vtocs }
+        ensures part { IsPartErased (plain D.pages self.old) (plain D.pages self.new)
+            (uid_of_home (plain D.pages self.old) home) home 256 }
+        ensures core { self.new.core ≡ self.old.core }
+        ensures drives { self.new.volumes.drives ≡ self.old.volumes.drives }
+    {
+        if self.volumes.vtoc(home.volume).names_none(home.entry) {
+            return;
+        }
+        for p in 0..256 {
+            self.give_back(home, p);
         }
     }
 

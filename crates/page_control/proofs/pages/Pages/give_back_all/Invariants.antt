@@ -1,7 +1,7 @@
 use Rattle.std.proofs.Common.{◌≡◌}
 use Rattle.page_control.specs.Plain.{plain, uid_of_home}
 use Rattle.page_control.specs.Erasing.{IsPartErased}
-use Rattle.page_control.proofs.pages.Pages.erase_all.Given as goal
+use Rattle.page_control.proofs.pages.Pages.give_back_all.Given as goal
 
 abbrev pub invariant-loop-p : goal.invariant-loop-p
 invariant-loop-p g l =
