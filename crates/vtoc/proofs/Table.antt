@@ -7,14 +7,14 @@ use Rattle.std.proofs.lemmas.Bool.{cases_eq}
 use Rattle.std.proofs.lemmas.Bool.Decides.{leb_tells}
 use Rattle.std.proofs.lemmas.List.{map-set, get_or-map, get_or_past, length-map, length-set, length-replicate}
 use Rattle.std.proofs.lemmas.List.{get_or-set_same, get_or-set_other, set-get_or}
-use Rattle.std.proofs.lemmas.List.{get_or_read, get_or-replicate, ext_get_or}
+use Rattle.std.proofs.lemmas.List.{get_or_default, get_or_read, get_or-replicate, ext_get_or}
 use Rattle.std.proofs.lemmas.List.Elements.{All-get_or, All-from_get_or}
 use Rattle.std.proofs.lemmas.List.Sums.{sum_by-cons, sum_by-set}
 use Rattle.bitmap.specs.Bitmap.{in_use, least_free, IsLeastFree}
 use Rattle.vtoc.specs.FileMap.{no_records}
 use Rattle.vtoc.specs.Vtoc.{Entry, entry_at, uid_of, records_in, record_at, fresh_entry, with_record, least_free_entry}
 use Rattle.vtoc.specs.Vtoc.{IsLeastFreeEntry, NamesNoRecord}
-use Rattle.vtoc.specs.declared.Slot.{Slot}
+use Rattle.vtoc.specs.declared.slots.Slot.{Slot}
 use Rattle.vtoc.specs.Slots.{seen_as, entry_of, table_of, free_slot, slot_at, IsMarked}
 
 below_or_past : (a b : ℕ) → (a < b) ⊎ (b ≤ a)
@@ -119,12 +119,22 @@ pub used_slot : (flags : List Bool) (slots : List Slot) (table : List (Option En
 used_slot flags slots table e h view used =
     let lt = used_inside table e used in omega (arith, lt, ap length view, length_table slots)
 
+-- the slot of a used entry has a uid
+pub has_uid : (flags : List Bool) (slots : List Slot) (table : List (Option Entry)) (e : ℕ) → IsMarked flags slots
+    → table_of slots ≡ table
+    → IsSome (entry_at table e) → is_some (slot_at slots e).uid ≡ true
+has_uid flags slots table e h view used = some_seen (slot_at slots e).uid (slot_at slots e).map
+    (rw (← (kept flags slots table e h view).entry) used)
+
 pub used_bit : (flags : List Bool) (slots : List Slot) (table : List (Option Entry)) (e : ℕ) → IsMarked flags slots
     → table_of slots ≡ table
     → IsSome (entry_at table e) → in_use flags e ≡ true
 used_bit flags slots table e h view used =
-    bit_is flags slots e h ∙ some_seen (slot_at slots e).uid (slot_at slots e).map
-    (rw (← (kept flags slots table e h view).entry) used)
+    bit_is flags slots e h ∙ has_uid flags slots table e h view used
+
+-- a slot is what a read of it gives
+pub read_self : (slots : List Slot) (e : ℕ) → e < length slots → slot_at slots e ≡ get_or slots e (slot_at slots e)
+read_self slots e lt = get_or_default slots e free_slot (slot_at slots e) lt
 
 -- the bits and the slots after slot e is written, with a bit that says whether it has a uid now
 pub marked_with : (flags : List Bool) (slots : List Slot) (e : ℕ) (slot : Slot) → IsMarked flags slots
@@ -360,6 +370,10 @@ put_placed flags slots table e p r h view used lt =
     ap (λ (entry : Option Entry). get_or (records_in entry) p None)
     (get_or-set_same table e (with_record (entry_at table e) p r) None inside)
     ∙ placed_in (entry_at table e) p r used (omega (arith, long))
+
+pub least_slot : (flags : List Bool) (slots : List Slot) (e : ℕ) → IsMarked flags slots → IsLeastFree flags e
+    → e < length slots
+least_slot flags slots e h least = omega (arith, least.within, length_bits flags slots h)
 
 -- the least free entry is allocated
 pub allocate_marked : (flags fs : List Bool) (slots : List Slot) (e uid : ℕ) (x : Slot) → IsMarked flags slots

@@ -1,7 +1,8 @@
+use Rattle.std.specs.Prelude.{◌++◌, ◌-◌, ◌≤◌, replicate}
 use Rattle.std.specs.Prelude.{◌≡◌, ℕ, ◌<◌, ◌^◌, Bool, List, length, Option, None, Some, map, is_some, slice_index_or}
 use Rattle.vtoc.specs.FileMap.{no_records}
 use Rattle.vtoc.specs.Vtoc.{Entry}
-use Rattle.vtoc.specs.declared.Slot.{Slot}
+use Rattle.vtoc.specs.declared.slots.Slot.{Slot}
 
 -- the entry that a slot stands for: none where it has no uid (own)
 abbrev pub seen_as : Option ℕ → List (Option ℕ) → Option Entry
@@ -21,6 +22,15 @@ free_slot = record { uid = None; map = no_records }
 
 abbrev pub slot_at : List Slot → ℕ → Slot
 slot_at slots e = slice_index_or slots e free_slot
+
+-- so many slots, of which the first are held, and the rest are free (own)
+unfoldable pub slots_of : List Slot → ℕ → List Slot
+slots_of held size = held ++ replicate (size - length held) free_slot
+
+-- the held slots are at most all, and there is room for all (own)
+pub record AreRoomy (held : List Slot) (size room : ℕ) : Type 0 where
+  pub within : length held ≤ size
+  pub roomy : size ≤ room
 
 -- What ties the bits of used slots and the slots together (own): a bit is on where the slot has a uid, a free slot has
 -- an empty map, and each map has 256 places.

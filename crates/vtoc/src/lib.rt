@@ -3,41 +3,34 @@
 //! An entry has the uid of what it describes and its file map, which names for each of the 256 pages of a segment
 //! the record of the volume that the page is on, or none (Organick 1972).
 //!
-//! Costs: `new` takes memory for all entries, 520 bytes each at most, and for a bit map of them. `allocate` reads a
-//! few words of the bit map, writes one or two, and one uid; `free` writes two words and one uid. `used` and `size`
-//! read a number, `uid_at` one uid, and `file_map` and `put_file_map` touch one place of one map. `names_none` looks at
-//! the 512 bytes of one map, several places at once. No call walks over entries, since a free entry's map is always
-//! empty, and none but `new` takes memory.
+//! Costs: `new` takes room for all entries, 520 bytes each at most, and memory for a bit map of them. `allocate` reads
+//! a few words of the bit map, writes one or two, and one uid; where the entry was never used, its empty map besides.
+//! `free` writes two words and one uid. `used` and `size` read a number, `uid_at` one uid, and `file_map` and
+//! `put_file_map` touch one place of one map. `names_none` looks at the 512 bytes of one map, several places at once. No
+//! call walks over entries, since a free entry's map is always empty, and none but `new` takes memory.
 #![tactic(auto)]
 
 mod file_map;
+mod slots;
 
 ghost use Rattle.std.specs.Prelude.{◌≡◌, ◌<◌, ◌^◌, ◌+◌, ◌-◌, List, Option, None, Some, length, replicate, slice_set};
 ghost use Rattle.std.specs.Prelude.{◌↔◌, count_by, is_some, All, IsSome, IsTrue, IfOk, IfSome, IfNone};
 ghost use Rattle.std.specs.Option.{ForSome};
 ghost use Rattle.vtoc.specs.Vtoc.{Entry, entry_at, uid_of, record_at, fresh_entry, with_record, least_free_entry};
 ghost use Rattle.vtoc.specs.Vtoc.{IsLeastFreeEntry, HasFullMaps, NamesNoRecord};
-ghost use Rattle.vtoc.specs.Slots.{free_slot};
 
 use bitmap::Bitmap;
-use file_map::FileMap;
 pub use no_memory::NoMemory;
+use slots::Slots;
 use std::alloc::Global;
 use std::marker::Model;
-
-/// The place of one entry. It is free where it has no uid, and its map is empty then.
-#[derive(Drop)]
-struct Slot {
-    uid: Option<u32>,
-    map: FileMap,
-}
 
 /// The table of contents of a volume, seen as the list of its entries, each free or used with a uid and a file map
 /// of 256 places.
 #[derive(Drop)]
 pub struct Vtoc {
     in_use: Bitmap,
-    slots: Vec<Slot>,
+    slots: Slots,
 }
 
 impl Model for Vtoc {
@@ -48,9 +41,9 @@ impl Model for Vtoc {
 
     ghost use Rattle.vtoc.specs.Slots.{table_of, IsMarked};
 
-    ghost view = { λ vtoc. table_of vtoc.slots.items };
+    ghost view = { λ vtoc. table_of vtoc.slots };
 
-    ghost invariant = { λ vtoc. IsMarked vtoc.in_use vtoc.slots.items };
+    ghost invariant = { λ vtoc. IsMarked vtoc.in_use vtoc.slots };
 }
 
 impl Vtoc {
@@ -59,7 +52,7 @@ impl Vtoc {
         ensures { IfOk result (λ vtoc. vtoc ≡ replicate entries None) }
     {
         let in_use = Bitmap::new(alloc, entries)?;
-        let slots = free_slots(alloc, entries)?;
+        let slots = Slots::new(alloc, entries)?;
         Ok(Vtoc { in_use, slots })
     }
 
@@ -81,7 +74,7 @@ impl Vtoc {
     {
         let e = self.in_use.first_free()?;
         self.in_use.take(e);
-        self.slots[e as usize].uid = Some(uid);
+        self.slots.give(e, uid);
         Some(e)
     }
 
@@ -90,7 +83,7 @@ impl Vtoc {
         requires { e < length self.now }
         ensures { result ≡ uid_of (entry_at self.now e) }
     {
-        self.slots[e as usize].uid
+        self.slots.uid(e)
     }
 
     /// The record of page `p` by the file map of the used entry `e`, None where the page has no record. It reads one
@@ -100,7 +93,7 @@ impl Vtoc {
         requires page { p < 256 }
         ensures { result ≡ record_at self.now e p }
     {
-        self.slots[e as usize].map.get(p)
+        self.slots.used(e).map.get(p)
     }
 
     /// Whether the file map of the used entry `e` names no record. It looks at all places of the map, several at once.
@@ -109,7 +102,7 @@ impl Vtoc {
         requires { IsSome (entry_at self.now e) }
         ensures { IsTrue result ↔ NamesNoRecord self.now e }
     {
-        self.slots[e as usize].map.names_none()
+        self.slots.used(e).map.names_none()
     }
 
     /// Names `r` as the record of page `p` in the file map of the used entry `e`, or no record. A record is below
@@ -122,7 +115,7 @@ impl Vtoc {
         ensures map { self.new ≡ slice_set self.old e (with_record (entry_at self.old e) p r) }
         ensures placed { record_at self.new e p ≡ r }
     {
-        self.slots[e as usize].map.put(p, r);
+        self.slots.put(e, p, r);
     }
 
     /// Frees the used entry `e`, whose file map names no record. It writes one uid and two words of the bit map.
@@ -134,7 +127,7 @@ impl Vtoc {
         ensures count { count_by is_some self.new + 1 ≡ count_by is_some self.old }
     {
         self.in_use.give_back(e);
-        self.slots[e as usize].uid = None;
+        self.slots.clear(e);
     }
 
     /// How many entries are used. It reads a count. (Source: own.)
@@ -149,20 +142,6 @@ impl Vtoc {
         ensures entries { result ≡ length self.now }
         ensures places { HasFullMaps self.now }
     {
-        self.slots.len() as u32
+        self.slots.size()
     }
-}
-
-/// As many free slots.
-fn free_slots(alloc: Global, entries: u32) -> Result<Vec<Slot>, NoMemory>
-    ensures { IfOk result (λ slots. slots.items ≡ replicate entries free_slot) }
-{
-    let mut slots = Vec::with_capacity(alloc, entries as usize)?;
-    for _ in 0..entries {
-        slots.push_reserved(Slot {
-            uid: None,
-            map: FileMap::new(),
-        });
-    }
-    Ok(slots)
 }

@@ -1,17 +1,26 @@
-use Rattle.std.proofs.Common.{◌∙◌}
+use Rattle.std.proofs.Common.{◌∙◌, ap, sym}
+use Rattle.vtoc.specs.Slots.{table_of}
 use Rattle.vtoc.proofs.Table.{least_same, least_entry, all_used, allocate_marked, allocate_table, allocate_empty}
-use Rattle.vtoc.proofs.Table.{count_taken}
+use Rattle.vtoc.proofs.Table.{bit_is, count_taken, least_slot, read_self}
 use Rattle.vtoc.proofs.Vtoc.allocate.Goals as goal
+
+pub give-requires-clause-within : goal.give-requires-clause-within
+give-requires-clause-within c = least_slot _ _ c.in_ok-e.e c.self.invariant c.in_ok-e.ensures.some
+
+pub give-requires-clause-before : goal.give-requires-clause-before
+give-requires-clause-before c = λ k lt. sym (bit_is _ _ k c.self.invariant) ∙ c.in_ok-e.ensures.some.before k lt
 
 pub invariant_of-self : goal.invariant_of-self
 invariant_of-self c =
-    allocate_marked _ _ _ c.in_ok-e.e c.args.uid _ c.self.invariant c.in_ok-e.ensures.some c.index_mut.ensures.value
-    c.take.ensures.flags
+    let lt = least_slot _ _ c.in_ok-e.e c.self.invariant c.in_ok-e.ensures.some in
+    rw c.give.ensures (allocate_marked _ _ _ c.in_ok-e.e c.args.uid _ c.self.invariant c.in_ok-e.ensures.some
+    (read_self _ c.in_ok-e.e lt) c.take.ensures.flags)
 
 pub returns-clause-taken : goal.returns-clause-taken
 returns-clause-taken c =
-    allocate_table _ _ _ c.in_ok-e.e c.args.uid _ c.self.invariant c.self.view_is c.in_ok-e.ensures.some
-    c.index_mut.ensures.value
+    let lt = least_slot _ _ c.in_ok-e.e c.self.invariant c.in_ok-e.ensures.some in
+    ap table_of c.give.ensures ∙ allocate_table _ _ _ c.in_ok-e.e c.args.uid _ c.self.invariant c.self.view_is
+    c.in_ok-e.ensures.some (read_self _ c.in_ok-e.e lt)
 
 pub returns-clause-some : goal.returns-clause-some
 returns-clause-some c = least_entry _ _ _ c.in_ok-e.e c.self.invariant c.self.view_is c.in_ok-e.ensures.some
@@ -29,13 +38,15 @@ returns-in_err-e-clause-none c = rw c.from_residual.ensures
 
 pub returns-clause-empty : goal.returns-clause-empty
 returns-clause-empty c =
-    rw (allocate_table _ _ _ c.in_ok-e.e c.args.uid _ c.self.invariant c.self.view_is c.in_ok-e.ensures.some
-    c.index_mut.ensures.value)
+    let lt = least_slot _ _ c.in_ok-e.e c.self.invariant c.in_ok-e.ensures.some in
+    rw (ap table_of c.give.ensures ∙ allocate_table _ _ _ c.in_ok-e.e c.args.uid _ c.self.invariant c.self.view_is
+    c.in_ok-e.ensures.some (read_self _ c.in_ok-e.e lt))
     (allocate_empty _ _ _ c.in_ok-e.e c.args.uid c.self.invariant c.self.view_is c.in_ok-e.ensures.some)
 
 pub returns-clause-count : goal.returns-clause-count
 returns-clause-count c =
-    rw (allocate_table _ _ _ c.in_ok-e.e c.args.uid _ c.self.invariant c.self.view_is c.in_ok-e.ensures.some
-    c.index_mut.ensures.value)
+    let lt = least_slot _ _ c.in_ok-e.e c.self.invariant c.in_ok-e.ensures.some in
+    rw (ap table_of c.give.ensures ∙ allocate_table _ _ _ c.in_ok-e.e c.args.uid _ c.self.invariant c.self.view_is
+    c.in_ok-e.ensures.some (read_self _ c.in_ok-e.e lt))
     (count_taken _ c.in_ok-e.e c.args.uid (least_entry _ _ _ c.in_ok-e.e c.self.invariant c.self.view_is
     c.in_ok-e.ensures.some))

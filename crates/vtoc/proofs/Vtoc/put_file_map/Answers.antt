@@ -1,23 +1,26 @@
-use Rattle.std.proofs.Common.{arith}
-use Rattle.vtoc.proofs.Table.{used_slot, put_marked, put_table, put_placed}
+use Rattle.std.proofs.Common.{◌∙◌, ap, refl}
+use Rattle.vtoc.specs.Slots.{table_of}
+use Rattle.vtoc.proofs.Table.{has_uid, put_marked, put_placed, put_table, read_self, used_slot}
 use Rattle.vtoc.proofs.Vtoc.put_file_map.Goals as goal
 
-pub index_mut-requires : goal.index_mut-requires
-index_mut-requires c = let inside = used_slot _ _ _ c.args.e c.self.invariant c.self.view_is c.requires.used in omega
-    (arith, inside)
+pub put-requires-clause-used : goal.put-requires-clause-used
+put-requires-clause-used c = has_uid _ _ _ c.args.e c.self.invariant c.self.view_is c.requires.used
 
 pub invariant_of-self : goal.invariant_of-self
 invariant_of-self c =
-    put_marked _ _ _ c.args.e c.args.p _ _ c.args.r c.self.invariant c.self.view_is c.requires.used
-    c.index_mut.ensures.value c.put.ensures
+    let lt = used_slot _ _ _ c.args.e c.self.invariant c.self.view_is c.requires.used in
+    rw c.put.ensures (put_marked _ _ _ c.args.e c.args.p _ _ c.args.r c.self.invariant c.self.view_is c.requires.used
+    (read_self _ c.args.e lt) refl)
 
 pub returns-clause-map : goal.returns-clause-map
 returns-clause-map c =
-    put_table _ _ _ c.args.e c.args.p _ _ c.args.r c.self.invariant c.self.view_is c.requires.used
-    c.index_mut.ensures.value c.put.ensures
+    let lt = used_slot _ _ _ c.args.e c.self.invariant c.self.view_is c.requires.used in
+    ap table_of c.put.ensures ∙ put_table _ _ _ c.args.e c.args.p _ _ c.args.r c.self.invariant c.self.view_is
+    c.requires.used (read_self _ c.args.e lt) refl
 
 pub returns-clause-placed : goal.returns-clause-placed
 returns-clause-placed c =
-    rw (put_table _ _ _ c.args.e c.args.p _ _ c.args.r c.self.invariant c.self.view_is c.requires.used
-    c.index_mut.ensures.value c.put.ensures)
+    let lt = used_slot _ _ _ c.args.e c.self.invariant c.self.view_is c.requires.used in
+    rw (ap table_of c.put.ensures ∙ put_table _ _ _ c.args.e c.args.p _ _ c.args.r c.self.invariant c.self.view_is
+    c.requires.used (read_self _ c.args.e lt) refl)
     (put_placed _ _ _ c.args.e c.args.p c.args.r c.self.invariant c.self.view_is c.requires.used c.requires.page)

@@ -1,15 +1,9 @@
-use Rattle.std.proofs.Common.{◌∙◌, ap, arith, length}
+use Rattle.std.proofs.Common.{◌∙◌, ap, length, sym}
 use Rattle.vtoc.proofs.Table.{length_table, kept}
 use Rattle.vtoc.proofs.Vtoc.size.Goals as goal
 
 pub returns-clause-entries : goal.returns-clause-entries
-returns-clause-entries c = omega (
-  arith,
-  c.len.ensures,
-  length_table c.self.inside.slots.items,
-  ap length
-      c.self.view_is,
-)
+returns-clause-entries c = c.size.ensures ∙ sym (length_table c.self.inside.slots) ∙ ap length c.self.view_is
 
 pub returns-clause-places : goal.returns-clause-places
 returns-clause-places c = record {

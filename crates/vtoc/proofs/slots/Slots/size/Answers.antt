@@ -1,0 +1,5 @@
+use Rattle.vtoc.proofs.Held.{size_slots}
+use Rattle.vtoc.proofs.slots.Slots.size.Goals as goal
+
+pub returns : goal.returns
+returns c = size_slots _ _ _ _ c.self.invariant c.self.view_is

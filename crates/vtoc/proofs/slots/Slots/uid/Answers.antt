@@ -1,0 +1,17 @@
+use Rattle.std.proofs.Common.{◌≡◌, ◌<◌, ◌≤◌, ap, length, get_or, arith}
+use Rattle.std.proofs.lemmas.Grind.{common_steps}
+use Rattle.vtoc.specs.declared.slots.Slot.{Slot}
+use Rattle.vtoc.proofs.Held.{held_read, past_read}
+use Rattle.vtoc.proofs.slots.Slots.uid.Goals as goal
+
+pub returns-in-Some : goal.returns-in-Some
+returns-in-Some c =
+    let held : c.args.e < length c.self.inside.held.items = grind (arith, common_steps) in
+    let read : c.in-Some.slot.now ≡ get_or c.self.inside.held.items c.args.e c.in-Some.slot.now =
+    grind (arith, common_steps) in
+    ap (λ (s : Slot). s.uid) (held_read _ _ c.args.e _ _ c.self.view_is held read)
+
+pub returns-in-None : goal.returns-in-None
+returns-in-None c =
+    let past : length c.self.inside.held.items ≤ c.args.e = grind (arith, common_steps) in
+    past_read _ _ c.args.e _ c.self.view_is past

@@ -1,0 +1,10 @@
+use Rattle.std.proofs.Common.{arith}
+use Rattle.vtoc.proofs.Held.{used_held, held_read}
+use Rattle.vtoc.proofs.slots.Slots.used.Goals as goal
+
+pub index-requires : goal.index-requires
+index-requires c = let held = used_held _ _ c.args.e _ c.self.view_is c.requires in omega (arith, held)
+
+pub returns : goal.returns
+returns c = held_read _ _ c.args.e _ _ c.self.view_is (used_held _ _ c.args.e _ c.self.view_is c.requires)
+    c.index.ensures
