@@ -8,7 +8,7 @@ use Rattle.std.proofs.lemmas.List.{length-map, length_push, get_or_append_left, 
 use Rattle.std.proofs.lemmas.List.{length-take-le}
 use Rattle.dir_tree.specs.declared.node.Node.{Node}
 use Rattle.dir_tree.specs.declared.entries.Entry.{Entry}
-use Rattle.dir_tree.specs.Index.{Places, HasPlace, IsSorted, AreWithin, key_of, key_at, node_at}
+use Rattle.dir_tree.specs.Index.{Places, HasPlace, IsSorted, IsOrdered, AreWithin, key_hash, key_of, key_at, node_at}
 use Rattle.dir_tree.specs.Nodes.{is_directory, add_fault_of}
 use Rattle.dir_tree.specs.Shape.{shape, shapes}
 use Rattle.tree_model.specs.Trees.{IsBranch, IsTree, Joins}
@@ -59,7 +59,15 @@ module _ {nodes : List Node} {es : List Entry} {free : List ℕ} {index : Places
         (λ e. no_place_yet (record { at = i; within = lt; is = e })))
 
     sorted_still : IsSorted nodes' index.places
-    sorted_still i j lt in_j = rw (old_key i (omega arith), old_key j in_j) (k.sorted i j lt in_j)
+    sorted_still i j lt in_j = rw (old_key i (omega arith), old_key j in_j) (k.order.sorted i j lt in_j)
+
+    ordered_still : IsOrdered nodes' index.places index.hashes
+    ordered_still = record {
+      sorted = sorted_still;
+      hashed = λ p there. k.order.hashed p there ∙ ap (λ (n : Node). key_hash (key_of n))
+          (sym (others p (λ e. no_place_yet (subst (HasPlace index.places) e there))));
+      slots = k.order.slots;
+    }
 
     within_more : (p : ℕ) → p < length nodes → p < length nodes'
     within_more p lt = elim (cases_eq (length free) 0) [
@@ -81,8 +89,8 @@ module _ {nodes : List Node} {es : List Entry} {free : List ℕ} {index : Places
           within_more place (rw last (k.free_within (length free - 1) (omega arith))))
     ]
 
-    pub asked : IsSorted nodes' index.places × AreWithin nodes' index.places × (place < length nodes')
-    asked = (sorted_still, within_still, new_within)
+    pub asked : IsOrdered nodes' index.places index.hashes × AreWithin nodes' index.places × (place < length nodes')
+    asked = (ordered_still, within_still, new_within)
 
     -- no branch that is there has its key
     pub new_key : (s : ℕ) (n : Node) → node_at nodes' place ≡ n → n.superior ≡ Some s
@@ -104,7 +112,7 @@ module _ {nodes : List Node} {es : List Entry} {free : List ℕ} {index : Places
     (others : (p : ℕ) → p ≢ place → node_at nodes' p ≡ node_at nodes p)
     (rest : free' ≡ take (length free - 1) free) (grown : length nodes'
     ≡ (if eqb (length free) 0 then length nodes + 1 else length nodes))
-    (sorted : IsSorted nodes' index'.places) (places : (p : ℕ) → HasPlace index'.places p
+    (order : IsOrdered nodes' index'.places index'.hashes) (places : (p : ℕ) → HasPlace index'.places p
     ↔ (HasPlace index.places p ⊎ (p ≡ place)))
     (count : length index'.places ≡ length index.places + 1) (room : index'.room ≡ index.room) where
   abbrev entry : Entry
@@ -247,7 +255,7 @@ module _ {nodes : List Node} {es : List Entry} {free : List ℕ} {index : Places
     few = few';
     named = named';
     places = places';
-    sorted = sorted;
+    order = order;
     branches = (let m = size in let p : length index.places + 1 ≡ length es = k.branches in omega arith);
     room = room ∙ k.room;
     tree = subst (λ ns. IsTree (shapes ns)) (sym view_added)

@@ -7,7 +7,7 @@ use Rattle.std.proofs.lemmas.List.{get_or-set_same, get_or-set_other, length-set
 use Rattle.tree_model.specs.Tree.{Node as Term}
 use Rattle.dir_tree.specs.declared.node.Node.{Node}
 use Rattle.dir_tree.specs.declared.entries.Entry.{Entry}
-use Rattle.dir_tree.specs.Index.{Places, Key, key_at, node_at, no_node}
+use Rattle.dir_tree.specs.Index.{Places, Key, HasPlace, key_at, key_of, key_hash, node_at, no_node}
 use Rattle.dir_tree.specs.Nodes.{Branches, with_changed, node_of, acl_of}
 use Rattle.dir_tree.specs.Shape.{shape, shapes}
 use Rattle.tree_model.specs.Trees.{IsTree}
@@ -48,12 +48,15 @@ module _ {nodes : List Node} {es : List Entry} {free : List ℕ} {index : Places
     | inr other ↦ ap shape (there j lt other)
   ]
 
-  same_key : (a : ℕ) → a < length index.places → key_at nodes' index.places a ≡ key_at nodes index.places a
-  same_key a lt =
-      (let p = k.places (get_or index.places a 0) (record { at = a; within = lt; is = refl }) in
+  same_key_of : (place : ℕ) → HasPlace index.places place → key_of (node_at nodes' place) ≡ key_of (node_at nodes place)
+  same_key_of place at =
+      (let p = k.places place at in
       let same : shape (node_of_entry nodes' es p.i) ≡ shape (node_of_entry nodes es p.i) = same_shape p.i p.within in
       subst (λ q. shape_key (shape (node_at nodes' q)) ≡ shape_key (shape (node_at nodes q))) p.place_is
       (ap shape_key same))
+
+  same_key : (a : ℕ) → a < length index.places → key_at nodes' index.places a ≡ key_at nodes index.places a
+  same_key a lt = same_key_of (get_or index.places a 0) (record { at = a; within = lt; is = refl })
 
   changed : (j : ℕ) → j < length es → node_of_entry nodes' es
       j ≡ (if eqb (node_of_entry nodes es j).uid uid then h (node_of_entry nodes es j) else node_of_entry nodes es j)
@@ -79,7 +82,11 @@ module _ {nodes : List Node} {es : List Entry} {free : List ℕ} {index : Places
     few = rw (length-set nodes (entry_at es i).place m) k.few;
     named = k.named;
     places = k.places;
-    sorted = λ a b lt in_b. rw (same_key a (omega arith), same_key b in_b) (k.sorted a b lt in_b);
+    order = record {
+      sorted = λ a b lt in_b. rw (same_key a (omega arith), same_key b in_b) (k.order.sorted a b lt in_b);
+      hashed = λ p at. k.order.hashed p at ∙ ap key_hash (sym (same_key_of p at));
+      slots = k.order.slots;
+    };
     branches = k.branches;
     room = k.room;
     tree = subst IsTree (sym (shapes_newest nodes' nodes es same_shape)) k.tree;

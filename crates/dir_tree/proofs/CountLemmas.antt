@@ -131,7 +131,7 @@ module _ (v : ℕ) (g : ℕ → ℕ) where
           place_is =
               ap (λ (e : Entry). e.place) (entry_recounted es q.i q.within) ∙ q.place_is;
         });
-    sorted = k.sorted;
+    order = k.order;
     branches = (let n = length_recounted es in let p : length index.places + 1 ≡ length es = k.branches in omega arith);
     room = k.room;
     tree = subst (λ ns. IsTree (shapes ns)) (sym (newest_recounted nodes es)) k.tree;

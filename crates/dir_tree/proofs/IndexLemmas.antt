@@ -1,6 +1,6 @@
 -- What the order of keys tells, and what an edit of the index leaves.
 use Rattle.std.proofs.Common.{◌≡◌, ◌≢◌, ℕ, ◌+◌, ◌-◌, ◌<◌, ◌≤◌, true, List, length, Option, Some, None, refl, sym, ap}
-use Rattle.std.proofs.Common.{subst, ◌∙◌, arith, get_or, inl, inr, ◌⊎◌}
+use Rattle.std.proofs.Common.{subst, ◌∙◌, arith, get_or, set, inl, inr, ◌⊎◌}
 use Rattle.std.specs.Prelude.{◌↔◌, bytes_eq}
 use Rattle.std.specs.List.{insert, remove}
 use Rattle.std.specs.declared.cmp.Ordering.{Ordering}
@@ -13,13 +13,14 @@ use Rattle.std.proofs.lemmas.Cmp.{tied_itself, then_total, on_total, nat_cmp_tot
 use Rattle.std.proofs.lemmas.Map.Text.{is_eq-slice_cmp}
 use Rattle.std.proofs.lemmas.Slice.Eq.{bytes_eq-Decides}
 use Rattle.std.proofs.lemmas.Bool.{cases_lt, cases_eq, cases_order, and_from}
-use Rattle.std.proofs.lemmas.List.{get_or_read}
+use Rattle.std.proofs.lemmas.List.{get_or_read, get_or-set_same, get_or-set_other, length-set}
 use Rattle.std.proofs.lemmas.List.Edits.{length-insert, get_or-insert_below, get_or-insert_at, get_or-insert_above}
 use Rattle.std.proofs.lemmas.List.Edits.{get_or-remove_below, get_or-remove_above}
 use Rattle.tree_model.specs.Tree.{is_branch, is_inferior}
 use Rattle.dir_tree.specs.declared.node.Node.{Node}
 use Rattle.dir_tree.specs.Shape.{shape}
-use Rattle.dir_tree.specs.Index.{Key, HasPlace, IsSorted, no_node, node_at, key_of, key_at, key_cmp}
+use Rattle.dir_tree.specs.Index.{Key, HasPlace, IsSorted, IsOrdered, no_node, node_at, key_of, key_at, key_cmp}
+use Rattle.dir_tree.specs.Index.{key_hash}
 use Rattle.dir_tree.proofs.EditLemmas.{was, was_other, was_up, at_was, fewer, was_within}
 use Rattle.tree_model.proofs.TreeLaws.{lies, is_below}
 use Rattle.dir_tree.specs.Laws.{Where, Before, Here, After, where_is}
@@ -28,7 +29,8 @@ use Rattle.dir_tree.specs.Laws.{Where, Before, Here, After, where_is}
 
 key_total : IsTotalOrder key_cmp
 unfolding key_cmp
-key_total = then_total (on_total (λ (k : Key). k.0) (options_total nat_cmp_total))
+key_total = then_total (then_total (on_total key_hash nat_cmp_total)
+    (on_total (λ (k : Key). k.0) (options_total nat_cmp_total)))
     (on_total (λ (k : Key). k.1) nat_list_cmp_total)
 
 -- no key is before itself
@@ -60,9 +62,13 @@ then_tied Greater p e = cc
 tied_same : (x y : Key) → key_cmp x y ≡ Equal → x ≡ y
 unfolding key_cmp
 tied_same x y e =
-    let both : (option_cmp nat_cmp x.0 y.0 ≡ Equal) × (slice_cmp nat_cmp x.1 y.1 ≡ Equal) =
-    then_tied (option_cmp nat_cmp x.0 y.0) (slice_cmp nat_cmp x.1 y.1) e in
-    let up : x.0 ≡ y.0 = superiors_tied x.0 y.0 both.0 in
+    let both : (ordering_then (nat_cmp (key_hash x) (key_hash y)) (option_cmp nat_cmp x.0 y.0) ≡ Equal)
+    × (slice_cmp nat_cmp x.1 y.1 ≡ Equal) =
+    then_tied (ordering_then (nat_cmp (key_hash x) (key_hash y)) (option_cmp nat_cmp x.0 y.0))
+    (slice_cmp nat_cmp x.1 y.1) e in
+    let front : (nat_cmp (key_hash x) (key_hash y) ≡ Equal) × (option_cmp nat_cmp x.0 y.0 ≡ Equal) =
+    then_tied (nat_cmp (key_hash x) (key_hash y)) (option_cmp nat_cmp x.0 y.0) both.0 in
+    let up : x.0 ≡ y.0 = superiors_tied x.0 y.0 front.1 in
     let name : x.1 ≡ y.1 = names_tied x.1 y.1 both.1 in
     ap (λ (s : Option ℕ). (s, x.1)) up ∙ ap (λ (n : List ℕ). (y.0, n)) name
 
@@ -156,6 +162,24 @@ module _ (ps : List ℕ) (i place : ℕ) (within : i ≤ length ps) where
       pub inserted_sorted : IsSorted nodes (insert ps i place)
       inserted_sorted a b lt w = sorted_at a b lt w (where_is a i) (where_is b i)
 
+-- the hash of the new branch stands in the slot of its place, and the others are as before
+pub ordered_more : (nodes : List Node) (ps hashes : List ℕ) (i place hash : ℕ) → i ≤ length ps
+    → IsOrdered nodes ps hashes → IsSorted nodes (insert ps i place) → place < length hashes
+    → hash ≡ key_hash (key_of (node_at nodes place))
+    → ((k : ℕ) → k < length ps → key_at nodes ps k ≢ key_of (node_at nodes place))
+    → IsOrdered nodes (insert ps i place) (set hashes place hash)
+ordered_more nodes ps hashes i place hash within order sorted slot is new = record {
+  sorted = sorted;
+  hashed = λ p there. elim ((place_inserted ps i place within p).0 there) [
+    | inl old ↦
+        (let other : p ≢ place = λ e. new old.at old.within (ap (λ q. key_of (node_at nodes q)) (old.is ∙ e)) in
+        get_or-set_other hashes place p hash 0 other ∙ order.hashed p old)
+    | inr same ↦ rw same (get_or-set_same hashes place hash 0 slot ∙ is)
+  ];
+  slots = λ p there. rw (length-set hashes place hash) (elim ((place_inserted ps i place within p).0 there)
+      [ inl old ↦ order.slots p old | inr same ↦ rw same slot ]);
+}
+
 -- ---- one place less
 
 module _ (nodes : List Node) (ps : List ℕ) (i : ℕ) (within : i < length ps) (sorted : IsSorted nodes ps) where
@@ -214,7 +238,28 @@ module _ (nodes : List Node) (ps : List ℕ) (i : ℕ) (within : i < length ps) 
     λ y. still_left p y.0 (λ e. y.1 (e ∙ is)),
   )
 
+pub ordered_less : (nodes : List Node) (ps hashes : List ℕ) (i : ℕ) → i < length ps → IsOrdered nodes ps hashes
+    → IsOrdered nodes (remove ps i) hashes
+ordered_less nodes ps hashes i within order = record {
+  sorted = removed_sorted nodes ps i within order.sorted;
+  hashed = λ p there. order.hashed p ((place_removed nodes ps i within order.sorted (get_or ps i 0) p refl).0 there).0;
+  slots = λ p there. order.slots p ((place_removed nodes ps i within order.sorted (get_or ps i 0) p refl).0 there).0;
+}
+
 -- ---- the search
+
+-- the slot of a place that stands there
+pub slot_at : {nodes : List Node} {ps hashes : List ℕ} → IsOrdered nodes ps hashes → (m : ℕ) → m < length ps
+    → get_or ps m 0 < length hashes
+slot_at {nodes} {ps} order m within = order.slots (get_or ps m 0) (record { at = m; within = within; is = refl })
+
+-- the hash in it is that of its node
+pub own_hash : {nodes : List Node} {ps hashes : List ℕ} → IsOrdered nodes ps hashes → (m : ℕ) → m < length ps
+    → get_or ps m 0 < length nodes → {n : Node} → n ≡ get_or nodes (get_or ps m 0) n
+    → get_or hashes (get_or ps m 0) 0 ≡ key_hash (key_of n)
+own_hash {nodes} {ps} order m within there {n} read =
+    order.hashed (get_or ps m 0) (record { at = m; within = within; is = refl })
+    ∙ ap (λ (x : Node). key_hash (key_of x)) (sym (get_or_read nodes (get_or ps m 0) n there read no_node))
 
 -- how the key of the node that stands there compares
 pub compared : (nodes : List Node) (ps : List ℕ) (m : ℕ) (key : Key) {n : Node} {o : Ordering}

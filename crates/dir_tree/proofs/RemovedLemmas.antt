@@ -10,7 +10,7 @@ use Rattle.std.proofs.lemmas.List.{length_push, get_or_append_left, get_or_push}
 use Rattle.tree_model.specs.Tree.{is_inferior}
 use Rattle.dir_tree.specs.declared.node.Node.{Node}
 use Rattle.dir_tree.specs.declared.entries.Entry.{Entry}
-use Rattle.dir_tree.specs.Index.{Places, HasPlace, IsSorted, node_at}
+use Rattle.dir_tree.specs.Index.{Places, HasPlace, IsOrdered, node_at}
 use Rattle.dir_tree.specs.Nodes.{without, node_of}
 use Rattle.dir_tree.specs.Shape.{shape, shapes}
 use Rattle.tree_model.specs.Trees.{IsTree}
@@ -26,7 +26,7 @@ module _ {nodes : List Node} {es : List Entry} {free : List ℕ} {index : Places
     (k : IsKept nodes es free index next) (i : ℕ)
     (within : i < length es) (index' : Places)
     (leaf : list_any (is_inferior (entry_at es i).uid) (shapes (newest nodes es)) ≡ false)
-    (sorted : IsSorted nodes index'.places) (places : (p : ℕ) → HasPlace index'.places p
+    (order : IsOrdered nodes index'.places index'.hashes) (places : (p : ℕ) → HasPlace index'.places p
     ↔ (HasPlace index.places p × (p ≢ (entry_at es i).place)))
     (count : length index'.places + 1 ≡ length index.places) (room : index'.room ≡ index.room) where
   abbrev uid : ℕ
@@ -116,7 +116,7 @@ module _ {nodes : List Node} {es : List Entry} {free : List ℕ} {index : Places
         (λ j lt ne. still_named (entry_at es j).superior (entry_at es j).place (apart_places k i j within lt ne)
         (k.named j lt));
     places = places';
-    sorted = sorted;
+    order = order;
     branches = (let m = size in let p : length index.places + 1 ≡ length es = k.branches in omega arith);
     room = room ∙ k.room;
     tree = subst (λ ns. IsTree (shapes ns)) (sym view_removed)
@@ -127,20 +127,21 @@ module _ {nodes : List Node} {es : List Entry} {free : List ℕ} {index : Places
 pub removed_at : {nodes : List Node} {es : List Entry} {free : List ℕ} {index : Places} {next : ℕ}
     → IsKept nodes es free index next → (uid i : ℕ) (e : Entry)
     → i < length es → e ≡ entry_at es i → (entry_at es i).uid ≡ uid
-    → list_any (is_inferior uid) (shapes (newest nodes es)) ≡ false → (index' : Places) → IsSorted nodes index'.places
+    → list_any (is_inferior uid) (shapes (newest nodes es)) ≡ false → (index' : Places)
+    → IsOrdered nodes index'.places index'.hashes
     → ((p : ℕ) → HasPlace index'.places p ↔ (HasPlace index.places p × (p ≢ e.place)))
     → length index'.places + 1 ≡ length index.places → index'.room ≡ index.room
     → IsKept nodes (remove es i) (free ++ e.place ∷ []) index' next
     × (newest nodes (remove es i) ≡ without uid (newest nodes es))
-removed_at {nodes} {es} {free} {index} {next} k uid i e within same is_uid leaf index' sorted places count room =
+removed_at {nodes} {es} {free} {index} {next} k uid i e within same is_uid leaf index' order places count room =
     let leaf' : list_any (is_inferior (entry_at es i).uid) (shapes (newest nodes es)) ≡ false = rw is_uid leaf in
     let places' : (p : ℕ) → HasPlace index'.places p ↔ (HasPlace index.places p × (p ≢ (entry_at es i).place)) =
     subst (λ (d : Entry). (p : ℕ) → HasPlace index'.places p ↔ (HasPlace index.places p × (p ≢ d.place))) same places
     in (
       subst (λ (d : Entry). IsKept nodes (remove es i) (free ++ d.place ∷ []) index' next) (sym same)
-          (kept_removed k i within index' leaf' sorted places' count room),
+          (kept_removed k i within index' leaf' order places' count room),
       subst (λ u. newest nodes (remove es i) ≡ without u (newest nodes es)) is_uid
-          (view_removed k i within index' leaf' sorted places' count room),
+          (view_removed k i within index' leaf' order places' count room),
     )
 
 -- the root is the only node without a superior

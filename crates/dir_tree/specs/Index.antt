@@ -1,15 +1,17 @@
 -- The index of branches by superior and name.
-use Rattle.std.specs.Prelude.{false, ◌≡◌, ℕ, ◌<◌, List, [], length, Option, None, slice_index, slice_index_or}
+use Rattle.std.specs.Prelude.{false, ◌≡◌, ℕ, ◌<◌, ◌+◌, ◌*◌, ◌%◌, ◌^◌, List, [], length, fold, Option, None}
+use Rattle.std.specs.Prelude.{slice_index, slice_index_or}
 use Rattle.std.specs.declared.cmp.Ordering.{Ordering}
 use Rattle.std.specs.declared.cmp.Ordering.TheVariants.{Less}
 use Rattle.std.specs.Ordering.{nat_cmp, ordering_then}
-use Rattle.std.specs.Option.{option_cmp}
+use Rattle.std.specs.Option.{option_cmp, unwrap_or}
 use Rattle.std.specs.Cmp.Lexicographic.{slice_cmp}
 use Rattle.dir_tree.specs.declared.node.Node.{Node}
 
--- the places of branches, and how many there is room for
+-- the places of branches, the hash that stands in the slot of each place, and how many branches there is room for
 pub record Places : Type 0 where
   pub places : List ℕ
+  pub hashes : List ℕ
   pub room : ℕ
 
 -- a place is one of these
@@ -32,9 +34,18 @@ Key = Option ℕ × List ℕ
 abbrev pub key_of : Node → Key
 key_of n = (n.superior, n.name)
 
--- keys are in the order of superiors, and those of one superior in that of names
+-- a hash with a byte more
+abbrev pub mixed : ℕ → ℕ → ℕ
+mixed hash byte = (hash * 2654435761 + byte) % 2 ^ 32
+
+-- the hash of a key: its superior, and then each byte of its name in turn
+unfoldable pub key_hash : Key → ℕ
+key_hash k = fold mixed (unwrap_or k.0 0) k.1
+
+-- keys are in the order of their hashes, those of one hash in that of superiors, and then in that of names
 unfoldable pub key_cmp : Key → Key → Ordering
-key_cmp a b = ordering_then (option_cmp nat_cmp a.0 b.0) (slice_cmp nat_cmp a.1 b.1)
+key_cmp a b = ordering_then (ordering_then (nat_cmp (key_hash a) (key_hash b)) (option_cmp nat_cmp a.0 b.0))
+    (slice_cmp nat_cmp a.1 b.1)
 
 -- the key of the branch in the k-th place
 abbrev pub key_at : List Node → List ℕ → ℕ → Key
@@ -48,3 +59,9 @@ IsSorted nodes places = (i j : ℕ) → i < j → j < length places → key_cmp 
 -- each place is that of a node
 abbrev pub AreWithin : List Node → List ℕ → Type 0
 AreWithin nodes places = (k : ℕ) → k < length places → slice_index places k < length nodes
+
+-- The branches stand in the order of their keys, and the hash of each in the slot of its place.
+pub record IsOrdered (nodes : List Node) (places hashes : List ℕ) : Type 0 where
+  pub sorted : IsSorted nodes places
+  pub hashed : (place : ℕ) → HasPlace places place → slice_index hashes place ≡ key_hash (key_of (node_at nodes place))
+  pub slots : (place : ℕ) → HasPlace places place → place < length hashes

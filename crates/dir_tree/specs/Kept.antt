@@ -4,7 +4,7 @@ use Rattle.std.specs.Prelude.{Option, Some, None, slice_index}
 use Rattle.std.specs.Prelude.{slice_index_or, ◌-◌, ◌==◌, if◌then◌else◌}
 use Rattle.dir_tree.specs.declared.node.Node.{Node}
 use Rattle.dir_tree.specs.declared.entries.Entry.{Entry}
-use Rattle.dir_tree.specs.Index.{Places, HasPlace, IsSorted, node_at}
+use Rattle.dir_tree.specs.Index.{Places, HasPlace, IsOrdered, node_at}
 use Rattle.dir_tree.specs.Shape.{shapes}
 use Rattle.tree_model.specs.Tree.{is_superior}
 use Rattle.tree_model.specs.Trees.{IsTree}
@@ -91,7 +91,7 @@ pub record IsKept (nodes : List Node) (entries : List Entry) (free : List ℕ) (
   pub named : (i : ℕ) → i < length entries → IsNamed index.places (entry_at entries i).superior
       (entry_at entries i).place
   pub places : (place : ℕ) → HasPlace index.places place → IsPlace entries place
-  pub sorted : IsSorted nodes index.places
+  pub order : IsOrdered nodes index.places index.hashes
   pub branches : length index.places + 1 ≡ length entries
   pub room : index.room ≡ 4096
   pub tree : IsTree (shapes (newest nodes entries))

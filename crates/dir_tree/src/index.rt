@@ -1,35 +1,40 @@
-//! The index of the branches by superior and name: a list of the branches' places, in the order of these.
+//! The index of the branches by superior and name: a list of the branches' places, in the order of a hash of these, and
+//! then of these.
 
 ghost use Rattle.std.specs.Prelude.{◌≡◌, ◌≢◌, ℕ, ◌<◌, ◌≤◌, ◌+◌, ◌↔◌, ◌⊎◌, Some, true, false, [], length, IfOk, IfSome};
 ghost use Rattle.std.specs.Prelude.{IfNone, slice_index};
 ghost use Rattle.std.specs.declared.cmp.Ordering.TheVariants.{Less};
 ghost use Rattle.tree_model.specs.Tree.{is_branch};
 ghost use Rattle.dir_tree.specs.Shape.{shape};
-ghost use Rattle.dir_tree.specs.Index.{node_at, key_of, key_cmp, key_at, HasPlace, IsSorted, AreWithin};
+ghost use Rattle.dir_tree.specs.Index.{node_at, key_of, key_cmp, key_hash, key_at, HasPlace, IsOrdered, AreWithin};
 
-use crate::NoMemory;
 use crate::node::Node;
+use crate::{NODES, NoMemory};
 use mnames::Name;
 use std::alloc::Global;
 use std::cmp::Ordering;
 use std::marker::Model;
 
-/// The places of the branches, in the order of superior and name. It has room for a fixed number of them.
+/// The places of the branches, in the order of their hashes, and those of one hash in that of superior and name. It has
+/// room for a fixed number of them.
 #[derive(Drop)]
 pub(crate) struct Index {
     places: Vec<u16>,
+    /// The hash of each branch, in the slot of its place: no search but the last step of one looks at a node.
+    hashes: Vec<u32>,
     room: usize,
 }
 
 impl Model for Index {
-    ghost use Rattle.std.specs.Prelude.{◌≤◌, vec_len, vec_capacity};
+    ghost use Rattle.std.specs.Prelude.{◌≡◌, ◌≤◌, vec_len, vec_capacity};
     ghost use Rattle.dir_tree.specs.Index.{Places};
 
     ghost Value = { Places };
 
-    ghost view = { λ i. record { places = i.places.items; room = i.room } };
+    ghost view = { λ i. record { places = i.places.items; hashes = i.hashes.items; room = i.room } };
 
-    ghost invariant = { λ i. (vec_len i.places ≤ i.room) × (i.room ≤ vec_capacity i.places) };
+    ghost invariant = { λ i. (vec_len i.places ≤ i.room) × (i.room ≤ vec_capacity i.places)
+        × (vec_len i.hashes ≡ 4097) };
 }
 
 impl Index {
@@ -39,36 +44,51 @@ impl Index {
         ensures room { IfOk result (λ index. index.room ≡ room) }
     {
         let places = Vec::with_capacity(alloc, room)?;
-        Ok(Index { places, room })
+        let hashes = vec![in alloc; 0; NODES]?;
+        Ok(Index {
+            places,
+            hashes,
+            room,
+        })
     }
 
     /// The place of the branch with this superior and name. It halves the list.
     pub(crate) fn find(&self, nodes: &[Node], superior: u32, name: &Name) -> Option<u16>
-        requires sorted { IsSorted nodes.now self.now.places }
+        requires order { IsOrdered nodes.now self.now.places self.now.hashes }
         requires within { AreWithin nodes.now self.now.places }
         ensures some { IfSome result (λ place. HasPlace self.now.places place
             × (is_branch superior name.now (shape (node_at nodes.now place)) ≡ true)) }
         ensures none { IfNone result ((place : ℕ) → HasPlace self.now.places place
             → is_branch superior name.now (shape (node_at nodes.now place)) ≡ false) }
     {
-        find(&self.places, nodes, superior, name)
+        find(&self.places, &self.hashes, nodes, superior, name)
     }
 
     /// Notes the place of a new branch. The places after it move up.
     pub(crate) fn insert(&mut self, nodes: &[Node], place: u16)
         requires room { length self.old.places < self.old.room }
-        requires sorted { IsSorted nodes.now self.old.places }
+        requires order { IsOrdered nodes.now self.old.places self.old.hashes }
         requires within { AreWithin nodes.now self.old.places }
         requires node { place < length nodes.now }
+        requires slot { place < 4097 }
         requires new { (k : ℕ) → k < length self.old.places
             → key_at nodes.now self.old.places k ≢ key_of (node_at nodes.now place) }
-        ensures sorted { IsSorted nodes.now self.new.places }
+        ensures order { IsOrdered nodes.now self.new.places self.new.hashes }
         ensures places { (p : ℕ) → HasPlace self.new.places p ↔ (HasPlace self.old.places p ⊎ (p ≡ place)) }
         ensures count { length self.new.places ≡ length self.old.places + 1 }
         ensures room { self.new.room ≡ self.old.room }
     {
         let node = &nodes[place as usize];
-        let at = first_at(&self.places, nodes, node.superior, &node.name);
+        let hash = hash_of(node.superior, &node.name);
+        let at = first_at(
+            &self.places,
+            &self.hashes,
+            nodes,
+            hash,
+            node.superior,
+            &node.name,
+        );
+        self.hashes[place as usize] = hash;
         match self.places.insert(at, place) {
             Ok(()) => {}
             Err(_) => unreachable!(),
@@ -78,31 +98,56 @@ impl Index {
     /// Forgets the place of a branch. The places after it move down.
     pub(crate) fn remove(&mut self, nodes: &[Node], place: u16)
         requires there { HasPlace self.old.places place }
-        requires sorted { IsSorted nodes.now self.old.places }
+        requires order { IsOrdered nodes.now self.old.places self.old.hashes }
         requires within { AreWithin nodes.now self.old.places }
-        ensures sorted { IsSorted nodes.now self.new.places }
+        ensures order { IsOrdered nodes.now self.new.places self.new.hashes }
         ensures places { (p : ℕ) → HasPlace self.new.places p ↔ (HasPlace self.old.places p × (p ≢ place)) }
         ensures count { length self.new.places + 1 ≡ length self.old.places }
         ensures room { self.new.room ≡ self.old.room }
     {
-        let at = place_at(&self.places, nodes, place);
+        let at = place_at(&self.places, &self.hashes, nodes, place);
         self.places.remove(at);
     }
 }
 
-/// How a branch stands to a superior and a name.
-fn compare(node: &Node, superior: Option<u32>, name: &Name) -> Ordering
+/// An odd number near 2 ^ 32 by the golden ratio, as hashes are multiplied by (Knuth).
+const MULTIPLIER: u32 = 2_654_435_761;
+
+/// The hash of a superior and a name.
+#[tactic(auto, using(std::proofs::lemmas::List::Sums::fold_more), unfolding(crate::specs::Index::key_hash))]
+fn hash_of(superior: Option<u32>, name: &Name) -> u32
+    ensures { result ≡ key_hash (superior, name.now) }
+{
+    let mut hash = superior.unwrap_or(0);
+    for &byte in name.as_str().as_bytes() {
+        hash = hash.wrapping_mul(MULTIPLIER).wrapping_add(u32::from(byte));
+    }
+    hash
+}
+
+/// How a branch stands to a superior and a name, by the hashes of both.
+fn compare(own: u32, node: &Node, hash: u32, superior: Option<u32>, name: &Name) -> Ordering
+    requires own { own ≡ key_hash (key_of node.now) }
+    requires hash { hash ≡ key_hash (superior, name.now) }
     ensures { result ≡ key_cmp (key_of node.now) (superior, name.now) }
 {
-    node.superior
-        .cmp(&superior)
+    own.cmp(&hash)
+        .then_with(|| node.superior.cmp(&superior))
         .then_with(|| node.name.as_str().cmp(name.as_str()))
 }
 
-/// Where the branches from this superior and name on begin.
-fn first_at(places: &[u16], nodes: &[Node], superior: Option<u32>, name: &Name) -> usize
-    requires sorted { IsSorted nodes.now places.now }
+/// Where the branches from this superior and name on begin, by the hash of both.
+fn first_at(
+    places: &[u16],
+    hashes: &[u32],
+    nodes: &[Node],
+    hash: u32,
+    superior: Option<u32>,
+    name: &Name,
+) -> usize
+    requires order { IsOrdered nodes.now places.now hashes.now }
     requires within { AreWithin nodes.now places.now }
+    requires hash { hash ≡ key_hash (superior, name.now) }
     ensures within { result ≤ length places.now }
     ensures below { (k : ℕ) → k < result → key_cmp (key_at nodes.now places.now k) (superior, name.now) ≡ Less }
     ensures from { (k : ℕ) → result ≤ k → k < length places.now
@@ -112,7 +157,8 @@ fn first_at(places: &[u16], nodes: &[Node], superior: Option<u32>, name: &Name) 
     let mut high = places.len();
     while low < high {
         let middle = low + (high - low) / 2;
-        match compare(&nodes[places[middle] as usize], superior, name) {
+        let place = places[middle] as usize;
+        match compare(hashes[place], &nodes[place], hash, superior, name) {
             Ordering::Less => low = middle + 1,
             Ordering::Equal | Ordering::Greater => high = middle,
         }
@@ -121,15 +167,16 @@ fn first_at(places: &[u16], nodes: &[Node], superior: Option<u32>, name: &Name) 
 }
 
 /// The place of the branch with this superior and name: it can only be the first of those from there on.
-fn find(places: &[u16], nodes: &[Node], superior: u32, name: &Name) -> Option<u16>
-    requires sorted { IsSorted nodes.now places.now }
+fn find(places: &[u16], hashes: &[u32], nodes: &[Node], superior: u32, name: &Name) -> Option<u16>
+    requires order { IsOrdered nodes.now places.now hashes.now }
     requires within { AreWithin nodes.now places.now }
     ensures some { IfSome result (λ place. HasPlace places.now place
         × (is_branch superior name.now (shape (node_at nodes.now place)) ≡ true)) }
     ensures none { IfNone result ((place : ℕ) → HasPlace places.now place
         → is_branch superior name.now (shape (node_at nodes.now place)) ≡ false) }
 {
-    let at = first_at(places, nodes, Some(superior), name);
+    let hash = hash_of(Some(superior), name);
+    let at = first_at(places, hashes, nodes, hash, Some(superior), name);
     if at == places.len() {
         return None;
     }
@@ -141,15 +188,16 @@ fn find(places: &[u16], nodes: &[Node], superior: u32, name: &Name) -> Option<u1
 }
 
 /// Where the place of a branch stands.
-fn place_at(places: &[u16], nodes: &[Node], place: u16) -> usize
+fn place_at(places: &[u16], hashes: &[u32], nodes: &[Node], place: u16) -> usize
     requires there { HasPlace places.now place }
-    requires sorted { IsSorted nodes.now places.now }
+    requires order { IsOrdered nodes.now places.now hashes.now }
     requires within { AreWithin nodes.now places.now }
     ensures within { result < length places.now }
     ensures place { slice_index places.now result ≡ place }
 {
     let node = &nodes[place as usize];
-    first_at(places, nodes, node.superior, &node.name)
+    let hash = hashes[place as usize];
+    first_at(places, hashes, nodes, hash, node.superior, &node.name)
 }
 
 /// Whether a node is the branch with this superior and name.

@@ -1,12 +1,13 @@
 //! The directory tree: directories and segments, each a branch of one directory, down from one root (Bensoussan,
 //! Clingen and Daley 1972; Organick 1972). The limits of 4096 branches and eight directories below the root are own.
 //!
-//! Costs: `new` takes all memory, once: room for 4097 nodes, an entry of 20 bytes for each, and its place, of 2 bytes,
-//! by uid and again by superior and name. A look-up halves the list of the places in the order of these: at most 13
-//! looks, whatever the names are. `walk` makes one such look-up for each
-//! name. `superiors`, `chain` and the test of depth look one uid up for each directory above, of which there are at
-//! most 9. Each entry counts the nodes that lie in its own, so `may_remove` makes one look-up by uid. `add_branch`
-//! writes one node and one entry, counts it in the entry of its superior, and moves up a part of the places by name.
+//! Costs: `new` takes all memory, once: room for 4097 nodes, an entry of 20 bytes and a hash of 4 for each, and its
+//! place, of 2 bytes, by uid and again by superior and name. A look-up halves the list of the places: at most 13 looks,
+//! whatever the names are. By superior and name it goes by the hashes of these, and compares names only where two
+//! hashes are the same: for nearly all names once, at its end. `walk` makes one such look-up for each name.
+//! `superiors`, `chain` and the test of depth look one uid up for each directory above, of which there are at most 9.
+//! Each entry counts the nodes that lie in its own, so `may_remove` makes one look-up by uid. `add_branch` writes one
+//! node, one hash and one entry, counts it in the entry of its superior, and moves up a part of the places by name.
 //! `remove` takes it from that count, and moves down a part of both lists of places, at most 16 KiB, and no node and no
 //! entry: the place of the node is free from then on. None but `new` takes memory.
 #![tactic(auto)]

@@ -5,7 +5,7 @@ use Rattle.dir_tree.specs.declared.node.Node.{Node}
 use Rattle.dir_tree.specs.declared.node.NewNode.{NewNode}
 use Rattle.dir_tree.specs.declared.entries.Entry.{Entry}
 use Rattle.dir_tree.specs.Nodes.{Branches, is_directory, add_fault_of, added as tree_added}
-use Rattle.dir_tree.specs.Index.{IsSorted, AreWithin, no_node}
+use Rattle.dir_tree.specs.Index.{IsOrdered, AreWithin, no_node}
 use Rattle.dir_tree.specs.Shape.{shape, shapes}
 use Rattle.dir_tree.specs.Kept.{newest, recounted, IsCounted, IsKept}
 use Rattle.dir_tree.proofs.AddedLemmas.{place_unused, place_room, asked, new_key}
@@ -51,20 +51,27 @@ insert-requires-clause-room c =
     omega (arith, c.self.invariant.0.branches, c.self.invariant.0.room)
 
 -- what the index asks for holds once the new node stands in its place
-ready : (c : goal.After-deref) → IsSorted c.store-place.new.nodes.items c.self.inside.index.places
+ready : (c : goal.After-deref)
+    → IsOrdered c.store-place.new.nodes.items c.self.inside.index.places c.self.inside.index.hashes
     × AreWithin c.store-place.new.nodes.items c.self.inside.index.places
     × (c.store-place.result < length c.store-place.new.nodes.items)
 ready c = asked c.self.invariant.0 c.store-place.result c.store-place.ensures.place c.store-place.new.nodes.items
     c.store-place.ensures.others c.store-place.ensures.count
 
-pub insert-requires-clause-sorted : goal.insert-requires-clause-sorted
-insert-requires-clause-sorted c = rw c.deref.ensures.value (ready c).0
+pub insert-requires-clause-order : goal.insert-requires-clause-order
+insert-requires-clause-order c = rw c.deref.ensures.value (ready c).0
 
 pub insert-requires-clause-within : goal.insert-requires-clause-within
 insert-requires-clause-within c = rw c.deref.ensures.value (ready c).1
 
 pub insert-requires-clause-node : goal.insert-requires-clause-node
 insert-requires-clause-node c = rw c.deref.ensures.value (ready c).2
+
+pub insert-requires-clause-slot : goal.insert-requires-clause-slot
+insert-requires-clause-slot c =
+    place_room c.self.invariant.0 c.store-place.result c.store-place.ensures.place
+    (few c.self.inside.nodes.items c.self.inside.entries c.args.superior c.args.new.name c.args.new.dir
+    (may_at c.args.superior c.args.new.name c.args.new.dir c.self.view_is c.requires.may))
 
 pub insert-requires-clause-new : goal.insert-requires-clause-new
 insert-requires-clause-new c =
@@ -115,7 +122,7 @@ added_to c =
     (directory_at c.args.superior c.self.view_is c.requires.directory)
     (may_at c.args.superior c.args.new.name c.args.new.dir c.self.view_is c.requires.may) c.store-place.ensures.place
     c.store-place.ensures.here c.store-place.ensures.others c.store-place.ensures.rest c.store-place.ensures.count
-    (rw c.deref.ensures.value at c.insert.ensures.sorted) c.insert.ensures.places c.insert.ensures.count
+    (rw c.deref.ensures.value at c.insert.ensures.order) c.insert.ensures.places c.insert.ensures.count
     c.insert.ensures.room
 
 pub invariant_of-self : goal.invariant_of-self

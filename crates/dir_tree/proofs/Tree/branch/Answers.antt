@@ -10,7 +10,7 @@ use Rattle.dir_tree.proofs.Tree.branch.Goals as goal
 
 pub find-requires : goal.find-requires
 find-requires c = rw c.deref.ensures.value (record {
-  sorted = c.self.invariant.0.sorted;
+  order = c.self.invariant.0.order;
   within =
       places_within c.self.invariant.0;
 })

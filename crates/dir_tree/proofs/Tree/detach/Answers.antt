@@ -61,7 +61,7 @@ left_by c =
     removed_at c.self.invariant.0 c.args.uid c.position_of-at.result c.remove-superior.result
     c.position_of-at.ensures.within c.remove-superior.ensures.entry c.position_of-at.ensures.uid
     (subst (λ (t : Branches). list_any (is_inferior c.args.uid) (shapes t.nodes) ≡ false) (sym c.self.view_is)
-    c.requires.leaf) c.remove.new.self (rw c.deref.ensures.value at c.remove.ensures.sorted) c.remove.ensures.places
+    c.requires.leaf) c.remove.new.self (rw c.deref.ensures.value at c.remove.ensures.order) c.remove.ensures.places
     c.remove.ensures.count c.remove.ensures.room
 
 pub invariant_of-self : goal.invariant_of-self
@@ -92,7 +92,7 @@ remove-requires c =
     c.in-Some.superior c.in-Some.is in
     rw c.deref.ensures.value (record {
       there = there;
-      sorted = c.self.invariant.0.sorted;
+      order = c.self.invariant.0.order;
       within =
           places_within c.self.invariant.0;
     })

@@ -4,4 +4,4 @@ use Rattle.dir_tree.proofs.index.compare.Goals as goal
 
 pub returns : goal.returns
 unfolding key_cmp
-returns c = search rules
+returns c = rw (← c.requires.own, ← c.requires.hash) (search rules)

@@ -11,14 +11,14 @@ use Rattle.dir_tree.proofs.index.find.Goals as goal
 pub returns-then-at-places-clause-none : goal.returns-then-at-places-clause-none
 returns-then-at-places-clause-none c place there = false_from_ne_true _ (λ is.
     (let first = first_place c.args.nodes.now c.args.places.now c.first_at-at.result c.args.superior
-    c.args.name.now c.requires.sorted c.first_at-at.ensures.below c.first_at-at.ensures.from place there is in
+    c.args.name.now c.requires.order.sorted c.first_at-at.ensures.below c.first_at-at.ensures.from place there is in
     let within : c.first_at-at.result < length c.args.places.now = first.0 in
     omega arith))
 
 pub returns-then-not-has_key-clause-none : goal.returns-then-not-has_key-clause-none
 returns-then-not-has_key-clause-none c place there = false_from_ne_true _ (λ is.
     (let first = first_place c.args.nodes.now c.args.places.now c.first_at-at.result c.args.superior
-    c.args.name.now c.requires.sorted c.first_at-at.ensures.below c.first_at-at.ensures.from place there is in
+    c.args.name.now c.requires.order.sorted c.first_at-at.ensures.below c.first_at-at.ensures.from place there is in
     let node : c.index-nodes-place.result ≡ node_at c.args.nodes.now
     (get_or c.args.places.now c.first_at-at.result 0) =
     get_or_read c.args.nodes.now _ c.index-nodes-place.result (c.requires.within c.first_at-at.result first.0)
