@@ -1,8 +1,8 @@
 -- Which texts paths begin with.
-use Rattle.std.proofs.Common.{◌≡◌, ◌≢◌, ◌⊎◌, inl, inr, ℕ, zero, suc, ◌+◌, ◌-◌, ◌*◌, ◌<◌, ◌≤◌, Bool, true, false, cond}
-use Rattle.std.proofs.Common.{Some, None, Result, Ok, Err, List, [], ◌∷◌, ◌++◌, length, take, drop, get_or, drop-cons}
+use Rattle.std.proofs.Common.{◌≡◌, ◌≢◌, ◌⊎◌, inl, inr, ℕ, zero, suc, ◌+◌, ◌-◌, ◌*◌, ◌<◌, ◌≤◌, true, false}
+use Rattle.std.proofs.Common.{Result, Ok, Err, List, [], ◌∷◌, ◌++◌, length, take, drop, get_or, drop-cons}
 use Rattle.std.proofs.Common.{append_assoc, refl, sym, ap, subst, ◌∙◌, arith}
-use Rattle.std.specs.Prelude.{if◌then◌else◌, IfOk, IfErr}
+use Rattle.std.specs.Prelude.{IfOk, IfErr}
 use Rattle.std.specs.List.{list_all, AllByRecursion}
 use Rattle.std.proofs.lemmas.Bool.{cases_eq}
 use Rattle.std.proofs.lemmas.Bool.Decides.{nat_tests}
@@ -10,7 +10,9 @@ use Rattle.std.proofs.lemmas.Grind.{common_steps}
 use Rattle.std.proofs.lemmas.List.{append-nil, length-append, take_more}
 use Rattle.std.proofs.lemmas.List.Folds.{list_all-append}
 use Rattle.std.proofs.Math.Seq.{take-append-add}
-use Rattle.mnames.specs.Names.{is_name, is_name_byte, IsName, names_text, path_text, IsPath, BeginsPath, IsLongestStart}
+use Rattle.mnames.proofs.ShortTexts.{name_is_short}
+use Rattle.mnames.specs.Names.{is_name, is_name_byte, IsName, IsShort, names_text, path_text, IsPath, BeginsPath}
+use Rattle.mnames.specs.Names.{IsLongestStart}
 use Rattle.mnames.specs.declared.paths.BadPath.{BadPath}
 use Rattle.mnames.specs.Reading.{IsAtSign, IsRun, IsStuck, IsNoPath}
 
@@ -482,29 +484,33 @@ stuck_at_byte text rest n h same lt ne =
     let at : get_or rest 0 0 ≡ get_or text n 0 = ap (λ (t : List ℕ). get_or t 0 0) (same ∙ drop-cons text n 0 inside) in
     record { run = h; inside = λ nz. inside; other = λ nz e. ne (at ∙ e) }
 
-pub stuck_at_start : (text front : List ℕ) (n : ℕ) → IsRun text n → front ≡ take n text
-    → (if is_name front then Some front else None) ≡ None → IsStuck text n
-stuck_at_start text front n h same none = record {
-  run = h;
-  inside = λ nz. absurd (never nz);
-  other =
-      λ nz. absurd (never nz);
-}
-  where
-    name : n ≢ 0 → IsName front
-    name nz =
-        let w : n ≤ length text = h.within in
-        let long : length (take n text) ≡ n = grind (arith, common_steps) in
-        let short : n ≤ 32 = h.short in
-        subst IsName (sym same) (run_is_name (take n text) (omega (arith, long, nz)) (omega (arith, long, short))
-        h.each)
+pub stuck_at_start : (text front : List ℕ) (n : ℕ) → IsRun text n → front ≡ take n text → length front ≡ 0
+    → IsStuck text 0
+stuck_at_start text front n h same none =
+    let w : n ≤ length text = h.within in
+    let long : length (take n text) ≡ n = grind (arith, common_steps) in
+    let counted : length front ≡ length (take n text) = ap length same in
+    let nothing : n ≡ 0 = omega (arith, long, counted, none) in
+    record {
+      run = subst (IsRun text) nothing h;
+      inside = λ nz. absurd (nz refl);
+      other = λ nz. absurd (nz refl);
+    }
 
-    never : n ≢ 0 → ⊥
-    never nz = let yes_it_is : is_name front ≡ true = name nz in chosen (is_name front) yes_it_is none
-      where
-        chosen : (z : Bool) → z ≡ true → cond z (Some front) None ≡ None → ⊥
-        chosen true e h = cc
-        chosen false e h = cc
+-- and where a name ends there
+pub front_is_name : (text front : List ℕ) (n : ℕ) → IsRun text n → front ≡ take n text → 0 < length front
+    → IsName front
+front_is_name text front n h same some =
+    let w : n ≤ length text = h.within in
+    let long : length (take n text) ≡ n = grind (arith, common_steps) in
+    let short : n ≤ 32 = h.short in
+    let counted : length front ≡ length (take n text) = ap length same in
+    subst IsName (sym same) (run_is_name (take n text) (omega (arith, long, counted, some)) (omega (arith, long, short))
+    h.each)
+
+pub front_is_short : (text front : List ℕ) (n : ℕ) → IsRun text n → front ≡ take n text → 0 < length front
+    → IsShort front
+front_is_short text front n h same some = name_is_short front (front_is_name text front n h same some)
 
 -- what is read of a text, and what is left
 pub record HasRead (text : List ℕ) (names : List (List ℕ)) (rest : List ℕ) : Type 0 where
@@ -628,8 +634,8 @@ front_is_path names front name h e = record {
 -- what a run of bytes of a name goes by
 pub ruleset run_measured = (run_more, run_whole)
 
--- and where it stops
-pub ruleset name_stuck = (stuck_at_byte, stuck_at_start)
+-- and where it stops, and whether a name has ended there
+pub ruleset name_ends = (stuck_at_byte, stuck_at_start, front_is_name, front_is_short)
 
 -- what reading a path name by name goes by
 pub ruleset path_taken = (read_start, read_more, read_length, read_whole, read_full, read_stuck)

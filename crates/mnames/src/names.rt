@@ -82,7 +82,7 @@ fn run_length(text: &[u8]) -> usize
 
 /// The entry name at the front of a text, up to its first `>` or its end, and what follows it. The error
 /// is the length of the longest front with which such a name begins.
-#[tactic(auto, using(crate::proofs::PathGrammar::name_stuck, std::proofs::lemmas::Grind::common_steps))]
+#[tactic(auto, using(crate::proofs::PathGrammar::name_ends, std::proofs::lemmas::Grind::common_steps))]
 pub(crate) fn next_name(text: &[u8]) -> Result<(Name, &[u8]), usize>
     ensures name { IfOk result (λ n. IsName n.0) }
     ensures parts { IfOk result (λ n. text.now ≡ n.0 ++ n.1.now) }
@@ -94,10 +94,13 @@ pub(crate) fn next_name(text: &[u8]) -> Result<(Name, &[u8]), usize>
     if !rest.is_empty() && rest[0] != b'>' {
         return Err(length);
     }
-    match read_name(front) {
-        Some(name) => Ok((name, rest)),
-        None => Err(length),
+    if front.is_empty() {
+        return Err(0);
     }
+    let name = Name {
+        text: ShortText::of(front),
+    };
+    Ok((name, rest))
 }
 
 impl Name {

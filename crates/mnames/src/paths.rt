@@ -163,7 +163,7 @@ fn path_of(text: &[u8]) -> Result<Path, BadPath>
 }
 
 /// The path that the text is: `>` for the root, else each name with `>` before it. It goes through the
-/// text once or twice, and takes no memory.
+/// text once, and takes no memory.
 ///
 /// # Errors
 /// `BadPath` exactly where the text is no path.
