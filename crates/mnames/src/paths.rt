@@ -52,6 +52,17 @@ impl Path {
         self.names.as_slice()
     }
 
+    /// The names of the directory above, from the root down, and the name in it. `None` exactly where the
+    /// path is the root's. Nothing is copied.
+    pub fn parts(&self) -> Option<(&[Name], &Name)>
+        ensures parts { IfSome result (λ p. self.now ≡ p.0.now ++ p.1.now ∷ []) }
+        ensures root { IfNone result (self.now ≡ []) }
+        ensures path { IsPath self.now }
+    {
+        let (name, above) = self.names.as_slice().split_last()?;
+        Some((above, name))
+    }
+
     /// The path of the directory above, and the name in it. `None` exactly where the path is the root's.
     /// It takes no memory: at most eight names are copied.
     #[tactic(auto, using(crate::proofs::PathGrammar::front_is_path, std::proofs::lemmas::Grind::common_steps))]
@@ -59,7 +70,7 @@ impl Path {
         ensures parts { IfSome result (λ p. self.now ≡ p.0 ++ p.1.now ∷ []) }
         ensures root { IfNone result (self.now ≡ []) }
     {
-        let (name, above) = self.names.as_slice().split_last()?;
+        let (above, name) = self.parts()?;
         Some((path_of_names(above), name))
     }
 }
