@@ -1,1 +1,2 @@
 pub mod Search
+mod Clears

@@ -2,14 +2,15 @@
 //! that most references need no look at a table.
 //!
 //! Costs: nothing takes memory. `find_sdw` and `find_ptw`, which every reference pays, look at the at most 16 entries
-//! of one kind until one fits. A fill into a full kind moves its entries down by one. `clear` copies what stays.
+//! of one kind until one fits. A fill into a full kind moves its entries down by one. `clear` looks at
+//! them once, and once more where it drops one.
 #![tactic(auto)]
 
-ghost use Rattle.std.specs.Prelude.{◌≡◌, ◌≢◌, ◌≤◌, ◌↔◌, None, length, All, IsNone, filter, not};
-ghost use Rattle.std.specs.List.{find};
+ghost use Rattle.std.specs.Prelude.{◌≡◌, ◌≢◌, ◌≤◌, ◌↔◌, None, length, All, IsNone, filter, not, ◌==◌};
+ghost use Rattle.std.specs.List.{find, list_any};
 ghost use Rattle.std.specs.Option.{option_map};
 ghost use Rattle.assoc_mem.specs.Held.{nothing_held, is_number, is_page, seg_of, page_of, frame_of, with_seg};
-ghost use Rattle.assoc_mem.specs.Held.{with_page, cleared, names_seg, names_page};
+ghost use Rattle.assoc_mem.specs.Held.{with_page, cleared};
 
 use arrayvec::ArrayVec;
 use mnames::Mode;
@@ -133,8 +134,17 @@ impl Assoc {
     pub fn clear(&mut self, w: What)
         ensures { self.new ≡ cleared self.old w }
     {
-        self.segs = segs_left(&self.segs, w);
-        self.pages = pages_left(&self.pages, w);
+        match w {
+            What::All => {
+                self.segs.clear();
+                self.pages.clear();
+            }
+            What::Page(frame) => drop_frame(&mut self.pages, frame),
+            What::Seg(uid) => {
+                drop_segs(&mut self.segs, uid);
+                drop_pages(&mut self.pages, uid);
+            }
+        }
     }
 }
 
@@ -162,50 +172,50 @@ fn find_page(held: &[HeldPage], uid: u32, page: u32) -> Option<u32>
     None
 }
 
-/// Whether a descriptor is to be dropped.
-fn names_seg(what: What, entry: &HeldSeg) -> bool
-    ensures { result ≡ names_seg what entry.now }
+/// Whether a descriptor of a segment is held.
+fn holds_seg(segs: &[HeldSeg], uid: u32) -> bool
+    ensures { result ≡ list_any (λ entry. entry.uid == uid) segs.now }
 {
-    match what {
-        What::All => true,
-        What::Page(_) => false,
-        What::Seg(uid) => entry.uid == uid,
+    segs.iter().any(|entry| entry.uid == uid)
+}
+
+/// Whether a page table word of a segment is held.
+fn holds_page_of(pages: &[HeldPage], uid: u32) -> bool
+    ensures { result ≡ list_any (λ entry. entry.uid == uid) pages.now }
+{
+    pages.iter().any(|entry| entry.uid == uid)
+}
+
+/// Whether the page table word of a frame is held.
+fn holds_frame(pages: &[HeldPage], frame: u32) -> bool
+    ensures { result ≡ list_any (λ entry. entry.frame == frame) pages.now }
+{
+    pages.iter().any(|entry| entry.frame == frame)
+}
+
+/// Drops the descriptors of a segment. Where none is held, nothing moves.
+fn drop_segs(segs: &mut ArrayVec<HeldSeg, 16>, uid: u32)
+    ensures { segs.new.items ≡ filter (λ entry. not (entry.uid == uid)) segs.old.items }
+{
+    if holds_seg(segs, uid) {
+        segs.retain(|entry| entry.uid != uid);
     }
 }
 
-/// Whether a page table word is to be dropped.
-fn names_page(what: What, entry: &HeldPage) -> bool
-    ensures { result ≡ names_page what entry.now }
+/// Drops the page table words of a segment. Where none is held, nothing moves.
+fn drop_pages(pages: &mut ArrayVec<HeldPage, 16>, uid: u32)
+    ensures { pages.new.items ≡ filter (λ entry. not (entry.uid == uid)) pages.old.items }
 {
-    match what {
-        What::All => true,
-        What::Page(frame) => entry.frame == frame,
-        What::Seg(uid) => entry.uid == uid,
+    if holds_page_of(pages, uid) {
+        pages.retain(|entry| entry.uid != uid);
     }
 }
 
-/// The descriptors that stay.
-fn segs_left(held: &ArrayVec<HeldSeg, 16>, what: What) -> ArrayVec<HeldSeg, 16>
-    ensures { result.items ≡ filter (λ entry. not (names_seg what entry)) held.now.items }
+/// Drops the page table words of a frame. Where none is held, nothing moves.
+fn drop_frame(pages: &mut ArrayVec<HeldPage, 16>, frame: u32)
+    ensures { pages.new.items ≡ filter (λ entry. not (entry.frame == frame)) pages.old.items }
 {
-    let mut left = ArrayVec::new();
-    for entry in held.iter() {
-        if !names_seg(what, entry) {
-            left.push(*entry);
-        }
+    if holds_frame(pages, frame) {
+        pages.retain(|entry| entry.frame != frame);
     }
-    left
-}
-
-/// The page table words that stay.
-fn pages_left(held: &ArrayVec<HeldPage, 16>, what: What) -> ArrayVec<HeldPage, 16>
-    ensures { result.items ≡ filter (λ entry. not (names_page what entry)) held.now.items }
-{
-    let mut left = ArrayVec::new();
-    for entry in held.iter() {
-        if !names_page(what, entry) {
-            left.push(*entry);
-        }
-    }
-    left
 }
