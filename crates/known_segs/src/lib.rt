@@ -7,7 +7,10 @@ ghost use Rattle.std.specs.Prelude.{IfSome};
 ghost use Rattle.known_segs.specs.Known.{uid_of, number_of, least_free, number_for, with_number, without_number};
 ghost use Rattle.known_segs.specs.Known.{known_count, IsUnknown, HasOneNumberEach};
 
+mod places;
+
 pub use no_memory::NoMemory;
+use places::Places;
 use std::alloc::Global;
 use std::marker::Model;
 
@@ -21,7 +24,7 @@ pub const NUMBERS: usize = 256;
 /// numbers.
 #[derive(Drop)]
 pub struct Kst {
-    places: Vec<Option<u32>>,
+    places: Places,
 }
 
 impl Model for Kst {
@@ -30,25 +33,9 @@ impl Model for Kst {
 
     ghost Value = { List (Option ℕ) };
 
-    ghost view = { λ k. k.places.items };
+    ghost view = { λ k. k.places };
 
-    ghost invariant = { λ k. (length k.places.items ≡ 256) × HasOneNumberEach k.places.items };
-}
-
-/// The number whose place stands for `uid`.
-fn place_of(places: &[Option<u32>], uid: u32) -> Option<usize>
-    ensures number { result ≡ number_of places.now uid }
-    ensures within { IfSome result (λ n. n < length places.now) }
-{
-    places.iter().position(|place| *place == Some(uid))
-}
-
-/// The least number whose place is empty.
-fn least_free(places: &[Option<u32>]) -> Option<usize>
-    ensures number { result ≡ least_free places.now }
-    ensures within { IfSome result (λ n. n < length places.now) }
-{
-    places.iter().position(|place| place.is_none())
+    ghost invariant = { λ k. (length k.places ≡ 256) × HasOneNumberEach k.places };
 }
 
 impl Kst {
@@ -56,17 +43,14 @@ impl Kst {
     pub fn new(alloc: Global) -> Result<Kst, NoMemory>
         ensures { IfOk result (λ kst. kst ≡ replicate 256 None) }
     {
-        let mut places = Vec::with_capacity(alloc, NUMBERS)?;
-        for _number in 0..NUMBERS {
-            places.push_reserved(None);
-        }
+        let places = Places::new(alloc)?;
         Ok(Kst { places })
     }
 
     /// Makes the segment `uid` known and gives its number: the one that it has, else the least free one. `None`
     /// exactly where it isn't known and all 256 numbers are, and then nothing changes.
     ///
-    /// Costs two passes over at most 256 places.
+    /// Costs two passes over at most as many places as numbers were known at one time.
     pub fn make_known(&mut self, uid: u32) -> Option<u32>
         ensures number { result ≡ number_for self.old uid }
         ensures places { self.new ≡ with_number self.old uid result }
@@ -76,12 +60,12 @@ impl Kst {
         ensures size { length self.new ≡ length self.old }
         ensures kept { (n v : ℕ) → uid_of self.old n ≡ Some v → uid_of self.new n ≡ Some v }
     {
-        if let Some(number) = place_of(&self.places, uid) {
-            return Some(number as u32);
+        if let Some(number) = self.places.number_of(uid) {
+            return Some(number);
         }
-        let number = least_free(&self.places)?;
-        self.places[number] = Some(uid);
-        Some(number as u32)
+        let number = self.places.least_free()?;
+        self.places.set(number, uid);
+        Some(number)
     }
 
     /// The uid of the segment that number `n` stands for. `None` exactly where it stands for none, as from 256 on.
@@ -93,7 +77,7 @@ impl Kst {
         ensures size { length self.now ≡ 256 }
         ensures once { HasOneNumberEach self.now }
     {
-        *self.places.get(n as usize)?
+        self.places.at(n)
     }
 
     /// What holds of the table between calls: it has 256 numbers, and no uid has two of them. It does nothing.
@@ -110,24 +94,25 @@ impl Kst {
         ensures places { self.new ≡ without_number self.old n }
         ensures once { HasOneNumberEach self.new }
     {
-        self.places[n as usize] = None;
+        self.places.clear(n);
     }
 
-    /// The number of `uid`; `None` exactly where it isn't known. Costs a pass over at most 256 places.
+    /// The number of `uid`; `None` exactly where it isn't known. Costs a pass over at most as many
+    /// places as numbers were known at one time.
     pub fn number_of(&self, uid: u32) -> Option<u32>
         ensures number { result ≡ number_of self.now uid }
         ensures only { (n : ℕ) → (result ≡ Some n) ↔ (uid_of self.now n ≡ Some uid) }
         ensures unknown { IsNone result ↔ IsUnknown self.now uid }
         ensures once { HasOneNumberEach self.now }
     {
-        let number = place_of(&self.places, uid)?;
-        Some(number as u32)
+        self.places.number_of(uid)
     }
 
-    /// Whether fewer than 256 numbers are known. Costs a pass over at most 256 places.
+    /// Whether fewer than 256 numbers are known. Costs a pass over at most as many
+    /// places as numbers were known at one time.
     pub fn has_room(&self) -> bool
         ensures { IsTrue result ↔ (known_count self.now < 256) }
     {
-        least_free(&self.places).is_some()
+        self.places.least_free().is_some()
     }
 }

@@ -5,8 +5,7 @@ use Rattle.known_segs.proofs.Kst.has_room.Goals as goal
 
 pub returns : goal.returns
 returns c =
-    let same : c.deref.result.now ≡ c.args.self.now = cc in
     room_is c.args.self.now c.least_free.result _ (subst (λ (kst : List (Option ℕ)). length kst ≡ 256) c.self.view_is
     c.self.invariant.0)
-    (subst (λ (kst : List (Option ℕ)). c.least_free.result ≡ least_free kst) same c.least_free.ensures.number)
+    (subst (λ (kst : List (Option ℕ)). c.least_free.result ≡ least_free kst) c.self.view_is c.least_free.ensures.number)
     c.is_some.ensures
