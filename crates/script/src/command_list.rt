@@ -28,6 +28,7 @@ impl Model for CommandList {
 }
 
 /// As how many commands a command counts: an await as its tries.
+#[inline(always)]
 fn weight_of(command: &Command) -> u32
     ensures { result ≡ weight command.now }
 {
@@ -61,6 +62,10 @@ impl CommandList {
     }
 
     /// Adds a command. At most 100,000 come in all, where an await counts as its tries.
+    ///
+    /// It is part of each of its callers, so that a command of some 400 bytes is made in its place in the
+    /// list, and not copied there.
+    #[inline(always)]
     pub(crate) fn push(&mut self, command: Command) -> Result<(), LineFault>
         ensures { Lists self.old self.new result (Ok command) }
     {
