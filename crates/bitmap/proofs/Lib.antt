@@ -1,3 +1,4 @@
 pub mod BitLemmas
 pub mod Levels
 pub mod Fresh
+mod Full

@@ -4,7 +4,7 @@
 //! level, which is on where that word has no number free. So the least free number is found by a look at the
 //! upper words (4 of them for 16,384 numbers, 1 for 4096) and at one lower word. (Source: own.)
 //!
-//! Costs: `new` takes memory twice, once for each level, and writes each word. `first_free` reads the upper words
+//! Costs: `new` and `all_used` take memory twice, once for each level, and write each word. `first_free` reads the upper words
 //! up to the first that is not full, and one lower word. `take` and `give_back` write one lower word and at most
 //! one upper word. `is_used` reads one word, and `used` and `size` one number. None of these takes memory.
 #![tactic(auto)]
@@ -50,6 +50,20 @@ impl Bitmap {
             full,
             size,
             used: 0,
+        })
+    }
+
+    /// A map of `size` numbers, all in use. `NoMemory` is want of memory.
+    pub fn all_used(alloc: Global, size: u32) -> Result<Bitmap, NoMemory>
+        ensures { IfOk result (λ map. map ≡ replicate size true) }
+    {
+        let words = full_words(alloc, size)?;
+        let full = full_words(alloc, size.div_ceil(64))?;
+        Ok(Bitmap {
+            words,
+            full,
+            size,
+            used: size,
         })
     }
 
@@ -120,6 +134,13 @@ fn clear_words(alloc: Global, count: u32) -> Result<Vec<u64>, NoMemory>
         words[count as usize / 64] = u64::MAX << (count % 64);
     }
     Ok(words)
+}
+
+/// Words for `count` bits, with every bit on.
+fn full_words(alloc: Global, count: u32) -> Result<Vec<u64>, NoMemory>
+    ensures { IfOk result (λ words. words.items ≡ replicate ((count + 63) / 64) (2 ^ 64 - 1)) }
+{
+    Ok(vec![in alloc; u64::MAX; count.div_ceil(64) as usize]?)
 }
 
 /// The place of the first bit that is off, None exactly where all are on.
