@@ -86,6 +86,7 @@ pub mod OutlineAlone
 pub mod OutlineAnswer
 pub mod OutlineBoot
 pub mod OutlineEnd
+pub mod OutlineGoes
 pub mod OutlineJob
 pub mod OutlineMove
 pub mod OutlineLoss
@@ -157,6 +158,7 @@ pub mod TruncateRests
 pub mod Truncation
 pub mod TwoTransfers
 pub mod UidsFew
+pub mod Unstuck
 pub mod VictimLaws
 pub mod Victims
 pub mod VisitAll

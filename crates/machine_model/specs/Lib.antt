@@ -36,6 +36,7 @@ pub mod State
 pub mod Steps
 pub mod Taking
 pub mod Turns
+pub mod Unstuck
 pub mod Visits
 pub mod Whole
 pub mod Working

@@ -1,0 +1,124 @@
+-- In an outline that is kept and hasn't ended, some processor moves: the owner of the supervisor, or who it waits for;
+-- where nobody owns it a processor that has a process, or else processor 0.
+use Rattle.std.proofs.Common.{◌≡◌, ◌<◌, ℕ, true, false, eqb, length, position, Option, Some, None, is_some}
+use Rattle.std.proofs.Common.{refl, sym, ap, ◌∙◌, inl, inr}
+use Rattle.std.proofs.lemmas.Bool.Decides.{eqb_tells}
+use Rattle.processor.specs.declared.Transfer.{Transfer}
+use Rattle.machine_model.specs.Outline.{Runner, no_runner, Stage, Keeper, Outline, Turn, Moved, runner_at}
+use Rattle.machine_model.specs.Finishing.{Works, Loads, Commands, rule_of, owns, IsEnded, IsIn}
+use Rattle.machine_model.specs.Finishing.{Step, ends, comes, clears, reads, loses, works, awaits_clear}
+use Rattle.machine_model.specs.Finishing.{awaits_transfer, loads, idles, leaves, fills, replies, faults, enters, waits}
+use Rattle.machine_model.specs.OutlineKept.{IsKept}
+use Rattle.machine_model.proofs.FindLaws.{position_at, position_none}
+use Rattle.machine_model.proofs.RuleLaws.{tells}
+use Rattle.machine_model.proofs.StepLaws.{inside, no_both}
+use Rattle.machine_model.specs.Unstuck.{Goes, HaveSteps}
+
+module _ (s : Outline) (k : IsKept s) (more : IsEnded s → ⊥) (all : HaveSteps s) where
+  -- a step waits for the owner, for work, or as the owner; any other moves
+  by_rule : (c : ℕ) → c < length s.runners → (rule_of s c ≡ Works → ⊥) → (rule_of s c ≡ Loads → s.ready ≡ 0 → ⊥)
+      → (rule_of s c ≡ Commands → (o : Keeper) → s.owner ≡ Some o → ⊥) → Goes s all
+  by_rule c there no_work no_idle no_wait = by (all.turn c) (all.next c) refl (all.steps c there)
+    where
+      here : all.turn c ≡ Moved → Goes s all
+      here e = record { cpu = c; there = there; moves = e }
+
+      by : (x : Turn) (t : Outline) → all.turn c ≡ x → Step s c x t → Goes s all
+      by x t e (ends ended) = absurd (more ended)
+      by x t e (comes h) = here e
+      by x t e (clears y h cleared) = here e
+      by x t e (reads r used modified h is) = here e
+      by x t e (loses r y left h is lost fewer) = here e
+      by x t e (works _ h step) = here e
+      by x t e (awaits_clear w d h waiting online due) = absurd (no_work h)
+      by x t e (awaits_transfer f uid page h look started) = absurd (no_work h)
+      by x t e (loads y h some loaded) = here e
+      by x t e (idles busy h none) = absurd (no_idle h none)
+      by x t e (leaves y h left) = here e
+      by x t e (fills y h filled) = here e
+      by x t e (replies _ h replied) = here e
+      by x t e (faults chain uid page makes h none want lacks) = here e
+      by x t e (enters h none want) = here e
+      by x t e (waits o h some) = absurd (no_wait h o some)
+
+  -- who is to drop something does so, or comes online
+  dropper_goes : (d : ℕ) → d < length s.runners → (runner_at s.runners d).due ≡ true → Goes s all
+  dropper_goes d there due = by_rule d there
+      (λ h. no_both due (tells s d Works h).0)
+      (λ h none. no_both due (tells s d Loads h).0)
+      (λ h o some. no_both due (tells s d Commands h).0)
+
+  -- who reads a page in ends that, or drops something before
+  reader_goes : (d : ℕ) (r : Transfer) → d < length s.runners → (runner_at s.runners d).reading ≡ Some r → Goes s all
+  reader_goes d r there reading = by_rule d there
+      (λ h. no_both is (tells s d Works h).1)
+      (λ h none. no_both is (tells s d Loads h).1)
+      (λ h o some. no_both is (tells s d Commands h).1)
+    where
+      is : is_some (runner_at s.runners d).reading ≡ true
+      is = ap (λ (x : Option Transfer). is_some x) reading
+
+  -- the owner, or who it waits for
+  owner_goes : (c : ℕ) (stage : Stage) → IsIn s c stage → Goes s all
+  owner_goes c stage mine = by (all.turn c) (all.next c) refl (all.steps c there)
+    where
+      there : c < length s.runners
+      there = (k.job.at_work c stage mine).within
+
+      own : owns s.owner c ≡ true
+      own = ap (λ (o : Option Keeper). owns o c) mine ∙ self c
+        where
+          self : (i : ℕ) → eqb i i ≡ true
+          self i = elim (eqb_tells i i) [ inl x ↦ x.0 | inr x ↦ absurd (x.1 refl) ]
+
+      here : all.turn c ≡ Moved → Goes s all
+      here e = record { cpu = c; there = there; moves = e }
+
+      by : (x : Turn) (t : Outline) → all.turn c ≡ x → Step s c x t → Goes s all
+      by x t e (ends ended) = absurd (more ended)
+      by x t e (comes h) = here e
+      by x t e (clears y h cleared) = here e
+      by x t e (reads r used modified h is) = here e
+      by x t e (loses r y left h is lost fewer) = here e
+      by x t e (works _ h step) = here e
+      by x t e (awaits_clear w d h waiting online due) = dropper_goes d (inside s.runners d online) due
+      by x t e (awaits_transfer f uid page h look started) = let reader = k.tied.started f uid page started in
+          reader_goes reader.0 (record { frame = f; uid = uid; page = page }) reader.1 reader.2
+      by x t e (loads y h some loaded) = here e
+      by x t e (idles busy h none) = absurd (no_both own (tells s c Loads h).2)
+      by x t e (leaves y h left) = here e
+      by x t e (fills y h filled) = here e
+      by x t e (replies _ h replied) = here e
+      by x t e (faults chain uid page makes h none want lacks) = here e
+      by x t e (enters h none want) = here e
+      by x t e (waits o h some) = absurd (no_both own (tells s c Commands h).2)
+
+  -- nobody owns the supervisor
+  module _ (none : s.owner ≡ None) where
+    no_work : (c : ℕ) → rule_of s c ≡ Works → ⊥
+    no_work c h = no_both (tells s c Works h).2 (ap (λ (o : Option Keeper). owns o c) none)
+
+    runner_goes : (c : ℕ) → c < length s.runners → (runner_at s.runners c).running ≡ true → Goes s all
+    runner_goes c there running = by_rule c there (no_work c)
+        (λ h ready. no_both running (tells s c Loads h).3)
+        (λ h o some. let no : None ≡ Some o = sym none ∙ some in cc)
+
+    idle_goes : ((d : ℕ) → (runner_at s.runners d).running ≡ false) → Goes s all
+    idle_goes idle = by_rule 0 k.sizes.some_runner (no_work 0)
+        (λ h ready. more (record { ready = ready; running = idle }))
+        (λ h o some. no_both (tells s 0 Commands h).3 (idle 0))
+
+    free_goes : Goes s all
+    free_goes = by (position (λ (x : Runner). x.running) s.runners) refl
+      where
+        by : (o : Option ℕ) → position (λ (x : Runner). x.running) s.runners ≡ o → Goes s all
+        by (Some c) e = let found = position_at (λ (x : Runner). x.running) s.runners no_runner c e in
+            runner_goes c found.0 found.1
+        by None e = idle_goes (λ d. position_none (λ (x : Runner). x.running) s.runners no_runner d e refl)
+
+  pub outline_goes : Goes s all
+  outline_goes = by s.owner refl
+    where
+      by : (o : Option Keeper) → s.owner ≡ o → Goes s all
+      by None e = free_goes e
+      by (Some o) e = owner_goes o.cpu o.stage e

@@ -1,0 +1,46 @@
+-- No state of a machine is stuck: where it wasn't stopped and some process hasn't ended, some processor moves.
+use Rattle.std.proofs.Common.{◌≡◌, ◌<◌, ℕ, true, false, refl, subst}
+use Rattle.machine_model.specs.Actions as act
+use Rattle.machine_model.specs.Actions.{action_of, is_over}
+use Rattle.machine_model.specs.After.{after, no_call}
+use Rattle.machine_model.specs.Outline.{Ended, Moved, WaitsFor}
+use Rattle.machine_model.specs.Outlined.{outline_of}
+use Rattle.machine_model.specs.Promise.{KeepsAll}
+use Rattle.machine_model.specs.Rounds.{IsGoing}
+use Rattle.machine_model.specs.State.{State}
+use Rattle.machine_model.specs.Turns.{moves, turn_of}
+use Rattle.machine_model.proofs.MachineRounds.{kept_of, machine_step, not_ended}
+use Rattle.machine_model.proofs.OutlineReads.{long_outline}
+use Rattle.machine_model.specs.Unstuck.{Goes, HaveSteps, SomeMoves}
+use Rattle.machine_model.proofs.OutlineGoes.{outline_goes}
+
+moves_by : (a : act.Action) → turn_of a ≡ Moved → moves a ≡ true
+moves_by act.IsStopped h = absurd (let no : Ended ≡ Moved = h in cc)
+moves_by act.HasEnded h = absurd (let no : Ended ≡ Moved = h in cc)
+moves_by (act.Waits why) h = absurd (let no : WaitsFor why ≡ Moved = h in cc)
+moves_by a h = refl
+
+-- the step of each processor, in which no call of a drive fails
+all_steps : (s : State) → IsGoing s → HaveSteps (outline_of s)
+all_steps s going = record {
+  turn = λ c. turn_of (action_of s c);
+  next = λ c. outline_of (after s c (action_of s c) (no_call s));
+  steps = λ c there. machine_step s (after s c (action_of s c) (no_call s)) c going
+      (subst (λ (n : ℕ). c < n) (long_outline s) there) (record { outcome = no_call s; done = refl });
+}
+
+pub some_moves : (s : State) → KeepsAll s → s.stopped ≡ false → is_over s ≡ false → SomeMoves s
+unfolding all_steps action_of
+some_moves s keeps on more = (
+  found.cpu,
+  record {
+    there = subst (λ (n : ℕ). found.cpu < n) (long_outline s) found.there;
+    moves = moves_by (action_of s found.cpu) found.moves;
+  },
+)
+  where
+    going : IsGoing s
+    going = record { keeps = keeps; on = on }
+
+    found : Goes (outline_of s) (all_steps s going)
+    found = outline_goes (outline_of s) (kept_of s keeps) (not_ended s keeps more) (all_steps s going)
