@@ -8,3 +8,4 @@ pub mod KeptLemmas
 pub mod NewestLemmas
 pub mod QuotaLemmas
 pub mod RemovedLemmas
+pub mod UidLemmas

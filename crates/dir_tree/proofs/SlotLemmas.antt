@@ -1,13 +1,13 @@
 -- Entries that stand in the slots of their places.
-use Rattle.std.proofs.Common.{◌≡◌, ◌≢◌, ℕ, ◌+◌, ◌<◌, ◌≤◌, List, [], ◌∷◌, ◌++◌, length, set, get_or, sym, ap, subst}
+use Rattle.std.proofs.Common.{◌≡◌, ◌≢◌, ℕ, ◌+◌, ◌<◌, List, [], ◌∷◌, ◌++◌, length, set, get_or, sym, ap}
 use Rattle.std.proofs.Common.{◌∙◌, arith, inl, inr}
 use Rattle.std.specs.List.{remove}
 use Rattle.std.proofs.lemmas.Bool.{cases_eq, cases_lt}
-use Rattle.std.proofs.lemmas.List.{ext_get_or, get_or_read, get_or-map, get_or-set_same, get_or-set_other}
+use Rattle.std.proofs.lemmas.List.{ext_get_or, get_or-map, get_or-set_same, get_or-set_other}
 use Rattle.std.proofs.lemmas.List.{get_or_append_left, get_or_push, length-map}
 use Rattle.std.proofs.lemmas.List.{length-set, length_push, map-append}
 use Rattle.dir_tree.specs.declared.entries.Entry.{Entry}
-use Rattle.dir_tree.specs.Kept.{no_entry, entry_at, listed, IsListed, IsAscending}
+use Rattle.dir_tree.specs.Kept.{no_entry, entry_at, listed, IsListed}
 use Rattle.dir_tree.proofs.EditLemmas.{was, was_up, was_within, at_was, each_left, fewer}
 
 pub listed_at : (slots : List Entry) (order : List ℕ) (i : ℕ) → i < length order → entry_at (listed slots order) i
@@ -62,36 +62,6 @@ module _ {slots : List Entry} {order : List ℕ} (l : IsListed slots order) (i :
     ];
     apart = l.apart;
   }
-
--- the slot that the order names is there, and has the entry that is seen
-module _ {slots : List Entry} {order : List ℕ} (l : IsListed slots order) (now : List Entry)
-    (view : listed slots order ≡ now) (i : ℕ) (within : i < length now) (p : ℕ) (is_p : p ≡ get_or order i p) where
-  pub order_within : i < length order
-  order_within = (let m = length_listed slots order in let v : length (listed slots order) ≡ length now =
-      ap length view in omega arith)
-
-  place_is : p ≡ get_or order i 0
-  place_is = get_or_read order i p order_within is_p 0
-
-  pub slot_within : p < length slots
-  slot_within = (let w : get_or order i 0 < 4097 = l.within i order_within in let m : length slots ≡ 4097 =
-      l.size in let is = place_is in omega arith)
-
-  pub slot_is : (x : Entry) → x ≡ get_or slots p x → x ≡ entry_at now i
-  slot_is x is_x = get_or_read slots p x slot_within is_x no_entry ∙ ap (entry_at slots) place_is
-      ∙ sym (listed_at slots order i order_within) ∙ ap (λ (es : List Entry). entry_at es i) view
-
-  -- how many nodes lie in that of an entry, set
-  pub inferiors_set : (x : Entry) → x ≡ get_or slots p x → (n : ℕ)
-      → listed (set slots p (record x { inferiors = n })) order
-      ≡ set now i (record (entry_at now i) { inferiors = n })
-  inferiors_set x is_x n =
-      let here : x ≡ entry_at slots p = get_or_read slots p x slot_within is_x no_entry in
-      ap (λ q. listed (set slots q (record x { inferiors = n })) order) place_is
-      ∙ set_listed l i order_within (record x { inferiors = n })
-      (ap (λ (d : Entry). d.place) (here ∙ ap (entry_at slots) place_is) ∙ l.places i order_within)
-      ∙ ap (λ (es : List Entry). set es i (record x { inferiors = n })) view
-      ∙ ap (λ (d : Entry). set now i (record d { inferiors = n })) (slot_is x is_x)
 
 -- one entry more, in a place that no other has
 module _ {slots : List Entry} {order : List ℕ} (l : IsListed slots order) (e : Entry) (room : e.place < 4097)
@@ -183,33 +153,3 @@ module _ {slots : List Entry} {order : List ℕ} (l : IsListed slots order) (i :
         | inl up ↦ (let u = was_up i a b up in omega arith)
         | inr down ↦ (let u = was_up i b a (omega arith) in omega arith)
       ]
-
--- ---- the search
-
-pub halved_below : (es : List Entry) → IsAscending es → (m uid : ℕ) → m < length es → (entry_at es m).uid < uid
-    → (k : ℕ) → k < m + 1
-    → (entry_at es k).uid < uid
-halved_below es rising m uid within less k lt = elim (cases_lt k m) [
-  | inl before ↦ (let up : (entry_at es k).uid < (entry_at es m).uid = rising k m before within in omega arith)
-  | inr here ↦ (let same : k ≡ m = omega arith in rw same less)
-]
-
-pub halved_from : (es : List Entry) → IsAscending es → (m uid : ℕ) → uid ≤ (entry_at es m).uid → (k : ℕ) → m ≤ k
-    → k < length es → uid ≤ (entry_at es k).uid
-halved_from es rising m uid more k le lt = elim (cases_lt m k) [
-  | inl after ↦ (let up : (entry_at es m).uid < (entry_at es k).uid = rising m k after lt in omega arith)
-  | inr here ↦ (let same : k ≡ m = omega arith in rw same more)
-]
-
--- past those that are below a uid there is none of it where the first one isn't
-pub none_there : (es : List Entry) → IsAscending es → (at uid : ℕ) → ((k : ℕ) → k < at → (entry_at es k).uid < uid)
-    → ((k : ℕ) → at ≤ k → k < length es → uid ≤ (entry_at es k).uid)
-    → (at < length es → (entry_at es at).uid ≢ uid) → (i : ℕ) → i < length es → (entry_at es i).uid ≢ uid
-none_there es rising at uid below from isnt i lt same = elim (cases_lt i at) [
-  | inl before ↦ (let less : (entry_at es i).uid < uid = below i before in omega arith)
-  | inr after ↦ elim (cases_eq i at) [
-    | inl here ↦ isnt (omega arith) (subst (λ k. (entry_at es k).uid ≡ uid) here same)
-    | inr later ↦ (let up : (entry_at es at).uid < (entry_at es i).uid = rising at i (omega arith) lt in
-        let le : uid ≤ (entry_at es at).uid = from at (omega arith) (omega arith) in omega arith)
-  ]
-]

@@ -4,3 +4,4 @@ pub mod Laws
 pub mod Lending
 pub mod Nodes
 pub mod Shape
+pub mod Uids

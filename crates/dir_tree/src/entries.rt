@@ -1,14 +1,14 @@
-//! The nodes by uid: a list of entries in the order of uids, which is the order of their making.
+//! The nodes by uid: a table of their places, and an entry for each in the slot of its place.
 
 ghost use Rattle.std.specs.Prelude.{◌≡◌, ◌≢◌, ℕ, ◌<◌, ◌≤◌, ◌+◌, ◌-◌, ◌++◌, [], ◌∷◌, length, IsTrue, ◌↔◌, take};
 ghost use Rattle.std.specs.Prelude.{if◌then◌else◌, ◌==◌, Option, IfOk, IfSome, IfNone, Some, slice_index};
-ghost use Rattle.std.specs.Prelude.{vec_len, vec_capacity, slice_set, ◌^◌};
-ghost use Rattle.std.specs.List.{remove};
+ghost use Rattle.std.specs.Prelude.{vec_len, vec_capacity, ◌^◌};
 ghost use Rattle.dir_tree.specs.Index.{node_at};
 ghost use Rattle.dir_tree.specs.Kept.{entry_at, place_for, recounted, HasEntry, IsAscending, IsCounted};
+ghost use Rattle.dir_tree.specs.Uids.{IsRemoved};
 
-use crate::NODES;
 use crate::node::Node;
+use crate::{NODES, UIDS};
 use std::alloc::{AllocError, Global};
 use std::marker::Model;
 
@@ -33,24 +33,30 @@ const NO_ENTRY: Entry = Entry {
     inferiors: 0,
 };
 
+/// What stands in the table for a uid that no node has.
+const NOWHERE: u16 = u16::MAX;
+
 /// Entries in the order of uids: one for each of at most 4097 nodes. An entry stays in the slot of its node's place,
-/// and only the places stand in the order of uids.
+/// and a table has the place of each uid.
 #[derive(Drop)]
 pub(crate) struct Entries {
     slots: Vec<Entry>,
-    order: Vec<u16>,
+    places: Vec<u16>,
+    count: usize,
 }
 
 impl Model for Entries {
-    ghost use Rattle.std.specs.Prelude.{◌≤◌, List, vec_capacity};
+    ghost use Rattle.std.specs.Prelude.{◌≡◌, List, length, vec_len};
     ghost use Rattle.dir_tree.specs.declared.entries.Entry.{Entry};
     ghost use Rattle.dir_tree.specs.Kept.{listed, IsListed};
+    ghost use Rattle.dir_tree.specs.Uids.{taken, IsTabled};
 
     ghost Value = { List Entry };
 
-    ghost view = { λ e. listed e.slots.items e.order.items };
+    ghost view = { λ e. listed e.slots.items (taken e.places.items) };
 
-    ghost invariant = { λ e. IsListed e.slots.items e.order.items × (4097 ≤ vec_capacity e.order) };
+    ghost invariant = { λ e. IsListed e.slots.items (taken e.places.items) × IsTabled e.slots.items e.places.items
+        × (vec_len e.places ≡ 100003) × (e.count ≡ length (taken e.places.items)) };
 }
 
 /// Slots that no node has yet, one for each place.
@@ -70,121 +76,93 @@ impl Entries {
         ensures { IfOk result (λ entries. entries ≡ []) }
     {
         let slots = blank_slots(alloc)?;
-        let order = Vec::with_capacity(alloc, NODES)?;
-        Ok(Entries { slots, order })
+        let places = vec![in alloc; NOWHERE; UIDS as usize]?;
+        Ok(Entries {
+            slots,
+            places,
+            count: 0,
+        })
     }
 
     /// How many there are.
     pub(crate) fn len(&self) -> usize
         ensures { result ≡ length self.now }
     {
-        self.order.len()
+        self.count
     }
 
-    /// The entry that stands there in the order of uids.
-    fn at(&self, i: usize) -> Entry
-        requires { i < length self.now }
-        ensures { result ≡ entry_at self.now i }
+    /// The place of the node of `uid`.
+    fn place(&self, uid: u32) -> Option<u16>
+        ensures some { IfSome result (λ p. (i : ℕ) × (i < length self.now) × ((entry_at self.now i).uid ≡ uid)
+            × ((entry_at self.now i).place ≡ p)) }
+        ensures none { IfNone result ((i : ℕ) → i < length self.now → (entry_at self.now i).uid ≢ uid) }
     {
-        self.slots[self.order[i] as usize]
-    }
-
-    /// Where the entries of this uid and of later ones begin.
-    fn first_at(&self, uid: u32) -> usize
-        requires { IsAscending self.now }
-        ensures within { result ≤ length self.now }
-        ensures below { (k : ℕ) → k < result → (entry_at self.now k).uid < uid }
-        ensures from { (k : ℕ) → result ≤ k → k < length self.now → uid ≤ (entry_at self.now k).uid }
-    {
-        let mut low = 0;
-        let mut high = self.len();
-        while low < high {
-            let middle = low + (high - low) / 2;
-            if self.at(middle).uid < uid {
-                low = middle + 1;
-            } else {
-                high = middle;
-            }
+        let places = &self.places;
+        if uid >= UIDS {
+            return None;
         }
-        low
-    }
-
-    /// Where the entry of `uid` stands.
-    fn search(&self, uid: u32) -> Option<usize>
-        requires { IsAscending self.now }
-        ensures found { IfSome result (λ i. (i < length self.now) × ((entry_at self.now i).uid ≡ uid)) }
-        ensures absent { IfNone result ((i : ℕ) → i < length self.now → (entry_at self.now i).uid ≢ uid) }
-    {
-        let at = self.first_at(uid);
-        if at < self.len() && self.at(at).uid == uid {
-            return Some(at);
+        let place = places[uid as usize];
+        if place == NOWHERE {
+            return None;
         }
-        None
+        Some(place)
     }
 
-    /// The entry of `uid`, found by halving the list.
+    /// The entry of `uid`.
     pub(crate) fn entry_of(&self, uid: u32) -> Option<Entry>
-        requires { IsAscending self.now }
         ensures some { IfSome result (HasEntry self.now uid) }
         ensures none { IfNone result ((i : ℕ) → i < length self.now → (entry_at self.now i).uid ≢ uid) }
     {
-        match self.search(uid) {
-            Some(at) => Some(self.at(at)),
+        match self.place(uid) {
+            Some(place) => Some(self.slots[place as usize]),
             None => None,
         }
     }
 
-    /// Where the entry of `uid` stands, which is there.
-    pub(crate) fn position_of(&self, uid: u32) -> usize
-        requires rising { IsAscending self.now }
-        requires there { (i : ℕ) × (i < length self.now) × ((entry_at self.now i).uid ≡ uid) }
-        ensures within { result < length self.now }
-        ensures uid { (entry_at self.now result).uid ≡ uid }
+    /// The place of the node of `uid`, which is there.
+    pub(crate) fn place_of(&self, uid: u32) -> u16
+        requires { (i : ℕ) × (i < length self.now) × ((entry_at self.now i).uid ≡ uid) }
+        ensures { (i : ℕ) × (i < length self.now) × ((entry_at self.now i).uid ≡ uid)
+            × ((entry_at self.now i).place ≡ result) }
     {
-        match self.search(uid) {
-            Some(at) => at,
+        match self.place(uid) {
+            Some(place) => place,
             None => unreachable!(),
         }
     }
 
-    /// The place of the node of `uid`.
-    pub(crate) fn place_of(&self, uid: u32) -> u16
-        requires rising { IsAscending self.now }
-        requires there { (i : ℕ) × (i < length self.now) × ((entry_at self.now i).uid ≡ uid) }
-        ensures { (i : ℕ) × (i < length self.now) × ((entry_at self.now i).uid ≡ uid)
-            × ((entry_at self.now i).place ≡ result) }
-    {
-        self.at(self.position_of(uid)).place
-    }
-
     /// Whether some entry has this superior.
     pub(crate) fn has_inferior(&self, uid: u32) -> bool
-        requires rising { IsAscending self.now }
         requires there { (i : ℕ) × (i < length self.now) × ((entry_at self.now i).uid ≡ uid) }
         requires counted { IsCounted self.now }
         ensures { IsTrue result ↔ ((i : ℕ) × (i < length self.now) × ((entry_at self.now i).superior ≡ Some uid)) }
     {
-        self.at(self.position_of(uid)).inferiors > 0
+        let place = self.place_of(uid);
+        self.slots[place as usize].inferiors > 0
     }
 
-    /// Adds an entry of a place that no other has, behind all others.
+    /// Adds an entry of a place that no other has, and of a uid above all others.
     pub(crate) fn push(&mut self, entry: Entry)
         requires few { length self.old < 4097 }
         requires place { entry.place < 4097 }
         requires new { (i : ℕ) → i < length self.old → (entry_at self.old i).place ≢ entry.place }
+        requires uid { entry.uid < 100003 }
+        requires later { (i : ℕ) → i < length self.old → (entry_at self.old i).uid < entry.uid }
         ensures { self.new ≡ self.old ++ entry ∷ [] }
     {
         self.slots[entry.place as usize] = entry;
-        self.order.push_reserved(entry.place);
+        self.places[entry.uid as usize] = entry.place;
+        self.count += 1;
     }
 
-    /// Takes an entry out. The places after it move down, two bytes each.
-    pub(crate) fn remove(&mut self, at: usize) -> Entry
-        requires { at < length self.old }
-        ensures entry { result ≡ entry_at self.old at }
-        ensures rest { self.new ≡ remove self.old at }
+    /// Takes the entry of `uid` out. No other moves.
+    pub(crate) fn remove(&mut self, uid: u32) -> Entry
+        requires { (i : ℕ) × (i < length self.old) × ((entry_at self.old i).uid ≡ uid) }
+        ensures { IsRemoved self.old uid result self.new }
     {
-        let place = self.order.remove(at);
+        let place = self.place_of(uid);
+        self.places[uid as usize] = NOWHERE;
+        self.count -= 1;
         self.slots[place as usize]
     }
 
@@ -195,9 +173,8 @@ impl Entries {
         requires room { (i : ℕ) → i < length self.old → (entry_at self.old i).inferiors + 1 < 2 ^ 32 }
         ensures { self.new ≡ recounted uid (λ n. n + 1) self.old }
     {
-        let at = self.position_of(uid);
-        let inferiors = self.at(at).inferiors + 1;
-        self.set_inferiors(at, inferiors);
+        let place = self.place_of(uid);
+        self.slots[place as usize].inferiors += 1;
     }
 
     /// Counts one inferior of `uid` less.
@@ -208,18 +185,8 @@ impl Entries {
             → 0 < (entry_at self.old i).inferiors }
         ensures { self.new ≡ recounted uid (λ n. n - 1) self.old }
     {
-        let at = self.position_of(uid);
-        let inferiors = self.at(at).inferiors - 1;
-        self.set_inferiors(at, inferiors);
-    }
-
-    /// Sets how many nodes lie in that of an entry.
-    fn set_inferiors(&mut self, at: usize, inferiors: u32)
-        requires { at < length self.old }
-        ensures { self.new ≡ slice_set self.old at (record (entry_at self.old at) { inferiors = inferiors }) }
-    {
-        let place = self.order[at];
-        self.slots[place as usize].inferiors = inferiors;
+        let place = self.place_of(uid);
+        self.slots[place as usize].inferiors -= 1;
     }
 }
 

@@ -1,18 +1,19 @@
 //! The directory tree: directories and segments, each a branch of one directory, down from one root (Bensoussan,
 //! Clingen and Daley 1972; Organick 1972). The limits of 4096 branches and eight directories below the root are own.
 //!
-//! Costs: `new` takes all memory, once: room for 4097 nodes, an entry of 20 bytes and a hash of 4 for each, and its
-//! place, of 2 bytes, by uid and again by superior and name. A look-up halves the list of the places: at most 13 looks,
-//! whatever the names are. By superior and name it goes by the hashes of these, and compares names only where two
-//! hashes are the same: for nearly all names once, at its end. `walk` makes one such look-up for each name.
-//! `superiors`, `chain` and the test of depth look one uid up for each directory above, of which there are at most 9.
-//! Each entry counts the nodes that lie in its own, so `may_remove` makes one look-up by uid. `add_branch` writes one
-//! node, one hash and one entry, counts it in the entry of its superior, and moves up a part of the places by name.
-//! `remove` takes it from that count, and moves down a part of both lists of places, at most 16 KiB, and no node and no
-//! entry: the place of the node is free from then on. None but `new` takes memory.
+//! Costs: `new` takes all memory, once: room for 4097 nodes, an entry of 20 bytes and a hash of 4 for each, its place
+//! by superior and name, of 2 bytes, and a table of the places of 100,003 uids, of 2 bytes each. A look-up by uid
+//! reads the table and the entry. One by superior and name halves the list of places by the hashes of these: at most
+//! 13 looks, whatever the names are. It compares names only where two hashes are the same: for nearly all names once,
+//! at its end. `walk` makes one such look-up for each name. `superiors`, `chain` and the test of depth look one uid
+//! up for each directory above, of which there are at most 9. Each entry counts the nodes that lie in its own, so
+//! `may_remove` makes one look-up by uid. `add_branch` writes one node, one hash, one entry and its place, counts it
+//! in the entry of its superior, and moves up a part of the places by name. `remove` takes it from that count, and
+//! moves down a part of the places by name, at most 8 KiB: the place of the node is free from then on. None but `new`
+//! takes memory.
 #![tactic(auto)]
 
-ghost use Rattle.std.specs.Prelude.{◌≡◌, ◌≢◌, ◌<◌, ◌≤◌, ◌^◌, ◌+◌, ℕ, Bool, ◌&&◌, nat_le, is_some, true, false, ◌↔◌};
+ghost use Rattle.std.specs.Prelude.{◌≡◌, ◌≢◌, ◌<◌, ◌≤◌, ◌+◌, ℕ, Bool, ◌&&◌, nat_le, is_some, true, false, ◌↔◌};
 ghost use Rattle.std.specs.Prelude.{List, Some, None, IsErr, length, IfOk, IfSome, IfNone, OnOk, OnErr};
 ghost use Rattle.tree_model.specs.Access.{Row};
 ghost use Rattle.tree_model.specs.Tree.{above, node_in, branch_in, walk_in, step_up};
@@ -41,6 +42,10 @@ pub const ROOT: u32 = 1;
 
 /// The most branches of a tree, and its root (own).
 pub const NODES: usize = 4097;
+
+/// The uids that a tree has are below this (own): a script has at most 100,000 commands, of which each makes at most
+/// one branch, and the first of these gets 2.
+pub const UIDS: u32 = 100_003;
 
 /// The depth of the deepest directories (own).
 pub const DEPTH: usize = 8;
@@ -111,7 +116,7 @@ impl Tree {
 
     /// The node of `uid`. `None` exactly where it isn't in the tree.
     ///
-    /// It halves the list of uids.
+    /// It reads the table of uids.
     pub fn node(&self, uid: u32) -> Option<&Node>
         ensures some { IfSome result (λ n. node_of self.now.nodes uid ≡ Some n.now) }
         ensures none { IfNone result (node_of self.now.nodes uid ≡ None) }
@@ -290,7 +295,7 @@ impl Tree {
     /// The first of `Exists`, `Deep` and `Room` that holds, each exactly there; then nothing is changed.
     pub fn add_branch(&mut self, superior: u32, new: NewNode) -> Result<u32, AddFault>
         requires directory { is_directory self.old.nodes superior ≡ true }
-        requires uids { self.old.next < 2 ^ 31 }
+        requires uids { self.old.next < 100003 }
         ensures answer { (quota : ℕ → ℕ) → result ≡ unless
             (add_fault_of (with_quotas quota self.old.nodes) superior new.name new.dir) self.old.next }
         ensures ok { OnOk result (self.new ≡ added self.old superior new) }
@@ -309,7 +314,7 @@ impl Tree {
     fn attach(&mut self, superior: u32, new: NewNode)
         requires directory { is_directory self.old.nodes superior ≡ true }
         requires may { add_fault_of (shapes self.old.nodes) superior new.name new.dir ≡ None }
-        requires uids { self.old.next < 2 ^ 31 }
+        requires uids { self.old.next < 100003 }
         ensures { self.new ≡ added self.old superior new }
     {
         let uid = self.next;
@@ -377,12 +382,11 @@ impl Tree {
         ensures tree { self.new ≡ removed self.old uid }
         ensures count { length self.new.nodes + 1 ≡ length self.old.nodes }
     {
-        let at = self.entries.position_of(uid);
         let Entry {
             superior,
             place,
             ..
-        } = self.entries.remove(at);
+        } = self.entries.remove(uid);
         let Some(superior) = superior else {
             unreachable!();
         };

@@ -6,8 +6,8 @@ use Rattle.dir_tree.specs.Laws.{segment_in}
 use Rattle.dir_tree.proofs.ChangedLemmas.{set_kept, acl_read, shapes_changed, others_kept}
 use Rattle.dir_tree.proofs.Tree.acl_mut.Goals as goal
 
-pub place_of-place-requires-clause-there : goal.place_of-place-requires-clause-there
-place_of-place-requires-clause-there c =
+pub place_of-place-requires : goal.place_of-place-requires
+place_of-place-requires c =
     (entry_present c.self.invariant.0 c.args.uid
     (subst (λ (t : Branches). is_in t.nodes c.args.uid ≡ true) (sym c.self.view_is)
     (segment_in c.args.self.now.nodes c.args.uid c.requires)))

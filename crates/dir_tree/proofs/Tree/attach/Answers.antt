@@ -97,6 +97,12 @@ push-requires-clause-place c =
 pub push-requires-clause-new : goal.push-requires-clause-new
 push-requires-clause-new c = place_unused c.self.invariant.0 c.store-place.result c.store-place.ensures.place
 
+pub push-requires-clause-uid : goal.push-requires-clause-uid
+push-requires-clause-uid c = subst (λ (t : Branches). t.next < 100003) (sym c.self.view_is) c.requires.uids
+
+pub push-requires-clause-later : goal.push-requires-clause-later
+push-requires-clause-later c = c.self.invariant.0.below
+
 pub gain-requires-clause-there : goal.gain-requires-clause-there
 gain-requires-clause-there c = rw c.push.ensures
     (superior_there c.self.invariant.0 c.args.superior

@@ -15,20 +15,20 @@ use Rattle.dir_tree.proofs.NewestLemmas.{length_newest}
 use Rattle.dir_tree.proofs.RemovedLemmas.{removed_at, not_root, named_at}
 use Rattle.dir_tree.proofs.Tree.detach.Goals as goal
 
-pub position_of-at-requires-clause-there : goal.position_of-at-requires-clause-there
-position_of-at-requires-clause-there c =
+pub remove-superior-requires : goal.remove-superior-requires
+remove-superior-requires c =
     entry_present c.self.invariant.0 c.args.uid (subst (λ (t : Branches). is_in t.nodes c.args.uid ≡ true)
     (sym c.self.view_is) c.requires.there)
 
 pub unreachable-requires : goal.unreachable-requires
 unreachable-requires c = c.requires.branch
-    (not_root c.self.invariant.0 c.args.uid c.position_of-at.result c.remove-superior.result
-    c.position_of-at.ensures.within c.remove-superior.ensures.entry
-    c.position_of-at.ensures.uid c.in_default.is)
+    (not_root c.self.invariant.0 c.args.uid c.remove-superior.ensures.at c.remove-superior.result
+    c.remove-superior.ensures.within c.remove-superior.ensures.entry_is
+    c.remove-superior.ensures.uid_is c.in_default.is)
 
 pub push_reserved-requires : goal.push_reserved-requires
 push_reserved-requires c =
-    let within : c.position_of-at.result < length c.self.inside.entries = c.position_of-at.ensures.within in
+    let within : c.remove-superior.ensures.at < length c.self.inside.entries = c.remove-superior.ensures.within in
     let count : length c.self.inside.nodes.items ≡ length c.self.inside.entries + length c.self.inside.free.items =
     c.self.invariant.0.count in
     let few : length c.self.inside.nodes.items ≤ 4097 = c.self.invariant.0.few in
@@ -36,50 +36,50 @@ push_reserved-requires c =
 
 pub lose-requires-clause-rising : goal.lose-requires-clause-rising
 lose-requires-clause-rising c = rw c.remove-superior.ensures.rest
-    (removed_rising c.self.invariant.0 c.position_of-at.result c.position_of-at.ensures.within)
+    (removed_rising c.self.invariant.0 c.remove-superior.ensures.at c.remove-superior.ensures.within)
 
 pub lose-requires-clause-there : goal.lose-requires-clause-there
 lose-requires-clause-there c =
-    let up = ap (λ (e : Entry). e.superior) (sym c.remove-superior.ensures.entry) ∙ c.in-Some.is in
-    rw c.remove-superior.ensures.rest (superior_left c.self.invariant.0 c.in-Some.superior c.position_of-at.result
-    c.position_of-at.ensures.within up)
+    let up = ap (λ (e : Entry). e.superior) (sym c.remove-superior.ensures.entry_is) ∙ c.in-Some.is in
+    rw c.remove-superior.ensures.rest (superior_left c.self.invariant.0 c.in-Some.superior c.remove-superior.ensures.at
+    c.remove-superior.ensures.within up)
 
 pub lose-requires-clause-some : goal.lose-requires-clause-some
 lose-requires-clause-some c =
-    let up = ap (λ (e : Entry). e.superior) (sym c.remove-superior.ensures.entry) ∙ c.in-Some.is in
-    rw c.remove-superior.ensures.rest (some_left c.self.inside.entries c.self.invariant.3 c.position_of-at.result
-    c.position_of-at.ensures.within
+    let up = ap (λ (e : Entry). e.superior) (sym c.remove-superior.ensures.entry_is) ∙ c.in-Some.is in
+    rw c.remove-superior.ensures.rest (some_left c.self.inside.entries c.self.invariant.3 c.remove-superior.ensures.at
+    c.remove-superior.ensures.within
     c.in-Some.superior up)
 
 -- the tables without the branch are those of the tree without it
 left_by : (c : goal.After-push_reserved)
-    → IsKept c.self.inside.nodes.items (remove c.self.inside.entries c.position_of-at.result)
+    → IsKept c.self.inside.nodes.items (remove c.self.inside.entries c.remove-superior.ensures.at)
     (c.self.inside.free.items ++ c.remove-superior.result.place ∷ []) c.remove.new.self c.self.inside.next
-    × (newest c.self.inside.nodes.items (remove c.self.inside.entries c.position_of-at.result)
+    × (newest c.self.inside.nodes.items (remove c.self.inside.entries c.remove-superior.ensures.at)
     ≡ without c.args.uid (newest c.self.inside.nodes.items c.self.inside.entries))
 left_by c =
-    removed_at c.self.invariant.0 c.args.uid c.position_of-at.result c.remove-superior.result
-    c.position_of-at.ensures.within c.remove-superior.ensures.entry c.position_of-at.ensures.uid
+    removed_at c.self.invariant.0 c.args.uid c.remove-superior.ensures.at c.remove-superior.result
+    c.remove-superior.ensures.within c.remove-superior.ensures.entry_is c.remove-superior.ensures.uid_is
     (subst (λ (t : Branches). list_any (is_inferior c.args.uid) (shapes t.nodes) ≡ false) (sym c.self.view_is)
     c.requires.leaf) c.remove.new.self (rw c.deref.ensures.value at c.remove.ensures.order) c.remove.ensures.places
     c.remove.ensures.count c.remove.ensures.room
 
 pub invariant_of-self : goal.invariant_of-self
 invariant_of-self c =
-    let up = ap (λ (e : Entry). e.superior) (sym c.remove-superior.ensures.entry) ∙ c.in-Some.is in
-    let fewer : List Entry = remove c.self.inside.entries c.position_of-at.result in
+    let up = ap (λ (e : Entry). e.superior) (sym c.remove-superior.ensures.entry_is) ∙ c.in-Some.is in
+    let fewer : List Entry = remove c.self.inside.entries c.remove-superior.ensures.at in
     let lost : c.lose.new.self ≡ recounted c.in-Some.superior (λ n. n - 1) fewer =
     rw c.remove-superior.ensures.rest at c.lose.ensures in (
       rw (c.push_reserved.ensures.items, lost) (kept_recounted c.in-Some.superior (λ n. n - 1) (left_by c).0),
       c.self.invariant.1,
       omega (arith, c.self.invariant.2, c.push_reserved.ensures.capacity),
-      rw lost (counted_removed c.self.inside.entries c.self.invariant.3 c.position_of-at.result
-          c.position_of-at.ensures.within c.in-Some.superior up),
+      rw lost (counted_removed c.self.inside.entries c.self.invariant.3 c.remove-superior.ensures.at
+          c.remove-superior.ensures.within c.in-Some.superior up),
     )
 
 pub returns-clause-tree : goal.returns-clause-tree
 returns-clause-tree c =
-    let fewer : List Entry = remove c.self.inside.entries c.position_of-at.result in
+    let fewer : List Entry = remove c.self.inside.entries c.remove-superior.ensures.at in
     let lost : c.lose.new.self ≡ recounted c.in-Some.superior (λ n. n - 1) fewer =
     rw c.remove-superior.ensures.rest at c.lose.ensures in
     rw (← c.self.view_is) (ap (λ (ns : List Node). record { nodes = ns; next = c.self.inside.next })
@@ -87,8 +87,8 @@ returns-clause-tree c =
 
 pub remove-requires : goal.remove-requires
 remove-requires c =
-    let there = named_at c.self.invariant.0 c.position_of-at.result c.remove-superior.result
-    c.position_of-at.ensures.within c.remove-superior.ensures.entry
+    let there = named_at c.self.invariant.0 c.remove-superior.ensures.at c.remove-superior.result
+    c.remove-superior.ensures.within c.remove-superior.ensures.entry_is
     c.in-Some.superior c.in-Some.is in
     rw c.deref.ensures.value (record {
       there = there;
@@ -99,11 +99,11 @@ remove-requires c =
 
 pub returns-clause-count : goal.returns-clause-count
 returns-clause-count c =
-    let fewer : List Entry = remove c.self.inside.entries c.position_of-at.result in
+    let fewer : List Entry = remove c.self.inside.entries c.remove-superior.ensures.at in
     let lost : c.lose.new.self ≡ recounted c.in-Some.superior (λ n. n - 1) fewer =
     rw c.remove-superior.ensures.rest at c.lose.ensures in
     let less : length fewer + 1 ≡ length c.self.inside.entries =
-    length-remove c.self.inside.entries c.position_of-at.result c.position_of-at.ensures.within in
+    length-remove c.self.inside.entries c.remove-superior.ensures.at c.remove-superior.ensures.within in
     let same = length_recounted c.in-Some.superior (λ n. n - 1) fewer in
     let new = length_newest c.self.inside.nodes.items (recounted c.in-Some.superior (λ n. n - 1) fewer) in
     let old = length_newest c.self.inside.nodes.items c.self.inside.entries in

@@ -3,8 +3,8 @@ use Rattle.dir_tree.proofs.KeptLemmas.{segment_present}
 use Rattle.dir_tree.proofs.ChangedLemmas.{set_kept, set_seen}
 use Rattle.dir_tree.proofs.Tree.set_home.Goals as goal
 
-pub place_of-place-requires-clause-there : goal.place_of-place-requires-clause-there
-place_of-place-requires-clause-there c = segment_present c.self.invariant.0 c.args.uid c.self.view_is c.requires
+pub place_of-place-requires : goal.place_of-place-requires
+place_of-place-requires c = segment_present c.self.invariant.0 c.args.uid c.self.view_is c.requires
 
 pub invariant_of-self : goal.invariant_of-self
 invariant_of-self c = (

@@ -1,8 +1,33 @@
-use Rattle.std.proofs.Common.{◌+◌, ◌∙◌}
-use Rattle.dir_tree.proofs.CountLemmas.{count_set}
+use Rattle.std.proofs.Common.{◌<◌, ◌+◌, ◌^◌, length, ap, arith}
+use Rattle.dir_tree.specs.declared.entries.Entry.{Entry}
+use Rattle.dir_tree.specs.Kept.{entry_at}
+use Rattle.dir_tree.proofs.UidLemmas.{slot_there, entry_there, inferiors_changed}
 use Rattle.dir_tree.proofs.entries.Entries.gain.Goals as goal
 
+pub index_mut-requires : goal.index_mut-requires
+index_mut-requires c =
+    let within : c.place_of-place.result < length c.self.inside.slots.items =
+    slot_there c.self.invariant.0 c.args.self.now c.self.view_is c.args.uid c.place_of-place.result
+    c.place_of-place.ensures in
+    omega (arith, within)
+
+pub overflow_add-index_mut : goal.overflow_add-index_mut
+overflow_add-index_mut c =
+    let at = c.place_of-place.ensures in
+    let is = ap (λ (e : Entry). e.inferiors) (entry_there c.self.invariant.0 c.args.self.now c.self.view_is c.args.uid
+    c.place_of-place.result at c.index_mut.result.now c.index_mut.ensures.value) in
+    let fact : (entry_at c.args.self.now at.0).inferiors + 1 < 2 ^ 32 = c.requires.room at.0 at.1 in
+    omega (arith, is, fact)
+
+pub invariant_of-self : goal.invariant_of-self
+invariant_of-self c =
+    let left = inferiors_changed c.self.invariant.0 c.self.invariant.1 c.args.self.now c.self.view_is c.requires.rising
+    c.args.uid c.place_of-place.result c.place_of-place.ensures (λ n. n + 1) c.index_mut.result.now
+    c.index_mut.ensures.value in
+    (left.0, left.1, c.self.invariant.2, c.self.invariant.3)
+
 pub returns : goal.returns
-returns c = c.set_inferiors.ensures
-    ∙ count_set c.args.uid (λ n. n + 1) c.args.self.now c.requires.rising c.position_of-at.result
-    c.position_of-at.ensures.within c.position_of-at.ensures.uid _ c.at-inferiors.ensures
+returns c =
+    (inferiors_changed c.self.invariant.0 c.self.invariant.1 c.args.self.now c.self.view_is c.requires.rising c.args.uid
+    c.place_of-place.result c.place_of-place.ensures (λ n. n + 1) c.index_mut.result.now
+    c.index_mut.ensures.value).2

@@ -1,9 +1,19 @@
+use Rattle.std.proofs.Common.{◌<◌, length, arith}
 use Rattle.std.proofs.lemmas.Bool.{lt-ltb, ltb-true}
 use Rattle.dir_tree.proofs.CountLemmas.{counts_some}
+use Rattle.dir_tree.proofs.UidLemmas.{slot_there, entry_there}
 use Rattle.dir_tree.proofs.entries.Entries.has_inferior.Goals as goal
+
+pub index-requires : goal.index-requires
+index-requires c =
+    let within : c.place_of-place.result < length c.self.inside.slots.items =
+    slot_there c.self.invariant.0 c.args.self.now c.self.view_is c.args.uid c.place_of-place.result
+    c.place_of-place.ensures in
+    omega (arith, within)
 
 pub returns : goal.returns
 returns c =
-    let tells = counts_some c.args.self.now c.requires.counted c.args.uid c.position_of.result
-    c.position_of.ensures.within c.position_of.ensures.uid in
-    rw c.at.ensures (λ is. tells.0 (ltb-true _ _ is), λ one. lt-ltb _ _ (tells.1 one))
+    let at = c.place_of-place.ensures in
+    let tells = counts_some c.args.self.now c.requires.counted c.args.uid at.0 at.1 at.2 in
+    rw (entry_there c.self.invariant.0 c.args.self.now c.self.view_is c.args.uid c.place_of-place.result at
+    c.index.result.now c.index.ensures) (λ is. tells.0 (ltb-true _ _ is), λ one. lt-ltb _ _ (tells.1 one))

@@ -1,21 +1,28 @@
-use Rattle.std.proofs.Common.{◌≢◌, ◌<◌, ◌++◌, ℕ, List, [], ◌∷◌, length, set, sym, ap, subst, ◌∙◌, arith}
-use Rattle.dir_tree.specs.declared.entries.Entry.{Entry}
-use Rattle.dir_tree.specs.Kept.{entry_at, listed}
-use Rattle.dir_tree.proofs.SlotLemmas.{push_listed, more_listed}
+use Rattle.std.proofs.Common.{length, rules, ap, arith}
+use Rattle.dir_tree.specs.Uids.{taken}
+use Rattle.dir_tree.proofs.SlotLemmas.{length_listed}
+use Rattle.dir_tree.proofs.UidLemmas.{pushed}
 use Rattle.dir_tree.proofs.entries.Entries.push.Goals as goal
+
+pub index_mut-requires : goal.index_mut-requires
+index_mut-requires c = omega (arith, c.requires.place, c.self.invariant.0.size)
+
+pub index_mut-requires-2 : goal.index_mut-requires-2
+index_mut-requires-2 c = omega (arith, c.requires.uid, c.self.invariant.2, c.self.inside.places.ok.0)
+
+pub overflow_add-self : goal.overflow_add-self
+overflow_add-self c =
+    let n = length_listed c.self.inside.slots.items (taken c.self.inside.places.items) in
+    let m = ap length c.self.view_is in
+    omega (arith, c.self.invariant.3, n, m, c.requires.few)
 
 pub invariant_of-self : goal.invariant_of-self
 invariant_of-self c =
-    let new = subst (λ (es : List Entry). (i : ℕ) → i < length es → (entry_at es i).place ≢ c.args.entry.place)
-    (sym c.self.view_is) c.requires.new in (
-      rw c.push_reserved.ensures.items (more_listed c.self.invariant.0 c.args.entry c.requires.place new),
-      omega (arith, c.self.invariant.1, c.push_reserved.ensures.capacity),
-    )
+    let p = pushed c.self.invariant.0 c.self.invariant.1 c.args.self.now c.self.view_is c.args.entry c.requires.place
+    c.requires.new (omega (arith, c.requires.uid, c.self.invariant.2, c.self.inside.places.ok.0)) c.requires.later in
+    (p.0, p.1, search rules, omega (arith, p.2, c.self.invariant.3))
 
 pub returns : goal.returns
 returns c =
-    let new = subst (λ (es : List Entry). (i : ℕ) → i < length es → (entry_at es i).place ≢ c.args.entry.place)
-    (sym c.self.view_is) c.requires.new in
-    ap (listed (set c.self.inside.slots.items c.args.entry.place c.args.entry)) c.push_reserved.ensures.items
-    ∙ push_listed c.self.invariant.0 c.args.entry c.requires.place new
-    ∙ ap (λ (es : List Entry). es ++ c.args.entry ∷ []) c.self.view_is
+    (pushed c.self.invariant.0 c.self.invariant.1 c.args.self.now c.self.view_is c.args.entry c.requires.place
+    c.requires.new (omega (arith, c.requires.uid, c.self.invariant.2, c.self.inside.places.ok.0)) c.requires.later).3

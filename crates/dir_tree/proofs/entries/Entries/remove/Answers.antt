@@ -1,25 +1,44 @@
-use Rattle.std.proofs.Common.{◌<◌, List, length, ap, ◌∙◌, arith}
-use Rattle.std.specs.List.{remove}
-use Rattle.dir_tree.specs.declared.entries.Entry.{Entry}
-use Rattle.dir_tree.specs.Kept.{listed}
-use Rattle.dir_tree.proofs.SlotLemmas.{remove_listed, order_within, slot_within, slot_is}
+use Rattle.std.proofs.Common.{◌<◌, length, rules, arith}
+use Rattle.dir_tree.specs.Uids.{taken}
+use Rattle.dir_tree.proofs.UidLemmas.{in_table, left_listed, left_removed, left_tabled, left_taken, slot_there}
+use Rattle.dir_tree.proofs.UidLemmas.{some_taken}
 use Rattle.dir_tree.proofs.entries.Entries.remove.Goals as goal
+
+pub index_mut-requires : goal.index_mut-requires
+index_mut-requires c =
+    let within : c.args.uid < length c.self.inside.places.items =
+    in_table c.self.invariant.0 c.self.invariant.1 c.args.self.now c.self.view_is c.args.uid c.place_of-place.result
+    c.place_of-place.ensures in
+    omega (arith, within)
+
+pub overflow_sub-self : goal.overflow_sub-self
+overflow_sub-self c =
+    let some : 0 < length (taken c.self.inside.places.items) =
+    some_taken c.self.invariant.0 c.self.invariant.1 c.args.self.now c.self.view_is c.args.uid c.place_of-place.result
+    c.place_of-place.ensures in
+    omega (arith, some, c.self.invariant.3)
 
 pub index-requires : goal.index-requires
 index-requires c =
-    let within : c.remove-place.result < length c.self.inside.slots.items =
-    slot_within c.self.invariant.0 c.args.self.now c.self.view_is c.args.at c.requires
-    c.remove-place.result c.remove-place.ensures.value in
+    let within : c.place_of-place.result < length c.self.inside.slots.items =
+    slot_there c.self.invariant.0 c.args.self.now c.self.view_is c.args.uid c.place_of-place.result
+    c.place_of-place.ensures in
     omega (arith, within)
 
-pub returns-clause-entry : goal.returns-clause-entry
-returns-clause-entry c = slot_is c.self.invariant.0 c.args.self.now c.self.view_is c.args.at c.requires
-    c.remove-place.result c.remove-place.ensures.value c.index.result.now c.index.ensures
+pub invariant_of-self : goal.invariant_of-self
+invariant_of-self c =
+    let at = c.place_of-place.ensures in
+    let n = left_taken c.self.invariant.0 c.self.invariant.1 c.args.self.now c.self.view_is c.args.uid
+    c.place_of-place.result at in (
+      left_listed c.self.invariant.0 c.self.invariant.1 c.args.self.now c.self.view_is c.args.uid
+          c.place_of-place.result at,
+      left_tabled c.self.invariant.0 c.self.invariant.1 c.args.self.now c.self.view_is c.args.uid
+          c.place_of-place.result at,
+      search rules,
+      omega (arith, n, c.self.invariant.3),
+    )
 
-pub returns-clause-rest : goal.returns-clause-rest
-returns-clause-rest c =
-    let within = order_within c.self.invariant.0 c.args.self.now c.self.view_is c.args.at c.requires
-    c.remove-place.result c.remove-place.ensures.value in
-    ap (listed c.self.inside.slots.items) c.remove-place.ensures.items
-    ∙ remove_listed c.self.invariant.0 c.args.at within
-    ∙ ap (λ (es : List Entry). remove es c.args.at) c.self.view_is
+pub returns : goal.returns
+returns c =
+    left_removed c.self.invariant.0 c.self.invariant.1 c.args.self.now c.self.view_is c.args.uid
+    c.place_of-place.result c.place_of-place.ensures c.index.result.now c.index.ensures

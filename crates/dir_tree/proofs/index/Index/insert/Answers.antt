@@ -35,7 +35,12 @@ returns-clause-order c =
     (λ k le lt. after_other (key_at nodes ps k) (key_of (node_at nodes c.args.place))
     (λ less. from k le lt (subst (λ (x : Key). key_cmp (key_at nodes ps k) x ≡ Less) (sym key) less)) (new k lt)) in
     rw c.in-Ok.ensures.items (ordered_more nodes ps c.self.inside.hashes.items c.first_at-at.result c.args.place
-    c.hash_of-hash.result within order sorted (omega (arith, c.self.invariant.2, c.self.inside.hashes.ok.0, c.requires.slot))
+    c.hash_of-hash.result within order sorted (omega (
+      arith,
+      c.self.invariant.2,
+      c.self.inside.hashes.ok.0,
+      c.requires.slot,
+    ))
     (c.hash_of-hash.ensures ∙ ap key_hash key) new)
 
 pub returns-clause-places : goal.returns-clause-places

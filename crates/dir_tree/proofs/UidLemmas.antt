@@ -1,0 +1,355 @@
+-- The table of places by uid, and the places that stand in it.
+use Rattle.std.proofs.Common.{◌≡◌, ◌≢◌, ℕ, zero, suc, ◌+◌, ◌<◌, ◌≤◌, eqb, true, false, List, [], ◌∷◌, ◌++◌, length}
+use Rattle.std.proofs.Common.{set, get_or}
+use Rattle.std.proofs.Common.{replicate, refl, sym, ap, subst, ◌∙◌, arith, inl, inr}
+use Rattle.std.specs.List.{remove}
+use Rattle.std.proofs.lemmas.Bool.{cases_eq, eq-eqb, ne_eqb}
+use Rattle.std.proofs.lemmas.List.{get_or-set_same, get_or-set_other, length-set, get_or_read, get_or-replicate}
+use Rattle.std.proofs.lemmas.List.{length-replicate, length_push}
+use Rattle.dir_tree.specs.declared.entries.Entry.{Entry}
+use Rattle.dir_tree.specs.Kept.{no_entry, entry_at, listed, recounted, IsAscending, IsListed}
+use Rattle.dir_tree.specs.Uids.{taken, IsTabled, IsRemoved}
+use Rattle.dir_tree.proofs.SlotLemmas.{listed_at, length_listed, place_listed, remove_listed, set_listed, still_listed}
+use Rattle.dir_tree.proofs.SlotLemmas.{more_listed, push_listed, less_listed}
+use Rattle.dir_tree.proofs.EditLemmas.{fewer}
+use Rattle.dir_tree.proofs.CountLemmas.{count_set}
+
+-- ---- what is taken
+
+pub taken_blank : (n : ℕ) → taken (replicate n 65535) ≡ []
+unfolding taken
+taken_blank zero = refl
+taken_blank (suc n) = taken_blank n
+
+taken_none : (t : List ℕ) → ((v : ℕ) → v < length t → get_or t v 0 ≡ 65535) → taken t ≡ []
+unfolding taken
+taken_none [] none = refl
+taken_none (p ∷ t) none = rw (eq-eqb p 65535 (none 0 (omega arith))) (taken_none t (λ v lt. none (suc v) (omega arith)))
+
+-- each place that stands in the table is taken, and comes out with its uid
+pub taken_out : (t : List ℕ) (u : ℕ) → u < length t → get_or t u 0 ≢ 65535 → (i : ℕ) × (i < length (taken t))
+    × (get_or (taken t) i 0 ≡ get_or t u 0) × (taken (set t u 65535) ≡ remove (taken t) i)
+unfolding taken
+taken_out [] u lt some = absurd (omega arith)
+taken_out (p ∷ t) zero lt some = rw (ne_eqb p 65535 some) (0, omega arith, refl, refl)
+taken_out (p ∷ t) (suc u) lt some =
+    let ih = taken_out t u (omega arith) some in
+    elim (cases_eq p 65535) [
+      | inl none ↦ rw (eq-eqb p 65535 none) ih
+      | inr is ↦ rw (ne_eqb p 65535 is) (suc ih.0, omega (arith, ih.1), ih.2, ap (λ (ps : List ℕ). p ∷ ps) ih.3)
+    ]
+
+-- and what is taken stands in it
+pub taken_from : (t : List ℕ) (i : ℕ) → i < length (taken t) → (u : ℕ) × (u < length t) × (get_or t u 0 ≢ 65535)
+    × (get_or t u 0 ≡ get_or (taken t) i 0)
+unfolding taken
+taken_from [] i lt = absurd (omega arith)
+taken_from (p ∷ t) zero lt = elim (cases_eq p 65535) [
+  | inl none ↦
+      (let off : eqb p 65535 ≡ true = eq-eqb p 65535 none in
+      let ih = taken_from t 0 (rw off at lt) in rw off (suc ih.0, omega (arith, ih.1), ih.2, ih.3))
+  | inr is ↦ rw (ne_eqb p 65535 is) (0, omega arith, is, refl)
+]
+taken_from (p ∷ t) (suc i) lt = elim (cases_eq p 65535) [
+  | inl none ↦
+      (let off : eqb p 65535 ≡ true = eq-eqb p 65535 none in
+      let ih = taken_from t (suc i) (rw off at lt) in rw off (suc ih.0, omega (arith, ih.1), ih.2, ih.3))
+  | inr is ↦
+      (let on : eqb p 65535 ≡ false = ne_eqb p 65535 is in
+      let more : suc i < length (p ∷ taken t) = rw on at lt in
+      let ih = taken_from t i (omega arith) in rw on (suc ih.0, omega (arith, ih.1), ih.2, ih.3))
+]
+
+-- past all others a place comes in at the end
+pub taken_in : (t : List ℕ) (u p : ℕ) → u < length t → p ≢ 65535
+    → ((v : ℕ) → u ≤ v → v < length t → get_or t v 0 ≡ 65535) → taken (set t u p) ≡ taken t ++ p ∷ []
+unfolding taken
+taken_in [] u p lt is none = absurd (omega arith)
+taken_in (q ∷ t) zero p lt is none =
+    let rest : taken t ≡ [] = taken_none t (λ v in_v. none (suc v) (omega arith) (omega arith)) in
+    rw (ne_eqb p 65535 is, eq-eqb q 65535 (none 0 (omega arith) (omega arith)), rest) refl
+taken_in (q ∷ t) (suc u) p lt is none =
+    let ih : taken (set t u p) ≡ taken t ++ p ∷ [] =
+    taken_in t u p (omega arith) is (λ v le in_v. none (suc v) (omega arith) (omega arith)) in
+    elim (cases_eq q 65535) [
+      | inl off ↦ rw (eq-eqb q 65535 off) ih
+      | inr on ↦ rw (ne_eqb q 65535 on) (ap (λ (ps : List ℕ). q ∷ ps) ih)
+    ]
+
+-- ---- the entries of a table
+
+module _ {slots : List Entry} {table : List ℕ} (l : IsListed slots (taken table)) (t : IsTabled slots table) where
+  abbrev es : List Entry
+  es = listed slots (taken table)
+
+  pub place_found : (u : ℕ) → u < length table → get_or table u 0 ≢ 65535 → (i : ℕ) × (i < length es)
+      × ((entry_at es i).uid ≡ u) × ((entry_at es i).place ≡ get_or table u 0)
+  place_found u lt some =
+      let x = taken_out table u lt some in
+      let n = length_listed slots (taken table) in (
+        x.0,
+        omega (arith, x.1, n),
+        ap (λ (e : Entry). e.uid) (listed_at slots (taken table) x.0 x.1)
+            ∙ ap (λ p. (entry_at slots p).uid) x.2 ∙ t.uids u lt some,
+        place_listed l x.0 x.1 ∙ x.2,
+      )
+
+  pub place_missing : (uid : ℕ) → (uid < length table → get_or table uid 0 ≡ 65535) → (i : ℕ) → i < length es
+      → (entry_at es i).uid ≢ uid
+  place_missing uid none i lt is =
+      let n = length_listed slots (taken table) in
+      let within : i < length (taken table) = omega arith in
+      let x = taken_from table i within in
+      let own : (entry_at es i).uid ≡ x.0 = ap (λ (e : Entry). e.uid) (listed_at slots (taken table) i within)
+      ∙ ap (λ p. (entry_at slots p).uid) (sym x.3) ∙ t.uids x.0 x.1 x.2 in
+      let same : x.0 ≡ uid = sym own ∙ is in
+      x.2 (ap (λ u. get_or table u 0) same ∙ none (subst (λ u. u < length table) same x.1))
+
+  -- an entry more, of a place that no other has
+  pub tabled_more : (e : Entry) → e.place < length slots
+      → ((i : ℕ) → i < length es → (entry_at es i).place ≢ e.place)
+      → e.uid < length table → IsTabled (set slots e.place e) (set table e.uid e.place)
+  tabled_more e room new in_table = record {
+    uids = λ u lt some. elim (cases_eq u e.uid) [
+      | inl here ↦
+          rw (here, get_or-set_same table e.uid e.place 0 in_table)
+          (ap (λ (d : Entry). d.uid) (get_or-set_same slots e.place e no_entry room))
+      | inr there ↦
+          (let m = length-set table e.uid e.place in
+          let same : get_or (set table e.uid e.place) u 0 ≡ get_or table u 0 =
+          get_or-set_other table e.uid u e.place 0 there in
+          let is : get_or table u 0 ≢ 65535 = λ z. some (same ∙ z) in
+          let within : u < length table = omega arith in
+          let x = place_found u within is in
+          let other : get_or table u 0 ≢ e.place = λ z. new x.0 x.1 (x.3 ∙ z) in
+          rw same (ap (λ (d : Entry). d.uid) (get_or-set_other slots e.place (get_or table u 0) e no_entry other)
+          ∙ t.uids u within is))
+    ];
+  }
+
+  -- no place stands where all uids are lower
+  pub none_later : (uid : ℕ) → ((i : ℕ) → i < length es → (entry_at es i).uid < uid)
+      → (v : ℕ) → uid ≤ v → v < length table → get_or table v 0 ≡ 65535
+  none_later uid later v le lt = elim (cases_eq (get_or table v 0) 65535) [
+    | inl none ↦ none
+    | inr some ↦
+        (let x = place_found v lt some in
+        let less : (entry_at es x.0).uid < uid = later x.0 x.1 in
+        let is : (entry_at es x.0).uid ≡ v = x.2 in
+        absurd (omega arith))
+  ]
+
+  -- an entry less
+  pub tabled_less : (uid : ℕ) → uid < length table → IsTabled slots (set table uid 65535)
+  tabled_less uid in_table = record {
+    uids = λ u lt some. elim (cases_eq u uid) [
+      | inl here ↦ absurd (some (rw here (get_or-set_same table uid 65535 0 in_table)))
+      | inr there ↦
+          (let m = length-set table uid 65535 in
+          let same : get_or (set table uid 65535) u 0 ≡ get_or table u 0 = get_or-set_other table uid u 65535 0 there in
+          rw same (t.uids u (omega arith) (λ z. some (same ∙ z))))
+    ];
+  }
+
+  pub removed_entry : (uid : ℕ) → uid < length table → get_or table uid 0 ≢ 65535 → (x : Entry)
+      → x ≡ entry_at slots (get_or table uid 0)
+      → IsRemoved es uid x (listed slots (taken (set table uid 65535)))
+  removed_entry uid lt some x read =
+      let o = taken_out table uid lt some in
+      let n = length_listed slots (taken table) in
+      let here : entry_at es o.0 ≡ entry_at slots (get_or table uid 0) =
+      listed_at slots (taken table) o.0 o.1 ∙ ap (entry_at slots) o.2 in
+      record {
+        at = o.0;
+        within = omega (arith, o.1, n);
+        entry_is = read ∙ sym here;
+        uid_is = ap (λ (e : Entry). e.uid) here ∙ t.uids uid lt some;
+        rest = ap (listed slots) o.3 ∙ remove_listed l o.0 o.1;
+      }
+
+  -- an entry changed, but for its uid
+  pub tabled_set : (p : ℕ) (e : Entry) → p < length slots → e.uid ≡ (entry_at slots p).uid
+      → IsTabled (set slots p e) table
+  tabled_set p e room same = record {
+    uids = λ u lt some. elim (cases_eq (get_or table u 0) p) [
+      | inl here ↦ rw here (ap (λ (d : Entry). d.uid) (get_or-set_same slots p e no_entry room) ∙ same)
+          ∙ ap (λ q. (entry_at slots q).uid) (sym here) ∙ t.uids u lt some
+      | inr there ↦ ap (λ (d : Entry). d.uid) (get_or-set_other slots p (get_or table u 0) e no_entry there)
+          ∙ t.uids u lt some
+    ];
+  }
+
+  -- the place of a uid that an entry has stands in the table
+  pub place_stands : (uid i : ℕ) → i < length es → (entry_at es i).uid ≡ uid → (uid < length table)
+      × (get_or table uid 0 ≢ 65535) × (get_or table uid 0 ≡ (entry_at es i).place)
+  place_stands uid i lt is =
+      let n = length_listed slots (taken table) in
+      let within : i < length (taken table) = omega arith in
+      let x = taken_from table i within in
+      let own : (entry_at es i).uid ≡ x.0 = ap (λ (e : Entry). e.uid) (listed_at slots (taken table) i within)
+      ∙ ap (λ p. (entry_at slots p).uid) (sym x.3) ∙ t.uids x.0 x.1 x.2 in
+      let same : x.0 ≡ uid = sym own ∙ is in
+      let at : get_or table uid 0 ≡ get_or table x.0 0 = ap (λ u. get_or table u 0) (sym same) in (
+        subst (λ u. u < length table) same x.1,
+        λ z. x.2 (sym at ∙ z),
+        at ∙ x.3 ∙ sym (place_listed l i within),
+      )
+
+-- an entry of a uid stands in a place
+abbrev pub IsThere : List Entry → ℕ → ℕ → Type 0
+IsThere es uid place = (i : ℕ) × (i < length es) × ((entry_at es i).uid ≡ uid) × ((entry_at es i).place ≡ place)
+
+module _ {slots : List Entry} {order : List ℕ} (l : IsListed slots order) (now : List Entry)
+    (view : listed slots order ≡ now) (uid place : ℕ) (at : IsThere now uid place) where
+  seen : IsThere (listed slots order) uid place
+  seen = subst (λ (es : List Entry). IsThere es uid place) (sym view) at
+
+  ordered : seen.0 < length order
+  ordered = (let n = length_listed slots order in omega (arith, seen.1))
+
+  place_at : place ≡ get_or order seen.0 0
+  place_at = sym seen.3 ∙ place_listed l seen.0 ordered
+
+  pub slot_there : place < length slots
+  slot_there = (let w : get_or order seen.0 0 < 4097 = l.within seen.0 ordered in let m : length slots ≡ 4097 =
+      l.size in
+      let p = place_at in omega arith)
+
+  slot_read : (x : Entry) → x ≡ get_or slots place x → x ≡ entry_at slots (get_or order seen.0 0)
+  slot_read x read = get_or_read slots place x slot_there read no_entry ∙ ap (entry_at slots) place_at
+
+  entry_seen : (x : Entry) → x ≡ get_or slots place x → x ≡ entry_at (listed slots order) seen.0
+  entry_seen x read = slot_read x read ∙ sym (listed_at slots order seen.0 ordered)
+
+  pub entry_there : (x : Entry) → x ≡ get_or slots place x → x ≡ entry_at now at.0
+  entry_there x read = slot_read x read ∙ ap (entry_at slots) (sym place_at) ∙ ap (entry_at slots) (sym at.3)
+      ∙ still
+    where
+      still : entry_at slots (entry_at now at.0).place ≡ entry_at now at.0
+      still = subst (λ (es : List Entry). at.0 < length es
+          → entry_at slots (entry_at es at.0).place ≡ entry_at es at.0) view
+          (λ lt. (let n = length_listed slots order in let within : at.0 < length order = omega arith in
+          ap (entry_at slots) (place_listed l at.0 within) ∙ sym (listed_at slots order at.0 within))) at.1
+
+-- the number of those that lie in a node changed
+module _ {slots : List Entry} {table : List ℕ} (l : IsListed slots (taken table)) (t : IsTabled slots table)
+    (now : List Entry) (view : listed slots (taken table) ≡ now) (rising : IsAscending now) (uid place : ℕ)
+    (at : IsThere now uid place) (g : ℕ → ℕ) (x : Entry) (read : x ≡ get_or slots place x) where
+  abbrev changed : Entry
+  changed = record x { inferiors = g x.inferiors }
+
+  abbrev IsLeft : ℕ → Type 0
+  IsLeft q = IsListed (set slots q changed) (taken table) × IsTabled (set slots q changed) table
+      × (listed (set slots q changed) (taken table) ≡ recounted uid g now)
+
+  pub inferiors_changed : IsListed (set slots place changed) (taken table) × IsTabled (set slots place changed) table
+      × (listed (set slots place changed) (taken table) ≡ recounted uid g now)
+  inferiors_changed =
+      let here = seen l now view uid place at in
+      let within : here.0 < length (taken table) = ordered l now view uid place at in
+      let is = place_at l now view uid place at in
+      let own : x ≡ entry_at slots (get_or (taken table) here.0 0) = slot_read l now view uid place at x read in
+      let own_place : changed.place ≡ get_or (taken table) here.0 0 = ap (λ (e : Entry). e.place) own
+      ∙ l.places here.0 within in
+      let room : get_or (taken table) here.0 0 < length slots = subst (λ q. q < length slots) is
+      (slot_there l now view uid place at) in
+      let up : IsAscending (listed slots (taken table)) = subst IsAscending (sym view) rising in
+      subst IsLeft (sym is) (
+        still_listed l here.0 within changed own_place,
+        tabled_set l t (get_or (taken table) here.0 0) changed room (ap (λ (e : Entry). e.uid) own),
+        set_listed l here.0 within changed own_place
+            ∙ ap (λ (e : Entry). set (listed slots (taken table)) here.0 (record e { inferiors = g x.inferiors }))
+            (entry_seen l now view uid place at x read)
+            ∙ count_set uid g (listed slots (taken table)) up here.0 here.1 here.2 x
+            (entry_seen l now view uid place at x read)
+            ∙ ap (recounted uid g) view,
+      )
+
+-- ---- as the calls leave them
+
+blank_at : (n u none : ℕ) → u < length (replicate n none) → get_or (replicate n none) u 0 ≡ none
+blank_at n u none lt = (let m = length-replicate n none in get_or-replicate n u none 0 (omega arith))
+
+pub blank_listed : (slots : List Entry) (table : List ℕ) → length slots ≡ 4097 → table ≡ replicate 100003 65535
+    → IsListed slots (taken table)
+blank_listed slots table size is = subst (IsListed slots) (sym (ap taken is ∙ taken_blank 100003)) (record {
+  size = size;
+  within = λ i lt. absurd (omega arith);
+  places = λ i lt. absurd (omega arith);
+  apart = λ i j lt in_j. absurd (omega arith);
+})
+
+pub blank_tabled : (slots : List Entry) (table : List ℕ) → table ≡ replicate 100003 65535 → IsTabled slots table
+blank_tabled slots table is = subst (IsTabled slots) (sym is)
+    (record { uids = λ u lt some. absurd (some (blank_at 100003 u 65535 lt)) })
+
+pub blank_taken : (table : List ℕ) → table ≡ replicate 100003 65535 → taken table ≡ []
+blank_taken table is = ap taken is ∙ taken_blank 100003
+
+module _ {slots : List Entry} {table : List ℕ} (l : IsListed slots (taken table)) (t : IsTabled slots table)
+    (now : List Entry) (view : listed slots (taken table) ≡ now) where
+  pub place_given : (uid value : ℕ) → value ≡ get_or table uid value → uid < length table → value ≢ 65535
+      → IsThere now uid value
+  place_given uid value read lt some =
+      let is : value ≡ get_or table uid 0 = get_or_read table uid value lt read 0 in
+      subst (λ (es : List Entry). IsThere es uid value) view
+      (subst (IsThere (listed slots (taken table)) uid) (sym is) (place_found l t uid lt (λ z. some (is ∙ z))))
+
+  pub place_absent : (uid : ℕ) → (uid < length table → get_or table uid 0 ≡ 65535) → (i : ℕ) → i < length now
+      → (entry_at now i).uid ≢ uid
+  place_absent uid none = subst (λ (es : List Entry). (i : ℕ) → i < length es → (entry_at es i).uid ≢ uid) view
+      (place_missing l t uid none)
+
+  pub pushed : (e : Entry) → e.place < 4097 → ((i : ℕ) → i < length now → (entry_at now i).place ≢ e.place)
+      → e.uid < length table → ((i : ℕ) → i < length now → (entry_at now i).uid < e.uid)
+      → IsListed (set slots e.place e) (taken (set table e.uid e.place))
+      × IsTabled (set slots e.place e) (set table e.uid e.place)
+      × (length (taken (set table e.uid e.place)) ≡ length (taken table) + 1)
+      × (listed (set slots e.place e) (taken (set table e.uid e.place)) ≡ now ++ e ∷ [])
+  pushed e room new in_table later =
+      let new' : (i : ℕ) → i < length (listed slots (taken table))
+      → (entry_at (listed slots (taken table)) i).place ≢ e.place =
+      subst (λ (es : List Entry). (i : ℕ) → i < length es → (entry_at es i).place ≢ e.place) (sym view) new in
+      let later' : (i : ℕ) → i < length (listed slots (taken table))
+      → (entry_at (listed slots (taken table)) i).uid < e.uid =
+      subst (λ (es : List Entry). (i : ℕ) → i < length es → (entry_at es i).uid < e.uid) (sym view) later in
+      let size : length slots ≡ 4097 = l.size in
+      let grown : taken (set table e.uid e.place) ≡ taken table ++ e.place ∷ [] =
+      taken_in table e.uid e.place in_table (λ z. omega arith) (none_later l t e.uid later') in (
+        subst (IsListed (set slots e.place e)) (sym grown) (more_listed l e room new'),
+        tabled_more l t e (omega arith) new' in_table,
+        ap length grown ∙ length_push (taken table) e.place,
+        ap (listed (set slots e.place e)) grown ∙ push_listed l e room new'
+            ∙ ap (λ (es : List Entry). es ++ e ∷ []) view,
+      )
+
+  module _ (uid place : ℕ) (at : IsThere now uid place) where
+    here : (uid < length table) × (get_or table uid 0 ≢ 65535) × (get_or table uid 0 ≡ place)
+    here = (let s = seen l now view uid place at in let p = place_stands l t uid s.0 s.1 s.2 in
+        (p.0, p.1, p.2 ∙ s.3))
+
+    pub in_table : uid < length table
+    in_table = here.0
+
+    pub some_taken : 0 < length (taken table)
+    some_taken = (let o = taken_out table uid here.0 here.1 in omega (arith, o.1))
+
+    pub left_listed : IsListed slots (taken (set table uid 65535))
+    left_listed = (let o = taken_out table uid here.0 here.1 in
+        subst (IsListed slots) (sym o.3) (less_listed l o.0 o.1))
+
+    pub left_tabled : IsTabled slots (set table uid 65535)
+    left_tabled = tabled_less l t uid here.0
+
+    pub left_taken : length (taken (set table uid 65535)) + 1 ≡ length (taken table)
+    left_taken = (let o = taken_out table uid here.0 here.1 in let n = fewer (taken table) o.0 o.1 in
+        let m : length (taken (set table uid 65535)) ≡ length (remove (taken table) o.0) = ap length o.3 in omega arith)
+
+    pub left_removed : (x : Entry) → x ≡ get_or slots place x
+        → IsRemoved now uid x (listed slots (taken (set table uid 65535)))
+    left_removed x read =
+        let own : x ≡ entry_at slots (get_or table uid 0) =
+        get_or_read slots place x (slot_there l now view uid place at) read no_entry
+        ∙ ap (entry_at slots) (sym here.2) in
+        subst (λ (es : List Entry). IsRemoved es uid x (listed slots (taken (set table uid 65535)))) view
+        (removed_entry l t uid here.0 here.1 x own)
