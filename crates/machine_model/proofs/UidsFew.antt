@@ -1,5 +1,5 @@
 -- A machine makes few uids: one in each command that makes a directory or a segment.
-use Rattle.std.proofs.Common.{◌≡◌, ◌≤◌, ◌<◌, ℕ, zero, suc, ℤ, ◌+◌, ◌^◌, Bool, true, false, cond, List, [], ◌∷◌, length}
+use Rattle.std.proofs.Common.{◌≡◌, ◌≤◌, ◌<◌, ℕ, zero, suc, ℤ, ◌+◌, Bool, true, false, cond, List, [], ◌∷◌, length}
 use Rattle.std.proofs.Common.{set}
 use Rattle.std.proofs.Common.{get_or, replicate, Option, Some, None, Result, Ok, Err, inl, inr, refl, sym, ap, subst}
 use Rattle.std.proofs.Common.{◌∙◌, arith}
@@ -232,7 +232,7 @@ places_few volumes (x ∷ xs) (q ∷ qs) are h =
     omega (arith, one, here, rest, all, weights)
 
 -- The next uid is small, over every schedule.
-pub few_uids : (s : State) → KeepsAll s → s.store.accounts.next < 2 ^ 31
+pub few_uids : (s : State) → KeepsAll s → s.store.accounts.next < 100003
 unfolding IsLegal store_after
 few_uids s all = let b = book_bounded s.plan (boot s.plan) s.entries (boot_bounded s.plan)
     all.machine.keeps.book.legal in

@@ -23,7 +23,7 @@ pub record IsApplicable {D : Type 0} (t : Parts D) (process : ℕ) (x : Command)
   pub tree : reference_of x ≡ None
   pub takes : HasEffect x (reply_of t.state process x)
   pub ranges : is_command (length t.drives) x ≡ true
-  pub uids : t.state.store.accounts.next < 2 ^ 31
+  pub uids : t.state.store.accounts.next < 100003
   pub faithful : IsFaithful t.state.plan (flat_of t.state) t.state.store
   pub ready_for : IsReadyFor t.state.store process x
   pub owns : OwnsFor t.state.store (frames_of_owner t.state.owner) x

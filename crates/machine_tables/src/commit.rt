@@ -1,6 +1,6 @@
 //! A tree command of a process takes effect, what its job took is gone, and the process is answered.
 
-ghost use Rattle.std.specs.Prelude.{◌≡◌, ◌<◌, ◌≤◌, ◌+◌, ◌^◌, ℕ, List, length, map, true, false, Some, None};
+ghost use Rattle.std.specs.Prelude.{◌≡◌, ◌<◌, ◌≤◌, ◌+◌, ℕ, List, length, map, true, false, Some, None};
 ghost use Rattle.std.specs.Prelude.{IfSome, IfNone};
 ghost use Rattle.script.specs.Forms.{is_command};
 ghost use Rattle.script.specs.Plans.{command_at};
@@ -55,7 +55,7 @@ fn take_effect<D: Drive>(
     requires knows { process < length store.old.segs.links.known }
     requires ranges { is_command (length store.old.segs.pages.volumes.drives) command.now ≡ true }
     requires tree { reference_of command.now ≡ None }
-    requires uids { store.old.accounts.next < 2 ^ 31 }
+    requires uids { store.old.accounts.next < 100003 }
     requires ready { IsReady store.old process command.now }
     ensures { (frames : List ℕ) → OwnsFor (shown D.pages store.old) frames command.now
         → IsCommittedBut D.pages store.old store.new process frames command.now result.0 result.1 }

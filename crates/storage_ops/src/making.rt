@@ -1,6 +1,6 @@
 //! Directories and segments are made.
 
-ghost use Rattle.std.specs.Prelude.{◌≡◌, ◌<◌, ◌≤◌, ◌^◌, ℕ, true, false, nat_le, length, ◌∷◌, [], None};
+ghost use Rattle.std.specs.Prelude.{◌≡◌, ◌<◌, ◌≤◌, ℕ, true, false, nat_le, length, ◌∷◌, [], None};
 ghost use Rattle.tree_model.specs.Tree.{Node as Term, has_directory, entries_on};
 ghost use Rattle.script.specs.Plans.{Plan, who_of};
 ghost use Rattle.flat_model.specs.Making.{after_make, made_in, make_in, make_reply, owner_row};
@@ -61,7 +61,7 @@ impl<D: Drive> Store<D> {
         requires still { self.old.segs.moving ≡ None }
         requires directory { has_directory self.old.accounts.nodes superior ≡ true }
         requires volume { new.volume < length self.old.segs.pages.volumes.drives }
-        requires uids { self.old.accounts.next < 2 ^ 31 }
+        requires uids { self.old.accounts.next < 100003 }
         requires most { new.length ≤ 256 }
         requires flat { new.dir ≡ true → new.length ≡ 0 }
         ensures answer { (p : Plan) (s : Flat) (d : Term) → Shows D.pages p s self.old → d.uid ≡ superior
@@ -96,7 +96,7 @@ impl<D: Drive> Store<D> {
     fn make(&mut self, path: &Path, volume: u32, dir: bool, pages: u32, acl: Acl) -> Reply
         requires still { self.old.segs.moving ≡ None }
         requires volume { volume < length self.old.segs.pages.volumes.drives }
-        requires uids { self.old.accounts.next < 2 ^ 31 }
+        requires uids { self.old.accounts.next < 100003 }
         requires most { pages ≤ 256 }
         requires flat { dir ≡ true → pages ≡ 0 }
         ensures answer { (p : Plan) (s : Flat) → Shows D.pages p s self.old
@@ -137,7 +137,7 @@ impl<D: Drive> Store<D> {
     pub fn make_dir(&mut self, path: &Path, volume: u32) -> Reply
         requires still { self.old.segs.moving ≡ None }
         requires volume { volume < length self.old.segs.pages.volumes.drives }
-        requires uids { self.old.accounts.next < 2 ^ 31 }
+        requires uids { self.old.accounts.next < 100003 }
         ensures answer { (p : Plan) (s : Flat) → Shows D.pages p s self.old
             → result ≡ make_reply p s path.now volume true }
         ensures effect { (p : Plan) (s : Flat) → Shows D.pages p s self.old
@@ -158,7 +158,7 @@ impl<D: Drive> Store<D> {
         requires still { self.old.segs.moving ≡ None }
         requires process { process < length self.old.whos }
         requires volume { volume < length self.old.segs.pages.volumes.drives }
-        requires uids { self.old.accounts.next < 2 ^ 31 }
+        requires uids { self.old.accounts.next < 100003 }
         requires most { pages ≤ 256 }
         ensures answer { (p : Plan) (s : Flat) → Shows D.pages p s self.old
             → result ≡ make_reply p s path.now volume false }
