@@ -16,35 +16,6 @@ use Rattle.active_segs.specs.Victim.{IsLeastInferior}
 use Rattle.active_segs.specs.Pairs.{Pairs}
 use Rattle.active_segs.proofs.EntryLemmas.{entry_set, entry_kept, uid_set, uid_kept, used_within, superior_within}
 
--- ---- a new map
-
--- the first so many of all numbers are in use
-abbrev pub taken_up_to : ℕ → ℕ → List Bool
-taken_up_to numbers k = replicate k true ++ replicate (numbers - k) false
-
-rest_begins : (numbers k : ℕ) → k < numbers → replicate (numbers - k) false ≡ false ∷ replicate (numbers - suc k) false
-rest_begins numbers k lt = let n : numbers - k ≡ suc (numbers - suc k) =
-    omega arith in ap (λ (m : ℕ). replicate m false) n
-
-pub next_is_free : (numbers k : ℕ) → k < numbers → in_use (taken_up_to numbers k) k ≡ false
-next_is_free numbers k lt =
-    let size : length (replicate k true) ≡ k = length-replicate k true in
-    ap (λ (flags : List Bool). in_use (replicate k true ++ flags) k) (rest_begins numbers k lt)
-    ∙ subst (λ (i : ℕ). in_use (replicate k true ++ false ∷ replicate (numbers - suc k) false) i ≡ false) size
-    (get_or-append_seam (replicate k true) false (replicate (numbers - suc k) false) false)
-
-pub one_more_taken : (numbers k : ℕ) → k < numbers → set (taken_up_to numbers k) k true ≡ taken_up_to numbers (k + 1)
-one_more_taken numbers k lt =
-    let rest : List Bool = replicate (numbers - suc k) false in
-    let size : length (replicate k true) ≡ k = length-replicate k true in
-    let n : numbers - suc k ≡ numbers - (k + 1) = omega arith in
-    ap (λ (flags : List Bool). set (replicate k true ++ flags) k true) (rest_begins numbers k lt)
-    ∙ subst (λ (i : ℕ). set (replicate k true ++ false ∷ rest) i true ≡ replicate k true ++ true ∷ rest) size
-    (set-append_seam (replicate k true) false rest true)
-    ∙ sym (append_assoc (replicate k true) (true ∷ []) rest)
-    ∙ ap (λ (flags : List Bool). flags ++ rest) (replicate-append-replicate k 1 true)
-    ∙ ap (λ (m : ℕ). replicate (k + 1) true ++ replicate m false) n
-
 -- ---- where the superior's place is
 
 abbrev pub IsSuperiorPlace : List (Option Entry) → Option ℕ → Option ℕ → Type 0

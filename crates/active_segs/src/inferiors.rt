@@ -17,21 +17,9 @@ pub(crate) fn no_inferiors(alloc: Global, places: u32) -> Result<Vec<Bitmap>, No
 {
     let mut maps = Vec::with_capacity(alloc, places as usize)?;
     for _place in 0..places {
-        maps.push_reserved(all_in_use(alloc, places)?);
+        maps.push_reserved(Bitmap::all_used(alloc, places)?);
     }
     Ok(maps)
-}
-
-/// A map of so many numbers, all in use.
-#[tactic(auto, using(crate::proofs::InferiorLemmas::next_is_free, crate::proofs::InferiorLemmas::one_more_taken))]
-fn all_in_use(alloc: Global, numbers: u32) -> Result<Bitmap, NoMemory>
-    ensures { IfOk result (λ map. map ≡ replicate numbers true) }
-{
-    let mut map = Bitmap::new(alloc, numbers)?;
-    for number in 0..numbers {
-        map.take(number);
-    }
-    Ok(map)
 }
 
 /// The place of a superior directory, where there is one.
