@@ -2,6 +2,7 @@
 #![tactic(auto)]
 
 mod locked;
+mod pausing;
 mod runs;
 mod working;
 

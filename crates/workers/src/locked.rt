@@ -1,12 +1,32 @@
 //! What the lock round a machine holds.
 
-ghost use Rattle.std.specs.Prelude.{◌≡◌, ◌<◌, map};
-ghost use Rattle.machine.specs.Turns.{HaveCounted};
+ghost use Rattle.std.specs.Prelude.{◌≡◌, ◌<◌, ◌≤◌, map, IfNone, IfSome};
+ghost use Rattle.std.specs.List.{list_any};
+ghost use Rattle.machine.specs.Turns.{HaveCounted, IsTurn};
+ghost use Rattle.workers.specs.Answers.{is_answer, most_unanswered, unanswered_after};
 ghost use Rattle.workers.specs.Holds.{IsHold};
 
+use book::Entry;
 use machine::{Machine, Turn};
 use std::marker::PhantomData;
 use volumes::Drive;
+
+/// How many steps in a row of a machine answer no command at the most: then its workers leave it. (Source: own.)
+const MOST_UNANSWERED: u32 = 1_000_000;
+
+/// Whether an entry answers a command, or a try of one.
+fn is_answer(entry: &Entry) -> bool
+    ensures { result ≡ is_answer entry.now }
+{
+    matches!(entry, Entry::Do { .. })
+}
+
+/// Whether one of these entries does.
+fn has_answer(entries: &[Entry]) -> bool
+    ensures { result ≡ list_any is_answer entries.now }
+{
+    entries.iter().any(|entry| is_answer(entry))
+}
 
 /// Which run a machine belongs to: the script of its book, how many processors it has, and what is told of each drive
 /// from its boot on: the lines that name its failing calls, and how many pages the fast store before it holds; and how
@@ -33,6 +53,7 @@ pub trait Run {
 #[derive(Drop)]
 pub(crate) struct Locked<N: Run, D: Drive> {
     machine: Machine<D>,
+    unanswered: u32,
     of: PhantomData<N>,
     ghost script: { machine.state.plan ≡ N.script },
     ghost cpus: { machine.state.plan.processors ≡ N.cpus },
@@ -52,6 +73,7 @@ impl<N: Run, D: Drive> Locked<N, D> {
     {
         Locked {
             machine,
+            unanswered: 0,
             of: PhantomData,
         }
     }
@@ -63,21 +85,51 @@ impl<N: Run, D: Drive> Locked<N, D> {
         ensures places { map D.places result.drives ≡ N.places }
         ensures alike { HaveCounted D.faults N.counted N.told result }
     {
-        let Locked { machine, of: _ } = self;
+        let Locked {
+            machine,
+            unanswered: _,
+            of: _,
+        } = self;
         machine
     }
 
-    /// One hold of the lock: room for what a step may append to the book, and one step of processor `cpu`, which is
-    /// answered so. A machine that is refused the room is stopped, and nothing else is done then.
-    pub(crate) fn turn(&mut self, cpu: u32) -> Turn
-        requires { cpu < N.cpus }
-        ensures { IsHold D.plan D.places D.faults self.old.machine self.new.machine cpu result }
+    /// Processor `cpu` makes its step, for which there is room.
+    fn step(&mut self, cpu: u32) -> Turn
+        requires processor { cpu < N.cpus }
+        requires room { 320 ≤ self.old.machine.state.spare }
+        requires few { self.old.unanswered < most_unanswered }
+        ensures turn { IsTurn D.plan D.places D.faults self.old.machine self.new.machine cpu result }
+        ensures counted { self.new.unanswered
+            ≡ unanswered_after self.old.machine.state.entries self.new.machine.state.entries self.old.unanswered }
     {
+        let before = self.machine.book().entries().len();
+        let turn = self.machine.step(cpu);
+        if has_answer(&self.machine.book().entries()[before..]) {
+            self.unanswered = 0;
+        } else {
+            self.unanswered += 1;
+        }
+        turn
+    }
+
+    /// One hold of the lock: room for what a step may append to the book, and one step of processor `cpu`, which is
+    /// answered so. A machine that is refused the room is stopped, and nothing else is done then. Where too many steps
+    /// in a row answered no command, nothing is done, and there is no answer.
+    pub(crate) fn turn(&mut self, cpu: u32) -> Option<Turn>
+        requires { cpu < N.cpus }
+        ensures some { IfSome result (λ answer.
+            IsHold D.plan D.places D.faults self.old.machine self.new.machine cpu answer) }
+        ensures none { IfNone result ((self.new.machine ≡ self.old.machine)
+            × (most_unanswered ≤ self.old.unanswered)) }
+    {
+        if self.unanswered >= MOST_UNANSWERED {
+            return None;
+        }
         match self.machine.reserve() {
-            Ok(()) => self.machine.step(cpu),
+            Ok(()) => Some(self.step(cpu)),
             Err(_) => {
                 self.machine.stop();
-                Turn::Stopped
+                Some(Turn::Stopped)
             }
         }
     }

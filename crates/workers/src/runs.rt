@@ -78,9 +78,10 @@ fn run_under_lock<N: Run + Send + Sync, D: Drive + Send, G: Gate + Sync, R: Thre
     locked.into_inner().into_machine()
 }
 
-/// Has a worker for each processor make its steps, until all processes of the machine have ended or it is stopped: it
-/// is where a worker was refused memory. One hold of the lock round the machine is one step; the gate is passed between
-/// two, with no lock held. A worker that waits for something yields. (Source: own.)
+/// Has a worker for each processor make its steps, until all processes of the machine have ended; or it is stopped, as
+/// it is where a worker was refused memory; or 1,000,000 steps in a row answered no command. One hold of the lock round
+/// the machine is one step; the gate is passed between two, with no lock held. A worker that waits, for the lock or for
+/// another processor, gives way to other threads, for longer each time up to a bound. (Source: own.)
 pub fn run_workers<D: Drive + Send, G: Gate + Sync, R: Threads + Wait + Sync>(
     rt: &R,
     machine: Machine<D>,

@@ -3,14 +3,36 @@
 ghost use Rattle.std.specs.Prelude.{◌<◌};
 
 use crate::locked::{Locked, Run};
+use crate::pausing::Pause;
 use machine::Turn;
 use site_io::{Gate, Point};
-use std::sync::{Mutex, Wait};
-use std::thread::{self, Threads};
+use std::sync::{Mutex, MutexGuard, Wait};
+use std::thread::Threads;
 use volumes::Drive;
 
-/// Makes steps of processor `cpu`, one a hold of the lock, until its processes have ended or the machine is stopped.
-/// Between two holds it passes the gate.
+/// How often a worker looks whether the lock is free, before it waits for it.
+const LOOKS: u32 = 64;
+
+/// The most steps of a worker. No run comes to so many: at most 100,000 commands are answered in it, and before each,
+/// and after the last, at most 1,000,000 steps in a row answer none.
+const MOST_STEPS: u64 = 100_001_000_000;
+
+/// Takes the lock. Where it isn't free, other threads go first, for longer each time; and after some looks the worker
+/// waits for it.
+fn hold<'a, T, R: Wait>(rt: &R, lock: &'a Mutex<T>) -> MutexGuard<'a, T> {
+    let mut pause = Pause::new();
+    for _ in 0..LOOKS {
+        if let Some(guard) = lock.try_lock() {
+            return guard;
+        }
+        pause.give_way();
+    }
+    lock.lock(rt)
+}
+
+/// Makes steps of processor `cpu`, one a hold of the lock, until its processes have ended, the machine is stopped, or
+/// too many steps in a row of the machine answered no command. Between two holds it passes the gate. After a step that
+/// waits other threads go first, for longer each time.
 pub(crate) fn work<N: Run, D: Drive, G: Gate, R: Threads + Wait + Sync>(
     rt: &R,
     locked: &Mutex<Locked<N, D>>,
@@ -19,13 +41,19 @@ pub(crate) fn work<N: Run, D: Drive, G: Gate, R: Threads + Wait + Sync>(
 )
     requires { cpu < N.cpus }
 {
-    for _ in rt.forever() {
-        let turn = locked.lock(rt).turn(cpu);
+    let mut pause = Pause::new();
+    for _ in 0..MOST_STEPS {
+        let Some(turn) = hold(rt, locked).turn(cpu) else {
+            break;
+        };
         match turn {
-            Turn::Moved(point) => gate.hold(rt, cpu, point),
+            Turn::Moved(point) => {
+                gate.hold(rt, cpu, point);
+                pause = Pause::new();
+            }
             Turn::Waits(_) => {
                 gate.hold(rt, cpu, Point::Other);
-                thread::yield_now();
+                pause.give_way();
             }
             Turn::Ended | Turn::Stopped => break,
         }
