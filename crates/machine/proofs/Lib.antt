@@ -38,5 +38,6 @@ pub mod TakingStays
 pub mod ThroughCalls
 pub mod TransferCalls
 pub mod TurnLaws
+pub mod UnstuckLaws
 pub mod VisitCalls
 pub mod VisitNext

@@ -6,3 +6,4 @@ pub mod Sizes
 pub mod Shut
 pub mod Starts
 pub mod Turns
+pub mod Unstuck

@@ -16,6 +16,7 @@ mod shutdown;
 mod starting;
 mod stepping;
 mod turn;
+mod unstuck;
 
 pub use machine::Machine;
 pub use machine_tables::{NoMemory, Why};

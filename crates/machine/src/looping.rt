@@ -50,7 +50,7 @@ fn first_busy(processors: &[Processor]) -> Option<usize>
 
 impl<D: Drive> Machine<D> {
     /// What the machine promises between any two steps. It does nothing.
-    fn promise(&self)
+    pub(crate) fn promise(&self)
         ensures { KeepsAll self.now.state }
     {
         let _ = &self.tables;

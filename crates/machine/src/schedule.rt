@@ -4,6 +4,7 @@ ghost use Rattle.std.specs.Prelude.{◌≡◌, ◌<◌, ◌^◌, ◌↔◌, fals
 ghost use Rattle.std.specs.List.{list_any};
 ghost use Rattle.machine.specs.Schedules.{Grows, HasRun, HasStood, IsRound, is_moved, tally, with_room, would_move};
 ghost use Rattle.machine.specs.Turns.{KeepsParts};
+ghost use Rattle.machine.specs.Unstuck.{IsDone, NamesAll};
 
 use crate::machine::Machine;
 use crate::turn::Turn;
@@ -56,9 +57,11 @@ impl<D: Drive> Machine<D> {
         ensures run { IfOk result (λ moved. HasRun D.plan D.places D.faults self.old self.new cpus.now moved) }
         ensures stood { OnErr result (HasStood D.plan D.places D.faults self.old self.new cpus.now) }
         ensures zero { IfOk result (λ moved. (moved ≡ 0) ↔ (list_any (would_move self.old.state) cpus.now ≡ false)) }
+        ensures done { IfOk result (λ moved. moved ≡ 0 → NamesAll self.old.state cpus.now → IsDone self.old.state) }
         ensures entries { Grows self.old.state.entries self.new.state.entries }
         ensures kept { KeepsParts D.plan D.places D.faults self.old self.new }
     {
+        self.promise();
         self.rounds(cpus)
     }
 }

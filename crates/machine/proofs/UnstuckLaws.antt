@@ -1,0 +1,73 @@
+-- Some processor goes on just where the machine wasn't stopped and some process hasn't ended.
+use Rattle.std.proofs.Common.{◌≡◌, ◌≤◌, ◌<◌, ◌+◌, ℕ, Bool, true, false, cond, List, refl, sym, ap, subst, ◌∙◌, inl, inr, le_refl, arith}
+use Rattle.std.specs.Prelude.{◌↔◌, Contains, Result, Ok, Err, IfOk}
+use Rattle.std.specs.List.{list_any}
+use Rattle.std.proofs.lemmas.List.Folds.{list_any_at}
+use Rattle.std.proofs.lemmas.Bool.{cases_lt}
+use Rattle.machine_model.specs.Actions as act
+use Rattle.machine_model.specs.Actions.{action_of, is_over}
+use Rattle.machine_model.specs.Promise.{KeepsAll}
+use Rattle.machine_model.specs.State.{State}
+use Rattle.machine_model.specs.Turns.{moves}
+use Rattle.machine.specs.Unstuck.{IsDone, NamesAll}
+use Rattle.machine.specs.Schedules.{would_move}
+use Rattle.machine.proofs.EndedLaws.{over_ended}
+use Rattle.machine_model.proofs.Unstuck.{some_moves}
+
+stopped_still : (s : State) (c : ℕ) → s.stopped ≡ true → would_move s c ≡ false
+unfolding action_of
+stopped_still s c h = rw h refl
+
+over_still : (s : State) (c : ℕ) → is_over s ≡ true → would_move s c ≡ false
+unfolding action_of
+over_still s c h = rw h (by s.stopped)
+  where
+    by : (b : Bool) → moves (cond b act.IsStopped act.HasEnded) ≡ false
+    by true = refl
+    by false = refl
+
+-- where the machine was stopped or every process has ended, no processor does anything
+pub done_still : (s : State) (c : ℕ) → KeepsAll s → IsDone s → would_move s c ≡ false
+done_still s c keeps (inl stopped) = stopped_still s c stopped
+done_still s c keeps (inr ended) = over_still s c ((over_ended s keeps).1 ended)
+
+pub moves_not : (s : State) (c : ℕ) → KeepsAll s → IsDone s → would_move s c ≡ true → ⊥
+moves_not s c keeps done moves = let no : true ≡ false = sym moves ∙ done_still s c keeps done in cc
+
+-- none of the first ones does anything, nor does the next
+pub one_more : (s : State) (c : ℕ) → ((d : ℕ) → d < c → would_move s d ≡ false) → would_move s c ≡ false
+    → (d : ℕ) → d < c + 1 → would_move s d ≡ false
+one_more s c before here d within = elim (cases_lt d c) [
+  | inl lt ↦ before d lt
+  | inr past ↦ subst (λ (e : ℕ). would_move s e ≡ false) (omega (arith, within, past)) here
+]
+
+-- where no processor does anything, the machine was stopped or every process has ended
+pub still_done : (s : State) → KeepsAll s → (n : ℕ) → n ≡ s.plan.processors → (c : ℕ) → n ≤ c
+    → ((d : ℕ) → d < c → would_move s d ≡ false) → IsDone s
+still_done s keeps n is c all still = by s.stopped refl (is_over s) refl
+  where
+    by : (a : Bool) → s.stopped ≡ a → (b : Bool) → is_over s ≡ b → IsDone s
+    by true e b i = inl e
+    by false e true i = inr ((over_ended s keeps).0 i)
+    by false e false i = let found = some_moves s keeps e i in
+        let there : found.0 < s.plan.processors =
+        subst (λ (m : ℕ). found.0 < m) keeps.machine.keeps.sizes.processors found.1.there in
+        absurd (let no : true ≡ false = sym found.1.moves ∙ still found.0 (omega (arith, is, all, there)) in cc)
+
+-- none of a list moves, which has each processor
+pub none_moves : (s : State) (cpus : List ℕ) → KeepsAll s → list_any (would_move s) cpus ≡ false → NamesAll s cpus
+    → IsDone s
+none_moves s cpus keeps none all = still_done s keeps s.plan.processors refl s.plan.processors (le_refl _)
+    (λ d there. by d (all d there) (would_move s d) refl)
+  where
+    by : (d : ℕ) → Contains cpus d → (b : Bool) → would_move s d ≡ b → b ≡ false
+    by d found false e = refl
+    by d found true e = absurd (let no : true ≡ false = sym (list_any_at (would_move s) cpus found.0 d found.1
+        (ap (would_move s) found.2 ∙ e)) ∙ none in cc)
+
+pub run_done : {E : Type 0} (s : State) (cpus : List ℕ) (r : Result ℕ E) → KeepsAll s
+    → IfOk r (λ n. (n ≡ 0) ↔ (list_any (would_move s) cpus ≡ false))
+    → IfOk r (λ n. n ≡ 0 → NamesAll s cpus → IsDone s)
+run_done s cpus (Ok n) keeps zero = λ none all. none_moves s cpus keeps (zero.0 none) all
+run_done s cpus (Err e) keeps zero = tt
