@@ -11,7 +11,7 @@ const html = readFileSync(join(here, "index.html"), "utf8");
 
 /** The text of one of the page's scripts. */
 function scriptOf(id) {
-  return new RegExp(`<script id="${id}">([^]*?)</script>`).exec(html)[1];
+  return new RegExp(`<script id="${id}"[^>]*>([^]*?)</script>`).exec(html)[1];
 }
 
 vm.runInThisContext(scriptOf("logic"), { filename: "logic" });
@@ -51,9 +51,86 @@ function accountsAreTheSummary() {
     const run = multics.openListing(listing, script);
     assert.deepEqual(multics.summaryOf(run, multics.stateAfter(run, run.count)), run.summary, name);
     for (let at = 0; at < run.count; at++) assert.doesNotMatch(multics.meaningOf(run, at), /undefined|no entry/, name);
+    assert.equal(multics.differsAtEnd(run), false, name);
     many += 1;
   }
   assert.ok(many > 5);
+}
+
+/** What is no listing of all entries is refused, with its line and what to do. */
+function othersAreRefused() {
+  const script = read("labs/1-page/life.script"), listing = read("labs/1-page/life.listing");
+  const cases = [
+    ["", "", 0, /no text/],
+    [read("examples/first.listing"), "", 1, /"process 0 Smith" is no entry.*print all/],
+    [script, "", 1, /looks like a script/],
+    [`${script}book\n`, "", 0, /no entry/],
+    ["script refused at line 3: fields\n", "", 1, /refused the script/],
+    ["accepted 85 entries\n", "", 1, /answer of a judge/],
+    ["> quota 4 used 1\n", "", 0, /accounts alone/],
+    ["online 0\nin 400000000 2 0\n", "", 2, /frame 400000000; they go up to 1023/],
+    ["online 8\n", "", 1, /processor 8; they go up to 7/],
+    ["online 0\nin 9 2 0\n", script, 2, /frame 9; the script's go up to 3.*another script/],
+    ["online 0\nload 0 1\n", script, 2, /process 1; the script's go up to 0/],
+    ["online 00\n", "", 1, /is no entry/],
+    ["fill 0 seg 256\n", "", 1, /number 256/],
+    ["do 0.0 0 - word 8\n", "", 1, /is no entry/],
+    [listing, "machine 9 4 12 1 1 1\n", 0, /1 to 8 processors/],
+    [listing, "machine 1 400000000 12 1 1 1\n", 0, /4 to 1024 frames/],
+    [`${script}book\nonline 0\nend\n`, "", script.split("\n").length + 2, /is no entry/],
+  ];
+  for (const [text, its, line, why] of cases) {
+    const { fault } = multics.openListing(text, its);
+    assert.ok(fault, text);
+    assert.equal(fault.line, line, `${text}: ${fault.why}`);
+    assert.match(`${fault.why} ${fault.advice}`, why);
+  }
+  const other = multics.openListing(listing, script.replace(/^quota .*$/m, "quota 77"));
+  assert.equal(other.fault, null);
+  assert.equal(multics.differsAtEnd(other), true);
+  assert.equal(multics.differsAtEnd(multics.openListing(listing, script)), false);
+}
+
+/** Each entry leads to the one that it comes from. */
+function causesAreFound() {
+  const run = multics.openListing(read("labs/3-revocation/access.listing"), read("labs/3-revocation/access.script"));
+  const from = (text, last = false) => {
+    let at = multics.find(run, 0, text);
+    for (let next = at; last && next >= 0; next = multics.find(run, next + 1, text)) at = next;
+    const cause = multics.causeOf(run, at);
+    return cause < 0 ? "" : multics.lineOf(run, cause);
+  };
+  assert.equal(from("do 2.2 1 - noaccess"), "do 1.3 0 - done");
+  assert.equal(from("do 1.4"), "do 1.1 0 - done");
+  assert.equal(from("clear 1 seg 2"), "signal 0 seg 2");
+  assert.equal(from("gone seg 2 0"), "cut 2 0");
+  assert.equal(from("do 2.0"), "do 0.0 0 - made 2");
+  assert.equal(from("do 2.2"), "");
+  const life = multics.openListing(read("labs/1-page/life.listing"), read("labs/1-page/life.script"));
+  const back = multics.find(life, 0, "in 1 2 0");
+  assert.equal(multics.lineOf(life, multics.causeOf(life, back)), "take 0");
+}
+
+/** A text is found anywhere in an entry, forth and back, round the ends. */
+function textsAreFound() {
+  const run = multics.openListing(read("labs/3-revocation/access.listing"), read("labs/3-revocation/access.script"));
+  const at = (from, text, forth) => multics.lineOf(run, multics.search(run, from, text, forth));
+  assert.equal(at(-1, "noaccess"), "do 2.2 1 - noaccess");
+  assert.equal(at(multics.search(run, -1, "noaccess"), "noaccess"), "do 2.3 1 - noaccess");
+  assert.equal(at(run.count - 1, "online"), "online 0");
+  assert.equal(at(0, "gone page", false), "gone page 0");
+  assert.equal(multics.search(run, 0, "quota"), -1);
+  assert.equal(multics.lineOf(run, multics.nextAnswer(run, 2, 2)), "do 2.0 1 - known 0");
+}
+
+/** The clock's hand and marks go as the lab has them; a pager with another rule has none. */
+function clockIsShown() {
+  const run = multics.openListing(read("labs/1-page/clock.listing"), read("labs/1-page/clock.script"));
+  const after = (text) => multics.stateAfter(run, multics.find(run, 0, text) + 1).clock;
+  assert.deepEqual(after("take 0"), { hand: 1, marks: [false, false, false, false] });
+  assert.notEqual(multics.stateAfter(run, run.count).clock, null);
+  const fifo = multics.openListing(read("labs/7-pager/walk.fifo.book"), read("labs/7-pager/walk.script"));
+  assert.equal(fifo.fault, null);
 }
 
 /** What is shown as access is taken away: who holds what up to the cut, after the clear, and once it is gone. */
@@ -121,7 +198,7 @@ function longListingIsQuick() {
   const opened = taken(() => { run = multics.openListing(text, ""); });
   assert.equal(run.count, 1000005);
   const ended = taken(() => multics.stateAfter(run, run.count));
-  const inside = taken(() => multics.framesBetween(run, 500000, 500150));
+  const inside = taken(() => multics.statesBetween(run, 500000, 500150));
   console.log(`viewer: a million entries: opened in ${opened} ms, at the end in ${ended}, in the middle in ${inside}`);
   assert.ok(opened < 3000 && ended < 15000 && inside < 500);
 }
@@ -139,7 +216,7 @@ function backIsAsForth() {
 /** An element of no browser: it keeps its text and its children. */
 class Element {
   constructor(tag) {
-    Object.assign(this, { tagName: tag, children: [], own: "", width: 1200, height: 0, files: [], value: "" });
+    Object.assign(this, { tagName: tag, children: [], own: "", width: 1200, height: 0, files: [], value: "", max: 0 });
   }
   set textContent(text) {
     this.own = String(text);
@@ -159,6 +236,7 @@ class Element {
 /** A document of no browser, with the elements of the page. */
 function documentOf() {
   const ids = new Map([...html.matchAll(/id="([a-z-]+)"/g)].map((it) => [it[1], new Element("div")]));
+  ids.get("samples").textContent = scriptOf("samples");
   return { getElementById: (id) => ids.get(id), createElement: (tag) => new Element(tag) };
 }
 
@@ -167,6 +245,7 @@ function pageDraws() {
   globalThis.document = documentOf();
   vm.runInThisContext(scriptOf("page"), { filename: "page" });
   const text = (id) => document.getElementById(id).textContent;
+  assert.match(text("entries"), /online 0/, "a run of the labs is there as the page opens");
   const listing = read("labs/3-revocation/access.listing"), script = read("labs/3-revocation/access.script");
   globalThis.page.open(listing, script);
   assert.equal(text("meaning"), "Nothing has happened yet.");
@@ -179,15 +258,38 @@ function pageDraws() {
   assert.match(text("meaning"), /processor 1, command 2 of process 2 \(Jones\), await 0 2 7 5000,/);
   document.getElementById("back").onclick();
   assert.match(text("meaning"), /^Descriptor 0 of process 2/);
-  document.getElementById("wanted").value = "gone seg 2";
+  document.getElementById("wanted").value = "seg 2 0";
   document.getElementById("find").onclick();
   assert.match(text("meaning"), /^Descriptor 0 of process 2 \(Jones\) is no more/);
+  document.getElementById("find").onclick();
+  assert.match(text("found"), /past the end/);
+  document.getElementById("wanted").value = "nowhere";
+  document.getElementById("find").onclick();
+  assert.match(text("found"), /isn't found/);
+  document.getElementById("because").onclick();
+  assert.match(text("meaning"), /^Descriptor 0 of process 2 \(Jones\) is on its way out/);
+  assert.match(text("cause"), /gone seg 2 0/);
+  const press = (key) => document.onkeydown({ key, target: { tagName: "BODY" }, preventDefault() {} });
+  press("Home");
+  assert.equal(text("meaning"), "Nothing has happened yet.");
+  press("c");
+  assert.match(text("meaning"), /command 0 of process 0/);
+  press("End");
+  assert.match(text("differs"), /^$/);
+  document.getElementById("filter").value = "2";
+  document.getElementById("filter").onchange();
+  assert.match(text("entries"), /do 2[.]3/);
+  assert.doesNotMatch(text("entries"), /do 1[.]/);
+  assert.match(globalThis.page.under(60, 20).text, /^after entry 0, frame 0: free/);
+  for (const option of JSON.parse(scriptOf("samples"))) globalThis.page.openSample(option.name);
+  globalThis.page.open(listing, read("labs/8-full-volume/grows.script"));
   assert.ok(document.getElementById("picture").drawn > 50);
   globalThis.page.open("", "");
-  assert.equal(text("said"), "There is no entry in this listing.");
+  assert.equal(text("said"), "There is no text.");
 }
 
-const TESTS = [accountsAreTheSummary, revocationIsShown, framesAreShown, movesAreCounted, longListingIsQuick, backIsAsForth, pageDraws];
+const TESTS = [accountsAreTheSummary, othersAreRefused, revocationIsShown, causesAreFound, textsAreFound, framesAreShown,
+  clockIsShown, movesAreCounted, longListingIsQuick, backIsAsForth, pageDraws];
 for (const test of TESTS) {
   test();
   console.log(`viewer: ${test.name}: ok`);
