@@ -1,8 +1,8 @@
 #!/usr/bin/env python3
 """pager.py < SCRIPT: a small pager, which prints the listing of a run. One thing is missing: `choose`.
 
-It runs scripts with one processor and one process, which makes segments right below the root, makes them known, and
-reads and writes their words. It has no drive that fails, and never makes a segment inactive.
+It runs scripts with one processor and one process, which makes segments right below the root, makes them known, reads
+and writes their words, and asks for their status. It has no drive that fails, and never makes a segment inactive.
 """
 import sys
 
@@ -119,6 +119,15 @@ class Pager:
             self.known.append(segment)
         return self.answer(None, f"known {self.known.index(segment)}")
 
+    def status(self, name):
+        """What a segment is like, or the root."""
+        if name == ">":
+            return self.answer(None, f"dir 1 quota {self.quota} used {self.stored()}")
+        if name not in self.names:
+            return self.answer(None, "nopath")
+        it = self.names[name]
+        return self.answer(None, f"seg {it.uid} length {it.pages} stored {len(it.stored)}")
+
     def refer(self, number, offset, word):
         """Reads a word, or writes one where it is given."""
         if number >= len(self.known):
@@ -208,6 +217,8 @@ def run(script, kind):
             pager.refer(int(fields[0]), int(fields[1]), None)
         elif word == "write":
             pager.refer(int(fields[0]), int(fields[1]), int(fields[2], 8))
+        elif word == "status":
+            pager.status(fields[0])
         elif word == "end":
             pager.end()
         else:
