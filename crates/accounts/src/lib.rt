@@ -4,8 +4,8 @@
 //! The tree and its quota cells always fit one another, so each used count is the count from scratch over the stored
 //! pages. Contracts speak of the nodes with their quotas, and of no cell.
 //!
-//! Costs are those of the tree and of its cells: a look-up halves a list of uids, `walk` makes one for each name, and
-//! what charges or moves quota goes up once from a node, by at most 9 directories. None but `new` takes memory.
+//! Costs are those of the tree and of its cells: a look-up by uid reads a table, `walk` makes one look-up by name for each
+//! name, and what charges or moves quota goes up once from a node, by at most 9 directories. None but `new` takes memory.
 #![tactic(auto)]
 
 ghost use Rattle.std.specs.Prelude.{◌≡◌, ◌≢◌, ◌<◌, ◌≤◌, ◌+◌, ◌-◌, ℕ, ◌↔◌, not, is_some, true, false, List};
@@ -112,7 +112,18 @@ impl Accounts {
         ensures answer { result ≡ path_answer (walk_in self.now.nodes path.now) }
         ensures there { IfOk result (λ uid. is_some (node_in self.now.nodes uid) ≡ true) }
     {
-        self.tree.walk(path)
+        self.walk_down(path.names())
+    }
+
+    /// The uid of the node that a path of these names leads to, from the root down.
+    ///
+    /// # Errors
+    /// Those of `walk`.
+    pub fn walk_down(&self, names: &[Name]) -> Result<u32, PathFault>
+        ensures answer { result ≡ path_answer (walk_in self.now.nodes names.now) }
+        ensures there { IfOk result (λ uid. is_some (node_in self.now.nodes uid) ≡ true) }
+    {
+        self.tree.walk(names)
     }
 
     /// The directories from the root down to a node, and the node.

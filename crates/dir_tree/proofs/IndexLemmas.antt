@@ -38,6 +38,12 @@ pub not_itself : (x y : Key) → x ≡ y → key_cmp x y ≢ Less
 not_itself x y same is = (let tied : key_cmp x x ≡ Equal = tied_itself key_total x in
     let less : key_cmp x x ≡ Less = subst (λ (k : Key). key_cmp x k ≡ Less) (sym same) is in cc)
 
+-- nor after itself
+pub not_after : (x y : Key) → x ≡ y → key_cmp x y ≢ Greater
+not_after x y same is = (let tied : key_cmp x x ≡ Equal = tied_itself key_total x in
+    let more : key_cmp x x ≡ Greater = subst (λ (k : Key). key_cmp x k ≡ Greater) (sym same) is in
+    let clash : Equal ≡ Greater = sym tied ∙ more in cc)
+
 pub less_through : (x y z : Key) → key_cmp x y ≡ Less → key_cmp y z ≡ Less → key_cmp x z ≡ Less
 less_through = key_total.trans
 
@@ -59,7 +65,7 @@ then_tied Equal p e = (refl, e)
 then_tied Greater p e = cc
 
 -- keys that are neither before nor after one another are the same
-tied_same : (x y : Key) → key_cmp x y ≡ Equal → x ≡ y
+pub tied_same : (x y : Key) → key_cmp x y ≡ Equal → x ≡ y
 unfolding key_cmp
 tied_same x y e =
     let both : (ordering_then (nat_cmp (key_hash x) (key_hash y)) (option_cmp nat_cmp x.0 y.0) ≡ Equal)

@@ -1,5 +1,7 @@
 -- The index of branches by superior and name.
-use Rattle.std.specs.Prelude.{false, ◌≡◌, ℕ, ◌<◌, ◌+◌, ◌*◌, ◌%◌, ◌^◌, List, [], length, fold, Option, None}
+use Rattle.std.specs.Prelude.{false, ◌≡◌, ℕ, ◌<◌, ◌+◌, ◌*◌, ◌/◌, ◌%◌, ◌^◌, List, [], length, drop, fold, Option, None}
+use Rattle.std.specs.Int.{from_be_bytes, w64}
+use Rattle.std.specs.Simd.{first_chunks}
 use Rattle.std.specs.Prelude.{slice_index, slice_index_or}
 use Rattle.std.specs.declared.cmp.Ordering.{Ordering}
 use Rattle.std.specs.declared.cmp.Ordering.TheVariants.{Less}
@@ -34,13 +36,22 @@ Key = Option ℕ × List ℕ
 abbrev pub key_of : Node → Key
 key_of n = (n.superior, n.name)
 
--- a hash with a byte more
+-- a hash with eight bytes more
 abbrev pub mixed : ℕ → ℕ → ℕ
-mixed hash byte = (hash * 2654435761 + byte) % 2 ^ 32
+mixed hash word = (hash + word) * 11400714819323198485 % 2 ^ 64
 
--- the hash of a key: its superior, and then each byte of its name in turn
+-- a hash with these words of a name more, each of eight bytes
+abbrev pub words_mixed : ℕ → List (List ℕ) → ℕ
+words_mixed hash words = fold (λ h word. mixed h (from_be_bytes w64 word)) hash words
+
+-- bytes as a number
+abbrev pub last_word : List ℕ → ℕ
+last_word bytes = fold (λ word byte. (word * 256 + byte) % 2 ^ 64) 0 bytes
+
+-- the hash of a key: its superior, then eight bytes of its name at a time, and what is left of it
 unfoldable pub key_hash : Key → ℕ
-key_hash k = fold mixed (unwrap_or k.0 0) k.1
+key_hash k = mixed (words_mixed (unwrap_or k.0 0) (first_chunks 8 (length k.1 / 8) k.1))
+    (last_word (drop (length k.1 / 8 * 8) k.1)) / 2 ^ 32
 
 -- keys are in the order of their hashes, those of one hash in that of superiors, and then in that of names
 unfoldable pub key_cmp : Key → Key → Ordering

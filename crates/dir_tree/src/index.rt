@@ -7,6 +7,7 @@ ghost use Rattle.std.specs.declared.cmp.Ordering.TheVariants.{Less};
 ghost use Rattle.tree_model.specs.Tree.{is_branch};
 ghost use Rattle.dir_tree.specs.Shape.{shape};
 ghost use Rattle.dir_tree.specs.Index.{node_at, key_of, key_cmp, key_hash, key_at, HasPlace, IsOrdered, AreWithin};
+ghost use Rattle.dir_tree.specs.Index.{mixed, words_mixed, last_word};
 
 use crate::node::Node;
 use crate::{NODES, NoMemory};
@@ -110,19 +111,48 @@ impl Index {
     }
 }
 
-/// An odd number near 2 ^ 32 by the golden ratio, as hashes are multiplied by (Knuth).
-const MULTIPLIER: u32 = 2_654_435_761;
+/// An odd number near 2 ^ 64 by the golden ratio, as hashes are multiplied by (Knuth).
+const MULTIPLIER: u64 = 11_400_714_819_323_198_485;
 
-/// The hash of a superior and a name.
-#[tactic(auto, using(std::proofs::lemmas::List::Sums::fold_more), unfolding(crate::specs::Index::key_hash))]
+/// A hash with eight bytes more.
+fn mixed(hash: u64, word: u64) -> u64
+    ensures { result ≡ mixed hash word }
+{
+    hash.wrapping_add(word).wrapping_mul(MULTIPLIER)
+}
+
+/// A hash with these words of a name more.
+#[tactic(auto, using(std::proofs::lemmas::List::Sums::fold_more))]
+fn words_mixed(hash: u64, words: &[[u8; 8]]) -> u64
+    ensures { result ≡ words_mixed hash words.now }
+{
+    let mut hash = hash;
+    for word in words {
+        hash = mixed(hash, u64::from_be_bytes(*word));
+    }
+    hash
+}
+
+/// The bytes of a name after its last whole word, as a number.
+#[tactic(auto, using(std::proofs::lemmas::List::Sums::fold_more))]
+fn last_word(bytes: &[u8]) -> u64
+    ensures { result ≡ last_word bytes.now }
+{
+    let mut word = 0_u64;
+    for &byte in bytes {
+        word = word.wrapping_mul(256).wrapping_add(u64::from(byte));
+    }
+    word
+}
+
+/// The hash of a superior and a name, which takes eight bytes of the name at a time.
+#[tactic(auto, unfolding(crate::specs::Index::key_hash))]
 fn hash_of(superior: Option<u32>, name: &Name) -> u32
     ensures { result ≡ key_hash (superior, name.now) }
 {
-    let mut hash = superior.unwrap_or(0);
-    for &byte in name.as_str().as_bytes() {
-        hash = hash.wrapping_mul(MULTIPLIER).wrapping_add(u32::from(byte));
-    }
-    hash
+    let (words, rest) = name.as_str().as_bytes().as_chunks::<8>();
+    let hash = words_mixed(u64::from(superior.unwrap_or(0)), words);
+    (mixed(hash, last_word(rest)) >> 32) as u32
 }
 
 /// How a branch stands to a superior and a name, by the hashes of both.
@@ -136,7 +166,7 @@ fn compare(own: u32, node: &Node, hash: u32, superior: Option<u32>, name: &Name)
         .then_with(|| node.name.as_str().cmp(name.as_str()))
 }
 
-/// Where the branches from this superior and name on begin, by the hash of both.
+/// Where the branch with this superior and name stands, or would: where those from it on begin, by the hash of both.
 fn first_at(
     places: &[u16],
     hashes: &[u32],
@@ -166,7 +196,7 @@ fn first_at(
     low
 }
 
-/// The place of the branch with this superior and name: it can only be the first of those from there on.
+/// The place of the branch with this superior and name. It compares names only where two hashes are the same.
 fn find(places: &[u16], hashes: &[u32], nodes: &[Node], superior: u32, name: &Name) -> Option<u16>
     requires order { IsOrdered nodes.now places.now hashes.now }
     requires within { AreWithin nodes.now places.now }
@@ -176,15 +206,19 @@ fn find(places: &[u16], hashes: &[u32], nodes: &[Node], superior: u32, name: &Na
         → is_branch superior name.now (shape (node_at nodes.now place)) ≡ false) }
 {
     let hash = hash_of(Some(superior), name);
-    let at = first_at(places, hashes, nodes, hash, Some(superior), name);
-    if at == places.len() {
-        return None;
+    let mut low = 0;
+    let mut high = places.len();
+    while low < high {
+        let middle = low + (high - low) / 2;
+        let place = places[middle];
+        let own = hashes[place as usize];
+        match compare(own, &nodes[place as usize], hash, Some(superior), name) {
+            Ordering::Less => low = middle + 1,
+            Ordering::Equal => return Some(place),
+            Ordering::Greater => high = middle,
+        }
     }
-    let place = places[at];
-    if !has_key(&nodes[place as usize], superior, name) {
-        return None;
-    }
-    Some(place)
+    None
 }
 
 /// Where the place of a branch stands.
@@ -198,11 +232,4 @@ fn place_at(places: &[u16], hashes: &[u32], nodes: &[Node], place: u16) -> usize
     let node = &nodes[place as usize];
     let hash = hashes[place as usize];
     first_at(places, hashes, nodes, hash, node.superior, &node.name)
-}
-
-/// Whether a node is the branch with this superior and name.
-fn has_key(node: &Node, superior: u32, name: &Name) -> bool
-    ensures { result ≡ is_branch superior name.now (shape node.now) }
-{
-    node.superior == Some(superior) && node.name == *name
 }

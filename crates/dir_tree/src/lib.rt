@@ -32,7 +32,7 @@ use acl::Acl;
 use arrayvec::ArrayVec;
 use entries::{Entries, Entry};
 use index::Index;
-use mnames::{Name, Path};
+use mnames::Name;
 pub use node::{AddFault, NewNode, NoMemory, Node, NotEmpty, PathFault};
 use std::alloc::Global;
 use std::marker::Model;
@@ -172,18 +172,18 @@ impl Tree {
         ROOT
     }
 
-    /// The uid of the node that a path leads to.
+    /// The uid of the node that a path of these names leads to, from the root down.
     ///
     /// # Errors
     /// By the first name from the left that can't be followed: `NoPath` exactly where it's missing in its directory,
     /// `NotDir` exactly where it would be looked up in a segment.
-    pub fn walk(&self, p: &Path) -> Result<u32, PathFault>
-        ensures answer { (quota : ℕ → ℕ) → result ≡ path_answer (walk_in (with_quotas quota self.now.nodes) p.now) }
+    pub fn walk(&self, names: &[Name]) -> Result<u32, PathFault>
+        ensures answer { (quota : ℕ → ℕ) → result ≡ path_answer (walk_in (with_quotas quota self.now.nodes) names.now) }
         ensures there { IfOk result (λ uid. is_in self.now.nodes uid ≡ true) }
     {
         let mut at = self.root();
         let mut dir = true;
-        for name in p.names() {
+        for name in names {
             if !dir {
                 return Err(PathFault::NotDir);
             }

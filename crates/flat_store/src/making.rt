@@ -16,7 +16,7 @@ use acl::Acl;
 use book::Reply;
 use dir_tree::{NewNode, UIDS};
 use mnames::Path;
-use tree_commands::{branch_at, make_reply, node_at, quota_of, volume_of};
+use tree_commands::{branch_at, make_reply, node_below, quota_of, volume_of};
 
 impl Holdings {
     /// What the making of a directory or a segment is answered.
@@ -51,10 +51,10 @@ impl Holdings {
             → takes_effect (make_reply p s path.now volume dir) ≡ true
             → Holds p self.new (after_make s path.now volume dir pages acl) }
     {
-        let Some((above, name)) = path.split_last() else {
+        let Some((above, name)) = path.parts() else {
             return;
         };
-        let (superior, is_directory) = match node_at(&self.accounts, &above) {
+        let (superior, is_directory) = match node_below(&self.accounts, above) {
             Ok(node) => (node.uid, node.dir),
             Err(_) => return,
         };

@@ -15,7 +15,7 @@ use acl::Acl;
 use book::Reply;
 use dir_tree::{AddFault, NewNode};
 use mnames::Path;
-use tree_commands::{make_reply, node_at};
+use tree_commands::{make_reply, node_below};
 use volumes::Drive;
 
 impl<D: Drive> Store<D> {
@@ -109,10 +109,10 @@ impl<D: Drive> Store<D> {
           segs = with_vtocs self.old.segs self.new.segs.pages.volumes.vtocs;
         } }
     {
-        let Some((above, name)) = path.split_last() else {
+        let Some((above, name)) = path.parts() else {
             return Reply::Exists;
         };
-        let superior = match node_at(&self.accounts, &above) {
+        let superior = match node_below(&self.accounts, above) {
             Ok(node) => {
                 if !node.dir {
                     return Reply::NotDir;

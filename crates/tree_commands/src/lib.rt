@@ -10,7 +10,7 @@ mod replies;
 mod rights;
 
 pub use nodes::{pages_of, volume_of};
-pub use paths::{branch_at, directory_at, node_at, segment_at};
+pub use paths::{branch_at, directory_at, node_at, node_below, segment_at};
 pub use replies::{
     acl_reply, delete_reply, make_reply, move_reply, quota_of, status_reply, truncate_reply,
 };

@@ -10,13 +10,12 @@ use crate::nodes::look;
 use accounts::Accounts;
 use book::Reply;
 use dir_tree::{Node, PathFault};
-use mnames::Path;
+use mnames::{Name, Path};
 
 /// The node that a path leads to.
 ///
 /// # Errors
 /// `NoPath` or `NotDir`, by the first name from the left that can't be followed.
-#[tactic(auto, using(crate::proofs::PathLaws::walk_laws))]
 pub fn node_at<'a>(accounts: &'a Accounts, path: &Path) -> Result<&'a Node, Reply>
     ensures ok { IfOk result (λ n. IsFound accounts.now.nodes (node_at accounts.now.nodes path.now) n.now) }
     ensures there { IfOk result (λ n. IsThere accounts.now.nodes n.now) }
@@ -24,7 +23,22 @@ pub fn node_at<'a>(accounts: &'a Accounts, path: &Path) -> Result<&'a Node, Repl
     ensures segment { IfOk result (λ n. has_segment accounts.now.nodes n.now.uid ≡ not n.now.dir) }
     ensures err { IfErr result (λ r. node_at accounts.now.nodes path.now ≡ Err r) }
 {
-    match accounts.walk(path) {
+    node_below(accounts, path.names())
+}
+
+/// The node that a path of these names leads to, from the root down.
+///
+/// # Errors
+/// Those of `node_at`.
+#[tactic(auto, using(crate::proofs::PathLaws::walk_laws))]
+pub fn node_below<'a>(accounts: &'a Accounts, names: &[Name]) -> Result<&'a Node, Reply>
+    ensures ok { IfOk result (λ n. IsFound accounts.now.nodes (node_at accounts.now.nodes names.now) n.now) }
+    ensures there { IfOk result (λ n. IsThere accounts.now.nodes n.now) }
+    ensures directory { IfOk result (λ n. has_directory accounts.now.nodes n.now.uid ≡ n.now.dir) }
+    ensures segment { IfOk result (λ n. has_segment accounts.now.nodes n.now.uid ≡ not n.now.dir) }
+    ensures err { IfErr result (λ r. node_at accounts.now.nodes names.now ≡ Err r) }
+{
+    match accounts.walk_down(names) {
         Ok(uid) => match accounts.node(uid) {
             Some(node) => Ok(node),
             None => Err(Reply::NoPath),

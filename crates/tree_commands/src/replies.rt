@@ -12,7 +12,7 @@ ghost use Rattle.flat_model.specs.Store.{Store as Flat, entries_of};
 ghost use Rattle.tree_commands.specs.Shown.{ShowsTree};
 
 use crate::nodes::look;
-use crate::paths::{branch_at, directory_at, node_at, segment_at};
+use crate::paths::{branch_at, directory_at, node_at, node_below, segment_at};
 use accounts::Accounts;
 use book::Reply;
 use dir_tree::{AddFault, Node};
@@ -43,10 +43,10 @@ pub fn make_reply(accounts: &Accounts, path: &Path, dir: bool, full: bool) -> Re
         → full ≡ nat_le (entries_of p volume) (entries_on s.nodes volume)
         → result ≡ make_reply p s path.now volume dir }
 {
-    let Some((above, name)) = path.split_last() else {
+    let Some((above, name)) = path.parts() else {
         return Reply::Exists;
     };
-    match node_at(accounts, &above) {
+    match node_below(accounts, above) {
         Ok(node) => {
             if node.dir {
                 make_in(accounts, node.uid, name, dir, full)

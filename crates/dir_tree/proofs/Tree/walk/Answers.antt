@@ -8,7 +8,7 @@ use Rattle.dir_tree.proofs.Tree.walk.Goals as goal
 pub returns-then-not-dir-clause-answer : goal.returns-then-not-dir-clause-answer
 returns-then-not-dir-clause-answer c quota =
     let ns = shapes c.args.self.now.nodes in
-    let names : List (List ℕ) = c.names-name-items.result.now in
+    let names : List (List ℕ) = c.args.names.now in
     let isnt : c.loop-name.dir ≡ false = c.if-not-dir.true in
     let step = walk_next ns c.loop-name.at c.loop-name.dir names c.loop-name.name-index c.name-item.result
     c.loop-name-test.true c.name-item.is in
@@ -16,22 +16,22 @@ returns-then-not-dir-clause-answer c quota =
     ∙ ap (λ b. onward (λ n. walk_from ns n.uid n.directory (drop (c.loop-name.name-index + 1) names)) b
     (branch_in ns c.loop-name.at c.name-item.result))
     isnt in
-    sym (ap path_answer (walk_any quota c.args.self.now.nodes c.args.p.now ∙ sym c.loop-name.invariant.so_far ∙ end))
+    sym (ap path_answer (walk_any quota c.args.self.now.nodes c.args.names.now ∙ sym c.loop-name.invariant.so_far ∙ end))
 
 pub returns-in_None-node-clause-answer : goal.returns-in_None-node-clause-answer
 returns-in_None-node-clause-answer c quota =
     let ns = shapes c.args.self.now.nodes in
-    let names : List (List ℕ) = c.names-name-items.result.now in
+    let names : List (List ℕ) = c.args.names.now in
     let go : Term → Walk = λ n. walk_from ns n.uid n.directory (drop (c.loop-name.name-index + 1) names) in
     let step = walk_next ns c.loop-name.at c.loop-name.dir names c.loop-name.name-index c.name-item.result
     c.loop-name-test.true c.name-item.is in
     let end : walk_from ns c.loop-name.at c.loop-name.dir (drop c.loop-name.name-index names) ≡ Missing = step
     ∙ ap (λ b. onward go b (branch_in ns c.loop-name.at c.name-item.result)) c.if-not-dir.false
     ∙ ap (onward go true) c.in_None-node.ensures.none in
-    sym (ap path_answer (walk_any quota c.args.self.now.nodes c.args.p.now ∙ sym c.loop-name.invariant.so_far ∙ end))
+    sym (ap path_answer (walk_any quota c.args.self.now.nodes c.args.names.now ∙ sym c.loop-name.invariant.so_far ∙ end))
 
 pub returns-clause-answer : goal.returns-clause-answer
 returns-clause-answer c quota =
-    sym (ap path_answer (walk_any quota c.args.self.now.nodes c.args.p.now ∙ sym c.loop-name.invariant.so_far
-    ∙ walk_ends (shapes c.args.self.now.nodes) c.loop-name.at c.loop-name.dir c.names-name-items.result.now
+    sym (ap path_answer (walk_any quota c.args.self.now.nodes c.args.names.now ∙ sym c.loop-name.invariant.so_far
+    ∙ walk_ends (shapes c.args.self.now.nodes) c.loop-name.at c.loop-name.dir c.args.names.now
     c.loop-name.name-index c.loop-name-test.false))

@@ -10,7 +10,7 @@ returns-in_default c = λ p s volume h full.
 
 pub returns-then-node : goal.returns-then-node
 returns-then-node c = λ p s volume h full.
-    make_told p s c.args.accounts.now.nodes c.args.path.now c.in-Some.above c.in-Some.name.now volume
+    make_told p s c.args.accounts.now.nodes c.args.path.now c.in-Some.above.now c.in-Some.name.now volume
     c.args.dir h.nodes c.in-Some.ensures.parts
     (as_term (quota_in c.args.accounts.now.nodes) c.in-Ok.node.now) c.make_in.result c.in-Ok.ensures.ok
     c.if-node.true
@@ -18,11 +18,11 @@ returns-then-node c = λ p s volume h full.
 
 pub returns-else-node : goal.returns-else-node
 returns-else-node c = λ p s volume h full.
-    make_in_segment p s c.args.accounts.now.nodes c.args.path.now c.in-Some.above c.in-Some.name.now volume
+    make_in_segment p s c.args.accounts.now.nodes c.args.path.now c.in-Some.above.now c.in-Some.name.now volume
     c.args.dir h.nodes c.in-Some.ensures.parts
     (as_term (quota_in c.args.accounts.now.nodes) c.in-Ok.node.now) c.in-Ok.ensures.ok c.if-node.false
 
 pub returns-in-Err : goal.returns-in-Err
 returns-in-Err c = λ p s volume h full.
-    make_refused p s c.args.accounts.now.nodes c.args.path.now c.in-Some.above c.in-Some.name.now volume
+    make_refused p s c.args.accounts.now.nodes c.args.path.now c.in-Some.above.now c.in-Some.name.now volume
     c.args.dir h.nodes c.in-Some.ensures.parts c.in-Err.reply c.in-Err.ensures.err

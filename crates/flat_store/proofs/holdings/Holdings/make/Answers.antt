@@ -19,36 +19,36 @@ returns-in_default c = λ p s h few effect.
 
 pub returns-in-Err : goal.returns-in-Err
 returns-in-Err c = λ p s h few effect.
-    let found = ap (λ (ns : List Node). node_at ns c.in-Some.above) (tree_inside p s (the_view c.self.inside)
+    let found = ap (λ (ns : List Node). node_at ns c.in-Some.above.now) (tree_inside p s (the_view c.self.inside)
     c.args.self.now c.self.view_is h).nodes
     ∙ c.in-Err.ensures.err in
     subst (λ (x : Store). Holds p c.args.self.now x)
-    (sym (make_refused p s c.args.path.now c.in-Some.above c.in-Some.name.now c.args.volume c.args.dir
+    (sym (make_refused p s c.args.path.now c.in-Some.above.now c.in-Some.name.now c.args.volume c.args.dir
     c.in-Some.ensures.parts c.args.pages c.args.acl
     c.in-Err.field-0 found)) h
 
 pub returns-then-is_directory : goal.returns-then-is_directory
 returns-then-is_directory c = λ p s h few effect.
     let d : Node = as_term (quota_in c.self.inside.accounts.nodes) c.in-Ok.node.now in
-    let found = ap (λ (ns : List Node). node_at ns c.in-Some.above) (tree_inside p s (the_view c.self.inside)
+    let found = ap (λ (ns : List Node). node_at ns c.in-Some.above.now) (tree_inside p s (the_view c.self.inside)
     c.args.self.now c.self.view_is h).nodes
     ∙ c.in-Ok.ensures.ok in
-    let asked = make_asked p s c.args.path.now c.in-Some.above c.in-Some.name.now c.args.volume c.args.dir
+    let asked = make_asked p s c.args.path.now c.in-Some.above.now c.in-Some.name.now c.args.volume c.args.dir
     c.in-Some.ensures.parts d found effect in
     let done = c.add.ensures p s d h refl few
     (subst (λ (name : List ℕ). takes_effect (make_in p s c.args.volume c.args.dir name d) ≡ true)
     (sym c.copied.ensures) asked.1) in
     subst (λ (x : Store). Holds p c.add.new.self x)
     (ap (λ (name : List ℕ). made_in s c.args.volume c.args.dir c.args.pages c.args.acl name d) c.copied.ensures
-    ∙ sym (after_make_is p s c.args.path.now c.in-Some.above c.in-Some.name.now c.args.volume c.args.dir
+    ∙ sym (after_make_is p s c.args.path.now c.in-Some.above.now c.in-Some.name.now c.args.volume c.args.dir
     c.in-Some.ensures.parts c.args.pages c.args.acl
     d found)) done
 
 pub returns-else-is_directory : goal.returns-else-is_directory
 returns-else-is_directory c = λ p s h few effect.
-    let asked = make_asked p s c.args.path.now c.in-Some.above c.in-Some.name.now c.args.volume c.args.dir
+    let asked = make_asked p s c.args.path.now c.in-Some.above.now c.in-Some.name.now c.args.volume c.args.dir
     c.in-Some.ensures.parts (as_term (quota_in c.self.inside.accounts.nodes) c.in-Ok.node.now)
-    (ap (λ (ns : List Node). node_at ns c.in-Some.above) (tree_inside p s (the_view c.self.inside)
+    (ap (λ (ns : List Node). node_at ns c.in-Some.above.now) (tree_inside p s (the_view c.self.inside)
     c.args.self.now c.self.view_is h).nodes
     ∙ c.in-Ok.ensures.ok) effect in
     let clash : true ≡ false = sym asked.0 ∙ c.if-is_directory.false in

@@ -4,7 +4,7 @@ use Rattle.tree_model.specs.Tree.{node_in}
 use Rattle.quota_cells.specs.Cells.{quota_in}
 use Rattle.accounts.specs.Maps.{AccountMaps}
 use Rattle.accounts.proofs.Laws.{walked}
-use Rattle.accounts.proofs.Accounts.walk.Goals as goal
+use Rattle.accounts.proofs.Accounts.walk_down.Goals as goal
 
 pub returns-clause-there : goal.returns-clause-there
 returns-clause-there c =
