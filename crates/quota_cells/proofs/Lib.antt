@@ -9,4 +9,5 @@ pub mod OverLaws
 pub mod PlaceLaws
 pub mod RowLaws
 pub mod ScratchLaws
+pub mod TableLaws
 pub mod TransferLaws

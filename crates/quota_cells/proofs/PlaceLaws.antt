@@ -1,17 +1,14 @@
 -- Rising uids: what stands beside a uid stands at its place; and a walk up a chain that changes the loads that cover.
 use Rattle.std.proofs.Common.{◌≡◌, ◌≢◌, ℕ, suc, zero, ◌<◌, ◌≤◌, true, false, cond, eqb, ◌&&◌, List, [], ◌∷◌, length}
-use Rattle.std.proofs.Common.{Result, Ok, Err, IfErr, refl, sym, ap}
+use Rattle.std.proofs.Common.{refl, sym, ap}
 use Rattle.std.proofs.Common.{subst, ◌∙◌, arith, get_or, set, inl, inr}
-use Rattle.std.specs.List.Sorted.{IsBinarySearchResult}
-use Rattle.std.specs.Ordering.{nat_cmp}
-use Rattle.std.proofs.lemmas.Bool.{cases_Bool, cases_eq, cases_lt, cases_order, eqb-true, eq-eqb, ne_eqb, or_cases}
+use Rattle.std.proofs.lemmas.Bool.{cases_Bool, cases_eq, cases_order, eqb-true, eq-eqb, ne_eqb, or_cases}
 use Rattle.std.proofs.lemmas.Bool.{and_parts, or_right, or_left}
 use Rattle.std.proofs.lemmas.List.{get_or-set_same, get_or-set_other, length-set, ext_get_or}
-use Rattle.std.proofs.lemmas.List.Sorted.{searched}
 use Rattle.tree_model.specs.Trees.{AreUnder}
 use Rattle.quota_cells.specs.Accounts.{look, has, with_value, covers, changed_where}
 use Rattle.quota_cells.specs.Cells.{IsRising}
-use Rattle.quota_cells.specs.Columns.{IsGap, AreThere, IsFalling}
+use Rattle.quota_cells.specs.Columns.{AreThere, IsFalling}
 use Rattle.quota_cells.proofs.ColumnLaws.{look_with, length_changed, get_changed}
 
 rising_tail : (k : ℕ) (ks : List ℕ) → IsRising (k ∷ ks) → IsRising ks
@@ -46,25 +43,6 @@ has_at (k ∷ ks) (suc i) lt = or_right (eqb k (get_or ks i 0)) (has ks (get_or 
 pub absent : (ks : List ℕ) (u : ℕ) → ((i : ℕ) → i < length ks → get_or ks i 0 ≢ u) → has ks u ≡ false
 absent [] u none = refl
 absent (k ∷ ks) u none = rw (ne_eqb k u (none 0 (omega arith))) (absent ks u (λ i lt. none (suc i) (omega arith)))
-
-pub gap_absent : (ks : List ℕ) (u i : ℕ) → IsGap ks u i → has ks u ≡ false
-gap_absent ks u i gap = absent ks u (λ j lt e. elim (cases_lt j i) [
-  | inl before ↦ (let less : get_or ks j 0 < u = gap.below j before in omega arith)
-  | inr after ↦ (let more : u < get_or ks j 0 = gap.above j after lt in omega arith)
-])
-
-not_falling : (ks : List ℕ) → IsRising ks → (i j : ℕ) → i ≤ j → j < length ks → get_or ks i 0 ≤ get_or ks j 0
-not_falling ks up i j le lt = elim (cases_eq i j) [
-  | inl same ↦ rw same (omega arith)
-  | inr other ↦
-      (let less : get_or ks i 0 < get_or ks j 0 = up i j (omega arith) lt in omega arith)
-]
-
-pub gap_found : (ks : List ℕ) (u : ℕ) (r : Result ℕ ℕ) → IsRising ks → IsBinarySearchResult (λ y. nat_cmp y u) ks r
-    → IfErr r (λ i. IsGap ks u i)
-gap_found ks u (Ok i) up found = tt
-gap_found ks u (Err i) up found = (let h = searched ks u (Err i) found (not_falling ks up) in record
-    { within = h.0; below = h.1; above = h.2 })
 
 apart : (ks : List ℕ) → IsRising ks → (i p : ℕ) → i < length ks → p < length ks → i ≢ p → get_or ks i 0 ≢ get_or ks p 0
 apart ks up i p li lp ne e = elim (cases_order i p) [

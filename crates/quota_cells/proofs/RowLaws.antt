@@ -1,17 +1,13 @@
 -- Columns of numbers in the order of uids: one more and one less, and a walk up a chain.
 use Rattle.std.proofs.Common.{◌≡◌, ◌≢◌, ℕ, suc, zero, ◌+◌, ◌<◌, ◌≤◌, true, false, eqb, List, [], ◌∷◌, length}
-use Rattle.std.proofs.Common.{drop, Result, Ok, Err, IfOk, IfErr, is_ok}
-use Rattle.std.proofs.Common.{refl, sym, ap, subst, ◌∙◌, arith, get_or, set, inl, inr}
+use Rattle.std.proofs.Common.{drop, refl, sym, ap, subst, ◌∙◌, arith, get_or, set, inl, inr}
 use Rattle.std.specs.List.{insert, remove}
 use Rattle.std.proofs.lemmas.List.{drop_more}
-use Rattle.std.proofs.lemmas.List.Edits.{length-insert, length-remove}
 use Rattle.std.proofs.lemmas.Bool.{cases_order, eq-eqb, ne_eqb, lt-ltb, le-ltb, or_cases, eqb-true}
-use Rattle.quota_cells.specs.Accounts.{has, with_beside, without_beside, covers, changed_where}
+use Rattle.quota_cells.specs.Accounts.{has, with_value, with_beside, without_beside, covers, changed_where}
 use Rattle.quota_cells.specs.Cells.{CellMaps, IsRising, quota_in, load_in, with_loads}
-use Rattle.quota_cells.specs.Columns.{IsGap, NumberMap, with_uid, without_uid, cell_from}
-use Rattle.quota_cells.specs.Moves.{cell_in}
-use Rattle.quota_cells.proofs.PlaceLaws.{Going, going_here, going_next, going_ends, changed_none, look_at, has_at}
-use Rattle.quota_cells.proofs.PlaceLaws.{gap_absent}
+use Rattle.quota_cells.specs.Columns.{AreThere, IsGap}
+use Rattle.quota_cells.proofs.PlaceLaws.{Going, going_here, going_next, going_ends, changed_none, look_at, set_there}
 
 -- ---- one more, and one less
 
@@ -46,33 +42,6 @@ remove_beside (k ∷ ks) (w ∷ vs) (suc i) len up lt =
     let less : k < get_or ks i 0 = up 0 (suc i) (omega arith) lt in
     rw (ne_eqb k (get_or ks i 0) (λ q. omega arith)) (ap (λ xs. w ∷ xs)
     (remove_beside ks vs i (omega arith) (rising_rest k ks up) (omega arith)))
-
--- values stay as many as uids
-pub grown_beside : (ks vs : List ℕ) (i u v : ℕ) → length vs ≡ length ks → i ≤ length ks
-    → length (insert vs i v) ≡ length (insert ks i u)
-grown_beside ks vs i u v len le =
-    let keys = length-insert ks i u le in
-    let values = length-insert vs i v (rw len le) in omega arith
-
-pub shrunk_beside : (ks vs : List ℕ) (i : ℕ) → length vs ≡ length ks → i < length ks
-    → length (remove vs i) ≡ length (remove ks i)
-shrunk_beside ks vs i len lt =
-    let keys = length-remove ks i lt in
-    let values = length-remove vs i (rw len lt) in omega arith
-
-pub entered : (m : NumberMap) (at u : ℕ) → length m.values ≡ length m.uids → IsGap m.uids u at
-    → record { uids = insert m.uids at u; values = insert m.values at 0 } ≡ with_uid m u
-entered m at u len gap =
-    let uids = insert_beside m.uids m.uids u at u refl gap in
-    let values = insert_beside m.uids m.values u at 0 len gap in
-    λ i. record { uids = uids i; values = values i }
-
-pub left : (m : NumberMap) (at : ℕ) → length m.values ≡ length m.uids → IsRising m.uids → at < length m.uids
-    → record { uids = remove m.uids at; values = remove m.values at } ≡ without_uid m (get_or m.uids at 0)
-left m at len rising lt =
-    let uids = remove_beside m.uids m.uids at refl rising lt in
-    let values = remove_beside m.uids m.values at len rising lt in
-    λ i. record { uids = uids i; values = values i }
 
 -- a uid that isn't there has a gap, and one that is there has a place
 pub gap_of : (ks : List ℕ) (u : ℕ) → IsRising ks → has ks u ≡ false → (i : ℕ) × IsGap ks u i
@@ -130,22 +99,6 @@ place_of (k ∷ ks) u is = elim (or_cases (eqb k u) (has ks u) is) [
   | inr later ↦ (let p = place_of ks u later in (suc p.0, omega (arith, p.1), p.2))
 ]
 
--- ---- what a search tells
-
-pub cell_found : (c : CellMaps) → IsRising c.directories → (at uid : ℕ) → at < length c.directories
-    → get_or c.directories at 0 ≡ uid
-    → cell_from c uid at ≡ cell_in c uid
-cell_found c rising at uid lt is =
-    let quota = sym (look_at c.directories c.quotas at rising lt) ∙ ap (quota_in c) is in
-    let load = sym (look_at c.directories c.loads at rising lt) ∙ ap (load_in c) is in
-    λ i. record { uid = uid; quota = quota i; load = load i }
-
-pub decided : (ks : List ℕ) (uid : ℕ) (r : Result ℕ ℕ) → IfOk r (λ i. i < length ks)
-    → IfOk r (λ i. get_or ks i 0 ≡ uid) → IfErr r (λ i. IsGap ks uid i)
-    → is_ok r ≡ has ks uid
-decided ks uid (Ok i) lt is gap = sym (subst (λ u. has ks u ≡ true) is (has_at ks i lt))
-decided ks uid (Err i) lt is gap = sym (gap_absent ks uid i gap)
-
 -- ---- a walk up a chain
 
 pub record Walks (g : ℕ → ℕ) (P : ℕ → Type 0) (start now : CellMaps) (up left : List ℕ) : Type 0 where
@@ -183,22 +136,63 @@ module _ (g : ℕ → ℕ) (P : ℕ → Type 0) (start now : CellMaps) (rises : 
   quota = ap (λ (c : CellMaps). get_or c.quotas p 0) walks.kept
       ∙ sym (look_at start.directories start.quotas p rising in_start) ∙ ap (quota_in start) at_start
 
-  pub walk_fits : P (get_or now.loads p 0)
+  walk_fits : P (get_or now.loads p 0)
   walk_fits = going_here g P start.directories rising (quota_in start) x (drop (i + 1) up) now.loads target going p
       in_start at_start
 
-  pub walk_ends : get_or now.quotas p 0 ≢ 0 → with_loads now after ≡ with_loads start target
+  walk_ends : get_or now.quotas p 0 ≢ 0 → with_loads now after ≡ with_loads start target
   walk_ends some = ap (λ (c : CellMaps). with_loads c after) walks.kept
       ∙ ap (with_loads start) (going_ends g P start.directories rising (quota_in start) x (drop (i + 1) up) now.loads
       target going p in_start at_start
       (λ e. some (quota ∙ e)))
 
-  pub walk_next : get_or now.quotas p 0 ≡ 0 → Walks g P start (with_loads now after) up (drop (i + 1) up)
+  walk_next : get_or now.quotas p 0 ≡ 0 → Walks g P start (with_loads now after) up (drop (i + 1) up)
   walk_next none = record {
     kept = ap (λ (c : CellMaps). with_loads c after) walks.kept;
     going = going_next g P start.directories rising (quota_in start) x (drop (i + 1) up) now.loads target going p
         in_start at_start (sym quota ∙ none);
   }
+
+-- the directory has a load
+pub walk_there : (g : ℕ → ℕ) (P : ℕ → Type 0) (start now : CellMaps) (up : List ℕ) (i : ℕ) → i < length up
+    → Walks g P start now up (drop i up) → has now.directories (get_or up i 0) ≡ true
+walk_there g P start now up i lt walks =
+    let there = subst (AreThere start.directories) (drop_more up i 0 lt) walks.going.there in
+    subst (λ (m : CellMaps). has m.directories (get_or up i 0) ≡ true) (sym walks.kept) there.0
+
+-- the same by what stands beside it
+module _ (g : ℕ → ℕ) (P : ℕ → Type 0) (start now : CellMaps) (rises : IsRising now.directories) (up : List ℕ)
+    (i : ℕ) (lt : i < length up) (walks : Walks g P start now up (drop i up)) where
+  abbrev y : ℕ
+  y = get_or up i 0
+
+  place : (i : ℕ) × (i < length now.directories) × (get_or now.directories i 0 ≡ y)
+  place = place_of now.directories y (walk_there g P start now up i lt walks)
+
+  spot_quota : quota_in now y ≡ get_or now.quotas place.0 0
+  spot_quota = ap (quota_in now) (sym place.2) ∙ look_at now.directories now.quotas place.0 rises place.1
+
+  spot_load : load_in now y ≡ get_or now.loads place.0 0
+  spot_load = ap (load_in now) (sym place.2) ∙ look_at now.directories now.loads place.0 rises place.1
+
+  spot_set : with_value now.directories now.loads y (g (load_in now y))
+      ≡ set now.loads place.0 (g (get_or now.loads place.0 0))
+  spot_set = ap (λ w. with_value now.directories now.loads y (g w)) spot_load
+      ∙ sym (set_there now.directories now.loads place.0 (g (get_or now.loads place.0 0)) rises place.1 place.2)
+
+  pub load_fits : P (load_in now y)
+  load_fits = subst P (sym spot_load) (walk_fits g P start now rises up i lt walks place.0 place.1 place.2)
+
+  pub load_ends : quota_in now y ≢ 0 → with_loads now (with_value now.directories now.loads y (g (load_in now y)))
+      ≡ with_loads start (changed_where g (covers (quota_in start) up) start.directories start.loads)
+  load_ends some = ap (with_loads now) spot_set
+      ∙ walk_ends g P start now rises up i lt walks place.0 place.1 place.2 (λ e. some (spot_quota ∙ e))
+
+  pub load_next : quota_in now y ≡ 0
+      → Walks g P start (with_loads now (with_value now.directories now.loads y (g (load_in now y)))) up
+      (drop (i + 1) up)
+  load_next none = subst (λ (ws : List ℕ). Walks g P start (with_loads now ws) up (drop (i + 1) up)) (sym spot_set)
+      (walk_next g P start now rises up i lt walks place.0 place.1 place.2 (sym spot_quota ∙ none))
 
 pub walk_done : (g : ℕ → ℕ) (P : ℕ → Type 0) (start now : CellMaps) (up : List ℕ) → Walks g P start now up []
     → now ≡ with_loads start (changed_where g (covers (quota_in start) up) start.directories start.loads)

@@ -1,20 +1,29 @@
 -- Cells in the order of uids as columns of numbers, lists of uids, and quota that goes from one directory to another.
-use Rattle.std.specs.Prelude.{◌≡◌, ◌≢◌, ℕ, ◌+◌, ◌-◌, ◌<◌, ◌≤◌, ◌^◌, true, List, [], ◌∷◌, length, slice_index}
+use Rattle.std.specs.Prelude.{◌≡◌, ◌≢◌, ℕ, ◌+◌, ◌-◌, ◌<◌, ◌≤◌, ◌^◌, Bool, true, if◌then◌else◌, List, [], ◌∷◌}
+use Rattle.std.specs.Prelude.{length, map, slice_index}
 use Rattle.tree_model.specs.Trees.{AreUnder}
-use Rattle.quota_cells.specs.declared.directories.Cell.{Cell}
 use Rattle.quota_cells.specs.declared.directories.Pages.{Pages}
 use Rattle.quota_cells.specs.declared.directories.Pages.TheVariants.{More, Less}
 use Rattle.quota_cells.specs.Accounts.{has, covers, changed_where, with_beside, without_beside}
-use Rattle.quota_cells.specs.Cells.{CellMaps, IsRising, quota_in, load_in, no_cells, with_loads, with_quota}
+use Rattle.quota_cells.specs.Cells.{CellMaps, quota_in, load_in, no_cells, with_loads, with_quota}
 
 -- a number beside each of some uids, in their order
 pub record NumberMap : Type 0 where
   pub uids : List ℕ
   pub values : List ℕ
 
--- the uids rise, and there are as many numbers
-abbrev pub AreInOrder : List ℕ → List ℕ → Type 0
-AreInOrder uids values = IsRising uids × (length values ≡ length uids)
+-- the uids that are there, where a list says it of each from this one on
+unfoldable pub uids_from : ℕ → List Bool → List ℕ
+uids_from u [] = []
+uids_from u (there ∷ more) = if there then u ∷ uids_from (u + 1) more else uids_from (u + 1) more
+
+-- what stands in a table by uid beside these
+abbrev pub beside : List ℕ → List ℕ → List ℕ
+beside table uids = map (λ u. slice_index table u) uids
+
+-- the uids that are there by one table, and the numbers beside them in another
+abbrev pub numbers_of : List Bool → List ℕ → NumberMap
+numbers_of there values = record { uids = uids_from 0 there; values = beside values (uids_from 0 there) }
 
 abbrev pub no_numbers : NumberMap
 no_numbers = record { uids = []; values = [] }
@@ -36,10 +45,6 @@ both_maps d s = record d { segments = s.uids; stored = s.values }
 -- the maps of directories among these
 abbrev pub directories_of : CellMaps → CellMaps
 directories_of c = record no_cells { directories = c.directories; quotas = c.quotas; loads = c.loads }
-
--- the directory's cell that stands there
-abbrev pub cell_from : CellMaps → ℕ → ℕ → Cell
-cell_from c u i = record { uid = u; quota = slice_index c.quotas i; load = slice_index c.loads i }
 
 -- a load once pages are counted on it, and whether they can be
 abbrev pub counted_on : Pages → ℕ → ℕ

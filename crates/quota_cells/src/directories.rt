@@ -1,17 +1,16 @@
-//! The quota cells of directories, in the order of uids, and walks up from a node.
+//! The quota cells of directories, and walks up from a node.
 
-ghost use Rattle.std.specs.Prelude.{◌≡◌, ℕ, ◌<◌, ◌==◌, true, false, length, slice_index, slice_set, IfOk};
+ghost use Rattle.std.specs.Prelude.{◌≡◌, ℕ, ◌<◌, ◌==◌, true, false, IfOk};
 ghost use Rattle.tree_model.specs.Tree.{account};
 ghost use Rattle.quota_cells.specs.Accounts.{has, covers, with_value};
 ghost use Rattle.quota_cells.specs.Cells.{IsRising, quota_in, load_in, root_cell, with_loads, loads_then};
 ghost use Rattle.quota_cells.specs.Cells.{with_quota, given, with_directory, without_directory};
-ghost use Rattle.quota_cells.specs.Columns.{AreThere, IsFalling, CanChange, CanGive, cell_from, directories_of};
+ghost use Rattle.quota_cells.specs.Columns.{AreThere, IsFalling, CanChange, CanGive, directories_of};
 ghost use Rattle.quota_cells.specs.Columns.{HasRoom, counted_on, counted};
 ghost use Rattle.quota_cells.specs.Moves.{cell_in};
 
-use crate::CELLS;
-use crate::numbers::{Numbers, put};
-use dir_tree::ROOT;
+use crate::numbers::Numbers;
+use dir_tree::{ROOT, UIDS};
 use std::alloc::{AllocError, Global};
 use std::marker::Model;
 
@@ -57,7 +56,7 @@ impl Pages {
     }
 }
 
-/// The quota cells of directories, in the order of uids, with room for 4097: their quotas, and the load of each.
+/// The quota cells of directories: their quotas, and the load of each in a table by uid.
 #[derive(Drop)]
 pub(crate) struct Directories {
     quotas: Numbers,
@@ -65,15 +64,15 @@ pub(crate) struct Directories {
 }
 
 impl Model for Directories {
-    ghost use Rattle.std.specs.Prelude.{◌≡◌, ◌≤◌, length, vec_capacity};
+    ghost use Rattle.std.specs.Prelude.{◌≡◌, vec_len};
     ghost use Rattle.quota_cells.specs.Cells.{CellMaps};
-    ghost use Rattle.quota_cells.specs.Columns.{directory_maps};
+    ghost use Rattle.quota_cells.specs.Columns.{beside, directory_maps};
 
     ghost Value = { CellMaps };
 
-    ghost view = { λ d. directory_maps d.quotas d.loads.items };
+    ghost view = { λ d. directory_maps d.quotas (beside d.loads.items d.quotas.uids) };
 
-    ghost invariant = { λ d. (length d.loads.items ≡ length d.quotas.uids) × (4097 ≤ vec_capacity d.loads) };
+    ghost invariant = { λ d. vec_len d.loads ≡ 100003 };
 }
 
 impl Directories {
@@ -82,7 +81,7 @@ impl Directories {
         ensures { IfOk result (λ d. d ≡ root_cell root_quota) }
     {
         let quotas = Numbers::new(alloc)?;
-        let loads = Vec::with_capacity(alloc, CELLS)?;
+        let loads = vec![in alloc; 0; UIDS as usize]?;
         let mut directories = Directories { quotas, loads };
         directories.enter(ROOT);
         directories.set_quota(ROOT, root_quota);
@@ -96,25 +95,17 @@ impl Directories {
         self.quotas.has(uid)
     }
 
-    /// Where the cell of a directory stands, which is there.
-    fn place(&self, uid: u32) -> usize
+    /// The cell of a directory that has one.
+    fn cell_there(&self, uid: u32) -> Cell
         requires { has self.now.directories uid ≡ true }
-        ensures within { result < length self.now.directories }
-        ensures is { slice_index self.now.directories result ≡ uid }
+        ensures cell { result ≡ cell_in self.now uid }
         ensures rising { IsRising self.now.directories }
     {
-        self.quotas.place(uid)
-    }
-
-    /// The cell of a directory that stands there.
-    fn cell_at(&self, uid: u32, at: usize) -> Cell
-        requires { at < length self.now.directories }
-        ensures { result ≡ cell_from self.now uid at }
-    {
+        let place = self.quotas.place(uid);
         Cell {
             uid,
-            quota: self.quotas.at(at),
-            load: self.loads[at],
+            quota: self.quotas.at(uid),
+            load: self.loads[place],
         }
     }
 
@@ -122,14 +113,14 @@ impl Directories {
     pub(crate) fn cell(&self, uid: u32) -> Cell
         ensures { result ≡ cell_in self.now uid }
     {
-        match self.quotas.search(uid) {
-            Ok(at) => self.cell_at(uid, at),
-            Err(_) => Cell {
+        if !self.has(uid) {
+            return Cell {
                 uid,
                 quota: 0,
                 load: 0,
-            },
+            };
         }
+        self.cell_there(uid)
     }
 
     /// The cell of the account of what lies below these directories: of the first that has a quota, else of the root.
@@ -145,12 +136,13 @@ impl Directories {
         self.cell(ROOT)
     }
 
-    /// Sets the load of the cell that stands there.
-    fn set_load(&mut self, at: usize, load: u32)
-        requires { at < length self.old.directories }
-        ensures { self.new ≡ record self.old { loads = slice_set self.old.loads at load } }
+    /// Sets the load of a directory.
+    fn set_load(&mut self, uid: u32, load: u32)
+        requires { has self.old.directories uid ≡ true }
+        ensures { self.new ≡ record self.old { loads = with_value self.old.directories self.old.loads uid load } }
     {
-        self.loads[at] = load;
+        let place = self.quotas.place(uid);
+        self.loads[place] = load;
     }
 
     /// Sets the quota of a directory.
@@ -170,9 +162,8 @@ impl Directories {
     {
         let _ = &self.loads;
         for directory in up {
-            let at = self.place(*directory);
-            let cell = self.cell_at(*directory, at);
-            self.set_load(at, pages.on(cell.load));
+            let cell = self.cell_there(*directory);
+            self.set_load(*directory, pages.on(cell.load));
             if cell.quota > 0 {
                 return;
             }
@@ -221,12 +212,12 @@ impl Directories {
 
     /// Adds an empty cell of a directory.
     pub(crate) fn enter(&mut self, uid: u32)
-        requires room { length self.old.directories < 4097 }
+        requires bound { uid < 100003 }
         requires absent { has self.old.directories uid ≡ false }
         ensures { self.new ≡ with_directory self.old uid }
     {
-        let at = self.quotas.enter(uid);
-        put(&mut self.loads, at, 0);
+        self.quotas.enter(uid);
+        self.loads[uid as usize] = 0;
     }
 
     /// Drops the cell of a directory.
@@ -234,7 +225,6 @@ impl Directories {
         requires { has self.old.directories uid ≡ true }
         ensures { self.new ≡ without_directory self.old uid }
     {
-        let at = self.quotas.leave(uid);
-        self.loads.remove(at);
+        self.quotas.leave(uid);
     }
 }

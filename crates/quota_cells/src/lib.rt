@@ -6,14 +6,14 @@
 //! becomes an account or is one no more, its load is taken from the directories above it up to the nearest account,
 //! or added there, and no page is counted again.
 //!
-//! Costs: `new` takes all memory, once: 12 bytes for the cell of each of 4097 directories, and 8 for the count of each
-//! of 4097 segments, each number in a list of its own. A look-up halves a list of uids: at most 13 looks. To go up is
-//! to read the directories above a node from the tree, at most 9 with one look-up each, and to look their cells up to
-//! the first account. `credit` goes up once from the segment, for one page or for many, and `charge` reads what is
-//! above it once, and looks it up twice: to see whether the account is full, and to count. `move_quota` reads what is
-//! above the directory, and then what is above its superior to see whether the quota may move, where it looks at no
-//! more than three accounts for one that would be above its quota; then it goes up from each of the two directories.
-//! `enter` and `leave` move a part of two lists or of three by one place. None but `new` takes memory.
+//! Costs: `new` takes all memory, once: for each of 100,003 uids 9 bytes as a directory and 5 as a segment, in tables by
+//! uid. A look-up reads a table or two. To go up is to read the directories above a node from the tree, at most 9 with
+//! one look-up each, and to look their cells up to the first account. `credit` goes up once from the segment, for one
+//! page or for many, and `charge` reads what is above it once, and looks it up twice: to see whether the account is
+//! full, and to count. `move_quota` reads what is above the directory, and then what is above its superior to see
+//! whether the quota may move, where it looks at no more than three accounts for one that would be above its quota;
+//! then it goes up from each of the two directories. `enter` and `leave` write two or three places. None but `new`
+//! takes memory.
 #![tactic(auto)]
 
 ghost use Rattle.std.specs.Prelude.{◌≡◌, ◌≢◌, ◌<◌, ◌≤◌, ◌+◌, ◌-◌, ◌^◌, ◌==◌, ◌&&◌, ◌||◌, not, ℕ, Bool, true, false};
@@ -65,9 +65,6 @@ pub enum MoveFault {
         account: u32,
     },
 }
-
-/// The most cells.
-pub const CELLS: usize = 4097;
 
 /// Quota cells (Organick 1972).
 ///
@@ -123,7 +120,7 @@ impl Cells {
     /// Adds an empty cell for a new directory or segment. Where the cells fitted the tree before it was added, they
     /// fit the tree with it.
     pub fn enter(&mut self, uid: u32, dir: bool)
-        requires room { length self.old.directories + length self.old.segments < 4097 }
+        requires bound { uid < 100003 }
         requires absent { has_cell self.old uid ≡ false }
         ensures cells { self.new ≡ entered self.old uid dir }
         ensures enters { Enters self.old self.new uid dir }
@@ -135,7 +132,7 @@ impl Cells {
 
     /// Adds an empty cell of a directory or of a segment.
     fn add_cell(&mut self, uid: u32, dir: bool)
-        requires room { length self.old.directories + length self.old.segments < 4097 }
+        requires bound { uid < 100003 }
         requires absent { has_cell self.old uid ≡ false }
         ensures cells { self.new ≡ entered self.old uid dir }
         ensures table { IsTable self.old }

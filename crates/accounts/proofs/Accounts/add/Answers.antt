@@ -1,4 +1,4 @@
-use Rattle.std.proofs.Common.{◌≡◌, false, subst, sym, ◌∙◌}
+use Rattle.std.proofs.Common.{◌≡◌, false, subst, sym, ap, ◌∙◌, arith}
 use Rattle.dir_tree.specs.Nodes.{is_in}
 use Rattle.quota_cells.specs.Laws.{on_nodes}
 use Rattle.accounts.specs.Maps.{AccountMaps, Gains, accounts_of, branch_of}
@@ -8,6 +8,12 @@ use Rattle.accounts.proofs.Accounts.add.Goals as goal
 pub add_branch-requires-clause-directory : goal.add_branch-requires-clause-directory
 add_branch-requires-clause-directory c = directory_of c.self.inside.tree c.self.inside.cells c.args.self.now
     c.self.view_is c.args.superior c.requires.directory
+
+pub enter-requires-clause-bound : goal.enter-requires-clause-bound
+enter-requires-clause-bound c =
+    let next : c.in_ok-uid.uid ≡ c.self.inside.tree.next = unless_ok _ _ _ (c.in_ok-uid.ensures.answer (λ u. 0)) in
+    let same : c.self.inside.tree.next ≡ c.args.self.now.next = ap (λ (a : AccountMaps). a.next) c.self.view_is in
+    omega (arith, next, same, c.requires.uids)
 
 pub enter-requires-clause-absent : goal.enter-requires-clause-absent
 enter-requires-clause-absent c =

@@ -25,7 +25,7 @@ invariant_of-self c =
 pub invariant_of-self-else-has : goal.invariant_of-self-else-has
 invariant_of-self-else-has c =
     let off : has c.self.inside.directories.directories c.args.uid ≡ false = sym c.has.ensures ∙ c.if-has.false in
-    subst (λ (m : NumberMap). IsTable (both_maps c.self.inside.directories m)) (sym c.leave-else-has.ensures.numbers)
+    subst (λ (m : NumberMap). IsTable (both_maps c.self.inside.directories m)) (sym c.leave-else-has.ensures)
     (rw off at (left_table c.self.inside.directories c.self.inside.segments c.args.self.now c.args.uid c.self.view_is
     c.self.invariant c.requires.cell c.requires.quota
     c.requires.stored))

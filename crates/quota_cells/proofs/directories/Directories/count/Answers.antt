@@ -1,54 +1,58 @@
-use Rattle.std.proofs.Common.{◌≡◌, ℕ, ◌+◌, drop, get_or, set, sym, ap, subst, ◌∙◌, arith}
-use Rattle.std.proofs.lemmas.List.{drop_all, drop_more}
+use Rattle.std.proofs.Common.{◌≡◌, ℕ, ◌+◌, drop, sym, ap, subst, ◌∙◌, arith}
+use Rattle.std.proofs.lemmas.List.{drop_all}
+use Rattle.quota_cells.specs.Accounts.{with_value}
 use Rattle.quota_cells.specs.declared.directories.Cell.{Cell}
 use Rattle.quota_cells.specs.declared.directories.Pages.{Pages}
-use Rattle.quota_cells.specs.Cells.{CellMaps, with_loads}
-use Rattle.quota_cells.specs.Columns.{AreThere, HasRoom, cell_from, counted_on}
-use Rattle.quota_cells.proofs.RowLaws.{Walks, walk_fits, walk_ends, walk_next, walk_done}
+use Rattle.quota_cells.specs.Cells.{CellMaps, load_in, with_loads}
+use Rattle.quota_cells.specs.Columns.{HasRoom, counted_on}
+use Rattle.quota_cells.specs.Moves.{cell_in}
+use Rattle.quota_cells.proofs.RowLaws.{Walks, load_ends, load_fits, load_next, walk_done, walk_there}
 use Rattle.quota_cells.proofs.directories.Directories.count.Goals as goal
 
-pub place-at-requires : goal.place-at-requires
-place-at-requires c =
-    let there = subst (AreThere c.args.self.now.directories)
-    (drop_more c.args.up.now c.loop-directory.directory-index 0 c.loop-directory-test.true)
-    c.loop-directory.invariant.going.there in
-    rw c.loop-directory.invariant.kept there.0
+pub cell_there-cell-requires : goal.cell_there-cell-requires
+cell_there-cell-requires c =
+    walk_there (counted_on c.args.pages) (HasRoom c.args.pages) c.args.self.now c.loop-directory.self c.args.up.now
+    c.loop-directory.directory-index c.loop-directory-test.true c.loop-directory.invariant
 
 pub on-requires : goal.on-requires
 on-requires c =
-    let fits = walk_fits (counted_on c.args.pages) (HasRoom c.args.pages) c.args.self.now c.loop-directory.self
-    c.place-at.ensures.rising c.args.up.now c.loop-directory.directory-index c.loop-directory-test.true
-    c.loop-directory.invariant c.place-at.result c.place-at.ensures.within c.place-at.ensures.is in
-    subst (HasRoom c.args.pages) (sym (ap (λ x. x.load) c.cell_at-cell.ensures)) fits
+    let fits = load_fits (counted_on c.args.pages) (HasRoom c.args.pages) c.args.self.now c.loop-directory.self
+    c.cell_there-cell.ensures.rising c.args.up.now c.loop-directory.directory-index c.loop-directory-test.true
+    c.loop-directory.invariant in
+    subst (HasRoom c.args.pages) (sym (ap (λ x. x.load) c.cell_there-cell.ensures.cell)) fits
+
+pub set_load-requires : goal.set_load-requires
+set_load-requires c =
+    walk_there (counted_on c.args.pages) (HasRoom c.args.pages) c.args.self.now c.loop-directory.self c.args.up.now
+    c.loop-directory.directory-index c.loop-directory-test.true c.loop-directory.invariant
 
 -- the cells once the pages are counted on one load more
-set_one : (now : CellMaps) (pages : Pages) (u at n : ℕ) {new : CellMaps} {cell : Cell} → new
-    ≡ with_loads now (set now.loads at n) → n ≡ counted_on pages cell.load → cell ≡ cell_from now u at
-    → new ≡ with_loads now (set now.loads at (counted_on pages (get_or now.loads at 0)))
-set_one now pages u at n is on read = is ∙ ap (λ k. with_loads now (set now.loads at k))
+set_one : (now : CellMaps) (pages : Pages) (u n : ℕ) {new : CellMaps} {cell : Cell} → new
+    ≡ with_loads now (with_value now.directories now.loads u n) → n ≡ counted_on pages cell.load
+    → cell ≡ cell_in now u
+    → new ≡ with_loads now (with_value now.directories now.loads u (counted_on pages (load_in now u)))
+set_one now pages u n is on read = is
+    ∙ ap (λ k. with_loads now (with_value now.directories now.loads u k))
     (on ∙ ap (λ (x : Cell). counted_on pages x.load) read)
 
 pub returns-then-cell-gt0 : goal.returns-then-cell-gt0
 returns-then-cell-gt0 c =
-    let quota = ap (λ x. x.quota) c.cell_at-cell.ensures in
-    set_one c.loop-directory.self c.args.pages _ c.place-at.result _ c.set_load.ensures c.on.ensures
-    c.cell_at-cell.ensures
-    ∙ walk_ends (counted_on c.args.pages) (HasRoom c.args.pages) c.args.self.now c.loop-directory.self
-    c.place-at.ensures.rising c.args.up.now c.loop-directory.directory-index c.loop-directory-test.true
-    c.loop-directory.invariant c.place-at.result c.place-at.ensures.within c.place-at.ensures.is
-    (λ e. omega (arith, c.if-cell-gt0.true, quota, e))
+    let quota = ap (λ x. x.quota) c.cell_there-cell.ensures.cell in
+    set_one c.loop-directory.self c.args.pages _ _ c.set_load.ensures c.on.ensures c.cell_there-cell.ensures.cell
+    ∙ load_ends (counted_on c.args.pages) (HasRoom c.args.pages) c.args.self.now c.loop-directory.self
+    c.cell_there-cell.ensures.rising c.args.up.now c.loop-directory.directory-index c.loop-directory-test.true
+    c.loop-directory.invariant (λ e. omega (arith, c.if-cell-gt0.true, quota, e))
 
 pub loop-directory-preserved : goal.loop-directory-preserved
 loop-directory-preserved c =
-    let quota = ap (λ x. x.quota) c.cell_at-cell.ensures in
+    let quota = ap (λ x. x.quota) c.cell_there-cell.ensures.cell in
     subst (λ (m : CellMaps). Walks (counted_on c.args.pages) (HasRoom c.args.pages) c.args.self.now m
     c.args.up.now (drop (c.loop-directory.directory-index + 1) c.args.up.now))
-    (sym (set_one c.loop-directory.self c.args.pages _ c.place-at.result _ c.set_load.ensures c.on.ensures
-    c.cell_at-cell.ensures))
-    (walk_next (counted_on c.args.pages) (HasRoom c.args.pages) c.args.self.now c.loop-directory.self
-    c.place-at.ensures.rising c.args.up.now c.loop-directory.directory-index c.loop-directory-test.true
-    c.loop-directory.invariant c.place-at.result c.place-at.ensures.within c.place-at.ensures.is
-    (omega (arith, c.if-cell-gt0.false, quota)))
+    (sym (set_one c.loop-directory.self c.args.pages _ _ c.set_load.ensures c.on.ensures
+    c.cell_there-cell.ensures.cell))
+    (load_next (counted_on c.args.pages) (HasRoom c.args.pages) c.args.self.now c.loop-directory.self
+    c.cell_there-cell.ensures.rising c.args.up.now c.loop-directory.directory-index c.loop-directory-test.true
+    c.loop-directory.invariant (omega (arith, c.if-cell-gt0.false, quota)))
 
 pub returns : goal.returns
 returns c =

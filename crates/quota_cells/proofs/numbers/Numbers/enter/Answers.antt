@@ -1,39 +1,18 @@
-use Rattle.std.proofs.Common.{◌≡◌, true, sym, ap, subst, ◌∙◌, arith}
-use Rattle.std.proofs.lemmas.Bool.{both_ways}
-use Rattle.quota_cells.specs.Accounts.{has}
-use Rattle.quota_cells.specs.Cells.{IsRising}
-use Rattle.quota_cells.specs.Columns.{IsGap, NumberMap, with_uid}
-use Rattle.quota_cells.proofs.PlaceLaws.{has_at}
-use Rattle.quota_cells.proofs.EditLaws.{rising_insert}
-use Rattle.quota_cells.proofs.RowLaws.{entered, grown_beside}
+use Rattle.std.proofs.Common.{arith}
+use Rattle.quota_cells.proofs.TableLaws.{now_rises, number_entered}
 use Rattle.quota_cells.proofs.numbers.Numbers.enter.Goals as goal
 
-pub unreachable-requires : goal.unreachable-requires
-unreachable-requires c = both_ways _ c.requires.absent
-    (subst (λ u. has c.args.self.now.uids u ≡ true) c.in_default.ensures.is
-    (has_at c.args.self.now.uids c.in_default.field-0 c.in_default.ensures.found))
+pub index_mut-requires : goal.index_mut-requires
+index_mut-requires c = omega (arith, c.requires.bound, c.self.invariant.0, c.self.inside.there.ok.0)
 
-gap_inside : (c : goal.After-put-2) → IsGap c.self.inside.uids.items c.args.uid c.in-Err.at
-gap_inside c = subst (λ (m : NumberMap). IsGap m.uids c.args.uid c.in-Err.at) (sym c.self.view_is)
-    c.in-Err.ensures.gap
-
-pub invariant_of-self : goal.invariant_of-self
-invariant_of-self c =
-    let order = c.self.invariant.0 in
-    let gap = gap_inside c in (
-      (
-        subst IsRising (sym c.put.ensures.items) (rising_insert c.self.inside.uids.items c.args.uid c.in-Err.at order.0
-            gap),
-        rw (c.put.ensures.items, c.put-2.ensures.items) (grown_beside c.self.inside.uids.items
-            c.self.inside.values.items c.in-Err.at c.args.uid 0 order.1 gap.within),
-      ),
-      omega (arith, c.self.invariant.1, c.put.ensures.capacity),
-      omega (arith, c.self.invariant.2, c.put-2.ensures.capacity),
-    )
+pub index_mut-requires-2 : goal.index_mut-requires-2
+index_mut-requires-2 c = omega (arith, c.requires.bound, c.self.invariant.1, c.self.inside.values.ok.0)
 
 pub returns-clause-numbers : goal.returns-clause-numbers
 returns-clause-numbers c =
-    (λ i. record { uids = c.put.ensures.items i; values = c.put-2.ensures.items i })
-    ∙ entered (record { uids = c.self.inside.uids.items; values = c.self.inside.values.items }) c.in-Err.at c.args.uid
-    c.self.invariant.0.1 (gap_inside c)
-    ∙ ap (λ (m : NumberMap). with_uid m c.args.uid) c.self.view_is
+    number_entered c.self.inside.there.items c.self.inside.values.items c.args.self.now c.self.view_is c.args.uid
+    c.requires.absent (omega (arith, c.requires.bound, c.self.invariant.0, c.self.inside.there.ok.0))
+    (omega (arith, c.requires.bound, c.self.invariant.1, c.self.inside.values.ok.0))
+
+pub returns-clause-rising : goal.returns-clause-rising
+returns-clause-rising c = now_rises c.self.inside.there.items c.self.inside.values.items c.args.self.now c.self.view_is

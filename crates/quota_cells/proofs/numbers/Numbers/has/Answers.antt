@@ -1,7 +1,22 @@
-use Rattle.std.proofs.Common.{◌∙◌}
-use Rattle.quota_cells.proofs.RowLaws.{decided}
+use Rattle.std.proofs.Common.{false, sym, ap, ◌∙◌, arith}
+use Rattle.std.proofs.lemmas.List.{get_or_read}
+use Rattle.quota_cells.specs.Accounts.{has}
+use Rattle.quota_cells.specs.Columns.{NumberMap}
+use Rattle.quota_cells.proofs.TableLaws.{is_there, past_absent}
 use Rattle.quota_cells.proofs.numbers.Numbers.has.Goals as goal
 
+pub index-requires : goal.index-requires
+index-requires c = omega (arith, c.self.invariant.0, c.self.inside.there.ok.0)
+
+pub returns-then-uid-ge-UIDS : goal.returns-then-uid-ge-UIDS
+returns-then-uid-ge-UIDS c =
+    sym (past_absent c.self.inside.there.items c.args.uid
+    (omega (arith, c.self.invariant.0, c.self.inside.there.ok.0)))
+    ∙ ap (λ (m : NumberMap). has m.uids c.args.uid) c.self.view_is
+
 pub returns : goal.returns
-returns c = c.is_ok.ensures.value ∙ decided c.args.self.now.uids c.args.uid c.search.result c.search.ensures.found
-    c.search.ensures.is c.search.ensures.gap
+returns c =
+    get_or_read c.self.inside.there.items c.args.uid c.index.result.now
+    (omega (arith, c.self.invariant.0, c.self.inside.there.ok.0)) c.index.ensures false
+    ∙ sym (is_there c.self.inside.there.items c.args.uid)
+    ∙ ap (λ (m : NumberMap). has m.uids c.args.uid) c.self.view_is

@@ -1,6 +1,14 @@
-use Rattle.std.proofs.lemmas.Bool.{both_ways}
-use Rattle.quota_cells.proofs.PlaceLaws.{gap_absent}
+use Rattle.std.proofs.Common.{◌<◌, length, arith}
+use Rattle.quota_cells.proofs.TableLaws.{now_rises, there_now, there_within}
 use Rattle.quota_cells.proofs.numbers.Numbers.place.Goals as goal
 
-pub unreachable-requires : goal.unreachable-requires
-unreachable-requires c = both_ways _ (gap_absent c.args.self.now.uids c.args.uid _ c.in-Err.ensures.gap) c.requires
+pub returns-clause-within : goal.returns-clause-within
+returns-clause-within c =
+    let within : c.args.uid < length c.self.inside.there.items =
+    there_within c.self.inside.there.items c.args.uid
+    (there_now c.self.inside.there.items c.self.inside.values.items c.args.self.now c.self.view_is c.args.uid
+    c.requires) in
+    omega (arith, within, c.self.invariant.0, c.self.inside.there.ok.0)
+
+pub returns-clause-rising : goal.returns-clause-rising
+returns-clause-rising c = now_rises c.self.inside.there.items c.self.inside.values.items c.args.self.now c.self.view_is
