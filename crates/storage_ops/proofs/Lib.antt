@@ -1,9 +1,11 @@
 pub mod Alike
+pub mod ByDescriptor
 pub mod ChainDown
 pub mod Changed
 pub mod CutExactly
 pub mod Dropped
 pub mod Entries
+pub mod FoundLaws
 pub mod Fresh
 pub mod Held
 pub mod Homes
@@ -23,6 +25,7 @@ pub mod PageRoom
 pub mod PageWords
 pub mod Paged
 pub mod PagesLess
+pub mod PathRefusals
 pub mod Refusals
 pub mod Rehomed
 pub mod Removed

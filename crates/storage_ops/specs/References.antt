@@ -2,6 +2,7 @@
 -- Clingen and Daley 1972; quota and records are those of Organick 1972).
 use Rattle.std.specs.Prelude.{ℕ, ◌*◌, ◌/◌, Bool, true, false, not, ◌&&◌, ◌==◌, nat_le, if◌then◌else◌, List}
 use Rattle.std.specs.Prelude.{Option, Some, None, is_none, Result, Ok, Err}
+use Rattle.mnames.specs.declared.modes.Mode.{Mode}
 use Rattle.mnames.specs.declared.principals.Who.{Who}
 use Rattle.script.specs.Plans.{Plan}
 use Rattle.script.specs.declared.commands.RefKind.{RefKind}
@@ -48,13 +49,17 @@ room_refusal p s k r = only is_of_room (reply_to_reference p s k r)
 
 -- ---- by the tables
 
--- noaccess where the access control list of a segment doesn't permit a reference to it; length where the offset is at
--- or past its end
-abbrev pub refusal_in : Who → Reference → Node → Option Reply
-refusal_in who r n =
-    if not (permits (access_of who n.rows) r.kind) then Some reply.NoAccess
-    else if nat_le (1024 * n.pages) r.offset then Some reply.Length
+-- noaccess where a mode of access to a segment of so many pages doesn't permit a reference to it; length where the
+-- offset is at or past its end
+abbrev pub refusal_by : Mode → ℕ → Reference → Option Reply
+refusal_by mode pages r =
+    if not (permits mode r.kind) then Some reply.NoAccess
+    else if nat_le (1024 * pages) r.offset then Some reply.Length
     else None
+
+-- so by the access control list of a segment, and its length
+abbrev pub refusal_in : Who → Reference → Node → Option Reply
+refusal_in who r n = refusal_by (access_of who n.rows) n.pages r
 
 abbrev pub unless : Option Reply → Node → Result Node Reply
 unless None n = Ok n

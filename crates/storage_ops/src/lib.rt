@@ -9,7 +9,7 @@
 //! seen at rest meanwhile: without the home that the move has taken. Calls that change homes, file maps or the words of
 //! page tables, and those that look at what is stored or how full a volume is, ask that no segment moves (`still`).
 //!
-//! Costs: a path is walked by a look-up for each name, and a uid is found by halving. No call walks all branches,
+//! Costs: a path is walked by a look-up for each name, and a uid is found in a table. No call walks all branches,
 //! records, descriptors or active segments. None but `new` takes memory.
 #![tactic(auto)]
 
@@ -18,6 +18,7 @@ mod commands;
 mod connecting;
 mod cutting;
 mod deleting;
+mod finding;
 mod making;
 mod moving;
 mod naming;

@@ -1,6 +1,6 @@
 //! What refuses a reference to a word of a segment.
 
-ghost use Rattle.std.specs.Prelude.{◌≡◌, ◌<◌, ◌*◌, ℕ, List, IfOk, IfErr, length, true, Some, None};
+ghost use Rattle.std.specs.Prelude.{◌≡◌, ◌<◌, ◌*◌, ℕ, List, IfOk, IfErr, IfSome, length, true, Some, None};
 ghost use Rattle.tree_model.specs.Tree.{quota_in};
 ghost use Rattle.tree_model.specs.Trees.{has_segment};
 ghost use Rattle.dir_tree.specs.Nodes.{as_term};
@@ -8,14 +8,15 @@ ghost use Rattle.accounts.specs.Maps.{Counts};
 ghost use Rattle.script.specs.Plans.{Plan};
 ghost use Rattle.flat_model.specs.References.{reply_to_reference};
 ghost use Rattle.flat_model.specs.Store.{Store as Flat};
-ghost use Rattle.storage_ops.specs.References.{brings_word, is_out_of_room, outside_by, outside_refusal, refusal_in};
-ghost use Rattle.storage_ops.specs.References.{room_by, room_in, room_refusal, target, want_of_room};
+ghost use Rattle.storage_ops.specs.References.{brings_word, is_out_of_room, outside_by, outside_refusal, refusal_by};
+ghost use Rattle.storage_ops.specs.References.{refusal_in, room_by, room_in, room_refusal, target, want_of_room};
 ghost use Rattle.storage_ops.specs.Shown.{IsFound, IsThere, Shows, is_filed, is_there, refusal};
 
 use crate::store::{Store, look, volumes_at_rest};
 use book::Reply;
+use descriptor_seg::Sdw;
 use dir_tree::Node;
-use mnames::Who;
+use mnames::{Mode, Who};
 use mword::{Page, Word};
 use script::{RefKind, Reference};
 use volumes::Drive;
@@ -27,17 +28,27 @@ fn brings_word(kind: &RefKind) -> bool
     kind.alters() && kind.new_word(Word::ZERO) != Word::ZERO
 }
 
-/// Why the access control list of a segment, or its length, refuses a reference.
-fn refusal_in(node: &Node, who: &Who, reference: &Reference) -> Option<Reply>
-    ensures { (quota : ℕ → ℕ) → result ≡ refusal_in who.now reference.now (as_term quota node.now) }
+/// How many segment numbers a process has.
+const NUMBERS: u32 = 256;
+
+/// Why a mode of access to a segment of so many pages refuses a reference.
+fn refusal_by(mode: Mode, pages: u32, reference: &Reference) -> Option<Reply>
+    ensures { result ≡ refusal_by mode pages reference.now }
 {
-    if !reference.kind.permitted_by(node.acl.access_of(who)) {
+    if !reference.kind.permitted_by(mode) {
         Some(Reply::NoAccess)
-    } else if reference.offset / Page::WORDS >= node.length {
+    } else if reference.offset / Page::WORDS >= pages {
         Some(Reply::Length)
     } else {
         None
     }
+}
+
+/// Why the access control list of a segment, or its length, refuses a reference.
+fn refusal_in(node: &Node, who: &Who, reference: &Reference) -> Option<Reply>
+    ensures { (quota : ℕ → ℕ) → result ≡ refusal_in who.now reference.now (as_term quota node.now) }
+{
+    refusal_by(node.acl.access_of(who), node.length, reference)
 }
 
 impl<D: Drive> Store<D> {
@@ -122,20 +133,56 @@ impl<D: Drive> Store<D> {
         }
     }
 
+    /// What refuses a reference before its page is looked at, by the access control list of its segment.
+    fn refusal_by_list(&self, process: u32, reference: &Reference) -> Option<Reply>
+        requires { process < length self.now.segs.links.known }
+        ensures { result ≡ outside_by (target self.now process reference.now) }
+    {
+        match self.target(process, reference) {
+            Ok(_) => None,
+            Err(reply) => Some(reply),
+        }
+    }
+
+    /// The mode and the length in the descriptor of a reference's number, if that leads to a segment: they refuse what
+    /// the segment's access control list and its length refuse.
+    fn right_held(&self, process: u32, reference: &Reference) -> Option<(Mode, u32)>
+        requires { process < length self.now.segs.links.known }
+        ensures { IfSome result (λ right. refusal_by right.0 right.1 reference.now
+            ≡ outside_by (target self.now process reference.now)) }
+    {
+        if reference.number >= NUMBERS {
+            return None;
+        }
+        match self.segs().descriptors(process).get(reference.number) {
+            Sdw::Present { mode, pages, .. } => Some((mode, pages)),
+            Sdw::Fault => None,
+        }
+    }
+
+    /// What refuses a reference before its page is looked at.
+    fn refusal_outside(&self, process: u32, reference: &Reference) -> Option<Reply>
+        requires { process < length self.now.segs.links.known }
+        ensures { result ≡ outside_by (target self.now process reference.now) }
+    {
+        match self.right_held(process, reference) {
+            Some((mode, pages)) => refusal_by(mode, pages, reference),
+            None => self.refusal_by_list(process, reference),
+        }
+    }
+
     /// What refuses a reference of a process before its page is looked at: `Unknown` where the number stands for
     /// nothing; `Gone` where its segment isn't in the tree any more; `NoAccess` where the segment's access control list
-    /// doesn't permit it; `Length` where the offset is at or past 1024 times the length in pages. It goes through that
-    /// list alone. (Source: Bensoussan, Clingen and Daley 1972.)
+    /// doesn't permit it; `Length` where the offset is at or past 1024 times the length in pages. It reads the
+    /// descriptor of the number, and goes through that list alone where it leads nowhere. (Source: Bensoussan, Clingen
+    /// and Daley 1972.)
     pub fn outside_refusal(&self, process: u32, reference: &Reference) -> Option<Reply>
         requires { process < length self.now.segs.links.known }
         ensures tables { result ≡ outside_by (target self.now process reference.now) }
         ensures shown { (p : Plan) (s : Flat) → Shows D.pages p s self.now
             → result ≡ outside_refusal p s process reference.now }
     {
-        match self.target(process, reference) {
-            Ok(_) => None,
-            Err(reply) => Some(reply),
-        }
+        self.refusal_outside(process, reference)
     }
 
     /// What refuses that a reference of a process stores a page more, where nothing else refuses it: of one that brings

@@ -35,7 +35,7 @@ fn names_from(vtoc: &Vtoc, entry: u32, from: u32, to: u32) -> bool
 
 impl<D: Drive> Store<D> {
     /// Whether a page of a node is stored whose number is this one or above. It looks at the pages of that node alone.
-    fn stores_from(&self, uid: u32, from: u32) -> bool
+    pub(crate) fn stores_from(&self, uid: u32, from: u32) -> bool
         requires still { self.now.segs.moving ≡ None }
         requires there { is_there self.now.accounts.nodes uid ≡ true }
         ensures answer { (p : Plan) (s : Flat) → Shows D.pages p s self.now

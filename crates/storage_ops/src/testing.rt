@@ -26,7 +26,7 @@ impl<D: Drive> Store<D> {
 
     /// What refuses a command that makes no reference; None for a reference, as for the end.
     #[tactic(auto, using(crate::proofs::Fresh::volume_there))]
-    fn tree_refusal(&self, process: u32, command: &Command) -> Option<Reply>
+    pub(crate) fn tree_refusal(&self, process: u32, command: &Command) -> Option<Reply>
         requires still { self.now.segs.moving ≡ None }
         requires process { process < length self.now.segs.links.known }
         requires ranges { is_command (length self.now.segs.pages.volumes.drives) command.now ≡ true }

@@ -1,0 +1,47 @@
+-- What the descriptor of a number refuses is what the access control list of its segment, and its length, refuse.
+use Rattle.std.proofs.Common.{◌≡◌, ℕ, true, List, Option, Some, None, is_some, refl, sym, ap, ◌∙◌}
+use Rattle.mnames.specs.declared.modes.Mode.{Mode}
+use Rattle.script.specs.declared.commands.Reference.{Reference}
+use Rattle.book.specs.declared.replies.Reply.{Reply}
+use Rattle.tree_model.specs.Access.{access_of}
+use Rattle.tree_model.specs.Tree.{Node, node_in}
+use Rattle.descriptor_seg.specs.declared.Sdw.{Sdw}
+use Rattle.descriptor_seg.specs.declared.Sdw.TheVariants.{Present}
+use Rattle.descriptor_seg.specs.Descriptors.{sdw_at}
+use Rattle.page_control.specs.Plain.{Plain}
+use Rattle.seg_control.specs.Control.{leads, sdws_at}
+use Rattle.seg_control.specs.Kept.{AreLinked}
+use Rattle.storage_ops.specs.References.{outside_by, refusal_by, refusal_in, target, unless}
+use Rattle.storage_ops.specs.Shown.{IsStore, Storage, who_at}
+use Rattle.storage_ops.proofs.Refusals.{target_found}
+
+-- what is there, where something is
+found_in : (ns : List Node) (u : ℕ) → is_some (node_in ns u) ≡ true → (n : Node) × (node_in ns u ≡ Some n)
+found_in ns u there = by (node_in ns u) refl there
+  where
+    by : (o : Option Node) → node_in ns u ≡ o → is_some o ≡ true → (n : Node) × (node_in ns u ≡ Some n)
+    by None e none = cc
+    by (Some n) e some = (n, e)
+
+outside_of : (o : Option Reply) (n : Node) → outside_by (unless o n) ≡ o
+outside_of None n = refl
+outside_of (Some e) n = refl
+
+module _ {D : Type 0} (now : Plain) (t : Storage D)
+    (store : IsStore now t.segs.ast t.segs.links t.accounts t.whos)
+    (linked : AreLinked t.segs.ast.entries t.segs.links) (k : ℕ) (r : Reference) where
+  pub held_refuses : (place pages : ℕ) (mode : Mode)
+      → sdw_at (sdws_at t.segs.links.descriptors k) r.number ≡ Present place mode pages
+      → refusal_by mode pages r ≡ outside_by (target t k r)
+  held_refuses place pages mode word =
+      let known = linked.known k r.number place (ap leads word) in
+      let node = found_in t.accounts.nodes known.uid (store.active.there place known.uid known.active) in
+      let access : Mode = access_of (who_at t.whos k) node.0.rows in
+      let rights : mode ≡ access =
+      store.rights.modes k r.number place pages known.uid mode node.0 word known.active node.1 in
+      let long : pages ≡ node.0.pages =
+      store.rights.lengths k r.number place pages known.uid mode node.0 word known.active node.1 in
+      ap (λ (m : Mode). refusal_by m pages r) rights
+      ∙ (ap (λ (n : ℕ). refusal_by access n r) long
+      ∙ (sym (outside_of (refusal_in (who_at t.whos k) r node.0) node.0)
+      ∙ sym (ap outside_by (target_found t k r known.uid node.0 known.known_as node.1))))

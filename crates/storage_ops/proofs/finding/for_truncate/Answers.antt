@@ -1,0 +1,24 @@
+use Rattle.std.proofs.Common.{ap, ◌∙◌}
+use Rattle.tree_model.specs.Tree.{quota_in}
+use Rattle.dir_tree.specs.Nodes.{as_term}
+use Rattle.flat_model.proofs.TreeReplies.{truncate_refused, truncate_told}
+use Rattle.storage_ops.specs.Shown.{refusal}
+use Rattle.storage_ops.proofs.FoundLaws.{leads_segment}
+use Rattle.storage_ops.proofs.PathRefusals.{refusal_told, segment_refuses}
+use Rattle.storage_ops.proofs.finding.for_truncate.Goals as goal
+
+pub returns-in-Ok-clause-leads : goal.returns-in-Ok-clause-leads
+returns-in-Ok-clause-leads c = leads_segment c.args.accounts.now.nodes c.args.path.now
+    (as_term (quota_in c.args.accounts.now.nodes) c.in-Ok.node.now) c.in-Ok.ensures.ok
+
+pub returns-in-Ok-clause-refusal : goal.returns-in-Ok-clause-refusal
+returns-in-Ok-clause-refusal c = λ s h. ap refusal
+    (truncate_told s c.args.accounts.now.nodes c.args.path.now h.nodes
+    (as_term (quota_in c.args.accounts.now.nodes) c.in-Ok.node.now) c.in-Ok.ensures.ok)
+
+pub returns-in-Err-clause-refusal : goal.returns-in-Err-clause-refusal
+returns-in-Err-clause-refusal c = λ s h.
+    refusal_told c.in-Err.reply
+    (segment_refuses c.args.accounts.now.nodes c.args.path.now c.in-Err.reply c.in-Err.ensures.err)
+    ∙ ap refusal (truncate_refused s c.args.accounts.now.nodes c.args.path.now h.nodes c.in-Err.reply
+    c.in-Err.ensures.err)
