@@ -1,14 +1,17 @@
 //! What a processor does in its next step, by the rules in their order.
 
-ghost use Rattle.std.specs.Prelude.{◌≡◌, ◌<◌, ℕ, length, Some, count_by, IfNone, IsSome};
+ghost use Rattle.std.specs.Prelude.{◌≡◌, ◌<◌, ℕ, length, Some, count_by};
 ghost use Rattle.std.specs.List.{list_any};
-ghost use Rattle.machine_model.specs.Actions.{action_of, by_move, come_to, has_had_its_turn, has_process, is_over};
-ghost use Rattle.machine_model.specs.Actions.{load_or_idle, move_of, own_or_run, run_process, take_or_wait};
-ghost use Rattle.machine_model.specs.Reads.{cpu_at, next_command, process_at, processor_at};
+ghost use Rattle.machine_model.specs.Actions.{action_of, by_move, come_to, go_on_with, has_had_its_turn, has_process};
+ghost use Rattle.machine_model.specs.Actions.{is_over, load_or_idle, move_of, own_or_run, run_process, take_or_wait};
+ghost use Rattle.machine_model.specs.Reads.{cpu_at, cut_of_owner, frames_of_owner, next_command, process_at};
+ghost use Rattle.machine_model.specs.Reads.{processor_at};
 ghost use Rattle.machine_tables.specs.Held.{AreLong, MayChoose};
-ghost use Rattle.machine_tables.specs.Meant.{meant, or_look, rule_of};
+ghost use Rattle.machine_tables.specs.Meant.{meant, rule_of};
+ghost use Rattle.machine_tables.specs.Owned.{owner_by, owner_of};
 
 use crate::action::{Action, Why};
+use crate::owner::Holder;
 use crate::tables::Tables;
 use machine_model::Processor;
 use processor::{Cpu, Move, next_move};
@@ -163,53 +166,69 @@ impl<D: Drive> Tables<D> {
         }
     }
 
-    /// What a processor does that takes part and has nothing of its own to end; `None` exactly where it owns the
-    /// supervisor and is to look.
-    fn own_or_run(&self, c: u32) -> Option<Action>
+    /// What processor `c` does, which owns the supervisor: it goes on with its job, or looks for what the next command of
+    /// its process wants.
+    #[inline(never)]
+    fn own(&self, c: u32, holder: Holder) -> Action
         requires may { MayChoose self.now.state c }
-        ensures looks { IfNone result (IsSome (cpu_at self.now.state.processors c).process) }
-        ensures still { IfNone result (self.now.state.store.moving ≡ None) }
-        ensures rule { or_look self.now.state (process_at self.now.state c) result ≡ own_or_run self.now.state c
+        requires owner { self.now.state.owner ≡ owner_of (Some holder) (frames_of_owner self.now.state.owner)
+            (cut_of_owner self.now.state.owner) }
+        requires here { holder.cpu ≡ c }
+        ensures { meant self.now.state (process_at self.now.state c) result ≡ go_on_with self.now.state
+            (process_at self.now.state c) (owner_by holder (frames_of_owner self.now.state.owner)
+            (cut_of_owner self.now.state.owner)) holder.phase }
+    {
+        if let Some(action) = self.go_on(holder) {
+            return action;
+        }
+        let Some(process) = self.processor(c).cpu.process else {
+            unreachable!();
+        };
+        self.look_for_next(process)
+    }
+
+    /// What a processor does that takes part and has nothing of its own to end.
+    fn own_or_run(&self, c: u32) -> Action
+        requires may { MayChoose self.now.state c }
+        ensures { meant self.now.state (process_at self.now.state c) result ≡ own_or_run self.now.state c
             (processor_at self.now.state.processors c) self.now.state.owner }
     {
         match self.job.holder() {
-            Some(holder) if holder.cpu == c => self.go_on(holder),
-            _ => Some(self.run(c)),
+            Some(holder) if holder.cpu == c => self.own(c, holder),
+            _ => self.run(c),
         }
     }
 
     /// What a processor does while there is work: it takes part, drops what it is to drop, ends its transfer, or goes
     /// on with its process or its job.
-    fn work(&self, c: u32) -> Option<Action>
+    fn work(&self, c: u32) -> Action
         requires may { MayChoose self.now.state c }
-        ensures looks { IfNone result (IsSome (cpu_at self.now.state.processors c).process) }
-        ensures still { IfNone result (self.now.state.store.moving ≡ None) }
-        ensures rule { or_look self.now.state (process_at self.now.state c) result ≡ rule_of self.now.state c
+        ensures { meant self.now.state (process_at self.now.state c) result ≡ rule_of self.now.state c
             (processor_at self.now.state.processors c) }
     {
         let cpu = self.cpu(c);
         if !cpu.online {
-            return Some(Action::Online);
+            return Action::Online;
         }
         match (cpu.due, cpu.transfer) {
-            (Some(what), _) => Some(Action::Clear(what)),
-            (None, Some(transfer)) => Some(Action::EndTransfer(transfer)),
+            (Some(what), _) => Action::Clear(what),
+            (None, Some(transfer)) => Action::EndTransfer(transfer),
             (None, None) => self.own_or_run(c),
         }
     }
 
-    /// What processor `c` does in its next step, by the rules in their order; `None` exactly where it owns the
-    /// supervisor and is to look for what the next command of its process wants. It goes round the processors.
-    pub(crate) fn by_rules(&self, c: u32) -> Option<Action>
+    /// What processor `c` does in its next step, by the rules in their order and by the job of the supervisor's owner.
+    /// It goes round the processors, and up the chain of a segment's superiors. A look for a `delete` or a `truncate`
+    /// goes over the segment's pages, and one for an `end` over the numbers of the process. (Source: Bensoussan,
+    /// Clingen and Daley 1972; Corbató 1968; the steps are own.)
+    pub fn action(&self, c: u32) -> Action
         requires may { MayChoose self.now.state c }
-        ensures looks { IfNone result (IsSome (cpu_at self.now.state.processors c).process) }
-        ensures still { IfNone result (self.now.state.store.moving ≡ None) }
-        ensures rule { or_look self.now.state (process_at self.now.state c) result ≡ action_of self.now.state c }
+        ensures { meant self.now.state (process_at self.now.state c) result ≡ action_of self.now.state c }
     {
         if self.stopped {
-            Some(Action::IsStopped)
+            Action::IsStopped
         } else if self.is_over() {
-            Some(Action::HasEnded)
+            Action::HasEnded
         } else {
             self.work(c)
         }

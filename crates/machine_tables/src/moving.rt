@@ -57,6 +57,7 @@ impl<D: Drive> Tables<D> {
 
     /// What the owner does next that moves a segment: the next page is copied, and after the last one the segment has
     /// its home on the other volume.
+    #[inline(never)]
     pub(crate) fn move_on(&self, mover: Mover) -> Action
         requires active { IsActive self.now.state.store.ast.entries mover.uid }
         requires short { length (table_of self.now.state.store.ast mover.uid) ≤ 256 }

@@ -1,0 +1,13 @@
+use Rattle.std.proofs.Common.{◌∙◌, rules}
+use Rattle.machine_tables.proofs.RuleLaws.{over_rule, stopped_rule, work_rule}
+use Rattle.machine_tables.proofs.tables.Tables.action.Goals as goal
+
+pub returns-then-self : goal.returns-then-self
+returns-then-self g c = stopped_rule c.args.self.now.state c.args.c (search rules)
+
+pub returns-then-is_over : goal.returns-then-is_over
+returns-then-is_over g c = over_rule c.args.self.now.state c.args.c (search rules) (search rules)
+
+pub returns-else-is_over : goal.returns-else-is_over
+returns-else-is_over g c =
+    c.work.ensures ∙ work_rule c.args.self.now.state c.args.c (search rules) (search rules)
