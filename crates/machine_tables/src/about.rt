@@ -1,6 +1,7 @@
 //! What a tree command is about.
 
-ghost use Rattle.std.specs.Prelude.{◌≡◌, ◌<◌, length};
+ghost use Rattle.std.specs.Prelude.{◌≡◌, ◌<◌, length, if◌then◌else◌, Some, None};
+ghost use Rattle.machine_model.specs.Reads.{is_active};
 ghost use Rattle.machine_model.specs.Refusal.{uid_at_path, uid_of_command, uid_of_number};
 
 use crate::tables::Tables;
@@ -17,6 +18,15 @@ impl<D: Drive> Tables<D> {
             Ok(uid) => uid,
             Err(_) => 0,
         }
+    }
+
+    /// The node that a path leads to, if it is active.
+    pub(crate) fn active_at(&self, path: &Path) -> Option<u32>
+        ensures { result ≡ (if is_active self.now.state.store.ast (uid_at_path self.now.state.store path.now)
+            then Some (uid_at_path self.now.state.store path.now) else None) }
+    {
+        let uid = self.uid_at(path);
+        if self.is_active(uid) { Some(uid) } else { None }
     }
 
     /// What a number of a process stands for, and 0 where it stands for nothing.

@@ -162,14 +162,11 @@ impl<D: Drive> Tables<D> {
 
     /// The node that is active no more once the next command of a process takes effect, if one isn't.
     fn goes_inactive(&self, process: u32) -> Option<u32>
-        requires run { process < length self.now.state.runs }
-        requires knows { process < length self.now.state.store.links.known }
+        requires { process < length self.now.state.runs }
         ensures { result ≡ goes_inactive self.now.state.store process (next_command self.now.state process) }
     {
-        let command = self.next_command(process)?;
-        let uid = self.uid_of_command(process, command);
-        match command {
-            Command::Delete { .. } if self.is_active(uid) => Some(uid),
+        match self.next_command(process)? {
+            Command::Delete { path } => self.active_at(path),
             _ => None,
         }
     }

@@ -28,7 +28,7 @@ impl<D: Drive> Tables<D> {
         ensures own { IsHomeOf self.now.state.store.pages.vtocs uid result }
     {
         look(&self.store);
-        self.store.link(uid).home
+        self.store.home(uid)
     }
 
     /// Reads the page of a transfer into its frame; the frame is free where the drive failed.

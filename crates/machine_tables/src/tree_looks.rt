@@ -7,13 +7,14 @@ ghost use Rattle.active_segs.specs.Active.{IsActive};
 ghost use Rattle.page_control.specs.Tied.{is_out};
 ghost use Rattle.seg_control.specs.Control.{word_of};
 ghost use Rattle.storage_ops.specs.Shown.{is_there};
-ghost use Rattle.machine_model.specs.Actions.{Action as Rule, descriptors_taken, first_taken, frame_read_from};
+ghost use Rattle.machine_model.specs.Actions.{Action as Rule, Commit, descriptors_taken, first_taken, frame_read_from};
 ghost use Rattle.machine_model.specs.Actions.{frames_taken, is_empty, look_for_command, look_to_change};
 ghost use Rattle.machine_model.specs.Actions.{look_to_take, take_or_commit, unless_read, what_taken, with_chain};
 ghost use Rattle.machine_model.specs.Actions.{with_cut_page};
 ghost use Rattle.machine_model.specs.Keeps.{IsFaithful};
 ghost use Rattle.machine_model.specs.Reads.{connected_of, flat_of, frames_from, next_command, trailers_in};
 ghost use Rattle.machine_model.specs.Refusal.{refusal_of, uid_of_command};
+ghost use Rattle.machine_model.specs.State.{Storage};
 ghost use Rattle.machine_tables.specs.Held.{MayLook};
 ghost use Rattle.machine_tables.specs.Meant.{meant, unless_first};
 ghost use Rattle.machine_tables.specs.Reading.{AreRead};
@@ -28,6 +29,21 @@ use book::Reply;
 use page_table::Ptw;
 use script::Command;
 use volumes::Drive;
+
+/// Whether a tree command takes effect at once where nothing refuses it, whatever it is about: it wants nothing brought
+/// and nothing out of use.
+fn is_done_at_once(command: &Command) -> bool
+    ensures { result ≡ true → (st : Storage) (k uid : ℕ) → Commit ≡ look_to_change st k uid command.now }
+{
+    match command {
+        Command::MkDir { .. } => true,
+        Command::MkSeg { .. } => true,
+        Command::Initiate { .. } => true,
+        Command::Move { .. } => true,
+        Command::Status { .. } => true,
+        _ => false,
+    }
+}
 
 impl<D: Drive> Tables<D> {
     /// What refuses a tree command of a process, by the flat store after the book.
@@ -193,8 +209,8 @@ impl<D: Drive> Tables<D> {
         self.look_to_take(process, uid, command)
     }
 
-    /// What the owner does for a tree command that nothing refuses.
-    fn look_to_change(&self, process: u32, command: &Command) -> Action
+    /// What the owner does for a tree command that nothing refuses and that may want something brought, or out of use.
+    fn look_to_clear(&self, process: u32, command: &Command) -> Action
         requires looks { MayLook self.now.state }
         requires known { process < length self.now.state.store.links.known }
         requires ranges { is_command (length self.now.state.plan.volumes) command.now ≡ true }
@@ -208,6 +224,23 @@ impl<D: Drive> Tables<D> {
             Command::Truncate { words, .. } => self.look_to_truncate(process, uid, *words, command),
             Command::Length { .. } => self.look_at_length(uid),
             _ => self.look_to_take(process, uid, command),
+        }
+    }
+
+    /// What the owner does for a tree command that nothing refuses. Of one that takes effect at once no path is followed.
+    fn look_to_change(&self, process: u32, command: &Command) -> Action
+        requires looks { MayLook self.now.state }
+        requires known { process < length self.now.state.store.links.known }
+        requires ranges { is_command (length self.now.state.plan.volumes) command.now ≡ true }
+        requires next { next_command self.now.state process ≡ Some command.now }
+        requires stands { refusal_of self.now.state process command.now ≡ None }
+        ensures { meant self.now.state process result ≡ look_to_change self.now.state.store process
+            (uid_of_command self.now.state.store process command.now) command.now }
+    {
+        if is_done_at_once(command) {
+            Action::Commit
+        } else {
+            self.look_to_clear(process, command)
         }
     }
 
