@@ -23,8 +23,10 @@ use Rattle.flat_model.specs.Store.{records_in, records_of}
 use Rattle.bulk_store.specs.AnyDrive.{any_pages, any_places, disk_of}
 use Rattle.bulk_store.specs.declared.any_drive.AnyDrive.{AnyDrive}
 use Rattle.machine_model.specs.Keeps.{is_fault}
+use Rattle.machine_model.specs.Boot.{first_state, first_store}
+use Rattle.machine_tables.specs.Parts.{first_words}
 use Rattle.machine.specs.Turns.{HaveCounted}
-use Rattle.runner.specs.Runs.{Machine}
+use Rattle.runner.specs.Runs.{IsBooted, Machine}
 use Rattle.runner.specs.Drives.{AreTold, IsFresh, TellsFaults, faults_in, is_on, line_of, lines_in, places_in, plan_of}
 
 -- ---- each of a list, at its place
@@ -240,3 +242,16 @@ counted_boot (Ok m) drives none entries same =
     let sum : sum_by faults_in m.drives ≡ 0 = ap (λ (ds : List AnyDrive). sum_by faults_in ds) same ∙ none in
     record { grows = omega arith; drives = omega (arith, told, sum) }
 counted_boot (Err e) drives none entries same = tt
+
+-- a machine that was booted over these drives
+pub booted_by : {E : Type 0} (p : Plan) (r : Result Machine E) (drives : List AnyDrive) → AreTold p drives
+    → IfOk r (λ m. m.state.entries ≡ []) → IfOk r (λ m. m.drives ≡ drives)
+    → IfOk r (λ m. m.state ≡ first_state p (first_store p (first_words p.frames) (map any_pages drives)) m.state.spare
+    (sum_by faults_in drives)) → IfOk r (IsBooted p)
+booted_by p (Ok m) drives told none same state = record {
+  entries = none;
+  state = subst (λ (ds : List AnyDrive). m.state ≡ first_state p (first_store p (first_words p.frames)
+      (map any_pages ds)) m.state.spare (sum_by faults_in ds)) (sym same) state;
+  drives = subst (AreTold p) (sym same) told;
+}
+booted_by p (Err e) drives told none same state = tt

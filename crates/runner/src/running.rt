@@ -5,14 +5,14 @@ ghost use Rattle.machine.specs.Turns.{HaveCounted, KeepsParts};
 ghost use Rattle.bulk_store.specs.AnyDrive.{any_places};
 ghost use Rattle.runner.specs.Drives.{AreTold, faults_in, plan_of};
 ghost use Rattle.runner.specs.Endings.{change, LeavesRun, MayHaveRun, PrintsIfRun, PrintsRun};
-ghost use Rattle.runner.specs.Runs.{IsRun};
+ghost use Rattle.runner.specs.Runs.{IsBooted, IsRun};
 
 use crate::NoMemory;
 use crate::drives::drives_of;
-use crate::ending::end;
+use crate::ending::end_machine;
 use crate::finished::{Finished, Status};
 use crate::printing::{print, without_machine};
-use crate::summing::listing;
+use crate::summing::listing_of_machine;
 use bulk_store::AnyDrive;
 use machine::Machine;
 use script::Script;
@@ -22,8 +22,12 @@ use std::sync::Wait;
 use std::thread::Threads;
 use workers::run_workers;
 
-/// The machine of a script, before its first step.
-fn boot(alloc: Global, script: Script) -> Result<Machine<AnyDrive>, NoMemory>
+/// The machine of a script over the drives of its volumes, before its first step. (Source: own.)
+///
+/// # Errors
+/// `NoMemory` is want of memory.
+pub fn boot_machine(alloc: Global, script: Script) -> Result<Machine<AnyDrive>, NoMemory>
+    ensures booted { IfOk result (IsBooted script) }
     ensures script { IfOk result (λ m. m.state.plan ≡ script) }
     ensures drives { IfOk result (λ m. AreTold script m.drives) }
     ensures counted { IfOk result (λ m. HaveCounted faults_in 0 0 m) }
@@ -39,10 +43,10 @@ fn end_and_print<K: Sink>(alloc: Global, machine: &mut Machine<AnyDrive>, out: &
         (change (K.held out.old) (K.held out.new) (K.faults out.old) (K.faults out.new)) }
     ensures status { MayHaveRun result }
 {
-    if end(machine).is_err() {
+    if end_machine(machine).is_err() {
         return Status::Memory;
     }
-    match listing(alloc, machine) {
+    match listing_of_machine(alloc, machine) {
         Ok(text) => print(out, &text),
         Err(_) => Status::Memory,
     }
@@ -97,7 +101,7 @@ pub(crate) fn run_script<R: Threads + Wait + Sync, K: Sink, G: Gate + Sync>(
     ensures run { IfSome result.machine IsRun }
     ensures booted { IfSome result.machine (λ m. MayHaveRun result.status) }
 {
-    let Ok(machine) = boot(alloc, script) else {
+    let Ok(machine) = boot_machine(alloc, script) else {
         return without_machine(Status::Memory);
     };
     run_machine(rt, alloc, machine, out, gate)

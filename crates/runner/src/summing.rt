@@ -27,8 +27,11 @@ fn uses(alloc: Global, machine: &Machine<AnyDrive>) -> Result<Vec<VolumeUse>, No
     Ok(uses)
 }
 
-/// The accounts and the volumes, as the machine counts them, where no segment moves.
-fn summary(alloc: Global, machine: &Machine<AnyDrive>) -> Result<Summary, NoMemory>
+/// The accounts and the volumes, as the machine counts them, where no segment moves. (Source: own.)
+///
+/// # Errors
+/// `NoMemory` is want of memory.
+pub fn summary_of_machine(alloc: Global, machine: &Machine<AnyDrive>) -> Result<Summary, NoMemory>
     requires { machine.now.state.store.moving ≡ None }
     ensures { IfOk result (λ summary. summary
         ≡ summary_of machine.now.state.plan (store_after machine.now.state.plan machine.now.state.entries)) }
@@ -37,12 +40,15 @@ fn summary(alloc: Global, machine: &Machine<AnyDrive>) -> Result<Summary, NoMemo
     summary_of_counts(alloc, machine.book().script(), machine.accounts(), &uses)
 }
 
-/// The listing of a machine's book, where no segment moves.
-pub(crate) fn listing(alloc: Global, machine: &Machine<AnyDrive>) -> Result<Vec<u8>, NoMemory>
+/// The listing of a machine's book, where no segment moves. (Source: own.)
+///
+/// # Errors
+/// `NoMemory` is want of memory.
+pub fn listing_of_machine(alloc: Global, machine: &Machine<AnyDrive>) -> Result<Vec<u8>, NoMemory>
     requires { machine.now.state.store.moving ≡ None }
     ensures { IfOk result (λ text. text.items ≡ listing_of machine.now.state.plan machine.now.state.entries) }
 {
-    let summary = summary(alloc, machine)?;
+    let summary = summary_of_machine(alloc, machine)?;
     match listing_of_summary(alloc, machine.book(), &summary) {
         Ok(text) => Ok(text),
         Err(_) => Err(NoMemory),

@@ -1,6 +1,7 @@
 use Rattle.std.proofs.Common.{◌≡◌, ◌≤◌, ◌-◌, true}
 use Rattle.bulk_store.specs.AnyDrive.{any_places}
 use Rattle.machine_model.specs.Actions.{is_over}
+use Rattle.machine.specs.Schedules.{Grows}
 use Rattle.machine.specs.Turns.{KeepsParts}
 use Rattle.runner.specs.Drives.{faults_in, plan_of}
 use Rattle.runner.proofs.ending.visit_frames.Given as goal
@@ -11,6 +12,7 @@ invariant-loop-machine l = record {
   over : is_over l.machine.state ≡ true;
   room : 320 ≤ l.machine.state.spare;
   kept : KeepsParts plan_of any_places faults_in l.fn.machine l.machine;
+  grows : Grows l.fn.machine.state.entries l.machine.state.entries;
 }
 
 -- the frames that weren't visited

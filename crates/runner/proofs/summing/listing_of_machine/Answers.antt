@@ -1,6 +1,6 @@
 use Rattle.std.proofs.Common.{◌∙◌}
 use Rattle.runner.proofs.SumLaws.{listed_by}
-use Rattle.runner.proofs.summing.listing.Goals as goal
+use Rattle.runner.proofs.summing.listing_of_machine.Goals as goal
 
 pub returns-in-Ok : goal.returns-in-Ok
 returns-in-Ok c = rw (← c.book.ensures.script, ← c.book.ensures.entries) (c.in-Ok.ensures
