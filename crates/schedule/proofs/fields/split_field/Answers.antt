@@ -1,0 +1,10 @@
+use Rattle.std.proofs.Common.{◌∷◌, ◌∙◌, List, ap, arith, sym, ℕ}
+use Rattle.schedule.proofs.FieldLaws.{field_last, fields_nil}
+use Rattle.schedule.proofs.fields.split_field.Goals as goal
+
+pub returns-clause-some : goal.returns-clause-some
+returns-clause-some c = λ pos.
+    let line = c.skip_spaces-line.result.now in
+    sym c.skip_spaces-line.ensures.fields
+    ∙ field_last line pos (λ k h. c.loop-i.invariant k (omega arith))
+    ∙ ap (λ (t : List (List ℕ)). line ∷ t) (sym fields_nil)
