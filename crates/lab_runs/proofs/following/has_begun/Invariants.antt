@@ -1,0 +1,8 @@
+use Rattle.std.proofs.Common.{◌≡◌, false, take}
+use Rattle.std.specs.List.{list_any}
+use Rattle.lab_runs.specs.Orders.{entry_begins}
+use Rattle.lab_runs.proofs.following.has_begun.Given as goal
+
+-- none of those so far begins so
+abbrev pub invariant-loop-entry : goal.invariant-loop-entry
+invariant-loop-entry l = list_any (entry_begins l.text) (take l.entry-index l.entries) ≡ false

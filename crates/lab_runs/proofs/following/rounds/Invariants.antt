@@ -1,0 +1,6 @@
+use Rattle.std.proofs.Common.{◌≡◌}
+use Rattle.lab_runs.specs.Orders.{rounds}
+use Rattle.lab_runs.proofs.following.rounds.Given as goal
+
+abbrev pub invariant-loop-round : goal.invariant-loop-round
+invariant-loop-round l = l.cpus.items ≡ rounds l.processors l._round

@@ -1,0 +1,9 @@
+use Rattle.std.proofs.Common.{take}
+use Rattle.std.specs.Prelude.{string_bytes}
+use Rattle.listing.proofs.LineLaws.{HasEach}
+use Rattle.lab_runs.specs.Traces.{entry_line}
+use Rattle.lab_runs.proofs.tracing.push_entries.Given as goal
+
+-- the lines of the entries so far
+abbrev pub invariant-loop-entry : goal.invariant-loop-entry
+invariant-loop-entry l = HasEach entry_line (string_bytes l.fn.out) (take l.entry-index l.entries) (string_bytes l.out)
