@@ -1,11 +1,12 @@
-//! Prints what the program `lab` gives on many inputs, in cases that each have a name. `stdin` has the cases, and `stdout`
-//! what each must give.
+//! Prints what the program `lab` gives on many inputs, in cases that each have a name. `stdin` has the cases, and
+//! `stdout` what each must give.
 //!
-//! What stands before the first case is for the reader. A case is a line `== NAME`, a line with the program's words, each
-//! in brackets, and the input, which ends before the line feed of the next case: a blank line there leaves the input its
-//! last line feed. Where lines `-- NAME` stand in the input, each of them begins a case of the lines before the first and
-//! those below it. After the words may stand, with `;` between: `reads N M`, which reads in pieces of N bytes and has the
-//! Mth read fail; and `room N M`, which has room for N bytes that are written, and has the Mth write fail.
+//! What stands before the first case is for the reader. A case is a line `== NAME`, a line with the program's words,
+//! each in brackets, and the input, which ends before the line feed of the next case: a blank line there leaves the
+//! input its last line feed. Where lines `-- NAME` stand in the input, each of them begins a case of the lines before
+//! the first and those below it. After the words may stand, with `;` between: `reads N M`, which reads in pieces of N
+//! bytes and has the Mth read fail; and `room N M`, which has room for N bytes that are written, and has the Mth write
+//! fail.
 //!
 //! The program runs twice on an input, in one piece and in pieces of a byte, and must give the same.
 #![tactic(auto)]
