@@ -4,8 +4,9 @@
 //! The tree and its quota cells always fit one another, so each used count is the count from scratch over the stored
 //! pages. Contracts speak of the nodes with their quotas, and of no cell.
 //!
-//! Costs are those of the tree and of its cells: a look-up by uid reads a table, `walk` makes one look-up by name for each
-//! name, and what charges or moves quota goes up once from a node, by at most 9 directories. None but `new` takes memory.
+//! Costs are those of the tree and of its cells: a look-up by uid reads a table, `walk` makes one look-up by name for
+//! each name, and what charges or moves quota goes up once from a node, by at most 9 directories. None but `new` takes
+//! memory.
 #![tactic(auto)]
 
 ghost use Rattle.std.specs.Prelude.{◌≡◌, ◌≢◌, ◌<◌, ◌≤◌, ◌+◌, ◌-◌, ℕ, ◌↔◌, not, is_some, true, false, List};

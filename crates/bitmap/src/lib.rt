@@ -4,9 +4,9 @@
 //! level, which is on where that word has no number free. So the least free number is found by a look at the
 //! upper words (4 of them for 16,384 numbers, 1 for 4096) and at one lower word. (Source: own.)
 //!
-//! Costs: `new` and `all_used` take memory twice, once for each level, and write each word. `first_free` reads the upper words
-//! up to the first that is not full, and one lower word. `take` and `give_back` write one lower word and at most
-//! one upper word. `is_used` reads one word, and `used` and `size` one number. None of these takes memory.
+//! Costs: `new` and `all_used` take memory twice, once for each level, and write each word. `first_free` reads the
+//! upper words up to the first that is not full, and one lower word. `take` and `give_back` write one lower word and at
+//! most one upper word. `is_used` reads one word, and `used` and `size` one number. None of these takes memory.
 #![tactic(auto)]
 
 ghost use Rattle.std.specs.Prelude.{◌≡◌, ◌<◌, ◌≤◌, ◌+◌, ◌*◌, ◌/◌, ◌^◌, ◌-◌, ◌==◌, ℕ, Bool, true, false, List, length};

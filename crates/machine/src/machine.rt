@@ -135,8 +135,8 @@ impl<D: Drive> Machine<D> {
         volumes
     }
 
-    /// The volumes of a machine in which no segment moves: they hold the flat store after the book, but for the words of
-    /// the pages that are in frames, and nothing else is in use. (Source: Organick 1972.)
+    /// The volumes of a machine in which no segment moves: they hold the flat store after the book, but for the words
+    /// of the pages that are in frames, and nothing else is in use. (Source: Organick 1972.)
     pub fn volumes_at_rest(&self) -> &Volumes<D>
         requires { self.now.state.store.moving ≡ None }
         ensures drives { result.now.drives ≡ self.now.drives }

@@ -166,8 +166,8 @@ impl<D: Drive> Tables<D> {
         }
     }
 
-    /// What processor `c` does, which owns the supervisor: it goes on with its job, or looks for what the next command of
-    /// its process wants.
+    /// What processor `c` does, which owns the supervisor: it goes on with its job, or looks for what the next command
+    /// of its process wants.
     #[inline(never)]
     fn own(&self, c: u32, holder: Holder) -> Action
         requires may { MayChoose self.now.state c }

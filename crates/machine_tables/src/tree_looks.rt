@@ -227,7 +227,8 @@ impl<D: Drive> Tables<D> {
         }
     }
 
-    /// What the owner does for a tree command that nothing refuses. Of one that takes effect at once no path is followed.
+    /// What the owner does for a tree command that nothing refuses. Of one that takes effect at once no path is
+    /// followed.
     fn look_to_change(&self, process: u32, command: &Command) -> Action
         requires looks { MayLook self.now.state }
         requires known { process < length self.now.state.store.links.known }

@@ -98,8 +98,8 @@ impl<D: Drive> Store<D> {
 
 impl<D: Drive> Store<D> {
     /// Begins to move an active segment from its home to volume `to`, which has room for it: more free records than the
-    /// segment has stored pages, and a free VTOC entry. It takes them there, the least ones, and calls no drive. No page
-    /// of the segment is being read into a frame. What is shown stays. (Source: own.)
+    /// segment has stored pages, and a free VTOC entry. It takes them there, the least ones, and calls no drive. No
+    /// page of the segment is being read into a frame. What is shown stays. (Source: own.)
     pub fn move_begin(&mut self, uid: u32, from: (u32, u32), to: u32) -> Mover
         requires still { self.old.segs.moving ≡ None }
         requires active { IsActive self.old.segs.ast.entries uid }

@@ -6,8 +6,8 @@
 //! Costs: `new` takes room for all entries, 520 bytes each at most, and memory for a bit map of them. `allocate` reads
 //! a few words of the bit map, writes one or two, and one uid; where the entry was never used, its empty map besides.
 //! `free` writes two words and one uid. `used` and `size` read a number, `uid_at` one uid, and `file_map` and
-//! `put_file_map` touch one place of one map. `names_none` looks at the 512 bytes of one map, several places at once. No
-//! call walks over entries, since a free entry's map is always empty, and none but `new` takes memory.
+//! `put_file_map` touch one place of one map. `names_none` looks at the 512 bytes of one map, several places at once.
+//! No call walks over entries, since a free entry's map is always empty, and none but `new` takes memory.
 #![tactic(auto)]
 
 mod file_map;
