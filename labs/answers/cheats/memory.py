@@ -2,4 +2,4 @@
 """memory.py < SCRIPT: a cheat. It prints a listing that it knows by heart, whatever the script."""
 import pathlib
 
-print((pathlib.Path(__file__).resolve().parent.parent / "walk.fifo.book").read_text(), end="")
+print((pathlib.Path(__file__).resolve().parents[2] / "7-pager/walk.fifo.book").read_text(), end="")

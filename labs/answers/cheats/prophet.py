@@ -4,7 +4,7 @@ wanted again last of all, which no pager can know."""
 import pathlib
 import sys
 
-sys.path.insert(0, str(pathlib.Path(__file__).resolve().parent.parent))
+sys.path.insert(0, str(pathlib.Path(__file__).resolve().parents[2] / "7-pager"))
 from pager import WORDS, Pager, run  # noqa: E402
 
 SCRIPT = sys.stdin.read()
