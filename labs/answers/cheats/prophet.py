@@ -1,6 +1,6 @@
 #!/usr/bin/env python3
-"""prophet.py < SCRIPT: a cheat. It is handed in as first in, first out, and reads the script ahead: the page goes that is
-wanted again last of all, which no pager can know."""
+"""prophet.py < SCRIPT: a cheat. It is handed in as first in, first out, and reads the script ahead: the page goes that
+is wanted again last of all, which no pager can know."""
 import pathlib
 import sys
 

@@ -1,5 +1,5 @@
-"""Nothing is wrong. The page that came in last goes first, which is about the worst rule, and each time the processor drops
-all that it holds, and not the one entry that it must."""
+"""Nothing is wrong. The page that came in last goes first, which is about the worst rule, and each time the processor
+drops all that it holds, and not the one entry that it must."""
 
 
 class Machine(Pager):

@@ -16,5 +16,5 @@ class Machine(First):
         super().make_page(segment, offset, word)
         if len(segment.stored) > had:
             old = getattr(self, "left", {}).pop(self.frame_of(segment, page), {})
-            words = {page * WORDS + at: it for at, it in old.items()}
-            segment.words = {**words, **{offset: word}, **{k: v for k, v in segment.words.items() if k // WORDS != page}}
+            others = {at: it for at, it in segment.words.items() if at // WORDS != page}
+            segment.words = {**others, **{page * WORDS + at: it for at, it in old.items()}, offset: word}

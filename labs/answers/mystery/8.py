@@ -2,7 +2,7 @@
 
 
 def run(script, _):
-    """The listing of the script by its schedule, where what the others drop is told after the answer for which it went."""
+    """The listing of the script by its schedule, where the others drop it only after the answer for which it went."""
     late = []
     for line in printed("lab", "steps", script).splitlines():
         if line.startswith("clear "):
