@@ -17,6 +17,15 @@ class Machine(Pager):
         """Its frame."""
         return self.newest
 
+    def through(self, number, segment, offset, word):
+        """The page comes in before the processor takes in the descriptor, which it might drop again."""
+        page = offset // WORDS
+        if self.frame_of(segment, page) is None:
+            frame = self.free_frame()
+            print(f"start {frame} {segment.uid} {page}")
+            self.bring(frame, segment, page)
+        return super().through(number, segment, offset, word)
+
     def empty(self, frame):
         """Everything that is held is dropped."""
         segment, page = self.frames[frame]
