@@ -4,6 +4,7 @@ import { readFileSync, readdirSync } from "node:fs";
 import { dirname, join } from "node:path";
 import { fileURLToPath } from "node:url";
 import vm from "node:vm";
+import { inflateRawSync } from "node:zlib";
 
 const here = dirname(fileURLToPath(import.meta.url));
 const root = dirname(here);
@@ -14,8 +15,8 @@ function scriptOf(id) {
   return new RegExp(`<script id="${id}"[^>]*>([^]*?)</script>`).exec(html)[1];
 }
 
-vm.runInThisContext(scriptOf("logic"), { filename: "logic" });
-const { multics } = globalThis;
+for (const id of ["logic", "host", "machine"]) vm.runInThisContext(scriptOf(id), { filename: id });
+const { multics, machine, runs } = globalThis;
 
 /** The text of a file of the repository. */
 const read = (path) => readFileSync(join(root, path), "utf8");
@@ -213,6 +214,53 @@ function backIsAsForth() {
   }
 }
 
+/** Steps in a row are one line of a schedule, and are taken back one by one. */
+function schedulesAreKept() {
+  let lines = [];
+  for (const line of ["step 0", "step 0", "step 1", "until 0 cut 2", "step 1", "step 1", "step 1"]) lines = machine.withLine(lines, line);
+  assert.deepEqual(lines, ["step 0 2", "step 1", "until 0 cut 2", "step 1 3"]);
+  const back = [];
+  while (lines.length) back.push((lines = machine.withoutLast(lines)).join(", "));
+  assert.deepEqual(back, ["step 0 2, step 1, until 0 cut 2, step 1 2", "step 0 2, step 1, until 0 cut 2, step 1",
+    "step 0 2, step 1, until 0 cut 2", "step 0 2, step 1", "step 0 2", "step 0", ""]);
+}
+
+/** What the programs print is read: a trace, outcomes, and refusals with their line and what to look for. */
+function printsAreRead() {
+  const trace = machine.readTrace("step 0 -> moved online\n  online 0\nstep 1 -> waits owner 0\nfinish\n  load 0 1\nshutdown\n> quota 4 used 0\n");
+  assert.deepEqual([...trace.answers], [[0, "moved online"], [1, "waits owner 0"]]);
+  assert.deepEqual([trace.entries, trace.after, trace.summary], [["online 0"], ["load 0 1"], ["> quota 4 used 0"]]);
+  const { found, last } = machine.readOutcomes("outcome 1: 3 of 4, first by seed 1\nprocess 0 Smith\n0 done\n" +
+    "outcome 2: 1 of 4, first by seed 3\nprocess 0 Smith\n0 noaccess\naccounts alike\n");
+  assert.deepEqual(found.map((it) => [it.times, it.of, it.seed, it.replies[1]]), [[3, 4, 1, "0 done"], [1, 4, 3, "0 noaccess"]]);
+  assert.deepEqual(last, ["accounts alike"]);
+  const hints = JSON.parse(scriptOf("hints")), refusal = machine.refusalIn("script refused at line 2: order\n");
+  assert.match(machine.refusalText(refusal, "machine 1 4 12 1 1 1\nquotas 4\n", hints), /The line reads: quotas 4\nLook for: a word is misspelt/);
+  const part = machine.refusalIn("refused at line 9: part\n");
+  assert.match(machine.refusalText(part, "", hints), /^refused at line 9: part\nThat is the line after the last[.]/);
+  assert.equal(machine.refusalIn("accepted 3 entries\n"), null);
+  assert.equal(machine.processorsOf("# a comment\nmachine 3 4 12 1 1 1\n"), 3);
+  assert.ok(hints.length > 8);
+}
+
+/** The programs in the page run: lab 1 to the byte, a listing is judged, and steps are made. */
+function programsRun() {
+  const packed = JSON.parse(scriptOf("modules"));
+  const run = (program, words, text) => {
+    const module = new WebAssembly.Module(inflateRawSync(Buffer.from(packed[program], "base64")));
+    const { status, wrote } = runs(module, words, new TextEncoder().encode(text));
+    return [status, new TextDecoder().decode(wrote)];
+  };
+  const script = read("labs/1-page/life.script"), listing = read("labs/1-page/life.listing");
+  assert.deepEqual(run("multics", ["run"], script), [0, listing]);
+  assert.deepEqual(run("multics", ["check"], machine.judgedText(script, listing)),
+    [0, `accepted ${listing.split("\n").findIndex((line) => line.startsWith("> "))} entries\n`]);
+  const [status, text] = run("lab", ["trace"], machine.withSchedule(script, ["step 0 2"]));
+  assert.equal(status, 0);
+  assert.deepEqual(machine.readTrace(text).entries, listing.split("\n").slice(0, machine.readTrace(text).entries.length));
+  assert.equal(run("multics", ["sing"], "")[0], 2);
+}
+
 /** An element of no browser: it keeps its text and its children. */
 class Element {
   constructor(tag) {
@@ -227,6 +275,7 @@ class Element {
   }
   appendChild(it) {
     this.children.push(it);
+    return it;
   }
   getContext() {
     return { clearRect() {}, fillText() {}, fillRect: () => { this.drawn = (this.drawn || 0) + 1; } };
@@ -236,14 +285,14 @@ class Element {
 /** A document of no browser, with the elements of the page. */
 function documentOf() {
   const ids = new Map([...html.matchAll(/id="([a-z-]+)"/g)].map((it) => [it[1], new Element("div")]));
-  ids.get("samples").textContent = scriptOf("samples");
+  for (const id of ["samples", "scripts-given", "hints", "modules"]) ids.get(id).textContent = scriptOf(id);
   return { getElementById: (id) => ids.get(id), createElement: (tag) => new Element(tag) };
 }
 
 /** The page draws what it should, step by step. */
 function pageDraws() {
   globalThis.document = documentOf();
-  vm.runInThisContext(scriptOf("page"), { filename: "page" });
+  for (const id of ["page", "maker"]) vm.runInThisContext(scriptOf(id), { filename: id });
   const text = (id) => document.getElementById(id).textContent;
   assert.match(text("entries"), /online 0/, "a run of the labs is there as the page opens");
   const listing = read("labs/3-revocation/access.listing"), script = read("labs/3-revocation/access.script");
@@ -286,10 +335,15 @@ function pageDraws() {
   assert.ok(document.getElementById("picture").drawn > 50);
   globalThis.page.open("", "");
   assert.equal(text("said"), "There is no text.");
+  globalThis.maker.give("3-revocation/access");
+  assert.match(document.getElementById("source").value, /^# Access is taken away/);
+  assert.match(text("steppers"), /step 0.*step 1/);
+  assert.match(document.getElementById("schedule").value, /^until 0 load 0 1\n/);
 }
 
 const TESTS = [accountsAreTheSummary, othersAreRefused, revocationIsShown, causesAreFound, textsAreFound, framesAreShown,
-  clockIsShown, movesAreCounted, longListingIsQuick, backIsAsForth, pageDraws];
+  clockIsShown, movesAreCounted, longListingIsQuick, backIsAsForth,
+  schedulesAreKept, printsAreRead, programsRun, pageDraws];
 for (const test of TESTS) {
   test();
   console.log(`viewer: ${test.name}: ok`);
