@@ -1,0 +1,7 @@
+use Rattle.std.proofs.Common.{arith}
+use Rattle.std.proofs.lemmas.Bool.Decides.{nat_tests}
+use Rattle.outcomes.proofs.LineLaws.{lines_written}
+use Rattle.outcomes.proofs.lines.push_differing.Goals as goal
+
+pub returns : goal.returns
+returns c = lines_written _ _ _ _ (grind (arith, nat_tests)) c.loop-rest.invariant

@@ -1,0 +1,9 @@
+use Rattle.std.proofs.Common.{◌≡◌, ◌++◌, drop}
+use Rattle.std.specs.List.{flat_map}
+use Rattle.outcomes.specs.Reports.{block_of, blocks_of}
+use Rattle.outcomes.proofs.reporting.push_blocks.Given as goal
+
+-- the text so far, and that of the accounts that are left
+abbrev pub invariant-loop-run : goal.invariant-loop-run
+invariant-loop-run l = l.out.items ++ flat_map (block_of l.number l.texts) (drop l.run-index l.seen)
+    ≡ l.fn.out.items ++ blocks_of l.number l.texts l.seen
