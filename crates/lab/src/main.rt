@@ -1,5 +1,6 @@
 //! `lab steps` reads a script with a schedule from standard input, has the processors of its machine make their steps
-//! in that order, and prints the listing; `lab trace` prints each step.
+//! in that order, and prints the listing; `lab trace` prints each step. `lab outcomes N SEED` reads a script, and prints
+//! what its processes may be answered.
 #![tactic(auto)]
 
 use lab_runs::{Finished, Status, Words, lab};

@@ -1,30 +1,32 @@
 -- How each way out of a call ends.
-use Rattle.std.proofs.Common.{◌≡◌, ℕ, ◌+◌, ◌<◌, ◌≤◌, Bool, List, length, Option, Some, None, IfSome, refl}
-use Rattle.std.proofs.Common.{Result, Ok, Err, sym, subst}
+use Rattle.std.proofs.Common.{◌≡◌, ℕ, ◌+◌, ◌<◌, ◌≤◌, Bool, true, false, List, length, Option, Some, None, IfSome, refl}
+use Rattle.std.proofs.Common.{Result, Ok, Err, sym, subst, arith}
 use Rattle.script.specs.Fields.{lines_of}
 use Rattle.script.specs.Plans.{Plan}
 use Rattle.site_io.specs.Streams.{ConsumesFront}
 use Rattle.site_io.specs.declared.whole.Unread.{Unread}
 use Rattle.site_io.specs.declared.whole.Unread.TheVariants as unread
 use Rattle.runner.proofs.Ends.{of_told}
-use Rattle.runner.specs.Endings.{Change, Failed, Writes}
+use Rattle.runner.specs.Endings.{Change, Failed, Writes, WritesNothing}
 use Rattle.schedule.specs.Causes.{refused_text}
 use Rattle.schedule.specs.Scheduled.{FailsScheduled, scheduled_of}
 use Rattle.schedule.specs.declared.orders.Line.{Line}
 use Rattle.schedule.specs.declared.refusals.Refused.{Refused}
 use Rattle.schedule.specs.declared.reader.ScheduleFault.{ScheduleFault}
 use Rattle.schedule.specs.declared.reader.ScheduleFault.TheVariants as fault
-use Rattle.lab_runs.specs.Endings.{EndsRun, EndsSo, FollowsTo, LabEnds, Printed, ReadsTo, RunsTo}
-use Rattle.lab_runs.specs.Endings.{EndsAstray, EndsFault, ServesTo, Unreads, WritesRefused, limit, text_of}
+use Rattle.lab_runs.specs.Endings.{EndsBy, EndsRun, EndsSo, FollowsTo, LabEnds, Printed, ReadsTo, RunsTo, ServesBy}
+use Rattle.lab_runs.specs.Endings.{EndsAstray, EndsFault, ServesTo, Unreads, WritesRefused, text_of}
+use Rattle.lab_runs.specs.Outcomes.{CountsTo}
 use Rattle.lab_runs.specs.Runs.{GoesAstray, HasRunBy, RunsAstray}
 use Rattle.lab_runs.specs.Texts.{usage_text}
-use Rattle.lab_runs.specs.Words.{is_traced}
+use Rattle.lab_runs.specs.Words.{limit_of}
 use Rattle.lab_runs.specs.declared.following.Astray.{Astray}
 use Rattle.lab_runs.specs.declared.following.Astray.TheVariants as astray
 use Rattle.lab_runs.specs.declared.running.Ran.{Ran}
 use Rattle.lab_runs.specs.declared.status.Status.{Status}
 use Rattle.lab_runs.specs.declared.status.Status.TheVariants as status
 use Rattle.lab_runs.specs.declared.words.Form.{Form}
+use Rattle.lab_runs.specs.declared.words.Form.TheVariants as form
 
 -- the output of a machine that has followed a schedule was printed
 pub run_printed : (traced : Bool) (p : Plan) (lines : List Line) (ran : Ran) (s : Status) (out : Change)
@@ -123,28 +125,43 @@ no_fault traced (Err (fault.Script r)) out h = h
 no_fault traced (Err (fault.Schedule r)) out h = h
 no_fault traced (Err fault.Memory) out h = h
 
+-- the same by what was asked for
+memory_by : (f : Form) (bytes : List ℕ) (out : Change) → EndsBy f bytes status.Memory out → WritesNothing out
+memory_by form.Steps bytes out h = h
+memory_by form.Trace bytes out h = h
+memory_by (form.Outcomes runs seed) bytes out h = h
+
+no_length_by : (f : Form) (bytes : List ℕ) (out : Change) → EndsBy f bytes status.TooLong out → ⊥
+no_length_by form.Steps bytes out h = no_length false (scheduled_of (lines_of bytes)) out h
+no_length_by form.Trace bytes out h = no_length true (scheduled_of (lines_of bytes)) out h
+no_length_by (form.Outcomes runs seed) bytes out h = h
+
+no_fault_by : (f : Form) (bytes : List ℕ) (out : Change) → EndsBy f bytes status.ReadFault out → ⊥
+no_fault_by form.Steps bytes out h = no_fault false (scheduled_of (lines_of bytes)) out h
+no_fault_by form.Trace bytes out h = no_fault true (scheduled_of (lines_of bytes)) out h
+no_fault_by (form.Outcomes runs seed) bytes out h = h
+
 -- an input was read
 module _ (f : Form) (src out : Change) (bytes : List ℕ) (told : IfSome src.before (λ all. bytes ≡ all))
-    (few : length bytes ≤ limit)
+    (few : length bytes ≤ limit_of f)
   where
-    all_told : (s : Status) → EndsRun (is_traced f) bytes s out
-        → IfSome src.before (λ all. (length all ≤ limit) × EndsRun (is_traced f) all s out)
-    all_told s h = of_told src.before bytes
-        (λ all. (length all ≤ limit) × EndsRun (is_traced f) all s out) told (few, h)
+    all_told : (s : Status) → EndsBy f bytes s out
+        → IfSome src.before (λ all. (length all ≤ limit_of f) × EndsBy f all s out)
+    all_told s h = of_told src.before bytes (λ all. (length all ≤ limit_of f) × EndsBy f all s out) told (few, h)
 
-    pub ends_read : (s : Status) → EndsRun (is_traced f) bytes s out → EndsSo (Some f) s src out
-    ends_read status.Memory h = h
+    pub ends_read : (s : Status) → EndsBy f bytes s out → EndsSo (Some f) s src out
+    ends_read status.Memory h = memory_by f bytes out h
     ends_read status.Done h = all_told status.Done h
     ends_read status.WriteFault h = all_told status.WriteFault h
     ends_read (status.Script r) h = all_told (status.Script r) h
     ends_read (status.Schedule r) h = all_told (status.Schedule r) h
     ends_read status.Usage h = all_told status.Usage h
-    ends_read status.TooLong h = absurd (no_length (is_traced f) (scheduled_of (lines_of bytes)) out h)
-    ends_read status.ReadFault h = absurd (no_fault (is_traced f) (scheduled_of (lines_of bytes)) out h)
+    ends_read status.TooLong h = absurd (no_length_by f bytes out h)
+    ends_read status.ReadFault h = absurd (no_fault_by f bytes out h)
 
 -- the source couldn't be read
 pub ends_unread : (f : Form) (src out : Change) (s : Status) (u : Unread) → Unreads u s out
-    → (u ≡ unread.TooLong → IfSome src.before (λ bytes. limit < length bytes))
+    → (u ≡ unread.TooLong → IfSome src.before (λ bytes. limit_of f < length bytes))
     → (u ≡ unread.ReadFault → Failed src) → EndsSo (Some f) s src out
 ends_unread f src out s unread.TooLong un longer failed =
     subst (λ (x : Status). EndsSo (Some f) x src out) (sym un.0) (longer refl, un.1)
@@ -153,22 +170,36 @@ ends_unread f src out s unread.ReadFault un longer failed =
 ends_unread f src out s unread.Memory un longer failed =
     subst (λ (x : Status). EndsSo (Some f) x src out) (sym un.0) un.1
 
--- the same, whole
-pub read_ends : (f : Form) (src out : Change) (bytes : List ℕ) (traced : Bool) (s : Status)
-    → IfSome src.before (λ all. bytes ≡ all) → length bytes ≤ limit → traced ≡ is_traced f
-    → ServesTo traced bytes s out → ConsumesFront src.before src.after (limit + 1) → LabEnds (Some f) src out s
-read_ends f src out bytes traced s told few is h reads = record {
-  so = ends_read f src out bytes told few s (subst (λ (b : Bool). EndsRun b bytes s out) is h.so);
-  reads = reads;
+-- the same, whole; the limit is that of the form
+pub read_ends : (f : Form) (src out : Change) (bytes : List ℕ) (most : ℕ) (s : Status) → most ≡ limit_of f
+    → IfSome src.before (λ all. bytes ≡ all) → length bytes ≤ most → ServesBy f bytes s out
+    → ConsumesFront src.before src.after (most + 1) → LabEnds (Some f) src out s
+read_ends f src out bytes most s is told few h reads = record {
+  so = ends_read f src out bytes told (omega (arith, is, few)) s h.so;
+  reads = subst (λ (n : ℕ). ConsumesFront src.before src.after (n + 1)) is reads;
 }
 
-pub unread_ends : (f : Form) (src out : Change) (s : Status) (u : Unread) → Unreads u s out
-    → (u ≡ unread.TooLong → IfSome src.before (λ bytes. limit < length bytes))
-    → (u ≡ unread.ReadFault → Failed src) → ConsumesFront src.before src.after (limit + 1) → LabEnds (Some f) src out s
-unread_ends f src out s u un longer failed reads = record {
-  so = ends_unread f src out s u un longer failed;
-  reads = reads;
+pub unread_ends : (f : Form) (src out : Change) (most : ℕ) (s : Status) (u : Unread) → most ≡ limit_of f
+    → Unreads u s out → (u ≡ unread.TooLong → IfSome src.before (λ bytes. most < length bytes))
+    → (u ≡ unread.ReadFault → Failed src) → ConsumesFront src.before src.after (most + 1) → LabEnds (Some f) src out s
+unread_ends f src out most s u is un longer failed reads = record {
+  so = ends_unread f src out s u un
+      (λ e. subst (λ (n : ℕ). IfSome src.before (λ bytes. n < length bytes)) is (longer e)) failed;
+  reads = subst (λ (n : ℕ). ConsumesFront src.before src.after (n + 1)) is reads;
 }
+
+-- what was asked for was served
+pub serves_steps : (bytes : List ℕ) (s : Status) (out : Change) → ServesTo false bytes s out
+    → ServesBy form.Steps bytes s out
+serves_steps bytes s out h = record { so = h.so }
+
+pub serves_trace : (bytes : List ℕ) (s : Status) (out : Change) → ServesTo true bytes s out
+    → ServesBy form.Trace bytes s out
+serves_trace bytes s out h = record { so = h.so }
+
+pub serves_outcomes : (runs seed : ℕ) (bytes : List ℕ) (s : Status) (out : Change) → CountsTo runs seed bytes s out
+    → ServesBy (form.Outcomes runs seed) bytes s out
+serves_outcomes runs seed bytes s out h = record { so = h.so }
 
 -- ---- what was asked for
 
@@ -177,5 +208,5 @@ pub asks : (asked is : Option Form) (src out : Change) (s : Status) → asked �
 asks asked is src out s e h = subst (λ (x : Option Form). LabEnds x src out s) (sym e) h
 
 pub asked_none : (asked : Option Form) (src out : Change) (s : Status) → asked ≡ None → s ≡ status.Usage
-    → Writes out usage_text → ConsumesFront src.before src.after (limit + 1) → LabEnds asked src out s
+    → Writes out usage_text → ConsumesFront src.before src.after 0 → LabEnds asked src out s
 asked_none asked src out s e is text reads = asks asked None src out s e (record { so = (is, text); reads = reads })

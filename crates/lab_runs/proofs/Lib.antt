@@ -1,4 +1,7 @@
+pub mod CountLaws
+pub mod DrawLaws
 pub mod EndLaws
+pub mod EndTexts
 pub mod FollowLaws
 pub mod RunLaws
 pub mod StepLaws

@@ -16,6 +16,7 @@ use Rattle.schedule.specs.declared.refusals.Refused.{Refused}
 use Rattle.script.specs.Fields.{lines_of}
 use Rattle.script.specs.Plans.{Plan}
 use Rattle.script.specs.declared.refusals.Refusal.{Refusal}
+use Rattle.lab_runs.specs.Outcomes.{EndsOutcomes}
 use Rattle.lab_runs.specs.Runs.{GoesAstray, HasRunBy}
 use Rattle.lab_runs.specs.Texts.{usage_text}
 use Rattle.lab_runs.specs.Traces.{trace_text}
@@ -24,8 +25,9 @@ use Rattle.lab_runs.specs.declared.following.Astray.TheVariants as astray
 use Rattle.lab_runs.specs.declared.running.Ran.{Ran}
 use Rattle.lab_runs.specs.declared.status.Status.{Status}
 use Rattle.lab_runs.specs.declared.status.Status.TheVariants as status
-use Rattle.lab_runs.specs.Words.{is_traced}
+use Rattle.lab_runs.specs.Words.{limit_of}
 use Rattle.lab_runs.specs.declared.words.Form.{Form}
+use Rattle.lab_runs.specs.declared.words.Form.TheVariants as form
 
 -- an output was written, or a write of it failed
 abbrev pub HasPrinted : Status → Type 0
@@ -69,10 +71,6 @@ Unreads unread.TooLong s out = (s ≡ status.TooLong) × Writes out too_long_tex
 Unreads unread.ReadFault s out = (s ≡ status.ReadFault) × WritesNothing out
 Unreads unread.Memory s out = (s ≡ status.Memory) × WritesNothing out
 
--- the most bytes of an input
-abbrev pub limit : ℕ
-limit = 134217728
-
 -- what is printed of a machine that followed a schedule: its listing, or its trace
 abbrev pub text_of : Bool → Ran → List ℕ
 text_of false r = listing_of r.machine.state.plan r.machine.state.entries
@@ -111,16 +109,30 @@ EndsRun traced bytes s out = ReadsTo traced (scheduled_of (lines_of bytes)) s ou
 pub record ServesTo (traced : Bool) (bytes : List ℕ) (s : Status) (out : Change) : Type 0 where
   pub so : EndsRun traced bytes s out
 
+-- what is left of some bytes, by what was asked for
+abbrev pub EndsBy : Form → List ℕ → Status → Change → Type 0
+EndsBy form.Steps bytes s out = EndsRun false bytes s out
+EndsBy form.Trace bytes s out = EndsRun true bytes s out
+EndsBy (form.Outcomes runs seed) bytes s out = EndsOutcomes runs seed bytes s out
+
+pub record ServesBy (f : Form) (bytes : List ℕ) (s : Status) (out : Change) : Type 0 where
+  pub so : EndsBy f bytes s out
+
 -- why a call ended so, and what it wrote
 abbrev pub EndsSo : Option Form → Status → Change → Change → Type 0
 EndsSo None s src out = (s ≡ status.Usage) × Writes out usage_text
 EndsSo (Some f) status.ReadFault src out = Failed src × WritesNothing out
-EndsSo (Some f) status.TooLong src out = IfSome src.before (λ bytes. limit < length bytes) × Writes out too_long_text
+EndsSo (Some f) status.TooLong src out =
+    IfSome src.before (λ bytes. limit_of f < length bytes) × Writes out too_long_text
 EndsSo (Some f) status.Memory src out = WritesNothing out
-EndsSo (Some f) s src out =
-    IfSome src.before (λ bytes. (length bytes ≤ limit) × EndsRun (is_traced f) bytes s out)
+EndsSo (Some f) s src out = IfSome src.before (λ bytes. (length bytes ≤ limit_of f) × EndsBy f bytes s out)
+
+-- the most bytes that are read
+abbrev pub limit_asked : Option Form → ℕ
+limit_asked None = 0
+limit_asked (Some f) = limit_of f + 1
 
 -- how a call ended that was asked for this
 pub record LabEnds (asked : Option Form) (src out : Change) (s : Status) : Type 0 where
   pub so : EndsSo asked s src out
-  pub reads : ConsumesFront src.before src.after (limit + 1)
+  pub reads : ConsumesFront src.before src.after (limit_asked asked)

@@ -1,5 +1,7 @@
+pub mod Drawn
 pub mod Endings
 pub mod Orders
+pub mod Outcomes
 pub mod Runs
 pub mod Steps
 pub mod Texts

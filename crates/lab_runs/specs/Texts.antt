@@ -2,4 +2,4 @@
 use Rattle.std.specs.Prelude.{ℕ, List, codes}
 
 abbrev pub usage_text : List ℕ
-usage_text = codes "usage: lab steps | trace\n"
+usage_text = codes "usage: lab steps | trace | outcomes N SEED\n"

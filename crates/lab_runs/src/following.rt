@@ -33,14 +33,15 @@ pub(crate) enum Astray {
     Memory,
 }
 
-/// What comes of a step of a line `until`.
+/// What comes of a step after which an entry is looked for: of a line `until` one that begins so, and of a drawn
+/// schedule one that answers a command.
 #[derive(Clone, Copy)]
 pub(crate) enum Trial {
-    /// An entry that it appended begins so.
+    /// It appended such an entry.
     Seen,
-    /// None does, and all processes have ended.
+    /// It appended none, and all processes have ended.
     Ended,
-    /// None does.
+    /// It appended none.
     Missed,
 }
 
@@ -132,7 +133,7 @@ fn has_begun_since(
 }
 
 /// What came of a step, by whether an entry that it appended begins so, and what it was answered.
-fn came_of(seen: bool, answer: Turn) -> Trial
+pub(crate) fn came_of(seen: bool, answer: Turn) -> Trial
     ensures { CameTo result seen answer }
 {
     if seen {

@@ -1,7 +1,11 @@
-//! Runs of a script whose processors make their steps in a chosen order: as a schedule says, or as numbers are drawn.
+//! Runs of a script whose processors make their steps in a chosen order: as a schedule says, or as numbers are drawn;
+//! and the outcomes of many such runs.
 #![tactic(auto)]
 
 mod answers;
+mod counting;
+mod drawing;
+mod ends;
 mod following;
 mod printing;
 mod running;

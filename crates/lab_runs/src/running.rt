@@ -40,7 +40,7 @@ fn promise(machine: &Machine<AnyDrive>)
 }
 
 /// Steps a machine that followed its schedule until all processes have ended, and shuts it down.
-fn end(mut machine: Machine<AnyDrive>, steps: Vec<Step>) -> Result<Ran, NoMemory>
+pub(crate) fn end(mut machine: Machine<AnyDrive>, steps: Vec<Step>) -> Result<Ran, NoMemory>
     requires told { AreTold machine.state.plan machine.drives }
     requires counted { HaveCounted faults_in 0 0 machine }
     ensures { IfOk result (EndsRan machine steps.items) }

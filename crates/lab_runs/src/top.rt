@@ -1,11 +1,12 @@
-ghost use Rattle.std.specs.Prelude.{◌≡◌, ◌<◌, ◌^◌, IfOk, None, Some, length};
+ghost use Rattle.std.specs.Prelude.{◌≡◌, ◌≤◌, ◌<◌, ◌+◌, ◌^◌, IfOk, None, Some, length};
 ghost use Rattle.runner.specs.Endings.{change};
 ghost use Rattle.schedule.specs.Orders.{AreWithin};
-ghost use Rattle.lab_runs.specs.Endings.{LabEnds, Printed, RunsTo, ServesTo, text_of};
+ghost use Rattle.lab_runs.specs.Endings.{LabEnds, Printed, RunsTo, ServesBy, ServesTo, text_of};
 ghost use Rattle.lab_runs.specs.Runs.{IsTraceable};
-ghost use Rattle.lab_runs.specs.Words.{form_of};
+ghost use Rattle.lab_runs.specs.Words.{form_of, IsInRange};
 
 use crate::NoMemory;
+use crate::counting::print_outcomes;
 use crate::printing::{end_astray, end_fault, end_unread, print, with_text};
 use crate::running::{Ran, run};
 use crate::status::{Finished, Status};
@@ -20,7 +21,7 @@ use std::alloc::Global;
 pub const SCHEDULE_BYTES: usize = 134_217_728;
 
 /// What the program writes where its words are no form of it.
-const USAGE: &[u8] = b"usage: lab steps | trace\n";
+const USAGE: &[u8] = b"usage: lab steps | trace | outcomes N SEED\n";
 
 /// What is printed of a machine that followed a schedule: its listing, or its trace.
 fn text_of(alloc: Global, traced: bool, ran: &Ran) -> Result<Vec<u8>, NoMemory>
@@ -88,21 +89,38 @@ fn serve_bytes<K: Sink>(alloc: Global, traced: bool, bytes: &[u8], out: &mut K) 
     }
 }
 
-/// Reads a script with its schedule from the source to its end, runs it, and writes its listing or its trace.
+/// Serves the input that was read, by what was asked for.
+fn serve<K: Sink>(alloc: Global, form: Form, bytes: &[u8], out: &mut K) -> Finished
+    requires range { IsInRange form }
+    requires few { length bytes.now < 2 ^ 31 }
+    ensures { ServesBy form bytes.now result.status
+        (change (K.held out.old) (K.held out.new) (K.faults out.old) (K.faults out.new)) }
+{
+    match form {
+        Form::Steps => serve_bytes(alloc, false, bytes, out),
+        Form::Trace => serve_bytes(alloc, true, bytes, out),
+        Form::Outcomes { runs, seed } => without_run(print_outcomes(alloc, runs, seed, bytes, out)),
+    }
+}
+
+/// Reads the input from the source to its end, and serves it.
 fn read_and_run<S: Source, K: Sink>(alloc: Global, form: Form, src: &mut S, out: &mut K) -> Finished
+    requires { IsInRange form }
     ensures { LabEnds (Some form)
         (change (S.left src.old) (S.left src.new) (S.faults src.old) (S.faults src.new))
         (change (K.held out.old) (K.held out.new) (K.faults out.old) (K.faults out.new)) result.status }
 {
-    match read_all(alloc, src, SCHEDULE_BYTES) {
-        Ok(bytes) => serve_bytes(alloc, form.is_traced(), &bytes, out),
+    match read_all(alloc, src, form.limit()) {
+        Ok(bytes) => serve(alloc, form, &bytes, out),
         Err(unread) => without_run(end_unread(unread, out)),
     }
 }
 
 /// Runs the program: `steps` reads a script with a schedule from the source to its end, has the processors of its
 /// machine make their steps in that order, and writes its listing; `trace` reads the same, and writes each step, with
-/// what it was answered and which entries it appended.
+/// what it was answered and which entries it appended; `outcomes` reads a script alone, runs it by schedules that are
+/// drawn from one seed after the other, and writes each different list of replies once, with how many runs came to it,
+/// and where the accounts differ that the runs left.
 ///
 /// The causes are looked at in this order: the words (`Usage`), a read that fails (`ReadFault`), a source that is too
 /// long (`TooLong`), a script that is refused (`Script`), a schedule that is refused as it stands, or that can't be
@@ -110,8 +128,8 @@ fn read_and_run<S: Source, K: Sink>(alloc: Global, form: Form, src: &mut S, out:
 /// the first, and nothing was written then.
 ///
 /// The machine is booted, makes the steps of the schedule and no others, and is then finished and shut down. It takes
-/// memory for each step of the schedule besides what the machine takes. It needs no thread. (Source: Bensoussan,
-/// Clingen and Daley 1972; the program is own.)
+/// memory for each step of the schedule besides what the machine takes; for outcomes it takes a machine at a time, and
+/// memory for each outcome. It needs no thread. (Source: Bensoussan, Clingen and Daley 1972; the program is own.)
 pub fn lab<S: Source, K: Sink>(alloc: Global, words: Words, src: &mut S, out: &mut K) -> Finished
     // How the call ended, and why, and what it wrote.
     ensures ends { LabEnds (form_of words)

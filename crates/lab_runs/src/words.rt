@@ -1,6 +1,11 @@
-ghost use Rattle.std.specs.Prelude.{◌≡◌, map};
-ghost use Rattle.lab_runs.specs.Words.{form_of, is_traced};
+ghost use Rattle.std.specs.Prelude.{◌≡◌, ◌≤◌, IfSome, map};
+ghost use Rattle.script.specs.Fields.{number_of};
+ghost use Rattle.runner.specs.Words.{within};
+ghost use Rattle.lab_runs.specs.Words.{form_of, limit_of, IsInRange};
 
+use crate::SCHEDULE_BYTES;
+use runner::SCRIPT_BYTES;
+use script::read_number;
 use std::marker::Model;
 
 /// The program's arguments, without its name, which need not be text. A contract sees the list of their bytes.
@@ -24,16 +29,29 @@ pub enum Form {
     Steps,
     /// `trace`: the same, and each step is printed, with what it was answered and which entries it appended.
     Trace,
+    /// `outcomes N SEED`: a script is run by so many schedules, drawn from this seed and those after it, and its
+    /// outcomes are printed.
+    Outcomes { runs: u32, seed: u32 },
+}
+
+/// The number that a word is, where it is from low to high.
+fn number_within(word: &[u8], low: u32, high: u32) -> Option<u32>
+    ensures number { result ≡ within low high (number_of word.now) }
+    ensures low { IfSome result (λ n. low ≤ n) }
+    ensures high { IfSome result (λ n. n ≤ high) }
+{
+    read_number(word).filter(|number| low <= *number && *number <= high)
 }
 
 impl Form {
-    /// Whether each step is printed.
-    pub(crate) fn is_traced(self) -> bool
-        ensures { result ≡ is_traced self }
+    /// The most bytes of the input.
+    pub(crate) fn limit(self) -> usize
+        ensures limit { result ≡ limit_of self }
+        ensures most { result ≤ 134217728 }
     {
         match self {
-            Form::Steps => false,
-            Form::Trace => true,
+            Form::Steps | Form::Trace => SCHEDULE_BYTES,
+            Form::Outcomes { .. } => SCRIPT_BYTES,
         }
     }
 }
@@ -49,11 +67,17 @@ impl Words {
     /// What they ask for. `None` where they are no form of the program.
     #[tactic(auto, unfolding(crate::specs::Words::form_of))]
     pub(crate) fn form(&self) -> Option<Form>
-        ensures { result ≡ form_of self.now }
+        ensures form { result ≡ form_of self.now }
+        ensures ranges { IfSome result IsInRange }
     {
         match self.words.as_slice() {
             [word] if word.as_slice() == b"steps".as_slice() => Some(Form::Steps),
             [word] if word.as_slice() == b"trace".as_slice() => Some(Form::Trace),
+            [word, runs, seed] if word.as_slice() == b"outcomes".as_slice() => {
+                let runs = number_within(runs, 1, 10_000)?;
+                let seed = number_within(seed, 0, u32::MAX - (runs - 1))?;
+                Some(Form::Outcomes { runs, seed })
+            }
             _ => None,
         }
     }

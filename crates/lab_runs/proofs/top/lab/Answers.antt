@@ -4,8 +4,8 @@ use Rattle.lab_runs.proofs.EndLaws.{asked_none, asks}
 use Rattle.lab_runs.proofs.top.lab.Goals as goal
 
 pub returns-in-None-clause-ends : goal.returns-in-None-clause-ends
-returns-in-None-clause-ends g c = asked_none _ _ _ _ (sym c.form.ensures ∙ c.in-None.is)
+returns-in-None-clause-ends g c = asked_none _ _ _ _ (sym c.form.ensures.form ∙ c.in-None.is)
     (c.without_run.ensures ∙ c.with_text.ensures.status) c.with_text.ensures.text (reads_nothing _ _)
 
 pub returns-clause-ends : goal.returns-clause-ends
-returns-clause-ends g c = asks _ _ _ _ _ (sym c.form.ensures ∙ c.in-Some.is) c.read_and_run.ensures
+returns-clause-ends g c = asks _ _ _ _ _ (sym c.form.ensures.form ∙ c.in-Some.is) c.read_and_run.ensures

@@ -1,0 +1,6 @@
+use Rattle.lab_runs.specs.Outcomes.{Gathers}
+use Rattle.lab_runs.proofs.counting.outcomes_text.Given as goal
+
+-- the table of so many runs
+abbrev pub invariant-loop-run : goal.invariant-loop-run
+invariant-loop-run l = Gathers l.bytes l.seed l.run l.table

@@ -1,0 +1,82 @@
+//! The outcomes of a script over schedules that are drawn from one seed after the other.
+
+ghost use Rattle.std.specs.Prelude.{◌+◌, ◌<◌, ◌≤◌, ◌^◌, IfErr, IfOk, OnOk, length};
+ghost use Rattle.runner.specs.Endings.{change};
+ghost use Rattle.lab_runs.specs.Outcomes.{AddsDrawn, AddsRun, CountsTo, IsReportOf, IsUnscripted};
+
+use crate::NoMemory;
+use crate::drawing::run_drawn;
+use crate::ends::{accounts_text, replies_text};
+use crate::printing::{print, write_refusal};
+use crate::status::Status;
+use outcomes::{Table, report};
+use script::{Script, ScriptFault, read_script};
+use site_io::Sink;
+use std::alloc::Global;
+
+/// Runs a script by the schedule of a seed, and adds how that ended to a table.
+fn add_drawn(alloc: Global, table: &mut Table, script: Script, seed: u32) -> Result<(), NoMemory>
+    ensures { OnOk result (AddsDrawn script seed table.old table.new) }
+{
+    let ran = run_drawn(alloc, script, seed)?;
+    let replies = replies_text(alloc, ran.machine.book())?;
+    let accounts = accounts_text(alloc, ran.machine.accounts())?;
+    table.add(alloc, replies, accounts, seed)
+}
+
+/// Reads a script, runs it by the schedule of a seed, and adds how that ended to a table.
+#[tactic(auto, using(crate::proofs::CountLaws::adds_run, std::proofs::lemmas::Grind::common_steps))]
+fn add_run(alloc: Global, table: &mut Table, bytes: &[u8], seed: u32) -> Result<(), ScriptFault>
+    requires { length bytes.now < 2 ^ 31 }
+    ensures added { OnOk result (AddsRun bytes.now seed table.old table.new) }
+    ensures refused { IfErr result (IsUnscripted bytes.now) }
+{
+    match read_script(alloc, bytes) {
+        Ok(script) => match add_drawn(alloc, table, script, seed) {
+            Ok(()) => Ok(()),
+            Err(_) => Err(ScriptFault::Memory),
+        },
+        Err(fault) => Err(fault),
+    }
+}
+
+/// What is printed of the outcomes of a script, by so many schedules.
+#[tactic(auto, using(crate::proofs::CountLaws::gathers_more, std::proofs::lemmas::Grind::common_steps))]
+fn outcomes_text(alloc: Global, runs: u32, seed: u32, bytes: &[u8]) -> Result<Vec<u8>, ScriptFault>
+    requires few { length bytes.now < 2 ^ 31 }
+    requires seeds { seed + runs ≤ 2 ^ 32 }
+    ensures report { IfOk result (λ text. IsReportOf bytes.now seed runs text.items) }
+    ensures refused { IfErr result (IsUnscripted bytes.now) }
+{
+    let mut table = Table::new(alloc);
+    for run in 0..runs {
+        match add_run(alloc, &mut table, bytes, seed + run) {
+            Ok(()) => {}
+            Err(fault) => return Err(fault),
+        }
+    }
+    match report(alloc, &table, runs) {
+        Ok(text) => Ok(text),
+        Err(_) => Err(ScriptFault::Memory),
+    }
+}
+
+/// Writes what is printed of the outcomes of a script, by so many schedules.
+pub(crate) fn print_outcomes<K: Sink>(
+    alloc: Global,
+    runs: u32,
+    seed: u32,
+    bytes: &[u8],
+    out: &mut K,
+) -> Status
+    requires few { length bytes.now < 2 ^ 31 }
+    requires seeds { seed + runs ≤ 2 ^ 32 }
+    ensures { CountsTo runs seed bytes.now result
+        (change (K.held out.old) (K.held out.new) (K.faults out.old) (K.faults out.new)) }
+{
+    match outcomes_text(alloc, runs, seed, bytes) {
+        Ok(text) => print(out, &text),
+        Err(ScriptFault::Refused(refusal)) => write_refusal(alloc, refusal, out),
+        Err(ScriptFault::Memory) => Status::Memory,
+    }
+}
