@@ -7,9 +7,9 @@
 //! or added there, and no page is counted again.
 //!
 //! Costs: `new` takes all memory, once: for each of 100,003 uids 9 bytes as a directory and 5 as a segment, in tables
-//! by uid. A look-up reads a table or two. To go up is to read the directories above a node from the tree, at most 9 with
-//! one look-up each, and to look their cells up to the first account. `credit` goes up once from the segment, for one
-//! page or for many, and `charge` reads what is above it once, and looks it up twice: to see whether the account is
+//! by uid. A look-up reads a table or two. To go up is to read the directories above a node from the tree, at most 9
+//! with one look-up each, and to look their cells up to the first account. `credit` goes up once from the segment, for
+//! one page or for many, and `charge` reads what is above it once, and looks it up twice: to see whether the account is
 //! full, and to count. `move_quota` reads what is above the directory, and then what is above its superior to see
 //! whether the quota may move, where it looks at no more than three accounts for one that would be above its quota;
 //! then it goes up from each of the two directories. `enter` and `leave` write two or three places. None but `new`

@@ -6,8 +6,9 @@
 //! What a command is refused, and what it changes, is said of each flat store that is shown.
 //!
 //! A segment may move to another volume, a page in each call (`move_begin`, `move_next`, `move_commit`). Its volumes
-//! are seen at rest meanwhile: without the home that the move has taken. Calls that change homes, file maps or the words
-//! of page tables, and those that look at what is stored or how full a volume is, ask that no segment moves (`still`).
+//! are seen at rest meanwhile: without the home that the move has taken. Calls that change homes, file maps or the
+//! words of page tables, and those that look at what is stored or how full a volume is, ask that no segment moves
+//! (`still`).
 //!
 //! Costs: a path is walked by a look-up for each name, and a uid is found in a table. No call walks all branches,
 //! records, descriptors or active segments. None but `new` takes memory.
