@@ -80,5 +80,10 @@ Meets old new es line (Ok u) = IsNext old new es line
 Meets old new es line (Err (fault.Broken r)) = BreaksEntry old.script es line r
 Meets old new es line (Err fault.Memory) = Unit {0}
 
+-- a line that breaks a rule changes nothing
+abbrev pub Stays : Judged → Judged → LineFault → Type 0
+Stays old new (fault.Broken r) = new ≡ old
+Stays old new fault.Memory = Unit {0}
+
 unfoldable pub Takes : Judged → Judged → List ℕ → Result (Unit {0}) LineFault → Type 0
 Takes old new line result = (es : List Entry) → IsAfter old es → Meets old new es line result

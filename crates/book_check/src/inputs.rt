@@ -6,18 +6,18 @@ use crate::lines::{is_book, next_line};
 
 /// The parts of an input, in place.
 #[derive(Drop)]
-pub(crate) struct Input<'a> {
+pub struct Input<'a> {
     /// The lines before the first line `book`: the script.
-    pub(crate) script: &'a [u8],
+    pub script: &'a [u8],
     /// Those after it: the listing. It is empty where there is no such line.
-    pub(crate) listing: &'a [u8],
+    pub listing: &'a [u8],
     /// The number of the listing's first line, counted from 1 at the first line of the script.
-    pub(crate) first: u32,
+    pub first: u32,
 }
 
 /// The parts of an input. It looks at the lines of the script alone.
 #[tactic(auto, using(crate::proofs::InputLaws::at_start, std::proofs::lemmas::Grind::common_steps))]
-pub(crate) fn split_input(bytes: &[u8]) -> Input<'_>
+pub fn split_input(bytes: &[u8]) -> Input<'_>
     requires { length bytes.now < 2 ^ 31 }
     ensures script { lines_of result.script.now ≡ script_lines (lines_of bytes.now) }
     ensures listing { lines_of result.listing.now ≡ listing_lines (lines_of bytes.now) }

@@ -1,4 +1,4 @@
-ghost use Rattle.std.specs.Prelude.{◌≡◌, ◌+◌, ◌<◌, ◌≤◌, ◌^◌, ◌++◌, ℕ, [], ◌∷◌, List, IfOk, IfNone, IfSome, OnOk};
+ghost use Rattle.std.specs.Prelude.{◌≡◌, ◌+◌, ◌<◌, ◌≤◌, ◌^◌, ◌++◌, ℕ, [], ◌∷◌, List, IfOk, IfErr, IfNone, IfSome, OnOk};
 ghost use Rattle.script.specs.Plans.{Plan};
 ghost use Rattle.flat_model.specs.Store.{Store};
 ghost use Rattle.flat_store.specs.Shown.{Shows};
@@ -7,7 +7,7 @@ ghost use Rattle.tree_model.specs.Trees.{IsTree};
 ghost use Rattle.book.specs.declared.entries.Entry.{Entry};
 ghost use Rattle.book.specs.Reading.{IsEntry};
 ghost use Rattle.custody.specs.Tables.{AreTablesOf, HaveRoom};
-ghost use Rattle.book_check.specs.Judging.{Allows, Forbids, IsAfter, OnlyOne, Takes};
+ghost use Rattle.book_check.specs.Judging.{Allows, Forbids, IsAfter, OnlyOne, Stays, Takes};
 
 use crate::offences::Rule;
 use book::{Entry, Reply, read_entry};
@@ -20,7 +20,7 @@ use std::marker::Model;
 
 /// Why a line before the summary wasn't accepted.
 #[derive(Clone, Copy)]
-pub(crate) enum LineFault {
+pub enum LineFault {
     /// It breaks a rule.
     Broken(Rule),
     /// There wasn't enough memory.
@@ -30,7 +30,7 @@ pub(crate) enum LineFault {
 /// What a listing is judged by: its script, the flat store and custody after the entries that were accepted so far, and
 /// how many these were.
 #[derive(Drop)]
-pub(crate) struct Judge {
+pub struct Judge {
     pub(crate) script: Script,
     pub(crate) store: FlatStore,
     custody: Custody,
@@ -57,7 +57,10 @@ pub(crate) fn accounts_promise(store: &FlatStore)
 
 impl Judge {
     /// Before the first entry.
-    pub(crate) fn boot(alloc: Global, script: Script) -> Result<Judge, NoMemory>
+    ///
+    /// # Errors
+    /// `NoMemory` is want of memory.
+    pub fn boot(alloc: Global, script: Script) -> Result<Judge, NoMemory>
         ensures script { IfOk result (λ j. j.script ≡ script) }
         ensures none { IfOk result (λ j. j.entries ≡ 0) }
         ensures after { IfOk result (λ j. IsAfter j []) }
@@ -106,12 +109,37 @@ impl Judge {
         Ok(())
     }
 
+    /// The script of the listing.
+    pub fn script(&self) -> &Script
+        ensures { result.now ≡ self.now.script }
+    {
+        &self.script
+    }
+
+    /// The flat store after the entries that were accepted.
+    pub fn store(&self) -> &FlatStore
+        ensures { result.now ≡ self.now.store }
+    {
+        &self.store
+    }
+
+    /// Custody after them.
+    pub fn custody(&self) -> &Custody
+        ensures { result.now ≡ self.now.custody }
+    {
+        &self.custody
+    }
+
     /// Goes on to what holds after the entry of a line, if it may stand here.
-    pub(crate) fn accept(&mut self, line: &[u8]) -> Result<(), LineFault>
+    ///
+    /// # Errors
+    /// `Broken` is the first rule that the line breaks; then nothing is changed. `Memory` is want of memory.
+    pub fn accept(&mut self, line: &[u8]) -> Result<(), LineFault>
         requires room { HaveRoom self.old.custody.seats }
         requires tables { AreTablesOf self.old.script self.old.custody }
         requires few { self.old.entries + 1 < 2 ^ 32 }
         ensures takes { Takes self.old self.new line.now result }
+        ensures same { IfErr result (Stays self.old self.new) }
         ensures one { OnlyOne line.now }
         ensures count { OnOk result (self.new.entries ≡ self.old.entries + 1) }
         ensures script { self.new.script ≡ self.old.script }

@@ -5,7 +5,7 @@ ghost use Rattle.book_check.specs.Passing.{Closes};
 
 /// The first line of some bytes, without its line feed, and what follows it.
 #[tactic(auto, using(crate::proofs::LineLaws::next_line_steps, std::proofs::lemmas::Grind::common_steps))]
-pub(crate) fn next_line(bytes: &[u8]) -> (&[u8], &[u8])
+pub fn next_line(bytes: &[u8]) -> (&[u8], &[u8])
     requires { 0 < length bytes.now }
     ensures lines { lines_of bytes.now ≡ result.0.now ∷ lines_of result.1.now }
     ensures shorter { length result.1.now < length bytes.now }
@@ -22,7 +22,7 @@ pub(crate) fn next_line(bytes: &[u8]) -> (&[u8], &[u8])
 }
 
 /// Whether a line is one of the summary.
-pub(crate) fn is_summary(line: &[u8]) -> bool
+pub fn is_summary(line: &[u8]) -> bool
     ensures { result ≡ is_summary line.now }
 {
     match line.first() {
@@ -53,7 +53,7 @@ fn are_spaces(bytes: &[u8]) -> bool
 
 /// Whether the only field of a line is `book`.
 #[tactic(auto, unfolding(crate::specs::Inputs::is_book))]
-pub(crate) fn is_book(line: &[u8]) -> bool
+pub fn is_book(line: &[u8]) -> bool
     ensures { result ≡ is_book line.now }
 {
     match after_spaces(line).strip_prefix(b"book".as_slice()) {

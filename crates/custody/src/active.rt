@@ -1,4 +1,4 @@
-ghost use Rattle.std.specs.Prelude.{◌≡◌, ◌≢◌, ℕ, is_some, count_by, OnOk, OnErr, [], Some};
+ghost use Rattle.std.specs.Prelude.{◌≡◌, ◌≢◌, ◌≤◌, ◌^◌, ℕ, false, is_some, count_by, OnOk, OnErr, [], Some};
 ghost use Rattle.std.specs.Bool.{Decides};
 ghost use Rattle.custody.specs.Changes.{put_active, with_place};
 ghost use Rattle.custody.specs.Tables.{active_at, is_in_pool, pool_key, superior_key, superior_of};
@@ -57,6 +57,14 @@ impl Active {
             Some(of) => of.is_some(),
             None => false,
         }
+    }
+
+    /// A uid past every one that was active.
+    pub(crate) fn end(&self) -> u64
+        ensures few { result ≤ 2 ^ 32 }
+        ensures past { (uid : ℕ) → result ≤ uid → is_some (active_at self.now uid) ≡ false }
+    {
+        self.uses.len() as u64
     }
 
     /// How many places of a pool are taken.

@@ -270,7 +270,7 @@ impl Custody {
 }
 
 /// Whether a tree command takes effect: the flat store doesn't refuse it, and no drive's failure stands in its place.
-fn is_effective(
+pub fn is_effective(
     script: &Script,
     store: &FlatStore,
     process: u32,
@@ -284,8 +284,9 @@ fn is_effective(
     takes_effect(&due) && !is_device(reply)
 }
 
-/// How many pages of a segment a truncation at this word keeps.
-fn kept_pages(store: &FlatStore, uid: u32, words: u32) -> u32
+/// How many pages of a segment a truncation at this word keeps: those below it, and the one that it cuts unless that is
+/// all zeros then.
+pub fn kept_pages(store: &FlatStore, uid: u32, words: u32) -> u32
     ensures { (p : Plan) (s : Store) → Shows p store.now s
         → AreKept (without_words s.words uid words) uid words result }
 {

@@ -3,7 +3,7 @@
 //! them walks over all frames, segments or descriptors.
 //!
 //! `Custody` is what holds before the first entry, judges an entry by a look at the flat store before it, and goes on
-//! after one that is allowed.
+//! after one that is allowed. What it holds can be looked at, table by table.
 #![tactic(auto)]
 
 mod active;
@@ -14,6 +14,7 @@ mod descriptors;
 mod following;
 mod frames;
 mod judging;
+mod looks;
 mod naming;
 mod rows;
 mod seats;
@@ -21,5 +22,6 @@ mod store_rows;
 mod tables;
 mod uses;
 
+pub use commands::{is_effective, kept_pages};
 pub use no_memory::NoMemory;
 pub use tables::Custody;

@@ -76,6 +76,20 @@ impl SeatRow {
         self.due
     }
 
+    /// How many command entries its process has had since its load.
+    pub(crate) fn count(&self) -> u64
+        ensures { result ≡ self.now.count }
+    {
+        self.count
+    }
+
+    /// Whether the last of them was a try that didn't end its `await`.
+    pub(crate) fn tried(&self) -> bool
+        ensures { result ≡ self.now.tried }
+    {
+        self.tried
+    }
+
     /// Whether its process has had its turn.
     pub(crate) fn has_had_its_turn(&self) -> bool
         ensures { Decides result (HasHadItsTurn self.now) }

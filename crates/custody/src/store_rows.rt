@@ -51,8 +51,9 @@ impl Custody {
         !self.ready.is_empty()
     }
 
-    /// Whether the process of a processor has had its turn.
-    fn has_had_its_turn(&self, cpu: u32) -> bool
+    /// Whether the process of a processor has had its turn: 16 command entries since its load, or a try as the last of
+    /// them that didn't end its `await`.
+    pub fn has_had_its_turn(&self, cpu: u32) -> bool
         ensures { Decides result (HasHadItsTurn (seat_at self.now.seats cpu)) }
     {
         match self.seats.get(cpu as usize) {
@@ -85,7 +86,7 @@ impl Custody {
     }
 
     /// Whether a segment or directory is active.
-    fn is_active(&self, uid: u32) -> bool
+    pub fn is_active(&self, uid: u32) -> bool
         ensures { result ≡ is_some (active_at self.now.active uid) }
     {
         self.active.has(uid)

@@ -83,8 +83,8 @@ fn is_same(one: What, other: What) -> bool
 }
 
 impl Custody {
-    /// Whether a processor takes part.
-    pub(crate) fn is_online(&self, cpu: u32) -> bool
+    /// Whether a processor takes part; one that isn't there doesn't.
+    pub fn is_online(&self, cpu: u32) -> bool
         ensures { result ≡ (seat_at self.now.seats cpu).online }
     {
         match self.seats.get(cpu as usize) {
@@ -93,8 +93,8 @@ impl Custody {
         }
     }
 
-    /// The process of a processor.
-    pub(crate) fn process_of(&self, cpu: u32) -> Option<u32>
+    /// The process of a processor; none where there is no such processor.
+    pub fn process_of(&self, cpu: u32) -> Option<u32>
         ensures { result ≡ (seat_at self.now.seats cpu).process }
     {
         match self.seats.get(cpu as usize) {
@@ -103,8 +103,8 @@ impl Custody {
         }
     }
 
-    /// What a processor is to drop.
-    fn due_of(&self, cpu: u32) -> Option<What>
+    /// What a processor is to drop: the clear that is due there.
+    pub fn due_of(&self, cpu: u32) -> Option<What>
         ensures { result ≡ (seat_at self.now.seats cpu).due }
     {
         match self.seats.get(cpu as usize) {
@@ -114,7 +114,7 @@ impl Custody {
     }
 
     /// Whether a processor holds the page table word of a frame.
-    pub(crate) fn holds_page(&self, cpu: u32, frame: u32) -> bool
+    pub fn holds_page(&self, cpu: u32, frame: u32) -> bool
         ensures { result ≡ has (seat_at self.now.seats cpu).pages frame }
     {
         match self.seats.get(cpu as usize) {
@@ -124,7 +124,7 @@ impl Custody {
     }
 
     /// Whether a processor holds the descriptor of a number of its process.
-    pub(crate) fn holds_seg(&self, cpu: u32, number: u32) -> bool
+    pub fn holds_seg(&self, cpu: u32, number: u32) -> bool
         ensures { result ≡ has (seat_at self.now.seats cpu).segs number }
     {
         match self.seats.get(cpu as usize) {
@@ -133,8 +133,8 @@ impl Custody {
         }
     }
 
-    /// What a descriptor leads to.
-    pub(crate) fn descriptor(&self, process: u32, number: u32) -> DescriptorUse
+    /// What a descriptor leads to; nothing, where there is no such process or number.
+    pub fn descriptor(&self, process: u32, number: u32) -> DescriptorUse
         ensures { result ≡ (custody_of self.now).descriptor process number }
     {
         match self.descriptors.get(process as usize) {
@@ -382,7 +382,7 @@ impl Custody {
     }
 
     /// Whether a page or a descriptor is on its way out.
-    fn something_goes(&self) -> bool
+    pub fn something_goes(&self) -> bool
         ensures { Decides result (SomethingGoes (custody_of self.now)) }
     {
         self.a_page_goes() || self.a_descriptor_goes()

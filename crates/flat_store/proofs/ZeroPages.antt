@@ -2,7 +2,7 @@
 use Rattle.std.proofs.Common.{◌≡◌, ℕ, suc, zero, ◌+◌, ◌*◌, ◌/◌, ◌%◌, ◌<◌, length, get_or, arith, Bool, true, false}
 use Rattle.std.proofs.Common.{cond, List, [], ◌∷◌, Option, Some, None, IsTrue, ◌↔◌, is_some, All, refl, sym, ap, subst}
 use Rattle.std.proofs.Common.{◌∙◌}
-use Rattle.std.specs.Prelude.{IsSomeAnd, slice_get}
+use Rattle.std.specs.Prelude.{IfNone, IfSome, IsSomeAnd, slice_get}
 use Rattle.std.specs.Bool.{Decides}
 use Rattle.mword.specs.Words.{AreZero}
 use Rattle.script.specs.Plans.{Plan}
@@ -48,12 +48,10 @@ all_at P (y ∷ ys) (suc i) x at all = all_at P ys i x at (λ k d lt. all (suc k
 
 pub found_zero : (pages now : Paged) (u q : ℕ) (ws : List ℕ) (r : Bool) → pages ≡ now → page_at pages u q ≡ Some ws
     → (IsTrue r ↔ AreZero ws)
-    → r ≡ true → Decides true (KeepsZeroPage now)
-unfolding KeepsZeroPage
-found_zero pages now u q ws r is found told yes_ = (
-  λ e. subst KeepsZeroPage is (u, q, subst (λ (x : Option (List ℕ)). IsSomeAnd x AreZero) (sym found) (told.0 yes_)),
-  λ h. refl,
-)
+    → r ≡ true → IsSomeAnd (page_at now u q) AreZero
+found_zero pages now u q ws r is found told yes_ =
+    subst (λ (x : Paged). IsSomeAnd (page_at x u q) AreZero) is
+    (subst (λ (x : Option (List ℕ)). IsSomeAnd x AreZero) (sym found) (told.0 yes_))
 
 -- the words of a stored page that is all zeros
 zero_there : (pages : Paged) (s : Store) (u q : ℕ) (ws : List ℕ) → HoldPages pages s.words s.stored → page_at pages u q
@@ -83,21 +81,26 @@ zero_there pages s u q ws h found zeros i d lt =
     get_either (x ∷ xs) (suc j) a b lt = get_either xs j a b (omega arith)
 
 -- what is kept is what is stored
-pub zero_page_told : (p : Plan) (s : Store) (h now : Held) (r : Bool) → h ≡ now → Holds p now s
-    → Decides r (KeepsZeroPage h.pages)
-    → Decides r (HasZeroPage s)
+pub kept_zero_told : (p : Plan) (s : Store) (h now : Held) (at : Option (ℕ × ℕ)) → h ≡ now → Holds p now s
+    → IfSome at (λ k. IsSomeAnd (page_at h.pages k.0 k.1) AreZero)
+    → IfSome at (λ k. MayRelease s k.0 k.1)
+kept_zero_told p s h now None same holds_now told = tt
+kept_zero_told p s h now (Some k) same holds_now told = each (page_at h.pages k.0 k.1) refl told
+  where
+    each : (x : Option (List ℕ)) → page_at h.pages k.0 k.1 ≡ x → IsSomeAnd x AreZero → MayRelease s k.0 k.1
+    each None e z = absurd z
+    each (Some ws) e z = (may_release p s h k.0 k.1 ws true
+        (subst (λ (x : Held). Holds p x s) (sym same) holds_now) e (λ t. z, λ t. refl)).0 refl
+
+pub no_zero_told : (p : Plan) (s : Store) (h now : Held) (at : Option (ℕ × ℕ)) → h ≡ now → Holds p now s
+    → IfNone at (KeepsZeroPage h.pages → ⊥)
+    → IfNone at (HasZeroPage s → ⊥)
 unfolding HasZeroPage KeepsZeroPage
-zero_page_told p s h now r same holds_now told = (λ is. up (told.0 is), λ h. told.1 (down h))
+no_zero_told p s h now (Some k) same holds_now told = tt
+no_zero_told p s h now None same holds_now told = λ has. told (down has)
   where
     holds : Holds p h s
     holds = subst (λ (x : Held). Holds p x s) (sym same) holds_now
-
-    up : KeepsZeroPage h.pages → HasZeroPage s
-    up (u, q, there) = (u, q, each (page_at h.pages u q) refl there)
-      where
-        each : (x : Option (List ℕ)) → page_at h.pages u q ≡ x → IsSomeAnd x AreZero → MayRelease s u q
-        each None e z = absurd z
-        each (Some ws) e z = (may_release p s h u q ws true holds e (λ t. z, λ t. refl)).0 refl
 
     down : HasZeroPage s → KeepsZeroPage h.pages
     down (u, q, may) = (u, q, each (page_at h.pages u q) refl)
@@ -106,5 +109,13 @@ zero_page_told p s h now r same holds_now told = (λ is. up (told.0 is), λ h. t
         each None e = let clash : true ≡ false = sym may.there ∙ holds.pages.there u q ∙ ap is_some e in cc
         each (Some ws) e = zero_there h.pages s u q ws holds.pages e may.zeros
 
--- what the proof of `has_zero_page` is given
-pub ruleset has_zero_page_steps = (all_to_come, passed_over, none_left)
+-- that there is a stored page of zeros, by the look for the first
+pub zero_decides : (s : Store) (at : Option (ℕ × ℕ)) → IfSome at (λ k. MayRelease s k.0 k.1)
+    → IfNone at (HasZeroPage s → ⊥)
+    → Decides (is_some at) (HasZeroPage s)
+unfolding HasZeroPage
+zero_decides s None found none = (λ e. let z : false ≡ true = e in cc, λ has. absurd (none has))
+zero_decides s (Some k) found none = (λ e. (k.0, k.1, found), λ has. refl)
+
+-- what the proof of `zero_page` is given
+pub ruleset zero_page_steps = (all_to_come, passed_over, none_left)

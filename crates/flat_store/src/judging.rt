@@ -38,7 +38,7 @@ pub(crate) fn place_of(processes: &[Progress], process: u32) -> u32
 }
 
 /// Whether a drive's failure was told of a process since its last answer.
-fn is_faulted(processes: &[Progress], process: u32) -> bool
+pub(crate) fn is_faulted(processes: &[Progress], process: u32) -> bool
     ensures { result ≡ (progress_at processes.now process).faulted }
 {
     match processes.get(process as usize) {
@@ -49,7 +49,7 @@ fn is_faulted(processes: &[Progress], process: u32) -> bool
 
 impl FlatStore {
     /// Whether it is a process's turn: where the first process is the initializer, no other runs before it has ended.
-    pub(crate) fn is_turn(&self, script: &Script, process: u32) -> bool
+    pub fn is_turn(&self, script: &Script, process: u32) -> bool
         ensures { (s : Store) → Shows script.now self.now s → result ≡ is_turn script.now s process }
     {
         !script.initializer() || process == 0 || has_ended(&self.processes, 0)

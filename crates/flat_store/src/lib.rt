@@ -20,4 +20,5 @@ mod sizes;
 mod store;
 
 pub use no_memory::NoMemory;
+pub use replies::may_fail;
 pub use store::{FlatStore, command_at};

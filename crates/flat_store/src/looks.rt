@@ -1,9 +1,10 @@
-ghost use Rattle.std.specs.Prelude.{◌≡◌, ◌/◌, ◌<◌, is_some, IsSome, None, Some, IfOk, IfErr};
+ghost use Rattle.std.specs.Prelude.{◌≡◌, ◌/◌, ◌<◌, is_some, IsSome, None, Some, IfOk, IfErr, IfNone, IfSome};
 ghost use Rattle.script.specs.Plans.{Plan};
 ghost use Rattle.tree_model.specs.Tree.{entries_on, node_in, taken_on, used_by};
 ghost use Rattle.accounts.specs.Maps.{Counts};
 ghost use Rattle.flat_model.specs.Branches.{branch_at, node_at, segment_at};
 ghost use Rattle.flat_model.specs.Commands.{tries_on};
+ghost use Rattle.flat_model.specs.Legal.{MayRelease};
 ghost use Rattle.flat_model.specs.Pages.{is_stored, is_zero_page, without_words};
 ghost use Rattle.flat_model.specs.Store.{Store, known_uid, progress_of};
 ghost use Rattle.std.specs.Bool.{Decides};
@@ -11,7 +12,7 @@ ghost use Rattle.flat_store.specs.Zeros.{HasZeroPage};
 ghost use Rattle.flat_store.specs.Shown.{Shows, pool_at, superior_at, uid_at};
 
 use crate::gauges::used_at;
-use crate::judging::{has_ended, place_of};
+use crate::judging::{has_ended, is_faulted, place_of};
 use crate::numbers::uid_of;
 use crate::progress::Progress;
 use crate::store::FlatStore;
@@ -53,7 +54,17 @@ impl FlatStore {
     pub fn has_zero_page(&self) -> bool
         ensures { (p : Plan) (store : Store) → Shows p self.now store → Decides result (HasZeroPage store) }
     {
-        self.holdings.has_zero_page()
+        self.zero_page().is_some()
+    }
+
+    /// The first page that is stored though each of its words is 0: the least uid, then the least page. It looks at each
+    /// stored page up to that one.
+    pub fn zero_page(&self) -> Option<(u32, u32)>
+        ensures some { (p : Plan) (store : Store) → Shows p self.now store
+            → IfSome result (λ at. MayRelease store at.0 at.1) }
+        ensures none { (p : Plan) (store : Store) → Shows p self.now store → IfNone result (HasZeroPage store → ⊥) }
+    {
+        self.holdings.zero_page()
     }
 
     /// Whether the page that an offset of the segment of a uid cuts is all zeros once the words from it on are 0.
@@ -172,6 +183,14 @@ impl FlatStore {
         ensures { (p : Plan) (store : Store) → Shows p self.now store → result ≡ (progress_of store process).ended }
     {
         has_ended(&self.processes, process)
+    }
+
+    /// Whether a drive's failure was told of a process since its last answer.
+    pub fn is_faulted(&self, process: u32) -> bool
+        ensures { (p : Plan) (store : Store) → Shows p self.now store
+            → result ≡ (progress_of store process).faulted }
+    {
+        is_faulted(&self.processes, process)
     }
 
     /// The place of the next command of a process, counted from 0; 0 where the process isn't there.

@@ -163,7 +163,7 @@ impl FlatStore {
     }
 
     /// Whether the reply to a command of a process is held back until a segment has moved.
-    pub(crate) fn is_held_back(&self, script: &Script, process: u32, command: &Command) -> bool
+    pub fn is_held_back(&self, script: &Script, process: u32, command: &Command) -> bool
         requires { process < length script.now.processes }
         ensures { (s : Store) → IsShown script.now self.now s
             → result ≡ is_held_back script.now s process command.now }
@@ -172,6 +172,13 @@ impl FlatStore {
             Some(reference) => self.is_held_by(script, process, &reference),
             None => false,
         }
+    }
+
+    /// The first volume, in the order of the script, that has room for a segment whose own has no free record.
+    pub fn room_for(&self, uid: u32) -> Option<usize>
+        ensures { (p : Plan) (s : Store) → Shows p self.now s → result ≡ room_for p s uid }
+    {
+        self.holdings.room_for(uid)
     }
 
     /// Whether a process's reference is to this segment, and lacks nothing but a free record of its volume.

@@ -1,6 +1,6 @@
 ghost use Rattle.std.specs.Prelude.{◌≡◌, ◌<◌, ◌≤◌, ◌↔◌, List, [], ℕ, false};
 ghost use Rattle.std.specs.Prelude.{Some, None, IfSome, IfNone, OnOk, OnErr, IsTrue, replicate, slice_set, is_some};
-ghost use Rattle.std.specs.Prelude.{◌&&◌, IsSome, nat_le, nat_lt};
+ghost use Rattle.std.specs.Prelude.{◌&&◌, IsSome, IsSomeAnd, nat_le, nat_lt};
 ghost use Rattle.mword.specs.Words.{AreZero};
 ghost use Rattle.std.specs.Bool.{Decides};
 ghost use Rattle.flat_model.specs.Cuts.{cut_at};
@@ -65,18 +65,19 @@ impl Pages {
         }
     }
 
-    /// Whether a page is all zeros. It looks at each page up to the first such one, and there up to the first word that
-    /// isn't 0.
-    #[tactic(auto, using(crate::proofs::ZeroPages::has_zero_page_steps, std::proofs::lemmas::Grind::common_steps))]
-    pub(crate) fn has_zero_page(&self) -> bool
-        ensures { Decides result (KeepsZeroPage self.now) }
+    /// The first page that is all zeros: the least uid, then the least page. It looks at each page up to that one, and
+    /// there up to the first word that isn't 0.
+    #[tactic(auto, using(crate::proofs::ZeroPages::zero_page_steps, std::proofs::lemmas::Grind::common_steps))]
+    pub(crate) fn zero_page(&self) -> Option<(u32, u32)>
+        ensures some { IfSome result (λ at. IsSomeAnd (page_at self.now at.0 at.1) AreZero) }
+        ensures none { IfNone result (KeepsZeroPage self.now → ⊥) }
     {
-        for (_, words) in self.pages.iter() {
+        for (key, words) in self.pages.iter() {
             if words.is_zero() {
-                return true;
+                return Some(*key);
             }
         }
-        false
+        None
     }
 
     /// A page is stored no more.

@@ -1,4 +1,4 @@
-ghost use Rattle.std.specs.Prelude.{◌≡◌, ◌/◌, ◌<◌, ◌≤◌, ◌↔◌, ◌==◌, ℕ, IsTrue, slice_index};
+ghost use Rattle.std.specs.Prelude.{◌≡◌, ◌/◌, ◌<◌, ◌≤◌, ◌↔◌, ◌==◌, ℕ, IfNone, IfSome, IsTrue, slice_index};
 ghost use Rattle.script.specs.Plans.{Plan};
 ghost use Rattle.flat_model.specs.Legal.{MayRelease};
 ghost use Rattle.flat_model.specs.Pages.{is_zero_page, without_stored, without_words};
@@ -21,11 +21,12 @@ impl Holdings {
         }
     }
 
-    /// Whether a stored page is all zeros.
-    pub(crate) fn has_zero_page(&self) -> bool
-        ensures { (p : Plan) (s : Store) → Holds p self.now s → Decides result (HasZeroPage s) }
+    /// The first stored page that is all zeros.
+    pub(crate) fn zero_page(&self) -> Option<(u32, u32)>
+        ensures some { (p : Plan) (s : Store) → Holds p self.now s → IfSome result (λ at. MayRelease s at.0 at.1) }
+        ensures none { (p : Plan) (s : Store) → Holds p self.now s → IfNone result (HasZeroPage s → ⊥) }
     {
-        self.pages.has_zero_page()
+        self.pages.zero_page()
     }
 
     /// Gives up a page of zeros.

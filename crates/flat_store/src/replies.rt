@@ -65,7 +65,7 @@ fn is_early(reply: &Reply) -> bool
 }
 
 /// Whether a drive's failure may be told in place of a reply to a command.
-fn may_fail(command: &Command, due: &Reply) -> bool
+pub fn may_fail(command: &Command, due: &Reply) -> bool
     ensures { result ≡ may_fail command.now due.now }
 {
     if command.reference().is_some() {

@@ -1,7 +1,10 @@
-use Rattle.std.proofs.Common.{subst, sym}
-use Rattle.flat_store.specs.Shown.{Holds, Kept}
+use Rattle.std.proofs.Common.{Bool, subst, sym}
+use Rattle.std.specs.Bool.{Decides}
+use Rattle.flat_store.specs.Zeros.{HasZeroPage}
+use Rattle.flat_store.proofs.ZeroPages.{zero_decides}
 use Rattle.flat_store.proofs.store.FlatStore.has_zero_page.Goals as goal
 
 pub returns : goal.returns
-returns c = λ p store shows.
-    c.has_zero_page.ensures p store (subst (λ (k : Kept). Holds p k.held store) (sym c.self.view_is) shows.shown.holds)
+returns c =
+    λ p s shows. subst (λ (b : Bool). Decides b (HasZeroPage s)) (sym c.is_some.ensures)
+    (zero_decides s c.zero_page.result (c.zero_page.ensures.some p s shows) (c.zero_page.ensures.none p s shows))
