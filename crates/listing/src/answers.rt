@@ -68,7 +68,7 @@ fn push_process(out: &mut String, k: u32, who: &Who) -> Result<(), AllocError>
 
 /// Appends for each process its line and those of its command entries.
 #[tactic(auto, using(crate::proofs::LineLaws::push_processes_steps, std::proofs::lemmas::Grind::common_steps))]
-fn push_processes(out: &mut String, book: &Book) -> Result<(), AllocError>
+pub(crate) fn push_processes(out: &mut String, book: &Book) -> Result<(), AllocError>
     ensures { OnOk result (string_bytes out.new ≡ string_bytes out.old
         ++ processes_lines book.now.script book.now.entries 0 book.now.script.processes) }
 {

@@ -4,14 +4,14 @@
 
 ghost use Rattle.std.specs.Prelude.{◌≡◌, ◌++◌, IfOk};
 ghost use Rattle.flat_model.specs.Legal.{IsLegal};
-ghost use Rattle.listing.specs.Listings.{body_of, summary_text, listing_of};
+ghost use Rattle.listing.specs.Listings.{body_of, listing_of, processes_lines, summary_text};
 
 mod answers;
 mod counts;
 mod lines;
 mod summing;
 
-use answers::push_body;
+use answers::{push_body, push_processes};
 use book::Book;
 pub use counts::{AccountCount, Summary, VolumeCount, VolumeUse};
 use flat_store::FlatStore;
@@ -35,6 +35,20 @@ pub fn listing_text(alloc: Global, book: &Book) -> Result<Vec<u8>, NoMemory>
     let store = FlatStore::after(alloc, book)?;
     let summary = summary(alloc, book.script(), &store)?;
     listing_of_summary(alloc, book, &summary)
+}
+
+/// What each process of a book was answered, as a listing of the mode `replies` begins: for each process a line, and
+/// one for each of its command entries. It takes memory for the text, and goes once through the book for each process.
+///
+/// # Errors
+/// `NoMemory` is want of memory.
+pub fn replies_text(alloc: Global, book: &Book) -> Result<Vec<u8>, NoMemory>
+    ensures { IfOk result (λ text. text.items
+        ≡ processes_lines book.now.script book.now.entries 0 book.now.script.processes) }
+{
+    let mut text = String::new(alloc);
+    push_processes(&mut text, book)?;
+    Ok(text.into_bytes())
 }
 
 /// What the script of a book prints, and these accounts and volumes. It takes memory for the text, and goes at most
