@@ -1,0 +1,94 @@
+-- What the looks at the flat store say of a reason.
+use Rattle.std.proofs.Common.{◌≡◌, ℕ, suc, ◌+◌, ◌*◌, ◌<◌, ◌≤◌, Bool, true, false, List, [], ◌∷◌, length, Option}
+use Rattle.std.proofs.Common.{Some, None, refl, sym, subst, ◌∙◌, arith, inl, inr}
+use Rattle.std.specs.Prelude.{IfNone, IfSome, slice_index_or}
+use Rattle.std.specs.List.{list_all}
+use Rattle.std.proofs.lemmas.Bool.{cases_Bool, cases_eq}
+use Rattle.std.specs.Bool.{Decides}
+use Rattle.script.specs.Plans.{Plan}
+use Rattle.flat_model.specs.Legal.{MayFault, MayRelease}
+use Rattle.flat_model.specs.Pages.{is_stored, is_zero_page}
+use Rattle.flat_model.specs.Store.{Progress, Store, progress_of}
+use Rattle.flat_model.proofs.ZeroLaws.{words_zero, zero_words}
+use Rattle.flat_store.specs.Shown.{Kept, Shows}
+use Rattle.book.specs.declared.entries.Entry.{Entry}
+use Rattle.book.specs.declared.entries.Entry.TheVariants as entry
+use Rattle.legal_reasons.specs.declared.reasons.Reason.{Reason}
+use Rattle.legal_reasons.specs.Reasons.{HasWordAt, HaveEnded, IsAbout, IsSaid, IsSo, process_in}
+
+each_ended : (qs : List Progress) → ((k : ℕ) → k < length qs
+    → (slice_index_or qs k (record { place = 0; tries = 0; ended = true; faulted = false })).ended ≡ true)
+    → list_all (λ q. q.ended) qs ≡ true
+each_ended [] each = refl
+each_ended (q ∷ qs) each =
+    let first : q.ended ≡ true = each 0 (omega arith) in
+    let rest : list_all (λ x. x.ended) qs ≡ true = each_ended qs (λ k lt. each (suc k) (omega arith)) in
+    rw (first, rest) refl
+
+-- where each process has ended a drive's failure may be told of none
+pub may_fault : (p : Plan) (k : Kept) (s : Store) → Shows p k s → HaveEnded p s → MayFault s None
+unfolding HaveEnded
+may_fault p k s shown all = each_ended s.processes (λ j lt. all j (subst (λ (n : ℕ). j < n) shown.shown.runners lt))
+
+-- a page that is stored, and may not be given up, isn't all zeros
+pub not_zeros : (s : Store) (u q : ℕ) → is_stored s.stored u q ≡ true → (MayRelease s u q → ⊥)
+    → is_zero_page s.words u q ≡ false
+not_zeros s u q there not_ = elim (cases_Bool (is_zero_page s.words u q)) [
+  | inl e ↦ absurd (not_ (record { there = there; zeros = e }))
+  | inr e ↦ e
+]
+
+pub all_ended : (p : Plan) (s : Store) (k : ℕ) → length p.processes ≤ k
+    → ((j : ℕ) → j < k → (progress_of s j).ended ≡ true) → HaveEnded p s
+unfolding HaveEnded
+all_ended p s k most all j lt = all j (omega (arith, lt, most))
+
+-- a word that was looked at is 0
+word_is_zero : (s : Store) (u q at : ℕ) (r : Bool) → Decides r (HasWordAt s u q at) → r ≡ false → q < 4194304
+    → at < 1024
+    → s.words u (1024 * q + at) ≡ 0
+word_is_zero s u q at r told no_ small lt = elim (cases_eq (s.words u (1024 * q + at)) 0) [
+  | inl same ↦ same
+  | inr other ↦
+      let there : r ≡ true = told.1 (record { within = omega (arith, small, lt); other = other }) in
+      absurd (let clash : false ≡ true = sym no_ ∙ there in cc)
+]
+
+pub words_so_far : (s : Store) (u q at : ℕ) (r : Bool) → Decides r (HasWordAt s u q at) → r ≡ false → q < 4194304
+    → at < 1024
+    → ((i : ℕ) → i < at → s.words u (1024 * q + i) ≡ 0)
+    → (i : ℕ) → i < at + 1 → s.words u (1024 * q + i) ≡ 0
+words_so_far s u q at r told no_ small lt all i less = elim (cases_eq i at) [
+  | inl same ↦ subst (λ (j : ℕ). s.words u (1024 * q + j) ≡ 0) (sym same) (word_is_zero s u q at r told no_ small lt)
+  | inr other ↦ all i (omega (arith, less, other))
+]
+
+pub all_words_zero : (s : Store) (u q at : ℕ) → 1024 ≤ at → ((i : ℕ) → i < at → s.words u (1024 * q + i) ≡ 0)
+    → is_zero_page s.words u q ≡ true
+all_words_zero s u q at most all = words_zero s.words u q (λ i lt. all i (omega (arith, lt, most)))
+
+-- a page of which no word was found to be other than 0 is one that no segment has
+pub found_at : (s : Store) (u q at : ℕ) → HasWordAt s u q at → at < 1024 → is_zero_page s.words u q ≡ false
+found_at s u q at there lt = elim (cases_Bool (is_zero_page s.words u q)) [
+  | inl e ↦ absurd (there.other (zero_words s.words u q at e lt))
+  | inr e ↦ e
+]
+
+pub when_none : {A : Type 0} {X : Type 0} (r : Option A) → X → IfNone r X
+when_none None x = x
+when_none (Some a) x = tt
+
+pub map_none : {A : Type 0} {X Y : Type 0} (r : Option A) → (X → Y) → IfNone r X → IfNone r Y
+map_none None f x = f x
+map_none (Some a) f x = tt
+
+-- why no failure of a drive is told of a process, or of none, as what is so of its entry
+pub fault_so : (p : Plan) (s : Store) (o : Option ℕ) (e : Entry) → e ≡ entry.Fault o → (r : Option Reason)
+    → IfSome r (λ x. IsSaid p s x) → IfSome o (λ k. IfSome r (λ x. process_in x ≡ Some k))
+    → IfSome r (λ x. IsSo p s e x)
+fault_so p s None e is None said about = tt
+fault_so p s None e is (Some x) said about =
+    record { about = subst (λ (y : Entry). IsAbout y x) (sym is) tt; said = said }
+fault_so p s (Some k) e is None said about = tt
+fault_so p s (Some k) e is (Some x) said about =
+    record { about = subst (λ (y : Entry). IsAbout y x) (sym is) about; said = said }
