@@ -1,0 +1,3 @@
+pub mod SeekLaws
+pub mod FrameLaws
+pub mod RowLaws

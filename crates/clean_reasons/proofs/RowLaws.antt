@@ -1,0 +1,73 @@
+-- How what rows tell of their parts tells of the whole.
+use Rattle.std.proofs.Common.{◌≡◌, ℕ, ◌<◌, ◌≤◌, true, false, Option, Some, None}
+use Rattle.std.proofs.Common.{sym, ap, subst, ◌∙◌, leb}
+use Rattle.std.specs.Prelude.{MatchOption, IfNone, IfSome, IsSomeAnd, count_by}
+use Rattle.std.specs.Option.{unwrap_or, is_some}
+use Rattle.std.specs.Bool.{Decides}
+use Rattle.std.proofs.lemmas.Bool.{le-leb, leb-true}
+use Rattle.script.specs.Plans.{Plan}
+use Rattle.tree_model.specs.Tree.{Node, node_in, pool_of}
+use Rattle.flat_model.specs.Store.{Store}
+use Rattle.flat_store.specs.Shown.{pool_at, superior_at}
+use Rattle.custody_model.specs.Allowed.{MayActivate, MayJoin, is_active_in, pool_size}
+use Rattle.custody.specs.Tables.{AreNodes, Tables, active_at, custody_of, is_in_pool}
+use Rattle.custody.proofs.ActiveLaws.{count_active}
+use Rattle.clean_reasons.specs.Reasons.{ActiveSays}
+use Rattle.clean_reasons.specs.declared.reasons.ActiveReason.{ActiveReason}
+use Rattle.clean_reasons.specs.declared.reasons.ActiveReason.TheVariants as active
+
+-- ---- active segments
+
+-- a pool is as full as the table says
+pub full : (s : Store) (t : Tables) (z m : ℕ) → AreNodes s.nodes t.active → m ≤ count_by (is_in_pool z) t.active
+    → m ≤ count_by (is_active_in (custody_of t) z) s.nodes
+full s t z m nodes h = subst (λ (x : ℕ). m ≤ x) (sym (count_active s.nodes t.active z nodes)) h
+
+pub activates : (p : Plan) (s : Store) (t : Tables) (u z : ℕ) (superior pool : Option ℕ)
+    → superior ≡ superior_at (node_in s.nodes u) → pool ≡ pool_at (node_in s.nodes u) → pool ≡ Some z
+    → AreNodes s.nodes t.active → is_some (active_at t.active u) ≡ false
+    → IfSome superior (λ v. is_some (active_at t.active v) ≡ true)
+    → count_by (is_in_pool z) t.active < pool_size p z → MayActivate p s (custody_of t) u
+activates p s t u z superior pool is of some nodes inactive above room = record {
+  inactive = inactive;
+  node = by (node_in s.nodes u) is of;
+}
+  where
+    by : (o : Option Node) → superior ≡ superior_at o → pool ≡ pool_at o → IsSomeAnd o (MayJoin p s (custody_of t))
+    by None e f = let x : Some z ≡ None = sym some ∙ f in let no : ⊥ = cc in absurd no
+    by (Some n) e f =
+        let same : z ≡ pool_of n = ap (λ (x : Option ℕ). unwrap_or x z) (sym some ∙ f) in record {
+          superior = subst (λ (x : Option ℕ). IfSome x (λ v. is_some (active_at t.active v) ≡ true)) e above;
+          room = subst (λ (y : ℕ). count_by (is_active_in (custody_of t) y) s.nodes < pool_size p y) same
+              (subst (λ (x : ℕ). x < pool_size p z) (sym (count_active s.nodes t.active z nodes)) room);
+        }
+
+-- a pool's reason, by the table's count
+pub pool_decides : (s : Store) (t : Tables) (z m n : ℕ) (r : ActiveReason) → r ≡ active.Pool z m
+    → n ≡ count_by (is_in_pool z) t.active → AreNodes s.nodes t.active
+    → Decides (leb m n) (ActiveSays s (custody_of t) r)
+pool_decides s t z m n r is of nodes = subst (λ (x : ActiveReason). Decides (leb m n) (ActiveSays s (custody_of t) x))
+    (sym is) (
+      λ e. full s t z m nodes (subst (λ (x : ℕ). m ≤ x) of (leb-true m n e)),
+      λ h. le-leb m n (subst (λ (x : ℕ). m ≤ x) (count_active s.nodes t.active z nodes ∙ sym of) h),
+    )
+
+-- ---- how rows tell of an entry
+
+pub and_some : {X : Type 0} (P : X → Type 0) (o : Option X) (x : X) → o ≡ Some x → P x → IsSomeAnd o P
+and_some P o x e h = subst (λ (y : Option _). IsSomeAnd y P) (sym e) h
+
+pub if_some : {X : Type 0} (P : X → Type 0) (o : Option X) (x : X) → o ≡ Some x → P x → IfSome o P
+if_some P o x e h = subst (λ (y : Option _). IfSome y P) (sym e) h
+
+pub if_none : {X : Type 0} (P : X → Type 0) (o : Option X) → o ≡ None → IfSome o P
+if_none P o e = subst (λ (y : Option _). IfSome y P) (sym e) tt
+
+pub maps : {R : Type 0} (A B : Type 0) (Q : R → Type 0) (r : Option R) → (A → B) → MatchOption r A Q → MatchOption r B Q
+maps A B Q None f h = f h
+maps A B Q (Some x) f h = h
+
+pub both_tell : {R : Type 0} (A B C : Type 0) (Q : R → Type 0) (r : Option R) → (A → B → C) → IfNone r A → IfNone r B
+    → IfSome r Q → MatchOption r C Q
+both_tell A B C Q None f a b h = f a b
+both_tell A B C Q (Some x) f a b h = h

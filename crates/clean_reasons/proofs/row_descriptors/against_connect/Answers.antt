@@ -1,0 +1,10 @@
+use Rattle.std.proofs.Common.{sym, ◌∙◌, rules}
+use Rattle.custody.specs.Tables.{custody_of}
+use Rattle.clean_reasons.proofs.row_descriptors.against_connect.Goals as goal
+
+pub returns-in-Free : goal.returns-in-Free
+returns-in-Free c = λ s shown. record {
+  known = c.in_default.ensures c.args.script.now s (custody_of c.args.custody.now) shown;
+  active = sym c.is_active.ensures ∙ (search rules);
+  free = sym c.descriptor.ensures ∙ c.in-Free.is;
+}

@@ -1,0 +1,14 @@
+use Rattle.std.proofs.Common.{sym, ◌∙◌}
+use Rattle.clean_reasons.proofs.RowLaws.{and_some}
+use Rattle.custody.specs.Tables.{custody_of, seat_at}
+use Rattle.custody_model.specs.Allowed.{MayTakeSeg}
+use Rattle.clean_reasons.proofs.row_seats.against_fill_seg.Goals as goal
+
+pub returns : goal.returns
+returns c = λ s.
+    and_some (MayTakeSeg (custody_of c.args.custody.now) (seat_at c.args.custody.now.seats c.args.cpu) c.args.number)
+    (seat_at c.args.custody.now.seats c.args.cpu).process c.in-Some.process (sym c.process_of.ensures ∙ c.in-Some.is)
+    (record {
+      current = c.in_default-against_current.ensures s;
+      new = sym c.holds_seg.ensures ∙ c.if-holds_seg.false;
+    })

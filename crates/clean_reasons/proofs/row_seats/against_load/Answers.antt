@@ -1,0 +1,9 @@
+use Rattle.std.proofs.Common.{sym, ◌∙◌, rules}
+use Rattle.clean_reasons.proofs.row_seats.against_load.Goals as goal
+
+pub returns-in-None : goal.returns-in-None
+returns-in-None c = λ s. record {
+  online = sym c.is_online.ensures ∙ (search rules);
+  empty = sym c.process_of.ensures ∙ c.in_default.is;
+  front = c.in-None.ensures s;
+}

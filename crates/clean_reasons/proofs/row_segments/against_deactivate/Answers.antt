@@ -1,0 +1,21 @@
+use Rattle.std.proofs.Common.{◌≡◌, ◌≢◌, ℕ, Some, true, sym, ◌∙◌, rules}
+use Rattle.clean_reasons.proofs.RowLaws.{both_tell}
+use Rattle.custody.specs.Tables.{custody_of}
+use Rattle.custody_model.specs.Allowed.{MayDeactivate, superior_in}
+use Rattle.custody_model.specs.Effects.{HasNoDescriptor, HasNoPage}
+use Rattle.tree_model.specs.Tree.{node_in}
+use Rattle.clean_reasons.specs.Reasons.{IsSo}
+use Rattle.book.specs.declared.entries.Entry.TheVariants as entry
+use Rattle.clean_reasons.proofs.row_segments.against_deactivate.Goals as goal
+
+pub returns : goal.returns
+returns c = λ s shown.
+    let is : (custody_of c.args.custody.now).active c.args.uid ≡ true = sym c.is_active.ensures ∙ (search rules) in
+    let below : (v : ℕ) → (custody_of c.args.custody.now).active v ≡ true → superior_in (node_in s.nodes v) ≢ Some c.args.uid =
+    c.in_default.ensures.none c.args.script.now s shown in
+    both_tell (HasNoPage (custody_of c.args.custody.now) c.args.uid) (HasNoDescriptor (custody_of c.args.custody.now) c.args.uid)
+    (MayDeactivate s (custody_of c.args.custody.now) c.args.uid)
+    (IsSo c.args.script.now s (custody_of c.args.custody.now) (entry.Deactivate c.args.uid)) c.against_disuse.result
+    (λ h d. record { active = is; inferiors = below; pages = h; descriptors = d })
+    c.against_disuse.ensures.none c.against_disuse.ensures.free
+    (c.against_disuse.ensures.so s (entry.Deactivate c.args.uid))

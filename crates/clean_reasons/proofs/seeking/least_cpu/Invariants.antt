@@ -1,0 +1,8 @@
+use Rattle.std.proofs.Common.{◌≡◌, ◌<◌, ℕ, false}
+use Rattle.custody.specs.Tables.{custody_of}
+use Rattle.clean_reasons.specs.Seeking.{seat_passes}
+use Rattle.clean_reasons.proofs.seeking.least_cpu.Given as goal
+
+-- no processor so far is looked for
+abbrev pub invariant-loop-cpu : goal.invariant-loop-cpu
+invariant-loop-cpu l = (d : ℕ) → d < l.cpu → seat_passes l.seek ((custody_of l.custody).seat d) ≡ false

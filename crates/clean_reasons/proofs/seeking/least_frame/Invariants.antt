@@ -1,0 +1,8 @@
+use Rattle.std.proofs.Common.{◌≡◌, ◌<◌, ℕ, false}
+use Rattle.custody.specs.Tables.{custody_of}
+use Rattle.clean_reasons.specs.Seeking.{frame_passes}
+use Rattle.clean_reasons.proofs.seeking.least_frame.Given as goal
+
+-- no frame so far is looked for
+abbrev pub invariant-loop-frame : goal.invariant-loop-frame
+invariant-loop-frame l = (f : ℕ) → f < l.frame → frame_passes l.seek f ((custody_of l.custody).frame f) ≡ false

@@ -1,0 +1,62 @@
+use Rattle.clean_reasons.specs.Texts.{seat_text}
+use Rattle.clean_reasons.proofs.texts.SeatReasonDisplay.fmt.Goals as goal
+
+pub returns-in-Online-clause-writes : goal.returns-in-Online-clause-writes
+unfolding seat_text
+returns-in-Online-clause-writes g c = rw c.in-Online.is c.write.ensures.writes
+
+pub returns-in-Offline-clause-writes : goal.returns-in-Offline-clause-writes
+unfolding seat_text
+returns-in-Offline-clause-writes g c = rw c.in-Offline.is c.write-in-Offline.ensures.writes
+
+pub returns-in-Busy-clause-writes : goal.returns-in-Busy-clause-writes
+unfolding seat_text
+returns-in-Busy-clause-writes g c = rw c.in-Busy.is c.write-in-Busy.ensures.writes
+
+pub returns-in-Idle-clause-writes : goal.returns-in-Idle-clause-writes
+unfolding seat_text
+returns-in-Idle-clause-writes g c = rw c.in-Idle.is c.write-in-Idle.ensures.writes
+
+pub returns-in-OtherProcess-clause-writes : goal.returns-in-OtherProcess-clause-writes
+unfolding seat_text
+returns-in-OtherProcess-clause-writes g c = rw c.in-OtherProcess.is c.write-in-OtherProcess.ensures.writes
+
+pub returns-in-Due-clause-writes : goal.returns-in-Due-clause-writes
+unfolding seat_text
+returns-in-Due-clause-writes g c = rw c.in-Due.is c.write-in-Due.ensures.writes
+
+pub returns-in-NoneDue-clause-writes : goal.returns-in-NoneDue-clause-writes
+unfolding seat_text
+returns-in-NoneDue-clause-writes g c = rw c.in-NoneDue.is c.write-in-NoneDue.ensures.writes
+
+pub returns-in-OtherDue-clause-writes : goal.returns-in-OtherDue-clause-writes
+unfolding seat_text
+returns-in-OtherDue-clause-writes g c = rw c.in-OtherDue.is c.write-in-OtherDue.ensures.writes
+
+pub returns-in-HoldsSegAlready-clause-writes : goal.returns-in-HoldsSegAlready-clause-writes
+unfolding seat_text
+returns-in-HoldsSegAlready-clause-writes g c = rw c.in-HoldsSegAlready.is c.write-in-HoldsSegAlready.ensures.writes
+
+pub returns-in-HoldsPageAlready-clause-writes : goal.returns-in-HoldsPageAlready-clause-writes
+unfolding seat_text
+returns-in-HoldsPageAlready-clause-writes g c = rw c.in-HoldsPageAlready.is c.write-in-HoldsPageAlready.ensures.writes
+
+pub returns-in-HoldsSeg-clause-writes : goal.returns-in-HoldsSeg-clause-writes
+unfolding seat_text
+returns-in-HoldsSeg-clause-writes g c = rw c.in-HoldsSeg.is c.write-in-HoldsSeg.ensures.writes
+
+pub returns-in-HoldsPage-clause-writes : goal.returns-in-HoldsPage-clause-writes
+unfolding seat_text
+returns-in-HoldsPage-clause-writes g c = rw c.in-HoldsPage.is c.write-in-HoldsPage.ensures.writes
+
+pub returns-in-LacksSeg-clause-writes : goal.returns-in-LacksSeg-clause-writes
+unfolding seat_text
+returns-in-LacksSeg-clause-writes g c = rw c.in-LacksSeg.is c.write-in-LacksSeg.ensures.writes
+
+pub returns-in-LacksPage-clause-writes : goal.returns-in-LacksPage-clause-writes
+unfolding seat_text
+returns-in-LacksPage-clause-writes g c = rw c.in-LacksPage.is c.write-in-LacksPage.ensures.writes
+
+pub returns-in-Early-clause-writes : goal.returns-in-Early-clause-writes
+unfolding seat_text
+returns-in-Early-clause-writes g c = rw c.in-Early.is c.write-in-Early.ensures.writes

@@ -1,0 +1,5 @@
+pub mod Answers
+pub mod Entries
+pub mod Reasons
+pub mod Seeking
+pub mod Texts

@@ -1,0 +1,126 @@
+ghost use Rattle.std.specs.Prelude.{◌≡◌, true, MatchOption, Some};
+ghost use Rattle.flat_model.specs.Store.{Store, known_uid};
+ghost use Rattle.script.specs.Plans.{Plan};
+ghost use Rattle.flat_store.specs.Shown.{Shows};
+ghost use Rattle.book.specs.declared.entries.Entry.{Entry};
+ghost use Rattle.book.specs.declared.entries.Entry.TheVariants as entry;
+ghost use Rattle.custody_model.specs.Allowed.{MayEndSeg};
+ghost use Rattle.custody_model.specs.Custody.{Custody as Holding, is_current_descriptor};
+ghost use Rattle.custody.specs.Tables.{AreTablesOf, custody_of};
+ghost use Rattle.clean_reasons.specs.Reasons.{DescriptorSays, IsSo, Tells};
+
+use crate::reasons::{Absent, ActiveReason, DescriptorReason, Reason, SeatReason};
+use crate::seeking::{SeatSeek, least_cpu};
+use custody::Custody;
+use custody_model::DescriptorUse;
+use flat_store::FlatStore;
+use script::Script;
+
+/// Why a number of a process doesn't stand for a segment.
+fn against_known(store: &FlatStore, process: u32, number: u32, uid: u32) -> Option<DescriptorReason>
+    ensures { (p : Plan) (s : Store) (c : Holding) → Shows p store.now s
+        → MatchOption result (known_uid s process number ≡ Some uid) (DescriptorSays s c) }
+{
+    match store.known(process, number) {
+        None => Some(DescriptorReason::Unknown { number, process }),
+        Some(known) if known != uid => Some(DescriptorReason::StandsFor {
+            number,
+            process,
+            known,
+            uid,
+        }),
+        Some(_) => None,
+    }
+}
+
+/// Why a descriptor may not lead to the page table of a segment from now on.
+pub(crate) fn against_connect(
+    script: &Script,
+    store: &FlatStore,
+    custody: &Custody,
+    process: u32,
+    number: u32,
+    uid: u32,
+) -> Option<Reason>
+    ensures { (s : Store) → Shows script.now store.now s
+        → Tells script.now s (custody_of custody.now) (entry.Connect process number uid) result }
+{
+    if process >= script.processes() {
+        return Some(Reason::Absent(Absent::Process { process }));
+    }
+    if let Some(reason) = against_known(store, process, number, uid) {
+        return Some(Reason::Descriptor(reason));
+    }
+    if !custody.is_active(uid) {
+        return Some(Reason::Active(ActiveReason::Inactive { uid }));
+    }
+    match custody.descriptor(process, number) {
+        DescriptorUse::Free => None,
+        _ => Some(Reason::Descriptor(DescriptorReason::Connected { number, process })),
+    }
+}
+
+/// Why a descriptor isn't current.
+pub(crate) fn against_current(
+    custody: &Custody,
+    process: u32,
+    number: u32,
+) -> Option<DescriptorReason>
+    ensures { (s : Store) → MatchOption result
+        (is_current_descriptor ((custody_of custody.now).descriptor process number) ≡ true)
+        (DescriptorSays s (custody_of custody.now)) }
+{
+    match custody.descriptor(process, number) {
+        DescriptorUse::Free => Some(DescriptorReason::Unconnected { number, process }),
+        DescriptorUse::Going { .. } => Some(DescriptorReason::Going { number, process }),
+        DescriptorUse::Current { .. } => None,
+    }
+}
+
+/// Why a descriptor may not be on its way out from now on.
+pub(crate) fn against_cut(
+    script: &Script,
+    custody: &Custody,
+    process: u32,
+    number: u32,
+) -> Option<Reason>
+    ensures { (s : Store) → Tells script.now s (custody_of custody.now) (entry.Cut process number) result }
+{
+    if process >= script.processes() {
+        return Some(Reason::Absent(Absent::Process { process }));
+    }
+    match against_current(custody, process, number) {
+        Some(reason) => Some(Reason::Descriptor(reason)),
+        None => None,
+    }
+}
+
+/// Why a descriptor, on its way out, may neither be gone nor back.
+pub(crate) fn against_end_of_seg(
+    script: &Script,
+    custody: &Custody,
+    process: u32,
+    number: u32,
+) -> Option<Reason>
+    requires { AreTablesOf script.now custody.now }
+    ensures { (s : Store) (e : Entry) → MatchOption result (MayEndSeg (custody_of custody.now) process number)
+        (IsSo script.now s (custody_of custody.now) e) }
+{
+    if process >= script.processes() {
+        return Some(Reason::Absent(Absent::Process { process }));
+    }
+    if !matches!(
+        custody.descriptor(process, number),
+        DescriptorUse::Going { .. }
+    ) {
+        return Some(Reason::Descriptor(DescriptorReason::Stays { number, process }));
+    }
+    match least_cpu(script, custody, SeatSeek::Seg { process, number }) {
+        Some(cpu) => Some(Reason::Seat(SeatReason::HoldsSeg {
+            cpu,
+            number,
+            process,
+        })),
+        None => None,
+    }
+}
