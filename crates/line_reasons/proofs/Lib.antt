@@ -1,0 +1,4 @@
+mod ReasonLaws
+mod LineLaws
+mod FrontLaws
+mod DueLaws

@@ -1,0 +1,5 @@
+pub mod Grammar
+pub mod Reasons
+pub mod Fronts
+pub mod SumTexts
+pub mod DueLines
