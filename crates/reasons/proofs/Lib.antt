@@ -1,0 +1,4 @@
+pub mod LineLaws
+pub mod SinceLaws
+pub mod PassLaws
+pub mod TellLaws

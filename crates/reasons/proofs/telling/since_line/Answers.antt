@@ -1,0 +1,14 @@
+use Rattle.std.proofs.Common.{Option, subst, ◌∙◌}
+use Rattle.std.specs.Prelude.{IfSome}
+use Rattle.script.specs.Fields.{lines_of}
+use Rattle.book_check.specs.Judging.{Judged}
+use Rattle.reasons.specs.Passing.{Begins}
+use Rattle.reasons.proofs.TellLaws.{since_told}
+use Rattle.reasons.proofs.telling.since_line.Goals as goal
+
+pub returns : goal.returns
+returns c = λ p read. since_told c.args.script.now c.in-Some.judge c.go_over.new.judge c.args.first
+    (lines_of c.args.listing.now) _ c.args.reason.now c.go_over.new.since.reason c.go_over.new.since.line p
+    (subst (λ (o : Option Judged). IfSome o (Begins c.args.script.now)) c.in-Some.is c.in_ok-judge.ensures) read
+    c.in_ok-go_over.ensures.script
+    (c.in_ok-go_over.ensures.reason ∙ c.look.ensures.same ∙ c.of-since.ensures.reason) c.in_ok-go_over.ensures.passed
