@@ -3,7 +3,7 @@
 //! what its processes may be answered.
 #![tactic(auto)]
 
-use lab_runs::{Finished, Status, Words, lab};
+use lab_calls::{Finished, Status, Words, lab};
 use site_io::{StdSink, StdSource};
 use std::alloc::{AllocError, Global};
 use std::env::FillError;

@@ -7,23 +7,17 @@ use Rattle.machine.proofs.CallLaws.{counted_on}
 use Rattle.machine.specs.Turns.{HaveCounted, KeepsParts}
 use Rattle.runner.proofs.DriveLaws.{told_still}
 use Rattle.runner.specs.Drives.{AreTold, faults_in, plan_of}
-use Rattle.runner.specs.Endings.{Change, Writes}
 use Rattle.runner.specs.Runs.{IsBooted, Machine}
-use Rattle.runner.specs.Texts.{refusal_text}
 use Rattle.script.specs.Grammar.{script_of}
 use Rattle.script.specs.Plans.{Plan}
-use Rattle.script.specs.declared.refusals.Refusal.{Refusal}
 use Rattle.outcomes.specs.Tables.{Table, added}
 use Rattle.lab_runs.specs.Drawn.{DrawsOut, HasDrawn}
-use Rattle.lab_runs.specs.Endings.{Printed, WritesRefusal}
 use Rattle.lab_runs.specs.Orders.{drawn_cpus}
-use Rattle.lab_runs.specs.Outcomes.{AddsDrawn, AddsRun, CountsTo, EndsOutcomes, Gathers, IsReportOf}
+use Rattle.lab_runs.specs.Outcomes.{AddsDrawn, AddsRun, Gathers}
 use Rattle.lab_runs.specs.Outcomes.{accounts_after, replies_of}
 use Rattle.lab_runs.specs.Runs.{EndsRan}
 use Rattle.lab_runs.specs.Steps.{Runs, moves_of, processor_of}
 use Rattle.lab_runs.specs.declared.running.Ran.{Ran}
-use Rattle.lab_runs.specs.declared.status.Status.{Status}
-use Rattle.lab_runs.specs.declared.status.Status.TheVariants as status
 use Rattle.lab_runs.specs.declared.steps.Step.{Step}
 use Rattle.lab_runs.proofs.StepLaws.{made_keeps, made_run}
 
@@ -56,7 +50,7 @@ module _ (p : Plan) (seed : ℕ) (booted stepped : Machine) (boot : IsBooted p b
       made = out.draws.made;
       run = subst (λ (cs : List ℕ). Runs booted stepped cs (sum_by moves_of out.steps)) cpus
           (made_run booted stepped out.steps out.draws.made);
-      why = out.why;
+      in_time = out.in_time;
       ended = e.ended;
     }
 
@@ -92,38 +86,3 @@ pub gathers_more : (bytes : List ℕ) (seed run : ℕ) (old new : Table) → Gat
 gathers_more bytes seed run old new before one =
     let same : suc run ≡ run + 1 = omega arith in
     subst (λ (n : ℕ). Gathers bytes seed n new) same (old, before, one)
-
--- ---- what was written
-
-counts_by : (runs seed : ℕ) (bytes text : List ℕ) (s : Status) (out : Change) → IsReportOf bytes seed runs text
-    → Printed s out text → EndsOutcomes runs seed bytes s out
-counts_by runs seed bytes text status.Done out report h = record { text = text; report = report; printed = h }
-counts_by runs seed bytes text status.WriteFault out report h = record { text = text; report = report; printed = h }
-counts_by runs seed bytes text status.Memory out report h = h
-counts_by runs seed bytes text (status.Script r) out report h = absurd h
-counts_by runs seed bytes text (status.Schedule r) out report h = absurd h
-counts_by runs seed bytes text status.TooLong out report h = absurd h
-counts_by runs seed bytes text status.Usage out report h = absurd h
-counts_by runs seed bytes text status.ReadFault out report h = absurd h
-
-pub counts_printed : (runs seed : ℕ) (bytes text : List ℕ) (s : Status) (out : Change) → IsReportOf bytes seed runs text
-    → Printed s out text → CountsTo runs seed bytes s out
-counts_printed runs seed bytes text s out report h = record { so = counts_by runs seed bytes text s out report h }
-
-refused_by : (runs seed : ℕ) (bytes : List ℕ) (r : Refusal) (s : Status) (out : Change) → script_of bytes ≡ Err r
-    → WritesRefusal s r out → EndsOutcomes runs seed bytes s out
-refused_by runs seed bytes r (status.Script q) out e w = (
-  subst (λ (x : Refusal). script_of bytes ≡ Err x) (sym w.0) e,
-  subst (λ (x : Refusal). Writes out (refusal_text x)) (sym w.0) w.1,
-)
-refused_by runs seed bytes r status.Memory out e w = w
-refused_by runs seed bytes r status.Done out e w = absurd w
-refused_by runs seed bytes r status.WriteFault out e w = absurd w
-refused_by runs seed bytes r (status.Schedule q) out e w = absurd w
-refused_by runs seed bytes r status.TooLong out e w = absurd w
-refused_by runs seed bytes r status.Usage out e w = absurd w
-refused_by runs seed bytes r status.ReadFault out e w = absurd w
-
-pub counts_refused : (runs seed : ℕ) (bytes : List ℕ) (r : Refusal) (s : Status) (out : Change)
-    → script_of bytes ≡ Err r → WritesRefusal s r out → CountsTo runs seed bytes s out
-counts_refused runs seed bytes r s out e w = record { so = refused_by runs seed bytes r s out e w }

@@ -10,9 +10,11 @@ use Rattle.book.specs.declared.entries.Entry.{Entry}
 use Rattle.draws.specs.Draws.{drawn, next_state}
 use Rattle.machine.specs.Schedules.{Grows}
 use Rattle.runner.specs.Runs.{Machine}
-use Rattle.lab_runs.specs.Drawn.{Draws, DrawsOne, DrawsOut, DrawsUntil, answers, is_answer}
-use Rattle.lab_runs.specs.Orders.{drawn_cpus, state_after}
+use Rattle.lab_runs.specs.Drawn.{AreAnswered, AreLast, AreTo, Draws, DrawsOne, DrawsOut, DrawsUntil, IsAnswering}
+use Rattle.lab_runs.specs.Drawn.{IsEnding, answers, found_end, is_answer}
+use Rattle.lab_runs.specs.Orders.{drawn_cpus, is_end, state_after}
 use Rattle.lab_runs.specs.Steps.{IsMade, processor_of}
+use Rattle.lab_runs.specs.declared.following.Trial.{Trial}
 use Rattle.lab_runs.specs.declared.following.Trial.TheVariants as trial
 use Rattle.lab_runs.specs.declared.steps.Step.{Step}
 use Rattle.lab_runs.proofs.StepLaws.{made_append, made_grows}
@@ -99,12 +101,13 @@ grown old new g = let size = ap length g.entries ∙ length-append old g.more in
 
 -- ---- until a command is answered
 
--- so many steps were made, and answered no command
+-- so many steps were made, which answered no command and found no end
 pub record IsDrawing (p : ℕ) (old new : Machine) (before after tried : ℕ) : Type 0 where
   pub steps : List Step
   pub draws : Draws p old new before after steps
   pub count : length steps ≡ tried
   pub quiet : answers old new ≡ false
+  pub going : found_end steps ≡ false
 
 pub drawing_start : (p : ℕ) (old : Machine) (x : ℕ) → IsDrawing p old old x x 0
 drawing_start p old x = record {
@@ -113,6 +116,7 @@ drawing_start p old x = record {
   count = refl;
   quiet = let gone : drop (length old.state.entries) old.state.entries ≡ [] = grind (arith, common_steps) in
       ap (list_any is_answer) gone;
+  going = refl;
 }
 
 module _ (p : ℕ) (old mid new : Machine) (x y z tried : ℕ) (was : IsDrawing p old mid x y tried) where
@@ -133,22 +137,41 @@ module _ (p : ℕ) (old mid new : Machine) (x y z tried : ℕ) (was : IsDrawing 
     draws = all one.step one.made one.state one.its;
     count = let more = length-append was.steps (one.step ∷ []) in let so_far = was.count in
         omega (arith, more, so_far);
-    quiet = quiet_on old mid new old_grows (one_grows one.step one.made) was.quiet one.came;
+    quiet = quiet_on old mid new old_grows (one_grows one.step one.made) was.quiet one.came.0;
+    going = list_any-append (λ (s : Step). is_end s.answer) was.steps (one.step ∷ [])
+        ∙ rw (was.going, one.came.1) refl;
   }
 
-  pub drawing_ended : DrawsOne p mid new y z trial.Ended → DrawsUntil p old new x z trial.Ended
-  drawing_ended one = record {
-    steps = was.steps ++ one.step ∷ [];
-    draws = all one.step one.made one.state one.its;
-    came = (was.steps, one.step, refl, one.came.1);
+  -- the row that such a step ends
+  row : (P : Machine → Machine → Step → Type 0) (step : Step) → tried < 100000 → IsMade mid new step → P mid new step
+      → AreTo P old new (was.steps ++ step ∷ [])
+  row P step few made so = record {
+    before = was.steps;
+    last = step;
+    steps_are = refl;
+    mid = mid;
+    quiet = record {
+      made = was.draws.made;
+      quiet = was.quiet;
+      going = was.going;
+      few = let count = was.count in omega (arith, count, few);
+    };
+    made = made;
+    so = so;
   }
 
-  pub drawing_seen : DrawsOne p mid new y z trial.Seen → DrawsUntil p old new x z trial.Seen
-  drawing_seen one = record {
+  pub drawing_ended : tried < 100000 → DrawsOne p mid new y z trial.Ended → DrawsUntil p old new x z trial.Ended
+  drawing_ended few one = record {
     steps = was.steps ++ one.step ∷ [];
     draws = all one.step one.made one.state one.its;
-    came = let first = grown old.state.entries mid.state.entries old_grows in
-        let more = longer (length mid.state.entries) new.state.entries one.came in omega (arith, first, more);
+    came = row IsEnding one.step few one.made one.came;
+  }
+
+  pub drawing_seen : tried < 100000 → DrawsOne p mid new y z trial.Seen → DrawsUntil p old new x z trial.Seen
+  drawing_seen few one = record {
+    steps = was.steps ++ one.step ∷ [];
+    draws = all one.step one.made one.state one.its;
+    came = row IsAnswering one.step few one.made one.came;
   }
 
 pub drawing_missed : (p : ℕ) (old new : Machine) (x z tried : ℕ) → IsDrawing p old new x z tried → tried ≡ 100000
@@ -156,59 +179,69 @@ pub drawing_missed : (p : ℕ) (old new : Machine) (x z tried : ℕ) → IsDrawi
 drawing_missed p old new x z tried was many = record {
   steps = was.steps;
   draws = was.draws;
-  came = (was.quiet, was.count ∙ many);
+  came = (
+    record {
+      made = was.draws.made;
+      quiet = was.quiet;
+      going = was.going;
+      few = let count = was.count in omega (arith, count, many);
+    },
+    was.count ∙ many,
+  );
 }
 
 -- ---- until all have ended
 
--- Steps were made by drawn processors.
+-- Steps were made by drawn processors, in rows of which each ended with an answer.
 pub record HaveDrawn (p : ℕ) (old new : Machine) (before after : ℕ) : Type 0 where
   pub steps : List Step
   pub draws : Draws p old new before after steps
+  pub rows : ℕ
+  pub answered : AreAnswered rows old new steps
 
 pub have_none : (p : ℕ) (old : Machine) (x : ℕ) → HaveDrawn p old old x x
-have_none p old x = record { steps = []; draws = draws_none p old x }
+have_none p old x = record { steps = []; draws = draws_none p old x; rows = 0; answered = (refl, refl) }
 
 module _ (p : ℕ) (old mid new : Machine) (seed y z : ℕ) (was : HaveDrawn p old mid seed y) where
   pub have_on : DrawsUntil p mid new y z trial.Seen → HaveDrawn p old new seed z
   have_on more = record {
     steps = was.steps ++ more.steps;
     draws = draws_append p old mid new seed y z was.steps more.steps was.draws more.draws;
+    rows = suc was.rows;
+    answered = (mid, was.steps, more.steps, refl, was.answered, more.came);
   }
 
-  pub out_ended : DrawsUntil p mid new y z trial.Ended → DrawsOut p seed old new
-  out_ended more = record {
+  out_by : (t : Trial) (more : DrawsUntil p mid new y z t) → AreLast mid new more.steps → DrawsOut p seed old new
+  out_by t more stop = record {
     steps = was.steps ++ more.steps;
     after = z;
     draws = draws_append p old mid new seed y z was.steps more.steps was.draws more.draws;
-    why = let (before, last, are, ended) = more.came in inl (
-      was.steps ++ before,
-      last,
-      ap (λ (ss : List Step). was.steps ++ ss) are ∙ sym (append_assoc was.steps before (last ∷ [])),
-      ended,
-    );
-  }
-
-  pub out_idle : DrawsUntil p mid new y z trial.Missed → DrawsOut p seed old new
-  out_idle more = record {
-    steps = was.steps ++ more.steps;
-    after = z;
-    draws = draws_append p old mid new seed y z was.steps more.steps was.draws more.draws;
-    why = inr (record {
+    in_time = record {
+      rows = was.rows;
+      mid = mid;
       before = was.steps;
       last = more.steps;
       steps_are = refl;
-      many = more.came.1;
-      mid = mid;
-      made = more.draws.made;
-      quiet = more.came.0;
-    });
+      answered = was.answered;
+      stop = stop;
+    };
   }
+
+  pub out_ended : DrawsUntil p mid new y z trial.Ended → DrawsOut p seed old new
+  out_ended more = out_by trial.Ended more (inl more.came)
+
+  pub out_idle : DrawsUntil p mid new y z trial.Missed → DrawsOut p seed old new
+  out_idle more = out_by trial.Missed more (inr more.came)
 
 -- after each answer there is room for fewer
 pub seen_smaller : (p : ℕ) (old new : Machine) (x z : ℕ) → DrawsUntil p old new x z trial.Seen
     → length new.state.entries < 2 ^ 63 → 2 ^ 63 - length new.state.entries < 2 ^ 63 - length old.state.entries
-seen_smaller p old new x z more few = let longer_is = more.came in omega (arith, longer_is, few)
+seen_smaller p old new x z more few =
+    let came = more.came in
+    let first = grown old.state.entries came.mid.state.entries
+    (made_grows old came.mid came.before came.quiet.made) in
+    let longer_is = longer (length came.mid.state.entries) new.state.entries came.so in
+    omega (arith, first, longer_is, few)
 
 -- ---- a step, by what came of it
 

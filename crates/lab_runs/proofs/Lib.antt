@@ -1,6 +1,5 @@
 pub mod CountLaws
 pub mod DrawLaws
-pub mod EndLaws
 pub mod EndTexts
 pub mod FollowLaws
 pub mod RunLaws

@@ -1,9 +1,6 @@
 pub mod Drawn
-pub mod Endings
 pub mod Orders
 pub mod Outcomes
 pub mod Runs
 pub mod Steps
-pub mod Texts
 pub mod Traces
-pub mod Words

@@ -101,11 +101,16 @@ pub record Misses (text : List (List ℕ)) (old new : Machine) (steps : List Ste
   pub none : appends text old new ≡ false
   pub why : (length steps ≡ 1000000) ⊎ EndsIn steps
 
+-- whether a step found all processes ended
+abbrev pub is_end : Turn → Bool
+is_end turn.Ended = true
+is_end _ = false
+
 -- what came of a step, by whether an entry that it appended begins so, and what it was answered
 abbrev pub CameTo : Trial → Bool → Turn → Type 0
 CameTo trial.Seen seen answer = seen ≡ true
 CameTo trial.Ended seen answer = (seen ≡ false) × (answer ≡ turn.Ended)
-CameTo trial.Missed seen answer = seen ≡ false
+CameTo trial.Missed seen answer = (seen ≡ false) × (is_end answer ≡ false)
 
 -- Processor c made a step, which was added to those that were made before, and this came of it.
 pub record TriesOne (c : ℕ) (text : List (List ℕ)) (old new : Machine) (before after : List Step) (t : Trial) : Type 0

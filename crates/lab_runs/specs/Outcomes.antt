@@ -6,15 +6,11 @@ use Rattle.flat_model.specs.Legal.{store_after}
 use Rattle.listing.specs.Listings.{account_text, accounts_of, processes_lines}
 use Rattle.outcomes.specs.Reports.{report_text}
 use Rattle.outcomes.specs.Tables.{Table, added, no_runs}
-use Rattle.runner.specs.Endings.{Change, Writes, WritesAll, WritesFront, WritesNothing}
 use Rattle.runner.specs.Runs.{Machine}
-use Rattle.runner.specs.Texts.{refusal_text}
 use Rattle.script.specs.Grammar.{Reads, script_of}
 use Rattle.script.specs.Plans.{Plan}
 use Rattle.script.specs.declared.reader.ScriptFault.{ScriptFault}
 use Rattle.lab_runs.specs.Drawn.{HasDrawn}
-use Rattle.lab_runs.specs.declared.status.Status.{Status}
-use Rattle.lab_runs.specs.declared.status.Status.TheVariants as status
 
 -- what the processes of a script were answered, by a book, as the listing of mode `replies` prints it
 abbrev pub replies_of : Plan → List Entry → List ℕ
@@ -47,24 +43,6 @@ pub record IsReportOf (bytes : List ℕ) (seed runs : ℕ) (text : List ℕ) : T
   pub gathers : Gathers bytes seed runs table
   pub text_is : text ≡ report_text table runs
 
--- a text that is printed of such a table is so
-pub record PrintsOutcomes (bytes : List ℕ) (seed runs : ℕ) (P : List ℕ → Type 0) : Type 0 where
-  pub text : List ℕ
-  pub report : IsReportOf bytes seed runs text
-  pub printed : P text
-
 -- bytes gave no script for this fault
 abbrev pub IsUnscripted : List ℕ → ScriptFault → Type 0
 IsUnscripted bytes fault = Reads (Err fault) (script_of bytes)
-
--- what is left of some bytes: the outcomes of the script that they are, or its refusal; or there was no memory, and
--- nothing was written
-abbrev pub EndsOutcomes : ℕ → ℕ → List ℕ → Status → Change → Type 0
-EndsOutcomes runs seed bytes status.Done out = PrintsOutcomes bytes seed runs (WritesAll out)
-EndsOutcomes runs seed bytes status.WriteFault out = PrintsOutcomes bytes seed runs (WritesFront out)
-EndsOutcomes runs seed bytes (status.Script r) out = (script_of bytes ≡ Err r) × Writes out (refusal_text r)
-EndsOutcomes runs seed bytes status.Memory out = WritesNothing out
-EndsOutcomes runs seed bytes _ out = ⊥
-
-pub record CountsTo (runs seed : ℕ) (bytes : List ℕ) (s : Status) (out : Change) : Type 0 where
-  pub so : EndsOutcomes runs seed bytes s out

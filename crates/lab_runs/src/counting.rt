@@ -1,17 +1,14 @@
 //! The outcomes of a script over schedules that are drawn from one seed after the other.
 
 ghost use Rattle.std.specs.Prelude.{◌+◌, ◌<◌, ◌≤◌, ◌^◌, IfErr, IfOk, OnOk, length};
-ghost use Rattle.runner.specs.Endings.{change};
-ghost use Rattle.lab_runs.specs.Outcomes.{AddsDrawn, AddsRun, CountsTo, IsReportOf, IsUnscripted};
+ghost use Rattle.lab_runs.specs.Outcomes.{AddsDrawn, AddsRun, IsReportOf, IsUnscripted};
 
 use crate::NoMemory;
 use crate::drawing::run_drawn;
-use crate::ends::{accounts_text, replies_text};
-use crate::printing::{print, write_refusal};
-use crate::status::Status;
+use crate::ends::accounts_text;
+use listing::replies_text;
 use outcomes::{Table, report};
 use script::{Script, ScriptFault, read_script};
-use site_io::Sink;
 use std::alloc::Global;
 
 /// Runs a script by the schedule of a seed, and adds how that ended to a table.
@@ -40,9 +37,18 @@ fn add_run(alloc: Global, table: &mut Table, bytes: &[u8], seed: u32) -> Result<
     }
 }
 
-/// What is printed of the outcomes of a script, by so many schedules.
+/// What is printed of the outcomes of a script, by so many schedules: one drawn from the seed, one from the next, and
+/// so on. It takes a machine at a time, and memory for each outcome.
+///
+/// # Errors
+/// `Refused` is the first line of the script that is refused, and why; `Memory` is want of memory.
 #[tactic(auto, using(crate::proofs::CountLaws::gathers_more, std::proofs::lemmas::Grind::common_steps))]
-fn outcomes_text(alloc: Global, runs: u32, seed: u32, bytes: &[u8]) -> Result<Vec<u8>, ScriptFault>
+pub fn outcomes_text(
+    alloc: Global,
+    runs: u32,
+    seed: u32,
+    bytes: &[u8],
+) -> Result<Vec<u8>, ScriptFault>
     requires few { length bytes.now < 2 ^ 31 }
     requires seeds { seed + runs ≤ 2 ^ 32 }
     ensures report { IfOk result (λ text. IsReportOf bytes.now seed runs text.items) }
@@ -58,25 +64,5 @@ fn outcomes_text(alloc: Global, runs: u32, seed: u32, bytes: &[u8]) -> Result<Ve
     match report(alloc, &table, runs) {
         Ok(text) => Ok(text),
         Err(_) => Err(ScriptFault::Memory),
-    }
-}
-
-/// Writes what is printed of the outcomes of a script, by so many schedules.
-pub(crate) fn print_outcomes<K: Sink>(
-    alloc: Global,
-    runs: u32,
-    seed: u32,
-    bytes: &[u8],
-    out: &mut K,
-) -> Status
-    requires few { length bytes.now < 2 ^ 31 }
-    requires seeds { seed + runs ≤ 2 ^ 32 }
-    ensures { CountsTo runs seed bytes.now result
-        (change (K.held out.old) (K.held out.new) (K.faults out.old) (K.faults out.new)) }
-{
-    match outcomes_text(alloc, runs, seed, bytes) {
-        Ok(text) => print(out, &text),
-        Err(ScriptFault::Refused(refusal)) => write_refusal(alloc, refusal, out),
-        Err(ScriptFault::Memory) => Status::Memory,
     }
 }

@@ -26,7 +26,7 @@ const ALL: usize = 10_000_000;
 
 /// Why a machine doesn't follow a schedule.
 #[derive(Clone, Copy)]
-pub(crate) enum Astray {
+pub enum Astray {
     /// A line is refused.
     Refused(Refused),
     /// There wasn't enough memory.

@@ -61,8 +61,12 @@ pub(crate) fn end(mut machine: Machine<AnyDrive>, steps: Vec<Step>) -> Result<Ra
     })
 }
 
-/// The machine of a script follows its schedule, and is finished and shut down.
-pub(crate) fn run(alloc: Global, scheduled: Scheduled) -> Result<Ran, Astray>
+/// The machine of a script follows its schedule, and is finished and shut down. It takes memory for each step of the
+/// schedule besides what the machine takes, and needs no thread.
+///
+/// # Errors
+/// `Refused` is the first line of the schedule that can't be followed, and why; `Memory` is want of memory.
+pub fn run(alloc: Global, scheduled: Scheduled) -> Result<Ran, Astray>
     requires { AreWithin scheduled.script.processors scheduled.lines.items }
     ensures run { IfOk result (HasRunBy scheduled.script scheduled.lines.items) }
     ensures astray { IfErr result (RunsAstray scheduled.script scheduled.lines.items) }

@@ -71,7 +71,7 @@ fn push_book(out: &mut String, ran: &Ran) -> Result<(), AllocError>
 
 /// The trace of a machine that followed a schedule, and was finished and shut down.
 #[tactic(auto, unfolding(crate::specs::Traces::trace_text))]
-pub(crate) fn trace(alloc: Global, ran: &Ran) -> Result<Vec<u8>, NoMemory>
+pub fn trace(alloc: Global, ran: &Ran) -> Result<Vec<u8>, NoMemory>
     requires { IsTraceable ran.now }
     ensures { IfOk result (λ text. text.items ≡ trace_text ran.now.machine.state.plan ran.now.machine.state.entries
         ran.now.steps.items ran.now.stepped ran.now.finished) }

@@ -3,11 +3,11 @@ use Rattle.lab_runs.proofs.DrawLaws.{drawing_ended, drawing_missed, drawing_on, 
 use Rattle.lab_runs.proofs.drawing.draw_until.Goals as goal
 
 pub returns-in-Seen-clause-drawn : goal.returns-in-Seen-clause-drawn
-returns-in-Seen-clause-drawn c = drawing_seen _ _ _ _ _ _ _ _ c.loop-step.invariant.drawing
+returns-in-Seen-clause-drawn c = drawing_seen _ _ _ _ _ _ _ _ c.loop-step.invariant.drawing (omega arith)
     (rw (← c.in-Seen.is, ← c.loop-step.invariant.script) c.in_ok-trial.ensures.drawn)
 
 pub returns-in-Ended-clause-drawn : goal.returns-in-Ended-clause-drawn
-returns-in-Ended-clause-drawn c = drawing_ended _ _ _ _ _ _ _ _ c.loop-step.invariant.drawing
+returns-in-Ended-clause-drawn c = drawing_ended _ _ _ _ _ _ _ _ c.loop-step.invariant.drawing (omega arith)
     (rw (← c.in-Ended.is, ← c.loop-step.invariant.script) c.in_ok-trial.ensures.drawn)
 
 pub loop-step-init : goal.loop-step-init

@@ -1,0 +1,5 @@
+pub mod Words
+pub mod Texts
+pub mod Counted
+pub mod Judged
+pub mod Endings
