@@ -3,7 +3,7 @@
 ghost use Rattle.std.specs.Prelude.{◌≤◌};
 
 use crate::asking::Asked;
-use lab_runs::{Finished, Status, Words, lab};
+use lab_calls::{Finished, Status, Words, lab};
 use no_memory::NoMemory;
 use site_io::{MemorySink, MemorySource};
 use std::alloc::{AllocError, Global};
@@ -18,6 +18,7 @@ fn ending(status: Status) -> &'static str {
         Status::Done => "done",
         Status::Script(_) => "script refused",
         Status::Schedule(_) => "schedule refused",
+        Status::Refused(_) => "listing refused",
         Status::TooLong => "too long",
         Status::Usage => "usage",
         Status::ReadFault => "read fault",

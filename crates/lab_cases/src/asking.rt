@@ -1,4 +1,4 @@
-use lab_runs::Words;
+use lab_calls::Words;
 use std::alloc::{AllocError, Global};
 
 /// How many bytes may be written, and are read in one piece, where nothing else is asked.
