@@ -239,6 +239,11 @@ function printsAreRead() {
   const part = machine.refusalIn("refused at line 9: part\n");
   assert.match(machine.refusalText(part, "", hints), /^refused at line 9: part\nThat is the line after the last[.]/);
   assert.equal(machine.refusalIn("accepted 3 entries\n"), null);
+  const told = "refused at line 80: clean\nwhy: processor 0 has process 1, not process 0, since line 62\n";
+  assert.deepEqual(machine.refusalIn(told), { what: "refused", line: 80, cause: "clean" });
+  assert.deepEqual(machine.reasonIn(told), { text: "processor 0 has process 1, not process 0", since: 62 });
+  assert.deepEqual(machine.reasonIn("refused at line 9: entry\nwhy: field 2 is missing\n"), { text: "field 2 is missing", since: null });
+  assert.equal(machine.reasonIn("accepted 3 entries\n"), null);
   assert.equal(machine.processorsOf("# a comment\nmachine 3 4 12 1 1 1\n"), 3);
   assert.ok(hints.length > 8);
 }
@@ -255,6 +260,8 @@ function programsRun() {
   assert.deepEqual(run("multics", ["run"], script), [0, listing]);
   assert.deepEqual(run("multics", ["check"], machine.judgedText(script, listing)),
     [0, `accepted ${listing.split("\n").findIndex((line) => line.startsWith("> "))} entries\n`]);
+  const spoiled = machine.judgedText(read("labs/7-pager/walk.script"), read("labs/7-pager/walk.first.spoiled"));
+  assert.deepEqual(run("lab", ["why"], spoiled), [6, read("labs/7-pager/walk.first.why")]);
   const [status, text] = run("lab", ["trace"], machine.withSchedule(script, ["step 0 2"]));
   assert.equal(status, 0);
   assert.deepEqual(machine.readTrace(text).entries, listing.split("\n").slice(0, machine.readTrace(text).entries.length));
@@ -277,9 +284,21 @@ class Element {
     this.children.push(it);
     return it;
   }
+  focus() {}
+  setSelectionRange(from, to) {
+    this.selected = this.value.slice(from, to);
+  }
   getContext() {
     return { clearRect() {}, fillText() {}, fillRect: () => { this.drawn = (this.drawn || 0) + 1; } };
   }
+}
+
+/** A worker of no browser: it answers at once. */
+class Worker {
+  postMessage({ module, words, input }) {
+    this.onmessage({ data: runs(module, words, input) });
+  }
+  terminate() {}
 }
 
 /** A document of no browser, with the elements of the page. */
@@ -341,10 +360,38 @@ function pageDraws() {
   assert.match(document.getElementById("schedule").value, /^until 0 load 0 1\n/);
 }
 
+/** A listing that is judged: the verdict with its reason, its line, and the line since which the reason is so. */
+async function listingsAreJudged() {
+  globalThis.document = documentOf();
+  globalThis.Worker = Worker;
+  for (const id of ["page", "maker"]) vm.runInThisContext(scriptOf(id), { filename: id });
+  const [judged, verdict] = ["judged", "verdict"].map((id) => document.getElementById(id));
+  globalThis.maker.give("7-pager/walk");
+  judged.value = read("labs/7-pager/walk.first.spoiled");
+  await globalThis.maker.judge();
+  assert.match(verdict.textContent, /^refused at line 80: clean\nThe line reads: gone page 0/);
+  assert.match(verdict.textContent, /Why: processor 0 holds frame 0 *, *since line 62 *, which reads: fill 0 page 0$/);
+  assert.equal(judged.selected, "gone page 0");
+  verdict.children.find((it) => it.tagName === "a").onclick({ preventDefault() {} });
+  assert.equal(judged.selected, "fill 0 page 0");
+  judged.value = read("labs/7-pager/walk.listing").replace("online 0", "leave 0");
+  await globalThis.maker.judge();
+  assert.match(verdict.textContent, /Why: processor 0 has no process *, *since line [0-9]+ *, which reads: book$/);
+  verdict.children.find((it) => it.tagName === "a").onclick({ preventDefault() {} });
+  assert.equal(judged.selected, "");
+  judged.value = read("labs/7-pager/walk.second.spoiled");
+  await globalThis.maker.judge();
+  assert.match(verdict.textContent, /Why: command 15 of process 0 is answered word 000000000006$/);
+  judged.value = read("labs/7-pager/walk.listing");
+  await globalThis.maker.judge();
+  assert.equal(verdict.textContent, "");
+  assert.match(document.getElementById("printed").textContent, /^accepted [0-9]+ entries/);
+}
+
 const TESTS = [accountsAreTheSummary, othersAreRefused, revocationIsShown, causesAreFound, textsAreFound, framesAreShown,
   clockIsShown, movesAreCounted, longListingIsQuick, backIsAsForth,
-  schedulesAreKept, printsAreRead, programsRun, pageDraws];
+  schedulesAreKept, printsAreRead, programsRun, pageDraws, listingsAreJudged];
 for (const test of TESTS) {
-  test();
+  await test();
   console.log(`viewer: ${test.name}: ok`);
 }

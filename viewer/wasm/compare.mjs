@@ -30,19 +30,31 @@ function judged(path) {
   return `${textOf(script)}book\n${textOf(path)}`;
 }
 
-/** The inputs of `run` and `check` among the cases of the program. */
-function casesOf(word) {
-  const cases = textOf("crates/cases/stdin").split(/^== .*\n/m).slice(1);
+/** The inputs of a form among the cases of a program. A case with lines `-- NAME` is a front and parts: one for each. */
+function casesOf(crate, word) {
+  const cases = textOf(`crates/${crate}/stdin`).split(/^== .*\n/m).slice(1);
   const asked = new RegExp(`^\\[${word}\\].*\\n`);
-  return cases.filter((it) => asked.test(it)).map((it) => it.replace(asked, "").replace(/\n$/, ""));
+  const inputs = cases.filter((it) => asked.test(it)).map((it) => it.replace(asked, "").replace(/\n$/, ""));
+  return inputs.flatMap((it) => {
+    const [front, ...parts] = it.split(/^-- .*\n/m);
+    return parts.length ? parts.map((part) => `${front}${part}`) : [front];
+  });
+}
+
+/** A judged listing spoiled: without one of its entries, at a few places. */
+function without(input) {
+  const lines = input.split("\n"), first = lines.indexOf("book") + 1, all = lines.length - first;
+  return [0.3, 0.6].map((part) => lines.filter((_, at) => at !== first + Math.floor(part * all)).join("\n"));
 }
 
 /** What is run: a program, its words, and its input. */
 function* calls() {
   const scripts = files(".script").map(textOf), schedules = files(".schedule").map(textOf);
   const listings = [...files(".listing"), ...files(".book")].filter((it) => textOf(it).startsWith("online")).map(judged);
-  for (const it of [...scripts, ...casesOf("run")]) yield ["multics", ["run"], it];
-  for (const it of [...listings, ...casesOf("check")]) yield ["multics", ["check"], it];
+  const inputs = [...listings, ...files(".spoiled").map(judged), ...casesOf("cases", "check")];
+  for (const it of [...scripts, ...casesOf("cases", "run")]) yield ["multics", ["run"], it];
+  for (const it of inputs) yield ["multics", ["check"], it];
+  for (const it of [...inputs, ...listings.flatMap(without), ...casesOf("lab_cases", "why")]) yield ["lab", ["why"], it];
   for (const it of [...schedules, ...scripts]) yield ["lab", ["steps"], it];
   for (const it of schedules) yield ["lab", ["trace"], it];
   for (const it of scripts) yield ["lab", ["outcomes", "5", "1"], it];
