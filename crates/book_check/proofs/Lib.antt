@@ -2,9 +2,9 @@ mod LineLaws
 mod InputLaws
 mod ProgressLaws
 mod EndLaws
-mod VerdictLaws
+pub mod VerdictLaws
 mod AfterLaws
-mod GoingLaws
+pub mod GoingLaws
 mod SameLaws
 mod CloseLaws
 mod CheckLaws

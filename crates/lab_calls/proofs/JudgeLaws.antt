@@ -4,6 +4,7 @@ use Rattle.book_check.specs.Closing.{IsTheVerdict, OrMemory}
 use Rattle.book_check.specs.declared.offences.CheckFault.{CheckFault}
 use Rattle.book_check.specs.declared.offences.CheckFault.TheVariants as fault
 use Rattle.book_check.specs.declared.offences.Offence.{Offence}
+use Rattle.reasons.specs.Told.{IsTold}
 use Rattle.runner.specs.Endings.{Change, Writes}
 use Rattle.runner.specs.Texts.{accepted_text, offence_text, refusal_text}
 use Rattle.script.specs.declared.refusals.Refusal.{Refusal}
@@ -48,10 +49,10 @@ pub judged_script : (bytes : List ℕ) (r : Refusal) (s : Status) (out : Change)
 judged_script bytes r s out v w = record { so = scripted_by bytes r s out v w }
 
 refused_by : (bytes : List ℕ) (o : Offence) (s : Status) (out : Change) → IsTheVerdict bytes (Err (fault.Refused o))
-    → WritesOffence s o out → EndsVerdict bytes s out
+    → WritesOffence bytes s o out → EndsVerdict bytes s out
 refused_by bytes o (status.Refused p) out v w = (
   subst (λ (x : Offence). IsTheVerdict bytes (Err (fault.Refused x))) (sym w.0) v,
-  subst (λ (x : Offence). WritesWhy x out) (sym w.0) w.1,
+  subst (λ (x : Offence). WritesWhy bytes x out) (sym w.0) w.1,
 )
 refused_by bytes o status.Memory out v w = w
 refused_by bytes o status.Done out v w = absurd w
@@ -63,7 +64,7 @@ refused_by bytes o status.Usage out v w = absurd w
 refused_by bytes o status.ReadFault out v w = absurd w
 
 pub judged_refused : (bytes : List ℕ) (o : Offence) (s : Status) (out : Change)
-    → IsTheVerdict bytes (Err (fault.Refused o)) → WritesOffence s o out → JudgesTo bytes s out
+    → IsTheVerdict bytes (Err (fault.Refused o)) → WritesOffence bytes s o out → JudgesTo bytes s out
 judged_refused bytes o s out v w = record { so = refused_by bytes o s out v w }
 
 -- ---- what the judge answers
@@ -86,13 +87,17 @@ module _ (bytes : List ℕ) (v : Result ℕ CheckFault) (f : CheckFault) (is : v
 
 -- ---- a line at fault
 
-pub explains_more : (o : Offence) (front why all : List ℕ) → front ≡ offence_text o → all ≡ front ++ why → Explains o all
-explains_more o front why all is more = record {
+pub explains_more : (bytes : List ℕ) (o : Offence) (front why all : List ℕ) → front ≡ offence_text o
+    → all ≡ front ++ why
+    → IsTold bytes o why → Explains bytes o all
+explains_more bytes o front why all is more told = record {
   why = why;
+  told = told;
   text_is = more ∙ ap (λ (xs : List ℕ). xs ++ why) is;
 }
 
-pub offence_written : (o : Offence) (text : List ℕ) (s : Status) (out : Change) → s ≡ status.Refused o
-    → Explains o text → Writes out text → WritesOffence s o out
-offence_written o text s out is explains written = subst (λ (x : Status). WritesOffence x o out) (sym is)
+pub offence_written : (bytes : List ℕ) (o : Offence) (text : List ℕ) (s : Status) (out : Change) → s ≡ status.Refused o
+    → Explains bytes o text → Writes out text → WritesOffence bytes s o out
+offence_written bytes o text s out is explains written =
+    subst (λ (x : Status). WritesOffence bytes x o out) (sym is)
     (refl, record { text = text; explains = explains; written = written })

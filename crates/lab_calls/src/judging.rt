@@ -1,4 +1,6 @@
-ghost use Rattle.std.specs.Prelude.{◌≡◌, ◌≤◌, IfOk, length};
+ghost use Rattle.std.specs.Prelude.{◌≡◌, ◌≤◌, Err, IfOk, length};
+ghost use Rattle.book_check.specs.Closing.{IsTheVerdict};
+ghost use Rattle.book_check.specs.declared.offences.CheckFault.TheVariants as CheckFault;
 ghost use Rattle.runner.specs.Endings.{change};
 ghost use Rattle.runner.specs.Texts.{accepted_text, offence_text};
 ghost use Rattle.lab_calls.specs.Endings.{Printed};
@@ -35,11 +37,12 @@ fn refused(alloc: Global, offence: Offence) -> Result<Vec<u8>, NoMemory>
 /// The text of a line at fault, and why it is refused.
 #[tactic(auto, using(crate::proofs::JudgeLaws::explains_more, std::proofs::lemmas::Grind::common_steps))]
 fn explained(alloc: Global, offence: Offence, bytes: &[u8]) -> Result<Vec<u8>, NoMemory>
-    requires { length bytes.now ≤ 134217728 }
-    ensures { IfOk result (λ text. Explains offence text.items) }
+    requires few { length bytes.now ≤ 134217728 }
+    requires refused { IsTheVerdict bytes.now (Err (CheckFault.Refused offence)) }
+    ensures { IfOk result (λ text. Explains bytes.now offence text.items) }
 {
     let mut text = refused(alloc, offence)?;
-    let why = why_text(alloc, bytes, offence.rule)?;
+    let why = why_text(alloc, bytes, offence)?;
     text.extend_from_slice(&why)?;
     Ok(text)
 }
@@ -59,8 +62,9 @@ fn write_accepted<K: Sink>(alloc: Global, entries: u32, out: &mut K) -> Status
 /// Writes which line is at fault and why, or nothing where there is no memory for it.
 #[tactic(auto, using(runner::proofs::Ends::writes_nothing, std::proofs::lemmas::Grind::common_steps))]
 fn write_offence<K: Sink>(alloc: Global, offence: Offence, bytes: &[u8], out: &mut K) -> Status
-    requires { length bytes.now ≤ 134217728 }
-    ensures { WritesOffence result offence
+    requires few { length bytes.now ≤ 134217728 }
+    requires refused { IsTheVerdict bytes.now (Err (CheckFault.Refused offence)) }
+    ensures { WritesOffence bytes.now result offence
         (change (K.held out.old) (K.held out.new) (K.faults out.old) (K.faults out.new)) }
 {
     match explained(alloc, offence, bytes) {

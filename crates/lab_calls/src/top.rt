@@ -126,8 +126,8 @@ fn read_and_run<S: Source, K: Sink>(alloc: Global, form: Form, src: &mut S, out:
 ///
 /// The causes are looked at in this order: the words (`Usage`), a read that fails (`ReadFault`), a source that is too
 /// long (`TooLong`), a script that is refused (`Script`), a schedule that is refused as it stands, or that can't be
-/// followed (`Schedule`), a line of a listing at fault (`Refused`), a write that fails (`WriteFault`). Want of memory (`Memory`) may stand in place of any but
-/// the first, and nothing was written then.
+/// followed (`Schedule`), a line of a listing at fault (`Refused`), a write that fails (`WriteFault`). Want of memory
+/// (`Memory`) may stand in place of any but the first, and nothing was written then.
 ///
 /// The machine is booted, makes the steps of the schedule and no others, and is then finished and shut down. It takes
 /// memory for each step of the schedule besides what the machine takes; for outcomes it takes a machine at a time, and

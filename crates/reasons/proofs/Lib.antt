@@ -1,4 +1,5 @@
 pub mod LineLaws
 pub mod SinceLaws
 pub mod PassLaws
+pub mod AskLaws
 pub mod TellLaws

@@ -1,7 +1,8 @@
 -- Lines of an input, one after the other.
-use Rattle.std.proofs.Common.{◌≡◌, ℕ, Bool, true, false, List, ◌∷◌, [], length, arith, refl, sym, ap, ◌∙◌}
+use Rattle.std.proofs.Common.{◌≡◌, ◌≤◌, ℕ, Bool, true, false, if◌then◌else◌, List, ◌∷◌, [], length, arith, refl, sym, ap}
+use Rattle.std.proofs.Common.{◌∙◌, ◌+◌, ◌==◌, subst}
 use Rattle.script.proofs.LineSteps.{lines_nil}
-use Rattle.script.specs.Fields.{lines_of}
+use Rattle.script.specs.Fields.{lines_of, onto_piece}
 use Rattle.std.specs.List.{list_any}
 use Rattle.reasons.specs.Reasons.{first_of}
 
@@ -24,3 +25,28 @@ pub no_line : (P : List ℕ → Bool) (bytes rest : List ℕ) → list_any P (li
     → length rest ≡ 0 → false ≡ list_any P (lines_of bytes)
 no_line P bytes [] is none = sym (is ∙ ap (list_any P) lines_nil)
 no_line P bytes (b ∷ bs) is none = absurd (omega (arith, none))
+
+-- the first line of some bytes is no longer than they are
+onto_short : (b : ℕ) (lines : List (List ℕ)) → length (first_of (onto_piece b lines)) ≤ length (first_of lines) + 1
+onto_short b [] = omega arith
+onto_short b (line ∷ lines) = omega arith
+
+first_short : (bytes : List ℕ) → length (first_of (lines_of bytes)) ≤ length bytes
+unfolding lines_of
+first_short [] = omega arith
+first_short (b ∷ bs) = each (b == 10) (first_short bs)
+  where
+    each : (z : Bool) → length (first_of (lines_of bs)) ≤ length bs
+        → length (first_of (if z then [] ∷ lines_of bs else onto_piece b (lines_of bs))) ≤ length (b ∷ bs)
+    each true later = omega arith
+    each false later = let one = onto_short b (lines_of bs) in omega (arith, one, later)
+
+pub first_fits : (bytes line : List ℕ) (more : List (List ℕ)) → lines_of bytes ≡ line ∷ more
+    → length line ≤ length bytes
+first_fits bytes line more is = subst (λ (l : List ℕ). length l ≤ length bytes) (sym (first_is (lines_of bytes)
+    more line is))
+    (first_short bytes)
+
+pub ruleset first_steps = (first_is, first_none, first_fits)
+
+pub ruleset book_steps = (any_later, any_here)

@@ -61,6 +61,8 @@ module _ (j : Judged) (es : List Entry) (after : IsAfter j es) where
       let same = h j.script (store_after j.script es) (shown_there j.script k refl ks) in
       (λ e. sym same ∙ e, λ e. same ∙ e)
 
+pub ruleset sentence_steps = (legal_says, clean_says, sum_says)
+
 -- ---- one entry more
 
 module _ (p : Plan) (r : Reason) (n : ℕ) (es : List Entry) (e : Entry) where
@@ -91,7 +93,8 @@ module _ (p : Plan) (r : Reason) (n : ℕ) (es : List Entry) (e : Entry) where
     low = was.low;
     high = let count = one_more in let high_is = was.high in omega (arith, high_is, count);
     so = λ k low high. each k low high (leb_tells k (length es));
-    not_before = λ k same h. was.not_before k same (before k (let high_is = was.high in omega (arith, high_is, same)) h);
+    not_before = λ k same h. was.not_before k same (before k
+        (let high_is = was.high in omega (arith, high_is, same)) h);
   }
     where
       each : (k : ℕ) → line + 1 ≤ n + k → k ≤ length more

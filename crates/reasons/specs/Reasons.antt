@@ -10,7 +10,9 @@ use Rattle.book.specs.declared.entries.Entry.{Entry}
 use Rattle.flat_model.specs.Legal.{store_after}
 use Rattle.custody_model.specs.Clean.{custody_after}
 use Rattle.book_check.specs.Inputs.{is_book}
-use Rattle.legal_reasons.specs.Reasons.{IsSaid, Says as LegalSays}
+use Rattle.book_check.specs.declared.offences.Rule.{Rule}
+use Rattle.book_check.specs.declared.offences.Rule.TheVariants as rule
+use Rattle.legal_reasons.specs.Reasons.{IsSaid, IsSo as IsLegalReason, Says as LegalSays}
 use Rattle.legal_reasons.specs.Texts.{reason_text as legal_text}
 use Rattle.clean_reasons.specs.Reasons.{IsSo as IsCleanReason, Says as CleanSays}
 use Rattle.clean_reasons.specs.Texts.{reason_text as clean_text}
@@ -25,20 +27,25 @@ abbrev pub first_of : List (List ℕ) → List ℕ
 first_of [] = []
 first_of (line ∷ lines) = line
 
--- an entry's text is this line, and custody doesn't allow the entry for this reason
-pub record IsCleanAt (p : Plan) (es : List Entry) (line : List ℕ) (P : Entry → Type 0) : Type 0 where
+-- this is so of an entry whose text is a line
+pub record IsOfLine (line : List ℕ) (P : Entry → Type 0) : Type 0 where
   pub entry : Entry
   pub text : entry_text entry ≡ line
   pub so : P entry
 
--- What a reason says is so, of the input, of the state after some entries, and of the line that follows them.
-abbrev pub IsSoAt : List ℕ → Plan → List Entry → List ℕ → Reason → Type 0
-IsSoAt bytes p es line reason.NoBook = list_any is_book (lines_of bytes) ≡ false
-IsSoAt bytes p es line (reason.NoEntry r) = reason_of line ≡ Some r
-IsSoAt bytes p es line (reason.NotLegal r) = IsSaid p (store_after p es) r
-IsSoAt bytes p es line (reason.NotClean r) =
-    IsCleanAt p es line (λ e. IsCleanReason p (store_after p es) (custody_after p es) e r)
-IsSoAt bytes p es line (reason.WrongSum r) = IsSoSum p (store_after p es) r
+-- Why a line breaks a rule after some entries: the reason is one of that rule, and what it says is so.
+abbrev pub IsWhy : List ℕ → Plan → List Entry → List ℕ → Rule → Reason → Type 0
+IsWhy bytes p es line rule.NoEntry (reason.NoEntry r) = reason_of line ≡ Some r
+IsWhy bytes p es line rule.NotLegal (reason.NotLegal r) =
+    IsOfLine line (λ e. IsLegalReason p (store_after p es) e r)
+IsWhy bytes p es line rule.NotClean (reason.NotClean r) =
+    IsOfLine line (λ e. IsCleanReason p (store_after p es) (custody_after p es) e r)
+IsWhy bytes p es line rule.Incomplete reason.NoBook = list_any is_book (lines_of bytes) ≡ false
+IsWhy bytes p es line rule.Incomplete (reason.NotLegal r) = IsSaid p (store_after p es) r
+IsWhy bytes p es line rule.ZeroPage (reason.NotLegal r) = IsSaid p (store_after p es) r
+IsWhy bytes p es line rule.WrongSum reason.NoBook = list_any is_book (lines_of bytes) ≡ false
+IsWhy bytes p es line rule.WrongSum (reason.WrongSum r) = IsSoSum p (store_after p es) r
+IsWhy bytes p es line _ _ = ⊥
 
 -- The sentence of a reason is true after some entries; that of a reason that speaks of no state never is.
 unfoldable pub SaysAt : Plan → List Entry → Reason → Type 0

@@ -1,12 +1,17 @@
-ghost use Rattle.std.specs.Prelude.{◌≡◌, ◌<◌, ◌≤◌, ◌^◌, ℕ, IfOk, IfSome, List, length};
+ghost use Rattle.std.specs.Prelude.{◌≡◌, ◌<◌, ◌≤◌, ◌^◌, ℕ, IfNone, IfOk, IfSome, List, length};
 ghost use Rattle.std.specs.List.{list_any};
 ghost use Rattle.book.specs.declared.entries.Entry.{Entry};
 ghost use Rattle.book_check.specs.Inputs.{is_book};
 ghost use Rattle.book_check.specs.Judging.{IsAfter};
+ghost use Rattle.book_check.specs.Verdicts.{BreaksEntry};
+ghost use Rattle.book_check.specs.declared.offences.Rule.TheVariants as Rule;
 ghost use Rattle.custody.specs.Tables.{AreTablesOf};
 ghost use Rattle.script.specs.Fields.{lines_of};
 ghost use Rattle.script.specs.Plans.{Plan};
-ghost use Rattle.reasons.specs.Reasons.{IsSoAt, first_of};
+ghost use Rattle.flat_model.specs.Legal.{IsComplete, store_after};
+ghost use Rattle.flat_store.specs.Zeros.{HasZeroPage};
+ghost use Rattle.reasons.specs.Reasons.{IsWhy, first_of};
+ghost use Rattle.reasons.specs.Told.{IsUnfaulted};
 
 use crate::NoMemory;
 use book::{Reply, read_entry};
@@ -31,7 +36,7 @@ pub enum Reason {
 }
 
 /// Whether one of the lines of an input is the line `book`.
-#[tactic(auto, using(crate::proofs::LineLaws::any_later, crate::proofs::LineLaws::any_here, std::proofs::lemmas::Grind::common_steps))]
+#[tactic(auto, using(crate::proofs::LineLaws::book_steps, std::proofs::lemmas::Grind::common_steps))]
 fn has_book(bytes: &[u8]) -> bool
     requires { length bytes.now < 2 ^ 31 }
     ensures { result ≡ list_any is_book (lines_of bytes.now) }
@@ -48,21 +53,22 @@ fn has_book(bytes: &[u8]) -> bool
 }
 
 /// The first line of some bytes; an empty one where there is none.
+#[tactic(auto, using(crate::proofs::LineLaws::first_steps, std::proofs::lemmas::Grind::common_steps))]
 fn first_line(bytes: &[u8]) -> &[u8]
-    ensures { length result.now ≤ length bytes.now }
+    ensures text { result.now ≡ first_of (lines_of bytes.now) }
+    ensures short { length result.now ≤ length bytes.now }
 {
-    for (i, byte) in bytes.iter().enumerate() {
-        if *byte == b'\n' {
-            return &bytes[..i];
-        }
+    if bytes.is_empty() {
+        return bytes;
     }
-    bytes
+    let (line, _) = next_line(bytes);
+    line
 }
 
 /// Why a line isn't the text of an entry.
 fn why_none(line: &[u8]) -> Option<Reason>
     requires { length line.now < 2 ^ 31 }
-    ensures { (bytes : List ℕ) (es : List Entry) (judged : Plan) → IfSome result (IsSoAt bytes judged es line.now) }
+    ensures { (bytes : List ℕ) (p : Plan) (es : List Entry) → IfSome result (IsWhy bytes p es line.now Rule.NoEntry) }
 {
     match why_no_entry(line) {
         Some(reason) => Some(Reason::NoEntry(reason)),
@@ -70,10 +76,12 @@ fn why_none(line: &[u8]) -> Option<Reason>
     }
 }
 
-/// Why the flat store doesn't allow the entry of a line.
+/// Why the flat store doesn't allow the entry of a line. `None` only where it does.
 fn why_not_legal(judge: &Judge, line: &[u8]) -> Option<Reason>
-    ensures { (bytes : List ℕ) (es : List Entry) → IsAfter judge.now es
-        → IfSome result (IsSoAt bytes judge.now.script es line.now) }
+    ensures so { (bytes : List ℕ) (es : List Entry) → IsAfter judge.now es
+        → IfSome result (IsWhy bytes judge.now.script es line.now Rule.NotLegal) }
+    ensures none { (es : List Entry) → IsAfter judge.now es
+        → IfNone result (BreaksEntry judge.now.script es line.now Rule.NotLegal → ⊥) }
 {
     let Some(entry) = read_entry(line) else {
         return None;
@@ -84,11 +92,13 @@ fn why_not_legal(judge: &Judge, line: &[u8]) -> Option<Reason>
     }
 }
 
-/// Why custody doesn't allow the entry of a line.
+/// Why custody doesn't allow the entry of a line. `None` only where it does.
 fn why_not_clean(judge: &Judge, line: &[u8]) -> Option<Reason>
     requires { AreTablesOf judge.now.script judge.now.custody }
-    ensures { (bytes : List ℕ) (es : List Entry) → IsAfter judge.now es
-        → IfSome result (IsSoAt bytes judge.now.script es line.now) }
+    ensures so { (bytes : List ℕ) (es : List Entry) → IsAfter judge.now es
+        → IfSome result (IsWhy bytes judge.now.script es line.now Rule.NotClean) }
+    ensures none { (es : List Entry) → IsAfter judge.now es
+        → IfNone result (BreaksEntry judge.now.script es line.now Rule.NotClean → ⊥) }
 {
     let Some(entry) = read_entry(line) else {
         return None;
@@ -99,21 +109,28 @@ fn why_not_clean(judge: &Judge, line: &[u8]) -> Option<Reason>
     }
 }
 
-/// Why a book isn't complete that ends with the listing, or with its summary.
-fn why_incomplete(judge: &Judge, at_end: bool) -> Option<Reason>
-    ensures { (bytes line : List ℕ) (es : List Entry) → IsAfter judge.now es
-        → IfSome result (IsSoAt bytes judge.now.script es line) }
+/// Why a book isn't complete that ends with the listing, or with its summary. `None` only where it is.
+fn why_incomplete(judge: &Judge, bytes: &[u8], at_end: bool) -> Option<Reason>
+    requires { length bytes.now < 2 ^ 31 }
+    ensures so { (line : List ℕ) (es : List Entry) → IsAfter judge.now es
+        → IfSome result (IsWhy bytes.now judge.now.script es line Rule.Incomplete) }
+    ensures none { (es : List Entry) → IsAfter judge.now es → IfNone result (IsComplete judge.now.script es) }
 {
+    if !has_book(bytes) {
+        return Some(Reason::NoBook);
+    }
     match legal_reasons::why_incomplete(judge.script(), judge.store(), at_end) {
         Some(reason) => Some(Reason::NotLegal(reason)),
         None => None,
     }
 }
 
-/// Which stored page is all zeros.
+/// Which stored page is all zeros. `None` only where none is.
 fn why_zeros(judge: &Judge) -> Option<Reason>
-    ensures { (bytes line : List ℕ) (es : List Entry) → IsAfter judge.now es
-        → IfSome result (IsSoAt bytes judge.now.script es line) }
+    ensures so { (bytes line : List ℕ) (es : List Entry) → IsAfter judge.now es
+        → IfSome result (IsWhy bytes judge.now.script es line Rule.ZeroPage) }
+    ensures none { (es : List Entry) → IsAfter judge.now es
+        → IfNone result (HasZeroPage (store_after judge.now.script es) → ⊥) }
 {
     match legal_reasons::why_zeros(judge.store()) {
         Some(reason) => Some(Reason::NotLegal(reason)),
@@ -122,28 +139,24 @@ fn why_zeros(judge: &Judge) -> Option<Reason>
 }
 
 /// Why a line of the summary isn't the one that is due.
-fn why_not_due(alloc: Global, judge: &Judge, rest: &[u8]) -> Result<Option<Reason>, NoMemory>
-    requires { length rest.now < 2 ^ 31 }
-    ensures { (bytes line : List ℕ) (es : List Entry) → IsAfter judge.now es
-        → IfOk result (λ o. IfSome o (IsSoAt bytes judge.now.script es line)) }
+fn why_not_due(
+    alloc: Global,
+    judge: &Judge,
+    bytes: &[u8],
+    rest: &[u8],
+) -> Result<Option<Reason>, NoMemory>
+    requires few { length bytes.now < 2 ^ 31 }
+    requires left { length rest.now < 2 ^ 31 }
+    ensures { (line : List ℕ) (es : List Entry) → IsAfter judge.now es
+        → IfOk result (λ o. IfSome o (IsWhy bytes.now judge.now.script es line Rule.WrongSum)) }
 {
+    if !has_book(bytes) {
+        return Ok(Some(Reason::NoBook));
+    }
     match why_wrong_sum(alloc, judge.script(), judge.store(), rest) {
         Ok(Some((reason, _))) => Ok(Some(Reason::WrongSum(reason))),
         Ok(None) => Ok(None),
         Err(NoMemory) => Err(NoMemory),
-    }
-}
-
-/// Why the first line of what is left of a listing is no entry, or an entry that may not stand there.
-fn why_entry(judge: &Judge, rest: &[u8], rule: Rule) -> Option<Reason>
-    requires tables { AreTablesOf judge.now.script judge.now.custody }
-    requires left { length rest.now < 2 ^ 31 }
-{
-    let line = first_line(rest);
-    match rule {
-        Rule::NoEntry => why_none(line),
-        Rule::NotLegal => why_not_legal(judge, line),
-        _ => why_not_clean(judge, line),
     }
 }
 
@@ -159,13 +172,19 @@ pub(crate) fn why(
     requires tables { AreTablesOf judge.now.script judge.now.custody }
     requires few { length bytes.now < 2 ^ 31 }
     requires left { length rest.now < 2 ^ 31 }
+    ensures so { (es : List Entry) → IsAfter judge.now es
+        → IfOk result (λ o. IfSome o (IsWhy bytes.now judge.now.script es (first_of (lines_of rest.now)) rule)) }
+    ensures none { (es : List Entry) → IsAfter judge.now es
+        → IfOk result (λ o. IfNone o (IsUnfaulted judge.now.script es (first_of (lines_of rest.now)) rule)) }
 {
+    let line = first_line(rest);
     match rule {
-        Rule::NoEntry | Rule::NotLegal | Rule::NotClean => Ok(why_entry(judge, rest, rule)),
+        Rule::NoEntry => Ok(why_none(line)),
+        Rule::NotLegal => Ok(why_not_legal(judge, line)),
+        Rule::NotClean => Ok(why_not_clean(judge, line)),
+        Rule::Incomplete => Ok(why_incomplete(judge, bytes, rest.is_empty())),
         Rule::ZeroPage => Ok(why_zeros(judge)),
-        Rule::Incomplete | Rule::WrongSum if !has_book(bytes) => Ok(Some(Reason::NoBook)),
-        Rule::Incomplete => Ok(why_incomplete(judge, rest.is_empty())),
-        Rule::WrongSum => why_not_due(alloc, judge, rest),
+        Rule::WrongSum => why_not_due(alloc, judge, bytes, rest),
     }
 }
 

@@ -1,14 +1,14 @@
 ghost use Rattle.std.specs.Prelude.{◌≡◌, ◌+◌, ◌<◌, ◌≤◌, ◌^◌, [], IfOk, length};
 ghost use Rattle.script.specs.Fields.{lines_of};
 ghost use Rattle.book_check.specs.Judging.{IsAfter};
-ghost use Rattle.reasons.specs.Passing.{IsWatched, Passes};
+ghost use Rattle.reasons.specs.Passing.{EndsBefore, IsWatched, Passes};
 
 use crate::NoMemory;
 use crate::since::Since;
-use book_check::{Judge, LineFault, next_line};
+use book_check::{Judge, LineFault, is_summary, next_line};
 
-/// Has the entries of a listing accepted, whose first line has this number, up to the first line that isn't, and has
-/// each state looked at. What is left begins with that line.
+/// Has the entries of a listing accepted, whose first line has this number, up to its summary or the first line that
+/// breaks a rule, and has each state looked at. What is left begins with that line.
 ///
 /// # Errors
 /// `NoMemory` is want of memory.
@@ -24,6 +24,7 @@ pub(crate) fn go_over<'a>(
     requires since { IsWatched judge.old.script first [] since.old.reason since.old.line }
     ensures passed { IfOk result (λ rest. Passes judge.new first (lines_of lines.now) (lines_of rest.now)
         since.new.reason since.new.line) }
+    ensures ends { IfOk result (λ rest. EndsBefore judge.new (lines_of rest.now)) }
     ensures shorter { IfOk result (λ rest. length rest.now ≤ length lines.now) }
     ensures script { judge.new.script ≡ judge.old.script }
     ensures reason { since.new.reason ≡ since.old.reason }
@@ -32,6 +33,9 @@ pub(crate) fn go_over<'a>(
     let mut number = first;
     while !rest.is_empty() {
         let (line, more) = next_line(rest);
+        if is_summary(line) {
+            return Ok(rest);
+        }
         match judge.accept(line) {
             Ok(()) => since.look(judge, number),
             Err(LineFault::Broken(_)) => return Ok(rest),

@@ -18,7 +18,7 @@ pub(crate) struct Since {
 }
 
 /// Whether the sentence of a reason is true where a judge stands.
-#[tactic(auto, using(crate::proofs::SinceLaws::legal_says, crate::proofs::SinceLaws::clean_says, crate::proofs::SinceLaws::sum_says, std::proofs::lemmas::Grind::common_steps), unfolding(crate::specs::Reasons::SaysAt))]
+#[tactic(auto, using(crate::proofs::SinceLaws::sentence_steps), unfolding(crate::specs::Reasons::SaysAt))]
 fn is_still_so(judge: &Judge, reason: Reason) -> bool
     ensures { (es : List Entry) → IsAfter judge.now es → Decides result (SaysAt judge.now.script es reason) }
 {

@@ -1,16 +1,24 @@
-ghost use Rattle.std.specs.Prelude.{◌≡◌, ◌+◌, ◌++◌, ◌<◌, ◌^◌, ◌≤◌, IfOk, IfSome, Ok, OnOk, length, string_bytes};
+ghost use Rattle.std.specs.Prelude.{◌≡◌, ◌+◌, ◌++◌, ◌<◌, ◌^◌, ◌≤◌, Err, IfNone, IfOk, IfSome, List, Ok, OnOk, length};
+ghost use Rattle.std.specs.Prelude.{string_bytes};
 ghost use Rattle.script.specs.Fields.{lines_of};
 ghost use Rattle.custody.specs.Tables.{AreTablesOf};
 ghost use Rattle.script.specs.Grammar.{script_of};
 ghost use Rattle.script.specs.Plans.{Plan};
-ghost use Rattle.reasons.specs.Passing.{Begins, IsSinceOf};
-ghost use Rattle.reasons.specs.Reasons.{reason_text, why_line};
+ghost use Rattle.book.specs.declared.entries.Entry.{Entry};
+ghost use Rattle.book_check.specs.Closing.{IsTheVerdict};
+ghost use Rattle.book_check.specs.Judging.{IsAfter};
+ghost use Rattle.book_check.specs.Verdicts.{IsJudged};
+ghost use Rattle.book_check.specs.declared.offences.CheckFault.TheVariants as CheckFault;
+ghost use Rattle.book_check.specs.declared.offences.Offence.{Offence};
+ghost use Rattle.reasons.specs.Passing.{Begins, IsRefused};
+ghost use Rattle.reasons.specs.Reasons.{first_of, reason_text, why_line};
+ghost use Rattle.reasons.specs.Told.{HasLine, HasText, IsTold, TellsOrNot};
 
 use crate::NoMemory;
 use crate::asking::{Reason, why};
 use crate::passing::go_over;
 use crate::since::Since;
-use book_check::{Judge, Rule, split_input};
+use book_check::{Input, Judge, Offence, split_input};
 use line_reasons::push_sum_reason;
 use script::{Script, ScriptFault, read_script};
 use std::alloc::{AllocError, Global};
@@ -52,7 +60,8 @@ fn line_of(
 /// A judge of the listing of a script, before its first entry. `None` where the script is refused.
 fn booted(alloc: Global, script: &[u8]) -> Result<Option<Judge>, NoMemory>
     requires { length script.now < 2 ^ 31 }
-    ensures { IfOk result (λ o. IfSome o (Begins script.now)) }
+    ensures some { IfOk result (λ o. IfSome o (Begins script.now)) }
+    ensures none { IfOk result (λ o. IfNone o (IsRefused script.now)) }
 {
     match read_script(alloc, script) {
         Ok(script) => {
@@ -64,71 +73,82 @@ fn booted(alloc: Global, script: &[u8]) -> Result<Option<Judge>, NoMemory>
     }
 }
 
-/// Since which line the sentence of a reason has been true, in the listing of a script whose first line has this
-/// number.
-fn since_line(
-    alloc: Global,
-    script: &[u8],
-    first: u32,
-    listing: &[u8],
-    reason: &Reason,
-) -> Result<Option<u32>, NoMemory>
-    requires few { length script.now < 2 ^ 31 }
-    requires numbers { 0 < first }
-    requires lines { first + length listing.now < 2 ^ 31 }
-    ensures { (p : Plan) → script_of script.now ≡ Ok p
-        → IfOk result (λ o. IfSome o (IsSinceOf first (lines_of listing.now) p reason.now)) }
+/// Since which line the sentence of a reason has been true, in the listing of an input up to its line at fault.
+fn since_line(alloc: Global, input: &Input, reason: &Reason) -> Result<Option<u32>, NoMemory>
+    requires few { length input.now.script.now < 2 ^ 31 }
+    requires numbers { 0 < input.now.first }
+    requires lines { input.now.first + length input.now.listing.now < 2 ^ 31 }
+    ensures { (p : Plan) (o : Offence) → script_of input.now.script.now ≡ Ok p
+        → IsJudged p input.now.first (lines_of input.now.listing.now) (Err (CheckFault.Refused o))
+        → IfOk result (HasLine p input.now.first (lines_of input.now.listing.now) o reason.now) }
 {
-    let Some(mut judge) = booted(alloc, script)? else {
+    let Some(mut judge) = booted(alloc, input.script)? else {
         return Ok(None);
     };
     let mut since = Since::of(*reason);
-    since.look(&judge, first - 1);
-    go_over(&mut judge, first, listing, &mut since)?;
+    since.look(&judge, input.first - 1);
+    go_over(&mut judge, input.first, input.listing, &mut since)?;
     Ok(since.line)
 }
 
-/// The line that tells a reason of an input, and since which line it has been so where its sentence speaks of a state.
-fn tell(alloc: Global, script: &Script, bytes: &[u8], reason: &Reason) -> Result<Vec<u8>, NoMemory>
-    requires { length bytes.now ≤ 134217728 }
+/// The line that tells a reason, and since which line it has been so where its sentence speaks of a state.
+fn tell(alloc: Global, script: &Script, input: &Input, reason: &Reason) -> Result<Vec<u8>, NoMemory>
+    requires few { length input.now.script.now < 2 ^ 31 }
+    requires numbers { 0 < input.now.first }
+    requires lines { input.now.first + length input.now.listing.now < 2 ^ 31 }
+    ensures { (o : Offence) → script_of input.now.script.now ≡ Ok script.now
+        → IsJudged script.now input.now.first (lines_of input.now.listing.now) (Err (CheckFault.Refused o))
+        → IfOk result (λ text. HasText script.now input.now.first (lines_of input.now.listing.now) o reason.now
+        text.items) }
 {
-    if !reason.has_since() {
-        return line_of(alloc, script, reason, None);
-    }
-    let input = split_input(bytes);
-    let since = since_line(alloc, input.script, input.first, input.listing, reason)?;
+    let since = if reason.has_since() {
+        since_line(alloc, input, reason)?
+    } else {
+        None
+    };
     line_of(alloc, script, reason, since)
 }
 
-/// Why a listing is refused that a judge has gone over, as a line of its own; empty where no reason is found.
+/// Why the listing of an input is refused that a judge has gone over, as a line of its own; empty where no reason is
+/// found.
 fn explain(
     alloc: Global,
     judge: &Judge,
     bytes: &[u8],
+    input: &Input,
     rest: &[u8],
-    rule: Rule,
+    offence: Offence,
 ) -> Result<Vec<u8>, NoMemory>
     requires tables { AreTablesOf judge.now.script judge.now.custody }
-    requires few { length bytes.now ≤ 134217728 }
+    requires few { length bytes.now < 2 ^ 31 }
     requires left { length rest.now < 2 ^ 31 }
+    requires script { length input.now.script.now < 2 ^ 31 }
+    requires numbers { 0 < input.now.first }
+    requires lines { input.now.first + length input.now.listing.now < 2 ^ 31 }
+    ensures { (es : List Entry) → IsAfter judge.now es → script_of input.now.script.now ≡ Ok judge.now.script
+        → IsJudged judge.now.script input.now.first (lines_of input.now.listing.now) (Err (CheckFault.Refused offence))
+        → IfOk result (λ text. TellsOrNot bytes.now judge.now.script input.now.first (lines_of input.now.listing.now)
+        offence es (first_of (lines_of rest.now)) text.items) }
 {
-    match why(alloc, judge, bytes, rest, rule) {
-        Ok(Some(reason)) => tell(alloc, judge.script(), bytes, &reason),
+    match why(alloc, judge, bytes, rest, offence.rule) {
+        Ok(Some(reason)) => tell(alloc, judge.script(), input, &reason),
         Ok(None) => Ok(Vec::new(alloc)),
         Err(NoMemory) => Err(NoMemory),
     }
 }
 
-/// Why the listing of an input is refused, by the rule that its first line at fault breaks (own): a line of its own, with
-/// the first condition of that rule that doesn't hold there. Where that speaks of a state, it tells besides since which
-/// line it has been so. The text is empty where no reason is found.
+/// Why the listing of an input is refused, whose first line at fault this is, by the rule that it breaks (own): a line
+/// of its own, with the first condition of that rule that doesn't hold there. Where that speaks of a state, it tells
+/// besides since which line it has been so.
 ///
 /// The listing is gone over up to the line at fault, and once more where a line is looked for.
 ///
 /// # Errors
 /// `NoMemory` is want of memory.
-pub fn why_text(alloc: Global, bytes: &[u8], rule: Rule) -> Result<Vec<u8>, NoMemory>
-    requires { length bytes.now ≤ 134217728 }
+pub fn why_text(alloc: Global, bytes: &[u8], offence: Offence) -> Result<Vec<u8>, NoMemory>
+    requires few { length bytes.now ≤ 134217728 }
+    requires refused { IsTheVerdict bytes.now (Err (CheckFault.Refused offence)) }
+    ensures { IfOk result (λ text. IsTold bytes.now offence text.items) }
 {
     let input = split_input(bytes);
     let Some(mut judge) = booted(alloc, input.script)? else {
@@ -136,5 +156,5 @@ pub fn why_text(alloc: Global, bytes: &[u8], rule: Rule) -> Result<Vec<u8>, NoMe
     };
     let mut unwatched = Since::nothing();
     let rest = go_over(&mut judge, input.first, input.listing, &mut unwatched)?;
-    explain(alloc, &judge, bytes, rest, rule)
+    explain(alloc, &judge, bytes, &input, rest, offence)
 }

@@ -16,3 +16,7 @@ pub returns-in-Err-Refused : goal.returns-in-Err-Refused
 returns-in-Err-Refused g c = judged_refused c.args.bytes.now c.in-Err-Refused.offence _ _
     (refused_told c.args.bytes.now c.check_book.result _ c.in-Err-Refused.is c.check_book.ensures
     c.in-Err-Refused.offence c.in-Err-Refused.field-0-is) c.write_offence.ensures
+
+pub write_offence-requires-clause-refused : goal.write_offence-requires-clause-refused
+write_offence-requires-clause-refused g c = refused_told c.args.bytes.now c.check_book.result _ c.in-Err-Refused.is
+    c.check_book.ensures c.in-Err-Refused.offence c.in-Err-Refused.field-0-is

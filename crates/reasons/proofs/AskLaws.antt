@@ -1,0 +1,62 @@
+-- Where no reason is found, the rule isn't broken.
+use Rattle.std.proofs.Common.{◌≡◌, List, ℕ, Option, Some, None, sym, subst}
+use Rattle.std.specs.Prelude.{IfSome}
+use Rattle.script.specs.Plans.{Plan}
+use Rattle.book.specs.Entries.{entry_text}
+use Rattle.book.specs.Reading.{IsEntry}
+use Rattle.book.specs.declared.entries.Entry.{Entry}
+use Rattle.flat_model.specs.Legal.{IsComplete, IsLawful, store_after}
+use Rattle.flat_model.specs.Store.{Store}
+use Rattle.flat_store.specs.Shown.{Kept, Shows}
+use Rattle.custody_model.specs.Allowed.{IsAllowed}
+use Rattle.custody_model.specs.Clean.{custody_after}
+use Rattle.legal_reasons.specs.Reasons.{HaveEnded}
+use Rattle.book_check.specs.Judging.{IsAfter, Judged}
+use Rattle.book_check.specs.Verdicts.{BreaksEntry}
+use Rattle.book_check.specs.declared.offences.Rule.{Rule}
+use Rattle.book_check.specs.declared.offences.Rule.TheVariants as rule
+use Rattle.reasons.specs.Reasons.{IsWhy}
+use Rattle.reasons.specs.declared.asking.Reason.{Reason}
+use Rattle.reasons.proofs.SinceLaws.{shown_there}
+
+module _ (p : Plan) (es : List Entry) (line : List ℕ) where
+  module _ (back : (e : Entry) → IsEntry e → entry_text e ≡ line → None ≡ Some e) where
+    -- the line is no entry's text
+    pub no_entry_legal : BreaksEntry p es line rule.NotLegal → ⊥
+    no_entry_legal (e, text, not_lawful) = let z = back e text.entry text.text in cc
+
+    pub no_entry_clean : BreaksEntry p es line rule.NotClean → ⊥
+    no_entry_clean (e, text, lawful, not_allowed) = let z = back e text.entry text.text in cc
+
+  module _ (f : Entry) (back : (e : Entry) → IsEntry e → entry_text e ≡ line → Some f ≡ Some e) where
+    same_entry : (e : Entry) → IsEntry e → entry_text e ≡ line → f ≡ e
+    same_entry e entry text = let z = back e entry text in cc
+
+    -- the entry of the line may stand there
+    pub entry_lawful : IsLawful p (store_after p es) f → BreaksEntry p es line rule.NotLegal → ⊥
+    entry_lawful may (e, text, not_lawful) =
+        not_lawful (subst (IsLawful p (store_after p es)) (same_entry e text.entry text.text) may)
+
+    pub entry_allowed : IsAllowed p (store_after p es) (custody_after p es) f
+        → BreaksEntry p es line rule.NotClean → ⊥
+    entry_allowed may (e, text, lawful, not_allowed) =
+        not_allowed (subst (IsAllowed p (store_after p es) (custody_after p es))
+        (same_entry e text.entry text.text) may)
+
+complete_there : (j : Judged) (es : List Entry) → IsAfter j es → HaveEnded j.script (store_after j.script es)
+    → IsComplete j.script es
+unfolding HaveEnded IsComplete
+complete_there j es after ended k lt = (after.ends k lt).0 (ended k lt)
+
+-- each process has ended
+pub complete_told : (j : Judged) (es : List Entry) (p : Plan) (k : Kept) → p ≡ j.script → k ≡ j.store
+    → ((s : Store) → Shows p k s → HaveEnded p s) → IsAfter j es → IsComplete j.script es
+complete_told j es p k ps ks ended after = complete_there j es after
+    (subst (λ (q : Plan). HaveEnded q (store_after j.script es)) ps
+    (ended (store_after j.script es) (shown_there j es after p k ps ks)))
+
+-- what is asked of a line and a rule is asked of these
+pub why_at : (bytes : List ℕ) (p : Plan) (es : List Entry) (line first : List ℕ) (given r : Rule) (o : Option Reason)
+    → line ≡ first → given ≡ r → IfSome o (IsWhy bytes p es line r) → IfSome o (IsWhy bytes p es first given)
+why_at bytes p es line first given r o at is h = subst (λ (l : List ℕ). IfSome o (IsWhy bytes p es l given)) at
+    (subst (λ (q : Rule). IfSome o (IsWhy bytes p es line q)) (sym is) h)
