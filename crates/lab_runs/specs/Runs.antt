@@ -27,6 +27,14 @@ pub record IsEnded (stepped finished new : Machine) : Type 0 where
   pub down : IsShutDown new
   pub rest : new.state.store.moving ≡ None
 
+-- a machine was finished and shut down; its book had so many entries before, and so many at the end of all processes
+pub record EndsBy (stepped new : Machine) (before after : ℕ) : Type 0 where
+  pub finished : Machine
+  pub ended : IsEnded stepped finished new
+  pub script : new.state.plan ≡ stepped.state.plan
+  pub stepped_is : before ≡ length stepped.state.entries
+  pub finished_is : after ≡ length finished.state.entries
+
 -- what is left of a machine that had made these steps, once it was finished and shut down
 pub record EndsRan (stepped : Machine) (steps : List Step) (r : Ran) : Type 0 where
   pub finished : Machine

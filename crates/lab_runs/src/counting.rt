@@ -1,24 +1,43 @@
 //! The outcomes of a script over schedules that are drawn from one seed after the other.
 
 ghost use Rattle.std.specs.Prelude.{◌+◌, ◌<◌, ◌≤◌, ◌^◌, IfErr, IfOk, OnOk, length};
+ghost use Rattle.script.specs.Plans.{Plan};
+ghost use Rattle.lab_runs.specs.Drawn.{HasDrawn};
 ghost use Rattle.lab_runs.specs.Outcomes.{AddsDrawn, AddsRun, IsReportOf, IsUnscripted};
 
 use crate::NoMemory;
 use crate::drawing::run_drawn;
 use crate::ends::accounts_text;
+use crate::running::Ran;
+use bulk_store::AnyDrive;
 use listing::replies_text;
+use machine::Machine;
 use outcomes::{Table, report};
 use script::{Script, ScriptFault, read_script};
 use std::alloc::Global;
+
+/// Adds to a table how the run of a script ended by the schedule of a seed.
+fn add_end(
+    alloc: Global,
+    table: &mut Table,
+    machine: &Machine<AnyDrive>,
+    seed: u32,
+) -> Result<(), NoMemory>
+    ensures { (p : Plan) → HasDrawn p seed machine.now → OnOk result (AddsDrawn p seed table.old table.new) }
+{
+    let replies = replies_text(alloc, machine.book())?;
+    let accounts = accounts_text(alloc, machine.accounts())?;
+    table.add(alloc, replies, accounts, seed)
+}
 
 /// Runs a script by the schedule of a seed, and adds how that ended to a table.
 fn add_drawn(alloc: Global, table: &mut Table, script: Script, seed: u32) -> Result<(), NoMemory>
     ensures { OnOk result (AddsDrawn script seed table.old table.new) }
 {
-    let ran = run_drawn(alloc, script, seed)?;
-    let replies = replies_text(alloc, ran.machine.book())?;
-    let accounts = accounts_text(alloc, ran.machine.accounts())?;
-    table.add(alloc, replies, accounts, seed)
+    let Ran { machine, .. } = run_drawn(alloc, script, seed)?;
+    let added = add_end(alloc, table, &machine, seed);
+    drop(machine);
+    added
 }
 
 /// Reads a script, runs it by the schedule of a seed, and adds how that ended to a table.

@@ -90,6 +90,11 @@ pub(crate) fn run_drawn(alloc: Global, script: Script, seed: u32) -> Result<Ran,
     ensures { IfOk result (λ ran. HasDrawn script seed ran.machine) }
 {
     let mut machine = boot_machine(alloc, script)?;
-    draw_out(&mut machine, seed)?;
-    end(machine, Vec::new(alloc))
+    match draw_out(&mut machine, seed) {
+        Ok(()) => end(machine, Vec::new(alloc)),
+        Err(NoMemory) => {
+            drop(machine);
+            Err(NoMemory)
+        }
+    }
 }

@@ -3,12 +3,12 @@ use Rattle.lab_runs.proofs.drawing.run_drawn.Goals as goal
 
 pub end-requires-clause-told : goal.end-requires-clause-told
 end-requires-clause-told c = drawn_told _ _ _ _ c.in_ok-machine.ensures.booted c.in_ok-machine.ensures.script
-    c.in_ok-draw_out.ensures
+    c.in-Ok.ensures
 
 pub end-requires-clause-counted : goal.end-requires-clause-counted
 end-requires-clause-counted c = drawn_counted _ _ _ _ c.in_ok-machine.ensures.booted c.in_ok-machine.ensures.script
-    c.in_ok-draw_out.ensures c.in_ok-machine.ensures.counted
+    c.in-Ok.ensures c.in_ok-machine.ensures.counted
 
-pub returns : goal.returns
-returns c = drawn_by _ _ _ _ c.in_ok-machine.ensures.booted c.in_ok-machine.ensures.script c.in_ok-draw_out.ensures
+pub returns-in-Ok : goal.returns-in-Ok
+returns-in-Ok c = drawn_by _ _ _ _ c.in_ok-machine.ensures.booted c.in_ok-machine.ensures.script c.in-Ok.ensures
     _ _ c.end.ensures

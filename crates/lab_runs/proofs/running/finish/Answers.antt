@@ -4,20 +4,20 @@ use Rattle.bulk_store.specs.AnyDrive.{any_places}
 use Rattle.machine.proofs.CallLaws.{counted_on, keeps_on}
 use Rattle.runner.specs.Drives.{AreTold, faults_in, plan_of}
 use Rattle.runner.proofs.DriveLaws.{told_still}
-use Rattle.lab_runs.proofs.running.end.Goals as goal
+use Rattle.lab_runs.proofs.running.finish.Goals as goal
 
 pub promise-requires-clause-told : goal.promise-requires-clause-told
 promise-requires-clause-told c =
-    let kept = keeps_on plan_of any_places faults_in c.args.machine c.finish.new.self
+    let kept = keeps_on plan_of any_places faults_in c.args.machine.now c.finish.new.self
     c.shut_down_machine.new.machine c.finish.ensures.kept c.shut_down_machine.ensures.kept in
     subst (λ (p : Plan). AreTold p c.shut_down_machine.new.machine.drives) (sym kept.script)
-    (told_still c.args.machine.state.plan c.args.machine.drives c.shut_down_machine.new.machine.drives
+    (told_still c.args.machine.now.state.plan c.args.machine.now.drives c.shut_down_machine.new.machine.drives
     kept.plans kept.stores c.requires.told)
 
 pub promise-requires-clause-counted : goal.promise-requires-clause-counted
 promise-requires-clause-counted c =
     counted_on faults_in 0 0 c.finish.new.self c.shut_down_machine.new.machine
-    (counted_on faults_in 0 0 c.args.machine c.finish.new.self c.requires.counted c.finish.ensures.kept.alike)
+    (counted_on faults_in 0 0 c.args.machine.now c.finish.new.self c.requires.counted c.finish.ensures.kept.alike)
     c.shut_down_machine.ensures.kept.alike
 
 pub returns : goal.returns
@@ -36,7 +36,6 @@ returns c =
         rest = c.in_ok-shut_down_machine.ensures.still;
       };
       script = c.shut_down_machine.ensures.kept.script ∙ c.finish.ensures.kept.script;
-      steps_are = search rules;
       stepped_is = search rules;
       finished_is = search rules;
     }
