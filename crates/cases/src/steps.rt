@@ -50,7 +50,9 @@ fn case_text<R: Threads + Wait + Sync + AllocGlobal>(
     lines: &str,
 ) -> Result<String, Stuck> {
     let mut case = Case::begin(rt.alloc(), script)?;
-    lines_text(rt, &mut case, lines)
+    let text = lines_text(rt, &mut case, lines);
+    drop(case);
+    text
 }
 
 /// What the lines of a case give on the machine of a script.

@@ -18,5 +18,7 @@ use std::alloc::Global;
 pub(crate) fn given(alloc: Global, text: &str) -> Result<String, NoMemory> {
     let (script, lines) = text.split_once("\nbook\n").unwrap_or((text, ""));
     let script = script_of(alloc, script)?;
-    done_text(alloc, &script, lines)
+    let text = done_text(alloc, &script, lines);
+    drop(script);
+    text
 }

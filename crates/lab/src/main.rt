@@ -1,9 +1,10 @@
 //! `lab steps` reads a script with a schedule from standard input, has the processors of its machine make their steps
-//! in that order, and prints the listing; `lab trace` prints each step. `lab outcomes N SEED` reads a script, and prints
-//! what its processes may be answered.
+//! in that order, and prints the listing; `lab trace` prints each step. `lab outcomes N SEED` reads a script, and
+//! prints what its processes may be answered. `lab why` reads a script with anybody's listing, and prints whether it is
+//! right, or its first line at fault, with the reason.
 #![tactic(auto)]
 
-use lab_calls::{Finished, Status, Words, lab};
+use lab_calls::{Status, Words, lab};
 use site_io::{StdSink, StdSource};
 use std::alloc::{AllocError, Global};
 use std::env::FillError;
@@ -72,6 +73,8 @@ fn main(rt: HostRuntime) -> ExitCode {
     };
     let mut source = StdSource::new(rt.stdin());
     let mut sink = StdSink::new(rt.stdout());
-    let Finished { status, .. } = lab(rt.alloc(), words, &mut source, &mut sink);
+    let finished = lab(rt.alloc(), words, &mut source, &mut sink);
+    let status = finished.status;
+    drop(finished);
     ExitCode::from(status.number())
 }

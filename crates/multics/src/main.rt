@@ -2,7 +2,7 @@
 //! listing of a script.
 #![tactic(auto)]
 
-use runner::{Finished, Status, Words, multics};
+use runner::{Status, Words, multics};
 use site_io::{NoGate, StdSink, StdSource};
 use std::alloc::{AllocError, Global};
 use std::env::FillError;
@@ -71,6 +71,8 @@ fn main(rt: HostRuntime) -> ExitCode {
     };
     let mut source = StdSource::new(rt.stdin());
     let mut sink = StdSink::new(rt.stdout());
-    let Finished { status, .. } = multics(&rt, rt.alloc(), words, &mut source, &mut sink, &NoGate);
+    let finished = multics(&rt, rt.alloc(), words, &mut source, &mut sink, &NoGate);
+    let status = finished.status;
+    drop(finished);
     ExitCode::from(status.number())
 }

@@ -77,7 +77,9 @@ fn call_text<R: Threads + Wait + Sync + AllocGlobal>(
 ) -> Result<String, NoMemory> {
     let gate = RunGate::new(rt.alloc(), asked);
     let finished = multics(rt, rt.alloc(), words, source, sink, &gate);
-    told(rt, asked, &finished, sink.bytes(), &gate)
+    let told = told(rt, asked, &finished, sink.bytes(), &gate);
+    drop(finished);
+    told
 }
 
 /// What the program answers an input that comes in pieces of so many bytes: how it ended, what it wrote, and what is

@@ -29,7 +29,9 @@ fn used_after(store: &mut FlatStore, book: &Book) -> Result<Option<u32>, NoMemor
 /// The same for the flat store that the book begins with.
 fn followed(alloc: Global, book: &Book) -> Result<Option<u32>, NoMemory> {
     let mut store = FlatStore::boot(alloc, book.script())?;
-    used_after(&mut store, book)
+    let used = used_after(&mut store, book);
+    drop(store);
+    used
 }
 
 /// How many pages the root is charged for, by the flat store that allows and follows each entry of the book, and by the
@@ -77,7 +79,9 @@ fn told_of(alloc: Global, asked: &Asked, book: &Book, written: &[u8]) -> Result<
     requires { IsLegal book.now.script book.now.entries }
 {
     let store = FlatStore::after(alloc, book)?;
-    told_by(alloc, asked, book, &store, written)
+    let told = told_by(alloc, asked, book, &store, written);
+    drop(store);
+    told
 }
 
 /// How often the first volume's disk was read and written, where that is asked for.

@@ -6,8 +6,9 @@ use std::alloc::Global;
 /// The canonical text of the script that a text is.
 fn text_of(alloc: Global, text: &str) -> Result<String, NoMemory> {
     let script = script_of(alloc, text)?;
-    let written = script_text(alloc, &script)?;
-    match String::from_utf8(written) {
+    let written = script_text(alloc, &script);
+    drop(script);
+    match String::from_utf8(written?) {
         Ok(text) => Ok(text),
         Err(_) => Err(NoMemory),
     }

@@ -62,37 +62,52 @@ impl<'a> Case<'a> {
                 until: Until::Seen(text),
             } => self.step_until(alloc, processor, other, text),
             Instruction::Step { processor, .. } => self.step_once(alloc, processor),
-            Instruction::Only(words) => {
-                self.only = words;
-                Ok(String::new(alloc))
-            }
+            Instruction::Only(words) => self.print_only(alloc, words),
             Instruction::Count(text) => self.count(alloc, text),
             Instruction::Replies => self.replies(alloc),
-            Instruction::Rounds => {
-                let before = self.machine.book().len();
-                rounds(&mut self.machine)?;
-                self.entries_from(alloc, before)
-            }
-            Instruction::Finish => {
-                let before = self.machine.book().len();
-                finish(&mut self.machine)?;
-                self.entries_from(alloc, before)
-            }
-            Instruction::Shutdown => {
-                let before = self.machine.book().len();
-                shut_down(&mut self.machine)?;
-                self.entries_from(alloc, before)
-            }
+            Instruction::Rounds => self.rounds(alloc),
+            Instruction::Finish => self.finish(alloc),
+            Instruction::Shutdown => self.shut_down(alloc),
             Instruction::Calls => calls(alloc, &self.machine),
             Instruction::Schedule(times, processor) => self.schedule(alloc, times, processor),
             Instruction::Judge => self.judged(alloc),
-            Instruction::Stop => {
-                self.machine.stop();
-                Ok(String::new(alloc))
-            }
+            Instruction::Stop => self.stop(alloc),
             Instruction::Lists(count) => lists(alloc, self.script, count),
             Instruction::Workers(count) => workers(rt, self.script, count),
         }
+    }
+
+    /// Prints from now on only the entries that begin with one of these words.
+    fn print_only(&mut self, alloc: Global, words: &'a str) -> Result<String, Stuck> {
+        self.only = words;
+        Ok(String::new(alloc))
+    }
+
+    /// Rounds of steps until each process has ended, and the entries that they append.
+    fn rounds(&mut self, alloc: Global) -> Result<String, Stuck> {
+        let before = self.machine.book().len();
+        rounds(&mut self.machine)?;
+        self.entries_from(alloc, before)
+    }
+
+    /// The end of the machine, and the entries that it appends.
+    fn finish(&mut self, alloc: Global) -> Result<String, Stuck> {
+        let before = self.machine.book().len();
+        finish(&mut self.machine)?;
+        self.entries_from(alloc, before)
+    }
+
+    /// The shutdown of the machine, and the entries that it appends.
+    fn shut_down(&mut self, alloc: Global) -> Result<String, Stuck> {
+        let before = self.machine.book().len();
+        shut_down(&mut self.machine)?;
+        self.entries_from(alloc, before)
+    }
+
+    /// Stops the machine, which appends nothing.
+    fn stop(&mut self, alloc: Global) -> Result<String, Stuck> {
+        self.machine.stop();
+        Ok(String::new(alloc))
     }
 
     /// One step, the entries that it appends, and its answer.

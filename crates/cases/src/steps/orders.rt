@@ -40,7 +40,9 @@ fn stands_after(alloc: Global, machine: &mut Machine<AnyDrive>, seed: u32) -> Re
 /// Whether the book of the machine of a script may stand after steps that are drawn from a seed.
 fn script_stands_after(alloc: Global, script: &str, seed: u32) -> Result<bool, Stuck> {
     let mut machine = booted(alloc, script)?;
-    stands_after(alloc, &mut machine, seed)
+    let stands = stands_after(alloc, &mut machine, seed);
+    drop(machine);
+    stands
 }
 
 /// Machines of a script, each with steps of processors drawn by chance, and how many of their books may stand.
@@ -85,7 +87,9 @@ fn is_over_with_workers<R: Threads + Wait + Sync + AllocGlobal>(
     script: &str,
 ) -> Result<bool, Stuck> {
     let mut machine = run_workers(rt, booted(rt.alloc(), script)?, &NoGate);
-    is_over(rt.alloc(), &mut machine)
+    let over = is_over(rt.alloc(), &mut machine);
+    drop(machine);
+    over
 }
 
 /// Machines of a script, each with a worker thread for each processor, and of how many the processes have ended with a

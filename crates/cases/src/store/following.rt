@@ -103,5 +103,7 @@ fn lines_text(
 /// What the lines below a script print.
 pub(crate) fn done_text(alloc: Global, script: &Script, lines: &str) -> Result<String, NoMemory> {
     let mut store = FlatStore::boot(alloc, script)?;
-    lines_text(alloc, script, &mut store, lines)
+    let text = lines_text(alloc, script, &mut store, lines);
+    drop(store);
+    text
 }
