@@ -11,7 +11,7 @@ import vm from "node:vm";
 const here = dirname(fileURLToPath(import.meta.url));
 const root = dirname(dirname(here));
 const folder = process.argv[4];
-const CHANGES = 24, FEW = 24, SLOWER = 3;
+const CHANGES = 24, FEW = 24, SLOWER = 3, LONGEST = 20_000;
 const page = readFileSync(join(root, "viewer/index.html"), "utf8");
 vm.runInThisContext(/<script id="host"[^>]*>([^]*?)<\/script>/.exec(page)[1], { filename: "host" });
 
@@ -88,15 +88,14 @@ const isSettled = ({ program, words, input }) => program !== "multics" || words[
 
 const isSame = (one, other) => one.status === other.status && Buffer.compare(Buffer.from(one.wrote), other.wrote) === 0;
 
-/** How many calls come out as they are due. A module that stops in another way comes out wrong. */
-function alike(modules, due) {
-  return due.filter(({ program, words, input, answer }) => {
-    try {
-      return isSame(runs(modules[program], words, input), answer);
-    } catch {
-      return false;
-    }
-  }).length;
+/** Whether a call comes out as it is due. A module that stops in another way, or doesn't end in a time, comes out wrong. */
+function isAlike(modules, { program, words, input, answer }) {
+  try {
+    globalThis.call = () => runs(modules[program], words, input);
+    return isSame(vm.runInThisContext("call()", { timeout: LONGEST }), answer);
+  } catch {
+    return false;
+  }
 }
 
 /** The places of a module at which 1 is added to a number. */
@@ -122,7 +121,7 @@ function refusedChanges(name, bytes, modules, due) {
   const places = additions(bytes), apart = Math.max(1, Math.floor(places.length / CHANGES));
   const few = due.filter((it) => it.program === name).filter((_, at, all) => at % Math.ceil(all.length / FEW) === 0);
   const tried = places.filter((_, at) => at % apart === 0).map((place) => changed(bytes, place)).filter(Boolean);
-  const refused = tried.filter((module) => alike({ ...modules, [name]: module }, few) < few.length).length;
+  const refused = tried.filter((module) => !few.every((it) => isAlike({ ...modules, [name]: module }, it))).length;
   console.log(`wasm: of ${tried.length} modules of ${name} with one instruction changed ${refused} are refused`);
   return refused;
 }
@@ -146,7 +145,7 @@ const modules = Object.fromEntries(Object.entries(bytes).map(([name, it]) => [na
 const asked = [...calls()].map(([program, words, input]) => ({ program, words, input: Buffer.from(input, "utf8") }));
 const due = asked.filter((it) => isAlone || isSettled(it)).map((it) => ({ ...it, answer: native(it.program, it.words, it.input) }));
 if (!isAlone) console.log(`wasm: the programs can't be kept to one thread here, so ${asked.length - due.length} runs are left out`);
-const wrong = due.filter((it) => alike(modules, [it]) === 0);
+const wrong = due.filter((it) => !isAlike(modules, it));
 for (const it of wrong.slice(0, 5)) console.log(`wasm: ${it.program} ${it.words.join(" ")} differs over ${JSON.stringify(it.input.toString().slice(0, 80))}`);
 console.log(`wasm: ${due.length - wrong.length} of ${due.length} calls give what the programs give`);
 const refused = Object.keys(bytes).map((name) => refusedChanges(name, bytes[name], modules, due));
