@@ -131,9 +131,10 @@ impl Block {
         ensures words { result ≡ page.now }
         ensures size { length result ≡ 1024 }
     {
-        let mut words = [0; 1024];
-        words.copy_from_slice(&page.words);
-        Block { words }
+        match page.words.as_array::<1024>() {
+            Some(words) => Block { words: *words },
+            None => unreachable!(),
+        }
     }
 
     /// Copies the words of a page.
