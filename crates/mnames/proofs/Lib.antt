@@ -1,3 +1,4 @@
+mod NameBytes
 mod NamesText
 mod PathGrammar
 pub mod PrincipalTexts

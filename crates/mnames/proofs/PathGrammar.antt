@@ -1,8 +1,7 @@
 -- Which texts paths begin with.
 use Rattle.std.proofs.Common.{◌≡◌, ◌≢◌, ◌⊎◌, inl, inr, ℕ, zero, suc, ◌+◌, ◌-◌, ◌*◌, ◌<◌, ◌≤◌, true, false}
-use Rattle.std.proofs.Common.{Result, Ok, Err, List, [], ◌∷◌, ◌++◌, length, take, drop, get_or, drop-cons}
+use Rattle.std.proofs.Common.{List, [], ◌∷◌, ◌++◌, length, take, drop, get_or, drop-cons}
 use Rattle.std.proofs.Common.{append_assoc, refl, sym, ap, subst, ◌∙◌, arith}
-use Rattle.std.specs.Prelude.{IfOk, IfErr}
 use Rattle.std.specs.List.{list_all, AllByRecursion}
 use Rattle.std.proofs.lemmas.Bool.{cases_eq}
 use Rattle.std.proofs.lemmas.Bool.Decides.{nat_tests}
@@ -13,7 +12,6 @@ use Rattle.std.proofs.Math.Seq.{take-append-add}
 use Rattle.mnames.proofs.ShortTexts.{name_is_short}
 use Rattle.mnames.specs.Names.{is_name, is_name_byte, IsName, IsShort, names_text, path_text, IsPath, BeginsPath}
 use Rattle.mnames.specs.Names.{IsLongestStart}
-use Rattle.mnames.specs.declared.paths.BadPath.{BadPath}
 use Rattle.mnames.specs.Reading.{IsAtSign, IsRun, IsStuck, IsNoPath}
 
 name_bytes : (x : List ℕ) → IsName x → list_all is_name_byte x ≡ true
@@ -598,7 +596,7 @@ never_nothing : (x : List ℕ) (xs : List (List ℕ)) → IsName x → x ++ name
 never_nothing [] xs h e = let n : 1 ≤ 0 = name_long [] h in omega (arith, n)
 never_nothing (b ∷ bs) xs h e = cc
 
-path_again : (text : List ℕ) (names : List (List ℕ)) → text ≡ path_text names → IsPath names → (p : List (List ℕ))
+pub path_again : (text : List ℕ) (names : List (List ℕ)) → text ≡ path_text names → IsPath names → (p : List (List ℕ))
     → IsPath p → text ≡ path_text p → names ≡ p
 path_again text [] e h [] hp ep = refl
 path_again text [] e h (x ∷ xs) hp ep =
@@ -608,12 +606,6 @@ path_again text (x ∷ xs) e h [] hp ep =
     let bytes : x ++ names_text xs ≡ [] = cc in
     absurd (never_nothing x xs h.each.0 bytes)
 path_again text (x ∷ xs) e h (y ∷ ys) hp ep = names_same (x ∷ xs) (y ∷ ys) h.each hp.each (sym e ∙ ep)
-
-pub read_again : (text : List ℕ) (read : Result (List (List ℕ)) BadPath)
-    → IfOk read (λ p. (text ≡ path_text p) × IsPath p) → IfErr read (λ e. IsNoPath text e.place) → (p : List (List ℕ))
-    → IsPath p → text ≡ path_text p → read ≡ Ok p
-read_again text (Ok names) ok err p hp ep = ap Ok (path_again text names ok.0 ok.1 p hp ep)
-read_again text (Err e) ok err p hp ep = absurd (err.never p hp ep)
 
 -- the names above the last of a path
 pub front_is_path : (names front : List (List ℕ)) (name : List ℕ) → IsPath names → names ≡ front ++ name ∷ []

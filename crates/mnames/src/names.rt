@@ -28,11 +28,16 @@ impl Model for Name {
     ghost invariant = { λ n. IsName n.text };
 }
 
+/// Which bytes may stand in an entry name, as bits, for 64 bytes in a word: `-`, `.` and the digits; then the letters
+/// and `_`.
+const MAY_STAND: [u64; 4] = [0x03ff_6000_0000_0000, 0x07ff_fffe_87ff_fffe, 0, 0];
+
 /// Whether a byte may stand in an entry name.
 fn may_stand(byte: u8) -> bool
     ensures { result ≡ is_name_byte byte }
 {
-    byte.is_ascii_alphanumeric() || byte == b'_' || byte == b'.' || byte == b'-'
+    let word = MAY_STAND[usize::from(byte >> 6)];
+    (word >> (byte & 63)) & 1 == 1
 }
 
 /// Whether each byte of the text may.

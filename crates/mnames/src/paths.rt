@@ -1,5 +1,5 @@
 ghost use Rattle.std.specs.Prelude.{◌≡◌, ◌<◌, ◌≤◌, ℕ, List, [], ◌∷◌, ◌++◌, length, slice_index, Some, Ok, IfSome};
-ghost use Rattle.std.specs.Prelude.{IfNone, IfOk, IfErr, string_bytes};
+ghost use Rattle.std.specs.Prelude.{IfNone, IfOk, IfErr, OnOk, string_bytes};
 ghost use Rattle.mnames.specs.Names.{path_text, IsPath, IsLongestStart};
 ghost use Rattle.mnames.specs.Reading.{IsNoPath};
 
@@ -75,6 +75,28 @@ impl Path {
     }
 }
 
+impl Path {
+    /// Reads a text into the path of the root, which is the path of the text from then on: `read_path` in a place that
+    /// is there already, so that its 300 bytes aren't moved.
+    ///
+    /// # Errors
+    /// `BadPath` exactly where the text is no path. Then the path may have the names of its front.
+    #[tactic(auto, using(crate::proofs::PathGrammar::unsigned_is_no_path, std::proofs::lemmas::Grind::common_steps))]
+    pub fn read(&mut self, text: &[u8]) -> Result<(), BadPath>
+        requires root { self.old ≡ [] }
+        ensures path { OnOk result ((text.now ≡ path_text self.new) × IsPath self.new) }
+        ensures none { IfErr result (λ e. IsNoPath text.now e.place) }
+    {
+        if text.is_empty() || text[0] != b'>' {
+            return Err(BadPath { place: 0 });
+        }
+        if text.len() == 1 {
+            return Ok(());
+        }
+        read_names(&mut self.names, text)
+    }
+}
+
 /// The path of these names.
 #[tactic(auto, using(std::proofs::lemmas::List::take_more, std::proofs::lemmas::Grind::common_steps))]
 fn path_of_names(names: &[Name]) -> Path
@@ -122,16 +144,17 @@ pub struct BadPath {
     pub place: u32,
 }
 
-/// The path of a text that begins with `>` and has more bytes. The error is the length of the longest
-/// front with which some path begins.
+/// Reads the names of a text that begins with `>` and has more bytes. The error is the length of the longest front
+/// with which some path begins.
 #[tactic(auto, using(crate::proofs::PathGrammar::path_taken, std::proofs::lemmas::Grind::common_steps))]
-fn path_below_root(text: &[u8]) -> Result<Path, BadPath>
+fn read_names(names: &mut ArrayVec<Name, PATH_NAMES>, text: &[u8]) -> Result<(), BadPath>
+    requires none { names.old.items ≡ [] }
     requires sign { slice_index text.now 0 ≡ 62 }
     requires more { 1 < length text.now }
-    ensures ok { IfOk result (λ p. (text.now ≡ path_text p) × IsPath p) }
+    ensures names { IsPath names.new.items }
+    ensures ok { OnOk result (text.now ≡ path_text names.new.items) }
     ensures err { IfErr result (λ e. IsNoPath text.now e.place) }
 {
-    let mut names: ArrayVec<Name, PATH_NAMES> = ArrayVec::new();
     let mut rest = text;
     while let Some((_, after)) = rest.split_first() {
         if names.is_full() {
@@ -145,7 +168,7 @@ fn path_below_root(text: &[u8]) -> Result<Path, BadPath>
             Err(length) => return Err(bad_path(text.len() - after.len() + length)),
         }
     }
-    Ok(Path { names })
+    Ok(())
 }
 
 /// The fault at a place.
@@ -156,21 +179,6 @@ fn bad_path(place: usize) -> BadPath
     BadPath {
         place: place as u32,
     }
-}
-
-/// The path of a text.
-#[tactic(auto, using(crate::proofs::PathGrammar::unsigned_is_no_path, std::proofs::lemmas::Grind::common_steps))]
-fn path_of(text: &[u8]) -> Result<Path, BadPath>
-    ensures ok { IfOk result (λ p. (text.now ≡ path_text p) × IsPath p) }
-    ensures err { IfErr result (λ e. IsNoPath text.now e.place) }
-{
-    if text.is_empty() || text[0] != b'>' {
-        return Err(BadPath { place: 0 });
-    }
-    if text.len() == 1 {
-        return Ok(Path::default());
-    }
-    path_below_root(text)
 }
 
 /// The path that the text is: `>` for the root, else each name with `>` before it. It goes through the
@@ -184,7 +192,11 @@ pub fn read_path(text: &[u8]) -> Result<Path, BadPath>
     ensures again { (p : List (List ℕ)) → IsPath p → text.now ≡ path_text p → result ≡ Ok p }
     ensures place { IfErr result (λ e. IsLongestStart text.now e.place) }
 {
-    path_of(text)
+    let mut path = Path::default();
+    match path.read(text) {
+        Ok(()) => Ok(path),
+        Err(fault) => Err(fault),
+    }
 }
 
 /// The text of a path, of at most 297 bytes, in one block of memory.

@@ -1,5 +1,7 @@
-use Rattle.mnames.proofs.PathGrammar.{read_again}
+use Rattle.std.proofs.Common.{Ok, ap}
+use Rattle.mnames.proofs.PathGrammar.{path_again}
 use Rattle.mnames.proofs.paths.read_path.Goals as goal
 
-pub returns-clause-again : goal.returns-clause-again
-returns-clause-again c = read_again c.args.text.now c.path_of.result c.path_of.ensures.ok c.path_of.ensures.err
+pub returns-in-Ok-clause-again : goal.returns-in-Ok-clause-again
+returns-in-Ok-clause-again c = λ p is text. ap Ok (path_again c.args.text.now c.read.new.self c.in-Ok.ensures.path.0
+    c.in-Ok.ensures.path.1 p is text)
