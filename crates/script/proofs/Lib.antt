@@ -3,6 +3,7 @@ mod CommandTexts
 mod DraftLaws
 mod FieldTexts
 mod HeadTexts
+mod LaneLaws
 mod LineLaws
 pub mod LineSteps
 mod NumberLaws

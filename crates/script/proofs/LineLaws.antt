@@ -5,7 +5,7 @@ use Rattle.std.proofs.lemmas.Bool.Decides.{nat_tests}
 use Rattle.std.proofs.lemmas.Grind.{common_steps}
 use Rattle.std.proofs.lemmas.List.{take_all}
 use Rattle.std.proofs.lemmas.List.Folds.{list_all_more}
-use Rattle.script.proofs.LineSteps.{NoFeedBefore, all_left, drop_at, line_byte, line_feed, line_last, lines_nil}
+use Rattle.script.proofs.LineSteps.{NoFeedBefore, all_left, drop_at, line_byte, line_feed, line_last}
 use Rattle.script.specs.Fields.{lines_of, onto_piece, fields_of, onto_field, is_printable, is_printable_byte}
 
 nil_after : (x : List ℕ) → x ++ [] ≡ x
@@ -27,6 +27,11 @@ lines_split (b ∷ bs) (suc i) clear lt e =
 pub line_found : (bs : List ℕ) (i : ℕ) → NoFeedBefore i bs → i < length bs → get_or bs i 0 ≡ 10 → lines_of bs
     ≡ take i bs ∷ lines_of (take (length bs - (i + 1)) (drop (i + 1) bs))
 line_found bs i clear lt e = rw (all_left bs (i + 1), add-one) (lines_split bs i clear lt e)
+
+-- no line feed stands in all of it
+pub line_unfed : (bs : List ℕ) (i : ℕ) → NoFeedBefore i bs → length bs ≤ i → 0 < length bs
+    → lines_of bs ≡ bs ∷ lines_of []
+line_unfed bs i clear end some = line_last bs (λ k lt. clear k (omega (arith, lt, end))) some
 
 -- ---- printable bytes
 
@@ -56,8 +61,17 @@ one_unprintable bs i lt out =
     and_false true = refl
     and_false false = refl
 
+pub stays_unprintable : (bs : List ℕ) (i : ℕ) → i < length bs → is_printable (take i bs) ≡ false
+    → is_printable (take (i + 1) bs) ≡ false
+unfolding is_printable
+stays_unprintable bs i lt before = list_all_more is_printable_byte bs i 0 lt ∙ rw before refl
+
 pub all_printable : (bs : List ℕ) (i : ℕ) → length bs ≤ i → is_printable (take i bs) ≡ is_printable bs
 all_printable bs i end = ap is_printable (take_all i bs end)
+
+pub whole_unprintable : (bs : List ℕ) (i : ℕ) → length bs ≤ i → is_printable (take i bs) ≡ false
+    → is_printable bs ≡ false
+whole_unprintable bs i end before = sym (all_printable bs i end) ∙ before
 
 -- ---- fields
 
@@ -145,4 +159,14 @@ pub ruleset spaces_skipped = (space_passed, field_starts, all_spaces)
 pub ruleset field_taken = (field_split, field_last, fields_nil, fields_empty)
 
 -- and the first line of a text
-pub ruleset line_taken = (line_found, line_last, none_printable, more_printable, one_unprintable, all_printable)
+pub ruleset line_taken = (
+  line_found,
+  line_last,
+  line_unfed,
+  none_printable,
+  more_printable,
+  one_unprintable,
+  stays_unprintable,
+  all_printable,
+  whole_unprintable,
+)

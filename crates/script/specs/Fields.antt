@@ -1,5 +1,5 @@
 -- The lines of a script, the fields of a line, and what a field stands for (own).
-use Rattle.std.specs.Prelude.{ℕ, ◌+◌, ◌-◌, ◌*◌, Bool, ◌&&◌, ◌==◌, nat_le, if◌then◌else◌, List, [], ◌∷◌, length, Option}
+use Rattle.std.specs.Prelude.{◌≡◌, true, false, ℕ, ◌+◌, ◌-◌, ◌*◌, Bool, ◌&&◌, ◌==◌, nat_le, if◌then◌else◌, List, [], ◌∷◌, length, Option, ◌<◌, ◌≤◌, slice_index}
 use Rattle.std.specs.Prelude.{Some, None}
 use Rattle.std.specs.List.{list_all}
 use Rattle.std.specs.Char.{is_ascii_digit}
@@ -32,6 +32,16 @@ is_printable_byte b = nat_le 32 b && nat_le b 126
 
 unfoldable pub is_printable : List ℕ → Bool
 is_printable line = list_all is_printable_byte line
+
+-- each byte before a place is printable
+abbrev pub IsPrintableTo : List ℕ → ℕ → Type 0
+IsPrintableTo bytes n = (k : ℕ) → k < n → is_printable_byte (slice_index bytes k) ≡ true
+
+-- of so many bytes from a place on this many come before the first that isn't printable
+pub record IsFront (bytes : List ℕ) (at n run : ℕ) : Type 0 where
+  pub most : run ≤ n
+  pub front : (k : ℕ) → at ≤ k → k < at + run → is_printable_byte (slice_index bytes k) ≡ true
+  pub end : run < n → is_printable_byte (slice_index bytes (at + run)) ≡ false
 
 -- the number that decimal digits stand for, after another number
 unfoldable pub decimal_value_from : ℕ → List ℕ → Option ℕ

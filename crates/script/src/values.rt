@@ -10,7 +10,7 @@ ghost use Rattle.script.specs.Readers.{Gives};
 
 use crate::plan::Print;
 use crate::refusals::Cause;
-use mnames::{Mode, Name, Path, Row, Who, read_name, read_path, read_row, read_who};
+use mnames::{Mode, Name, Path, Row, Who, read_name, read_row, read_who};
 use mword::{Word, read_octal};
 
 /// The number that 1 to 10 decimal digits stand for.
@@ -112,8 +112,9 @@ pub(crate) fn row_in(text: &[u8]) -> Result<Row, Cause>
 pub(crate) fn path_in(text: &[u8]) -> Result<Path, Cause>
     ensures { Gives (λ p. p) result (path_in text.now) }
 {
-    match read_path(text) {
-        Ok(path) => Ok(path),
+    let mut path = Path::default();
+    match path.read(text) {
+        Ok(()) => Ok(path),
         Err(_) => Err(Cause::Path),
     }
 }

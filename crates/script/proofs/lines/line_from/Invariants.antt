@@ -1,0 +1,11 @@
+use Rattle.std.proofs.Common.{◌≡◌, false, take}
+use Rattle.script.proofs.LineSteps.{NoFeedBefore}
+use Rattle.script.specs.Fields.{is_printable}
+use Rattle.script.proofs.lines.line_from.Given as goal
+
+-- no line feed came so far, and one byte was not printable
+abbrev pub invariant-loop-i : goal.invariant-loop-i
+invariant-loop-i l = record {
+  no_feed : NoFeedBefore l.i l.bytes;
+  unprintable : is_printable (take l.i l.bytes) ≡ false;
+}
