@@ -1,4 +1,4 @@
-ghost use Rattle.std.specs.Prelude.{◌≡◌, ◌==◌, ◌<◌, ◌≤◌, [], ◌∷◌, map, length, Some, None, IfSome, IfNone};
+ghost use Rattle.std.specs.Prelude.{◌≡◌, ◌==◌, ◌<◌, ◌≤◌, true, false, [], ◌∷◌, map, length, Some, None, IfSome, IfNone};
 ghost use Rattle.std.specs.List.{position, slice_split};
 ghost use Rattle.book.specs.Entries.{entry_text};
 ghost use Rattle.book.specs.Reading.{is_plain, number_of, number_or_none, word_of, dotted_of};
@@ -435,26 +435,26 @@ fn split_word(line: &[u8]) -> Option<(&[u8], &[u8])>
     }
 }
 
-/// The words of a line between its spaces. `None` exactly where there are more than an entry has.
+/// Appends the words of a line between its spaces. False exactly where there are more than an entry has.
 #[tactic(auto, using(crate::proofs::Words::words_taken, std::proofs::lemmas::Grind::common_steps))]
-fn words(line: &[u8]) -> Option<ArrayVec<&[u8], MOST_WORDS>>
-    ensures some { IfSome result (λ words. map (λ w. w.now) words.items ≡ slice_split is_space line.now) }
-    ensures none { IfNone result (10 < length (slice_split is_space line.now)) }
+fn read_words<'a>(words: &mut ArrayVec<&'a [u8], MOST_WORDS>, line: &'a [u8]) -> bool
+    requires none { words.old.items ≡ [] }
+    ensures yes { result ≡ true → map (λ w. w.now) words.new.items ≡ slice_split is_space line.now }
+    ensures no { result ≡ false → 10 < length (slice_split is_space line.now) }
 {
-    let mut words = ArrayVec::new();
     let mut rest = line;
     while let Some((word, more)) = split_word(rest) {
         if words.is_full() {
-            return None;
+            return false;
         }
         words.push(word);
         rest = more;
     }
     if words.is_full() {
-        return None;
+        return false;
     }
     words.push(rest);
-    Some(words)
+    true
 }
 
 /// The entry of some words.
@@ -473,8 +473,10 @@ pub fn read_entry(line: &[u8]) -> Option<Entry>
     ensures some { IfSome result (λ e. entry_text e ≡ line.now) }
     ensures back { (e : Entry) → IsEntry e → entry_text e ≡ line.now → result ≡ Some e }
 {
-    match words(line) {
-        Some(words) => entry_of_words(&words),
-        None => None,
+    let mut words = ArrayVec::new();
+    if read_words(&mut words, line) {
+        entry_of_words(&words)
+    } else {
+        None
     }
 }

@@ -10,16 +10,19 @@ cut_of : (lent kept : List (Bor (List ℕ))) (line : List ℕ) → lent ≡ kept
     → map (λ (w : Bor (List ℕ)). w.now) lent ≡ slice_split is_space line
 cut_of lent kept line same cut = ap (map (λ (w : Bor (List ℕ)). w.now)) same ∙ cut
 
-pub returns-in-Some-clause-some : goal.returns-in-Some-clause-some
-returns-in-Some-clause-some c =
+pub returns-then-read_words-clause-some : goal.returns-then-read_words-clause-some
+returns-then-read_words-clause-some c =
     read_only c.args.line.now _ c.entry_of_words.result
-    (cut_of c.deref.result.now c.in-Some.words.items c.args.line.now c.deref.ensures.0 c.in-Some.ensures.some)
+    (cut_of c.deref.result.now c.read_words.new.words.items c.args.line.now c.deref.ensures.0
+    (c.read_words.ensures.yes c.if-read_words.true))
     c.entry_of_words.ensures
 
-pub returns-in-Some-clause-back : goal.returns-in-Some-clause-back
-returns-in-Some-clause-back c = λ e h text.
+pub returns-then-read_words-clause-back : goal.returns-then-read_words-clause-back
+returns-then-read_words-clause-back c = λ e h text.
     c.entry_of_words.ensures ∙ read_again c.args.line.now _ e
-    (cut_of c.deref.result.now c.in-Some.words.items c.args.line.now c.deref.ensures.0 c.in-Some.ensures.some) h text
+    (cut_of c.deref.result.now c.read_words.new.words.items c.args.line.now c.deref.ensures.0
+    (c.read_words.ensures.yes c.if-read_words.true)) h text
 
-pub returns-in-None-clause-back : goal.returns-in-None-clause-back
-returns-in-None-clause-back c = λ e h text. absurd (read_none c.args.line.now e c.in-None.ensures.none h text)
+pub returns-else-read_words-clause-back : goal.returns-else-read_words-clause-back
+returns-else-read_words-clause-back c = λ e h text.
+    absurd (read_none c.args.line.now e (c.read_words.ensures.no c.if-read_words.false) h text)
