@@ -3,6 +3,9 @@
 
 ghost use Rattle.std.specs.Prelude.{◌≡◌, ◌≢◌, ℕ, ◌<◌, ◌≤◌, ◌+◌, ◌↔◌, ◌⊎◌, Some, true, false, [], length, IfOk, IfSome};
 ghost use Rattle.std.specs.Prelude.{IfNone, slice_index};
+ghost use Rattle.std.specs.Cmp.Lexicographic.{slice_cmp};
+ghost use Rattle.std.specs.Option.{option_cmp};
+ghost use Rattle.std.specs.Ordering.{nat_cmp, ordering_then};
 ghost use Rattle.std.specs.declared.cmp.Ordering.TheVariants.{Less};
 ghost use Rattle.tree_model.specs.Tree.{is_branch};
 ghost use Rattle.dir_tree.specs.Shape.{shape};
@@ -155,15 +158,42 @@ fn hash_of(superior: Option<u32>, name: &Name) -> u32
     (mixed(hash, last_word(rest)) >> 32) as u32
 }
 
-/// How a branch stands to a superior and a name, by the hashes of both.
+/// How two names stand to each other. Most are the same, which is seen of many bytes at a time.
+fn compare_names(own: &Name, other: &Name) -> Ordering
+    ensures { result ≡ slice_cmp nat_cmp own.now other.now }
+{
+    if own == other {
+        Ordering::Equal
+    } else {
+        own.as_str().cmp(other.as_str())
+    }
+}
+
+/// How a branch stands to a superior and a name, where their hashes are the same.
+fn compare_alike(node: &Node, superior: Option<u32>, name: &Name) -> Ordering
+    ensures { result ≡ ordering_then (option_cmp nat_cmp node.now.superior superior)
+        (slice_cmp nat_cmp node.now.name name.now) }
+{
+    node.superior
+        .cmp(&superior)
+        .then_with(|| compare_names(&node.name, name))
+}
+
+/// How a branch stands to a superior and a name, by the hashes of both: it looks at the node only where these are the
+/// same.
+#[inline(always)]
 fn compare(own: u32, node: &Node, hash: u32, superior: Option<u32>, name: &Name) -> Ordering
     requires own { own ≡ key_hash (key_of node.now) }
     requires hash { hash ≡ key_hash (superior, name.now) }
     ensures { result ≡ key_cmp (key_of node.now) (superior, name.now) }
 {
-    own.cmp(&hash)
-        .then_with(|| node.superior.cmp(&superior))
-        .then_with(|| node.name.as_str().cmp(name.as_str()))
+    if own < hash {
+        Ordering::Less
+    } else if own > hash {
+        Ordering::Greater
+    } else {
+        compare_alike(node, superior, name)
+    }
 }
 
 /// Where the branch with this superior and name stands, or would: where those from it on begin, by the hash of both.

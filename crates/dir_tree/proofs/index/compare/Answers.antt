@@ -1,7 +1,27 @@
-use Rattle.std.proofs.Common.{rules}
+use Rattle.std.proofs.Common.{◌≡◌, arith, refl, sym}
+use Rattle.std.specs.Cmp.{nat_cmp_is}
+use Rattle.std.specs.Ordering.{nat_cmp}
+use Rattle.std.specs.declared.cmp.Ordering.TheVariants.{Less, Equal, Greater}
 use Rattle.dir_tree.specs.Index.{key_cmp}
 use Rattle.dir_tree.proofs.index.compare.Goals as goal
 
-pub returns : goal.returns
+pub returns-then-own-hash : goal.returns-then-own-hash
 unfolding key_cmp
-returns c = rw (← c.requires.own, ← c.requires.hash) (search rules)
+returns-then-own-hash c =
+    let is : nat_cmp c.args.own c.args.hash ≡ Less =
+    sym (nat_cmp_is c.args.own c.args.hash Less (omega (arith, c.if-own-hash.true))) in
+    rw (← c.requires.own, ← c.requires.hash, is) refl
+
+pub returns-then-own-hash-2 : goal.returns-then-own-hash-2
+unfolding key_cmp
+returns-then-own-hash-2 c =
+    let is : nat_cmp c.args.own c.args.hash ≡ Greater =
+    sym (nat_cmp_is c.args.own c.args.hash Greater (omega (arith, c.if-own-hash-2.true))) in
+    rw (← c.requires.own, ← c.requires.hash, is) refl
+
+pub returns-else-own-hash-2 : goal.returns-else-own-hash-2
+unfolding key_cmp
+returns-else-own-hash-2 c =
+    let is : nat_cmp c.args.own c.args.hash ≡ Equal =
+    sym (nat_cmp_is c.args.own c.args.hash Equal (omega (arith, c.if-own-hash.false, c.if-own-hash-2.false))) in
+    rw (← c.requires.own, ← c.requires.hash, is) c.compare_alike.ensures
