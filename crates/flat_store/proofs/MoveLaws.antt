@@ -338,3 +338,21 @@ held_nothing p s k u o how lacks is off = off ∙ ap (λ (b : Bool). b && is_som
 -- a volume that a segment may move to has room
 pub room_there : (p : Plan) (s : Store) (k u w : ℕ) → MayMove p s k u w → has_room p s u w ≡ true
 room_there p s k u w may = (first_told (has_room p s u) (length p.volumes) w may.first).passes
+
+-- a reference that stores no page anew lacks no record
+pub lacks_none : (p : Plan) (s : Store) (k u o : ℕ) (how : RefKind) → stores_page s u o how ≡ false
+    → false ≡ lacks_at p s k o how (node_in s.nodes u)
+lacks_none p s k u o how none = each (node_in s.nodes u) refl
+  where
+    off : (a b c : Bool) → (a && (b && (false && c))) ≡ false
+    off true true c = refl
+    off true false c = refl
+    off false b c = refl
+
+    each : (x : Option Node) → node_in s.nodes u ≡ x → false ≡ lacks_at p s k o how x
+    each None is = refl
+    each (Some n) is =
+        let own : stores_page s n.uid o how ≡ false =
+        ap (λ (v : ℕ). stores_page s v o how) (uid_found s.nodes u n is) ∙ none in
+        sym (rw own (off (permits (access_of (who_of p k) n.rows) how) (not (nat_le (1024 * n.pages) o))
+        (not (is_used_up s n.uid) && is_volume_full p s n.volume)))

@@ -1,5 +1,5 @@
 -- What a reference is answered.
-use Rattle.std.proofs.Common.{◌≡◌, ◌≢◌, ℕ, ◌*◌, ◌/◌, ◌<◌, Bool, true, false, not, eqb, ◌&&◌, Some, List, refl, sym, ap}
+use Rattle.std.proofs.Common.{◌≡◌, ℕ, ◌*◌, ◌/◌, ◌<◌, ◌==◌, Bool, true, false, not, ◌&&◌, Some, List, refl, sym, ap}
 use Rattle.std.proofs.Common.{◌∙◌, arith}
 use Rattle.std.specs.Prelude.{nat_le}
 use Rattle.std.proofs.lemmas.Bool.Decides.{nat_tests}
@@ -16,24 +16,27 @@ use Rattle.flat_model.specs.References.{reply_at, room_reply, stores_page, word_
 use Rattle.flat_model.specs.Store.{Store}
 use Rattle.flat_store.specs.Shown.{page_reply}
 
-pub stores_new : (s : Store) (u o : ℕ) (how : RefKind) (old w : ℕ) (b : Bool) → alters how ≡ true → old ≡ s.words u o
-    → w ≡ new_word old how
-    → b ≡ is_stored s.stored u (o / 1024) → w ≢ 0
-    → not b ≡ stores_page s u o how
-stores_new s u o how old w b alters_it was is stored other =
-    let whole : new_word (s.words u o) how ≡ w = ap (λ (x : ℕ). new_word x how) (sym was) ∙ sym is in
-    let apart : eqb w 0 ≡ false = grind (arith, nat_tests) in
-    ap not stored ∙ sym (rw (alters_it, whole, apart) refl)
-
-pub stores_none : (s : Store) (u o : ℕ) (how : RefKind) (old w : ℕ) → old ≡ s.words u o → w ≡ new_word old how → w ≡ 0
+-- a page that is stored isn't stored anew
+pub stores_stored : (s : Store) (u o : ℕ) (how : RefKind) → is_stored s.stored u (o / 1024) ≡ true
     → false ≡ stores_page s u o how
-stores_none s u o how old w was is zero_is =
-    let whole : new_word (s.words u o) how ≡ 0 = ap (λ (x : ℕ). new_word x how) (sym was) ∙ sym is ∙ zero_is in
-    rw whole (sym (none (alters how)))
+stores_stored s u o how stored = sym (rw stored (none (alters how) (not (new_word (s.words u o) how == 0))))
   where
-    none : (z : Bool) → (z && false) ≡ false
-    none true = refl
-    none false = refl
+    none : (a b : Bool) → (a && (b && false)) ≡ false
+    none true true = refl
+    none true false = refl
+    none false b = refl
+
+-- a page that isn't stored is, by a word other than 0
+pub stores_new : (s : Store) (u o : ℕ) (how : RefKind) (old w : ℕ) → alters how ≡ true
+    → is_stored s.stored u (o / 1024) ≡ false → old ≡ s.words u o → w ≡ new_word old how
+    → not (w == 0) ≡ stores_page s u o how
+stores_new s u o how old w alters_it absent was is =
+    let whole : new_word (s.words u o) how ≡ w = ap (λ (x : ℕ). new_word x how) (sym was) ∙ sym is in
+    sym (rw (alters_it, absent, whole) (same (not (w == 0))))
+  where
+    same : (a : Bool) → (a && true) ≡ a
+    same true = refl
+    same false = refl
 
 pub crowded : (p : Plan) (s : Store) (n : Node) (u o : ℕ) (how : RefKind) (test : Bool) (otherwise r : Reply)
     → n.uid ≡ u → test ≡ stores_page s u o how

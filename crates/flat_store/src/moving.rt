@@ -96,6 +96,9 @@ impl Holdings {
         ensures { (p : Plan) (s : Store) (k : ℕ) → Holds p self.now s → who.now ≡ who_of p k
             → result ≡ lacks_at p s k offset kind.now (node_in s.nodes uid) }
     {
+        if !self.stores_page(uid, offset, kind) {
+            return false;
+        }
         let Some(node) = self.accounts.node(uid) else {
             return false;
         };

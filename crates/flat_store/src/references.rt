@@ -55,8 +55,10 @@ impl Holdings {
         if !kind.alters() {
             return false;
         }
-        let word = kind.new_word(self.word(uid, offset));
-        word.value() != 0 && !self.is_stored(uid, offset / Page::WORDS)
+        if self.is_stored(uid, offset / Page::WORDS) {
+            return false;
+        }
+        kind.new_word(self.word(uid, offset)).value() != 0
     }
 
     /// What a reference is answered that stores a page more of a segment: `Quota` where its account has used up its

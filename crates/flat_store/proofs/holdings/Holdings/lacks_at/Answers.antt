@@ -7,7 +7,7 @@ use Rattle.tree_model.specs.Access.{access_of}
 use Rattle.tree_model.specs.Tree.{Node, quota_in}
 use Rattle.flat_model.proofs.NodeLaws.{uid_found}
 use Rattle.flat_store.specs.Shown.{Held}
-use Rattle.flat_store.proofs.MoveLaws.{lacks_within}
+use Rattle.flat_store.proofs.MoveLaws.{lacks_none, lacks_within}
 use Rattle.flat_store.proofs.NodeLaws.{pages_held}
 use Rattle.flat_store.proofs.ReplyLaws.{node_shown}
 use Rattle.flat_store.proofs.holdings.Holdings.lacks_at.Goals as goal
@@ -29,3 +29,7 @@ returns c = λ p s k h who.
     ∙ ap (λ (m : Mode). permits m c.args.kind.now) (sym c.access_of.ensures) ∙ sym c.permitted_by.ensures
     ∙ c.if-not-permitted_by.false)
     c.if-offset-node.false (c.lacks_record.ensures p s h)
+
+pub returns-then-not-stores_page : goal.returns-then-not-stores_page
+returns-then-not-stores_page c = λ p s k h who. lacks_none p s k c.args.uid c.args.offset c.args.kind.now
+    (sym (c.stores_page.ensures p s h) ∙ c.if-not-stores_page.true)
