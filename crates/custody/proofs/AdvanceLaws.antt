@@ -1,6 +1,6 @@
 -- What each entry makes of the tables is what it makes of custody.
 use Rattle.std.proofs.Common.{◌≡◌, ◌<◌, ◌+◌, ◌-◌, ℕ, suc, zero, Bool, true, false, not, cond, eqb, ◌&&◌, List, [], ◌∷◌}
-use Rattle.std.proofs.Common.{◌++◌, Option, Some, None, get_or, length, set, replicate, refl, sym, ap, ◌∙◌}
+use Rattle.std.proofs.Common.{Option, Some, None, get_or, length, set, refl, sym, ap, ◌∙◌}
 use Rattle.std.proofs.Common.{inl, inr, arith}
 use Rattle.std.specs.Prelude.{is_some}
 use Rattle.std.specs.List.{filter}
@@ -19,8 +19,7 @@ use Rattle.custody.specs.Tables.{Tables, active_at, custody_of, row_at, seat_at}
 use Rattle.custody.specs.Changes.{drop_at, dropped, names_held, names_lead, names_use, put_active, put_descriptor}
 use Rattle.custody.specs.Changes.{put_frame, put_seat, put_use, warn_from, warn_others, warned, with_place}
 use Rattle.custody.specs.declared.active.ActiveUse.{ActiveUse}
-use Rattle.custody.proofs.BootLaws.{all_same}
-use Rattle.custody.proofs.PutLaws.{place_there}
+use Rattle.custody.proofs.PutLaws.{grown_at, place_there}
 
 -- ---- places that are there
 
@@ -67,11 +66,6 @@ descriptor_put t k n x kl nl = λ i. record (custody_of t)
     { descriptor = λ j m. row_put t.descriptors k n j m x kl nl i }
 
 -- ---- active segments
-
-grown_at : (uses : List (Option ActiveUse)) (n v : ℕ) → active_at (uses ++ replicate n None) v ≡ active_at uses v
-grown_at [] n v = all_same n v None
-grown_at (x ∷ xs) n zero = refl
-grown_at (x ∷ xs) n (suc v) = grown_at xs n v
 
 pub active_put_at : (uses : List (Option ActiveUse)) (u v : ℕ) (a : Option ActiveUse)
     → active_at (put_active uses u a) v ≡ cond (eqb v u) a (active_at uses v)

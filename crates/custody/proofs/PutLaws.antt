@@ -1,16 +1,16 @@
 -- The list of active segments once it has a place for a uid, and what is counted once one is put there.
-use Rattle.std.proofs.Common.{◌≡◌, ◌<◌, ◌≤◌, ◌+◌, ◌-◌, ◌^◌, ℕ, List, [], ◌∷◌, ◌++◌, Option, None, get_or, length, set}
-use Rattle.std.proofs.Common.{replicate, refl, sym, ap, ◌∙◌}
+use Rattle.std.proofs.Common.{◌≡◌, ◌<◌, ◌≤◌, ◌+◌, ◌-◌, ◌^◌, ℕ, List, [], ◌∷◌, ◌++◌, Option, None, zero, suc}
+use Rattle.std.proofs.Common.{length, set, replicate, refl, sym, ap, subst, ◌∙◌}
 use Rattle.std.proofs.Common.{arith, length-set, length-append}
 use Rattle.std.specs.Prelude.{sum_by}
 use Rattle.std.proofs.lemmas.List.{length-replicate}
 use Rattle.std.proofs.lemmas.List.Sums.{sum_by-cons}
 use Rattle.custody.specs.Counts.{Counted, Keeps, Shifts, AreFew, key_bit}
 use Rattle.custody.specs.Uses.{IsTally}
-use Rattle.custody.specs.Tables.{AreActive, pool_key, superior_key}
+use Rattle.custody.specs.Tables.{AreActive, active_at, pool_key, superior_key}
 use Rattle.custody.specs.Changes.{with_place}
 use Rattle.custody.specs.declared.active.ActiveUse.{ActiveUse}
-use Rattle.custody.proofs.BootLaws.{none_counted}
+use Rattle.custody.proofs.BootLaws.{all_same, none_counted}
 use Rattle.custody.proofs.TallyLaws.{tally_set, tally_kept, tally_few}
 
 grown_sum : {X : Type 0} (f : X → ℕ) (xs : List X) (n : ℕ) (d : X) → f d ≡ 0 → sum_by f (xs ++ replicate n d)
@@ -39,6 +39,12 @@ place_length uses u =
 pub place_there : (uses : List (Option ActiveUse)) (u : ℕ) → u < length (with_place uses u)
 place_there uses u = let l = place_length uses u in omega (arith, l)
 
+-- the places that come are of nothing
+pub grown_at : (uses : List (Option ActiveUse)) (n v : ℕ) → active_at (uses ++ replicate n None) v ≡ active_at uses v
+grown_at [] n v = all_same n v None
+grown_at (x ∷ xs) n zero = refl
+grown_at (x ∷ xs) n (suc v) = grown_at xs n v
+
 place_few : (uses : List (Option ActiveUse)) (u : ℕ) → length uses ≤ 2 ^ 32 → u < 2 ^ 32
     → length (with_place uses u) ≤ 2 ^ 32
 place_few uses u few below = let l = place_length uses u in omega (arith, l, few, below)
@@ -62,14 +68,20 @@ active_grown uses p i u below t = record {
 pub active_few : (uses : List (Option ActiveUse)) (p i : Counted) → AreActive uses p i → AreFew p × AreFew i
 active_few uses p i t = (tally_few pool_key uses p t.few t.in_pools, tally_few superior_key uses i t.few t.below)
 
-pub active_put : (uses : List (Option ActiveUse)) (p q i j : Counted) (u : ℕ) (x d : Option ActiveUse)
-    → u < length uses → AreActive uses p i
-    → Shifts p q (pool_key (get_or uses u d)) (pool_key x)
-    → Shifts i j (superior_key (get_or uses u d)) (superior_key x) → AreActive (set uses u x) q j
-active_put uses p q i j u x d l t s r = record {
-  few = rw (length-set uses u x) t.few;
-  in_pools = tally_set pool_key uses p q u x d l t.in_pools s;
-  below = tally_set superior_key uses i j u x d l t.below r;
-}
+pub active_put : (uses placed : List (Option ActiveUse)) (p q i j : Counted) (u : ℕ) (x : Option ActiveUse)
+    → placed ≡ with_place uses u → u < 2 ^ 32 → AreActive uses p i
+    → Shifts p q (pool_key (active_at uses u)) (pool_key x)
+    → Shifts i j (superior_key (active_at uses u)) (superior_key x) → AreActive (set placed u x) q j
+active_put uses placed p q i j u x is below t s r =
+    let grown = active_grown uses p i u below t in
+    let was = grown_at uses (u + 1 - length uses) u in
+    let there = place_there uses u in
+    rw is (record {
+      few = rw (length-set (with_place uses u) u x) grown.few;
+      in_pools = tally_set pool_key (with_place uses u) p q u x None there grown.in_pools
+          (subst (λ (o : Option ActiveUse). Shifts p q (pool_key o) (pool_key x)) (sym was) s);
+      below = tally_set superior_key (with_place uses u) i j u x None there grown.below
+          (subst (λ (o : Option ActiveUse). Shifts i j (superior_key o) (superior_key x)) (sym was) r);
+    })
 
 pub ruleset active_counted = (active_kept, active_grown, active_put, place_there)

@@ -117,16 +117,18 @@ started_few uses c p s z t k = tally_few started_key uses z (frames_length uses 
     (tally_kept started_key uses s z t.started k)
 
 -- what was there for nothing is counted now
-tight_put : (p q r : Counted) (from to : Option (ℕ × ℕ)) → IsTight p → Readies p q to → Shifts q r from to → IsTight r
+tight_put : (p q r : Counted) (from to : Option (ℕ × ℕ)) → IsTight p → Readies p q from to → Shifts q r from to
+    → IsTight r
 tight_put p q r from to tight ready s a b idle =
     let before = s.idle a b idle in
     elim (ready a b before.0) [
       | inl was ↦ tight a b was
-      | inr one ↦ (let none = before.1 in omega (arith, one, none))
+      | inr one ↦ (let none = before.1 in absurd (omega (arith, one, none)))
     ]
 
 pub frames_put : (uses : List FrameUse) (c d e : UseCounted) (p q r s y z : Counted) (f : ℕ) (x w : FrameUse)
-    → f < length uses → AreFrames uses c p s → KeepUses c d → Keeps p q → Readies p q (page_of x) → Keeps s y
+    → f < length uses → AreFrames uses c p s → KeepUses c d → Keeps p q
+    → Readies p q (page_of (get_or uses f w)) (page_of x) → Keeps s y
     → ShiftUses d e (frame_mark (get_or uses f w)) (frame_mark x) → Shifts q r (page_of (get_or uses f w)) (page_of x)
     → Shifts y z (started_key (get_or uses f w)) (started_key x)
     → AreFrames (set uses f x) e r z

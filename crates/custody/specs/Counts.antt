@@ -1,5 +1,5 @@
 -- Counts by a key of two numbers (own).
-use Rattle.std.specs.Prelude.{◌≡◌, ◌<◌, ◌^◌, ℕ, ◌+◌, ◌-◌, Bool, true, false, ◌&&◌, ◌==◌, if◌then◌else◌, is_some}
+use Rattle.std.specs.Prelude.{◌≡◌, ◌<◌, ◌≤◌, ◌^◌, ℕ, ◌+◌, ◌-◌, Bool, true, false, ◌&&◌, ◌==◌, if◌then◌else◌, is_some}
 use Rattle.std.specs.Prelude.{List, Option, Some, None, ◌⊎◌}
 use Rattle.std.specs.Ordering.{nat_cmp, ordering_then}
 use Rattle.std.specs.Map.{lookup}
@@ -47,19 +47,30 @@ abbrev pub key_bit : Option (ℕ × ℕ) → ℕ → ℕ → ℕ
 key_bit None x y = 0
 key_bit (Some k) x y = if k.0 == x && k.1 == y then 1 else 0
 
+-- whether two keys are the same
+abbrev pub is_same : Option (ℕ × ℕ) → Option (ℕ × ℕ) → Bool
+is_same None None = true
+is_same (Some k) (Some l) = k.0 == l.0 && k.1 == l.1
+is_same _ _ = false
+
 -- the key has its place
 abbrev pub HasPlace : Counted → Option (ℕ × ℕ) → Type 0
 HasPlace counts None = Unit {0}
 HasPlace counts (Some k) = has_place counts k.0 k.1 ≡ true
 
--- no key has its place for nothing that didn't, but this one
-abbrev pub Readies : Counted → Counted → Option (ℕ × ℕ) → Type 0
-Readies old new key = (x y : ℕ) → IsIdle new x y → IsIdle old x y ⊎ (key_bit key x y ≡ 1)
+-- what leaves one key can be counted under another, which has its place unless it is the same
+abbrev pub IsReady : Counted → Option (ℕ × ℕ) → Option (ℕ × ℕ) → Type 0
+IsReady counts from to = is_same from to ≡ false → HasPlace counts to
 
--- Something that was counted under one key is counted under another from now on, whose place isn't there for nothing.
+-- no key has its place for nothing that didn't, but one that is come to and not left
+abbrev pub Readies : Counted → Counted → Option (ℕ × ℕ) → Option (ℕ × ℕ) → Type 0
+Readies old new from to = (x y : ℕ) → IsIdle new x y → IsIdle old x y ⊎ (key_bit from x y < key_bit to x y)
+
+-- Something that was counted under one key is counted under another from now on, whose place isn't there for nothing
+-- unless it was and the keys are the same.
 pub record Shifts (old new : Counted) (from to : Option (ℕ × ℕ)) : Type 0 where
   pub at : (x y : ℕ) → count_at new x y ≡ count_at old x y + key_bit to x y - key_bit from x y
-  pub idle : (x y : ℕ) → IsIdle new x y → IsIdle old x y × (key_bit to x y ≡ 0)
+  pub idle : (x y : ℕ) → IsIdle new x y → IsIdle old x y × (key_bit to x y ≤ key_bit from x y)
 
 -- no count is near the most that one takes
 abbrev pub AreFew : Counted → Type 0

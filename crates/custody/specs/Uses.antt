@@ -7,7 +7,7 @@ use Rattle.custody_model.specs.declared.FrameUse.{FrameUse}
 use Rattle.custody_model.specs.declared.FrameUse.TheVariants as frame
 use Rattle.custody_model.specs.declared.DescriptorUse.{DescriptorUse}
 use Rattle.custody_model.specs.declared.DescriptorUse.TheVariants as descriptor
-use Rattle.custody.specs.Counts.{AreFew, Counted, HasPlace, IsTight, Keeps, Shifts, count_at, key_bit}
+use Rattle.custody.specs.Counts.{AreFew, Counted, IsReady, IsTight, Keeps, Shifts, count_at, key_bit}
 use Rattle.custody.specs.declared.uses.Mark.{Mark}
 
 -- the uses of frames and of the descriptors of a process; past the last there is none
@@ -59,10 +59,10 @@ pub record KeepUses (old new : UseCounted) : Type 0 where
   pub going : Keeps old.going new.going
   pub kinds : Keeps old.kinds new.kinds
 
-pub record HavePlaces (c : UseCounted) (mark : Option Mark) : Type 0 where
-  pub uids : HasPlace c.uids (uid_key mark)
-  pub going : HasPlace c.going (going_key mark)
-  pub kinds : HasPlace c.kinds (kind_key mark)
+pub record AreReady (c : UseCounted) (from to : Option Mark) : Type 0 where
+  pub uids : IsReady c.uids (uid_key from) (uid_key to)
+  pub going : IsReady c.going (going_key from) (going_key to)
+  pub kinds : IsReady c.kinds (kind_key from) (kind_key to)
 
 pub record AreFewUses (c : UseCounted) : Type 0 where
   pub uids : AreFew c.uids

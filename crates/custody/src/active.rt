@@ -53,9 +53,16 @@ impl Active {
     pub(crate) fn has(&self, uid: u32) -> bool
         ensures { result ≡ is_some (active_at self.now uid) }
     {
+        self.at(uid).is_some()
+    }
+
+    /// How a segment or directory is active, where it is.
+    fn at(&self, uid: u32) -> Option<ActiveUse>
+        ensures { result ≡ active_at self.now uid }
+    {
         match self.uses.get(uid as usize) {
-            Some(of) => of.is_some(),
-            None => false,
+            Some(of) => *of,
+            None => None,
         }
     }
 
@@ -92,14 +99,14 @@ impl Active {
         ensures ok { OnOk result (self.new ≡ put_active self.old uid to) }
         ensures err { OnErr result (self.new ≡ self.old) }
     {
-        self.pools.reserve_key(pool_key(to))?;
-        self.inferiors.reserve_key(superior_key(to))?;
+        let from = self.at(uid);
+        self.pools.reserve_key(pool_key(from), pool_key(to))?;
+        self.inferiors
+            .reserve_key(superior_key(from), superior_key(to))?;
         make_place(&mut self.uses, uid)?;
-        let at = uid as usize;
-        let from = self.uses[at];
         self.pools.shift(pool_key(from), pool_key(to));
         self.inferiors.shift(superior_key(from), superior_key(to));
-        self.uses[at] = to;
+        self.uses[uid as usize] = to;
         Ok(())
     }
 }

@@ -1,7 +1,7 @@
 ghost use Rattle.std.specs.Prelude.{◌≡◌, ◌+◌, ◌-◌, ◌<◌, ◌≤◌, ◌^◌, ℕ, true, OnOk, OnErr, [], Some, None};
 ghost use Rattle.std.specs.Bool.{Decides};
-ghost use Rattle.custody.specs.Counts.{AreFew, HasPlace, IsTight, Keeps, Readies, Recounts, Shifts};
-ghost use Rattle.custody.specs.Counts.{count_at, has_place};
+ghost use Rattle.custody.specs.Counts.{AreFew, HasPlace, IsReady, IsTight, Keeps, Readies, Recounts, Shifts};
+ghost use Rattle.custody.specs.Counts.{count_at, has_place, is_same};
 
 use crate::NoMemory;
 use std::alloc::Global;
@@ -10,8 +10,8 @@ use std::marker::Model;
 
 /// How many there are of what two numbers name. What there is none of any more takes no place.
 ///
-/// Each call but `new` costs a few searches in one ordered map, whose places are as many as there are keys with a
-/// count.
+/// Each call but `new` costs at most a few searches in one ordered map, whose places are as many as there are keys with
+/// a count.
 #[derive(Drop)]
 pub(crate) struct Counts {
     entries: BTreeMap<(u32, u32), u64>,
@@ -56,13 +56,13 @@ impl Counts {
         }
     }
 
-    /// Takes memory for its count.
+    /// Takes memory for the count of a key.
     ///
     /// # Errors
     /// `NoMemory` is want of memory; then nothing is changed.
-    pub(crate) fn reserve(&mut self, a: u32, b: u32) -> Result<(), NoMemory>
+    fn reserve(&mut self, a: u32, b: u32) -> Result<(), NoMemory>
         ensures keeps { Keeps self.old self.new }
-        ensures readies { Readies self.old self.new (Some (a, b)) }
+        ensures readies { Readies self.old self.new None (Some (a, b)) }
         ensures ok { OnOk result (has_place self.new a b ≡ true) }
         ensures err { OnErr result (self.new ≡ self.old) }
     {
@@ -72,17 +72,6 @@ impl Counts {
         match self.entries.insert((a, b), 0) {
             Ok(_) => Ok(()),
             Err(_) => Err(NoMemory),
-        }
-    }
-
-    /// The count of what has its place is this from now on.
-    fn set(&mut self, a: u32, b: u32, to: u64)
-        requires place { has_place self.old a b ≡ true }
-        requires some { 0 < to }
-        ensures { Recounts self.old self.new a b to }
-    {
-        if let Some(count) = self.entries.get_mut(&(a, b)) {
-            *count = to;
         }
     }
 
@@ -99,34 +88,44 @@ impl Counts {
         requires few { count_at self.old a b + 1 < 2 ^ 64 }
         ensures { Recounts self.old self.new a b (count_at self.old a b + 1) }
     {
-        let count = self.at(a, b);
-        self.set(a, b, count + 1);
+        if let Some(count) = self.entries.get_mut(&(a, b)) {
+            *count += 1;
+        }
     }
 
     /// There is one less of it, unless there is none. What there is none of any more is forgotten.
-    #[tactic(auto, using(crate::proofs::CountLaws::placed, crate::proofs::CountLaws::last_left))]
     fn subtract(&mut self, a: u32, b: u32)
         ensures { Recounts self.old self.new a b (count_at self.old a b - 1) }
     {
-        let count = self.at(a, b);
-        if count > 1 {
-            self.set(a, b, count - 1);
+        let Some(count) = self.entries.get_mut(&(a, b)) else {
+            return;
+        };
+        if *count > 1 {
+            *count -= 1;
         } else {
             self.forget(a, b);
         }
     }
 
-    /// Takes memory for the count of a key, where there is one.
+    /// Takes memory to count under another key what was counted under one key. None is needed where both are the same.
     ///
     /// # Errors
     /// `NoMemory` is want of memory; then nothing is changed.
-    pub(crate) fn reserve_key(&mut self, key: Option<(u32, u32)>) -> Result<(), NoMemory>
+    #[tactic(auto, using(crate::proofs::CountLaws::keys_apart))]
+    pub(crate) fn reserve_key(
+        &mut self,
+        from: Option<(u32, u32)>,
+        to: Option<(u32, u32)>,
+    ) -> Result<(), NoMemory>
         ensures keeps { Keeps self.old self.new }
-        ensures readies { Readies self.old self.new key }
-        ensures ok { OnOk result (HasPlace self.new key) }
+        ensures readies { Readies self.old self.new from to }
+        ensures ok { OnOk result (IsReady self.new from to) }
         ensures err { OnErr result (self.new ≡ self.old) }
     {
-        match key {
+        if is_same(from, to) {
+            return Ok(());
+        }
+        match to {
             Some((a, b)) => self.reserve(a, b),
             None => Ok(()),
         }
@@ -155,14 +154,28 @@ impl Counts {
     }
 
     /// Something that was counted under one key is counted under another. It enters before it leaves, since the last of
-    /// a key takes its place with it.
-    #[tactic(auto, using(crate::proofs::CountLaws::shifted))]
+    /// a key takes its place with it. Nothing is looked for where both keys are the same.
+    #[tactic(auto, using(crate::proofs::CountLaws::stays, crate::proofs::CountLaws::shifted))]
     pub(crate) fn shift(&mut self, from: Option<(u32, u32)>, to: Option<(u32, u32)>)
-        requires place { HasPlace self.old to }
+        requires ready { IsReady self.old from to }
         requires few { AreFew self.old }
         ensures { Shifts self.old self.new from to }
     {
+        if is_same(from, to) {
+            return;
+        }
         self.enter(to);
         self.leave(from);
+    }
+}
+
+/// Whether two keys are the same.
+fn is_same(from: Option<(u32, u32)>, to: Option<(u32, u32)>) -> bool
+    ensures { result ≡ is_same from to }
+{
+    match (from, to) {
+        (Some((a, b)), Some((c, d))) => a == c && b == d,
+        (None, None) => true,
+        _ => false,
     }
 }

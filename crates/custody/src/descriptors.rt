@@ -71,8 +71,9 @@ impl Descriptors {
         if at >= self.uses.len() {
             return Ok(());
         }
-        self.counts.reserve(descriptor_mark(to))?;
         let from = self.uses[at];
+        self.counts
+            .reserve(descriptor_mark(from), descriptor_mark(to))?;
         self.counts
             .shift(descriptor_mark(from), descriptor_mark(to));
         self.uses[at] = to;

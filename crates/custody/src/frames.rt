@@ -77,10 +77,11 @@ impl Frames {
         if at >= self.uses.len() {
             return Ok(());
         }
-        self.counts.reserve(frame_mark(to))?;
-        self.started.reserve_key(started_key(to))?;
-        self.pages.reserve_key(page_of(to))?;
         let from = self.uses[at];
+        self.counts.reserve(frame_mark(from), frame_mark(to))?;
+        self.started
+            .reserve_key(started_key(from), started_key(to))?;
+        self.pages.reserve_key(page_of(from), page_of(to))?;
         self.counts.shift(frame_mark(from), frame_mark(to));
         self.pages.shift(page_of(from), page_of(to));
         self.started.shift(started_key(from), started_key(to));

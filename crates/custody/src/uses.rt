@@ -1,7 +1,7 @@
 ghost use Rattle.std.specs.Prelude.{◌≡◌, OnOk, []};
 ghost use Rattle.custody_model.specs.Custody.{page_of};
 ghost use Rattle.custody.specs.Counts.{count_at};
-ghost use Rattle.custody.specs.Uses.{AreFewUses, HavePlaces, KeepUses, ShiftUses, descriptor_mark, frame_mark};
+ghost use Rattle.custody.specs.Uses.{AreFewUses, AreReady, KeepUses, ShiftUses, descriptor_mark, frame_mark};
 ghost use Rattle.custody.specs.Uses.{going_key, kind_key, started_key, uid_key};
 
 use crate::NoMemory;
@@ -148,23 +148,23 @@ impl UseCounts {
         self.kinds.at(0, 0)
     }
 
-    /// Takes memory to count a use.
+    /// Takes memory to count as another use what was one use.
     ///
     /// # Errors
     /// `NoMemory` is want of memory.
     #[tactic(auto, using(crate::proofs::CountLaws::keeps_all))]
-    pub(crate) fn reserve(&mut self, mark: Option<Mark>) -> Result<(), NoMemory>
+    pub(crate) fn reserve(&mut self, from: Option<Mark>, to: Option<Mark>) -> Result<(), NoMemory>
         ensures keeps { KeepUses self.old self.new }
-        ensures ok { OnOk result (HavePlaces self.new mark) }
+        ensures ok { OnOk result (AreReady self.new from to) }
     {
-        self.uids.reserve_key(uid_key(mark))?;
-        self.going.reserve_key(going_key(mark))?;
-        self.kinds.reserve_key(kind_key(mark))
+        self.uids.reserve_key(uid_key(from), uid_key(to))?;
+        self.going.reserve_key(going_key(from), going_key(to))?;
+        self.kinds.reserve_key(kind_key(from), kind_key(to))
     }
 
     /// What was one use is another from now on.
     pub(crate) fn shift(&mut self, from: Option<Mark>, to: Option<Mark>)
-        requires places { HavePlaces self.old to }
+        requires ready { AreReady self.old from to }
         requires few { AreFewUses self.old }
         ensures { ShiftUses self.old self.new from to }
     {

@@ -1,6 +1,6 @@
 use Rattle.std.specs.Map.{lookup}
 use Rattle.custody.specs.Counts.{is_key}
-use Rattle.std.proofs.Common.{Some, sym, ◌∙◌}
+use Rattle.std.proofs.Common.{None, Some, sym, ◌∙◌}
 use Rattle.custody.proofs.CountLaws.{absent, keeps, keeps_same, readies, readies_same, unchanged}
 use Rattle.custody.proofs.counts.Counts.reserve.Goals as goal
 use Rattle.custody.proofs.counts.Counts.reserve.Goals.{in-Ok, in-Err}
@@ -22,7 +22,7 @@ returns-clause-readies c = elim c.match-insert.branch [
   | in-Ok w ↦
       readies c.self.inside.entries.entries c.args.self.now c.insert.new.self.entries c.args.a c.args.b c.self.view_is
       w.in-Ok.ensures.updates.0
-  | in-Err w ↦ readies_same c.args.self.now c.insert.new.self.entries (Some (c.args.a, c.args.b))
+  | in-Err w ↦ readies_same c.args.self.now c.insert.new.self.entries None (Some (c.args.a, c.args.b))
       (unchanged c.self.inside.entries.entries c.args.self.now c.insert.new.self.entries c.self.view_is
       w.in-Err.ensures.err)
 ]
