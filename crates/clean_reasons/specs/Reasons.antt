@@ -1,5 +1,6 @@
 -- What the reasons say of the state before an entry, and of the entry (own).
-use Rattle.std.specs.Prelude.{◌≡◌, ◌≢◌, ◌≤◌, ℕ, ◌&&◌, Bool, true, false, count_by, length, [], Option, Some, None, IsSomeAnd, MatchOption}
+use Rattle.std.specs.Prelude.{◌≡◌, ◌≢◌, ◌≤◌, ℕ, ◌&&◌, Bool, true, false, count_by, length, []}
+use Rattle.std.specs.Prelude.{Option, Some, None, IsSomeAnd, MatchOption}
 use Rattle.assoc_mem.specs.declared.What.{What}
 use Rattle.script.specs.Plans.{Plan}
 use Rattle.script.specs.References.{reference_of}
@@ -16,6 +17,9 @@ use Rattle.custody_model.specs.declared.DescriptorUse.TheVariants as lead
 use Rattle.custody_model.specs.Custody.{Custody, bound_page, has, is_going_descriptor, is_going_frame, is_started}
 use Rattle.custody_model.specs.Custody.{is_uid, leads_to, names_descriptor, names_frame}
 use Rattle.custody_model.specs.Allowed.{IsAllowed, IsFront, SomethingGoes, is_active_in, is_word_or_done, next_command}
+use Rattle.clean_reasons.specs.declared.reasons.CommandAt.{CommandAt}
+use Rattle.clean_reasons.specs.declared.reasons.Held.{Held}
+use Rattle.clean_reasons.specs.declared.reasons.Held.TheVariants as held
 use Rattle.clean_reasons.specs.declared.reasons.Absent.{Absent}
 use Rattle.clean_reasons.specs.declared.reasons.Absent.TheVariants as absent
 use Rattle.clean_reasons.specs.declared.reasons.SeatReason.{SeatReason}
@@ -58,6 +62,10 @@ IsConnected c k n = c.descriptor k n ≢ lead.Free
 abbrev pub holds_seg : Custody → ℕ → ℕ → ℕ → Bool
 holds_seg c d k n = is_uid k (c.seat d).process && has (c.seat d).segs n
 
+abbrev pub holds : Custody → ℕ → Held → Bool
+holds c d (held.Descriptor at) = holds_seg c d at.process at.number
+holds c d (held.Frame f) = has (c.seat d).pages f
+
 -- its process has had so many command entries since its load, and no try of an `await` was the last that goes on
 pub record IsEarly (c : Custody) (k n d : ℕ) : Type 0 where
   pub process : (c.seat d).process ≡ Some k
@@ -73,12 +81,9 @@ SeatSays c (seat.OtherProcess d x k) = (c.seat d).process ≡ Some x
 SeatSays c (seat.Due w d) = (c.seat d).due ≡ Some w
 SeatSays c (seat.NoneDue d) = (c.seat d).due ≡ None
 SeatSays c (seat.OtherDue d x w) = (c.seat d).due ≡ Some x
-SeatSays c (seat.HoldsSegAlready d n k) = holds_seg c d k n ≡ true
-SeatSays c (seat.HoldsPageAlready d f) = has (c.seat d).pages f ≡ true
-SeatSays c (seat.HoldsSeg d n k) = holds_seg c d k n ≡ true
-SeatSays c (seat.HoldsPage d f) = has (c.seat d).pages f ≡ true
-SeatSays c (seat.LacksSeg d n k) = holds_seg c d k n ≡ false
-SeatSays c (seat.LacksPage d f) = has (c.seat d).pages f ≡ false
+SeatSays c (seat.HoldsAlready d h) = holds c d h ≡ true
+SeatSays c (seat.Holds d h) = holds c d h ≡ true
+SeatSays c (seat.Lacks d h) = holds c d h ≡ false
 SeatSays c (seat.Early k n d) = IsEarly c k n d
 
 -- a process hasn't ended, and no other one is ready
@@ -110,17 +115,17 @@ pub record FrameIsUnnamed (c : Custody) (w : What) (f : ℕ) : Type 0 where
   pub unnamed : names_frame c w f ≡ false
 
 abbrev pub FrameSays : Custody → FrameReason → Type 0
-FrameSays c (frame.HasPage u q f) = IsIn c u q f
-FrameSays c (frame.HasRead u q f) = IsReadInto c u q f
-FrameSays c (frame.Bound f q u) = IsIn c u q f
-FrameSays c (frame.Read f q u) = IsReadInto c u q f
-FrameSays c (frame.PageIn q u f) = IsIn c u q f
-FrameSays c (frame.PageRead q u f) = IsReadInto c u q f
+FrameSays c (frame.HasPage p f) = IsIn c p.uid p.page f
+FrameSays c (frame.HasRead p f) = IsReadInto c p.uid p.page f
+FrameSays c (frame.Bound f p) = IsIn c p.uid p.page f
+FrameSays c (frame.Read f p) = IsReadInto c p.uid p.page f
+FrameSays c (frame.PageIn p f) = IsIn c p.uid p.page f
+FrameSays c (frame.PageRead p f) = IsReadInto c p.uid p.page f
 FrameSays c (frame.NotRead f) = is_started (c.frame f) ≡ false
 FrameSays c (frame.NoPage f) = bound_page (c.frame f) ≡ None
 FrameSays c (frame.Going f) = is_going_frame (c.frame f) ≡ true
 FrameSays c (frame.Stays f) = is_going_frame (c.frame f) ≡ false
-FrameSays c (frame.OtherPage f p v q u) = IsIn c v p f
+FrameSays c (frame.OtherPage f o p) = IsIn c o.uid o.page f
 FrameSays c (frame.Unnamed w f) = FrameIsUnnamed c w f
 
 -- a descriptor is on its way out, and isn't named
@@ -129,29 +134,22 @@ pub record DescriptorIsUnnamed (c : Custody) (w : What) (k n : ℕ) : Type 0 whe
   pub unnamed : names_descriptor c w k n ≡ false
 
 abbrev pub DescriptorSays : Store → Custody → DescriptorReason → Type 0
-DescriptorSays s c (descriptor.Leads n k u) = leads_to (c.descriptor k n) ≡ Some u
+DescriptorSays s c (descriptor.Leads d u) = leads_to (c.descriptor d.process d.number) ≡ Some u
 DescriptorSays s c (descriptor.Unknown n k) = known_uid s k n ≡ None
 DescriptorSays s c (descriptor.StandsFor n k v u) = known_uid s k n ≡ Some v
-DescriptorSays s c (descriptor.Connected n k) = IsConnected c k n
-DescriptorSays s c (descriptor.Unconnected n k) = c.descriptor k n ≡ lead.Free
-DescriptorSays s c (descriptor.Going n k) = is_going_descriptor (c.descriptor k n) ≡ true
-DescriptorSays s c (descriptor.Stays n k) = is_going_descriptor (c.descriptor k n) ≡ false
-DescriptorSays s c (descriptor.Unnamed w n k) = DescriptorIsUnnamed c w k n
+DescriptorSays s c (descriptor.Connected d) = IsConnected c d.process d.number
+DescriptorSays s c (descriptor.Unconnected d) = c.descriptor d.process d.number ≡ lead.Free
+DescriptorSays s c (descriptor.Going d) = is_going_descriptor (c.descriptor d.process d.number) ≡ true
+DescriptorSays s c (descriptor.Stays d) = is_going_descriptor (c.descriptor d.process d.number) ≡ false
+DescriptorSays s c (descriptor.Unnamed w d) = DescriptorIsUnnamed c w d.process d.number
 DescriptorSays s c descriptor.NothingGoes = SomethingGoes c → ⊥
 
 abbrev pub EffectSays : Custody → EffectReason → Type 0
-EffectSays c (effect.AclSeg n k) = IsConnected c k n
-EffectSays c (effect.TerminateSeg n k) = IsConnected c k n
-EffectSays c (effect.EndSeg n k) = IsConnected c k n
-EffectSays c (effect.DeletePage q u f) = IsIn c u q f
-EffectSays c (effect.DeleteRead q u f) = IsReadInto c u q f
-EffectSays c (effect.DeleteSeg n k) = IsConnected c k n
+EffectSays c (effect.Connected t d) = IsConnected c d.process d.number
 EffectSays c (effect.DeleteActive u) = c.active u ≡ true
 EffectSays c (effect.LengthActive u) = c.active u ≡ true
-EffectSays c (effect.PastPage q u f) = IsIn c u q f
-EffectSays c (effect.PastRead q u f) = IsReadInto c u q f
-EffectSays c (effect.CutPage q u f) = IsIn c u q f
-EffectSays c (effect.CutRead q u f) = IsReadInto c u q f
+EffectSays c (effect.InFrame l p f) = IsIn c p.uid p.page f
+EffectSays c (effect.BeingRead l p f) = IsReadInto c p.uid p.page f
 
 -- the sentence of a reason; those that speak of the entry, of the script or of the reply have none
 abbrev pub Says : Store → Custody → Reason → Type 0
@@ -161,23 +159,23 @@ Says s c (reason.Ready r) = ReadySays s c r
 Says s c (reason.Active r) = ActiveSays s c r
 Says s c (reason.Frame r) = FrameSays c r
 Says s c (reason.Descriptor r) = DescriptorSays s c r
-Says s c (reason.Command (answer.Stored i k q u)) = is_stored s.stored u q ≡ true
+Says s c (reason.Command (answer.Stored a p)) = is_stored s.stored p.uid p.page ≡ true
 Says s c (reason.Command _) = ⊥
 Says s c (reason.Effect r) = EffectSays c r
 
 -- whether a reason has a sentence
 abbrev pub has_since : Reason → Bool
 has_since (reason.Absent r) = false
-has_since (reason.Command (answer.Stored i k q u)) = true
+has_since (reason.Command (answer.Stored a p)) = true
 has_since (reason.Command _) = false
 has_since _ = true
 
 -- ---- of the entry
 
 -- an entry is the answer to this command
-abbrev pub Answers : Entry → ℕ → ℕ → Type 0
-Answers (entry.Do k i d f r) place process = (i ≡ place) × (k ≡ process)
-Answers _ place process = ⊥
+abbrev pub Answers : Entry → CommandAt → Type 0
+Answers (entry.Do k i d f r) a = (i ≡ a.place) × (k ≡ a.process)
+Answers _ a = ⊥
 
 abbrev pub reply_in : Entry → Option Reply
 reply_in (entry.Do k i d f r) = Some r
@@ -212,9 +210,9 @@ pub record IsRefused (e : Entry) (r : Reply) : Type 0 where
 
 abbrev pub CommandIsSo : Plan → Store → Entry → CommandReason → Type 0
 CommandIsSo p s e (answer.NoneLeft k) = next_command p s k ≡ None
-CommandIsSo p s e (answer.Refused i k r) = Answers e i k × IsRefused e r
-CommandIsSo p s e (answer.Stored i k q u) = Answers e i k × (is_stored s.stored u q ≡ true)
-CommandIsSo p s e (answer.Tree i k w) = Answers e i k × IsSomeAnd (next_command p s k) (IsTreeCommand w)
+CommandIsSo p s e (answer.Refused a r) = Answers e a × IsRefused e r
+CommandIsSo p s e (answer.Stored a x) = Answers e a × (is_stored s.stored x.uid x.page ≡ true)
+CommandIsSo p s e (answer.Tree a w) = Answers e a × IsSomeAnd (next_command p s a.process) (IsTreeCommand w)
 
 -- a reason for which custody doesn't allow an entry is so
 abbrev pub IsSo : Plan → Store → Custody → Entry → Reason → Type 0

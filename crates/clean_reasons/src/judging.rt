@@ -3,7 +3,7 @@ ghost use Rattle.flat_model.specs.Store.{Store};
 ghost use Rattle.flat_store.specs.Shown.{Shows};
 ghost use Rattle.custody_model.specs.Allowed.{IsAllowed};
 ghost use Rattle.custody.specs.Tables.{AreNodes, AreTablesOf, custody_of};
-ghost use Rattle.clean_reasons.specs.Entries.{is_of_frames, is_of_seats, is_of_segments};
+ghost use Rattle.clean_reasons.specs.Entries.{is_answer, is_of_frames, is_of_seats, is_of_segments};
 ghost use Rattle.clean_reasons.specs.Reasons.{IsSo, Tells};
 
 use crate::reasons::Reason;
@@ -21,6 +21,32 @@ use book::Entry;
 use custody::Custody;
 use flat_store::FlatStore;
 use script::Script;
+
+/// Why an answer to a command isn't allowed.
+fn against_answer(script: &Script, store: &FlatStore, custody: &Custody, e: Entry) -> Option<Reason>
+    requires { AreTablesOf script.now custody.now }
+    ensures { (s : Store) → Shows script.now store.now s → is_answer e ≡ true
+        → Tells script.now s (custody_of custody.now) e result }
+{
+    match e {
+        Entry::Do {
+            process,
+            place,
+            cpu,
+            frame,
+            reply,
+        } => {
+            let answer = Answer {
+                process,
+                place,
+                cpu,
+                reply,
+            };
+            against_do(script, store, custody, answer, frame)
+        }
+        _ => None,
+    }
+}
 
 /// Why an entry of the processors isn't allowed.
 fn against_seats(script: &Script, store: &FlatStore, custody: &Custody, e: Entry) -> Option<Reason>
@@ -95,21 +121,7 @@ fn against(script: &Script, store: &FlatStore, custody: &Custody, e: Entry) -> O
         → Tells script.now s (custody_of custody.now) e result }
 {
     match e {
-        Entry::Do {
-            process,
-            place,
-            cpu,
-            frame,
-            reply,
-        } => {
-            let answer = Answer {
-                process,
-                place,
-                cpu,
-                reply,
-            };
-            against_do(script, store, custody, answer, frame)
-        }
+        Entry::Do { .. } => against_answer(script, store, custody, e),
         Entry::Fault { .. } => None,
         Entry::Online { .. }
         | Entry::Load { .. }

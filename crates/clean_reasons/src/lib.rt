@@ -1,5 +1,5 @@
-//! Why custody doesn't allow an entry of a book: the first condition that doesn't hold, as a sentence of what was before
-//! the entry (Bensoussan, Clingen and Daley 1972; the sentences are own).
+//! Why custody doesn't allow an entry of a book: the first condition that doesn't hold, as a sentence of what was
+//! before the entry (Bensoussan, Clingen and Daley 1972; the sentences are own).
 //!
 //! `why_not` names the reason, and `is_still_so` says whether its sentence is true in another state.
 #![tactic(auto)]
@@ -19,7 +19,7 @@ mod texts;
 
 pub use judging::why_not;
 pub use reasons::{
-    Absent, ActiveReason, CommandReason, CommandWord, DescriptorReason, EffectReason, FrameReason,
-    ReadyReason, Reason, SeatReason,
+    Absent, ActiveReason, CommandAt, CommandReason, CommandWord, DescriptorAt, DescriptorReason,
+    EffectReason, FrameReason, Held, Loss, PageOf, ReadyReason, Reason, SeatReason, Taker,
 };
 pub use sentences::is_still_so;

@@ -4,6 +4,42 @@ ghost use Rattle.clean_reasons.specs.Reasons.{has_since};
 use assoc_mem::What;
 use book::Reply;
 
+/// A descriptor: its process and its number.
+#[derive(Clone, Copy)]
+pub struct DescriptorAt {
+    /// The process.
+    pub process: u32,
+    /// Its number.
+    pub number: u32,
+}
+
+/// A page of a segment.
+#[derive(Clone, Copy)]
+pub struct PageOf {
+    /// The segment.
+    pub uid: u32,
+    /// Its number in the segment.
+    pub page: u32,
+}
+
+/// A command of a process.
+#[derive(Clone, Copy)]
+pub struct CommandAt {
+    /// The process.
+    pub process: u32,
+    /// Its place among the commands of the process.
+    pub place: u32,
+}
+
+/// What a processor holds for references.
+#[derive(Clone, Copy)]
+pub enum Held {
+    /// A descriptor of its process.
+    Descriptor(DescriptorAt),
+    /// The page table word of this frame.
+    Frame(u32),
+}
+
 /// What an entry names that the script doesn't have.
 #[derive(Clone, Copy)]
 pub enum Absent {
@@ -34,18 +70,12 @@ pub enum SeatReason {
     NoneDue { cpu: u32 },
     /// It is to drop another thing than the one that is named.
     OtherDue { cpu: u32, due: What, what: What },
-    /// It holds the descriptor that it was to fill in.
-    HoldsSegAlready { cpu: u32, number: u32, process: u32 },
-    /// It holds the page table word that it was to fill in.
-    HoldsPageAlready { cpu: u32, frame: u32 },
-    /// It holds a descriptor that was to be gone or back.
-    HoldsSeg { cpu: u32, number: u32, process: u32 },
-    /// It holds the page table word of a frame whose page was to be gone or back.
-    HoldsPage { cpu: u32, frame: u32 },
-    /// It doesn't hold the descriptor of a reference.
-    LacksSeg { cpu: u32, number: u32, process: u32 },
-    /// It doesn't hold the page table word of a reference.
-    LacksPage { cpu: u32, frame: u32 },
+    /// It holds what it was to fill in.
+    HoldsAlready { cpu: u32, held: Held },
+    /// It holds a descriptor that was to be gone or back, or a frame whose page was to be.
+    Holds { cpu: u32, held: Held },
+    /// It doesn't hold what a reference goes through.
+    Lacks { cpu: u32, held: Held },
     /// Its process hasn't had its turn: so many command entries, and no try of an `await` that goes on.
     Early { process: u32, count: u64, cpu: u32 },
 }
@@ -83,38 +113,32 @@ pub enum ActiveReason {
 pub enum FrameReason {
     /// A page of a segment is in it, which was to be active no more.
     HasPage {
-        uid: u32,
-        page: u32,
+        page: PageOf,
         frame: u32,
     },
     /// A page of a segment is being read into it, which was to be active no more, or to move.
     HasRead {
-        uid: u32,
-        page: u32,
+        page: PageOf,
         frame: u32,
     },
     /// A page is in the frame into which another was to come.
     Bound {
         frame: u32,
-        page: u32,
-        uid: u32,
+        page: PageOf,
     },
     /// It is being read into already.
     Read {
         frame: u32,
-        page: u32,
-        uid: u32,
+        page: PageOf,
     },
     /// The page that is named is in a frame.
     PageIn {
-        page: u32,
-        uid: u32,
+        page: PageOf,
         frame: u32,
     },
     /// The page that is named is being read into a frame.
     PageRead {
-        page: u32,
-        uid: u32,
+        page: PageOf,
         frame: u32,
     },
     /// It isn't being read into.
@@ -136,10 +160,8 @@ pub enum FrameReason {
     /// It has another page than the one of the reference.
     OtherPage {
         frame: u32,
-        at: u32,
-        of: u32,
-        page: u32,
-        uid: u32,
+        other: PageOf,
+        page: PageOf,
     },
     /// Its page is on its way out, and a signal doesn't name it.
     Unnamed {
@@ -153,8 +175,7 @@ pub enum FrameReason {
 pub enum DescriptorReason {
     /// It leads to a segment that was to be active no more.
     Leads {
-        number: u32,
-        process: u32,
+        descriptor: DescriptorAt,
         uid: u32,
     },
     /// Its number stands for nothing.
@@ -170,30 +191,17 @@ pub enum DescriptorReason {
         uid: u32,
     },
     /// It is connected already.
-    Connected {
-        number: u32,
-        process: u32,
-    },
+    Connected(DescriptorAt),
     /// It isn't connected.
-    Unconnected {
-        number: u32,
-        process: u32,
-    },
+    Unconnected(DescriptorAt),
     /// It is on its way out already.
-    Going {
-        number: u32,
-        process: u32,
-    },
+    Going(DescriptorAt),
     /// It isn't on its way out.
-    Stays {
-        number: u32,
-        process: u32,
-    },
+    Stays(DescriptorAt),
     /// It is on its way out, and a signal doesn't name it.
     Unnamed {
         what: What,
-        number: u32,
-        process: u32,
+        descriptor: DescriptorAt,
     },
     /// No page and no descriptor is on its way out.
     NothingGoes,
@@ -238,57 +246,68 @@ pub enum CommandWord {
 #[derive(Clone, Copy)]
 pub enum CommandReason {
     /// The process has no command left.
-    NoneLeft {
-        process: u32,
-    },
+    NoneLeft { process: u32 },
     /// A reference is refused, and has a frame.
-    Refused {
-        place: u32,
-        process: u32,
-        reply: Reply,
-    },
+    Refused { at: CommandAt, reply: Reply },
     /// A reference reaches a word without a frame, and its page is stored.
-    Stored {
-        place: u32,
-        process: u32,
-        page: u32,
-        uid: u32,
-    },
+    Stored { at: CommandAt, page: PageOf },
     /// A tree command has a frame.
-    Tree {
-        place: u32,
-        process: u32,
-        word: CommandWord,
-    },
+    Tree { at: CommandAt, word: CommandWord },
+}
+
+/// The tree command that takes a descriptor away.
+#[derive(Clone, Copy)]
+pub enum Taker {
+    /// One that changes an access control list.
+    Acl,
+    /// One whose number is to stand for nothing.
+    Terminate,
+    /// The end of a process.
+    End,
+    /// One that deletes a segment or a directory.
+    Delete,
+}
+
+/// How a tree command takes a page away.
+#[derive(Clone, Copy)]
+pub enum Loss {
+    /// What it is a page of is deleted.
+    Deleted,
+    /// It is past the words that are kept.
+    Past,
+    /// It is the page that is cut, and keeps no word other than 0.
+    Cut,
 }
 
 /// What a tree command takes away that is still in use.
 #[derive(Clone, Copy)]
 pub enum EffectReason {
-    /// A descriptor leads to the segment whose access control list changes.
-    AclSeg { number: u32, process: u32 },
-    /// The descriptor is connected whose number is to stand for nothing.
-    TerminateSeg { number: u32, process: u32 },
-    /// A descriptor of the process that ends is connected.
-    EndSeg { number: u32, process: u32 },
-    /// A page of what is deleted is in a frame.
-    DeletePage { page: u32, uid: u32, frame: u32 },
-    /// A page of what is deleted is being read into a frame.
-    DeleteRead { page: u32, uid: u32, frame: u32 },
-    /// A descriptor leads to what is deleted.
-    DeleteSeg { number: u32, process: u32 },
+    /// A descriptor is connected: one that leads to what is deleted, or to the segment whose access control list
+    /// changes, the one whose number is to stand for nothing, or one of the process that ends.
+    Connected {
+        taker: Taker,
+        descriptor: DescriptorAt,
+    },
     /// What is deleted is active.
-    DeleteActive { uid: u32 },
+    DeleteActive {
+        uid: u32,
+    },
     /// The segment is active whose length changes.
-    LengthActive { uid: u32 },
-    /// A page past the words that are kept is in a frame.
-    PastPage { page: u32, uid: u32, frame: u32 },
-    /// A page past the words that are kept is being read into a frame.
-    PastRead { page: u32, uid: u32, frame: u32 },
-    /// The page that is cut keeps no word other than 0, and is in a frame.
-    CutPage { page: u32, uid: u32, frame: u32 },
-    /// The page that is cut keeps no word other than 0, and is being read into a frame.
-    CutRead { page: u32, uid: u32, frame: u32 },
+    LengthActive {
+        uid: u32,
+    },
+    /// A page that is taken away is in a frame.
+    InFrame {
+        loss: Loss,
+        page: PageOf,
+        frame: u32,
+    },
+    /// A page that is taken away is being read into a frame.
+    BeingRead {
+        loss: Loss,
+        page: PageOf,
+        frame: u32,
+    },
 }
 
 /// Why custody doesn't allow an entry (own). Each is a sentence of the state before the entry, but for a few that speak

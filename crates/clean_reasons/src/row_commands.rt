@@ -10,7 +10,8 @@ ghost use Rattle.clean_reasons.specs.Reasons.{CommandIsSo, IsSo, SeatSays, Tells
 ghost use Rattle.clean_reasons.specs.Answers.{HoldsBoth, IsNextTree, MayAnswerReference, MayAnswerTree, as_entry};
 
 use crate::reasons::{
-    Absent, CommandReason, CommandWord, DescriptorReason, FrameReason, Reason, SeatReason,
+    Absent, CommandAt, CommandReason, CommandWord, DescriptorAt, DescriptorReason, FrameReason,
+    Held, PageOf, Reason, SeatReason,
 };
 use crate::row_effects::against_effect;
 use crate::seeking::bound_page;
@@ -78,14 +79,12 @@ fn against_holding(custody: &Custody, answer: Answer, frame: u32, number: u32) -
 {
     let Answer { process, cpu, .. } = answer;
     if !custody.holds_seg(cpu, number) {
-        return Some(SeatReason::LacksSeg {
-            cpu,
-            number,
-            process,
-        });
+        let held = Held::Descriptor(DescriptorAt { process, number });
+        return Some(SeatReason::Lacks { cpu, held });
     }
     if !custody.holds_page(cpu, frame) {
-        return Some(SeatReason::LacksPage { cpu, frame });
+        let held = Held::Frame(frame);
+        return Some(SeatReason::Lacks { cpu, held });
     }
     None
 }
@@ -114,13 +113,9 @@ fn against_page(
     if of == uid && at == page {
         None
     } else {
-        Some(Reason::Frame(FrameReason::OtherPage {
-            frame,
-            at,
-            of,
-            page,
-            uid,
-        }))
+        let other = PageOf { uid: of, page: at };
+        let page = PageOf { uid, page };
+        Some(Reason::Frame(FrameReason::OtherPage { frame, other, page }))
     }
 }
 
@@ -145,11 +140,14 @@ fn against_through(
     if is_word_or_done(&answer.reply) {
         return None;
     }
-    Some(Reason::Command(CommandReason::Refused {
-        place: answer.place,
-        process: answer.process,
-        reply: answer.reply,
-    }))
+    let Answer {
+        process,
+        place,
+        reply,
+        ..
+    } = answer;
+    let at = CommandAt { process, place };
+    Some(Reason::Command(CommandReason::Refused { at, reply }))
 }
 
 /// Why a reference may not be answered without a frame.
@@ -169,10 +167,8 @@ fn against_without(
     let page = reference.offset / Page::WORDS;
     match store.known(process, reference.number) {
         Some(uid) if store.is_stored(uid, page) => Some(CommandReason::Stored {
-            place,
-            process,
-            page,
-            uid,
+            at: CommandAt { process, place },
+            page: PageOf { uid, page },
         }),
         _ => None,
     }
@@ -219,11 +215,8 @@ fn against_tree(
     let Answer { process, place, .. } = answer;
     if frame.is_some() {
         let word = word_of(command);
-        return Some(Reason::Command(CommandReason::Tree {
-            place,
-            process,
-            word,
-        }));
+        let at = CommandAt { process, place };
+        return Some(Reason::Command(CommandReason::Tree { at, word }));
     }
     if let Some(reason) = against_running(custody, answer.cpu, process) {
         return Some(Reason::Seat(reason));

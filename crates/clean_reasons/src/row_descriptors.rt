@@ -9,7 +9,9 @@ ghost use Rattle.custody_model.specs.Custody.{Custody as Holding, is_current_des
 ghost use Rattle.custody.specs.Tables.{AreTablesOf, custody_of};
 ghost use Rattle.clean_reasons.specs.Reasons.{DescriptorSays, IsSo, Tells};
 
-use crate::reasons::{Absent, ActiveReason, DescriptorReason, Reason, SeatReason};
+use crate::reasons::{
+    Absent, ActiveReason, DescriptorAt, DescriptorReason, Held, Reason, SeatReason,
+};
 use crate::seeking::{SeatSeek, least_cpu};
 use custody::Custody;
 use custody_model::DescriptorUse;
@@ -56,7 +58,10 @@ pub(crate) fn against_connect(
     }
     match custody.descriptor(process, number) {
         DescriptorUse::Free => None,
-        _ => Some(Reason::Descriptor(DescriptorReason::Connected { number, process })),
+        _ => {
+            let descriptor = DescriptorAt { process, number };
+            Some(Reason::Descriptor(DescriptorReason::Connected(descriptor)))
+        }
     }
 }
 
@@ -70,9 +75,10 @@ pub(crate) fn against_current(
         (is_current_descriptor ((custody_of custody.now).descriptor process number) ≡ true)
         (DescriptorSays s (custody_of custody.now)) }
 {
+    let descriptor = DescriptorAt { process, number };
     match custody.descriptor(process, number) {
-        DescriptorUse::Free => Some(DescriptorReason::Unconnected { number, process }),
-        DescriptorUse::Going { .. } => Some(DescriptorReason::Going { number, process }),
+        DescriptorUse::Free => Some(DescriptorReason::Unconnected(descriptor)),
+        DescriptorUse::Going { .. } => Some(DescriptorReason::Going(descriptor)),
         DescriptorUse::Current { .. } => None,
     }
 }
@@ -109,18 +115,18 @@ pub(crate) fn against_end_of_seg(
     if process >= script.processes() {
         return Some(Reason::Absent(Absent::Process { process }));
     }
+    let descriptor = DescriptorAt { process, number };
     if !matches!(
         custody.descriptor(process, number),
         DescriptorUse::Going { .. }
     ) {
-        return Some(Reason::Descriptor(DescriptorReason::Stays { number, process }));
+        return Some(Reason::Descriptor(DescriptorReason::Stays(descriptor)));
     }
     match least_cpu(script, custody, SeatSeek::Seg { process, number }) {
-        Some(cpu) => Some(Reason::Seat(SeatReason::HoldsSeg {
-            cpu,
-            number,
-            process,
-        })),
+        Some(cpu) => {
+            let held = Held::Descriptor(descriptor);
+            Some(Reason::Seat(SeatReason::Holds { cpu, held }))
+        }
         None => None,
     }
 }

@@ -9,7 +9,7 @@ ghost use Rattle.custody_model.specs.Effects.{HasNoDescriptor, IsOutOfUse, Loses
 ghost use Rattle.custody.specs.Tables.{AreTablesOf, custody_of};
 ghost use Rattle.clean_reasons.specs.Reasons.{EffectSays};
 
-use crate::reasons::EffectReason;
+use crate::reasons::{DescriptorAt, EffectReason, Loss, PageOf, Taker};
 use crate::row_segments::least_leading;
 use crate::seeking::{LeadSeek, PageAt, least_number, least_page};
 use custody::{Custody, kept_pages};
@@ -40,10 +40,10 @@ fn against_acl(
 {
     let uid = store.segment_at(path)?;
     match least_leading(script, custody, uid) {
-        Some(at) => Some(EffectReason::AclSeg {
-            number: at.number,
-            process: at.process,
-        }),
+        Some(descriptor) => {
+            let taker = Taker::Acl;
+            Some(EffectReason::Connected { taker, descriptor })
+        }
         None => None,
     }
 }
@@ -55,7 +55,10 @@ fn against_terminate(custody: &Custody, process: u32, number: u32) -> Option<Eff
 {
     match custody.descriptor(process, number) {
         DescriptorUse::Free => None,
-        _ => Some(EffectReason::TerminateSeg { number, process }),
+        _ => Some(EffectReason::Connected {
+            taker: Taker::Terminate,
+            descriptor: DescriptorAt { process, number },
+        }),
     }
 }
 
@@ -66,21 +69,25 @@ fn against_end(script: &Script, custody: &Custody, process: u32) -> Option<Effec
         (EffectSays (custody_of custody.now)) }
 {
     match least_number(script, custody, process, LeadSeek::Connected) {
-        Some(number) => Some(EffectReason::EndSeg { number, process }),
+        Some(number) => Some(EffectReason::Connected {
+            taker: Taker::End,
+            descriptor: DescriptorAt { process, number },
+        }),
         None => None,
     }
 }
 
-/// That a page of what is deleted is in a frame, or is being read into it.
-fn delete_page(custody: &Custody, uid: u32, at: PageAt) -> EffectReason
+/// That a page that is taken away is in a frame, or is being read into it.
+fn lost(custody: &Custody, loss: Loss, uid: u32, at: PageAt) -> EffectReason
     requires { page_of ((custody_of custody.now).frame at.frame) ≡ Some (uid, at.page) }
     ensures { EffectSays (custody_of custody.now) result }
 {
     let PageAt { page, frame } = at;
+    let page = PageOf { uid, page };
     if is_read(custody, frame) {
-        EffectReason::DeleteRead { page, uid, frame }
+        EffectReason::BeingRead { loss, page, frame }
     } else {
-        EffectReason::DeletePage { page, uid, frame }
+        EffectReason::InFrame { loss, page, frame }
     }
 }
 
@@ -90,13 +97,11 @@ fn against_disuse(script: &Script, custody: &Custody, uid: u32) -> Option<Effect
     ensures { MatchOption result (IsOutOfUse (custody_of custody.now) uid) (EffectSays (custody_of custody.now)) }
 {
     if let Some(at) = least_page(script, custody, uid, 0) {
-        return Some(delete_page(custody, uid, at));
+        return Some(lost(custody, Loss::Deleted, uid, at));
     }
-    if let Some(at) = least_leading(script, custody, uid) {
-        return Some(EffectReason::DeleteSeg {
-            number: at.number,
-            process: at.process,
-        });
+    if let Some(descriptor) = least_leading(script, custody, uid) {
+        let taker = Taker::Delete;
+        return Some(EffectReason::Connected { taker, descriptor });
     }
     if custody.is_active(uid) {
         return Some(EffectReason::DeleteActive { uid });
@@ -146,32 +151,6 @@ fn pages_of(words: u32) -> u32 {
     }
 }
 
-/// That a page past the words that are kept is in a frame, or is being read into it.
-fn past_page(custody: &Custody, uid: u32, at: PageAt) -> EffectReason
-    requires { page_of ((custody_of custody.now).frame at.frame) ≡ Some (uid, at.page) }
-    ensures { EffectSays (custody_of custody.now) result }
-{
-    let PageAt { page, frame } = at;
-    if is_read(custody, frame) {
-        EffectReason::PastRead { page, uid, frame }
-    } else {
-        EffectReason::PastPage { page, uid, frame }
-    }
-}
-
-/// That the page that is cut, and all zeros then, is in a frame, or is being read into it.
-fn cut_page(custody: &Custody, uid: u32, at: PageAt) -> EffectReason
-    requires { page_of ((custody_of custody.now).frame at.frame) ≡ Some (uid, at.page) }
-    ensures { EffectSays (custody_of custody.now) result }
-{
-    let PageAt { page, frame } = at;
-    if is_read(custody, frame) {
-        EffectReason::CutRead { page, uid, frame }
-    } else {
-        EffectReason::CutPage { page, uid, frame }
-    }
-}
-
 /// Why a segment may not be truncated at this word.
 fn against_loss(
     script: &Script,
@@ -185,11 +164,11 @@ fn against_loss(
         (LosesNoPage s (custody_of custody.now) uid words) (EffectSays (custody_of custody.now)) }
 {
     if let Some(at) = least_page(script, custody, uid, pages_of(words)) {
-        return Some(past_page(custody, uid, at));
+        return Some(lost(custody, Loss::Past, uid, at));
     }
     let kept = kept_pages(store, uid, words);
     match least_page(script, custody, uid, kept) {
-        Some(at) => Some(cut_page(custody, uid, at)),
+        Some(at) => Some(lost(custody, Loss::Cut, uid, at)),
         None => None,
     }
 }

@@ -10,7 +10,7 @@ ghost use Rattle.custody_model.specs.Effects.{IsInNoFrame};
 ghost use Rattle.custody.specs.Tables.{AreTablesOf, custody_of};
 ghost use Rattle.clean_reasons.specs.Reasons.{FrameSays, IsSo, Tells};
 
-use crate::reasons::{Absent, ActiveReason, FrameReason, Reason, SeatReason};
+use crate::reasons::{Absent, ActiveReason, FrameReason, Held, PageOf, Reason, SeatReason};
 use crate::seeking::{FrameSeek, SeatSeek, least_cpu, least_frame};
 use custody::Custody;
 use custody_model::FrameUse;
@@ -27,10 +27,12 @@ pub(crate) fn against_absence(
     ensures { MatchOption result (IsInNoFrame (custody_of custody.now) uid page) (FrameSays (custody_of custody.now)) }
 {
     if let Some(frame) = least_frame(script, custody, FrameSeek::BoundTo { uid, page }) {
-        return Some(FrameReason::PageIn { page, uid, frame });
+        let page = PageOf { uid, page };
+        return Some(FrameReason::PageIn { page, frame });
     }
     if let Some(frame) = least_frame(script, custody, FrameSeek::ReadFor { uid, page }) {
-        return Some(FrameReason::PageRead { page, uid, frame });
+        let page = PageOf { uid, page };
+        return Some(FrameReason::PageRead { page, frame });
     }
     None
 }
@@ -58,9 +60,13 @@ fn against_freedom(custody: &Custody, frame: u32) -> Option<FrameReason>
 {
     match custody.frame(frame) {
         FrameUse::Free => None,
-        FrameUse::Started { uid, page } => Some(FrameReason::Read { frame, page, uid }),
+        FrameUse::Started { uid, page } => {
+            let page = PageOf { uid, page };
+            Some(FrameReason::Read { frame, page })
+        }
         FrameUse::Current { uid, page } | FrameUse::Going { uid, page } => {
-            Some(FrameReason::Bound { frame, page, uid })
+            let page = PageOf { uid, page };
+            Some(FrameReason::Bound { frame, page })
         }
     }
 }
@@ -189,7 +195,10 @@ pub(crate) fn against_end_of_page(script: &Script, custody: &Custody, frame: u32
         return Some(Reason::Frame(FrameReason::Stays { frame }));
     }
     match least_cpu(script, custody, SeatSeek::Page { frame }) {
-        Some(cpu) => Some(Reason::Seat(SeatReason::HoldsPage { cpu, frame })),
+        Some(cpu) => Some(Reason::Seat(SeatReason::Holds {
+            cpu,
+            held: Held::Frame(frame),
+        })),
         None => None,
     }
 }

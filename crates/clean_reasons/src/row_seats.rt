@@ -9,7 +9,7 @@ ghost use Rattle.book.specs.declared.entries.Entry.TheVariants as entry;
 ghost use Rattle.custody.specs.Tables.{custody_of, seat_at};
 ghost use Rattle.clean_reasons.specs.Reasons.{IsSo, ReadySays, Tells};
 
-use crate::reasons::{Absent, ReadyReason, Reason, SeatReason};
+use crate::reasons::{Absent, DescriptorAt, Held, ReadyReason, Reason, SeatReason};
 use crate::{row_descriptors, row_frames};
 use assoc_mem::What;
 use custody::Custody;
@@ -166,11 +166,8 @@ pub(crate) fn against_fill_seg(
         return Some(Reason::Descriptor(reason));
     }
     if custody.holds_seg(cpu, number) {
-        return Some(Reason::Seat(SeatReason::HoldsSegAlready {
-            cpu,
-            number,
-            process,
-        }));
+        let held = Held::Descriptor(DescriptorAt { process, number });
+        return Some(Reason::Seat(SeatReason::HoldsAlready { cpu, held }));
     }
     None
 }
@@ -194,7 +191,8 @@ pub(crate) fn against_fill_page(
         return Some(Reason::Frame(reason));
     }
     if custody.holds_page(cpu, frame) {
-        return Some(Reason::Seat(SeatReason::HoldsPageAlready { cpu, frame }));
+        let held = Held::Frame(frame);
+        return Some(Reason::Seat(SeatReason::HoldsAlready { cpu, held }));
     }
     None
 }

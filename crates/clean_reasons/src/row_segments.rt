@@ -11,9 +11,11 @@ ghost use Rattle.custody_model.specs.Allowed.{pool_size, superior_in};
 ghost use Rattle.custody.specs.Tables.{AreNodes, AreTablesOf, CanJoin, custody_of};
 ghost use Rattle.clean_reasons.specs.Reasons.{ActiveSays, FrameSays, IsIn, IsReadInto, IsSo, Tells};
 
-use crate::reasons::{Absent, ActiveReason, DescriptorReason, FrameReason, Reason};
+use crate::reasons::{
+    Absent, ActiveReason, DescriptorAt, DescriptorReason, FrameReason, PageOf, Reason,
+};
 use crate::seeking::{
-    DescriptorAt, FrameSeek, LeadSeek, PageAt, bound_page, least_descriptor, least_frame, read_page,
+    FrameSeek, LeadSeek, PageAt, bound_page, least_descriptor, least_frame, read_page,
 };
 use custody::Custody;
 use flat_store::FlatStore;
@@ -105,18 +107,20 @@ fn against_no_page(script: &Script, custody: &Custody, uid: u32) -> Option<Frame
     ensures { MatchOption result (HasNoPage (custody_of custody.now) uid) (FrameSays (custody_of custody.now)) }
 {
     if let Some(at) = page_in(script, custody, uid) {
+        let page = PageOf { uid, page: at.page };
         return Some(FrameReason::HasPage {
-            uid,
-            page: at.page,
+            page,
             frame: at.frame,
         });
     }
     match page_read(script, custody, uid) {
-        Some(at) => Some(FrameReason::HasRead {
-            uid,
-            page: at.page,
-            frame: at.frame,
-        }),
+        Some(at) => {
+            let page = PageOf { uid, page: at.page };
+            Some(FrameReason::HasRead {
+                page,
+                frame: at.frame,
+            })
+        }
         None => None,
     }
 }
@@ -142,11 +146,7 @@ fn against_disuse(script: &Script, custody: &Custody, uid: u32) -> Option<Reason
         return Some(Reason::Frame(reason));
     }
     match least_leading(script, custody, uid) {
-        Some(at) => Some(Reason::Descriptor(DescriptorReason::Leads {
-            number: at.number,
-            process: at.process,
-            uid,
-        })),
+        Some(descriptor) => Some(Reason::Descriptor(DescriptorReason::Leads { descriptor, uid })),
         None => None,
     }
 }
@@ -189,11 +189,13 @@ pub(crate) fn against_moved(
         return Some(Reason::Active(ActiveReason::Inactive { uid }));
     }
     match page_read(script, custody, uid) {
-        Some(at) => Some(Reason::Frame(FrameReason::HasRead {
-            uid,
-            page: at.page,
-            frame: at.frame,
-        })),
+        Some(at) => {
+            let page = PageOf { uid, page: at.page };
+            Some(Reason::Frame(FrameReason::HasRead {
+                page,
+                frame: at.frame,
+            }))
+        }
         None => None,
     }
 }

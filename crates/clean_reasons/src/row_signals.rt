@@ -43,11 +43,7 @@ fn against_descriptors(script: &Script, custody: &Custody, what: What) -> Option
         (DescriptorSays s (custody_of custody.now)) }
 {
     match least_descriptor(script, custody, LeadSeek::Unnamed { what }) {
-        Some(at) => Some(DescriptorReason::Unnamed {
-            what,
-            number: at.number,
-            process: at.process,
-        }),
+        Some(descriptor) => Some(DescriptorReason::Unnamed { what, descriptor }),
         None => None,
     }
 }

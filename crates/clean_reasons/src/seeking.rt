@@ -4,6 +4,7 @@ ghost use Rattle.custody.specs.Tables.{AreTablesOf, custody_of};
 ghost use Rattle.clean_reasons.specs.Seeking.{IsLostPage, LosesPage, frame_passes, is_page, lead_passes, names_lead};
 ghost use Rattle.clean_reasons.specs.Seeking.{names_use, read_page, seat_passes};
 
+use crate::reasons::DescriptorAt;
 use assoc_mem::What;
 use custody::Custody;
 use custody_model::{DescriptorUse, FrameUse};
@@ -51,13 +52,6 @@ pub(crate) enum SeatSeek {
 pub(crate) struct PageAt {
     pub(crate) page: u32,
     pub(crate) frame: u32,
-}
-
-/// A descriptor: its process and its number.
-#[derive(Clone, Copy)]
-pub(crate) struct DescriptorAt {
-    pub(crate) process: u32,
-    pub(crate) number: u32,
 }
 
 /// The page that is in a frame.

@@ -8,11 +8,11 @@ ghost use Rattle.custody_model.specs.Allowed.{IsFront};
 ghost use Rattle.custody.specs.Tables.{AreNodes, custody_of, seat_at};
 ghost use Rattle.clean_reasons.specs.Reasons.{ActiveSays, DescriptorIsUnnamed, DescriptorSays, EffectSays};
 ghost use Rattle.clean_reasons.specs.Reasons.{FrameIsUnnamed, FrameSays, IsConnected, IsEarly, IsIn, IsReadInto};
-ghost use Rattle.clean_reasons.specs.Reasons.{ReadySays, Says, SeatSays, holds_seg};
+ghost use Rattle.clean_reasons.specs.Reasons.{ReadySays, Says, SeatSays, holds};
 
 use crate::reasons::{
-    ActiveReason, CommandReason, DescriptorReason, EffectReason, FrameReason, ReadyReason, Reason,
-    SeatReason,
+    ActiveReason, CommandReason, DescriptorAt, DescriptorReason, EffectReason, FrameReason, Held,
+    PageOf, ReadyReason, Reason, SeatReason,
 };
 use crate::row_seats::is_same;
 use crate::seeking::{bound_page, names_descriptor, names_frame};
@@ -22,37 +22,40 @@ use custody_model::{DescriptorUse, FrameUse};
 use flat_store::FlatStore;
 
 /// Whether a page is in a frame.
-fn is_in(custody: &Custody, uid: u32, page: u32, frame: u32) -> bool
-    ensures { Decides result (IsIn (custody_of custody.now) uid page frame) }
+fn is_in(custody: &Custody, page: PageOf, frame: u32) -> bool
+    ensures { Decides result (IsIn (custody_of custody.now) page.uid page.page frame) }
 {
     match bound_page(custody.frame(frame)) {
-        Some((of, at)) => of == uid && at == page,
+        Some((of, at)) => of == page.uid && at == page.page,
         None => false,
     }
 }
 
 /// Whether a page is being read into a frame.
-fn is_read_into(custody: &Custody, uid: u32, page: u32, frame: u32) -> bool
-    ensures { Decides result (IsReadInto (custody_of custody.now) uid page frame) }
+fn is_read_into(custody: &Custody, page: PageOf, frame: u32) -> bool
+    ensures { Decides result (IsReadInto (custody_of custody.now) page.uid page.page frame) }
 {
     match custody.frame(frame) {
-        FrameUse::Started { uid: of, page: at } => of == uid && at == page,
+        FrameUse::Started { uid: of, page: at } => of == page.uid && at == page.page,
         _ => false,
     }
 }
 
 /// Whether a descriptor is connected.
-fn is_connected(custody: &Custody, process: u32, number: u32) -> bool
-    ensures { Decides result (IsConnected (custody_of custody.now) process number) }
+fn is_connected(custody: &Custody, at: DescriptorAt) -> bool
+    ensures { Decides result (IsConnected (custody_of custody.now) at.process at.number) }
 {
-    !matches!(custody.descriptor(process, number), DescriptorUse::Free)
+    !matches!(
+        custody.descriptor(at.process, at.number),
+        DescriptorUse::Free
+    )
 }
 
 /// Whether a descriptor leads to a segment.
-fn leads_to(custody: &Custody, process: u32, number: u32, uid: u32) -> bool
-    ensures { Decides result (leads_to ((custody_of custody.now).descriptor process number) ≡ Some uid) }
+fn leads_to(custody: &Custody, at: DescriptorAt, uid: u32) -> bool
+    ensures { Decides result (leads_to ((custody_of custody.now).descriptor at.process at.number) ≡ Some uid) }
 {
-    match custody.descriptor(process, number) {
+    match custody.descriptor(at.process, at.number) {
         DescriptorUse::Free => false,
         DescriptorUse::Current { uid: to } | DescriptorUse::Going { uid: to } => to == uid,
     }
@@ -66,11 +69,11 @@ fn frame_goes(custody: &Custody, frame: u32) -> bool
 }
 
 /// Whether a descriptor is on its way out.
-fn descriptor_goes(custody: &Custody, process: u32, number: u32) -> bool
-    ensures { result ≡ is_going_descriptor ((custody_of custody.now).descriptor process number) }
+fn descriptor_goes(custody: &Custody, at: DescriptorAt) -> bool
+    ensures { result ≡ is_going_descriptor ((custody_of custody.now).descriptor at.process at.number) }
 {
     matches!(
-        custody.descriptor(process, number),
+        custody.descriptor(at.process, at.number),
         DescriptorUse::Going { .. }
     )
 }
@@ -95,11 +98,14 @@ fn is_due(custody: &Custody, cpu: u32, what: What) -> bool
     }
 }
 
-/// Whether a processor runs a process, and holds its descriptor of this number.
-fn holds_seg(custody: &Custody, cpu: u32, process: u32, number: u32) -> bool
-    ensures { result ≡ holds_seg (custody_of custody.now) cpu process number }
+/// Whether a processor holds this: of a descriptor, whether it runs its process, and holds the number.
+fn holds(custody: &Custody, cpu: u32, held: Held) -> bool
+    ensures { result ≡ holds (custody_of custody.now) cpu held }
 {
-    runs(custody, cpu, process) && custody.holds_seg(cpu, number)
+    match held {
+        Held::Descriptor(at) => runs(custody, cpu, at.process) && custody.holds_seg(cpu, at.number),
+        Held::Frame(frame) => custody.holds_page(cpu, frame),
+    }
 }
 
 /// Whether a processor's process has had so many command entries since its load, and no try that goes on as the last.
@@ -126,25 +132,10 @@ fn seat_says(custody: &Custody, reason: SeatReason) -> bool
         SeatReason::Due { what, cpu } => is_due(custody, cpu, what),
         SeatReason::NoneDue { cpu } => custody.due_of(cpu).is_none(),
         SeatReason::OtherDue { cpu, due, .. } => is_due(custody, cpu, due),
-        SeatReason::HoldsSegAlready {
-            cpu,
-            number,
-            process,
+        SeatReason::HoldsAlready { cpu, held } | SeatReason::Holds { cpu, held } => {
+            holds(custody, cpu, held)
         }
-        | SeatReason::HoldsSeg {
-            cpu,
-            number,
-            process,
-        } => holds_seg(custody, cpu, process, number),
-        SeatReason::HoldsPageAlready { cpu, frame } | SeatReason::HoldsPage { cpu, frame } => {
-            custody.holds_page(cpu, frame)
-        }
-        SeatReason::LacksSeg {
-            cpu,
-            number,
-            process,
-        } => !holds_seg(custody, cpu, process, number),
-        SeatReason::LacksPage { cpu, frame } => !custody.holds_page(cpu, frame),
+        SeatReason::Lacks { cpu, held } => !holds(custody, cpu, held),
         SeatReason::Early {
             process,
             count,
@@ -165,7 +156,8 @@ fn is_front(custody: &Custody, process: u32) -> bool
 
 /// Whether what is said of the ready list is so.
 fn ready_says(store: &FlatStore, custody: &Custody, reason: ReadyReason) -> bool
-    ensures { (p : Plan) (s : Store) → Shows p store.now s → Decides result (ReadySays s (custody_of custody.now) reason) }
+    ensures { (p : Plan) (s : Store) → Shows p store.now s
+        → Decides result (ReadySays s (custody_of custody.now) reason) }
 {
     match reason {
         ReadyReason::Empty => custody.front().is_none(),
@@ -203,19 +195,19 @@ fn frame_says(custody: &Custody, reason: FrameReason) -> bool
     ensures { Decides result (FrameSays (custody_of custody.now) reason) }
 {
     match reason {
-        FrameReason::HasPage { uid, page, frame }
-        | FrameReason::Bound { frame, page, uid }
-        | FrameReason::PageIn { page, uid, frame } => is_in(custody, uid, page, frame),
-        FrameReason::HasRead { uid, page, frame }
-        | FrameReason::Read { frame, page, uid }
-        | FrameReason::PageRead { page, uid, frame } => is_read_into(custody, uid, page, frame),
+        FrameReason::HasPage { page, frame }
+        | FrameReason::Bound { frame, page }
+        | FrameReason::PageIn { page, frame } => is_in(custody, page, frame),
+        FrameReason::HasRead { page, frame }
+        | FrameReason::Read { frame, page }
+        | FrameReason::PageRead { page, frame } => is_read_into(custody, page, frame),
         FrameReason::NotRead { frame } => {
             !matches!(custody.frame(frame), FrameUse::Started { .. })
         }
         FrameReason::NoPage { frame } => bound_page(custody.frame(frame)).is_none(),
         FrameReason::Going { frame } => frame_goes(custody, frame),
         FrameReason::Stays { frame } => !frame_goes(custody, frame),
-        FrameReason::OtherPage { frame, at, of, .. } => is_in(custody, of, at, frame),
+        FrameReason::OtherPage { frame, other, .. } => is_in(custody, other, frame),
         FrameReason::Unnamed { what, frame } => frame_is_unnamed(custody, what, frame),
     }
 }
@@ -231,23 +223,20 @@ fn stands_for(store: &FlatStore, process: u32, number: u32, uid: u32) -> bool
 }
 
 /// Whether a descriptor is on its way out, and isn't named.
-fn descriptor_is_unnamed(custody: &Custody, what: What, process: u32, number: u32) -> bool
-    ensures { Decides result (DescriptorIsUnnamed (custody_of custody.now) what process number) }
+fn descriptor_is_unnamed(custody: &Custody, what: What, at: DescriptorAt) -> bool
+    ensures { Decides result (DescriptorIsUnnamed (custody_of custody.now) what at.process at.number) }
 {
-    descriptor_goes(custody, process, number)
-        && !names_descriptor(what, custody.descriptor(process, number))
+    descriptor_goes(custody, at)
+        && !names_descriptor(what, custody.descriptor(at.process, at.number))
 }
 
 /// Whether what is said of a descriptor is so.
 fn descriptor_says(store: &FlatStore, custody: &Custody, reason: DescriptorReason) -> bool
-    ensures { (p : Plan) (s : Store) → Shows p store.now s → Decides result (DescriptorSays s (custody_of custody.now) reason) }
+    ensures { (p : Plan) (s : Store) → Shows p store.now s
+        → Decides result (DescriptorSays s (custody_of custody.now) reason) }
 {
     match reason {
-        DescriptorReason::Leads {
-            number,
-            process,
-            uid,
-        } => leads_to(custody, process, number, uid),
+        DescriptorReason::Leads { descriptor, uid } => leads_to(custody, descriptor, uid),
         DescriptorReason::Unknown { number, process } => store.known(process, number).is_none(),
         DescriptorReason::StandsFor {
             number,
@@ -255,17 +244,13 @@ fn descriptor_says(store: &FlatStore, custody: &Custody, reason: DescriptorReaso
             known,
             ..
         } => stands_for(store, process, number, known),
-        DescriptorReason::Connected { number, process } => is_connected(custody, process, number),
-        DescriptorReason::Unconnected { number, process } => {
-            !is_connected(custody, process, number)
+        DescriptorReason::Connected(descriptor) => is_connected(custody, descriptor),
+        DescriptorReason::Unconnected(descriptor) => !is_connected(custody, descriptor),
+        DescriptorReason::Going(descriptor) => descriptor_goes(custody, descriptor),
+        DescriptorReason::Stays(descriptor) => !descriptor_goes(custody, descriptor),
+        DescriptorReason::Unnamed { what, descriptor } => {
+            descriptor_is_unnamed(custody, what, descriptor)
         }
-        DescriptorReason::Going { number, process } => descriptor_goes(custody, process, number),
-        DescriptorReason::Stays { number, process } => !descriptor_goes(custody, process, number),
-        DescriptorReason::Unnamed {
-            what,
-            number,
-            process,
-        } => descriptor_is_unnamed(custody, what, process, number),
         DescriptorReason::NothingGoes => !custody.something_goes(),
     }
 }
@@ -275,19 +260,12 @@ fn effect_says(custody: &Custody, reason: EffectReason) -> bool
     ensures { Decides result (EffectSays (custody_of custody.now) reason) }
 {
     match reason {
-        EffectReason::AclSeg { number, process }
-        | EffectReason::TerminateSeg { number, process }
-        | EffectReason::EndSeg { number, process }
-        | EffectReason::DeleteSeg { number, process } => is_connected(custody, process, number),
-        EffectReason::DeletePage { page, uid, frame }
-        | EffectReason::PastPage { page, uid, frame }
-        | EffectReason::CutPage { page, uid, frame } => is_in(custody, uid, page, frame),
-        EffectReason::DeleteRead { page, uid, frame }
-        | EffectReason::PastRead { page, uid, frame }
-        | EffectReason::CutRead { page, uid, frame } => is_read_into(custody, uid, page, frame),
+        EffectReason::Connected { descriptor, .. } => is_connected(custody, descriptor),
         EffectReason::DeleteActive { uid } | EffectReason::LengthActive { uid } => {
             custody.is_active(uid)
         }
+        EffectReason::InFrame { page, frame, .. } => is_in(custody, page, frame),
+        EffectReason::BeingRead { page, frame, .. } => is_read_into(custody, page, frame),
     }
 }
 
@@ -306,7 +284,7 @@ pub fn is_still_so(store: &FlatStore, custody: &Custody, reason: &Reason) -> boo
         Reason::Active(reason) => active_says(store, custody, reason),
         Reason::Frame(reason) => frame_says(custody, reason),
         Reason::Descriptor(reason) => descriptor_says(store, custody, reason),
-        Reason::Command(CommandReason::Stored { page, uid, .. }) => store.is_stored(uid, page),
+        Reason::Command(CommandReason::Stored { page, .. }) => store.is_stored(page.uid, page.page),
         Reason::Command(_) => false,
         Reason::Effect(reason) => effect_says(custody, reason),
     }

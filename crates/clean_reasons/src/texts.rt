@@ -1,11 +1,13 @@
+ghost use Rattle.std.specs.Fmt.{WritesOnOk};
 ghost use Rattle.std.specs.Prelude.{◌≡◌, Some};
-ghost use Rattle.clean_reasons.specs.Texts.{absent_text, active_text, command_text, descriptor_text, effect_text};
-ghost use Rattle.clean_reasons.specs.Texts.{frame_text, pool_pages, ready_text, reason_text, seat_text, what_text};
-ghost use Rattle.clean_reasons.specs.Texts.{word_text};
+ghost use Rattle.clean_reasons.specs.Texts.{absent_text, active_text, command_at_text, command_text};
+ghost use Rattle.clean_reasons.specs.Texts.{descriptor_at_text, descriptor_text, effect_text, frame_text, held_text};
+ghost use Rattle.clean_reasons.specs.Texts.{loss_text, own_page_text, page_of_text, pool_pages, ready_text};
+ghost use Rattle.clean_reasons.specs.Texts.{reason_text, seat_text, spot_text, taker_text, what_text, word_text};
 
 use crate::reasons::{
-    Absent, ActiveReason, CommandReason, CommandWord, DescriptorReason, EffectReason, FrameReason,
-    ReadyReason, Reason, SeatReason,
+    Absent, ActiveReason, CommandAt, CommandReason, CommandWord, DescriptorAt, DescriptorReason,
+    EffectReason, FrameReason, Held, Loss, PageOf, ReadyReason, Reason, SeatReason, Taker,
 };
 use assoc_mem::What;
 use std::fmt;
@@ -27,6 +29,64 @@ impl fmt::Display for WhatText {
     }
 }
 
+impl fmt::Display for DescriptorAt {
+    ghost output = { λ d. Some (descriptor_at_text d) };
+
+    fn fmt<W: fmt::Write>(&self, f: &mut fmt::Formatter<W>) -> fmt::Result {
+        let DescriptorAt { process, number } = *self;
+        write!(f, "descriptor {number} of process {process}")
+    }
+}
+
+impl fmt::Display for PageOf {
+    ghost output = { λ p. Some (page_of_text p) };
+
+    fn fmt<W: fmt::Write>(&self, f: &mut fmt::Formatter<W>) -> fmt::Result {
+        let PageOf { uid, page } = *self;
+        write!(f, "page {page} of uid {uid}")
+    }
+}
+
+impl fmt::Display for CommandAt {
+    ghost output = { λ c. Some (command_at_text c) };
+
+    fn fmt<W: fmt::Write>(&self, f: &mut fmt::Formatter<W>) -> fmt::Result {
+        let CommandAt { process, place } = *self;
+        write!(f, "command {place} of process {process}")
+    }
+}
+
+/// Where a page is: in a frame, or being read into one.
+#[derive(Clone, Copy)]
+enum Spot {
+    In(u32),
+    ReadInto(u32),
+}
+
+impl fmt::Display for Spot {
+    ghost output = { λ s. Some (spot_text s) };
+
+    #[tactic(auto, unfolding(crate::specs::Texts::spot_text))]
+    fn fmt<W: fmt::Write>(&self, f: &mut fmt::Formatter<W>) -> fmt::Result {
+        match self {
+            Spot::In(frame) => write!(f, "in frame {frame}"),
+            Spot::ReadInto(frame) => write!(f, "being read into frame {frame}"),
+        }
+    }
+}
+
+impl fmt::Display for Held {
+    ghost output = { λ h. Some (held_text h) };
+
+    #[tactic(auto, unfolding(crate::specs::Texts::held_text))]
+    fn fmt<W: fmt::Write>(&self, f: &mut fmt::Formatter<W>) -> fmt::Result {
+        match self {
+            Held::Descriptor(descriptor) => write!(f, "{descriptor}"),
+            Held::Frame(frame) => write!(f, "frame {frame}"),
+        }
+    }
+}
+
 /// How many pages the page tables of a pool have room for.
 fn pool_pages(pool: u32) -> u32
     ensures { result ≡ pool_pages pool }
@@ -42,28 +102,37 @@ fn pool_pages(pool: u32) -> u32
     }
 }
 
+impl CommandWord {
+    /// The word itself.
+    #[tactic(auto, unfolding(crate::specs::Texts::word_text))]
+    fn as_str(self) -> &'static str
+        ensures { result.now ≡ word_text self }
+    {
+        match self {
+            CommandWord::MkDir => "mkdir",
+            CommandWord::MkSeg => "mkseg",
+            CommandWord::Initiate => "initiate",
+            CommandWord::Terminate => "terminate",
+            CommandWord::Read => "read",
+            CommandWord::Write => "write",
+            CommandWord::Add => "add",
+            CommandWord::Await => "await",
+            CommandWord::Acl => "acl",
+            CommandWord::Length => "length",
+            CommandWord::Truncate => "truncate",
+            CommandWord::Delete => "delete",
+            CommandWord::Move => "move",
+            CommandWord::Status => "status",
+            CommandWord::End => "end",
+        }
+    }
+}
+
 impl fmt::Display for CommandWord {
     ghost output = { λ w. Some (word_text w) };
 
-    #[tactic(auto, unfolding(crate::specs::Texts::word_text))]
     fn fmt<W: fmt::Write>(&self, f: &mut fmt::Formatter<W>) -> fmt::Result {
-        match self {
-            CommandWord::MkDir => write!(f, "mkdir"),
-            CommandWord::MkSeg => write!(f, "mkseg"),
-            CommandWord::Initiate => write!(f, "initiate"),
-            CommandWord::Terminate => write!(f, "terminate"),
-            CommandWord::Read => write!(f, "read"),
-            CommandWord::Write => write!(f, "write"),
-            CommandWord::Add => write!(f, "add"),
-            CommandWord::Await => write!(f, "await"),
-            CommandWord::Acl => write!(f, "acl"),
-            CommandWord::Length => write!(f, "length"),
-            CommandWord::Truncate => write!(f, "truncate"),
-            CommandWord::Delete => write!(f, "delete"),
-            CommandWord::Move => write!(f, "move"),
-            CommandWord::Status => write!(f, "status"),
-            CommandWord::End => write!(f, "end"),
-        }
+        f.write_str(self.as_str())
     }
 }
 
@@ -106,42 +175,12 @@ impl fmt::Display for SeatReason {
                 due = WhatText(*due),
                 what = WhatText(*what)
             ),
-            SeatReason::HoldsSegAlready {
-                cpu,
-                number,
-                process,
-            } => write!(
+            SeatReason::HoldsAlready { cpu, held } => write!(
                 f,
-                "processor {cpu} holds descriptor {number} of process {process} already"
+                "processor {cpu} holds {held} already"
             ),
-            SeatReason::HoldsPageAlready { cpu, frame } => write!(
-                f,
-                "processor {cpu} holds frame {frame} already"
-            ),
-            SeatReason::HoldsSeg {
-                cpu,
-                number,
-                process,
-            } => write!(
-                f,
-                "processor {cpu} holds descriptor {number} of process {process}"
-            ),
-            SeatReason::HoldsPage { cpu, frame } => write!(
-                f,
-                "processor {cpu} holds frame {frame}"
-            ),
-            SeatReason::LacksSeg {
-                cpu,
-                number,
-                process,
-            } => write!(
-                f,
-                "processor {cpu} doesn't hold descriptor {number} of process {process}"
-            ),
-            SeatReason::LacksPage { cpu, frame } => write!(
-                f,
-                "processor {cpu} doesn't hold frame {frame}"
-            ),
+            SeatReason::Holds { cpu, held } => write!(f, "processor {cpu} holds {held}"),
+            SeatReason::Lacks { cpu, held } => write!(f, "processor {cpu} doesn't hold {held}"),
             SeatReason::Early {
                 process,
                 count,
@@ -199,54 +238,44 @@ impl fmt::Display for ActiveReason {
     }
 }
 
+/// Writes that a segment has a page there.
+fn write_own_page<W: fmt::Write>(f: &mut fmt::Formatter<W>, page: PageOf, spot: Spot) -> fmt::Result
+    ensures { WritesOnOk W.write_str_gives f.old result (own_page_text page spot) f.new }
+{
+    let PageOf { uid, page } = page;
+    write!(f, "uid {uid} has its page {page} {spot}")
+}
+
 impl fmt::Display for FrameReason {
     ghost output = { λ r. Some (frame_text r) };
 
     #[tactic(auto, unfolding(crate::specs::Texts::frame_text))]
     fn fmt<W: fmt::Write>(&self, f: &mut fmt::Formatter<W>) -> fmt::Result {
-        match self {
-            FrameReason::HasPage { uid, page, frame } => write!(
+        match *self {
+            FrameReason::HasPage { page, frame } => write_own_page(f, page, Spot::In(frame)),
+            FrameReason::HasRead { page, frame } => write_own_page(f, page, Spot::ReadInto(frame)),
+            FrameReason::Bound { frame, page } => write!(f, "frame {frame} has {page}"),
+            FrameReason::Read { frame, page } => write!(
                 f,
-                "uid {uid} has its page {page} in frame {frame}"
+                "frame {frame} is being read into, for {page}"
             ),
-            FrameReason::HasRead { uid, page, frame } => write!(
+            FrameReason::PageIn { page, frame } => write!(f, "{page} is in frame {frame}"),
+            FrameReason::PageRead { page, frame } => write!(
                 f,
-                "uid {uid} has its page {page} being read into frame {frame}"
-            ),
-            FrameReason::Bound { frame, page, uid } => write!(
-                f,
-                "frame {frame} has page {page} of uid {uid}"
-            ),
-            FrameReason::Read { frame, page, uid } => write!(
-                f,
-                "frame {frame} is being read into, for page {page} of uid {uid}"
-            ),
-            FrameReason::PageIn { page, uid, frame } => write!(
-                f,
-                "page {page} of uid {uid} is in frame {frame}"
-            ),
-            FrameReason::PageRead { page, uid, frame } => write!(
-                f,
-                "page {page} of uid {uid} is being read into frame {frame}"
+                "{page} is being read into frame {frame}"
             ),
             FrameReason::NotRead { frame } => write!(f, "frame {frame} isn't being read into"),
             FrameReason::NoPage { frame } => write!(f, "frame {frame} has no page"),
             FrameReason::Going { frame } => write!(f, "frame {frame} is going"),
             FrameReason::Stays { frame } => write!(f, "frame {frame} isn't going"),
-            FrameReason::OtherPage {
-                frame,
-                at,
-                of,
-                page,
-                uid,
-            } => write!(
+            FrameReason::OtherPage { frame, other, page } => write!(
                 f,
-                "frame {frame} has page {at} of uid {of}, not page {page} of uid {uid}"
+                "frame {frame} has {other}, not {page}"
             ),
             FrameReason::Unnamed { what, frame } => write!(
                 f,
                 "{what} doesn't name frame {frame}, which is going",
-                what = WhatText(*what)
+                what = WhatText(what)
             ),
         }
     }
@@ -258,13 +287,9 @@ impl fmt::Display for DescriptorReason {
     #[tactic(auto, unfolding(crate::specs::Texts::descriptor_text))]
     fn fmt<W: fmt::Write>(&self, f: &mut fmt::Formatter<W>) -> fmt::Result {
         match self {
-            DescriptorReason::Leads {
-                number,
-                process,
-                uid,
-            } => write!(
+            DescriptorReason::Leads { descriptor, uid } => write!(
                 f,
-                "descriptor {number} of process {process} leads to uid {uid}"
+                "{descriptor} leads to uid {uid}"
             ),
             DescriptorReason::Unknown { number, process } => write!(
                 f,
@@ -279,32 +304,16 @@ impl fmt::Display for DescriptorReason {
                 f,
                 "number {number} of process {process} stands for uid {known}, not for uid {uid}"
             ),
-            DescriptorReason::Connected { number, process } => write!(
+            DescriptorReason::Connected(descriptor) => write!(f, "{descriptor} is connected"),
+            DescriptorReason::Unconnected(descriptor) => write!(f, "{descriptor} isn't connected"),
+            DescriptorReason::Going(descriptor) => write!(f, "{descriptor} is going"),
+            DescriptorReason::Stays(descriptor) => write!(f, "{descriptor} isn't going"),
+            DescriptorReason::Unnamed { what, descriptor } => write!(
                 f,
-                "descriptor {number} of process {process} is connected"
-            ),
-            DescriptorReason::Unconnected { number, process } => write!(
-                f,
-                "descriptor {number} of process {process} isn't connected"
-            ),
-            DescriptorReason::Going { number, process } => write!(
-                f,
-                "descriptor {number} of process {process} is going"
-            ),
-            DescriptorReason::Stays { number, process } => write!(
-                f,
-                "descriptor {number} of process {process} isn't going"
-            ),
-            DescriptorReason::Unnamed {
-                what,
-                number,
-                process,
-            } => write!(
-                f,
-                "{what} doesn't name descriptor {number} of process {process}, which is going",
+                "{what} doesn't name {descriptor}, which is going",
                 what = WhatText(*what)
             ),
-            DescriptorReason::NothingGoes => write!(f, "nothing is going"),
+            DescriptorReason::NothingGoes => f.write_str("nothing is going"),
         }
     }
 }
@@ -319,32 +328,56 @@ impl fmt::Display for CommandReason {
                 f,
                 "process {process} has no command left"
             ),
-            CommandReason::Refused {
-                place,
-                process,
-                reply,
-            } => write!(
+            CommandReason::Refused { at, reply } => write!(
                 f,
-                "command {place} of process {process} is answered {reply}, and so has no frame"
+                "{at} is answered {reply}, and so has no frame"
             ),
-            CommandReason::Stored {
-                place,
-                process,
-                page,
-                uid,
-            } => write!(
+            CommandReason::Stored { at, page } => write!(
                 f,
-                "command {place} of process {process} needs a frame, for page {page} of uid {uid} is stored"
+                "{at} needs a frame, for {page} is stored"
             ),
-            CommandReason::Tree {
-                place,
-                process,
-                word,
-            } => write!(
-                f,
-                "command {place} of process {process} is {word}, and so has no frame"
-            ),
+            CommandReason::Tree { at, word } => write!(f, "{at} is {word}, and so has no frame"),
         }
+    }
+}
+
+impl Taker {
+    /// The first word of the command.
+    #[tactic(auto, unfolding(crate::specs::Texts::taker_text))]
+    fn as_str(self) -> &'static str
+        ensures { result.now ≡ taker_text self }
+    {
+        match self {
+            Taker::Acl => "acl",
+            Taker::Terminate => "terminate",
+            Taker::End => "end",
+            Taker::Delete => "delete",
+        }
+    }
+}
+
+impl fmt::Display for Taker {
+    ghost output = { λ t. Some (taker_text t) };
+
+    fn fmt<W: fmt::Write>(&self, f: &mut fmt::Formatter<W>) -> fmt::Result {
+        f.write_str(self.as_str())
+    }
+}
+
+/// Writes that a page is taken away while it is there.
+#[tactic(auto, unfolding(crate::specs::Texts::loss_text))]
+fn write_loss<W: fmt::Write>(
+    f: &mut fmt::Formatter<W>,
+    loss: Loss,
+    page: PageOf,
+    spot: Spot,
+) -> fmt::Result
+    ensures { WritesOnOk W.write_str_gives f.old result (loss_text loss page spot) f.new }
+{
+    match loss {
+        Loss::Deleted => write!(f, "delete takes effect while {page} is {spot}"),
+        Loss::Past => write!(f, "truncate drops {page} while it is {spot}"),
+        Loss::Cut => write!(f, "truncate leaves {page} all zeros while it is {spot}"),
     }
 }
 
@@ -353,31 +386,10 @@ impl fmt::Display for EffectReason {
 
     #[tactic(auto, unfolding(crate::specs::Texts::effect_text))]
     fn fmt<W: fmt::Write>(&self, f: &mut fmt::Formatter<W>) -> fmt::Result {
-        match self {
-            EffectReason::AclSeg { number, process } => write!(
-                f,
-                "acl takes effect while descriptor {number} of process {process} is connected"
-            ),
-            EffectReason::TerminateSeg { number, process } => write!(
-                f,
-                "terminate takes effect while descriptor {number} of process {process} is connected"
-            ),
-            EffectReason::EndSeg { number, process } => write!(
-                f,
-                "end takes effect while descriptor {number} of process {process} is connected"
-            ),
-            EffectReason::DeletePage { page, uid, frame } => write!(
-                f,
-                "delete takes effect while page {page} of uid {uid} is in frame {frame}"
-            ),
-            EffectReason::DeleteRead { page, uid, frame } => write!(
-                f,
-                "delete takes effect while page {page} of uid {uid} is being read into frame {frame}"
-            ),
-            EffectReason::DeleteSeg { number, process } => write!(
-                f,
-                "delete takes effect while descriptor {number} of process {process} is connected"
-            ),
+        match *self {
+            EffectReason::Connected { taker, descriptor } => {
+                write!(f, "{taker} takes effect while {descriptor} is connected")
+            }
             EffectReason::DeleteActive { uid } => write!(
                 f,
                 "delete takes effect while uid {uid} is active"
@@ -386,22 +398,12 @@ impl fmt::Display for EffectReason {
                 f,
                 "length takes effect while uid {uid} is active"
             ),
-            EffectReason::PastPage { page, uid, frame } => write!(
-                f,
-                "truncate drops page {page} of uid {uid} while it is in frame {frame}"
-            ),
-            EffectReason::PastRead { page, uid, frame } => write!(
-                f,
-                "truncate drops page {page} of uid {uid} while it is being read into frame {frame}"
-            ),
-            EffectReason::CutPage { page, uid, frame } => write!(
-                f,
-                "truncate leaves page {page} of uid {uid} all zeros while it is in frame {frame}"
-            ),
-            EffectReason::CutRead { page, uid, frame } => write!(
-                f,
-                "truncate leaves page {page} of uid {uid} all zeros while it is being read into frame {frame}"
-            ),
+            EffectReason::InFrame { loss, page, frame } => {
+                write_loss(f, loss, page, Spot::In(frame))
+            }
+            EffectReason::BeingRead { loss, page, frame } => {
+                write_loss(f, loss, page, Spot::ReadInto(frame))
+            }
         }
     }
 }

@@ -16,6 +16,7 @@ use Rattle.flat_model.specs.Moves.{is_held_back}
 use Rattle.flat_model.specs.Pages.{is_stored, is_zero_page}
 use Rattle.flat_model.specs.Rooms.{room_for}
 use Rattle.flat_model.specs.Store.{Store, known_uid, progress_of, records_of}
+use Rattle.legal_reasons.specs.declared.reasons.CommandAt.{CommandAt}
 use Rattle.legal_reasons.specs.declared.reasons.Reason.{Reason}
 use Rattle.legal_reasons.specs.declared.reasons.Reason.TheVariants as reason
 
@@ -52,15 +53,15 @@ pub record IsFirstRoom (p : Plan) (s : Store) (uid volume : ℕ) : Type 0 where
 -- whether the sentence of a reason speaks of a state
 abbrev pub has_since : Reason → Bool
 has_since (reason.NoProcess k) = false
-has_since (reason.DeviceReference k i r) = false
-has_since (reason.DeviceRefused k i r) = false
-has_since (reason.DeviceOther k i r) = false
-has_since (reason.Due k i r) = false
-has_since (reason.DueOrDevice k i r) = false
-has_since (reason.MoveFirst u v k i) = false
-has_since (reason.MoveDevice u v k i) = false
-has_since (reason.MoveReply k i r) = false
-has_since (reason.MoveZero k i) = false
+has_since (reason.DeviceReference c r) = false
+has_since (reason.DeviceRefused c r) = false
+has_since (reason.DeviceOther c r) = false
+has_since (reason.Due c r) = false
+has_since (reason.DueOrDevice c r) = false
+has_since (reason.MoveFirst u v c) = false
+has_since (reason.MoveDevice u v c) = false
+has_since (reason.MoveReply c r) = false
+has_since (reason.MoveZero c) = false
 has_since _ = true
 
 -- The sentence of a reason is true in a state; of a reason whose sentence speaks of no state that isn't so.
@@ -72,27 +73,31 @@ Says p s (reason.DeviceFault k) = (progress_of s k).faulted ≡ false
 Says p s (reason.Unstored u q) = is_stored s.stored u q ≡ false
 Says p s (reason.WordAt u q at) = HasWordAt s u q at
 Says p s (reason.Unended k) = (progress_of s k).ended ≡ false
-Says p s (reason.MoveCommand k i) = IsNext s k i
+Says p s (reason.MoveCommand c) = IsNext s c.process c.place
 Says p s (reason.Unknown k n) = known_uid s k n ≡ None
 Says p s (reason.StandsFor k n u given) = known_uid s k n ≡ Some u
 Says p s (reason.MoveStored u q) = is_stored s.stored u q ≡ true
 Says p s (reason.MoveRecord u v) = HasFreeRecord p s u v
 Says p s (reason.MoveNone u) = IsRoomless p s u
 Says p s (reason.MoveOther u v) = IsFirstRoom p s u v
-Says p s (reason.PartSummary k i) = IsNext s k i
-Says p s (reason.PartEnd k i) = IsNext s k i
+Says p s (reason.PartSummary c) = IsNext s c.process c.place
+Says p s (reason.PartEnd c) = IsNext s c.process c.place
 Says p s (reason.Zeros u q) = MayRelease s u q
 Says p s _ = ⊥
 
 -- ---- the reasons that speak of a command
+
+-- the command at a place of a process
+abbrev pub command_of : Plan → CommandAt → Option Command
+command_of p c = command_at p c.process c.place
 
 -- the command at a place of a process is there, and is answered so
 abbrev pub IsDueOf : Plan → Store → ℕ → Option Command → Reply → Type 0
 IsDueOf p s k None r = ⊥
 IsDueOf p s k (Some c) r = reply_to_command p s k c ≡ r
 
-abbrev pub IsDue : Plan → Store → ℕ → ℕ → Reply → Type 0
-IsDue p s k i r = IsDueOf p s k (command_at p k i) r
+abbrev pub IsDue : Plan → Store → CommandAt → Reply → Type 0
+IsDue p s c r = IsDueOf p s c.process (command_of p c) r
 
 -- the reference that a command at a place of a process makes
 abbrev pub reference_in : Option Command → Option Reference
@@ -144,29 +149,41 @@ IsSaid p s (reason.Ended k) = (progress_of s k).ended ≡ true
 IsSaid p s (reason.Next k next given) = IsNext s k next
 IsSaid p s (reason.Kept k) = (progress_of s 0).ended ≡ false
 IsSaid p s (reason.DeviceFault k) = (progress_of s k).faulted ≡ false
-IsSaid p s (reason.DeviceReference k i r) = IsDue p s k i r × (is_reference (command_at p k i) ≡ true)
-IsSaid p s (reason.DeviceRefused k i r) = IsDue p s k i r × (is_resize (command_at p k i) ≡ true)
-IsSaid p s (reason.DeviceOther k i r) = IsDue p s k i r × (is_reference (command_at p k i) ≡ false)
-IsSaid p s (reason.Due k i r) = IsDue p s k i r
-IsSaid p s (reason.DueOrDevice k i r) =
-    IsDue p s k i r × ((progress_of s k).faulted ≡ true) × (may_fail_at (command_at p k i) r ≡ true)
-IsSaid p s (reason.MoveFirst u v k i) = MustMoveAt p s k (command_at p k i) u v
-IsSaid p s (reason.MoveDevice u v k i) = MustMoveAt p s k (command_at p k i) u v × ((progress_of s k).faulted ≡ true)
+IsSaid p s (reason.DeviceReference c r) = IsDue p s c r × (is_reference (command_of p c) ≡ true)
+IsSaid p s (reason.DeviceRefused c r) = IsDue p s c r × (is_resize (command_of p c) ≡ true)
+IsSaid p s (reason.DeviceOther c r) = IsDue p s c r × (is_reference (command_of p c) ≡ false)
+IsSaid p s (reason.Due c r) = IsDue p s c r
+IsSaid p s (reason.DueOrDevice c r) =
+    IsDue p s c r × ((progress_of s c.process).faulted ≡ true) × (may_fail_at (command_of p c) r ≡ true)
+IsSaid p s (reason.MoveFirst u v c) = MustMoveAt p s c.process (command_of p c) u v
+IsSaid p s (reason.MoveDevice u v c) =
+    MustMoveAt p s c.process (command_of p c) u v × ((progress_of s c.process).faulted ≡ true)
 IsSaid p s (reason.Unstored u q) = is_stored s.stored u q ≡ false
 IsSaid p s (reason.WordAt u q at) = (is_zero_page s.words u q ≡ false) × (q < 4194304 → HasWordAt s u q at)
 IsSaid p s (reason.Unended k) = (progress_of s k).ended ≡ false
-IsSaid p s (reason.MoveCommand k i) = IsNext s k i
+IsSaid p s (reason.MoveCommand c) = IsNext s c.process c.place
 IsSaid p s (reason.Unknown k n) = known_uid s k n ≡ None
 IsSaid p s (reason.StandsFor k n u given) = (known_uid s k n ≡ Some u) × (u ≢ given)
-IsSaid p s (reason.MoveReply k i r) = IsDue p s k i r
-IsSaid p s (reason.MoveZero k i) = LeavesZero s k (reference_at p k i)
+IsSaid p s (reason.MoveReply c r) = IsDue p s c r
+IsSaid p s (reason.MoveZero c) = LeavesZero s c.process (reference_at p c.process c.place)
 IsSaid p s (reason.MoveStored u q) = is_stored s.stored u q ≡ true
 IsSaid p s (reason.MoveRecord u v) = HasFreeRecord p s u v
 IsSaid p s (reason.MoveNone u) = IsRoomless p s u
 IsSaid p s (reason.MoveOther u v) = IsFirstRoom p s u v
-IsSaid p s (reason.PartSummary k i) = IsNext s k i
-IsSaid p s (reason.PartEnd k i) = IsNext s k i
+IsSaid p s (reason.PartSummary c) = IsNext s c.process c.place
+IsSaid p s (reason.PartEnd c) = IsNext s c.process c.place
 IsSaid p s (reason.Zeros u q) = MayRelease s u q
+
+-- the reason is one of a book that isn't complete: at the end of a listing, or at its summary
+abbrev pub is_part : Bool → Reason → Bool
+is_part true (reason.PartEnd c) = true
+is_part false (reason.PartSummary c) = true
+is_part _ _ = false
+
+-- the reason is that a stored page is all zeros
+abbrev pub is_zeros : Reason → Bool
+is_zeros (reason.Zeros u q) = true
+is_zeros _ = false
 
 -- ---- what a reason names
 
@@ -177,21 +194,21 @@ process_in (reason.Ended k) = Some k
 process_in (reason.Next k next given) = Some k
 process_in (reason.Kept k) = Some k
 process_in (reason.DeviceFault k) = Some k
-process_in (reason.DeviceReference k i r) = Some k
-process_in (reason.DeviceRefused k i r) = Some k
-process_in (reason.DeviceOther k i r) = Some k
-process_in (reason.Due k i r) = Some k
-process_in (reason.DueOrDevice k i r) = Some k
-process_in (reason.MoveFirst u v k i) = Some k
-process_in (reason.MoveDevice u v k i) = Some k
+process_in (reason.DeviceReference c r) = Some c.process
+process_in (reason.DeviceRefused c r) = Some c.process
+process_in (reason.DeviceOther c r) = Some c.process
+process_in (reason.Due c r) = Some c.process
+process_in (reason.DueOrDevice c r) = Some c.process
+process_in (reason.MoveFirst u v c) = Some c.process
+process_in (reason.MoveDevice u v c) = Some c.process
 process_in (reason.Unended k) = Some k
-process_in (reason.MoveCommand k i) = Some k
+process_in (reason.MoveCommand c) = Some c.process
 process_in (reason.Unknown k n) = Some k
 process_in (reason.StandsFor k n u given) = Some k
-process_in (reason.MoveReply k i r) = Some k
-process_in (reason.MoveZero k i) = Some k
-process_in (reason.PartSummary k i) = Some k
-process_in (reason.PartEnd k i) = Some k
+process_in (reason.MoveReply c r) = Some c.process
+process_in (reason.MoveZero c) = Some c.process
+process_in (reason.PartSummary c) = Some c.process
+process_in (reason.PartEnd c) = Some c.process
 process_in _ = None
 
 -- the segment that a reason is about, where it is about no process
@@ -216,13 +233,13 @@ page_in _ = None
 -- of the commands of a process a reason is about this one, where it is about one
 abbrev pub IsOfCommand : ℕ → Reason → Type 0
 IsOfCommand i (reason.Next k next given) = given ≡ i
-IsOfCommand i (reason.DeviceReference k j r) = j ≡ i
-IsOfCommand i (reason.DeviceRefused k j r) = j ≡ i
-IsOfCommand i (reason.DeviceOther k j r) = j ≡ i
-IsOfCommand i (reason.Due k j r) = j ≡ i
-IsOfCommand i (reason.DueOrDevice k j r) = j ≡ i
-IsOfCommand i (reason.MoveFirst u v k j) = j ≡ i
-IsOfCommand i (reason.MoveDevice u v k j) = j ≡ i
+IsOfCommand i (reason.DeviceReference c r) = c.place ≡ i
+IsOfCommand i (reason.DeviceRefused c r) = c.place ≡ i
+IsOfCommand i (reason.DeviceOther c r) = c.place ≡ i
+IsOfCommand i (reason.Due c r) = c.place ≡ i
+IsOfCommand i (reason.DueOrDevice c r) = c.place ≡ i
+IsOfCommand i (reason.MoveFirst u v c) = c.place ≡ i
+IsOfCommand i (reason.MoveDevice u v c) = c.place ≡ i
 IsOfCommand i _ = Unit {0}
 
 -- a reason is about a process, or else about a segment

@@ -7,7 +7,7 @@ ghost use Rattle.flat_store.specs.Shown.{Shows};
 ghost use Rattle.legal_reasons.specs.Reasons.{IsOfCommand, IsSaid, MustMove, process_in};
 
 use crate::going::why_not_going;
-use crate::reasons::Reason;
+use crate::reasons::{CommandAt, Reason};
 use book::Reply;
 use flat_store::{FlatStore, command_at, may_fail};
 use script::{Command, Script};
@@ -36,26 +36,15 @@ fn why_no_device(
     if !store.is_faulted(process) {
         return Reason::DeviceFault { process };
     }
+    let at = CommandAt { process, place };
     let reply = store.reply_to(script, process, command);
     if command.reference().is_some() {
-        return Reason::DeviceReference {
-            process,
-            command: place,
-            reply,
-        };
+        return Reason::DeviceReference { at, reply };
     }
     if moves_pages(command) {
-        return Reason::DeviceRefused {
-            process,
-            command: place,
-            reply,
-        };
+        return Reason::DeviceRefused { at, reply };
     }
-    Reason::DeviceOther {
-        process,
-        command: place,
-        reply,
-    }
+    Reason::DeviceOther { at, reply }
 }
 
 /// The segment that a number of a process stands for, and the first volume with room for it. `None` where it stands for
@@ -105,19 +94,12 @@ fn why_other_reply(
     ensures about { process_in result ≡ Some process }
     ensures place { IsOfCommand place result }
 {
+    let at = CommandAt { process, place };
     let reply = store.reply_to(script, process, command);
     if store.is_faulted(process) && may_fail(command, &reply) {
-        return Reason::DueOrDevice {
-            process,
-            command: place,
-            reply,
-        };
+        return Reason::DueOrDevice { at, reply };
     }
-    Reason::Due {
-        process,
-        command: place,
-        reply,
-    }
+    Reason::Due { at, reply }
 }
 
 /// Why a command of a process isn't answered with a reply other than a drive's failure.
@@ -138,20 +120,11 @@ fn why_not_reply(
     let Some((uid, volume)) = move_before(script, store, process, command) else {
         return why_other_reply(script, store, process, place, command);
     };
+    let at = CommandAt { process, place };
     if store.is_faulted(process) {
-        return Reason::MoveDevice {
-            uid,
-            volume,
-            process,
-            command: place,
-        };
+        return Reason::MoveDevice { uid, volume, at };
     }
-    Reason::MoveFirst {
-        uid,
-        volume,
-        process,
-        command: place,
-    }
+    Reason::MoveFirst { uid, volume, at }
 }
 
 /// Why the next command of a process that goes on isn't answered so.

@@ -3,9 +3,9 @@ ghost use Rattle.script.specs.Plans.{Plan};
 ghost use Rattle.flat_model.specs.Store.{Store, progress_of};
 ghost use Rattle.flat_store.specs.Shown.{Shows};
 ghost use Rattle.flat_store.specs.Zeros.{HasZeroPage};
-ghost use Rattle.legal_reasons.specs.Reasons.{HaveEnded, IsNext, IsSaid};
+ghost use Rattle.legal_reasons.specs.Reasons.{HaveEnded, IsNext, IsSaid, is_part, is_zeros};
 
-use crate::reasons::Reason;
+use crate::reasons::{CommandAt, Reason};
 use flat_store::FlatStore;
 use script::Script;
 
@@ -27,13 +27,15 @@ pub fn first_unended(script: &Script, store: &FlatStore) -> Option<(u32, u32)>
 #[tactic(auto, unfolding(crate::specs::Reasons::IsSaid))]
 pub fn why_incomplete(script: &Script, store: &FlatStore, at_end: bool) -> Option<Reason>
     ensures so { (s : Store) → Shows script.now store.now s → IfSome result (λ r. IsSaid script.now s r) }
+    ensures part { IfSome result (λ r. is_part at_end r ≡ true) }
     ensures none { (s : Store) → Shows script.now store.now s → IfNone result (HaveEnded script.now s) }
 {
-    let (process, command) = first_unended(script, store)?;
+    let (process, place) = first_unended(script, store)?;
+    let at = CommandAt { process, place };
     if at_end {
-        Some(Reason::PartEnd { process, command })
+        Some(Reason::PartEnd(at))
     } else {
-        Some(Reason::PartSummary { process, command })
+        Some(Reason::PartSummary(at))
     }
 }
 
@@ -42,6 +44,7 @@ pub fn why_incomplete(script: &Script, store: &FlatStore, at_end: bool) -> Optio
 #[tactic(auto, unfolding(crate::specs::Reasons::IsSaid))]
 pub fn why_zeros(store: &FlatStore) -> Option<Reason>
     ensures so { (p : Plan) (s : Store) → Shows p store.now s → IfSome result (λ r. IsSaid p s r) }
+    ensures zeros { IfSome result (λ r. is_zeros r ≡ true) }
     ensures none { (p : Plan) (s : Store) → Shows p store.now s → IfNone result (HasZeroPage s → ⊥) }
 {
     let (uid, page) = store.zero_page()?;

@@ -12,6 +12,6 @@ mod refusals;
 mod still;
 
 pub use ends::{first_unended, why_incomplete, why_zeros};
-pub use reasons::Reason;
+pub use reasons::{CommandAt, Reason};
 pub use refusals::why_not;
 pub use still::is_still_so;

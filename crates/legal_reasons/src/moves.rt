@@ -8,7 +8,7 @@ ghost use Rattle.legal_reasons.specs.Reasons.{HasFreeRecord, IsOf, IsSaid, is_re
 ghost use Rattle.legal_reasons.specs.Reasons.{reference_at, uid_in};
 
 use crate::going::why_not_going;
-use crate::reasons::Reason;
+use crate::reasons::{CommandAt, Reason};
 use book::Reply;
 use flat_store::{FlatStore, command_at};
 use mword::Page;
@@ -99,10 +99,7 @@ fn why_no_record(
 {
     let old = store.word(uid, reference.offset);
     if reference.kind.new_word(old).value() == 0 {
-        return Some(Reason::MoveZero {
-            process,
-            command: place,
-        });
+        return Some(Reason::MoveZero(CommandAt { process, place }));
     }
     let page = reference.offset / Page::WORDS;
     if store.is_stored(uid, page) {
@@ -139,11 +136,8 @@ fn why_not_for(
             return reason;
         }
     }
-    Reason::MoveReply {
-        process,
-        command: place,
-        reply,
-    }
+    let at = CommandAt { process, place };
+    Reason::MoveReply { at, reply }
 }
 
 /// The reference of a command that writes to a word.
@@ -175,8 +169,5 @@ pub(crate) fn why_not_moved(script: &Script, store: &FlatStore, process: u32, ui
             return why_not_for(script, store, process, place, uid, command, &reference);
         }
     }
-    Reason::MoveCommand {
-        process,
-        command: place,
-    }
+    Reason::MoveCommand(CommandAt { process, place })
 }

@@ -1,9 +1,19 @@
 ghost use Rattle.std.specs.Prelude.{◌≡◌, Some};
-ghost use Rattle.legal_reasons.specs.Texts.{reason_text};
+ghost use Rattle.std.specs.Fmt.{WritesOnOk};
+ghost use Rattle.legal_reasons.specs.Texts.{command_at_text, command_text, reason_text, segment_text};
 ghost use Rattle.legal_reasons.specs.Reasons.{has_since};
 
 use book::Reply;
 use std::fmt;
+
+/// A command of a process.
+#[derive(Clone, Copy)]
+pub struct CommandAt {
+    /// The process.
+    pub process: u32,
+    /// Its place among the commands of the process.
+    pub place: u32,
+}
 
 /// Why the flat store doesn't allow an entry, why a book isn't complete, or which page of zeros is stored (own).
 ///
@@ -35,47 +45,40 @@ pub enum Reason {
     },
     /// A reference is answered before any page is looked for.
     DeviceReference {
-        process: u32,
-        command: u32,
+        at: CommandAt,
         reply: Reply,
     },
     /// A change of a segment's size is refused, and so moves no page.
     DeviceRefused {
-        process: u32,
-        command: u32,
+        at: CommandAt,
         reply: Reply,
     },
     /// The command looks for no page.
     DeviceOther {
-        process: u32,
-        command: u32,
+        at: CommandAt,
         reply: Reply,
     },
     /// The command is answered with this reply alone.
     Due {
-        process: u32,
-        command: u32,
+        at: CommandAt,
         reply: Reply,
     },
     /// The command is answered with this reply, or with a drive's failure.
     DueOrDevice {
-        process: u32,
-        command: u32,
+        at: CommandAt,
         reply: Reply,
     },
     /// A segment must move to a volume before the command is answered.
     MoveFirst {
         uid: u32,
         volume: u32,
-        process: u32,
-        command: u32,
+        at: CommandAt,
     },
     /// A segment must move to a volume before the command is answered, unless it is with a drive's failure.
     MoveDevice {
         uid: u32,
         volume: u32,
-        process: u32,
-        command: u32,
+        at: CommandAt,
     },
     /// The page isn't stored.
     Unstored {
@@ -93,10 +96,7 @@ pub enum Reason {
         process: u32,
     },
     /// The next command of the process is neither a write nor an addition.
-    MoveCommand {
-        process: u32,
-        command: u32,
-    },
+    MoveCommand(CommandAt),
     /// The number stands for nothing in the process.
     Unknown {
         process: u32,
@@ -111,15 +111,11 @@ pub enum Reason {
     },
     /// The command is refused before a record is looked for.
     MoveReply {
-        process: u32,
-        command: u32,
+        at: CommandAt,
         reply: Reply,
     },
     /// The word that the command would leave is 0.
-    MoveZero {
-        process: u32,
-        command: u32,
-    },
+    MoveZero(CommandAt),
     /// The page is stored already.
     MoveStored {
         uid: u32,
@@ -140,15 +136,9 @@ pub enum Reason {
         volume: u32,
     },
     /// The summary begins though the process has this command before it.
-    PartSummary {
-        process: u32,
-        command: u32,
-    },
+    PartSummary(CommandAt),
     /// The listing ends though the process has this command before it.
-    PartEnd {
-        process: u32,
-        command: u32,
-    },
+    PartEnd(CommandAt),
     /// The page is stored, and all its words are 0.
     Zeros {
         uid: u32,
@@ -170,17 +160,100 @@ impl Reason {
                 | Reason::Unstored { .. }
                 | Reason::WordAt { .. }
                 | Reason::Unended { .. }
-                | Reason::MoveCommand { .. }
+                | Reason::MoveCommand(_)
                 | Reason::Unknown { .. }
                 | Reason::StandsFor { .. }
                 | Reason::MoveStored { .. }
                 | Reason::MoveRecord { .. }
                 | Reason::MoveNone { .. }
                 | Reason::MoveOther { .. }
-                | Reason::PartSummary { .. }
-                | Reason::PartEnd { .. }
+                | Reason::PartSummary(_)
+                | Reason::PartEnd(_)
                 | Reason::Zeros { .. }
         )
+    }
+}
+
+impl fmt::Display for CommandAt {
+    ghost output = { λ c. Some (command_at_text c) };
+
+    fn fmt<W: fmt::Write>(&self, f: &mut fmt::Formatter<W>) -> fmt::Result {
+        let CommandAt { process, place } = *self;
+        write!(f, "command {place} of process {process}")
+    }
+}
+
+/// Writes the text of a reason that speaks of a command's reply or of what it needs; of any other nothing.
+#[tactic(auto, unfolding(crate::specs::Texts::command_text))]
+fn write_of_command<W: fmt::Write>(f: &mut fmt::Formatter<W>, reason: Reason) -> fmt::Result
+    ensures { WritesOnOk W.write_str_gives f.old result (command_text reason) f.new }
+{
+    match reason {
+        Reason::DeviceReference { at, reply } => write!(
+            f,
+            "{at} is answered {reply}, in whose place device can't stand"
+        ),
+        Reason::DeviceRefused { at, reply } => write!(
+            f,
+            "{at} is refused with {reply}, and device stands only for its done"
+        ),
+        Reason::DeviceOther { at, reply } => write!(f, "{at} is answered {reply}, never device"),
+        Reason::Due { at, reply } => write!(f, "{at} is answered {reply}"),
+        Reason::DueOrDevice { at, reply } => write!(f, "{at} is answered {reply}, or device"),
+        Reason::MoveFirst { uid, volume, at } => write!(
+            f,
+            "uid {uid} must move to volume {volume} before {at} is answered"
+        ),
+        Reason::MoveDevice { uid, volume, at } => write!(
+            f,
+            "uid {uid} must move to volume {volume}, or {at} is answered device"
+        ),
+        Reason::MoveReply { at, reply } => write!(
+            f,
+            "{at} is answered {reply}, and so moves nothing"
+        ),
+        Reason::MoveZero(at) => write!(f, "the new word of {at} is 0"),
+        _ => Ok(()),
+    }
+}
+
+/// Writes the text of a reason that speaks of a segment, and of one that `write_of_command` has.
+#[tactic(auto, unfolding(crate::specs::Texts::segment_text))]
+fn write_of_segment<W: fmt::Write>(f: &mut fmt::Formatter<W>, reason: Reason) -> fmt::Result
+    ensures { WritesOnOk W.write_str_gives f.old result (segment_text reason) f.new }
+{
+    match reason {
+        Reason::Unstored { uid, page } => write!(f, "page {page} of uid {uid} isn't stored"),
+        Reason::WordAt { uid, page, offset } => write!(
+            f,
+            "page {page} of uid {uid} has a word other than 0 at {offset}"
+        ),
+        Reason::Unknown { process, number } => {
+            write!(f, "number {number} of process {process} isn't known")
+        }
+        Reason::StandsFor {
+            process,
+            number,
+            uid,
+            given,
+        } => write!(
+            f,
+            "number {number} of process {process} stands for uid {uid}, not for uid {given}"
+        ),
+        Reason::MoveStored { uid, page } => write!(f, "page {page} of uid {uid} is stored"),
+        Reason::MoveRecord { uid, volume } => write!(
+            f,
+            "volume {volume}, the home of uid {uid}, has a free record"
+        ),
+        Reason::MoveNone { uid } => write!(f, "no volume has room for uid {uid}"),
+        Reason::MoveOther { uid, volume } => {
+            write!(f, "volume {volume} is the first with room for uid {uid}")
+        }
+        Reason::Zeros { uid, page } => write!(
+            f,
+            "page {page} of uid {uid} is stored, and all its words are 0"
+        ),
+        other => write_of_command(f, other),
     }
 }
 
@@ -189,7 +262,7 @@ impl fmt::Display for Reason {
 
     #[tactic(auto, unfolding(crate::specs::Texts::reason_text))]
     fn fmt<W: fmt::Write>(&self, f: &mut fmt::Formatter<W>) -> fmt::Result {
-        match self {
+        match *self {
             Reason::NoProcess { process } => write!(f, "the script has no process {process}"),
             Reason::Ended { process } => write!(f, "process {process} has ended"),
             Reason::Next {
@@ -204,125 +277,15 @@ impl fmt::Display for Reason {
                 f,
                 "process {process} is kept back by the initializer, which hasn't ended"
             ),
-            Reason::DeviceFault { process } => {
-                write!(
-                    f,
-                    "device needs a fault, and none of process {process} stands"
-                )
-            }
-            Reason::DeviceReference {
-                process,
-                command,
-                reply,
-            } => write!(
+            Reason::DeviceFault { process } => write!(
                 f,
-                "command {command} of process {process} is answered {reply}, in whose place device can't stand"
-            ),
-            Reason::DeviceRefused {
-                process,
-                command,
-                reply,
-            } => write!(
-                f,
-                "command {command} of process {process} is refused with {reply}, and device stands only for its done"
-            ),
-            Reason::DeviceOther {
-                process,
-                command,
-                reply,
-            } => write!(
-                f,
-                "command {command} of process {process} is answered {reply}, never device"
-            ),
-            Reason::Due {
-                process,
-                command,
-                reply,
-            } => write!(
-                f,
-                "command {command} of process {process} is answered {reply}"
-            ),
-            Reason::DueOrDevice {
-                process,
-                command,
-                reply,
-            } => write!(
-                f,
-                "command {command} of process {process} is answered {reply}, or device"
-            ),
-            Reason::MoveFirst {
-                uid,
-                volume,
-                process,
-                command,
-            } => write!(
-                f,
-                "uid {uid} must move to volume {volume} before command {command} of process {process} is answered"
-            ),
-            Reason::MoveDevice {
-                uid,
-                volume,
-                process,
-                command,
-            } => write!(
-                f,
-                "uid {uid} must move to volume {volume}, or command {command} of process {process} is answered device"
-            ),
-            Reason::Unstored { uid, page } => write!(f, "page {page} of uid {uid} isn't stored"),
-            Reason::WordAt { uid, page, offset } => write!(
-                f,
-                "page {page} of uid {uid} has a word other than 0 at {offset}"
+                "device needs a fault, and none of process {process} stands"
             ),
             Reason::Unended { process } => write!(f, "process {process} hasn't ended"),
-            Reason::MoveCommand { process, command } => write!(
-                f,
-                "command {command} of process {process}, which is next, is neither write nor add"
-            ),
-            Reason::Unknown { process, number } => {
-                write!(f, "number {number} of process {process} isn't known")
-            }
-            Reason::StandsFor {
-                process,
-                number,
-                uid,
-                given,
-            } => write!(
-                f,
-                "number {number} of process {process} stands for uid {uid}, not for uid {given}"
-            ),
-            Reason::MoveReply {
-                process,
-                command,
-                reply,
-            } => write!(
-                f,
-                "command {command} of process {process} is answered {reply}, and so moves nothing"
-            ),
-            Reason::MoveZero { process, command } => write!(
-                f,
-                "the new word of command {command} of process {process} is 0"
-            ),
-            Reason::MoveStored { uid, page } => write!(f, "page {page} of uid {uid} is stored"),
-            Reason::MoveRecord { uid, volume } => write!(
-                f,
-                "volume {volume}, the home of uid {uid}, has a free record"
-            ),
-            Reason::MoveNone { uid } => write!(f, "no volume has room for uid {uid}"),
-            Reason::MoveOther { uid, volume } => {
-                write!(f, "volume {volume} is the first with room for uid {uid}")
-            }
-            Reason::PartSummary { process, command } => write!(
-                f,
-                "the summary begins while command {command} of process {process} is next"
-            ),
-            Reason::PartEnd { process, command } => write!(
-                f,
-                "the input ends while command {command} of process {process} is next"
-            ),
-            Reason::Zeros { uid, page } => write!(
-                f,
-                "page {page} of uid {uid} is stored, and all its words are 0"
-            ),
+            Reason::MoveCommand(at) => write!(f, "{at}, which is next, is neither write nor add"),
+            Reason::PartSummary(at) => write!(f, "the summary begins while {at} is next"),
+            Reason::PartEnd(at) => write!(f, "the input ends while {at} is next"),
+            other => write_of_segment(f, other),
         }
     }
 }

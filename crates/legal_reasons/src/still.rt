@@ -50,7 +50,7 @@ pub fn is_still_so(script: &Script, store: &FlatStore, reason: Reason) -> bool
         Reason::Unstored { uid, page } => !store.is_stored(uid, page),
         Reason::WordAt { uid, page, offset } => has_word_at(store, uid, page, offset),
         Reason::Unended { process } => !store.has_ended(process),
-        Reason::MoveCommand { process, command } => is_next(store, process, command),
+        Reason::MoveCommand(at) => is_next(store, at.process, at.place),
         Reason::Unknown { process, number } => store.known(process, number).is_none(),
         Reason::StandsFor {
             process,
@@ -62,8 +62,8 @@ pub fn is_still_so(script: &Script, store: &FlatStore, reason: Reason) -> bool
         Reason::MoveRecord { uid, volume } => has_free_record(script, store, uid, volume),
         Reason::MoveNone { uid } => is_roomless(store, uid),
         Reason::MoveOther { uid, volume } => is_first_room(store, uid, volume),
-        Reason::PartSummary { process, command } => is_next(store, process, command),
-        Reason::PartEnd { process, command } => is_next(store, process, command),
+        Reason::PartSummary(at) => is_next(store, at.process, at.place),
+        Reason::PartEnd(at) => is_next(store, at.process, at.place),
         Reason::Zeros { uid, page } => is_zero_stored(script, store, uid, page),
         _ => false,
     }

@@ -23,6 +23,11 @@ name_or_none (Some v) = v.name
 abbrev pub name_of : List VolumeLine → ℕ → List ℕ
 name_of volumes v = name_or_none (slice_get volumes v)
 
+-- a field should read as a number, which is that of the account or the volume that is named last
+abbrev pub number_text : ℕ → ℕ → List ℕ → ℕ → List ℕ
+number_text field n name of = codes "field " ++ (decimal field ++ (codes " should read " ++ (decimal n
+    ++ (codes ", the " ++ (name ++ (codes " " ++ decimal of))))))
+
 -- what speaks of an account, or of no line
 unfoldable pub account_reason_text : SumReason → List ℕ
 account_reason_text (reason.AccountMissing u q n) = codes "the input ends before the line of uid "
@@ -32,10 +37,8 @@ account_reason_text (reason.Path u) = codes "field 1 should read as the path of 
     ++ (decimal u ++ codes ", whose line comes here")
 account_reason_text (reason.AccountWord n w u) = codes "field "
     ++ (decimal n ++ (codes " should read " ++ (sum_word_text w ++ (codes " in the line of uid " ++ decimal u))))
-account_reason_text (reason.Quota u q) = codes "field 3 should read "
-    ++ (decimal q ++ (codes ", the quota of uid " ++ decimal u))
-account_reason_text (reason.Used u n) = codes "field 5 should read "
-    ++ (decimal n ++ (codes ", the used count of uid " ++ decimal u))
+account_reason_text (reason.Quota u q) = number_text 3 q (codes "quota of uid") u
+account_reason_text (reason.Used u n) = number_text 5 n (codes "used count of uid") u
 account_reason_text (reason.AccountFields u) = codes "the line of uid " ++ (decimal u ++ codes " should have 5 fields")
 account_reason_text _ = []
 
@@ -48,13 +51,9 @@ sum_reason_text p (reason.VolumeName v) = codes "field 2 should read "
     ++ (name_of p.volumes v ++ (codes ", the name of volume " ++ decimal v))
 sum_reason_text p (reason.VolumeWord n w v) = codes "field "
     ++ (decimal n ++ (codes " should read " ++ (sum_word_text w ++ (codes " in the line of volume " ++ decimal v))))
-sum_reason_text p (reason.Records v n) = codes "field 4 should read "
-    ++ (decimal n ++ (codes ", the records of volume " ++ decimal v))
-sum_reason_text p (reason.Taken v n) = codes "field 6 should read "
-    ++ (decimal n ++ (codes ", the taken records of volume " ++ decimal v))
-sum_reason_text p (reason.Entries v n) = codes "field 8 should read "
-    ++ (decimal n ++ (codes ", the VTOC entries of volume " ++ decimal v))
-sum_reason_text p (reason.TakenEntries v n) = codes "field 10 should read "
-    ++ (decimal n ++ (codes ", the taken VTOC entries of volume " ++ decimal v))
+sum_reason_text p (reason.Records v n) = number_text 4 n (codes "records of volume") v
+sum_reason_text p (reason.Taken v n) = number_text 6 n (codes "taken records of volume") v
+sum_reason_text p (reason.Entries v n) = number_text 8 n (codes "VTOC entries of volume") v
+sum_reason_text p (reason.TakenEntries v n) = number_text 10 n (codes "taken VTOC entries of volume") v
 sum_reason_text p (reason.VolumeFields v) = codes "the line of volume " ++ (decimal v ++ codes " should have 10 fields")
 sum_reason_text p r = account_reason_text r

@@ -1,5 +1,6 @@
 ghost use Rattle.std.specs.Prelude.{◌≡◌, ◌++◌, OnOk, Some, string_bytes};
-ghost use Rattle.line_reasons.specs.SumTexts.{account_reason_text, sum_reason_text, sum_word_text, name_of};
+ghost use Rattle.line_reasons.specs.SumTexts.{account_reason_text, name_of, number_text, sum_reason_text};
+ghost use Rattle.line_reasons.specs.SumTexts.{sum_word_text};
 
 use script::{Script, VolumeLine};
 use std::alloc::AllocError;
@@ -20,18 +21,27 @@ pub enum SumWord {
     Entries,
 }
 
+impl SumWord {
+    /// The word itself.
+    #[tactic(auto, unfolding(crate::specs::SumTexts::sum_word_text))]
+    fn as_str(self) -> &'static str
+        ensures { result.now ≡ sum_word_text self }
+    {
+        match self {
+            SumWord::Quota => "quota",
+            SumWord::Used => "used",
+            SumWord::Records => "records",
+            SumWord::Taken => "taken",
+            SumWord::Entries => "entries",
+        }
+    }
+}
+
 impl fmt::Display for SumWord {
     ghost output = { λ w. Some (sum_word_text w) };
 
-    #[tactic(auto, unfolding(crate::specs::SumTexts::sum_word_text))]
     fn fmt<W: fmt::Write>(&self, f: &mut fmt::Formatter<W>) -> fmt::Result {
-        match self {
-            SumWord::Quota => write!(f, "quota"),
-            SumWord::Used => write!(f, "used"),
-            SumWord::Records => write!(f, "records"),
-            SumWord::Taken => write!(f, "taken"),
-            SumWord::Entries => write!(f, "entries"),
-        }
+        f.write_str(self.as_str())
     }
 }
 
@@ -83,30 +93,39 @@ fn name_of(volumes: &[VolumeLine], volume: u32) -> &str
     }
 }
 
+/// Appends that a field should read as a number, which is that of the account or the volume that is named last.
+fn push_number(
+    out: &mut String,
+    field: u32,
+    number: u32,
+    name: &str,
+    of: u32,
+) -> Result<(), AllocError>
+    ensures { OnOk result (string_bytes out.new ≡ string_bytes out.old ++ number_text field number name.now of) }
+{
+    write!(out, "field {field} should read {number}, the {name} {of}")
+}
+
 /// Appends the text of a reason that speaks of an account or of no line; of any other nothing.
 #[tactic(auto, unfolding(crate::specs::SumTexts::account_reason_text))]
 fn push_account_reason(out: &mut String, reason: SumReason) -> Result<(), AllocError>
     ensures { OnOk result (string_bytes out.new ≡ string_bytes out.old ++ account_reason_text reason) }
 {
     match reason {
-        SumReason::AccountMissing(u, q, n) => {
-            write!(
-                out,
-                "the input ends before the line of uid {u}, quota {q} used {n}"
-            )
-        }
+        SumReason::AccountMissing(u, q, n) => write!(
+            out,
+            "the input ends before the line of uid {u}, quota {q} used {n}"
+        ),
         SumReason::TooMany => write!(out, "the summary has all its lines before this one"),
-        SumReason::Path(u) => {
-            write!(
-                out,
-                "field 1 should read as the path of uid {u}, whose line comes here"
-            )
-        }
+        SumReason::Path(u) => write!(
+            out,
+            "field 1 should read as the path of uid {u}, whose line comes here"
+        ),
         SumReason::AccountWord(n, word, u) => {
             write!(out, "field {n} should read {word} in the line of uid {u}")
         }
-        SumReason::Quota(u, q) => write!(out, "field 3 should read {q}, the quota of uid {u}"),
-        SumReason::Used(u, n) => write!(out, "field 5 should read {n}, the used count of uid {u}"),
+        SumReason::Quota(u, q) => push_number(out, 3, q, "quota of uid", u),
+        SumReason::Used(u, n) => push_number(out, 5, n, "used count of uid", u),
         SumReason::AccountFields(u) => write!(out, "the line of uid {u} should have 5 fields"),
         _ => Ok(()),
     }
@@ -125,50 +144,26 @@ pub fn push_sum_reason(
     ensures { OnOk result (string_bytes out.new ≡ string_bytes out.old ++ sum_reason_text script.now reason) }
 {
     match reason {
-        SumReason::VolumeMissing(v, t, g) => {
-            write!(
-                out,
-                "the input ends before the line of volume {v}, taken {t} and taken {g}"
-            )
-        }
-        SumReason::VolumeFirst(v) => {
-            write!(
-                out,
-                "field 1 should read volume, for the line of volume {v} comes here"
-            )
-        }
+        SumReason::VolumeMissing(v, t, g) => write!(
+            out,
+            "the input ends before the line of volume {v}, taken {t} and taken {g}"
+        ),
+        SumReason::VolumeFirst(v) => write!(
+            out,
+            "field 1 should read volume, for the line of volume {v} comes here"
+        ),
         SumReason::VolumeName(v) => {
             let name = name_of(script.volumes(), v);
             write!(out, "field 2 should read {name}, the name of volume {v}")
         }
-        SumReason::VolumeWord(n, word, v) => {
-            write!(
-                out,
-                "field {n} should read {word} in the line of volume {v}"
-            )
-        }
-        SumReason::Records(v, n) => write!(
+        SumReason::VolumeWord(n, word, v) => write!(
             out,
-            "field 4 should read {n}, the records of volume {v}"
+            "field {n} should read {word} in the line of volume {v}"
         ),
-        SumReason::Taken(v, n) => {
-            write!(
-                out,
-                "field 6 should read {n}, the taken records of volume {v}"
-            )
-        }
-        SumReason::Entries(v, n) => {
-            write!(
-                out,
-                "field 8 should read {n}, the VTOC entries of volume {v}"
-            )
-        }
-        SumReason::TakenEntries(v, n) => {
-            write!(
-                out,
-                "field 10 should read {n}, the taken VTOC entries of volume {v}"
-            )
-        }
+        SumReason::Records(v, n) => push_number(out, 4, n, "records of volume", v),
+        SumReason::Taken(v, n) => push_number(out, 6, n, "taken records of volume", v),
+        SumReason::Entries(v, n) => push_number(out, 8, n, "VTOC entries of volume", v),
+        SumReason::TakenEntries(v, n) => push_number(out, 10, n, "taken VTOC entries of volume", v),
         SumReason::VolumeFields(v) => write!(out, "the line of volume {v} should have 10 fields"),
         other => push_account_reason(out, other),
     }

@@ -1,6 +1,9 @@
 -- Where no reason is found, the rule isn't broken.
-use Rattle.std.proofs.Common.{◌≡◌, List, ℕ, Option, Some, None, sym, subst}
+use Rattle.std.proofs.Common.{◌≡◌, ◌==◌, Bool, true, false, if◌then◌else◌, List, [], ◌∷◌, ℕ, Option, Some, None, length, refl}
+use Rattle.std.proofs.Common.{sym, subst, ◌∙◌, arith}
+use Rattle.std.proofs.lemmas.Bool.Decides.{nat_tests}
 use Rattle.std.specs.Prelude.{IfSome}
+use Rattle.script.specs.Fields.{lines_of, onto_piece}
 use Rattle.script.specs.Plans.{Plan}
 use Rattle.book.specs.Entries.{entry_text}
 use Rattle.book.specs.Reading.{IsEntry}
@@ -15,7 +18,7 @@ use Rattle.book_check.specs.Judging.{IsAfter, Judged}
 use Rattle.book_check.specs.Verdicts.{BreaksEntry}
 use Rattle.book_check.specs.declared.offences.Rule.{Rule}
 use Rattle.book_check.specs.declared.offences.Rule.TheVariants as rule
-use Rattle.reasons.specs.Reasons.{IsWhy}
+use Rattle.reasons.specs.Reasons.{IsWhy, is_end}
 use Rattle.reasons.specs.declared.asking.Reason.{Reason}
 use Rattle.reasons.proofs.SinceLaws.{shown_there}
 
@@ -56,7 +59,31 @@ complete_told j es p k ps ks ended after = complete_there j es after
     (ended (store_after j.script es) (shown_there j es after p k ps ks)))
 
 -- what is asked of a line and a rule is asked of these
-pub why_at : (bytes : List ℕ) (p : Plan) (es : List Entry) (line first : List ℕ) (given r : Rule) (o : Option Reason)
-    → line ≡ first → given ≡ r → IfSome o (IsWhy bytes p es line r) → IfSome o (IsWhy bytes p es first given)
-why_at bytes p es line first given r o at is h = subst (λ (l : List ℕ). IfSome o (IsWhy bytes p es l given)) at
-    (subst (λ (q : Rule). IfSome o (IsWhy bytes p es line q)) (sym is) h)
+pub why_at : (bytes : List ℕ) (p : Plan) (es : List Entry) (line first : List ℕ) (at_end : Bool) (given r : Rule)
+    (o : Option Reason) → line ≡ first → given ≡ r → IfSome o (IsWhy bytes p es line at_end r)
+    → IfSome o (IsWhy bytes p es first at_end given)
+why_at bytes p es line first at_end given r o at is h =
+    subst (λ (l : List ℕ). IfSome o (IsWhy bytes p es l at_end given)) at
+    (subst (λ (q : Rule). IfSome o (IsWhy bytes p es line at_end q)) (sym is) h)
+
+-- nothing is left where there are no bytes, and only there
+pub end_there : (bytes : List ℕ) → (length bytes == 0) ≡ is_end (lines_of bytes)
+unfolding lines_of
+end_there [] = refl
+end_there (b ∷ bs) =
+    let some : (length (b ∷ bs) == 0) ≡ false = grind (arith, nat_tests) in some ∙ each (b == 10) (lines_of bs)
+  where
+    each : (z : Bool) (lines : List (List ℕ))
+        → false ≡ is_end (if z then [] ∷ lines else onto_piece b lines)
+    each true lines = refl
+    each false [] = refl
+    each false (line ∷ lines) = refl
+
+-- why the book isn't complete, at the end of the listing or before its summary
+pub incomplete_at : (bytes : List ℕ) (p : Plan) (es : List Entry) (line rest : List ℕ) (at_end : Bool) (given : Rule)
+    (o : Option Reason) → at_end ≡ (length rest == 0) → given ≡ rule.Incomplete
+    → IfSome o (IsWhy bytes p es line at_end rule.Incomplete)
+    → IfSome o (IsWhy bytes p es line (is_end (lines_of rest)) given)
+incomplete_at bytes p es line rest at_end given o at is h =
+    subst (λ (z : Bool). IfSome o (IsWhy bytes p es line z given)) (at ∙ end_there rest)
+    (subst (λ (q : Rule). IfSome o (IsWhy bytes p es line at_end q)) (sym is) h)

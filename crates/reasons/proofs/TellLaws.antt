@@ -16,7 +16,7 @@ use Rattle.book_check.specs.declared.offences.Offence.{Offence}
 use Rattle.book_check.specs.declared.offences.Rule.{Rule}
 use Rattle.book_check.specs.declared.offences.Rule.TheVariants as rule
 use Rattle.reasons.specs.Passing.{AreUpTo, Begins, EndsBefore, IsRefused, IsWatched, Looks, Passes}
-use Rattle.reasons.specs.Reasons.{IsSince, IsWhy, first_of, why_line}
+use Rattle.reasons.specs.Reasons.{IsSince, IsWhy, first_of, is_end, why_line}
 use Rattle.reasons.specs.Told.{HasLine, HasText, IsTold, IsUnfaulted, MayLackReason, Tells, TellsOrNot}
 use Rattle.reasons.specs.declared.asking.Reason.{Reason}
 use Rattle.reasons.proofs.PassLaws.{up_to}
@@ -61,31 +61,32 @@ pub has_text : (p : Plan) (n : ℕ) (lines : List (List ℕ)) (o : Offence) (r :
 has_text p n lines o r since text has is = record { since = since; has_line = has; is_line = is }
 
 module _ (bytes : List ℕ) (p : Plan) (n : ℕ) (lines : List (List ℕ)) (o : Offence) (es : List Entry)
-    (line text : List ℕ)
+    (left : List (List ℕ)) (text : List ℕ)
   where
-    pub tells : (r : Reason) → IsWhy bytes p es line o.rule r → HasText p n lines o r text
-        → TellsOrNot bytes p n lines o es line text
+    pub tells : (r : Reason) → IsWhy bytes p es (first_of left) (is_end left) o.rule r → HasText p n lines o r text
+        → TellsOrNot bytes p n lines o es left text
     tells r why has = inl (record { reason = r; why = why; has_text = has })
 
-    pub tells_nothing : IsUnfaulted p es line o.rule → text ≡ [] → TellsOrNot bytes p n lines o es line text
+    pub tells_nothing : IsUnfaulted p es (first_of left) o.rule → text ≡ []
+        → TellsOrNot bytes p n lines o es left text
     tells_nothing unfaulted none = inr (record { none = none; unfaulted = unfaulted })
 
 -- the same of what a call answers
 module _ (A E : Type 0) (items : A → List ℕ) (result : Result A E) (bytes script : List ℕ) (n : ℕ)
     (lines : List (List ℕ)) (o : Offence)
   where
-    pub tells_ok : (p q : Plan) (es : List Entry) (line : List ℕ) (r : Reason) → q ≡ p → script_of script ≡ Ok p
-        → IsJudged p n lines (Err (fault.Refused o)) → IsWhy bytes p es line o.rule r
+    pub tells_ok : (p q : Plan) (es : List Entry) (left : List (List ℕ)) (r : Reason) → q ≡ p
+        → script_of script ≡ Ok p → IsJudged p n lines (Err (fault.Refused o)) → IsWhy bytes p es (first_of left) (is_end left) o.rule r
         → ((x : Offence) → script_of script ≡ Ok q → IsJudged q n lines (Err (fault.Refused x))
         → IfOk result (λ t. HasText q n lines x r (items t)))
-        → IfOk result (λ t. TellsOrNot bytes p n lines o es line (items t))
-    tells_ok p q es line r same read judged why has = each result
+        → IfOk result (λ t. TellsOrNot bytes p n lines o es left (items t))
+    tells_ok p q es left r same read judged why has = each result
         (has o (read ∙ ap (λ (x : Plan). Ok x) (sym same))
         (subst (λ (x : Plan). IsJudged x n lines (Err (fault.Refused o))) (sym same) judged))
       where
         each : (x : Result A E) → IfOk x (λ t. HasText q n lines o r (items t))
-            → IfOk x (λ t. TellsOrNot bytes p n lines o es line (items t))
-        each (Ok t) h = tells bytes p n lines o es line (items t) r why
+            → IfOk x (λ t. TellsOrNot bytes p n lines o es left (items t))
+        each (Ok t) h = tells bytes p n lines o es left (items t) r why
             (subst (λ (x : Plan). HasText x n lines o r (items t)) same h)
         each (Err e) h = tt
 
@@ -159,7 +160,7 @@ module _ (bytes script listing : List ℕ) (n : ℕ) (head : lines_of script ≡
         → EndsBefore j left
         → ((es : List Entry) → IsAfter j es → script_of script ≡ Ok j.script
         → IsJudged j.script n (lines_of listing) (Err (fault.Refused o))
-        → TellsOrNot bytes j.script n (lines_of listing) o es (first_of left) text)
+        → TellsOrNot bytes j.script n (lines_of listing) o es left text)
         → IsTold bytes o text
     is_told start j left r since text begins same passes ends tells =
         each (tells passes.entries passes.after read (is_judged j.script read))
@@ -175,7 +176,7 @@ module _ (bytes script listing : List ℕ) (n : ℕ) (head : lines_of script ≡
         at_first P h = subst (P (first_number (lines_of bytes))) tail (subst (λ (m : ℕ). P m (lines_of listing)) first
             h)
 
-        each : TellsOrNot bytes j.script n (lines_of listing) o passes.entries (first_of left) text
+        each : TellsOrNot bytes j.script n (lines_of listing) o passes.entries left text
             → IsTold bytes o text
         each (inl told) = inl (record {
           script = j.script;
@@ -183,7 +184,7 @@ module _ (bytes script listing : List ℕ) (n : ℕ) (head : lines_of script ≡
           entries = passes.entries;
           left = left;
           up_to = at_first (λ m xs. AreUpTo j.script m xs o passes.entries left) there;
-          tells = at_first (λ m xs. Tells bytes j.script m xs o passes.entries (first_of left) text) told;
+          tells = at_first (λ m xs. Tells bytes j.script m xs o passes.entries left text) told;
         })
         each (inr none) = inr (
           none.none,
@@ -196,7 +197,7 @@ module _ (bytes script listing : List ℕ) (n : ℕ) (head : lines_of script ≡
         → j.script ≡ start.script → Passes j n (lines_of listing) left r since → EndsBefore j left
         → ((es : List Entry) → IsAfter j es → script_of script ≡ Ok j.script
         → IsJudged j.script n (lines_of listing) (Err (fault.Refused o))
-        → IfOk result (λ t. TellsOrNot bytes j.script n (lines_of listing) o es (first_of left) (items t)))
+        → IfOk result (λ t. TellsOrNot bytes j.script n (lines_of listing) o es left (items t)))
         → IfOk result (λ t. IsTold bytes o (items t))
     is_told_ok A E items (Ok t) start j left r since begins same passes ends tells =
         is_told start j left r since (items t) begins same passes ends tells

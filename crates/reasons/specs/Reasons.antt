@@ -1,5 +1,5 @@
 -- What a reason says, since when it has been so, and what is written of it (own).
-use Rattle.std.specs.Prelude.{◌≡◌, ◌≤◌, ℕ, ◌+◌, List, [], ◌∷◌, ◌++◌, true, false, length, take}
+use Rattle.std.specs.Prelude.{◌≡◌, ◌≤◌, ℕ, ◌+◌, List, [], ◌∷◌, ◌++◌, Bool, true, false, length, take}
 use Rattle.std.specs.Prelude.{Option, Some, None, codes}
 use Rattle.std.specs.List.{list_any}
 use Rattle.std.specs.Fmt.{decimal}
@@ -12,7 +12,7 @@ use Rattle.custody_model.specs.Clean.{custody_after}
 use Rattle.book_check.specs.Inputs.{is_book}
 use Rattle.book_check.specs.declared.offences.Rule.{Rule}
 use Rattle.book_check.specs.declared.offences.Rule.TheVariants as rule
-use Rattle.legal_reasons.specs.Reasons.{IsSaid, IsSo as IsLegalReason, Says as LegalSays}
+use Rattle.legal_reasons.specs.Reasons.{IsSaid, IsSo as IsLegalReason, Says as LegalSays, is_part, is_zeros}
 use Rattle.legal_reasons.specs.Texts.{reason_text as legal_text}
 use Rattle.clean_reasons.specs.Reasons.{IsSo as IsCleanReason, Says as CleanSays}
 use Rattle.clean_reasons.specs.Texts.{reason_text as clean_text}
@@ -27,25 +27,32 @@ abbrev pub first_of : List (List ℕ) → List ℕ
 first_of [] = []
 first_of (line ∷ lines) = line
 
+-- whether there is no line
+abbrev pub is_end : List (List ℕ) → Bool
+is_end [] = true
+is_end (line ∷ lines) = false
+
 -- this is so of an entry whose text is a line
 pub record IsOfLine (line : List ℕ) (P : Entry → Type 0) : Type 0 where
   pub entry : Entry
   pub text : entry_text entry ≡ line
   pub so : P entry
 
--- Why a line breaks a rule after some entries: the reason is one of that rule, and what it says is so.
-abbrev pub IsWhy : List ℕ → Plan → List Entry → List ℕ → Rule → Reason → Type 0
-IsWhy bytes p es line rule.NoEntry (reason.NoEntry r) = reason_of line ≡ Some r
-IsWhy bytes p es line rule.NotLegal (reason.NotLegal r) =
+-- Why a line breaks a rule after some entries, or the listing's end does: the reason is one of that rule, and what it
+-- says is so.
+abbrev pub IsWhy : List ℕ → Plan → List Entry → List ℕ → Bool → Rule → Reason → Type 0
+IsWhy bytes p es line at_end rule.NoEntry (reason.NoEntry r) = reason_of line ≡ Some r
+IsWhy bytes p es line at_end rule.NotLegal (reason.NotLegal r) =
     IsOfLine line (λ e. IsLegalReason p (store_after p es) e r)
-IsWhy bytes p es line rule.NotClean (reason.NotClean r) =
+IsWhy bytes p es line at_end rule.NotClean (reason.NotClean r) =
     IsOfLine line (λ e. IsCleanReason p (store_after p es) (custody_after p es) e r)
-IsWhy bytes p es line rule.Incomplete reason.NoBook = list_any is_book (lines_of bytes) ≡ false
-IsWhy bytes p es line rule.Incomplete (reason.NotLegal r) = IsSaid p (store_after p es) r
-IsWhy bytes p es line rule.ZeroPage (reason.NotLegal r) = IsSaid p (store_after p es) r
-IsWhy bytes p es line rule.WrongSum reason.NoBook = list_any is_book (lines_of bytes) ≡ false
-IsWhy bytes p es line rule.WrongSum (reason.WrongSum r) = IsSoSum p (store_after p es) r
-IsWhy bytes p es line _ _ = ⊥
+IsWhy bytes p es line at_end rule.Incomplete reason.NoBook = list_any is_book (lines_of bytes) ≡ false
+IsWhy bytes p es line at_end rule.Incomplete (reason.NotLegal r) =
+    IsSaid p (store_after p es) r × (is_part at_end r ≡ true)
+IsWhy bytes p es line at_end rule.ZeroPage (reason.NotLegal r) = IsSaid p (store_after p es) r × (is_zeros r ≡ true)
+IsWhy bytes p es line at_end rule.WrongSum reason.NoBook = list_any is_book (lines_of bytes) ≡ false
+IsWhy bytes p es line at_end rule.WrongSum (reason.WrongSum r) = IsSoSum p (store_after p es) r
+IsWhy bytes p es line at_end _ _ = ⊥
 
 -- The sentence of a reason is true after some entries; that of a reason that speaks of no state never is.
 unfoldable pub SaysAt : Plan → List Entry → Reason → Type 0

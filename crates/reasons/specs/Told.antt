@@ -11,7 +11,7 @@ use Rattle.book_check.specs.declared.offences.Offence.{Offence}
 use Rattle.book_check.specs.declared.offences.Rule.{Rule}
 use Rattle.book_check.specs.declared.offences.Rule.TheVariants as rule
 use Rattle.reasons.specs.Passing.{AreUpTo, IsSinceOf}
-use Rattle.reasons.specs.Reasons.{IsWhy, first_of, why_line}
+use Rattle.reasons.specs.Reasons.{IsWhy, first_of, is_end, why_line}
 use Rattle.reasons.specs.declared.asking.Reason.{Reason}
 
 -- what holds where no reason is found: for four of the rules, that the rule isn't broken
@@ -32,11 +32,11 @@ pub record HasText (p : Plan) (n : ℕ) (lines : List (List ℕ)) (o : Offence) 
   pub has_line : HasLine p n lines o r since
   pub is_line : text ≡ why_line p r since
 
--- A text tells why a line that follows some entries breaks a rule.
+-- A text tells why the first of the lines that are left after some entries breaks a rule.
 pub record Tells (bytes : List ℕ) (p : Plan) (n : ℕ) (lines : List (List ℕ)) (o : Offence) (es : List Entry)
-    (line text : List ℕ) : Type 0 where
+    (left : List (List ℕ)) (text : List ℕ) : Type 0 where
   pub reason : Reason
-  pub why : IsWhy bytes p es line o.rule reason
+  pub why : IsWhy bytes p es (first_of left) (is_end left) o.rule reason
   pub has_text : HasText p n lines o reason text
 
 -- Nothing is told, where no reason is found.
@@ -44,8 +44,9 @@ pub record TellsNothing (p : Plan) (es : List Entry) (line : List ℕ) (r : Rule
   pub none : text ≡ []
   pub unfaulted : IsUnfaulted p es line r
 
-abbrev pub TellsOrNot : List ℕ → Plan → ℕ → List (List ℕ) → Offence → List Entry → List ℕ → List ℕ → Type 0
-TellsOrNot bytes p n lines o es line text = Tells bytes p n lines o es line text ⊎ TellsNothing p es line o.rule text
+abbrev pub TellsOrNot : List ℕ → Plan → ℕ → List (List ℕ) → Offence → List Entry → List (List ℕ) → List ℕ → Type 0
+TellsOrNot bytes p n lines o es left text =
+    Tells bytes p n lines o es left text ⊎ TellsNothing p es (first_of left) o.rule text
 
 -- the rules of which it isn't claimed that a reason is always found: of a line that is no entry's text, and of the
 -- summary
@@ -63,7 +64,7 @@ pub record IsExplained (bytes : List ℕ) (o : Offence) (text : List ℕ) : Type
   pub left : List (List ℕ)
   pub up_to : AreUpTo script (first_number (lines_of bytes)) (listing_lines (lines_of bytes)) o entries left
   pub tells : Tells bytes script (first_number (lines_of bytes)) (listing_lines (lines_of bytes)) o entries
-      (first_of left) text
+      left text
 
 -- so it is, or nothing is told, for one of two rules
 abbrev pub IsTold : List ℕ → Offence → List ℕ → Type 0

@@ -1,4 +1,4 @@
-ghost use Rattle.std.specs.Prelude.{◌≡◌, ◌<◌, ◌≤◌, ◌^◌, ℕ, IfNone, IfOk, IfSome, List, length};
+ghost use Rattle.std.specs.Prelude.{◌≡◌, ◌<◌, ◌≤◌, ◌^◌, ℕ, Bool, IfNone, IfOk, IfSome, List, length};
 ghost use Rattle.std.specs.List.{list_any};
 ghost use Rattle.book.specs.declared.entries.Entry.{Entry};
 ghost use Rattle.book_check.specs.Inputs.{is_book};
@@ -10,7 +10,7 @@ ghost use Rattle.script.specs.Fields.{lines_of};
 ghost use Rattle.script.specs.Plans.{Plan};
 ghost use Rattle.flat_model.specs.Legal.{IsComplete, store_after};
 ghost use Rattle.flat_store.specs.Zeros.{HasZeroPage};
-ghost use Rattle.reasons.specs.Reasons.{IsWhy, first_of};
+ghost use Rattle.reasons.specs.Reasons.{IsWhy, first_of, is_end};
 ghost use Rattle.reasons.specs.Told.{IsUnfaulted};
 
 use crate::NoMemory;
@@ -68,7 +68,8 @@ fn first_line(bytes: &[u8]) -> &[u8]
 /// Why a line isn't the text of an entry.
 fn why_none(line: &[u8]) -> Option<Reason>
     requires { length line.now < 2 ^ 31 }
-    ensures { (bytes : List ℕ) (p : Plan) (es : List Entry) → IfSome result (IsWhy bytes p es line.now Rule.NoEntry) }
+    ensures { (bytes : List ℕ) (p : Plan) (es : List Entry) (at_end : Bool)
+        → IfSome result (IsWhy bytes p es line.now at_end Rule.NoEntry) }
 {
     match why_no_entry(line) {
         Some(reason) => Some(Reason::NoEntry(reason)),
@@ -78,8 +79,8 @@ fn why_none(line: &[u8]) -> Option<Reason>
 
 /// Why the flat store doesn't allow the entry of a line. `None` only where it does.
 fn why_not_legal(judge: &Judge, line: &[u8]) -> Option<Reason>
-    ensures so { (bytes : List ℕ) (es : List Entry) → IsAfter judge.now es
-        → IfSome result (IsWhy bytes judge.now.script es line.now Rule.NotLegal) }
+    ensures so { (bytes : List ℕ) (es : List Entry) (at_end : Bool) → IsAfter judge.now es
+        → IfSome result (IsWhy bytes judge.now.script es line.now at_end Rule.NotLegal) }
     ensures none { (es : List Entry) → IsAfter judge.now es
         → IfNone result (BreaksEntry judge.now.script es line.now Rule.NotLegal → ⊥) }
 {
@@ -95,8 +96,8 @@ fn why_not_legal(judge: &Judge, line: &[u8]) -> Option<Reason>
 /// Why custody doesn't allow the entry of a line. `None` only where it does.
 fn why_not_clean(judge: &Judge, line: &[u8]) -> Option<Reason>
     requires { AreTablesOf judge.now.script judge.now.custody }
-    ensures so { (bytes : List ℕ) (es : List Entry) → IsAfter judge.now es
-        → IfSome result (IsWhy bytes judge.now.script es line.now Rule.NotClean) }
+    ensures so { (bytes : List ℕ) (es : List Entry) (at_end : Bool) → IsAfter judge.now es
+        → IfSome result (IsWhy bytes judge.now.script es line.now at_end Rule.NotClean) }
     ensures none { (es : List Entry) → IsAfter judge.now es
         → IfNone result (BreaksEntry judge.now.script es line.now Rule.NotClean → ⊥) }
 {
@@ -113,7 +114,7 @@ fn why_not_clean(judge: &Judge, line: &[u8]) -> Option<Reason>
 fn why_incomplete(judge: &Judge, bytes: &[u8], at_end: bool) -> Option<Reason>
     requires { length bytes.now < 2 ^ 31 }
     ensures so { (line : List ℕ) (es : List Entry) → IsAfter judge.now es
-        → IfSome result (IsWhy bytes.now judge.now.script es line Rule.Incomplete) }
+        → IfSome result (IsWhy bytes.now judge.now.script es line at_end Rule.Incomplete) }
     ensures none { (es : List Entry) → IsAfter judge.now es → IfNone result (IsComplete judge.now.script es) }
 {
     if !has_book(bytes) {
@@ -127,8 +128,8 @@ fn why_incomplete(judge: &Judge, bytes: &[u8], at_end: bool) -> Option<Reason>
 
 /// Which stored page is all zeros. `None` only where none is.
 fn why_zeros(judge: &Judge) -> Option<Reason>
-    ensures so { (bytes line : List ℕ) (es : List Entry) → IsAfter judge.now es
-        → IfSome result (IsWhy bytes judge.now.script es line Rule.ZeroPage) }
+    ensures so { (bytes line : List ℕ) (es : List Entry) (at_end : Bool) → IsAfter judge.now es
+        → IfSome result (IsWhy bytes judge.now.script es line at_end Rule.ZeroPage) }
     ensures none { (es : List Entry) → IsAfter judge.now es
         → IfNone result (HasZeroPage (store_after judge.now.script es) → ⊥) }
 {
@@ -147,8 +148,8 @@ fn why_not_due(
 ) -> Result<Option<Reason>, NoMemory>
     requires few { length bytes.now < 2 ^ 31 }
     requires left { length rest.now < 2 ^ 31 }
-    ensures { (line : List ℕ) (es : List Entry) → IsAfter judge.now es
-        → IfOk result (λ o. IfSome o (IsWhy bytes.now judge.now.script es line Rule.WrongSum)) }
+    ensures { (line : List ℕ) (es : List Entry) (at_end : Bool) → IsAfter judge.now es
+        → IfOk result (λ o. IfSome o (IsWhy bytes.now judge.now.script es line at_end Rule.WrongSum)) }
 {
     if !has_book(bytes) {
         return Ok(Some(Reason::NoBook));
@@ -173,7 +174,8 @@ pub(crate) fn why(
     requires few { length bytes.now < 2 ^ 31 }
     requires left { length rest.now < 2 ^ 31 }
     ensures so { (es : List Entry) → IsAfter judge.now es
-        → IfOk result (λ o. IfSome o (IsWhy bytes.now judge.now.script es (first_of (lines_of rest.now)) rule)) }
+        → IfOk result (λ o. IfSome o (IsWhy bytes.now judge.now.script es (first_of (lines_of rest.now))
+        (is_end (lines_of rest.now)) rule)) }
     ensures none { (es : List Entry) → IsAfter judge.now es
         → IfOk result (λ o. IfNone o (IsUnfaulted judge.now.script es (first_of (lines_of rest.now)) rule)) }
 {

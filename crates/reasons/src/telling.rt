@@ -11,7 +11,7 @@ ghost use Rattle.book_check.specs.Verdicts.{IsJudged};
 ghost use Rattle.book_check.specs.declared.offences.CheckFault.TheVariants as CheckFault;
 ghost use Rattle.book_check.specs.declared.offences.Offence.{Offence};
 ghost use Rattle.reasons.specs.Passing.{Begins, IsRefused};
-ghost use Rattle.reasons.specs.Reasons.{first_of, reason_text, why_line};
+ghost use Rattle.reasons.specs.Reasons.{reason_text, why_line};
 ghost use Rattle.reasons.specs.Told.{HasLine, HasText, IsTold, TellsOrNot};
 
 use crate::NoMemory;
@@ -128,7 +128,7 @@ fn explain(
     ensures { (es : List Entry) → IsAfter judge.now es → script_of input.now.script.now ≡ Ok judge.now.script
         → IsJudged judge.now.script input.now.first (lines_of input.now.listing.now) (Err (CheckFault.Refused offence))
         → IfOk result (λ text. TellsOrNot bytes.now judge.now.script input.now.first (lines_of input.now.listing.now)
-        offence es (first_of (lines_of rest.now)) text.items) }
+        offence es (lines_of rest.now) text.items) }
 {
     match why(alloc, judge, bytes, rest, offence.rule) {
         Ok(Some(reason)) => tell(alloc, judge.script(), input, &reason),

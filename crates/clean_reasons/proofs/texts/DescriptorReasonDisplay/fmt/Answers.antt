@@ -35,4 +35,4 @@ returns-in-Unnamed-clause-writes g c = rw c.in-Unnamed.is c.write-in-Unnamed.ens
 
 pub returns-in-NothingGoes-clause-writes : goal.returns-in-NothingGoes-clause-writes
 unfolding descriptor_text
-returns-in-NothingGoes-clause-writes g c = rw c.in-NothingGoes.is c.write-in-NothingGoes.ensures.writes
+returns-in-NothingGoes-clause-writes g c = rw c.in-NothingGoes.is c.write_str.ensures.writes

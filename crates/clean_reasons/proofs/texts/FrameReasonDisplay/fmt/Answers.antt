@@ -3,15 +3,15 @@ use Rattle.clean_reasons.proofs.texts.FrameReasonDisplay.fmt.Goals as goal
 
 pub returns-in-HasPage-clause-writes : goal.returns-in-HasPage-clause-writes
 unfolding frame_text
-returns-in-HasPage-clause-writes g c = rw c.in-HasPage.is c.write.ensures.writes
+returns-in-HasPage-clause-writes g c = rw c.in-HasPage.is c.write_own_page.ensures
 
 pub returns-in-HasRead-clause-writes : goal.returns-in-HasRead-clause-writes
 unfolding frame_text
-returns-in-HasRead-clause-writes g c = rw c.in-HasRead.is c.write-in-HasRead.ensures.writes
+returns-in-HasRead-clause-writes g c = rw c.in-HasRead.is c.write_own_page-in-HasRead.ensures
 
 pub returns-in-Bound-clause-writes : goal.returns-in-Bound-clause-writes
 unfolding frame_text
-returns-in-Bound-clause-writes g c = rw c.in-Bound.is c.write-in-Bound.ensures.writes
+returns-in-Bound-clause-writes g c = rw c.in-Bound.is c.write.ensures.writes
 
 pub returns-in-Read-clause-writes : goal.returns-in-Read-clause-writes
 unfolding frame_text

@@ -33,29 +33,17 @@ pub returns-in-OtherDue-clause-writes : goal.returns-in-OtherDue-clause-writes
 unfolding seat_text
 returns-in-OtherDue-clause-writes g c = rw c.in-OtherDue.is c.write-in-OtherDue.ensures.writes
 
-pub returns-in-HoldsSegAlready-clause-writes : goal.returns-in-HoldsSegAlready-clause-writes
+pub returns-in-HoldsAlready-clause-writes : goal.returns-in-HoldsAlready-clause-writes
 unfolding seat_text
-returns-in-HoldsSegAlready-clause-writes g c = rw c.in-HoldsSegAlready.is c.write-in-HoldsSegAlready.ensures.writes
+returns-in-HoldsAlready-clause-writes g c = rw c.in-HoldsAlready.is c.write-in-HoldsAlready.ensures.writes
 
-pub returns-in-HoldsPageAlready-clause-writes : goal.returns-in-HoldsPageAlready-clause-writes
+pub returns-in-Holds-clause-writes : goal.returns-in-Holds-clause-writes
 unfolding seat_text
-returns-in-HoldsPageAlready-clause-writes g c = rw c.in-HoldsPageAlready.is c.write-in-HoldsPageAlready.ensures.writes
+returns-in-Holds-clause-writes g c = rw c.in-Holds.is c.write-in-Holds.ensures.writes
 
-pub returns-in-HoldsSeg-clause-writes : goal.returns-in-HoldsSeg-clause-writes
+pub returns-in-Lacks-clause-writes : goal.returns-in-Lacks-clause-writes
 unfolding seat_text
-returns-in-HoldsSeg-clause-writes g c = rw c.in-HoldsSeg.is c.write-in-HoldsSeg.ensures.writes
-
-pub returns-in-HoldsPage-clause-writes : goal.returns-in-HoldsPage-clause-writes
-unfolding seat_text
-returns-in-HoldsPage-clause-writes g c = rw c.in-HoldsPage.is c.write-in-HoldsPage.ensures.writes
-
-pub returns-in-LacksSeg-clause-writes : goal.returns-in-LacksSeg-clause-writes
-unfolding seat_text
-returns-in-LacksSeg-clause-writes g c = rw c.in-LacksSeg.is c.write-in-LacksSeg.ensures.writes
-
-pub returns-in-LacksPage-clause-writes : goal.returns-in-LacksPage-clause-writes
-unfolding seat_text
-returns-in-LacksPage-clause-writes g c = rw c.in-LacksPage.is c.write-in-LacksPage.ensures.writes
+returns-in-Lacks-clause-writes g c = rw c.in-Lacks.is c.write-in-Lacks.ensures.writes
 
 pub returns-in-Early-clause-writes : goal.returns-in-Early-clause-writes
 unfolding seat_text
