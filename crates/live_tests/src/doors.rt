@@ -1,82 +1,91 @@
 //! Tests of the doors.
-ghost use Rattle.std.specs.Prelude.{◌≡◌, ◌+◌, ◌<◌, ◌≤◌, length};
+ghost use Rattle.std.specs.Prelude.{◌≡◌, ◌+◌, ◌<◌, ◌≤◌, All, IfSome, length};
 ghost use Rattle.live_doors.specs.Doors.{IsPassOf, IsKeeperOf, OnlyNoted, opening_watch};
 ghost use Rattle.live_tests.specs.Race.{IsReady};
 
-use live_doors::{Behind, Closed, Keeper, LiveDoors, NoMemory, Pass};
-use std::process::Abort;
+use live_doors::{Behind, Closed, Ended, Keeper, LiveDoors, NoMemory, Pass};
+use std::alloc::Global;
 use std::sync::atomic::{AtomicBool, AtomicU64, Ordering};
 use std::thread;
 use std::thread::{Threads, join};
 
 // One pass enters frame 0, whose door is closed then to the other. The next stamp is raised.
-fn closes_frame_0(
-    rt: &impl Abort,
-    doors: &LiveDoors,
-    keeper: &mut Keeper,
-    zero: &mut Pass,
-    one: &mut Pass,
-)
+fn closes_frame_0(doors: &LiveDoors, keeper: &mut Keeper, zero: &mut Pass, one: &mut Pass) -> bool
     requires keeper { IsKeeperOf doors.now keeper.old × (keeper.old.watch ≡ opening_watch 2 2 2) }
     requires frames { doors.now.frames ≡ 2 }
     requires passes { IsPassOf doors.now zero.old × IsPassOf doors.now one.old }
     ensures keeper { IsKeeperOf doors.now keeper.new }
     ensures passes { IsPassOf doors.now zero.new × IsPassOf doors.now one.new }
 {
-    assert!(rt; doors.fill(zero, 0) == Ok(1));
-    assert!(rt; zero.holds(0) && !zero.holds(1));
+    let entered = doors.fill(zero, 0) == Ok(1) && zero.holds(0) && !zero.holds(1);
     doors.close_door(keeper, 0);
-    assert!(rt; doors.fill(one, 0) == Err(Closed { word: 3 }));
-    assert!(rt; !keeper.is_admitted(0) && keeper.is_admitted(1));
-    assert!(rt; doors.raise(keeper) == 1);
-    assert!(rt; keeper.last_stamp() == 1);
-    assert!(rt; !keeper.may_bind(0));
+    let closed = doors.fill(one, 0) == Err(Closed { word: 3 });
+    let admits = !keeper.is_admitted(0) && keeper.is_admitted(1);
+    let raised = doors.raise(keeper) == 1 && keeper.last_stamp() == 1;
+    entered && closed && admits && raised && !keeper.may_bind(0)
 }
 
-// A pass forgets its entries, and lets the keeper know.
-fn rests(rt: &impl Abort, doors: &LiveDoors, pass: &mut Pass)
+// A pass forgets its entries at stamp 1, and lets the keeper know.
+fn rests(doors: &LiveDoors, pass: &mut Pass) -> bool
     requires { IsPassOf doors.now pass.old }
     ensures { IsPassOf doors.now pass.new }
 {
-    assert!(rt; doors.forget(pass) == 1);
+    let stamp = doors.forget(pass);
     doors.acknowledge(pass);
+    stamp == 1
 }
 
 // All is clear once both passes have acknowledged, and then frame 0 may be bound.
-fn clears_frame_0(
-    rt: &impl Abort,
-    doors: &LiveDoors,
-    keeper: &mut Keeper,
-    zero: &mut Pass,
-    one: &mut Pass,
-)
+fn clears_frame_0(doors: &LiveDoors, keeper: &mut Keeper, zero: &mut Pass, one: &mut Pass) -> bool
     requires keeper { IsKeeperOf doors.now keeper.old }
     requires frames { doors.now.frames ≡ 2 }
     requires passes { IsPassOf doors.now zero.old × IsPassOf doors.now one.old }
     ensures keeper { IsKeeperOf doors.now keeper.new }
     ensures passes { IsPassOf doors.now zero.new × IsPassOf doors.now one.new }
 {
-    assert!(rt; doors.all_clear(keeper, 1) == Err(Behind { cpu: 0, seen: 0 }));
-    rests(rt, doors, zero);
-    assert!(rt; doors.all_clear(keeper, 1) == Err(Behind { cpu: 1, seen: 0 }));
-    rests(rt, doors, one);
-    assert!(rt; doors.all_clear(keeper, 1) == Ok(()));
-    assert!(rt; keeper.may_bind(0) && !keeper.may_bind(1));
-    assert!(rt; !zero.holds(0));
+    doors.all_clear(keeper, 1) == Err(Behind { cpu: 0, seen: 0 })
+        && rests(doors, zero)
+        && doors.all_clear(keeper, 1) == Err(Behind { cpu: 1, seen: 0 })
+        && rests(doors, one)
+        && doors.all_clear(keeper, 1) == Ok(())
+        && keeper.may_bind(0)
+        && !keeper.may_bind(1)
+        && !zero.holds(0)
+}
+
+// The two passes, in order.
+fn both(doors: &LiveDoors, mut passes: Vec<Pass>) -> Option<(Pass, Pass)>
+    requires { All (IsPassOf doors.now) passes.items }
+    ensures { IfSome result (λ two. IsPassOf doors.now two.0 × IsPassOf doors.now two.1) }
+{
+    let one = passes.pop()?;
+    let zero = passes.pop()?;
+    Some((zero, one))
+}
+
+// Takes both passes in, in a row, and answers the words of the doors and the last stamp.
+fn close(
+    alloc: Global,
+    doors: LiveDoors,
+    keeper: Keeper,
+    zero: Pass,
+    one: Pass,
+) -> Result<Ended, NoMemory>
+    requires keeper { IsKeeperOf doors keeper }
+    requires passes { IsPassOf doors zero × IsPassOf doors one }
+{
+    let passes = vec![in alloc; zero, one]?;
+    Ok(doors.close(keeper, passes))
 }
 
 #[test]
 fn revokes_in_order_on_one_thread(rt: HostRuntime) -> Result<(), NoMemory> {
-    let (doors, mut keeper, mut passes) = LiveDoors::admitted(rt.alloc(), 2, 2)?;
-    let mut one = passes.pop().expect(&rt, "a pass for processor 1");
-    let mut zero = passes.pop().expect(&rt, "a pass for processor 0");
-    closes_frame_0(&rt, &doors, &mut keeper, &mut zero, &mut one);
-    clears_frame_0(&rt, &doors, &mut keeper, &mut zero, &mut one);
-    passes.push(zero).ok().expect(&rt, "room for a pass");
-    passes.push(one).ok().expect(&rt, "room for a pass");
-    let ended = doors.close(keeper, passes);
-    assert!(&rt; ended.doors.as_slice() == [3, 2].as_slice());
-    assert!(&rt; ended.request == 1);
+    let (doors, mut keeper, passes) = LiveDoors::admitted(rt.alloc(), 2, 2)?;
+    let (mut zero, mut one) = both(&doors, passes).expect(&rt, "two passes");
+    let revoked = closes_frame_0(&doors, &mut keeper, &mut zero, &mut one)
+        && clears_frame_0(&doors, &mut keeper, &mut zero, &mut one);
+    let ended = close(rt.alloc(), doors, keeper, zero, one)?;
+    assert!(&rt; revoked && ended.doors.as_slice() == [3, 2].as_slice() && ended.request == 1);
     Ok(())
 }
 
@@ -97,9 +106,14 @@ fn all_are_unbound(doors: &LiveDoors, keeper: &Keeper, pass: &mut Pass) -> bool
 
 #[test]
 fn frames_that_were_never_bound_are_closed(rt: HostRuntime) -> Result<(), NoMemory> {
-    let (doors, keeper, mut passes) = LiveDoors::new(rt.alloc(), 3, 2)?;
-    let mut pass = passes.pop().expect(&rt, "a pass for processor 1");
-    assert!(&rt; all_are_unbound(&doors, &keeper, &mut pass));
+    let (doors, keeper, passes) = LiveDoors::new(rt.alloc(), 3, 2)?;
+    let (zero, mut one) = both(&doors, passes).expect(&rt, "two passes");
+    let unbound = all_are_unbound(&doors, &keeper, &mut one);
+    drop(doors);
+    drop(keeper);
+    drop(zero);
+    drop(one);
+    assert!(&rt; unbound);
     Ok(())
 }
 
@@ -248,8 +262,18 @@ fn race_and_keep<R: Threads + Sync>(
     )
 }
 
+// All is clear, every frame may be bound, and no pass holds one.
+fn all_are_free(doors: &LiveDoors, keeper: &mut Keeper, zero: &Pass, one: &Pass) -> bool
+    requires frames { doors.now.frames ≡ 1000 }
+    requires keeper { IsKeeperOf doors.now keeper.old }
+    requires passes { IsPassOf doors.now zero.now × IsPassOf doors.now one.now }
+    ensures keeper { IsKeeperOf doors.now keeper.new }
+{
+    doors.all_clear(keeper, 1000) == Ok(()) && all_may_be_bound(keeper, zero, one)
+}
+
 // Every frame may be bound, and no pass holds one.
-fn all_are_free(keeper: &Keeper, zero: &Pass, one: &Pass) -> bool
+fn all_may_be_bound(keeper: &Keeper, zero: &Pass, one: &Pass) -> bool
     requires keeper { length keeper.now.watch.doors ≡ 1000 }
     requires zero { length zero.now.walk.held ≡ 1000 }
     requires one { length one.now.walk.held ≡ 1000 }
@@ -263,25 +287,18 @@ fn all_are_free(keeper: &Keeper, zero: &Pass, one: &Pass) -> bool
 }
 
 // Every frame was cleared, and no pass was seen to hold a cleared one.
-fn all_were_cleared(rt: &impl Abort, signals: &Signals) {
-    assert!(rt; signals.violations.load(Ordering::SeqCst) == 0);
-    assert!(rt; signals.cleared.load(Ordering::SeqCst) == 1000);
+fn all_were_cleared(signals: &Signals) -> bool {
+    signals.violations.load(Ordering::SeqCst) == 0 && signals.cleared.load(Ordering::SeqCst) == 1000
 }
 
 #[test]
 fn no_pass_holds_what_was_cleared(rt: HostRuntime) -> Result<(), NoMemory> {
-    let (doors, keeper, mut passes) = LiveDoors::admitted(rt.alloc(), ROUNDS, 2)?;
-    let one = passes.pop().expect(&rt, "a pass for processor 1");
-    let zero = passes.pop().expect(&rt, "a pass for processor 0");
+    let (doors, keeper, passes) = LiveDoors::admitted(rt.alloc(), ROUNDS, 2)?;
+    let (zero, one) = both(&doors, passes).expect(&rt, "two passes");
     let signals = Signals::new();
     let (zero, one, mut keeper) = run(&rt, &doors, zero, one, keeper, &signals);
-    all_were_cleared(&rt, &signals);
-    assert!(&rt; doors.all_clear(&mut keeper, 1000) == Ok(()));
-    assert!(&rt; all_are_free(&keeper, &zero, &one));
-    passes.push(zero).ok().expect(&rt, "room for a pass");
-    passes.push(one).ok().expect(&rt, "room for a pass");
-    let ended = doors.close(keeper, passes);
-    assert!(&rt; ended.doors.iter().all(|&door| door == 3));
-    assert!(&rt; ended.request == 1000);
+    let free = all_were_cleared(&signals) && all_are_free(&doors, &mut keeper, &zero, &one);
+    let ended = close(rt.alloc(), doors, keeper, zero, one)?;
+    assert!(&rt; free && ended.doors.iter().all(|&door| door == 3) && ended.request == 1000);
     Ok(())
 }

@@ -93,9 +93,11 @@ fn run<R: Abort + Threads + Wait + Sync>(
 ) -> Result<(u64, u64), NoMemory> {
     let gate = Meeting::new();
     let drilled = drill(rt, alloc, 2, 4, 100, seed, &gate)?;
-    assert!(rt; gate.was_held(drilled.touches));
-    assert!(rt; drilled.total.value() == 790);
-    Ok((drilled.bindings.saturating_sub(4), drilled.touches))
+    let (bindings, touches) = (drilled.bindings, drilled.touches);
+    let is_whole = gate.was_held(touches) && drilled.total.value() == 790;
+    drop(drilled);
+    assert!(rt; is_whole);
+    Ok((bindings.saturating_sub(4), touches))
 }
 
 #[test]
@@ -112,8 +114,7 @@ fn two_processors_touch_while_the_keeper_waits(rt: HostRuntime) -> Result<(), No
 fn frames_are_bound_again_while_two_processors_touch(rt: HostRuntime) -> Result<(), NoMemory> {
     for seed in 0..RUNS {
         let (bound, touches) = run(&rt, rt.alloc(), seed)?;
-        assert!(&rt; bound > 8);
-        assert!(&rt; touches >= 100);
+        assert!(&rt; bound > 8 && touches >= 100);
     }
     Ok(())
 }
@@ -149,7 +150,8 @@ fn who_is_done_answers_the_keeper(rt: HostRuntime) -> Result<(), NoMemory> {
         touches: AtomicU64::new(0),
     };
     let drilled = drill(&rt, rt.alloc(), 2, 4, 100, 1, &late)?;
-    assert!(&rt; drilled.touches == 200);
-    assert!(&rt; drilled.bindings > 12);
+    let is_done = drilled.touches == 200 && drilled.bindings > 12;
+    drop(drilled);
+    assert!(&rt; is_done);
     Ok(())
 }

@@ -40,10 +40,7 @@ fn first_two(pages: &LivePages, passes: Vec<Pass>) -> Option<(Pass, Pass)>
 fn row(alloc: Global, zero: Pass, one: Pass) -> Option<Vec<Pass>>
     ensures { IfSome result (λ passes. passes.items ≡ zero ∷ one ∷ []) }
 {
-    let mut passes = Vec::with_capacity(alloc, 2).ok()?;
-    passes.push(zero).ok()?;
-    passes.push(one).ok()?;
-    Some(passes)
+    vec![in alloc; zero, one].ok()
 }
 
 // All passes, for the close.
@@ -139,8 +136,7 @@ fn binds(
 {
     assert!(rt; keeper.may_bind(0));
     assert!(rt; pages.bind(keeper, 0, page).is_zero());
-    assert!(rt; enters_first_binding(pages, zero));
-    assert!(rt; enters_first_binding(pages, one));
+    assert!(rt; enters_first_binding(pages, zero) && enters_first_binding(pages, one));
 }
 
 // Touches the page by both passes, the last time after its door was closed.
@@ -167,40 +163,44 @@ fn touches(rt: &impl Abort, pages: &LivePages, keeper: &mut Keeper, zero: &mut P
 }
 
 // The page that was taken out has the last word that was put, and nothing else.
-fn has_seven_alone(rt: &impl Abort, used: &mut Page) {
-    let seven = Word::new(7).expect(rt, "a word");
-    assert!(rt; used.get(3) == seven);
+fn has_seven_alone(used: &mut Page) -> bool {
+    let has_seven = Some(used.get(3)) == Word::new(7);
     used.set(3, Word::ZERO);
-    assert!(rt; used.is_zero());
+    has_seven && used.is_zero()
 }
 
-// Clears both passes, and binds the frame anew, which one of them enters.
-fn binds_anew(
-    rt: &impl Abort,
-    pages: &LivePages,
-    keeper: &mut Keeper,
-    zero: &mut Pass,
-    one: &mut Pass,
-    next: Page,
-)
+// Raises the first stamp, which both passes acknowledge.
+fn clears(pages: &LivePages, keeper: &mut Keeper, zero: &mut Pass, one: &mut Pass) -> bool
     requires keeper { IsKeeperOf pages.now keeper.old × (pages.now.frames ≡ 1) }
     requires fresh { keeper.old.holder.watch.request ≡ 0 }
     requires low { current keeper.old.holder.watch 0 ≤ 1 }
     requires passes { IsPassOf pages.now zero.old × IsPassOf pages.now one.old }
     ensures keeper { IsKeeperOf pages.now keeper.new }
+    ensures low { current keeper.new.holder.watch 0 ≤ 1 }
     ensures zero { IsSame pages.now zero.old zero.new }
     ensures one { IsSame pages.now one.old one.new }
 {
-    assert!(rt; zero.touches() == 2 && one.touches() == 1);
-    assert!(rt; pages.raise(keeper) == 1);
-    assert!(rt; keeper.last_stamp() == 1 && keeper.binding(0) == 1);
-    assert!(rt; !keeper.may_bind(0));
-    assert!(rt; pages.rest(zero) == 1);
-    assert!(rt; pages.rest(one) == 1);
-    assert!(rt; pages.all_clear(keeper, 1) == Ok(()));
-    assert!(rt; keeper.may_bind(0));
-    has_seven_alone(rt, &mut pages.bind(keeper, 0, next));
-    assert!(rt; pages.fill(zero, 0) == Ok(2));
+    let touched = zero.touches() == 2 && one.touches() == 1;
+    let raised = pages.raise(keeper) == 1 && keeper.last_stamp() == 1;
+    let is_bound = keeper.binding(0) == 1 && !keeper.may_bind(0);
+    let zero_rested = pages.rest(zero) == 1;
+    let one_rested = pages.rest(one) == 1;
+    let clear = pages.all_clear(keeper, 1) == Ok(());
+    touched && raised && is_bound && zero_rested && one_rested && clear
+}
+
+// Binds the frame anew, which the pass enters.
+fn binds_anew(pages: &LivePages, keeper: &mut Keeper, pass: &mut Pass, next: Page) -> bool
+    requires keeper { IsKeeperOf pages.now keeper.old × (pages.now.frames ≡ 1) }
+    requires low { current keeper.old.holder.watch 0 ≤ 1 }
+    requires pass { IsPassOf pages.now pass.old }
+    ensures keeper { IsKeeperOf pages.now keeper.new }
+    ensures pass { IsSame pages.now pass.old pass.new }
+{
+    if !keeper.may_bind(0) {
+        return false;
+    }
+    has_seven_alone(&mut pages.bind(keeper, 0, next)) && pages.fill(pass, 0) == Ok(2)
 }
 
 #[test]
@@ -211,9 +211,11 @@ fn binds_touches_and_binds_anew(rt: HostRuntime) -> Result<(), NoMemory> {
     let (mut zero, mut one) = first_two(&pages, passes).expect(&rt, "two passes");
     binds(&rt, &pages, &mut keeper, &mut zero, &mut one, page);
     touches(&rt, &pages, &mut keeper, &mut zero, &mut one);
-    binds_anew(&rt, &pages, &mut keeper, &mut zero, &mut one, next);
+    let cleared = clears(&pages, &mut keeper, &mut zero, &mut one);
+    let is_bound = binds_anew(&pages, &mut keeper, &mut zero, next);
     let ended = close_row(rt.alloc(), pages, keeper, zero, one).expect(&rt, "a row of two");
-    assert!(&rt; ended.pages.len() == 1);
-    assert!(&rt; ended.pages[0].is_zero());
+    let is_zero = ended.pages.len() == 1 && ended.pages[0].is_zero();
+    drop(ended);
+    assert!(&rt; cleared && is_bound && is_zero);
     Ok(())
 }

@@ -4,7 +4,6 @@ ghost use Rattle.core_map.specs.CoreMap.{frame_at, is_bound};
 use core_map::{CoreMap, NoMemory};
 use std::alloc::Global;
 use std::process::Abort;
-use std::test::Fail;
 
 /// Two frames and the hand. Each frame is free, or bound with its used mark off or on.
 type State = (Option<bool>, Option<bool>, u32);
@@ -48,9 +47,7 @@ fn bind(rt: &impl Abort, core: &mut CoreMap, f: u32, used: bool)
     requires two { length core.old.frames ≡ 2 }
     ensures two { length core.new.frames ≡ 2 }
 {
-    assert!(rt; f < 2);
-    assert!(rt; core.page_of(f).is_none());
-    assert!(rt; core.started(f).is_none());
+    assert!(rt; f < 2 && core.page_of(f).is_none() && core.started(f).is_none());
     core.bind(f, 1, 0);
     if used {
         core.mark(f, false);
@@ -95,25 +92,37 @@ fn core_in(rt: &impl Abort, alloc: Global, state: State) -> Result<CoreMap, NoMe
     Ok(core)
 }
 
-/// What a core in this state shows: its frames with their marks, and its hand.
-fn shown(rt: &impl Abort, alloc: Global, state: State) -> Result<String, Fail> {
-    let core = core_in(rt, alloc, state)?;
-    Ok(format!(in alloc; "{core:?}")?)
+/// Whether two cores show the same: their frames with their marks, and their hands.
+fn look_alike(alloc: Global, one: &CoreMap, other: &CoreMap) -> Result<bool, NoMemory> {
+    let found = format!(in alloc; "{one:?}")?;
+    let wanted = format!(in alloc; "{other:?}")?;
+    Ok(found.as_str() == wanted.as_str())
 }
 
-/// What it shows after the clock made this choice.
-fn shown_after(rt: &impl Abort, alloc: Global, state: State, choice: u32) -> Result<String, Fail> {
-    let mut core = core_in(rt, alloc, state)?;
-    assert!(rt; choose(rt, &mut core) == choice, "{state:?}");
-    Ok(format!(in alloc; "{core:?}")?)
+/// Whether the clock makes this choice in the one state, and comes to the other.
+fn chooses(
+    rt: &impl Abort,
+    alloc: Global,
+    before: State,
+    choice: u32,
+    after: State,
+) -> Result<bool, NoMemory> {
+    let mut core = core_in(rt, alloc, before)?;
+    let is_chosen = choose(rt, &mut core) == choice;
+    let wanted = core_in(rt, alloc, after)?;
+    let are_alike = look_alike(alloc, &core, &wanted);
+    drop(core);
+    drop(wanted);
+    Ok(is_chosen && are_alike?)
 }
 
 #[test]
-fn chooses_by_the_marks_of_two_frames_and_the_hand(rt: HostRuntime) -> Result<(), Fail> {
-    for (before, choice, after) in CASES {
-        let found = shown_after(&rt, rt.alloc(), before, choice)?;
-        let wanted = shown(&rt, rt.alloc(), after)?;
-        assert!(rt; found.as_str() == wanted.as_str());
+fn chooses_by_the_marks_of_two_frames_and_the_hand(rt: HostRuntime) -> Result<(), NoMemory> {
+    for (before, choice, after) in &CASES {
+        assert!(rt;
+            chooses(&rt, rt.alloc(), *before, *choice, *after)?,
+            "at {before:?}"
+        );
     }
     Ok(())
 }

@@ -1,7 +1,6 @@
 use bulk_store::{BulkStore, NoMemory};
 use mword::{Page, Word};
 use std::alloc::Global;
-use std::test::Fail;
 use volumes::{CoreDrive, Drive, FailLine};
 
 /// A fast store before a disk, both in core.
@@ -98,18 +97,17 @@ struct Plan {
 
 /// A drive of so many records, of which a call may fail.
 fn drive(alloc: Global, records: u32, line: FailLine) -> Result<CoreDrive, NoMemory> {
-    let lines = vec![in alloc; line].map_err(|_| NoMemory)?;
-    Ok(CoreDrive::new(alloc, records, lines)?)
+    let lines = vec![in alloc; line]?;
+    CoreDrive::new(alloc, records, lines)
 }
 
 /// The store of a plan with at least one place.
 fn store_of(alloc: Global, plan: Plan) -> Result<Store, NoMemory> {
     let fast = drive(alloc, plan.places, plan.fast)?;
-    let disk = drive(alloc, 16, plan.disk)?;
     if fast.size() == 0 {
         return Err(NoMemory);
     }
-    BulkStore::new(alloc, fast, disk)
+    BulkStore::new(alloc, fast, drive(alloc, 16, plan.disk)?)
 }
 
 /// The reads and writes of a fast store, and those of its disk.
@@ -122,10 +120,13 @@ fn runs_as_told(
     calls: &[(Call, End)],
     counts: Counts,
 ) -> Result<bool, NoMemory> {
-    let mut page = Page::zero(alloc).map_err(|_| NoMemory)?;
+    let mut page = Page::zero(alloc)?;
     let mut store = store_of(alloc, plan)?;
-    let told = end_as_told(&mut store, calls, &mut page);
-    Ok(told && (store.fast().calls(), store.disk().calls()) == counts)
+    let is_told = end_as_told(&mut store, calls, &mut page);
+    let is_counted = (store.fast().calls(), store.disk().calls()) == counts;
+    drop(store);
+    drop(page);
+    Ok(is_told && is_counted)
 }
 
 /// A plan in which no call of the fast store fails.
@@ -165,7 +166,7 @@ const SIX_PAGES: [(Call, End); 13] = [
 ];
 
 #[test]
-fn the_same_pages_are_read_back_with_any_number_of_places(rt: HostRuntime) -> Result<(), Fail> {
+fn the_same_pages_are_read_back_with_any_number_of_places(rt: HostRuntime) -> Result<(), NoMemory> {
     for (places, counts) in [
         (1, ((6, 6), (6, 5))),
         (2, ((6, 6), (5, 4))),
@@ -191,7 +192,7 @@ fn five_pages(second: End, third: End) -> [(Call, End); 7] {
 }
 
 #[test]
-fn a_write_fails_where_the_disk_fails_to_take_the_oldest(rt: HostRuntime) -> Result<(), Fail> {
+fn a_write_fails_where_the_disk_fails_to_take_the_oldest(rt: HostRuntime) -> Result<(), NoMemory> {
     for (places, second, third, counts) in [
         (1, Failed, Done, ((5, 5), (1, 5))),
         (2, Done, Failed, ((4, 5), (0, 3))),
@@ -225,12 +226,21 @@ const OLDEST_STAYS: [(Call, End); 4] = [
 const READ_AGAIN: [(Call, End); 2] = [(Read(5, 0), Failed), (Read(5, 0), Done)];
 
 #[test]
-fn no_page_is_lost_and_no_call_made_again_where_one_fails(rt: HostRuntime) -> Result<(), Fail> {
-    let out = ((2, 3), (2, 1));
-    assert!(rt; runs_as_told(rt.alloc(), single(nth_write(2)), &OLDEST_OUT, out)?);
-    let stays = ((2, 1), (1, 0));
-    assert!(rt; runs_as_told(rt.alloc(), single(FIRST_READ), &OLDEST_STAYS, stays)?);
-    let read = ((0, 0), (2, 0));
-    assert!(rt; runs_as_told(rt.alloc(), sure(2, FIRST_READ), &READ_AGAIN, read)?);
+fn no_page_is_lost_and_no_call_made_again_where_one_fails(rt: HostRuntime) -> Result<(), NoMemory> {
+    for (plan, calls, counts) in [
+        (
+            single(nth_write(2)),
+            OLDEST_OUT.as_slice(),
+            ((2, 3), (2, 1)),
+        ),
+        (
+            single(FIRST_READ),
+            OLDEST_STAYS.as_slice(),
+            ((2, 1), (1, 0)),
+        ),
+        (sure(2, FIRST_READ), READ_AGAIN.as_slice(), ((0, 0), (2, 0))),
+    ] {
+        assert!(rt; runs_as_told(rt.alloc(), plan, calls, counts)?);
+    }
     Ok(())
 }

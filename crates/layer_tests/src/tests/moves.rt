@@ -7,7 +7,6 @@ use mword::{Page, Word};
 use seg_mover::Mover;
 use std::alloc::Global;
 use std::process::Abort;
-use std::test::Fail;
 use volumes::{CoreDrive, FailLine, NoMemory, Part, Volumes};
 
 /// Volumes whose drives are in core.
@@ -31,7 +30,7 @@ fn part(
         number,
         onward: false,
     };
-    let fails = vec![in alloc; line].map_err(|_| NoMemory)?;
+    let fails = vec![in alloc; line]?;
     let drive = CoreDrive::new(alloc, records, fails)?;
     Ok(Part { drive, entries: 2 })
 }
@@ -80,10 +79,9 @@ fn store(rt: &impl Abort, v: &mut Disks, home: (u32, u32), p: u32, page: &mut Pa
 {
     assert!(rt; p < 256);
     let r = file(rt, v, home, p);
-    assert!(rt; r < v.size(home.0));
     page.set(0, Word::new(10 + u64::from(p)).unwrap_or(Word::ZERO));
-    let written = v.write_page(home.0, r, page).is_ok();
-    assert!(rt; written);
+    let is_written = r < v.size(home.0) && v.write_page(home.0, r, page).is_ok();
+    assert!(rt; is_written);
 }
 
 /// A segment of these pages on the first volume.
@@ -118,13 +116,15 @@ fn begin(rt: &impl Abort, v: &mut Disks, from: (u32, u32)) -> Mover
     ensures { IsMoving v.new result }
 {
     let pages = pages_of(v, from);
-    assert!(rt; from.0 == 0);
-    assert!(rt; v.count() == 2);
-    assert!(rt; v.vtoc(0).uid_at(from.1) == Some(UID));
-    assert!(rt; v.vtoc(1).used() < v.vtoc(1).size());
-    assert!(rt; v.size(1) < 1000);
-    assert!(rt; pages <= v.size(1));
-    assert!(rt; v.taken(1) <= v.size(1) - pages);
+    assert!(rt;
+        from.0 == 0
+            && v.count() == 2
+            && v.vtoc(0).uid_at(from.1) == Some(UID)
+            && v.vtoc(1).used() < v.vtoc(1).size()
+            && v.size(1) < 1000
+            && pages <= v.size(1)
+            && v.taken(1) <= v.size(1) - pages
+    );
     Mover::begin(v, UID, from, 1)
 }
 
@@ -211,45 +211,71 @@ fn gives_all_back(rt: &impl Abort, v: &mut Disks, copies: u32, page: &mut Page) 
     copied == (copies, true) && in_use(rt, v) == before && has_words(v, home, 256, page)
 }
 
+/// The read of the first volume that fails, or the write of the second, and how many pages are copied before.
+const FAULTS: [(u32, u32, u32); 8] = [
+    (1, 0, 0),
+    (2, 0, 1),
+    (3, 0, 2),
+    (4, 0, 3),
+    (0, 1, 0),
+    (0, 2, 1),
+    (0, 3, 2),
+    (0, 4, 3),
+];
+
 #[test]
-fn an_undo_after_a_copy_that_failed_gives_all_back(rt: HostRuntime) -> Result<(), Fail> {
-    let mut page = Page::zero(rt.alloc()).map_err(|_| NoMemory)?;
-    for number in 1..5 {
-        let mut read = two_volumes(rt.alloc(), number, 0)?;
-        assert!(rt; gives_all_back(&rt, &mut read, number - 1, &mut page));
-        let mut write = two_volumes(rt.alloc(), 0, number)?;
-        assert!(rt; gives_all_back(&rt, &mut write, number - 1, &mut page));
+fn an_undo_after_a_copy_that_failed_gives_all_back(rt: HostRuntime) -> Result<(), NoMemory> {
+    let mut page = Page::zero(rt.alloc())?;
+    for (read, write, copies) in &FAULTS {
+        let mut v = two_volumes(rt.alloc(), *read, *write)?;
+        let is_back = gives_all_back(&rt, &mut v, *copies, &mut page);
+        drop(v);
+        assert!(rt; is_back);
     }
     Ok(())
 }
 
-#[test]
-fn a_copy_that_failed_is_made_again(rt: HostRuntime) -> Result<(), Fail> {
-    let mut page = Page::zero(rt.alloc()).map_err(|_| NoMemory)?;
-    let mut v = two_volumes(rt.alloc(), 2, 0)?;
-    let from = segment(&rt, &mut v, &mut page);
-    let mut m = begin(&rt, &mut v, from);
-    assert!(rt; copy_pages(&mut m, &mut v, &[false; 256], &mut page) == (1, true));
-    assert!(rt; m.next == 1);
-    assert!(rt; copy_pages(&mut m, &mut v, &[false; 256], &mut page) == (3, false));
-    let home = commit(m, &mut v);
-    assert!(rt; home == (1, 0) && in_use(&rt, &v) == ((0, 0), (4, 1)));
-    assert!(rt; has_words(&mut v, home, 256, &mut page));
-    Ok(())
+/// Whether the copy of the second page fails at first, and then all pages are copied.
+fn copies_again(rt: &impl Abort, v: &mut Disks, page: &mut Page) -> bool {
+    let from = segment(rt, v, page);
+    let mut m = begin(rt, v, from);
+    let has_failed = copy_pages(&mut m, v, &[false; 256], page) == (1, true) && m.next == 1;
+    let is_copied = copy_pages(&mut m, v, &[false; 256], page) == (3, false);
+    let home = commit(m, v);
+    let is_moved = home == (1, 0) && in_use(rt, v) == ((0, 0), (4, 1));
+    has_failed && is_copied && is_moved && has_words(v, home, 256, page)
 }
 
 #[test]
-fn a_page_that_is_skipped_is_not_copied(rt: HostRuntime) -> Result<(), Fail> {
-    let mut page = Page::zero(rt.alloc()).map_err(|_| NoMemory)?;
-    let mut v = two_volumes(rt.alloc(), 4, 4)?;
+fn a_copy_that_failed_is_made_again(rt: HostRuntime) -> Result<(), NoMemory> {
+    let mut page = Page::zero(rt.alloc())?;
+    let mut v = two_volumes(rt.alloc(), 2, 0)?;
+    let is_copied = copies_again(&rt, &mut v, &mut page);
+    drop(v);
+    drop(page);
+    assert!(rt; is_copied);
+    Ok(())
+}
+
+/// Whether all pages are copied but page 3, which is skipped.
+fn copies_but_one(rt: &impl Abort, v: &mut Disks, page: &mut Page) -> bool {
     let mut skip = [false; 256];
     skip[3] = true;
-    let from = segment(&rt, &mut v, &mut page);
-    let mut m = begin(&rt, &mut v, from);
-    assert!(rt; copy_pages(&mut m, &mut v, &skip, &mut page) == (3, false));
-    let home = commit(m, &mut v);
-    assert!(rt; in_use(&rt, &v) == ((0, 0), (4, 1)));
-    assert!(rt; has_words(&mut v, home, 3, &mut page));
-    assert!(rt; !has_word(&mut v, home, 3, &mut page));
+    let from = segment(rt, v, page);
+    let mut m = begin(rt, v, from);
+    let is_copied = copy_pages(&mut m, v, &skip, page) == (3, false);
+    let home = commit(m, v);
+    let is_moved = in_use(rt, v) == ((0, 0), (4, 1));
+    is_copied && is_moved && has_words(v, home, 3, page) && !has_word(v, home, 3, page)
+}
+
+#[test]
+fn a_page_that_is_skipped_is_not_copied(rt: HostRuntime) -> Result<(), NoMemory> {
+    let mut page = Page::zero(rt.alloc())?;
+    let mut v = two_volumes(rt.alloc(), 4, 4)?;
+    let is_copied = copies_but_one(&rt, &mut v, &mut page);
+    drop(v);
+    drop(page);
+    assert!(rt; is_copied);
     Ok(())
 }

@@ -1,5 +1,5 @@
 ghost use Rattle.std.specs.Prelude.{◌≡◌, ℕ, true, None, Some, List, length, is_some, replicate, IfOk};
-ghost use Rattle.core_map.specs.CoreMap.{reads_of};
+ghost use Rattle.core_map.specs.CoreMap.{reads_of, IsLeastFreeFrame};
 ghost use Rattle.page_table.specs.PageTable.{ptw_at};
 ghost use Rattle.vtoc.specs.Vtoc.{entry_at, record_at, uid_of};
 ghost use Rattle.page_control.specs.Plain.{plain, bindings};
@@ -12,7 +12,6 @@ use page_control::{Home, NoMemory, Pages};
 use page_table::{PageTable, Ptw};
 use std::alloc::Global;
 use std::process::Abort;
-use std::test::Fail;
 use volumes::{CoreDrive, Drive, Part, Volumes};
 use vtoc::Vtoc;
 
@@ -28,6 +27,13 @@ fn two_volumes(alloc: Global) -> Result<Volumes<CoreDrive>, NoMemory>
     Volumes::new(alloc, parts)
 }
 
+/// The least free frame.
+fn free_frame<D: Drive>(rt: &impl Abort, pages: &Pages<D>) -> u32
+    ensures { IsLeastFreeFrame pages.now.core result }
+{
+    pages.frames().take_free().expect(rt, "a free frame")
+}
+
 /// Makes page `p` of a segment.
 fn make<D: Drive>(
     rt: &impl Abort,
@@ -41,10 +47,9 @@ fn make<D: Drive>(
     ensures tie { IsTied (plain D.pages pages.new) uid home t.new }
     ensures reads { reads_of pages.new.core ≡ reads_of pages.old.core }
 {
-    let f = pages.frames().take_free().expect(rt, "a free frame");
+    let f = free_frame(rt, pages);
     assert!(rt; p < t.size() && t.get(p) == Ptw::Null);
-    assert!(rt; home.volume < pages.volumes().count());
-    assert!(rt; pages.volumes().size(home.volume) < 65536);
+    assert!(rt; home.volume < pages.volumes().count() && pages.volumes().size(home.volume) < 65536);
     let word = Word::new(1).unwrap_or(Word::ZERO);
     assert!(rt; pages.create_page(t, uid, p, home, f, 0, word).is_ok());
 }
@@ -68,7 +73,7 @@ fn leave<D: Drive>(
             pages.take(t, f);
             assert!(rt; pages.evict(t, home, f).is_ok());
         }
-        Ptw::Null | Ptw::Out(_) | Ptw::Leaving(_) => panic!(rt; "page {p} is in no frame"),
+        Ptw::Null | Ptw::Out(_) | Ptw::Leaving(_) => panic!(rt; "the page is in no frame"),
     }
 }
 
@@ -85,7 +90,7 @@ fn bring<D: Drive>(
     requires idle { reads_of pages.old.core ≡ replicate 4 None }
     ensures tie { IsTied (plain D.pages pages.new) uid home t.new }
 {
-    let f = pages.frames().take_free().expect(rt, "a free frame");
+    let f = free_frame(rt, pages);
     assert!(rt; p < t.size() && matches!(t.get(p), Ptw::Out(_)));
     pages.start_in(t, uid, p, f);
     assert!(rt; pages.end_in(t, uid, p, home, f).is_ok());
@@ -98,7 +103,7 @@ fn is_modified<D: Drive>(rt: &impl Abort, pages: &Pages<D>, t: &PageTable, uid: 
     assert!(rt; p < t.size());
     match t.get(p) {
         Ptw::Here(f) => pages.frames().modified(f),
-        Ptw::Null | Ptw::Out(_) | Ptw::Leaving(_) => panic!(rt; "page {p} is in no frame"),
+        Ptw::Null | Ptw::Out(_) | Ptw::Leaving(_) => panic!(rt; "the page is in no frame"),
     }
 }
 
@@ -190,20 +195,33 @@ fn word(rt: &impl Abort, t: &PageTable, p: u32) -> Ptw {
     t.get(p)
 }
 
+/// Whether a segment that moves to a second home names its new records there, and its frame is marked.
+fn moves<D: Drive>(rt: &impl Abort, pages: &mut Pages<D>, t: &mut PageTable) -> bool
+    requires filed { AreFiled pages.old.volumes.records pages.old.volumes.vtocs }
+    requires frames { HasNoFrame (bindings pages.old.core) 7 }
+    requires idle { reads_of pages.old.core ≡ replicate 4 None }
+    requires blank { IsBlank t.old }
+{
+    let first = first_home(rt, pages, t, 7);
+    two_pages(rt, pages, t, 7, first);
+    let was_modified = is_modified(rt, pages, t, 7, 0);
+    let frame = word(rt, t, 0);
+    let home = second_home(rt, pages, t, 7, 1);
+    pages.rehome(t, 7, home);
+    let is_marked = !was_modified && is_modified(rt, pages, t, 7, 0);
+    let is_same = word(rt, t, 0) == frame;
+    is_marked && is_same && (word(rt, t, 1), word(rt, t, 2)) == (Ptw::Out(0), Ptw::Null)
+}
+
 #[test]
 fn a_segment_that_moves_names_new_records_and_marks_its_frames(
     rt: HostRuntime,
-) -> Result<(), Fail> {
+) -> Result<(), NoMemory> {
     let mut pages = Pages::new(rt.alloc(), 4, two_volumes(rt.alloc())?)?;
     let mut t = PageTable::new(rt.alloc(), 256)?;
-    let first = first_home(&rt, &mut pages, &t, 7);
-    two_pages(&rt, &mut pages, &mut t, 7, first);
-    assert!(rt; !is_modified(&rt, &pages, &t, 7, 0));
-    let frame = word(&rt, &t, 0);
-    let home = second_home(&rt, &mut pages, &t, 7, 1);
-    pages.rehome(&mut t, 7, home);
-    assert!(rt; is_modified(&rt, &pages, &t, 7, 0));
-    assert!(rt; word(&rt, &t, 0) == frame);
-    assert!(rt; (word(&rt, &t, 1), word(&rt, &t, 2)) == (Ptw::Out(0), Ptw::Null));
+    let is_moved = moves(&rt, &mut pages, &mut t);
+    drop(pages);
+    drop(t);
+    assert!(rt; is_moved);
     Ok(())
 }

@@ -5,8 +5,7 @@ use std::thread;
 fn standard_streams_and_a_gate_are_there(rt: HostRuntime) {
     let mut source = StdSource::new(rt.stdin());
     let mut sink = StdSink::new(rt.stdout());
-    assert!(rt; source.read(&mut []) == Ok(0));
-    assert!(rt; sink.write(b"") == Ok(0));
+    assert!(rt; source.read(&mut []) == Ok(0) && sink.write(b"") == Ok(0));
     NoGate.hold(&rt, 0, Point::Other);
 }
 
@@ -14,10 +13,8 @@ fn standard_streams_and_a_gate_are_there(rt: HostRuntime) {
 fn a_source_over_a_reader_gives_its_bytes_and_then_its_end(rt: HostRuntime) {
     let mut source = StdSource::new(b"ab".as_slice());
     let mut buffer = [0; 4];
-    assert!(rt; source.read(&mut buffer) == Ok(2));
-    assert!(rt; buffer == [b'a', b'b', 0, 0]);
-    assert!(rt; source.read(&mut buffer) == Ok(0));
-    assert!(rt; source.read(&mut buffer) == Ok(0));
+    assert!(rt; source.read(&mut buffer) == Ok(2) && buffer == [b'a', b'b', 0, 0]);
+    assert!(rt; source.read(&mut buffer) == Ok(0) && source.read(&mut buffer) == Ok(0));
 }
 
 #[test]
