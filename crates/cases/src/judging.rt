@@ -2,10 +2,11 @@
 
 ghost use Rattle.flat_model.specs.Legal.{IsLegal};
 
+use crate::texts::ends_text;
 use book::{Book, entry_text};
 use book_check::{CheckFault, Rule, check_book};
 use flat_store::FlatStore;
-use listing::{listing_text, summary, summary_text};
+use listing::listing_text;
 use no_memory::NoMemory;
 use script::script_text;
 use std::alloc::{AllocError, Global};
@@ -37,9 +38,7 @@ fn entries_text(alloc: Global, book: &Book) -> Result<Vec<u8>, NoMemory> {
 /// A book with its script and its summary, as the judge of listings reads it.
 fn whole_text(alloc: Global, book: &Book, store: &FlatStore) -> Result<Vec<u8>, NoMemory> {
     let mut text = entries_text(alloc, book)?;
-    let summary = summary(alloc, book.script(), store)?;
-    let lines = summary_text(alloc, &summary)?;
-    push(&mut text, &lines)?;
+    push(&mut text, &ends_text(alloc, book.script(), store)?)?;
     Ok(text)
 }
 
@@ -72,12 +71,10 @@ pub(crate) fn verdict(
 ) -> Result<&'static str, NoMemory>
     requires { IsLegal book.now.script book.now.entries }
 {
-    let text = whole_text(alloc, book, store)?;
-    if !is_accepted(alloc, &text, &[])? {
-        return Ok("refused");
-    }
-    let listing = listing_text(alloc, book)?;
-    if listing.as_slice() == written {
+    let is_whole = is_accepted(alloc, &whole_text(alloc, book, store)?, &[])?;
+    if !is_whole {
+        Ok("refused")
+    } else if listing_text(alloc, book)?.as_slice() == written {
         Ok("accepted and listed")
     } else {
         Ok("accepted, and not listed")

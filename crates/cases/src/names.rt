@@ -11,11 +11,11 @@ use crate::texts::{bracketed, joined};
 use no_memory::NoMemory;
 use std::alloc::Global;
 
-/// A text, and what it is read as.
-fn text_line(alloc: Global, kind: &str, text: &str) -> Result<String, NoMemory> {
+/// Appends a text, and what it is read as.
+fn push_line(given: &mut String, alloc: Global, kind: &str, text: &str) -> Result<(), NoMemory> {
     let whole = joined(alloc, "", text, '|')?;
     let read = read_as(alloc, kind, whole.as_str())?;
-    Ok(format!(in alloc; "[{text}] {read}\n")?)
+    Ok(write!(given, "[{text}] {read}\n")?)
 }
 
 /// What each line of a case is read as.
@@ -23,7 +23,7 @@ pub(crate) fn given(alloc: Global, kind: &str, lines: &str) -> Result<String, No
     let mut given = String::new(alloc);
     for line in lines.lines() {
         if let Some(text) = bracketed(line) {
-            given.push_str(text_line(alloc, kind, text)?.as_str())?;
+            push_line(&mut given, alloc, kind, text)?;
         }
     }
     Ok(given)

@@ -1,6 +1,7 @@
-//! How the lines of a case are read that stand for texts of their own, and what is printed of a word.
+//! How the lines of a case are read that stand for texts of their own, and what is printed of a flat store.
 
 use flat_store::FlatStore;
+use listing::{summary, summary_text};
 use no_memory::NoMemory;
 use script::{Script, ScriptFault, read_script};
 use std::alloc::Global;
@@ -41,6 +42,16 @@ pub(crate) fn script_of(alloc: Global, text: &str) -> Result<Script, NoMemory> {
         Ok(script) => Ok(script),
         Err(_) => Err(NoMemory),
     }
+}
+
+/// The accounts and the volumes of a flat store.
+pub(crate) fn ends_text(
+    alloc: Global,
+    script: &Script,
+    store: &FlatStore,
+) -> Result<String, NoMemory> {
+    let summary = summary(alloc, script, store)?;
+    summary_text(alloc, &summary)
 }
 
 /// The word at a place of a segment, which is a uid and an offset with a dot between.

@@ -44,14 +44,17 @@ fn root_line(alloc: Global, book: &Book, store: &FlatStore) -> Result<String, No
     }
 }
 
-/// The words at the places that are asked for.
-fn words_text(alloc: Global, store: &FlatStore, places: &str) -> Result<String, NoMemory> {
-    let mut text = String::new(alloc);
+/// Appends the words at the places that are asked for.
+fn push_words(
+    text: &mut String,
+    alloc: Global,
+    store: &FlatStore,
+    places: &str,
+) -> Result<(), NoMemory> {
     for place in places.split(' ').filter(|place| !place.is_empty()) {
-        let line = word_line(alloc, store, place)?;
-        text.push_str(&line)?;
+        text.push_str(&word_line(alloc, store, place)?)?;
     }
-    Ok(text)
+    Ok(())
 }
 
 /// What is told of a book, by the flat store after it.
@@ -64,13 +67,14 @@ fn told_by(
 ) -> Result<String, NoMemory>
     requires { IsLegal book.now.script book.now.entries }
 {
-    let root = match asked.times {
+    let mut text = match asked.times {
         0 => root_line(alloc, book, store)?,
         _ => String::new(alloc),
     };
-    let words = words_text(alloc, store, asked.places)?;
-    let verdict = verdict(alloc, book, store, written)?;
-    Ok(format!(in alloc; "{root}{words}{verdict}\n")?)
+    push_words(&mut text, alloc, store, asked.places)?;
+    text.push_str(verdict(alloc, book, store, written)?)?;
+    text.push('\n')?;
+    Ok(text)
 }
 
 /// What is told of a book: where the program runs once, the pages that the root is charged for; the words that are
@@ -106,9 +110,9 @@ pub(crate) fn book_text(
 ) -> Result<String, NoMemory> {
     match &finished.machine {
         Some(machine) => {
-            let calls = calls_line(alloc, asked, machine.volumes())?;
-            let told = told_of(alloc, asked, machine.book(), written)?;
-            Ok(format!(in alloc; "{calls}{told}")?)
+            let mut text = calls_line(alloc, asked, machine.volumes())?;
+            text.push_str(&told_of(alloc, asked, machine.book(), written)?)?;
+            Ok(text)
         }
         None => Ok(String::new(alloc)),
     }

@@ -11,11 +11,11 @@ fn read_text(alloc: Global, text: &str) -> Result<String, NoMemory> {
     }
 }
 
-/// A case, and the text of the entry that it is.
-fn case_text(alloc: Global, case: &str) -> Result<String, NoMemory> {
+/// Appends a case, and the text of the entry that it is.
+fn push_case(given: &mut String, alloc: Global, case: &str) -> Result<(), NoMemory> {
     let line = joined(alloc, "", case, '/')?;
     let entry = read_text(alloc, line.as_str())?;
-    Ok(format!(in alloc; "[{case}] {entry}\n")?)
+    Ok(write!(given, "[{case}] {entry}\n")?)
 }
 
 /// The text of the entry that each line in brackets is.
@@ -23,7 +23,7 @@ pub(crate) fn entries_text(alloc: Global, text: &str) -> Result<String, NoMemory
     let mut given = String::new(alloc);
     for line in text.lines() {
         if let Some(case) = bracketed(line) {
-            given.push_str(case_text(alloc, case)?.as_str())?;
+            push_case(&mut given, alloc, case)?;
         }
     }
     Ok(given)

@@ -6,7 +6,10 @@ use std::alloc::Global;
 /// What reading gives: `script`, or the line and the cause of the refusal.
 fn outcome(alloc: Global, text: &str) -> Result<String, NoMemory> {
     match read(alloc, text) {
-        Ok(_) => Ok(String::from_str(alloc, "script")?),
+        Ok(script) => {
+            drop(script);
+            Ok(String::from_str(alloc, "script")?)
+        }
         Err(ScriptFault::Refused(refusal)) => {
             let (line, cause) = (refusal.line, refusal.cause);
             Ok(format!(in alloc; "{line}: {cause}")?)
@@ -23,11 +26,11 @@ fn front_of(text: &str) -> &str {
     }
 }
 
-/// What a case gives after a front.
-fn case_text(alloc: Global, front: &str, case: &str) -> Result<String, NoMemory> {
+/// Appends what a case gives after a front.
+fn push_case(given: &mut String, alloc: Global, front: &str, case: &str) -> Result<(), NoMemory> {
     let script = joined(alloc, front, case, '/')?;
     let outcome = outcome(alloc, script.as_str())?;
-    Ok(format!(in alloc; "[{case}] {outcome}\n")?)
+    Ok(write!(given, "[{case}] {outcome}\n")?)
 }
 
 /// What each line in brackets gives after the front.
@@ -36,7 +39,7 @@ pub(crate) fn lines_text(alloc: Global, text: &str) -> Result<String, NoMemory> 
     let mut given = String::new(alloc);
     for line in text.lines() {
         if let Some(case) = bracketed(line) {
-            given.push_str(case_text(alloc, front, case)?.as_str())?;
+            push_case(&mut given, alloc, front, case)?;
         }
     }
     Ok(given)

@@ -1,7 +1,6 @@
-use crate::texts::word_line;
+use crate::texts::{ends_text, word_line};
 use book::read_entry;
 use flat_store::FlatStore;
-use listing::{summary, summary_text};
 use no_memory::NoMemory;
 use script::Script;
 use std::alloc::Global;
@@ -44,12 +43,6 @@ fn volume_text(alloc: Global, store: &FlatStore, number: &str) -> Result<String,
     let taken = store.taken(volume);
     let entries = store.entries(volume);
     Ok(format!(in alloc; "volume {volume} records {taken} entries {entries}\n")?)
-}
-
-/// The accounts and the volumes.
-fn ends_text(alloc: Global, script: &Script, store: &FlatStore) -> Result<String, NoMemory> {
-    let summary = summary(alloc, script, store)?;
-    summary_text(alloc, &summary)
 }
 
 /// What a line asks of the flat store.
