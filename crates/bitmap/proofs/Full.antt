@@ -1,6 +1,6 @@
 -- A map of which all numbers are in use.
-use Rattle.std.proofs.Common.{◌≡◌, ℕ, suc, zero, ◌+◌, ◌-◌, ◌*◌, ◌/◌, ◌^◌, ◌<◌, ◌≤◌, Bool, true, cond, eqb, List}
-use Rattle.std.proofs.Common.{length, refl, sym, ap, ◌∙◌, arith, replicate, slice_index, count_by, get_or}
+use Rattle.std.proofs.Common.{◌≡◌, ℕ, suc, zero, ◌+◌, ◌/◌, ◌^◌, ◌<◌, true, cond, eqb, List}
+use Rattle.std.proofs.Common.{length, refl, sym, ap, ◌∙◌, arith, replicate, slice_index, count_by}
 use Rattle.std.proofs.lemmas.List.{length-replicate, get_or-replicate, ext_get_or}
 use Rattle.std.proofs.lemmas.List.Sums.{sum_by-cons}
 use Rattle.bitmap.specs.Bits.{bit_on, flags_of, HasTwoLevels}

@@ -7,7 +7,7 @@ use Rattle.assoc_mem.specs.declared.What.{What}
 use Rattle.processor.specs.declared.Transfer.{Transfer}
 use Rattle.machine_model.specs.declared.Processor.{Processor}
 use Rattle.machine_model.specs.Actions as act
-use Rattle.machine_model.specs.Actions.{action_of, clear_or, go_on_with, is_over, load_or_idle, own_or_run, run_process}
+use Rattle.machine_model.specs.Actions.{action_of, clear_or, go_on_with, load_or_idle, own_or_run, run_process}
 use Rattle.machine_model.specs.Actions.{transfer_or}
 use Rattle.machine_model.specs.After.{no_call}
 use Rattle.machine_model.specs.Keeps.{Keeps}

@@ -34,7 +34,7 @@ use Rattle.machine_model.specs.declared.Processor.{Processor}
 use Rattle.machine_model.specs.Actions as act
 use Rattle.machine_model.specs.Actions.{action_of, by_move, clear_or, come_to, copy_or_commit, finish_of}
 use Rattle.machine_model.specs.Actions.{go_on_with, has_had_its_turn}
-use Rattle.machine_model.specs.Actions.{is_empty, is_over, load_or_idle, look_of, move_of, once_cleared, own_or_run}
+use Rattle.machine_model.specs.Actions.{is_empty, load_or_idle, look_of, move_of, once_cleared, own_or_run}
 use Rattle.machine_model.specs.Actions.{refer_or_take, run_process, take_or_wait, transfer_or}
 use Rattle.machine_model.specs.After.{no_call}
 use Rattle.machine_model.specs.Promise.{IsMachine}

@@ -17,7 +17,7 @@ use Rattle.machine_model.specs.declared.Phase.{Phase}
 use Rattle.machine_model.specs.declared.Phase.TheVariants as phase
 use Rattle.machine_model.specs.declared.Processor.{Processor}
 use Rattle.machine_model.specs.Actions as act
-use Rattle.machine_model.specs.Actions.{action_of, is_over}
+use Rattle.machine_model.specs.Actions.{action_of}
 use Rattle.machine_model.specs.Reads.{flat_of, is_due, next_command, or_zero, processor_at}
 use Rattle.machine_model.specs.State.{Owner, State}
 use Rattle.machine_model.proofs.ActionCases.{action_by}

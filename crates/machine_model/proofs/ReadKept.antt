@@ -31,7 +31,7 @@ use Rattle.machine_model.specs.declared.Aim.TheVariants as aim
 use Rattle.machine_model.specs.declared.Processor.{Processor}
 use Rattle.machine_model.specs.declared.Run.{Run}
 use Rattle.machine_model.specs.Actions as act
-use Rattle.machine_model.specs.Actions.{action_of, clear_or, is_over, own_or_run, transfer_or}
+use Rattle.machine_model.specs.Actions.{action_of, clear_or, own_or_run, transfer_or}
 use Rattle.machine_model.specs.After.{Outcome, after}
 use Rattle.machine_model.specs.Commits.{committed, committed_at, frames_freed, inactive_if, with_deleted, with_made}
 use Rattle.machine_model.specs.Commits.{with_truncated}

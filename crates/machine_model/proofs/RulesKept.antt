@@ -30,7 +30,7 @@ use Rattle.machine_model.specs.declared.Phase.{Phase}
 use Rattle.machine_model.specs.declared.Phase.TheVariants as phase
 use Rattle.machine_model.specs.Actions as act
 use Rattle.machine_model.specs.Actions.{action_of, by_move, clear_or, come_to, finish_of, go_on_with, has_had_its_turn}
-use Rattle.machine_model.specs.Actions.{is_empty, is_over, load_or_idle, look_of, once_cleared, own_or_run}
+use Rattle.machine_model.specs.Actions.{is_empty, load_or_idle, look_of, once_cleared, own_or_run}
 use Rattle.machine_model.specs.Actions.{refer_or_take, run_process, take_or_wait, transfer_or}
 use Rattle.machine_model.specs.After.{Outcome, after}
 use Rattle.machine_model.specs.Custodial.{names}

@@ -2,7 +2,7 @@
 use Rattle.std.proofs.Common.{◌≡◌, ℕ, suc, zero, ◌+◌, ◌-◌, ◌<◌, ◌≤◌, List, [], ◌∷◌, ◌++◌, length}
 use Rattle.std.proofs.Common.{refl, sym, ap, ◌∙◌, arith, get_or, take, drop, add-one}
 use Rattle.std.proofs.lemmas.Grind.{common_steps}
-use Rattle.script.proofs.LineSteps.{NoFeedBefore, all_left, drop_at, line_byte, line_feed, line_last}
+use Rattle.script.proofs.LineSteps.{NoFeedBefore, all_left, line_byte, line_feed, line_last}
 use Rattle.script.specs.Fields.{lines_of, onto_piece}
 use Rattle.schedule.specs.Passing.{Closes}
 

@@ -2,7 +2,7 @@ use Rattle.std.proofs.Common.{rules}
 use Rattle.std.specs.Prelude.{IsSome}
 use Rattle.machine_model.specs.Reads.{cpu_at, cut_of_owner, frames_of_owner}
 use Rattle.machine_model.specs.State.{State}
-use Rattle.machine_tables.proofs.RuleLaws.{looking_still, moved_active, moved_short, owner_busy}
+use Rattle.machine_tables.proofs.RuleLaws.{moved_active, moved_short, owner_busy}
 use Rattle.machine_tables.proofs.tables.Tables.own.Goals as goal
 
 pub go_on-requires-clause-moves : goal.go_on-requires-clause-moves

@@ -1,4 +1,4 @@
-use Rattle.std.proofs.Common.{◌≡◌, true, false, ap, subst, sym, ◌∙◌}
+use Rattle.std.proofs.Common.{true, false, ap, subst, sym, ◌∙◌}
 use Rattle.accounts.specs.Maps.{AccountMaps}
 use Rattle.tree_model.specs.Tree.{quota_in}
 use Rattle.dir_tree.specs.Nodes.{as_term}
