@@ -8,6 +8,9 @@ use std::alloc::Global;
 use std::marker::Model;
 use std::simd::prelude::*;
 
+/// The words of a page that are all 0.
+static ZEROS: [u64; 1024] = [0; 1024];
+
 /// A page of 1024 words in one block on the heap, seen as the list of its words.
 ///
 /// A `Page` itself is a pointer, so to move one copies no words.
@@ -84,7 +87,7 @@ impl Page {
         ensures size { length self.new ≡ 1024 }
         ensures old_size { length self.old ≡ 1024 }
     {
-        self.words[i as usize..].fill(0);
+        clear(&mut self.words[i as usize..]);
     }
 
     /// Whether each word is 0. It looks at 32 words at a time, and stops at the first of these
@@ -144,6 +147,15 @@ impl Block {
     {
         self.words.copy_from_slice(&page.words);
     }
+}
+
+/// Writes 0 over the words of a part of a page. It copies them from a page of zeros.
+fn clear(words: &mut [u64])
+    requires { length words.old ≤ 1024 }
+    ensures clear { words.new ≡ replicate (length words.old) 0 }
+    ensures size { length words.new ≡ length words.old }
+{
+    words.copy_from_slice(&ZEROS[..words.len()]);
 }
 
 /// Whether each word of the blocks is 0.
