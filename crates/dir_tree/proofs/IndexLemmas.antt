@@ -7,7 +7,7 @@ use Rattle.std.specs.declared.cmp.Ordering.{Ordering}
 use Rattle.std.specs.declared.cmp.Ordering.TheVariants.{Less, Equal, Greater}
 use Rattle.std.specs.Ordering.{nat_cmp, ordering_then, is_eq, MatchOrdering}
 use Rattle.std.specs.Option.{option_cmp}
-use Rattle.std.specs.Cmp.{IsTotalOrder}
+use Rattle.std.specs.Cmp.{IsTotalOrder, nat_cmp_is}
 use Rattle.std.specs.Cmp.Lexicographic.{slice_cmp, options_total}
 use Rattle.std.proofs.lemmas.Cmp.{tied_itself, then_total, on_total, nat_cmp_total, nat_list_cmp_total, ranked}
 use Rattle.std.proofs.lemmas.Map.Text.{is_eq-slice_cmp}
@@ -20,7 +20,7 @@ use Rattle.tree_model.specs.Tree.{is_branch, is_inferior}
 use Rattle.dir_tree.specs.declared.node.Node.{Node}
 use Rattle.dir_tree.specs.Shape.{shape}
 use Rattle.dir_tree.specs.Index.{Key, HasPlace, IsSorted, IsOrdered, no_node, node_at, key_of, key_at, key_cmp}
-use Rattle.dir_tree.specs.Index.{key_hash}
+use Rattle.dir_tree.specs.Index.{key_hash, hash_at, AreRising}
 use Rattle.dir_tree.proofs.EditLemmas.{was, was_other, was_up, at_was, fewer, was_within}
 use Rattle.tree_model.proofs.TreeLaws.{lies, is_below}
 use Rattle.dir_tree.specs.Laws.{Where, Before, Here, After, where_is}
@@ -254,18 +254,48 @@ ordered_less nodes ps hashes i within order = record {
 
 -- ---- the search
 
--- the slot of a place that stands there
-pub slot_at : {nodes : List Node} {ps hashes : List ℕ} → IsOrdered nodes ps hashes → (m : ℕ) → m < length ps
-    → get_or ps m 0 < length hashes
-slot_at {nodes} {ps} order m within = order.slots (get_or ps m 0) (record { at = m; within = within; is = refl })
+not_greater : (o p q : Ordering) → ordering_then (ordering_then o p) q ≡ Less → o ≢ Greater
+not_greater Less p q less = λ e. cc
+not_greater Equal p q less = λ e. cc
+not_greater Greater p q less = λ e. cc
 
--- the hash in it is that of its node
-pub own_hash : {nodes : List Node} {ps hashes : List ℕ} → IsOrdered nodes ps hashes → (m : ℕ) → m < length ps
-    → get_or ps m 0 < length nodes → {n : Node} → n ≡ get_or nodes (get_or ps m 0) n
-    → get_or hashes (get_or ps m 0) 0 ≡ key_hash (key_of n)
-own_hash {nodes} {ps} order m within there {n} read =
-    order.hashed (get_or ps m 0) (record { at = m; within = within; is = refl })
-    ∙ ap (λ (x : Node). key_hash (key_of x)) (sym (get_or_read nodes (get_or ps m 0) n there read no_node))
+at_most : (a b : ℕ) (o : Ordering) → nat_cmp a b ≡ o → o ≢ Greater → a ≤ b
+at_most a b Less e isnt = (let lt : a < b = ranked a b Less (sym e) in omega arith)
+at_most a b Equal e isnt = (let same : a ≡ b = ranked a b Equal (sym e) in omega arith)
+at_most a b Greater e isnt = absurd (isnt refl)
+
+-- the hash of a key that is before another is not above the other's
+hash_most : (x y : Key) → key_cmp x y ≡ Less → key_hash x ≤ key_hash y
+unfolding key_cmp
+hash_most x y less = at_most (key_hash x) (key_hash y) (nat_cmp (key_hash x) (key_hash y)) refl
+    (not_greater (nat_cmp (key_hash x) (key_hash y)) (option_cmp nat_cmp x.0 y.0) (slice_cmp nat_cmp x.1 y.1) less)
+
+-- and a key whose hash is below another's is before it
+pub hash_less : (x y : Key) → key_hash x < key_hash y → key_cmp x y ≡ Less
+unfolding key_cmp
+hash_less x y lt =
+    let is : nat_cmp (key_hash x) (key_hash y) ≡ Less =
+    sym (nat_cmp_is (key_hash x) (key_hash y) Less lt) in
+    rw is refl
+
+pub hash_is : {nodes : List Node} {ps hashes : List ℕ} → IsOrdered nodes ps hashes → (k : ℕ) → k < length ps
+    → hash_at ps hashes k ≡ key_hash (key_at nodes ps k)
+hash_is {nodes} {ps} order k within =
+    order.hashed (get_or ps k 0) (record { at = k; within = within; is = refl })
+
+pub are_rising : {nodes : List Node} {ps hashes : List ℕ} → IsOrdered nodes ps hashes → AreRising ps hashes
+are_rising {nodes} {ps} {hashes} order = record {
+  rising = λ i j lt within. rw (hash_is order i (omega arith), hash_is order j within)
+      (hash_most (key_at nodes ps i) (key_at nodes ps j) (order.sorted i j lt within));
+  slots = λ k within. order.slots (get_or ps k 0) (record { at = k; within = within; is = refl });
+}
+
+-- what stands before the first of a hash is before each key of it
+pub before_hash : {nodes : List Node} {ps hashes : List ℕ} → IsOrdered nodes ps hashes → (from : ℕ) (key : Key)
+    → from ≤ length ps → ((k : ℕ) → k < from → hash_at ps hashes k < key_hash key)
+    → (k : ℕ) → k < from → key_cmp (key_at nodes ps k) key ≡ Less
+before_hash {nodes} {ps} order from key within below k lt =
+    hash_less (key_at nodes ps k) key (rw (hash_is order k (omega arith)) at (below k lt))
 
 -- how the key of the node that stands there compares
 pub compared : (nodes : List Node) (ps : List ℕ) (m : ℕ) (key : Key) {n : Node} {o : Ordering}
@@ -275,15 +305,7 @@ compared nodes ps m key {n} there read is =
     let node : n ≡ node_at nodes (get_or ps m 0) = get_or_read nodes (get_or ps m 0) n there read no_node in
     ap (λ (x : Node). key_cmp (key_of x) key) (sym node) ∙ sym is
 
--- what stands after one that is before a key's place can't be before it
-pub halved_below : (nodes : List Node) (ps : List ℕ) (m : ℕ) (key : Key) → IsSorted nodes ps → m < length ps
-    → key_cmp (key_at nodes ps m) key ≡ Less
-    → (k : ℕ) → k < m + 1 → key_cmp (key_at nodes ps k) key ≡ Less
-halved_below nodes ps m key sorted within less k lt = elim (cases_eq k m) [
-  | inl same ↦ subst (λ (j : ℕ). key_cmp (key_at nodes ps j) key ≡ Less) (sym same) less
-  | inr other ↦ less_through _ _ _ (sorted k m (omega arith) within) less
-]
-
+-- what stands after one that isn't before a key isn't before it either
 pub halved_above : (nodes : List Node) (ps : List ℕ) (m : ℕ) (key : Key) → IsSorted nodes ps
     → key_cmp (key_at nodes ps m) key ≢ Less → (k : ℕ) → m ≤ k
     → k < length ps → key_cmp (key_at nodes ps k) key ≢ Less

@@ -1,5 +1,5 @@
 -- The index of branches by superior and name.
-use Rattle.std.specs.Prelude.{false, ◌≡◌, ℕ, ◌<◌, ◌+◌, ◌*◌, ◌/◌, ◌%◌, ◌^◌, List, [], length, drop, fold, Option, None}
+use Rattle.std.specs.Prelude.{false, ◌≡◌, ℕ, ◌<◌, ◌≤◌, ◌+◌, ◌*◌, ◌/◌, ◌%◌, ◌^◌, List, [], length, drop, fold, Option, None}
 use Rattle.std.specs.Int.{from_be_bytes, w64}
 use Rattle.std.specs.Simd.{first_chunks}
 use Rattle.std.specs.Prelude.{slice_index, slice_index_or}
@@ -76,3 +76,12 @@ pub record IsOrdered (nodes : List Node) (places hashes : List ℕ) : Type 0 whe
   pub sorted : IsSorted nodes places
   pub hashed : (place : ℕ) → HasPlace places place → slice_index hashes place ≡ key_hash (key_of (node_at nodes place))
   pub slots : (place : ℕ) → HasPlace places place → place < length hashes
+
+-- the hash of the branch in the k-th place
+abbrev pub hash_at : List ℕ → List ℕ → ℕ → ℕ
+hash_at places hashes k = slice_index hashes (slice_index places k)
+
+-- each place has a slot, and the hashes stand in their order
+pub record AreRising (places hashes : List ℕ) : Type 0 where
+  pub rising : (i j : ℕ) → i < j → j < length places → hash_at places hashes i ≤ hash_at places hashes j
+  pub slots : (k : ℕ) → k < length places → slice_index places k < length hashes

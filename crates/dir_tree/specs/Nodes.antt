@@ -91,22 +91,22 @@ abbrev pub unless : {E A : Type 0} → Option E → A → Result A E
 unless None x = Ok x
 unless (Some e) x = Err e
 
+-- the node of a new branch of a directory
+abbrev pub node_of_new : ℕ → ℕ → NewNode → Node
+node_of_new uid superior new = record {
+  uid = uid;
+  superior = Some superior;
+  name = new.name;
+  dir = new.dir;
+  volume = new.volume;
+  entry = new.entry;
+  length = new.length;
+  acl = new.acl;
+}
+
 -- the tree with a new branch, which gets the next uid
 abbrev pub added : Branches → ℕ → NewNode → Branches
-added t superior new = record {
-  nodes = record {
-    uid = t.next;
-    superior = Some superior;
-    name = new.name;
-    dir = new.dir;
-    volume = new.volume;
-    entry = new.entry;
-    length = new.length;
-    acl
-        = new.acl;
-  } ∷ t.nodes;
-  next = t.next + 1;
-}
+added t superior new = record { nodes = node_of_new t.next superior new ∷ t.nodes; next = t.next + 1 }
 
 -- whether a node has an inferior
 abbrev pub has_inferior : List Term → ℕ → Bool

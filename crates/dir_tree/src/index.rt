@@ -10,7 +10,7 @@ ghost use Rattle.std.specs.declared.cmp.Ordering.TheVariants.{Less};
 ghost use Rattle.tree_model.specs.Tree.{is_branch};
 ghost use Rattle.dir_tree.specs.Shape.{shape};
 ghost use Rattle.dir_tree.specs.Index.{node_at, key_of, key_cmp, key_hash, key_at, HasPlace, IsOrdered, AreWithin};
-ghost use Rattle.dir_tree.specs.Index.{mixed, words_mixed, last_word};
+ghost use Rattle.dir_tree.specs.Index.{hash_at, AreRising, mixed, words_mixed, last_word};
 
 use crate::node::Node;
 use crate::{NODES, NoMemory};
@@ -109,7 +109,7 @@ impl Index {
         ensures count { length self.new.places + 1 ≡ length self.old.places }
         ensures room { self.new.room ≡ self.old.room }
     {
-        let at = place_at(&self.places, &self.hashes, nodes, place);
+        let at = place_at(&self.places, &self.hashes, place);
         self.places.remove(at);
     }
 }
@@ -196,6 +196,28 @@ fn compare(own: u32, node: &Node, hash: u32, superior: Option<u32>, name: &Name)
     }
 }
 
+/// Where the branches of a hash begin, or would. It halves the list by the hashes alone.
+fn from_hash(places: &[u16], hashes: &[u32], hash: u32) -> usize
+    requires rising { AreRising places.now hashes.now }
+    ensures within { result ≤ length places.now }
+    ensures below { (k : ℕ) → k < result → hash_at places.now hashes.now k < hash }
+    ensures from { (k : ℕ) → result ≤ k → k < length places.now → hash ≤ hash_at places.now hashes.now k }
+{
+    let mut from = 0;
+    let mut left = places.len();
+    while left > 1 {
+        let half = left / 2;
+        if hashes[places[from + half - 1] as usize] < hash {
+            from += half;
+        }
+        left -= half;
+    }
+    if left == 1 && hashes[places[from] as usize] < hash {
+        return from + 1;
+    }
+    from
+}
+
 /// Where the branch with this superior and name stands, or would: where those from it on begin, by the hash of both.
 fn first_at(
     places: &[u16],
@@ -213,17 +235,15 @@ fn first_at(
     ensures from { (k : ℕ) → result ≤ k → k < length places.now
         → key_cmp (key_at nodes.now places.now k) (superior, name.now) ≢ Less }
 {
-    let mut low = 0;
-    let mut high = places.len();
-    while low < high {
-        let middle = low + (high - low) / 2;
-        let place = places[middle] as usize;
+    let mut at = from_hash(places, hashes, hash);
+    while at < places.len() {
+        let place = places[at] as usize;
         match compare(hashes[place], &nodes[place], hash, superior, name) {
-            Ordering::Less => low = middle + 1,
-            Ordering::Equal | Ordering::Greater => high = middle,
+            Ordering::Less => at += 1,
+            Ordering::Equal | Ordering::Greater => return at,
         }
     }
-    low
+    at
 }
 
 /// The place of the branch with this superior and name. It compares names only where two hashes are the same.
@@ -236,30 +256,29 @@ fn find(places: &[u16], hashes: &[u32], nodes: &[Node], superior: u32, name: &Na
         → is_branch superior name.now (shape (node_at nodes.now place)) ≡ false) }
 {
     let hash = hash_of(Some(superior), name);
-    let mut low = 0;
-    let mut high = places.len();
-    while low < high {
-        let middle = low + (high - low) / 2;
-        let place = places[middle];
+    let mut at = from_hash(places, hashes, hash);
+    while at < places.len() {
+        let place = places[at];
         let own = hashes[place as usize];
         match compare(own, &nodes[place as usize], hash, Some(superior), name) {
-            Ordering::Less => low = middle + 1,
+            Ordering::Less => at += 1,
             Ordering::Equal => return Some(place),
-            Ordering::Greater => high = middle,
+            Ordering::Greater => return None,
         }
     }
     None
 }
 
-/// Where the place of a branch stands.
-fn place_at(places: &[u16], hashes: &[u32], nodes: &[Node], place: u16) -> usize
+/// Where the place of a branch stands. It looks at no node.
+fn place_at(places: &[u16], hashes: &[u32], place: u16) -> usize
     requires there { HasPlace places.now place }
-    requires order { IsOrdered nodes.now places.now hashes.now }
-    requires within { AreWithin nodes.now places.now }
+    requires rising { AreRising places.now hashes.now }
     ensures within { result < length places.now }
     ensures place { slice_index places.now result ≡ place }
 {
-    let node = &nodes[place as usize];
-    let hash = hashes[place as usize];
-    first_at(places, hashes, nodes, hash, node.superior, &node.name)
+    let mut at = from_hash(places, hashes, hashes[place as usize]);
+    while places[at] != place {
+        at += 1;
+    }
+    at
 }

@@ -318,17 +318,7 @@ impl Tree {
         ensures { self.new ≡ added self.old superior new }
     {
         let uid = self.next;
-        let node = Node {
-            uid,
-            superior: Some(superior),
-            name: new.name,
-            dir: new.dir,
-            volume: new.volume,
-            entry: new.entry,
-            length: new.length,
-            acl: new.acl,
-        };
-        let place = entries::store(&mut self.nodes, &mut self.free, node);
+        let place = entries::store(&mut self.nodes, &mut self.free, uid, superior, new);
         self.index.insert(&self.nodes, place);
         self.entries.push(Entry {
             uid,

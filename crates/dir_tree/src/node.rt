@@ -1,3 +1,6 @@
+ghost use Rattle.std.specs.Prelude.{◌≡◌};
+ghost use Rattle.dir_tree.specs.Nodes.{node_of_new};
+
 use acl::Acl;
 use mnames::Name;
 pub use no_memory::NoMemory;
@@ -38,6 +41,38 @@ pub struct NewNode {
     pub length: u32,
     /// What a segment allows whom; a directory's list has no row.
     pub acl: Acl,
+}
+
+impl Node {
+    /// The node of a new branch of a directory.
+    pub(crate) fn of_branch(uid: u32, superior: u32, new: NewNode) -> Node
+        ensures { result ≡ node_of_new uid superior new }
+    {
+        Node {
+            uid,
+            superior: Some(superior),
+            name: new.name,
+            dir: new.dir,
+            volume: new.volume,
+            entry: new.entry,
+            length: new.length,
+            acl: new.acl,
+        }
+    }
+
+    /// Becomes the node of a new branch of a directory, part by part: the node is long.
+    pub(crate) fn become_branch(&mut self, uid: u32, superior: u32, new: NewNode)
+        ensures { self.new ≡ node_of_new uid superior new }
+    {
+        self.uid = uid;
+        self.superior = Some(superior);
+        self.name = new.name;
+        self.dir = new.dir;
+        self.volume = new.volume;
+        self.entry = new.entry;
+        self.length = new.length;
+        self.acl = new.acl;
+    }
 }
 
 /// Why a path can't be followed: what is wrong with the first name from the left that can't.

@@ -1,74 +1,58 @@
-use Rattle.std.proofs.Common.{◌≡◌, ◌≢◌, ◌<◌, ◌+◌, ◌-◌, ◌/◌, ℕ, Some, length, get_or, refl, sym, ap, ◌∙◌}
-use Rattle.std.proofs.Common.{arith}
+use Rattle.std.proofs.Common.{◌≡◌, ◌≢◌, ◌<◌, ℕ, Some, length, get_or, refl, sym, ap, ◌∙◌, arith}
 use Rattle.std.proofs.lemmas.Bool.{false_from_ne_true}
 use Rattle.std.specs.declared.cmp.Ordering.TheVariants.{Less, Greater}
-use Rattle.dir_tree.specs.Index.{Key, key_at, key_cmp, key_of, node_at}
-use Rattle.dir_tree.proofs.IndexLemmas.{branch_key, compared, first_place, halved_above, halved_below, key_branch}
-use Rattle.dir_tree.proofs.IndexLemmas.{not_after, own_hash, slot_at, tied_same}
+use Rattle.dir_tree.specs.Index.{Key, key_at, key_cmp, key_of, key_hash, hash_at, node_at}
+use Rattle.dir_tree.proofs.IndexLemmas.{are_rising, before_hash, branch_key, compared, first_place, halved_above}
+use Rattle.dir_tree.proofs.IndexLemmas.{key_branch, not_after, tied_same}
 use Rattle.dir_tree.proofs.index.find.Goals as goal
 
-pub bounds-hashes-place : goal.bounds-hashes-place
-bounds-hashes-place c =
-    slot_at c.requires.order (c.loop-low.low + (c.loop-low.high - c.loop-low.low) / 2) (omega arith)
+pub from_hash-at-requires : goal.from_hash-at-requires
+from_hash-at-requires c = record { rising = are_rising c.requires.order }
 
-pub compare-requires-clause-own : goal.compare-requires-clause-own
-compare-requires-clause-own c =
-    let m : ℕ = c.loop-low.low + (c.loop-low.high - c.loop-low.low) / 2 in
-    let within : m < length c.args.places.now = omega arith in
-    own_hash c.requires.order m within (c.requires.within m within) c.index-nodes-place.is
-
-pub loop-low-preserved-in-Less : goal.loop-low-preserved-in-Less
-loop-low-preserved-in-Less c =
+pub loop-at-init : goal.loop-at-init
+loop-at-init c =
     let key : Key = (Some c.args.superior, c.args.name.now) in
-    let m : ℕ = c.loop-low.low + (c.loop-low.high - c.loop-low.low) / 2 in
-    let within : m < length c.args.places.now = omega arith in
-    let less : key_cmp (key_at c.args.nodes.now c.args.places.now m) key ≡ Less =
-    compared c.args.nodes.now c.args.places.now m key (c.requires.within m within) c.index-nodes-place.is
-    c.compare.ensures ∙ c.in-Less.is in
+    let below : (k : ℕ) → k < c.from_hash-at.result
+    → hash_at c.args.places.now c.args.hashes.now k < key_hash key =
+    rw c.hash_of-hash.ensures at c.from_hash-at.ensures.below in
     record {
-      within = c.loop-low.invariant.within;
-      order = omega arith;
-      below = halved_below c.args.nodes.now c.args.places.now m key c.requires.order.sorted within less;
-      from = c.loop-low.invariant.from;
-      other = c.loop-low.invariant.other;
+      within = c.from_hash-at.ensures.within;
+      below = before_hash c.requires.order c.from_hash-at.result key c.from_hash-at.ensures.within below;
     }
 
 pub returns-in-Equal-clause-some : goal.returns-in-Equal-clause-some
 returns-in-Equal-clause-some c =
     let key : Key = (Some c.args.superior, c.args.name.now) in
-    let m : ℕ = c.loop-low.low + (c.loop-low.high - c.loop-low.low) / 2 in
-    let within : m < length c.args.places.now = omega arith in
-    let same : key_at c.args.nodes.now c.args.places.now m ≡ key =
-    tied_same (key_at c.args.nodes.now c.args.places.now m) key
-    (compared c.args.nodes.now c.args.places.now m key (c.requires.within m within) c.index-nodes-place.is
+    let at : ℕ = c.loop-at.at in
+    let within : at < length c.args.places.now = omega arith in
+    let same : key_at c.args.nodes.now c.args.places.now at ≡ key =
+    tied_same (key_at c.args.nodes.now c.args.places.now at) key
+    (compared c.args.nodes.now c.args.places.now at key (c.requires.within at within) c.index-nodes-place.is
     c.compare.ensures ∙ c.in-Equal.is) in (
-      record { at = m; within = within; is = refl },
+      record { at = at; within = within; is = refl },
       key_branch c.args.superior c.args.name.now
-          (node_at c.args.nodes.now (get_or c.args.places.now m 0)) same,
+          (node_at c.args.nodes.now (get_or c.args.places.now at 0)) same,
     )
 
-pub loop-low-preserved : goal.loop-low-preserved
-loop-low-preserved c =
-    let key : Key = (Some c.args.superior, c.args.name.now) in
-    let m : ℕ = c.loop-low.low + (c.loop-low.high - c.loop-low.low) / 2 in
-    let within : m < length c.args.places.now = omega arith in
-    let more : key_cmp (key_at c.args.nodes.now c.args.places.now m) key ≡ Greater =
-    compared c.args.nodes.now c.args.places.now m key (c.requires.within m within) c.index-nodes-place.is
+pub returns-in-Greater-clause-none : goal.returns-in-Greater-clause-none
+returns-in-Greater-clause-none c place there = false_from_ne_true _ (λ is.
+    (let key : Key = (Some c.args.superior, c.args.name.now) in
+    let at : ℕ = c.loop-at.at in
+    let within : at < length c.args.places.now = omega arith in
+    let more : key_cmp (key_at c.args.nodes.now c.args.places.now at) key ≡ Greater =
+    compared c.args.nodes.now c.args.places.now at key (c.requires.within at within) c.index-nodes-place.is
     c.compare.ensures ∙ c.in-Greater.is in
-    let isnt : key_cmp (key_at c.args.nodes.now c.args.places.now m) key ≢ Less =
+    let isnt : key_cmp (key_at c.args.nodes.now c.args.places.now at) key ≢ Less =
     λ less. (let clash : Less ≡ Greater = sym less ∙ more in cc) in
-    record {
-      within = omega arith;
-      order = omega arith;
-      below = c.loop-low.invariant.below;
-      from = halved_above c.args.nodes.now c.args.places.now m key c.requires.order.sorted isnt;
-      other = λ lt same. not_after (key_at c.args.nodes.now c.args.places.now m) key same more;
-    }
+    let first = first_place c.args.nodes.now c.args.places.now at c.args.superior c.args.name.now
+    c.requires.order.sorted c.loop-at.invariant.below
+    (halved_above c.args.nodes.now c.args.places.now at key c.requires.order.sorted isnt) place there is in
+    not_after (key_at c.args.nodes.now c.args.places.now at) key
+    (ap (λ p. key_of (node_at c.args.nodes.now p)) first.1
+    ∙ branch_key c.args.superior c.args.name.now (node_at c.args.nodes.now place) is) more))
 
 pub returns-clause-none : goal.returns-clause-none
 returns-clause-none c place there = false_from_ne_true _ (λ is.
-    (let first = first_place c.args.nodes.now c.args.places.now c.loop-low.high c.args.superior
-    c.args.name.now c.requires.order.sorted (λ k lt. c.loop-low.invariant.below k (omega arith))
-    c.loop-low.invariant.from place there is in
-    c.loop-low.invariant.other first.0 (ap (λ p. key_of (node_at c.args.nodes.now p)) first.1
-    ∙ branch_key c.args.superior c.args.name.now (node_at c.args.nodes.now place) is)))
+    (let first = first_place c.args.nodes.now c.args.places.now c.loop-at.at c.args.superior c.args.name.now
+    c.requires.order.sorted c.loop-at.invariant.below (λ k le lt. absurd (omega arith)) place there is in
+    let past : c.loop-at.at < length c.args.places.now = first.0 in absurd (omega arith)))

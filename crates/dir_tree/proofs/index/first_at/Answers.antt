@@ -1,51 +1,39 @@
-use Rattle.std.proofs.Common.{◌≡◌, ◌≢◌, ◌<◌, ◌+◌, ◌-◌, ◌/◌, ℕ, length, sym, ◌∙◌, arith, inl, inr}
+use Rattle.std.proofs.Common.{◌≡◌, ◌≢◌, ◌<◌, ℕ, length, sym, ◌∙◌, arith, inl, inr}
 use Rattle.std.specs.declared.cmp.Ordering.TheVariants.{Less, Equal, Greater}
-use Rattle.dir_tree.specs.Index.{Key, key_at, key_cmp}
-use Rattle.dir_tree.proofs.IndexLemmas.{halved_below, halved_above, compared, own_hash, slot_at}
+use Rattle.dir_tree.specs.Index.{Key, key_at, key_cmp, key_hash, hash_at}
+use Rattle.dir_tree.proofs.IndexLemmas.{are_rising, before_hash, compared, halved_above}
 use Rattle.dir_tree.proofs.index.first_at.Goals as goal
 
-pub bounds-hashes-place : goal.bounds-hashes-place
-bounds-hashes-place c =
-    slot_at c.requires.order (c.loop-low.low + (c.loop-low.high - c.loop-low.low) / 2) (omega arith)
+pub from_hash-at-requires : goal.from_hash-at-requires
+from_hash-at-requires c = record { rising = are_rising c.requires.order }
 
-pub compare-requires-clause-own : goal.compare-requires-clause-own
-compare-requires-clause-own c =
-    let m : ℕ = c.loop-low.low + (c.loop-low.high - c.loop-low.low) / 2 in
-    let within : m < length c.args.places.now = omega arith in
-    own_hash c.requires.order m within (c.requires.within m within) c.index-nodes-place.is
-
-pub loop-low-preserved-in-Less : goal.loop-low-preserved-in-Less
-loop-low-preserved-in-Less c =
+pub loop-at-init : goal.loop-at-init
+loop-at-init c =
     let key : Key = (c.args.superior, c.args.name.now) in
-    let m : ℕ = c.loop-low.low + (c.loop-low.high - c.loop-low.low) / 2 in
-    let within : m < length c.args.places.now = omega arith in
-    let less : key_cmp (key_at c.args.nodes.now c.args.places.now m) key ≡ Less =
-    compared c.args.nodes.now c.args.places.now m key (c.requires.within m within) c.index-nodes-place.is
-    c.compare.ensures ∙ c.in-Less.is in
+    let below : (k : ℕ) → k < c.from_hash-at.result
+    → hash_at c.args.places.now c.args.hashes.now k < key_hash key =
+    rw c.requires.hash at c.from_hash-at.ensures.below in
     record {
-      within = c.loop-low.invariant.within;
-      order = omega arith;
-      below = halved_below c.args.nodes.now c.args.places.now m key c.requires.order.sorted within less;
-      from = c.loop-low.invariant.from;
+      within = c.from_hash-at.ensures.within;
+      below = before_hash c.requires.order c.from_hash-at.result key c.from_hash-at.ensures.within below;
     }
 
-pub loop-low-preserved : goal.loop-low-preserved
-loop-low-preserved c =
+pub returns-in-Equal : goal.returns-in-Equal
+returns-in-Equal c =
     let key : Key = (c.args.superior, c.args.name.now) in
-    let m : ℕ = c.loop-low.low + (c.loop-low.high - c.loop-low.low) / 2 in
-    let within : m < length c.args.places.now = omega arith in
-    let here : key_cmp (key_at c.args.nodes.now c.args.places.now m) key ≡ c.compare.result =
-    compared c.args.nodes.now c.args.places.now m key (c.requires.within m within) c.index-nodes-place.is
+    let at : ℕ = c.loop-at.at in
+    let within : at < length c.args.places.now = omega arith in
+    let here : key_cmp (key_at c.args.nodes.now c.args.places.now at) key ≡ c.compare.result =
+    compared c.args.nodes.now c.args.places.now at key (c.requires.within at within) c.index-nodes-place.is
     c.compare.ensures in
-    let isnt : key_cmp (key_at c.args.nodes.now c.args.places.now m) key ≢ Less =
+    let isnt : key_cmp (key_at c.args.nodes.now c.args.places.now at) key ≢ Less =
     λ less. elim c.in-Equal.is [
       | inl e ↦ (let z : Less ≡ Equal = sym less ∙ here ∙ e in cc)
       | inr e ↦
           (let z : Less ≡ Greater = sym less ∙ here ∙ e in cc)
     ] in
     record {
-      within = omega arith;
-      order = omega arith;
-      below = c.loop-low.invariant.below;
-      from = halved_above c.args.nodes.now c.args.places.now m key c.requires.order.sorted isnt;
+      within = c.loop-at.invariant.within;
+      below = c.loop-at.invariant.below;
+      from = halved_above c.args.nodes.now c.args.places.now at key c.requires.order.sorted isnt;
     }

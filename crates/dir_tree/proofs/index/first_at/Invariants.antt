@@ -1,15 +1,13 @@
-use Rattle.std.proofs.Common.{◌≡◌, ◌≢◌, ℕ, ◌<◌, ◌≤◌, ◌-◌, length}
+use Rattle.std.proofs.Common.{◌≡◌, ℕ, ◌<◌, ◌≤◌, ◌-◌, length}
 use Rattle.std.specs.declared.cmp.Ordering.TheVariants.{Less}
 use Rattle.dir_tree.specs.Index.{key_cmp, key_at}
 use Rattle.dir_tree.proofs.index.first_at.Given as goal
 
-abbrev pub invariant-loop-low : goal.invariant-loop-low
-invariant-loop-low l = record {
-  within : l.high ≤ length l.places;
-  order : l.low ≤ l.high;
-  below : (k : ℕ) → k < l.low → key_cmp (key_at l.nodes l.places k) (l.superior, l.name) ≡ Less;
-  from : (k : ℕ) → l.high ≤ k → k < length l.places → key_cmp (key_at l.nodes l.places k) (l.superior, l.name) ≢ Less;
+abbrev pub invariant-loop-at : goal.invariant-loop-at
+invariant-loop-at l = record {
+  within : l.at ≤ length l.places;
+  below : (k : ℕ) → k < l.at → key_cmp (key_at l.nodes l.places k) (l.superior, l.name) ≡ Less;
 }
 
-abbrev pub decreases-loop-low : goal.decreases-loop-low
-decreases-loop-low l = l.high - l.low
+abbrev pub decreases-loop-at : goal.decreases-loop-at
+decreases-loop-at l = length l.places - l.at

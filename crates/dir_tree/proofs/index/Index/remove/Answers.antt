@@ -1,8 +1,14 @@
 use Rattle.std.proofs.Common.{◌≡◌, ◌≢◌, ◌<◌, ℕ, List, length, get_or, sym, subst}
 use Rattle.std.specs.Prelude.{◌↔◌}
 use Rattle.dir_tree.specs.Index.{Places, HasPlace, IsOrdered}
-use Rattle.dir_tree.proofs.IndexLemmas.{ordered_less, place_removed}
+use Rattle.dir_tree.proofs.IndexLemmas.{are_rising, ordered_less, place_removed}
 use Rattle.dir_tree.proofs.index.Index.remove.Goals as goal
+
+pub place_at-at-requires-clause-rising : goal.place_at-at-requires-clause-rising
+place_at-at-requires-clause-rising c =
+    let order : IsOrdered c.args.nodes.now c.self.inside.places.items c.self.inside.hashes.items =
+    subst (λ (v : Places). IsOrdered c.args.nodes.now v.places v.hashes) (sym c.self.view_is) c.requires.order in
+    rw c.deref.ensures.value (rw c.deref-2.ensures.value (are_rising order))
 
 pub returns-clause-order : goal.returns-clause-order
 returns-clause-order c =
