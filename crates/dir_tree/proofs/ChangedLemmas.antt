@@ -1,5 +1,5 @@
 -- What a change of a node, which keeps its shape, leaves of the tables behind a tree.
-use Rattle.std.proofs.Common.{◌≡◌, ◌≢◌, ℕ, suc, ◌<◌, false, [], ◌∷◌, ◌++◌, arith, eqb, if◌then◌else◌, List, length}
+use Rattle.std.proofs.Common.{◌≡◌, ◌≢◌, ℕ, suc, ◌+◌, ◌<◌, true, false, [], ◌∷◌, ◌++◌, arith, eqb, if◌then◌else◌, List, length}
 use Rattle.std.proofs.Common.{Some, refl, sym, ap, subst, ◌∙◌, get_or}
 use Rattle.std.proofs.Common.{set, inl, inr}
 use Rattle.std.proofs.lemmas.Bool.{cases_Bool, cases_eq, eq-eqb, ne_eqb}
@@ -8,7 +8,9 @@ use Rattle.tree_model.specs.Tree.{Node as Term}
 use Rattle.dir_tree.specs.declared.node.Node.{Node}
 use Rattle.dir_tree.specs.declared.entries.Entry.{Entry}
 use Rattle.dir_tree.specs.Index.{Places, Key, HasPlace, key_at, key_of, key_hash, node_at, no_node}
-use Rattle.dir_tree.specs.Nodes.{Branches, with_changed, node_of, acl_of}
+use Rattle.dir_tree.specs.Nodes.{Branches, added, is_in, node_of_new, with_acl, with_changed, node_of, acl_of}
+use Rattle.dir_tree.specs.declared.node.NewNode.{NewNode}
+use Rattle.tree_model.specs.Access.{Row}
 use Rattle.dir_tree.specs.Shape.{shape, shapes}
 use Rattle.tree_model.specs.Trees.{IsTree}
 use Rattle.dir_tree.specs.Kept.{entry_at, newest, IsKept, HasEntry}
@@ -161,3 +163,18 @@ set_seen {next = next} k uid place at h keeps x read seen =
           ∙ ap (λ (t : Branches). record t { nodes = with_changed uid h t.nodes }) seen;
       shapes = ap shapes set.1 ∙ shapes_changed uid h keeps _ ∙ ap (λ (t : Branches). shapes t.nodes) seen;
     }
+
+-- a change of a uid that no node has changes nothing
+pub none_changed : (u : ℕ) (h : Node → Node) (ns : List Node) → is_in ns u ≡ false → with_changed u h ns ≡ ns
+none_changed u h [] off = refl
+none_changed u h (n ∷ ns) off = elim (cases_Bool (eqb n.uid u)) [
+  | inl is ↦ (let clash : true ≡ false = rw is at off in cc)
+  | inr isnt ↦ rw isnt (ap (λ (rest : List Node). n ∷ rest) (none_changed u h ns (rw isnt at off)))
+]
+
+-- the rows of a new branch, set once it is there
+pub rows_added : (t : Branches) (superior : ℕ) (new : NewNode) (rows : List Row) → is_in t.nodes t.next ≡ false
+    → with_acl (added t superior (record new { acl = rows })) t.next new.acl ≡ added t superior new
+rows_added t superior new rows fresh =
+    rw (eq-eqb t.next t.next refl) (ap (λ (rest : List Node). record { nodes = node_of_new t.next superior new ∷ rest; next = t.next + 1 })
+    (none_changed t.next (λ n. record n { acl = new.acl }) t.nodes fresh))

@@ -3,9 +3,12 @@ use Rattle.std.specs.Prelude.{ℕ, ◌+◌, ◌==◌, Bool, true, false, ◌&&�
 use Rattle.std.specs.Prelude.{map, reverse, Option, Some, None}
 use Rattle.std.specs.Prelude.{Result, Ok, Err, is_some, codes}
 use Rattle.std.specs.List.{find, filter, list_any}
+use Rattle.mnames.specs.declared.modes.Mode.TheVariants as mode
+use Rattle.mnames.specs.declared.principals.Who.{Who}
 use Rattle.tree_model.specs.Access.{Row}
 use Rattle.tree_model.specs.Tree.{Node as Term, Walk, LeadsTo, Missing, InSegment, above, branch_in, is_inferior}
 use Rattle.dir_tree.specs.declared.node.Node.{Node}
+use Rattle.dir_tree.specs.declared.node.NewBranch.{NewBranch}
 use Rattle.dir_tree.specs.declared.node.NewNode.{NewNode}
 use Rattle.dir_tree.specs.declared.node.PathFault.{PathFault}
 use Rattle.dir_tree.specs.declared.node.PathFault.TheVariants as path_fault
@@ -90,6 +93,22 @@ add_fault_of nodes superior name dir =
 abbrev pub unless : {E A : Type 0} → Option E → A → Result A E
 unless None x = Ok x
 unless (Some e) x = Err e
+
+-- the rows of a new branch: its maker may read and write it
+abbrev pub maker_rows : Option Who → List Row
+maker_rows None = []
+maker_rows (Some who) = record { person = Some who.person; project = Some who.project; mode = mode.Both } ∷ []
+
+-- what a new branch is to be, with its rows
+abbrev pub as_node : NewBranch → NewNode
+as_node new = record {
+  name = new.name;
+  dir = new.dir;
+  volume = new.volume;
+  entry = new.entry;
+  length = new.length;
+  acl = maker_rows new.maker;
+}
 
 -- the node of a new branch of a directory
 abbrev pub node_of_new : ℕ → ℕ → NewNode → Node

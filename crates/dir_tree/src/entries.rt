@@ -4,11 +4,11 @@ ghost use Rattle.std.specs.Prelude.{◌≡◌, ◌≢◌, ℕ, ◌<◌, ◌≤�
 ghost use Rattle.std.specs.Prelude.{if◌then◌else◌, ◌==◌, Option, IfOk, IfSome, IfNone, Some, slice_index};
 ghost use Rattle.std.specs.Prelude.{vec_len, vec_capacity, ◌^◌};
 ghost use Rattle.dir_tree.specs.Index.{node_at};
-ghost use Rattle.dir_tree.specs.Nodes.{node_of_new};
+ghost use Rattle.dir_tree.specs.Nodes.{node_of_new, as_node};
 ghost use Rattle.dir_tree.specs.Kept.{entry_at, place_for, recounted, HasEntry, IsAscending, IsCounted};
 ghost use Rattle.dir_tree.specs.Uids.{IsRemoved};
 
-use crate::node::{NewNode, Node};
+use crate::node::{NewBranch, Node};
 use crate::{NODES, UIDS};
 use std::alloc::{AllocError, Global};
 use std::marker::Model;
@@ -197,13 +197,13 @@ pub(crate) fn store(
     free: &mut Vec<u16>,
     uid: u32,
     superior: u32,
-    new: NewNode,
+    new: NewBranch,
 ) -> u16
     requires free { (i : ℕ) → i < length free.old.items → slice_index free.old.items i < length nodes.old.items }
     requires room { length free.old.items ≡ 0 → vec_len nodes.old < vec_capacity nodes.old }
     requires count { length nodes.old.items < 2 ^ 16 }
     ensures place { result ≡ place_for nodes.old.items free.old.items }
-    ensures here { node_at nodes.new.items result ≡ node_of_new uid superior new }
+    ensures here { node_at nodes.new.items result ≡ node_of_new uid superior (as_node new) }
     ensures others { (p : ℕ) → p ≢ result → node_at nodes.new.items p ≡ node_at nodes.old.items p }
     ensures rest { free.new.items ≡ take (length free.old.items - 1) free.old.items }
     ensures count { length nodes.new.items ≡ (if length free.old.items == 0 then length nodes.old.items + 1
@@ -218,7 +218,8 @@ pub(crate) fn store(
         }
         None => {
             let place = nodes.len() as u16;
-            nodes.push_reserved(Node::of_branch(uid, superior, new));
+            nodes.push_reserved(Node::blank());
+            nodes[place as usize].become_branch(uid, superior, new);
             place
         }
     }

@@ -20,7 +20,7 @@ ghost use Rattle.tree_model.specs.Tree.{above, node_in, branch_in, walk_in, step
 ghost use Rattle.std.specs.Borrow.{sem};
 ghost use Rattle.dir_tree.specs.Nodes.{acl_of, as_term, with_quotas, node_of, is_in, is_directory, is_segment};
 ghost use Rattle.dir_tree.specs.Nodes.{root_alone, path_answer, add_fault_of, unless, added, removed, has_inferior};
-ghost use Rattle.dir_tree.specs.Nodes.{with_length, with_home, with_acl, chain_of};
+ghost use Rattle.dir_tree.specs.Nodes.{with_length, with_home, with_acl, as_node, chain_of};
 ghost use Rattle.dir_tree.specs.Shape.{shape, shapes};
 ghost use Rattle.tree_model.specs.Trees.{AreBelow, IsTree, HasChains};
 
@@ -33,7 +33,7 @@ use arrayvec::ArrayVec;
 use entries::{Entries, Entry};
 use index::Index;
 use mnames::Name;
-pub use node::{AddFault, NewNode, NoMemory, Node, NotEmpty, PathFault};
+pub use node::{AddFault, NewBranch, NewNode, NoMemory, Node, NotEmpty, PathFault};
 use std::alloc::Global;
 use std::marker::Model;
 
@@ -306,16 +306,37 @@ impl Tree {
     {
         self.may_add(superior, &new.name, new.dir)?;
         let uid = self.next;
-        self.attach(superior, new);
+        let branch = NewBranch {
+            name: new.name,
+            dir: new.dir,
+            volume: new.volume,
+            entry: new.entry,
+            length: new.length,
+            maker: None,
+        };
+        self.attach(superior, branch);
+        self.set_rows(uid, new.acl);
         Ok(uid)
     }
 
-    /// Adds a branch that may be added.
-    fn attach(&mut self, superior: u32, new: NewNode)
+    /// Sets the access control list of a node.
+    fn set_rows(&mut self, uid: u32, acl: Acl)
+        requires { is_in self.old.nodes uid ≡ true }
+        ensures { self.new ≡ with_acl self.old uid acl }
+    {
+        let place = self.entries.place_of(uid);
+        self.nodes[place as usize].acl = acl;
+    }
+
+    /// Adds a branch that `may_add` doesn't refuse, and gives its uid, which is the next one: no node has or had it.
+    pub fn attach(&mut self, superior: u32, new: NewBranch) -> u32
         requires directory { is_directory self.old.nodes superior ≡ true }
         requires may { add_fault_of (shapes self.old.nodes) superior new.name new.dir ≡ None }
         requires uids { self.old.next < 100003 }
-        ensures { self.new ≡ added self.old superior new }
+        ensures uid { result ≡ self.old.next }
+        ensures tree { self.new ≡ added self.old superior (as_node new) }
+        ensures fresh { is_in self.old.nodes self.old.next ≡ false }
+        ensures chains { HasChains (shapes self.old.nodes) }
     {
         let uid = self.next;
         let place = entries::store(&mut self.nodes, &mut self.free, uid, superior, new);
@@ -328,6 +349,7 @@ impl Tree {
         });
         self.entries.gain(superior);
         self.next = uid + 1;
+        uid
     }
 
     /// What `remove` would refuse.

@@ -1,8 +1,8 @@
 ghost use Rattle.std.specs.Prelude.{◌≡◌};
-ghost use Rattle.dir_tree.specs.Nodes.{node_of_new};
+ghost use Rattle.dir_tree.specs.Nodes.{node_of_new, as_node};
 
 use acl::Acl;
-use mnames::Name;
+use mnames::{Name, Who};
 pub use no_memory::NoMemory;
 
 /// A branch of the tree: a directory, or a segment (Bensoussan, Clingen and Daley 1972).
@@ -43,26 +43,42 @@ pub struct NewNode {
     pub acl: Acl,
 }
 
+/// What a new branch is to be, as `NewNode`, where its access control list has the row of its maker alone, who may read
+/// and write it, or no row.
+#[derive(Drop)]
+pub struct NewBranch {
+    /// Its name in the directory.
+    pub name: Name,
+    /// Whether it's a directory.
+    pub dir: bool,
+    /// Its volume, counted from 0.
+    pub volume: u32,
+    /// Its entry in the VTOC of that volume.
+    pub entry: u32,
+    /// The length of a segment, in pages; 0 for a directory.
+    pub length: u32,
+    /// Who makes it; none of a directory.
+    pub maker: Option<Who>,
+}
+
 impl Node {
-    /// The node of a new branch of a directory.
-    pub(crate) fn of_branch(uid: u32, superior: u32, new: NewNode) -> Node
-        ensures { result ≡ node_of_new uid superior new }
-    {
+    /// What stands in a place before a node does.
+    pub(crate) fn blank() -> Node {
         Node {
-            uid,
-            superior: Some(superior),
-            name: new.name,
-            dir: new.dir,
-            volume: new.volume,
-            entry: new.entry,
-            length: new.length,
-            acl: new.acl,
+            uid: 0,
+            superior: None,
+            name: Name::default(),
+            dir: false,
+            volume: 0,
+            entry: 0,
+            length: 0,
+            acl: Acl::none(),
         }
     }
 
     /// Becomes the node of a new branch of a directory, part by part: the node is long.
-    pub(crate) fn become_branch(&mut self, uid: u32, superior: u32, new: NewNode)
-        ensures { self.new ≡ node_of_new uid superior new }
+    pub(crate) fn become_branch(&mut self, uid: u32, superior: u32, new: NewBranch)
+        ensures { self.new ≡ node_of_new uid superior (as_node new) }
     {
         self.uid = uid;
         self.superior = Some(superior);
@@ -71,7 +87,10 @@ impl Node {
         self.volume = new.volume;
         self.entry = new.entry;
         self.length = new.length;
-        self.acl = new.acl;
+        match new.maker {
+            Some(who) => self.acl = Acl::of(who),
+            None => self.acl = Acl::none(),
+        }
     }
 }
 

@@ -1,4 +1,6 @@
-use Rattle.std.proofs.Common.{◌<◌, length, sym, ◌∙◌, arith}
+use Rattle.std.proofs.Common.{◌≡◌, ℕ, [], ◌<◌, length, sym, ap, ◌∙◌, arith}
+use Rattle.dir_tree.specs.Nodes.{Branches, added, with_acl}
+use Rattle.dir_tree.proofs.ChangedLemmas.{rows_added}
 use Rattle.dir_tree.specs.Kept.{newest}
 use Rattle.tree_model.proofs.ChainLaws.{has_chains}
 use Rattle.dir_tree.proofs.KeptLemmas.{next_missing, MayAdd, no_fault}
@@ -35,3 +37,13 @@ returns-in_err-may_add-clause-chains c =
 pub returns-clause-chains : goal.returns-clause-chains
 returns-clause-chains c = rw (← c.self.view_is) (has_chains
     (shapes (newest c.self.inside.nodes.items c.self.inside.entries)) c.self.invariant.0.tree)
+
+pub returns-clause-ok : goal.returns-clause-ok
+returns-clause-ok c =
+    let next : c.self.inside.next ≡ c.args.self.now.next = ap (λ (t : Branches). t.next) c.self.view_is in
+    c.set_rows.ensures
+    ∙ ap (λ (t : Branches). with_acl t c.self.inside.next c.args.new.acl) c.attach.ensures.tree
+    ∙ ap (λ (u : ℕ). with_acl (added c.args.self.now c.args.superior (record c.args.new { acl = [] })) u c.args.new.acl)
+    next
+    ∙ rows_added c.args.self.now c.args.superior c.args.new [] (rw (← c.self.view_is)
+    (next_missing c.self.invariant.0))

@@ -1,23 +1,19 @@
 use Rattle.std.proofs.Common.{◌≡◌, ◌+◌, ◌<◌, ℕ, List, [], ◌∷◌, ◌++◌, Bool, length, true, None, Some, refl, sym, ap}
-use Rattle.std.proofs.Common.{subst, ◌∙◌, arith, get_or}
+use Rattle.std.proofs.Common.{subst, ◌∙◌, arith}
 use Rattle.std.proofs.lemmas.List.{length-map}
 use Rattle.dir_tree.specs.declared.node.Node.{Node}
-use Rattle.dir_tree.specs.declared.node.NewNode.{NewNode}
 use Rattle.dir_tree.specs.declared.entries.Entry.{Entry}
-use Rattle.dir_tree.specs.Nodes.{Branches, is_directory, add_fault_of, added as tree_added}
-use Rattle.dir_tree.specs.Index.{IsOrdered, AreWithin, no_node}
+use Rattle.dir_tree.specs.Nodes.{Branches, is_directory, add_fault_of, node_of_new, as_node}
+use Rattle.dir_tree.specs.Index.{IsOrdered, AreWithin}
 use Rattle.dir_tree.specs.Shape.{shape, shapes}
 use Rattle.dir_tree.specs.Kept.{newest, recounted, IsCounted, IsKept}
 use Rattle.dir_tree.proofs.AddedLemmas.{place_unused, place_room, asked, new_key}
 use Rattle.dir_tree.proofs.AddedLemmas.{added}
 use Rattle.dir_tree.proofs.CountLemmas.{superior_there, pushed_few, counted_with, newest_recounted, kept_recounted}
-use Rattle.dir_tree.proofs.KeptLemmas.{no_fault}
+use Rattle.tree_model.proofs.ChainLaws.{has_chains}
+use Rattle.dir_tree.proofs.KeptLemmas.{next_missing, no_fault}
 use Rattle.dir_tree.proofs.NewestLemmas.{length_newest}
 use Rattle.dir_tree.proofs.Tree.attach.Goals as goal
-
--- the node of a new branch, which the tree with it has first
-abbrev new_node : ℕ → ℕ → NewNode → Node
-new_node next superior new = get_or (tree_added (record { nodes = []; next = next }) superior new).nodes 0 no_node
 
 abbrev new_entry : ℕ → ℕ → ℕ → Entry
 new_entry next superior place = record { uid = next; superior = Some superior; place = place; inferiors = 0 }
@@ -81,7 +77,7 @@ insert-requires-clause-new c =
     rw c.deref.ensures.value (new_key c.self.invariant.0 c.store-place.result c.store-place.ensures.place
     c.store-place.new.nodes.items
     c.store-place.ensures.others c.store-place.ensures.count c.args.superior
-    (new_node c.self.inside.next c.args.superior c.args.new) c.store-place.ensures.here refl may.new)
+    (node_of_new c.self.inside.next c.args.superior (as_node c.args.new)) c.store-place.ensures.here refl may.new)
 
 pub push-requires-clause-few : goal.push-requires-clause-few
 push-requires-clause-few c = few c.self.inside.nodes.items c.self.inside.entries c.args.superior c.args.new.name
@@ -121,9 +117,9 @@ added_to : (c : goal.After-self-1)
     c.store-place.new.free.items c.insert.new.self (c.self.inside.next + 1)
     × (newest c.store-place.new.nodes.items
     (c.self.inside.entries ++ new_entry c.self.inside.next c.args.superior c.store-place.result ∷ [])
-    ≡ new_node c.self.inside.next c.args.superior c.args.new ∷ newest c.self.inside.nodes.items c.self.inside.entries)
+    ≡ node_of_new c.self.inside.next c.args.superior (as_node c.args.new) ∷ newest c.self.inside.nodes.items c.self.inside.entries)
 added_to c =
-    added c.self.invariant.0 c.args.superior (new_node c.self.inside.next c.args.superior c.args.new)
+    added c.self.invariant.0 c.args.superior (node_of_new c.self.inside.next c.args.superior (as_node c.args.new))
     c.store-place.new.nodes.items c.store-place.new.free.items c.insert.new.self c.store-place.result refl refl
     (directory_at c.args.superior c.self.view_is c.requires.directory)
     (may_at c.args.superior c.args.new.name c.args.new.dir c.self.view_is c.requires.may) c.store-place.ensures.place
@@ -146,10 +142,17 @@ invariant_of-self c =
       rw gained counted,
     )
 
-pub returns : goal.returns
-returns c =
+pub returns-clause-tree : goal.returns-clause-tree
+returns-clause-tree c =
     let more : List Entry = c.self.inside.entries ++ new_entry c.self.inside.next c.args.superior c.store-place.result
     ∷ [] in
     let gained : c.gain.new.self ≡ recounted c.args.superior (λ n. n + 1) more = rw c.push.ensures at c.gain.ensures in
     rw (← c.self.view_is) (ap (λ (ns : List Node). record { nodes = ns; next = c.self.inside.next + 1 })
     (rw gained (newest_recounted c.args.superior (λ n. n + 1) c.store-place.new.nodes.items more ∙ (added_to c).1)))
+
+pub returns-clause-fresh : goal.returns-clause-fresh
+returns-clause-fresh c = rw (← c.self.view_is) (next_missing c.self.invariant.0)
+
+pub returns-clause-chains : goal.returns-clause-chains
+returns-clause-chains c = rw (← c.self.view_is) (has_chains
+    (shapes (newest c.self.inside.nodes.items c.self.inside.entries)) c.self.invariant.0.tree)
