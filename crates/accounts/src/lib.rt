@@ -17,14 +17,14 @@ ghost use Rattle.tree_model.specs.Access.{takes_row};
 ghost use Rattle.tree_model.specs.Tree.{above, has_directory, node_in, quota_in, used_by, walk_in, with_node};
 ghost use Rattle.tree_model.specs.Trees.{AreBelow, has_segment, IsTree};
 ghost use Rattle.tree_model.specs.Quotas.{tree_moved};
-ghost use Rattle.dir_tree.specs.Nodes.{add_fault_of, as_term, chain_of, has_inferior, path_answer, unless};
+ghost use Rattle.dir_tree.specs.Nodes.{add_fault_of, as_node, as_term, chain_of, has_inferior, path_answer, unless};
 ghost use Rattle.quota_cells.specs.Scratch.{charge_answer, scratch_answer};
 ghost use Rattle.accounts.specs.Maps.{Counts, HasColumns, count_of, entry_of, root_alone, branch_of};
 ghost use Rattle.accounts.specs.Maps.{Recounts, Changes, Gains, Loses, Rehomes, rehomed, rows_in, with_row_in};
 
 use acl::AclFull;
 use arrayvec::ArrayVec;
-use dir_tree::{AddFault, NewNode, Node, NotEmpty, PathFault, Tree};
+use dir_tree::{AddFault, NewBranch, NewNode, Node, NotEmpty, PathFault, Tree};
 use mnames::{Mode, Name, Path, Row};
 pub use no_memory::NoMemory;
 use quota_cells::{Cells, Full, MoveFault};
@@ -261,6 +261,21 @@ impl Accounts {
         let uid = self.tree.add_branch(superior, new)?;
         self.cells.enter(uid, dir);
         Ok(uid)
+    }
+
+    /// Adds a branch that `may_add` doesn't refuse, without quota or stored pages, and gives its uid, which is the next
+    /// one.
+    pub fn attach(&mut self, superior: u32, new: NewBranch) -> u32
+        requires directory { has_directory self.old.nodes superior ≡ true }
+        requires may { add_fault_of self.old.nodes superior new.name new.dir ≡ None }
+        requires uids { self.old.next < 100003 }
+        ensures uid { result ≡ self.old.next }
+        ensures effect { Gains self.old self.new (branch_of self.old.next superior (as_node new)) new.entry }
+    {
+        let dir = new.dir;
+        let uid = self.tree.attach(superior, new);
+        self.cells.enter(uid, dir);
+        uid
     }
 
     /// Why a branch can't be taken out, but for its quota or its stored pages.

@@ -96,10 +96,6 @@ length_inside {X} vtocs v e w x now is =
       ]
     ]
 
-pub added_uid : (o : Option AddFault) (u next : ℕ) → ◌≡◌ {A = Result ℕ AddFault} (Ok u) (unless o next) → u ≡ next
-added_uid None u next e = cc
-added_uid (Some x) u next e = cc
-
 -- ---- by its path
 
 module _ (s : Store) (nodes : List Node) (path names : List (List ℕ)) (name : List ℕ) (volume : ℕ) (dir : Bool)

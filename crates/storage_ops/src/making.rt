@@ -2,6 +2,7 @@
 
 ghost use Rattle.std.specs.Prelude.{◌≡◌, ◌<◌, ◌≤◌, ℕ, true, false, nat_le, length, ◌∷◌, [], None};
 ghost use Rattle.tree_model.specs.Tree.{Node as Term, has_directory, entries_on};
+ghost use Rattle.dir_tree.specs.Nodes.{maker_rows};
 ghost use Rattle.script.specs.Plans.{Plan, who_of};
 ghost use Rattle.flat_model.specs.Making.{after_make, made_in, make_in, make_reply, owner_row};
 ghost use Rattle.flat_model.specs.Store.{Store as Flat, entries_of};
@@ -11,10 +12,9 @@ ghost use Rattle.storage_ops.specs.Shown.{Shows, answered, refusal, with_vtocs};
 
 use crate::replies::refusal;
 use crate::store::{Store, look, volumes_at_rest};
-use acl::Acl;
 use book::Reply;
-use dir_tree::{AddFault, NewNode};
-use mnames::Path;
+use dir_tree::{AddFault, NewBranch};
+use mnames::{Path, Who};
 use tree_commands::{make_reply, node_below};
 use volumes::Drive;
 
@@ -57,7 +57,7 @@ impl<D: Drive> Store<D> {
     }
 
     /// Makes a directory or a segment in a directory, unless that is refused.
-    fn make_branch(&mut self, superior: u32, new: NewNode) -> Reply
+    fn make_branch(&mut self, superior: u32, new: NewBranch) -> Reply
         requires still { self.old.segs.moving ≡ None }
         requires directory { has_directory self.old.accounts.nodes superior ≡ true }
         requires volume { new.volume < length self.old.segs.pages.volumes.drives }
@@ -68,7 +68,7 @@ impl<D: Drive> Store<D> {
             → result ≡ make_in p s new.volume new.dir new.name d }
         ensures effect { (p : Plan) (s : Flat) (d : Term) → Shows D.pages p s self.old → d.uid ≡ superior
             → Shows D.pages p
-            (answered result s (made_in s new.volume new.dir new.length new.acl new.name d)) self.new }
+            (answered result s (made_in s new.volume new.dir new.length (maker_rows new.maker) new.name d)) self.new }
         ensures home { takes_effect result ≡ true → TakesHome D.pages self.old self.new new.volume }
         ensures rest { self.new ≡ record self.old {
           accounts = self.new.accounts;
@@ -86,14 +86,11 @@ impl<D: Drive> Store<D> {
         let Some(entry) = self.segs.new_home(new.volume, uid) else {
             return Reply::NoEntry;
         };
-        match self.accounts.add(superior, NewNode { entry, ..new }) {
-            Ok(uid) => Reply::Made(uid),
-            Err(_) => unreachable!(),
-        }
+        Reply::Made(self.accounts.attach(superior, NewBranch { entry, ..new }))
     }
 
-    /// Makes a directory or a segment, and gives `Made` with its uid, or what refuses it.
-    fn make(&mut self, path: &Path, volume: u32, dir: bool, pages: u32, acl: Acl) -> Reply
+    /// Makes a directory, which has no maker, or a segment, and gives `Made` with its uid, or what refuses it.
+    fn make(&mut self, path: &Path, volume: u32, dir: bool, pages: u32, maker: Option<Who>) -> Reply
         requires still { self.old.segs.moving ≡ None }
         requires volume { volume < length self.old.segs.pages.volumes.drives }
         requires uids { self.old.accounts.next < 100003 }
@@ -102,7 +99,8 @@ impl<D: Drive> Store<D> {
         ensures answer { (p : Plan) (s : Flat) → Shows D.pages p s self.old
             → result ≡ make_reply p s path.now volume dir }
         ensures effect { (p : Plan) (s : Flat) → Shows D.pages p s self.old
-            → Shows D.pages p (answered result s (after_make s path.now volume dir pages acl)) self.new }
+            → Shows D.pages p (answered result s (after_make s path.now volume dir pages (maker_rows maker)))
+            self.new }
         ensures home { takes_effect result ≡ true → TakesHome D.pages self.old self.new volume }
         ensures rest { self.new ≡ record self.old {
           accounts = self.new.accounts;
@@ -121,13 +119,13 @@ impl<D: Drive> Store<D> {
             }
             Err(reply) => return reply,
         };
-        let new = NewNode {
+        let new = NewBranch {
             name: name.copied(),
             dir,
             volume,
             entry: 0,
             length: pages,
-            acl,
+            maker,
         };
         self.make_branch(superior, new)
     }
@@ -148,7 +146,7 @@ impl<D: Drive> Store<D> {
           segs = with_vtocs self.old.segs self.new.segs.pages.volumes.vtocs;
         } }
     {
-        self.make(path, volume, true, 0, Acl::none())
+        self.make(path, volume, true, 0, None)
     }
 
     /// Makes a segment of so many pages on a volume, of which none is stored, and which the process's principal may
@@ -171,7 +169,7 @@ impl<D: Drive> Store<D> {
           segs = with_vtocs self.old.segs self.new.segs.pages.volumes.vtocs;
         } }
     {
-        let acl = Acl::of(self.whos[process as usize].copied());
-        self.make(path, volume, false, pages, acl)
+        let maker = self.whos[process as usize].copied();
+        self.make(path, volume, false, pages, Some(maker))
     }
 }

@@ -1,6 +1,6 @@
 use Rattle.std.proofs.Common.{◌≡◌, ℕ, true, false, List, refl, sym, ap, subst, ◌∙◌}
 use Rattle.tree_model.specs.Tree.{Node, quota_in}
-use Rattle.dir_tree.specs.Nodes.{as_term}
+use Rattle.dir_tree.specs.Nodes.{as_term, maker_rows}
 use Rattle.flat_model.specs.Making.{made_in, make_in}
 use Rattle.flat_model.specs.Store.{Store as Flat}
 use Rattle.storage_ops.specs.Shown.{Shows, answered}
@@ -48,10 +48,10 @@ returns-clause-effect g c = λ p s h.
     let shown = shown_held c.self.view_is g.D.Drive.pages p s h in
     let n : Node = as_term (quota_in c.self.inside.accounts.nodes) c.in-Ok.node.now in
     subst (λ (x : Flat). Shows g.D.Drive.pages p (answered c.make_branch.result s x) c.make_branch.new.self)
-    (ap (λ (name : List ℕ). made_in s c.args.volume c.args.dir c.args.pages c.args.acl name n) c.copied.ensures
+    (ap (λ (name : List ℕ). made_in s c.args.volume c.args.dir c.args.pages (maker_rows c.args.maker) name n) c.copied.ensures
     ∙ after_make_is s c.self.inside.accounts.nodes c.args.path.now c.in-Some.above.now c.in-Some.name.now c.args.volume
     c.args.dir shown.tree.nodes
-    c.in-Some.ensures.parts c.args.pages c.args.acl n c.in-Ok.ensures.ok)
+    c.in-Some.ensures.parts c.args.pages (maker_rows c.args.maker) n c.in-Ok.ensures.ok)
     (c.make_branch.ensures.effect p s n h refl)
 
 pub returns-in-Err-clause-home : goal.returns-in-Err-clause-home

@@ -1,6 +1,8 @@
 use Rattle.std.proofs.Common.{◌≡◌, ℕ, Some, true, false, List, is_some, refl, sym, ap, subst, ◌∙◌}
 use Rattle.book.specs.declared.replies.Reply.TheVariants as reply
 use Rattle.accounts.specs.Maps.{branch_of}
+use Rattle.dir_tree.specs.Nodes.{as_node}
+use Rattle.dir_tree.proofs.QuotaLemmas.{unless_none}
 use Rattle.flat_model.specs.Store.{Store as Flat}
 use Rattle.tree_model.specs.Tree.{Node, entries_on}
 use Rattle.active_segs.specs.Active.{ActiveSegs}
@@ -11,10 +13,13 @@ use Rattle.storage_ops.specs.CutOff.{TakesHome}
 use Rattle.storage_ops.specs.Shown.{IsStore, Shows, Storage}
 use Rattle.storage_ops.proofs.Held.{held, shown_held}
 use Rattle.storage_ops.proofs.Homes.{HasNewHome, shown_new, store_new}
-use Rattle.storage_ops.proofs.Made.{added_uid, all_used, branch_same, length_inside, made_told, some_free}
+use Rattle.storage_ops.proofs.Made.{all_used, branch_same, length_inside, made_told, some_free}
 use Rattle.storage_ops.proofs.store.Store.make_branch.Given.{Over}
-use Rattle.storage_ops.proofs.store.Store.make_branch.Goals.{In-Ok-add}
+use Rattle.storage_ops.proofs.store.Store.make_branch.Goals.{After-attach}
 use Rattle.storage_ops.proofs.store.Store.make_branch.Goals as goal
+
+pub attach-requires-clause-may : goal.attach-requires-clause-may
+attach-requires-clause-may g c = unless_none _ _ _ (sym c.may_add.ensures ∙ c.in-Ok.is)
 
 pub returns-in_default-clause-answer : goal.returns-in_default-clause-answer
 returns-in_default-clause-answer g c = λ p s d h below.
@@ -30,7 +35,7 @@ returns-in_default-clause-answer g c = λ p s d h below.
 pub returns-clause-answer : goal.returns-clause-answer
 returns-clause-answer g c = λ p s d h below.
     let shown = shown_held c.self.view_is g.D.Drive.pages p s h in
-    ap (λ (x : ℕ). reply.Made x) (added_uid _ c.in-Ok-add.uid c.self.inside.accounts.next c.in-Ok-add.ensures.answer)
+    ap (λ (x : ℕ). reply.Made x) c.attach.ensures.uid
     ∙ made_told p s c.args.new.volume c.args.new.dir c.args.new.name d c.self.inside.accounts.nodes c.args.superior
     c.self.inside.accounts.next
     c.may_add.result false shown.tree.nodes shown.tree.next below c.may_add.ensures (sym c.in-Ok.is)
@@ -47,13 +52,13 @@ new_home-requires-clause-inactive g c = record {
 }
 
 -- the node that is made, and its home
-abbrev node : (g : Over) (c : In-Ok-add g) → Node
-node g c = branch_of c.self.inside.accounts.next c.args.superior (record c.args.new { entry = c.in-Some.entry })
+abbrev node : (g : Over) (c : After-attach g) → Node
+node g c = branch_of c.self.inside.accounts.next c.args.superior (as_node (record c.args.new { entry = c.in-Some.entry }))
 
-made : (g : Over) (c : In-Ok-add g) → HasNewHome c.self.inside.accounts c.add.new.self (node g c) c.in-Some.entry
+made : (g : Over) (c : After-attach g) → HasNewHome c.self.inside.accounts c.attach.new.self (node g c) c.in-Some.entry
     (plain g.D.Drive.pages c.self.inside.segs.pages) (plain g.D.Drive.pages c.new_home.new.self.pages)
 made g c = record {
-  gains = c.in-Ok-add.ensures.ok;
+  gains = c.attach.ensures.effect;
   fresh = c.next_uid-uid.ensures.fresh;
   home = c.in-Some.ensures.home ∙ ap (λ (x : ℕ). Some x) c.next_uid-uid.ensures.uid;
   least = c.in-Some.ensures.least;
@@ -67,11 +72,11 @@ pub invariant_of-self-2 : goal.invariant_of-self-2
 invariant_of-self-2 g c =
     let old : Plain = plain g.D.Drive.pages c.self.inside.segs.pages in
     let now : Plain = plain g.D.Drive.pages c.new_home.new.self.pages in
-    subst (λ (x : ActiveSegs). IsStore now x c.new_home.new.self.links c.add.new.self c.self.inside.whos.items)
+    subst (λ (x : ActiveSegs). IsStore now x c.new_home.new.self.links c.attach.new.self c.self.inside.whos.items)
     (sym c.new_home.ensures.ast)
-    (subst (λ (x : Links). IsStore now c.self.inside.segs.ast x c.add.new.self c.self.inside.whos.items)
+    (subst (λ (x : Links). IsStore now c.self.inside.segs.ast x c.attach.new.self c.self.inside.whos.items)
     (sym c.new_home.ensures.links)
-    (store_new c.self.inside.accounts c.add.new.self (node g c) c.in-Some.entry old now (made g c)
+    (store_new c.self.inside.accounts c.attach.new.self (node g c) c.in-Some.entry old now (made g c)
     c.self.inside.segs.ast c.self.inside.segs.links
     c.self.inside.whos.items c.requires.most c.requires.flat c.self.invariant))
 
@@ -80,12 +85,12 @@ returns-clause-effect g c = λ p s d h below.
     let old : Plain = plain g.D.Drive.pages c.self.inside.segs.pages in
     let now : Plain = plain g.D.Drive.pages c.new_home.new.self.pages in
     let t = held c.self.view_is in
-    let u = record t { accounts = c.add.new.self; segs = c.new_home.new.self } in
+    let u = record t { accounts = c.attach.new.self; segs = c.new_home.new.self } in
     let shown = shown_held c.self.view_is g.D.Drive.pages p s h in
     subst (λ (x : Flat). Shows g.D.Drive.pages p x u)
-    (branch_same s (record c.args.new { entry = c.in-Some.entry }) d c.self.inside.accounts.next
+    (branch_same s (as_node (record c.args.new { entry = c.in-Some.entry })) d c.self.inside.accounts.next
     c.args.superior shown.tree.next below)
-    (shown_new c.self.inside.accounts c.add.new.self (node g c) c.in-Some.entry old now (made g c)
+    (shown_new c.self.inside.accounts c.attach.new.self (node g c) c.in-Some.entry old now (made g c)
     c.self.inside.segs.ast c.self.inside.segs.links
     g.D.Drive.pages p s t u refl refl refl refl c.new_home.ensures.links refl refl refl c.new_home.ensures.words
     (λ v. length_inside c.self.inside.segs.pages.volumes.vtocs c.args.new.volume c.in-Some.entry v _ _
@@ -96,12 +101,12 @@ returns-clause-effect g c = λ p s d h below.
 
 pub returns-clause-home : goal.returns-clause-home
 returns-clause-home g c = λ on.
-    let u = record (held c.self.view_is) { accounts = c.add.new.self; segs = c.new_home.new.self } in
+    let u = record (held c.self.view_is) { accounts = c.attach.new.self; segs = c.new_home.new.self } in
     subst (λ (x : Storage g.row.D.Denot). TakesHome g.D.Drive.pages x u c.args.new.volume) c.self.view_is (record {
       entry = c.in-Some.entry;
       least = sym c.in-Some.ensures.least;
       filed = c.in-Some.ensures.effect
           ∙ ap (λ (uid : ℕ). allocated (plain g.D.Drive.pages c.self.inside.segs.pages) c.args.new.volume
           c.in-Some.entry uid) c.next_uid-uid.ensures.uid;
-      beside = c.in-Ok-add.ensures.ok.entries;
+      beside = c.attach.ensures.effect.entries;
     })
