@@ -2,6 +2,7 @@ pub mod AddedLemmas
 pub mod ChangedLemmas
 pub mod CountLemmas
 pub mod EditLemmas
+pub mod ShelfLemmas
 pub mod SlotLemmas
 pub mod IndexLemmas
 pub mod KeptLemmas

@@ -1,5 +1,5 @@
 -- The index of branches by superior and name.
-use Rattle.std.specs.Prelude.{false, ◌≡◌, ℕ, ◌<◌, ◌≤◌, ◌+◌, ◌*◌, ◌/◌, ◌%◌, ◌^◌, List, [], length, drop, fold, Option, None}
+use Rattle.std.specs.Prelude.{false, ◌≡◌, ℕ, zero, suc, ◌<◌, ◌≤◌, ◌+◌, ◌*◌, ◌/◌, ◌%◌, ◌^◌, List, [], ◌∷◌, length, drop, fold, Option, None}
 use Rattle.std.specs.Int.{from_be_bytes, w64}
 use Rattle.std.specs.Simd.{first_chunks}
 use Rattle.std.specs.Prelude.{slice_index, slice_index_or}
@@ -85,3 +85,22 @@ hash_at places hashes k = slice_index hashes (slice_index places k)
 pub record AreRising (places hashes : List ℕ) : Type 0 where
   pub rising : (i j : ℕ) → i < j → j < length places → hash_at places hashes i ≤ hash_at places hashes j
   pub slots : (k : ℕ) → k < length places → slice_index places k < length hashes
+
+-- how many places stand on the shelves before the m-th
+abbrev pub before : List (List ℕ) → ℕ → ℕ
+before [] m = 0
+before (shelf ∷ shelves) zero = 0
+before (shelf ∷ shelves) (suc m) = length shelf + before shelves m
+
+-- the m-th shelf
+abbrev pub shelf_at : List (List ℕ) → ℕ → List ℕ
+shelf_at shelves m = slice_index_or shelves m []
+
+-- the shelf of a hash: its first four bits
+abbrev pub shelf_of : ℕ → ℕ
+shelf_of hash = hash / 2 ^ 28
+
+-- each place stands on the shelf of its hash
+pub record AreShelved (shelves : List (List ℕ)) (hashes : List ℕ) : Type 0 where
+  pub count : length shelves ≡ 16
+  pub shelved : (m place : ℕ) → HasPlace (shelf_at shelves m) place → shelf_of (slice_index hashes place) ≡ m

@@ -1,16 +1,17 @@
 //! The index of the branches by superior and name: a list of the branches' places, in the order of a hash of these, and
-//! then of these.
+//! then of these. It stands on 16 shelves, by the first bits of the hash.
 
 ghost use Rattle.std.specs.Prelude.{◌≡◌, ◌≢◌, ℕ, ◌<◌, ◌≤◌, ◌+◌, ◌↔◌, ◌⊎◌, Some, true, false, [], length, IfOk, IfSome};
 ghost use Rattle.std.specs.Prelude.{IfNone, slice_index};
 ghost use Rattle.std.specs.Cmp.Lexicographic.{slice_cmp};
+ghost use Rattle.std.specs.List.{insert, remove};
 ghost use Rattle.std.specs.Option.{option_cmp};
 ghost use Rattle.std.specs.Ordering.{nat_cmp, ordering_then};
 ghost use Rattle.std.specs.declared.cmp.Ordering.TheVariants.{Less};
 ghost use Rattle.tree_model.specs.Tree.{is_branch};
 ghost use Rattle.dir_tree.specs.Shape.{shape};
 ghost use Rattle.dir_tree.specs.Index.{node_at, key_of, key_cmp, key_hash, key_at, HasPlace, IsOrdered, AreWithin};
-ghost use Rattle.dir_tree.specs.Index.{hash_at, AreRising, mixed, words_mixed, last_word};
+ghost use Rattle.dir_tree.specs.Index.{hash_at, shelf_at, shelf_of, AreRising, mixed, words_mixed, last_word};
 
 use crate::node::Node;
 use crate::{NODES, NoMemory};
@@ -19,44 +20,115 @@ use std::alloc::Global;
 use std::cmp::Ordering;
 use std::marker::Model;
 
-/// The places of the branches, in the order of their hashes, and those of one hash in that of superior and name. It has
-/// room for a fixed number of them.
+/// How many shelves there are: one for each number of the first four bits of a hash.
+const SHELVES: usize = 16;
+
+/// The shelf of the branches of a hash.
+fn shelf_of(hash: u32) -> usize
+    ensures shelf { result ≡ shelf_of hash }
+    ensures within { result < 16 }
+{
+    (hash >> 28) as usize
+}
+
+/// The places of the branches whose hashes begin alike, with room for all branches.
+#[derive(Drop)]
+struct Shelf {
+    places: Vec<u16>,
+}
+
+impl Model for Shelf {
+    ghost use Rattle.std.specs.Prelude.{◌≤◌, List, ℕ, vec_capacity};
+
+    ghost Value = { List ℕ };
+
+    ghost view = { λ s. s.places.items };
+
+    ghost invariant = { λ s. 4096 ≤ vec_capacity s.places };
+}
+
+impl Shelf {
+    /// An empty shelf.
+    fn new(alloc: Global) -> Result<Shelf, NoMemory>
+        ensures { IfOk result (λ shelf. shelf ≡ []) }
+    {
+        let places = Vec::with_capacity(alloc, NODES - 1)?;
+        Ok(Shelf { places })
+    }
+
+    /// What stands on it.
+    fn places(&self) -> &[u16]
+        ensures { result.now ≡ self.now }
+    {
+        &self.places
+    }
+
+    /// Puts a place between others.
+    fn insert(&mut self, at: usize, place: u16)
+        requires at { at ≤ length self.old }
+        requires room { length self.old < 4096 }
+        ensures { self.new ≡ insert self.old at place }
+    {
+        match self.places.insert(at, place) {
+            Ok(()) => {}
+            Err(_) => unreachable!(),
+        }
+    }
+
+    /// Takes one away.
+    fn remove(&mut self, at: usize)
+        requires { at < length self.old }
+        ensures { self.new ≡ remove self.old at }
+    {
+        self.places.remove(at);
+    }
+}
+
+/// Empty shelves, one for each number of the first four bits of a hash.
+fn empty_shelves(alloc: Global) -> Result<Vec<Shelf>, NoMemory>
+    ensures count { IfOk result (λ shelves. length shelves.items ≡ 16) }
+    ensures empty { IfOk result (λ shelves. (m : ℕ) → shelf_at shelves.items m ≡ []) }
+{
+    let mut shelves = Vec::with_capacity(alloc, SHELVES)?;
+    for _ in 0..SHELVES {
+        shelves.push_reserved(Shelf::new(alloc)?);
+    }
+    Ok(shelves)
+}
+
+/// The places of the branches, in the order of their hashes, and those of one hash in that of superior and name: on a
+/// shelf for each number of the first four bits of a hash. It has room for 4096 of them.
 #[derive(Drop)]
 pub(crate) struct Index {
-    places: Vec<u16>,
+    shelves: Vec<Shelf>,
     /// The hash of each branch, in the slot of its place: no search but the last step of one looks at a node.
     hashes: Vec<u32>,
-    room: usize,
 }
 
 impl Model for Index {
-    ghost use Rattle.std.specs.Prelude.{◌≡◌, ◌≤◌, vec_len, vec_capacity};
-    ghost use Rattle.dir_tree.specs.Index.{Places};
+    ghost use Rattle.std.specs.Prelude.{◌≡◌, ◌≤◌, length, vec_len};
+    ghost use Rattle.std.specs.List.{concat};
+    ghost use Rattle.dir_tree.specs.Index.{Places, AreShelved};
 
     ghost Value = { Places };
 
-    ghost view = { λ i. record { places = i.places.items; hashes = i.hashes.items; room = i.room } };
+    ghost view = { λ i. record { places = concat i.shelves.items; hashes = i.hashes.items; room = 4096 } };
 
-    ghost invariant = { λ i. (vec_len i.places ≤ i.room) × (i.room ≤ vec_capacity i.places)
-        × (vec_len i.hashes ≡ 4097) };
+    ghost invariant = { λ i. AreShelved i.shelves.items i.hashes.items × (vec_len i.hashes ≡ 4097) };
 }
 
 impl Index {
-    /// An empty index with room for `room` branches.
-    pub(crate) fn new(alloc: Global, room: usize) -> Result<Index, NoMemory>
+    /// An empty index with room for 4096 branches.
+    pub(crate) fn new(alloc: Global) -> Result<Index, NoMemory>
         ensures empty { IfOk result (λ index. index.places ≡ []) }
-        ensures room { IfOk result (λ index. index.room ≡ room) }
+        ensures room { IfOk result (λ index. index.room ≡ 4096) }
     {
-        let places = Vec::with_capacity(alloc, room)?;
+        let shelves = empty_shelves(alloc)?;
         let hashes = vec![in alloc; 0; NODES]?;
-        Ok(Index {
-            places,
-            hashes,
-            room,
-        })
+        Ok(Index { shelves, hashes })
     }
 
-    /// The place of the branch with this superior and name. It halves the list.
+    /// The place of the branch with this superior and name. It halves the shelf of their hash.
     pub(crate) fn find(&self, nodes: &[Node], superior: u32, name: &Name) -> Option<u16>
         requires order { IsOrdered nodes.now self.now.places self.now.hashes }
         requires within { AreWithin nodes.now self.now.places }
@@ -65,10 +137,12 @@ impl Index {
         ensures none { IfNone result ((place : ℕ) → HasPlace self.now.places place
             → is_branch superior name.now (shape (node_at nodes.now place)) ≡ false) }
     {
-        find(&self.places, &self.hashes, nodes, superior, name)
+        let hash = hash_of(Some(superior), name);
+        let shelf = &self.shelves[shelf_of(hash)];
+        find(shelf.places(), &self.hashes, nodes, hash, superior, name)
     }
 
-    /// Notes the place of a new branch. The places after it move up.
+    /// Notes the place of a new branch. The places after it on its shelf move up.
     pub(crate) fn insert(&mut self, nodes: &[Node], place: u16)
         requires room { length self.old.places < self.old.room }
         requires order { IsOrdered nodes.now self.old.places self.old.hashes }
@@ -84,22 +158,20 @@ impl Index {
     {
         let node = &nodes[place as usize];
         let hash = hash_of(node.superior, &node.name);
+        let shelf = &mut self.shelves[shelf_of(hash)];
         let at = first_at(
-            &self.places,
+            shelf.places(),
             &self.hashes,
             nodes,
             hash,
             node.superior,
             &node.name,
         );
+        shelf.insert(at, place);
         self.hashes[place as usize] = hash;
-        match self.places.insert(at, place) {
-            Ok(()) => {}
-            Err(_) => unreachable!(),
-        }
     }
 
-    /// Forgets the place of a branch. The places after it move down.
+    /// Forgets the place of a branch. The places after it on its shelf move down.
     pub(crate) fn remove(&mut self, nodes: &[Node], place: u16)
         requires there { HasPlace self.old.places place }
         requires order { IsOrdered nodes.now self.old.places self.old.hashes }
@@ -109,8 +181,9 @@ impl Index {
         ensures count { length self.new.places + 1 ≡ length self.old.places }
         ensures room { self.new.room ≡ self.old.room }
     {
-        let at = place_at(&self.places, &self.hashes, place);
-        self.places.remove(at);
+        let shelf = &mut self.shelves[shelf_of(self.hashes[place as usize])];
+        let at = place_at(shelf.places(), &self.hashes, place);
+        shelf.remove(at);
     }
 }
 
@@ -247,15 +320,22 @@ fn first_at(
 }
 
 /// The place of the branch with this superior and name. It compares names only where two hashes are the same.
-fn find(places: &[u16], hashes: &[u32], nodes: &[Node], superior: u32, name: &Name) -> Option<u16>
+fn find(
+    places: &[u16],
+    hashes: &[u32],
+    nodes: &[Node],
+    hash: u32,
+    superior: u32,
+    name: &Name,
+) -> Option<u16>
     requires order { IsOrdered nodes.now places.now hashes.now }
     requires within { AreWithin nodes.now places.now }
+    requires hash { hash ≡ key_hash (Some superior, name.now) }
     ensures some { IfSome result (λ place. HasPlace places.now place
         × (is_branch superior name.now (shape (node_at nodes.now place)) ≡ true)) }
     ensures none { IfNone result ((place : ℕ) → HasPlace places.now place
         → is_branch superior name.now (shape (node_at nodes.now place)) ≡ false) }
 {
-    let hash = hash_of(Some(superior), name);
     let mut at = from_hash(places, hashes, hash);
     while at < places.len() {
         let place = places[at];

@@ -14,7 +14,7 @@ loop-at-init c =
     let key : Key = (Some c.args.superior, c.args.name.now) in
     let below : (k : ℕ) → k < c.from_hash-at.result
     → hash_at c.args.places.now c.args.hashes.now k < key_hash key =
-    rw c.hash_of-hash.ensures at c.from_hash-at.ensures.below in
+    rw c.requires.hash at c.from_hash-at.ensures.below in
     record {
       within = c.from_hash-at.ensures.within;
       below = before_hash c.requires.order c.from_hash-at.result key c.from_hash-at.ensures.within below;

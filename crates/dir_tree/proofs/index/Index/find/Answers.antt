@@ -1,0 +1,59 @@
+use Rattle.std.proofs.Common.{◌≡◌, ℕ, true, false, List, sym, ap, subst, ◌∙◌, Some}
+use Rattle.std.specs.Prelude.{IfSome}
+use Rattle.std.specs.List.{concat}
+use Rattle.dir_tree.specs.Index.{Places, HasPlace, IsOrdered, AreWithin, key_hash, node_at, shelf_at, shelf_of}
+use Rattle.tree_model.specs.Tree.{is_branch}
+use Rattle.dir_tree.specs.Shape.{shape}
+use Rattle.dir_tree.specs.declared.node.Node.{Node}
+use Rattle.dir_tree.proofs.ShelfLemmas.{found_all, none_elsewhere, none_then, shelf_ordered, shelf_read, shelf_within}
+use Rattle.dir_tree.proofs.index.Index.find.Goals as goal
+
+ordered : (c : goal.After-deref) → IsOrdered c.args.nodes.now (concat c.self.inside.shelves.items)
+    c.self.inside.hashes.items
+ordered c = subst (λ (v : Places). IsOrdered c.args.nodes.now v.places v.hashes) (sym c.self.view_is) c.requires.order
+
+shelf : (c : goal.After-deref) → c.places.result.now ≡ shelf_at c.self.inside.shelves.items c.shelf_of.result
+shelf c = c.places.ensures
+    ∙ shelf_read c.self.inside.shelves.items c.self.inside.hashes.items c.shelf_of.result c.index-shelf.result.now
+    c.self.invariant.0 c.shelf_of.ensures.within c.index-shelf.ensures
+
+pub find-requires-clause-order : goal.find-requires-clause-order
+find-requires-clause-order c = rw (c.deref.ensures.value, shelf c)
+    (shelf_ordered c.args.nodes.now c.self.inside.shelves.items c.self.inside.hashes.items (ordered c) c.shelf_of.result)
+
+pub find-requires-clause-within : goal.find-requires-clause-within
+find-requires-clause-within c = rw (shelf c)
+    (shelf_within c.args.nodes.now c.self.inside.shelves.items c.self.inside.hashes.items (ordered c) c.shelf_of.result
+    (subst (λ (v : Places). AreWithin c.args.nodes.now v.places) (sym c.self.view_is) c.requires.within))
+
+pub returns-clause-some : goal.returns-clause-some
+returns-clause-some c =
+    let nodes : List Node = c.args.nodes.now in
+    let xs : List (List ℕ) = c.self.inside.shelves.items in
+    let own : c.places.result.now ≡ shelf_at xs c.shelf_of.result = c.places.ensures
+    ∙ shelf_read xs c.self.inside.hashes.items c.shelf_of.result c.index-shelf.result.now c.self.invariant.0
+    c.shelf_of.ensures.within c.index-shelf.ensures in
+    subst (λ (v : Places). IfSome c.find.result (λ place. HasPlace v.places place
+    × (is_branch c.args.superior c.args.name.now (shape (node_at nodes place)) ≡ true))) c.self.view_is
+    (found_all xs c.shelf_of.result c.find.result
+    (λ place. is_branch c.args.superior c.args.name.now (shape (node_at nodes place)) ≡ true)
+    (subst (λ (l : List ℕ). IfSome c.find.result (λ place. HasPlace l place
+    × (is_branch c.args.superior c.args.name.now (shape (node_at nodes place)) ≡ true))) own c.find.ensures.some))
+
+pub returns-clause-none : goal.returns-clause-none
+returns-clause-none c =
+    let nodes : List Node = c.args.nodes.now in
+    let xs : List (List ℕ) = c.self.inside.shelves.items in
+    let none : List ℕ → Type 0 = λ l. (place : ℕ) → HasPlace l place
+    → is_branch c.args.superior c.args.name.now (shape (node_at nodes place)) ≡ false in
+    let own : c.places.result.now ≡ shelf_at xs (shelf_of (key_hash (Some c.args.superior, c.args.name.now))) =
+    c.places.ensures
+    ∙ shelf_read xs c.self.inside.hashes.items c.shelf_of.result c.index-shelf.result.now c.self.invariant.0
+    c.shelf_of.ensures.within c.index-shelf.ensures
+    ∙ ap (shelf_at xs) (c.shelf_of.ensures.shelf ∙ ap shelf_of c.hash_of-hash.ensures) in
+    let order : IsOrdered nodes (concat xs) c.self.inside.hashes.items =
+    subst (λ (v : Places). IsOrdered nodes v.places v.hashes) (sym c.self.view_is) c.requires.order in
+    none_then c.find.result (none c.places.result.now) (none c.args.self.now.places) c.find.ensures.none
+    (λ here. subst (λ (v : Places). none v.places) c.self.view_is
+    (none_elsewhere nodes xs c.self.inside.hashes.items c.args.superior c.args.name.now order c.self.invariant.0
+    (subst none own here)))
