@@ -50,7 +50,6 @@ impl<D: Drive> Machine<D> {
 
 impl<D: Drive> Machine<D> {
     /// Processor `c` takes part from now on. (Source: own.)
-    #[inline(never)]
     pub(crate) fn come_online(&mut self, c: u32) -> Turn
         requires { MayDo self.old.state c Online }
         ensures { IsTurn D.plan D.places D.faults self.old self.new c result }
@@ -60,7 +59,6 @@ impl<D: Drive> Machine<D> {
     }
 
     /// Processor `c` drops what it is to drop. (Source: Bensoussan, Clingen and Daley 1972.)
-    #[inline(never)]
     pub(crate) fn clear(&mut self, c: u32, what: What) -> Turn
         requires { MayDo self.old.state c (Clear what) }
         ensures { IsTurn D.plan D.places D.faults self.old self.new c result }
@@ -70,7 +68,6 @@ impl<D: Drive> Machine<D> {
     }
 
     /// Processor `c` loads the process at the front of the ready list. (Source: Corbató 1968.)
-    #[inline(never)]
     pub(crate) fn load(&mut self, c: u32, process: u32) -> Turn
         requires { MayDo self.old.state c (Load process) }
         ensures { IsTurn D.plan D.places D.faults self.old self.new c result }
@@ -80,7 +77,6 @@ impl<D: Drive> Machine<D> {
     }
 
     /// Processor `c` gives its process up, which has had its turn or has ended. (Source: Corbató 1968.)
-    #[inline(never)]
     pub(crate) fn leave(&mut self, c: u32) -> Turn
         requires { MayDo self.old.state c Leave }
         ensures { IsTurn D.plan D.places D.faults self.old self.new c result }

@@ -16,7 +16,6 @@ impl<D: Drive> Machine<D> {
     /// Processor `c`, which owns the supervisor, makes page `page` of an active segment in the free frame `frame`, all
     /// zeros but the word that the reference of its process leaves there, answers it, and gives the supervisor up. The
     /// account of the segment is charged for the page. (Source: Organick 1972.)
-    #[inline(never)]
     pub(crate) fn create(
         &mut self,
         c: u32,
@@ -37,7 +36,6 @@ impl<D: Drive> Machine<D> {
     /// Processor `c`, which owns the supervisor, takes what the next command of its process must have out of use: the
     /// pages that a `truncate` or a `delete` cuts are on their way out then, and the descriptors are cut that an `acl`,
     /// a `delete`, a `terminate` or an `end` changes. (Source: Bensoussan, Clingen and Daley 1972; Organick 1972.)
-    #[inline(never)]
     pub(crate) fn take_away(&mut self, c: u32) -> Turn
         requires { MayDo self.old.state c (taken_for self.old.state.store (process_at self.old.state c)
             (next_command self.old.state (process_at self.old.state c))) }
@@ -51,7 +49,6 @@ impl<D: Drive> Machine<D> {
     /// The next command of the process of processor `c`, a tree command that isn't refused, takes effect: what its job
     /// took is gone, the process is answered, and the supervisor is given up. At its end the process leaves the
     /// processor. (Source: Bensoussan, Clingen and Daley 1972; Organick 1972.)
-    #[inline(never)]
     pub(crate) fn commit(&mut self, c: u32) -> Turn
         requires { MayDo self.old.state c Commit }
         ensures { IsTurn D.plan D.places D.faults self.old self.new c result }

@@ -12,7 +12,6 @@ use volumes::Drive;
 impl<D: Drive> Machine<D> {
     /// Processor `c`, which owns the supervisor, begins to move an active segment to a volume that has room for it.
     /// (Source: own.)
-    #[inline(never)]
     pub(crate) fn begin_move(&mut self, c: u32, uid: u32, volume: u32) -> Turn
         requires { MayDo self.old.state c (BeginMove uid volume) }
         ensures { IsTurn D.plan D.places D.faults self.old self.new c result }
@@ -25,7 +24,6 @@ impl<D: Drive> Machine<D> {
     /// Processor `c` copies the next page of the segment that it moves. Where one of the two drives failed, what the
     /// move has taken is given back, and the process is told of the failure and answered. It costs a read of the one
     /// drive and a write of the other. (Source: own.)
-    #[inline(never)]
     pub(crate) fn copy_page(&mut self, c: u32, mover: Mover, page: u32) -> Turn
         requires { MayDo self.old.state c (CopyPage mover page) }
         ensures { IsTurn D.plan D.places D.faults self.old self.new c result }
@@ -39,7 +37,6 @@ impl<D: Drive> Machine<D> {
 
     /// The segment that processor `c` moves has its home on the other volume, which is booked, and the owner looks
     /// again. (Source: own.)
-    #[inline(never)]
     pub(crate) fn commit_move(&mut self, c: u32, mover: Mover) -> Turn
         requires { MayDo self.old.state c (CommitMove mover) }
         ensures { IsTurn D.plan D.places D.faults self.old self.new c result }

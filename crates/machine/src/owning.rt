@@ -24,7 +24,6 @@ impl<D: Drive> Machine<D> {
 
     /// Processor `c` drops what is named and has the others that take part drop it. The owner's job waits for them.
     /// (Source: Bensoussan, Clingen and Daley 1972.)
-    #[inline(never)]
     pub(crate) fn signal(&mut self, c: u32, what: What) -> Turn
         requires { MayDo self.old.state c (Signal what) }
         ensures { IsTurn D.plan D.places D.faults self.old self.new c result }
@@ -37,7 +36,6 @@ impl<D: Drive> Machine<D> {
 impl<D: Drive> Machine<D> {
     /// Processor `c` reads page `p` of an active segment into the free frame `f` from now on, and gives the supervisor
     /// up. (Source: own.)
-    #[inline(never)]
     pub(crate) fn start(&mut self, c: u32, f: u32, uid: u32, p: u32) -> Turn
         requires { MayDo self.old.state c (Start f uid p) }
         ensures { IsTurn D.plan D.places D.faults self.old self.new c result }
@@ -50,7 +48,6 @@ impl<D: Drive> Machine<D> {
     /// A number of the process of processor `c`, which owns the supervisor, leads to an active segment, with the mode
     /// of the process's access and the length of the segment. (Source: Bensoussan, Clingen and Daley 1972; Organick
     /// 1972.)
-    #[inline(never)]
     pub(crate) fn connect(&mut self, c: u32, number: u32, uid: u32) -> Turn
         requires { MayDo self.old.state c (Connect number uid) }
         ensures { IsTurn D.plan D.places D.faults self.old self.new c result }
@@ -65,7 +62,6 @@ impl<D: Drive> Machine<D> {
 impl<D: Drive> Machine<D> {
     /// Processor `c`, which owns the supervisor, makes a segment inactive of which everything was taken, and looks
     /// again: the descriptors that it cut are gone. (Source: Bensoussan, Clingen and Daley 1972; Organick 1972.)
-    #[inline(never)]
     pub(crate) fn deactivate(&mut self, c: u32, uid: u32) -> Turn
         requires { MayDo self.old.state c (Deactivate uid) }
         ensures { IsTurn D.plan D.places D.faults self.old self.new c result }
@@ -77,7 +73,6 @@ impl<D: Drive> Machine<D> {
 
     /// Processor `c`, which owns the supervisor, takes the page in the frame that the clock chooses. (Source: Corbató
     /// 1968.)
-    #[inline(never)]
     pub(crate) fn evict(&mut self, c: u32) -> Turn
         requires { MayDo self.old.state c (Evict (or_zero (clock_choice self.old.state.store.pages.core))) }
         ensures { IsTurn D.plan D.places D.faults self.old self.new c result }
@@ -90,7 +85,6 @@ impl<D: Drive> Machine<D> {
     /// Processor `c`, which owns the supervisor, takes the pages of an active segment that are here, 256 at the most,
     /// and cuts the descriptors that lead to it, one of each of 32 processes at the most, so that it becomes inactive;
     /// where there are none it is inactive at once. (Source: Bensoussan, Clingen and Daley 1972; Organick 1972.)
-    #[inline(never)]
     pub(crate) fn empty(&mut self, c: u32, uid: u32) -> Turn
         requires { MayDo self.old.state c (Empty uid) }
         ensures { IsTurn D.plan D.places D.faults self.old self.new c result }

@@ -73,6 +73,7 @@ impl<D: Drive> Tables<D> {
     /// Makes a segment active: it is the first of the chain of a node that isn't, and its pool has a free place. It
     /// gets the least such place, which is given, and the page table that its file map tells. It costs a write for each
     /// word of the page table. (Source: Bensoussan, Clingen and Daley 1972; Organick 1972.)
+    #[inline(never)]
     pub fn activate(&mut self, of: u32, uid: u32) -> u32
         requires still { self.old.state.store.moving ≡ None }
         requires there { is_there self.old.state.store.accounts.nodes of ≡ true }
@@ -107,6 +108,7 @@ impl<D: Drive> Tables<D> {
     /// Processor `c` takes what the victim of a full pool has in use, so that it becomes inactive: the pool has no
     /// place for the first segment of the chain of a node that isn't active. The pool's hand moves on. (Source:
     /// Bensoussan, Clingen and Daley 1972; Organick 1972.)
+    #[inline(never)]
     pub fn take_victim(&mut self, c: u32, of: u32, uid: u32)
         requires still { self.old.state.store.moving ≡ None }
         requires there { is_there self.old.state.store.accounts.nodes of ≡ true }

@@ -168,7 +168,6 @@ impl<D: Drive> Tables<D> {
 
     /// What processor `c` does, which owns the supervisor: it goes on with its job, or looks for what the next command
     /// of its process wants.
-    #[inline(never)]
     fn own(&self, c: u32, holder: Holder) -> Action
         requires may { MayChoose self.now.state c }
         requires owner { self.now.state.owner ≡ owner_of (Some holder) (frames_of_owner self.now.state.owner)

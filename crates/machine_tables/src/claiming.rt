@@ -169,6 +169,7 @@ impl<D: Drive> Tables<D> {
     /// cuts, of a `delete` those of its node, which are on their way out then; of an `acl` and a `delete` the
     /// descriptors that lead to the segment, of a `terminate` that of its number, of an `end` those of the process,
     /// which are cut. (Source: Bensoussan, Clingen and Daley 1972; Organick 1972.)
+    #[inline(never)]
     pub fn take_away(&mut self, c: u32, process: u32)
         requires still { self.old.state.store.moving ≡ None }
         requires run { process < length self.old.state.runs }

@@ -182,6 +182,7 @@ impl<D: Drive> Tables<D> {
     /// The next command of the process of processor `c`, a tree command that isn't refused, takes effect: what its job
     /// took is gone, the process is answered, and the supervisor is given up. At its end the process leaves the
     /// processor. (Source: Bensoussan, Clingen and Daley 1972; Organick 1972.)
+    #[inline(never)]
     pub fn commit(&mut self, c: u32, process: u32)
         requires { (x : Named) × MayCommit self.old c process x }
         ensures effect { self.new ≡ with_state self.old

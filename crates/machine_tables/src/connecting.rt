@@ -29,6 +29,7 @@ impl<D: Drive> Tables<D> {
 
     /// A number of the process of processor `c` leads to an active segment, with the mode of the process's access and
     /// the length of the segment. (Source: Bensoussan, Clingen and Daley 1972; Organick 1972.)
+    #[inline(never)]
     pub fn connect(&mut self, c: u32, process: u32, number: u32, uid: u32)
         requires process { (cpu_at self.old.state.processors c).process ≡ Some process }
         requires knows { process < length self.old.state.store.links.known }

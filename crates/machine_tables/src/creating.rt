@@ -60,6 +60,7 @@ impl<D: Drive> Tables<D> {
     /// Processor `c` makes page `page` of an active segment in the free frame `f`, all zeros but the word that the
     /// reference of its process leaves there, answers the process, and gives the supervisor up. The account of the
     /// segment is charged for the page. (Source: Organick 1972.)
+    #[inline(never)]
     pub fn create(
         &mut self,
         c: u32,

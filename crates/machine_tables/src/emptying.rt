@@ -96,6 +96,7 @@ impl<D: Drive> Tables<D> {
     /// Processor `c` takes the pages of an active segment that are here, and cuts the descriptors that lead to it, so
     /// that it becomes inactive; where there are none it is inactive at once. (Source: Bensoussan, Clingen and Daley
     /// 1972; Organick 1972.)
+    #[inline(never)]
     pub fn empty(&mut self, c: u32, uid: u32)
         requires still { self.old.state.store.moving ≡ None }
         requires active { IsActive self.old.state.store.ast.entries uid }

@@ -54,6 +54,7 @@ impl<D: Drive> Tables<D> {
 
     /// Processor `c` makes a segment inactive of which everything was taken, and looks again: the descriptors that it
     /// cut are gone. (Source: Bensoussan, Clingen and Daley 1972; Organick 1972.)
+    #[inline(never)]
     pub fn deactivate(&mut self, c: u32, uid: u32)
         requires still { self.old.state.store.moving ≡ None }
         requires owner { HasOwner self.old.state.owner }

@@ -202,6 +202,7 @@ impl<D: Drive> Tables<D> {
     ///
     /// # Errors
     /// `Failed` exactly where the drive failed.
+    #[inline(never)]
     pub fn finish_page(&mut self, c: u32, process: u32, f: u32) -> Result<Left, Failed>
         requires still { self.old.state.store.moving ≡ None }
         requires leaving { IsLeaving self.old.state.store f }
@@ -234,6 +235,7 @@ impl<D: Drive> Tables<D> {
     ///
     /// # Errors
     /// `Failed` exactly where the drive failed.
+    #[inline(never)]
     pub fn finish_eviction(&mut self, c: u32, process: u32, f: u32) -> Result<Left, Failed>
         requires still { self.old.state.store.moving ≡ None }
         requires leaving { IsLeaving self.old.state.store f }

@@ -74,6 +74,7 @@ impl<D: Drive> Tables<D> {
     /// Processor `c`, which owns the supervisor, begins to move an active segment to a volume that has room for it:
     /// more free records than the segment has stored pages, and a free VTOC entry. It takes them there, and calls no
     /// drive. No page of the segment is being read into a frame. (Source: own.)
+    #[inline(never)]
     pub fn begin_move(&mut self, c: u32, uid: u32, volume: u32)
         requires still { self.old.state.store.moving ≡ None }
         requires active { IsActive self.old.state.store.ast.entries uid }
@@ -133,6 +134,7 @@ impl<D: Drive> Tables<D> {
     ///
     /// # Errors
     /// `Failed` exactly where one of the drives failed.
+    #[inline(never)]
     pub fn copy_page(&mut self, c: u32, process: u32, mover: Mover, page: u32) -> Result<(), Failed>
         requires moving { self.old.state.store.moving ≡ Some mover }
         requires page { next_out (table_of self.old.state.store.ast mover.uid) mover.next ≡ Some page }
@@ -157,6 +159,7 @@ impl<D: Drive> Tables<D> {
 
     /// Processor `c`, which owns the supervisor, ends the move of a segment of which no page is left to copy: its home
     /// is on the other volume, which is booked, and the owner looks again. It calls no drive. (Source: own.)
+    #[inline(never)]
     pub fn commit_move(&mut self, c: u32, process: u32, mover: Mover)
         requires moving { self.old.state.store.moving ≡ Some mover }
         requires done { next_out (table_of self.old.state.store.ast mover.uid) mover.next ≡ None }

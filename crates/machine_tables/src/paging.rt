@@ -83,6 +83,7 @@ impl<D: Drive> Tables<D> {
 
     /// Processor `c` reads page `p` of an active segment into the free frame `f` from now on, and gives the supervisor
     /// up. (Source: own.)
+    #[inline(never)]
     pub fn start(&mut self, c: u32, f: u32, uid: u32, p: u32)
         requires still { self.old.state.store.moving ≡ None }
         requires processor { c < length self.old.state.processors }

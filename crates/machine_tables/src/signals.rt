@@ -47,6 +47,7 @@ impl<D: Drive> Tables<D> {
 
     /// Processor `c` drops what is named and has the others that take part drop it. The owner's job waits for them.
     /// (Source: Bensoussan, Clingen and Daley 1972.)
+    #[inline(never)]
     pub fn signal(&mut self, c: u32, what: What)
         requires { 0 < self.old.state.spare }
         ensures { self.new ≡ with_state self.old (signalled self.old.state c what) }

@@ -254,6 +254,7 @@ impl<D: Drive> Tables<D> {
 
     /// Processor `c` takes the page in the frame that the clock chooses, and gives the frame's number. No page is on
     /// its way out yet. (Source: Corbató 1968.)
+    #[inline(never)]
     pub fn evict(&mut self, c: u32) -> u32
         requires still { self.old.state.store.moving ≡ None }
         requires bound { list_any is_bound self.old.state.store.pages.core.frames ≡ true }

@@ -56,6 +56,7 @@ impl<D: Drive> Tables<D> {
     ///
     /// # Errors
     /// `Failed` exactly where the drive failed.
+    #[inline(never)]
     pub fn end_transfer(&mut self, c: u32, process: u32, transfer: Transfer) -> Result<(), Failed>
         requires processor { c < length self.old.state.processors }
         requires process { (cpu_at self.old.state.processors c).process ≡ Some process }

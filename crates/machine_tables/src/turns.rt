@@ -56,6 +56,7 @@ fn held_page(cpu: &Cpu, frame: u32, reference: &Reference) -> HeldPage
 
 impl<D: Drive> Tables<D> {
     /// Processor `c` takes part from now on. (Source: own.)
+    #[inline(never)]
     pub fn come_online(&mut self, c: u32)
         requires processor { c < length self.old.state.processors }
         requires room { 0 < self.old.state.spare }
@@ -66,6 +67,7 @@ impl<D: Drive> Tables<D> {
     }
 
     /// Processor `c` drops what it is to drop. (Source: Bensoussan, Clingen and Daley 1972.)
+    #[inline(never)]
     pub fn clear(&mut self, c: u32, what: What)
         requires processor { c < length self.old.state.processors }
         requires room { 0 < self.old.state.spare }
@@ -78,6 +80,7 @@ impl<D: Drive> Tables<D> {
     }
 
     /// Processor `c` loads the process at the front of the ready list, and holds nothing. (Source: Corbató 1968.)
+    #[inline(never)]
     pub fn load(&mut self, c: u32, process: u32)
         requires processor { c < length self.old.state.processors }
         requires room { 0 < self.old.state.spare }
@@ -94,6 +97,7 @@ impl<D: Drive> Tables<D> {
 
     /// Processor `c` gives its process up, and holds nothing. The process goes to the back of the ready list, unless it
     /// has ended. (Source: Corbató 1968.)
+    #[inline(never)]
     pub fn leave(&mut self, c: u32, process: u32)
         requires processor { c < length self.old.state.processors }
         requires process { (cpu_at self.old.state.processors c).process ≡ Some process }
