@@ -49,3 +49,4 @@ pub mod TruncateLaws
 pub mod TruncatedLaws
 pub mod VictimLaws
 pub mod VisitLaws
+pub mod WholeLaws

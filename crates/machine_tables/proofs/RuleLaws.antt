@@ -1,8 +1,9 @@
 -- The rules of a step, in their order.
-use Rattle.std.proofs.Common.{◌≡◌, ◌≤◌, ℕ, true, false, length, List, Option, Some, None, refl, ap, subst, ◌∙◌}
+use Rattle.std.proofs.Common.{◌≡◌, ◌≢◌, ◌≤◌, ℕ, Bool, true, false, is_some, length, List, Option, Some, None, refl, ap}
+use Rattle.std.proofs.Common.{subst, ◌∙◌}
 use Rattle.std.specs.Prelude.{IfNone, IsSome}
 use Rattle.machine_model.specs.Actions as act
-use Rattle.machine_model.specs.Actions.{action_of, is_over}
+use Rattle.machine_model.specs.Actions.{action_of, has_process, is_over}
 use Rattle.active_segs.specs.Active.{IsActive}
 use Rattle.seg_mover.specs.declared.Mover.{Mover}
 use Rattle.seg_control.specs.Control.{table_of}
@@ -12,6 +13,7 @@ use Rattle.machine_model.specs.Reads.{cpu_at, processor_at}
 use Rattle.machine_model.specs.State.{State}
 use Rattle.machine_model.specs.declared.CutDescriptor.{CutDescriptor}
 use Rattle.machine_model.specs.declared.Phase.TheVariants as phase
+use Rattle.machine_model.proofs.AllEnded.{over_idle}
 use Rattle.machine_model.proofs.ListSizes.{table_few}
 use Rattle.machine_model.proofs.TransferKept.{active_at}
 use Rattle.machine_tables.specs.Meant.{rule_of}
@@ -63,3 +65,15 @@ moved_short s keeps m active = table_few s m.uid keeps (active_at s.store.ast ac
 pub if_none_of : {X : Type 0} {P Q : Type 0} (o : Option X) → (P → Q) → IfNone o P → IfNone o Q
 if_none_of None f p = f p
 if_none_of (Some x) f p = tt
+
+-- where a processor has a process, some process is running
+pub busy_goes_on : (s : State) (c : ℕ) → has_process (processor_at s.processors c) ≡ true → is_over s ≡ false
+busy_goes_on s c busy = by (is_over s) refl
+  where
+    none : (o : Option ℕ) → is_some o ≡ true → ((k : ℕ) → o ≢ Some k) → ⊥
+    none None e idle = let no : false ≡ true = e in cc
+    none (Some k) e idle = idle k refl
+
+    by : (b : Bool) → is_over s ≡ b → b ≡ false
+    by false e = refl
+    by true e = absurd (none (cpu_at s.processors c).process busy (over_idle s e c))

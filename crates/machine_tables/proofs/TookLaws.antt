@@ -1,26 +1,31 @@
 -- What stays while pages are taken, and what is taken of a segment.
 use Rattle.std.proofs.Common.{◌≡◌, ◌+◌, ◌<◌, ◌≤◌, ℕ, true, false, not, cond, List, [], ◌∷◌, ◌++◌, length}
 use Rattle.std.proofs.Common.{Option, Some, None, refl, sym, ap}
-use Rattle.std.proofs.Common.{subst, ◌∙◌, arith}
+use Rattle.std.proofs.Common.{subst, ◌∙◌, arith, drop}
+use Rattle.std.proofs.Math.ListN.{drop_of_length-le}
+use Rattle.std.proofs.lemmas.List.{drop_more}
 use Rattle.std.specs.List.{list_any}
 use Rattle.assoc_mem.specs.declared.What.{What}
 use Rattle.assoc_mem.specs.declared.What.TheVariants.{Seg}
 use Rattle.core_map.specs.CoreMap.{bound_page}
 use Rattle.active_segs.specs.declared.Entry.{Entry}
 use Rattle.page_control.specs.Plain.{frame_in}
+use Rattle.page_table.specs.PageTable.{ptw_at}
+use Rattle.page_table.specs.declared.Ptw.{Ptw}
+use Rattle.page_table.specs.declared.Ptw.TheVariants.{Null}
 use Rattle.trailers.specs.Trailer.{trailers_of}
 use Rattle.active_segs.specs.Active.{ActiveSegs, IsActive}
-use Rattle.seg_control.specs.Control.{Links, is_for, place_of, table_of, word_of}
+use Rattle.seg_control.specs.Control.{Links, is_for, place_of}
 use Rattle.machine_model.specs.declared.Aim.{Aim}
 use Rattle.machine_model.specs.declared.Aim.TheVariants.{Deactivating}
 use Rattle.machine_model.specs.Jobs.{cut_all, emptied, leaving_if, segment_taken, take_all, take_one, took}
 use Rattle.machine_model.specs.Actions.{is_empty}
-use Rattle.machine_model.specs.Reads.{cut_of_owner, frames_from, here_in, trailers_in}
+use Rattle.machine_model.specs.Reads.{cut_of_owner, frames_in, here_in, trailers_in}
 use Rattle.machine_model.specs.State.{State, Storage}
 use Rattle.machine_tables.specs.Owned.{HasOwner}
 use Rattle.machine_tables.specs.Parts.{Parts, with_state}
 use Rattle.machine_tables.specs.Taken.{is_bare}
-use Rattle.machine_tables.proofs.TakeLaws.{frames_here, frames_past, owner_still, room_less}
+use Rattle.machine_tables.proofs.TakeLaws.{owner_still, room_less}
 
 leaving_entries : (st : Storage) (f : ℕ) (o : Option (ℕ × ℕ)) → (leaving_if st f o).ast.entries ≡ st.ast.entries
 leaving_entries st f None = refl
@@ -81,24 +86,22 @@ none_of : (xs : List ℕ) → not (is_empty xs) ≡ false → xs ≡ []
 none_of [] h = refl
 none_of (x ∷ xs) h = absurd (let no : true ≡ false = h in cc)
 
-pub some_here : (ast : ActiveSegs) (u p low : ℕ) → frames_from ast u p ≡ frames_from ast u low
-    → p < length (table_of ast u) → not (is_empty (here_in (word_of ast u p))) ≡ true
-    → not (is_empty (frames_from ast u low)) ≡ true
-some_here ast u p low same lt here =
-    ap (λ (xs : List ℕ). not (is_empty xs)) (sym same ∙ frames_here ast u p lt)
-    ∙ nonempty_append (here_in (word_of ast u p)) (frames_from ast u (p + 1)) here
+pub some_here : (ws : List Ptw) (p low : ℕ) → frames_in (drop p ws) ≡ frames_in (drop low ws) → p < length ws
+    → not (is_empty (here_in (ptw_at ws p))) ≡ true → not (is_empty (frames_in (drop low ws))) ≡ true
+some_here ws p low same lt here =
+    ap (λ (xs : List ℕ). not (is_empty xs)) (sym same ∙ ap frames_in (drop_more ws p Null lt))
+    ∙ nonempty_append (here_in (ptw_at ws p)) (frames_in (drop (p + 1) ws)) here
 
-pub next_here : (ast : ActiveSegs) (u p low : ℕ) → frames_from ast u p ≡ frames_from ast u low
-    → p < length (table_of ast u) → not (is_empty (here_in (word_of ast u p))) ≡ false
-    → frames_from ast u (p + 1) ≡ frames_from ast u low
-next_here ast u p low same lt none =
-    sym (frames_here ast u p lt ∙ ap (λ (xs : List ℕ). xs ++ frames_from ast u (p + 1))
-    (none_of (here_in (word_of ast u p)) none)) ∙ same
+pub next_here : (ws : List Ptw) (p low : ℕ) → frames_in (drop p ws) ≡ frames_in (drop low ws) → p < length ws
+    → not (is_empty (here_in (ptw_at ws p))) ≡ false → frames_in (drop (p + 1) ws) ≡ frames_in (drop low ws)
+next_here ws p low same lt none =
+    sym (ap frames_in (drop_more ws p Null lt) ∙ ap (λ (xs : List ℕ). xs ++ frames_in (drop (p + 1) ws))
+    (none_of (here_in (ptw_at ws p)) none)) ∙ same
 
-pub none_here : (ast : ActiveSegs) (u p low : ℕ) → frames_from ast u p ≡ frames_from ast u low
-    → length (table_of ast u) ≤ p → not (is_empty (frames_from ast u low)) ≡ false
-none_here ast u p low same past =
-    ap (λ (xs : List ℕ). not (is_empty xs)) (sym same ∙ frames_past ast u p past)
+pub none_here : (ws : List Ptw) (p low : ℕ) → frames_in (drop p ws) ≡ frames_in (drop low ws) → length ws ≤ p
+    → not (is_empty (frames_in (drop low ws))) ≡ false
+none_here ws p low same past =
+    ap (λ (xs : List ℕ). not (is_empty xs)) (sym same ∙ ap frames_in (drop_of_length-le ws past))
 
 pub bare_pages : (fs : List ℕ) (pairs : List (ℕ × ℕ)) → not (is_empty fs) ≡ true → is_bare fs pairs ≡ false
 bare_pages [] pairs h = absurd (let no : false ≡ true = h in cc)

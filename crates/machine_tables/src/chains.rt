@@ -132,6 +132,9 @@ impl<D: Drive> Tables<D> {
             ≡ with_chain self.now.state.store of otherwise }
         ensures whole { IfNone result (is_active self.now.state.store.ast of ≡ true) }
     {
+        if self.is_active(of) {
+            return None;
+        }
         let uid = self.first_inactive(of)?;
         Some(self.activate_link(of, uid))
     }

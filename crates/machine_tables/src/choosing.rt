@@ -1,12 +1,13 @@
 //! What a processor does in its next step, by the rules in their order.
 
-ghost use Rattle.std.specs.Prelude.{◌≡◌, ◌<◌, ℕ, length, Some, count_by};
+ghost use Rattle.std.specs.Prelude.{◌≡◌, ◌<◌, ℕ, length, IsSome, Some, count_by};
 ghost use Rattle.std.specs.List.{list_any};
 ghost use Rattle.machine_model.specs.Actions.{action_of, by_move, come_to, go_on_with, has_had_its_turn, has_process};
-ghost use Rattle.machine_model.specs.Actions.{is_over, load_or_idle, move_of, own_or_run, run_process, take_or_wait};
+ghost use Rattle.machine_model.specs.Actions.{is_over, load_or_idle, look_of, move_of, own_or_run, run_process};
+ghost use Rattle.machine_model.specs.Actions.{take_or_wait};
 ghost use Rattle.machine_model.specs.Reads.{cpu_at, cut_of_owner, frames_of_owner, next_command, process_at};
 ghost use Rattle.machine_model.specs.Reads.{processor_at};
-ghost use Rattle.machine_tables.specs.Held.{AreLong, MayChoose};
+ghost use Rattle.machine_tables.specs.Held.{AreLong, MayChoose, MayLook};
 ghost use Rattle.machine_tables.specs.Meant.{meant, rule_of};
 ghost use Rattle.machine_tables.specs.Owned.{owner_by, owner_of};
 
@@ -64,6 +65,17 @@ impl<D: Drive> Tables<D> {
         ensures { result ≡ is_over self.now.state }
     {
         self.ready.front().is_none() && !some_busy(&self.processors)
+    }
+
+    /// Whether no process is ready or running. Where processor `c` has one it looks at no other.
+    fn is_over_at(&self, c: u32) -> bool
+        requires { c < length self.now.state.processors }
+        ensures { result ≡ is_over self.now.state }
+    {
+        if has_process(self.processor(c)) {
+            return false;
+        }
+        self.is_over()
     }
 
     /// The front of the ready list is loaded, or there is nothing to do.
@@ -166,6 +178,20 @@ impl<D: Drive> Tables<D> {
         }
     }
 
+    /// What processor `c` does, which owns the supervisor and looks for what the next command of its process wants.
+    fn look(&self, c: u32) -> Action
+        requires looks { MayLook self.now.state }
+        requires may { MayChoose self.now.state c }
+        requires busy { IsSome (cpu_at self.now.state.processors c).process }
+        ensures { meant self.now.state (process_at self.now.state c) result ≡ look_of self.now.state
+            (process_at self.now.state c) (next_command self.now.state (process_at self.now.state c)) }
+    {
+        let Some(process) = self.processor(c).cpu.process else {
+            unreachable!();
+        };
+        self.look_for_next(process)
+    }
+
     /// What processor `c` does, which owns the supervisor: it goes on with its job, or looks for what the next command
     /// of its process wants.
     fn own(&self, c: u32, holder: Holder) -> Action
@@ -180,10 +206,7 @@ impl<D: Drive> Tables<D> {
         if let Some(action) = self.go_on(holder) {
             return action;
         }
-        let Some(process) = self.processor(c).cpu.process else {
-            unreachable!();
-        };
-        self.look_for_next(process)
+        self.look(c)
     }
 
     /// What a processor does that takes part and has nothing of its own to end.
@@ -226,7 +249,7 @@ impl<D: Drive> Tables<D> {
     {
         if self.stopped {
             Action::IsStopped
-        } else if self.is_over() {
+        } else if self.is_over_at(c) {
             Action::HasEnded
         } else {
             self.work(c)

@@ -1,11 +1,11 @@
-ghost use Rattle.std.specs.Prelude.{◌≡◌, ◌<◌, ◌≤◌, ◌+◌, length, Some, not, true};
+ghost use Rattle.std.specs.Prelude.{◌≡◌, ◌<◌, ◌≤◌, ◌+◌, drop, length, Some, not, true};
 ghost use Rattle.page_table.specs.declared.Ptw.TheVariants.{Here};
 ghost use Rattle.active_segs.specs.Active.{IsActive};
 ghost use Rattle.machine_model.specs.Actions.{first_taken, is_empty, what_taken};
 ghost use Rattle.assoc_mem.specs.declared.What.TheVariants.{Seg};
 ghost use Rattle.machine_model.specs.declared.Aim.TheVariants.{Deactivating};
 ghost use Rattle.machine_model.specs.Jobs.{cut_all, deactivation_begun, took};
-ghost use Rattle.machine_model.specs.Reads.{cut_of_owner, descriptor_of, frames_from, frames_of_owner};
+ghost use Rattle.machine_model.specs.Reads.{cut_of_owner, descriptor_of, frames_from, frames_in, frames_of_owner};
 ghost use Rattle.machine_model.specs.Reads.{here_in, is_connected, trailers_in};
 ghost use Rattle.machine_tables.specs.Claimed.{number_in};
 ghost use Rattle.machine_tables.specs.Owned.{CanTake, HasOwner};
@@ -16,7 +16,7 @@ use crate::tables::Tables;
 use assoc_mem::What;
 use descriptor_seg::Sdw;
 use machine_model::Aim;
-use page_table::Ptw;
+use page_table::{PageTable, Ptw};
 use script::Command;
 use volumes::Drive;
 
@@ -48,19 +48,26 @@ fn is_here(word: Ptw) -> bool
     matches!(word, Ptw::Here(_))
 }
 
+/// Whether a page is here, of those of a page table from a number on.
+fn has_here(table: &PageTable, low: u32) -> bool
+    ensures { result ≡ not (is_empty (frames_in (drop low table.now))) }
+{
+    for p in low..table.size() {
+        if is_here(table.get(p)) {
+            return true;
+        }
+    }
+    false
+}
+
 impl<D: Drive> Tables<D> {
     /// Whether a page of an active segment is here, of those from a number on.
     pub(crate) fn has_pages(&self, uid: u32, low: u32) -> bool
         requires { IsActive self.now.state.store.ast.entries uid }
         ensures { result ≡ not (is_empty (frames_from self.now.state.store.ast uid low)) }
     {
-        for p in low..self.table_size(uid) {
-            let here = is_here(self.word_of(uid, p));
-            if here {
-                return true;
-            }
-        }
-        false
+        let place = self.place(uid);
+        has_here(self.segs().ast().table(place), low)
     }
 
     /// Whether an active segment has no page here, and no descriptor leads to it.

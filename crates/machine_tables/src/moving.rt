@@ -42,6 +42,7 @@ fn is_out(word: Ptw) -> bool
 impl<D: Drive> Tables<D> {
     /// The least page of an active segment, from a number on, that is on its record alone. It looks at the words of the
     /// segment's page table up to that one.
+    #[inline(never)]
     fn next_out(&self, uid: u32, from: u32) -> Option<u32>
         requires active { IsActive self.now.state.store.ast.entries uid }
         requires short { length (table_of self.now.state.store.ast uid) ≤ 256 }
@@ -57,7 +58,6 @@ impl<D: Drive> Tables<D> {
 
     /// What the owner does next that moves a segment: the next page is copied, and after the last one the segment has
     /// its home on the other volume.
-    #[inline(never)]
     pub(crate) fn move_on(&self, mover: Mover) -> Action
         requires active { IsActive self.now.state.store.ast.entries mover.uid }
         requires short { length (table_of self.now.state.store.ast mover.uid) ≤ 256 }

@@ -5,9 +5,9 @@ use Rattle.machine_tables.proofs.tables.Tables.action.Goals as goal
 pub returns-then-self : goal.returns-then-self
 returns-then-self g c = stopped_rule c.args.self.now.state c.args.c (search rules)
 
-pub returns-then-is_over : goal.returns-then-is_over
-returns-then-is_over g c = over_rule c.args.self.now.state c.args.c (search rules) (search rules)
+pub returns-then-is_over_at : goal.returns-then-is_over_at
+returns-then-is_over_at g c = over_rule c.args.self.now.state c.args.c (search rules) (search rules)
 
-pub returns-else-is_over : goal.returns-else-is_over
-returns-else-is_over g c =
+pub returns-else-is_over_at : goal.returns-else-is_over_at
+returns-else-is_over_at g c =
     c.work.ensures ∙ work_rule c.args.self.now.state c.args.c (search rules) (search rules)

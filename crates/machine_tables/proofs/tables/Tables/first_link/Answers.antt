@@ -1,7 +1,17 @@
-use Rattle.std.proofs.Common.{rules}
+use Rattle.std.proofs.Common.{Option, ap, rules, sym, ℕ}
+use Rattle.dir_tree.specs.Nodes.{chain_of}
+use Rattle.machine_model.specs.Actions.{activate_first}
+use Rattle.machine_model.specs.State.{State}
 use Rattle.machine_model.proofs.ChainFacts.{chain_active}
 use Rattle.machine_tables.proofs.RuleLaws.{if_none}
+use Rattle.machine_tables.proofs.WholeLaws.{active_whole}
 use Rattle.machine_tables.proofs.tables.Tables.first_link.Goals as goal
+
+pub returns-then-is_active-clause-first : goal.returns-then-is_active-clause-first
+returns-then-is_active-clause-first g c = λ k otherwise.
+    let s : State = c.args.self.now.state in
+    sym (ap (λ (o : Option ℕ). activate_first s.store (chain_of s.store.accounts.nodes c.args.of) o otherwise)
+    (active_whole s c.args.of c.requires.looks (search rules)))
 
 pub returns-in_err-uid-clause-whole : goal.returns-in_err-uid-clause-whole
 returns-in_err-uid-clause-whole g c = if_none c.from_residual.result

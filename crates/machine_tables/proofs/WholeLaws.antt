@@ -1,0 +1,69 @@
+-- The superiors of an active node are active, all of them.
+use Rattle.std.proofs.Common.{◌≡◌, ℕ, suc, zero, ◌+◌, ◌-◌, ◌<◌, Bool, true, false, not, cond, List, [], ◌∷◌, length}
+use Rattle.std.proofs.Common.{get_or, Some, None, refl, sym, ap, subst, ◌∙◌, arith}
+use Rattle.std.specs.List.{find}
+use Rattle.std.proofs.lemmas.List.{get_or-reverse, length-reverse}
+use Rattle.mnames.specs.declared.principals.Who.{Who}
+use Rattle.accounts.specs.Maps.{AccountMaps}
+use Rattle.tree_model.specs.Tree.{above}
+use Rattle.tree_model.specs.Trees.{IsTree as IsNodeTree}
+use Rattle.dir_tree.specs.Nodes.{chain_of}
+use Rattle.active_segs.specs.Active.{ActiveSegs, IsTree}
+use Rattle.page_control.specs.Plain.{Plain}
+use Rattle.seg_control.specs.Control.{Links, place_of}
+use Rattle.storage_ops.specs.Shown.{IsStore}
+use Rattle.storage_ops.proofs.ChainDown.{chain_next}
+use Rattle.storage_ops.proofs.NodeLaws.{found_there}
+use Rattle.machine_model.specs.Reads.{first_inactive, is_active}
+use Rattle.machine_model.specs.State.{State}
+use Rattle.machine_model.proofs.ActiveSeen.{active_place}
+use Rattle.machine_model.proofs.ChainFacts.{superior_found}
+use Rattle.machine_model.proofs.TransferKept.{active_at}
+use Rattle.machine_tables.specs.Held.{MayLook}
+
+-- nothing of a list is found whose numbers all fail
+module _ (p : ℕ → Bool) where
+  none_found : (xs : List ℕ) → ((i : ℕ) → i < length xs → p (get_or xs i 0) ≡ false) → find p xs ≡ None
+  none_found [] fails = refl
+  none_found (x ∷ xs) fails = ap (λ (b : Bool). cond b (Some x) (find p xs)) (fails 0 (omega arith))
+      ∙ none_found xs (λ i less. fails (suc i) (omega (arith, less)))
+
+module _ (now : Plain) (ast : ActiveSegs) (links : Links) (a : AccountMaps) (whos : List Who)
+    (h : IsStore now ast links a whos) (t : IsNodeTree a.nodes) (tree : IsTree ast.entries) (u : ℕ)
+    (active : is_active ast u ≡ true) where
+  abbrev chain : List ℕ
+  chain = chain_of a.nodes u
+
+  -- the link before an active one is active
+  before : (i : ℕ) → suc i < length chain → is_active ast (get_or chain (suc i) 0) ≡ true
+      → is_active ast (get_or chain i 0) ≡ true
+  before i lt here =
+      let x = get_or chain (suc i) 0 in
+      let place = place_of ast.entries x in
+      let at = (active_place ast x here).1 in
+      let node = found_there a.nodes x (h.active.there place x at) in
+      let up = tree.superiors place (get_or chain i 0) (h.active.superiors place x node.0 at node.1
+      ∙ (sym (superior_found a.nodes x node.0 node.1) ∙ chain_next a.nodes t u i lt)) in
+      active_at ast up.0 (get_or chain i 0) up.1
+
+  long : length chain ≡ length (u ∷ above a.nodes u)
+  long = length-reverse (u ∷ above a.nodes u)
+
+  last : (i : ℕ) → suc i ≡ length chain → get_or chain i 0 ≡ u
+  last i end = let none : length (u ∷ above a.nodes u) - 1 - i ≡ 0 = omega (arith, long, end) in
+      get_or-reverse (u ∷ above a.nodes u) i 0 (omega (arith, long, end))
+      ∙ ap (λ (k : ℕ). get_or (u ∷ above a.nodes u) k 0) none
+
+  each : (n i : ℕ) → suc (i + n) ≡ length chain → is_active ast (get_or chain i 0) ≡ true
+  each zero i end = subst (λ (x : ℕ). is_active ast x ≡ true) (sym (last i (omega (arith, end)))) active
+  each (suc n) i end = before i (omega (arith, end)) (each n (suc i) (omega (arith, end)))
+
+  whole_chain : first_inactive ast chain ≡ None
+  whole_chain = none_found (λ x. not (is_active ast x)) chain
+      (λ i less. ap not (each (length chain - suc i) i (omega (arith, less))))
+
+-- of a node that is active no superior is inactive
+pub active_whole : (s : State) (u : ℕ) → MayLook s → is_active s.store.ast u ≡ true
+    → first_inactive s.store.ast (chain_of s.store.accounts.nodes u) ≡ None
+active_whole s u h active = whole_chain s.store.pages s.store.ast s.store.links s.store.accounts s.store.whos
+    h.keeps.store.counted h.keeps.store.accounts.tree h.keeps.store.kept.tree u active
