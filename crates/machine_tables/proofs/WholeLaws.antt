@@ -1,23 +1,25 @@
 -- The superiors of an active node are active, all of them.
 use Rattle.std.proofs.Common.{◌≡◌, ℕ, suc, zero, ◌+◌, ◌-◌, ◌<◌, Bool, true, false, not, cond, List, [], ◌∷◌, length}
-use Rattle.std.proofs.Common.{get_or, Some, None, refl, sym, ap, subst, ◌∙◌, arith}
+use Rattle.std.proofs.Common.{◌++◌, get_or, reverse, Some, None, refl, sym, ap, subst, ◌∙◌, arith}
 use Rattle.std.specs.List.{find}
 use Rattle.std.proofs.lemmas.List.{get_or-reverse, length-reverse}
 use Rattle.mnames.specs.declared.principals.Who.{Who}
 use Rattle.accounts.specs.Maps.{AccountMaps}
-use Rattle.tree_model.specs.Tree.{above}
+use Rattle.tree_model.specs.Tree.{above, node_in, step_up}
 use Rattle.tree_model.specs.Trees.{IsTree as IsNodeTree}
+use Rattle.tree_model.proofs.Finds.{past_front}
+use Rattle.tree_model.proofs.TreeLaws.{above_once, superior_in}
 use Rattle.dir_tree.specs.Nodes.{chain_of}
 use Rattle.active_segs.specs.Active.{ActiveSegs, IsTree}
 use Rattle.page_control.specs.Plain.{Plain}
 use Rattle.seg_control.specs.Control.{Links, place_of}
-use Rattle.storage_ops.specs.Shown.{IsStore}
+use Rattle.storage_ops.specs.Shown.{IsStore, is_there}
 use Rattle.storage_ops.proofs.ChainDown.{chain_next}
 use Rattle.storage_ops.proofs.NodeLaws.{found_there}
-use Rattle.machine_model.specs.Reads.{first_inactive, is_active}
+use Rattle.machine_model.specs.Reads.{first_inactive, is_active, superior_of_node}
 use Rattle.machine_model.specs.State.{State}
 use Rattle.machine_model.proofs.ActiveSeen.{active_place}
-use Rattle.machine_model.proofs.ChainFacts.{superior_found}
+use Rattle.machine_model.proofs.ChainFacts.{superior_found, turned}
 use Rattle.machine_model.proofs.TransferKept.{active_at}
 use Rattle.machine_tables.specs.Held.{MayLook}
 
@@ -67,3 +69,20 @@ pub active_whole : (s : State) (u : ℕ) → MayLook s → is_active s.store.ast
     → first_inactive s.store.ast (chain_of s.store.accounts.nodes u) ≡ None
 active_whole s u h active = whole_chain s.store.pages s.store.ast s.store.links s.store.accounts s.store.whos
     h.keeps.store.counted h.keeps.store.accounts.tree h.keeps.store.kept.tree u active
+
+-- a node that isn't active is the first of its chain that isn't, where its superior is active
+pub next_first : (s : State) (u w : ℕ) → MayLook s → is_there s.store.accounts.nodes u ≡ true
+    → is_active s.store.ast u ≡ false → superior_of_node (node_in s.store.accounts.nodes u) ≡ Some w
+    → is_active s.store.ast w ≡ true → first_inactive s.store.ast (chain_of s.store.accounts.nodes u) ≡ Some u
+next_first s u w h there idle up active =
+    let ns = s.store.accounts.nodes in
+    let node = found_there ns u there in
+    let over : superior_in ns u ≡ Some w = superior_found ns u node.0 node.1
+    ∙ (sym (ap superior_of_node node.1) ∙ up) in
+    let above_is : above ns u ≡ w ∷ above ns w = above_once ns h.keeps.store.accounts.tree u
+    ∙ ap (step_up (above ns)) over in
+    let chain_is : chain_of ns u ≡ chain_of ns w ++ u ∷ [] = ap (λ (xs : List ℕ). reverse (u ∷ xs)) above_is
+    ∙ turned u (w ∷ above ns w) in
+    ap (first_inactive s.store.ast) chain_is
+    ∙ past_front (λ x. not (is_active s.store.ast x)) (chain_of ns w) (u ∷ []) (active_whole s w h active)
+    ∙ ap (λ (b : Bool). cond (not b) (Some u) None) idle

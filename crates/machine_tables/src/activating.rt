@@ -1,6 +1,6 @@
 //! Segments become active, along the chain of superiors of a node; or the pool's hand moves, and its victim is emptied.
 
-ghost use Rattle.std.specs.Prelude.{◌≡◌, ◌≢◌, ◌<◌, ◌≤◌, ◌+◌, ℕ, length, map, IsSome, Some, None, true};
+ghost use Rattle.std.specs.Prelude.{◌≡◌, ◌≢◌, ◌<◌, ◌≤◌, ◌+◌, ℕ, [], length, map, IsSome, Some, None, true};
 ghost use Rattle.dir_tree.specs.Nodes.{chain_of};
 ghost use Rattle.tree_model.specs.Tree.{node_in};
 ghost use Rattle.active_segs.specs.Active.{IsActive};
@@ -24,17 +24,16 @@ use seg_control::{Link, Next};
 use volumes::Drive;
 
 impl<D: Drive> Tables<D> {
-    /// The links of the chain of a node, from the root down.
-    fn links(&self, of: u32) -> ArrayVec<Link, 10>
-        requires { is_there self.now.state.store.accounts.nodes of ≡ true }
-        ensures { result.items ≡ links_of self.now.state.store of }
+    /// Adds the links of the chain of a node, from the root down, to none.
+    fn add_links(&self, of: u32, links: &mut ArrayVec<Link, 10>)
+        requires there { is_there self.now.state.store.accounts.nodes of ≡ true }
+        requires empty { links.old.items ≡ [] }
+        ensures { links.new.items ≡ links_of self.now.state.store of }
     {
         let chain = self.accounts().chain(of);
-        let mut links = ArrayVec::new();
         for uid in chain.as_slice() {
             links.push(self.store.link(*uid));
         }
-        links
     }
 
     /// What becomes of the next segment of the chain of a node that isn't active.
@@ -45,7 +44,8 @@ impl<D: Drive> Tables<D> {
         ensures next { Joins self.old.state.store self.new.state.store (links_of self.old.state.store of) result }
         ensures rest { self.new ≡ with_state self.old (with_store self.old.state self.new.state.store) }
     {
-        let chain = self.links(of);
+        let mut chain = ArrayVec::new();
+        self.add_links(of, &mut chain);
         self.store.activate_next(&chain)
     }
 

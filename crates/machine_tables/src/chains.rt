@@ -1,6 +1,6 @@
 //! Which segments of a chain of superiors are active, and which segment has to go where a pool is full.
 
-ghost use Rattle.std.specs.Prelude.{◌≡◌, ◌<◌, ℕ, Some, true, length, if◌then◌else◌, IfNone};
+ghost use Rattle.std.specs.Prelude.{◌≡◌, ◌<◌, ℕ, Some, true, false, length, if◌then◌else◌, IfNone};
 ghost use Rattle.tree_model.specs.Tree.{node_in};
 ghost use Rattle.dir_tree.specs.Nodes.{chain_of};
 ghost use Rattle.active_segs.specs.Victim.{HasItsSuperiors, HasOneOffChain, victim_of};
@@ -8,7 +8,7 @@ ghost use Rattle.active_segs.specs.Active.{IsActive, IsFull, uid_at};
 ghost use Rattle.storage_ops.specs.Shown.{is_there};
 ghost use Rattle.machine_model.specs.Actions.{Action as Rule, Commit, Empty, activate_in, empty_victim};
 ghost use Rattle.machine_model.specs.Actions.{empty_when_read, pool_of_node, with_chain};
-ghost use Rattle.machine_model.specs.Reads.{first_inactive, free_place, is_active, or_zero};
+ghost use Rattle.machine_model.specs.Reads.{first_inactive, free_place, is_active, or_zero, superior_of_node};
 ghost use Rattle.machine_tables.specs.Activated.{HasVictim};
 ghost use Rattle.machine_tables.specs.Held.{MayLook};
 ghost use Rattle.machine_tables.specs.Meant.{meant, unless_first};
@@ -43,12 +43,41 @@ impl<D: Drive> Tables<D> {
         is_active(self.segs().ast(), uid)
     }
 
-    /// The first segment that isn't active, of the chain of superiors of a node.
-    pub(crate) fn first_inactive(&self, of: u32) -> Option<u32>
-        requires { is_there self.now.state.store.accounts.nodes of ≡ true }
+    /// The directory that a node lies in, if it is there and isn't the root.
+    fn superior(&self, uid: u32) -> Option<u32>
+        ensures { result ≡ superior_of_node (node_in self.now.state.store.accounts.nodes uid) }
+    {
+        match self.accounts().node(uid) {
+            Some(node) => node.superior,
+            None => None,
+        }
+    }
+
+    /// Whether a node, which isn't active, lies in an active directory: then each other link of its chain is active.
+    fn is_next(&self, of: u32) -> bool
+        requires looks { MayLook self.now.state }
+        requires there { is_there self.now.state.store.accounts.nodes of ≡ true }
+        requires idle { is_active self.now.state.store.ast of ≡ false }
+        ensures { result ≡ true → first_inactive self.now.state.store.ast
+            (chain_of self.now.state.store.accounts.nodes of) ≡ Some of }
+    {
+        match self.superior(of) {
+            Some(above) => self.is_active(above),
+            None => false,
+        }
+    }
+
+    /// The first segment that isn't active, of the chain of superiors of a node that isn't.
+    fn first_inactive(&self, of: u32) -> Option<u32>
+        requires looks { MayLook self.now.state }
+        requires there { is_there self.now.state.store.accounts.nodes of ≡ true }
+        requires idle { is_active self.now.state.store.ast of ≡ false }
         ensures { result ≡ first_inactive self.now.state.store.ast
             (chain_of self.now.state.store.accounts.nodes of) }
     {
+        if self.is_next(of) {
+            return Some(of);
+        }
         let chain = self.store.accounts().chain(of);
         first_inactive(self.segs().ast(), &chain)
     }

@@ -5,7 +5,7 @@ use Rattle.storage_ops.specs.Shown.{is_there}
 use Rattle.storage_ops.proofs.ChainDown.{chain_there}
 use Rattle.machine_model.specs.State.{Storage}
 use Rattle.machine_tables.specs.Parts.{Parts}
-use Rattle.machine_tables.proofs.tables.Tables.links.Goals as goal
+use Rattle.machine_tables.proofs.tables.Tables.add_links.Goals as goal
 
 pub link-requires : goal.link-requires
 link-requires g c =
@@ -19,4 +19,7 @@ link-requires g c =
     ap (λ (t : Parts g.row.D.Denot). is_there t.state.store.accounts.nodes
     (get_or c.as_slice-uid-items.result.now i 0)) c.self.view_is
     ∙ (ap (λ (xs : List ℕ). is_there st.accounts.nodes (get_or xs i 0)) items
-    ∙ chain_there st.accounts.nodes c.accounts.ensures.tree c.args.of c.requires i lt)
+    ∙ chain_there st.accounts.nodes c.accounts.ensures.tree c.args.of c.requires.there i lt)
+
+pub loop-uid-init : goal.loop-uid-init
+loop-uid-init g c = c.requires.empty
