@@ -6,3 +6,4 @@ pub mod LeafLemmas
 pub mod NewLemmas
 pub mod PairLemmas
 pub mod PlaceLemmas
+pub mod SplitLemmas

@@ -1,6 +1,7 @@
 -- What the rest of the crate sees of the index: a list of uids with their places, and how many it has room for.
-use Rattle.std.specs.Prelude.{◌≡◌, ℕ, ◌<◌, ◌≤◌, ◌==◌, List, [], ◌∷◌, Option, Some, None, length, slice_index_or}
-use Rattle.std.specs.Prelude.{if◌then◌else◌}
+use Rattle.std.specs.Prelude.{◌≡◌, ◌≢◌, ℕ, ◌<◌, ◌≤◌, ◌%◌, ◌==◌, ◌++◌, List, [], ◌∷◌, Option, Some, None, length}
+use Rattle.std.specs.Prelude.{slice_index_or, if◌then◌else◌}
+use Rattle.std.specs.Prelude.{flat_map}
 
 -- the uids that are in the index, each with its place, and the room for them
 pub record Pairs : Type 0 where
@@ -34,3 +35,21 @@ pub record BelongsAt (pairs : List (ℕ × ℕ)) (uid k : ℕ) : Type 0 where
 -- the new index has this place for the uid, and the old one's for every other
 abbrev pub SetsPlace : List (ℕ × ℕ) → List (ℕ × ℕ) → ℕ → Option ℕ → Type 0
 SetsPlace old new uid place = (q : ℕ) → place_of new q ≡ (if uid == q then place else place_of old q)
+
+-- ---- the lists by the remainder of the uid
+
+abbrev pub empty_list : ℕ → Pairs
+empty_list room = record { pairs = []; room = room }
+
+abbrev pub list_at : List Pairs → ℕ → Pairs
+list_at lists k = slice_index_or lists k (empty_list 0)
+
+-- the pairs of all lists
+abbrev pub pairs_in : List Pairs → List (ℕ × ℕ)
+pairs_in lists = flat_map (λ list. list.pairs) lists
+
+-- 16 lists, each with this room, and a uid is in no other than the one of its remainder
+pub record IsSplit (lists : List Pairs) (room : ℕ) : Type 0 where
+  pub many : length lists ≡ 16
+  pub rooms : (k : ℕ) → k < 16 → (list_at lists k).room ≡ room
+  pub apart : (k uid : ℕ) → k < 16 → k ≢ uid % 16 → place_of (list_at lists k).pairs uid ≡ None

@@ -1,21 +1,8 @@
-use Rattle.std.proofs.Common.{◌≡◌, ℕ, List, ap, sym, subst, ◌∙◌, Some}
-use Rattle.std.proofs.lemmas.List.{get_or_default}
-use Rattle.active_segs.specs.Pairs.{Pairs, place_of, IsFoundAt, BelongsAt}
-use Rattle.active_segs.proofs.PairLemmas.{place_found, place_in_gap}
+use Rattle.std.proofs.Common.{ap, ◌∙◌}
+use Rattle.active_segs.specs.Pairs.{Pairs, place_of}
+use Rattle.active_segs.proofs.SplitLemmas.{finds_list}
 use Rattle.active_segs.proofs.index.Index.find.Goals as goal
 
-pub returns-in-Ok : goal.returns-in-Ok
-returns-in-Ok c =
-    let found : IsFoundAt c.self.inside.pairs.items c.args.uid c.in-Ok.at =
-    subst (λ (l : List (ℕ × ℕ)). IsFoundAt l c.args.uid c.in-Ok.at) c.deref.ensures.value c.in-Ok.ensures.found in
-    let place : place_of c.self.inside.pairs.items c.args.uid ≡ Some _ = place_found _ c.self.invariant.0 _ _ found in
-    let read = get_or_default _ _ c.index.result.now (0, 0) found.within in
-    ap (λ (x : ℕ × ℕ). Some x.1) (c.index.ensures ∙ read) ∙ sym place
-    ∙ ap (λ (v : Pairs). place_of v.pairs c.args.uid) c.self.view_is
-
-pub returns-in-Err : goal.returns-in-Err
-returns-in-Err c =
-    let gap : BelongsAt c.self.inside.pairs.items c.args.uid c.in-Err.field-0 =
-    subst (λ (l : List (ℕ × ℕ)). BelongsAt l c.args.uid c.in-Err.field-0) c.deref.ensures.value c.in-Err.ensures.absent
-    in
-    sym (place_in_gap _ _ _ gap) ∙ ap (λ (v : Pairs). place_of v.pairs c.args.uid) c.self.view_is
+pub returns : goal.returns
+returns c = c.find.ensures ∙ finds_list c.self.inside.lists.items c.self.inside.room c.args.uid c.self.invariant
+    c.index.result.now c.index.ensures ∙ ap (λ (v : Pairs). place_of v.pairs c.args.uid) c.self.view_is

@@ -1,34 +1,31 @@
-use Rattle.std.proofs.Common.{◌≡◌, ℕ, List, length, ap, sym, subst, ◌∙◌, None, Some, arith, ◌<◌}
-use Rattle.active_segs.specs.Pairs.{Pairs, place_of, IsAscending, IsFoundAt, BelongsAt, SetsPlace}
-use Rattle.active_segs.proofs.PairLemmas.{place_found, sets_inserted, ascending_inserted}
+use Rattle.std.proofs.Common.{◌≡◌, ◌+◌, ◌<◌, None, Some, ap, length, set, subst, sym, ◌%◌, ◌∙◌}
+use Rattle.active_segs.specs.Pairs.{Pairs, SetsPlace, pairs_in, place_of}
+use Rattle.active_segs.proofs.SplitLemmas.{finds_list, list_has_room, list_more, list_sets, list_split}
 use Rattle.active_segs.proofs.index.Index.insert.Goals as goal
 
-pub unreachable-requires : goal.unreachable-requires
-unreachable-requires c =
-    let found : IsFoundAt c.self.inside.pairs.items c.args.uid c.in-Ok.field-0 =
-    subst (λ (l : List (ℕ × ℕ)). IsFoundAt l c.args.uid c.in-Ok.field-0) c.deref.ensures.value c.in-Ok.ensures.found in
-    let place : place_of c.self.inside.pairs.items c.args.uid ≡ Some _ = place_found _ c.self.invariant.0 _ _ found in
-    let absent : place_of c.self.inside.pairs.items c.args.uid ≡ None =
-    ap (λ (v : Pairs). place_of v.pairs c.args.uid) c.self.view_is ∙ c.requires.absent in cc
+pub insert-requires-clause-room : goal.insert-requires-clause-room
+insert-requires-clause-room c = list_has_room c.self.inside.lists.items c.self.inside.room c.args.uid c.self.invariant
+    c.index_mut.result.now c.index_mut.ensures.value
+    (subst (λ (v : Pairs). length v.pairs < v.room) (sym c.self.view_is) c.requires.room)
+
+pub insert-requires-clause-absent : goal.insert-requires-clause-absent
+insert-requires-clause-absent c = finds_list c.self.inside.lists.items c.self.inside.room c.args.uid c.self.invariant
+    c.index_mut.result.now c.index_mut.ensures.value
+    ∙ ap (λ (v : Pairs). place_of v.pairs c.args.uid) c.self.view_is ∙ c.requires.absent
 
 pub invariant_of-self : goal.invariant_of-self
-invariant_of-self c =
-    let gap : BelongsAt c.self.inside.pairs.items c.args.uid c.in-Err.at =
-    subst (λ (l : List (ℕ × ℕ)). BelongsAt l c.args.uid c.in-Err.at) c.deref.ensures.value c.in-Err.ensures.absent in
-    let room : length c.self.inside.pairs.items < c.self.inside.room =
-    subst (λ (v : Pairs). length v.pairs < v.room) (sym c.self.view_is) c.requires.room in
-    let sorted = ascending_inserted _ _ _ gap c.args.place c.self.invariant.0 in (
-      subst IsAscending (sym c.in-Ok-insert.ensures.items) sorted,
-      omega (arith, c.in-Ok-insert.ensures.len, room),
-      omega (arith, c.in-Ok-insert.ensures.capacity),
-    )
+invariant_of-self c = list_split c.self.inside.lists.items c.self.inside.room c.args.uid c.self.invariant
+    c.index_mut.result.now c.index_mut.ensures.value c.insert.new.self (Some c.args.place) c.insert.ensures.sets
+    c.insert.ensures.room
 
 pub returns-clause-sets : goal.returns-clause-sets
-returns-clause-sets c =
-    let gap : BelongsAt c.self.inside.pairs.items c.args.uid c.in-Err.at =
-    subst (λ (l : List (ℕ × ℕ)). BelongsAt l c.args.uid c.in-Err.at) c.deref.ensures.value c.in-Err.ensures.absent in
-    let sets : SetsPlace c.self.inside.pairs.items c.insert.new.self.items c.args.uid (Some c.args.place) =
-    subst (λ (l : List (ℕ × ℕ)). SetsPlace c.self.inside.pairs.items l c.args.uid (Some c.args.place))
-    (sym c.in-Ok-insert.ensures.items)
-    (sets_inserted _ _ _ gap c.args.place) in
-    subst (λ (v : Pairs). SetsPlace v.pairs c.insert.new.self.items c.args.uid (Some c.args.place)) c.self.view_is sets
+returns-clause-sets c = subst (λ (v : Pairs). SetsPlace v.pairs
+    (pairs_in (set c.self.inside.lists.items (c.args.uid % 16) c.insert.new.self)) c.args.uid (Some c.args.place))
+    c.self.view_is
+    (list_sets c.self.inside.lists.items c.self.inside.room c.args.uid c.self.invariant c.index_mut.result.now
+    c.index_mut.ensures.value c.insert.new.self (Some c.args.place) c.insert.ensures.sets c.insert.ensures.room)
+
+pub returns-clause-count : goal.returns-clause-count
+returns-clause-count c = list_more c.self.inside.lists.items c.self.inside.room c.args.uid c.self.invariant
+    c.index_mut.result.now c.index_mut.ensures.value c.insert.new.self c.insert.ensures.count
+    ∙ ap (λ (v : Pairs). length v.pairs + 1) c.self.view_is

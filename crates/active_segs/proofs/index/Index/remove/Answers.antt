@@ -1,24 +1,28 @@
-use Rattle.std.proofs.Common.{◌≡◌, ℕ, List, ap, sym, subst, ◌∙◌, None, is_some, true, false}
-use Rattle.std.proofs.lemmas.Bool.{both_ways}
-use Rattle.active_segs.specs.Pairs.{Pairs, place_of, IsFoundAt, BelongsAt, SetsPlace}
-use Rattle.active_segs.proofs.PairLemmas.{place_in_gap, place_removed}
+use Rattle.std.proofs.Common.{◌≡◌, ℕ, None, Option, ap, length, set, subst, sym, ◌%◌, ◌∙◌}
+use Rattle.std.specs.Prelude.{IsSome}
+use Rattle.active_segs.specs.Pairs.{Pairs, SetsPlace, pairs_in, place_of}
+use Rattle.active_segs.proofs.SplitLemmas.{finds_list, list_less, list_sets, list_split}
 use Rattle.active_segs.proofs.index.Index.remove.Goals as goal
 
-pub unreachable-requires : goal.unreachable-requires
-unreachable-requires c =
-    let gap : BelongsAt c.self.inside.pairs.items c.args.uid c.in-Err.field-0 =
-    subst (λ (l : List (ℕ × ℕ)). BelongsAt l c.args.uid c.in-Err.field-0) c.deref.ensures.value c.in-Err.ensures.absent
-    in
-    let none : place_of c.args.self.now.pairs c.args.uid ≡ None =
-    sym (ap (λ (v : Pairs). place_of v.pairs c.args.uid) c.self.view_is) ∙ place_in_gap _ _ _ gap in
-    let there : is_some (place_of c.args.self.now.pairs c.args.uid) ≡ true = c.requires.there in
-    let yet : is_some (place_of c.args.self.now.pairs c.args.uid) ≡ false = ap is_some none in both_ways _ yet there
+pub remove-requires : goal.remove-requires
+remove-requires c = record {
+  there = subst (λ (o : Option ℕ). IsSome o) (sym (finds_list c.self.inside.lists.items c.self.inside.room c.args.uid
+      c.self.invariant c.index_mut.result.now c.index_mut.ensures.value
+      ∙ ap (λ (v : Pairs). place_of v.pairs c.args.uid) c.self.view_is)) c.requires.there;
+}
+
+pub invariant_of-self : goal.invariant_of-self
+invariant_of-self c = list_split c.self.inside.lists.items c.self.inside.room c.args.uid c.self.invariant
+    c.index_mut.result.now c.index_mut.ensures.value c.remove.new.self None c.remove.ensures.sets
+    c.remove.ensures.room
 
 pub returns-clause-sets : goal.returns-clause-sets
-returns-clause-sets c =
-    let found : IsFoundAt c.self.inside.pairs.items c.args.uid c.in-Ok.at =
-    subst (λ (l : List (ℕ × ℕ)). IsFoundAt l c.args.uid c.in-Ok.at) c.deref.ensures.value c.in-Ok.ensures.found in
-    let sets : SetsPlace c.self.inside.pairs.items c.remove.new.self.items c.args.uid None =
-    subst (λ (l : List (ℕ × ℕ)). SetsPlace c.self.inside.pairs.items l c.args.uid None) (sym c.remove.ensures.items)
-    (place_removed _ _ _ c.self.invariant.0 found) in
-    subst (λ (v : Pairs). SetsPlace v.pairs c.remove.new.self.items c.args.uid None) c.self.view_is sets
+returns-clause-sets c = subst (λ (v : Pairs). SetsPlace v.pairs
+    (pairs_in (set c.self.inside.lists.items (c.args.uid % 16) c.remove.new.self)) c.args.uid None) c.self.view_is
+    (list_sets c.self.inside.lists.items c.self.inside.room c.args.uid c.self.invariant c.index_mut.result.now
+    c.index_mut.ensures.value c.remove.new.self None c.remove.ensures.sets c.remove.ensures.room)
+
+pub returns-clause-count : goal.returns-clause-count
+returns-clause-count c = list_less c.self.inside.lists.items c.self.inside.room c.args.uid c.self.invariant
+    c.index_mut.result.now c.index_mut.ensures.value c.remove.new.self c.remove.ensures.count
+    ∙ ap (λ (v : Pairs). length v.pairs) c.self.view_is

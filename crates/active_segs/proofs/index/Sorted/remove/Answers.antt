@@ -1,0 +1,24 @@
+use Rattle.std.proofs.Common.{◌≡◌, ℕ, List, ap, sym, subst, ◌∙◌, None, is_some, true, false}
+use Rattle.std.proofs.lemmas.Bool.{both_ways}
+use Rattle.active_segs.specs.Pairs.{Pairs, place_of, IsFoundAt, BelongsAt, SetsPlace}
+use Rattle.active_segs.proofs.PairLemmas.{place_in_gap, place_removed}
+use Rattle.active_segs.proofs.index.Sorted.remove.Goals as goal
+
+pub unreachable-requires : goal.unreachable-requires
+unreachable-requires c =
+    let gap : BelongsAt c.self.inside.pairs.items c.args.uid c.in-Err.field-0 =
+    subst (λ (l : List (ℕ × ℕ)). BelongsAt l c.args.uid c.in-Err.field-0) c.deref.ensures.value c.in-Err.ensures.absent
+    in
+    let none : place_of c.args.self.now.pairs c.args.uid ≡ None =
+    sym (ap (λ (v : Pairs). place_of v.pairs c.args.uid) c.self.view_is) ∙ place_in_gap _ _ _ gap in
+    let there : is_some (place_of c.args.self.now.pairs c.args.uid) ≡ true = c.requires.there in
+    let yet : is_some (place_of c.args.self.now.pairs c.args.uid) ≡ false = ap is_some none in both_ways _ yet there
+
+pub returns-clause-sets : goal.returns-clause-sets
+returns-clause-sets c =
+    let found : IsFoundAt c.self.inside.pairs.items c.args.uid c.in-Ok.at =
+    subst (λ (l : List (ℕ × ℕ)). IsFoundAt l c.args.uid c.in-Ok.at) c.deref.ensures.value c.in-Ok.ensures.found in
+    let sets : SetsPlace c.self.inside.pairs.items c.remove.new.self.items c.args.uid None =
+    subst (λ (l : List (ℕ × ℕ)). SetsPlace c.self.inside.pairs.items l c.args.uid None) (sym c.remove.ensures.items)
+    (place_removed _ _ _ c.self.invariant.0 found) in
+    subst (λ (v : Pairs). SetsPlace v.pairs c.remove.new.self.items c.args.uid None) c.self.view_is sets

@@ -1,0 +1,11 @@
+use Rattle.std.proofs.Common.{◌≡◌, ◌≤◌, replicate, vec_len, vec_capacity}
+use Rattle.active_segs.specs.Pairs.{empty_list}
+use Rattle.active_segs.proofs.index.empty_lists.Given as goal
+
+abbrev pub invariant-loop-list : goal.invariant-loop-list
+invariant-loop-list l = record {
+  made : l.lists.items ≡ replicate l._list (empty_list l.fn.room);
+  count : vec_len l.lists ≡ l._list;
+  within : l._list ≤ 16;
+  room : vec_capacity l.lists ≡ 16;
+}
