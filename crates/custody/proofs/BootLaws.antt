@@ -27,20 +27,19 @@ pub frames_free : (n : ℕ) → n ≤ 1024 → AreFrames (replicate n frame.Free
     (record { uids = []; going = []; kinds = [] }) [] []
 frames_free n few = record {
   few = let l = length-replicate n frame.Free in omega (arith, l, few);
-  uids = λ a b. sym (none_counted _ frame.Free n refl);
-  going = λ a b. sym (none_counted _ frame.Free n refl);
-  kinds = λ a b. sym (none_counted _ frame.Free n refl);
-  pages = λ a b. sym (none_counted _ frame.Free n refl);
-  tight = λ a b idle. cc;
-  started = λ a b. sym (none_counted _ frame.Free n refl);
+  uids = λ a. sym (none_counted _ frame.Free n refl);
+  going = λ a. sym (none_counted _ frame.Free n refl);
+  kinds = λ a. sym (none_counted _ frame.Free n refl);
+  pages = λ a. sym (none_counted _ frame.Free n refl);
+  started = λ a. sym (none_counted _ frame.Free n refl);
 }
 
 pub descriptors_free : AreDescriptors (replicate 256 descriptor.Free) (record { uids = []; going = []; kinds = [] })
 descriptors_free = record {
   few = let l = length-replicate 256 descriptor.Free in omega (arith, l);
-  uids = λ a b. sym (none_counted (λ x. key_bit (uid_key (descriptor_mark x)) a b) descriptor.Free 256 refl);
-  going = λ a b. sym (none_counted (λ x. key_bit (going_key (descriptor_mark x)) a b) descriptor.Free 256 refl);
-  kinds = λ a b. sym (none_counted (λ x. key_bit (kind_key (descriptor_mark x)) a b) descriptor.Free 256 refl);
+  uids = λ a. sym (none_counted (λ x. key_bit (uid_key (descriptor_mark x)) a) descriptor.Free 256 refl);
+  going = λ a. sym (none_counted (λ x. key_bit (going_key (descriptor_mark x)) a) descriptor.Free 256 refl);
+  kinds = λ a. sym (none_counted (λ x. key_bit (kind_key (descriptor_mark x)) a) descriptor.Free 256 refl);
 }
 
 -- each of many that are the same is that one, and so is each past them

@@ -1,57 +1,72 @@
 -- Which pages a truncation takes, and whether one of them is in a frame.
-use Rattle.std.proofs.Common.{◌≡◌, ◌≢◌, ◌<◌, ◌≤◌, ◌/◌, ◌%◌, ◌*◌, ℕ, suc, zero, ◌+◌, Bool, true, false, eqb, not}
-use Rattle.std.proofs.Common.{List, Some}
+use Rattle.std.proofs.Common.{◌≡◌, ◌≢◌, ◌<◌, ◌≤◌, ◌/◌, ◌%◌, ◌*◌, ℕ, suc, zero, ◌+◌, Bool, true, false, not}
+use Rattle.std.proofs.Common.{List, Option, Some, None}
 use Rattle.std.proofs.Common.{refl, sym, ap, subst, ◌∙◌, inl, inr, ◌⊎◌, arith}
 use Rattle.std.specs.Prelude.{nat_le, nat_lt}
 use Rattle.std.specs.Bool.{Decides}
-use Rattle.std.proofs.lemmas.Bool.Decides.{Decides-eqb, eqb_tells, leb_tells, nat_tests}
+use Rattle.std.proofs.lemmas.Bool.Decides.{eqb_tells, leb_tells, nat_tests}
+use Rattle.std.specs.List.{list_any}
+use Rattle.std.specs.Option.{unwrap_or}
 use Rattle.custody_model.specs.Custody.{page_of}
 use Rattle.custody_model.specs.declared.FrameUse.{FrameUse}
+use Rattle.custody_model.specs.declared.FrameUse.TheVariants as frame
 use Rattle.flat_model.specs.Pages.{Words, is_zero_page, without_words}
 use Rattle.flat_model.specs.Sizes.{is_lost}
 use Rattle.flat_model.specs.Store.{Store}
 use Rattle.custody_model.specs.Effects.{LosesNoPage}
-use Rattle.custody.specs.Counts.{Counted, count_at}
 use Rattle.custody.specs.Tables.{Tables, AreKept, custody_of}
-use Rattle.custody.specs.Uses.{UseCounted, AreFrames, frame_at}
-use Rattle.custody.proofs.LookLaws.{page_decides}
+use Rattle.custody.specs.Uses.{frame_at, is_page, is_page_from}
+use Rattle.custody.proofs.ScanLaws.{scan_decides}
 
--- ---- pages below a number
+-- ---- a page, and pages below a number
 
 no_both : {b : Bool} → b ≡ true → b ≡ false → ⊥
 no_both t f = let z : true ≡ false = sym t ∙ f in cc
 
-apart_from_zero : (n : ℕ) → n ≢ 0 → 0 < n
-apart_from_zero zero apart = absurd (apart refl)
-apart_from_zero (suc n) apart = omega arith
+page_is : (u q : ℕ) (o : Option (ℕ × ℕ)) → Decides (not (is_page u q o)) (o ≢ Some (u, q))
+page_is u q None = (λ t e. let z : None ≡ Some (u, q) = e in cc, λ n. refl)
+page_is u q (Some p) = elim (eqb_tells p.0 u) [
+  | inl e ↦ elim (eqb_tells p.1 q) [
+    | inl f ↦ rw e.0 (rw f.0 (λ t. absurd (no_both t refl), λ n. absurd (n (λ i. Some (e.1 i, f.1 i)))))
+    | inr f ↦ rw e.0 (rw f.0 (λ t g. f.1 (ap (λ (o : Option (ℕ × ℕ)). (unwrap_or o (0, 0)).1) g), λ n. refl))
+  ]
+  | inr e ↦ rw e.0 (λ t g. e.1 (ap (λ (o : Option (ℕ × ℕ)). (unwrap_or o (0, 0)).0) g), λ n. refl)
+]
 
-pub below_decides : (uses now : List FrameUse) (c : UseCounted) (p s : Counted) → uses ≡ now
-    → AreFrames uses c p s → (r : Bool) (u k : ℕ) → Decides r ((b : ℕ) × (k ≤ b) × (0 < count_at p u b))
-    → Decides (not r) ((f q : ℕ) → page_of (frame_at now f) ≡ Some (u, q) → q < k)
-below_decides uses now c p s is t r u k d = (under r d.1, back r d.0)
-  where
-    none : (q : ℕ) → Decides (eqb (count_at p u q) 0) ((f : ℕ) → page_of (frame_at now f) ≢ Some (u, q))
-    none q = page_decides uses now c p s is t (count_at p u q) u q refl
+-- what a look at all frames decides of a page
+pub nowhere_decides : (frames : List FrameUse) (u q : ℕ) (r : Bool)
+    → r ≡ list_any (λ x. is_page u q (page_of x)) frames
+    → Decides (not r) ((f : ℕ) → page_of (frame_at frames f) ≢ Some (u, q))
+nowhere_decides frames u q r is = scan_decides (λ x. is_page u q (page_of x)) (λ x. page_of x ≢ Some (u, q)) frame.Free
+    refl (λ x. page_is u q (page_of x)) frames r is
 
-    under : (z : Bool) → ((b : ℕ) × (k ≤ b) × (0 < count_at p u b) → z ≡ true) → not z ≡ true → (f q : ℕ)
-        → page_of (frame_at now f) ≡ Some (u, q) → q < k
-    under true d h f q at = absurd (no_both h refl)
-    under false d h f q at = elim (leb_tells k q) [
-      | inl l ↦ elim (eqb_tells (count_at p u q) 0) [
-        | inl e ↦ absurd ((none q).0 e.0 f at)
-        | inr m ↦ absurd (no_both (d (q, l.1, apart_from_zero (count_at p u q) m.1)) refl)
-      ]
-      | inr m ↦ m.1
-    ]
+from_is : (u k : ℕ) (o : Option (ℕ × ℕ)) → Decides (not (is_page_from u k o)) ((q : ℕ) → o ≡ Some (u, q) → q < k)
+from_is u k None = (λ t q e. let z : None ≡ Some (u, q) = e in cc, λ h. refl)
+from_is u k (Some p) = elim (eqb_tells p.0 u) [
+  | inl e ↦ elim (leb_tells k p.1) [
+    | inl l ↦ rw e.0 (rw l.0 (
+      λ t. absurd (no_both t refl),
+      λ h. let less = h p.1 (λ i. Some (e.1 i, p.1)) in let le = l.1 in absurd (omega (arith, less, le)),
+    ))
+    | inr l ↦ rw e.0 (rw l.0 (
+      λ t q g.
+          let same : p.1 ≡ q = ap (λ (o : Option (ℕ × ℕ)). (unwrap_or o (0, 0)).1) g in
+          let less = l.1 in omega (arith, same, less),
+      λ h. refl,
+    ))
+  ]
+  | inr e ↦ rw e.0 (
+    λ t q g. absurd (e.1 (ap (λ (o : Option (ℕ × ℕ)). (unwrap_or o (0, 0)).0) g)),
+    λ h. refl,
+  )
+]
 
-    back : (z : Bool) → (z ≡ true → (b : ℕ) × (k ≤ b) × (0 < count_at p u b))
-        → ((f q : ℕ) → page_of (frame_at now f) ≡ Some (u, q) → q < k) → not z ≡ true
-    back false d h = refl
-    back true d h =
-        let (b, le, some) = d refl in
-        let gone = (Decides-eqb (count_at p u b) 0).0 ((none b).1 (λ f at. let less = h f b at in
-        let no : ⊥ = omega (arith, less, le) in no)) in
-        let no : ⊥ = omega (arith, some, gone) in absurd no
+-- what a look at all frames decides of the pages of a segment
+pub below_decides : (frames : List FrameUse) (u k : ℕ) (r : Bool)
+    → r ≡ list_any (λ x. is_page_from u k (page_of x)) frames
+    → Decides (not r) ((f q : ℕ) → page_of (frame_at frames f) ≡ Some (u, q) → q < k)
+below_decides frames u k r is = scan_decides (λ x. is_page_from u k (page_of x))
+    (λ x. (q : ℕ) → page_of x ≡ Some (u, q) → q < k) frame.Free refl (λ x. from_is u k (page_of x)) frames r is
 
 -- ---- which pages are lost
 

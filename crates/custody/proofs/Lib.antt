@@ -1,5 +1,4 @@
 pub mod CountLaws
-pub mod ReachLaws
 pub mod TallyLaws
 pub mod LookLaws
 pub mod ScanLaws

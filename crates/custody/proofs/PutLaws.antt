@@ -7,7 +7,7 @@ use Rattle.std.proofs.lemmas.List.{length-replicate}
 use Rattle.std.proofs.lemmas.List.Sums.{sum_by-cons}
 use Rattle.custody.specs.Counts.{Counted, Keeps, Shifts, AreFew, key_bit}
 use Rattle.custody.specs.Uses.{IsTally}
-use Rattle.custody.specs.Tables.{AreActive, active_at, pool_key, superior_key}
+use Rattle.custody.specs.Tables.{AreActive, active_at, pool_key, superior_of}
 use Rattle.custody.specs.Changes.{with_place}
 use Rattle.custody.specs.declared.active.ActiveUse.{ActiveUse}
 use Rattle.custody.proofs.BootLaws.{all_same, none_counted}
@@ -22,11 +22,11 @@ grown_sum f (x ∷ xs) n d e =
     let r = grown_sum f xs n d e in
     omega (arith, a, b, r)
 
-grown_tally : {X : Type 0} (key : X → Option (ℕ × ℕ)) (xs : List X) (c : Counted) (n : ℕ) (d : X) → key d ≡ None
+grown_tally : {X : Type 0} (key : X → Option ℕ) (xs : List X) (c : Counted) (n : ℕ) (d : X) → key d ≡ None
     → IsTally key xs c
     → IsTally key (xs ++ replicate n d) c
-grown_tally key xs c n d e t = λ a b.
-    t a b ∙ sym (grown_sum (λ x. key_bit (key x) a b) xs n d (ap (λ (k : Option (ℕ × ℕ)). key_bit k a b) e))
+grown_tally key xs c n d e t = λ a.
+    t a ∙ sym (grown_sum (λ x. key_bit (key x) a) xs n d (ap (λ (k : Option ℕ). key_bit k a) e))
 
 place_length : (uses : List (Option ActiveUse)) (u : ℕ) → length (with_place uses u)
     ≡ length uses + (u + 1 - length uses)
@@ -54,7 +54,7 @@ pub active_kept : (uses : List (Option ActiveUse)) (p q i j : Counted) → AreAc
 active_kept uses p q i j t k l = record {
   few = t.few;
   in_pools = tally_kept pool_key uses p q t.in_pools k;
-  below = tally_kept superior_key uses i j t.below l;
+  below = tally_kept superior_of uses i j t.below l;
 }
 
 pub active_grown : (uses : List (Option ActiveUse)) (p i : Counted) (u : ℕ) → u < 2 ^ 32 → AreActive uses p i
@@ -62,16 +62,16 @@ pub active_grown : (uses : List (Option ActiveUse)) (p i : Counted) (u : ℕ) �
 active_grown uses p i u below t = record {
   few = place_few uses u t.few below;
   in_pools = grown_tally pool_key uses p (u + 1 - length uses) None refl t.in_pools;
-  below = grown_tally superior_key uses i (u + 1 - length uses) None refl t.below;
+  below = grown_tally superior_of uses i (u + 1 - length uses) None refl t.below;
 }
 
 pub active_few : (uses : List (Option ActiveUse)) (p i : Counted) → AreActive uses p i → AreFew p × AreFew i
-active_few uses p i t = (tally_few pool_key uses p t.few t.in_pools, tally_few superior_key uses i t.few t.below)
+active_few uses p i t = (tally_few pool_key uses p t.few t.in_pools, tally_few superior_of uses i t.few t.below)
 
 pub active_put : (uses placed : List (Option ActiveUse)) (p q i j : Counted) (u : ℕ) (x : Option ActiveUse)
     → placed ≡ with_place uses u → u < 2 ^ 32 → AreActive uses p i
     → Shifts p q (pool_key (active_at uses u)) (pool_key x)
-    → Shifts i j (superior_key (active_at uses u)) (superior_key x) → AreActive (set placed u x) q j
+    → Shifts i j (superior_of (active_at uses u)) (superior_of x) → AreActive (set placed u x) q j
 active_put uses placed p q i j u x is below t s r =
     let grown = active_grown uses p i u below t in
     let was = grown_at uses (u + 1 - length uses) u in
@@ -80,8 +80,8 @@ active_put uses placed p q i j u x is below t s r =
       few = rw (length-set (with_place uses u) u x) grown.few;
       in_pools = tally_set pool_key (with_place uses u) p q u x None there grown.in_pools
           (subst (λ (o : Option ActiveUse). Shifts p q (pool_key o) (pool_key x)) (sym was) s);
-      below = tally_set superior_key (with_place uses u) i j u x None there grown.below
-          (subst (λ (o : Option ActiveUse). Shifts i j (superior_key o) (superior_key x)) (sym was) r);
+      below = tally_set superior_of (with_place uses u) i j u x None there grown.below
+          (subst (λ (o : Option ActiveUse). Shifts i j (superior_of o) (superior_of x)) (sym was) r);
     })
 
 pub ruleset active_counted = (active_kept, active_grown, active_put, place_there)

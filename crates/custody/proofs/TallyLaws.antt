@@ -1,16 +1,15 @@
 -- What is counted of a list, as one element after the other changes.
-use Rattle.std.proofs.Common.{◌≡◌, ◌<◌, ◌≤◌, ◌^◌, ℕ, suc, zero, Bool, true, false, cond, eqb, ◌&&◌, List, []}
+use Rattle.std.proofs.Common.{◌≡◌, ◌<◌, ◌≤◌, ◌^◌, ℕ, suc, zero, Bool, true, false, cond, eqb, List, []}
 use Rattle.std.proofs.Common.{◌∷◌, Option, Some, None, length, get_or, set, length-set}
-use Rattle.std.proofs.Common.{◌∙◌, arith, inl, inr, subst, sym}
+use Rattle.std.proofs.Common.{◌∙◌, arith, subst, sym}
 use Rattle.std.specs.Prelude.{sum_by}
 use Rattle.std.proofs.lemmas.List.Sums.{sum_by-set, sum_by-cons}
-use Rattle.custody_model.specs.Custody.{page_of}
 use Rattle.custody_model.specs.declared.FrameUse.{FrameUse}
 use Rattle.custody_model.specs.declared.DescriptorUse.{DescriptorUse}
-use Rattle.custody.specs.Counts.{AreFew, Counted, IsTight, Keeps, Readies, Shifts, key_bit}
+use Rattle.custody.specs.Counts.{AreFew, Counted, Keeps, Shifts, key_bit}
 use Rattle.custody.specs.Uses.{UseCounted, IsTally, AreFrames, AreDescriptors, KeepUses, ShiftUses, AreFewUses}
 use Rattle.custody.specs.Uses.{frame_mark, descriptor_mark, uid_key, going_key}
-use Rattle.custody.specs.Uses.{kind_key, started_key}
+use Rattle.custody.specs.Uses.{kind_key, page_key, started_key}
 
 -- ---- sums
 
@@ -29,33 +28,33 @@ one_cond : (t : Bool) → cond t 1 0 ≤ 1
 one_cond true = omega arith
 one_cond false = omega arith
 
-pub bit_small : (k : Option (ℕ × ℕ)) (a b : ℕ) → key_bit k a b ≤ 1
-bit_small None a b = omega arith
-bit_small (Some k) a b = one_cond (eqb k.0 a && eqb k.1 b)
+pub bit_small : (k : Option ℕ) (a : ℕ) → key_bit k a ≤ 1
+bit_small None a = omega arith
+bit_small (Some k) a = one_cond (eqb k a)
 
 -- ---- tallies
 
-pub tally_set : {X : Type 0} (key : X → Option (ℕ × ℕ)) (xs : List X) (old new : Counted) (i : ℕ) (x d : X)
+pub tally_set : {X : Type 0} (key : X → Option ℕ) (xs : List X) (old new : Counted) (i : ℕ) (x d : X)
     → i < length xs
     → IsTally key xs old → Shifts old new (key (get_or xs i d)) (key x) → IsTally key (set xs i x) new
-tally_set {X} key xs old new i x d l t s = λ a b.
-    let f : X → ℕ = λ y. key_bit (key y) a b in
+tally_set {X} key xs old new i x d l t s = λ a.
+    let f : X → ℕ = λ y. key_bit (key y) a in
     let e = sum_by-set f xs i x d l in
     let p = sum_part f xs i d l in
-    let h = s.at a b in
-    let g = t a b in
+    let h = s a in
+    let g = t a in
     omega (arith, e, p, h, g)
 
-pub tally_kept : {X : Type 0} (key : X → Option (ℕ × ℕ)) (xs : List X) (old new : Counted) → IsTally key xs old
+pub tally_kept : {X : Type 0} (key : X → Option ℕ) (xs : List X) (old new : Counted) → IsTally key xs old
     → Keeps old new → IsTally key xs new
-tally_kept key xs old new t k = λ a b. k a b ∙ t a b
+tally_kept key xs old new t k = λ a. k a ∙ t a
 
-pub tally_few : {X : Type 0} (key : X → Option (ℕ × ℕ)) (xs : List X) (c : Counted) → length xs ≤ 2 ^ 32
+pub tally_few : {X : Type 0} (key : X → Option ℕ) (xs : List X) (c : Counted) → length xs ≤ 2 ^ 32
     → IsTally key xs c → AreFew c
-tally_few {X} key xs c l t = λ a b.
-    let f : X → ℕ = λ y. key_bit (key y) a b in
-    let s = sum_small f (λ y. bit_small (key y) a b) xs in
-    let g = t a b in
+tally_few {X} key xs c l t = λ a.
+    let f : X → ℕ = λ y. key_bit (key y) a in
+    let s = sum_small f (λ y. bit_small (key y) a) xs in
+    let g = t a in
     omega (arith, l, s, g)
 
 -- ---- frames and descriptors
@@ -69,7 +68,6 @@ frames_kept uses c e p s t k = record {
   going = tally_kept (λ x. going_key (frame_mark x)) uses c.going e.going t.going k.going;
   kinds = tally_kept (λ x. kind_key (frame_mark x)) uses c.kinds e.kinds t.kinds k.kinds;
   pages = t.pages;
-  tight = t.tight;
   started = t.started;
 }
 
@@ -83,7 +81,6 @@ frames_ready uses c e p s z t k j =
       going = all.going;
       kinds = all.kinds;
       pages = all.pages;
-      tight = all.tight;
       started = tally_kept started_key uses s z t.started j;
     }
 
@@ -108,39 +105,28 @@ uses_few uses c e p s t k =
     }
 
 pub pages_few : (uses : List FrameUse) (c : UseCounted) (p q s : Counted) → AreFrames uses c p s → Keeps p q → AreFew q
-pages_few uses c p q s t k = tally_few page_of uses q (frames_length uses c p s t)
-    (tally_kept page_of uses p q t.pages k)
+pages_few uses c p q s t k = tally_few page_key uses q (frames_length uses c p s t)
+    (tally_kept page_key uses p q t.pages k)
 
 pub started_few : (uses : List FrameUse) (c : UseCounted) (p s z : Counted) → AreFrames uses c p s → Keeps s z
     → AreFew z
 started_few uses c p s z t k = tally_few started_key uses z (frames_length uses c p s t)
     (tally_kept started_key uses s z t.started k)
 
--- what was there for nothing is counted now
-tight_put : (p q r : Counted) (from to : Option (ℕ × ℕ)) → IsTight p → Readies p q from to → Shifts q r from to
-    → IsTight r
-tight_put p q r from to tight ready s a b idle =
-    let before = s.idle a b idle in
-    elim (ready a b before.0) [
-      | inl was ↦ tight a b was
-      | inr one ↦ (let none = before.1 in absurd (omega (arith, one, none)))
-    ]
-
 pub frames_put : (uses : List FrameUse) (c d e : UseCounted) (p q r s y z : Counted) (f : ℕ) (x w : FrameUse)
     → f < length uses → AreFrames uses c p s → KeepUses c d → Keeps p q
-    → Readies p q (page_of (get_or uses f w)) (page_of x) → Keeps s y
-    → ShiftUses d e (frame_mark (get_or uses f w)) (frame_mark x) → Shifts q r (page_of (get_or uses f w)) (page_of x)
+    → Keeps s y
+    → ShiftUses d e (frame_mark (get_or uses f w)) (frame_mark x) → Shifts q r (page_key (get_or uses f w)) (page_key x)
     → Shifts y z (started_key (get_or uses f w)) (started_key x)
     → AreFrames (set uses f x) e r z
-frames_put uses c d e p q r s y z f x w l t k j ready more h i g =
+frames_put uses c d e p q r s y z f x w l t k j more h i g =
     let all = frames_kept uses c d p s t k in
     record {
       few = rw (length-set uses f x) t.few;
       uids = tally_set (λ x. uid_key (frame_mark x)) uses d.uids e.uids f x w l all.uids h.uids;
       going = tally_set (λ x. going_key (frame_mark x)) uses d.going e.going f x w l all.going h.going;
       kinds = tally_set (λ x. kind_key (frame_mark x)) uses d.kinds e.kinds f x w l all.kinds h.kinds;
-      pages = tally_set page_of uses q r f x w l (tally_kept page_of uses p q t.pages j) i;
-      tight = tight_put p q r (page_of (get_or uses f w)) (page_of x) t.tight ready i;
+      pages = tally_set page_key uses q r f x w l (tally_kept page_key uses p q t.pages j) i;
       started = tally_set started_key uses y z f x w l (tally_kept started_key uses s y t.started more) g;
     }
 

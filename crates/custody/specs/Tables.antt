@@ -30,22 +30,15 @@ abbrev pub is_in_pool : ℕ → Option ActiveUse → Bool
 is_in_pool q None = false
 is_in_pool q (Some a) = a.pool == q
 
--- the keys under which an active segment is counted
-abbrev pub pool_key : Option ActiveUse → Option (ℕ × ℕ)
+-- the key of its pool, under which an active segment is counted, as it is under its superior
+abbrev pub pool_key : Option ActiveUse → Option ℕ
 pool_key None = None
-pool_key (Some a) = Some (a.pool, 0)
-
-abbrev pub key_of : Option ℕ → Option (ℕ × ℕ)
-key_of None = None
-key_of (Some u) = Some (u, 0)
-
-abbrev pub superior_key : Option ActiveUse → Option (ℕ × ℕ)
-superior_key x = key_of (superior_of x)
+pool_key (Some a) = Some a.pool
 
 pub record AreActive (uses : List (Option ActiveUse)) (pools inferiors : Counted) : Type 0 where
   pub few : length uses ≤ 2 ^ 32
   pub in_pools : IsTally pool_key uses pools
-  pub below : IsTally superior_key uses inferiors
+  pub below : IsTally superior_of uses inferiors
 
 -- ---- all tables
 

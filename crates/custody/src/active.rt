@@ -1,7 +1,7 @@
 ghost use Rattle.std.specs.Prelude.{◌≡◌, ◌≢◌, ◌≤◌, ◌^◌, ℕ, false, is_some, count_by, OnOk, OnErr, [], Some};
 ghost use Rattle.std.specs.Bool.{Decides};
 ghost use Rattle.custody.specs.Changes.{put_active, with_place};
-ghost use Rattle.custody.specs.Tables.{active_at, is_in_pool, pool_key, superior_key, superior_of};
+ghost use Rattle.custody.specs.Tables.{active_at, is_in_pool, pool_key, superior_of};
 
 use crate::NoMemory;
 use crate::counts::Counts;
@@ -78,7 +78,7 @@ impl Active {
     pub(crate) fn in_pool(&self, pool: u32) -> u64
         ensures { result ≡ count_by (is_in_pool pool) self.now }
     {
-        let count = self.pools.at(pool, 0);
+        let count = self.pools.at(pool);
         count
     }
 
@@ -86,7 +86,7 @@ impl Active {
     pub(crate) fn has_none_below(&self, uid: u32) -> bool
         ensures { Decides result ((v : ℕ) → superior_of (active_at self.now v) ≢ Some uid) }
     {
-        let count = self.inferiors.at(uid, 0);
+        let count = self.inferiors.at(uid);
         count == 0
     }
 
@@ -100,30 +100,28 @@ impl Active {
         ensures err { OnErr result (self.new ≡ self.old) }
     {
         let from = self.at(uid);
-        self.pools.reserve_key(pool_key(from), pool_key(to))?;
-        self.inferiors
-            .reserve_key(superior_key(from), superior_key(to))?;
+        self.pools.reserve(pool_key(to))?;
+        self.inferiors.reserve(superior_of(to))?;
         make_place(&mut self.uses, uid)?;
         self.pools.shift(pool_key(from), pool_key(to));
-        self.inferiors.shift(superior_key(from), superior_key(to));
+        self.inferiors.shift(superior_of(from), superior_of(to));
         self.uses[uid as usize] = to;
         Ok(())
     }
 }
 
 /// The key of its pool.
-fn pool_key(of: Option<ActiveUse>) -> Option<(u32, u32)>
+fn pool_key(of: Option<ActiveUse>) -> Option<u32>
     ensures { result ≡ pool_key of }
 {
-    of.map(|of| (of.pool, 0))
+    of.map(|of| of.pool)
 }
 
-/// The key of its superior.
-fn superior_key(of: Option<ActiveUse>) -> Option<(u32, u32)>
-    ensures { result ≡ superior_key of }
+/// Its superior, under which it is counted.
+fn superior_of(of: Option<ActiveUse>) -> Option<u32>
+    ensures { result ≡ superior_of of }
 {
-    let superior = of?.superior?;
-    Some((superior, 0))
+    of?.superior
 }
 
 /// The list has a place for a uid from now on.

@@ -72,8 +72,7 @@ impl Descriptors {
             return Ok(());
         }
         let from = self.uses[at];
-        self.counts
-            .reserve(descriptor_mark(from), descriptor_mark(to))?;
+        self.counts.reserve(descriptor_mark(to))?;
         self.counts
             .shift(descriptor_mark(from), descriptor_mark(to));
         self.uses[at] = to;

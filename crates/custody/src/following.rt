@@ -123,8 +123,8 @@ impl Custody {
     /// Goes on to the custody after an entry that is allowed in the flat store before it.
     ///
     /// The tables must be those of the script, and each processor's count of command entries must have room for one
-    /// more. An entry costs a few searches in ordered maps, and at most a look at what each processor holds, or at the
-    /// processes that are ready. The list of what is active grows to the greatest uid that became so.
+    /// more. An entry costs a few looks in tables, and at most a look at what each processor holds, or at the processes
+    /// that are ready. The list of what is active and the counts grow to the greatest uid that they are of.
     ///
     /// # Errors
     /// `NoMemory` is want of memory; then nothing is changed.

@@ -3,18 +3,20 @@ ghost use Rattle.custody_model.specs.declared.FrameUse.TheVariants as frame;
 ghost use Rattle.std.specs.Bool.{Decides};
 ghost use Rattle.custody_model.specs.Custody.{bound_page, is_going_frame, is_uid, page_of, uid_of_page};
 ghost use Rattle.custody.specs.Counts.{key_bit};
-ghost use Rattle.custody.specs.Uses.{frame_at, frame_mark, kind_key};
+ghost use Rattle.std.specs.List.{list_any};
+ghost use Rattle.custody.specs.Uses.{frame_at, frame_mark, is_page, is_page_from, kind_key};
 
 use crate::NoMemory;
 use crate::counts::Counts;
-use crate::uses::{UseCounts, frame_mark, page_of, started_key};
+use crate::uses::{UseCounts, frame_mark, page_key, page_number, page_of, started_key};
 use custody_model::FrameUse;
 use std::alloc::Global;
 use std::marker::Model;
 
 /// What the frames of core are used for. A contract sees the list of their uses.
 ///
-/// Beside it stand counts of them, so that nothing is looked for among all frames.
+/// Beside it stand counts of them, by which little is looked for among all frames: a page only where another is counted
+/// under its number, and the pages that a truncation takes.
 #[derive(Drop)]
 pub(crate) struct Frames {
     uses: Vec<FrameUse>,
@@ -78,12 +80,11 @@ impl Frames {
             return Ok(());
         }
         let from = self.uses[at];
-        self.counts.reserve(frame_mark(from), frame_mark(to))?;
-        self.started
-            .reserve_key(started_key(from), started_key(to))?;
-        self.pages.reserve_key(page_of(from), page_of(to))?;
+        self.counts.reserve(frame_mark(to))?;
+        self.started.reserve(started_key(to))?;
+        self.pages.reserve(page_key(to))?;
         self.counts.shift(frame_mark(from), frame_mark(to));
-        self.pages.shift(page_of(from), page_of(to));
+        self.pages.shift(page_key(from), page_key(to));
         self.started.shift(started_key(from), started_key(to));
         self.uses[at] = to;
         Ok(())
@@ -93,8 +94,19 @@ impl Frames {
     pub(crate) fn is_in_none(&self, uid: u32, page: u32) -> bool
         ensures { Decides result ((f : ℕ) → page_of (frame_at self.now f) ≢ Some (uid, page)) }
     {
-        let count = self.pages.at(uid, page);
-        count == 0
+        let count = self.pages.at(page_number(uid, page));
+        if count == 0 {
+            return true;
+        }
+        let some = self.is_in_some(uid, page);
+        !some
+    }
+
+    /// Whether a page is in a frame, or being read into one. All frames are looked at.
+    fn is_in_some(&self, uid: u32, page: u32) -> bool
+        ensures { result ≡ list_any (λ x. is_page uid page (page_of x)) self.now }
+    {
+        self.uses.iter().any(|of| is_page(page_of(*of), uid, page))
     }
 
     /// Whether no page of a segment is in a frame, or being read into one.
@@ -109,7 +121,7 @@ impl Frames {
     pub(crate) fn has_none_started(&self, uid: u32) -> bool
         ensures { Decides result ((f q : ℕ) → frame_at self.now f ≢ frame.Started uid q) }
     {
-        let count = self.started.at(uid, 0);
+        let count = self.started.at(uid);
         count == 0
     }
 
@@ -144,17 +156,46 @@ impl Frames {
     pub(crate) fn all_are_below(&self, uid: u32, pages: u32) -> bool
         ensures { Decides result ((f q : ℕ) → page_of (frame_at self.now f) ≡ Some (uid, q) → q < pages) }
     {
-        let some = self.pages.has_from(uid, pages);
+        let some = self.has_from(uid, pages);
         !some
+    }
+
+    /// Whether a page of a segment from a number on is in a frame, or being read into one. All frames are looked at.
+    fn has_from(&self, uid: u32, from: u32) -> bool
+        ensures { result ≡ list_any (λ x. is_page_from uid from (page_of x)) self.now }
+    {
+        self.uses
+            .iter()
+            .any(|of| is_page_from(page_of(*of), uid, from))
     }
 }
 
 /// How many pages are on their way out of a frame with this use, 1 or 0.
 fn going_count(of: FrameUse) -> u64
-    ensures { result ≡ key_bit (kind_key (frame_mark of)) 1 0 }
+    ensures { result ≡ key_bit (kind_key (frame_mark of)) 1 }
 {
     match of {
         FrameUse::Going { .. } => 1,
         _ => 0,
+    }
+}
+
+/// Whether a page is this one.
+fn is_page(of: Option<(u32, u32)>, uid: u32, page: u32) -> bool
+    ensures { result ≡ is_page uid page of }
+{
+    match of {
+        Some((of, at)) => of == uid && at == page,
+        None => false,
+    }
+}
+
+/// Whether a page is one of a segment from a number on.
+fn is_page_from(of: Option<(u32, u32)>, uid: u32, from: u32) -> bool
+    ensures { result ≡ is_page_from uid from of }
+{
+    match of {
+        Some((of, at)) => of == uid && from <= at,
+        None => false,
     }
 }

@@ -12,10 +12,10 @@ use script::Script;
 impl Custody {
     /// Whether custody allows an entry of a book, by a look at the flat store before it.
     ///
-    /// What is active must lie in the tree of that store as it did when it became active. An entry costs a few searches
-    /// in ordered maps, and at most a look at what each processor holds, or at each process. A command that is no
-    /// reference costs besides what the flat store's reply to it does, and a `truncate` a look at the words of one
-    /// page.
+    /// What is active must lie in the tree of that store as it did when it became active. An entry costs a few looks in
+    /// tables, and at most a look at what each processor holds, or at each process; one that brings a page in looks at
+    /// each frame where another page of the same number is in one. A command that is no reference costs besides what
+    /// the flat store's reply to it does, and a `truncate` a look at the words of one page and at each frame.
     pub fn allows(&self, script: &Script, store: &FlatStore, e: Entry) -> bool
         ensures { (s : Store) → Shows script.now store.now s → AreNodes s.nodes self.now.active
             → Decides result (IsAllowed script.now s (custody_of self.now) e) }

@@ -1,6 +1,6 @@
 //! Custody: who holds which entry while a book goes on, as a program that judges each entry (Bensoussan, Clingen and
 //! Daley 1972). The definitions stand in `custody_model`; what the program keeps besides are counts by which no row of
-//! them walks over all frames, segments or descriptors.
+//! them walks over all segments or descriptors, and only few over all frames.
 //!
 //! `Custody` is what holds before the first entry, judges an entry by a look at the flat store before it, and goes on
 //! after one that is allowed. What it holds can be looked at, table by table.

@@ -7,8 +7,8 @@ shift-requires-clause-few c = uses_few c.self.inside.uses.items c.self.inside.co
 
 pub shift-requires-2-clause-few : goal.shift-requires-2-clause-few
 shift-requires-2-clause-few c = pages_few c.self.inside.uses.items c.self.inside.counts c.self.inside.pages
-    c.reserve_key-2.new.self c.self.inside.started c.self.invariant c.reserve_key-2.ensures.keeps
+    c.reserve-3.new.self c.self.inside.started c.self.invariant c.reserve-3.ensures.keeps
 
 pub shift-requires-3-clause-few : goal.shift-requires-3-clause-few
 shift-requires-3-clause-few c = started_few c.self.inside.uses.items c.self.inside.counts c.self.inside.pages
-    c.self.inside.started c.reserve_key.new.self c.self.invariant c.reserve_key.ensures.keeps
+    c.self.inside.started c.reserve-2.new.self c.self.invariant c.reserve-2.ensures.keeps
