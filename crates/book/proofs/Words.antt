@@ -1,63 +1,133 @@
 -- Laws of a line and its words.
-use Rattle.std.proofs.Common.{◌≡◌, ℕ, ◌+◌, ◌<◌, ◌≤◌, Bool, true, false, not, cond, eqb, ltb, List, [], ◌∷◌, ◌++◌}
-use Rattle.std.proofs.Common.{length, get_or, take, drop, Option, Some, None, map, refl, sym, ap, subst, ◌∙◌, arith}
+use Rattle.std.proofs.Common.{◌≡◌, ◌≢◌, ℕ, suc, zero, ◌+◌, ◌-◌, ◌<◌, ◌≤◌, Bool, true, false, not, cond, eqb, ltb, List, [], ◌∷◌, ◌++◌}
+use Rattle.std.proofs.Common.{length, get_or, take, drop, Option, Some, None, map, refl, sym, ap, subst, ◌∙◌, arith, inl, inr}
 use Rattle.std.proofs.Common.{All}
 use Rattle.std.specs.List.{slice_split, position, position_or_len, before_first, after_first, join_with_byte, list_all}
 use Rattle.std.specs.List.{count_by}
-use Rattle.std.proofs.lemmas.Bool.Decides.{nat_tests}
+use Rattle.std.proofs.lemmas.Bool.Decides.{eqb_tells, nat_tests}
 use Rattle.std.proofs.lemmas.Grind.{common_steps}
-use Rattle.std.proofs.lemmas.List.{take_at, append_assoc, map-append, length-append, length-map}
+use Rattle.std.proofs.lemmas.List.{drop-drop, take_at, append_assoc, map-append, length-append, length-map}
 use Rattle.std.proofs.lemmas.List.Elements.{All-from_get_or, All-nil, All-cons}
 use Rattle.std.proofs.Math.Seq.{drop-append-add}
-use Rattle.std.proofs.lemmas.List.Splits.{length-slice_split, slice_split_first, slice_split_none, slice_split_at}
-use Rattle.std.proofs.lemmas.List.Sums.{fails_before_first, passes_at_first}
+use Rattle.std.proofs.lemmas.List.Splits.{length-slice_split, slice_split_none, slice_split_at}
+use Rattle.std.proofs.lemmas.List.Sums.{passes_at_first}
 use Rattle.book.specs.Reading.{is_space, is_dot, number_of, dotted_of, both}
 
-pub cut_at : (p : ℕ → Bool) (xs : List ℕ) (i : ℕ) → position p xs ≡ Some i
-    → (i < length xs) × (slice_split p xs ≡ take i xs ∷ slice_split p (drop (i + 1) xs))
-cut_at p xs i h = by_test (ltb (position_or_len p xs) (length xs)) refl h
-  where
-    by_test : (z : Bool) → ltb (position_or_len p xs) (length xs) ≡ z → cond z (Some (position_or_len p xs)) None
-        ≡ Some i
-        → (i < length xs) × (slice_split p xs ≡ take i xs ∷ slice_split p (drop (i + 1) xs))
-    by_test true e is =
-        let same : position_or_len p xs ≡ i = cc in
-        let lt : position_or_len p xs < length xs = grind (arith, nat_tests) in (
-          omega arith,
-          subst (λ (j : ℕ). slice_split p xs ≡ take j xs ∷ slice_split p (drop (j + 1) xs)) same
-              (slice_split_first p xs 0 lt),
-        )
-    by_test false e is = absurd (let no : None ≡ Some i = is in cc)
-
-pub no_cut : (p : ℕ → Bool) (xs : List ℕ) → position p xs ≡ None → slice_split p xs ≡ xs ∷ []
-no_cut p xs h = slice_split_none p xs (All-from_get_or (λ x. p x ≡ false) xs 0
-    (λ i lt. fails_before_first p xs i 0 (omega (arith, far))))
-  where
-    by_test : (z : Bool) → ltb (position_or_len p xs) (length xs) ≡ z → cond z (Some (position_or_len p xs)) None ≡ None
-        → length xs ≤ position_or_len p xs
-    by_test true e is = absurd (let no : Some (position_or_len p xs) ≡ None = is in cc)
-    by_test false e is = grind (arith, nat_tests)
-
-    far : length xs ≤ position_or_len p xs
-    far = by_test (ltb (position_or_len p xs) (length xs)) refl h
+-- ---- the words of a line, taken one after the other
 
 -- the words so far, and those of what is left, are those of the line
-pub word_added : {A : Type 0} (f : A → List ℕ) (xs : List A) (x : A) (parts more whole : List (List ℕ)) → map f xs
+word_added : {A : Type 0} (f : A → List ℕ) (xs : List A) (x : A) (parts more whole : List (List ℕ)) → map f xs
     ++ parts ≡ whole
     → parts ≡ f x ∷ more → map f (xs ++ x ∷ []) ++ more ≡ whole
 word_added f xs x parts more whole h e = ap (λ (t : List (List ℕ)). t ++ more) (map-append f xs (x ∷ []))
     ∙ append_assoc (map f xs) (f x ∷ []) more
     ∙ ap (λ (t : List (List ℕ)). map f xs ++ t) (sym e) ∙ h
 
-pub last_added : {A : Type 0} (f : A → List ℕ) (xs : List A) (x : A) (parts whole : List (List ℕ)) → map f xs ++ parts
+last_added : {A : Type 0} (f : A → List ℕ) (xs : List A) (x : A) (parts whole : List (List ℕ)) → map f xs ++ parts
     ≡ whole → parts ≡ f x ∷ []
     → map f (xs ++ x ∷ []) ≡ whole
 last_added f xs x parts whole h e = map-append f xs (x ∷ []) ∙ ap (λ (t : List (List ℕ)). map f xs ++ t) (sym e) ∙ h
 
-pub too_many : {A : Type 0} (f : A → List ℕ) (xs : List A) (parts whole : List (List ℕ)) → map f xs ++ parts ≡ whole
+too_many : {A : Type 0} (f : A → List ℕ) (xs : List A) (parts whole : List (List ℕ)) → map f xs ++ parts ≡ whole
     → 10 ≤ length xs
     → 0 < length parts → 10 < length whole
 too_many f xs parts whole h full some = omega (arith, simp (length-append, length-map) at (ap length h))
+
+-- These words come first in the line, and what follows them begins at `start`; from there no space stands before `i`.
+pub record Taken (words : List (List ℕ)) (line : List ℕ) (start i : ℕ) : Type 0 where
+  pub order : start ≤ i
+  pub clear : (k : ℕ) → start ≤ k → k < i → is_space (get_or line k 0) ≡ false
+  pub split : words ++ slice_split is_space (drop start line) ≡ slice_split is_space line
+
+pub taken_none : {A : Type 0} (f : A → List ℕ) (xs : List A) (line : List ℕ) → xs ≡ [] → Taken (map f xs) line 0 0
+taken_none f xs line none = record {
+  order = omega arith;
+  clear = λ k low high. let no : ⊥ = omega (arith, low, high) in absurd no;
+  split = ap (λ (ys : List _). map f ys ++ slice_split is_space line) none;
+}
+
+pub taken_byte : (words : List (List ℕ)) (line : List ℕ) (start i : ℕ) → Taken words line start i
+    → get_or line i 0 ≢ 32 → Taken words line start (i + 1)
+taken_byte words line start i t other = record {
+  order = let h = t.order in omega (arith, h);
+  clear = λ k low high. elim (eqb_tells k i) [
+    | inl e ↦ rw e.1 (no_space (get_or line i 0) other)
+    | inr e ↦ t.clear k low (let apart = e.1 in omega (arith, high, apart))
+  ];
+  split = t.split;
+}
+  where
+    no_space : (b : ℕ) → b ≢ 32 → is_space b ≡ false
+    no_space b apart = grind (arith, nat_tests)
+
+-- a piece of the line that begins at `start` and ends before `i` lacks a space
+piece_lacks : (words : List (List ℕ)) (line : List ℕ) (start i : ℕ) → Taken words line start i
+    → All (λ x. is_space x ≡ false) (take (i - start) (drop start line))
+piece_lacks words line start i t = All-from_get_or (λ x. is_space x ≡ false) (take (i - start) (drop start line)) 0
+    (λ k l. subst (λ (b : ℕ). is_space b ≡ false) (sym (at k l)) (t.clear (start + k) (omega arith) (within k l)))
+  where
+    within : (k : ℕ) → k < length (take (i - start) (drop start line)) → start + k < i
+    within k l = grind (arith, common_steps)
+
+    at : (k : ℕ) → k < length (take (i - start) (drop start line)) → get_or (take (i - start) (drop start line)) k 0
+        ≡ get_or line (start + k) 0
+    at k l = grind (arith, common_steps)
+
+front_cut : (bs : List ℕ) (n : ℕ) → n < length bs → bs ≡ take n bs ++ (get_or bs n 0 ∷ drop (suc n) bs)
+front_cut [] n l = let no : ⊥ = omega (arith, l) in absurd no
+front_cut (b ∷ bs) zero l = refl
+front_cut (b ∷ bs) (suc n) l = ap (λ (t : List ℕ). b ∷ t) (front_cut bs n (omega (arith, l)))
+
+piece_cut : (line : List ℕ) (start i : ℕ) → start ≤ i → i < length line
+    → drop start line ≡ take (i - start) (drop start line) ++ (get_or line i 0 ∷ drop (i + 1) line)
+piece_cut line start i order l =
+    let within : i - start < length (drop start line) = grind (arith, common_steps) in
+    let byte : get_or (drop start line) (i - start) 0 ≡ get_or line i 0 = grind (arith, common_steps) in
+    let place : start + suc (i - start) ≡ i + 1 = omega (arith, order) in
+    let rest : drop (suc (i - start)) (drop start line) ≡ drop (i + 1) line =
+    drop-drop (suc (i - start)) start line ∙ ap (λ (n : ℕ). drop n line) place in
+    front_cut (drop start line) (i - start) within
+    ∙ ap (λ (b : ℕ). take (i - start) (drop start line) ++ (b ∷ drop (suc (i - start)) (drop start line))) byte
+    ∙ ap (λ (t : List ℕ). take (i - start) (drop start line) ++ (get_or line i 0 ∷ t)) rest
+
+pub taken_word : {A : Type 0} (f : A → List ℕ) (xs : List A) (x : A) (line : List ℕ) (start i : ℕ)
+    → Taken (map f xs) line start i → i < length line → get_or line i 0 ≡ 32
+    → f x ≡ take (i - start) (drop start line) → Taken (map f (xs ++ x ∷ [])) line (i + 1) (i + 1)
+taken_word f xs x line start i t l space is = record {
+  order = omega arith;
+  clear = λ k low high. let no : ⊥ = omega (arith, low, high) in absurd no;
+  split = word_added f xs x (slice_split is_space (drop start line)) (slice_split is_space (drop (i + 1) line))
+      (slice_split is_space line) t.split (first ∙ ap (λ (w : List ℕ). w ∷ slice_split is_space (drop (i + 1) line))
+      (sym is));
+}
+  where
+    first : slice_split is_space (drop start line) ≡ take (i - start) (drop start line)
+        ∷ slice_split is_space (drop (i + 1) line)
+    first = ap (λ (bs : List ℕ). slice_split is_space bs) (piece_cut line start i t.order l)
+        ∙ slice_split_at is_space (take (i - start) (drop start line)) (get_or line i 0) (drop (i + 1) line)
+        (piece_lacks (map f xs) line start i t) (rw space refl)
+
+pub taken_last : {A : Type 0} (f : A → List ℕ) (xs : List A) (x : A) (line : List ℕ) (start i : ℕ)
+    → Taken (map f xs) line start i → length line ≤ i
+    → f x ≡ take (length line - start) (drop start line) → map f (xs ++ x ∷ []) ≡ slice_split is_space line
+taken_last f xs x line start i t far is =
+    last_added f xs x (slice_split is_space (drop start line)) (slice_split is_space line) t.split
+    (slice_split_none is_space (drop start line) lacking ∙ ap (λ (w : List ℕ). w ∷ []) (whole ∙ sym is))
+  where
+    whole : drop start line ≡ take (length line - start) (drop start line)
+    whole = grind (arith, common_steps)
+
+    all : take (i - start) (drop start line) ≡ drop start line
+    all = grind (arith, common_steps)
+
+    lacking : All (λ x. is_space x ≡ false) (drop start line)
+    lacking = subst (λ (w : List ℕ). All (λ x. is_space x ≡ false) w) all (piece_lacks (map f xs) line start i t)
+
+pub taken_full : {A : Type 0} (f : A → List ℕ) (xs : List A) (line : List ℕ) (start i : ℕ)
+    → Taken (map f xs) line start i → 10 ≤ length xs → 10 < length (slice_split is_space line)
+taken_full f xs line start i t full =
+    too_many f xs (slice_split is_space (drop start line)) (slice_split is_space line) t.split full
+    (let n = length-slice_split is_space (drop start line) in omega (arith, n))
 
 -- ---- a dot between two numbers
 
@@ -150,8 +220,5 @@ pub some_word : (line : List ℕ) → slice_split is_space line ≡ [] → ⊥
 some_word line h = let none : 0 ≡ count_by is_space line + 1 = sym (ap length h)
     ∙ length-slice_split is_space line in omega arith
 
--- what a cut of a text goes by
-pub ruleset text_cut = (cut_at, no_cut)
-
--- and its words
-pub ruleset words_taken = (word_added, last_added, too_many)
+-- what the proof of `read_words` is given
+pub ruleset words_taken = (taken_none, taken_byte, taken_word, taken_last, taken_full)

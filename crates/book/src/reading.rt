@@ -421,20 +421,6 @@ fn place_of(byte: u8, text: &[u8]) -> Option<usize>
     text.iter().position(|b| *b == byte)
 }
 
-/// The first word of a line and what follows its space. `None` exactly where the line has no space.
-#[tactic(auto, using(crate::proofs::Words::text_cut, std::proofs::lemmas::Grind::common_steps))]
-fn split_word(line: &[u8]) -> Option<(&[u8], &[u8])>
-    ensures some { IfSome result
-        (λ cut. slice_split is_space line.now ≡ cut.0.now ∷ slice_split is_space cut.1.now) }
-    ensures less { IfSome result (λ cut. length cut.1.now < length line.now) }
-    ensures none { IfNone result (slice_split is_space line.now ≡ line.now ∷ []) }
-{
-    match place_of(b' ', line) {
-        Some(space) => Some((&line[..space], &line[space + 1..])),
-        None => None,
-    }
-}
-
 /// Appends the words of a line between its spaces. False exactly where there are more than an entry has.
 #[tactic(auto, using(crate::proofs::Words::words_taken, std::proofs::lemmas::Grind::common_steps))]
 fn read_words<'a>(words: &mut ArrayVec<&'a [u8], MOST_WORDS>, line: &'a [u8]) -> bool
@@ -442,18 +428,20 @@ fn read_words<'a>(words: &mut ArrayVec<&'a [u8], MOST_WORDS>, line: &'a [u8]) ->
     ensures yes { result ≡ true → map (λ w. w.now) words.new.items ≡ slice_split is_space line.now }
     ensures no { result ≡ false → 10 < length (slice_split is_space line.now) }
 {
-    let mut rest = line;
-    while let Some((word, more)) = split_word(rest) {
-        if words.is_full() {
-            return false;
+    let mut start = 0;
+    for (i, byte) in line.iter().enumerate() {
+        if *byte == b' ' {
+            if words.is_full() {
+                return false;
+            }
+            words.push(&line[start..i]);
+            start = i + 1;
         }
-        words.push(word);
-        rest = more;
     }
     if words.is_full() {
         return false;
     }
-    words.push(rest);
+    words.push(&line[start..]);
     true
 }
 
