@@ -16,27 +16,13 @@ use Rattle.flat_model.specs.References.{reply_at, room_reply, stores_page, word_
 use Rattle.flat_model.specs.Store.{Store}
 use Rattle.flat_store.specs.Shown.{page_reply}
 
--- a page that is stored isn't stored anew
-pub stores_stored : (s : Store) (u o : ℕ) (how : RefKind) → is_stored s.stored u (o / 1024) ≡ true
-    → false ≡ stores_page s u o how
-stores_stored s u o how stored = sym (rw stored (none (alters how) (not (new_word (s.words u o) how == 0))))
-  where
-    none : (a b : Bool) → (a && (b && false)) ≡ false
-    none true true = refl
-    none true false = refl
-    none false b = refl
-
--- a page that isn't stored is, by a word other than 0
-pub stores_new : (s : Store) (u o : ℕ) (how : RefKind) (old w : ℕ) → alters how ≡ true
-    → is_stored s.stored u (o / 1024) ≡ false → old ≡ s.words u o → w ≡ new_word old how
-    → not (w == 0) ≡ stores_page s u o how
-stores_new s u o how old w alters_it absent was is =
-    let whole : new_word (s.words u o) how ≡ w = ap (λ (x : ℕ). new_word x how) (sym was) ∙ sym is in
-    sym (rw (alters_it, absent, whole) (same (not (w == 0))))
-  where
-    same : (a : Bool) → (a && true) ≡ a
-    same true = refl
-    same false = refl
+-- whether a page is stored anew, by its word and whether it is stored
+pub stores_looked : (s : Store) (u o : ℕ) (how : RefKind) (w : ℕ) (stored r : Bool) → w ≡ s.words u o
+    → stored ≡ is_stored s.stored u (o / 1024) → r ≡ (alters how && (not (new_word w how == 0) && not stored))
+    → r ≡ stores_page s u o how
+stores_looked s u o how w stored r word there is =
+    is ∙ ap (λ (x : ℕ). alters how && (not (new_word x how == 0) && not stored)) word
+    ∙ ap (λ (b : Bool). alters how && (not (new_word (s.words u o) how == 0) && not b)) there
 
 pub crowded : (p : Plan) (s : Store) (n : Node) (u o : ℕ) (how : RefKind) (test : Bool) (otherwise r : Reply)
     → n.uid ≡ u → test ≡ stores_page s u o how

@@ -1,4 +1,5 @@
-ghost use Rattle.std.specs.Prelude.{◌≡◌, ◌≢◌, ◌<◌, ◌/◌, ℕ, is_some, true, false, Some, OnOk, OnErr};
+ghost use Rattle.std.specs.Prelude.{◌≡◌, ◌≢◌, ◌<◌, ◌/◌, ◌==◌, ◌&&◌, ℕ, not, is_some, true, false, Some, OnOk, OnErr};
+ghost use Rattle.script.specs.References.{alters, new_word};
 ghost use Rattle.script.specs.Plans.{Plan, who_of};
 ghost use Rattle.tree_model.specs.Tree.{Node, node_in};
 ghost use Rattle.tree_model.specs.Trees.{has_segment};
@@ -30,6 +31,13 @@ fn word_reply(old: Word, kind: &RefKind) -> Reply
     }
 }
 
+/// Whether a reference brings a word other than 0 into a page, where this word stood before, and the page isn't stored.
+fn brings_word(old: Word, stored: bool, kind: &RefKind) -> bool
+    ensures { result ≡ (alters kind.now && (not (new_word old kind.now == 0) && not stored)) }
+{
+    kind.alters() && kind.new_word(old).value() != 0 && !stored
+}
+
 impl Holdings {
     /// The word at an offset of a segment; 0 where none was written.
     pub(crate) fn word(&self, uid: u32, offset: u32) -> Word
@@ -38,6 +46,19 @@ impl Holdings {
         match self.pages.get(uid, offset / Page::WORDS) {
             Some(page) => page.get(offset % Page::WORDS),
             None => Word::ZERO,
+        }
+    }
+
+    /// The word at an offset of a segment, 0 where none was written, and whether its page is stored.
+    fn look(&self, uid: u32, offset: u32) -> (Word, bool)
+        ensures word { (p : Plan) (s : Store) → Holds p self.now s → result.0 ≡ s.words uid offset }
+        ensures stored { (p : Plan) (s : Store) → Holds p self.now s
+            → result.1 ≡ is_stored s.stored uid (offset / 1024) }
+        ensures there { result.1 ≡ is_some (page_at self.now.pages uid (offset / 1024)) }
+    {
+        match self.pages.get(uid, offset / Page::WORDS) {
+            Some(page) => (page.get(offset % Page::WORDS), true),
+            None => (Word::ZERO, false),
         }
     }
 
@@ -55,10 +76,8 @@ impl Holdings {
         if !kind.alters() {
             return false;
         }
-        if self.is_stored(uid, offset / Page::WORDS) {
-            return false;
-        }
-        kind.new_word(self.word(uid, offset)).value() != 0
+        let (word, stored) = self.look(uid, offset);
+        brings_word(word, stored, kind)
     }
 
     /// What a reference is answered that stores a page more of a segment: `Quota` where its account has used up its
@@ -100,8 +119,9 @@ impl Holdings {
         ensures { (p : Plan) (s : Store) (n : Node) → Holds p self.now s → n.uid ≡ uid → n.volume ≡ volume
             → result ≡ page_reply p s offset kind.now n }
     {
-        let reply = word_reply(self.word(uid, offset), kind);
-        if self.stores_page(uid, offset, kind) {
+        let (word, stored) = self.look(uid, offset);
+        let reply = word_reply(word, kind);
+        if brings_word(word, stored, kind) {
             self.room_reply(uid, volume, reply)
         } else {
             reply
@@ -152,15 +172,17 @@ impl Holdings {
         Ok(())
     }
 
-    /// Writes a word of a segment. A page that gets a word other than 0 is stored from then on, if there is room.
-    fn write(&mut self, uid: u32, offset: u32, word: Word) -> Result<(), NoMemory>
+    /// Writes a word of a segment, whose page is stored or isn't. A page that gets a word other than 0 is stored from
+    /// then on, if there is room.
+    fn write(&mut self, uid: u32, offset: u32, word: Word, stored: bool) -> Result<(), NoMemory>
+        requires stored { stored ≡ is_some (page_at self.old.pages uid (offset / 1024)) }
         requires segment { has_segment self.old.accounts.nodes uid ≡ true }
         requires within { offset / 1024 < pages_in self.old.accounts.nodes uid }
         ensures ok { OnOk result ((p : Plan) (s : Store) → Holds p self.old s → may_write p s uid offset word ≡ true
             → Holds p self.new (written s uid offset word)) }
         ensures err { OnErr result (self.new ≡ self.old) }
     {
-        if self.pages.has(uid, offset / Page::WORDS) {
+        if stored {
             return self.put_word(uid, offset, word);
         }
         if word.value() == 0 {
@@ -189,7 +211,7 @@ impl Holdings {
         if offset / Page::WORDS >= node.length {
             return Ok(());
         }
-        let word = kind.new_word(self.word(uid, offset));
-        self.write(uid, offset, word)
+        let (old, stored) = self.look(uid, offset);
+        self.write(uid, offset, kind.new_word(old), stored)
     }
 }

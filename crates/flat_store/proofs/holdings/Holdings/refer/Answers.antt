@@ -32,8 +32,8 @@ pub returns-clause-ok : goal.returns-clause-ok
 returns-clause-ok c =
     on_ok c.write.result
     ((p : Plan) (s : Store) → Holds p c.args.self.now s
-    → may_write p s c.args.uid c.args.offset c.new_word-word.result ≡ true
-    → Holds p c.write.new.self (written s c.args.uid c.args.offset c.new_word-word.result))
+    → may_write p s c.args.uid c.args.offset c.new_word.result ≡ true
+    → Holds p c.write.new.self (written s c.args.uid c.args.offset c.new_word.result))
     ((p : Plan) (s : Store) (k : ℕ) → Holds p c.args.self.now s
     → takes_effect (reply_at p s k c.args.offset c.args.kind.now (node_in s.nodes c.args.uid)) ≡ true
     → is_held_at p s k c.args.offset c.args.kind.now (node_in s.nodes c.args.uid) ≡ false
@@ -43,8 +43,8 @@ returns-clause-ok c =
     let found = node_shown s c.self.inside.accounts.nodes c.args.uid c.in-Some.node.now
     (h.nodes ∙ ap (λ (x : Held). x.accounts.nodes) (sym c.self.view_is)) c.in-Some.ensures.some in
     let alters_it = sym c.alters.ensures ∙ c.if-not-alters.false in
-    let is = c.new_word-word.ensures ∙ ap (λ (w : ℕ). new_word w c.args.kind.now) (c.word.ensures p s h) in
-    refer_shown p s c.write.new.self c.args.uid c.args.offset c.new_word-word.result c.args.kind.now alters_it is
-    (f p s h (may_refer p s k c.args.uid c.args.offset c.new_word-word.result c.args.kind.now n found alters_it is
+    let is = c.new_word.ensures ∙ ap (λ (w : ℕ). new_word w c.args.kind.now) (c.look-old.ensures.word p s h) in
+    refer_shown p s c.write.new.self c.args.uid c.args.offset c.new_word.result c.args.kind.now alters_it is
+    (f p s h (may_refer p s k c.args.uid c.args.offset c.new_word.result c.args.kind.now n found alters_it is
     effect held)))
     c.write.ensures.ok

@@ -1,12 +1,6 @@
-use Rattle.std.proofs.Common.{sym, ◌∙◌}
-use Rattle.flat_store.proofs.ReplyLaws.{stores_new, stores_stored}
+use Rattle.flat_store.proofs.ReplyLaws.{stores_looked}
 use Rattle.flat_store.proofs.holdings.Holdings.stores_page.Goals as goal
 
-pub returns-then-is_stored : goal.returns-then-is_stored
-returns-then-is_stored c = λ p s h. stores_stored s c.args.uid c.args.offset c.args.kind.now
-    (sym (c.is_stored.ensures p s h) ∙ c.if-is_stored.true)
-
 pub returns : goal.returns
-returns c = λ p s h. stores_new s c.args.uid c.args.offset c.args.kind.now c.word.result c.value.result
-    (sym c.alters.ensures ∙ c.if-not-alters.false) (sym (c.is_stored.ensures p s h) ∙ c.if-is_stored.false)
-    (c.word.ensures p s h) (c.value.ensures.value ∙ c.new_word.ensures)
+returns c = λ p s h. stores_looked s c.args.uid c.args.offset c.args.kind.now c.look-word.result.0 c.look-word.result.1
+    c.brings_word.result (c.look-word.ensures.word p s h) (c.look-word.ensures.stored p s h) c.brings_word.ensures

@@ -6,8 +6,8 @@ use Rattle.flat_store.specs.Shown.{Holds, may_write}
 use Rattle.flat_store.proofs.OkLaws.{on_ok}
 use Rattle.flat_store.proofs.holdings.Holdings.write.Goals as goal
 
-pub returns-then-has-clause-ok : goal.returns-then-has-clause-ok
-returns-then-has-clause-ok c =
+pub returns-then-stored-clause-ok : goal.returns-then-stored-clause-ok
+returns-then-stored-clause-ok c =
     on_ok c.put_word.result ((p : Plan) (s : Store) → Holds p c.args.self.now s
     → Holds p c.put_word.new.self (written s c.args.uid c.args.offset c.args.word))
     ((p : Plan) (s : Store) → Holds p c.args.self.now s → may_write p s c.args.uid c.args.offset c.args.word ≡ true
