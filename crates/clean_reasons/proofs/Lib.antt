@@ -1,3 +1,4 @@
+pub mod EffectLaws
 pub mod SeekLaws
 pub mod FrameLaws
 pub mod RowLaws

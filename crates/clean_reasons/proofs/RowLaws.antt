@@ -42,6 +42,12 @@ activates p s t u z superior pool is of some nodes inactive above room = record 
               (subst (λ (x : ℕ). x < pool_size p z) (sym (count_active s.nodes t.active z nodes)) room);
         }
 
+-- the pool of a node that is there
+pub in_pool : (o : Option Node) (pool : Option ℕ) (z : ℕ) → pool ≡ pool_at o → pool ≡ Some z
+    → IsSomeAnd o (λ n. pool_of n ≡ z)
+in_pool None pool z e f = let x : Some z ≡ None = sym f ∙ e in let no : ⊥ = cc in absurd no
+in_pool (Some n) pool z e f = ap (λ (x : Option ℕ). unwrap_or x z) (sym e ∙ f)
+
 -- a pool's reason, by the table's count
 pub pool_decides : (s : Store) (t : Tables) (z m n : ℕ) (r : ActiveReason) → r ≡ active.Pool z m
     → n ≡ count_by (is_in_pool z) t.active → AreNodes s.nodes t.active

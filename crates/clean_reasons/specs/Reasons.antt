@@ -1,4 +1,4 @@
--- What the reasons say of the state before an entry, and of the entry (own).
+-- What the reasons say of the state before an entry, and that they are reasons of it (own).
 use Rattle.std.specs.Prelude.{◌≡◌, ◌≢◌, ◌≤◌, ℕ, ◌&&◌, Bool, true, false, count_by, length, []}
 use Rattle.std.specs.Prelude.{Option, Some, None, IsSomeAnd, MatchOption}
 use Rattle.assoc_mem.specs.declared.What.{What}
@@ -7,8 +7,6 @@ use Rattle.script.specs.References.{reference_of}
 use Rattle.script.specs.declared.commands.Command.{Command}
 use Rattle.script.specs.declared.commands.Command.TheVariants as command
 use Rattle.book.specs.declared.entries.Entry.{Entry}
-use Rattle.book.specs.declared.entries.Entry.TheVariants as entry
-use Rattle.book.specs.declared.replies.Reply.{Reply}
 use Rattle.tree_model.specs.Tree.{node_in}
 use Rattle.flat_model.specs.Pages.{is_stored}
 use Rattle.flat_model.specs.Store.{Store, known_uid, progress_of}
@@ -17,7 +15,7 @@ use Rattle.custody_model.specs.declared.DescriptorUse.TheVariants as lead
 use Rattle.custody_model.specs.Custody.{Custody, bound_page, has, is_going_descriptor, is_going_frame, is_started}
 use Rattle.custody_model.specs.Custody.{is_uid, leads_to, names_descriptor, names_frame}
 use Rattle.custody_model.specs.Allowed.{IsAllowed, IsFront, SomethingGoes, is_active_in, is_word_or_done, next_command}
-use Rattle.clean_reasons.specs.declared.reasons.CommandAt.{CommandAt}
+use Rattle.clean_reasons.specs.Rows.{IsAbout}
 use Rattle.clean_reasons.specs.declared.reasons.Held.{Held}
 use Rattle.clean_reasons.specs.declared.reasons.Held.TheVariants as held
 use Rattle.clean_reasons.specs.declared.reasons.Absent.{Absent}
@@ -170,16 +168,7 @@ has_since (reason.Command (answer.Stored a p)) = true
 has_since (reason.Command _) = false
 has_since _ = true
 
--- ---- of the entry
-
--- an entry is the answer to this command
-abbrev pub Answers : Entry → CommandAt → Type 0
-Answers (entry.Do k i d f r) a = (i ≡ a.place) × (k ≡ a.process)
-Answers _ a = ⊥
-
-abbrev pub reply_in : Entry → Option Reply
-reply_in (entry.Do k i d f r) = Some r
-reply_in _ = None
+-- ---- of a command
 
 abbrev pub word_of : Command → CommandWord
 word_of (command.MkDir path v) = word.MkDir
@@ -203,27 +192,28 @@ pub record IsTreeCommand (w : CommandWord) (c : Command) : Type 0 where
   pub tree : reference_of c ≡ None
   pub word : word_of c ≡ w
 
--- the reference is answered so, which reaches no word
-pub record IsRefused (e : Entry) (r : Reply) : Type 0 where
-  pub answered : reply_in e ≡ Some r
-  pub refused : is_word_or_done r ≡ false
+abbrev pub CommandSays : Plan → Store → CommandReason → Type 0
+CommandSays p s (answer.NoneLeft k) = next_command p s k ≡ None
+CommandSays p s (answer.Refused a r) = is_word_or_done r ≡ false
+CommandSays p s (answer.Stored a x) = is_stored s.stored x.uid x.page ≡ true
+CommandSays p s (answer.Tree a w) = IsSomeAnd (next_command p s a.process) (IsTreeCommand w)
 
-abbrev pub CommandIsSo : Plan → Store → Entry → CommandReason → Type 0
-CommandIsSo p s e (answer.NoneLeft k) = next_command p s k ≡ None
-CommandIsSo p s e (answer.Refused a r) = Answers e a × IsRefused e r
-CommandIsSo p s e (answer.Stored a x) = Answers e a × (is_stored s.stored x.uid x.page ≡ true)
-CommandIsSo p s e (answer.Tree a w) = Answers e a × IsSomeAnd (next_command p s a.process) (IsTreeCommand w)
+-- What a reason says is so: of the state, of the script, or of a command.
+abbrev pub IsSaid : Plan → Store → Custody → Reason → Type 0
+IsSaid p s c (reason.Absent r) = AbsentSays p r
+IsSaid p s c (reason.Seat r) = SeatSays c r
+IsSaid p s c (reason.Ready r) = ReadySays s c r
+IsSaid p s c (reason.Active r) = ActiveSays s c r
+IsSaid p s c (reason.Frame r) = FrameSays c r
+IsSaid p s c (reason.Descriptor r) = DescriptorSays s c r
+IsSaid p s c (reason.Command r) = CommandSays p s r
+IsSaid p s c (reason.Effect r) = EffectSays c r
 
--- a reason for which custody doesn't allow an entry is so
-abbrev pub IsSo : Plan → Store → Custody → Entry → Reason → Type 0
-IsSo p s c e (reason.Absent r) = AbsentSays p r
-IsSo p s c e (reason.Seat r) = SeatSays c r
-IsSo p s c e (reason.Ready r) = ReadySays s c r
-IsSo p s c e (reason.Active r) = ActiveSays s c r
-IsSo p s c e (reason.Frame r) = FrameSays c r
-IsSo p s c e (reason.Descriptor r) = DescriptorSays s c r
-IsSo p s c e (reason.Command r) = CommandIsSo p s e r
-IsSo p s c e (reason.Effect r) = EffectSays c r
+-- A reason for which custody doesn't allow an entry is so: it is one of the conditions that the entry needs, with the
+-- numbers that the entry names, and what it says is true.
+pub record IsSo (p : Plan) (s : Store) (c : Custody) (e : Entry) (r : Reason) : Type 0 where
+  pub about : IsAbout p s c e r
+  pub said : IsSaid p s c r
 
 -- what an answer tells of an entry: without a reason the entry is allowed, and a reason is so
 abbrev pub Tells : Plan → Store → Custody → Entry → Option Reason → Type 0

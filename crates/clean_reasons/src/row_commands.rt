@@ -1,12 +1,12 @@
-ghost use Rattle.std.specs.Prelude.{◌≡◌, MatchOption, None, Some};
+ghost use Rattle.std.specs.Prelude.{◌≡◌, ℕ, MatchOption, Option, None, Some};
 ghost use Rattle.script.specs.Plans.{Plan};
 ghost use Rattle.flat_model.specs.Store.{Store, known_uid};
 ghost use Rattle.flat_store.specs.Shown.{Shows};
-ghost use Rattle.book.specs.declared.entries.Entry.{Entry};
 ghost use Rattle.custody_model.specs.Custody.{bound_page};
 ghost use Rattle.custody_model.specs.Allowed.{IsPageAt, MayGoThrough, MayGoWithout, is_word_or_done, next_command};
 ghost use Rattle.custody.specs.Tables.{AreTablesOf, custody_of, seat_at};
-ghost use Rattle.clean_reasons.specs.Reasons.{CommandIsSo, IsSo, SeatSays, Tells, word_of};
+ghost use Rattle.clean_reasons.specs.Reasons.{CommandSays, IsSo, SeatSays, Tells, word_of};
+ghost use Rattle.clean_reasons.specs.Rows.{IsCommandOf, IsOfHolding, IsOfRunning, next_reference};
 ghost use Rattle.clean_reasons.specs.Answers.{HoldsBoth, IsNextTree, MayAnswerReference, MayAnswerTree, as_entry};
 
 use crate::reasons::{
@@ -63,7 +63,7 @@ pub(crate) struct Answer {
 /// Why a processor doesn't run a process.
 fn against_running(custody: &Custody, cpu: u32, process: u32) -> Option<SeatReason>
     ensures { MatchOption result ((seat_at custody.now.seats cpu).process ≡ Some process)
-        (SeatSays (custody_of custody.now)) }
+        (λ r. IsOfRunning cpu process r × SeatSays (custody_of custody.now) r) }
 {
     match custody.process_of(cpu) {
         None => Some(SeatReason::Idle { cpu }),
@@ -75,7 +75,7 @@ fn against_running(custody: &Custody, cpu: u32, process: u32) -> Option<SeatReas
 /// Why a processor lacks what a reference goes through.
 fn against_holding(custody: &Custody, answer: Answer, frame: u32, number: u32) -> Option<SeatReason>
     ensures { MatchOption result (HoldsBoth (seat_at custody.now.seats answer.cpu) number frame)
-        (SeatSays (custody_of custody.now)) }
+        (λ r. IsOfHolding answer.cpu answer.process number frame r × SeatSays (custody_of custody.now) r) }
 {
     let Answer { process, cpu, .. } = answer;
     if !custody.holds_seg(cpu, number) {
@@ -93,15 +93,16 @@ fn against_holding(custody: &Custody, answer: Answer, frame: u32, number: u32) -
 fn against_page(
     store: &FlatStore,
     custody: &Custody,
-    process: u32,
+    answer: Answer,
     frame: u32,
     reference: &Reference,
 ) -> Option<Reason>
-    ensures { (p : Plan) (s : Store) (e : Entry) → Shows p store.now s → MatchOption result
-        (IsPageAt (known_uid s process reference.now.number) reference.now.offset
+    ensures { (p : Plan) (s : Store) → Shows p store.now s → next_reference p s answer.process ≡ Some reference.now
+        → MatchOption result (IsPageAt (known_uid s answer.process reference.now.number) reference.now.offset
         (bound_page ((custody_of custody.now).frame frame)))
-        (IsSo p s (custody_of custody.now) e) }
+        (IsSo p s (custody_of custody.now) (as_entry answer (Some frame))) }
 {
+    let process = answer.process;
     let number = reference.number;
     let Some(uid) = store.known(process, number) else {
         return Some(Reason::Descriptor(DescriptorReason::Unknown { number, process }));
@@ -127,14 +128,15 @@ fn against_through(
     frame: u32,
     reference: &Reference,
 ) -> Option<Reason>
-    ensures { (p : Plan) (s : Store) → Shows p store.now s → MatchOption result
+    ensures { (p : Plan) (s : Store) → Shows p store.now s → next_reference p s answer.process ≡ Some reference.now
+        → MatchOption result
         (MayGoThrough s (custody_of custody.now) answer.cpu answer.process frame reference.now answer.reply)
         (IsSo p s (custody_of custody.now) (as_entry answer (Some frame))) }
 {
     if let Some(reason) = against_holding(custody, answer, frame, reference.number) {
         return Some(Reason::Seat(reason));
     }
-    if let Some(reason) = against_page(store, custody, answer.process, frame, reference) {
+    if let Some(reason) = against_page(store, custody, answer, frame, reference) {
         return Some(reason);
     }
     if is_word_or_done(&answer.reply) {
@@ -156,9 +158,9 @@ fn against_without(
     answer: Answer,
     reference: &Reference,
 ) -> Option<CommandReason>
-    ensures { (p : Plan) (s : Store) → Shows p store.now s → MatchOption result
-        (MayGoWithout s answer.process reference.now answer.reply)
-        (CommandIsSo p s (as_entry answer None)) }
+    ensures { (p : Plan) (s : Store) → Shows p store.now s → next_reference p s answer.process ≡ Some reference.now
+        → MatchOption result (MayGoWithout s answer.process reference.now answer.reply)
+        (λ r. IsCommandOf p s (as_entry answer None) r × CommandSays p s r) }
 {
     let Answer { process, place, .. } = answer;
     if !is_word_or_done(&answer.reply) {
@@ -182,8 +184,8 @@ fn against_reference(
     frame: Option<u32>,
     reference: &Reference,
 ) -> Option<Reason>
-    ensures { (p : Plan) (s : Store) → Shows p store.now s → MatchOption result
-        (MayAnswerReference s (custody_of custody.now) answer frame reference.now)
+    ensures { (p : Plan) (s : Store) → Shows p store.now s → next_reference p s answer.process ≡ Some reference.now
+        → MatchOption result (MayAnswerReference s (custody_of custody.now) answer frame reference.now)
         (IsSo p s (custody_of custody.now) (as_entry answer frame)) }
 {
     if let Some(reason) = against_running(custody, answer.cpu, answer.process) {
@@ -231,10 +233,11 @@ fn against_tree(
 }
 
 /// Why a processor may not answer a process that has no command left.
-fn against_no_command(custody: &Custody, cpu: u32, process: u32) -> Reason
-    ensures { (p : Plan) (s : Store) (e : Entry) → next_command p s process ≡ None
-        → IsSo p s (custody_of custody.now) e result }
+fn against_no_command(custody: &Custody, answer: Answer) -> Reason
+    ensures { (p : Plan) (s : Store) (f : Option ℕ) → next_command p s answer.process ≡ None
+        → IsSo p s (custody_of custody.now) (as_entry answer f) result }
 {
+    let Answer { process, cpu, .. } = answer;
     match against_running(custody, cpu, process) {
         Some(reason) => Reason::Seat(reason),
         None => Reason::Command(CommandReason::NoneLeft { process }),
@@ -255,7 +258,7 @@ fn against_next(
 {
     let process = answer.process;
     let Some(command) = command_at(script, process, store.place(process)) else {
-        return Some(against_no_command(custody, answer.cpu, process));
+        return Some(against_no_command(custody, answer));
     };
     match command.reference() {
         Some(reference) => against_reference(store, custody, answer, frame, &reference),

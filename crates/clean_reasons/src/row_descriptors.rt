@@ -2,12 +2,11 @@ ghost use Rattle.std.specs.Prelude.{◌≡◌, true, MatchOption, Some};
 ghost use Rattle.flat_model.specs.Store.{Store, known_uid};
 ghost use Rattle.script.specs.Plans.{Plan};
 ghost use Rattle.flat_store.specs.Shown.{Shows};
-ghost use Rattle.book.specs.declared.entries.Entry.{Entry};
 ghost use Rattle.book.specs.declared.entries.Entry.TheVariants as entry;
-ghost use Rattle.custody_model.specs.Allowed.{MayEndSeg};
 ghost use Rattle.custody_model.specs.Custody.{Custody as Holding, is_current_descriptor};
 ghost use Rattle.custody.specs.Tables.{AreTablesOf, custody_of};
-ghost use Rattle.clean_reasons.specs.Reasons.{DescriptorSays, IsSo, Tells};
+ghost use Rattle.clean_reasons.specs.Reasons.{DescriptorSays, Tells};
+ghost use Rattle.clean_reasons.specs.Rows.{IsOfConnect, IsOfCut};
 
 use crate::reasons::{
     Absent, ActiveReason, DescriptorAt, DescriptorReason, Held, Reason, SeatReason,
@@ -21,7 +20,8 @@ use script::Script;
 /// Why a number of a process doesn't stand for a segment.
 fn against_known(store: &FlatStore, process: u32, number: u32, uid: u32) -> Option<DescriptorReason>
     ensures { (p : Plan) (s : Store) (c : Holding) → Shows p store.now s
-        → MatchOption result (known_uid s process number ≡ Some uid) (DescriptorSays s c) }
+        → MatchOption result (known_uid s process number ≡ Some uid)
+        (λ r. IsOfConnect process number uid r × DescriptorSays s c r) }
 {
     match store.known(process, number) {
         None => Some(DescriptorReason::Unknown { number, process }),
@@ -73,7 +73,7 @@ pub(crate) fn against_current(
 ) -> Option<DescriptorReason>
     ensures { (s : Store) → MatchOption result
         (is_current_descriptor ((custody_of custody.now).descriptor process number) ≡ true)
-        (DescriptorSays s (custody_of custody.now)) }
+        (λ r. IsOfCut process number r × DescriptorSays s (custody_of custody.now) r) }
 {
     let descriptor = DescriptorAt { process, number };
     match custody.descriptor(process, number) {
@@ -109,8 +109,10 @@ pub(crate) fn against_end_of_seg(
     number: u32,
 ) -> Option<Reason>
     requires { AreTablesOf script.now custody.now }
-    ensures { (s : Store) (e : Entry) → MatchOption result (MayEndSeg (custody_of custody.now) process number)
-        (IsSo script.now s (custody_of custody.now) e) }
+    ensures gone { (s : Store)
+        → Tells script.now s (custody_of custody.now) (entry.GoneSeg process number) result }
+    ensures back { (s : Store)
+        → Tells script.now s (custody_of custody.now) (entry.BackSeg process number) result }
 {
     if process >= script.processes() {
         return Some(Reason::Absent(Absent::Process { process }));

@@ -1,4 +1,4 @@
-ghost use Rattle.std.specs.Prelude.{◌≡◌, ◌≤◌, ℕ, false, IfNone, IfSome, MatchOption, Some};
+ghost use Rattle.std.specs.Prelude.{◌≡◌, ◌<◌, ◌≤◌, ◌+◌, ◌*◌, ℕ, false, IfNone, IfSome, MatchOption, Some};
 ghost use Rattle.flat_model.specs.Branches.{branch_at, segment_at};
 ghost use Rattle.custody_model.specs.Custody.{is_started, page_of};
 ghost use Rattle.script.specs.Plans.{Plan};
@@ -8,6 +8,8 @@ ghost use Rattle.custody_model.specs.declared.DescriptorUse.TheVariants as descr
 ghost use Rattle.custody_model.specs.Effects.{HasNoDescriptor, IsOutOfUse, LosesNoPage, MayTakeEffect, OfNode};
 ghost use Rattle.custody.specs.Tables.{AreTablesOf, custody_of};
 ghost use Rattle.clean_reasons.specs.Reasons.{EffectSays};
+ghost use Rattle.clean_reasons.specs.Rows.{IsOfAcl, IsOfDelete, IsOfEffect, IsOfEnd, IsOfLength, IsOfLoss, IsOfNode};
+ghost use Rattle.clean_reasons.specs.Rows.{IsOfTerminate, IsOfTruncate};
 
 use crate::reasons::{DescriptorAt, EffectReason, Loss, PageOf, Taker};
 use crate::row_segments::least_leading;
@@ -36,7 +38,8 @@ fn against_acl(
     requires { AreTablesOf script.now custody.now }
     ensures { (s : Store) → Shows script.now store.now s → MatchOption result
         (OfNode (λ n. HasNoDescriptor (custody_of custody.now) n.uid) (segment_at s.nodes path.now))
-        (EffectSays (custody_of custody.now)) }
+        (λ r. IsOfNode (λ n. IsOfAcl (custody_of custody.now) n.uid r) (segment_at s.nodes path.now)
+        × EffectSays (custody_of custody.now) r) }
 {
     let uid = store.segment_at(path)?;
     match least_leading(script, custody, uid) {
@@ -51,7 +54,7 @@ fn against_acl(
 /// Why a number may not come to stand for nothing: its descriptor is connected.
 fn against_terminate(custody: &Custody, process: u32, number: u32) -> Option<EffectReason>
     ensures { MatchOption result ((custody_of custody.now).descriptor process number ≡ descriptor.Free)
-        (EffectSays (custody_of custody.now)) }
+        (λ r. IsOfTerminate process number r × EffectSays (custody_of custody.now) r) }
 {
     match custody.descriptor(process, number) {
         DescriptorUse::Free => None,
@@ -66,7 +69,7 @@ fn against_terminate(custody: &Custody, process: u32, number: u32) -> Option<Eff
 fn against_end(script: &Script, custody: &Custody, process: u32) -> Option<EffectReason>
     requires { AreTablesOf script.now custody.now }
     ensures { MatchOption result ((n : ℕ) → (custody_of custody.now).descriptor process n ≡ descriptor.Free)
-        (EffectSays (custody_of custody.now)) }
+        (λ r. IsOfEnd process r × EffectSays (custody_of custody.now) r) }
 {
     match least_number(script, custody, process, LeadSeek::Connected) {
         Some(number) => Some(EffectReason::Connected {
@@ -80,7 +83,8 @@ fn against_end(script: &Script, custody: &Custody, process: u32) -> Option<Effec
 /// That a page that is taken away is in a frame, or is being read into it.
 fn lost(custody: &Custody, loss: Loss, uid: u32, at: PageAt) -> EffectReason
     requires { page_of ((custody_of custody.now).frame at.frame) ≡ Some (uid, at.page) }
-    ensures { EffectSays (custody_of custody.now) result }
+    ensures about { IsOfLoss loss uid at.page result }
+    ensures says { EffectSays (custody_of custody.now) result }
 {
     let PageAt { page, frame } = at;
     let page = PageOf { uid, page };
@@ -94,7 +98,8 @@ fn lost(custody: &Custody, loss: Loss, uid: u32, at: PageAt) -> EffectReason
 /// Why a segment or directory is still in use.
 fn against_disuse(script: &Script, custody: &Custody, uid: u32) -> Option<EffectReason>
     requires { AreTablesOf script.now custody.now }
-    ensures { MatchOption result (IsOutOfUse (custody_of custody.now) uid) (EffectSays (custody_of custody.now)) }
+    ensures { MatchOption result (IsOutOfUse (custody_of custody.now) uid)
+        (λ r. IsOfDelete (custody_of custody.now) uid r × EffectSays (custody_of custody.now) r) }
 {
     if let Some(at) = least_page(script, custody, uid, 0) {
         return Some(lost(custody, Loss::Deleted, uid, at));
@@ -119,7 +124,8 @@ fn against_delete(
     requires { AreTablesOf script.now custody.now }
     ensures { (s : Store) → Shows script.now store.now s → MatchOption result
         (OfNode (λ n. IsOutOfUse (custody_of custody.now) n.uid) (branch_at s.nodes path.now))
-        (EffectSays (custody_of custody.now)) }
+        (λ r. IsOfNode (λ n. IsOfDelete (custody_of custody.now) n.uid r) (branch_at s.nodes path.now)
+        × EffectSays (custody_of custody.now) r) }
 {
     match store.branch_at(path) {
         Some(uid) => against_disuse(script, custody, uid),
@@ -131,7 +137,8 @@ fn against_delete(
 fn against_length(store: &FlatStore, custody: &Custody, path: &Path) -> Option<EffectReason>
     ensures { (p : Plan) (s : Store) → Shows p store.now s → MatchOption result
         (OfNode (λ n. (custody_of custody.now).active n.uid ≡ false) (segment_at s.nodes path.now))
-        (EffectSays (custody_of custody.now)) }
+        (λ r. IsOfNode (λ n. IsOfLength n.uid r) (segment_at s.nodes path.now)
+        × EffectSays (custody_of custody.now) r) }
 {
     let uid = store.segment_at(path)?;
     if custody.is_active(uid) {
@@ -142,7 +149,10 @@ fn against_length(store: &FlatStore, custody: &Custody, path: &Path) -> Option<E
 }
 
 /// How many pages of a segment have one of so many words at its front.
-fn pages_of(words: u32) -> u32 {
+fn pages_of(words: u32) -> u32
+    ensures all { words ≤ 1024 * result }
+    ensures least { 1024 * result < words + 1024 }
+{
     let page = words / Page::WORDS;
     if words % Page::WORDS == 0 {
         page
@@ -161,7 +171,8 @@ fn against_loss(
 ) -> Option<EffectReason>
     requires { AreTablesOf script.now custody.now }
     ensures { (s : Store) → Shows script.now store.now s → MatchOption result
-        (LosesNoPage s (custody_of custody.now) uid words) (EffectSays (custody_of custody.now)) }
+        (LosesNoPage s (custody_of custody.now) uid words)
+        (λ r. IsOfTruncate s uid words r × EffectSays (custody_of custody.now) r) }
 {
     if let Some(at) = least_page(script, custody, uid, pages_of(words)) {
         return Some(lost(custody, Loss::Past, uid, at));
@@ -184,7 +195,8 @@ fn against_truncate(
     requires { AreTablesOf script.now custody.now }
     ensures { (s : Store) → Shows script.now store.now s → MatchOption result
         (OfNode (λ n. LosesNoPage s (custody_of custody.now) n.uid words) (segment_at s.nodes path.now))
-        (EffectSays (custody_of custody.now)) }
+        (λ r. IsOfNode (λ n. IsOfTruncate s n.uid words r) (segment_at s.nodes path.now)
+        × EffectSays (custody_of custody.now) r) }
 {
     match store.segment_at(path) {
         Some(uid) => against_loss(script, store, custody, uid, words),
@@ -202,7 +214,8 @@ pub(crate) fn against_effect(
 ) -> Option<EffectReason>
     requires { AreTablesOf script.now custody.now }
     ensures { (s : Store) → Shows script.now store.now s → MatchOption result
-        (MayTakeEffect s (custody_of custody.now) process command.now) (EffectSays (custody_of custody.now)) }
+        (MayTakeEffect s (custody_of custody.now) process command.now)
+        (λ r. IsOfEffect s (custody_of custody.now) process command.now r × EffectSays (custody_of custody.now) r) }
 {
     match command {
         Command::Acl { path, .. } => against_acl(script, store, custody, path),

@@ -1,14 +1,14 @@
 ghost use Rattle.std.specs.Bool.{Decides};
-ghost use Rattle.std.specs.Prelude.{◌≡◌, ℕ, true, false, MatchOption};
+ghost use Rattle.std.specs.Prelude.{◌≡◌, ◌≢◌, ℕ, true, false, MatchOption};
 ghost use Rattle.flat_model.specs.Store.{Store};
-ghost use Rattle.book.specs.declared.entries.Entry.{Entry};
 ghost use Rattle.book.specs.declared.entries.Entry.TheVariants as entry;
-ghost use Rattle.custody_model.specs.Allowed.{MayEndPage, MayStart};
+ghost use Rattle.custody_model.specs.Allowed.{MayStart};
 ghost use Rattle.custody_model.specs.declared.FrameUse.TheVariants as slot;
 ghost use Rattle.custody_model.specs.Custody.{is_current_frame, is_going_frame};
 ghost use Rattle.custody_model.specs.Effects.{IsInNoFrame};
 ghost use Rattle.custody.specs.Tables.{AreTablesOf, custody_of};
 ghost use Rattle.clean_reasons.specs.Reasons.{FrameSays, IsSo, Tells};
+ghost use Rattle.clean_reasons.specs.Rows.{IsOfAbsence, IsOfComing, IsOfCurrent, IsOfFreedom};
 
 use crate::reasons::{Absent, ActiveReason, FrameReason, Held, PageOf, Reason, SeatReason};
 use crate::seeking::{FrameSeek, SeatSeek, least_cpu, least_frame};
@@ -24,7 +24,8 @@ pub(crate) fn against_absence(
     page: u32,
 ) -> Option<FrameReason>
     requires { AreTablesOf script.now custody.now }
-    ensures { MatchOption result (IsInNoFrame (custody_of custody.now) uid page) (FrameSays (custody_of custody.now)) }
+    ensures { MatchOption result (IsInNoFrame (custody_of custody.now) uid page)
+        (λ r. IsOfAbsence uid page r × FrameSays (custody_of custody.now) r) }
 {
     if let Some(frame) = least_frame(script, custody, FrameSeek::BoundTo { uid, page }) {
         let page = PageOf { uid, page };
@@ -56,7 +57,7 @@ pub(crate) fn against_release(
 /// Why a frame isn't free.
 fn against_freedom(custody: &Custody, frame: u32) -> Option<FrameReason>
     ensures { MatchOption result ((custody_of custody.now).frame frame ≡ slot.Free)
-        (FrameSays (custody_of custody.now)) }
+        (λ r. IsOfFreedom frame r × FrameSays (custody_of custody.now) r) }
 {
     match custody.frame(frame) {
         FrameUse::Free => None,
@@ -82,7 +83,7 @@ fn against_coming(
     requires { AreTablesOf script.now custody.now }
     ensures { MatchOption result
         (((custody_of custody.now).frame frame ≡ slot.Free) × IsInNoFrame (custody_of custody.now) uid page)
-        (FrameSays (custody_of custody.now)) }
+        (λ r. IsOfComing frame uid page r × FrameSays (custody_of custody.now) r) }
 {
     match against_freedom(custody, frame) {
         Some(reason) => Some(reason),
@@ -99,8 +100,10 @@ pub(crate) fn against_start(
     page: u32,
 ) -> Option<Reason>
     requires { AreTablesOf script.now custody.now }
-    ensures { (s : Store) (e : Entry) → MatchOption result (MayStart script.now (custody_of custody.now) frame uid page)
-        (IsSo script.now s (custody_of custody.now) e) }
+    ensures start { (s : Store) → Tells script.now s (custody_of custody.now) (entry.Start frame uid page) result }
+    ensures here { (s : Store) → (custody_of custody.now).frame frame ≢ slot.Started uid page
+        → MatchOption result (MayStart script.now (custody_of custody.now) frame uid page)
+        (IsSo script.now s (custody_of custody.now) (entry.Here frame uid page)) }
 {
     if frame >= script.frames() {
         return Some(Reason::Absent(Absent::Frame { frame }));
@@ -160,7 +163,7 @@ pub(crate) fn against_lose(script: &Script, custody: &Custody, frame: u32) -> Op
 /// Why the page in a frame isn't current.
 pub(crate) fn against_current(custody: &Custody, frame: u32) -> Option<FrameReason>
     ensures { MatchOption result (is_current_frame ((custody_of custody.now).frame frame) ≡ true)
-        (FrameSays (custody_of custody.now)) }
+        (λ r. IsOfCurrent frame r × FrameSays (custody_of custody.now) r) }
 {
     match custody.frame(frame) {
         FrameUse::Free | FrameUse::Started { .. } => Some(FrameReason::NoPage { frame }),
@@ -185,8 +188,8 @@ pub(crate) fn against_take(script: &Script, custody: &Custody, frame: u32) -> Op
 /// Why the page in a frame, on its way out, may neither be gone nor back.
 pub(crate) fn against_end_of_page(script: &Script, custody: &Custody, frame: u32) -> Option<Reason>
     requires { AreTablesOf script.now custody.now }
-    ensures { (s : Store) (e : Entry) → MatchOption result (MayEndPage (custody_of custody.now) frame)
-        (IsSo script.now s (custody_of custody.now) e) }
+    ensures gone { (s : Store) → Tells script.now s (custody_of custody.now) (entry.GonePage frame) result }
+    ensures back { (s : Store) → Tells script.now s (custody_of custody.now) (entry.BackPage frame) result }
 {
     if frame >= script.frames() {
         return Some(Reason::Absent(Absent::Frame { frame }));

@@ -1,13 +1,13 @@
 ghost use Rattle.std.specs.Prelude.{◌≡◌, Some, MatchOption};
 ghost use Rattle.std.specs.Bool.{Decides};
 ghost use Rattle.script.specs.Plans.{Plan};
-ghost use Rattle.book.specs.declared.entries.Entry.{Entry};
 ghost use Rattle.custody_model.specs.Allowed.{IsFront, MayGo};
 ghost use Rattle.flat_model.specs.Store.{Store};
 ghost use Rattle.flat_store.specs.Shown.{Shows};
 ghost use Rattle.book.specs.declared.entries.Entry.TheVariants as entry;
 ghost use Rattle.custody.specs.Tables.{custody_of, seat_at};
 ghost use Rattle.clean_reasons.specs.Reasons.{IsSo, ReadySays, Tells};
+ghost use Rattle.clean_reasons.specs.Rows.{IsOfFront};
 
 use crate::reasons::{Absent, DescriptorAt, Held, ReadyReason, Reason, SeatReason};
 use crate::{row_descriptors, row_frames};
@@ -32,7 +32,7 @@ pub(crate) fn against_online(script: &Script, custody: &Custody, cpu: u32) -> Op
 /// Why a process isn't the first of those that are ready.
 fn against_front(custody: &Custody, process: u32) -> Option<ReadyReason>
     ensures { (s : Store) → MatchOption result (IsFront (custody_of custody.now).ready process)
-        (ReadySays s (custody_of custody.now)) }
+        (λ r. IsOfFront process r × ReadySays s (custody_of custody.now) r) }
 {
     match custody.front() {
         None => Some(ReadyReason::Empty),
@@ -70,10 +70,9 @@ pub(crate) fn against_load(
 
 /// Why a processor must run its process on.
 fn against_going(store: &FlatStore, custody: &Custody, cpu: u32, process: u32) -> Option<Reason>
-    ensures { (p : Plan) (s : Store) (e : Entry) → Shows p store.now s
-        → (seat_at custody.now.seats cpu).process ≡ Some process
+    ensures { (p : Plan) (s : Store) → Shows p store.now s → (seat_at custody.now.seats cpu).process ≡ Some process
         → MatchOption result (MayGo s (custody_of custody.now) (seat_at custody.now.seats cpu) process)
-        (IsSo p s (custody_of custody.now) e) }
+        (IsSo p s (custody_of custody.now) (entry.Leave cpu)) }
 {
     if store.has_ended(process) {
         return None;

@@ -3,13 +3,13 @@ ghost use Rattle.script.specs.Plans.{Plan};
 ghost use Rattle.tree_model.specs.Tree.{node_in};
 ghost use Rattle.flat_model.specs.Store.{Store};
 ghost use Rattle.flat_store.specs.Shown.{Shows};
-ghost use Rattle.book.specs.declared.entries.Entry.{Entry};
 ghost use Rattle.book.specs.declared.entries.Entry.TheVariants as entry;
 ghost use Rattle.custody_model.specs.Custody.{leads_to};
 ghost use Rattle.custody_model.specs.Effects.{HasNoDescriptor, HasNoPage};
 ghost use Rattle.custody_model.specs.Allowed.{pool_size, superior_in};
 ghost use Rattle.custody.specs.Tables.{AreNodes, AreTablesOf, CanJoin, custody_of};
 ghost use Rattle.clean_reasons.specs.Reasons.{ActiveSays, FrameSays, IsIn, IsReadInto, IsSo, Tells};
+ghost use Rattle.clean_reasons.specs.Rows.{IsOfDisuse};
 
 use crate::reasons::{
     Absent, ActiveReason, DescriptorAt, DescriptorReason, FrameReason, PageOf, Reason,
@@ -65,6 +65,8 @@ fn least_inferior(store: &FlatStore, custody: &Custody, uid: u32) -> Option<u32>
     ensures some { IfSome result (λ v. (custody_of custody.now).active v ≡ true) }
     ensures none { (p : Plan) (s : Store) → Shows p store.now s → IfNone result ((v : ℕ)
         → (custody_of custody.now).active v ≡ true → superior_in (node_in s.nodes v) ≢ Some uid) }
+    ensures below { (p : Plan) (s : Store) → Shows p store.now s → IfSome result
+        (λ v. superior_in (node_in s.nodes v) ≡ Some uid) }
 {
     for place in 0..custody.active_end() {
         let inferior = place as u32;
@@ -104,7 +106,8 @@ fn page_read(script: &Script, custody: &Custody, uid: u32) -> Option<PageAt>
 /// Why a page of a segment is in a frame, or being read into one.
 fn against_no_page(script: &Script, custody: &Custody, uid: u32) -> Option<FrameReason>
     requires { AreTablesOf script.now custody.now }
-    ensures { MatchOption result (HasNoPage (custody_of custody.now) uid) (FrameSays (custody_of custody.now)) }
+    ensures { MatchOption result (HasNoPage (custody_of custody.now) uid)
+        (λ r. IsOfDisuse uid r × FrameSays (custody_of custody.now) r) }
 {
     if let Some(at) = page_in(script, custody, uid) {
         let page = PageOf { uid, page: at.page };
@@ -140,7 +143,8 @@ fn against_disuse(script: &Script, custody: &Custody, uid: u32) -> Option<Reason
     requires { AreTablesOf script.now custody.now }
     ensures none { IfNone result (HasNoPage (custody_of custody.now) uid) }
     ensures free { IfNone result (HasNoDescriptor (custody_of custody.now) uid) }
-    ensures so { (s : Store) (e : Entry) → IfSome result (IsSo script.now s (custody_of custody.now) e) }
+    ensures so { (s : Store) → IfSome result
+        (IsSo script.now s (custody_of custody.now) (entry.Deactivate uid)) }
 {
     if let Some(reason) = against_no_page(script, custody, uid) {
         return Some(Reason::Frame(reason));

@@ -1,10 +1,10 @@
 ghost use Rattle.std.specs.Prelude.{◌≡◌, ℕ, None, MatchOption};
-ghost use Rattle.book.specs.declared.entries.Entry.{Entry};
 ghost use Rattle.custody_model.specs.Allowed.{NamesAllGoing};
 ghost use Rattle.flat_model.specs.Store.{Store};
 ghost use Rattle.book.specs.declared.entries.Entry.TheVariants as entry;
 ghost use Rattle.custody.specs.Tables.{AreTablesOf, DescriptorsAreNamed, FramesAreNamed, custody_of, seat_at};
 ghost use Rattle.clean_reasons.specs.Reasons.{DescriptorSays, FrameSays, IsSo, SeatSays, Tells};
+ghost use Rattle.clean_reasons.specs.Rows.{IsOfDue, IsOfNames, IsOfNaming};
 
 use crate::reasons::{Absent, DescriptorReason, FrameReason, Reason, SeatReason};
 use crate::seeking::{FrameSeek, LeadSeek, SeatSeek, least_cpu, least_descriptor, least_frame};
@@ -16,7 +16,7 @@ use script::Script;
 fn against_none_due(script: &Script, custody: &Custody) -> Option<SeatReason>
     requires { AreTablesOf script.now custody.now }
     ensures { MatchOption result ((d : ℕ) → (seat_at custody.now.seats d).due ≡ None)
-        (SeatSays (custody_of custody.now)) }
+        (λ r. IsOfDue r × SeatSays (custody_of custody.now) r) }
 {
     let cpu = least_cpu(script, custody, SeatSeek::Due)?;
     match custody.due_of(cpu) {
@@ -28,7 +28,8 @@ fn against_none_due(script: &Script, custody: &Custody) -> Option<SeatReason>
 /// Why a signal doesn't name each frame whose page is on its way out.
 fn against_frames(script: &Script, custody: &Custody, what: What) -> Option<FrameReason>
     requires { AreTablesOf script.now custody.now }
-    ensures { MatchOption result (FramesAreNamed (custody_of custody.now) what) (FrameSays (custody_of custody.now)) }
+    ensures { MatchOption result (FramesAreNamed (custody_of custody.now) what)
+        (λ r. IsOfNaming what r × FrameSays (custody_of custody.now) r) }
 {
     match least_frame(script, custody, FrameSeek::Unnamed { what }) {
         Some(frame) => Some(FrameReason::Unnamed { what, frame }),
@@ -40,7 +41,7 @@ fn against_frames(script: &Script, custody: &Custody, what: What) -> Option<Fram
 fn against_descriptors(script: &Script, custody: &Custody, what: What) -> Option<DescriptorReason>
     requires { AreTablesOf script.now custody.now }
     ensures { (s : Store) → MatchOption result (DescriptorsAreNamed (custody_of custody.now) what)
-        (DescriptorSays s (custody_of custody.now)) }
+        (λ r. IsOfNames what r × DescriptorSays s (custody_of custody.now) r) }
 {
     match least_descriptor(script, custody, LeadSeek::Unnamed { what }) {
         Some(descriptor) => Some(DescriptorReason::Unnamed { what, descriptor }),
@@ -51,8 +52,8 @@ fn against_descriptors(script: &Script, custody: &Custody, what: What) -> Option
 /// Why a signal doesn't name all that is on its way out.
 fn against_names(script: &Script, custody: &Custody, what: What) -> Option<Reason>
     requires { AreTablesOf script.now custody.now }
-    ensures { (s : Store) (e : Entry) → MatchOption result (NamesAllGoing (custody_of custody.now) what)
-        (IsSo script.now s (custody_of custody.now) e) }
+    ensures { (s : Store) (d : ℕ) → MatchOption result (NamesAllGoing (custody_of custody.now) what)
+        (IsSo script.now s (custody_of custody.now) (entry.Signal d what)) }
 {
     if let Some(reason) = against_frames(script, custody, what) {
         return Some(Reason::Frame(reason));

@@ -1,11 +1,10 @@
-use Rattle.book.specs.declared.entries.Entry.TheVariants as entry
 use Rattle.clean_reasons.proofs.judging.against_frames.Goals as goal
 
 pub returns-in-Release : goal.returns-in-Release
 returns-in-Release c = λ s is. rw c.in-Release.is (c.against_release.ensures s)
 
 pub returns-in-Start : goal.returns-in-Start
-returns-in-Start c = λ s is. rw c.in-Start.is (c.against_start.ensures s (entry.Start c.in-Start.frame c.in-Start.uid c.in-Start.page))
+returns-in-Start c = λ s is. rw c.in-Start.is (c.against_start.ensures.start s)
 
 pub returns-in-Lose : goal.returns-in-Lose
 returns-in-Lose c = λ s is. rw c.in-Lose.is (c.against_lose.ensures s)
@@ -17,7 +16,7 @@ pub returns-in-Take : goal.returns-in-Take
 returns-in-Take c = λ s is. rw c.in-Take.is (c.against_take.ensures s)
 
 pub returns-in-GonePage : goal.returns-in-GonePage
-returns-in-GonePage c = λ s is. rw c.in-GonePage.is (c.against_end_of_page.ensures s (entry.GonePage c.in-GonePage.frame))
+returns-in-GonePage c = λ s is. rw c.in-GonePage.is (c.against_end_of_page.ensures.gone s)
 
 pub returns-in-BackPage : goal.returns-in-BackPage
-returns-in-BackPage c = λ s is. rw c.in-BackPage.is (c.against_end_of_page-in-BackPage.ensures s (entry.BackPage c.in-BackPage.frame))
+returns-in-BackPage c = λ s is. rw c.in-BackPage.is (c.against_end_of_page-in-BackPage.ensures.back s)

@@ -1,4 +1,3 @@
-use Rattle.book.specs.declared.entries.Entry.TheVariants as entry
 use Rattle.clean_reasons.proofs.judging.against_segments.Goals as goal
 
 pub returns-in-Moved : goal.returns-in-Moved
@@ -8,7 +7,7 @@ pub returns-in-Cut : goal.returns-in-Cut
 returns-in-Cut c = λ s shown nodes is. rw c.in-Cut.is (c.against_cut.ensures s)
 
 pub returns-in-GoneSeg : goal.returns-in-GoneSeg
-returns-in-GoneSeg c = λ s shown nodes is. rw c.in-GoneSeg.is (c.against_end_of_seg.ensures s (entry.GoneSeg c.in-GoneSeg.process c.in-GoneSeg.number))
+returns-in-GoneSeg c = λ s shown nodes is. rw c.in-GoneSeg.is (c.against_end_of_seg.ensures.gone s)
 
 pub returns-in-BackSeg : goal.returns-in-BackSeg
-returns-in-BackSeg c = λ s shown nodes is. rw c.in-BackSeg.is (c.against_end_of_seg-in-BackSeg.ensures s (entry.BackSeg c.in-BackSeg.process c.in-BackSeg.number))
+returns-in-BackSeg c = λ s shown nodes is. rw c.in-BackSeg.is (c.against_end_of_seg-in-BackSeg.ensures.back s)

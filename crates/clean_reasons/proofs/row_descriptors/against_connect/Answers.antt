@@ -8,3 +8,8 @@ returns-in-Free c = λ s shown. record {
   active = sym c.is_active.ensures ∙ (search rules);
   free = sym c.descriptor.ensures ∙ c.in-Free.is;
 }
+
+pub returns-in-Some : goal.returns-in-Some
+returns-in-Some c = λ s shown.
+    let h = c.in-Some.ensures c.args.script.now s (custody_of c.args.custody.now) shown in
+    record { about = h.0; said = h.1 }

@@ -7,3 +7,6 @@ returns-in-None c = λ s. record {
   empty = sym c.process_of.ensures ∙ c.in_default.is;
   front = c.in-None.ensures s;
 }
+
+pub returns-in-Some-against_front : goal.returns-in-Some-against_front
+returns-in-Some-against_front c = λ s. let h = c.in-Some-against_front.ensures s in record { about = h.0; said = h.1 }

@@ -1,13 +1,21 @@
 use Rattle.std.proofs.Common.{◌≡◌, true, sym, ◌∙◌, arith, rules}
 use Rattle.std.specs.Prelude.{IfSome, is_some}
-use Rattle.clean_reasons.proofs.RowLaws.{activates, full, if_none, if_some}
+use Rattle.clean_reasons.proofs.RowLaws.{activates, full, if_none, if_some, in_pool}
 use Rattle.custody.specs.Tables.{active_at}
+use Rattle.tree_model.specs.Tree.{node_in}
 use Rattle.clean_reasons.proofs.row_segments.against_activate.Goals.{in-Some-superior+else-not-is_active, in_default-superior}
 use Rattle.clean_reasons.proofs.row_segments.against_activate.Goals as goal
 
 pub returns-then-in_pool-places : goal.returns-then-in_pool-places
-returns-then-in_pool-places c = λ s shown nodes. full s c.args.custody.now c.in-Some.pool c.pool_size-places.result nodes
-    (omega (arith, c.if-in_pool-places.true, c.in_pool.ensures))
+returns-then-in_pool-places c = λ s shown nodes. record {
+  about = record {
+    pool = in_pool (node_in s.nodes c.args.uid) c.pool.result c.in-Some.pool (c.pool.ensures c.args.script.now s shown)
+        c.in-Some.is;
+    size = c.pool_size-places.ensures;
+  };
+  said = full s c.args.custody.now c.in-Some.pool c.pool_size-places.result nodes
+      (omega (arith, c.if-in_pool-places.true, c.in_pool.ensures));
+}
 
 pub returns : goal.returns
 returns c = λ s shown nodes.

@@ -18,4 +18,4 @@ returns c = λ s shown.
     (IsSo c.args.script.now s (custody_of c.args.custody.now) (entry.Deactivate c.args.uid)) c.against_disuse.result
     (λ h d. record { active = is; inferiors = below; pages = h; descriptors = d })
     c.against_disuse.ensures.none c.against_disuse.ensures.free
-    (c.against_disuse.ensures.so s (entry.Deactivate c.args.uid))
+    (c.against_disuse.ensures.so s)

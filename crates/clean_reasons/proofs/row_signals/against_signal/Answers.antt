@@ -17,4 +17,4 @@ returns c = λ s.
       something = c.something_goes.ensures.0 (search rules);
       all = h;
     })
-    (c.against_names.ensures s (entry.Signal c.args.cpu c.args.what))
+    (c.against_names.ensures s c.args.cpu)
