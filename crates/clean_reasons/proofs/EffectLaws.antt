@@ -1,5 +1,5 @@
 -- What is told of a page that a `truncate` cuts.
-use Rattle.std.proofs.Common.{◌≡◌, ◌≢◌, ℕ, ◌*◌, ◌+◌, ◌<◌, ◌≤◌, Bool, true, false, ◌||◌, ◌&&◌, refl, sym, subst, ◌∙◌}
+use Rattle.std.proofs.Common.{◌≡◌, ◌≢◌, ℕ, ◌*◌, ◌+◌, ◌<◌, ◌≤◌, Bool, true, false, ◌||◌, ◌&&◌, refl, sym, subst}
 use Rattle.std.proofs.Common.{Some, arith, inl, inr, leb, ltb}
 use Rattle.std.proofs.lemmas.Bool.{cases_lt, lt-leb, ltb-true}
 use Rattle.flat_model.specs.Pages.{is_zero_page, without_words}

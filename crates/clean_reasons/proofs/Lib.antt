@@ -1,4 +1,5 @@
 pub mod EffectLaws
 pub mod SeekLaws
 pub mod FrameLaws
+pub mod RefusalLaws
 pub mod RowLaws

@@ -215,6 +215,15 @@ pub record IsSo (p : Plan) (s : Store) (c : Custody) (e : Entry) (r : Reason) : 
   pub about : IsAbout p s c e r
   pub said : IsSaid p s c r
 
+-- whether a reason is that the script hasn't what the entry names
+abbrev pub is_absent : Reason → Bool
+is_absent (reason.Absent r) = true
+is_absent _ = false
+
+-- Each other reason that is so of an entry refuses it by itself.
+abbrev pub AreRefusals : Plan → Store → Custody → Entry → Type 0
+AreRefusals p s c e = (r : Reason) → is_absent r ≡ false → IsSo p s c e r → IsAllowed p s c e → ⊥
+
 -- what an answer tells of an entry: without a reason the entry is allowed, and a reason is so
 abbrev pub Tells : Plan → Store → Custody → Entry → Option Reason → Type 0
 Tells p s c e r = MatchOption r (IsAllowed p s c e) (IsSo p s c e)

@@ -4,7 +4,7 @@ ghost use Rattle.flat_store.specs.Shown.{Shows};
 ghost use Rattle.custody_model.specs.Allowed.{IsAllowed};
 ghost use Rattle.custody.specs.Tables.{AreNodes, AreTablesOf, custody_of};
 ghost use Rattle.clean_reasons.specs.Entries.{is_answer, is_of_frames, is_of_seats, is_of_segments};
-ghost use Rattle.clean_reasons.specs.Reasons.{IsSo, Tells};
+ghost use Rattle.clean_reasons.specs.Reasons.{AreRefusals, IsSo, Tells};
 
 use crate::reasons::Reason;
 use crate::row_commands::{Answer, against_do};
@@ -152,6 +152,7 @@ fn against(script: &Script, store: &FlatStore, custody: &Custody, e: Entry) -> O
 ///
 /// Where a condition speaks of all of several, the least for which it fails is named. A refusal costs at most a look at
 /// all frames, all descriptors or all active segments.
+#[tactic(auto, using(crate::proofs::RefusalLaws::refutes))]
 pub fn why_not(script: &Script, store: &FlatStore, custody: &Custody, e: &Entry) -> Option<Reason>
     requires tables { AreTablesOf script.now custody.now }
     ensures allowed { (s : Store) → Shows script.now store.now s → AreNodes s.nodes custody.now.active
@@ -160,6 +161,7 @@ pub fn why_not(script: &Script, store: &FlatStore, custody: &Custody, e: &Entry)
         → IfSome result (λ r. IsAllowed script.now s (custody_of custody.now) e.now → ⊥) }
     ensures so { (s : Store) → Shows script.now store.now s → AreNodes s.nodes custody.now.active
         → IfSome result (IsSo script.now s (custody_of custody.now) e.now) }
+    ensures each { (s : Store) → AreRefusals script.now s (custody_of custody.now) e.now }
 {
     if custody.allows(script, store, *e) {
         return None;
