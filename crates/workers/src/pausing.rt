@@ -1,9 +1,35 @@
-//! How a worker gives way to others.
+//! How a worker gives way to others, and what ends its rest.
 
+use std::sync::atomic::{AtomicU32, Ordering};
 use std::thread;
 
 /// The most turns that a worker gives way before it looks again.
 const MOST_TURNS: u32 = 64;
+
+/// What ends the rest of the workers: it is rung where each processor has something to drop.
+#[derive(Drop)]
+pub(crate) struct Bell {
+    rings: AtomicU32,
+}
+
+impl Bell {
+    /// A bell that wasn't rung yet.
+    pub(crate) fn new() -> Bell {
+        Bell {
+            rings: AtomicU32::new(0),
+        }
+    }
+
+    /// Ends the rest of all that heard it less often.
+    pub(crate) fn ring(&self) {
+        self.rings.fetch_add(1, Ordering::Relaxed);
+    }
+
+    /// How often it was rung, modulo 2^32.
+    pub(crate) fn rings(&self) -> u32 {
+        self.rings.load(Ordering::Relaxed)
+    }
+}
 
 /// How many turns a worker gives way before it looks again: one at first, each time twice as many, up to a bound.
 #[derive(Drop)]
@@ -21,6 +47,19 @@ impl Pause {
     pub(crate) fn give_way(&mut self) {
         for _ in 0..self.turns {
             thread::yield_now();
+        }
+        self.turns = self.turns.saturating_mul(2).min(MOST_TURNS);
+    }
+
+    /// The same, but for a bell that was heard so often: once it is rung again the rest is over, and the next one has
+    /// one turn.
+    pub(crate) fn rest(&mut self, bell: &Bell, heard: u32) {
+        for _ in 0..self.turns {
+            thread::yield_now();
+            if bell.rings() != heard {
+                self.turns = 1;
+                return;
+            }
         }
         self.turns = self.turns.saturating_mul(2).min(MOST_TURNS);
     }

@@ -3,7 +3,7 @@
 ghost use Rattle.std.specs.Prelude.{◌<◌};
 
 use crate::locked::{Locked, Run};
-use crate::pausing::Pause;
+use crate::pausing::{Bell, Pause};
 use machine::Turn;
 use site_io::{Gate, Point};
 use std::sync::{Mutex, MutexGuard, Wait};
@@ -32,28 +32,33 @@ fn hold<'a, T, R: Wait>(rt: &R, lock: &'a Mutex<T>) -> MutexGuard<'a, T> {
 
 /// Makes steps of processor `cpu`, one a hold of the lock, until its processes have ended, the machine is stopped, or
 /// too many steps in a row of the machine answered no command. Between two holds it passes the gate. After a step that
-/// waits other threads go first, for longer each time.
+/// waits other threads go first, for longer each time, until a signal asks each processor to drop something.
 pub(crate) fn work<N: Run, D: Drive, G: Gate, R: Threads + Wait + Sync>(
     rt: &R,
     locked: &Mutex<Locked<N, D>>,
     gate: &G,
+    bell: &Bell,
     cpu: u32,
 )
     requires { cpu < N.cpus }
 {
     let mut pause = Pause::new();
     for _ in 0..MOST_STEPS {
+        let heard = bell.rings();
         let Some(turn) = hold(rt, locked).turn(cpu) else {
             break;
         };
         match turn {
             Turn::Moved(point) => {
+                if matches!(point, Point::Signalled) {
+                    bell.ring();
+                }
                 gate.hold(rt, cpu, point);
                 pause = Pause::new();
             }
             Turn::Waits(_) => {
                 gate.hold(rt, cpu, Point::Other);
-                pause.give_way();
+                pause.rest(bell, heard);
             }
             Turn::Ended | Turn::Stopped => break,
         }
