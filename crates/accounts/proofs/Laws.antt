@@ -7,7 +7,7 @@ use Rattle.std.proofs.lemmas.Bool.{cases_Bool, cases_eq, eq-eqb, ne_eqb}
 use Rattle.std.proofs.lemmas.List.{length-map}
 use Rattle.tree_model.specs.Access.{Row, with_row}
 use Rattle.tree_model.specs.Tree.{Node as Term, has_directory, node_in, quota_in as quota_at, with_node, without_node}
-use Rattle.tree_model.specs.Trees.{has_segment, HasChains, IsTree, Joins, AreBelow}
+use Rattle.tree_model.specs.Trees.{has_segment, HasChains, IsTree, AreBelow}
 use Rattle.dir_tree.specs.declared.node.Node.{Node}
 use Rattle.dir_tree.specs.declared.node.NewNode.{NewNode}
 use Rattle.dir_tree.specs.Nodes.{Branches, as_term, with_quotas, node_of, is_in, is_directory, is_segment, added}
@@ -22,6 +22,8 @@ use Rattle.dir_tree.specs.Index.{no_node}
 use Rattle.quota_cells.specs.Laws.{look_absent, on_directories, on_segments}
 use Rattle.accounts.specs.Maps.{AccountMaps, HasColumns, accounts_of, count_of, entry_of, branch_of, Recounts, Changes}
 use Rattle.accounts.specs.Maps.{Gains, Loses, Rehomes, rehomed, rows_in, with_row_in}
+use Rattle.tree_model.proofs.TreeLaws.{joined_below}
+use Rattle.laws.proofs.Options.{none_there}
 
 -- ---- uids of the tree
 
@@ -33,10 +35,6 @@ directory_any q = kind_of_directory (as_term q) (λ n. refl) (λ n. refl)
 
 there_any : (q : ℕ → ℕ) (ns : List Node) (u : ℕ) → is_some (node_in (with_quotas q ns) u) ≡ is_in ns u
 there_any q = uid_shown (as_term q) (λ n. refl) (λ n. refl)
-
-none_there : {X : Type 0} (o : Option X) → is_some o ≡ false → o ≡ None
-none_there None e = refl
-none_there (Some x) e = cc
 
 pub walked : {E : Type 0} (q : ℕ → ℕ) (ns : List Node) (r : Result ℕ E) → IfOk r (λ u. is_in ns u ≡ true)
     → IfOk r (λ u. is_some (node_in (with_quotas q ns) u) ≡ true)
@@ -313,10 +311,6 @@ rows_any q (n ∷ ns) u = elim (cases_Bool (eqb n.uid u)) [ inl is ↦ rw is ref
 pub rows_shown : (t : Branches) (c : CellMaps) (u : ℕ) → rows_in (accounts_of t c).nodes u ≡ acl_of t.nodes u
 rows_shown t c u = rows_any (quota_in c) t.nodes u
 
-below_all : (ns : List Term) (o : Option ℕ) (n : Term) → Joins ns o n → AreBelow n.uid ns
-below_all ns None n j = rw j.first tt
-below_all ns (Some s) n j = j.later
-
 none_changed : (ns : List Node) (uid : ℕ) (change : Node → Node) → AreBelow uid (shapes ns)
     → with_changed uid change ns ≡ ns
 none_changed [] uid change below = refl
@@ -332,7 +326,7 @@ own_list f [] tree uid rows is = refl
 own_list f (n ∷ ns) tree uid rows is = elim (cases_eq n.uid uid) [
   | inl same ↦
       (let below : AreBelow uid (shapes ns) = subst (λ u. AreBelow u (shapes ns)) same
-      (below_all (shapes ns) n.superior (shape n) tree.0) in
+      (joined_below (shapes ns) n.superior (shape n) tree.0) in
       let own : n.acl ≡ rows = rw (eq-eqb n.uid uid same) at is in
       rw (eq-eqb n.uid uid same)
       (ap (λ (m : Node). m ∷ with_changed uid (λ n. record n { acl = f rows }) ns)
@@ -431,7 +425,7 @@ entries_set q [] uid volume entry tree = refl
 entries_set q (n ∷ ns) uid volume entry tree = elim (cases_eq n.uid uid) [
   | inl same ↦
       (let below : AreBelow uid (shapes ns) = subst (λ u. AreBelow u (shapes ns)) same
-      (below_all (shapes ns) n.superior (shape n) tree.0) in
+      (joined_below (shapes ns) n.superior (shape n) tree.0) in
       rw (eq-eqb n.uid uid same)
       (ap (λ (ms : List Node). entry ∷ map (λ n. n.entry) ms) (none_changed ns uid _ below)))
   | inr other ↦ rw (ne_eqb n.uid uid other)

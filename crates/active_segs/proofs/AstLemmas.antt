@@ -18,10 +18,11 @@ use Rattle.active_segs.proofs.InferiorLemmas.{IsSuperiorPlace, superior_placed, 
 use Rattle.active_segs.proofs.InferiorLemmas.{noted_deactivated}
 use Rattle.active_segs.specs.Victim.{leaf_below, leaf_of, victim_of, off_chain, hand_of, round_pool, first_off_chain}
 use Rattle.active_segs.specs.Victim.{StandsFor, IsVictim, HasOneOffChain}
-use Rattle.active_segs.proofs.DescentLemmas.{round_reaches, round_found, off_is_used, find_passes}
+use Rattle.active_segs.proofs.DescentLemmas.{round_reaches, round_found, off_is_used}
 use Rattle.active_segs.proofs.EntryLemmas.{tree_activated, tree_deactivated, used_within}
 use Rattle.active_segs.proofs.PlaceLemmas.{pool_within, not_all_used, marked_set, indexed_activated}
 use Rattle.active_segs.proofs.PlaceLemmas.{indexed_deactivated}
+use Rattle.laws.proofs.Lists.{find_passes}
 
 -- ---- search
 

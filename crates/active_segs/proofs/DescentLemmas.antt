@@ -15,6 +15,7 @@ use Rattle.active_segs.specs.Victim.{IsOffChain}
 use Rattle.active_segs.specs.Kept.{IsActiveAt}
 use Rattle.active_segs.proofs.EntryLemmas.{used_within, used_since_superior}
 use Rattle.active_segs.proofs.LeafLemmas.{one_step_more, stays_at_leaf}
+use Rattle.laws.proofs.Lists.{find_passes}
 
 -- ---- the leaf
 
@@ -125,14 +126,6 @@ off_leaf xs chain (suc n) place leaf closed off (q, least, d) =
     off_leaf xs chain n q leaf closed (off_below xs chain place q closed off least) d
 
 -- ---- the first place off the chain
-
-pub find_passes : {X : Type 0} (p : X → Bool) (xs : List X) (x : X) → find p xs ≡ Some x → p x ≡ true
-find_passes {X} p [] x e = absurd (none-some x e)
-find_passes {X} p (y ∷ xs) x e = at (find_passes p xs x) (p y) refl e
-  where
-    at : (find p xs ≡ Some x → p x ≡ true) → (b : Bool) → p y ≡ b → cond b (Some y) (find p xs) ≡ Some x → p x ≡ true
-    at ih true is e' = ap p (sym (same_Some y x e')) ∙ is
-    at ih false is e' = ih e'
 
 pub victim_off : (s : ActiveSegs) (pool : ℕ) (chain : List ℕ) (a : ℕ) → HasItsSuperiors s.entries chain
     → IsVictim s pool chain a → IsOffChain s.entries chain a

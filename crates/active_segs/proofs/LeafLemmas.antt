@@ -1,17 +1,16 @@
 -- The leaf below a place as a function: the least inferior, and steps down.
-use Rattle.std.proofs.Common.{◌≡◌, ◌≢◌, ℕ, zero, suc, ◌<◌, ◌≤◌, Bool, true, false, not, List, length, Option}
-use Rattle.std.proofs.Common.{Some, None, refl, ap, ◌∙◌, arith, get_or}
+use Rattle.std.proofs.Common.{◌≡◌, ◌≢◌, ℕ, zero, suc, ◌<◌, Bool, true, false, List, length, Option}
+use Rattle.std.proofs.Common.{Some, None, refl, ap, ◌∙◌, get_or}
 use Rattle.std.proofs.Common.{inl, inr, position}
-use Rattle.std.specs.List.{position_or_len}
-use Rattle.std.proofs.lemmas.Bool.{cases_order, eqb-true, eq-eqb, ne_eqb, not-true, both_ways}
+use Rattle.std.proofs.lemmas.Bool.{cases_order, eqb-true, eq-eqb, ne_eqb, both_ways}
 use Rattle.std.proofs.lemmas.List.Quantifiers.{position-Some}
-use Rattle.std.proofs.lemmas.List.Sums.{prefix_len_passes}
 use Rattle.std.proofs.lemmas.Option.{none-some, same_Some}
 use Rattle.active_segs.specs.declared.Entry.{Entry}
 use Rattle.active_segs.specs.Active.{uid_at, superior_at, HasNoInferior}
 use Rattle.active_segs.specs.Victim.{is_inferior_in, is_inferior_of, least_inferior_of, least_inferior, stead_of}
 use Rattle.active_segs.specs.Victim.{leaf_below, IsLeastInferior}
 use Rattle.active_segs.proofs.EntryLemmas.{superior_within}
+use Rattle.laws.proofs.Lists.{position_none, position_nowhere}
 
 pub inferior_yes : (u : ℕ) (o : Option ℕ) → o ≡ Some u → is_inferior_in u o ≡ true
 inferior_yes u None e = absurd (none-some u e)
@@ -26,12 +25,6 @@ is_inferior u None e = cc
 is_inferior u (Some s) e = ap (λ (k : ℕ). Some k) (eqb-true s u e)
 
 -- ---- the first place that passes
-
-pub position_none : {X : Type 0} (p : X → Bool) (xs : List X) → position p xs ≡ None → (k : ℕ) (d : X) → k < length xs
-    → p (get_or xs k d) ≡ false
-position_none p xs e k d within =
-    let past : length xs ≤ position_or_len p xs = grind arith in
-    not-true _ (prefix_len_passes (λ x. not (p x)) xs k d (omega arith))
 
 position_is : {X : Type 0} (p : X → Bool) (xs : List X) (q : ℕ) (d : X) → q < length xs → p (get_or xs q d) ≡ true
     → ((k : ℕ) → k < q → p (get_or xs k d) ≡ false) → position p xs ≡ Some q
@@ -49,17 +42,6 @@ position_is {X} p xs q d within passes before = at (position p xs) refl
             | inr higher ↦ absurd (both_ways _ (h.2 q higher) passes)
           ]
         ]
-
-position_nowhere : {X : Type 0} (p : X → Bool) (xs : List X) (d : X) → ((k : ℕ) → p (get_or xs k d) ≡ false)
-    → position p xs ≡ None
-position_nowhere {X} p xs d never = at (position p xs) refl
-  where
-    at : (o : Option ℕ) → position p xs ≡ o → o ≡ None
-    at None is = refl
-    at (Some r) is =
-        let h : (r < length xs) × (p (get_or xs r d) ≡ true) × ((k : ℕ) → k < r → p (get_or xs k d) ≡ false) =
-        position-Some p xs r d is in
-        absurd (both_ways _ (never r) h.1)
 
 -- ---- the least inferior
 

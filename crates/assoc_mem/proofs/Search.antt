@@ -9,6 +9,7 @@ use Rattle.std.proofs.lemmas.Option.{none-some}
 use Rattle.assoc_mem.specs.declared.HeldSeg.{HeldSeg}
 use Rattle.assoc_mem.specs.declared.HeldPage.{HeldPage}
 use Rattle.assoc_mem.specs.Held.{is_number, is_page}
+use Rattle.laws.proofs.Options.{none_there, none_mapped}
 
 module _ {X : Type 0} (p : X → Bool) where
   find_none : (xs : List X) → find p xs ≡ None → (k : ℕ) (d : X) → k < length xs → p (get_or xs k d) ≡ false
@@ -28,21 +29,13 @@ module _ {X : Type 0} (p : X → Bool) where
       ap (λ (b : Bool). cond b (Some x) (find p xs)) (all 0 x (omega arith))
       ∙ none_find xs (λ k d lt. all (suc k) d (omega arith))
 
-none_is : {X : Type 0} (o : Option X) → is_some o ≡ false → o ≡ None
-none_is None h = refl
-none_is (Some x) h = cc
-
 pub no_seg : (xs : List HeldSeg) (number : ℕ) (r : Option HeldSeg) → r ≡ find (is_number number) xs → IsNone r
     ↔ All (λ entry. entry.number ≢ number) xs
 no_seg xs number r is = (
-  λ h. λ k d lt same. both_ways _ (find_none (is_number number) xs (sym is ∙ none_is r h) k d lt) (eq-eqb _ _ same),
+  λ h. λ k d lt same. both_ways _ (find_none (is_number number) xs (sym is ∙ none_there r h) k d lt) (eq-eqb _ _ same),
   λ all. ap is_some (is ∙ none_find (is_number number) xs
       (λ k d lt. false_from_ne_true _ (λ on. all k d lt (eqb-true _ _ on)))),
 )
-
-none_mapped : {X Y : Type 0} (f : X → Y) (o : Option X) → is_some (option_map f o) ≡ is_some o
-none_mapped f None = refl
-none_mapped f (Some x) = refl
 
 pub no_page : (xs : List HeldPage) (uid page : ℕ) (r : Option ℕ) → r
     ≡ option_map (λ entry. entry.frame) (find (is_page uid page) xs)
@@ -50,7 +43,7 @@ pub no_page : (xs : List HeldPage) (uid page : ℕ) (r : Option ℕ) → r
 no_page xs uid page r is =
     let same_variant : is_some r ≡ is_some (find (is_page uid page) xs) = ap is_some is
     ∙ none_mapped (λ (entry : HeldPage). entry.frame) (find (is_page uid page) xs) in (
-      λ h. λ k d lt same_uid same_page. both_ways _ (find_none (is_page uid page) xs (none_is _ (sym same_variant ∙ h))
+      λ h. λ k d lt same_uid same_page. both_ways _ (find_none (is_page uid page) xs (none_there _ (sym same_variant ∙ h))
           k d lt)
           (and_from _ _ (eq-eqb _ _ same_uid) (eq-eqb _ _ same_page)),
       λ all. same_variant ∙ ap is_some (none_find (is_page uid page) xs (λ k d lt. false_from_ne_true _ (λ on.

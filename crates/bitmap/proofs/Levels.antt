@@ -1,9 +1,9 @@
 use Rattle.std.proofs.Common.{◌≡◌, ◌≢◌, ℕ, ◌+◌, ◌-◌, ◌*◌, ◌/◌, ◌%◌, ◌^◌, ◌<◌, ◌≤◌, Bool, true, false, not, cond, eqb}
-use Rattle.std.proofs.Common.{List, length, Some, None, refl, sym, ap, ◌∙◌, arith, get_or, set, inl, inr, ◌⊎◌}
+use Rattle.std.proofs.Common.{List, length, Some, None, refl, sym, ap, ◌∙◌, arith, get_or, set, inl, inr}
 use Rattle.std.proofs.Common.{slice_index, count_by, All}
 use Rattle.std.specs.Int.{bit_at, w64, trailing_ones}
 use Rattle.std.specs.List.{prefix_len}
-use Rattle.std.proofs.lemmas.Bool.Decides.{eqb_tells, leb_tells}
+use Rattle.std.proofs.lemmas.Bool.Decides.{eqb_tells}
 use Rattle.std.proofs.lemmas.Bool.{cases_eq, lt-ltb, le-ltb}
 use Rattle.std.proofs.lemmas.List.{length-set, get_or_read}
 use Rattle.std.proofs.lemmas.List.Elements.{All-get_or, All-from_get_or}
@@ -15,6 +15,7 @@ use Rattle.bitmap.proofs.BitLemmas.{word_with_other, word_without_other, length_
 use Rattle.bitmap.proofs.BitLemmas.{on_with_bit, off_without_bit, on_with_other, on_without_other, on_in_full_word}
 use Rattle.bitmap.proofs.BitLemmas.{off_word_has_room, length_flags, flag_at, flags_with_bit, flags_without_bit}
 use Rattle.bitmap.proofs.BitLemmas.{count_with, count_without}
+use Rattle.laws.proofs.Numbers.{below_or_past}
 
 -- a test for equality that fails, and one that holds
 pub off_test : (a b : ℕ) → a ≢ b → eqb a b ≡ false
@@ -22,10 +23,6 @@ off_test a b ne = elim (eqb_tells a b) [ inl h ↦ absurd (ne h.1) | inr h ↦ h
 
 on_test : (a b : ℕ) → eqb a b ≡ true → a ≡ b
 on_test a b on = elim (eqb_tells a b) [ inl h ↦ h.1 | inr h ↦ (let off = h.0 in cc) ]
-
--- a number is below another, or past it
-below_or_past : (a b : ℕ) → (a < b) ⊎ (b ≤ a)
-below_or_past a b = elim (leb_tells b a) [ inl h ↦ inr h.1 | inr h ↦ inl h.1 ]
 
 -- the upper level where the lower one may have become full
 length_full : (b : Bool) (full : List ℕ) (w : ℕ) → length (cond b (with_bit full w) full) ≡ length full

@@ -15,7 +15,8 @@ use Rattle.flat_model.specs.Legal.{after_fault, is_part, last_of, part, store_af
 use Rattle.flat_model.specs.Store.{Progress, Store, progress_of}
 use Rattle.flat_model.proofs.BookLaws.{last_of-push, part-push, part-skip, store_after-push}
 use Rattle.book_check.specs.Judging.{EndsAgree, HaveEnded}
-use Rattle.book_check.proofs.ProgressLaws.{going_there, progress_after, progress_with}
+use Rattle.book_check.proofs.ProgressLaws.{progress_after, progress_with}
+use Rattle.flat_model.proofs.SharedLaws.{going_within}
 
 -- the end of a process is the one command that ends it
 ended_by : (q : Progress) (c : Command) (r : Reply) → q.ended ≡ false
@@ -80,7 +81,7 @@ module _ (p : Plan) (es : List Entry) (k : ℕ) (agree : Decides (progress_of (s
       s = store_after p es
 
       there : j < length s.processes
-      there = going_there s j lawful.going
+      there = going_within s j lawful.going
 
       own : (o : Option Command) → command_at p k place ≡ o → IsAnswer p s j o r → j ≡ k
           → Decides (progress_of (after_do p s j o r) k).ended (command_at p k place ≡ Some command.End)
@@ -134,12 +135,12 @@ module _ (p : Plan) (es : List Entry) (k : ℕ) (agree : Decides (progress_of (s
       by_process : (z : Bool) → eqb k j ≡ z → (progress_of (after_fault s (Some j)) k).ended ≡ (progress_of s k).ended
       by_process true mine =
           let same : k ≡ j = grind (arith, nat_tests) in
-          let now : progress_of (after_fault s (Some j)) k ≡ q = progress_with s j k q (going_there s j may)
+          let now : progress_of (after_fault s (Some j)) k ≡ q = progress_with s j k q (going_within s j may)
           ∙ rw mine refl in
           ap (λ (x : Progress). x.ended) now ∙ ap (λ (i : ℕ). (progress_of s i).ended) (sym same)
       by_process false other =
           let now : progress_of (after_fault s (Some j)) k ≡ progress_of s k =
-          progress_with s j k q (going_there s j may) ∙ rw other refl in
+          progress_with s j k q (going_within s j may) ∙ rw other refl in
           ap (λ (x : Progress). x.ended) now
 
   pub end_pushed : (e : Entry) → k < length (store_after p es).processes → IsLawful p (store_after p es) e

@@ -1,6 +1,6 @@
 -- How the lines of an input are passed (own).
 use Rattle.std.proofs.Common.{◌≡◌, ℕ, suc, ◌+◌, ◌-◌, ◌<◌, ◌≤◌, true, false, List, [], ◌∷◌, ◌++◌, length, refl, sym, ap}
-use Rattle.std.proofs.Common.{◌∙◌, arith, take, drop}
+use Rattle.std.proofs.Common.{◌∙◌, arith, take, drop, append-nil}
 use Rattle.std.proofs.lemmas.Grind.{common_steps}
 use Rattle.std.proofs.lemmas.List.{append_assoc, length-append, drop-drop}
 use Rattle.std.proofs.Math.Seq.{take-add}
@@ -8,10 +8,6 @@ use Rattle.script.proofs.LineSteps.{all_left, lines_nil}
 use Rattle.script.specs.Fields.{lines_of}
 use Rattle.book_check.specs.Inputs.{is_book, script_lines, listing_lines, first_number}
 use Rattle.book_check.specs.Passing.{Closes, IsAtLine}
-
-nil_after : {A : Type 0} (xs : List A) → xs ++ [] ≡ xs
-nil_after [] = refl
-nil_after (x ∷ xs) = ap (λ t. x ∷ t) (nil_after xs)
 
 script_other : (line : List ℕ) (lines : List (List ℕ)) → is_book line ≡ false → script_lines (line ∷ lines) ≡ line
     ∷ script_lines lines
@@ -62,7 +58,7 @@ module _ (bytes line rest : List ℕ) (at number : ℕ) (lt : at < length bytes)
 
     pub book_script : is_book line ≡ true → lines_of (take at bytes) ≡ script_lines (lines_of bytes)
     book_script book =
-        let whole : take at bytes ++ [] ≡ take at bytes = nil_after (take at bytes) in
+        let whole : take at bytes ++ [] ≡ take at bytes = append-nil (take at bytes) in
         sym (ap lines_of whole) ∙ is.passed.closed lt [] ∙ ap (λ (t : List (List ℕ)). is.before ++ t) lines_nil
         ∙ sym
         (is.passed.script ∙ ap (λ (t : List (List ℕ)). is.before ++ script_lines t) here
@@ -149,6 +145,6 @@ module _ (bytes : List ℕ) (at number : ℕ) (ge : length bytes ≤ at) (is : I
   pub end_first : number ≡ first_number (lines_of bytes)
   end_first =
       let whole : length (lines_of bytes) ≡ length is.before =
-      ap length (is.passed.lines ∙ ap (λ (t : List (List ℕ)). is.before ++ t) none ∙ nil_after is.before) in
+      ap length (is.passed.lines ∙ ap (λ (t : List (List ℕ)). is.before ++ t) none ∙ append-nil is.before) in
       let left : length (listing_lines (lines_of bytes)) ≡ 0 = ap length (sym end_listing ∙ lines_nil) in
       omega (arith, whole, left, is.count)

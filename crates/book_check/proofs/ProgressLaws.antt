@@ -135,16 +135,6 @@ pub progress_with : (s : Store) (k j : ℕ) (q : Progress) → k < length s.proc
     ≡ cond (eqb j k) q (progress_of s j)
 progress_with s k j q lt = set_at s.processes k j q _ lt
 
--- a process that hasn't ended is there
-pub going_there : (s : Store) (k : ℕ) → (progress_of s k).ended ≡ false → k < length s.processes
-going_there s k h = each s.processes k h
-  where
-    each : (qs : List Progress) (i : ℕ) → (get_or qs i
-        (record { place = 0; tries = 0; ended = true; faulted = false })).ended ≡ false → i < length qs
-    each [] i e = absurd cc
-    each (q ∷ qs) zero e = omega arith
-    each (q ∷ qs) (suc i) e = let lt = each qs i e in omega (arith, lt)
-
 pub progress_after : (p : Plan) (s : Store) (k j : ℕ) (c : Command) (r : Reply) → k < length s.processes
     → progress_of (after_command p s k c r) j ≡ cond (eqb j k) (gone_on (progress_of s k) c r) (progress_of s j)
 unfolding after_command

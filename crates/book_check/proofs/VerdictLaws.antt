@@ -1,6 +1,6 @@
 -- How a listing is judged line by line, and that there is one verdict (own).
 use Rattle.std.proofs.Common.{◌≡◌, ℕ, ◌+◌, false, List, [], ◌∷◌, ◌++◌, length, map, Result, Ok, Err, refl, sym, ap}
-use Rattle.std.proofs.Common.{subst, ◌∙◌}
+use Rattle.std.proofs.Common.{subst, ◌∙◌, append-nil}
 use Rattle.std.proofs.lemmas.List.{append_assoc}
 use Rattle.script.specs.Plans.{Plan}
 use Rattle.book.specs.declared.entries.Entry.{Entry}
@@ -22,10 +22,6 @@ use Rattle.book_check.specs.declared.offences.Rule.TheVariants as rule
 use Rattle.book_check.specs.declared.offences.Offence.{Offence}
 use Rattle.book_check.specs.declared.offences.CheckFault.{CheckFault}
 use Rattle.book_check.specs.declared.offences.CheckFault.TheVariants as fault
-
-nil_after : {A : Type 0} (xs : List A) → xs ++ [] ≡ xs
-nil_after [] = refl
-nil_after (x ∷ xs) = ap (λ t. x ∷ t) (nil_after xs)
 
 -- ---- one entry of those that may stand one after the other
 
@@ -151,7 +147,7 @@ pub judged_up : (p : Plan) (n : ℕ) (lines : List (List ℕ)) (v : Result ℕ C
 judged_up p n lines (Ok count) h = record {
   entries = h.entries;
   left = [];
-  texts = h.texts ∙ sym (nil_after (map entry_text h.entries));
+  texts = h.texts ∙ sym (append-nil (map entry_text h.entries));
   stand = h.stand;
   finds = (h.all, h.whole, h.summary, h.settled);
 }
@@ -181,7 +177,7 @@ judged_down p n lines v h = down v h.entries h.left h.texts h.stand h.finds
         → Finds p n es left (summary_lines lines) w → IsJudged p n lines w
     down (Ok count) es [] texts stand finds = record {
       entries = es;
-      texts = texts ∙ nil_after (map entry_text es);
+      texts = texts ∙ append-nil (map entry_text es);
       all = finds.0;
       stand = stand;
       whole = finds.1;
@@ -242,7 +238,7 @@ module _ (p : Plan) (n : ℕ) (es : List Entry) (line : List ℕ) (more : List (
             here (Err (fault.Refused o)) (l ∷ ls) texts finds =
                 let same : line ≡ l = (one_line line l (entry_lines more) ls texts).0 in
                 let now : BreaksEntry p es l o.rule = subst (λ (xs : List Entry). BreaksEntry p xs l o.rule)
-                (nil_after es) finds.1 in
+                (append-nil es) finds.1 in
                 breaks_not p es line e o.rule one text lawful allowed
                 (subst (λ (x : List ℕ). BreaksEntry p es x o.rule) (sym same) now)
             here (Err (fault.Script r)) [] texts finds = cc
@@ -301,8 +297,8 @@ module _ (p : Plan) (n : ℕ) (es : List Entry) (line : List ℕ) (more : List (
           here (Err (fault.Refused o)) (l ∷ ls) texts finds =
               let same : line ≡ l = (one_line line l (entry_lines more) ls texts).0 in
               let now : BreaksEntry p es l o.rule = subst (λ (xs : List Entry). BreaksEntry p xs l o.rule)
-              (nil_after es) finds.1 in
-              let place : o.line ≡ n + length es = finds.0 ∙ ap (λ (xs : List Entry). n + length xs) (nil_after es) in
+              (append-nil es) finds.1 in
+              let place : o.line ≡ n + length es = finds.0 ∙ ap (λ (xs : List Entry). n + length xs) (append-nil es) in
               let rules_ : o.rule ≡ r = one_rule p es line o.rule r one
               (subst (λ (x : List ℕ). BreaksEntry p es x o.rule) (sym same) now) breaks in
               ap (λ (x : Offence). Err (fault.Refused x)) (same_offence o offence place rules_)
@@ -326,11 +322,11 @@ module _ (p : Plan) (n : ℕ) (es : List Entry) (line : List ℕ) (more : List (
         entries = [];
         left = line ∷ entry_lines more;
         texts = (entry_passed line more before).0;
-        stand = subst (MayStand p) (sym (nil_after es)) stand;
+        stand = subst (MayStand p) (sym (append-nil es)) stand;
         finds = (
-          ap (λ (xs : List Entry). n + length xs) (sym (nil_after es)),
+          ap (λ (xs : List Entry). n + length xs) (sym (append-nil es)),
           subst
-              (λ (xs : List Entry). BreaksEntry p xs line r) (sym (nil_after es)) breaks,
+              (λ (xs : List Entry). BreaksEntry p xs line r) (sym (append-nil es)) breaks,
         );
       })
 
@@ -347,7 +343,7 @@ module _ (p : Plan) (n : ℕ) (es : List Entry) (lines : List (List ℕ)) (given
             → Finds p n (es ++ fs) left (summary_lines lines) v
             → v ≡ given
         each [] [] texts finds = one_end p n es (summary_lines lines) v given
-            (subst (λ (xs : List Entry). Finds p n xs [] (summary_lines lines) v) (nil_after es) finds) found
+            (subst (λ (xs : List Entry). Finds p n xs [] (summary_lines lines) v) (append-nil es) finds) found
         each [] (l ∷ left) texts finds = let clash : [] ≡ l ∷ left = sym none ∙ texts in cc
         each (f ∷ fs) left texts finds = let clash : [] ≡ entry_text f ∷ (map entry_text fs ++ left) = sym none
             ∙ texts in cc
@@ -357,6 +353,6 @@ module _ (p : Plan) (n : ℕ) (es : List Entry) (lines : List (List ℕ)) (given
       entries = [];
       left = [];
       texts = none;
-      stand = subst (MayStand p) (sym (nil_after es)) stand;
-      finds = subst (λ (xs : List Entry). Finds p n xs [] (summary_lines lines) given) (sym (nil_after es)) found;
+      stand = subst (MayStand p) (sym (append-nil es)) stand;
+      finds = subst (λ (xs : List Entry). Finds p n xs [] (summary_lines lines) given) (sym (append-nil es)) found;
     })

@@ -1,18 +1,14 @@
 -- The index tells what the list does, before and after each change.
-use Rattle.std.proofs.Common.{◌≡◌, ◌≢◌, ◌<◌, ◌≤◌, ◌+◌, ℕ, max, List, [], ◌∷◌, ◌⊎◌, None, Some, length, get_or, set}
+use Rattle.std.proofs.Common.{◌≡◌, ◌≢◌, ◌<◌, ◌+◌, ℕ, max, List, [], ◌∷◌, ◌⊎◌, None, Some, length, get_or, set}
 use Rattle.std.proofs.Common.{sym, ◌∙◌, ap, inl, inr, arith}
 use Rattle.std.proofs.Common.{length-append}
 use Rattle.std.proofs.lemmas.Bool.{cases_eq}
-use Rattle.std.proofs.lemmas.Bool.Decides.{leb_tells}
 use Rattle.std.proofs.lemmas.List.{get_or-set_same, get_or-set_other, length-set, get_or_past}
 use Rattle.bulk_store.specs.declared.index.Held.{Held}
 use Rattle.bulk_store.specs.Held.{place_of, with_newest}
 use Rattle.bulk_store.specs.Index.{Holdings, IsIndexed, NoneTwice, with_record, without_oldest}
 use Rattle.bulk_store.proofs.Places.{place_of-first, place_of-rest, place_of-newest, place_of-others, none_twice-newest}
-
--- a number is below another, or not
-pub in_or_past : (a b : ℕ) → (a < b) ⊎ (b ≤ a)
-in_or_past a b = elim (leb_tells b a) [ inl h ↦ inr h.1 | inr h ↦ inl h.1 ]
+use Rattle.laws.proofs.Numbers.{below_or_past}
 
 -- the place of a record after record r came in is the new one, and the record is r, or it is as before
 place_cases : (held : List Held) (r p s q : ℕ) → place_of held r ≡ None → place_of (with_newest held r p) s ≡ Some q
@@ -122,7 +118,7 @@ rest_indexed h t k full = record {
 }
   where
     set_none : get_or (set t.places h.number None) h.number None ≡ None
-    set_none = elim (in_or_past h.number (length t.places)) [
+    set_none = elim (below_or_past h.number (length t.places)) [
       | inl lt ↦ get_or-set_same t.places h.number None None lt
       | inr ge ↦ get_or_past (set t.places h.number None) h.number None
           (omega (arith, ge, length-set t.places h.number None))

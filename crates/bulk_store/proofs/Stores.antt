@@ -11,17 +11,18 @@ use Rattle.bulk_store.specs.Index.{Holdings, IsIndexed}
 use Rattle.bulk_store.specs.Pages.{pages_of}
 use Rattle.bulk_store.specs.Contents.{Contents, IsStore, gave_up_oldest, took_in}
 use Rattle.bulk_store.proofs.Places.{place_of-first, place_of-rest, place_of-newest, place_of-others}
-use Rattle.bulk_store.proofs.Indexed.{in_or_past, rest_places, with_record-indexed, without_oldest-indexed}
+use Rattle.bulk_store.proofs.Indexed.{rest_places, with_record-indexed, without_oldest-indexed}
 use Rattle.bulk_store.proofs.Indexed.{free_place-within}
 use Rattle.bulk_store.proofs.Pages.{held_or_not, page_of-held, page_of-other, pages_same, pages_with, length-pages_of}
 use Rattle.bulk_store.proofs.Pages.{get_or-pages_of}
+use Rattle.laws.proofs.Numbers.{below_or_past}
 
 -- a held record is one of the disk's, and its place one of the fast store's
 pub held_within : (s : Contents) (r p : ℕ) → IsStore s → place_of s.table.held r ≡ Some p → (p < length s.fast)
     × (r < length s.disk)
 held_within s r p k is = (
   omega (arith, k.index.below r p is, k.index.used_room, k.room),
-  elim (in_or_past r (length s.table.places)) [
+  elim (below_or_past r (length s.table.places)) [
     | inl lt ↦ omega (arith, lt, k.records)
     | inr ge ↦ (let none = get_or_past s.table.places r None ge in let found = k.index.found r in cc)
   ],
@@ -162,7 +163,7 @@ held_few t k = elim (cases_eq t.free t.used) [
 
 -- where no place is free, as many are held as there are places
 pub full : (t : Holdings) → IsIndexed t → nat_lt (length t.held) t.room ≡ false → length t.held ≡ t.room
-full t k none = elim (in_or_past (length t.held) t.room) [
+full t k none = elim (below_or_past (length t.held) t.room) [
   | inl lt ↦ (let free = lt-ltb (length t.held) t.room lt in cc)
   | inr ge ↦ omega (arith, ge, held_few t k)
 ]

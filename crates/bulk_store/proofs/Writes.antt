@@ -1,8 +1,7 @@
 -- What a whole write leaves, from what its steps leave.
-use Rattle.std.proofs.Common.{◌≡◌, ◌<◌, ℕ, List, [], ◌⊎◌, Bool, true, false, ◌||◌, nat_lt, is_some, None, Some, Result}
+use Rattle.std.proofs.Common.{◌≡◌, ◌<◌, ℕ, List, [], ◌⊎◌, Bool, true, false, nat_lt, is_some, None, Some, Result}
 use Rattle.std.proofs.Common.{Ok, Err, OnOk, OnErr, length, get_or}
 use Rattle.std.proofs.Common.{set, refl, sym, ◌∙◌, ap, subst, inl, inr, arith}
-use Rattle.std.proofs.lemmas.Bool.{le-ltb}
 use Rattle.std.proofs.lemmas.List.{length-set, ext_get_or}
 use Rattle.bulk_store.specs.declared.index.Held.{Held}
 use Rattle.bulk_store.specs.Held.{place_of, IsLeastFreePlace, BulkAfter}
@@ -10,9 +9,10 @@ use Rattle.bulk_store.specs.Pages.{page_of, pages_of}
 use Rattle.bulk_store.specs.Index.{Holdings, IsIndexed}
 use Rattle.bulk_store.specs.Contents.{Contents, IsStore, gave_up_oldest, took_in, wrote, AfterFailed}
 use Rattle.bulk_store.specs.Store.{Store, store_pages}
-use Rattle.bulk_store.proofs.Indexed.{in_or_past}
 use Rattle.bulk_store.proofs.Pages.{held_or_not, page_of-other, length-pages_of, get_or-pages_of}
 use Rattle.bulk_store.proofs.Stores.{IsOldest, oldest, pages_held, pages_took_in, took_in-store, gave_up-store, full}
+use Rattle.laws.proofs.Numbers.{lt_from}
+use Rattle.laws.proofs.Bools.{second_false}
 
 -- the three ways of a write
 wrote-held : (s : Contents) (r p : ℕ) (words : List ℕ) → place_of s.table.held r ≡ Some p → wrote s r words
@@ -32,9 +32,6 @@ wrote-full s r words none full = rw (none, full) refl
 true_or_false : (b : Bool) → (b ≡ true) ⊎ (b ≡ false)
 true_or_false true = inl refl
 true_or_false false = inr refl
-
-lt_from : (a b : ℕ) → nat_lt a b ≡ true → a < b
-lt_from a b is = elim (in_or_past a b) [ inl lt ↦ lt | inr ge ↦ (let not = le-ltb a b ge in cc) ]
 
 -- after a done write the store is one still, and its pages are as before but for the one that was written
 pub record IsDone (s : Contents) (r : ℕ) (words : List ℕ) (t : Contents) : Type 0 where
@@ -108,10 +105,6 @@ done s t r words k within is = elim (held_or_not (place_of s.table.held r)) [
 pub record HasFailed (s t : Contents) : Type 0 where
   pub store : IsStore t
   pub pages : pages_of t.fast t.disk t.table.held ≡ pages_of s.fast s.disk s.table.held
-
-second_false : (a b : Bool) → (a || b) ≡ false → b ≡ false
-second_false false b h = h
-second_false true b h = cc
 
 pub has_failed : (s t : Contents) (r : ℕ) → IsStore s → AfterFailed s r t → HasFailed s t
 has_failed s t r k (inl is) = subst (λ (x : Contents). HasFailed s x) (sym is) (record { store = k; pages = refl })

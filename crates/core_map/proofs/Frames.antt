@@ -1,9 +1,8 @@
 use Rattle.std.proofs.Common.{◌≡◌, ℕ, zero, suc, ◌+◌, ◌<◌, ◌≤◌, ◌^◌, Bool, true, false, not, cond, List, [], ◌∷◌}
 use Rattle.std.proofs.Common.{length, Option, None, Some, refl, sym, ap}
-use Rattle.std.proofs.Common.{◌∙◌, arith, get_or, set, replicate, map, inl, inr, ◌⊎◌, All, IfSome, IfNone}
+use Rattle.std.proofs.Common.{◌∙◌, arith, get_or, set, replicate, map, inl, inr, All, IfSome, IfNone}
 use Rattle.std.specs.List.{prefix_len, list_any}
 use Rattle.std.proofs.lemmas.Bool.{cases_eq}
-use Rattle.std.proofs.lemmas.Bool.Decides.{leb_tells}
 use Rattle.std.proofs.lemmas.List.{map-set, get_or-map, get_or_past, length-map, length-set, length-replicate}
 use Rattle.std.proofs.lemmas.List.{get_or-set_same, get_or-set_other, set-get_or}
 use Rattle.std.proofs.lemmas.List.{get_or_read, set_past}
@@ -16,9 +15,7 @@ use Rattle.core_map.specs.CoreMap.{least_free_frame, IsLeastFreeFrame}
 use Rattle.core_map.specs.Clock.{frame_in, is_idle, unmarked}
 use Rattle.core_map.specs.Turns.{IsUnmarked}
 use Rattle.core_map.specs.Taken.{IsTied}
-
-pub below_or_past : (a b : ℕ) → (a < b) ⊎ (b ≤ a)
-below_or_past a b = elim (leb_tells b a) [ inl h ↦ inr h.1 | inr h ↦ inl h.1 ]
+use Rattle.laws.proofs.Numbers.{below_or_past}
 
 -- What a change of marks leaves as it is: whether the frame is taken, and which page is being read in.
 pub record IsSeenAs (x y : Frame) : Type 0 where

@@ -8,8 +8,8 @@ use Rattle.std.proofs.lemmas.List.{length-set, get_or-set_same, get_or-set_other
 use Rattle.core_map.specs.declared.Frame.{Frame}
 use Rattle.core_map.specs.declared.Frame.TheVariants.{Free}
 use Rattle.core_map.specs.Clock.{frame_in, is_idle, unmarked, passed_over}
-use Rattle.core_map.proofs.Frames.{below_or_past}
 use Rattle.core_map.specs.Turns.{IsFirst, HasNone, IsUnmarked, PassesTo, PassesAll}
+use Rattle.laws.proofs.Numbers.{below_or_past}
 
 -- a range is split at a number in it
 split_range : (a b low n at : ℕ) → n ≡ a + suc b → at ≡ low + a → range_with_len low n ≡ range_with_len low a ++ at

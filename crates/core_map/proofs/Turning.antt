@@ -13,8 +13,9 @@ use Rattle.core_map.specs.Clock.{round_frames, or_else, clock_choice}
 use Rattle.core_map.specs.Clock.{passed_over, after_choice}
 use Rattle.core_map.specs.Turns.{IsFirst, HasNone, IsUnmarked, PassesTo, PassesAll, IsFirstBound, StopsBehind}
 use Rattle.core_map.specs.Turns.{GoesAround, IsTurned}
-use Rattle.core_map.proofs.Frames.{below_or_past, none_bound}
+use Rattle.core_map.proofs.Frames.{none_bound}
 use Rattle.core_map.proofs.Passing.{found_none, found_first, passed_all, passed_to}
+use Rattle.laws.proofs.Numbers.{below_or_past}
 
 abbrev core_of : List Frame → ℕ → Core
 core_of frames hand = record { frames = frames; hand = hand }

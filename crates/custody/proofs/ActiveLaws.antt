@@ -5,7 +5,7 @@ use Rattle.std.proofs.Common.{subst, ◌∙◌, inl, inr, arith}
 use Rattle.std.specs.Prelude.{sum_by, is_some, IsSomeAnd}
 use Rattle.std.specs.Bool.{Decides}
 use Rattle.std.specs.Option.{unwrap_or}
-use Rattle.std.proofs.lemmas.Bool.Decides.{Decides-eqb, eqb_tells}
+use Rattle.std.proofs.lemmas.Bool.Decides.{eqb_tells}
 use Rattle.std.proofs.lemmas.List.{get_or-set_same, get_or-set_other}
 use Rattle.std.proofs.lemmas.List.Sums.{sum_by-set, sum_by-cons}
 use Rattle.script.specs.Plans.{Plan}
@@ -14,11 +14,9 @@ use Rattle.tree_model.specs.Tree.{Node, node_in, pool_of}
 use Rattle.custody_model.specs.Allowed.{MayActivate, MayJoin, pool_size}
 use Rattle.custody.specs.Tables.{Tables, AreNodes, CanJoin, IsAsActivated, active_at, custody_of, is_in_pool, use_in}
 use Rattle.custody.specs.declared.active.ActiveUse.{ActiveUse}
+use Rattle.laws.proofs.Numbers.{eqb_self}
 
 -- ---- nodes
-
-same : (n : ℕ) → eqb n n ≡ true
-same n = (Decides-eqb n n).1 refl
 
 -- an active segment that isn't the first node is among the others
 others : (n : Node) (ns : List Node) (u : ℕ) (P : Node → Type 0) → n.uid ≢ u → IsSomeAnd (node_in (n ∷ ns) u) P
@@ -29,7 +27,7 @@ others n ns u P apart h = elim (eqb_tells n.uid u) [
 ]
 
 first : (n : Node) (ns : List Node) (P : Node → Type 0) → IsSomeAnd (node_in (n ∷ ns) n.uid) P → P n
-first n ns P h = subst (λ (b : Bool). IsSomeAnd (cond b (Some n) (node_in ns n.uid)) P) (same n.uid) h
+first n ns P h = subst (λ (b : Bool). IsSomeAnd (cond b (Some n) (node_in ns n.uid)) P) (eqb_self n.uid) h
 
 -- one that is active no more changes no other node
 unchanged : (uses : List (Option ActiveUse)) (v q : ℕ) (ns : List Node) → node_in ns v ≡ None
@@ -51,7 +49,7 @@ unchanged uses v q (n ∷ ns) h = elim (eqb_tells n.uid v) [
       omega (arith, a, b, c, rest))
 ]
 
-some_none : (a : ActiveUse) → ◌≢◌ {A = Option ActiveUse} None (Some a)
+pub some_none : (a : ActiveUse) → ◌≢◌ {A = Option ActiveUse} None (Some a)
 some_none a = λ e. cc
 
 zeros : (f : Option ActiveUse → ℕ) → f None ≡ 0 → (uses : List (Option ActiveUse))

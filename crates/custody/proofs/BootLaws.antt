@@ -14,6 +14,8 @@ use Rattle.custody.specs.Counts.{Counted, key_bit}
 use Rattle.custody.specs.Uses.{UseCounted, AreDescriptors, AreFrames, descriptor_at, descriptor_mark, frame_at}
 use Rattle.custody.specs.Uses.{going_key, kind_key, uid_key}
 use Rattle.custody.specs.Tables.{AreTablesOf, Tables, custody_of, row_at, seat_at}
+use Rattle.laws.proofs.Lists.{all_same}
+use Rattle.custody_model.proofs.SharedLaws.{range_end}
 
 pub none_counted : {X : Type 0} (f : X → ℕ) (d : X) (n : ℕ) → f d ≡ 0 → sum_by f (replicate n d) ≡ 0
 none_counted f d zero e = refl
@@ -42,12 +44,6 @@ descriptors_free = record {
   kinds = λ a. sym (none_counted (λ x. key_bit (kind_key (descriptor_mark x)) a) descriptor.Free 256 refl);
 }
 
--- each of many that are the same is that one, and so is each past them
-pub all_same : {X : Type 0} (n i : ℕ) (d : X) → get_or (replicate n d) i d ≡ d
-all_same zero i d = refl
-all_same (suc n) zero d = refl
-all_same (suc n) (suc i) d = all_same n i d
-
 free_row : (n k i : ℕ) → descriptor_at (row_at (replicate n (replicate 256 descriptor.Free)) k) i ≡ descriptor.Free
 free_row zero k i = refl
 free_row (suc n) zero i = all_same 256 i descriptor.Free
@@ -73,13 +69,6 @@ frames_made n uses c p s u e f g few =
     (subst (λ (d : UseCounted). AreFrames uses d [] []) (sym e)
     (subst (λ (xs : List FrameUse). AreFrames xs (record { uids = []; going = []; kinds = [] })
     [] []) (sym u) (frames_free n few))))
-
-pub range_end : (from n : ℕ) → range from (suc n) ≡ range from n ++ (from + n) ∷ []
-range_end from zero = let e : from ≡ from + 0 = omega arith in ap (λ (x : ℕ). x ∷ []) e
-range_end from (suc n) =
-    let r = range_end (from + 1) n in
-    let e : from + 1 + n ≡ from + suc n = omega arith in
-    ap (λ (xs : List ℕ). from ∷ xs) (r ∙ ap (λ (x : ℕ). range (from + 1) n ++ x ∷ []) e)
 
 pub range_more : (n : ℕ) (xs ys : List ℕ) → xs ≡ range 0 n → ys ≡ xs ++ n ∷ [] → ys ≡ range 0 (n + 1)
 range_more n xs ys e f =

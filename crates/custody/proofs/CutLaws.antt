@@ -1,7 +1,7 @@
 -- Which pages a truncation takes, and whether one of them is in a frame.
 use Rattle.std.proofs.Common.{◌≡◌, ◌≢◌, ◌<◌, ◌≤◌, ◌/◌, ◌%◌, ◌*◌, ℕ, suc, zero, ◌+◌, Bool, true, false, not}
 use Rattle.std.proofs.Common.{List, Option, Some, None}
-use Rattle.std.proofs.Common.{refl, sym, ap, subst, ◌∙◌, inl, inr, ◌⊎◌, arith}
+use Rattle.std.proofs.Common.{refl, ap, subst, ◌∙◌, inl, inr, ◌⊎◌, arith}
 use Rattle.std.specs.Prelude.{nat_le, nat_lt}
 use Rattle.std.specs.Bool.{Decides}
 use Rattle.std.proofs.lemmas.Bool.Decides.{eqb_tells, leb_tells, nat_tests}
@@ -17,17 +17,15 @@ use Rattle.custody_model.specs.Effects.{LosesNoPage}
 use Rattle.custody.specs.Tables.{Tables, AreKept, custody_of}
 use Rattle.custody.specs.Uses.{frame_at, is_page, is_page_from}
 use Rattle.custody.proofs.ScanLaws.{scan_decides}
+use Rattle.laws.proofs.Bools.{not_both}
 
 -- ---- a page, and pages below a number
-
-no_both : {b : Bool} → b ≡ true → b ≡ false → ⊥
-no_both t f = let z : true ≡ false = sym t ∙ f in cc
 
 page_is : (u q : ℕ) (o : Option (ℕ × ℕ)) → Decides (not (is_page u q o)) (o ≢ Some (u, q))
 page_is u q None = (λ t e. let z : None ≡ Some (u, q) = e in cc, λ n. refl)
 page_is u q (Some p) = elim (eqb_tells p.0 u) [
   | inl e ↦ elim (eqb_tells p.1 q) [
-    | inl f ↦ rw e.0 (rw f.0 (λ t. absurd (no_both t refl), λ n. absurd (n (λ i. Some (e.1 i, f.1 i)))))
+    | inl f ↦ rw e.0 (rw f.0 (λ t. absurd (not_both t refl), λ n. absurd (n (λ i. Some (e.1 i, f.1 i)))))
     | inr f ↦ rw e.0 (rw f.0 (λ t g. f.1 (ap (λ (o : Option (ℕ × ℕ)). (unwrap_or o (0, 0)).1) g), λ n. refl))
   ]
   | inr e ↦ rw e.0 (λ t g. e.1 (ap (λ (o : Option (ℕ × ℕ)). (unwrap_or o (0, 0)).0) g), λ n. refl)
@@ -45,7 +43,7 @@ from_is u k None = (λ t q e. let z : None ≡ Some (u, q) = e in cc, λ h. refl
 from_is u k (Some p) = elim (eqb_tells p.0 u) [
   | inl e ↦ elim (leb_tells k p.1) [
     | inl l ↦ rw e.0 (rw l.0 (
-      λ t. absurd (no_both t refl),
+      λ t. absurd (not_both t refl),
       λ h. let less = h p.1 (λ i. Some (e.1 i, p.1)) in let le = l.1 in absurd (omega (arith, less, le)),
     ))
     | inr l ↦ rw e.0 (rw l.0 (
@@ -96,7 +94,7 @@ kept_whole words u from none q = (
   λ h. kept_at words u from q h,
   λ h. elim (order q (from / 1024)) [
     | inl l ↦ l
-    | inr l ↦ absurd (no_both (lost_at words u from q (elim l
+    | inr l ↦ absurd (not_both (lost_at words u from q (elim l
         [ inl e ↦ omega (arith, none, e) | inr e ↦ omega (arith, none, e) ])) h)
   ],
 )
@@ -108,8 +106,8 @@ kept_cut words u from zeros q = (
   λ h. elim (order q (from / 1024)) [
     | inl l ↦ l
     | inr l ↦ elim l [
-      | inl e ↦ absurd (no_both (gone (from % 1024) refl e) h)
-      | inr e ↦ absurd (no_both (lost_at words u from q (omega (arith, e))) h)
+      | inl e ↦ absurd (not_both (gone (from % 1024) refl e) h)
+      | inr e ↦ absurd (not_both (lost_at words u from q (omega (arith, e))) h)
     ]
   ],
 )
@@ -134,7 +132,7 @@ kept_more words u from some words_left q = (
     | inl l ↦ omega (arith, l)
     | inr l ↦ elim l [
       | inl e ↦ omega (arith, e)
-      | inr e ↦ absurd (no_both (lost_at words u from q (omega (arith, e))) h)
+      | inr e ↦ absurd (not_both (lost_at words u from q (omega (arith, e))) h)
     ]
   ],
 )

@@ -1,10 +1,9 @@
 -- What an entry that is allowed makes of the tables is the custody after it; their sizes stay, and what is active is
 -- in the tree.
-use Rattle.std.proofs.Common.{◌≡◌, ◌<◌, ◌+◌, ◌⊎◌, ℕ, Bool, true, false, List, [], ◌++◌, Option, Some, None, Result}
-use Rattle.std.proofs.Common.{Ok, Err}
+use Rattle.std.proofs.Common.{◌≡◌, ◌<◌, ◌+◌, ◌⊎◌, ℕ, Bool, true, false, List, [], ◌++◌, Option, Some, None}
 use Rattle.std.proofs.Common.{length, drop, set, refl, sym, ap, subst, ◌∙◌, inl, inr, arith}
 use Rattle.std.proofs.Common.{length-set}
-use Rattle.std.specs.Prelude.{is_some, IsSomeAnd, OnOk}
+use Rattle.std.specs.Prelude.{is_some, IsSomeAnd}
 use Rattle.std.proofs.lemmas.Bool.Decides.{eqb_tells}
 use Rattle.std.proofs.lemmas.List.{get_or-set_same, get_or-set_other}
 use Rattle.assoc_mem.specs.declared.What.{What}
@@ -31,10 +30,6 @@ use Rattle.custody.proofs.AdvanceLaws.{active_put_at, descriptor_put, dropped_is
 use Rattle.custody.proofs.AdvanceLaws.{there, use_put, warn_length}
 use Rattle.custody.proofs.KeptNodes.{nodes_put, use_as}
 use Rattle.flat_store.specs.Shown.{Kept, Shows}
-
-pub on_ok : {A B : Type 0} (r : Result A B) (P Q : Type 0) → (P → Q) → OnOk r P → OnOk r Q
-on_ok (Ok x) P Q f h = f h
-on_ok (Err e) P Q f h = h
 
 -- what follows from each of six
 pub any_of_six : {A B C D E F P : Type 0} → A ⊎ (B ⊎ (C ⊎ (D ⊎ (E ⊎ F)))) → (A → P) → (B → P) → (C → P) → (D → P)

@@ -37,9 +37,8 @@ use Rattle.custody_model.specs.Allowed.{IsAllowed, MayAnswer, is_device}
 use Rattle.custody_model.specs.Effects.{IsOutOfUse, MayTakeEffect, OfNode}
 use Rattle.custody.specs.Tables.{AreApart, AreNodes, IsAsActivated, Tables, active_at, custody_of, use_in}
 use Rattle.custody.specs.declared.active.ActiveUse.{ActiveUse}
-
-no_some : (a : ActiveUse) → ◌≢◌ {A = Option ActiveUse} None (Some a)
-no_some a = λ e. cc
+use Rattle.tree_model.proofs.SharedLaws.{found_uid, node_without}
+use Rattle.custody.proofs.ActiveLaws.{some_none}
 
 -- what is active isn't a node of which that isn't so
 not_active : (uses : List (Option ActiveUse)) (u v : ℕ) (a : ActiveUse) → active_at uses u ≡ Some a
@@ -92,14 +91,6 @@ apart_changed g same (n ∷ ns) t = (
   apart_changed g same ns t.1,
 )
 
--- the node of a uid has that uid
-found_uid : (ns : List Node) (u : ℕ) (n : Node) → node_in ns u ≡ Some n → n.uid ≡ u
-found_uid [] u n is = let no : ⊥ = cc in absurd no
-found_uid (m ∷ ns) u n is = elim (eqb_tells m.uid u) [
-  | inl e ↦ (let z : Some m ≡ Some n = rw e.0 at is in let w : m ≡ n = cc in rw (sym w) e.1)
-  | inr e ↦ found_uid ns u n (rw e.0 at is)
-]
-
 -- a change that leaves superior and pool of the nodes that are active leaves what is active
 pub nodes_changed : (g : Node → Node) (ns : List Node) (uses : List (Option ActiveUse))
     → ((n : Node) → (g n).uid ≡ n.uid)
@@ -119,21 +110,11 @@ nodes_changed g ns uses same keeps t = record {
 
 -- ---- a node less
 
-node_left : (ns : List Node) (u v : ℕ) → v ≢ u → node_in (without_node ns u) v ≡ node_in ns v
-node_left [] u v ne = refl
-node_left (n ∷ ns) u v ne = elim (eqb_tells n.uid u) [
-  | inl e ↦ elim (eqb_tells n.uid v) [
-    | inl f ↦ absurd (ne (sym f.1 ∙ e.1))
-    | inr f ↦ rw (e.0, f.0) (node_left ns u v ne)
-  ]
-  | inr e ↦ rw e.0 (ap (λ (o : Option Node). cond (eqb n.uid v) (Some n) o) (node_left ns u v ne))
-]
-
 apart_left : (ns : List Node) (u : ℕ) → AreApart ns → AreApart (without_node ns u)
 apart_left [] u t = tt
 apart_left (n ∷ ns) u t = elim (eqb_tells n.uid u) [
   | inl e ↦ rw e.0 (apart_left ns u t.1)
-  | inr e ↦ rw e.0 (node_left ns u n.uid e.1 ∙ t.0, apart_left ns u t.1)
+  | inr e ↦ rw e.0 (node_without ns u n.uid e.1 ∙ t.0, apart_left ns u t.1)
 ]
 
 pub nodes_left : (ns : List Node) (uses : List (Option ActiveUse)) (u : ℕ) → is_some (active_at uses u) ≡ false
@@ -141,7 +122,7 @@ pub nodes_left : (ns : List Node) (uses : List (Option ActiveUse)) (u : ℕ) →
 nodes_left ns uses u off t = record {
   apart = apart_left ns u t.apart;
   there = λ v a is. subst (λ (o : Option Node). IsSomeAnd o (IsAsActivated a))
-      (sym (node_left ns u v (not_active uses v u a is off))) (t.there v a is);
+      (sym (node_without ns u v (not_active uses v u a is off))) (t.there v a is);
 }
 
 -- ---- one active segment more or less
@@ -161,7 +142,7 @@ nodes_put ns old new u to t put is_node = record {
 
 -- a use that is that of a node is as the node is
 pub use_as : (o : Option Node) (a : ActiveUse) → use_in o ≡ Some a → IsSomeAnd o (IsAsActivated a)
-use_as None a e = absurd (no_some a e)
+use_as None a e = absurd (some_none a e)
 use_as (Some n) a e = let w : record { superior = n.superior; pool = pool_of n } ≡ a =
     cc in rw (sym w) (record { superior = refl; pool = refl })
 

@@ -18,6 +18,8 @@ use Rattle.custody.specs.Tables.{AreActive, active_at, is_in_pool, pool_key, sup
 use Rattle.custody.specs.declared.active.ActiveUse.{ActiveUse}
 use Rattle.custody.specs.Uses.{UseCounted, AreFrames, AreDescriptors, frame_at, descriptor_at, frame_mark}
 use Rattle.custody.specs.Uses.{descriptor_mark, uid_key, going_key, kind_key, page_key, page_number, started_key}
+use Rattle.laws.proofs.Bools.{bit_le}
+use Rattle.laws.proofs.Numbers.{eqb_self}
 
 -- ---- sums
 
@@ -152,12 +154,9 @@ only_decides f xs d at n is none =
 
 -- ---- keys
 
-same : (n : ℕ) → eqb n n ≡ true
-same n = (Decides-eqb n n).1 refl
-
 bit_zero : (k : Option ℕ) (a : ℕ) → key_bit k a ≡ 0 → k ≢ Some a
 bit_zero k a z = λ e.
-    let one : key_bit (Some a) a ≡ 1 = rw (same a) refl in
+    let one : key_bit (Some a) a ≡ 1 = rw (eqb_self a) refl in
     let o : key_bit k a ≡ 1 = ap (λ (x : Option ℕ). key_bit x a) e ∙ one in
     let no : ⊥ = omega (arith, z, o) in no
 
@@ -178,10 +177,6 @@ named_to false e = let no : ⊥ = omega (arith, e) in absurd no
 named_from : (t : Bool) → t ≡ true → ◌≡◌ {A = ℕ} (cond t 1 0) 1
 named_from true e = refl
 named_from false e = let z : false ≡ true = e in let no : ⊥ = cc in absurd no
-
-bit_le : (t : Bool) → cond t 1 0 ≤ 1
-bit_le true = omega arith
-bit_le false = omega arith
 
 -- ---- frames
 
@@ -457,8 +452,8 @@ pub row_not_free : (uses now : List DescriptorUse) (c : UseCounted) → uses ≡
 row_not_free uses now c is t n m e g z = elim (eqb_tells n 0) [
   | inl h ↦ absurd (z h.1)
   | inr h ↦
-      (let same : (eqb n 0 && eqb m 0) ≡ eqb n 0 = ap (λ (b : Bool). b && eqb m 0) h.0 ∙ sym h.0 in
-      subst (λ (b : Bool). Decides b ((i : ℕ) → descriptor_at now i ≡ descriptor.Free)) same
+      (let eqb_self : (eqb n 0 && eqb m 0) ≡ eqb n 0 = ap (λ (b : Bool). b && eqb m 0) h.0 ∙ sym h.0 in
+      subst (λ (b : Bool). Decides b ((i : ℕ) → descriptor_at now i ≡ descriptor.Free)) eqb_self
       (row_free_decides uses now c is t n m e g))
 ]
 

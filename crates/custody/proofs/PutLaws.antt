@@ -10,8 +10,9 @@ use Rattle.custody.specs.Uses.{IsTally}
 use Rattle.custody.specs.Tables.{AreActive, active_at, pool_key, superior_of}
 use Rattle.custody.specs.Changes.{with_place}
 use Rattle.custody.specs.declared.active.ActiveUse.{ActiveUse}
-use Rattle.custody.proofs.BootLaws.{all_same, none_counted}
+use Rattle.custody.proofs.BootLaws.{none_counted}
 use Rattle.custody.proofs.TallyLaws.{tally_set, tally_kept, tally_few}
+use Rattle.laws.proofs.Lists.{all_same}
 
 grown_sum : {X : Type 0} (f : X → ℕ) (xs : List X) (n : ℕ) (d : X) → f d ≡ 0 → sum_by f (xs ++ replicate n d)
     ≡ sum_by f xs

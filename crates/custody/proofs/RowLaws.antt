@@ -12,8 +12,8 @@ use Rattle.custody_model.specs.declared.DescriptorUse.{DescriptorUse}
 use Rattle.custody.specs.Uses.{frame_at}
 use Rattle.custody.specs.Tables.{seat_at}
 use Rattle.custody.specs.Changes.{dropped, names_held, names_use, warn_from, warned}
-use Rattle.custody.proofs.BootLaws.{range_end}
 use Rattle.custody.proofs.AdvanceLaws.{warn_at, warn_length}
+use Rattle.custody_model.proofs.SharedLaws.{range_end}
 
 -- ---- the ready list
 

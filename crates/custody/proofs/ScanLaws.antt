@@ -24,20 +24,14 @@ use Rattle.tree_model.specs.Tree.{Node, node_in}
 use Rattle.std.specs.Prelude.{IsSomeAnd}
 use Rattle.custody_model.specs.Custody.{Seat, has, offline}
 use Rattle.assoc_mem.specs.declared.What.{What}
-
-no_both : {b : Bool} → b ≡ true → b ≡ false → ⊥
-no_both t f = let z : true ≡ false = sym t ∙ f in cc
-
-or_false : (a b : Bool) → (a || b) ≡ false → (a ≡ false) × (b ≡ false)
-or_false false false e = (refl, refl)
-or_false false true e = absurd (no_both refl e)
-or_false true b e = absurd (no_both refl e)
+use Rattle.laws.proofs.Bools.{not_both, not_true}
+use Rattle.std.proofs.lemmas.Bool.{or_parts}
 
 scan_to : {X : Type 0} (p : X → Bool) (d : X) → p d ≡ false → (xs : List X) → list_any p xs ≡ false → (i : ℕ)
     → p (get_or xs i d) ≡ false
 scan_to p d n [] e i = n
-scan_to p d n (x ∷ xs) e zero = (or_false (p x) (list_any p xs) e).0
-scan_to p d n (x ∷ xs) e (suc i) = scan_to p d n xs (or_false (p x) (list_any p xs) e).1 i
+scan_to p d n (x ∷ xs) e zero = (or_parts (p x) (list_any p xs) e).0
+scan_to p d n (x ∷ xs) e (suc i) = scan_to p d n xs (or_parts (p x) (list_any p xs) e).1 i
 
 scan_from : {X : Type 0} (p : X → Bool) (d : X) (xs : List X) → ((i : ℕ) → p (get_or xs i d) ≡ false) → list_any p xs
     ≡ false
@@ -46,10 +40,6 @@ scan_from p d (x ∷ xs) h =
     let first : p x ≡ false = h 0 in
     let rest : list_any p xs ≡ false = scan_from p d xs (λ i. h (suc i)) in
     let r : (p x || list_any p xs) ≡ false = rw first rest in r
-
-not_true : (b : Bool) → not b ≡ true → b ≡ false
-not_true true e = absurd (no_both e refl)
-not_true false e = refl
 
 is_not : (b : Bool) → b ≡ false → not b ≡ true
 is_not b e = rw e refl
@@ -94,7 +84,7 @@ find p d xs i n e = by (list_any p xs) refl
   where
     by : (b : Bool) → list_any p xs ≡ b → list_any p xs ≡ true
     by true e = e
-    by false f = absurd (no_both e (scan_to p d n xs f i))
+    by false f = absurd (not_both e (scan_to p d n xs f i))
 
 -- ---- descriptors
 
@@ -102,7 +92,7 @@ uid_decides : (u : ℕ) (o : Option ℕ) → Decides (not (is_uid u o)) (o ≢ S
 uid_decides u None = (λ t e. cc, λ n. refl)
 uid_decides u (Some v) =
     let d = Decides-eqb v u in (
-      λ t e. no_both (d.1 (ap (λ (o : Option ℕ). unwrap_or o 0) e)) (not_true (eqb v u) t),
+      λ t e. not_both (d.1 (ap (λ (o : Option ℕ). unwrap_or o 0) e)) (not_true (eqb v u) t),
       λ n. apart (eqb v u) refl n,
     )
   where
@@ -115,8 +105,8 @@ going_decides x = (λ t. not_true (is_going_descriptor x) t, λ f. is_not (is_go
 
 else_decides : (a b : Bool) → Decides (not (a && not b)) (a ≡ true → b ≡ true)
 else_decides true true = (λ t e. refl, λ h. refl)
-else_decides true false = (λ t e. absurd (no_both t refl), λ h. absurd (no_both (h refl) refl))
-else_decides false b = (λ t e. absurd (no_both e refl), λ h. refl)
+else_decides true false = (λ t e. absurd (not_both t refl), λ h. absurd (not_both (h refl) refl))
+else_decides false b = (λ t e. absurd (not_both e refl), λ h. refl)
 
 pub leads_is : (row : List DescriptorUse) (u : ℕ) (r : Bool)
     → Decides r ((n : ℕ) → leads_to (descriptor_at row n) ≢ Some u)
@@ -211,7 +201,7 @@ nobody_seg_decides t k n r is =
 
 due_decides : (o : Option What) → Decides (not (is_some o)) (o ≡ None)
 due_decides None = (λ t. refl, λ e. refl)
-due_decides (Some w) = (λ t. absurd (no_both t refl), λ e. let z : Some w ≡ None = e in let no : ⊥ = cc in absurd no)
+due_decides (Some w) = (λ t. absurd (not_both t refl), λ e. let z : Some w ≡ None = e in let no : ⊥ = cc in absurd no)
 
 pub none_due_decides : (t : Tables) (r : Bool) → r ≡ list_any (λ s. is_some s.due) t.seats
     → Decides (not r) ((d : ℕ) → ((custody_of t).seat d).due ≡ None)
@@ -282,8 +272,8 @@ deactivates s t u a r d e h =
 pub stays_active : (s : Store) (t : Tables) (u : ℕ) (a : Bool) → Decides a (IsUnused (custody_of t) u) → a ≡ false
     → Decides false (MayDeactivate s (custody_of t) u)
 stays_active s t u a d e = (
-  λ q. let no : ⊥ = no_both refl (sym q) in absurd no,
-  λ m. absurd (no_both (d.1 (record { active = m.active; pages = m.pages; descriptors = m.descriptors })) e),
+  λ q. let no : ⊥ = not_both refl (sym q) in absurd no,
+  λ m. absurd (not_both (d.1 (record { active = m.active; pages = m.pages; descriptors = m.descriptors })) e),
 )
 
 -- ---- what is named
@@ -310,7 +300,7 @@ pub descriptors_page_decides : (t : Tables) (w : What) (r : Bool) (g : ℕ) → 
 descriptors_page_decides t w r g e is =
     let d = none_goes_decides t r is in
     subst (λ (x : What). Decides (not r) (DescriptorsAreNamed (custody_of t) x)) (sym e) (
-      λ q k n goes. absurd (no_both goes (d.0 q k n)),
+      λ q k n goes. absurd (not_both goes (d.0 q k n)),
       λ all. d.1
           (λ k n. none k n (is_going_descriptor ((custody_of t).descriptor k n)) refl (all k n)),
     )
@@ -319,7 +309,7 @@ descriptors_page_decides t w r g e is =
         → (is_going_descriptor ((custody_of t).descriptor k n) ≡ true → false ≡ true)
         → is_going_descriptor ((custody_of t).descriptor k n) ≡ false
     none k n false e h = e
-    none k n true e h = absurd (no_both (h e) refl)
+    none k n true e h = absurd (not_both (h e) refl)
 
 pub descriptors_seg_decides : (t : Tables) (w : What) (r : Bool) (u : ℕ) → w ≡ what.Seg u
     → r ≡ list_any (λ row. list_any (λ x. is_going_descriptor x && not (is_uid u (leads_to x))) row) t.descriptors

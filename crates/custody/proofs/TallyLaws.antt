@@ -1,5 +1,5 @@
 -- What is counted of a list, as one element after the other changes.
-use Rattle.std.proofs.Common.{◌≡◌, ◌<◌, ◌≤◌, ◌^◌, ℕ, suc, zero, Bool, true, false, cond, eqb, List, []}
+use Rattle.std.proofs.Common.{◌≡◌, ◌<◌, ◌≤◌, ◌^◌, ℕ, suc, zero, eqb, List, []}
 use Rattle.std.proofs.Common.{◌∷◌, Option, Some, None, length, get_or, set, length-set}
 use Rattle.std.proofs.Common.{◌∙◌, arith, subst, sym}
 use Rattle.std.specs.Prelude.{sum_by}
@@ -10,6 +10,7 @@ use Rattle.custody.specs.Counts.{AreFew, Counted, Keeps, Shifts, key_bit}
 use Rattle.custody.specs.Uses.{UseCounted, IsTally, AreFrames, AreDescriptors, KeepUses, ShiftUses, AreFewUses}
 use Rattle.custody.specs.Uses.{frame_mark, descriptor_mark, uid_key, going_key}
 use Rattle.custody.specs.Uses.{kind_key, page_key, started_key}
+use Rattle.laws.proofs.Bools.{bit_le}
 
 -- ---- sums
 
@@ -24,13 +25,9 @@ sum_small f one [] = omega arith
 sum_small f one (x ∷ xs) = let h = sum_small f one xs in let g = one x in let c =
     sum_by-cons f x xs in omega (arith, h, g, c)
 
-one_cond : (t : Bool) → cond t 1 0 ≤ 1
-one_cond true = omega arith
-one_cond false = omega arith
-
 pub bit_small : (k : Option ℕ) (a : ℕ) → key_bit k a ≤ 1
 bit_small None a = omega arith
-bit_small (Some k) a = one_cond (eqb k a)
+bit_small (Some k) a = bit_le (eqb k a)
 
 -- ---- tallies
 

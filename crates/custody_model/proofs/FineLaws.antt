@@ -24,11 +24,10 @@ use Rattle.custody_model.specs.Allowed.{NamesAllGoing, next_command}
 use Rattle.custody_model.specs.Fine.{Fine, IsFinePage, IsFineSeg, IsWarned, NoneDue, FillsOnline, pending_after}
 use Rattle.custody_model.specs.Next.{with_frame, with_descriptor, with_active, with_seat, signalled, answered_clear}
 use Rattle.custody_model.specs.Next.{queued, is_try, released_by, custody_next}
+use Rattle.laws.proofs.Bools.{not_both}
+use Rattle.std.proofs.lemmas.Bool.{false_from_ne_true}
 
 -- ---- lists
-
-no_and : {b : Bool} → b ≡ true → b ≡ false → ⊥
-no_and t f = let no : true ≡ false = sym t ∙ f in cc
 
 has-filter : (p : ℕ → Bool) (xs : List ℕ) (x : ℕ) → has (filter p xs) x ≡ true → (p x ≡ true) × (has xs x ≡ true)
 has-filter p xs x h =
@@ -43,12 +42,12 @@ by_place i k x y P here other = elim (eqb_tells i k) [ inl e ↦ rw e.0 (here e.
 
 -- ---- what is named
 
-names_same : (c e : Custody) (w : What) (f : ℕ) → e.frame f ≡ c.frame f → names_frame e w f ≡ names_frame c w f
+pub names_same : (c e : Custody) (w : What) (f : ℕ) → e.frame f ≡ c.frame f → names_frame e w f ≡ names_frame c w f
 names_same c e what.All f h = refl
 names_same c e (what.Page g) f h = refl
 names_same c e (what.Seg u) f h = rw h refl
 
-names_descriptor_same : (c e : Custody) (w : What) (k n : ℕ) → e.descriptor k n ≡ c.descriptor k n
+pub names_descriptor_same : (c e : Custody) (w : What) (k n : ℕ) → e.descriptor k n ≡ c.descriptor k n
     → names_descriptor e w k n ≡ names_descriptor c w k n
 names_descriptor_same c e what.All k n h = refl
 names_descriptor_same c e (what.Page g) k n h = refl
@@ -85,21 +84,17 @@ seg_same c e b d k n h due (inr i) = inr (
 
 -- ---- nobody holds
 
-not_so : (z : Bool) → (z ≡ true → ⊥) → z ≡ false
-not_so false h = refl
-not_so true h = absurd (h refl)
-
 -- a processor that holds a page table word of a frame knows it to be current or going
 pub nobody_holds_page : (c : Custody) (b : Bool) (f : ℕ) → Fine c b → is_current_frame (c.frame f) ≡ false
     → is_going_frame (c.frame f) ≡ false
     → NobodyHoldsPage c f
-nobody_holds_page c b f fine current going d = not_so (has (c.seat d).pages f) (λ h. elim (fine.page d f h)
-    [ inl i ↦ no_and i current | inr i ↦ no_and i.0 going ])
+nobody_holds_page c b f fine current going d = false_from_ne_true (has (c.seat d).pages f) (λ h. elim (fine.page d f h)
+    [ inl i ↦ not_both i current | inr i ↦ not_both i.0 going ])
 
 pub nobody_holds_seg : (c : Custody) (b : Bool) (k n : ℕ) → Fine c b → is_current_descriptor (c.descriptor k n) ≡ false
     → is_going_descriptor (c.descriptor k n) ≡ false → NobodyHoldsSeg c k n
-nobody_holds_seg c b k n fine current going d process = not_so (has (c.seat d).segs n) (λ h. elim
-    (fine.seg d k n process h) [ inl i ↦ no_and i current | inr i ↦ no_and i.0 going ])
+nobody_holds_seg c b k n fine current going d process = false_from_ne_true (has (c.seat d).segs n) (λ h. elim
+    (fine.seg d k n process h) [ inl i ↦ not_both i current | inr i ↦ not_both i.0 going ])
 
 not_warned : (o : Option What) (t : What → Bool) → o ≡ None → (false ≡ true) ⊎ IsSomeAnd o (λ w. t w ≡ true) → ⊥
 not_warned o t none (inl i) = let no : false ≡ true = i in absurd cc
@@ -109,17 +104,17 @@ not_warned (Some w) t none (inr i) = let no : Some w ≡ None = none in absurd c
 -- once the signal was given and nobody is to drop anything, nobody holds what is going
 pub nobody_holds_going_page : (c : Custody) (f : ℕ) → Fine c false → NoneDue c → is_current_frame (c.frame f) ≡ false
     → NobodyHoldsPage c f
-nobody_holds_going_page c f fine none current d = not_so (has (c.seat d).pages f) (λ h. elim (fine.page d f h) [
-  | inl i ↦ no_and i current
+nobody_holds_going_page c f fine none current d = false_from_ne_true (has (c.seat d).pages f) (λ h. elim (fine.page d f h) [
+  | inl i ↦ not_both i current
   | inr i ↦ not_warned (c.seat d).due (λ w. names_frame c w f) (none d) i.1
 ])
 
 pub nobody_holds_going_seg : (c : Custody) (k n : ℕ) → Fine c false → NoneDue c
     → is_current_descriptor (c.descriptor k n) ≡ false
     → NobodyHoldsSeg c k n
-nobody_holds_going_seg c k n fine none current d process = not_so (has (c.seat d).segs n) (λ h. elim
+nobody_holds_going_seg c k n fine none current d process = false_from_ne_true (has (c.seat d).segs n) (λ h. elim
     (fine.seg d k n process h) [
-      | inl i ↦ no_and i current
+      | inl i ↦ not_both i current
       | inr i ↦ not_warned (c.seat d).due (λ w. names_descriptor c w k n) (none d) i.1
     ])
 
@@ -131,7 +126,7 @@ pub frame_fine : (c : Custody) (b : Bool) (f : ℕ) (x : FrameUse) → Fine c b 
 frame_fine c b f x fine nobody = record {
   page = λ d g h. page_same c (with_frame c f x) b d g
       (by_place g f x (c.frame g) (λ y. y ≡ c.frame g)
-      (λ e. absurd (no_and h (subst (λ (i : ℕ). has (c.seat d).pages i ≡ false) (sym e) (nobody d)))) (λ n. refl)) refl
+      (λ e. absurd (not_both h (subst (λ (i : ℕ). has (c.seat d).pages i ≡ false) (sym e) (nobody d)))) (λ n. refl)) refl
       (fine.page d g h);
   seg = λ d k n process h. fine.seg d k n process h;
   idle = fine.idle;
@@ -157,17 +152,17 @@ descriptor_fine c b k n x fine nobody = record {
             let second : m ≡ n = grind (arith, nat_tests) in
             let held : has (c.seat d).segs n ≡ true = subst (λ (i : ℕ). has (c.seat d).segs i ≡ true) second h in
             let its : (c.seat d).process ≡ Some k = process ∙ ap (λ (i : ℕ). Some i) first in
-            absurd (no_and held (nobody d its))
+            absurd (not_both held (nobody d its))
 
 -- ---- what is taken
 
-going_taken : (x : FrameUse) → is_current_frame x ≡ true → is_going_frame (taken x) ≡ true
+pub going_taken : (x : FrameUse) → is_current_frame x ≡ true → is_going_frame (taken x) ≡ true
 going_taken frame.Free h = absurd (let no : false ≡ true = h in cc)
 going_taken (frame.Started u p) h = absurd (let no : false ≡ true = h in cc)
 going_taken (frame.Current u p) h = refl
 going_taken (frame.Going u p) h = absurd (let no : false ≡ true = h in cc)
 
-going_cut : (x : DescriptorUse) → is_current_descriptor x ≡ true → is_going_descriptor (cut x) ≡ true
+pub going_cut : (x : DescriptorUse) → is_current_descriptor x ≡ true → is_going_descriptor (cut x) ≡ true
 going_cut descriptor.Free h = absurd (let no : false ≡ true = h in cc)
 going_cut (descriptor.Current u) h = refl
 going_cut (descriptor.Going u) h = absurd (let no : false ≡ true = h in cc)
@@ -306,7 +301,7 @@ pub fill_page_fine : (c : Custody) (b : Bool) (d f : ℕ) → Fine c b → (c.se
 fill_page_fine c b d f fine online current =
     seat_fine c b d new fine here
     (λ k n process h. seg_same c (with_seat c d new) b d k n refl (due_kept c d new refl d)
-    (fine.seg d k n process h)) (λ off. absurd (no_and online off))
+    (fine.seg d k n process h)) (λ off. absurd (not_both online off))
   where
     new : Seat
     new = record (c.seat d) { pages = filled (c.seat d).pages f }
@@ -324,7 +319,7 @@ pub fill_seg_fine : (c : Custody) (b : Bool) (d k n : ℕ) → Fine c b → (c.s
 fill_seg_fine c b d k n fine online its current =
     seat_fine c b d new fine
     (λ f h. page_same c (with_seat c d new) b d f refl (due_kept c d new refl d) (fine.page d f h)) here
-    (λ off. absurd (no_and online off))
+    (λ off. absurd (not_both online off))
   where
     new : Seat
     new = record (c.seat d) { segs = filled (c.seat d).segs n }
@@ -389,7 +384,7 @@ signal_fine c b d w fine all = record {
     own_page : (e f : ℕ) (due : Option What) → has (cleared c w (c.seat e)).pages f ≡ true → IsPage e f due
     own_page e f due h =
         let kept = kept_page c w (c.seat e) f h in
-        elim (fine.page e f kept.1) [ inl i ↦ inl i | inr i ↦ absurd (no_and (all.frames f i.0) kept.0) ]
+        elim (fine.page e f kept.1) [ inl i ↦ inl i | inr i ↦ absurd (not_both (all.frames f i.0) kept.0) ]
 
     own_seg : (e k n : ℕ) (due : Option What) → (c.seat e).process ≡ Some k → has (cleared c w (c.seat e)).segs n
         ≡ true → IsSeg e k n due
@@ -397,11 +392,11 @@ signal_fine c b d w fine all = record {
         let kept = kept_seg c w (c.seat e) k n process h in
         elim (fine.seg e k n process kept.1) [
           | inl i ↦ inl i
-          | inr i ↦ absurd (no_and (all.descriptors k n i.0) kept.0)
+          | inr i ↦ absurd (not_both (all.descriptors k n i.0) kept.0)
         ]
 
     none_held : (xs : List ℕ) (x : ℕ) → xs ≡ [] → has xs x ≡ true → ⊥
-    none_held xs x none h = no_and h (ap (λ (ys : List ℕ). has ys x) none)
+    none_held xs x none h = not_both h (ap (λ (ys : List ℕ). has ys x) none)
 
     other_page : (e f : ℕ) → has (others e).pages f ≡ true → IsPage e f (others e).due
     other_page e f = by_online (c.seat e).online refl
@@ -427,7 +422,7 @@ signal_fine c b d w fine all = record {
         → (cond z (record (c.seat e) { due = Some w }) (c.seat e)).online ≡ false
         → ((cond z (record (c.seat e) { due = Some w }) (c.seat e)).segs ≡ [])
         × ((cond z (record (c.seat e) { due = Some w }) (c.seat e)).pages ≡ [])
-    other_idle e true on off = absurd (no_and on off)
+    other_idle e true on off = absurd (not_both on off)
     other_idle e false on off = fine.idle e off
 
 -- a processor that was to drop what is named has dropped it
@@ -441,7 +436,7 @@ clear_fine c b d w fine its =
     next = answered_clear c d w
 
     told_of : (t : What → Bool) → t w ≡ false → IsSomeAnd (c.seat d).due (λ v. t v ≡ true) → ⊥
-    told_of t not_named i = no_and (subst (λ (o : Option What). IsSomeAnd o (λ v. t v ≡ true)) its i) not_named
+    told_of t not_named i = not_both (subst (λ (o : Option What). IsSomeAnd o (λ v. t v ≡ true)) its i) not_named
 
     warned_still : (t : What → Bool) → t w ≡ false → (b ≡ true) ⊎ IsSomeAnd (c.seat d).due (λ v. t v ≡ true) → b ≡ true
     warned_still t not_named (inl i) = i
@@ -474,7 +469,7 @@ ready_fine c b r fine = record { page = fine.page; seg = fine.seg; idle = fine.i
 active_fine : (c : Custody) (b : Bool) (u : ℕ) (x : Bool) → Fine c b → Fine (with_active c u x) b
 active_fine c b u x fine = record { page = fine.page; seg = fine.seg; idle = fine.idle }
 
-none_has : (x : ℕ) → has [] x ≡ true → ⊥
+pub none_has : (x : ℕ) → has [] x ≡ true → ⊥
 none_has x h = let no : false ≡ true = h in cc
 
 -- a processor that holds nothing

@@ -1,3 +1,4 @@
 pub mod CleanLaws
 pub mod FineLaws
+pub mod SharedLaws
 pub mod TurnLaws

@@ -18,9 +18,10 @@ use Rattle.tree_model.specs.Trees.{AreBelow}
 use Rattle.dir_tree.specs.Laws.{directory_shape, directory_in, segment_in}
 use Rattle.dir_tree.specs.Kept.{entry_at, newest, IsNamed, IsKept, HasEntry}
 use Rattle.tree_model.proofs.Finds.{IsMember, member_parts, member_map, member_found, branch_found, any_member}
-use Rattle.tree_model.proofs.Finds.{any_found, find_map, found_member, found_passes}
+use Rattle.tree_model.proofs.Finds.{any_found, find_map, found_member}
 use Rattle.dir_tree.proofs.NewestLemmas.{node_of_entry, none_newest, find_newest, member_newest}
 use Rattle.tree_model.proofs.TreeLaws.{superior_in, lies, only_branch, is_below, not_below, IsUp}
+use Rattle.laws.proofs.Lists.{find_passes}
 
 -- ---- nodes and their shapes
 
@@ -131,7 +132,7 @@ entry_present {nodes} {es} {free} {index} {next} k uid e =
     let n : (n : Node) × (node_of (newest nodes es) uid ≡ Some n) = some_of (node_of (newest nodes es) uid) e in
     let m : (i : ℕ) × (i < length es) × (node_of_entry nodes es i ≡ n.0) =
     member_entry nodes es n.0 (found_member (λ n. eqb n.uid uid) (newest nodes es) n.0 n.1) in
-    let is : eqb n.0.uid uid ≡ true = found_passes (λ n. eqb n.uid uid) (newest nodes es) n.0 n.1 in
+    let is : eqb n.0.uid uid ≡ true = find_passes (λ n. eqb n.uid uid) (newest nodes es) n.0 n.1 in
     (m.0, m.1, sym (k.uids m.0 m.1) ∙ ap (λ (n : Node). n.uid) m.2 ∙ eqb-true n.0.uid uid is)
 
 pub segment_present : {nodes : List Node} {es : List Entry} {free : List ℕ} {index : Places} {next : ℕ}

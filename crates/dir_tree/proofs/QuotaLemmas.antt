@@ -17,6 +17,7 @@ use Rattle.dir_tree.specs.Shape.{shape, shapes}
 use Rattle.tree_model.specs.Trees.{IsTree, Joins}
 use Rattle.tree_model.proofs.TreeLaws.{superior_in}
 use Rattle.tree_model.proofs.Finds.{find_map, branch_found}
+use Rattle.laws.proofs.Options.{none_mapped}
 
 pub node_any : (q : ℕ → ℕ) (ns : List Node) (u : ℕ) → node_in (with_quotas q ns) u
     ≡ option_map (as_term q) (node_of ns u)
@@ -67,15 +68,11 @@ pub walk_any : (q : ℕ → ℕ) (ns : List Node) (path : List (List ℕ)) → w
     ≡ walk_in (shapes ns) path
 walk_any q ns path = walk_any_from q ns 1 true path
 
-some_map : {X Y : Type 0} (f : X → Y) (o : Option X) → is_some (option_map f o) ≡ is_some o
-some_map f None = refl
-some_map f (Some x) = refl
-
 pub named_any : (q : ℕ → ℕ) (ns : List Node) (d : ℕ) (name : List ℕ) → is_some (branch_in (with_quotas q ns) d name)
     ≡ is_some (branch_in (shapes ns) d name)
 named_any q ns d name =
-    ap is_some (branch_any q ns d name) ∙ some_map (as_term q) (find (λ n. is_branch d name (shape n)) ns)
-    ∙ sym (ap is_some (branch_shape ns d name) ∙ some_map shape (find (λ n. is_branch d name (shape n)) ns))
+    ap is_some (branch_any q ns d name) ∙ none_mapped (as_term q) (find (λ n. is_branch d name (shape n)) ns)
+    ∙ sym (ap is_some (branch_shape ns d name) ∙ none_mapped shape (find (λ n. is_branch d name (shape n)) ns))
 
 pub fault_any : (q : ℕ → ℕ) (ns : List Node) (d : ℕ) (name : List ℕ) (b : Bool)
     → add_fault_of (with_quotas q ns) d name b ≡ add_fault_of (shapes ns) d name b

@@ -16,26 +16,23 @@ use Rattle.flat_model.specs.Store.{Store}
 use Rattle.flat_model.proofs.DropLaws.{stored_fused, stored_same}
 use Rattle.flat_model.proofs.PageLaws.{is_stored-without}
 use Rattle.flat_model.proofs.ZeroLaws.{words_zero, zero_words}
-
-pub zeros : (n i : ℕ) → get_or {A = ℕ} (replicate n 0) i 0 ≡ 0
-zeros zero i = refl
-zeros (suc n) zero = refl
-zeros (suc n) (suc i) = zeros n i
+use Rattle.std.proofs.lemmas.Grind.{get_or_default_zero}
+use Rattle.laws.proofs.Lists.{zeros_read}
 
 -- a word of a page that is cut
 pub get_cut : (at i n : ℕ) (ws : List ℕ)
     → get_or (take at ws ++ replicate n 0) i 0 ≡ cond (nat_le at i) 0 (get_or ws i 0)
-get_cut zero i n [] = zeros n i ∙ either (nat_le zero i)
+get_cut zero i n [] = zeros_read n i ∙ either (nat_le zero i)
   where
     either : (z : Bool) → ◌≡◌ {A = ℕ} 0 (cond z 0 0)
     either true = refl
     either false = refl
-get_cut zero i n (w ∷ ws) = zeros n i ∙ first (nat_le zero i) (grind (arith, nat_tests))
+get_cut zero i n (w ∷ ws) = zeros_read n i ∙ first (nat_le zero i) (grind (arith, nat_tests))
   where
     first : (z : Bool) → z ≡ true → ◌≡◌ {A = ℕ} 0 (cond z 0 (get_or (w ∷ ws) i 0))
     first true e = refl
     first false e = cc
-get_cut (suc at) i n [] = zeros n i ∙ either (nat_le (suc at) i)
+get_cut (suc at) i n [] = zeros_read n i ∙ either (nat_le (suc at) i)
   where
     either : (z : Bool) → ◌≡◌ {A = ℕ} 0 (cond z 0 0)
     either true = refl
@@ -60,13 +57,7 @@ pub cut_size : (at : ℕ) (ws : List ℕ) → length ws ≡ 1024 → at ≤ 1024
 cut_size at ws size le = length-append (take at ws) (replicate (1024 - at) 0)
     ∙ omega (arith, length-take at ws, length-replicate {A = ℕ} (1024 - at) 0, size, le)
 
--- an element within, by another default
-within : (ws : List ℕ) (k d : ℕ) → k < length ws → get_or ws k d ≡ get_or ws k 0
-within [] k d lt = absurd (omega arith)
-within (w ∷ ws) zero d lt = refl
-within (w ∷ ws) (suc k) d lt = within ws k d (omega arith)
-
--- a page is all zeros exactly where its words are
+-- a page is all zeros_read exactly where its words are
 pub zero_words_told : (words : Words) (u q : ℕ) (ws : List ℕ) (r : Bool) → length ws ≤ 1024
     → ((i : ℕ) → i < 1024 → words u (1024 * q + i) ≡ get_or ws i 0)
     → (IsTrue r ↔ All (λ word. word ≡ 0) ws) → r ≡ is_zero_page words u q
@@ -82,7 +73,7 @@ zero_words_told words u q ws r size word told = agree r (is_zero_page words u q)
         ]
 
     back : is_zero_page words u q ≡ true → r ≡ true
-    back is = told.1 (λ k d lt. within ws k d lt ∙ sym (word k (omega (arith, lt, size)))
+    back is = told.1 (λ k d lt. get_or_default_zero ws k d lt ∙ sym (word k (omega (arith, lt, size)))
         ∙ zero_words words u q k is (omega (arith, lt, size)))
 
     agree : (a b : Bool) → (a ≡ true → b ≡ true) → (b ≡ true → a ≡ true) → a ≡ b
@@ -273,7 +264,7 @@ module _ (s : Store) (u from : ℕ) where
       by_side false e other = sym (below q (let lt : q < page + 1 = grind (arith, nat_tests) in
           omega (arith, lt, other)))
 
-  -- the words of a page of zeros are 0 already
+  -- the words of a page of zeros_read are 0 already
   zero_words_same : is_zero_page (without_words s.words u from) u page ≡ true → (v o : ℕ)
       → cond (eqb v u && eqb (o / 1024) page) 0 (without_words s.words u from v o) ≡ without_words s.words u from v o
   zero_words_same zero_is v o = here (eqb v u) (eqb (o / 1024) page) refl refl

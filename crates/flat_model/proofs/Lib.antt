@@ -16,6 +16,7 @@ pub mod QuotaTotals
 pub mod RemoveLaws
 pub mod RoomLaws
 pub mod ScriptLaws
+pub mod SharedLaws
 pub mod TreeLaws
 pub mod TreeReplies
 pub mod ZeroLaws

@@ -1,8 +1,7 @@
 -- What is read of a node that is there.
-use Rattle.std.proofs.Common.{◌≡◌, ℕ, Bool, true, false, not, eqb, List, [], ◌∷◌, Some, None, arith, refl, sym, ap}
-use Rattle.std.proofs.Common.{◌∙◌, inl, inr}
+use Rattle.std.proofs.Common.{◌≡◌, ℕ, Bool, true, false, not, eqb, List, [], ◌∷◌, Some, None, refl}
+use Rattle.std.proofs.Common.{inl, inr}
 use Rattle.std.proofs.lemmas.Bool.{cases_Bool}
-use Rattle.std.proofs.lemmas.Bool.Decides.{nat_tests}
 use Rattle.tree_model.specs.Tree.{Node, has_directory, node_in, volume_in}
 use Rattle.tree_model.specs.Trees.{has_segment}
 use Rattle.flat_model.proofs.FieldLaws.{field_found, field_none}
@@ -12,15 +11,6 @@ volume_found ns u n = field_found (λ (xs : List Node). volume_in xs u) (λ (x :
 
 pub no_volume : (ns : List Node) (u : ℕ) → node_in ns u ≡ None → volume_in ns u ≡ 0
 no_volume ns u = field_none (λ (xs : List Node). volume_in xs u) (λ (x : Node). x.volume) u (λ m xs. refl) ns
-
-pub uid_found : (ns : List Node) (u : ℕ) (n : Node) → node_in ns u ≡ Some n → n.uid ≡ u
-uid_found [] u n e = cc
-uid_found (m ∷ ns) u n e = elim (cases_Bool (eqb m.uid u)) [
-  | inl is ↦ (let z : Some m ≡ Some n = rw is at e in let same : m ≡ n = cc in
-      let own : m.uid ≡ u = grind (arith, nat_tests) in
-      ap (λ (x : Node). x.uid) (sym same) ∙ own)
-  | inr isnt ↦ uid_found ns u n (rw isnt at e)
-]
 
 -- a segment is no directory
 pub no_directory : (ns : List Node) (u : ℕ) → has_segment ns u ≡ true → has_directory ns u ≡ false

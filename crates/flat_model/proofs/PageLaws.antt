@@ -4,6 +4,7 @@ use Rattle.std.proofs.Common.{sym, ap, ◌∙◌, arith, filter}
 use Rattle.std.specs.Prelude.{nat_le}
 use Rattle.std.proofs.lemmas.Bool.Decides.{nat_tests}
 use Rattle.flat_model.specs.Pages.{is_page, is_stored, is_stored_from, with_stored, without_stored, IsOnce}
+use Rattle.laws.proofs.Bools.{and_false}
 
 pub is_stored-with : (xs : List (ℕ × ℕ)) (u p v q : ℕ) → is_stored (with_stored xs u p) v q
     ≡ (is_page v q (u, p) || is_stored xs v q)
@@ -44,10 +45,6 @@ pub with_old : (xs : List (ℕ × ℕ)) (u p : ℕ) → is_stored xs u p ≡ tru
 unfolding with_stored
 with_old xs u p h = rw h refl
 
-none : (z : Bool) → (z && false) ≡ false
-none true = refl
-none false = refl
-
 -- the first page stays, or goes
 pub without_first : (x : ℕ × ℕ) (xs : List (ℕ × ℕ)) (u : ℕ) (t : ℕ → Bool) (z : Bool) → (eqb x.0 u && t x.1) ≡ z
     → without_stored (x ∷ xs) u t ≡ cond z (without_stored xs u t) (x ∷ without_stored xs u t)
@@ -63,7 +60,7 @@ without_none u t = refl
 pub is_stored-without : (xs : List (ℕ × ℕ)) (u : ℕ) (t : ℕ → Bool) (v q : ℕ)
     → is_stored (without_stored xs u t) v q ≡ (not (eqb v u && t q) && is_stored xs v q)
 is_stored-without [] u t v q = ap (λ (ys : List (ℕ × ℕ)). is_stored ys v q) (without_none u t)
-    ∙ sym (none (not (eqb v u && t q)))
+    ∙ sym (and_false (not (eqb v u && t q)))
 is_stored-without (x ∷ xs) u t v q = kept (eqb x.0 u && t x.1) refl (is_page v q x) refl (is_stored-without xs u t v q)
   where
     same : is_page v q x ≡ true → (eqb x.0 u && t x.1) ≡ (eqb v u && t q)
@@ -103,7 +100,7 @@ once_without (x ∷ xs) u t once = kept (eqb x.0 u && t x.1) (is_stored-without 
         → IsOnce (cond (not z) (x ∷ filter (λ y. not (eqb y.0 u && t y.1)) xs)
         (filter (λ y. not (eqb y.0 u && t y.1)) xs))
     kept true e ih = ih
-    kept false e ih = (e ∙ ap (λ z. not (eqb x.0 u && t x.1) && z) once.0 ∙ none (not (eqb x.0 u && t x.1)), ih)
+    kept false e ih = (e ∙ ap (λ z. not (eqb x.0 u && t x.1) && z) once.0 ∙ and_false (not (eqb x.0 u && t x.1)), ih)
 
 -- nothing is taken out where nothing is there
 pub without_absent : (xs : List (ℕ × ℕ)) (u p : ℕ) → is_stored xs u p ≡ false → without_stored xs u (λ q. eqb q p) ≡ xs
@@ -155,7 +152,7 @@ stored_from (x ∷ xs) u from q h le = here (is_page u q x) refl h (λ at. store
         either true f = refl
         either false f = f
 
--- none is stored at or past one where each isn't
+-- and_false is stored at or past one where each isn't
 pub none_from : (xs : List (ℕ × ℕ)) (u from : ℕ) → ((q : ℕ) → nat_le from q ≡ true → is_stored xs u q ≡ false)
     → is_stored_from xs u from ≡ false
 none_from [] u from each = refl

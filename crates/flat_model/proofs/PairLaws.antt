@@ -1,11 +1,12 @@
 -- Pairs of numbers in order, by the first and then the second, as keys of an ordered map are.
-use Rattle.std.proofs.Common.{◌≡◌, ◌<◌, ◌≤◌, ◌⊎◌, ℕ, suc, Bool, true, false, cond, eqb}
-use Rattle.std.proofs.Common.{sym, ap, ◌∙◌, arith, inl, inr}
+use Rattle.std.proofs.Common.{◌≡◌, ◌<◌, ◌≤◌, ◌⊎◌, ℕ, suc, Bool, false, cond, eqb}
+use Rattle.std.proofs.Common.{ap, ◌∙◌, arith, inl, inr}
 use Rattle.std.specs.BTreeMap.Range.{IsLeBy}
 use Rattle.std.specs.Ordering.{is_gt, nat_cmp, ordering_then}
 use Rattle.std.specs.declared.cmp.Ordering.{Ordering}
 use Rattle.std.specs.declared.cmp.Ordering.TheVariants.{Less, Equal, Greater}
 use Rattle.std.proofs.lemmas.Bool.Decides.{eqb_tells, leb_tells}
+use Rattle.laws.proofs.Bools.{not_both}
 
 abbrev pub by_both : ℕ × ℕ → ℕ × ℕ → Ordering
 by_both x y = ordering_then (nat_cmp x.0 y.0) (nat_cmp x.1 y.1)
@@ -33,9 +34,6 @@ compare a b = elim (leb_tells (suc a) b) [
       | inl l ↦ l.1
       | inr m ↦ (let other = m.1 in let same : a ≡ b = omega (arith, le, other) in absurd (apart same))
     ]
-
-not_both : {t : Bool} → t ≡ true → t ≡ false → ⊥
-not_both h g = let z : true ≡ false = sym h ∙ g in cc
 
 pub first_le : (x y : ℕ × ℕ) → IsLeBy by_both x y → x.0 ≤ y.0
 first_le x y h = elim (compare x.0 y.0) [

@@ -10,7 +10,7 @@ use Rattle.script.specs.Plans.{Plan, ProcessPlan, command_at, commands_of, nobod
 use Rattle.script.specs.declared.commands.Command.{Command}
 use Rattle.script.specs.declared.commands.Command.TheVariants as command
 
-heavy : (volumes : ℕ) (c : Command) → is_command volumes c ≡ true → 1 ≤ weight c
+pub heavy : (volumes : ℕ) (c : Command) → is_command volumes c ≡ true → 1 ≤ weight c
 unfolding is_command
 heavy volumes (command.MkDir path volume) is = omega arith
 heavy volumes (command.MkSeg path pages volume) is = omega arith

@@ -5,12 +5,13 @@ use Rattle.std.specs.Prelude.{nat_lt}
 use Rattle.std.specs.Int.{is_positive}
 use Rattle.std.proofs.lemmas.Bool.Decides.{nat_tests}
 use Rattle.book.specs.declared.replies.Reply.TheVariants as reply
-use Rattle.tree_model.specs.Quotas.{getter_of, giver_of, is_over, least_where, over_in, tree_moved, with_moved}
+use Rattle.tree_model.specs.Quotas.{getter_of, giver_of, is_over, over_in, tree_moved, with_moved}
 use Rattle.tree_model.specs.Quotas.{with_quota_of}
 use Rattle.tree_model.specs.Tree.{Node, above, has_directory, quota_in, used_by}
 use Rattle.flat_model.specs.Branches.{directory_at}
 use Rattle.flat_model.specs.Rights.{done_or_over, move_reply}
 use Rattle.flat_model.specs.Store.{Store}
+use Rattle.tree_model.proofs.SharedLaws.{least_none}
 
 quota_same : (u : ℕ) (change : ℕ → ℕ) (n : Node) → ((q : ℕ) → change q ≡ q) → with_quota_of u change n ≡ n
 quota_same u change n same = here (eqb n.uid u)
@@ -29,10 +30,6 @@ nodes_same (n ∷ ns) giver getter =
 
 pub nothing_moved : (ns : List Node) (d : ℕ) (down : Bool) → tree_moved ns d down 0 ≡ ns
 nothing_moved ns d down = nodes_same ns (giver_of (above ns) d down) (getter_of (above ns) d down)
-
-least_none : (test : ℕ → Bool) (us : List ℕ) → ((u : ℕ) → test u ≡ false) → least_where test us ≡ None
-least_none test [] none = refl
-least_none test (u ∷ us) none = rw (none u) (least_none test us none)
 
 none_over : (ns : List Node) (xs : List (ℕ × ℕ)) → ((a : ℕ) → used_by ns xs a ≤ quota_in ns a) → over_in ns xs ≡ None
 unfolding over_in

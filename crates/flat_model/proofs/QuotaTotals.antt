@@ -16,7 +16,7 @@ use Rattle.book.specs.declared.replies.Reply.{Reply}
 use Rattle.book.specs.declared.replies.Reply.TheVariants as reply
 use Rattle.tree_model.specs.Quotas.{giver_of, tree_moved, with_moved, with_quota_of}
 use Rattle.tree_model.specs.Access.{Row}
-use Rattle.tree_model.specs.Tree.{Node, Walk, LeadsTo, Missing, InSegment, above, has_directory, is_inferior, node_in}
+use Rattle.tree_model.specs.Tree.{Node, Walk, LeadsTo, Missing, InSegment, above, is_inferior, node_in}
 use Rattle.tree_model.specs.Tree.{is_account, quota_in, used_by, walk_in, with_node, without_node}
 use Rattle.tree_model.specs.Trees.{AreBelow, AreDirectories, AreUnder, EndsAtRoot, HasChains, IsTree, Joins}
 use Rattle.tree_model.proofs.ChainLaws.{has_chains}
@@ -31,7 +31,6 @@ use Rattle.flat_model.specs.Naming.{after_initiate, after_terminate, initiated}
 use Rattle.flat_model.specs.Rights.{after_acl, after_move, move_of, move_reply, moved}
 use Rattle.flat_model.specs.Sizes.{after_length, after_truncate, truncated}
 use Rattle.flat_model.specs.Store.{Store, boot, known_uid, root_of}
-use Rattle.flat_model.proofs.NodeLaws.{uid_found}
 use Rattle.flat_model.proofs.TreeLaws.{path_apart}
 use Rattle.book.specs.declared.entries.Entry.{Entry}
 use Rattle.book.specs.declared.entries.Entry.TheVariants as entry
@@ -41,6 +40,8 @@ use Rattle.script.specs.declared.commands.Reference.{Reference}
 use Rattle.flat_model.specs.Commands.{after_command, effect_by, effect_of, reply_by, reply_to_command}
 use Rattle.flat_model.specs.Legal.{IsAnswer, IsLawful, after_do, after_entry, after_fault, is_within}
 use Rattle.flat_model.specs.References.{after_reference, written, written_by}
+use Rattle.tree_model.proofs.SharedLaws.{directory_there, found_uid}
+use Rattle.laws.proofs.Bools.{or_true}
 
 -- ---- the nodes of a tree
 
@@ -74,10 +75,6 @@ not_less a b h = elim (leb_tells (suc a) b) [
   | inl e ↦ (let less = e.1 in absurd (omega (arith, less, h)))
   | inr m ↦ m.0
 ]
-
-or_true : (a : Bool) → (a || true) ≡ true
-or_true true = refl
-or_true false = refl
 
 -- each account is within its quota
 pub all_within : (t : Store) → IsTree t.nodes → ((a : ℕ) → used_by t.nodes t.stored a ≤ quota_in t.nodes a)
@@ -215,15 +212,6 @@ moved_total (n ∷ ns) giver getter pages t other enough = elim (eqb_tells n.uid
         let a = cons in let b = was in let c = past giver m.0 in let d = past getter o.0 in
         omega (arith, quota, rest, a, b, c, d)
 
--- a directory other than the root, and the one above it, are both there, and are two
-pub directory_node : (ns : List Node) (u : ℕ) → has_directory ns u ≡ true → is_some (node_in ns u) ≡ true
-directory_node [] u h = absurd (let no : false ≡ true = h in cc)
-directory_node (n ∷ ns) u h = elim (eqb_tells n.uid u) [
-  | inl e ↦ ap (λ (b : Bool). is_some (cond b (Some n) (node_in ns u))) e.0
-  | inr m ↦ ap (λ (b : Bool). is_some (cond b (Some n) (node_in ns u))) m.0
-      ∙ directory_node ns u (sym (ap (λ (b : Bool). cond b n.directory (has_directory ns u)) m.0) ∙ h)
-]
-
 module _ (ns : List Node) (t : IsTree ns) (d : ℕ) (there : is_some (node_in ns d) ≡ true) (branch : d ≢ 1) where
   chains : HasChains ns
   chains = has_chains ns t
@@ -238,7 +226,7 @@ module _ (ns : List Node) (t : IsTree ns) (d : ℕ) (there : is_some (node_in ns
 
   first_above : (us : List ℕ) → EndsAtRoot us → AreDirectories ns us → AreUnder d us → IsFirst us
   first_above [] e a u = absurd e
-  first_above (x ∷ xs) e a u = record { is_there = directory_node ns x a.0; below = u.0 }
+  first_above (x ∷ xs) e a u = record { is_there = directory_there ns x a.0; below = u.0 }
 
   above_first : IsFirst (above ns d)
   above_first = first_above (above ns d) (chains.rooted d there branch) (chains.directories d) (chains.under d)
@@ -259,10 +247,6 @@ module _ (ns : List Node) (t : IsTree ns) (d : ℕ) (there : is_some (node_in ns
       omega (arith, all, a, b)
 
 -- ---- what a path leads to
-
--- the node of a uid has that uid, and what is found by it
-pub found_uid : (ns : List Node) (u : ℕ) (n : Node) → node_in ns u ≡ Some n → n.uid ≡ u
-found_uid ns u n h = uid_found ns u n h
 
 pub there_found : (o : Option Node) (n : Node) → there_or o ≡ Ok n → o ≡ Some n
 there_found None n h = absurd (let no : Err reply.NoPath ≡ Ok n = h in cc)

@@ -1,9 +1,9 @@
 -- A directory or a segment is taken out.
-use Rattle.std.proofs.Common.{◌≡◌, ◌≢◌, ℕ, ◌+◌, ◌/◌, ◌||◌, Bool, true, false, cond, eqb, not, ◌&&◌, List, [], ◌∷◌}
+use Rattle.std.proofs.Common.{◌≡◌, ◌≢◌, ℕ, ◌+◌, ◌/◌, Bool, true, false, cond, eqb, not, ◌&&◌, List, [], ◌∷◌}
 use Rattle.std.proofs.Common.{Some, None, Ok, Err, refl, sym, ap, ◌∙◌, arith, inl, inr}
 use Rattle.std.specs.Prelude.{count_by, nat_le}
 use Rattle.std.specs.List.{list_any}
-use Rattle.std.proofs.lemmas.Bool.{cases_Bool}
+use Rattle.std.proofs.lemmas.Bool.{cases_Bool, or_parts}
 use Rattle.std.proofs.lemmas.Bool.Decides.{nat_tests}
 use Rattle.std.proofs.lemmas.List.Sums.{sum_by-cons}
 use Rattle.book.specs.declared.replies.Reply.{Reply}
@@ -18,11 +18,9 @@ use Rattle.flat_model.specs.Pages.{Words, is_page, is_stored, without_stored}
 use Rattle.flat_model.specs.Store.{Store}
 use Rattle.flat_model.proofs.FieldLaws.{field_left}
 use Rattle.flat_model.proofs.TreeReplies.{not_first}
+use Rattle.laws.proofs.Numbers.{from_first}
 
 -- ---- what is left of the nodes
-
-pub node_left : (ns : List Node) (u v : ℕ) → v ≢ u → node_in (without_node ns u) v ≡ node_in ns v
-node_left ns u v = field_left (λ (xs : List Node). node_in xs v) (λ (x : Node). Some x) v (λ m xs. refl) ns u
 
 pub node_gone : (ns : List Node) (u : ℕ) → node_in (without_node ns u) u ≡ None
 node_gone [] u = refl
@@ -50,38 +48,31 @@ directory_gone (n ∷ ns) u = elim (cases_Bool (eqb n.uid u)) [
       (rw there (directory_gone ns u))
 ]
 
-later : (a b : Bool) → (a || b) ≡ false → (a ≡ false) × (b ≡ false)
-later true b h = cc
-later false b h = (refl, h)
-
 pub taken_left : (ns : List Node) (xs : List (ℕ × ℕ)) (u v : ℕ) → ((page : ℕ) → is_stored xs u page ≡ false)
     → taken_on (without_node ns u) xs v ≡ taken_on ns xs v
 unfolding taken_on
 taken_left ns [] u v none = refl
 taken_left ns (x ∷ xs) u v none =
-    let first : (eqb x.0 u && eqb x.1 x.1) ≡ false = (later (is_page u x.1 x) (is_stored xs u x.1) (none x.1)).0 in
+    let first : (eqb x.0 u && eqb x.1 x.1) ≡ false = (or_parts (is_page u x.1 x) (is_stored xs u x.1) (none x.1)).0 in
     let apart : x.0 ≢ u = grind (arith, nat_tests) in
     sum_by-cons (λ (y : ℕ × ℕ). cond (eqb (volume_in (without_node ns u) y.0) v) 1 0) x xs
     ∙ ap (λ (n : ℕ). cond {A = ℕ} (eqb n v) 1 0 + count_by (λ y. eqb (volume_in (without_node ns u) y.0) v) xs)
     (volume_left ns u x.0 apart)
     ∙ ap (λ (n : ℕ). cond {A = ℕ} (eqb (volume_in ns x.0) v) 1 0 + n)
-    (taken_left ns xs u v (λ page. (later (is_page u page x) (is_stored xs u page) (none page)).1))
+    (taken_left ns xs u v (λ page. (or_parts (is_page u page x) (is_stored xs u page) (none page)).1))
     ∙ sym (sum_by-cons (λ (y : ℕ × ℕ). cond (eqb (volume_in ns y.0) v) 1 0) x xs)
 
 pub none_counted : (xs : List (ℕ × ℕ)) (u : ℕ) → ((page : ℕ) → is_stored xs u page ≡ false)
     → count_by (λ x. eqb x.0 u) xs ≡ 0
 none_counted [] u none = refl
 none_counted (x ∷ xs) u none =
-    let first : (eqb x.0 u && eqb x.1 x.1) ≡ false = (later (is_page u x.1 x) (is_stored xs u x.1) (none x.1)).0 in
+    let first : (eqb x.0 u && eqb x.1 x.1) ≡ false = (or_parts (is_page u x.1 x) (is_stored xs u x.1) (none x.1)).0 in
     let apart : eqb x.0 u ≡ false = grind (arith, nat_tests) in
     let rest : count_by (λ y. eqb y.0 u) xs ≡ 0 =
-    none_counted xs u (λ page. (later (is_page u page x) (is_stored xs u page) (none page)).1) in
+    none_counted xs u (λ page. (or_parts (is_page u page x) (is_stored xs u page) (none page)).1) in
     sum_by-cons (λ (y : ℕ × ℕ). cond (eqb y.0 u) 1 0) x xs ∙ rw apart (omega (arith, rest))
 
 -- ---- by its path
-
-from_first : (page : ℕ) → nat_le 0 page ≡ true
-from_first page = grind (arith, nat_tests)
 
 pub deleted_is : (s : Store) (u : ℕ)
     → record (without_pages s u (λ q. nat_le 0 q)) { nodes = without_node s.nodes u } ≡ without_branch s (Some u)

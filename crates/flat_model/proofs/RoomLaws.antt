@@ -1,5 +1,5 @@
 -- The least number that passes a test, and the volumes that have room.
-use Rattle.std.proofs.Common.{◌≡◌, ◌<◌, ◌≤◌, ℕ, zero, suc, Bool, true, false, ◌&&◌, not, eqb, Some, None, refl}
+use Rattle.std.proofs.Common.{◌≡◌, ◌<◌, ◌≤◌, ℕ, zero, suc, Bool, true, false, not, eqb, Some, None, refl}
 use Rattle.std.proofs.Common.{sym, ap, subst, ◌∙◌, arith, inl, inr, length, ◌-◌}
 use Rattle.std.specs.Prelude.{nat_lt}
 use Rattle.std.proofs.lemmas.Bool.{cases_eq}
@@ -9,6 +9,7 @@ use Rattle.script.specs.Plans.{Plan}
 use Rattle.flat_model.specs.Rooms.{first_below, has_room, pages_stored, room_for}
 use Rattle.flat_model.specs.Store.{Store, records_in, records_of}
 use Rattle.tree_model.specs.Tree.{taken_on}
+use Rattle.laws.proofs.Bools.{and_false}
 
 -- ---- the least number that passes a test
 
@@ -37,10 +38,6 @@ less_none n m = elim (leb_tells (suc n) (0 - m)) [
   | inl is ↦ (let less = is.1 in absurd (omega (arith, less)))
   | inr isnt ↦ isnt.0
 ]
-
-and_false : (a : Bool) → (a && false) ≡ false
-and_false true = refl
-and_false false = refl
 
 -- a volume without records has no room
 pub no_room : (p : Plan) (s : Store) (uid volume : ℕ) → records_of p volume ≡ 0 → has_room p s uid volume ≡ false

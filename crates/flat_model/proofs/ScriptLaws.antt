@@ -23,7 +23,7 @@ root_there p h = by_volumes p.volumes h.some h.volumes
     by_volumes [] there are = absurd (omega arith)
     by_volumes (v ∷ vs) there are = entries_some v (and_parts _ _ are).0
 
-command_of : (volumes : ℕ) (cs : List Command) (place : ℕ) (c : Command) → list_all (is_command volumes) cs ≡ true
+pub command_of : (volumes : ℕ) (cs : List Command) (place : ℕ) (c : Command) → list_all (is_command volumes) cs ≡ true
     → slice_get cs place ≡ Some c
     → is_command volumes c ≡ true
 command_of volumes [] place c are at = absurd cc
@@ -47,7 +47,7 @@ command_there volumes (x ∷ xs) zero place c are at = command_of volumes x.comm
 command_there volumes (x ∷ xs) (suc process) place c are at =
     command_there volumes xs process place c (and_parts _ _ are).1 at
 
-few_pages : (volumes : ℕ) (path : List (List ℕ)) (pages volume : ℕ)
+pub few_pages : (volumes : ℕ) (path : List (List ℕ)) (pages volume : ℕ)
     → is_command volumes (command.MkSeg path pages volume) ≡ true → pages ≤ 256
 unfolding is_command
 few_pages volumes path pages volume h = grind (arith, nat_tests)

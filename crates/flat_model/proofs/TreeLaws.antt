@@ -11,7 +11,7 @@ use Rattle.tree_model.specs.Tree.{onward, walk_from, walk_in, without_node}
 use Rattle.tree_model.specs.Trees.{AreBelow, IsBranch, IsTree, Joins}
 use Rattle.tree_model.proofs.TreeLaws.{lies}
 use Rattle.flat_model.specs.Branches.{node_at, walked, there_or}
-use Rattle.flat_model.proofs.NodeLaws.{uid_found}
+use Rattle.tree_model.proofs.SharedLaws.{without_absent, older, found_uid}
 
 -- the oldest node is the root
 above_one : (m : Node) (ms : List Node) (u : ℕ) → IsTree (m ∷ ms) → AreBelow u (m ∷ ms) → 1 < u
@@ -68,7 +68,7 @@ found_apart ns (LeadsTo u) n apart found = there (node_in ns u) refl found
   where
     there : (o : Option Node) → node_in ns u ≡ o → there_or o ≡ Ok n → n.uid ≢ 1
     there None e f = cc
-    there (Some m) e f = (let same : m ≡ n = cc in let uid : m.uid ≡ u = uid_found ns u m e in
+    there (Some m) e f = (let same : m ≡ n = cc in let uid : m.uid ≡ u = found_uid ns u m e in
         subst (λ (x : ℕ). x ≢ 1) (sym uid ∙ ap (λ (x : Node). x.uid) same) (apart u refl))
 found_apart ns Missing n apart found = cc
 found_apart ns InSegment n apart found = cc
@@ -83,15 +83,6 @@ path_apart ns (name ∷ names) n t some found =
 
 -- ---- a node is taken out
 
-none_left : (ns : List Node) (u : ℕ) → AreBelow u ns → without_node ns u ≡ ns
-none_left [] u b = refl
-none_left (n ∷ ns) u b = (let apart : eqb n.uid u ≡ false = (let lt : n.uid < u = b.0 in grind (arith, nat_tests)) in
-    rw apart (ap (λ (l : List Node). n ∷ l) (none_left ns u b.1)))
-
-older : (ns : List Node) (n : Node) (o : Option ℕ) → Joins ns o n → AreBelow n.uid ns
-older ns n None root = subst (λ (l : List Node). AreBelow n.uid l) (sym root.first) tt
-older ns n (Some s) branch = branch.later
-
 -- it is one of the nodes on its volume
 pub entries_less : (ns : List Node) (u : ℕ) (n : Node) → IsTree ns → node_in ns u ≡ Some n → (v : ℕ)
     → entries_on (without_node ns u) v + cond {A = ℕ} (eqb n.volume v) 1 0 ≡ entries_on ns v
@@ -103,7 +94,7 @@ entries_less (m ∷ ms) u n t found v = elim (cases_Bool (eqb m.uid u)) [
       let same : m ≡ n = cc in
       let uid : m.uid ≡ u = grind (arith, nat_tests) in
       let rest : without_node ms u ≡ ms =
-      none_left ms u (subst (λ (x : ℕ). AreBelow x ms) uid (older ms m m.superior t.0)) in
+      without_absent ms u (subst (λ (x : ℕ). AreBelow x ms) uid (older ms m m.superior t.0)) in
       let count : count_by (λ x. eqb x.volume v) (m ∷ ms)
       ≡ cond {A = ℕ} (eqb m.volume v) 1 0 + count_by (λ x. eqb x.volume v) ms =
       sum_by-cons (λ (x : Node). cond (eqb x.volume v) 1 0) m ms in

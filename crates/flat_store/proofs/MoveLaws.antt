@@ -16,17 +16,18 @@ use Rattle.script.specs.declared.commands.Reference.{Reference}
 use Rattle.script.specs.declared.commands.RefKind.{RefKind}
 use Rattle.tree_model.specs.Access.{access_of}
 use Rattle.tree_model.specs.Tree.{Node, account_of, entries_on, has_directory, node_in, taken_on, volume_in, with_node}
-use Rattle.tree_model.specs.Trees.{AreBelow, IsTree, Joins, has_segment}
+use Rattle.tree_model.specs.Trees.{AreBelow, IsTree, has_segment}
 use Rattle.flat_model.specs.Moves.{MayMove, awaits_by, awaits_in, awaits_move, is_held_at, is_uid, lacks_at, moved}
 use Rattle.flat_model.specs.References.{is_used_up, is_volume_full, stores_page}
 use Rattle.flat_model.specs.Rooms.{has_room, room_for}
 use Rattle.flat_model.specs.Store.{Store, entries_of, known_uid, progress_of, records_of}
 use Rattle.flat_model.proofs.FieldLaws.{field_found, field_kept, field_mapped}
-use Rattle.flat_model.proofs.NodeLaws.{uid_found}
 use Rattle.flat_store.specs.Roomy.{is_roomy, shifted}
 use Rattle.flat_store.specs.Shown.{AreFlat, Gauge, Held, HoldPages, Holds, gauge_at, is_full, pages_in}
 use Rattle.flat_store.proofs.NodeLaws.{has_pages}
 use Rattle.flat_store.proofs.RoomyLaws.{counts_shifted, first_told}
+use Rattle.tree_model.proofs.SharedLaws.{older, found_uid}
+use Rattle.laws.proofs.Bools.{room_parts, and_right}
 
 -- ---- the nodes
 
@@ -135,10 +136,6 @@ none_moved [] u w b = refl
 none_moved (n ∷ ns) u w b = (let apart : eqb n.uid u ≡ false = (let lt : n.uid < u = b.0 in grind (arith, nat_tests)) in
     rw apart (ap (λ (l : List Node). n ∷ l) (none_moved ns u w b.1)))
 
-older : (ns : List Node) (n : Node) (o : Option ℕ) → Joins ns o n → AreBelow n.uid ns
-older ns n None root = subst (λ (l : List Node). AreBelow n.uid l) (sym root.first) tt
-older ns n (Some s) branch = branch.later
-
 -- the VTOC entry too
 entries_moved : (ns : List Node) (u w v : ℕ) → IsTree ns → has_segment ns u ≡ true
     → entries_on (with_volume ns u w) v + cond {A = ℕ} (eqb (volume_in ns u) v) 1 0
@@ -170,13 +167,6 @@ entries_moved (m ∷ ms) u w v t there =
     ]
 
 -- ---- the holdings
-
-room_parts : (same records entries : Bool) → (not same && (records && entries)) ≡ true
-    → (same ≡ false) × (records ≡ true) × (entries ≡ true)
-room_parts true r e is = cc
-room_parts false true true is = (refl, refl, refl)
-room_parts false true false is = cc
-room_parts false false e is = cc
 
 -- what the holdings are once a segment moved
 pub record Moves (h k : Held) (u own count w : ℕ) : Type 0 where
@@ -256,10 +246,6 @@ lacks_within p s k u o how n r found uid may lt answer =
     ∙ ap (λ (x : ℕ). stores_page s x o how && (not (is_used_up s x) && is_volume_full p s n.volume)) (sym uid)
     ∙ sym (rw (found, may, inside) refl)
 
-second : (a b : Bool) → (a && b) ≡ true → b ≡ true
-second true b e = e
-second false b e = cc
-
 first_part : (a b : Bool) → (not a && b) ≡ true → a ≡ false
 first_part true b e = cc
 first_part false b e = refl
@@ -278,7 +264,7 @@ awaited_by : (p : Plan) (s : Store) (k u o : ℕ) (how : RefKind) → AreFlat s.
 awaited_by p s k u o how flat None e lacks = cc
 awaited_by p s k u o how flat (Some n) e lacks =
     let below : nat_le (1024 * n.pages) o ≡ false = first_part (nat_le (1024 * n.pages) o) _
-    (second (permits (access_of (who_of p k) n.rows) how) _ lacks) in
+    (and_right (permits (access_of (who_of p k) n.rows) how) _ lacks) in
     let some : 0 < n.pages = grind (arith, nat_tests) in
     has_pages s.nodes u n n.directory e (sym (kind_found s.nodes u n e)) (sym (segment_found s.nodes u n e)) flat some
 
@@ -290,7 +276,7 @@ awaited p s k u flat awaits = by_command (command_at p k (progress_of s k).place
     by_reference : (o : Option Reference) → awaits_by p s k u o ≡ true → has_segment s.nodes u ≡ true
     by_reference None e = cc
     by_reference (Some r) e = awaited_by p s k u r.offset r.kind flat (node_in s.nodes u) refl
-        (second (is_uid (known_uid s k r.number) u) _ e)
+        (and_right (is_uid (known_uid s k r.number) u) _ e)
 
     by_command : (o : Option Command) → awaits_in p s k u o ≡ true → has_segment s.nodes u ≡ true
     by_command None e = cc
@@ -321,7 +307,7 @@ held_told p s k u o how lacks room is at = rw (is, at) (by (node_in s.nodes u) r
         → (lacks_at p s k o how found && is_some (room_for p s u)) ≡ is_held_at p s k o how found
     by None e = refl
     by (Some n) e = ap (λ (x : ℕ). lacks_at p s k o how (Some n) && is_some (room_for p s x))
-        (sym (uid_found s.nodes u n e))
+        (sym (found_uid s.nodes u n e))
 
 pub held_lacking : (p : Plan) (s : Store) (k u o : ℕ) (how : RefKind) (lacks z : Bool) (room : Option ℕ)
     → lacks ≡ lacks_at p s k o how (node_in s.nodes u) → lacks ≡ true → room ≡ room_for p s u → z ≡ is_some room
@@ -353,6 +339,6 @@ lacks_none p s k u o how none = each (node_in s.nodes u) refl
     each None is = refl
     each (Some n) is =
         let own : stores_page s n.uid o how ≡ false =
-        ap (λ (v : ℕ). stores_page s v o how) (uid_found s.nodes u n is) ∙ none in
+        ap (λ (v : ℕ). stores_page s v o how) (found_uid s.nodes u n is) ∙ none in
         sym (rw own (off (permits (access_of (who_of p k) n.rows) how) (not (nat_le (1024 * n.pages) o))
         (not (is_used_up s n.uid) && is_volume_full p s n.volume)))

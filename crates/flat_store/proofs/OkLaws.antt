@@ -1,10 +1,6 @@
 -- What follows from a fact on success.
 use Rattle.std.proofs.Common.{◌≡◌, true, Result, Ok, Err, OnOk, is_ok}
 
-pub on_ok : {T E : Type 0} (r : Result T E) (P Q : Type 0) → (P → Q) → OnOk r P → OnOk r Q
-on_ok (Ok x) P Q f h = f h
-on_ok (Err e) P Q f h = h
-
 pub ok_of : {T E : Type 0} (r : Result T E) (P : Type 0) → OnOk r P → is_ok r ≡ true → P
 ok_of (Ok x) P h e = h
 ok_of (Err x) P h e = cc

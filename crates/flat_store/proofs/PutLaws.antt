@@ -1,6 +1,6 @@
 -- A word is written.
-use Rattle.std.proofs.Common.{◌≡◌, ◌≢◌, ℕ, suc, zero, ◌+◌, ◌/◌, ◌%◌, ◌<◌, Bool, true, false, not, cond, eqb, ◌&&◌, ◌||◌}
-use Rattle.std.proofs.Common.{List, length, set, get_or, replicate, Option, Some, None, Result, Ok, Err, is_some, refl}
+use Rattle.std.proofs.Common.{◌≡◌, ◌≢◌, ℕ, zero, ◌+◌, ◌/◌, ◌%◌, ◌<◌, Bool, true, false, not, cond, eqb, ◌&&◌, ◌||◌}
+use Rattle.std.proofs.Common.{List, length, set, get_or, Option, Some, None, Result, Ok, Err, is_some, refl}
 use Rattle.std.proofs.Common.{sym, ap, subst, ◌∙◌, arith, inl, inr, ◌⊎◌}
 use Rattle.std.specs.Prelude.{count_by}
 use Rattle.std.proofs.lemmas.Bool.{cases_eq}
@@ -20,6 +20,7 @@ use Rattle.flat_model.proofs.CountLaws.{count_with}
 use Rattle.flat_store.specs.Shown.{Gauge, gauge_at, filled, Paged, page_at, word_in, words_in, Puts, Held, pages_in}
 use Rattle.flat_store.specs.Shown.{HoldPages, AreInside, Holds, has_room}
 use Rattle.flat_store.proofs.GaugeLaws.{counts_more}
+use Rattle.laws.proofs.Lists.{zeros_read}
 
 -- two tests for the same word
 flip_word : (u o v x : ℕ) → (eqb v u && eqb x o) ≡ (eqb u v && eqb o x)
@@ -28,13 +29,8 @@ flip_word u o v x = both (eqb v u) (eqb u v) (eqb x o) (eqb o x) (grind (arith, 
     both : (a b c d : Bool) → a ≡ b → c ≡ d → (a && c) ≡ (b && d)
     both a b c d e f = rw (e, f) refl
 
-zeros : (n i : ℕ) → get_or {A = ℕ} (replicate n 0) i 0 ≡ 0
-zeros zero i = refl
-zeros (suc n) zero = refl
-zeros (suc n) (suc i) = zeros n i
-
 word_of : (o : Option (List ℕ)) (i : ℕ) → get_or (words_in o) i 0 ≡ word_in o i
-word_of None i = zeros 1024 i
+word_of None i = zeros_read 1024 i
 word_of (Some ws) i = refl
 
 size_of : (pages : Paged) (u q : ℕ) → ((words : List ℕ) → page_at pages u q ≡ Some words → length words ≡ 1024)

@@ -17,8 +17,9 @@ use Rattle.flat_model.specs.References.{room_reply, stores_page, word_reply, wri
 use Rattle.flat_model.specs.Rooms.{room_for}
 use Rattle.flat_model.specs.Store.{Store}
 use Rattle.flat_store.specs.Shown.{Held, Holds, has_room, may_write}
-use Rattle.flat_model.proofs.NodeLaws.{uid_found, volume_found}
+use Rattle.flat_model.proofs.NodeLaws.{volume_found}
 use Rattle.flat_model.proofs.TreeReplies.{not_first}
+use Rattle.tree_model.proofs.SharedLaws.{found_uid}
 
 -- a volume isn't full where that would be answered, or hold the answer back
 not_full : (full : Bool) (room : Option ℕ) → (full && is_none room) ≡ false → (full && is_some room) ≡ false
@@ -91,7 +92,7 @@ pub may_refer : (p : Plan) (s : Store) (k u o w : ℕ) (how : RefKind) (n : Node
     → takes_effect (reply_at p s k o how (node_in s.nodes u)) ≡ true
     → is_held_at p s k o how (node_in s.nodes u) ≡ false → may_write p s u o w ≡ true
 may_refer p s k u o w how n found alters_it is effect held =
-    let uid : n.uid ≡ u = uid_found s.nodes u n found in
+    let uid : n.uid ≡ u = found_uid s.nodes u n found in
     let at : n.volume ≡ volume_in s.nodes n.uid = volume_found s.nodes u n found ∙ ap (volume_in s.nodes) (sym uid) in
     let asked : takes_effect (reply_in p s k o how n) ≡ true =
     sym (ap (λ o2. takes_effect (reply_at p s k o how o2)) found) ∙ effect in

@@ -1,6 +1,6 @@
 -- A directory or a segment is deleted.
 use Rattle.std.proofs.Common.{◌≡◌, ◌≢◌, ℕ, ◌<◌, Bool, true, false, eqb, not, ◌&&◌, List}
-use Rattle.std.proofs.Common.{set, Option, Some, None, is_some, refl, sym, ap, subst, ◌∙◌, arith, inl, inr}
+use Rattle.std.proofs.Common.{set, Some, is_some, refl, sym, ap, subst, ◌∙◌, arith, inl, inr}
 use Rattle.std.specs.Prelude.{nat_le}
 use Rattle.std.proofs.lemmas.Bool.{cases_eq}
 use Rattle.std.proofs.lemmas.Bool.Decides.{nat_tests}
@@ -19,6 +19,7 @@ use Rattle.flat_model.proofs.FieldLaws.{field_left}
 use Rattle.flat_model.proofs.NodeLaws.{volume_found}
 use Rattle.flat_model.proofs.RemoveLaws.{directory_gone, directory_left, none_counted, segment_left, taken_left}
 use Rattle.flat_model.proofs.TreeLaws.{entries_less}
+use Rattle.tree_model.proofs.SharedLaws.{some_there}
 
 -- ---- what is left of the nodes
 
@@ -48,10 +49,6 @@ flat_left ns u flat v is = elim (cases_eq v u) [
 ]
 
 -- ---- the holdings
-
-some_there : (o : Option Node) → is_some o ≡ true → (n : Node) × (o ≡ Some n)
-some_there None e = cc
-some_there (Some n) e = (n, refl)
 
 none_stored : (p : Plan) (s : Store) (h : Held) (u : ℕ) → Holds p h s
     → ((page : ℕ) → is_some (page_at h.pages u page) ≡ false) → (page : ℕ)

@@ -1,24 +1,18 @@
 -- What the number of a uid and the least free number are, place by place.
-use Rattle.std.proofs.Common.{◌≡◌, ◌≢◌, ℕ, suc, zero, ◌+◌, ◌<◌, ◌≤◌, Bool, true, false, not, List, [], ◌∷◌}
+use Rattle.std.proofs.Common.{◌≡◌, ◌≢◌, ℕ, suc, zero, ◌+◌, ◌<◌, ◌≤◌, Bool, true, false, List, [], ◌∷◌}
 use Rattle.std.proofs.Common.{length, Option, Some, None, refl, sym, ap}
 use Rattle.std.proofs.Common.{subst, ◌∙◌, arith, get_or, set, inl, inr, is_some, is_none, position, IsSome, IsNone}
 use Rattle.std.proofs.Common.{IsTrue}
 use Rattle.std.specs.Prelude.{◌↔◌}
-use Rattle.std.specs.List.{position_or_len}
-use Rattle.std.proofs.lemmas.Bool.{eqb-true, eq-eqb, not-true, both_ways, cases_eq, cases_lt}
+use Rattle.std.proofs.lemmas.Bool.{eqb-true, eq-eqb, both_ways, cases_eq, cases_lt}
 use Rattle.std.proofs.lemmas.List.{get_or_past, get_or-set_same, get_or-set_other, set-get_or}
-use Rattle.std.proofs.lemmas.List.Sums.{prefix_len_passes, count_by-le-length}
+use Rattle.std.proofs.lemmas.List.Sums.{count_by-le-length}
 use Rattle.std.proofs.lemmas.List.Quantifiers.{position-Some}
 use Rattle.std.proofs.lemmas.Option.{none-some}
 use Rattle.std.proofs.lemmas.Grind.{common_steps}
 use Rattle.known_segs.specs.Known.{uid_of, stands_for, number_of, least_free, with_number, known_count, IsUnknown}
 use Rattle.known_segs.specs.Known.{HasOneNumberEach}
-
-pub position_none : {X : Type 0} (p : X → Bool) (xs : List X) → position p xs ≡ None → (k : ℕ) (d : X) → k < length xs
-    → p (get_or xs k d) ≡ false
-position_none p xs e k d within =
-    let past : length xs ≤ position_or_len p xs = grind arith in
-    not-true _ (prefix_len_passes (λ x. not (p x)) xs k d (omega arith))
+use Rattle.laws.proofs.Lists.{position_none}
 
 stands_for_is : (uid : ℕ) (o : Option ℕ) → stands_for uid o ≡ true → o ≡ Some uid
 stands_for_is uid None e = cc

@@ -14,6 +14,7 @@ use Rattle.std.proofs.lemmas.List.Sums.{prefix_len-le-length}
 use Rattle.std.proofs.lemmas.List.Quantifiers.{position-Some}
 use Rattle.known_segs.specs.Known.{uid_of, stands_for, number_of, least_free, padded, HasOneNumberEach}
 use Rattle.known_segs.proofs.Numbers.{within_since_some}
+use Rattle.laws.proofs.Lists.{blank}
 
 abbrev Table : Type 0
 Table = List (Option ℕ)
@@ -26,11 +27,6 @@ pub padded_size : (kept : Table) → length kept ≤ 256 → length (padded kept
 unfolding padded
 padded_size kept few =
     omega (arith, few, length-append kept (rest kept), length-replicate {A = Option ℕ} (256 - length kept) None)
-
-blank : (m i : ℕ) → get_or (replicate {A = Option ℕ} m None) i None ≡ None
-blank zero i = refl
-blank (suc m) zero = refl
-blank (suc m) (suc i) = blank m i
 
 -- what a number stands for
 pub padded_at : (kept : Table) (n : ℕ) → uid_of kept n ≡ uid_of (padded kept) n

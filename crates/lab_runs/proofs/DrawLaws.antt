@@ -18,6 +18,7 @@ use Rattle.lab_runs.specs.declared.following.Trial.{Trial}
 use Rattle.lab_runs.specs.declared.following.Trial.TheVariants as trial
 use Rattle.lab_runs.specs.declared.steps.Step.{Step}
 use Rattle.lab_runs.proofs.StepLaws.{made_append, made_grows}
+use Rattle.flat_model.proofs.SharedLaws.{front_dropped}
 
 -- ---- what is drawn
 
@@ -68,11 +69,8 @@ draws_one p old new x y step made state its = record {
 
 -- ---- what the steps append
 
-past : (xs ys : List Entry) → drop (length xs) (xs ++ ys) ≡ ys
-past xs ys = grind (arith, common_steps)
-
-added : (old new : List Entry) (g : Grows old new) → drop (length old) new ≡ g.more
-added old new g = ap (drop (length old)) g.entries ∙ past old g.more
+pub added : (old new : List Entry) (g : Grows old new) → drop (length old) new ≡ g.more
+added old new g = ap (drop (length old)) g.entries ∙ front_dropped old g.more
 
 -- none answers in what two ways of going on append
 quiet_on : (old mid new : Machine) (g : Grows old.state.entries mid.state.entries)
@@ -85,7 +83,7 @@ quiet_on old mid new g h one two =
     sym (ap (list_any is_answer) (added mid.state.entries new.state.entries h)) ∙ two in
     ap (λ (es : List Entry). list_any is_answer (drop (length old.state.entries) es))
     (h.entries ∙ ap (λ (es : List Entry). es ++ h.more) g.entries ∙ append_assoc old.state.entries g.more h.more)
-    ∙ ap (list_any is_answer) (past old.state.entries (g.more ++ h.more))
+    ∙ ap (list_any is_answer) (front_dropped old.state.entries (g.more ++ h.more))
     ∙ list_any-append is_answer g.more h.more
     ∙ rw (first, second) refl
 

@@ -15,6 +15,8 @@ use Rattle.lab_runs.specs.Steps.{AreMade, IsMade, processor_of}
 use Rattle.lab_runs.specs.declared.following.Trial.TheVariants as trial
 use Rattle.lab_runs.specs.declared.steps.Step.{Step}
 use Rattle.lab_runs.proofs.StepLaws.{made_grows, made_on}
+use Rattle.lab_runs.proofs.DrawLaws.{added}
+use Rattle.flat_model.proofs.SharedLaws.{front_dropped}
 
 -- so many steps were made, and no entry that they appended begins so
 pub record IsTrying (c : ℕ) (text : List (List ℕ)) (old new : Machine) (before after : List Step) (tried : ℕ) : Type 0
@@ -22,12 +24,6 @@ pub record IsTrying (c : ℕ) (text : List (List ℕ)) (old new : Machine) (befo
     pub adds : Adds c old new before after
     pub count : length adds.steps ≡ tried
     pub none : appends text old new ≡ false
-
-past : (xs ys : List Entry) → drop (length xs) (xs ++ ys) ≡ ys
-past xs ys = grind (arith, common_steps)
-
-added : (old new : List Entry) (g : Grows old new) → drop (length old) new ≡ g.more
-added old new g = ap (drop (length old)) g.entries ∙ past old g.more
 
 -- none begins so in what two ways of going on append
 quiet_on : (text : List (List ℕ)) (old mid new : Machine) (g : Grows old.state.entries mid.state.entries)
@@ -40,7 +36,7 @@ quiet_on text old mid new g h one two =
     sym (ap (list_any (entry_begins text)) (added mid.state.entries new.state.entries h)) ∙ two in
     ap (λ (es : List Entry). list_any (entry_begins text) (drop (length old.state.entries) es))
     (h.entries ∙ ap (λ (es : List Entry). es ++ h.more) g.entries ∙ append_assoc old.state.entries g.more h.more)
-    ∙ ap (list_any (entry_begins text)) (past old.state.entries (g.more ++ h.more))
+    ∙ ap (list_any (entry_begins text)) (front_dropped old.state.entries (g.more ++ h.more))
     ∙ list_any-append (entry_begins text) g.more h.more
     ∙ rw (first, second) refl
 

@@ -2,7 +2,6 @@
 use Rattle.std.proofs.Common.{◌≡◌, ◌⊎◌, ℕ, ◌<◌, ◌≤◌, Bool, true, false, List, [], length, Option, None, Some}
 use Rattle.std.proofs.Common.{IsSome, refl, sym, ap, ◌∙◌, arith, get_or, set, inl, inr}
 use Rattle.std.proofs.lemmas.Bool.{cases_eq}
-use Rattle.std.proofs.lemmas.Bool.Decides.{leb_tells}
 use Rattle.std.proofs.lemmas.List.{get_or-set_same, get_or-set_other, get_or_past, length-set}
 use Rattle.bitmap.specs.Bitmap.{in_use, IsLeastFree}
 use Rattle.vtoc.specs.Vtoc.{Entry, records_in, with_record}
@@ -10,21 +9,10 @@ use Rattle.volumes.specs.Volumes.{Vols, records_at, vtoc_at, with_record_used, w
 use Rattle.seg_mover.specs.Homes.{entry_of, map_at}
 use Rattle.seg_mover.specs.Records.{AreKept}
 use Rattle.layer_tests.specs.Homes.{IsHome}
-
-below_or_past : (a b : ℕ) → (a < b) ⊎ (b ≤ a)
-below_or_past a b = elim (leb_tells b a) [ inl h ↦ inr h.1 | inr h ↦ inl h.1 ]
-
-not_none : {A : Type 0} (x : Option A) (a : A) → x ≡ None → x ≡ Some a → ⊥
-not_none x a h i = cc
-
-off_and_on : (b : Bool) → b ≡ false → b ≡ true → ⊥
-off_and_on b h i = cc
-
-within_from : {X : Type 0} (xs : List X) (i : ℕ) (d : X) → (get_or xs i d ≡ d → ⊥) → i < length xs
-within_from xs i d other = elim (below_or_past i (length xs)) [
-  | inl lt ↦ lt
-  | inr past ↦ absurd (other (get_or_past xs i d past))
-]
+use Rattle.laws.proofs.Numbers.{below_or_past}
+use Rattle.laws.proofs.Options.{not_none, some_same}
+use Rattle.laws.proofs.Bools.{off_and_on}
+use Rattle.laws.proofs.Lists.{within_from}
 
 list_within : {X : Type 0} (xs : List (List X)) (v e : ℕ) → e < length (get_or xs v []) → v < length xs
 list_within xs v e lt = within_from xs v [] (λ none. (let no : length (get_or xs v []) ≡ 0 =
@@ -39,9 +27,6 @@ put_here xs v e x d el =
     ∙ get_or-set_same (get_or xs v []) e x d el
 
 -- ---- a record that is filed
-
-some_same : (r s : ℕ) → Some r ≡ Some s → r ≡ s
-some_same r s is = cc
 
 -- the place of another page, or the record that was put
 put_names : (places : List (Option ℕ)) (n p r s : ℕ) → get_or (set places n (Some r)) p None ≡ Some s

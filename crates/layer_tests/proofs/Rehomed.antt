@@ -1,5 +1,5 @@
 -- What the test of a segment that moves goes by: volumes and tables of which nothing is in use, and file maps.
-use Rattle.std.proofs.Common.{◌≡◌, ◌≢◌, ◌<◌, ℕ, zero, suc, Bool, true, false, List, [], ◌∷◌, length, map}
+use Rattle.std.proofs.Common.{◌≡◌, ◌≢◌, ◌<◌, ℕ, zero, suc, false, List, [], ◌∷◌, length, map}
 use Rattle.std.proofs.Common.{Option, None, Some, replicate, is_some}
 use Rattle.std.specs.Prelude.{Result, Ok, Err, IfOk}
 use Rattle.std.proofs.Common.{refl, sym, ap, ◌∙◌, arith, get_or}
@@ -15,12 +15,8 @@ use Rattle.page_table.specs.declared.Ptw.{Ptw}
 use Rattle.page_table.specs.declared.Ptw.TheVariants.{Null}
 use Rattle.page_table.specs.PageTable.{ptw_at}
 use Rattle.page_control.specs.Tied.{AreFiled, IsBlank, IsNotStarted, flags_in, has_record, vtoc_in}
-
--- one of many equal ones, where the default is the same
-alike : {X : Type 0} (n i : ℕ) (x : X) → get_or (replicate n x) i x ≡ x
-alike zero i x = refl
-alike (suc n) zero x = refl
-alike (suc n) (suc i) x = alike n i x
+use Rattle.laws.proofs.Lists.{all_same}
+use Rattle.laws.proofs.Bools.{off_and_on}
 
 abbrev no_entry : Option Entry
 no_entry = None
@@ -30,33 +26,30 @@ no_place = None
 
 no_record : (q : ℕ) → get_or no_records q None ≡ None
 unfolding no_records
-no_record q = alike 256 q no_place
+no_record q = all_same 256 q no_place
 
 -- volumes as they are made
 vtoc_made : {D : Type 0} (parts : List (Part D)) (v e : ℕ)
     → entry_at (vtoc_in (map (λ (part : Part D). replicate part.entries no_entry) parts) v) e ≡ None
 vtoc_made [] v e = refl
-vtoc_made (x ∷ parts) zero e = alike x.entries e no_entry
+vtoc_made (x ∷ parts) zero e = all_same x.entries e no_entry
 vtoc_made (x ∷ parts) (suc v) e = vtoc_made parts v e
 
 flags_made : {D : Type 0} (pages : D → List (List ℕ)) (parts : List (Part D)) (v r : ℕ)
     → get_or (flags_in (map (λ (part : Part D). replicate (length (pages part.drive)) false) parts) v) r false ≡ false
 flags_made pages [] v r = refl
-flags_made pages (x ∷ parts) zero r = alike (length (pages x.drive)) r false
+flags_made pages (x ∷ parts) zero r = all_same (length (pages x.drive)) r false
 flags_made pages (x ∷ parts) (suc v) r = flags_made pages parts v r
 
 not_some : (x : Option ℕ) (r : ℕ) → x ≡ None → x ≡ Some r → ⊥
 not_some x r none some = cc
-
-on_and_off : (b : Bool) → b ≡ false → b ≡ true → ⊥
-on_and_off b off on = cc
 
 pub filed_made : {D : Type 0} (pages : D → List (List ℕ)) (parts : List (Part D))
     → AreFiled (made_of pages parts).records (made_of pages parts).vtocs
 filed_made {D} pages parts = record {
   used = λ v e p r is. absurd (never v e p r is);
   once = λ v e p g q r is also. absurd (never v e p r is);
-  named = λ v r on. absurd (on_and_off _ (flags_made pages parts v r) on);
+  named = λ v r on. absurd (off_and_on _ (flags_made pages parts v r) on);
 }
   where
     never : (v e p r : ℕ) → record_at (vtoc_in (made_of pages parts).vtocs v) e p ≡ Some r → ⊥
@@ -65,7 +58,7 @@ filed_made {D} pages parts = record {
 
 -- a page table of no page
 pub blank : (n : ℕ) → n ≡ 256 → IsBlank (replicate n Null)
-blank n is = record { pages = omega (arith, is, length-replicate n Null); null = λ p. alike n p Null }
+blank n is = record { pages = omega (arith, is, length-replicate n Null); null = λ p. all_same n p Null }
 
 -- no frame is started where none was
 pub idle : (core : Core) (n uid p : ℕ) → reads_of core ≡ replicate n None → IsNotStarted core uid p
@@ -78,7 +71,7 @@ idle core n uid p reads = record { none = λ f is. started f is }
     started f is =
         let none : started_page (frame_at core f) ≡ None =
         sym (get_or-map started_page core.frames f Free)
-        ∙ ap (λ (reads : List (Option (ℕ × ℕ))). get_or reads f None) reads ∙ alike n f no_page in
+        ∙ ap (λ (reads : List (Option (ℕ × ℕ))). get_or reads f None) reads ∙ all_same n f no_page in
         let some : started_page (frame_at core f) ≡ Some (uid, p) = ap started_page is in
         cc
 

@@ -1,7 +1,7 @@
 -- What the looks at the flat store say of a reason.
 use Rattle.std.proofs.Common.{◌≡◌, ℕ, suc, ◌+◌, ◌*◌, ◌<◌, ◌≤◌, Bool, true, false, List, [], ◌∷◌, length, Option}
 use Rattle.std.proofs.Common.{Some, None, refl, sym, subst, ◌∙◌, arith, inl, inr}
-use Rattle.std.specs.Prelude.{IfNone, IfSome, slice_index_or}
+use Rattle.std.specs.Prelude.{IfSome, slice_index_or}
 use Rattle.std.specs.List.{list_all}
 use Rattle.std.proofs.lemmas.Bool.{cases_Bool, cases_eq}
 use Rattle.std.specs.Bool.{Decides}
@@ -73,14 +73,6 @@ found_at s u q at there lt = elim (cases_Bool (is_zero_page s.words u q)) [
   | inl e ↦ absurd (there.other (zero_words s.words u q at e lt))
   | inr e ↦ e
 ]
-
-pub when_none : {A : Type 0} {X : Type 0} (r : Option A) → X → IfNone r X
-when_none None x = x
-when_none (Some a) x = tt
-
-pub map_none : {A : Type 0} {X Y : Type 0} (r : Option A) → (X → Y) → IfNone r X → IfNone r Y
-map_none None f x = f x
-map_none (Some a) f x = tt
 
 -- why no failure of a drive is told of a process, or of none, as what is so of its entry
 pub fault_so : (p : Plan) (s : Store) (o : Option ℕ) (e : Entry) → e ≡ entry.Fault o → (r : Option Reason)

@@ -1,10 +1,9 @@
 -- Laws of the line that is due.
 use Rattle.std.proofs.Common.{◌≡◌, ℕ, Bool, true, false, ◌&&◌, cond, eqb, List, [], ◌∷◌, Option, Some, None, refl, sym}
 use Rattle.std.specs.Prelude.{◌==◌}
-use Rattle.std.proofs.Common.{IfSome, ap, subst, ◌∙◌, arith}
+use Rattle.std.proofs.Common.{IfSome, ap, subst, ◌∙◌}
 use Rattle.std.specs.Option.{is_some}
 use Rattle.std.specs.List.{slice_get}
-use Rattle.std.proofs.lemmas.Bool.Decides.{nat_tests}
 use Rattle.script.specs.Plans.{Plan}
 use Rattle.script.specs.Fields.{lines_of}
 use Rattle.script.specs.declared.plan.VolumeLine.{VolumeLine}
@@ -20,6 +19,8 @@ use Rattle.line_reasons.specs.declared.sum_reasons.SumReason.TheVariants as reas
 use Rattle.line_reasons.specs.DueLines.{IsAccountDue, IsVolumeDue, IsDue, IsSoSum, account_reason, volume_reason}
 use Rattle.line_reasons.specs.DueLines.{reason_of_line, reason_of_end, is_still_so, account_still}
 use Rattle.line_reasons.specs.Fronts.{same_front}
+use Rattle.std.proofs.lemmas.Bool.{and_from}
+use Rattle.laws.proofs.Numbers.{same_test}
 
 -- ---- what is due
 
@@ -53,15 +54,8 @@ pub ruleset due_steps = (account_is, nothing_is, volume_is)
 
 -- ---- what is said of it
 
-same_test : (x y : ℕ) → x ≡ y → eqb y x ≡ true
-same_test x y e = grind (arith, nat_tests)
-
-both_true : (x y : Bool) → x ≡ true → y ≡ true → (x && y) ≡ true
-both_true true y h k = k
-both_true false y h k = h
-
 quota_so : (s : Store) (a : AccountDue) → IsAccountDue s a → account_still s a.uid a.quota ≡ true
-quota_so s a h = both_true (has_directory s.nodes a.uid) (eqb (quota_in s.nodes a.uid) a.quota) h.directory
+quota_so s a h = and_from (has_directory s.nodes a.uid) (eqb (quota_in s.nodes a.uid) a.quota) h.directory
     (same_test a.quota (quota_in s.nodes a.uid) h.quota)
 
 account_so : (p : Plan) (s : Store) (a : AccountDue) (n : ℕ) → IsAccountDue s a → IsSoSum p s (account_reason a n)

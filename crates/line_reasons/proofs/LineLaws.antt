@@ -1,9 +1,9 @@
 -- The lines of a text.
 use Rattle.std.proofs.Common.{◌≡◌, ℕ, suc, zero, ◌+◌, ◌-◌, ◌<◌, List, [], ◌∷◌, ◌++◌, length, sym, ap, ◌∙◌, arith}
 use Rattle.std.proofs.Common.{get_or, take, drop, add-one}
-use Rattle.std.proofs.lemmas.Grind.{common_steps}
 use Rattle.script.proofs.LineSteps.{NoFeedBefore, all_left, line_byte, line_feed, line_last}
 use Rattle.script.specs.Fields.{lines_of, onto_piece}
+use Rattle.laws.proofs.Lists.{take_drop}
 
 -- the bytes up to the first line feed are a line, whatever follows
 closes_at : (bs : List ℕ) (i : ℕ) (rest : List ℕ) → NoFeedBefore i bs → i < length bs → get_or bs i 0 ≡ 10
@@ -13,9 +13,6 @@ closes_at (b ∷ bs) zero rest clear lt e = line_feed b rest e
 closes_at (b ∷ bs) (suc i) rest clear lt e =
     line_byte b (take (suc i) bs ++ rest) (clear 0 (omega arith))
     ∙ ap (onto_piece b) (closes_at bs i rest (λ k h. clear (suc k) (omega arith)) (omega arith) e)
-
-take_drop : (bs : List ℕ) (i : ℕ) → take i bs ++ drop i bs ≡ bs
-take_drop bs i = grind (arith, common_steps)
 
 pub line_cut : (bs : List ℕ) (i : ℕ) → NoFeedBefore i bs → i < length bs → get_or bs i 0 ≡ 10
     → lines_of bs ≡ take i bs ∷ lines_of (take (length bs - (i + 1)) (drop (i + 1) bs))

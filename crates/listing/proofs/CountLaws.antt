@@ -23,6 +23,7 @@ use Rattle.flat_store.specs.Shown.{Kept, Shows}
 use Rattle.listing.specs.Listings.{AccountCount, VolumeCount, Summary, account_count, accounts_of, volumes_of}
 use Rattle.listing.specs.Listings.{summary_of, summary_text, body_of, listing_of, trail_of}
 use Rattle.listing.specs.Gathered.{account_at, as_list, volume_of}
+use Rattle.tree_model.proofs.SharedLaws.{older as below_joined, found_uid}
 
 -- the nodes from the first with a uid below this one on
 abbrev pub older : ℕ → List Node → List Node
@@ -39,10 +40,6 @@ as_nodes (Some n) = n ∷ []
 -- the accounts with a uid below this one
 abbrev pub gathered : Store → ℕ → List AccountCount
 gathered s u = flat_map (account_count s) (reverse (older u s.nodes))
-
-below_joined : (ns : List Node) (n : Node) (o : Option ℕ) → Joins ns o n → AreBelow n.uid ns
-below_joined ns n None root = subst (AreBelow n.uid) (sym root.first) tt
-below_joined ns n (Some s) branch = branch.later
 
 absent : (ns : List Node) (u v : ℕ) → AreBelow u ns → u ≤ v → node_in ns v ≡ None
 absent [] u v b le = refl
@@ -144,15 +141,6 @@ counts_end s nodes u next items same below le h = h ∙ gathered_end s u
     below_more (n ∷ ns) a b h le = ((let lt : n.uid < a = h.0 in omega arith), below_more ns a b h.1 le)
 
 -- ---- the account of a uid
-
-found_uid : (ns : List Node) (u : ℕ) (n : Node) → node_in ns u ≡ Some n → n.uid ≡ u
-found_uid [] u n e = cc
-found_uid (m ∷ ms) u n e = elim (cases_Bool (eqb m.uid u)) [
-  | inl is ↦ (let z : Some m ≡ Some n = rw is at e in let same : m ≡ n = cc in let uid : m.uid ≡ u =
-      grind (arith, nat_tests) in
-      sym (ap (λ (x : Node). x.uid) same) ∙ uid)
-  | inr isnt ↦ found_uid ms u n (rw isnt at e)
-]
 
 -- what the node of a uid adds to the accounts
 abbrev pub account_of_node : Store → ℕ → Bool → ℕ → List AccountCount

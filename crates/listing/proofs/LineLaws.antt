@@ -1,6 +1,6 @@
 -- Laws of the lines of a listing.
 use Rattle.std.proofs.Common.{◌≡◌, ℕ, ◌+◌, ◌<◌, ◌≤◌, Bool, true, false, cond, eqb, List, [], ◌∷◌, ◌++◌, length, take}
-use Rattle.std.proofs.Common.{get_or, refl, sym, ap, ◌∙◌, arith, filter}
+use Rattle.std.proofs.Common.{get_or, refl, sym, ap, ◌∙◌, arith, filter, append-nil}
 use Rattle.std.specs.List.{flat_map}
 use Rattle.std.proofs.lemmas.Bool.Decides.{nat_tests}
 use Rattle.std.proofs.lemmas.Grind.{common_steps}
@@ -29,17 +29,13 @@ own_lines p k (entry.Do process place cpu frame r ∷ es) = chosen (eqb process 
     chosen false h ih = ih
 own_lines p k (e ∷ es) = own_lines p k es
 
-nil_after : (x : List ℕ) → x ++ [] ≡ x
-nil_after [] = refl
-nil_after (b ∷ bs) = ap (λ t. b ∷ t) (nil_after bs)
-
 -- the text before, and the lines of the elements so far
 abbrev pub HasEach : {X : Type 0} → (X → List ℕ) → List ℕ → List X → List ℕ → Type 0
 HasEach line before xs now = now ≡ before ++ flat_map line xs
 
 pub each_start : {X : Type 0} (line : X → List ℕ) (before : List ℕ) (xs : List X)
     → HasEach line before (take 0 xs) before
-each_start line before xs = sym (nil_after before)
+each_start line before xs = sym (append-nil before)
 
 pub each_more : {X : Type 0} (line : X → List ℕ) (before : List ℕ) (xs : List X) (i : ℕ) (x : X) (now new : List ℕ)
     → i < length xs → x ≡ get_or xs i x
@@ -74,7 +70,7 @@ no_process = record { who = nobody; commands = [] }
 
 processes_push : (p : Plan) (es : List Entry) (k : ℕ) (xs : List ProcessPlan) (y : ProcessPlan)
     → processes_lines p es k (xs ++ y ∷ []) ≡ processes_lines p es k xs ++ process_lines p es (k + length xs) y.who
-processes_push p es k [] y = let same : k ≡ k + 0 = omega arith in nil_after (process_lines p es k y.who)
+processes_push p es k [] y = let same : k ≡ k + 0 = omega arith in append-nil (process_lines p es k y.who)
     ∙ ap (λ (n : ℕ). process_lines p es n y.who) same
 processes_push p es k (x ∷ xs) y =
     let same : k + 1 + length xs ≡ k + length (x ∷ xs) = omega arith in
@@ -84,7 +80,7 @@ processes_push p es k (x ∷ xs) y =
     (process_lines p es (k + length (x ∷ xs)) y.who))
 
 pub processes_start : (before : List ℕ) (p : Plan) (es : List Entry) → HasProcesses before p es 0 before
-processes_start before p es = sym (nil_after before)
+processes_start before p es = sym (append-nil before)
 
 pub processes_more : (before : List ℕ) (p : Plan) (es : List Entry) (k : ℕ) (w : Who) (now middle new : List ℕ)
     → k < length p.processes
@@ -119,13 +115,13 @@ abbrev pub HasNames : List ℕ → List (List ℕ) → List ℕ → Type 0
 HasNames before names now = now ≡ before ++ names_text names
 
 names_push : (names : List (List ℕ)) (name : List ℕ) → names_text (names ++ name ∷ []) ≡ names_text names ++ 62 ∷ name
-names_push [] name = ap (λ (t : List ℕ). 62 ∷ t) (nil_after name)
+names_push [] name = ap (λ (t : List ℕ). 62 ∷ t) (append-nil name)
 names_push (x ∷ xs) name =
     ap (λ (t : List ℕ). 62 ∷ (x ++ t)) (names_push xs name)
     ∙ ap (λ (t : List ℕ). 62 ∷ t) (sym (append_assoc x (names_text xs) (62 ∷ name)))
 
 pub names_start : (before : List ℕ) (names : List (List ℕ)) → HasNames before (take 0 names) before
-names_start before names = sym (nil_after before)
+names_start before names = sym (append-nil before)
 
 pub names_more : (before : List ℕ) (names : List (List ℕ)) (i : ℕ) (name : List ℕ) (now new : List ℕ)
     → i < length names → name ≡ get_or names i name

@@ -8,11 +8,12 @@ use Rattle.std.proofs.lemmas.Grind.{common_steps}
 use Rattle.std.proofs.lemmas.List.{append-nil, take_more}
 use Rattle.std.proofs.lemmas.List.Concat.{flat_map-append}
 use mathlib.Core.List.{reverse-cons}
-use Rattle.tree_model.specs.Tree.{Node, above, has_directory, node_in, step_up}
+use Rattle.tree_model.specs.Tree.{Node, above, node_in, step_up}
 use Rattle.tree_model.specs.Trees.{AreBelow, AreUnder, IsTree, Joins}
-use Rattle.tree_model.proofs.ChainLaws.{has_chains}
+use Rattle.tree_model.proofs.ChainLaws.{has_chains, under_more}
 use Rattle.listing.specs.Listings.{trail_of, trail_up}
 use Rattle.listing.specs.Gathered.{rest_of}
+use Rattle.tree_model.proofs.SharedLaws.{older as later_joined, directory_there}
 
 -- the name of a node, where there is one
 abbrev pub name_of : Option Node → List (List ℕ)
@@ -26,23 +27,12 @@ name_at ns u = name_of (node_in ns u)
 abbrev pub way : List Node → ℕ → List ℕ
 way ns u = rest_of (reverse (u ∷ above ns u))
 
-there_of : (ns : List Node) (u : ℕ) → has_directory ns u ≡ true → is_some (node_in ns u) ≡ true
-there_of [] u e = cc
-there_of (n ∷ ns) u e = elim (cases_Bool (eqb n.uid u)) [
-  | inl is ↦ rw is refl
-  | inr isnt ↦ rw isnt (there_of ns u (rw isnt at e))
-]
-
 none_below : (ns : List Node) (u : ℕ) → AreBelow u ns → (v : ℕ) → is_some (node_in ns v) ≡ true → v < u
 none_below [] u b v e = cc
 none_below (n ∷ ns) u b v e = elim (cases_Bool (eqb n.uid v)) [
   | inl is ↦ (let lt : n.uid < u = b.0 in grind (arith, nat_tests))
   | inr isnt ↦ none_below ns u b.1 v (rw isnt at e)
 ]
-
-under_more : (u v : ℕ) (xs : List ℕ) → v < u → AreUnder v xs → AreUnder u xs
-under_more u v [] lt h = tt
-under_more u v (x ∷ xs) lt h = ((let less : x < v = h.0 in omega arith), under_more u v xs lt h.1)
 
 under_append : (u : ℕ) (xs ys : List ℕ) → AreUnder u xs → AreUnder u ys → AreUnder u (xs ++ ys)
 under_append u [] ys a b = b
@@ -80,7 +70,7 @@ joined : (n : Node) (ns : List Node) (u : ℕ) (o : Option ℕ) → eqb n.uid u 
     → trail_up (trail_of ns) n.name o ≡ flat_map (name_at (n ∷ ns)) (rest_of (reverse (u ∷ step_up (above ns) o)))
 joined n ns u None is root t ih = refl
 joined n ns u (Some s) is branch t ih =
-    let there : is_some (node_in ns s) ≡ true = there_of ns s branch.below in
+    let there : is_some (node_in ns s) ≡ true = directory_there ns s branch.below in
     let less : s < n.uid = none_below ns n.uid branch.later s there in
     let under : AreUnder n.uid (s ∷ above ns s) = (
       less,
@@ -94,10 +84,6 @@ joined n ns u (Some s) is branch t ih =
     ∙ ap (λ (x : List (List ℕ)). flat_map (name_at (n ∷ ns)) (way ns s) ++ x) (sym own)
     ∙ sym (flat_map-append (name_at (n ∷ ns)) (way ns s) (u ∷ []))
     ∙ ap (flat_map (name_at (n ∷ ns))) (sym (way_down ns u s))
-
-later_joined : (ns : List Node) (n : Node) (o : Option ℕ) → Joins ns o n → AreBelow n.uid ns
-later_joined ns n None root = subst (AreBelow n.uid) (sym root.first) tt
-later_joined ns n (Some s) branch = branch.later
 
 -- the trail of a node is the names on the way there
 trail_is : (ns : List Node) (u : ℕ) → IsTree ns → is_some (node_in ns u) ≡ true → trail_of ns u

@@ -11,6 +11,7 @@ use Rattle.live_pages.specs.declared.touch.Bound.{Bound}
 use Rattle.live_pages.specs.Touches.{touched, answer, Given, is_of, touched_if, after, IsLegal, AreBelow, mine, mine_if}
 use Rattle.live_pages.specs.Turns.{current}
 use Rattle.live_pages.specs.Kept.{AreOfBindings, HaveLeft}
+use Rattle.laws.proofs.Bools.{and_false}
 
 -- a touch of this binding
 pub after_here : (given : Given) (f b : ℕ) (e : Made) (es : List Made) → e.frame ≡ f → e.binding ≡ b
@@ -24,10 +25,6 @@ pub after_frame : (given : Given) (f b : ℕ) (e : Made) (es : List Made) → e.
     ≡ after given f b es
 after_frame given f b e es frame = ap (λ t. touched_if t e.touch (after given f b es))
     (ap (λ t. t && eqb e.binding b) (ne_eqb e.frame f frame))
-
-and_false : (x : Bool) → (x && false) ≡ false
-and_false true = refl
-and_false false = refl
 
 -- a touch of another binding
 pub after_binding : (given : Given) (f b : ℕ) (e : Made) (es : List Made) → e.binding ≢ b → after given f b (e ∷ es)

@@ -12,21 +12,21 @@
 mod closing;
 mod errors;
 mod keeper;
-mod laws;
 mod opening;
 mod pages;
 mod pass;
 mod rule;
+mod theorems;
 mod touch;
 mod views;
 
 pub use closing::{Ended, Shown};
 pub use errors::{Busy, NoMemory};
 pub use keeper::Keeper;
-pub use laws::{all_in_is_legal, entry_is_current, may_bind_has_no_holder};
 pub use live_doors::{Behind, Closed};
 pub use pages::LivePages;
 pub use pass::Pass;
 pub use rule::{Frames, Held, Size};
+pub use theorems::{all_in_is_legal, entry_is_current, may_bind_has_no_holder};
 pub use touch::{Bound, Made, Touch, Touched};
 pub use views::{Hand, Holder, Part, View, Walker};

@@ -1,9 +1,9 @@
 -- What the tables ask of a processor that acts by itself follows from the promise and the rule.
-use Rattle.std.proofs.Common.{◌≡◌, ◌<◌, ◌≤◌, ◌+◌, ◌-◌, ◌^◌, ◌/◌, ℕ, suc, zero, Bool, true, false, ◌||◌, ◌&&◌, cond}
+use Rattle.std.proofs.Common.{◌≡◌, ◌<◌, ◌≤◌, ◌+◌, ◌-◌, ◌^◌, ◌/◌, ℕ, zero, Bool, true, false, ◌||◌, ◌&&◌, cond}
 use Rattle.std.proofs.Common.{eqb, length, map}
 use Rattle.std.proofs.Common.{List, [], ◌∷◌, Option, Some, None, refl, sym, ap, subst, ◌∙◌, inl, inr, arith}
-use Rattle.std.specs.List.{find, list_any}
-use Rattle.std.specs.List.{AllByRecursion, IsDistinct}
+use Rattle.std.specs.List.{find}
+use Rattle.std.specs.List.{AllByRecursion}
 use Rattle.std.proofs.lemmas.Map.Steps.{length-le_from_distinct_below}
 use Rattle.std.proofs.lemmas.Bool.Decides.{eqb_tells}
 use Rattle.assoc_mem.specs.declared.HeldPage.{HeldPage}
@@ -39,6 +39,11 @@ use Rattle.machine_model.proofs.StepKept.{CanDo, CanFill, to_hold}
 use Rattle.machine_tables.specs.Parts.{Parts}
 use Rattle.machine.specs.Promise.{IsSound}
 use Rattle.machine.specs.Turns.{MayAnswer}
+use Rattle.laws.proofs.Numbers.{and_both, eqb_turned}
+use Rattle.machine_model.proofs.OutlineSeen.{distinct_of}
+use Rattle.machine_model.proofs.CommitRests.{none_listed}
+use Rattle.std.proofs.lemmas.Bool.{or_parts}
+use Rattle.custody_model.proofs.SharedLaws.{range_length, any_turned}
 
 -- ---- ready processes
 
@@ -49,40 +54,14 @@ has_tail x q xs h = by (eqb x q)
     by true = refl
     by false = h
 
-has_head : (x : ℕ) (xs : List ℕ) → has (x ∷ xs) x ≡ true
-has_head x xs = elim (eqb_tells x x) [ inl e ↦ rw e.0 refl | inr n ↦ absurd (n.1 refl) ]
-
-eqb_turned : (x y : ℕ) → eqb x y ≡ eqb y x
-eqb_turned x y = elim (eqb_tells x y) [
-  | inl e ↦ elim (eqb_tells y x) [ inl d ↦ e.0 ∙ sym d.0 | inr m ↦ absurd (m.1 (sym e.1)) ]
-  | inr n ↦ elim (eqb_tells y x) [ inl d ↦ absurd (n.1 (sym d.1)) | inr m ↦ n.0 ∙ sym m.0 ]
-]
-
-or_none : (a b : Bool) → (a || b) ≡ false → (a ≡ false) × (b ≡ false)
-or_none true b h = absurd (let no : true ≡ false = h in cc)
-or_none false b h = (refl, h)
-
 apart_all : (x : ℕ) (xs : List ℕ) → has xs x ≡ false → AllByRecursion (λ y. eqb x y ≡ false) xs
 apart_all x [] h = tt
-apart_all x (y ∷ ys) h = let both = or_none (eqb y x) (has ys x) h in
+apart_all x (y ∷ ys) h = let both = or_parts (eqb y x) (has ys x) h in
     (eqb_turned x y ∙ both.0, apart_all x ys both.1)
 
-distinct : (xs : List ℕ) → AreDistinct xs → IsDistinct eqb xs
-unfolding IsDistinct
-distinct [] h = tt
-distinct (x ∷ xs) h = (apart_all x xs h.0, distinct xs h.1)
-
-turned : (xs : List ℕ) (q : ℕ) → list_any (eqb q) xs ≡ true → has xs q ≡ true
-turned [] q h = h
-turned (x ∷ xs) q h = by (eqb x q) refl (turned xs q)
-  where
-    by : (b : Bool) → eqb x q ≡ b → (list_any (eqb q) xs ≡ true → has xs q ≡ true) → (b || has xs q) ≡ true
-    by true e rest = refl
-    by false e rest = rest (subst (λ (b : Bool). (b || list_any (eqb q) xs) ≡ true) (eqb_turned q x ∙ e) h)
-
--- a list of distinct numbers below a number is no longer than that
+-- a list of distinct_of numbers below a number is no longer than that
 short : (n : ℕ) (xs : List ℕ) → AreDistinct xs → ((q : ℕ) → has xs q ≡ true → q < n) → length xs ≤ n
-short n xs once below = length-le_from_distinct_below xs n (distinct xs once) (λ q h. below q (turned xs q h))
+short n xs once below = length-le_from_distinct_below xs n (distinct_of xs once) (λ q h. below q (any_turned xs q h))
 
 module _ {D : Type 0} (t : Parts D) (c : ℕ) (sound : IsSound t) where
   abbrev s : State
@@ -117,7 +96,7 @@ module _ {D : Type 0} (t : Parts D) (c : ℕ) (sound : IsSound t) where
 -- what isn't held by its number isn't found
 seg_new : (es : List HeldSeg) (n : ℕ) → has (map (λ e. e.number) es) n ≡ false → find (is_number n) es ≡ None
 seg_new [] n h = refl
-seg_new (e ∷ es) n h = let both = or_none (eqb e.number n) (has (map (λ x. x.number) es) n) h in
+seg_new (e ∷ es) n h = let both = or_parts (eqb e.number n) (has (map (λ x. x.number) es) n) h in
     by (eqb e.number n) both.0 (seg_new es n both.1)
   where
     by : (b : Bool) → b ≡ false → find (is_number n) es ≡ None → cond b (Some e) (find (is_number n) es) ≡ None
@@ -171,22 +150,12 @@ module _ {D : Type 0} (t : Parts D) (c : ℕ) (sound : IsSound t) (there : c < l
       some_is : {a b : ℕ} → Some a ≡ Some b → a ≡ b
       some_is h = cc
 
--- two tests that pass
-pub and_both : (a b c d : ℕ) → (eqb a c && eqb b d) ≡ true → (a ≡ c) × (b ≡ d)
-and_both a b c d h = elim (eqb_tells a c) [
-  | inl y ↦ elim (eqb_tells b d) [
-    | inl z ↦ (y.1, z.1)
-    | inr m ↦ absurd (let no : false ≡ true = sym (rw (y.0, m.0) refl) ∙ h in cc)
-  ]
-  | inr m ↦ absurd (let no : false ≡ true = sym (rw m.0 refl) ∙ h in cc)
-]
-
 -- a page whose frame isn't held isn't found
 page_new : (bound : ℕ → Option (ℕ × ℕ)) (es : List HeldPage) (u p f : ℕ) → AreHeldPages bound es
     → ((g : ℕ) → bound g ≡ Some (u, p) → g ≡ f) → has (map (λ e. e.frame) es) f ≡ false → find (is_page u p) es ≡ None
 page_new bound [] u p f held once h = refl
 page_new bound (e ∷ es) u p f held once h =
-    let both = or_none (eqb e.frame f) (has (map (λ x. x.frame) es) f) h in
+    let both = or_parts (eqb e.frame f) (has (map (λ x. x.frame) es) f) h in
     by (is_page u p e) refl both.0 (page_new bound es u p f held.1 once both.1)
   where
     by : (b : Bool) → is_page u p e ≡ b → eqb e.frame f ≡ false → find (is_page u p) es ≡ None
@@ -221,14 +190,6 @@ module _ {D : Type 0} (t : Parts D) (c : ℕ) (sound : IsSound t) (there : c < l
 
 -- ---- answers
 
-list_none : (xs : List ℕ) → ((q : ℕ) → has xs q ≡ true → ⊥) → xs ≡ []
-list_none [] h = refl
-list_none (x ∷ xs) h = absurd (h x (has_head x xs))
-
-range_length : (from n : ℕ) → length (range from n) ≡ n
-range_length from zero = refl
-range_length from (suc n) = ap suc (range_length (from + 1) n)
-
 module _ {D : Type 0} (t : Parts D) (c : ℕ) (sound : IsSound t) (k : ℕ)
     (its : (cpu_at t.state.processors c).process ≡ Some k) where
   abbrev w : State
@@ -247,7 +208,7 @@ module _ {D : Type 0} (t : Parts D) (c : ℕ) (sound : IsSound t) (k : ℕ)
       small = ready_room t c sound k its
 
       alone : w.plan.initializer ≡ true → k ≡ 0 → w.ready ≡ []
-      alone first zeroth = list_none w.ready (λ q h.
+      alone first zeroth = none_listed w.ready (λ q h.
           (let may = sound.keeps.machine.scheduled.waiting q h in
           let mine = sound.keeps.machine.scheduled.running c k its in
           elim may.turn [

@@ -1,9 +1,9 @@
 -- What a step's call of a drive comes to: which drive counts a failure more, and how many all of them do.
-use Rattle.std.proofs.Common.{◌≡◌, ◌≢◌, ◌⊎◌, ◌≤◌, ◌<◌, ◌+◌, ◌^◌, ◌++◌, ℕ, zero, suc, Bool, true, false, cond}
-use Rattle.std.proofs.Common.{length, map, min, List, [], ◌∷◌, refl, sym, ap, ◌∙◌, arith, inl, inr}
+use Rattle.std.proofs.Common.{◌≡◌, ◌≢◌, ◌⊎◌, ◌≤◌, ◌<◌, ◌+◌, ◌^◌, ◌++◌, ℕ, zero, suc, Bool, true, false}
+use Rattle.std.proofs.Common.{length, map, min, List, [], ◌∷◌, refl, ap, ◌∙◌, arith, inl, inr}
 use Rattle.std.specs.Prelude.{Err, IsOk, Ok, Result, count_by, sum_by}
 use Rattle.std.proofs.lemmas.Bool.{cases_lt}
-use Rattle.std.proofs.lemmas.List.Sums.{sum-map, sum_by-append, sum_by-cons}
+use Rattle.std.proofs.lemmas.List.Sums.{sum_by-cons}
 use Rattle.std.specs.Prelude.{sum}
 use Rattle.site_io.specs.Faults.{Rose}
 use Rattle.book.specs.declared.entries.Entry.{Entry}
@@ -21,9 +21,9 @@ use Rattle.machine_tables.specs.Parts.{Parts, SparesCall, outcome_of}
 use Rattle.machine.specs.Turns.{AreTold, CallsAs, CallsNone, CallsOne, CountsAlike, HaveCounted, KeepsParts, LetsGo}
 use Rattle.machine.specs.Turns.{CallsTwo, RoseAtOne}
 use Rattle.machine.proofs.DriveCounts.{counted_same, rose_sum, same_sum}
-
-not_both : {b : Bool} → b ≡ true → b ≡ false → ⊥
-not_both t f = cc
+use Rattle.machine_model.proofs.FaultsBooked.{count_on}
+use Rattle.laws.proofs.Bools.{not_both}
+use Rattle.laws.proofs.Lists.{sum_of_map}
 
 -- ---- a call by its result
 
@@ -160,10 +160,6 @@ one_sum faults (x ∷ xs) (y ∷ ys) (suc v) long same once low =
     (omega (arith, low, b)) in
     omega (arith, head, rest, a, b)
 
-sum_of_map : {D : Type 0} (faults : D → ℕ) (old new : List D) → map faults new ≡ map faults old
-    → sum_by faults new ≡ sum_by faults old
-sum_of_map faults old new same = sym (sum-map faults new) ∙ (ap (λ (ns : List ℕ). sum ns) same ∙ sum-map faults old)
-
 capped_none : (old new told : ℕ) → told ≡ 0 → new ≡ old → min new (2 ^ 63) ≡ min (old + told) (2 ^ 63)
 capped_none old new told none same = omega (arith, none, same)
 
@@ -187,9 +183,6 @@ told_sum faults old new told long h = elim (cases_lt told 1) [
       (rose_sum faults old new rose.volume long rose.failed.others rose.failed.rose)
       (one_sum faults old new rose.volume long rose.failed.others rose.failed.once))
 ]
-
-count_on : (xs ys : List Entry) → count_by is_fault (xs ++ ys) ≡ count_by is_fault xs + count_by is_fault ys
-count_on xs ys = sum_by-append (λ e. cond (is_fault e) 1 0) xs ys
 
 module _ {D : Type 0} (faults : D → ℕ) where
   pub told_alike : (old new : Parts D) (more : List Entry) → new.state.entries ≡ old.state.entries ++ more

@@ -19,7 +19,6 @@ use Rattle.machine_model.proofs.StepKnows.{Knows, step_knows}
 use Rattle.machine_model.proofs.UidsFew.{few_uids}
 use Rattle.machine_tables.specs.Parts.{Parts, with_state}
 use Rattle.machine_tables.specs.Ready.{IsApplicable, MayCommit}
-use Rattle.machine_tables.proofs.CommandLaws.{command_ranges}
 use Rattle.machine_tables.proofs.EffectLaws.{effect_had}
 use Rattle.machine_tables.proofs.RangeLaws.{drive_each, more_volumes}
 use Rattle.machine.specs.Promise.{IsSound}
@@ -29,6 +28,7 @@ use Rattle.machine.proofs.Busy.{busy_for}
 use Rattle.machine.proofs.Changed.{HasPlaces, IsStoreOf, changed_sound}
 use Rattle.machine.proofs.CommitStays.{commit_counts}
 use Rattle.machine.proofs.OwnerCalls.{owned, still_for}
+use Rattle.flat_model.proofs.ScriptLaws.{command_planned}
 
 -- There are as many places as the pools have, still.
 pub commit_places : (s : State) (c : ℕ) (o : Outcome) → HasPlaces s.store → HasPlaces (after s c act.Commit o).store
@@ -66,7 +66,7 @@ module _ {D : Type 0} (t : Parts D) (c : ℕ) (sound : IsSound t) (there : c < l
   ranges pages parts = more_volumes (length s.plan.volumes) (length t.drives) x
       (drive_each pages t.drives s.plan s.store.pages.records s.store.pages.vtocs sound.keeps.machine.script
       keeps.faithful.script.records parts)
-      (command_ranges s.plan k (run_at s.runs k).place x sound.keeps.machine.script stands.speaks.next)
+      (command_planned s.plan k (run_at s.runs k).place x sound.keeps.machine.script stands.speaks.next)
 
   applies : (pages : D → List (List ℕ)) → HasParts (map pages t.drives) s.store.pages.records s.store.pages.vtocs
       → IsApplicable t k x

@@ -5,7 +5,6 @@ use Rattle.std.proofs.Common.{List, refl, sym, ap, subst, ◌∙◌, inl, inr}
 use Rattle.std.specs.Prelude.{◌/◌}
 use Rattle.std.proofs.lemmas.Bool.Decides.{eqb_tells}
 use Rattle.script.specs.References.{alters, new_word}
-use Rattle.script.specs.declared.commands.RefKind.{RefKind}
 use Rattle.script.specs.declared.commands.RefKind.TheVariants as kind
 use Rattle.script.specs.declared.commands.Reference.{Reference}
 use Rattle.book.specs.declared.replies.Reply.{Reply}
@@ -32,7 +31,7 @@ use Rattle.machine_model.specs.Reads.{cpu_at, flat_of, is_active, or_zero, proce
 use Rattle.machine_model.specs.Refusal.{is_of_room, only, room_refusal}
 use Rattle.machine_model.specs.State.{State}
 use Rattle.machine_model.specs.Steps.{page_created}
-use Rattle.machine_model.proofs.FindLaws.{free_frame, position_at}
+use Rattle.machine_model.proofs.FindLaws.{free_frame, position_at, free_is}
 use Rattle.machine_model.proofs.InsideLaws.{due_is, inside_is}
 use Rattle.machine_model.proofs.LookFacts.{IsInside}
 use Rattle.machine_model.proofs.PageShown.{null_word, stored_is}
@@ -43,13 +42,7 @@ use Rattle.machine.specs.Promise.{IsSound}
 use Rattle.machine.proofs.AloneLaws.{process_known}
 use Rattle.machine.proofs.Changed.{IsStoreOf, changed_sound}
 use Rattle.machine.proofs.Found.{Looked, found_of}
-use Rattle.machine.proofs.OwnerCalls.{free_is}
-
--- a reference that leaves a word other than 0 in a page of zeros writes it
-writes : (how : RefKind) → eqb (new_word 0 how) 0 ≡ false → alters how ≡ true
-writes kind.Read h = absurd (let no : true ≡ false = h in cc)
-writes (kind.Write w) h = refl
-writes (kind.Add w) h = refl
+use Rattle.flat_model.proofs.SharedLaws.{nonzero_alters}
 
 module _ {D : Type 0} (t : Parts D) (c : ℕ) (sound : IsSound t) (there : c < length t.state.processors) (f u p : ℕ)
     (r : Reference) (doing : action_of t.state c ≡ act.Create f u p r) where
@@ -95,7 +88,7 @@ module _ {D : Type 0} (t : Parts D) (c : ℕ) (sound : IsSound t) (there : c < l
       && not (is_stored (flat_of s).stored u (r.offset / 1024)))) zero_word
       ∙ (ap (λ (b : Bool). alters r.kind && (not (eqb (new_word 0 r.kind) 0) && not b)) unstored
       ∙ (ap (λ (b : Bool). alters r.kind && (not b && true)) looked.finds.word
-      ∙ ap (λ (b : Bool). b && true) (writes r.kind looked.finds.word)))
+      ∙ ap (λ (b : Bool). b && true) (nonzero_alters r.kind looked.finds.word)))
 
   has_room : room_reply s.plan (flat_of s) inside.node reply.Done ≡ reply.Done
   unfolding room_refusal

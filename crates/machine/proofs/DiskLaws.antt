@@ -1,8 +1,7 @@
 -- The volumes of a machine that keeps its promise hold the flat store after the book.
 use Rattle.std.proofs.Common.{◌≡◌, ◌≢◌, ◌&&◌, cond, ℕ, Bool, true, false, eqb, is_some, get_or, position, replicate}
-use Rattle.std.proofs.Common.{List, [], ◌∷◌, Option, Some, None, inl, inr, refl, sym, ap, subst, ◌∙◌}
+use Rattle.std.proofs.Common.{List, [], ◌∷◌, Option, Some, None, refl, sym, ap, subst, ◌∙◌}
 use Rattle.std.specs.Prelude.{◌/◌, ◌%◌}
-use Rattle.std.proofs.lemmas.Bool.Decides.{eqb_tells}
 use Rattle.tree_model.specs.Tree.{Node, node_in, volume_in}
 use Rattle.flat_model.specs.Pages.{is_stored}
 use Rattle.custody_model.specs.Clean.{custody_after}
@@ -26,6 +25,7 @@ use Rattle.machine_model.specs.State.{State}
 use Rattle.machine_model.proofs.FindLaws.{position_at}
 use Rattle.machine_model.proofs.TieLaws.{none_some}
 use Rattle.machine.specs.OnDisk.{HasHome, HasNode, IsOnDisk}
+use Rattle.machine_model.proofs.PageShown.{bound_tells}
 
 -- a frame that is bound shows its page
 bound_shows : (words : ℕ → ℕ → Ptw) (page : ℕ × ℕ) (x read : Option (ℕ × ℕ)) → x ≡ Some page
@@ -38,16 +38,6 @@ bound_shows words page x read e =
     by (ptw.Out r) = refl
     by (ptw.Here f) = refl
     by (ptw.Leaving f) = refl
-
-pub binding_tells : (u p : ℕ) (x : Option (ℕ × ℕ)) → is_binding u p x ≡ true → x ≡ Some (u, p)
-binding_tells u p None h = absurd (let none : false ≡ true = h in cc)
-binding_tells u p (Some page) h = elim (eqb_tells page.0 u) [
-  | inl a ↦ elim (eqb_tells page.1 p) [
-    | inl b ↦ λ i. Some (a.1 i, b.1 i)
-    | inr n ↦ absurd (let no : false ≡ true = sym (rw (a.0, n.0) refl) ∙ h in cc)
-  ]
-  | inr n ↦ absurd (let no : false ≡ true = sym (rw n.0 refl) ∙ h in cc)
-]
 
 -- the volume of a node that is there
 volume_is : (ns : List Node) (u : ℕ) (n : Node) → node_in ns u ≡ Some n → volume_in ns u ≡ n.volume
@@ -120,7 +110,7 @@ module _ (s : State) (keeps : Keeps s) where
       by None e = refl
       by (Some f) e = absurd (none f (ap (λ (c : Custody). bound_page (c.frame f)) (sym keeps.book.held)
           ∙ bound_shows (seen s).words (u, p) ((seen s).bound f) ((seen s).reads f)
-          (binding_tells u p ((seen s).bound f)
+          (bound_tells u p ((seen s).bound f)
           (position_at (is_binding u p) (bindings s.store.pages.core) None f e).1)))
 
   on_record : (home : Home) (u o r : ℕ) → uid_at s.store.pages.vtocs home ≡ Some u

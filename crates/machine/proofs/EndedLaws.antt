@@ -1,9 +1,8 @@
 -- No process is ready or running just where every one has ended.
 use Rattle.std.proofs.Common.{◌≡◌, ℕ, suc, Bool, true, false, not, ◌||◌, ◌&&◌, is_some, List}
-use Rattle.std.proofs.Common.{[], ◌∷◌, Option, Some, None, inl, inr, refl, sym, ap, ◌∙◌}
+use Rattle.std.proofs.Common.{[], ◌∷◌, Option, Some, None, refl, sym, ap, ◌∙◌}
 use Rattle.std.specs.Prelude.{◌↔◌}
 use Rattle.std.specs.List.{list_any}
-use Rattle.std.proofs.lemmas.Bool.Decides.{eqb_tells}
 use Rattle.custody_model.specs.Custody.{has}
 use Rattle.machine_model.specs.Actions.{has_process, is_empty, is_over}
 use Rattle.machine_model.specs.Promise.{KeepsAll}
@@ -13,9 +12,7 @@ use Rattle.machine_model.specs.State.{State}
 use Rattle.machine_model.specs.declared.Processor.{Processor}
 use Rattle.machine_model.proofs.AllEnded.{flat_ended}
 use Rattle.machine.specs.Turns.{HaveEnded}
-
-has_head : (x : ℕ) (xs : List ℕ) → has (x ∷ xs) x ≡ true
-has_head x xs = elim (eqb_tells x x) [ inl e ↦ ap (λ (b : Bool). b || has xs x) e.0 | inr n ↦ absurd (n.1 refl) ]
+use Rattle.custody_model.proofs.SharedLaws.{has_head}
 
 -- a processor of a list has a process, where one has
 busy_found : (ps : List Processor) → list_any has_process ps ≡ true

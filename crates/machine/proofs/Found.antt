@@ -49,7 +49,7 @@ use Rattle.machine_model.proofs.SpeakLaws.{speaks}
 use Rattle.machine_model.proofs.StepKept.{IsMine}
 use Rattle.machine_model.proofs.TieLaws.{none_some}
 use Rattle.machine_model.proofs.WorkStep.{Looks}
-use Rattle.machine.proofs.AloneLaws.{and_both}
+use Rattle.laws.proofs.Numbers.{and_both}
 
 -- the owner looks, and the look comes to this action
 abbrev pub Looked : State → ℕ → act.Action → Type 0

@@ -1,5 +1,5 @@
 -- What the loops that make a machine end come to, turn by turn.
-use Rattle.std.proofs.Common.{◌≡◌, ◌≤◌, ◌<◌, ℕ, ◌+◌, ◌++◌, ◌∷◌, [], Bool, true, false, cond, eqb, ◌&&◌, length, is_some}
+use Rattle.std.proofs.Common.{◌≡◌, ◌≤◌, ◌<◌, ℕ, ◌+◌, ◌++◌, ◌∷◌, [], true, false, cond, eqb, ◌&&◌, length, is_some}
 use Rattle.std.proofs.Common.{List, Option, Some, None, position, refl, sym, ap, subst, ◌∙◌, arith, inl, inr}
 use Rattle.std.proofs.lemmas.Bool.{cases_lt}
 use Rattle.std.proofs.lemmas.Bool.Decides.{eqb_tells}
@@ -41,6 +41,7 @@ use Rattle.machine.specs.declared.turn.Turn.{Turn}
 use Rattle.machine.specs.declared.turn.Turn.TheVariants as turn
 use Rattle.machine.proofs.RestLaws.{rest_kept}
 use Rattle.machine.proofs.RunLaws.{round_made, run_append, run_grows, run_grows_on, run_keeps, run_keeps_on}
+use Rattle.laws.proofs.Bools.{and_first}
 
 -- ---- steps, one after another
 
@@ -440,10 +441,6 @@ module _ (s t : State) (c : ℕ) (answer : Turn) (turned : HasTurned s t c answe
           ∙ took.0.cpu)
 
 -- ---- the loop over a command
-
-and_first : (a b : Bool) → (a && b) ≡ true → a ≡ true
-and_first true b h = refl
-and_first false b h = absurd (let no : false ≡ true = h in cc)
 
 -- a processor that is at a command still has a process
 pub still_running : (s : State) (c since : ℕ) → is_still_at since (processor_at s.processors c) ≡ true

@@ -1,7 +1,7 @@
 -- What the shutdown tells of drives that fail: at a visit one failure at the most, of no process; and at the end one
 -- for each page that is still in a frame.
 use Rattle.std.proofs.Common.{◌≡◌, ◌<◌, ◌≤◌, ℕ, ◌+◌, ◌++◌, ◌∷◌, [], Bool, true, false, cond, List, Option, Some, None}
-use Rattle.std.proofs.Common.{inl, inr, refl, sym, ap, subst, ◌∙◌, arith}
+use Rattle.std.proofs.Common.{inl, inr, refl, sym, ap, subst, ◌∙◌, arith, append-nil}
 use Rattle.std.specs.Prelude.{◌⊎◌, count_by, map}
 use Rattle.std.specs.List.{list_all}
 use Rattle.std.proofs.lemmas.Bool.{and_parts}
@@ -22,7 +22,7 @@ use Rattle.machine_model.specs.Shutdown.{after_visit, page_taken, visited_if}
 use Rattle.machine_model.specs.State.{State}
 use Rattle.machine_model.specs.Steps.{fault_told, with_faults}
 use Rattle.machine_model.specs.Visits.{TellsBack, WasVisited}
-use Rattle.machine_model.proofs.FlatAlike.{append_assoc, append_nil}
+use Rattle.machine_model.proofs.FlatAlike.{append_assoc}
 use Rattle.machine_model.proofs.TakeSeen.{binding_is}
 use Rattle.machine_model.proofs.TieLaws.{none_some}
 use Rattle.machine_tables.specs.Parts.{Parts}
@@ -117,7 +117,7 @@ module _ (s : State) (o : Outcome) where
       by : (x : Option (ℕ × ℕ)) → Tells s (record (visited_if s f o x) { visited = f + 1 }) (is_called x) o.failed
       by None = record {
         more = [];
-        entries = sym (append_nil s.entries);
+        entries = sym (append-nil s.entries);
         told = inl (refl, λ called. absurd (let no : false ≡ true = called in cc));
         quiet = refl;
       }
@@ -176,7 +176,7 @@ module _ {D X : Type 0} (plan : D → X) (places faults : D → ℕ) (old new : 
 pub still_tells : {D : Type 0} (faults : D → ℕ) (t : Parts D) → TellsLoss faults t t
 still_tells faults t = record {
   more = [];
-  entries = sym (append_nil t.state.entries);
+  entries = sym (append-nil t.state.entries);
   told = record {
     few = omega arith;
     none = λ none. refl;

@@ -1,11 +1,10 @@
 -- Once every frame was visited no stored page is all zeros: such a page would be in a frame, and the pages that stayed
 -- in theirs have a word other than 0.
-use Rattle.std.proofs.Common.{◌≡◌, ◌<◌, ◌≤◌, ◌+◌, ◌*◌, ℕ, zero, suc, Bool, true, false, ◌&&◌, cond, get_or, length}
-use Rattle.std.proofs.Common.{position, replicate, List, [], ◌∷◌, Option, Some, None, inl, inr, refl, sym, ap, subst}
+use Rattle.std.proofs.Common.{◌≡◌, ◌<◌, ◌≤◌, ◌+◌, ◌*◌, ℕ, zero, suc, Bool, true, false, cond, get_or, length}
+use Rattle.std.proofs.Common.{position, replicate, List, [], Option, Some, None, inl, inr, refl, sym, ap, subst}
 use Rattle.std.proofs.Common.{◌∙◌, arith}
 use Rattle.std.specs.Prelude.{◌/◌, ◌%◌, All}
 use Rattle.std.proofs.lemmas.Bool.{and_parts, cases_lt}
-use Rattle.std.proofs.lemmas.Bool.Decides.{eqb_tells}
 use Rattle.std.proofs.lemmas.List.{get_or_past, length-replicate}
 use Rattle.std.proofs.lemmas.List.Elements.{All-get_or, All-nil}
 use Rattle.mword.specs.Words.{AreZero}
@@ -21,7 +20,6 @@ use Rattle.page_control.specs.Tied.{IsInFrame, vtoc_in}
 use Rattle.seg_control.specs.Control.{place_of}
 use Rattle.seg_control.specs.Kept.{IsHomeOf}
 use Rattle.storage_ops.specs.Shown.{is_filed, is_there, picture}
-use Rattle.machine_model.specs.Jobs.{are_zeros}
 use Rattle.machine_model.specs.Keeps.{Keeps}
 use Rattle.machine_model.specs.Reads.{flat_of, home_in, is_active}
 use Rattle.machine_model.specs.State.{State}
@@ -33,19 +31,8 @@ use Rattle.machine_model.proofs.TieLaws.{none_some}
 use Rattle.machine_model.proofs.TransferKept.{active_at}
 use Rattle.machine.specs.Shut.{AllVisited, HasNoZeros, words_of}
 use Rattle.machine.proofs.VisitNext.{bound_there}
-
-zeros_to : (ws : List ℕ) → AreZero ws → are_zeros ws ≡ true
-zeros_to [] h = refl
-zeros_to (w ∷ ws) h = elim (eqb_tells w 0) [
-  | inl e ↦ ap (λ (b : Bool). b && are_zeros ws) e.0 ∙ zeros_to ws (λ k d lt. h (suc k) d (omega (arith, lt)))
-  | inr n ↦ absurd (n.1 (h zero zero (omega arith)))
-]
-
--- an element within, by another default
-within : (ws : List ℕ) (i d : ℕ) → i < length ws → get_or ws i d ≡ get_or ws i 0
-within [] i d lt = absurd (omega arith)
-within (w ∷ ws) zero d lt = refl
-within (w ∷ ws) (suc i) d lt = within ws i d (omega arith)
+use Rattle.std.proofs.lemmas.Grind.{get_or_default_zero}
+use Rattle.machine_model.proofs.SharedLaws.{zeros_to}
 
 -- ---- pages of 1024 words
 
@@ -107,7 +94,7 @@ module _ (s : State) (k : Keeps s) where
         ∙ ap (λ (j : ℕ). get_or (words_of s u p) j 0) place))
 
     zeros_there : length (words_of s u p) ≤ 1024 → is_zero_page (flat_of s).words u p ≡ true → AreZero (words_of s u p)
-    zeros_there size zeros i d lt = within (words_of s u p) i d lt ∙ (sym (word_at i (omega (arith, lt, size)))
+    zeros_there size zeros i d lt = get_or_default_zero (words_of s u p) i d lt ∙ (sym (word_at i (omega (arith, lt, size)))
         ∙ zero_words (flat_of s).words u p i zeros (omega (arith, lt, size)))
 
     module _ (each : AllVisited s) where

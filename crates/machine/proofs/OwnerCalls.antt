@@ -27,7 +27,7 @@ use Rattle.machine_model.specs.State.{State, Storage}
 use Rattle.machine_model.specs.Steps.{connected_to, started}
 use Rattle.machine_model.proofs.ActiveSeen.{active_place, within_some}
 use Rattle.machine_model.proofs.ChainFacts.{chain_active}
-use Rattle.machine_model.proofs.FindLaws.{free_frame, position_at, unread_page}
+use Rattle.machine_model.proofs.FindLaws.{free_frame, position_at, unread_page, free_is}
 use Rattle.machine_model.proofs.InsideLaws.{inside_is}
 use Rattle.machine_model.specs.Movers.{AsksMover}
 use Rattle.machine_model.proofs.MoverTied.{moving_fits}
@@ -96,11 +96,6 @@ out_is ptw.Null h = absurd (let no : false ≡ true = h in cc)
 out_is (ptw.Out r) h = refl
 out_is (ptw.Here f) h = absurd (let no : false ≡ true = h in cc)
 out_is (ptw.Leaving f) h = absurd (let no : false ≡ true = h in cc)
-
-pub free_is : (x : Frame) → is_free x ≡ true → x ≡ frame.Free
-free_is frame.Free h = refl
-free_is (frame.Started u p) h = absurd (let no : false ≡ true = h in cc)
-free_is (frame.Bound u p used modified) h = absurd (let no : false ≡ true = h in cc)
 
 -- a segment that is found active is so in its place
 pub active_there : (st : Storage) (u : ℕ) → is_active st.ast u ≡ true → IsActive st.ast.entries u

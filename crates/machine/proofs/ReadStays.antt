@@ -30,6 +30,7 @@ use Rattle.machine_model.proofs.TieLaws.{none_some}
 use Rattle.machine_model.proofs.TransferKept.{active_at}
 use Rattle.machine_model.proofs.WordLaws.{word_within}
 use Rattle.machine.proofs.Stays.{ShowsAs, core_as, pages_as, tables_as, then_as, unbound_put}
+use Rattle.laws.proofs.Options.{some_same}
 
 started_is : (x : Frame) (u p : ℕ) → started_page x ≡ Some (u, p) → x ≡ frame.Started u p
 started_is frame.Free u p h = absurd (none_some h)
@@ -46,9 +47,6 @@ out_nowhere ptw.Null g h e = absurd (none_some e)
 out_nowhere (ptw.Out r) g h e = absurd (none_some e)
 out_nowhere (ptw.Here f) g h e = absurd (let no : false ≡ true = h in cc)
 out_nowhere (ptw.Leaving f) g h e = absurd (let no : false ≡ true = h in cc)
-
-some_same : (a b : ℕ) → Some a ≡ Some b → a ≡ b
-some_same a b e = cc
 
 module _ (s : State) (c : ℕ) (t : Transfer) (k : Keeps s)
     (mine : (processor_at s.processors c).cpu.transfer ≡ Some t) where

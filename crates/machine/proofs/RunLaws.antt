@@ -1,5 +1,5 @@
 -- What processors come to that make their steps one after the other.
-use Rattle.std.proofs.Common.{◌≡◌, ◌≤◌, ◌+◌, ◌||◌, ℕ, Bool, true, false, length, List, [], ◌∷◌, ◌++◌, drop}
+use Rattle.std.proofs.Common.{◌≡◌, ◌≤◌, ◌+◌, ◌||◌, ℕ, Bool, true, false, length, List, [], ◌∷◌, ◌++◌, drop, append-nil}
 use Rattle.std.proofs.Common.{◌<◌, get_or, take, Some, refl, sym, ap, subst, ◌∙◌, arith}
 use Rattle.std.specs.Prelude.{◌↔◌, Result, Ok, Err, IfOk, OnErr, count_by}
 use Rattle.std.specs.List.{list_any}
@@ -10,7 +10,7 @@ use Rattle.machine_model.specs.Actions.{action_of}
 use Rattle.machine_model.specs.Reads.{process_at}
 use Rattle.machine_model.specs.Refusal.{move_to, outside_refusal, refusal_of, room_refusal}
 use Rattle.machine_model.specs.Turns.{moves}
-use Rattle.machine_model.proofs.FlatAlike.{append_assoc, append_nil}
+use Rattle.machine_model.proofs.FlatAlike.{append_assoc}
 use Rattle.machine_tables.specs.Parts.{Parts}
 use Rattle.machine.specs.Schedules.{Grows, HasRun, HasStood, IsRound, is_moved, tally, with_room, would_move}
 use Rattle.machine.specs.Turns.{Appends, AreTold, IsTurn, KeepsParts, TellsFaults}
@@ -94,7 +94,7 @@ module _ {D Plan : Type 0} (plan : D → Plan) (places faults : D → ℕ) where
       → Grows old.state.entries new.state.entries
   run_grows old new [] n (same, none) = record {
     more = [];
-    entries = ap (λ (t : Parts D). t.state.entries) same ∙ sym (append_nil old.state.entries);
+    entries = ap (λ (t : Parts D). t.state.entries) same ∙ sym (append-nil old.state.entries);
   }
   run_grows old new (c ∷ cs) n (mid, one, rest, is, round, more) =
       let later = run_grows mid new cs rest more in record {

@@ -28,6 +28,7 @@ use Rattle.machine_model.specs.Steps.{with_pages}
 use Rattle.machine_tables.specs.Parts.{Parts}
 use Rattle.machine.specs.Promise.{IsSound}
 use Rattle.machine.proofs.Steps.{sound_after}
+use Rattle.machine_model.proofs.JobKept.{bound_unmarked}
 
 -- The tree with its accounts, what numbers stand for, the volumes, and the words of each page are as before; and so
 -- are the pools.
@@ -164,17 +165,12 @@ pub unbound_put : (core : Core) (f : ℕ) (x : Frame) → bound_page (get_or cor
     → bound_page x ≡ None → bindings (with_frame core f x) ≡ bindings core
 unbound_put core f x before now = map-set_same bound_page core.frames f x frame.Free (now ∙ sym before)
 
-unmarked_bound : (x : Frame) → bound_page (unmarked x) ≡ bound_page x
-unmarked_bound frame.Free = refl
-unmarked_bound (frame.Started u p) = refl
-unmarked_bound (frame.Bound u p used modified) = refl
-
 passed_bound : (frames : List Frame) (fs : List ℕ) → map bound_page (passed_over frames fs) ≡ map bound_page frames
 unfolding passed_over
 passed_bound frames [] = refl
 passed_bound frames (f ∷ fs) = by (is_idle (frame_in frames f))
     (passed_bound (set frames f (unmarked (frame_in frames f))) fs
-    ∙ map-set_same bound_page frames f (unmarked (frame_in frames f)) frame.Free (unmarked_bound (frame_in frames f)))
+    ∙ map-set_same bound_page frames f (unmarked (frame_in frames f)) frame.Free (bound_unmarked (frame_in frames f)))
   where
     by : (b : Bool) → map bound_page (passed_over (set frames f (unmarked (frame_in frames f))) fs)
         ≡ map bound_page frames

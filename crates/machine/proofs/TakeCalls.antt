@@ -3,14 +3,12 @@
 use Rattle.std.proofs.Common.{◌≡◌, ◌≢◌, ◌<◌, ◌≤◌, ◌+◌, ℕ, zero, suc, Bool, true, false, cond, length, List, [], ◌∷◌}
 use Rattle.std.proofs.Common.{drop}
 use Rattle.std.proofs.Common.{Option, Some, None, ◌⊎◌, inl, inr, refl, sym, ap, subst, ◌∙◌, arith}
-use Rattle.std.specs.List.{position_or_len}
-use Rattle.std.proofs.lemmas.List.{get_or_past}
 use Rattle.script.specs.declared.commands.Command.{Command}
 use Rattle.script.specs.declared.commands.Command.TheVariants as command
 use Rattle.trailers.specs.Trailer.{trailers_of}
 use Rattle.page_table.specs.declared.Ptw.{Ptw}
 use Rattle.active_segs.specs.Active.{IsActive}
-use Rattle.seg_control.specs.Control.{is_for, place_of, table_of}
+use Rattle.seg_control.specs.Control.{place_of}
 use Rattle.machine_model.specs.declared.Aim.TheVariants as aim
 use Rattle.machine_model.specs.Actions as act
 use Rattle.machine_model.specs.Actions.{action_of, descriptors_taken, first_taken, frames_taken}
@@ -20,8 +18,8 @@ use Rattle.machine_model.specs.Reads.{cpu_at, cut_of_owner, frames_in, frames_of
 use Rattle.machine_model.specs.Reads.{is_connected, descriptor_of, next_command, or_zero, process_at, trailers_in}
 use Rattle.machine_model.specs.Refusal.{uid_of_command}
 use Rattle.machine_model.specs.State.{State, Storage}
-use Rattle.machine_model.proofs.ActiveSeen.{active_place, none_length}
-use Rattle.machine_model.proofs.ListSizes.{command_few, connected_few, frames_from_few, trailers_few}
+use Rattle.machine_model.proofs.ActiveSeen.{active_place}
+use Rattle.machine_model.proofs.ListSizes.{command_few, connected_few, frames_from_few, trailers_few, no_table}
 use Rattle.machine_model.proofs.StepKnows.{Knows, step_knows}
 use Rattle.machine_model.proofs.TieLaws.{none_some}
 use Rattle.machine_tables.specs.Claimed.{HasItsSegment, frames_for, of_segment, pairs_for, took_for, what_for}
@@ -66,12 +64,6 @@ both_le s k keeps None = omega arith
 both_le s k keeps (Some cmd) = command_few s k (uid_of_command s.store k cmd) cmd keeps
 
 -- ---- a segment that isn't active has nothing in use
-
-no_table : (s : State) (u : ℕ) → Keeps s → is_active s.store.ast u ≡ false → table_of s.store.ast u ≡ []
-unfolding place_of
-no_table s u k off = get_or_past s.store.ast.tables (position_or_len (is_for u) s.store.ast.entries) []
-    (let long = none_length (is_for u) s.store.ast.entries off in let tables = k.store.kept.places in
-    omega (arith, long, tables))
 
 none_from : (low : ℕ) → frames_in (drop low []) ≡ []
 none_from zero = refl

@@ -1,6 +1,6 @@
 -- A visit of the shutdown: what it asks of the tables, and that the machine keeps its promise.
 use Rattle.std.proofs.Common.{◌≡◌, ◌<◌, ◌≤◌, ℕ, ◌++◌, ◌∷◌, [], Bool, true, false, not, cond, ◌&&◌, length, sum}
-use Rattle.std.proofs.Common.{List, Option, Some, None, inr, refl, sym, ap, subst, ◌∙◌, arith}
+use Rattle.std.proofs.Common.{List, Option, Some, None, inr, refl, sym, ap, subst, ◌∙◌, arith, append-nil}
 use Rattle.std.specs.Prelude.{Err, Ok, OnErr, Result, nat_lt}
 use Rattle.std.specs.List.{list_any}
 use Rattle.std.proofs.lemmas.Bool.Decides.{nat_tests}
@@ -31,7 +31,7 @@ use Rattle.machine_model.specs.Shutdown.{after_visit, page_taken, visited_if}
 use Rattle.machine_model.specs.State.{State}
 use Rattle.machine_model.specs.Steps.{fault_told, with_faults}
 use Rattle.machine_model.specs.Visits.{AreVisited}
-use Rattle.machine_model.proofs.FlatAlike.{append_assoc, append_nil}
+use Rattle.machine_model.proofs.FlatAlike.{append_assoc}
 use Rattle.machine_model.proofs.OverLaws.{over_free}
 use Rattle.machine_model.proofs.OwnerLaws.{bound_here}
 use Rattle.machine_model.proofs.TieLaws.{none_some}
@@ -101,7 +101,7 @@ module _ (s : State) (o : Outcome) where
       }
 
       by : (x : Option (ℕ × ℕ)) → Appends s.entries (visited_if s f o x).entries 320
-      by None = record { more = []; entries = sym (append_nil s.entries); few = omega arith }
+      by None = record { more = []; entries = sym (append-nil s.entries); few = omega arith }
       by (Some page) = ended o.failed
 
 -- ---- the flat store that is shown then
@@ -251,7 +251,7 @@ module _ {D X : Type 0} (plan : D → X) (places faults : D → ℕ) (old new : 
 
 -- a machine that did nothing
 pub same_adds : (es : List Entry) → Appends es es 320
-same_adds es = record { more = []; entries = sym (append_nil es); few = omega arith }
+same_adds es = record { more = []; entries = sym (append-nil es); few = omega arith }
 
 -- every frame was visited
 pub all_visited : (s : State) → AreVisited s → nat_lt s.visited s.plan.frames ≡ false → AllVisited s

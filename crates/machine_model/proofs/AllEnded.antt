@@ -1,5 +1,5 @@
 -- Once no process is ready or running each has ended, and the book is complete.
-use Rattle.std.proofs.Common.{◌≡◌, ◌≢◌, ◌<◌, ℕ, zero, suc, ◌+◌, Bool, true, false, not, ◌&&◌, ◌||◌, cond, eqb, length}
+use Rattle.std.proofs.Common.{◌≡◌, ◌≢◌, ◌<◌, ℕ, zero, suc, ◌+◌, Bool, true, false, not, ◌||◌, cond, eqb, length}
 use Rattle.std.proofs.Common.{List, []}
 use Rattle.std.proofs.Common.{◌∷◌, get_or, set, Option, Some, None, is_some, inl, inr, refl, sym, ap, subst, ◌∙◌}
 use Rattle.std.proofs.Common.{arith, replicate}
@@ -23,11 +23,10 @@ use Rattle.machine_model.specs.Reads.{cpu_at, flat_of, run_at}
 use Rattle.machine_model.specs.Scheduled.{HasTurn, MayRun}
 use Rattle.machine_model.specs.State.{State}
 use Rattle.machine_model.specs.declared.Processor.{Processor}
-use Rattle.machine_model.proofs.RunLaws.{effect_same, is_there}
+use Rattle.machine_model.proofs.RunLaws.{effect_same}
 use Rattle.machine_model.proofs.TieLaws.{none_some}
-
-no_and : {b : Bool} → b ≡ true → b ≡ false → ⊥
-no_and t f = let none : true ≡ false = sym t ∙ f in cc
+use Rattle.laws.proofs.Bools.{and_parts, not_both}
+use Rattle.flat_model.proofs.SharedLaws.{going_within}
 
 -- ---- nobody is ready or running
 
@@ -35,13 +34,9 @@ empty_is : (xs : List ℕ) → is_empty xs ≡ true → xs ≡ []
 empty_is [] h = refl
 empty_is (x ∷ xs) h = absurd (let none : false ≡ true = h in cc)
 
-both : (a b : Bool) → (a && b) ≡ true → (a ≡ true) × (b ≡ true)
-both true b h = (refl, h)
-both false b h = absurd (let none : false ≡ true = h in cc)
-
 nobody_runs : (ps : List Processor) (d k : ℕ) → list_any has_process ps ≡ false → (cpu_at ps d).process ≢ Some k
 nobody_runs [] d k h e = none_some e
-nobody_runs (p ∷ ps) zero k h e = no_and (ap (λ (x : Option ℕ). is_some x) e) (first_off (has_process p) h)
+nobody_runs (p ∷ ps) zero k h e = not_both (ap (λ (x : Option ℕ). is_some x) e) (first_off (has_process p) h)
   where
     first_off : (b : Bool) → (b || list_any has_process ps) ≡ false → b ≡ false
     first_off false i = refl
@@ -55,7 +50,7 @@ nobody_runs (p ∷ ps) (suc d) k h e = nobody_runs ps d k (rest_off (has_process
 -- no processor has a process
 pub over_idle : (s : State) → is_over s ≡ true → (d k : ℕ) → (cpu_at s.processors d).process ≢ Some k
 over_idle s over d k = nobody_runs s.processors d k (off (list_any has_process s.processors)
-    (both (is_empty s.ready) _ over).1)
+    (and_parts (is_empty s.ready) _ over).1)
   where
     off : (b : Bool) → not b ≡ true → b ≡ false
     off false e = refl
@@ -65,7 +60,7 @@ module _ (s : State) (all : KeepsAll s) (over : is_over s ≡ true) where
   none_may : (k : ℕ) → MayRun s.plan s.runs k → ⊥
   none_may k m = elim (all.machine.scheduled.placed k m) [
     | inl r ↦ (let none : false ≡ true =
-        sym (ap (λ (xs : List ℕ). has xs k) (empty_is s.ready (both (is_empty s.ready) _ over).0)) ∙ r in cc)
+        sym (ap (λ (xs : List ℕ). has xs k) (empty_is s.ready (and_parts (is_empty s.ready) _ over).0)) ∙ r in cc)
     | inr x ↦ over_idle s over x.0 k x.1
   ]
 
@@ -117,7 +112,7 @@ module _ (p : Plan) (s : Store) (k : ℕ) (going : (progress_of s k).ended ≡ f
       end_of c (by (tries_on (progress_of s j) c r) (sym (ap (λ (q : Progress). q.ended)
           (here e.1)) ∙ h)),
     )
-    | inr n ↦ absurd (no_and h (ap (λ (q : Progress). q.ended) (away n.1) ∙ going))
+    | inr n ↦ absurd (not_both h (ap (λ (q : Progress). q.ended) (away n.1) ∙ going))
   ]
     where
       now : Progress
@@ -129,7 +124,7 @@ module _ (p : Plan) (s : Store) (k : ℕ) (going : (progress_of s k).ended ≡ f
 
       here : k ≡ j → progress_of (after_command p s j c r) k ≡ now
       here e = at k ∙ (ap (λ (i : ℕ). get_or (set s.processes j now) i ended_progress) e
-          ∙ get_or-set_same s.processes j now ended_progress (is_there s j its))
+          ∙ get_or-set_same s.processes j now ended_progress (going_within s j its))
 
       away : k ≢ j → progress_of (after_command p s j c r) k ≡ progress_of s k
       away n = at k ∙ get_or-set_other s.processes j k now ended_progress n
@@ -137,7 +132,7 @@ module _ (p : Plan) (s : Store) (k : ℕ) (going : (progress_of s k).ended ≡ f
       by : (x : Bool) → (cond x (record (progress_of s j) { tries = (progress_of s j).tries + 1; faulted = false })
           (record { place = (progress_of s j).place + 1; tries = 0; ended = is_end c; faulted = false })).ended ≡ true
           → is_end c ≡ true
-      by true i = absurd (no_and i its)
+      by true i = absurd (not_both i its)
       by false i = i
 
   -- a failure that is told ends none
@@ -147,7 +142,7 @@ module _ (p : Plan) (s : Store) (k : ℕ) (going : (progress_of s k).ended ≡ f
   fault_same j its = elim (eqb_tells k j) [
     | inl e ↦ ap (λ (i : ℕ). (get_or (set s.processes j (record (progress_of s j) { faulted = true })) i
         ended_progress).ended) e.1
-        ∙ (ap (λ (q : Progress). q.ended) (get_or-set_same s.processes j _ ended_progress (is_there s j its))
+        ∙ (ap (λ (q : Progress). q.ended) (get_or-set_same s.processes j _ ended_progress (going_within s j its))
         ∙ ap (λ (i : ℕ). (progress_of s i).ended) (sym e.1))
     | inr n ↦ ap (λ (q : Progress). q.ended) (get_or-set_other s.processes j k _ ended_progress n.1)
   ]
@@ -161,13 +156,13 @@ module _ (p : Plan) (s : Store) (k : ℕ) (going : (progress_of s k).ended ≡ f
       by None e i f = absurd i
       by (Some c) e i f = let its = do_ends j c r h.going f in
           (its.0, e ∙ ap (λ (x : Command). Some x) its.1)
-  entry_ends (entry.Release uid page) h ended = no_and ended going
+  entry_ends (entry.Release uid page) h ended = not_both ended going
   entry_ends (entry.Fault process) h ended = by process h ended
     where
       by : (x : Option ℕ) → MayFault s x → (progress_of (after_fault s x) k).ended ≡ true → ⊥
-      by None i f = no_and f going
-      by (Some j) i f = no_and f (fault_same j i ∙ going)
-  entry_ends _ h ended = no_and ended going
+      by None i f = not_both f going
+      by (Some j) i f = not_both f (fault_same j i ∙ going)
+  entry_ends _ h ended = not_both ended going
 
 -- a process that has ended has no entry more
 module _ (p : Plan) (k : ℕ) where
@@ -190,7 +185,7 @@ module _ (p : Plan) (k : ℕ) where
   )
     where
       other : k ≢ j
-      other e = no_and over (ap (λ (i : ℕ). (progress_of s i).ended) e ∙ h.going)
+      other e = not_both over (ap (λ (i : ℕ). (progress_of s i).ended) e ∙ h.going)
 
       by : (x : Option Command) → IsAnswer p s j x r → (progress_of (after_do p s j x r) k).ended ≡ true
       by None i = absurd i
@@ -201,7 +196,7 @@ module _ (p : Plan) (k : ℕ) where
       by : (x : Option ℕ) → MayFault s x → (progress_of (after_fault s x) k).ended ≡ true
       by None i = over
       by (Some j) i = ap (λ (q : Progress). q.ended) (get_or-set_other s.processes j k _ ended_progress
-          (λ e. no_and over (ap (λ (m : ℕ). (progress_of s m).ended) e ∙ i))) ∙ over
+          (λ e. not_both over (ap (λ (m : ℕ). (progress_of s m).ended) e ∙ i))) ∙ over
   stays_ended s _ over h = (refl, over)
 
   none_later : (s : Store) (es : List Entry) → (progress_of s k).ended ≡ true → IsLegalFrom p s es → part k es ≡ []
@@ -219,7 +214,7 @@ module _ (p : Plan) (k : ℕ) where
   book_ends : (s : Store) (es : List Entry) → (progress_of s k).ended ≡ false → IsLegalFrom p s es
       → (progress_of (store_from p s es) k).ended ≡ true → IsEnd p k (last_of (part k es))
   unfolding IsLegalFrom store_from part IsItsEnd
-  book_ends s [] going h over = no_and over going
+  book_ends s [] going h over = not_both over going
   book_ends s (e ∷ es) going h over = by (progress_of (after_entry p s e) k).ended refl
       (λ g. book_ends (after_entry p s e) es g h.1 over)
     where

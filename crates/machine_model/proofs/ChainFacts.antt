@@ -14,8 +14,8 @@ use Rattle.tree_model.proofs.TreeLaws.{above_once, superior_in}
 use Rattle.dir_tree.specs.Nodes.{chain_of}
 use Rattle.active_segs.specs.Active.{ActiveSegs}
 use Rattle.machine_model.specs.Reads.{first_inactive, is_active}
-use Rattle.flat_model.proofs.QuotaTotals.{directory_node}
 use Rattle.machine_model.proofs.TieLaws.{none_some}
+use Rattle.tree_model.proofs.SharedLaws.{directory_there}
 
 -- ---- the first of a list turned round
 
@@ -143,7 +143,7 @@ module _ (ns : List Node) (t : IsTree ns) (ast : ActiveSegs) where
       → IsMember v (u ∷ xs) → is_some (node_in ns v) ≡ true
   link_there xs dirs u v there (inl e) = subst (λ (x : ℕ). is_some (node_in ns x) ≡ true) (sym e) there
   link_there [] dirs u v there (inr m) = absurd m
-  link_there (x ∷ xs) dirs u v there (inr m) = link_there xs dirs.1 x v (directory_node ns x dirs.0) m
+  link_there (x ∷ xs) dirs u v there (inr m) = link_there xs dirs.1 x v (directory_there ns x dirs.0) m
 
   found_turned : (xs : List ℕ) (v : ℕ) → find idle (reverse xs) ≡ Some v → IsMember v xs
   found_turned xs v h = turn xs (found_member idle (reverse xs) v h)

@@ -1,7 +1,6 @@
 -- Pages are taken and descriptors cut one after the other; what was taken is back, or gone.
-use Rattle.std.proofs.Common.{◌≡◌, ℕ, Bool, true, false, ◌||◌, eqb, List, [], ◌∷◌, ◌++◌, Option, Some, None, inl}
-use Rattle.std.proofs.Common.{inr, refl, sym, ap, subst, ◌∙◌}
-use Rattle.std.proofs.lemmas.Bool.Decides.{eqb_tells}
+use Rattle.std.proofs.Common.{◌≡◌, ℕ, Bool, true, false, ◌||◌, List, [], ◌∷◌, ◌++◌, Option, Some, None}
+use Rattle.std.proofs.Common.{refl, sym, ap, subst, ◌∙◌}
 use Rattle.assoc_mem.specs.declared.What.{What}
 use Rattle.assoc_mem.specs.declared.What.TheVariants as what
 use Rattle.page_table.specs.declared.Ptw.{Ptw}
@@ -28,9 +27,8 @@ use Rattle.machine_model.proofs.OwnedLaws.{IsIdle, cut_at_same}
 use Rattle.machine_model.proofs.Places.{by_places}
 use Rattle.machine_model.proofs.DueLaws.{LeavesFirst}
 use Rattle.machine_model.proofs.TieLaws.{bound_used}
-
-no_and : {b : Bool} → b ≡ true → b ≡ false → ⊥
-no_and t f = let no : true ≡ false = sym t ∙ f in cc
+use Rattle.custody_model.proofs.SharedLaws.{has_head, has_tail}
+use Rattle.laws.proofs.Bools.{not_both}
 
 -- ---- what is named, by the page in a frame
 
@@ -64,16 +62,6 @@ pub record CanTakeAll (v : Seen) (aim : Aim) (w : What) (fs : List ℕ) : Type 0
   pub still : waits_for v.owner ≡ None
   pub aimed : (gs : List ℕ) (ds : List CutDescriptor) → IsAimed aim w gs ds
 
-pub has_head : (f : ℕ) (fs : List ℕ) → has (f ∷ fs) f ≡ true
-has_head f fs = elim (eqb_tells f f) [ inl e ↦ ap (λ (b : Bool). b || has fs f) e.0 | inr n ↦ absurd (n.1 refl) ]
-
-pub has_tail : (f : ℕ) (fs : List ℕ) (g : ℕ) → has fs g ≡ true → has (f ∷ fs) g ≡ true
-has_tail f fs g h = by (eqb f g)
-  where
-    by : (b : Bool) → (b || has fs g) ≡ true
-    by true = refl
-    by false = h
-
 -- the other pages are here still once one of them is taken
 pub here_after : (v : Seen) (c : ℕ) (aim : Aim) (w : What) (f : ℕ) (fs : List ℕ)
     → v.words (page_at v f).0 (page_at v f).1 ≡ ptw.Here f → has fs f ≡ false
@@ -83,7 +71,7 @@ pub here_after : (v : Seen) (c : ℕ) (aim : Aim) (w : What) (f : ℕ) (fs : Lis
 here_after v c aim w f fs first once here g h =
     by_places (λ (x : Ptw). x ≡ ptw.Here g) v.words (page_at v f).0 (page_at v f).1
     (ptw.Leaving f) (page_at v g).0 (page_at v g).1
-    (λ a b. absurd (no_and (subst (λ (i : ℕ). has fs i ≡ true) (same a b) h) once))
+    (λ a b. absurd (not_both (subst (λ (i : ℕ). has fs i ≡ true) (same a b) h) once))
     (λ n. here g (has_tail f fs g h))
   where
     same : (page_at v g).0 ≡ (page_at v f).0 → (page_at v g).1 ≡ (page_at v f).1 → g ≡ f
@@ -161,7 +149,7 @@ linked_kept linked w k n [] none are = tt
 linked_kept linked w k n (d ∷ ds) none are = (
   (
     by_places (λ (o : Option ℕ). o ≡ Some d.uid) linked k n None d.process d.number
-        (λ a b. absurd (no_and (ap (λ (x : ℕ). is_cut_at x n d) (sym a)
+        (λ a b. absurd (not_both (ap (λ (x : ℕ). is_cut_at x n d) (sym a)
         ∙ (ap (λ (y : ℕ). is_cut_at d.process y d) (sym b) ∙ cut_at_same d)) parts.0))
         (λ m. are.0.0),
     are.0.1,
@@ -292,7 +280,7 @@ going_word v f k going = by (v.bound f) refl going
 
     by : (x : Option (ℕ × ℕ)) → v.bound f ≡ x → is_going_frame (frame_use v.words x (v.reads f)) ≡ true
         → v.words (page_or_zero x).0 (page_or_zero x).1 ≡ ptw.Leaving f
-    by None e h = absurd (no_and h (read (v.reads f)))
+    by None e h = absurd (not_both h (read (v.reads f)))
     by (Some page) e h = word page (v.words page.0 page.1) (k.tied.named f page.0 page.1 e) h
 
 pub record HasGone (v : Seen) (fs : List ℕ) (ds : List CutDescriptor) : Type 0 where

@@ -24,10 +24,11 @@ use Rattle.machine_model.specs.declared.Processor.{Processor}
 use Rattle.machine_model.specs.State.{Owner}
 use Rattle.machine_model.proofs.BookNext.{book_next}
 use Rattle.machine_model.proofs.DueLaws.{HasSaid, none_due, owned_signal, owned_clear}
-use Rattle.machine_model.proofs.HeldLaws.{pages_kept, right_like, segs_kept, few_kept, under_way_alike, kept_step}
+use Rattle.machine_model.proofs.HeldLaws.{pages_kept, right_like, segs_kept, under_way_alike, kept_step}
 use Rattle.machine_model.proofs.Places.{by_place, put_map}
 use Rattle.machine_model.proofs.TieLaws.{none_some}
 use Rattle.machine_model.proofs.TieLaws.{bound_used}
+use Rattle.laws.proofs.Lists.{few_kept}
 
 -- ---- what custody sees of what is dropped
 
@@ -121,7 +122,7 @@ told_right bound descriptor c w d p right = by (eqb d c) p.cpu.online refl
     by false true e = right_like p (warned p w) right refl refl (λ v h. e)
     by false false e = right
 
-told_transfer : (c : ℕ) (w : What) (d : ℕ) (p : Processor) → (told_at c w d p).cpu.transfer ≡ p.cpu.transfer
+pub told_transfer : (c : ℕ) (w : What) (d : ℕ) (p : Processor) → (told_at c w d p).cpu.transfer ≡ p.cpu.transfer
 told_transfer c w d p = by (eqb d c) p.cpu.online
   where
     by : (b online : Bool) → (cond b (dropped p w) (cond online (warned p w) p)).cpu.transfer ≡ p.cpu.transfer

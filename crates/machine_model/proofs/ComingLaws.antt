@@ -1,5 +1,5 @@
 -- Each process that hasn't ended comes to a command next: at first, and after each answer.
-use Rattle.std.proofs.Common.{◌≡◌, ◌<◌, ◌≤◌, ℕ, zero, suc, ◌+◌, Bool, true, false, cond, List, [], ◌∷◌, length}
+use Rattle.std.proofs.Common.{◌≡◌, ◌<◌, ℕ, zero, suc, ◌+◌, Bool, true, false, cond, List, [], ◌∷◌, length}
 use Rattle.std.proofs.Common.{slice_get, get_or, replicate, Option, Some, set, not, refl, sym, subst, inl, inr, arith}
 use Rattle.std.specs.Prelude.{◌≢◌, ◌==◌, nat_lt}
 use Rattle.std.specs.List.{list_all}
@@ -22,20 +22,8 @@ use Rattle.machine_model.specs.Steps.{goes_on, is_its_end, progress_of_run, run_
 use Rattle.machine_model.specs.Foreseen.{GoesOn, AllCome, Comes}
 use Rattle.machine_model.specs.Boot.{booted, first_run}
 use Rattle.machine_model.proofs.LeftLaws.{no_process}
-
--- each command has one try or more
-weight_some : (volumes : ℕ) (c : Command) → is_command volumes c ≡ true → 1 ≤ weight c
-unfolding is_command
-weight_some volumes (command.Await number offset word tries) h = grind (arith, nat_tests)
-weight_some volumes c h = omega arith
-
--- each command of a script is in its ranges
-pub command_ranged : (volumes : ℕ) (cs : List Command) (place : ℕ) (c : Command)
-    → list_all (is_command volumes) cs ≡ true → slice_get cs place ≡ Some c → is_command volumes c ≡ true
-command_ranged volumes [] place c are at = absurd cc
-command_ranged volumes (d ∷ cs) zero c are at =
-    let same : d ≡ c = cc in let is : is_command volumes d ≡ true = (and_parts _ _ are).0 in cc
-command_ranged volumes (d ∷ cs) (suc place) c are at = command_ranged volumes cs place c (and_parts _ _ are).1 at
+use Rattle.flat_model.proofs.ScriptLaws.{command_of}
+use Rattle.flat_model.proofs.PlaceLaws.{heavy}
 
 -- a try that doesn't end an `await` leaves another
 tries_less : (q : Progress) (c : Command) (r : Reply) → tries_on q c r ≡ true → q.tries + 1 < weight c
@@ -75,7 +63,7 @@ comes_to volumes cs place are lt =
       on = record {
         going = refl;
         next = it.at;
-        tries = weight_some volumes it.command (command_ranged volumes cs place it.command are it.at);
+        tries = heavy volumes it.command (command_of volumes cs place it.command are it.at);
       };
     }
 

@@ -20,9 +20,7 @@ use Rattle.machine_model.specs.Reads.{flat_of}
 use Rattle.machine_model.specs.Refusal.{refusal_of, uid_at_path, uid_of_node}
 use Rattle.machine_model.specs.State.{State}
 use Rattle.flat_model.proofs.QuotaTotals.{branch_found, node_found, segment_found}
-
-no_and : {b : Bool} → b ≡ true → b ≡ false → ⊥
-no_and t f = let none : true ≡ false = sym t ∙ f in cc
+use Rattle.laws.proofs.Bools.{not_both}
 
 -- ---- a path that can't be followed refuses
 
@@ -163,7 +161,7 @@ module _ (s : State) (k : ℕ) (keeps : Keeps s) where
               none_is false x y = absurd (let none : Some reply.HasQuota ≡ None = y in cc)
 
               zero_is : eqb n.quota 0 ≡ true → n.quota ≡ 0
-              zero_is x = elim (eqb_tells n.quota 0) [ inl y ↦ y.1 | inr y ↦ absurd (no_and x y.0) ]
+              zero_is x = elim (eqb_tells n.quota 0) [ inl y ↦ y.1 | inr y ↦ absurd (not_both x y.0) ]
 
               cases : (b : Bool) → list_any (is_inferior n.uid) (flat_of s).nodes ≡ b
                   → refusal (cond b reply.NotEmpty (cond (eqb n.quota 0) reply.Done reply.HasQuota)) ≡ None

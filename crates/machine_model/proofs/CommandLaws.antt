@@ -21,22 +21,23 @@ use Rattle.machine_model.proofs.OuterLaws.{over_set, offline_set, over_same, all
 use Rattle.machine_model.proofs.OuterLaws.{all_online}
 use Rattle.machine_model.proofs.GoesLaws.{all_set, gone_from}
 use Rattle.machine_model.proofs.RuleLaws.{tells}
-use Rattle.machine_model.proofs.StepLaws.{no_both, inside, none_due}
+use Rattle.machine_model.proofs.StepLaws.{inside, none_due}
+use Rattle.laws.proofs.Bools.{not_both}
 
 -- nothing is due while nobody owns the supervisor, so a processor that has a process neither comes online nor clears
 not_comes : (s : Outline) (c : ℕ) → IsKept s → (runner_at s.runners c).running ≡ true → rule_of s c ≡ Comes → ⊥
-not_comes s c k running h = no_both (k.tied.runners_online c running) (tells s c Comes h)
+not_comes s c k running h = not_both (k.tied.runners_online c running) (tells s c Comes h)
 
 not_clears : (s : Outline) (c : ℕ) → IsKept s → s.owner ≡ None → rule_of s c ≡ Clears → ⊥
 not_clears s c k none h =
     let told = tells s c Clears h in
-    no_both told.1 (none_due s.runners c (inside s.runners c told.0) (k.job.quiet none))
+    not_both told.1 (none_due s.runners c (inside s.runners c told.0) (k.job.quiet none))
 
 not_works : (s : Outline) (c : ℕ) → s.owner ≡ None → rule_of s c ≡ Works → ⊥
-not_works s c none h = no_both (tells s c Works h).2 (ap (λ (o : Option Keeper). owns o c) none)
+not_works s c none h = not_both (tells s c Works h).2 (ap (λ (o : Option Keeper). owns o c) none)
 
 not_loads : (s : Outline) (c : ℕ) → (runner_at s.runners c).running ≡ true → rule_of s c ≡ Loads → ⊥
-not_loads s c running h = no_both running (tells s c Loads h).3
+not_loads s c running h = not_both running (tells s c Loads h).3
 
 -- ---- the command goes on
 
@@ -116,7 +117,7 @@ left_past s c x l within none turn left =
     record {
       owner = none;
       gone = gone_from (runner_at (set s.runners c x) c) (runner_at s.runners c).since (λ h.
-          absurd (no_both h (ap (λ (y : Runner). y.running) same ∙ left.running)));
+          absurd (not_both h (ap (λ (y : Runner). y.running) same ∙ left.running)));
       all = all_turn s (record (with_runner s c x) { ready = s.ready + 1 }) l.sizes refl
           (omega (arith, count, was, now));
     }
@@ -162,7 +163,7 @@ turn_over s c h = first (is_over (runner_at s.runners c)) (nat_lt 0 s.ready) (te
 
 pub command_step : (s : Outline) (c : ℕ) (turn : Turn) (t : Outline) → IsKept s → IsKept t → s.owner ≡ None
     → (runner_at s.runners c).running ≡ true → Step s c turn t → CommandStep turn s t c
-command_step s c turn t k l none running (ends ended) = no_both running (ended.running c)
+command_step s c turn t k l none running (ends ended) = not_both running (ended.running c)
 command_step s c turn t k l none running (comes h) = absurd (not_comes s c k running h)
 command_step s c turn t k l none running (clears x h cleared) = absurd (not_clears s c k none h)
 command_step s c turn t k l none running (reads r used modified h is) =
@@ -213,9 +214,9 @@ idle_step s c turn t k l within none idle more (ends ended) = absurd (more ended
 idle_step s c turn t k l within none idle more (comes h) = (none, online_round s c within (tells s c Comes h))
 idle_step s c turn t k l within none idle more (clears x h cleared) = absurd (not_clears s c k none h)
 idle_step s c turn t k l within none idle more (reads r used modified h is) =
-    absurd (no_both (k.tied.readers_run c r is) (idle c))
+    absurd (not_both (k.tied.readers_run c r is) (idle c))
 idle_step s c turn t k l within none idle more (loses r x left h is lost fewer) =
-    absurd (no_both (k.tied.readers_run c r is) (idle c))
+    absurd (not_both (k.tied.readers_run c r is) (idle c))
 idle_step s c turn t k l within none idle more (works _ h step) = absurd (not_works s c none h)
 idle_step s c turn t k l within none idle more (awaits_clear w e h waiting online due) = absurd (not_works s c none h)
 idle_step s c turn t k l within none idle more (awaits_transfer g uid page h look started) =
@@ -224,11 +225,11 @@ idle_step s c turn t k l within none idle more (loads x h some loaded) =
     (none, loaded_round s c x l within some (idle c) loaded)
 idle_step s c turn t k l within none idle more (idles busy h zero_ready) =
     absurd (more (record { ready = zero_ready; running = idle }))
-idle_step s c turn t k l within none idle more (leaves x h left) = absurd (no_both (tells s c Leaves h).3 (idle c))
-idle_step s c turn t k l within none idle more (fills x h filled) = absurd (no_both (tells s c Commands h).3 (idle c))
+idle_step s c turn t k l within none idle more (leaves x h left) = absurd (not_both (tells s c Leaves h).3 (idle c))
+idle_step s c turn t k l within none idle more (fills x h filled) = absurd (not_both (tells s c Commands h).3 (idle c))
 idle_step s c turn t k l within none idle more (replies _ h replied) =
-    absurd (no_both (tells s c Commands h).3 (idle c))
+    absurd (not_both (tells s c Commands h).3 (idle c))
 idle_step s c turn t k l within none idle more (faults chain uid page makes h free want lacks) =
-    absurd (no_both (tells s c Commands h).3 (idle c))
-idle_step s c turn t k l within none idle more (enters h free want) = absurd (no_both (tells s c Commands h).3 (idle c))
-idle_step s c turn t k l within none idle more (waits o h some) = absurd (no_both (tells s c Commands h).3 (idle c))
+    absurd (not_both (tells s c Commands h).3 (idle c))
+idle_step s c turn t k l within none idle more (enters h free want) = absurd (not_both (tells s c Commands h).3 (idle c))
+idle_step s c turn t k l within none idle more (waits o h some) = absurd (not_both (tells s c Commands h).3 (idle c))

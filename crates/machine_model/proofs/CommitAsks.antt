@@ -111,7 +111,7 @@ frames_still st c [] = refl
 frames_still st c (f ∷ fs) = ap (λ (b : Bool). b && list_all is_still (map (frame_entry st c) fs)) (frame_still st c f)
     ∙ frames_still st c fs
 
-cuts_still : (ds : List CutDescriptor) → list_all is_still (map cut_entry ds) ≡ true
+pub cuts_still : (ds : List CutDescriptor) → list_all is_still (map cut_entry ds) ≡ true
 cuts_still [] = refl
 cuts_still (d ∷ ds) = cuts_still ds
 

@@ -38,19 +38,19 @@ use Rattle.machine_model.specs.Commits.{cut_entry, frames_freed, inactive_if}
 use Rattle.machine_model.specs.Custodial.{has_cut, names}
 use Rattle.machine_model.specs.Holding.{led_to, seen}
 use Rattle.machine_model.specs.Jobs.{with_inactive}
-use Rattle.machine_model.specs.Keeps.{AreThere, Keeps}
+use Rattle.machine_model.specs.Keeps.{Keeps}
 use Rattle.machine_model.specs.Reads.{cut_of_owner, descriptor_of, flat_of, frames_of_owner, home_in, is_active}
 use Rattle.machine_model.specs.Reads.{process_at}
 use Rattle.machine_model.specs.Refusal.{uid_at_path, uid_of_node}
-use Rattle.machine_model.specs.Seen.{Seen, bound_use, cut_uid, descriptor_use, flat, frame_use, is_cut_at}
+use Rattle.machine_model.specs.Seen.{Seen, bound_use, cut_uid, descriptor_use, flat, frame_use}
 use Rattle.machine_model.specs.Seen.{read_use, shown}
 use Rattle.machine_model.specs.State.{Owner, State, Storage}
 use Rattle.machine_model.specs.Steps.{with_owner, with_pages}
 use Rattle.machine_model.specs.Taking.{IsTakenFor}
 use Rattle.machine_model.specs.Jobs.{rest_of, without_first_cut, without_first_frame}
 use Rattle.machine_model.proofs.ActiveSeen.{active_less}
-use Rattle.machine_model.proofs.ChainLaws.{going_word, has_head}
-use Rattle.machine_model.proofs.CommitAsks.{IsOut, RestsDelete, RestsDeleteInactive, RestsDescriptors}
+use Rattle.machine_model.proofs.ChainLaws.{going_word}
+use Rattle.machine_model.proofs.CommitAsks.{IsOut, RestsDelete, RestsDeleteInactive, RestsDescriptors, cuts_still}
 use Rattle.machine_model.proofs.CommitKept.{effected}
 use Rattle.machine_model.proofs.DeleteKept.{all_gone, chain_leaves, freed, freed_bound, freed_reads, gone_entry}
 use Rattle.machine_model.proofs.DeleteKept.{gones_bound, gones_entries, node, segs_bound, segs_entries}
@@ -63,24 +63,22 @@ use Rattle.machine_model.proofs.TieLaws.{none_some}
 use Rattle.machine_model.proofs.TransferKept.{active_at}
 use Rattle.machine_model.proofs.ChainLaws.{LeavesRest}
 use Rattle.machine_model.proofs.TieLaws.{page_used}
-
-no_and : {b : Bool} → b ≡ true → b ≡ false → ⊥
-no_and t f = let none : true ≡ false = sym t ∙ f in cc
-
-uid_same : (v u : ℕ) → Some v ≡ Some u → v ≡ u
-uid_same v u h = cc
+use Rattle.machine_model.proofs.MoveAsks.{cut_active}
+use Rattle.custody_model.proofs.SharedLaws.{has_head}
+use Rattle.laws.proofs.Bools.{not_both}
+use Rattle.laws.proofs.Options.{some_same}
 
 -- ---- what goes
 
 pub going_page : (x : FrameUse) → is_going_frame x ≡ true → (u : ℕ) × (q : ℕ) × (page_of x ≡ Some (u, q))
-going_page frame.Free h = absurd (no_and h refl)
-going_page (frame.Started u q) h = absurd (no_and h refl)
-going_page (frame.Current u q) h = absurd (no_and h refl)
+going_page frame.Free h = absurd (not_both h refl)
+going_page (frame.Started u q) h = absurd (not_both h refl)
+going_page (frame.Current u q) h = absurd (not_both h refl)
 going_page (frame.Going u q) h = (u, q, refl)
 
 going_led : (x : DescriptorUse) → is_going_descriptor x ≡ true → (u : ℕ) × (leads_to x ≡ Some u)
-going_led descriptor.Free h = absurd (no_and h refl)
-going_led (descriptor.Current u) h = absurd (no_and h refl)
+going_led descriptor.Free h = absurd (not_both h refl)
+going_led (descriptor.Current u) h = absurd (not_both h refl)
 going_led (descriptor.Going u) h = (u, refl)
 
 pub none_listed : (fs : List ℕ) → ((f : ℕ) → has fs f ≡ true → ⊥) → fs ≡ []
@@ -157,7 +155,7 @@ module _ (s : State) (c : ℕ) (keeps : Keeps s) where
       by (Err r) e = tt
       by (Ok n) e = λ j i led. (let was = led_now ((seen s).linked j i) n.uid led in
           let at = linked_on s k (command.Acl path row m) keeps h j i n.uid was in
-          no_and (h.just.descriptors j i n.uid at.0
+          not_both (h.just.descriptors j i n.uid at.0
           (sym (path_uid s path n keeps (only_found (node_at (flat_of s).nodes path) n e).0))) at.1)
 
   pub terminate_rests : (number : ℕ) → IsTakenFor s k (command.Terminate number)
@@ -166,7 +164,7 @@ module _ (s : State) (c : ℕ) (keeps : Keeps s) where
     none = no_frames (command.Terminate number) h (λ f u q e on. h.just.its_pages f u q e on);
     out = free_now ((seen s).linked k number)
         (λ v e. (let at = linked_on s k (command.Terminate number) keeps h k number v e in
-        no_and (h.just.descriptors k number v at.0 (refl, refl)) at.1));
+        not_both (h.just.descriptors k number v at.0 (refl, refl)) at.1));
   }
 
   pub end_rests : IsTakenFor s k command.End → RestsDescriptors s c command.End
@@ -174,7 +172,7 @@ module _ (s : State) (c : ℕ) (keeps : Keeps s) where
     none = no_frames command.End h (λ f u q e on. h.just.its_pages f u q e on);
     out = λ n. free_now ((seen s).linked k n)
         (λ v e. (let at = linked_on s k command.End keeps h k n v e in
-        no_and (h.just.descriptors k n v at.0 refl) at.1));
+        not_both (h.just.descriptors k n v at.0 refl) at.1));
   }
 
 -- ---- a node is deleted
@@ -198,9 +196,9 @@ freed_was b (f ∷ fs) g page h = let rest = freed_was (at_put b f None) fs g pa
 page_cases : (words : ℕ → ℕ → Ptw) (x y : Option (ℕ × ℕ)) (u : ℕ) → uid_of_page (page_of (frame_use words x y)) ≡ Some u
     → ((q : ℕ) × (x ≡ Some (u, q))) ⊎ ((q : ℕ) × (x ≡ None) × (y ≡ Some (u, q)))
 page_cases words None None u h = absurd (none_some h)
-page_cases words None (Some page) u h = inr (page.1, refl, (λ i. Some (uid_same page.0 u h i, page.1)))
+page_cases words None (Some page) u h = inr (page.1, refl, (λ i. Some (some_same page.0 u h i, page.1)))
 page_cases words (Some page) y u h =
-    inl (page.1, (λ i. Some (uid_same page.0 u (by (words page.0 page.1) h) i, page.1)))
+    inl (page.1, (λ i. Some (some_same page.0 u (by (words page.0 page.1) h) i, page.1)))
   where
     by : (w : Ptw) → uid_of_page (page_of (bound_use page w)) ≡ Some u → Some page.0 ≡ Some u
     by w e = sym (ap uid_of_page (page_used page w)) ∙ e
@@ -225,11 +223,11 @@ not_above (n ∷ ns) u v h e = by (eqb n.uid v)
       where
         up : (o : Option ℕ) → o ≡ Some u → is_inferior u (record n { superior = o }) ≡ true
         up None x = absurd (none_some x)
-        up (Some s) x = elim (eqb_tells s u) [ inl y ↦ y.0 | inr m ↦ absurd (m.1 (uid_same s u x)) ]
+        up (Some s) x = elim (eqb_tells s u) [ inl y ↦ y.0 | inr m ↦ absurd (m.1 (some_same s u x)) ]
 
     by : (b : Bool) → (superior_in (node_in ns v) ≡ Some u → ⊥) → superior_in (cond b (Some n) (node_in ns v)) ≡ Some u
         → ⊥
-    by true rest i = no_and (lies i) (or_parts (is_inferior u n) (list_any (is_inferior u) ns) h).0
+    by true rest i = not_both (lies i) (or_parts (is_inferior u n) (list_any (is_inferior u) ns) h).0
     by false rest i = rest i
 
 -- the owner's descriptors once they are gone
@@ -253,21 +251,6 @@ cut_stays v (f ∷ fs) = cut_stays (gone v f (page_at v f).0 (page_at v f).1 ptw
 gone_all_still : (fs : List ℕ) → list_all is_still (map gone_entry fs) ≡ true
 gone_all_still [] = refl
 gone_all_still (f ∷ fs) = gone_all_still fs
-
-cut_all_still : (ds : List CutDescriptor) → list_all is_still (map cut_entry ds) ≡ true
-cut_all_still [] = refl
-cut_all_still (d ∷ ds) = cut_all_still ds
-
--- what was cut is of segments that are active
-cut_active : (st : Storage) (ds : List CutDescriptor) (j n u : ℕ) → AreThere st ds → cut_uid ds j n ≡ Some u
-    → is_active st.ast u ≡ true
-cut_active st [] j n u there h = absurd (none_some h)
-cut_active st (d ∷ ds) j n u there h = by (is_cut_at j n d) h (λ e. cut_active st ds j n u there.1 e)
-  where
-    by : (b : Bool) → cond b (Some d.uid) (cut_uid ds j n) ≡ Some u
-        → (cut_uid ds j n ≡ Some u → is_active st.ast u ≡ true) → is_active st.ast u ≡ true
-    by true e rest = ap (is_active st.ast) (sym (uid_same d.uid u e)) ∙ there.0.2
-    by false e rest = rest e
 
 module _ (s : State) (c : ℕ) (path : Path) (keeps : Keeps s) (h : IsTakenFor s (process_at s c) (command.Delete path))
   where
@@ -296,7 +279,7 @@ module _ (s : State) (c : ℕ) (path : Path) (keeps : Keeps s) (h : IsTakenFor s
 
     -- no page of it is being read
     not_read : (f q : ℕ) → (seen s).reads f ≡ Some (u, q) → ⊥
-    not_read f q e = no_and (h.just.pages f u q (ap page_of is) refl) (ap is_going_frame is)
+    not_read f q e = not_both (h.just.pages f u q (ap page_of is) refl) (ap is_going_frame is)
       where
         is : (shown (seen s)).frame f ≡ frame.Started u q
         is = ap (λ (x : Option (ℕ × ℕ)). frame_use (seen s).words x ((seen s).reads f))
@@ -307,7 +290,7 @@ module _ (s : State) (c : ℕ) (path : Path) (keeps : Keeps s) (h : IsTakenFor s
         → uid_of_page (page_of (frame_use words (freed (seen s).bound fs f) ((seen s).reads f))) ≡ Some u → ⊥
     none_left words f e = elim (page_cases words (freed (seen s).bound fs f) ((seen s).reads f) u e) [
       | inl x ↦ (let was = freed_was (seen s).bound fs f (u, x.0) x.1 in
-          no_and (bound_taken f x.0 was.0) was.1)
+          not_both (bound_taken f x.0 was.0) was.1)
       | inr x ↦ not_read f x.0 x.2
     ]
 
@@ -324,7 +307,7 @@ module _ (s : State) (c : ℕ) (path : Path) (keeps : Keeps s) (h : IsTakenFor s
     -- no descriptor leads to it
     not_linked : (i n : ℕ) → (seen s).linked i n ≡ Some u → ⊥
     not_linked i n e = let at = linked_on s j (command.Delete path) keeps h i n u e in
-        no_and (h.just.descriptors i n u at.0 refl) at.1
+        not_both (h.just.descriptors i n u at.0 refl) at.1
 
     -- ---- before its table goes
 
@@ -334,7 +317,7 @@ module _ (s : State) (c : ℕ) (path : Path) (keeps : Keeps s) (h : IsTakenFor s
     nodes_still : (flat (all_gone s c j path)).nodes ≡ s.store.accounts.nodes
     nodes_still = ap (λ (t : Store). t.nodes) ((λ i. store_after (rest i).plan ((segs_entries
         (gones (seen s) fs) ds ∙ ap (λ (es : List Entry). es ++ map cut_entry ds) (gones_entries (seen s) fs)) i))
-        ∙ (all_still s.plan (s.entries ++ map gone_entry fs) (map cut_entry ds) (cut_all_still ds)
+        ∙ (all_still s.plan (s.entries ++ map gone_entry fs) (map cut_entry ds) (cuts_still ds)
         ∙ all_still s.plan s.entries (map gone_entry fs) (gone_all_still fs)))
         ∙ keeps.faithful.tree.nodes
 
@@ -389,7 +372,7 @@ module _ (s : State) (c : ℕ) (path : Path) (keeps : Keeps s) (h : IsTakenFor s
         (sym (ap (λ (p : Plain). read_at (reads_of p.core) f) pages_now ∙ freed_reads s.store.pages fs within f) i))))
         ∙ e)) [
           | inl x ↦ (let was = freed_was (seen s).bound fs f (u, x.0) x.1 in
-              no_and (bound_taken f x.0 was.0) was.1)
+              not_both (bound_taken f x.0 was.0) was.1)
           | inr x ↦ not_read f x.0 (reads_was f x.0 x.2)
         ]
 
@@ -399,7 +382,7 @@ module _ (s : State) (c : ℕ) (path : Path) (keeps : Keeps s) (h : IsTakenFor s
       where
         by : (x : Sdw) → led_to (inactive_if freed_store u).ast.entries x ≡ Some u → ⊥
         by sdw.Fault y = none_some y
-        by (sdw.Present aste mode pages) y = no_and (active_at (inactive_if freed_store u).ast aste u y) inactive_now
+        by (sdw.Present aste mode pages) y = not_both (active_at (inactive_if freed_store u).ast aste u y) inactive_now
 
     out : IsOut s c (command.Delete path)
     out = by (branch_at (flat_of s).nodes path) refl
@@ -415,7 +398,7 @@ module _ (s : State) (c : ℕ) (path : Path) (keeps : Keeps s) (h : IsTakenFor s
 
     no_frames_left : is_active s.store.ast u ≡ false → fs ≡ []
     no_frames_left off = none_listed fs (λ f e. (let at = keeps.store.kept.paged.bound f u (page_at (seen s) f).1
-        (bound f e) in no_and (active_at s.store.ast at.0 u at.1) off))
+        (bound f e) in not_both (active_at s.store.ast at.0 u at.1) off))
       where
         bound : (f : ℕ) → has fs f ≡ true → (seen s).bound f ≡ Some (u, (page_at (seen s) f).1)
         bound f e = keeps.book.tied.back f (page_at (seen s) f).0 (page_at (seen s) f).1
@@ -425,14 +408,14 @@ module _ (s : State) (c : ℕ) (path : Path) (keeps : Keeps s) (h : IsTakenFor s
     no_cut_left : is_active s.store.ast u ≡ false → ds ≡ []
     no_cut_left off = none_cut ds (λ i n e. (let at = cut_led s j (command.Delete path) keeps h i n e in
         let same = h.just.its_descriptors i n at.0 at.1 at.2 in
-        no_and (ap (is_active s.store.ast) (sym same)
+        not_both (ap (is_active s.store.ast) (sym same)
         ∙ cut_active s.store ds i n at.0 keeps.cut (cut_is ((seen s).linked i n) (cut_uid ds i n) at.0 at.1 at.2)) off))
       where
         cut_is : (x y : Option ℕ) (v : ℕ) → leads_to (descriptor_use x y) ≡ Some v
             → is_going_descriptor (descriptor_use x y) ≡ true → y ≡ Some v
         cut_is None None v e i = absurd (none_some e)
         cut_is None (Some z) v e i = e
-        cut_is (Some z) y v e i = absurd (no_and i refl)
+        cut_is (Some z) y v e i = absurd (not_both i refl)
 
     pub delete_rests : RestsDelete s c path ⊎ RestsDeleteInactive s c path
     delete_rests = by (is_active s.store.ast u) refl

@@ -15,7 +15,7 @@ use Rattle.std.proofs.Common.{◌+◌, ◌-◌, ℤ, map}
 use Rattle.std.specs.Int.{is_positive}
 use Rattle.std.specs.Int.RustNames.{unsigned_abs}
 use Rattle.seg_control.specs.Control.{kst_at}
-use Rattle.flat_model.proofs.RemoveLaws.{node_gone, node_left}
+use Rattle.flat_model.proofs.RemoveLaws.{node_gone}
 use Rattle.tree_model.specs.Access.{access_of}
 use Rattle.storage_ops.specs.Shown.{who_at}
 use Rattle.seg_mover.specs.declared.Mover.{Mover}
@@ -59,6 +59,7 @@ use Rattle.active_segs.specs.declared.Entry.{Entry as Segment}
 use Rattle.descriptor_seg.specs.Descriptors.{sdw_at}
 use Rattle.machine_model.proofs.TieLaws.{none_some}
 use Rattle.machine_model.proofs.EffectLaws.{truncated_has}
+use Rattle.tree_model.proofs.SharedLaws.{node_without}
 
 -- each older node that is there now was there, with these rows and pages
 pub record HaveFrom (old now : List Node) (next : ℕ) : Type 0 where
@@ -88,7 +89,7 @@ from_less ns v next = record { each = λ u n less h. by u n h (eqb_tells u v) }
         → (m : Node) × (node_in ns u ≡ Some m) × (n.rows ≡ m.rows) × (n.pages ≡ m.pages)
     by u n h (inl same) = absurd (none_some (sym (node_gone ns v)
         ∙ (ap (λ (x : ℕ). node_in (without_node ns v) x) (sym same.1) ∙ h)))
-    by u n h (inr other) = (n, sym (node_left ns v u other.1) ∙ h, refl, refl)
+    by u n h (inr other) = (n, sym (node_without ns v u other.1) ∙ h, refl, refl)
 
 module _ (old now : List Node) (whos : List Who) (known : List (List (Option ℕ))) (next : ℕ)
     (from : HaveFrom old now next)

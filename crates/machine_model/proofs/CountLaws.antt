@@ -1,9 +1,9 @@
 -- How counts over the lists of an outline change as one element changes.
 use Rattle.std.proofs.Common.{◌≡◌, ◌≤◌, ◌<◌, ℕ, ◌+◌, zero, suc, Bool, true, false, not, cond, ◌||◌, eqb, List, [], ◌∷◌}
 use Rattle.std.proofs.Common.{length, Option, Some, None, is_some, set, get_or, count_by, Contains, refl, sym, ap, ◌∙◌}
-use Rattle.std.proofs.Common.{inl, inr, arith}
+use Rattle.std.proofs.Common.{arith}
 use Rattle.std.specs.List.{list_any}
-use Rattle.std.proofs.lemmas.Bool.Decides.{nat_tests, eqb_tells}
+use Rattle.std.proofs.lemmas.Bool.Decides.{nat_tests}
 use Rattle.std.proofs.lemmas.List.{get_or-set_same, length-set}
 use Rattle.std.proofs.lemmas.List.Elements.{Contains-get_or}
 use Rattle.std.proofs.lemmas.List.Folds.{list_any_at}
@@ -18,14 +18,12 @@ use Rattle.seg_control.specs.Control.{is_for}
 use Rattle.processor.specs.declared.Transfer.{Transfer}
 use Rattle.machine_model.specs.Outline.{Runner, runner_at, no_runner}
 use Rattle.machine_model.specs.Measures.{is_active, idle_links, off_links, readers, dues, has_free}
+use Rattle.laws.proofs.Numbers.{eqb_self}
 
 -- ---- any list
 
 abbrev bit : Bool → ℕ
 bit b = cond b 1 0
-
-eqb_self : (n : ℕ) → eqb n n ≡ true
-eqb_self n = elim (eqb_tells n n) [ inl e ↦ e.0 | inr e ↦ absurd (e.1 refl) ]
 
 -- a count over a list with one element changed
 pub count_set : {A : Type 0} (p : A → Bool) (xs : List A) (i : ℕ) (y d : A) → i < length xs

@@ -32,11 +32,12 @@ use Rattle.machine_model.specs.Said.{Says}
 use Rattle.machine_model.specs.State.{State, Storage}
 use Rattle.machine_model.proofs.FlatAlike.{alike, alike_by, one_still}
 use Rattle.machine_model.proofs.Places.{by_places}
-use Rattle.machine_model.proofs.SaysLaws.{says_by, there_still}
+use Rattle.machine_model.proofs.SaysLaws.{says_by, there_still, leaving_pages}
 use Rattle.machine_model.proofs.TakeSeen.{descriptors_put, led_place, linked_within}
 use Rattle.machine_model.proofs.TieLaws.{none_some}
 use Rattle.machine_model.proofs.TookKept.{ArePairs, pairs_left}
 use Rattle.machine_model.proofs.TransferKept.{active_at}
+use Rattle.machine_model.proofs.TakeWhole.{take_linked}
 
 -- ---- lists
 
@@ -202,10 +203,6 @@ cut_taken s c a w (x ∷ xs) = taken_on (record {
   flat = one_still s.plan s.entries (entry.Cut x.0 x.1) refl;
 }) (cut_taken (cut_one s c a w x) c a w xs)
 
-leaving_pages : (st : Storage) (f : ℕ) (x : Option (ℕ × ℕ)) → (leaving_if st f x).pages ≡ st.pages
-leaving_pages st f None = refl
-leaving_pages st f (Some page) = refl
-
 page_taken : (s : State) (c : ℕ) (a : Aim) (w : What) (fs : List ℕ) → IsTaken s (take_all s c a w fs)
 page_taken s c a w [] = record { plan = refl; pages = refl; flat = refl }
 page_taken s c a w (f ∷ fs) = taken_on (record {
@@ -241,18 +238,6 @@ leaving_cuts s now f x store cut linked cuts = record {
     by_cut None = cuts.cut
     by_cut (Some page) = there_still s.store (leaving_if s.store f (Some page)) (cut_of_owner s.owner) refl
         (λ u h. h) cuts.cut
-
--- what the frames and the descriptors that are taken lead to doesn't change by the taking of pages
-take_linked : (s : State) (c : ℕ) (a : Aim) (w : What) (fs : List ℕ) → (seen (take_all s c a w fs)).linked
-    ≡ (seen s).linked
-take_linked s c a w [] = refl
-take_linked s c a w (f ∷ fs) = take_linked (take_one s c a w f) c a w fs ∙ by (bound_page (frame_in s.store.pages f))
-  where
-    by : (x : Option (ℕ × ℕ)) → ◌≡◌ {A = ℕ → ℕ → Option ℕ}
-        (λ k n. led_to (leaving_if s.store f x).ast.entries (descriptor_of (leaving_if s.store f x).links k n))
-        (λ k n. led_to s.store.ast.entries (descriptor_of s.store.links k n))
-    by None = refl
-    by (Some page) = refl
 
 take_cuts : (s : State) (c : ℕ) (a : Aim) (w : What) (fs : List ℕ) → Cuts s → Cuts (take_all s c a w fs)
 take_cuts s c a w [] cuts = cuts

@@ -35,7 +35,6 @@ use Rattle.machine_model.specs.Jobs.{without_first_cut, without_first_frame}
 use Rattle.machine_model.proofs.ActiveLaws.{deactivate_keeps}
 use Rattle.machine_model.proofs.ActiveSeen.{active_less, blank_less, deactivate_seen, words_less}
 use Rattle.machine_model.proofs.ChainLaws.{GoesOn, IsDone, gone_done, idle_done, going_word, gone_segs_keep, gones_keep}
-use Rattle.machine_model.proofs.ChainLaws.{has_head, has_tail}
 use Rattle.machine_model.proofs.CommitKept.{cut_faults, effected}
 use Rattle.machine_model.proofs.FinishKept.{bound_within}
 use Rattle.machine_model.proofs.KeepLaws.{faults_push}
@@ -51,6 +50,7 @@ use Rattle.machine_model.proofs.ChainLaws.{LeavesRest}
 use Rattle.std.proofs.lemmas.List.{append-nil, append_assoc}
 use Rattle.machine_model.proofs.KeepLaws.{quiet_push}
 use Rattle.core_map.specs.CoreMap.{Core, with_frame}
+use Rattle.custody_model.proofs.SharedLaws.{has_head, has_tail}
 
 -- ---- frames that are freed
 

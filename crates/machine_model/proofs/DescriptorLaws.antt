@@ -32,12 +32,9 @@ use Rattle.custody_model.specs.Allowed.{IsAllowed}
 use Rattle.custody_model.specs.Fine.{FillsOnline, pending_after}
 use Rattle.machine_model.specs.Custodial.{IsOwned, IsRun}
 use Rattle.flat_model.specs.Store.{progress_of}
+use Rattle.std.proofs.lemmas.Bool.{or_parts}
 
 -- ---- what was cut
-
-or_parts : (a b : Bool) → (a || b) ≡ false → (a ≡ false) × (b ≡ false)
-or_parts false b h = (refl, h)
-or_parts true b h = absurd (let no : true ≡ false = h in cc)
 
 cut_none : (ds : List CutDescriptor) (k n : ℕ) → has_cut ds k n ≡ false → cut_uid ds k n ≡ None
 cut_none [] k n h = refl

@@ -1,7 +1,6 @@
 -- What a look asks that makes a segment inactive, for its length or as the victim of a pool.
 use Rattle.std.proofs.Common.{◌≡◌, ◌≢◌, ℕ, Bool, true, false, cond, eqb, List, [], ◌∷◌, Option}
-use Rattle.std.proofs.Common.{Some, None, inl, inr, refl, sym, ap, subst, ◌∙◌}
-use Rattle.std.proofs.lemmas.Bool.Decides.{eqb_tells}
+use Rattle.std.proofs.Common.{Some, None, refl, sym, ap, subst, ◌∙◌}
 use Rattle.script.specs.declared.commands.Command.{Command}
 use Rattle.assoc_mem.specs.declared.What.TheVariants as what
 use Rattle.tree_model.specs.Tree.{Node, has_directory, node_in}
@@ -49,9 +48,7 @@ use Rattle.machine_model.proofs.WholeKept.{whole_may}
 use Rattle.machine_model.proofs.RuleKept.{nothing_over}
 use Rattle.machine_model.proofs.SaysLaws.{is_same, same_rest, says_by}
 use Rattle.machine_model.proofs.FlatAlike.{alike}
-
-own : (n : ℕ) → eqb n n ≡ true
-own n = elim (eqb_tells n n) [ inl e ↦ e.0 | inr m ↦ absurd (m.1 refl) ]
+use Rattle.laws.proofs.Numbers.{eqb_self}
 
 -- no page of a segment is being read
 pub unread_any : (core : Core) (u : ℕ) → frame_reading core u any_page ≡ None → (f p : ℕ)
@@ -64,7 +61,7 @@ unread_any core u h f p e = no_and passes (position_none
 
     passes : is_page_of u any_page (started_page (frame_at core f)) ≡ true
     passes = ap (is_page_of u any_page) (sym (map_list started_page core.frames f frame.Free) ∙ e)
-        ∙ rw (own u) refl
+        ∙ rw (eqb_self u) refl
 
 -- ---- a segment
 
@@ -94,7 +91,7 @@ module _ (s : State) (c u : ℕ) (k : Keeps s) (idle : IsIdle s.owner) (still : 
       → ((v : ℕ) → is_active s.store.ast v ≡ true → node_superior (node_in (flat_of s).nodes v) ≢ Some u)
       → AsksEmpty s c u
   empty_asks kept shown_is active unread inferiors = segment_asks (frames_from s.store.ast u 0)
-      (trailers_in s.store u) kept shown_is (trailers_taken s (what.Seg u) u k (own u))
+      (trailers_in s.store u) kept shown_is (trailers_taken s (what.Seg u) u k (eqb_self u))
       (λ none none_cut. whole_may s u k
       (nothing_whole s c u k idle active (unread_any s.store.pages.core u unread) none none_cut) idle.frames over active
       (subst (λ (ds : List CutDescriptor). (v : ℕ) → is_active s.store.ast v ≡ true

@@ -46,9 +46,6 @@ use Rattle.machine_model.proofs.StepAsks.{ReadsFor, reads_for}
 use Rattle.machine_model.proofs.StepGoes.{may_answer}
 use Rattle.machine_model.proofs.WantLaws.{IsReferring, linked_here, refers, tree_wants, want_here}
 
-no_and : {b : Bool} → b ≡ true → b ≡ false → ⊥
-no_and t f = let none : true ≡ false = sym t ∙ f in cc
-
 is_refer : Want → Bool
 is_refer (Refer chain uid page makes) = true
 is_refer _ = false

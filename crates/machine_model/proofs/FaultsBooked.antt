@@ -1,6 +1,6 @@
 -- What the entries of a step tell of the drives: one failure at the most, of the processor's process, just where a call
 -- failed, and before a process is told of one.
-use Rattle.std.proofs.Common.{◌≡◌, ◌≤◌, ◌<◌, ℕ, ◌+◌, Bool, true, false, ◌&&◌, cond, List, [], ◌∷◌, ◌++◌, count_by}
+use Rattle.std.proofs.Common.{◌≡◌, ◌≤◌, ◌<◌, ℕ, ◌+◌, Bool, true, false, cond, List, [], ◌∷◌, ◌++◌, count_by}
 use Rattle.std.proofs.Common.{length}
 use Rattle.std.proofs.Common.{Option, Some, None, inl, inr, ◌⊎◌, refl, sym, ap, subst, ◌∙◌, arith}
 use Rattle.std.specs.List.{list_all}
@@ -16,9 +16,7 @@ use Rattle.machine_model.specs.Reads.{process_at}
 use Rattle.machine_model.specs.State.{State}
 use Rattle.machine_model.specs.Turns.{calls_drive}
 use Rattle.machine_model.proofs.BookAfter.{AreQuiet, HasBooked, TellsFailure, is_quiet, told_after}
-
-no_and : {b : Bool} → b ≡ true → b ≡ false → ⊥
-no_and t f = let none : true ≡ false = sym t ∙ f in cc
+use Rattle.laws.proofs.Bools.{not_both, and_parts}
 
 abbrev tally : Bool → ℕ
 tally b = cond b 1 0
@@ -26,14 +24,10 @@ tally b = cond b 1 0
 count_cons : (e : Entry) (es : List Entry) → count_by is_fault (e ∷ es) ≡ tally (is_fault e) + count_by is_fault es
 count_cons e es = sum_by-cons (λ x. tally (is_fault x)) e es
 
-count_on : (xs ys : List Entry) → count_by is_fault (xs ++ ys) ≡ count_by is_fault xs + count_by is_fault ys
+pub count_on : (xs ys : List Entry) → count_by is_fault (xs ++ ys) ≡ count_by is_fault xs + count_by is_fault ys
 count_on [] ys = omega arith
 count_on (x ∷ xs) ys = let rest = count_on xs ys in let a = count_cons x (xs ++ ys) in let b = count_cons x xs in
     omega (arith, rest, a, b)
-
-parts : (a b : Bool) → (a && b) ≡ true → (a ≡ true) × (b ≡ true)
-parts true b h = (refl, h)
-parts false b h = absurd (let none : false ≡ true = h in cc)
 
 quiet_entry : (e : Entry) → is_quiet e ≡ true → is_fault e ≡ false
 quiet_entry (entry.Fault process) h = absurd (let none : false ≡ true = h in cc)
@@ -41,7 +35,7 @@ quiet_entry _ h = refl
 
 quiet_none : (es : List Entry) → AreQuiet es → count_by is_fault es ≡ 0
 quiet_none [] h = refl
-quiet_none (e ∷ es) h = let both = parts (is_quiet e) (list_all is_quiet es) h in
+quiet_none (e ∷ es) h = let both = and_parts (is_quiet e) (list_all is_quiet es) h in
     let here : tally (is_fault e) ≡ 0 = ap tally (quiet_entry e both.0) in let rest = quiet_none es both.1 in
     let all = count_cons e es in omega (arith, here, rest, all)
 
@@ -61,24 +55,24 @@ rest_of (e ∷ es) = es
 -- of entries in which nothing is told, none tells a process of a failure
 quiet_untold : (es xs ys : List Entry) (k place c : ℕ) (f : Option ℕ) → AreQuiet es
     → es ≡ xs ++ entry.Do k place c f reply.Device ∷ ys → ⊥
-quiet_untold es [] ys k place c f h e = no_and (parts false (list_all is_quiet ys) (subst AreQuiet e h)).0 refl
+quiet_untold es [] ys k place c f h e = not_both (and_parts false (list_all is_quiet ys) (subst AreQuiet e h)).0 refl
 quiet_untold es (x ∷ xs) ys k place c f h e =
     quiet_untold (xs ++ entry.Do k place c f reply.Device ∷ ys) xs ys k place c
-    f (parts (is_quiet x) _ (subst AreQuiet e h)).1 refl
+    f (and_parts (is_quiet x) _ (subst AreQuiet e h)).1 refl
 
 -- a process is told of a failure after the one that is told
 told_later : (before rest xs ys : List Entry) (process : Option ℕ) (k place c : ℕ) (f : Option ℕ) → AreQuiet before
     → before ++ entry.Fault process ∷ rest ≡ xs ++ entry.Do k place c f reply.Device ∷ ys → 1 ≤ count_by is_fault xs
 told_later [] rest [] ys process k place c f quiet e =
-    absurd (no_and refl (ap (λ (es : List Entry). is_fault (first_or (entry.Fault process) es)) e))
+    absurd (not_both refl (ap (λ (es : List Entry). is_fault (first_or (entry.Fault process) es)) e))
 told_later [] rest (x ∷ xs) ys process k place c f quiet e =
     let here : tally (is_fault x) ≡ 1 = ap tally (sym (ap (λ (es : List Entry). is_fault (first_or x es)) e)) in
     let all = count_cons x xs in omega (arith, here, all)
 told_later (b ∷ bs) rest [] ys process k place c f quiet e =
-    absurd (no_and (parts (is_quiet b) (list_all is_quiet bs) quiet).0
+    absurd (not_both (and_parts (is_quiet b) (list_all is_quiet bs) quiet).0
     (ap (λ (es : List Entry). is_quiet (first_or b es)) e))
 told_later (b ∷ bs) rest (x ∷ xs) ys process k place c f quiet e =
-    let later = told_later bs rest xs ys process k place c f (parts (is_quiet b) (list_all is_quiet bs) quiet).1
+    let later = told_later bs rest xs ys process k place c f (and_parts (is_quiet b) (list_all is_quiet bs) quiet).1
     (ap rest_of e) in let all = count_cons x xs in omega (arith, later, all)
 
 -- a failure that is told is counted
@@ -97,10 +91,10 @@ told_once [] rest [] ys k process quiet none e =
 told_once [] rest (x ∷ xs) ys k process quiet none e =
     absurd (let some = told_counts rest xs ys process (ap rest_of e) in omega (arith, some, none))
 told_once (b ∷ bs) rest [] ys k process quiet none e =
-    absurd (no_and (parts (is_quiet b) (list_all is_quiet bs) quiet).0
+    absurd (not_both (and_parts (is_quiet b) (list_all is_quiet bs) quiet).0
     (ap (λ (es : List Entry). is_quiet (first_or b es)) e))
 told_once (b ∷ bs) rest (x ∷ xs) ys k process quiet none e =
-    told_once bs rest xs ys k process (parts (is_quiet b) (list_all is_quiet bs) quiet).1 none (ap rest_of e)
+    told_once bs rest xs ys k process (and_parts (is_quiet b) (list_all is_quiet bs) quiet).1 none (ap rest_of e)
 
 -- At most one failure is told, of process k: just where a call of a drive failed, if there is one; and a process is told
 -- of it afterwards.
@@ -117,7 +111,7 @@ told_right : (k : ℕ) (more : List Entry) (calls failed : Bool)
     → ToldRight k more calls failed
 told_right k more calls failed (inl both) = let quiet = both.0 in record {
   few = let none = quiet_none more quiet in omega (arith, none);
-  each = λ called did. absurd (no_and did (both.1 called));
+  each = λ called did. absurd (not_both did (both.1 called));
   only = λ some. absurd (let none = quiet_none more quiet in omega (arith, none, some));
   its = λ xs ys process e. absurd (let none = quiet_none more quiet in let some = told_counts more xs ys process e in
       omega (arith, none, some));

@@ -18,14 +18,13 @@ use Rattle.machine_model.specs.Custodial.{AreHeldPages}
 use Rattle.machine_model.specs.Reads.{frame_reading, is_page_of}
 use Rattle.machine_model.proofs.ActiveSeen.{any_at, some_within}
 use Rattle.machine_model.proofs.ListLaws.{map_list}
-use Rattle.machine_model.proofs.TieLaws.{none_some, page_is}
+use Rattle.machine_model.proofs.TieLaws.{none_some}
 use Rattle.machine_model.proofs.WordLaws.{found}
 use Rattle.std.proofs.lemmas.Bool.{not-true}
 use Rattle.machine_model.specs.Reads.{first_inactive, is_active}
 use Rattle.active_segs.specs.Active.{ActiveSegs}
-
-no_and : {b : Bool} → b ≡ true → b ≡ false → ⊥
-no_and t f = let no : true ≡ false = sym t ∙ f in cc
+use Rattle.laws.proofs.Bools.{not_both}
+use Rattle.laws.proofs.Options.{page_is}
 
 module _ {X : Type 0} (p : X → Bool) where
   -- what is found passes
@@ -71,7 +70,7 @@ module _ {X : Type 0} (p : X → Bool) where
 
 -- ---- frames
 
-free_is : (x : Frame) → is_free x ≡ true → x ≡ frame.Free
+pub free_is : (x : Frame) → is_free x ≡ true → x ≡ frame.Free
 free_is frame.Free h = refl
 free_is (frame.Started u p) h = absurd (let no : false ≡ true = h in cc)
 free_is (frame.Bound u p used modified) h = absurd (let no : false ≡ true = h in cc)
@@ -90,7 +89,7 @@ free_frame core f h = let at = position_at is_free core.frames frame.Free f h in
 -- a page that no frame is being read into for
 pub unread_page : (core : Core) (u p : ℕ) → frame_reading core u (λ q. eqb q p) ≡ None → (g : ℕ)
     → read_at (reads_of core) g ≢ Some (u, p)
-unread_page core u p h g e = no_and passes (position_none
+unread_page core u p h g e = not_both passes (position_none
     (λ x. is_page_of u (λ q. eqb q p) (started_page x)) core.frames frame.Free g h refl)
   where
     own : (n : ℕ) → eqb n n ≡ true
@@ -153,7 +152,7 @@ page_new bound (e ∷ es) f u p held is h = by (is_page u p e) refl (page_new bo
         → cond b (Some e) (find (is_page u p) es) ≡ None → (eqb e.frame f || has (map (λ x. x.frame) es) f) ≡ false
     by true a rest i = absurd (let no : Some e ≡ None = i in cc)
     by false a rest i = elim (eqb_tells e.frame f) [
-      | inl y ↦ absurd (no_and (its y.1) a)
+      | inl y ↦ absurd (not_both (its y.1) a)
       | inr n ↦ ap (λ (b : Bool). b || has (map (λ x. x.frame) es) f) n.0 ∙ rest i
     ]
 

@@ -34,7 +34,7 @@ use Rattle.machine_model.specs.Finishing.{Commands, IsReplied, rule_of}
 use Rattle.machine_model.specs.Fitting.{IsFitting}
 use Rattle.machine_model.specs.Keeps.{Keeps}
 use Rattle.machine_model.specs.Outline.{Other, Runner, want_at}
-use Rattle.machine_model.specs.Outlined.{around, bare, keeper_of, outline_of, runner_by, stage_of, want_by, want_known}
+use Rattle.machine_model.specs.Outlined.{around, bare, outline_of, runner_by, stage_of, want_by, want_known}
 use Rattle.machine_model.specs.Outlined.{want_of}
 use Rattle.machine_model.specs.Outlined.{want_of_command, work_of}
 use Rattle.machine_model.specs.OutlineKept.{FitsStage, FitsWork, IsKept}
@@ -62,9 +62,8 @@ use Rattle.machine_model.proofs.OutlineSeen.{kept_seen, no_owner, none_due, read
 use Rattle.machine_model.proofs.RuleLaws.{tells}
 use Rattle.machine_model.proofs.TieLaws.{none_some}
 use Rattle.machine_model.proofs.WantLaws.{want_here}
-
-no_and : {b : Bool} → b ≡ true → b ≡ false → ⊥
-no_and t f = let none : true ≡ false = sym t ∙ f in cc
+use Rattle.laws.proofs.Bools.{not_both}
+use Rattle.machine_model.proofs.OutlineAlone.{owner_none}
 
 -- ---- what stays
 
@@ -268,7 +267,7 @@ module _ (s : State) (c : ℕ) (o : Outcome) (m : IsMachine s) (working : IsWork
         (act.run_process s p p.cpu.process) Fits
         (λ h. absurd (elim (eqb_tells v.cpu c) [
           | inl y ↦ other v e y.1
-          | inr n ↦ no_and h n.0
+          | inr n ↦ not_both h n.0
         ]))
         (λ h. run_fits p.cpu.process refl) kept
 
@@ -288,10 +287,6 @@ module _ (s : State) (c : ℕ) (o : Outcome) (m : IsMachine s) (working : IsWork
         (λ off kept. seat_fits _ _ kept refl refl refl refl refl) (λ on. clear_fits p.cpu.due)
 
 -- ---- each step
-
-outline_none : (s : State) → s.owner ≡ None → (outline_of s).owner ≡ None
-unfolding outline_of
-outline_none s none = ap (keeper_of s.store.ast.entries) none
 
 stopped_fits : (s : State) (c : ℕ) (o : Outcome) → IsFitting s → s.stopped ≡ true
     → IsFitting (after s c (action_of s c) o)
@@ -315,7 +310,7 @@ module _ (s : State) (c : ℕ) (o : Outcome) (m : IsMachine s) (entitled : IsEnt
       by (Some t) e = absurd (let none : true ≡ false = e in cc)
 
   no_owner_of : rule_of (outline_of s) c ≡ Commands → IsNoOwner s c
-  no_owner_of h q mine same = no_and (ap (λ (x : Option Owner). is_owner x c) mine ∙ elim (eqb_tells q.cpu c) [
+  no_owner_of h q mine same = not_both (ap (λ (x : Option Owner). is_owner x c) mine ∙ elim (eqb_tells q.cpu c) [
     | inl e ↦ e.0
     | inr n ↦ absurd (n.1 same)
   ]) (sym (seen_owns s c) ∙ (tells (outline_of s) c Commands h).2)
@@ -325,7 +320,7 @@ module _ (s : State) (c : ℕ) (o : Outcome) (m : IsMachine s) (entitled : IsEnt
   fits_kept after_m after_reading = by s.stopped refl
     where
       none_owns : s.owner ≡ None → (outline_of now).owner ≡ (outline_of s).owner → now.owner ≡ None
-      none_owns none same = no_owner now (same ∙ outline_none s none)
+      none_owns none same = no_owner now (same ∙ owner_none s none)
 
       replied : rule_of (outline_of s) c ≡ Commands → IsReplied (outline_of s) c (outline_of now) → IsFitting now
       replied h i = owned s.owner refl

@@ -1,6 +1,6 @@
 -- Flat stores that no store tells apart, and what the accounts of a store say of the one that it shows.
-use Rattle.std.proofs.Common.{◌≡◌, ◌≤◌, ℕ, Bool, true, false, ◌&&◌, cond, eqb, count_by, List, [], ◌∷◌, ◌++◌}
-use Rattle.std.proofs.Common.{map, sum, Option, Some, None, refl, sym, ap, subst, ◌∙◌}
+use Rattle.std.proofs.Common.{◌≡◌, ◌≤◌, ℕ, Bool, true, false, cond, eqb, count_by, List, [], ◌∷◌, ◌++◌}
+use Rattle.std.proofs.Common.{map, sum, Option, Some, None, refl, sym, ap, subst, ◌∙◌, append-nil}
 use Rattle.std.specs.List.{list_all}
 use Rattle.script.specs.Plans.{Plan, command_at}
 use Rattle.script.specs.declared.commands.Command.{Command}
@@ -19,6 +19,7 @@ use Rattle.flat_model.proofs.QuotaTotals.{all_within}
 use Rattle.storage_ops.specs.Shown.{ShowsTree}
 use Rattle.machine_model.specs.Keeps.{AreAccounts, IsConserved, IsFaithful}
 use Rattle.machine_model.specs.State.{Storage}
+use Rattle.laws.proofs.Bools.{and_parts}
 
 -- ---- flat stores that no store tells apart
 
@@ -85,22 +86,14 @@ pub one_still : (p : Plan) (es : List Entry) (e : Entry) → is_still e ≡ true
     → store_after p (es ++ e ∷ []) ≡ store_after p es
 one_still p es e h = store_after-push p es e ∙ still_next p (store_after p es) e h
 
-pub append_nil : (es : List Entry) → es ++ [] ≡ es
-append_nil [] = refl
-append_nil (e ∷ es) = ap (λ (t : List Entry). e ∷ t) (append_nil es)
-
 pub append_assoc : (xs ys zs : List Entry) → (xs ++ ys) ++ zs ≡ xs ++ (ys ++ zs)
 append_assoc [] ys zs = refl
 append_assoc (x ∷ xs) ys zs = ap (λ (t : List Entry). x ∷ t) (append_assoc xs ys zs)
 
-and_parts : (a b : Bool) → (a && b) ≡ true → (a ≡ true) × (b ≡ true)
-and_parts true b h = (refl, h)
-and_parts false b h = absurd (let no : false ≡ true = h in cc)
-
 -- and some
 pub all_still : (p : Plan) (es more : List Entry) → list_all is_still more ≡ true
     → store_after p (es ++ more) ≡ store_after p es
-all_still p es [] h = ap (store_after p) (append_nil es)
+all_still p es [] h = ap (store_after p) (append-nil es)
 all_still p es (e ∷ more) h = let both = and_parts (is_still e) (list_all is_still more) h in
     ap (store_after p) (sym (append_assoc es (e ∷ []) more))
     ∙ (all_still p (es ++ e ∷ []) more both.1 ∙ one_still p es e both.0)

@@ -1,5 +1,5 @@
 -- A machine that keeps its promise finds what its actions ask of its outline.
-use Rattle.std.proofs.Common.{◌≡◌, ◌≢◌, ◌<◌, ℕ, length, suc, List, [], Option, Some, None, refl, sym, ap, subst, ◌∙◌}
+use Rattle.std.proofs.Common.{◌≡◌, ◌≢◌, ◌<◌, ℕ, length, suc, List, [], Some, sym, ap, subst, ◌∙◌}
 use Rattle.std.proofs.Common.{arith}
 use Rattle.assoc_mem.specs.declared.What.{What}
 use Rattle.seg_mover.specs.declared.Mover.{Mover}
@@ -16,7 +16,7 @@ use Rattle.machine_model.specs.Lacking.{IsMovedFor, MovesForNext, MovesIn, table
 use Rattle.machine_model.specs.Outlined.{outline_of}
 use Rattle.machine_model.specs.Promise.{IsMachine}
 use Rattle.machine_model.specs.Reading.{IsReading}
-use Rattle.machine_model.specs.Reads.{cpu_at, next_command, or_zero, process_at, processor_at}
+use Rattle.machine_model.specs.Reads.{cpu_at, next_command, process_at, processor_at}
 use Rattle.machine_model.specs.State.{Owner, State}
 use Rattle.machine_model.proofs.EnterSeen.{may_enter, may_lose}
 use Rattle.machine_model.proofs.ForeseeLaws.{has_answer, looks_empty, off_quiet}
@@ -25,13 +25,9 @@ use Rattle.machine_model.proofs.MovedSeen.{moved_seen}
 use Rattle.machine_model.proofs.OutlineSeen.{kept_seen}
 use Rattle.machine_model.proofs.ReleaseSeen.{leaves_may}
 use Rattle.machine_model.proofs.SpeakLaws.{speaks}
-use Rattle.std.proofs.Common.{true, false, is_some}
 use Rattle.machine_model.specs.Keeps.{IsAtWork}
 use Rattle.machine_model.specs.Working.{IsWorking}
-
-some_of : (x : Option ℕ) → is_some x ≡ true → x ≡ Some (or_zero x)
-some_of None h = absurd (let none : false ≡ true = h in cc)
-some_of (Some n) h = refl
+use Rattle.machine_model.proofs.RuleKept.{some_of}
 
 module _ (s : State) (c : ℕ) (m : IsMachine s) (entitled : IsEntitledToAll s) (reading : IsReading s)
     (working : IsWorking s) (fitting : IsFitting s) (there : c < length s.processors) where

@@ -21,11 +21,10 @@ use Rattle.machine_model.specs.State.{State}
 use Rattle.machine_model.proofs.ActiveSeen.{any_at, some_within}
 use Rattle.machine_model.proofs.OutlineReads.{map_at}
 use Rattle.machine_model.proofs.PageShown.{stored_is}
-use Rattle.machine_model.proofs.TieLaws.{none_some, page_is}
+use Rattle.machine_model.proofs.TieLaws.{none_some}
 use Rattle.machine_model.proofs.WordLaws.{found}
-
-no_and : {b : Bool} → b ≡ true → b ≡ false → ⊥
-no_and t f = let none : true ≡ false = sym t ∙ f in cc
+use Rattle.laws.proofs.Bools.{not_both}
+use Rattle.laws.proofs.Options.{page_is}
 
 of_page : (u p : ℕ) (x : Frame) → is_of u p x ≡ true → page_of x ≡ Some (u, p)
 of_page u p frame.Free h = absurd (let none : false ≡ true = h in cc)
@@ -33,9 +32,9 @@ of_page u p (frame.Started v q) h = absurd (let none : false ≡ true = h in cc)
 of_page u p (frame.Bound v q used modified) h = elim (eqb_tells v u) [
   | inl e ↦ elim (eqb_tells q p) [
     | inl i ↦ (λ j. Some (e.1 j, i.1 j))
-    | inr n ↦ absurd (no_and h (rw (e.0, n.0) refl))
+    | inr n ↦ absurd (not_both h (rw (e.0, n.0) refl))
   ]
-  | inr n ↦ absurd (no_and h (rw n.0 refl))
+  | inr n ↦ absurd (not_both h (rw n.0 refl))
 ]
 
 page_of_it : (u p : ℕ) (x : Frame) → page_of x ≡ Some (u, p) → is_of u p x ≡ true

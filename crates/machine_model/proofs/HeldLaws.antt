@@ -1,6 +1,6 @@
 -- What processors hold agrees with frames and descriptors, where an entry is filled in or dropped, and where a frame or
 -- a descriptor that nobody holds is used otherwise.
-use Rattle.std.proofs.Common.{◌≡◌, ◌≢◌, ℕ, suc, ◌+◌, ◌≤◌, Bool, true, false, cond, ◌||◌, eqb, leb, List, [], ◌∷◌, ◌++◌}
+use Rattle.std.proofs.Common.{◌≡◌, ◌≢◌, ℕ, suc, ◌+◌, ◌≤◌, Bool, true, false, cond, eqb, leb, List, [], ◌∷◌, ◌++◌}
 use Rattle.std.proofs.Common.{map, filter, length, drop, Option, Some, None, inl, inr, refl, sym, ap, subst, ◌∙◌, arith}
 use Rattle.std.proofs.lemmas.Bool.Decides.{eqb_tells, nat_tests}
 use Rattle.assoc_mem.specs.declared.HeldPage.{HeldPage}
@@ -14,6 +14,7 @@ use Rattle.custody_model.specs.Next.{at_put, at_put_two}
 use Rattle.machine_model.specs.Custodial.{AreHeldPages, AreHeldSegs, AreOfProcess, HoldsRight, AreUnderWay}
 use Rattle.machine_model.specs.declared.Processor.{Processor}
 use Rattle.machine_model.proofs.Places.{by_place, by_places}
+use Rattle.std.proofs.lemmas.Bool.{or_parts}
 
 -- ---- a fill
 
@@ -102,15 +103,6 @@ segs_filled descriptor k es e held is = by (eqb (length es) 16)
 
 -- ---- what is dropped
 
-pub few_kept : {A : Type 0} (p : A → Bool) (xs : List A) → length (filter p xs) ≤ length xs
-few_kept p [] = omega arith
-few_kept p (x ∷ xs) = by (few_kept p xs) (p x)
-  where
-    by : length (filter p xs) ≤ length xs → (b : Bool)
-        → length (cond b (x ∷ filter p xs) (filter p xs)) ≤ suc (length xs)
-    by ih true = omega (arith, ih)
-    by ih false = omega (arith, ih)
-
 pub pages_kept : (bound : ℕ → Option (ℕ × ℕ)) (p : HeldPage → Bool) (es : List HeldPage) → AreHeldPages bound es
     → AreHeldPages bound (filter p es)
 pages_kept bound p [] held = tt
@@ -141,10 +133,6 @@ kept_step g p q x xs rest true false e = absurd (let no : false ≡ true = e in 
 kept_step g p q x xs rest false true e = absurd (let no : true ≡ false = e in cc)
 
 -- ---- a frame or a descriptor that nobody holds
-
-or_parts : (a b : Bool) → (a || b) ≡ false → (a ≡ false) × (b ≡ false)
-or_parts false b h = (refl, h)
-or_parts true b h = absurd (let no : true ≡ false = h in cc)
 
 pub pages_elsewhere : (bound : ℕ → Option (ℕ × ℕ)) (f : ℕ) (x : Option (ℕ × ℕ)) (es : List HeldPage)
     → has (map (λ e. e.frame) es) f ≡ false

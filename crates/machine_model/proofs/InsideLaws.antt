@@ -27,7 +27,7 @@ use Rattle.machine_model.specs.State.{State}
 use Rattle.machine_model.proofs.LookFacts.{IsInside}
 use Rattle.flat_model.proofs.HeldLaws.{held_by, held_in, held_of, held_parts}
 use Rattle.flat_model.proofs.NodeLaws.{volume_found}
-use Rattle.flat_model.proofs.QuotaTotals.{found_uid}
+use Rattle.tree_model.proofs.SharedLaws.{found_uid}
 
 module _ (s : State) (k : ℕ) (r : Reference) (keeps : Keeps s) where
   abbrev t : Store

@@ -1,8 +1,7 @@
 -- What the owner's job asks where a write fails, and where a segment becomes inactive, follows from what it rests on.
 use Rattle.std.proofs.Common.{◌≡◌, ◌<◌, ℕ, Bool, true, false, ◌&&◌, List, [], ◌∷◌, ◌++◌, length, Option, Some}
 use Rattle.std.proofs.Common.{None, inl, inr, refl, sym, ap, subst, ◌∙◌}
-use Rattle.std.proofs.lemmas.Bool.Decides.{leb_tells}
-use Rattle.std.proofs.lemmas.List.{get_or-set_same, get_or_past}
+use Rattle.std.proofs.lemmas.List.{get_or-set_same}
 use Rattle.script.specs.Plans.{Plan}
 use Rattle.script.specs.References.{reference_of}
 use Rattle.script.specs.declared.commands.Command.{Command}
@@ -49,6 +48,7 @@ use Rattle.machine_model.proofs.ScheduleKept.{IsAnswering, Sits, all_pages_back,
 use Rattle.machine_model.proofs.SpeakLaws.{Speaks, can_tell}
 use Rattle.machine_model.proofs.StepKept.{CanFailWrite, CanFailCopy}
 use Rattle.machine_model.proofs.TellKept.{CanTell}
+use Rattle.flat_model.proofs.SharedLaws.{going_within}
 
 -- ---- a failure is told
 
@@ -68,14 +68,6 @@ device_tell b c k cmd sp faulted may = can_tell b c k cmd None reply.Device sp
       without = refl;
       out = λ h. absurd (off (takes_effect (reply_to_command b.plan (flat_of b) k cmd)) h);
     }
-
--- a process that goes on is one of those that the flat store has
-going_within : (t : Store) (k : ℕ) → (progress_of t k).ended ≡ false → k < length t.processes
-going_within t k h = elim (leb_tells (length t.processes) k) [
-  | inl e ↦ absurd (let none : true ≡ false = sym (ap (λ (q : Progress). q.ended) (get_or_past t.processes k _ e.1))
-      ∙ h in cc)
-  | inr n ↦ n.1
-]
 
 faulted_now : (t : Store) (k : ℕ) → (progress_of t k).ended ≡ false
     → (progress_of (after_fault t (Some k)) k).faulted ≡ true

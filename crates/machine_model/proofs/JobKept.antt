@@ -63,7 +63,7 @@ module _ {B : Type 0} (g : Frame → B) (same : (x : Frame) → g (unmarked x) �
       by true rest = refl
       by false rest = rest ∙ set_same g xs f (unmarked (frame_in xs f)) (same (frame_in xs f))
 
-bound_unmarked : (x : Frame) → bound_page (unmarked x) ≡ bound_page x
+pub bound_unmarked : (x : Frame) → bound_page (unmarked x) ≡ bound_page x
 bound_unmarked frame.Free = refl
 bound_unmarked (frame.Started u p) = refl
 bound_unmarked (frame.Bound u p used modified) = refl

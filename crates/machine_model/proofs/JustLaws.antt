@@ -34,8 +34,9 @@ use Rattle.machine_model.proofs.OutLaws.{NoneOut}
 use Rattle.machine_model.specs.Reads.{is_active}
 use Rattle.std.specs.Prelude.{◌/◌}
 use Rattle.machine_model.proofs.Places.{by_place}
-use Rattle.machine_model.proofs.TieLaws.{none_some, page_is}
+use Rattle.machine_model.proofs.TieLaws.{none_some}
 use Rattle.std.proofs.lemmas.List.{append-nil, append_assoc}
+use Rattle.laws.proofs.Options.{page_is}
 
 -- an entry takes nothing, lets nothing go, and brings no page that is taken
 abbrev pub Stays : (ℕ → ℕ → Type 0) → Entry → Type 0

@@ -56,7 +56,7 @@ use Rattle.machine_model.proofs.TakeLists.{dropped_word, frame_word, trailers_ta
 use Rattle.machine_model.proofs.TakeSeen.{linked_within}
 use Rattle.machine_model.proofs.TakeWhole.{cut_pages, frame_listed, note_at, take_rest}
 use Rattle.machine_model.proofs.TakeWhole.{trailer_listed}
-use Rattle.machine_model.proofs.TieLaws.{none_some, page_is}
+use Rattle.machine_model.proofs.TieLaws.{none_some}
 use Rattle.machine_model.proofs.TookKept.{ArePairs, CanTook, has_pair, is_pair, linked_before, noted, noted_has}
 use Rattle.machine_model.proofs.TookKept.{pairs_left, took_keeps}
 use Rattle.machine_model.proofs.TransferKept.{active_at}
@@ -64,13 +64,10 @@ use Rattle.machine_model.proofs.TakeWhole.{take_linked, took_linked}
 use Rattle.machine_model.proofs.TakeWhole.{cut_frames}
 use Rattle.machine_model.proofs.NumberLaws.{take_cut}
 use Rattle.machine_model.proofs.TieLaws.{page_used}
-
-no_and : {b : Bool} → b ≡ true → b ≡ false → ⊥
-no_and t f = let none : true ≡ false = sym t ∙ f in cc
-
-or_cases : (a b : Bool) → (a || b) ≡ true → (a ≡ true) ⊎ (b ≡ true)
-or_cases true b h = inl refl
-or_cases false b h = inr h
+use Rattle.laws.proofs.Bools.{not_both, or_cases}
+use Rattle.custody_model.proofs.FineLaws.{none_has}
+use Rattle.laws.proofs.Numbers.{eqb_self}
+use Rattle.laws.proofs.Options.{page_is, some_same}
 
 or_moved : (a b c : Bool) → ((a || (b || false)) || c) ≡ (a || (b || c))
 or_moved true b c = refl
@@ -81,26 +78,20 @@ or_false : (a : Bool) → a ≡ (a || false)
 or_false true = refl
 or_false false = refl
 
-uid_same : (v u : ℕ) → Some v ≡ Some u → v ≡ u
-uid_same v u h = cc
-
-own : (n : ℕ) → eqb n n ≡ true
-own n = elim (eqb_tells n n) [ inl e ↦ e.0 | inr m ↦ absurd (m.1 refl) ]
-
 or_second : (a : Bool) {b : Bool} → b ≡ true → (a || b) ≡ true
 or_second true h = refl
 or_second false h = h
 
 pair_own : (k n m : ℕ) → n ≡ m → is_pair k n (k, m) ≡ true
-pair_own k n m same = rw (own k) (ap (λ (x : ℕ). eqb m x) same ∙ own m)
+pair_own k n m same = rw (eqb_self k) (ap (λ (x : ℕ). eqb m x) same ∙ eqb_self m)
 
 pair_tells : (k n : ℕ) (x : ℕ × ℕ) → is_pair k n x ≡ true → (x.0 ≡ k) × (x.1 ≡ n)
 pair_tells k n x h = elim (eqb_tells x.0 k) [
   | inl e ↦ elim (eqb_tells x.1 n) [
     | inl i ↦ (e.1, i.1)
-    | inr m ↦ absurd (no_and h (rw (e.0, m.0) refl))
+    | inr m ↦ absurd (not_both h (rw (e.0, m.0) refl))
   ]
-  | inr m ↦ absurd (no_and h (rw m.0 refl))
+  | inr m ↦ absurd (not_both h (rw m.0 refl))
 ]
 
 -- ---- what the owner has taken
@@ -211,7 +202,7 @@ module _ (s : State) (c : ℕ) (a : Aim) (w : What) (fs : List ℕ) (xs : List (
       → names y ≡ Some f → has fs f ≡ true
   frame_here f u q ptw.Null p b e h = absurd (none_some h)
   frame_here f u q (ptw.Out r) p b e h = absurd (none_some h)
-  frame_here f u q (ptw.Here g) p b e h = l.pages f u q (e ∙ ap (λ (x : ℕ). ptw.Here x) (uid_same g f h)) p
+  frame_here f u q (ptw.Here g) p b e h = l.pages f u q (e ∙ ap (λ (x : ℕ). ptw.Here x) (some_same g f h)) p
   frame_here f u q (ptw.Leaving g) p b e h = absurd (let no : true ≡ false =
       sym (ap (λ (x : Option (ℕ × ℕ)). is_going_frame (frame_use (seen s).words x ((seen s).reads f))) b
       ∙ ap (λ (x : Ptw). is_going_frame (bound_use (u, q) x)) e)
@@ -226,7 +217,7 @@ module _ (s : State) (c : ℕ) (a : Aim) (w : What) (fs : List ℕ) (xs : List (
           → leads_to (descriptor_use x y) ≡ Some u → is_going_descriptor (descriptor_use x y) ≡ false
           → (seen s).linked j n ≡ Some u
       by None None e d g i = absurd (none_some g)
-      by None (Some v) e d g i = absurd (no_and refl i)
+      by None (Some v) e d g i = absurd (not_both refl i)
       by (Some v) y e d g i = took_linked s c a w fs xs can.pairs_are j n u (e ∙ g)
 
   -- a descriptor that was cut led to what is remembered of it
@@ -240,7 +231,7 @@ module _ (s : State) (c : ℕ) (a : Aim) (w : What) (fs : List ℕ) (xs : List (
           → cut_uid (cut_of_owner now.owner) j n ≡ Some u
       by None None e d g i = absurd (none_some g)
       by None (Some v) e d g i = d ∙ g
-      by (Some v) y e d g i = absurd (no_and i refl)
+      by (Some v) y e d g i = absurd (not_both i refl)
 
       led : NotesLed (seen s).linked (cut_of_owner now.owner)
       led = subst (λ (f : ℕ → ℕ → Option ℕ). NotesLed f (cut_of_owner now.owner)) (take_linked s c a w fs)
@@ -271,13 +262,10 @@ module _ (s : State) (c : ℕ) (a : Aim) (w : What) (fs : List ℕ) (xs : List (
 
 -- ---- the lists of a command
 
-no_page : (f : ℕ) → has [] f ≡ true → ⊥
-no_page f h = no_and h refl
-
 -- no page of the segment from a number on is being read
 unread_from : (core : Core) (u low f q : ℕ) → frame_reading core u (λ p. nat_le low p) ≡ None
     → read_at (reads_of core) f ≡ Some (u, q) → low ≤ q → ⊥
-unread_from core u low f q h e le = no_and passes (position_none
+unread_from core u low f q h e le = not_both passes (position_none
     (λ x. is_page_of u (λ p. nat_le low p) (started_page x)) core.frames frame.Free f h refl)
   where
     above : nat_le low q ≡ true
@@ -285,7 +273,7 @@ unread_from core u low f q h e le = no_and passes (position_none
 
     passes : is_page_of u (λ p. nat_le low p) (started_page (frame_at core f)) ≡ true
     passes = ap (is_page_of u (λ p. nat_le low p)) (sym (map_list started_page core.frames f frame.Free) ∙ e)
-        ∙ rw (own u, above) refl
+        ∙ rw (eqb_self u, above) refl
 
 module _ (s : State) (k : ℕ) (keeps : Keeps s) where
   -- the pages of a segment from a number on
@@ -319,10 +307,10 @@ module _ (s : State) (k : ℕ) (keeps : Keeps s) where
 
   pair_named : (w : What) (xs : List (ℕ × ℕ)) (j n v : ℕ) → ArePairs (seen s).linked w xs → has_pair xs j n ≡ true
       → (seen s).linked j n ≡ Some v → names_uid w v ≡ true
-  pair_named w [] j n v are h l = absurd (no_and h refl)
+  pair_named w [] j n v are h l = absurd (not_both h refl)
   pair_named w (x ∷ xs) j n v are h l = elim (or_cases (is_pair j n x) (has_pair xs j n) h) [
     | inl e ↦ (let at = pair_tells j n x e in
-        let same = uid_same are.0.0 v (sym are.0.1 ∙ ((λ i. (seen s).linked (at.0 i) (at.1 i)) ∙ l)) in
+        let same = some_same are.0.0 v (sym are.0.1 ∙ ((λ i. (seen s).linked (at.0 i) (at.1 i)) ∙ l)) in
         ap (names_uid w) (sym same) ∙ are.0.2)
     | inr e ↦ pair_named w xs j n v are.2 e l
   ]
@@ -330,8 +318,8 @@ module _ (s : State) (k : ℕ) (keeps : Keeps s) where
   trailers_its : (u j n v : ℕ) → has_pair (trailers_in s.store u) j n ≡ true → (seen s).linked j n ≡ Some v → v ≡ u
   trailers_its u j n v h l = elim (eqb_tells v u) [
     | inl e ↦ e.1
-    | inr m ↦ absurd (no_and (pair_named (what.Seg u) (trailers_in s.store u) j n v
-        (trailers_taken s (what.Seg u) u keeps (own u)) h l) m.0)
+    | inr m ↦ absurd (not_both (pair_named (what.Seg u) (trailers_in s.store u) j n v
+        (trailers_taken s (what.Seg u) u keeps (eqb_self u)) h l) m.0)
   ]
 
   -- the descriptors of a process
@@ -359,10 +347,10 @@ module _ (s : State) (k : ℕ) (keeps : Keeps s) where
 
   one_its : (number j n : ℕ) (b : Bool) → has_pair (cond b ((k, number) ∷ []) []) j n ≡ true
       → (j ≡ k) × (n ≡ number)
-  one_its number j n false h = absurd (no_and h refl)
+  one_its number j n false h = absurd (not_both h refl)
   one_its number j n true h = elim (or_cases (is_pair j n (k, number)) false h) [
     | inl e ↦ (let at = pair_tells j n (k, number) e in (sym at.0, sym at.1))
-    | inr e ↦ absurd (no_and e refl)
+    | inr e ↦ absurd (not_both e refl)
   ]
 
   end_all : (from count n v : ℕ) → (seen s).linked k n ≡ Some v → from ≤ n → n < from + count
@@ -385,13 +373,13 @@ module _ (s : State) (k : ℕ) (keeps : Keeps s) where
       by true e (inl same) later = ap (λ (b : Bool). b || has_pair rest k n) (pair_own k n from (sym same.1))
       by true e (inr other) later = or_second (is_pair k n (k, from)) (later
           (let ne = other.1 in omega (arith, low, ne)) (omega (arith, high)))
-      by false e (inl same) later = absurd (no_and (is_linked k n v h)
+      by false e (inl same) later = absurd (not_both (is_linked k n v h)
           (ap (λ (x : ℕ). is_connected (descriptor_of s.store.links k x)) (sym same.1) ∙ e))
       by false e (inr other) later = later
           (let ne = other.1 in omega (arith, low, ne)) (omega (arith, high))
 
   end_its : (is : List ℕ) (j n : ℕ) → has_pair (map (λ i. (k, i)) is) j n ≡ true → j ≡ k
-  end_its [] j n h = absurd (no_and h refl)
+  end_its [] j n h = absurd (not_both h refl)
   end_its (i ∷ is) j n h = elim (or_cases (is_pair j n (k, i)) (has_pair (map (λ x. (k, x)) is) j n) h) [
     | inl e ↦ sym (pair_tells j n (k, i) e).0
     | inr e ↦ end_its is j n e
@@ -404,7 +392,7 @@ module _ (s : State) (k : ℕ) (keeps : Keeps s) where
       (TakesPage cmd u) (TakesDescriptor cmd k u)
   command_lists (command.Acl path row m) u is unread = record {
     pages = λ f v q h p. absurd p;
-    its_pages = λ f v q h b. absurd (no_page f h);
+    its_pages = λ f v q h b. absurd (none_has f h);
     unread = λ f v q h p. p;
     descriptors = λ j n v h same. trailers_all u j n v h same;
     its_descriptors = λ j n v h l. trailers_its u j n v h l;
@@ -423,11 +411,11 @@ module _ (s : State) (k : ℕ) (keeps : Keeps s) where
     unread = λ f v q h p. unread_from s.store.pages.core u (words / 1024) f q unread
         (h ∙ ap (λ (x : ℕ). Some (x, q)) p.0) p.1;
     descriptors = λ j n v h p. absurd p;
-    its_descriptors = λ j n v h l. absurd (no_and h refl);
+    its_descriptors = λ j n v h l. absurd (not_both h refl);
   }
   command_lists (command.Terminate number) u is unread = record {
     pages = λ f v q h p. absurd p;
-    its_pages = λ f v q h b. absurd (no_page f h);
+    its_pages = λ f v q h b. absurd (none_has f h);
     unread = λ f v q h p. p;
     descriptors = λ j n v h p. subst (λ (x : ℕ). has_pair (descriptors_taken s.store k u (command.Terminate number)) x n
         ≡ true) (sym p.0) (one_all number n v (ap (λ (x : ℕ). (seen s).linked x n) (sym p.0) ∙ h) p.1);
@@ -435,7 +423,7 @@ module _ (s : State) (k : ℕ) (keeps : Keeps s) where
   }
   command_lists command.End u is unread = record {
     pages = λ f v q h p. absurd p;
-    its_pages = λ f v q h b. absurd (no_page f h);
+    its_pages = λ f v q h b. absurd (none_has f h);
     unread = λ f v q h p. p;
     descriptors = λ j n v h same. subst (λ (x : ℕ). has_pair (descriptors_taken s.store k u command.End) x n ≡ true)
         (sym same) (end_all 0 256 n v (ap (λ (x : ℕ). (seen s).linked x n) (sym same) ∙ h) (omega arith)
@@ -444,10 +432,10 @@ module _ (s : State) (k : ℕ) (keeps : Keeps s) where
   }
   command_lists cmd u is unread = record {
     pages = λ f v q h p. absurd p;
-    its_pages = λ f v q h b. absurd (no_page f h);
+    its_pages = λ f v q h b. absurd (none_has f h);
     unread = λ f v q h p. p;
     descriptors = λ j n v h p. absurd p;
-    its_descriptors = λ j n v h l. absurd (no_and h refl);
+    its_descriptors = λ j n v h l. absurd (not_both h refl);
   }
 
   -- a node that a `delete` isn't refused for has no inferior

@@ -1,5 +1,5 @@
 -- Each step keeps what is true of an outline, where its sizes stay, and where what a command's effect leaves is kept.
-use Rattle.std.proofs.Common.{◌≡◌, ◌≢◌, ◌≤◌, ◌<◌, ℕ, zero, suc, ◌+◌, ◌-◌, Bool, true, false, not, cond, ◌||◌, ◌&&◌}
+use Rattle.std.proofs.Common.{◌≡◌, ◌≢◌, ◌≤◌, ◌<◌, ℕ, zero, suc, ◌+◌, ◌-◌, Bool, true, false, not, cond, ◌&&◌}
 use Rattle.std.proofs.Common.{eqb, List, [], ◌∷◌, length, Option, Some, None, is_some, set, get_or, Contains, refl}
 use Rattle.std.proofs.Common.{sym, ap, subst, ◌∙◌, inl, inr, arith}
 use Rattle.std.specs.List.{list_any}
@@ -31,9 +31,10 @@ use Rattle.machine_model.specs.OutlineKept.{IsKept, HasSizes, AreTied, HasJob, I
 use Rattle.machine_model.specs.OutlineKept.{AreSpared, EndsChain, is_wanted, is_spared}
 use Rattle.machine_model.proofs.CountLaws.{dues_set}
 use Rattle.machine_model.proofs.RuleLaws.{tells}
-use Rattle.machine_model.proofs.StepLaws.{no_both, inside, none_due}
+use Rattle.machine_model.proofs.StepLaws.{inside, none_due}
 use Rattle.machine_model.proofs.TiedLaws.{ties_alike, ties_set, at_set, tied_same, tied_frame, tied_started}
 use Rattle.machine_model.proofs.TiedLaws.{tied_ended, tied_quiet, is_started, frame_at_set}
+use Rattle.laws.proofs.Bools.{first_false, not_both, second_false}
 
 -- ---- the owner
 
@@ -79,21 +80,13 @@ work_alike xs ys c alike work = record {
 
 -- ---- frames that were taken
 
-first_false : (a b : Bool) → (a || b) ≡ false → a ≡ false
-first_false true b h = h
-first_false false b h = refl
-
-rest_false : (a b : Bool) → (a || b) ≡ false → b ≡ false
-rest_false true b h = let no : true ≡ false = h in absurd cc
-rest_false false b h = h
-
 none_of : (frames : List Frame) (f uid page : ℕ) → is_here frames uid page ≡ false
     → is_of uid page (frame_in frames f) ≡ false
 unfolding is_here
 none_of [] f uid page h = refl
 none_of (x ∷ xs) zero uid page h = first_false (is_of uid page x) (list_any (is_of uid page) xs) h
 none_of (x ∷ xs) (suc f) uid page h = none_of xs f uid page
-    (rest_false (is_of uid page x) (list_any (is_of uid page) xs) h)
+    (second_false (is_of uid page x) (list_any (is_of uid page) xs) h)
 
 spared_by : (w : Want) (x : Frame) → is_bound x ≡ true → is_wanted w x ≡ false → is_spared w x ≡ true
 spared_by w frame.Free bound out = refl
@@ -191,7 +184,7 @@ spared_started_set frames w (g ∷ gs) f x lt started h = (
   (
     subst (λ (n : ℕ). g < n) (sym (length-set frames f x)) h.0.0,
     frame_at_set frames f x g lt (λ y. is_spared w y ≡ true)
-        (λ e. absurd (no_both started (ap (λ (i : ℕ). is_started (frame_in frames i)) (sym e)
+        (λ e. absurd (not_both started (ap (λ (i : ℕ). is_started (frame_in frames i)) (sym e)
         ∙ spared_started w (frame_in frames g) h.0.1))) (λ n. h.0.1),
   ),
   spared_started_set frames w gs f x lt started h.1,
@@ -399,7 +392,7 @@ job_keeps s c t k sizes given (answers stage _ owner due answered) = given answe
 -- ---- a step of a processor
 
 not_owner : (s : Outline) (c : ℕ) (b : Stage) → owns s.owner c ≡ false → IsIn s c b → ⊥
-not_owner s c b out owner = no_both (ap (λ (o : Option Keeper). owns o c) owner ∙ own_self c) out
+not_owner s c b out owner = not_both (ap (λ (o : Option Keeper). owns o c) owner ∙ own_self c) out
   where
     own_self : (i : ℕ) → eqb i i ≡ true
     own_self i = elim (eqb_tells i i) [ inl x ↦ x.0 | inr x ↦ absurd (x.1 refl) ]
@@ -432,7 +425,7 @@ ended_kept s t c r x y k sizes reading owner runners frames entries online over 
     (subst (λ (fs : List Frame). AreTied (set s.runners c x) fs) (sym frames)
     (tied_ended s.runners s.frames c r x y lt reading online over now k.tied)))
     (job_other s t c x k.job owner runners
-    (λ b h. no_both (ap (λ (o : Option Transfer). is_some o) reading)
+    (λ b h. not_both (ap (λ (o : Option Transfer). is_some o) reading)
     (ap (λ (o : Option Transfer). is_some o) (k.job.at_work c b h).idle))
     (λ none. ap dues runners ∙ due_set s c x lt still none)
     (λ w b h. fits_read s t w b r.frame y tie.1 (ap is_started tie.0) frames entries
@@ -458,12 +451,12 @@ step_keeps s c turn t k lt sizes given told (ends ended) = k
 step_keeps s c turn t k lt sizes given told (comes h) =
     one_kept s (with_runner s c (record (runner_at s.runners c) { online = true })) c
     (record (runner_at s.runners c) { online = true }) k sizes lt refl refl refl refl
-    (λ b i. no_both (k.tied.runners_online c (k.job.at_work c b i).running) (tells s c Comes h)) (λ d. d)
+    (λ b i. not_both (k.tied.runners_online c (k.job.at_work c b i).running) (tells s c Comes h)) (λ d. d)
     (tied_same s.runners (set s.runners c (record (runner_at s.runners c) { online = true })) s.frames
     (ties_set s.runners c (record (runner_at s.runners c) { online = true }) lt (λ d. refl) refl refl) k.tied)
 step_keeps s c turn t k lt sizes given told (clears x h cleared) =
     one_kept s (with_runner s c x) c x k sizes lt refl refl refl refl
-    (λ b i. no_both (tells s c Clears h).1 (k.job.at_work c b i).clear) (λ d. cleared.due)
+    (λ b i. not_both (tells s c Clears h).1 (k.job.at_work c b i).clear) (λ d. cleared.due)
     (tied_same s.runners (set s.runners c x) s.frames
     (ties_set s.runners c x lt (λ d. cleared.online ∙ d) cleared.running cleared.reading) k.tied)
 step_keeps s c turn t k lt sizes given told (reads r used modified h is) =

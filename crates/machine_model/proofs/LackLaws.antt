@@ -14,6 +14,8 @@ use Rattle.machine_model.specs.Measures.{lack}
 use Rattle.machine_model.specs.Finishing.{MayRelease, page_of, with_stored}
 use Rattle.machine_model.specs.OutlineKept.{is_wanted, is_spared}
 use Rattle.machine_model.proofs.CountLaws.{any_set}
+use Rattle.std.proofs.lemmas.Bool.{and_from, or_left}
+use Rattle.laws.proofs.Bools.{and_parts}
 
 -- ---- less lacks where more fits
 
@@ -21,14 +23,6 @@ if_le : (p q : Bool) → (p ≡ true → q ≡ true) → cond {A = ℕ} q 0 1 �
 if_le true q h = rw (h refl) (le_refl _)
 if_le false true h = omega arith
 if_le false false h = omega arith
-
-both_true : (a b : Bool) → (a && b) ≡ true → (a ≡ true) × (b ≡ true)
-both_true true true h = (refl, refl)
-both_true true false h = let no : false ≡ true = h in absurd cc
-both_true false b h = let no : false ≡ true = h in absurd cc
-
-both_from : (a b : Bool) → a ≡ true → b ≡ true → (a && b) ≡ true
-both_from a b g h = rw (g, h) refl
 
 link_more : (w : Want) (a b : Bool) → (a ≡ true → b ≡ true) → wanted_link w a ≡ true → wanted_link w b ≡ true
 link_more (Refer chain uid page makes) a b h is = h is
@@ -40,8 +34,8 @@ pub lack_le : (s t : Outline) (w : Want) (a b : Bool) (r q : Option Transfer) �
     → (wanted_fits s w r ≡ true → wanted_fits t w q ≡ true) → want_lack t w b q ≤ want_lack s w a r
 lack_le s t w a b r q link fits =
     if_le (wanted_link w a && wanted_fits s w r) (wanted_link w b && wanted_fits t w q) (λ h.
-    let both = both_true (wanted_link w a) (wanted_fits s w r) h in
-    both_from (wanted_link w b) (wanted_fits t w q) (link_more w a b link both.0) (fits both.1))
+    let both = and_parts (wanted_link w a) (wanted_fits s w r) h in
+    and_from (wanted_link w b) (wanted_fits t w q) (link_more w a b link both.0) (fits both.1))
 
 pub lack_few : (s : Outline) (x : Runner) → lack s x ≤ 1
 lack_few s x = by (wanted_link x.want x.linked && wanted_fits s x.want x.reading)
@@ -51,9 +45,6 @@ lack_few s x = by (wanted_link x.want x.linked && wanted_fits s x.want x.reading
     by false = omega arith
 
 -- ---- a page that fits goes on to
-
-or_left : (a b : Bool) → a ≡ true → (a || b) ≡ true
-or_left a b h = rw h refl
 
 -- where it was in a frame or read by this processor it is in a frame, and it stays unstored
 pub fits_more : (s t : Outline) (r q : Option Transfer) (uid page : ℕ) (makes : Bool)
@@ -153,7 +144,7 @@ not_page (frame.Started u q) uid page out h = absurd (none-some (uid, page) h)
 not_page (frame.Bound u q used modified) uid page out h =
     let a : u ≡ uid = ap (λ (o : Option (ℕ × ℕ)). (page_or_zero o).0) h in
     let b : q ≡ page = ap (λ (o : Option (ℕ × ℕ)). (page_or_zero o).1) h in
-    let is : (eqb u uid && eqb q page) ≡ true = both_from (eqb u uid) (eqb q page) (same u uid a) (same q page b) in
+    let is : (eqb u uid && eqb q page) ≡ true = and_from (eqb u uid) (eqb q page) (same u uid a) (same q page b) in
     let no : true ≡ false = sym is ∙ out in
     absurd cc
   where

@@ -5,9 +5,8 @@ use Rattle.std.specs.Prelude.{◌/◌, nat_le}
 use Rattle.std.proofs.lemmas.Bool.Decides.{eqb_tells, leb_tells}
 use Rattle.mnames.specs.declared.principals.Who.{Who}
 use Rattle.script.specs.Plans.{command_at, who_of}
-use Rattle.script.specs.References.{alters, new_word, permits}
+use Rattle.script.specs.References.{alters, permits}
 use Rattle.script.specs.declared.commands.Command.{Command}
-use Rattle.script.specs.declared.commands.RefKind.{RefKind}
 use Rattle.script.specs.declared.commands.RefKind.TheVariants as kind
 use Rattle.script.specs.declared.commands.Reference.{Reference}
 use Rattle.tree_model.specs.Access.{access_of}
@@ -18,7 +17,6 @@ use Rattle.flat_model.specs.References.{is_used_up, is_volume_full, stores_page}
 use Rattle.flat_model.specs.Rooms.{room_for, has_room as has_room_flat}
 use Rattle.flat_model.specs.Store.{Store, known_uid}
 use Rattle.flat_model.proofs.NodeLaws.{volume_found}
-use Rattle.flat_model.proofs.QuotaTotals.{found_uid}
 use Rattle.flat_model.proofs.RoomLaws.{room_is}
 use Rattle.known_segs.specs.Known.{uid_of}
 use Rattle.page_table.specs.declared.Ptw.{Ptw}
@@ -42,15 +40,9 @@ use Rattle.machine_model.proofs.LookFacts.{IsInside}
 use Rattle.machine_model.proofs.MoveAsks.{who_is}
 use Rattle.machine_model.proofs.PageShown.{null_word, stored_is}
 use Rattle.machine_model.proofs.SpeakLaws.{Speaks, turn_is}
-
-no_and : {b : Bool} → b ≡ true → b ≡ false → ⊥
-no_and t f = let none : true ≡ false = sym t ∙ f in cc
-
--- a word that a reference brings into a page of zeros is written
-pub brings_alters : (how : RefKind) → eqb (new_word 0 how) 0 ≡ false → alters how ≡ true
-brings_alters kind.Read h = absurd (no_and refl h)
-brings_alters (kind.Write w) h = refl
-brings_alters (kind.Add w) h = refl
+use Rattle.flat_model.proofs.SharedLaws.{nonzero_alters}
+use Rattle.tree_model.proofs.SharedLaws.{found_uid}
+use Rattle.laws.proofs.Bools.{not_both}
 
 module _ (s : State) (keeps : Keeps s) where
   abbrev t : Store
@@ -110,12 +102,12 @@ module _ (s : State) (keeps : Keeps s) where
       where
         null : (w : Ptw) → has_record w ≡ false → w ≡ ptw.Null
         null ptw.Null e = refl
-        null (ptw.Out n) e = absurd (no_and refl e)
-        null (ptw.Here f) e = absurd (no_and refl e)
-        null (ptw.Leaving f) e = absurd (no_and refl e)
+        null (ptw.Out n) e = absurd (not_both refl e)
+        null (ptw.Here f) e = absurd (not_both refl e)
+        null (ptw.Leaving f) e = absurd (not_both refl e)
 
     stores : stores_page t u r.offset r.kind ≡ true
-    stores = rw (brings_alters r.kind h.word, blank, h.word, unstored) refl
+    stores = rw (nonzero_alters r.kind h.word, blank, h.word, unstored) refl
 
     unspent : is_used_up t u ≡ false
     unspent = ap (λ (ns : List Node). is_spent ns t.stored u) keeps.faithful.tree.nodes

@@ -20,15 +20,8 @@ use Rattle.machine_model.proofs.ActiveSeen.{active_place}
 use Rattle.machine_model.proofs.FindLaws.{find_true, position_at, position_none}
 use Rattle.machine_model.proofs.PoolRoom.{count_all, count_new, range_has, range_length}
 use Rattle.machine_model.proofs.TieLaws.{none_some}
-
-no_and : {b : Bool} → b ≡ true → b ≡ false → ⊥
-no_and t f = let none : true ≡ false = sym t ∙ f in cc
-
-less_tells : (a b : ℕ) → nat_lt a b ≡ true → a < b
-less_tells a b h = elim (leb_tells (suc a) b) [
-  | inl e ↦ (let le = e.1 in omega (arith, le))
-  | inr n ↦ absurd (no_and h n.0)
-]
+use Rattle.laws.proofs.Numbers.{lt_from}
+use Rattle.laws.proofs.Bools.{not_both}
 
 tells_less : (a b : ℕ) → a < b → nat_lt a b ≡ true
 tells_less a b h = elim (leb_tells (suc a) b) [
@@ -69,7 +62,7 @@ module _ (entries : List (Option Entry)) (tree : IsTree entries) where
       by None e i = absurd (let none : false ≡ true = i in cc)
       by (Some w) e i = elim (eqb_tells w u) [
         | inl x ↦ e ∙ ap (λ (y : ℕ). Some y) x.1
-        | inr n ↦ absurd (no_and i n.0)
+        | inr n ↦ absurd (not_both i n.0)
       ]
 
   tells_inferior : (u : ℕ) (o : Option Entry) → superior_in o ≡ Some u → is_inferior_of u o ≡ true
@@ -78,7 +71,7 @@ module _ (entries : List (Option Entry)) (tree : IsTree entries) where
   -- where nothing is found there is no inferior
   none_below : (place u : ℕ) → uid_at entries place ≡ Some u → least_inferior entries place ≡ None
       → HasNoInferior entries place
-  none_below place u at none q v same h = no_and
+  none_below place u at none q v same h = not_both
       (tells_inferior u (entry_at entries q) (h ∙ sym (sym at ∙ same)))
       (position_none (is_inferior_of u) entries None q (sym (ap (least_inferior_of entries) at) ∙ none) refl)
 
@@ -113,7 +106,7 @@ module _ (entries : List (Option Entry)) (tree : IsTree entries) where
         where
           by : (y : Option ℕ) → is_higher (rank w) y ≡ true → is_higher (rank u) y ≡ true
           by None i = i
-          by (Some y) i = let a = less_tells (rank w) (rank y) i in tells_less (rank u) (rank y) (omega (arith, a, up))
+          by (Some y) i = let a = lt_from (rank w) (rank y) i in tells_less (rank u) (rank y) (omega (arith, a, up))
 
   -- where there is no inferior the way ends
   stays : (steps place : ℕ) → least_inferior entries place ≡ None → leaf_below entries steps place ≡ place

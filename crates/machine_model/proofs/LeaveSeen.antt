@@ -43,9 +43,6 @@ told_process c w d p = told_has (λ q. q.cpu.process ≡ p.cpu.process) c w d p 
 pub told_online : (c : ℕ) (w : What) (d : ℕ) (p : Processor) → (told_at c w d p).cpu.online ≡ p.cpu.online
 told_online c w d p = told_has (λ q. q.cpu.online ≡ p.cpu.online) c w d p refl refl refl
 
-pub told_transfer : (c : ℕ) (w : What) (d : ℕ) (p : Processor) → (told_at c w d p).cpu.transfer ≡ p.cpu.transfer
-told_transfer c w d p = told_has (λ q. q.cpu.transfer ≡ p.cpu.transfer) c w d p refl refl refl
-
 told_nobody : (c : ℕ) (w : What) (d : ℕ) → told_at c w d no_processor ≡ no_processor
 told_nobody c w d = by (eqb d c)
   where

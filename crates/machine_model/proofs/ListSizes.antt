@@ -38,6 +38,7 @@ use Rattle.machine_model.proofs.ListLaws.{within_by}
 use Rattle.machine_model.proofs.TakeLists.{trailers_taken}
 use Rattle.machine_model.proofs.TieLaws.{none_some}
 use Rattle.machine_model.proofs.TookKept.{ArePairs, has_pair, is_pair}
+use Rattle.laws.proofs.Lists.{few_kept}
 
 -- ---- pages
 
@@ -178,22 +179,13 @@ module _ (s : State) (u : ℕ) (k : Keeps s) (active : is_active s.store.ast u �
 
 -- ---- where it may be inactive
 
-pub filter_few : {A : Type 0} (test : A → Bool) (xs : List A) → length (filter test xs) ≤ length xs
-filter_few test [] = omega arith
-filter_few test (x ∷ xs) = by (test x) (filter_few test xs)
-  where
-    by : (b : Bool) → length (filter test xs) ≤ length xs
-        → length (cond b (x ∷ filter test xs) (filter test xs)) ≤ suc (length xs)
-    by true rest = omega (arith, rest)
-    by false rest = omega (arith, rest)
-
 drop_few : {A : Type 0} (n : ℕ) (xs : List A) → length (drop n xs) ≤ length xs
 drop_few zero xs = omega arith
 drop_few (suc n) [] = omega arith
 drop_few (suc n) (x ∷ xs) = let rest = drop_few n xs in omega (arith, rest)
 
 -- a segment that isn't active has no page table
-no_table : (s : State) (u : ℕ) → Keeps s → is_active s.store.ast u ≡ false → table_of s.store.ast u ≡ []
+pub no_table : (s : State) (u : ℕ) → Keeps s → is_active s.store.ast u ≡ false → table_of s.store.ast u ≡ []
 unfolding place_of
 no_table s u k off = get_or_past s.store.ast.tables (position_or_len (is_for u) s.store.ast.entries) []
     (let long = none_length (is_for u) s.store.ast.entries off in let tables = k.store.kept.places in
@@ -226,7 +218,7 @@ pub connected_few : (links : Links) (k : ℕ) → length (connected_of links k) 
 connected_few links k = let pair : ℕ → ℕ × ℕ = λ n. (k, n) in
     let a = length-map (filter (λ n. is_connected (descriptor_of links k n)) (range_with_len 0 256))
     pair in
-    let b = filter_few (λ n. is_connected (descriptor_of links k n)) (range_with_len 0 256) in
+    let b = few_kept (λ n. is_connected (descriptor_of links k n)) (range_with_len 0 256) in
     let c = length-range_with_len 0 256 in omega (arith, a, b, c)
 
 -- A command takes 288 pages and descriptors at the most.

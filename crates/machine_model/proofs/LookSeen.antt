@@ -75,15 +75,13 @@ use Rattle.machine_model.proofs.OwnedLaws.{IsIdle}
 use Rattle.machine_model.proofs.OwnerLaws.{bound_here, looking_idle}
 use Rattle.machine_model.proofs.SpeakLaws.{Speaks}
 use Rattle.machine_model.proofs.TakeLists.{listed_bound}
-use Rattle.machine_model.proofs.ChainLaws.{has_head, has_tail}
 use Rattle.machine_model.proofs.TieLaws.{none_some}
 use Rattle.machine_model.proofs.TransferKept.{active_at}
 use Rattle.machine_model.proofs.VictimLaws.{has_victim, member_contains, one_read, victim_is_off}
 use Rattle.machine_model.proofs.WantLaws.{linked_here, refer_wants, want_here}
 use Rattle.machine_model.proofs.FindLaws.{first_idle}
-
-no_and : {b : Bool} → b ≡ true → b ≡ false → ⊥
-no_and t f = let none : true ≡ false = sym t ∙ f in cc
+use Rattle.custody_model.proofs.SharedLaws.{has_head, has_tail}
+use Rattle.laws.proofs.Bools.{not_both}
 
 -- ---- frames
 
@@ -350,7 +348,7 @@ module _ (s : State) (c : ℕ) (m : IsMachine s) (cmd : Command) (sp : Speaks s 
       or_true : (b : Bool) → (b || true) ≡ true
       or_true true = refl
       or_true false = refl
-  all_fits h (ptw.Out n) e = absurd (no_and (ap is_out e) h.out)
+  all_fits h (ptw.Out n) e = absurd (not_both (ap is_out e) h.out)
   all_fits h (ptw.Here f) e = ap (λ (b : Bool). b || (false || (not ((outline_of s).stored h.uid
       (h.reference.offset / 1024)) && not (makes_of h.reference))))
       (named_here s keeps h.uid (h.reference.offset / 1024) f (ap names e))
@@ -487,7 +485,7 @@ module _ (s : State) (c : ℕ) (m : IsMachine s) (cmd : Command) (sp : Speaks s 
       by : (o : Option Entry) → entry_at s.store.ast.entries finds.place ≡ o
           → off_chain (chain_of nodes finds.link.about) (entry_at s.store.ast.entries finds.place) ≡ true
           → MayEmpty s (victim_taken s c pool chain u) c u
-      by None e off = absurd (no_and off (ap (off_chain (chain_of nodes finds.link.about)) e))
+      by None e off = absurd (not_both off (ap (off_chain (chain_of nodes finds.link.about)) e))
       by (Some x) e off = may_empty (victim_taken s c pool chain u) u active
           (ap (λ (xs : List ℕ). off_chain xs (entry_at s.store.ast.entries (place_of s.store.ast.entries u)))
           (about_chain finds.link.about finds.link.case)

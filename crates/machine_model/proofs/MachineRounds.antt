@@ -10,7 +10,7 @@ use Rattle.machine_model.specs.Looping.{AwaitsClear, AwaitsTransfer, CommandDone
 use Rattle.machine_model.specs.Looping.{IsReader, JobDone, IsUnderWay, JobFell, OwnerStep, RoundDone, is_at}
 use Rattle.machine_model.specs.Measures.{all_rank}
 use Rattle.machine_model.specs.Outline.{Ended, Keeper, Moved, Outline, Runner, Stage, Look, Turn, WaitsFor, runner_at}
-use Rattle.machine_model.specs.Outlined.{around, keeper_of, outline_of, stage_of}
+use Rattle.machine_model.specs.Outlined.{around, outline_of, stage_of}
 use Rattle.machine_model.specs.OutlineKept.{IsKept}
 use Rattle.machine_model.specs.Promise.{KeepsAll}
 use Rattle.machine_model.specs.Reads.{cpu_at, processor_at}
@@ -30,6 +30,7 @@ use Rattle.machine_model.proofs.PoolsKept.{pools_kept}
 use Rattle.machine_model.proofs.ReadLaws.{read_step}
 use Rattle.machine_model.proofs.StepLaws.{clear_step, inside, owner_step}
 use Rattle.machine_model.proofs.TieLaws.{none_some}
+use Rattle.machine_model.proofs.OutlineAlone.{owner_none}
 
 -- ---- a step
 
@@ -145,14 +146,10 @@ job_next a b d c goes mine fell = goes_on (outline_of a) (outline_of b) (outline
     (lack_few (outline_of a) (runner_at (outline_of a).runners c))
     (job_goes (outline_of a) (outline_of b) c c (stage_at b c mine) (is_in b c mine) goes) fell.goes
 
-none_outlined : (s : State) → s.owner ≡ None → (outline_of s).owner ≡ None
-unfolding outline_of
-none_outlined s none = ap (keeper_of s.store.ast.entries) none
-
 -- once nobody owns the supervisor it is done
 pub job_end : (a b : State) (c : ℕ) → b.owner ≡ None → Goes (outline_of a) (outline_of b) c
     → JobDone (outline_of a) (outline_of b) c
-job_end a b c none goes = job_over (outline_of a) (outline_of b) c (none_outlined b none) goes
+job_end a b c none goes = job_over (outline_of a) (outline_of b) c (owner_none b none) goes
 
 pub job_freed : (a b : State) (c : ℕ) → JobDone (outline_of a) (outline_of b) c → b.owner ≡ None
 job_freed a b c (inl past) = no_owner b past.owner
@@ -174,7 +171,7 @@ module _ (s t : State) (c : ℕ) (going : IsGoing s) (keeps : KeepsAll t) (there
   -- what a turn of a processor brings that has a process, while nobody owns the supervisor
   pub command_turn : CommandStep (turn_of (action_of s c)) (outline_of s) (outline_of t) c
   command_turn = command_step (outline_of s) c (turn_of (action_of s c)) (outline_of t) (kept_of s going.keeps)
-      (kept_of t keeps) (none_outlined s none) (running_is s going.keeps.machine.keeps c ∙ running)
+      (kept_of t keeps) (owner_none s none) (running_is s going.keeps.machine.keeps c ∙ running)
       (machine_step s t c going there stepped)
 
   -- it moves
@@ -219,7 +216,7 @@ module _ (s t : State) (c : ℕ) (going : IsGoing s) (keeps : KeepsAll t) (there
     where
       by : HasTaken (outline_of s) (outline_of t) c ⊎ CommandDone (outline_of s) (outline_of t) c
           → CommandDone (outline_of s) (outline_of t) c
-      by (inl taken) = absurd (none_some (sym (none_outlined t free) ∙ looking_is s t c taken))
+      by (inl taken) = absurd (none_some (sym (owner_none t free) ∙ looking_is s t c taken))
       by (inr done) = done
 
 -- the job that it took the supervisor for is done
@@ -276,7 +273,7 @@ pub idle_round : (s t : State) → IsGoing s → KeepsAll t → s.owner ≡ None
     → RoundDone (outline_of s) (outline_of t)
 idle_round s t going keeps none idle more stepped = let fell = idle_step (outline_of s) 0 (turn_of (action_of s 0))
     (outline_of t) (kept_of s going.keeps) (kept_of t keeps)
-    (kept_of s going.keeps).sizes.some_runner (none_outlined s none)
+    (kept_of s going.keeps).sizes.some_runner (owner_none s none)
     (λ d. running_is s going.keeps.machine.keeps d ∙ idle d) (not_ended s going.keeps more)
     (machine_step s t 0 going (subst (λ (n : ℕ). 0 < n) (long_outline s)
     (kept_of s going.keeps).sizes.some_runner) stepped) in

@@ -67,9 +67,7 @@ use Rattle.machine_model.proofs.TakeSeen.{binding_is}
 use Rattle.machine_model.proofs.TellKept.{CanTell}
 use Rattle.machine_model.proofs.TieLaws.{none_some}
 use Rattle.machine_model.proofs.TransferKept.{active_at}
-
-no_and : {b : Bool} → b ≡ true → b ≡ false → ⊥
-no_and t f = let none : true ≡ false = sym t ∙ f in cc
+use Rattle.laws.proofs.Bools.{not_both}
 
 -- ---- what is held
 
@@ -112,7 +110,7 @@ seg_has (x ∷ xs) n e h = by (is_number n x) h (seg_has xs n e)
     by false i rest = rest i
 
 number_is : (n : ℕ) (e : HeldSeg) → is_number n e ≡ true → e.number ≡ n
-number_is n e h = elim (eqb_tells e.number n) [ inl x ↦ x.1 | inr m ↦ absurd (no_and h m.0) ]
+number_is n e h = elim (eqb_tells e.number n) [ inl x ↦ x.1 | inr m ↦ absurd (not_both h m.0) ]
 
 -- so is a page table word, by its frame, which has the page
 page_is_held : (bound : ℕ → Option (ℕ × ℕ)) (es : List HeldPage) (u p f : ℕ)
@@ -130,8 +128,8 @@ page_is_held bound (x ∷ xs) u p f h all = by (is_page u p x) refl h (λ i. pag
 
     same_both : (a b c d : ℕ) → (eqb a c && eqb b d) ≡ true → (a ≡ c) × (b ≡ d)
     same_both a b c d e = elim (eqb_tells a c) [
-      | inl y ↦ elim (eqb_tells b d) [ inl z ↦ (y.1, z.1) | inr m ↦ absurd (no_and e (rw (y.0, m.0) refl)) ]
-      | inr m ↦ absurd (no_and e (rw m.0 refl))
+      | inl y ↦ elim (eqb_tells b d) [ inl z ↦ (y.1, z.1) | inr m ↦ absurd (not_both e (rw (y.0, m.0) refl)) ]
+      | inr m ↦ absurd (not_both e (rw m.0 refl))
     ]
 
     by : (b : Bool) → is_page u p x ≡ b → option_map (λ y. y.frame) (cond b (Some x) (find (is_page u p) xs)) ≡ Some f
@@ -147,7 +145,7 @@ page_is_held bound (x ∷ xs) u p f h all = by (is_page u p x) refl h (λ i. pag
 -- ---- a processor that refers by itself
 
 -- a descriptor that was cut is of a segment that is active still
-cut_active : (st : Storage) (ds : List CutDescriptor) (k n u : ℕ) → AreThere st ds → cut_uid ds k n ≡ Some u
+pub cut_active : (st : Storage) (ds : List CutDescriptor) (k n u : ℕ) → AreThere st ds → cut_uid ds k n ≡ Some u
     → is_active st.ast u ≡ true
 cut_active st [] k n u h e = absurd (none_some e)
 cut_active st (d ∷ ds) k n u h e = by (is_cut_at k n d) e (cut_active st ds k n u h.1)
@@ -288,7 +286,7 @@ module _ (s : State) (c : ℕ) (keeps : Keeps s) (entitled : IsEntitledToAll s) 
       there = has_node.there;
       permitted = ap (λ (m : Mode). permits m r.kind) (sym has_node.mode) ∙ on;
       within = subst (λ (n : ℕ). r.offset < 1024 * n) has_node.pages (elim (leb_tells (1024 * h.pages) r.offset) [
-        | inl e ↦ absurd (no_and e.0 short)
+        | inl e ↦ absurd (not_both e.0 short)
         | inr m ↦ (let lt = m.1 in omega (arith, lt))
       ]);
     }
@@ -327,7 +325,7 @@ module _ (s : State) (c : ℕ) (keeps : Keeps s) (entitled : IsEntitledToAll s) 
         ]
 
         new_zero : (how : RefKind) → eqb (new_word 0 how) 0 ≡ true → new_word 0 how ≡ 0
-        new_zero how e = elim (eqb_tells (new_word 0 how) 0) [ inl x ↦ x.1 | inr m ↦ absurd (no_and e m.0) ]
+        new_zero how e = elim (eqb_tells (new_word 0 how) 0) [ inl x ↦ x.1 | inr m ↦ absurd (not_both e m.0) ]
 
         zero_written : IsAlike t (written t h.uid r.offset 0)
         zero_written = record { nodes = refl; next = refl; words = zeros_put; stored = refl; known = refl }

@@ -16,7 +16,6 @@ use Rattle.flat_model.specs.Pages.{is_stored}
 use Rattle.flat_model.specs.References.{is_out_of_room, is_used_up, is_volume_full, room_reply, stores_page, word_reply}
 use Rattle.flat_model.specs.Rooms.{first_below, has_room as has_room_flat, room_for}
 use Rattle.flat_model.specs.Store.{Store}
-use Rattle.flat_model.proofs.QuotaTotals.{found_uid}
 use Rattle.known_segs.specs.Known.{uid_of}
 use Rattle.page_control.specs.Tied.{has_record}
 use Rattle.seg_control.specs.Control.{kst_at}
@@ -31,10 +30,12 @@ use Rattle.machine_model.specs.State.{State}
 use Rattle.machine_model.proofs.CountsAlike.{charged_alike}
 use Rattle.machine_model.proofs.EmptyAsks.{unread_any}
 use Rattle.machine_model.proofs.InsideLaws.{due_is, inside_is}
-use Rattle.machine_model.proofs.LackingLaws.{brings_alters, full_is, room_same}
+use Rattle.machine_model.proofs.LackingLaws.{full_is, room_same}
 use Rattle.machine_model.proofs.LookFacts.{FindsMove, IsInside}
 use Rattle.machine_model.proofs.MoveAsks.{who_is}
 use Rattle.machine_model.proofs.PageShown.{null_word, stored_is}
+use Rattle.flat_model.proofs.SharedLaws.{nonzero_alters}
+use Rattle.tree_model.proofs.SharedLaws.{found_uid}
 
 -- ---- the first that passes a test
 
@@ -108,7 +109,7 @@ module _ (s : State) (k : ℕ) (cmd : Command) (keeps : Keeps s) (u volume : ℕ
   unstored = stored_is s keeps u active (r.offset / 1024) ∙ ap has_record finds.null
 
   stores : stores_page t u r.offset r.kind ≡ true
-  stores = rw (brings_alters r.kind finds.word, null_word s keeps u active r.offset finds.null, finds.word, unstored)
+  stores = rw (nonzero_alters r.kind finds.word, null_word s keeps u active r.offset finds.null, finds.word, unstored)
       refl
 
   unspent : is_used_up t inside.node.uid ≡ false

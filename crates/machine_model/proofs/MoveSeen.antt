@@ -23,7 +23,7 @@ use Rattle.machine_model.specs.declared.Processor.{Processor}
 use Rattle.machine_model.specs.declared.CutDescriptor.{CutDescriptor}
 use Rattle.machine_model.specs.State.{Owner, State}
 use Rattle.machine_model.specs.Steps.{brought, with_created, with_pages}
-use Rattle.machine_model.proofs.LeaveSeen.{unread_put}
+use Rattle.machine_model.proofs.LeaveSeen.{unread_put as none_put}
 use Rattle.machine_model.proofs.ListLaws.{put_list}
 use Rattle.machine_model.proofs.Places.{put_two_map}
 use Rattle.machine_model.proofs.SeenLaws.{bound_put, reads_put}
@@ -39,10 +39,6 @@ reading_seen : (s : State) (c : ℕ) (t : Option Transfer) (d : ℕ) → c < len
     (with_transfer (processor_at s.processors c) t) d
 reading_seen s c t d there = put_list s.processors c
     (with_transfer (processor_at s.processors c) t) no_processor d there
-
--- a function of frames with None put where None is
-none_put : (f : ℕ → Option (ℕ × ℕ)) (i : ℕ) → f i ≡ None → (j : ℕ) → at_put f i None j ≡ f j
-none_put = unread_put
 
 pub start_seen : (s : State) (c : ℕ) (t : Transfer) (owner : Option Owner) → c < length s.processors
     → t.frame < length s.store.pages.core.frames

@@ -15,7 +15,6 @@ use Rattle.seg_mover.specs.declared.Mover.{Mover}
 use Rattle.seg_mover.specs.Homes.{map_at}
 use Rattle.seg_mover.specs.Moves.{begun}
 use Rattle.seg_mover.specs.Records.{flags_taken}
-use Rattle.seg_mover.proofs.Places.{within_from}
 use Rattle.seg_mover.proofs.Records.{HasTaken, has_taken}
 use Rattle.seg_control.specs.Moving.{pair_of, volumes_of}
 use Rattle.storage_ops.specs.Shown.{home_of}
@@ -31,6 +30,7 @@ use Rattle.machine_model.specs.State.{State}
 use Rattle.machine_model.proofs.LackingLaws.{inside}
 use Rattle.machine_model.proofs.WantLaws.{refer_wants, want_here}
 use Rattle.machine_model.proofs.WantMoved.{put_is, put_there}
+use Rattle.laws.proofs.Lists.{within_from}
 
 -- a volume that has room for a segment is another than its own, and has records free for more than its stored pages
 record IsRoomy (own volume pages used records : ℕ) : Type 0 where

@@ -41,14 +41,12 @@ use Rattle.machine_model.proofs.TellKept.{CanTell, told_keeps}
 use Rattle.machine_model.proofs.TieLaws.{none_some}
 use Rattle.machine_model.proofs.TransferKept.{kept_with, quiet_faults}
 use Rattle.std.proofs.lemmas.List.{length-set}
+use Rattle.machine_model.proofs.ActiveKept.{looks_idle}
 
 -- ---- owners that have taken nothing
 
 pub moving_idle : (c : ℕ) (m : Mover) → IsIdle (Some (moving c m))
 moving_idle c m = record { frames = refl; cut = refl; waits = refl; says = refl; shaped = (refl, refl) }
-
-looks_idle : (c : ℕ) → IsIdle (Some (looking c))
-looks_idle c = record { frames = refl; cut = refl; waits = refl; says = refl; shaped = (refl, refl) }
 
 some_same : (x y : Owner) → Some x ≡ Some y → x ≡ y
 some_same x y h = cc

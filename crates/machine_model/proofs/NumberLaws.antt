@@ -75,19 +75,15 @@ pub cut_signalled : (o : Option Owner) → cut_of_owner (owner_signalled o) ≡ 
 cut_signalled None = refl
 cut_signalled (Some q) = refl
 
-pub cut_less_frame : (o : Option Owner) → cut_of_owner (without_first_frame o) ≡ cut_of_owner o
-cut_less_frame None = refl
-cut_less_frame (Some q) = refl
-
 -- ---- how much a job has taken
 
-take_long : (s : State) (c : ℕ) (a : Aim) (w : What) (fs : List ℕ)
+pub take_long : (s : State) (c : ℕ) (a : Aim) (w : What) (fs : List ℕ)
     → length (frames_of_owner (take_all s c a w fs).owner) ≡ length (frames_of_owner s.owner) + length fs
 take_long s c a w [] = omega arith
 take_long s c a w (f ∷ fs) = let rest = take_long (take_one s c a w f) c a w fs in
     let one = length-append (frames_of_owner s.owner) (f ∷ []) in omega (arith, rest, one)
 
-cut_long : (s : State) (c : ℕ) (a : Aim) (w : What) (xs : List (ℕ × ℕ))
+pub cut_long : (s : State) (c : ℕ) (a : Aim) (w : What) (xs : List (ℕ × ℕ))
     → length (cut_of_owner (cut_all s c a w xs).owner) ≡ length (cut_of_owner s.owner) + length xs
 cut_long s c a w [] = omega arith
 cut_long s c a w (x ∷ xs) = let rest = cut_long (cut_one s c a w x) c a w xs in

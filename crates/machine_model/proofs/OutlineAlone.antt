@@ -1,9 +1,8 @@
 -- In the outline of the machine, the steps that a processor makes without the supervisor are steps of the outline.
 use Rattle.std.proofs.Common.{◌≡◌, ◌≢◌, ◌<◌, ℕ, ◌+◌, ◌-◌, ◌/◌, Bool, true, false, cond, ◌&&◌, eqb, List, [], ◌∷◌, ◌++◌}
 use Rattle.std.proofs.Common.{length, map, drop, Option, Some, None, is_some, option_map, set, refl, sym, ap, subst}
-use Rattle.std.proofs.Common.{◌∙◌, inl, inr, arith}
+use Rattle.std.proofs.Common.{◌∙◌, arith}
 use Rattle.std.specs.List.{find}
-use Rattle.std.proofs.lemmas.Bool.Decides.{eqb_tells}
 use Rattle.script.specs.declared.commands.Reference.{Reference}
 use Rattle.assoc_mem.specs.declared.What.{What}
 use Rattle.assoc_mem.specs.declared.HeldSeg.{HeldSeg}
@@ -32,7 +31,8 @@ use Rattle.machine_model.specs.Finishing.{HasLoaded, HasLeft, IsFilled, with_bou
 use Rattle.machine_model.specs.Outlined.{Around, around, reference_in, holds_seg, holds_page, bare, runner_by}
 use Rattle.machine_model.specs.Outlined.{runner_of, keeper_of, stage_of, outline_of}
 use Rattle.machine_model.proofs.OutlineReads.{at_outline, one_outlined, set_map, seen_online, seen_running, seen_due}
-use Rattle.machine_model.proofs.OutlineReads.{seen_reading, seen_since, seen_tried}
+use Rattle.machine_model.proofs.OutlineReads.{seen_reading, seen_since, seen_tried, ready_seen}
+use Rattle.laws.proofs.Numbers.{eqb_self}
 
 -- a step to an outline that is the same
 pub step_to : (s t u : Outline) (c : ℕ) (turn : Turn) → t ≡ u → Step s c turn t → Step s c turn u
@@ -140,20 +140,16 @@ loaded_outline s c k =
     ∙ ap (λ (n : ℕ). record (with_runner (outline_of s) c
     (runner_of (around s) (loaded_processor (processor_at s.processors c) k))) { ready = n }) (drop_one s.ready)
 
-ready_is : (s : State) → (outline_of s).ready ≡ length s.ready
-unfolding outline_of
-ready_is s = refl
-
 pub load_outlined : (s : State) (c k : ℕ) → rule_of (outline_of s) c ≡ Loads → 0 < length s.ready
     → IsFree (processor_at s.processors c) → Step (outline_of s) c Moved (outline_of (loaded s c k))
 load_outlined s c k h some free =
     step_to (outline_of s) _ (outline_of (loaded s c k)) c Moved (sym (loaded_outline s c k))
     (loads (runner_of (around s) (loaded_processor (processor_at s.processors c) k)) h
-    (subst (λ (n : ℕ). 0 < n) (sym (ready_is s)) some) (loaded_runner (around s) (processor_at s.processors c) k free))
+    (subst (λ (n : ℕ). 0 < n) (sym (ready_seen s)) some) (loaded_runner (around s) (processor_at s.processors c) k free))
 
 pub idle_outlined : (s : State) (c busy : ℕ) → rule_of (outline_of s) c ≡ Loads → s.ready ≡ []
     → Step (outline_of s) c (WaitsFor (WhileIdle busy)) (outline_of s)
-idle_outlined s c busy h none = idles busy h (ready_is s ∙ ap (λ (xs : List ℕ). length xs) none)
+idle_outlined s c busy h none = idles busy h (ready_seen s ∙ ap (λ (xs : List ℕ). length xs) none)
 
 abbrev left_processor : Processor → Processor
 left_processor p = record p { cpu = record p.cpu { process = None; assoc = nothing_held } }
@@ -249,9 +245,6 @@ found_last test (y ∷ ys) x h = by (test y) (found_last test ys x h)
         → is_some (cond b (Some y) (find test (ys ++ x ∷ []))) ≡ true
     by true i = refl
     by false i = i
-
-eqb_self : (n : ℕ) → eqb n n ≡ true
-eqb_self n = elim (eqb_tells n n) [ inl e ↦ e.0 | inr e ↦ absurd (e.1 refl) ]
 
 holds_filled_seg : (held : Held) (e : HeldSeg) (n : ℕ) → e.number ≡ n → is_some (seg_of (with_seg held e) n) ≡ true
 holds_filled_seg held e n same =
@@ -359,7 +352,7 @@ transfer_outlined s c count t h reading =
 
 -- ---- the supervisor
 
-owner_none : (s : State) → s.owner ≡ None → (outline_of s).owner ≡ None
+pub owner_none : (s : State) → s.owner ≡ None → (outline_of s).owner ≡ None
 unfolding outline_of
 owner_none s none = ap (λ (o : Option Owner). keeper_of s.store.ast.entries o) none
 

@@ -13,7 +13,7 @@ use Rattle.book.specs.declared.replies.Reply.TheVariants as reply
 use Rattle.machine_model.specs.declared.Processor.{Processor}
 use Rattle.machine_model.specs.declared.Run.{Run}
 use Rattle.machine_model.specs.declared.CutDescriptor.{CutDescriptor}
-use Rattle.machine_model.specs.State.{State, Storage, Owner}
+use Rattle.machine_model.specs.State.{State, Storage}
 use Rattle.machine_model.specs.Reads.{or_zero, no_processor, next_command, processor_at, cpu_at, process_at, run_at}
 use Rattle.machine_model.specs.Reads.{frames_of_owner, cut_of_owner}
 use Rattle.machine_model.specs.Steps.{answered, booked, with_store, with_pages, pages_after, fault_told, left_at}
@@ -24,12 +24,13 @@ use Rattle.machine_model.specs.Outline.{Runner, Stage, Moved, runner_at}
 use Rattle.machine_model.specs.Measures.{dues}
 use Rattle.machine_model.specs.Finishing.{Commands, rule_of, IsIn, IsAnswered, IsReplied, JobStep, answers, Step}
 use Rattle.machine_model.specs.Finishing.{replies}
-use Rattle.machine_model.specs.Outlined.{around, left_in, left_of, keeper_of, outline_of}
+use Rattle.machine_model.specs.Outlined.{around, left_in, left_of, outline_of}
 use Rattle.machine_model.specs.Foreseen.{CanTell}
 use Rattle.machine_model.proofs.LeftLaws.{answer_falls, left_falls}
 use Rattle.page_control.specs.Plain.{Plain}
-use Rattle.machine_model.proofs.StepLaws.{no_both}
 use Rattle.machine_model.proofs.OutlineReads.{at_outline, seen_running, seen_since}
+use Rattle.laws.proofs.Bools.{not_both}
+use Rattle.machine_model.proofs.OutlineAlone.{owner_none}
 
 -- what is to come, of a machine
 abbrev pub left_is : State → ℕ
@@ -62,10 +63,6 @@ pub running_at : (s : State) (c : ℕ) → (runner_at (outline_of s).runners c).
     (cpu_at s.processors c).process
 running_at s c = ap (λ (x : Runner). x.running) (at_outline s c) ∙ seen_running (around s) (processor_at s.processors c)
 
-no_owner : (t : State) → t.owner ≡ None → (outline_of t).owner ≡ None
-unfolding outline_of
-no_owner t none = ap (λ (o : Option Owner). keeper_of t.store.ast.entries o) none
-
 -- a machine in which nothing was answered since another, of these processors' counts
 pub record SameTale (s u : State) (c : ℕ) : Type 0 where
   pub plan : u.plan ≡ s.plan
@@ -85,7 +82,7 @@ pub ends_job : (s u t : State) (c k : ℕ) (f : Option ℕ) (r : Reply) (command
     → (processor_at t.processors c).count ≡ (processor_at (told u c f r).processors c).count)
     → IsAnswered (outline_of s) c (outline_of t)
 ends_job s u t c k f r command same can owner plan runs count = record {
-  owner = no_owner t owner;
+  owner = owner_none t owner;
   fewer = let less = told_left u c k f r command can in
       let a : left_is t ≡ left_is (told u c f r) = λ i. left_in (plan i).processes (runs i) in
       let b = tale_left s u c same in
@@ -195,7 +192,7 @@ left_ends s u c k r x same can = by (left_cases (told u c None r) c x)
         (ends_job s u (with_owner (told u c None r) None) c k None r x same can refl refl refl (λ h. refl))
     by (inr e) = subst (λ (y : State). IsAnswered (outline_of s) c (outline_of (with_owner y None))) (sym e)
         (ends_job s u (with_owner (left_at (told u c None r) c) None) c k None r x same can refl refl refl
-        (λ h. absurd (no_both h (left_none (told u c None r) c long))))
+        (λ h. absurd (not_both h (left_none (told u c None r) c long))))
 
 pub commit_outlined : (s : State) (c k : ℕ) (stage : Stage) (x : Command) → IsIn (outline_of s) c stage
     → dues (outline_of s).runners ≡ 0 → CanTell s c k x

@@ -1,5 +1,5 @@
 -- The outline of a machine at first: what is true of outlines between two steps is true of it.
-use Rattle.std.proofs.Common.{◌≡◌, ◌≢◌, ◌≤◌, ◌<◌, ℕ, zero, suc, ◌+◌, Bool, true, false, cond, List, [], ◌∷◌, length}
+use Rattle.std.proofs.Common.{◌≡◌, ◌≢◌, ◌≤◌, ◌<◌, ℕ, zero, suc, Bool, true, false, cond, List, [], ◌∷◌, length}
 use Rattle.std.proofs.Common.{replicate, sum, Option, Some, None, is_some, get_or, refl, sym, ap, subst, ◌∙◌, arith}
 use Rattle.std.proofs.lemmas.List.{length-replicate}
 use Rattle.script.specs.Plans.{Plan}
@@ -17,6 +17,7 @@ use Rattle.machine_model.specs.OutlineKept.{IsKept, EndsChain}
 use Rattle.machine_model.specs.Outlined.{around, bare, runner_of, outline_of}
 use Rattle.machine_model.proofs.OutlineReads.{at_outline, long_outline, map_at}
 use Rattle.machine_model.proofs.OutlineOwner.{count_zero}
+use Rattle.custody_model.proofs.SharedLaws.{range_length}
 
 -- the sizes that a script has
 pub record HasScriptSizes (p : Plan) : Type 0 where
@@ -30,13 +31,9 @@ same_at zero x i = refl
 same_at (suc n) x zero = refl
 same_at (suc n) x (suc i) = same_at n x i
 
-range_long : (from n : ℕ) → length (range from n) ≡ n
-range_long from zero = refl
-range_long from (suc n) = let rest = range_long (from + 1) n in omega (arith, rest)
-
 ready_few : (b : Bool) (n : ℕ) → n ≤ 32 → length (cond b (0 ∷ []) (range 0 n)) ≤ 32
 ready_few true n few = omega arith
-ready_few false n few = let long = range_long 0 n in omega (arith, long, few)
+ready_few false n few = let long = range_length 0 n in omega (arith, long, few)
 
 module _ (p : Plan) (words : List (List ℕ)) (disks : List (List (List ℕ))) where
   -- each processor takes no part, and each frame is free

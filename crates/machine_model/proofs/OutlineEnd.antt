@@ -41,7 +41,7 @@ left_frames : (st : Storage) (f : ℕ) (how : Left) (page : ℕ × ℕ)
 left_frames st f left.Released page = refl
 left_frames st f left.Kept page = refl
 
-left_nodes : (a : AccountMaps) (uid : ℕ) (how : Left) → (accounts_left a uid how).nodes ≡ a.nodes
+pub left_nodes : (a : AccountMaps) (uid : ℕ) (how : Left) → (accounts_left a uid how).nodes ≡ a.nodes
 left_nodes a uid left.Released = refl
 left_nodes a uid left.Kept = refl
 

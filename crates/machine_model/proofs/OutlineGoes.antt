@@ -11,8 +11,9 @@ use Rattle.machine_model.specs.Finishing.{awaits_transfer, loads, idles, leaves,
 use Rattle.machine_model.specs.OutlineKept.{IsKept}
 use Rattle.machine_model.proofs.FindLaws.{position_at, position_none}
 use Rattle.machine_model.proofs.RuleLaws.{tells}
-use Rattle.machine_model.proofs.StepLaws.{inside, no_both}
+use Rattle.machine_model.proofs.StepLaws.{inside}
 use Rattle.machine_model.specs.Unstuck.{Goes, HaveSteps}
+use Rattle.laws.proofs.Bools.{not_both}
 
 module _ (s : Outline) (k : IsKept s) (more : IsEnded s → ⊥) (all : HaveSteps s) where
   -- a step waits for the owner, for work, or as the owner; any other moves
@@ -44,16 +45,16 @@ module _ (s : Outline) (k : IsKept s) (more : IsEnded s → ⊥) (all : HaveStep
   -- who is to drop something does so, or comes online
   dropper_goes : (d : ℕ) → d < length s.runners → (runner_at s.runners d).due ≡ true → Goes s all
   dropper_goes d there due = by_rule d there
-      (λ h. no_both due (tells s d Works h).0)
-      (λ h none. no_both due (tells s d Loads h).0)
-      (λ h o some. no_both due (tells s d Commands h).0)
+      (λ h. not_both due (tells s d Works h).0)
+      (λ h none. not_both due (tells s d Loads h).0)
+      (λ h o some. not_both due (tells s d Commands h).0)
 
   -- who reads a page in ends that, or drops something before
   reader_goes : (d : ℕ) (r : Transfer) → d < length s.runners → (runner_at s.runners d).reading ≡ Some r → Goes s all
   reader_goes d r there reading = by_rule d there
-      (λ h. no_both is (tells s d Works h).1)
-      (λ h none. no_both is (tells s d Loads h).1)
-      (λ h o some. no_both is (tells s d Commands h).1)
+      (λ h. not_both is (tells s d Works h).1)
+      (λ h none. not_both is (tells s d Loads h).1)
+      (λ h o some. not_both is (tells s d Commands h).1)
     where
       is : is_some (runner_at s.runners d).reading ≡ true
       is = ap (λ (x : Option Transfer). is_some x) reading
@@ -85,28 +86,28 @@ module _ (s : Outline) (k : IsKept s) (more : IsEnded s → ⊥) (all : HaveStep
       by x t e (awaits_transfer f uid page h look started) = let reader = k.tied.started f uid page started in
           reader_goes reader.0 (record { frame = f; uid = uid; page = page }) reader.1 reader.2
       by x t e (loads y h some loaded) = here e
-      by x t e (idles busy h none) = absurd (no_both own (tells s c Loads h).2)
+      by x t e (idles busy h none) = absurd (not_both own (tells s c Loads h).2)
       by x t e (leaves y h left) = here e
       by x t e (fills y h filled) = here e
       by x t e (replies _ h replied) = here e
       by x t e (faults chain uid page makes h none want lacks) = here e
       by x t e (enters h none want) = here e
-      by x t e (waits o h some) = absurd (no_both own (tells s c Commands h).2)
+      by x t e (waits o h some) = absurd (not_both own (tells s c Commands h).2)
 
   -- nobody owns the supervisor
   module _ (none : s.owner ≡ None) where
     no_work : (c : ℕ) → rule_of s c ≡ Works → ⊥
-    no_work c h = no_both (tells s c Works h).2 (ap (λ (o : Option Keeper). owns o c) none)
+    no_work c h = not_both (tells s c Works h).2 (ap (λ (o : Option Keeper). owns o c) none)
 
     runner_goes : (c : ℕ) → c < length s.runners → (runner_at s.runners c).running ≡ true → Goes s all
     runner_goes c there running = by_rule c there (no_work c)
-        (λ h ready. no_both running (tells s c Loads h).3)
+        (λ h ready. not_both running (tells s c Loads h).3)
         (λ h o some. let no : None ≡ Some o = sym none ∙ some in cc)
 
     idle_goes : ((d : ℕ) → (runner_at s.runners d).running ≡ false) → Goes s all
     idle_goes idle = by_rule 0 k.sizes.some_runner (no_work 0)
         (λ h ready. more (record { ready = ready; running = idle }))
-        (λ h o some. no_both (tells s 0 Commands h).3 (idle 0))
+        (λ h o some. not_both (tells s 0 Commands h).3 (idle 0))
 
     free_goes : Goes s all
     free_goes = by (position (λ (x : Runner). x.running) s.runners) refl

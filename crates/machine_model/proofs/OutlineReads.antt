@@ -94,7 +94,7 @@ pub seen_owns : (s : State) (c : ℕ) → owns (outline_of s).owner c ≡ is_own
 unfolding outline_of
 seen_owns s c = owns_seen s.store.ast.entries s.owner c
 
-ready_seen : (s : State) → (outline_of s).ready ≡ length s.ready
+pub ready_seen : (s : State) → (outline_of s).ready ≡ length s.ready
 unfolding outline_of
 ready_seen s = refl
 

@@ -2,10 +2,9 @@
 use Rattle.std.proofs.Common.{◌≡◌, ◌<◌, ◌≤◌, ℕ, ◌+◌, Bool, true, false, ◌||◌, eqb, length, List, [], ◌∷◌, sum}
 use Rattle.std.proofs.Common.{Option, Some, None, Result, Ok, Err, is_some, inl, inr, refl, sym, ap}
 use Rattle.std.proofs.Common.{subst, ◌∙◌, arith, cond, not, nat_le, ◌*◌}
-use Rattle.std.specs.List.{IsDistinct, AllByRecursion, list_any}
+use Rattle.std.specs.List.{IsDistinct, AllByRecursion}
 use Rattle.std.proofs.lemmas.Bool.Decides.{eqb_tells}
 use Rattle.std.proofs.lemmas.Map.Steps.{length-le_from_distinct_below}
-use Rattle.script.specs.Forms.{ArePools}
 use Rattle.script.specs.References.{permits, reference_of}
 use Rattle.script.specs.declared.commands.Command.{Command}
 use Rattle.script.specs.declared.commands.Command.TheVariants as command
@@ -49,28 +48,20 @@ use Rattle.machine_model.proofs.ListLaws.{map_list, within_by}
 use Rattle.machine_model.proofs.OutlineOwner.{count_zero}
 use Rattle.machine_model.proofs.OutlineReads.{at_outline, long_outline, seen_due, seen_online, seen_reading}
 use Rattle.machine_model.proofs.OutlineReads.{seen_running}
-use Rattle.machine_model.proofs.TieLaws.{none_some, page_is}
+use Rattle.machine_model.proofs.TieLaws.{none_some}
 use Rattle.machine_model.proofs.VictimLaws.{chain_ends, chain_few}
 use Rattle.machine_model.proofs.KeptLaws.{keeper_cpu, keeper_stage}
-
-no_and : {b : Bool} → b ≡ true → b ≡ false → ⊥
-no_and t f = let none : true ≡ false = sym t ∙ f in cc
+use Rattle.custody_model.proofs.SharedLaws.{any_turned}
+use Rattle.laws.proofs.Bools.{not_both}
+use Rattle.laws.proofs.Options.{page_is}
+use Rattle.flat_model.proofs.SharedLaws.{pools_few}
 
 -- ---- sizes
 
 sum_four : (a b c d : ℕ) → sum (a ∷ b ∷ c ∷ d ∷ []) ≡ a + b + c + d
 sum_four a b c d = omega arith
 
-places_few : (pools : List ℕ) → ArePools pools → sum pools ≤ 1024
-places_few [] h = absurd h
-places_few (a ∷ []) h = absurd h
-places_few (a ∷ b ∷ []) h = absurd h
-places_few (a ∷ b ∷ c ∷ []) h = absurd h
-places_few (a ∷ b ∷ c ∷ d ∷ []) h = let few : a + b + c + d ≤ 1024 = h.4 in
-    let all = sum_four a b c d in omega (arith, few, all)
-places_few (a ∷ b ∷ c ∷ d ∷ e ∷ rest) h = absurd h
-
-distinct_of : (xs : List ℕ) → AreDistinct xs → IsDistinct eqb xs
+pub distinct_of : (xs : List ℕ) → AreDistinct xs → IsDistinct eqb xs
 unfolding IsDistinct
 distinct_of [] h = tt
 distinct_of (x ∷ xs) h = (apart xs h.0, distinct_of xs h.1)
@@ -78,26 +69,12 @@ distinct_of (x ∷ xs) h = (apart xs h.0, distinct_of xs h.1)
     apart : (ys : List ℕ) → has ys x ≡ false → AllByRecursion (λ y. eqb x y ≡ false) ys
     apart [] i = tt
     apart (y ∷ ys) i = elim (eqb_tells y x) [
-      | inl e ↦ absurd (no_and (ap (λ (b : Bool). b || has ys x) e.0) i)
+      | inl e ↦ absurd (not_both (ap (λ (b : Bool). b || has ys x) e.0) i)
       | inr n ↦ (
         elim (eqb_tells x y) [ inl e ↦ absurd (n.1 (sym e.1)) | inr o ↦ o.0 ],
         apart ys (sym (ap (λ (b : Bool). b || has ys x) n.0) ∙ i),
       )
     ]
-
-any_turned : (xs : List ℕ) (q : ℕ) → list_any (eqb q) xs ≡ true → has xs q ≡ true
-any_turned [] q h = h
-any_turned (x ∷ xs) q h = elim (eqb_tells q x) [
-  | inl e ↦ elim (eqb_tells x q) [
-    | inl i ↦ ap (λ (b : Bool). b || has xs q) i.0
-    | inr n ↦ absurd (n.1 (sym e.1))
-  ]
-  | inr n ↦ or_last (eqb x q) (any_turned xs q (sym (ap (λ (b : Bool). b || list_any (eqb q) xs) n.0) ∙ h))
-]
-  where
-    or_last : (a : Bool) → has xs q ≡ true → (a || has xs q) ≡ true
-    or_last true i = refl
-    or_last false i = i
 
 -- a want of a tree
 record IsShort (w : Want) : Type 0 where
@@ -169,7 +146,7 @@ module _ (s : State) (m : IsMachine s) where
     some_runner = let long = long_outline s in let same = keeps.sizes.processors in
         let some = m.script.processors.0 in omega (arith, long, same, some);
     few_entries = let places = keeps.store.places in let same = ap (λ (xs : List ℕ). sum xs) m.pools in
-        let few = places_few s.plan.pools m.script.pools in omega (arith, places, same, few);
+        let few = pools_few s.plan.pools m.script.pools in omega (arith, places, same, few);
     few_ready = ready_few;
     few_links = λ c. (short_at c).few;
     chains = λ c. (short_at c).ends;

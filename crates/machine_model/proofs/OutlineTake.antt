@@ -39,7 +39,9 @@ use Rattle.machine_model.specs.Outlined.{runner_of, first_frame, work_of, stage_
 use Rattle.machine_model.proofs.OutlineReads.{map_at, seen_online, seen_running, seen_due, seen_reading, seen_since}
 use Rattle.machine_model.proofs.OutlineReads.{seen_tried}
 use Rattle.machine_model.proofs.OutlineJob.{job_to, in_job}
-use Rattle.machine_model.proofs.LeaveSeen.{told_has, told_online, told_process, told_reads, told_transfer}
+use Rattle.machine_model.proofs.LeaveSeen.{told_has, told_online, told_process, told_reads}
+use Rattle.machine_model.proofs.SaysLaws.{leaving_pages}
+use Rattle.machine_model.proofs.ClearLaws.{told_transfer}
 
 -- ---- the clock's choice
 
@@ -70,10 +72,6 @@ passed_bare frames (f ∷ fs) =
         ∙ set_same bare frames f (unmarked (core_frame frames f)) frame.Free (bare_unmarked (core_frame frames f))
 
 -- ---- what taking leaves
-
-leaving_frames : (st : Storage) (f : ℕ) (o : Option (ℕ × ℕ)) → (leaving_if st f o).pages ≡ st.pages
-leaving_frames st f None = refl
-leaving_frames st f (Some page) = refl
 
 pub leaving_entries : (st : Storage) (f : ℕ) (o : Option (ℕ × ℕ)) → (leaving_if st f o).ast.entries ≡ st.ast.entries
 leaving_entries st f None = refl
@@ -121,7 +119,7 @@ looks_like plan runs ready processors pages entries accounts whos known = record
 
 take_one_like : (s : State) (c : ℕ) (a : Aim) (w : What) (f : ℕ) → LooksLike s (take_one s c a w f)
 take_one_like s c a w f = let page = bound_page (core_frame s.store.pages.core.frames f) in
-    looks_like refl refl refl refl (leaving_frames s.store f page) (leaving_entries s.store f page)
+    looks_like refl refl refl refl (leaving_pages s.store f page) (leaving_entries s.store f page)
     (leaving_accounts s.store f page) (leaving_whos s.store f page)
     (ap (λ (l : Links). l.known) (leaving_links s.store f page))
 
@@ -139,7 +137,7 @@ take_all_like s c a w (f ∷ fs) =
     like_on s (take_one s c a w f) (take_all (take_one s c a w f) c a w fs) (take_one_like s c a w f)
     (take_all_like (take_one s c a w f) c a w fs)
 
-cut_known : (links : Links) (k n : ℕ) (o : Option ℕ) → (unlinked links k n o).known ≡ links.known
+pub cut_known : (links : Links) (k n : ℕ) (o : Option ℕ) → (unlinked links k n o).known ≡ links.known
 cut_known links k n None = refl
 cut_known links k n (Some place) = refl
 
@@ -333,7 +331,7 @@ evicted_outline s c f none = λ i. record {
     taken_page s f = bound_page (core_frame (with_choice s.store f).pages.core.frames f)
 
     pages : (s : State) (f : ℕ) → (with_leaving (with_choice s.store f) f).pages ≡ (with_choice s.store f).pages
-    pages s f = leaving_frames (with_choice s.store f) f
+    pages s f = leaving_pages (with_choice s.store f) f
         (bound_page (core_frame (with_choice s.store f).pages.core.frames f))
 
     owner : (s : State) (c f : ℕ) → frames_of_owner s.owner ≡ []

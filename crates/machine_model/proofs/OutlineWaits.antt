@@ -1,6 +1,6 @@
 -- In the outline of the machine, what the owner waits for is there; and where the machine has ended, so has its
 -- outline.
-use Rattle.std.proofs.Common.{◌≡◌, ℕ, zero, suc, Bool, true, false, not, ◌&&◌, ◌||◌, List, [], ◌∷◌, length, Some}
+use Rattle.std.proofs.Common.{◌≡◌, ℕ, zero, suc, Bool, true, false, not, ◌||◌, List, [], ◌∷◌, length, Some}
 use Rattle.std.proofs.Common.{is_some, get_or, refl, ap, ◌∙◌}
 use Rattle.std.specs.List.{list_any}
 use Rattle.core_map.specs.declared.Frame.TheVariants as frame
@@ -17,18 +17,14 @@ use Rattle.machine_model.specs.Outlined.{around, bare, work_of, outline_of}
 use Rattle.machine_model.proofs.OutlineReads.{at_outline, map_at, seen_online, seen_running, seen_due}
 use Rattle.machine_model.proofs.OutlineJob.{in_look}
 use Rattle.machine_model.proofs.OutlineEnd.{in_stage}
-
-both : (a b : Bool) → (a && b) ≡ true → (a ≡ true) × (b ≡ true)
-both true true h = (refl, refl)
-both true false h = let no : false ≡ true = h in absurd cc
-both false b h = let no : false ≡ true = h in absurd cc
+use Rattle.laws.proofs.Bools.{and_parts, not_true}
 
 -- the owner waits for a clear
 pub awaits_clear_outlined : (s : State) (o : Owner) (a : Aim) (w : What) (d : ℕ) → rule_of (outline_of s) o.cpu ≡ Works
     → s.owner ≡ Some o → o.phase ≡ phase.Waiting a w → is_due (processor_at s.processors d) ≡ true
     → Step (outline_of s) o.cpu (WaitsFor (ForClear d)) (outline_of s)
 awaits_clear_outlined s o a w d h owner waits due =
-    let facts = both (cpu_at s.processors d).online (is_some (cpu_at s.processors d).due) due in
+    let facts = and_parts (cpu_at s.processors d).online (is_some (cpu_at s.processors d).due) due in
     awaits_clear (work_of s.store.ast.entries o.frames a) d h (in_stage s o (phase.Waiting a w) owner waits)
     (ap (λ (x : Runner). x.online) (at_outline s d) ∙ seen_online (around s) (processor_at s.processors d) ∙ facts.0)
     (ap (λ (x : Runner). x.due) (at_outline s d) ∙ seen_due (around s) (processor_at s.processors d) ∙ facts.1)
@@ -66,14 +62,10 @@ no_length : (xs : List ℕ) → is_empty xs ≡ true → length xs ≡ 0
 no_length [] h = refl
 no_length (x ∷ xs) h = let no : false ≡ true = h in absurd cc
 
-not_true : (b : Bool) → not b ≡ true → b ≡ false
-not_true true h = let no : false ≡ true = h in absurd cc
-not_true false h = refl
-
 ended_is : (s : State) → is_over s ≡ true → IsEnded (outline_of s)
 unfolding outline_of
 ended_is s over =
-    let facts = both (is_empty s.ready) (not (list_any has_process s.processors)) over in
+    let facts = and_parts (is_empty s.ready) (not (list_any has_process s.processors)) over in
     record {
       ready = no_length s.ready facts.0;
       running = λ d. (

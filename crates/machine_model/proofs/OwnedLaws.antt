@@ -23,9 +23,8 @@ use Rattle.machine_model.specs.declared.CutDescriptor.{CutDescriptor}
 use Rattle.machine_model.specs.State.{Owner}
 use Rattle.machine_model.proofs.Places.{by_place, by_places, put_here, put_two_here}
 use Rattle.machine_model.proofs.TieLaws.{none_some}
-
-no_and : {b : Bool} → b ≡ true → b ≡ false → ⊥
-no_and t f = let no : true ≡ false = sym t ∙ f in cc
+use Rattle.custody_model.proofs.FineLaws.{going_cut, going_taken, names_descriptor_same, names_same}
+use Rattle.laws.proofs.Bools.{not_both}
 
 -- ---- what goes stays as it is
 
@@ -69,11 +68,11 @@ module _ (c e : Custody) (like : IsLike c e) where
     frames = λ f h. elim (like.frames f) [
       | inl i ↦
           names_frame_like w f i ∙ all.frames f (sym (frame_like f) ∙ h)
-      | inr i ↦ absurd (no_and h i.0)
+      | inr i ↦ absurd (not_both h i.0)
     ];
     descriptors = λ k n h. elim (like.descriptors k n) [
       | inl i ↦ names_descriptor_like w k n i ∙ all.descriptors k n (sym (descriptor_like k n) ∙ h)
-      | inr i ↦ absurd (no_and h i.0)
+      | inr i ↦ absurd (not_both h i.0)
     ];
   }
 
@@ -178,18 +177,12 @@ push_other fs f g h = elim (eqb_tells f g) [
 pub distinct_push : (fs : List ℕ) (f : ℕ) → AreDistinct fs → has fs f ≡ false → AreDistinct (fs ++ f ∷ [])
 distinct_push [] f once new = (refl, tt)
 distinct_push (g ∷ gs) f once new = elim (eqb_tells g f) [
-  | inl e ↦ absurd (no_and (ap (λ (b : Bool). b || has gs f) e.0) new)
+  | inl e ↦ absurd (not_both (ap (λ (b : Bool). b || has gs f) e.0) new)
   | inr n ↦ (
     push_other gs f g n.1 ∙ once.0,
     distinct_push gs f once.1 (ap (λ (b : Bool). b || has gs f) (sym n.0) ∙ new),
   )
 ]
-
-going_taken : (x : FrameUse) → is_current_frame x ≡ true → is_going_frame (taken x) ≡ true
-going_taken frame.Free h = absurd (let no : false ≡ true = h in cc)
-going_taken (frame.Started u p) h = absurd (let no : false ≡ true = h in cc)
-going_taken (frame.Current u p) h = refl
-going_taken (frame.Going u p) h = absurd (let no : false ≡ true = h in cc)
 
 bound_taken : (x : FrameUse) → bound_page (taken x) ≡ bound_page x
 bound_taken frame.Free = refl
@@ -210,12 +203,6 @@ names_taken c f (what.Page h) g = refl
 names_taken c f (what.Seg u) g = ap (λ (o : Option (ℕ × ℕ)). is_uid u (uid_of_page o))
     (by_place (λ (y : FrameUse). bound_page y ≡ bound_page (c.frame g)) c.frame f (taken (c.frame f)) g
     (λ e. bound_taken (c.frame f) ∙ ap (λ (i : ℕ). bound_page (c.frame i)) (sym e)) (λ n. refl))
-
-names_of_descriptor : (c e : Custody) (w : What) (k n : ℕ) → e.descriptor k n ≡ c.descriptor k n
-    → names_descriptor e w k n ≡ names_descriptor c w k n
-names_of_descriptor c e what.All k n h = refl
-names_of_descriptor c e (what.Page g) k n h = refl
-names_of_descriptor c e (what.Seg u) k n h = ap (λ (x : DescriptorUse). is_uid u (leads_to x)) h
 
 -- an owner that waited for nothing has taken more: it is to signal something that names all that goes then
 owned_by : (c made : Custody) (o : Option Owner) (cpu : ℕ) (aim : Aim) (w : What) (fs : List ℕ)
@@ -273,7 +260,7 @@ owned_take c o cpu f aim w k current still others this aimed =
     all : NamesAllGoing made w
     all = record {
       frames = λ g h. names_taken c f w g ∙ named g h;
-      descriptors = λ j n h. names_of_descriptor c made w j n refl ∙ others.descriptors j n h;
+      descriptors = λ j n h. names_descriptor_same c made w j n refl ∙ others.descriptors j n h;
     }
 
 -- ---- descriptors
@@ -290,8 +277,8 @@ cut_at_same d = elim (eqb_tells d.process d.process) [
 
 pub cut_at_tells : (k n : ℕ) (d : CutDescriptor) → is_cut_at k n d ≡ true → (k ≡ d.process) × (n ≡ d.number)
 cut_at_tells k n d h = elim (eqb_tells d.process k) [
-  | inl e ↦ elim (eqb_tells d.number n) [ inl i ↦ (sym e.1, sym i.1) | inr m ↦ absurd (no_and h (rw (e.0, m.0) refl)) ]
-  | inr m ↦ absurd (no_and h (rw m.0 refl))
+  | inl e ↦ elim (eqb_tells d.number n) [ inl i ↦ (sym e.1, sym i.1) | inr m ↦ absurd (not_both h (rw (e.0, m.0) refl)) ]
+  | inr m ↦ absurd (not_both h (rw m.0 refl))
 ]
 
 pub cut_at_other : (k n : ℕ) (d : CutDescriptor) → (k ≡ d.process → n ≡ d.number → ⊥) → is_cut_at k n d ≡ false
@@ -332,13 +319,8 @@ apart_push (x ∷ xs) d apart new = (
     later = both.1
 
     not_it : x.process ≡ d.process → x.number ≡ d.number → ⊥
-    not_it a b = no_and (ap (λ (k : ℕ). is_cut_at k d.number x) (sym a)
+    not_it a b = not_both (ap (λ (k : ℕ). is_cut_at k d.number x) (sym a)
         ∙ ap (λ (n : ℕ). is_cut_at x.process n x) (sym b) ∙ cut_at_same x) both.0
-
-going_cut : (x : DescriptorUse) → is_current_descriptor x ≡ true → is_going_descriptor (cut x) ≡ true
-going_cut descriptor.Free h = absurd (let no : false ≡ true = h in cc)
-going_cut (descriptor.Current u) h = refl
-going_cut (descriptor.Going u) h = absurd (let no : false ≡ true = h in cc)
 
 leads_cut : (x : DescriptorUse) → leads_to (cut x) ≡ leads_to x
 leads_cut descriptor.Free = refl
@@ -359,11 +341,6 @@ names_cut c k n (what.Seg u) i j = ap (is_uid u)
     (by_places (λ (y : DescriptorUse). leads_to y ≡ leads_to (c.descriptor i j)) c.descriptor k n
     (cut (c.descriptor k n)) i j
     (λ a b. leads_cut (c.descriptor k n) ∙ rw (a, b) refl) (λ m. refl))
-
-names_of_frame : (c e : Custody) (w : What) (f : ℕ) → e.frame f ≡ c.frame f → names_frame e w f ≡ names_frame c w f
-names_of_frame c e what.All f h = refl
-names_of_frame c e (what.Page g) f h = refl
-names_of_frame c e (what.Seg u) f h = ap (λ (x : FrameUse). is_uid u (uid_of_page (bound_page x))) h
 
 -- a descriptor is cut
 pub owned_cut : (c : Custody) (o : Option Owner) (cpu : ℕ) (d : CutDescriptor) (aim : Aim) (w : What) → IsOwned c o
@@ -400,6 +377,6 @@ owned_cut c o cpu d aim w k current still others this aimed =
 
     all : NamesAllGoing made w
     all = record {
-      frames = λ g h. names_of_frame c made w g refl ∙ others.frames g h;
+      frames = λ g h. names_same c made w g refl ∙ others.frames g h;
       descriptors = λ i j h. names_cut c d.process d.number w i j ∙ named i j h;
     }

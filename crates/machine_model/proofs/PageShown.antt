@@ -1,5 +1,5 @@
 -- What the flat store says of a page, by the word of the page: whether it is stored, and which words it has.
-use Rattle.std.proofs.Common.{◌≡◌, ℕ, zero, suc, Bool, true, false, ◌&&◌, cond, eqb, is_some, List, []}
+use Rattle.std.proofs.Common.{◌≡◌, ℕ, zero, Bool, true, false, ◌&&◌, cond, eqb, is_some, List, []}
 use Rattle.std.proofs.Common.{get_or, position, replicate, Option, Some, None, inl, inr, refl, sym, ap, ◌∙◌}
 use Rattle.std.specs.Prelude.{◌/◌, ◌%◌}
 use Rattle.std.proofs.lemmas.Bool.Decides.{eqb_tells}
@@ -22,9 +22,9 @@ use Rattle.machine_model.specs.State.{State}
 use Rattle.machine_model.proofs.ActiveSeen.{active_place}
 use Rattle.machine_model.proofs.FindLaws.{position_at, position_none}
 use Rattle.machine_model.proofs.TieLaws.{none_some}
-
-no_and : {b : Bool} → b ≡ true → b ≡ false → ⊥
-no_and t f = let none : true ≡ false = sym t ∙ f in cc
+use Rattle.laws.proofs.Bools.{not_both}
+use Rattle.laws.proofs.Numbers.{and_both}
+use Rattle.laws.proofs.Lists.{zeros_read}
 
 both_same : (a b c d : ℕ) → a ≡ c → b ≡ d → (eqb a c && eqb b d) ≡ true
 both_same a b c d x y = elim (eqb_tells a c) [
@@ -32,23 +32,9 @@ both_same a b c d x y = elim (eqb_tells a c) [
   | inr n ↦ absurd (n.1 x)
 ]
 
-same_both : (a b c d : ℕ) → (eqb a c && eqb b d) ≡ true → (a ≡ c) × (b ≡ d)
-same_both a b c d h = elim (eqb_tells a c) [
-  | inl e ↦ elim (eqb_tells b d) [
-    | inl i ↦ (e.1, i.1)
-    | inr n ↦ absurd (no_and h (rw (e.0, n.0) refl))
-  ]
-  | inr n ↦ absurd (no_and h (rw n.0 refl))
-]
-
-bound_tells : (u p : ℕ) (x : Option (ℕ × ℕ)) → is_binding u p x ≡ true → x ≡ Some (u, p)
+pub bound_tells : (u p : ℕ) (x : Option (ℕ × ℕ)) → is_binding u p x ≡ true → x ≡ Some (u, p)
 bound_tells u p None h = absurd (let none : false ≡ true = h in cc)
-bound_tells u p (Some page) h = let both = same_both page.0 page.1 u p h in λ i. Some (both.0 i, both.1 i)
-
-zeros_read : (n i : ℕ) → get_or {A = ℕ} (replicate n 0) i 0 ≡ 0
-zeros_read zero i = refl
-zeros_read (suc n) zero = refl
-zeros_read (suc n) (suc i) = zeros_read n i
+bound_tells u p (Some page) h = let both = and_both page.0 page.1 u p h in λ i. Some (both.0 i, both.1 i)
 
 module _ (s : State) (k : Keeps s) where
   -- a page in a frame has the words of the frame
@@ -63,7 +49,7 @@ module _ (s : State) (k : Keeps s) where
       by : (x : Option ℕ) → position (is_binding u p) (bindings s.store.pages.core) ≡ x
           → words_held s.store.pages.frames (get_or s.store.pages.disks (home_in s.store u).volume []) filed x
           ≡ words_in s.store.pages f
-      by None e = absurd (no_and (ap (is_binding u p) bound ∙ both_same u p u p refl refl)
+      by None e = absurd (not_both (ap (is_binding u p) bound ∙ both_same u p u p refl refl)
           (position_none (is_binding u p) (bindings s.store.pages.core) None f e refl))
       by (Some g) e = ap (words_in s.store.pages) same
         where

@@ -19,9 +19,8 @@ use Rattle.machine_model.specs.State.{Storage}
 use Rattle.machine_model.proofs.Places.{by_places}
 use Rattle.machine_model.proofs.SeenLaws.{bound_put, reads_put}
 use Rattle.machine_model.proofs.TakeSeen.{words_put}
-
-no_and : {b : Bool} → b ≡ true → b ≡ false → ⊥
-no_and t f = let none : true ≡ false = sym t ∙ f in cc
+use Rattle.custody_model.proofs.SharedLaws.{has_head, has_tail}
+use Rattle.laws.proofs.Bools.{not_both}
 
 -- what is seen of a store
 abbrev pub bound_in : Storage → ℕ → Option (ℕ × ℕ)
@@ -123,12 +122,12 @@ pub record AreCutOff (old now : Storage) (u : ℕ) (ps : List ℕ) : Type 0 wher
   pub links : now.links ≡ old.links
 
 leaves_is : (w : Ptw) (g : ℕ) → is_left_by w g ≡ true → w ≡ ptw.Leaving g
-leaves_is ptw.Null g h = absurd (no_and h refl)
-leaves_is (ptw.Out r) g h = absurd (no_and h refl)
-leaves_is (ptw.Here f) g h = absurd (no_and h refl)
+leaves_is ptw.Null g h = absurd (not_both h refl)
+leaves_is (ptw.Out r) g h = absurd (not_both h refl)
+leaves_is (ptw.Here f) g h = absurd (not_both h refl)
 leaves_is (ptw.Leaving f) g h = elim (eqb_tells g f) [
   | inl e ↦ ap (λ (x : ℕ). ptw.Leaving x) (sym e.1)
-  | inr n ↦ absurd (no_and h n.0)
+  | inr n ↦ absurd (not_both h n.0)
 ]
 
 is_leaves : (w : Ptw) (g : ℕ) → w ≡ ptw.Leaving g → is_left_by w g ≡ true
@@ -140,16 +139,6 @@ has_parts p ps q h = elim (eqb_tells p q) [
   | inr n ↦ (n.1, sym (ap (λ (b : Bool). b || has ps q) n.0) ∙ h)
 ]
 
-has_head : (p : ℕ) (ps : List ℕ) → has (p ∷ ps) p ≡ true
-has_head p ps = elim (eqb_tells p p) [ inl e ↦ ap (λ (b : Bool). b || has ps p) e.0 | inr n ↦ absurd (n.1 refl) ]
-
-has_later : (p : ℕ) (ps : List ℕ) (q : ℕ) → has ps q ≡ true → has (p ∷ ps) q ≡ true
-has_later p ps q h = by (eqb p q)
-  where
-    by : (b : Bool) → (b || has ps q) ≡ true
-    by true = refl
-    by false = h
-
 -- it is the first, or one of the others
 has_cases : (p : ℕ) (ps : List ℕ) (q : ℕ) → has (p ∷ ps) q ≡ true → (has ps q ≡ true) ⊎ ((p ≡ q) × (has ps q ≡ false))
 has_cases p ps q h = by (has ps q) refl
@@ -158,7 +147,7 @@ has_cases p ps q h = by (has ps q) refl
     by true e = inl e
     by false e = elim (eqb_tells p q) [
       | inl i ↦ inr (i.1, e)
-      | inr n ↦ absurd (no_and h (ap (λ (b : Bool). b || has ps q) n.0 ∙ e))
+      | inr n ↦ absurd (not_both h (ap (λ (b : Bool). b || has ps q) n.0 ∙ e))
     ]
 
 module _ (st : Storage) (u p : ℕ) (ps : List ℕ) (now : Storage)
@@ -214,7 +203,7 @@ module _ (st : Storage) (u p : ℕ) (ps : List ℕ) (now : Storage)
       | inl e ↦ rest.nulls q e
       | inr e ↦ rest.words u q (λ x. e.1) ∙ (ap (λ (x : ℕ). word_in mid u x) (sym e.0) ∙ this_word)
     ];
-    bound = λ g n. rest.bound g (λ q i e. n q (has_later p ps q i) (was_leaving q g e))
+    bound = λ g n. rest.bound g (λ q i e. n q (has_tail p ps q i) (was_leaving q g e))
         ∙ bound_mid g (n p (has_head p ps));
     left = λ g q i e. elim (eqb_tells p q) [
       | inl same ↦ rest.free g (bound_by g true (is_leaves (word_in st u p) g
@@ -234,9 +223,9 @@ module _ (st : Storage) (u p : ℕ) (ps : List ℕ) (now : Storage)
 pub pages_cut_off : (st : Storage) (u : ℕ) (ps : List ℕ) → HasPlaces st → AreCutOff st (without_pages st u ps) u ps
 pages_cut_off st u [] h = record {
   words = λ v q n. refl;
-  nulls = λ q i. absurd (no_and i refl);
+  nulls = λ q i. absurd (not_both i refl);
   bound = λ g n. refl;
-  left = λ g q i e. absurd (no_and i refl);
+  left = λ g q i e. absurd (not_both i refl);
   free = λ g e. e;
   reads = λ g i. refl;
   places = refl;

@@ -8,15 +8,15 @@ use Rattle.book.specs.declared.replies.Reply.TheVariants as reply
 use Rattle.tree_model.specs.Tree.{Node, Walk, LeadsTo, Missing, InSegment, branch_in, has_directory, is_branch, node_in}
 use Rattle.tree_model.specs.Tree.{onward, walk_from, walk_in, without_node}
 use Rattle.tree_model.specs.Trees.{AreBelow, IsTree, Joins}
-use Rattle.tree_model.proofs.Finds.{IsMember, branch_found, found_member, found_passes}
+use Rattle.tree_model.proofs.Finds.{IsMember, branch_found, found_member}
 use Rattle.tree_model.proofs.TreeLaws.{lies, only_branch}
 use Rattle.flat_model.specs.Branches.{node_at, only_segment, segment_at, there_or, walked}
-use Rattle.flat_model.proofs.RemoveLaws.{directory_gone, node_left}
-use Rattle.flat_model.proofs.QuotaTotals.{found_uid, only_found, there_found}
+use Rattle.flat_model.proofs.RemoveLaws.{directory_gone}
+use Rattle.flat_model.proofs.QuotaTotals.{only_found, there_found}
 use Rattle.machine_model.proofs.TieLaws.{none_some}
-
-no_and : {b : Bool} → b ≡ true → b ≡ false → ⊥
-no_and t f = let none : true ≡ false = sym t ∙ f in cc
+use Rattle.laws.proofs.Lists.{find_passes}
+use Rattle.tree_model.proofs.SharedLaws.{found_uid, joined_below, uid_below, node_without}
+use Rattle.laws.proofs.Bools.{not_both}
 
 -- a path that led to a segment leads to it
 pub record PathsStay (old now : List Node) (u : ℕ) : Type 0 where
@@ -134,19 +134,8 @@ is_here : (ns : List Node) (d : ℕ) (name : List ℕ) (m : Node) → branch_in 
     → IsMember m ns × (is_branch d name m ≡ true)
 is_here ns d name m h = (
   found_member (is_branch d name) ns m (sym (branch_found d name ns) ∙ h),
-  found_passes (is_branch d name) ns m (sym (branch_found d name ns) ∙ h),
+  find_passes (is_branch d name) ns m (sym (branch_found d name ns) ∙ h),
 )
-
-joined_below : (ns : List Node) (o : Option ℕ) (n : Node) → Joins ns o n → AreBelow n.uid ns
-joined_below ns None n j = rw j.first tt
-joined_below ns (Some s) n j = j.later
-
-node_below : (v : ℕ) (ns : List Node) (u : ℕ) (m : Node) → AreBelow v ns → node_in ns u ≡ Some m → u < v
-node_below v [] u m b h = absurd (none_some h)
-node_below v (n ∷ ns) u m b h = elim (eqb_tells n.uid u) [
-  | inl e ↦ subst (λ (x : ℕ). x < v) e.1 b.0
-  | inr o ↦ node_below v ns u m b.1 (sym (ap (λ (x : Bool). cond x (Some n) (node_in ns u)) o.0) ∙ h)
-]
 
 pub paths_more : (ns : List Node) (n : Node) (u : ℕ) → IsTree (n ∷ ns) → PathsStay ns (n ∷ ns) u
 paths_more ns n u tree = path_stays ns (n ∷ ns) u (λ d. Unit {0}) tt (λ d name m h. tt)
@@ -163,7 +152,7 @@ paths_more ns n u tree = path_stays ns (n ∷ ns) u (λ d. Unit {0}) tt (λ d na
 
     other : (m : Node) → node_in ns u ≡ Some m → eqb n.uid u ≡ false
     other m h = elim (eqb_tells n.uid u) [
-      | inl e ↦ absurd (let less = node_below n.uid ns u m (joined_below ns n.superior n tree.0) h in
+      | inl e ↦ absurd (let less = uid_below n.uid ns u m (joined_below ns n.superior n tree.0) h in
           let same = e.1 in omega (arith, less, same))
       | inr o ↦ o.0
     ]
@@ -177,7 +166,7 @@ has_above [] m s tree here is = absurd here
 has_above (n ∷ ns) m s tree here is = by here (λ e. has_above ns m s tree.1 e is)
   where
     below : (v : ℕ) (xs : List Node) → AreBelow v xs → has_directory xs s ≡ true → s < v
-    below v [] b e = absurd (no_and e refl)
+    below v [] b e = absurd (not_both e refl)
     below v (x ∷ xs) b e = elim (eqb_tells x.uid s) [
       | inl i ↦ subst (λ (y : ℕ). y < v) i.1 b.0
       | inr o ↦ below v xs b.1 (sym (ap (λ (y : Bool). cond y x.directory (has_directory xs s)) o.0) ∙ e)
@@ -211,7 +200,7 @@ member_left (n ∷ ns) v m here other = by (eqb n.uid v) refl here (λ e. member
     by false e (inr i) rest = inr (rest i)
     by true e (inl i) rest = absurd (elim (eqb_tells n.uid v) [
       | inl same ↦ other (ap (λ (x : Node). x.uid) i ∙ same.1)
-      | inr o ↦ no_and e o.0
+      | inr o ↦ not_both e o.0
     ])
     by true e (inr i) rest = rest i
 
@@ -229,7 +218,7 @@ branch_left (n ∷ ns) v d name m h other = by (eqb n.uid v) (is_branch d name n
     by true false e i x rest = rest x
     by true true e i x rest = absurd (elim (eqb_tells n.uid v) [
       | inl same ↦ other (sym (ap (λ (y : Node). y.uid) (let is : n ≡ m = cc in is)) ∙ same.1)
-      | inr o ↦ no_and e o.0
+      | inr o ↦ not_both e o.0
     ])
 
 -- Another node is gone, and what is left is a tree.
@@ -237,7 +226,7 @@ pub paths_less : (ns : List Node) (v u : ℕ) → IsTree ns → IsTree (without_
     → PathsStay ns (without_node ns v) u
 paths_less ns v u tree left other = path_stays ns (without_node ns v) u (λ d. d ≢ v) other up
     (λ d name m h n. (m, branch_left ns v d name m h n, refl, refl))
-    (λ m h dir. (m, node_left ns v u other ∙ h, dir))
+    (λ m h dir. (m, node_without ns v u other ∙ h, dir))
   where
     -- nothing lies in the node that is gone
     up : (d : ℕ) (name : List ℕ) (m : Node) → branch_in ns d name ≡ Some m → d ≢ v
@@ -245,4 +234,4 @@ paths_less ns v u tree left other = path_stays ns (without_node ns v) u (λ d. d
         let was = has_above ns m d tree here.0 is in
         let now = has_above (without_node ns v) m d left (member_left ns v m here.0
         (λ e. (let less = was.1 in omega (arith, less, same, e)))) is in
-        no_and (subst (λ (x : ℕ). has_directory (without_node ns v) x ≡ true) same now.0) (directory_gone ns v)
+        not_both (subst (λ (x : ℕ). has_directory (without_node ns v) x ≡ true) same now.0) (directory_gone ns v)

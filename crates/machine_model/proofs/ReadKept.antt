@@ -66,11 +66,10 @@ use Rattle.machine_model.proofs.ScheduleKept as seats
 use Rattle.machine_model.proofs.TieLaws.{none_some}
 use Rattle.machine_model.proofs.TransferKept.{active_at}
 use Rattle.machine_model.proofs.CommitRights.{quota_moves}
-use Rattle.machine_model.proofs.LeaveSeen.{told_process, told_transfer}
+use Rattle.machine_model.proofs.LeaveSeen.{told_process}
 use Rattle.machine_model.proofs.CommitRights.{node_moved}
-
-no_and : {b : Bool} → b ≡ true → b ≡ false → ⊥
-no_and t f = let none : true ≡ false = sym t ∙ f in cc
+use Rattle.laws.proofs.Bools.{not_both}
+use Rattle.machine_model.proofs.ClearLaws.{told_transfer}
 
 -- one node changes
 pub with_names : (v : ℕ) (change : Node → Node) → KeepsName change
@@ -205,10 +204,10 @@ reads_like s now same sits h = subst (λ (q : Plan). AllRead q now.runs now.stor
 -- ---- a failure of the drive may be told
 
 recorded : (w : Ptw) → is_out w ≡ true → has_record w ≡ true
-recorded ptw.Null e = absurd (no_and e refl)
+recorded ptw.Null e = absurd (not_both e refl)
 recorded (ptw.Out n) e = refl
-recorded (ptw.Here f) e = absurd (no_and e refl)
-recorded (ptw.Leaving f) e = absurd (no_and e refl)
+recorded (ptw.Here f) e = absurd (not_both e refl)
+recorded (ptw.Leaving f) e = absurd (not_both e refl)
 
 module _ (s : State) (d : ℕ) (t : Transfer) (keeps : Keeps s) (mine : (cpu_at s.processors d).transfer ≡ Some t) where
   read_active : is_active s.store.ast t.uid ≡ true
@@ -225,7 +224,7 @@ module _ (s : State) (d : ℕ) (t : Transfer) (keeps : Keeps s) (mine : (cpu_at 
     where
       second : (a : Bool) {b : Bool} → (a && b) ≡ true → b ≡ true
       second true e = e
-      second false e = absurd (no_and e refl)
+      second false e = absurd (not_both e refl)
 
   pub read_fails : (k : ℕ) (x : Option Command) → Wants s.store.accounts.nodes s.store.links.known k t x
       → MayFailBy s.store k x
@@ -238,7 +237,7 @@ module _ (s : State) (d : ℕ) (t : Transfer) (keeps : Keeps s) (mine : (cpu_at 
     where
       by : (x : Option Node) → node_in s.store.accounts.nodes t.uid ≡ x
           → IsReached s.store.accounts.nodes s.store.links.known k r.reference
-      by None e = absurd (no_and (active_there s keeps t.uid read_active) (ap (λ (y : Option Node). is_some y) e))
+      by None e = absurd (not_both (active_there s keeps t.uid read_active) (ap (λ (y : Option Node). is_some y) e))
       by (Some n) e = record {
         uid = t.uid;
         stands = r.stands;
@@ -480,7 +479,7 @@ module _ (s : State) (c : ℕ) (o : Outcome) (m : IsMachine s) (there : c < leng
     commits (Some (command.Truncate path words)) kept =
         truncates (uid_of_command s.store k (command.Truncate path words)) words _ _ refl
     commits (Some (command.Delete path)) kept = deletes u (frames_of_owner s.owner) _ _ refl
-        kept.store.accounts.tree (λ d t n e same. no_and
+        kept.store.accounts.tree (λ d t n e same. not_both
         (read_there (committed s c k (command.Delete path)) _ kept refl d t n e)
         (ap (λ (x : ℕ). is_there (without_node nodes u) x) same
         ∙ ap (λ (y : Option Node). is_some y) (node_gone nodes u)))

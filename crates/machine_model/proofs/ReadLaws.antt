@@ -19,9 +19,10 @@ use Rattle.machine_model.proofs.JobLaws.{ranked, small_of}
 use Rattle.machine_model.proofs.LackLaws.{lack_le, wanted_more, here_same, here_more}
 use Rattle.machine_model.proofs.OuterLaws.{all_fewer}
 use Rattle.machine_model.proofs.GoesLaws.{all_set}
-use Rattle.machine_model.proofs.StepLaws.{no_both, inside, none_due, other_than}
+use Rattle.machine_model.proofs.StepLaws.{inside, none_due, other_than}
 use Rattle.machine_model.proofs.GoesLaws.{same_command}
 use Rattle.machine_model.specs.Finishing.{Rule}
+use Rattle.laws.proofs.Bools.{not_both}
 
 -- the rule that applies to a processor that reads, while the owner looks
 reads_rule : (s : Outline) (d : ℕ) (r : Transfer) → IsKept s → dues s.runners ≡ 0
@@ -116,7 +117,7 @@ reads_only {s = s} {c = c} {d = d} k awaits reader h =
 pub read_step : (s : Outline) (c f d : ℕ) (turn : Turn) (t : Outline) → IsKept s → IsKept t → AwaitsTransfer s c f
     → IsReader s f d → Step s d turn t → (job_rank t < job_rank s) × IsUnderWay s t c
 read_step s c f d turn t k l awaits reader (ends ended) =
-    absurd (no_both (k.job.at_work c Look awaits.look).running (ended.running c))
+    absurd (not_both (k.job.at_work c Look awaits.look).running (ended.running c))
 read_step s c f d turn t k l awaits reader (comes h) = let no = reads_only k awaits reader h in absurd cc
 read_step s c f d turn t k l awaits reader (clears x h cleared) = let no = reads_only k awaits reader h in absurd cc
 read_step s c f d turn t k l awaits reader (reads r used modified h is) =

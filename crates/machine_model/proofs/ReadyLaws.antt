@@ -37,9 +37,7 @@ use Rattle.machine_model.proofs.PageShown.{stored_is}
 use Rattle.flat_model.proofs.QuotaTotals.{branch_found, only_found}
 use Rattle.machine_model.proofs.TieLaws.{none_some}
 use Rattle.machine_model.proofs.TransferKept.{active_at}
-
-no_and : {b : Bool} → b ≡ true → b ≡ false → ⊥
-no_and t f = let none : true ≡ false = sym t ∙ f in cc
+use Rattle.laws.proofs.Bools.{not_both}
 
 -- ---- what goes
 
@@ -59,14 +57,14 @@ module _ (s : State) (keeps : Keeps s) where
       read (Some page) = refl
 
       word : (page : ℕ × ℕ) (w : Ptw) → names w ≡ Some f → is_going_frame (bound_use page w) ≡ true → w ≡ ptw.Leaving f
-      word page ptw.Null n h = absurd (no_and h refl)
-      word page (ptw.Out r) n h = absurd (no_and h refl)
-      word page (ptw.Here g) n h = absurd (no_and h refl)
+      word page ptw.Null n h = absurd (not_both h refl)
+      word page (ptw.Out r) n h = absurd (not_both h refl)
+      word page (ptw.Here g) n h = absurd (not_both h refl)
       word page (ptw.Leaving g) n h = cc
 
       by : (x : Option (ℕ × ℕ)) → (seen s).bound f ≡ x
           → is_going_frame (frame_use (seen s).words x ((seen s).reads f)) ≡ true → HasGoing f
-      by None e h = absurd (no_and h (read ((seen s).reads f)))
+      by None e h = absurd (not_both h (read ((seen s).reads f)))
       by (Some page) e h = record {
         uid = page.0;
         page = page.1;
@@ -132,7 +130,7 @@ module _ (s : State) (k : ℕ) (cmd : Command) (keeps : Keeps s) (h : IsTakenFor
   -- a descriptor that it takes isn't connected
   unlinked : (j n v : ℕ) → TakesDescriptor cmd k u j n v → (seen s).linked j n ≡ Some v → ⊥
   unlinked j n v takes e = let at = linked_on s k cmd keeps h j n v e in
-      no_and (h.just.descriptors j n v at.0 takes) at.1
+      not_both (h.just.descriptors j n v at.0 takes) at.1
 
   -- the pages that it takes from a number on
   taken_from : (low : ℕ) → ((q : ℕ) → low ≤ q → TakesPage cmd u u q) → IsTakenFrom s.store u low
@@ -146,7 +144,7 @@ module _ (s : State) (k : ℕ) (cmd : Command) (keeps : Keeps s) (h : IsTakenFor
       by q page ptw.Null e = ap is_here e
       by q page (ptw.Out r) e = ap is_here e
       by q page (ptw.Leaving f) e = ap is_here e
-      by q page (ptw.Here f) e = absurd (no_and (h.just.pages f u q (its ∙ page_bound (seen s).words (u, q)
+      by q page (ptw.Here f) e = absurd (not_both (h.just.pages f u q (its ∙ page_bound (seen s).words (u, q)
           ((seen s).reads f)) page)
           (ap (λ (x : Option (ℕ × ℕ)). is_going_frame (frame_use (seen s).words x ((seen s).reads f))) at
           ∙ ap (λ (w : Ptw). is_going_frame (bound_use (u, q) w)) e))
@@ -194,7 +192,7 @@ module _ (s : State) (k : ℕ) (keeps : Keeps s) where
 
   not_out : (w : Ptw) → is_out w ≡ false → is_out_word w ≡ false
   not_out ptw.Null h = refl
-  not_out (ptw.Out r) h = absurd (no_and refl h)
+  not_out (ptw.Out r) h = absurd (not_both refl h)
   not_out (ptw.Here f) h = refl
   not_out (ptw.Leaving f) h = refl
 
@@ -255,7 +253,7 @@ module _ (s : State) (k : ℕ) (keeps : Keeps s) where
   )
   ready_by (command.Length path pages) h out = (
     λ n e. record {
-      nowhere = λ place at. no_and (active_at s.store.ast place n.uid at)
+      nowhere = λ place at. not_both (active_at s.store.ast place n.uid at)
           (ap (is_active s.store.ast) (sym (segment_uid path n e)) ∙ out path pages refl);
     },
     none_owned s k (command.Length path pages) keeps h (λ v q t. t),

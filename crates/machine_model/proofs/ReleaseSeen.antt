@@ -26,16 +26,14 @@ use Rattle.machine_model.specs.Outlined.{lacks_record, outline_of}
 use Rattle.machine_model.specs.Reads.{frames_of_owner, home_in}
 use Rattle.machine_model.specs.Seen.{shown}
 use Rattle.machine_model.specs.State.{State}
-use Rattle.machine_model.proofs.ChainLaws.{has_head}
 use Rattle.machine_model.proofs.FrameSeen.{bound_outlined}
 use Rattle.machine_model.specs.State.{Owner}
 use Rattle.machine_model.specs.Seen.{frame_use, read_use}
 use Rattle.core_map.specs.CoreMap.{bound_page}
 use Rattle.core_map.specs.declared.Frame.TheVariants as frame
 use Rattle.machine_model.proofs.ListLaws.{map_list}
-
-no_and : {b : Bool} → b ≡ true → b ≡ false → ⊥
-no_and t f = let none : true ≡ false = sym t ∙ f in cc
+use Rattle.custody_model.proofs.SharedLaws.{has_head}
+use Rattle.laws.proofs.Bools.{not_both}
 
 -- an element of a list after one of them changed is as it was, or it is that one
 pub set_either : {A : Type 0} (xs : List A) (i : ℕ) (y : A) (j : ℕ) (d : A)
@@ -122,7 +120,7 @@ all_in_use flags r h = elim (eqb_tells (count_by (λ flag. flag) flags) (length 
     now : count_by (λ flag. flag) (set flags r false) ≡ length (set flags r false)
     now = elim (eqb_tells (count_by (λ flag. flag) (set flags r false)) (length (set flags r false))) [
       | inl e ↦ e.1
-      | inr n ↦ absurd (no_and h n.0)
+      | inr n ↦ absurd (not_both h n.0)
     ]
 
 given_full : (records : List (List Bool)) (v r w : ℕ)
@@ -197,7 +195,7 @@ leaves_may s k o f fs mine frames = by ((seen s).bound f) refl going
     by : (x : Option (ℕ × ℕ)) → (seen s).bound f ≡ x
         → is_going_frame (frame_use (seen s).words x ((seen s).reads f)) ≡ true
         → MayRelease (outline_of s) f (stored_then s f) (full_then s f)
-    by None e h = absurd (no_and h (read ((seen s).reads f)))
+    by None e h = absurd (not_both h (read ((seen s).reads f)))
     by (Some page) e h = releases s k f page.0 page.1 (ap page_or_zero (sym (map_list bound_page
         s.store.pages.core.frames f frame.Free) ∙ e)) (bound_is_there s k f page.0 page.1 e)
         (bound_outlined s f ∙ e)

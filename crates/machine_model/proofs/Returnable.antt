@@ -25,19 +25,15 @@ use Rattle.machine_model.specs.State.{State, Storage}
 use Rattle.machine_model.specs.Working.{AreNumbered, IsWorking}
 use Rattle.machine_model.proofs.ActiveSeen.{active_place}
 use Rattle.machine_model.proofs.BackKept.{relink_there}
-use Rattle.machine_model.proofs.ChainLaws.{going_word, has_head, has_tail}
+use Rattle.machine_model.proofs.ChainLaws.{going_word}
 use Rattle.machine_model.proofs.ListLaws.{map_list}
 use Rattle.machine_model.proofs.OwnedLaws.{cut_at_same}
 use Rattle.machine_model.proofs.Places.{by_places}
 use Rattle.machine_model.proofs.TakeSeen.{descriptors_put, not_null, words_put}
 use Rattle.machine_model.proofs.TieLaws.{none_some}
-
-no_and : {b : Bool} → b ≡ true → b ≡ false → ⊥
-no_and t f = let none : true ≡ false = sym t ∙ f in cc
-
-or_parts : (a b : Bool) → (a || b) ≡ false → (a ≡ false) × (b ≡ false)
-or_parts false b h = (refl, h)
-or_parts true b h = absurd (let none : true ≡ false = h in cc)
+use Rattle.custody_model.proofs.SharedLaws.{has_head, has_tail}
+use Rattle.laws.proofs.Bools.{not_both}
+use Rattle.std.proofs.lemmas.Bool.{or_parts}
 
 or_right : (a b : Bool) → b ≡ true → (a || b) ≡ true
 or_right true b h = refl
@@ -55,7 +51,7 @@ abbrev AllLeave : Storage → List ℕ → Type 0
 AllLeave st [] = Unit {0}
 AllLeave st (f ∷ fs) = Leaves st f × AllLeave st fs
 
-bound_is : (x : Frame) (page : ℕ × ℕ) → bound_page x ≡ Some page → is_bound x ≡ true
+pub bound_is : (x : Frame) (page : ℕ × ℕ) → bound_page x ≡ Some page → is_bound x ≡ true
 bound_is frame.Free page e = absurd (none_some e)
 bound_is (frame.Started u p) page e = absurd (none_some e)
 bound_is (frame.Bound u p used modified) page e = refl
@@ -82,7 +78,7 @@ others_leave st f (g ∷ gs) tables h once all = (
     other : all.0.page.0 ≡ h.page.0 → all.0.page.1 ≡ h.page.1 → ⊥
     other a b = let both : ptw.Leaving g ≡ ptw.Leaving f = sym all.0.word
         ∙ (ap (λ (x : ℕ). word_of st.ast x all.0.page.1) a ∙ (ap (λ (x : ℕ). word_of st.ast h.page.0 x) b ∙ h.word)) in
-        let same : g ≡ f = cc in no_and (subst (λ (x : ℕ). has (g ∷ gs) x ≡ true) same (has_head g gs)) once
+        let same : g ≡ f = cc in not_both (subst (λ (x : ℕ). has (g ∷ gs) x ≡ true) same (has_head g gs)) once
 
     still : word_of (here_if st f (Some h.page)).ast all.0.page.0 all.0.page.1 ≡ ptw.Leaving g
     still = words_put st.ast h.page.0 h.page.1 (ptw.Here f) tables
@@ -134,7 +130,7 @@ others_relink st d (e ∷ es) outer inner apart all = (
         e.process e.number)
         ∙ by_places (λ (x : Sdw). leads x ≡ None) (λ a b. descriptor_of st.links a b) d.process d.number word
         e.process e.number
-        (λ a b. absurd (no_and (ap (λ (x : ℕ). is_cut_at x d.number e) (sym a)
+        (λ a b. absurd (not_both (ap (λ (x : ℕ). is_cut_at x d.number e) (sym a)
         ∙ (ap (λ (y : ℕ). is_cut_at e.process y e) (sym b) ∙ cut_at_same e)) parts.0))
         (λ m. all.0.cut)
 

@@ -47,7 +47,7 @@ use Rattle.machine_model.specs.State.{Owner, State}
 use Rattle.machine_model.specs.Steps.{page_created, page_made, started, transferred, with_faults, with_owner}
 use Rattle.machine_model.proofs.ActiveKept.{IsOver, segs_are_gone}
 use Rattle.machine_model.proofs.ActiveSeen.{within_some}
-use Rattle.machine_model.proofs.ChainLaws.{IsDone, GoesOn, IsSteady, going_word, has_head}
+use Rattle.machine_model.proofs.ChainLaws.{IsDone, GoesOn, IsSteady, going_word}
 use Rattle.machine_model.proofs.CommitKept.{effected, idle_over, segs_over}
 use Rattle.machine_model.proofs.DeleteKept.{gones_done, gones_idle}
 use Rattle.machine_model.proofs.DueLaws.{none_due}
@@ -56,7 +56,7 @@ use Rattle.machine_model.proofs.LookLaws.{IsLook}
 use Rattle.machine_model.proofs.OwnedLaws.{IsIdle}
 use Rattle.machine_model.proofs.OwnerLaws.{looking_idle, moves_idle}
 use Rattle.machine_model.proofs.StepKept.{CanTakeSegment, hand_kept, CanActivateAt, CanCommit, CanDo, CanEmpty}
-use Rattle.machine_model.proofs.StepKept.{CanConnectTo}
+use Rattle.machine_model.proofs.StepKept.{CanConnectTo, works_mine}
 use Rattle.machine_model.proofs.StepKept.{CanFailWrite, CanGoThrough, CanLose, CanReply, IsCommitted, IsMine}
 use Rattle.machine_model.proofs.StepKept.{CanFailCopy}
 use Rattle.machine_model.proofs.TakeLists.{segment_takes}
@@ -71,9 +71,8 @@ use Rattle.machine_model.proofs.TookKept.{CanTook, Owns}
 use Rattle.machine_model.proofs.WordLaws.{word_within}
 use Rattle.machine_model.proofs.TruncateKept.{LeavesCut}
 use Rattle.machine_model.proofs.DeleteKept.{GoesWhole}
-
-no_and : {b : Bool} → b ≡ true → b ≡ false → ⊥
-no_and t f = let no : true ≡ false = sym t ∙ f in cc
+use Rattle.custody_model.proofs.SharedLaws.{has_head}
+use Rattle.laws.proofs.Bools.{not_both}
 
 head_same : (x y : ℕ) (xs ys : List ℕ) → x ∷ xs ≡ y ∷ ys → x ≡ y
 head_same x y xs ys h = cc
@@ -189,7 +188,7 @@ Asks s c o _ = Unit {0}
 
 -- ---- the commit of a command
 
-some_of : (o : Option ℕ) → is_some o ≡ true → o ≡ Some (or_zero o)
+pub some_of : (o : Option ℕ) → is_some o ≡ true → o ≡ Some (or_zero o)
 some_of None h = absurd (let no : false ≡ true = h in cc)
 some_of (Some n) h = refl
 
@@ -244,10 +243,6 @@ commit_can s c k (Some cmd) book its next ready asks = record {
 
 -- ---- a segment is taken
 
--- the owner is this processor, at work
-mine_works : (s : State) (c : ℕ) → Keeps s → IsMine s c → IsAtWork (processor_at s.processors c)
-mine_works s c k m = subst (λ (d : ℕ). IsAtWork (processor_at s.processors d)) m.same (k.at_work m.owner m.mine)
-
 mine_owns : (s : State) (c : ℕ) → IsMine s c → Owns s c
 mine_owns s c m q h = ap (λ (x : Owner). x.cpu) (some_same q m.owner (sym h ∙ m.mine)) ∙ m.same
   where
@@ -275,9 +270,9 @@ segment_can s c u [] [] k m idle still can asks = record {
   says = asks.says;
 }
 segment_can s c u [] (x ∷ xs) k m idle still can asks =
-    record { can = can; owns = mine_owns s c m; works = mine_works s c k m; says = asks }
+    record { can = can; owns = mine_owns s c m; works = works_mine s c k m; says = asks }
 segment_can s c u (f ∷ fs) pairs k m idle still can asks =
-    record { can = can; owns = mine_owns s c m; works = mine_works s c k m; says = asks }
+    record { can = can; owns = mine_owns s c m; works = works_mine s c k m; says = asks }
 
 empty_look : (s : State) (c u : ℕ) → Keeps s → IsMine s c → IsIdle s.owner → is_pending s.owner ≡ false
     → AsksEmpty s c u → CanEmpty s c u
@@ -449,7 +444,7 @@ module _ (s : State) (c : ℕ) (o : Outcome) (k : Keeps s) (there : c < length s
     where
       by : (x : Option What) → (processor_at s.processors d).cpu.due ≡ x → x ≡ None
       by None e = refl
-      by (Some w) e = absurd (no_and due (position_none is_due s.processors no_processor d h refl))
+      by (Some w) e = absurd (not_both due (position_none is_due s.processors no_processor d h refl))
         where
           due : is_due (processor_at s.processors d) ≡ true
           due = rw ((k.book.holding_right d).warned w e, e) refl

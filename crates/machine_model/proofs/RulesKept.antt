@@ -51,6 +51,7 @@ use Rattle.machine_model.proofs.SeatLaws.{CanFillPage, CanFillSeg}
 use Rattle.machine_model.proofs.StepKept.{CanDo, CanLeave, IsMine, after_keeps, to_hold}
 use Rattle.machine_model.proofs.TieLaws.{none_some}
 use Rattle.std.proofs.lemmas.Bool.{cond_both, not-true, not-false}
+use Rattle.laws.proofs.Bools.{and_parts}
 
 -- an action can be done whose conditions hold
 abbrev Can : State → ℕ → Outcome → act.Action → Type 0
@@ -64,12 +65,8 @@ pick_move : (s : State) (c : ℕ) (o : Outcome) (r : Reference) (b : Bool) (x y 
 pick_move s c o r true x y f g = f
 pick_move s c o r false x y f g = g
 
-some_again : (x : Option ℕ) (u : ℕ) → x ≡ Some u → x ≡ Some (or_zero x)
+pub some_again : (x : Option ℕ) (u : ℕ) → x ≡ Some u → x ≡ Some (or_zero x)
 some_again x u h = h ∙ ap (λ (y : Option ℕ). Some (or_zero y)) (sym h)
-
-both_parts : (a b : Bool) → (a && b) ≡ true → (a ≡ true) × (b ≡ true)
-both_parts true b h = (refl, h)
-both_parts false b h = absurd (let no : false ≡ true = h in cc)
 
 page_none : (x : Option HeldPage) → option_map (λ e. e.frame) x ≡ None → x ≡ None
 page_none None h = refl
@@ -192,7 +189,7 @@ module _ (s : State) (c : ℕ) (o : Outcome) (k : Keeps s) (there : c < length s
 
   leave_can : IsNoOwner s c → (n : ℕ) → p.cpu.process ≡ Some n → (has_had_its_turn p && not (is_empty s.ready)) ≡ true
       → CanLeave s c
-  leave_can other n its h = let parts = both_parts (has_had_its_turn p) (not (is_empty s.ready)) h in record {
+  leave_can other n its h = let parts = and_parts (has_had_its_turn p) (not (is_empty s.ready)) h in record {
     process = n;
     its = its;
     other = other;

@@ -3,7 +3,7 @@ use Rattle.std.proofs.Common.{◌≡◌, ◌<◌, ◌≤◌, ℕ, zero, suc, ℤ
 use Rattle.std.proofs.Common.{get_or, Option, Some, None, Result, Ok, Err, inl, inr, if◌then◌else◌, refl, sym, ap}
 use Rattle.std.proofs.Common.{subst, ◌∙◌, arith}
 use Rattle.std.proofs.lemmas.Bool.Decides.{eqb_tells, leb_tells}
-use Rattle.std.proofs.lemmas.List.{get_or-set_same, get_or-set_other, get_or_past}
+use Rattle.std.proofs.lemmas.List.{get_or-set_same, get_or-set_other}
 use Rattle.script.specs.Plans.{Plan}
 use Rattle.script.specs.References.{reference_of}
 use Rattle.script.specs.declared.commands.Command.{Command}
@@ -27,6 +27,7 @@ use Rattle.custody_model.specs.Next.{at_put}
 use Rattle.machine_model.specs.Custodial.{IsRun}
 use Rattle.machine_model.specs.declared.Run.{Run}
 use Rattle.machine_model.proofs.Places.{by_place}
+use Rattle.flat_model.proofs.SharedLaws.{going_within}
 
 -- ---- no command moves a process by its effect
 
@@ -112,14 +113,6 @@ put_progress ps k q j within = by_place (λ (x : Progress). get_or (set ps k q) 
     (λ e. ap (λ (i : ℕ). get_or (set ps k q) i ended) e ∙ get_or-set_same ps k q ended within)
     (λ n. get_or-set_other ps k j q ended n)
 
--- a process that hasn't ended is there
-pub is_there : (s : Store) (k : ℕ) → (progress_of s k).ended ≡ false → k < length s.processes
-is_there s k h = elim (leb_tells (length s.processes) k) [
-  | inl e ↦ absurd (let no : true ≡ false = sym (ap (λ (q : Progress). q.ended) (get_or_past s.processes k ended e.1))
-      ∙ h in cc)
-  | inr n ↦ n.1
-]
-
 -- a command was answered
 pub runs_answered : (p : Plan) (s : Store) (k : ℕ) (c : Command) (r : Reply) (run : Run) (runs : ℕ → Run)
     → (progress_of s k).ended ≡ false
@@ -140,7 +133,7 @@ runs_answered p s k c r run runs going is others j =
         ≡ at_put (progress_of s) k (gone_on (progress_of s k) c r) j
     moved_to = ap (λ (ps : List Progress). get_or (set ps k (gone_on (progress_of s k) c r)) j ended)
         (base_is (takes_effect r))
-        ∙ put_progress s.processes k (gone_on (progress_of s k) c r) j (is_there s k going)
+        ∙ put_progress s.processes k (gone_on (progress_of s k) c r) j (going_within s k going)
 
     cases : IsRun (at_put (progress_of s) k (gone_on (progress_of s k) c r) j) (at_put runs k run j)
     cases = elim (eqb_tells j k) [ inl e ↦ rw e.0 is | inr n ↦ rw n.0 (others j) ]

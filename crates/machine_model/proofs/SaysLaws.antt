@@ -16,7 +16,6 @@ use Rattle.book.specs.declared.entries.Entry.TheVariants as entry
 use Rattle.book.specs.declared.replies.Reply.{Reply}
 use Rattle.book.specs.declared.replies.Reply.TheVariants as reply
 use Rattle.tree_model.specs.Tree.{Node}
-use Rattle.accounts.specs.Maps.{AccountMaps}
 use Rattle.core_map.specs.declared.Frame.{Frame}
 use Rattle.core_map.specs.Clock.{frame_in, is_idle, passed_over, round_frames, unmarked}
 use Rattle.core_map.specs.CoreMap.{bound_page}
@@ -36,7 +35,7 @@ use Rattle.flat_model.specs.References.{after_reference, word_reply, written, wr
 use Rattle.flat_model.specs.Store.{Store, known_uid}
 use Rattle.machine_model.specs.Actions as act
 use Rattle.machine_model.specs.After.{Outcome, after}
-use Rattle.machine_model.specs.Jobs.{accounts_left, emptied, entries_left, eviction_begun, eviction_done, here_if}
+use Rattle.machine_model.specs.Jobs.{emptied, entries_left, eviction_begun, eviction_done, here_if}
 use Rattle.machine_model.specs.Jobs.{leaving_if, left_of, page_back, page_done, page_in, pages_back, seg_back, seg_gone}
 use Rattle.machine_model.specs.Jobs.{segs_back, segs_gone, with_choice, without_first_frame, write_failed}
 use Rattle.machine_model.specs.Keeps.{AreThere, HadRights, IsConserved, IsFaithful, Keeps, StoreKept, StoreSays}
@@ -52,6 +51,7 @@ use Rattle.machine_model.proofs.FlatAlike.{IsAlike, alike, alike_by, alike_on, a
 use Rattle.machine_model.proofs.FlatAlike.{done_alike, fault_alike, is_still, one_still, refused_alike}
 use Rattle.machine_model.proofs.TieLaws.{none_some}
 use Rattle.std.proofs.lemmas.List.{append_assoc}
+use Rattle.machine_model.proofs.OutlineEnd.{left_nodes as account_nodes}
 
 -- the quotas of a flat store together
 abbrev pub quotas : Store → ℕ
@@ -335,7 +335,7 @@ over_count frames (f ∷ fs) = by (is_idle (frame_in frames f))
     by true rest = refl
     by false rest = rest ∙ length-set frames f _
 
-leaving_pages : (st : Storage) (f : ℕ) (x : Option (ℕ × ℕ)) → (leaving_if st f x).pages ≡ st.pages
+pub leaving_pages : (st : Storage) (f : ℕ) (x : Option (ℕ × ℕ)) → (leaving_if st f x).pages ≡ st.pages
 leaving_pages st f None = refl
 leaving_pages st f (Some page) = refl
 
@@ -397,11 +397,7 @@ pub left_count : (pages : Plain) (home : Home) (p f : ℕ) (how : Left)
 left_count pages home p f left.Released = length-set pages.core.frames f _
 left_count pages home p f left.Kept = length-set pages.core.frames f _
 
-account_nodes : (a : AccountMaps) (u : ℕ) (how : Left) → (accounts_left a u how).nodes ≡ a.nodes
-account_nodes a u left.Released = refl
-account_nodes a u left.Kept = refl
-
-cut_less : (x : Option Owner) → cut_of_owner (without_first_frame x) ≡ cut_of_owner x
+pub cut_less : (x : Option Owner) → cut_of_owner (without_first_frame x) ≡ cut_of_owner x
 cut_less None = refl
 cut_less (Some q) = refl
 

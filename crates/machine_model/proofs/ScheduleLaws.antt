@@ -5,7 +5,6 @@ use Rattle.std.proofs.Common.{◌∷◌, ◌++◌, length, set, Some, None, ◌�
 use Rattle.std.proofs.Common.{arith}
 use Rattle.std.proofs.lemmas.Bool.Decides.{eqb_tells}
 use Rattle.std.proofs.lemmas.List.{get_or-set_other, get_or-set_same}
-use Rattle.std.proofs.lemmas.List.Folds.{list_any-append}
 use Rattle.script.specs.Plans.{Plan}
 use Rattle.custody_model.specs.Custody.{has, range}
 use Rattle.machine_model.specs.Custodial.{AreDistinct}
@@ -18,9 +17,10 @@ use Rattle.machine_model.proofs.OwnedLaws.{distinct_push, push_other, push_same}
 use Rattle.machine_model.proofs.Places.{by_place}
 use Rattle.machine_model.proofs.TieLaws.{none_some}
 use Rattle.std.proofs.lemmas.List.{append-nil}
-
-no_and : {b : Bool} → b ≡ true → b ≡ false → ⊥
-no_and t f = let no : true ≡ false = sym t ∙ f in cc
+use Rattle.laws.proofs.Bools.{not_both}
+use Rattle.std.proofs.lemmas.Bool.{or_parts}
+use Rattle.laws.proofs.Numbers.{eqb_self}
+use Rattle.laws.proofs.Options.{some_same}
 
 -- ---- nobody's process changes
 
@@ -125,16 +125,6 @@ put_online ps c p there d = put_seen (λ x. x.cpu.online) ps c p there d
 either : (d c : ℕ) → (d ≡ c) ⊎ (d ≢ c)
 either d c = elim (eqb_tells d c) [ inl e ↦ inl e.1 | inr n ↦ inr n.1 ]
 
-some_is : {A : Type 0} (x y : A) → Some x ≡ Some y → x ≡ y
-some_is x y h = cc
-
-or_no : (a b : Bool) → (a || b) ≡ false → (a ≡ false) × (b ≡ false)
-or_no false b h = (refl, h)
-or_no true b h = absurd (let no : true ≡ false = h in cc)
-
-own : (n : ℕ) → eqb n n ≡ true
-own n = elim (eqb_tells n n) [ inl e ↦ e.0 | inr m ↦ absurd (m.1 refl) ]
-
 module _ (p : Plan) (runs : List Run) (ps : List Processor) (c : ℕ) (now : Processor) (there : c < length ps) where
   -- the front of the ready list is loaded
   pub load_kept : (k : ℕ) (ready : List ℕ) → AreScheduled p runs (k ∷ ready) ps → (cpu_at ps c).process ≡ None
@@ -164,7 +154,7 @@ module _ (p : Plan) (runs : List Run) (ps : List Processor) (c : ℕ) (now : Pro
     once = h.once.1;
     apart = λ d j e. elim (either d c) [
       | inl same ↦ subst (λ (i : ℕ). has ready i ≡ false) (mine d j same e) h.once.0
-      | inr other ↦ (or_no (eqb k j) (has ready j)
+      | inr other ↦ (or_parts (eqb k j) (has ready j)
           (h.apart d j (sym ((put_process ps c now there d).1 other) ∙ e))).1
     ];
     back = h.back;
@@ -181,7 +171,7 @@ module _ (p : Plan) (runs : List Run) (ps : List Processor) (c : ℕ) (now : Pro
   }
     where
       front : has (k ∷ ready) k ≡ true
-      front = ap (λ (b : Bool). b || has ready k) (own k)
+      front = ap (λ (b : Bool). b || has ready k) (eqb_self k)
 
       still_ready : (j : ℕ) → j ≢ k → has (k ∷ ready) j ≡ true → has ready j ≡ true
       still_ready j other e = elim (eqb_tells k j) [
@@ -197,10 +187,10 @@ module _ (p : Plan) (runs : List Run) (ps : List Processor) (c : ℕ) (now : Pro
           or_right false i = i
 
       mine : (d j : ℕ) → d ≡ c → (cpu_at (set ps c now) d).process ≡ Some j → k ≡ j
-      mine d j same e = some_is k j (sym its ∙ (sym ((put_process ps c now there d).0 same) ∙ e))
+      mine d j same e = some_same k j (sym its ∙ (sym ((put_process ps c now there d).0 same) ∙ e))
 
       not_here : (d j : ℕ) → d ≢ c → (cpu_at (set ps c now) d).process ≡ Some j → k ≡ j → ⊥
-      not_here d j other e same = no_and (subst (λ (i : ℕ). has (k ∷ ready) i ≡ true) same front)
+      not_here d j other e same = not_both (subst (λ (i : ℕ). has (k ∷ ready) i ≡ true) same front)
           (h.apart d j (sym ((put_process ps c now there d).1 other) ∙ e))
 
   -- the other processors' processes, once one is at its processor no more
@@ -247,7 +237,7 @@ module _ (p : Plan) (runs : List Run) (ps : List Processor) (c : ℕ) (now : Pro
       | inr other ↦ elim (h.placed j m) [
         | inl r ↦ inl (push_other ready k j other ∙ r)
         | inr x ↦ elim (either x.0 c) [
-          | inl same ↦ absurd (other (some_is j k (sym x.1 ∙ (ap (λ (i : ℕ). (cpu_at ps i).process) same ∙ its))))
+          | inl same ↦ absurd (other (some_same j k (sym x.1 ∙ (ap (λ (i : ℕ). (cpu_at ps i).process) same ∙ its))))
           | inr away ↦ inr (x.0, (put_process ps c now there x.0).1 away ∙ x.1)
         ]
       ]
@@ -263,18 +253,6 @@ module _ (p : Plan) (runs : List Run) (ps : List Processor) (c : ℕ) (now : Pro
           elsewhere i m x y = none_some (sym none ∙ (sym ((put_process ps c now there i).0 y) ∙ x))
 
 -- ---- a process ends
-
-has_append : (xs ys : List ℕ) (j : ℕ) → has (xs ++ ys) j ≡ (has xs j || has ys j)
-has_append xs ys j = list_any-append (λ y. eqb y j) xs ys
-
-or_cases : (a b : Bool) → (a || b) ≡ true → (a ≡ true) ⊎ (b ≡ true)
-or_cases true b h = inl refl
-or_cases false b h = inr h
-
-both_no : (a b : Bool) → a ≡ false → b ≡ false → (a || b) ≡ false
-both_no false false x y = refl
-both_no true b x y = absurd (let no : true ≡ false = x in cc)
-both_no false true x y = absurd (let no : true ≡ false = y in cc)
 
 -- the numbers from one on
 pub in_range : (from n j : ℕ) → has (range from n) j ≡ true → (from ≤ j) × (j < from + n)
@@ -306,7 +284,7 @@ range_once from (suc n) = (not_before (from + 1) n from (omega arith), range_onc
 
 nothing_in : (xs : List ℕ) → ((j : ℕ) → has xs j ≡ false) → xs ≡ []
 nothing_in [] h = refl
-nothing_in (x ∷ xs) h = absurd (no_and (ap (λ (b : Bool). b || has xs x) (own x)) (h x))
+nothing_in (x ∷ xs) h = absurd (not_both (ap (λ (b : Bool). b || has xs x) (eqb_self x)) (h x))
 
 module _ (p : Plan) (runs : List Run) (ready : List ℕ) (ps : List Processor) (c k : ℕ) (now : Processor) (run : Run)
     (there : c < length ps) (known : k < length runs) (h : AreScheduled p runs ready ps)
@@ -344,15 +322,15 @@ module _ (p : Plan) (runs : List Run) (ready : List ℕ) (ps : List Processor) (
       ]
 
   not_ready : (j : ℕ) → has ready j ≡ true → j ≢ k
-  not_ready j e same = no_and (subst (λ (i : ℕ). has ready i ≡ true) same e) (h.apart c k its)
+  not_ready j e same = not_both (subst (λ (i : ℕ). has ready i ≡ true) same e) (h.apart c k its)
 
   back_still : p.initializer ≡ true → (run_at (set runs k run) 0).ended ≡ false → (j : ℕ) → j < length p.processes
       → (run_at (set runs k run) j).ended ≡ false
   back_still i e j planned = elim (h.running c k its).turn [
-    | inl off ↦ absurd (no_and i off)
+    | inl off ↦ absurd (not_both i off)
     | inr on ↦ elim on [
-      | inl first ↦ absurd (no_and (subst (λ (x : ℕ). (run_at (set runs k run) x).ended ≡ true) first ended_now) e)
-      | inr ended ↦ absurd (no_and ended_first e)
+      | inl first ↦ absurd (not_both (subst (λ (x : ℕ). (run_at (set runs k run) x).ended ≡ true) first ended_now) e)
+      | inr ended ↦ absurd (not_both ended_first e)
     ]
   ]
     where
@@ -360,13 +338,13 @@ module _ (p : Plan) (runs : List Run) (ready : List ℕ) (ps : List Processor) (
       ended_first = elim (either 0 k) [
         | inl same ↦ ap (λ (x : ℕ). (run_at (set runs k run) x).ended) same ∙ ended_now
         | inr other ↦ (let was : (run_at runs 0).ended ≡ true = elim (h.running c k its).turn [
-          | inl off ↦ absurd (no_and i off)
+          | inl off ↦ absurd (not_both i off)
           | inr on ↦ elim on [ inl first ↦ absurd (other (sym first)) | inr ended ↦ ended ]
         ] in others 0 other ∙ was)
       ]
 
   not_over : (j : ℕ) → MayRun p (set runs k run) j → j ≢ k
-  not_over j m same = no_and (ap (λ (i : ℕ). (run_at (set runs k run) i).ended) same ∙ ended_now) m.going
+  not_over j m same = not_both (ap (λ (i : ℕ). (run_at (set runs k run) i).ended) same ∙ ended_now) m.going
 
   -- whatever may run could before, where no other process becomes ready by it
   may_before : (p.initializer ≡ true → k ≢ 0) → (j : ℕ) → MayRun p (set runs k run) j → MayRun p runs j
@@ -388,7 +366,7 @@ module _ (p : Plan) (runs : List Run) (ready : List ℕ) (ps : List Processor) (
     placed = λ j m. elim (h.placed j (may_before off j m)) [
       | inl r ↦ inl r
       | inr x ↦ elim (either x.0 c) [
-        | inl same ↦ absurd (not_over j m (some_is j k (sym x.1
+        | inl same ↦ absurd (not_over j m (some_same j k (sym x.1
             ∙ (ap (λ (i : ℕ). (cpu_at ps i).process) same ∙ its))))
         | inr away ↦ inr (x.0, (put_process ps c now there x.0).1 away ∙ x.1)
       ]
@@ -408,8 +386,8 @@ module _ (p : Plan) (runs : List Run) (ready : List ℕ) (ps : List Processor) (
 
     only_first : (j : ℕ) → MayRun p runs j → j ≡ k
     only_first j m = elim m.turn [
-      | inl off ↦ absurd (no_and initial off)
-      | inr on ↦ elim on [ inl zero_is ↦ zero_is ∙ sym first | inr ended ↦ absurd (no_and ended not_ended) ]
+      | inl off ↦ absurd (not_both initial off)
+      | inr on ↦ elim on [ inl zero_is ↦ zero_is ∙ sym first | inr ended ↦ absurd (not_both ended not_ended) ]
     ]
 
     none_ready : ready ≡ []
@@ -452,10 +430,10 @@ module _ (p : Plan) (runs : List Run) (ready : List ℕ) (ps : List Processor) (
   end_kept = by (p.initializer) (eqb k 0) refl (first_is (eqb k 0) refl) (later_is (eqb k 0) refl)
     where
       first_is : (b : Bool) → eqb k 0 ≡ b → b ≡ true → k ≡ 0
-      first_is b e t = elim (eqb_tells k 0) [ inl x ↦ x.1 | inr m ↦ absurd (no_and (e ∙ t) m.0) ]
+      first_is b e t = elim (eqb_tells k 0) [ inl x ↦ x.1 | inr m ↦ absurd (not_both (e ∙ t) m.0) ]
 
       later_is : (b : Bool) → eqb k 0 ≡ b → b ≡ false → k ≢ 0
-      later_is b e t = elim (eqb_tells k 0) [ inl x ↦ absurd (no_and x.0 (e ∙ t)) | inr m ↦ m.1 ]
+      later_is b e t = elim (eqb_tells k 0) [ inl x ↦ absurd (not_both x.0 (e ∙ t)) | inr m ↦ m.1 ]
 
       by : (i z : Bool) → p.initializer ≡ i → (z ≡ true → k ≡ 0) → (z ≡ false → k ≢ 0)
           → AreScheduled p (set runs k run) (ready ++ cond (i && z) (range 1 (length p.processes - 1)) [])
@@ -466,4 +444,4 @@ module _ (p : Plan) (runs : List Run) (ready : List ℕ) (ps : List Processor) (
       by true false e z other = subst (λ (xs : List ℕ). AreScheduled p (set runs k run) xs (set ps c now))
           (sym (append-nil ready)) (plain_end (λ i. other refl))
       by false z e f other = subst (λ (xs : List ℕ). AreScheduled p (set runs k run) xs (set ps c now))
-          (sym (append-nil ready)) (plain_end (λ i first. no_and i e))
+          (sym (append-nil ready)) (plain_end (λ i first. not_both i e))

@@ -60,7 +60,7 @@ use Rattle.machine_model.specs.Reads.{or_zero, process_at, processor_at}
 use Rattle.machine_model.specs.Said.{Says}
 use Rattle.machine_model.specs.State.{Owner, State}
 use Rattle.machine_model.proofs.ActionCases.{action_by}
-use Rattle.machine_model.proofs.ChainLaws.{going_word, has_head}
+use Rattle.machine_model.proofs.ChainLaws.{going_word}
 use Rattle.machine_model.proofs.EmptyAsks.{length_asks, victim_asks}
 use Rattle.machine_model.proofs.LackingLaws.{may_move, may_rehome}
 use Rattle.machine_model.proofs.LookAsks.{activate_asks, answer_asks, connect_asks, create_asks}
@@ -105,6 +105,8 @@ use Rattle.machine_model.proofs.TransferKept.{active_at}
 use Rattle.machine_model.proofs.SpeakLaws.{speaks_of}
 use Rattle.machine_model.proofs.TakeAsks.{takes_none}
 use Rattle.machine_model.proofs.WorkStep.{moving_fails, moving_rests}
+use Rattle.custody_model.proofs.SharedLaws.{has_head}
+use Rattle.machine_model.proofs.RulesKept.{some_again}
 
 -- ---- a page is read
 
@@ -134,9 +136,6 @@ reads_answering s c m there r = let one = speaks s c (process_at s c) m there r.
 
 abbrev Follows : State → ℕ → Outcome → act.Action → Type 0
 Follows s c o a = Says s c o a → Asks s c o a
-
-some_of : (x : Option ℕ) (n : ℕ) → x ≡ Some n → x ≡ Some (or_zero x)
-some_of x n h = h ∙ ap (λ (y : Option ℕ). Some (or_zero y)) (sym h)
 
 -- a page of zeros that is in a frame may be given up
 zeros_at : (ws : List ℕ) (i : ℕ) → are_zeros ws ≡ true → get_or ws i 0 ≡ 0
@@ -264,7 +263,7 @@ module _ (s : State) (c : ℕ) (o : Outcome) (m : IsMachine s) (there : c < leng
   run_follows (Some n) e = cond_both (has_had_its_turn p && not (is_empty s.ready)) act.Leave
       (come_to s p.cpu n (next_command s n)) (Follows s c o) (λ h says. tt)
       (λ h. subst (λ (j : ℕ). Follows s c o (come_to s p.cpu j (next_command s j))) (ap or_zero e)
-      (come_follows (some_of p.cpu.process n e) (next_command s k) refl))
+      (come_follows (some_again p.cpu.process n e) (next_command s k) refl))
 
   -- ---- the owner looks
 

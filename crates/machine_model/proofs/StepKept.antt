@@ -385,7 +385,7 @@ commit_done s c k (Some cmd) keeps can = commit_kept s c k cmd keeps can.pages c
     can.tell can.says
 
 -- the owner is this processor, at work
-works_mine : (s : State) (c : ℕ) → Keeps s → IsMine s c → IsAtWork (processor_at s.processors c)
+pub works_mine : (s : State) (c : ℕ) → Keeps s → IsMine s c → IsAtWork (processor_at s.processors c)
 works_mine s c k m = subst (λ (d : ℕ). IsAtWork (processor_at s.processors d)) m.same (k.at_work m.owner m.mine)
 
 -- What an action asks is all that it wants to keep the promise.

@@ -57,6 +57,7 @@ use Rattle.machine_model.proofs.WorkKept.{page_fails}
 use Rattle.machine_model.proofs.WorkStep.{IsEmptying, Looks, BeginsMove, moving_rests}
 use Rattle.machine_model.proofs.SpeakLaws.{speaks_of}
 use Rattle.machine_model.proofs.TakeAsks.{takes_none}
+use Rattle.machine_model.proofs.RulesKept.{some_again}
 
 -- a processor's process comes to a command that isn't its end
 pub record AnswersOne (s : State) (c : ℕ) : Type 0 where
@@ -117,9 +118,6 @@ Knows s c (act.CopyPage m p) = CopiesNext s c m p
 Knows s c (act.CommitMove m) = EndsMove s c m
 Knows s c act.Commit = Commits s c
 Knows s c _ = Unit {0}
-
-some_of : (x : Option ℕ) (n : ℕ) → x ≡ Some n → x ≡ Some (or_zero x)
-some_of x n h = h ∙ ap (λ (y : Option ℕ). Some (or_zero y)) (sym h)
 
 nothing : (fs : List ℕ) (pairs : List (ℕ × ℕ)) → fs ≡ [] → pairs ≡ [] → (fs ≢ []) ⊎ (pairs ≢ []) → ⊥
 nothing fs pairs a b (inl n) = n a
@@ -193,7 +191,7 @@ module _ (s : State) (c : ℕ) (o : Outcome) (m : IsMachine s) (there : c < leng
     run_knows other (Some n) e = cond_both (has_had_its_turn p && not (is_empty s.ready)) act.Leave
         (come_to s p.cpu n (next_command s n)) (Knows s c) (λ h. tt)
         (λ h. subst (λ (j : ℕ). Knows s c (come_to s p.cpu j (next_command s j))) (ap or_zero e)
-        (come_knows other (some_of p.cpu.process n e) (next_command s k) refl))
+        (come_knows other (some_again p.cpu.process n e) (next_command s k) refl))
 
     -- ---- the owner looks
 

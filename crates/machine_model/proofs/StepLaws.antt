@@ -20,11 +20,9 @@ use Rattle.machine_model.proofs.JobLaws.{ranked, job_falls}
 use Rattle.machine_model.proofs.OuterLaws.{over_same}
 use Rattle.machine_model.proofs.GoesLaws.{goes, all_set}
 use Rattle.machine_model.specs.Finishing.{Rule}
+use Rattle.laws.proofs.Bools.{not_both}
 
 -- ---- processors
-
-pub no_both : {b : Bool} → b ≡ true → b ≡ false → ⊥
-no_both t f = let no : true ≡ false = sym t ∙ f in cc
 
 -- a processor that takes part is there
 pub inside : (xs : List Runner) (c : ℕ) → (runner_at xs c).online ≡ true → c < length xs
@@ -65,7 +63,7 @@ works_only {s = s} {c = c} {stage = stage} k owner h = sym (works_rule s c stage
 pub owner_step : (s : Outline) (c : ℕ) (stage : Stage) (turn : Turn) (t : Outline) → IsKept s → IsKept t
     → IsIn s c stage → Step s c turn t → OwnerStep turn s t c
 owner_step s c stage turn t k l owner (ends ended) =
-    no_both (k.job.at_work c stage owner).running (ended.running c)
+    not_both (k.job.at_work c stage owner).running (ended.running c)
 owner_step s c stage turn t k l owner (comes h) = let no = works_only k owner h in absurd cc
 owner_step s c stage turn t k l owner (clears x h cleared) = let no = works_only k owner h in absurd cc
 owner_step s c stage turn t k l owner (reads r used modified h is) = let no = works_only k owner h in absurd cc
@@ -98,7 +96,7 @@ clears_only {s = s} {d = d} awaits h = sym (clears_rule s d awaits.online awaits
 
 pub other_than : (s : Outline) (c d : ℕ) (P : Runner → Bool) → P (runner_at s.runners c) ≡ false
     → P (runner_at s.runners d) ≡ true → c ≢ d
-other_than s c d P out is same = no_both (ap (λ (i : ℕ). P (runner_at s.runners i)) same ∙ is) out
+other_than s c d P out is same = not_both (ap (λ (i : ℕ). P (runner_at s.runners i)) same ∙ is) out
 
 cleared_falls : (s : Outline) (c d : ℕ) (x : Runner) → IsKept s → AwaitsClear s c d
     → IsCleared (runner_at s.runners d) x
@@ -144,7 +142,7 @@ cleared_falls s c d x k awaits cleared =
 pub clear_step : (s : Outline) (c d : ℕ) (turn : Turn) (t : Outline) → IsKept s → AwaitsClear s c d → Step s d turn t
     → (job_rank t < job_rank s) × IsUnderWay s t c
 clear_step s c d turn t k awaits (ends ended) =
-    absurd (no_both (k.job.at_work c (Waiting awaits.work) awaits.waiting).running (ended.running c))
+    absurd (not_both (k.job.at_work c (Waiting awaits.work) awaits.waiting).running (ended.running c))
 clear_step s c d turn t k awaits (comes h) = let no = clears_only awaits h in absurd cc
 clear_step s c d turn t k awaits (clears x h cleared) = cleared_falls s c d x k awaits cleared
 clear_step s c d turn t k awaits (reads r used modified h is) = let no = clears_only awaits h in absurd cc

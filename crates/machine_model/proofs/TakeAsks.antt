@@ -32,9 +32,7 @@ use Rattle.machine_model.proofs.RuleKept.{AsksTake}
 use Rattle.machine_model.proofs.TakeLists.{pages_bound, pages_taken, trailers_taken}
 use Rattle.machine_model.proofs.TookKept.{ArePairs, CanTook, has_pair, is_pair}
 use Rattle.std.proofs.Math.Bool.{and-false}
-
-own : (n : ℕ) → eqb n n ≡ true
-own n = elim (eqb_tells n n) [ inl e ↦ e.0 | inr m ↦ absurd (m.1 refl) ]
+use Rattle.laws.proofs.Numbers.{eqb_self}
 
 module _ (s : State) (k : ℕ) (keeps : Keeps s) (idle : IsIdle s.owner) where
   -- where no page is taken
@@ -78,7 +76,7 @@ module _ (s : State) (k : ℕ) (keeps : Keeps s) (idle : IsIdle s.owner) where
       → ArePairs (seen s).linked (what.Seg (uid_of_number s.store k n)) (cond b ((k, n) ∷ []) [])
   one_taken n false e = tt
   one_taken n true e = let leads_there = connected_leads n e in (
-    (leads_there.0, leads_there.1, ap (λ (u : ℕ). eqb leads_there.0 u) leads_there.2 ∙ own leads_there.0),
+    (leads_there.0, leads_there.1, ap (λ (u : ℕ). eqb leads_there.0 u) leads_there.2 ∙ eqb_self leads_there.0),
     refl,
     tt,
   )
@@ -130,16 +128,16 @@ module _ (s : State) (k : ℕ) (keeps : Keeps s) (idle : IsIdle s.owner) where
   command_takes (command.Acl path row m) = let u = uid_of_command s.store k (command.Acl path row m) in record {
     pages = no_pages (what.Seg u);
     bound = λ f h. absurd (let none : false ≡ true = h in cc);
-    pairs_are = trailers_taken s (what.Seg u) u keeps (own u);
+    pairs_are = trailers_taken s (what.Seg u) u keeps (eqb_self u);
   }
   command_takes (command.Delete path) = let u = uid_of_command s.store k (command.Delete path) in record {
-    pages = pages_taken s aim.Committing (what.Seg u) u 0 keeps idle (own u) (λ gs ds. tt);
+    pages = pages_taken s aim.Committing (what.Seg u) u 0 keeps idle (eqb_self u) (λ gs ds. tt);
     bound = pages_bound s u 0 keeps;
-    pairs_are = trailers_taken s (what.Seg u) u keeps (own u);
+    pairs_are = trailers_taken s (what.Seg u) u keeps (eqb_self u);
   }
   command_takes (command.Truncate path words) = let u = uid_of_command s.store k
       (command.Truncate path words) in record {
-        pages = pages_taken s aim.Committing (what.Seg u) u (words / 1024) keeps idle (own u) (λ gs ds. tt);
+        pages = pages_taken s aim.Committing (what.Seg u) u (words / 1024) keeps idle (eqb_self u) (λ gs ds. tt);
         bound = pages_bound s u (words / 1024) keeps;
         pairs_are = tt;
       }

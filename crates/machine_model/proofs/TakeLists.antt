@@ -30,14 +30,12 @@ use Rattle.machine_model.proofs.ActiveSeen.{active_place}
 use Rattle.machine_model.proofs.ChainLaws.{CanTakeAll, bound_shown, names_uid}
 use Rattle.machine_model.proofs.OwnedLaws.{IsIdle}
 use Rattle.machine_model.proofs.OwnerLaws.{idle_names}
-use Rattle.machine_model.proofs.TieLaws.{none_some, page_is}
+use Rattle.machine_model.proofs.TieLaws.{none_some}
 use Rattle.machine_model.proofs.TookKept.{ArePairs, CanTook, has_pair}
+use Rattle.laws.proofs.Bools.{or_cases}
+use Rattle.laws.proofs.Options.{page_is}
 
 -- ---- pages
-
-or_cases : (a b : Bool) → (a || b) ≡ true → (a ≡ true) ⊎ (b ≡ true)
-or_cases true b h = inl refl
-or_cases false b h = inr h
 
 -- a word that is here
 here_word : (w : Ptw) (f : ℕ) → has (here_in w) f ≡ true → w ≡ ptw.Here f

@@ -27,11 +27,12 @@ use Rattle.machine_model.specs.Reads.{descriptor_of}
 use Rattle.machine_model.specs.Seen.{Seen}
 use Rattle.machine_model.specs.State.{State}
 use Rattle.machine_model.specs.Steps.{with_word}
-use Rattle.machine_model.proofs.ChainLaws.{has_head, has_tail, here_after}
+use Rattle.machine_model.proofs.ChainLaws.{here_after}
 use Rattle.machine_model.proofs.ListLaws.{map_list, put_lists, within_by}
 use Rattle.machine_model.proofs.Places.{put_two_map}
 use Rattle.machine_model.proofs.TieLaws.{none_some}
 use Rattle.machine_model.proofs.WordLaws.{word_put, word_within}
+use Rattle.custody_model.proofs.SharedLaws.{has_head, has_tail}
 
 -- ---- pages
 

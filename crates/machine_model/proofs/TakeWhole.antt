@@ -3,7 +3,6 @@
 use Rattle.std.proofs.Common.{◌≡◌, ◌≢◌, ◌≤◌, ℕ, zero, suc, ◌+◌, Bool, true, false, ◌||◌, cond, eqb, count_by}
 use Rattle.std.proofs.Common.{List, [], ◌∷◌, get_or, Option, Some, None, ◌⊎◌, inl, inr, refl, sym}
 use Rattle.std.proofs.Common.{ap, subst, ◌∙◌, arith}
-use Rattle.std.proofs.lemmas.Bool.Decides.{eqb_tells}
 use Rattle.std.proofs.lemmas.List.Folds.{list_any-append}
 use Rattle.std.proofs.lemmas.List.Sums.{sum_by-cons}
 use Rattle.assoc_mem.specs.declared.What.{What}
@@ -38,20 +37,9 @@ use Rattle.machine_model.proofs.TieLaws.{none_some}
 use Rattle.machine_model.proofs.TookKept.{ArePairs, CanTook, has_pair, is_pair, linked_before, pairs_left, took_keeps}
 use Rattle.machine_model.proofs.WholeLaws.{whole_idle}
 use Rattle.machine_model.proofs.TieLaws.{page_used}
-
-or_true : (a : Bool) → (a || true) ≡ true
-or_true true = refl
-or_true false = refl
-
-or_cases : (a b : Bool) → (a || b) ≡ true → (a ≡ true) ⊎ (b ≡ true)
-or_cases true b h = inl refl
-or_cases false b h = inr h
-
-own : (n : ℕ) → eqb n n ≡ true
-own n = elim (eqb_tells n n) [ inl e ↦ e.0 | inr m ↦ absurd (m.1 refl) ]
-
-one_of : (v u : ℕ) → Some v ≡ Some u → v ≡ u
-one_of v u h = cc
+use Rattle.laws.proofs.Options.{some_same}
+use Rattle.laws.proofs.Bools.{or_cases, or_true}
+use Rattle.laws.proofs.Numbers.{eqb_self}
 
 -- ---- what is listed
 
@@ -60,7 +48,7 @@ pub frame_listed : (ws : List Ptw) (q f : ℕ) → get_or ws q ptw.Null ≡ ptw.
 frame_listed [] q f h = absurd (let no : ptw.Null ≡ ptw.Here f = h in cc)
 frame_listed (w ∷ ws) zero f h = list_any-append (λ y. eqb y f) (here_in w) (frames_in ws)
     ∙ ap (λ (b : Bool). b || has (frames_in ws) f)
-    (ap (λ (x : Ptw). has (here_in x) f) h ∙ ap (λ (b : Bool). b || false) (own f))
+    (ap (λ (x : Ptw). has (here_in x) f) h ∙ ap (λ (b : Bool). b || false) (eqb_self f))
 frame_listed (w ∷ ws) (suc q) f h = list_any-append (λ y. eqb y f) (here_in w) (frames_in ws)
     ∙ (ap (λ (b : Bool). has (here_in w) f || b) (frame_listed ws q f h) ∙ or_true (has (here_in w) f))
 
@@ -101,7 +89,7 @@ trailer_listed s u k n keeps active linked = ap (λ (xs : List (ℕ × ℕ)). ha
 
     once : times (leads_at s.store.links.descriptors k n) place ≡ 1
     once = ap (λ (o : Option ℕ). times o place) (by (descriptor_of s.store.links k n) refl linked)
-        ∙ ap tally (own place)
+        ∙ ap tally (eqb_self place)
 
 -- ---- what the owner has taken
 
@@ -227,7 +215,7 @@ took_whole s c u k idle active unread = record { pages = pages; descriptors = de
     now = took s c a w fs xs
 
     can : CanTook s a w fs xs
-    can = segment_takes s a w u 0 k idle (own u) (λ gs cs. refl)
+    can = segment_takes s a w u 0 k idle (eqb_self u) (λ gs cs. refl)
 
     book : KeepsBook (seen now)
     book = (took_keeps s c a w fs xs k.store.kept.places k.book can).book
@@ -237,7 +225,7 @@ took_whole s c u k idle active unread = record { pages = pages; descriptors = de
     frame_here f p ptw.Null b e h = absurd (none_some h)
     frame_here f p (ptw.Out r) b e h = absurd (none_some h)
     frame_here f p (ptw.Here g) b e h = frame_listed (table_of s.store.ast u) p f
-        (e ∙ ap (λ (x : ℕ). ptw.Here x) (one_of g f h))
+        (e ∙ ap (λ (x : ℕ). ptw.Here x) (some_same g f h))
     frame_here f p (ptw.Leaving g) b e h = absurd (let no : true ≡ false =
         sym (ap (λ (x : Option (ℕ × ℕ)). is_going_frame (frame_use (seen s).words x ((seen s).reads f))) b
         ∙ ap (λ (x : Ptw). is_going_frame (bound_use (u, p) x)) e)
@@ -255,12 +243,12 @@ took_whole s c u k idle active unread = record { pages = pages; descriptors = de
             → uid_of_page (page_of (frame_use (seen now).words x y)) ≡ Some u → has fs f ≡ true
         by None None b r e = absurd (none_some e)
         by None (Some page) b r e = absurd (unread f page.1
-            (r ∙ ap (λ (v : ℕ). Some (v, page.1)) (one_of page.0 u e)))
+            (r ∙ ap (λ (v : ℕ). Some (v, page.1)) (some_same page.0 u e)))
         by (Some page) y b r e = frame_here f page.1 ((seen s).words u page.1) is refl (k.book.tied.named f u page.1 is)
           where
             is : (seen s).bound f ≡ Some (u, page.1)
             is = b ∙ ap (λ (v : ℕ). Some (v, page.1))
-                (one_of page.0 u (sym (ap uid_of_page (page_used page ((seen now).words page.0 page.1))) ∙ e))
+                (some_same page.0 u (sym (ap uid_of_page (page_used page ((seen now).words page.0 page.1))) ∙ e))
 
     descriptors : (j n : ℕ) → leads_to ((shown (seen now)).descriptor j n) ≡ Some u
         → is_going_descriptor ((shown (seen now)).descriptor j n) ≡ true
@@ -271,7 +259,7 @@ took_whole s c u k idle active unread = record { pages = pages; descriptors = de
         by None None e d g = absurd (none_some g)
         by None (Some v) e d g = λ i. is_going_descriptor (descriptor_use (e i) (d i))
         by (Some v) y e d g = book.going_owned.cuts j n ∙ cut_has mid c a w xs j n (inr (trailer_listed s u j n k active
-            (took_linked s c a w fs xs can.pairs_are j n u (e ∙ ap (λ (x : ℕ). Some x) (one_of v u g)))))
+            (took_linked s c a w fs xs can.pairs_are j n u (e ∙ ap (λ (x : ℕ). Some x) (some_same v u g)))))
 
 -- where there is nothing to take, a segment is whole already
 pub nothing_whole : (s : State) (c u : ℕ) → Keeps s → IsIdle s.owner → is_active s.store.ast u ≡ true
@@ -324,7 +312,7 @@ begun_whole s c u k idle none active unread = by (frames_from s.store.ast u 0) (
     whole = record {
       whole = λ v h. elim goes [
         | inl e ↦ absurd (none_some (sym e ∙ h))
-        | inr e ↦ subst (λ (x : ℕ). IsWhole (shown (seen now)) x) (one_of u v (sym e ∙ h))
+        | inr e ↦ subst (λ (x : ℕ). IsWhole (shown (seen now)) x) (some_same u v (sym e ∙ h))
             (took_whole s c u k idle active unread)
       ];
     }

@@ -7,6 +7,7 @@ use Rattle.machine_model.specs.Custodial.{IsTied, names, is_out}
 use Rattle.custody_model.specs.Custody.{bound_page, page_of}
 use Rattle.machine_model.specs.Seen.{frame_use, bound_use}
 use Rattle.machine_model.proofs.Places.{by_place, by_places, put_other}
+use Rattle.laws.proofs.Options.{page_is}
 
 pub none_some : {A : Type 0} {x : A} → None ≡ Some x → ⊥
 none_some h = cc
@@ -21,10 +22,6 @@ first_or (Some x) = x.0
 abbrev second_or : Option (ℕ × ℕ) → ℕ
 second_or None = 0
 second_or (Some x) = x.1
-
--- two names of one page
-pub page_is : (u p v q : ℕ) → ◌≡◌ {A = Option (ℕ × ℕ)} (Some (u, p)) (Some (v, q)) → (u ≡ v) × (p ≡ q)
-page_is u p v q h = (ap first_or h, ap second_or h)
 
 pub out_none : (w : Ptw) → is_out w ≡ true → names w ≡ None
 out_none ptw.Null h = refl

@@ -1,5 +1,5 @@
 -- The machine keeps its promise where a job takes pages and cuts descriptors.
-use Rattle.std.proofs.Common.{◌≡◌, ℕ, Bool, true, false, ◌&&◌, ◌||◌, eqb, count_by, List, [], ◌∷◌, ◌++◌, length, Option}
+use Rattle.std.proofs.Common.{◌≡◌, ℕ, Bool, true, false, ◌&&◌, eqb, count_by, List, [], ◌∷◌, ◌++◌, length, Option}
 use Rattle.std.proofs.Common.{Some, None, inl, inr, refl, sym, ap, subst, ◌∙◌, arith}
 use Rattle.std.specs.List.{list_any}
 use Rattle.std.proofs.lemmas.Bool.Decides.{eqb_tells}
@@ -30,6 +30,8 @@ use Rattle.machine_model.proofs.Places.{by_places}
 use Rattle.machine_model.proofs.TakeSeen.{HasTables, cut_one_seen, take_all_seen}
 use Rattle.machine_model.proofs.TieLaws.{none_some}
 use Rattle.machine_model.proofs.TransferKept.{kept_with}
+use Rattle.laws.proofs.Bools.{not_both}
+use Rattle.std.proofs.lemmas.Bool.{or_parts}
 
 -- ---- descriptors
 
@@ -46,18 +48,11 @@ ArePairs linked w [] = Unit {0}
 ArePairs linked w (x ∷ xs) = ((u : ℕ) × (linked x.0 x.1 ≡ Some u) × (names_uid w u ≡ true)) ×
     (has_pair xs x.0 x.1 ≡ false) × ArePairs linked w xs
 
-no_and : {b : Bool} → b ≡ true → b ≡ false → ⊥
-no_and t f = let no : true ≡ false = sym t ∙ f in cc
-
 pair_same : (x : ℕ × ℕ) (k n : ℕ) → x.0 ≡ k → x.1 ≡ n → is_pair k n x ≡ true
 pair_same x k n a b = elim (eqb_tells x.0 k) [
   | inl e ↦ elim (eqb_tells x.1 n) [ inl i ↦ rw (e.0, i.0) refl | inr m ↦ absurd (m.1 b) ]
   | inr m ↦ absurd (m.1 a)
 ]
-
-or_parts : (a b : Bool) → (a || b) ≡ false → (a ≡ false) × (b ≡ false)
-or_parts false b h = (refl, h)
-or_parts true b h = absurd (let no : true ≡ false = h in cc)
 
 pub pairs_kept : (linked : ℕ → ℕ → Option ℕ) (w : What) (k n : ℕ) (xs : List (ℕ × ℕ)) → has_pair xs k n ≡ false
     → ArePairs linked w xs
@@ -67,7 +62,7 @@ pairs_kept linked w k n (x ∷ xs) none are = (
   (
     are.0.0,
     by_places (λ (o : Option ℕ). o ≡ Some are.0.0) linked k n None x.0 x.1
-        (λ a b. absurd (no_and (pair_same x k n a b) (or_parts (is_pair k n x) (has_pair xs k n) none).0))
+        (λ a b. absurd (not_both (pair_same x k n a b) (or_parts (is_pair k n x) (has_pair xs k n) none).0))
         (λ m. are.0.1),
     are.0.2,
   ),

@@ -20,7 +20,8 @@ use Rattle.machine_model.proofs.FrameLaws.{in_no_frame}
 use Rattle.machine_model.proofs.HeldLaws.{right_frame, right_like}
 use Rattle.machine_model.proofs.OwnedLaws.{like_frame, owned_like}
 use Rattle.machine_model.proofs.Places.{by_place, one_place, put_here, put_other, put_two_here}
-use Rattle.machine_model.proofs.TieLaws.{none_some, out_none, page_is, tied_start, tied_lost, tied_here, other_use_here}
+use Rattle.machine_model.proofs.TieLaws.{none_some, out_none, tied_start, tied_lost, tied_here, other_use_here}
+use Rattle.laws.proofs.Options.{page_is}
 
 -- ---- processors with their transfers
 

@@ -40,7 +40,7 @@ use Rattle.machine_model.specs.Seen.{frame_use as use_of}
 use Rattle.machine_model.specs.State.{State, Storage}
 use Rattle.machine_model.specs.Steps.{with_owner, with_pages}
 use Rattle.machine_model.specs.Taking.{IsTakenFor}
-use Rattle.machine_model.proofs.ChainLaws.{going_word, has_head, has_tail}
+use Rattle.machine_model.proofs.ChainLaws.{going_word}
 use Rattle.machine_model.proofs.CommitAsks.{IsOut, RestsTruncate}
 use Rattle.machine_model.proofs.CommitKept.{effected}
 use Rattle.machine_model.proofs.CommitRests.{cut_led, none_cut, page_bound, path_uid}
@@ -52,7 +52,7 @@ use Rattle.machine_model.proofs.PageShown.{bound_word}
 use Rattle.machine_model.proofs.Places.{by_place, by_places}
 use Rattle.flat_model.proofs.QuotaTotals.{only_found}
 use Rattle.machine_model.proofs.TakeSeen.{binding_is, words_put}
-use Rattle.machine_model.proofs.TieLaws.{none_some, page_is}
+use Rattle.machine_model.proofs.TieLaws.{none_some}
 use Rattle.machine_model.proofs.TruncateKept.{QuietWords, all_left, cut_store, leaf, leaves, segment}
 use Rattle.machine_model.proofs.TransferKept.{active_at}
 use Rattle.machine_model.proofs.WordLaws.{word_within}
@@ -61,12 +61,9 @@ use Rattle.std.proofs.Math.Bool.{and-false}
 use Rattle.machine_model.proofs.JobKept.{set_same}
 use Rattle.page_control.specs.Plain.{binding_at}
 use Rattle.seg_control.specs.Kept.{read_at}
-
-no_and : {b : Bool} → b ≡ true → b ≡ false → ⊥
-no_and t f = let none : true ≡ false = sym t ∙ f in cc
-
-uid_same : (v u : ℕ) → Some v ≡ Some u → v ≡ u
-uid_same v u h = cc
+use Rattle.custody_model.proofs.SharedLaws.{has_head, has_tail}
+use Rattle.laws.proofs.Bools.{not_both}
+use Rattle.laws.proofs.Options.{page_is}
 
 -- ---- numbers in a row
 
@@ -82,7 +79,7 @@ range_has from (suc n) q low high = by (eqb_tells from q) (λ a b. range_has (fr
         ∙ rest (let ne = m.1 in omega (arith, low, ne)) (omega (arith, high))
 
 has_range : (from n q : ℕ) → has (range_with_len from n) q ≡ true → from ≤ q
-has_range from zero q h = absurd (no_and h refl)
+has_range from zero q h = absurd (not_both h refl)
 has_range from (suc n) q h = by (eqb_tells from q) (λ a. has_range (from + 1) n q a)
   where
     by : ((eqb from q ≡ true) × (from ≡ q)) ⊎ ((eqb from q ≡ false) × (from ≢ q))
@@ -251,14 +248,14 @@ page_cut st u p at h tie = by (word_in st u p) refl
             gone_null st u p at f h e (tie f e),
             ap (bound_in (gone_store st u p at f h e (tie f e))) (sym (its g i)) ∙ gone_free st u p at f h e (tie f e),
           );
-          kept = λ g i y. absurd (no_and
+          kept = λ g i y. absurd (not_both
               (ap (λ (x : ℕ). are_zeros (words_in (cut st.pages x at) x)) (sym (its g i)) ∙ z)
               y);
         }
         cases false z = subst (λ (x : Storage). IsCut st x u p at) (sym (here_is st u p at f h e (tie f e))) (record {
           begun = here_begun st u p at f h e (tie f e);
           quiet = λ n. absurd (n f e);
-          zeros = λ g i y. absurd (no_and y (ap (λ (x : ℕ). are_zeros (words_in (cut st.pages x at) x)) (sym (its g i))
+          zeros = λ g i y. absurd (not_both y (ap (λ (x : ℕ). are_zeros (words_in (cut st.pages x at) x)) (sym (its g i))
               ∙ z));
           kept = λ g i y. (
             here_this st u p at f h e (tie f e) ∙ ap (λ (x : ℕ). ptw.Here x) (its g i),
@@ -291,10 +288,10 @@ left_bound v test (f ∷ fs) g = left_bound (leaf v f (test f)) test fs g ∙ by
 
     leaf_kept : (b : Bool) → b ≡ true → (leaf v f b).bound g ≡ v.bound g
     leaf_kept true e = refl
-    leaf_kept false e = absurd (no_and e refl)
+    leaf_kept false e = absurd (not_both e refl)
 
     leaf_gone : (b : Bool) → b ≡ false → f ≡ g → (leaf v f b).bound g ≡ None
-    leaf_gone true e i = absurd (no_and refl e)
+    leaf_gone true e i = absurd (not_both refl e)
     leaf_gone false e i = ap (leaf v f false).bound (sym i) ∙ leaf_free v f
 
     by : ((eqb f g ≡ true) × (f ≡ g)) ⊎ ((eqb f g ≡ false) × (f ≢ g))
@@ -332,7 +329,7 @@ next_pages : (v : Seen) (f : ℕ) (fs : List ℕ) (page : ℕ → ℕ × ℕ) (b
 next_pages v f fs page b h = record {
   once = h.once.1;
   each = λ g i. ap page_or_zero (leaf_bound v f b g
-      (λ e. no_and (subst (λ (x : ℕ). has fs x ≡ true) e i) h.once.0)) ∙ h.each g (has_tail f fs g i);
+      (λ e. not_both (subst (λ (x : ℕ). has fs x ≡ true) e i) h.once.0)) ∙ h.each g (has_tail f fs g i);
   alone = λ g i x y. h.alone g i (has_tail f fs g x) (has_tail f fs i y);
 }
 
@@ -347,7 +344,7 @@ left_other v test (f ∷ fs) page w q h n = left_other (leaf v f (test f)) test 
 
 left_this : (v : Seen) (test : ℕ → Bool) (fs : List ℕ) (page : ℕ → ℕ × ℕ) (f : ℕ) → HavePages v fs page
     → has fs f ≡ true → (leaves v test fs).words (page f).0 (page f).1 ≡ cond (test f) (ptw.Here f) ptw.Null
-left_this v test [] page f h i = absurd (no_and i refl)
+left_this v test [] page f h i = absurd (not_both i refl)
 left_this v test (g ∷ gs) page f h i = by (eqb_tells g f)
     (λ x. left_this (leaf v g (test g)) test gs page f (next_pages v g gs page (test g) h) x)
   where
@@ -364,7 +361,7 @@ left_this v test (g ∷ gs) page f h i = by (eqb_tells g f)
     by (inr m) rest = rest (later m.1)
     by (inl e) rest = left_other (leaf v g (test g)) test gs page (page f).0 (page f).1
         (next_pages v g gs page (test g) h)
-        (λ j x a b. no_and (subst (λ (y : ℕ). has gs y ≡ true) (h.alone j f (has_tail g gs j x) i a b ∙ sym e.1) x)
+        (λ j x a b. not_both (subst (λ (y : ℕ). has gs y ≡ true) (h.alone j f (has_tail g gs j x) i a b ∙ sym e.1) x)
         h.once.0)
         ∙ (leaf_this v g (test g) (page f).0 (page f).1 (its (λ (x : ℕ × ℕ). x.0)) (its (λ (x : ℕ × ℕ). x.1))
         ∙ ap (λ (x : ℕ). cond (test x) (ptw.Here x) ptw.Null) e.1)
@@ -469,7 +466,7 @@ module _ (s : State) (c : ℕ) (path : Path) (size : ℕ) (keeps : Keeps s)
       ∙ frame_word f q (keeps.book.tied.back f u q (ap names e)) le in cc
 
   not_read : (f q : ℕ) → (seen s).reads f ≡ Some (u, q) → p ≤ q → ⊥
-  not_read f q e le = no_and (h.just.pages f u q (ap page_of is) (refl, le)) (ap is_going_frame is)
+  not_read f q e le = not_both (h.just.pages f u q (ap page_of is) (refl, le)) (ap is_going_frame is)
     where
       is : (shown (seen s)).frame f ≡ frame_use.Started u q
       is = ap (λ (x : Option (ℕ × ℕ)). use_of (seen s).words x ((seen s).reads f))
@@ -702,8 +699,8 @@ module _ (s : State) (c : ℕ) (path : Path) (size : ℕ) (keeps : Keeps s)
       by : (b : Bool) → has fs g ≡ b → bound_in cut_off g ≡ cond (has fs g && not (test g)) None ((seen s).bound g)
       by true e = (is_left g e (mine g e)).bound
           ∙ ap (λ (b : Bool). cond (b && not (test g)) None ((seen s).bound g)) (sym e)
-      by false e = over.bound g (λ q i w. no_and (word_taken u q g (mid_leaving q g w)).0 e)
-          ∙ (begun.bound g (λ w. no_and (word_taken u p g w).0 e)
+      by false e = over.bound g (λ q i w. not_both (word_taken u q g (mid_leaving q g w)).0 e)
+          ∙ (begun.bound g (λ w. not_both (word_taken u p g w).0 e)
           ∙ ap (λ (b : Bool). cond (b && not (test g)) None ((seen s).bound g)) (sym e))
 
   -- ---- words
@@ -838,13 +835,13 @@ module _ (s : State) (c : ℕ) (path : Path) (size : ℕ) (keeps : Keeps s)
 
       by : (b : Bool) → is_zero_page words u p ≡ b → b ≡ false
       by false e = refl
-      by true e = absurd (no_and (cut_zeros st f at (zero_before e)) nonzero)
+      by true e = absurd (not_both (cut_zeros st f at (zero_before e)) nonzero)
 
   -- a page that is in a frame then isn't lost
   stays_whole : (f q : ℕ) → has fs f ≡ true → (m : IsMine f) → m.page ≡ q → test f ≡ true
       → is_lost words u size q ≡ false
   stays_whole f q e m is on = elim (leb_tells first q) [
-    | inl x ↦ absurd (no_and on (test_past f e m (let le = x.1 in omega (arith, le, is))))
+    | inl x ↦ absurd (not_both on (test_past f e m (let le = x.1 in omega (arith, le, is))))
     | inr x ↦ (let lt = x.1 in let past = m.past in let same : q ≡ p = omega (arith, lt, past, is) in
         subst (λ (j : ℕ). is_lost words u size j ≡ false) (sym same)
         (cut_whole (is ∙ same) (λ z. (omega (arith, lt, past, is, z)))))
@@ -864,7 +861,7 @@ module _ (s : State) (c : ℕ) (path : Path) (size : ℕ) (keeps : Keeps s)
             where
               by : (b : Bool) → are_zeros (words_in (cut st.pages f at) f) ≡ b → b ≡ false
               by false i = refl
-              by true i = absurd (no_and on (test_cut f e m same some ∙ ap not i))
+              by true i = absurd (not_both on (test_cut f e m same some ∙ ap not i))
 
   bound_whole : (f q : ℕ) → (seen s).bound f ≡ Some (u, q) → (has fs f ≡ true → test f ≡ true)
       → is_lost words u size q ≡ false
@@ -888,7 +885,7 @@ module _ (s : State) (c : ℕ) (path : Path) (size : ℕ) (keeps : Keeps s)
           absurd (none_some (sym (λ t. cond (i t && not (j t)) None ((seen s).bound f)) ∙ x))
       by false b i j x = (
         sym (ap (λ (y : Bool). cond (y && not (test f)) None ((seen s).bound f)) i) ∙ x,
-        λ y. absurd (no_and y i),
+        λ y. absurd (not_both y i),
       )
 
   loses_none : LosesNoPage (flat_of s) (shown (seen (with_owner (effected s (process_at s c)

@@ -36,7 +36,8 @@ use Rattle.flat_model.proofs.PlaceLaws.{place_within, process_weighs}
 use Rattle.machine_model.specs.Promise.{KeepsAll}
 use Rattle.machine_model.specs.Reads.{flat_of}
 use Rattle.machine_model.specs.State.{State}
-use Rattle.machine_model.proofs.RunLaws.{deleted_same, effect_same, is_there, truncated_same}
+use Rattle.machine_model.proofs.RunLaws.{deleted_same, effect_same, truncated_same}
+use Rattle.flat_model.proofs.SharedLaws.{going_within}
 
 -- ---- a command takes one uid at the most
 
@@ -143,7 +144,7 @@ do_bounded : (p : Plan) (s : Store) (k : ℕ) (c : Command) (r : Reply) → IsBo
     → IsBounded p (after_command p s k c r)
 unfolding after_command
 do_bounded p s k c r b going at = moved_bounded p s (after_command p s k c r) k (gone_on (progress_of s k) c r) b
-    (is_there s k going) (ap (λ (xs : List Progress). set xs k (gone_on (progress_of s k) c r))
+    (going_within s k going) (ap (λ (xs : List Progress). set xs k (gone_on (progress_of s k) c r))
     (base_same (takes_effect r))) (by (tries_on (progress_of s k) c r)) (moves (tries_on (progress_of s k) c r) refl)
   where
     lt : (progress_of s k).place < length (commands_of p k)
@@ -187,7 +188,7 @@ entry_bounded p s (entry.Fault process) b h = by process h
     by : (x : Option ℕ) → MayFault s x → IsBounded p (after_fault s x)
     by None i = b
     by (Some k) i = moved_bounded p s (after_fault s (Some k)) k (record (progress_of s k) { faulted = true }) b
-        (is_there s k i) refl (b.places k (is_there s k i)) (omega arith)
+        (going_within s k i) refl (b.places k (going_within s k i)) (omega arith)
 entry_bounded p s (entry.Moved k uid volume) b h = record { count = b.count; places = b.places; next = b.next }
 entry_bounded p s _ b h = b
 

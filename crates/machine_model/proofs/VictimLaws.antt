@@ -40,9 +40,7 @@ use Rattle.machine_model.proofs.OffChain.{pool_one_off}
 use Rattle.machine_model.proofs.PoolRoom.{range_has}
 use Rattle.machine_model.proofs.TieLaws.{none_some}
 use Rattle.machine_model.proofs.TransferKept.{active_at}
-
-no_and : {b : Bool} → b ≡ true → b ≡ false → ⊥
-no_and t f = let none : true ≡ false = sym t ∙ f in cc
+use Rattle.laws.proofs.Bools.{not_both}
 
 -- ---- links
 
@@ -105,7 +103,7 @@ inferior_tells u o h = by (active.superior_in o) refl h
     by None e i = absurd (let none : false ≡ true = i in cc)
     by (Some w) e i = elim (eqb_tells w u) [
       | inl x ↦ e ∙ ap (λ (y : ℕ). Some y) x.1
-      | inr n ↦ absurd (no_and i n.0)
+      | inr n ↦ absurd (not_both i n.0)
     ]
 
 -- ---- chains
@@ -199,7 +197,7 @@ module _ (s : State) (keeps : Keeps s) (about : ℕ) where
 
           not_link : (b : Bool) → is_link chain w.0 ≡ b → is_link chain w.0 ≡ false
           not_link false e = e
-          not_link true e = absurd (no_and (member_link chain u (link_up ns tree about w.0 u
+          not_link true e = absurd (not_both (member_link chain u (link_up ns tree about w.0 u
               (link_member chain w.0 e) (superior_is q w.0 u w.1 sup)))
               (off_uid (entry_at entries place) u off at))
 
@@ -277,7 +275,7 @@ pool_some (a ∷ b ∷ c ∷ d ∷ []) h n = by n.directory (nat_le n.pages 4) (
     by false false false false = let one = h.3 in omega (arith, one)
 pool_some (a ∷ b ∷ c ∷ d ∷ e ∷ rest) h n = absurd h
 
-first_pool : (sizes : List ℕ) → ArePools sizes → 12 ≤ size_of sizes 0
+pub first_pool : (sizes : List ℕ) → ArePools sizes → 12 ≤ size_of sizes 0
 first_pool [] h = absurd h
 first_pool (a ∷ []) h = absurd h
 first_pool (a ∷ b ∷ []) h = absurd h
@@ -332,7 +330,7 @@ module _ (s : State) (m : IsMachine s) (about wanted : ℕ) where
     link_in_first : (u q : ℕ) → pool_of n ≢ 0 → uid_at s.store.ast.entries q ≡ Some u
         → IsMember u (chain_of nodes about) → IsInPool s.store.ast.sizes 0 q
     link_in_first u q other here member = elim (link_directory nodes whole about u member) [
-      | inl e ↦ absurd (no_and (active_at s.store.ast q u here) (elim (link_directory nodes whole about wanted
+      | inl e ↦ absurd (not_both (active_at s.store.ast q u here) (elim (link_directory nodes whole about wanted
           (found_member (λ w. not (is_active s.store.ast w)) (chain_of nodes about) wanted first)) [
             | inl i ↦ ap (is_active s.store.ast) (e ∙ sym i) ∙ idle_of first
             | inr i ↦ absurd (other (directory_pool wanted n at i))
@@ -415,7 +413,7 @@ one_read core some full none unread = by (frame_at core 0) refl
     no_bound (Some f) y h = absurd (none_some (sym h))
 
     by : (x : Frame) → frame_at core 0 ≡ x → ⊥
-    by frame.Free e = no_and (ap is_free e) (first_taken core.frames some full)
-    by (frame.Started u p) e = no_and (ap is_started e) (position_none is_started core.frames frame.Free 0 unread refl)
+    by frame.Free e = not_both (ap is_free e) (first_taken core.frames some full)
+    by (frame.Started u p) e = not_both (ap is_started e) (position_none is_started core.frames frame.Free 0 unread refl)
     by (frame.Bound u p used modified) e = member_found (λ f. is_bound (frame_at core f)) (round_frames core) 0 first
         (ap is_bound e) (no_bound _ _ none)

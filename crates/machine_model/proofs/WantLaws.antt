@@ -26,10 +26,8 @@ use Rattle.machine_model.specs.State.{State}
 use Rattle.machine_model.proofs.LookFacts.{IsInside}
 use Rattle.machine_model.proofs.MoveAsks.{who_is}
 use Rattle.machine_model.proofs.OutlineReads.{at_outline}
-use Rattle.flat_model.proofs.QuotaTotals.{found_uid}
-
-no_and : {b : Bool} → b ≡ true → b ≡ false → ⊥
-no_and t f = let none : true ≡ false = sym t ∙ f in cc
+use Rattle.tree_model.proofs.SharedLaws.{found_uid}
+use Rattle.laws.proofs.Bools.{not_both}
 
 -- ---- a processor that has a process
 
@@ -110,7 +108,7 @@ module _ (nodes : List Node) (who : Who) (numbers : List (List (Option ℕ))) (k
     (uid page : ℕ) (makes : Bool) where
   none_refers : (w : Want) → w ≡ Refer chain uid page makes → is_refer w ≡ false → ⊥
   unfolding is_refer
-  none_refers w h off = no_and (ap is_refer h) off
+  none_refers w h off = not_both (ap is_refer h) off
 
   node_refers : (v : ℕ) (n : Node) → uid_of (kst_at numbers k) r.number ≡ Some v → node_in nodes v ≡ Some n
       → want_in nodes who r (Some n) ≡ Refer chain uid page makes → IsReferring nodes numbers k r chain uid page makes
@@ -151,7 +149,7 @@ refers s k r chain uid page makes h = number_refers s.store.accounts.nodes (who_
 pub tree_wants : (nodes : List Node) (c : Command) (chain : List ℕ) (uid page : ℕ) (makes : Bool)
     → want_of_command nodes c ≡ Refer chain uid page makes → ⊥
 unfolding is_refer
-tree_wants nodes c chain uid page makes h = no_and (ap is_refer h) (by c)
+tree_wants nodes c chain uid page makes h = not_both (ap is_refer h) (by c)
   where
     cut : (words : ℕ) (x : Result Node Reply) → is_refer (want_truncated nodes words x) ≡ false
     cut words (Err e) = refl

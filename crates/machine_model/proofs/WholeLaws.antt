@@ -20,6 +20,7 @@ use Rattle.machine_model.specs.State.{Owner, State}
 use Rattle.machine_model.specs.Whole.{IsWhole, Spares, TakenWhole, going_for}
 use Rattle.machine_model.proofs.Places.{by_place, by_places}
 use Rattle.machine_model.proofs.TieLaws.{none_some}
+use Rattle.laws.proofs.Options.{some_same}
 
 -- one frame is used otherwise: for nothing of the segment, or for what is going
 frame_whole : (c : Custody) (u f : ℕ) (x : FrameUse) → IsWhole c u
@@ -54,9 +55,6 @@ cut_whole : (x : DescriptorUse) (u : ℕ) → (leads_to x ≡ Some u → is_goin
 cut_whole descriptor.Free u w h = w h
 cut_whole (descriptor.Current v) u w h = refl
 cut_whole (descriptor.Going v) u w h = refl
-
-some_same : (v u : ℕ) → Some v ≡ Some u → v ≡ u
-some_same v u h = cc
 
 -- only seats, the ready list or what is active changes
 seat_whole : (c e : Custody) (u : ℕ) → e.frame ≡ c.frame → e.descriptor ≡ c.descriptor → IsWhole c u → IsWhole e u

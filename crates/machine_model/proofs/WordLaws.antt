@@ -14,10 +14,7 @@ use Rattle.seg_control.specs.Effects.{worded}
 use Rattle.custody_model.specs.Next.{at_put_two}
 use Rattle.machine_model.proofs.ListLaws.{put_list}
 use Rattle.machine_model.proofs.Places.{put_other}
-
-by_not : (b : Bool) → not b ≡ false → b ≡ true
-by_not true h = refl
-by_not false h = absurd (let no : true ≡ false = h in cc)
+use Rattle.laws.proofs.Bools.{by_not}
 
 -- what is found passes the test
 pub found : {X : Type 0} (p : X → Bool) (xs : List X) (d : X) → position_or_len p xs < length xs

@@ -49,9 +49,7 @@ use Rattle.machine_model.proofs.WholeLaws.{whole_next}
 use Rattle.std.proofs.lemmas.List.{append-nil, append_assoc}
 use Rattle.core_map.specs.declared.Frame.{Frame}
 use Rattle.core_map.specs.declared.Frame.TheVariants as frame
-
-no_and : {b : Bool} → b ≡ true → b ≡ false → ⊥
-no_and t f = let none : true ≡ false = sym t ∙ f in cc
+use Rattle.laws.proofs.Bools.{not_both}
 
 -- ---- entries that spare a segment
 
@@ -276,5 +274,5 @@ module _ (s : State) (k : ℕ) (cmd : Command) (keeps : Keeps s) where
 
           by : (b : Bool) → is_stored (flat_of s).stored leads.node.uid q ≡ b → b ≡ false
           by false e = refl
-          by true e = absurd (no_and (stored_from (flat_of s).stored leads.node.uid finds.pages q e le_tells)
+          by true e = absurd (not_both (stored_from (flat_of s).stored leads.node.uid finds.pages q e le_tells)
               (none_from_is s k finds.path finds.pages leads.node leads.found stands))

@@ -90,12 +90,12 @@ use Rattle.machine_model.proofs.EmptyAsks.{segment_inferiors, unread_any}
 use Rattle.machine_model.proofs.JustLaws.{AllStay, LeavesTaken, just_on, started_free, taken_in}
 use Rattle.machine_model.proofs.KeepLaws.{IsNoOwner}
 use Rattle.machine_model.proofs.ListSizes.{frames_from_few, trailers_few}
-use Rattle.machine_model.proofs.NumberLaws.{cut_less_frame, cut_signalled, less_few, signalled_few, took_few}
+use Rattle.machine_model.proofs.NumberLaws.{cut_signalled, less_few, signalled_few, took_few}
 use Rattle.machine_model.proofs.NumberLaws.{took_numbered}
 use Rattle.machine_model.proofs.OutlineTake.{HasTakenFrames, LooksLike, took_like, took_owner}
 use Rattle.machine_model.proofs.OwnedLaws.{IsIdle}
 use Rattle.machine_model.proofs.RuleKept.{IsLooking, IsMoving}
-use Rattle.machine_model.proofs.SaysLaws.{left_flat}
+use Rattle.machine_model.proofs.SaysLaws.{left_flat, cut_less}
 use Rattle.machine_model.proofs.ScheduleKept.{told_seats}
 use Rattle.machine_model.proofs.StandLaws.{stands_on}
 use Rattle.machine_model.proofs.StepKept.{IsMine}
@@ -108,6 +108,7 @@ use Rattle.machine_model.proofs.WorkKept.{AllSpare, IsLess, fails_in_less, fails
 use Rattle.machine_model.proofs.WorkKept.{frame_less, moved_on, moves_in_on, past_moved, referred_less, same_less}
 use Rattle.machine_model.proofs.WorkKept.{unread_less}
 use Rattle.std.proofs.lemmas.List.{append_assoc}
+use Rattle.laws.proofs.Options.{some_same}
 
 -- ---- the owner makes nothing inactive
 
@@ -121,9 +122,6 @@ none_work now none = record {
   moves = λ o h. absurd (none_some (sym none ∙ h));
   few = subst OwnsFew (sym none) (omega arith);
 }
-
-some_same : {A : Type 0} (x y : A) → Some x ≡ Some y → x ≡ y
-some_same x y h = cc
 
 -- an owner that looks
 pub looking_work : (now : State) (q : Owner) → now.owner ≡ Some q → q.phase ≡ phase.Looking
@@ -451,7 +449,7 @@ module _ (s : State) (c : ℕ) (k : Keeps s) (w : IsWorking s) where
     leaf = λ u h. leaf_like s.store now.store u (nodes_left how f (page_in s.store f)) (λ v. refl)
         (w.leaf u (sym (goes_less s.owner) ∙ h));
     fails = λ q h. by s.owner refl q h;
-    numbered = subst (AreNumbered s.store.links.known) (sym (cut_less_frame s.owner)) w.numbered;
+    numbered = subst (AreNumbered s.store.links.known) (sym (cut_less s.owner)) w.numbered;
     few = less_few s.owner w.few;
     taken = λ q h. takes s.owner refl q h;
     moves = λ q h. moved s.owner refl q h;

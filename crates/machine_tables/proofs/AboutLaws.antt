@@ -6,7 +6,7 @@ use Rattle.dir_tree.specs.declared.node.PathFault.{PathFault}
 use Rattle.tree_model.specs.Tree.{InSegment, LeadsTo, Missing, Node, Walk, node_in, walk_in}
 use Rattle.flat_model.specs.Branches.{node_at, there_or, walked}
 use Rattle.machine_model.specs.Refusal.{uid_of_node}
-use Rattle.flat_model.proofs.QuotaTotals.{found_uid}
+use Rattle.tree_model.proofs.SharedLaws.{found_uid}
 
 led_to : (ns : List Node) (w : Walk) (u : ℕ) → Ok u ≡ path_answer w → is_some (node_in ns u) ≡ true
     → u ≡ uid_of_node (walked ns w)

@@ -11,9 +11,10 @@ use Rattle.machine_tables.specs.Owned.{HasOwner}
 use Rattle.machine_tables.specs.Parts.{KeepsSeats}
 use Rattle.machine_model.specs.Returned.{MayComeBack, MayRelink}
 use Rattle.machine_model.proofs.MoverTied.{here_moving}
-use Rattle.machine_tables.proofs.JobLaws.{cut_same, cuts_after, frames_next}
+use Rattle.machine_tables.proofs.JobLaws.{cuts_after, frames_next}
 use Rattle.machine_tables.proofs.JobLaws.{owner_left}
 use Rattle.machine_tables.proofs.JobLaws.{owner_less}
+use Rattle.machine_model.proofs.SaysLaws.{cut_less}
 
 -- what the owner took is gone through, one after the other: what is done to all that is left comes to the same
 pub record Empties {A : Type 0} (items : Option Owner → List A) (all : State → List A → State) (now first : State)
@@ -61,7 +62,7 @@ backs_next s t first f on h is seats =
       may = subst (λ (x : State). MayComeBack x.store (frames_of_owner x.owner)) (sym is)
           (subst (MayComeBack s.store) next on.may).1;
       seats = seats;
-      cut = ap (λ (x : State). cut_of_owner x.owner) is ∙ cut_same s.owner ∙ on.cut;
+      cut = ap (λ (x : State). cut_of_owner x.owner) is ∙ cut_less s.owner ∙ on.cut;
       still = ap (λ (x : State). x.store.moving) is ∙ here_moving s.store f ∙ on.still;
     }
 

@@ -18,7 +18,7 @@ use Rattle.descriptor_seg.specs.Descriptors.{sdw_at}
 use Rattle.seg_control.specs.Control.{Links, leads_at, sdws_at}
 use Rattle.seg_control.specs.Effects.{unlinked}
 use Rattle.machine_model.specs.declared.Aim.{Aim}
-use Rattle.machine_model.specs.Jobs.{cut_all, cut_one, note_of, take_all, took}
+use Rattle.machine_model.specs.Jobs.{cut_all, cut_one, take_all, took}
 use Rattle.machine_model.specs.Reads.{connected_of, cut_of_owner, descriptor_of, is_connected}
 use Rattle.machine_model.specs.State.{State}
 use Rattle.machine_model.proofs.TieLaws.{none_some}
@@ -28,7 +28,9 @@ use Rattle.machine_tables.specs.Claimed.{cuts_in, number_in}
 use Rattle.machine_tables.specs.Owned.{HasOwner}
 use Rattle.machine_tables.specs.Parts.{Parts, with_state}
 use Rattle.machine_tables.proofs.TakeLaws.{owner_still, room_less}
-use Rattle.machine_tables.proofs.TookLaws.{cut_still, links_still, trailers_still}
+use Rattle.machine_tables.proofs.TookLaws.{links_still, trailers_still}
+use Rattle.machine_model.proofs.NumberLaws.{take_cut, cut_long}
+use Rattle.machine_model.proofs.OutlineTake.{cut_known}
 
 -- ---- while pages are taken
 
@@ -54,7 +56,7 @@ claim_after s t c a w fs k uid x is knows owner few room = subst (λ (y : State)
     (record {
       knows = subst (λ (ls : Links). k < length ls.known) (sym (links_still s c a w fs)) knows;
       owner = owner_still s c a w fs owner;
-      few = let cut = ap length (cut_still s c a w fs) in let all = ap length (cuts_still s c a w fs k uid x) in
+      few = let cut = ap length (take_cut s c a w fs) in let all = ap length (cuts_still s c a w fs k uid x) in
           omega (arith, cut, all, few);
       room = let spent = room_less s c a w fs (omega (arith, room)) in
           let all = ap length (cuts_still s c a w fs k uid x) in omega (arith, spent, all, room);
@@ -178,29 +180,17 @@ one_owner : (s : State) (c : ℕ) (a : Aim) (w : What) (xs : List (ℕ × ℕ)) 
 one_owner s c a w [] has = has
 one_owner s c a w (x ∷ xs) has = one_owner (cut_one s c a w x) c a w xs (λ none. none_some (sym none))
 
-cuts_more : (s : State) (c : ℕ) (a : Aim) (w : What) (xs : List (ℕ × ℕ))
-    → length (cut_of_owner (cut_all s c a w xs).owner) ≡ length (cut_of_owner s.owner) + length xs
-cuts_more s c a w [] = omega arith
-cuts_more s c a w (x ∷ xs) =
-    let rest = cuts_more (cut_one s c a w x) c a w xs in
-    let one = length-append (cut_of_owner s.owner)
-    (note_of s.store x.0 x.1 (descriptor_of s.store.links x.0 x.1) ∷ []) in omega (arith, rest, one)
-
 cuts_spent : (s : State) (c : ℕ) (a : Aim) (w : What) (xs : List (ℕ × ℕ)) → length xs ≤ s.spare
     → (cut_all s c a w xs).spare + length xs ≡ s.spare
 cuts_spent s c a w [] le = omega arith
 cuts_spent s c a w (x ∷ xs) le =
     let rest = cuts_spent (cut_one s c a w x) c a w xs (omega (arith, le)) in omega (arith, rest, le)
 
-known_unlinked : (links : Links) (k n : ℕ) (o : Option ℕ) → (unlinked links k n o).known ≡ links.known
-known_unlinked links k n None = refl
-known_unlinked links k n (Some place) = refl
-
 cuts_known : (s : State) (c : ℕ) (a : Aim) (w : What) (xs : List (ℕ × ℕ))
     → (cut_all s c a w xs).store.links.known ≡ s.store.links.known
 cuts_known s c a w [] = refl
 cuts_known s c a w (x ∷ xs) = cuts_known (cut_one s c a w x) c a w xs
-    ∙ known_unlinked s.store.links x.0 x.1 (leads_at s.store.links.descriptors x.0 x.1)
+    ∙ cut_known s.store.links x.0 x.1 (leads_at s.store.links.descriptors x.0 x.1)
 
 pub number_next : (s t first : State) (c : ℕ) (a : Aim) (w : What) (k n : ℕ) → CutsAllOn s first c a w k n → n < 256
     → t ≡ cut_all s c a w (number_in s.store.links k n) → CutsAllOn t first c a w k (n + 1)
@@ -212,7 +202,7 @@ number_next s t first c a w k n on lt is = subst (λ (x : State). CutsAllOn x fi
     let less = ap length left in
     let few = on.few in
     let room = on.room in
-    let more = cuts_more s c a w xs in
+    let more = cut_long s c a w xs in
     let spent = cuts_spent s c a w xs (omega (arith, count, room)) in
     record {
       same = ap (cut_all (cut_all s c a w xs) c a w) left

@@ -1,8 +1,8 @@
 -- The command that a process comes to: its numbers are in their ranges.
 use Rattle.std.proofs.Common.{◌≡◌, ◌<◌, ℕ, true, List, length, Option, Some, None, arith}
-use Rattle.std.proofs.Common.{refl, ap, sym, subst, ◌∙◌, ◌≤◌, get_or, inl, inr}
+use Rattle.std.proofs.Common.{refl, ap, sym, subst, ◌∙◌, ◌≤◌, get_or}
 use Rattle.std.specs.Prelude.{IfSome, nat_le, slice_get}
-use Rattle.std.proofs.lemmas.Bool.{and_parts, cases_lt}
+use Rattle.std.proofs.lemmas.Bool.{and_parts}
 use Rattle.std.proofs.lemmas.Bool.Decides.{nat_tests}
 use Rattle.std.proofs.lemmas.List.{get_or_past}
 use Rattle.script.specs.Forms.{IsPlan, is_command, is_place}
@@ -13,22 +13,14 @@ use Rattle.script.specs.declared.commands.Command.TheVariants as command
 use Rattle.script.specs.declared.commands.Reference.{Reference}
 use Rattle.machine_model.specs.Actions.{come_to, refer_or_take}
 use Rattle.machine_model.specs.State.{State}
-use Rattle.machine_model.proofs.ComingLaws.{command_ranged, scripts_are}
 use Rattle.machine_model.proofs.LeftLaws.{no_process}
-use Rattle.machine_model.proofs.TieLaws.{none_some}
 use Rattle.machine_tables.specs.Meant.{refers}
 use Rattle.processor.specs.declared.Cpu.{Cpu}
+use Rattle.flat_model.proofs.ScriptLaws.{command_planned}
 
 no_command : (xs : List ProcessPlan) (k place : ℕ) → length xs ≤ k → slice_get (get_or xs k no_process).commands place
     ≡ None
 no_command xs k place le = ap (λ (x : ProcessPlan). slice_get x.commands place) (get_or_past xs k no_process le)
-
-pub command_ranges : (p : Plan) (k place : ℕ) (c : Command) → IsPlan p → command_at p k place ≡ Some c
-    → is_command (length p.volumes) c ≡ true
-command_ranges p k place c plan at = elim (cases_lt k (length p.processes)) [
-  | inl lt ↦ command_ranged (length p.volumes) _ place c ((scripts_are p plan).ranges k lt) at
-  | inr le ↦ absurd (let none = no_command p.processes k place le in none_some (sym none ∙ at))
-]
 
 -- the number of a reference is one of 256
 small_in : (n offset : ℕ) (x r : Reference) → is_place n offset ≡ true → x.number ≡ n → Some x ≡ Some r → r.number < 256
@@ -60,7 +52,7 @@ by_command p k place (Some c) plan at = by (reference_of c) refl
   where
     by : (x : Option Reference) → reference_of c ≡ x → IfSome x (λ r. r.number < 256)
     by None e = tt
-    by (Some r) e = number_small (length p.volumes) c r (command_ranges p k place c plan at) e
+    by (Some r) e = number_small (length p.volumes) c r (command_planned p k place c plan at) e
 
 pub next_number : (p : Plan) (k place : ℕ) (x : Option Reference) → IsPlan p → x ≡ refers (command_at p k place)
     → IfSome x (λ r. r.number < 256)
@@ -77,7 +69,7 @@ come_to_refers s cpu k (Some c) = refl
 pub ranges_of : (p now : Plan) (k place : ℕ) → now ≡ p → IsPlan p → (c : Command) → command_at now k place ≡ Some c
     → is_command (length p.volumes) c ≡ true
 ranges_of p now k place same plan c at =
-    command_ranges p k place c plan (ap (λ (q : Plan). command_at q k place) (sym same) ∙ at)
+    command_planned p k place c plan (ap (λ (q : Plan). command_at q k place) (sym same) ∙ at)
 
 -- what follows from a fact about what is there
 pub if_some_then : {X : Type 0} {P Q : X → Type 0} (o : Option X) → ((x : X) → P x → Q x) → IfSome o P → IfSome o Q

@@ -25,11 +25,11 @@ use Rattle.machine_model.specs.Steps.{charged, with_created}
 use Rattle.machine_model.specs.Reads.{flat_of}
 use Rattle.machine_model.specs.Refusal.{move_to}
 use Rattle.machine_model.specs.State.{State, Storage}
-use Rattle.flat_model.proofs.QuotaTotals.{found_uid}
 use Rattle.machine_tables.specs.Made.{HasPlace, IsMakeable}
 use Rattle.machine_tables.specs.Parts.{shown}
 use Rattle.machine_tables.proofs.ColumnLaws.{recounted}
 use Rattle.machine_tables.proofs.RefusalLaws.{moves_is, shows_of}
+use Rattle.tree_model.proofs.SharedLaws.{found_uid}
 
 pub may_create : {D : Type 0} (drive : D → List (List ℕ)) (t : Stored D) (k f : ℕ) (r : Reference)
     → HasPlace (shown drive t) k f r → MayCreate t k r.number r.offset f

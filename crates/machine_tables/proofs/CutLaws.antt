@@ -5,7 +5,6 @@ use Rattle.std.proofs.Common.{arith, inl, inr, length-append}
 use Rattle.std.specs.Prelude.{nat_lt, slice_get}
 use Rattle.std.specs.List.{position_or_len}
 use Rattle.std.proofs.lemmas.Bool.{cases_lt, lt-ltb}
-use Rattle.std.proofs.lemmas.Bool.Decides.{eqb_tells}
 use Rattle.std.proofs.lemmas.List.{get_or-set_same, get_or_past, nil_from_length}
 use Rattle.std.proofs.lemmas.List.Sums.{sum_by-cons}
 use Rattle.assoc_mem.specs.declared.What.{What}
@@ -16,7 +15,7 @@ use Rattle.descriptor_seg.specs.declared.Sdw.TheVariants.{Fault}
 use Rattle.trailers.specs.Trailer.{leads_to, trailers_of, without_place, without_trailer}
 use Rattle.seg_control.specs.Control.{Links, leads, leads_at, place_of, sdws_at}
 use Rattle.seg_control.specs.Effects.{unlinked}
-use Rattle.seg_control.specs.Kept.{AreLinked, times}
+use Rattle.seg_control.specs.Kept.{AreLinked}
 use Rattle.machine_model.specs.declared.Aim.{Aim}
 use Rattle.machine_model.specs.declared.CutDescriptor.{CutDescriptor}
 use Rattle.machine_model.specs.Jobs.{cut_all, cut_one, note_of}
@@ -26,30 +25,22 @@ use Rattle.machine_model.proofs.TieLaws.{none_some}
 use Rattle.machine_model.proofs.TransferKept.{active_at}
 use Rattle.machine_tables.specs.Owned.{HasOwner}
 use Rattle.machine_tables.specs.Taken.{IsOldest}
+use Rattle.machine_model.proofs.TakeLists.{time_one}
+use Rattle.laws.proofs.Numbers.{eqb_self}
 
 -- ---- the oldest trailer
 
-own : (n : ℕ) → eqb n n ≡ true
-own n = elim (eqb_tells n n) [ inl e ↦ e.0 | inr m ↦ absurd (m.1 refl) ]
-
 own_trailer : (x : ℕ × ℕ) → leads_to x.0 x.1 x ≡ true
-own_trailer x = rw (own x.0, own x.1) refl
+own_trailer x = rw (eqb_self x.0, eqb_self x.1) refl
 
 abbrev tally : Bool → ℕ
 tally b = cond b 1 0
-
-leads_there : (o : Option ℕ) (place : ℕ) → 1 ≤ times o place → o ≡ Some place
-leads_there None place h = absurd (omega (arith, h))
-leads_there (Some x) place h = elim (eqb_tells x place) [
-  | inl e ↦ ap (λ (y : ℕ). Some y) e.1
-  | inr n ↦ absurd (let none : times (Some x) place ≡ 0 = ap (λ (b : Bool). cond b 1 0) n.0 in omega (arith, none, h))
-]
 
 -- a trailer of a place leads there
 pub first_leads : (entries : List (Option Entry)) (links : Links) (place : ℕ) (pair : ℕ × ℕ) (rest : List (ℕ × ℕ))
     → AreLinked entries links → trailers_of links.trailers place ≡ pair ∷ rest
     → leads_at links.descriptors pair.0 pair.1 ≡ Some place
-first_leads entries links place pair rest linked is = leads_there (leads_at links.descriptors pair.0 pair.1) place
+first_leads entries links place pair rest linked is = time_one (leads_at links.descriptors pair.0 pair.1) place
     (let one : tally (leads_to pair.0 pair.1 pair) ≡ 1 = ap tally (own_trailer pair) in
     let sum : count_by (leads_to pair.0 pair.1) (pair ∷ rest)
     ≡ tally (leads_to pair.0 pair.1 pair) + count_by (leads_to pair.0 pair.1) rest =

@@ -5,7 +5,7 @@ use Rattle.std.proofs.Common.{List, [], ◌∷◌, ◌++◌, get_or, set, ext_ge
 use Rattle.std.proofs.Common.{refl, sym, ap, ◌∙◌, arith}
 use Rattle.std.specs.List.{range_with_len}
 use Rattle.std.proofs.lemmas.Bool.{cases_eq, cases_lt, eq-eqb, ne_eqb}
-use Rattle.std.proofs.lemmas.List.{get_or-set_other, get_or-set_same, length-set, set-set, set_comm}
+use Rattle.std.proofs.lemmas.List.{get_or-set_other, get_or-set_same, length-set, set-set}
 use lib.Seq.{set_out}
 use Rattle.page_table.specs.declared.Ptw.{Ptw}
 use Rattle.page_table.specs.declared.Ptw.TheVariants.{Here, Leaving, Null, Out}
@@ -30,15 +30,11 @@ use Rattle.machine_model.proofs.TieLaws.{none_some}
 use Rattle.machine_model.proofs.WordLaws.{word_within}
 use Rattle.machine_model.specs.Ready.{OwnsAll}
 use Rattle.machine_tables.proofs.TakeLaws.{table_worded}
+use Rattle.machine_model.proofs.DeleteKept.{freed_length}
+use Rattle.laws.proofs.Lists.{given_twice}
+use Rattle.custody_model.proofs.SharedLaws.{has_append}
 
 -- ---- flags
-
-pub given_twice : (flags : List Bool) (r s : ℕ) → set (set flags r false) s false ≡ set (set flags s false) r false
-given_twice flags r s = elim (cases_eq r s) [
-  | inl same ↦ ap (λ (n : ℕ). set (set flags r false) n false) (sym same)
-      ∙ ap (λ (n : ℕ). set (set flags n false) r false) same
-  | inr other ↦ set_comm flags r s false false other
-]
 
 -- the records of a file map, one of which was given back before
 freed_less : (flags : List Bool) (places : List (Option ℕ)) (p r : ℕ) → get_or places p None ≡ Some r
@@ -319,10 +315,6 @@ cut_inactive x home uid (p ∷ ps) =
 
 -- ---- frames that are freed in another order
 
-freed_length : (s : Plain) (fs : List ℕ) → length (frames_freed s fs).core.frames ≡ length s.core.frames
-freed_length s [] = refl
-freed_length s (f ∷ fs) = freed_length (framed s f Free) fs ∙ length-set s.core.frames f Free
-
 freed_hand : (s : Plain) (fs : List ℕ) → (frames_freed s fs).core.hand ≡ s.core.hand
 freed_hand s [] = refl
 freed_hand s (f ∷ fs) = freed_hand (framed s f Free) fs
@@ -368,14 +360,6 @@ both_ways : (a b : Bool) → (a ≡ true → b ≡ true) → (b ≡ true → a �
 both_ways true b to back = sym (to refl)
 both_ways false true to back = back refl
 both_ways false false to back = refl
-
-has_append : (xs ys : List ℕ) (g : ℕ) → has (xs ++ ys) g ≡ (has xs g || has ys g)
-has_append [] ys g = refl
-has_append (x ∷ xs) ys g = ap (λ (b : Bool). eqb x g || b) (has_append xs ys g) ∙ assoc (eqb x g)
-  where
-    assoc : (a : Bool) → (a || (has xs g || has ys g)) ≡ ((a || has xs g) || has ys g)
-    assoc true = refl
-    assoc false = refl
 
 leaving_has : (w : Ptw) (g : ℕ) → has (leaving w) g ≡ true → w ≡ Leaving g
 leaving_has Null g h = absurd (let no : false ≡ true = h in cc)

@@ -43,7 +43,6 @@ use Rattle.machine_model.specs.Refusal.{uid_at_path}
 use Rattle.machine_model.specs.State.{Storage}
 use Rattle.machine_model.specs.Steps.{with_pages}
 use Rattle.machine_model.proofs.ActiveSeen.{active_place, within_some}
-use Rattle.flat_model.proofs.QuotaTotals.{found_uid}
 use Rattle.machine_model.proofs.TieLaws.{none_some}
 use Rattle.machine_model.proofs.TransferKept.{active_at}
 use Rattle.machine_model.proofs.WordLaws.{word_within}
@@ -55,6 +54,7 @@ use Rattle.machine_tables.proofs.DeleteLaws.{IsNamed, IsUsed, cut_erased, cut_in
 use Rattle.machine_tables.proofs.DeleteLaws.{freed_rest, owned_alike}
 use Rattle.machine_tables.proofs.GoneLaws.{entry_kept, lost_is}
 use Rattle.machine_tables.proofs.RefusalLaws.{shows_of}
+use Rattle.tree_model.proofs.SharedLaws.{found_uid}
 
 -- ---- stored pages of other segments
 

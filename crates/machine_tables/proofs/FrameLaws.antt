@@ -21,6 +21,7 @@ use Rattle.machine_model.proofs.ListLaws.{map_list}
 use Rattle.machine_model.proofs.TieLaws.{none_some}
 use Rattle.machine_model.proofs.WordLaws.{found}
 use Rattle.machine_tables.proofs.ReadingLaws.{position_first}
+use Rattle.machine_model.proofs.Returnable.{bound_is}
 
 -- ---- whether one is bound
 
@@ -104,12 +105,6 @@ bound_goes core any = by (clock_choice core) refl
         let lt = some_within is_bound core.frames (sym any) in
         absurd (chosen core (position_or_len is_bound core.frames) lt (found is_bound core.frames Free lt) e)
 
--- where none is free or bound the first is waited for
-bound_page_by : (x : Frame) (page : ℕ × ℕ) → bound_page x ≡ Some page → is_bound x ≡ true
-bound_page_by Free page e = absurd (none_some e)
-bound_page_by (Started u p) page e = absurd (none_some e)
-bound_page_by (Bound u p used modified) page e = refl
-
 none_chosen : (core : Core) → list_any is_bound core.frames ≡ false → clock_choice core ≡ None
 none_chosen core none = by (clock_choice core) refl
   where
@@ -118,7 +113,7 @@ none_chosen core none = by (clock_choice core) refl
     by (Some f) e =
         let page = choice_bound core f e in
         let bound : is_bound (frame_at core f) ≡ true =
-        bound_page_by (frame_at core f) page.0 (sym (map_list bound_page core.frames f Free) ∙ page.1) in
+        bound_is (frame_at core f) page.0 (sym (map_list bound_page core.frames f Free) ∙ page.1) in
         absurd (let no : true ≡ false = sym (any_at is_bound core.frames f Free bound refl) ∙ none in cc)
 
 started_by : (x : Frame) → is_free x ≡ false → is_bound x ≡ false → is_started x ≡ true

@@ -10,7 +10,7 @@ use Rattle.std.proofs.lemmas.List.Edits.{length-remove}
 use lib.Seq.{set_out}
 use Rattle.accounts.specs.Maps.{AccountMaps, HasColumns, count_of, entry_of}
 use Rattle.tree_model.specs.Tree.{Node, node_in, without_node}
-use Rattle.tree_model.specs.Trees.{AreBelow, IsTree, Joins, has_segment}
+use Rattle.tree_model.specs.Trees.{AreBelow, IsTree, has_segment}
 use Rattle.quota_cells.specs.Accounts.{has, look, without_beside}
 use Rattle.quota_cells.specs.Cells.{IsRising}
 use Rattle.quota_cells.proofs.EditLaws.{has_remove, look_remove, rising_remove}
@@ -22,6 +22,7 @@ use Rattle.storage_ops.specs.Shown.{AreHoused, home_of, is_there}
 use Rattle.machine_model.specs.Commits.{lost}
 use Rattle.machine_model.proofs.TieLaws.{none_some}
 use Rattle.machine_tables.proofs.ColumnLaws.{columns_same, rising_same}
+use Rattle.tree_model.proofs.SharedLaws.{without_absent as all_left, joined_below}
 
 -- ---- a uid less
 
@@ -169,10 +170,6 @@ module _ (old new : AccountMaps) (uid : ℕ) (before : HasColumns old) (after : 
 
 -- ---- the VTOC entries beside the nodes
 
-joined_below : (ns : List Node) (o : Option ℕ) (n : Node) → Joins ns o n → AreBelow n.uid ns
-joined_below ns None n j = rw j.first tt
-joined_below ns (Some s) n j = j.later
-
 abbrev uids : List Node → List ℕ
 uids ns = map (λ n. n.uid) ns
 
@@ -202,14 +199,6 @@ entries_same (n ∷ ns) t (v ∷ vs) (w ∷ ws) long many same =
     let both : look (uids (n ∷ ns)) (v ∷ vs) u ≡ look (uids (n ∷ ns)) (w ∷ ws) u =
     same u (ap (λ (b : Bool). is_some (cond b (Some n) (node_in ns u))) far ∙ there) in rw far at both)) in
     λ i. first i ∷ rest i
-
-all_left : (ms : List Node) (x : ℕ) → AreBelow x ms → without_node ms x ≡ ms
-all_left [] x below = refl
-all_left (m ∷ ms) x below =
-    let less = below.0 in
-    ap (λ (b : Bool). cond (not b) (m ∷ without_node ms x) (without_node ms x))
-    (ne_eqb m.uid x (λ e. omega (arith, less, e)))
-    ∙ ap (λ (ys : List Node). m ∷ ys) (all_left ms x below.1)
 
 -- what is left isn't the node
 there_left : (ns : List Node) (u v : ℕ) → is_there (without_node ns u) v ≡ true → v ≢ u

@@ -36,10 +36,6 @@ pub owner_less : (o : Option Owner) → HasOwner o → HasOwner (without_first_c
 owner_less None has = has
 owner_less (Some o) has = λ none. none_some (sym none)
 
-pub cut_same : (o : Option Owner) → cut_of_owner (without_first_frame o) ≡ cut_of_owner o
-cut_same None = refl
-cut_same (Some o) = refl
-
 -- each step of a loop leaves one less
 one_less : {A : Type 0} (items : Option Owner → List A) (o now left : Option Owner) (x : A)
     → items o ≡ x ∷ items left → now ≡ left → length (items now) < length (items o)

@@ -38,6 +38,7 @@ use Rattle.machine_model.proofs.TieLaws.{none_some}
 use Rattle.machine_model.proofs.TransferKept.{active_at}
 use Rattle.machine_tables.specs.Activated.{FindsFull, Joins, JoinsAt, NeedsVictim, links_of, wanted_pool}
 use Rattle.machine_tables.specs.Taken.{IsEmptied, is_bare}
+use Rattle.machine_model.proofs.SharedLaws.{some_not_none}
 
 -- ---- what is found in a list
 
@@ -66,10 +67,6 @@ module _ (p : ℕ → Bool) where
 
 -- ---- the free place of a pool
 
-some_is : (o : Option Entry) → IsSome o → is_none o ≡ false
-some_is None h = absurd (let no : false ≡ true = h in cc)
-some_is (Some e) h = refl
-
 least_is : (ast : ActiveSegs) (pool place : ℕ) → IsLeastFree ast pool place → free_place ast pool ≡ Some place
 least_is ast pool place least =
     let from = least.in_pool.from in
@@ -83,7 +80,7 @@ least_is ast pool place least =
     (λ j less. (let here : get_or places j 0 ≡ low + j =
     get_or-range_with_len low ((low + many) - low) j 0 (omega (arith, from, to, less)) in
     ap (λ (q : ℕ). is_none (entry_at ast.entries q)) here
-    ∙ some_is (entry_at ast.entries (low + j)) (least.least (low + j)
+    ∙ some_not_none (entry_at ast.entries (low + j)) (least.least (low + j)
     (record { from = omega arith; to = omega (arith, from, to, less) }) (omega (arith, from, less)))))
     ∙ ap (λ (q : ℕ). Some q) at
   where
@@ -103,7 +100,7 @@ not_full ast pool (Some q) e free full =
     let from = inside.0 in
     let to = inside.1 in
     let none = find_true (λ x. is_none (entry_at ast.entries x)) (range_with_len low ((low + many) - low)) q e in
-    let some = some_is (entry_at ast.entries q)
+    let some = some_not_none (entry_at ast.entries q)
     (full q (record { from = from; to = omega (arith, to) })) in
     let no : true ≡ false = sym none ∙ some in cc
   where

@@ -1,9 +1,8 @@
 -- How a page leaves its frame, and what comes back where it can't.
-use Rattle.std.proofs.Common.{◌≡◌, ◌↔◌, ◌-◌, ◌<◌, ℕ, suc, zero, length, get_or, Bool, true, false, ◌&&◌, cond, eqb}
+use Rattle.std.proofs.Common.{◌≡◌, ◌↔◌, ◌-◌, ◌<◌, ℕ, suc, zero, length, get_or, Bool, true, false, cond, eqb}
 use Rattle.std.proofs.Common.{List, [], ◌∷◌}
-use Rattle.std.proofs.Common.{refl, sym, ap, subst, ◌∙◌, arith, append_assoc, inl, inr}
+use Rattle.std.proofs.Common.{refl, sym, ap, subst, ◌∙◌, arith, append_assoc}
 use Rattle.std.specs.Prelude.{IfOk, OnErr, Result, Ok, Err}
-use Rattle.std.proofs.lemmas.Bool.Decides.{eqb_tells}
 use Rattle.book.specs.declared.entries.Entry.{Entry}
 use Rattle.mword.specs.Words.{AreZero}
 use Rattle.page_control.specs.declared.Left.{Left}
@@ -17,31 +16,17 @@ use Rattle.machine_model.specs.Returned.{MayRelink, with_all_here}
 use Rattle.machine_model.specs.Steps.{booked, with_store}
 use Rattle.machine_tables.specs.Parts.{Parts, with_accounts, with_drives, with_state}
 use Rattle.machine_tables.proofs.ColumnLaws.{settled_is}
+use Rattle.laws.proofs.Bools.{and_parts}
+use Rattle.laws.proofs.Numbers.{zero_word}
+use Rattle.machine_model.proofs.SharedLaws.{zeros_to}
 
 -- ---- pages of zeros
 
-both_parts : (a b : Bool) → (a && b) ≡ true → (a ≡ true) × (b ≡ true)
-both_parts true b h = (refl, h)
-both_parts false b h = absurd (let no : false ≡ true = h in cc)
-
-zero_word : (w : ℕ) → eqb w 0 ≡ true → w ≡ 0
-zero_word w h = elim (eqb_tells w 0) [
-  | inl e ↦ e.1
-  | inr n ↦ absurd (let no : true ≡ false = sym h ∙ n.0 in cc)
-]
-
 zeros_from : (ws : List ℕ) → are_zeros ws ≡ true → (k d : ℕ) → k < length ws → get_or ws k d ≡ 0
 zeros_from [] h k d lt = absurd (omega (arith, lt))
-zeros_from (w ∷ ws) h zero d lt = zero_word w (both_parts (eqb w 0) (are_zeros ws) h).0
+zeros_from (w ∷ ws) h zero d lt = zero_word w (and_parts (eqb w 0) (are_zeros ws) h).0
 zeros_from (w ∷ ws) h (suc k) d lt =
-    zeros_from ws (both_parts (eqb w 0) (are_zeros ws) h).1 k d (omega (arith, lt))
-
-zeros_to : (ws : List ℕ) → AreZero ws → are_zeros ws ≡ true
-zeros_to [] h = refl
-zeros_to (w ∷ ws) h = elim (eqb_tells w 0) [
-  | inl e ↦ ap (λ (b : Bool). b && are_zeros ws) e.0 ∙ zeros_to ws (λ k d lt. h (suc k) d (omega (arith, lt)))
-  | inr n ↦ absurd (n.1 (h zero zero (omega arith)))
-]
+    zeros_from ws (and_parts (eqb w 0) (are_zeros ws) h).1 k d (omega (arith, lt))
 
 left_released : (ws : List ℕ) → are_zeros ws ≡ true → Released ≡ left_of ws
 left_released ws h = sym (ap (λ (b : Bool). cond b Released Kept) h)

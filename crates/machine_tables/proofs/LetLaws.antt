@@ -12,7 +12,8 @@ use Rattle.machine_model.specs.Steps.{booked, with_owner}
 use Rattle.machine_tables.specs.Gone.{inactive_entry, left_entries, left_entry}
 use Rattle.machine_tables.specs.Owned.{HasOwner}
 use Rattle.machine_tables.specs.Parts.{Parts, with_state}
-use Rattle.machine_tables.proofs.JobLaws.{cut_same, frames_next, none_left, owner_left}
+use Rattle.machine_tables.proofs.JobLaws.{frames_next, none_left, owner_left}
+use Rattle.machine_model.proofs.SaysLaws.{cut_less}
 
 -- ---- entries
 
@@ -60,7 +61,7 @@ pages_next s t first kept f on at is = subst (λ (x : State). PagesOn x first ke
           ∙ (ap (λ (fs : List ℕ). with_owner (booked s (map (left_entry kept) fs)) None) (sym all) ∙ on.same);
       owner = owner_left s.owner on.owner;
       room = omega (arith, count, room);
-      cut = cut_same s.owner ∙ on.cut;
+      cut = cut_less s.owner ∙ on.cut;
       spent = omega (arith, count, room, spent);
     })
 

@@ -20,9 +20,10 @@ use Rattle.seg_control.specs.Effects.{worded}
 use Rattle.storage_ops.specs.CutOff.{Paged, is_cleared, page_cleared, page_cut, pages_cut}
 use Rattle.machine_model.proofs.WordLaws.{word_within}
 use Rattle.machine_tables.specs.Truncated.{here_again}
-use Rattle.machine_tables.proofs.DeleteLaws.{Drops, IsNamed, IsUsed, entry_less, filed_less, flags_less, given_twice}
+use Rattle.machine_tables.proofs.DeleteLaws.{Drops, IsNamed, IsUsed, entry_less, filed_less, flags_less}
 use Rattle.machine_tables.proofs.DeleteLaws.{page_drops, table_in, vtoc_less, word_gone}
 use Rattle.machine_tables.proofs.TakeLaws.{table_worded}
+use Rattle.laws.proofs.Lists.{given_twice}
 
 -- ---- words
 

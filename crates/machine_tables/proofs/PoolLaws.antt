@@ -2,18 +2,18 @@
 -- pools of a script have.
 use Rattle.std.proofs.Common.{◌≡◌, ◌≢◌, ℕ, zero, suc, ◌+◌, ◌-◌, ◌<◌, ◌≤◌, Bool, true, false, cond, is_none, List, []}
 use Rattle.std.proofs.Common.{◌∷◌, Option, Some, None, refl, sym, ap, subst, ◌∙◌, arith, inl, inr}
-use Rattle.std.specs.Prelude.{IfSome, IsNone, IsSome, ◌↔◌}
+use Rattle.std.specs.Prelude.{IfSome, IsNone, ◌↔◌}
 use Rattle.std.specs.List.{find, range_with_len}
 use Rattle.std.proofs.lemmas.Bool.Decides.{eqb_tells}
 use Rattle.script.specs.Forms.{ArePools}
 use Rattle.tree_model.specs.Tree.{Node}
-use Rattle.active_segs.specs.declared.Entry.{Entry}
 use Rattle.active_segs.specs.Active.{ActiveSegs, IsFull, IsLeastFree, entry_at}
 use Rattle.active_segs.specs.Pool.{first_of, size_of}
 use Rattle.storage_ops.specs.Connecting.{pool_in}
 use Rattle.machine_model.specs.Actions.{pool_of_node}
 use Rattle.machine_model.specs.Reads.{free_place}
 use Rattle.machine_model.proofs.ListSizes.{pool_small}
+use Rattle.machine_model.proofs.SharedLaws.{some_not_none}
 
 -- ---- what is found among numbers in order
 
@@ -39,10 +39,6 @@ module _ (test : ℕ → Bool) where
       (off from (omega arith) (omega arith))
       ∙ none_in (from + 1) n (λ q c d. off q (omega (arith, c)) (omega (arith, d)))
 
-used_is : (o : Option Entry) → IsSome o → is_none o ≡ false
-used_is None h = absurd (let no : false ≡ true = h in cc)
-used_is (Some e) h = refl
-
 module _ (ast : ActiveSegs) (pool : ℕ) where
   abbrev first : ℕ
   first = first_of ast.sizes pool
@@ -55,12 +51,12 @@ module _ (ast : ActiveSegs) (pool : ℕ) where
   least_free place h = (let from = h.in_pool.from in let to = h.in_pool.to in
       first_in (λ q. is_none (entry_at ast.entries q)) first (first + size - first) place from
       (omega (arith, from, to)) (ap is_none h.free)
-      (λ q a b. used_is (entry_at ast.entries q)
+      (λ q a b. some_not_none (entry_at ast.entries q)
       (h.least q (record { from = a; to = omega (arith, b, to) }) b)))
 
   full_none : IsFull ast pool → free_place ast pool ≡ None
   full_none h = none_in (λ q. is_none (entry_at ast.entries q)) first (first + size - first)
-      (λ q a b. used_is (entry_at ast.entries q) (h q (record { from = a; to = omega (arith, a, b) })))
+      (λ q a b. some_not_none (entry_at ast.entries q) (h q (record { from = a; to = omega (arith, a, b) })))
 
   pub free_told : (found : ActiveSegs) (o : Option ℕ) → found ≡ ast → IfSome o (IsLeastFree found pool)
       → (IsNone o ↔ IsFull found pool) → o ≡ free_place ast pool
@@ -80,15 +76,6 @@ pool_few None = omega arith
 pool_few (Some n) = pool_small n
 
 -- ---- the pools of a script
-
--- the first pool has twelve places and more
-pub first_many : (sizes : List ℕ) → ArePools sizes → 12 ≤ size_of sizes 0
-first_many [] h = absurd h
-first_many (a ∷ []) h = absurd h
-first_many (a ∷ b ∷ []) h = absurd h
-first_many (a ∷ b ∷ c ∷ []) h = absurd h
-first_many (a ∷ b ∷ c ∷ d ∷ []) h = h.0
-first_many (a ∷ b ∷ c ∷ d ∷ e ∷ rest) h = absurd h
 
 -- each other pool has some, after those of the first
 pub others_some : (sizes : List ℕ) (pool : ℕ) → ArePools sizes → pool < 4 → pool ≢ 0

@@ -15,6 +15,7 @@ use Rattle.script.specs.declared.plan.VolumeLine.{VolumeLine}
 use Rattle.flat_model.specs.Store.{records_in, records_of}
 use Rattle.volumes.specs.Volumes.{HasParts}
 use Rattle.page_control.specs.Counts.{size}
+use Rattle.laws.proofs.Bools.{not_both}
 
 and_more : (a b d : Bool) → (b ≡ true → d ≡ true) → (a && b) ≡ true → (a && d) ≡ true
 and_more true b d more h = more h
@@ -33,14 +34,11 @@ more_volumes few most (command.MkSeg path pages volume) le h = and_more (is_path
     (and_more (is_from 1 256 pages) (nat_lt volume few) (nat_lt volume most) (lt_more volume few most le)) h
 more_volumes few most c le h = h
 
-no_and : {b : Bool} → b ≡ true → b ≡ false → ⊥
-no_and t f = let no : true ≡ false = sym t ∙ f in cc
-
 some_records : (v : VolumeLine) → is_volume v ≡ true → 1 ≤ v.records
 unfolding is_volume
 some_records v h = elim (leb_tells 1 v.records) [
   | inl e ↦ e.1
-  | inr m ↦ absurd (no_and (and_parts _ _ (and_parts _ _ (and_parts _ _ h).1).0).0 m.0)
+  | inr m ↦ absurd (not_both (and_parts _ _ (and_parts _ _ (and_parts _ _ h).1).0).0 m.0)
 ]
 
 records_some : (vs : List VolumeLine) (v : ℕ) → list_all is_volume vs ≡ true → v < length vs

@@ -1,19 +1,9 @@
 -- How the ready list grows by the processes that the initializer makes ready.
-use Rattle.std.proofs.Common.{◌≡◌, ◌+◌, ◌<◌, ◌≤◌, ℕ, suc, zero, List, [], ◌∷◌, ◌++◌, length, refl, sym, ap, ◌∙◌, arith}
+use Rattle.std.proofs.Common.{◌≡◌, ◌+◌, ◌<◌, ◌≤◌, ℕ, suc, List, [], ◌∷◌, ◌++◌, length, sym, ap, ◌∙◌, arith}
 use Rattle.std.proofs.Common.{append-nil, append_assoc, length-append}
 use Rattle.custody_model.specs.Custody.{range}
 use Rattle.traffic.specs.Queue.{Queue, with_last}
-
-pub range_length : (from n : ℕ) → length (range from n) ≡ n
-range_length from zero = refl
-range_length from (suc n) = ap suc (range_length (from + 1) n)
-
-range_end : (from n : ℕ) → range from (suc n) ≡ range from n ++ (from + n) ∷ []
-range_end from zero = let e : from ≡ from + 0 = omega arith in ap (λ (x : ℕ). x ∷ []) e
-range_end from (suc n) =
-    let r = range_end (from + 1) n in
-    let e : from + 1 + n ≡ from + suc n = omega arith in
-    ap (λ (xs : List ℕ). from ∷ xs) (r ∙ ap (λ (x : ℕ). range (from + 1) n ++ x ∷ []) e)
+use Rattle.custody_model.proofs.SharedLaws.{range_end, range_length}
 
 -- the list with so many released
 abbrev pub released : Queue → ℕ → Queue

@@ -1,5 +1,5 @@
 -- The right of a process to a segment that is in the tree.
-use Rattle.std.proofs.Common.{◌≡◌, ℕ, true, false, is_some, List, Option, Some, None}
+use Rattle.std.proofs.Common.{◌≡◌, ℕ, true, List, Some}
 use Rattle.std.proofs.Common.{refl, sym, ap}
 use Rattle.std.proofs.Common.{◌∙◌}
 use Rattle.mnames.specs.declared.modes.Mode.{Mode}
@@ -10,10 +10,7 @@ use Rattle.tree_model.specs.Tree.{Node, node_in}
 use Rattle.flat_model.proofs.FieldLaws.{field_found}
 use Rattle.storage_ops.specs.Connecting.{IsRight}
 use Rattle.storage_ops.specs.Shown.{is_there, pages_in, pages_of, who_at}
-
-there_is : (o : Option Node) → is_some o ≡ true → (n : Node) × (o ≡ Some n)
-there_is None h = absurd (let no : false ≡ true = h in cc)
-there_is (Some n) h = (n, refl)
+use Rattle.tree_model.proofs.SharedLaws.{some_there}
 
 rows_found : (ns : List Node) (u : ℕ) (n : Node) → node_in ns u ≡ Some n → rows_in ns u ≡ n.rows
 rows_found ns u n h = sym (field_found (λ ms. rows_in ms u) (λ x. x.rows) u (λ m ms. refl) ns n h)
@@ -21,7 +18,7 @@ rows_found ns u n h = sym (field_found (λ ms. rows_in ms u) (λ x. x.rows) u (�
 pub right_is : (ns : List Node) (whos : List Who) (k u : ℕ) (m : Mode) (pages : ℕ) → is_there ns u ≡ true
     → IsRight ns whos k u m pages → (m ≡ access_of (who_at whos k) (rows_in ns u)) × (pages ≡ pages_in ns u)
 right_is ns whos k u m pages there right =
-    let found = there_is (node_in ns u) there in (
+    let found = some_there (node_in ns u) there in (
       right.mode_is found.0 found.1
           ∙ ap (λ (rows : List Row). access_of (who_at whos k) rows) (sym (rows_found ns u found.0 found.1)),
       right.pages_are found.0 found.1 ∙ sym (ap pages_of found.1),

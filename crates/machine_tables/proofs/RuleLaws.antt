@@ -1,7 +1,7 @@
 -- The rules of a step, in their order.
 use Rattle.std.proofs.Common.{◌≡◌, ◌≢◌, ◌≤◌, ℕ, Bool, true, false, is_some, length, List, Option, Some, None, refl, ap}
 use Rattle.std.proofs.Common.{subst, ◌∙◌}
-use Rattle.std.specs.Prelude.{IfNone, IsSome}
+use Rattle.std.specs.Prelude.{IsSome}
 use Rattle.machine_model.specs.Actions as act
 use Rattle.machine_model.specs.Actions.{action_of, has_process, is_over}
 use Rattle.active_segs.specs.Active.{IsActive}
@@ -39,10 +39,6 @@ pub owner_busy : (s : State) (c : ℕ) (h : Holder) (frames : List ℕ) (cut : L
 owner_busy s c h frames cut keeps is here = subst (λ (d : ℕ). IsSome (cpu_at s.processors d).process) here
     (keeps.at_work (owner_by h frames cut) is).busy
 
-pub if_none : {X : Type 0} {P : Type 0} (o : Option X) → P → IfNone o P
-if_none None p = p
-if_none (Some x) p = tt
-
 -- an owner that looks moves no segment
 pub looking_still : (s : State) (h : Holder) (frames : List ℕ) (cut : List CutDescriptor)
     → s.store.moving ≡ mover_of s.owner → s.owner ≡ owner_of (Some h) frames cut → h.phase ≡ phase.Looking
@@ -61,10 +57,6 @@ moved_active s h frames cut moving active is m moves = active m (moving ∙ (ap 
 pub moved_short : (s : State) (keeps : Keeps s) (m : Mover) → IsActive s.store.ast.entries m.uid
     → length (table_of s.store.ast m.uid) ≤ 256
 moved_short s keeps m active = table_few s m.uid keeps (active_at s.store.ast active.0 m.uid active.1)
-
-pub if_none_of : {X : Type 0} {P Q : Type 0} (o : Option X) → (P → Q) → IfNone o P → IfNone o Q
-if_none_of None f p = f p
-if_none_of (Some x) f p = tt
 
 -- where a processor has a process, some process is running
 pub busy_goes_on : (s : State) (c : ℕ) → has_process (processor_at s.processors c) ≡ true → is_over s ≡ false

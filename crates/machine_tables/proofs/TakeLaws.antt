@@ -23,9 +23,11 @@ use Rattle.machine_model.specs.Reads.{frames_from, frames_in, frames_of_owner, h
 use Rattle.machine_model.specs.State.{State, Storage}
 use Rattle.machine_model.specs.Steps.{with_word}
 use Rattle.machine_model.proofs.MoverTied.{leaving_moving}
-use Rattle.machine_model.proofs.TieLaws.{none_some, page_is}
+use Rattle.machine_model.proofs.TieLaws.{none_some}
 use Rattle.machine_tables.specs.Owned.{HasOwner}
 use Rattle.machine_tables.specs.Taken.{LeavesPast}
+use Rattle.machine_model.proofs.NumberLaws.{take_long}
+use Rattle.laws.proofs.Options.{page_is}
 
 -- what a frame that a page is in is bound to
 pub bound_parts : (x : Frame) (u p : ℕ) → bound_page x ≡ Some (u, p)
@@ -55,15 +57,6 @@ pub owner_still : (s : State) (c : ℕ) (a : Aim) (w : What) (fs : List ℕ) →
     → HasOwner (take_all s c a w fs).owner
 owner_still s c a w [] has = has
 owner_still s c a w (f ∷ fs) has = owner_still (take_one s c a w f) c a w fs (λ none. none_some (sym none))
-
-frames_more : (s : State) (c : ℕ) (a : Aim) (w : What) (fs : List ℕ)
-    → length (frames_of_owner (take_all s c a w fs).owner) ≡ length (frames_of_owner s.owner) + length fs
-frames_more s c a w [] = omega arith
-frames_more s c a w (f ∷ fs) =
-    let rest = frames_more (take_one s c a w f) c a w fs in
-    let one : length (frames_of_owner s.owner ++ f ∷ []) ≡ length (frames_of_owner s.owner) + 1 =
-    length-append (frames_of_owner s.owner) (f ∷ []) in
-    omega (arith, rest, one)
 
 pub room_less : (s : State) (c : ℕ) (a : Aim) (w : What) (fs : List ℕ) → length fs ≤ s.spare
     → (take_all s c a w fs).spare + length fs ≡ s.spare
@@ -147,7 +140,7 @@ takes_next s t first c a w u p low on lt is past =
     let less = ap length rest in
     let few = on.few in
     let room = on.room in
-    let more = ap (λ (x : State). length (frames_of_owner x.owner)) is ∙ frames_more s c a w hs in
+    let more = ap (λ (x : State). length (frames_of_owner x.owner)) is ∙ take_long s c a w hs in
     let spent = room_less s c a w hs (omega (arith, count, room)) in
     let spare = ap (λ (x : State). x.spare) is in
     record {

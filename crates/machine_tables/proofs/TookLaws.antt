@@ -1,6 +1,6 @@
 -- What stays while pages are taken, and what is taken of a segment.
 use Rattle.std.proofs.Common.{◌≡◌, ◌+◌, ◌<◌, ◌≤◌, ℕ, true, false, not, cond, List, [], ◌∷◌, ◌++◌, length}
-use Rattle.std.proofs.Common.{Option, Some, None, refl, sym, ap}
+use Rattle.std.proofs.Common.{Option, refl, sym, ap}
 use Rattle.std.proofs.Common.{subst, ◌∙◌, arith, drop}
 use Rattle.std.proofs.Math.ListN.{drop_of_length-le}
 use Rattle.std.proofs.lemmas.List.{drop_more}
@@ -14,26 +14,20 @@ use Rattle.page_table.specs.PageTable.{ptw_at}
 use Rattle.page_table.specs.declared.Ptw.{Ptw}
 use Rattle.page_table.specs.declared.Ptw.TheVariants.{Null}
 use Rattle.trailers.specs.Trailer.{trailers_of}
-use Rattle.active_segs.specs.Active.{ActiveSegs, IsActive}
+use Rattle.active_segs.specs.Active.{IsActive}
 use Rattle.seg_control.specs.Control.{Links, is_for, place_of}
 use Rattle.machine_model.specs.declared.Aim.{Aim}
 use Rattle.machine_model.specs.declared.Aim.TheVariants.{Deactivating}
-use Rattle.machine_model.specs.Jobs.{cut_all, emptied, leaving_if, segment_taken, take_all, take_one, took}
+use Rattle.machine_model.specs.Jobs.{cut_all, emptied, segment_taken, take_all, take_one, took}
 use Rattle.machine_model.specs.Actions.{is_empty}
 use Rattle.machine_model.specs.Reads.{cut_of_owner, frames_in, here_in, trailers_in}
-use Rattle.machine_model.specs.State.{State, Storage}
+use Rattle.machine_model.specs.State.{State}
 use Rattle.machine_tables.specs.Owned.{HasOwner}
 use Rattle.machine_tables.specs.Parts.{Parts, with_state}
 use Rattle.machine_tables.specs.Taken.{is_bare}
 use Rattle.machine_tables.proofs.TakeLaws.{owner_still, room_less}
-
-leaving_entries : (st : Storage) (f : ℕ) (o : Option (ℕ × ℕ)) → (leaving_if st f o).ast.entries ≡ st.ast.entries
-leaving_entries st f None = refl
-leaving_entries st f (Some page) = refl
-
-leaving_links : (st : Storage) (f : ℕ) (o : Option (ℕ × ℕ)) → (leaving_if st f o).links ≡ st.links
-leaving_links st f None = refl
-leaving_links st f (Some page) = refl
+use Rattle.machine_model.proofs.NumberLaws.{take_cut}
+use Rattle.machine_model.proofs.OutlineTake.{leaving_entries, leaving_links}
 
 pub entries_still : (s : State) (c : ℕ) (a : Aim) (w : What) (fs : List ℕ)
     → (take_all s c a w fs).store.ast.entries ≡ s.store.ast.entries
@@ -46,11 +40,6 @@ pub links_still : (s : State) (c : ℕ) (a : Aim) (w : What) (fs : List ℕ)
 links_still s c a w [] = refl
 links_still s c a w (f ∷ fs) = links_still (take_one s c a w f) c a w fs
     ∙ leaving_links s.store f (bound_page (frame_in s.store.pages f))
-
-pub cut_still : (s : State) (c : ℕ) (a : Aim) (w : What) (fs : List ℕ)
-    → cut_of_owner (take_all s c a w fs).owner ≡ cut_of_owner s.owner
-cut_still s c a w [] = refl
-cut_still s c a w (f ∷ fs) = cut_still (take_one s c a w f) c a w fs
 
 abbrev trailers_by : List (Option Entry) → Links → ℕ → List (ℕ × ℕ)
 trailers_by entries links u =
@@ -135,7 +124,7 @@ pub after_pages : (s t : State) (c : ℕ) (a : Aim) (w : What) (fs : List ℕ) (
 after_pages s t c a w fs u is active owner few room = subst (λ (x : State). CanCut x u) (sym is) (record {
   active = subst (λ (e : List (Option Entry)). IsActive e u) (sym (entries_still s c a w fs)) active;
   owner = owner_still s c a w fs owner;
-  few = let cut = ap length (cut_still s c a w fs) in let all = ap length (trailers_still s c a w fs u) in
+  few = let cut = ap length (take_cut s c a w fs) in let all = ap length (trailers_still s c a w fs u) in
       omega (arith, cut, all, few);
   room = let spent = room_less s c a w fs (omega (arith, room)) in
       let all = ap length (trailers_still s c a w fs u) in omega (arith, spent, all, room);

@@ -6,8 +6,7 @@ use Rattle.std.proofs.lemmas.List.{get_or-set_same, get_or_past}
 use Rattle.accounts.specs.Maps.{AccountMaps, count_of}
 use Rattle.quota_cells.specs.Accounts.{look, with_value}
 use Rattle.quota_cells.proofs.ColumnLaws.{length_with, look_with_other}
-use Rattle.core_map.specs.declared.Frame.{Frame}
-use Rattle.core_map.specs.declared.Frame.TheVariants.{Bound, Free, Started}
+use Rattle.core_map.specs.declared.Frame.TheVariants.{Free}
 use Rattle.core_map.specs.CoreMap.{after_reference, bound_page}
 use Rattle.page_table.specs.declared.Ptw.{Ptw}
 use Rattle.page_table.specs.declared.Ptw.TheVariants.{Here, Leaving, Null, Out}
@@ -23,6 +22,7 @@ use Rattle.machine_model.specs.State.{Storage}
 use Rattle.machine_model.specs.Steps.{with_pages}
 use Rattle.machine_model.proofs.TieLaws.{none_some}
 use Rattle.machine_tables.proofs.OrderLaws.{cut_first}
+use Rattle.machine_model.proofs.ActiveKept.{bound_after}
 
 -- what is told of a segment
 abbrev pub told_of : Storage → ℕ → Paged
@@ -161,11 +161,6 @@ pub record IsCuttable (st : Storage) (uid p : ℕ) (w : Ptw) : Type 0 where
   pub away : (f : ℕ) → w ≢ Here f
   pub inside : (r : ℕ) → w ≢ Out r
   pub bound : (f : ℕ) → w ≡ Leaving f → bound_page (frame_in st.pages f) ≡ Some (uid, p)
-
-bound_after : (x : Frame) (wrote : Bool) → bound_page (after_reference x wrote) ≡ bound_page x
-bound_after Free wrote = refl
-bound_after (Started u p) wrote = refl
-bound_after (Bound u p used modified) wrote = refl
 
 -- a reference leaves what a frame is bound to
 bound_cut : (st : Storage) (f at uid p : ℕ) → bound_page (frame_in st.pages f) ≡ Some (uid, p)

@@ -52,8 +52,7 @@ use Rattle.machine_model.specs.Ready.{OwnsFor, OwnsFrom}
 use Rattle.machine_model.specs.State.{Storage}
 use Rattle.machine_model.proofs.ActiveSeen.{active_place}
 use Rattle.machine_model.proofs.ListLaws.{map_list}
-use Rattle.flat_model.proofs.QuotaTotals.{found_uid}
-use Rattle.machine_model.proofs.TieLaws.{none_some, page_is}
+use Rattle.machine_model.proofs.TieLaws.{none_some}
 use Rattle.machine_model.proofs.TransferKept.{active_at}
 use Rattle.machine_tables.specs.Gone.{is_kept, left_entry}
 use Rattle.machine_tables.specs.Parts.{shown}
@@ -67,6 +66,8 @@ use Rattle.machine_tables.proofs.OrderLaws.{some_order}
 use Rattle.machine_tables.proofs.RefusalLaws.{shows_of}
 use Rattle.machine_tables.proofs.TakeLaws.{bound_parts}
 use Rattle.machine_tables.proofs.TruncateLaws.{IsCuttable, KeepsOthers, even_told, odd_told, told_of, truncated_keeps}
+use Rattle.tree_model.proofs.SharedLaws.{found_uid}
+use Rattle.laws.proofs.Options.{page_is}
 
 -- ---- the page that is cut
 

@@ -37,7 +37,8 @@ use Rattle.machine_model.proofs.OffChain.{pool_one_off}
 use Rattle.machine_model.proofs.TieLaws.{none_some}
 use Rattle.machine_model.proofs.TransferKept.{active_at}
 use Rattle.machine_model.proofs.WordLaws.{found}
-use Rattle.machine_tables.proofs.PoolLaws.{first_many, others_some, pool_few}
+use Rattle.machine_tables.proofs.PoolLaws.{others_some, pool_few}
+use Rattle.machine_model.proofs.VictimLaws.{first_pool}
 
 -- a number of a list has a place in it
 abbrev IsAt : List ℕ → ℕ → Type 0
@@ -138,7 +139,7 @@ module _ (now : Plain) (ast : ActiveSegs) (links : Links) (a : AccountMaps) (who
         (λ i lt. full (first_of ast.sizes (pool_of n) + i) (record { from = omega arith; to = omega (arith, lt) }))
         (let most = chain_length a.nodes t u in
         let many : 12 ≤ size_of ast.sizes (pool_of n) =
-        subst (λ (pool : ℕ). 12 ≤ size_of ast.sizes pool) (sym zeroth) (first_many ast.sizes pools) in
+        subst (λ (pool : ℕ). 12 ≤ size_of ast.sizes pool) (sym zeroth) (first_pool ast.sizes pools) in
         omega (arith, most, many))
 
     -- of another pool the chain has its last link at the most, which isn't active

@@ -1,8 +1,8 @@
 -- A day is a script. (own)
-use Rattle.std.proofs.Common.{◌≡◌, ℕ, suc, zero, ◌+◌, ◌<◌, ◌≤◌, ◌*◌, Bool, true, not, ◌&&◌, List, [], ◌∷◌, ◌++◌, refl}
+use Rattle.std.proofs.Common.{◌≡◌, ℕ, suc, zero, ◌+◌, ◌<◌, ◌≤◌, ◌*◌, Bool, true, not, List, [], ◌∷◌, ◌++◌, refl}
 use Rattle.std.proofs.Common.{ap, ◌∙◌, arith, codes, sum_by, Ok}
 use Rattle.std.proofs.lemmas.Bool.Decides.{nat_tests}
-use Rattle.std.proofs.lemmas.Bool.{and_parts}
+use Rattle.std.proofs.lemmas.Bool.{and_parts, and_from}
 use Rattle.std.proofs.lemmas.List.Sums.{sum_by-append, sum_by-cons}
 use Rattle.std.specs.List.{list_all}
 use Rattle.draws.specs.Draws.{drawn}
@@ -23,9 +23,6 @@ use Rattle.make_work.proofs.Drawing.{of_each}
 drawn_below : (m x : ℕ) → 0 < m → drawn m x < m
 unfolding drawn
 drawn_below m x some = omega arith
-
-both : (a b : Bool) → a ≡ true → b ≡ true → (a && b) ≡ true
-both a b e f = rw (e, f) refl
 
 -- ---- what holds of each reference
 
@@ -54,7 +51,7 @@ reference_weighs_one x = of_each (λ c. weight c ≡ 1) x refl refl refl refl re
 all_append : (p : Command → Bool) (xs ys : List Command) → list_all p xs ≡ true → list_all p ys ≡ true
     → list_all p (xs ++ ys) ≡ true
 all_append p [] ys h k = k
-all_append p (x ∷ xs) ys h k = let parts = and_parts (p x) (list_all p xs) h in both (p x) (list_all p (xs ++ ys))
+all_append p (x ∷ xs) ys h k = let parts = and_parts (p x) (list_all p xs) h in and_from (p x) (list_all p (xs ++ ys))
     parts.0 (all_append p xs ys parts.1 k)
 
 all_references : (p : Command → Bool) → ((x : ℕ) → p (reference_at x) ≡ true) → (n x : ℕ) → list_all p (references n x)
@@ -62,13 +59,13 @@ all_references : (p : Command → Bool) → ((x : ℕ) → p (reference_at x) �
 unfolding references
 all_references p each zero x = refl
 all_references p each (suc n) x = all_append p (references n x) (reference_at (state_at n x) ∷ [])
-    (all_references p each n x) (both (p (reference_at (state_at n x))) true (each (state_at n x)) refl)
+    (all_references p each n x) (and_from (p (reference_at (state_at n x))) true (each (state_at n x)) refl)
 
 ends_after : (cs : List Command) → list_all goes_on cs ≡ true → ends_once (cs ++ command.End ∷ []) ≡ true
 unfolding ends_once
 ends_after [] h = refl
-ends_after (c ∷ []) h = let parts = and_parts (goes_on c) true h in both (goes_on c) true parts.0 refl
-ends_after (c ∷ d ∷ cs) h = let parts = and_parts (goes_on c) (list_all goes_on (d ∷ cs)) h in both (goes_on c)
+ends_after (c ∷ []) h = let parts = and_parts (goes_on c) true h in and_from (goes_on c) true parts.0 refl
+ends_after (c ∷ d ∷ cs) h = let parts = and_parts (goes_on c) (list_all goes_on (d ∷ cs)) h in and_from (goes_on c)
     (ends_once ((d ∷ cs) ++ command.End ∷ [])) parts.0 (ends_after (d ∷ cs) parts.1)
 
 end_is : list_all (is_command 2) (command.End ∷ []) ≡ true
@@ -124,21 +121,21 @@ user_is j x few =
     all_append (is_command 2) refs (command.End ∷ [])
     (all_references (is_command 2) is_reference reference_count x) end_is in
     let third_is : list_all (is_command 2) (command.Initiate (own j) ∷ (refs ++ command.End ∷ [])) ≡ true =
-    both (is_command 2 (command.Initiate (own j))) (list_all (is_command 2) (refs ++ command.End ∷ []))
+    and_from (is_command 2 (command.Initiate (own j))) (list_all (is_command 2) (refs ++ command.End ∷ []))
     (initiates (own j) (has_own j few)) rest in
     let second_is : list_all (is_command 2) (command.Initiate shared ∷ command.Initiate (own j)
-    ∷ (refs ++ command.End ∷ [])) ≡ true = both (is_command 2 (command.Initiate shared)) _
+    ∷ (refs ++ command.End ∷ [])) ≡ true = and_from (is_command 2 (command.Initiate shared)) _
     (initiates shared has_shared) third_is in
     let all : list_all (is_command 2) (command.Initiate counter ∷ command.Initiate shared ∷ command.Initiate (own j)
-    ∷ (refs ++ command.End ∷ [])) ≡ true = both (is_command 2 (command.Initiate counter)) _
+    ∷ (refs ++ command.End ∷ [])) ≡ true = and_from (is_command 2 (command.Initiate counter)) _
     (initiates counter has_counter) second_is in
     let ends : ends_once (command.Initiate counter ∷ command.Initiate shared ∷ command.Initiate (own j)
     ∷ (refs ++ command.End ∷ [])) ≡ true = ends_after
     (command.Initiate counter ∷ command.Initiate shared ∷ command.Initiate (own j) ∷ refs)
     (all_references goes_on reference_goes_on reference_count x) in
-    let who : is_who (user_name j) ≡ true = both (is_label (numbered (codes "User") j)) (is_label default_project)
+    let who : is_who (user_name j) ≡ true = and_from (is_label (numbered (codes "User") j)) (is_label default_project)
     (has_user j few) has_project in
-    both (is_who (user_name j)) _ who (both _ _ all ends)
+    and_from (is_who (user_name j)) _ who (and_from _ _ all ends)
 
 user_weighs : (j x : ℕ) → weight_of (user j x) ≡ 2000
 unfolding weight_of user
@@ -161,7 +158,7 @@ initializer_weighs = refl
 
 users_are : (count j x : ℕ) → j + count ≤ 10 → list_all (is_process 2) (users j count x) ≡ true
 users_are zero j x few = refl
-users_are (suc count) j x few = both (is_process 2 (user j x)) _ (user_is j x (omega (arith, few)))
+users_are (suc count) j x few = and_from (is_process 2 (user j x)) _ (user_is j x (omega (arith, few)))
     (users_are count (j + 1) (state_at reference_count x) (omega (arith, few)))
 
 users_weigh : (count j x : ℕ) → sum_by weight_of (users j count x) ≡ 2000 * count
@@ -192,7 +189,7 @@ is_day n = record {
   fails = refl;
   most = omega arith;
   processes = omega arith;
-  each = both (is_process 2 initializer) _ initializer_is (users_are 4 1 n (omega arith));
+  each = and_from (is_process 2 initializer) _ initializer_is (users_are 4 1 n (omega arith));
   first = λ h. refl;
   commands = omega (arith, sum_by-cons weight_of initializer (users 1 4 n), initializer_weighs, users_weigh 4 1 n);
 }

@@ -1,15 +1,11 @@
 -- The text of one name more.
-use Rattle.std.proofs.Common.{◌≡◌, ℕ, ◌<◌, ◌+◌, List, [], ◌∷◌, ◌++◌, length, take, get_or, refl, ap, sym, ◌∙◌}
-use Rattle.std.proofs.Common.{append_assoc}
+use Rattle.std.proofs.Common.{◌≡◌, ℕ, ◌<◌, ◌+◌, List, [], ◌∷◌, ◌++◌, length, take, get_or, ap, sym, ◌∙◌}
+use Rattle.std.proofs.Common.{append_assoc, append-nil}
 use Rattle.std.proofs.lemmas.List.{take_more}
 use Rattle.mnames.specs.Names.{names_text}
 
-nil_after : (x : List ℕ) → x ++ [] ≡ x
-nil_after [] = refl
-nil_after (b ∷ bs) = ap (λ t. b ∷ t) (nil_after bs)
-
 names_text-push : (xs : List (List ℕ)) (x : List ℕ) → names_text (xs ++ x ∷ []) ≡ names_text xs ++ 62 ∷ x
-names_text-push [] x = ap (λ (t : List ℕ). 62 ∷ t) (nil_after x)
+names_text-push [] x = ap (λ (t : List ℕ). 62 ∷ t) (append-nil x)
 names_text-push (y ∷ ys) x = rw (names_text-push ys x) (simp append_assoc)
 
 pub names_text_more : (xs : List (List ℕ)) (i : ℕ) (x : List ℕ) → i < length xs → x ≡ get_or xs i x

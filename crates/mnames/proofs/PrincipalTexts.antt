@@ -1,5 +1,5 @@
 -- What the texts of principals and of rows are read back as.
-use Rattle.std.proofs.Common.{◌≡◌, ℕ, ◌+◌, ◌<◌, ◌≤◌, Bool, true, false, not, cond, ◌&&◌, eqb, ltb, List, [], ◌∷◌, ◌++◌}
+use Rattle.std.proofs.Common.{◌≡◌, ℕ, ◌+◌, ◌<◌, ◌≤◌, Bool, true, false, not, cond, eqb, ltb, List, [], ◌∷◌, ◌++◌}
 use Rattle.std.proofs.Common.{length, take, drop, Option, Some, None, refl, sym, ap, ◌∙◌, arith}
 use Rattle.std.specs.Prelude.{IfSome}
 use Rattle.std.specs.List.{list_all, position, position_or_len}
@@ -15,6 +15,8 @@ use Rattle.mnames.specs.Principals.{default_project, is_dot, before_dot, after_d
 use Rattle.mnames.specs.Principals.{parts_text, IsRow, any_text, part_of, row_with, row_of, row_text, row_parts_text}
 use Rattle.mnames.specs.declared.principals.Who.{Who}
 use Rattle.mnames.specs.declared.rows.Row.{Row}
+use Rattle.laws.proofs.Bools.{and_false}
+use Rattle.laws.proofs.Lists.{none_left}
 
 pub default_is_label : is_label default_project ≡ true
 unfolding is_label
@@ -25,10 +27,6 @@ unfolding is_label
 nothing_is_no_label = refl
 
 -- ---- the first dot
-
-and_no : (b : Bool) → (b && false) ≡ false
-and_no true = refl
-and_no false = refl
 
 -- a text in which no dot stands
 abbrev lacks_dots : List ℕ → Bool
@@ -46,11 +44,11 @@ unfolding is_label
 label_lacks_dots text h = bytes_lack_dots text (grind (arith, nat_tests))
 
 dotted_bytes : (xs ys : List ℕ) → list_all is_label_byte (xs ++ (46 ∷ ys)) ≡ false
-dotted_bytes xs ys = list_all-append is_label_byte xs (46 ∷ ys) ∙ and_no (list_all is_label_byte xs)
+dotted_bytes xs ys = list_all-append is_label_byte xs (46 ∷ ys) ∙ and_false (list_all is_label_byte xs)
 
 dotted_is_no_label : (xs ys : List ℕ) → is_label (xs ++ (46 ∷ ys)) ≡ false
 unfolding is_label
-dotted_is_no_label xs ys = rw (dotted_bytes xs ys) (and_no _)
+dotted_is_no_label xs ys = rw (dotted_bytes xs ys) (and_false _)
 
 first_dot : (xs ys : List ℕ) → lacks_dots xs ≡ true → position_or_len is_dot (xs ++ (46 ∷ ys)) ≡ length xs
 first_dot [] ys h = refl
@@ -123,8 +121,8 @@ part_label text h = rw (label_not_any text h, h) refl
 
 dotted_not_any : (xs ys : List ℕ) → bytes_eq (xs ++ (46 ∷ ys)) any_text ≡ false
 dotted_not_any [] ys = refl
-dotted_not_any (x ∷ []) ys = and_no (eqb x 42)
-dotted_not_any (x ∷ y ∷ xs) ys = and_no (eqb x 42)
+dotted_not_any (x ∷ []) ys = and_false (eqb x 42)
+dotted_not_any (x ∷ y ∷ xs) ys = and_false (eqb x 42)
 
 part_dotted : (xs ys : List ℕ) → part_of (xs ++ (46 ∷ ys)) ≡ None
 unfolding part_of
@@ -187,9 +185,6 @@ dot_found text i h = chosen (ltb (position_or_len is_dot text) (length text)) re
         (omega (arith, at, within), sym at)
     chosen false e h = grind (arith, nat_tests)
 
-dropped : (xs : List ℕ) (n : ℕ) → length xs ≤ n → drop n xs ≡ []
-dropped xs n le = grind (arith, common_steps)
-
 pub dot_missing : (text : List ℕ) → position is_dot text ≡ None → after_dot text ≡ []
 dot_missing text h = chosen (ltb (position_or_len is_dot text) (length text)) refl h
   where
@@ -198,7 +193,7 @@ dot_missing text h = chosen (ltb (position_or_len is_dot text) (length text)) re
     chosen true e h = grind (arith, nat_tests)
     chosen false e h =
         let past : length text ≤ position_or_len is_dot text = grind (arith, nat_tests) in
-        dropped text (position_or_len is_dot text + 1) (omega (arith, past))
+        none_left text (position_or_len is_dot text + 1) (omega (arith, past))
 
 -- what a search for the dot of a principal goes by
 pub ruleset dot_sought = (dot_found, dot_missing)

@@ -15,6 +15,7 @@ use Rattle.std.proofs.lemmas.Str.{IsUtf8-from_ascii, IsAscii-append}
 use Rattle.std.proofs.lemmas.Str.Ascii.{IsAscii-nil}
 use Rattle.std.proofs.Math.Nat.{pow-le-pow_right}
 use Rattle.mword.specs.Octal.{octal_digits, is_octal_digit, octal_number, is_octal, octal_value, IsOctal}
+use Rattle.laws.proofs.Bools.{and_first, and_right}
 
 pub octal_number_push : (ds : List ℕ) (d : ℕ) → octal_number (ds ++ d ∷ []) ≡ octal_number ds * 8 + (d - 48)
 unfolding octal_number
@@ -29,14 +30,6 @@ unfolding octal_digits
 length-octal_digits zero n = refl
 length-octal_digits (suc count) n = length_push (octal_digits count (n / 8)) (48 + n % 8)
     ∙ omega (arith, length-octal_digits count (n / 8))
-
-and_left : (a b : Bool) → (a && b) ≡ true → a ≡ true
-and_left true b h = refl
-and_left false b h = h
-
-and_right : (a b : Bool) → (a && b) ≡ true → b ≡ true
-and_right true b h = h
-and_right false b h = cc
 
 digit_is_octal : (r : ℕ) → is_octal_digit (48 + r % 8) ≡ true
 digit_is_octal r = grind (arith, nat_tests)
@@ -80,7 +73,7 @@ digit_test b l u = grind (arith, nat_tests)
 digits_facts : (text : List ℕ) → list_all is_octal_digit text ≡ true → All (λ byte. (48 ≤ byte) × (byte ≤ 55)) text
 digits_facts [] h = All-nil (λ byte. (48 ≤ byte) × (byte ≤ 55))
 digits_facts (b ∷ bs) h =
-    let first : is_octal_digit b ≡ true = and_left (is_octal_digit b) (list_all is_octal_digit bs) h in
+    let first : is_octal_digit b ≡ true = and_first (is_octal_digit b) (list_all is_octal_digit bs) h in
     let rest : list_all is_octal_digit bs ≡ true = and_right (is_octal_digit b) (list_all is_octal_digit bs) h in
     All-cons (λ byte. (48 ≤ byte) × (byte ≤ 55)) b bs (digit_facts b first) (digits_facts bs rest)
 
@@ -95,7 +88,7 @@ pub is_octal_facts : (text : List ℕ) → is_octal text ≡ true → IsOctal te
 unfolding is_octal
 is_octal_facts text h =
     let lengths : (nat_le 1 (length text) && nat_le (length text) 12) ≡ true =
-    and_left (nat_le 1 (length text) && nat_le (length text) 12) (list_all is_octal_digit text) h in
+    and_first (nat_le 1 (length text) && nat_le (length text) 12) (list_all is_octal_digit text) h in
     let digits : list_all is_octal_digit text ≡ true =
     and_right (nat_le 1 (length text) && nat_le (length text) 12) (list_all is_octal_digit text) h in
     record {

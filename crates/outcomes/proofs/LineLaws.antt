@@ -2,7 +2,7 @@
 use Rattle.std.proofs.Common.{◌≡◌, ℕ, suc, zero, ◌+◌, ◌-◌, ◌<◌, take, drop, get_or, add-one}
 use Rattle.std.proofs.Common.{Bool, true, false, ◌&&◌, ◌||◌, List, [], ◌∷◌, ◌++◌, length, refl, sym, ap, ◌∙◌}
 use Rattle.std.proofs.Common.{arith}
-use Rattle.std.proofs.lemmas.Bool.{false≢true, true≢false}
+use Rattle.std.proofs.lemmas.Bool.{false≢true, true≢false, or_left}
 use Rattle.std.specs.List.{flat_map, list_all, list_any}
 use Rattle.std.specs.Str.{bytes_eq}
 use Rattle.std.proofs.lemmas.List.{append_assoc, append-nil}
@@ -28,10 +28,6 @@ pub line_cut : (bs : List ℕ) (i : ℕ) → NoFeedBefore i bs → i < length bs
     → lines_of bs ≡ take i bs ∷ lines_of (take (length bs - (i + 1)) (drop (i + 1) bs))
 line_cut bs i clear lt e = rw (all_left bs (i + 1), add-one) (lines_split bs i clear lt e)
 
-or_true : (x y : Bool) → x ≡ true → (x || y) ≡ true
-or_true true y e = refl
-or_true false y e = absurd (false≢true e)
-
 or_false : (x y : Bool) → x ≡ false → (x || y) ≡ y
 or_false true y e = absurd (true≢false e)
 or_false false y e = refl
@@ -52,7 +48,7 @@ module _ (sought bytes line rest : List ℕ) (all : Bool) (cut : lines_of bytes 
     first = sym (ap (list_any (λ l. bytes_eq l sought)) cut) ∙ so
 
     pub line_found : bytes_eq line sought ≡ true → true ≡ all
-    line_found is = sym (or_true _ (has_line sought rest) is) ∙ first
+    line_found is = sym (or_left _ (has_line sought rest) is) ∙ first
 
     pub line_passed : bytes_eq line sought ≡ false → has_line sought rest ≡ all
     line_passed is = sym (or_false _ (has_line sought rest) is) ∙ first

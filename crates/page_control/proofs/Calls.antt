@@ -30,18 +30,21 @@ use Rattle.page_control.specs.Picture.{ChangesWords, ChangesStored}
 use Rattle.page_control.specs.Tied.{frame_of, has_record, is_away, is_out, map_at, IsTableOf, IsMapOf}
 use Rattle.page_control.specs.Ties.{IsTied, KeepsOthers}
 use Rattle.page_control.proofs.Facts.{binding_is, bindings_lost, bindings_with, starts_with, seen_same, bound_idle}
-use Rattle.page_control.proofs.Facts.{filed_in_use, within_from, record_is}
+use Rattle.page_control.proofs.Facts.{filed_in_use, record_is}
 use Rattle.page_control.proofs.Facts.{tied_filed, leaving_within}
-use Rattle.page_control.proofs.Ties.{not_none, frame_same, map_place, map_word, map_read, table_word, table_left}
+use Rattle.page_control.proofs.Ties.{frame_same, map_place, map_word, map_read, table_word, table_left}
 use Rattle.page_control.proofs.Ties.{table_read, table_lost, table_created}
 use Rattle.page_control.proofs.Ties.{frame_within}
-use Rattle.page_control.proofs.Pictures.{off_and_on, shown_in, shown_out, bound_now}
-use Rattle.page_control.proofs.Places.{none_put, put, refile, map_refiled}
+use Rattle.page_control.proofs.Pictures.{shown_in, shown_out, bound_now}
+use Rattle.page_control.proofs.Places.{put, refile, map_refiled}
 use Rattle.page_control.proofs.Naming.{filed_unstored, filed_stored}
 use Rattle.page_control.proofs.Counting.{counts_evicted, counts_read, counts_created, counts_lost, counts_same}
 use Rattle.page_control.proofs.Counting.{counts_dropped, taken_more, taken_less}
 use Rattle.page_control.proofs.Touching.{Touches, IsPage, page_none, page_some, refiles, moves, others_of, tie_own}
 use Rattle.page_control.proofs.Touching.{words_kept, words_other, stored_other}
+use Rattle.laws.proofs.Lists.{none_put, within_from}
+use Rattle.laws.proofs.Options.{not_none}
+use Rattle.laws.proofs.Bools.{off_and_on}
 
 -- where nothing has changed
 others_same : (s now : Plain) (uid : ℕ) (home : Home) → now ≡ s → KeepsOthers s now uid home

@@ -16,16 +16,17 @@ use Rattle.page_control.specs.Erasing.{IsPartErased}
 use Rattle.page_control.specs.Tied.{vtoc_in, flags_in, uid_at, map_at, HasNoFrame, AreFiled}
 use Rattle.page_control.specs.Picture.{words_at, words_filed, is_filed_at, is_stored}
 use Rattle.page_control.specs.Ties.{IsTied}
-use Rattle.page_control.proofs.Facts.{within_from}
-use Rattle.page_control.proofs.Ties.{not_none}
-use Rattle.page_control.proofs.Pictures.{off_and_on, shown_out, words_by}
+use Rattle.page_control.proofs.Pictures.{shown_out, words_by}
 use Rattle.page_control.proofs.Places.{put, put_other, put_here, volume_within, home_within, refile, map_refiled}
-use Rattle.page_control.proofs.Places.{uids_refiled, none_put, other_home}
+use Rattle.page_control.proofs.Places.{uids_refiled, other_home}
 use Rattle.page_control.proofs.Naming.{filed_unstored, filed_freed, maps_freed}
 use Rattle.page_control.proofs.Marks.{tie_mapped}
 use Rattle.page_control.proofs.Homes.{no_record}
 use Rattle.page_control.proofs.Counting.{fewer_at, named_less, none_named, named_here}
 use Rattle.page_control.specs.Counts.{taken, named_on}
+use Rattle.laws.proofs.Lists.{none_put, within_from}
+use Rattle.laws.proofs.Options.{not_none}
+use Rattle.laws.proofs.Bools.{off_and_on}
 
 freed_some : (flags : List Bool) (places : List (Option ℕ)) (place : Option ℕ) (r : ℕ) → place ≡ Some r
     → freed flags (place ∷ places) ≡ freed (set flags r false) places

@@ -1,8 +1,7 @@
 use Rattle.std.proofs.Common.{◌≡◌, ℕ, ◌<◌, arith, Bool, true, false, List, [], ◌∷◌, ◌++◌, length, Option, None, Some}
 use Rattle.std.proofs.Common.{refl, sym, ap, ◌∙◌, get_or, set}
-use Rattle.std.proofs.Common.{replicate, take, map, inl, inr, All, IsSome, is_some}
-use Rattle.std.proofs.lemmas.Bool.Decides.{leb_tells}
-use Rattle.std.proofs.lemmas.List.{get_or_past, get_or-set_same, set-set, map-set, length-map}
+use Rattle.std.proofs.Common.{replicate, take, map, All, IsSome, is_some}
+use Rattle.std.proofs.lemmas.List.{get_or-set_same, set-set, map-set, length-map}
 use Rattle.std.proofs.Math.ListN.{get_or-map}
 use Rattle.std.proofs.Math.Seq.{map-set_same}
 use Rattle.std.proofs.lemmas.List.Elements.{All-get_or}
@@ -20,6 +19,7 @@ use Rattle.page_control.specs.Plain.{Plain, Paging, plain, bindings, binding_at,
 use Rattle.page_control.specs.Plain.{entry_of, record_of, number_in, number_or_zero}
 use Rattle.page_control.specs.Tied.{frame_of, has_record, uid_in, uid_at, IsTableOf, IsMapOf, AreFiled}
 use Rattle.page_control.specs.Ties.{IsTied}
+use Rattle.laws.proofs.Lists.{within_from}
 
 -- a used entry is there
 pub some_entry : (entry : Option Entry) (uid : ℕ) → uid_of entry ≡ Some uid → IsSome entry
@@ -28,13 +28,6 @@ some_entry (Some entry) uid h = refl
 
 pub home_used : (s : Plain) (uid : ℕ) (home : Home) → uid_at s.vtocs home ≡ Some uid → IsSome (entry_of s home)
 home_used s uid home h = some_entry (entry_of s home) uid h
-
--- a place of a list whose element isn't the default is within the list
-pub within_from : {X : Type 0} (xs : List X) (i : ℕ) (d : X) → (get_or xs i d ≡ d → ⊥) → i < length xs
-within_from xs i d other = elim (leb_tells (length xs) i) [
-  | inl h ↦ absurd (other (get_or_past xs i d h.1))
-  | inr h ↦ h.1
-]
 
 pub here_within : (table : List Ptw) (p f : ℕ) → ptw_at table p ≡ Here f → p < length table
 here_within table p f h = within_from table p Null (λ e. cc)

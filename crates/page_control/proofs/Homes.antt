@@ -1,5 +1,5 @@
 -- A segment that gets a home.
-use Rattle.std.proofs.Common.{◌≡◌, ◌≢◌, ℕ, zero, suc, ◌<◌, replicate, List, [], length, Option, None, Some, refl, sym}
+use Rattle.std.proofs.Common.{◌≡◌, ◌≢◌, ℕ, zero, ◌<◌, replicate, List, [], length, Option, None, Some, refl, sym}
 use Rattle.std.proofs.Common.{ap, ◌∙◌}
 use Rattle.std.proofs.Common.{get_or, set, is_some, inl, inr}
 use Rattle.std.specs.Prelude.{IfSome, IfNone}
@@ -18,22 +18,19 @@ use Rattle.page_control.specs.Tied.{vtoc_in, frame_of, has_record, uid_at, map_a
 use Rattle.page_control.specs.Tied.{HasNoFrame, IsBlank}
 use Rattle.page_control.specs.Picture.{words_at, words_filed, is_filed_at, is_stored}
 use Rattle.page_control.specs.Ties.{IsTied, KeepsTies}
-use Rattle.page_control.proofs.Ties.{not_none}
 use Rattle.page_control.proofs.Places.{put, list_within, put_here, put_other, at_or_other, other_home}
-use Rattle.page_control.proofs.Pictures.{off_and_on, shown_out, words_by}
+use Rattle.page_control.proofs.Pictures.{shown_out, words_by}
 use Rattle.page_control.proofs.Marks.{tie_mapped}
 use Rattle.page_control.proofs.Naming.{filed_mapped}
 use Rattle.page_control.proofs.Counting.{used_more}
-
-pub alike : {X : Type 0} (n q : ℕ) (x : X) → get_or (replicate n x) q x ≡ x
-alike zero q x = refl
-alike (suc n) zero x = refl
-alike (suc n) (suc q) x = alike n q x
+use Rattle.laws.proofs.Lists.{all_same}
+use Rattle.laws.proofs.Options.{not_none}
+use Rattle.laws.proofs.Bools.{off_and_on}
 
 -- an empty file map names no record
 pub no_record : (q : ℕ) → get_or no_records q None ≡ None
 unfolding no_records
-no_record q = (let none : Option ℕ = None in alike 256 q none)
+no_record q = (let none : Option ℕ = None in all_same 256 q none)
 
 uid_here : (vtocs : List (List (Option Entry))) (v e : ℕ) (x : Option Entry) (other : Home) → v < length vtocs
     → e < length (vtoc_in vtocs v)

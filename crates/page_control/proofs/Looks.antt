@@ -12,9 +12,10 @@ use Rattle.page_control.specs.Tied.{frame_of, has_record, is_out, uid_in, IsTabl
 use Rattle.page_control.specs.Picture.{words_at, words_filed, is_filed_at, is_stored}
 use Rattle.page_control.specs.Ties.{IsTied, IsSeen}
 use Rattle.page_control.proofs.Facts.{binding_is, bound_from_page, bound_to, tied_filed, filed_in_use}
-use Rattle.page_control.proofs.Ties.{not_none, number_of, frame_same}
+use Rattle.page_control.proofs.Ties.{number_of, frame_same}
 use Rattle.page_control.proofs.Pictures.{uid_part, shown_in, shown_out}
 use Rattle.page_control.proofs.Counting.{fewer_at}
+use Rattle.laws.proofs.Options.{not_none}
 
 told : (frame : Frame) (uid p : ℕ) → bound_page frame ≡ Some (uid, p)
     → ◌≡◌ {A = Option (ℕ × ℕ)} (Some (uid_in frame, number_in frame)) (Some (uid, p))

@@ -22,11 +22,14 @@ use Rattle.page_control.specs.Tied.{vtoc_in, uid_at, uid_in, map_at, IsTableOf, 
 use Rattle.page_control.specs.Picture.{is_binding, words_held, words_of_page, words_at, is_filed_at, is_stored}
 use Rattle.page_control.specs.Picture.{changed_at, changed_page}
 use Rattle.page_control.specs.Ties.{IsTied, KeepsTies}
-use Rattle.page_control.proofs.Facts.{within_from, binding_is, bound_to, bindings_referred, here_within, leaving_within}
-use Rattle.page_control.proofs.Ties.{not_none, number_of, table_taken, table_back, map_taken, map_back}
-use Rattle.page_control.proofs.Pictures.{page, uid_part, off_and_on, binding_tells, found_at, in_frame_or_out}
+use Rattle.page_control.proofs.Facts.{binding_is, bound_to, bindings_referred, here_within, leaving_within}
+use Rattle.page_control.proofs.Ties.{number_of, table_taken, table_back, map_taken, map_back}
+use Rattle.page_control.proofs.Pictures.{page, uid_part, binding_tells, found_at, in_frame_or_out}
 use Rattle.page_control.proofs.Pictures.{words_by, out_by}
 use Rattle.page_control.proofs.Turns.{bindings_chosen, kept_chosen, inside_from, bound_inside}
+use Rattle.laws.proofs.Options.{not_none}
+use Rattle.laws.proofs.Bools.{off_and_on}
+use Rattle.laws.proofs.Lists.{within_from}
 
 stored_by : (s now : Plain) (h : Home) (q : ℕ) → map_at now.vtocs h ≡ map_at s.vtocs h → is_stored now h q
     ≡ is_stored s h q

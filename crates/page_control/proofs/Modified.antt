@@ -15,10 +15,13 @@ use Rattle.page_table.specs.PageTable.{ptw_at}
 use Rattle.page_control.specs.Plain.{Plain, bindings, binding_at, frame_in}
 use Rattle.page_control.specs.Tied.{frame_of, IsTableOf}
 use Rattle.page_control.specs.Moves.{modified_of, modified_before, all_modified, part_modified}
-use Rattle.page_control.proofs.Facts.{binding_is, bound_from_page, within_from}
-use Rattle.page_control.proofs.Ties.{frame_same, not_none}
+use Rattle.page_control.proofs.Facts.{binding_is, bound_from_page}
+use Rattle.page_control.proofs.Ties.{frame_same}
 use Rattle.page_control.proofs.Turns.{bound_inside}
 use Rattle.page_control.proofs.Marks.{Marks}
+use Rattle.laws.proofs.Numbers.{below}
+use Rattle.laws.proofs.Options.{not_none}
+use Rattle.laws.proofs.Lists.{within_from}
 
 -- ---- one frame
 
@@ -30,9 +33,6 @@ or_off true b = refl
 or_on : (m : Bool) → true ≡ m || true
 or_on false = refl
 or_on true = refl
-
-below : (a b : ℕ) → a < b → ltb a b ≡ true
-below a b h = elim (leb_tells (suc a) b) [ inl i ↦ i.0 | inr i ↦ absurd (omega (arith, h, i.1)) ]
 
 past : (a b : ℕ) → (a < b → ⊥) → ltb a b ≡ false
 past a b h = elim (leb_tells (suc a) b) [ inl i ↦ absurd (h i.1) | inr i ↦ i.0 ]

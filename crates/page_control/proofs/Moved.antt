@@ -16,11 +16,13 @@ use Rattle.page_control.specs.Picture.{is_binding, is_filed_at, is_stored, words
 use Rattle.page_control.specs.Picture.{words_of_page, words_out}
 use Rattle.page_control.specs.Ties.{IsTied, KeepsTies}
 use Rattle.page_control.specs.Moves.{IsHomeFor, IsCopied, KeepsHome, rehomed_word, rehomed}
-use Rattle.page_control.proofs.Facts.{within_from}
-use Rattle.page_control.proofs.Ties.{frame_same, not_none}
-use Rattle.page_control.proofs.Pictures.{found_at, off_and_on, words_by}
+use Rattle.page_control.proofs.Ties.{frame_same}
+use Rattle.page_control.proofs.Pictures.{found_at, words_by}
 use Rattle.page_control.proofs.Marks.{ties_marked, words_marked}
 use Rattle.page_control.proofs.Modified.{remarked, bindings_modified, reads_modified, marks_modified, all_on}
+use Rattle.laws.proofs.Options.{none_there, not_none}
+use Rattle.laws.proofs.Bools.{off_and_on}
+use Rattle.laws.proofs.Lists.{within_from}
 
 -- ---- the page table
 
@@ -146,18 +148,14 @@ word_cases (Out r) = inr (inr (r, refl))
 word_cases (Here f) = inl (f, refl)
 word_cases (Leaving f) = inl (f, refl)
 
-none_of : (x : Option ℕ) → is_some x ≡ false → x ≡ None
-none_of None h = refl
-none_of (Some r) h = cc
-
 -- a page that is in no frame has the same words at both homes, once it is copied
 out_same : (s : Plain) (uid : ℕ) (from to : Home) (t : List Ptw) (p : ℕ) → IsTied s uid from t → IsHomeFor s uid to t
     → IsCopied s t from to (length t) → ((f : ℕ) → frame_of (ptw_at t p) ≡ Some f → ⊥)
     → words_out s to p ≡ words_out s from p
 out_same s uid from to t p tie home copied away = elim (word_cases (ptw_at t p)) [
   | inl in_frame ↦ absurd (away in_frame.0 in_frame.1)
-  | inr (inl null) ↦ (let none : filed s from p ≡ None = none_of (filed s from p) (tie.map.stored p ∙ null) in
-      let also : filed s to p ≡ None = none_of (filed s to p) (home.stored p ∙ null) in
+  | inr (inl null) ↦ (let none : filed s from p ≡ None = none_there (filed s from p) (tie.map.stored p ∙ null) in
+      let also : filed s to p ≡ None = none_there (filed s to p) (home.stored p ∙ null) in
       ap (words_filed (disk_of s to.volume)) also ∙ sym (ap (words_filed (disk_of s from.volume)) none))
   | inr (inr out) ↦ copied.words p out.0
       (within_from t p Null (λ e. (let off : Null ≡ Out out.0 = sym e ∙ out.1 in cc))) out.1

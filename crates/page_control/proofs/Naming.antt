@@ -8,11 +8,12 @@ use Rattle.vtoc.specs.Vtoc.{Entry, record_at, records_in}
 use Rattle.page_control.specs.declared.Home.{Home}
 use Rattle.page_control.specs.Tied.{vtoc_in, flags_in, uid_at, map_at, AreFiled, IsNamed}
 use Rattle.page_control.proofs.Facts.{used_within}
-use Rattle.page_control.proofs.Ties.{not_none, frame_same}
-use Rattle.page_control.proofs.Pictures.{off_and_on}
+use Rattle.page_control.proofs.Ties.{frame_same}
 use Rattle.page_control.proofs.Places.{put, put_here, put_other, list_within, refile, volume_within, home_within}
 use Rattle.page_control.proofs.Places.{map_refiled, at_or_other}
 use Rattle.page_control.proofs.Filing.{AreUsed, used_of, refiled_cases, used_unstored, used_stored, used_fewer}
+use Rattle.laws.proofs.Options.{not_none}
+use Rattle.laws.proofs.Bools.{off_and_on}
 
 -- each record in use is named by some file map
 abbrev AreNamed : List (List Bool) → List (List (Option Entry)) → Type 0

@@ -11,8 +11,11 @@ use Rattle.page_control.specs.declared.Home.{Home}
 use Rattle.page_control.specs.Plain.{Plain, bindings, binding_at, words_in, disk_of, filed}
 use Rattle.page_control.specs.Tied.{IsInFrame, map_at}
 use Rattle.page_control.specs.Picture.{is_binding, words_filed, words_out, words_held, words_of_page, words_at}
-use Rattle.page_control.proofs.Ties.{not_none, bound_within}
-use Rattle.page_control.proofs.Firsts.{nowhere, position_at_one}
+use Rattle.page_control.proofs.Ties.{bound_within}
+use Rattle.page_control.proofs.Firsts.{position_at_one}
+use Rattle.laws.proofs.Options.{not_none}
+use Rattle.laws.proofs.Lists.{position_nowhere}
+use Rattle.laws.proofs.Bools.{off_and_on}
 
 -- the picture is that of its parts
 pub picture_by : (bound old_bound : List (Option (ℕ × ℕ))) (frames old_frames : List (List ℕ))
@@ -21,9 +24,6 @@ pub picture_by : (bound old_bound : List (Option (ℕ × ℕ))) (frames old_fram
     → vtocs ≡ old_vtocs
     → words_of_page bound frames disks vtocs ≡ words_of_page old_bound old_frames old_disks old_vtocs
 picture_by bound old_bound frames old_frames disks old_disks vtocs old_vtocs b f d v = rw (b, f, d, v) refl
-
-pub off_and_on : (b : Bool) → b ≡ false → b ≡ true → ⊥
-off_and_on b h i = cc
 
 -- a binding as a page
 abbrev pub page : ℕ → ℕ → Option (ℕ × ℕ)
@@ -54,7 +54,7 @@ off_from x uid p false is other = is
 -- a page that no frame is bound to, and one that one frame is bound to
 pub found_nowhere : (bound : List (Option (ℕ × ℕ))) (uid p : ℕ) → ((g : ℕ) → binding_at bound g ≡ page uid p → ⊥)
     → position (is_binding uid p) bound ≡ None
-found_nowhere bound uid p none = nowhere (is_binding uid p) bound None
+found_nowhere bound uid p none = position_nowhere (is_binding uid p) bound None
     (λ g. off_from (binding_at bound g) uid p _ refl (none g))
 
 pub found_at : (bound : List (Option (ℕ × ℕ))) (uid p f : ℕ) → binding_at bound f ≡ page uid p

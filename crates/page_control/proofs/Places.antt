@@ -7,8 +7,9 @@ use Rattle.std.proofs.lemmas.List.{get_or-set_same, get_or-set_other, get_or_pas
 use Rattle.vtoc.specs.Vtoc.{Entry, entry_at, records_in, uid_of, with_record}
 use Rattle.page_control.specs.declared.Home.{Home}
 use Rattle.page_control.specs.Tied.{vtoc_in, uid_at, map_at}
-use Rattle.page_control.proofs.Facts.{within_from}
-use Rattle.page_control.proofs.Ties.{not_none, frame_same}
+use Rattle.page_control.proofs.Ties.{frame_same}
+use Rattle.laws.proofs.Options.{not_none}
+use Rattle.laws.proofs.Lists.{within_from}
 
 -- place e of list v becomes x
 abbrev pub put : {X : Type 0} → List (List X) → ℕ → ℕ → X → List (List X)
@@ -33,14 +34,6 @@ put_other xs v e x d w g vl other = elim (cases_eq w v) [
 pub list_within : {X : Type 0} (xs : List (List X)) (v e : ℕ) → e < length (get_or xs v []) → v < length xs
 list_within xs v e lt = within_from xs v [] (λ none. (let no : length (get_or xs v []) ≡ 0 =
     ap length none in omega (arith, no, lt)))
-
--- a place that holds None, or one number
-pub none_put : {X : Type 0} (xs : List (Option X)) (p : ℕ) → get_or (set xs p None) p None ≡ None
-none_put xs p = elim (leb_tells (length xs) p) [
-  | inl past ↦ ap (λ (ys : List (Option _)). get_or ys p None) (set_past xs p None past.1)
-      ∙ get_or_past xs p None past.1
-  | inr lt ↦ get_or-set_same xs p None None lt.1
-]
 
 pub some_put : (xs : List (Option ℕ)) (p r s : ℕ) → get_or (set xs p (Some r)) p None ≡ Some s → s ≡ r
 some_put xs p r s is = elim (leb_tells (length xs) p) [

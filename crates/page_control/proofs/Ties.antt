@@ -9,10 +9,12 @@ use Rattle.page_table.specs.PageTable.{ptw_at}
 use Rattle.core_map.specs.declared.Frame.TheVariants.{Free, Started, Bound}
 use Rattle.core_map.specs.CoreMap.{Core, frame_at, with_frame, bound_page}
 use Rattle.page_control.specs.Plain.{binding_at, bindings}
-use Rattle.page_control.proofs.Facts.{within_from, binding_is, bindings_with, seen_same, here_within}
+use Rattle.page_control.proofs.Facts.{binding_is, bindings_with, seen_same, here_within}
 use Rattle.page_control.proofs.Facts.{leaving_within, out_within}
 use Rattle.std.proofs.lemmas.List.{length-map}
 use Rattle.page_control.specs.Tied.{frame_of, has_record, IsTableOf, IsMapOf}
+use Rattle.laws.proofs.Options.{not_none}
+use Rattle.laws.proofs.Lists.{within_from}
 
 abbrev pub number_of : Option (ℕ × ℕ) → ℕ
 number_of None = 0
@@ -23,9 +25,6 @@ page_same x uid p q h i = sym (ap number_of h) ∙ ap number_of i
 
 pub frame_same : (x : Option ℕ) (f g : ℕ) → x ≡ Some f → x ≡ Some g → f ≡ g
 frame_same x f g h i = cc
-
-pub not_none : {A : Type 0} (x : Option A) (a : A) → x ≡ None → x ≡ Some a → ⊥
-not_none x a h i = cc
 
 -- frame f, which was bound to no page, is bound to page p, whose word named no frame
 pub table_in : (old new : List (Option (ℕ × ℕ))) (uid : ℕ) (t u : List Ptw) (p f : ℕ) → IsTableOf old uid t → new

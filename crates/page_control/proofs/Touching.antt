@@ -19,11 +19,13 @@ use Rattle.page_control.specs.Picture.{is_binding, words_filed, words_held, word
 use Rattle.page_control.specs.Picture.{is_filed_at, is_stored, KeepsWords}
 use Rattle.page_control.specs.Ties.{IsTied, KeepsOthers}
 use Rattle.page_control.proofs.Facts.{bindings_with}
-use Rattle.page_control.proofs.Ties.{not_none, number_of}
+use Rattle.page_control.proofs.Ties.{number_of}
 use Rattle.page_control.proofs.Firsts.{position_kept}
-use Rattle.page_control.proofs.Pictures.{uid_part, off_and_on, off_from, filed_same, bound_now, in_frame_kept}
+use Rattle.page_control.proofs.Pictures.{uid_part, off_from, filed_same, bound_now, in_frame_kept}
 use Rattle.page_control.proofs.Places.{refile, map_refiled, maps_refiled, uids_refiled, one_home, one_uid}
 use Rattle.page_control.proofs.Places.{same_or_other}
+use Rattle.laws.proofs.Options.{not_none}
+use Rattle.laws.proofs.Bools.{off_and_on}
 
 -- a frame is bound to page p of segment uid, or to none
 abbrev pub IsPage : Option (ℕ × ℕ) → ℕ → ℕ → Type 0

@@ -8,7 +8,8 @@ use Rattle.core_map.specs.declared.Frame.TheVariants.{Free, Started, Bound}
 use Rattle.core_map.specs.CoreMap.{Core, frame_at, is_bound, bound_page}
 use Rattle.core_map.specs.Clock.{IsClockChoice, PassesOver, frame_in, unmarked, way}
 use Rattle.page_control.specs.Plain.{bindings, binding_at}
-use Rattle.page_control.proofs.Facts.{binding_is, bound_from_page, within_from}
+use Rattle.page_control.proofs.Facts.{binding_is, bound_from_page}
+use Rattle.laws.proofs.Lists.{within_from}
 
 -- a bound frame is within the core
 bound_not_free : (frame : Frame) → frame ≡ Free → is_bound frame ≡ true → ⊥

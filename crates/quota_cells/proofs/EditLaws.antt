@@ -10,7 +10,7 @@ use Rattle.std.proofs.lemmas.List.Edits.{get_or-remove_above}
 use Rattle.quota_cells.specs.Accounts.{look, has, weigh}
 use Rattle.quota_cells.specs.Cells.{IsRising}
 use Rattle.quota_cells.specs.Columns.{IsGap}
-use Rattle.quota_cells.proofs.PlaceLaws.{absent}
+use Rattle.quota_cells.proofs.PlaceLaws.{absent, rising_tail}
 use Rattle.quota_cells.specs.Laws.{look_absent}
 use Rattle.dir_tree.specs.Laws.{Where, Before, Here, After, where_is}
 
@@ -50,9 +50,6 @@ weigh_insert t (k ∷ ks) [] (suc i) u len = absurd (omega arith)
 weigh_insert t (k ∷ ks) (w ∷ ws) (suc i) u len = ap (λ n. (if t k then w else 0) + n)
     (weigh_insert t ks ws i u (omega arith))
 
-rising_rest : (k : ℕ) (ks : List ℕ) → IsRising (k ∷ ks) → IsRising ks
-rising_rest k ks up i j lt within = up (suc i) (suc j) (omega arith) (omega arith)
-
 first_absent : (k : ℕ) (ks : List ℕ) → IsRising (k ∷ ks) → has ks k ≡ false
 first_absent k ks up = absent ks k (λ i lt e. (let less : k < get_or ks i 0 =
     up 0 (suc i) (omega arith) (omega arith) in omega arith))
@@ -66,7 +63,7 @@ has_remove (k ∷ ks) zero v up lt = elim (cases_eq k v) [
 ]
 has_remove (k ∷ ks) (suc i) v up lt =
     let ih : has (remove ks i) v ≡ (has ks v && not (eqb (get_or ks i 0) v)) =
-    has_remove ks i v (rising_rest k ks up) (omega arith) in
+    has_remove ks i v (rising_tail k ks up) (omega arith) in
     let less : k < get_or ks i 0 = up 0 (suc i) (omega arith) lt in
     elim (cases_eq k v) [
       | inl same ↦ rw (eq-eqb k v same, ne_eqb (get_or ks i 0) v (λ q. omega arith)) refl
@@ -82,7 +79,7 @@ look_remove (k ∷ ks) (w ∷ vs) (suc i) v len up lt ne =
     elim (cases_Bool (eqb k v)) [
       | inl t ↦ rw t refl
       | inr f ↦ rw f
-          (look_remove ks vs i v (omega arith) (rising_rest k ks up) (omega arith) ne)
+          (look_remove ks vs i v (omega arith) (rising_tail k ks up) (omega arith) ne)
     ]
 
 pub look_gone : (ks vs : List ℕ) (i : ℕ) → IsRising ks → i < length ks

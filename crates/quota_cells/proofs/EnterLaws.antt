@@ -28,6 +28,7 @@ use Rattle.quota_cells.proofs.EditLaws.{has_insert, look_insert, weigh_insert, h
 use Rattle.quota_cells.proofs.EditLaws.{weigh_remove, rising_insert, rising_remove}
 use Rattle.dir_tree.specs.Laws.{directory_shape, segment_shape}
 use Rattle.quota_cells.specs.Laws.{look_absent, on_directories, on_segments}
+use Rattle.laws.proofs.Bools.{and_false}
 
 -- what no uid passes weighs nothing
 pub no_weight : (t : ℕ → Bool) (ks ws : List ℕ) → ((k : ℕ) → has ks k ≡ true → t k ≡ false) → weigh t ks ws ≡ 0
@@ -109,10 +110,6 @@ module _ (nodes : List Node) (n : Node) (old new : CellMaps) (fits : Fits nodes 
   }
 
 -- ---- a cell less
-
-and_false : (b : Bool) → (b && false) ≡ false
-and_false true = refl
-and_false false = refl
 
 -- what tells of the node of a uid, by what it tells of nodes
 module _ (is : List Node → ℕ → Bool) (kind : Node → Bool) (none : (u : ℕ) → is [] u ≡ false)

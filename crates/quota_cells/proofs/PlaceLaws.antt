@@ -11,7 +11,7 @@ use Rattle.quota_cells.specs.Cells.{IsRising}
 use Rattle.quota_cells.specs.Columns.{AreThere, IsFalling}
 use Rattle.quota_cells.proofs.ColumnLaws.{look_with, length_changed, get_changed}
 
-rising_tail : (k : ℕ) (ks : List ℕ) → IsRising (k ∷ ks) → IsRising ks
+pub rising_tail : (k : ℕ) (ks : List ℕ) → IsRising (k ∷ ks) → IsRising ks
 rising_tail k ks up i j lt within = up (suc i) (suc j) (omega arith) (omega arith)
 
 pub look_at : (ks vs : List ℕ) (i : ℕ) → IsRising ks → i < length ks → look ks vs (get_or ks i 0) ≡ get_or vs i 0

@@ -8,6 +8,7 @@ use Rattle.quota_cells.specs.Accounts.{has, with_value, with_beside, without_bes
 use Rattle.quota_cells.specs.Cells.{CellMaps, IsRising, quota_in, load_in, with_loads}
 use Rattle.quota_cells.specs.Columns.{AreThere, IsGap}
 use Rattle.quota_cells.proofs.PlaceLaws.{Going, going_here, going_next, going_ends, changed_none, look_at, set_there}
+use Rattle.quota_cells.proofs.PlaceLaws.{rising_tail}
 
 -- ---- one more, and one less
 
@@ -30,9 +31,6 @@ insert_beside (k ∷ ks) (w ∷ vs) u (suc i) v len gap =
     let more : k < u = gap.below 0 (omega arith) in
     rw (le-ltb u k (omega arith)) (ap (λ xs. w ∷ xs) (insert_beside ks vs u i v (omega arith) (rest_gap k ks u i gap)))
 
-rising_rest : (k : ℕ) (ks : List ℕ) → IsRising (k ∷ ks) → IsRising ks
-rising_rest k ks up i j lt within = up (suc i) (suc j) (omega arith) (omega arith)
-
 pub remove_beside : (ks vs : List ℕ) (i : ℕ) → length vs ≡ length ks → IsRising ks → i < length ks → remove vs i
     ≡ without_beside ks vs (get_or ks i 0)
 remove_beside [] vs i len up lt = absurd (omega arith)
@@ -41,7 +39,7 @@ remove_beside (k ∷ ks) (w ∷ vs) zero len up lt = rw (eq-eqb k k refl) refl
 remove_beside (k ∷ ks) (w ∷ vs) (suc i) len up lt =
     let less : k < get_or ks i 0 = up 0 (suc i) (omega arith) lt in
     rw (ne_eqb k (get_or ks i 0) (λ q. omega arith)) (ap (λ xs. w ∷ xs)
-    (remove_beside ks vs i (omega arith) (rising_rest k ks up) (omega arith)))
+    (remove_beside ks vs i (omega arith) (rising_tail k ks up) (omega arith)))
 
 -- a uid that isn't there has a gap, and one that is there has a place
 pub gap_of : (ks : List ℕ) (u : ℕ) → IsRising ks → has ks u ≡ false → (i : ℕ) × IsGap ks u i
@@ -67,7 +65,7 @@ gap_of (k ∷ ks) u up off = elim (cases_order u k) [
       },
     )
     | inr more ↦
-        (let g = gap_of ks u (rising_rest k ks up) (rw (ne_eqb k u (λ q. omega arith)) at off) in
+        (let g = gap_of ks u (rising_tail k ks up) (rw (ne_eqb k u (λ q. omega arith)) at off) in
         let w : g.0 ≤ length ks = g.1.within in (
           suc g.0,
           record {

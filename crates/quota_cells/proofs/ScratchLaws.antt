@@ -33,6 +33,7 @@ use Rattle.quota_cells.proofs.OverLaws.{passes, later, fits2, conserved, q2_g, q
 use Rattle.quota_cells.proofs.TransferLaws.{IsBelow, top, answer_ok}
 use Rattle.dir_tree.specs.Laws.{above_any, directory_shape, not_in_directory, segment_in, segment_not, uid_shape}
 use Rattle.quota_cells.specs.Laws.{look_absent, on_directories, on_segments}
+use Rattle.tree_model.proofs.SharedLaws.{least_none}
 
 -- ---- counts of pages beside uids are counts over the pages
 
@@ -182,10 +183,6 @@ module _ (nodes : List Node) (c : CellMaps) (fits : Fits nodes c) (chains : HasC
         [ inl y ↦ rw y refl | inr n ↦ rw n refl ])
 
 -- ---- the least that passes
-
-least_none : (t : ℕ → Bool) (us : List ℕ) → ((u : ℕ) → t u ≡ false) → least_where t us ≡ None
-least_none t [] none = refl
-least_none t (u ∷ us) none = rw (none u) (least_none t us none)
 
 lesser_same : (a : ℕ) (o : Option ℕ) → ((v : ℕ) → o ≡ Some v → a ≤ v) → lesser a o ≡ a
 lesser_same a None le = refl

@@ -25,16 +25,13 @@ use Rattle.quota_cells.proofs.OverLaws.{load1_falls, load1_stays, load2_rises}
 use Rattle.quota_cells.proofs.OverLaws.{load2_stays, over_who}
 use Rattle.dir_tree.specs.Laws.{directory_shape}
 use Rattle.quota_cells.specs.Laws.{on_directories}
+use Rattle.tree_model.proofs.ChainLaws.{under_more}
 
 account_above : (q r : ℕ → ℕ) (x : ℕ) (xs : List ℕ) → ((y : ℕ) → y ≢ x → r y ≡ q y) → AreUnder x xs → account r xs
     ≡ account q xs
 account_above q r x [] same a = refl
 account_above q r x (y ∷ ys) same a = (let here : r y ≡ q y = same y (λ z. (let lt : y < x = a.0 in omega arith)) in
     rw (here, account_above q r x ys same a.1) refl)
-
-under_weaker : (u v : ℕ) (xs : List ℕ) → v < u → AreUnder v xs → AreUnder u xs
-under_weaker u v [] lt a = tt
-under_weaker u v (x ∷ xs) lt a = ((let l : x < v = a.0 in omega arith), under_weaker u v xs lt a.1)
 
 -- what stands above a directory that isn't the root
 pub record IsBelow (nodes : List Node) (d s : ℕ) : Type 0 where
@@ -93,7 +90,7 @@ module _ (nodes : List Node) (c : CellMaps) (table : IsTable c) (fits : Fits nod
   s_not_d e = omega arith
 
   under_d : AreUnder d (f s)
-  under_d = under_weaker d s (f s) below (chains.under s)
+  under_d = under_more d s (f s) below (chains.under s)
 
   -- ---- down to the directory
 

@@ -1,8 +1,8 @@
 -- A listing goes on line by line.
 use Rattle.std.proofs.Common.{◌≡◌, ℕ, ◌+◌, ◌<◌, ◌^◌, true, false, List, [], ◌∷◌, ◌++◌, length, Result, Ok, Err, map}
-use Rattle.std.proofs.Common.{Option, refl, sym, ap, subst, ◌∙◌, arith, inl, inr}
+use Rattle.std.proofs.Common.{Option, refl, sym, ap, subst, ◌∙◌, arith, inl, inr, append-nil as nil_after}
 use Rattle.book.specs.declared.entries.Entry.{Entry}
-use Rattle.std.proofs.lemmas.List.{append_assoc, map-append, append-nil}
+use Rattle.std.proofs.lemmas.List.{append_assoc, map-append}
 use Rattle.book.specs.Entries.{entry_text}
 use Rattle.script.specs.Plans.{Plan}
 use Rattle.custody.specs.Tables.{AreTablesOf, HaveRoom}
@@ -104,9 +104,6 @@ ends_faulty old new left more line f r cut before one takes same is =
     breaks es after = subst (λ (x : LineFault). Meets old new es line (Err x)) is (takes es after)
 
 -- ---- the line at fault
-
-nil_after : (es : List Entry) → es ++ [] ≡ es
-nil_after es = append-nil es
 
 module _ (p : Plan) (n : ℕ) (es : List Entry) (o : Offence) where
   -- where the summary begins

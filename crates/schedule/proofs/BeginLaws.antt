@@ -1,11 +1,12 @@
 -- Laws of fields that begin so (own).
 use Rattle.std.proofs.Common.{◌≡◌, ℕ, ◌+◌, ◌<◌, Bool, true, false, ◌&&◌, cond, List, [], ◌∷◌, length, map, drop, get_or, Some}
-use Rattle.std.proofs.Common.{None, refl, sym, ap, ◌∙◌, drop-cons, add-one}
+use Rattle.std.proofs.Common.{None, refl, sym, ap, ◌∙◌}
 use Rattle.std.specs.Str.{bytes_eq}
 use Rattle.std.proofs.lemmas.List.{drop-map}
 use Rattle.std.proofs.lemmas.Option.{none-some}
 use Rattle.std.proofs.lemmas.Slice.Eq.{bytes_eq-Decides}
 use Rattle.schedule.specs.Fields.{after_word, begins}
+use Rattle.laws.proofs.Lists.{one_left}
 
 -- the first field is another one, or there is none
 begins_other : (word : List ℕ) (words fields : List (List ℕ)) → after_word word fields ≡ None
@@ -16,9 +17,6 @@ begins_other word words (field ∷ fields) e = by (bytes_eq field word) e
     by : (b : Bool) → cond b (Some fields) None ≡ None → (b && begins words fields) ≡ false
     by true e = absurd (none-some fields (sym e))
     by false e = refl
-
-one_left : {X : Type 0} (xs : List X) (i : ℕ) (d : X) → i < length xs → drop i xs ≡ get_or xs i d ∷ drop (i + 1) xs
-one_left xs i d lt = rw (add-one, drop-cons xs i d) refl
 
 -- what is left of some texts from a place on
 pub left_at : {X : Type 0} (text : X → List ℕ) (xs : List X) (i : ℕ) (x : X) → i < length xs → x ≡ get_or xs i x

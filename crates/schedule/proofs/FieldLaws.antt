@@ -5,9 +5,7 @@ use Rattle.std.proofs.lemmas.Bool.Decides.{nat_tests}
 use Rattle.std.proofs.lemmas.Grind.{common_steps}
 use Rattle.script.proofs.LineSteps.{all_left, drop_at}
 use Rattle.script.specs.Fields.{fields_of, onto_field}
-
-none_left : (xs : List ℕ) (i : ℕ) → length xs ≤ i → drop i xs ≡ []
-none_left xs i h = grind (arith, common_steps)
+use Rattle.laws.proofs.Lists.{none_left}
 
 -- spaces before a field
 fields_space : (b : ℕ) (bs : List ℕ) → b ≡ 32 → fields_of (b ∷ bs) ≡ fields_of bs

@@ -1,10 +1,10 @@
 -- Laws of lines (own).
-use Rattle.std.proofs.Common.{◌≡◌, ℕ, suc, zero, ◌+◌, ◌-◌, ◌<◌, ◌≤◌, List, [], ◌∷◌, ◌++◌, length}
+use Rattle.std.proofs.Common.{◌≡◌, ℕ, suc, zero, ◌+◌, ◌-◌, ◌<◌, List, [], ◌∷◌, ◌++◌, length}
 use Rattle.std.proofs.Common.{refl, sym, ap, ◌∙◌, arith, get_or, take, drop, add-one}
-use Rattle.std.proofs.lemmas.Grind.{common_steps}
 use Rattle.script.proofs.LineSteps.{NoFeedBefore, all_left, line_byte, line_feed, line_last}
 use Rattle.script.specs.Fields.{lines_of, onto_piece}
 use Rattle.schedule.specs.Passing.{Closes}
+use Rattle.laws.proofs.Lists.{length_left, rest_last, take_drop}
 
 -- the bytes up to the first line feed are a line, whatever follows
 closes_at : (bs : List ℕ) (i : ℕ) → NoFeedBefore i bs → i < length bs → get_or bs i 0 ≡ 10
@@ -14,12 +14,6 @@ closes_at (b ∷ bs) zero clear lt e rest = line_feed b rest e
 closes_at (b ∷ bs) (suc i) clear lt e rest =
     line_byte b (take (suc i) bs ++ rest) (clear 0 (omega arith))
     ∙ ap (onto_piece b) (closes_at bs i (λ k h. clear (suc k) (omega arith)) (omega arith) e rest)
-
-take_drop : (bs : List ℕ) (i : ℕ) → take i bs ++ drop i bs ≡ bs
-take_drop bs i = grind (arith, common_steps)
-
-length_left : (xs : List ℕ) (i : ℕ) → i ≤ length xs → length xs - length (drop i xs) ≡ i
-length_left xs i le = grind (arith, common_steps)
 
 pub line_cut : (bs : List ℕ) (i : ℕ) → NoFeedBefore i bs → i < length bs → get_or bs i 0 ≡ 10
     → lines_of bs ≡ take i bs ∷ lines_of (take (length bs - (i + 1)) (drop (i + 1) bs))
@@ -39,9 +33,6 @@ front_closes bs i clear lt e rest =
     ap (λ (t : List ℕ). length bs - length t) (all_left bs (i + 1)) ∙ length_left bs (i + 1) (omega arith)
     ∙ omega arith in
     ap (λ (n : ℕ). lines_of (take n bs ++ rest)) place ∙ closes_at bs i clear lt e rest
-
-pub rest_last : (bs : List ℕ) → [] ≡ drop (length bs - 0) bs
-rest_last bs = grind (arith, common_steps)
 
 -- what the proof of `next_line` is given
 pub ruleset next_line_steps = (line_cut, line_last, rest_cut, rest_last, front_closes)

@@ -10,7 +10,7 @@ use Rattle.std.specs.Str.{bytes_eq}
 use Rattle.mnames.specs.declared.rows.Row.{Row}
 use Rattle.mword.proofs.OctalLaws.{octal_below, octal_bound_more}
 use Rattle.mword.specs.Octal.{is_octal, is_octal_digit, octal_number, octal_value}
-use Rattle.script.proofs.PathLaws.{and_both, and_parts, path_only}
+use Rattle.script.proofs.PathLaws.{path_only}
 use Rattle.script.proofs.PrincipalLaws.{row_read}
 use Rattle.script.specs.Commands.{path_alone, path_and_number, place_in, place_and_word}
 use Rattle.script.specs.Commands.{mkdir_of, mkseg_of, initiate_of, terminate_of, read_of, write_of, add_of}
@@ -25,6 +25,8 @@ use Rattle.script.specs.declared.commands.Command.TheVariants as command
 use Rattle.script.specs.declared.plan.VolumeLine.{VolumeLine}
 use Rattle.script.specs.declared.refusals.Cause.{Cause}
 use Rattle.script.specs.declared.refusals.Cause.TheVariants as cause
+use Rattle.std.proofs.lemmas.Bool.{and_from}
+use Rattle.laws.proofs.Bools.{and_parts}
 
 -- ---- a rule that holds of what is read
 
@@ -188,7 +190,7 @@ unfolding place_in
 place_keeps number offset =
     then_keeps (From 0 255) IsAPlace (number_in 0 255 number) _ (number_keeps 0 255 number) (λ n h.
     then_keeps (From 0 999999) IsAPlace (number_in 0 999999 offset) _ (number_keeps 0 999999 offset) (λ o k.
-    keeps_ok IsAPlace (n, o) (and_both (nat_le n 255) (nat_le o 999999) (up_to_most 255 n h)
+    keeps_ok IsAPlace (n, o) (and_from (nat_le n 255) (nat_le o 999999) (up_to_most 255 n h)
     (up_to_most 999999 o k))))
 
 abbrev IsPlaceAndWord : ℕ × ℕ × ℕ → Type 0
@@ -200,7 +202,7 @@ place_and_word_keeps fields =
     any_keeps IsPlaceAndWord (three_fields fields) _ (λ f.
     then_keeps IsAPlace IsPlaceAndWord (place_in f.0 f.1) _ (place_keeps f.0 f.1) (λ p h.
     then_keeps IsAWord IsPlaceAndWord (word_in f.2) _ (word_keeps f.2) (λ w k.
-    keeps_ok IsPlaceAndWord (p.0, p.1, w) (and_both (is_place p.0 p.1) (is_word w) h k))))
+    keeps_ok IsPlaceAndWord (p.0, p.1, w) (and_from (is_place p.0 p.1) (is_word w) h k))))
 
 -- ---- commands
 
@@ -245,7 +247,7 @@ mkdir_keeps vs fields =
     pathed_keeps (length vs) (two_fields fields) (λ f. f.0) _ (λ f path p.
     then_keeps (Below (length vs)) (Goes (length vs)) (volume_in vs f.1) _ (volume_keeps vs f.1) (λ volume v.
     keeps_ok (Goes (length vs)) (command.MkDir path volume)
-    (record { range = and_both (is_path path) (nat_lt volume (length vs)) p v; going = refl })))
+    (record { range = and_from (is_path path) (nat_lt volume (length vs)) p v; going = refl })))
 
 mkseg_keeps : (vs : List VolumeLine) (fields : List (List ℕ)) → Keeps (Goes (length vs)) (mkseg_of vs fields)
 unfolding mkseg_of is_command
@@ -254,8 +256,8 @@ mkseg_keeps vs fields =
     then_keeps (From 1 256) (Goes (length vs)) (number_in 1 256 f.1) _ (number_keeps 1 256 f.1) (λ pages n.
     then_keeps (Below (length vs)) (Goes (length vs)) (volume_in vs f.2) _ (volume_keeps vs f.2) (λ volume v.
     keeps_ok (Goes (length vs)) (command.MkSeg path pages volume) (record {
-      range = and_both (is_path path) (is_from 1 256 pages && nat_lt volume (length vs)) p
-          (and_both (is_from 1 256 pages) (nat_lt volume (length vs)) n v);
+      range = and_from (is_path path) (is_from 1 256 pages && nat_lt volume (length vs)) p
+          (and_from (is_from 1 256 pages) (nat_lt volume (length vs)) n v);
       going = refl;
     }))))
 
@@ -281,8 +283,8 @@ await_keeps volumes fields =
     then_keeps IsAWord (Goes volumes) (word_in f.2) _ (word_keeps f.2) (λ w k.
     then_keeps (From 1 100000) (Goes volumes) (number_in 1 100000 f.3) _ (number_keeps 1 100000 f.3) (λ tries n.
     keeps_ok (Goes volumes) (command.Await p.0 p.1 w tries) (record {
-      range = and_both (is_place p.0 p.1) (is_word w && is_from 1 100000 tries) h
-          (and_both (is_word w) (is_from 1 100000 tries) k n);
+      range = and_from (is_place p.0 p.1) (is_word w && is_from 1 100000 tries) h
+          (and_from (is_word w) (is_from 1 100000 tries) k n);
       going = refl;
     })))))
 
@@ -293,7 +295,7 @@ acl_keeps volumes fields =
     then_keeps IsARow (Goes volumes) (row_in f.1) _ (row_keeps f.1) (λ row r.
     any_keeps (Goes volumes) (mode_in f.2) _ (λ mode.
     keeps_ok (Goes volumes) (command.Acl path row mode)
-    (record { range = and_both (is_path path) (is_row row) p r; going = refl }))))
+    (record { range = and_from (is_path path) (is_row row) p r; going = refl }))))
 
 move_keeps : (volumes : ℕ) (fields : List (List ℕ)) → Keeps (Goes volumes) (move_of fields)
 unfolding move_of is_command
@@ -301,7 +303,7 @@ move_keeps volumes fields =
     pathed_keeps volumes (two_fields fields) (λ f. f.0) _ (λ f path p.
     then_keeps IsAnAmount (Goes volumes) (amount_in f.1) _ (amount_keeps f.1) (λ amount a.
     keeps_ok (Goes volumes) (command.Move path amount)
-    (record { range = and_both (is_path path) (is_from 1 16384 (unsigned_abs amount)) p a; going = refl })))
+    (record { range = and_from (is_path path) (is_from 1 16384 (unsigned_abs amount)) p a; going = refl })))
 
 no_end : (volumes : ℕ) (b : Bool) (r : Result Command Cause) → b ≡ false
     → Keeps (Goes volumes) (cond b r (Err cause.Order))
@@ -315,12 +317,12 @@ other_keeps volumes word fields h =
     either_keeps (Goes volumes) (bytes_eq word (codes "acl")) _ _ (acl_keeps volumes fields)
     (either_keeps (Goes volumes) (bytes_eq word (codes "length")) _ _
     (numbered_keeps volumes 1 256 command.Length fields (λ p h. record {
-      range = and_both (is_path p.0) (is_from 1 256 p.1) h.path h.number;
+      range = and_from (is_path p.0) (is_from 1 256 p.1) h.path h.number;
       going = refl;
     }))
     (either_keeps (Goes volumes) (bytes_eq word (codes "truncate")) _ _
     (numbered_keeps volumes 0 262144 command.Truncate fields (λ p h. record {
-      range = and_both (is_path p.0) (nat_le p.1 262144) h.path (up_to_most 262144 p.1 h.number);
+      range = and_from (is_path p.0) (nat_le p.1 262144) h.path (up_to_most 262144 p.1 h.number);
       going = refl;
     }))
     (either_keeps (Goes volumes) (bytes_eq word (codes "move")) _ _ (move_keeps volumes fields)

@@ -11,12 +11,11 @@ use Rattle.mnames.specs.declared.modes.Mode.{Mode}
 use Rattle.mnames.specs.declared.rows.Row.{Row}
 use Rattle.mword.specs.Octal.{octal_digits}
 use Rattle.script.proofs.FieldTexts.{IsField, HasFields, front_field, last_field}
-use Rattle.script.proofs.PathLaws.{and_parts}
 use Rattle.script.proofs.PrincipalLaws.{row_field, row_in_again}
 use Rattle.script.proofs.ValueTexts.{decimal_field, number_again, path_field, path_in_again, word_again, word_field}
 use Rattle.script.proofs.VolumeTexts.{AreVolumes, amount_again, amount_field, mode_again, mode_field, volume_again}
 use Rattle.script.proofs.VolumeTexts.{volume_field}
-use Rattle.script.proofs.SmallLaws.{at_most, below, within}
+use Rattle.script.proofs.SmallLaws.{at_most, within}
 use Rattle.script.specs.Commands.{acl_of, add_of, await_of, command_of, delete_of, end_of, initiate_of, length_of}
 use Rattle.script.specs.Commands.{mkdir_of, mkseg_of, move_of, other_command_of, read_of, reference_or, status_of}
 use Rattle.script.specs.Commands.{path_alone, path_and_number, place_and_word, place_in, terminate_of, truncate_of}
@@ -29,6 +28,8 @@ use Rattle.script.specs.Texts.{volume_name, word_text}
 use Rattle.script.specs.declared.commands.Command.{Command}
 use Rattle.script.specs.declared.commands.Command.TheVariants as command
 use Rattle.script.specs.declared.plan.VolumeLine.{VolumeLine}
+use Rattle.laws.proofs.Bools.{and_parts}
+use Rattle.laws.proofs.Numbers.{lt_from}
 
 -- the fields of a command's text, after its word
 abbrev pub fields_text : List VolumeLine → Command → List (List ℕ)
@@ -116,7 +117,7 @@ command_fields vs (command.MkDir path volume) a h =
     let p = and_parts (is_path path) (nat_lt volume (length vs)) h in
     worded (command.MkDir path volume) (path_text path ++ (32 ∷ volume_name vs volume))
     (path_text path ∷ volume_name vs volume ∷ []) (two (path_text path) (volume_name vs volume)
-    (path_field path p.0) (volume_field vs volume (below volume (length vs) p.1) a.each))
+    (path_field path p.0) (volume_field vs volume (lt_from volume (length vs) p.1) a.each))
 command_fields vs (command.MkSeg path pages volume) a h =
     let p = and_parts (is_path path) (is_from 1 256 pages && nat_lt volume (length vs)) h in
     let q = and_parts (is_from 1 256 pages) (nat_lt volume (length vs)) p.1 in
@@ -124,7 +125,7 @@ command_fields vs (command.MkSeg path pages volume) a h =
     worded (command.MkSeg path pages volume) (path_text path ++ (32 ∷ (decimal pages ++ (32 ∷ volume_name vs volume))))
     (path_text path ∷ decimal pages ∷ volume_name vs volume ∷ [])
     (three (path_text path) (decimal pages) (volume_name vs volume) (path_field path p.0)
-    (small pages (omega (arith, r))) (volume_field vs volume (below volume (length vs) q.1) a.each))
+    (small pages (omega (arith, r))) (volume_field vs volume (lt_from volume (length vs) q.1) a.each))
 command_fields vs (command.Initiate path) a h = worded (command.Initiate path) (path_text path) (path_text path ∷ [])
     (last_field (path_text path) (path_field path h))
 command_fields vs (command.Terminate number) a h =
@@ -291,11 +292,11 @@ pub command_again : (vs : List VolumeLine) (c : Command) → AreVolumes vs → i
 unfolding command_of reference_or other_command_of word_text is_command
 command_again vs (command.MkDir path volume) a h =
     let p = and_parts (is_path path) (nat_lt volume (length vs)) h in
-    mkdir_again vs path volume a p.0 (below volume (length vs) p.1)
+    mkdir_again vs path volume a p.0 (lt_from volume (length vs) p.1)
 command_again vs (command.MkSeg path pages volume) a h =
     let p = and_parts (is_path path) (is_from 1 256 pages && nat_lt volume (length vs)) h in
     let q = and_parts (is_from 1 256 pages) (nat_lt volume (length vs)) p.1 in
-    mkseg_again vs path pages volume a p.0 q.0 (below volume (length vs) q.1)
+    mkseg_again vs path pages volume a p.0 q.0 (lt_from volume (length vs) q.1)
 command_again vs (command.Initiate path) a h = initiate_again path h
 command_again vs (command.Terminate number) a h = terminate_again number (at_most number 255 h)
 command_again vs (command.Read number offset) a h = let r =
@@ -303,16 +304,16 @@ command_again vs (command.Read number offset) a h = let r =
 command_again vs (command.Write number offset word) a h =
     let p = and_parts (is_place number offset) (is_word word) h in
     let r = within_place number offset p.0 in
-    write_again number offset word r.0 r.1 (below word 68719476736 p.1)
+    write_again number offset word r.0 r.1 (lt_from word 68719476736 p.1)
 command_again vs (command.Add number offset word) a h =
     let p = and_parts (is_place number offset) (is_word word) h in
     let r = within_place number offset p.0 in
-    add_again number offset word r.0 r.1 (below word 68719476736 p.1)
+    add_again number offset word r.0 r.1 (lt_from word 68719476736 p.1)
 command_again vs (command.Await number offset word tries) a h =
     let p = and_parts (is_place number offset) (is_word word && is_from 1 100000 tries) h in
     let q = and_parts (is_word word) (is_from 1 100000 tries) p.1 in
     let r = within_place number offset p.0 in
-    await_again number offset word tries r.0 r.1 (below word 68719476736 q.0) q.1
+    await_again number offset word tries r.0 r.1 (lt_from word 68719476736 q.0) q.1
 command_again vs (command.Acl path row mode) a h = let p =
     and_parts (is_path path) (is_row row) h in acl_again path row mode p.0 p.1
 command_again vs (command.Length path pages) a h = let p =

@@ -29,9 +29,10 @@ use Rattle.script.specs.declared.plan.VolumeLine.{VolumeLine}
 use Rattle.script.specs.declared.refusals.Cause.{Cause}
 use Rattle.script.specs.declared.refusals.Cause.TheVariants as cause
 use Rattle.script.proofs.CommandLaws.{command_keeps, end_again}
-use Rattle.script.proofs.PathLaws.{and_both}
 use Rattle.script.proofs.PushLaws.{all_push, apart_none, begins_same, bulks_push}
-use Rattle.script.proofs.PushLaws.{end_push, length_push, names_push, sum_push}
+use Rattle.script.proofs.PushLaws.{end_push, names_push, sum_push}
+use Rattle.std.proofs.lemmas.Bool.{and_from}
+use Rattle.laws.proofs.Lists.{length_push}
 
 false_not_true : false ≡ true → ⊥
 false_not_true e = cc
@@ -236,8 +237,8 @@ process_is : (volumes : ℕ) (who : Who) (commands : List Command) (c : Command)
     → is_end c ≡ true → is_process volumes (record { who = who; commands = commands ++ c ∷ [] }) ≡ true
 unfolding is_process
 process_is volumes who commands c w h going range last =
-    and_both (is_who who) (list_all (is_command volumes) (commands ++ c ∷ []) && ends_once (commands ++ c ∷ [])) w
-    (and_both (list_all (is_command volumes) (commands ++ c ∷ [])) (ends_once (commands ++ c ∷ []))
+    and_from (is_who who) (list_all (is_command volumes) (commands ++ c ∷ []) && ends_once (commands ++ c ∷ [])) w
+    (and_from (list_all (is_command volumes) (commands ++ c ∷ [])) (ends_once (commands ++ c ∷ []))
     (all_push (is_command volumes) commands c h range) (end_push commands c going last))
 
 process_weight : (who : Who) (commands : List Command) (c : Command)

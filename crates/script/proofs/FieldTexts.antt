@@ -6,8 +6,10 @@ use Rattle.std.proofs.lemmas.Bool.Decides.{nat_tests}
 use Rattle.std.proofs.lemmas.List.Folds.{list_all-append}
 use Rattle.std.specs.List.{list_all}
 use Rattle.script.proofs.LineSteps.{line_byte, line_feed}
-use Rattle.script.proofs.PathLaws.{and_parts, and_both}
 use Rattle.script.specs.Fields.{lines_of, onto_piece, fields_of, onto_field, is_printable, is_printable_byte}
+use Rattle.std.proofs.lemmas.Bool.{and_from}
+use Rattle.laws.proofs.Bools.{and_parts}
+use Rattle.script.proofs.LineLaws.{fields_nil}
 
 -- a printable byte that isn't a space
 abbrev pub is_field_byte : ℕ → Bool
@@ -25,11 +27,11 @@ pub all_from : (p q : ℕ → Bool) → ((b : ℕ) → p b ≡ true → q b ≡ 
 all_from p q step [] h = refl
 all_from p q step (b ∷ bs) h =
     let parts = and_parts (p b) (list_all p bs) h in
-    and_both (q b) (list_all q bs) (step b parts.0) (all_from p q step bs parts.1)
+    and_from (q b) (list_all q bs) (step b parts.0) (all_from p q step bs parts.1)
 
 pub all_both : (p : ℕ → Bool) (xs ys : List ℕ) → list_all p xs ≡ true → list_all p ys ≡ true → list_all p (xs ++ ys)
     ≡ true
-all_both p xs ys a b = list_all-append p xs ys ∙ and_both (list_all p xs) (list_all p ys) a b
+all_both p xs ys a b = list_all-append p xs ys ∙ and_from (list_all p xs) (list_all p ys) a b
 
 -- a text of 1 to 32 bytes that may stand in a field
 pub short_field : (p : ℕ → Bool) → ((b : ℕ) → p b ≡ true → is_field_byte b ≡ true) → (text : List ℕ)
@@ -63,10 +65,6 @@ unfolding is_printable
 line_first line rest h = cut line rest h
 
 -- ---- fields
-
-fields_nil : fields_of [] ≡ []
-unfolding fields_of
-fields_nil = refl
 
 fields_space : (bs : List ℕ) → fields_of (32 ∷ bs) ≡ fields_of bs
 unfolding fields_of

@@ -9,13 +9,12 @@ use Rattle.std.specs.Fmt.{decimal}
 use Rattle.std.specs.List.{list_all, list_any, AllByRecursion}
 use Rattle.mnames.specs.Names.{is_name}
 use Rattle.script.proofs.FieldTexts.{IsField, HasFields, front_field, last_field}
-use Rattle.script.proofs.PathLaws.{and_parts}
 use Rattle.script.proofs.PushLaws.{other_volumes, others_before}
 use Rattle.script.proofs.Reaching.{Reaches, reaches_both, reaches_line, reaches_nothing}
 use Rattle.script.proofs.ValueTexts.{decimal_field, name_field, number_again}
 use Rattle.script.proofs.VolumeTexts.{AreVolumes, call_again, call_field, new_name_again, volume_again}
 use Rattle.script.proofs.VolumeTexts.{volume_field, write_again, write_field}
-use Rattle.script.proofs.SmallLaws.{and_false, below, nil_after, outside, within}
+use Rattle.script.proofs.SmallLaws.{nil_after, outside, within}
 use Rattle.script.specs.Drafts.{DraftPlan, blank, reach}
 use Rattle.script.specs.Forms.{ArePools, has_name, have_own_names, have_own_volumes, is_before, is_bulk, is_fail}
 use Rattle.script.specs.Forms.{is_from, is_volume, IsPlan, records_of}
@@ -34,6 +33,8 @@ use Rattle.script.specs.declared.plan.Fail.{Fail}
 use Rattle.script.specs.declared.plan.Print.{Print}
 use Rattle.script.specs.declared.plan.Print.TheVariants as print
 use Rattle.script.specs.declared.plan.VolumeLine.{VolumeLine}
+use Rattle.laws.proofs.Bools.{and_false, and_parts}
+use Rattle.laws.proofs.Numbers.{lt_from}
 
 -- ---- the machine
 
@@ -274,7 +275,7 @@ numbered_parts : (volumes volume most n : ℕ) → (nat_lt volume volumes && is_
 numbered_parts volumes volume most n h =
     let p = and_parts (nat_lt volume volumes) (is_from 1 most n) h in
     let w = within 1 most n p.1 in
-    (below volume volumes p.0, w.0, w.1)
+    (lt_from volume volumes p.0, w.0, w.1)
 
 bulk_parts : (volumes : ℕ) (b : Bulk) → is_bulk volumes b ≡ true → (b.volume < volumes) × (1 ≤ b.places)
     × (b.places ≤ 1024)

@@ -1,5 +1,5 @@
 -- Laws of lines and fields (own).
-use Rattle.std.proofs.Common.{◌≡◌, ◌≢◌, ℕ, suc, zero, ◌+◌, ◌-◌, ◌<◌, ◌≤◌, true, false, ◌&&◌, eqb, List, [], ◌∷◌, ◌++◌}
+use Rattle.std.proofs.Common.{◌≡◌, ◌≢◌, ℕ, suc, zero, ◌+◌, ◌-◌, ◌<◌, ◌≤◌, true, false, ◌&&◌, eqb, List, [], ◌∷◌}
 use Rattle.std.proofs.Common.{length, refl, sym, ap, ◌∙◌, arith, Bool, get_or, take, drop, add-one}
 use Rattle.std.proofs.lemmas.Bool.Decides.{nat_tests}
 use Rattle.std.proofs.lemmas.Grind.{common_steps}
@@ -7,13 +7,7 @@ use Rattle.std.proofs.lemmas.List.{take_all}
 use Rattle.std.proofs.lemmas.List.Folds.{list_all_more}
 use Rattle.script.proofs.LineSteps.{NoFeedBefore, all_left, drop_at, line_byte, line_feed, line_last}
 use Rattle.script.specs.Fields.{lines_of, onto_piece, fields_of, onto_field, is_printable, is_printable_byte}
-
-nil_after : (x : List ℕ) → x ++ [] ≡ x
-nil_after [] = refl
-nil_after (b ∷ bs) = ap (λ t. b ∷ t) (nil_after bs)
-
-none_left : (xs : List ℕ) (i : ℕ) → length xs ≤ i → drop i xs ≡ []
-none_left xs i h = grind (arith, common_steps)
+use Rattle.laws.proofs.Lists.{none_left}
 
 -- the first line ends before a line feed
 lines_split : (bs : List ℕ) (i : ℕ) → NoFeedBefore i bs → i < length bs → get_or bs i 0 ≡ 10 → lines_of bs ≡ take i bs

@@ -18,7 +18,7 @@ other_step : (before d : ℕ) (ds : List ℕ) → (48 ≤ d → d ≤ 57 → ⊥
 unfolding decimal_value_from
 other_step before d ds out = let z : is_ascii_digit d ≡ false = grind (arith, nat_tests) in rw z refl
 
-nil_step : (before : ℕ) → decimal_value_from before [] ≡ Some before
+pub nil_step : (before : ℕ) → decimal_value_from before [] ≡ Some before
 unfolding decimal_value_from
 nil_step before = refl
 

@@ -9,20 +9,8 @@ use Rattle.script.specs.Fields.{onto_piece, path_of, pieces_of, if_path}
 use Rattle.script.specs.Forms.{is_path}
 use Rattle.script.specs.Lines.{path_in}
 use Rattle.script.specs.declared.refusals.Cause.TheVariants as cause
-
-pub and_parts : (a b : Bool) → (a && b) ≡ true → (a ≡ true) × (b ≡ true)
-and_parts true true h = (refl, refl)
-and_parts true false h = absurd (apart h)
-  where
-    apart : false ≡ true → ⊥
-    apart e = cc
-and_parts false b h = absurd (apart h)
-  where
-    apart : false ≡ true → ⊥
-    apart e = cc
-
-pub and_both : (a b : Bool) → a ≡ true → b ≡ true → (a && b) ≡ true
-and_both a b x y = rw (x, y) refl
+use Rattle.std.proofs.lemmas.Bool.{and_from}
+use Rattle.laws.proofs.Bools.{and_parts}
 
 pieces_nil : pieces_of [] ≡ [] ∷ []
 unfolding pieces_of
@@ -96,7 +84,7 @@ names_again (name ∷ names) h =
 
 each_name : (names : List (List ℕ)) → AllByRecursion IsName names → list_all is_name names ≡ true
 each_name [] h = refl
-each_name (name ∷ names) h = and_both (is_name name) (list_all is_name names) h.0 (each_name names h.1)
+each_name (name ∷ names) h = and_from (is_name name) (list_all is_name names) h.0 (each_name names h.1)
 
 each_is_name : (names : List (List ℕ)) → list_all is_name names ≡ true → AllByRecursion IsName names
 each_is_name [] h = tt
@@ -106,7 +94,7 @@ each_is_name (name ∷ names) h = let parts = and_parts (is_name name) (list_all
 -- a path keeps the rules that a script asks of it, and the other way round
 pub path_is : (names : List (List ℕ)) → IsPath names → is_path names ≡ true
 unfolding is_path
-path_is names h = let few = h.few in and_both (nat_le (length names) 9) (list_all is_name names)
+path_is names h = let few = h.few in and_from (nat_le (length names) 9) (list_all is_name names)
     (grind (arith, nat_tests)) (each_name names h.each)
 
 pub path_from : (names : List (List ℕ)) → is_path names ≡ true → IsPath names

@@ -12,9 +12,10 @@ use Rattle.mnames.specs.Principals.{any_text, part_of, row_alone, row_of, row_or
 use Rattle.mnames.specs.declared.principals.Who.{Who}
 use Rattle.mnames.specs.declared.rows.Row.{Row}
 use Rattle.script.proofs.FieldTexts.{is_field_byte, IsField, all_both, short_field}
-use Rattle.script.proofs.PathLaws.{and_both, and_parts}
 use Rattle.script.specs.Forms.{is_who, is_part, is_row}
 use Rattle.script.specs.Lines.{who_in, row_in}
+use Rattle.std.proofs.lemmas.Bool.{and_from}
+use Rattle.laws.proofs.Bools.{and_parts}
 
 -- ---- labels
 
@@ -102,11 +103,11 @@ parts_read None b row ha hb e = absurd (cc)
 parts_read (Some x) None row ha hb e = absurd (cc)
 parts_read (Some x) (Some y) row ha hb e =
     let same : record { person = x; project = y } ≡ row = cc in
-    subst (λ (r : Row). is_row r ≡ true) same (and_both (is_part x) (is_part y) (ha x refl) (hb y refl))
+    subst (λ (r : Row). is_row r ≡ true) same (and_from (is_part x) (is_part y) (ha x refl) (hb y refl))
 
 alone_read : (part : Option (List ℕ)) → is_part part ≡ true → is_row (row_alone part) ≡ true
 alone_read None h = refl
-alone_read (Some person) h = and_both (is_label person) (is_part (Some default_project)) h default_part
+alone_read (Some person) h = and_from (is_label person) (is_part (Some default_project)) h default_part
 
 pub row_read : (text : List ℕ) (row : Row) → Some row ≡ row_of text → is_row row ≡ true
 unfolding row_of

@@ -1,5 +1,5 @@
 -- Laws of lists with one more element at the end (own).
-use Rattle.std.proofs.Common.{◌≡◌, ℕ, ◌+◌, Bool, true, false, eqb, not, ◌||◌, List, [], ◌∷◌, ◌++◌, length, refl}
+use Rattle.std.proofs.Common.{◌≡◌, ℕ, ◌+◌, Bool, true, false, eqb, not, List, [], ◌∷◌, ◌++◌, refl}
 use Rattle.std.proofs.Common.{sym, ap, ◌∙◌, arith, sum_by}
 use Rattle.std.proofs.lemmas.Bool.Decides.{nat_tests}
 use Rattle.std.proofs.lemmas.Grind.{common_steps}
@@ -16,32 +16,23 @@ use Rattle.script.specs.Plans.{ProcessPlan}
 use Rattle.script.specs.declared.commands.Command.{Command}
 use Rattle.script.specs.declared.plan.Bulk.{Bulk}
 use Rattle.script.specs.declared.plan.VolumeLine.{VolumeLine}
-use Rattle.script.proofs.PathLaws.{and_both, and_parts}
+use Rattle.std.proofs.lemmas.Bool.{and_from, false_from_ne_true, or_from, or_parts}
+use Rattle.laws.proofs.Bools.{and_parts, not_true as is_false}
 
 pub all_push : {A : Type 0} (f : A → Bool) (xs : List A) (x : A) → list_all f xs ≡ true → f x ≡ true
     → list_all f (xs ++ x ∷ []) ≡ true
-all_push f [] x h e = and_both (f x) true e refl
-all_push f (y ∷ ys) x h e = let parts = and_parts (f y) (list_all f ys) h in and_both (f y) (list_all f (ys ++ x ∷ []))
+all_push f [] x h e = and_from (f x) true e refl
+all_push f (y ∷ ys) x h e = let parts = and_parts (f y) (list_all f ys) h in and_from (f y) (list_all f (ys ++ x ∷ []))
     parts.0 (all_push f ys x parts.1 e)
 
 true_not_false : true ≡ false → ⊥
 true_not_false e = cc
 
-or_parts : (a b : Bool) → (a || b) ≡ false → (a ≡ false) × (b ≡ false)
-or_parts false b h = (refl, h)
-or_parts true b h = absurd (true_not_false h)
-
-or_neither : (a b : Bool) → a ≡ false → b ≡ false → (a || b) ≡ false
-or_neither a b x y = rw (x, y) refl
-
 pub any_push : {A : Type 0} (f : A → Bool) (xs : List A) (x : A) → list_any f xs ≡ false → f x ≡ false
     → list_any f (xs ++ x ∷ []) ≡ false
-any_push f [] x h e = or_neither (f x) false e refl
-any_push f (y ∷ ys) x h e = let parts = or_parts (f y) (list_any f ys) h in or_neither (f y)
+any_push f [] x h e = or_from (f x) false e refl
+any_push f (y ∷ ys) x h e = let parts = or_parts (f y) (list_any f ys) h in or_from (f y)
     (list_any f (ys ++ x ∷ [])) parts.0 (any_push f ys x parts.1 e)
-
-pub length_push : {A : Type 0} (xs : List A) (x : A) → length (xs ++ x ∷ []) ≡ length xs + 1
-length_push xs x = grind (arith, common_steps)
 
 pub sum_push : {A : Type 0} (f : A → ℕ) (xs : List A) (x : A) → sum_by f (xs ++ x ∷ []) ≡ sum_by f xs + f x
 sum_push f xs x = sum_by-append f xs (x ∷ []) ∙ ap (λ n. sum_by f xs + n) one
@@ -49,16 +40,8 @@ sum_push f xs x = sum_by-append f xs (x ∷ []) ∙ ap (λ n. sum_by f xs + n) o
     one : sum_by f (x ∷ []) ≡ f x
     one = grind (arith, common_steps)
 
-not_true : (z : Bool) → (z ≡ true → ⊥) → z ≡ false
-not_true true h = absurd (h refl)
-not_true false h = refl
-
-is_false : (z : Bool) → not z ≡ true → z ≡ false
-is_false false h = refl
-is_false true h = absurd (true_not_false (sym h))
-
 pub names_apart : (a b : List ℕ) → bytes_eq a b ≡ false → bytes_eq b a ≡ false
-names_apart a b h = not_true (bytes_eq b a) (λ e. true_not_false
+names_apart a b h = false_from_ne_true (bytes_eq b a) (λ e. true_not_false
     (sym ((bytes_eq-Decides a b).1 (sym ((bytes_eq-Decides b a).0 e))) ∙ h))
 
 numbers_apart : (a b : ℕ) → eqb a b ≡ false → eqb b a ≡ false
@@ -75,7 +58,7 @@ apart_parts alike x xs h =
 apart_first : {A : Type 0} (alike : A → A → Bool) (x : A) (xs : List A) → list_any (alike x) xs ≡ false
     → are_apart alike xs ≡ true → are_apart alike (x ∷ xs) ≡ true
 unfolding are_apart
-apart_first alike x xs new h = and_both (not (list_any (alike x) xs)) (are_apart alike xs) (ap not new) h
+apart_first alike x xs new h = and_from (not (list_any (alike x) xs)) (are_apart alike xs) (ap not new) h
 
 pub apart_none : {A : Type 0} (alike : A → A → Bool) → are_apart alike [] ≡ true
 unfolding are_apart
@@ -100,7 +83,7 @@ apart_before alike turned (u ∷ us) x xs h =
     let after = or_parts (list_any (alike u) us) (list_any (alike u) (x ∷ xs))
     (sym (list_any-append (alike u) us (x ∷ xs)) ∙ own.0) in
     let here = (or_parts (alike u x) (list_any (alike u) xs) after.1).0 in
-    or_neither (alike x u) (list_any (alike x) us) (turned u x here) (apart_before alike turned us x xs own.1)
+    or_from (alike x u) (list_any (alike x) us) (turned u x here) (apart_before alike turned us x xs own.1)
 
 pub names_push : (vs : List VolumeLine) (v : VolumeLine) → have_own_names vs ≡ true → list_any (has_name v.name) vs
     ≡ false → have_own_names (vs ++ v ∷ []) ≡ true
@@ -127,9 +110,9 @@ pub end_push : (cs : List Command) (c : Command) → list_all goes_on cs ≡ tru
 unfolding ends_once
 end_push [] c h e = e
 end_push (a ∷ []) c h e =
-    let parts = and_parts (goes_on a) true h in and_both (not (is_end a)) (is_end c) parts.0 e
+    let parts = and_parts (goes_on a) true h in and_from (not (is_end a)) (is_end c) parts.0 e
 end_push (a ∷ b ∷ cs) c h e =
-    let parts = and_parts (goes_on a) (list_all goes_on (b ∷ cs)) h in and_both (not (is_end a))
+    let parts = and_parts (goes_on a) (list_all goes_on (b ∷ cs)) h in and_from (not (is_end a))
     (ends_once (b ∷ (cs ++ c ∷ []))) parts.0 (end_push (b ∷ cs) c parts.1 e)
 
 -- the last process is replaced by another of the same principal

@@ -14,12 +14,12 @@ process_at xs i x lt e = rw (add-one, drop-cons xs i x) (ap (λ w. w ∷ drop (s
 none_left : (xs : List ProcessPlan) (i : ℕ) → length xs ≤ i → drop i xs ≡ []
 none_left xs i h = grind (arith, common_steps)
 
-text_cons : (volumes : List VolumeLine) (first : Bool) (x : ProcessPlan) (xs : List ProcessPlan)
+pub text_cons : (volumes : List VolumeLine) (first : Bool) (x : ProcessPlan) (xs : List ProcessPlan)
     → processes_text volumes first (x ∷ xs) ≡ process_text volumes first x ++ processes_text volumes false xs
 unfolding processes_text
 text_cons volumes first x xs = refl
 
-text_nil : (volumes : List VolumeLine) (first : Bool) → processes_text volumes first [] ≡ []
+pub text_nil : (volumes : List VolumeLine) (first : Bool) → processes_text volumes first [] ≡ []
 unfolding processes_text
 text_nil volumes first = refl
 

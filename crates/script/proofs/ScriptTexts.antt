@@ -11,11 +11,10 @@ use Rattle.script.proofs.CommandTexts.{command_again, command_fields, fields_tex
 use Rattle.script.proofs.FieldTexts.{front_field, last_field}
 use Rattle.script.proofs.HeadTexts.{after_head, are_volumes, head_reaches, stage_after_fails, takes_after_fails}
 use Rattle.script.proofs.HeadTexts.{takes_fail}
-use Rattle.script.proofs.PathLaws.{and_parts}
 use Rattle.script.proofs.PrincipalLaws.{who_field, who_in_again}
 use Rattle.script.proofs.Reaching.{Reaches, read_from, reaches_both, reaches_line, reaches_nothing}
 use Rattle.script.proofs.VolumeTexts.{AreVolumes}
-use Rattle.script.proofs.SmallLaws.{and_false, nil_after, not_true, outside}
+use Rattle.script.proofs.SmallLaws.{nil_after, outside}
 use Rattle.script.specs.CommandLists.{longer}
 use Rattle.script.specs.Drafts.{DraftPlan, has_volume, initializer_who, is_inside}
 use Rattle.script.specs.Fields.{lines_of}
@@ -31,7 +30,8 @@ use Rattle.script.specs.Texts.{command_text, word_text}
 use Rattle.script.specs.declared.commands.Command.{Command}
 use Rattle.script.specs.declared.drafts.Stage.{Stage}
 use Rattle.script.specs.declared.drafts.Stage.TheVariants as stage
-use Rattle.script.specs.declared.plan.VolumeLine.{VolumeLine}
+use Rattle.laws.proofs.Bools.{and_false, and_parts, not_true}
+use Rattle.script.proofs.ScriptSteps.{text_nil, text_cons}
 
 -- ---- the commands of a process
 
@@ -236,15 +236,6 @@ end_read : (n : ℕ) (d : DraftPlan) → is_whole d.stage ≡ true → read_from
 unfolding lines_of finished
 end_read n d h = rw h refl
 
-no_processes : (volumes : List VolumeLine) (first : Bool) → processes_text volumes first [] ≡ []
-unfolding processes_text
-no_processes volumes first = refl
-
-one_process : (volumes : List VolumeLine) (first : Bool) (x : ProcessPlan) (xs : List ProcessPlan)
-    → processes_text volumes first (x ∷ xs) ≡ process_text volumes first x ++ processes_text volumes false xs
-unfolding processes_text
-one_process volumes first x xs = refl
-
 weight_of_cons : (x : ProcessPlan) (xs : List ProcessPlan) → sum_by weight_of (x ∷ xs)
     ≡ weight_of x + sum_by weight_of xs
 weight_of_cons x xs = let parts : sum_by weight_of (x ∷ xs) ≡ 0 + weight_of x + sum_by weight_of xs =
@@ -256,7 +247,7 @@ processes_read : (base : DraftPlan) (s : Stage) (done : List ProcessPlan) (befor
     → u + sum_by weight_of xs ≤ 100000 → read_from n (between base s done before u)
     (processes_text base.plan.volumes false xs) ≡ Ok (record base.plan { processes = done ++ xs })
 processes_read base s done before u [] n may a h room le =
-    ap (read_from n (between base s done before u)) (no_processes base.plan.volumes false)
+    ap (read_from n (between base s done before u)) (text_nil base.plan.volumes false)
     ∙ end_read n (between base s done before u) may
     ∙ ap (λ (t : List ProcessPlan). Ok (record base.plan { processes = t })) (sym (nil_after done))
 processes_read base s done before u (x ∷ xs) n may a h room le =
@@ -264,7 +255,7 @@ processes_read base s done before u (x ∷ xs) n may a h room le =
     (list_all (is_process (length base.plan.volumes)) xs) h in
     let step = (process_reaches base s done before u x may a parts.0 (omega (arith, room))
     (omega (arith, le, weight_of_cons x xs))).reads n (processes_text base.plan.volumes false xs) in
-    ap (read_from n (between base s done before u)) (one_process base.plan.volumes false x xs)
+    ap (read_from n (between base s done before u)) (text_cons base.plan.volumes false x xs)
     ∙ step.1
     ∙ processes_read base stage.Processes (done ++ x ∷ []) x.who (u + weight_of x) xs step.0 refl a parts.1
     (omega (arith, room, length-append done (x ∷ []))) (omega (arith, le, weight_of_cons x xs))
@@ -281,7 +272,7 @@ first_read base s before (x ∷ xs) n may a h first room le =
     (list_all (is_process (length base.plan.volumes)) xs) h in
     let step = (first_reaches base s before 0 x may a parts.0 first (omega (arith, le, weight_of_cons x xs))).reads n
     (processes_text base.plan.volumes false xs) in
-    ap (read_from n (between base s [] before 0)) (one_process base.plan.volumes true x xs)
+    ap (read_from n (between base s [] before 0)) (text_cons base.plan.volumes true x xs)
     ∙ step.1
     ∙ processes_read (initial base) stage.Processes (x ∷ []) initializer_who (0 + weight_of x) xs
     step.0 refl a parts.1 (omega (arith, room)) (omega (arith, le, weight_of_cons x xs))

@@ -10,16 +10,15 @@ use Rattle.mnames.specs.Names.{is_name, is_name_byte, names_text, path_text}
 use Rattle.mword.specs.Octal.{octal_digits, is_octal_digit}
 use Rattle.mword.proofs.OctalLaws.{octal_digits_all, length-octal_digits, octal_reads_back}
 use Rattle.script.proofs.FieldTexts.{is_field_byte, IsField, all_from, all_both, short_field}
-use Rattle.script.proofs.PathLaws.{and_parts, and_both, path_again}
+use Rattle.script.proofs.PathLaws.{path_again}
 use Rattle.script.specs.Fields.{decimal_value, decimal_value_from}
 use Rattle.script.specs.Forms.{is_path}
 use Rattle.script.specs.Lines.{number_in, word_in, path_in}
+use Rattle.std.proofs.lemmas.Bool.{and_from}
+use Rattle.laws.proofs.Bools.{and_parts}
+use Rattle.script.proofs.NumberLaws.{nil_step}
 
 -- ---- decimal numbers
-
-value_nil : (before : ℕ) → decimal_value_from before [] ≡ Some before
-unfolding decimal_value_from
-value_nil before = refl
 
 value_digit : (before d : ℕ) (ds : List ℕ) → is_ascii_digit d ≡ true → decimal_value_from before (d ∷ ds)
     ≡ decimal_value_from (before * 10 + (d - 48)) ds
@@ -29,8 +28,8 @@ value_digit before d ds z = rw z refl
 digits_push : (before : ℕ) (ds : List ℕ) (d n : ℕ) → list_all is_ascii_digit ds ≡ true → is_ascii_digit d ≡ true
     → decimal_value_from before ds ≡ Some n → decimal_value_from before (ds ++ d ∷ []) ≡ Some (n * 10 + (d - 48))
 digits_push before [] d n all z h =
-    let same : before ≡ n = cc (value_nil before, h) in
-    value_digit before d [] z ∙ value_nil (before * 10 + (d - 48)) ∙ ap (λ (m : ℕ). Some (m * 10 + (d - 48))) same
+    let same : before ≡ n = cc (nil_step before, h) in
+    value_digit before d [] z ∙ nil_step (before * 10 + (d - 48)) ∙ ap (λ (m : ℕ). Some (m * 10 + (d - 48))) same
 digits_push before (x ∷ xs) d n all z h =
     let parts = and_parts (is_ascii_digit x) (list_all is_ascii_digit xs) all in
     value_digit before x (xs ++ d ∷ []) parts.0 ∙ digits_push (before * 10 + (x - 48)) xs d n parts.1 z
@@ -45,9 +44,9 @@ one_digit : (m : ℕ) → m < 10 → StandsFor m ((48 + m) ∷ [])
 one_digit m l =
     let z : is_ascii_digit (48 + m) ≡ true = grind (arith, nat_tests) in
     record {
-      digits = and_both (is_ascii_digit (48 + m)) true z refl;
+      digits = and_from (is_ascii_digit (48 + m)) true z refl;
       value = value_digit 0 (48 + m) [] z
-          ∙ value_nil (0 * 10 + (48 + m - 48)) ∙ ap (λ (k : ℕ). Some k) (omega arith);
+          ∙ nil_step (0 * 10 + (48 + m - 48)) ∙ ap (λ (k : ℕ). Some k) (omega arith);
     }
 
 more_digits : (m : ℕ) (ds : List ℕ) → 10 ≤ m → StandsFor (m / 10) ds → StandsFor m (ds ++ (48 + m % 10) ∷ [])
@@ -55,7 +54,7 @@ more_digits m ds l h =
     let z : is_ascii_digit (48 + m % 10) ≡ true = grind (arith, nat_tests) in
     record {
       digits = all_both is_ascii_digit ds ((48 + m % 10) ∷ []) h.digits
-          (and_both (is_ascii_digit (48 + m % 10)) true z refl);
+          (and_from (is_ascii_digit (48 + m % 10)) true z refl);
       value = digits_push 0 ds (48 + m % 10) (m / 10) h.digits z h.value ∙ ap (λ (k : ℕ). Some k) (omega arith);
     }
 

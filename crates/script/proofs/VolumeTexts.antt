@@ -16,16 +16,16 @@ use Rattle.mnames.specs.declared.modes.Mode.{Mode}
 use Rattle.mnames.specs.declared.modes.Mode.TheVariants as mode
 use Rattle.script.proofs.FieldTexts.{is_field_byte, IsField, all_both}
 use Rattle.script.proofs.PushLaws.{apart_parts, names_apart}
-use Rattle.script.proofs.PathLaws.{and_parts}
 use Rattle.script.proofs.ValueTexts.{decimal_digits, decimal_field, name_field, number_again}
 use Rattle.script.proofs.VolumeLaws.{from_found, from_other}
-use Rattle.script.proofs.SmallLaws.{nil_after, or_left, or_right}
+use Rattle.script.proofs.SmallLaws.{nil_after}
 use Rattle.script.specs.Forms.{has_name, have_own_names, is_from, is_volume}
 use Rattle.script.specs.Lines.{amount_in, call_in, ends_with_plus, is_write_in, mode_in, new_name_in, number_from}
 use Rattle.script.specs.Lines.{volume_in}
 use Rattle.script.specs.Scripts.{call_text, onward_text}
 use Rattle.script.specs.Texts.{mode_text, sign_text, volume_name}
 use Rattle.script.specs.declared.plan.VolumeLine.{VolumeLine}
+use Rattle.laws.proofs.Bools.{and_parts, first_false, second_false}
 
 -- ---- volumes
 
@@ -41,9 +41,9 @@ same_name v = (bytes_eq-Decides v.name v.name).1 refl
 other_name : (name : List ℕ) (vs : List VolumeLine) (k : ℕ) → k < length vs → list_any (has_name name) vs ≡ false
     → bytes_eq (volume_name vs k) name ≡ false
 other_name name [] k lt h = absurd (omega arith)
-other_name name (v ∷ vs) zero lt h = or_left (has_name name v) (list_any (has_name name) vs) h
+other_name name (v ∷ vs) zero lt h = first_false (has_name name v) (list_any (has_name name) vs) h
 other_name name (v ∷ vs) (suc k) lt h = other_name name vs k (omega arith)
-    (or_right (has_name name v) (list_any (has_name name) vs) h)
+    (second_false (has_name name v) (list_any (has_name name) vs) h)
 
 number_again_from : (n : ℕ) (vs : List VolumeLine) (k : ℕ) → k < length vs → have_own_names vs ≡ true
     → number_from n vs (volume_name vs k) ≡ Some (n + k)

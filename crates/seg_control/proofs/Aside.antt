@@ -19,8 +19,10 @@ use Rattle.seg_mover.specs.Homes.{entry_of, map_at as mover_map, uid_at as mover
 use Rattle.seg_mover.specs.Moves.{IsMoving, given_back, undone}
 use Rattle.seg_mover.specs.Records.{AddsRecords, AreKept, flags_given}
 use Rattle.seg_mover.proofs.Places.{no_record, put_here, put_other, entry_within, vtoc_within, used_from}
-use Rattle.seg_mover.proofs.Records.{gives, not_none, off_and_on}
+use Rattle.seg_mover.proofs.Records.{gives}
 use Rattle.seg_control.specs.Moving.{home_at}
+use Rattle.laws.proofs.Options.{not_none}
+use Rattle.laws.proofs.Bools.{off_and_on}
 
 -- ---- records and VTOCs
 

@@ -2,8 +2,8 @@
 use Rattle.std.proofs.Common.{◌≡◌, ◌≢◌, ℕ, ◌<◌, ◌+◌, Bool, true, false, cond, eqb, List, [], ◌∷◌, ◌++◌, length, Option}
 use Rattle.std.proofs.Common.{None, Some, IsSome, refl, sym}
 use Rattle.std.proofs.Common.{ap, subst, ◌∙◌, arith, set, get_or, inl, inr, count_by, Contains, remove}
-use Rattle.std.proofs.lemmas.Bool.{cases_eq, cases_lt, eq-eqb, ne_eqb}
-use Rattle.std.proofs.lemmas.List.{get_or-set_same, get_or-set_other, get_or_past, length-set, length-append}
+use Rattle.std.proofs.lemmas.Bool.{cases_eq, cases_lt, ne_eqb}
+use Rattle.std.proofs.lemmas.List.{get_or-set_same, get_or-set_other, get_or_past, length-set}
 use Rattle.std.proofs.lemmas.List.Edits.{length-remove}
 use Rattle.std.proofs.lemmas.List.Quantifiers.{position-Some}
 use Rattle.std.proofs.lemmas.Option.{none-some, same_Some}
@@ -18,11 +18,14 @@ use Rattle.active_segs.specs.Active.{uid_at}
 use Rattle.seg_control.specs.Control.{Links, kst_at, sdws_at, leads, leads_at}
 use Rattle.seg_control.specs.Effects.{linked, unlinked, with_kst}
 use Rattle.seg_control.specs.Kept.{times, AreExact, IsKnownAt, AreLinked}
-use Rattle.seg_control.proofs.Places.{some_uid, used_within}
-use Rattle.seg_control.proofs.Counts.{weight, count_push, count_remove, count_some, position_there}
+use Rattle.seg_control.proofs.Places.{used_within}
+use Rattle.seg_control.proofs.Counts.{weight, count_push, count_remove, count_some}
 use Rattle.seg_control.proofs.Linked.{pair_cases, leads_within, leads_this, leads_other, words_kept, leads_to_itself}
 use Rattle.seg_control.proofs.Linked.{leads_to_is, leads_to_not, times_same}
 use Rattle.seg_control.proofs.Linked.{most_trailers}
+use Rattle.laws.proofs.Lists.{length_push, position_there}
+use Rattle.laws.proofs.Numbers.{same_test}
+use Rattle.laws.proofs.Options.{some_number}
 
 list_same : (trailers : List (List (ℕ × ℕ))) (place : ℕ) (xs : List (ℕ × ℕ)) → place < length trailers
     → trailers_of (set trailers place xs) place ≡ xs
@@ -31,9 +34,6 @@ list_same trailers place xs lt = get_or-set_same trailers place xs [] lt
 list_other : (trailers : List (List (ℕ × ℕ))) (place q : ℕ) (xs : List (ℕ × ℕ)) → q ≢ place
     → trailers_of (set trailers place xs) q ≡ trailers_of trailers q
 list_other trailers place q xs ne = get_or-set_other trailers place q xs [] ne
-
-same_test : (pl place : ℕ) → pl ≡ place → eqb place pl ≡ true
-same_test pl place e = eq-eqb place pl (sym e)
 
 other_test : (pl place : ℕ) → pl ≢ place → eqb place pl ≡ false
 other_test pl place ne = ne_eqb place pl (λ e. ne (sym e))
@@ -44,9 +44,6 @@ zero_either false n e = refl
 
 sum_of : (a b c d : ℕ) → a ≡ c → b ≡ d → a + b ≡ c + d
 sum_of a b c d e f = omega (arith, e, f)
-
-length-push : {X : Type 0} (xs : List X) (x : X) → length (xs ++ x ∷ []) ≡ length xs + 1
-length-push xs x = length-append xs (x ∷ [])
 
 -- a number that is known is one of 256
 number_within : (links : Links) (process number uid : ℕ) → length (kst_at links.known process) ≡ 256
@@ -73,7 +70,7 @@ pub may_connect : (entries : List (Option Entry)) (links : Links) (process numbe
     → uid_of (kst_at links.known process) number ≡ uid_at entries place
     → leads_at links.descriptors process number ≡ None → MayConnect entries links process number place
 may_connect entries links process number place linked active within known cut =
-    let uid = some_uid (uid_at entries place) active in
+    let uid = some_number (uid_at entries place) active in
     let same = linked.lists.places in
     let lt = used_within entries place uid.0 uid.1 in
     record {
@@ -213,7 +210,7 @@ module _ (entries : List (Option Entry)) (links : Links) (process number place :
       list_same links.trailers place (trailers_of links.trailers place ++ (process, number) ∷ []) m.place_within in
       let long : length (trailers_of (linked links process number place mode pages).trailers place)
       ≡ length (trailers_of links.trailers place) + 1 =
-      ap length list ∙ length-push (trailers_of links.trailers place) (process, number) in
+      ap length list ∙ length_push (trailers_of links.trailers place) (process, number) in
       omega (arith, most, long)
 
   -- and its number is one of 256

@@ -15,7 +15,7 @@ use Rattle.page_control.specs.Plain.{Paging, Plain, filed, plain, with_volumes}
 use Rattle.page_control.specs.Tied.{flags_in, is_out, map_at, uid_at as uid_homed, vtoc_in}
 use Rattle.page_control.specs.Ties.{IsTied, KeepsTies}
 use Rattle.page_control.proofs.Moved.{tie_of_home, words_of_home}
-use Rattle.page_control.proofs.Pictures.{filed_same, off_and_on}
+use Rattle.page_control.proofs.Pictures.{filed_same}
 use Rattle.seg_mover.specs.declared.Mover.{Mover}
 use Rattle.seg_mover.specs.Copies.{AreCopied, IsLeastToCopy, after_copy, is_to_copy, moved_on, page_to_copy}
 use Rattle.seg_mover.specs.Homes.{map_at as mover_map, place_at, words_filed as mover_words, words_of}
@@ -31,6 +31,7 @@ use Rattle.seg_control.proofs.Aside.{move_adds, tie_more}
 use Rattle.seg_control.proofs.Resting.{aside_of}
 use Rattle.seg_control.proofs.Under.{moving_plain, now_is}
 use Rattle.seg_control.proofs.Choosing.{first_same, out_from, to_copy_out}
+use Rattle.laws.proofs.Bools.{off_and_on}
 
 -- ---- the segment that moves
 

@@ -1,10 +1,10 @@
 -- How often a list has an element that passes a test.
-use Rattle.std.proofs.Common.{◌≡◌, ℕ, suc, zero, ◌<◌, ◌≤◌, ◌+◌, Bool, true, false, cond, eqb, not, List, [], ◌∷◌}
-use Rattle.std.proofs.Common.{◌++◌, length, IsSome, refl}
-use Rattle.std.proofs.Common.{sym, ap, ◌∙◌, ◌||◌, arith, get_or, count_by, position, map, remove}
+use Rattle.std.proofs.Common.{◌≡◌, ℕ, suc, zero, ◌<◌, ◌≤◌, ◌+◌, Bool, true, false, cond, eqb, List, [], ◌∷◌}
+use Rattle.std.proofs.Common.{◌++◌, length, refl}
+use Rattle.std.proofs.Common.{sym, ap, ◌∙◌, ◌||◌, arith, get_or, count_by, map, remove}
 use Rattle.std.specs.List.{list_any}
 use Rattle.std.proofs.lemmas.Bool.{eqb-true}
-use Rattle.std.proofs.lemmas.List.Sums.{sum_by_push, sum_by-remove, sum_by-cons, prefix_len_passes}
+use Rattle.std.proofs.lemmas.List.Sums.{sum_by_push, sum_by-remove, sum_by-cons}
 
 abbrev pub weight : Bool → ℕ
 weight b = cond b 1 0
@@ -57,10 +57,6 @@ count_some {X} p (x ∷ xs) d le = by_head (p x) refl (λ more. count_some p xs 
         let none : weight (p x) ≡ 0 = ap weight e in
         let found = rest (omega (arith, is, none, le)) in
         let lt = found.1 in (suc found.0, omega (arith, lt), found.2)
-
-pub position_there : {X : Type 0} (p : X → Bool) (xs : List X) (k : ℕ) (d : X) → k < length xs → p (get_or xs k d)
-    ≡ true → IsSome (position p xs)
-position_there p xs k d within holds = grind (arith, prefix_len_passes (λ x. not (p x)) xs k d)
 
 -- a process that is among those of some pairs
 pub any_at : (q : ℕ) (xs : List (ℕ × ℕ)) (d : ℕ × ℕ) → list_any (eqb q) (map (λ x. x.0) xs) ≡ true → (i : ℕ)

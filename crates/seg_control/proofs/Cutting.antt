@@ -2,7 +2,7 @@
 use Rattle.std.proofs.Common.{◌≡◌, ◌≢◌, ℕ, suc, zero, ◌<◌, ◌≤◌, ◌+◌, Bool, cond, List, [], ◌∷◌, ◌++◌, length, Option}
 use Rattle.std.proofs.Common.{None, Some, map, drop, count_by}
 use Rattle.std.proofs.Common.{refl, sym, ap, subst, ◌∙◌, arith, set, get_or, slice_get}
-use Rattle.std.proofs.Math.Seq.{map-set_same, drop-cons}
+use Rattle.std.proofs.Math.Seq.{map-set_same}
 use Rattle.std.proofs.Math.ListN.{get_or-map}
 use Rattle.std.proofs.lemmas.Bool.{eq-eqb, ne_eqb}
 use Rattle.std.proofs.lemmas.List.{set-set, set-get_or, get_or-set_same, length-set, append-nil, append_assoc}
@@ -21,6 +21,7 @@ use Rattle.seg_control.specs.Kept.{times, AreLinked, pair_at, MayReconnect}
 use Rattle.seg_control.proofs.Counts.{count_two}
 use Rattle.seg_control.proofs.Linked.{trailer_leads, leads_within, leads_to_itself, times_same, times_most}
 use Rattle.seg_control.proofs.Connected.{without_shorter}
+use Rattle.laws.proofs.Lists.{one_left}
 
 -- ---- the oldest trailer
 
@@ -173,10 +174,6 @@ drop_end (suc i) [] le = refl
 drop_end zero (x ∷ xs) le = absurd (omega (arith, le))
 drop_end (suc i) (x ∷ xs) le = drop_end i xs (omega (arith, le))
 
-drop_one : {X : Type 0} (xs : List X) (i : ℕ) (d : X) → i < length xs → drop i xs ≡ get_or xs i d ∷ drop (i + 1) xs
-drop_one xs i d lt =
-    let e : suc i ≡ i + 1 = omega arith in drop-cons xs i d lt ∙ ap (λ (n : ℕ). get_or xs i d ∷ drop n xs) e
-
 pub reconnect_step : {D : Type 0} (start s now : Control D) (place i pages : ℕ) (list : List (ℕ × ℕ))
     (modes : List Mode) (d : Mode) → i < length list
     → length modes ≡ length list → reconnected s.links place (drop i list) (drop i modes) pages
@@ -192,9 +189,9 @@ reconnect_step {D} start s now place i pages list modes d lt long all rest effec
       ∙ sym (again_more s.links place pages (pair_at list i) (drop (i + 1) list) (get_or modes i d)
       (drop (i + 1) modes))
       ∙ ap (λ (xs : List (ℕ × ℕ)). reconnected s.links place xs (get_or modes i d ∷ drop (i + 1) modes) pages)
-      (sym (drop_one list i (0, 0) lt))
+      (sym (one_left list i (0, 0) lt))
       ∙ ap (λ (xs : List Mode). reconnected s.links place (drop i list) xs pages)
-      (sym (drop_one modes i d (omega (arith, lt, long)))) ∙ all,
+      (sym (one_left modes i d (omega (arith, lt, long)))) ∙ all,
   effect ∙ ap (λ (c : Control D). record c {
     links = linked s.links (pair_at list i).0 (pair_at list i).1 place
         (get_or modes i d) pages;
@@ -222,7 +219,7 @@ pub may_here : (links : Links) (uid : Option ℕ) (list : List (ℕ × ℕ)) (i 
     × (leads_at links.descriptors (pair_at list i).0 (pair_at list i).1 ≡ None)
 may_here links uid list i lt may =
     let may' : MayReconnect links uid (pair_at list i ∷ drop (i + 1) list) =
-    subst (MayReconnect links uid) (drop_one list i (0, 0) lt) may in
+    subst (MayReconnect links uid) (one_left list i (0, 0) lt) may in
     (may'.processes 0 (omega arith), may'.known 0 (omega arith), may'.cut 0 (omega arith))
 
 -- and then the rest
@@ -234,7 +231,7 @@ pub may_next : (links now : Links) (uid : Option ℕ) (list : List (ℕ × ℕ))
     → MayReconnect now uid (drop (i + 1) list)
 may_next links now uid list i lt may known others =
     let may' : MayReconnect links uid (pair_at list i ∷ drop (i + 1) list) =
-    subst (MayReconnect links uid) (drop_one list i (0, 0) lt) may in
+    subst (MayReconnect links uid) (one_left list i (0, 0) lt) may in
     record {
       processes = λ j less. subst (λ (k : List (List (Option ℕ))). (pair_at (drop (i + 1) list) j).0 < length k)
           (sym known)

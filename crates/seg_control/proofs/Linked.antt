@@ -1,7 +1,7 @@
 -- Descriptors, trailers and known segment tables after a call.
-use Rattle.std.proofs.Common.{◌≡◌, ◌≢◌, ◌⊎◌, ℕ, suc, zero, ◌<◌, ◌≤◌, Bool, true, false, eqb, List, [], ◌∷◌, length}
+use Rattle.std.proofs.Common.{◌≡◌, ◌≢◌, ◌⊎◌, ℕ, ◌<◌, ◌≤◌, Bool, true, false, eqb, List, [], length}
 use Rattle.std.proofs.Common.{Option, None, Some, refl, sym}
-use Rattle.std.proofs.Common.{ap, ◌∙◌, arith, set, get_or, inl, inr, ◌&&◌, map}
+use Rattle.std.proofs.Common.{ap, ◌∙◌, arith, set, get_or, inl, inr, map}
 use Rattle.std.proofs.lemmas.Bool.{cases_eq, cases_lt, eq-eqb, eqb-true, ne_eqb, and_from}
 use Rattle.std.proofs.lemmas.List.{get_or-set_same, get_or-set_other, get_or_past, length-set, length-map}
 use Rattle.std.proofs.lemmas.Map.Keys.{IsDistinct-from_apart}
@@ -17,6 +17,8 @@ use Rattle.active_segs.specs.declared.Entry.{Entry}
 use Rattle.seg_control.specs.Control.{Links, kst_at, sdws_at, leads, leads_at}
 use Rattle.seg_control.specs.Kept.{times, AreExact, AreLinked}
 use Rattle.seg_control.proofs.Counts.{weight, count_one, count_two, any_at}
+use Rattle.laws.proofs.Bools.{and_parts}
+use Rattle.laws.proofs.Lists.{get_or_any}
 
 -- ---- descriptors
 
@@ -76,12 +78,8 @@ module _ (descriptors : List (List Sdw)) (process number : ℕ) (w : Sdw) (proce
 pub leads_to_itself : (process number : ℕ) → leads_to process number (process, number) ≡ true
 leads_to_itself process number = and_from _ _ (eq-eqb process process refl) (eq-eqb number number refl)
 
-both_parts : (a b : Bool) → (a && b) ≡ true → (a ≡ true) × (b ≡ true)
-both_parts true b e = (refl, e)
-both_parts false b e = cc
-
 pub leads_to_is : (q n : ℕ) (x : ℕ × ℕ) → leads_to q n x ≡ true → (x.0 ≡ q) × (x.1 ≡ n)
-leads_to_is q n x e = (let both = both_parts (eqb x.0 q) (eqb x.1 n) e in
+leads_to_is q n x e = (let both = and_parts (eqb x.0 q) (eqb x.1 n) e in
     (eqb-true x.0 q both.0, eqb-true x.1 n both.1))
 
 pub leads_to_not : (q n : ℕ) (x : ℕ × ℕ) → (q ≡ x.0 → n ≢ x.1) → weight (leads_to q n x) ≡ 0
@@ -122,11 +120,6 @@ trailer_leads trailers descriptors place i exact lt =
     let some = count_one (leads_to x.0 x.1) (trailers_of trailers place) i (0, 0) lt (leads_to_itself x.0 x.1) in
     let is = exact place x.0 x.1 in
     times_some (leads_at descriptors x.0 x.1) place (omega (arith, some, is))
-
-get_or_any : {X : Type 0} (xs : List X) (i : ℕ) (d e : X) → i < length xs → get_or xs i d ≡ get_or xs i e
-get_or_any [] i d e lt = absurd (omega arith)
-get_or_any (x ∷ xs) zero d e lt = refl
-get_or_any (x ∷ xs) (suc i) d e lt = get_or_any xs i d e (omega arith)
 
 -- no process has two trailers in one list, so there are at most as many as processes
 pub most_trailers : (entries : List (Option Entry)) (links : Links) (place : ℕ) → AreLinked entries links

@@ -1,6 +1,6 @@
 -- The place in which a segment is active.
 use Rattle.std.proofs.Common.{◌≡◌, ℕ, ◌<◌, Bool, true, false, List, [], ◌∷◌, length, Option, None, Some, refl, sym, ap}
-use Rattle.std.proofs.Common.{◌∙◌, arith, get_or, inl, inr, IsSome, suc, zero}
+use Rattle.std.proofs.Common.{◌∙◌, arith, get_or, inl, inr, suc, zero}
 use Rattle.std.specs.List.{position_or_len}
 use Rattle.std.proofs.lemmas.Bool.{eqb-true, eq-eqb, cases_lt}
 use Rattle.std.proofs.lemmas.List.{get_or_past}
@@ -47,7 +47,3 @@ place_is xs uid place tree at =
 
     not_before : (j : ℕ) → j < place → is_for uid (entry_at xs j) ≡ false
     not_before j l = not_yet j (is_for uid (entry_at xs j)) l refl
-
-pub some_uid : (o : Option ℕ) → IsSome o → (uid : ℕ) × (o ≡ Some uid)
-some_uid None e = cc
-some_uid (Some uid) e = (uid, refl)

@@ -15,7 +15,6 @@ use Rattle.page_control.specs.Picture.{is_binding, words_filed, words_held, word
 use Rattle.page_control.specs.Picture.{changed_at, changed_page}
 use Rattle.page_control.specs.Ties.{KeepsTies}
 use Rattle.page_control.proofs.Marks.{words_marked}
-use Rattle.page_control.proofs.Pictures.{off_and_on}
 use Rattle.page_control.proofs.Ties.{bound_within}
 use Rattle.seg_mover.specs.declared.Mover.{Mover}
 use Rattle.seg_mover.specs.Moves.{CanBegin, IsMoving, begun, undone}
@@ -24,8 +23,9 @@ use Rattle.seg_control.specs.Kept.{AreLinked, IsHomeOf, IsKept, read_at}
 use Rattle.seg_control.specs.Moving.{IsKeptAtRest, IsOnItsWay, at_rest, home_at, volumes_of}
 use Rattle.seg_control.proofs.Paged.{paged_same}
 use Rattle.seg_control.proofs.Calls.{kept_paged, kept_with}
-use Rattle.seg_control.proofs.Counts.{position_there}
 use Rattle.seg_control.proofs.Aside.{AreAside, IsAside, move_aside, not_free, tie_less, tie_more}
+use Rattle.laws.proofs.Bools.{off_and_on}
+use Rattle.laws.proofs.Lists.{position_there}
 
 -- ---- no segment moves
 

@@ -16,6 +16,7 @@ use Rattle.seg_mover.specs.Steps.{with_place, page_stored, entry_taken, IsPartBe
 use Rattle.seg_mover.proofs.Records.{least_there, least_is, count_more}
 use Rattle.seg_mover.proofs.Places.{put, put_here, put_put, list_within, no_record, length_no_records}
 use Rattle.seg_mover.proofs.Places.{map_placed, records_within, flags_used, vols_same}
+use Rattle.laws.proofs.Options.{some_number}
 
 -- the home that was taken is there, on another volume than the old one
 pub record CanStore {D : Type 0} (old : Vols D) (from to : ℕ × ℕ) : Type 0 where
@@ -198,15 +199,11 @@ room_left old now uid n q from to store part lt is =
     let fewer = some_more [] (map_at old from) n q (omega (arith, lt, store.pages)) is in
     omega (arith, fewer, part.room)
 
-some_of : (place : Option ℕ) → IsSome place → (q : ℕ) × (place ≡ Some q)
-some_of None h = cc
-some_of (Some q) h = (q, refl)
-
 pub has_room : {D : Type 0} {old now : Vols D} {uid n : ℕ} {from to : ℕ × ℕ} → CanStore old from to
     → IsPartBegun old now uid from to n → n < 256 → IsSome (place_at now from n)
     → used_at now to.0 < length (records_at now to.0)
 has_room {old = old} {now = now} {uid = uid} {n = n} {from = from} {to = to} store part lt there =
-    let q = some_of (place_at now from n) there in
+    let q = some_number (place_at now from n) there in
     room_left old now uid n q.0 from to store part lt (place_kept (Some q.0) store part q.1)
 
 -- one page more, as the call of it says

@@ -6,6 +6,7 @@ use Rattle.volumes.specs.Volumes.{Vols}
 use Rattle.seg_mover.specs.declared.Mover.{Mover}
 use Rattle.seg_mover.specs.Homes.{map_at}
 use Rattle.seg_mover.specs.Copies.{is_to_copy, first_to_copy, page_to_copy, IsLeastToCopy}
+use Rattle.laws.proofs.Options.{some_same}
 
 -- one page on
 first_suc : (places : List (Option ℕ)) (skip : List Bool) (count p : ℕ) → first_to_copy places skip (suc count) p
@@ -47,9 +48,6 @@ record IsFirst (places : List (Option ℕ)) (skip : List Bool) (count p q : ℕ)
   wanted : is_to_copy places skip q ≡ true
   before : (s : ℕ) → p ≤ s → s < q → is_to_copy places skip s ≡ false
 
-some_is : (p q : ℕ) → Some p ≡ Some q → p ≡ q
-some_is p q is = cc
-
 first_is : (places : List (Option ℕ)) (skip : List Bool) (count p q : ℕ) → first_to_copy places skip count p ≡ Some q
     → IsFirst places skip count p q
 first_is places skip zero p q is = absurd (none_is q (sym (first_zero places skip p) ∙ is))
@@ -64,7 +62,7 @@ first_is places skip (suc count) p q is =
         → cond b (Some p) (first_to_copy places skip count (p + 1)) ≡ Some q
         → IsFirst places skip (suc count) p q
     go later true here found =
-        let same : p ≡ q = some_is p q found in
+        let same : p ≡ q = some_same p q found in
         record {
           late = omega (arith, same);
           within = omega (arith, same);

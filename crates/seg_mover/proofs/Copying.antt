@@ -3,12 +3,12 @@ use Rattle.std.proofs.Common.{◌≡◌, ◌⊎◌, ℕ, ◌≤◌, List}
 use Rattle.std.proofs.Common.{length, Option, Result, Ok, Err, sym, ap, ◌∙◌, arith}
 use Rattle.std.proofs.Common.{get_or, map, inl, inr, sum_by, slice_get, OnOk, OnErr, subst}
 use Rattle.std.specs.Option.{unwrap_or, option_map}
-use Rattle.std.proofs.lemmas.List.Sums.{sum-map}
 use Rattle.std.proofs.lemmas.Option.{slice_get-map, unwrap_or-slice_get}
 use Rattle.site_io.specs.Faults.{Rose}
 use Rattle.volumes.specs.FailLine.{IsOneMore}
 use Rattle.volumes.specs.Volumes.{faults_at, KeepsOthers}
 use Rattle.seg_mover.specs.Copies.{FailedAt, CallsDrives}
+use Rattle.laws.proofs.Lists.{sum_of_map}
 
 -- a count of a drive that is as before
 count_kept : {D : Type 0} (f : D → ℕ) (old new : List D) (w : ℕ) → slice_get new w ≡ slice_get old w
@@ -17,9 +17,6 @@ count_kept f old new w same =
     sym (unwrap_or-slice_get (map f new) w 0) ∙ ap (λ (x : Option ℕ). unwrap_or x 0) (slice_get-map f new w)
     ∙ ap (λ (x : Option _). unwrap_or (option_map f x) 0) same
     ∙ sym (ap (λ (x : Option ℕ). unwrap_or x 0) (slice_get-map f old w)) ∙ unwrap_or-slice_get (map f old) w 0
-
-sum_kept : {D : Type 0} (f : D → ℕ) (old new : List D) → map f new ≡ map f old → sum_by f new ≡ sum_by f old
-sum_kept f old new same = sym (sum-map f new) ∙ ap (sum_by (λ (n : ℕ). n)) same ∙ sum-map f old
 
 -- the read failed
 pub read_failed : {D Plan T E : Type 0} (plan : D → Plan) (places faults : D → ℕ) (old new : List D) (v w : ℕ)
@@ -70,7 +67,7 @@ rose_then : {D T E : Type 0} (faults : D → ℕ) (old mid new : List D) (result
     → OnErr result (Rose (sum_by faults old) (sum_by faults new))
 rose_then faults old mid new (Ok x) told rose = tt
 rose_then faults old mid new (Err e) told rose =
-    subst (λ (n : ℕ). Rose n (sum_by faults new)) (sum_kept faults old mid told) rose
+    subst (λ (n : ℕ). Rose n (sum_by faults new)) (sum_of_map faults old mid told) rose
 
 pub read_then : {D Plan T E : Type 0} (plan : D → Plan) (places faults : D → ℕ) (old mid new : List D) (v w : ℕ)
     (result : Result T E) → map plan mid ≡ map plan old → map places mid ≡ map places old → length mid ≡ length old
@@ -86,7 +83,7 @@ read_then plan places faults old mid new v w result plans stores count others to
       stores = stores2 ∙ stores;
       count = count2 ∙ count;
       others = λ u notv notw. others2.same u notw ∙ others.same u notv;
-      grows = omega (arith, grows, sum_kept faults old mid told);
+      grows = omega (arith, grows, sum_of_map faults old mid told);
       told = told_then faults old mid new result told told2;
       failed = failed_then faults old mid new v w result told others2 once its;
       rose = rose_then faults old mid new result told rose;

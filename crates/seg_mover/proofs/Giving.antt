@@ -9,9 +9,10 @@ use Rattle.seg_mover.specs.Homes.{entry_of, map_at, place_at}
 use Rattle.seg_mover.specs.Records.{AreKept, flags_given}
 use Rattle.seg_mover.specs.Moves.{given_back}
 use Rattle.seg_mover.specs.Steps.{with_place, page_given, IsPartGiven}
-use Rattle.seg_mover.proofs.Records.{below_or_past, given_less, given_none, kept_less}
+use Rattle.seg_mover.proofs.Records.{given_less, given_none, kept_less}
 use Rattle.seg_mover.proofs.Places.{put_put, vtoc_within, still_used, entry_placed, map_placed, records_within}
 use Rattle.seg_mover.proofs.Places.{on_within, flags_used, vols_same}
+use Rattle.laws.proofs.Numbers.{below_or_past}
 
 pub given_start : {D : Type 0} (old : Vols D) (home : ℕ × ℕ) → IsSome (entry_of old home)
     → AreKept (records_at old home.0) (map_at old home) → IsPartGiven old old home 0

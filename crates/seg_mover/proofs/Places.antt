@@ -11,13 +11,9 @@ use Rattle.vtoc.specs.Vtoc.{Entry, uid_of, records_in, with_record}
 use Rattle.volumes.specs.Volumes.{Vols, records_at, vtoc_at, with_record_used}
 use Rattle.seg_mover.specs.Homes.{entry_of, map_at}
 use Rattle.seg_mover.specs.Steps.{with_place}
-use Rattle.seg_mover.proofs.Records.{below_or_past, off_and_on}
-
-pub within_from : {X : Type 0} (xs : List X) (i : ℕ) (d : X) → (get_or xs i d ≡ d → ⊥) → i < length xs
-within_from xs i d other = elim (below_or_past i (length xs)) [
-  | inl lt ↦ lt
-  | inr past ↦ absurd (other (get_or_past xs i d past))
-]
+use Rattle.laws.proofs.Numbers.{below_or_past}
+use Rattle.laws.proofs.Bools.{off_and_on}
+use Rattle.laws.proofs.Lists.{within_from}
 
 -- place e of list v becomes x
 abbrev pub put : {X : Type 0} → List (List X) → ℕ → ℕ → X → List (List X)

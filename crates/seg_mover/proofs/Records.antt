@@ -4,8 +4,7 @@ use Rattle.std.proofs.Common.{length, Option, None, Some, refl, sym, ap, ◌∙�
 use Rattle.std.proofs.Common.{count_by, All}
 use Rattle.std.specs.List.{position_or_len}
 use Rattle.std.proofs.lemmas.Bool.{cases_eq, lt-ltb}
-use Rattle.std.proofs.lemmas.Bool.Decides.{leb_tells}
-use Rattle.std.proofs.lemmas.List.{get_or-set_same, get_or-set_other, get_or_past, set_past, set-set, set_comm}
+use Rattle.std.proofs.lemmas.List.{get_or-set_same, get_or-set_other, get_or_past, set_past, set-set}
 use Rattle.std.proofs.lemmas.List.{set-get_or}
 use Rattle.std.proofs.lemmas.List.{length-set}
 use Rattle.std.proofs.lemmas.List.Elements.{All-head, All-tail}
@@ -13,15 +12,10 @@ use Rattle.std.proofs.lemmas.List.Sums.{sum_by-cons, sum_by-set, fails_before_fi
 use Rattle.std.proofs.lemmas.List.Quantifiers.{position-Some}
 use Rattle.bitmap.specs.Bitmap.{in_use, least_free, IsLeastFree}
 use Rattle.seg_mover.specs.Records.{with_taken, flags_taken, map_taken, flags_given, AreKept, AddsRecords}
-
-pub below_or_past : (a b : ℕ) → (a < b) ⊎ (b ≤ a)
-below_or_past a b = elim (leb_tells b a) [ inl h ↦ inr h.1 | inr h ↦ inl h.1 ]
-
-pub not_none : {A : Type 0} (x : Option A) (a : A) → x ≡ None → x ≡ Some a → ⊥
-not_none x a h i = cc
-
-pub off_and_on : (b : Bool) → b ≡ false → b ≡ true → ⊥
-off_and_on b h i = cc
+use Rattle.laws.proofs.Numbers.{below_or_past}
+use Rattle.laws.proofs.Lists.{none_put, given_twice}
+use Rattle.laws.proofs.Options.{not_none, some_same}
+use Rattle.laws.proofs.Bools.{off_and_on, not_true, by_not}
 
 -- each passes the test that is counted
 pub all_counted : {X : Type 0} (p : X → Bool) (xs : List X) → All (λ x. p x ≡ true) xs → count_by p xs ≡ length xs
@@ -44,20 +38,12 @@ not_all flags few all = let full : count_by (λ (flag : Bool). flag) flags ≡ l
 
 -- ---- the least free record
 
-on_from : (b : Bool) → not b ≡ false → b ≡ true
-on_from true h = refl
-on_from false h = cc
-
-off_from : (b : Bool) → not b ≡ true → b ≡ false
-off_from true h = cc
-off_from false h = refl
-
 pub least_there : (flags : List Bool) → count_by (λ flag. flag) flags < length flags
     → (r : ℕ) × (least_free flags ≡ Some r)
 least_there flags few = elim (below_or_past (position_or_len not flags) (length flags)) [
   | inl lt ↦ (position_or_len not flags, rw (lt-ltb (position_or_len not flags) (length flags) lt) refl)
   | inr past ↦ absurd (let full : count_by (λ (flag : Bool). flag) flags ≡ length flags =
-      all_counted (λ flag. flag) flags (λ k d lt. on_from (get_or flags k d)
+      all_counted (λ flag. flag) flags (λ k d lt. by_not (get_or flags k d)
       (fails_before_first not flags k d (omega (arith, lt, past)))) in
       omega (arith, full, few))
 ]
@@ -67,8 +53,8 @@ least_is flags r is =
     let at = position-Some not flags r false is in
     record {
       within = at.0;
-      free = off_from (in_use flags r) at.1;
-      before = λ k lt. on_from (in_use flags k) (at.2 k lt);
+      free = not_true (in_use flags r) at.1;
+      before = λ k lt. by_not (in_use flags k) (at.2 k lt);
     }
 
 -- ---- one record
@@ -91,12 +77,6 @@ still_taken : (flags : List Bool) (r s : ℕ) → r < length flags → in_use fl
 still_taken flags r s lt on = elim (cases_eq s r) [
   | inl same ↦ ap (in_use (set flags r true)) same ∙ taken_same flags r lt
   | inr n ↦ other_same flags r s true n ∙ on
-]
-
-swap_off : (flags : List Bool) (r s : ℕ) → set (set flags r false) s false ≡ set (set flags s false) r false
-swap_off flags r s = elim (cases_eq r s) [
-  | inl same ↦ rw same refl
-  | inr n ↦ set_comm flags r s false false n
 ]
 
 -- what is taken and given back is as it was
@@ -127,9 +107,6 @@ adds_none less more places adds = record {
     once zero q r is it = cc
     once (suc p) zero r is it = cc
     once (suc p) (suc q) r is it = ap suc (adds.kept.once p q r is it)
-
-some_same : (r s : ℕ) → Some r ≡ Some s → r ≡ s
-some_same r s is = cc
 
 adds_some : (less more : List Bool) (places : List (Option ℕ)) (r : ℕ) → r < length less → in_use less r ≡ false
     → AddsRecords (set less r true) more places
@@ -178,7 +155,7 @@ given_set : (flags : List Bool) (places : List (Option ℕ)) (r : ℕ) → flags
     ≡ set (flags_given flags places) r false
 given_set flags [] r = refl
 given_set flags (None ∷ places) r = given_set flags places r
-given_set flags (Some s ∷ places) r = ap (λ (fs : List Bool). flags_given fs places) (swap_off flags r s)
+given_set flags (Some s ∷ places) r = ap (λ (fs : List Bool). flags_given fs places) (given_twice flags r s)
     ∙ given_set (set flags s false) places r
 
 given_some : (flags : List Bool) (places : List (Option ℕ)) (place : Option ℕ) (r : ℕ) → place ≡ Some r
@@ -191,7 +168,7 @@ given_less flags [] n r is = cc
 given_less flags (place ∷ places) zero r is = sym (given_some flags places place r is)
 given_less flags (None ∷ places) (suc n) r is = given_less flags places n r is
 given_less flags (Some s ∷ places) (suc n) r is =
-    ap (λ (fs : List Bool). flags_given fs (set places n None)) (swap_off flags r s)
+    ap (λ (fs : List Bool). flags_given fs (set places n None)) (given_twice flags r s)
     ∙ given_less (set flags s false) places n r is
 
 pub given_none : (flags : List Bool) (places : List (Option ℕ)) → ((p : ℕ) → get_or places p None ≡ None)
@@ -199,12 +176,6 @@ pub given_none : (flags : List Bool) (places : List (Option ℕ)) → ((p : ℕ)
 given_none flags [] none = refl
 given_none flags (None ∷ places) none = given_none flags places (λ p. none (suc p))
 given_none flags (Some r ∷ places) none = absurd (not_none (Some r) r (none 0) refl)
-
-none_put : {X : Type 0} (xs : List (Option X)) (p : ℕ) → get_or (set xs p None) p None ≡ None
-none_put xs p = elim (below_or_past p (length xs)) [
-  | inl lt ↦ get_or-set_same xs p None None lt
-  | inr past ↦ ap (λ (ys : List (Option _)). get_or ys p None) (set_past xs p None past) ∙ get_or_past xs p None past
-]
 
 -- a place that still names a record is another
 put_names : (places : List (Option ℕ)) (n p r : ℕ) → get_or (set places n None) p None ≡ Some r

@@ -32,7 +32,7 @@ use Rattle.flat_model.specs.Pages.{is_stored}
 use Rattle.storage_ops.proofs.Alike.{Keeps, active_alike, alike_changed, counted_alike, filed_alike}
 use Rattle.storage_ops.proofs.Alike.{housed_alike, keeps_moved, keeps_one, keeps_rows, map_node, moved_else, node_map}
 use Rattle.storage_ops.proofs.Alike.{picture_alike, quota_moved, rights_alike, taken_alike}
-use Rattle.flat_model.proofs.NodeLaws.{uid_found}
+use Rattle.tree_model.proofs.SharedLaws.{found_uid}
 
 -- ---- a change of all nodes
 
@@ -127,7 +127,7 @@ acl_store now ast links a b whos path row r cut h done refused = elim (cases_Boo
             (let same : m.uid ≡ u = grind (arith, nat_tests) in
             absurd ((cut set.node set.found).none process number place
             (leads_there links process number place pages mode d)
-            (e ∙ ap (λ (x : ℕ). Some x) (sym (uid_found a.nodes v m found) ∙ same))))
+            (e ∙ ap (λ (x : ℕ). Some x) (sym (found_uid a.nodes v m found) ∙ same))))
         | inr isnt ↦ rw isnt refl
       ]) h)
 ]

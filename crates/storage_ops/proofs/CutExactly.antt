@@ -23,6 +23,8 @@ use Rattle.seg_control.specs.Kept.{IsInactive}
 use Rattle.storage_ops.specs.CutOff.{CountsOthers, Paged, cut_by, is_cleared, page_cleared, page_cut, paged, pages_cut}
 use Rattle.storage_ops.specs.CutOff.{Erases, cut_at, cut_within, pages_from, put_out}
 use Rattle.storage_ops.specs.Shown.{Storage, home_of, pages_in}
+use Rattle.laws.proofs.Bools.{and_parts}
+use Rattle.laws.proofs.Numbers.{zero_word}
 
 -- ---- one page
 
@@ -92,21 +94,11 @@ others_both a b c uid x y s apart = y s apart ∙ x s apart
 
 -- ---- the page that is cut
 
-both_parts : (a b : Bool) → (a && b) ≡ true → (a ≡ true) × (b ≡ true)
-both_parts true b h = (refl, h)
-both_parts false b h = cc
-
-zero_word : (w : ℕ) → eqb w 0 ≡ true → w ≡ 0
-zero_word w h = elim (eqb_tells w 0) [
-  | inl e ↦ e.1
-  | inr n ↦ absurd (let no : true ≡ false = sym h ∙ n.0 in cc)
-]
-
 zeros_from : (ws : List ℕ) → list_all (λ w. eqb w 0) ws ≡ true → (k d : ℕ) → k < length ws → get_or ws k d ≡ 0
 zeros_from [] h k d lt = absurd (omega (arith, lt))
-zeros_from (w ∷ ws) h zero d lt = zero_word w (both_parts (eqb w 0) (list_all (λ v. eqb v 0) ws) h).0
+zeros_from (w ∷ ws) h zero d lt = zero_word w (and_parts (eqb w 0) (list_all (λ v. eqb v 0) ws) h).0
 zeros_from (w ∷ ws) h (suc k) d lt =
-    zeros_from ws (both_parts (eqb w 0) (list_all (λ v. eqb v 0) ws) h).1 k d (omega (arith, lt))
+    zeros_from ws (and_parts (eqb w 0) (list_all (λ v. eqb v 0) ws) h).1 k d (omega (arith, lt))
 
 zeros_to : (ws : List ℕ) → AreZero ws → list_all (λ w. eqb w 0) ws ≡ true
 zeros_to [] h = refl

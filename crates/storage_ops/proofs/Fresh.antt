@@ -7,13 +7,12 @@ use Rattle.std.specs.Prelude.{count_by, nat_le, nat_lt, slice_get}
 use Rattle.std.specs.List.{list_all}
 use Rattle.std.proofs.lemmas.Bool.{cases_lt}
 use Rattle.std.proofs.lemmas.Bool.Decides.{nat_tests}
-use Rattle.std.proofs.lemmas.Grind.{common_steps}
 use Rattle.std.proofs.lemmas.List.{get_or-replicate, get_or_past, length-replicate}
 use Rattle.std.proofs.lemmas.List.Quantifiers.{position-Some}
 use Rattle.std.proofs.lemmas.List.Sums.{sum_by-cons}
 use Rattle.mnames.specs.declared.principals.Who.{Who}
 use Rattle.script.specs.Plans.{Plan}
-use Rattle.script.specs.Forms.{ArePools, is_command, is_from, is_path, is_volume}
+use Rattle.script.specs.Forms.{is_command, is_from, is_path, is_volume}
 use Rattle.script.specs.declared.commands.Command.TheVariants as command
 use Rattle.script.specs.declared.plan.VolumeLine.{VolumeLine}
 use Rattle.mnames.specs.Names.{is_name}
@@ -33,21 +32,8 @@ use Rattle.page_control.specs.Picture.{words_at}
 use Rattle.seg_control.specs.Control.{Links, kst_at}
 use Rattle.seg_control.specs.Kept.{AreAtRest}
 use Rattle.storage_ops.specs.Shown.{AreFresh, IsStore, Shows, Storage, is_filed, picture}
-
-pub pools_few : (pools : List ℕ) → ArePools pools → sum pools ≤ 1024
-pools_few [] h = absurd h
-pools_few (a ∷ []) h = absurd h
-pools_few (a ∷ b ∷ []) h = absurd h
-pools_few (a ∷ b ∷ c ∷ []) h = absurd h
-pools_few (a ∷ b ∷ c ∷ d ∷ []) h = (let few : a + b + c + d ≤ 1024 = h.4 in grind (arith, common_steps))
-pools_few (a ∷ b ∷ c ∷ d ∷ e ∷ rest) h = absurd h
-
-pub one_of : {X : Type 0} (n i : ℕ) (x : X) → get_or (replicate n x) i x ≡ x
-one_of n i x = elim (cases_lt i n) [
-  | inl lt ↦ get_or-replicate n i x x lt
-  | inr past ↦ get_or_past (replicate n x) i x (let long : length
-      (replicate n x) ≡ n = length-replicate n x in omega (arith, long, past))
-]
+use Rattle.laws.proofs.Bools.{and_parts}
+use Rattle.laws.proofs.Lists.{all_same}
 
 -- ---- volumes of which nothing is used
 
@@ -65,7 +51,7 @@ module _ (now : Plain) (free : (v e : ℕ) → entry_at (vtoc_in now.vtocs v) e 
       let clash : ◌≡◌ {A = Option ℕ} None (Some r) = sym at ∙ is in cc
     where
       blank : (q : ℕ) → get_or no_records q None ≡ None
-      blank q = one_of 256 q None
+      blank q = all_same 256 q None
 
   pub filed_fresh : AreFiled now.records now.vtocs
   filed_fresh = record {
@@ -86,18 +72,13 @@ module _ (now : Plain) (free : (v e : ℕ) → entry_at (vtoc_in now.vtocs v) e 
 
 -- ---- the volumes of a script
 
-both : (a b : Bool) → (a && b) ≡ true → (a ≡ true) × (b ≡ true)
-both true true h = (refl, refl)
-both true false h = cc
-both false b h = cc
-
 volume_sizes : (v : VolumeLine) → is_volume v ≡ true → (v.records ≤ 16384) × (1 ≤ v.entries)
 unfolding is_volume
 volume_sizes v h =
-    let named = both (is_name v.name) (is_from 1 16384 v.records && is_from 1 4097 v.entries) h in
-    let sized = both (is_from 1 16384 v.records) (is_from 1 4097 v.entries) named.1 in
-    let records = both (nat_le 1 v.records) (nat_le v.records 16384) sized.0 in
-    let entries = both (nat_le 1 v.entries) (nat_le v.entries 4097) sized.1 in
+    let named = and_parts (is_name v.name) (is_from 1 16384 v.records && is_from 1 4097 v.entries) h in
+    let sized = and_parts (is_from 1 16384 v.records) (is_from 1 4097 v.entries) named.1 in
+    let records = and_parts (nat_le 1 v.records) (nat_le v.records 16384) sized.0 in
+    let entries = and_parts (nat_le 1 v.entries) (nat_le v.entries 4097) sized.1 in
     (le v.records 16384 records.1, le 1 v.entries entries.0)
   where
     le : (a b : ℕ) → nat_le a b ≡ true → a ≤ b
@@ -105,26 +86,26 @@ volume_sizes v h =
 
 pub records_most : (vs : List VolumeLine) (v : ℕ) → list_all is_volume vs ≡ true → sizes_in (slice_get vs v) < 65536
 records_most [] v h = omega arith
-records_most (x ∷ vs) zero h = (let few = (volume_sizes x (both (is_volume x)
+records_most (x ∷ vs) zero h = (let few = (volume_sizes x (and_parts (is_volume x)
     (list_all is_volume vs) h).0).0 in omega (arith, few))
-records_most (x ∷ vs) (suc v) h = records_most vs v (both (is_volume x) (list_all is_volume vs) h).1
+records_most (x ∷ vs) (suc v) h = records_most vs v (and_parts (is_volume x) (list_all is_volume vs) h).1
 
 pub entries_some : (vs : List VolumeLine) → list_all is_volume vs ≡ true → 1 ≤ length vs
     → 1 ≤ entries_in (slice_get vs 0)
 entries_some [] h some = absurd (omega (arith, some))
-entries_some (x ∷ vs) h some = (volume_sizes x (both (is_volume x) (list_all is_volume vs) h).0).1
+entries_some (x ∷ vs) h some = (volume_sizes x (and_parts (is_volume x) (list_all is_volume vs) h).0).1
 
 -- ---- nothing at all
 
 pub none_active : (n place u : ℕ) → uid_in_place (replicate n None) place ≢ Some u
-none_active n place u e = (let clash : ◌≡◌ {A = Option ℕ} None (Some u) = sym (ap uid_in (one_of n place None))
+none_active n place u e = (let clash : ◌≡◌ {A = Option ℕ} None (Some u) = sym (ap uid_in (all_same n place None))
     ∙ e in cc)
 
 pub none_known : (n process number u : ℕ) → known_uid (kst_at (replicate n
     (replicate 256 None)) process) number ≢ Some u
 none_known n process number u e = elim (cases_lt process n) [
   | inl lt ↦ (let clash : ◌≡◌ {A = Option ℕ} None (Some u) = sym (ap (λ (kst : List (Option ℕ)). known_uid kst number)
-      (get_or-replicate n process (replicate 256 none) [] lt) ∙ one_of 256 number none) ∙ e in cc)
+      (get_or-replicate n process (replicate 256 none) [] lt) ∙ all_same 256 number none) ∙ e in cc)
   | inr past ↦ (let clash : ◌≡◌ {A = Option ℕ} None (Some u) = sym (ap (λ (kst : List (Option ℕ)). known_uid kst number)
       (get_or_past (replicate n (replicate 256 none)) process [] (let long : length (replicate n
       (replicate 256 none)) ≡ n = length-replicate n (replicate 256 none) in
@@ -237,7 +218,7 @@ shown_nothing drive p t is fresh known whos = record {
   pages = record {
     stored = λ u q. ap (λ (x : AccountMaps). is_filed x t.segs.pages.volumes.vtocs u q) (sym is);
     once = tt;
-    words = λ u o. sym (one_of 1024 (o % 1024) 0)
+    words = λ u o. sym (all_same 1024 (o % 1024) 0)
         ∙ ap (λ (x : AccountMaps). get_or (picture x (words_at (plain drive t.segs.pages)) u (o / 1024))
         (o % 1024) 0) (sym is);
   };
@@ -263,29 +244,21 @@ boot_is p quota is = ap (λ (q : ℕ). record (blank p) { nodes = record (root_o
 pub dir_volume : (volumes : ℕ) (path : List (List ℕ)) (volume : ℕ)
     → is_command volumes (command.MkDir path volume) ≡ true → volume < volumes
 unfolding is_command
-dir_volume volumes path volume h = (let lt = (both (is_path path) (nat_lt volume volumes) h).1 in grind
+dir_volume volumes path volume h = (let lt = (and_parts (is_path path) (nat_lt volume volumes) h).1 in grind
     (arith, nat_tests))
 
 pub seg_volume : (volumes : ℕ) (path : List (List ℕ)) (pages volume : ℕ)
     → is_command volumes (command.MkSeg path pages volume) ≡ true → volume < volumes
 unfolding is_command
 seg_volume volumes path pages volume h =
-    (let lt = (both (is_from 1 256 pages) (nat_lt volume volumes) (both (is_path path)
+    (let lt = (and_parts (is_from 1 256 pages) (nat_lt volume volumes) (and_parts (is_path path)
     (is_from 1 256 pages && nat_lt volume volumes) h).1).1 in grind (arith, nat_tests))
-
--- and its number of pages is 256 at most
-pub seg_pages : (volumes : ℕ) (path : List (List ℕ)) (pages volume : ℕ)
-    → is_command volumes (command.MkSeg path pages volume) ≡ true → pages ≤ 256
-unfolding is_command
-seg_pages volumes path pages volume h =
-    (let few = (both (nat_le 1 pages) (nat_le pages 256) (both (is_from 1 256 pages) (nat_lt volume volumes)
-    (both (is_path path) (is_from 1 256 pages && nat_lt volume volumes) h).1).0).1 in grind (arith, nat_tests))
 
 pub new_length : (volumes : ℕ) (path : List (List ℕ)) (pages : ℕ)
     → is_command volumes (command.Length path pages) ≡ true → pages ≤ 256
 unfolding is_command
 new_length volumes path pages h =
-    (let few = (both (nat_le 1 pages) (nat_le pages 256) (both (is_path path) (is_from 1 256 pages) h).1).1 in
+    (let few = (and_parts (nat_le 1 pages) (nat_le pages 256) (and_parts (is_path path) (is_from 1 256 pages) h).1).1 in
     grind (arith, nat_tests))
 
 pub ruleset volume_there = (dir_volume, seg_volume)

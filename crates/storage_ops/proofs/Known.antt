@@ -1,16 +1,13 @@
 -- What the numbers of a process stand for is changed.
-use Rattle.std.proofs.Common.{◌≡◌, ℕ, zero, suc, ◌<◌, eqb, List, [], ◌∷◌, Option, Some, None, Ok}
-use Rattle.std.proofs.Common.{set, get_or, refl, sym, ap, subst, ◌∙◌, arith, inl, inr}
-use Rattle.std.proofs.lemmas.Bool.{cases_Bool}
-use Rattle.std.proofs.lemmas.Bool.Decides.{nat_tests}
+use Rattle.std.proofs.Common.{◌≡◌, ℕ, zero, suc, ◌<◌, List, [], ◌∷◌, Option, Some, None, Ok}
+use Rattle.std.proofs.Common.{set, get_or, refl, sym, ap, subst, ◌∙◌}
 use Rattle.std.proofs.lemmas.List.{length-set, set-get_or}
 use Rattle.mnames.specs.declared.principals.Who.{Who}
 use Rattle.script.specs.Plans.{Plan}
 use Rattle.book.specs.declared.replies.Reply.{Reply}
 use Rattle.known_segs.specs.Known.{number_for, uid_of, with_number, without_number}
 use Rattle.accounts.specs.Maps.{AccountMaps}
-use Rattle.tree_model.specs.Tree.{Node, node_in}
-use Rattle.tree_model.specs.Trees.{AreBelow}
+use Rattle.tree_model.specs.Tree.{Node}
 use Rattle.flat_model.specs.Branches.{segment_at}
 use Rattle.flat_model.specs.Naming.{after_initiate, after_terminate, initiated, known_or_full}
 use Rattle.flat_model.specs.Store.{Store}
@@ -27,13 +24,6 @@ set_told P (y ∷ ys) zero zero x d px pg = px
 set_told P (y ∷ ys) zero (suc j) x d px pg = pg
 set_told P (y ∷ ys) (suc i) zero x d px pg = pg
 set_told P (y ∷ ys) (suc i) (suc j) x d px pg = set_told P ys i j x d px pg
-
-pub uid_below : (next : ℕ) (ns : List Node) (u : ℕ) (n : Node) → AreBelow next ns → node_in ns u ≡ Some n → u < next
-uid_below next [] u n b e = cc
-uid_below next (m ∷ ns) u n b e = elim (cases_Bool (eqb m.uid u)) [
-  | inl is ↦ (let same : m.uid ≡ u = grind (arith, nat_tests) in let lt : m.uid < next = b.0 in omega (arith, same, lt))
-  | inr isnt ↦ uid_below next ns u n b.1 (rw isnt at e)
-]
 
 -- each number that is known stands for a uid below this one
 AreUnder : ℕ → List (Option ℕ) → Type 0

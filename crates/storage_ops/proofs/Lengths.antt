@@ -31,8 +31,9 @@ use Rattle.storage_ops.proofs.Alike.{map_node}
 use Rattle.storage_ops.proofs.Alike.{node_map, rights_alike, taken_alike}
 use Rattle.storage_ops.proofs.Changed.{shown_changed}
 use Rattle.storage_ops.proofs.Held.{tree_held}
-use Rattle.flat_model.proofs.NodeLaws.{no_directory, uid_found}
+use Rattle.flat_model.proofs.NodeLaws.{no_directory}
 use Rattle.flat_model.proofs.TreeReplies.{length_told}
+use Rattle.tree_model.proofs.SharedLaws.{found_uid}
 
 -- whether a page is filed, of a node that is there
 pub filed_there : (a : AccountMaps) (vtocs : List (List (Option Entry))) (u q : ℕ) → is_there a.nodes u ≡ true
@@ -108,7 +109,7 @@ module _ (a b : AccountMaps) (u pages : ℕ) (segment : has_segment a.nodes u �
     where
       by : (o : Option Node) → node_in a.nodes v ≡ o → pages_of (map_node (length_change u pages) o) ≡ pages_of o
       by None e = refl
-      by (Some n) e = ap (λ (x : Node). x.pages) (other_same u pages n (λ is. ne (sym (uid_found a.nodes v n e) ∙ is)))
+      by (Some n) e = ap (λ (x : Node). x.pages) (other_same u pages n (λ is. ne (sym (found_uid a.nodes v n e) ∙ is)))
 
   pages_here : (n : Node) → node_in a.nodes u ≡ Some n → pages_in b.nodes u ≡ pages
   pages_here n e =
@@ -118,7 +119,7 @@ module _ (a b : AccountMaps) (u pages : ℕ) (segment : has_segment a.nodes u �
       ∙ ap (λ (z : Bool). (cond z (record n { pages = pages }) n).pages) own
     where
       own : eqb n.uid u ≡ true
-      own = (let is : n.uid ≡ u = uid_found a.nodes u n e in grind (arith, nat_tests))
+      own = (let is : n.uid ≡ u = found_uid a.nodes u n e in grind (arith, nat_tests))
 
   -- the segment isn't active, and stores no page from the new length on
   pub length_store : (now : Plain) (ast : ActiveSegs) (links : Links) (whos : List Who) (n : Node)
@@ -174,7 +175,7 @@ module _ (a b : AccountMaps) (u pages : ℕ) (segment : has_segment a.nodes u �
       unchanged : (place v : ℕ) (m : Node) → uid_in_place ast.entries place ≡ Some v → node_in a.nodes v ≡ Some m
           → length_change u pages m ≡ m
       unchanged place v m e here = other_same u pages m
-          (λ is. inactive.nowhere place (e ∙ ap (λ (x : ℕ). Some x) (sym (uid_found a.nodes v m here) ∙ is)))
+          (λ is. inactive.nowhere place (e ∙ ap (λ (x : ℕ). Some x) (sym (found_uid a.nodes v m here) ∙ is)))
 
   pub length_shown : {D : Type 0} (drive : D → List (List ℕ)) (p : Plan) (s : Store) (t : Storage D) (path : List
       (List ℕ)) (n : Node) → t.accounts ≡ a

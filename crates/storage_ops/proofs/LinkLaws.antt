@@ -1,6 +1,6 @@
 -- Descriptors are connected, with the rights of their processes.
 use Rattle.std.proofs.Common.{◌≡◌, ℕ, suc, ◌<◌, List, [], ◌∷◌, length}
-use Rattle.std.proofs.Common.{IsSome, Option, Some, None, get_or, set, refl, sym, ap, subst, ◌∙◌, arith, inl, inr}
+use Rattle.std.proofs.Common.{Option, Some, get_or, set, refl, sym, ap, subst, ◌∙◌, arith, inl, inr}
 use Rattle.std.proofs.lemmas.Bool.{cases_eq}
 use Rattle.std.proofs.lemmas.List.{get_or-set_other}
 use Rattle.mnames.specs.declared.modes.Mode.{Mode}
@@ -33,10 +33,6 @@ same_place p q m n x y e =
 
 the_uid : (u v : ℕ) → ◌≡◌ {A = Option ℕ} (Some u) (Some v) → u ≡ v
 the_uid u v e = cc
-
-pub some_uid : (o : Option ℕ) → IsSome o → (uid : ℕ) × (o ≡ Some uid)
-some_uid None e = cc
-some_uid (Some uid) e = (uid, refl)
 
 -- what a descriptor of a store is, once one more is connected: as it was, or the new one
 told_linked : (links : Links) (process number place pages : ℕ) (m : Mode) (P : ℕ → Sdw → Type 0)

@@ -1,5 +1,5 @@
 -- What the calls of a move ask and leave, by what is true of a store.
-use Rattle.std.proofs.Common.{◌≡◌, ℕ, ◌+◌, ◌-◌, ◌<◌, ◌≤◌, Bool, true, false, not, ◌&&◌, List, [], ◌∷◌}
+use Rattle.std.proofs.Common.{◌≡◌, ℕ, ◌+◌, ◌-◌, ◌<◌, ◌≤◌, Bool, true, false, List, [], ◌∷◌}
 use Rattle.std.proofs.Common.{Option, Some, None, get_or, length, map, set, refl, sym, ap, ◌∙◌, arith, inl, inr}
 use Rattle.std.specs.Prelude.{nat_lt}
 use Rattle.std.proofs.lemmas.Bool.{cases_eq, cases_lt, eq-eqb}
@@ -22,14 +22,9 @@ use Rattle.storage_ops.specs.Rooms.{is_roomy}
 use Rattle.storage_ops.specs.Shown.{IsStore, Storage, home_of, is_there, named_at}
 use Rattle.storage_ops.proofs.Paged.{active_there}
 use Rattle.storage_ops.proofs.Tables.{all_drives, homed_volume}
+use Rattle.laws.proofs.Bools.{room_parts}
 
 -- ---- a move may begin
-
-roomy_parts : (a b c : Bool) → (not a && (b && c)) ≡ true → (a ≡ false) × (b ≡ true) × (c ≡ true)
-roomy_parts true b c e = cc
-roomy_parts false true true e = (refl, refl, refl)
-roomy_parts false true false e = cc
-roomy_parts false false c e = cc
 
 -- a free record for each stored page
 room_enough : (pages all in_use : ℕ) → nat_lt pages (all - in_use) ≡ true → in_use + pages ≤ all
@@ -47,7 +42,7 @@ module _ {D : Type 0} (drive : D → List (List ℕ)) (t : Storage D) (u : ℕ)
       → is_roomy t.segs.pages.volumes (home_of t.accounts u).volume (count_of t.accounts u) to ≡ true
       → CanBegin t.segs.pages.volumes u (pair_of (home_of t.accounts u)) to
   may_begin parts to within roomy = (
-      let has = roomy_parts _ _ _ roomy in
+      let has = room_parts _ _ _ roomy in
       let used = store.housed.homes u there in
       let on = homed_volume t.segs.pages.volumes.vtocs (home_of t.accounts u) u used in
       let all = all_drives drive t.segs.pages.volumes parts in

@@ -35,6 +35,7 @@ use Rattle.storage_ops.proofs.Paged.{active_home, active_there, picture_none, pi
 use Rattle.storage_ops.proofs.Lengths.{filed_there}
 use Rattle.storage_ops.proofs.PageLeft.{filed_changed, filed_recounted, picture_recounted}
 use Rattle.storage_ops.proofs.PageWords.{IsPageChanged, words_told}
+use Rattle.laws.proofs.Numbers.{eqb_turned}
 
 -- ---- what is stored
 
@@ -56,12 +57,6 @@ counts_more a b uid p stored change off counts v =
           let same = recount_other a b uid (count_of a uid + 1) change v ne in
           omega (arith, sum, was, none, same))
     ]
-
-turned : (a b : ℕ) → eqb a b ≡ eqb b a
-turned a b = elim (cases_eq a b) [
-  | inl is ↦ eq-eqb a b is ∙ sym (eq-eqb b a (sym is))
-  | inr ne ↦ ne_eqb a b ne ∙ sym (ne_eqb b a (λ e. ne (sym e)))
-]
 
 -- ---- the whole
 
@@ -174,7 +169,7 @@ shown_made drive plan s t u uid p at w kept store active off within change whos 
         stored = λ v q. is_stored-with s.stored uid p v q
             ∙ ap (λ (z : Bool). is_page v q (uid, p) || z) (h.pages.stored v q)
             ∙ or_cond (eqb uid v) (eqb v uid) (eqb p q) (eqb q p) (is_filed t.accounts t.segs.pages.volumes.vtocs v q)
-            (turned uid v) (turned p q)
+            (eqb_turned uid v) (eqb_turned p q)
             ∙ sym (filed_changed t.accounts old (plain drive u.segs.pages) uid p true store.housed there stored v q)
             ∙ sym (filed_recounted t.accounts u.accounts uid _ change u.segs.pages.volumes.vtocs v q);
         once = once_with s.stored uid p h.pages.once;

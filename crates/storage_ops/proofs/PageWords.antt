@@ -16,19 +16,17 @@ use Rattle.core_map.specs.declared.Frame.{Frame}
 use Rattle.core_map.specs.declared.Frame.TheVariants.{Free, Started, Bound}
 use Rattle.core_map.specs.CoreMap.{bound_page, frame_at, is_bound}
 use Rattle.mnames.specs.declared.principals.Who.{Who}
-use Rattle.page_table.specs.declared.Ptw.{Ptw}
-use Rattle.page_table.specs.declared.Ptw.TheVariants.{Here, Leaving, Null, Out}
 use Rattle.page_table.specs.PageTable.{ptw_at}
 use Rattle.active_segs.specs.Active.{ActiveSegs, IsActive, table_at}
 use Rattle.page_control.specs.declared.Home.{Home}
 use Rattle.page_control.specs.Plain.{Plain, binding_at, bindings, number_in, plain, words_in}
 use Rattle.page_control.specs.Picture.{changed_at, changed_page, words_at}
-use Rattle.page_control.specs.Tied.{IsTableOf, frame_of, has_record, uid_in}
+use Rattle.page_control.specs.Tied.{IsTableOf, frame_of, uid_in}
 use Rattle.seg_control.specs.Control.{Links, word_of}
 use Rattle.seg_control.specs.Kept.{IsKept}
 use Rattle.volumes.specs.Volumes.{Vols}
 use Rattle.storage_ops.specs.Shown.{IsStore, Shows, ShowsTree, Storage, home_of, is_filed, is_there, picture}
-use Rattle.storage_ops.proofs.Paged.{active_tie, picture_there, word_filed}
+use Rattle.storage_ops.proofs.Paged.{active_tie, picture_there, word_filed, framed_recorded}
 use Rattle.storage_ops.proofs.PagesLess.{words_bound}
 
 -- what a bound frame is bound to
@@ -57,12 +55,6 @@ module _ (now : Plain) (ast : ActiveSegs) (links : Links) (kept : IsKept now ast
       ≡ words_in now f
   bound_words home = words_bound now (uid_in (frame_at now.core f)) (number_in (frame_at now.core f)) f home binding
       (λ g e. same_Some g f (sym (bound_table.named g (number_in (frame_at now.core f)) e) ∙ bound_named))
-
-framed_recorded : (w : Ptw) (f : ℕ) → frame_of w ≡ Some f → has_record w ≡ true
-framed_recorded Null f e = cc
-framed_recorded (Out r) f e = cc
-framed_recorded (Here g) f e = refl
-framed_recorded (Leaving g) f e = refl
 
 -- and the page is stored
 pub bound_filed : (now : Plain) (ast : ActiveSegs) (links : Links) (a : AccountMaps) (whos : List Who)

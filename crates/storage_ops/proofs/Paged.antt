@@ -25,9 +25,9 @@ use Rattle.page_control.specs.Picture.{is_filed_at, words_at}
 use Rattle.seg_control.specs.Control.{Links, is_for, place_of, table_of, word_of}
 use Rattle.seg_control.specs.Kept.{IsHomeOf, IsKept}
 use Rattle.storage_ops.specs.Shown.{IsStore, Shows, Storage, home_of, is_filed, is_there, pages_in, picture}
-use Rattle.storage_ops.proofs.Fresh.{one_of}
 use Rattle.storage_ops.proofs.Homes.{filed_map, words_none}
 use Rattle.storage_ops.proofs.Lengths.{filed_there}
+use Rattle.laws.proofs.Lists.{all_same}
 
 uid_from : (u : ℕ) (e : Option Entry) → is_for u e ≡ true → uid_in e ≡ Some u
 uid_from u None h = cc
@@ -79,7 +79,7 @@ module _ (now : Plain) (ast : ActiveSegs) (links : Links) (a : AccountMaps) (who
   word_filed q = filed_there a now.vtocs u q active_there ∙ filed_map now.vtocs (home_of a u) q
       ∙ active_tie.map.stored q
 
-framed_recorded : (w : Ptw) (f : ℕ) → frame_of w ≡ Some f → has_record w ≡ true
+pub framed_recorded : (w : Ptw) (f : ℕ) → frame_of w ≡ Some f → has_record w ≡ true
 framed_recorded Null f e = cc
 framed_recorded (Out r) f e = cc
 framed_recorded (Here g) f e = refl
@@ -117,7 +117,7 @@ blank_shown drive p s t k h shown u o off = shown.pages.words u o
     ∙ ap (λ (ws : List ℕ). get_or ws (o % 1024) 0)
     (picture_none (plain drive t.segs.pages) t.segs.ast t.segs.links t.accounts t.whos k h u (o / 1024)
     (sym (shown.pages.stored u (o / 1024)) ∙ off))
-    ∙ one_of 1024 (o % 1024) 0
+    ∙ all_same 1024 (o % 1024) 0
 
 -- ---- what is there, and what isn't
 

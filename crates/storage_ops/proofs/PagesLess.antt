@@ -16,7 +16,7 @@ use Rattle.mword.specs.Words.{AreZero}
 use Rattle.script.specs.Plans.{Plan}
 use Rattle.mnames.specs.declared.principals.Who.{Who}
 use Rattle.accounts.specs.Maps.{AccountMaps, Recounts, count_of}
-use Rattle.tree_model.specs.Tree.{Node, has_directory}
+use Rattle.tree_model.specs.Tree.{has_directory}
 use Rattle.tree_model.specs.Trees.{has_segment}
 use Rattle.flat_model.specs.Cuts.{cleared, has_cleared, without_pages}
 use Rattle.flat_model.specs.Pages.{is_stored, is_zero_page}
@@ -49,13 +49,15 @@ use Rattle.storage_ops.specs.Shown.{named_at, pages_in, picture}
 use Rattle.storage_ops.proofs.Entries.{one_named}
 use Rattle.storage_ops.proofs.Dropped.{HasDropped, dropped_vtocs, recount_homes, recount_there, same_entries}
 use Rattle.storage_ops.proofs.Dropped.{same_sizes}
-use Rattle.storage_ops.proofs.Fresh.{one_of}
 use Rattle.storage_ops.proofs.Homes.{bound_of, filed_map}
 use Rattle.storage_ops.proofs.Lengths.{filed_there}
 use Rattle.storage_ops.proofs.Paged.{active_home, active_there, active_tie, filed_absent, picture_absent, picture_there}
 use Rattle.storage_ops.proofs.Paged.{word_filed}
-use Rattle.storage_ops.proofs.Unstored.{bound_dropped, bound_none, none_bound, same_pair, word_within, worded_here}
+use Rattle.storage_ops.proofs.Unstored.{bound_dropped, bound_none, none_bound, word_within, worded_here}
 use Rattle.storage_ops.proofs.Unstored.{unstores_still, worded_other, worded_table}
+use Rattle.laws.proofs.Lists.{all_same}
+use Rattle.laws.proofs.Options.{page_is}
+use Rattle.storage_ops.proofs.PageFacts.{segment_of}
 
 -- ---- a page is stored no more
 
@@ -117,7 +119,7 @@ module _ (old now : Plain) (a b : AccountMaps) (u q : ℕ) (d : HasDropped old n
       words v o true true e f = sym (ap (λ (n : ℕ). get_or (picture b (words_at now) n (o / 1024)) (o % 1024) 0)
           (eqb-true v u e)
           ∙ ap (λ (n : ℕ). get_or (picture b (words_at now) u n) (o % 1024) 0) (eqb-true (o / 1024) q f)
-          ∙ ap (λ (ws : List ℕ). get_or ws (o % 1024) 0) words_gone ∙ one_of 1024 (o % 1024) 0)
+          ∙ ap (λ (ws : List ℕ). get_or ws (o % 1024) 0) words_gone ∙ all_same 1024 (o % 1024) 0)
       words v o true false e f = h.words v o ∙ ap (λ (ws : List ℕ). get_or ws (o % 1024) 0)
           (sym (words_else v (o / 1024) (λ same at. (let clash : true ≡ false = sym (eq-eqb (o / 1024) q at)
           ∙ f in cc))))
@@ -153,7 +155,7 @@ shown_dropped drive p s t n u q d housed known whos h =
 bound_frame : (frame : Frame) (u q : ℕ) → bound_page frame ≡ Some (u, q) → (uid_in frame ≡ u) × (number_in frame ≡ q)
 bound_frame Free u q e = cc
 bound_frame (Started v r) u q e = cc
-bound_frame (Bound v r used modified) u q e = same_pair v r u q e
+bound_frame (Bound v r used modified) u q e = page_is v r u q e
 
 pub frame_bound : (core : Core) (u q f : ℕ) → binding_at (bindings core) f ≡ Some (u, q)
     → (uid_in (frame_at core f) ≡ u) × (number_in (frame_at core f) ≡ q)
@@ -306,17 +308,6 @@ away_isnt_here Null e = cc
 away_isnt_here (Out r) e = refl
 away_isnt_here (Here f) e = cc
 away_isnt_here (Leaving f) e = refl
-
-segment_of : (ns : List Node) (u : ℕ) → is_there ns u ≡ true → has_directory ns u ≡ false → has_segment ns u ≡ true
-segment_of [] u t off = cc
-segment_of (n ∷ ns) u t off = elim (cases_Bool (eqb n.uid u)) [
-  | inl is ↦ rw is (back n.directory (rw is at off))
-  | inr isnt ↦ rw isnt (segment_of ns u (rw isnt at t) (rw isnt at off))
-]
-  where
-    back : (z : Bool) → z ≡ false → not z ≡ true
-    back true e = cc
-    back false e = refl
 
 pub may_drop : (now : Plain) (ast : ActiveSegs) (links : Links) (a : AccountMaps) (whos : List Who) (u q : ℕ)
     → IsKept now ast links → IsStore now ast links a whos → IsActive ast.entries u

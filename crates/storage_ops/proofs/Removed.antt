@@ -23,7 +23,7 @@ use Rattle.flat_model.specs.Store.{Store}
 use Rattle.flat_model.proofs.DropLaws.{stored_fused}
 use Rattle.flat_model.proofs.NodeLaws.{volume_found}
 use Rattle.flat_model.proofs.PageLaws.{is_stored-without, once_without, without_first, without_none}
-use Rattle.flat_model.proofs.RemoveLaws.{directory_left, node_gone, node_left, taken_left, volume_left}
+use Rattle.flat_model.proofs.RemoveLaws.{directory_left, node_gone, taken_left, volume_left}
 use Rattle.flat_model.proofs.TreeLaws.{entries_less}
 use Rattle.vtoc.specs.Vtoc.{Entry as VtocEntry, entry_at, uid_of}
 use Rattle.core_map.specs.CoreMap.{Core, frame_at, started_page}
@@ -47,13 +47,14 @@ use Rattle.storage_ops.specs.Shown.{AreCounted, AreHoused, AreInTree, AreTaken, 
 use Rattle.storage_ops.specs.Shown.{is_filed}
 use Rattle.storage_ops.specs.Shown.{is_there, named_at, pages_in, pages_of, picture}
 use Rattle.storage_ops.proofs.Dropped.{counts_more, recount_here, recount_homes, recount_other, taken_more, with_more}
-use Rattle.storage_ops.proofs.Fresh.{one_of}
 use Rattle.storage_ops.proofs.Homes.{filed_map, none_counted}
 use Rattle.storage_ops.proofs.Lengths.{filed_there}
 use Rattle.storage_ops.proofs.Made.{length_inside}
 use Rattle.storage_ops.proofs.NodeLaws.{found_there}
 use Rattle.storage_ops.proofs.Unstored.{started_is}
 use Rattle.storage_ops.proofs.Paged.{active_place, filed_absent, picture_absent, picture_there}
+use Rattle.tree_model.proofs.SharedLaws.{node_without}
+use Rattle.laws.proofs.Lists.{all_same, get_or_any}
 
 -- a node is taken out whose pages are counted no more and whose home is free
 pub record HasRemoved (old now : Plain) (a mid b : AccountMaps) (u : ℕ) : Type 0 where
@@ -75,13 +76,13 @@ module _ (old now : Plain) (a mid b : AccountMaps) (u : ℕ) (d : HasRemoved old
   nodes_left = d.loses.nodes ∙ ap (λ (ns : List Node). without_node ns u) d.counted.nodes
 
   there_left : (v : ℕ) → v ≢ u → is_there b.nodes v ≡ is_there a.nodes v
-  there_left v ne = ap (λ (ns : List Node). is_there ns v) nodes_left ∙ ap is_some (node_left a.nodes u v ne)
+  there_left v ne = ap (λ (ns : List Node). is_there ns v) nodes_left ∙ ap is_some (node_without a.nodes u v ne)
 
   there_gone : is_there b.nodes u ≡ false
   there_gone = ap (λ (ns : List Node). is_there ns u) nodes_left ∙ ap is_some (node_gone a.nodes u)
 
   found_left : (v : ℕ) → v ≢ u → node_in b.nodes v ≡ node_in a.nodes v
-  found_left v ne = ap (λ (ns : List Node). node_in ns v) nodes_left ∙ node_left a.nodes u v ne
+  found_left v ne = ap (λ (ns : List Node). node_in ns v) nodes_left ∙ node_without a.nodes u v ne
 
   pages_left : (v : ℕ) → v ≢ u → pages_in b.nodes v ≡ pages_in a.nodes v
   pages_left v ne = ap pages_of (found_left v ne)
@@ -380,7 +381,7 @@ shown_removed {D} drive p s t n mid u d housed links whos h = record {
         ∙ sym (ap (λ (x : ℕ). get_or (picture b (words_at now) x (o / 1024)) (o % 1024) 0) (eqb-true v u e)
         ∙ ap (λ (ws : List ℕ). get_or ws (o % 1024) 0)
         (picture_absent b (words_at now) u (o / 1024) (there_gone old now a mid b u d housed))
-        ∙ one_of 1024 (o % 1024) 0)
+        ∙ all_same 1024 (o % 1024) 0)
       where
         first : (o : ℕ) → nat_le 0 o ≡ true
         first o = grind (arith, nat_tests)
@@ -428,17 +429,12 @@ leaf_place a ast place u h none at q v is up = by (entry_in_place ast.entries q)
         ∙ ap (λ (n : ℕ). Some n) (sym (the_uid (sym at ∙ is))) in
         let clash : true ≡ false = sym (inferior_any a.nodes u x.uid found.0 found.1 above) ∙ none in cc
 
-within_any : {X : Type 0} (xs : List X) (k : ℕ) (d e : X) → k < length xs → get_or xs k d ≡ get_or xs k e
-within_any [] k d e lt = absurd (omega arith)
-within_any (x ∷ xs) zero d e lt = refl
-within_any (x ∷ xs) (suc k) d e lt = within_any xs k d e (omega arith)
-
 pub place_away : (ast : ActiveSegs) (place u : ℕ) → IsOneToOne ast.entries → uid_in_place ast.entries place ≡ Some u
     → ((q : ℕ) → word_of ast u q ≡ Null) → All IsAway (table_at ast.tables place)
 place_away ast place u once at null k d lt =
     let same : place_of ast.entries u ≡ place = once (place_of ast.entries u) place u
     (active_place ast.entries u (place, at)) at in
-    let word : get_or (table_at ast.tables place) k d ≡ Null = within_any (table_at ast.tables place) k d Null lt
+    let word : get_or (table_at ast.tables place) k d ≡ Null = get_or_any (table_at ast.tables place) k d Null lt
     ∙ sym (ap (λ (n : ℕ). ptw_at (table_at ast.tables n) k) same) ∙ null k in
     subst IsAway (sym word) tt
 
@@ -523,9 +519,6 @@ branch_same s u =
     words : (x y z : Bool) (w : ℕ) → z ≡ true → cond (x && z) 0 (cond (x && y) 0 w) ≡ cond (x && z) 0 w
     words true y z w e = rw e refl
     words false y z w e = refl
-
-pub from_zero : (q : ℕ) → nat_le 0 q ≡ true
-from_zero q = grind (arith, nat_tests)
 
 -- ---- an entry that is freed
 

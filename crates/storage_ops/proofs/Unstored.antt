@@ -5,7 +5,6 @@ use Rattle.std.proofs.Common.{nat_le, nat_lt, set, Option, Some, None, refl, sym
 use Rattle.std.proofs.lemmas.Bool.{cases_eq, cases_lt, eq-eqb, eqb-true, ne_eqb, or_parts}
 use Rattle.std.proofs.lemmas.Bool.Decides.{nat_tests}
 use Rattle.std.proofs.lemmas.List.{get_or-set_other, get_or-set_same, get_or_past, length-set}
-use Rattle.std.proofs.lemmas.Option.{same_Some}
 use Rattle.std.proofs.Math.ListN.{get_or-map}
 use Rattle.core_map.specs.CoreMap.{Core, bound_page, frame_at, reads_of, started_page, with_frame}
 use Rattle.core_map.specs.declared.Frame.{Frame}
@@ -29,6 +28,7 @@ use Rattle.storage_ops.specs.Shown.{Storage, home_of}
 use Rattle.storage_ops.specs.Cut.{IsTakenFrom, IsTakenPast, Unstores, is_here, unbound}
 use Rattle.storage_ops.proofs.Known.{set_told}
 use Rattle.storage_ops.proofs.Paged.{active_place}
+use Rattle.laws.proofs.Options.{page_is}
 
 -- ---- the words of a segment's page table
 
@@ -301,15 +301,9 @@ between_past from page = grind (arith, nat_tests)
 
 -- ---- what is being read
 
--- two pages that are the same in an option
-pub same_pair : (v r u q : ℕ) → ◌≡◌ {A = Option (ℕ × ℕ)} (Some (v, r)) (Some (u, q)) → (v ≡ u) × (r ≡ q)
-same_pair v r u q e =
-    let same : ◌≡◌ {A = ℕ × ℕ} (v, r) (u, q) = same_Some (v, r) (u, q) e in
-    (ap (λ (x : ℕ × ℕ). x.0) same, ap (λ (x : ℕ × ℕ). x.1) same)
-
 pub started_is : (frame : Frame) (u q : ℕ) → started_page frame ≡ Some (u, q) → frame ≡ Started u q
 started_is Free u q e = cc
-started_is (Started v r) u q e = (let same = same_pair v r u q e in
+started_is (Started v r) u q e = (let same = page_is v r u q e in
     ap (λ (n : ℕ). Started n r) same.0 ∙ ap (λ (n : ℕ). Started u n) same.1)
 started_is (Bound v r on wrote) u q e = cc
 

@@ -1,13 +1,14 @@
 -- A node gets another volume: what is read of the nodes, and counted on each volume.
 use Rattle.std.proofs.Common.{◌≡◌, ◌≢◌, ℕ, ◌+◌, ◌<◌, Bool, true, false, cond, eqb, List, [], ◌∷◌, map, Option, Some}
-use Rattle.std.proofs.Common.{None, refl, sym, ap, subst, ◌∙◌, arith, inl, inr}
+use Rattle.std.proofs.Common.{refl, sym, ap, subst, ◌∙◌, arith, inl, inr}
 use Rattle.std.specs.Prelude.{count_by}
 use Rattle.std.proofs.lemmas.Bool.{cases_Bool, cases_eq, eq-eqb, eqb-true, ne_eqb}
 use Rattle.std.proofs.lemmas.List.Sums.{sum_by-cons}
 use Rattle.tree_model.specs.Tree.{Node, entries_on, has_directory, node_in, taken_on, volume_in}
-use Rattle.tree_model.specs.Trees.{AreBelow, IsTree, Joins}
+use Rattle.tree_model.specs.Trees.{AreBelow, IsTree}
 use Rattle.flat_model.proofs.FieldLaws.{field_kept, field_mapped}
 use Rattle.storage_ops.specs.Shown.{is_there}
+use Rattle.tree_model.proofs.SharedLaws.{joined_below}
 
 -- a node, on another volume where it has this uid
 abbrev pub on_volume : ℕ → ℕ → Node → Node
@@ -116,10 +117,6 @@ taken_moved ns u w there stored v =
 
 -- ---- VTOC entries
 
-below_all : (ns : List Node) (o : Option ℕ) (n : Node) → Joins ns o n → AreBelow n.uid ns
-below_all ns None n j = rw j.first tt
-below_all ns (Some s) n j = j.later
-
 none_on : (u w : ℕ) (ns : List Node) → AreBelow u ns → map (on_volume u w) ns ≡ ns
 none_on u w [] below = refl
 none_on u w (n ∷ ns) below =
@@ -135,7 +132,7 @@ entries_moved (m ∷ ns) tree u w n found v = elim (cases_eq m.uid u) [
   | inl same ↦
       (let z : Some m ≡ Some n = rw (eq-eqb m.uid u same) at found in
       let is : m ≡ n = some_same z in
-      let below : AreBelow u ns = subst (λ x. AreBelow x ns) same (below_all ns m.superior m tree.0) in
+      let below : AreBelow u ns = subst (λ x. AreBelow x ns) same (joined_below ns m.superior m tree.0) in
       rw (eq-eqb m.uid u same, none_on u w ns below, first (record m { volume = w }) ns, first m ns, ← is)
       (omega arith))
   | inr ne ↦

@@ -5,7 +5,7 @@ use Rattle.tree_model.specs.Tree.{Node, Walk, LeadsTo, Missing, InSegment, node_
 use Rattle.dir_tree.specs.declared.node.PathFault.TheVariants as path_fault
 use Rattle.dir_tree.specs.Nodes.{path_answer}
 use Rattle.flat_model.specs.Branches.{walked, node_at, there_or}
-use Rattle.flat_model.proofs.NodeLaws.{uid_found}
+use Rattle.tree_model.proofs.SharedLaws.{found_uid}
 
 leads : (nodes : List Node) (w : Walk) (u : ℕ) (n : Node) → Ok u ≡ path_answer w → node_in nodes u ≡ Some n
     → walked nodes w ≡ Ok n
@@ -42,4 +42,4 @@ unfolding node_at
 walked_past nodes path e = in_segment nodes (walk_in nodes path) e
 
 -- what a walk tells of the node that a path leads to
-pub ruleset walk_laws = (walked_to, walked_nowhere, walked_past, uid_found)
+pub ruleset walk_laws = (walked_to, walked_nowhere, walked_past, found_uid)

@@ -17,7 +17,7 @@ directory_there [] u e = cc
 directory_there (n ∷ ns) u e = elim (cases_Bool (eqb n.uid u))
     [ inl is ↦ rw is refl | inr isnt ↦ rw isnt (directory_there ns u (rw isnt at e)) ]
 
-under_more : (u v : ℕ) (xs : List ℕ) → v < u → AreUnder v xs → AreUnder u xs
+pub under_more : (u v : ℕ) (xs : List ℕ) → v < u → AreUnder v xs → AreUnder u xs
 under_more u v [] lt a = tt
 under_more u v (x ∷ xs) lt a = ((let l : x < v = a.0 in omega arith), under_more u v xs lt a.1)
 

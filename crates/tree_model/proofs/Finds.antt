@@ -29,13 +29,6 @@ pub branch_found : (d : ℕ) (name : List ℕ) (ns : List Term) → branch_in ns
 branch_found d name [] = refl
 branch_found d name (n ∷ ns) = ap (cond (is_branch d name n) (Some n)) (branch_found d name ns)
 
-pub found_passes : {X : Type 0} (p : X → Bool) (xs : List X) (x : X) → find p xs ≡ Some x → p x ≡ true
-found_passes p [] x e = cc
-found_passes p (y ∷ xs) x e = elim (cases_Bool (p y)) [
-  | inl is ↦ (let z : Some y ≡ Some x = rw is at e in let same : y ≡ x = cc in rw (← same) is)
-  | inr isnt ↦ found_passes p xs x (rw isnt at e)
-]
-
 -- a member of a list
 abbrev pub IsMember : {X : Type 0} → X → List X → Type 0
 IsMember x [] = ⊥

@@ -1,3 +1,4 @@
 pub mod ChainLaws
 pub mod Finds
+pub mod SharedLaws
 pub mod TreeLaws

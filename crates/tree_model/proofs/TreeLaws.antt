@@ -38,7 +38,7 @@ seen_past : (ns : List Term) (n : Term) (u s : ℕ) → AreBelow n.uid ns → ha
 seen_past ns n u s b e = (let lt : s < n.uid = below_of n.uid ns s b e in let other : eqb n.uid s ≡ false =
     ne_eqb n.uid s (λ q. omega arith) in rw other e)
 
-joined_below : (ns : List Term) (o : Option ℕ) (n : Term) → Joins ns o n → AreBelow n.uid ns
+pub joined_below : (ns : List Term) (o : Option ℕ) (n : Term) → Joins ns o n → AreBelow n.uid ns
 joined_below ns None n j = rw j.first tt
 joined_below ns (Some s) n j = j.later
 

@@ -4,13 +4,11 @@ use Rattle.std.proofs.Common.{arith, inl, inr, ◌⊎◌}
 use Rattle.std.specs.Bool.{beq}
 use Rattle.std.specs.List.{list_any}
 use Rattle.std.proofs.lemmas.Bool.{lt-ltb, le-ltb, or_parts}
-use Rattle.std.proofs.lemmas.Bool.Decides.{leb_tells, eqb_tells}
+use Rattle.std.proofs.lemmas.Bool.Decides.{eqb_tells}
 use Rattle.site_io.specs.Faults.{Rose, counted}
 use Rattle.volumes.specs.declared.drive.FailLine.{FailLine}
 use Rattle.volumes.specs.FailLine.{IsOneMore, names, names_next, named_calls}
-
-below_or_past : (a b : ℕ) → (a < b) ⊎ (b ≤ a)
-below_or_past a b = elim (leb_tells b a) [ inl h ↦ inr h.1 | inr h ↦ inl h.1 ]
+use Rattle.laws.proofs.Numbers.{below_or_past}
 
 -- one call more, counted to 2 ^ 64 - 1
 pub named_more : (lines : List FailLine) (write : Bool) (n : ℕ) → n < 2 ^ 64

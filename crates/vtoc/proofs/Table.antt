@@ -1,10 +1,9 @@
 use Rattle.std.proofs.Common.{◌≡◌, ℕ, zero, suc, ◌+◌, ◌<◌, ◌≤◌, ◌^◌, Bool, true, false, not, cond, List, [], ◌∷◌}
 use Rattle.std.proofs.Common.{length, Option, None, Some, refl, sym, ap}
-use Rattle.std.proofs.Common.{◌∙◌, arith, get_or, set, replicate, map, inl, inr, ◌⊎◌, IsSome, is_some, is_none}
+use Rattle.std.proofs.Common.{◌∙◌, arith, get_or, set, replicate, map, inl, inr, IsSome, is_some, is_none}
 use Rattle.std.proofs.Common.{count_by, All, IsTrue, ◌↔◌}
 use Rattle.std.specs.List.{prefix_len}
 use Rattle.std.proofs.lemmas.Bool.{cases_eq}
-use Rattle.std.proofs.lemmas.Bool.Decides.{leb_tells}
 use Rattle.std.proofs.lemmas.List.{map-set, get_or-map, get_or_past, length-map, length-set, length-replicate}
 use Rattle.std.proofs.lemmas.List.{get_or-set_same, get_or-set_other, set-get_or}
 use Rattle.std.proofs.lemmas.List.{get_or_default, get_or_read, get_or-replicate, ext_get_or}
@@ -16,9 +15,9 @@ use Rattle.vtoc.specs.Vtoc.{Entry, entry_at, uid_of, records_in, record_at, fres
 use Rattle.vtoc.specs.Vtoc.{IsLeastFreeEntry, NamesNoRecord}
 use Rattle.vtoc.specs.declared.slots.Slot.{Slot}
 use Rattle.vtoc.specs.Slots.{seen_as, entry_of, table_of, free_slot, slot_at, IsMarked}
-
-below_or_past : (a b : ℕ) → (a < b) ⊎ (b ≤ a)
-below_or_past a b = elim (leb_tells b a) [ inl h ↦ inr h.1 | inr h ↦ inl h.1 ]
+use Rattle.laws.proofs.Numbers.{below_or_past}
+use Rattle.laws.proofs.Options.{none_there}
+use Rattle.laws.proofs.Lists.{blank}
 
 pub length_table : (slots : List Slot) → length (table_of slots) ≡ length slots
 unfolding table_of
@@ -65,10 +64,6 @@ is_none_seen (Some uid) records h = refl
 pub is_some_seen : (uid : Option ℕ) (records : List (Option ℕ)) → is_some uid ≡ true → IsSome (seen_as uid records)
 is_some_seen None records h = absurd (cc)
 is_some_seen (Some uid) records h = refl
-
-pub none_from : (uid : Option ℕ) → is_some uid ≡ false → uid ≡ None
-none_from None h = refl
-none_from (Some uid) h = cc
 
 pub with_record_seen : (uid : Option ℕ) (records : List (Option ℕ)) (p : ℕ) (r : Option ℕ)
     → seen_as uid (set records p r) ≡ with_record (seen_as uid records) p r
@@ -182,14 +177,9 @@ map_is_empty records long none =
     (λ p lt. let below : p < 256 = omega (arith, long) in none p
     ∙ sym (get_or-replicate {A = Option ℕ} 256 p None None below))
 
-none_in : (n p : ℕ) → get_or (replicate {A = Option ℕ} n None) p None ≡ None
-none_in zero p = refl
-none_in (suc n) zero = refl
-none_in (suc n) (suc p) = none_in n p
-
 pub none_named : (p : ℕ) → get_or no_records p None ≡ None
 unfolding no_records
-none_named p = none_in 256 p
+none_named p = blank 256 p
 
 pub length_no_records : length no_records ≡ 256
 unfolding no_records
@@ -393,7 +383,7 @@ pub allocate_table : (flags : List Bool) (slots : List Slot) (table : List (Opti
 allocate_table flags slots table e uid x h view least read =
     let lt : e < length slots = omega (arith, least.within, length_bits flags slots h) in
     let slot = slot_read slots e x lt read in
-    let none = none_from (slot_at slots e).uid (sym (bit_is flags slots e h) ∙ least.free) in
+    let none = none_there (slot_at slots e).uid (sym (bit_is flags slots e h) ∙ least.free) in
     table_with slots e _ ∙ ap (λ (t : List (Option Entry)). set t e (seen_as (Some uid) x.map)) view
     ∙ ap (λ (m : List (Option ℕ)). set table e (seen_as (Some uid) m)) (ap (λ (s : Slot). s.map) slot ∙ h.empty e none)
 

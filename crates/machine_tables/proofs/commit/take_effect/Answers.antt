@@ -4,7 +4,7 @@ use Rattle.script.specs.declared.commands.Command.{Command}
 use Rattle.book.specs.declared.replies.Reply.{Reply}
 use Rattle.storage_ops.specs.Cut.{IsReady}
 use Rattle.storage_ops.specs.Shown.{Storage as Stored}
-use Rattle.storage_ops.proofs.Fresh.{dir_volume, new_length, seg_pages, seg_volume}
+use Rattle.storage_ops.proofs.Fresh.{dir_volume, new_length, seg_volume}
 use Rattle.machine_model.specs.Commits.{frame_entry}
 use Rattle.machine_model.specs.Ready.{OwnsFor}
 use Rattle.machine_tables.specs.Committed.{IsCommitted}
@@ -12,6 +12,7 @@ use Rattle.machine_tables.specs.Gone.{left_entry}
 use Rattle.machine_tables.specs.Parts.{shown}
 use Rattle.machine_tables.specs.Truncated.{IsCommittedBut}
 use Rattle.machine_tables.proofs.commit.take_effect.Goals as goal
+use Rattle.flat_model.proofs.ScriptLaws.{few_pages}
 
 -- the command that was matched is in its ranges
 ranges : {x y : Command} (drives : ℕ) → x ≡ y → is_command drives x ≡ true → is_command drives y ≡ true
@@ -42,7 +43,7 @@ make_seg-requires-clause-volume g c = seg_volume _ c.in-MkSeg.path c.in-MkSeg.pa
     (ranges _ c.in-MkSeg.is c.requires.ranges)
 
 pub make_seg-requires-clause-most : goal.make_seg-requires-clause-most
-make_seg-requires-clause-most g c = seg_pages _ c.in-MkSeg.path c.in-MkSeg.pages c.in-MkSeg.volume
+make_seg-requires-clause-most g c = few_pages _ c.in-MkSeg.path c.in-MkSeg.pages c.in-MkSeg.volume
     (ranges _ c.in-MkSeg.is c.requires.ranges)
 
 pub set_length-requires-clause-most : goal.set_length-requires-clause-most

@@ -5,12 +5,12 @@ use Rattle.mnames.specs.declared.principals.Who.{Who}
 use Rattle.script.specs.References.{permits}
 use Rattle.tree_model.specs.Access.{access_of}
 use Rattle.tree_model.specs.Tree.{Node, quota_in}
-use Rattle.flat_model.proofs.NodeLaws.{uid_found}
 use Rattle.flat_store.specs.Shown.{Held}
 use Rattle.flat_store.proofs.MoveLaws.{lacks_none, lacks_within}
 use Rattle.flat_store.proofs.NodeLaws.{pages_held}
 use Rattle.flat_store.proofs.ReplyLaws.{node_shown}
 use Rattle.flat_store.proofs.holdings.Holdings.lacks_at.Goals as goal
+use Rattle.tree_model.proofs.SharedLaws.{found_uid}
 
 pub lacks_record-requires : goal.lacks_record-requires
 lacks_record-requires c =
@@ -24,7 +24,7 @@ returns c = λ p s k h who.
     let found = node_shown s c.self.inside.accounts.nodes c.args.uid c.in-Some.node.now
     (h.nodes ∙ ap (λ (x : Held). x.accounts.nodes) (sym c.self.view_is)) c.in-Some.ensures.some in
     lacks_within p s k c.args.uid c.args.offset c.args.kind.now n c.lacks_record.result found
-    (uid_found s.nodes c.args.uid n found)
+    (found_uid s.nodes c.args.uid n found)
     (ap (λ (w : Who). permits (access_of w c.in-Some.node.now.acl) c.args.kind.now) (sym who)
     ∙ ap (λ (m : Mode). permits m c.args.kind.now) (sym c.access_of.ensures) ∙ sym c.permitted_by.ensures
     ∙ c.if-not-permitted_by.false)

@@ -9,10 +9,10 @@ use Rattle.flat_model.specs.References.{reply_at, written, written_by}
 use Rattle.flat_model.specs.Store.{Store}
 use Rattle.flat_store.specs.Shown.{Held, Holds, may_write, pages_in}
 use Rattle.flat_store.proofs.NodeLaws.{pages_held, pages_found}
-use Rattle.flat_store.proofs.OkLaws.{on_ok}
 use Rattle.flat_store.proofs.ReferLaws.{may_refer, refer_shown}
 use Rattle.flat_store.proofs.ReplyLaws.{node_shown}
 use Rattle.flat_store.proofs.holdings.Holdings.refer.Goals as goal
+use Rattle.laws.proofs.Options.{on_ok}
 
 pub write-requires-clause-segment : goal.write-requires-clause-segment
 write-requires-clause-segment c =

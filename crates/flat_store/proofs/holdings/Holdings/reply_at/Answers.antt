@@ -1,5 +1,4 @@
 use Rattle.flat_store.proofs.ReplyLaws.{within, node_shown}
-use Rattle.flat_model.proofs.NodeLaws.{uid_found}
 use Rattle.flat_store.proofs.NodeLaws.{pages_held}
 use Rattle.flat_store.proofs.holdings.Holdings.reply_at.Goals as goal
 use Rattle.std.proofs.Common.{ap, sym, ◌∙◌, refl, arith}
@@ -10,6 +9,7 @@ use Rattle.mnames.specs.declared.principals.Who.{Who}
 use Rattle.script.specs.References.{permits}
 use Rattle.dir_tree.specs.Nodes.{as_term}
 use Rattle.flat_store.specs.Shown.{Held}
+use Rattle.tree_model.proofs.SharedLaws.{found_uid}
 
 pub page_reply-requires : goal.page_reply-requires
 page_reply-requires c =
@@ -26,4 +26,4 @@ returns c = λ p s k h who.
     (ap (λ (w : Who). permits (access_of w c.in-Some.node.now.acl) c.args.kind.now) (sym who)
     ∙ ap (λ (m : Mode). permits m c.args.kind.now) (sym c.access_of.ensures) ∙ sym c.permitted_by.ensures
     ∙ c.if-not-permitted_by.false)
-    c.if-offset-node.false (c.page_reply.ensures p s n h (uid_found s.nodes c.args.uid n found) refl)
+    c.if-offset-node.false (c.page_reply.ensures p s n h (found_uid s.nodes c.args.uid n found) refl)

@@ -3,8 +3,8 @@ use Rattle.script.specs.Plans.{Plan}
 use Rattle.flat_model.specs.References.{written}
 use Rattle.flat_model.specs.Store.{Store}
 use Rattle.flat_store.specs.Shown.{Holds, may_write}
-use Rattle.flat_store.proofs.OkLaws.{on_ok}
 use Rattle.flat_store.proofs.holdings.Holdings.write.Goals as goal
+use Rattle.laws.proofs.Options.{on_ok}
 
 pub returns-then-stored-clause-ok : goal.returns-then-stored-clause-ok
 returns-then-stored-clause-ok c =

@@ -7,8 +7,8 @@ use Rattle.flat_model.specs.Store.{Store}
 use Rattle.flat_store.specs.Shown.{Shows}
 use Rattle.flat_store.proofs.FollowLaws.{after_do_is, after_fault_is, after_moved_is, after_release_is}
 use Rattle.flat_store.proofs.FollowLaws.{do_lawful, fault_lawful, moved_lawful, no_command, quiet, release_lawful}
-use Rattle.flat_store.proofs.OkLaws.{on_ok}
 use Rattle.flat_store.proofs.store.FlatStore.follow.Goals as goal
+use Rattle.laws.proofs.Options.{on_ok}
 
 pub returns-in-Some-clause-ok : goal.returns-in-Some-clause-ok
 returns-in-Some-clause-ok c =

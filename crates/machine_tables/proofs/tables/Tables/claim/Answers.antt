@@ -3,8 +3,8 @@ use Rattle.active_segs.specs.Active.{IsActive}
 use Rattle.machine_model.specs.Reads.{next_command, run_at}
 use Rattle.machine_model.specs.State.{State}
 use Rattle.machine_tables.specs.Claimed.{HasItsSegment}
-use Rattle.machine_tables.proofs.CommandLaws.{command_ranges}
 use Rattle.machine_tables.proofs.tables.Tables.claim.Goals as goal
+use Rattle.flat_model.proofs.ScriptLaws.{command_planned}
 
 pub returns-clause-active : goal.returns-clause-active
 returns-clause-active g c = λ needs.
@@ -24,5 +24,5 @@ returns-clause-number g c =
     let s : State = c.args.self.now.state in
     let next : next_command s c.args.process ≡ Some c.in-Some.command.now = c.in-Some.ensures.some in
     c.cuts_of.ensures.number (length s.plan.volumes)
-    (command_ranges s.plan c.args.process (run_at s.runs c.args.process).place c.in-Some.command.now
+    (command_planned s.plan c.args.process (run_at s.runs c.args.process).place c.in-Some.command.now
     c.next_command.ensures.plan next)

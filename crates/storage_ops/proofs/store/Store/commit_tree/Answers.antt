@@ -2,9 +2,10 @@ use Rattle.std.proofs.Common.{◌≡◌, ◌<◌, ℕ, length, true, sym, subst}
 use Rattle.script.specs.Forms.{is_command}
 use Rattle.script.specs.declared.commands.Command.{Command}
 use Rattle.storage_ops.specs.Cut.{IsReady}
-use Rattle.storage_ops.proofs.Fresh.{dir_volume, new_length, seg_pages, seg_volume}
+use Rattle.storage_ops.proofs.Fresh.{dir_volume, new_length, seg_volume}
 use Rattle.storage_ops.proofs.Rest.{rest_accounts, rest_known, rest_made, rest_none}
 use Rattle.storage_ops.proofs.store.Store.commit_tree.Goals as goal
+use Rattle.flat_model.proofs.ScriptLaws.{few_pages}
 
 pub make_dir-requires-clause-volume : goal.make_dir-requires-clause-volume
 make_dir-requires-clause-volume g c =
@@ -24,7 +25,7 @@ make_seg-requires-clause-volume g c =
 
 pub make_seg-requires-clause-most : goal.make_seg-requires-clause-most
 make_seg-requires-clause-most g c =
-    seg_pages (length c.args.self.now.segs.pages.volumes.drives) c.in-MkSeg.path c.in-MkSeg.pages c.in-MkSeg.volume
+    few_pages (length c.args.self.now.segs.pages.volumes.drives) c.in-MkSeg.path c.in-MkSeg.pages c.in-MkSeg.volume
     (subst (λ (x : Command). is_command (length c.args.self.now.segs.pages.volumes.drives) x ≡ true) c.in-MkSeg.is
     c.requires.ranges)
 

@@ -8,9 +8,10 @@ use Rattle.storage_ops.specs.Shown.{Shows, answered}
 use Rattle.flat_model.specs.Naming.{after_initiate}
 use Rattle.storage_ops.proofs.Held.{held, shown_held, store_after}
 use Rattle.flat_model.proofs.PathRefusals.{segment_refuses}
-use Rattle.storage_ops.proofs.Known.{initiate_answered, known_store, uid_below, under_with}
+use Rattle.storage_ops.proofs.Known.{initiate_answered, known_store, under_with}
 use Rattle.storage_ops.proofs.NamingLaws.{initiate_refused, initiate_told}
 use Rattle.storage_ops.proofs.store.Store.initiate.Goals as goal
+use Rattle.tree_model.proofs.SharedLaws.{uid_below}
 
 pub returns-in-Err-clause-answer : goal.returns-in-Err-clause-answer
 returns-in-Err-clause-answer g c = λ p s h.

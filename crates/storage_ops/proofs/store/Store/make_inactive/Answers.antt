@@ -10,7 +10,7 @@ use Rattle.seg_control.specs.Control.{Links}
 use Rattle.storage_ops.specs.Cut.{TakesOut}
 use Rattle.seg_control.specs.Kept.{IsInactive}
 use Rattle.storage_ops.specs.Shown.{IsCut, Storage, home_of, pages_in}
-use Rattle.storage_ops.proofs.Removed.{branch_same, from_zero, leaf_place, place_away, place_cut, place_idle}
+use Rattle.storage_ops.proofs.Removed.{branch_same, leaf_place, place_away, place_cut, place_idle}
 use Rattle.storage_ops.proofs.Rest.{out_active, out_inactive, rest_both, rest_inactive, rest_none, rest_unstored}
 use Rattle.storage_ops.proofs.Unstored.{home_still, idle_still}
 use Rattle.seg_control.specs.Control.{place_of}
@@ -19,6 +19,7 @@ use Rattle.storage_ops.proofs.Paged.{place_found}
 use Rattle.storage_ops.proofs.store.Store.make_inactive.Given.{Over}
 use Rattle.storage_ops.proofs.store.Store.make_inactive.Goals.{After-drop_from, In-Some}
 use Rattle.storage_ops.proofs.store.Store.make_inactive.Goals as goal
+use Rattle.laws.proofs.Numbers.{from_first}
 
 -- the segment was in the place that was found, and its pages are dropped where it is
 place : (g : Over) (c : In-Some g)
@@ -48,7 +49,7 @@ deactivate-requires-clause-away g c =
     place_away c.drop_from.new.self.segs.ast c.in-Some.place c.args.uid
     (subst (λ (e : List (Option Entry)). IsOneToOne e) (sym same) c.look.ensures.kept.tree.once)
     (ap (λ (e : List (Option Entry)). uid_in_place e c.in-Some.place) same ∙ at)
-    (λ q. c.drop_from.ensures.rest.gone q (from_zero q))
+    (λ q. c.drop_from.ensures.rest.gone q (from_first q))
 
 pub deactivate-requires-clause-idle : goal.deactivate-requires-clause-idle
 deactivate-requires-clause-idle g c =

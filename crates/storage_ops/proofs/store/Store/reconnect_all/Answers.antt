@@ -6,8 +6,9 @@ use Rattle.seg_control.specs.Effects.{reconnected}
 use Rattle.storage_ops.specs.Connecting.{AreRights}
 use Rattle.storage_ops.specs.Shown.{Shows, Storage}
 use Rattle.storage_ops.proofs.Held.{held, shown_held, store_after}
-use Rattle.storage_ops.proofs.LinkLaws.{known_reconnected, shown_linked, some_uid, store_reconnected}
+use Rattle.storage_ops.proofs.LinkLaws.{known_reconnected, shown_linked, store_reconnected}
 use Rattle.storage_ops.proofs.store.Store.reconnect_all.Goals as goal
+use Rattle.laws.proofs.Options.{some_number}
 
 pub invariant_of-self : goal.invariant_of-self
 invariant_of-self g c =
@@ -16,7 +17,7 @@ invariant_of-self g c =
     (sym c.self.view_is) c.requires.active in
     let rights = subst (λ (x : Storage g.row.D.Denot). AreRights x.accounts.nodes x.whos x.segs.ast.entries
     c.args.aste c.args.list.now c.args.modes.now c.args.pages) (sym c.self.view_is) c.requires.rights in
-    let at = some_uid (uid_at t.segs.ast.entries c.args.aste) active in
+    let at = some_number (uid_at t.segs.ast.entries c.args.aste) active in
     store_after g.D.Drive.pages t.accounts t.whos c.reconnect_all.ensures.effect
     (store_reconnected (plain g.D.Drive.pages t.segs.pages) t.segs.ast t.accounts t.whos c.args.aste c.args.pages at.0
     at.1 c.args.list.now c.args.modes.now t.segs.links (λ i lt. rights.each i at.0 lt at.1) c.self.invariant)

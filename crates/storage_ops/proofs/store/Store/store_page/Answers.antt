@@ -14,7 +14,7 @@ use Rattle.seg_control.specs.Control.{Links}
 use Rattle.storage_ops.specs.Paged.{IsPageMade}
 use Rattle.storage_ops.specs.Rooms.{move_target}
 use Rattle.storage_ops.specs.Shown.{IsStore, Shows, Storage}
-use Rattle.flat_model.proofs.NodeLaws.{uid_found, volume_found}
+use Rattle.flat_model.proofs.NodeLaws.{volume_found}
 use Rattle.script.specs.Plans.{Plan}
 use Rattle.flat_model.specs.Store.{Store as Flat}
 use Rattle.tree_model.specs.Trees.{has_segment}
@@ -26,6 +26,7 @@ use Rattle.storage_ops.proofs.PageRoom.{all_taken, full_told, no_quota, no_recor
 use Rattle.storage_ops.proofs.store.Store.store_page.Given.{Over}
 use Rattle.storage_ops.proofs.store.Store.store_page.Goals.{After-is_full, After-look}
 use Rattle.storage_ops.proofs.store.Store.store_page.Goals as goal
+use Rattle.tree_model.proofs.SharedLaws.{found_uid}
 
 -- whether the volume of the node is full
 full : (g : Over) (c : After-is_full g) (p : Plan) (s : Flat) (n : Node)
@@ -60,7 +61,7 @@ returns-then-is_full-clause-answer g c = λ p s n h found.
     let t = held c.self.view_is in
     let home = home_held c.self.view_is c.args.uid c.home-home.result c.home-home.ensures.home in
     let shown = shown_held c.self.view_is g.D.Drive.pages p s h in
-    let uid = uid_found s.nodes c.args.uid n found in
+    let uid = found_uid s.nodes c.args.uid n found in
     let used_up : is_full t.segs.pages.volumes.records (volume_in t.accounts.nodes c.args.uid) ≡ true =
     ap (λ (x : Home). is_full t.segs.pages.volumes.records x.volume) (sym home)
     ∙ ap (λ (x : Storage g.row.D.Denot). is_full x.segs.pages.volumes.records c.home-home.result.volume) c.self.view_is
@@ -79,7 +80,7 @@ pub returns-then-is_err-clause-answer : goal.returns-then-is_err-clause-answer
 returns-then-is_err-clause-answer g c = λ p s n h found.
     let t = held c.self.view_is in
     let shown = shown_held c.self.view_is g.D.Drive.pages p s h in
-    let uid = uid_found s.nodes c.args.uid n found in
+    let uid = found_uid s.nodes c.args.uid n found in
     no_quota p s n (ap (is_used_up s) uid
     ∙ sym (used_told s t.accounts c.args.uid c.charge.result shown.tree c.charge.ensures.answer)
     ∙ sym c.if-is_err.ensures.value)
@@ -124,7 +125,7 @@ returns-clause-answer g c = λ p s n h found.
     let t = held c.self.view_is in
     let home = home_held c.self.view_is c.args.uid c.home-home.result c.home-home.ensures.home in
     let shown = shown_held c.self.view_is g.D.Drive.pages p s h in
-    let uid = uid_found s.nodes c.args.uid n found in
+    let uid = found_uid s.nodes c.args.uid n found in
     room p s n (ap (is_used_up s) uid
     ∙ sym (used_told s t.accounts c.args.uid c.charge.result shown.tree c.charge.ensures.answer)
     ∙ sym c.if-is_err.ensures.value)

@@ -7,7 +7,6 @@ use Rattle.book.specs.declared.replies.Reply.TheVariants as reply
 use Rattle.known_segs.specs.Known.{uid_of}
 use Rattle.tree_model.specs.Tree.{node_in, quota_in}
 use Rattle.dir_tree.specs.Nodes.{as_term}
-use Rattle.flat_model.proofs.NodeLaws.{uid_found}
 use Rattle.storage_ops.specs.References.{refusal_in, target, unless}
 use Rattle.storage_ops.specs.Shown.{IsFound, IsThere, Storage, who_at}
 use Rattle.storage_ops.proofs.Held.{held}
@@ -15,6 +14,7 @@ use Rattle.storage_ops.proofs.Refusals.{target_found, target_gone, target_unknow
 use Rattle.storage_ops.proofs.store.Store.target.Given.{Over}
 use Rattle.storage_ops.proofs.store.Store.target.Goals.{After-refusal_in}
 use Rattle.storage_ops.proofs.store.Store.target.Goals as goal
+use Rattle.tree_model.proofs.SharedLaws.{found_uid}
 
 -- the segment that a number stands for is there, and what refuses the reference is told of it
 found : (g : Over) (c : After-refusal_in g)
@@ -72,7 +72,7 @@ returns-in-None-clause-there g c =
     let t = held c.self.view_is in
     let n = as_term (quota_in t.accounts.nodes) c.in-Some-node.node.now in
     subst (λ (x : Storage g.row.D.Denot). IsThere x.accounts.nodes c.in-Some-node.node.now) c.self.view_is
-    (ap (node_in t.accounts.nodes) (uid_found t.accounts.nodes c.in-Some.uid n c.in-Some-node.ensures.some)
+    (ap (node_in t.accounts.nodes) (found_uid t.accounts.nodes c.in-Some.uid n c.in-Some-node.ensures.some)
     ∙ c.in-Some-node.ensures.some)
 
 pub returns-in-None-clause-within : goal.returns-in-None-clause-within

@@ -1,5 +1,5 @@
 use Rattle.live_pages.proofs.Ends.{may_bind_is_free}
-use Rattle.live_pages.proofs.laws.may_bind_has_no_holder.Goals as goal
+use Rattle.live_pages.proofs.theorems.may_bind_has_no_holder.Goals as goal
 
 pub returns : goal.returns
 returns c = may_bind_is_free

@@ -1,5 +1,5 @@
 use Rattle.live_pages.proofs.Ends.{all_in_is_legal}
-use Rattle.live_pages.proofs.laws.all_in_is_legal.Goals as goal
+use Rattle.live_pages.proofs.theorems.all_in_is_legal.Goals as goal
 
 pub returns : goal.returns
 returns c = all_in_is_legal

@@ -1,5 +1,5 @@
 use Rattle.live_doors.proofs.Keeps.{never_bound}
-use Rattle.live_doors.proofs.laws.never_bound_has_no_holder.Goals as goal
+use Rattle.live_doors.proofs.theorems.never_bound_has_no_holder.Goals as goal
 
 pub returns : goal.returns
 returns c = never_bound

@@ -1,0 +1,45 @@
+-- Laws that several crates cite.
+use Rattle.std.proofs.Common.{Bool, List, [], ap, arith, eqb, false, inl, inr, length, refl, suc, sym, true, zero, ℕ}
+use Rattle.std.proofs.Common.{◌++◌, ◌+◌, ◌-◌, ◌||◌, ◌∙◌, ◌∷◌, ◌≡◌}
+use Rattle.std.proofs.lemmas.Bool.Decides.{eqb_tells}
+use Rattle.std.proofs.lemmas.List.Folds.{list_any-append}
+use Rattle.std.specs.List.{list_any}
+use Rattle.custody_model.specs.Custody.{has, range}
+
+pub has_head : (x : ℕ) (xs : List ℕ) → has (x ∷ xs) x ≡ true
+has_head x xs = elim (eqb_tells x x) [ inl e ↦ rw e.0 refl | inr n ↦ absurd (n.1 refl) ]
+
+pub range_length : (from n : ℕ) → length (range from n) ≡ n
+range_length from zero = refl
+range_length from (suc n) = ap suc (range_length (from + 1) n)
+
+pub any_turned : (xs : List ℕ) (q : ℕ) → list_any (eqb q) xs ≡ true → has xs q ≡ true
+any_turned [] q h = h
+any_turned (x ∷ xs) q h = elim (eqb_tells q x) [
+  | inl e ↦ elim (eqb_tells x q) [
+    | inl i ↦ ap (λ (b : Bool). b || has xs q) i.0
+    | inr n ↦ absurd (n.1 (sym e.1))
+  ]
+  | inr n ↦ or_last (eqb x q) (any_turned xs q (sym (ap (λ (b : Bool). b || list_any (eqb q) xs) n.0) ∙ h))
+]
+  where
+    or_last : (a : Bool) → has xs q ≡ true → (a || has xs q) ≡ true
+    or_last true i = refl
+    or_last false i = i
+
+pub has_tail : (f : ℕ) (fs : List ℕ) (g : ℕ) → has fs g ≡ true → has (f ∷ fs) g ≡ true
+has_tail f fs g h = by (eqb f g)
+  where
+    by : (b : Bool) → (b || has fs g) ≡ true
+    by true = refl
+    by false = h
+
+pub has_append : (xs ys : List ℕ) (j : ℕ) → has (xs ++ ys) j ≡ (has xs j || has ys j)
+has_append xs ys j = list_any-append (λ y. eqb y j) xs ys
+
+pub range_end : (from n : ℕ) → range from (suc n) ≡ range from n ++ (from + n) ∷ []
+range_end from zero = let e : from ≡ from + 0 = omega arith in ap (λ (x : ℕ). x ∷ []) e
+range_end from (suc n) =
+    let r = range_end (from + 1) n in
+    let e : from + 1 + n ≡ from + suc n = omega arith in
+    ap (λ (xs : List ℕ). from ∷ xs) (r ∙ ap (λ (x : ℕ). range (from + 1) n ++ x ∷ []) e)

@@ -1,0 +1,35 @@
+-- Laws that several crates cite.
+use Rattle.std.proofs.Common.{List, [], ap, arith, drop, eqb, false, inl, inr, length, refl, sum, sym, true, ℕ, ◌++◌}
+use Rattle.std.proofs.Common.{◌+◌, ◌<◌, ◌∙◌, ◌∷◌, ◌≡◌, ◌≤◌}
+use Rattle.std.proofs.lemmas.Bool.Decides.{leb_tells}
+use Rattle.std.proofs.lemmas.Grind.{common_steps}
+use Rattle.std.proofs.lemmas.List.{get_or_past}
+use Rattle.book.specs.declared.entries.Entry.{Entry}
+use Rattle.flat_model.specs.Store.{Progress, Store, progress_of}
+use Rattle.script.specs.Forms.{ArePools}
+use Rattle.script.specs.References.{alters, new_word}
+use Rattle.script.specs.declared.commands.RefKind.{RefKind}
+use Rattle.script.specs.declared.commands.RefKind.TheVariants as kind
+
+pub going_within : (t : Store) (k : ℕ) → (progress_of t k).ended ≡ false → k < length t.processes
+going_within t k h = elim (leb_tells (length t.processes) k) [
+  | inl e ↦ absurd (let none : true ≡ false = sym (ap (λ (q : Progress). q.ended) (get_or_past t.processes k _ e.1))
+      ∙ h in cc)
+  | inr n ↦ n.1
+]
+
+pub pools_few : (pools : List ℕ) → ArePools pools → sum pools ≤ 1024
+pools_few [] h = absurd h
+pools_few (a ∷ []) h = absurd h
+pools_few (a ∷ b ∷ []) h = absurd h
+pools_few (a ∷ b ∷ c ∷ []) h = absurd h
+pools_few (a ∷ b ∷ c ∷ d ∷ []) h = (let few : a + b + c + d ≤ 1024 = h.4 in grind (arith, common_steps))
+pools_few (a ∷ b ∷ c ∷ d ∷ e ∷ rest) h = absurd h
+
+pub nonzero_alters : (how : RefKind) → eqb (new_word 0 how) 0 ≡ false → alters how ≡ true
+nonzero_alters kind.Read h = absurd (let no : true ≡ false = h in cc)
+nonzero_alters (kind.Write w) h = refl
+nonzero_alters (kind.Add w) h = refl
+
+pub front_dropped : (xs ys : List Entry) → drop (length xs) (xs ++ ys) ≡ ys
+front_dropped xs ys = grind (arith, common_steps)

@@ -1,0 +1,19 @@
+-- Laws that several crates cite.
+use Rattle.std.proofs.Common.{Bool, List, None, Option, Some, [], ap, arith, false, inl, inr, is_none, refl, suc}
+use Rattle.std.proofs.Common.{true, zero, ℕ, ◌&&◌, ◌∙◌, ◌∷◌, ◌≡◌}
+use Rattle.std.proofs.lemmas.Bool.Decides.{eqb_tells}
+use Rattle.std.specs.Prelude.{IsSome}
+use Rattle.active_segs.specs.declared.Entry.{Entry}
+use Rattle.machine_model.specs.Jobs.{are_zeros}
+use Rattle.mword.specs.Words.{AreZero}
+
+pub zeros_to : (ws : List ℕ) → AreZero ws → are_zeros ws ≡ true
+zeros_to [] h = refl
+zeros_to (w ∷ ws) h = elim (eqb_tells w 0) [
+  | inl e ↦ ap (λ (b : Bool). b && are_zeros ws) e.0 ∙ zeros_to ws (λ k d lt. h (suc k) d (omega (arith, lt)))
+  | inr n ↦ absurd (n.1 (h zero zero (omega arith)))
+]
+
+pub some_not_none : (o : Option Entry) → IsSome o → is_none o ≡ false
+some_not_none None h = absurd (let no : false ≡ true = h in cc)
+some_not_none (Some e) h = refl
