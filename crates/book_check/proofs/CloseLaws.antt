@@ -3,7 +3,7 @@ use Rattle.std.proofs.Common.{◌≡◌, ◌≢◌, ℕ, ◌+◌, ◌<◌, ◌�
 use Rattle.std.proofs.Common.{ap, subst, ◌∙◌, arith, inl, inr}
 use Rattle.std.proofs.lemmas.Bool.{cases_Bool}
 use Rattle.std.specs.Bool.{Decides}
-use Rattle.script.specs.Fields.{lines_of}
+use Rattle.text_model.specs.Lines.{lines_of}
 use Rattle.script.specs.Plans.{Plan}
 use Rattle.book.specs.declared.entries.Entry.{Entry}
 use Rattle.flat_model.proofs.QuotaTotals.{all_within}

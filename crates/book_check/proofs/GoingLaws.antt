@@ -1,8 +1,8 @@
 -- How a listing goes on, line by line (own).
 use Rattle.std.proofs.Common.{◌≡◌, ℕ, ◌+◌, ◌<◌, ◌^◌, Bool, true, false, List, [], ◌∷◌, ◌++◌, length, Result, Ok, Err}
 use Rattle.std.proofs.Common.{refl, sym, ap, subst, ◌∙◌, arith}
-use Rattle.script.proofs.LineSteps.{lines_nil}
-use Rattle.script.specs.Fields.{lines_of}
+use Rattle.text_model.proofs.LineSteps.{lines_nil}
+use Rattle.text_model.specs.Lines.{lines_of}
 use Rattle.script.specs.Plans.{Plan}
 use Rattle.custody_model.specs.Custody.{Custody}
 use Rattle.custody.specs.Tables.{AreTablesOf, HaveRoom}

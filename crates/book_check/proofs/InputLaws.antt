@@ -4,8 +4,8 @@ use Rattle.std.proofs.Common.{◌∙◌, arith, take, drop, append-nil}
 use Rattle.std.proofs.lemmas.Grind.{common_steps}
 use Rattle.std.proofs.lemmas.List.{append_assoc, length-append, drop-drop}
 use Rattle.std.proofs.Math.Seq.{take-add}
-use Rattle.script.proofs.LineSteps.{all_left, lines_nil}
-use Rattle.script.specs.Fields.{lines_of}
+use Rattle.text_model.proofs.LineSteps.{all_left, lines_nil}
+use Rattle.text_model.specs.Lines.{lines_of}
 use Rattle.book_check.specs.Inputs.{is_book, script_lines, listing_lines, first_number}
 use Rattle.book_check.specs.Passing.{Closes, IsAtLine}
 

@@ -3,8 +3,8 @@ use Rattle.std.proofs.Common.{◌≡◌, ◌≢◌, ℕ, suc, zero, ◌+◌, ◌
 use Rattle.std.proofs.Common.{refl, sym, ap, ◌∙◌, arith, get_or, take, drop, add-one}
 use Rattle.std.proofs.lemmas.Bool.Decides.{nat_tests}
 use Rattle.std.proofs.lemmas.Grind.{common_steps}
-use Rattle.script.proofs.LineSteps.{NoFeedBefore, all_left, drop_at, line_byte, line_feed, line_last}
-use Rattle.script.specs.Fields.{lines_of, onto_piece}
+use Rattle.text_model.proofs.LineSteps.{NoFeedBefore, all_left, drop_at, line_byte, line_feed, line_last}
+use Rattle.text_model.specs.Lines.{lines_of, onto_piece}
 use Rattle.book_check.specs.Inputs.{after_spaces}
 use Rattle.book_check.specs.Passing.{Closes}
 use Rattle.laws.proofs.Lists.{length_left, rest_last, take_drop}

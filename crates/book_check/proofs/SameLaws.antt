@@ -3,8 +3,8 @@ use Rattle.std.proofs.Common.{◌≡◌, ◌≢◌, ℕ, ◌+◌, Bool, true, fa
 use Rattle.std.proofs.Common.{◌∙◌, arith}
 use Rattle.std.specs.Str.{bytes_eq}
 use Rattle.std.proofs.lemmas.Slice.Eq.{bytes_eq-Decides}
-use Rattle.script.proofs.LineSteps.{lines_nil}
-use Rattle.script.specs.Fields.{lines_of, onto_piece}
+use Rattle.text_model.proofs.LineSteps.{lines_nil}
+use Rattle.text_model.specs.Lines.{lines_of, onto_piece}
 use Rattle.book_check.specs.Verdicts.{same_lines}
 
 -- so many lines at the front of two lists are the same, and these are left of both

@@ -1,6 +1,6 @@
 -- Where the reader of an input stands (own).
 use Rattle.std.specs.Prelude.{◌≡◌, ◌<◌, ℕ, ◌+◌, List, ◌∷◌, ◌++◌, length, take, drop}
-use Rattle.script.specs.Fields.{lines_of}
+use Rattle.text_model.specs.Lines.{lines_of}
 use Rattle.book_check.specs.Inputs.{script_lines, listing_lines}
 
 -- bytes at the front are a line with its line feed, whatever follows

@@ -1,5 +1,5 @@
 ghost use Rattle.std.specs.Prelude.{◌≡◌, ◌<◌, ◌+◌, ◌^◌, ◌≤◌, length};
-ghost use Rattle.script.specs.Fields.{lines_of};
+ghost use Rattle.text_model.specs.Lines.{lines_of};
 ghost use Rattle.book_check.specs.Closing.{IsOneVerdict, IsTheVerdict, OrMemory, of_script};
 
 use crate::inputs::split_input;

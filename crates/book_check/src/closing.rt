@@ -1,6 +1,6 @@
 ghost use Rattle.std.specs.Prelude.{◌≡◌, ◌≢◌, ◌+◌, ◌<◌, ◌≤◌, ◌^◌, length, IfOk, IfNone, IfSome, string_bytes};
 ghost use Rattle.std.specs.Bool.{Decides};
-ghost use Rattle.script.specs.Fields.{lines_of};
+ghost use Rattle.text_model.specs.Lines.{lines_of};
 ghost use Rattle.flat_model.specs.Store.{Store};
 ghost use Rattle.flat_store.specs.Shown.{Shows};
 ghost use Rattle.listing.specs.Listings.{summary_of, summary_text};

@@ -1,5 +1,5 @@
 ghost use Rattle.std.specs.Prelude.{◌≡◌, ◌+◌, ◌<◌, ◌≤◌, ◌^◌, [], length, Err, IfOk, IfErr};
-ghost use Rattle.script.specs.Fields.{lines_of};
+ghost use Rattle.text_model.specs.Lines.{lines_of};
 ghost use Rattle.book_check.specs.Closing.{IsOneVerdict, OrMemory, at_line};
 ghost use Rattle.book_check.specs.Going.{IsReached};
 ghost use Rattle.book_check.specs.Inputs.{entry_lines};

@@ -1,5 +1,5 @@
 ghost use Rattle.std.specs.Prelude.{◌≡◌, ◌≤◌, ◌<◌, ◌+◌, ◌^◌, length};
-ghost use Rattle.script.specs.Fields.{lines_of};
+ghost use Rattle.text_model.specs.Lines.{lines_of};
 ghost use Rattle.book_check.specs.Inputs.{first_number, listing_lines, script_lines};
 
 use crate::lines::{is_book, next_line};

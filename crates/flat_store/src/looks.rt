@@ -57,8 +57,8 @@ impl FlatStore {
         self.zero_page().is_some()
     }
 
-    /// The first page that is stored though each of its words is 0: the least uid, then the least page. It looks at each
-    /// stored page up to that one.
+    /// The first page that is stored though each of its words is 0: the least uid, then the least page. It looks at
+    /// each stored page up to that one.
     pub fn zero_page(&self) -> Option<(u32, u32)>
         ensures some { (p : Plan) (store : Store) → Shows p self.now store
             → IfSome result (λ at. MayRelease store at.0 at.1) }

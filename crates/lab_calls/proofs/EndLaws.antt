@@ -1,7 +1,7 @@
 -- How each way out of a call ends.
 use Rattle.std.proofs.Common.{◌≡◌, ℕ, ◌+◌, ◌<◌, ◌≤◌, Bool, true, false, List, length, Option, Some, None, IfSome, refl}
 use Rattle.std.proofs.Common.{Result, Ok, Err, sym, subst, arith}
-use Rattle.script.specs.Fields.{lines_of}
+use Rattle.text_model.specs.Lines.{lines_of}
 use Rattle.script.specs.Plans.{Plan}
 use Rattle.site_io.specs.Streams.{ConsumesFront}
 use Rattle.site_io.specs.declared.whole.Unread.{Unread}

@@ -13,7 +13,7 @@ use Rattle.schedule.specs.declared.orders.Line.{Line}
 use Rattle.schedule.specs.declared.reader.ScheduleFault.{ScheduleFault}
 use Rattle.schedule.specs.declared.reader.ScheduleFault.TheVariants as fault
 use Rattle.schedule.specs.declared.refusals.Refused.{Refused}
-use Rattle.script.specs.Fields.{lines_of}
+use Rattle.text_model.specs.Lines.{lines_of}
 use Rattle.script.specs.Plans.{Plan}
 use Rattle.script.specs.declared.refusals.Refusal.{Refusal}
 use Rattle.lab_calls.specs.Counted.{EndsOutcomes}

@@ -15,7 +15,7 @@ use Rattle.schedule.specs.declared.orders.Order.TheVariants as order
 use Rattle.schedule.specs.declared.refusals.Cause.{Cause}
 use Rattle.schedule.specs.declared.refusals.Cause.TheVariants as cause
 use Rattle.schedule.specs.declared.refusals.Refused.{Refused}
-use Rattle.script.specs.Fields.{fields_of}
+use Rattle.text_model.specs.Lines.{fields_of}
 use Rattle.lab_runs.specs.Steps.{AreMade, IsMade, processor_of}
 use Rattle.lab_runs.specs.declared.following.Astray.{Astray}
 use Rattle.lab_runs.specs.declared.following.Astray.TheVariants as astray

@@ -5,7 +5,7 @@ use Rattle.std.proofs.Common.{IfSome, ap, subst, ◌∙◌}
 use Rattle.std.specs.Option.{is_some}
 use Rattle.std.specs.List.{slice_get}
 use Rattle.script.specs.Plans.{Plan}
-use Rattle.script.specs.Fields.{lines_of}
+use Rattle.text_model.specs.Lines.{lines_of}
 use Rattle.script.specs.declared.plan.VolumeLine.{VolumeLine}
 use Rattle.tree_model.specs.Tree.{Node, node_in, has_directory, quota_in, used_by, taken_on, entries_on}
 use Rattle.flat_model.specs.Store.{Store, records_in, entries_in}

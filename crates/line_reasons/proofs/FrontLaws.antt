@@ -1,8 +1,8 @@
 -- How much of two lists is the same (own).
 use Rattle.std.proofs.Common.{◌≡◌, ℕ, ◌+◌, Bool, true, false, cond, List, [], ◌∷◌, length, refl, ap, ◌∙◌, arith}
 use Rattle.std.specs.Str.{bytes_eq}
-use Rattle.script.proofs.LineSteps.{lines_nil}
-use Rattle.script.specs.Fields.{lines_of}
+use Rattle.text_model.proofs.LineSteps.{lines_nil}
+use Rattle.text_model.specs.Lines.{lines_of}
 use Rattle.line_reasons.specs.Fronts.{same_front, one_more}
 
 both : (xs ys ms ns : List (List ℕ)) (a b : List ℕ) → xs ≡ a ∷ ms → ys ≡ b ∷ ns

@@ -1,4 +1,3 @@
 mod ReasonLaws
-mod LineLaws
 mod FrontLaws
 mod DueLaws

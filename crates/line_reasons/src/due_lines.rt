@@ -1,21 +1,21 @@
 ghost use Rattle.std.specs.Prelude.{◌≡◌, ◌<◌, ◌^◌, length, slice_get, IfSome, Some};
 ghost use Rattle.flat_model.specs.Store.{Store};
 ghost use Rattle.flat_store.specs.Shown.{Shows};
-ghost use Rattle.script.specs.Fields.{lines_of};
+ghost use Rattle.text_model.specs.Lines.{lines_of};
 ghost use Rattle.script.specs.Plans.{Plan};
 ghost use Rattle.line_reasons.specs.Fronts.{same_front};
 ghost use Rattle.line_reasons.specs.DueLines.{IsAccountDue, IsDue, IsSoSum};
 ghost use Rattle.line_reasons.specs.DueLines.{account_reason, volume_reason, reason_of_line};
 ghost use Rattle.line_reasons.specs.DueLines.{reason_of_end};
 
-use crate::parting::{next_line, parting, same_fields};
+use crate::parting::{parting, same_fields};
 use crate::sum_reasons::SumReason::{
     AccountFields, AccountMissing, AccountWord, Entries, Path, Quota, Records, Taken, TakenEntries,
     TooMany, Used, VolumeFields, VolumeFirst, VolumeMissing, VolumeName, VolumeWord,
 };
 use crate::sum_reasons::{SumReason, SumWord};
 use flat_store::FlatStore;
-use script::{Script, VolumeLine};
+use script::{Script, VolumeLine, next_line};
 
 /// The uid of the root.
 const ROOT: u32 = 1;

@@ -1,25 +1,10 @@
 ghost use Rattle.std.specs.Prelude.{◌≡◌, ◌+◌, ◌<◌, ◌≤◌, ◌^◌, ◌∷◌, length};
-ghost use Rattle.script.specs.Fields.{lines_of};
+ghost use Rattle.text_model.specs.Lines.{lines_of};
 ghost use Rattle.line_reasons.specs.Grammar.{pieces};
 ghost use Rattle.line_reasons.specs.Fronts.{same_front, one_more};
 
 use crate::fields::split_piece;
-
-/// The first line of some bytes, without its line feed, and what follows it.
-#[tactic(auto, using(crate::proofs::LineLaws::next_line_steps, std::proofs::lemmas::Grind::common_steps))]
-pub(crate) fn next_line(bytes: &[u8]) -> (&[u8], &[u8])
-    requires { 0 < length bytes.now }
-    ensures lines { lines_of bytes.now ≡ result.0.now ∷ lines_of result.1.now }
-    ensures line { length result.0.now ≤ length bytes.now }
-    ensures rest { length result.1.now < length bytes.now }
-{
-    for (i, byte) in bytes.iter().enumerate() {
-        if *byte == b'\n' {
-            return (&bytes[..i], &bytes[i + 1..]);
-        }
-    }
-    (bytes, &[])
-}
+use script::next_line;
 
 /// One more where two fields are the same.
 fn one_more(same: u32, field: &[u8], other: &[u8]) -> u32

@@ -1,32 +1,18 @@
 -- Laws of texts that are gone through line by line.
-use Rattle.std.proofs.Common.{◌≡◌, ℕ, suc, zero, ◌+◌, ◌-◌, ◌<◌, take, drop, get_or, add-one}
+use Rattle.std.proofs.Common.{◌≡◌, ℕ, ◌+◌, ◌-◌}
 use Rattle.std.proofs.Common.{Bool, true, false, ◌&&◌, ◌||◌, List, [], ◌∷◌, ◌++◌, length, refl, sym, ap, ◌∙◌}
 use Rattle.std.proofs.Common.{arith}
 use Rattle.std.proofs.lemmas.Bool.{false≢true, true≢false, or_left}
 use Rattle.std.specs.List.{flat_map, list_all, list_any}
 use Rattle.std.specs.Str.{bytes_eq}
 use Rattle.std.proofs.lemmas.List.{append_assoc, append-nil}
-use Rattle.script.proofs.LineSteps.{NoFeedBefore, all_left, line_byte, line_feed, line_last}
-use Rattle.script.specs.Fields.{lines_of, onto_piece}
+use Rattle.text_model.specs.Lines.{lines_of}
 use Rattle.outcomes.specs.Reports.{differing_in, differing_line, has_line, is_common}
 
 no_lines : (bytes : List ℕ) → length bytes ≡ 0 → lines_of bytes ≡ []
 unfolding lines_of
 no_lines [] e = refl
 no_lines (b ∷ bs) e = absurd (omega arith)
-
--- the first line ends before a line feed
-lines_split : (bs : List ℕ) (i : ℕ) → NoFeedBefore i bs → i < length bs → get_or bs i 0 ≡ 10
-    → lines_of bs ≡ take i bs ∷ lines_of (drop (suc i) bs)
-lines_split [] i clear lt e = absurd (omega arith)
-lines_split (b ∷ bs) zero clear lt e = line_feed b bs e
-lines_split (b ∷ bs) (suc i) clear lt e =
-    line_byte b bs (clear 0 (omega arith)) ∙ ap (onto_piece b)
-    (lines_split bs i (λ k h. clear (suc k) (omega arith)) (omega arith) e)
-
-pub line_cut : (bs : List ℕ) (i : ℕ) → NoFeedBefore i bs → i < length bs → get_or bs i 0 ≡ 10
-    → lines_of bs ≡ take i bs ∷ lines_of (take (length bs - (i + 1)) (drop (i + 1) bs))
-line_cut bs i clear lt e = rw (all_left bs (i + 1), add-one) (lines_split bs i clear lt e)
 
 or_false : (x y : Bool) → x ≡ false → (x || y) ≡ y
 or_false true y e = absurd (true≢false e)
@@ -89,9 +75,7 @@ lines_written texts bytes now all e so =
     sym (ap (λ (ls : List (List ℕ)). now ++ flat_map (differing_line texts) ls) (no_lines bytes e)
     ∙ append-nil now) ∙ so
 
--- what the proofs of `next_line`, `has_line`, `all_common` and `push_differing` are given
-pub ruleset next_line_steps = (line_cut, line_last)
-
+-- what the proofs of `has_line`, `all_common` and `push_differing` are given
 pub ruleset has_line_steps = (line_found, line_passed, line_missing)
 
 pub ruleset all_common_steps = (line_fails, line_passes, lines_pass)

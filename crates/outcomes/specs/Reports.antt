@@ -4,7 +4,7 @@ use Rattle.std.specs.Prelude.{slice_get}
 use Rattle.std.specs.Fmt.{decimal}
 use Rattle.std.specs.List.{flat_map, list_all, list_any}
 use Rattle.std.specs.Str.{bytes_eq}
-use Rattle.script.specs.Fields.{lines_of}
+use Rattle.text_model.specs.Lines.{lines_of}
 use Rattle.outcomes.specs.Tables.{Outcome, Table}
 use Rattle.outcomes.specs.declared.table.Seen.{Seen}
 

@@ -2,26 +2,12 @@
 
 ghost use Rattle.std.specs.Prelude.{◌≡◌, ◌<◌, ◌++◌, ◌∷◌, OnOk, length};
 ghost use Rattle.std.specs.List.{list_all};
-ghost use Rattle.script.specs.Fields.{lines_of};
+ghost use Rattle.text_model.specs.Lines.{lines_of};
 ghost use Rattle.outcomes.specs.Reports.{are_alike, differing_in, differing_line, has_line, is_common};
 
 use crate::NoMemory;
 use crate::texts::Text;
-
-/// The first line of some bytes, without its line feed, and what follows it.
-#[tactic(auto, using(crate::proofs::LineLaws::next_line_steps, std::proofs::lemmas::Grind::common_steps))]
-fn next_line(bytes: &[u8]) -> (&[u8], &[u8])
-    requires { 0 < length bytes.now }
-    ensures lines { lines_of bytes.now ≡ result.0.now ∷ lines_of result.1.now }
-    ensures shorter { length result.1.now < length bytes.now }
-{
-    for (i, byte) in bytes.iter().enumerate() {
-        if *byte == b'\n' {
-            return (&bytes[..i], &bytes[i + 1..]);
-        }
-    }
-    (bytes, &[])
-}
+use script::next_line;
 
 /// Whether a line stands in a text.
 #[tactic(auto, using(crate::proofs::LineLaws::has_line_steps, std::proofs::lemmas::Grind::common_steps))]

@@ -3,7 +3,7 @@ use Rattle.std.proofs.Common.{◌≡◌, ◌==◌, Bool, true, false, if◌then�
 use Rattle.std.proofs.Common.{sym, subst, ◌∙◌, arith}
 use Rattle.std.proofs.lemmas.Bool.Decides.{nat_tests}
 use Rattle.std.specs.Prelude.{IfSome}
-use Rattle.script.specs.Fields.{lines_of, onto_piece}
+use Rattle.text_model.specs.Lines.{lines_of, onto_piece}
 use Rattle.script.specs.Plans.{Plan}
 use Rattle.book.specs.Entries.{entry_text}
 use Rattle.book.specs.Reading.{IsEntry}

@@ -1,8 +1,8 @@
 -- Lines of an input, one after the other.
 use Rattle.std.proofs.Common.{◌≡◌, ◌≤◌, ℕ, Bool, true, false, if◌then◌else◌, List, ◌∷◌, [], length, arith, refl, sym, ap}
 use Rattle.std.proofs.Common.{◌∙◌, ◌+◌, ◌==◌, subst}
-use Rattle.script.proofs.LineSteps.{lines_nil}
-use Rattle.script.specs.Fields.{lines_of, onto_piece}
+use Rattle.text_model.proofs.LineSteps.{lines_nil}
+use Rattle.text_model.specs.Lines.{lines_of, onto_piece}
 use Rattle.std.specs.List.{list_any}
 use Rattle.reasons.specs.Reasons.{first_of}
 

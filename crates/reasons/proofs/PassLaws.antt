@@ -21,8 +21,8 @@ use Rattle.book_check.proofs.GoingLaws.{ended_summary}
 use Rattle.book_check.proofs.VerdictLaws.{fault_only, judged_up, passed}
 use Rattle.reasons.specs.Passing.{AreUpTo, EndsAt, EndsBefore, IsWatched, Looks, Passes}
 use Rattle.reasons.specs.declared.asking.Reason.{Reason}
-use Rattle.script.proofs.LineSteps.{lines_nil}
-use Rattle.script.specs.Fields.{lines_of}
+use Rattle.text_model.proofs.LineSteps.{lines_nil}
+use Rattle.text_model.specs.Lines.{lines_of}
 use Rattle.reasons.proofs.SinceLaws.{watched_on}
 
 pub passes_start : (j : Judged) (n : ℕ) (all : List (List ℕ)) (r : Option Reason) (line : Option ℕ) → IsAfter j []

@@ -6,7 +6,7 @@ ghost use Rattle.book_check.specs.Judging.{IsAfter};
 ghost use Rattle.book_check.specs.Verdicts.{BreaksEntry};
 ghost use Rattle.book_check.specs.declared.offences.Rule.TheVariants as Rule;
 ghost use Rattle.custody.specs.Tables.{AreTablesOf};
-ghost use Rattle.script.specs.Fields.{lines_of};
+ghost use Rattle.text_model.specs.Lines.{lines_of};
 ghost use Rattle.script.specs.Plans.{Plan};
 ghost use Rattle.flat_model.specs.Legal.{IsComplete, store_after};
 ghost use Rattle.flat_store.specs.Zeros.{HasZeroPage};

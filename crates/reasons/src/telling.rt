@@ -1,6 +1,6 @@
 ghost use Rattle.std.specs.Prelude.{◌≡◌, ◌+◌, ◌++◌, ◌<◌, ◌^◌, ◌≤◌, Err, IfNone, IfOk, IfSome, List, Ok, OnOk, length};
 ghost use Rattle.std.specs.Prelude.{string_bytes};
-ghost use Rattle.script.specs.Fields.{lines_of};
+ghost use Rattle.text_model.specs.Lines.{lines_of};
 ghost use Rattle.custody.specs.Tables.{AreTablesOf};
 ghost use Rattle.script.specs.Grammar.{script_of};
 ghost use Rattle.script.specs.Plans.{Plan};

@@ -4,10 +4,11 @@ use Rattle.std.proofs.Common.{◌∙◌, arith, take, drop, append-nil}
 use Rattle.std.proofs.lemmas.Grind.{common_steps}
 use Rattle.std.proofs.lemmas.List.{append_assoc, length-append, drop-drop}
 use Rattle.std.proofs.Math.Seq.{take-add}
-use Rattle.script.proofs.LineSteps.{all_left, lines_nil}
-use Rattle.script.specs.Fields.{lines_of}
+use Rattle.text_model.proofs.LineSteps.{all_left, lines_nil}
+use Rattle.text_model.specs.Lines.{lines_of}
 use Rattle.schedule.specs.Inputs.{first_number, has_schedule, is_schedule_line, schedule_lines, script_lines}
-use Rattle.schedule.specs.Passing.{Closes, IsAtLine}
+use Rattle.text_model.specs.Lines.{Closes}
+use Rattle.schedule.specs.Passing.{IsAtLine}
 
 script_other : (line : List ℕ) (lines : List (List ℕ)) → is_schedule_line line ≡ false
     → script_lines (line ∷ lines) ≡ line ∷ script_lines lines

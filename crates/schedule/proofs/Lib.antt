@@ -1,6 +1,4 @@
 pub mod BeginLaws
-pub mod FieldLaws
 pub mod InputLaws
-pub mod LineLaws
 pub mod OrderLaws
 pub mod ScheduledLaws

@@ -3,7 +3,7 @@ use Rattle.std.proofs.Common.{◌≡◌, ℕ, ◌+◌, List, [], ◌∷◌, ◌+
 use Rattle.std.proofs.Common.{IfSome, sym, ap, subst, ◌∙◌, arith}
 use Rattle.std.proofs.lemmas.List.Elements.{All-push}
 use Rattle.std.proofs.lemmas.List.{append_assoc, append-nil}
-use Rattle.script.specs.Fields.{fields_of, lines_of}
+use Rattle.text_model.specs.Lines.{fields_of, lines_of}
 use Rattle.schedule.specs.Orders.{AreWithin, IsWithin, after_line, as_lines, line_order, onto, orders_from}
 use Rattle.schedule.specs.declared.orders.Line.{Line}
 use Rattle.schedule.specs.declared.orders.Order.{Order}

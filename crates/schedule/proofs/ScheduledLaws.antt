@@ -1,7 +1,7 @@
 -- Laws of a script with a schedule below it (own).
 use Rattle.std.proofs.Common.{◌≡◌, ℕ, Bool, List, Result, Ok, Err, fold, sym, ap, ◌∙◌}
 use Rattle.script.specs.Drafts.{blank}
-use Rattle.script.specs.Fields.{lines_of}
+use Rattle.text_model.specs.Lines.{lines_of}
 use Rattle.script.specs.Grammar.{Reads, finished, numbered, script_of}
 use Rattle.script.specs.Plans.{Plan}
 use Rattle.script.specs.declared.reader.ScriptFault.{ScriptFault}

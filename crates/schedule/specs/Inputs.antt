@@ -2,7 +2,7 @@
 use Rattle.std.specs.Prelude.{ℕ, ◌+◌, ◌-◌, Bool, false, if◌then◌else◌, List, [], ◌∷◌, length, codes}
 use Rattle.std.specs.List.{list_any}
 use Rattle.std.specs.Str.{bytes_eq}
-use Rattle.script.specs.Fields.{fields_of}
+use Rattle.text_model.specs.Lines.{fields_of}
 
 -- the only field of a line is `schedule`
 unfoldable pub is_schedule : List (List ℕ) → Bool

@@ -2,7 +2,8 @@
 use Rattle.std.specs.Prelude.{◌≡◌, ◌<◌, ◌≤◌, ℕ, ◌+◌, ◌*◌, Bool, ◌==◌, nat_le, nat_lt, if◌then◌else◌, List, [], ◌∷◌, ◌++◌, All}
 use Rattle.std.specs.Prelude.{slice_index_or, Option, Some, None, Result, Ok, Err, codes}
 use Rattle.std.specs.Str.{bytes_eq}
-use Rattle.script.specs.Fields.{fields_of, number_of}
+use Rattle.text_model.specs.Lines.{fields_of}
+use Rattle.script.specs.Fields.{number_of}
 use Rattle.schedule.specs.Fields.{◌>>=◌, next_field, no_fields}
 use Rattle.schedule.specs.declared.orders.Line.{Line}
 use Rattle.schedule.specs.declared.orders.Order.{Order}

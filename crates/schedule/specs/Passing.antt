@@ -1,11 +1,7 @@
 -- Where the reader of an input stands (own).
 use Rattle.std.specs.Prelude.{◌≡◌, ◌<◌, ℕ, ◌+◌, List, ◌∷◌, ◌++◌, length, take, drop}
-use Rattle.script.specs.Fields.{lines_of}
+use Rattle.text_model.specs.Lines.{lines_of}
 use Rattle.schedule.specs.Inputs.{has_schedule, schedule_lines, script_lines}
-
--- bytes at the front are a line with its line feed, whatever follows
-abbrev pub Closes : List ℕ → List ℕ → Type 0
-Closes front line = (rest : List ℕ) → lines_of (front ++ rest) ≡ line ∷ lines_of rest
 
 -- The bytes up to a place are whole lines, none of which is the line `schedule`.
 pub record ArePassed (bytes : List ℕ) (at : ℕ) (before : List (List ℕ)) : Type 0 where

@@ -1,8 +1,9 @@
 ghost use Rattle.std.specs.Prelude.{◌≡◌, ◌≤◌, ◌<◌, ◌+◌, ◌^◌, length};
-ghost use Rattle.script.specs.Fields.{lines_of};
+ghost use Rattle.text_model.specs.Lines.{lines_of};
 ghost use Rattle.schedule.specs.Inputs.{first_number, has_schedule, schedule_lines, script_lines};
 
-use crate::lines::{is_schedule, next_line};
+use crate::lines::is_schedule;
+use script::next_line;
 
 /// The parts of an input, in place.
 #[derive(Drop)]

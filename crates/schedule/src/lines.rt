@@ -1,27 +1,9 @@
-ghost use Rattle.std.specs.Prelude.{◌≡◌, ◌-◌, ◌<◌, ◌∷◌, length, drop, take};
-ghost use Rattle.script.specs.Fields.{fields_of, lines_of};
+ghost use Rattle.std.specs.Prelude.{◌≡◌};
+ghost use Rattle.text_model.specs.Lines.{fields_of};
 ghost use Rattle.schedule.specs.Inputs.{is_schedule};
-ghost use Rattle.schedule.specs.Passing.{Closes};
 
-use crate::fields::{is_empty, split_field};
-
-/// The first line of some bytes, without its line feed, and what follows it.
-#[tactic(auto, using(crate::proofs::LineLaws::next_line_steps, std::proofs::lemmas::Grind::common_steps))]
-pub(crate) fn next_line(bytes: &[u8]) -> (&[u8], &[u8])
-    requires { 0 < length bytes.now }
-    ensures lines { lines_of bytes.now ≡ result.0.now ∷ lines_of result.1.now }
-    ensures shorter { length result.1.now < length bytes.now }
-    ensures rest { result.1.now ≡ drop (length bytes.now - length result.1.now) bytes.now }
-    ensures closes { 0 < length result.1.now
-        → Closes (take (length bytes.now - length result.1.now) bytes.now) result.0.now }
-{
-    for (i, byte) in bytes.iter().enumerate() {
-        if *byte == b'\n' {
-            return (&bytes[..i], &bytes[i + 1..]);
-        }
-    }
-    (bytes, &[])
-}
+use crate::fields::is_empty;
+use script::split_field;
 
 /// Whether the only field of a line is `schedule`.
 #[tactic(auto, unfolding(crate::specs::Inputs::is_schedule))]

@@ -1,8 +1,8 @@
 ghost use Rattle.std.specs.Prelude.{◌≡◌, ◌++◌, ◌∷◌, [], IfNone, IfSome, None, OnOk, map};
-ghost use Rattle.script.specs.Fields.{fields_of};
+ghost use Rattle.text_model.specs.Lines.{fields_of};
 ghost use Rattle.schedule.specs.Fields.{after_word, begins};
 
-use crate::fields::split_field;
+use script::split_field;
 use no_memory::NoMemory;
 use std::alloc::Global;
 use std::marker::Model;

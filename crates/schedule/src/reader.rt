@@ -1,10 +1,10 @@
 ghost use Rattle.std.specs.Prelude.{◌≡◌, ◌<◌, ◌+◌, ◌++◌, ◌^◌, IfOk, OnOk, length};
-ghost use Rattle.script.specs.Fields.{lines_of};
+ghost use Rattle.text_model.specs.Lines.{lines_of};
 ghost use Rattle.schedule.specs.Orders.{AreWithin, as_lines, of_line, orders_from, orders_in};
 ghost use Rattle.schedule.specs.Scheduled.{ReadsLines, ReadsScheduled, of_script, scheduled_of, with_plan};
 
 use crate::inputs::{Input, split_input};
-use crate::lines::next_line;
+use script::next_line;
 use crate::orders::{Line, Order};
 use crate::reading::{OrderFault, line_order};
 use crate::refusals::{Cause, Refused};

@@ -1,12 +1,13 @@
 //! What a line of a schedule asks for, by its fields.
 
 ghost use Rattle.std.specs.Prelude.{◌≡◌, ◌<◌, ◌≤◌, IfOk, IfSome};
-ghost use Rattle.script.specs.Fields.{fields_of};
+ghost use Rattle.text_model.specs.Lines.{fields_of};
 ghost use Rattle.schedule.specs.Fields.{Gives};
 ghost use Rattle.schedule.specs.Orders.{draw_of, IsWithin, line_order, order_of, processor_in, Reads, round_of, seed_in};
 ghost use Rattle.schedule.specs.Orders.{step_of, times_in, times_last, until_of};
 
-use crate::fields::{is_empty, next_field, no_fields, split_field};
+use crate::fields::{is_empty, next_field, no_fields};
+use script::split_field;
 use crate::orders::{Opening, Order};
 use crate::refusals::Cause;
 use no_memory::NoMemory;

@@ -5,11 +5,12 @@ use Rattle.std.proofs.Common.{◌∙◌, arith}
 use Rattle.std.proofs.lemmas.Bool.Decides.{nat_tests}
 use Rattle.std.proofs.lemmas.List.Folds.{list_all-append}
 use Rattle.std.specs.List.{list_all}
-use Rattle.script.proofs.LineSteps.{line_byte, line_feed}
-use Rattle.script.specs.Fields.{lines_of, onto_piece, fields_of, onto_field, is_printable, is_printable_byte}
+use Rattle.text_model.proofs.LineSteps.{line_byte, line_feed}
+use Rattle.text_model.specs.Lines.{lines_of, onto_piece, fields_of, onto_field}
+use Rattle.script.specs.Fields.{is_printable, is_printable_byte}
 use Rattle.std.proofs.lemmas.Bool.{and_from}
 use Rattle.laws.proofs.Bools.{and_parts}
-use Rattle.script.proofs.LineLaws.{fields_nil}
+use Rattle.text_model.proofs.FieldLaws.{fields_nil}
 
 -- a printable byte that isn't a space
 abbrev pub is_field_byte : ℕ → Bool

@@ -9,7 +9,7 @@ use Rattle.std.proofs.lemmas.Simd.{run_in_chunk_le, run_in_chunk_stops, trailing
 use Rattle.std.specs.List.{prefix_len}
 use lib.Count.{count_trailing_zeros}
 use lib.Lanes.{chunk, mask_l, top}
-use Rattle.script.proofs.LineSteps.{NoFeedBefore}
+use Rattle.text_model.proofs.LineSteps.{NoFeedBefore}
 use Rattle.script.specs.Fields.{IsFront, IsPrintableTo, is_printable, is_printable_byte}
 
 -- the bytes before a place are a printable line

@@ -5,7 +5,6 @@ mod FieldTexts
 mod HeadTexts
 mod LaneLaws
 mod LineLaws
-pub mod LineSteps
 mod NumberLaws
 mod PathLaws
 mod PrincipalLaws

@@ -7,7 +7,7 @@ use Rattle.std.proofs.lemmas.Nat.{pow-add}
 use Rattle.std.proofs.Math.Nat.{pow-le-pow_right}
 use Rattle.std.specs.Char.{is_ascii_digit}
 use Rattle.script.specs.Fields.{decimal_value, decimal_value_from}
-use Rattle.script.proofs.LineSteps.{drop_at}
+use Rattle.text_model.proofs.LineSteps.{drop_at}
 
 digit_step : (before d : ℕ) (ds : List ℕ) → 48 ≤ d → d ≤ 57 → decimal_value_from before (d ∷ ds)
     ≡ decimal_value_from (before * 10 + (d - 48)) ds

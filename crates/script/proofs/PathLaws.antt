@@ -5,7 +5,8 @@ use Rattle.std.proofs.lemmas.Bool.Decides.{nat_tests}
 use Rattle.std.proofs.lemmas.Grind.{common_steps}
 use Rattle.std.specs.List.{list_all, AllByRecursion}
 use Rattle.mnames.specs.Names.{is_name, is_name_byte, names_text, path_text, IsName, IsPath}
-use Rattle.script.specs.Fields.{onto_piece, path_of, pieces_of, if_path}
+use Rattle.text_model.specs.Lines.{onto_piece}
+use Rattle.script.specs.Fields.{path_of, pieces_of, if_path}
 use Rattle.script.specs.Forms.{is_path}
 use Rattle.script.specs.Lines.{path_in}
 use Rattle.script.specs.declared.refusals.Cause.TheVariants as cause

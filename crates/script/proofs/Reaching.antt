@@ -2,7 +2,7 @@
 use Rattle.std.proofs.Common.{◌≡◌, ℕ, ◌+◌, false, List, [], ◌∷◌, ◌++◌, fold, Result, Ok, refl, ap, ◌∙◌, append_assoc}
 use Rattle.script.proofs.FieldTexts.{HasFields, line_first}
 use Rattle.script.specs.Drafts.{DraftPlan}
-use Rattle.script.specs.Fields.{lines_of}
+use Rattle.text_model.specs.Lines.{lines_of}
 use Rattle.script.specs.Grammar.{finished, is_comment, line_after, numbered, text_after}
 use Rattle.script.specs.Heads.{line_at}
 use Rattle.script.specs.Plans.{Plan}

@@ -1,7 +1,7 @@
 -- Laws of reading line by line (own).
 use Rattle.std.proofs.Common.{◌≡◌, ℕ, ◌+◌, List, [], ◌∷◌, length, fold, Result, Ok, Err, refl, sym, ap, ◌∙◌, arith}
 use Rattle.script.specs.Drafts.{DraftPlan, blank}
-use Rattle.script.specs.Fields.{lines_of}
+use Rattle.text_model.specs.Lines.{lines_of}
 use Rattle.script.specs.Grammar.{finished, numbered, script_of, text_after, whole_or_missing, after_number}
 use Rattle.script.specs.Plans.{Plan}
 use Rattle.script.specs.declared.refusals.Cause.{Cause}

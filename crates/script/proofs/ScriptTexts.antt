@@ -17,7 +17,7 @@ use Rattle.script.proofs.VolumeTexts.{AreVolumes}
 use Rattle.script.proofs.SmallLaws.{nil_after, outside}
 use Rattle.script.specs.CommandLists.{longer}
 use Rattle.script.specs.Drafts.{DraftPlan, has_volume, initializer_who, is_inside}
-use Rattle.script.specs.Fields.{lines_of}
+use Rattle.text_model.specs.Lines.{lines_of}
 use Rattle.script.specs.Forms.{BeginsWithInitializer, ends_once, IsPlan, is_command, is_end, is_process, is_who}
 use Rattle.script.specs.Forms.{weight, weight_of}
 use Rattle.script.specs.Grammar.{finished, is_whole, script_of}

@@ -1,30 +1,10 @@
--- The lines of a script, the fields of a line, and what a field stands for (own).
-use Rattle.std.specs.Prelude.{◌≡◌, true, false, ℕ, ◌+◌, ◌-◌, ◌*◌, Bool, ◌&&◌, ◌==◌, nat_le, if◌then◌else◌, List, [], ◌∷◌, length, Option, ◌<◌, ◌≤◌, slice_index}
-use Rattle.std.specs.Prelude.{Some, None}
+-- What a line of a script has, and what a field stands for (own).
+use Rattle.std.specs.Prelude.{◌≡◌, true, false, ℕ, ◌+◌, ◌-◌, ◌*◌, Bool, ◌&&◌, ◌==◌, nat_le, if◌then◌else◌, List, []}
+use Rattle.std.specs.Prelude.{◌∷◌, length, Option, ◌<◌, ◌≤◌, slice_index, Some, None}
 use Rattle.std.specs.List.{list_all}
 use Rattle.std.specs.Char.{is_ascii_digit}
+use Rattle.text_model.specs.Lines.{onto_piece}
 use Rattle.script.specs.Forms.{is_path}
-
--- a byte at the front of the first of some pieces
-abbrev pub onto_piece : ℕ → List (List ℕ) → List (List ℕ)
-onto_piece b [] = (b ∷ []) ∷ []
-onto_piece b (piece ∷ pieces) = (b ∷ piece) ∷ pieces
-
--- the lines of a text, without their line feeds; the last may lack its own, and is one only if it has a byte
-unfoldable pub lines_of : List ℕ → List (List ℕ)
-lines_of [] = []
-lines_of (b ∷ bs) = if b == 10 then [] ∷ lines_of bs else onto_piece b (lines_of bs)
-
--- a byte that isn't a space, before what follows it and the fields of that
-abbrev pub onto_field : ℕ → List ℕ → List (List ℕ) → List (List ℕ)
-onto_field b [] fields = (b ∷ []) ∷ []
-onto_field b (c ∷ cs) [] = (b ∷ []) ∷ []
-onto_field b (c ∷ cs) (f ∷ fs) = if c == 32 then (b ∷ []) ∷ f ∷ fs else (b ∷ f) ∷ fs
-
--- the fields of a line: its longest pieces without a space
-unfoldable pub fields_of : List ℕ → List (List ℕ)
-fields_of [] = []
-fields_of (b ∷ bs) = if b == 32 then fields_of bs else onto_field b bs (fields_of bs)
 
 -- a printable ASCII character, or a space
 abbrev pub is_printable_byte : ℕ → Bool

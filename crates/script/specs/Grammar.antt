@@ -2,7 +2,8 @@
 use Rattle.std.specs.Prelude.{◌≡◌, ℕ, ◌+◌, Bool, not, ◌&&◌, ◌==◌, if◌then◌else◌, List, [], ◌∷◌, fold, slice_index_or}
 use Rattle.std.specs.Prelude.{Result, Ok, Err}
 use Rattle.script.specs.Drafts.{DraftPlan, blank, has_volume, is_inside}
-use Rattle.script.specs.Fields.{lines_of, fields_of, is_printable}
+use Rattle.text_model.specs.Lines.{lines_of, fields_of}
+use Rattle.script.specs.Fields.{is_printable}
 use Rattle.script.specs.Heads.{line_at}
 use Rattle.script.specs.Plans.{Plan}
 use Rattle.script.specs.declared.drafts.Stage.{Stage}

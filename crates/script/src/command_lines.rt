@@ -5,7 +5,7 @@ ghost use Rattle.script.specs.Commands.{path_alone, path_and_number, place_in, p
 ghost use Rattle.script.specs.Commands.{mkdir_of, mkseg_of, initiate_of, terminate_of, read_of, write_of, add_of};
 ghost use Rattle.script.specs.Commands.{await_of, acl_of, length_of, truncate_of, delete_of, move_of, status_of};
 ghost use Rattle.script.specs.Commands.{other_command_of, reference_or, command_of};
-ghost use Rattle.script.specs.Fields.{fields_of};
+ghost use Rattle.text_model.specs.Lines.{fields_of};
 ghost use Rattle.script.specs.Readers.{Gives};
 
 use crate::command_list::CommandList;

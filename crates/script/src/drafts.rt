@@ -2,7 +2,8 @@ ghost use Rattle.std.specs.Prelude.{◌≡◌, ◌+◌, ◌<◌, ◌≤◌, fals
 ghost use Rattle.std.specs.List.{list_any};
 ghost use Rattle.std.specs.Str.{bytes_eq};
 ghost use Rattle.script.specs.Drafts.{IsOpen, blank, initializer_who, has_volume, is_early, is_inside};
-ghost use Rattle.script.specs.Fields.{fields_of, is_printable};
+ghost use Rattle.text_model.specs.Lines.{fields_of};
+ghost use Rattle.script.specs.Fields.{is_printable};
 ghost use Rattle.script.specs.Forms.{is_before, is_who, records_of};
 ghost use Rattle.script.specs.Grammar.{text_after, whole_or_missing};
 ghost use Rattle.script.specs.Heads.{machine_line, quota_line, volume_line, print_line, bulk_line, fail_line};

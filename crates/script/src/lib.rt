@@ -16,6 +16,8 @@ mod values;
 mod volumes;
 
 pub use commands::{Command, Process, RefKind, Reference};
+pub use fields::split_field;
+pub use lines::next_line;
 pub use plan::{Bulk, Fail, Print, Script, VolumeLine};
 pub use reader::{ScriptFault, read_script};
 pub use refusals::{Cause, Refusal};

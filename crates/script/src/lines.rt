@@ -1,5 +1,6 @@
-ghost use Rattle.std.specs.Prelude.{◌≡◌, ◌≢◌, ◌+◌, ◌<◌, ◌≤◌, ◌∷◌, false, length, slice_index};
-ghost use Rattle.script.specs.Fields.{IsFront, IsPrintableTo, lines_of, is_printable, is_printable_byte};
+ghost use Rattle.std.specs.Prelude.{◌≡◌, ◌≢◌, ◌+◌, ◌-◌, ◌<◌, ◌≤◌, ◌∷◌, drop, false, length, slice_index, take};
+ghost use Rattle.text_model.specs.Lines.{Closes, lines_of};
+ghost use Rattle.script.specs.Fields.{IsFront, IsPrintableTo, is_printable, is_printable_byte};
 
 use std::simd::prelude::*;
 
@@ -57,7 +58,7 @@ fn printable_front(bytes: &[u8]) -> usize
 
 /// The first line, without its line feed, and what follows it, where a byte of the line is known that isn't printable,
 /// and none before it is a line feed.
-#[tactic(auto, using(crate::proofs::LineLaws::line_taken, crate::proofs::LaneLaws::front_read, std::proofs::lemmas::Grind::common_steps))]
+#[tactic(auto, using(crate::proofs::LineLaws::line_cut_steps))]
 fn line_from(bytes: &[u8], from: usize) -> (&[u8], &[u8])
     requires within { from < length bytes.now }
     requires front { IsPrintableTo bytes.now from }
@@ -75,10 +76,29 @@ fn line_from(bytes: &[u8], from: usize) -> (&[u8], &[u8])
     (bytes, &[])
 }
 
+/// The first line of some bytes, without its line feed, and what follows it.
+#[tactic(auto, using(text_model::proofs::LineLaws::next_line_steps, std::proofs::lemmas::Grind::common_steps))]
+pub fn next_line(bytes: &[u8]) -> (&[u8], &[u8])
+    requires { 0 < length bytes.now }
+    ensures lines { lines_of bytes.now ≡ result.0.now ∷ lines_of result.1.now }
+    ensures within { length result.0.now ≤ length bytes.now }
+    ensures shorter { length result.1.now < length bytes.now }
+    ensures rest { result.1.now ≡ drop (length bytes.now - length result.1.now) bytes.now }
+    ensures closes { 0 < length result.1.now
+        → Closes (take (length bytes.now - length result.1.now) bytes.now) result.0.now }
+{
+    for (i, byte) in bytes.iter().enumerate() {
+        if *byte == b'\n' {
+            return (&bytes[..i], &bytes[i + 1..]);
+        }
+    }
+    (bytes, &[])
+}
+
 /// The first line, without its line feed, what follows it, and whether each byte of the line is a
 /// printable ASCII character or a space.
-#[tactic(auto, using(crate::proofs::LineLaws::line_taken, crate::proofs::LaneLaws::front_read, std::proofs::lemmas::Grind::common_steps))]
-pub(crate) fn next_line(bytes: &[u8]) -> (&[u8], &[u8], bool)
+#[tactic(auto, using(crate::proofs::LineLaws::line_cut_steps))]
+pub(crate) fn next_checked(bytes: &[u8]) -> (&[u8], &[u8], bool)
     requires { 0 < length bytes.now }
     ensures lines { lines_of bytes.now ≡ result.0.now ∷ lines_of result.1.now }
     ensures shorter { length result.1.now < length bytes.now }

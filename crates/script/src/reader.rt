@@ -1,9 +1,9 @@
 ghost use Rattle.std.specs.Prelude.{◌<◌, ◌^◌, ◌+◌, ◌≤◌, fold, length, Ok};
-ghost use Rattle.script.specs.Fields.{lines_of};
+ghost use Rattle.text_model.specs.Lines.{lines_of};
 ghost use Rattle.script.specs.Grammar.{numbered, Reads, ReadsLines, script_of};
 
 use crate::drafts::{Draft, LineFault};
-use crate::lines::next_line;
+use crate::lines::next_checked;
 use crate::plan::Script;
 use crate::refusals::Refusal;
 use std::alloc::Global;
@@ -26,7 +26,7 @@ fn read_lines(alloc: Global, draft: &mut Draft, bytes: &[u8]) -> Result<u32, Scr
     let mut rest = bytes;
     let mut number: u32 = 1;
     while !rest.is_empty() {
-        let (line, after, printable) = next_line(rest);
+        let (line, after, printable) = next_checked(rest);
         match draft.line(alloc, line, printable) {
             Ok(()) => {}
             Err(LineFault::Refused(cause)) => {

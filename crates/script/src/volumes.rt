@@ -1,7 +1,7 @@
 ghost use Rattle.std.specs.Prelude.{◌≡◌, ◌<◌, ◌≤◌, false, true, IfOk, IfSome, length};
 ghost use Rattle.std.specs.List.{list_any};
 ghost use Rattle.mnames.specs.Names.{is_name};
-ghost use Rattle.script.specs.Fields.{fields_of};
+ghost use Rattle.text_model.specs.Lines.{fields_of};
 ghost use Rattle.script.specs.Forms.{has_name, is_fail, is_volume};
 ghost use Rattle.script.specs.Heads.{fail_in, new_volume_in};
 ghost use Rattle.script.specs.Lines.{number_from, new_name_in, volume_in};

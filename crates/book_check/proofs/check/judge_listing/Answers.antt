@@ -1,5 +1,5 @@
 use Rattle.std.proofs.Common.{◌∙◌}
-use Rattle.script.specs.Fields.{lines_of}
+use Rattle.text_model.specs.Lines.{lines_of}
 use Rattle.book_check.proofs.CheckLaws.{closed_told}
 use Rattle.book_check.proofs.check.judge_listing.Goals as goal
 

@@ -1,4 +1,4 @@
-use Rattle.script.proofs.LineSteps.{NoFeedBefore}
+use Rattle.text_model.proofs.LineSteps.{NoFeedBefore}
 use Rattle.book_check.proofs.lines.next_line.Given as goal
 
 -- no line feed came so far

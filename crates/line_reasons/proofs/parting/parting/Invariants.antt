@@ -1,5 +1,5 @@
 use Rattle.std.proofs.Common.{◌≡◌, ◌≤◌, ◌+◌, length}
-use Rattle.script.specs.Fields.{lines_of}
+use Rattle.text_model.specs.Lines.{lines_of}
 use Rattle.line_reasons.specs.Fronts.{same_front}
 use Rattle.line_reasons.proofs.parting.parting.Given as goal
 

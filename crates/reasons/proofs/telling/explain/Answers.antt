@@ -1,6 +1,6 @@
 use Rattle.std.proofs.Common.{Option, subst}
 use Rattle.std.specs.Prelude.{IfSome}
-use Rattle.script.specs.Fields.{lines_of}
+use Rattle.text_model.specs.Lines.{lines_of}
 use Rattle.reasons.specs.Reasons.{IsWhy, first_of, is_end}
 use Rattle.reasons.specs.declared.asking.Reason.{Reason}
 use Rattle.reasons.proofs.TellLaws.{tells_ok}

@@ -1,6 +1,6 @@
 use Rattle.std.proofs.Common.{Option, subst, ◌∙◌}
 use Rattle.std.specs.Prelude.{IfSome}
-use Rattle.script.specs.Fields.{lines_of}
+use Rattle.text_model.specs.Lines.{lines_of}
 use Rattle.book_check.specs.Judging.{Judged}
 use Rattle.reasons.specs.Passing.{Begins}
 use Rattle.reasons.proofs.TellLaws.{since_told}

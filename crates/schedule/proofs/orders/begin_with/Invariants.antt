@@ -1,5 +1,5 @@
 use Rattle.std.proofs.Common.{◌≡◌, drop, map}
-use Rattle.script.specs.Fields.{fields_of}
+use Rattle.text_model.specs.Lines.{fields_of}
 use Rattle.schedule.specs.Fields.{begins}
 use Rattle.schedule.proofs.orders.begin_with.Given as goal
 

@@ -1,5 +1,5 @@
 use Rattle.std.proofs.Common.{◌≡◌, ◌+◌, ◌≤◌, length}
-use Rattle.script.specs.Fields.{lines_of}
+use Rattle.text_model.specs.Lines.{lines_of}
 use Rattle.schedule.specs.Orders.{AreWithin, onto, orders_from}
 use Rattle.schedule.proofs.reader.read_lines.Given as goal
 

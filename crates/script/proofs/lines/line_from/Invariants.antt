@@ -1,5 +1,5 @@
 use Rattle.std.proofs.Common.{◌≡◌, false, take}
-use Rattle.script.proofs.LineSteps.{NoFeedBefore}
+use Rattle.text_model.proofs.LineSteps.{NoFeedBefore}
 use Rattle.script.specs.Fields.{is_printable}
 use Rattle.script.proofs.lines.line_from.Given as goal
 

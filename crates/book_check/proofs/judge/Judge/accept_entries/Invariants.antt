@@ -1,5 +1,5 @@
 use Rattle.std.proofs.Common.{◌≡◌, ◌+◌, ◌≤◌, length}
-use Rattle.script.specs.Fields.{lines_of}
+use Rattle.text_model.specs.Lines.{lines_of}
 use Rattle.book_check.specs.Going.{IsReached}
 use Rattle.book_check.proofs.judge.Judge.accept_entries.Given as goal
 

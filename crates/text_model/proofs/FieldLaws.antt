@@ -1,11 +1,11 @@
--- Laws of fields (own).
-use Rattle.std.proofs.Common.{◌≡◌, ◌≢◌, ℕ, suc, zero, ◌+◌, ◌-◌, ◌<◌, ◌≤◌, eqb, List, [], ◌∷◌, length}
-use Rattle.std.proofs.Common.{refl, sym, ap, ◌∙◌, arith, get_or, take, drop, false}
+-- Laws of the fields of a line (own).
+use Rattle.std.proofs.Common.{◌≡◌, ◌≢◌, ℕ, suc, zero, ◌+◌, ◌-◌, ◌<◌, ◌≤◌, false, eqb, List, [], ◌∷◌}
+use Rattle.std.proofs.Common.{length, refl, sym, ap, ◌∙◌, arith, get_or, take, drop}
 use Rattle.std.proofs.lemmas.Bool.Decides.{nat_tests}
 use Rattle.std.proofs.lemmas.Grind.{common_steps}
-use Rattle.script.proofs.LineSteps.{all_left, drop_at}
-use Rattle.script.specs.Fields.{fields_of, onto_field}
 use Rattle.laws.proofs.Lists.{none_left}
+use Rattle.text_model.specs.Lines.{fields_of, onto_field}
+use Rattle.text_model.proofs.LineSteps.{all_left, drop_at}
 
 -- spaces before a field
 fields_space : (b : ℕ) (bs : List ℕ) → b ≡ 32 → fields_of (b ∷ bs) ≡ fields_of bs

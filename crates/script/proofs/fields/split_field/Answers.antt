@@ -1,6 +1,6 @@
 use Rattle.std.proofs.Common.{◌∷◌, ◌∙◌, List, ap, arith, sym, ℕ}
-use Rattle.schedule.proofs.FieldLaws.{field_last, fields_nil}
-use Rattle.schedule.proofs.fields.split_field.Goals as goal
+use Rattle.text_model.proofs.FieldLaws.{field_last, fields_nil}
+use Rattle.script.proofs.fields.split_field.Goals as goal
 
 pub returns-clause-some : goal.returns-clause-some
 returns-clause-some c = λ pos.

@@ -1,5 +1,5 @@
-use Rattle.script.proofs.LineSteps.{NoFeedBefore}
-use Rattle.line_reasons.proofs.parting.next_line.Given as goal
+use Rattle.text_model.proofs.LineSteps.{NoFeedBefore}
+use Rattle.script.proofs.lines.next_line.Given as goal
 
 -- no line feed came so far
 abbrev pub invariant-loop-i : goal.invariant-loop-i

@@ -1,7 +1,7 @@
 use Rattle.std.proofs.Common.{arith}
 use Rattle.script.proofs.LaneLaws.{front_clear}
-use Rattle.script.proofs.LineLaws.{line_found}
-use Rattle.script.proofs.lines.next_line.Goals as goal
+use Rattle.text_model.proofs.LineLaws.{line_found}
+use Rattle.script.proofs.lines.next_checked.Goals as goal
 
 pub returns-then-bytes-front-eq10-clause-lines : goal.returns-then-bytes-front-eq10-clause-lines
 returns-then-bytes-front-eq10-clause-lines c =

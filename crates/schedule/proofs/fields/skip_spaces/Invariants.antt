@@ -1,7 +1,0 @@
-use Rattle.std.proofs.Common.{◌≡◌, drop}
-use Rattle.script.specs.Fields.{fields_of}
-use Rattle.schedule.proofs.fields.skip_spaces.Given as goal
-
--- only spaces came so far
-abbrev pub invariant-loop-i : goal.invariant-loop-i
-invariant-loop-i l = fields_of (drop l.i l.line) ≡ fields_of l.line

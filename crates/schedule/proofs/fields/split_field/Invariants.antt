@@ -1,6 +1,0 @@
-use Rattle.schedule.proofs.FieldLaws.{NoSpaceBefore}
-use Rattle.schedule.proofs.fields.split_field.Given as goal
-
--- no space came so far
-abbrev pub invariant-loop-i : goal.invariant-loop-i
-invariant-loop-i l = NoSpaceBefore l.i l.line
