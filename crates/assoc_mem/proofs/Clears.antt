@@ -31,6 +31,7 @@ all_cleared old segs pages w is s p =
 
 pub page_cleared : (old : Held) (segs : List HeldSeg) (before pages : List HeldPage) (w : What) (frame : ℕ)
     → record { segs = segs; pages = before } ≡ old → w ≡ Page frame
-    → pages ≡ filter (λ entry. not (entry.frame == frame)) before → record { segs = segs; pages = pages } ≡ cleared old w
+    → pages ≡ filter (λ entry. not (entry.frame == frame)) before
+    → record { segs = segs; pages = pages } ≡ cleared old w
 page_cleared old segs before pages w frame shown is left =
     rw (is, ← shown, left) (let a = all_kept segs in cc)

@@ -43,7 +43,8 @@ pub no_page : (xs : List HeldPage) (uid page : ℕ) (r : Option ℕ) → r
 no_page xs uid page r is =
     let same_variant : is_some r ≡ is_some (find (is_page uid page) xs) = ap is_some is
     ∙ none_mapped (λ (entry : HeldPage). entry.frame) (find (is_page uid page) xs) in (
-      λ h. λ k d lt same_uid same_page. both_ways _ (find_none (is_page uid page) xs (none_there _ (sym same_variant ∙ h))
+      λ h. λ k d lt same_uid same_page. both_ways _
+          (find_none (is_page uid page) xs (none_there _ (sym same_variant ∙ h))
           k d lt)
           (and_from _ _ (eq-eqb _ _ same_uid) (eq-eqb _ _ same_page)),
       λ all. same_variant ∙ ap is_some (none_find (is_page uid page) xs (λ k d lt. false_from_ne_true _ (λ on.

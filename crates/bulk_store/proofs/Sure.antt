@@ -48,7 +48,8 @@ read_cause P Q None (Err e) never held other = other
 read_cause P Q (Some p) (Err e) never held other = absurd (never held)
 
 -- where only the disk may fail, the counts of both are its own
-pub disk_told : {T E : Type 0} (fast fast' disk disk' : ℕ) (result : Result T E) → CountsBoth fast fast' disk disk' result
+pub disk_told : {T E : Type 0} (fast fast' disk disk' : ℕ) (result : Result T E)
+    → CountsBoth fast fast' disk disk' result
     → OnOk result (disk' ≡ disk)
 disk_told fast fast' disk disk' (Ok v) counts = counts.told.1
 disk_told fast fast' disk disk' (Err e) counts = tt

@@ -21,14 +21,16 @@ abbrev pub any_places : AnyDrive → ℕ
 any_places (Plain drive) = 0
 any_places (Bulk store) = length store.fast.pages
 
--- What a read of record r does to a drive of either kind. A disk alone has made one read more, which fails exactly where
+-- What a read of record r does to a drive of either kind. A disk alone has made one read more, which fails exactly
+-- where
 -- a line names it; with a fast store before it, it does what the bulk store does.
 abbrev pub HasReadAny : {T E : Type 0} → AnyDrive → AnyDrive → ℕ → Result T E → Type 0
 HasReadAny (Plain d) now r result =
     (now ≡ Plain (after_read d)) × (IsErr result ↔ IsTrue (names_next d.fails false d.reads))
 HasReadAny (Bulk s) now r result = (t : CoreStore) × (now ≡ Bulk t) × HasReadBulk s t r
 
--- What a write of record r does to it. A disk alone has made one write more, and has the page, or failed exactly where a
+-- What a write of record r does to it. A disk alone has made one write more, and has the page, or failed exactly
+-- where a
 -- line names that call.
 pub record HasWrittenDisk {T E : Type 0} (d : DriveState) (now : AnyDrive) (r : ℕ) (words : List ℕ)
     (result : Result T E) : Type 0 where

@@ -75,7 +75,8 @@ pub record GoesOn {X : Type 0} (pages : X → List (List ℕ)) (plan : X → Opt
 -- of the counts of two drives one is one more, since that drive failed, and the other is as before
 abbrev pub CountsOne : ℕ → ℕ → ℕ → ℕ → Type 0
 CountsOne fast fast' disk disk' =
-    (IsOneMore fast fast' × Rose fast fast' × (disk' ≡ disk)) ⊎ (IsOneMore disk disk' × Rose disk disk' × (fast' ≡ fast))
+    (IsOneMore fast fast' × Rose fast fast' × (disk' ≡ disk))
+    ⊎ (IsOneMore disk disk' × Rose disk disk' × (fast' ≡ fast))
 
 -- what a call leaves of the counts of two drives: as before where it was done, and else one of them one more
 pub record CountsBoth {T E : Type 0} (fast fast' disk disk' : ℕ) (result : Result T E) : Type 0 where

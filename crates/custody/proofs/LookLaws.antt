@@ -186,8 +186,10 @@ number_same v p u q e = ap (λ (o : Option (ℕ × ℕ)). Some (page_number (unw
 
 page_apart : (x : FrameUse) (u q : ℕ) → key_bit (page_key x) (page_number u q) ≡ 0 → page_of x ≢ Some (u, q)
 page_apart frame.Free u q z = λ e. cc
-page_apart (frame.Started v p) u q z = λ e. bit_zero (Some (page_number v p)) (page_number u q) z (number_same v p u q e)
-page_apart (frame.Current v p) u q z = λ e. bit_zero (Some (page_number v p)) (page_number u q) z (number_same v p u q e)
+page_apart (frame.Started v p) u q z = λ e. bit_zero (Some (page_number v p)) (page_number u q) z
+    (number_same v p u q e)
+page_apart (frame.Current v p) u q z = λ e. bit_zero (Some (page_number v p)) (page_number u q) z
+    (number_same v p u q e)
 page_apart (frame.Going v p) u q z = λ e. bit_zero (Some (page_number v p)) (page_number u q) z (number_same v p u q e)
 
 -- a page under whose number nothing is counted is in no frame

@@ -104,10 +104,11 @@ not_warned (Some w) t none (inr i) = let no : Some w ≡ None = none in absurd c
 -- once the signal was given and nobody is to drop anything, nobody holds what is going
 pub nobody_holds_going_page : (c : Custody) (f : ℕ) → Fine c false → NoneDue c → is_current_frame (c.frame f) ≡ false
     → NobodyHoldsPage c f
-nobody_holds_going_page c f fine none current d = false_from_ne_true (has (c.seat d).pages f) (λ h. elim (fine.page d f h) [
-  | inl i ↦ not_both i current
-  | inr i ↦ not_warned (c.seat d).due (λ w. names_frame c w f) (none d) i.1
-])
+nobody_holds_going_page c f fine none current d =
+    false_from_ne_true (has (c.seat d).pages f) (λ h. elim (fine.page d f h) [
+      | inl i ↦ not_both i current
+      | inr i ↦ not_warned (c.seat d).due (λ w. names_frame c w f) (none d) i.1
+    ])
 
 pub nobody_holds_going_seg : (c : Custody) (k n : ℕ) → Fine c false → NoneDue c
     → is_current_descriptor (c.descriptor k n) ≡ false
@@ -126,7 +127,8 @@ pub frame_fine : (c : Custody) (b : Bool) (f : ℕ) (x : FrameUse) → Fine c b 
 frame_fine c b f x fine nobody = record {
   page = λ d g h. page_same c (with_frame c f x) b d g
       (by_place g f x (c.frame g) (λ y. y ≡ c.frame g)
-      (λ e. absurd (not_both h (subst (λ (i : ℕ). has (c.seat d).pages i ≡ false) (sym e) (nobody d)))) (λ n. refl)) refl
+      (λ e. absurd (not_both h (subst (λ (i : ℕ). has (c.seat d).pages i ≡ false) (sym e) (nobody d)))) (λ n. refl))
+      refl
       (fine.page d g h);
   seg = λ d k n process h. fine.seg d k n process h;
   idle = fine.idle;

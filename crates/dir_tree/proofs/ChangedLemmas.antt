@@ -176,5 +176,6 @@ none_changed u h (n ∷ ns) off = elim (cases_Bool (eqb n.uid u)) [
 pub rows_added : (t : Branches) (superior : ℕ) (new : NewNode) (rows : List Row) → is_in t.nodes t.next ≡ false
     → with_acl (added t superior (record new { acl = rows })) t.next new.acl ≡ added t superior new
 rows_added t superior new rows fresh =
-    rw (eq-eqb t.next t.next refl) (ap (λ (rest : List Node). record { nodes = node_of_new t.next superior new ∷ rest; next = t.next + 1 })
+    rw (eq-eqb t.next t.next refl)
+    (ap (λ (rest : List Node). record { nodes = node_of_new t.next superior new ∷ rest; next = t.next + 1 })
     (none_changed t.next (λ n. record n { acl = new.acl }) t.nodes fresh))

@@ -113,7 +113,8 @@ concat_remove (x ∷ xs) (suc m) at lt =
 pub all_within : (xs : List (List ℕ)) (m at : ℕ) → at ≤ length (shelf_at xs m) → before xs m + at ≤ length (concat xs)
 all_within [] m at le = omega (arith, le)
 all_within (x ∷ xs) zero at le =
-    let n : length (x ++ concat xs) ≡ length x + length (concat xs) = length-append x (concat xs) in omega (arith, le, n)
+    let n : length (x ++ concat xs) ≡ length x + length (concat xs) = length-append x (concat xs) in
+    omega (arith, le, n)
 all_within (x ∷ xs) (suc m) at le =
     let r : before xs m + at ≤ length (concat xs) = all_within xs m at le in
     let n : length (x ++ concat xs) ≡ length x + length (concat xs) = length-append x (concat xs) in omega (arith, r, n)
@@ -302,7 +303,8 @@ module _ (nodes : List Node) (xs : List (List ℕ)) (hashes : List ℕ) (order :
       | inl same ↦
           (let on : HasPlace (remove (shelf_at xs m) at) p = subst (λ (ps : List ℕ). HasPlace ps p)
           (ap (shelf_at less) same ∙ get_or-set_same xs m (remove (shelf_at xs m) at) [] in_all) there in
-          shelved.shelved m p ((place_removed nodes (shelf_at xs m) at within (shelf_ordered nodes xs hashes order m).sorted
+          shelved.shelved m p ((place_removed nodes (shelf_at xs m) at within
+          (shelf_ordered nodes xs hashes order m).sorted
           (get_or (shelf_at xs m) at 0) p refl).0 on).0 ∙ sym same)
       | inr other ↦ shelved.shelved n p (subst (λ (ps : List ℕ). HasPlace ps p)
           (get_or-set_other xs m n (remove (shelf_at xs m) at) [] other) there)

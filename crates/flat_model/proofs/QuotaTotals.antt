@@ -401,7 +401,8 @@ reference_total : (t : Store) (k : ℕ) (r : Reference) → total (after_referen
 unfolding after_reference
 reference_total t k r = each (known_uid t k r.number)
   where
-    here : (uid : ℕ) (z : Bool) → total (cond z (written t uid r.offset (new_word (t.words uid r.offset) r.kind)) t).nodes
+    here : (uid : ℕ) (z : Bool) → total
+        (cond z (written t uid r.offset (new_word (t.words uid r.offset) r.kind)) t).nodes
         ≡ total t.nodes
     here uid true = refl
     here uid false = refl

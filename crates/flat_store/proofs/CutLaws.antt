@@ -84,7 +84,8 @@ zero_told pages words xs u q ws r h found told = zero_words_told words u q ws r 
         ∙ ap (λ (x : Option (List ℕ)). word_in x ((1024 * q + i) % 1024)) found
         ∙ ap (λ (x : ℕ). get_or ws x 0) place
 
-pub no_words : (pages : Paged) (s : Store) (u q : ℕ) → HoldPages pages s.words s.stored → page_at pages u q ≡ None → (o : ℕ)
+pub no_words : (pages : Paged) (s : Store) (u q : ℕ) → HoldPages pages s.words s.stored → page_at pages u q ≡ None
+    → (o : ℕ)
     → o / 1024 ≡ q → s.words u o ≡ 0
 no_words pages s u q h none o rq = h.values u o
     ∙ ap (λ (x : Option (List ℕ)). word_in x (o % 1024)) (ap (page_at pages u) rq ∙ none)

@@ -127,7 +127,8 @@ none_step None old left new e same nothing = (refl, nothing, same)
 none_step (Some x) old left new e same nothing = absurd cc
 
 some_step : {K X : Type 0} (rest old left new kept : List (K × X)) (r : Option (K × X)) (i : ℕ)
-    → IsNext rest r kept left → (n : ℕ) → n ≡ length (option_to_list r) → new ≡ take i old ++ (kept ++ drop (i + length kept + n) old)
+    → IsNext rest r kept left → (n : ℕ) → n ≡ length (option_to_list r)
+    → new ≡ take i old ++ (kept ++ drop (i + length kept + n) old)
     → IsStep rest old r left new
 some_step [] old left new kept None i h n is e = (
   refl,

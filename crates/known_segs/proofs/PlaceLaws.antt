@@ -102,7 +102,8 @@ pub at_most_next : (kept : Table) (n : ℕ) → length kept ≤ 256 → least_fr
     → (n ≤ length kept) × (n < 256)
 at_most_next kept n few e =
     let h : (n < length (padded kept)) × (is_none (get_or (padded kept) n None) ≡ true)
-    × ((k : ℕ) → k < n → is_none (get_or (padded kept) k None) ≡ false) = position-Some is_none (padded kept) n None e in
+    × ((k : ℕ) → k < n → is_none (get_or (padded kept) k None) ≡ false) =
+    position-Some is_none (padded kept) n None e in
     let size : length (padded kept) ≡ 256 = padded_size kept few in
     let within : n < length (padded kept) = h.0 in
     elim (cases_lt (length kept) n) [

@@ -69,7 +69,8 @@ adds_by p seed m script entries replies accounts old new (Ok x) run same there t
   machine = m;
   run = run;
   added_is = is
-      ∙ ap (λ (t : List ℕ). added old t accounts seed) (told ∙ ap (λ (q : Plan). replies_of q entries) (same ∙ run.script)
+      ∙ ap (λ (t : List ℕ). added old t accounts seed)
+      (told ∙ ap (λ (q : Plan). replies_of q entries) (same ∙ run.script)
       ∙ ap (replies_of p) there)
       ∙ ap (λ (t : List ℕ). added old (replies_of p m.state.entries) t seed)
       (left ∙ ap (λ (q : Plan). accounts_after q m.state.entries) run.script);

@@ -123,7 +123,8 @@ module _ (c : ℕ) (text : List (List ℕ)) (old mid new : Machine) (before midd
     (was : IsTrying c text old mid before middle tried)
   where
     pub go_on : TriesOne c text mid new middle after trial.Missed → IsTrying c text old new before after (tried + 1)
-    go_on one = trying_on c text old mid new before middle after tried one.step was one.made one.its one.pushed one.came.0
+    go_on one = trying_on c text old mid new before middle after tried one.step was one.made one.its one.pushed
+        one.came.0
 
     pub stop_seen : TriesOne c text mid new middle after trial.Seen → tried + 1 ≤ 1000000
         → Tries true c text old new before after

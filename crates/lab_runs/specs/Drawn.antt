@@ -84,7 +84,8 @@ AreAnswered zero old new steps = (new ≡ old) × (steps ≡ [])
 AreAnswered (suc rows) old new steps = (mid : Machine) × (before : List Step) × (last : List Step)
     × (steps ≡ before ++ last) × AreAnswered rows old mid before × AreTo IsAnswering mid new last
 
--- the last of some rows: it ends with a step that found all processes ended, or is 100,000 steps that did nothing of note
+-- the last of some rows: it ends with a step that found all processes ended, or is 100,000 steps that did nothing of
+-- note
 abbrev pub AreLast : Machine → Machine → List Step → Type 0
 AreLast old new steps = AreTo IsEnding old new steps ⊎ (AreQuiet old new steps 100000 × (length steps ≡ 100000))
 

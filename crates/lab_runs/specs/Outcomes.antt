@@ -35,7 +35,8 @@ pub record AddsRun (bytes : List ℕ) (seed : ℕ) (old new : Table) : Type 0 wh
 -- a table of so many runs, of a seed and those after it
 abbrev pub Gathers : List ℕ → ℕ → ℕ → Table → Type 0
 Gathers bytes seed zero t = t ≡ no_runs
-Gathers bytes seed (suc runs) t = (before : Table) × Gathers bytes seed runs before × AddsRun bytes (seed + runs) before t
+Gathers bytes seed (suc runs) t = (before : Table) × Gathers bytes seed runs before
+    × AddsRun bytes (seed + runs) before t
 
 -- A text is what is printed of such a table.
 pub record IsReportOf (bytes : List ℕ) (seed runs : ℕ) (text : List ℕ) : Type 0 where

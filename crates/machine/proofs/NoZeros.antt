@@ -94,7 +94,8 @@ module _ (s : State) (k : Keeps s) where
         ∙ ap (λ (j : ℕ). get_or (words_of s u p) j 0) place))
 
     zeros_there : length (words_of s u p) ≤ 1024 → is_zero_page (flat_of s).words u p ≡ true → AreZero (words_of s u p)
-    zeros_there size zeros i d lt = get_or_default_zero (words_of s u p) i d lt ∙ (sym (word_at i (omega (arith, lt, size)))
+    zeros_there size zeros i d lt =
+        get_or_default_zero (words_of s u p) i d lt ∙ (sym (word_at i (omega (arith, lt, size)))
         ∙ zero_words (flat_of s).words u p i zeros (omega (arith, lt, size)))
 
     module _ (each : AllVisited s) where

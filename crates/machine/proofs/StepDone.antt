@@ -262,7 +262,8 @@ module _ {D Plan : Type 0} (plan : D → Plan) (places faults : D → ℕ) (old 
       (pairs_for s.store k (next_command s k)) (what_for s.store k (next_command s k))
       → new ≡ with_state old (took_for s c k (next_command s k)) → HasMoved point.Other
   unfolding after
-  take_away_turn k doing = quiet_turn (act.TakeAway fs xs w) (λ h. h) (took s c aim.Committing w fs xs) (λ h. tt) doing refl
+  take_away_turn k doing = quiet_turn (act.TakeAway fs xs w) (λ h. h) (took s c aim.Committing w fs xs)
+      (λ h. tt) doing refl
       (took_faults s c aim.Committing w fs xs)
     where
       fs : List ℕ
@@ -277,17 +278,20 @@ module _ {D Plan : Type 0} (plan : D → Plan) (places faults : D → ℕ) (old 
   pub create_turn : (f u p : ℕ) (r : Reference) → action_of s c ≡ act.Create f u p r
       → new ≡ with_state old (page_created s c f u p r) → HasMoved point.Other
   unfolding after
-  create_turn f u p r doing = quiet_turn (act.Create f u p r) (λ h. h) (page_created s c f u p r) (λ h. tt) doing refl refl
+  create_turn f u p r doing = quiet_turn (act.Create f u p r) (λ h. h) (page_created s c f u p r)
+      (λ h. tt) doing refl refl
 
   pub activate_turn : (u place : ℕ) → action_of s c ≡ act.Activate u place
       → new ≡ with_state old (activated_at s u place) → HasMoved point.Other
   unfolding after
-  activate_turn u place doing = quiet_turn (act.Activate u place) (λ h. h) (activated_at s u place) (λ h. tt) doing refl refl
+  activate_turn u place doing = quiet_turn (act.Activate u place) (λ h. h) (activated_at s u place)
+      (λ h. tt) doing refl refl
 
   pub victim_turn : (pool : ℕ) (chain : List ℕ) (u : ℕ) → action_of s c ≡ act.EmptyVictim pool chain u
       → new ≡ with_state old (victim_taken s c pool chain u) → HasMoved point.Other
   unfolding after
-  victim_turn pool chain u doing = quiet_turn (act.EmptyVictim pool chain u) (λ h. h) (victim_taken s c pool chain u) (λ h. tt)
+  victim_turn pool chain u doing =
+      quiet_turn (act.EmptyVictim pool chain u) (λ h. h) (victim_taken s c pool chain u) (λ h. tt)
       doing refl (victim_faults s c pool chain u)
 
   -- ---- the phases that follow
@@ -307,7 +311,8 @@ module _ {D Plan : Type 0} (plan : D → Plan) (places faults : D → ℕ) (old 
       → new ≡ with_state old (committed_at s c (next_command s (process_at s c)))
       → HasMoved point.Other
   unfolding after
-  committed_turn doing = quiet_turn act.Commit (λ h. h) (committed_at s c (next_command s (process_at s c))) (λ h. tt) doing refl
+  committed_turn doing = quiet_turn act.Commit (λ h. h) (committed_at s c (next_command s (process_at s c)))
+      (λ h. tt) doing refl
       (commit_faults s c (next_command s (process_at s c)))
 
   pub commit_turn : (k : ℕ) → (cpu_at s.processors c).process ≡ Some k → action_of s c ≡ act.Commit

@@ -26,7 +26,8 @@ use Rattle.machine.proofs.StepDone.{waits_turn}
 use Rattle.machine.proofs.TurnLaws.{told_moves}
 
 module _ {D Plan : Type 0} (plan : D → Plan) (places faults : D → ℕ) (old new : Parts D) (c : ℕ) (answer : Turn)
-    (sound : IsSound old) (there : c < length old.state.processors) (made : IsTurn plan places faults old new c answer) where
+    (sound : IsSound old) (there : c < length old.state.processors)
+    (made : IsTurn plan places faults old new c answer) where
   pub step_appends : Appends old.state.entries new.state.entries 320
   step_appends = record {
     more = booked.more;
@@ -90,9 +91,11 @@ processor_there t c sound within = let many = sound.keeps.machine.keeps.sizes.pr
 -- a processor waits
 pub waits_told : {D Plan : Type 0} (plan : D → Plan) (places faults : D → ℕ) (old new : Parts D) (c : ℕ) (w : Why)
     → action_of old.state c ≡ act.Waits (why_of w) → new ≡ old → IsTurn plan places faults old new c (turn.Waits w)
-waits_told plan places faults old new c (why.ForOwner cpu) doing same = waits_turn plan places faults old new c (act.ForOwner cpu)
+waits_told plan places faults old new c (why.ForOwner cpu) doing same =
+    waits_turn plan places faults old new c (act.ForOwner cpu)
     doing same
-waits_told plan places faults old new c (why.ForClear cpu) doing same = waits_turn plan places faults old new c (act.ForClear cpu)
+waits_told plan places faults old new c (why.ForClear cpu) doing same =
+    waits_turn plan places faults old new c (act.ForClear cpu)
     doing same
 waits_told plan places faults old new c (why.ForTransfer frame) doing same =
     waits_turn plan places faults old new c (act.ForTransfer frame) doing same

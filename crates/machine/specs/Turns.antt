@@ -37,7 +37,8 @@ pub record CallsOne {D : Type 0} (faults : D → ℕ) (old new : List D) (v : �
 abbrev pub CallsNone : {D : Type 0} → List D → List D → Bool → Type 0
 CallsNone old new failed = (new ≡ old) × (failed ≡ false)
 
--- The page in frame f was let go: by a write to its home, or, where it is all zeros or as its record has it, by no call.
+-- The page in frame f was let go: by a write to its home, or, where it is all zeros or as its record has it, by no
+-- call.
 pub record LetsGo {D : Type 0} (faults : D → ℕ) (s : State) (f : ℕ) (old new : List D) (failed : Bool) : Type 0 where
   pub called : CallsOne faults old new (home_in s.store (page_in s.store f).0).volume failed
   pub spared : NeedsNoWrite s.store.pages f → CallsNone old new failed
@@ -58,7 +59,8 @@ CallsAs faults s (act.FinishPage f) old new failed = LetsGo faults s f old new f
 CallsAs faults s (act.CopyPage m p) old new failed = CallsTwo faults old new m.from.0 m.to.0 failed
 CallsAs faults s _ old new failed = CallsNone old new failed
 
--- The machine has gone on to its next state, by how the call of a drive came out, and nothing else was done. What became
+-- The machine has gone on to its next state, by how the call of a drive came out, and nothing else was done. What
+-- became
 -- of the drives is told of that outcome besides; their plans and places stay, and so does the room of the ready list.
 pub record GoesOn {D Plan : Type 0} (plan : D → Plan) (places : D → ℕ) (old new : Parts D) (next : Outcome → State)
     (calls : Bool → Type 0) : Type 0 where
@@ -140,7 +142,8 @@ abbrev pub Changes : State → State → Type 0
 Changes old new = (length old.entries < length new.entries) ⊎ (new.owner ≢ old.owner)
 
 -- Processor c has made its step, and this is what it is answered; nothing changes where nothing is done.
-pub record IsTurn {D Plan : Type 0} (plan : D → Plan) (places faults : D → ℕ) (old new : Parts D) (c : ℕ) (answer : Turn)
+pub record IsTurn {D Plan : Type 0} (plan : D → Plan) (places faults : D → ℕ) (old new : Parts D) (c : ℕ)
+    (answer : Turn)
     : Type 0 where
   pub step : IsStep plan places faults old new c
   pub answer_is : answer ≡ turn_of old.state c (action_of old.state c)
@@ -152,7 +155,8 @@ pub record Appends (old new : List Entry) (most : ℕ) : Type 0 where
   pub entries : new ≡ old ++ more
   pub few : length more ≤ most
 
--- The drives had counted so many failures when the book told of so many. Since then they have counted just those that it
+-- The drives had counted so many failures when the book told of so many. Since then they have counted just those that
+-- it
 -- tells more of, up to 2 ^ 63, where a count may stop.
 pub record HaveCounted {D : Type 0} (faults : D → ℕ) (counted told : ℕ) (t : Parts D) : Type 0 where
   pub grows : told ≤ count_by is_fault t.state.entries

@@ -231,5 +231,6 @@ idle_step s c turn t k l within none idle more (replies _ h replied) =
     absurd (not_both (tells s c Commands h).3 (idle c))
 idle_step s c turn t k l within none idle more (faults chain uid page makes h free want lacks) =
     absurd (not_both (tells s c Commands h).3 (idle c))
-idle_step s c turn t k l within none idle more (enters h free want) = absurd (not_both (tells s c Commands h).3 (idle c))
+idle_step s c turn t k l within none idle more (enters h free want) =
+    absurd (not_both (tells s c Commands h).3 (idle c))
 idle_step s c turn t k l within none idle more (waits o h some) = absurd (not_both (tells s c Commands h).3 (idle c))

@@ -96,7 +96,8 @@ told_once (b ∷ bs) rest [] ys k process quiet none e =
 told_once (b ∷ bs) rest (x ∷ xs) ys k process quiet none e =
     told_once bs rest xs ys k process (and_parts (is_quiet b) (list_all is_quiet bs) quiet).1 none (ap rest_of e)
 
--- At most one failure is told, of process k: just where a call of a drive failed, if there is one; and a process is told
+-- At most one failure is told, of process k: just where a call of a drive failed, if there is one; and a process is
+-- told
 -- of it afterwards.
 pub record ToldRight (k : ℕ) (more : List Entry) (calls failed : Bool) : Type 0 where
   pub few : count_by is_fault more ≤ 1

@@ -145,7 +145,8 @@ pub load_outlined : (s : State) (c k : ℕ) → rule_of (outline_of s) c ≡ Loa
 load_outlined s c k h some free =
     step_to (outline_of s) _ (outline_of (loaded s c k)) c Moved (sym (loaded_outline s c k))
     (loads (runner_of (around s) (loaded_processor (processor_at s.processors c) k)) h
-    (subst (λ (n : ℕ). 0 < n) (sym (ready_seen s)) some) (loaded_runner (around s) (processor_at s.processors c) k free))
+    (subst (λ (n : ℕ). 0 < n) (sym (ready_seen s)) some)
+    (loaded_runner (around s) (processor_at s.processors c) k free))
 
 pub idle_outlined : (s : State) (c busy : ℕ) → rule_of (outline_of s) c ≡ Loads → s.ready ≡ []
     → Step (outline_of s) c (WaitsFor (WhileIdle busy)) (outline_of s)

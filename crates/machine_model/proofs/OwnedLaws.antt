@@ -277,7 +277,8 @@ cut_at_same d = elim (eqb_tells d.process d.process) [
 
 pub cut_at_tells : (k n : ℕ) (d : CutDescriptor) → is_cut_at k n d ≡ true → (k ≡ d.process) × (n ≡ d.number)
 cut_at_tells k n d h = elim (eqb_tells d.process k) [
-  | inl e ↦ elim (eqb_tells d.number n) [ inl i ↦ (sym e.1, sym i.1) | inr m ↦ absurd (not_both h (rw (e.0, m.0) refl)) ]
+  | inl e ↦ elim (eqb_tells d.number n)
+      [ inl i ↦ (sym e.1, sym i.1) | inr m ↦ absurd (not_both h (rw (e.0, m.0) refl)) ]
   | inr m ↦ absurd (not_both h (rw m.0 refl))
 ]
 

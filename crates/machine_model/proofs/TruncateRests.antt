@@ -255,7 +255,8 @@ page_cut st u p at h tie = by (word_in st u p) refl
         cases false z = subst (λ (x : Storage). IsCut st x u p at) (sym (here_is st u p at f h e (tie f e))) (record {
           begun = here_begun st u p at f h e (tie f e);
           quiet = λ n. absurd (n f e);
-          zeros = λ g i y. absurd (not_both y (ap (λ (x : ℕ). are_zeros (words_in (cut st.pages x at) x)) (sym (its g i))
+          zeros = λ g i y. absurd (not_both y
+              (ap (λ (x : ℕ). are_zeros (words_in (cut st.pages x at) x)) (sym (its g i))
               ∙ z));
           kept = λ g i y. (
             here_this st u p at f h e (tie f e) ∙ ap (λ (x : ℕ). ptw.Here x) (its g i),

@@ -414,6 +414,7 @@ one_read core some full none unread = by (frame_at core 0) refl
 
     by : (x : Frame) → frame_at core 0 ≡ x → ⊥
     by frame.Free e = not_both (ap is_free e) (first_taken core.frames some full)
-    by (frame.Started u p) e = not_both (ap is_started e) (position_none is_started core.frames frame.Free 0 unread refl)
+    by (frame.Started u p) e = not_both (ap is_started e)
+        (position_none is_started core.frames frame.Free 0 unread refl)
     by (frame.Bound u p used modified) e = member_found (λ f. is_bound (frame_at core f)) (round_frames core) 0 first
         (ap is_bound e) (no_bound _ _ none)

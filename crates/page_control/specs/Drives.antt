@@ -4,7 +4,8 @@ use Rattle.site_io.specs.Faults.{Rose}
 use Rattle.volumes.specs.FailLine.{IsOneMore}
 use Rattle.volumes.specs.Volumes.{KeepsOthers, faults_at}
 
--- Every drive but that of volume v is as before, and so are the plans and the places of all. The drives count exactly the
+-- Every drive but that of volume v is as before, and so are the plans and the places of all. The drives count exactly
+-- the
 -- call that fails: where it was done each count is as before, and where it failed that of volume v's drive is one more,
 -- if it isn't at its end. The three meanings are the drive's.
 pub record CallsDrive {D Plan T E : Type 0} (plan : D → Plan) (places faults : D → ℕ) (old new : List D) (v : ℕ)

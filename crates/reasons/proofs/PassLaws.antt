@@ -64,7 +64,8 @@ passes_next old new n number all left more text r s line next_line is cut before
           ∙ ap (λ (l : List ℕ). l ∷ more) (sym next.text.text))
           ∙ sym (ap (λ (xs : List (List ℕ)). xs ++ more) (map-append entry_text is.entries (next.entry ∷ []))
           ∙ append_assoc (map entry_text is.entries) (entry_text next.entry ∷ []) more);
-      since = subst (λ (x : Option Reason). IsWatched new.script n (is.entries ++ next.entry ∷ []) x next_line) (sym kept)
+      since = subst (λ (x : Option Reason). IsWatched new.script n (is.entries ++ next.entry ∷ []) x next_line)
+          (sym kept)
           (watched_on new.script r n is.entries next.entry number line next_line (omega (arith, place, is.after.count))
           (subst (λ (p : Plan). IsWatched p n is.entries r line) (sym same) is.since)
           (looks (is.entries ++ next.entry ∷ []) next.after));

@@ -76,7 +76,8 @@ module _ (A E : Type 0) (items : A → List ℕ) (result : Result A E) (bytes sc
     (lines : List (List ℕ)) (o : Offence)
   where
     pub tells_ok : (p q : Plan) (es : List Entry) (left : List (List ℕ)) (r : Reason) → q ≡ p
-        → script_of script ≡ Ok p → IsJudged p n lines (Err (fault.Refused o)) → IsWhy bytes p es (first_of left) (is_end left) o.rule r
+        → script_of script ≡ Ok p → IsJudged p n lines (Err (fault.Refused o))
+        → IsWhy bytes p es (first_of left) (is_end left) o.rule r
         → ((x : Offence) → script_of script ≡ Ok q → IsJudged q n lines (Err (fault.Refused x))
         → IfOk result (λ t. HasText q n lines x r (items t)))
         → IfOk result (λ t. TellsOrNot bytes p n lines o es left (items t))

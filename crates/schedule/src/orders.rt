@@ -2,8 +2,8 @@ ghost use Rattle.std.specs.Prelude.{◌≡◌, ◌++◌, ◌∷◌, [], IfNone, 
 ghost use Rattle.text_model.specs.Lines.{fields_of};
 ghost use Rattle.schedule.specs.Fields.{after_word, begins};
 
-use script::split_field;
 use no_memory::NoMemory;
+use script::split_field;
 use std::alloc::Global;
 use std::marker::Model;
 

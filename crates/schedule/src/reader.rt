@@ -4,11 +4,10 @@ ghost use Rattle.schedule.specs.Orders.{AreWithin, as_lines, of_line, orders_fro
 ghost use Rattle.schedule.specs.Scheduled.{ReadsLines, ReadsScheduled, of_script, scheduled_of, with_plan};
 
 use crate::inputs::{Input, split_input};
-use script::next_line;
 use crate::orders::{Line, Order};
 use crate::reading::{OrderFault, line_order};
 use crate::refusals::{Cause, Refused};
-use script::{Refusal, Script, ScriptFault, read_script};
+use script::{Refusal, Script, ScriptFault, next_line, read_script};
 use std::alloc::{AllocFailed, Global};
 
 /// A script, and the schedule below it.

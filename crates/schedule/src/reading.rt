@@ -7,11 +7,10 @@ ghost use Rattle.schedule.specs.Orders.{draw_of, IsWithin, line_order, order_of,
 ghost use Rattle.schedule.specs.Orders.{step_of, times_in, times_last, until_of};
 
 use crate::fields::{is_empty, next_field, no_fields};
-use script::split_field;
 use crate::orders::{Opening, Order};
 use crate::refusals::Cause;
 use no_memory::NoMemory;
-use script::read_number;
+use script::{read_number, split_field};
 use std::alloc::Global;
 
 /// The most steps that a line asks for.

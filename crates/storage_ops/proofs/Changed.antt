@@ -60,7 +60,8 @@ module _ (f : Node → Node) (keeps : Keeps f) (a b : AccountMaps) (changes : Ch
     housed = housed_alike a b alike now.vtocs h.housed;
     counted = counted_alike a b alike now.vtocs h.counted (pages_map pages);
     taken = taken_alike a b alike now.records now.vtocs h.taken;
-    active = active_alike f keeps.uid a b changes.nodes keeps.superior ast h.active (λ place u m e found. pool_map pages m);
+    active = active_alike f keeps.uid a b changes.nodes keeps.superior ast h.active
+        (λ place u m e found. pool_map pages m);
     rights = rights_alike f keeps.uid a b changes.nodes ast.entries links whos h.rights
         (λ process number place n u mode m d e found. (rows process number place n u mode m d e found, pages m));
     known = record {

@@ -159,7 +159,8 @@ module _ (a b : AccountMaps) (u pages : ℕ) (segment : has_segment a.nodes u �
         active = active_alike (length_change u pages) (keeps_change u pages).uid a b changes.nodes
             (keeps_change u pages).superior ast h.active
             (λ place v m e here. ap pool_of (unchanged place v m e here));
-        rights = rights_alike (length_change u pages) (keeps_change u pages).uid a b changes.nodes ast.entries links whos
+        rights = rights_alike (length_change u pages)
+            (keeps_change u pages).uid a b changes.nodes ast.entries links whos
             h.rights
             (λ process number place k v mode m d e here. (
               ap (λ (x : Node). x.rows) (unchanged place v m e here),

@@ -84,7 +84,8 @@ size_set xs v ys same w = elim (cases_eq w v) [
 taken_length : (flags : List Bool) (places : List (Option ℕ)) → length (flags_taken flags places) ≡ length flags
 taken_length flags [] = refl
 taken_length flags (None ∷ places) = taken_length flags places
-taken_length flags (Some r ∷ places) = taken_length (with_taken flags (least_free flags)) places ∙ one (least_free flags)
+taken_length flags (Some r ∷ places) =
+    taken_length (with_taken flags (least_free flags)) places ∙ one (least_free flags)
   where
     one : (o : Option ℕ) → length (with_taken flags o) ≡ length flags
     one None = refl

@@ -50,7 +50,8 @@ least test (suc n) = elim (least test n) [
 pub first_here : {D : Type 0} (vols : Vols D) (own pages w : ℕ) → w < length vols.drives
     → is_roomy vols own pages w ≡ true → ((v : ℕ) → v < w → is_roomy vols own pages v ≡ false)
     → Some w ≡ first_roomy vols own pages
-first_here vols own pages w within has first = sym (first_is (is_roomy vols own pages) (length vols.drives) w within has first)
+first_here vols own pages w within has first =
+    sym (first_is (is_roomy vols own pages) (length vols.drives) w within has first)
 
 -- and one that comes to the end
 pub first_nowhere : {D : Type 0} (vols : Vols D) (own pages : ℕ)

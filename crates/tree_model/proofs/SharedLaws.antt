@@ -24,7 +24,8 @@ joined_below ns (Some s) n j = j.later
 
 pub without_absent : (ns : List Node) (u : ℕ) → AreBelow u ns → without_node ns u ≡ ns
 without_absent [] u b = refl
-without_absent (n ∷ ns) u b = (let apart : eqb n.uid u ≡ false = (let lt : n.uid < u = b.0 in grind (arith, nat_tests)) in
+without_absent (n ∷ ns) u b = (let apart : eqb n.uid u
+    ≡ false = (let lt : n.uid < u = b.0 in grind (arith, nat_tests)) in
     rw apart (ap (λ (l : List Node). n ∷ l) (without_absent ns u b.1)))
 
 pub directory_there : (ns : List Node) (u : ℕ) → has_directory ns u ≡ true → is_some (node_in ns u) ≡ true

@@ -90,7 +90,8 @@ roomy_set held size room e x h =
 pub at_end : (held : List Slot) (size e : ℕ) (slots : List Slot) → slots_of held size ≡ slots → length held ≤ e
     → ((k : ℕ) → k < e → is_some (slot_at slots k).uid ≡ true) → e ≡ length held
 at_end held size e slots view past before = elim (below_or_past (length held) e) [
-  | inl lt ↦ absurd (let no = used_held held size (length held) slots view (before (length held) lt) in omega (arith, no))
+  | inl lt ↦ absurd (let no = used_held held size (length held) slots view (before (length held) lt) in
+      omega (arith, no))
   | inr le ↦ omega (arith, le, past)
 ]
 

@@ -11,6 +11,7 @@ returns-then-not-is_read_for c = λ s.
     let other : c.is_read_for.result ≡ false = search rules in
     maps (MayStart c.args.script.now (custody_of c.args.custody.now) c.args.frame c.args.uid c.args.page)
     (MayBeHere c.args.script.now (custody_of c.args.custody.now) c.args.frame c.args.uid c.args.page)
-    (IsSo c.args.script.now s (custody_of c.args.custody.now) (entry.Here c.args.frame c.args.uid c.args.page)) c.against_start.result (λ h. inr h)
+    (IsSo c.args.script.now s (custody_of c.args.custody.now) (entry.Here c.args.frame c.args.uid c.args.page))
+    c.against_start.result (λ h. inr h)
     (c.against_start.ensures.here s
     (λ e. let z : true ≡ false = sym (c.is_read_for.ensures.1 e) ∙ other in cc))

@@ -17,6 +17,7 @@ returns c = λ s.
 pub returns-in-Some-against_current : goal.returns-in-Some-against_current
 returns-in-Some-against_current c = λ s. let h = c.in-Some-against_current.ensures s in record {
   about = and_some (λ k. IsOfCut k c.args.number c.in-Some-against_current.reason)
-      (seat_at c.args.custody.now.seats c.args.cpu).process c.in-Some.process (sym c.process_of.ensures ∙ c.in-Some.is) h.0;
+      (seat_at c.args.custody.now.seats c.args.cpu).process c.in-Some.process
+      (sym c.process_of.ensures ∙ c.in-Some.is) h.0;
   said = h.1;
 }

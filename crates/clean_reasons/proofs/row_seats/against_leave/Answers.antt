@@ -11,7 +11,8 @@ returns-in-Some c = λ s shown.
     let is : (seat_at c.args.custody.now.seats c.args.cpu).process ≡ Some c.in-Some.process =
     sym c.process_of.ensures ∙ c.in-Some.is in
     maps (MayGo s (custody_of c.args.custody.now) (seat_at c.args.custody.now.seats c.args.cpu) c.in-Some.process)
-    (MayLeave s (custody_of c.args.custody.now) c.args.cpu) (IsSo c.args.script.now s (custody_of c.args.custody.now) (entry.Leave c.args.cpu)) c.against_going.result
+    (MayLeave s (custody_of c.args.custody.now) c.args.cpu)
+    (IsSo c.args.script.now s (custody_of c.args.custody.now) (entry.Leave c.args.cpu)) c.against_going.result
     (and_some (MayGo s (custody_of c.args.custody.now) (seat_at c.args.custody.now.seats c.args.cpu))
     (seat_at c.args.custody.now.seats c.args.cpu).process c.in-Some.process is)
     (c.against_going.ensures c.args.script.now s shown is)

@@ -11,9 +11,11 @@ use Rattle.clean_reasons.proofs.row_segments.against_deactivate.Goals as goal
 pub returns : goal.returns
 returns c = λ s shown.
     let is : (custody_of c.args.custody.now).active c.args.uid ≡ true = sym c.is_active.ensures ∙ (search rules) in
-    let below : (v : ℕ) → (custody_of c.args.custody.now).active v ≡ true → superior_in (node_in s.nodes v) ≢ Some c.args.uid =
+    let below : (v : ℕ) → (custody_of c.args.custody.now).active v ≡ true
+    → superior_in (node_in s.nodes v) ≢ Some c.args.uid =
     c.in_default.ensures.none c.args.script.now s shown in
-    both_tell (HasNoPage (custody_of c.args.custody.now) c.args.uid) (HasNoDescriptor (custody_of c.args.custody.now) c.args.uid)
+    both_tell (HasNoPage (custody_of c.args.custody.now) c.args.uid)
+    (HasNoDescriptor (custody_of c.args.custody.now) c.args.uid)
     (MayDeactivate s (custody_of c.args.custody.now) c.args.uid)
     (IsSo c.args.script.now s (custody_of c.args.custody.now) (entry.Deactivate c.args.uid)) c.against_disuse.result
     (λ h d. record { active = is; inferiors = below; pages = h; descriptors = d })

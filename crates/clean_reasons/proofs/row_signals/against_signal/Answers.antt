@@ -10,7 +10,8 @@ pub returns : goal.returns
 returns c = λ s.
     maps (NamesAllGoing (custody_of c.args.custody.now) c.args.what)
     (MaySignal c.args.script.now (custody_of c.args.custody.now) c.args.cpu c.args.what)
-    (IsSo c.args.script.now s (custody_of c.args.custody.now) (entry.Signal c.args.cpu c.args.what)) c.against_names.result
+    (IsSo c.args.script.now s (custody_of c.args.custody.now) (entry.Signal c.args.cpu c.args.what))
+    c.against_names.result
     (λ h. record {
       online = sym c.is_online.ensures ∙ (search rules);
       none_due = c.in_default.ensures;

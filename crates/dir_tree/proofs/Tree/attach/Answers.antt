@@ -117,7 +117,8 @@ added_to : (c : goal.After-self-1)
     c.store-place.new.free.items c.insert.new.self (c.self.inside.next + 1)
     × (newest c.store-place.new.nodes.items
     (c.self.inside.entries ++ new_entry c.self.inside.next c.args.superior c.store-place.result ∷ [])
-    ≡ node_of_new c.self.inside.next c.args.superior (as_node c.args.new) ∷ newest c.self.inside.nodes.items c.self.inside.entries)
+    ≡ node_of_new c.self.inside.next c.args.superior
+    (as_node c.args.new) ∷ newest c.self.inside.nodes.items c.self.inside.entries)
 added_to c =
     added c.self.invariant.0 c.args.superior (node_of_new c.self.inside.next c.args.superior (as_node c.args.new))
     c.store-place.new.nodes.items c.store-place.new.free.items c.insert.new.self c.store-place.result refl refl

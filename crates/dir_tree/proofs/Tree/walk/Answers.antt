@@ -16,7 +16,8 @@ returns-then-not-dir-clause-answer c quota =
     ∙ ap (λ b. onward (λ n. walk_from ns n.uid n.directory (drop (c.loop-name.name-index + 1) names)) b
     (branch_in ns c.loop-name.at c.name-item.result))
     isnt in
-    sym (ap path_answer (walk_any quota c.args.self.now.nodes c.args.names.now ∙ sym c.loop-name.invariant.so_far ∙ end))
+    sym (ap path_answer (walk_any quota c.args.self.now.nodes c.args.names.now ∙ sym c.loop-name.invariant.so_far
+    ∙ end))
 
 pub returns-in_None-node-clause-answer : goal.returns-in_None-node-clause-answer
 returns-in_None-node-clause-answer c quota =
@@ -28,7 +29,8 @@ returns-in_None-node-clause-answer c quota =
     let end : walk_from ns c.loop-name.at c.loop-name.dir (drop c.loop-name.name-index names) ≡ Missing = step
     ∙ ap (λ b. onward go b (branch_in ns c.loop-name.at c.name-item.result)) c.if-not-dir.false
     ∙ ap (onward go true) c.in_None-node.ensures.none in
-    sym (ap path_answer (walk_any quota c.args.self.now.nodes c.args.names.now ∙ sym c.loop-name.invariant.so_far ∙ end))
+    sym (ap path_answer (walk_any quota c.args.self.now.nodes c.args.names.now ∙ sym c.loop-name.invariant.so_far
+    ∙ end))
 
 pub returns-clause-answer : goal.returns-clause-answer
 returns-clause-answer c quota =

@@ -12,6 +12,7 @@ returns-in-Ok-Some c = λ es after read judged. tells_ok _ _ (λ t. t.items) c.t
     c.args.judge.now.script c.script.result.now es (lines_of c.args.rest.now) c.in-Ok-Some.reason
     c.script.ensures read judged
     (subst (λ (o : Option Reason). IfSome o (IsWhy c.args.bytes.now c.args.judge.now.script es
-    (first_of (lines_of c.args.rest.now)) (is_end (lines_of c.args.rest.now)) c.args.offence.rule)) c.in-Ok-Some.field-0-is
+    (first_of (lines_of c.args.rest.now)) (is_end (lines_of c.args.rest.now)) c.args.offence.rule))
+    c.in-Ok-Some.field-0-is
     (c.in-Ok-Some.ensures.so es after))
     c.tell.ensures

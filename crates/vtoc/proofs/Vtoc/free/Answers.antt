@@ -16,8 +16,10 @@ invariant_of-self c =
     c.requires.empty (read_self _ c.args.e lt) c.give_back.ensures.flags)
 
 pub returns-clause-entries : goal.returns-clause-entries
-returns-clause-entries c = ap table_of c.clear.ensures ∙ free_table _ _ c.args.e (slot_at c.self.inside.slots c.args.e) c.self.view_is
+returns-clause-entries c = ap table_of c.clear.ensures
+    ∙ free_table _ _ c.args.e (slot_at c.self.inside.slots c.args.e) c.self.view_is
 
 pub returns-clause-count : goal.returns-clause-count
-returns-clause-count c = rw (ap table_of c.clear.ensures ∙ free_table _ _ c.args.e (slot_at c.self.inside.slots c.args.e) c.self.view_is)
+returns-clause-count c = rw (ap table_of c.clear.ensures
+    ∙ free_table _ _ c.args.e (slot_at c.self.inside.slots c.args.e) c.self.view_is)
     (count_freed _ c.args.e c.requires.used)

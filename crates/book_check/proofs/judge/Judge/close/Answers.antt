@@ -29,7 +29,8 @@ returns-in-None c = closed_well c.self.inside.script c.self.inside.store c.self.
     c.has_zero_page.result c.has_zero_page.ensures (cc)
     (string_bytes c.in-Ok.due) c.in-Ok.ensures
     (λ s. c.accounts_promise.ensures.tree c.self.inside.script s)
-    (λ s. c.accounts_promise.ensures.within c.self.inside.script s) (c.in-None.ensures.same ∙ ap lines_of c.as_bytes.ensures.value)
+    (λ s. c.accounts_promise.ensures.within c.self.inside.script s)
+    (c.in-None.ensures.same ∙ ap lines_of c.as_bytes.ensures.value)
 
 pub returns : goal.returns
 returns c = closed_wrong c.self.inside.script c.self.inside.store c.self.inside.custody c.self.inside.entries

@@ -19,7 +19,8 @@ shelf c = c.places.ensures
 
 pub find-requires-clause-order : goal.find-requires-clause-order
 find-requires-clause-order c = rw (c.deref.ensures.value, shelf c)
-    (shelf_ordered c.args.nodes.now c.self.inside.shelves.items c.self.inside.hashes.items (ordered c) c.shelf_of.result)
+    (shelf_ordered c.args.nodes.now c.self.inside.shelves.items c.self.inside.hashes.items
+    (ordered c) c.shelf_of.result)
 
 pub find-requires-clause-within : goal.find-requires-clause-within
 find-requires-clause-within c = rw (shelf c)

@@ -11,14 +11,16 @@ ordered : (c : goal.After-first_at-arg-1) → IsOrdered c.args.nodes.now (concat
     c.self.inside.hashes.items
 ordered c = subst (λ (v : Places). IsOrdered c.args.nodes.now v.places v.hashes) (sym c.self.view_is) c.requires.order
 
-own : (c : goal.After-first_at-arg-1) → c.index_mut-shelf.result.now ≡ shelf_at c.self.inside.shelves.items c.shelf_of.result
+own : (c : goal.After-first_at-arg-1)
+    → c.index_mut-shelf.result.now ≡ shelf_at c.self.inside.shelves.items c.shelf_of.result
 own c =
     shelf_read c.self.inside.shelves.items c.self.inside.hashes.items c.shelf_of.result c.index_mut-shelf.result.now
     c.self.invariant.0 c.shelf_of.ensures.within c.index_mut-shelf.ensures.value
 
 pub first_at-at-requires-clause-order : goal.first_at-at-requires-clause-order
 first_at-at-requires-clause-order c = rw (c.deref.ensures.value, c.places.ensures, own c)
-    (shelf_ordered c.args.nodes.now c.self.inside.shelves.items c.self.inside.hashes.items (ordered c) c.shelf_of.result)
+    (shelf_ordered c.args.nodes.now c.self.inside.shelves.items c.self.inside.hashes.items
+    (ordered c) c.shelf_of.result)
 
 pub first_at-at-requires-clause-within : goal.first_at-at-requires-clause-within
 first_at-at-requires-clause-within c = rw (c.places.ensures, own c)

@@ -30,7 +30,8 @@ after c = with_pages (the_view c.self.inside) c.credit.new.self c.remove_between
 sheds : (c : After-drain_at) → ShedsAll (the_view c.self.inside) (after c) c.args.uid c.remove_between-pages.result
     (between c.args.from c.pages_of-end.result)
 sheds c = shed_done (the_view c.self.inside) (after c) c.args.uid c.remove_between-pages.result
-    c.volume_of-volume.result (between c.args.from c.pages_of-end.result) c.credit.ensures c.remove_between-pages.ensures
+    c.volume_of-volume.result (between c.args.from c.pages_of-end.result) c.credit.ensures
+    c.remove_between-pages.ensures
     c.volume_of-volume.ensures c.drain_at.ensures refl
 
 pub invariant_of-self : goal.invariant_of-self

@@ -7,15 +7,18 @@ pub returns-then-brings_word : goal.returns-then-brings_word
 returns-then-brings_word c = λ p s n h at place.
     crowded p s n c.args.uid c.args.offset c.args.kind.now c.brings_word.result c.word_reply-reply.result
     c.room_reply.result at
-    (stores_looked s c.args.uid c.args.offset c.args.kind.now c.look-word.result.0 c.look-word.result.1 c.brings_word.result
+    (stores_looked s c.args.uid c.args.offset c.args.kind.now c.look-word.result.0 c.look-word.result.1
+    c.brings_word.result
     (c.look-word.ensures.word p s h) (c.look-word.ensures.stored p s h) c.brings_word.ensures) c.if-brings_word.true
     (c.word_reply-reply.ensures
-    ∙ ap (λ (w : ℕ). word_reply w c.args.kind.now) (c.look-word.ensures.word p s h)) (c.room_reply.ensures p s n h at place)
+    ∙ ap (λ (w : ℕ). word_reply w c.args.kind.now) (c.look-word.ensures.word p s h))
+    (c.room_reply.ensures p s n h at place)
 
 pub returns-else-brings_word : goal.returns-else-brings_word
 returns-else-brings_word c = λ p s n h at place.
     roomy p s n c.args.uid c.args.offset c.args.kind.now c.brings_word.result c.word_reply-reply.result at
-    (stores_looked s c.args.uid c.args.offset c.args.kind.now c.look-word.result.0 c.look-word.result.1 c.brings_word.result
+    (stores_looked s c.args.uid c.args.offset c.args.kind.now c.look-word.result.0 c.look-word.result.1
+    c.brings_word.result
     (c.look-word.ensures.word p s h) (c.look-word.ensures.stored p s h) c.brings_word.ensures)
     c.if-brings_word.false
     (c.word_reply-reply.ensures ∙ ap (λ (w : ℕ). word_reply w c.args.kind.now) (c.look-word.ensures.word p s h))

@@ -16,7 +16,8 @@ load-requires c = (
 pub invariant_of-keeper : goal.invariant_of-keeper
 invariant_of-keeper c =
     let told = c.load.ensures.2 c.args.cpu (search rules) in
-    keeper_fits c.load.new.seat.me _ _ _ (told_alone c.keeper.invariant.seat told.1) c.keeper.invariant.hand (rows_noted _ c.args.cpu c.load.result
+    keeper_fits c.load.new.seat.me _ _ _ (told_alone c.keeper.invariant.seat told.1) c.keeper.invariant.hand
+    (rows_noted _ c.args.cpu c.load.result
     c.keeper.inside.rows (holder_of c.keeper.inside.seat.me.0).watch c.keeper.invariant.rows)
     (noted_still (holder_of c.keeper.inside.seat.me.0).watch c.args.cpu c.load.result _ c.keeper.invariant.cleared
     told.0)
@@ -25,4 +26,5 @@ pub returns-clause-keeper : goal.returns-clause-keeper
 returns-clause-keeper c = keeper_stays_of c.args.self.now c.args.keeper.now _ c.load.new.seat.table_id _ _
     c.keeper.inside.seat.me c.load.new.seat.me _
     c.keeper.view_is c.requires.keeper c.load.ensures.0
-    (told_alone c.keeper.invariant.seat (c.load.ensures.2 c.args.cpu (search rules)).1) refl refl (length-set _ _ _) refl
+    (told_alone c.keeper.invariant.seat (c.load.ensures.2 c.args.cpu (search rules)).1) refl refl
+    (length-set _ _ _) refl

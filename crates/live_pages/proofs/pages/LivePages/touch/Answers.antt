@@ -85,7 +85,8 @@ pub returns-clause-pass : goal.returns-clause-pass
 returns-clause-pass c =
     pass_stays_of c.args.self.now c.args.pass.now _ c.touch_in_hand-done.new.seat.table_id c.pass.inside.seat.me
     c.touch_in_hand-done.new.seat.me _ c.pass.view_is
-    c.requires.pass (c.touch_in_hand-done.ensures.seat.0 ∙ c.compare_exchange-word.ensures.0) (made c (search rules)) refl
+    c.requires.pass (c.touch_in_hand-done.ensures.seat.0 ∙ c.compare_exchange-word.ensures.0)
+    (made c (search rules)) refl
     refl refl
 
 pub returns-clause-touched : goal.returns-clause-touched

@@ -17,7 +17,8 @@ loop-self-smaller g c = gauge_falls c.loop-self.self.state c.command_turn.new.se
 
 pub loop-self-preserved : goal.loop-self-preserved
 loop-self-preserved g c = record {
-  gone = gone_on g.D.Drive.plan g.D.Drive.places g.D.Drive.faults c.args.self.now c.loop-self.self c.command_turn.new.self
+  gone = gone_on g.D.Drive.plan g.D.Drive.places g.D.Drive.faults c.args.self.now c.loop-self.self
+      c.command_turn.new.self
       c.loop-self.invariant.gone c.in_ok-command_turn.ensures.gone;
   free = command_freed c.loop-self.self.state c.command_turn.new.self.state c.args.c
       c.in_ok-command_turn.ensures.done;
@@ -33,7 +34,8 @@ returns-clause-done g c = way_ends c.args.self.now.state c.loop-self.self.state 
 
 pub returns-in_err-command_turn-clause-stalled : goal.returns-in_err-command_turn-clause-stalled
 returns-in_err-command_turn-clause-stalled g c =
-    let stalled = stalled_on _ _ _ _ _ _ c.loop-self.invariant.gone c.in_err-command_turn.ensures.stalled in search (rules, stalled)
+    let stalled = stalled_on _ _ _ _ _ _ c.loop-self.invariant.gone c.in_err-command_turn.ensures.stalled in
+    search (rules, stalled)
 
 pub is_still_at-requires : goal.is_still_at-requires
 is_still_at-requires g c = gone_planned g.D.Drive.plan g.D.Drive.places g.D.Drive.faults c.args.self.now

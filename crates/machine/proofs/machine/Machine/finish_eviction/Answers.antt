@@ -25,7 +25,8 @@ returns g c = rw (← c.self.view_is) (eviction_turn _ _ _ _ c.finish_eviction-g
     c.finish_eviction-gone.result (rw c.self.view_is c.requires.doing) (eviction_after _ c.args.c c.self.invariant
     (rw c.self.view_is c.requires.there)
     c.args.frame c.finish_eviction-gone.result c.finish_eviction-gone.new.self c.finish_eviction-gone.ensures.state)
-    c.finish_eviction-gone.ensures.drives c.finish_eviction-gone.ensures.no_call (call_counts _ _ _ _ _ _ c.finish_eviction-gone.result _ _
+    c.finish_eviction-gone.ensures.drives c.finish_eviction-gone.ensures.no_call
+    (call_counts _ _ _ _ _ _ c.finish_eviction-gone.result _ _
     c.finish_eviction-gone.ensures.drives c.promise.ensures.faults c.promise-2.ensures.faults)
     c.finish_eviction-gone.ensures.room)
 

@@ -23,4 +23,5 @@ returns-clause-done g c = job_end c.args.self.now.state c.loop-owner.self.state 
 
 pub returns-in_err-job_turn-clause-stalled : goal.returns-in_err-job_turn-clause-stalled
 returns-in_err-job_turn-clause-stalled g c =
-    let stalled = stalled_on _ _ _ _ _ _ c.loop-owner.invariant.gone c.in_err-job_turn.ensures.stalled in search (rules, stalled)
+    let stalled = stalled_on _ _ _ _ _ _ c.loop-owner.invariant.gone c.in_err-job_turn.ensures.stalled in
+    search (rules, stalled)

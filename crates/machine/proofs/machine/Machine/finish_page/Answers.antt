@@ -25,7 +25,8 @@ returns g c = rw (← c.self.view_is) (page_turn _ _ _ _ c.finish_page-gone.new.
     c.finish_page-gone.result (rw c.self.view_is c.requires.doing) (page_after _ c.args.c c.self.invariant
     (rw c.self.view_is c.requires.there)
     c.args.frame c.finish_page-gone.result c.finish_page-gone.new.self c.finish_page-gone.ensures.state)
-    c.finish_page-gone.ensures.drives c.finish_page-gone.ensures.no_call (call_counts _ _ _ _ _ _ c.finish_page-gone.result _ _
+    c.finish_page-gone.ensures.drives c.finish_page-gone.ensures.no_call
+    (call_counts _ _ _ _ _ _ c.finish_page-gone.result _ _
     c.finish_page-gone.ensures.drives c.promise.ensures.faults c.promise-2.ensures.faults)
     c.finish_page-gone.ensures.room)
 

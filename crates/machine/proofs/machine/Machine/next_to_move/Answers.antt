@@ -10,7 +10,9 @@ loop-c-init g c = λ d before. absurd (omega (arith, before))
 pub returns-then-would_move-clause-some : goal.returns-then-would_move-clause-some
 returns-then-would_move-clause-some g c = record {
   there = subst (λ (n : ℕ). c.loop-c.c < n) (c.processors-processors.ensures
-      ∙ ap (λ (p : Plan). p.processors) (c.script.ensures ∙ c.book.ensures.script ∙ ap (λ (t : Parts _). t.state.plan) c.self.view_is)) c.loop-c-test.true;
+      ∙ ap (λ (p : Plan). p.processors)
+      (c.script.ensures ∙ c.book.ensures.script ∙ ap (λ (t : Parts _). t.state.plan) c.self.view_is))
+      c.loop-c-test.true;
   moves = sym c.if-would_move.ensures;
   before = c.loop-c.invariant;
 }
@@ -24,5 +26,7 @@ loop-c-preserved g c = one_more c.args.self.now.state c.loop-c.c c.loop-c.invari
 
 pub returns-clause-none : goal.returns-clause-none
 returns-clause-none g c = still_done c.args.self.now.state c.promise.ensures c.processors-processors.result
-    (c.processors-processors.ensures ∙ ap (λ (p : Plan). p.processors) (c.script.ensures ∙ c.book.ensures.script ∙ ap (λ (t : Parts _). t.state.plan) c.self.view_is))
+    (c.processors-processors.ensures
+    ∙ ap (λ (p : Plan). p.processors)
+    (c.script.ensures ∙ c.book.ensures.script ∙ ap (λ (t : Parts _). t.state.plan) c.self.view_is))
     c.loop-c.c c.loop-c-test.false c.loop-c.invariant

@@ -17,7 +17,8 @@ returns-in_default-clause-answer g c = λ p s h. make_root p s c.args.path.now c
 pub returns-then-not-node-clause-answer : goal.returns-then-not-node-clause-answer
 returns-then-not-node-clause-answer g c = λ p s h.
     let tree = tree_held c.self.view_is s h.tree in
-    make_in_segment p s c.self.inside.accounts.nodes c.args.path.now c.in-Some.above.now c.in-Some.name.now c.args.volume
+    make_in_segment p s c.self.inside.accounts.nodes c.args.path.now c.in-Some.above.now c.in-Some.name.now
+    c.args.volume
     c.args.dir tree.nodes
     c.in-Some.ensures.parts (as_term (quota_in c.self.inside.accounts.nodes) c.in-Ok.node.now) c.in-Ok.ensures.ok
     c.if-not-node.true
@@ -48,7 +49,8 @@ returns-clause-effect g c = λ p s h.
     let shown = shown_held c.self.view_is g.D.Drive.pages p s h in
     let n : Node = as_term (quota_in c.self.inside.accounts.nodes) c.in-Ok.node.now in
     subst (λ (x : Flat). Shows g.D.Drive.pages p (answered c.make_branch.result s x) c.make_branch.new.self)
-    (ap (λ (name : List ℕ). made_in s c.args.volume c.args.dir c.args.pages (maker_rows c.args.maker) name n) c.copied.ensures
+    (ap (λ (name : List ℕ). made_in s c.args.volume c.args.dir c.args.pages (maker_rows c.args.maker) name n)
+    c.copied.ensures
     ∙ after_make_is s c.self.inside.accounts.nodes c.args.path.now c.in-Some.above.now c.in-Some.name.now c.args.volume
     c.args.dir shown.tree.nodes
     c.in-Some.ensures.parts c.args.pages (maker_rows c.args.maker) n c.in-Ok.ensures.ok)

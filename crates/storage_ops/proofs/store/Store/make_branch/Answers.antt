@@ -53,7 +53,8 @@ new_home-requires-clause-inactive g c = record {
 
 -- the node that is made, and its home
 abbrev node : (g : Over) (c : After-attach g) → Node
-node g c = branch_of c.self.inside.accounts.next c.args.superior (as_node (record c.args.new { entry = c.in-Some.entry }))
+node g c = branch_of c.self.inside.accounts.next c.args.superior
+    (as_node (record c.args.new { entry = c.in-Some.entry }))
 
 made : (g : Over) (c : After-attach g) → HasNewHome c.self.inside.accounts c.attach.new.self (node g c) c.in-Some.entry
     (plain g.D.Drive.pages c.self.inside.segs.pages) (plain g.D.Drive.pages c.new_home.new.self.pages)

@@ -26,7 +26,8 @@ left g c =
 
 -- what has become of its home
 done : (g : Over) (c : After-set_home g)
-    → HasRehomed (plain g.D.Drive.pages c.self.inside.segs.pages) (plain g.D.Drive.pages c.move_commit-home.new.self.pages)
+    → HasRehomed (plain g.D.Drive.pages c.self.inside.segs.pages)
+    (plain g.D.Drive.pages c.move_commit-home.new.self.pages)
     c.self.inside.accounts c.set_home.new.self c.args.m.uid (home_of c.self.inside.accounts c.args.m.uid)
     (home_at c.args.m.to)
 done g c =
@@ -52,7 +53,8 @@ done g c =
       others = c.move_commit-home.ensures.words;
       sizes = λ v. ap (λ (x : Control g.row.D.Denot). size x.pages.volumes.records v) c.move_commit-home.ensures.effect
           ∙ committed_sizes c.self.inside.segs c.args.m v;
-      places = λ v. ap (λ (x : Control g.row.D.Denot). entries x.pages.volumes.vtocs v) c.move_commit-home.ensures.effect
+      places = λ v. ap (λ (x : Control g.row.D.Denot). entries x.pages.volumes.vtocs v)
+          c.move_commit-home.ensures.effect
           ∙ committed_entries c.self.inside.segs c.args.m v;
     })
 

@@ -19,4 +19,16 @@ invariant_of-self g c = (
 pub returns : goal.returns
 returns g c =
     let within = drives_within _ _ _ _ _ c.self.view_is c.requires.volume in
-    grind (arith, common_steps, one_drive, sum_rose, its_rose, sum_grows, same_with, keeps_others, its_once, told_with, full_read)
+    grind (
+      arith,
+      common_steps,
+      one_drive,
+      sum_rose,
+      its_rose,
+      sum_grows,
+      same_with,
+      keeps_others,
+      its_once,
+      told_with,
+      full_read,
+    )
