@@ -7,7 +7,7 @@ use Rattle.std.specs.Bool.{Decides}
 use Rattle.std.proofs.lemmas.Bool.Decides.{eqb_tells, leb_tells, nat_tests}
 use Rattle.std.specs.List.{list_any}
 use Rattle.std.specs.Option.{unwrap_or}
-use Rattle.custody_model.specs.Custody.{page_of}
+use Rattle.custody_model.specs.Custody.{page_of, uid_of_page}
 use Rattle.custody_model.specs.declared.FrameUse.{FrameUse}
 use Rattle.custody_model.specs.declared.FrameUse.TheVariants as frame
 use Rattle.flat_model.specs.Pages.{Words, is_zero_page, without_words}
@@ -65,6 +65,12 @@ pub below_decides : (frames : List FrameUse) (u k : ℕ) (r : Bool)
     → Decides (not r) ((f q : ℕ) → page_of (frame_at frames f) ≡ Some (u, q) → q < k)
 below_decides frames u k r is = scan_decides (λ x. is_page_from u k (page_of x))
     (λ x. (q : ℕ) → page_of x ≡ Some (u, q) → q < k) frame.Free refl (λ x. from_is u k (page_of x)) frames r is
+
+-- a segment without a page in a frame has none from a number on there
+pub none_from : (frames : List FrameUse) (u k : ℕ)
+    → ((f : ℕ) → uid_of_page (page_of (frame_at frames f)) ≢ Some u)
+    → Decides true ((f q : ℕ) → page_of (frame_at frames f) ≡ Some (u, q) → q < k)
+none_from frames u k none = (λ t f q is. absurd (none f (ap uid_of_page is)), λ h. refl)
 
 -- ---- which pages are lost
 

@@ -16,7 +16,7 @@ use std::marker::Model;
 /// What the frames of core are used for. A contract sees the list of their uses.
 ///
 /// Beside it stand counts of them, by which little is looked for among all frames: a page only where another is counted
-/// under its number, and the pages that a truncation takes.
+/// under its number, and the pages that a truncation takes of a segment that has one in a frame.
 #[derive(Drop)]
 pub(crate) struct Frames {
     uses: Vec<FrameUse>,
@@ -156,6 +156,9 @@ impl Frames {
     pub(crate) fn all_are_below(&self, uid: u32, pages: u32) -> bool
         ensures { Decides result ((f q : ℕ) → page_of (frame_at self.now f) ≡ Some (uid, q) → q < pages) }
     {
+        if self.has_none_of(uid) {
+            return true;
+        }
         let some = self.has_from(uid, pages);
         !some
     }

@@ -29,8 +29,8 @@ use std::marker::Model;
 /// each processor holds in its associative memory (Bensoussan, Clingen and Daley 1972).
 ///
 /// Contracts see its tables as lists, and by `custody_of` as the custody that they are. No call walks over all active
-/// segments or all descriptors: those are counted. All frames are looked at for a `truncate`, and for a page that
-/// shares its number with one that is in a frame.
+/// segments or all descriptors: those are counted. All frames are looked at for a `truncate` of a segment with a page
+/// in one, and for a page that shares its number with one that is in a frame.
 #[derive(Drop)]
 pub struct Custody {
     pub(crate) active: Active,
