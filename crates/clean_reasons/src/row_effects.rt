@@ -1,4 +1,4 @@
-ghost use Rattle.std.specs.Prelude.{◌≡◌, ◌<◌, ◌≤◌, ◌+◌, ◌*◌, ℕ, false, IfNone, IfSome, MatchOption, Some};
+ghost use Rattle.std.specs.Prelude.{◌≡◌, ◌<◌, ◌≤◌, ◌+◌, ◌*◌, ℕ, false, MatchOption, Some};
 ghost use Rattle.flat_model.specs.Branches.{branch_at, segment_at};
 ghost use Rattle.custody_model.specs.Custody.{is_started, page_of};
 ghost use Rattle.script.specs.Plans.{Plan};

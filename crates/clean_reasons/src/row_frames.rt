@@ -1,10 +1,10 @@
 ghost use Rattle.std.specs.Bool.{Decides};
-ghost use Rattle.std.specs.Prelude.{◌≡◌, ◌≢◌, ℕ, true, false, MatchOption};
+ghost use Rattle.std.specs.Prelude.{◌≡◌, ◌≢◌, true, false, MatchOption};
 ghost use Rattle.flat_model.specs.Store.{Store};
 ghost use Rattle.book.specs.declared.entries.Entry.TheVariants as entry;
 ghost use Rattle.custody_model.specs.Allowed.{MayStart};
 ghost use Rattle.custody_model.specs.declared.FrameUse.TheVariants as slot;
-ghost use Rattle.custody_model.specs.Custody.{is_current_frame, is_going_frame};
+ghost use Rattle.custody_model.specs.Custody.{is_current_frame};
 ghost use Rattle.custody_model.specs.Effects.{IsInNoFrame};
 ghost use Rattle.custody.specs.Tables.{AreTablesOf, custody_of};
 ghost use Rattle.clean_reasons.specs.Reasons.{FrameSays, IsSo, Tells};

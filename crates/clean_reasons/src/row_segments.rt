@@ -1,4 +1,4 @@
-ghost use Rattle.std.specs.Prelude.{◌≡◌, ◌≢◌, ◌≤◌, ℕ, true, IfNone, IfSome, MatchOption, Some};
+ghost use Rattle.std.specs.Prelude.{◌≡◌, ◌≢◌, ℕ, true, IfNone, IfSome, MatchOption, Some};
 ghost use Rattle.script.specs.Plans.{Plan};
 ghost use Rattle.tree_model.specs.Tree.{node_in};
 ghost use Rattle.flat_model.specs.Store.{Store};
@@ -7,8 +7,8 @@ ghost use Rattle.book.specs.declared.entries.Entry.TheVariants as entry;
 ghost use Rattle.custody_model.specs.Custody.{leads_to};
 ghost use Rattle.custody_model.specs.Effects.{HasNoDescriptor, HasNoPage};
 ghost use Rattle.custody_model.specs.Allowed.{pool_size, superior_in};
-ghost use Rattle.custody.specs.Tables.{AreNodes, AreTablesOf, CanJoin, custody_of};
-ghost use Rattle.clean_reasons.specs.Reasons.{ActiveSays, FrameSays, IsIn, IsReadInto, IsSo, Tells};
+ghost use Rattle.custody.specs.Tables.{AreNodes, AreTablesOf, custody_of};
+ghost use Rattle.clean_reasons.specs.Reasons.{FrameSays, IsIn, IsReadInto, IsSo, Tells};
 ghost use Rattle.clean_reasons.specs.Rows.{IsOfDisuse};
 
 use crate::reasons::{
