@@ -1,3 +1,4 @@
-mod ReasonLaws
-mod FrontLaws
+mod CutLaws
 mod DueLaws
+mod FrontLaws
+mod ReasonLaws

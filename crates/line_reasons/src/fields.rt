@@ -16,7 +16,7 @@ fn place_of(byte: u8, text: &[u8]) -> Option<usize>
 }
 
 /// The field before the first space of a line, and what follows that space. `None` exactly where the line has no space.
-#[tactic(auto, using(book::proofs::Words::text_cut, std::proofs::lemmas::Grind::common_steps))]
+#[tactic(auto, using(crate::proofs::CutLaws::text_cut, std::proofs::lemmas::Grind::common_steps))]
 pub(crate) fn split_piece(line: &[u8]) -> Option<(&[u8], &[u8])>
     ensures some { IfSome result (λ cut. pieces line.now ≡ cut.0.now ∷ pieces cut.1.now) }
     ensures less { IfSome result (λ cut. length cut.1.now < length line.now) }
