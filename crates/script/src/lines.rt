@@ -65,30 +65,15 @@ fn line_from(bytes: &[u8], from: usize) -> (&[u8], &[u8])
     requires other { slice_index bytes.now from ≢ 10 }
     requires unprintable { is_printable_byte (slice_index bytes.now from) ≡ false }
     ensures lines { lines_of bytes.now ≡ result.0.now ∷ lines_of result.1.now }
-    ensures shorter { length result.1.now < length bytes.now }
-    ensures unprintable { is_printable result.0.now ≡ false }
-{
-    for i in from + 1..bytes.len() {
-        if bytes[i] == b'\n' {
-            return (&bytes[..i], &bytes[i + 1..]);
-        }
-    }
-    (bytes, &[])
-}
-
-/// The first line of some bytes, without its line feed, and what follows it.
-#[tactic(auto, using(text_model::proofs::LineLaws::next_line_steps, std::proofs::lemmas::Grind::common_steps))]
-pub fn next_line(bytes: &[u8]) -> (&[u8], &[u8])
-    requires { 0 < length bytes.now }
-    ensures lines { lines_of bytes.now ≡ result.0.now ∷ lines_of result.1.now }
     ensures within { length result.0.now ≤ length bytes.now }
     ensures shorter { length result.1.now < length bytes.now }
     ensures rest { result.1.now ≡ drop (length bytes.now - length result.1.now) bytes.now }
     ensures closes { 0 < length result.1.now
         → Closes (take (length bytes.now - length result.1.now) bytes.now) result.0.now }
+    ensures unprintable { is_printable result.0.now ≡ false }
 {
-    for (i, byte) in bytes.iter().enumerate() {
-        if *byte == b'\n' {
+    for i in from + 1..bytes.len() {
+        if bytes[i] == b'\n' {
             return (&bytes[..i], &bytes[i + 1..]);
         }
     }
@@ -101,7 +86,11 @@ pub fn next_line(bytes: &[u8]) -> (&[u8], &[u8])
 pub(crate) fn next_checked(bytes: &[u8]) -> (&[u8], &[u8], bool)
     requires { 0 < length bytes.now }
     ensures lines { lines_of bytes.now ≡ result.0.now ∷ lines_of result.1.now }
+    ensures within { length result.0.now ≤ length bytes.now }
     ensures shorter { length result.1.now < length bytes.now }
+    ensures rest { result.1.now ≡ drop (length bytes.now - length result.1.now) bytes.now }
+    ensures closes { 0 < length result.1.now
+        → Closes (take (length bytes.now - length result.1.now) bytes.now) result.0.now }
     ensures printable { result.2 ≡ is_printable result.0.now }
 {
     let front = printable_front(bytes);
@@ -113,4 +102,19 @@ pub(crate) fn next_checked(bytes: &[u8]) -> (&[u8], &[u8], bool)
     }
     let (line, rest) = line_from(bytes, front);
     (line, rest, false)
+}
+
+/// The first line of some bytes, without its line feed, and what follows it. It looks at 16 bytes at a time, as far as
+/// they are printable.
+pub fn next_line(bytes: &[u8]) -> (&[u8], &[u8])
+    requires { 0 < length bytes.now }
+    ensures lines { lines_of bytes.now ≡ result.0.now ∷ lines_of result.1.now }
+    ensures within { length result.0.now ≤ length bytes.now }
+    ensures shorter { length result.1.now < length bytes.now }
+    ensures rest { result.1.now ≡ drop (length bytes.now - length result.1.now) bytes.now }
+    ensures closes { 0 < length result.1.now
+        → Closes (take (length bytes.now - length result.1.now) bytes.now) result.0.now }
+{
+    let (line, rest, _printable) = next_checked(bytes);
+    (line, rest)
 }
