@@ -1,3 +1,4 @@
 pub mod Numbers
 pub mod ReadingLaws
+pub mod TextLaws
 pub mod Words

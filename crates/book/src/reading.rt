@@ -1,5 +1,6 @@
 ghost use Rattle.std.specs.Prelude.{◌≡◌, ◌==◌, ◌<◌, ◌≤◌, true, false, [], ◌∷◌, map, length, Some, None, IfSome, IfNone};
 ghost use Rattle.std.specs.List.{position, slice_split};
+ghost use Rattle.std.specs.Str.{bytes_eq};
 ghost use Rattle.book.specs.Entries.{entry_text};
 ghost use Rattle.book.specs.Reading.{is_plain, number_of, number_or_none, word_of, dotted_of};
 ghost use Rattle.book.specs.Reading.{named_reply, bare_reply, numbered_reply};
@@ -29,6 +30,23 @@ enum Named {
     Seg(u32, u32),
 }
 
+/// Whether a word is this text, byte by byte up to the first that differs.
+#[inline(always)]
+#[tactic(auto, using(crate::proofs::TextLaws::text_compared, std::proofs::lemmas::Grind::common_steps))]
+fn is_text(word: &[u8], text: &[u8]) -> bool
+    ensures { result ≡ bytes_eq word.now text.now }
+{
+    if word.len() != text.len() {
+        return false;
+    }
+    for i in 0..text.len() {
+        if word[i] != text[i] {
+            return false;
+        }
+    }
+    true
+}
+
 /// Whether a word has 1 to 10 bytes, and its first is a zero only where it is the only one.
 fn is_plain(word: &[u8]) -> bool
     ensures { result ≡ is_plain word.now }
@@ -52,7 +70,7 @@ fn number(word: &[u8]) -> Option<u32>
 fn number_or_none(word: &[u8]) -> Option<Option<u32>>
     ensures { result ≡ number_or_none word.now }
 {
-    if word == b"-".as_slice() {
+    if is_text(word, b"-") {
         return Some(None);
     }
     Some(Some(number(word)?))
@@ -98,11 +116,11 @@ fn bare_reply(word: &[u8]) -> Option<Reply>
 fn numbered_reply(word: &[u8], number: u32) -> Option<Reply>
     ensures { result ≡ numbered_reply word.now number }
 {
-    if word == b"made".as_slice() {
+    if is_text(word, b"made") {
         Some(Reply::Made(number))
-    } else if word == b"known".as_slice() {
+    } else if is_text(word, b"known") {
         Some(Reply::Known(number))
-    } else if word == b"over".as_slice() {
+    } else if is_text(word, b"over") {
         Some(Reply::Over(number))
     } else {
         None
@@ -113,7 +131,7 @@ fn numbered_reply(word: &[u8], number: u32) -> Option<Reply>
 fn pair_reply(kind: &[u8], field: &[u8]) -> Option<Reply>
     ensures { result ≡ pair_reply kind.now field.now }
 {
-    if kind == b"word".as_slice() {
+    if is_text(kind, b"word") {
         Some(Reply::Word(octal_word(field)?))
     } else {
         numbered_reply(kind, number(field)?)
@@ -125,15 +143,15 @@ fn status(kind: &[u8], of_first: &[u8], of_second: &[u8], numbers: (u32, u32, u3
     ensures { result ≡ status_reply kind.now of_first.now of_second.now numbers.0 (numbers.1, numbers.2) }
 {
     let (uid, first, second) = numbers;
-    let counts_pages = of_first == b"length".as_slice() && of_second == b"stored".as_slice();
-    let counts_quota = of_first == b"quota".as_slice() && of_second == b"used".as_slice();
-    if kind == b"seg".as_slice() && counts_pages {
+    let counts_pages = is_text(of_first, b"length") && is_text(of_second, b"stored");
+    let counts_quota = is_text(of_first, b"quota") && is_text(of_second, b"used");
+    if is_text(kind, b"seg") && counts_pages {
         Some(Reply::SegIs {
             uid,
             length: first,
             stored: second,
         })
-    } else if kind == b"dir".as_slice() && counts_quota {
+    } else if is_text(kind, b"dir") && counts_quota {
         Some(Reply::DirIs {
             uid,
             quota: first,
@@ -171,11 +189,11 @@ fn what(fields: &[&[u8]]) -> Option<What>
     ensures { result ≡ what_of (map (λ w. w.now) fields.now) }
 {
     match fields {
-        [kind] if *kind == b"all".as_slice() => Some(What::All),
+        [kind] if is_text(kind, b"all") => Some(What::All),
         [kind, field] => {
-            if *kind == b"page".as_slice() {
+            if is_text(kind, b"page") {
                 Some(What::Page(number(field)?))
-            } else if *kind == b"seg".as_slice() {
+            } else if is_text(kind, b"seg") {
                 Some(What::Seg(number(field)?))
             } else {
                 None
@@ -200,8 +218,8 @@ fn thing_named(fields: &[&[u8]]) -> Option<Named>
     ensures { result ≡ named_of (map (λ w. w.now) fields.now) }
 {
     match fields {
-        [kind, frame] if *kind == b"page".as_slice() => Some(Named::Page(number(frame)?)),
-        [kind, process, segment] if *kind == b"seg".as_slice() => {
+        [kind, frame] if is_text(kind, b"page") => Some(Named::Page(number(frame)?)),
+        [kind, process, segment] if is_text(kind, b"seg") => {
             Some(Named::Seg(number(process)?, number(segment)?))
         }
         _ => None,
@@ -232,9 +250,9 @@ fn back(named: Named) -> Entry
 fn filled(kind: &[u8], cpu: u32, field: u32) -> Option<Entry>
     ensures { result ≡ filled kind.now (cpu, field) }
 {
-    if kind == b"seg".as_slice() {
+    if is_text(kind, b"seg") {
         Some(Entry::FillSeg { cpu, number: field })
-    } else if kind == b"page".as_slice() {
+    } else if is_text(kind, b"page") {
         Some(Entry::FillPage { cpu, frame: field })
     } else {
         None
@@ -294,17 +312,17 @@ fn command(fields: &[&[u8]]) -> Option<Entry>
 fn of_one(word: &[u8], number: u32) -> Option<Entry>
     ensures { result ≡ of_one word.now number }
 {
-    if word == b"online".as_slice() {
+    if is_text(word, b"online") {
         Some(Entry::Online { cpu: number })
-    } else if word == b"leave".as_slice() {
+    } else if is_text(word, b"leave") {
         Some(Entry::Leave { cpu: number })
-    } else if word == b"activate".as_slice() {
+    } else if is_text(word, b"activate") {
         Some(Entry::Activate { uid: number })
-    } else if word == b"deactivate".as_slice() {
+    } else if is_text(word, b"deactivate") {
         Some(Entry::Deactivate { uid: number })
-    } else if word == b"lose".as_slice() {
+    } else if is_text(word, b"lose") {
         Some(Entry::Lose { frame: number })
-    } else if word == b"take".as_slice() {
+    } else if is_text(word, b"take") {
         Some(Entry::Take { frame: number })
     } else {
         None
@@ -315,17 +333,17 @@ fn of_one(word: &[u8], number: u32) -> Option<Entry>
 fn of_two(word: &[u8], first: u32, second: u32) -> Option<Entry>
     ensures { result ≡ of_two word.now (first, second) }
 {
-    if word == b"load".as_slice() {
+    if is_text(word, b"load") {
         Some(Entry::Load {
             cpu: first,
             process: second,
         })
-    } else if word == b"release".as_slice() {
+    } else if is_text(word, b"release") {
         Some(Entry::Release {
             uid: first,
             page: second,
         })
-    } else if word == b"cut".as_slice() {
+    } else if is_text(word, b"cut") {
         Some(Entry::Cut {
             process: first,
             number: second,
@@ -339,25 +357,25 @@ fn of_two(word: &[u8], first: u32, second: u32) -> Option<Entry>
 fn of_three(word: &[u8], first: u32, second: u32, third: u32) -> Option<Entry>
     ensures { result ≡ of_three word.now (first, second, third) }
 {
-    if word == b"in".as_slice() {
+    if is_text(word, b"in") {
         Some(Entry::Here {
             frame: first,
             uid: second,
             page: third,
         })
-    } else if word == b"start".as_slice() {
+    } else if is_text(word, b"start") {
         Some(Entry::Start {
             frame: first,
             uid: second,
             page: third,
         })
-    } else if word == b"connect".as_slice() {
+    } else if is_text(word, b"connect") {
         Some(Entry::Connect {
             process: first,
             number: second,
             uid: third,
         })
-    } else if word == b"moved".as_slice() {
+    } else if is_text(word, b"moved") {
         Some(Entry::Moved {
             process: first,
             uid: second,
@@ -383,11 +401,11 @@ fn plain(word: &[u8], fields: &[&[u8]]) -> Option<Entry>
 fn named_or_plain(word: &[u8], fields: &[&[u8]]) -> Option<Entry>
     ensures { result ≡ named_or_plain word.now (map (λ w. w.now) fields.now) }
 {
-    if word == b"gone".as_slice() {
+    if is_text(word, b"gone") {
         Some(gone(thing_named(fields)?))
-    } else if word == b"back".as_slice() {
+    } else if is_text(word, b"back") {
         Some(back(thing_named(fields)?))
-    } else if word == b"fault".as_slice() {
+    } else if is_text(word, b"fault") {
         fault(fields)
     } else {
         plain(word, fields)
@@ -399,14 +417,14 @@ fn named_or_plain(word: &[u8], fields: &[&[u8]]) -> Option<Entry>
 fn entry(word: &[u8], fields: &[&[u8]]) -> Option<Entry>
     ensures { result ≡ entry_of word.now (map (λ w. w.now) fields.now) }
 {
-    if word == b"do".as_slice() {
+    if is_text(word, b"do") {
         command(fields)
-    } else if word == b"fill".as_slice() {
+    } else if is_text(word, b"fill") {
         fill(fields)
-    } else if word == b"signal".as_slice() {
+    } else if is_text(word, b"signal") {
         let (cpu, what) = dropped(fields)?;
         Some(Entry::Signal { cpu, what })
-    } else if word == b"clear".as_slice() {
+    } else if is_text(word, b"clear") {
         let (cpu, what) = dropped(fields)?;
         Some(Entry::Clear { cpu, what })
     } else {
