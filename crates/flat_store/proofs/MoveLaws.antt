@@ -235,6 +235,22 @@ pub none_lacked : (r a b : Bool) → r ≡ a → r ≡ false → r ≡ (a && b)
 none_lacked r true b e f = cc
 none_lacked r false b e f = e
 
+last_fails : (a b c d : Bool) → (a && (b && (c && (d && false)))) ≡ false
+last_fails false b c d = refl
+last_fails true false c d = refl
+last_fails true true false d = refl
+last_fails true true true false = refl
+last_fails true true true true = refl
+
+-- a reference to a segment whose volume isn't full
+pub lacks_nothing : (p : Plan) (s : Store) (k u o : ℕ) (how : RefKind) (n : Node) (full : Bool)
+    → node_in s.nodes u ≡ Some n → full ≡ is_volume_full p s n.volume → full ≡ false
+    → false ≡ lacks_at p s k o how (node_in s.nodes u)
+lacks_nothing p s k u o how n full found is not_full =
+    let room : is_volume_full p s n.volume ≡ false = sym is ∙ not_full in
+    sym (rw (found, room) (last_fails (permits (access_of (who_of p k) n.rows) how) (not (nat_le (1024 * n.pages) o))
+    (stores_page s n.uid o how) (not (is_used_up s n.uid))))
+
 -- a reference within the segment, which access permits
 pub lacks_within : (p : Plan) (s : Store) (k u o : ℕ) (how : RefKind) (n : Node) (r : Bool) → node_in s.nodes u ≡ Some n
     → n.uid ≡ u → permits (access_of (who_of p k) n.rows) how ≡ true → o / 1024 < n.pages

@@ -10,6 +10,8 @@ use Rattle.accounts.specs.Maps.{AccountMaps, Counts, count_of, Recounts}
 use Rattle.quota_cells.specs.declared.Full.{Full}
 use Rattle.quota_cells.specs.Scratch.{charge_answer}
 use Rattle.script.specs.Plans.{Plan}
+use Rattle.script.specs.References.{new_word}
+use Rattle.script.specs.declared.commands.RefKind.{RefKind}
 use Rattle.tree_model.specs.Tree.{Node, volume_in, taken_on}
 use Rattle.tree_model.specs.Trees.{has_segment}
 use Rattle.flat_model.specs.Pages.{Words, is_page, is_stored, with_stored, with_word}
@@ -18,7 +20,7 @@ use Rattle.flat_model.specs.Store.{Store, records_of}
 use Rattle.flat_model.proofs.PageLaws.{is_stored-with, once_with, with_old}
 use Rattle.flat_model.proofs.CountLaws.{count_with}
 use Rattle.flat_store.specs.Shown.{Gauge, gauge_at, filled, Paged, page_at, word_in, words_in, Puts, Held, pages_in}
-use Rattle.flat_store.specs.Shown.{HoldPages, AreInside, Holds, has_room}
+use Rattle.flat_store.specs.Shown.{HoldPages, AreInside, Holds, IsHeld, has_room}
 use Rattle.flat_store.proofs.GaugeLaws.{counts_more}
 use Rattle.laws.proofs.Lists.{zeros_read}
 
@@ -140,6 +142,33 @@ put_shown p s h k u o w holds there same put =
       entries = holds.entries;
     })
 
+-- a reference alters a word of a page that is stored
+pub alter_shown : (p : Plan) (s : Store) (h k : Held) (u o : ℕ) (how : RefKind) → Holds p h s
+    → is_some (page_at h.pages u (o / 1024)) ≡ true
+    → k ≡ record h { pages = k.pages }
+    → Puts h.pages k.pages u (o / 1024) (Some (set (words_in (page_at h.pages u (o / 1024))) (o % 1024)
+    (new_word (word_in (page_at h.pages u (o / 1024)) (o % 1024)) how)))
+    → Holds p k (written s u o (new_word (s.words u o) how))
+alter_shown p s h k u o how holds there same put =
+    put_shown p s h k u o (new_word (s.words u o) how) holds there same
+    (subst (λ (x : ℕ). Puts h.pages k.pages u (o / 1024)
+    (Some (set (words_in (page_at h.pages u (o / 1024))) (o % 1024) (new_word x how))))
+    (sym (holds.pages.values u o)) put)
+
+-- and nothing where it isn't
+pub held_altered : (h k : Held) (u o : ℕ) (how : RefKind) (z : Bool) → IsHeld h → k ≡ record h { pages = k.pages }
+    → z ≡ is_some (page_at h.pages u (o / 1024))
+    → (z ≡ true → Puts h.pages k.pages u (o / 1024) (Some (set (words_in (page_at h.pages u (o / 1024))) (o % 1024)
+    (new_word (word_in (page_at h.pages u (o / 1024)) (o % 1024)) how))))
+    → (z ≡ false → k.pages ≡ h.pages) → IsHeld k
+held_altered h k u o how true held is there put kept = (
+  held.0,
+  written held.1 u o (new_word (held.1.words u o) how),
+  alter_shown held.0 held.1 h k u o how held.2 (sym there) is (put refl),
+)
+held_altered h k u o how false held is there put kept =
+    subst IsHeld (sym (is ∙ ap (λ (x : Paged). record h { pages = x }) (kept refl))) held
+
 counts_stored : (a b : AccountMaps) (xs : List (ℕ × ℕ)) (u q : ℕ) → Counts a xs → is_stored xs u q ≡ false
     → Recounts a b u (count_of a u + 1)
     → Counts b (with_stored xs u q)
@@ -240,6 +269,15 @@ store_shown p s h k u o w holds segment lt none other room stores =
       entries = λ v. ap (λ (g : List Gauge). gauge_at g v) stores.entries ∙ holds.entries v;
     })
 
+-- where nothing is stored each word is 0
+pub zero_unstored : (p : Plan) (s : Store) (h : Held) (u o : ℕ) → Holds p h s
+    → is_some (page_at h.pages u (o / 1024)) ≡ false → s.words u o ≡ 0
+zero_unstored p s h u o holds none = holds.pages.values u o ∙ empty (page_at h.pages u (o / 1024)) none
+  where
+    empty : (x : Option (List ℕ)) → is_some x ≡ false → word_in x (o % 1024) ≡ 0
+    empty None e = refl
+    empty (Some ws) e = cc
+
 -- a 0 is written where nothing is stored
 pub nothing_written : (p : Plan) (s : Store) (h : Held) (u o w : ℕ) → Holds p h s
     → is_some (page_at h.pages u (o / 1024)) ≡ false → w ≡ 0
@@ -249,11 +287,7 @@ nothing_written p s h u o w holds none is =
     subst (λ (x : Store). Holds p h x) (sym (same here)) holds
   where
     zero_there : s.words u o ≡ 0
-    zero_there = holds.pages.values u o ∙ empty (page_at h.pages u (o / 1024)) none
-      where
-        empty : (x : Option (List ℕ)) → is_some x ≡ false → word_in x (o % 1024) ≡ 0
-        empty None e = refl
-        empty (Some ws) e = cc
+    zero_there = zero_unstored p s h u o holds none
 
     at : (v x : ℕ) → with_word s.words u o w v x ≡ s.words v x
     at v x = ap (λ (z : Bool). cond z w (s.words v x)) (flip_word u o v x) ∙ chosen (eqb u v) (eqb o x) refl refl

@@ -91,17 +91,27 @@ impl Holdings {
             && (self.accounts.may_charge(uid).is_ok() && is_full_at(&self.records, volume))
     }
 
+    /// Whether all records of a volume are taken.
+    fn is_volume_full(&self, volume: u32) -> bool
+        ensures { (p : Plan) (s : Store) → Holds p self.now s → result ≡ is_volume_full p s volume }
+    {
+        is_full_at(&self.records, volume)
+    }
+
     /// Whether a principal's reference to a segment lacks nothing but a free record of its volume.
     fn lacks_at(&self, who: &Who, uid: u32, offset: u32, kind: &RefKind) -> bool
         ensures { (p : Plan) (s : Store) (k : ℕ) → Holds p self.now s → who.now ≡ who_of p k
             → result ≡ lacks_at p s k offset kind.now (node_in s.nodes uid) }
     {
-        if !self.stores_page(uid, offset, kind) {
+        if !kind.alters() {
             return false;
         }
         let Some(node) = self.accounts.node(uid) else {
             return false;
         };
+        if !self.is_volume_full(node.volume) {
+            return false;
+        }
         if !kind.permitted_by(node.acl.access_of(who)) {
             return false;
         }

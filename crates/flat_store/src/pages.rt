@@ -1,14 +1,16 @@
 ghost use Rattle.std.specs.Prelude.{◌≡◌, ◌<◌, ◌≤◌, ◌↔◌, List, [], ℕ, false};
-ghost use Rattle.std.specs.Prelude.{Some, None, IfSome, IfNone, OnOk, OnErr, IsTrue, replicate, slice_set, is_some};
+ghost use Rattle.std.specs.Prelude.{Some, None, IfSome, IfNone, OnOk, OnErr, IsTrue, replicate, slice_set, is_some, true};
 ghost use Rattle.std.specs.Prelude.{◌&&◌, IsSome, IsSomeAnd, nat_le, nat_lt};
 ghost use Rattle.mword.specs.Words.{AreZero};
 ghost use Rattle.std.specs.Bool.{Decides};
 ghost use Rattle.flat_model.specs.Cuts.{cut_at};
-ghost use Rattle.flat_store.specs.Shown.{page_at, words_in, Puts, Cuts, Sheds};
+ghost use Rattle.script.specs.References.{new_word};
+ghost use Rattle.flat_store.specs.Shown.{page_at, word_in, words_in, Puts, Cuts, Sheds};
 ghost use Rattle.flat_store.specs.Zeros.{KeepsZeroPage};
 
 use crate::NoMemory;
 use mword::{Page, Word};
+use script::RefKind;
 use std::alloc::Global;
 use std::collections::BTreeMap;
 use std::marker::Model;
@@ -114,6 +116,24 @@ impl Pages {
             }
             None => self.add(uid, page, at, word),
         }
+    }
+
+    /// A word of a page becomes what a reference makes of it, where the page is stored. Whether it is; where it isn't,
+    /// nothing is changed.
+    pub(crate) fn alter(&mut self, uid: u32, page: u32, at: u32, kind: &RefKind) -> bool
+        requires { at < 1024 }
+        ensures there { result ≡ is_some (page_at self.old uid page) }
+        ensures yes { result ≡ true → Puts self.old self.new uid page
+            (Some (slice_set (words_in (page_at self.old uid page)) at
+            (new_word (word_in (page_at self.old uid page) at) kind.now))) }
+        ensures no { result ≡ false → self.new ≡ self.old }
+    {
+        let Some(words) = self.pages.get_mut(&(uid, page)) else {
+            return false;
+        };
+        let word = kind.new_word(words.get(at));
+        words.set(at, word);
+        true
     }
 
     /// A page with this one word comes.

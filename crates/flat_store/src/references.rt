@@ -137,16 +137,16 @@ impl Holdings {
         self.accounts.may_charge(uid).is_ok() && !is_full_at(&self.records, volume)
     }
 
-    /// Writes a word into a page that is stored.
-    fn put_word(&mut self, uid: u32, offset: u32, word: Word) -> Result<(), NoMemory>
-        requires { is_some (page_at self.old.pages uid (offset / 1024)) ≡ true }
-        ensures ok { OnOk result ((p : Plan) (s : Store) → Holds p self.old s
-            → Holds p self.new (written s uid offset word)) }
-        ensures err { OnErr result (self.new ≡ self.old) }
+    /// A word of a segment becomes what a reference makes of it, where its page is stored. Whether it is; where it
+    /// isn't, nothing is changed.
+    fn alter(&mut self, uid: u32, offset: u32, kind: &RefKind) -> bool
+        ensures there { result ≡ is_some (page_at self.old.pages uid (offset / 1024)) }
+        ensures yes { result ≡ true → (p : Plan) (s : Store) → Holds p self.old s
+            → Holds p self.new (written s uid offset (new_word (s.words uid offset) kind.now)) }
+        ensures no { result ≡ false → self.new ≡ self.old }
     {
         let page = offset / Page::WORDS;
-        self.pages.put(uid, page, offset % Page::WORDS, word)?;
-        Ok(())
+        self.pages.alter(uid, page, offset % Page::WORDS, kind)
     }
 
     /// Writes a word other than 0 into a page that isn't stored, and is from then on, if there is room for it.
@@ -172,19 +172,16 @@ impl Holdings {
         Ok(())
     }
 
-    /// Writes a word of a segment, whose page is stored or isn't. A page that gets a word other than 0 is stored from
-    /// then on, if there is room.
-    fn write(&mut self, uid: u32, offset: u32, word: Word, stored: bool) -> Result<(), NoMemory>
-        requires stored { stored ≡ is_some (page_at self.old.pages uid (offset / 1024)) }
+    /// Writes a word of a segment whose page isn't stored. A page that gets a word other than 0 is from then on, if there
+    /// is room.
+    fn write(&mut self, uid: u32, offset: u32, word: Word) -> Result<(), NoMemory>
+        requires absent { is_some (page_at self.old.pages uid (offset / 1024)) ≡ false }
         requires segment { has_segment self.old.accounts.nodes uid ≡ true }
         requires within { offset / 1024 < pages_in self.old.accounts.nodes uid }
         ensures ok { OnOk result ((p : Plan) (s : Store) → Holds p self.old s → may_write p s uid offset word ≡ true
             → Holds p self.new (written s uid offset word)) }
         ensures err { OnErr result (self.new ≡ self.old) }
     {
-        if stored {
-            return self.put_word(uid, offset, word);
-        }
         if word.value() == 0 {
             return Ok(());
         }
@@ -211,7 +208,9 @@ impl Holdings {
         if offset / Page::WORDS >= node.length {
             return Ok(());
         }
-        let (old, stored) = self.look(uid, offset);
-        self.write(uid, offset, kind.new_word(old), stored)
+        if self.alter(uid, offset, kind) {
+            return Ok(());
+        }
+        self.write(uid, offset, kind.new_word(Word::ZERO))
     }
 }

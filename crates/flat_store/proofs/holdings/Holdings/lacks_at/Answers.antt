@@ -1,4 +1,4 @@
-use Rattle.std.proofs.Common.{ap, sym, ◌∙◌, arith}
+use Rattle.std.proofs.Common.{ap, sym, refl, ◌∙◌, arith}
 use Rattle.dir_tree.specs.Nodes.{as_term}
 use Rattle.mnames.specs.declared.modes.Mode.{Mode}
 use Rattle.mnames.specs.declared.principals.Who.{Who}
@@ -6,7 +6,7 @@ use Rattle.script.specs.References.{permits}
 use Rattle.tree_model.specs.Access.{access_of}
 use Rattle.tree_model.specs.Tree.{Node, quota_in}
 use Rattle.flat_store.specs.Shown.{Held}
-use Rattle.flat_store.proofs.MoveLaws.{lacks_none, lacks_within}
+use Rattle.flat_store.proofs.MoveLaws.{lacks_none, lacks_nothing, lacks_within}
 use Rattle.flat_store.proofs.NodeLaws.{pages_held}
 use Rattle.flat_store.proofs.ReplyLaws.{node_shown}
 use Rattle.flat_store.proofs.holdings.Holdings.lacks_at.Goals as goal
@@ -30,6 +30,15 @@ returns c = λ p s k h who.
     ∙ c.if-not-permitted_by.false)
     c.if-offset-node.false (c.lacks_record.ensures p s h)
 
-pub returns-then-not-stores_page : goal.returns-then-not-stores_page
-returns-then-not-stores_page c = λ p s k h who. lacks_none p s k c.args.uid c.args.offset c.args.kind.now
-    (sym (c.stores_page.ensures p s h) ∙ c.if-not-stores_page.true)
+pub returns-then-not-alters : goal.returns-then-not-alters
+returns-then-not-alters c = λ p s k h who.
+    let reads = sym c.alters.ensures ∙ c.if-not-alters.true in
+    lacks_none p s k c.args.uid c.args.offset c.args.kind.now (rw reads refl)
+
+pub returns-then-not-is_volume_full : goal.returns-then-not-is_volume_full
+returns-then-not-is_volume_full c = λ p s k h who.
+    let n : Node = as_term (quota_in s.nodes) c.in-Some.node.now in
+    let found = node_shown s c.self.inside.accounts.nodes c.args.uid c.in-Some.node.now
+    (h.nodes ∙ ap (λ (x : Held). x.accounts.nodes) (sym c.self.view_is)) c.in-Some.ensures.some in
+    lacks_nothing p s k c.args.uid c.args.offset c.args.kind.now n c.is_volume_full.result found
+    (c.is_volume_full.ensures p s h) c.if-not-is_volume_full.true
