@@ -70,4 +70,8 @@ pub shifted : (old mid new : Counted) (from to : Option ℕ) → Shifts old mid 
     → Shifts old new from to
 shifted old mid new from to e l x = let h = l x in let g = e x in omega (arith, g, h)
 
-pub ruleset counts_change = (stays, entered, left, left_past, shifted)
+-- what comes under the key that it goes from
+pub unmoved : (c : Counted) (from to : Option ℕ) → from ≡ to → Shifts c c from to
+unmoved c from to e x = rw e (omega arith)
+
+pub ruleset counts_change = (stays, entered, left, left_past, shifted, unmoved)

@@ -1,4 +1,5 @@
 ghost use Rattle.std.specs.Prelude.{◌≡◌, OnOk, OnErr, [], None};
+ghost use Rattle.std.specs.Bool.{Decides};
 ghost use Rattle.custody.specs.Counts.{AreFew, HasPlace, Keeps, Shifts, count_at};
 
 use crate::NoMemory;
@@ -20,6 +21,17 @@ impl Model for Counts {
     ghost Value = { Counted };
 
     ghost view = { λ c. c.counts.items };
+}
+
+/// Whether two keys are one.
+fn is_same(one: Option<u32>, other: Option<u32>) -> bool
+    ensures { Decides result (one ≡ other) }
+{
+    match (one, other) {
+        (None, None) => true,
+        (Some(one), Some(other)) => one == other,
+        _ => false,
+    }
 }
 
 impl Counts {
@@ -96,6 +108,9 @@ impl Counts {
         requires few { AreFew self.old }
         ensures { Shifts self.old self.new from to }
     {
+        if is_same(from, to) {
+            return;
+        }
         self.enter(to);
         self.leave(from);
     }
