@@ -241,10 +241,8 @@ impl Custody {
         match command.reference() {
             Some(reference) => self.may_refer(store, cpu, process, frame, &reference, reply),
             None if frame.is_some() => false,
-            None if is_effective(script, store, process, command, reply) => {
-                self.may_take_effect(store, process, command)
-            }
-            None => true,
+            None if self.may_take_effect(store, process, command) => true,
+            None => !is_effective(script, store, process, command, reply),
         }
     }
 
