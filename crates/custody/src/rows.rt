@@ -1,4 +1,4 @@
-ghost use Rattle.std.specs.Prelude.{◌≡◌, ◌++◌, ◌+◌, ◌<◌, ◌^◌, drop, true, OnOk, OnErr, None};
+ghost use Rattle.std.specs.Prelude.{◌≡◌, ◌++◌, ◌+◌, ◌<◌, ◌^◌, drop, true, OnOk, OnErr, None, Some};
 ghost use Rattle.script.specs.Plans.{Plan};
 ghost use Rattle.flat_model.specs.Store.{Store};
 ghost use Rattle.tree_model.specs.Tree.{node_in};
@@ -109,28 +109,32 @@ fn warn_others(seats: &mut Vec<SeatRow>, but: u32, what: What)
     }
 }
 
-/// Whether an answer to the command that a process comes to next is a try that doesn't end its `await`.
-fn is_try(script: &Script, store: &FlatStore, process: u32, reply: &Reply) -> bool
-    ensures { (s : Store) → Shows script.now store.now s
-        → result ≡ is_try s process (next_command script.now s process) reply.now }
+/// How many processes a command of a process makes ready: all others, where it is the initializer's `end`.
+fn released(script: &Script, process: u32, command: &Command) -> u32
+    ensures { range 1 result ≡ released_by script.now process (Some command.now) }
 {
-    match command_at(script, process, store.place(process)) {
-        Some(command) => store.goes_on(process, command, reply),
-        None => false,
-    }
-}
-
-/// How many processes the command that a process comes to next makes ready: all others, where it is the initializer's
-/// `end`.
-fn released(script: &Script, store: &FlatStore, process: u32) -> u32
-    ensures { (s : Store) → Shows script.now store.now s
-        → range 1 result ≡ released_by script.now process (next_command script.now s process) }
-{
-    match command_at(script, process, store.place(process)) {
-        Some(Command::End) if script.initializer() && process == 0 => {
+    match command {
+        Command::End if script.initializer() && process == 0 => {
             script.processes().saturating_sub(1)
         }
         _ => 0,
+    }
+}
+
+/// Whether an answer to the command that a process comes to next is a try that doesn't end its `await`, and how many
+/// processes that command makes ready.
+fn outcome(script: &Script, store: &FlatStore, process: u32, reply: &Reply) -> (bool, u32)
+    ensures tried { (s : Store) → Shows script.now store.now s
+        → result.0 ≡ is_try s process (next_command script.now s process) reply.now }
+    ensures released { (s : Store) → Shows script.now store.now s
+        → range 1 result.1 ≡ released_by script.now process (next_command script.now s process) }
+{
+    match command_at(script, process, store.place(process)) {
+        Some(command) => (
+            store.goes_on(process, command, reply),
+            released(script, process, command),
+        ),
+        None => (false, 0),
     }
 }
 
@@ -257,8 +261,8 @@ impl Custody {
             → self.new ≡ answer_at script.now s self.old cpu process (next_command script.now s process) reply.now) }
         ensures err { OnErr result (self.new ≡ self.old) }
     {
-        let tried = is_try(script, store, process, reply);
-        release_others(&mut self.ready, released(script, store, process))?;
+        let (tried, count) = outcome(script, store, process, reply);
+        release_others(&mut self.ready, count)?;
         if let Some(seat) = self.seats.get_mut(cpu as usize) {
             seat.answer(tried);
         }
