@@ -44,13 +44,13 @@ place_in (l ∷ ls) u (suc i) lt none = place_past l.pairs (pairs_in ls) u (none
     ∙ place_in ls u i (omega (arith, lt)) (λ k less ne. none (suc k) (omega (arith, less))
     (λ e. ne (omega (arith, e))))
 
-remainder : (u : ℕ) → u % 16 < 16
+remainder : (u : ℕ) → u % 256 < 256
 remainder u = mod-lt u (omega arith)
 
 pub place_split : (lists : List Pairs) (room u : ℕ) → IsSplit lists room
-    → place_of (pairs_in lists) u ≡ place_of (list_at lists (u % 16)).pairs u
+    → place_of (pairs_in lists) u ≡ place_of (list_at lists (u % 256)).pairs u
 place_split lists room u split = let many = split.many in let less = remainder u in
-    place_in lists u (u % 16) (omega (arith, many, less))
+    place_in lists u (u % 256) (omega (arith, many, less))
     (λ k lt ne. split.apart k u (omega (arith, many, lt)) ne)
 
 -- a list holds no more than all together
@@ -63,7 +63,7 @@ list_few lists i lt =
 
 module _ (lists : List Pairs) (room u : ℕ) (split : IsSplit lists room) (new : Pairs) where
   abbrev i : ℕ
-  i = u % 16
+  i = u % 256
 
   abbrev changed : List Pairs
   changed = set lists i new
@@ -80,12 +80,12 @@ module _ (lists : List Pairs) (room u : ℕ) (split : IsSplit lists room) (new :
   module _ (place : Option ℕ) (sets : SetsPlace (list_at lists i).pairs new.pairs u place)
       (keeps : new.room ≡ (list_at lists i).room) where
     -- a uid of another remainder isn't in the changed list
-    not_here : (q : ℕ) → i ≢ q % 16 → place_of new.pairs q ≡ None
+    not_here : (q : ℕ) → i ≢ q % 256 → place_of new.pairs q ≡ None
     not_here q ne = sets q ∙ by (eqb_tells u q)
       where
         by : ((eqb u q ≡ true) × (u ≡ q)) ⊎ ((eqb u q ≡ false) × (u ≢ q))
             → cond (eqb u q) place (place_of (list_at lists i).pairs q) ≡ None
-        by (inl e) = absurd (ne (ap (λ (x : ℕ). x % 16) e.1))
+        by (inl e) = absurd (ne (ap (λ (x : ℕ). x % 256) e.1))
         by (inr n) = ap (λ (b : Bool). cond b place (place_of (list_at lists i).pairs q)) n.0
             ∙ split.apart i q (remainder u) ne
 
@@ -106,19 +106,19 @@ module _ (lists : List Pairs) (room u : ℕ) (split : IsSplit lists room) (new :
     }
 
     pub sets_changed : SetsPlace (pairs_in lists) (pairs_in changed) u place
-    sets_changed q = place_split changed room q split_changed ∙ elim (eqb_tells (q % 16) i) [
+    sets_changed q = place_split changed room q split_changed ∙ elim (eqb_tells (q % 256) i) [
       | inl e ↦ ap (λ (x : ℕ). place_of (list_at changed x).pairs q) e.1
           ∙ ap (λ (l : Pairs). place_of l.pairs q) same_list ∙ sets q
           ∙ ap (λ (x : ℕ). cond (eqb u q) place (place_of (list_at lists x).pairs q)) (sym e.1)
           ∙ ap (cond (eqb u q) place) (sym (place_split lists room q split))
-      | inr n ↦ ap (λ (l : Pairs). place_of l.pairs q) (other_list (q % 16) n.1)
+      | inr n ↦ ap (λ (l : Pairs). place_of l.pairs q) (other_list (q % 256) n.1)
           ∙ sym (place_split lists room q split)
           ∙ ap (λ (b : Bool). cond b place (place_of (pairs_in lists) q)) (sym (differs q n.1))
     ]
       where
-        differs : (q : ℕ) → q % 16 ≢ i → eqb u q ≡ false
+        differs : (q : ℕ) → q % 256 ≢ i → eqb u q ≡ false
         differs q ne = elim (eqb_tells u q) [
-          | inl e ↦ absurd (ne (ap (λ (x : ℕ). x % 16) (sym e.1)))
+          | inl e ↦ absurd (ne (ap (λ (x : ℕ). x % 256) (sym e.1)))
           | inr n ↦ n.0
         ]
 
@@ -136,39 +136,39 @@ nothing_in : (n room : ℕ) → pairs_in (replicate n (empty_list room)) ≡ []
 nothing_in zero room = refl
 nothing_in (suc n) room = nothing_in n room
 
-pub no_pairs : (lists : List Pairs) (room : ℕ) → lists ≡ replicate 16 (empty_list room) → pairs_in lists ≡ []
-no_pairs lists room is = ap pairs_in is ∙ nothing_in 16 room
+pub no_pairs : (lists : List Pairs) (room : ℕ) → lists ≡ replicate 256 (empty_list room) → pairs_in lists ≡ []
+no_pairs lists room is = ap pairs_in is ∙ nothing_in 256 room
 
-pub split_first : (lists : List Pairs) (room : ℕ) → lists ≡ replicate 16 (empty_list room) → IsSplit lists room
+pub split_first : (lists : List Pairs) (room : ℕ) → lists ≡ replicate 256 (empty_list room) → IsSplit lists room
 split_first lists room is = subst (λ (ls : List Pairs). IsSplit ls room) (sym is) (record {
-  many = length-replicate 16 (empty_list room);
+  many = length-replicate 256 (empty_list room);
   rooms = λ k lt. ap (λ (l : Pairs). l.room) (at k lt);
   apart = λ k u lt ne. ap (λ (l : Pairs). place_of l.pairs u) (at k lt);
 })
   where
-    at : (k : ℕ) → k < 16 → list_at (replicate 16 (empty_list room)) k ≡ empty_list room
-    at k lt = get_or-replicate 16 k (empty_list room) (empty_list 0) lt
+    at : (k : ℕ) → k < 256 → list_at (replicate 256 (empty_list room)) k ≡ empty_list room
+    at k lt = get_or-replicate 256 k (empty_list room) (empty_list 0) lt
 
 -- ---- a list is changed
 
 module _ (lists : List Pairs) (room u : ℕ) (split : IsSplit lists room) (x : Pairs)
-    (read : x ≡ get_or lists (u % 16) x) where
-  is_list : x ≡ list_at lists (u % 16)
-  is_list = get_or_read lists (u % 16) x (here lists room u split x) read (empty_list 0)
+    (read : x ≡ get_or lists (u % 256) x) where
+  is_list : x ≡ list_at lists (u % 256)
+  is_list = get_or_read lists (u % 256) x (here lists room u split x) read (empty_list 0)
 
   pub finds_list : place_of x.pairs u ≡ place_of (pairs_in lists) u
   finds_list = ap (λ (l : Pairs). place_of l.pairs u) is_list ∙ sym (place_split lists room u split)
 
   pub list_has_room : length (pairs_in lists) < room → length x.pairs < x.room
   list_has_room less =
-      let few = list_few lists (u % 16) (here lists room u split x) in
+      let few = list_few lists (u % 256) (here lists room u split x) in
       let same = ap (λ (l : Pairs). length l.pairs) is_list in
-      let rooms = ap (λ (l : Pairs). l.room) is_list ∙ split.rooms (u % 16) (remainder u) in
+      let rooms = ap (λ (l : Pairs). l.room) is_list ∙ split.rooms (u % 256) (remainder u) in
       omega (arith, few, same, rooms, less)
 
   module _ (y : Pairs) where
     abbrev after : List Pairs
-    after = set lists (u % 16) y
+    after = set lists (u % 256) y
 
     pub list_split : (place : Option ℕ) → SetsPlace x.pairs y.pairs u place → y.room ≡ x.room → IsSplit after room
     list_split place sets keeps = split_changed lists room u split y place

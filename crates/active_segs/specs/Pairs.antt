@@ -1,5 +1,5 @@
 -- What the rest of the crate sees of the index: a list of uids with their places, and how many it has room for.
-use Rattle.std.specs.Prelude.{◌≡◌, ◌≢◌, ℕ, ◌<◌, ◌≤◌, ◌%◌, ◌==◌, ◌++◌, List, [], ◌∷◌, Option, Some, None, length}
+use Rattle.std.specs.Prelude.{◌≡◌, ◌≢◌, ℕ, ◌<◌, ◌≤◌, ◌%◌, ◌==◌, List, [], ◌∷◌, Option, Some, None, length}
 use Rattle.std.specs.Prelude.{slice_index_or, if◌then◌else◌}
 use Rattle.std.specs.Prelude.{flat_map}
 
@@ -48,8 +48,8 @@ list_at lists k = slice_index_or lists k (empty_list 0)
 abbrev pub pairs_in : List Pairs → List (ℕ × ℕ)
 pairs_in lists = flat_map (λ list. list.pairs) lists
 
--- 16 lists, each with this room, and a uid is in no other than the one of its remainder
+-- 256 lists, each with this room, and a uid is in no other than the one of its remainder
 pub record IsSplit (lists : List Pairs) (room : ℕ) : Type 0 where
-  pub many : length lists ≡ 16
-  pub rooms : (k : ℕ) → k < 16 → (list_at lists k).room ≡ room
-  pub apart : (k uid : ℕ) → k < 16 → k ≢ uid % 16 → place_of (list_at lists k).pairs uid ≡ None
+  pub many : length lists ≡ 256
+  pub rooms : (k : ℕ) → k < 256 → (list_at lists k).room ≡ room
+  pub apart : (k uid : ℕ) → k < 256 → k ≢ uid % 256 → place_of (list_at lists k).pairs uid ≡ None

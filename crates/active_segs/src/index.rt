@@ -9,7 +9,7 @@ use std::alloc::Global;
 use std::marker::Model;
 
 /// How many lists the index has.
-const LISTS: u32 = 16;
+const LISTS: u32 = 256;
 
 /// The places of the active segments whose uids leave one remainder. It has room for a fixed number of them.
 #[derive(Drop)]
@@ -101,7 +101,7 @@ impl Model for Index {
 
 /// As many lists as the index has, each empty and with room for `room` segments.
 fn empty_lists(alloc: Global, room: usize) -> Result<Vec<Sorted>, NoMemory>
-    ensures { IfOk result (λ lists. lists.items ≡ replicate 16 (empty_list room)) }
+    ensures { IfOk result (λ lists. lists.items ≡ replicate 256 (empty_list room)) }
 {
     let mut lists = Vec::with_capacity(alloc, LISTS as usize)?;
     for _list in 0..LISTS {

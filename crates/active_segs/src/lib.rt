@@ -5,12 +5,13 @@
 //! be made active from the root down, and only a leaf can be made inactive (Bensoussan, Clingen and Daley 1972;
 //! Organick 1972). The four pools, the order of search and the choice of a victim are own.
 //!
-//! Costs: `new` takes all memory, once; beside the page tables the most of it is a bit for each two places, and 16
-//! lists of uids, each with room for every place. `search` halves the list of the uid's remainder by 16: at most 11
-//! looks at 1024 segments. `free_in` reads two words of a map of bits. `activate` and `deactivate` search, change a bit
-//! in two maps and move a part of one list of uids by one place, and `deactivate` writes each word of one page table.
-//! `victim` and `next_victim` look at the places of one pool from its hand on, each uid against the chain; then each
-//! step down to the leaf reads two words of a map of bits. All others cost one look.
+//! Costs: `new` takes all memory, once; beside the page tables the most of it is a bit for each two places, and 256
+//! lists of uids, each with room for every place. `search` halves the list of the uid's remainder by 256: two or three
+//! looks as a rule where 1024 segments are active, and at most 11. `free_in` reads two words of a map of bits.
+//! `activate` and `deactivate` search, change a bit in two maps and move a part of one list of uids by one place, and
+//! `deactivate` writes each word of one page table. `victim` and `next_victim` look at the places of one pool from its
+//! hand on, each uid against the chain; then each step down to the leaf reads two words of a map of bits. All others
+//! cost one look.
 #![tactic(auto)]
 
 ghost use Rattle.std.specs.Prelude.{◌≡◌, ◌≢◌, ◌<◌, ◌≤◌, ◌↔◌, ℕ, Some, None, length, sum, All, IsNone, IfOk, IfSome};

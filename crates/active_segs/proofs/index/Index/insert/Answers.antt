@@ -1,4 +1,4 @@
-use Rattle.std.proofs.Common.{◌≡◌, ◌+◌, ◌<◌, None, Some, ap, length, set, subst, sym, ◌%◌, ◌∙◌}
+use Rattle.std.proofs.Common.{◌+◌, ◌<◌, Some, ap, length, set, subst, sym, ◌%◌, ◌∙◌}
 use Rattle.active_segs.specs.Pairs.{Pairs, SetsPlace, pairs_in, place_of}
 use Rattle.active_segs.proofs.SplitLemmas.{finds_list, list_has_room, list_more, list_sets, list_split}
 use Rattle.active_segs.proofs.index.Index.insert.Goals as goal
@@ -20,7 +20,7 @@ invariant_of-self c = list_split c.self.inside.lists.items c.self.inside.room c.
 
 pub returns-clause-sets : goal.returns-clause-sets
 returns-clause-sets c = subst (λ (v : Pairs). SetsPlace v.pairs
-    (pairs_in (set c.self.inside.lists.items (c.args.uid % 16) c.insert.new.self)) c.args.uid (Some c.args.place))
+    (pairs_in (set c.self.inside.lists.items (c.args.uid % 256) c.insert.new.self)) c.args.uid (Some c.args.place))
     c.self.view_is
     (list_sets c.self.inside.lists.items c.self.inside.room c.args.uid c.self.invariant c.index_mut.result.now
     c.index_mut.ensures.value c.insert.new.self (Some c.args.place) c.insert.ensures.sets c.insert.ensures.room)

@@ -1,4 +1,4 @@
-use Rattle.std.proofs.Common.{◌≡◌, ℕ, None, Option, ap, length, set, subst, sym, ◌%◌, ◌∙◌}
+use Rattle.std.proofs.Common.{ℕ, None, Option, ap, length, set, subst, sym, ◌%◌, ◌∙◌}
 use Rattle.std.specs.Prelude.{IsSome}
 use Rattle.active_segs.specs.Pairs.{Pairs, SetsPlace, pairs_in, place_of}
 use Rattle.active_segs.proofs.SplitLemmas.{finds_list, list_less, list_sets, list_split}
@@ -18,7 +18,7 @@ invariant_of-self c = list_split c.self.inside.lists.items c.self.inside.room c.
 
 pub returns-clause-sets : goal.returns-clause-sets
 returns-clause-sets c = subst (λ (v : Pairs). SetsPlace v.pairs
-    (pairs_in (set c.self.inside.lists.items (c.args.uid % 16) c.remove.new.self)) c.args.uid None) c.self.view_is
+    (pairs_in (set c.self.inside.lists.items (c.args.uid % 256) c.remove.new.self)) c.args.uid None) c.self.view_is
     (list_sets c.self.inside.lists.items c.self.inside.room c.args.uid c.self.invariant c.index_mut.result.now
     c.index_mut.ensures.value c.remove.new.self None c.remove.ensures.sets c.remove.ensures.room)
 
