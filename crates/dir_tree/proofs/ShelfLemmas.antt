@@ -233,9 +233,9 @@ module _ (nodes : List Node) (xs : List (List ℕ)) (hashes : List ℕ) (place h
   other_place : (p : ℕ) → HasPlace (concat xs) p → p ≢ place
   other_place p there e = new there.at there.within (ap (λ (q : ℕ). key_of (node_at nodes q)) (there.is ∙ e))
 
-  module _ (bound : shelf_of hash < 16) (slot : place < length hashes) where
+  module _ (bound : shelf_of hash < 64) (slot : place < length hashes) where
     on_one : mine < length xs
-    on_one = (let n : length xs ≡ 16 = shelved.count in omega (arith, bound, n))
+    on_one = (let n : length xs ≡ 64 = shelved.count in omega (arith, bound, n))
 
     pub ordered_shelved : IsOrdered nodes (concat more) (set hashes place hash)
     ordered_shelved = rw (concat_insert xs mine at place on_one within)
@@ -327,7 +327,7 @@ pub inserted : (nodes : List Node) (xs : List (List ℕ)) (hashes : List ℕ) (p
     → IsOrdered nodes (concat xs) hashes → AreShelved xs hashes → hash ≡ key_hash key
     → key ≡ key_of (node_at nodes place)
     → ((k : ℕ) → k < length (concat xs) → key_at nodes (concat xs) k ≢ key_of (node_at nodes place))
-    → m ≡ shelf_of hash → m < 16 → ps ≡ shelf_at xs m → at ≤ length ps
+    → m ≡ shelf_of hash → m < 64 → ps ≡ shelf_at xs m → at ≤ length ps
     → ((k : ℕ) → k < at → key_cmp (key_at nodes ps k) key ≡ Less)
     → ((k : ℕ) → at ≤ k → k < length ps → key_cmp (key_at nodes ps k) key ≢ Less)
     → place < length hashes → on ≡ insert (shelf_at xs m) at place
@@ -345,7 +345,7 @@ inserted nodes xs hashes place hash m at ps on key order shelved is own new e bo
     → key_cmp (key_at nodes (shelf_at xs (shelf_of hash)) k) x ≢ Less) own
     (subst (λ (l : List ℕ). (k : ℕ) → at ≤ k → k < length l → key_cmp (key_at nodes l k) key ≢ Less) same from) in
     let hashed : hash ≡ key_hash (key_of (node_at nodes place)) = is ∙ ap key_hash own in
-    let few : shelf_of hash < 16 = subst (λ (n : ℕ). n < 16) e bound in
+    let few : shelf_of hash < 64 = subst (λ (n : ℕ). n < 64) e bound in
     let now : set xs m on ≡ set xs (shelf_of hash) (insert (shelf_at xs (shelf_of hash)) at place) =
     ap (set xs m) put ∙ ap (λ (n : ℕ). set xs n (insert (shelf_at xs n) at place)) e in
     rw now (record {
@@ -375,10 +375,10 @@ removed nodes xs hashes place m at ps on order shelved shelf within is put =
     })
 
 -- a shelf that is read
-pub shelf_read : (xs : List (List ℕ)) (hashes : List ℕ) (m : ℕ) (x : List ℕ) → AreShelved xs hashes → m < 16
+pub shelf_read : (xs : List (List ℕ)) (hashes : List ℕ) (m : ℕ) (x : List ℕ) → AreShelved xs hashes → m < 64
     → x ≡ get_or xs m x → x ≡ shelf_at xs m
 shelf_read xs hashes m x shelved lt read =
-    get_or_read xs m x (let n : length xs ≡ 16 = shelved.count in omega (arith, lt, n)) read []
+    get_or_read xs m x (let n : length xs ≡ 64 = shelved.count in omega (arith, lt, n)) read []
 
 -- the place of a branch stands on the shelf of its hash
 pub on_own : (xs : List (List ℕ)) (hashes : List ℕ) (place m : ℕ) → AreShelved xs hashes → HasPlace (concat xs) place
@@ -398,7 +398,7 @@ none_then (Some p) A B none then = tt
 none_then None A B none then = then none
 
 -- empty shelves
-pub none_shelved : (xs : List (List ℕ)) (hashes : List ℕ) → length xs ≡ 16 → ((m : ℕ) → shelf_at xs m ≡ [])
+pub none_shelved : (xs : List (List ℕ)) (hashes : List ℕ) → length xs ≡ 64 → ((m : ℕ) → shelf_at xs m ≡ [])
     → AreShelved xs hashes
 none_shelved xs hashes count empty = record {
   count = count;

@@ -96,11 +96,11 @@ before (shelf ∷ shelves) (suc m) = length shelf + before shelves m
 abbrev pub shelf_at : List (List ℕ) → ℕ → List ℕ
 shelf_at shelves m = slice_index_or shelves m []
 
--- the shelf of a hash: its first four bits
+-- the shelf of a hash: its first six bits
 abbrev pub shelf_of : ℕ → ℕ
-shelf_of hash = hash / 2 ^ 28
+shelf_of hash = hash / 2 ^ 26
 
 -- each place stands on the shelf of its hash
 pub record AreShelved (shelves : List (List ℕ)) (hashes : List ℕ) : Type 0 where
-  pub count : length shelves ≡ 16
+  pub count : length shelves ≡ 64
   pub shelved : (m place : ℕ) → HasPlace (shelf_at shelves m) place → shelf_of (slice_index hashes place) ≡ m

@@ -1,5 +1,5 @@
 //! The index of the branches by superior and name: a list of the branches' places, in the order of a hash of these, and
-//! then of these. It stands on 16 shelves, by the first bits of the hash.
+//! then of these. It stands on 64 shelves, by the first bits of the hash.
 
 ghost use Rattle.std.specs.Prelude.{◌≡◌, ◌≢◌, ℕ, ◌<◌, ◌≤◌, ◌+◌, ◌↔◌, ◌⊎◌, Some, true, false, [], length, IfOk, IfSome};
 ghost use Rattle.std.specs.Prelude.{IfNone, slice_index};
@@ -20,15 +20,15 @@ use std::alloc::Global;
 use std::cmp::Ordering;
 use std::marker::Model;
 
-/// How many shelves there are: one for each number of the first four bits of a hash.
-const SHELVES: usize = 16;
+/// How many shelves there are: one for each number of the first six bits of a hash.
+const SHELVES: usize = 64;
 
 /// The shelf of the branches of a hash.
 fn shelf_of(hash: u32) -> usize
     ensures shelf { result ≡ shelf_of hash }
-    ensures within { result < 16 }
+    ensures within { result < 64 }
 {
-    (hash >> 28) as usize
+    (hash >> 26) as usize
 }
 
 /// The places of the branches whose hashes begin alike, with room for all branches.
@@ -84,9 +84,9 @@ impl Shelf {
     }
 }
 
-/// Empty shelves, one for each number of the first four bits of a hash.
+/// Empty shelves, one for each number of the first six bits of a hash.
 fn empty_shelves(alloc: Global) -> Result<Vec<Shelf>, NoMemory>
-    ensures count { IfOk result (λ shelves. length shelves.items ≡ 16) }
+    ensures count { IfOk result (λ shelves. length shelves.items ≡ 64) }
     ensures empty { IfOk result (λ shelves. (m : ℕ) → shelf_at shelves.items m ≡ []) }
 {
     let mut shelves = Vec::with_capacity(alloc, SHELVES)?;
@@ -97,7 +97,7 @@ fn empty_shelves(alloc: Global) -> Result<Vec<Shelf>, NoMemory>
 }
 
 /// The places of the branches, in the order of their hashes, and those of one hash in that of superior and name: on a
-/// shelf for each number of the first four bits of a hash. It has room for 4096 of them.
+/// shelf for each number of the first six bits of a hash. It has room for 4096 of them.
 #[derive(Drop)]
 pub(crate) struct Index {
     shelves: Vec<Shelf>,
