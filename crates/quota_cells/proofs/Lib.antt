@@ -6,6 +6,7 @@ pub mod EnterLaws
 pub mod FitLaws
 pub mod MoveLaws
 pub mod OverLaws
+pub mod PadLaws
 pub mod PlaceLaws
 pub mod RowLaws
 pub mod ScratchLaws

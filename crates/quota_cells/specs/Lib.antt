@@ -4,3 +4,4 @@ pub mod Columns
 pub mod Laws
 pub mod Moves
 pub mod Scratch
+pub mod Tables

@@ -9,8 +9,9 @@ ghost use Rattle.quota_cells.specs.Columns.{AreThere, IsFalling, CanChange, CanG
 ghost use Rattle.quota_cells.specs.Columns.{HasRoom, counted_on, counted};
 ghost use Rattle.quota_cells.specs.Moves.{cell_in};
 
+use crate::by_uid::ByUid;
 use crate::numbers::Numbers;
-use dir_tree::{ROOT, UIDS};
+use dir_tree::ROOT;
 use std::alloc::{AllocError, Global};
 use std::marker::Model;
 
@@ -60,19 +61,16 @@ impl Pages {
 #[derive(Drop)]
 pub(crate) struct Directories {
     quotas: Numbers,
-    loads: Vec<u32>,
+    loads: ByUid,
 }
 
 impl Model for Directories {
-    ghost use Rattle.std.specs.Prelude.{◌≡◌, vec_len};
     ghost use Rattle.quota_cells.specs.Cells.{CellMaps};
     ghost use Rattle.quota_cells.specs.Columns.{beside, directory_maps};
 
     ghost Value = { CellMaps };
 
-    ghost view = { λ d. directory_maps d.quotas (beside d.loads.items d.quotas.uids) };
-
-    ghost invariant = { λ d. vec_len d.loads ≡ 100003 };
+    ghost view = { λ d. directory_maps d.quotas (beside d.loads d.quotas.uids) };
 }
 
 impl Directories {
@@ -81,7 +79,7 @@ impl Directories {
         ensures { IfOk result (λ d. d ≡ root_cell root_quota) }
     {
         let quotas = Numbers::new(alloc)?;
-        let loads = vec![in alloc; 0; UIDS as usize]?;
+        let loads = ByUid::new(alloc)?;
         let mut directories = Directories { quotas, loads };
         directories.enter(ROOT);
         directories.set_quota(ROOT, root_quota);
@@ -105,7 +103,7 @@ impl Directories {
         Cell {
             uid,
             quota: self.quotas.at(uid),
-            load: self.loads[place],
+            load: self.loads.number(place),
         }
     }
 
@@ -142,7 +140,7 @@ impl Directories {
         ensures { self.new ≡ record self.old { loads = with_value self.old.directories self.old.loads uid load } }
     {
         let place = self.quotas.place(uid);
-        self.loads[place] = load;
+        self.loads.put(place, load);
     }
 
     /// Sets the quota of a directory.
@@ -217,7 +215,7 @@ impl Directories {
         ensures { self.new ≡ with_directory self.old uid }
     {
         self.quotas.enter(uid);
-        self.loads[uid as usize] = 0;
+        self.loads.put(uid as usize, 0);
     }
 
     /// Drops the cell of a directory.

@@ -6,14 +6,15 @@
 //! becomes an account or is one no more, its load is taken from the directories above it up to the nearest account,
 //! or added there, and no page is counted again.
 //!
-//! Costs: `new` takes all memory, once: for each of 100,003 uids 9 bytes as a directory and 5 as a segment, in tables
-//! by uid. A look-up reads a table or two. To go up is to read the directories above a node from the tree, at most 9
-//! with one look-up each, and to look their cells up to the first account. `credit` goes up once from the segment, for
-//! one page or for many, and `charge` reads what is above it once, and looks it up twice: to see whether the account is
-//! full, and to count. `move_quota` reads what is above the directory, and then what is above its superior to see
-//! whether the quota may move, where it looks at no more than three accounts for one that would be above its quota;
-//! then it goes up from each of the two directories. `enter` and `leave` write two or three places. None but `new`
-//! takes memory.
+//! Costs: `new` takes all memory, once: room for 100,003 uids, 9 bytes for each as a directory and 5 as a segment, in
+//! tables by uid. Of these it writes whether a uid is there; a number is written once it or that of a later uid is set.
+//! A look-up reads a table or two. To go up is to read the directories above a node from the tree, at most 9 with one
+//! look-up each, and to look their cells up to the first account. `credit` goes up once from the segment, for one page
+//! or for many, and `charge` reads what is above it once, and looks it up twice: to see whether the account is full,
+//! and to count. `move_quota` reads what is above the directory, and then what is above its superior to see whether the
+//! quota may move, where it looks at no more than three accounts for one that would be above its quota; then it goes up
+//! from each of the two directories. `enter` and `leave` write two or three places, and `enter` the numbers of uids
+//! before its own that weren't. None but `new` takes memory.
 #![tactic(auto)]
 
 ghost use Rattle.std.specs.Prelude.{◌≡◌, ◌≢◌, ◌<◌, ◌≤◌, ◌+◌, ◌-◌, ◌^◌, ◌==◌, ◌&&◌, ◌||◌, not, ℕ, Bool, true, false};
@@ -36,6 +37,7 @@ ghost use Rattle.quota_cells.specs.Scratch.{HoldCounts, charge_answer, scratch_a
 ghost use Rattle.std.specs.Int.RustNames.{unsigned_abs};
 ghost use Rattle.std.specs.Int.{is_positive};
 
+mod by_uid;
 mod directories;
 mod moves;
 mod numbers;

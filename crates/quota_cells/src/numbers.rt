@@ -5,6 +5,7 @@ ghost use Rattle.quota_cells.specs.Accounts.{has, look, with_value};
 ghost use Rattle.quota_cells.specs.Cells.{IsRising};
 ghost use Rattle.quota_cells.specs.Columns.{no_numbers, with_uid, without_uid};
 
+use crate::by_uid::ByUid;
 use dir_tree::UIDS;
 use std::alloc::{AllocError, Global};
 use std::marker::Model;
@@ -15,7 +16,7 @@ pub(crate) struct Numbers {
     /// Whether a uid is one of them.
     there: Vec<bool>,
     /// The number of each; what stands beside any other uid means nothing.
-    values: Vec<u32>,
+    values: ByUid,
 }
 
 impl Model for Numbers {
@@ -24,9 +25,9 @@ impl Model for Numbers {
 
     ghost Value = { NumberMap };
 
-    ghost view = { λ n. numbers_of n.there.items n.values.items };
+    ghost view = { λ n. numbers_of n.there.items n.values };
 
-    ghost invariant = { λ n. (vec_len n.there ≡ 100003) × (vec_len n.values ≡ 100003) };
+    ghost invariant = { λ n. vec_len n.there ≡ 100003 };
 }
 
 impl Numbers {
@@ -35,7 +36,7 @@ impl Numbers {
         ensures { IfOk result (λ n. n ≡ no_numbers) }
     {
         let there = vec![in alloc; false; UIDS as usize]?;
-        let values = vec![in alloc; 0; UIDS as usize]?;
+        let values = ByUid::new(alloc)?;
         Ok(Numbers { there, values })
     }
 
@@ -67,7 +68,7 @@ impl Numbers {
         ensures { result ≡ look self.now.uids self.now.values uid }
     {
         let place = self.place(uid);
-        self.values[place]
+        self.values.number(place)
     }
 
     /// The number of a uid; 0 where it has none.
@@ -86,7 +87,7 @@ impl Numbers {
         ensures { self.new ≡ record self.old { values = with_value self.old.uids self.old.values uid value } }
     {
         let place = self.place(uid);
-        self.values[place] = value;
+        self.values.put(place, value);
     }
 
     /// Adds a uid with the number 0.
@@ -97,7 +98,7 @@ impl Numbers {
         ensures rising { IsRising self.old.uids }
     {
         self.there[uid as usize] = true;
-        self.values[uid as usize] = 0;
+        self.values.put(uid as usize, 0);
     }
 
     /// Drops a uid and its number.

@@ -1,5 +1,4 @@
-use Rattle.std.proofs.Common.{◌≡◌, ◌<◌, true, length, get_or, sym, ap, subst, ◌∙◌, arith}
-use Rattle.std.proofs.lemmas.List.{get_or_read}
+use Rattle.std.proofs.Common.{◌≡◌, true, get_or, sym, ap, subst, ◌∙◌}
 use Rattle.quota_cells.specs.Accounts.{has, look}
 use Rattle.quota_cells.specs.Cells.{CellMaps}
 use Rattle.quota_cells.specs.Columns.{NumberMap, beside}
@@ -7,20 +6,14 @@ use Rattle.quota_cells.specs.Moves.{cell_in}
 use Rattle.quota_cells.proofs.TableLaws.{look_beside}
 use Rattle.quota_cells.proofs.directories.Directories.cell_there.Goals as goal
 
-pub index-requires : goal.index-requires
-index-requires c = omega (arith, c.place-place.ensures.within, c.self.invariant, c.self.inside.loads.ok.0)
-
 pub returns-clause-cell : goal.returns-clause-cell
 returns-clause-cell c =
     let quotas : NumberMap = c.self.inside.quotas in
     let there : has quotas.uids c.args.uid ≡ true =
     subst (λ (m : CellMaps). has m.directories c.args.uid ≡ true) (sym c.self.view_is) c.requires in
-    let within : c.place-place.result < length c.self.inside.loads.items =
-    omega (arith, c.place-place.ensures.within, c.self.invariant, c.self.inside.loads.ok.0) in
     let quota = c.at.ensures in
-    let load : c.index.result.now ≡ look quotas.uids (beside c.self.inside.loads.items quotas.uids) c.args.uid =
-    get_or_read c.self.inside.loads.items c.place-place.result c.index.result.now within c.index.ensures 0
-    ∙ ap (λ p. get_or c.self.inside.loads.items p 0) c.place-place.ensures.is
-    ∙ sym (look_beside c.self.inside.loads.items quotas.uids c.args.uid there) in
+    let load : c.number.result ≡ look quotas.uids (beside c.self.inside.loads quotas.uids) c.args.uid =
+    c.number.ensures ∙ ap (λ p. get_or c.self.inside.loads p 0) c.place-place.ensures.is
+    ∙ sym (look_beside c.self.inside.loads quotas.uids c.args.uid there) in
     (λ i. record { uid = c.args.uid; quota = quota i; load = load i })
     ∙ ap (λ (m : CellMaps). cell_in m c.args.uid) c.self.view_is

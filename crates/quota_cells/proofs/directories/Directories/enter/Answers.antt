@@ -1,21 +1,19 @@
-use Rattle.std.proofs.Common.{◌≡◌, false, set, sym, ap, subst, ◌∙◌, arith}
+use Rattle.std.proofs.Common.{◌≡◌, ℕ, List, false, set, sym, ap, subst, ◌∙◌, arith}
 use Rattle.quota_cells.specs.Accounts.{has}
 use Rattle.quota_cells.specs.Cells.{CellMaps, with_directory}
 use Rattle.quota_cells.specs.Columns.{NumberMap, beside, directory_maps, with_uid}
 use Rattle.quota_cells.proofs.TableLaws.{entered_in_order}
 use Rattle.quota_cells.proofs.directories.Directories.enter.Goals as goal
 
-pub index_mut-requires : goal.index_mut-requires
-index_mut-requires c = omega (arith, c.requires.bound, c.self.invariant, c.self.inside.loads.ok.0)
-
 pub returns : goal.returns
 returns c =
     let quotas : NumberMap = c.self.inside.quotas in
     let off : has quotas.uids c.args.uid ≡ false =
     subst (λ (m : CellMaps). has m.directories c.args.uid ≡ false) (sym c.self.view_is) c.requires.absent in
-    ap (λ (q : NumberMap). directory_maps q (beside (set c.self.inside.loads.items c.args.uid 0) q.uids))
+    ap (λ (l : List ℕ). directory_maps c.enter.new.self (beside l c.enter.new.self.uids)) c.put.ensures.number
+    ∙ ap (λ (q : NumberMap). directory_maps q (beside (set c.self.inside.loads c.args.uid 0) q.uids))
     c.enter.ensures.numbers
-    ∙ ap (directory_maps (with_uid quotas c.args.uid)) (entered_in_order c.self.inside.loads.items quotas.uids
+    ∙ ap (directory_maps (with_uid quotas c.args.uid)) (entered_in_order c.self.inside.loads quotas.uids
     c.enter.ensures.rising c.args.uid off
-    (omega (arith, c.requires.bound, c.self.invariant, c.self.inside.loads.ok.0)))
+    (omega (arith, c.requires.bound, c.put.ensures.size)))
     ∙ ap (λ (m : CellMaps). with_directory m c.args.uid) c.self.view_is

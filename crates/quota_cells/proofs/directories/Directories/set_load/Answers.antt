@@ -1,26 +1,23 @@
-use Rattle.std.proofs.Common.{◌≡◌, true, set, sym, ap, subst, ◌∙◌, arith}
+use Rattle.std.proofs.Common.{◌≡◌, ℕ, List, true, set, sym, ap, subst, ◌∙◌, arith}
 use Rattle.quota_cells.specs.Accounts.{has, with_value}
 use Rattle.quota_cells.specs.Cells.{CellMaps, with_loads}
 use Rattle.quota_cells.specs.Columns.{NumberMap, beside, directory_maps}
 use Rattle.quota_cells.proofs.TableLaws.{set_in_order}
 use Rattle.quota_cells.proofs.directories.Directories.set_load.Goals as goal
 
-pub index_mut-requires : goal.index_mut-requires
-index_mut-requires c = omega (arith, c.place-place.ensures.within, c.self.invariant, c.self.inside.loads.ok.0)
-
 pub returns : goal.returns
 returns c =
     let quotas : NumberMap = c.self.inside.quotas in
     let there : has quotas.uids c.args.uid ≡ true =
     subst (λ (m : CellMaps). has m.directories c.args.uid ≡ true) (sym c.self.view_is) c.requires in
-    ap (λ p. directory_maps quotas (beside (set c.self.inside.loads.items p c.args.load) quotas.uids))
+    ap (λ (l : List ℕ). directory_maps quotas (beside l quotas.uids)) c.put.ensures.number
+    ∙ ap (λ p. directory_maps quotas (beside (set c.self.inside.loads p c.args.load) quotas.uids))
     c.place-place.ensures.is
-    ∙ ap (directory_maps quotas) (set_in_order c.self.inside.loads.items quotas.uids c.place-place.ensures.rising
+    ∙ ap (directory_maps quotas) (set_in_order c.self.inside.loads quotas.uids c.place-place.ensures.rising
     c.args.uid c.args.load there (omega (
       arith,
       c.place-place.ensures.is,
       c.place-place.ensures.within,
-      c.self.invariant,
-      c.self.inside.loads.ok.0,
+      c.put.ensures.size,
     )))
     ∙ ap (λ (m : CellMaps). with_loads m (with_value m.directories m.loads c.args.uid c.args.load)) c.self.view_is

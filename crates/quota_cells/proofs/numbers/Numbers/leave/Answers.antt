@@ -3,9 +3,9 @@ use Rattle.quota_cells.proofs.TableLaws.{number_left}
 use Rattle.quota_cells.proofs.numbers.Numbers.leave.Goals as goal
 
 pub index_mut-requires : goal.index_mut-requires
-index_mut-requires c = omega (arith, c.place-place.ensures.within, c.self.invariant.0, c.self.inside.there.ok.0)
+index_mut-requires c = omega (arith, c.place-place.ensures.within, c.self.invariant, c.self.inside.there.ok.0)
 
 pub returns : goal.returns
 returns c =
-    number_left c.self.inside.there.items c.self.inside.values.items c.args.self.now c.self.view_is c.place-place.result
+    number_left c.self.inside.there.items c.self.inside.values c.args.self.now c.self.view_is c.place-place.result
     c.args.uid c.place-place.ensures.is c.requires

@@ -1,17 +1,15 @@
-use Rattle.std.proofs.Common.{arith}
+use Rattle.std.proofs.Common.{ap, ◌∙◌, arith, List, ℕ}
+use Rattle.quota_cells.specs.Columns.{numbers_of}
 use Rattle.quota_cells.proofs.TableLaws.{number_set}
 use Rattle.quota_cells.proofs.numbers.Numbers.set.Goals as goal
 
-pub index_mut-requires : goal.index_mut-requires
-index_mut-requires c = omega (arith, c.place-place.ensures.within, c.self.invariant.1, c.self.inside.values.ok.0)
-
 pub returns : goal.returns
 returns c =
-    number_set c.self.inside.there.items c.self.inside.values.items c.args.self.now c.self.view_is c.place-place.result
+    ap (λ (v : List ℕ). numbers_of c.self.inside.there.items v) c.put.ensures.number
+    ∙ number_set c.self.inside.there.items c.self.inside.values c.args.self.now c.self.view_is c.place-place.result
     c.args.uid c.args.value c.place-place.ensures.is c.requires (omega (
       arith,
       c.place-place.ensures.is,
       c.place-place.ensures.within,
-      c.self.invariant.1,
-      c.self.inside.values.ok.0,
+      c.put.ensures.size,
     ))
