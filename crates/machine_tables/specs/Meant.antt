@@ -1,5 +1,5 @@
 -- The action of the machine's model that an action names.
-use Rattle.std.specs.Prelude.{ℕ, not, if◌then◌else◌, Option, Some, None, Result, Ok, Err}
+use Rattle.std.specs.Prelude.{ℕ, not, if◌then◌else◌, Option, Some, None}
 use Rattle.script.specs.References.{reference_of}
 use Rattle.script.specs.declared.commands.Command.{Command}
 use Rattle.script.specs.declared.commands.Reference.{Reference}
@@ -66,11 +66,6 @@ meant s k action.Commit = act.Commit
 abbrev pub refers : Option Command → Option Reference
 refers None = None
 refers (Some c) = reference_of c
-
--- what follows from a frame for a page, or what is done first
-abbrev pub in_frame : State → ℕ → Result ℕ Action → (ℕ → act.Action) → act.Action
-in_frame s k (Ok frame) into = into frame
-in_frame s k (Err first) into = meant s k first
 
 -- an action, unless something is done first
 abbrev pub unless_first : State → ℕ → Option Action → act.Action → act.Action

@@ -4,15 +4,17 @@ ghost use Rattle.std.specs.Prelude.{◌≡◌, ℕ, All, false, length};
 ghost use Rattle.std.specs.List.{list_any};
 ghost use Rattle.core_map.specs.CoreMap.{is_bound, is_free, least_free_frame};
 ghost use Rattle.core_map.specs.Clock.{clock_choice};
-ghost use Rattle.machine_model.specs.Actions.{Action as Rule, evict_or_wait, into_frame, room_for, unless_read};
+ghost use Rattle.machine_model.specs.Actions.{Action as Rule, Create, Start, evict_or_wait, into_frame, room_for};
+ghost use Rattle.machine_model.specs.Actions.{unless_read};
 ghost use Rattle.machine_model.specs.Reads.{frame_reading};
-ghost use Rattle.machine_tables.specs.Meant.{in_frame, meant, unless_first};
+ghost use Rattle.machine_tables.specs.Meant.{meant, unless_first};
 ghost use Rattle.machine_tables.specs.Reading.{AreRead, test_of};
 
 use crate::action::{Action, Why};
 use crate::reading::Pages;
 use crate::tables::Tables;
 use core_map::CoreMap;
+use script::Reference;
 use volumes::Drive;
 
 /// Whether one of so many frames has a page. It looks at them up to the first that has one.
@@ -71,34 +73,58 @@ impl<D: Drive> Tables<D> {
         Some(Action::Waits(Why::ForTransfer(frame)))
     }
 
-    /// The least free frame.
-    ///
-    /// # Errors
-    /// What is done first, where none is free.
-    fn free_frame(&self) -> Result<u32, Action>
+    /// A page of a segment is being read into the least free frame from now on, or what is done where none is free.
+    fn start_in_free(&self, uid: u32, page: u32) -> Action
         requires { length self.now.state.store.pages.core.frames ≡ self.now.state.plan.frames }
-        ensures { (k : ℕ) (into : ℕ → Rule) → in_frame self.now.state k result into
-            ≡ into_frame self.now.state.store.pages.core (least_free_frame self.now.state.store.pages.core) into }
+        ensures { (k : ℕ) → meant self.now.state k result ≡ into_frame self.now.state.store.pages.core
+            (least_free_frame self.now.state.store.pages.core) (λ f. Start f uid page) }
     {
         match self.core().take_free() {
-            Some(frame) => Ok(frame),
-            None => Err(self.evict_or_wait()),
+            Some(frame) => Action::Start { frame, uid, page },
+            None => self.evict_or_wait(),
         }
     }
 
-    /// The least free frame for a page of a segment.
-    ///
-    /// # Errors
-    /// What is done first, where the page is being read into a frame, or none is free.
-    pub(crate) fn room_for(&self, uid: u32, page: u32) -> Result<u32, Action>
+    /// A page is made in the least free frame for a reference, or what is done where none is free.
+    fn make_in_free(&self, reference: Reference, uid: u32, page: u32) -> Action
+        requires { length self.now.state.store.pages.core.frames ≡ self.now.state.plan.frames }
+        ensures { (k : ℕ) → meant self.now.state k result ≡ into_frame self.now.state.store.pages.core
+            (least_free_frame self.now.state.store.pages.core) (λ f. Create f uid page reference) }
+    {
+        match self.core().take_free() {
+            Some(frame) => Action::Create {
+                frame,
+                uid,
+                page,
+                reference,
+            },
+            None => self.evict_or_wait(),
+        }
+    }
+
+    /// A page is being read into a frame from now on, or what is done first.
+    pub(crate) fn begin_reading(&self, uid: u32, page: u32) -> Action
         requires frames { length self.now.state.store.pages.core.frames ≡ self.now.state.plan.frames }
         requires reads { AreRead self.now.state.store.pages.core self.now.state.processors }
-        ensures { (k : ℕ) (into : ℕ → Rule) → in_frame self.now.state k result into
-            ≡ room_for self.now.state.store.pages.core uid page into }
+        ensures { (k : ℕ) → meant self.now.state k result
+            ≡ room_for self.now.state.store.pages.core uid page (λ f. Start f uid page) }
     {
         match self.first_read(uid, Pages::Only(page)) {
-            Some(first) => Err(first),
-            None => self.free_frame(),
+            Some(first) => first,
+            None => self.start_in_free(uid, page),
+        }
+    }
+
+    /// A page is made in a frame for a reference, or what is done first.
+    pub(crate) fn make_page(&self, reference: Reference, uid: u32, page: u32) -> Action
+        requires frames { length self.now.state.store.pages.core.frames ≡ self.now.state.plan.frames }
+        requires reads { AreRead self.now.state.store.pages.core self.now.state.processors }
+        ensures { (k : ℕ) → meant self.now.state k result
+            ≡ room_for self.now.state.store.pages.core uid page (λ f. Create f uid page reference) }
+    {
+        match self.first_read(uid, Pages::Only(page)) {
+            Some(first) => first,
+            None => self.make_in_free(reference, uid, page),
         }
     }
 }

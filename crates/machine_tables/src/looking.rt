@@ -7,7 +7,7 @@ ghost use Rattle.descriptor_seg.specs.declared.Sdw.TheVariants.{Fault};
 ghost use Rattle.active_segs.specs.Active.{IsActive};
 ghost use Rattle.tree_model.specs.Trees.{has_segment};
 ghost use Rattle.seg_control.specs.Control.{table_of};
-ghost use Rattle.machine_model.specs.Actions.{BeginMove, Create, Start, any_page, look_at_descriptor};
+ghost use Rattle.machine_model.specs.Actions.{BeginMove, Create, any_page, look_at_descriptor};
 ghost use Rattle.machine_model.specs.Actions.{look_at_page, look_at_word, look_for_reference, look_to_create, move_or};
 ghost use Rattle.machine_model.specs.Actions.{room_for, unless_read};
 ghost use Rattle.machine_model.specs.Keeps.{IsFaithful};
@@ -51,37 +51,6 @@ impl<D: Drive> Tables<D> {
         ensures { result ≡ room_refusal self.now.state process reference.now }
     {
         self.store.room_refusal(process, reference)
-    }
-
-    /// A page is being read into a frame from now on, or what is done first.
-    pub(crate) fn begin_reading(&self, uid: u32, page: u32) -> Action
-        requires frames { length self.now.state.store.pages.core.frames ≡ self.now.state.plan.frames }
-        requires reads { AreRead self.now.state.store.pages.core self.now.state.processors }
-        ensures { (k : ℕ) → meant self.now.state k result
-            ≡ room_for self.now.state.store.pages.core uid page (λ f. Start f uid page) }
-    {
-        match self.room_for(uid, page) {
-            Ok(frame) => Action::Start { frame, uid, page },
-            Err(first) => first,
-        }
-    }
-
-    /// A page is made in a frame for a reference, or what is done first.
-    fn make_page(&self, reference: Reference, uid: u32, page: u32) -> Action
-        requires frames { length self.now.state.store.pages.core.frames ≡ self.now.state.plan.frames }
-        requires reads { AreRead self.now.state.store.pages.core self.now.state.processors }
-        ensures { (k : ℕ) → meant self.now.state k result
-            ≡ room_for self.now.state.store.pages.core uid page (λ f. Create f uid page reference) }
-    {
-        match self.room_for(uid, page) {
-            Ok(frame) => Action::Create {
-                frame,
-                uid,
-                page,
-                reference,
-            },
-            Err(first) => first,
-        }
     }
 
     /// The volume that a segment moves to before a page more of it is made: the first that has room for it, where all

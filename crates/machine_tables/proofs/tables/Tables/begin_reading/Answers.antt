@@ -1,5 +1,13 @@
-use Rattle.machine_model.specs.Actions.{Start}
+use Rattle.std.proofs.Common.{◌∙◌}
+use Rattle.core_map.specs.CoreMap.{least_free_frame}
+use Rattle.machine_model.specs.Actions.{Start, into_frame}
 use Rattle.machine_tables.proofs.tables.Tables.begin_reading.Goals as goal
 
-pub returns-in-Ok : goal.returns-in-Ok
-returns-in-Ok g c = λ k. c.in-Ok.ensures k (λ f. Start f c.args.uid c.args.page)
+pub returns-in-Some : goal.returns-in-Some
+returns-in-Some g c = λ k. c.in-Some.ensures k (into_frame c.args.self.now.state.store.pages.core
+    (least_free_frame c.args.self.now.state.store.pages.core) (λ f. Start f c.args.uid c.args.page))
+
+pub returns-in-None : goal.returns-in-None
+returns-in-None g c = λ k. c.start_in_free.ensures k
+    ∙ c.in-None.ensures k (into_frame c.args.self.now.state.store.pages.core
+    (least_free_frame c.args.self.now.state.store.pages.core) (λ f. Start f c.args.uid c.args.page))

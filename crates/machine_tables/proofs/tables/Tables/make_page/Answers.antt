@@ -1,5 +1,15 @@
-use Rattle.machine_model.specs.Actions.{Create}
+use Rattle.std.proofs.Common.{◌∙◌}
+use Rattle.core_map.specs.CoreMap.{least_free_frame}
+use Rattle.machine_model.specs.Actions.{Create, into_frame}
 use Rattle.machine_tables.proofs.tables.Tables.make_page.Goals as goal
 
-pub returns-in-Ok : goal.returns-in-Ok
-returns-in-Ok g c = λ k. c.in-Ok.ensures k (λ f. Create f c.args.uid c.args.page c.args.reference)
+pub returns-in-Some : goal.returns-in-Some
+returns-in-Some g c = λ k. c.in-Some.ensures k (into_frame c.args.self.now.state.store.pages.core
+    (least_free_frame c.args.self.now.state.store.pages.core)
+    (λ f. Create f c.args.uid c.args.page c.args.reference))
+
+pub returns-in-None : goal.returns-in-None
+returns-in-None g c = λ k. c.make_in_free.ensures k
+    ∙ c.in-None.ensures k (into_frame c.args.self.now.state.store.pages.core
+    (least_free_frame c.args.self.now.state.store.pages.core)
+    (λ f. Create f c.args.uid c.args.page c.args.reference))
