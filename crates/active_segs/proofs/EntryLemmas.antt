@@ -1,13 +1,14 @@
 -- The entries after one of them changes: what is read there, and that they are still a part of a tree.
 use Rattle.std.proofs.Common.{◌≡◌, ◌≢◌, ℕ, ◌+◌, ◌<◌, Bool, false, cond, eqb, List, length, Option, Some, None, refl}
 use Rattle.std.proofs.Common.{sym, ap, subst, ◌∙◌, arith, set, inl, inr}
-use Rattle.std.proofs.lemmas.Bool.{cases_eq, cases_lt, eq-eqb, ne_eqb}
-use Rattle.std.proofs.lemmas.List.{get_or-set_same, get_or-set_other, get_or_past}
+use Rattle.std.proofs.lemmas.Bool.{cases_eq, eq-eqb, ne_eqb}
+use Rattle.std.proofs.lemmas.List.{get_or-set_same, get_or-set_other}
 use Rattle.std.proofs.lemmas.Option.{none-some, same_Some}
 use Rattle.active_segs.specs.declared.Entry.{Entry}
 use Rattle.active_segs.specs.Active.{entry_at, uid_in, superior_in, uid_at, superior_at, IsActive, HasNoInferior}
 use Rattle.active_segs.specs.Active.{IsOneToOne, SuperiorsAreActive, IsGrounded}
 use Rattle.active_segs.specs.Active.{IsTree}
+use Rattle.laws.proofs.Places.{shown_within}
 
 pub entry_set : (xs : List (Option Entry)) (p : ℕ) (e : Option Entry) → p < length xs → entry_at (set xs p e) p ≡ e
 entry_set xs p e lt = get_or-set_same xs p e None lt
@@ -25,16 +26,10 @@ uid_kept xs p e q ne = ap uid_in (entry_kept xs p e q ne)
 
 -- where something is active the place is one of the table's
 pub used_within : (xs : List (Option Entry)) (p uid : ℕ) → uid_at xs p ≡ Some uid → p < length xs
-used_within xs p uid e = elim (cases_lt p (length xs))
-    [ inl lt ↦ lt | inr past ↦ absurd (none-some uid (sym (ap uid_in (get_or_past xs p None past)) ∙ e)) ]
+used_within xs p uid e = shown_within uid_in xs p None uid refl e
 
 pub superior_within : (xs : List (Option Entry)) (p uid : ℕ) → superior_at xs p ≡ Some uid → p < length xs
-superior_within xs p uid e =
-    elim (cases_lt p (length xs)) [
-      | inl lt ↦ lt
-      | inr past ↦ absurd
-          (none-some uid (sym (ap superior_in (get_or_past xs p None past)) ∙ e))
-    ]
+superior_within xs p uid e = shown_within superior_in xs p None uid refl e
 
 -- a place that has a superior is used
 pub used_since_superior : (o : Option Entry) (s : ℕ) → superior_in o ≡ Some s → (uid : ℕ) × (uid_in o ≡ Some uid)

@@ -1,11 +1,10 @@
 -- A new table keeps what every table keeps.
 use Rattle.std.proofs.Common.{◌≡◌, ℕ, zero, suc, ◌+◌, ◌-◌, ◌<◌, ◌≤◌, Bool, true, false, cond, List, [], ◌∷◌, ◌++◌}
 use Rattle.std.proofs.Common.{length, Option, None, is_some, refl, sym}
-use Rattle.std.proofs.Common.{ap, ◌∙◌, arith, get_or, map, replicate, sum, count_by, inl, inr}
-use Rattle.std.proofs.lemmas.Bool.{cases_lt, both_ways}
-use Rattle.std.proofs.lemmas.List.{length-replicate, length-append, length-map, get_or-replicate, get_or_past}
+use Rattle.std.proofs.Common.{ap, ◌∙◌, arith, get_or, map, replicate, sum, count_by}
+use Rattle.std.proofs.lemmas.Bool.{both_ways}
+use Rattle.std.proofs.lemmas.List.{length-replicate, length-map, get_or-replicate}
 use Rattle.std.proofs.lemmas.List.{get_or-map, get_or_append_left, append_assoc}
-use Rattle.std.proofs.lemmas.List.{take_all}
 use Rattle.std.proofs.Math.Seq.{get_or-append_right}
 use Rattle.std.proofs.lemmas.List.Sums.{sum_by-cons}
 use Rattle.std.proofs.lemmas.Option.{none-some}
@@ -19,16 +18,8 @@ use Rattle.active_segs.specs.Kept.{IsKept, map_of}
 use Rattle.active_segs.specs.Pairs.{Pairs, place_of}
 use Rattle.active_segs.specs.Pool.{first_of, size_of}
 use Rattle.active_segs.proofs.PlaceLemmas.{first_more}
-
--- every place of a new table is free
-vacant_at : (n q : ℕ) → entry_at (replicate n None) q ≡ None
-vacant_at n q =
-    let size : length (replicate n (let none : Option Entry = None in none)) ≡ n = length-replicate n None in
-    elim (cases_lt q n) [
-      | inl lt ↦ get_or-replicate n q None None lt
-      | inr past ↦ get_or_past (replicate n None) q None
-          (omega arith)
-    ]
+use Rattle.laws.proofs.Places.{length_of_four}
+use Rattle.laws.proofs.Lists.{all_same, zeros_read}
 
 none_used : (n : ℕ) → count_by is_some (replicate n (let none : Option Entry = None in none)) ≡ 0
 none_used zero = refl
@@ -38,28 +29,6 @@ none_used (suc n) =
     let all : count_by is_some (none ∷ replicate n none) ≡ 0 + count_by is_some (replicate n none) =
     sum_by-cons (λ (x : Option Entry). cond {A = ℕ} (is_some x) 1 0) none (replicate n none) in
     omega arith
-
-zero_at : (n q : ℕ) → get_or (replicate {A = ℕ} n 0) q 0 ≡ 0
-zero_at n q =
-    let size : length (replicate {A = ℕ} n 0) ≡ n = length-replicate n 0 in
-    elim (cases_lt q n) [
-      | inl lt ↦ get_or-replicate n q 0 0 lt
-      | inr past ↦ get_or_past (replicate {A = ℕ} n 0) q 0
-          (omega arith)
-    ]
-
-four_sizes : (sizes : List ℕ) → length sizes ≡ 4 → sum sizes
-    ≡ size_of sizes 0 + size_of sizes 1 + size_of sizes 2 + size_of sizes 3
-four_sizes sizes four =
-    let a : first_of sizes 1 ≡ first_of sizes 0 + size_of sizes 0 = first_more sizes 0 (omega arith) in
-    let b : first_of sizes 2 ≡ first_of sizes 1 + size_of sizes 1 = first_more sizes 1 (omega arith) in
-    let c : first_of sizes 3 ≡ first_of sizes 2 + size_of sizes 2 = first_more sizes 2 (omega arith) in
-    let d : first_of sizes 4 ≡ first_of sizes 3 + size_of sizes 3 = first_more sizes 3 (omega arith) in
-    let all : first_of sizes 4 ≡ sum sizes = ap sum (take_all 4 sizes (omega arith)) in
-    let none : first_of sizes 0 ≡ 0 = refl in omega arith
-
-as_many_tables : (sizes : List ℕ) → length sizes ≡ 4 → length (null_tables sizes) ≡ sum sizes
-as_many_tables sizes four = let all = four_sizes sizes four in simp (length-append, length-replicate) (omega arith)
 
 new_map : (sizes : List ℕ) (pool : ℕ) → pool < length sizes → map_of (map (λ size. replicate size false) sizes) pool
     ≡ replicate (size_of sizes pool) false
@@ -73,7 +42,7 @@ pub kept_new : (sizes : List ℕ) (used : List (List Bool)) (xs : List (Option E
     → IsKept sizes (0 ∷ 0 ∷ 0 ∷ 0 ∷ []) used xs tables maps index
 kept_new sizes used xs tables maps index four few is_used is_xs is_tables is_maps empty room =
     let free : (q : ℕ) → entry_at xs q ≡ None = λ q. ap (λ (l : List (Option Entry)). entry_at l q) is_xs
-    ∙ vacant_at (sum sizes) q in
+    ∙ all_same (sum sizes) q None in
     let no_uid : (q : ℕ) → uid_at xs q ≡ None = λ q. ap uid_in (free q) in
     let no_superior : (q : ℕ) → superior_at xs q ≡ None = λ q. ap superior_in (free q) in
     let size : length xs ≡ sum sizes = ap length is_xs ∙ length-replicate (sum sizes) None in
@@ -89,10 +58,11 @@ kept_new sizes used xs tables maps index four few is_used is_xs is_tables is_map
             few = few;
             hand_count = refl;
             inside = λ pool lt some. (let at : get_or {A = ℕ} (0 ∷ 0 ∷ 0 ∷ 0 ∷ []) pool 0 ≡ 0 =
-                zero_at 4 pool in omega arith);
+                zeros_read 4 pool in omega arith);
           };
       entry_count = ap length is_xs ∙ length-replicate (sum sizes) None;
-      table_count = ap length is_tables ∙ as_many_tables sizes four;
+      table_count = ap length is_tables ∙ length_of_four (replicate 4 Null) (replicate 16 Null) (replicate 64 Null) (replicate 256 Null)
+          sizes four;
       marked = record {
         maps = ap length is_used ∙ length-map sizes (λ size. replicate size false) ∙ four;
         as_long = λ pool lt. ap length (marks pool lt) ∙ length-replicate (size_of sizes pool) false;

@@ -1,13 +1,11 @@
-use Rattle.std.proofs.Common.{◌≡◌, ◌≢◌, ℕ, suc, zero, ◌+◌, ◌/◌, ◌%◌, ◌<◌, Bool, true, false, cond, List, [], ◌∷◌}
-use Rattle.std.proofs.Common.{length, refl, sym, ◌∙◌, arith, get_or, set, add-one, inl, inr, slice_index, count_by}
+use Rattle.std.proofs.Common.{◌≡◌, ◌≢◌, ℕ, suc, zero, ◌/◌, ◌%◌, ◌<◌, Bool, true, false, List}
+use Rattle.std.proofs.Common.{length, refl, sym, ◌∙◌, arith, get_or, set, add-one, inl, inr, slice_index}
 use Rattle.std.specs.Int.{bit_at, w64}
 use Rattle.std.proofs.lemmas.Bool.{cases_eq}
 use Rattle.std.proofs.lemmas.List.{get_or-set_same, get_or-set_other, length-set, ext_get_or, length_push}
 use Rattle.std.proofs.lemmas.List.{get_or_append_left, get_or_push}
-use Rattle.std.proofs.lemmas.List.Sums.{sum_by-set}
 use Rattle.std.proofs.lemmas.Nat.Bits.{bit_at_ones, bit_at_set_same, bit_at_set_other, bit_at_clear_same}
 use Rattle.std.proofs.lemmas.Nat.Bits.{bit_at_clear_other}
-use Rattle.bitmap.specs.Bitmap.{in_use}
 use Rattle.bitmap.specs.Bits.{bit_on, with_bit, without_bit, flags_of}
 
 -- a word other than that of r is as before
@@ -114,24 +112,3 @@ pub flags_without_bit : (ws : List ℕ) (n r : ℕ) → r < n → r / 64 < lengt
 flags_without_bit ws n r lt within =
     flags_after_set ws (without_bit ws r) n r false lt (off_without_bit ws r within)
     (λ k ne. on_without_other ws r k within ne)
-
--- a flag turned on counts for one more, and one turned off for one less
-pub count_with : (flags : List Bool) (r : ℕ) → r < length flags → in_use flags r ≡ false
-    → count_by (λ flag. flag) (set flags r true) ≡ count_by (λ flag. flag) flags + 1
-count_with flags r lt free =
-    let e = sum_by-set (λ flag. cond {A = ℕ} flag 1 0) flags r true false lt in
-    let z : cond {A = ℕ} (in_use flags r) 1 0 ≡ 0 = rw free refl in
-    omega (arith, e, z)
-
-pub count_without : (flags : List Bool) (r : ℕ) → r < length flags → in_use flags r ≡ true
-    → count_by (λ flag. flag) (set flags r false) + 1 ≡ count_by (λ flag. flag) flags
-count_without flags r lt used =
-    let e = sum_by-set (λ flag. cond {A = ℕ} flag 1 0) flags r false false lt in
-    let z : cond {A = ℕ} (in_use flags r) 1 0 ≡ 1 = rw used refl in
-    omega (arith, e, z)
-
--- a number that is in use is below the size
-pub used_within : (flags : List Bool) (r : ℕ) → in_use flags r ≡ true → r < length flags
-used_within [] r e = cc
-used_within (flag ∷ flags) zero e = omega arith
-used_within (flag ∷ flags) (suc r) e = let lt = used_within flags r e in omega (arith, lt)

@@ -14,8 +14,8 @@ use Rattle.bitmap.specs.Bits.{bit_on, with_bit, without_bit, full_after, flags_o
 use Rattle.bitmap.proofs.BitLemmas.{word_with_other, word_without_other, length_with_bit, length_without_bit}
 use Rattle.bitmap.proofs.BitLemmas.{on_with_bit, off_without_bit, on_with_other, on_without_other, on_in_full_word}
 use Rattle.bitmap.proofs.BitLemmas.{off_word_has_room, length_flags, flag_at, flags_with_bit, flags_without_bit}
-use Rattle.bitmap.proofs.BitLemmas.{count_with, count_without}
 use Rattle.laws.proofs.Numbers.{below_or_past}
+use Rattle.laws.proofs.Places.{count_with, count_without}
 
 -- a test for equality that fails, and one that holds
 pub off_test : (a b : ℕ) → a ≢ b → eqb a b ≡ false
@@ -95,9 +95,8 @@ levels_after_give ws full size used r h lt on =
     let within : r / 64 < length ws = omega (arith, h.covers) in
     let upper : r / 64 / 64 < length full = omega (arith, h.full_covers) in
     let room = off_word_has_room (without_bit ws r) r (off_without_bit ws r within) in
-    let flags_within : r < length (flags_of ws size) = rw length_flags lt in
     let taken : in_use (flags_of ws size) r ≡ true = flag_at ws size r false lt ∙ on in
-    let one = count_without (flags_of ws size) r flags_within taken in
+    let one = count_without (flags_of ws size) r taken in
     let is = ap (count_by (λ flag. flag)) (flags_without_bit ws size r lt within) in
     let fewer : count_by (λ flag. flag) (flags_of (without_bit ws r) size) + 1 ≡ used = ap (λ n. n + 1) is ∙ one
     ∙ sym h.counted in

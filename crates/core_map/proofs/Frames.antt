@@ -4,7 +4,7 @@ use Rattle.std.proofs.Common.{◌∙◌, arith, get_or, set, replicate, map, inl
 use Rattle.std.specs.List.{prefix_len, list_any}
 use Rattle.std.proofs.lemmas.Bool.{cases_eq}
 use Rattle.std.proofs.lemmas.List.{map-set, get_or-map, get_or_past, length-map, length-set, length-replicate}
-use Rattle.std.proofs.lemmas.List.{get_or-set_same, get_or-set_other, set-get_or}
+use Rattle.std.proofs.lemmas.List.{get_or-set_same, get_or-set_other}
 use Rattle.std.proofs.lemmas.List.{get_or_read, set_past}
 use Rattle.std.proofs.lemmas.List.Elements.{All-get_or, All-from_get_or}
 use Rattle.bitmap.specs.Bitmap.{in_use, least_free, IsLeastFree}
@@ -16,6 +16,7 @@ use Rattle.core_map.specs.Clock.{frame_in, is_idle, unmarked}
 use Rattle.core_map.specs.Turns.{IsUnmarked}
 use Rattle.core_map.specs.Taken.{IsTied}
 use Rattle.laws.proofs.Numbers.{below_or_past}
+use Rattle.laws.proofs.Places.{map_kept}
 
 -- What a change of marks leaves as it is: whether the frame is taken, and which page is being read in.
 pub record IsSeenAs (x y : Frame) : Type 0 where
@@ -66,13 +67,6 @@ map_at t frames f = elim (below_or_past f (length frames)) [
       get_or_past (map t frames) f (t Free) long ∙ sym (ap t (get_or_past frames f Free past)))
 ]
 
--- a write of a frame that leaves it as it was, by the test
-pub same_with : {X : Type 0} (t : Frame → X) (frames : List Frame) (f : ℕ) (x : Frame) → t x ≡ t (frame_in frames f)
-    → map t (set frames f x) ≡ map t frames
-same_with t frames f x same =
-    map-set t frames f x ∙ ap (set (map t frames) f) (same ∙ sym (map_at t frames f))
-    ∙ set-get_or (map t frames) f (t Free)
-
 -- the bits of taken frames
 pub bit_is : (taken : List Bool) (frames : List Frame) (hand f : ℕ) → IsTied taken frames hand → in_use taken f
     ≡ is_taken (frame_in frames f)
@@ -93,7 +87,7 @@ pub kept_by : {X : Type 0} (t : Frame → X) (frames : List Frame) (f : ℕ) (x 
     ≡ t x
     → map t (set frames f y) ≡ map t frames
 kept_by t frames f x y read same = elim (below_or_past f (length frames)) [
-  | inl lt ↦ same_with t frames f y (same ∙ ap t (get_or_read frames f x lt read Free))
+  | inl lt ↦ map_kept t frames f Free y (same ∙ ap t (get_or_read frames f x lt read Free))
   | inr past ↦ ap (map t) (set_past frames f y past)
 ]
 

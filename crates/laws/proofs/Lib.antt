@@ -2,3 +2,5 @@ pub mod Bools
 pub mod Lists
 pub mod Numbers
 pub mod Options
+pub mod Places
+pub mod Rising

@@ -1,8 +1,11 @@
 -- Laws of options and results.
-use Rattle.std.proofs.Common.{Err, IsSome, None, Ok, Option, Result, Some, ap, false, is_some, refl, ℕ, ◌≡◌}
+use Rattle.std.proofs.Common.{Bool, Err, IsSome, None, Ok, Option, Result, Some, ap, false, is_some, refl, true, ℕ, ◌≡◌}
+use Rattle.std.proofs.Common.{arith, cond, eqb, inl, inr, ◌≤◌}
 use Rattle.std.proofs.lemmas.Option.{same_Some}
 use Rattle.std.specs.Option.{option_map}
 use Rattle.std.specs.Prelude.{IfNone, OnOk}
+use Rattle.std.proofs.lemmas.Bool.Decides.{eqb_tells}
+use Rattle.laws.proofs.Bools.{bit_le}
 
 pub some_same : {A : Type 0} (x y : A) → Some x ≡ Some y → x ≡ y
 some_same x y h = cc
@@ -38,3 +41,43 @@ on_ok (Err e) P Q f h = h
 pub none_mapped : {X Y : Type 0} (f : X → Y) (o : Option X) → is_some (option_map f o) ≡ is_some o
 none_mapped f None = refl
 none_mapped f (Some x) = refl
+
+-- what an option is seen as: none where it has nothing
+pub map_some : {X Y : Type 0} (f : X → Y) (o : Option X) (y : Y) → option_map f o ≡ Some y → IsSome o
+map_some f None y is = cc
+map_some f (Some x) y is = refl
+
+-- its number, and 0 where it has none
+abbrev pub or_zero : Option ℕ → ℕ
+or_zero None = 0
+or_zero (Some x) = x
+
+pub some_unwrapped : (o : Option ℕ) → is_some o ≡ true → o ≡ Some (or_zero o)
+some_unwrapped None h = cc
+some_unwrapped (Some x) h = refl
+
+-- whether it has something that passes a test
+abbrev pub passes : {X : Type 0} → (X → Bool) → Option X → Bool
+passes test None = false
+passes test (Some x) = test x
+
+pub passed_there : {X : Type 0} (test : X → Bool) (o : Option X) → passes test o ≡ true
+    → (x : X) × (o ≡ Some x) × (test x ≡ true)
+passed_there test None e = cc
+passed_there test (Some x) e = (x, refl, e)
+
+-- how often a number stands in it
+abbrev pub times_in : Option ℕ → ℕ → ℕ
+times_in None y = 0
+times_in (Some x) y = cond (eqb x y) 1 0
+
+pub times_few : (o : Option ℕ) (y : ℕ) → times_in o y ≤ 1
+times_few None y = omega arith
+times_few (Some x) y = bit_le (eqb x y)
+
+pub times_one : (o : Option ℕ) (y : ℕ) → 1 ≤ times_in o y → o ≡ Some y
+times_one None y some = absurd (omega (arith, some))
+times_one (Some x) y some = elim (eqb_tells x y) [
+  | inl e ↦ ap Some e.1
+  | inr n ↦ absurd (let none : cond {A = ℕ} (eqb x y) 1 0 ≡ 0 = ap (λ b. cond b 1 0) n.0 in omega (arith, none, some))
+]
