@@ -1,11 +1,12 @@
 -- Laws of reading line by line (own).
-use Rattle.std.proofs.Common.{◌≡◌, ℕ, ◌+◌, List, [], ◌∷◌, length, fold, Result, Ok, Err, refl, sym, ap, ◌∙◌, arith}
+use Rattle.std.proofs.Common.{◌≡◌, ℕ, ◌+◌, List, [], ◌∷◌, length, fold, Result, Ok, Err, refl, sym, ap, ◌∙◌}
 use Rattle.script.specs.Drafts.{DraftPlan, blank}
 use Rattle.text_model.specs.Lines.{lines_of}
 use Rattle.script.specs.Grammar.{finished, numbered, script_of, text_after, whole_or_missing, after_number}
 use Rattle.script.specs.Plans.{Plan}
 use Rattle.script.specs.declared.refusals.Cause.{Cause}
 use Rattle.script.specs.declared.refusals.Refusal.{Refusal}
+use Rattle.text_model.proofs.LineSteps.{no_lines}
 
 -- a line after so many others
 line_read : (n : ℕ) (d : DraftPlan) (line : List ℕ) → numbered (Ok (n, d)) line ≡ after_number n (text_after d line)
@@ -38,11 +39,6 @@ pub line_refused : (n : ℕ) (d : DraftPlan) (why : Cause) (bytes line rest : Li
 line_refused n d why bytes line rest all e refused h =
     sym h ∙ first_of n d bytes line rest e ∙ ap (λ r. fold numbered (after_number n r) (lines_of rest)) refused
     ∙ refused_stays (record { line = n; cause = why }) (lines_of rest)
-
-no_lines : (bytes : List ℕ) → length bytes ≡ 0 → lines_of bytes ≡ []
-unfolding lines_of
-no_lines [] e = refl
-no_lines (b ∷ bs) e = absurd (omega arith)
 
 pub lines_end : (n : ℕ) (d : DraftPlan) (bytes : List ℕ) (all : Result (ℕ × DraftPlan) Refusal) → length bytes ≡ 0
     → fold numbered (Ok (n, d)) (lines_of bytes) ≡ all → all ≡ Ok (n, d)

@@ -1,3 +1,4 @@
 pub mod FieldLaws
 pub mod LineLaws
 pub mod LineSteps
+pub mod PartLaws

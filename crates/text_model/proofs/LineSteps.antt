@@ -19,6 +19,10 @@ pub lines_nil : lines_of [] ≡ []
 unfolding lines_of
 lines_nil = refl
 
+pub no_lines : (bytes : List ℕ) → length bytes ≡ 0 → lines_of bytes ≡ []
+no_lines [] e = lines_nil
+no_lines (b ∷ bs) e = absurd (omega arith)
+
 pub line_feed : (b : ℕ) (bs : List ℕ) → b ≡ 10 → lines_of (b ∷ bs) ≡ [] ∷ lines_of bs
 unfolding lines_of
 line_feed b bs e = rw e refl
