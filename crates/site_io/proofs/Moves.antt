@@ -3,7 +3,7 @@ use Rattle.std.proofs.lemmas.Grind.{common_steps}
 use Rattle.std.proofs.Common.{◌≡◌, ℕ, ◌+◌, ◌≤◌, List, [], ◌++◌, length, IfSome, Option, Some, None, ◌<◌, sym, ap, ◌∙◌}
 use Rattle.std.proofs.Common.{arith, take, drop}
 use Rattle.std.specs.Io.KnownBytes.{Appends, Consumes, Keeps}
-use Rattle.std.proofs.KnownBytes.{Appends-trans, Consumes-nil, Consumes-trans, Consumes-kept}
+use Rattle.std.proofs.KnownBytes.{Appends-trans, Consumes-nil, Consumes-trans, Consumes-kept, Keeps-refl}
 use Rattle.std.proofs.Math.Seq.{take-add}
 use Rattle.std.proofs.lemmas.List.{take_at, drop-drop, take-append-drop, length-append, length-drop, length-take}
 use Rattle.std.proofs.lemmas.List.{length-take-le}
@@ -38,10 +38,6 @@ pub consumes_past : (a b : Option (List ℕ)) (bs : List ℕ) (limit : ℕ) → 
 unfolding ConsumesPast
 consumes_past a b bs limit h n = (bs, n, h)
 
--- nothing is gone
-pub consumes_none : (a : Option (List ℕ)) (most : ℕ) → ConsumesFront a a most
-consumes_none a most = consumes_front a a [] most (Consumes-nil a) (omega arith)
-
 -- a failed read took nothing
 pub consumes_kept : (a b : Option (List ℕ)) (most : ℕ) → Keeps a b → ConsumesFront a b most
 consumes_kept a b most k = consumes_front a b [] most (Consumes-kept a a b [] (Consumes-nil a) k) (omega arith)
@@ -68,8 +64,8 @@ consumes_longer (Some xs) None bs limit h n = absurd h
 consumes_longer (Some xs) (Some ys) bs limit h n = omega (arith, ap length h, length-append bs ys)
 
 -- what one read goes by, the reading to the end, and the writing of a whole piece
-pub ruleset read_once = (consumes_none, consumes_kept, consumes_taken)
+pub ruleset read_once = (Keeps-refl, consumes_kept, consumes_taken)
 
-pub ruleset whole_read = (consumes_none, consumes_front, consumes_past, consumes_longer)
+pub ruleset whole_read = (Keeps-refl, consumes_kept, consumes_front, consumes_past, consumes_longer)
 
 pub ruleset piece_written = (appends_more, common_steps)

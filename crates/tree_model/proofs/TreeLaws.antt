@@ -16,6 +16,10 @@ use Rattle.tree_model.proofs.Finds.{IsMember, branch_found, member_found}
 abbrev pub superior_in : List Term → ℕ → Option ℕ
 superior_in ns u = option_and_then (λ n. n.superior) (find (λ n. eqb n.uid u) ns)
 
+pub superior_found : (ns : List Term) (u : ℕ) (n : Term) → find (λ m. eqb m.uid u) ns ≡ Some n
+    → superior_in ns u ≡ n.superior
+superior_found ns u n e = ap (option_and_then (λ m. m.superior)) e
+
 below_of : (v : ℕ) (ns : List Term) (s : ℕ) → AreBelow v ns → has_directory ns s ≡ true → s < v
 below_of v [] s b e = cc
 below_of v (n ∷ ns) s b e = elim (cases_eq n.uid s) [
