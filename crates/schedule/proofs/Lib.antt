@@ -1,4 +1,3 @@
 pub mod BeginLaws
-pub mod InputLaws
 pub mod OrderLaws
 pub mod ScheduledLaws

@@ -19,7 +19,7 @@ pub(crate) struct Input<'a> {
 }
 
 /// The parts of an input.
-#[tactic(auto, using(crate::proofs::InputLaws::at_start, std::proofs::lemmas::Grind::common_steps))]
+#[tactic(auto, using(text_model::proofs::PartLaws::at_start, std::proofs::lemmas::Grind::common_steps))]
 pub(crate) fn split_input(bytes: &[u8]) -> Input<'_>
     requires { length bytes.now < 2 ^ 31 }
     ensures script { lines_of result.script.now ≡ script_lines (lines_of bytes.now) }

@@ -1,31 +1,32 @@
 use Rattle.std.proofs.Common.{rules, arith}
-use Rattle.schedule.proofs.InputLaws.{line_passed, stop_script, stop_schedule, stop_first, end_script, end_schedule}
-use Rattle.schedule.proofs.InputLaws.{end_first, end_found, stop_found}
+use Rattle.schedule.specs.Inputs.{is_schedule_line}
+use Rattle.text_model.proofs.PartLaws.{end_after, end_before, end_first, end_found, line_passed, stop_after}
+use Rattle.text_model.proofs.PartLaws.{stop_before, stop_first, stop_found}
 use Rattle.schedule.proofs.inputs.split_input.Goals as goal
 
 pub returns-then-is_schedule-clause-script : goal.returns-then-is_schedule-clause-script
-returns-then-is_schedule-clause-script c = stop_script c.args.bytes.now c.next_line.result.0.now
+returns-then-is_schedule-clause-script c = stop_before is_schedule_line c.args.bytes.now c.next_line.result.0.now
     c.next_line.result.1.now c.loop-at.at c.loop-at.number
     (omega arith) c.next_line.ensures.lines c.loop-at.invariant.passed (cc)
 
 pub returns-then-is_schedule-clause-schedule : goal.returns-then-is_schedule-clause-schedule
-returns-then-is_schedule-clause-schedule c = stop_schedule c.args.bytes.now c.next_line.result.0.now
+returns-then-is_schedule-clause-schedule c = stop_after is_schedule_line c.args.bytes.now c.next_line.result.0.now
     c.next_line.result.1.now c.loop-at.at c.loop-at.number
     (omega arith) c.next_line.ensures.lines c.loop-at.invariant.passed (cc)
 
 pub returns-then-is_schedule-clause-first : goal.returns-then-is_schedule-clause-first
-returns-then-is_schedule-clause-first c = stop_first c.args.bytes.now c.next_line.result.0.now c.next_line.result.1.now
+returns-then-is_schedule-clause-first c = stop_first is_schedule_line c.args.bytes.now c.next_line.result.0.now c.next_line.result.1.now
     c.loop-at.at c.loop-at.number
     (omega arith) c.next_line.ensures.lines c.loop-at.invariant.passed (cc)
 
 pub returns-then-is_schedule-clause-found : goal.returns-then-is_schedule-clause-found
-returns-then-is_schedule-clause-found c = stop_found c.args.bytes.now c.next_line.result.0.now
+returns-then-is_schedule-clause-found c = stop_found is_schedule_line c.args.bytes.now c.next_line.result.0.now
     c.next_line.result.1.now c.loop-at.at c.loop-at.number
     (omega arith) c.next_line.ensures.lines c.loop-at.invariant.passed (cc)
 
 pub loop-at-preserved : goal.loop-at-preserved
 loop-at-preserved c = record {
-  passed = line_passed c.args.bytes.now c.next_line.result.0.now c.next_line.result.1.now c.loop-at.at c.loop-at.number
+  passed = line_passed is_schedule_line c.args.bytes.now c.next_line.result.0.now c.next_line.result.1.now c.loop-at.at c.loop-at.number
       (omega arith)
       c.next_line.ensures.lines c.loop-at.invariant.passed c.next_line.ensures.rest c.next_line.ensures.shorter
       c.next_line.ensures.closes (cc);
@@ -34,17 +35,17 @@ loop-at-preserved c = record {
 }
 
 pub returns-clause-script : goal.returns-clause-script
-returns-clause-script c = end_script c.args.bytes.now c.loop-at.at c.loop-at.number (omega arith)
+returns-clause-script c = end_before is_schedule_line c.args.bytes.now c.loop-at.at c.loop-at.number (omega arith)
     c.loop-at.invariant.passed
 
 pub returns-clause-schedule : goal.returns-clause-schedule
-returns-clause-schedule c = end_schedule c.args.bytes.now c.loop-at.at c.loop-at.number (omega arith)
+returns-clause-schedule c = end_after is_schedule_line c.args.bytes.now c.loop-at.at c.loop-at.number (omega arith)
     c.loop-at.invariant.passed
 
 pub returns-clause-first : goal.returns-clause-first
-returns-clause-first c = end_first c.args.bytes.now c.loop-at.at c.loop-at.number (omega arith)
+returns-clause-first c = end_first is_schedule_line c.args.bytes.now c.loop-at.at c.loop-at.number (omega arith)
     c.loop-at.invariant.passed
 
 pub returns-clause-found : goal.returns-clause-found
-returns-clause-found c = end_found c.args.bytes.now c.loop-at.at c.loop-at.number (omega arith)
+returns-clause-found c = end_found is_schedule_line c.args.bytes.now c.loop-at.at c.loop-at.number (omega arith)
     c.loop-at.invariant.passed

@@ -1,11 +1,12 @@
 use Rattle.std.proofs.Common.{◌+◌, ◌-◌, ◌≤◌, length}
-use Rattle.schedule.specs.Passing.{IsAtLine}
+use Rattle.text_model.specs.Parts.{IsAtLine}
+use Rattle.schedule.specs.Inputs.{is_schedule_line}
 use Rattle.schedule.proofs.inputs.split_input.Given as goal
 
 -- the lines up to here are passed, and none of them is the line `schedule`
 abbrev pub invariant-loop-at : goal.invariant-loop-at
 invariant-loop-at l = record {
-  passed : IsAtLine l.bytes l.at l.number;
+  passed : IsAtLine is_schedule_line l.bytes l.at l.number;
   within : l.at ≤ length l.bytes;
   few : l.number ≤ l.at + 1;
 }
