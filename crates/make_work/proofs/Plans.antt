@@ -95,10 +95,6 @@ has_shared : is_path shared ≡ true
 unfolding is_path is_name
 has_shared = refl
 
-has_project : is_label default_project ≡ true
-unfolding is_label
-has_project = refl
-
 name_digit : (j : ℕ) → j < 10 → is_name_byte (48 + j) ≡ true
 name_digit j few = grind (arith, nat_tests)
 
@@ -114,7 +110,7 @@ unfolding is_label
 has_user j few = rw (label_digit j few) refl
 
 user_is : (j x : ℕ) → j < 10 → is_process 2 (user j x) ≡ true
-unfolding is_process user
+unfolding is_label is_process user
 user_is j x few =
     let refs = references reference_count x in
     let rest : list_all (is_command 2) (refs ++ command.End ∷ []) ≡ true =
@@ -134,7 +130,7 @@ user_is j x few =
     (command.Initiate counter ∷ command.Initiate shared ∷ command.Initiate (own j) ∷ refs)
     (all_references goes_on reference_goes_on reference_count x) in
     let who : is_who (user_name j) ≡ true = and_from (is_label (numbered (codes "User") j)) (is_label default_project)
-    (has_user j few) has_project in
+    (has_user j few) refl in
     and_from (is_who (user_name j)) _ who (and_from _ _ all ends)
 
 user_weighs : (j x : ℕ) → weight_of (user j x) ≡ 2000
