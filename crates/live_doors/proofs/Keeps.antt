@@ -22,6 +22,7 @@ use Rattle.live_doors.specs.Laws.{filled_ok, forgotten_ok, plan_acknowledged, ac
 use Rattle.live_doors.specs.Laws.{pass_shut, plan_raised, pass_raised}
 use Rattle.live_doors.specs.Laws.{plan_noted, plan_admits, pass_admits, blank_ok, entry_gone, entry_never}
 use Rattle.live_doors.specs.Laws.{seats_stay}
+use Rattle.laws.proofs.Places.{valued, valued_else, valued_here}
 
 abbrev Board : Type 0
 Board = State (Unit {0}) View
@@ -258,16 +259,6 @@ module _ (z : Size) where
       (Looks (step slots (ack_at z.frames c) 0 0 none) x)) (sym is)
       (looks slots id c (watch_of m.0) inside row))
 
--- one number more has a value of its own
-abbrev put : ℕ → ℕ → (ℕ → ℕ) → ℕ → ℕ
-put i x f j = cond (eqb j i) x (f j)
-
-put_here : (i x : ℕ) (f : ℕ → ℕ) → put i x f i ≡ x
-put_here i x f = ap (λ b. cond b x (f i)) (eq-eqb i i refl)
-
-put_else : (i j x : ℕ) (f : ℕ → ℕ) → j ≢ i → put i x f j ≡ f j
-put_else i j x f other = ap (λ b. cond b x (f j)) (ne_eqb j i other)
-
 -- where the last of a longer list stands
 snoc_place : {V : Type 0} (l : List V) (a b : V) (j : ℕ) → get_elem? (l ++ a ∷ []) j ≡ some b
     → (get_elem? l j ≡ some b) ⊎ ((j ≡ length l) × (a ≡ b))
@@ -285,7 +276,7 @@ module _ (z : Size) where
       let mine = h.seats_ok id (Keeping w) at in
       let was : PlanOk z.frames z.cpus s.words w = subst (PlanOk z.frames z.cpus s.words) (sym mine.1) h.plan_ok in
       let longer : List View = set s.views id (keeper_with_pass (Keeping w)) in
-      let seat_of : ℕ → ℕ = put w.made (length longer) h.seat_of in
+      let seat_of : ℕ → ℕ = valued w.made (length longer) h.seat_of in
       record {
         plan = record w { made = w.made + 1 };
         keeper = h.keeper;
@@ -304,7 +295,7 @@ module _ (z : Size) where
             (λ (new : (j ≡ length longer) × (pass_of_keeper (Keeping w) ≡ v)).
             subst (λ (x : ℕ × View). SeatOk z.frames z.cpus s.words (record w { made = w.made + 1 }) h.keeper seat_of
             x.0 x.1) (λ i. (sym new.0 i, new.1 i)) (
-              put_here w.made (length longer) h.seat_of,
+              valued_here w.made (length longer) h.seat_of,
               subst (λ n. PassOk z.frames z.cpus s.words (record w { made = w.made + 1 }) (blank n w.made)) (sym row)
                   (blank_ok z.frames z.cpus s.words w room was),
             ))
@@ -313,9 +304,9 @@ module _ (z : Size) where
     where
       stays : (words : List ℕ) (keeper : ℕ) (seat_of : ℕ → ℕ) (new : ℕ) → keeper ≡ id → (j : ℕ) (v : View) → j ≢ id
           → SeatOk z.frames z.cpus words w keeper seat_of j v
-          → SeatOk z.frames z.cpus words (record w { made = w.made + 1 }) keeper (put w.made new seat_of) j v
+          → SeatOk z.frames z.cpus words (record w { made = w.made + 1 }) keeper (valued w.made new seat_of) j v
       stays words keeper seat_of new here j (Walking q) other k = (
-        put_else w.made q.cpu new seat_of (λ e. let m = k.1.made in omega arith) ∙ k.0,
+        valued_else w.made q.cpu new seat_of (λ e. let m = k.1.made in omega arith) ∙ k.0,
         pass_admits z.frames z.cpus words w q k.1,
       )
       stays words keeper seat_of new here j (Keeping u) other k = absurd (other (sym k.0 ∙ here))

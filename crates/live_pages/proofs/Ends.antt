@@ -37,7 +37,8 @@ use Rattle.live_pages.proofs.Replay.{bindings_stay, left_stays}
 use Rattle.live_pages.proofs.Changing.{entry_is_current}
 use Rattle.live_pages.proofs.ByTicket.{pages_are, all_of_one_thread, all_ended_left}
 use Rattle.live_pages.proofs.Quiet.{set_at, InOrder}
-use Rattle.live_pages.proofs.Turning.{put, put_here, put_else, free_has, holder_stands}
+use Rattle.live_pages.proofs.Turning.{free_has, holder_stands}
+use Rattle.laws.proofs.Places.{valued, valued_else, valued_here}
 
 -- where the last of a longer list stands
 snoc_place : {V : Type 0} (l : List V) (a b : V) (j : ℕ) → get_elem? (l ++ a ∷ []) j ≡ M.some b
@@ -68,7 +69,7 @@ module _ (z : Size) where
       subst (λ p. BookOk z.frames z.cpus s.words p h.known.given h.known.log) (sym own.1) h.book_ok in
       let k' : Holder = watching (λ w. record w { made = w.made + 1 }) k in
       let longer : List View = set s.views id (Keeping k') in
-      let seat_of : ℕ → ℕ = put k.watch.made (length longer) h.known.seat_of in
+      let seat_of : ℕ → ℕ = valued k.watch.made (length longer) h.known.seat_of in
       record {
         known = record h.known { plan = k'; seat_of = seat_of };
         book_ok = record {
@@ -128,7 +129,7 @@ module _ (z : Size) where
             subst (λ (x : ℕ × View). SeatOk z.frames z.cpus s.words k' h.known.keeper seat_of h.known.holder
             h.known.given h.known.log x.0 x.1)
             (λ i. (sym new.0 i, new.1 i)) (
-              put_here k.watch.made (length longer) h.known.seat_of,
+              valued_here k.watch.made (length longer) h.known.seat_of,
               record {
                 all = count;
                 pass_ok = subst (λ n. PassOk z.frames z.cpus s.words k'.watch (blank n k.watch.made)) (sym row)
@@ -146,9 +147,9 @@ module _ (z : Size) where
           → keeper ≡ id → (j : ℕ) (v : View) → j ≢ id
           → SeatOk z.frames z.cpus words k keeper seat_of holder given log j v
           → SeatOk z.frames z.cpus words (watching (λ w. record w { made = w.made + 1 }) k) keeper
-          (put k.watch.made new seat_of) holder given log j v
+          (valued k.watch.made new seat_of) holder given log j v
       stays words keeper seat_of holder given log new here j (Passing q) other ok = (
-        put_else k.watch.made q.walk.cpu new seat_of (λ e. let m = ok.1.pass_ok.made in omega arith) ∙ ok.0,
+        valued_else k.watch.made q.walk.cpu new seat_of (λ e. let m = ok.1.pass_ok.made in omega arith) ∙ ok.0,
         record {
           all = ok.1.all;
           pass_ok = pass_admits z.frames z.cpus words k.watch q.walk ok.1.pass_ok;

@@ -32,16 +32,7 @@ use Rattle.live_pages.specs.Turns.{turn_at, turn_of, ticket_at, current, hand_of
 use Rattle.live_pages.specs.Turns.{Gives, KeeperTakes, KeeperGives}
 use Rattle.live_pages.specs.Kept.{BookOk, TurnsOk, HandOk, HoldsHand, WalkerOk, SeatOk, Kept}
 use Rattle.live_pages.proofs.Quiet.{set_at, InOrder, pass_stepped}
-
--- one number more has a value of its own
-abbrev pub put : ℕ → ℕ → (ℕ → ℕ) → ℕ → ℕ
-put i x f j = cond (eqb j i) x (f j)
-
-pub put_here : (i x : ℕ) (f : ℕ → ℕ) → put i x f i ≡ x
-put_here i x f = ap (λ b. cond b x (f i)) (eq-eqb i i refl)
-
-pub put_else : (i j x : ℕ) (f : ℕ → ℕ) → j ≢ i → put i x f j ≡ f j
-put_else i j x f other = ap (λ b. cond b x (f j)) (ne_eqb j i other)
+use Rattle.laws.proofs.Places.{valued, valued_else, valued_here}
 
 one_zero : (x y : ℕ) → x ≡ 1 → y ≡ 0 → x ≡ y → ⊥
 one_zero x y a b e = omega arith
@@ -179,18 +170,18 @@ module _ (z : Size) where
       (plan : Holder)
       → get_elem? s.views id ≡ M.some v → hand_of v ≡ Free → hand_of v' ≡ Has f hd.page → f < z.frames
       → get_or s.words (turn_at z.frames z.cpus f) 0 ≡ 0 → (hand : Hand) → plan ≡ record h.known.plan { hand = hand }
-      → SeatOk z.frames z.cpus (set s.words (turn_at z.frames z.cpus f) 1) plan h.known.keeper h.known.seat_of (put f
+      → SeatOk z.frames z.cpus (set s.words (turn_at z.frames z.cpus f) 1) plan h.known.keeper h.known.seat_of (valued f
       id h.known.holder)
       h.known.given h.known.log id v'
       → ((j : ℕ) (u : View) → j ≢ id → SeatOk z.frames z.cpus s.words h.known.plan h.known.keeper h.known.seat_of
       h.known.holder h.known.given h.known.log
       j u
-      → SeatOk z.frames z.cpus (set s.words (turn_at z.frames z.cpus f) 1) plan h.known.keeper h.known.seat_of (put f
+      → SeatOk z.frames z.cpus (set s.words (turn_at z.frames z.cpus f) 1) plan h.known.keeper h.known.seat_of (valued f
       id h.known.holder)
       h.known.given h.known.log j u)
       → Kept z (set s.words (turn_at z.frames z.cpus f) 1) (set s.homes f M.none) (set s.views id v')
   taken_kept s h id f hd v v' plan at free has inside zero_word hand plan_is mine others = record {
-    known = record h.known { plan = plan; holder = put f id h.known.holder };
+    known = record h.known { plan = plan; holder = valued f id h.known.holder };
     book_ok = subst (λ p. BookOk z.frames z.cpus (set s.words (turn_at z.frames z.cpus f) 1) p h.known.given
         h.known.log)
         (sym plan_is)
@@ -212,18 +203,18 @@ module _ (z : Size) where
         (λ (same : g ≡ f). (
           v',
           hd.page,
-          ap (get_elem? (set s.views id v')) (ap (put f id h.known.holder) same ∙ put_here f id h.known.holder)
+          ap (get_elem? (set s.views id v')) (ap (valued f id h.known.holder) same ∙ valued_here f id h.known.holder)
               ∙ set_at s.views id v v' at,
           has ∙ ap (λ k. Has k hd.page) (sym same),
         ))
         (λ (other : g ≢ f).
-        turns_else z.frames z.cpus s.words f 1 inside s.views h.known.holder (put f id h.known.holder) id v v' g at
+        turns_else z.frames z.cpus s.words f 1 inside s.views h.known.holder (valued f id h.known.holder) id v v' g at
         other
         (λ page e. free_has g page (sym free ∙ e))
-        (λ o. put_else f g id h.known.holder o) h.turns_ok within busy);
+        (λ o. valued_else f g id h.known.holder o) h.turns_ok within busy);
     seats_ok = seats_stay (SeatOk z.frames z.cpus (set s.words (turn_at z.frames z.cpus f) 1) plan h.known.keeper
         h.known.seat_of
-        (put f id h.known.holder) h.known.given h.known.log) s.views
+        (valued f id h.known.holder) h.known.given h.known.log) s.views
         id v' mine (λ j u other e. others j u other (h.seats_ok j u e));
   }
 
@@ -241,20 +232,20 @@ module _ (z : Size) where
       → ((j : ℕ) → j ≢ id → keeper ≡ j → record plan { hand = hand } ≡ plan) → (j : ℕ) (u : View) → j ≢ id
       → SeatOk z.frames z.cpus words plan keeper seat_of holder given log j u
       → SeatOk z.frames z.cpus (set words (turn_at z.frames z.cpus f) 1) (record plan { hand = hand }) keeper seat_of
-      (put f id holder) given log j u
+      (valued f id holder) given log j u
   others_taken words plan hand keeper seat_of holder given log id f inside zero_word book keeps_plan j (Passing q)
       other k = (
         k.0,
-        walker_turned z.frames z.cpus words f 1 inside plan hand holder (put f id holder) given log j q
-            (λ g o. put_else f g id holder o)
+        walker_turned z.frames z.cpus words f 1 inside plan hand holder (valued f id holder) given log j q
+            (λ g o. valued_else f g id holder o)
             (not_of_free words plan.watch holder given log j f q.hand k.1.hand_ok zero_word) book.plan_ok k.1,
       )
   others_taken words plan hand keeper seat_of holder given log id f inside zero_word book keeps_plan j (Keeping u)
       other k = (
         k.0,
         k.1 ∙ sym (keeps_plan j other k.0),
-        hand_turned z.frames z.cpus words f 1 inside plan.watch holder (put f id holder) given log j u.hand
-            (λ g o. put_else f g id holder o)
+        hand_turned z.frames z.cpus words f 1 inside plan.watch holder (valued f id holder) given log j u.hand
+            (λ g o. valued_else f g id holder o)
             (not_of_free words plan.watch holder given log j f u.hand k.2 zero_word) k.2,
       )
   others_taken words plan hand keeper seat_of holder given log id f inside zero_word book keeps_plan j (Spent u) other
@@ -288,7 +279,7 @@ module _ (z : Size) where
                 made = mine.1.made;
                 hand_ok = (
                   inside,
-                  put_here f id h.known.holder,
+                  valued_here f id h.known.holder,
                   (λ e. one_zero _ 0 (turn_here z.frames z.cpus s.words f 1 inside h.book_ok.room) refl e),
                   slot.2,
                 );
@@ -519,7 +510,7 @@ module _ (z : Size) where
               ap (with_hand (Has f slot.0.page)) mine.1,
               (
                 inside,
-                put_here f id h.known.holder,
+                valued_here f id h.known.holder,
                 (λ e. one_zero _ 0 (turn_here z.frames z.cpus s.words f 1 inside h.book_ok.room) refl e),
                 slot.2,
               ),
