@@ -36,7 +36,7 @@ use Rattle.page_control.proofs.Ties.{frame_same, map_place, map_word, map_read, 
 use Rattle.page_control.proofs.Ties.{table_read, table_lost, table_created}
 use Rattle.page_control.proofs.Ties.{frame_within}
 use Rattle.page_control.proofs.Pictures.{shown_in, shown_out, bound_now}
-use Rattle.page_control.proofs.Places.{put, refile, map_refiled}
+use Rattle.page_control.proofs.Places.{refile, map_refiled}
 use Rattle.page_control.proofs.Naming.{filed_unstored, filed_stored}
 use Rattle.page_control.proofs.Counting.{counts_evicted, counts_read, counts_created, counts_lost, counts_same}
 use Rattle.page_control.proofs.Counting.{counts_dropped, taken_more, taken_less}
@@ -45,6 +45,7 @@ use Rattle.page_control.proofs.Touching.{words_kept, words_other, stored_other}
 use Rattle.laws.proofs.Lists.{none_put, within_from}
 use Rattle.laws.proofs.Options.{not_none}
 use Rattle.laws.proofs.Bools.{off_and_on}
+use Rattle.laws.proofs.Places.{put}
 
 -- where nothing has changed
 others_same : (s now : Plain) (uid : ℕ) (home : Home) → now ≡ s → KeepsOthers s now uid home

@@ -19,9 +19,9 @@ use Rattle.core_map.specs.CoreMap.{Core}
 use Rattle.page_table.specs.declared.Ptw.{Ptw}
 use Rattle.page_table.specs.declared.Ptw.TheVariants.{Null, Out, Here, Leaving}
 use Rattle.page_control.specs.Effects.{erased, freed, evicted, created, brought_in, framed, dropped}
-use Rattle.page_control.proofs.Facts.{used_within}
-use Rattle.page_control.proofs.Places.{put, list_within, refile, home_within}
+use Rattle.page_control.proofs.Places.{refile, home_within}
 use Rattle.page_control.specs.Counts.{taken, used, named_on, one_more, one_less, KeepsCounts}
+use Rattle.laws.proofs.Places.{put, list_within, count_with, count_without, flag_within}
 
 -- a count for each volume is told by the list of all
 pub by_list : {X : Type 0} (f : List X → ℕ) (xs ys : List (List X)) → map f xs ≡ map f ys → (v : ℕ)
@@ -143,21 +143,6 @@ less_by old new v here others = λ i. λ w. at w i
       | inr n ↦ rw n.0 (others w n.1)
     ]
 
--- a flag that is turned on, and one that is turned off
-count_with : (flags : List Bool) (r : ℕ) → r < length flags → in_use flags r ≡ false
-    → count_by (λ flag. flag) (set flags r true) ≡ count_by (λ flag. flag) flags + 1
-count_with flags r lt free =
-    let e = sum_by-set (λ flag. cond {A = ℕ} flag 1 0) flags r true false lt in
-    let z : cond {A = ℕ} (in_use flags r) 1 0 ≡ 0 = rw free refl in
-    omega (arith, e, z)
-
-count_without : (flags : List Bool) (r : ℕ) → r < length flags → in_use flags r ≡ true
-    → count_by (λ flag. flag) (set flags r false) + 1 ≡ count_by (λ flag. flag) flags
-count_without flags r lt used =
-    let e = sum_by-set (λ flag. cond {A = ℕ} flag 1 0) flags r false false lt in
-    let z : cond {A = ℕ} (in_use flags r) 1 0 ≡ 1 = rw used refl in
-    omega (arith, e, z)
-
 -- a record is taken into use, and one is given back
 pub taken_more : (records : List (List Bool)) (v r : ℕ) → r < length (flags_in records v)
     → in_use (flags_in records v) r ≡ false
@@ -172,11 +157,11 @@ taken_more records v r rl free =
 pub fewer_at : (records : List (List Bool)) (v r : ℕ) → in_use (flags_in records v) r ≡ true
     → taken (put records v r false) v + 1 ≡ taken records v
 fewer_at records v r is =
-    let rl : r < length (flags_in records v) = used_within (flags_in records v) r is in
+    let rl : r < length (flags_in records v) = flag_within (flags_in records v) r is in
     let vl : v < length records = list_within records v r rl in
     ap (λ (flags : List Bool). count_by (λ flag. flag) flags + 1)
     (get_or-set_same records v (set (flags_in records v) r false) [] vl)
-    ∙ count_without (flags_in records v) r rl is
+    ∙ count_without (flags_in records v) r is
 
 pub taken_less : (records : List (List Bool)) (v r : ℕ) → in_use (flags_in records v) r ≡ true
     → taken (put records v r false) ≡ one_less (taken records) v

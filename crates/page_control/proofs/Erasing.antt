@@ -17,7 +17,7 @@ use Rattle.page_control.specs.Tied.{vtoc_in, flags_in, uid_at, map_at, HasNoFram
 use Rattle.page_control.specs.Picture.{words_at, words_filed, is_filed_at, is_stored}
 use Rattle.page_control.specs.Ties.{IsTied}
 use Rattle.page_control.proofs.Pictures.{shown_out, words_by}
-use Rattle.page_control.proofs.Places.{put, put_other, put_here, volume_within, home_within, refile, map_refiled}
+use Rattle.page_control.proofs.Places.{volume_within, home_within, refile, map_refiled}
 use Rattle.page_control.proofs.Places.{uids_refiled, other_home}
 use Rattle.page_control.proofs.Naming.{filed_unstored, filed_freed, maps_freed}
 use Rattle.page_control.proofs.Marks.{tie_mapped}
@@ -27,6 +27,7 @@ use Rattle.page_control.specs.Counts.{taken, named_on}
 use Rattle.laws.proofs.Lists.{none_put, within_from}
 use Rattle.laws.proofs.Options.{not_none}
 use Rattle.laws.proofs.Bools.{off_and_on}
+use Rattle.laws.proofs.Places.{put, put_other, put_here, put_put}
 
 freed_some : (flags : List Bool) (places : List (Option ℕ)) (place : Option ℕ) (r : ℕ) → place ≡ Some r
     → freed flags (place ∷ places) ≡ freed (set flags r false) places
@@ -39,13 +40,6 @@ takes flags places n r is =
     let lt : n < length places = within_from places n None (λ none. not_none (get_or places n None) r none is) in
     sym (at_drop_more (freed flags) places n None lt ∙ freed_some flags (drop (n + 1) places) (get_or places n None) r
     is)
-
-put_put : {X : Type 0} (xs : List (List X)) (v e : ℕ) (x y : X) → v < length xs → put (put xs v e x) v e y
-    ≡ put xs v e y
-put_put xs v e x y vl =
-    ap (λ (ys : List _). set (put xs v e x) v (set ys e y)) (get_or-set_same xs v (set (get_or xs v []) e x) [] vl)
-    ∙ ap (set (put xs v e x) v) (set-set (get_or xs v []) e x y)
-    ∙ set-set xs v (set (get_or xs v []) e x) (set (get_or xs v []) e y)
 
 -- the file map after page n has given its record back
 rest_flags : (s : Plain) (uid : ℕ) (home : Home) (n r : ℕ) → uid_at s.vtocs home ≡ Some uid → filed s home n ≡ Some r

@@ -20,14 +20,11 @@ use Rattle.page_control.specs.Plain.{entry_of, record_of, number_in, number_or_z
 use Rattle.page_control.specs.Tied.{frame_of, has_record, uid_in, uid_at, IsTableOf, IsMapOf, AreFiled}
 use Rattle.page_control.specs.Ties.{IsTied}
 use Rattle.laws.proofs.Lists.{within_from}
-
--- a used entry is there
-pub some_entry : (entry : Option Entry) (uid : ℕ) → uid_of entry ≡ Some uid → IsSome entry
-some_entry None uid h = cc
-some_entry (Some entry) uid h = refl
+use Rattle.laws.proofs.Places.{flag_within}
+use Rattle.laws.proofs.Options.{some_unwrapped, map_some}
 
 pub home_used : (s : Plain) (uid : ℕ) (home : Home) → uid_at s.vtocs home ≡ Some uid → IsSome (entry_of s home)
-home_used s uid home h = some_entry (entry_of s home) uid h
+home_used s uid home h = map_some (λ (e : Entry). e.uid) (entry_of s home) uid h
 
 pub here_within : (table : List Ptw) (p f : ℕ) → ptw_at table p ≡ Here f → p < length table
 here_within table p f h = within_from table p Null (λ e. cc)
@@ -38,19 +35,11 @@ leaving_within table p f h = within_from table p Null (λ e. cc)
 pub out_within : (table : List Ptw) (p r : ℕ) → ptw_at table p ≡ Out r → p < length table
 out_within table p r h = within_from table p Null (λ e. cc)
 
--- a record that is in use is within its volume
-pub used_within : (flags : List Bool) (r : ℕ) → in_use flags r ≡ true → r < length flags
-used_within flags r h = within_from flags r false (λ e. cc)
-
-pub some_number : (r : Option ℕ) → is_some r ≡ true → r ≡ Some (number_or_zero r)
-some_number None h = cc
-some_number (Some r) h = refl
-
 -- a page whose word isn't `Null` is on a record
 pub filed_from_word : (s : Plain) (home : Home) (table : List Ptw) (p : ℕ) → IsMapOf (file_map_of s home) table
     → has_record (ptw_at table p) ≡ true
     → filed s home p ≡ Some (record_of s home p)
-filed_from_word s home table p h word = some_number (filed s home p) (h.stored p ∙ word)
+filed_from_word s home table p h word = some_unwrapped (filed s home p) (h.stored p ∙ word)
 
 -- which is in use
 pub filed_in_use : (s : Plain) (home : Home) (p r : ℕ) → AreFiled s.records s.vtocs → filed s home p ≡ Some r
@@ -178,6 +167,6 @@ pub ruleset page_made = (home_used, none_free)
 pub ruleset frame_filled = (bound_and_marked, all_cleared)
 
 -- a record that a file map names
-pub ruleset record_within = (filed_in_use, used_within)
+pub ruleset record_within = (filed_in_use, flag_within)
 
 pub ruleset record_filed = (filed_in_use, record_is)

@@ -18,7 +18,7 @@ use Rattle.page_control.specs.Tied.{vtoc_in, frame_of, has_record, uid_at, map_a
 use Rattle.page_control.specs.Tied.{HasNoFrame, IsBlank}
 use Rattle.page_control.specs.Picture.{words_at, words_filed, is_filed_at, is_stored}
 use Rattle.page_control.specs.Ties.{IsTied, KeepsTies}
-use Rattle.page_control.proofs.Places.{put, list_within, put_here, put_other, at_or_other, other_home}
+use Rattle.page_control.proofs.Places.{at_or_other, other_home}
 use Rattle.page_control.proofs.Pictures.{shown_out, words_by}
 use Rattle.page_control.proofs.Marks.{tie_mapped}
 use Rattle.page_control.proofs.Naming.{filed_mapped}
@@ -26,6 +26,7 @@ use Rattle.page_control.proofs.Counting.{used_more}
 use Rattle.laws.proofs.Lists.{all_same}
 use Rattle.laws.proofs.Options.{not_none}
 use Rattle.laws.proofs.Bools.{off_and_on}
+use Rattle.laws.proofs.Places.{put, list_within, put_here, put_other}
 
 -- an empty file map names no record
 pub no_record : (q : ℕ) → get_or no_records q None ≡ None

@@ -7,13 +7,13 @@ use Rattle.record_map.specs.Bitmap.{in_use}
 use Rattle.vtoc.specs.Vtoc.{Entry, record_at, records_in}
 use Rattle.page_control.specs.declared.Home.{Home}
 use Rattle.page_control.specs.Tied.{vtoc_in, flags_in, uid_at, map_at, AreFiled, IsNamed}
-use Rattle.page_control.proofs.Facts.{used_within}
 use Rattle.page_control.proofs.Ties.{frame_same}
-use Rattle.page_control.proofs.Places.{put, put_here, put_other, list_within, refile, volume_within, home_within}
+use Rattle.page_control.proofs.Places.{refile, volume_within, home_within}
 use Rattle.page_control.proofs.Places.{map_refiled, at_or_other}
 use Rattle.page_control.proofs.Filing.{AreUsed, used_of, refiled_cases, used_unstored, used_stored, used_fewer}
 use Rattle.laws.proofs.Options.{not_none}
 use Rattle.laws.proofs.Bools.{off_and_on}
+use Rattle.laws.proofs.Places.{put, put_here, put_other, list_within, flag_within}
 
 -- each record in use is named by some file map
 abbrev AreNamed : List (List Bool) → List (List (Option Entry)) → Type 0
@@ -36,7 +36,7 @@ named_unstored : (records : List (List Bool)) (vtocs : List (List (Option Entry)
     → AreNamed (put records home.volume r false) (refile vtocs home p None)
 named_unstored records vtocs uid p r home filed h there =
     let rl : r < length (flags_in records home.volume) =
-    used_within _ r (filed.used home.volume home.entry p r there) in
+    flag_within _ r (filed.used home.volume home.entry p r there) in
     let vl : home.volume < length records = list_within records home.volume r rl in
     λ w k on. elim (same_place home.volume w r k) [
       | inl at ↦ absurd (off_and_on (in_use (flags_in (put records home.volume r false) w) k)

@@ -10,30 +10,7 @@ use Rattle.page_control.specs.Tied.{vtoc_in, uid_at, map_at}
 use Rattle.page_control.proofs.Ties.{frame_same}
 use Rattle.laws.proofs.Options.{not_none}
 use Rattle.laws.proofs.Lists.{within_from}
-
--- place e of list v becomes x
-abbrev pub put : {X : Type 0} → List (List X) → ℕ → ℕ → X → List (List X)
-put xs v e x = set xs v (set (get_or xs v []) e x)
-
-pub put_here : {X : Type 0} (xs : List (List X)) (v e : ℕ) (x d : X) → v < length xs → e < length (get_or xs v [])
-    → get_or (get_or (put xs v e x) v []) e d ≡ x
-put_here xs v e x d vl el =
-    ap (λ (ys : List _). get_or ys e d) (get_or-set_same xs v (set (get_or xs v []) e x) [] vl)
-    ∙ get_or-set_same (get_or xs v []) e x d el
-
-pub put_other : {X : Type 0} (xs : List (List X)) (v e : ℕ) (x d : X) (w g : ℕ) → v < length xs → (w ≡ v → g ≡ e → ⊥)
-    → get_or (get_or (put xs v e x) w []) g d ≡ get_or (get_or xs w []) g d
-put_other xs v e x d w g vl other = elim (cases_eq w v) [
-  | inl same ↦ rw same
-      (ap (λ (ys : List _). get_or ys g d) (get_or-set_same xs v (set (get_or xs v []) e x) [] vl)
-      ∙ get_or-set_other (get_or xs v []) e g x d (other same))
-  | inr n ↦ ap (λ (ys : List _). get_or ys g d) (get_or-set_other xs v w (set (get_or xs v []) e x) [] n)
-]
-
--- a list that has a place is there
-pub list_within : {X : Type 0} (xs : List (List X)) (v e : ℕ) → e < length (get_or xs v []) → v < length xs
-list_within xs v e lt = within_from xs v [] (λ none. (let no : length (get_or xs v []) ≡ 0 =
-    ap length none in omega (arith, no, lt)))
+use Rattle.laws.proofs.Places.{put, put_here, put_other}
 
 pub some_put : (xs : List (Option ℕ)) (p r s : ℕ) → get_or (set xs p (Some r)) p None ≡ Some s → s ≡ r
 some_put xs p r s is = elim (leb_tells (length xs) p) [

@@ -765,7 +765,7 @@ impl<D: Drive> Pages<D> {
     }
 
     /// Gives back the record of page `p` at a home, if it has one.
-    #[tactic(auto, using(crate::proofs::Facts::some_number, std::proofs::lemmas::Grind::common_steps))]
+    #[tactic(auto, using(laws::proofs::Options::some_unwrapped, std::proofs::lemmas::Grind::common_steps))]
     fn give_back(&mut self, home: Home, p: u32)
         requires page { p < 256 }
         requires volume { home.volume < length self.old.volumes.drives }

@@ -18,11 +18,12 @@ use Rattle.seg_mover.specs.declared.Mover.{Mover}
 use Rattle.seg_mover.specs.Homes.{entry_of, map_at as mover_map, uid_at as mover_uid}
 use Rattle.seg_mover.specs.Moves.{IsMoving, given_back, undone}
 use Rattle.seg_mover.specs.Records.{AddsRecords, AreKept, flags_given}
-use Rattle.seg_mover.proofs.Places.{no_record, put_here, put_other, entry_within, vtoc_within, used_from}
+use Rattle.seg_mover.proofs.Places.{no_record, entry_within, vtoc_within}
 use Rattle.seg_mover.proofs.Records.{gives}
 use Rattle.seg_control.specs.Moving.{home_at}
-use Rattle.laws.proofs.Options.{not_none}
+use Rattle.laws.proofs.Options.{not_none, map_some}
 use Rattle.laws.proofs.Bools.{off_and_on}
+use Rattle.laws.proofs.Places.{put_here, put_other}
 
 -- ---- records and VTOCs
 
@@ -176,7 +177,7 @@ pub home_adds : {D : Type 0} (vols : Vols D) (home : ℕ × ℕ) (uid : ℕ) →
     → AreKept (records_at vols home.0) (mover_map vols home)
     → AddsHome (given_back vols home).records vols.records (given_back vols home).vtocs vols.vtocs (home_at home)
 home_adds vols home uid is kept =
-    let used = used_from (entry_of vols home) uid is in
+    let used = map_some (λ (e : VtocEntry). e.uid) (entry_of vols home) uid is in
     record {
       free = put_here vols.vtocs home.0 home.1 None None (vtoc_within vols home used) (entry_within vols home used);
       entries = λ v e other. sym (put_other vols.vtocs home.0 home.1 None None v e (vtoc_within vols home used) other);

@@ -14,11 +14,10 @@ use Rattle.descriptor_seg.specs.Descriptors.{sdw_at}
 use Rattle.trailers.specs.Trailer.{trailers_of, leads_to, place_in, without_place, without_trailer}
 use Rattle.known_segs.specs.Known.{uid_of, without_number, HasOneNumberEach}
 use Rattle.active_segs.specs.declared.Entry.{Entry}
-use Rattle.active_segs.specs.Active.{uid_at}
+use Rattle.active_segs.specs.Active.{uid_at, uid_in}
 use Rattle.seg_control.specs.Control.{Links, kst_at, sdws_at, leads, leads_at}
 use Rattle.seg_control.specs.Effects.{linked, unlinked, with_kst}
 use Rattle.seg_control.specs.Kept.{times, AreExact, IsKnownAt, AreLinked}
-use Rattle.seg_control.proofs.Places.{used_within}
 use Rattle.seg_control.proofs.Counts.{weight, count_push, count_remove, count_some}
 use Rattle.seg_control.proofs.Linked.{pair_cases, leads_within, leads_this, leads_other, words_kept, leads_to_itself}
 use Rattle.seg_control.proofs.Linked.{leads_to_is, leads_to_not, times_same}
@@ -26,6 +25,7 @@ use Rattle.seg_control.proofs.Linked.{most_trailers}
 use Rattle.laws.proofs.Lists.{length_push, position_there}
 use Rattle.laws.proofs.Numbers.{same_test}
 use Rattle.laws.proofs.Options.{some_number}
+use Rattle.laws.proofs.Places.{shown_within}
 
 list_same : (trailers : List (List (ℕ × ℕ))) (place : ℕ) (xs : List (ℕ × ℕ)) → place < length trailers
     → trailers_of (set trailers place xs) place ≡ xs
@@ -72,7 +72,7 @@ pub may_connect : (entries : List (Option Entry)) (links : Links) (process numbe
 may_connect entries links process number place linked active within known cut =
     let uid = some_number (uid_at entries place) active in
     let same = linked.lists.places in
-    let lt = used_within entries place uid.0 uid.1 in
+    let lt = shown_within uid_in entries place None uid.0 refl uid.1 in
     record {
       uid = uid.0;
       process_within = within;

@@ -32,6 +32,7 @@ use Rattle.seg_control.proofs.Resting.{aside_of}
 use Rattle.seg_control.proofs.Under.{moving_plain, now_is}
 use Rattle.seg_control.proofs.Choosing.{first_same, out_from, to_copy_out}
 use Rattle.laws.proofs.Bools.{off_and_on}
+use Rattle.laws.proofs.Options.{some_unwrapped}
 
 -- ---- the segment that moves
 
@@ -78,10 +79,6 @@ record_kept disks v r words w k other = elim (cases_eq w v) [
         ∙ ap (λ (u : ℕ). get_or (get_or disks u []) k []) (sym same)
   ]
 ]
-
-some_number : (place : Option ℕ) → is_some place ≡ true → place ≡ Some (number_or_zero place)
-some_number None some = cc
-some_number (Some r) some = refl
 
 named_from : (b c : Bool) → b && c ≡ true → b ≡ true
 named_from true c on = refl
@@ -161,7 +158,7 @@ module _ {D E : Type 0} {pages : D → List (List ℕ)} {old : Paging D} {vols :
       (λ q. IsLeastToCopy (mover_map old.volumes m.from) skip m.next q)) is c.least in
       let moving = c.kept.way.moving in
       let named : place_at old.volumes m.to p ≡ Some (number_or_zero (place_at old.volumes m.to p)) =
-      some_number (place_at old.volumes m.to p) (moving.same p ∙ named_from _ _ least.wanted) in
+      some_unwrapped (place_at old.volumes m.to p) (moving.same p ∙ named_from _ _ least.wanted) in
       record_kept (map pages old.volumes.drives) m.to.0 (number_or_zero (place_at old.volumes m.to p)) _ w k
       (λ volume same. off_and_on (in_use (flags_in rest.records w) k)
       (ap (λ (v : ℕ). in_use (flags_in rest.records v) k) volume

@@ -19,9 +19,10 @@ use Rattle.seg_control.specs.Control.{Links, Control, kst_at, sdws_at, leads, le
 use Rattle.seg_control.specs.Effects.{linked, unlinked, cut_one, faulting, all_cut, reconnected}
 use Rattle.seg_control.specs.Kept.{times, AreLinked, pair_at, MayReconnect}
 use Rattle.seg_control.proofs.Counts.{count_two}
-use Rattle.seg_control.proofs.Linked.{trailer_leads, leads_within, leads_to_itself, times_same, times_most}
+use Rattle.seg_control.proofs.Linked.{trailer_leads, leads_within, leads_to_itself, times_same}
 use Rattle.seg_control.proofs.Connected.{without_shorter}
 use Rattle.laws.proofs.Lists.{one_left}
+use Rattle.laws.proofs.Options.{times_few}
 
 -- ---- the oldest trailer
 
@@ -294,7 +295,7 @@ may_again entries links place k =
           (ap (leads_to (pair_at xs i).0 (pair_at xs i).1) (sym same)
           ∙ leads_to_itself (pair_at xs i).0 (pair_at xs i).1) in
           let is = k.exact place (pair_at xs i).0 (pair_at xs i).1 in
-          let most = times_most (leads_at links.descriptors (pair_at xs i).0 (pair_at xs i).1) place in
+          let most = times_few (leads_at links.descriptors (pair_at xs i).0 (pair_at xs i).1) place in
           omega (arith, twice, is, most));
     }
 

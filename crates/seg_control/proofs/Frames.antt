@@ -12,9 +12,6 @@ use Rattle.page_control.specs.Tied.{IsBoundOnce, IsNotStarted, uid_in}
 use Rattle.seg_control.specs.Control.{Links}
 use Rattle.seg_control.specs.Kept.{read_at, IsKept}
 
-pub binding_is : (core : Core) (f : ℕ) → binding_at (bindings core) f ≡ bound_page (frame_at core f)
-binding_is core f = get_or-map bound_page core.frames f Free
-
 pub read_is : (core : Core) (f : ℕ) → read_at (reads_of core) f ≡ started_page (frame_at core f)
 read_is core f = get_or-map started_page core.frames f Free
 
@@ -26,7 +23,7 @@ page_of_bound (Bound u q used modified) e = refl
 -- a bound frame has its page
 pub bound_to : (core : Core) (f : ℕ) → is_bound (frame_at core f) ≡ true → binding_at (bindings core) f
     ≡ Some (uid_in (frame_at core f), number_in (frame_at core f))
-bound_to core f e = binding_is core f ∙ page_of_bound (frame_at core f) e
+bound_to core f e = get_or-map bound_page core.frames f Free ∙ page_of_bound (frame_at core f) e
 
 -- no other frame has it
 pub bound_once : {now : Plain} {ast : ActiveSegs} {links : Links} {f : ℕ} → IsKept now ast links

@@ -19,6 +19,8 @@ use Rattle.seg_control.specs.Kept.{times, AreExact, AreLinked}
 use Rattle.seg_control.proofs.Counts.{weight, count_one, count_two, any_at}
 use Rattle.laws.proofs.Bools.{and_parts}
 use Rattle.laws.proofs.Lists.{get_or_any}
+use Rattle.laws.proofs.Places.{shown_within}
+use Rattle.laws.proofs.Options.{times_few, times_one}
 
 -- ---- descriptors
 
@@ -32,11 +34,8 @@ pair_cases q n process number = elim (cases_eq q process) [
 -- the process of a descriptor that leads somewhere
 pub leads_within : (descriptors : List (List Sdw)) (q n place : ℕ) → leads_at descriptors q n ≡ Some place
     → q < length descriptors
-leads_within descriptors q n place e = elim (cases_lt q (length descriptors)) [
-  | inl lt ↦ lt
-  | inr past ↦ absurd (none-some place (sym (ap (λ (words : List Sdw). leads (sdw_at words n))
-      (get_or_past descriptors q [] past)) ∙ e))
-]
+leads_within descriptors q n place e =
+    shown_within (λ (words : List Sdw). leads (sdw_at words n)) descriptors q [] place refl e
 
 module _ (descriptors : List (List Sdw)) (process number : ℕ) (w : Sdw) (process_within : process < length descriptors)
     (number_within : number < length (sdws_at descriptors process)) where
@@ -95,21 +94,6 @@ times_same place = ap weight (eq-eqb place place refl)
 pub times_other : (place q : ℕ) → q ≢ place → times (Some place) q ≡ 0
 times_other place q ne = ap weight (ne_eqb place q (λ e. ne (sym e)))
 
-pub times_most : (at : Option ℕ) (place : ℕ) → times at place ≤ 1
-times_most None place = omega arith
-times_most (Some aste) place = by_test (eqb aste place) refl
-  where
-    by_test : (b : Bool) → eqb aste place ≡ b → times (Some aste) place ≤ 1
-    by_test true e = (let is : times (Some aste) place ≡ 1 = ap weight e in omega (arith, is))
-    by_test false e = (let is : times (Some aste) place ≡ 0 = ap weight e in omega (arith, is))
-
-times_some : (at : Option ℕ) (place : ℕ) → 1 ≤ times at place → at ≡ Some place
-times_some None place le = absurd (omega (arith, le))
-times_some (Some aste) place le = elim (cases_eq place aste) [
-  | inl e ↦ ap (λ (k : ℕ). Some k) (sym e)
-  | inr ne ↦ (let none = times_other aste place ne in absurd (omega (arith, le, none)))
-]
-
 -- a trailer leads to a descriptor that leads back
 pub trailer_leads : (trailers : List (List (ℕ × ℕ))) (descriptors : List (List Sdw)) (place i : ℕ)
     → AreExact trailers descriptors → i < length (trailers_of trailers place)
@@ -119,7 +103,7 @@ trailer_leads trailers descriptors place i exact lt =
     let x : ℕ × ℕ = get_or (trailers_of trailers place) i (0, 0) in
     let some = count_one (leads_to x.0 x.1) (trailers_of trailers place) i (0, 0) lt (leads_to_itself x.0 x.1) in
     let is = exact place x.0 x.1 in
-    times_some (leads_at descriptors x.0 x.1) place (omega (arith, some, is))
+    times_one (leads_at descriptors x.0 x.1) place (omega (arith, some, is))
 
 -- no process has two trailers in one list, so there are at most as many as processes
 pub most_trailers : (entries : List (Option Entry)) (links : Links) (place : ℕ) → AreLinked entries links
@@ -173,5 +157,5 @@ most_trailers entries links place k =
         count_two (leads_to a.0 a.1) xs i j (0, 0) less lt (leads_to_itself a.0 a.1)
         (and_from _ _ (eq-eqb b.0 a.0 process) (eq-eqb b.1 a.1 number)) in
         let is = k.exact place a.0 a.1 in
-        let most = times_most (leads_at links.descriptors a.0 a.1) place in
+        let most = times_few (leads_at links.descriptors a.0 a.1) place in
         omega (arith, twice, is, most)))

@@ -24,7 +24,11 @@ use Rattle.page_control.specs.Tied.{AreFiled}
 use Rattle.seg_control.specs.Control.{Links, kst_at, leads, leads_at}
 use Rattle.seg_control.specs.Effects.{no_links}
 use Rattle.seg_control.specs.Kept.{read_at, times, AreFree, AreAtRest, AreLinked, IsKept}
-use Rattle.seg_control.proofs.Frames.{binding_is, read_is}
+use Rattle.seg_control.proofs.Frames.{read_is}
+use Rattle.core_map.specs.declared.Frame.TheVariants.{Free}
+use Rattle.std.proofs.Math.ListN.{get_or-map}
+use Rattle.laws.proofs.Lists.{all_same}
+use Rattle.laws.proofs.Places.{length_of_four}
 
 -- one of many equal ones, or the default past their end
 one_of : {X : Type 0} (n i : ℕ) (x d : X) (P : X → Type 0) → P x → P d → P (get_or (replicate n x) i d)
@@ -34,14 +38,11 @@ one_of {X} n i x d P px pd = elim (cases_lt i n) [
       (let long : length (replicate n x) ≡ n = length-replicate n x in omega (arith, long, past)))) pd
 ]
 
-empty_at : (n place : ℕ) → entry_at (replicate n None) place ≡ None
-empty_at n place = one_of n place None None (λ (e : Option Entry). e ≡ None) refl refl
-
 none_at : (n place uid : ℕ) → uid_at (replicate n None) place ≢ Some uid
-none_at n place uid e = none-some uid (sym (ap uid_in (empty_at n place)) ∙ e)
+none_at n place uid e = none-some uid (sym (ap uid_in (all_same n place None)) ∙ e)
 
 none_above : (n place uid : ℕ) → superior_at (replicate n None) place ≢ Some uid
-none_above n place uid e = none-some uid (sym (ap superior_in (empty_at n place)) ∙ e)
+none_above n place uid e = none-some uid (sym (ap superior_in (all_same n place None)) ∙ e)
 
 tree_empty : (n : ℕ) → IsTree (replicate n None)
 tree_empty n = record {
@@ -76,18 +77,6 @@ blank_null pools =
 word_null : (pools : List ℕ) (place p : ℕ) → ptw_at (table_at (null_tables pools) place) p ≡ Null
 unfolding AreBlank
 word_null pools place p = blank_null pools place p
-
-sum_of_four : (pools : List ℕ) → length pools ≡ 4 → sum pools
-    ≡ size_of pools 0 + size_of pools 1 + size_of pools 2 + size_of pools 3
-sum_of_four [] four = absurd (omega (arith, four))
-sum_of_four (a ∷ []) four = absurd (omega (arith, four))
-sum_of_four (a ∷ b ∷ []) four = absurd (omega (arith, four))
-sum_of_four (a ∷ b ∷ c ∷ []) four = absurd (omega (arith, four))
-sum_of_four (a ∷ b ∷ c ∷ d ∷ []) four = grind (arith, common_steps)
-sum_of_four (a ∷ b ∷ c ∷ d ∷ e ∷ rest) four = absurd (omega (arith, four))
-
-length_null : (pools : List ℕ) → length pools ≡ 4 → length (null_tables pools) ≡ sum pools
-length_null pools four = let all = sum_of_four pools four in simp (length-append, length-replicate) (omega (arith, all))
 
 -- ---- descriptors, trailers and known segment tables
 
@@ -153,7 +142,8 @@ kept_new now pools places processes ast links four few free filed rest is_ast nu
         filed = filed;
       };
       tree = tree_empty (sum pools);
-      places = length_null pools four ∙ sym (length-replicate (sum pools) None);
+      places = length_of_four (replicate 4 Null) (replicate 16 Null) (replicate 64 Null) (replicate 256 Null) pools four
+          ∙ sym (length-replicate (sum pools) None);
       sized = λ pool place lt in_pool.
           ap length (subst (λ (a : ActiveSegs). AreNullTables pools a.tables) is_ast null pool place lt in_pool)
           ∙ length-replicate (4 ^ (pool + 1)) Null;
@@ -164,7 +154,7 @@ kept_new now pools places processes ast links four few free filed rest is_ast nu
     some_page x e = cc
 
     not_bound : (f : ℕ) (x : ℕ × ℕ) → binding_at (bindings now.core) f ≡ Some x → ⊥
-    not_bound f x e = some_page x (sym (binding_is now.core f ∙ ap bound_page (free f)) ∙ e)
+    not_bound f x e = some_page x (sym (get_or-map bound_page now.core.frames f Free ∙ ap bound_page (free f)) ∙ e)
 
     not_read : (f : ℕ) (x : ℕ × ℕ) → read_at (reads_of now.core) f ≡ Some x → ⊥
     not_read f x e = some_page x (sym (read_is now.core f ∙ ap started_page (free f)) ∙ e)

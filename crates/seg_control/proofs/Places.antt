@@ -9,6 +9,7 @@ use Rattle.std.proofs.lemmas.Grind.{common_steps}
 use Rattle.active_segs.specs.declared.Entry.{Entry}
 use Rattle.active_segs.specs.Active.{uid_in, uid_at, entry_at, IsTree}
 use Rattle.seg_control.specs.Control.{is_for, place_of}
+use Rattle.laws.proofs.Places.{shown_within}
 
 -- the first element that passes
 first_is : {X : Type 0} (p : X → Bool) (xs : List X) (k : ℕ) (d : X) → k < length xs → p (get_or xs k d) ≡ true
@@ -28,16 +29,11 @@ uid_from : (uid : ℕ) (e : Option Entry) → is_for uid e ≡ true → uid_in e
 uid_from uid None h = cc
 uid_from uid (Some e) h = ap (λ (n : ℕ). Some n) (eqb-true e.uid uid h)
 
--- where something is active the place is one of the table's
-pub used_within : (xs : List (Option Entry)) (p uid : ℕ) → uid_at xs p ≡ Some uid → p < length xs
-used_within xs p uid e = elim (cases_lt p (length xs))
-    [ inl lt ↦ lt | inr past ↦ absurd (none-some uid (sym (ap uid_in (get_or_past xs p None past)) ∙ e)) ]
-
 pub place_is : (xs : List (Option Entry)) (uid place : ℕ) → IsTree xs → uid_at xs place ≡ Some uid → place_of xs uid
     ≡ place
 unfolding place_of
 place_is xs uid place tree at =
-    first_is (is_for uid) xs place None (used_within xs place uid at) (is_for_uid uid (entry_at xs place) at)
+    first_is (is_for uid) xs place None (shown_within uid_in xs place None uid refl at) (is_for_uid uid (entry_at xs place) at)
     (λ j l. not_before j l)
   where
     not_yet : (j : ℕ) (b : Bool) → j < place → is_for uid (entry_at xs j) ≡ b → b ≡ false

@@ -13,9 +13,10 @@ use Rattle.page_control.specs.Tied.{map_at}
 use Rattle.seg_mover.specs.Homes.{entry_of, map_at as mover_map, uid_at as mover_uid}
 use Rattle.seg_mover.specs.Moves.{given_back}
 use Rattle.seg_mover.specs.Records.{AreKept}
-use Rattle.seg_mover.proofs.Places.{entry_within, used_from, vtoc_within}
+use Rattle.seg_mover.proofs.Places.{entry_within, vtoc_within}
 use Rattle.seg_mover.proofs.Records.{count_given}
 use Rattle.seg_control.proofs.Aside.{given_here}
+use Rattle.laws.proofs.Options.{map_some}
 
 -- ---- file maps that name the same pages
 
@@ -72,7 +73,7 @@ entry_less table e lt some =
 pub used_given : {D : Type 0} (vols : Vols D) (home : ℕ × ℕ) (uid : ℕ) → mover_uid vols home ≡ Some uid
     → used (given_back vols home).vtocs home.0 + 1 ≡ used vols.vtocs home.0
 used_given vols home uid is =
-    let some = used_from (entry_of vols home) uid is in
+    let some = map_some (λ (e : VtocEntry). e.uid) (entry_of vols home) uid is in
     ap (λ (table : List (Option VtocEntry)). count_by is_some table + 1)
     (get_or-set_same vols.vtocs home.0 (set (vtoc_at vols home.0) home.1 None) [] (vtoc_within vols home some))
     ∙ entry_less (vtoc_at vols home.0) home.1 (entry_within vols home some) some

@@ -13,10 +13,11 @@ use Rattle.seg_mover.specs.Homes.{entry_of, map_at, place_at}
 use Rattle.seg_mover.specs.Records.{with_taken, flags_taken, map_taken}
 use Rattle.seg_mover.specs.Moves.{CanBegin, begun, entry_for}
 use Rattle.seg_mover.specs.Steps.{with_place, page_stored, entry_taken, IsPartBegun}
-use Rattle.seg_mover.proofs.Records.{least_there, least_is, count_more}
-use Rattle.seg_mover.proofs.Places.{put, put_here, put_put, list_within, no_record, length_no_records}
+use Rattle.seg_mover.proofs.Records.{least_there, least_is}
+use Rattle.seg_mover.proofs.Places.{no_record, length_no_records}
 use Rattle.seg_mover.proofs.Places.{map_placed, records_within, flags_used, vols_same}
 use Rattle.laws.proofs.Options.{some_number}
+use Rattle.laws.proofs.Places.{put, put_here, put_put, list_within, count_with}
 
 -- the home that was taken is there, on another volume than the old one
 pub record CanStore {D : Type 0} (old : Vols D) (from to : ℕ × ℕ) : Type 0 where
@@ -150,7 +151,7 @@ stored old now uid n q r from to store part lt some is =
     let flags_is : records_at new to.0 ≡ set flags r true = flags_used now to.0 r true rl in
     let map_is : map_at new to ≡ set places n (Some r) = map_placed mid to n (Some r) used in
     let more : count_by (λ (flag : Bool). flag) (set flags r true) ≡ count_by (λ (flag : Bool). flag) flags + 1 =
-    count_more flags r least.within least.free in
+    count_with flags r least.within least.free in
     let used_is : used_at new to.0 ≡ count_by (λ (flag : Bool). flag) (set flags r true) =
     ap (count_by (λ (flag : Bool). flag)) flags_is in
     let size_is : length (records_at new to.0) ≡ length flags = ap length flags_is ∙ length-set flags r true in

@@ -9,7 +9,7 @@ use Rattle.seg_mover.specs.Homes.{entry_of, uid_at, map_at, place_at}
 use Rattle.seg_mover.specs.Records.{AreKept, AddsRecords, flags_taken, map_taken, flags_given}
 use Rattle.seg_mover.specs.Moves.{CanBegin, IsMoving, KeepsOthersThan, begun, entry_for, given_back}
 use Rattle.seg_mover.proofs.Records.{HasTaken, has_taken}
-use Rattle.seg_mover.proofs.Places.{put, put_here, put_other, put_put, list_within}
+use Rattle.laws.proofs.Places.{put, put_here, put_other, put_put, list_within}
 
 -- each volume has a map of its records
 pub records_there : {D : Type 0} (pages : D → List (List ℕ)) (vols : Vols D) (v : ℕ)

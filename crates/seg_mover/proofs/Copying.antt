@@ -1,22 +1,13 @@
 -- What one copy does: a read of one drive, and a write of another.
 use Rattle.std.proofs.Common.{◌≡◌, ◌⊎◌, ℕ, ◌≤◌, List}
-use Rattle.std.proofs.Common.{length, Option, Result, Ok, Err, sym, ap, ◌∙◌, arith}
-use Rattle.std.proofs.Common.{get_or, map, inl, inr, sum_by, slice_get, OnOk, OnErr, subst}
-use Rattle.std.specs.Option.{unwrap_or, option_map}
-use Rattle.std.proofs.lemmas.Option.{slice_get-map, unwrap_or-slice_get}
+use Rattle.std.proofs.Common.{length, Result, Ok, Err, ap, ◌∙◌, arith}
+use Rattle.std.proofs.Common.{get_or, map, inl, inr, sum_by, OnOk, OnErr, subst}
 use Rattle.site_io.specs.Faults.{Rose}
 use Rattle.volumes.specs.FailLine.{IsOneMore}
 use Rattle.volumes.specs.Volumes.{faults_at, KeepsOthers}
 use Rattle.seg_mover.specs.Copies.{FailedAt, CallsDrives}
 use Rattle.laws.proofs.Lists.{sum_of_map}
-
--- a count of a drive that is as before
-count_kept : {D : Type 0} (f : D → ℕ) (old new : List D) (w : ℕ) → slice_get new w ≡ slice_get old w
-    → faults_at f new w ≡ faults_at f old w
-count_kept f old new w same =
-    sym (unwrap_or-slice_get (map f new) w 0) ∙ ap (λ (x : Option ℕ). unwrap_or x 0) (slice_get-map f new w)
-    ∙ ap (λ (x : Option _). unwrap_or (option_map f x) 0) same
-    ∙ sym (ap (λ (x : Option ℕ). unwrap_or x 0) (slice_get-map f old w)) ∙ unwrap_or-slice_get (map f old) w 0
+use Rattle.laws.proofs.Places.{seen_same}
 
 -- the read failed
 pub read_failed : {D Plan T E : Type 0} (plan : D → Plan) (places faults : D → ℕ) (old new : List D) (v w : ℕ)
@@ -35,7 +26,7 @@ read_failed plan places faults old new v w result e is plans stores count others
   failed = inl (record {
     once = once;
     rose = its;
-    others = λ u other. count_kept faults old new u (others.same u other);
+    others = λ u other. seen_same faults old new u (others.same u other);
   });
   rose = rose;
 })
@@ -53,7 +44,7 @@ failed_then faults old mid new v w (Err e) told others once its =
     inr (record {
       once = subst (λ (n : ℕ). IsOneMore n (faults_at faults new w)) (at w) once;
       rose = subst (λ (n : ℕ). Rose n (faults_at faults new w)) (at w) its;
-      others = λ u other. count_kept faults mid new u (others.same u other) ∙ at u;
+      others = λ u other. seen_same faults mid new u (others.same u other) ∙ at u;
     })
 
 told_then : {D T E : Type 0} (faults : D → ℕ) (old mid new : List D) (result : Result T E)

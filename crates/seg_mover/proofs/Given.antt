@@ -9,7 +9,9 @@ use Rattle.seg_mover.specs.Homes.{entry_of, uid_at, map_at}
 use Rattle.seg_mover.specs.Records.{AreKept, AddsRecords, flags_given}
 use Rattle.seg_mover.specs.Moves.{KeepsOthersThan, given_back}
 use Rattle.seg_mover.proofs.Records.{gives, count_given}
-use Rattle.seg_mover.proofs.Places.{put_here, put_other, vtoc_within, entry_within, used_from}
+use Rattle.seg_mover.proofs.Places.{vtoc_within, entry_within}
+use Rattle.laws.proofs.Places.{put_here, put_other}
+use Rattle.laws.proofs.Options.{map_some}
 
 -- what the volumes were, and what they are now
 pub record Gives {D : Type 0} (old now : Vols D) (home : ℕ × ℕ) : Type 0 where
@@ -65,4 +67,4 @@ pub gives_home : {D : Type 0} {old : Vols D} {uid : ℕ} {home : ℕ × ℕ} (no
     → AreKept (records_at old home.0) (map_at old home)
     → home.0 < length old.records → now ≡ given_back old home → Gives old now home
 gives_home {old = old} {uid = uid} {home = home} now used kept there is =
-    record { used = used_from (entry_of old home) uid used; kept = kept; there = there; is = is }
+    record { used = map_some (λ (e : Entry). e.uid) (entry_of old home) uid used; kept = kept; there = there; is = is }

@@ -10,9 +10,10 @@ use Rattle.seg_mover.specs.Records.{AreKept, flags_given}
 use Rattle.seg_mover.specs.Moves.{given_back}
 use Rattle.seg_mover.specs.Steps.{with_place, page_given, IsPartGiven}
 use Rattle.seg_mover.proofs.Records.{given_less, given_none, kept_less}
-use Rattle.seg_mover.proofs.Places.{put_put, vtoc_within, still_used, entry_placed, map_placed, records_within}
-use Rattle.seg_mover.proofs.Places.{on_within, flags_used, vols_same}
+use Rattle.seg_mover.proofs.Places.{vtoc_within, still_used, entry_placed, map_placed, records_within}
+use Rattle.seg_mover.proofs.Places.{flags_used, vols_same}
 use Rattle.laws.proofs.Numbers.{below_or_past}
+use Rattle.laws.proofs.Places.{put_put, flag_within}
 
 pub given_start : {D : Type 0} (old : Vols D) (home : ℕ × ℕ) → IsSome (entry_of old home)
     → AreKept (records_at old home.0) (map_at old home) → IsPartGiven old old home 0
@@ -61,7 +62,7 @@ given_some_more old now new home n r part is now_is =
     let flags : List Bool = records_at now home.0 in
     let places : List (Option ℕ) = map_at now home in
     let rl : home.0 < length now.records =
-    records_within now home.0 r (on_within flags r (part.kept.used n r is)) in
+    records_within now home.0 r (flag_within flags r (part.kept.used n r is)) in
     let map_is : map_at (with_place mid home n None) home ≡ set places n None = map_placed mid home n None part.used in
     rw now_is (record {
       used = rw (entry_placed mid home n None part.used) (still_used (entry_of now home) n None part.used);
@@ -114,7 +115,3 @@ all_given {old = old} {now = now} {home = home} part last = subst (IsPartGiven o
 
 pub full_same : {table those : List (Option Entry)} → HasFullMaps table → table ≡ those → HasFullMaps those
 full_same full same = subst HasFullMaps same full
-
-pub names_same : (table those : List (Option Entry)) (e : ℕ) → table ≡ those → NamesNoRecord those e
-    → NamesNoRecord table e
-names_same table those e same none = rw same none

@@ -8,7 +8,7 @@ use Rattle.std.proofs.lemmas.List.{get_or-set_same, get_or-set_other, get_or_pas
 use Rattle.std.proofs.lemmas.List.{set-get_or}
 use Rattle.std.proofs.lemmas.List.{length-set}
 use Rattle.std.proofs.lemmas.List.Elements.{All-head, All-tail}
-use Rattle.std.proofs.lemmas.List.Sums.{sum_by-cons, sum_by-set, fails_before_first}
+use Rattle.std.proofs.lemmas.List.Sums.{sum_by-cons, fails_before_first}
 use Rattle.std.proofs.lemmas.List.Quantifiers.{position-Some}
 use Rattle.bitmap.specs.Bitmap.{in_use, least_free, IsLeastFree}
 use Rattle.seg_mover.specs.Records.{with_taken, flags_taken, map_taken, flags_given, AreKept, AddsRecords}
@@ -16,6 +16,7 @@ use Rattle.laws.proofs.Numbers.{below_or_past}
 use Rattle.laws.proofs.Lists.{none_put, given_twice}
 use Rattle.laws.proofs.Options.{not_none, some_same}
 use Rattle.laws.proofs.Bools.{off_and_on, not_true, by_not}
+use Rattle.laws.proofs.Places.{count_with, count_without}
 
 -- each passes the test that is counted
 pub all_counted : {X : Type 0} (p : X → Bool) (xs : List X) → All (λ x. p x ≡ true) xs → count_by p xs ≡ length xs
@@ -259,13 +260,6 @@ pub record HasTaken (flags : List Bool) (places : List (Option ℕ)) : Type 0 wh
       ≡ count_by (λ flag. flag) flags + count_by is_some places
   pub back : flags_given (flags_taken flags places) (map_taken flags places) ≡ flags
 
-pub count_more : (flags : List Bool) (r : ℕ) → r < length flags → in_use flags r ≡ false
-    → count_by (λ flag. flag) (set flags r true) ≡ count_by (λ flag. flag) flags + 1
-count_more flags r lt off =
-    let step = sum_by-set (λ (flag : Bool). cond {A = ℕ} flag 1 0) flags r true false lt in
-    let none : cond {A = ℕ} (get_or flags r false) 1 0 ≡ 0 = rw off refl in
-    omega (arith, step, none)
-
 taken_none : (flags : List Bool) → HasTaken flags []
 taken_none flags = record {
   adds = record {
@@ -317,7 +311,7 @@ with_some flags places q r is h =
           ∙ omega (
             arith,
             h.count,
-            count_more flags r least.within least.free,
+            count_with flags r least.within least.free,
             sum_by-cons (λ (place : Option ℕ). cond {A = ℕ} (is_some place) 1 0) (Some q) places,
           );
       back = rw (flags_is, map_is) (given_set (flags_taken now places) (map_taken now places) r
@@ -339,7 +333,7 @@ has_taken flags (Some q ∷ places) room =
     let step = sum_by-cons (λ (place : Option ℕ). cond {A = ℕ} (is_some place) 1 0) (Some q) places in
     let found = least_there flags (omega (arith, step, room)) in
     let least : IsLeastFree flags found.0 = least_is flags found.0 found.1 in
-    let more = count_more flags found.0 least.within least.free in
+    let more = count_with flags found.0 least.within least.free in
     with_some flags places q found.0 found.1
     (has_taken (set flags found.0 true) places (omega (arith, step, room, more, length-set flags found.0 true)))
 
@@ -355,15 +349,6 @@ kept_tail flags place places kept = record {
     suc_same : (p q : ℕ) → suc p ≡ suc q → p ≡ q
     suc_same p q same = omega (arith, same)
 
-count_less : (flags : List Bool) (r : ℕ) → in_use flags r ≡ true
-    → count_by (λ flag. flag) (set flags r false) + 1 ≡ count_by (λ flag. flag) flags
-count_less flags r on = elim (below_or_past r (length flags)) [
-  | inl lt ↦ (let step = sum_by-set (λ (flag : Bool). cond {A = ℕ} flag 1 0) flags r false false lt in
-      let one : cond {A = ℕ} (get_or flags r false) 1 0 ≡ 1 = rw on refl in
-      omega (arith, step, one))
-  | inr past ↦ absurd (off_and_on (in_use flags r) (get_or_past flags r false past) on)
-]
-
 pub count_given : (flags : List Bool) (places : List (Option ℕ)) → AreKept flags places
     → count_by (λ flag. flag) (flags_given flags places) + count_by is_some places ≡ count_by (λ flag. flag) flags
 count_given flags [] kept = omega arith
@@ -373,7 +358,7 @@ count_given flags (None ∷ places) kept =
     omega (arith, step, ih)
 count_given flags (Some r ∷ places) kept =
     let step = sum_by-cons (λ (place : Option ℕ). cond {A = ℕ} (is_some place) 1 0) (Some r) places in
-    let less = count_less flags r (kept.used 0 r refl) in
+    let less = count_without flags r (kept.used 0 r refl) in
     let ih = count_given (set flags r false) places (kept_tail (set flags r false) None places
     (kept_less flags (Some r ∷ places) 0 r refl kept)) in
     omega (arith, step, less, ih)

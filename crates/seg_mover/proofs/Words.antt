@@ -11,12 +11,12 @@ use Rattle.seg_mover.specs.Homes.{map_at, place_at, words_filed, words_of}
 use Rattle.seg_mover.specs.Moves.{IsMoving, number_or_zero}
 use Rattle.seg_mover.specs.Copies.{page_to_copy, is_to_copy, copied, after_copy, moved_on, HasCopied}
 use Rattle.seg_mover.specs.Copies.{AreCopied}
-use Rattle.seg_mover.proofs.Places.{put_here, put_other, on_within}
 use Rattle.seg_mover.proofs.Begun.{records_there}
 use Rattle.seg_mover.proofs.Choosing.{least_to_copy, none_to_copy, named_from}
 use Rattle.laws.proofs.Numbers.{below_or_past}
 use Rattle.laws.proofs.Bools.{off_and_on}
 use Rattle.laws.proofs.Options.{some_number}
+use Rattle.laws.proofs.Places.{put_here, put_other, flag_within}
 
 -- a volume has as many records as its drive has pages
 sizes_same : {D : Type 0} (pages : D → List (List ℕ)) (vols : Vols D) (v : ℕ)
@@ -68,7 +68,7 @@ copy_of pages old m skip p moving parts is =
     let least = least_to_copy old m skip p is in
     let named : IsSome (place_at old m.to p) = moving.same p ∙ named_from (place_at old m.from p) _ least.wanted in
     let found = some_number (place_at old m.to p) named in
-    let within = on_within (records_at old m.to.0) found.0 (moving.new_kept.used p found.0 found.1) in (
+    let within = flag_within (records_at old m.to.0) found.0 (moving.new_kept.used p found.0 found.1) in (
       found.0,
       record {
         place = found.1;

@@ -1,13 +1,14 @@
-use Rattle.std.proofs.Common.{rules, arith}
-use Rattle.seg_mover.proofs.Giving.{given_more, given_end, all_given, full_same, names_none, names_same}
+use Rattle.std.proofs.Common.{rules, arith, List, Option, subst, sym}
+use Rattle.seg_mover.proofs.Giving.{given_more, given_end, all_given, full_same, names_none}
 use Rattle.seg_mover.proofs.give_back.Goals as goal
+use Rattle.vtoc.specs.Vtoc.{Entry, NamesNoRecord}
 
 pub loop-p-preserved : goal.loop-p-preserved
 loop-p-preserved g c = given_more c.give_record.new.v c.loop-p.invariant c.give_record.ensures
 
 pub free-requires-clause-empty : goal.free-requires-clause-empty
 free-requires-clause-empty g c =
-    names_same c.vtoc_mut.result.now _ c.args.home.1 c.vtoc_mut.ensures.value
+    subst (λ (table : List (Option Entry)). NamesNoRecord table c.args.home.1) (sym c.vtoc_mut.ensures.value)
     (names_none (all_given c.loop-p.invariant (omega arith)) (full_same c.size.ensures.places (search rules)))
 
 pub returns : goal.returns

@@ -2,15 +2,15 @@ use Rattle.std.proofs.Common.{arith}
 use Rattle.std.proofs.lemmas.Grind.{common_steps}
 use Rattle.std.proofs.Common.{rules}
 use Rattle.page_control.specs.Plain.{plain, filed}
-use Rattle.page_control.proofs.Facts.{some_number}
 use Rattle.page_control.proofs.Erasing.{part_some}
 use Rattle.page_control.proofs.pages.Pages.give_back.Goals as goal
+use Rattle.laws.proofs.Options.{some_unwrapped}
 
 pub returns-in-Some-clause-part : goal.returns-in-Some-clause-part
 returns-in-Some-clause-part g c = λ old uid part.
     part_some old (plain g.D.Drive.pages c.args.self.now) (plain g.D.Drive.pages c.unstore.new.self) uid c.args.home
     c.args.p c.unstore.ensures.unstored
-    (some_number (filed (plain g.D.Drive.pages c.args.self.now) c.args.home c.args.p) (search rules)) part
+    (some_unwrapped (filed (plain g.D.Drive.pages c.args.self.now) c.args.home c.args.p) (search rules)) part
 
 pub returns-in_default-clause-part : goal.returns-in_default-clause-part
-returns-in_default-clause-part g c = grind (arith, common_steps, some_number)
+returns-in_default-clause-part g c = grind (arith, common_steps, some_unwrapped)

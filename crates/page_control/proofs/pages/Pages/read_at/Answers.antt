@@ -1,9 +1,10 @@
 use Rattle.std.proofs.Common.{◌≡◌, ◌<◌, rules, arith, refl, length}
 use Rattle.std.proofs.lemmas.Grind.{common_steps}
 use Rattle.page_control.specs.Plain.{plain, record_of, flags_of}
-use Rattle.page_control.proofs.Facts.{tied_volume, used_within}
+use Rattle.page_control.proofs.Facts.{tied_volume}
 use Rattle.page_control.proofs.Calls.{out_record}
 use Rattle.page_control.proofs.pages.Pages.read_at.Goals as goal
+use Rattle.laws.proofs.Places.{flag_within}
 
 pub size-requires : goal.size-requires
 size-requires g c =
@@ -13,7 +14,7 @@ size-requires g c =
 pub prove-unreachable-requires : goal.prove-unreachable-requires
 prove-unreachable-requires g c =
     let lt : c.record_out-r.result < length (flags_of (plain g.D.Drive.pages c.args.self.now) c.args.home.volume) =
-    used_within _ _ (c.requires.tie.records.used c.args.home.volume c.args.home.entry c.args.p _
+    flag_within _ _ (c.requires.tie.records.used c.args.home.volume c.args.home.entry c.args.p _
     (c.requires.tie.map.out c.args.p _ c.record_out-r.ensures)) in
     let size : c.size.result ≡ length (flags_of (plain g.D.Drive.pages c.args.self.now) c.args.home.volume) =
     search rules in

@@ -1,13 +1,13 @@
 use Rattle.std.proofs.Common.{rules, ◌≡◌, ◌<◌, length, arith}
 use Rattle.page_control.specs.Plain.{plain, flags_of, record_of}
-use Rattle.page_control.proofs.Facts.{used_within}
 use Rattle.page_control.proofs.pages.Pages.record_in.Goals as goal
+use Rattle.laws.proofs.Places.{flag_within}
 
 pub prove-unreachable-requires : goal.prove-unreachable-requires
 prove-unreachable-requires g c =
     let lt : record_of (plain g.D.Drive.pages c.args.self.now) c.args.home c.args.p < length
     (flags_of (plain g.D.Drive.pages c.args.self.now) c.args.home.volume) =
-    used_within _ _ (c.requires.records.used c.args.home.volume c.args.home.entry c.args.p _ c.requires.filed) in
+    flag_within _ _ (c.requires.records.used c.args.home.volume c.args.home.entry c.args.p _ c.requires.filed) in
     let same : c.in-Some.r ≡ record_of (plain g.D.Drive.pages c.args.self.now) c.args.home c.args.p = search rules in
     let size : c.size.result ≡ length (flags_of (plain g.D.Drive.pages c.args.self.now) c.args.home.volume) =
     search rules in
