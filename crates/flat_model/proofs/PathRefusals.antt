@@ -1,4 +1,4 @@
--- What refuses a path takes no effect.
+-- What refuses a path: a test of replies that says the same of each refusal says it of what refuses a path.
 use Rattle.std.proofs.Common.{◌≡◌, ℕ, Bool, true, false, cond, List, [], ◌∷◌, Option, Some, None, Result, Ok, Err, ap}
 use Rattle.std.proofs.Common.{refl, sym, ◌∙◌}
 use Rattle.book.specs.declared.replies.Reply.{Reply}
@@ -8,36 +8,52 @@ use Rattle.flat_model.specs.Branches.{branch_at, directory_at, node_at, only_dir
 use Rattle.flat_model.specs.Branches.{there_or, walked}
 use Rattle.flat_model.specs.Commands.{takes_effect}
 
-walk_refuses : (nodes : List Node) (w : Walk) (r : Reply) → walked nodes w ≡ Err r → takes_effect r ≡ false
-walk_refuses nodes (LeadsTo u) r e = there (node_in nodes u) e
+module _ {X : Type 0} (says : Reply → X) (x : X) (missing : says reply.NoPath ≡ x)
+    (in_segment : says reply.NotDir ≡ x)
   where
-    there : (o : Option Node) → there_or o ≡ Err r → takes_effect r ≡ false
-    there None e = (let is : reply.NoPath ≡ r = cc in ap takes_effect (sym is))
-    there (Some n) e = cc
-walk_refuses nodes Missing r e = (let is : reply.NoPath ≡ r = cc in ap takes_effect (sym is))
-walk_refuses nodes InSegment r e = (let is : reply.NotDir ≡ r = cc in ap takes_effect (sym is))
+    walk_says : (nodes : List Node) (w : Walk) (r : Reply) → walked nodes w ≡ Err r → says r ≡ x
+    walk_says nodes (LeadsTo u) r e = there (node_in nodes u) e
+      where
+        there : (o : Option Node) → there_or o ≡ Err r → says r ≡ x
+        there None e = (let is : reply.NoPath ≡ r = cc in ap says (sym is) ∙ missing)
+        there (Some n) e = cc
+    walk_says nodes Missing r e = (let is : reply.NoPath ≡ r = cc in ap says (sym is) ∙ missing)
+    walk_says nodes InSegment r e = (let is : reply.NotDir ≡ r = cc in ap says (sym is) ∙ in_segment)
+
+    pub node_says : (nodes : List Node) (path : List (List ℕ)) (r : Reply) → node_at nodes path ≡ Err r → says r ≡ x
+    unfolding node_at
+    node_says nodes path r e = walk_says nodes (walk_in nodes path) r e
+
+    pub segment_says : says reply.IsDir ≡ x → (nodes : List Node) (path : List (List ℕ)) (r : Reply)
+        → segment_at nodes path ≡ Err r → says r ≡ x
+    segment_says dir nodes path r e = by (node_at nodes path) refl e
+      where
+        kind : (z : Bool) (n : Node) → cond z (Err reply.IsDir) (Ok n) ≡ Err r → says r ≡ x
+        kind true n e = (let is : reply.IsDir ≡ r = cc in ap says (sym is) ∙ dir)
+        kind false n e = cc
+
+        by : (o : Result Node Reply) → node_at nodes path ≡ o → only_segment o ≡ Err r → says r ≡ x
+        by (Ok n) at e = kind n.directory n e
+        by (Err q) at e = (let is : q ≡ r = cc in node_says nodes path r (at ∙ ap Err is))
+
+    pub branch_says : says reply.Root ≡ x → (nodes : List Node) (path : List (List ℕ)) (r : Reply)
+        → branch_at nodes path ≡ Err r → says r ≡ x
+    branch_says root nodes [] r e = (let is : reply.Root ≡ r = cc in ap says (sym is) ∙ root)
+    branch_says root nodes (name ∷ names) r e = node_says nodes (name ∷ names) r e
+
+-- ---- it takes no effect
 
 pub node_refuses : (nodes : List Node) (path : List (List ℕ)) (r : Reply) → node_at nodes path ≡ Err r
     → takes_effect r ≡ false
-unfolding node_at
-node_refuses nodes path r e = walk_refuses nodes (walk_in nodes path) r e
+node_refuses = node_says takes_effect false refl refl
 
 pub segment_refuses : (nodes : List Node) (path : List (List ℕ)) (r : Reply) → segment_at nodes path ≡ Err r
     → takes_effect r ≡ false
-segment_refuses nodes path r e = by (node_at nodes path) refl e
-  where
-    kind : (z : Bool) (n : Node) → cond z (Err reply.IsDir) (Ok n) ≡ Err r → takes_effect r ≡ false
-    kind true n e = (let is : reply.IsDir ≡ r = cc in ap takes_effect (sym is))
-    kind false n e = cc
-
-    by : (o : Result Node Reply) → node_at nodes path ≡ o → only_segment o ≡ Err r → takes_effect r ≡ false
-    by (Ok n) at e = kind n.directory n e
-    by (Err q) at e = (let is : q ≡ r = cc in node_refuses nodes path r (at ∙ ap Err is))
+segment_refuses = segment_says takes_effect false refl refl refl
 
 pub branch_refuses : (nodes : List Node) (path : List (List ℕ)) (r : Reply) → branch_at nodes path ≡ Err r
     → takes_effect r ≡ false
-branch_refuses nodes [] r e = (let is : reply.Root ≡ r = cc in ap takes_effect (sym is))
-branch_refuses nodes (name ∷ names) r e = node_refuses nodes (name ∷ names) r e
+branch_refuses = branch_says takes_effect false refl refl refl
 
 pub directory_refuses : (nodes : List Node) (path : List (List ℕ)) (r : Reply) → directory_at nodes path ≡ Err r
     → takes_effect r ≡ false

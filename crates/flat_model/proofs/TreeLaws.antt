@@ -12,6 +12,9 @@ use Rattle.tree_model.specs.Trees.{AreBelow, IsBranch, IsTree, Joins}
 use Rattle.tree_model.proofs.TreeLaws.{lies}
 use Rattle.flat_model.specs.Branches.{node_at, walked, there_or}
 use Rattle.tree_model.proofs.SharedLaws.{without_absent, older, found_uid}
+use Rattle.tree_model.specs.Access.{Row}
+use Rattle.flat_model.specs.Making.{made_in, new_branch}
+use Rattle.flat_model.specs.Store.{Store}
 
 -- the oldest node is the root
 above_one : (m : Node) (ms : List Node) (u : ℕ) → IsTree (m ∷ ms) → AreBelow u (m ∷ ms) → 1 < u
@@ -121,3 +124,14 @@ pub apart_shown : {X : Type 0} (ns : List Node) (path : List (List ℕ)) (f : X 
     → IfOk r (λ x. node_at ns path ≡ Ok (f x)) → IfOk r (λ x. (f x).uid ≢ 1)
 apart_shown ns path f (Ok x) t some found = path_apart ns path (f x) t some found
 apart_shown ns path f (Err e) t some found = tt
+
+-- the branch that is made for the next uid below a directory
+pub branch_made : {volume pages : ℕ} {directory : Bool} {rows : List Row} {name : List ℕ} (s : Store) (d : Node)
+    (next superior : ℕ) → s.next ≡ next → d.uid ≡ superior
+    → record s { nodes = new_branch next superior name directory volume pages rows ∷ s.nodes; next = s.next + 1 }
+    ≡ made_in s volume directory pages rows name d
+branch_made {volume} {pages} {directory} {rows} {name} s d next superior at below =
+    ap (λ (u : ℕ). record s { nodes = new_branch u superior name directory volume pages rows ∷ s.nodes; next = s.next + 1 })
+    (sym at)
+    ∙ ap (λ (u : ℕ). record s { nodes = new_branch s.next u name directory volume pages rows ∷ s.nodes; next = s.next + 1 })
+    (sym below)

@@ -6,6 +6,7 @@ pub mod Making
 pub mod Moves
 pub mod Naming
 pub mod Pages
+pub mod Reached
 pub mod References
 pub mod Rights
 pub mod Rooms

@@ -14,7 +14,7 @@ use Rattle.flat_model.proofs.ScriptLaws.{root_there}
 use Rattle.flat_store.specs.Shown.{Gauge, gauge_at, filled, entries_gauge, records_gauge, Held, Holds, Kept, Shows}
 use Rattle.flat_store.specs.Shown.{pages_in}
 use Rattle.flat_store.proofs.GaugeLaws.{counts_more, gauge}
-use Rattle.flat_store.proofs.ReachLaws.{reached_boot}
+use Rattle.flat_model.proofs.ReachLaws.{reached_boot}
 
 records_here : (vs : List VolumeLine) (v : ℕ)
     → gauge_at (map records_gauge vs) v ≡ gauge 0 (records_in (slice_get vs v))

@@ -16,12 +16,8 @@ use Rattle.flat_model.proofs.FieldLaws.{entries_mapped, field_kept, field_mapped
 use Rattle.flat_model.proofs.NodeLaws.{no_directory}
 use Rattle.flat_model.proofs.PageLaws.{stored_from}
 use Rattle.flat_store.specs.Shown.{AreFlat, AreInside, Held, Holds, pages_in}
-
--- a change of a node keeps its uid, its volume and its kind
-pub record Keeps (change : Node → Node) : Type 0 where
-  pub uid : (n : Node) → (change n).uid ≡ n.uid
-  pub volume : (n : Node) → (change n).volume ≡ n.volume
-  pub kind : (n : Node) → (change n).directory ≡ n.directory
+use Rattle.flat_model.proofs.KeepLaws.{Keeps, directory_map, keeps_moved, moved_else, quota_moved, segment_map, volume_map}
+use Rattle.flat_model.proofs.KeepLaws.{keeps_length, keeps_one}
 
 -- nodes that lie on the same volumes and are of the same kinds
 pub record AreAlike (ns ms : List Node) : Type 0 where
@@ -31,23 +27,11 @@ pub record AreAlike (ns ms : List Node) : Type 0 where
   pub entries : (v : ℕ) → entries_on ms v ≡ entries_on ns v
 
 module _ (f : Node → Node) (keeps : Keeps f) where
-  volume_map : (ns : List Node) (u : ℕ) → volume_in (map f ns) u ≡ volume_in ns u
-  volume_map ns u = field_mapped (λ (xs : List Node). volume_in xs u) (λ (x : Node). x.volume) u (λ m xs. refl) f
-      keeps.uid keeps.volume ns
-
-  segment_map : (ns : List Node) (u : ℕ) → has_segment (map f ns) u ≡ has_segment ns u
-  segment_map ns u = field_mapped (λ (xs : List Node). has_segment xs u) (λ (x : Node). not x.directory) u
-      (λ m xs. refl) f keeps.uid (λ n. ap not (keeps.kind n)) ns
-
-  directory_map : (ns : List Node) (u : ℕ) → has_directory (map f ns) u ≡ has_directory ns u
-  directory_map ns u = field_mapped (λ (xs : List Node). has_directory xs u) (λ (x : Node). x.directory) u
-      (λ m xs. refl) f keeps.uid keeps.kind ns
-
   pub alike_map : (ns : List Node) → AreAlike ns (map f ns)
   alike_map ns = record {
-    volume = volume_map ns;
-    segment = segment_map ns;
-    directory = directory_map ns;
+    volume = volume_map f keeps ns;
+    segment = segment_map f keeps ns;
+    directory = directory_map f keeps ns;
     entries = entries_mapped f keeps.volume ns;
   }
 
@@ -55,14 +39,6 @@ module _ (f : Node → Node) (keeps : Keeps f) where
       → pages_in (map f ns) u ≡ pages_in ns u
   pages_map same ns u = field_mapped (λ (xs : List Node). pages_in xs u) (λ (x : Node). x.pages) u (λ m xs. refl) f
       keeps.uid same ns
-
--- a change of one node
-pub keeps_one : (u : ℕ) (change : Node → Node) → Keeps change → Keeps (λ n. cond (eqb n.uid u) (change n) n)
-keeps_one u change keeps = record {
-  uid = field_kept (λ (x : Node). x.uid) change u keeps.uid;
-  volume = field_kept (λ (x : Node). x.volume) change u keeps.volume;
-  kind = field_kept (λ (x : Node). x.directory) change u keeps.kind;
-}
 
 taken_same : (ns ms : List Node) (xs : List (ℕ × ℕ)) (v : ℕ) → ((u : ℕ) → volume_in ms u ≡ volume_in ns u)
     → taken_on ms xs v ≡ taken_on ns xs v
@@ -103,52 +79,17 @@ pub flat_alike : (ns ms : List Node) → AreAlike ns ms → ((u : ℕ) → pages
     → AreFlat ms
 flat_alike ns ms alike pages flat u is = pages u ∙ flat u (sym (alike.directory u) ∙ is)
 
--- ---- rows
-
-pub keeps_rows : (change : List Row → List Row) → Keeps (λ n. record n { rows = change n.rows })
-keeps_rows change = record { uid = λ n. refl; volume = λ n. refl; kind = λ n. refl }
-
 -- ---- quota
 
-keeps_quota : (u : ℕ) (change : ℕ → ℕ) → Keeps (with_quota_of u change)
-keeps_quota u change = keeps_one u (λ n. record n { quota = change n.quota })
-    (record { uid = λ n. refl; volume = λ n. refl; kind = λ n. refl })
-
-pages_quota : (u : ℕ) (change : ℕ → ℕ) (n : Node) → (with_quota_of u change n).pages ≡ n.pages
-pages_quota u change n = here (eqb n.uid u)
-  where
-    here : (z : Bool) → (cond z (record n { quota = change n.quota }) n).pages ≡ n.pages
-    here true = refl
-    here false = refl
-
-keeps_both : (f g : Node → Node) → Keeps f → Keeps g → Keeps (λ n. f (g n))
-keeps_both f g a b = record {
-  uid = λ n. a.uid (g n) ∙ b.uid n;
-  volume = λ n. a.volume (g n) ∙ b.volume n;
-  kind = λ n. a.kind (g n) ∙ b.kind n;
-}
-
 pub moved_alike : (ns : List Node) (giver getter pages : ℕ) → AreAlike ns (with_moved ns giver getter pages)
-moved_alike ns giver getter pages =
-    alike_map (λ n. with_quota_of giver (λ q. q - pages) (with_quota_of getter (λ q. q + pages) n))
-    (keeps_both (with_quota_of giver (λ q. q - pages)) (with_quota_of getter (λ q. q + pages))
-    (keeps_quota giver (λ q. q - pages))
-    (keeps_quota getter (λ q. q + pages))) ns
+moved_alike ns giver getter pages = alike_map (quota_moved giver getter pages) (keeps_moved giver getter pages) ns
 
 pub moved_pages : (ns : List Node) (giver getter pages u : ℕ)
     → pages_in (with_moved ns giver getter pages) u ≡ pages_in ns u
-moved_pages ns giver getter pages u =
-    pages_map (λ n. with_quota_of giver (λ q. q - pages) (with_quota_of getter (λ q. q + pages) n))
-    (keeps_both (with_quota_of giver (λ q. q - pages)) (with_quota_of getter (λ q. q + pages))
-    (keeps_quota giver (λ q. q - pages))
-    (keeps_quota getter (λ q. q + pages)))
-    (λ n. pages_quota giver (λ q. q - pages) (with_quota_of getter (λ q. q + pages) n)
-    ∙ pages_quota getter (λ q. q + pages) n) ns u
+moved_pages ns giver getter pages u = pages_map (quota_moved giver getter pages) (keeps_moved giver getter pages)
+    (λ n. moved_else (λ (x : Node). x.pages) (λ m q. refl) giver getter pages n) ns u
 
 -- ---- lengths
-
-pub keeps_length : (pages : ℕ) → Keeps (λ n. record n { pages = pages })
-keeps_length pages = record { uid = λ n. refl; volume = λ n. refl; kind = λ n. refl }
 
 abbrev pub with_length : List Node → ℕ → ℕ → List Node
 with_length ns u pages = with_node ns u (λ n. record n { pages = pages })

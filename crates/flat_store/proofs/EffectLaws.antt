@@ -22,10 +22,11 @@ use Rattle.flat_model.specs.Sizes.{after_length, length_reply}
 use Rattle.flat_model.specs.Store.{Store}
 use Rattle.tree_commands.specs.Shown.{HasMoved, HasRowSet}
 use Rattle.flat_store.specs.Shown.{Held, Holds, pages_in}
-use Rattle.flat_store.proofs.ChangeLaws.{alike_map, changed_shown, flat_alike, inside_alike, keeps_length}
-use Rattle.flat_store.proofs.ChangeLaws.{keeps_one, keeps_rows, length_flat, length_inside, moved_alike, moved_pages}
+use Rattle.flat_store.proofs.ChangeLaws.{alike_map, changed_shown, flat_alike, inside_alike}
+use Rattle.flat_store.proofs.ChangeLaws.{length_flat, length_inside, moved_alike, moved_pages}
 use Rattle.flat_store.proofs.ChangeLaws.{pages_map, with_length}
 use Rattle.flat_model.proofs.TreeReplies.{not_first}
+use Rattle.flat_model.proofs.KeepLaws.{keeps_length, keeps_one, keeps_rows}
 
 -- holdings whose accounts are as they were
 same_shown : (p : Plan) (s : Store) (h k : Held) → Holds p h s → k.accounts ≡ h.accounts

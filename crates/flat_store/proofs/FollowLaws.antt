@@ -15,7 +15,7 @@ use Rattle.flat_model.specs.Pages.{without_stored}
 use Rattle.flat_model.specs.Store.{Progress, Store, progress_of, with_progress}
 use Rattle.flat_store.specs.Shown.{Holds, IsReached, IsShown, Kept, Shows, answered, progress_at}
 use Rattle.flat_model.proofs.PlaceLaws.{place_fits, place_within}
-use Rattle.flat_store.proofs.ReachLaws.{answered_advances, reached_fault, reached_on}
+use Rattle.flat_model.proofs.ReachLaws.{answered_advances, reached_fault, reached_on}
 use Rattle.flat_store.proofs.StoreLaws.{holds_beside}
 
 -- an answer that took effect is the flat store's, and wasn't held back

@@ -13,11 +13,9 @@ pub mod NodeLaws
 pub mod NumberLaws
 pub mod OkLaws
 pub mod OrderLaws
-pub mod OtherLaws
 pub mod PagedLaws
 pub mod PassLaws
 pub mod PutLaws
-pub mod ReachLaws
 pub mod ReferLaws
 pub mod ReleaseLaws
 pub mod RemoveLaws

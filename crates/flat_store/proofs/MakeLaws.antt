@@ -127,11 +127,3 @@ module _ (p : Plan) (s : Store) (path names : List (List ℕ)) (name : List ℕ)
           → (d.directory ≡ true) × (takes_effect (make_in p s volume dir name d) ≡ true)
       here true e is = (e, is)
       here false e is = cc
-
--- the new branch is that of the flat store
-pub branch_same : (s : Store) (new : NewNode) (d : Node) (next superior : ℕ) → s.next ≡ next → d.uid ≡ superior
-    → record s { nodes = branch_of next superior new ∷ s.nodes; next = s.next + 1 }
-    ≡ made_in s new.volume new.dir new.length new.acl new.name d
-branch_same s new d next superior at below =
-    ap (λ (u : ℕ). record s { nodes = branch_of u superior new ∷ s.nodes; next = s.next + 1 }) (sym at)
-    ∙ ap (λ (u : ℕ). record s { nodes = branch_of s.next u new ∷ s.nodes; next = s.next + 1 }) (sym below)

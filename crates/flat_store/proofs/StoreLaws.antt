@@ -20,7 +20,7 @@ use Rattle.flat_model.specs.References.{after_reference, reply_at, reply_of, rep
 use Rattle.flat_model.specs.Store.{Store, known_uid, numbers_of, with_numbers, Progress}
 use Rattle.flat_store.specs.Shown.{Holds, IsShown, Kept, numbers_at, Held}
 use Rattle.flat_model.specs.Commands.{takes_effect, effect_of_tree_command, reply_to_tree_command}
-use Rattle.flat_store.proofs.OtherLaws.{KeepsOthers}
+use Rattle.flat_model.proofs.OtherLaws.{KeepsOthers}
 
 module _ (p : Plan) (k : Kept) (s : Store) (h : IsShown p k s) where
   pub numbers_are : (process : ℕ) → numbers_of s process ≡ numbers_at k.known process

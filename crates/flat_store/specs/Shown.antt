@@ -20,6 +20,7 @@ use Rattle.flat_model.specs.Pages.{Words, is_page, is_stored, IsOnce}
 use Rattle.flat_model.specs.Cuts.{cut_at}
 use Rattle.flat_model.specs.Commands.{effect_of, takes_effect}
 use Rattle.flat_model.specs.References.{is_used_up, is_volume_full, stores_page, room_reply, word_reply}
+pub use Rattle.flat_model.specs.Reached.{ArePlaces, IsReached, answered}
 use Rattle.flat_model.specs.Store.{Store, Progress, records_of, entries_of}
 
 -- How much of something is used, and how much there is.
@@ -155,18 +156,6 @@ pub record IsShown (p : Plan) (k : Kept) (s : Store) : Type 0 where
   pub knowers : length s.known ≡ length p.processes
   pub runners : length s.processes ≡ length p.processes
 
--- no process has come past its last command
-abbrev pub ArePlaces : List Progress → List ProcessPlan → Type 0
-ArePlaces [] xs = Unit {0}
-ArePlaces (q ∷ qs) [] = ⊥
-ArePlaces (q ∷ qs) (x ∷ xs) = (q.place ≤ length x.commands) × ArePlaces qs xs
-
--- a store that the commands of a script may come to: each uid is that of a command that a process has passed
-pub record IsReached (p : Plan) (s : Store) : Type 0 where
-  pub plan : IsPlan p
-  pub places : ArePlaces s.processes p.processes
-  pub uids : s.next ≤ 2 + sum_by (λ q. q.place) s.processes
-
 -- What the program keeps shows the flat store, which is one that the script may come to.
 pub record Shows (p : Plan) (k : Kept) (s : Store) : Type 0 where
   pub shown : IsShown p k s
@@ -179,10 +168,6 @@ progress_at processes k = slice_index_or processes k (record { place = 0; tries 
 -- what the segment numbers of a process stand for
 abbrev pub numbers_at : List (List (Option ℕ)) → ℕ → List (Option ℕ)
 numbers_at known k = slice_index_or known k []
-
--- what an answer leaves of the tree, the words, the pages and the numbers
-abbrev pub answered : Plan → Store → ℕ → Command → Reply → Store
-answered p s k c r = if takes_effect r then effect_of p s k c else s
 
 -- the gauges of a volume at the boot
 abbrev pub records_gauge : VolumeLine → Gauge

@@ -6,10 +6,11 @@ use Rattle.flat_store.specs.contracts.holdings.Holdings.{the_view}
 use Rattle.flat_store.specs.Shown.{Gauge, gauge_at, is_full, Held, Holds}
 use Rattle.script.specs.Plans.{Plan}
 use Rattle.flat_store.proofs.DropLaws.{held_inside}
-use Rattle.flat_store.proofs.MakeLaws.{added_shown, branch_same}
+use Rattle.flat_store.proofs.MakeLaws.{added_shown}
 use Rattle.flat_store.proofs.OkLaws.{ok_of}
 use Rattle.flat_store.proofs.holdings.Holdings.add.Goals.{After-fill_at}
 use Rattle.flat_store.proofs.holdings.Holdings.add.Goals as goal
+use Rattle.flat_model.proofs.TreeLaws.{branch_made}
 
 -- the new branch is held
 shown : (c : After-fill_at) (p : Plan) (s : Store) → Holds p (the_view c.self.inside) s
@@ -46,5 +47,5 @@ returns-then-is_ok c = λ p s d h below few effect.
     let after : Held = record before { accounts = c.add.new.self; entries = c.fill_at.new.gauges.items } in
     let holds = held_inside p s before c.args.self.now c.self.view_is h in
     subst (λ (x : Store). Holds p after x)
-    (branch_same s c.args.new d c.self.inside.accounts.next c.args.superior holds.next below)
+    (branch_made s d c.self.inside.accounts.next c.args.superior holds.next below)
     (shown c p s holds)

@@ -6,7 +6,7 @@ use Rattle.flat_model.specs.Rights.{after_move, move_reply}
 use Rattle.flat_store.specs.contracts.store.FlatStore.{the_view}
 use Rattle.flat_store.specs.Shown.{Holds, Kept, IsShown}
 use Rattle.flat_store.proofs.StoreLaws.{effect_shown}
-use Rattle.flat_store.proofs.OtherLaws.{move_keeps}
+use Rattle.flat_model.proofs.OtherLaws.{move_keeps}
 use Rattle.flat_store.proofs.store.FlatStore.move_quota.Goals as goal
 
 pub returns : goal.returns

@@ -4,7 +4,7 @@ use Rattle.script.specs.Plans.{who_of}
 use Rattle.tree_model.specs.Access.{Row}
 use Rattle.flat_model.specs.Making.{after_make, owner_row}
 use Rattle.flat_store.specs.Shown.{Holds}
-use Rattle.flat_store.proofs.OtherLaws.{make_keeps, acl_keeps, length_keeps, truncate_keeps, delete_keeps}
+use Rattle.flat_model.proofs.OtherLaws.{make_keeps, acl_keeps, length_keeps, truncate_keeps, delete_keeps}
 use Rattle.flat_store.proofs.StoreLaws.{effect_done}
 use Rattle.flat_store.proofs.store.FlatStore.tree_effect.Goals as goal
 

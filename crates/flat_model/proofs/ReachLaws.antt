@@ -15,8 +15,9 @@ use Rattle.flat_model.specs.Commands.{after_command, effect_of, gone_on, takes_e
 use Rattle.flat_model.specs.References.{after_reference, written_by}
 use Rattle.flat_model.specs.Store.{Progress, Store, at_first, boot, known_uid, progress_of, with_progress}
 use Rattle.flat_model.proofs.PlaceLaws.{place_within, process_weighs}
-use Rattle.flat_store.specs.Shown.{ArePlaces, IsReached, answered}
-use Rattle.flat_store.proofs.OtherLaws.{Advances, effect_advances}
+use Rattle.flat_model.specs.Reached.{ArePlaces, IsReached, answered}
+use Rattle.flat_model.proofs.OtherLaws.{Advances, effect_advances}
+use Rattle.flat_model.proofs.SharedLaws.{going_within}
 
 -- ---- few uids
 
@@ -48,37 +49,18 @@ places_set (o ∷ qs) [] k q places le = absurd places
 places_set (o ∷ qs) (x ∷ xs) zero q places le = (le, places.1)
 places_set (o ∷ qs) (x ∷ xs) (suc k) q places le = (places.0, places_set qs xs k q places.1 le)
 
--- a process that hasn't ended is there
-pub going_there : (qs : List Progress) (k : ℕ)
-    → (get_or qs k (record { place = 0; tries = 0; ended = true; faulted = false })).ended ≡ false → k < length qs
-going_there [] k going = cc
-going_there (q ∷ qs) zero going = omega arith
-going_there (q ∷ qs) (suc k) going = (let lt : k < length qs = going_there qs k going in omega (arith, lt))
-
 -- ---- a command was answered
 
 no_uid : (s : Store) (offset : ℕ) (o : Option ℕ) → (written_by s offset kind.Read o).next ≡ s.next
 no_uid s offset None = refl
 no_uid s offset (Some u) = refl
 
+-- a try takes no uid
 tries_stay : (p : Plan) (s : Store) (k : ℕ) (q : Progress) (c : Command) (r : Reply) → tries_on q c r ≡ true
     → (effect_of p s k c).next ≡ s.next
 unfolding after_reference
 tries_stay p s k q (command.Await number offset word tries) r is = no_uid s offset (known_uid s k number)
-tries_stay p s k q (command.MkDir path volume) r is = cc
-tries_stay p s k q (command.MkSeg path pages volume) r is = cc
-tries_stay p s k q (command.Initiate path) r is = cc
-tries_stay p s k q (command.Terminate number) r is = cc
-tries_stay p s k q (command.Read number offset) r is = cc
-tries_stay p s k q (command.Write number offset word) r is = cc
-tries_stay p s k q (command.Add number offset word) r is = cc
-tries_stay p s k q (command.Acl path row m) r is = cc
-tries_stay p s k q (command.Length path pages) r is = cc
-tries_stay p s k q (command.Truncate path words) r is = cc
-tries_stay p s k q (command.Delete path) r is = cc
-tries_stay p s k q (command.Move path amount) r is = cc
-tries_stay p s k q (command.Status path) r is = cc
-tries_stay p s k q command.End r is = cc
+tries_stay p s k q _ r is = absurd (let none : false ≡ true = is in cc)
 
 abbrev pub place_sum : List Progress → ℕ
 place_sum qs = sum_by (λ q. q.place) qs
@@ -104,7 +86,7 @@ reached_on p s k place c r h going at there = record { plan = h.plan; places = p
     t = answered p s k c r
 
     within : k < length s.processes
-    within = going_there s.processes k going
+    within = going_within s k going
 
     lt : place < length (commands_of p k)
     lt = place_within p k place c there
@@ -176,7 +158,7 @@ reached_fault p s k h going =
         + (progress_of s k).place ≡ place_sum s.processes +
         (progress_of s k).place
         = sum_by-set (λ (x : Progress). x.place) s.processes k (record (progress_of s k) { faulted = true })
-        (record { place = 0; tries = 0; ended = true; faulted = false }) (going_there s.processes k going) in
+        (record { place = 0; tries = 0; ended = true; faulted = false }) (going_within s k going) in
         omega (arith, total, h.uids)
 
 -- ---- the boot
