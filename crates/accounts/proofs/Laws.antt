@@ -22,7 +22,7 @@ use Rattle.dir_tree.specs.Index.{no_node}
 use Rattle.quota_cells.specs.Laws.{look_absent, on_directories, on_segments}
 use Rattle.accounts.specs.Maps.{AccountMaps, HasColumns, accounts_of, count_of, entry_of, branch_of, Recounts, Changes}
 use Rattle.accounts.specs.Maps.{Gains, Loses, Rehomes, rehomed, rows_in, with_row_in}
-use Rattle.tree_model.proofs.TreeLaws.{joined_below}
+use Rattle.tree_model.proofs.TreeLaws.{joined_below, quota_mapped}
 use Rattle.laws.proofs.Options.{none_there}
 
 -- ---- uids of the tree
@@ -107,16 +107,9 @@ module _ {X : Type 0} (f : X → Node) (t : Branches) (c : CellMaps) (u : ℕ) w
 
 -- ---- quotas and VTOC entries
 
-quota_node : (q : ℕ → ℕ) (ns : List Node) (u : ℕ) → (is_in ns u ≡ false → q u ≡ 0) → quota_at (with_quotas q ns) u ≡ q u
-quota_node q [] u none = sym (none refl)
-quota_node q (n ∷ ns) u none = elim (cases_eq n.uid u) [
-  | inl same ↦ rw (eq-eqb n.uid u same) (ap q same)
-  | inr other ↦ rw (ne_eqb n.uid u other) (quota_node q ns u (λ e. none (rw (ne_eqb n.uid u other) e)))
-]
-
 pub quota_shown : (t : Branches) (c : CellMaps) → Fits t.nodes c → (u : ℕ) → quota_at (accounts_of t c).nodes u
     ≡ quota_in c u
-quota_shown t c fits u = quota_node (quota_in c) t.nodes u
+quota_shown t c fits u = quota_mapped (as_term (quota_in c)) (quota_in c) (λ n. refl) t.nodes u
     (λ e. look_absent c.directories c.quotas u (on_directories t.nodes fits u ∙ not_in_directory t.nodes u e))
 
 pub node_shown : {X : Type 0} (f : X → Node) (t : Branches) (c : CellMaps) → Fits t.nodes c → (u : ℕ) (r : Option X)

@@ -6,15 +6,12 @@ use Rattle.tree_model.specs.Trees.{AreBelow, IsTree, Joins}
 use Rattle.dir_tree.specs.declared.node.Node.{Node}
 use Rattle.dir_tree.specs.Nodes.{as_term, with_quotas}
 use Rattle.dir_tree.specs.Shape.{shape, shapes}
+use Rattle.tree_model.proofs.TreeLaws.{directory_mapped}
 
 above_any : (q : ℕ → ℕ) (ns : List Node) (u : ℕ) → above (with_quotas q ns) u ≡ above (shapes ns) u
 above_any q [] u = refl
 above_any q (n ∷ ns) u = ap (λ (f : ℕ → List ℕ). cond (eqb n.uid u) (step_up f n.superior) (f u))
     (λ i. λ v. above_any q ns v i)
-
-directory_any : (q : ℕ → ℕ) (ns : List Node) (u : ℕ) → has_directory (with_quotas q ns) u ≡ has_directory (shapes ns) u
-directory_any q [] u = refl
-directory_any q (n ∷ ns) u = ap (cond (eqb n.uid u) n.dir) (directory_any q ns u)
 
 pub later_any : (q : ℕ → ℕ) (ns : List Node) (u : ℕ) → AreBelow u (shapes ns) → AreBelow u (with_quotas q ns)
 later_any q [] u h = tt
@@ -40,7 +37,7 @@ joins_any : (q : ℕ → ℕ) (ns : List Node) (n : Node) (o : Option ℕ) → J
 joins_any q ns n None root = record { first = empty_any q ns root.first; one = root.one; directory = root.directory }
 joins_any q ns n (Some s) branch = record {
   later = later_any q ns n.uid branch.later;
-  below = directory_any q ns s ∙ branch.below;
+  below = directory_mapped (as_term q) shape (λ n. refl) (λ n. refl) ns s ∙ branch.below;
   new = new_any q ns s n.name branch.new;
   shallow = λ directory. subst (λ (up : List ℕ). length up < 8) (sym (above_any q ns s)) (branch.shallow directory);
 }

@@ -1,5 +1,6 @@
 -- The laws of a tree: what is above a node, how deep it lies, and what a branch more or less leaves.
 use Rattle.std.proofs.Common.{◌≡◌, ◌≢◌, ℕ, ◌<◌, ◌≤◌, true, false, cond, eqb, not, List, [], ◌∷◌, length, Option, Some}
+use Rattle.std.proofs.Common.{Bool, is_some, map}
 use Rattle.std.proofs.Common.{None, refl, sym, ap, subst, ◌∙◌, arith, inl, inr}
 use Rattle.std.specs.List.{find, filter, list_any}
 use Rattle.std.specs.Str.{bytes_eq}
@@ -7,7 +8,7 @@ use Rattle.std.specs.Option.{option_and_then}
 use Rattle.std.proofs.lemmas.Bool.{cases_Bool, cases_eq, both_ways, eqb-true, eq-eqb, ne_eqb, and_parts, or_parts}
 use Rattle.std.proofs.lemmas.Option.{same_Some}
 use Rattle.std.proofs.lemmas.Slice.Eq.{bytes_eq-Decides}
-use Rattle.tree_model.specs.Tree.{Node as Term, above, branch_in, is_branch, is_inferior}
+use Rattle.tree_model.specs.Tree.{Node as Term, above, branch_in, is_branch, is_inferior, quota_in, node_in}
 use Rattle.tree_model.specs.Tree.{is_superior, step_up, has_directory}
 use Rattle.tree_model.specs.Trees.{AreBelow, IsBranch, Joins, IsTree}
 use Rattle.tree_model.proofs.Finds.{IsMember, branch_found, member_found}
@@ -16,9 +17,32 @@ use Rattle.tree_model.proofs.Finds.{IsMember, branch_found, member_found}
 abbrev pub superior_in : List Term → ℕ → Option ℕ
 superior_in ns u = option_and_then (λ n. n.superior) (find (λ n. eqb n.uid u) ns)
 
-pub superior_found : (ns : List Term) (u : ℕ) (n : Term) → find (λ m. eqb m.uid u) ns ≡ Some n
-    → superior_in ns u ≡ n.superior
-superior_found ns u n e = ap (option_and_then (λ m. m.superior)) e
+pub superior_found : (ns : List Term) (u : ℕ) (n : Term) → node_in ns u ≡ Some n → superior_in ns u ≡ n.superior
+superior_found [] u n e = cc
+superior_found (m ∷ ns) u n e = elim (cases_Bool (eqb m.uid u)) [
+  | inl is ↦ (let z : Some m ≡ Some n = rw is at e in let same : m ≡ n = cc in
+      rw is (ap (λ (x : Term). x.superior) same))
+  | inr isnt ↦ rw isnt (superior_found ns u n (rw isnt at e))
+]
+
+-- nodes that stand for others
+pub directory_mapped : {X : Type 0} (f g : X → Term) → ((x : X) → (f x).uid ≡ (g x).uid)
+    → ((x : X) → (f x).directory ≡ (g x).directory) → (xs : List X) (u : ℕ)
+    → has_directory (map f xs) u ≡ has_directory (map g xs) u
+directory_mapped f g uid kind [] u = refl
+directory_mapped f g uid kind (x ∷ xs) u =
+    ap (λ (n : ℕ). cond (eqb n u) (f x).directory (has_directory (map f xs) u)) (uid x)
+    ∙ ap (λ (b : Bool). cond (eqb (g x).uid u) b (has_directory (map f xs) u)) (kind x)
+    ∙ ap (cond (eqb (g x).uid u) (g x).directory) (directory_mapped f g uid kind xs u)
+
+pub quota_mapped : {X : Type 0} (f : X → Term) (q : ℕ → ℕ) → ((x : X) → (f x).quota ≡ q (f x).uid) → (xs : List X)
+    (u : ℕ) → (is_some (find (λ x. eqb (f x).uid u) xs) ≡ false → q u ≡ 0) → quota_in (map f xs) u ≡ q u
+quota_mapped f q own [] u none = sym (none refl)
+quota_mapped f q own (x ∷ xs) u none = elim (cases_eq (f x).uid u) [
+  | inl same ↦ rw (eq-eqb (f x).uid u same) (own x ∙ ap q same)
+  | inr other ↦ rw (ne_eqb (f x).uid u other)
+      (quota_mapped f q own xs u (λ e. none (rw (ne_eqb (f x).uid u other) e)))
+]
 
 below_of : (v : ℕ) (ns : List Term) (s : ℕ) → AreBelow v ns → has_directory ns s ≡ true → s < v
 below_of v [] s b e = cc
