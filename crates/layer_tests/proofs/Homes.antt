@@ -13,18 +13,7 @@ use Rattle.laws.proofs.Numbers.{below_or_past}
 use Rattle.laws.proofs.Options.{not_none, some_same}
 use Rattle.laws.proofs.Bools.{off_and_on}
 use Rattle.laws.proofs.Lists.{within_from}
-
-list_within : {X : Type 0} (xs : List (List X)) (v e : ℕ) → e < length (get_or xs v []) → v < length xs
-list_within xs v e lt = within_from xs v [] (λ none. (let no : length (get_or xs v []) ≡ 0 =
-    ap length none in omega (arith, no, lt)))
-
--- place e of list v becomes x
-put_here : {X : Type 0} (xs : List (List X)) (v e : ℕ) (x d : X) → e < length (get_or xs v [])
-    → get_or (get_or (set xs v (set (get_or xs v []) e x)) v []) e d ≡ x
-put_here xs v e x d el =
-    ap (λ (ys : List _). get_or ys e d)
-    (get_or-set_same xs v (set (get_or xs v []) e x) [] (list_within xs v e el))
-    ∙ get_or-set_same (get_or xs v []) e x d el
+use Rattle.laws.proofs.Places.{list_within, put_here, some_within}
 
 -- ---- a record that is filed
 
@@ -79,14 +68,6 @@ kept_more flags places n r least kept = record { used = used; once = once }
       ]
     ]
 
-entry_within : {D : Type 0} (vols : Vols D) (home : ℕ × ℕ) → IsSome (entry_of vols home)
-    → home.1 < length (vtoc_at vols home.0)
-entry_within vols home used = within_from (vtoc_at vols home.0) home.1 None (not_free (entry_of vols home) used)
-  where
-    not_free : (entry : Option Entry) → IsSome entry → entry ≡ None → ⊥
-    not_free None used is = cc
-    not_free (Some entry) used is = cc
-
 map_with : (entry : Option Entry) (p : ℕ) (place : Option ℕ) → IsSome entry
     → IsSome (with_record entry p place) × (records_in (with_record entry p place) ≡ set (records_in entry) p place)
 map_with None p place used = cc
@@ -101,7 +82,9 @@ filed_home old now home n r h least is =
     let new : Vols _ = with_vtoc (with_record_used old home.0 r true) home.0
     (set (vtoc_at old home.0) home.1 (with_record (entry_of old home) n (Some r))) in
     let entry : entry_of new home ≡ with_record (entry_of old home) n (Some r) =
-    put_here old.vtocs home.0 home.1 (with_record (entry_of old home) n (Some r)) None (entry_within old home h.used) in
+    (let within = some_within (vtoc_at old home.0) home.1 h.used in
+    put_here old.vtocs home.0 home.1 (with_record (entry_of old home) n (Some r)) None
+    (list_within old.vtocs home.0 home.1 within) within) in
     let with = map_with (entry_of old home) n (Some r) h.used in
     let flags : records_at new home.0 ≡ set (records_at old home.0) r true =
     get_or-set_same old.records home.0 (set (records_at old home.0) r true) []
