@@ -114,12 +114,6 @@ processes_end before p es k now le h =
 abbrev pub HasNames : List ℕ → List (List ℕ) → List ℕ → Type 0
 HasNames before names now = now ≡ before ++ names_text names
 
-names_push : (names : List (List ℕ)) (name : List ℕ) → names_text (names ++ name ∷ []) ≡ names_text names ++ 62 ∷ name
-names_push [] name = ap (λ (t : List ℕ). 62 ∷ t) (append-nil name)
-names_push (x ∷ xs) name =
-    ap (λ (t : List ℕ). 62 ∷ (x ++ t)) (names_push xs name)
-    ∙ ap (λ (t : List ℕ). 62 ∷ t) (sym (append_assoc x (names_text xs) (62 ∷ name)))
-
 pub names_start : (before : List ℕ) (names : List (List ℕ)) → HasNames before (take 0 names) before
 names_start before names = sym (append-nil before)
 
@@ -131,8 +125,8 @@ names_more before names i name now new lt at h add =
     ∙ ap (λ (x : List ℕ). take i names ++ x ∷ []) (sym at) in
     add
     ∙ ap (λ (t : List ℕ). t ++ 62 ∷ name) h
-    ∙ append_assoc before (names_text (take i names)) (62 ∷ name)
-    ∙ ap (λ (t : List ℕ). before ++ t) (sym (names_push (take i names) name) ∙ ap names_text (sym more))
+    ∙ flat_map_more (λ (x : List ℕ). 62 ∷ x) before (take i names) name
+    ∙ ap (λ (t : List (List ℕ)). before ++ names_text t) (sym more)
 
 pub names_end : (before : List ℕ) (names : List (List ℕ)) (i : ℕ) (now : List ℕ) → length names ≤ i
     → HasNames before (take i names) now
