@@ -10,9 +10,10 @@ use Rattle.std.proofs.lemmas.List.Edits.{get_or-remove_above}
 use Rattle.quota_cells.specs.Accounts.{look, has, weigh}
 use Rattle.quota_cells.specs.Cells.{IsRising}
 use Rattle.quota_cells.specs.Columns.{IsGap}
-use Rattle.quota_cells.proofs.PlaceLaws.{absent, rising_tail}
+use Rattle.quota_cells.proofs.PlaceLaws.{absent}
 use Rattle.quota_cells.specs.Laws.{look_absent}
 use Rattle.dir_tree.specs.Laws.{Where, Before, Here, After, where_is}
+use Rattle.laws.proofs.Rising.{first_once, rest_rises}
 
 pub has_insert : (ks : List ℕ) (i u v : ℕ) → has (insert ks i u) v ≡ (eqb u v || has ks v)
 has_insert ks zero u v = refl
@@ -50,20 +51,16 @@ weigh_insert t (k ∷ ks) [] (suc i) u len = absurd (omega arith)
 weigh_insert t (k ∷ ks) (w ∷ ws) (suc i) u len = ap (λ n. (if t k then w else 0) + n)
     (weigh_insert t ks ws i u (omega arith))
 
-first_absent : (k : ℕ) (ks : List ℕ) → IsRising (k ∷ ks) → has ks k ≡ false
-first_absent k ks up = absent ks k (λ i lt e. (let less : k < get_or ks i 0 =
-    up 0 (suc i) (omega arith) (omega arith) in omega arith))
-
 pub has_remove : (ks : List ℕ) (i v : ℕ) → IsRising ks → i < length ks → has (remove ks i) v
     ≡ (has ks v && not (eqb (get_or ks i 0) v))
 has_remove [] i v up lt = absurd (omega arith)
 has_remove (k ∷ ks) zero v up lt = elim (cases_eq k v) [
-  | inl same ↦ rw (eq-eqb k v same) (rw same at (first_absent k ks up))
+  | inl same ↦ rw (eq-eqb k v same) (rw same at (first_once k ks up))
   | inr other ↦ rw (ne_eqb k v other) (elim (cases_Bool (has ks v)) [ inl t ↦ rw t refl | inr f ↦ rw f refl ])
 ]
 has_remove (k ∷ ks) (suc i) v up lt =
     let ih : has (remove ks i) v ≡ (has ks v && not (eqb (get_or ks i 0) v)) =
-    has_remove ks i v (rising_tail k ks up) (omega arith) in
+    has_remove ks i v (rest_rises k ks up) (omega arith) in
     let less : k < get_or ks i 0 = up 0 (suc i) (omega arith) lt in
     elim (cases_eq k v) [
       | inl same ↦ rw (eq-eqb k v same, ne_eqb (get_or ks i 0) v (λ q. omega arith)) refl
@@ -79,7 +76,7 @@ look_remove (k ∷ ks) (w ∷ vs) (suc i) v len up lt ne =
     elim (cases_Bool (eqb k v)) [
       | inl t ↦ rw t refl
       | inr f ↦ rw f
-          (look_remove ks vs i v (omega arith) (rising_tail k ks up) (omega arith) ne)
+          (look_remove ks vs i v (omega arith) (rest_rises k ks up) (omega arith) ne)
     ]
 
 pub look_gone : (ks vs : List ℕ) (i : ℕ) → IsRising ks → i < length ks

@@ -23,12 +23,13 @@ use Rattle.dir_tree.specs.Laws.{not_in_directory, not_in_segment}
 use Rattle.quota_cells.proofs.ColumnLaws.{weigh_same}
 use Rattle.quota_cells.proofs.PlaceLaws.{look_at}
 use Rattle.quota_cells.proofs.FitLaws.{all_there, covered_there}
-use Rattle.quota_cells.proofs.RowLaws.{insert_beside, remove_beside, gap_of, place_of}
+use Rattle.quota_cells.proofs.RowLaws.{insert_beside, remove_beside, gap_of}
 use Rattle.quota_cells.proofs.EditLaws.{has_insert, look_insert, weigh_insert, has_remove, look_remove, look_gone}
 use Rattle.quota_cells.proofs.EditLaws.{weigh_remove, rising_insert, rising_remove}
 use Rattle.dir_tree.specs.Laws.{directory_shape, segment_shape}
 use Rattle.quota_cells.specs.Laws.{look_absent, on_directories, on_segments}
 use Rattle.laws.proofs.Bools.{and_false}
+use Rattle.laws.proofs.Rising.{place_there}
 
 -- what no uid passes weighs nothing
 pub no_weight : (t : ℕ → Bool) (ks ws : List ℕ) → ((k : ℕ) → has ks k ≡ true → t k ≡ false) → weigh t ks ws ≡ 0
@@ -453,19 +454,19 @@ module _ (c : CellMaps) (table : IsTable c) (uid : ℕ) (there : has_cell c uid 
   pub leaves_left : Leaves c (left c uid) uid
   leaves_left = elim (cases_Bool (has c.directories uid)) [
     | inl dir ↦
-        (let p = place_of c.directories uid dir in
+        (let p = place_there c.directories uid dir in
         rw dir (subst (λ (d : CellMaps). Leaves c d uid) (old_directory p)
         (leaves_directory c table uid p.0 dir no_quota p.1 p.2)))
     | inr off ↦
-        (let p = place_of c.segments uid (of_segment off) in
+        (let p = place_there c.segments uid (of_segment off) in
         rw off (subst (λ (d : CellMaps). Leaves c d uid) (old_segment p)
         (leaves_segment c table uid p.0 off no_pages p.1 p.2)))
   ]
 
   pub table_left : IsTable (left c uid)
   table_left = elim (cases_Bool (has c.directories uid)) [
-    | inl dir ↦ (let p = place_of c.directories uid dir in
+    | inl dir ↦ (let p = place_there c.directories uid dir in
         rw dir (subst IsTable (old_directory p) (table_removed_directory c table uid p.0 dir no_quota p.1 p.2)))
-    | inr off ↦ (let p = place_of c.segments uid (of_segment off) in rw off
+    | inr off ↦ (let p = place_there c.segments uid (of_segment off) in rw off
         (subst IsTable (old_segment p) (table_removed_segment c table uid p.0 p.1)))
   ]

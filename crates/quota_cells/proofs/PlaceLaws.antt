@@ -10,9 +10,7 @@ use Rattle.quota_cells.specs.Accounts.{look, has, with_value, covers, changed_wh
 use Rattle.quota_cells.specs.Cells.{IsRising}
 use Rattle.quota_cells.specs.Columns.{AreThere, IsFalling}
 use Rattle.quota_cells.proofs.ColumnLaws.{look_with, length_changed, get_changed}
-
-pub rising_tail : (k : ℕ) (ks : List ℕ) → IsRising (k ∷ ks) → IsRising ks
-rising_tail k ks up i j lt within = up (suc i) (suc j) (omega arith) (omega arith)
+use Rattle.laws.proofs.Rising.{rest_rises}
 
 pub look_at : (ks vs : List ℕ) (i : ℕ) → IsRising ks → i < length ks → look ks vs (get_or ks i 0) ≡ get_or vs i 0
 look_at [] vs i up lt = absurd (omega arith)
@@ -20,7 +18,7 @@ look_at (k ∷ ks) [] i up lt = refl
 look_at (k ∷ ks) (v ∷ vs) zero up lt = rw (eq-eqb k k refl) refl
 look_at (k ∷ ks) (v ∷ vs) (suc i) up lt =
     let less : k < get_or ks i 0 = up 0 (suc i) (omega arith) lt in
-    rw (ne_eqb k (get_or ks i 0) (λ q. omega arith)) (look_at ks vs i (rising_tail k ks up) (omega arith))
+    rw (ne_eqb k (get_or ks i 0) (λ q. omega arith)) (look_at ks vs i (rest_rises k ks up) (omega arith))
 
 pub set_at : (ks vs : List ℕ) (i v : ℕ) → IsRising ks → i < length ks → set vs i v ≡ with_value ks vs (get_or ks i 0) v
 set_at [] vs i v up lt = absurd (omega arith)
@@ -29,7 +27,7 @@ set_at (k ∷ ks) (w ∷ vs) zero v up lt = rw (eq-eqb k k refl) refl
 set_at (k ∷ ks) (w ∷ vs) (suc i) v up lt =
     let less : k < get_or ks i 0 = up 0 (suc i) (omega arith) lt in
     rw (ne_eqb k (get_or ks i 0) (λ q. omega arith)) (ap (λ xs. w ∷ xs)
-    (set_at ks vs i v (rising_tail k ks up) (omega arith)))
+    (set_at ks vs i v (rest_rises k ks up) (omega arith)))
 
 pub set_there : (ks vs : List ℕ) (i v : ℕ) {u : ℕ} → IsRising ks → i < length ks → get_or ks i 0 ≡ u → set vs i v
     ≡ with_value ks vs u v

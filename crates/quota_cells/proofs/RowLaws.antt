@@ -8,7 +8,7 @@ use Rattle.quota_cells.specs.Accounts.{has, with_value, with_beside, without_bes
 use Rattle.quota_cells.specs.Cells.{CellMaps, IsRising, quota_in, load_in, with_loads}
 use Rattle.quota_cells.specs.Columns.{AreThere, IsGap}
 use Rattle.quota_cells.proofs.PlaceLaws.{Going, going_here, going_next, going_ends, changed_none, look_at, set_there}
-use Rattle.quota_cells.proofs.PlaceLaws.{rising_tail}
+use Rattle.laws.proofs.Rising.{place_there, rest_rises}
 
 -- ---- one more, and one less
 
@@ -39,7 +39,7 @@ remove_beside (k ∷ ks) (w ∷ vs) zero len up lt = rw (eq-eqb k k refl) refl
 remove_beside (k ∷ ks) (w ∷ vs) (suc i) len up lt =
     let less : k < get_or ks i 0 = up 0 (suc i) (omega arith) lt in
     rw (ne_eqb k (get_or ks i 0) (λ q. omega arith)) (ap (λ xs. w ∷ xs)
-    (remove_beside ks vs i (omega arith) (rising_tail k ks up) (omega arith)))
+    (remove_beside ks vs i (omega arith) (rest_rises k ks up) (omega arith)))
 
 -- a uid that isn't there has a gap, and one that is there has a place
 pub gap_of : (ks : List ℕ) (u : ℕ) → IsRising ks → has ks u ≡ false → (i : ℕ) × IsGap ks u i
@@ -65,7 +65,7 @@ gap_of (k ∷ ks) u up off = elim (cases_order u k) [
       },
     )
     | inr more ↦
-        (let g = gap_of ks u (rising_tail k ks up) (rw (ne_eqb k u (λ q. omega arith)) at off) in
+        (let g = gap_of ks u (rest_rises k ks up) (rw (ne_eqb k u (λ q. omega arith)) at off) in
         let w : g.0 ≤ length ks = g.1.within in (
           suc g.0,
           record {
@@ -91,11 +91,7 @@ gap_of (k ∷ ks) u up off = elim (cases_order u k) [
     above_next g (suc j) le lt = g.1.above j (omega arith) (omega arith)
 
 pub place_of : (ks : List ℕ) (u : ℕ) → has ks u ≡ true → (i : ℕ) × (i < length ks) × (get_or ks i 0 ≡ u)
-place_of [] u is = cc
-place_of (k ∷ ks) u is = elim (or_cases (eqb k u) (has ks u) is) [
-  | inl here ↦ (0, omega arith, eqb-true k u here)
-  | inr later ↦ (let p = place_of ks u later in (suc p.0, omega (arith, p.1), p.2))
-]
+place_of = place_there
 
 -- ---- a walk up a chain
 
@@ -165,7 +161,7 @@ module _ (g : ℕ → ℕ) (P : ℕ → Type 0) (start now : CellMaps) (rises : 
   y = get_or up i 0
 
   place : (i : ℕ) × (i < length now.directories) × (get_or now.directories i 0 ≡ y)
-  place = place_of now.directories y (walk_there g P start now up i lt walks)
+  place = place_there now.directories y (walk_there g P start now up i lt walks)
 
   spot_quota : quota_in now y ≡ get_or now.quotas place.0 0
   spot_quota = ap (quota_in now) (sym place.2) ∙ look_at now.directories now.quotas place.0 rises place.1

@@ -15,7 +15,7 @@ use Rattle.tree_model.specs.Quotas.{is_over as is_over_at, lesser, least_where}
 use Rattle.tree_model.specs.Quotas.{over_in}
 use Rattle.dir_tree.specs.declared.node.Node.{Node}
 use Rattle.dir_tree.specs.Nodes.{as_term, with_quotas, is_in, is_directory, is_segment}
-use Rattle.dir_tree.specs.Shape.{shapes}
+use Rattle.dir_tree.specs.Shape.{shapes, shape}
 use Rattle.tree_model.specs.Trees.{HasChains}
 use Rattle.quota_cells.specs.declared.Full.{Full}
 use Rattle.quota_cells.specs.declared.MoveFault.{MoveFault}
@@ -34,6 +34,7 @@ use Rattle.quota_cells.proofs.TransferLaws.{IsBelow, top, answer_ok}
 use Rattle.dir_tree.specs.Laws.{above_any, directory_shape, not_in_directory, segment_in, segment_not, uid_shape}
 use Rattle.quota_cells.specs.Laws.{look_absent, on_directories, on_segments}
 use Rattle.tree_model.proofs.SharedLaws.{least_none}
+use Rattle.tree_model.proofs.TreeLaws.{directory_mapped, quota_mapped}
 
 -- ---- counts of pages beside uids are counts over the pages
 
@@ -92,17 +93,6 @@ weigh_pages t ks ws (x ∷ xs) up len holds =
 
 -- ---- quotas and accounts of the nodes with their quotas
 
-quota_node : (q : ℕ → ℕ) (ns : List Node) (u : ℕ) → (is_in ns u ≡ false → q u ≡ 0) → quota_at (with_quotas q ns) u ≡ q u
-quota_node q [] u none = sym (none refl)
-quota_node q (n ∷ ns) u none = elim (cases_eq n.uid u) [
-  | inl same ↦ rw (eq-eqb n.uid u same) (ap q same)
-  | inr other ↦ rw (ne_eqb n.uid u other) (quota_node q ns u (λ e. none (rw (ne_eqb n.uid u other) e)))
-]
-
-directory_kept : (q : ℕ → ℕ) (ns : List Node) (u : ℕ) → has_directory (with_quotas q ns) u ≡ has_directory (shapes ns) u
-directory_kept q [] u = refl
-directory_kept q (n ∷ ns) u = ap (cond (eqb n.uid u) n.dir) (directory_kept q ns u)
-
 used_is : (nodes : List Term) (xs : List (ℕ × ℕ)) (a : ℕ) → used_by nodes xs a
     ≡ count_by (λ x. eqb (account_of nodes x.0) a) xs
 unfolding used_by
@@ -119,7 +109,7 @@ module _ (nodes : List Node) (c : CellMaps) (fits : Fits nodes c) (chains : HasC
   tree = with_quotas (quota_in c) nodes
 
   pub quota_same : (u : ℕ) → quota_at tree u ≡ q u
-  quota_same u = quota_node q nodes u (λ e. look_absent c.directories c.quotas u
+  quota_same u = quota_mapped (as_term q) q (λ n. refl) nodes u (λ e. look_absent c.directories c.quotas u
       (on_directories nodes fits u ∙ not_in_directory nodes u e))
 
   pub account_same : (s : ℕ) → account_of tree s ≡ account q (f s)
@@ -178,7 +168,8 @@ module _ (nodes : List Node) (c : CellMaps) (fits : Fits nodes c) (chains : HasC
     -- and who is above its quota
     over_same : (u : ℕ) → is_over_at tree xs u ≡ (has c.directories u && is_over c u)
     over_same u =
-        let dir : has_directory tree u ≡ has c.directories u = directory_kept q nodes u ∙ sym (fits.directories u) in
+        let dir : has_directory tree u ≡ has c.directories u =
+        directory_mapped (as_term q) shape (λ n. refl) (λ n. refl) nodes u ∙ sym (fits.directories u) in
         rw (dir, quota_same u, sym (used_same u)) (elim (cases_Bool (is_an_account q u))
         [ inl y ↦ rw y refl | inr n ↦ rw n refl ])
 
