@@ -48,11 +48,8 @@ done_count frames x (suc n) [] is = let c : 0 ≡ length (done frames x (suc n))
 done_count frames x (suc n) (e ∷ es) is = ap suc (done_count frames x n es
     (cons_parts (deed e) (add_at frames x n) (map deed es) (done frames x n) is).1)
 
-drawn_below : (m x : ℕ) → 0 < m → drawn m x < m
-unfolding drawn
-drawn_below m x some = mod-lt (x / 2 ^ 33) some
-
 pub done_adds : (frames x n : ℕ) (es : List Made) → 0 < frames → map deed es ≡ done frames x n → AreAdds frames es
+unfolding drawn
 done_adds frames x n [] some is = tt
 done_adds frames x zero (e ∷ es) some is = let c : length (map deed (e ∷ es)) ≡ 0 =
     ap (λ (l : List (ℕ × Touch)). length l) is in absurd (omega arith)
@@ -60,7 +57,7 @@ done_adds frames x (suc n) (e ∷ es) some is =
     let parts = cons_parts (deed e) (add_at frames x n) (map deed es) (done frames x n) is in
     let frame : e.frame ≡ drawn frames (next_state (state_after n x)) = ap (λ t. t.0) parts.0 in
     let below : drawn frames (next_state (state_after n x)) < frames =
-    drawn_below frames (next_state (state_after n x)) some in
+    mod-lt (next_state (state_after n x) / 2 ^ 33) some in
     let touch : e.touch ≡ Add 0 (word_at n) = ap (λ t. t.1) parts.0 in
     let word : added e.touch ≡ word_at n = ap added touch in
     (done_adds frames x n es some parts.1, omega (arith, frame, below), touch ∙ ap (λ w. Add 0 w) (sym word))
