@@ -1,7 +1,7 @@
 -- How much of two lists is the same (own).
 use Rattle.std.proofs.Common.{◌≡◌, ℕ, ◌+◌, Bool, true, false, cond, List, [], ◌∷◌, length, refl, ap, ◌∙◌, arith}
 use Rattle.std.specs.Str.{bytes_eq}
-use Rattle.text_model.proofs.LineSteps.{lines_nil}
+use Rattle.text_model.proofs.LineSteps.{lines_nil, no_lines}
 use Rattle.text_model.specs.Lines.{lines_of}
 use Rattle.line_reasons.specs.Fronts.{same_front, one_more}
 
@@ -52,10 +52,6 @@ front_left_last all n r xs ys ns a b h e f is = is
     ∙ last_one all n (same_front [] ns) (bytes_eq a b) (none_left ns)
     (h ∙ ap (λ (m : ℕ). n + m) (both xs ys [] ns a b e f))
 
-no_line : (bytes : List ℕ) → length bytes ≡ 0 → lines_of bytes ≡ []
-no_line [] e = lines_nil
-no_line (b ∷ bs) e = absurd (omega arith)
-
 -- one of two texts has no line left
 pub front_no_due : (all n : ℕ) (left wanted : List ℕ) → all ≡ n + same_front (lines_of left) (lines_of wanted)
     → length wanted ≡ 0
@@ -63,13 +59,13 @@ pub front_no_due : (all n : ℕ) (left wanted : List ℕ) → all ≡ n + same_f
 front_no_due all n left wanted h e =
     let step : same_front (lines_of left) (lines_of wanted) ≡ 0 =
     ap (λ (t : List (List ℕ)). same_front (lines_of left) t)
-    (no_line wanted e) ∙ none_due (lines_of left) in omega (arith, h, step)
+    (no_lines wanted e) ∙ none_due (lines_of left) in omega (arith, h, step)
 
 pub front_no_left : (all n : ℕ) (left wanted : List ℕ) → all ≡ n + same_front (lines_of left) (lines_of wanted)
     → length left ≡ 0
     → n ≡ all
 front_no_left all n left wanted h e =
     let step : same_front (lines_of left) (lines_of wanted) ≡ 0 = ap
-    (λ (t : List (List ℕ)). same_front t (lines_of wanted)) (no_line left e) in omega (arith, h, step)
+    (λ (t : List (List ℕ)). same_front t (lines_of wanted)) (no_lines left e) in omega (arith, h, step)
 
 pub ruleset front_steps = (front_next, front_other, front_due_last, front_left_last, front_no_due, front_no_left)
