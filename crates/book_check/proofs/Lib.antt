@@ -1,5 +1,4 @@
 mod LineLaws
-mod InputLaws
 mod ProgressLaws
 mod EndLaws
 pub mod VerdictLaws

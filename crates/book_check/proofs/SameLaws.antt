@@ -3,7 +3,7 @@ use Rattle.std.proofs.Common.{◌≡◌, ◌≢◌, ℕ, ◌+◌, Bool, true, fa
 use Rattle.std.proofs.Common.{◌∙◌, arith}
 use Rattle.std.specs.Str.{bytes_eq}
 use Rattle.std.proofs.lemmas.Slice.Eq.{bytes_eq-Decides}
-use Rattle.text_model.proofs.LineSteps.{lines_nil}
+use Rattle.text_model.proofs.LineSteps.{lines_nil, no_lines}
 use Rattle.text_model.specs.Lines.{lines_of, onto_piece}
 use Rattle.book_check.specs.Verdicts.{same_lines}
 
@@ -72,11 +72,6 @@ module _ (all due left wanted : List (List ℕ)) (n : ℕ) (is : AreSame all due
       none [] = refl
       none (x ∷ xs) = refl
 
--- there is a line exactly where there is a byte
-pub no_line : (bytes : List ℕ) → length bytes ≡ 0 → lines_of bytes ≡ []
-no_line [] e = lines_nil
-no_line (b ∷ bs) e = absurd (omega arith)
-
 some_line : (bytes : List ℕ) → length bytes ≢ 0 → lines_of bytes ≢ []
 unfolding lines_of
 some_line [] some e = absurd (some refl)
@@ -95,13 +90,13 @@ module _ (given due left wanted : List ℕ) (n : ℕ) (is : AreSame (lines_of gi
   pub due_ends : length wanted ≡ 0 → length left ≢ 0 → (lines_of given ≢ lines_of due)
       × (n ≡ same_lines (lines_of given) (lines_of due))
   due_ends e some = wanted_ends (lines_of given) (lines_of due) (lines_of left) (lines_of wanted) n is
-      (no_line wanted e) (some_line left some)
+      (no_lines wanted e) (some_line left some)
 
   pub given_ends : length left ≡ 0 → length wanted ≢ 0 → (lines_of given ≢ lines_of due)
       × (n ≡ same_lines (lines_of given) (lines_of due))
-  given_ends e some = left_ends (lines_of given) (lines_of due) (lines_of left) (lines_of wanted) n is (no_line left e)
+  given_ends e some = left_ends (lines_of given) (lines_of due) (lines_of left) (lines_of wanted) n is (no_lines left e)
       (some_line wanted some)
 
   pub texts_end : length left ≡ 0 → length wanted ≡ 0 → lines_of given ≡ lines_of due
-  texts_end e f = both_end (lines_of given) (lines_of due) (lines_of left) (lines_of wanted) n is (no_line left e)
-      (no_line wanted f)
+  texts_end e f = both_end (lines_of given) (lines_of due) (lines_of left) (lines_of wanted) n is (no_lines left e)
+      (no_lines wanted f)

@@ -7,6 +7,7 @@ use Rattle.script.specs.Drafts.{blank}
 use Rattle.script.specs.Grammar.{finished, numbered}
 use Rattle.script.specs.Plans.{Plan}
 use Rattle.script.specs.declared.refusals.Refusal.{Refusal}
+use Rattle.text_model.specs.Parts.{first_after, lines_after, lines_before}
 
 -- a line from its first byte on that isn't a space
 abbrev pub after_spaces : List ℕ → List ℕ
@@ -21,19 +22,17 @@ unfoldable pub is_book : List ℕ → Bool
 is_book line = bytes_eq (take 4 (after_spaces line)) (codes "book") && are_spaces (drop 4 (after_spaces line))
 
 -- the lines before the first such line; all, where there is none
-unfoldable pub script_lines : List (List ℕ) → List (List ℕ)
-script_lines [] = []
-script_lines (line ∷ lines) = if is_book line then [] else line ∷ script_lines lines
+abbrev pub script_lines : List (List ℕ) → List (List ℕ)
+script_lines lines = lines_before is_book lines
 
 -- the lines after it; none, where there is none
-unfoldable pub listing_lines : List (List ℕ) → List (List ℕ)
-listing_lines [] = []
-listing_lines (line ∷ lines) = if is_book line then lines else listing_lines lines
+abbrev pub listing_lines : List (List ℕ) → List (List ℕ)
+listing_lines lines = lines_after is_book lines
 
 -- the number of the first line of the listing, counted from 1 at the first line of all; where there is no line `book`,
 -- the number of the line past the last
 abbrev pub first_number : List (List ℕ) → ℕ
-first_number lines = length lines - length (listing_lines lines) + 1
+first_number lines = first_after is_book lines
 
 -- the script that some lines are, or the first of them that is refused and why
 unfoldable pub script_of_lines : List (List ℕ) → Result Plan Refusal

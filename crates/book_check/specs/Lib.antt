@@ -1,7 +1,6 @@
 pub mod Rules
 pub mod Inputs
 pub mod Verdicts
-pub mod Passing
 pub mod Judging
 pub mod Going
 pub mod Closing

@@ -10,11 +10,10 @@ ghost use Rattle.book_check.specs.Judging.{HaveEnded};
 ghost use Rattle.book_check.specs.Verdicts.{same_lines};
 
 use crate::judge::{Judge, accounts_promise};
-use crate::lines::next_line;
 use crate::offences::{CheckFault, Offence, Rule};
 use flat_store::FlatStore;
 use listing::{NoMemory, summary, summary_text};
-use script::Script;
+use script::{Script, next_line};
 use std::alloc::Global;
 
 /// Whether each process of a script has ended.

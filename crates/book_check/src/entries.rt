@@ -6,8 +6,9 @@ ghost use Rattle.book_check.specs.Inputs.{entry_lines};
 ghost use Rattle.book_check.specs.Judging.{IsAfter};
 
 use crate::judge::{Judge, LineFault};
-use crate::lines::{is_summary, next_line};
+use crate::lines::is_summary;
 use crate::offences::{CheckFault, Offence};
+use script::next_line;
 
 /// What a line's fault comes to, at the line of this number.
 fn at_line(number: u32, fault: LineFault) -> CheckFault

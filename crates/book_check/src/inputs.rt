@@ -2,7 +2,8 @@ ghost use Rattle.std.specs.Prelude.{◌≡◌, ◌≤◌, ◌<◌, ◌+◌, ◌^
 ghost use Rattle.text_model.specs.Lines.{lines_of};
 ghost use Rattle.book_check.specs.Inputs.{first_number, listing_lines, script_lines};
 
-use crate::lines::{is_book, next_line};
+use crate::lines::is_book;
+use script::next_line;
 
 /// The parts of an input, in place.
 #[derive(Drop)]
@@ -16,7 +17,7 @@ pub struct Input<'a> {
 }
 
 /// The parts of an input. It looks at the lines of the script alone.
-#[tactic(auto, using(crate::proofs::InputLaws::at_start, std::proofs::lemmas::Grind::common_steps))]
+#[tactic(auto, using(text_model::proofs::PartLaws::at_start, std::proofs::lemmas::Grind::common_steps))]
 pub fn split_input(bytes: &[u8]) -> Input<'_>
     requires { length bytes.now < 2 ^ 31 }
     ensures script { lines_of result.script.now ≡ script_lines (lines_of bytes.now) }

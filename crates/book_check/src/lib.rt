@@ -14,6 +14,6 @@ mod offences;
 pub use check::check_book;
 pub use inputs::{Input, split_input};
 pub use judge::{Judge, LineFault};
-pub use lines::{is_book, is_summary, next_line};
+pub use lines::{is_book, is_summary};
 pub use no_memory::NoMemory;
 pub use offences::{CheckFault, Offence, Rule};

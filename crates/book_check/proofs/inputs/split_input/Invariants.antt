@@ -1,11 +1,12 @@
 use Rattle.std.proofs.Common.{◌+◌, ◌-◌, ◌≤◌, length}
-use Rattle.book_check.specs.Passing.{IsAtLine}
+use Rattle.text_model.specs.Parts.{IsAtLine}
+use Rattle.book_check.specs.Inputs.{is_book}
 use Rattle.book_check.proofs.inputs.split_input.Given as goal
 
 -- the lines up to here are passed, and none of them is the line `book`
 abbrev pub invariant-loop-at : goal.invariant-loop-at
 invariant-loop-at l = record {
-  passed : IsAtLine l.bytes l.at l.number;
+  passed : IsAtLine is_book l.bytes l.at l.number;
   within : l.at ≤ length l.bytes;
   few : l.number ≤ l.at + 1;
 }
