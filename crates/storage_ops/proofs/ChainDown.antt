@@ -12,7 +12,7 @@ use Rattle.script.specs.Plans.{Plan}
 use Rattle.flat_model.specs.Store.{Store}
 use Rattle.tree_model.specs.Tree.{Node, above, has_directory, node_in, pool_of, step_up}
 use Rattle.tree_model.specs.Trees.{IsTree}
-use Rattle.tree_model.proofs.TreeLaws.{IsUp, above_once, depth, superior_in, superior_up}
+use Rattle.tree_model.proofs.TreeLaws.{IsUp, above_once, depth, superior_in, superior_up, superior_found}
 use Rattle.descriptor_seg.specs.declared.Sdw.TheVariants.{Present}
 use Rattle.descriptor_seg.specs.Descriptors.{sdw_at}
 use Rattle.active_segs.specs.declared.Entry.{Entry}
@@ -115,14 +115,6 @@ module _ (ns : List Node) (t : IsTree ns) where
       let here : i < length (u ∷ above ns u) = omega (arith, lt, long) in
       ap (is_there ns) (get_or-reverse (u ∷ above ns u) i 0 here)
       ∙ there_up u (above ns u) refl there (length (u ∷ above ns u) - 1 - i) (omega (arith, here))
-
-superior_found : (ns : List Node) (u : ℕ) (n : Node) → node_in ns u ≡ Some n → superior_in ns u ≡ n.superior
-superior_found [] u n e = cc
-superior_found (m ∷ ns) u n e = elim (cases_Bool (eqb m.uid u)) [
-  | inl is ↦ (let z : Some m ≡ Some n = rw is at e in let same : m ≡ n = cc in
-      rw is (ap (λ (x : Node). x.superior) same))
-  | inr isnt ↦ rw isnt (superior_found ns u n (rw isnt at e))
-]
 
 -- ---- a chain of a node
 

@@ -29,10 +29,11 @@ use Rattle.seg_control.specs.Control.{Links, leads, leads_at, sdws_at}
 use Rattle.storage_ops.specs.Shown.{HasMoved, HasRowSet, IsCut, IsStore, Shows, Storage}
 use Rattle.storage_ops.specs.Shown.{answered, is_filed, pages_in, pages_of, picture}
 use Rattle.flat_model.specs.Pages.{is_stored}
-use Rattle.storage_ops.proofs.Alike.{Keeps, active_alike, alike_changed, counted_alike, filed_alike}
-use Rattle.storage_ops.proofs.Alike.{housed_alike, keeps_moved, keeps_one, keeps_rows, map_node, moved_else, node_map}
-use Rattle.storage_ops.proofs.Alike.{picture_alike, quota_moved, rights_alike, taken_alike}
+use Rattle.storage_ops.proofs.Alike.{active_alike, alike_changed, counted_alike, filed_alike}
+use Rattle.storage_ops.proofs.Alike.{housed_alike, map_node, node_map}
+use Rattle.storage_ops.proofs.Alike.{picture_alike, rights_alike, taken_alike}
 use Rattle.tree_model.proofs.SharedLaws.{found_uid}
+use Rattle.flat_model.proofs.KeepLaws.{Keeps, keeps_moved, keeps_one, keeps_rows, moved_else, quota_moved}
 
 -- ---- a change of all nodes
 

@@ -26,7 +26,7 @@ use Rattle.seg_control.specs.Control.{Links}
 use Rattle.seg_control.specs.Kept.{IsInactive}
 use Rattle.storage_ops.specs.Shown.{AreCounted, IsStore, Shows, Storage, home_of, is_filed, is_there}
 use Rattle.storage_ops.specs.Shown.{named_at, pages_in, pages_of}
-use Rattle.storage_ops.proofs.Alike.{Keeps, active_alike, alike_changed, housed_alike, keeps_length, keeps_one}
+use Rattle.storage_ops.proofs.Alike.{active_alike, alike_changed, housed_alike}
 use Rattle.storage_ops.proofs.Alike.{map_node}
 use Rattle.storage_ops.proofs.Alike.{node_map, rights_alike, taken_alike}
 use Rattle.storage_ops.proofs.Changed.{shown_changed}
@@ -34,6 +34,7 @@ use Rattle.storage_ops.proofs.Held.{tree_held}
 use Rattle.flat_model.proofs.NodeLaws.{no_directory}
 use Rattle.flat_model.proofs.TreeReplies.{length_told}
 use Rattle.tree_model.proofs.SharedLaws.{found_uid}
+use Rattle.flat_model.proofs.KeepLaws.{Keeps, keeps_length, keeps_one}
 
 -- whether a page is filed, of a node that is there
 pub filed_there : (a : AccountMaps) (vtocs : List (List (Option Entry))) (u q : ℕ) → is_there a.nodes u ≡ true

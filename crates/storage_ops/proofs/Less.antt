@@ -97,10 +97,6 @@ still_there place (Present y m n) x pages mode e = here (eqb y place) e
     here true e = cc
     here false e = e
 
-all_known : (links : Links) (place : ℕ) → (all_cut links place).known ≡ links.known
-unfolding all_cut
-all_known links place = refl
-
 all_fewer : (links : Links) (place : ℕ) → AreFewer links (all_cut links place)
 unfolding AreFewer all_cut
 all_fewer links place q n x pages mode e =
@@ -110,13 +106,15 @@ all_fewer links place q n x pages mode e =
 
 pub store_all_cut : (now : Plain) (ast : ActiveSegs) (links : Links) (a : AccountMaps) (whos : List Who) (place : ℕ)
     → IsStore now ast links a whos → IsStore now ast (all_cut links place) a whos
-store_all_cut now ast links a whos place h = store_less now ast links (all_cut links place) a whos
-    (all_known links place) (all_fewer links place) h
+unfolding all_cut
+store_all_cut now ast links a whos place h =
+    store_less now ast links (all_cut links place) a whos refl (all_fewer links place) h
 
 pub shown_all_cut : {D : Type 0} (drive : D → List (List ℕ)) (p : Plan) (s : Store) (t : Storage D) (place : ℕ)
     → Shows drive p s t
     → Shows drive p s (record t { segs = record t.segs { links = all_cut t.segs.links place } })
-shown_all_cut drive p s t place h = shown_less drive p s t (all_cut t.segs.links place) (all_known t.segs.links place) h
+unfolding all_cut
+shown_all_cut drive p s t place h = shown_less drive p s t (all_cut t.segs.links place) refl h
 
 -- ---- a segment becomes inactive
 

@@ -69,14 +69,6 @@ some_free vtocs v e most count least is counted =
     let fewer : count < most = omega (arith, less, is, counted) in
     grind (arith, nat_tests)
 
--- the new branch is that of the flat store
-pub branch_same : (s : Store) (new : NewNode) (d : Node) (next superior : ℕ) → s.next ≡ next → d.uid ≡ superior
-    → record s { nodes = branch_of next superior new ∷ s.nodes; next = s.next + 1 }
-    ≡ made_in s new.volume new.dir new.length new.acl new.name d
-branch_same s new d next superior at below =
-    ap (λ (u : ℕ). record s { nodes = branch_of u superior new ∷ s.nodes; next = s.next + 1 }) (sym at)
-    ∙ ap (λ (u : ℕ). record s { nodes = branch_of s.next u new ∷ s.nodes; next = s.next + 1 }) (sym below)
-
 -- each table of tables is as long as before, once an element of one is changed
 pub length_inside : {X : Type 0} (vtocs : List (List X)) (v e w : ℕ) (x : X) (now : List (List X))
     → now ≡ set vtocs v (set (get_or vtocs v []) e x)

@@ -1,9 +1,10 @@
 -- An active segment: its home, its page table, and which of its pages are stored.
 use Rattle.std.proofs.Common.{◌≡◌, ◌≢◌, ℕ, zero, suc, ◌/◌, ◌%◌, ◌<◌, ◌≤◌, Bool, true, false, cond, ◌&&◌, ◌↔◌, List, []}
+use Rattle.std.proofs.Common.{eqb}
 use Rattle.std.proofs.Common.{◌∷◌, get_or, Option}
 use Rattle.std.proofs.Common.{Some, None, replicate, refl, sym, ap, ◌∙◌, arith, inl, inr}
 use Rattle.std.specs.List.{position_or_len}
-use Rattle.std.proofs.lemmas.Bool.{cases_Bool}
+use Rattle.std.proofs.lemmas.Bool.{cases_Bool, eqb-true}
 use Rattle.std.proofs.lemmas.Bool.Decides.{nat_tests}
 use Rattle.std.proofs.lemmas.Grind.{common_steps}
 use Rattle.std.proofs.lemmas.Option.{same_Some}
@@ -28,10 +29,7 @@ use Rattle.storage_ops.specs.Shown.{IsStore, Shows, Storage, home_of, is_filed, 
 use Rattle.storage_ops.proofs.Homes.{filed_map, words_none}
 use Rattle.storage_ops.proofs.Lengths.{filed_there}
 use Rattle.laws.proofs.Lists.{all_same}
-
-uid_from : (u : ℕ) (e : Option Entry) → is_for u e ≡ true → uid_in e ≡ Some u
-uid_from u None h = cc
-uid_from u (Some e) h = (let same : e.uid ≡ u = grind (arith, nat_tests) in ap (λ (n : ℕ). Some n) same)
+use Rattle.laws.proofs.Options.{passed_there}
 
 not_for : (u : ℕ) (e : Option Entry) → is_for u e ≡ false → uid_in e ≢ Some u
 not_for u None h is = cc
@@ -45,7 +43,8 @@ found_at : (xs : List (Option Entry)) (u place : ℕ) → uid_in_place xs place 
 found_at [] u place at = cc
 found_at (x ∷ xs) u place at = elim (cases_Bool (is_for u x)) [
   | inl is ↦ (let first : position_or_len (is_for u) (x ∷ xs) ≡ 0 = grind (arith, common_steps) in
-      ap (uid_in_place (x ∷ xs)) first ∙ uid_from u x is)
+      let own = passed_there (λ (e : Entry). eqb e.uid u) x is in
+      ap (uid_in_place (x ∷ xs)) first ∙ ap uid_in own.1 ∙ ap Some (eqb-true own.0.uid u own.2))
   | inr isnt ↦
       (let next : position_or_len (is_for u) (x ∷ xs) ≡ suc (position_or_len (is_for u) xs) =
       grind (arith, common_steps) in

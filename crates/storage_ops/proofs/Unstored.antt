@@ -29,23 +29,16 @@ use Rattle.storage_ops.specs.Cut.{IsTakenFrom, IsTakenPast, Unstores, is_here, u
 use Rattle.storage_ops.proofs.Known.{set_told}
 use Rattle.storage_ops.proofs.Paged.{active_place}
 use Rattle.laws.proofs.Options.{page_is}
+use Rattle.laws.proofs.Places.{shown_within}
+use Rattle.laws.proofs.Lists.{within_from}
+use Rattle.laws.proofs.Bools.{off_and_on}
 
 -- ---- the words of a segment's page table
 
-used_within : (xs : List (Option Entry)) (place u : ℕ) → uid_in_place xs place ≡ Some u → place < length xs
-used_within xs place u e = elim (cases_lt place (length xs)) [
-  | inl lt ↦ lt
-  | inr past ↦ (let none : uid_in_place xs place ≡ None = ap uid_in (get_or_past xs place None past) in
-      let clash : ◌≡◌ {A = Option ℕ} None (Some u) = sym none ∙ e in cc)
-]
-
 -- a word that says that the page has a record is one of the table's
 pub word_within : (table : List Ptw) (q : ℕ) → has_record (ptw_at table q) ≡ true → q < length table
-word_within table q on = elim (cases_lt q (length table)) [
-  | inl lt ↦ lt
-  | inr past ↦ (let none : has_record (ptw_at table q) ≡ false = ap has_record (get_or_past table q Null past) in
-      let clash : true ≡ false = sym on ∙ none in cc)
-]
+word_within table q on =
+    within_from table q Null (λ null. off_and_on (has_record (ptw_at table q)) (ap has_record null) on)
 
 module _ (ast : ActiveSegs) (u q : ℕ) (w : Ptw) where
   pub worded_other : (r : ℕ) → r ≢ q → word_of (worded ast u q w) u r ≡ word_of ast u r
@@ -57,7 +50,7 @@ module _ (ast : ActiveSegs) (u q : ℕ) (w : Ptw) where
       → word_of (worded ast u q w) u q ≡ w
   worded_here active places within =
       let at : place_of ast.entries u < length ast.entries =
-      used_within ast.entries (place_of ast.entries u) u (active_place ast.entries u active) in
+      shown_within uid_in ast.entries (place_of ast.entries u) None u refl (active_place ast.entries u active) in
       ap (λ (t : List Ptw). ptw_at t q) (get_or-set_same ast.tables (place_of ast.entries u)
       (set (table_of ast u) q w) [] (omega (arith, at, places)))
       ∙ get_or-set_same (table_of ast u) q w Null within

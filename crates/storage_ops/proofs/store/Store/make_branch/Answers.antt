@@ -13,10 +13,11 @@ use Rattle.storage_ops.specs.CutOff.{TakesHome}
 use Rattle.storage_ops.specs.Shown.{IsStore, Shows, Storage}
 use Rattle.storage_ops.proofs.Held.{held, shown_held}
 use Rattle.storage_ops.proofs.Homes.{HasNewHome, shown_new, store_new}
-use Rattle.storage_ops.proofs.Made.{all_used, branch_same, length_inside, made_told, some_free}
+use Rattle.storage_ops.proofs.Made.{all_used, length_inside, made_told, some_free}
 use Rattle.storage_ops.proofs.store.Store.make_branch.Given.{Over}
 use Rattle.storage_ops.proofs.store.Store.make_branch.Goals.{After-attach}
 use Rattle.storage_ops.proofs.store.Store.make_branch.Goals as goal
+use Rattle.flat_model.proofs.TreeLaws.{branch_made}
 
 pub attach-requires-clause-may : goal.attach-requires-clause-may
 attach-requires-clause-may g c = unless_none _ _ _ (sym c.may_add.ensures ∙ c.in-Ok.is)
@@ -89,7 +90,7 @@ returns-clause-effect g c = λ p s d h below.
     let u = record t { accounts = c.attach.new.self; segs = c.new_home.new.self } in
     let shown = shown_held c.self.view_is g.D.Drive.pages p s h in
     subst (λ (x : Flat). Shows g.D.Drive.pages p x u)
-    (branch_same s (as_node (record c.args.new { entry = c.in-Some.entry })) d c.self.inside.accounts.next
+    (branch_made s d c.self.inside.accounts.next
     c.args.superior shown.tree.next below)
     (shown_new c.self.inside.accounts c.attach.new.self (node g c) c.in-Some.entry old now (made g c)
     c.self.inside.segs.ast c.self.inside.segs.links
