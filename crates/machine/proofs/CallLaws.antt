@@ -20,10 +20,11 @@ use Rattle.machine_model.specs.Turns.{calls_drive}
 use Rattle.machine_tables.specs.Parts.{Parts, SparesCall, outcome_of}
 use Rattle.machine.specs.Turns.{AreTold, CallsAs, CallsNone, CallsOne, CountsAlike, HaveCounted, KeepsParts, LetsGo}
 use Rattle.machine.specs.Turns.{CallsTwo, RoseAtOne}
-use Rattle.machine.proofs.DriveCounts.{counted_same, rose_sum, same_sum}
+use Rattle.machine.proofs.DriveCounts.{rose_sum, same_sum}
 use Rattle.machine_model.proofs.FaultsBooked.{count_on}
 use Rattle.laws.proofs.Bools.{not_both}
 use Rattle.laws.proofs.Lists.{sum_of_map}
+use Rattle.laws.proofs.Places.{seen_same}
 
 -- ---- a call by its result
 
@@ -82,7 +83,7 @@ module _ {D : Type 0} (faults : D → ℕ) (old new : List D) where
     failed = record {
       once = h.once e;
       rose = h.rose e;
-      others = λ w ne. counted_same faults old new w (h.others.same w ne);
+      others = λ w ne. seen_same faults old new w (h.others.same w ne);
     };
   }
 

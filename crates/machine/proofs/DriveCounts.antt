@@ -7,24 +7,7 @@ use Rattle.site_io.specs.Faults.{Rose}
 use Rattle.volumes.specs.Volumes.{faults_at}
 use Rattle.page_control.specs.Drives.{CallsDrive}
 use Rattle.seg_mover.specs.Copies.{CallsDrives}
-
--- what a drive that may be there counts
-abbrev counted : {D : Type 0} → (D → ℕ) → Option D → ℕ
-counted faults None = 0
-counted faults (Some d) = faults d
-
-counted_at : {D : Type 0} (faults : D → ℕ) (drives : List D) (v : ℕ)
-    → faults_at faults drives v ≡ counted faults (slice_get drives v)
-counted_at faults [] zero = refl
-counted_at faults [] (suc v) = refl
-counted_at faults (d ∷ ds) zero = refl
-counted_at faults (d ∷ ds) (suc v) = counted_at faults ds v
-
--- a drive that is as it was counts as many
-pub counted_same : {D : Type 0} (faults : D → ℕ) (old new : List D) (v : ℕ) → slice_get new v ≡ slice_get old v
-    → faults_at faults new v ≡ faults_at faults old v
-counted_same faults old new v same =
-    counted_at faults new v ∙ ap (counted faults) same ∙ sym (counted_at faults old v)
+use Rattle.laws.proofs.Places.{seen_same}
 
 pub same_sum : {D : Type 0} (faults : D → ℕ) (old new : List D) → length new ≡ length old
     → ((w : ℕ) → faults_at faults new w ≡ faults_at faults old w) → sum_by faults new ≡ sum_by faults old
@@ -67,7 +50,7 @@ pub call_rose : {D Plan T E : Type 0} (plan : D → Plan) (places faults : D →
     → OnErr result (Rose (sum_by faults old) (sum_by faults new))
 call_rose plan places faults old new v (Ok x) call = tt
 call_rose plan places faults old new v (Err e) call =
-    rose_sum faults old new v call.count (λ w ne. counted_same faults old new w (call.others.same w ne)) call.rose
+    rose_sum faults old new v call.count (λ w ne. seen_same faults old new w (call.others.same w ne)) call.rose
 
 -- the counts before and after it, as the machine has them
 pub call_counts : {D Plan T E : Type 0} (plan : D → Plan) (places faults : D → ℕ) (old new : List D) (v : ℕ)

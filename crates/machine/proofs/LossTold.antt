@@ -30,8 +30,8 @@ use Rattle.machine_model.specs.Reads.{home_in}
 use Rattle.machine.specs.Shut.{AllVisited, AreToldBack, CallsAtVisit, HasVisited, TellsLoss}
 use Rattle.machine.specs.Turns.{RoseAtOne}
 use Rattle.machine.proofs.CallLaws.{are_told}
-use Rattle.machine.proofs.DriveCounts.{counted_same}
 use Rattle.machine.proofs.VisitNext.{bound_there}
+use Rattle.laws.proofs.Places.{seen_same}
 
 -- ---- the entries of a visit
 
@@ -138,7 +138,7 @@ module _ {D : Type 0} (faults : D → ℕ) (s : State) (old new : List D) where
     failed = record {
       once = h.called.once e;
       rose = h.called.rose e;
-      others = λ w ne. counted_same faults old new w (h.called.others.same w ne);
+      others = λ w ne. seen_same faults old new w (h.called.others.same w ne);
     };
   }
 

@@ -38,7 +38,6 @@ use Rattle.machine_model.proofs.ActiveSeen.{words_less, words_more, words_new}
 use Rattle.machine_model.proofs.AnswerLaws.{owner_keeps}
 use Rattle.machine_model.proofs.ChainLaws.{GoesOn, first_finish_seg, uncut_on}
 use Rattle.machine_model.proofs.DescriptorLaws.{CanConnect, connect_keeps, gone_seg_keeps}
-use Rattle.machine_model.proofs.JobKept.{set_same}
 use Rattle.machine_model.proofs.KeepLaws.{faults_push}
 use Rattle.machine_model.proofs.MoveSeen.{connect_seen, made_seen}
 use Rattle.machine_model.proofs.OwnedLaws.{IsIdle, nobody}
@@ -48,6 +47,7 @@ use Rattle.machine_model.proofs.TieLaws.{none_some}
 use Rattle.machine_model.proofs.TransferKept.{kept_with, quiet_faults}
 use Rattle.machine_model.proofs.TransferLaws.{CanMake, here_keeps}
 use Rattle.machine_model.proofs.KeepLaws.{quiet_push}
+use Rattle.laws.proofs.Places.{map_kept}
 
 -- ---- a segment becomes active
 
@@ -218,9 +218,9 @@ through_seen s f r = by (alters r.kind)
   where
     marked : (b : Bool) → seen (with_store s (with_pages s.store (referred s.store.pages f b))) ≡ seen s
     marked b = λ i. record (seen s) {
-      bound = λ g. binding_at (set_same bound_page s.store.pages.core.frames f
+      bound = λ g. binding_at (map_kept bound_page s.store.pages.core.frames f frame.Free
           (after_reference (frame_in s.store.pages f) b) (bound_after (frame_in s.store.pages f) b) i) g;
-      reads = λ g. read_at (set_same started_page s.store.pages.core.frames f
+      reads = λ g. read_at (map_kept started_page s.store.pages.core.frames f frame.Free
           (after_reference (frame_in s.store.pages f) b) (started_after (frame_in s.store.pages f) b) i) g;
     }
 

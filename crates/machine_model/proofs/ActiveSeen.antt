@@ -3,7 +3,7 @@ use Rattle.std.proofs.Common.{◌≡◌, ◌≢◌, ◌<◌, ℕ, zero, suc, ◌
 use Rattle.std.proofs.Common.{◌++◌, length, set, get_or, replicate, Option, Some, None, inl, inr, refl, sym, ap, subst}
 use Rattle.std.proofs.Common.{◌∙◌, arith}
 use Rattle.std.specs.List.{list_any, position_or_len}
-use Rattle.std.proofs.lemmas.Bool.{cases_Bool, or_parts}
+use Rattle.std.proofs.lemmas.Bool.{cases_Bool, or_parts, eqb-true}
 use Rattle.std.proofs.lemmas.Bool.Decides.{eqb_tells, leb_tells}
 use Rattle.std.proofs.lemmas.List.{get_or_past, get_or-set_same, get_or-set_other, length-set}
 use Rattle.std.proofs.lemmas.List.Folds.{position_or_len-set}
@@ -26,6 +26,7 @@ use Rattle.machine_model.proofs.Places.{by_place}
 use Rattle.machine_model.proofs.TieLaws.{none_some}
 use Rattle.machine_model.proofs.WordLaws.{found}
 use Rattle.machine_model.proofs.CountLaws.{any_set}
+use Rattle.laws.proofs.Options.{passed_there}
 
 -- ---- where something is found
 
@@ -70,15 +71,6 @@ module _ {X : Type 0} (p : X → Bool) where
 
 -- ---- active segments
 
--- whether an entry is a segment's
-for_uid : (u : ℕ) (o : Option Entry) → is_for u o ≡ true → uid_in o ≡ Some u
-for_uid u None h = absurd (let no : false ≡ true = h in cc)
-for_uid u (Some e) h = elim (eqb_tells e.uid u) [
-  | inl a ↦ ap (λ (x : ℕ). Some x) a.1
-  | inr n ↦
-      absurd (let no : true ≡ false = sym h ∙ n.0 in cc)
-]
-
 not_for : (u : ℕ) (o : Option Entry) → uid_in o ≢ Some u → is_for u o ≡ false
 not_for u None h = refl
 not_for u (Some e) h = elim (eqb_tells e.uid u) [ inl a ↦ absurd (h (ap (λ (x : ℕ). Some x) a.1)) | inr n ↦ n.0 ]
@@ -87,11 +79,12 @@ not_for u (Some e) h = elim (eqb_tells e.uid u) [ inl a ↦ absurd (h (ap (λ (x
 pub active_place : (ast : ActiveSegs) (u : ℕ) → is_active ast u ≡ true
     → (place_of ast.entries u < length ast.entries) × (uid_at ast.entries (place_of ast.entries u) ≡ Some u)
 unfolding place_of
-active_place ast u h = let within = some_within (is_for u) ast.entries h in (
-  within,
-  for_uid u (entry_at ast.entries (position_or_len (is_for u) ast.entries))
-      (found (is_for u) ast.entries None within),
-)
+active_place ast u h = let within = some_within (is_for u) ast.entries h in
+    let own = passed_there (λ (e : Entry). eqb e.uid u) (entry_at ast.entries (position_or_len (is_for u) ast.entries))
+    (found (is_for u) ast.entries None within) in (
+      within,
+      ap uid_in own.1 ∙ ap Some (eqb-true own.0.uid u own.2),
+    )
 
 -- a segment that isn't active has no words
 pub inactive_blank : (ast : ActiveSegs) (u : ℕ) → length ast.tables ≡ length ast.entries → is_active ast u ≡ false

@@ -23,7 +23,7 @@ use Rattle.machine_model.specs.Reads.{cpu_at, flat_of, run_at}
 use Rattle.machine_model.specs.Scheduled.{HasTurn, MayRun}
 use Rattle.machine_model.specs.State.{State}
 use Rattle.machine_model.specs.declared.Processor.{Processor}
-use Rattle.machine_model.proofs.RunLaws.{effect_same}
+use Rattle.flat_model.proofs.OtherLaws.{effect_advances}
 use Rattle.machine_model.proofs.TieLaws.{none_some}
 use Rattle.laws.proofs.Bools.{and_parts, not_both}
 use Rattle.flat_model.proofs.SharedLaws.{going_within}
@@ -96,7 +96,7 @@ module _ (p : Plan) (s : Store) (k : ℕ) (going : (progress_of s k).ended ≡ f
   base_same c r j = by (takes_effect r)
     where
       by : (x : Bool) → (cond x (effect_of p s j c) s).processes ≡ s.processes
-      by true = effect_same p s j c
+      by true = (effect_advances p s j c).processes
       by false = refl
 
   end_of : (c : Command) → is_end c ≡ true → c ≡ command.End
@@ -173,7 +173,7 @@ module _ (p : Plan) (k : ℕ) where
       (by (takes_effect r)) ∙ get_or-set_other s.processes j k (gone_on (progress_of s j) c r) ended_progress n
     where
       by : (x : Bool) → (cond x (effect_of p s j c) s).processes ≡ s.processes
-      by true = effect_same p s j c
+      by true = (effect_advances p s j c).processes
       by false = refl
 
   stays_ended : (s : Store) (e : Entry) → (progress_of s k).ended ≡ true → IsLawful p s e

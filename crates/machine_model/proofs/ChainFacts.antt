@@ -11,6 +11,7 @@ use Rattle.tree_model.specs.Trees.{AreDirectories, HasChains, IsChain, IsTree}
 use Rattle.tree_model.proofs.ChainLaws.{has_chains}
 use Rattle.tree_model.proofs.Finds.{IsMember, found_front, found_member, member_parts, past_front}
 use Rattle.tree_model.proofs.TreeLaws.{above_once, superior_in}
+pub use Rattle.tree_model.proofs.TreeLaws.{superior_found}
 use Rattle.dir_tree.specs.Nodes.{chain_of}
 use Rattle.active_segs.specs.Active.{ActiveSegs}
 use Rattle.machine_model.specs.Reads.{first_inactive, is_active}
@@ -94,16 +95,6 @@ module _ (test : ℕ → Bool) where
           is = chain.0 ∙ ap up same
 
 -- ---- a chain of the tree
-
--- the superior of a node that is found
-pub superior_found : (ms : List Node) (u : ℕ) (n : Node) → node_in ms u ≡ Some n → superior_in ms u ≡ n.superior
-superior_found [] u n h = absurd (none_some h)
-superior_found (m ∷ ms) u n h = by (eqb m.uid u) h (superior_found ms u n)
-  where
-    by : (b : Bool) → cond b (Some m) (node_in ms u) ≡ Some n → (node_in ms u ≡ Some n → superior_in ms u ≡ n.superior)
-        → option_and_then (λ x. x.superior) (cond b (Some m) (find (λ x. eqb x.uid u) ms)) ≡ n.superior
-    by true e rest = let same : m ≡ n = cc in ap (λ (x : Node). x.superior) same
-    by false e rest = rest e
 
 module _ (ns : List Node) (t : IsTree ns) (ast : ActiveSegs) where
   chains : HasChains ns

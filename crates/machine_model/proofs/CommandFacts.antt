@@ -21,38 +21,9 @@ use Rattle.machine_model.specs.Refusal.{refusal_of, uid_at_path, uid_of_node}
 use Rattle.machine_model.specs.State.{State}
 use Rattle.flat_model.proofs.QuotaTotals.{branch_found, node_found, segment_found}
 use Rattle.laws.proofs.Bools.{not_both}
+use Rattle.flat_model.proofs.PathRefusals.{branch_says, segment_says}
 
 -- ---- a path that can't be followed refuses
-
-walk_refuses : (ns : List Node) (w : Walk) (e : Reply) → walked ns w ≡ Err e → is_refusal e ≡ true
-walk_refuses ns (LeadsTo u) e h = by (node_in ns u) h
-  where
-    by : (x : Option Node) → there_or x ≡ Err e → is_refusal e ≡ true
-    by None i = let same : reply.NoPath ≡ e = cc in ap is_refusal (sym same)
-    by (Some n) i = absurd (let none : Ok n ≡ Err e = i in cc)
-walk_refuses ns Missing e h = let same : reply.NoPath ≡ e = cc in ap is_refusal (sym same)
-walk_refuses ns InSegment e h = let same : reply.NotDir ≡ e = cc in ap is_refusal (sym same)
-
-node_refuses : (ns : List Node) (path : List (List ℕ)) (e : Reply) → node_at ns path ≡ Err e → is_refusal e ≡ true
-unfolding node_at
-node_refuses ns path e h = walk_refuses ns (walk_in ns path) e h
-
-segment_refuses : (ns : List Node) (path : List (List ℕ)) (e : Reply) → segment_at ns path ≡ Err e
-    → is_refusal e ≡ true
-segment_refuses ns path e h = by (node_at ns path) refl h
-  where
-    by : (r : Result Node Reply) → node_at ns path ≡ r → only_segment r ≡ Err e → is_refusal e ≡ true
-    by (Err x) i j = let same : x ≡ e = cc in ap is_refusal (sym same) ∙ node_refuses ns path x i
-    by (Ok n) i j = dir n.directory j
-      where
-        dir : (b : Bool) → cond b (Err reply.IsDir) (Ok n) ≡ Err e → is_refusal e ≡ true
-        dir true g = let same : reply.IsDir ≡ e = cc in ap is_refusal (sym same)
-        dir false g = absurd (let none : Ok n ≡ Err e = g in cc)
-
-branch_refuses : (ns : List Node) (path : List (List ℕ)) (e : Reply) → branch_at ns path ≡ Err e
-    → is_refusal e ≡ true
-branch_refuses ns [] e h = let same : reply.Root ≡ e = cc in ap is_refusal (sym same)
-branch_refuses ns (name ∷ names) e h = node_refuses ns (name ∷ names) e h
 
 refuses_not : (r : Reply) → is_refusal r ≡ true → refusal r ≡ None → ⊥
 refuses_not r h e = by (is_refusal r) h e
@@ -113,7 +84,7 @@ module _ (s : State) (k : ℕ) (keeps : Keeps s) where
       by : (r : Result Node Reply) → segment_at (flat_of s).nodes path ≡ r → refusal (done_at r) ≡ None
           → LeadsToSegment s path
       by (Ok n) e i = segment_by path n e
-      by (Err x) e i = absurd (refuses_not x (segment_refuses (flat_of s).nodes path x e) i)
+      by (Err x) e i = absurd (refuses_not x (segment_says is_refusal true refl refl refl (flat_of s).nodes path x e) i)
 
   pub length_stands : (path : List (List ℕ)) (pages : ℕ) → refusal_of s k (command.Length path pages) ≡ None
       → LeadsToSegment s path
@@ -123,7 +94,7 @@ module _ (s : State) (k : ℕ) (keeps : Keeps s) where
       by : (r : Result Node Reply) → segment_at (flat_of s).nodes path ≡ r
           → refusal (length_of (flat_of s).stored pages r) ≡ None → LeadsToSegment s path
       by (Ok n) e i = segment_by path n e
-      by (Err x) e i = absurd (refuses_not x (segment_refuses (flat_of s).nodes path x e) i)
+      by (Err x) e i = absurd (refuses_not x (segment_says is_refusal true refl refl refl (flat_of s).nodes path x e) i)
 
   pub acl_stands : (path : List (List ℕ)) (row : Named) (m : Mode) → refusal_of s k (command.Acl path row m) ≡ None
       → LeadsToSegment s path
@@ -133,7 +104,7 @@ module _ (s : State) (k : ℕ) (keeps : Keeps s) where
       by : (r : Result Node Reply) → segment_at (flat_of s).nodes path ≡ r → refusal (acl_of row r) ≡ None
           → LeadsToSegment s path
       by (Ok n) e i = segment_by path n e
-      by (Err x) e i = absurd (refuses_not x (segment_refuses (flat_of s).nodes path x e) i)
+      by (Err x) e i = absurd (refuses_not x (segment_says is_refusal true refl refl refl (flat_of s).nodes path x e) i)
 
   pub delete_stands : (path : List (List ℕ)) → refusal_of s k (command.Delete path) ≡ None → LeadsToBranch s path
   unfolding refusal_of delete_reply
@@ -141,7 +112,7 @@ module _ (s : State) (k : ℕ) (keeps : Keeps s) where
     where
       by : (r : Result Node Reply) → branch_at (flat_of s).nodes path ≡ r
           → refusal (delete_of (flat_of s).nodes r) ≡ None → LeadsToBranch s path
-      by (Err x) e i = absurd (refuses_not x (branch_refuses (flat_of s).nodes path x e) i)
+      by (Err x) e i = absurd (refuses_not x (branch_says is_refusal true refl refl refl (flat_of s).nodes path x e) i)
       by (Ok n) e i = record {
         node = n;
         found = e;

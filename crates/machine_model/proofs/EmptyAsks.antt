@@ -4,7 +4,7 @@ use Rattle.std.proofs.Common.{Some, None, refl, sym, ap, subst, ◌∙◌}
 use Rattle.script.specs.declared.commands.Command.{Command}
 use Rattle.assoc_mem.specs.declared.What.TheVariants as what
 use Rattle.tree_model.specs.Tree.{Node, has_directory, node_in}
-use Rattle.tree_model.proofs.TreeLaws.{IsUp, superior_up}
+use Rattle.tree_model.proofs.TreeLaws.{IsUp, superior_up, superior_found}
 use Rattle.core_map.specs.declared.Frame.TheVariants as frame
 use Rattle.core_map.specs.CoreMap.{Core, frame_at, reads_of, started_page}
 use Rattle.active_segs.specs.Active.{HasNoInferior, uid_at}
@@ -27,7 +27,6 @@ use Rattle.machine_model.specs.State.{State}
 use Rattle.machine_model.specs.Steps.{with_store}
 use Rattle.machine_model.specs.declared.CutDescriptor.{CutDescriptor}
 use Rattle.machine_model.proofs.ActiveKept.{IsOver}
-use Rattle.machine_model.proofs.ChainFacts.{superior_found}
 use Rattle.machine_model.proofs.CommandFacts.{LeadsToSegment, length_stands}
 use Rattle.machine_model.specs.Refusal.{refusal_of, uid_of_command}
 use Rattle.machine_model.proofs.CutRights.{took_says}

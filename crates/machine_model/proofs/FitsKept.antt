@@ -64,6 +64,7 @@ use Rattle.machine_model.proofs.TieLaws.{none_some}
 use Rattle.machine_model.proofs.WantLaws.{want_here}
 use Rattle.laws.proofs.Bools.{not_both}
 use Rattle.machine_model.proofs.OutlineAlone.{owner_none}
+use Rattle.laws.proofs.Places.{map_kept}
 
 -- ---- what stays
 
@@ -155,19 +156,10 @@ bare_after frame.Free b = refl
 bare_after (frame.Started u p) b = refl
 bare_after (frame.Bound u p used modified) b = refl
 
-set_same : {A : Type 0} (xs : List A) (i : ℕ) (d : A) → set xs i (get_or xs i d) ≡ xs
-set_same [] i d = refl
-set_same (x ∷ xs) zero d = refl
-set_same (x ∷ xs) (suc i) d = ap (λ (ys : List _). x ∷ ys) (set_same xs i d)
-
 bare_frames : (fs : List Frame) (f : ℕ) (b : Bool) → map bare (set fs f (after_reference (get_or fs f frame.Free) b))
     ≡ map bare fs
-bare_frames fs f b = set_map bare fs f (after_reference (get_or fs f frame.Free) b)
-    ∙ (ap (λ (y : Frame). set (map bare fs) f y) (bare_after (get_or fs f frame.Free) b ∙ sym (bare_at fs f))
-    ∙ set_same (map bare fs) f frame.Free)
-  where
-    bare_at : (xs : List Frame) (i : ℕ) → get_or (map bare xs) i frame.Free ≡ bare (get_or xs i frame.Free)
-    bare_at xs i = map_list bare xs i frame.Free
+bare_frames fs f b =
+    map_kept bare fs f frame.Free (after_reference (get_or fs f frame.Free) b) (bare_after (get_or fs f frame.Free) b)
 
 pages_frames : (s : State) (f : ℕ) (r : Reference)
     → map bare (pages_after s.store.pages f r).core.frames ≡ map bare s.store.pages.core.frames

@@ -27,7 +27,7 @@ use Rattle.machine_model.proofs.ReleaseSeen.{leaves_may}
 use Rattle.machine_model.proofs.SpeakLaws.{speaks}
 use Rattle.machine_model.specs.Keeps.{IsAtWork}
 use Rattle.machine_model.specs.Working.{IsWorking}
-use Rattle.machine_model.proofs.RuleKept.{some_of}
+use Rattle.laws.proofs.Options.{some_unwrapped}
 
 module _ (s : State) (c : ℕ) (m : IsMachine s) (entitled : IsEntitledToAll s) (reading : IsReading s)
     (working : IsWorking s) (fitting : IsFitting s) (there : c < length s.processors) where
@@ -41,14 +41,14 @@ module _ (s : State) (c : ℕ) (m : IsMachine s) (entitled : IsEntitledToAll s) 
 
   looks : (o : Owner) → s.owner ≡ Some o → o.phase ≡ phase.Looking → o.cpu ≡ c
       → IsLook s c (act.look_of s (process_at s c) (next_command s (process_at s c)))
-  looks o mine is same = let one = speaks s c (process_at s c) m there (some_of (cpu_at s.processors c).process
+  looks o mine is same = let one = speaks s c (process_at s c) m there (some_unwrapped (cpu_at s.processors c).process
       (subst (λ (d : ℕ). IsAtWork (processor_at s.processors d)) same (m.keeps.at_work o mine)).busy) in
       look_seen s c m one.0 one.1 o mine is same
 
   -- a segment that moves does so for the command of the owner's process
   moves : (o : Owner) (x : Mover) → s.owner ≡ Some o → o.phase ≡ phase.Moving x → o.cpu ≡ c
       → HasMoved (outline_of s) c (full_there s.store x)
-  moves o x mine is same = let one = speaks s c (process_at s c) m there (some_of (cpu_at s.processors c).process
+  moves o x mine is same = let one = speaks s c (process_at s c) m there (some_unwrapped (cpu_at s.processors c).process
       (subst (λ (d : ℕ). IsAtWork (processor_at s.processors d)) same (m.keeps.at_work o mine)).busy) in
       moved_seen s m.keeps (process_at s c) x one.0 rests.active
       (subst (MovesForNext (tables_of s.store) (process_at s c) x) one.1.next rests.moves) c one.1.its one.1.next

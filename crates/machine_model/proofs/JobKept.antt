@@ -41,15 +41,9 @@ use Rattle.machine_model.proofs.OwnedLaws.{IsIdle}
 use Rattle.machine_model.proofs.OwnerLaws.{bound_here, idle_names}
 use Rattle.machine_model.proofs.TakeSeen.{take_one_seen}
 use Rattle.machine_model.proofs.TransferKept.{kept_with, quiet_faults}
+use Rattle.laws.proofs.Places.{map_kept}
 
 -- ---- the clock
-
--- one element that stands for what was there
-pub set_same : {B : Type 0} (g : Frame → B) (xs : List Frame) (i : ℕ) (y : Frame) → g y ≡ g (frame_in xs i)
-    → map g (set xs i y) ≡ map g xs
-set_same g [] i y h = refl
-set_same {B} g (x ∷ xs) zero y h = ap (λ (z : B). z ∷ map g xs) h
-set_same {B} g (x ∷ xs) (suc i) y h = ap (λ (zs : List B). g x ∷ zs) (set_same g xs i y h)
 
 module _ {B : Type 0} (g : Frame → B) (same : (x : Frame) → g (unmarked x) ≡ g x) where
   passed_alike : (xs : List Frame) (fs : List ℕ) → map g (passed_over xs fs) ≡ map g xs
@@ -61,7 +55,7 @@ module _ {B : Type 0} (g : Frame → B) (same : (x : Frame) → g (unmarked x) �
           ≡ map g (set xs f (unmarked (frame_in xs f)))
           → map g (cond b xs (passed_over (set xs f (unmarked (frame_in xs f))) fs)) ≡ map g xs
       by true rest = refl
-      by false rest = rest ∙ set_same g xs f (unmarked (frame_in xs f)) (same (frame_in xs f))
+      by false rest = rest ∙ map_kept g xs f frame.Free (unmarked (frame_in xs f)) (same (frame_in xs f))
 
 pub bound_unmarked : (x : Frame) → bound_page (unmarked x) ≡ bound_page x
 bound_unmarked frame.Free = refl

@@ -1,8 +1,8 @@
 -- The victim of a pool has no active inferior: the ways down from a segment come to an end.
-use Rattle.std.proofs.Common.{◌≡◌, ◌≢◌, ◌<◌, ◌≤◌, ℕ, zero, suc, ◌+◌, Bool, true, false, count_by, List}
+use Rattle.std.proofs.Common.{◌≡◌, ◌≢◌, ◌<◌, ◌≤◌, ℕ, zero, suc, ◌+◌, Bool, true, false, count_by, List, eqb, not}
 use Rattle.std.proofs.Common.{length, Option, Some, None, inl, inr, refl, sym, ap, subst, ◌∙◌, arith}
 use Rattle.std.specs.Prelude.{nat_lt}
-use Rattle.std.specs.List.{range_with_len}
+use Rattle.std.specs.List.{range_with_len, list_any}
 use Rattle.std.proofs.lemmas.Bool.Decides.{eqb_tells, leb_tells}
 use Rattle.tree_model.specs.Tree.{Node, node_in}
 use Rattle.active_segs.specs.declared.Entry.{Entry}
@@ -22,6 +22,7 @@ use Rattle.machine_model.proofs.PoolRoom.{count_all, count_new, range_has, range
 use Rattle.machine_model.proofs.TieLaws.{none_some}
 use Rattle.laws.proofs.Numbers.{lt_from}
 use Rattle.laws.proofs.Bools.{not_both}
+use Rattle.laws.proofs.Options.{passed_there}
 
 tells_less : (a b : ℕ) → a < b → nat_lt a b ≡ true
 tells_less a b h = elim (leb_tells (suc a) b) [
@@ -148,10 +149,6 @@ module _ (entries : List (Option Entry)) (tree : IsTree entries) where
 
 -- ---- the victim of a pool
 
-pub off_used : (chain : List ℕ) (o : Option Entry) → off_chain chain o ≡ true → (u : ℕ) × (uid_in o ≡ Some u)
-off_used chain None h = absurd (let none : false ≡ true = h in cc)
-off_used chain (Some e) h = (e.uid, refl)
-
 -- the victim has a segment, of which no active one is the inferior
 pub victim_leaf : (ast : ActiveSegs) (pool : ℕ) (chain : List ℕ) (place : ℕ) → IsTree ast.entries
     → victim_of ast pool chain ≡ Some place
@@ -162,9 +159,9 @@ victim_leaf ast pool chain place tree h = by (first_off_chain ast pool chain) re
         → (u : ℕ) × (uid_at ast.entries place ≡ Some u) × HasNoInferior ast.entries place
     by None e i = absurd (none_some i)
     by (Some first) e i =
-        let used = off_used chain (entry_at ast.entries first)
+        let used = passed_there (λ (x : Entry). not (list_any (λ v. eqb v x.uid) chain)) (entry_at ast.entries first)
         (find_true (λ q. off_chain chain (entry_at ast.entries q)) (round_pool ast pool) first e) in
-        let leaf = leaf_is ast.entries tree first used.0 used.1 in
+        let leaf = leaf_is ast.entries tree first used.0.uid (ap uid_in used.1) in
         let same : leaf_below ast.entries (length ast.entries) first ≡ place = cc in (
           leaf.uid,
           subst (λ (q : ℕ). uid_at ast.entries q ≡ Some leaf.uid) same leaf.here,

@@ -42,6 +42,7 @@ use Rattle.machine_model.proofs.OutlineJob.{job_to, in_job}
 use Rattle.machine_model.proofs.LeaveSeen.{told_has, told_online, told_process, told_reads}
 use Rattle.machine_model.proofs.SaysLaws.{leaving_pages}
 use Rattle.machine_model.proofs.ClearLaws.{told_transfer}
+use Rattle.laws.proofs.Places.{map_kept}
 
 -- ---- the clock's choice
 
@@ -49,13 +50,6 @@ bare_unmarked : (x : Frame) → bare (unmarked x) ≡ bare x
 bare_unmarked frame.Free = refl
 bare_unmarked (frame.Started uid page) = refl
 bare_unmarked (frame.Bound uid page used modified) = refl
-
--- a list with an element changed to one that is seen alike
-set_same : {A B : Type 0} (f : A → B) (xs : List A) (i : ℕ) (y d : A) → f y ≡ f (get_or xs i d)
-    → map f (set xs i y) ≡ map f xs
-set_same f [] i y d h = refl
-set_same {B = B} f (x ∷ xs) zero y d h = ap (λ (z : B). z ∷ map f xs) h
-set_same {B = B} f (x ∷ xs) (suc i) y d h = ap (λ (zs : List B). f x ∷ zs) (set_same f xs i y d h)
 
 passed_bare : (frames : List Frame) (fs : List ℕ) → map bare (passed_over frames fs) ≡ map bare frames
 unfolding passed_over
@@ -69,7 +63,7 @@ passed_bare frames (f ∷ fs) =
         → map bare (cond b frames (passed_over (set frames f (unmarked (core_frame frames f))) fs)) ≡ map bare frames
     by true rest = refl
     by false rest = rest
-        ∙ set_same bare frames f (unmarked (core_frame frames f)) frame.Free (bare_unmarked (core_frame frames f))
+        ∙ map_kept bare frames f frame.Free (unmarked (core_frame frames f)) (bare_unmarked (core_frame frames f))
 
 -- ---- what taking leaves
 

@@ -73,6 +73,7 @@ use Rattle.machine_model.proofs.TruncateKept.{LeavesCut}
 use Rattle.machine_model.proofs.DeleteKept.{GoesWhole}
 use Rattle.custody_model.proofs.SharedLaws.{has_head}
 use Rattle.laws.proofs.Bools.{not_both}
+use Rattle.laws.proofs.Options.{some_unwrapped}
 
 head_same : (x y : ℕ) (xs ys : List ℕ) → x ∷ xs ≡ y ∷ ys → x ≡ y
 head_same x y xs ys h = cc
@@ -187,10 +188,6 @@ Asks s c o act.Commit = AsksCommit s c (process_at s c) (next_command s (process
 Asks s c o _ = Unit {0}
 
 -- ---- the commit of a command
-
-pub some_of : (o : Option ℕ) → is_some o ≡ true → o ≡ Some (or_zero o)
-some_of None h = absurd (let no : false ≡ true = h in cc)
-some_of (Some n) h = refl
 
 -- what was taken is gone, or the pages are back, and no clear is due
 pub record IsReady (s : State) : Type 0 where
@@ -313,7 +310,7 @@ module _ (s : State) (c : ℕ) (o : Outcome) (k : Keeps s) (there : c < length s
       some_same x y e = cc
 
   pub process_here : IsMine s c → (processor_at s.processors c).cpu.process ≡ Some (process_at s c)
-  process_here m = some_of (processor_at s.processors c).cpu.process (works_here m).busy
+  process_here m = some_unwrapped (processor_at s.processors c).cpu.process (works_here m).busy
 
   pub look_idle : IsLooking s c → IsIdle s.owner
   look_idle l = subst IsIdle (sym l.owner.mine)

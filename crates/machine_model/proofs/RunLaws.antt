@@ -28,78 +28,7 @@ use Rattle.machine_model.specs.Custodial.{IsRun}
 use Rattle.machine_model.specs.declared.Run.{Run}
 use Rattle.machine_model.proofs.Places.{by_place}
 use Rattle.flat_model.proofs.SharedLaws.{going_within}
-
--- ---- no command moves a process by its effect
-
-changed_same : (s : Store) (change : Node → Node) (r : Result Node Reply) → (changed s change r).processes ≡ s.processes
-changed_same s change (Ok n) = refl
-changed_same s change (Err e) = refl
-
-made_at_same : (s : Store) (volume : ℕ) (directory : Bool) (pages : ℕ) (rows : List Row) (name : List ℕ)
-    (r : Result Node Reply)
-    → (made_at s volume directory pages rows name r).processes ≡ s.processes
-made_at_same s volume directory pages rows name (Ok n) = refl
-made_at_same s volume directory pages rows name (Err e) = refl
-
-made_same : (s : Store) (volume : ℕ) (directory : Bool) (pages : ℕ) (rows : List Row)
-    (o : Option (List (List ℕ) × List ℕ))
-    → (made_of s volume directory pages rows o).processes ≡ s.processes
-made_same s volume directory pages rows None = refl
-made_same s volume directory pages rows (Some parts) =
-    made_at_same s volume directory pages rows parts.1 (node_at s.nodes parts.0)
-
-initiated_same : (s : Store) (k : ℕ) (r : Result Node Reply) → (initiated s k r).processes ≡ s.processes
-initiated_same s k (Ok n) = refl
-initiated_same s k (Err e) = refl
-
--- nor takes it a uid
-pub truncated_same : (s : Store) (from : ℕ) (r : Result Node Reply)
-    → ((truncated s from r).processes ≡ s.processes) × ((truncated s from r).next ≡ s.next)
-truncated_same s from (Ok n) = (refl, refl)
-truncated_same s from (Err e) = (refl, refl)
-
-pub deleted_same : (s : Store) (r : Result Node Reply)
-    → ((deleted s r).processes ≡ s.processes) × ((deleted s r).next ≡ s.next)
-deleted_same s (Ok n) = (refl, refl)
-deleted_same s (Err e) = (refl, refl)
-
-tree_effect_same : (p : Plan) (s : Store) (k : ℕ) (c : Command)
-    → (effect_of_tree_command p s k c).processes ≡ s.processes
-unfolding after_make after_initiate after_terminate after_acl after_length after_truncate after_delete after_move
-tree_effect_same p s k (command.MkDir path volume) = made_same s volume true 0 [] (parts_of path)
-tree_effect_same p s k (command.MkSeg path pages volume) = made_same s volume false pages _ (parts_of path)
-tree_effect_same p s k (command.Initiate path) = initiated_same s k (segment_at s.nodes path)
-tree_effect_same p s k (command.Terminate number) = refl
-tree_effect_same p s k (command.Acl path row m) = changed_same s _ (segment_at s.nodes path)
-tree_effect_same p s k (command.Length path pages) = changed_same s _ (segment_at s.nodes path)
-tree_effect_same p s k (command.Truncate path words) = (truncated_same s words (segment_at s.nodes path)).0
-tree_effect_same p s k (command.Delete path) = (deleted_same s (branch_at s.nodes path)).0
-tree_effect_same p s k (command.Move path amount) = moved_same s amount (directory_at s.nodes path)
-  where
-    moved_same : (x : Store) (n : ℤ) (r : Result Node Reply) → (moved x n r).processes ≡ x.processes
-    moved_same x n (Ok d) = refl
-    moved_same x n (Err e) = refl
-tree_effect_same p s k _ = refl
-
-reference_same : (s : Store) (k : ℕ) (r : Reference) → (after_reference s k r).processes ≡ s.processes
-unfolding after_reference
-reference_same s k r = by (known_uid s k r.number)
-  where
-    wrote : (u : ℕ) (b : Bool) → (cond b (written s u r.offset (new_word (s.words u r.offset) r.kind)) s).processes
-        ≡ s.processes
-    wrote u true = refl
-    wrote u false = refl
-
-    by : (o : Option ℕ) → (written_by s r.offset r.kind o).processes ≡ s.processes
-    by None = refl
-    by (Some u) = wrote u (alters r.kind)
-
-pub effect_same : (p : Plan) (s : Store) (k : ℕ) (c : Command) → (effect_of p s k c).processes ≡ s.processes
-effect_same p s k c = by (reference_of c)
-  where
-    by : (o : Option Reference) → (effect_by p s k c o).processes ≡ s.processes
-    by None = tree_effect_same p s k c
-    by (Some r) = reference_same s k r
+use Rattle.flat_model.proofs.OtherLaws.{effect_advances}
 
 -- ---- one process has come to another place
 
@@ -126,7 +55,7 @@ runs_answered p s k c r run runs going is others j =
     base = if takes_effect r then effect_of p s k c else s
 
     base_is : (b : Bool) → (cond b (effect_of p s k c) s).processes ≡ s.processes
-    base_is true = effect_same p s k c
+    base_is true = (effect_advances p s k c).processes
     base_is false = refl
 
     moved_to : progress_of (with_progress base k (gone_on (progress_of s k) c r)) j

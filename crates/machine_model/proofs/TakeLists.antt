@@ -33,7 +33,7 @@ use Rattle.machine_model.proofs.OwnerLaws.{idle_names}
 use Rattle.machine_model.proofs.TieLaws.{none_some}
 use Rattle.machine_model.proofs.TookKept.{ArePairs, CanTook, has_pair}
 use Rattle.laws.proofs.Bools.{or_cases}
-use Rattle.laws.proofs.Options.{page_is}
+use Rattle.laws.proofs.Options.{page_is, times_few, times_one}
 
 -- ---- pages
 
@@ -148,19 +148,7 @@ abbrev tally : Bool → ℕ
 tally b = cond b 1 0
 
 pub time_one : (o : Option ℕ) (place : ℕ) → 1 ≤ times o place → o ≡ Some place
-time_one None place h = absurd (omega (arith, h))
-time_one (Some x) place h = elim (eqb_tells x place) [
-  | inl e ↦ ap (λ (y : ℕ). Some y) e.1
-  | inr n ↦ absurd (let none : times (Some x) place ≡ 0 = ap (λ (b : Bool). cond b 1 0) n.0 in omega (arith, none, h))
-]
-
-times_few : (o : Option ℕ) (place : ℕ) → times o place ≤ 1
-times_few None place = omega arith
-times_few (Some x) place = by (eqb x place)
-  where
-    by : (b : Bool) → cond b 1 0 ≤ 1
-    by true = omega arith
-    by false = omega arith
+time_one = times_one
 
 no_pair : (xs : List (ℕ × ℕ)) (k n : ℕ) → count_by (is_trailer k n) xs ≤ 0 → has_pair xs k n ≡ false
 no_pair [] k n h = refl
@@ -202,7 +190,7 @@ pairs_of s w u place active named (x ∷ xs) few = (
     one = ap tally (own_trailer x)
 
     leads_there : leads_at s.store.links.descriptors x.0 x.1 ≡ Some place
-    leads_there = time_one (leads_at s.store.links.descriptors x.0 x.1) place
+    leads_there = times_one (leads_at s.store.links.descriptors x.0 x.1) place
         (let a = few x.0 x.1 in let c = sum x.0 x.1 in let d = one in omega (arith, a, c, d))
 
     linked : (y : Sdw) → descriptor_of s.store.links x.0 x.1 ≡ y → led_to s.store.ast.entries y ≡ Some u

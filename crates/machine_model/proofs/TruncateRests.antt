@@ -58,12 +58,12 @@ use Rattle.machine_model.proofs.TransferKept.{active_at}
 use Rattle.machine_model.proofs.WordLaws.{word_within}
 use Rattle.machine_model.proofs.ActiveKept.{bound_after, started_after}
 use Rattle.std.proofs.Math.Bool.{and-false}
-use Rattle.machine_model.proofs.JobKept.{set_same}
 use Rattle.page_control.specs.Plain.{binding_at}
 use Rattle.seg_control.specs.Kept.{read_at}
 use Rattle.custody_model.proofs.SharedLaws.{has_head, has_tail}
 use Rattle.laws.proofs.Bools.{not_both}
 use Rattle.laws.proofs.Options.{page_is}
+use Rattle.laws.proofs.Places.{map_kept}
 
 -- ---- numbers in a row
 
@@ -120,11 +120,11 @@ module _ (st : Storage) (u p at f : ℕ) (h : HasPlaces st) (leaving : word_in s
   within = h.within u p f leaving
 
   bound_same : (g : ℕ) → bound_in now g ≡ bound_in st g
-  bound_same g = λ i. binding_at (set_same bound_page st.pages.core.frames f
+  bound_same g = λ i. binding_at (map_kept bound_page st.pages.core.frames f frame.Free
       (after_reference (frame_in st.pages f) true) (bound_after (frame_in st.pages f) true) i) g
 
   reads_same : (g : ℕ) → read_in now g ≡ read_in st g
-  reads_same g = λ i. read_at (set_same started_page st.pages.core.frames f
+  reads_same g = λ i. read_at (map_kept started_page st.pages.core.frames f frame.Free
       (after_reference (frame_in st.pages f) true) (started_after (frame_in st.pages f) true) i) g
 
   places_now : HasPlaces now

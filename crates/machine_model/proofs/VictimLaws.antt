@@ -15,7 +15,7 @@ use Rattle.tree_model.specs.Tree.{Node, above, has_directory, node_in, pool_for,
 use Rattle.tree_model.specs.Trees.{AreDirectories, IsChain, IsTree}
 use Rattle.tree_model.proofs.Finds.{IsMember, found_member, member_found, member_left, member_parts, member_right}
 use Rattle.tree_model.proofs.ChainLaws.{has_chains}
-use Rattle.tree_model.proofs.TreeLaws.{above_once, depth, superior_in}
+use Rattle.tree_model.proofs.TreeLaws.{above_once, depth, superior_in, superior_found}
 use Rattle.dir_tree.specs.Nodes.{chain_of}
 use Rattle.core_map.specs.CoreMap.{Core, frame_at, is_bound, is_free, is_started, least_free_frame}
 use Rattle.core_map.specs.Clock.{clock_choice, or_else, round_frames}
@@ -33,14 +33,14 @@ use Rattle.machine_model.specs.Keeps.{Keeps}
 use Rattle.machine_model.specs.Promise.{IsMachine}
 use Rattle.machine_model.specs.Reads.{first_inactive, free_place, is_active, places_in}
 use Rattle.machine_model.specs.State.{State}
-use Rattle.machine_model.proofs.ChainFacts.{superior_found, turned}
+use Rattle.machine_model.proofs.ChainFacts.{turned}
 use Rattle.machine_model.proofs.FindLaws.{find_true, position_at, position_none}
-use Rattle.machine_model.proofs.LeafLaws.{off_used}
 use Rattle.machine_model.proofs.OffChain.{pool_one_off}
 use Rattle.machine_model.proofs.PoolRoom.{range_has}
 use Rattle.machine_model.proofs.TieLaws.{none_some}
 use Rattle.machine_model.proofs.TransferKept.{active_at}
 use Rattle.laws.proofs.Bools.{not_both}
+use Rattle.laws.proofs.Options.{passed_there}
 
 -- ---- links
 
@@ -183,8 +183,9 @@ module _ (s : State) (keeps : Keeps s) (about : ℕ) where
       by (Some n) e i = superior_found ns w n e ∙ (sym (keeps.store.counted.active.superiors q w n at e) ∙ sup)
 
   off_step : (place q : ℕ) → is_off place ≡ true → least_inferior entries place ≡ Some q → is_off q ≡ true
-  off_step place q off h = let used = off_used chain (entry_at entries place) off in
-      by used.0 used.1 (sym (ap (least_inferior_of entries) used.1) ∙ h)
+  off_step place q off h = let used = passed_there (λ (e : Entry). not (list_any (λ v. eqb v e.uid) chain))
+      (entry_at entries place) off in
+      by used.0.uid (ap uid_in used.1) (sym (ap (λ (e : Option Entry). least_inferior_of entries (uid_in e)) used.1) ∙ h)
     where
       by : (u : ℕ) → uid_at entries place ≡ Some u → position (is_inferior_of u) entries ≡ Some q → is_off q ≡ true
       by u at i = uid_off (entry_at entries q) w.0 w.1 (not_link (is_link chain w.0) refl)

@@ -14,45 +14,22 @@ use Rattle.page_control.specs.declared.Left.{Left}
 use Rattle.page_control.specs.declared.Left.TheVariants.{Kept, Released}
 use Rattle.storage_ops.specs.Paged.{IsSettled}
 use Rattle.machine_model.specs.Jobs.{accounts_left}
+use Rattle.laws.proofs.Rising.{first_less, first_once, place_there, rest_rises}
 
 -- ---- rising uids
 
-rising_rest : (k : ℕ) (ks : List ℕ) → IsRising (k ∷ ks) → IsRising ks
-rising_rest k ks up i j lt within = up (suc i) (suc j) (omega arith) (omega arith)
-
-place_in : (ks : List ℕ) (u : ℕ) → has ks u ≡ true → (i : ℕ) × (i < length ks) × (get_or ks i 0 ≡ u)
-place_in [] u h = absurd (let no : false ≡ true = h in cc)
-place_in (k ∷ ks) u h = elim (cases_eq k u) [
-  | inl same ↦ (0, omega arith, same)
-  | inr other ↦ (let far : eqb k u ≡ false = ne_eqb k u other in
-      let rest = place_in ks u (rw far at h) in
-      let within = rest.1 in (suc rest.0, omega (arith, within), rest.2))
-]
-
-rest_more : (k u : ℕ) (ks : List ℕ) → IsRising (k ∷ ks) → has ks u ≡ true → k < u
-rest_more k u ks up h =
-    let at = place_in ks u h in
-    let within = at.1 in
-    subst (λ (x : ℕ). k < x) at.2 (up 0 (suc at.0) (omega arith) (omega (arith, within)))
-
-first_once : (k : ℕ) (ks : List ℕ) → IsRising (k ∷ ks) → has ks k ≡ false
-first_once k ks up = elim (cases_Bool (has ks k)) [
-  | inl is ↦ (let less = rest_more k k ks up is in absurd (omega (arith, less)))
-  | inr isnt ↦ isnt
-]
-
-first_less : (x y : ℕ) (xs ys : List ℕ) → IsRising (y ∷ ys) → has (x ∷ xs) x ≡ has (y ∷ ys) x → x ≢ y → y < x
-first_less x y xs ys up same other =
+less_first : (x y : ℕ) (xs ys : List ℕ) → IsRising (y ∷ ys) → has (x ∷ xs) x ≡ has (y ∷ ys) x → x ≢ y → y < x
+less_first x y xs ys up same other =
     let there : has (y ∷ ys) x ≡ true = sym same ∙ has_at (x ∷ xs) 0 (omega arith) in
     let far : eqb y x ≡ false = ne_eqb y x (λ q. other (sym q)) in
-    rest_more y x ys up (rw far at there)
+    first_less y x ys up (rw far at there)
 
 same_first : (x y : ℕ) (xs ys : List ℕ) → IsRising (x ∷ xs) → IsRising (y ∷ ys)
     → ((u : ℕ) → has (x ∷ xs) u ≡ has (y ∷ ys) u) → x ≡ y
 same_first x y xs ys ux uy same = elim (cases_eq x y) [
   | inl is ↦ is
-  | inr isnt ↦ (let more = first_less x y xs ys uy (same x) isnt in
-      let less = first_less y x ys xs ux (sym (same y)) (λ q. isnt (sym q)) in absurd (omega (arith, more, less)))
+  | inr isnt ↦ (let more = less_first x y xs ys uy (same x) isnt in
+      let less = less_first y x ys xs ux (sym (same y)) (λ q. isnt (sym q)) in absurd (omega (arith, more, less)))
 ]
 
 same_rest : (x y : ℕ) (xs ys : List ℕ) → IsRising (x ∷ xs) → IsRising (y ∷ ys) → x ≡ y
@@ -73,7 +50,7 @@ rising_same (x ∷ xs) [] ux uy same =
     absurd (let no : false ≡ true = sym (same x) ∙ has_at (x ∷ xs) 0 (omega arith) in cc)
 rising_same (x ∷ xs) (y ∷ ys) ux uy same =
     let first = same_first x y xs ys ux uy same in
-    let rest = rising_same xs ys (rising_rest x xs ux) (rising_rest y ys uy) (same_rest x y xs ys ux uy first same) in
+    let rest = rising_same xs ys (rest_rises x xs ux) (rest_rises y ys uy) (same_rest x y xs ys ux uy first same) in
     λ i. first i ∷ rest i
 
 -- the values beside them are those that are told

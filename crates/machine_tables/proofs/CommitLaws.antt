@@ -25,7 +25,6 @@ use Rattle.flat_model.specs.Store.{Store}
 use Rattle.seg_control.specs.Control.{kst_at}
 use Rattle.storage_ops.specs.Cut.{Commits, HasLengthSet}
 use Rattle.storage_ops.specs.Shown.{HasMoved, HasRowSet, Shows, Storage as Stored, answered, with_known}
-use Rattle.storage_ops.proofs.Alike.{Keeps, keeps_length, keeps_moved, keeps_one, keeps_rows}
 use Rattle.flat_model.proofs.PathRefusals.{segment_refuses}
 use Rattle.tree_model.specs.Access.{with_row as with_row_of}
 use Rattle.machine_model.specs.Commits.{with_effect}
@@ -35,6 +34,7 @@ use Rattle.machine_tables.specs.Committed.{HasEffect, IsCommitted, TakesEffect}
 use Rattle.machine_tables.specs.Parts.{shown}
 use Rattle.machine_tables.proofs.ColumnLaws.{columns_same, maps_same, rising_same}
 use Rattle.machine_tables.proofs.RefusalLaws.{shows_of}
+use Rattle.flat_model.proofs.KeepLaws.{Keeps, keeps_length, keeps_moved, keeps_one, keeps_rows, segment_map}
 
 -- ---- what a path leads to
 
@@ -81,13 +81,6 @@ directory_uid ns path n h = branch_uid ns path n (by (branch_at ns path) refl h)
 
 -- ---- nodes are changed
 
-segments_kept : (f : Node → Node) → Keeps f → (ns : List Node) (u : ℕ) → has_segment (map f ns) u ≡ has_segment ns u
-segments_kept f keeps [] u = refl
-segments_kept f keeps (n ∷ ns) u =
-    ap (λ (v : ℕ). cond (eqb v u) (not (f n).directory) (has_segment (map f ns) u)) (keeps.uid n)
-    ∙ (ap (λ (b : Bool). cond (eqb n.uid u) (not b) (has_segment (map f ns) u)) (keeps.kind n)
-    ∙ ap (cond (eqb n.uid u) (not n.directory)) (segments_kept f keeps ns u))
-
 pub changed_nodes : (old new : AccountMaps) (f : Node → Node) → Keeps f → HasColumns old → HasColumns new
     → Changes old new (map f old.nodes) → new ≡ record old { nodes = map f old.nodes }
 changed_nodes old new f keeps before after told =
@@ -96,7 +89,7 @@ changed_nodes old new f keeps before after told =
     segments : new.segments ≡ old.segments
     segments = rising_same new.segments old.segments after.rising before.rising
         (λ u. after.segments u ∙ (ap (λ (ns : List Node). has_segment ns u) told.nodes
-        ∙ (segments_kept f keeps old.nodes u ∙ sym (before.segments u))))
+        ∙ (segment_map f keeps old.nodes u ∙ sym (before.segments u))))
 
     counts : new.counts ≡ old.counts
     counts = columns_same old.segments new.counts old.counts before.rising (after.counted ∙ ap length segments)

@@ -25,8 +25,9 @@ use Rattle.machine_model.proofs.TieLaws.{none_some}
 use Rattle.machine_model.proofs.TransferKept.{active_at}
 use Rattle.machine_tables.specs.Owned.{HasOwner}
 use Rattle.machine_tables.specs.Taken.{IsOldest}
-use Rattle.machine_model.proofs.TakeLists.{time_one}
 use Rattle.laws.proofs.Numbers.{eqb_self}
+use Rattle.laws.proofs.Places.{shown_within}
+use Rattle.laws.proofs.Options.{times_one}
 
 -- ---- the oldest trailer
 
@@ -40,7 +41,7 @@ tally b = cond b 1 0
 pub first_leads : (entries : List (Option Entry)) (links : Links) (place : ℕ) (pair : ℕ × ℕ) (rest : List (ℕ × ℕ))
     → AreLinked entries links → trailers_of links.trailers place ≡ pair ∷ rest
     → leads_at links.descriptors pair.0 pair.1 ≡ Some place
-first_leads entries links place pair rest linked is = time_one (leads_at links.descriptors pair.0 pair.1) place
+first_leads entries links place pair rest linked is = times_one (leads_at links.descriptors pair.0 pair.1) place
     (let one : tally (leads_to pair.0 pair.1 pair) ≡ 1 = ap tally (own_trailer pair) in
     let sum : count_by (leads_to pair.0 pair.1) (pair ∷ rest)
     ≡ tally (leads_to pair.0 pair.1 pair) + count_by (leads_to pair.0 pair.1) rest =
@@ -48,22 +49,6 @@ first_leads entries links place pair rest linked is = time_one (leads_at links.d
     let here = ap (count_by (leads_to pair.0 pair.1)) is in
     let exact = linked.exact place pair.0 pair.1 in
     omega (arith, one, sum, here, exact))
-
--- a descriptor that leads somewhere is one of the process's
-pub number_within : (words : List Sdw) (number place : ℕ) → leads (get_or words number Fault) ≡ Some place
-    → number < length words
-number_within words number place h = elim (cases_lt number (length words)) [
-  | inl within ↦ within
-  | inr past ↦ absurd (none_some (sym (ap leads (get_or_past words number Fault past)) ∙ h))
-]
-
-pub process_within : (descriptors : List (List Sdw)) (process number place : ℕ)
-    → leads_at descriptors process number ≡ Some place → process < length descriptors
-process_within descriptors process number place h = elim (cases_lt process (length descriptors)) [
-  | inl within ↦ within
-  | inr past ↦ absurd (none_some (sym (ap (λ (words : List Sdw). leads (get_or words number Fault))
-      (get_or_past descriptors process [] past)) ∙ h))
-]
 
 -- the trailers of an active segment
 pub trailers_are : (st : Storage) (u : ℕ) → IsActive st.ast.entries u
@@ -88,21 +73,22 @@ pub oldest_is : (st : Storage) (u : ℕ) (pair : ℕ × ℕ) → AreLinked st.as
 oldest_is st u pair linked active first = record {
   rest = found.0;
   is = trailers_are st u active ∙ found.1;
-  leads = leads;
+  leads = leading;
   process = within;
   number = let long = linked.lists.words pair.0 within in let lt =
-      number_within (sdws_at st.links.descriptors pair.0) pair.1 (place_of st.ast.entries u) leads in
+      shown_within leads (sdws_at st.links.descriptors pair.0) pair.1 Fault (place_of st.ast.entries u) refl leading in
       omega (arith, long, lt);
 }
   where
     found : (rest : List (ℕ × ℕ)) × (trailers_of st.links.trailers (place_of st.ast.entries u) ≡ pair ∷ rest)
     found = rest_of (trailers_of st.links.trailers (place_of st.ast.entries u)) pair first
 
-    leads : leads_at st.links.descriptors pair.0 pair.1 ≡ Some (place_of st.ast.entries u)
-    leads = first_leads st.ast.entries st.links (place_of st.ast.entries u) pair found.0 linked found.1
+    leading : leads_at st.links.descriptors pair.0 pair.1 ≡ Some (place_of st.ast.entries u)
+    leading = first_leads st.ast.entries st.links (place_of st.ast.entries u) pair found.0 linked found.1
 
     within : pair.0 < length st.links.known
-    within = let lt = process_within st.links.descriptors pair.0 pair.1 (place_of st.ast.entries u) leads in
+    within = let lt = shown_within (λ (words : List Sdw). leads (get_or words pair.1 Fault)) st.links.descriptors
+        pair.0 [] (place_of st.ast.entries u) refl leading in
         let many = linked.lists.processes in omega (arith, lt, many)
 
 -- ---- the list of what is cut

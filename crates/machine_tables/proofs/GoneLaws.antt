@@ -14,7 +14,7 @@ use Rattle.tree_model.specs.Trees.{AreBelow, IsTree, has_segment}
 use Rattle.quota_cells.specs.Accounts.{has, look, without_beside}
 use Rattle.quota_cells.specs.Cells.{IsRising}
 use Rattle.quota_cells.proofs.EditLaws.{has_remove, look_remove, rising_remove}
-use Rattle.quota_cells.proofs.RowLaws.{place_of, remove_beside}
+use Rattle.quota_cells.proofs.RowLaws.{remove_beside}
 use Rattle.vtoc.specs.Vtoc.{Entry, uid_of}
 use Rattle.page_control.specs.declared.Home.{Home}
 use Rattle.page_control.specs.Tied.{uid_at, vtoc_in}
@@ -23,6 +23,7 @@ use Rattle.machine_model.specs.Commits.{lost}
 use Rattle.machine_model.proofs.TieLaws.{none_some}
 use Rattle.machine_tables.proofs.ColumnLaws.{columns_same, rising_same}
 use Rattle.tree_model.proofs.SharedLaws.{without_absent as all_left, joined_below}
+use Rattle.laws.proofs.Rising.{place_there}
 
 -- ---- a uid less
 
@@ -45,7 +46,7 @@ module _ (ks vs : List ℕ) (u : ℕ) (up : IsRising ks) (long : length vs ≡ l
 
   there : has ks u ≡ true → (i : ℕ) × Without i
   there h =
-      let place = place_of ks u h in
+      let place = place_there ks u h in
       let within = place.1 in (
         place.0,
         record {

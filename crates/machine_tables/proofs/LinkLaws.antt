@@ -1,5 +1,5 @@
 -- Where a descriptor leads, where a segment is active, and which page is in a frame.
-use Rattle.std.proofs.Common.{◌≡◌, ◌<◌, ℕ, List, Option, Some, None, length, sym, ap, subst, ◌∙◌, inl, inr}
+use Rattle.std.proofs.Common.{◌≡◌, ◌<◌, ℕ, List, Option, Some, None, length, sym, ap, subst, ◌∙◌, inl, inr, refl}
 use Rattle.std.proofs.Math.ListN.{get_or-map}
 use Rattle.std.proofs.lemmas.Bool.{cases_lt}
 use Rattle.std.proofs.lemmas.Option.{none-some}
@@ -15,19 +15,13 @@ use Rattle.seg_control.specs.Control.{Links, leads_at, place_of, word_of}
 use Rattle.seg_control.specs.Kept.{AreLinked, IsKept}
 use Rattle.machine_model.proofs.ActiveSeen.{active_place}
 use Rattle.machine_model.proofs.TransferKept.{active_at}
-
--- a place in which something is active is one of the table's
-within : (entries : List (Option Entry)) (place uid : ℕ) → uid_at entries place ≡ Some uid → place < length entries
-within entries place uid e = elim (cases_lt place (length entries)) [
-  | inl lt ↦ lt
-  | inr past ↦ absurd (none-some uid (sym (ap uid_in (get_or_past entries place None past)) ∙ e))
-]
+use Rattle.laws.proofs.Places.{shown_within}
 
 -- a descriptor leads to a place of the table
 pub leads_within : (entries : List (Option Entry)) (links : Links) (k n place : ℕ) → AreLinked entries links
     → leads_at links.descriptors k n ≡ Some place → place < length entries
 leads_within entries links k n place linked e =
-    let known = linked.known k n place e in within entries place known.uid known.active
+    let known = linked.known k n place e in shown_within uid_in entries place None known.uid refl known.active
 
 -- a segment is active in one place
 pub place_found : (ast : ActiveSegs) (place u : ℕ) → IsTree ast.entries → uid_at ast.entries place ≡ Some u

@@ -12,14 +12,12 @@ use Rattle.storage_ops.specs.Connecting.{IsRight}
 use Rattle.storage_ops.specs.Shown.{is_there, pages_in, pages_of, who_at}
 use Rattle.tree_model.proofs.SharedLaws.{some_there}
 
-rows_found : (ns : List Node) (u : ℕ) (n : Node) → node_in ns u ≡ Some n → rows_in ns u ≡ n.rows
-rows_found ns u n h = sym (field_found (λ ms. rows_in ms u) (λ x. x.rows) u (λ m ms. refl) ns n h)
-
 pub right_is : (ns : List Node) (whos : List Who) (k u : ℕ) (m : Mode) (pages : ℕ) → is_there ns u ≡ true
     → IsRight ns whos k u m pages → (m ≡ access_of (who_at whos k) (rows_in ns u)) × (pages ≡ pages_in ns u)
 right_is ns whos k u m pages there right =
     let found = some_there (node_in ns u) there in (
       right.mode_is found.0 found.1
-          ∙ ap (λ (rows : List Row). access_of (who_at whos k) rows) (sym (rows_found ns u found.0 found.1)),
+          ∙ ap (λ (rows : List Row). access_of (who_at whos k) rows)
+          (field_found (λ ms. rows_in ms u) (λ x. x.rows) u (λ m ms. refl) ns found.0 found.1),
       right.pages_are found.0 found.1 ∙ sym (ap pages_of found.1),
     )

@@ -16,7 +16,7 @@ use Rattle.tree_model.specs.Tree.{Node, above, has_directory, node_in, pool_for,
 use Rattle.tree_model.specs.Trees.{HasChains, IsChain, IsTree as IsNodeTree}
 use Rattle.tree_model.proofs.ChainLaws.{has_chains}
 use Rattle.tree_model.proofs.Finds.{IsMember, found_front, found_member, past_front}
-use Rattle.tree_model.proofs.TreeLaws.{IsUp, superior_in, superior_up}
+use Rattle.tree_model.proofs.TreeLaws.{IsUp, superior_in, superior_up, superior_found}
 use Rattle.dir_tree.specs.Nodes.{chain_of}
 use Rattle.active_segs.specs.declared.Entry.{Entry}
 use Rattle.active_segs.specs.Active.{ActiveSegs, IsFull, IsTree, entry_at, uid_at, uid_in}
@@ -31,7 +31,7 @@ use Rattle.storage_ops.proofs.PageFacts.{directory_found}
 use Rattle.machine_model.specs.Actions.{pool_of_node}
 use Rattle.machine_model.specs.Reads.{first_inactive, is_active}
 use Rattle.machine_model.proofs.ActiveSeen.{some_within}
-use Rattle.machine_model.proofs.ChainFacts.{AllFail, first_there, superior_found}
+use Rattle.machine_model.proofs.ChainFacts.{AllFail, first_there}
 use Rattle.machine_model.proofs.FindLaws.{find_true}
 use Rattle.machine_model.proofs.OffChain.{pool_one_off}
 use Rattle.machine_model.proofs.TieLaws.{none_some}

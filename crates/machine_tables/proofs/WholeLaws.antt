@@ -8,7 +8,7 @@ use Rattle.accounts.specs.Maps.{AccountMaps}
 use Rattle.tree_model.specs.Tree.{above, node_in, step_up}
 use Rattle.tree_model.specs.Trees.{IsTree as IsNodeTree}
 use Rattle.tree_model.proofs.Finds.{past_front}
-use Rattle.tree_model.proofs.TreeLaws.{above_once, superior_in}
+use Rattle.tree_model.proofs.TreeLaws.{above_once, superior_in, superior_found}
 use Rattle.dir_tree.specs.Nodes.{chain_of}
 use Rattle.active_segs.specs.Active.{ActiveSegs, IsTree}
 use Rattle.page_control.specs.Plain.{Plain}
@@ -19,7 +19,7 @@ use Rattle.storage_ops.proofs.NodeLaws.{found_there}
 use Rattle.machine_model.specs.Reads.{first_inactive, is_active, superior_of_node}
 use Rattle.machine_model.specs.State.{State}
 use Rattle.machine_model.proofs.ActiveSeen.{active_place}
-use Rattle.machine_model.proofs.ChainFacts.{superior_found, turned}
+use Rattle.machine_model.proofs.ChainFacts.{turned}
 use Rattle.machine_model.proofs.TransferKept.{active_at}
 use Rattle.machine_tables.specs.Held.{MayLook}
 

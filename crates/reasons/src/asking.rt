@@ -15,9 +15,9 @@ ghost use Rattle.reasons.specs.Told.{IsUnfaulted};
 
 use crate::NoMemory;
 use book::{Reply, read_entry};
-use book_check::{Judge, Rule, is_book, next_line};
+use book_check::{Judge, Rule, is_book};
 use line_reasons::{EntryReason, SumReason, why_no_entry, why_wrong_sum};
-use script::Script;
+use script::{Script, next_line};
 use std::alloc::Global;
 
 /// Why a line is refused: the first condition of its rule that doesn't hold (own).

@@ -5,7 +5,8 @@ ghost use Rattle.reasons.specs.Passing.{EndsBefore, IsWatched, Passes};
 
 use crate::NoMemory;
 use crate::since::Since;
-use book_check::{Judge, LineFault, is_summary, next_line};
+use book_check::{Judge, LineFault, is_summary};
+use script::next_line;
 
 /// Has the entries of a listing accepted, whose first line has this number, up to its summary or the first line that
 /// breaks a rule, and has each state looked at. What is left begins with that line.
