@@ -2,10 +2,9 @@
 use Rattle.std.proofs.Common.{◌≡◌, ◌≢◌, ℕ, suc, zero, ◌+◌, ◌<◌, ◌≤◌, List, [], ◌∷◌, ◌++◌, length, None, refl}
 use Rattle.std.proofs.Common.{sym, ap, subst, ◌∙◌, arith, get_or}
 use Rattle.std.proofs.Common.{take, drop, All}
-use mathlib.Core.Logic.{dite}
 use native.Mathlib.Decide.{ℕ_discrete}
 use Rattle.std.proofs.lemmas.List.Elements.{All-append}
-use Rattle.std.proofs.lemmas.List.{length-replicate, get_or-set_same, get_or-set_other}
+use Rattle.std.proofs.lemmas.List.{length-replicate}
 use Rattle.std.proofs.lemmas.Grind.{common_steps}
 use Rattle.atomic_table.specs.Table.{Me}
 use Rattle.atomic_table.specs.Seated.{TableId}
@@ -65,13 +64,6 @@ pub record NotedSoFar (old now : Watch) (stamp cpu : ℕ) : Type 0 where
   pub looks : now.looks ≡ old.looks + cpu
   pub noted : (c : ℕ) → c < cpu → stamp ≤ get_or now.noted c 0
 
-pub noted_starts : (old : Watch) (stamp : ℕ) → NotedSoFar old old stamp 0
-noted_starts old stamp = record {
-  only = record { made = refl; request = refl; doors = refl; since = refl };
-  looks = omega arith;
-  noted = λ c none. absurd (omega arith);
-}
-
 module _ (old now next : Watch) (stamp at cpu seen : ℕ) (so : NotedSoFar old now stamp cpu)
     (is : next ≡ having_noted at cpu seen now) where
   pub only_noted : OnlyNoted old next
@@ -80,26 +72,6 @@ module _ (old now next : Watch) (stamp at cpu seen : ℕ) (so : NotedSoFar old n
     request = ap (λ w. w.request) is ∙ so.only.request;
     doors = ap (λ w. w.doors) is ∙ so.only.doors;
     since = ap (λ w. w.since) is ∙ so.only.since;
-  }
-
-  pub noted_here : cpu < length now.noted → get_or next.noted cpu 0 ≡ seen
-  noted_here inside = ap (λ w. get_or w.noted cpu 0) is ∙ get_or-set_same now.noted cpu seen 0 inside
-
-  pub noted_before : (c : ℕ) → c < cpu → stamp ≤ get_or next.noted c 0
-  noted_before c below = subst (λ k. stamp ≤ k) (sym
-      (ap (λ w. get_or w.noted c 0) is ∙ get_or-set_other now.noted cpu c seen 0 (λ e. omega arith)))
-      (so.noted c below)
-
-  pub looked_once_more : next.looks ≡ old.looks + cpu + 1
-  looked_once_more = ap (λ w. w.looks) is ∙ ap (λ k. k + 1) so.looks
-
-  pub noted_goes_on : cpu < length now.noted → stamp ≤ seen → NotedSoFar old next stamp (cpu + 1)
-  noted_goes_on inside enough = record {
-    only = only_noted;
-    looks = (let l = looked_once_more in omega arith);
-    noted = λ c below. dite (ℕ_discrete c cpu) (λ (e : c ≡ cpu). subst (λ k. stamp ≤ get_or next.noted k 0) (sym e)
-        (subst (λ k. stamp ≤ k) (sym (noted_here inside)) enough))
-        (λ (other : c ≢ cpu). noted_before c (omega arith));
   }
 
 -- the keeper so far, as it asks

@@ -17,7 +17,7 @@ use Rattle.live_doors.specs.declared.views.Walk.{Walk}
 use Rattle.live_doors.specs.declared.views.Watch.{Watch}
 use Rattle.live_doors.specs.Doors.{blank, having_read, holding, forgotten, acknowledged, shut, raised, having_noted}
 use Rattle.live_doors.specs.Doors.{HasNoted, MayBind}
-use Rattle.live_doors.specs.Beside.{EntryRows, KeeperRows, AreEntriesOf, AreRowsOf, entered, entered_if, shut_rows}
+use Rattle.live_doors.specs.Beside.{EntryRows, KeeperRows, AreEntriesOf, AreRowsOf, entered, entered_if}
 use Rattle.live_doors.specs.Beside.{MayBindBy}
 use Rattle.live_doors.specs.declared.errors.Closed.{Closed}
 use Rattle.std.proofs.Common.{Result, Ok, Err, IfOk, IfErr}
@@ -369,27 +369,6 @@ entries_filled f n e p of = cases (eqb (n % 2) 0)
     cases true = record { cpu = of.cpu; held = ap (λ l. set l f (Some (n / 2))) of.held; stamp = of.stamp }
     cases false = record { cpu = of.cpu; held = of.held; stamp = of.stamp }
 
-pub entries_forgotten : (stamp : ℕ) (e : EntryRows) (p : Walk) → AreEntriesOf e p
-    → AreEntriesOf (record e { held = replicate (length e.held) None; stamp = stamp }) (forgotten stamp p)
-entries_forgotten stamp e p of = record {
-  cpu = of.cpu;
-  held = ap (λ (l : List (Option ℕ)). replicate {A = Option ℕ} (length l) None) of.held;
-  stamp = refl;
-}
-
-pub rows_shut : (f : ℕ) (r : KeeperRows) (w : Watch) → AreRowsOf r w → AreRowsOf (shut_rows f r) (shut f w)
-rows_shut f r w of = record {
-  request = of.request;
-  doors = ap (λ l. set l f (get_or l f 0 + 1)) of.doors;
-  since = (λ i. set (of.since i) f (of.request i));
-  rows = length-set r.since f r.request ∙ of.rows ∙ sym (length-set r.doors f (get_or r.doors f 0 + 1));
-}
-
-pub rows_raised : (r : KeeperRows) (w : Watch) → AreRowsOf r w
-    → AreRowsOf (record r { request = r.request + 1 }) (raised w)
-rows_raised r w of =
-    record { request = ap (λ k. k + 1) of.request; doors = of.doors; since = of.since; rows = of.rows }
-
 -- an acknowledgement that is read is beside these rows
 pub rows_noted : (at c n : ℕ) (r : KeeperRows) (w : Watch) → AreRowsOf r w → AreRowsOf r (having_noted at c n w)
 rows_noted at c n r w of = record { request = of.request; doors = of.doors; since = of.since; rows = of.rows }
@@ -425,10 +404,6 @@ when_closed (Err e) f n seen x is odd = (
 -- a word that was read from a row
 pub word_of : (xs ys : List ℕ) (i x : ℕ) → x ≡ get_or xs i x → xs ≡ ys → i < length xs → x ≡ get_or ys i 0
 word_of xs ys i x is same inside = is ∙ get_or_default_zero xs i x inside ∙ ap (λ l. get_or l i 0) same
-
--- a door's next word
-pub next_word : (xs ys : List ℕ) (i x : ℕ) → x ≡ get_or xs i x → xs ≡ ys → i < length xs → x + 1 ≡ get_or ys i 0 + 1
-next_word xs ys i x is same inside = ap (λ k. k + 1) (word_of xs ys i x is same inside)
 
 -- what is found at a place is an entry exactly where the pass holds one there
 pub holds_entry : (xs ys : List (Option ℕ)) (f : ℕ) (o : Option ℕ) → o ≡ get_or xs f o → xs ≡ ys → f < length ys
