@@ -17,7 +17,6 @@ use Rattle.seg_control.specs.Kept.{read_at}
 use Rattle.script.specs.References.{alters, new_word}
 use Rattle.flat_model.specs.References.{word_reply}
 use Rattle.custody_model.specs.Allowed.{MayActivate, MayDeactivate}
-use Rattle.custody_model.specs.Custody.{leads_to}
 use Rattle.custody_model.specs.Fine.{NoneDue}
 use Rattle.machine_model.specs.Changes.{gone_seg}
 use Rattle.machine_model.specs.Custodial.{KeepsBook, is_pending}
@@ -25,8 +24,7 @@ use Rattle.machine_model.specs.Holding.{seen}
 use Rattle.machine_model.specs.Jobs.{deactivated_one, emptied, seg_gone, segs_gone}
 use Rattle.machine_model.specs.Keeps.{IsAtWork, Keeps, StoreSays, is_fault}
 use Rattle.machine_model.specs.Reads.{cut_of_owner, flat_of, frames_of_owner, process_at, processor_at, run_at}
-use Rattle.machine_model.specs.Seen.{Seen, cut_uid, descriptor_use, shown}
-use Rattle.machine_model.specs.declared.Processor.{Processor}
+use Rattle.machine_model.specs.Seen.{Seen, shown}
 use Rattle.machine_model.specs.declared.CutDescriptor.{CutDescriptor}
 use Rattle.machine_model.specs.State.{Owner, State, Storage}
 use Rattle.machine_model.specs.Steps.{activated_at, connected_to, looking, old_word, page_created, page_made}
@@ -134,8 +132,7 @@ deactivate_over s u owner over tables once may idle quiet =
     job_over (seen (deactivated_one s u)) owner book over.frames over.cut over.none over.still idle quiet
   where
     none : (j n : ℕ) → (seen s).linked j n ≢ Some u
-    none j n h = may.descriptors j n (ap (λ (o : Option ℕ). leads_to
-        (descriptor_use o (cut_uid (cut_of_owner s.owner) j n))) h)
+    none j n h = may.descriptors j n (rw (h))
 
     book : KeepsBook (seen (deactivated_one s u))
     book = subst KeepsBook (sym (deactivate_seen s u may.active once tables none))
@@ -159,9 +156,8 @@ emptied_kept s c u o k mine same over may says = kept_with (emptied s c u)
     let three = rest.3 in omega (arith, one, two, few, three))
     (ap length rest.0 ∙ (k.sizes.processors ∙ ap (λ (p : Plan). p.processors) (sym rest.2)))
     (ap length rest.1 ∙ (k.sizes.processes ∙ ap (λ (p : Plan). length p.processes) (sym rest.2)))
-    (λ q h. subst (λ (ps : List Processor). IsAtWork (processor_at ps q.cpu)) (sym rest.0)
-    (subst (λ (d : ℕ). IsAtWork (processor_at s.processors d))
-    (same ∙ ap (λ (x : Owner). x.cpu) (let is : looking c ≡ q = cc in is)) (k.at_work o mine)))
+    (λ q h. (rw rest.0 (subst (λ (d : ℕ). IsAtWork (processor_at s.processors d)) (same
+    ∙ ap (λ (x : Owner). x.cpu) (let is : looking c ≡ q = cc in is)) (k.at_work o mine))))
   where
     now : State
     now = segs_gone s (cut_of_owner s.owner)

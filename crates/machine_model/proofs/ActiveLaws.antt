@@ -13,7 +13,7 @@ use Rattle.custody_model.specs.Effects.{HasNoPage}
 use Rattle.custody_model.specs.Next.{at_put, custody_next}
 use Rattle.machine_model.specs.Changes.{activated, deactivated}
 use Rattle.machine_model.specs.Custodial.{KeepsBook, IsOwned, IsRun, IsTied, is_pending, names, is_out}
-use Rattle.machine_model.specs.Seen.{Seen, flat, shown, frame_use, bound_use, read_use}
+use Rattle.machine_model.specs.Seen.{Seen, flat, shown, frame_use, bound_use}
 use Rattle.machine_model.proofs.BookNext.{book_next}
 use Rattle.machine_model.proofs.OwnedLaws.{like_active, owned_like}
 use Rattle.machine_model.proofs.TieLaws.{not_there}
@@ -65,23 +65,19 @@ activity_keeps : (v : Seen) (u : ℕ) (words : ℕ → ℕ → Ptw) (active : Bo
     → ((j : ℕ) → IsRun (progress_of (after_entry v.plan (flat v) e) j) (v.runs j))
     → KeepsBook (record v { active = at_put v.active u active; words = words; entries = v.entries ++ e ∷ [] })
 activity_keeps v u words active e k change lawful allowed online next pending runs =
-    book_next v e _ refl refl k (record {
-      lawful = lawful;
-      allowed = allowed;
-      online = online;
-      next = (λ i. record (shown v) {
+    book_next v e _ refl refl k
+    (assumption (
+      (λ i. record (shown v) {
         active = at_put v.active u active;
-        frame = λ f. uses_same v u words k change f i;
-      }) ∙ sym next;
-      pending = sym pending;
-      going_owned = subst (λ (c : Custody). IsOwned c v.owner) (sym next)
+        frame = λ f. uses_same v u words k
+            change f i;
+      }) ∙ sym next,
+      sym pending,
+      subst (λ (c : Custody). IsOwned c v.owner) (sym next)
           (owned_like (shown v) (record (shown v) { active = at_put v.active u active })
-          (like_active (shown v) (at_put v.active u active)) v.owner k.going_owned);
-      tied = tied_segment v u words k change;
-      holding_right = k.holding_right;
-      under_way = k.under_way;
-      runs = runs;
-    })
+          (like_active (shown v) (at_put v.active u active)) v.owner k.going_owned),
+      tied_segment v u words k change,
+    ))
 
 -- a segment whose words all said that it has no page
 abbrev pub IsBlank : (ℕ → ℕ → Ptw) → ℕ → Type 0
@@ -116,13 +112,10 @@ pub record CanDeactivate (v : Seen) (u : ℕ) (words : ℕ → ℕ → Ptw) : Ty
 
 module _ (v : Seen) (u : ℕ) (k : KeepsBook v) (pages : HasNoPage (shown v) u) where
   uid_bound : (f q : ℕ) → v.bound f ≡ Some (u, q) → uid_of_page (page_of ((shown v).frame f)) ≡ Some u
-  uid_bound f q h = ap (λ (o : Option (ℕ × ℕ)). uid_of_page (page_of (frame_use v.words o (v.reads f)))) h
-      ∙ ap uid_of_page (page_used (u, q) (v.words u q))
+  uid_bound f q h = cc (page_used (u, q) (v.words u q))
 
   uid_read : (f q : ℕ) → v.reads f ≡ Some (u, q) → uid_of_page (page_of ((shown v).frame f)) ≡ Some u
-  uid_read f q h = ap (λ (o : Option (ℕ × ℕ)). uid_of_page (page_of (frame_use v.words o (v.reads f))))
-      (k.tied.unbound f u q h)
-      ∙ ap (λ (o : Option (ℕ × ℕ)). uid_of_page (page_of (read_use o))) h
+  uid_read f q h = cc (k.tied.unbound f u q h)
 
   nowhere_before : (q : ℕ) → names (v.words u q) ≡ None
   nowhere_before q = by (names (v.words u q)) refl

@@ -90,8 +90,7 @@ active_place ast u h = let within = some_within (is_for u) ast.entries h in
 pub inactive_blank : (ast : ActiveSegs) (u : ℕ) → length ast.tables ≡ length ast.entries → is_active ast u ≡ false
     → (q : ℕ) → word_of ast u q ≡ ptw.Null
 unfolding place_of
-inactive_blank ast u tables h q = ap (λ (t : List Ptw). get_or t q ptw.Null)
-    (get_or_past ast.tables (position_or_len (is_for u) ast.entries) []
+inactive_blank ast u tables h q = rw (get_or_past ast.tables (position_or_len (is_for u) ast.entries) []
     (let none = none_length (is_for u) ast.entries h in omega (arith, none, tables)))
 
 -- ---- a segment becomes active
@@ -306,7 +305,6 @@ deactivate_seen s u active once tables none = λ i. record (seen s) {
         by : (x : Sdw) → descriptor_of s.store.links k n ≡ x
             → led_to (deactivated s.store.ast (place_of s.store.ast.entries u)).entries x ≡ led_to s.store.ast.entries x
         by sdw.Fault e = refl
-        by (sdw.Present aste m pages) e = ap uid_in
-            (get_or-set_other s.store.ast.entries (place_of s.store.ast.entries u) aste None None
-            (λ same. none k n (ap (led_to s.store.ast.entries) e
-            ∙ (ap (uid_at s.store.ast.entries) same ∙ (active_place s.store.ast u active).1))))
+        by (sdw.Present aste m pages) e = rw (get_or-set_other s.store.ast.entries (place_of s.store.ast.entries u) aste
+            None None (λ same. none k n (ap (led_to s.store.ast.entries) e ∙ (ap (uid_at s.store.ast.entries) same
+            ∙ (active_place s.store.ast u active).1))))

@@ -109,8 +109,7 @@ module _ (p : Plan) (s : Store) (k : ℕ) (going : (progress_of s k).ended ≡ f
   do_ends j c r its h = elim (eqb_tells k j) [
     | inl e ↦ (
       sym e.1,
-      end_of c (by (tries_on (progress_of s j) c r) (sym (ap (λ (q : Progress). q.ended)
-          (here e.1)) ∙ h)),
+      end_of c (by (tries_on (progress_of s j) c r) (cc (here e.1))),
     )
     | inr n ↦ absurd (not_both h (ap (λ (q : Progress). q.ended) (away n.1) ∙ going))
   ]
@@ -123,8 +122,7 @@ module _ (p : Plan) (s : Store) (k : ℕ) (going : (progress_of s k).ended ≡ f
       at i = ap (λ (qs : List Progress). get_or (set qs j now) i ended_progress) (base_same c r j)
 
       here : k ≡ j → progress_of (after_command p s j c r) k ≡ now
-      here e = at k ∙ (ap (λ (i : ℕ). get_or (set s.processes j now) i ended_progress) e
-          ∙ get_or-set_same s.processes j now ended_progress (going_within s j its))
+      here e = cc (at k, get_or-set_same s.processes j now ended_progress (going_within s j its))
 
       away : k ≢ j → progress_of (after_command p s j c r) k ≡ progress_of s k
       away n = at k ∙ get_or-set_other s.processes j k now ended_progress n
@@ -219,21 +217,17 @@ module _ (p : Plan) (k : ℕ) where
       (λ g. book_ends (after_entry p s e) es g h.1 over)
     where
       ends_now : (d : Entry) → IsItsEnd p s k going d → IsEnd p k (last_of (cond (is_part k d) (d ∷ []) []))
-      ends_now (entry.Do j place cpu frame r) its = subst (λ (b : Bool). IsEnd p k (last_of (cond b
-          (entry.Do j place cpu frame r ∷ []) []))) (sym (own j its.0)) (subst (λ (i : ℕ). command_at p i place
-          ≡ Some command.End) its.0 its.1)
+      ends_now (entry.Do j place cpu frame r) its = rw (own j its.0)
+          (subst (λ (i : ℕ). command_at p i place ≡ Some command.End) its.0 its.1)
         where
           own : (i : ℕ) → i ≡ k → eqb i k ≡ true
           own i x = elim (eqb_tells i k) [ inl y ↦ y.0 | inr n ↦ absurd (n.1 x) ]
-      ends_now (entry.Release uid page) its = absurd its
-      ends_now (entry.Fault process) its = absurd its
       ends_now _ its = absurd its
 
       by : (b : Bool) → (progress_of (after_entry p s e) k).ended ≡ b
           → ((progress_of (after_entry p s e) k).ended ≡ false → IsEnd p k (last_of (filter (is_part k) es)))
           → IsEnd p k (last_of (cond (is_part k e) (e ∷ filter (is_part k) es) (filter (is_part k) es)))
-      by true i rest = subst (λ (xs : List Entry). IsEnd p k (last_of (cond (is_part k e) (e ∷ xs) xs)))
-          (sym (none_later (after_entry p s e) es i h.1)) (ends_now e (entry_ends p s k going e h.0 i))
+      by true i rest = rw (none_later (after_entry p s e) es i h.1) (ends_now e (entry_ends p s k going e h.0 i))
       by false i rest = on (is_part k e)
         where
           on : (b : Bool) → IsEnd p k (last_of (cond b (e ∷ filter (is_part k) es) (filter (is_part k) es)))

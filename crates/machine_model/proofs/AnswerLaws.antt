@@ -1,11 +1,11 @@
 -- A command is answered, a drive's failure is told, or the owner of the supervisor changes.
-use Rattle.std.proofs.Common.{◌≡◌, ℕ, List, ◌++◌, Option, Some, refl, sym, ap, subst, ◌∙◌}
+use Rattle.std.proofs.Common.{◌≡◌, ℕ, List, ◌++◌, Option, Some, refl, sym, ap, ◌∙◌}
 use Rattle.script.specs.Plans.{command_at}
 use Rattle.script.specs.declared.commands.Command.{Command}
 use Rattle.book.specs.declared.entries.Entry.TheVariants as entry
 use Rattle.book.specs.declared.replies.Reply.{Reply}
 use Rattle.flat_model.specs.Commands.{gone_on}
-use Rattle.flat_model.specs.Legal.{IsLawful, IsLawfulDo, MayFault, after_entry, after_do}
+use Rattle.flat_model.specs.Legal.{IsLawful, IsLawfulDo, MayFault, after_entry}
 use Rattle.flat_model.specs.Store.{progress_of}
 use Rattle.custody_model.specs.Allowed.{MayDo, next_command}
 use Rattle.custody_model.specs.Next.{at_put, custody_next, is_try, released_by, with_seat}
@@ -53,9 +53,8 @@ answer_keeps v c k place f r run keeps can =
       under_way = under_way_alike v.reads v.processors (at_put v.processors c p)
           (λ d. by_place (λ (x : Processor). x.cpu.transfer ≡ (v.processors d).cpu.transfer) v.processors c p d
           (λ i. ap (λ (j : ℕ). (v.processors j).cpu.transfer) (sym i)) (λ n. refl)) keeps.under_way;
-      runs = λ j. subst (λ (o : Option Command). IsRun (progress_of (after_do v.plan (flat v) k o r) j)
-          (at_put v.runs k run j)) (sym can.there)
-          (runs_answered v.plan (flat v) k can.command r run v.runs can.lawful.going can.come keeps.runs j);
+      runs = λ j. (rw can.there (runs_answered v.plan (flat v) k can.command r run v.runs can.lawful.going can.come
+          keeps.runs j));
     })
   where
     p : Processor

@@ -4,7 +4,6 @@ use Rattle.std.proofs.Common.{Some, None, refl, sym, ap, subst, ◌∙◌, arith
 use Rattle.std.proofs.lemmas.List.{length-set}
 use Rattle.std.specs.Prelude.{◌^◌, min}
 use Rattle.site_io.specs.Faults.{Rose}
-use Rattle.script.specs.Plans.{Plan}
 use Rattle.book.specs.declared.entries.Entry.TheVariants as entry
 use Rattle.book.specs.declared.replies.Reply.TheVariants as reply
 use Rattle.core_map.specs.CoreMap.{bound_page}
@@ -121,11 +120,9 @@ segs_count s (d ∷ ds) = segs_count (seg_back s d) ds ∙ quiet_push s.entries 
 -- the lists of descriptors are as long as they were
 sdws_length : (dss : List (List Sdw)) (k : ℕ) (x : List Sdw) (j : ℕ) → length x ≡ length (get_or dss k [])
     → length (get_or (set dss k x) j []) ≡ length (get_or dss j [])
-sdws_length [] k x j same = refl
 sdws_length (y ∷ ys) zero x zero same = same
-sdws_length (y ∷ ys) zero x (suc j) same = refl
-sdws_length (y ∷ ys) (suc k) x zero same = refl
 sdws_length (y ∷ ys) (suc k) x (suc j) same = sdws_length ys k x j same
+sdws_length _ _ x _ same = refl
 
 pub relink_there : (st : Storage) (c : CutDescriptor) (ds : List CutDescriptor) → AreThere st ds
     → AreThere (with_relink st c) ds
@@ -181,11 +178,8 @@ module _ (s : State) (c faults : ℕ) (fs : List ℕ) (ds : List CutDescriptor) 
       → Keeps (with_owner (told now c None reply.Device) None)
   failed_with now is book can says = kept_with (with_owner (told now c None reply.Device) None)
       (told_keeps (with_owner now None) c (process_at now c) None reply.Device book can) says
-      few
-      (length-set now.processors c _ ∙ (ap length same_processors
-      ∙ (k.sizes.processors ∙ ap (λ (p : Plan). p.processors) (sym same_plan))))
-      (length-set now.runs (process_at now c) _
-      ∙ (ap length same_runs ∙ (k.sizes.processes ∙ ap (λ (p : Plan). length p.processes) (sym same_plan))))
+      few (cc (length-set now.processors c _, same_processors, k.sizes.processors, same_plan))
+      (cc (length-set now.runs (process_at now c) _, same_runs, k.sizes.processes, same_plan))
       (λ o h. absurd (none_some h))
     where
       pages : State

@@ -306,8 +306,7 @@ frame_quiet st c f = frame_entry_has (λ e. is_quiet e ≡ true) st c f refl ref
 
 frames_quiet : (st : Storage) (c : Command) (fs : List ℕ) → AreQuiet (map (frame_entry st c) fs)
 frames_quiet st c [] = refl
-frames_quiet st c (f ∷ fs) = ap (λ (b : Bool). b && list_all is_quiet (map (frame_entry st c) fs)) (frame_quiet st c f)
-    ∙ frames_quiet st c fs
+frames_quiet st c (f ∷ fs) = cc (frame_quiet st c f, frames_quiet st c fs)
 
 cuts_quiet : (ds : List CutDescriptor) → AreQuiet (map cut_entry ds)
 cuts_quiet [] = refl
@@ -475,9 +474,6 @@ module _ (s : State) (c : ℕ) (o : Outcome) (keeps : Keeps s) (few : OwnsFew s.
       (failed_booked s c o.faults few)
   end_booked (act.CopyPage m page) k plain = by_end (page_copied (with_faults s o.faults) c m page)
       (copy_failed s c o.faults) (none _ refl refl) copy_booked
-  end_booked act.IsStopped k plain = plainly _ (none s refl refl)
-  end_booked act.HasEnded k plain = plainly _ (none s refl refl)
-  end_booked (act.Waits why) k plain = plainly _ (none s refl refl)
   end_booked act.Online k plain = plainly _ (some _ (entry.Online c ∷ []) refl refl (omega arith) refl)
   end_booked (act.Clear w) k plain = plainly _ (some _ (entry.Clear c w ∷ []) refl refl (omega arith) refl)
   end_booked (act.Load n) k plain = plainly _ (some _ (entry.Load c n ∷ []) refl refl (omega arith) refl)
@@ -517,6 +513,7 @@ module _ (s : State) (c : ℕ) (o : Outcome) (keeps : Keeps s) (few : OwnsFew s.
   end_booked (act.Deactivate u) k plain =
       plainly _ (booked_less s (emptied s c u) _ 320 (emptied_booked s c u) (omega (arith, few)))
   end_booked act.Commit k plain = plainly _ (committed_booked s c (next_command s (process_at s c)) few)
+  end_booked _ k plain = plainly _ (none s refl refl)
 
 -- A step appends 320 entries at the most, and there is room for so many less; and what it tells of the drives.
 pub told_after : (s : State) (c : ℕ) (o : Outcome) → KeepsAll s → c < length s.processors

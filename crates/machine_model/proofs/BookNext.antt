@@ -54,15 +54,12 @@ pub book_apart : (v : Seen) (e : Entry) → KeepsBook v → IsLawful v.plan (fla
     → ((j : ℕ) → IsRun (progress_of (after_entry v.plan (flat v) e) j) (v.runs j))
     → KeepsBook (record v { entries = v.entries ++ e ∷ [] })
 book_apart v e k lawful allowed online next pending runs =
-    book_next v e (record v { entries = v.entries ++ e ∷ [] }) refl refl k (record {
-      lawful = lawful;
-      allowed = allowed;
-      online = online;
-      next = sym next;
-      pending = sym pending;
-      going_owned = subst (λ (c : Custody). IsOwned c v.owner) (sym next) k.going_owned;
-      tied = k.tied;
-      holding_right = k.holding_right;
-      under_way = k.under_way;
-      runs = runs;
-    })
+    book_next v e (record v { entries = v.entries ++ e ∷ [] }) refl refl k (assumption (
+      lawful,
+      allowed,
+      online,
+      sym next,
+      sym pending,
+      subst (λ (c : Custody). IsOwned c v.owner) (sym next) k.going_owned,
+      runs,
+    ))

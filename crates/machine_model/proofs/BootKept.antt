@@ -33,9 +33,8 @@ use Rattle.machine_model.proofs.TransferKept.{kept_with}
 module _ {A : Type 0} where
   -- each element of a list of one value is that, and so is the default past its end
   pub at_fill : (n : ℕ) (x : A) (i : ℕ) → get_or (replicate n x) i x ≡ x
-  at_fill zero x i = refl
-  at_fill (suc n) x zero = refl
   at_fill (suc n) x (suc i) = at_fill n x i
+  at_fill _ x _ = refl
 
   none_of : (p : A → Bool) (n : ℕ) (x : A) → p x ≡ false → list_any p (replicate n x) ≡ false
   none_of p zero x h = refl
@@ -110,9 +109,8 @@ abbrev no_progress : Progress
 no_progress = record { place = 0; tries = 0; ended = true; faulted = false }
 
 runs_alone : (n k : ℕ) → IsRun (get_or (replicate n at_first) k no_progress) (get_or (replicate n first_run) k no_run)
-runs_alone zero k = record { place = refl; tries = refl; ended = refl }
-runs_alone (suc n) zero = record { place = refl; tries = refl; ended = refl }
 runs_alone (suc n) (suc k) = runs_alone n k
+runs_alone _ _ = record { place = refl; tries = refl; ended = refl }
 
 runs_first : (p : Plan) (k : ℕ) → IsRun (progress_of (boot p) k)
     (get_or (replicate (length p.processes) first_run) k no_run)

@@ -1,5 +1,5 @@
 -- Pages are taken and descriptors cut one after the other; what was taken is back, or gone.
-use Rattle.std.proofs.Common.{◌≡◌, ℕ, Bool, true, false, ◌||◌, List, [], ◌∷◌, ◌++◌, Option, Some, None}
+use Rattle.std.proofs.Common.{◌≡◌, ℕ, Bool, true, false, List, [], ◌∷◌, ◌++◌, Option, Some, None}
 use Rattle.std.proofs.Common.{refl, sym, ap, subst, ◌∙◌}
 use Rattle.assoc_mem.specs.declared.What.{What}
 use Rattle.assoc_mem.specs.declared.What.TheVariants as what
@@ -7,23 +7,21 @@ use Rattle.page_table.specs.declared.Ptw.{Ptw}
 use Rattle.page_table.specs.declared.Ptw.TheVariants as ptw
 use Rattle.custody_model.specs.Allowed.{NamesAllGoing}
 use Rattle.custody_model.specs.Custody.{bound_page, has, is_going_frame, is_uid, names_descriptor, names_frame}
-use Rattle.custody_model.specs.Custody.{uid_of_page, leads_to}
 use Rattle.custody_model.specs.Fine.{NoneDue}
-use Rattle.custody_model.specs.Next.{at_put_two}
 use Rattle.machine_model.specs.declared.Aim.{Aim}
-use Rattle.machine_model.specs.Chains.{page_at, page_or_zero, takes, cuts, backs, back_segs, each_seg, gone_segs, gones}
-use Rattle.machine_model.specs.Changes.{taken, cut, back, back_seg, gone, gone_seg}
-use Rattle.machine_model.specs.Custodial.{AreApart, AreDistinct, IsAimed, IsShaped, FitsPhase, KeepsBook, has_cut}
+use Rattle.machine_model.specs.Chains.{page_at, page_or_zero, takes, each_seg, gone_segs, gones}
+use Rattle.machine_model.specs.Changes.{taken, cut, back, gone, gone_seg}
+use Rattle.machine_model.specs.Custodial.{AreDistinct, IsAimed, IsShaped, FitsPhase, KeepsBook}
 use Rattle.machine_model.specs.Custodial.{is_pending, names, says, waits_for}
 use Rattle.machine_model.specs.Reads.{cut_of_owner, frames_of_owner}
-use Rattle.machine_model.specs.Seen.{Seen, bound_use, cut_uid, descriptor_use, frame_use, is_cut_at, read_use, shown}
+use Rattle.machine_model.specs.Seen.{Seen, bound_use, frame_use, read_use, shown}
 use Rattle.machine_model.specs.declared.CutDescriptor.{CutDescriptor}
 use Rattle.machine_model.specs.State.{Owner}
 use Rattle.machine_model.specs.Jobs.{rest_of, without_first_cut, without_first_frame}
-use Rattle.machine_model.proofs.DescriptorLaws.{CanFinishSeg, back_seg_keeps, cut_keeps, gone_seg_keeps}
+use Rattle.machine_model.proofs.DescriptorLaws.{CanFinishSeg, gone_seg_keeps}
 use Rattle.machine_model.proofs.DueLaws.{HasLeft, HasLeftCut, none_due}
-use Rattle.machine_model.proofs.FrameLaws.{CanFinish, back_keeps, gone_keeps, take_keeps}
-use Rattle.machine_model.proofs.OwnedLaws.{IsIdle, cut_at_same}
+use Rattle.machine_model.proofs.FrameLaws.{CanFinish, gone_keeps, take_keeps}
+use Rattle.machine_model.proofs.OwnedLaws.{IsIdle}
 use Rattle.machine_model.proofs.Places.{by_places}
 use Rattle.machine_model.proofs.DueLaws.{LeavesFirst}
 use Rattle.machine_model.proofs.TieLaws.{bound_used}
@@ -47,10 +45,8 @@ bound_shown v f = by (v.bound f)
 -- what is named of a frame doesn't depend on the words
 pub names_shown : (v now : Seen) (w : What) (f : ℕ) → now.bound f ≡ v.bound f
     → names_frame (shown now) w f ≡ names_frame (shown v) w f
-names_shown v now what.All f same = refl
-names_shown v now (what.Page g) f same = refl
-names_shown v now (what.Seg u) f same = ap (λ (o : Option (ℕ × ℕ)). is_uid u (uid_of_page o))
-    (bound_shown now f ∙ (same ∙ sym (bound_shown v f)))
+names_shown v now (what.Seg u) f same = cc (bound_shown now f, same, bound_shown v f)
+names_shown v now _ f same = refl
 
 -- ---- pages are taken
 
@@ -121,8 +117,6 @@ takes_keep v c aim w (f ∷ fs) k can = takes_keep now c aim w fs book (record {
 
 -- ---- descriptors are cut
 
--- ---- descriptors are cut
-
 -- whether a signal names the descriptors of a segment
 abbrev pub names_uid : What → ℕ → Bool
 names_uid what.All u = true
@@ -131,65 +125,14 @@ names_uid (what.Seg v) u = is_uid v (Some u)
 
 pub names_linked : (v : Seen) (w : What) (k n u : ℕ) → v.linked k n ≡ Some u
     → names_descriptor (shown v) w k n ≡ names_uid w u
-names_linked v what.All k n u h = refl
-names_linked v (what.Page g) k n u h = refl
-names_linked v (what.Seg x) k n u h = ap (λ (o : Option ℕ). is_uid x
-    (leads_to (descriptor_use o (cut_uid (cut_of_owner v.owner) k n)))) h
+names_linked v (what.Seg x) k n u h = rw (h)
+names_linked v _ k n u h = refl
 
 -- some descriptors are connected, and named
 abbrev pub AreLinked : (ℕ → ℕ → Option ℕ) → What → List CutDescriptor → Type 0
 AreLinked linked w [] = Unit {0}
 AreLinked linked w (d ∷ ds) = ((linked d.process d.number ≡ Some d.uid) ×
     (names_uid w d.uid ≡ true)) × AreLinked linked w ds
-
-linked_kept : (linked : ℕ → ℕ → Option ℕ) (w : What) (k n : ℕ) (ds : List CutDescriptor) → has_cut ds k n ≡ false
-    → AreLinked linked w ds
-    → AreLinked (at_put_two linked k n None) w ds
-linked_kept linked w k n [] none are = tt
-linked_kept linked w k n (d ∷ ds) none are = (
-  (
-    by_places (λ (o : Option ℕ). o ≡ Some d.uid) linked k n None d.process d.number
-        (λ a b. absurd (not_both (ap (λ (x : ℕ). is_cut_at x n d) (sym a)
-        ∙ (ap (λ (y : ℕ). is_cut_at d.process y d) (sym b) ∙ cut_at_same d)) parts.0))
-        (λ m. are.0.0),
-    are.0.1,
-  ),
-  linked_kept linked w k n ds parts.1 are.1,
-)
-  where
-    or_parts : (a b : Bool) → (a || b) ≡ false → (a ≡ false) × (b ≡ false)
-    or_parts false b h = (refl, h)
-    or_parts true b h = absurd (let no : true ≡ false = h in cc)
-
-    parts : (is_cut_at k n d ≡ false) × (has_cut ds k n ≡ false)
-    parts = or_parts (is_cut_at k n d) (has_cut ds k n) none
-
-pub record CanCutAll (v : Seen) (aim : Aim) (w : What) (ds : List CutDescriptor) : Type 0 where
-  pub linked : AreLinked v.linked w ds
-  pub apart : AreApart ds
-  pub others : NamesAllGoing (shown v) w
-  pub still : waits_for v.owner ≡ None
-  pub aimed : (gs : List ℕ) (cs : List CutDescriptor) → IsAimed aim w gs cs
-
-pub cuts_keep : (v : Seen) (c : ℕ) (aim : Aim) (w : What) (ds : List CutDescriptor) → KeepsBook v
-    → CanCutAll v aim w ds → HasTaken (cuts v c aim w ds) w
-cuts_keep v c aim w [] k can = record { book = k; others = can.others; still = can.still }
-cuts_keep v c aim w (d ∷ ds) k can = cuts_keep (cut v c aim w d) c aim w ds book (record {
-  linked = linked_kept v.linked w d.process d.number ds can.apart.0 can.linked.1;
-  apart = can.apart.1;
-  others = (book.going_owned.says w refl).1;
-  still = refl;
-  aimed = can.aimed;
-})
-  where
-    book : KeepsBook (cut v c aim w d)
-    book = cut_keeps v c aim w d k (record {
-      linked = can.linked.0.0;
-      still = can.still;
-      others = can.others;
-      this = names_linked v w d.process d.number d.uid can.linked.0.0 ∙ can.linked.0.1;
-      aimed = can.aimed (frames_of_owner v.owner) (cut_of_owner v.owner ++ d ∷ []);
-    })
 
 -- ---- what was taken goes, or comes back
 
@@ -269,10 +212,8 @@ pub going_word : (v : Seen) (f : ℕ) → KeepsBook v → is_going_frame ((shown
 going_word v f k going = by (v.bound f) refl going
   where
     word : (page : ℕ × ℕ) (w : Ptw) → names w ≡ Some f → is_going_frame (bound_use page w) ≡ true → w ≡ ptw.Leaving f
-    word page ptw.Null n h = absurd (let no : false ≡ true = h in cc)
-    word page (ptw.Out r) n h = absurd (let no : false ≡ true = h in cc)
-    word page (ptw.Here g) n h = absurd (let no : false ≡ true = h in cc)
     word page (ptw.Leaving g) n h = cc
+    word page _ n h = absurd (let no : false ≡ true = h in cc)
 
     read : (y : Option (ℕ × ℕ)) → is_going_frame (read_use y) ≡ false
     read None = refl
@@ -311,14 +252,6 @@ back_on v f fs ds on = record {
   quiet = (frame_goes v.owner).says ∙ on.quiet;
   steady = (frame_goes v.owner).steady on.steady;
 }
-
-pub backs_keep : (v : Seen) (fs : List ℕ) (ds : List CutDescriptor) → KeepsBook v → GoesOn v fs ds
-    → HasGone (backs v fs) [] ds
-backs_keep v [] ds k on = record { book = k; on = on }
-backs_keep v (f ∷ fs) ds k on =
-    backs_keep (back v f (page_at v f).0 (page_at v f).1 (without_first_frame v.owner)) fs ds
-    (back_keeps v f (page_at v f).0 (page_at v f).1 (without_first_frame v.owner) k (first_finish v f fs ds k on))
-    (back_on v f fs ds on)
 
 pub gones_keep : (v : Seen) (fs : List ℕ) (ds : List CutDescriptor) → KeepsBook v → GoesOn v fs ds
     → HasGone (gones v fs) [] ds
@@ -364,10 +297,6 @@ segs_keep step owner none keeps v fs (d ∷ ds) k on =
     (keeps v d (without_first_cut v.owner) k (first_finish_seg v fs d ds on))
     (uncut_on v now fs d ds on (none v d (without_first_cut v.owner) on.none) (owner v d (without_first_cut v.owner)))
 
-pub back_segs_keep : (v : Seen) (fs : List ℕ) (ds : List CutDescriptor) → KeepsBook v → GoesOn v fs ds
-    → HasGone (back_segs v ds) fs []
-back_segs_keep = segs_keep back_seg (λ v d o. refl) (λ v d o none. none) back_seg_keeps
-
 pub gone_segs_keep : (v : Seen) (fs : List ℕ) (ds : List CutDescriptor) → KeepsBook v → GoesOn v fs ds
     → HasGone (gone_segs v ds) fs []
 gone_segs_keep = segs_keep gone_seg (λ v d o. refl) (λ v d o none. none) gone_seg_keeps
@@ -381,19 +310,7 @@ pub record IsDone (v : Seen) : Type 0 where
   pub still : is_pending v.owner ≡ false
 
 pub gone_done : (v : Seen) → HasGone v [] [] → IsDone v
-gone_done v gone = record {
-  book = gone.book;
-  frames = gone.on.frames;
-  cut = gone.on.cut;
-  none = gone.on.none;
-  still = gone.on.still;
-}
+gone_done v gone = assumption
 
 pub idle_done : (v : Seen) → KeepsBook v → IsIdle v.owner → is_pending v.owner ≡ false → IsDone v
-idle_done v k idle still = record {
-  book = k;
-  frames = idle.frames;
-  cut = idle.cut;
-  none = none_due (shown v) v.owner k.going_owned idle.waits;
-  still = still;
-}
+idle_done v k idle still = assumption (none_due (shown v) v.owner k.going_owned idle.waits, still)

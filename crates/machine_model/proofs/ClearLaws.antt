@@ -11,7 +11,7 @@ use Rattle.flat_model.specs.Legal.{IsLawful, after_entry}
 use Rattle.custody_model.specs.declared.DescriptorUse.{DescriptorUse}
 use Rattle.custody_model.specs.Allowed.{SomethingGoes, NamesAllGoing}
 use Rattle.custody_model.specs.Fine.{NoneDue}
-use Rattle.custody_model.specs.Custody.{Seat, bound_page, uid_of_page, leads_to, is_uid, names_frame, names_descriptor}
+use Rattle.custody_model.specs.Custody.{Seat, bound_page, leads_to, is_uid, names_frame, names_descriptor}
 use Rattle.custody_model.specs.Custody.{names_number, cleared}
 use Rattle.custody_model.specs.Next.{at_put, custody_next, told}
 use Rattle.machine_model.specs.Changes.{signalled, cleared_at, told_at, dropped, warned, done_dropping}
@@ -19,7 +19,7 @@ use Rattle.machine_model.specs.declared.Phase.{Phase}
 use Rattle.machine_model.specs.declared.Phase.TheVariants as phase
 use Rattle.machine_model.specs.Custodial.{KeepsBook, HoldsRight, AreHeldPages, AreHeldSegs, AreOfProcess, is_pending}
 use Rattle.machine_model.specs.Custodial.{says, waits_for}
-use Rattle.machine_model.specs.Seen.{Seen, shown, seat_of, frame_use, descriptor_use, cut_uid}
+use Rattle.machine_model.specs.Seen.{Seen, shown, seat_of, descriptor_use, cut_uid}
 use Rattle.machine_model.specs.declared.Processor.{Processor}
 use Rattle.machine_model.specs.State.{Owner}
 use Rattle.machine_model.proofs.BookNext.{book_next}
@@ -34,21 +34,17 @@ use Rattle.laws.proofs.Lists.{few_kept}
 
 -- the page in a frame that is bound
 pub page_in_use : (v : Seen) (f : ℕ) (page : ℕ × ℕ) → v.bound f ≡ Some page → bound_page ((shown v).frame f) ≡ Some page
-page_in_use v f page h = ap (λ (o : Option (ℕ × ℕ)). bound_page (frame_use v.words o (v.reads f))) h
-    ∙ bound_used page (v.words page.0 page.1)
+page_in_use v f page h = cc (bound_used page (v.words page.0 page.1))
 
 page_named : (v : Seen) (w : What) (e : HeldPage) → v.bound e.frame ≡ Some (e.uid, e.page)
     → names_frame (shown v) w e.frame ≡ names_page w e
-page_named v what.All e h = refl
-page_named v (what.Page g) e h = refl
-page_named v (what.Seg u) e h = ap (λ (o : Option (ℕ × ℕ)). is_uid u (uid_of_page o))
-    (page_in_use v e.frame (e.uid, e.page) h)
+page_named v (what.Seg u) e h = rw (page_in_use v e.frame (e.uid, e.page) h)
+page_named v _ e h = refl
 
 seg_named : (v : Seen) (w : What) (k : ℕ) (e : HeldSeg) → leads_to ((shown v).descriptor k e.number) ≡ Some e.uid
     → names_descriptor (shown v) w k e.number ≡ names_seg w e
-seg_named v what.All k e h = refl
-seg_named v (what.Page g) k e h = refl
 seg_named v (what.Seg u) k e h = ap (is_uid u) h
+seg_named v _ k e h = refl
 
 pages_dropped : (v : Seen) (w : What) (es : List HeldPage) → AreHeldPages v.bound es
     → map (λ e. e.frame) (filter (λ e. not (names_page w e)) es)
@@ -138,10 +134,9 @@ says_waits None w h = refl
 says_waits (Some o) w h = by o.phase h
   where
     by : (x : Phase) → says (Some (record o { phase = x })) ≡ Some w → waits_for (Some (record o { phase = x })) ≡ None
-    by phase.Looking h = refl
-    by (phase.Taken aim w) h = refl
     by (phase.Waiting aim w) h = absurd (none_some h)
     by (phase.Moving m) h = absurd (none_some h)
+    by _ h = refl
 
 -- the owner is to signal this, and waits for it afterwards
 pub record CanSignal (v : Seen) (c : ℕ) (w : What) (owner : Option Owner) : Type 0 where

@@ -214,40 +214,22 @@ either P false x y px py = px
 
 pub tale : (s : State) (c : ℕ) (a : act.Action) (o : Outcome) → Tale s c a (after s c a o)
 unfolding after
-tale s c act.IsStopped o = inl (same_runs refl refl)
-tale s c act.HasEnded o = inl (same_runs refl refl)
-tale s c (act.Waits why) o = inl (same_runs refl refl)
-tale s c act.Online o = inl (same_runs refl refl)
-tale s c (act.Clear w) o = inl (same_runs refl refl)
 tale s c (act.EndTransfer t) o =
     either (Tale s c (act.EndTransfer t)) o.failed (transferred (with_faults s o.faults) c t)
     (transfer_failed s c t o.faults) (inl (same_runs refl refl)) (inr (refl, failed_transfer s c t o.faults))
-tale s c (act.Load k) o = inl (same_runs refl refl)
-tale s c act.Leave o = inl (same_runs refl refl)
-tale s c (act.FillSeg n) o = inl (same_runs refl refl)
-tale s c (act.FillPage f r) o = inl (same_runs refl refl)
 tale s c (act.Through f r) o = inr (refl, its_own (word_reply (old_word s.store.pages f r) r.kind) refl refl)
 tale s c (act.Plain r) o = inr (refl, its_own r refl refl)
-tale s c act.TakeSupervisor o = inl (same_runs refl refl)
 tale s c (act.Answer r) o = inr (refl, its_own r refl refl)
-tale s c act.GiveUp o = inl (same_runs refl refl)
-tale s c (act.Activate uid place) o = inl (same_runs refl refl)
-tale s c (act.Connect n uid) o = inl (same_runs refl refl)
 tale s c (act.Create f uid p r) o = inr (refl, its_own (word_reply 0 r.kind) refl refl)
-tale s c (act.Start f uid p) o = inl (same_runs refl refl)
-tale s c (act.Evict f) o = inl (same_runs refl refl)
 tale s c (act.Empty uid) o = inl (segment s c uid (frames_from s.store.ast uid 0) (trailers_in s.store uid))
 tale s c (act.EmptyVictim pool chain uid) o =
     let t = with_store s (with_hand_moved s.store pool chain) in
     inl (chained s t (victim_taken s c pool chain uid) (same_runs refl refl)
     (segment t c uid (frames_from t.store.ast uid 0) (trailers_in t.store uid)))
 tale s c (act.TakeAway fs pairs w) o = inl (all_taken s c aim.Committing w fs pairs)
-tale s c (act.BeginMove uid volume) o = inl (same_runs refl refl)
 tale s c (act.CopyPage m p) o =
     either (Tale s c (act.CopyPage m p)) o.failed (page_copied (with_faults s o.faults) c m p)
     (copy_failed s c o.faults) (inl (same_runs refl refl)) (inr (refl, its_own reply.Device refl refl))
-tale s c (act.CommitMove m) o = inl (same_runs refl refl)
-tale s c (act.Signal w) o = inl (same_runs refl refl)
 tale s c (act.FinishEviction f) o =
     either (Tale s c (act.FinishEviction f)) o.failed (eviction_done (with_faults s o.faults) c f)
     (write_failed s c o.faults) (inl (same_runs refl refl)) (inr (refl, failed_write s c o.faults))
@@ -256,6 +238,7 @@ tale s c (act.FinishPage f) o =
     (write_failed s c o.faults) (inl (same_runs refl refl)) (inr (refl, failed_write s c o.faults))
 tale s c (act.Deactivate uid) o = inl (is_emptied s c uid)
 tale s c act.Commit o = commits s c (next_command s (process_at s c))
+tale s c _ o = inl (same_runs refl refl)
 
 -- ---- that each process comes to a command
 
@@ -272,8 +255,7 @@ of_all s come = come
 
 pub come_same : (s t : State) → t.plan ≡ s.plan → t.runs ≡ s.runs → AllCome s → AllCome t
 come_same s t plan runs come =
-    of_all t (subst (λ (p : Plan). AllOf p t.runs) (sym plan) (subst (λ (rs : List Run). AllOf s.plan rs) (sym runs)
-    (all_of s come)))
+    of_all t (rw plan (subst (λ (rs : List Run). AllOf s.plan rs) (sym runs) (all_of s come)))
 
 pub all_come : (s : State) (c : ℕ) (a : act.Action) (o : Outcome) → IsPlan s.plan → AllCome s
     → (tells a ≡ true → MayAnswer s c) → AllCome (after s c a o)

@@ -160,14 +160,10 @@ told_come s c k f r command h come there planned on j lt more =
         subst (λ (i : ℕ). (run_at after i).ended ≡ false → Comes (commands_of s.plan i) (run_at after i)) (sym same)
         (subst (λ (x : Run). x.ended ≡ false → Comes (commands_of s.plan k) x)
         (sym (get_or-set_same s.runs k (run_after (run_at s.runs k) (next_command s k) r) no_run there))
-        (subst (λ (o : Option Command). (run_after (run_at s.runs k) o r).ended ≡ false
-        → Comes (commands_of s.plan k) (run_after (run_at s.runs k) o r)) (sym on.next)
-        (comes_after (length s.plan.volumes) (commands_of s.plan k) (run_at s.runs k) command r
+        (rw on.next (comes_after (length s.plan.volumes) (commands_of s.plan k) (run_at s.runs k) command r
         ((scripts_are s.plan h).ranges k planned) ((scripts_are s.plan h).ends k planned) on))) going
 
     elsewhere : j ≢ k → (run_at after j).ended ≡ false → Comes (commands_of s.plan j) (run_at after j)
     elsewhere other going =
-        subst (λ (x : Run). x.ended ≡ false → Comes (commands_of s.plan j) x)
-        (sym (get_or-set_other s.runs k j (run_after (run_at s.runs k) (next_command s k) r) no_run other))
-        (come j (let n = length-set s.runs k (run_after (run_at s.runs k) (next_command s k) r) in
-        omega (arith, lt, n))) going
+        (rw (← (get_or-set_other s.runs k j (run_after (run_at s.runs k) (next_command s k) r) no_run other)) at (come j
+        (let n = length-set s.runs k (run_after (run_at s.runs k) (next_command s k) r) in omega (arith, lt, n)))) going

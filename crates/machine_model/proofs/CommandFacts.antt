@@ -5,14 +5,11 @@ use Rattle.std.specs.Prelude.{Result, Ok, Err}
 use Rattle.std.specs.List.{list_any}
 use Rattle.std.proofs.lemmas.Bool.Decides.{eqb_tells}
 use Rattle.script.specs.declared.commands.Command.TheVariants as command
-use Rattle.mnames.specs.declared.modes.Mode.{Mode}
-use Rattle.mnames.specs.declared.rows.Row.{Row as Named}
 use Rattle.book.specs.declared.replies.Reply.{Reply}
 use Rattle.book.specs.declared.replies.Reply.TheVariants as reply
 use Rattle.tree_model.specs.Tree.{Node, Walk, LeadsTo, Missing, InSegment, is_inferior, node_in, walk_in}
 use Rattle.flat_model.specs.Branches.{branch_at, done_at, node_at, only_segment, segment_at, there_or, walked}
 use Rattle.flat_model.specs.Making.{delete_of, delete_reply}
-use Rattle.flat_model.specs.Rights.{acl_of, acl_reply}
 use Rattle.flat_model.specs.Sizes.{length_of, length_reply, truncate_reply}
 use Rattle.storage_ops.specs.Shown.{is_refusal, refusal}
 use Rattle.machine_model.specs.Keeps.{Keeps}
@@ -93,16 +90,6 @@ module _ (s : State) (k : ℕ) (keeps : Keeps s) where
     where
       by : (r : Result Node Reply) → segment_at (flat_of s).nodes path ≡ r
           → refusal (length_of (flat_of s).stored pages r) ≡ None → LeadsToSegment s path
-      by (Ok n) e i = segment_by path n e
-      by (Err x) e i = absurd (refuses_not x (segment_says is_refusal true refl refl refl (flat_of s).nodes path x e) i)
-
-  pub acl_stands : (path : List (List ℕ)) (row : Named) (m : Mode) → refusal_of s k (command.Acl path row m) ≡ None
-      → LeadsToSegment s path
-  unfolding refusal_of acl_reply
-  acl_stands path row m h = by (segment_at (flat_of s).nodes path) refl h
-    where
-      by : (r : Result Node Reply) → segment_at (flat_of s).nodes path ≡ r → refusal (acl_of row r) ≡ None
-          → LeadsToSegment s path
       by (Ok n) e i = segment_by path n e
       by (Err x) e i = absurd (refuses_not x (segment_says is_refusal true refl refl refl (flat_of s).nodes path x e) i)
 

@@ -3,12 +3,11 @@
 use Rattle.std.proofs.Common.{◌≡◌, ◌≢◌, ◌<◌, ℕ, ◌+◌, ◌-◌, Bool, true, false, not, cond, ◌&&◌, nat_lt, List, length}
 use Rattle.std.proofs.Common.{Option, Some, None, is_some, set, refl, sym, ap, subst, ◌∙◌, inl, inr, arith}
 use Rattle.std.proofs.lemmas.List.{get_or-set_same}
-use Rattle.core_map.specs.declared.Frame.{Frame}
 use Rattle.core_map.specs.declared.Frame.TheVariants as frame
 use Rattle.processor.specs.declared.Transfer.{Transfer}
-use Rattle.machine_model.specs.Outline.{Want, Refer, Truncate, Length, Other, Runner, no_runner, Keeper, Outline, Turn}
+use Rattle.machine_model.specs.Outline.{Want, Refer, Runner, no_runner, Keeper, Outline, Turn}
 use Rattle.machine_model.specs.Outline.{runner_at, want_at, with_runner, with_frame, frame_in}
-use Rattle.machine_model.specs.Measures.{is_of, is_here, wanted_fits, want_lack, lack, all_rank, command_rank}
+use Rattle.machine_model.specs.Measures.{is_of, wanted_fits, want_lack, lack, all_rank, command_rank}
 use Rattle.machine_model.specs.Measures.{command_left, is_over}
 use Rattle.machine_model.specs.Finishing.{Comes, Clears, Works, Loads, Leaves, Commands, rule_of, owns, Step, ends}
 use Rattle.machine_model.specs.Finishing.{comes, clears, reads, loses, works, awaits_clear, awaits_transfer, loads}
@@ -50,17 +49,13 @@ unfolding command_rank
 nearer_by s t c x within owner runners left ready online running since tried want less =
     let same : runner_at t.runners c ≡ x =
     ap (λ (xs : List Runner). runner_at xs c) runners ∙ get_or-set_same s.runners c x no_runner within in
-    record {
-      owner = owner;
-      same = record {
-        want = ap (λ (y : Runner). y.want) same ∙ want;
-        since = ap (λ (y : Runner). y.since) same ∙ since;
-        running = ap (λ (y : Runner). y.running) same ∙ running;
-        all = all_set s t c x within runners left ready online
-            (over_same (runner_at s.runners c) x running since tried);
-      };
-      rank = subst (λ (y : Runner). command_left t y < command_left s (runner_at s.runners c)) (sym same) less;
-    }
+    assumption (
+      ap (λ (y : Runner). y.want) same ∙ want,
+      ap (λ (y : Runner). y.since) same ∙ since,
+      ap (λ (y : Runner). y.running) same ∙ running,
+      all_set s t c x within runners left ready online (over_same (runner_at s.runners c) x running since tried),
+      subst (λ (y : Runner). command_left t y < command_left s (runner_at s.runners c)) (sym same) less,
+    )
 
 -- a page that the processor read in is in a frame
 read_fits : (s t : Outline) (r : Transfer) (used modified : Bool) (w : Want) → r.frame < length s.frames
@@ -68,14 +63,10 @@ read_fits : (s t : Outline) (r : Transfer) (used modified : Bool) (w : Want) →
     → t.frames ≡ set s.frames r.frame (frame.Bound r.uid r.page used modified) → t.stored ≡ s.stored
     → wanted_fits s w (Some r) ≡ true → wanted_fits t w None ≡ true
 read_fits s t r used modified w lt started frames stored h =
-    wanted_more s t w (Some r) None
-    (λ uid page makes there. ap (λ (fs : List Frame). is_here fs uid page) frames
-    ∙ here_more s.frames r.frame uid page (frame.Bound r.uid r.page used modified) lt (ap (is_of uid page) started)
-    there)
-    (λ uid page read. inl (ap (λ (fs : List Frame). is_here fs uid page) frames
-    ∙ here_now s.frames r.frame uid page (frame.Bound r.uid r.page used modified) lt (ap (is_of uid page) started)
-    read))
-    (λ uid page out. ap (λ (f : ℕ → ℕ → Bool). f uid page) stored ∙ out) h
+    wanted_more s t w (Some r) None (λ uid page makes there. cc (here_more s.frames r.frame uid page
+    (frame.Bound r.uid r.page used modified) lt (ap (is_of uid page) started) there))
+    (λ uid page read. inl (cc (here_now s.frames r.frame uid page (frame.Bound r.uid r.page used modified) lt
+    (ap (is_of uid page) started) read))) (λ uid page out. ap (λ (f : ℕ → ℕ → Bool). f uid page) stored ∙ out) h
 
 read_nearer : (s : Outline) (c : ℕ) (r : Transfer) (used modified : Bool) → IsKept s → s.owner ≡ None
     → (runner_at s.runners c).reading ≡ Some r → IsNearer s (not_reading (with_bound s r used modified) c) c
@@ -147,9 +138,7 @@ replied_past s t c l none replied = record {
 is_no_reference : (w : Want) → ((chain : List ℕ) (uid page : ℕ) (makes : Bool) → w ≢ Refer chain uid page makes)
     → IsReference w → ⊥
 is_no_reference (Refer chain uid page makes) h is = h chain uid page makes refl
-is_no_reference (Truncate chain uid cut) h is = is
-is_no_reference (Length uid) h is = is
-is_no_reference Other h is = is
+is_no_reference _ h is = is
 
 -- a processor leaves a process that has had its turn
 turn_over : (s : Outline) (c : ℕ) → rule_of s c ≡ Leaves → is_over (runner_at s.runners c) ≡ true

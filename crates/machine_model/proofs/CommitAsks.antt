@@ -19,7 +19,6 @@ use Rattle.flat_model.specs.Commands.{reply_to_tree_command, takes_effect}
 use Rattle.flat_model.specs.Legal.{store_after}
 use Rattle.flat_model.specs.Store.{Store, progress_of}
 use Rattle.storage_ops.specs.Shown.{answered}
-use Rattle.custody_model.specs.Allowed.{MayAnswer as MayAnswerBy}
 use Rattle.custody_model.specs.Effects.{MayTakeEffect}
 use Rattle.machine_model.specs.declared.CutDescriptor.{CutDescriptor}
 use Rattle.machine_model.specs.Actions as act
@@ -108,8 +107,7 @@ frame_still st c f = frame_entry_has (λ e. is_still e ≡ true) st c f refl ref
 
 frames_still : (st : Storage) (c : Command) (fs : List ℕ) → list_all is_still (map (frame_entry st c) fs) ≡ true
 frames_still st c [] = refl
-frames_still st c (f ∷ fs) = ap (λ (b : Bool). b && list_all is_still (map (frame_entry st c) fs)) (frame_still st c f)
-    ∙ frames_still st c fs
+frames_still st c (f ∷ fs) = cc (frame_still st c f, frames_still st c fs)
 
 pub cuts_still : (ds : List CutDescriptor) → list_all is_still (map cut_entry ds) ≡ true
 cuts_still [] = refl
@@ -177,9 +175,8 @@ module _ (s : State) (c : ℕ) (o : Outcome) (keeps : Keeps s) (cmd : Command) (
       by : (b : Bool) → takes_effect (reply_of s k cmd) ≡ b
           → IsAlike (cond b (effect_of s.plan (flat_of s) k cmd) (flat_of s))
           (store_after s.plan ((s.entries ++ gone) ++ answer ∷ []))
-      by true e = subst (λ (t : Store). IsAlike (effect_of s.plan t k cmd)
-          (store_after s.plan ((s.entries ++ gone) ++ answer ∷ []))) still
-          (done_alike s.plan (s.entries ++ gone) k (run_at s.runs k).place c None (reply_of s k cmd) cmd sp.next e)
+      by true e = rw (← still) (done_alike s.plan (s.entries ++ gone) k (run_at s.runs k).place c None
+          (reply_of s k cmd) cmd sp.next e)
       by false e = subst (λ (t : Store). IsAlike t (store_after s.plan ((s.entries ++ gone) ++ answer ∷ []))) still
           (refused_alike s.plan (s.entries ++ gone) k (run_at s.runs k).place c None (reply_of s k cmd) e)
 
@@ -223,12 +220,10 @@ module _ (s : State) (c : ℕ) (o : Outcome) (keeps : Keeps s) (cmd : Command) (
       (inl (record {
         own = is_reply ∙ ap (λ (t : Store). reply_to_command s.plan t k cmd) (sym still);
         free = tree_free s.plan (flat_of b) k cmd tree;
-      }))
-      (subst (λ (x : Option Reference). MayAnswerBy s.plan (flat_of b) (shown (seen b)) c k None cmd
-      (reply_of s k cmd) x)
-      (sym tree) (record {
+      })) (rw tree (record {
         without = refl;
-        out = λ e. subst (λ (t : Store). MayTakeEffect t (shown (seen b)) k cmd) (sym still) out;
+        out = λ e. subst (λ (t : Store). MayTakeEffect t (shown (seen b)) k cmd)
+            (sym still) out;
       }))
 
 -- ---- what is left of a command's premises
@@ -304,18 +299,16 @@ commit_asks s c o keeps (command.Truncate path words) sp plain says rests = reco
   tell = commit_tell s c o keeps (command.Truncate path words) sp refl rests.out;
   says = commit_says s c o keeps (command.Truncate path words) sp refl says;
 }
-commit_asks s c o keeps (command.Delete path) sp plain says (inl rests) = inl (record {
-  whole = rests.whole;
-  tell = commit_tell s c o keeps (command.Delete path) sp refl rests.out;
-  says = commit_says s c o keeps (command.Delete path) sp refl says;
-})
-commit_asks s c o keeps (command.Delete path) sp plain says (inr rests) = inr (record {
-  inactive = rests.inactive;
-  frames = rests.frames;
-  cut = rests.cut;
-  tell = commit_tell s c o keeps (command.Delete path) sp refl rests.out;
-  says = commit_says s c o keeps (command.Delete path) sp refl says;
-})
+commit_asks s c o keeps (command.Delete path) sp plain says (inl rests) =
+    inl (assumption (
+      commit_tell s c o keeps (command.Delete path) sp refl rests.out,
+      commit_says s c o keeps (command.Delete path) sp refl says,
+    ))
+commit_asks s c o keeps (command.Delete path) sp plain says (inr rests) =
+    inr (assumption (
+      commit_tell s c o keeps (command.Delete path) sp refl rests.out,
+      commit_says s c o keeps (command.Delete path) sp refl says,
+    ))
 commit_asks s c o keeps (command.MkDir path volume) sp plain says rests = record {
   none = plain;
   tell = commit_tell s c o keeps (command.MkDir path volume) sp refl tt;
@@ -346,10 +339,7 @@ commit_asks s c o keeps (command.Status path) sp plain says rests = record {
   tell = commit_tell s c o keeps (command.Status path) sp refl tt;
   says = commit_says s c o keeps (command.Status path) sp refl says;
 }
-commit_asks s c o keeps (command.Read n w) sp plain says rests = absurd plain
-commit_asks s c o keeps (command.Write n w x) sp plain says rests = absurd plain
-commit_asks s c o keeps (command.Add n w x) sp plain says rests = absurd plain
-commit_asks s c o keeps (command.Await n w x t) sp plain says rests = absurd plain
+commit_asks s c o keeps _ sp plain says rests = absurd plain
 
 -- ---- a look that takes nothing
 
@@ -366,11 +356,6 @@ length_out s c path pages keeps stands off = subst (OfNode (λ n. is_active s.st
 
 pub look_plainly : (s : State) (c : ℕ) → Keeps s → frames_of_owner s.owner ≡ [] → (cmd : Command)
     → FindsTaken s (process_at s c) cmd [] [] → Plainly s c cmd
-look_plainly s c keeps none (command.Acl path row m) h = tt
-look_plainly s c keeps none (command.Terminate n) h = tt
-look_plainly s c keeps none command.End h = tt
-look_plainly s c keeps none (command.Truncate path words) h = tt
-look_plainly s c keeps none (command.Delete path) h = tt
 look_plainly s c keeps none (command.MkDir path volume) h = none
 look_plainly s c keeps none (command.MkSeg path pages volume) h = none
 look_plainly s c keeps none (command.Initiate path) h = none
@@ -382,6 +367,7 @@ look_plainly s c keeps none (command.Read n w) h = absurd (none_some (sym h.tree
 look_plainly s c keeps none (command.Write n w x) h = absurd (none_some (sym h.tree))
 look_plainly s c keeps none (command.Add n w x) h = absurd (none_some (sym h.tree))
 look_plainly s c keeps none (command.Await n w x t) h = absurd (none_some (sym h.tree))
+look_plainly s c keeps none _ h = tt
 
 -- one for which something was taken is no such command
 pub taken_plainly : (s : State) (c : ℕ) (cmd : Command) → TakesSome (Some cmd) → Plainly s c cmd

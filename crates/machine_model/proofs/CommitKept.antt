@@ -1,21 +1,19 @@
 -- The machine keeps its promise where a tree command takes effect.
 use Rattle.std.proofs.Common.{◌≡◌, ◌<◌, ℕ, Bool, true, false, cond, count_by, List, [], ◌∷◌, ◌++◌, map, length, set}
 use Rattle.std.proofs.Common.{Option, Some, None, inl, refl, sym, ap, subst, ◌∙◌, arith}
-use Rattle.std.specs.Prelude.{IsSomeAnd}
 use Rattle.std.proofs.lemmas.List.{get_or-set_same, length-set}
 use Rattle.script.specs.declared.commands.Command.{Command}
 use Rattle.script.specs.declared.commands.Command.TheVariants as command
 use Rattle.book.specs.declared.entries.Entry.{Entry}
 use Rattle.book.specs.declared.entries.Entry.TheVariants as entry
-use Rattle.book.specs.declared.replies.Reply.{Reply}
 use Rattle.tree_model.specs.Access.{Row}
 use Rattle.flat_model.specs.Branches.{parts_of}
 use Rattle.flat_model.specs.Store.{Store, progress_of}
-use Rattle.custody_model.specs.Allowed.{MayGo, MayLeave}
+use Rattle.custody_model.specs.Allowed.{MayLeave}
 use Rattle.custody_model.specs.Next.{queued as queued_by}
 use Rattle.machine_model.specs.Chains.{gone_segs}
 use Rattle.machine_model.specs.Changes.{counted, emptied, gone_seg, left}
-use Rattle.machine_model.specs.Commits.{committed, cut_entry, frame_entry, gone_entries, inactive_entries, left_after}
+use Rattle.machine_model.specs.Commits.{committed, cut_entry, gone_entries, inactive_entries, left_after}
 use Rattle.machine_model.specs.Commits.{with_effect, with_made}
 use Rattle.machine_model.specs.Custodial.{IsRun, KeepsBook, is_pending}
 use Rattle.machine_model.specs.Holding.{seen}
@@ -53,9 +51,8 @@ queue_same t run ready k o h is = ap (queued_by t ready) h ∙ ap (λ (b : Bool)
 pub ready_left : (s : State) (c k : ℕ) → KeepsBook (seen s) → (processor_at s.processors c).cpu.process ≡ Some k
     → queued (run_at s.runs (process_at s c)) s.ready (process_at s c)
     ≡ queued_by (flat_of s) s.ready (processor_at s.processors c).cpu.process
-ready_left s c k book process = ap (λ (j : ℕ). queued (run_at s.runs j) s.ready j) (ap or_zero process)
-    ∙ sym (queue_same (flat_of s) (run_at s.runs k) s.ready k (processor_at s.processors c).cpu.process process
-    (book.runs k))
+ready_left s c k book process = cc (queue_same (flat_of s) (run_at s.runs k) s.ready k
+    (processor_at s.processors c).cpu.process process (book.runs k))
 
 -- what custody sees of a process that leaves its processor
 pub left_seen : (s : State) (c k : ℕ) → KeepsBook (seen s) → c < length s.processors
@@ -87,9 +84,7 @@ segs_over s ds k on = let gone = gone_segs_keep (seen s) [] ds k on in subst Kee
 
 pub idle_over : (s : State) → KeepsBook (seen s) → IsIdle s.owner → is_pending s.owner ≡ false
     → KeepsBook (record (seen s) { owner = None; entries = s.entries ++ [] })
-idle_over s k idle still = subst (λ (es : List Entry). KeepsBook (record (seen s) { owner = None; entries = es }))
-    (sym (append-nil s.entries))
-    (owner_keeps (seen s) None k idle nobody still)
+idle_over s k idle still = rw (append-nil s.entries) (owner_keeps (seen s) None k idle nobody still)
 
 -- ---- the effect on what custody sees
 
@@ -110,13 +105,8 @@ pub effect_seen : (s : State) (k u : ℕ) (frames : List ℕ) (c : Command) → 
     → seen (with_store s (with_effect s.store k u frames c)) ≡ seen s
 effect_seen s k u frames (command.MkDir path volume) h = made_seen_same s true 0 volume [] (parts_of path)
 effect_seen s k u frames (command.MkSeg path pages volume) h = made_seen_same s false pages volume _ (parts_of path)
-effect_seen s k u frames (command.Initiate path) h = refl
-effect_seen s k u frames (command.Terminate n) h = refl
-effect_seen s k u frames (command.Acl path row m) h = refl
-effect_seen s k u frames (command.Length path pages) h = refl
 effect_seen s k u frames (command.Truncate path words) h = absurd h
 effect_seen s k u frames (command.Delete path) h = absurd h
-effect_seen s k u frames (command.Move path amount) h = refl
 effect_seen s k u frames _ h = refl
 
 no_inactive : (st : Storage) (u : ℕ) (c : Command) → TakesNoPage c → inactive_entries st u c ≡ []
@@ -126,10 +116,7 @@ no_inactive st u _ h = refl
 -- the entries of a command that has cut descriptors alone
 gone_are : (s : State) (u : ℕ) (c : Command) → TakesNoPage c → frames_of_owner s.owner ≡ []
     → gone_entries s u c ≡ map cut_entry (cut_of_owner s.owner)
-gone_are s u c h none = ap (λ (fs : List ℕ). map (frame_entry s.store c) fs ++
-    (map cut_entry (cut_of_owner s.owner) ++ inactive_entries s.store u c)) none
-    ∙ (ap (λ (es : List Entry). map cut_entry (cut_of_owner s.owner) ++ es) (no_inactive s.store u c h)
-    ∙ append-nil (map cut_entry (cut_of_owner s.owner)))
+gone_are s u c h none = cc (no_inactive s.store u c h, append-nil (map cut_entry (cut_of_owner s.owner)))
 
 pub cut_faults : (es : List Entry) (ds : List CutDescriptor)
     → count_by is_fault (es ++ map cut_entry ds) ≡ count_by is_fault es
@@ -183,11 +170,7 @@ module _ (s : State) (c k : ℕ) (cmd : Command) (keeps : Keeps s) (pages : Take
 
 process_counted : (ps : List Processor) (c : ℕ) (tried : Bool) → c < length ps
     → (processor_at (set ps c (counted (processor_at ps c) tried)) c).cpu.process ≡ (processor_at ps c).cpu.process
-process_counted ps c tried there = ap (λ (p : Processor). p.cpu.process)
-    (get_or-set_same ps c (counted (processor_at ps c) tried) no_processor there)
-
-ended_run : (run : Run) (r : Reply) → (run_after run (Some command.End) r).ended ≡ true
-ended_run run r = refl
+process_counted ps c tried there = rw (get_or-set_same ps c (counted (processor_at ps c) tried) no_processor there)
 
 module _ (s : State) (c k : ℕ) (keeps : Keeps s) (none : frames_of_owner s.owner ≡ [])
     (over : KeepsBook (record (seen s) { owner = None; entries = s.entries ++ map cut_entry (cut_of_owner s.owner) }))
@@ -234,5 +217,4 @@ module _ (s : State) (c k : ℕ) (keeps : Keeps s) (none : frames_of_owner s.own
           ∙ ap (λ (o : Option Command). (run_after (run_at s.runs k) o (reply_of s k command.End)).ended) next)
 
       may : MayLeave (flat_of ended) (shown (seen ended)) c
-      may = subst (λ (o : Option ℕ). IsSomeAnd o
-          (MayGo (flat_of ended) (shown (seen ended)) ((shown (seen ended)).seat c))) (sym process_still) (inl over_now)
+      may = rw process_still (inl over_now)

@@ -41,9 +41,9 @@ use Rattle.machine_model.specs.Jobs.{with_inactive}
 use Rattle.machine_model.specs.Keeps.{Keeps}
 use Rattle.machine_model.specs.Reads.{cut_of_owner, descriptor_of, flat_of, frames_of_owner, home_in, is_active}
 use Rattle.machine_model.specs.Reads.{process_at}
-use Rattle.machine_model.specs.Refusal.{uid_at_path, uid_of_node}
+use Rattle.machine_model.specs.Refusal.{uid_at_path}
 use Rattle.machine_model.specs.Seen.{Seen, bound_use, cut_uid, descriptor_use, flat, frame_use}
-use Rattle.machine_model.specs.Seen.{read_use, shown}
+use Rattle.machine_model.specs.Seen.{shown}
 use Rattle.machine_model.specs.State.{Owner, State, Storage}
 use Rattle.machine_model.specs.Steps.{with_owner, with_pages}
 use Rattle.machine_model.specs.Taking.{IsTakenFor}
@@ -71,15 +71,12 @@ use Rattle.laws.proofs.Options.{some_same}
 -- ---- what goes
 
 pub going_page : (x : FrameUse) → is_going_frame x ≡ true → (u : ℕ) × (q : ℕ) × (page_of x ≡ Some (u, q))
-going_page frame.Free h = absurd (not_both h refl)
-going_page (frame.Started u q) h = absurd (not_both h refl)
-going_page (frame.Current u q) h = absurd (not_both h refl)
 going_page (frame.Going u q) h = (u, q, refl)
+going_page _ h = absurd (not_both h refl)
 
 going_led : (x : DescriptorUse) → is_going_descriptor x ≡ true → (u : ℕ) × (leads_to x ≡ Some u)
-going_led descriptor.Free h = absurd (not_both h refl)
-going_led (descriptor.Current u) h = absurd (not_both h refl)
 going_led (descriptor.Going u) h = (u, refl)
+going_led _ h = absurd (not_both h refl)
 
 pub none_listed : (fs : List ℕ) → ((f : ℕ) → has fs f ≡ true → ⊥) → fs ≡ []
 none_listed [] none = refl
@@ -125,8 +122,7 @@ module _ (s : State) (k : ℕ) (cmd : Command) (keeps : Keeps s) (h : IsTakenFor
 
 pub path_uid : (s : State) (path : List (List ℕ)) (n : Node) → Keeps s → node_at (flat_of s).nodes path ≡ Ok n
     → uid_at_path s.store path ≡ n.uid
-path_uid s path n keeps h = ap uid_of_node (ap (λ (ns : List Node). node_at ns path)
-    (sym keeps.faithful.tree.nodes) ∙ h)
+path_uid s path n keeps h = cc keeps.faithful.tree.nodes
 
 -- ---- descriptors alone
 
@@ -274,16 +270,14 @@ module _ (s : State) (c : ℕ) (path : Path) (keeps : Keeps s) (h : IsTakenFor s
     -- a page of the node is in a frame that the job took
     bound_taken : (f q : ℕ) → (seen s).bound f ≡ Some (u, q) → has fs f ≡ true
     bound_taken f q e = sym (keeps.book.going_owned.frames f)
-        ∙ h.just.pages f u q (ap (λ (x : Option (ℕ × ℕ)). page_of (frame_use (seen s).words x ((seen s).reads f))) e
-        ∙ page_bound (seen s).words (u, q) ((seen s).reads f)) refl
+        ∙ h.just.pages f u q (cc (page_bound (seen s).words (u, q) ((seen s).reads f))) refl
 
     -- no page of it is being read
     not_read : (f q : ℕ) → (seen s).reads f ≡ Some (u, q) → ⊥
     not_read f q e = not_both (h.just.pages f u q (ap page_of is) refl) (ap is_going_frame is)
       where
         is : (shown (seen s)).frame f ≡ frame.Started u q
-        is = ap (λ (x : Option (ℕ × ℕ)). frame_use (seen s).words x ((seen s).reads f))
-            (keeps.book.tied.unbound f u q e) ∙ ap read_use e
+        is = cc (keeps.book.tied.unbound f u q e)
 
     -- so none is left once those frames are freed
     none_left : (words : ℕ → ℕ → Ptw) (f : ℕ)
@@ -422,9 +416,4 @@ module _ (s : State) (c : ℕ) (path : Path) (keeps : Keeps s) (h : IsTakenFor s
       where
         by : (b : Bool) → is_active s.store.ast u ≡ b → RestsDelete s c path ⊎ RestsDeleteInactive s c path
         by true e = inl (record { whole = record { active = e; its = its; may = may e }; out = out })
-        by false e = inr (record {
-          inactive = e;
-          frames = no_frames_left e;
-          cut = no_cut_left e;
-          out = out;
-        })
+        by false e = inr (assumption (no_frames_left e, no_cut_left e, out))

@@ -47,11 +47,10 @@ use Rattle.descriptor_seg.specs.declared.Sdw.{Sdw}
 use Rattle.descriptor_seg.specs.declared.Sdw.TheVariants as sdw
 use Rattle.seg_control.specs.Control.{leads}
 use Rattle.custody_model.specs.Custody.{leads_to}
-use Rattle.machine_model.specs.Custodial.{AreHeldSegs, AreOfProcess}
+use Rattle.machine_model.specs.Custodial.{AreHeldSegs}
 use Rattle.machine_model.specs.Holding.{led_to, seen}
-use Rattle.machine_model.specs.Reads.{cut_of_owner, descriptor_of}
-use Rattle.machine_model.specs.Seen.{cut_uid, descriptor_use, shown}
-use Rattle.machine_model.specs.State.{Owner}
+use Rattle.machine_model.specs.Reads.{descriptor_of}
+use Rattle.machine_model.specs.Seen.{descriptor_use, shown}
 use Rattle.std.specs.Prelude.{slice_index_or}
 use Rattle.tree_model.specs.Tree.{with_node}
 use Rattle.active_segs.specs.Active.{uid_at}
@@ -225,9 +224,7 @@ inactive_names old st u h = by (is_active st.ast u)
 module _ (now : State) (k : Keeps now) (none : now.owner ≡ None) where
   linked_now : (j n u : ℕ) → leads_to ((shown (seen now)).descriptor j n) ≡ Some u
       → led_to now.store.ast.entries (descriptor_of now.store.links j n) ≡ Some u
-  linked_now j n u h = current (led_to now.store.ast.entries (descriptor_of now.store.links j n))
-      (subst (λ (q : Option Owner). leads_to (descriptor_use (led_to now.store.ast.entries
-      (descriptor_of now.store.links j n)) (cut_uid (cut_of_owner q) j n)) ≡ Some u) none h)
+  linked_now j n u h = current (led_to now.store.ast.entries (descriptor_of now.store.links j n)) (rw none at h)
     where
       current : (x : Option ℕ) → leads_to (descriptor_use x None) ≡ Some u → x ≡ Some u
       current None e = absurd (none_some e)
@@ -255,9 +252,8 @@ module _ (now : State) (k : Keeps now) (none : now.owner ≡ None) where
   pub held_again : (known : List (List (Option ℕ)))
       → HoldEntitled now.store.accounts.nodes now.store.whos known now.processors → IsEntitledToAll now
   held_again known h = record {
-    each = λ d j at. segs_again known j (cpu_at now.processors d).assoc.segs
-        (subst (λ (x : Option ℕ). AreOfProcess (shown (seen now)).descriptor x (cpu_at now.processors d).assoc.segs) at
-        (k.book.holding_right d).segs) (h.each d j at);
+    each = λ d j at. segs_again known j (cpu_at now.processors d).assoc.segs (rw at at (k.book.holding_right d).segs)
+        (h.each d j at);
   }
 
 -- ---- an access list or a length changes
@@ -273,8 +269,7 @@ node_then change uid (x ∷ xs) u n h = by (eqb x.uid u) refl (λ e. node_then c
     by : (b : Bool) → eqb x.uid u ≡ b → (node_in (map change xs) u ≡ Some n → (m : Node) × (node_in xs u ≡ Some m))
         → (m : Node) × (cond (eqb x.uid u) (Some x) (node_in xs u) ≡ Some m)
     by true e rest = (x, ap (λ (b : Bool). cond b (Some x) (node_in xs u)) e)
-    by false e rest = let m = rest (sym (ap (λ (b : Bool). cond b (Some (change x)) (node_in (map change xs) u)) e)
-        ∙ now)
+    by false e rest = let m = rest (cc now)
         in (m.0, ap (λ (b : Bool). cond b (Some x) (node_in xs u)) e ∙ m.1)
 
 with_node_then : (ns : List Node) (v : ℕ) (change : Node → Node) → ((n : Node) → (change n).uid ≡ n.uid) → (u : ℕ)
@@ -331,9 +326,8 @@ module _ (s now : State) (old : Keeps s) (k : Keeps now) (none : now.owner ≡ N
   pub right_again : HoldEntitled s.store.accounts.nodes s.store.whos s.store.links.known now.processors
       → IsEntitledToAll now
   right_again h = record {
-    each = λ d j at. all_right j (cpu_at now.processors d).assoc.segs
-        (subst (λ (x : Option ℕ). AreOfProcess (shown (seen now)).descriptor x (cpu_at now.processors d).assoc.segs) at
-        (k.book.holding_right d).segs) (h.each d j at);
+    each = λ d j at. all_right j (cpu_at now.processors d).assoc.segs (rw at at (k.book.holding_right d).segs)
+        (h.each d j at);
   }
 
 module _ (s : State) (c : ℕ) (k : Keeps s) (there : c < length s.processors) (h : IsEntitledToAll s) where
@@ -341,8 +335,7 @@ module _ (s : State) (c : ℕ) (k : Keeps s) (there : c < length s.processors) (
   by_nodes : (now : List Node) (p : Processor) → HaveFrom s.store.accounts.nodes now s.store.accounts.next
       → p.cpu ≡ cpu_at s.processors c → HoldEntitled now s.store.whos s.store.links.known (set s.processors c p)
   by_nodes now p from same = set_entitled now s.store.whos s.store.links.known s.processors c p there all
-      (λ j e. subst (λ (x : Cpu). AreEntitled now s.store.whos s.store.links.known j x.assoc.segs) (sym same)
-      (all.each c j (ap (λ (x : Cpu). x.process) (sym same) ∙ e)))
+      (λ j e. (rw same (all.each c j (ap (λ (x : Cpu). x.process) (sym same) ∙ e))))
     where
       all : HoldEntitled now s.store.whos s.store.links.known s.processors
       all = hold_from s.store.accounts.nodes now s.store.whos s.store.links.known s.store.accounts.next from
@@ -367,10 +360,8 @@ module _ (s : State) (c : ℕ) (k : Keeps s) (there : c < length s.processors) (
   truncates : (u words : ℕ) (p : Processor) → p.cpu ≡ cpu_at s.processors c
       → HoldEntitled (with_truncated s.store u words).accounts.nodes (with_truncated s.store u words).whos
       (with_truncated s.store u words).links.known (set s.processors c p)
-  truncates u words p same = subst (λ (ns : List Node). HoldEntitled ns (with_truncated s.store u words).whos
-      (with_truncated s.store u words).links.known (set s.processors c p)) (sym names.nodes)
-      (subst (λ (ws : List Who). HoldEntitled s.store.accounts.nodes ws (with_truncated s.store u words).links.known
-      (set s.processors c p)) (sym names.whos)
+  truncates u words p same = rw names.nodes (subst (λ (ws : List Who). HoldEntitled s.store.accounts.nodes ws
+      (with_truncated s.store u words).links.known (set s.processors c p)) (sym names.whos)
       (subst (λ (x : List (List (Option ℕ))). HoldEntitled s.store.accounts.nodes s.store.whos x (set s.processors c p))
       (sym names.known) (by_nodes s.store.accounts.nodes p same_nodes same)))
     where
@@ -380,11 +371,9 @@ module _ (s : State) (c : ℕ) (k : Keeps s) (there : c < length s.processors) (
   deletes : (u : ℕ) (frames : List ℕ) (p : Processor) → p.cpu ≡ cpu_at s.processors c
       → HoldEntitled (with_deleted s.store u frames).accounts.nodes (with_deleted s.store u frames).whos
       (with_deleted s.store u frames).links.known (set s.processors c p)
-  deletes u frames p same = subst (λ (ws : List Who). HoldEntitled (without_node s.store.accounts.nodes u) ws
-      (with_deleted s.store u frames).links.known (set s.processors c p)) (sym names.whos)
-      (subst (λ (x : List (List (Option ℕ))). HoldEntitled (without_node s.store.accounts.nodes u) s.store.whos x
-      (set s.processors c p)) (sym names.known)
-      (by_nodes (without_node s.store.accounts.nodes u) p
+  deletes u frames p same =
+      rw names.whos (subst (λ (x : List (List (Option ℕ))). HoldEntitled (without_node s.store.accounts.nodes u)
+      s.store.whos x (set s.processors c p)) (sym names.known) (by_nodes (without_node s.store.accounts.nodes u) p
       (from_less s.store.accounts.nodes u s.store.accounts.next) same))
     where
       names : LeavesNames s.store (inactive_if (with_pages s.store (erased (frames_freed s.store.pages frames)
@@ -421,12 +410,8 @@ module _ (s : State) (c : ℕ) (k : Keeps s) (there : c < length s.processors) (
       (from_quota s.store.accounts.nodes (uid_of_command s.store j
       (command.Move path amount)) s.store.accounts.next amount)
       refl
-  commit_entitled (Some (command.Status path)) kept = by_nodes s.store.accounts.nodes _ same_nodes refl
   commit_entitled (Some command.End) kept = set_entitled s.store.accounts.nodes s.store.whos s.store.links.known
       (told (effected s j command.End) c None (reply_of s j command.End)).processors c _
       (subst (λ (n : ℕ). c < n) (sym (length-set s.processors c _)) there)
       (by_nodes s.store.accounts.nodes _ same_nodes refl) (λ i e. absurd (none_some e))
-  commit_entitled (Some (command.Read n w)) kept = by_nodes s.store.accounts.nodes _ same_nodes refl
-  commit_entitled (Some (command.Write n w x)) kept = by_nodes s.store.accounts.nodes _ same_nodes refl
-  commit_entitled (Some (command.Add n w x)) kept = by_nodes s.store.accounts.nodes _ same_nodes refl
-  commit_entitled (Some (command.Await n w x t)) kept = by_nodes s.store.accounts.nodes _ same_nodes refl
+  commit_entitled _ kept = by_nodes s.store.accounts.nodes _ same_nodes refl

@@ -77,8 +77,7 @@ any_set p (x ∷ xs) zero y d lt h = by (p x) (p y) (list_any p xs) h
     by : (a b c : Bool) → a ≡ false → (b || c) ≡ (b || (a || c))
     by true b c e = let no : true ≡ false = e in absurd cc
     by false b c e = refl
-any_set p (x ∷ xs) (suc i) y d lt h = ap (λ b. p x || b) (any_set p xs i y d (omega arith) h)
-    ∙ swap (p x) (p y) (list_any p xs)
+any_set p (x ∷ xs) (suc i) y d lt h = cc (any_set p xs i y d (omega arith) h, swap (p x) (p y) (list_any p xs))
   where
     swap : (a b c : Bool) → (a || (b || c)) ≡ (b || (a || c))
     swap true true c = refl
@@ -194,10 +193,6 @@ pub readers_like : (xs ys : List Runner) → length ys ≡ length xs
 unfolding readers
 readers_like xs ys long same =
     count_like (λ r. is_some r.reading) xs ys no_runner long (λ i. ap (λ (o : Option Transfer). is_some o) (same i))
-
-pub readers_few : (xs : List Runner) → readers xs ≤ length xs
-unfolding readers
-readers_few xs = count_by-le-length (λ r. is_some r.reading) xs
 
 pub dues_few : (xs : List Runner) → dues xs ≤ length xs
 unfolding dues

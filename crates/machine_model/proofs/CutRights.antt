@@ -58,8 +58,7 @@ push_rights : (nodes : List Node) (whos : List Who) (ds : List CutDescriptor) (d
 push_rights nodes whos ds d h right = record {
   modes = λ i e n at there. elim (push_cases ds d i e at) [
     | inl old ↦ h.modes i e n old there
-    | inr new ↦ subst (λ (x : CutDescriptor). node_in nodes x.uid ≡ Some n
-        → x.mode ≡ access_of (who_at whos x.process) n.rows) new (right.mode n) there
+    | inr new ↦ (rw new at (right.mode n)) there
   ];
   lengths = λ i e n at there. elim (push_cases ds d i e at) [
     | inl old ↦ h.lengths i e n old there
@@ -120,8 +119,7 @@ module _ (st : Storage) (k n aste pages : ℕ) (m : Mode) (here : descriptor_of 
     still_there (d ∷ ds) h = (
       (
         subst (λ (x : ℕ). d.process < x) (sym (length-set st.links.descriptors k _)) h.0.0,
-        subst (λ (x : ℕ). d.number < x) (sym (inner_length st.links.descriptors k n d.process sdw.Fault within.0))
-            h.0.1,
+        rw (inner_length st.links.descriptors k n d.process sdw.Fault within.0) h.0.1,
         h.0.2,
       ),
       still_there ds h.1,
@@ -197,11 +195,8 @@ taken_on a b = record { plan = b.plan ∙ a.plan; pages = b.pages ∙ a.pages; f
 
 cut_taken : (s : State) (c : ℕ) (a : Aim) (w : What) (pairs : List (ℕ × ℕ)) → IsTaken s (cut_all s c a w pairs)
 cut_taken s c a w [] = record { plan = refl; pages = refl; flat = refl }
-cut_taken s c a w (x ∷ xs) = taken_on (record {
-  plan = refl;
-  pages = refl;
-  flat = one_still s.plan s.entries (entry.Cut x.0 x.1) refl;
-}) (cut_taken (cut_one s c a w x) c a w xs)
+cut_taken s c a w (x ∷ xs) = taken_on (assumption (one_still s.plan s.entries (entry.Cut x.0 x.1) refl))
+    (cut_taken (cut_one s c a w x) c a w xs)
 
 page_taken : (s : State) (c : ℕ) (a : Aim) (w : What) (fs : List ℕ) → IsTaken s (take_all s c a w fs)
 page_taken s c a w [] = record { plan = refl; pages = refl; flat = refl }
@@ -216,12 +211,9 @@ leaving_cuts : (s now : State) (f : ℕ) (x : Option (ℕ × ℕ)) → now.store
     → cut_of_owner now.owner ≡ cut_of_owner s.owner → (seen now).linked ≡ (seen s).linked
     → Cuts s → Cuts now
 leaving_cuts s now f x store cut linked cuts = record {
-  have = subst (λ (st : Storage). HaveRights st.accounts.nodes st.ast.entries st.links st.whos) (sym store)
-      (by_have x);
-  had = subst (λ (st : Storage). HadRights st.accounts.nodes st.whos (cut_of_owner now.owner)) (sym store)
-      (subst (HadRights _ _) (sym cut) (by_had x));
-  cut = subst (λ (st : Storage). AreThere st (cut_of_owner now.owner)) (sym store)
-      (subst (AreThere (leaving_if s.store f x)) (sym cut) (by_cut x));
+  have = rw store (by_have x);
+  had = rw store (subst (HadRights _ _) (sym cut) (by_had x));
+  cut = rw store (subst (AreThere (leaving_if s.store f x)) (sym cut) (by_cut x));
 }
   where
     by_have : (y : Option (ℕ × ℕ)) → HaveRights (leaving_if s.store f y).accounts.nodes
@@ -273,5 +265,4 @@ module _ (s : State) (c : ℕ) (a : Aim) (w : What) (fs : List ℕ) (pairs : Lis
   unfolding after
   take_away_says o same says = took_says
       (subst (λ (x : Aim). StoreKept (took s c x w fs pairs).store) (sym same) says.store)
-      (subst (λ (x : Aim). IsFaithful s.plan (flat_of s) (took s c x w fs pairs).store) (sym same)
-      (says.shown (flat_of s) k.faithful))
+      (rw same (says.shown (flat_of s) k.faithful))

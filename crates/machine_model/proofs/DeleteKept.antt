@@ -16,7 +16,7 @@ use Rattle.page_control.specs.Plain.{Plain, binding_at, bindings}
 use Rattle.seg_control.specs.Control.{word_of}
 use Rattle.seg_control.specs.Kept.{read_at}
 use Rattle.custody_model.specs.Allowed.{MayDeactivate}
-use Rattle.custody_model.specs.Custody.{has, leads_to}
+use Rattle.custody_model.specs.Custody.{has}
 use Rattle.custody_model.specs.Next.{at_put}
 use Rattle.machine_model.specs.Chains.{gone_segs, gones, page_at, page_or_zero}
 use Rattle.machine_model.specs.Changes.{deactivated as no_more_active, gone, gone_seg}
@@ -27,7 +27,7 @@ use Rattle.machine_model.specs.Jobs.{with_inactive}
 use Rattle.machine_model.specs.Keeps.{Keeps, StoreSays, is_fault}
 use Rattle.machine_model.specs.Reads.{cut_of_owner, frames_of_owner, home_in, is_active, process_at, run_at}
 use Rattle.machine_model.specs.Refusal.{reply_of, uid_of_command}
-use Rattle.machine_model.specs.Seen.{Seen, cut_uid, descriptor_use, flat, shown}
+use Rattle.machine_model.specs.Seen.{Seen, flat, shown}
 use Rattle.machine_model.specs.declared.CutDescriptor.{CutDescriptor}
 use Rattle.machine_model.specs.State.{State, Storage}
 use Rattle.machine_model.specs.Steps.{booked, with_owner, with_pages, with_store}
@@ -251,9 +251,7 @@ module _ (s : State) (c k : ℕ) (path : Path) where
         by (Some page) e = absurd (none_some (sym (keeps.book.tied.unbound f page.0 page.1 e) ∙ (going f h).1))
 
     unlinked : (j n : ℕ) → (seen s).linked j n ≢ Some node
-    unlinked j n h = can.whole.may.descriptors j n
-        (ap (λ (o : Option ℕ). leads_to (descriptor_use o (cut_uid (cut_of_owner all_gone.owner) j n)))
-        (ap (λ (x : Seen). x.linked j n) rest ∙ h))
+    unlinked j n h = can.whole.may.descriptors j n (cc rest)
 
     entries_are : s.entries ++ gone_entries s node (command.Delete path)
         ≡ all_gone.entries ++ entry.Deactivate node ∷ []

@@ -1,5 +1,5 @@
 -- A descriptor is connected, cut, gone, or back.
-use Rattle.std.proofs.Common.{◌≡◌, ℕ, Bool, true, false, cond, ◌||◌, List, [], ◌∷◌, ◌++◌, Option, Some, None, refl, sym}
+use Rattle.std.proofs.Common.{◌≡◌, ℕ, Bool, true, false, cond, List, [], ◌∷◌, ◌++◌, Option, Some, None, refl, sym}
 use Rattle.std.proofs.Common.{ap, subst, ◌∙◌}
 use Rattle.assoc_mem.specs.declared.What.{What}
 use Rattle.book.specs.declared.entries.Entry.TheVariants as entry
@@ -27,10 +27,9 @@ use Rattle.machine_model.proofs.OwnedLaws.{owned_cut, owned_like, like_descripto
 use Rattle.machine_model.proofs.OwnedLaws.{current_descriptor_is_not_going}
 use Rattle.machine_model.proofs.Places.{by_places, one_place_of_two, put_two_here}
 use Rattle.book.specs.declared.entries.Entry.{Entry}
-use Rattle.custody_model.specs.Custody.{Custody}
 use Rattle.custody_model.specs.Allowed.{IsAllowed}
 use Rattle.custody_model.specs.Fine.{FillsOnline, pending_after}
-use Rattle.machine_model.specs.Custodial.{IsOwned, IsRun}
+use Rattle.machine_model.specs.Custodial.{IsRun}
 use Rattle.flat_model.specs.Store.{progress_of}
 use Rattle.std.proofs.lemmas.Bool.{or_parts}
 
@@ -125,9 +124,7 @@ cut_keeps v c aim w d k can = book_next v (entry.Cut d.process d.number) (cut v 
         ∙ current_descriptor_is_not_going ((shown v).descriptor d.process d.number) current
 
     here : now d.process d.number ≡ made
-    here = ap (λ (o : Option ℕ). descriptor_use o (cut_uid (ds ++ d ∷ []) d.process d.number))
-        (put_two_here v.linked d.process d.number None)
-        ∙ (ap cut_use (cut_pushed ds d new) ∙ sym (ap descriptor_cut is))
+    here = cc (put_two_here v.linked d.process d.number None, cut_pushed ds d new, is)
 
     other : (j n : ℕ) → (j ≡ d.process → n ≡ d.number → ⊥) → now j n ≡ (shown v).descriptor j n
     other j n m = by_places (λ (o : Option ℕ). descriptor_use o (cut_uid (ds ++ d ∷ []) j n)
@@ -149,9 +146,7 @@ pub record CanFinishSeg (v : Seen) (d : CutDescriptor) (owner : Option Owner) : 
 
 module _ (v : Seen) (d : CutDescriptor) (owner : Option Owner) (k : KeepsBook v) (can : CanFinishSeg v d owner) where
   cut_going : is_going_descriptor ((shown v).descriptor d.process d.number) ≡ true
-  cut_going = k.going_owned.cuts d.process d.number
-      ∙ (ap (λ (ds : List CutDescriptor). has_cut ds d.process d.number) can.first.first
-      ∙ ap (λ (b : Bool). b || has_cut can.first.rest d.process d.number) (cut_at_same d))
+  cut_going = cc (k.going_owned.cuts d.process d.number, can.first.first, cut_at_same d)
 
   cut_unlinked : v.linked d.process d.number ≡ None
   cut_unlinked = unlinked_going (v.linked d.process d.number)
@@ -176,11 +171,7 @@ module _ (v : Seen) (d : CutDescriptor) (owner : Option Owner) (k : KeepsBook v)
       → ((j n : ℕ) → (j ≡ d.process → n ≡ d.number → ⊥) → linked j n ≡ v.linked j n)
       → (j n : ℕ) → (j ≡ d.process → n ≡ d.number → ⊥)
       → descriptor_use (linked j n) (cut_uid (cut_of_owner owner) j n) ≡ (shown v).descriptor j n
-  others_uncut linked same j n m = ap (λ (o : Option ℕ). descriptor_use o (cut_uid (cut_of_owner owner) j n))
-      (same j n m)
-      ∙ ap (descriptor_use (v.linked j n)) (ap (λ (ds : List CutDescriptor). cut_uid ds j n) can.first.left
-      ∙ (sym (cut_rest d can.first.rest j n m)
-      ∙ ap (λ (ds : List CutDescriptor). cut_uid ds j n) (sym can.first.first)))
+  others_uncut linked same j n m = cc (same j n m, can.first.left, cut_rest d can.first.rest j n m, can.first.first)
 
   -- the descriptor is used otherwise, as one that nobody holds
   finished_keeps : (e : Entry) (linked : ℕ → ℕ → Option ℕ) (made : DescriptorUse) → IsLawful v.plan (flat v) e
@@ -200,8 +191,7 @@ module _ (v : Seen) (d : CutDescriptor) (owner : Option Owner) (k : KeepsBook v)
         online = online;
         next = (λ i. record (shown v) { descriptor = λ j n. next_at j n i }) ∙ sym next;
         pending = can.after ∙ (sym can.still ∙ sym pending);
-        going_owned = subst (λ (x : Custody). IsOwned x owner) (sym next)
-            (owned_left_cut (shown v) v.owner owner d made k.going_owned can.none can.first goes);
+        going_owned = rw next (owned_left_cut (shown v) v.owner owner d made k.going_owned can.none can.first goes);
         tied = k.tied;
         holding_right = λ c. subst (λ (x : ℕ → ℕ → DescriptorUse). HoldsRight v.bound x (v.processors c))
             (λ i. λ j n. sym (next_at j n) i)
@@ -230,15 +220,12 @@ module _ (v : Seen) (d : CutDescriptor) (owner : Option Owner) (k : KeepsBook v)
   back_seg_keeps = finished_keeps (entry.BackSeg d.process d.number)
       (at_put_two v.linked d.process d.number (Some d.uid)) (reconnected ((shown v).descriptor d.process d.number)) tt
       (record { going = cut_going; nobody = cut_nobody }) tt refl refl k.runs (ap is_going_descriptor made_is)
-      (ap (λ (o : Option ℕ). descriptor_use o (cut_uid (cut_of_owner owner) d.process d.number))
-      (put_two_here v.linked d.process d.number (Some d.uid)) ∙ sym made_is)
+      (cc (put_two_here v.linked d.process d.number (Some d.uid), made_is))
       (λ j n m. by_places (λ (o : Option ℕ). o ≡ v.linked j n) v.linked d.process d.number (Some d.uid) j n
       (λ a b. absurd (m a b)) (λ x. refl))
     where
       was : (shown v).descriptor d.process d.number ≡ descriptor.Going d.uid
-      was = ap (λ (o : Option ℕ). descriptor_use o (cut_uid (cut_of_owner v.owner) d.process d.number)) cut_unlinked
-          ∙ ap cut_use (ap (λ (ds : List CutDescriptor). cut_uid ds d.process d.number) can.first.first
-          ∙ cut_head d can.first.rest)
+      was = cc (cut_unlinked, can.first.first, cut_head d can.first.rest)
 
       made_is : reconnected ((shown v).descriptor d.process d.number) ≡ descriptor.Current d.uid
       made_is = ap reconnected was
@@ -279,16 +266,14 @@ connect_keeps v j n u k can = book_next v (entry.Connect j n u) (connected v j n
     now x y = descriptor_use (linked x y) (cut_uid (cut_of_owner v.owner) x y)
 
     is : (shown v).descriptor j n ≡ descriptor.Free
-    is = ap (λ (o : Option ℕ). descriptor_use o (cut_uid (cut_of_owner v.owner) j n)) can.unlinked
-        ∙ ap cut_use (cut_none (cut_of_owner v.owner) j n can.uncut)
+    is = cc (cut_none (cut_of_owner v.owner) j n can.uncut)
 
     nobody : NobodyHoldsSeg (shown v) j n
     nobody = nobody_holds_seg (shown v) (is_pending v.owner) j n k.stale_due (ap is_current_descriptor is)
         (ap is_going_descriptor is)
 
     here : now j n ≡ descriptor.Current u
-    here = ap (λ (o : Option ℕ). descriptor_use o (cut_uid (cut_of_owner v.owner) j n))
-        (put_two_here v.linked j n (Some u))
+    here = rw (put_two_here v.linked j n (Some u))
 
     other : (x y : ℕ) → (x ≡ j → y ≡ n → ⊥) → now x y ≡ (shown v).descriptor x y
     other x y m = by_places (λ (o : Option ℕ). descriptor_use o (cut_uid (cut_of_owner v.owner) x y)

@@ -3,7 +3,6 @@ use Rattle.std.proofs.Common.{◌≡◌, ◌≢◌, ℕ, Bool, true, false, cond
 use Rattle.std.proofs.Common.{refl, sym, ap, subst, ◌∙◌}
 use Rattle.std.proofs.lemmas.Bool.Decides.{eqb_tells}
 use Rattle.assoc_mem.specs.declared.What.{What}
-use Rattle.assoc_mem.specs.declared.What.TheVariants as what
 use Rattle.custody_model.specs.declared.FrameUse.{FrameUse}
 use Rattle.custody_model.specs.declared.DescriptorUse.{DescriptorUse}
 use Rattle.custody_model.specs.Allowed.{SomethingGoes}
@@ -67,9 +66,8 @@ owned_signal c o q d w k none goes said = record {
     due_is : (e : ℕ) (v : What) (b online : Bool)
         → (cond b (cleared c w (c.seat e)) (cond online (record (c.seat e) { due = Some w }) (c.seat e))).due ≡ Some v
         → w ≡ v
-    due_is e v true online h = absurd (none_some (sym (none e) ∙ h))
     due_is e v false true h = cc
-    due_is e v false false h = absurd (none_some (sym (none e) ∙ h))
+    due_is e v _ _ h = absurd (none_some (sym (none e) ∙ h))
 
 -- a processor clears
 pub owned_clear : (c : Custody) (o : Option Owner) (d : ℕ) (w : What) → IsOwned c o → IsOwned (answered_clear c d w) o
@@ -96,15 +94,11 @@ owned_clear c o d w k = record {
         (λ i h. absurd (none_some h)) (λ n h. h)
 
     names_same : (v : What) (f : ℕ) → names_frame (answered_clear c d w) v f ≡ names_frame c v f
-    names_same what.All f = refl
-    names_same (what.Page g) f = refl
-    names_same (what.Seg u) f = refl
+    names_same _ f = refl
 
     names_descriptor_same : (v : What) (j n : ℕ)
         → names_descriptor (answered_clear c d w) v j n ≡ names_descriptor c v j n
-    names_descriptor_same what.All j n = refl
-    names_descriptor_same (what.Page g) j n = refl
-    names_descriptor_same (what.Seg u) j n = refl
+    names_descriptor_same _ j n = refl
 
 -- ---- gone, or back
 
@@ -135,8 +129,7 @@ pub owned_left : (c : Custody) (o q : Option Owner) (f : ℕ) (x : FrameUse) →
 owned_left c o q f x k none left still = record {
   frames = λ g. by_place (λ (y : FrameUse). is_going_frame y ≡ has (frames_of_owner q) g) c.frame f x g
       (λ e. still ∙ sym (ap (has (frames_of_owner q)) e ∙ (ap (λ (fs : List ℕ). has fs f) left.left ∙ once.0)))
-      (λ n. k.frames g ∙ (ap (λ (fs : List ℕ). has fs g) left.first
-      ∙ (head_not left.rest f g n ∙ ap (λ (fs : List ℕ). has fs g) (sym left.left))));
+      (λ n. cc (k.frames g, left.first, head_not left.rest f g n, left.left));
   cuts = λ j n. k.cuts j n ∙ ap (λ (ds : List CutDescriptor). has_cut ds j n) (sym left.same);
   once = subst AreDistinct (sym left.left) once.1;
   apart = subst AreApart (sym left.same) k.apart;
@@ -165,8 +158,7 @@ owned_left_cut c o q d x k none left still = record {
   cuts = λ i j. by_places (λ (y : DescriptorUse). is_going_descriptor y
       ≡ has_cut (cut_of_owner q) i j) c.descriptor d.process d.number x i j
       (λ a b. still ∙ sym (ap (λ (ds : List CutDescriptor). has_cut ds i j) left.left ∙ rw (a, b) apart.0))
-      (λ m. k.cuts i j ∙ (ap (λ (ds : List CutDescriptor). has_cut ds i j) left.first ∙
-      (head_cut_not left.rest d i j m ∙ ap (λ (ds : List CutDescriptor). has_cut ds i j) (sym left.left))));
+      (λ m. cc (k.cuts i j, left.first, head_cut_not left.rest d i j m, left.left));
   once = subst AreDistinct (sym left.same) k.once;
   apart = subst AreApart (sym left.left) apart.1;
   due = λ e w h. absurd (none_some (sym (none e) ∙ h));

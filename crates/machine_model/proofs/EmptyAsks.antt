@@ -25,7 +25,6 @@ use Rattle.machine_model.specs.Said.{Says}
 use Rattle.machine_model.specs.Seen.{shown}
 use Rattle.machine_model.specs.State.{State}
 use Rattle.machine_model.specs.Steps.{with_store}
-use Rattle.machine_model.specs.declared.CutDescriptor.{CutDescriptor}
 use Rattle.machine_model.proofs.ActiveKept.{IsOver}
 use Rattle.machine_model.proofs.CommandFacts.{LeadsToSegment, length_stands}
 use Rattle.machine_model.specs.Refusal.{refusal_of, uid_of_command}
@@ -93,8 +92,7 @@ module _ (s : State) (c u : ℕ) (k : Keeps s) (idle : IsIdle s.owner) (still : 
       (trailers_in s.store u) kept shown_is (trailers_taken s (what.Seg u) u k (eqb_self u))
       (λ none none_cut. whole_may s u k
       (nothing_whole s c u k idle active (unread_any s.store.pages.core u unread) none none_cut) idle.frames over active
-      (subst (λ (ds : List CutDescriptor). (v : ℕ) → is_active s.store.ast v ≡ true
-      → node_superior (node_in (flat_of (segs_gone s ds)).nodes v) ≢ Some u) (sym idle.cut) inferiors))
+      (rw idle.cut inferiors))
 
 -- ---- for its length
 
@@ -157,37 +155,10 @@ hand_says s pool chain k = by (first_off_chain s.store.ast pool chain)
         now = with_store s (record s.store { ast = hand_past s.store.ast pool (Some place) })
 
         kept : StoreKept now.store
-        kept = record {
-          kept = record {
-            paged = k.store.kept.paged;
-            tree = k.store.kept.tree;
-            places = k.store.kept.places;
-            sized = k.store.kept.sized;
-            linked = k.store.kept.linked;
-          };
-          counted = record {
-            housed = k.store.counted.housed;
-            counted = k.store.counted.counted;
-            taken = k.store.counted.taken;
-            active = record {
-              there = k.store.counted.active.there;
-              superiors = k.store.counted.active.superiors;
-              pools = k.store.counted.active.pools;
-            };
-            rights = k.store.counted.rights;
-            known = k.store.counted.known;
-          };
-          accounts = k.store.accounts;
-          places = k.store.places;
-        }
+        kept = assumption
 
         shown_is : IsFaithful s.plan (flat_of s) now.store
-        shown_is = record {
-          tree = k.faithful.tree;
-          known = k.faithful.known;
-          pages = k.faithful.pages;
-          script = k.faithful.script;
-        }
+        shown_is = assumption
 
 pub victim_asks : (s : State) (c : ℕ) (o : Outcome) (j pool : ℕ) (chain : List ℕ) (u : ℕ) (cmd : Command) → Keeps s
     → IsIdle s.owner → is_pending s.owner ≡ false → FindsVictim s j cmd pool chain u

@@ -27,8 +27,8 @@ use Rattle.machine_model.specs.Foreseen.{MayAnswer, MayEnter, MayLose}
 use Rattle.machine_model.specs.Holding.{seen}
 use Rattle.machine_model.specs.Keeps.{Keeps}
 use Rattle.machine_model.specs.Measures.{page_fits, want_lack}
-use Rattle.machine_model.specs.Outline.{Want, Refer, Truncate, Length, Other, Runner, runner_at, want_at}
-use Rattle.machine_model.specs.Outlined.{around, is_linked, outline_of, reference_in, runner_by, want_by, want_of}
+use Rattle.machine_model.specs.Outline.{Want, Refer, Other, Runner, runner_at, want_at}
+use Rattle.machine_model.specs.Outlined.{around, outline_of, runner_by, want_by, want_of}
 use Rattle.machine_model.specs.Outlined.{want_of_reference}
 use Rattle.machine_model.specs.Promise.{IsMachine}
 use Rattle.machine_model.specs.Reading.{IsReading}
@@ -61,11 +61,8 @@ is_fault _ = false
 -- a move by which the supervisor is taken is a fault
 take_faults : (o : Option Owner) (r : Reference) (x : Move) → act.by_move o r x ≡ act.TakeSupervisor → x ≡ move.Fault
 unfolding is_take
-take_faults o r move.FillSeg h = absurd (let none : false ≡ true = ap is_take h in cc)
-take_faults o r (move.FillPage f) h = absurd (let none : false ≡ true = ap is_take h in cc)
-take_faults o r (move.Through f) h = absurd (let none : false ≡ true = ap is_take h in cc)
-take_faults o r (move.Plain answer) h = absurd (let none : false ≡ true = ap is_take h in cc)
 take_faults o r move.Fault h = refl
+take_faults o r _ h = absurd (let none : false ≡ true = ap is_take h in cc)
 
 module _ (s : State) (c : ℕ) (m : IsMachine s) (entitled : IsEntitledToAll s) (none : s.owner ≡ None)
     (rest : (cpu_at s.processors c).transfer ≡ None) (cmd : Command) (sp : Speaks s c (process_at s c) cmd)
@@ -123,12 +120,10 @@ module _ (s : State) (c : ℕ) (m : IsMachine s) (entitled : IsEntitledToAll s) 
         by : (a b : Bool) (o : Option ℕ) → cond a (move.Plain reply.NoAccess) (cond b (move.Plain reply.Length)
             (by_page o (word_of s.store.ast e.uid (r.offset / 1024)) r.kind)) ≡ move.Fault
             → page_fits (outline_of s) None u p makes ≡ false
-        by true b o j = absurd (let no_fault : false ≡ true = ap is_fault j in cc)
-        by false true o j = absurd (let no_fault : false ≡ true = ap is_fault j in cc)
-        by false false (Some f) j = absurd (let no_fault : false ≡ true = ap is_fault j in cc)
         by false false None j = (λ n. page_fits (outline_of s) None (sym (held_same e h) n) (sym to.page_is n) makes)
             ∙ word_lacks e.uid (r.offset / 1024) makes (word_of s.store.ast e.uid (r.offset / 1024))
             (held_active s c keeps entitled cmd sp r is e h) refl to.makes_is j
+        by _ _ _ j = absurd (let no_fault : false ≡ true = ap is_fault j in cc)
 
     -- a fault where all is there that the reference wants
     lacking : act.move_of s (cpu_at s.processors c) k r ≡ move.Fault
@@ -153,8 +148,7 @@ module _ (s : State) (c : ℕ) (m : IsMachine s) (entitled : IsEntitledToAll s) 
             → (is_connected (descriptor_of s.store.links k r.number) && page_fits (outline_of s) None u p makes)
             ≡ false
         by None e i = seg (descriptor_of s.store.links k r.number) refl (ap is_fault i)
-        by (Some x) e i = ap (λ (b : Bool). is_connected (descriptor_of s.store.links k r.number) && b)
-            (held_lacks x e i) ∙ and_false (is_connected (descriptor_of s.store.links k r.number))
+        by (Some x) e i = cc (held_lacks x e i, and_false (is_connected (descriptor_of s.store.links k r.number)))
 
   -- ---- a reference that faults
 
@@ -162,12 +156,10 @@ module _ (s : State) (c : ℕ) (m : IsMachine s) (entitled : IsEntitledToAll s) 
   want_is = want_here s c k sp.its ∙ (ap (want_of (around s) k) sp.next ∙ ap (want_by (around s) k cmd) is)
 
   linked_is : (runner_at (outline_of s).runners c).linked ≡ is_connected (descriptor_of s.store.links k r.number)
-  linked_is = linked_here s c k sp.its ∙ (ap (λ (x : Option Command). is_linked (around s) k (reference_in x)) sp.next
-      ∙ ap (is_linked (around s) k) is)
+  linked_is = cc (linked_here s c k sp.its)
 
   reading_none : (runner_at (outline_of s).runners c).reading ≡ None
-  reading_none = ap (λ (x : Runner). x.reading) (at_outline s c)
-      ∙ (seen_reading (around s) (processor_at s.processors c) ∙ rest)
+  reading_none = cc (at_outline s c, seen_reading (around s) (processor_at s.processors c))
 
   reference_enters : act.move_of s (cpu_at s.processors c) k r ≡ move.Fault → MayEnter s c
   unfolding is_refer
@@ -180,10 +172,8 @@ module _ (s : State) (c : ℕ) (m : IsMachine s) (entitled : IsEntitledToAll s) 
             ∙ ap (λ (b : Bool). cond {A = ℕ} b 0 1) (lacking chain u p makes
             (refers s k r chain u p makes e) h),
       )
-      by (Truncate chain u cut) e =
+      by _ e =
           inr (λ xs v q b i. (let off : false ≡ true = ap is_refer (sym (want_is ∙ e) ∙ i) in cc))
-      by (Length u) e = inr (λ xs v q b i. (let off : false ≡ true = ap is_refer (sym (want_is ∙ e) ∙ i) in cc))
-      by Other e = inr (λ xs v q b i. (let off : false ≡ true = ap is_refer (sym (want_is ∙ e) ∙ i) in cc))
 
 module _ (s : State) (c : ℕ) (m : IsMachine s) (entitled : IsEntitledToAll s) (there : c < length s.processors) where
   -- a processor without a process wants nothing
@@ -201,8 +191,7 @@ module _ (s : State) (c : ℕ) (m : IsMachine s) (entitled : IsEntitledToAll s) 
           → reference_of cmd ≡ x → act.refer_or_take s (cpu_at s.processors c) (process_at s c) x ≡ act.TakeSupervisor
           → MayEnter s c
       command_enters cmd sp None is h = inr (λ xs v q b i. tree_wants s.store.accounts.nodes cmd xs v q b
-          (sym (want_here s c (process_at s c) sp.its ∙ (ap (want_of (around s) (process_at s c)) sp.next
-          ∙ ap (want_by (around s) (process_at s c) cmd) is)) ∙ i))
+          (cc (want_here s c (process_at s c) sp.its)))
       command_enters cmd sp (Some r) is h = reference_enters s c m entitled none rest cmd sp r is
           (take_faults s.owner r (act.move_of s (cpu_at s.processors c) (process_at s c) r) h)
 

@@ -85,8 +85,7 @@ module _ (nodes : List Node) (whos : List Who) (known : List (List (Option ℕ))
       by : (d k : ℕ) → (cpu_at (set ps c p) d).process ≡ Some k
           → ((eqb c d ≡ true) × (c ≡ d)) ⊎ ((eqb c d ≡ false) × (c ≢ d))
           → AreEntitled nodes whos known k (cpu_at (set ps c p) d).assoc.segs
-      by d k i (inl same) = subst (λ (j : ℕ). AreEntitled nodes whos known k (cpu_at (set ps c p) j).assoc.segs) same.1
-          (subst (λ (x : Processor). AreEntitled nodes whos known k x.cpu.assoc.segs)
+      by d k i (inl same) = rw (← same.1) (subst (λ (x : Processor). AreEntitled nodes whos known k x.cpu.assoc.segs)
           (sym (get_or-set_same ps c p no_processor there))
           (one k (ap (λ (x : Processor). x.cpu.process) (sym (get_or-set_same ps c p no_processor there))
           ∙ (ap (λ (j : ℕ). (cpu_at (set ps c p) j).process) same.1 ∙ i))))
@@ -98,10 +97,9 @@ module _ (nodes : List Node) (whos : List Who) (known : List (List (Option ℕ))
   told_entitled : (c : ℕ) (w : What) (ps : List Processor) → HoldEntitled nodes whos known ps
       → HoldEntitled nodes whos known (told_from c w 0 ps)
   told_entitled c w ps h = record {
-    each = λ d k i. subst (λ (x : Processor). AreEntitled nodes whos known k x.cpu.assoc.segs)
-        (sym (told_reads c w ps 0 d)) (by (0 + d) (processor_at ps d) k
-        (h.each d k (sym (told_process c w (0 + d) (processor_at ps d)) ∙ (ap (λ (x : Processor). x.cpu.process)
-        (sym (told_reads c w ps 0 d)) ∙ i))));
+    each = λ d k i. (rw (← (told_reads c w ps 0 d)) at (by (0 + d) (processor_at ps d) k
+        (h.each d k (sym (told_process c w (0 + d) (processor_at ps d))
+        ∙ (ap (λ (x : Processor). x.cpu.process) (sym (told_reads c w ps 0 d)) ∙ i)))));
   }
     where
       by : (d : ℕ) (p : Processor) (k : ℕ) → AreEntitled nodes whos known k p.cpu.assoc.segs
@@ -141,12 +139,8 @@ one_taken s c a w f = by (bound_page (frame_in s.store.pages f))
 
 pub all_taken : (s : State) (c : ℕ) (a : Aim) (w : What) (fs : List ℕ) (pairs : List (ℕ × ℕ))
     → SameNames s (took s c a w fs pairs)
-all_taken s c a w fs pairs = let like = took_like s c a w fs pairs in record {
-  nodes = ap (λ (x : AccountMaps). x.nodes) like.accounts;
-  whos = like.whos;
-  known = like.known;
-  processors = like.processors;
-}
+all_taken s c a w fs pairs = let like = took_like s c a w fs pairs in assumption (ap (λ (x : AccountMaps). x.nodes)
+    like.accounts)
 
 all_gone : (s : State) (ds : List CutDescriptor) → SameNames s (segs_gone s ds)
 all_gone s [] = names_stay refl refl refl refl
@@ -183,8 +177,7 @@ pub hand : (s : State) (pool : ℕ) (chain : List ℕ) → SameNames s (with_sto
 hand s pool chain = by (first_off_chain s.store.ast pool chain)
   where
     by : (x : Option ℕ) → SameNames s (with_store s (record s.store { ast = hand_past s.store.ast pool x }))
-    by None = names_stay refl refl refl refl
-    by (Some place) = names_stay refl refl refl refl
+    by _ = names_stay refl refl refl refl
 
 pub page_left : (s : State) (f : ℕ) → SameNames s (page_done s f)
 page_left s f = by (left_of (words_in s.store.pages f))
@@ -271,10 +264,9 @@ module _ (s : State) (c : ℕ) (o : Outcome) (k : Keeps s) (there : c < length s
       (held_seg s.store n (descriptor_of s.store.links (process_at s c) n)))
   fills n can j e = filled_entitled nodes s.store.whos s.store.links.known j (cpu_at s.processors c).assoc.segs
       (held_seg s.store n (descriptor_of s.store.links (process_at s c) n)) (held j e)
-      (subst (λ (i : ℕ). IsEntitled nodes s.store.whos s.store.links.known i
-      (held_seg s.store n (descriptor_of s.store.links (process_at s c) n))) (ap or_zero e)
-      (to_hold_is n (process_at s c) (descriptor_of s.store.links (process_at s c) n) refl can.number
-      (ap (λ (i : ℕ). led_to s.store.ast.entries (descriptor_of s.store.links i n)) (ap or_zero can.can.process)
+      (rw (← (ap or_zero e)) (to_hold_is n (process_at s c) (descriptor_of s.store.links (process_at s c) n) refl
+      can.number (ap (λ (i : ℕ). led_to s.store.ast.entries (descriptor_of s.store.links i n))
+      (ap or_zero can.can.process)
       ∙ (ap (λ (i : ℕ). led_to s.store.ast.entries (descriptor_of s.store.links can.process i)) (sym can.number)
       ∙ can.can.linked))))
 

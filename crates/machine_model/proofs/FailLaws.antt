@@ -1,7 +1,7 @@
 -- A drive's failure may be told of a command that its page was looked for.
-use Rattle.std.proofs.Common.{◌≡◌, ◌≤◌, ℕ, ◌*◌, Bool, true, false, not, ◌&&◌, cond, is_some, List}
+use Rattle.std.proofs.Common.{◌≡◌, ◌≤◌, ℕ, ◌*◌, Bool, true, false, not, cond, List}
 use Rattle.std.proofs.Common.{Option, Some, None, inl, inr, refl, sym, ap, ◌∙◌, arith}
-use Rattle.std.specs.Prelude.{nat_le, Result, Ok}
+use Rattle.std.specs.Prelude.{nat_le, Ok}
 use Rattle.std.proofs.lemmas.Bool.Decides.{leb_tells}
 use Rattle.script.specs.References.{reference_of}
 use Rattle.script.specs.Plans.{who_of}
@@ -16,13 +16,13 @@ use Rattle.tree_model.specs.Access.{access_of}
 use Rattle.tree_model.specs.Tree.{Node, node_in}
 use Rattle.known_segs.specs.Known.{uid_of}
 use Rattle.seg_control.specs.Control.{kst_at}
-use Rattle.flat_model.specs.Branches.{done_at, segment_at}
-use Rattle.flat_model.specs.Commands.{is_end, reply_by, reply_to_command}
-use Rattle.flat_model.specs.Legal.{is_done, is_early, may_fail, moves_pages}
+use Rattle.flat_model.specs.Branches.{segment_at}
+use Rattle.flat_model.specs.Commands.{is_end, reply_to_command}
+use Rattle.flat_model.specs.Legal.{is_early, may_fail}
 use Rattle.script.specs.References.{permits}
 use Rattle.flat_model.specs.References.{is_used_up, is_out_of_room, reply_at, reply_of, reply_to_reference}
 use Rattle.flat_model.specs.References.{stores_page, word_reply}
-use Rattle.flat_model.specs.Sizes.{length_of, length_reply, truncate_reply}
+use Rattle.flat_model.specs.Sizes.{length_reply, truncate_reply}
 use Rattle.flat_model.specs.Store.{Store, known_uid}
 use Rattle.flat_model.proofs.PageLaws.{none_from}
 use Rattle.machine_model.specs.Keeps.{IsFaithful}
@@ -62,12 +62,10 @@ module _ (s : State) (k : ℕ) (t : Store) (shown : IsFaithful s.plan t s.store)
 
       by : (a b d e f : Bool) → b ≡ false → is_early (cond (not a) reply.NoAccess (cond b reply.Length
           (cond d (cond e reply.Quota (cond f reply.NoRecord word)) word))) ≡ false
-      by false b d e f i = refl
       by true true d e f i = absurd (let none : true ≡ false = i in cc)
-      by true false true true f i = refl
-      by true false true false true i = refl
       by true false true false false i = word_late (t.words h.node.uid r.offset) r.kind
       by true false false e f i = word_late (t.words h.node.uid r.offset) r.kind
+      by _ _ _ _ _ i = refl
 
   segment_same : (path : List (List ℕ)) (n : Node) → segment_at s.store.accounts.nodes path ≡ Ok n
       → segment_at t.nodes path ≡ Ok n
@@ -79,18 +77,15 @@ module _ (s : State) (k : ℕ) (t : Store) (shown : IsFaithful s.plan t s.store)
   changes_late : (c : Command) → MayChange s.store.accounts.nodes (is_filed s.store.accounts s.store.pages.vtocs) c
       → may_fail c (reply_to_command s.plan t k c) ≡ true
   unfolding length_reply truncate_reply
-  changes_late (command.Length path pages) h = ap (λ (x : Result Node Reply). is_done (length_of t.stored pages x))
-      (segment_same path h.0 h.1)
-      ∙ ap (λ (b : Bool). is_done (cond b reply.Beyond reply.Done)) (none_from t.stored h.0.uid pages (λ q le.
-      shown.pages.stored h.0.uid q ∙ h.2 q (le_is pages q le)))
-  changes_late (command.Truncate path words) h = ap (λ (x : Result Node Reply). is_done (done_at x))
-      (segment_same path h.0 h.1)
+  changes_late (command.Length path pages) h = cc (
+    segment_same path h.0 h.1,
+    none_from t.stored h.0.uid pages (λ q le. shown.pages.stored h.0.uid q ∙ h.2 q (le_is pages q le)),
+  )
+  changes_late (command.Truncate path words) h = rw (segment_same path h.0 h.1)
   changes_late _ h = absurd h
 
   pub may_fail_is : (c : Command) → MayFailBy s.store k (Some c) → may_fail c (reply_to_command s.plan t k c) ≡ true
-  may_fail_is c (inl x) = ap (λ (y : Option Reference). cond (is_some y) (not (is_early (reply_by s.plan t k c y)))
-      (moves_pages c && is_done (reply_by s.plan t k c y))) x.1
-      ∙ ap (λ (b : Bool). not b) (reached_late x.0 x.2)
+  may_fail_is c (inl x) = cc (reached_late x.0 x.2)
   may_fail_is c (inr x) = changes_late c x
 
   -- such a command isn't the end of its process

@@ -72,8 +72,7 @@ module _ {X : Type 0} (p : X → Bool) where
 
 pub free_is : (x : Frame) → is_free x ≡ true → x ≡ frame.Free
 free_is frame.Free h = refl
-free_is (frame.Started u p) h = absurd (let no : false ≡ true = h in cc)
-free_is (frame.Bound u p used modified) h = absurd (let no : false ≡ true = h in cc)
+free_is _ h = absurd (let no : false ≡ true = h in cc)
 
 -- the least free frame is there, bound to nothing, and nothing is being read into it
 pub free_frame : (core : Core) (f : ℕ) → least_free_frame core ≡ Some f
@@ -106,14 +105,12 @@ choice_bound core f h = by (find (λ g. is_idle (frame_at core g)) (round_frames
     (find (λ g. is_bound (frame_at core g)) (round_frames core)) refl refl h
   where
     bound_of : (x : Frame) → is_bound x ≡ true → (page : ℕ × ℕ) × (bound_page x ≡ Some page)
-    bound_of frame.Free e = absurd (let no : false ≡ true = e in cc)
-    bound_of (frame.Started u p) e = absurd (let no : false ≡ true = e in cc)
     bound_of (frame.Bound u p used modified) e = ((u, p), refl)
+    bound_of _ e = absurd (let no : false ≡ true = e in cc)
 
     idle_bound : (x : Frame) → is_idle x ≡ true → is_bound x ≡ true
-    idle_bound frame.Free e = e
-    idle_bound (frame.Started u p) e = e
     idle_bound (frame.Bound u p used modified) e = refl
+    idle_bound _ e = e
 
     bound_at : is_bound (frame_at core f) ≡ true → (page : ℕ × ℕ) × (binding_at (bindings core) f ≡ Some page)
     bound_at e = let b = bound_of (frame_at core f) e in (b.0, map_list bound_page core.frames f frame.Free ∙ b.1)

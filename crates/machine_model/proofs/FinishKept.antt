@@ -75,8 +75,7 @@ left_keeps s f u p how owner tables k can zeros = by how zeros
         book = gone_keeps (seen s) f u p owner k can ptw.Null refl
 
         may : MayRelease (flat now) u p
-        may = subst (λ (t : Store). MayRelease t u p)
-            (sym (flat_still s.plan s.entries (entry.GonePage f) (gone_quiet s.plan (flat_of s) f))) (z refl)
+        may = rw (flat_still s.plan s.entries (entry.GonePage f) (gone_quiet s.plan (flat_of s) f)) (z refl)
 
         unread : (g : ℕ) → (seen s).reads g ≢ Some (u, p)
         unread g h = let no : false ≡ true = sym (ap is_out can.leaving) ∙ k.tied.out g u p h in cc
@@ -132,8 +131,7 @@ pub eviction_kept : (s : State) (c f u p faults : ℕ) (o : Owner) → Keeps s �
     → StoreSays (eviction_done (with_faults s faults) c f) → Keeps (eviction_done (with_faults s faults) c f)
 eviction_kept s c f u p faults o k mine same rose can zeros says =
     gone_kept s f u p faults (Some (looking c)) k can rose zeros says
-    (λ q h. subst (λ (d : ℕ). IsAtWork (processor_at s.processors d))
-    (same ∙ ap (λ (x : Owner). x.cpu) (let is : looking c ≡ q = cc in is)) (k.at_work o mine))
+    (λ q h. (rw (same ∙ ap (λ (x : Owner). x.cpu) (let is : looking c ≡ q = cc in is)) at (k.at_work o mine)))
 
 cpu_of_rest : (o q : Owner) → without_first_frame (Some o) ≡ Some q → o.cpu ≡ q.cpu
 cpu_of_rest o q h = ap (λ (x : Owner). x.cpu)
@@ -149,5 +147,4 @@ pub page_kept : (s : State) (f faults : ℕ) (fs : List ℕ) (ds : List CutDescr
 page_kept s f faults fs ds o k mine rose on zeros says =
     gone_kept s f (page_at (seen s) f).0 (page_at (seen s) f).1 faults (without_first_frame s.owner) k
     (first_finish (seen s) f fs ds k.book on) rose zeros says
-    (λ q h. subst (λ (d : ℕ). IsAtWork (processor_at s.processors d))
-    (cpu_of_rest o q (ap without_first_frame (sym mine) ∙ h)) (k.at_work o mine))
+    (λ q h. (rw (cpu_of_rest o q (ap without_first_frame (sym mine) ∙ h)) at (k.at_work o mine)))

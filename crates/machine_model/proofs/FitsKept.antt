@@ -1,5 +1,5 @@
 -- What a job has taken isn't what its command wants, after each step.
-use Rattle.std.proofs.Common.{◌≡◌, ◌<◌, ℕ, zero, suc, Bool, true, false, not, ◌&&◌, cond, eqb, is_some, length}
+use Rattle.std.proofs.Common.{◌≡◌, ◌<◌, ℕ, suc, Bool, true, false, not, ◌&&◌, cond, eqb, is_some, length}
 use Rattle.std.proofs.Common.{List, [], ◌∷◌, get_or, map, set, Option, Some, None, inl, inr, refl, sym, ap, subst, ◌∙◌}
 use Rattle.std.proofs.Common.{arith}
 use Rattle.std.proofs.lemmas.Bool.{cond_both}
@@ -84,10 +84,9 @@ outline_entries s now same = same
 work_stays : (s now : State) (d : ℕ) (fs : List ℕ) (a : Aim) → StaysFor s now d
     → FitsWork (outline_of s) (want_at (outline_of s) d) (work_of (entries_of s) fs a)
     → FitsWork (outline_of now) (want_at (outline_of now) d) (work_of (entries_of now) fs a)
-work_stays s now d fs a stays h = subst (λ (es : List (Option Segment)). FitsWork (outline_of now)
-    (want_at (outline_of now) d) (work_of es fs a)) (sym stays.entries)
-    (fits_alike (outline_of s) (outline_of now) (want_at (outline_of s) d) (want_at (outline_of now) d)
-    (work_of (entries_of s) fs a) stays.want stays.frames (outline_entries s now stays.entries) h)
+work_stays s now d fs a stays h = rw (← stays.entries) at (fits_alike (outline_of s) (outline_of now)
+    (want_at (outline_of s) d) (want_at (outline_of now) d) (work_of (entries_of s) fs a) stays.want stays.frames
+    (outline_entries s now stays.entries) h)
 
 -- an owner whose work stays goes on
 pub fits_on : (s now : State) → Keeps now → IsFitting s → now.owner ≡ s.owner
@@ -96,22 +95,14 @@ fits_on s now kept fitting owner stays = record { fits = λ q h. by q h q.phase 
   where
     by : (q : Owner) → now.owner ≡ Some q → (x : Phase) → q.phase ≡ x
         → FitsStage (outline_of now) (want_at (outline_of now) q.cpu) (stage_of (entries_of now) q.frames q.phase)
-    by q h phase.Looking e = subst (λ (x : Phase). FitsStage (outline_of now) (want_at (outline_of now) q.cpu)
-        (stage_of (entries_of now) q.frames x)) (sym e)
-        (none_due now kept (ap waits_for h ∙ ap waits_in e))
-    by q h (phase.Taken a w) e = subst (λ (x : Phase). FitsStage (outline_of now) (want_at (outline_of now) q.cpu)
-        (stage_of (entries_of now) q.frames x)) (sym e)
-        (work_stays s now q.cpu q.frames a (stays q (sym owner ∙ h))
-        (subst (λ (x : Phase). FitsStage (outline_of s) (want_at (outline_of s) q.cpu)
-        (stage_of (entries_of s) q.frames x)) e (fitting.fits q (sym owner ∙ h))))
-    by q h (phase.Waiting a w) e = subst (λ (x : Phase). FitsStage (outline_of now) (want_at (outline_of now) q.cpu)
-        (stage_of (entries_of now) q.frames x)) (sym e)
-        (work_stays s now q.cpu q.frames a (stays q (sym owner ∙ h))
-        (subst (λ (x : Phase). FitsStage (outline_of s) (want_at (outline_of s) q.cpu)
-        (stage_of (entries_of s) q.frames x)) e (fitting.fits q (sym owner ∙ h))))
-    by q h (phase.Moving m) e = subst (λ (x : Phase). FitsStage (outline_of now) (want_at (outline_of now) q.cpu)
-        (stage_of (entries_of now) q.frames x)) (sym e)
-        (none_due now kept (ap waits_for h ∙ ap waits_in e), omega arith)
+    by q h phase.Looking e = rw e (none_due now kept (ap waits_for h ∙ ap waits_in e))
+    by q h (phase.Taken a w) e = rw e (work_stays s now q.cpu q.frames a (stays q (sym owner ∙ h))
+        (subst (λ (x : Phase). FitsStage (outline_of s) (want_at (outline_of s) q.cpu) (stage_of (entries_of s) q.frames
+        x)) e (fitting.fits q (sym owner ∙ h))))
+    by q h (phase.Waiting a w) e = rw e (work_stays s now q.cpu q.frames a (stays q (sym owner ∙ h))
+        (subst (λ (x : Phase). FitsStage (outline_of s) (want_at (outline_of s) q.cpu) (stage_of (entries_of s) q.frames
+        x)) e (fitting.fits q (sym owner ∙ h))))
+    by q h (phase.Moving m) e = rw e (none_due now kept (ap waits_for h ∙ ap waits_in e), omega arith)
 
 pub none_fits : (now : State) → now.owner ≡ None → IsFitting now
 none_fits now none = record { fits = λ q h. absurd (none_some (sym none ∙ h)) }
@@ -205,8 +196,7 @@ module _ (s : State) (c : ℕ) (o : Outcome) (m : IsMachine s) (working : IsWork
         entries = ap (λ (x : ActiveSegs). x.entries) ast;
         want = want_stays s (told (with_store s st) c f r) (record { nodes = nodes; whos = whos; known = known })
             q.cpu (set_process s c m.keeps working other _ q h)
-            (λ k e. subst (λ (j : ℕ). next_command (told (with_store s st) c f r) j ≡ next_command s j)
-            (ap or_zero e) (other_next s c m.keeps working other q _ h m its));
+            (λ k e. (rw (← (ap or_zero e)) (other_next s c m.keeps working other q _ h m its)));
       })
 
   abbrev Fits : act.Action → Type 0
@@ -223,13 +213,12 @@ module _ (s : State) (c : ℕ) (o : Outcome) (m : IsMachine s) (working : IsWork
 
     move_fits : p.cpu.process ≡ Some (process_at s c) → (r : Reference) (x : Move) → Fits (act.by_move s.owner r x)
     unfolding after
-    move_fits its r move.FillSeg kept = seat_fits _ _ kept refl refl refl refl refl
-    move_fits its r (move.FillPage f) kept = seat_fits _ _ kept refl refl refl refl refl
     move_fits its r (move.Through f) kept =
         told_fits (with_pages s.store (pages_after s.store.pages f r)) (Some f) _ its
         (pages_frames s f r) refl refl refl refl kept
     move_fits its r (move.Plain answer) kept = told_fits s.store None answer its refl refl refl refl refl kept
     move_fits its r move.Fault kept = take_fits s.owner refl kept
+    move_fits its r _ kept = seat_fits _ _ kept refl refl refl refl refl
 
     come_fits : p.cpu.process ≡ Some (process_at s c) → (x : Option Command)
         → Fits (act.come_to s p.cpu (process_at s c) x)
@@ -294,8 +283,7 @@ module _ (s : State) (c : ℕ) (o : Outcome) (m : IsMachine s) (entitled : IsEnt
 
   -- a processor to which a command falls owns nothing and reads nothing
   rest_of : rule_of (outline_of s) c ≡ Commands → (cpu_at s.processors c).transfer ≡ None
-  rest_of h = by (cpu_at s.processors c).transfer (ap (λ (x : Option Transfer). is_some x)
-      (sym (reading_is s m.keeps c)) ∙ (tells (outline_of s) c Commands h).1)
+  rest_of h = by (cpu_at s.processors c).transfer (cc (reading_is s m.keeps c, (tells (outline_of s) c Commands h).1))
     where
       by : (x : Option Transfer) → is_some x ≡ false → x ≡ None
       by None e = refl

@@ -1,5 +1,5 @@
 -- Flat stores that no store tells apart, and what the accounts of a store say of the one that it shows.
-use Rattle.std.proofs.Common.{◌≡◌, ◌≤◌, ℕ, Bool, true, false, cond, eqb, count_by, List, [], ◌∷◌, ◌++◌}
+use Rattle.std.proofs.Common.{◌≡◌, ℕ, Bool, true, false, cond, eqb, count_by, List, [], ◌∷◌, ◌++◌}
 use Rattle.std.proofs.Common.{map, sum, Option, Some, None, refl, sym, ap, subst, ◌∙◌, append-nil}
 use Rattle.std.specs.List.{list_all}
 use Rattle.script.specs.Plans.{Plan, command_at}
@@ -7,7 +7,6 @@ use Rattle.script.specs.declared.commands.Command.{Command}
 use Rattle.book.specs.declared.entries.Entry.{Entry}
 use Rattle.book.specs.declared.entries.Entry.TheVariants as entry
 use Rattle.book.specs.declared.replies.Reply.{Reply}
-use Rattle.tree_model.specs.Tree.{Node, quota_in, used_by}
 use Rattle.tree_model.specs.Trees.{IsTree}
 use Rattle.accounts.specs.Maps.{AccountMaps}
 use Rattle.flat_model.specs.Commands.{after_command, effect_of, gone_on, takes_effect}
@@ -144,16 +143,14 @@ pub done_alike : (p : Plan) (es : List Entry) (k place c : ℕ) (f : Option ℕ)
     → IsAlike (effect_of p (store_after p es) k cmd) (store_after p (es ++ entry.Do k place c f r ∷ []))
 unfolding after_entry
 done_alike p es k place c f r cmd next h = alike_by (do_done p (store_after p es) k r cmd h)
-    (store_after-push p es (entry.Do k place c f r)
-    ∙ ap (λ (x : Option Command). after_do p (store_after p es) k x r) next)
+    (cc (store_after-push p es (entry.Do k place c f r), next))
 
 -- ---- what the accounts say
 
 -- each account of the flat store that is shown is within its quota
 pub within_all : (t : Store) (a : AccountMaps) → ShowsTree t a → AreAccounts a → list_all (is_within t) t.nodes ≡ true
-within_all t a shows are = all_within t (subst IsTree (sym shows.nodes) are.tree) (λ account.
-    subst (λ (ns : List Node). used_by ns t.stored account ≤ quota_in ns account) (sym shows.nodes)
-    (are.within t.stored shows.counts account))
+within_all t a shows are = all_within t (subst IsTree (sym shows.nodes) are.tree)
+    (λ account. (rw shows.nodes (are.within t.stored shows.counts account)))
 
 pub conserved_by : (p : Plan) (t : Store) (st : Storage) → IsFaithful p t st → AreAccounts st.accounts
     → sum (map (λ n. n.quota) t.nodes) ≡ p.quota → IsConserved p t

@@ -34,8 +34,7 @@ module _ (s : State) (c : ℕ) (m : IsMachine s) (entitled : IsEntitledToAll s) 
   -- an eviction has its frame
   evicts : (o : Owner) (w : What) → s.owner ≡ Some o → o.phase ≡ phase.Waiting aim.Evicting w → o.frames ≢ []
   evicts o w mine waits none = let shape : FitsPhase (phase.Waiting aim.Evicting w) o.frames o.cut =
-      subst (λ (x : Phase). FitsPhase x o.frames o.cut) waits
-      (subst IsShaped mine m.keeps.book.going_owned.shaped) in
+      (rw waits at (subst IsShaped mine m.keeps.book.going_owned.shaped)) in
       let no_one : suc 0 ≡ 0 = sym (ap (λ (xs : List ℕ). length xs) shape.1) ∙ ap (λ (xs : List ℕ). length xs) none in
       omega (arith, no_one)
 
@@ -54,9 +53,8 @@ module _ (s : State) (c : ℕ) (m : IsMachine s) (entitled : IsEntitledToAll s) 
       (subst (MovesForNext (tables_of s.store) (process_at s c) x) one.1.next rests.moves) c one.1.its one.1.next
     where
       rests : IsMovedFor s.store (process_at s c) x (next_command s (process_at s c))
-      rests = subst (λ (d : ℕ). IsMovedFor s.store (process_at s d) x (next_command s (process_at s d))) same
-          (subst (λ (ph : Phase). MovesIn ph s.store (process_at s o.cpu) (next_command s (process_at s o.cpu))) is
-          (working.moves o mine))
+      rests = rw same at (subst (λ (ph : Phase). MovesIn ph s.store (process_at s o.cpu)
+          (next_command s (process_at s o.cpu))) is (working.moves o mine))
 
   pub foresees : Foresees s c
   foresees = record {

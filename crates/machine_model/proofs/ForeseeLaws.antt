@@ -50,6 +50,5 @@ pub waits_reading : (s : State) (k : ℕ) (cmd : Command) (f : ℕ) → LookFind
 waits_reading s k cmd f h = by (frame_in s.store.pages f) refl h
   where
     by : (x : Frame) → frame_in s.store.pages f ≡ x → is_some (started_page x) ≡ true → IsReading s f
-    by frame.Free e i = absurd (let none : false ≡ true = i in cc)
     by (frame.Started u p) e i = record { uid = u; page = p; started = e }
-    by (frame.Bound u p used modified) e i = absurd (let none : false ≡ true = i in cc)
+    by _ e i = absurd (let none : false ≡ true = i in cc)

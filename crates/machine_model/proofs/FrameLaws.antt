@@ -79,8 +79,7 @@ take_keeps v c aim w f u p k can = book_next v (entry.Take f) (taken v c aim w f
     current = ap is_current_frame at.2
 
     here : frame_use words (v.bound f) (v.reads f) ≡ page_taken ((shown v).frame f)
-    here = ap (λ (o : Option (ℕ × ℕ)). frame_use words o (v.reads f)) at.1
-        ∙ (ap (bound_use (u, p)) (put_two_here v.words u p (ptw.Leaving f)) ∙ sym (ap page_taken at.2))
+    here = cc (at.1, put_two_here v.words u p (ptw.Leaving f), at.2)
 
 -- ---- gone, or back
 
@@ -152,8 +151,7 @@ module _ (v : Seen) (f u p : ℕ) (owner : Option Owner) (k : KeepsBook v) (can 
       here = ap (λ (o : Option (ℕ × ℕ)). frame_use words o (v.reads f)) (put_here v.bound f None) ∙ ap read_use not_read
 
       other : (h : ℕ) → h ≢ f → frame_use words (at_put v.bound f None h) (v.reads h) ≡ (shown v).frame h
-      other h n = ap (λ (o : Option (ℕ × ℕ)). frame_use words o (v.reads h)) (put_other v.bound f None h n)
-          ∙ other_use v.bound v.reads v.words k.tied f u p word leaving.0 h n
+      other h n = cc (put_other v.bound f None h n, other_use v.bound v.reads v.words k.tied f u p word leaving.0 h n)
 
   -- it stays
   pub back_keeps : KeepsBook (back v f u p owner)
@@ -185,8 +183,7 @@ module _ (v : Seen) (f u p : ℕ) (owner : Option Owner) (k : KeepsBook v) (can 
       words = at_put_two v.words u p (ptw.Here f)
 
       here : frame_use words (v.bound f) (v.reads f) ≡ given_back ((shown v).frame f)
-      here = ap (λ (o : Option (ℕ × ℕ)). frame_use words o (v.reads f)) leaving.1
-          ∙ (ap (bound_use (u, p)) (put_two_here v.words u p (ptw.Here f)) ∙ sym (ap given_back leaving.2))
+      here = cc (leaving.1, put_two_here v.words u p (ptw.Here f), leaving.2)
 
 -- ---- stored no more
 

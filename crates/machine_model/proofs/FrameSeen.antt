@@ -38,8 +38,6 @@ of_page u p (frame.Bound v q used modified) h = elim (eqb_tells v u) [
 ]
 
 page_of_it : (u p : ℕ) (x : Frame) → page_of x ≡ Some (u, p) → is_of u p x ≡ true
-page_of_it u p frame.Free h = absurd (none_some h)
-page_of_it u p (frame.Started v q) h = absurd (none_some h)
 page_of_it u p (frame.Bound v q used modified) h = by (page_is v q u p h)
   where
     by : (v ≡ u) × (q ≡ p) → (eqb v u && eqb q p) ≡ true
@@ -47,6 +45,7 @@ page_of_it u p (frame.Bound v q used modified) h = by (page_is v q u p h)
       | inl e ↦ elim (eqb_tells q p) [ inl i ↦ rw (e.0, i.0) refl | inr n ↦ absurd (n.1 both.1) ]
       | inr n ↦ absurd (n.1 both.0)
     ]
+page_of_it u p _ h = absurd (none_some h)
 
 bare_page : (x : Frame) → page_of (bare x) ≡ bound_page x
 bare_page frame.Free = refl

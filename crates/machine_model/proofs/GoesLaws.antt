@@ -6,7 +6,7 @@ use Rattle.std.proofs.lemmas.Bool.Decides.{eqb_tells}
 use Rattle.std.proofs.lemmas.List.{get_or-set_same}
 use Rattle.core_map.specs.declared.Frame.TheVariants as frame
 use Rattle.processor.specs.declared.Transfer.{Transfer}
-use Rattle.machine_model.specs.Outline.{Want, Refer, Truncate, Length, Other, Runner, no_runner, EvictFrame}
+use Rattle.machine_model.specs.Outline.{Want, Refer, Truncate, Runner, no_runner, EvictFrame}
 use Rattle.machine_model.specs.Outline.{EmptyPlace, CommitCommand, Stage, Look, Taken, Waiting, Copying, Outline}
 use Rattle.machine_model.specs.Outline.{runner_at}
 use Rattle.machine_model.specs.Outline.{want_at, at_stage, with_entry, with_frame}
@@ -44,12 +44,7 @@ all_alike s t c alike left ready =
 
 same_alike : (s t : Outline) (c : ℕ) → AreAlike s.runners t.runners c → t.left ≡ s.left → t.ready ≡ s.ready
     → IsSameCommand s t c
-same_alike s t c alike left ready = record {
-  want = alike.want;
-  since = alike.since c;
-  running = alike.running c;
-  all = all_alike s t c alike left ready;
-}
+same_alike s t c alike left ready = assumption (alike.since c, alike.running c, all_alike s t c alike left ready)
 
 lack_alike : (s t : Outline) (c : ℕ) → AreAlike s.runners t.runners c
     → wanted_fits t (want_at s c) (runner_at s.runners c).reading ≡ wanted_fits s (want_at s c)
@@ -104,11 +99,8 @@ made_fits s c stored full has = by (want_at s c) has.want
     by : (w : Want) → w ≡ Refer has.chain has.uid has.page true
         → wanted_fits (with_stored s stored full) w (runner_at s.runners c).reading
         ≡ wanted_fits s w (runner_at s.runners c).reading
-    by w is = subst (λ (x : Want). wanted_fits (with_stored s stored full) x (runner_at s.runners c).reading
-        ≡ wanted_fits s x (runner_at s.runners c).reading) (sym is)
-        (ap (λ (b : Bool). is_here s.frames has.uid has.page
-        || (reads_page (runner_at s.runners c).reading has.uid has.page || b))
-        (made (not (stored has.uid has.page)) ∙ sym (made (not (s.stored has.uid has.page)))))
+    by w is = rw is (ap (λ (b : Bool). is_here s.frames has.uid has.page || (reads_page (runner_at s.runners c).reading
+        has.uid has.page || b)) (made (not (stored has.uid has.page)) ∙ sym (made (not (s.stored has.uid has.page)))))
 
 -- ---- one processor changes
 
@@ -144,10 +136,8 @@ connects_goes s c within owner = inl (record {
   in_job = owner;
   same = same_command _ same refl refl refl
       (all_set s (with_link s c) c (record (runner_at s.runners c) { linked = true }) within refl refl refl refl refl);
-  lack = subst (λ (y : Runner). lack (with_link s c) y ≤ lack_at s c) (sym same)
-      (lack_le s (with_link s c) (want_at s c)
-      (runner_at s.runners c).linked true (runner_at s.runners c).reading (runner_at s.runners c).reading (λ h. refl)
-      (λ h. h));
+  lack = rw same (lack_le s (with_link s c) (want_at s c) (runner_at s.runners c).linked true
+      (runner_at s.runners c).reading (runner_at s.runners c).reading (λ h. refl) (λ h. h));
 })
   where
     same : runner_at (with_link s c).runners c ≡ record (runner_at s.runners c) { linked = true }
@@ -170,9 +160,7 @@ started_fits : (s : Outline) (w : Want) (linked : Bool) (f uid page : ℕ) → I
     → (wanted_link w linked && wanted_fits s w (Some (record { frame = f; uid = uid; page = page }))) ≡ true
 started_fits s (Refer chain u q makes) linked f uid page h = rw h.0 (started_page s f uid page u q makes h.1 h.2)
 started_fits s (Truncate chain u (Some q)) linked f uid page h = started_page s f uid page u q false h.0 h.1
-started_fits s (Truncate chain u None) linked f uid page h = absurd h
-started_fits s (Length u) linked f uid page h = absurd h
-started_fits s Other linked f uid page h = absurd h
+started_fits s _ linked f uid page h = absurd h
 
 abbrev reading : ℕ → ℕ → ℕ → Transfer
 reading f uid page = record { frame = f; uid = uid; page = page }
@@ -213,9 +201,6 @@ gone_from x since h = by x.running refl
           absurd (omega (arith, more, same)))
       | inr n ↦ n.0
     ]
-
-is_at_false : (x : Runner) (since : ℕ) → (x.running && eqb x.since since) ≡ false → is_at x since ≡ false
-is_at_false x since h = h
 
 answers_goes : (s t : Outline) (c : ℕ) → IsKept t → IsAnswered s c t → IsPast s t c
 answers_goes s t c kept given = record {

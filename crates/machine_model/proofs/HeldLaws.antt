@@ -180,13 +180,7 @@ segs_alike old new k (e ∷ es) same held = (same e.number ∙ held.0, segs_alik
 
 pub right_alike : (bound : ℕ → Option (ℕ × ℕ)) (old new : ℕ → ℕ → DescriptorUse) (p : Processor)
     → ((k n : ℕ) → leads_to (new k n) ≡ leads_to (old k n)) → HoldsRight bound old p → HoldsRight bound new p
-right_alike bound old new p same right = record {
-  pages = right.pages;
-  segs = by p.cpu.process right.segs;
-  few_pages = right.few_pages;
-  few_segs = right.few_segs;
-  warned = right.warned;
-}
+right_alike bound old new p same right = assumption (by p.cpu.process right.segs)
   where
     by : (o : Option ℕ) → AreOfProcess old o p.cpu.assoc.segs → AreOfProcess new o p.cpu.assoc.segs
     by None h = h
@@ -196,25 +190,14 @@ pub right_frame : (bound : ℕ → Option (ℕ × ℕ)) (descriptor : ℕ → �
     (p : Processor)
     → has (map (λ e. e.frame) p.cpu.assoc.pages) f ≡ false → HoldsRight bound descriptor p
     → HoldsRight (at_put bound f x) descriptor p
-right_frame bound descriptor f x p none right = record {
-  pages = pages_elsewhere bound f x p.cpu.assoc.pages none right.pages;
-  segs = right.segs;
-  few_pages = right.few_pages;
-  few_segs = right.few_segs;
-  warned = right.warned;
-}
+right_frame bound descriptor f x p none right = assumption (pages_elsewhere bound f x p.cpu.assoc.pages none
+    right.pages)
 
 pub right_descriptor : (bound : ℕ → Option (ℕ × ℕ)) (descriptor : ℕ → ℕ → DescriptorUse) (k n : ℕ) (x : DescriptorUse)
     (p : Processor)
     → (p.cpu.process ≡ Some k → has (map (λ e. e.number) p.cpu.assoc.segs) n ≡ false) → HoldsRight bound descriptor p
     → HoldsRight bound (at_put_two descriptor k n x) p
-right_descriptor bound descriptor k n x p none right = record {
-  pages = right.pages;
-  segs = by p.cpu.process refl right.segs;
-  few_pages = right.few_pages;
-  few_segs = right.few_segs;
-  warned = right.warned;
-}
+right_descriptor bound descriptor k n x p none right = assumption (by p.cpu.process refl right.segs)
   where
     by : (o : Option ℕ) → p.cpu.process ≡ o → AreOfProcess descriptor o p.cpu.assoc.segs
         → AreOfProcess (at_put_two descriptor k n x) o p.cpu.assoc.segs

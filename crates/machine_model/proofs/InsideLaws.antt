@@ -1,5 +1,5 @@
 -- What the flat store answers a reference that isn't refused before its page is looked at.
-use Rattle.std.proofs.Common.{◌≡◌, ◌<◌, ℕ, ◌*◌, Bool, true, false, not, ◌&&◌, cond, eqb, List, Option, Some, None}
+use Rattle.std.proofs.Common.{◌≡◌, ◌<◌, ℕ, ◌*◌, Bool, true, false, not, ◌&&◌, cond, eqb, Option, Some, None}
 use Rattle.std.proofs.Common.{inl, inr, refl, sym, ap, subst, ◌∙◌, arith, is_some}
 use Rattle.std.specs.Prelude.{◌/◌, nat_le}
 use Rattle.std.proofs.lemmas.Bool.Decides.{leb_tells}
@@ -17,10 +17,8 @@ use Rattle.flat_model.specs.References.{is_used_up, is_out_of_room, reply_at, re
 use Rattle.flat_model.specs.References.{reply_to_reference, room_reply, stores_page, word_reply, is_volume_full}
 use Rattle.flat_model.specs.Rooms.{room_for}
 use Rattle.flat_model.specs.Store.{Store, known_uid}
-use Rattle.known_segs.specs.Known.{uid_of}
-use Rattle.seg_control.specs.Control.{kst_at}
 use Rattle.machine_model.specs.Keeps.{Keeps}
-use Rattle.machine_model.specs.Reads.{flat_of, or_zero}
+use Rattle.machine_model.specs.Reads.{flat_of}
 use Rattle.machine_model.specs.Refusal.{is_of_room, is_outside, only, outside_refusal, room_refusal, uid_of_number}
 use Rattle.machine_model.specs.Refusal.{move_to}
 use Rattle.machine_model.specs.State.{State}
@@ -35,13 +33,7 @@ module _ (s : State) (k : ℕ) (r : Reference) (keeps : Keeps s) where
 
   -- what a number stands for, by the tables
   known_is : (v : ℕ) → known_uid t k r.number ≡ Some v → uid_of_number s.store k r.number ≡ v
-  known_is v e = ap or_zero (sym (ap (λ (x : List (List (Option ℕ))). uid_of
-      (kst_at x k) r.number) keeps.faithful.known)
-      ∙ e)
-
-  negated : (b : Bool) → not b ≡ false → b ≡ true
-  negated true h = refl
-  negated false h = absurd (let none : true ≡ false = h in cc)
+  known_is v e = cc keeps.faithful.known
 
   less : (a b : ℕ) → nat_le a b ≡ false → b < a
   less a b h = elim (leb_tells a b) [
@@ -88,18 +80,7 @@ module _ (s : State) (k : ℕ) (r : Reference) (keeps : Keeps s) where
     pub due_is : reply_to_reference s.plan t k r
         ≡ cond (stores_page t u r.offset r.kind) (room_reply s.plan t inside.node word) word
     unfolding reply_to_reference
-    due_is = ap (reply_of s.plan t k r.offset r.kind) inside.known
-        ∙ (ap (reply_at s.plan t k r.offset r.kind) inside.there
-        ∙ (ap (λ (b : Bool). cond (not b) reply.NoAccess (cond (nat_le (1024 * inside.node.pages) r.offset) reply.Length
-        (cond (stores_page t inside.node.uid r.offset r.kind) (room_reply s.plan t inside.node
-        (word_reply (t.words inside.node.uid r.offset) r.kind)) (word_reply
-        (t.words inside.node.uid r.offset) r.kind))))
-        inside.permitted
-        ∙ (ap (λ (b : Bool). cond b reply.Length (cond (stores_page t inside.node.uid r.offset r.kind)
-        (room_reply s.plan t inside.node (word_reply (t.words inside.node.uid r.offset) r.kind))
-        (word_reply (t.words inside.node.uid r.offset) r.kind))) not_past
-        ∙ ap (λ (v : ℕ). cond (stores_page t v r.offset r.kind) (room_reply s.plan t inside.node
-        (word_reply (t.words v r.offset) r.kind)) (word_reply (t.words v r.offset) r.kind)) its)))
+    due_is = cc (not_past, its)
       where
         its : inside.node.uid ≡ u
         its = found_uid t.nodes u inside.node inside.there
@@ -112,8 +93,7 @@ module _ (s : State) (k : ℕ) (r : Reference) (keeps : Keeps s) where
 
     -- no page more is stored for a page that is, or for one of zeros to which no other word comes
     stored_same : is_stored t.stored u (r.offset / 1024) ≡ true → stores_page t u r.offset r.kind ≡ false
-    stored_same h = ap (λ (b : Bool). alters r.kind && (not (eqb (new_word (t.words u r.offset) r.kind) 0) && not b)) h
-        ∙ no_page (alters r.kind) (not (eqb (new_word (t.words u r.offset) r.kind) 0))
+    stored_same h = cc (no_page (alters r.kind) (not (eqb (new_word (t.words u r.offset) r.kind) 0)))
       where
         no_page : (a b : Bool) → (a && (b && false)) ≡ false
         no_page true true = refl
@@ -121,10 +101,7 @@ module _ (s : State) (k : ℕ) (r : Reference) (keeps : Keeps s) where
         no_page false b = refl
 
     zero_same : t.words u r.offset ≡ 0 → eqb (new_word 0 r.kind) 0 ≡ true → stores_page t u r.offset r.kind ≡ false
-    zero_same zero h = ap (λ (w : ℕ). alters r.kind && (not (eqb (new_word w r.kind) 0)
-        && not (is_stored t.stored u (r.offset / 1024)))) zero
-        ∙ (ap (λ (b : Bool). alters r.kind && (not b && not (is_stored t.stored u (r.offset / 1024)))) h
-        ∙ none (alters r.kind))
+    zero_same zero h = cc (none (alters r.kind))
       where
         none : (a : Bool) → (a && false) ≡ false
         none true = refl
@@ -136,8 +113,7 @@ module _ (s : State) (k : ℕ) (r : Reference) (keeps : Keeps s) where
 
     pub zero_due : t.words u r.offset ≡ 0 → eqb (new_word 0 r.kind) 0 ≡ true
         → reply_to_reference s.plan t k r ≡ word_reply 0 r.kind
-    zero_due zero h = due_is ∙ (ap (λ (b : Bool). cond b (room_reply s.plan t inside.node word) word)
-        (zero_same zero h) ∙ ap (λ (w : ℕ). word_reply w r.kind) zero)
+    zero_due zero h = cc (due_is, zero_same zero h)
 
     -- of one for which there is room
     pub room_due : room_refusal s k r ≡ None → reply_to_reference s.plan t k r ≡ word
@@ -150,8 +126,7 @@ module _ (s : State) (k : ℕ) (r : Reference) (keeps : Keeps s) where
             → cond a (cond b reply.Quota (cond d reply.NoRecord word)) word ≡ word
         by true true d i = absurd (let none : Some reply.Quota ≡ None = i in cc)
         by true false true i = absurd (let none : Some reply.NoRecord ≡ None = i in cc)
-        by true false false i = refl
-        by false b d i = refl
+        by _ _ _ i = refl
 
     -- ---- what isn't held back
 
@@ -183,9 +158,7 @@ module _ (s : State) (k : ℕ) (r : Reference) (keeps : Keeps s) where
       stays_free stays = held_is ∙ by (is_held_in s.plan t k r.offset r.kind inside.node) refl
         where
           room : is_volume_full s.plan t inside.node.volume ≡ true → room_for s.plan t inside.node.uid ≡ None
-          room full = ap (room_for s.plan t) (found_uid t.nodes u inside.node inside.there)
-              ∙ (sym (ap (λ (b : Bool). cond b (room_for s.plan t u) None)
-              (ap (is_volume_full s.plan t) (sym (volume_found t.nodes u inside.node inside.there)) ∙ full)) ∙ stays)
+          room full = cc (found_uid t.nodes u inside.node inside.there, volume_found t.nodes u inside.node inside.there)
 
           by : (z : Bool) → is_held_in s.plan t k r.offset r.kind inside.node ≡ z → z ≡ false
           by true held = let parts = held_parts s.plan t k r.offset r.kind inside.node held in

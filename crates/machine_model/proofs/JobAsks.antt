@@ -2,7 +2,6 @@
 use Rattle.std.proofs.Common.{◌≡◌, ◌<◌, ℕ, Bool, true, false, ◌&&◌, List, [], ◌∷◌, ◌++◌, length, Option, Some}
 use Rattle.std.proofs.Common.{None, inl, inr, refl, sym, ap, subst, ◌∙◌}
 use Rattle.std.proofs.lemmas.List.{get_or-set_same}
-use Rattle.script.specs.Plans.{Plan}
 use Rattle.script.specs.References.{reference_of}
 use Rattle.script.specs.declared.commands.Command.{Command}
 use Rattle.script.specs.declared.commands.Reference.{Reference}
@@ -89,11 +88,9 @@ module _ (s b : State) (c k : ℕ) (cmd : Command) (keeps : Keeps s) (sp : Speak
     its = ap (λ (ps : List Processor). (processor_at ps c).cpu.process) same.processors ∙ sp.its;
     next = (λ i. next_command (record s { plan = same.plan i; runs = same.runs i }) k) ∙ sp.next;
     going = ap (λ (rs : List Run). (run_at rs k).ended) same.runs ∙ sp.going;
-    turn = subst (λ (p : Plan). HasTurn p b.runs k) (sym same.plan)
-        (subst (λ (rs : List Run). HasTurn s.plan rs k) (sym same.runs) sp.turn);
-    runs = λ j. subst (λ (rs : List Run). IsRun (progress_of (flat_of b) j) (run_at rs j)) (sym same.runs)
-        (subst (λ (t : Store). IsRun (progress_of t j) (run_at s.runs j)) (sym flat)
-        (runs_failed (flat_of s) (Some k) (λ i. run_at s.runs i) sp.runs j));
+    turn = rw (← same.plan) at (subst (λ (rs : List Run). HasTurn s.plan rs k) (sym same.runs) sp.turn);
+    runs = λ j. (rw (← same.runs) at (subst (λ (t : Store). IsRun (progress_of t j) (run_at s.runs j)) (sym flat)
+        (runs_failed (flat_of s) (Some k) (λ i. run_at s.runs i) sp.runs j)));
   }
 
   shown_still : IsFaithful s.plan (flat_of b) s.store
@@ -101,11 +98,8 @@ module _ (s b : State) (c k : ℕ) (cmd : Command) (keeps : Keeps s) (sp : Speak
       (subst (IsAlike (flat_of s)) (fault_is s k ∙ sym flat) (fault_alike s.plan s.entries (Some k))) keeps.faithful
 
   pub failure_tell : CanTell b c k None reply.Device
-  failure_tell = device_tell b c k cmd speaks_still
-      (ap (λ (t : Store). (progress_of t k).faulted) flat
-      ∙ faulted_now (flat_of s) k ((sp.runs k).ended ∙ sp.going))
-      (subst (λ (p : Plan). may_fail cmd (reply_to_command p (flat_of b) k cmd) ≡ true) (sym same.plan)
-      (may_fail_is s k (flat_of b) shown_still cmd may))
+  failure_tell = device_tell b c k cmd speaks_still (cc (faulted_now (flat_of s) k ((sp.runs k).ended ∙ sp.going)))
+      (rw (← same.plan) at (may_fail_is s k (flat_of b) shown_still cmd may))
 
 -- ---- a write fails
 
@@ -187,8 +181,7 @@ module _ (s : State) (c : ℕ) (o : Outcome) (t : Transfer) (cmd : Command) (kee
     next = sp.next;
     going = sp.going;
     turn = sp.turn;
-    runs = λ j. subst (λ (x : Store). IsRun (progress_of x j) (run_at s.runs j)) (sym lost_flat)
-        (runs_failed (flat_of s) (Some k) (λ i. run_at s.runs i) sp.runs j);
+    runs = λ j. (rw lost_flat (runs_failed (flat_of s) (Some k) (λ i. run_at s.runs i) sp.runs j));
   }
 
   lost_shown : IsFaithful s.plan (flat_of lost) s.store
@@ -199,17 +192,14 @@ module _ (s : State) (c : ℕ) (o : Outcome) (t : Transfer) (cmd : Command) (kee
   pub read_asks : Rose s.faults o.faults → StoreSays (transfer_failed s c t o.faults)
       → CanLose s c t o.faults × IsAnswering s c
   read_asks rose says = (
-    record {
-      rose = rose;
-      may = ap (λ (x : Store). (progress_of x k).ended) (one_still s.plan s.entries (entry.Lose t.frame) refl)
-          ∙ ((sp.runs k).ended ∙ sp.going);
-      tell = subst (λ (j : ℕ). CanTell lost c j None reply.Device) (sym (ap (λ (x : Cpu). or_zero x.process) lost_here))
-          (device_tell lost c k cmd lost_speaks
-          (ap (λ (x : Store). (progress_of x k).faulted) lost_flat
-          ∙ faulted_now (flat_of s) k ((sp.runs k).ended ∙ sp.going))
-          (may_fail_is s k (flat_of lost) lost_shown cmd may));
-      says = says;
-    },
+    assumption (
+      ap (λ (x : Store). (progress_of x k).ended) (one_still s.plan s.entries (entry.Lose t.frame) refl)
+          ∙ ((sp.runs k).ended ∙ sp.going),
+      subst (λ (j : ℕ). CanTell lost c j None reply.Device)
+          (sym (ap (λ (x : Cpu). or_zero x.process) lost_here)) (device_tell lost c k cmd lost_speaks
+          (ap (λ (x : Store). (progress_of x k).faulted) lost_flat ∙ faulted_now (flat_of s) k ((sp.runs k).ended
+          ∙ sp.going)) (may_fail_is s k (flat_of lost) lost_shown cmd may)),
+    ),
     record {
       process = k;
       its = sp.its;

@@ -159,11 +159,7 @@ signal_kept s c o a w k mine same taken_phase = record {
   cut = subst (AreThere s.store) (cut_same s.owner) k.cut;
   conserved = subst (IsConserved s.plan) (sym flat_same) k.conserved;
   few_faults = quiet_faults s (entry.Signal c w) s.faults k refl (omega arith);
-  sizes = record {
-    frames = k.sizes.frames;
-    processors = told_length c w 0 s.processors ∙ k.sizes.processors;
-    processes = k.sizes.processes;
-  };
+  sizes = assumption (told_length c w 0 s.processors ∙ k.sizes.processors);
   at_work = λ q h. works q (subst (λ (x : Option Owner). owner_signalled x ≡ Some q) mine h);
 }
   where
@@ -182,12 +178,11 @@ signal_kept s c o a w k mine same taken_phase = record {
 
     works : (q : Owner) → owner_signalled (Some o) ≡ Some q
         → IsAtWork (processor_at (told_from c w 0 s.processors) q.cpu)
-    works q h = subst (λ (d : ℕ). IsAtWork (processor_at (told_from c w 0 s.processors) d))
-        (let is : c ≡ q.cpu = sym same ∙ cpu_is in is)
+    works q h = rw (← (let is : c ≡ q.cpu = sym same ∙ cpu_is in is))
         (subst IsAtWork (sym (told_reads c w s.processors 0 c
         ∙ (ap (λ (n : ℕ). told_at c w n (processor_at s.processors c)) plus ∙ own (processor_at s.processors c))))
-        (dropped_works (processor_at s.processors c)
-        (subst (λ (d : ℕ). IsAtWork (processor_at s.processors d)) same (k.at_work o mine))))
+        (dropped_works (processor_at s.processors c) (subst (λ (d : ℕ). IsAtWork (processor_at s.processors d)) same
+        (k.at_work o mine))))
       where
         cpu_is : o.cpu ≡ q.cpu
         cpu_is = let is : ◌≡◌ {A = Owner} (record o { phase = phase_signalled o.phase }) q =

@@ -1,7 +1,7 @@
 -- Each step of the owner makes the measure of its job fall.
 use Rattle.std.proofs.Common.{◌≡◌, ◌≤◌, ◌<◌, ℕ, ◌+◌, Bool, true, false, cond, List, [], ◌∷◌, length, Option, None, set}
 use Rattle.std.proofs.Common.{◌&&◌}
-use Rattle.std.proofs.Common.{refl, sym, ap, subst, le_refl, le_of_eq, arith}
+use Rattle.std.proofs.Common.{refl, ap, le_refl, le_of_eq, arith}
 use Rattle.std.proofs.lemmas.List.{get_or-set_same}
 use Rattle.core_map.specs.declared.Frame.{Frame}
 use Rattle.core_map.specs.declared.Frame.TheVariants as frame
@@ -49,24 +49,16 @@ one_small false = omega arith
 
 room_small : (full : ℕ → Bool) (w : Want) → room_lack full w < 2
 room_small full (Refer chain uid page makes) = one_small (makes && full uid)
-room_small full (Truncate chain uid cut) = omega arith
-room_small full (Length uid) = omega arith
-room_small full Other = omega arith
+room_small full _ = omega arith
 
 pub frame_small : (stage : Stage) (frames : List Frame) → frame_lack stage frames < 2
-frame_small Look frames = bit_small (has_free frames)
 frame_small (Taken (EvictFrame f)) frames = omega arith
-frame_small (Taken (EmptyPlace place rest)) frames = bit_small (has_free frames)
-frame_small (Taken CommitCommand) frames = bit_small (has_free frames)
 frame_small (Waiting (EvictFrame f)) frames = omega arith
-frame_small (Waiting (EmptyPlace place rest)) frames = bit_small (has_free frames)
-frame_small (Waiting CommitCommand) frames = bit_small (has_free frames)
-frame_small (Copying left) frames = bit_small (has_free frames)
+frame_small _ frames = bit_small (has_free frames)
 
 work_small : (s : Outline) (w : Want) (work : Work) → FitsWork s w work → work_left work ≤ 257
-work_small s w (EvictFrame f) fits = omega arith
 work_small s w (EmptyPlace place rest) fits = let few : length rest ≤ 256 = fits.1 in omega (arith, few)
-work_small s w CommitCommand fits = omega arith
+work_small s w _ fits = omega arith
 
 stage_small : (s : Outline) (w : Want) (stage : Stage) → FitsStage s w stage → stage_left stage < 512
 stage_small s w Look fits = omega arith
@@ -125,9 +117,7 @@ room_less s now (Refer chain uid page makes) less = by makes (now uid) (s.full u
     by true true b h = rw (h refl) (le_refl _)
     by true false b h = omega arith
     by false a b h = le_refl _
-room_less s now (Truncate chain uid cut) less = le_refl _
-room_less s now (Length uid) less = le_refl _
-room_less s now Other less = le_refl _
+room_less s now _ less = le_refl _
 
 idle_like : (entries : List (Option Entry)) (v w : Want) → v ≡ w
     → idle_links entries (chain_of v) ≤ idle_links entries (chain_of w)
@@ -138,17 +128,7 @@ off_like : (entries : List (Option Entry)) (v w : Want) → v ≡ w
 off_like entries v w h = rw h (le_refl _)
 
 pub alike_self : (xs : List Runner) (c : ℕ) → AreAlike xs xs c
-alike_self xs c = record {
-  count = refl;
-  online = λ d. refl;
-  running = λ d. refl;
-  reading = λ d. refl;
-  since = λ d. refl;
-  tried = λ d. refl;
-  want = refl;
-  linked = refl;
-  due = refl;
-}
+alike_self xs c = assumption
 
 -- a job comes to a later stage, and nothing but what others hold changes
 stage_falls : (s : Outline) (c : ℕ) (runners : List Runner) (a b : Stage) → IsIn s c a → AreAlike s.runners runners c
@@ -171,9 +151,8 @@ freed_lacks frames f lt = ap (λ (b : Bool). cond {A = ℕ} b 0 1) (freed_is_fre
 connect_falls : (s : Outline) (c : ℕ) (chain : List ℕ) (uid page : ℕ) (makes : Bool) → IsKept s → IsKept (with_link s c)
     → IsIn s c Look → want_at s c ≡ Refer chain uid page makes → (runner_at s.runners c).linked ≡ false
     → job_rank (with_link s c) < job_rank s
-connect_falls s c chain uid page makes kept now owner want off =
-    between s (with_link s c) c Look Look owner owner (subst (λ (y : Runner).
-    rank_of (parts_of (with_link s c) y Look) < rank_of (parts_of s (runner_at s.runners c) Look)) (sym same) less)
+connect_falls s c chain uid page makes kept now owner want off = between s (with_link s c) c Look Look owner owner
+    (rw same less)
   where
     linked : Runner
     linked = record (runner_at s.runners c) { linked = true }
@@ -185,8 +164,7 @@ connect_falls s c chain uid page makes kept now owner want off =
     same = get_or-set_same s.runners c (record (runner_at s.runners c) { linked = true }) no_runner within
 
     small : IsSmall (parts_of (with_link s c) (record (runner_at s.runners c) { linked = true }) Look)
-    small = subst (λ (y : Runner). IsSmall (parts_of (with_link s c) y Look)) same
-        (small_of (with_link s c) c Look now owner)
+    small = rw same at (small_of (with_link s c) c Look now owner)
 
     reading : readers (with_link s c).runners ≤ readers s.runners
     reading = let count = readers_set s.runners c (record (runner_at s.runners c) { linked = true }) within in

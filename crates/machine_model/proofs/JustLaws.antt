@@ -93,40 +93,30 @@ module _ (Page : ℕ → ℕ → Type 0) (Descriptor : ℕ → ℕ → ℕ → T
   just_next p s c (entry.Leave d) j h = seat_just c (custody_next p s c (entry.Leave d)) refl refl j
   just_next p s c (entry.Activate v) j h = seat_just c (custody_next p s c (entry.Activate v)) refl refl j
   just_next p s c (entry.Deactivate v) j h = seat_just c (custody_next p s c (entry.Deactivate v)) refl refl j
-  just_next p s c (entry.Start f v q) j h = absurd h
   just_next p s c (entry.Lose f) j h = frame_just c f frame.Free j refl (λ u q e. absurd (none_some e))
   just_next p s c (entry.Here f v q) j h = frame_just c f (frame.Current v q) j refl
       (λ u p e i. h (let same = page_is v q u p e in
       subst (λ (x : ℕ). Page x q) (sym same.0) (subst (Page u) (sym same.1) i)))
-  just_next p s c (entry.Connect k n v) j h = absurd h
-  just_next p s c (entry.Take f) j h = absurd h
-  just_next p s c (entry.Cut k n) j h = absurd h
   just_next p s c (entry.Signal d x) j h = seat_just c (custody_next p s c (entry.Signal d x)) refl refl j
   just_next p s c (entry.Clear d x) j h = seat_just c (custody_next p s c (entry.Clear d x)) refl refl j
   just_next p s c (entry.FillSeg d n) j h = seat_just c (custody_next p s c (entry.FillSeg d n)) refl refl j
   just_next p s c (entry.FillPage d f) j h = seat_just c (custody_next p s c (entry.FillPage d f)) refl refl j
-  just_next p s c (entry.GonePage f) j h = absurd h
-  just_next p s c (entry.BackPage f) j h = absurd h
-  just_next p s c (entry.GoneSeg k n) j h = absurd h
-  just_next p s c (entry.BackSeg k n) j h = absurd h
+  just_next p s c _ j h = absurd h
 
   just_list : (p : Plan) (es more : List Entry) → GoesJust (custody_after p es) Page Descriptor → AllStay Page more
       → GoesJust (custody_after p (es ++ more)) Page Descriptor
   just_list p es [] j stay =
       subst (λ (xs : List Entry). GoesJust (custody_after p xs) Page Descriptor) (sym (append-nil es)) j
-  just_list p es (e ∷ more) j stay = subst (λ (xs : List Entry). GoesJust (custody_after p xs) Page Descriptor)
-      (append_assoc es (e ∷ []) more)
-      (just_list p (es ++ e ∷ []) more (subst (λ (c : Custody). GoesJust c Page Descriptor)
-      (sym (custody_after-push p es e)) (just_next p (store_after p es) (custody_after p es) e j stay.0)) stay.1)
+  just_list p es (e ∷ more) j stay = rw (append_assoc es (e ∷ []) more) at (just_list p (es ++ e ∷ []) more
+      (subst (λ (c : Custody). GoesJust c Page Descriptor) (sym (custody_after-push p es e))
+      (just_next p (store_after p es) (custody_after p es) e j stay.0)) stay.1)
 
   -- what goes is just that still
   pub just_on : (s now : State) (more : List Entry) → Keeps s → Keeps now → now.plan ≡ s.plan
       → now.entries ≡ s.entries ++ more → GoesJust (holding s) Page Descriptor → AllStay Page more
       → GoesJust (holding now) Page Descriptor
-  just_on s now more k kept plan entries j stay = subst (λ (c : Custody). GoesJust c Page Descriptor)
-      (sym (kept.book.held ∙ λ i. custody_after (plan i) (entries i)))
-      (just_list s.plan s.entries more
-      (subst (λ (c : Custody). GoesJust c Page Descriptor) k.book.held j) stay)
+  just_on s now more k kept plan entries j stay = rw (kept.book.held ∙ λ i. custody_after (plan i) (entries i))
+      (just_list s.plan s.entries more (subst (λ (c : Custody). GoesJust c Page Descriptor) k.book.held j) stay)
 
   -- a page that is being read isn't taken
   pub started_free : (c : Custody) (f v q : ℕ) → GoesJust c Page Descriptor → c.frame f ≡ frame.Started v q
@@ -187,8 +177,7 @@ taken_for s now k c l some h = record {
       (l.just (TakesPage c (uid_of_command s.store k c)) (TakesDescriptor c k (uid_of_command s.store k c)) h.just);
   alone = subst (λ (u : ℕ). IsAlone now.store.accounts.nodes u c) (sym same)
       (alone_same s.store.accounts.nodes now.store.accounts.nodes (uid_of_command s.store k c) c l.nodes h.alone);
-  brought = subst (λ (u : ℕ). WasBrought now.store u c) (sym same)
-      (brought_on s.store now.store (uid_of_command s.store k c) c (λ e. l.active _ ∙ e) l.out h.brought);
+  brought = rw same (brought_on s.store now.store (uid_of_command s.store k c) c (λ e. l.active _ ∙ e) l.out h.brought);
   stands = l.stands k c some h.stands;
 }
   where
@@ -202,13 +191,11 @@ taken_by s now k (Some c) l some h = taken_for s now k c l some h
 
 taken_to : (a : Aim) (s now : State) (k : ℕ) (x : Option Command) → LeavesTaken s now → FailsBy a s.store k x
     → TakenTo a s k x → TakenTo a now k x
-taken_to aim.Evicting s now k x l fails h = tt
-taken_to (aim.Deactivating u) s now k x l fails h = tt
 taken_to aim.Committing s now k x l fails h = taken_by s now k x l fails h
+taken_to _ s now k x l fails h = tt
 
 pub taken_in : (ph : Phase) (s now : State) (k : ℕ) (x : Option Command) → LeavesTaken s now → FailsIn ph s.store k x
     → TakenIn ph s k x → TakenIn ph now k x
-taken_in phase.Looking s now k x l fails h = tt
 taken_in (phase.Taken a w) s now k x l fails h = taken_to a s now k x l fails h
 taken_in (phase.Waiting a w) s now k x l fails h = taken_to a s now k x l fails h
-taken_in (phase.Moving m) s now k x l fails h = tt
+taken_in _ s now k x l fails h = tt

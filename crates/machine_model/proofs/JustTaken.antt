@@ -178,12 +178,10 @@ module _ (s : State) (c : ℕ) (a : Aim) (w : What) (fs : List ℕ) (xs : List (
   reads_same f = ap (λ (p : Plain). read_at (reads_of p.core) f) pages_same
 
   frames_go : (f : ℕ) → is_going_frame ((shown (seen now)).frame f) ≡ has fs f
-  frames_go f = book.going_owned.frames f ∙ (ap (λ (gs : List ℕ). has gs f) (cut_frames mid c a w xs)
-      ∙ (take_has s c a w fs f ∙ ap (λ (gs : List ℕ). has gs f || has fs f) idle.frames))
+  frames_go f = cc (book.going_owned.frames f, cut_frames mid c a w xs, take_has s c a w fs f)
 
   descriptors_go : (j n : ℕ) → is_going_descriptor ((shown (seen now)).descriptor j n) ≡ has_pair xs j n
-  descriptors_go j n = book.going_owned.cuts j n ∙ (cut_has mid c a w xs j n
-      ∙ ap (λ (ds : List CutDescriptor). has_cut ds j n || has_pair xs j n) (take_cut s c a w fs ∙ idle.cut))
+  descriptors_go j n = cc (book.going_owned.cuts j n, cut_has mid c a w xs j n, take_cut s c a w fs)
 
   -- the page of a frame, before and after
   page_by : (f u q : ℕ) → page_of ((shown (seen now)).frame f) ≡ Some (u, q)
@@ -200,13 +198,12 @@ module _ (s : State) (c : ℕ) (a : Aim) (w : What) (fs : List ℕ) (xs : List (
 
   frame_here : (f u q : ℕ) (y : Ptw) → Page u q → (seen s).bound f ≡ Some (u, q) → (seen s).words u q ≡ y
       → names y ≡ Some f → has fs f ≡ true
-  frame_here f u q ptw.Null p b e h = absurd (none_some h)
-  frame_here f u q (ptw.Out r) p b e h = absurd (none_some h)
   frame_here f u q (ptw.Here g) p b e h = l.pages f u q (e ∙ ap (λ (x : ℕ). ptw.Here x) (some_same g f h)) p
   frame_here f u q (ptw.Leaving g) p b e h = absurd (let no : true ≡ false =
       sym (ap (λ (x : Option (ℕ × ℕ)). is_going_frame (frame_use (seen s).words x ((seen s).reads f))) b
       ∙ ap (λ (x : Ptw). is_going_frame (bound_use (u, q) x)) e)
       ∙ (k.book.going_owned.frames f ∙ ap (λ (gs : List ℕ). has gs f) idle.frames) in cc)
+  frame_here f u q _ p b e h = absurd (none_some h)
 
   -- where a descriptor led before it was cut, if it was
   linked_by : (j n u : ℕ) → leads_to ((shown (seen now)).descriptor j n) ≡ Some u
@@ -234,11 +231,9 @@ module _ (s : State) (c : ℕ) (a : Aim) (w : What) (fs : List ℕ) (xs : List (
       by (Some v) y e d g i = absurd (not_both i refl)
 
       led : NotesLed (seen s).linked (cut_of_owner now.owner)
-      led = subst (λ (f : ℕ → ℕ → Option ℕ). NotesLed f (cut_of_owner now.owner)) (take_linked s c a w fs)
-          (cut_notes mid c a w xs (seen mid).linked
+      led = rw (take_linked s c a w fs) at (cut_notes mid c a w xs (seen mid).linked
           (subst (λ (f : ℕ → ℕ → Option ℕ). ArePairs f w xs) (sym (take_linked s c a w fs)) can.pairs_are)
-          (λ i m v e. e)
-          (subst (NotesLed (seen mid).linked) (sym (take_cut s c a w fs ∙ idle.cut)) tt))
+          (λ i m v e. e) (subst (NotesLed (seen mid).linked) (sym (take_cut s c a w fs ∙ idle.cut)) tt))
 
   -- So what goes then is just what is listed.
   pub took_just : GoesJust (shown (seen now)) Page Descriptor
@@ -341,9 +336,7 @@ module _ (s : State) (k : ℕ) (keeps : Keeps s) where
 
   one_all : (number n v : ℕ) → (seen s).linked k n ≡ Some v → n ≡ number
       → has_pair (cond (is_connected (descriptor_of s.store.links k number)) ((k, number) ∷ []) []) k n ≡ true
-  one_all number n v h same = ap (λ (b : Bool). has_pair (cond b ((k, number) ∷ []) []) k n)
-      (ap (λ (x : ℕ). is_connected (descriptor_of s.store.links k x)) (sym same) ∙ is_linked k n v h)
-      ∙ ap (λ (b : Bool). b || false) (pair_own k n number same)
+  one_all number n v h same = cc (same, is_linked k n v h, pair_own k n number same)
 
   one_its : (number j n : ℕ) (b : Bool) → has_pair (cond b ((k, number) ∷ []) []) j n ≡ true
       → (j ≡ k) × (n ≡ number)
@@ -417,17 +410,15 @@ module _ (s : State) (k : ℕ) (keeps : Keeps s) where
     pages = λ f v q h p. absurd p;
     its_pages = λ f v q h b. absurd (none_has f h);
     unread = λ f v q h p. p;
-    descriptors = λ j n v h p. subst (λ (x : ℕ). has_pair (descriptors_taken s.store k u (command.Terminate number)) x n
-        ≡ true) (sym p.0) (one_all number n v (ap (λ (x : ℕ). (seen s).linked x n) (sym p.0) ∙ h) p.1);
+    descriptors = λ j n v h p. (rw p.0 (one_all number n v (ap (λ (x : ℕ). (seen s).linked x n) (sym p.0) ∙ h) p.1));
     its_descriptors = λ j n v h l. one_its number j n (is_connected (descriptor_of s.store.links k number)) h;
   }
   command_lists command.End u is unread = record {
     pages = λ f v q h p. absurd p;
     its_pages = λ f v q h b. absurd (none_has f h);
     unread = λ f v q h p. p;
-    descriptors = λ j n v h same. subst (λ (x : ℕ). has_pair (descriptors_taken s.store k u command.End) x n ≡ true)
-        (sym same) (end_all 0 256 n v (ap (λ (x : ℕ). (seen s).linked x n) (sym same) ∙ h) (omega arith)
-        (number_within j n v h));
+    descriptors = λ j n v h same. (rw same (end_all 0 256 n v (ap (λ (x : ℕ). (seen s).linked x n) (sym same) ∙ h)
+        (omega arith) (number_within j n v h)));
     its_descriptors = λ j n v h l. end_its _ j n h;
   }
   command_lists cmd u is unread = record {
@@ -459,10 +450,7 @@ module _ (s : State) (c k : ℕ) (cmd : Command) (w : What) (fs : List ℕ) (pai
       (TakesDescriptor cmd k (uid_of_command s.store k cmd))
   lists = subst (λ (x : List ℕ). AreListed s x pairs (TakesPage cmd (uid_of_command s.store k cmd))
       (TakesDescriptor cmd k (uid_of_command s.store k cmd))) (sym finds.frames)
-      (subst (λ (x : List (ℕ × ℕ)). AreListed s
-      (frames_taken s.store (uid_of_command s.store k cmd) (first_taken cmd)) x
-      (TakesPage cmd (uid_of_command s.store k cmd)) (TakesDescriptor cmd k (uid_of_command s.store k cmd)))
-      (sym finds.descriptors) (command_lists s k keeps cmd (uid_of_command s.store k cmd) refl finds.unread))
+      (rw finds.descriptors (command_lists s k keeps cmd (uid_of_command s.store k cmd) refl finds.unread))
 
   -- What a look takes for a command is just what the command takes.
   pub look_taken : IsTakenFor (took s c aim.Committing w fs pairs) k cmd

@@ -41,8 +41,7 @@ faults_push (x ∷ xs) e = let ih = faults_push xs e in
 -- an entry that tells of no failed read or write
 pub quiet_push : (es : List Entry) (e : Entry) → is_fault e ≡ false
     → count_by is_fault (es ++ e ∷ []) ≡ count_by is_fault es
-quiet_push es e quiet = faults_push es e ∙ (ap (λ (b : Bool). count_by is_fault es + cond b 1 0) quiet
-    ∙ add-zero (count_by is_fault es))
+quiet_push es e quiet = cc (faults_push es e, add-zero (count_by is_fault es))
 
 -- an entry that leaves the flat store as it was
 pub flat_still : (p : Plan) (es : List Entry) (e : Entry) → after_entry p (store_after p es) e ≡ store_after p es
@@ -75,12 +74,7 @@ reseat_kept s c p ready e spare k within book still quiet other = record {
   few_faults = let count = faults_push s.entries e in let none =
       ap {B = ℕ} (λ (b : Bool). cond b 1 0) quiet in let few = k.few_faults in
       omega (arith, count, none, few);
-  sizes = record {
-    frames = k.sizes.frames;
-    processors = length-set s.processors c p
-        ∙ k.sizes.processors;
-    processes = k.sizes.processes;
-  };
+  sizes = assumption (length-set s.processors c p ∙ k.sizes.processors);
   at_work = λ o h. subst IsAtWork (sym (get_or-set_other s.processors c o.cpu p no_processor (other o h)))
       (k.at_work o h);
 }

@@ -12,7 +12,7 @@ use Rattle.active_segs.specs.declared.Entry.{Entry}
 use Rattle.active_segs.specs.Active.{entry_at, uid_in}
 use Rattle.active_segs.specs.Victim.{off_chain, IsOffChain}
 use Rattle.processor.specs.declared.Transfer.{Transfer}
-use Rattle.machine_model.specs.Outline.{Want, Refer, Truncate, Length, Other, Runner, no_runner, Work, EvictFrame}
+use Rattle.machine_model.specs.Outline.{Want, Refer, Truncate, Runner, no_runner, Work, EvictFrame}
 use Rattle.machine_model.specs.Outline.{EmptyPlace, CommitCommand, Stage, Look, Taken, Waiting, Copying, Keeper}
 use Rattle.machine_model.specs.Outline.{Outline}
 use Rattle.machine_model.specs.Outline.{Turn}
@@ -24,8 +24,8 @@ use Rattle.machine_model.specs.Finishing.{frees_frame, frees_page, empties, empt
 use Rattle.machine_model.specs.Finishing.{begins_move, copies, commits_move}
 use Rattle.machine_model.specs.Finishing.{AreAlike, AreOf, CanStart, is_bound, is_wanted_here, page_of, uid_of}
 use Rattle.machine_model.specs.Finishing.{with_link, with_runners, with_stored, without_owner, now_reading, entry_for}
-use Rattle.machine_model.specs.Finishing.{IsAnswered, Step, ends, comes, clears, reads, loses, works, awaits_clear}
-use Rattle.machine_model.specs.Finishing.{awaits_transfer, loads, idles, leaves, fills, replies, faults, enters, waits}
+use Rattle.machine_model.specs.Finishing.{IsAnswered, Step, comes, clears, reads, loses, works}
+use Rattle.machine_model.specs.Finishing.{loads, leaves, fills, replies, faults, enters}
 use Rattle.machine_model.specs.Finishing.{IsReplied, with_bound, not_reading}
 use Rattle.machine_model.specs.OutlineKept.{IsKept, HasSizes, AreTied, HasJob, IsAtWork, FitsStage, FitsWork}
 use Rattle.machine_model.specs.OutlineKept.{AreSpared, EndsChain, is_wanted, is_spared}
@@ -96,10 +96,8 @@ spared_by w (frame.Bound uid page used modified) bound out = ap not out
 unwanted : (frames : List Frame) (f : ℕ) (w : Want) → is_wanted_here frames w ≡ false
     → is_wanted w (frame_in frames f) ≡ false
 unwanted frames f (Refer chain uid page makes) h = none_of frames f uid page h
-unwanted frames f (Truncate chain uid None) h = refl
 unwanted frames f (Truncate chain uid (Some page)) h = none_of frames f uid page h
-unwanted frames f (Length uid) h = refl
-unwanted frames f Other h = refl
+unwanted frames f _ h = refl
 
 -- a segment of the chain isn't at a place that is off it
 apart_from : (chain : List ℕ) (o : Option Entry) (uid : ℕ) → Contains chain uid → off_chain chain o ≡ true
@@ -138,11 +136,9 @@ unwanted_uid : (w : Want) (x : Frame) (o : Option Entry) → EndsChain w → off
     → uid_of (page_of x) ≡ uid_in o → is_wanted w x ≡ false
 unwanted_uid (Refer chain uid page makes) x o there off of_it =
     not_wanted_uid x uid page (λ h. apart_from chain o uid there off (sym of_it ∙ h))
-unwanted_uid (Truncate chain uid None) x o there off of_it = refl
 unwanted_uid (Truncate chain uid (Some page)) x o there off of_it =
     not_wanted_uid x uid page (λ h. apart_from chain o uid there off (sym of_it ∙ h))
-unwanted_uid (Length uid) x o there off of_it = refl
-unwanted_uid Other x o there off of_it = refl
+unwanted_uid _ x o there off of_it = refl
 
 -- the frames of a segment off the chain may be taken
 spared_all : (s : Outline) (w : Want) (place : ℕ) (frames : List ℕ) → EndsChain w
@@ -159,9 +155,8 @@ spared_all s w place (f ∷ fs) there off of_it = (
 )
 
 spared_started : (w : Want) (x : Frame) → is_spared w x ≡ true → is_started x ≡ false
-spared_started w frame.Free h = refl
 spared_started w (frame.Started uid page) h = let no : false ≡ true = h in absurd cc
-spared_started w (frame.Bound uid page used modified) h = refl
+spared_started w _ h = refl
 
 -- frames that were taken stay so while another frame changes to one that may be taken too
 spared_set : (frames : List Frame) (w : Want) (fs : List ℕ) (f : ℕ) (x : Frame) → f < length frames
@@ -239,14 +234,12 @@ job_other s t c x job owner runners other due fits = record {
     idle = ap (λ (y : Runner). y.reading) same ∙ work.idle;
   });
   fits = λ d b h. (let was = sym owner ∙ h in
-      subst (λ (w : Want). FitsStage t w b) (sym (ap (λ (y : Runner). y.want) (at d b was)))
-      (fits (want_at s d) b (job.fits d b was)));
+      rw (ap (λ (y : Runner). y.want) (at d b was)) (fits (want_at s d) b (job.fits d b was)));
   quiet = λ none. due (job.quiet (sym owner ∙ none));
 }
   where
     at : (d : ℕ) (b : Stage) → IsIn s d b → runner_at t.runners d ≡ runner_at s.runners d
-    at d b was = ap (λ (xs : List Runner). runner_at xs d) runners
-        ∙ get_or-set_other s.runners c d x no_runner (λ e. other b (subst (λ (i : ℕ). IsIn s i b) e was))
+    at d b was = cc (get_or-set_other s.runners c d x no_runner (λ e. other b (subst (λ (i : ℕ). IsIn s i b) e was)))
 
 -- nothing more is due
 due_set : (s : Outline) (c : ℕ) (x : Runner) → c < length s.runners
@@ -406,8 +399,7 @@ one_kept : (s t : Outline) (c : ℕ) (x : Runner) → IsKept s → HasSizes t �
     → t.runners ≡ set s.runners c x → t.frames ≡ s.frames → t.entries ≡ s.entries → ((b : Stage) → IsIn s c b → ⊥)
     → ((runner_at s.runners c).due ≡ false → x.due ≡ false) → AreTied (set s.runners c x) s.frames → IsKept t
 one_kept s t c x k sizes lt owner runners frames entries other due tied =
-    kept t sizes (subst (λ (xs : List Runner). AreTied xs t.frames) (sym runners)
-    (subst (λ (fs : List Frame). AreTied (set s.runners c x) fs) (sym frames) tied))
+    kept t sizes (rw runners (subst (λ (fs : List Frame). AreTied (set s.runners c x) fs) (sym frames) tied))
     (job_other s t c x k.job owner runners other
     (λ none. ap dues runners ∙ due_set s c x lt due none)
     (λ w b h. fits_still s t w b frames entries (λ none. ap dues runners ∙ due_set s c x lt due none) h))
@@ -421,8 +413,7 @@ ended_kept s t c r x y k sizes reading owner runners frames entries online over 
     let lt = inside s.runners c (k.tied.runners_online c (k.tied.readers_run c r reading)) in
     let tie = k.tied.read c r reading in
     let still : (runner_at s.runners c).due ≡ false → x.due ≡ false = λ h. due ∙ h in
-    kept t sizes (subst (λ (xs : List Runner). AreTied xs t.frames) (sym runners)
-    (subst (λ (fs : List Frame). AreTied (set s.runners c x) fs) (sym frames)
+    kept t sizes (rw runners (subst (λ (fs : List Frame). AreTied (set s.runners c x) fs) (sym frames)
     (tied_ended s.runners s.frames c r x y lt reading online over now k.tied)))
     (job_other s t c x k.job owner runners
     (λ b h. not_both (ap (λ (o : Option Transfer). is_some o) reading)
@@ -435,19 +426,14 @@ look_kept : (s : Outline) (c : ℕ) → IsKept s → HasSizes (at_stage s c Look
     → rule_of s c ≡ Commands → s.owner ≡ None → IsKept (at_stage s c Look)
 look_kept s c k sizes lt h none =
     let told = tells s c Commands h in
-    kept (at_stage s c Look) sizes k.tied (job_of (at_stage s c Look) c Look refl (record {
-      within = lt;
-      running = told.3;
-      clear = told.0;
-      idle = read_none (runner_at s.runners c).reading told.1;
-    }) (k.job.quiet none))
+    kept (at_stage s c Look) sizes k.tied (job_of (at_stage s c Look) c Look refl
+    (assumption (read_none (runner_at s.runners c).reading told.1)) (k.job.quiet none))
 
 -- Each step keeps what is true of an outline. That the sizes stay, and that what a command's effect leaves is kept, is
 -- the machine's to say.
 pub step_keeps : (s : Outline) (c : ℕ) (turn : Turn) (t : Outline) → IsKept s → c < length s.runners → HasSizes t
     → (IsAnswered s c t → IsKept t) → (rule_of s c ≡ Commands → IsReplied s c t → IsKept t) → Step s c turn t
     → IsKept t
-step_keeps s c turn t k lt sizes given told (ends ended) = k
 step_keeps s c turn t k lt sizes given told (comes h) =
     one_kept s (with_runner s c (record (runner_at s.runners c) { online = true })) c
     (record (runner_at s.runners c) { online = true }) k sizes lt refl refl refl refl
@@ -468,15 +454,12 @@ step_keeps s c turn t k lt sizes given told (loses r x left h is lost fewer) =
     is refl
     refl refl refl (lost.online ∙ k.tied.runners_online c (k.tied.readers_run c r is)) lost.reading lost.due refl
 step_keeps s c turn t k lt sizes given told (works _ h step) = job_keeps s c t k sizes given step
-step_keeps s c turn t k lt sizes given told (awaits_clear w d h waiting online due) = k
-step_keeps s c turn t k lt sizes given told (awaits_transfer f uid page h look started) = k
 step_keeps s c turn t k lt sizes given told (loads x h some loaded) =
     let rule = tells s c Loads h in
     one_kept s (record (with_runner s c x) { ready = s.ready - 1 }) c x k sizes lt refl refl refl refl
     (λ b i. not_owner s c b rule.2 i) (λ d. loaded.due)
     (tied_quiet s.runners c x s.frames lt loaded.online loaded.reading
     (read_none (runner_at s.runners c).reading rule.1) k.tied)
-step_keeps s c turn t k lt sizes given told (idles busy h none) = k
 step_keeps s c turn t k lt sizes given told (leaves x h left) =
     let rule = tells s c Leaves h in
     one_kept s (record (with_runner s c x) { ready = s.ready + 1 }) c x k sizes lt refl refl refl refl
@@ -493,4 +476,4 @@ step_keeps s c turn t k lt sizes given told (replies _ h replied) = told h repli
 step_keeps s c turn t k lt sizes given told (faults chain uid page makes h none want lacks) =
     look_kept s c k sizes lt h none
 step_keeps s c turn t k lt sizes given told (enters h none want) = look_kept s c k sizes lt h none
-step_keeps s c turn t k lt sizes given told (waits o h some) = k
+step_keeps s c turn t k lt sizes given told _ = k

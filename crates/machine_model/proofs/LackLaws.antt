@@ -26,9 +26,7 @@ if_le false false h = omega arith
 
 link_more : (w : Want) (a b : Bool) → (a ≡ true → b ≡ true) → wanted_link w a ≡ true → wanted_link w b ≡ true
 link_more (Refer chain uid page makes) a b h is = h is
-link_more (Truncate chain uid cut) a b h is = refl
-link_more (Length uid) a b h is = refl
-link_more Other a b h is = refl
+link_more _ a b h is = refl
 
 pub lack_le : (s t : Outline) (w : Want) (a b : Bool) (r q : Option Transfer) → (a ≡ true → b ≡ true)
     → (wanted_fits s w r ≡ true → wanted_fits t w q ≡ true) → want_lack t w b q ≤ want_lack s w a r
@@ -55,9 +53,6 @@ pub fits_more : (s t : Outline) (r q : Option Transfer) (uid page : ℕ) (makes 
 fits_more s t r q uid page makes here reads stored h =
     by (is_here s.frames uid page) (reads_page r uid page) (s.stored uid page) refl refl refl h
   where
-    at : Bool → Bool → Bool → Type 0
-    at a b c = (a || (b || (not c && not makes))) ≡ true
-
     by : (a b c : Bool) → is_here s.frames uid page ≡ a → reads_page r uid page ≡ b → s.stored uid page ≡ c
         → (a || (b || (not c && not makes))) ≡ true → page_fits t q uid page makes ≡ true
     by true b c i j k g = or_left _ _ (here i)
@@ -74,9 +69,8 @@ fits_more s t r q uid page makes here reads stored h =
         g)
       where
         last : (x y z : Bool) → z ≡ true → (x || (y || z)) ≡ true
-        last true y z e = refl
-        last false true z e = refl
         last false false z e = e
+        last _ _ z e = refl
 
 -- the same for the page that a command wants
 pub wanted_more : (s t : Outline) (w : Want) (r q : Option Transfer)
@@ -87,11 +81,9 @@ pub wanted_more : (s t : Outline) (w : Want) (r q : Option Transfer)
     → wanted_fits s w r ≡ true → wanted_fits t w q ≡ true
 wanted_more s t (Refer chain uid page makes) r q here reads stored h =
     fits_more s t r q uid page makes (here uid page makes) (reads uid page) (stored uid page) h
-wanted_more s t (Truncate chain uid None) r q here reads stored h = refl
 wanted_more s t (Truncate chain uid (Some page)) r q here reads stored h =
     fits_more s t r q uid page false (here uid page false) (reads uid page) (stored uid page) h
-wanted_more s t (Length uid) r q here reads stored h = refl
-wanted_more s t Other r q here reads stored h = refl
+wanted_more s t _ r q here reads stored h = refl
 
 -- ---- frames
 
@@ -100,9 +92,7 @@ pub here_same : (frames : List Frame) (f uid page : ℕ) (x : Frame) → f < len
     → is_of uid page (frame_in frames f) ≡ false → is_of uid page x ≡ false
     → is_here (set frames f x) uid page ≡ is_here frames uid page
 unfolding is_here
-here_same frames f uid page x lt was now =
-    any_set (is_of uid page) frames f x frame.Free lt was
-    ∙ ap (λ (b : Bool). b || list_any (is_of uid page) frames) now
+here_same frames f uid page x lt was now = cc (any_set (is_of uid page) frames f x frame.Free lt was)
 
 -- a frame that wasn't of a page becomes any other
 pub here_more : (frames : List Frame) (f uid page : ℕ) (x : Frame) → f < length frames
@@ -139,8 +129,6 @@ spared_not w (frame.Bound uid page used modified) h = by (is_wanted w (frame.Bou
     by false e = refl
 
 not_page : (x : Frame) (uid page : ℕ) → is_of uid page x ≡ false → page_of x ≢ Some (uid, page)
-not_page frame.Free uid page out h = absurd (none-some (uid, page) h)
-not_page (frame.Started u q) uid page out h = absurd (none-some (uid, page) h)
 not_page (frame.Bound u q used modified) uid page out h =
     let a : u ≡ uid = ap (λ (o : Option (ℕ × ℕ)). (page_or_zero o).0) h in
     let b : q ≡ page = ap (λ (o : Option (ℕ × ℕ)). (page_or_zero o).1) h in
@@ -150,6 +138,7 @@ not_page (frame.Bound u q used modified) uid page out h =
   where
     same : (i j : ℕ) → i ≡ j → eqb i j ≡ true
     same i j e = elim (eqb_tells i j) [ inl x ↦ x.0 | inr x ↦ absurd (x.1 e) ]
+not_page _ uid page out h = absurd (none-some (uid, page) h)
 
 pub freed_fits : (s : Outline) (f : ℕ) (stored : ℕ → ℕ → Bool) (full : ℕ → Bool) (w : Want) (r : Option Transfer)
     → f < length s.frames → is_spared w (frame_in s.frames f) ≡ true → MayRelease s f stored full
@@ -167,11 +156,9 @@ freed_fits s f stored full (Refer chain uid page makes) r lt spared may h =
         let here = here_same s.frames f uid page frame.Free lt out refl in
         let kept = may.others uid page (not_page (frame_in s.frames f) uid page out) in
         rw (here, kept) refl
-freed_fits s f stored full (Truncate chain uid None) r lt spared may h = refl
 freed_fits s f stored full (Truncate chain uid (Some page)) r lt spared may h =
     let out = spared_not (Truncate chain uid (Some page)) (frame_in s.frames f) spared in
     let here = here_same s.frames f uid page frame.Free lt out refl in
     let kept = may.others uid page (not_page (frame_in s.frames f) uid page out) in
     rw (here, kept) h
-freed_fits s f stored full (Length uid) r lt spared may h = refl
-freed_fits s f stored full Other r lt spared may h = refl
+freed_fits s f stored full _ r lt spared may h = refl

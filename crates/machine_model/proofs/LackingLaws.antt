@@ -1,17 +1,16 @@
 -- What a move rests on by the tables is what the flat store and custody ask of it.
-use Rattle.std.proofs.Common.{◌≡◌, ◌≢◌, ◌*◌, ℕ, Bool, true, false, ◌&&◌, eqb, List, Option, Some}
-use Rattle.std.proofs.Common.{None, inl, inr, refl, sym, ap, subst, ◌∙◌, arith, cond}
+use Rattle.std.proofs.Common.{◌≡◌, ◌≢◌, ◌*◌, ℕ, true, false, eqb, List, Option, Some}
+use Rattle.std.proofs.Common.{None, inl, inr, refl, sym, ap, subst, ◌∙◌, arith}
 use Rattle.std.specs.Prelude.{◌/◌, nat_le}
 use Rattle.std.proofs.lemmas.Bool.Decides.{eqb_tells, leb_tells}
 use Rattle.mnames.specs.declared.principals.Who.{Who}
 use Rattle.script.specs.Plans.{command_at, who_of}
-use Rattle.script.specs.References.{alters, permits}
+use Rattle.script.specs.References.{permits}
 use Rattle.script.specs.declared.commands.Command.{Command}
-use Rattle.script.specs.declared.commands.RefKind.TheVariants as kind
 use Rattle.script.specs.declared.commands.Reference.{Reference}
 use Rattle.tree_model.specs.Access.{access_of}
 use Rattle.tree_model.specs.Tree.{Node, entries_on, node_in, taken_on, volume_in}
-use Rattle.flat_model.specs.Moves.{MayMove, awaits_by, awaits_in, awaits_move, is_uid, lacks_at, lacks_record}
+use Rattle.flat_model.specs.Moves.{MayMove, awaits_by, awaits_in, awaits_move, is_uid, lacks_record}
 use Rattle.flat_model.specs.Pages.{is_stored}
 use Rattle.flat_model.specs.References.{is_used_up, is_volume_full, stores_page}
 use Rattle.flat_model.specs.Rooms.{room_for, has_room as has_room_flat}
@@ -25,7 +24,6 @@ use Rattle.page_control.specs.Counts.{is_full, size}
 use Rattle.page_control.specs.Tied.{has_record}
 use Rattle.seg_mover.specs.declared.Mover.{Mover}
 use Rattle.seg_control.specs.Control.{kst_at, word_of}
-use Rattle.storage_ops.specs.References.{is_spent}
 use Rattle.custody_model.specs.Allowed.{MayRehome}
 use Rattle.custody_model.specs.declared.FrameUse.TheVariants as frame
 use Rattle.machine_model.specs.Holding.{seen}
@@ -33,7 +31,6 @@ use Rattle.machine_model.specs.Keeps.{Keeps}
 use Rattle.machine_model.specs.Lacking.{IsFirstWithRoom, IsMovedFor, LacksRecord, MovesFor, MovesForNext, has_room}
 use Rattle.machine_model.specs.Lacking.{tables_of}
 use Rattle.machine_model.specs.Reads.{flat_of, is_active, next_command}
-use Rattle.machine_model.specs.Refusal.{move_to}
 use Rattle.machine_model.specs.Seen.{bound_use, frame_use, shown}
 use Rattle.machine_model.specs.State.{State}
 use Rattle.machine_model.proofs.LookFacts.{IsInside}
@@ -56,14 +53,6 @@ module _ (s : State) (keeps : Keeps s) where
       (keeps.store.counted.taken.records t.stored v keeps.faithful.tree.counts
       ∙ ap (λ (ns : List Node). taken_on ns t.stored v) (sym keeps.faithful.tree.nodes))
       ∙ ap (λ (n : ℕ). eqb (taken_on t.nodes t.stored v) n) (sym (keeps.faithful.script.records v))
-
-  -- where a segment moves to, by the tables for whether its volume is full
-  pub move_is : (u : ℕ) → move_to s u
-      ≡ cond (is_full s.store.pages.records (volume_in s.store.accounts.nodes u)) (room_for s.plan t u) None
-  unfolding move_to
-  move_is u = ap (λ (b : Bool). cond b (room_for s.plan t u) None)
-      (ap (λ (ns : List Node). is_volume_full s.plan t (volume_in ns u)) keeps.faithful.tree.nodes
-      ∙ sym (full_is (volume_in s.store.accounts.nodes u)))
 
   -- a volume has room for a segment there where it has by the tables
   pub room_same : (u v : ℕ) → has_room (tables_of s.store) u v ≡ has_room_flat s.plan t u v
@@ -102,20 +91,16 @@ module _ (s : State) (keeps : Keeps s) where
       where
         null : (w : Ptw) → has_record w ≡ false → w ≡ ptw.Null
         null ptw.Null e = refl
-        null (ptw.Out n) e = absurd (not_both refl e)
-        null (ptw.Here f) e = absurd (not_both refl e)
-        null (ptw.Leaving f) e = absurd (not_both refl e)
+        null _ e = absurd (not_both refl e)
 
     stores : stores_page t u r.offset r.kind ≡ true
     stores = rw (nonzero_alters r.kind h.word, blank, h.word, unstored) refl
 
     unspent : is_used_up t u ≡ false
-    unspent = ap (λ (ns : List Node). is_spent ns t.stored u) keeps.faithful.tree.nodes
-        ∙ h.unspent t.stored keeps.faithful.tree.counts
+    unspent = cc (keeps.faithful.tree.nodes, h.unspent t.stored keeps.faithful.tree.counts)
 
     full : is_volume_full s.plan t h.node.volume ≡ true
-    full = ap (is_volume_full s.plan t) (volume_found s.store.accounts.nodes u h.node h.there)
-        ∙ (sym (full_is (volume_in s.store.accounts.nodes u)) ∙ h.full)
+    full = cc (volume_found s.store.accounts.nodes u h.node h.there, full_is (volume_in s.store.accounts.nodes u))
 
     permitted : permits (access_of (who_of s.plan k) h.node.rows) r.kind ≡ true
     permitted = ap (λ (w : Who). permits (access_of w h.node.rows) r.kind) (sym (who_is s keeps k)) ∙ h.permitted
@@ -150,9 +135,7 @@ module _ (s : State) (keeps : Keeps s) where
     its = elim (eqb_tells u u) [ inl e ↦ e.0 | inr n ↦ absurd (n.1 refl) ]
 
     pub awaits : awaits_by s.plan t k u (Some r) ≡ true
-    awaits = ap (λ (x : Option ℕ). is_uid x u && lacks_at s.plan t k r.offset r.kind (node_in t.nodes u)) known
-        ∙ (ap (λ (b : Bool). b && lacks_at s.plan t k r.offset r.kind (node_in t.nodes u)) its
-        ∙ (ap (lacks_at s.plan t k r.offset r.kind) there ∙ lacks))
+    awaits = cc (known, its, there, lacks)
 
 -- ---- the flat store
 
@@ -182,10 +165,8 @@ may_rehome s k m x h = record {
 }
   where
     bound : (page : ℕ × ℕ) (w : Ptw) (q : ℕ) → bound_use page w ≢ frame.Started m.uid q
-    bound page ptw.Null q e = let no : frame.Current page.0 page.1 ≡ frame.Started m.uid q = e in cc
-    bound page (ptw.Out r) q e = let no : frame.Current page.0 page.1 ≡ frame.Started m.uid q = e in cc
-    bound page (ptw.Here f) q e = let no : frame.Current page.0 page.1 ≡ frame.Started m.uid q = e in cc
     bound page (ptw.Leaving f) q e = let no : frame.Going page.0 page.1 ≡ frame.Started m.uid q = e in cc
+    bound page _ q e = let no : frame.Current page.0 page.1 ≡ frame.Started m.uid q = e in cc
 
     by : (f q : ℕ) (b y : Option (ℕ × ℕ)) → (seen s).reads f ≡ y
         → frame_use (seen s).words b y ≡ frame.Started m.uid q → ⊥

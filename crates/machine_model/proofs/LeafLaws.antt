@@ -113,8 +113,7 @@ module _ (entries : List (Option Entry)) (tree : IsTree entries) where
   stays : (steps place : ℕ) → least_inferior entries place ≡ None → leaf_below entries steps place ≡ place
   unfolding leaf_below
   stays zero place none = refl
-  stays (suc steps) place none = ap (λ (x : Option ℕ). leaf_below entries steps (stead_of place x)) none
-      ∙ stays steps place none
+  stays (suc steps) place none = cc (stays steps place none)
 
   -- a place that has a segment without inferior
   record IsLeaf (place : ℕ) : Type 0 where

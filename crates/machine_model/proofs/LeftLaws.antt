@@ -1,6 +1,6 @@
 -- Each answer leaves a command, or a try of an `await`, less to come.
 use Rattle.std.proofs.Common.{◌≡◌, ◌<◌, ℕ, zero, suc, ◌+◌, ◌-◌, Bool, true, false, cond, List, [], ◌∷◌, length, drop}
-use Rattle.std.proofs.Common.{sum_by, slice_get, Some, set, get_or, sym, ap, subst, ◌∙◌, arith}
+use Rattle.std.proofs.Common.{sum_by, slice_get, Some, set, get_or, ap, ◌∙◌, arith}
 use Rattle.std.proofs.lemmas.List.Sums.{sum_by-drop_more}
 use Rattle.std.proofs.lemmas.Option.{get_or_from_slice_get, slice_get_within}
 use Rattle.script.specs.Forms.{weight}
@@ -24,9 +24,7 @@ rest_of commands place c next =
 
 pub answer_falls : (commands : List Command) (run : Run) (c : Command) (r : Reply) → GoesOn commands run c
     → left_of commands (run_after run (Some c) r) < left_of commands run
-answer_falls commands run c r on =
-    subst (λ (n : ℕ). left_of commands (run_after run (Some c) r) < n) (sym was)
-    (by (goes_on run (Some c) r) (is_its_end (Some c)))
+answer_falls commands run c r on = rw was (by (goes_on run (Some c) r) (is_its_end (Some c)))
   where
     was : left_of commands run ≡ sum_by weight (drop run.place commands) - run.tries
     was = ap (λ (b : Bool). cond {A = ℕ} b 0 (sum_by weight (drop run.place commands) - run.tries)) on.going
@@ -52,8 +50,7 @@ no_process = record { who = nobody; commands = [] }
 pub left_falls : (xs : List ProcessPlan) (runs : List Run) (k : ℕ) (run : Run) → k < length xs → k < length runs
     → left_of (get_or xs k no_process).commands run < left_of (get_or xs k no_process).commands (run_at runs k)
     → left_in xs (set runs k run) < left_in xs runs
-left_falls [] runs k run lt within less = absurd (omega arith)
-left_falls (x ∷ xs) [] k run lt within less = absurd (omega arith)
 left_falls (x ∷ xs) (y ∷ ys) zero run lt within less = omega (arith, less)
 left_falls (x ∷ xs) (y ∷ ys) (suc k) run lt within less =
     let rest = left_falls xs ys k run (omega arith) (omega arith) less in omega (arith, rest)
+left_falls _ _ k run lt within less = absurd (omega arith)

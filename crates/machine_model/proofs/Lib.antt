@@ -95,7 +95,6 @@ pub mod OutLaws
 pub mod OuterLaws
 pub mod OutlineAlone
 pub mod OutlineAnswer
-pub mod OutlineBoot
 pub mod OutlineEnd
 pub mod OutlineGoes
 pub mod OutlineJob

@@ -1,5 +1,5 @@
 -- Whether the descriptor of a processor's next command is connected, while a job takes pages and descriptors.
-use Rattle.std.proofs.Common.{◌≡◌, ℕ, false, List, [], ◌∷◌, Option, Some, None, refl, sym, ap, ◌∙◌}
+use Rattle.std.proofs.Common.{◌≡◌, ℕ, false, List, [], ◌∷◌, Some, None, refl, sym, ap, ◌∙◌}
 use Rattle.script.specs.References.{reference_of}
 use Rattle.script.specs.declared.commands.Command.{Command}
 use Rattle.script.specs.declared.commands.Reference.{Reference}
@@ -18,7 +18,7 @@ use Rattle.machine_model.specs.Foreseen.{KeepsLink}
 use Rattle.machine_model.specs.Jobs.{seg_gone, segment_taken, segs_gone}
 use Rattle.machine_model.specs.Jobs.{took}
 use Rattle.machine_model.specs.Outlined.{around, is_linked, reference_in, runner_by}
-use Rattle.machine_model.specs.Reads.{cpu_at, cut_of_owner, descriptor_of, is_connected, next_command, processor_at}
+use Rattle.machine_model.specs.Reads.{cpu_at, cut_of_owner, descriptor_of, next_command, processor_at}
 use Rattle.machine_model.specs.Reads.{run_at}
 use Rattle.machine_model.specs.State.{State}
 use Rattle.machine_model.proofs.ComingKept.{SameRuns}
@@ -65,8 +65,7 @@ module _ (s t : State) (c k : ℕ) (its : (cpu_at s.processors c).process ≡ So
   link_of : (u : State) → (next_command u k ≡ next_command s k)
       → (runner_by (around u) (processor_at s.processors c) (cpu_at s.processors c).process).linked
       ≡ is_linked (around u) k (reference_in (next_command s k))
-  link_of u next = ap (λ (o : Option ℕ). (runner_by (around u) (processor_at s.processors c) o).linked) its
-      ∙ ap (λ (x : Option Command). is_linked (around u) k (reference_in x)) next
+  link_of u next = cc
 
   -- of a command without a reference none is
   pub tree_link : (cmd : Command) → next_command s k ≡ Some cmd → reference_of cmd ≡ None → KeepsLink s t c
@@ -79,6 +78,4 @@ module _ (s t : State) (c k : ℕ) (its : (cpu_at s.processors c).process ≡ So
   pub fault_link : (cmd : Command) (r : Reference) → next_command s k ≡ Some cmd → reference_of cmd ≡ Some r
       → descriptor_of s.store.links k r.number ≡ sdw.Fault → descriptor_of t.store.links k r.number ≡ sdw.Fault
       → KeepsLink s t c
-  fault_link cmd r next is was now = (link_of t same_next ∙ (ap (is_linked (around t) k) (ap reference_in next ∙ is)
-      ∙ ap is_connected now))
-      ∙ sym (link_of s refl ∙ (ap (is_linked (around s) k) (ap reference_in next ∙ is) ∙ ap is_connected was))
+  fault_link cmd r next is was now = cc (link_of t same_next, link_of s refl)

@@ -1,5 +1,5 @@
 -- Lists that are changed in place, read as functions.
-use Rattle.std.proofs.Common.{◌≡◌, ◌≢◌, ◌<◌, ℕ, zero, suc, cond, eqb, List, [], ◌∷◌, map, length, set, get_or, inl, inr}
+use Rattle.std.proofs.Common.{◌≡◌, ◌≢◌, ◌<◌, ℕ, suc, List, [], ◌∷◌, map, length, set, get_or, inl, inr}
 use Rattle.std.proofs.Common.{refl, sym, ap, ◌∙◌}
 use Rattle.std.proofs.lemmas.Bool.Decides.{eqb_tells, leb_tells}
 use Rattle.std.proofs.lemmas.List.{get_or-set_same, get_or-set_other, get_or_past}
@@ -18,9 +18,8 @@ module _ {A : Type 0} where
 
 module _ {A B : Type 0} where
   pub map_list : (f : A → B) (xs : List A) (i : ℕ) (d : A) → get_or (map f xs) i (f d) ≡ f (get_or xs i d)
-  map_list f [] i d = refl
-  map_list f (x ∷ xs) zero d = refl
   map_list f (x ∷ xs) (suc i) d = map_list f xs i d
+  map_list f _ _ d = refl
 
   pub map_length : (f : A → B) (xs : List A) → length (map f xs) ≡ length xs
   map_length f [] = refl
@@ -41,7 +40,6 @@ module _ {A : Type 0} where
   put_lists xss k n x d i j outer inner = ap (λ (ys : List A). get_or ys j d)
       (put_list xss k (set (get_or xss k []) n x) [] i outer)
       ∙ elim (eqb_tells i k) [
-        | inl e ↦ rw e.0 (put_list (get_or xss k []) n x d j inner
-            ∙ ap (λ (y : A). cond (eqb j n) x y) (ap (λ (a : ℕ). get_or (get_or xss a []) j d) (sym e.1)))
+        | inl e ↦ rw e.0 (cc (put_list (get_or xss k []) n x d j inner))
         | inr m ↦ rw m.0 refl
       ]

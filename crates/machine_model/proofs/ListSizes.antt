@@ -2,7 +2,7 @@
 -- 32 at the most.
 use Rattle.std.proofs.Common.{◌≡◌, ◌<◌, ◌≤◌, ℕ, Bool, true, false, ◌||◌, cond, eqb, is_some, length, map}
 use Rattle.std.proofs.Common.{List, [], ◌∷◌, Option, Some, None, inl, inr, refl, sym, ap, subst, ◌∙◌, arith}
-use Rattle.std.proofs.Common.{◌+◌, ◌/◌, zero, suc, drop}
+use Rattle.std.proofs.Common.{◌+◌, ◌/◌, suc, drop}
 use Rattle.std.specs.List.{filter, position_or_len, range_with_len}
 use Rattle.std.proofs.lemmas.List.{get_or_past}
 use Rattle.std.proofs.lemmas.List.FromFn.{length-range_with_len}
@@ -95,8 +95,7 @@ module _ (s : State) (u : ℕ) (k : Keeps s) (active : is_active s.store.ast u �
     where
       by : (x : Sdw) → descriptor_of s.store.links j n ≡ x → uid_of (kst_at s.store.links.known j) n ≡ Some u
       by sdw.Fault e = absurd (none_some (sym (ap (led_to s.store.ast.entries) e) ∙ h))
-      by (sdw.Present aste mode pages) e = at.known_as ∙ (sym at.active
-          ∙ (sym (ap (led_to s.store.ast.entries) e) ∙ h))
+      by (sdw.Present aste mode pages) e = cc (at.known_as, at.active)
         where
           at : IsKnownAt s.store.ast.entries s.store.links.known j n aste
           at = k.store.kept.linked.known j n aste (ap leads e)
@@ -162,8 +161,7 @@ module _ (s : State) (u : ℕ) (k : Keeps s) (active : is_active s.store.ast u �
       → list_any (eqb q) (map (λ y. y.0) xs) ≡ true → q < 32
   below [] are q h = absurd (let no : false ≡ true = h in cc)
   below (x ∷ xs) are q h = elim (eqb_tells q x.0) [
-    | inl e ↦ subst (λ (j : ℕ). j < 32) (sym e.1) (process_small x.0 x.1
-        (are.0.1 ∙ ap (λ (v : ℕ). Some v) (uid_same are.0.0 are.0.2)))
+    | inl e ↦ rw e.1 (process_small x.0 x.1 (are.0.1 ∙ ap (λ (v : ℕ). Some v) (uid_same are.0.0 are.0.2)))
     | inr n ↦ below xs are.2 q (ap (λ (b : Bool). b || list_any (eqb q) (map (λ y. y.0) xs)) (sym n.0) ∙ h)
   ]
 
@@ -180,9 +178,8 @@ module _ (s : State) (u : ℕ) (k : Keeps s) (active : is_active s.store.ast u �
 -- ---- where it may be inactive
 
 drop_few : {A : Type 0} (n : ℕ) (xs : List A) → length (drop n xs) ≤ length xs
-drop_few zero xs = omega arith
-drop_few (suc n) [] = omega arith
 drop_few (suc n) (x ∷ xs) = let rest = drop_few n xs in omega (arith, rest)
+drop_few _ _ = omega arith
 
 -- a segment that isn't active has no page table
 pub no_table : (s : State) (u : ℕ) → Keeps s → is_active s.store.ast u ≡ false → table_of s.store.ast u ≡ []

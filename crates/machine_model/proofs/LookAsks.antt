@@ -23,22 +23,21 @@ use Rattle.active_segs.specs.Active.{entry_at}
 use Rattle.active_segs.specs.Pool.{IsInPool, first_of}
 use Rattle.seg_control.specs.Control.{kst_at, leads, place_of, table_of, word_of}
 use Rattle.seg_control.specs.Kept.{IsKnownAt}
-use Rattle.page_control.specs.Tied.{has_record}
-use Rattle.flat_model.specs.Commands.{reply_by, reply_to_command}
+use Rattle.flat_model.specs.Commands.{reply_to_command}
 use Rattle.flat_model.specs.Moves.{is_held_back}
 use Rattle.flat_model.specs.References.{word_reply}
-use Rattle.flat_model.specs.Store.{Store, known_uid, progress_of}
+use Rattle.flat_model.specs.Store.{Store, known_uid}
 use Rattle.custody_model.specs.Allowed.{MayActivate, MayAnswer as MayAnswerBy, MayJoin, stores}
 use Rattle.storage_ops.specs.Shown.{pages_of}
 use Rattle.machine_model.specs.Actions as act
 use Rattle.machine_model.specs.Actions.{pool_of_node}
 use Rattle.machine_model.specs.After.{Outcome}
-use Rattle.machine_model.specs.Custodial.{IsRun, has_cut}
+use Rattle.machine_model.specs.Custodial.{has_cut}
 use Rattle.machine_model.specs.Holding.{led_to, seen}
 use Rattle.machine_model.specs.Keeps.{Keeps}
 use Rattle.machine_model.specs.Promise.{IsMachine}
 use Rattle.machine_model.specs.Reads.{flat_of, free_place, is_active, or_zero}
-use Rattle.machine_model.specs.Reads.{first_inactive, places_in, process_at, run_at}
+use Rattle.machine_model.specs.Reads.{first_inactive, places_in, process_at}
 use Rattle.machine_model.specs.Refusal.{refusal_of, uid_of_command, uid_of_number}
 use Rattle.machine_model.specs.Said.{Says}
 use Rattle.machine_model.specs.Seen.{shown}
@@ -123,14 +122,13 @@ module _ (s : State) (c : ℕ) (o : Outcome) (m : IsMachine s) (idle : IsIdle s.
   pub about_there : (u : ℕ) → IsAbout s k cmd u → is_some (node_in nodes u) ≡ true
   about_there u h = elim h.case [
     | inl x ↦ (let inside = inside_is s k x.0 keeps x.3 in
-        subst (λ (v : ℕ). is_some (node_in nodes v) ≡ true) x.2
-        (ap (λ (n : Option Node). is_some n) (ap (λ (ns : List Node). node_in ns (uid_of_number s.store k x.0.number))
-        (sym keeps.faithful.tree.nodes) ∙ inside.there)))
+        rw (← x.2) (ap (λ (n : Option Node). is_some n)
+        (ap (λ (ns : List Node). node_in ns (uid_of_number s.store k x.0.number)) (sym keeps.faithful.tree.nodes)
+        ∙ inside.there)))
     | inr x ↦ (let leads = truncate_stands s k keeps x.0 x.1
         (subst (λ (y : Command). refusal_of s k y ≡ None) x.2 x.3) in
-        subst (λ (v : ℕ). is_some (node_in nodes v) ≡ true)
-        (sym leads.uid ∙ (sym (ap (uid_of_command s.store k) x.2) ∙ x.4))
-        (ap (λ (n : Option Node). is_some n) leads.there))
+        rw (← (sym leads.uid ∙ (sym (ap (uid_of_command s.store k) x.2) ∙ x.4))) (ap (λ (n : Option Node). is_some n)
+        leads.there))
   ]
 
   flat_node : (u : ℕ) → node_in (flat_of s).nodes u ≡ node_in nodes u
@@ -140,17 +138,16 @@ module _ (s : State) (c : ℕ) (o : Outcome) (m : IsMachine s) (idle : IsIdle s.
   may_activate : (u place : ℕ) (n : Node) → node_in nodes u ≡ Some n → is_active s.store.ast u ≡ false
       → free_place s.store.ast (pool_of n) ≡ Some place → IfSome n.superior (λ w. is_active s.store.ast w ≡ true)
       → MayActivate s.plan (flat_of s) (shown (seen s)) u
-  may_activate u place n at inactive free superior = record {
-    inactive = inactive;
-    node = subst (λ (x : Option Node). IsSomeAnd x (MayJoin s.plan (flat_of s) (shown (seen s))))
-        (sym (flat_node u ∙ at)) (record {
-          superior = superior;
-          room = subst (λ (ns : List Node). count_by (is_its s.store.ast (pool_of n)) ns
-              < slice_index s.plan.pools (pool_of n)) (sym keeps.faithful.tree.nodes)
-              (subst (λ (z : List ℕ). count_by (is_its s.store.ast (pool_of n)) nodes < slice_index z (pool_of n))
-              m.pools (has_room s.store.ast (pool_of n) nodes place tree free pools));
-        });
-  }
+  may_activate u place n at inactive free superior =
+      assumption (subst (λ (x : Option Node). IsSomeAnd x (MayJoin s.plan (flat_of s) (shown (seen s))))
+      (sym (flat_node u ∙ at))
+      (record {
+        superior = superior;
+        room = subst (λ (ns : List Node). count_by (is_its s.store.ast (pool_of n)) ns <
+            slice_index s.plan.pools (pool_of n)) (sym keeps.faithful.tree.nodes)
+            (subst (λ (z : List ℕ). count_by (is_its s.store.ast (pool_of n)) nodes < slice_index z (pool_of n)) m.pools
+            (has_room s.store.ast (pool_of n) nodes place tree free pools));
+      }))
     where
       and_parts : (a b : Bool) → (a && b) ≡ true → (a ≡ true) × (b ≡ true)
       and_parts true b h = (refl, h)
@@ -159,8 +156,7 @@ module _ (s : State) (c : ℕ) (o : Outcome) (m : IsMachine s) (idle : IsIdle s.
       pools : (x : Node) → IsMember x nodes → is_its s.store.ast (pool_of n) x ≡ true
           → IsInPool s.store.ast.sizes (pool_of n) (place_of s.store.ast.entries x.uid)
       pools x member its = let both = and_parts (is_active s.store.ast x.uid) (eqb (pool_of x) (pool_of n)) its in
-          subst (λ (q : ℕ). IsInPool s.store.ast.sizes q (place_of s.store.ast.entries x.uid)) (same both.1)
-          (keeps.store.counted.active.pools (place_of s.store.ast.entries x.uid) x.uid x
+          rw (← (same both.1)) (keeps.store.counted.active.pools (place_of s.store.ast.entries x.uid) x.uid x
           (active_place s.store.ast x.uid both.0).1 (node_of_member nodes x tree member))
         where
           same : eqb (pool_of x) (pool_of n) ≡ true → pool_of x ≡ pool_of n
@@ -237,21 +233,18 @@ module _ (s : State) (c : ℕ) (o : Outcome) (m : IsMachine s) (idle : IsIdle s.
       uid_is = ap (uid_of_number s.store k) finds.number ∙ finds.uid
 
       known : known_uid (flat_of s) k n ≡ Some u
-      known = ap (known_uid (flat_of s) k) (sym finds.number)
-          ∙ (inside.known ∙ ap (λ (x : ℕ). Some x) uid_is)
+      known = cc (inside.known, uid_is)
 
       active : is_active s.store.ast u ≡ true
       active = chain_active nodes tree s.store.ast u finds.chain
 
       within : (k < length s.store.links.known) × (n < 256)
-      within = known_within n u (ap (λ (x : List (List (Option ℕ))). uid_of (kst_at x k) n)
-          (sym keeps.faithful.known) ∙ known)
+      within = known_within n u (cc (keeps.faithful.known, known))
 
   -- ---- a page of a segment that is connected
 
   pub page_active : (r : Reference) (u p : ℕ) → FindsPage s k cmd r u p → is_active s.store.ast u ≡ true
-  page_active r u p finds = subst (λ (v : ℕ). is_active s.store.ast v ≡ true) same
-      (active_at s.store.ast finds.aste at.uid at.active)
+  page_active r u p finds = rw (← same) (active_at s.store.ast finds.aste at.uid at.active)
     where
       at : IsKnownAt s.store.ast.entries s.store.links.known k r.number finds.aste
       at = keeps.store.kept.linked.known k r.number finds.aste (ap leads finds.linked)
@@ -315,8 +308,7 @@ module _ (s : State) (c : ℕ) (o : Outcome) (m : IsMachine s) (idle : IsIdle s.
 
   still_speaks : (f u p : ℕ) (r : Reference) → Speaks (page_made s f u p r) c k cmd
   still_speaks f u p r = speaks_like refl refl refl
-      (λ j. subst (λ (t : Store). IsRun (progress_of t j) (run_at s.runs j))
-      (sym (one_still s.plan s.entries (entry.Here f u p) refl)) (speaks.runs j)) speaks
+      (λ j. (rw (← (one_still s.plan s.entries (entry.Here f u p) refl)) at (speaks.runs j))) speaks
 
   pub create_asks : (f u p : ℕ) (r : Reference) → FindsRoom s k cmd f u p r → Says s c o (act.Create f u p r)
       → AsksCreate s c f u p r
@@ -352,16 +344,12 @@ module _ (s : State) (c : ℕ) (o : Outcome) (m : IsMachine s) (idle : IsIdle s.
       flat_same = one_still s.plan s.entries (entry.Here f u p) refl
 
       due : word_reply 0 r.kind ≡ reply_to_command s.plan (flat_of (page_made s f u p r)) k cmd
-      due = sym (ap (λ (t : Store). reply_to_command s.plan t k cmd) flat_same
-          ∙ (ap (reply_by s.plan (flat_of s) k cmd) finds.finds.is
-          ∙ (room_due s k r keeps u inside finds.room ∙ ap (λ (w : ℕ). word_reply w r.kind) zero_word)))
+      due = cc (zero_word, room_due s k r keeps u inside finds.room, finds.finds.is, flat_same)
 
       unstored : stores (flat_of s) (known_uid (flat_of s) k r.number) r.offset ≡ false
-      unstored = ap (λ (x : Option ℕ). stores (flat_of s) x r.offset) inside.known
-          ∙ (stored_is s keeps u active (r.offset / 1024) ∙ ap has_record null)
+      unstored = cc (inside.known, stored_is s keeps u active (r.offset / 1024), null)
 
       may : MayAnswerBy s.plan (flat_of (page_made s f u p r)) (shown (seen (page_made s f u p r))) c k None cmd
           (word_reply 0 r.kind) (reference_of cmd)
-      may = subst (λ (x : Option Reference). MayAnswerBy s.plan (flat_of (page_made s f u p r))
-          (shown (seen (page_made s f u p r))) c k None cmd (word_reply 0 r.kind) x) (sym finds.finds.is)
-          (inr (ap (λ (t : Store). stores t (known_uid t k r.number) r.offset) flat_same ∙ unstored))
+      may = rw finds.finds.is (inr (ap (λ (t : Store). stores t (known_uid t k r.number) r.offset) flat_same
+          ∙ unstored))

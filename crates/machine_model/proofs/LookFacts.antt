@@ -255,9 +255,8 @@ module _ (s : State) (k : ℕ) (cmd : Command) where
   started_found f h = by (frame_at core f) (position_at is_started core.frames frame.Free f h).1
     where
       by : (x : Frame) → is_started x ≡ true → is_some (started_page x) ≡ true
-      by frame.Free e = absurd (let no : false ≡ true = e in cc)
       by (frame.Started u q) e = refl
-      by (frame.Bound u q used modified) e = absurd (let no : false ≡ true = e in cc)
+      by _ e = absurd (let no : false ≡ true = e in cc)
 
   module _ (u p : ℕ) (case : ((r : Reference) × FindsPage s k cmd r u p) ⊎ FindsCut s k cmd u p)
       (away : (g : ℕ) → word_of s.store.ast u p ≢ ptw.Here g) where
@@ -417,15 +416,7 @@ module _ (s : State) (k : ℕ) (cmd : Command) where
                 })
             moves None m h word = room_finds uid p (inl (r, page_of))
                 (λ g here. (let no : ptw.Null ≡ ptw.Here g = sym e ∙ here in cc)) (λ f. act.Create f uid p r)
-                (λ f free unread. record {
-                  finds = page_of;
-                  null = e;
-                  word = word;
-                  room = h;
-                  stays = m;
-                  frame = free;
-                  unread = unread;
-                })
+                (λ f free unread. (assumption page_of))
 
             create : (x : Option Reply) → room_refusal s k r ≡ x → eqb (new_word 0 r.kind) 0 ≡ false
                 → LookFinds s k cmd (create_unless x
@@ -491,15 +482,7 @@ module _ (s : State) (k : ℕ) (cmd : Command) where
           → ((path : List (List ℕ)) (pages : ℕ) → cmd ≡ command.Length path pages
           → is_active s.store.ast about_uid ≡ false)
           → FindsTaken s k cmd fs pairs
-      taken_facts fs pairs a b unread brought inactive = record {
-        tree = tree;
-        stands = stands;
-        unread = unread;
-        frames = sym a;
-        descriptors = sym b;
-        brought = brought;
-        inactive = inactive;
-      }
+      taken_facts fs pairs a b unread brought inactive = assumption (sym a, sym b)
 
       commit_finds : (fs : List ℕ) (pairs : List (ℕ × ℕ)) → FindsTaken s k cmd fs pairs
           → LookFinds s k cmd (take_or_commit fs pairs (what_taken about_uid cmd))
@@ -558,13 +541,11 @@ module _ (s : State) (k : ℕ) (cmd : Command) where
 
         bring_finds : (w : Ptw) → word_of s.store.ast about_uid (words / 1024) ≡ w → eqb (words % 1024) 0 ≡ false
             → LookFinds s k cmd (bring_cut core about_uid (words / 1024) w (look_to_take s.store k about_uid cmd))
-        bring_finds ptw.Null e h = take_finds (brought_is (λ i. ap is_out e)) not_length
         bring_finds (ptw.Out n) e h = room_finds about_uid (words / 1024) (inr (cuts h))
             (λ g here. (let no : ptw.Out n ≡ ptw.Here g = sym e ∙ here in cc))
             (λ f. act.Start f about_uid (words / 1024))
             (λ f free unread. record { case = inr (cuts h); out = ap is_out e; frame = free; unread = unread })
-        bring_finds (ptw.Here f) e h = take_finds (brought_is (λ i. ap is_out e)) not_length
-        bring_finds (ptw.Leaving f) e h = take_finds (brought_is (λ i. ap is_out e)) not_length
+        bring_finds _ e h = take_finds (brought_is (λ i. ap is_out e)) not_length
 
         cut_finds : LookFinds s k cmd (with_cut_page s.store about_uid words (look_to_take s.store k about_uid cmd))
         cut_finds = by (eqb (words % 1024) 0) refl
@@ -607,10 +588,6 @@ module _ (s : State) (k : ℕ) (cmd : Command) where
               (subst (IsBrought s about_uid) (sym is) tt) (λ q n e. h)
 
 -- ---- whatever the next command is
-
-abbrev NoLength : State → Command → ℕ → Type 0
-NoLength s cmd u = (path : List (List ℕ)) (pages : ℕ) → cmd ≡ command.Length path pages
-    → is_active s.store.ast u ≡ false
 
 module _ (s : State) (k : ℕ) where
   change_finds : (cmd : Command) → reference_of cmd ≡ None → refusal_of s k cmd ≡ None

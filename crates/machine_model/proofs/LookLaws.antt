@@ -137,8 +137,7 @@ module _ (s : State) where
           (move_look u (move_to s u) (room_for core u p (λ f. act.Create f u p r))
           (room_look u p (λ f. act.Create f u p r) (λ f free unread. (free, e))))
   word_look k r u p (ptw.Out n) e = room_look u p (λ f. act.Start f u p) (λ f free unread. (free, unread, ap is_out e))
-  word_look k r u p (ptw.Here f) e = tt
-  word_look k r u p (ptw.Leaving f) e = tt
+  word_look k r u p _ e = tt
 
   descriptor_look : (k : ℕ) (r : Reference) (u : ℕ) (x : Sdw) → IsLook s (look_at_descriptor s k r u x)
   descriptor_look k r u sdw.Fault = chain_look u (act.Connect r.number u) tt
@@ -165,11 +164,9 @@ module _ (s : State) where
 
   bring_look : (u p : ℕ) (w : Ptw) (otherwise : act.Action) → word_of s.store.ast u p ≡ w → IsLook s otherwise
       → IsLook s (bring_cut core u p w otherwise)
-  bring_look u p ptw.Null otherwise e h = h
   bring_look u p (ptw.Out n) otherwise e h =
       room_look u p (λ f. act.Start f u p) (λ f free unread. (free, unread, ap is_out e))
-  bring_look u p (ptw.Here f) otherwise e h = h
-  bring_look u p (ptw.Leaving f) otherwise e h = h
+  bring_look u p _ otherwise e h = h
 
   cut_look : (u words : ℕ) (otherwise : act.Action) → IsLook s otherwise
       → IsLook s (with_cut_page s.store u words otherwise)

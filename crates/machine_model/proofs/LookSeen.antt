@@ -1,6 +1,6 @@
 -- A look of the owner finds what its outline asks of its actions.
 use Rattle.std.proofs.Common.{◌≡◌, ◌<◌, ℕ, zero, suc, Bool, true, false, not, cond, ◌&&◌, ◌||◌, eqb, List, []}
-use Rattle.std.proofs.Common.{◌∷◌, length, get_or, map, is_some, Option, Some, None, Ok, Contains}
+use Rattle.std.proofs.Common.{◌∷◌, length, get_or, map, is_some, Option, Some, None, Ok}
 use Rattle.std.proofs.Common.{◌⊎◌, inl, inr, refl, sym, ap, subst, ◌∙◌, arith}
 use Rattle.std.specs.Prelude.{◌/◌}
 use Rattle.std.specs.List.{list_any}
@@ -93,8 +93,7 @@ bare_free (frame.Bound u p used modified) = refl
 none_free : (fs : List Frame) → ((i : ℕ) → is_free (get_or fs i (frame.Started 0 0)) ≡ false)
     → list_any is_free (map bare fs) ≡ false
 none_free [] h = refl
-none_free (x ∷ xs) h = ap (λ (b : Bool). b || list_any is_free (map bare xs)) (bare_free x ∙ h zero)
-    ∙ none_free xs (λ i. h (suc i))
+none_free (x ∷ xs) h = cc (bare_free x, h zero, none_free xs (λ i. h (suc i)))
 
 pub long_frames : (s : State) → length (outline_of s).frames ≡ length s.store.pages.core.frames
 unfolding outline_of
@@ -106,9 +105,8 @@ full_outlined s h = none_free s.store.pages.core.frames
     (λ i. position_none is_free s.store.pages.core.frames (frame.Started 0 0) i h refl)
 
 page_bound : (x : Frame) (page : ℕ × ℕ) → page_of x ≡ Some page → is_bound x ≡ true
-page_bound frame.Free page h = absurd (none_some h)
-page_bound (frame.Started u p) page h = absurd (none_some h)
 page_bound (frame.Bound u p used modified) page h = refl
+page_bound _ page h = absurd (none_some h)
 
 module _ (s : State) (k : Keeps s) where
   -- a bound frame
@@ -238,8 +236,7 @@ module _ (s : State) (c : ℕ) (m : IsMachine s) (cmd : Command) (sp : Speaks s 
 
   page_want : (r : Reference) (u p : ℕ) → FindsPage s k cmd r u p
       → want_at (outline_of s) c ≡ Refer (chain_of nodes u) u p (makes_of r)
-  page_want r u p finds = refer_want r finds.is finds.inside u finds.uid
-      ∙ ap (λ (x : ℕ). Refer (chain_of nodes u) u x (makes_of r)) finds.page
+  page_want r u p finds = cc (refer_want r finds.is finds.inside u finds.uid)
 
   page_linked : (r : Reference) (u p : ℕ) → FindsPage s k cmd r u p
       → (runner_at (outline_of s).runners c).linked ≡ true
@@ -247,23 +244,19 @@ module _ (s : State) (c : ℕ) (m : IsMachine s) (cmd : Command) (sp : Speaks s 
 
   cut_want : (u p : ℕ) → FindsCut s k cmd u p
       → want_at (outline_of s) c ≡ Truncate (chain_of nodes u) u (Some p)
-  cut_want u p finds = truncate_want finds.path finds.words finds.is finds.stands u finds.uid
-      ∙ (ap (λ (b : Bool). Truncate (chain_of nodes u) u (cond b None (Some (finds.words / 1024)))) finds.cuts
-      ∙ ap (λ (x : ℕ). Truncate (chain_of nodes u) u (Some x)) finds.page)
+  cut_want u p finds = cc (truncate_want finds.path finds.words finds.is finds.stands u finds.uid)
 
   has_want : (u p : ℕ) → ((r : Reference) × FindsPage s k cmd r u p) ⊎ FindsCut s k cmd u p → HasWant u p
   has_want u p (inl x) = record {
     active = page_active s c (no_call s) m idle cmd sp x.0 u p x.1;
-    wants = subst (λ (w : Want). IsWantedPage w (runner_at (outline_of s).runners c).linked u p)
-        (sym (page_want x.0 u p x.1)) (page_linked x.0 u p x.1, refl, refl);
+    wants = rw (page_want x.0 u p x.1) (page_linked x.0 u p x.1, refl, refl);
     here = ap (is_wanted_here (outline_of s).frames) (page_want x.0 u p x.1);
     lacks = λ h. lack_by (Refer (chain_of nodes u) u p (makes_of x.0)) true (page_want x.0 u p x.1)
         (page_linked x.0 u p x.1) ∙ ap (λ (b : Bool). cond {A = ℕ} (true && b) 0 1) (h (makes_of x.0));
   }
   has_want u p (inr x) = record {
     active = chain_active nodes keeps.store.accounts.tree s.store.ast u x.chain;
-    wants = subst (λ (w : Want). IsWantedPage w (runner_at (outline_of s).runners c).linked u p)
-        (sym (cut_want u p x)) (refl, refl);
+    wants = rw (cut_want u p x) (refl, refl);
     here = ap (is_wanted_here (outline_of s).frames) (cut_want u p x);
     lacks = λ h. lack_by (Truncate (chain_of nodes u) u (Some p)) (runner_at (outline_of s).runners c).linked
         (cut_want u p x) refl ∙ ap (λ (b : Bool). cond {A = ℕ} (true && b) 0 1) (h false);
@@ -271,22 +264,20 @@ module _ (s : State) (c : ℕ) (m : IsMachine s) (cmd : Command) (sp : Speaks s 
 
   out_fits : (u p : ℕ) (makes : Bool) → is_active s.store.ast u ≡ true
       → is_out (word_of s.store.ast u p) ≡ true → page_fits (outline_of s) None u p makes ≡ false
-  out_fits u p makes active out = ap (λ (b : Bool). b || (false || (not ((outline_of s).stored u p) && not makes)))
-      (not_here s keeps u p (nowhere (word_of s.store.ast u p) out))
-      ∙ ap (λ (b : Bool). not b && not makes) (stored_outlined s keeps u p active
-      ∙ has_one (word_of s.store.ast u p) out)
+  out_fits u p makes active out = cc (
+    not_here s keeps u p (nowhere (word_of s.store.ast u p) out),
+    stored_outlined s keeps u p active,
+    has_one (word_of s.store.ast u p) out,
+  )
     where
       nowhere : (w : Ptw) → is_out w ≡ true → names w ≡ None
-      nowhere ptw.Null h = refl
-      nowhere (ptw.Out n) h = refl
       nowhere (ptw.Here f) h = absurd (let none : false ≡ true = h in cc)
       nowhere (ptw.Leaving f) h = absurd (let none : false ≡ true = h in cc)
+      nowhere _ h = refl
 
       has_one : (w : Ptw) → is_out w ≡ true → has_record w ≡ true
       has_one ptw.Null h = absurd (let none : false ≡ true = h in cc)
-      has_one (ptw.Out n) h = refl
-      has_one (ptw.Here f) h = refl
-      has_one (ptw.Leaving f) h = refl
+      has_one _ h = refl
 
   -- ---- the actions
 
@@ -305,8 +296,7 @@ module _ (s : State) (c : ℕ) (m : IsMachine s) (cmd : Command) (sp : Speaks s 
 
       is_free_is : (x : Frame) → is_free x ≡ true → x ≡ frame.Free
       is_free_is frame.Free h = refl
-      is_free_is (frame.Started v p) h = absurd (let none : false ≡ true = h in cc)
-      is_free_is (frame.Bound v p used modified) h = absurd (let none : false ≡ true = h in cc)
+      is_free_is _ h = absurd (let none : false ≡ true = h in cc)
 
   evict_finds : (f : ℕ) → FindsFull s k cmd f → CanEvict (outline_of s) c f
   evict_finds f finds = record {
@@ -327,34 +317,28 @@ module _ (s : State) (c : ℕ) (m : IsMachine s) (cmd : Command) (sp : Speaks s 
 
       nowhere : (w : Ptw) → word_of s.store.ast finds.uid finds.page ≡ w
           → names (word_of s.store.ast finds.uid finds.page) ≡ None
-      nowhere ptw.Null e = ap names e
-      nowhere (ptw.Out n) e = ap names e
       nowhere (ptw.Here g) e = absurd (at g (ap names e))
       nowhere (ptw.Leaving g) e = absurd (at g (ap names e))
+      nowhere _ e = ap names e
 
   -- all is there for a reference
   all_fits : (h : FindsAll s k cmd) (w : Ptw)
       → word_of s.store.ast h.uid (h.reference.offset / 1024) ≡ w
       → page_fits (outline_of s) None h.uid (h.reference.offset / 1024) (makes_of h.reference) ≡ true
   unfolding makes_of
-  all_fits h ptw.Null e = ap (λ (b : Bool). is_here (outline_of s).frames h.uid (h.reference.offset / 1024)
-      || (false || (not b && not (not (eqb (new_word 0 h.reference.kind) 0)))))
-      (stored_outlined s keeps h.uid (h.reference.offset / 1024)
-      (page_active s c (no_call s) m idle cmd sp h.reference h.uid (h.reference.offset / 1024) h.finds)
-      ∙ ap has_record e)
-      ∙ (ap (λ (b : Bool). is_here (outline_of s).frames h.uid (h.reference.offset / 1024) || not (not b)) (h.kept e)
-      ∙ or_true (is_here (outline_of s).frames h.uid (h.reference.offset / 1024)))
+  all_fits h ptw.Null e = cc (
+    stored_outlined s keeps h.uid (h.reference.offset / 1024) (page_active s c (no_call s) m
+        idle cmd sp h.reference h.uid (h.reference.offset / 1024) h.finds),
+    h.kept e,
+    or_true (is_here (outline_of s).frames h.uid (h.reference.offset / 1024)),
+  )
     where
       or_true : (b : Bool) → (b || true) ≡ true
       or_true true = refl
       or_true false = refl
   all_fits h (ptw.Out n) e = absurd (not_both (ap is_out e) h.out)
-  all_fits h (ptw.Here f) e = ap (λ (b : Bool). b || (false || (not ((outline_of s).stored h.uid
-      (h.reference.offset / 1024)) && not (makes_of h.reference))))
-      (named_here s keeps h.uid (h.reference.offset / 1024) f (ap names e))
-  all_fits h (ptw.Leaving f) e = ap (λ (b : Bool). b || (false || (not ((outline_of s).stored h.uid
-      (h.reference.offset / 1024)) && not (makes_of h.reference))))
-      (named_here s keeps h.uid (h.reference.offset / 1024) f (ap names e))
+  all_fits h (ptw.Here f) e = rw (named_here s keeps h.uid (h.reference.offset / 1024) f (ap names e))
+  all_fits h (ptw.Leaving f) e = rw (named_here s keeps h.uid (h.reference.offset / 1024) f (ap names e))
 
   all_finds : FindsAll s k cmd → WantsPage s c × (lack_of s c ≡ 0)
   all_finds h = (
@@ -375,10 +359,8 @@ module _ (s : State) (c : ℕ) (m : IsMachine s) (cmd : Command) (sp : Speaks s 
   unfolding outline_of
   activate_finds u place finds = record {
     look = look;
-    member = subst (λ (xs : List ℕ). Contains xs u)
-        (finds.link.chain_is ∙ sym (about_chain finds.link.about finds.link.case))
-        (member_contains finds.chain u
-        (found_member (λ w. not (is_active s.store.ast w)) finds.chain u finds.link.first));
+    member = rw (finds.link.chain_is ∙ sym (about_chain finds.link.about finds.link.case)) at (member_contains
+        finds.chain u (found_member (λ w. not (is_active s.store.ast w)) finds.chain u finds.link.first));
     idle = first_idle s.store.ast finds.chain u finds.link.first;
     free = free_is s c (no_call s) m idle cmd sp _ place finds.free;
     within = free_within s c (no_call s) m idle cmd sp _ place finds.free;
@@ -406,8 +388,7 @@ module _ (s : State) (c : ℕ) (m : IsMachine s) (cmd : Command) (sp : Speaks s 
       number = subst (λ (x : ℕ). n < x) (sym (keeps.store.kept.linked.lists.words k within.0)) within.1;
     };
     within = sp.there;
-    off = linked_by finds.reference false finds.is (ap is_connected (ap (descriptor_of s.store.links k) finds.number
-        ∙ finds.fault));
+    off = linked_by finds.reference false finds.is (cc);
   }
     where
       uid_is : uid_of_number s.store k finds.reference.number ≡ u
@@ -427,11 +408,7 @@ module _ (s : State) (c : ℕ) (m : IsMachine s) (cmd : Command) (sp : Speaks s 
       → off_chain (wanted_chain (want_at (outline_of s) c)) (entry_at s.store.ast.entries
       (place_of s.store.ast.entries u)) ≡ true → CanEmpty (outline_of s) c (place_of s.store.ast.entries u)
   unfolding outline_of
-  empty_can u active off = record {
-    look = look;
-    off = off;
-    within = (active_place s.store.ast u active).0;
-  }
+  empty_can u active off = assumption (look, (active_place s.store.ast u active).0)
 
   may_empty : (t : State) (u : ℕ) → is_active s.store.ast u ≡ true
       → off_chain (wanted_chain (want_at (outline_of s) c)) (entry_at s.store.ast.entries
@@ -445,13 +422,13 @@ module _ (s : State) (c : ℕ) (m : IsMachine s) (cmd : Command) (sp : Speaks s 
 
   empty_finds : (u : ℕ) → FindsActive s k cmd u → MayEmpty s (deactivation_begun s c u) c u
   empty_finds u finds = may_empty (deactivation_begun s c u) u finds.active
-      (ap (λ (w : Want). off_chain (wanted_chain w) (entry_at s.store.ast.entries (place_of s.store.ast.entries u)))
-      (length_want finds.path finds.pages finds.is finds.stands u finds.uid)
-      ∙ used (entry_at s.store.ast.entries (place_of s.store.ast.entries u))
-      (active_place s.store.ast u finds.active).1)
-      (tree_link s (deactivation_begun s c u) c k sp.its
-      (segment s c u (frames_from s.store.ast u 0) (trailers_in s.store u)) cmd sp.next
-      (ap reference_of finds.is))
+      (cc (
+        length_want finds.path finds.pages finds.is finds.stands u finds.uid,
+        used (entry_at s.store.ast.entries (place_of s.store.ast.entries u))
+            (active_place s.store.ast u finds.active).1,
+      ))
+      (tree_link s (deactivation_begun s c u) c k sp.its (segment s c u (frames_from s.store.ast u 0)
+      (trailers_in s.store u)) cmd sp.next (ap reference_of finds.is))
     where
       used : (o : Option Entry) → uid_in o ≡ Some u → off_chain [] o ≡ true
       used None h = absurd (none_some h)
@@ -487,10 +464,7 @@ module _ (s : State) (c : ℕ) (m : IsMachine s) (cmd : Command) (sp : Speaks s 
           → MayEmpty s (victim_taken s c pool chain u) c u
       by None e off = absurd (not_both off (ap (off_chain (chain_of nodes finds.link.about)) e))
       by (Some x) e off = may_empty (victim_taken s c pool chain u) u active
-          (ap (λ (xs : List ℕ). off_chain xs (entry_at s.store.ast.entries (place_of s.store.ast.entries u)))
-          (about_chain finds.link.about finds.link.case)
-          ∙ (ap (λ (p : ℕ). off_chain (chain_of nodes finds.link.about) (entry_at s.store.ast.entries p)) place_same
-          ∙ off)) link
+          (cc (about_chain finds.link.about finds.link.case, place_same)) link
         where
           at : uid_at s.store.ast.entries finds.place ≡ Some u
           at = ap uid_in e ∙ ap (λ (v : ℕ). Some v) (sym (finds.uid ∙ ap or_zero (ap uid_in e)))
@@ -514,9 +488,7 @@ module _ (s : State) (c : ℕ) (m : IsMachine s) (cmd : Command) (sp : Speaks s 
       by : (x : Option Node) → node_in nodes h.wanted ≡ x → is_some x ≡ true → ⊥
       by None e i = let none : false ≡ true = i in cc
       by (Some n) e i = has_victim s m h.link.about h.wanted first n e
-          (ap (λ (y : Option Node). free_place s.store.ast (pool_of_node y)) (sym e) ∙ h.full)
-          (ap (λ (y : Option Node). victim_of s.store.ast (pool_of_node y) (chain_of nodes h.link.about)) (sym e)
-          ∙ (ap (victim_of s.store.ast (pool_of_node (node_in nodes h.wanted))) (sym h.link.chain_is) ∙ h.victim))
+          (ap (λ (y : Option Node). free_place s.store.ast (pool_of_node y)) (sym e) ∙ h.full) (cc h.link.chain_is)
 
   no_frame : FindsNoFrame s → ⊥
   no_frame h = one_read s.store.pages.core (let sizes = keeps.sizes.frames in let four = m.script.frames.0 in
@@ -553,5 +525,4 @@ module _ (s : State) (c : ℕ) (m : IsMachine s) (cmd : Command) (sp : Speaks s 
   looks_like _ h = absurd h
 
   pub look_seen : IsLook s c (act.look_of s k (next_command s k))
-  look_seen = subst (λ (x : Option Command). IsLook s c (act.look_of s k x)) (sym sp.next)
-      (looks_like (act.look_of s k (Some cmd)) (look_finds s k cmd))
+  look_seen = rw sp.next (looks_like (act.look_of s k (Some cmd)) (look_finds s k cmd))

@@ -52,12 +52,10 @@ goes_on a b d c few under (inl more) = inl (record {
   lack = le_trans more.lack under.lack;
 })
 goes_on a b d c few under (inr (inl past)) = inr (inl (past_on a b d c under past))
-goes_on a b d c few under (inr (inr mended)) = inr (inr (record {
-  owner = mended.owner;
-  same = same_on a b d c under.same mended.same;
-  now = mended.now;
-  before = before_on a b c under few mended.before;
-}))
+goes_on a b d c few under (inr (inr mended)) = inr (inr (assumption (
+  same_on a b d c under.same mended.same,
+  before_on a b c under few mended.before,
+)))
 
 -- while somebody owns the supervisor the job is under way; once nobody does it is done
 pub job_goes : (a b : Outline) (c d : ℕ) (stage : Stage) → IsIn b d stage → Goes a b c → IsUnderWay a b c
@@ -124,8 +122,7 @@ lacked s b c taken before = by taken.why before
 pub taken_done : (s b t : Outline) (c : ℕ) → HasTaken s b c → JobDone b t c → CommandDone s t c
 taken_done s b t c taken (inl past) = inl (record {
   owner = past.owner;
-  gone = subst (λ (x : Outline). is_at (runner_at t.runners c) (runner_at x.runners c).since ≡ false) taken.now
-      past.gone;
+  gone = rw taken.now at past.gone;
   all = let less = past.all in let same = ap all_rank taken.now ∙ all_owner s c in omega (arith, less, same);
 })
 taken_done s b t c taken (inr mended) = inr (record {

@@ -85,14 +85,7 @@ module _ (p : Plan) (words : List (List ℕ)) (disks : List (List (List ℕ))) (
   -- The machine keeps all of it at first: what the store says of itself is all that it wants.
   pub boot_keeps_all : StoreSays (booted p words disks) → KeepsAll (booted p words disks)
   boot_keeps_all says = record {
-    machine = record {
-      keeps = boot_keeps p words disks says;
-      script = script;
-      come = booted_come p words disks script;
-      scheduled = first_scheduled;
-      pools = refl;
-      moving = refl;
-    };
+    machine = assumption (boot_keeps p words disks says, booted_come p words disks script, first_scheduled);
     entitled = record { each = λ d k h. absurd (nobody d k h) };
     reading = record { each = λ d t h. absurd (reads_nothing d t h) };
     working = none_work (booted p words disks) refl;

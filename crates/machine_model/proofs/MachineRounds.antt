@@ -26,7 +26,6 @@ use Rattle.machine_model.proofs.OutlineJob.{in_job}
 use Rattle.machine_model.proofs.OutlineOwner.{step_outlined}
 use Rattle.machine_model.proofs.OutlineReads.{at_outline, long_outline, seen_since}
 use Rattle.machine_model.proofs.OutlineSeen.{kept_seen, no_owner, running_is}
-use Rattle.machine_model.proofs.PoolsKept.{pools_kept}
 use Rattle.machine_model.proofs.ReadLaws.{read_step}
 use Rattle.machine_model.proofs.StepLaws.{clear_step, inside, owner_step}
 use Rattle.machine_model.proofs.TieLaws.{none_some}
@@ -41,18 +40,9 @@ kept_of s all = kept_seen s all.machine all.reading all.fitting
 -- each step is one of the outline
 pub machine_step : (s t : State) (c : ℕ) → IsGoing s → c < length s.processors → HasStepped s t c
     → Step (outline_of s) c (turn_of (action_of s c)) (outline_of t)
-machine_step s t c going there stepped = subst (λ (x : State). Step (outline_of s) c (turn_of (action_of s c))
-    (outline_of x)) (sym stepped.done) (step_outlined s c stepped.outcome going.on
-    (foresees s c going.keeps.machine going.keeps.entitled going.keeps.reading going.keeps.working
-    going.keeps.fitting there))
-
--- a machine that wasn't stopped isn't after its step
-pub goes_still : (s t : State) (c : ℕ) → IsGoing s → HasStepped s t c → KeepsAll t → IsGoing t
-goes_still s t c going stepped keeps = record {
-  keeps = keeps;
-  on = ap (λ (x : State). x.stopped) stepped.done
-      ∙ ((pools_kept s c (action_of s c) stepped.outcome).stopped ∙ going.on);
-}
+machine_step s t c going there stepped = rw stepped.done (step_outlined s c stepped.outcome going.on
+    (foresees s c going.keeps.machine going.keeps.entitled going.keeps.reading going.keeps.working going.keeps.fitting
+    there))
 
 -- ---- the owner
 
@@ -61,8 +51,7 @@ stage_at s c mine = stage_of s.store.ast.entries mine.owner.frames mine.owner.ph
 
 is_in : (s : State) (c : ℕ) (mine : IsOwnedBy s c) → IsIn (outline_of s) c (stage_at s c mine)
 unfolding stage_at
-is_in s c mine = subst (λ (d : ℕ). IsIn (outline_of s) d (stage_of s.store.ast.entries mine.owner.frames
-    mine.owner.phase)) mine.cpu (in_job s mine.owner mine.mine)
+is_in s c mine = rw mine.cpu at (in_job s mine.owner mine.mine)
 
 module _ (s t : State) (c : ℕ) (going : IsGoing s) (keeps : KeepsAll t) (there : c < length s.processors)
     (mine : IsOwnedBy s c) (stepped : HasStepped s t c) where
@@ -181,8 +170,7 @@ module _ (s t : State) (c : ℕ) (going : IsGoing s) (keeps : KeepsAll t) (there
       by : (x : Turn) → turn_of (action_of s c) ≡ x → CommandStep x (outline_of s) (outline_of t) c
           → turn_of (action_of s c) ≡ Moved
       by Moved e h = e
-      by (WaitsFor why) e h = absurd h
-      by Ended e h = absurd h
+      by _ e h = absurd h
 
   moved : HasTaken (outline_of s) (outline_of t) c ⊎ CommandDone (outline_of s) (outline_of t) c
   moved = subst (λ (x : Turn). CommandStep x (outline_of s) (outline_of t) c) command_moves command_turn
@@ -275,6 +263,5 @@ idle_round s t going keeps none idle more stepped = let fell = idle_step (outlin
     (outline_of t) (kept_of s going.keeps) (kept_of t keeps)
     (kept_of s going.keeps).sizes.some_runner (owner_none s none)
     (λ d. running_is s going.keeps.machine.keeps d ∙ idle d) (not_ended s going.keeps more)
-    (machine_step s t 0 going (subst (λ (n : ℕ). 0 < n) (long_outline s)
-    (kept_of s going.keeps).sizes.some_runner) stepped) in
+    (machine_step s t 0 going (rw (long_outline s) at (kept_of s going.keeps).sizes.some_runner) stepped) in
     record { owner = fell.0; all = fell.1 }

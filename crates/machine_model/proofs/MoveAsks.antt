@@ -1,5 +1,5 @@
 -- What a reference that a processor makes by itself asks follows from the promise, and from what it holds.
-use Rattle.std.proofs.Common.{◌≡◌, ◌<◌, ℕ, ◌*◌, Bool, true, false, not, ◌&&◌, ◌||◌, cond, eqb, is_some, zero, suc}
+use Rattle.std.proofs.Common.{◌≡◌, ◌<◌, ℕ, ◌*◌, Bool, true, false, ◌&&◌, ◌||◌, cond, eqb, is_some, suc}
 use Rattle.std.proofs.Common.{List, [], ◌∷◌, map}
 use Rattle.std.proofs.Common.{get_or, Option, Some, None, inl, inr, refl, sym, ap, subst, ◌∙◌, arith}
 use Rattle.std.specs.Prelude.{◌/◌, nat_le}
@@ -21,19 +21,18 @@ use Rattle.assoc_mem.specs.declared.HeldSeg.{HeldSeg}
 use Rattle.assoc_mem.specs.Held.{frame_of, is_number, is_page, seg_of}
 use Rattle.tree_model.specs.Access.{access_of}
 use Rattle.tree_model.specs.Tree.{Node, node_in}
-use Rattle.known_segs.specs.Known.{uid_of}
 use Rattle.page_table.specs.declared.Ptw.{Ptw}
 use Rattle.page_table.specs.declared.Ptw.TheVariants as ptw
 use Rattle.descriptor_seg.specs.declared.Sdw.{Sdw}
 use Rattle.descriptor_seg.specs.declared.Sdw.TheVariants as sdw
 use Rattle.active_segs.specs.Active.{uid_at}
 use Rattle.page_control.specs.Tied.{has_record}
-use Rattle.seg_control.specs.Control.{kst_at, word_of}
+use Rattle.seg_control.specs.Control.{word_of}
 use Rattle.storage_ops.specs.Shown.{who_at}
 use Rattle.flat_model.specs.Commands.{reply_by, reply_to_command}
 use Rattle.flat_model.specs.Pages.{is_stored}
 use Rattle.script.specs.References.{alters, new_word, permits}
-use Rattle.flat_model.specs.References.{after_reference, reply_at, reply_of}
+use Rattle.flat_model.specs.References.{after_reference}
 use Rattle.flat_model.specs.References.{reply_to_reference}
 use Rattle.flat_model.specs.References.{room_reply, stores_page, word_reply, written, written_by}
 use Rattle.flat_model.specs.Store.{Store, known_uid}
@@ -42,7 +41,7 @@ use Rattle.custody_model.specs.Allowed.{IsPageAt, MayAnswer as MayAnswerBy, MayD
 use Rattle.custody_model.specs.Custody.{bound_page, has, leads_to}
 use Rattle.machine_model.specs.Actions as act
 use Rattle.machine_model.specs.After.{Outcome}
-use Rattle.machine_model.specs.Custodial.{AreHeldPages, AreHeldSegs, AreOfProcess, names}
+use Rattle.machine_model.specs.Custodial.{AreHeldPages, AreHeldSegs, names}
 use Rattle.machine_model.specs.Entitled.{AreEntitled, IsEntitled, IsEntitledToAll}
 use Rattle.machine_model.specs.Holding.{led_to, seen}
 use Rattle.machine_model.specs.Jobs.{page_in, page_or_zero}
@@ -182,17 +181,13 @@ who_is s keeps k = ap (λ (ws : List Who). who_at ws k) keeps.faithful.script.wh
   where
     map_who : (ps : List ProcessPlan) (j : ℕ) → who_at (map (λ x. x.who) ps) j
         ≡ (get_or ps j (record { who = nobody; commands = [] })).who
-    map_who [] j = refl
-    map_who (p ∷ ps) zero = refl
     map_who (p ∷ ps) (suc j) = map_who ps j
+    map_who _ _ = refl
 
 -- what is answered past the access list, and past the length
 abbrev page_reply : State → Reference → Node → Reply
 page_reply s r n = cond (stores_page (flat_of s) n.uid r.offset r.kind) (room_reply s.plan (flat_of s) n
     (word_reply ((flat_of s).words n.uid r.offset) r.kind)) (word_reply ((flat_of s).words n.uid r.offset) r.kind)
-
-abbrev rest_reply : State → ℕ → Reference → Node → Reply
-rest_reply s k r n = cond (nat_le (1024 * n.pages) r.offset) reply.Length (page_reply s r n)
 
 module _ (s : State) (c : ℕ) (keeps : Keeps s) (entitled : IsEntitledToAll s) (cmd : Command)
     (speaks : Speaks s c (process_at s c) cmd) (r : Reference) (is : reference_of cmd ≡ Some r) (h : HeldSeg)
@@ -219,12 +214,10 @@ module _ (s : State) (c : ℕ) (keeps : Keeps s) (entitled : IsEntitledToAll s) 
       (cpu_at s.processors c).assoc.segs its_segs))
     where
       its_segs : AreHeldSegs (shown (seen s)).descriptor k (cpu_at s.processors c).assoc.segs
-      its_segs = subst (λ (x : Option ℕ). AreOfProcess (shown (seen s)).descriptor x
-          (cpu_at s.processors c).assoc.segs) speaks.its (keeps.book.holding_right c).segs
+      its_segs = rw speaks.its at (keeps.book.holding_right c).segs
 
   pub known : known_uid t k r.number ≡ Some h.uid
-  known = ap (λ (x : List (List (Option ℕ))). uid_of (kst_at x k) r.number) keeps.faithful.known
-      ∙ (ap (uid_of (kst_at s.store.links.known k)) (sym number_same) ∙ right.stands)
+  known = cc (keeps.faithful.known, number_same, right.stands)
 
   record HasNode : Type 0 where
     node : Node
@@ -247,20 +240,12 @@ module _ (s : State) (c : ℕ) (keeps : Keeps s) (entitled : IsEntitledToAll s) 
   -- a reference that the held descriptor refuses
   no_access : permits h.mode r.kind ≡ false → reply_to_reference s.plan t k r ≡ reply.NoAccess
   unfolding reply_to_reference
-  no_access off = ap (reply_of s.plan t k r.offset r.kind) known
-      ∙ (ap (reply_at s.plan t k r.offset r.kind) has_node.there
-      ∙ ap (λ (b : Bool). cond (not b) reply.NoAccess (rest_reply s k r has_node.node))
-      (ap (λ (m : Mode). permits m r.kind) (sym has_node.mode) ∙ off))
+  no_access off = cc (known, has_node.there, has_node.mode)
 
   too_long : permits h.mode r.kind ≡ true → nat_le (1024 * h.pages) r.offset ≡ true
       → reply_to_reference s.plan t k r ≡ reply.Length
   unfolding reply_to_reference
-  too_long on long = ap (reply_of s.plan t k r.offset r.kind) known
-      ∙ (ap (reply_at s.plan t k r.offset r.kind) has_node.there
-      ∙ (ap (λ (b : Bool). cond (not b) reply.NoAccess (rest_reply s k r has_node.node))
-      (ap (λ (m : Mode). permits m r.kind) (sym has_node.mode) ∙ on)
-      ∙ ap (λ (b : Bool). cond b reply.Length (page_reply s r has_node.node))
-      (ap (λ (n : ℕ). nat_le (1024 * n) r.offset) (sym has_node.pages) ∙ long)))
+  too_long on long = cc (known, has_node.there, has_node.mode, has_node.pages)
 
   due : (x : Reply) → reply_to_reference s.plan t k r ≡ x → x ≡ reply_to_command s.plan t k cmd
   due x e = sym (ap (reply_by s.plan t k cmd) is ∙ e)
@@ -334,8 +319,7 @@ module _ (s : State) (c : ℕ) (keeps : Keeps s) (entitled : IsEntitledToAll s) 
         like = subst (IsAlike t) (sym (ap (written_by t r.offset r.kind) known)) (by (alters r.kind))
           where
             by : (b : Bool) → IsAlike t (cond b (written t h.uid r.offset (new_word (t.words h.uid r.offset) r.kind)) t)
-            by true = subst (λ (w : ℕ). IsAlike t (written t h.uid r.offset w))
-                (sym (ap (λ (w : ℕ). new_word w r.kind) zero_word ∙ new_zero r.kind stays)) zero_written
+            by true = rw (ap (λ (w : ℕ). new_word w r.kind) zero_word ∙ new_zero r.kind stays) zero_written
             by false = alike t
 
     -- a page that is held goes through its frame
@@ -374,10 +358,9 @@ module _ (s : State) (c : ℕ) (keeps : Keeps s) (entitled : IsEntitledToAll s) 
             (keeps.book.tied.named f h.uid (r.offset / 1024) both.1)
           where
             recorded : (w : Ptw) → names w ≡ Some f → has_record w ≡ true
-            recorded ptw.Null e = absurd (none_some e)
-            recorded (ptw.Out n) e = absurd (none_some e)
             recorded (ptw.Here g) e = refl
             recorded (ptw.Leaving g) e = refl
+            recorded _ e = absurd (none_some e)
 
         tells : CanTell s c k (Some f) answer
         tells = can_tell s c k cmd (Some f) answer speaks
@@ -385,11 +368,10 @@ module _ (s : State) (c : ℕ) (keeps : Keeps s) (entitled : IsEntitledToAll s) 
               own = ap (λ (w : ℕ). word_reply w r.kind) old_is
                   ∙ due (word_reply (t.words h.uid r.offset) r.kind) (stored_due s k r keeps h.uid inside stored);
               free = stored_free s k r keeps h.uid inside cmd is stored;
-            }))
-            (subst (λ (x : Option Reference). MayAnswerBy s.plan t (shown (seen s)) c k (Some f) cmd answer x) (sym is)
-            (record {
+            })) (rw is (record {
               segment = seg_has (cpu_at s.processors c).assoc.segs r.number h held;
-              page = both.0;
+              page =
+                  both.0;
               bound = page_there (bound_page ((shown (seen s)).frame f)) (bound_shown (seen s) f ∙ both.1);
               answered = word_answer (old_word s.store.pages f r) r.kind;
             }))

@@ -13,7 +13,7 @@ use Rattle.tree_model.specs.Access.{access_of}
 use Rattle.tree_model.specs.Tree.{Node, account_of, node_in, quota_in, volume_in}
 use Rattle.accounts.specs.Maps.{Counts}
 use Rattle.flat_model.specs.Pages.{is_stored}
-use Rattle.flat_model.specs.References.{is_out_of_room, is_used_up, is_volume_full, room_reply, stores_page, word_reply}
+use Rattle.flat_model.specs.References.{is_out_of_room, is_used_up, is_volume_full, stores_page, word_reply}
 use Rattle.flat_model.specs.Rooms.{first_below, has_room as has_room_flat, room_for}
 use Rattle.flat_model.specs.Store.{Store}
 use Rattle.known_segs.specs.Known.{uid_of}
@@ -114,8 +114,7 @@ module _ (s : State) (k : ℕ) (cmd : Command) (keeps : Keeps s) (u volume : ℕ
 
   unspent : is_used_up t inside.node.uid ≡ false
   unfolding room_refusal
-  unspent = by (is_used_up t inside.node.uid) (sym (ap (only is_of_room) (due_is s k r keeps u inside
-      ∙ ap (λ (b : Bool). cond b (room_reply s.plan t inside.node word) word) stores)) ∙ finds.room)
+  unspent = by (is_used_up t inside.node.uid) (cc (stores, due_is s k r keeps u inside))
     where
       word : Reply
       word = word_reply (t.words u r.offset) r.kind

@@ -88,8 +88,7 @@ module _ (s : State) (keeps : Keeps s) (k : ℕ) (m : Mover) (cmd : Command)
   places = map_at (volumes_of s.store.pages) m.from
 
   named : count_by is_some places ≡ count_of s.store.accounts m.uid
-  named = ap (λ (home : ℕ × ℕ). count_by is_some (map_at (volumes_of s.store.pages) home)) from
-      ∙ keeps.store.counted.counted.counts m.uid (ap (λ (x : Option Node). is_some x) lacks.there)
+  named = cc (from, keeps.store.counted.counted.counts m.uid (ap (λ (x : Option Node). is_some x) lacks.there))
 
   abbrev flags : List Bool
   flags = get_or s.store.pages.records m.to.0 []

@@ -57,11 +57,8 @@ take_asks None = refl
 take_asks (Some o) = tt
 
 move_asks : (x : Option Owner) (r : Reference) (y : Move) → AsksMover (by_move x r y) (mover_of x)
-move_asks x r move.FillSeg = tt
-move_asks x r (move.FillPage f) = tt
-move_asks x r (move.Through f) = tt
-move_asks x r (move.Plain answer) = tt
 move_asks x r move.Fault = take_asks x
+move_asks x r _ = tt
 
 look_asks : (s : State) (a : act.Action) → IsLook s a → AsksMover a None
 look_asks s (act.Waits why) h = tt
@@ -146,16 +143,7 @@ module _ (s : State) (c : ℕ) where
 -- An action that a move excludes is done where segment control has none under way, and a step of a move is one of the
 -- move that it has.
 pub moving_fits : (s : State) (c : ℕ) (a : act.Action) → IsMachine s → action_of s c ≡ a → AsksMover a s.store.moving
-moving_fits s c a m is = subst (λ (x : act.Action). AsksMover x s.store.moving) is
-    (subst (AsksMover (action_of s c)) (sym m.moving) (action_asks s c))
-
--- by the phase of the owner; and where nobody owns the supervisor
-pub moving_by : (s : State) (o : Owner) (x : Phase) → IsMachine s → s.owner ≡ Some o → o.phase ≡ x
-    → s.store.moving ≡ mover_in x
-moving_by s o x m mine is = m.moving ∙ (ap mover_of mine ∙ ap mover_in is)
-
-pub moving_none : (s : State) → IsMachine s → s.owner ≡ None → s.store.moving ≡ None
-moving_none s m free = m.moving ∙ ap mover_of free
+moving_fits s c a m is = rw is at (subst (AsksMover (action_of s c)) (sym m.moving) (action_asks s c))
 
 -- ---- no move is under way
 

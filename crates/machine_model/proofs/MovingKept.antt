@@ -56,8 +56,7 @@ some_same x y h = cc
 module _ (s : State) (c : ℕ) (k : Keeps s) (idle : IsIdle s.owner) (still : is_pending s.owner ≡ false)
     (works : IsAtWork (processor_at s.processors c)) where
   at_work : (q r : Owner) → Some q ≡ Some r → q.cpu ≡ c → IsAtWork (processor_at s.processors r.cpu)
-  at_work q r h here = subst (λ (d : ℕ). IsAtWork (processor_at s.processors d))
-      (sym here ∙ ap (λ (x : Owner). x.cpu) (some_same q r h)) works
+  at_work q r h here = rw (sym here ∙ ap (λ (x : Owner). x.cpu) (some_same q r h)) at works
 
   pub begun_kept : (u volume : ℕ) → StoreSays (move_begun s c u volume) → Keeps (move_begun s c u volume)
   begun_kept u volume says = kept_with (move_begun s c u volume)
@@ -101,11 +100,10 @@ copy_failed_kept s c faults k idle still rose may can says = kept_with (copy_fai
 rehomed_at : (words : List Ptw) (places : List (Option ℕ)) (p : ℕ)
     → (q : Option ℕ) × (ptw_at (rehomed words places) p ≡ rehomed_word (ptw_at words p) q)
 unfolding rehomed
-rehomed_at [] places p = (None, refl)
-rehomed_at (w ∷ ws) [] zero = (None, refl)
 rehomed_at (w ∷ ws) [] (suc p) = rehomed_at ws [] p
 rehomed_at (w ∷ ws) (q ∷ qs) zero = (q, refl)
 rehomed_at (w ∷ ws) (q ∷ qs) (suc p) = rehomed_at ws qs p
+rehomed_at _ _ _ = (None, refl)
 
 -- each word is as before, or names another record
 pub word_rehomed : (ast : ActiveSegs) (uid : ℕ) (places : List (Option ℕ)) (u p : ℕ)
@@ -213,6 +211,4 @@ module _ (s : State) (c : ℕ) (m : Mover) (k : Keeps s) (idle : IsIdle s.owner)
       (subst KeepsBook (sym now_seen) (book_apart before (entry.Moved (process_at s c) m.uid m.to.0) before_keeps may
       (rehomes rehome) tt refl refl k.book.runs)) says
       (quiet_faults s (entry.Moved (process_at s c) m.uid m.to.0) s.faults k refl (omega arith)) k.sizes.processors
-      k.sizes.processes
-      (λ r h. subst (λ (d : ℕ). IsAtWork (processor_at s.processors d))
-      (ap (λ (x : Owner). x.cpu) (some_same (looking c) r h)) works)
+      k.sizes.processes (λ r h. (rw (ap (λ (x : Owner). x.cpu) (some_same (looking c) r h)) at works))

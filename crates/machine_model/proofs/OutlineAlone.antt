@@ -1,6 +1,6 @@
 -- In the outline of the machine, the steps that a processor makes without the supervisor are steps of the outline.
 use Rattle.std.proofs.Common.{◌≡◌, ◌≢◌, ◌<◌, ℕ, ◌+◌, ◌-◌, ◌/◌, Bool, true, false, cond, ◌&&◌, eqb, List, [], ◌∷◌, ◌++◌}
-use Rattle.std.proofs.Common.{length, map, drop, Option, Some, None, is_some, option_map, set, refl, sym, ap, subst}
+use Rattle.std.proofs.Common.{length, drop, Option, Some, None, is_some, option_map, refl, sym, ap, subst}
 use Rattle.std.proofs.Common.{◌∙◌, arith}
 use Rattle.std.specs.List.{find}
 use Rattle.script.specs.declared.commands.Reference.{Reference}
@@ -12,7 +12,6 @@ use Rattle.assoc_mem.specs.Held.{with_seg}
 use Rattle.processor.specs.declared.Transfer.{Transfer}
 use Rattle.descriptor_seg.specs.declared.Sdw.{Sdw}
 use Rattle.descriptor_seg.specs.declared.Sdw.TheVariants as sdw
-use Rattle.core_map.specs.declared.Frame.{Frame}
 use Rattle.core_map.specs.declared.Frame.TheVariants as frame
 use Rattle.machine_model.specs.Actions.{ForOwner, WhileIdle}
 use Rattle.machine_model.specs.declared.Processor.{Processor}
@@ -92,14 +91,8 @@ clear_outlined s c w h =
         due = None;
         assoc = cleared (cpu_at s.processors c).assoc w;
       };
-    })) h
-    (subst (λ (x : Runner). IsCleared x (runner_of (around s) (record (processor_at s.processors c) {
-      cpu = record (cpu_at s.processors c) {
-        due = None;
-        assoc = cleared (cpu_at s.processors c).assoc w;
-      };
-    }))) (sym (at_outline s c))
-    (cleared_runner (around s) (processor_at s.processors c) (cleared (cpu_at s.processors c).assoc w))))
+    })) h (rw (at_outline s c) (cleared_runner (around s) (processor_at s.processors c)
+    (cleared (cpu_at s.processors c).assoc w))))
 
 -- ---- processes are loaded, and leave
 
@@ -122,14 +115,7 @@ loaded_processor p k = record {
 }
 
 loaded_runner : (a : Around) (p : Processor) (k : ℕ) → IsFree p → HasLoaded (runner_of a (loaded_processor p k))
-loaded_runner a p k free = record {
-  online = free.online;
-  running = refl;
-  due = ap (λ (o : Option What). is_some o) free.due;
-  reading = free.transfer;
-  since = refl;
-  tried = refl;
-}
+loaded_runner a p k free = assumption (ap (λ (o : Option What). is_some o) free.due)
 
 loaded_outline : (s : State) (c k : ℕ) → outline_of (loaded s c k) ≡ record (with_runner (outline_of s) c
     (runner_of (around s) (loaded_processor (processor_at s.processors c) k))) { ready = (outline_of s).ready - 1 }
@@ -156,12 +142,7 @@ abbrev left_processor : Processor → Processor
 left_processor p = record p { cpu = record p.cpu { process = None; assoc = nothing_held } }
 
 left_runner : (a : Around) (p : Processor) → IsFree p → HasLeft (runner_of a (left_processor p))
-left_runner a p free = record {
-  online = free.online;
-  running = refl;
-  due = ap (λ (o : Option What). is_some o) free.due;
-  reading = free.transfer;
-}
+left_runner a p free = assumption (ap (λ (o : Option What). is_some o) free.due)
 
 one_more : (xs : List ℕ) (k : ℕ) → length (xs ++ k ∷ []) ≡ length xs + 1
 one_more [] k = refl
@@ -175,14 +156,12 @@ left_outline : (s : State) (c : ℕ) → (run_at s.runs (process_at s c)).ended 
     → outline_of (left_at s c) ≡ record (with_runner (outline_of s) c
     (runner_of (around s) (left_processor (processor_at s.processors c)))) { ready = (outline_of s).ready + 1 }
 unfolding outline_of
-left_outline s c going =
-    ap (λ (rs : List Runner). record (outline_of s) {
-      runners = rs;
-      ready = length (queued (run_at s.runs (process_at s c)) s.ready (process_at s c));
-    }) (set_map (runner_of (around s)) s.processors c (left_processor (processor_at s.processors c)))
-    ∙ ap (λ (n : ℕ). record (with_runner (outline_of s) c
-    (runner_of (around s) (left_processor (processor_at s.processors c)))) { ready = n })
-    (queued_long (run_at s.runs (process_at s c)) s.ready (process_at s c) going)
+left_outline s c going = cc (
+  set_map (runner_of (around s)) s.processors c
+      (left_processor (processor_at s.processors c)),
+  queued_long (run_at s.runs (process_at s c)) s.ready
+      (process_at s c) going,
+)
 
 pub leave_outlined : (s : State) (c : ℕ) → rule_of (outline_of s) c ≡ Leaves
     → (run_at s.runs (process_at s c)).ended ≡ false → IsFree (processor_at s.processors c)
@@ -233,8 +212,7 @@ pub fill_outlined : (s : State) (c k : ℕ) (held : Held) → rule_of (outline_o
     (with_runner (outline_of s) c (runner_of (around s) (held_processor (processor_at s.processors c) held)))
 fill_outlined s c k held h process less =
     fills (runner_of (around s) (held_processor (processor_at s.processors c) held)) h
-    (subst (λ (x : Runner). IsFilled x (runner_of (around s) (held_processor (processor_at s.processors c) held)))
-    (sym (at_outline s c)) (filled_runner (around s) (processor_at s.processors c) held k process less))
+    (rw (at_outline s c) (filled_runner (around s) (processor_at s.processors c) held k process less))
 
 -- what is found once one more stands at the end
 found_last : {A : Type 0} (test : A → Bool) (xs : List A) (x : A) → test x ≡ true
@@ -329,14 +307,11 @@ transferred_outline : (s : State) (c count : ℕ) (t : Transfer) → outline_of 
     ≡ with_runner (with_bound (outline_of s) t false false) c
     (runner_of (around s) (idle_processor (processor_at s.processors c)))
 unfolding outline_of
-transferred_outline s c count t =
-    ap (λ (rs : List Runner). record (outline_of s) {
-      runners = rs;
-      frames = map bare (set s.store.pages.core.frames t.frame (frame.Bound t.uid t.page false false));
-    }) (set_map (runner_of (around s)) s.processors c (idle_processor (processor_at s.processors c)))
-    ∙ ap (λ (fs : List Frame). record (with_runner (outline_of s) c
-    (runner_of (around s) (idle_processor (processor_at s.processors c)))) { frames = fs })
-    (set_map bare s.store.pages.core.frames t.frame (frame.Bound t.uid t.page false false))
+transferred_outline s c count t = cc (
+  set_map (runner_of (around s)) s.processors c
+      (idle_processor (processor_at s.processors c)),
+  set_map bare s.store.pages.core.frames t.frame (frame.Bound t.uid t.page false false),
+)
 
 pub transfer_outlined : (s : State) (c count : ℕ) (t : Transfer) → rule_of (outline_of s) c ≡ Reads
     → (cpu_at s.processors c).transfer ≡ Some t

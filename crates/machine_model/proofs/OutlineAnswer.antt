@@ -1,22 +1,21 @@
 -- In the outline of the machine, what answers a command is a step that leaves less to come.
 use Rattle.std.proofs.Common.{◌≡◌, ◌<◌, ℕ, ◌+◌, true, false, List, [], ◌∷◌, length, slice_get, Option, Some, None}
-use Rattle.std.proofs.Common.{is_some, set, refl, sym, ap, subst, ◌∙◌, inl, inr, ◌⊎◌, arith}
+use Rattle.std.proofs.Common.{is_some, refl, sym, ap, subst, ◌∙◌, inl, inr, ◌⊎◌, arith}
 use Rattle.std.proofs.lemmas.List.{get_or-set_same, length-set}
 use Rattle.script.specs.Forms.{weight}
 use Rattle.script.specs.Plans.{Plan, commands_of}
 use Rattle.script.specs.declared.commands.Command.{Command}
 use Rattle.script.specs.declared.commands.Command.TheVariants as command
 use Rattle.script.specs.declared.commands.Reference.{Reference}
-use Rattle.book.specs.declared.entries.Entry.{Entry}
 use Rattle.book.specs.declared.replies.Reply.{Reply}
 use Rattle.book.specs.declared.replies.Reply.TheVariants as reply
 use Rattle.machine_model.specs.declared.Processor.{Processor}
 use Rattle.machine_model.specs.declared.Run.{Run}
 use Rattle.machine_model.specs.declared.CutDescriptor.{CutDescriptor}
-use Rattle.machine_model.specs.State.{State, Storage}
+use Rattle.machine_model.specs.State.{State}
 use Rattle.machine_model.specs.Reads.{or_zero, no_processor, next_command, processor_at, cpu_at, process_at, run_at}
 use Rattle.machine_model.specs.Reads.{frames_of_owner, cut_of_owner}
-use Rattle.machine_model.specs.Steps.{answered, booked, with_store, with_pages, pages_after, fault_told, left_at}
+use Rattle.machine_model.specs.Steps.{answered, with_store, with_pages, pages_after, fault_told, left_at}
 use Rattle.machine_model.specs.Steps.{page_created, page_made, run_after, told, went_through, with_owner}
 use Rattle.machine_model.specs.Jobs.{page_back, pages_back, seg_back, segs_back, write_failed}
 use Rattle.machine_model.specs.Commits.{committed, left_after}
@@ -39,12 +38,9 @@ left_is s = left_in s.plan.processes s.runs
 pub told_left : (u : State) (c k : ℕ) (f : Option ℕ) (r : Reply) (command : Command) → CanTell u c k command
     → left_is (told u c f r) < left_is u
 told_left u c k f r command can =
-    subst (λ (j : ℕ). left_in u.plan.processes (set u.runs j (run_after (run_at u.runs j) (next_command u j) r))
-    < left_is u)
-    (sym (ap or_zero can.process))
-    (left_falls u.plan.processes u.runs k (run_after (run_at u.runs k) (next_command u k) r) can.planned can.there
-    (subst (λ (o : Option Command). left_of (commands_of u.plan k) (run_after (run_at u.runs k) o r)
-    < left_of (commands_of u.plan k) (run_at u.runs k)) (sym can.on.next)
+    rw (ap or_zero can.process) (left_falls u.plan.processes u.runs k (run_after (run_at u.runs k) (next_command u k) r)
+    can.planned can.there (subst (λ (o : Option Command). left_of (commands_of u.plan k)
+    (run_after (run_at u.runs k) o r) < left_of (commands_of u.plan k) (run_at u.runs k)) (sym can.on.next)
     (answer_falls (commands_of u.plan k) (run_at u.runs k) command r can.on)))
 
 pub outline_left : (s : State) → (outline_of s).left ≡ left_is s
@@ -89,11 +85,7 @@ ends_job s u t c k f r command same can owner plan runs count = record {
       let x = outline_left s in
       let y = outline_left t in
       omega (arith, less, a, b, x, y);
-  over = λ h. (
-      since_at t c ∙ count (sym (running_at t c) ∙ h) ∙ told_count u c f r can.within
-      ∙ ap (λ (ps : List Processor). (processor_at ps c).count + 1) same.processors
-      ∙ sym (ap (λ (n : ℕ). n + 1) (since_at s c))
-      );
+  over = λ h. cc (since_at t c, count (sym (running_at t c) ∙ h), told_count u c f r can.within, since_at s c);
 }
 
 -- ---- replies of a look
@@ -175,9 +167,6 @@ left_cases s c _ = inl refl
 left_none : (s : State) (c : ℕ) → c < length s.processors → is_some (cpu_at (left_at s c).processors c).process ≡ false
 left_none s c lt = ap (λ (p : Processor). is_some p.cpu.process) (get_or-set_same s.processors c _ no_processor lt)
 
-effect_tale : (s : State) (st : Storage) (es : List Entry) (c : ℕ) → SameTale s (booked (with_store s st) es) c
-effect_tale s st es c = record { plan = refl; runs = refl; processors = refl }
-
 left_ends : (s u : State) (c k : ℕ) (r : Reply) (x : Command) → SameTale s u c → CanTell u c k x
     → IsAnswered (outline_of s) c (outline_of (with_owner (left_after (told u c None r) c x) None))
 left_ends s u c k r x same can = by (left_cases (told u c None r) c x)
@@ -190,8 +179,7 @@ left_ends s u c k r x same can = by (left_cases (told u c None r) c x)
         → IsAnswered (outline_of s) c (outline_of (with_owner (left_after (told u c None r) c x) None))
     by (inl e) = subst (λ (y : State). IsAnswered (outline_of s) c (outline_of (with_owner y None))) (sym e)
         (ends_job s u (with_owner (told u c None r) None) c k None r x same can refl refl refl (λ h. refl))
-    by (inr e) = subst (λ (y : State). IsAnswered (outline_of s) c (outline_of (with_owner y None))) (sym e)
-        (ends_job s u (with_owner (left_at (told u c None r) c) None) c k None r x same can refl refl refl
+    by (inr e) = rw e (ends_job s u (with_owner (left_at (told u c None r) c) None) c k None r x same can refl refl refl
         (λ h. absurd (not_both h (left_none (told u c None r) c long))))
 
 pub commit_outlined : (s : State) (c k : ℕ) (stage : Stage) (x : Command) → IsIn (outline_of s) c stage
@@ -214,9 +202,7 @@ replied_is s u c k f r x same can before owner = record {
       let y = outline_left s in
       let z = outline_left (told u c f r) in
       omega (arith, less, b, y, z);
-  since = since_at (told u c f r) c ∙ told_count u c f r can.within
-      ∙ ap (λ (ps : List Processor). (processor_at ps c).count + 1) same.processors
-      ∙ sym (ap (λ (n : ℕ). n + 1) (since_at s c));
+  since = cc (since_at (told u c f r) c, told_count u c f r can.within, since_at s c);
 }
 
 told_owner : (u : State) (c : ℕ) (f : Option ℕ) (r : Reply) → (outline_of (told u c f r)).owner ≡ (outline_of u).owner

@@ -18,16 +18,16 @@ use Rattle.machine_model.specs.declared.Processor.{Processor}
 use Rattle.machine_model.specs.declared.CutDescriptor.{CutDescriptor}
 use Rattle.machine_model.specs.State.{State, Storage, Owner}
 use Rattle.machine_model.specs.Reads.{next_command, processor_at, cut_of_owner}
-use Rattle.machine_model.specs.Steps.{looking, started, with_faults, with_owner}
-use Rattle.machine_model.specs.Jobs.{accounts_left, deactivated_one, emptied, eviction_done, left_of, page_done}
+use Rattle.machine_model.specs.Steps.{looking, started, with_owner}
+use Rattle.machine_model.specs.Jobs.{accounts_left, emptied, eviction_done, left_of, page_done}
 use Rattle.machine_model.specs.Jobs.{page_gone, page_in, seg_gone, segs_gone, with_left, without_first_frame}
-use Rattle.machine_model.specs.Outline.{Refer, Runner, EvictFrame, EmptyPlace, Look, Waiting, Keeper, runner_at}
+use Rattle.machine_model.specs.Outline.{Refer, Runner, EmptyPlace, Look, Waiting, runner_at}
 use Rattle.machine_model.specs.Outline.{want_at, with_runner, with_frame, with_entry, at_stage}
 use Rattle.machine_model.specs.Measures.{dues, lack}
 use Rattle.machine_model.specs.Finishing.{IsIn, JobStep, frees_frame, frees_page, empties, empties_at_once, gives_up}
 use Rattle.machine_model.specs.Finishing.{starts, CanEmpty, CanStart, MayRelease, with_runners, with_stored}
 use Rattle.machine_model.specs.Finishing.{without_owner, now_reading}
-use Rattle.machine_model.specs.Outlined.{Around, around, bare, runner_by, runner_of, first_frame, stage_of, keeper_of}
+use Rattle.machine_model.specs.Outlined.{Around, around, bare, runner_by, runner_of, stage_of, keeper_of}
 use Rattle.machine_model.specs.Outlined.{outline_of}
 use Rattle.machine_model.specs.Foreseen.{full_then, stored_then}
 use Rattle.machine_model.proofs.JobLaws.{alike_self}
@@ -74,11 +74,6 @@ in_stage s o ph owner h =
     in_job s o owner ∙ ap (λ (x : Phase). Some (record
     { cpu = o.cpu; stage = stage_of s.store.ast.entries o.frames x })) h
 
--- that the count of failures is noted, the outline doesn't tell
-noted_outline : (s : State) (n : ℕ) → outline_of (with_faults s n) ≡ outline_of s
-unfolding outline_of
-noted_outline s n = refl
-
 pub eviction_outlined : (s : State) (o : Owner) (w : What) (f : ℕ) (rest : List ℕ) → s.owner ≡ Some o
     → o.phase ≡ phase.Waiting aim.Evicting w → o.frames ≡ f ∷ rest → dues (outline_of s).runners ≡ 0
     → MayRelease (outline_of s) f (stored_then s f) (full_then s f)
@@ -86,9 +81,7 @@ pub eviction_outlined : (s : State) (o : Owner) (w : What) (f : ℕ) (rest : Lis
 eviction_outlined s o w f rest owner h frames due may =
     job_to (outline_of s) (with_stored (at_stage (with_frame (outline_of s) f frame.Free) o.cpu Look) (stored_then s f)
     (full_then s f)) (outline_of (eviction_done s o.cpu f)) o.cpu (sym (gone_outline s f (Some (looking o.cpu))))
-    (frees_frame f (stored_then s f) (full_then s f) (in_stage s o (phase.Waiting aim.Evicting w) owner h
-    ∙ ap (λ (xs : List ℕ). Some (record { cpu = o.cpu; stage = Waiting (EvictFrame (first_frame xs)) })) frames) due
-    may)
+    (frees_frame f (stored_then s f) (full_then s f) (cc (in_stage s o (phase.Waiting aim.Evicting w) owner h)) due may)
 
 rest_keeper : (entries : List (Option Active)) (o : Owner) (uid : ℕ) (w : What) (f : ℕ) (rest : List ℕ)
     → o.phase ≡ phase.Waiting (aim.Deactivating uid) w → o.frames ≡ f ∷ rest
@@ -103,10 +96,6 @@ done_outline : (s : State) (f : ℕ) → outline_of (page_done s f)
     { owner = keeper_of s.store.ast.entries (without_first_frame s.owner) }
 done_outline s f = gone_outline s f (without_first_frame s.owner)
 
--- the owner that waits to free these frames of a segment
-abbrev empties_next : ℕ → ℕ → List ℕ → Option Keeper
-empties_next cpu place frames = Some (record { cpu = cpu; stage = Waiting (EmptyPlace place frames) })
-
 pub page_outlined : (s : State) (o : Owner) (uid : ℕ) (w : What) (f : ℕ) (rest : List ℕ) → s.owner ≡ Some o
     → o.phase ≡ phase.Waiting (aim.Deactivating uid) w → o.frames ≡ f ∷ rest → dues (outline_of s).runners ≡ 0
     → MayRelease (outline_of s) f (stored_then s f) (full_then s f)
@@ -114,15 +103,9 @@ pub page_outlined : (s : State) (o : Owner) (uid : ℕ) (w : What) (f : ℕ) (re
 page_outlined s o uid w f rest owner h frames due may =
     job_to (outline_of s) (with_stored (at_stage (with_frame (outline_of s) f frame.Free) o.cpu
     (Waiting (EmptyPlace (place_of s.store.ast.entries uid) rest))) (stored_then s f) (full_then s f))
-    (outline_of (page_done s f)) o.cpu
-    (ap (λ (k : Option Keeper). record (with_stored (with_frame (outline_of s) f frame.Free) (stored_then s f)
-    (full_then s f)) { owner = k })
-    (sym (ap (λ (x : Option Owner). keeper_of s.store.ast.entries (without_first_frame x)) owner
-    ∙ rest_keeper s.store.ast.entries o uid w f rest h frames)) ∙ sym (done_outline s f))
+    (outline_of (page_done s f)) o.cpu (cc (rest_keeper s.store.ast.entries o uid w f rest h frames, done_outline s f))
     (frees_page (place_of s.store.ast.entries uid) f rest (stored_then s f) (full_then s f)
-    (in_stage s o (phase.Waiting (aim.Deactivating uid) w) owner h
-    ∙ ap (empties_next o.cpu (place_of s.store.ast.entries uid)) frames)
-    due may)
+    (cc (in_stage s o (phase.Waiting (aim.Deactivating uid) w) owner h)) due may)
 
 -- ---- a segment becomes inactive
 
@@ -138,9 +121,7 @@ segs_rest s (d ∷ ds) = segs_rest (seg_gone s d) ds
 emptied_outline : (s : State) (c uid : ℕ) → outline_of (emptied s c uid)
     ≡ at_stage (with_entry (outline_of s) (place_of s.store.ast.entries uid) None) c Look
 unfolding outline_of
-emptied_outline s c uid =
-    ap (λ (t : State). outline_of (with_owner (deactivated_one t uid) (Some (looking c))))
-    (segs_rest s (cut_of_owner s.owner))
+emptied_outline s c uid = rw (segs_rest s (cut_of_owner s.owner))
 
 pub deactivate_outlined : (s : State) (o : Owner) (uid : ℕ) (w : What) → s.owner ≡ Some o
     → o.phase ≡ phase.Waiting (aim.Deactivating uid) w → o.frames ≡ [] → dues (outline_of s).runners ≡ 0
@@ -150,9 +131,8 @@ deactivate_outlined s o uid w owner h frames due =
     o.cpu Look)
     (outline_of s).runners) (outline_of (emptied s o.cpu uid)) o.cpu (sym (emptied_outline s o.cpu uid))
     (empties (place_of s.store.ast.entries uid) (outline_of s).runners
-    (in_stage s o (phase.Waiting (aim.Deactivating uid) w) owner h
-    ∙ ap (empties_next o.cpu (place_of s.store.ast.entries uid)) frames)
-    due (alike_self (outline_of s).runners o.cpu) due)
+    (cc (in_stage s o (phase.Waiting (aim.Deactivating uid) w) owner h)) due (alike_self (outline_of s).runners o.cpu)
+    due)
 
 -- where nothing had to be taken
 pub deactivate_at_once_outlined : (s : State) (o : Owner) (uid : ℕ) → s.owner ≡ Some o → o.phase ≡ phase.Looking
@@ -160,10 +140,7 @@ pub deactivate_at_once_outlined : (s : State) (o : Owner) (uid : ℕ) → s.owne
     → JobStep (outline_of s) o.cpu (outline_of (emptied s o.cpu uid))
 deactivate_at_once_outlined s o uid owner looks can =
     job_to (outline_of s) (with_entry (outline_of s) (place_of s.store.ast.entries uid) None)
-    (outline_of (emptied s o.cpu uid)) o.cpu
-    (ap (λ (k : Option Keeper). record (with_entry (outline_of s) (place_of s.store.ast.entries uid) None)
-    { owner = k })
-    (in_look s o owner looks) ∙ sym (emptied_outline s o.cpu uid))
+    (outline_of (emptied s o.cpu uid)) o.cpu (cc (in_look s o owner looks, emptied_outline s o.cpu uid))
     (empties_at_once (place_of s.store.ast.entries uid) can)
 
 -- ---- the supervisor is given up

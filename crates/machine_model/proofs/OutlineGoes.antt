@@ -6,8 +6,8 @@ use Rattle.std.proofs.lemmas.Bool.Decides.{eqb_tells}
 use Rattle.processor.specs.declared.Transfer.{Transfer}
 use Rattle.machine_model.specs.Outline.{Runner, no_runner, Stage, Keeper, Outline, Turn, Moved, runner_at}
 use Rattle.machine_model.specs.Finishing.{Works, Loads, Commands, rule_of, owns, IsEnded, IsIn}
-use Rattle.machine_model.specs.Finishing.{Step, ends, comes, clears, reads, loses, works, awaits_clear}
-use Rattle.machine_model.specs.Finishing.{awaits_transfer, loads, idles, leaves, fills, replies, faults, enters, waits}
+use Rattle.machine_model.specs.Finishing.{Step, ends, awaits_clear}
+use Rattle.machine_model.specs.Finishing.{awaits_transfer, idles, waits}
 use Rattle.machine_model.specs.OutlineKept.{IsKept}
 use Rattle.machine_model.proofs.FindLaws.{position_at, position_none}
 use Rattle.machine_model.proofs.RuleLaws.{tells}
@@ -26,21 +26,11 @@ module _ (s : Outline) (k : IsKept s) (more : IsEnded s → ⊥) (all : HaveStep
 
       by : (x : Turn) (t : Outline) → all.turn c ≡ x → Step s c x t → Goes s all
       by x t e (ends ended) = absurd (more ended)
-      by x t e (comes h) = here e
-      by x t e (clears y h cleared) = here e
-      by x t e (reads r used modified h is) = here e
-      by x t e (loses r y left h is lost fewer) = here e
-      by x t e (works _ h step) = here e
       by x t e (awaits_clear w d h waiting online due) = absurd (no_work h)
       by x t e (awaits_transfer f uid page h look started) = absurd (no_work h)
-      by x t e (loads y h some loaded) = here e
       by x t e (idles busy h none) = absurd (no_idle h none)
-      by x t e (leaves y h left) = here e
-      by x t e (fills y h filled) = here e
-      by x t e (replies _ h replied) = here e
-      by x t e (faults chain uid page makes h none want lacks) = here e
-      by x t e (enters h none want) = here e
       by x t e (waits o h some) = absurd (no_wait h o some)
+      by x t e _ = here e
 
   -- who is to drop something does so, or comes online
   dropper_goes : (d : ℕ) → d < length s.runners → (runner_at s.runners d).due ≡ true → Goes s all
@@ -77,22 +67,12 @@ module _ (s : Outline) (k : IsKept s) (more : IsEnded s → ⊥) (all : HaveStep
 
       by : (x : Turn) (t : Outline) → all.turn c ≡ x → Step s c x t → Goes s all
       by x t e (ends ended) = absurd (more ended)
-      by x t e (comes h) = here e
-      by x t e (clears y h cleared) = here e
-      by x t e (reads r used modified h is) = here e
-      by x t e (loses r y left h is lost fewer) = here e
-      by x t e (works _ h step) = here e
       by x t e (awaits_clear w d h waiting online due) = dropper_goes d (inside s.runners d online) due
       by x t e (awaits_transfer f uid page h look started) = let reader = k.tied.started f uid page started in
           reader_goes reader.0 (record { frame = f; uid = uid; page = page }) reader.1 reader.2
-      by x t e (loads y h some loaded) = here e
       by x t e (idles busy h none) = absurd (not_both own (tells s c Loads h).2)
-      by x t e (leaves y h left) = here e
-      by x t e (fills y h filled) = here e
-      by x t e (replies _ h replied) = here e
-      by x t e (faults chain uid page makes h none want lacks) = here e
-      by x t e (enters h none want) = here e
       by x t e (waits o h some) = absurd (not_both own (tells s c Commands h).2)
+      by x t e _ = here e
 
   -- nobody owns the supervisor
   module _ (none : s.owner ≡ None) where

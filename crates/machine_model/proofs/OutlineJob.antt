@@ -2,7 +2,6 @@
 use Rattle.std.proofs.Common.{◌≡◌, ◌≢◌, ◌<◌, ℕ, zero, suc, Bool, true, false, List, [], ◌∷◌, length, map, Option, Some}
 use Rattle.std.proofs.Common.{None, set, get_or, refl, sym, ap, subst, ◌∙◌, arith}
 use Rattle.std.proofs.lemmas.List.{get_or-set_same, get_or-set_other}
-use Rattle.book.specs.declared.entries.Entry.TheVariants as entry
 use Rattle.script.specs.declared.commands.Reference.{Reference}
 use Rattle.active_segs.specs.declared.Entry.{Entry as Active}
 use Rattle.descriptor_seg.specs.declared.Sdw.{Sdw}
@@ -14,10 +13,10 @@ use Rattle.machine_model.specs.declared.Phase.TheVariants as phase
 use Rattle.machine_model.specs.declared.Processor.{Processor}
 use Rattle.machine_model.specs.State.{State, Owner}
 use Rattle.tree_model.specs.Tree.{node_in}
-use Rattle.machine_model.specs.Reads.{or_zero, no_processor, superior_of_node, mode_in, length_in, processor_at}
+use Rattle.machine_model.specs.Reads.{no_processor, superior_of_node, mode_in, length_in, processor_at}
 use Rattle.machine_model.specs.Reads.{descriptor_of, is_connected}
-use Rattle.machine_model.specs.Steps.{with_link as with_link_of, activated_at, booked, connected_to, with_store}
-use Rattle.machine_model.specs.Outline.{Refer, Runner, Look, Keeper, Outline, runner_at, want_at, with_entry}
+use Rattle.machine_model.specs.Steps.{with_link as with_link_of, activated_at, connected_to}
+use Rattle.machine_model.specs.Outline.{Refer, Runner, Look, Outline, runner_at, want_at, with_entry}
 use Rattle.machine_model.specs.Finishing.{IsIn, JobStep, activates, connects, CanActivate, with_link, entry_for}
 use Rattle.machine_model.specs.Outlined.{Around, around, reference_in, is_linked, want_of}
 use Rattle.machine_model.specs.Outlined.{runner_by, runner_of, stage_of, keeper_of, outline_of}
@@ -48,9 +47,7 @@ in_look s o h looks =
 -- an owner that looks is the same whatever is active
 keep_look : (es fs : List (Option Active)) (x : Option Owner) (o : Owner) → x ≡ Some o → o.phase ≡ phase.Looking
     → keeper_of es x ≡ keeper_of fs x
-keep_look es fs x o h looks =
-    ap (λ (y : Option Owner). keeper_of es y) h ∙ look_of_keeper es o looks
-    ∙ sym (ap (λ (y : Option Owner). keeper_of fs y) h ∙ look_of_keeper fs o looks)
+keep_look es fs x o h looks = cc (look_of_keeper es o looks, look_of_keeper fs o looks)
 
 -- ---- a look that brings a segment nearer
 
@@ -63,9 +60,7 @@ unfolding outline_of
 activate_outlined s o uid place owner looks can =
     job_to (outline_of s) (with_entry (outline_of s) place (entry_for uid (superior_in s uid)))
     (outline_of (activated_at s uid place)) o.cpu
-    (ap (λ (k : Option Keeper). record (with_entry (outline_of s) place (entry_for uid (superior_in s uid)))
-    { owner = k })
-    (keep_look s.store.ast.entries (activated_at s uid place).store.ast.entries s.owner o owner looks))
+    (rw (keep_look s.store.ast.entries (activated_at s uid place).store.ast.entries s.owner o owner looks))
     (activates place uid (superior_in s uid) can)
 
 -- a list in which one element is seen otherwise
@@ -80,12 +75,11 @@ pub map_change : {A B : Type 0} (f g : A → B) (xs : List A) (c : ℕ) (y : B) 
     → ((i : ℕ) → i ≢ c → g (get_or xs i d) ≡ f (get_or xs i d)) → map g xs ≡ set (map f xs) c y
 map_change f g [] c y d lt here other = absurd (omega arith)
 map_change {B = B} f g (x ∷ xs) zero y d lt here other =
-    ap (λ (z : B). z ∷ map g xs) here
-    ∙ ap (λ (ys : List B). y ∷ ys) (map_like f g xs d (λ i. other (suc i) (λ e. absurd (omega (arith, e)))))
-map_change {B = B} f g (x ∷ xs) (suc c) y d lt here other =
-    ap (λ (z : B). z ∷ map g xs) (other zero (λ e. absurd (omega (arith, e))))
-    ∙ ap (λ (ys : List B). f x ∷ ys) (map_change f g xs c y d (omega arith) here
-    (λ i n. other (suc i) (λ e. n (omega (arith, e)))))
+    cc (map_like f g xs d (λ i. other (suc i) (λ e. absurd (omega (arith, e)))))
+map_change {B = B} f g (x ∷ xs) (suc c) y d lt here other = cc (
+  other zero (λ e. absurd (omega (arith, e))),
+  map_change f g xs c y d (omega arith) here (λ i n. other (suc i) (λ e. n (omega (arith, e)))),
+)
 
 -- ---- a look that connects
 
@@ -98,13 +92,10 @@ linked_runner : (a : Around) (links : Links) (p : Processor) (k : ℕ) (r : Refe
     → is_connected (descriptor_of links k r.number) ≡ true
     → runner_of (linked_around a links) p ≡ record (runner_of a p) { linked = true }
 linked_runner a links p k r process next known now =
-    subst (λ (o : Option ℕ). runner_by (linked_around a links) p o ≡ record (runner_by a p o) { linked = true })
-    (sym process)
-    (λ i. record (runner_by a p (Some k)) { want = want_same i; linked = linked_now i })
+    rw process (λ i. record (runner_by a p (Some k)) { want = want_same i; linked = linked_now i })
   where
     want_same : want_of (linked_around a links) k (a.next k) ≡ want_of a k (a.next k)
-    want_same = ap (λ (known : List (List (Option ℕ))). want_of (record a { links = record links { known = known } })
-        k (a.next k)) known
+    want_same = rw (known)
 
     linked_now : is_linked (linked_around a links) k (reference_in (a.next k)) ≡ true
     linked_now = ap (λ (x : Option Reference). is_linked (linked_around a links) k x) next ∙ now
@@ -143,21 +134,15 @@ connected_outline : (s : State) (c k n uid : ℕ) (r : Reference) → c < length
     → outline_of (connected_to s c n uid) ≡ with_link (outline_of s) c
 unfolding outline_of
 connected_outline s c k n uid r lt placed next number there =
-    ap (λ (j : ℕ). outline_of (booked (with_store s (with_link_of s.store j n uid)) (entry.Connect j n uid ∷ [])))
-    (ap or_zero placed.here)
-    ∙ ap (λ (rs : List Runner). record (outline_of s) { runners = rs })
-    (map_change (runner_of (around s)) (runner_of (linked_around (around s) (with_link_of s.store k n uid).links))
-    s.processors c
-    (record (runner_at (outline_of s).runners c) { linked = true }) no_processor lt
-    (linked_runner (around s) (with_link_of s.store k n uid).links (processor_at s.processors c) k r placed.here next
-    refl
-    (subst (λ (m : ℕ). is_connected (descriptor_of (with_link_of s.store k n uid).links k m) ≡ true) (sym number)
-    (now_connected s k n uid there))
-    ∙ ap (λ (x : Runner). record x { linked = true }) (sym (at_outline s c)))
-    (λ d apart. other_runner (around s) (with_link_of s.store k n uid).links (processor_at s.processors d) refl
-    (λ j h. get_or-set_other s.store.links.descriptors k j (set (sdws_at s.store.links.descriptors k) n
-    (sdw.Present (place_of s.store.ast.entries uid) (mode_in s.store k uid) (length_in s.store uid))) []
-    (λ e. placed.only d apart (h ∙ ap (λ (i : ℕ). Some i) e)))))
+    cc (map_change (runner_of (around s)) (runner_of (linked_around (around s) (with_link_of s.store k n uid).links))
+    s.processors c (record (runner_at (outline_of s).runners c) { linked = true }) no_processor lt
+    (linked_runner (around s) (with_link_of s.store k n uid).links (processor_at s.processors c) k r placed.here
+    next refl (rw number (now_connected s k n uid there)) ∙ ap (λ (x : Runner). record x { linked = true })
+    (sym (at_outline s c))) (λ d apart. other_runner (around s) (with_link_of s.store k n uid).links
+    (processor_at s.processors d) refl (λ j h. get_or-set_other s.store.links.descriptors k j
+    (set (sdws_at s.store.links.descriptors k) n (sdw.Present (place_of s.store.ast.entries uid)
+    (mode_in s.store k uid) (length_in s.store uid))) [] (λ e. placed.only d apart (h
+    ∙ ap (λ (i : ℕ). Some i) e)))))
 
 pub connect_outlined : (s : State) (o : Owner) (k uid : ℕ) (r : Reference) (chain : List ℕ) (u page : ℕ) (makes : Bool)
     → s.owner ≡ Some o → o.phase ≡ phase.Looking → o.cpu < length s.processors → IsPlaced s.processors o.cpu k

@@ -1,18 +1,16 @@
 -- In the outline of the machine, a transfer that fails is a step that frees its frame and leaves less to come.
-use Rattle.std.proofs.Common.{◌≡◌, ◌≢◌, ◌<◌, ℕ, zero, suc, ◌+◌, ◌-◌, Bool, false, cond, ◌&&◌, eqb, List, [], ◌∷◌}
+use Rattle.std.proofs.Common.{◌≡◌, ◌≢◌, ◌<◌, ℕ, zero, suc, ◌+◌, Bool, false, List, [], ◌∷◌}
 use Rattle.std.proofs.Common.{◌++◌, length, map, Option, Some, None, is_some, set, refl, sym, ap, subst, ◌∙◌}
 use Rattle.std.proofs.Common.{append-nil}
 use Rattle.std.proofs.lemmas.List.{get_or-set_same, get_or-set_other, length-set}
-use Rattle.script.specs.Plans.{Plan, command_at}
+use Rattle.script.specs.Plans.{Plan}
 use Rattle.script.specs.declared.commands.Command.{Command}
 use Rattle.book.specs.declared.replies.Reply.TheVariants as reply
 use Rattle.flat_model.specs.Commands.{is_end}
-use Rattle.custody_model.specs.Custody.{range}
 use Rattle.custody_model.specs.Next.{released_by}
 use Rattle.core_map.specs.declared.Frame.TheVariants as frame
 use Rattle.processor.specs.declared.Transfer.{Transfer}
 use Rattle.machine_model.specs.declared.Processor.{Processor}
-use Rattle.machine_model.specs.declared.Run.{Run}
 use Rattle.machine_model.specs.State.{State}
 use Rattle.machine_model.specs.Reads.{or_zero, no_processor, no_run, next_command, processor_at, cpu_at, process_at}
 use Rattle.machine_model.specs.Reads.{run_at}
@@ -46,9 +44,7 @@ next_runner a next p same = by p.cpu.process same
 -- what was released where the command was no end
 none_released : (p : Plan) (k : ℕ) (x : Command) (o : Option Command) → o ≡ Some x → is_end x ≡ false
     → released_by p k o ≡ []
-none_released p k x o is out =
-    ap (λ (c : Option Command). released_by p k c) is
-    ∙ ap (λ (b : Bool). cond (b && (p.initializer && eqb k 0)) (range 1 (length p.processes - 1)) []) out
+none_released p k x o is out = cc is
 
 -- the processor once its transfer failed and its process was told
 abbrev lost_processor : State → ℕ → ℕ → Transfer → Processor
@@ -88,11 +84,9 @@ lost_told s c k n t x can = ap or_zero (lost_process s c n t can.within ∙ can.
 
 other_next : (s : State) (c k n j : ℕ) (t : Transfer) (x : Command) → CanTell s c k x → j ≢ k
     → next_command (transfer_failed s c t n) j ≡ next_command s j
-other_next s c k n j t x can apart =
-    ap (λ (run : Run). command_at s.plan j run.place) (get_or-set_other s.runs (process_at (lost_state s c n t) c) j
-    (run_after (run_at s.runs (process_at (lost_state s c n t) c))
-    (next_command (lost_state s c n t) (process_at (lost_state s c n t) c)) reply.Device) no_run
-    (λ e. apart (e ∙ lost_told s c k n t x can)))
+other_next s c k n j t x can apart = rw (get_or-set_other s.runs (process_at (lost_state s c n t) c) j
+    (run_after (run_at s.runs (process_at (lost_state s c n t) c)) (next_command (lost_state s c n t)
+    (process_at (lost_state s c n t) c)) reply.Device) no_run (λ e. apart (e ∙ lost_told s c k n t x can)))
 
 others_same : (s : State) (c k n d : ℕ) (t : Transfer) (x : Command) → CanTell s c k x → IsPlaced s.processors c k
     → d ≢ c
@@ -101,27 +95,24 @@ others_same : (s : State) (c k n d : ℕ) (t : Transfer) (x : Command) → CanTe
 others_same s c k n d t x can placed apart =
     next_runner (around s) (next_command (transfer_failed s c t n))
     (processor_at (set s.processors c (lost_processor s c n t)) d)
-    (λ j h. other_next s c k n j t x can (λ e. placed.only d apart
-    (sym (ap (λ (p : Processor). p.cpu.process) (get_or-set_other s.processors c d (lost_processor s c n t)
-    no_processor apart))
-    ∙ h ∙ ap (λ (i : ℕ). Some i) e)))
+    (λ j h. other_next s c k n j t x can
+    (λ e. placed.only d apart (cc (get_or-set_other s.processors c d (lost_processor s c n t) no_processor apart))))
 
 failed_runners : (s : State) (c k n : ℕ) (t : Transfer) (x : Command) → CanTell s c k x → IsPlaced s.processors c k
     → map (runner_of (failed_around s c n t)) (transfer_failed s c t n).processors
     ≡ set (map (runner_of (around s)) s.processors) c (runner_of (failed_around s c n t) (lost_processor s c n t))
 failed_runners s c k n t x can placed =
-    ap (λ (ps : List Processor). map (runner_of (failed_around s c n t)) ps) (failed_processors s c n t can.within)
-    ∙ map_change (runner_of (around s)) (runner_of (failed_around s c n t))
-    (set s.processors c (lost_processor s c n t)) c
-    (runner_of (failed_around s c n t) (lost_processor s c n t)) no_processor
-    (subst (λ (m : ℕ). c < m) (sym (length-set s.processors c (lost_processor s c n t))) can.within)
-    (ap (runner_of (failed_around s c n t)) (get_or-set_same s.processors c (lost_processor s c n t) no_processor
-    can.within))
-    (λ d apart. others_same s c k n d t x can placed apart)
-    ∙ ap (λ (rs : List Runner). set rs c (runner_of (failed_around s c n t) (lost_processor s c n t)))
-    (set_map (runner_of (around s)) s.processors c (lost_processor s c n t))
-    ∙ set_twice (map (runner_of (around s)) s.processors) c (runner_of (around s) (lost_processor s c n t))
-    (runner_of (failed_around s c n t) (lost_processor s c n t))
+    cc (
+      failed_processors s c n t can.within,
+      map_change (runner_of (around s)) (runner_of (failed_around s c n t))
+          (set s.processors c (lost_processor s c n t)) c (runner_of (failed_around s c n t) (lost_processor s c n t))
+          no_processor (subst (λ (m : ℕ). c < m) (sym (length-set s.processors c (lost_processor s c n t))) can.within)
+          (ap (runner_of (failed_around s c n t)) (get_or-set_same s.processors c (lost_processor s c n t) no_processor
+          can.within)) (λ d apart. others_same s c k n d t x can placed apart),
+      set_map (runner_of (around s)) s.processors c (lost_processor s c n t),
+      set_twice (map (runner_of (around s)) s.processors) c (runner_of (around s) (lost_processor s c n t))
+          (runner_of (failed_around s c n t) (lost_processor s c n t)),
+    )
 
 failed_ready : (s : State) (c k n : ℕ) (t : Transfer) (x : Command) → CanTell s c k x → is_end x ≡ false
     → length (transfer_failed s c t n).ready ≡ length s.ready
@@ -178,14 +169,11 @@ lost_runner s c n t lt = subst (λ (y : Runner). HasLost y (runner_of (failed_ar
       tried = goes_on (run_at s.runs (process_at (lost_state s c n t) c))
           (next_command (lost_state s c n t) (process_at (lost_state s c n t) c)) reply.Device;
     }
-    is = get_or-set_same (lost_state s c n t).processors c _ no_processor
-        (subst (λ (m : ℕ). c < m) (sym (length-set s.processors c _)) lt)
-        ∙ ap (λ (p : Processor). record {
-          cpu = p.cpu;
-          count = p.count + 1;
-          tried = goes_on (run_at s.runs (process_at (lost_state s c n t) c))
-              (next_command (lost_state s c n t) (process_at (lost_state s c n t) c)) reply.Device;
-        }) inner
+    is = rw (
+      get_or-set_same (lost_state s c n t).processors c _ no_processor
+          (subst (λ (m : ℕ). c < m) (sym (length-set s.processors c _)) lt),
+      inner,
+    )
 
 pub loss_outlined : (s : State) (c k n : ℕ) (t : Transfer) (x : Command) → rule_of (outline_of s) c ≡ Reads
     → (cpu_at s.processors c).transfer ≡ Some t → CanTell s c k x → IsPlaced s.processors c k → is_end x ≡ false
@@ -195,6 +183,5 @@ loss_outlined s c k n t x h reading can placed out =
     (sym (failed_outline s c k n t x can placed out))
     (loses t (runner_of (failed_around s c n t) (lost_processor s c n t)) (left_is (transfer_failed s c t n)) h
     (ap (λ (y : Runner). y.reading) (at_outline s c) ∙ seen_reading (around s) (processor_at s.processors c) ∙ reading)
-    (lost_runner s c n t can.within)
-    (subst (λ (m : ℕ). left_is (transfer_failed s c t n) < m) (sym (outline_left s))
-    (told_left (lost_state s c n t) c k None reply.Device x (lost_tells s c k n t x can))))
+    (lost_runner s c n t can.within) (rw (outline_left s) (told_left (lost_state s c n t) c k None reply.Device x
+    (lost_tells s c k n t x can))))

@@ -1,6 +1,6 @@
 -- In the outline of the machine, each step of a move is a step of the owner's job.
 use Rattle.std.proofs.Common.{◌≡◌, ◌<◌, ◌≤◌, ℕ, zero, suc, ◌+◌, ◌-◌, Bool, true, false, cond, List, [], ◌∷◌, map}
-use Rattle.std.proofs.Common.{Some, None, refl, sym, ap, subst, ◌∙◌, le_refl, arith, length}
+use Rattle.std.proofs.Common.{Some, None, refl, sym, subst, le_refl, arith, length}
 use Rattle.script.specs.declared.commands.Command.{Command}
 use Rattle.book.specs.declared.replies.Reply.TheVariants as reply
 use Rattle.core_map.specs.declared.Frame.{Frame}
@@ -13,7 +13,6 @@ use Rattle.seg_mover.specs.declared.Mover.{Mover}
 use Rattle.seg_control.specs.Control.{table_of}
 use Rattle.seg_control.specs.Moving.{first_out, next_out}
 use Rattle.storage_ops.specs.Shown.{is_filed}
-use Rattle.tree_model.specs.Tree.{Node}
 use Rattle.machine_model.specs.declared.Phase.TheVariants as phase
 use Rattle.machine_model.specs.State.{State, Owner}
 use Rattle.machine_model.specs.Reads.{process_at}
@@ -113,9 +112,7 @@ moved_outline s c m = λ i. record {
 }
   where
     same : (p : Processor) → runner_of (around s) p ≡ runner_of (around (move_committed s c m)) p
-    same p = sym (ap (λ (ns : List Node). runner_of (record (around s) { nodes = ns }) p)
-        (put_is m.uid m.to.0 s.store.accounts.nodes)
-        ∙ runner_same (put_on m.uid m.to.0) (around s) p)
+    same p = cc (runner_same (put_on m.uid m.to.0) (around s) p, put_is m.uid m.to.0 s.store.accounts.nodes)
 
 pub move_outlined : (s : State) (o : Owner) (m : Mover) → s.owner ≡ Some o → o.phase ≡ phase.Moving m
     → HasMoved (outline_of s) o.cpu (full_there s.store m)

@@ -29,7 +29,7 @@ use Rattle.machine_model.specs.Actions as act
 use Rattle.machine_model.specs.Actions.{action_of, is_over}
 use Rattle.machine_model.specs.After.{Outcome, after}
 use Rattle.machine_model.specs.Turns.{turn_of}
-use Rattle.machine_model.specs.Steps.{connected_to, with_faults, with_store}
+use Rattle.machine_model.specs.Steps.{with_faults, with_store}
 use Rattle.machine_model.specs.Jobs.{deactivation_begun, eviction_done, page_done, segment_taken, took, write_failed}
 use Rattle.machine_model.specs.Commits.{committed, committed_at}
 use Rattle.machine_model.specs.Outline.{Moved, Runner, no_runner, Stage, Look, Copying}
@@ -116,9 +116,8 @@ commit_is s c may =
 commit_goal : (s : State) (c : ℕ) (o : Outcome) (stage : Stage) → rule_of (outline_of s) c ≡ Works
     → IsIn (outline_of s) c stage → dues (outline_of s).runners ≡ 0 → MayAnswer s c → Goal s c o act.Commit
 unfolding after
-commit_goal s c o stage h owner due may =
-    subst (λ (t : State). Step (outline_of s) c Moved (outline_of t)) (commit_is s c may)
-    (works _ h (commit_outlined s c may.process stage may.command owner due may.can))
+commit_goal s c o stage h owner due may = rw (commit_is s c may) at (works _ h (commit_outlined s c may.process stage
+    may.command owner due may.can))
 
 -- ---- a look
 
@@ -134,21 +133,14 @@ module _ (s : State) (o : Owner) (out : Outcome) (f : Foresees s o.cpu) (rule : 
   unfolding after
   look_goal (act.Waits (act.ForTransfer g)) may = awaits_transfer_outlined s o g may.uid may.page rule owner looks
       may.started
-  look_goal (act.Waits (act.ForOwner d)) may = absurd may
-  look_goal (act.Waits (act.ForClear d)) may = absurd may
-  look_goal (act.Waits (act.WhileIdle n)) may = absurd may
   look_goal (act.Answer r) may =
       works _ rule (answer_outlined s o.cpu may.process Look r may.command (in_look s o owner looks) due_none may.can)
   look_goal act.GiveUp may =
       works _ rule (give_up_outlined s o may.0.chain may.0.uid may.0.page may.0.makes owner looks may.0.want may.1)
   look_goal (act.Activate uid place) may = works _ rule (activate_outlined s o uid place owner looks may)
-  look_goal (act.Connect n uid) may = works _ rule
-      (subst (λ (m : ℕ). JobStep (outline_of s) o.cpu (outline_of (connected_to s o.cpu m uid)))
-      may.number (connect_outlined s o may.process uid may.reference may.wants.chain may.wants.uid may.wants.page
-      may.wants.makes owner
-      looks may.within may.placed may.next (subst (λ (m : ℕ). HasDescriptor s.store.links may.process m)
-      (sym may.number) may.there)
-      may.wants.want may.off))
+  look_goal (act.Connect n uid) may = works _ rule (rw may.number at (connect_outlined s o may.process uid may.reference
+      may.wants.chain may.wants.uid may.wants.page may.wants.makes owner looks may.within may.placed may.next
+      (subst (λ (m : ℕ). HasDescriptor s.store.links may.process m) (sym may.number) may.there) may.wants.want may.off))
   look_goal (act.Create g uid p r) may =
       works _ rule (create_outlined s o.cpu may.process Look g uid p r may.command (in_look s o owner looks) due_none
       may.can)
@@ -179,8 +171,7 @@ none_at : {A : Type 0} (p : A → Bool) (xs : List A) → position p xs ≡ None
     → p (get_or xs i d) ≡ false
 none_at p xs none i d past = elim (cases_lt (position_or_len p xs) (length xs)) [
   | inl lt ↦ absurd (none_some (position_or_len p xs) (position p xs) none
-      (ap (λ (b : Bool). cond b (Some (position_or_len p xs)) None)
-      ((Decides-ltb (position_or_len p xs) (length xs)).1 lt)))
+      (rw ((Decides-ltb (position_or_len p xs) (length xs)).1 lt)))
   | inr le ↦ elim (cases_lt i (length xs)) [
     | inl lt ↦ fails_before_first p xs i d (omega (arith, lt, le))
     | inr out ↦ ap p (get_or_past xs i d out) ∙ past
@@ -307,19 +298,14 @@ owner_goal s c out f rest (Some w) owner = by (eqb w.cpu c) refl
     mine : w.cpu ≡ c → eqb w.cpu c ≡ true → Goal s c out (act.go_on_with s (process_at s c) w w.phase)
     mine same is =
         let seen = works_seen s c rest (own ∙ is) in
-        let work = f.kept.job.at_work c _ (subst (λ (i : ℕ). IsIn (outline_of s) i
-        (stage_of s.store.ast.entries w.frames w.phase))
-        same (in_job s w owner)) in
+        let work = f.kept.job.at_work c _ (rw same at (in_job s w owner)) in
         let has = sym (running_at s c) ∙ work.running in
         at_same same f seen has
       where
         at_same : w.cpu ≡ c → Foresees s c → rule_of (outline_of s) c ≡ Works
             → is_some (cpu_at s.processors c).process ≡ true
             → Goal s c out (act.go_on_with s (process_at s c) w w.phase)
-        at_same same = subst (λ (i : ℕ). Foresees s i → rule_of (outline_of s) i ≡ Works
-            → is_some (cpu_at s.processors i).process ≡ true
-            → Goal s i out (act.go_on_with s (process_at s i) w w.phase)) same
-            (λ g h i. phase_goal s w out g h owner i w.phase refl)
+        at_same same = rw (← same) (λ g h i. phase_goal s w out g h owner i w.phase refl)
 
     by : (b : Bool) → eqb w.cpu c ≡ b → Goal s c out (cond b (act.go_on_with s (process_at s c) w w.phase)
         (act.run_process s (processor_at s.processors c) (cpu_at s.processors c).process))

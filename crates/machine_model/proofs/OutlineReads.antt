@@ -1,5 +1,5 @@
 -- What is read of the outline of a machine.
-use Rattle.std.proofs.Common.{◌≡◌, ℕ, zero, suc, Bool, false, ◌&&◌, eqb, nat_lt, List, [], ◌∷◌, length, map, Option}
+use Rattle.std.proofs.Common.{◌≡◌, ℕ, suc, Bool, false, ◌&&◌, eqb, nat_lt, List, [], ◌∷◌, length, map, Option}
 use Rattle.std.proofs.Common.{Some, None, is_some, set, get_or, refl, ap}
 use Rattle.machine_model.specs.declared.Processor.{Processor}
 use Rattle.machine_model.specs.State.{State, Owner}
@@ -15,14 +15,12 @@ use Rattle.machine_model.specs.Outlined.{Around, around, runner_by, runner_of, k
 -- ---- lists
 
 pub map_at : {A B : Type 0} (f : A → B) (xs : List A) (i : ℕ) (d : A) → get_or (map f xs) i (f d) ≡ f (get_or xs i d)
-map_at f [] i d = refl
-map_at f (x ∷ xs) zero d = refl
 map_at f (x ∷ xs) (suc i) d = map_at f xs i d
+map_at f _ _ d = refl
 
 pub set_map : {A B : Type 0} (f : A → B) (xs : List A) (i : ℕ) (y : A) → map f (set xs i y) ≡ set (map f xs) i (f y)
-set_map f [] i y = refl
-set_map f (x ∷ xs) zero y = refl
 set_map f (x ∷ xs) (suc i) y = ap (λ ys. f x ∷ ys) (set_map f xs i y)
+set_map f _ _ y = refl
 
 long_map : {A B : Type 0} (f : A → B) (xs : List A) → length (map f xs) ≡ length xs
 long_map f [] = refl

@@ -1,5 +1,5 @@
 -- The outline of a machine that keeps its promise is kept: its sizes, and whoever is waited for is there.
-use Rattle.std.proofs.Common.{◌≡◌, ◌<◌, ◌≤◌, ℕ, ◌+◌, Bool, true, false, ◌||◌, eqb, length, List, [], ◌∷◌, sum}
+use Rattle.std.proofs.Common.{◌≡◌, ◌<◌, ◌≤◌, ℕ, Bool, true, false, ◌||◌, eqb, length, List, [], ◌∷◌, sum}
 use Rattle.std.proofs.Common.{Option, Some, None, Result, Ok, Err, is_some, inl, inr, refl, sym, ap}
 use Rattle.std.proofs.Common.{subst, ◌∙◌, arith, cond, not, nat_le, ◌*◌}
 use Rattle.std.specs.List.{IsDistinct, AllByRecursion}
@@ -58,9 +58,6 @@ use Rattle.flat_model.proofs.SharedLaws.{pools_few}
 
 -- ---- sizes
 
-sum_four : (a b c d : ℕ) → sum (a ∷ b ∷ c ∷ d ∷ []) ≡ a + b + c + d
-sum_four a b c d = omega arith
-
 pub distinct_of : (xs : List ℕ) → AreDistinct xs → IsDistinct eqb xs
 unfolding IsDistinct
 distinct_of [] h = tt
@@ -95,9 +92,8 @@ module _ (nodes : List Node) (t : IsTree nodes) where
           (Refer _ n.uid _ _) (record { few = chain_few nodes t n.uid; ends = chain_ends nodes t n.uid })
         where
           test : (a b : Bool) (w : Want) → IsShort w → IsShort (cond a Other (cond b Other w))
-          test true b w h = none_short
-          test false true w h = none_short
           test false false w h = h
+          test _ _ w h = none_short
 
   command_short : (c : Command) → IsShort (want_of_command nodes c)
   command_short (command.Truncate path words) = by (segment_at nodes path)
@@ -155,27 +151,22 @@ module _ (s : State) (m : IsMachine s) where
 -- ---- processors and frames
 
 started_tells : (x : Frame) (u p : ℕ) → bare x ≡ frame.Started u p → started_page x ≡ Some (u, p)
-started_tells frame.Free u p h = absurd (let off : None ≡ Some (u, p) = ap started_page h in none_some off)
 started_tells (frame.Started v q) u p h = ap started_page h
-started_tells (frame.Bound v q used modified) u p h =
-    absurd (let off : None ≡ Some (u, p) = ap started_page h in none_some off)
+started_tells _ u p h = absurd (let off : None ≡ Some (u, p) = ap started_page h in none_some off)
 
 page_started : (x : Frame) (u p : ℕ) → started_page x ≡ Some (u, p) → bare x ≡ frame.Started u p
-page_started frame.Free u p h = absurd (none_some h)
 page_started (frame.Started v q) u p h = let both = page_is v q u p h in λ i. frame.Started (both.0 i) (both.1 i)
-page_started (frame.Bound v q used modified) u p h = absurd (none_some h)
+page_started _ u p h = absurd (none_some h)
 
 module _ (s : State) (k : Keeps s) where
   abbrev runner : ℕ → Runner
   runner c = runner_at (outline_of s).runners c
 
   pub reading_is : (c : ℕ) → (runner c).reading ≡ (cpu_at s.processors c).transfer
-  reading_is c = ap (λ (x : Runner). x.reading) (at_outline s c)
-      ∙ seen_reading (around s) (processor_at s.processors c)
+  reading_is c = cc (at_outline s c, seen_reading (around s) (processor_at s.processors c))
 
   pub running_is : (c : ℕ) → (runner c).running ≡ is_some (cpu_at s.processors c).process
-  running_is c = ap (λ (x : Runner). x.running) (at_outline s c)
-      ∙ seen_running (around s) (processor_at s.processors c)
+  running_is c = cc (at_outline s c, seen_running (around s) (processor_at s.processors c))
 
   online_is : (c : ℕ) → (runner c).online ≡ (cpu_at s.processors c).online
   online_is c = ap (λ (x : Runner). x.online) (at_outline s c) ∙ seen_online (around s) (processor_at s.processors c)
@@ -198,8 +189,7 @@ module _ (s : State) (k : Keeps s) where
   tied_seen m reading = record {
     runners_online = λ c h. (let its = has_process_by (cpu_at s.processors c).process (sym (running_is c) ∙ h) in
         online_is c ∙ m.scheduled.online c its.0 its.1);
-    readers_run = λ c r h. running_is c ∙ ap (λ (x : Option ℕ). is_some x)
-        (reading.each c r (sym (reading_is c) ∙ h)).its;
+    readers_run = λ c r h. rw (running_is c, (reading.each c r (sym (reading_is c) ∙ h)).its);
     started = λ f u p h. (let at = k.book.under_way.reader f u p (reads_is f
         ∙ started_tells (store_frame s.store.pages f) u p (sym (frame_outlined s f) ∙ h)) in (
           at.0,
@@ -271,16 +261,11 @@ job_seen s m fitting = record {
         idle = reading_is s m.keeps c ∙ work.idle;
       });
   fits = λ c stage h. (let is = seen_in s c stage h in
-      subst (λ (d : ℕ). FitsStage (outline_of s) (want_at (outline_of s) d) stage) is.cpu
-      (subst (FitsStage (outline_of s) (want_at (outline_of s) is.owner.cpu)) is.stage_is
+      rw is.cpu at (subst (FitsStage (outline_of s) (want_at (outline_of s) is.owner.cpu)) is.stage_is
       (fitting.fits is.owner is.mine)));
   quiet = λ none. none_due s m.keeps (ap waits_for (no_owner s none));
 }
 
 -- the whole
 pub kept_seen : (s : State) → IsMachine s → IsReading s → IsFitting s → IsKept (outline_of s)
-kept_seen s m reading fitting = record {
-  sizes = sizes_seen s m;
-  tied = tied_seen s m.keeps m reading;
-  job = job_seen s m fitting;
-}
+kept_seen s m reading fitting = assumption (sizes_seen s m, tied_seen s m.keeps m reading, job_seen s m fitting)

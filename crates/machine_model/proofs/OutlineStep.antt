@@ -110,9 +110,7 @@ word_fill ptw.Null how = by (eqb (new_word 0 how) 0)
     by : (b : Bool) → is_fill_seg (cond b (move.Plain (word_reply 0 how)) move.Fault) ≡ false
     by true = refl
     by false = refl
-word_fill (ptw.Here f) how = refl
-word_fill (ptw.Out r) how = refl
-word_fill (ptw.Leaving f) how = refl
+word_fill _ how = refl
 
 held_fill : (held : Held) (words : ℕ → ℕ → Ptw) (r : Reference) (e : HeldSeg)
     → is_fill_seg (by_held held words r e) ≡ false
@@ -126,9 +124,8 @@ held_fill held words r e = by (not (permits e.mode r.kind)) (nat_le (1024 * e.pa
 
     by : (a b : Bool) (o : Option ℕ) → is_fill_seg (cond a (move.Plain reply.NoAccess) (cond b (move.Plain reply.Length)
         (by_page o (words e.uid (r.offset / 1024)) r.kind))) ≡ false
-    by true b o = refl
-    by false true o = refl
     by false false o = page o
+    by _ _ o = refl
 
 fill_seg_new : (held : Held) (ds : List Sdw) (words : ℕ → ℕ → Ptw) (r : Reference) (o : Option HeldSeg)
     → by_seg held ds words r o ≡ move.FillSeg → is_some o ≡ false
@@ -159,10 +156,8 @@ fill_page_new held ds words r f (Some e) seg h = (
     by : (a b : Bool) (o : Option ℕ) → is_fill_page
         (cond a (move.Plain reply.NoAccess) (cond b (move.Plain reply.Length)
         (by_page o (words e.uid (r.offset / 1024)) r.kind))) ≡ true → is_some o ≡ false
-    by true b o i = let no : false ≡ true = i in absurd cc
-    by false true o i = let no : false ≡ true = i in absurd cc
     by false false None i = refl
-    by false false (Some g) i = let no : false ≡ true = i in absurd cc
+    by _ _ _ i = let no : false ≡ true = i in absurd cc
 
 -- ---- a processor by itself
 
@@ -272,6 +267,4 @@ run_goal s c o f rest own (Some k) process =
         → Goal s c o (cond b act.Leave (act.come_to s (cpu_at s.processors c) k (next_command s k)))
     by true turn = leave_outlined s c (leaves_rule s c k rest own process turn) (going_on s c may) (free_of s c rest)
     by false turn = command_goal s c k o (commands_rule s c k rest own process turn) process may (next_command s k) refl
-        (λ none is. f.enters none rest.transfer
-        (ap (λ (j : ℕ). act.come_to s (cpu_at s.processors c) j (next_command s j)) at_k
-        ∙ is))
+        (λ none is. f.enters none rest.transfer (cc at_k))

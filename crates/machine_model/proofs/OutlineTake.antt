@@ -11,10 +11,7 @@ use Rattle.core_map.specs.Clock.{frame_in as core_frame, is_idle, unmarked, roun
 use Rattle.script.specs.Plans.{command_at}
 use Rattle.accounts.specs.Maps.{AccountMaps}
 use Rattle.page_control.specs.Plain.{Plain}
-use Rattle.assoc_mem.specs.Held.{cleared}
 use Rattle.active_segs.specs.declared.Entry.{Entry as Active}
-use Rattle.active_segs.specs.Active.{ActiveSegs}
-use Rattle.active_segs.specs.Victim.{first_off_chain, hand_past}
 use Rattle.seg_control.specs.Control.{Links, leads_at, place_of}
 use Rattle.seg_control.specs.Effects.{unlinked}
 use Rattle.storage_ops.specs.Shown.{is_filed}
@@ -26,11 +23,10 @@ use Rattle.machine_model.specs.declared.Processor.{Processor}
 use Rattle.machine_model.specs.declared.CutDescriptor.{CutDescriptor}
 use Rattle.machine_model.specs.State.{State, Storage, Owner}
 use Rattle.machine_model.specs.Reads.{next_command, no_processor, run_at, processor_at, frames_of_owner, cut_of_owner}
-use Rattle.machine_model.specs.Steps.{with_store}
 use Rattle.machine_model.specs.Jobs.{cut_all, cut_one, eviction_begun, leaving_if, owner_signalled, phase_signalled}
 use Rattle.machine_model.specs.Jobs.{signalled, take_all, take_one, told_at, told_from, took, with_choice}
-use Rattle.machine_model.specs.Jobs.{with_hand_moved, with_leaving}
-use Rattle.machine_model.specs.Outline.{Runner, EvictFrame, Look, Taken, Waiting, Keeper, runner_at}
+use Rattle.machine_model.specs.Jobs.{with_leaving}
+use Rattle.machine_model.specs.Outline.{Runner, EvictFrame, Look, Taken, Waiting, runner_at}
 use Rattle.machine_model.specs.Outline.{at_stage}
 use Rattle.machine_model.specs.Finishing.{IsIn, JobStep, takes_segment, takes_frame, takes_for_commit, signals}
 use Rattle.machine_model.specs.Finishing.{CanEmpty, CanEvict, AreAlike, AreOf, with_runners}
@@ -270,10 +266,7 @@ taken_outline : (s t : State) (c : ℕ) (a : Aim) (w : What) (fs : List ℕ) →
     → with_runners (at_stage (outline_of s) c (Taken (work_of s.store.ast.entries fs a)))
     (map (runner_of (around t)) s.processors)
     ≡ outline_of t
-taken_outline s t c a w fs like took =
-    ap (λ (k : Option Keeper). record (outline_of s) { runners = map (runner_of (around t)) s.processors; owner = k })
-    (sym (ap (λ (x : Option Owner). keeper_of s.store.ast.entries x) took.owner))
-    ∙ sym (like_outline s t like)
+taken_outline s t c a w fs like took = cc (like_outline s t like)
 
 -- a segment is taken: for its length, or as a victim
 pub take_segment_outlined : (s t : State) (c uid : ℕ) (w : What) (fs : List ℕ) → LooksLike s t
@@ -341,22 +334,6 @@ evict_outlined s o f owner none can =
     (outline_of (eviction_begun s o.cpu f)) o.cpu
     (evicted_outline s o.cpu f (ap frames_of_owner owner ∙ none)) (takes_frame f can)
 
--- the hand of a full pool moves besides
-hand_like : (s : State) (pool : ℕ) (chain : List ℕ) → LooksLike s (with_store s (with_hand_moved s.store pool chain))
-hand_like s pool chain = looks_like refl refl refl refl refl
-    (past s.store.ast pool (first_off_chain s.store.ast pool chain)) refl refl refl
-  where
-    past : (ast : ActiveSegs) (pool : ℕ) (o : Option ℕ) → (hand_past ast pool o).entries ≡ ast.entries
-    past ast pool None = refl
-    past ast pool (Some place) = refl
-
-pub victim_like : (s : State) (c pool : ℕ) (chain : List ℕ) (a : Aim) (w : What) (fs : List ℕ) (pairs : List (ℕ × ℕ))
-    → LooksLike s (took (with_store s (with_hand_moved s.store pool chain)) c a w fs pairs)
-victim_like s c pool chain a w fs pairs =
-    like_on s (with_store s (with_hand_moved s.store pool chain))
-    (took (with_store s (with_hand_moved s.store pool chain)) c a w fs pairs) (hand_like s pool chain)
-    (took_like (with_store s (with_hand_moved s.store pool chain)) c a w fs pairs)
-
 -- ---- the signal
 
 told_count : (c : ℕ) (w : What) (e : ℕ) (p : Processor) → (told_at c w e p).count ≡ p.count
@@ -366,9 +343,7 @@ told_tried : (c : ℕ) (w : What) (e : ℕ) (p : Processor) → (told_at c w e p
 told_tried c w e p = told_has (λ q. q.tried ≡ p.tried) c w e p refl refl refl
 
 told_itself : (c : ℕ) (w : What) (p : Processor) → (told_at c w c p).cpu.due ≡ p.cpu.due
-told_itself c w p =
-    ap (λ (b : Bool). (cond b (record p { cpu = record p.cpu { assoc = cleared p.cpu.assoc w } })
-    (cond p.cpu.online (record p { cpu = record p.cpu { due = Some w } }) p)).cpu.due) (self c)
+told_itself c w p = rw (self c)
   where
     self : (n : ℕ) → eqb n n ≡ true
     self n = elim (eqb_tells n n) [ inl e ↦ e.0 | inr e ↦ absurd (e.1 refl) ]
@@ -451,12 +426,7 @@ signalled_outline : (s : State) (o : Owner) (a : Aim) (w v : What) → s.owner �
     → with_runners (at_stage (outline_of s) o.cpu (Waiting (work_of s.store.ast.entries o.frames a)))
     (map (runner_of (around s)) (told_from o.cpu v 0 s.processors)) ≡ outline_of (signalled s o.cpu v)
 unfolding outline_of
-signalled_outline s o a w v owner h =
-    ap (λ (k : Option Keeper). record (outline_of s) {
-      runners = map (runner_of (around s)) (told_from o.cpu v 0 s.processors);
-      owner = k;
-    }) (sym (ap (λ (x : Option Owner). keeper_of s.store.ast.entries (owner_signalled x)) owner
-    ∙ signalled_keeper s.store.ast.entries o a w h))
+signalled_outline s o a w v owner h = cc (signalled_keeper s.store.ast.entries o a w h, owner)
 
 pub signal_outlined : (s : State) (o : Owner) (a : Aim) (w v : What) → s.owner ≡ Some o → o.phase ≡ phase.Taken a w
     → JobStep (outline_of s) o.cpu (outline_of (signalled s o.cpu v))

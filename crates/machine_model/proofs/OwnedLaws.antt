@@ -53,15 +53,13 @@ module _ (c e : Custody) (like : IsLike c e) where
   })
 
   names_frame_like : (w : What) (f : ℕ) → e.frame f ≡ c.frame f → names_frame e w f ≡ names_frame c w f
-  names_frame_like what.All f h = refl
-  names_frame_like (what.Page g) f h = refl
   names_frame_like (what.Seg u) f h = ap (λ (x : FrameUse). is_uid u (uid_of_page (bound_page x))) h
+  names_frame_like _ f h = refl
 
   names_descriptor_like : (w : What) (k n : ℕ) → e.descriptor k n ≡ c.descriptor k n
       → names_descriptor e w k n ≡ names_descriptor c w k n
-  names_descriptor_like what.All k n h = refl
-  names_descriptor_like (what.Page g) k n h = refl
   names_descriptor_like (what.Seg u) k n h = ap (λ (x : DescriptorUse). is_uid u (leads_to x)) h
+  names_descriptor_like _ k n h = refl
 
   pub all_like : (w : What) → NamesAllGoing c w → NamesAllGoing e w
   all_like w all = record {
@@ -191,18 +189,15 @@ bound_taken (frame.Current u p) = refl
 bound_taken (frame.Going u p) = refl
 
 pub current_is_not_going : (x : FrameUse) → is_current_frame x ≡ true → is_going_frame x ≡ false
-current_is_not_going frame.Free h = refl
-current_is_not_going (frame.Started u p) h = refl
-current_is_not_going (frame.Current u p) h = refl
 current_is_not_going (frame.Going u p) h = absurd (let no : false ≡ true = h in cc)
+current_is_not_going _ h = refl
 
 names_taken : (c : Custody) (f : ℕ) (w : What) (g : ℕ)
     → names_frame (with_frame c f (taken (c.frame f))) w g ≡ names_frame c w g
-names_taken c f what.All g = refl
-names_taken c f (what.Page h) g = refl
 names_taken c f (what.Seg u) g = ap (λ (o : Option (ℕ × ℕ)). is_uid u (uid_of_page o))
     (by_place (λ (y : FrameUse). bound_page y ≡ bound_page (c.frame g)) c.frame f (taken (c.frame f)) g
     (λ e. bound_taken (c.frame f) ∙ ap (λ (i : ℕ). bound_page (c.frame i)) (sym e)) (λ n. refl))
+names_taken c f _ g = refl
 
 -- an owner that waited for nothing has taken more: it is to signal something that names all that goes then
 owned_by : (c made : Custody) (o : Option Owner) (cpu : ℕ) (aim : Aim) (w : What) (fs : List ℕ)
@@ -218,8 +213,7 @@ owned_by c made o cpu aim w fs ds k still seats frames cuts once apart goes all 
   apart = apart;
   due = λ d v h. absurd (none_due d v h);
   alive = λ d v h. absurd (none_due d v h);
-  says = λ v h. (let same : w ≡ v = cc in subst (λ (x : What). SomethingGoes made × NamesAllGoing made x) same
-      (goes, all));
+  says = λ v h. (let same : w ≡ v = cc in rw (← same) (goes, all));
   shaped = aimed;
 }
   where
@@ -290,14 +284,11 @@ cut_at_other k n d h = by (is_cut_at k n d) refl
     by true e = let both = cut_at_tells k n d e in absurd (h both.0 both.1)
 
 cut_push_same : (ds : List CutDescriptor) (d : CutDescriptor) → has_cut (ds ++ d ∷ []) d.process d.number ≡ true
-cut_push_same ds d = cut_push ds d d.process d.number
-    ∙ ap (λ (b : Bool). has_cut ds d.process d.number || (b || false)) (cut_at_same d)
-    ∙ or_true (has_cut ds d.process d.number)
+cut_push_same ds d = cc (cut_push ds d d.process d.number, cut_at_same d, or_true (has_cut ds d.process d.number))
 
 cut_push_other : (ds : List CutDescriptor) (d : CutDescriptor) (k n : ℕ) → (k ≡ d.process → n ≡ d.number → ⊥)
     → has_cut (ds ++ d ∷ []) k n ≡ has_cut ds k n
-cut_push_other ds d k n h = cut_push ds d k n
-    ∙ ap (λ (b : Bool). has_cut ds k n || (b || false)) (cut_at_other k n d h) ∙ or_false (has_cut ds k n)
+cut_push_other ds d k n h = cc (cut_push ds d k n, cut_at_other k n d h, or_false (has_cut ds k n))
 
 apart_push : (ds : List CutDescriptor) (d : CutDescriptor) → AreApart ds → has_cut ds d.process d.number ≡ false
     → AreApart (ds ++ d ∷ [])
@@ -320,8 +311,7 @@ apart_push (x ∷ xs) d apart new = (
     later = both.1
 
     not_it : x.process ≡ d.process → x.number ≡ d.number → ⊥
-    not_it a b = not_both (ap (λ (k : ℕ). is_cut_at k d.number x) (sym a)
-        ∙ ap (λ (n : ℕ). is_cut_at x.process n x) (sym b) ∙ cut_at_same x) both.0
+    not_it a b = not_both (cc (cut_at_same x)) both.0
 
 leads_cut : (x : DescriptorUse) → leads_to (cut x) ≡ leads_to x
 leads_cut descriptor.Free = refl
@@ -330,18 +320,14 @@ leads_cut (descriptor.Going u) = refl
 
 pub current_descriptor_is_not_going : (x : DescriptorUse) → is_current_descriptor x ≡ true
     → is_going_descriptor x ≡ false
-current_descriptor_is_not_going descriptor.Free h = refl
-current_descriptor_is_not_going (descriptor.Current u) h = refl
 current_descriptor_is_not_going (descriptor.Going u) h = absurd (let no : false ≡ true = h in cc)
+current_descriptor_is_not_going _ h = refl
 
 names_cut : (c : Custody) (k n : ℕ) (w : What) (i j : ℕ)
     → names_descriptor (with_descriptor c k n (cut (c.descriptor k n))) w i j ≡ names_descriptor c w i j
-names_cut c k n what.All i j = refl
-names_cut c k n (what.Page h) i j = refl
-names_cut c k n (what.Seg u) i j = ap (is_uid u)
-    (by_places (λ (y : DescriptorUse). leads_to y ≡ leads_to (c.descriptor i j)) c.descriptor k n
-    (cut (c.descriptor k n)) i j
-    (λ a b. leads_cut (c.descriptor k n) ∙ rw (a, b) refl) (λ m. refl))
+names_cut c k n (what.Seg u) i j = rw (by_places (λ (y : DescriptorUse). leads_to y ≡ leads_to (c.descriptor i j))
+    c.descriptor k n (cut (c.descriptor k n)) i j (λ a b. leads_cut (c.descriptor k n) ∙ rw (a, b) refl) (λ m. refl))
+names_cut c k n _ i j = refl
 
 -- a descriptor is cut
 pub owned_cut : (c : Custody) (o : Option Owner) (cpu : ℕ) (d : CutDescriptor) (aim : Aim) (w : What) → IsOwned c o

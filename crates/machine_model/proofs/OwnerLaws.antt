@@ -9,10 +9,10 @@ use Rattle.custody_model.specs.Fine.{Fine, NoneDue}
 use Rattle.seg_mover.specs.declared.Mover.{Mover}
 use Rattle.machine_model.specs.declared.Phase.{Phase}
 use Rattle.machine_model.specs.declared.Phase.TheVariants as phase
-use Rattle.machine_model.specs.Custodial.{FitsPhase, HoldsRight, IsOwned, KeepsBook, has_cut, is_pending, names}
+use Rattle.machine_model.specs.Custodial.{FitsPhase, IsOwned, KeepsBook, has_cut, is_pending, names}
 use Rattle.machine_model.specs.Custodial.{says_in, waits_in}
 use Rattle.machine_model.specs.Reads.{cut_of_owner, frames_of_owner}
-use Rattle.machine_model.specs.Seen.{Seen, bound_use, cut_uid, descriptor_use, frame_use, shown}
+use Rattle.machine_model.specs.Seen.{Seen, bound_use, cut_uid, descriptor_use, shown}
 use Rattle.machine_model.specs.declared.CutDescriptor.{CutDescriptor}
 use Rattle.machine_model.specs.State.{Owner}
 use Rattle.machine_model.proofs.OwnedLaws.{IsIdle}
@@ -20,13 +20,7 @@ use Rattle.machine_model.proofs.TieLaws.{none_some}
 
 -- an owner that looks has taken nothing
 pub looking_idle : (c : Custody) (o : Owner) → IsOwned c (Some o) → o.phase ≡ phase.Looking → IsIdle (Some o)
-looking_idle c o k looks = record {
-  frames = parts.0;
-  cut = parts.1;
-  waits = ap waits_in looks;
-  says = ap says_in looks;
-  shaped = k.shaped;
-}
+looking_idle c o k looks = assumption (parts.0, parts.1, ap waits_in looks, ap says_in looks)
   where
     parts : (o.frames ≡ []) × (o.cut ≡ [])
     parts = subst (λ (x : Phase). FitsPhase x o.frames o.cut) looks k.shaped
@@ -34,13 +28,7 @@ looking_idle c o k looks = record {
 -- nor has one that moves a segment
 pub moves_idle : (c : Custody) (o : Owner) (m : Mover) → IsOwned c (Some o) → o.phase ≡ phase.Moving m
     → IsIdle (Some o)
-moves_idle c o m k moves = record {
-  frames = parts.0;
-  cut = parts.1;
-  waits = ap waits_in moves;
-  says = ap says_in moves;
-  shaped = k.shaped;
-}
+moves_idle c o m k moves = assumption (parts.0, parts.1, ap waits_in moves, ap says_in moves)
   where
     parts : (o.frames ≡ []) × (o.cut ≡ [])
     parts = subst (λ (x : Phase). FitsPhase x o.frames o.cut) moves k.shaped
@@ -57,15 +45,12 @@ idle_names c o w k frames cut = record {
 -- a page in a frame is here where nothing goes
 pub bound_here : (v : Seen) (f u p : ℕ) → KeepsBook v → frames_of_owner v.owner ≡ [] → v.bound f ≡ Some (u, p)
     → v.words u p ≡ ptw.Here f
-bound_here v f u p k frames bound = by (v.words u p) (k.tied.named f u p bound)
-    (ap (λ (o : Option (ℕ × ℕ)). is_going_frame (frame_use v.words o (v.reads f))) (sym bound)
-    ∙ (k.going_owned.frames f ∙ ap (λ (fs : List ℕ). has fs f) frames))
+bound_here v f u p k frames bound = by (v.words u p) (k.tied.named f u p bound) (cc (k.going_owned.frames f))
   where
     by : (w : Ptw) → names w ≡ Some f → is_going_frame (bound_use (u, p) w) ≡ false → w ≡ ptw.Here f
-    by ptw.Null n g = absurd (none_some n)
-    by (ptw.Out r) n g = absurd (none_some n)
     by (ptw.Here h) n g = cc
     by (ptw.Leaving h) n g = absurd (let no : true ≡ false = g in cc)
+    by _ n g = absurd (none_some n)
 
 -- the owner is another, and custody sees what it saw
 pub owner_next : (v : Seen) (owner : Option Owner) → KeepsBook v → cut_of_owner v.owner ≡ cut_of_owner owner
@@ -77,8 +62,7 @@ owner_next v owner k cut pending owned = record {
   stale_due = subst (λ (c : Custody). Fine c (is_pending owner)) same (subst (Fine (shown v)) pending k.stale_due);
   going_owned = subst (λ (c : Custody). IsOwned c owner) same owned;
   tied = k.tied;
-  holding_right = λ d. subst (λ (c : Custody). HoldsRight v.bound c.descriptor (v.processors d)) same
-      (k.holding_right d);
+  holding_right = λ d. (rw same at (k.holding_right d));
   under_way = k.under_way;
   runs = k.runs;
 }

@@ -1,5 +1,5 @@
 -- What the flat store says of a page, by the word of the page: whether it is stored, and which words it has.
-use Rattle.std.proofs.Common.{◌≡◌, ℕ, zero, Bool, true, false, ◌&&◌, cond, eqb, is_some, List, []}
+use Rattle.std.proofs.Common.{◌≡◌, ℕ, true, false, ◌&&◌, eqb, is_some, []}
 use Rattle.std.proofs.Common.{get_or, position, replicate, Option, Some, None, inl, inr, refl, sym, ap, ◌∙◌}
 use Rattle.std.specs.Prelude.{◌/◌, ◌%◌}
 use Rattle.std.proofs.lemmas.Bool.Decides.{eqb_tells}
@@ -81,21 +81,17 @@ module _ (s : State) (k : Keeps s) (u : ℕ) (active : is_active s.store.ast u �
   -- a page is stored where its word says that it has a record
   pub stored_is : (p : ℕ) → is_stored (flat_of s).stored u p ≡ has_record (word_of s.store.ast u p)
   unfolding is_filed is_filed_at
-  stored_is p = k.faithful.pages.stored u p
-      ∙ (ap (λ (b : Bool). b && is_some (record_at (vtoc_in s.store.pages.vtocs (home_in s.store u).volume)
-      (home_in s.store u).entry p)) active_there ∙ tie.map.stored p)
+  stored_is p = cc (k.faithful.pages.stored u p, active_there, tie.map.stored p)
 
   -- its words are those of the picture
   pub words_are : (o : ℕ) → (flat_of s).words u o
       ≡ get_or (words_at s.store.pages u (home_in s.store u) (o / 1024)) (o % 1024) 0
   unfolding picture
-  words_are o = k.faithful.pages.words u o ∙ ap (λ (b : Bool). get_or (cond b
-      (words_at s.store.pages u (home_in s.store u) (o / 1024)) (replicate 1024 0)) (o % 1024) 0) active_there
+  words_are o = cc (k.faithful.pages.words u o, active_there)
 
   pub bound_word : (f o : ℕ) → (seen s).bound f ≡ Some (u, o / 1024)
       → (flat_of s).words u o ≡ get_or (words_in s.store.pages f) (o % 1024) 0
-  bound_word f o bound = words_are o
-      ∙ ap (λ (ws : List ℕ). get_or ws (o % 1024) 0) (frame_words s k u f (o / 1024) bound)
+  bound_word f o bound = cc (words_are o, frame_words s k u f (o / 1024) bound)
 
   -- a page that has no record is all zeros
   null_words : (p : ℕ) → word_of s.store.ast u p ≡ ptw.Null
@@ -122,5 +118,4 @@ module _ (s : State) (k : Keeps s) (u : ℕ) (active : is_active s.store.ast u �
           (position_at (is_binding u p) (bindings s.store.pages.core) None g e).1)))
 
   pub null_word : (o : ℕ) → word_of s.store.ast u (o / 1024) ≡ ptw.Null → (flat_of s).words u o ≡ 0
-  null_word o null = words_are o ∙ (ap (λ (ws : List ℕ). get_or ws (o % 1024) 0) (null_words (o / 1024) null)
-      ∙ zeros_read 1024 (o % 1024))
+  null_word o null = cc (words_are o, null_words (o / 1024) null, zeros_read 1024 (o % 1024))

@@ -41,10 +41,8 @@ pub record HasPlaces (st : Storage) : Type 0 where
 
 -- a word leaves a frame
 abbrev pub is_left_by : Ptw → ℕ → Bool
-is_left_by ptw.Null g = false
-is_left_by (ptw.Out r) g = false
-is_left_by (ptw.Here f) g = false
 is_left_by (ptw.Leaving f) g = eqb g f
+is_left_by _ g = false
 
 -- page p of segment u, whose word this was, is cut off
 pub record IsCutOff (old now : Storage) (u p : ℕ) (w : Ptw) : Type 0 where
@@ -63,15 +61,7 @@ null_put st u p e v q = by_places (λ (x : Ptw). word_in st v q ≡ x) (λ x y. 
 
 pub page_cut_off : (st : Storage) (u p : ℕ) (w : Ptw) → HasPlaces st → word_in st u p ≡ w
     → IsCutOff st (without_page st u p w) u p w
-page_cut_off st u p ptw.Null has_places e = record {
-  bound = λ g. refl;
-  reads = λ g. refl;
-  words = null_put st u p e;
-  places = refl;
-  links = refl;
-  frames = refl;
-  tables = refl;
-}
+page_cut_off st u p ptw.Null has_places e = assumption (null_put st u p e)
 page_cut_off st u p (ptw.Leaving f) has_places e = record {
   bound = bound_put st.pages.core f frame.Free (has_places.within u p f e);
   reads = reads_put st.pages.core f frame.Free (has_places.within u p f e);

@@ -108,8 +108,7 @@ module _ (change : Node → Node) (same : KeepsName change) where
           → branch_in (map change (n ∷ ns)) d name ≡ Some (change m)
       by true e i rest = ap (λ (b : Bool). cond b (Some (change n)) (branch_in (map change ns) d name))
           (branch_same d name n ∙ e) ∙ ap (λ (x : Node). Some (change x)) (let is : n ≡ m = cc in is)
-      by false e i rest = ap (λ (b : Bool). cond b (Some (change n)) (branch_in (map change ns) d name))
-          (branch_same d name n ∙ e) ∙ rest i
+      by false e i rest = cc (branch_same d name n, rest i)
 
   node_map : (ns : List Node) (u : ℕ) (m : Node) → node_in ns u ≡ Some m → node_in (map change ns) u ≡ Some (change m)
   node_map [] u m h = absurd (none_some h)
@@ -120,8 +119,7 @@ module _ (change : Node → Node) (same : KeepsName change) where
           → node_in (map change (n ∷ ns)) u ≡ Some (change m)
       by true e i rest = ap (λ (b : Bool). cond b (Some (change n)) (node_in (map change ns) u))
           (ap (λ (x : ℕ). eqb x u) (same.uid n) ∙ e) ∙ ap (λ (x : Node). Some (change x)) (let is : n ≡ m = cc in is)
-      by false e i rest = ap (λ (b : Bool). cond b (Some (change n)) (node_in (map change ns) u))
-          (ap (λ (x : ℕ). eqb x u) (same.uid n) ∙ e) ∙ rest i
+      by false e i rest = cc (same.uid n, rest i)
 
   pub paths_changed : (ns : List Node) (u : ℕ) → PathsStay ns (map change ns) u
   paths_changed ns u = path_stays ns (map change ns) u (λ d. Unit {0}) tt (λ d name m h. tt)

@@ -39,11 +39,9 @@ module _ (s : State) (c : ℕ) where
   take_plain (Some q) = tt
 
   move_plain : (r : Reference) (x : Move) → tells_device x ≡ false → IsPlainly (act.by_move s.owner r x)
-  move_plain r move.FillSeg h = tt
-  move_plain r (move.FillPage f) h = tt
-  move_plain r (move.Through f) h = tt
   move_plain r (move.Plain answer) h = h
   move_plain r move.Fault h = take_plain s.owner
+  move_plain r _ h = tt
 
   come_plain : (k : ℕ) (x : Option Command) → IsPlainly (act.come_to s p.cpu k x)
   come_plain k None = take_plain s.owner

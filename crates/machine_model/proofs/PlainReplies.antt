@@ -16,7 +16,7 @@ use Rattle.book.specs.declared.replies.Reply.TheVariants as reply
 use Rattle.tree_model.specs.Access.{access_of, takes_row}
 use Rattle.tree_model.specs.Quotas.{giver_of, over_in}
 use Rattle.tree_model.specs.Tree.{above, branch_in, entries_on, is_inferior, quota_in}
-use Rattle.tree_model.specs.Tree.{Node, Walk, LeadsTo, Missing, InSegment, node_in, walk_in}
+use Rattle.tree_model.specs.Tree.{Node, Walk, LeadsTo, node_in, walk_in}
 use Rattle.flat_model.specs.Branches.{branch_at, directory_at, done_at, node_at, only_directory, only_segment, parts_of}
 use Rattle.flat_model.specs.Branches.{segment_at, there_or, walked}
 use Rattle.flat_model.specs.Commands.{reply_by, reply_to_command, reply_to_tree_command}
@@ -66,8 +66,7 @@ node_plain nodes path = by (walk_in nodes path)
 
     by : (w : Walk) → fails (walked nodes w) ≡ false
     by (LeadsTo u) = there (node_in nodes u)
-    by Missing = refl
-    by InSegment = refl
+    by _ = refl
 
 segment_plain : (nodes : List Node) (path : List (List ℕ)) → fails (segment_at nodes path) ≡ false
 segment_plain nodes path = by (node_at nodes path) (node_plain nodes path)
@@ -181,11 +180,7 @@ tree_plain p s k (command.Delete path) = delete_plain s.nodes (branch_at s.nodes
 tree_plain p s k (command.Move path amount) = move_plain s amount (directory_at s.nodes path)
     (directory_plain reply.IsSeg refl (branch_at s.nodes path) (branch_plain s.nodes path))
 tree_plain p s k (command.Status path) = status_plain s (node_at s.nodes path) (node_plain s.nodes path)
-tree_plain p s k (command.Read n w) = refl
-tree_plain p s k (command.Write n w x) = refl
-tree_plain p s k (command.Add n w x) = refl
-tree_plain p s k (command.Await n w x t) = refl
-tree_plain p s k command.End = refl
+tree_plain p s k _ = refl
 
 -- a reference
 pub word_plain : (old : ℕ) (how : RefKind) → is_device (word_reply old how) ≡ false
@@ -232,9 +227,7 @@ by_word_plain ptw.Null how = by (eqb (new_word 0 how) 0)
     by : (b : Bool) → tells_device (cond b (move.Plain (word_reply 0 how)) move.Fault) ≡ false
     by true = word_plain 0 how
     by false = refl
-by_word_plain (ptw.Here f) how = refl
-by_word_plain (ptw.Out r) how = refl
-by_word_plain (ptw.Leaving f) how = refl
+by_word_plain _ how = refl
 
 pub move_plainly : (held : Held) (ds : List Sdw) (words : ℕ → ℕ → Ptw) (r : Reference)
     → tells_device (next_move held ds words r) ≡ false
@@ -246,9 +239,8 @@ move_plainly held ds words r = by (seg_of held r.number)
 
     held_by : (e : HeldSeg) (a b : Bool) (o : Option ℕ) → tells_device (cond a (move.Plain reply.NoAccess) (cond b
         (move.Plain reply.Length) (by_page o (words e.uid (r.offset / 1024)) r.kind))) ≡ false
-    held_by e true b o = refl
-    held_by e false true o = refl
     held_by e false false o = page e o
+    held_by e _ _ o = refl
 
     seg : (w : Sdw) → tells_device (by_descriptor w) ≡ false
     seg sdw.Fault = refl

@@ -147,9 +147,6 @@ module _ (ast : ActiveSegs) (pool : ℕ) where
   few_nodes [] t h = omega arith
   few_nodes (n ∷ ns) t h = by (is_its n) refl (few_nodes ns t.1 (λ m member. h m (inr member)))
     where
-      now : ℕ → Bool
-      now q = has_its (n ∷ ns) q
-
       more : (q : ℕ) → has_its ns q ≡ true → has_its (n ∷ ns) q ≡ true
       more q e = or_right (is_its n && is_for n.uid (entry_at ast.entries q)) e
 

@@ -129,8 +129,7 @@ module _ (p : Plan) (rs : List Run) (ns : List Node) (ks : List (List (Option �
     where
       by : (d : ℕ) (t : Transfer) → (cpu_at qs d).transfer ≡ Some t
           → ((eqb d c ≡ true) × (d ≡ c)) ⊎ ((eqb d c ≡ false) × (d ≢ c)) → IsReadFor p us ms ls qs d t
-      by d t e (inl same) = subst (λ (j : ℕ). (cpu_at qs j).transfer ≡ Some t → IsReadFor p us ms ls qs j t)
-          (sym same.1) (own t) e
+      by d t e (inl same) = (rw (← same.1) at (own t)) e
       by d t e (inr other) = still_reads us ms ls qs d (others d other.1) t e
 
   -- one processor is another, which reads the same, or nothing
@@ -192,22 +191,18 @@ told_read b c f r h there idle elsewhere = answered_read b.plan b.runs b.store.a
 
 -- where nothing that is read of the machine changes
 reads_like : (s now : State) → SameNames s now → Sits s now → IsReading s → IsReading now
-reads_like s now same sits h = subst (λ (q : Plan). AllRead q now.runs now.store.accounts.nodes now.store.links.known
-    now.processors) (sym sits.plan)
-    (subst (λ (rs : List Run). AllRead s.plan rs now.store.accounts.nodes now.store.links.known now.processors)
-    (sym sits.runs)
+reads_like s now same sits h = rw sits.plan (subst (λ (rs : List Run). AllRead s.plan rs now.store.accounts.nodes
+    now.store.links.known now.processors) (sym sits.runs)
     (subst (λ (ns : List Node). AllRead s.plan s.runs ns now.store.links.known now.processors) (sym same.nodes)
     (subst (λ (ks : List (List (Option ℕ))). AllRead s.plan s.runs s.store.accounts.nodes ks now.processors)
-    (sym same.known)
-    (subst (AllRead s.plan s.runs s.store.accounts.nodes s.store.links.known) (sym same.processors) h))))
+    (sym same.known) (subst (AllRead s.plan s.runs s.store.accounts.nodes s.store.links.known) (sym same.processors)
+    h))))
 
 -- ---- a failure of the drive may be told
 
 recorded : (w : Ptw) → is_out w ≡ true → has_record w ≡ true
-recorded ptw.Null e = absurd (not_both e refl)
 recorded (ptw.Out n) e = refl
-recorded (ptw.Here f) e = absurd (not_both e refl)
-recorded (ptw.Leaving f) e = absurd (not_both e refl)
+recorded _ e = absurd (not_both e refl)
 
 module _ (s : State) (d : ℕ) (t : Transfer) (keeps : Keeps s) (mine : (cpu_at s.processors d).transfer ≡ Some t) where
   read_active : is_active s.store.ast t.uid ≡ true
@@ -246,8 +241,7 @@ module _ (s : State) (d : ℕ) (t : Transfer) (keeps : Keeps s) (mine : (cpu_at 
         within = (let less = page_inside in let pages = ap pages_of e in let page = r.page in
             omega (arith, less, pages, page));
       }
-  read_fails k (Some c) (inr w) = subst (λ (y : Command). MayFailBy s.store k (Some y)) (sym w.is)
-      (inr (w.node, w.found))
+  read_fails k (Some c) (inr w) = rw w.is (inr (w.node, w.found))
 
 -- ---- the rules past transfers
 
@@ -354,8 +348,7 @@ module _ (s : State) (c : ℕ) (o : Outcome) (m : IsMachine s) (there : c < leng
   failed_read a = told_read back c None reply.Device (reads_like s back same sits h)
       (subst (λ (ps : List Processor). c < length ps) (sym same.processors) there)
       (ap (λ (ps : List Processor). (cpu_at ps c).transfer) same.processors ∙ a.0)
-      (λ d n e. elsewhere a.1 d n (ap (λ (ps : List Processor). (cpu_at ps d).process) (sym same.processors)
-      ∙ (e ∙ ap (λ (ps : List Processor). Some (or_zero (cpu_at ps c).process)) same.processors)))
+      (λ d n e. elsewhere a.1 d n (cc same.processors))
     where
       fault : State
       fault = fault_told s (Some k) o.faults
@@ -384,8 +377,7 @@ module _ (s : State) (c : ℕ) (o : Outcome) (m : IsMachine s) (there : c < leng
     done ms ls run x numbers paths same = answered_read s.plan s.runs nodes known s.processors h c k run ms ls
         (set s.processors c x) (elsewhere a.1) numbers paths
         (λ d n. ap (λ (y : Processor). y.cpu) (get_or-set_other s.processors c d x no_processor n))
-        (ap (λ (y : Processor). y.cpu.transfer) (get_or-set_same s.processors c x no_processor there)
-        ∙ (ap (λ (y : Cpu). y.transfer) same ∙ a.0))
+        (cc (get_or-set_same s.processors c x no_processor there, same))
 
     -- the tree stays, and the numbers of the others
     quiet : (ls : List (List (Option ℕ))) (run : Run) (x : Processor)
@@ -448,9 +440,8 @@ module _ (s : State) (c : ℕ) (o : Outcome) (m : IsMachine s) (there : c < leng
     read_there : (now : State) (x : Processor) → Keeps now → now.processors ≡ set s.processors c x → (d : ℕ)
         (t : Transfer) → d ≢ c → (cpu_at s.processors d).transfer ≡ Some t
         → is_there now.store.accounts.nodes t.uid ≡ true
-    read_there now x kept ps d t n e = active_there now kept t.uid (read_active now d t kept
-        (ap (λ (qs : List Processor). (cpu_at qs d).transfer) ps
-        ∙ (ap (λ (y : Processor). y.cpu.transfer) (get_or-set_other s.processors c d x no_processor n) ∙ e)))
+    read_there now x kept ps d t n e = active_there now kept t.uid
+        (read_active now d t kept (cc (get_or-set_other s.processors c d x no_processor n)))
 
     moved_names : (u : ℕ) (amount : ℤ) → KeepsName (node_moved nodes u amount)
     moved_names u amount = record {
@@ -480,9 +471,7 @@ module _ (s : State) (c : ℕ) (o : Outcome) (m : IsMachine s) (there : c < leng
         truncates (uid_of_command s.store k (command.Truncate path words)) words _ _ refl
     commits (Some (command.Delete path)) kept = deletes u (frames_of_owner s.owner) _ _ refl
         kept.store.accounts.tree (λ d t n e same. not_both
-        (read_there (committed s c k (command.Delete path)) _ kept refl d t n e)
-        (ap (λ (x : ℕ). is_there (without_node nodes u) x) same
-        ∙ ap (λ (y : Option Node). is_some y) (node_gone nodes u)))
+        (read_there (committed s c k (command.Delete path)) _ kept refl d t n e) (rw (same, node_gone nodes u)))
       where
         u : ℕ
         u = uid_of_command s.store k (command.Delete path)
@@ -504,8 +493,7 @@ module _ (s : State) (c : ℕ) (o : Outcome) (m : IsMachine s) (there : c < leng
       (λ t e. record {
         process = k;
         its = ap (λ (y : Processor). y.cpu.process) here ∙ its;
-        wants = subst (λ (y : Option Command). Wants nodes known k t y) (sym next)
-            (subst (λ (y : Transfer). Wants nodes known k y (Some x))
+        wants = rw next (subst (λ (y : Transfer). Wants nodes known k y (Some x))
             (same_transfer _ t (sym (ap (λ (y : Processor). y.cpu.transfer) here) ∙ e)) (wants finds.case));
       })
     where
@@ -602,10 +590,8 @@ module _ (s : State) (c : ℕ) (o : Outcome) (m : IsMachine s) (there : c < leng
   reading_kept (act.Signal w) may kept = record {
     each = λ d t e. still_reads s.plan s.runs nodes known s.processors h s.runs nodes known
         (told_from c w 0 s.processors) d (record {
-          transfer = ap (λ (x : Processor). x.cpu.transfer) (told_reads c w s.processors 0 d)
-              ∙ told_transfer c w (0 + d) (processor_at s.processors d);
-          process = ap (λ (x : Processor). x.cpu.process) (told_reads c w s.processors 0 d)
-              ∙ told_process c w (0 + d) (processor_at s.processors d);
+          transfer = cc (told_reads c w s.processors 0 d, told_transfer c w (0 + d) (processor_at s.processors d));
+          process = cc (told_reads c w s.processors 0 d, told_process c w (0 + d) (processor_at s.processors d));
           run = λ i x. refl;
           numbers = λ i x. refl;
           paths = λ y x. paths_same nodes y.uid;

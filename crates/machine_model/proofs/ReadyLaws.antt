@@ -57,10 +57,8 @@ module _ (s : State) (keeps : Keeps s) where
       read (Some page) = refl
 
       word : (page : ℕ × ℕ) (w : Ptw) → names w ≡ Some f → is_going_frame (bound_use page w) ≡ true → w ≡ ptw.Leaving f
-      word page ptw.Null n h = absurd (not_both h refl)
-      word page (ptw.Out r) n h = absurd (not_both h refl)
-      word page (ptw.Here g) n h = absurd (not_both h refl)
       word page (ptw.Leaving g) n h = cc
+      word page _ n h = absurd (not_both h refl)
 
       by : (x : Option (ℕ × ℕ)) → (seen s).bound f ≡ x
           → is_going_frame (frame_use (seen s).words x ((seen s).reads f)) ≡ true → HasGoing f
@@ -77,9 +75,7 @@ module _ (s : State) (keeps : Keeps s) where
 
   -- what is on its way out was taken
   leaving_listed : (u q f : ℕ) → word_of s.store.ast u q ≡ ptw.Leaving f → has (frames_of_owner s.owner) f ≡ true
-  leaving_listed u q f h = sym (keeps.book.going_owned.frames f)
-      ∙ (ap (λ (x : Option (ℕ × ℕ)). is_going_frame (frame_use (seen s).words x ((seen s).reads f)))
-      (keeps.book.tied.back f u q (ap names h)) ∙ ap (λ (w : Ptw). is_going_frame (bound_use (u, q) w)) h)
+  leaving_listed u q f h = cc (keeps.book.going_owned.frames f, keeps.book.tied.back f u q (ap names h))
 
   -- a descriptor that leads somewhere leads to an active segment
   leads_none : (j n : ℕ) → ((v : ℕ) → (seen s).linked j n ≡ Some v → ⊥)
@@ -141,24 +137,19 @@ module _ (s : State) (k : ℕ) (cmd : Command) (keeps : Keeps s) (h : IsTakenFor
     where
       by : (q : ℕ) → TakesPage cmd u u q → (w : Ptw) → word_of s.store.ast u q ≡ w
           → is_here (word_of s.store.ast u q) ≡ false
-      by q page ptw.Null e = ap is_here e
-      by q page (ptw.Out r) e = ap is_here e
-      by q page (ptw.Leaving f) e = ap is_here e
       by q page (ptw.Here f) e = absurd (not_both (h.just.pages f u q (its ∙ page_bound (seen s).words (u, q)
-          ((seen s).reads f)) page)
-          (ap (λ (x : Option (ℕ × ℕ)). is_going_frame (frame_use (seen s).words x ((seen s).reads f))) at
-          ∙ ap (λ (w : Ptw). is_going_frame (bound_use (u, q) w)) e))
+          ((seen s).reads f)) page) (cc at))
         where
           at : (seen s).bound f ≡ Some (u, q)
           at = keeps.book.tied.back f u q (ap names e)
 
           its : page_of ((holding s).frame f) ≡ page_of (frame_use (seen s).words (Some (u, q)) ((seen s).reads f))
           its = ap (λ (x : Option (ℕ × ℕ)). page_of (frame_use (seen s).words x ((seen s).reads f))) at
+      by q page _ e = ap is_here e
 
       read : (q f : ℕ) → TakesPage cmd u u q → frame_at s.store.pages.core f ≡ core_frame.Started u q → ⊥
       read q f page e = started_free (TakesPage cmd u) (TakesDescriptor cmd k u) (holding s) f u q h.just
-          (ap (λ (x : Option (ℕ × ℕ)). frame_use (seen s).words x ((seen s).reads f))
-          (keeps.book.tied.unbound f u q reads) ∙ ap read_use reads) page
+          (cc (keeps.book.tied.unbound f u q reads, reads)) page
         where
           reads : (seen s).reads f ≡ Some (u, q)
           reads = map_list started_page s.store.pages.core.frames f core_frame.Free ∙ ap started_page e
@@ -191,10 +182,8 @@ module _ (s : State) (k : ℕ) (keeps : Keeps s) where
   branch_uid path n e = ap uid_of_node (branch_found s.store.accounts.nodes path n e).0
 
   not_out : (w : Ptw) → is_out w ≡ false → is_out_word w ≡ false
-  not_out ptw.Null h = refl
   not_out (ptw.Out r) h = absurd (not_both refl h)
-  not_out (ptw.Here f) h = refl
-  not_out (ptw.Leaving f) h = refl
+  not_out _ h = refl
 
   truncate_past : (path : List (List ℕ)) (words : ℕ) → IsTakenFor s k (command.Truncate path words)
       → IsTakenPast s.store (uid_of_command s.store k (command.Truncate path words)) words
@@ -260,8 +249,7 @@ module _ (s : State) (k : ℕ) (keeps : Keeps s) where
   )
   ready_by (command.Truncate path words) h out = (
     λ n e. subst (λ (v : ℕ). IsTakenPast s.store v words) (segment_uid path n e) (truncate_past path words h),
-    λ n e. subst (λ (v : ℕ). OwnsFrom s.store v (words / 1024) (frames_of_owner s.owner)) (segment_uid path n e)
-        (truncate_owns path words h),
+    λ n e. (rw (segment_uid path n e) at (truncate_owns path words h)),
   )
   ready_by (command.Delete path) h out = (
     λ n e. subst (IsRemovable s.store) (branch_uid path n e) (delete_removable path h),

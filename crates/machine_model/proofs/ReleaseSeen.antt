@@ -15,7 +15,7 @@ use Rattle.page_control.specs.Picture.{is_filed_at}
 use Rattle.page_control.specs.Plain.{record_of, words_in}
 use Rattle.page_control.specs.Tied.{flags_in, uid_at, vtoc_in}
 use Rattle.storage_ops.specs.Shown.{home_of, is_filed, is_there}
-use Rattle.custody_model.specs.Custody.{has, is_going_frame}
+use Rattle.custody_model.specs.Custody.{is_going_frame}
 use Rattle.machine_model.specs.Finishing.{MayRelease, page_of}
 use Rattle.machine_model.specs.Foreseen.{full_then, stored_then}
 use Rattle.machine_model.specs.Holding.{seen}
@@ -23,7 +23,7 @@ use Rattle.machine_model.specs.Jobs.{left_of, page_in, page_or_zero, with_left}
 use Rattle.machine_model.specs.Keeps.{Keeps}
 use Rattle.machine_model.specs.Outline.{frame_in}
 use Rattle.machine_model.specs.Outlined.{lacks_record, outline_of}
-use Rattle.machine_model.specs.Reads.{frames_of_owner, home_in}
+use Rattle.machine_model.specs.Reads.{home_in}
 use Rattle.machine_model.specs.Seen.{shown}
 use Rattle.machine_model.specs.State.{State}
 use Rattle.machine_model.proofs.FrameSeen.{bound_outlined}
@@ -168,10 +168,8 @@ module _ (s : State) (k : Keeps s) (f u p : ℕ) (here : page_in s.store f ≡ (
   unfolding outline_of
   releases is = record {
     room = full_less (left_of (words_in s.store.pages f)) (page_in s.store f);
-    others = λ v q n. ap (λ (page : ℕ × ℕ). is_filed
-        (with_left s.store f (left_of (words_in s.store.pages f)) page).accounts
-        (with_left s.store f (left_of (words_in s.store.pages f)) page).pages.vtocs v q) here
-        ∙ others (left_of (words_in s.store.pages f)) v q (λ a b. n (is ∙ (λ i. Some (sym a i, sym b i))));
+    others = λ v q n. cc (others (left_of (words_in s.store.pages f)) v q
+        (λ a b. n (is ∙ (λ i. Some (sym a i, sym b i)))));
   }
 
 bound_is_there : (s : State) → Keeps s → (f u p : ℕ) → (seen s).bound f ≡ Some (u, p)
@@ -185,8 +183,7 @@ pub leaves_may : (s : State) → Keeps s → (o : Owner) (f : ℕ) (fs : List �
 leaves_may s k o f fs mine frames = by ((seen s).bound f) refl going
   where
     going : is_going_frame ((shown (seen s)).frame f) ≡ true
-    going = k.book.going_owned.frames f ∙ (ap (λ (x : Option Owner). has (frames_of_owner x) f) mine
-        ∙ (ap (λ (xs : List ℕ). has xs f) frames ∙ has_head f fs))
+    going = cc (k.book.going_owned.frames f, has_head f fs)
 
     read : (y : Option (ℕ × ℕ)) → is_going_frame (read_use y) ≡ false
     read None = refl

@@ -52,9 +52,8 @@ AllLeave st [] = Unit {0}
 AllLeave st (f ∷ fs) = Leaves st f × AllLeave st fs
 
 pub bound_is : (x : Frame) (page : ℕ × ℕ) → bound_page x ≡ Some page → is_bound x ≡ true
-bound_is frame.Free page e = absurd (none_some e)
-bound_is (frame.Started u p) page e = absurd (none_some e)
 bound_is (frame.Bound u p used modified) page e = refl
+bound_is _ page e = absurd (none_some e)
 
 leaving_is : (st : Storage) (f : ℕ) → Leaves st f → IsLeaving st f
 leaving_is st f h = record {
@@ -91,8 +90,7 @@ all_come_back : (st : Storage) (fs : List ℕ) → length st.ast.tables ≡ leng
 all_come_back st [] tables once all = tt
 all_come_back st (f ∷ fs) tables once all = (
   leaving_is st f all.0,
-  subst (λ (x : Storage). MayComeBack x fs) (sym (here_is st f all.0.page all.0.bound))
-      (all_come_back (here_if st f (Some all.0.page)) fs
+  rw (here_is st f all.0.page all.0.bound) (all_come_back (here_if st f (Some all.0.page)) fs
       (length-set st.ast.tables (place_of st.ast.entries all.0.page.0) _ ∙ tables) once.1
       (others_leave st f fs tables all.0 once.0 all.1)),
 )
@@ -109,13 +107,7 @@ others_relink : (st : Storage) (d : CutDescriptor) (ds : List CutDescriptor) →
     → AllRelinkable st ds → AllRelinkable (with_relink st d) ds
 others_relink st d [] outer inner apart all = tt
 others_relink st d (e ∷ es) outer inner apart all = (
-  record {
-    process = all.0.process;
-    active = all.0.active;
-    known = all.0.known;
-    cut = still;
-    right = all.0.right;
-  },
+  assumption still,
   others_relink st d es outer inner parts.1 all.1,
 )
   where
@@ -166,13 +158,7 @@ relink_tables : (st : Storage) (tables : List (List Ptw)) (ds : List CutDescript
     → AllRelinkable (with_tables st tables) ds
 relink_tables st tables [] all = tt
 relink_tables st tables (d ∷ ds) all = (
-  record {
-    process = all.0.process;
-    active = all.0.active;
-    known = all.0.known;
-    cut = all.0.cut;
-    right = all.0.right;
-  },
+  assumption,
   relink_tables st tables ds all.1,
 )
 
@@ -247,11 +233,10 @@ module _ (s : State) (keeps : Keeps s) where
   -- The descriptors that it cut may come back after them.
   pub descriptors_return : IsWorking s
       → MayRelink (with_all_here s.store (frames_of_owner s.owner)) (cut_of_owner s.owner)
-  descriptors_return working = subst (λ (x : Storage). MayRelink x (cut_of_owner s.owner)) (sym here.1)
-      (all_relink (with_tables s.store here.0) (cut_of_owner s.owner) keeps.book.going_owned.apart
-      (there_tables s.store here.0 (cut_of_owner s.owner) keeps.cut)
-      (relink_tables s.store here.0 (cut_of_owner s.owner)
-      (relinkable (cut_of_owner s.owner) keeps.cut keeps.rights working.numbered unlinked)))
+  descriptors_return working = rw (← here.1) at (all_relink (with_tables s.store here.0) (cut_of_owner s.owner)
+      keeps.book.going_owned.apart (there_tables s.store here.0 (cut_of_owner s.owner) keeps.cut)
+      (relink_tables s.store here.0 (cut_of_owner s.owner) (relinkable (cut_of_owner s.owner) keeps.cut keeps.rights
+      working.numbered unlinked)))
     where
       here : (tables : List (List Ptw)) × (with_all_here s.store (frames_of_owner s.owner)
           ≡ with_tables s.store tables)

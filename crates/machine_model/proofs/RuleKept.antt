@@ -1,6 +1,6 @@
 -- Each step of each processor keeps the machine's promise: along the rules in their order, what an action asks follows
 -- from the promise, but for what the store says and for what the flat store answers.
-use Rattle.std.proofs.Common.{◌≡◌, ◌<◌, ◌≤◌, ℕ, Bool, true, false, is_some, List, [], ◌∷◌, ◌++◌, map, length, position}
+use Rattle.std.proofs.Common.{◌≡◌, ◌<◌, ◌≤◌, ℕ, Bool, true, false, is_some, List, [], ◌∷◌, length, position}
 use Rattle.std.proofs.Common.{Option, Some, None, refl, sym, ap, subst, ◌∙◌}
 use Rattle.assoc_mem.specs.declared.What.{What}
 use Rattle.assoc_mem.specs.declared.What.TheVariants as what
@@ -32,7 +32,7 @@ use Rattle.machine_model.specs.Reads.{is_active}
 use Rattle.machine_model.specs.Refusal.{uid_of_command}
 use Rattle.machine_model.specs.Commits.{stays}
 use Rattle.std.proofs.Common.{◌⊎◌, inl, inr}
-use Rattle.machine_model.specs.Commits.{committed, cut_entry}
+use Rattle.machine_model.specs.Commits.{committed}
 use Rattle.machine_model.specs.Custodial.{FitsPhase, IsOwned, IsShaped, KeepsBook, is_out, is_pending, is_pending_in}
 use Rattle.machine_model.specs.Custodial.{says, says_in}
 use Rattle.machine_model.specs.Holding.{seen}
@@ -201,32 +201,26 @@ commit_can : (s : State) (c k : ℕ) (x : Option Command) → KeepsBook (seen s)
     → (processor_at s.processors c).cpu.process ≡ Some k
     → next_command s k ≡ x → IsReady s → AsksCommit s c k x → CanCommit s c k x
 commit_can s c k None book its next ready asks = tt
-commit_can s c k (Some command.End) book its next ready asks = record {
-  none = asks.none;
-  over = ready.over asks.none;
-  process = its;
-  next = next;
-  tell = asks.tell;
-  says = asks.says;
-}
-commit_can s c k (Some (command.Truncate path words)) book its next ready asks = record {
-  done = ready.left asks.left.cut (stays s.store words);
-  left = asks.left;
-  tell = asks.tell;
-  says = asks.says;
-}
-commit_can s c k (Some (command.Delete path)) book its next ready (inl asks) = inl (record {
-  whole = asks.whole;
-  done = ready.gone;
-  tell = asks.tell;
-  says = asks.says;
-})
-commit_can s c k (Some (command.Delete path)) book its next ready (inr asks) = inr (record {
-  inactive = asks.inactive;
-  done = record { book = book; frames = asks.frames; cut = asks.cut; none = ready.none; still = ready.still };
-  tell = asks.tell;
-  says = asks.says;
-})
+commit_can s c k (Some command.End) book its next ready asks = assumption (
+  asks.none,
+  ready.over asks.none,
+  asks.tell,
+  asks.says,
+)
+commit_can s c k (Some (command.Truncate path words)) book its next ready asks =
+    assumption (ready.left asks.left.cut (stays s.store words), asks.left, asks.tell, asks.says)
+commit_can s c k (Some (command.Delete path)) book its next ready (inl asks) = inl (assumption (
+  asks.whole,
+  asks.tell,
+  asks.says,
+))
+commit_can s c k (Some (command.Delete path)) book its next ready (inr asks) = inr (assumption (
+  asks.inactive,
+  asks.frames,
+  asks.cut,
+  asks.tell,
+  asks.says,
+))
 commit_can s c k (Some cmd) book its next ready asks = record {
   pages = tt;
   none = asks.none;
@@ -260,15 +254,8 @@ nothing_over s k idle still = subst (λ (ds : List CutDescriptor). IsOver (segs_
 segment_can : (s : State) (c u : ℕ) (fs : List ℕ) (pairs : List (ℕ × ℕ)) → Keeps s → IsMine s c → IsIdle s.owner
     → is_pending s.owner ≡ false
     → CanTook s (aim.Deactivating u) (what.Seg u) fs pairs → AsksSegment s c u fs pairs → CanTakeSegment s c u fs pairs
-segment_can s c u [] [] k m idle still can asks = record {
-  owner = m;
-  over = nothing_over s k idle still;
-  may = asks.may;
-  says = asks.says;
-}
-segment_can s c u [] (x ∷ xs) k m idle still can asks =
-    record { can = can; owns = mine_owns s c m; works = works_mine s c k m; says = asks }
-segment_can s c u (f ∷ fs) pairs k m idle still can asks =
+segment_can s c u [] [] k m idle still can asks = assumption (nothing_over s k idle still, asks.may, asks.says)
+segment_can s c u _ _ k m idle still can asks =
     record { can = can; owns = mine_owns s c m; works = works_mine s c k m; says = asks }
 
 empty_look : (s : State) (c u : ℕ) → Keeps s → IsMine s c → IsIdle s.owner → is_pending s.owner ≡ false
@@ -321,9 +308,7 @@ module _ (s : State) (c : ℕ) (o : Outcome) (k : Keeps s) (there : c < length s
   look_still l = ap is_pending l.owner.mine ∙ ap is_pending_in l.looks
 
   look_over : IsLooking s c → IsCommitted s
-  look_over l = subst (λ (ds : List CutDescriptor). KeepsBook
-      (record (seen s) { owner = None; entries = s.entries ++ map cut_entry ds }))
-      (sym (look_idle l).cut) (idle_over s k.book (look_idle l) (look_still l))
+  look_over l = rw (look_idle l).cut (idle_over s k.book (look_idle l) (look_still l))
 
   look_ready : IsLooking s c → IsReady s
   look_ready l = record {
@@ -345,57 +330,33 @@ module _ (s : State) (c : ℕ) (o : Outcome) (k : Keeps s) (there : c < length s
 
   pub look_can : (a : act.Action) → IsLook s a → IsLooking s c → Asks s c o a → CanDo s c o a
   look_can (act.Waits why) h l asks = tt
-  look_can (act.Answer r) h l asks = record {
-    tell = asks.tell;
-    says = asks.says;
-    idle = look_idle l;
-    still =
-        look_still l;
-  }
+  look_can (act.Answer r) h l asks = assumption (look_idle l, look_still l)
   look_can act.GiveUp h l asks = (look_idle l, look_still l)
   look_can (act.Activate u place) h l asks = asks
   look_can (act.Connect n u) h l asks = asks
-  look_can (act.Create f u p r) h l asks = let free = free_frame s.store.pages.core f h.0 in record {
-    can = record {
-      inside = subst (λ (n : ℕ). f < n) k.sizes.frames free.0;
-      unbound = free.1;
-      unread = free.2;
-      null = h.1;
-      active = placed_active u asks.active;
-    };
-    within = free.0;
-    active = asks.active;
-    inner = asks.inner;
-    idle = look_idle l;
-    still = look_still l;
-    tell = asks.tell;
-    says = asks.says;
-  }
-  look_can (act.Start f u p) h l asks = let free = free_frame s.store.pages.core f h.0 in record {
-    there = there;
-    within = free.0;
-    can = record {
-      inside = subst (λ (n : ℕ). f < n) k.sizes.frames free.0;
-      unbound = free.1;
-      unread = free.2;
-      idle = (works_here l.owner).idle;
-      out = h.2;
-      alone = unread_page s.store.pages.core u p h.1;
-      active = out_active u p h.2;
-    };
-    idle = look_idle l;
-    still = look_still l;
-    says = asks;
-  }
+  look_can (act.Create f u p r) h l asks = let free = free_frame s.store.pages.core f h.0 in
+      assumption (
+        subst (λ (n : ℕ). f < n) k.sizes.frames free.0,
+        placed_active u asks.active,
+        look_idle l,
+        look_still l,
+      )
+  look_can (act.Start f u p) h l asks = let free = free_frame s.store.pages.core f h.0 in
+      assumption (
+        subst (λ (n : ℕ). f < n) k.sizes.frames free.0,
+        (works_here l.owner).idle,
+        unread_page s.store.pages.core u p h.1,
+        out_active u p h.2,
+        look_idle l,
+        look_still l,
+      )
   look_can (act.Evict f) h l asks = let bound = choice_bound s.store.pages.core f h in
       record { owner = l.owner; idle = look_idle l; page = bound.0; bound = bound.1; says = asks }
   look_can (act.Empty u) h l asks = empty_look s c u k l.owner (look_idle l) (look_still l) asks
-  look_can (act.EmptyVictim pool chain u) h l asks = record {
-    says = asks.says;
-    can = empty_look (with_store s (with_hand_moved s.store pool chain)) c u (hand_kept s pool chain k asks.says)
-        (record { owner = l.owner.owner; mine = l.owner.mine; same = l.owner.same }) (look_idle l)
-        (look_still l) asks.asks;
-  }
+  look_can (act.EmptyVictim pool chain u) h l asks =
+      assumption (empty_look (with_store s (with_hand_moved s.store pool chain)) c u
+      (hand_kept s pool chain k asks.says) (record { owner = l.owner.owner; mine = l.owner.mine; same = l.owner.same })
+      (look_idle l) (look_still l) asks.asks)
   look_can (act.TakeAway fs pairs w) h l asks =
       record { can = asks.can; owns = owns_here l.owner; works = works_here l.owner; says = asks.says }
   look_can (act.BeginMove u volume) h l asks =
@@ -418,21 +379,8 @@ module _ (s : State) (c : ℕ) (o : Outcome) (k : Keeps s) (there : c < length s
 
   pub move_can : (m : Mover) (x : Option ℕ) → IsMoving s c m → Asks s c o (copy_or_commit m x)
       → CanDo s c o (copy_or_commit m x)
-  move_can m (Some p) is asks = record {
-    owner = is.owner;
-    idle = move_idle m is;
-    still = move_still m is;
-    well = asks.well;
-    ill = asks.ill;
-  }
-  move_can m None is asks = record {
-    owner = is.owner;
-    idle = move_idle m is;
-    still = move_still m is;
-    may = asks.may;
-    rehomes = asks.rehomes;
-    says = asks.says;
-  }
+  move_can m (Some p) is asks = assumption (move_idle m is, move_still m is)
+  move_can m None is asks = assumption (move_idle m is, move_still m is)
 
   -- ---- what was taken goes
 
@@ -448,8 +396,7 @@ module _ (s : State) (c : ℕ) (o : Outcome) (k : Keeps s) (there : c < length s
 
   pub wait_shape : (a : Aim) (w : What) (x : HasWaited s c a w)
       → FitsPhase (phase.Waiting a w) x.owner.owner.frames x.owner.owner.cut
-  wait_shape a w x = subst (λ (y : Phase). FitsPhase y x.owner.owner.frames x.owner.owner.cut) x.waits
-      (subst IsShaped x.owner.mine k.book.going_owned.shaped)
+  wait_shape a w x = rw x.waits at (subst IsShaped x.owner.mine k.book.going_owned.shaped)
 
   wait_still : (a : Aim) (w : What) → HasWaited s c a w → is_pending s.owner ≡ false
   wait_still a w x = ap is_pending x.owner.mine ∙ ap is_pending_in x.waits
@@ -528,14 +475,9 @@ module _ (s : State) (c : ℕ) (o : Outcome) (k : Keeps s) (there : c < length s
 
   empty_can : (u : ℕ) (w : What) (x : HasWaited s c (aim.Deactivating u) w) → x.owner.owner.frames ≡ []
       → AsksEmptied s c u → CanDo s c o (act.Deactivate u)
-  empty_can u w x frames asks = record {
-    owner = x.owner;
-    over = segs_are_gone s (cut_of_owner s.owner) k.book
-        (subst (λ (gs : List ℕ). GoesOn (seen s) gs (cut_of_owner s.owner)) (frames_mine x.owner ∙ frames)
-        (wait_goes (aim.Deactivating u) w x (λ gs ds. wait_shape (aim.Deactivating u) w x)));
-    may = asks.may;
-    says = asks.says;
-  }
+  empty_can u w x frames asks = assumption (segs_are_gone s (cut_of_owner s.owner) k.book
+      (subst (λ (gs : List ℕ). GoesOn (seen s) gs (cut_of_owner s.owner)) (frames_mine x.owner ∙ frames)
+      (wait_goes (aim.Deactivating u) w x (λ gs ds. wait_shape (aim.Deactivating u) w x))))
 
   wait_ready : (w : What) → HasWaited s c aim.Committing w → IsReady s
   wait_ready w x = record {

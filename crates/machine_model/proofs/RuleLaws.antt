@@ -1,5 +1,5 @@
 -- Which rule applies to a processor, and what it tells of it.
-use Rattle.std.proofs.Common.{◌≡◌, ℕ, Bool, true, false, ◌&&◌, is_some, refl, subst, nat_lt}
+use Rattle.std.proofs.Common.{◌≡◌, ℕ, Bool, true, false, ◌&&◌, is_some, refl, nat_lt}
 use Rattle.machine_model.specs.Outline.{Runner, Outline, runner_at}
 use Rattle.machine_model.specs.Measures.{is_over}
 use Rattle.machine_model.specs.Finishing.{Rule, Comes, Clears, Reads, Works, Loads, Leaves, Commands, rule_by, rule_of}
@@ -22,11 +22,10 @@ told : (online due reading own running leaves : Bool)
     → Tells (rule_by online due reading own running leaves) online due reading own running leaves
 told false due reading own running leaves = refl
 told true true reading own running leaves = (refl, refl)
-told true false true own running leaves = (refl, refl, refl)
-told true false false true running leaves = (refl, refl, refl)
 told true false false false true true = (refl, refl, refl, refl, refl)
 told true false false false true false = (refl, refl, refl, refl)
 told true false false false false leaves = (refl, refl, refl, refl)
+told true false _ _ running leaves = (refl, refl, refl)
 
 pub tells : (s : Outline) (c : ℕ) (rule : Rule) → rule_of s c ≡ rule
     → Tells rule (runner_at s.runners c).online (runner_at s.runners c).due (is_some (runner_at s.runners c).reading)
@@ -34,6 +33,4 @@ pub tells : (s : Outline) (c : ℕ) (rule : Rule) → rule_of s c ≡ rule
 unfolding rule_of
 tells s c rule h =
     let x : Runner = runner_at s.runners c in
-    subst (λ (r : Rule). Tells r x.online x.due (is_some x.reading) (owns s.owner c) x.running
-    (is_over x && nat_lt 0 s.ready))
-    h (told x.online x.due (is_some x.reading) (owns s.owner c) x.running (is_over x && nat_lt 0 s.ready))
+    rw h at (told x.online x.due (is_some x.reading) (owns s.owner c) x.running (is_over x && nat_lt 0 s.ready))

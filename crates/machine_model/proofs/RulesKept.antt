@@ -32,7 +32,7 @@ use Rattle.machine_model.specs.Actions as act
 use Rattle.machine_model.specs.Actions.{action_of, by_move, clear_or, come_to, finish_of, go_on_with, has_had_its_turn}
 use Rattle.machine_model.specs.Actions.{is_empty, load_or_idle, look_of, once_cleared, own_or_run}
 use Rattle.machine_model.specs.Actions.{refer_or_take, run_process, take_or_wait, transfer_or}
-use Rattle.machine_model.specs.After.{Outcome, after}
+use Rattle.machine_model.specs.After.{Outcome}
 use Rattle.machine_model.specs.Custodial.{names}
 use Rattle.machine_model.specs.Holding.{led_to, seen}
 use Rattle.machine_model.specs.Keeps.{IsAtWork, Keeps}
@@ -48,7 +48,7 @@ use Rattle.machine_model.proofs.KeepLaws.{IsNoOwner}
 use Rattle.machine_model.proofs.LookLaws.{look_is}
 use Rattle.machine_model.proofs.RuleKept.{Asks, finish_can, look_can, move_can}
 use Rattle.machine_model.proofs.SeatLaws.{CanFillPage, CanFillSeg}
-use Rattle.machine_model.proofs.StepKept.{CanDo, CanLeave, IsMine, after_keeps, to_hold}
+use Rattle.machine_model.proofs.StepKept.{CanDo, CanLeave, IsMine, to_hold}
 use Rattle.machine_model.proofs.TieLaws.{none_some}
 use Rattle.std.proofs.lemmas.Bool.{cond_both, not-true, not-false}
 use Rattle.laws.proofs.Bools.{and_parts}
@@ -255,7 +255,3 @@ module _ (s : State) (c : ℕ) (o : Outcome) (k : Keeps s) (there : c < length s
   pub action_can : Asks s c o (action_of s c) → CanDo s c o (action_of s c)
   action_can = action_by (Can s c o) s c (λ asks. tt) (λ asks. tt) (λ off asks. not-true p.cpu.online off)
       (λ on. clear_can (not-false p.cpu.online on) p.cpu.due refl)
-
-  -- Each step keeps the machine's promise, whichever processor makes it.
-  pub step_keeps : Asks s c o (action_of s c) → Keeps (after s c (action_of s c) o)
-  step_keeps asks = after_keeps s c o (action_of s c) k there (action_can asks)

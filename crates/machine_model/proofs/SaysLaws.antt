@@ -69,8 +69,7 @@ pub same_rights : (old now : Storage) (ds es : List CutDescriptor) → now.accou
     → now.whos ≡ old.whos → es ≡ ds → HadRights old.accounts.nodes old.whos ds
     → HadRights now.accounts.nodes now.whos es
 same_rights old now ds es nodes whos same h =
-    subst (λ (ns : List Node). HadRights ns now.whos es) (sym nodes)
-    (subst (λ (ws : List Who). HadRights old.accounts.nodes ws es) (sym whos)
+    rw nodes (subst (λ (ws : List Who). HadRights old.accounts.nodes ws es) (sym whos)
     (subst (HadRights old.accounts.nodes old.whos) (sym same) h))
 
 pub there_still : (old now : Storage) (ds : List CutDescriptor) → now.links.descriptors ≡ old.links.descriptors
@@ -110,15 +109,7 @@ pub is_same : {s now : State} → now.plan ≡ s.plan
     → now.store.links.descriptors ≡ s.store.links.descriptors
     → ((u : ℕ) → is_active s.store.ast u ≡ true → is_active now.store.ast u ≡ true)
     → cut_of_owner now.owner ≡ cut_of_owner s.owner → IsSame s now
-is_same plan frames nodes whos descriptors active cut = record {
-  plan = plan;
-  frames = frames;
-  nodes = nodes;
-  whos = whos;
-  descriptors = descriptors;
-  active = active;
-  cut = cut;
-}
+is_same plan frames nodes whos descriptors active cut = assumption (plan, frames, nodes, whos, descriptors, active, cut)
 
 pub same_rest : (s now : State) → Keeps s → IsSame s now → Rest s now
 same_rest s now k same = record {
@@ -143,16 +134,14 @@ none_rest s now plan frames cut = record {
 
 pub says_by : (s now : State) (t : Store) → Keeps s → StoreKept now.store → IsFaithful s.plan t now.store
     → IsAlike t (flat_of now) → quotas t ≡ s.plan.quota → Rest s now → StoreSays now
-says_by s now t k kept shown like total rest = record {
-  store = kept;
-  faithful = subst (λ (p : Plan). IsFaithful p (flat_of now) now.store) (sym rest.plan) faithful;
-  rights = rest.rights;
-  cut = rest.cut;
-  conserved = subst (λ (p : Plan). IsConserved p (flat_of now)) (sym rest.plan)
+says_by s now t k kept shown like total rest = assumption (
+  subst (λ (p : Plan). IsFaithful p (flat_of now) now.store)
+      (sym rest.plan) faithful,
+  subst (λ (p : Plan). IsConserved p (flat_of now)) (sym rest.plan)
       (conserved_by s.plan (flat_of now) now.store faithful kept.accounts
-      (ap (λ (ns : List Node). sum (map (λ n. n.quota) ns)) like.nodes ∙ total));
-  frames = rest.frames ∙ (k.sizes.frames ∙ ap (λ (p : Plan). p.frames) (sym rest.plan));
-}
+      (ap (λ (ns : List Node). sum (map (λ n. n.quota) ns)) like.nodes ∙ total)),
+  rest.frames ∙ (k.sizes.frames ∙ ap (λ (p : Plan). p.frames) (sym rest.plan)),
+)
   where
     faithful : IsFaithful s.plan (flat_of now) now.store
     faithful = alike_shown s.plan t (flat_of now) now.store like shown
@@ -162,9 +151,8 @@ pub says_is : (s : State) (c : ℕ) (o : Outcome) (a : act.Action) (now : State)
     → after s c a o ≡ now → IsAlike (shown_after s c o a (flat_of s)) (flat_of now)
     → quotas (shown_after s c o a (flat_of s)) ≡ s.plan.quota → Rest s now → StoreSays now
 says_is s c o a now k says is like total rest = says_by s now (shown_after s c o a (flat_of s)) k
-    (subst (λ (x : State). StoreKept x.store) is says.store)
-    (subst (λ (x : State). IsFaithful s.plan (shown_after s c o a (flat_of s)) x.store) is
-    (says.shown (flat_of s) k.faithful)) like total rest
+    (subst (λ (x : State). StoreKept x.store) is says.store) (rw is at (says.shown (flat_of s) k.faithful)) like total
+    rest
 
 -- ---- where the store is as before
 
@@ -185,8 +173,7 @@ through_is : (s : State) (f k u : ℕ) (r : Reference) (t : Store) → known_uid
     → page_in s.store f ≡ (u, r.offset / 1024) → old_word s.store.pages f r ≡ t.words u r.offset
     → through s f r t ≡ after_reference t k r
 unfolding after_reference
-through_is s f k u r t known page old = sym (ap (written_by t r.offset r.kind) known
-    ∙ ap (λ (x : Store). cond (alters r.kind) x t) same)
+through_is s f k u r t known page old = cc same
   where
     offset : 1024 * (page_in s.store f).1 + r.offset % 1024 ≡ r.offset
     offset = ap (λ (x : ℕ × ℕ). 1024 * x.1 + r.offset % 1024) page ∙ euclid r.offset
@@ -229,14 +216,12 @@ pub through_says : (s : State) (c : ℕ) (o : Outcome) (f u : ℕ) (r : Referenc
     → old_word s.store.pages f r ≡ (flat_of s).words u r.offset → StoreSays (went_through s c f r)
 unfolding after
 through_says s c o f u r cmd k says next is known page old = says_is s c o (act.Through f r) (went_through s c f r) k
-    says refl
-    (subst (λ (t : Store). IsAlike t (flat_of (went_through s c f r)))
-    (effect_is s.plan (flat_of s) (process_at s c) cmd r is
-    ∙ sym (through_is s f (process_at s c) u r (flat_of s) known page old))
-    (done_alike s.plan s.entries (process_at s c) (run_at s.runs (process_at s c)).place c (Some f)
-    (word_reply (old_word s.store.pages f r) r.kind) cmd next (word_done (old_word s.store.pages f r) r.kind)))
-    (ap (λ (ns : List Node). sum (map (λ n. n.quota) ns)) (nodes_through s f r (flat_of s)) ∙ k.conserved.total)
-    (same_rest s (went_through s c f r) k (is_same refl (pages_count s.store.pages f r) refl refl refl (λ v e. e) refl))
+    says refl (rw (effect_is s.plan (flat_of s) (process_at s c) cmd r is
+    ∙ sym (through_is s f (process_at s c) u r (flat_of s) known page old)) at (done_alike s.plan s.entries
+    (process_at s c) (run_at s.runs (process_at s c)).place c (Some f) (word_reply (old_word s.store.pages f r) r.kind)
+    cmd next (word_done (old_word s.store.pages f r) r.kind))) (ap (λ (ns : List Node). sum (map (λ n. n.quota) ns))
+    (nodes_through s f r (flat_of s)) ∙ k.conserved.total) (same_rest s (went_through s c f r) k
+    (is_same refl (pages_count s.store.pages f r) refl refl refl (λ v e. e) refl))
 
 -- a page that isn't stored is read, or 0 is written to it, where it is: the flat store is as it was
 pub plain_says : (s : State) (c : ℕ) (r : Reference) (cmd : Command) → Keeps s
@@ -244,11 +229,10 @@ pub plain_says : (s : State) (c : ℕ) (r : Reference) (cmd : Command) → Keeps
     → IsAlike (flat_of s) (after_reference (flat_of s) (process_at s c) r)
     → StoreSays (told s c None (word_reply 0 r.kind))
 plain_says s c r cmd k next is like = says_by s (told s c None (word_reply 0 r.kind)) (flat_of s) k k.store k.faithful
-    (alike_on like (subst (λ (t : Store). IsAlike t (flat_of (told s c None (word_reply 0 r.kind))))
-    (effect_is s.plan (flat_of s) (process_at s c) cmd r is)
-    (done_alike s.plan s.entries (process_at s c) (run_at s.runs (process_at s c)).place c None
-    (word_reply 0 r.kind) cmd next (word_done 0 r.kind)))) k.conserved.total
-    (same_rest s (told s c None (word_reply 0 r.kind)) k (is_same refl refl refl refl refl (λ v e. e) refl))
+    (alike_on like (rw (effect_is s.plan (flat_of s) (process_at s c) cmd r is) at (done_alike s.plan s.entries
+    (process_at s c) (run_at s.runs (process_at s c)).place c None (word_reply 0 r.kind) cmd next
+    (word_done 0 r.kind)))) k.conserved.total (same_rest s (told s c None (word_reply 0 r.kind)) k
+    (is_same refl refl refl refl refl (λ v e. e) refl))
 
 -- ---- a page is made
 
@@ -263,8 +247,7 @@ pub made_is : (s : State) (c u : ℕ) (r : Reference) (t : Store) → known_uid 
     → t.words u r.offset ≡ 0 → eqb (new_word 0 r.kind) 0 ≡ false
     → with_made_page s c r t ≡ after_reference t (process_at s c) r
 unfolding after_reference
-made_is s c u r t known zero word = ap (written_by t r.offset (kind.Write (new_word 0 r.kind))) known
-    ∙ (made_by t u r.offset r.kind zero word ∙ sym (ap (written_by t r.offset r.kind) known))
+made_is s c u r t known zero word = cc (made_by t u r.offset r.kind zero word)
 
 nodes_made : (s : State) (c : ℕ) (r : Reference) (t : Store) → (with_made_page s c r t).nodes ≡ t.nodes
 unfolding after_reference
@@ -281,9 +264,8 @@ pub created_says : (s : State) (c : ℕ) (o : Outcome) (f u v p : ℕ) (r : Refe
 unfolding after
 created_says s c o f u v p r cmd k says next is known zero word =
     says_is s c o (act.Create f u p r) (page_created s c f u p r) k says refl
-    (subst (λ (t : Store). IsAlike t (flat_of (page_created s c f u p r))) effect
-    (done_alike s.plan (s.entries ++ entry.Here f u p ∷ []) (process_at s c) (run_at s.runs (process_at s c)).place c
-    None (word_reply 0 r.kind) cmd next (word_done 0 r.kind)))
+    (rw effect at (done_alike s.plan (s.entries ++ entry.Here f u p ∷ []) (process_at s c)
+    (run_at s.runs (process_at s c)).place c None (word_reply 0 r.kind) cmd next (word_done 0 r.kind)))
     (ap (λ (ns : List Node). sum (map (λ n. n.quota) ns)) (nodes_made s c r (flat_of s)) ∙ k.conserved.total)
     (none_rest s (page_created s c f u p r) refl (length-set s.store.pages.core.frames f _) refl)
   where
@@ -410,8 +392,7 @@ module _ (s : State) (c : ℕ) (o : Outcome) (f : ℕ) (k : Keeps s) where
   left_alike = alike_by (alike (left_page s f (flat_of s))) (left_flat s.plan s.entries f how (page_in s.store f))
 
   left_total : quotas (left_page s f (flat_of s)) ≡ s.plan.quota
-  left_total = ap (λ (ns : List Node). sum (map (λ n. n.quota) ns))
-      (left_nodes how (page_in s.store f) (flat_of s)) ∙ k.conserved.total
+  left_total = cc (left_nodes how (page_in s.store f) (flat_of s), k.conserved.total)
 
   pub evicted_says : Says s c o (act.FinishEviction f) → o.failed ≡ false
       → StoreSays (eviction_done (with_faults s o.faults) c f)
@@ -498,19 +479,13 @@ module _ (s : State) (c : ℕ) (o : Outcome) (f : ℕ) (k : Keeps s) (h : o.fail
   unfolding after
   eviction_failed_says says = says_is s c o (act.FinishEviction f) (write_failed s c o.faults) k says
       (ap (λ (b : Bool). cond b (write_failed s c o.faults) (eviction_done (with_faults s o.faults) c f)) h)
-      (subst (λ (b : Bool). IsAlike (cond b (flat_of s) (left_page s f (flat_of s)))
-      (flat_of (write_failed s c o.faults))) (sym h) (failed_alike s c o.faults))
-      (subst (λ (b : Bool). quotas (cond b (flat_of s) (left_page s f (flat_of s))) ≡ s.plan.quota) (sym h)
-      k.conserved.total) (failed_rest s c o.faults)
+      (rw h (failed_alike s c o.faults)) (rw h k.conserved.total) (failed_rest s c o.faults)
 
   pub page_failed_says : Says s c o (act.FinishPage f) → StoreSays (write_failed s c o.faults)
   unfolding after
   page_failed_says says = says_is s c o (act.FinishPage f) (write_failed s c o.faults) k says
       (ap (λ (b : Bool). cond b (write_failed s c o.faults) (page_done (with_faults s o.faults) f)) h)
-      (subst (λ (b : Bool). IsAlike (cond b (flat_of s) (left_page s f (flat_of s)))
-      (flat_of (write_failed s c o.faults))) (sym h) (failed_alike s c o.faults))
-      (subst (λ (b : Bool). quotas (cond b (flat_of s) (left_page s f (flat_of s))) ≡ s.plan.quota) (sym h)
-      k.conserved.total) (failed_rest s c o.faults)
+      (rw h (failed_alike s c o.faults)) (rw h k.conserved.total) (failed_rest s c o.faults)
 
 -- ---- a segment is active no more
 

@@ -33,7 +33,7 @@ use Rattle.machine_model.specs.Refusal.{reply_of}
 use Rattle.machine_model.specs.Scheduled.{AreScheduled, IsScheduled}
 use Rattle.machine_model.specs.State.{State}
 use Rattle.machine_model.specs.Steps.{fault_told, frame_lost, goes_on, is_its_end, left_at, old_word, page_made}
-use Rattle.machine_model.specs.Steps.{queued, run_after, told, told_by, transfer_failed}
+use Rattle.machine_model.specs.Steps.{run_after, told, told_by, transfer_failed}
 use Rattle.machine_model.specs.Steps.{with_store}
 use Rattle.machine_model.proofs.CommitKept.{effected}
 use Rattle.machine_model.specs.Steps.{pages_after, with_pages}
@@ -57,17 +57,11 @@ pub still : {s t : State} → t.plan ≡ s.plan → t.runs ≡ s.runs → t.read
 still a b c d = record { plan = a; runs = b; ready = c; processors = d }
 
 pub sits_on : {s t u : State} → Sits s t → Sits t u → Sits s u
-sits_on a b = record {
-  plan = b.plan ∙ a.plan;
-  runs = b.runs ∙ a.runs;
-  ready = b.ready ∙ a.ready;
-  processors = b.processors ∙ a.processors;
-}
+sits_on a b = assumption (b.plan ∙ a.plan, b.runs ∙ a.runs, b.ready ∙ a.ready, b.processors ∙ a.processors)
 
 sits_kept : (s t : State) → Sits s t → IsScheduled s → IsScheduled t
-sits_kept s t same h = subst (λ (p : Plan). AreScheduled p t.runs t.ready t.processors) (sym same.plan)
-    (subst (λ (r : List Run). AreScheduled s.plan r t.ready t.processors) (sym same.runs)
-    (subst (λ (q : List ℕ). AreScheduled s.plan s.runs q t.processors) (sym same.ready)
+sits_kept s t same h = rw same.plan (subst (λ (r : List Run). AreScheduled s.plan r t.ready t.processors)
+    (sym same.runs) (subst (λ (q : List ℕ). AreScheduled s.plan s.runs q t.processors) (sym same.ready)
     (subst (λ (ps : List Processor). AreScheduled s.plan s.runs s.ready ps) (sym same.processors) h)))
 
 taken : (s : State) (c : ℕ) (a : Aim) (w : What) (fs : List ℕ) → Sits s (take_all s c a w fs)
@@ -131,20 +125,18 @@ nobody_released p k (Some c) more = by (is_end c) more
 told_kept : (s : State) (c k : ℕ) (f : Option ℕ) (r : Reply) → IsScheduled s → c < length s.processors
     → (cpu_at s.processors c).process ≡ Some k → k < length s.runs → is_its_end (next_command s k) ≡ false
     → IsScheduled (told_by s c k f r)
-told_kept s c k f r h there its known more = subst (λ (q : List ℕ). AreScheduled s.plan
-    (set s.runs k (run_after (run_at s.runs k) (next_command s k) r)) q (told_by s c k f r).processors)
-    (sym (append-nil s.ready) ∙ ap (λ (q : List ℕ). s.ready ++ q) (sym (nobody_released s.plan k
-    (next_command s k) more)))
+told_kept s c k f r h there its known more =
+    rw (← (sym (append-nil s.ready) ∙ ap (λ (q : List ℕ). s.ready ++ q)
+    (sym (nobody_released s.plan k (next_command s k) more))))
     (runs_kept s.plan s.runs (set s.runs k (run_after (run_at s.runs k) (next_command s k) r)) s.ready _
     (one_run s.runs k (run_after (run_at s.runs k) (next_command s k) r) known (h.running c k its).going
-    (more_run (run_at s.runs k) (next_command s k) r (h.running c k its).going more))
-    (seats_kept s.plan s.runs s.ready s.processors _ (one_seat s.processors c _ there refl (λ e. e)) h))
+    (more_run (run_at s.runs k) (next_command s k) r (h.running c k its).going more)) (seats_kept s.plan s.runs s.ready
+    s.processors _ (one_seat s.processors c _ there refl (λ e. e)) h))
 
 -- the machine is answered after steps that leave all as it is
 told_after : (s b : State) (c : ℕ) (f : Option ℕ) (r : Reply) → Sits s b → IsScheduled s → c < length s.processors
     → IsAnswering s c → IsScheduled (told b c f r)
-told_after s b c f r same h there a = subst (λ (j : ℕ). IsScheduled (told_by b c j f r)) (sym (ap or_zero its))
-    (told_kept b c a.process f r (sits_kept s b same h)
+told_after s b c f r same h there a = rw (ap or_zero its) (told_kept b c a.process f r (sits_kept s b same h)
     (subst (λ (ps : List Processor). c < length ps) (sym same.processors) there) its
     (subst (λ (rs : List Run). a.process < length rs) (sym same.runs) a.known)
     (ap (λ (x : Option Command). is_its_end x) next ∙ a.more))
@@ -183,16 +175,12 @@ module _ (b : State) (c k : ℕ) (r : Reply) (h : IsScheduled b) (there : c < le
 
   ready_is : (left_at (told_by b c k None r) c).ready
       ≡ b.ready ++ cond (b.plan.initializer && eqb k 0) (range 1 (length b.plan.processes - 1)) []
-  ready_is = ap (λ (j : ℕ). queued (run_at (set b.runs k run) j) (told_by b c k None r).ready j) process_is
-      ∙ (ap (λ (e : Bool). cond e (told_by b c k None r).ready ((told_by b c k None r).ready ++ k ∷ []))
-      (ap (λ (x : Run). x.ended) (get_or-set_same b.runs k run no_run known) ∙ over)
-      ∙ ap (λ (x : Option Command). b.ready ++ released_by b.plan k x) next)
+  ready_is = rw (process_is, get_or-set_same b.runs k run no_run known, over, next)
 
   pub ended_kept : IsScheduled (left_at (told_by b c k None r) c)
-  ended_kept = subst (λ (q : List ℕ). AreScheduled b.plan (set b.runs k run) q
-      (left_at (told_by b c k None r) c).processors) (sym ready_is)
-      (end_kept b.plan b.runs b.ready ps c k _ run (subst (λ (n : ℕ). c < n) (sym (length-set b.processors c _)) there)
-      known (seats_kept b.plan b.runs b.ready b.processors ps seats h) its_still refl over)
+  ended_kept = rw ready_is (end_kept b.plan b.runs b.ready ps c k _ run
+      (subst (λ (n : ℕ). c < n) (sym (length-set b.processors c _)) there) known (seats_kept b.plan b.runs b.ready
+      b.processors ps seats h) its_still refl over)
 
 -- ---- each action
 
@@ -222,10 +210,8 @@ by_end o well ill a b = by o.failed refl
 
 pub told_seats : (s : State) (c : ℕ) (w : What) → SameSeats s.processors (told_from c w 0 s.processors)
 told_seats s c w = record {
-  process = λ d. ap (λ (p : Processor). p.cpu.process) (told_reads c w s.processors 0 d)
-      ∙ told_process c w (0 + d) (processor_at s.processors d);
-  online = λ d h. ap (λ (p : Processor). p.cpu.online) (told_reads c w s.processors 0 d)
-      ∙ (told_online c w (0 + d) (processor_at s.processors d) ∙ h);
+  process = λ d. cc (told_reads c w s.processors 0 d, told_process c w (0 + d) (processor_at s.processors d));
+  online = λ d h. cc (told_reads c w s.processors 0 d, told_online c w (0 + d) (processor_at s.processors d));
 }
 
 front_is : (s : State) (n : ℕ) (xs : List ℕ) → s.ready ≡ xs → IsFront xs n → s.ready ≡ n ∷ drop 1 s.ready
@@ -250,9 +236,8 @@ module _ (s : State) (c : ℕ) (o : Outcome) (h : IsScheduled s) (there : c < le
   command_kept : (x : Option Command) → (k : ℕ) → (cpu_at s.processors c).process ≡ Some k → k < length s.runs
       → next_command s k ≡ x → IsScheduled (committed_at s c x)
   command_kept None k its known next = h
-  command_kept (Some command.End) k its known next = subst (λ (j : ℕ). IsScheduled (left_at (told_by
-      (effected s j command.End) c j None (reply_of s j command.End)) c)) (sym (ap or_zero its))
-      (ended_kept (effected s k command.End) c k (reply_of s k command.End) h there its known next)
+  command_kept (Some command.End) k its known next = rw (ap or_zero its) (ended_kept (effected s k command.End) c k
+      (reply_of s k command.End) h there its known next)
   command_kept (Some (command.MkDir path volume)) k its known next = plain
       (command.MkDir path volume) refl k its known next
   command_kept (Some (command.MkSeg path pages volume)) k its known next =
@@ -291,8 +276,7 @@ module _ (s : State) (c : ℕ) (o : Outcome) (h : IsScheduled s) (there : c < le
   schedule_kept (act.EndTransfer t) may = by_end o _ (transfer_failed s c t o.faults)
       (one_changed _ refl (λ e. e)) (λ failed. told_after (frame_lost s c t)
       (fault_told (frame_lost s c t) (Some (process_at s c)) o.faults) c None reply.Device
-      (still refl refl refl refl) (one_changed _ refl (λ e. e)) (subst (λ (n : ℕ). c < n)
-      (sym (length-set s.processors c _)) there) (record {
+      (still refl refl refl refl) (one_changed _ refl (λ e. e)) (rw (length-set s.processors c _) there) (record {
         process = (may failed).process;
         its = ap (λ (p : Processor). p.cpu.process) (get_or-set_same s.processors c _ no_processor there)
             ∙ (may failed).its;

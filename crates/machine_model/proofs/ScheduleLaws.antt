@@ -29,9 +29,6 @@ pub record SameSeats (old now : List Processor) : Type 0 where
   pub process : (d : ℕ) → (cpu_at now d).process ≡ (cpu_at old d).process
   pub online : (d : ℕ) → (cpu_at old d).online ≡ true → (cpu_at now d).online ≡ true
 
-pub same_seats : (ps : List Processor) → SameSeats ps ps
-same_seats ps = record { process = λ d. refl; online = λ d h. h }
-
 pub seats_kept : (p : Plan) (runs : List Run) (ready : List ℕ) (old now : List Processor) → SameSeats old now
     → AreScheduled p runs ready old → AreScheduled p runs ready now
 seats_kept p runs ready old now same h = record {
@@ -64,20 +61,13 @@ one_seat ps c p there process online = record {
 pub record SameRuns (old now : List Run) : Type 0 where
   pub same : (k : ℕ) → (run_at now k).ended ≡ (run_at old k).ended
 
-pub same_runs : (runs : List Run) → SameRuns runs runs
-same_runs runs = record { same = λ k. refl }
-
 turn_kept : (p : Plan) (old now : List Run) (k : ℕ) → SameRuns old now → HasTurn p old k → HasTurn p now k
 turn_kept p old now k same (inl h) = inl h
 turn_kept p old now k same (inr (inl h)) = inr (inl h)
 turn_kept p old now k same (inr (inr h)) = inr (inr (same.same 0 ∙ h))
 
 may_kept : (p : Plan) (old now : List Run) (k : ℕ) → SameRuns old now → MayRun p old k → MayRun p now k
-may_kept p old now k same h = record {
-  planned = h.planned;
-  going = same.same k ∙ h.going;
-  turn = turn_kept p old now k same h.turn;
-}
+may_kept p old now k same h = assumption (same.same k ∙ h.going, turn_kept p old now k same h.turn)
 
 pub runs_kept : (p : Plan) (old now : List Run) (ready : List ℕ) (ps : List Processor) → SameRuns old now
     → AreScheduled p old ready ps → AreScheduled p now ready ps
@@ -289,9 +279,6 @@ nothing_in (x ∷ xs) h = absurd (not_both (ap (λ (b : Bool). b || has xs x) (e
 module _ (p : Plan) (runs : List Run) (ready : List ℕ) (ps : List Processor) (c k : ℕ) (now : Processor) (run : Run)
     (there : c < length ps) (known : k < length runs) (h : AreScheduled p runs ready ps)
     (its : (cpu_at ps c).process ≡ Some k) (none : now.cpu.process ≡ None) (over : run.ended ≡ true) where
-  runs_now : List Run
-  runs_now = set runs k run
-
   others : (j : ℕ) → j ≢ k → (run_at (set runs k run) j).ended ≡ (run_at runs j).ended
   others j other = ap (λ (x : Run). x.ended) (get_or-set_other runs k j run no_run other)
 
@@ -348,11 +335,7 @@ module _ (p : Plan) (runs : List Run) (ready : List ℕ) (ps : List Processor) (
 
   -- whatever may run could before, where no other process becomes ready by it
   may_before : (p.initializer ≡ true → k ≢ 0) → (j : ℕ) → MayRun p (set runs k run) j → MayRun p runs j
-  may_before off j m = record {
-    planned = m.planned;
-    going = sym (others j (not_over j m)) ∙ m.going;
-    turn = by p.initializer refl m.turn;
-  }
+  may_before off j m = assumption (sym (others j (not_over j m)) ∙ m.going, by p.initializer refl m.turn)
     where
       by : (i : Bool) → p.initializer ≡ i → HasTurn p (set runs k run) j → HasTurn p runs j
       by false e t = inl e
@@ -366,8 +349,7 @@ module _ (p : Plan) (runs : List Run) (ready : List ℕ) (ps : List Processor) (
     placed = λ j m. elim (h.placed j (may_before off j m)) [
       | inl r ↦ inl r
       | inr x ↦ elim (either x.0 c) [
-        | inl same ↦ absurd (not_over j m (some_same j k (sym x.1
-            ∙ (ap (λ (i : ℕ). (cpu_at ps i).process) same ∙ its))))
+        | inl same ↦ absurd (not_over j m (some_same j k (cc same)))
         | inr away ↦ inr (x.0, (put_process ps c now there x.0).1 away ∙ x.1)
       ]
     ];
@@ -438,10 +420,6 @@ module _ (p : Plan) (runs : List Run) (ready : List ℕ) (ps : List Processor) (
       by : (i z : Bool) → p.initializer ≡ i → (z ≡ true → k ≡ 0) → (z ≡ false → k ≢ 0)
           → AreScheduled p (set runs k run) (ready ++ cond (i && z) (range 1 (length p.processes - 1)) [])
           (set ps c now)
-      by true true e z other = subst (λ (xs : List ℕ). AreScheduled p (set runs k run)
-          (xs ++ range 1 (length p.processes - 1)) (set ps c now)) (sym (none_ready e (z refl))) (initial_end e
-          (z refl))
-      by true false e z other = subst (λ (xs : List ℕ). AreScheduled p (set runs k run) xs (set ps c now))
-          (sym (append-nil ready)) (plain_end (λ i. other refl))
-      by false z e f other = subst (λ (xs : List ℕ). AreScheduled p (set runs k run) xs (set ps c now))
-          (sym (append-nil ready)) (plain_end (λ i first. not_both i e))
+      by true true e z other = rw (none_ready e (z refl)) (initial_end e (z refl))
+      by true false e z other = rw (← (append-nil ready)) at (plain_end (λ i. other refl))
+      by false z e f other = rw (← (append-nil ready)) at (plain_end (λ i first. not_both i e))

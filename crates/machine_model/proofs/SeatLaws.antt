@@ -12,12 +12,12 @@ use Rattle.flat_model.specs.Legal.{IsLawful, after_entry}
 use Rattle.flat_model.specs.Store.{progress_of}
 use Rattle.custody_model.specs.declared.DescriptorUse.TheVariants as descriptor
 use Rattle.custody_model.specs.Allowed.{IsAllowed, MayLeave, MayTakeSeg, IsFront}
-use Rattle.custody_model.specs.Custody.{Custody, Seat, has, is_current_frame, is_current_descriptor, leads_to}
+use Rattle.custody_model.specs.Custody.{Seat, has, is_current_frame, is_current_descriptor, leads_to}
 use Rattle.custody_model.specs.Fine.{FillsOnline, pending_after}
 use Rattle.custody_model.specs.Next.{at_put, custody_next, with_seat, queued}
 use Rattle.machine_model.specs.Changes.{reseated, came_online, taking_part, loaded, running, left, emptied, seg_filled}
 use Rattle.machine_model.specs.Changes.{with_held_seg, page_filled, with_held_page}
-use Rattle.machine_model.specs.Custodial.{KeepsBook, IsOwned, HoldsRight, IsRun, AreOfProcess, names, is_pending}
+use Rattle.machine_model.specs.Custodial.{KeepsBook, HoldsRight, IsRun, AreOfProcess, names, is_pending}
 use Rattle.machine_model.specs.Seen.{Seen, flat, shown, seat_of, descriptor_use, cut_uid}
 use Rattle.machine_model.specs.Reads.{cut_of_owner}
 use Rattle.machine_model.specs.declared.Processor.{Processor}
@@ -47,8 +47,7 @@ reseat_keeps v c p ready e k lawful pending due transfer runs r =
       online = r.online;
       next = seats ∙ sym r.next;
       pending = sym pending;
-      going_owned = subst (λ (x : Custody). IsOwned x v.owner) (sym r.next)
-          (owned_like (shown v) (record (with_seat (shown v) c (seat_of p)) { ready = ready })
+      going_owned = rw r.next (owned_like (shown v) (record (with_seat (shown v) c (seat_of p)) { ready = ready })
           (like_seat (shown v) c (seat_of p) ready due) v.owner k.going_owned);
       tied = k.tied;
       holding_right = λ d. by_place (λ (x : Processor). HoldsRight v.bound (shown v).descriptor x) v.processors c p d
@@ -100,23 +99,18 @@ pub load_keeps : (v : Seen) (c n : ℕ) → KeepsBook v → (v.processors c).cpu
     → IsFront v.ready n → KeepsBook (loaded v c n)
 unfolding IsLawful after_entry custody_next
 load_keeps v c n k on none front = reseat_keeps v c (running (v.processors c) n) (drop 1 v.ready) (entry.Load c n) k
-    tt refl refl refl k.runs
-    (record {
-      allowed = record { online = on; empty = none; front = front };
-      online = tt;
-      next = refl;
-      right = right_empty v (running (v.processors c) n) (Some n) (k.holding_right c).warned;
-    })
+    tt refl refl refl k.runs (assumption (
+      none,
+      right_empty v (running (v.processors c) n) (Some n) (k.holding_right c).warned,
+    ))
 
 pub leave_keeps : (v : Seen) (c : ℕ) → KeepsBook v → MayLeave (flat v) (shown v) c → KeepsBook (left v c)
 unfolding IsLawful after_entry custody_next
 leave_keeps v c k may = reseat_keeps v c (emptied (v.processors c))
-    (queued (flat v) v.ready (v.processors c).cpu.process) (entry.Leave c) k tt refl refl refl k.runs (record {
-      allowed = may;
-      online = tt;
-      next = refl;
-      right = right_empty v (emptied (v.processors c)) None (k.holding_right c).warned;
-    })
+    (queued (flat v) v.ready (v.processors c).cpu.process) (entry.Leave c) k tt refl refl refl k.runs (assumption (
+      may,
+      right_empty v (emptied (v.processors c)) None (k.holding_right c).warned,
+    ))
 
 -- a descriptor that is connected, and that the processor doesn't hold
 pub record CanFillSeg (v : Seen) (c n : ℕ) (e : HeldSeg) : Type 0 where
@@ -129,25 +123,19 @@ pub fill_seg_keeps : (v : Seen) (c n : ℕ) (e : HeldSeg) → KeepsBook v → Ca
     → KeepsBook (seg_filled v c e)
 unfolding IsLawful after_entry custody_next
 fill_seg_keeps v c n e k can = reseat_keeps v c (with_held_seg (v.processors c) e) v.ready (entry.FillSeg c e.number) k
-    tt refl refl refl k.runs
-    (record {
-      allowed = may (v.processors c).cpu.process can.process;
-      online = can.online;
-      next = same_seat v c v.ready (λ i. record (seat_of (v.processors c)) {
-        segs = sym (map_filled (λ x. x.number) (v.processors c).cpu.assoc.segs e right.few_segs) i;
-      });
-      right = record {
-        pages = right.pages;
-        segs = subst (λ (o : Option ℕ). AreOfProcess (shown v).descriptor o
-            ((with_held_seg (v.processors c) e).cpu.assoc.segs)) (sym can.process)
-            (segs_filled (shown v).descriptor n (v.processors c).cpu.assoc.segs e
-            (subst (λ (o : Option ℕ). AreOfProcess (shown v).descriptor o
-            (v.processors c).cpu.assoc.segs) can.process right.segs) (ap leads_to is));
-        few_pages = right.few_pages;
-        few_segs = filled_few (v.processors c).cpu.assoc.segs e right.few_segs;
-        warned = right.warned;
-      };
-    })
+    tt refl refl refl k.runs (assumption (
+      may (v.processors c).cpu.process can.process,
+      same_seat v c v.ready (λ i. record (seat_of (v.processors c))
+          { segs = sym (map_filled (λ x. x.number) (v.processors c).cpu.assoc.segs e right.few_segs) i }),
+      right.pages,
+      subst (λ (o : Option ℕ). AreOfProcess (shown v).descriptor o ((with_held_seg (v.processors c) e).cpu.assoc.segs))
+          (sym can.process) (segs_filled (shown v).descriptor n (v.processors c).cpu.assoc.segs e
+          (subst (λ (o : Option ℕ). AreOfProcess (shown v).descriptor o (v.processors c).cpu.assoc.segs) can.process
+          right.segs) (ap leads_to is)),
+      right.few_pages,
+      filled_few (v.processors c).cpu.assoc.segs e right.few_segs,
+      right.warned,
+    ))
   where
     right : HoldsRight v.bound (shown v).descriptor (v.processors c)
     right = k.holding_right c
@@ -174,26 +162,17 @@ pub fill_page_keeps : (v : Seen) (c : ℕ) (e : HeldPage) → KeepsBook v → Ca
     → KeepsBook (page_filled v c e)
 unfolding IsLawful after_entry custody_next
 fill_page_keeps v c e k can = reseat_keeps v c (with_held_page (v.processors c) e) v.ready (entry.FillPage c e.frame) k
-    tt refl refl refl k.runs
-    (record {
-      allowed = record {
-        processor = can.inside;
-        current = ap is_current_frame (use_bound v.bound v.reads v.words k.tied e.frame e.uid e.page
-            (ptw.Here e.frame) is can.word);
-        new = can.new;
-      };
-      online = can.online;
-      next = same_seat v c v.ready (λ i. record (seat_of (v.processors c)) {
-        pages = sym (map_filled (λ x. x.frame) (v.processors c).cpu.assoc.pages e right.few_pages) i;
-      });
-      right = record {
-        pages = pages_filled v.bound (v.processors c).cpu.assoc.pages e right.pages is;
-        segs = right.segs;
-        few_pages = filled_few (v.processors c).cpu.assoc.pages e right.few_pages;
-        few_segs = right.few_segs;
-        warned = right.warned;
-      };
-    })
+    tt refl refl refl k.runs (assumption (
+      ap is_current_frame (use_bound v.bound v.reads v.words k.tied e.frame e.uid
+          e.page (ptw.Here e.frame) is can.word),
+      same_seat v c v.ready (λ i. record (seat_of (v.processors c))
+          { pages = sym (map_filled (λ x. x.frame) (v.processors c).cpu.assoc.pages e right.few_pages) i }),
+      pages_filled v.bound (v.processors c).cpu.assoc.pages e right.pages is,
+      right.segs,
+      filled_few (v.processors c).cpu.assoc.pages e right.few_pages,
+      right.few_segs,
+      right.warned,
+    ))
   where
     right : HoldsRight v.bound (shown v).descriptor (v.processors c)
     right = k.holding_right c

@@ -55,15 +55,7 @@ pub speaks : (s : State) (c k : ℕ) → IsMachine s → c < length s.processors
     → (processor_at s.processors c).cpu.process ≡ Some k → (cmd : Command) × Speaks s c k cmd
 speaks s c k m there its = let next = comes_next s c k m its in (
   next.2.command,
-  record {
-    there = there;
-    known = next.1;
-    its = its;
-    next = next.2.on.next;
-    going = next.0.going;
-    turn = next.0.turn;
-    runs = m.keeps.book.runs;
-  },
+  assumption (there, next.1, its, next.2.on.next, next.0.going, next.0.turn),
 )
 
 -- and the command that comes next is the one that it speaks of
@@ -141,10 +133,9 @@ refusal_quiet _ h = (refl, refl)
 -- what refuses a command may be told at once
 pub can_refuse : (s : State) (c k : ℕ) (cmd : Command) (r : Reply) → Speaks s c k cmd
     → r ≡ reply_to_command s.plan (flat_of s) k cmd → is_refusal r ≡ true → CanTell s c k None r
-can_refuse s c k cmd r h is refuses = can_tell s c k cmd None r h (inl (record {
-  own = is;
-  free = refused_free s.plan (flat_of s) k cmd (ap takes_effect (sym is) ∙ quiet.0);
-})) (by (reference_of cmd))
+can_refuse s c k cmd r h is refuses = can_tell s c k cmd None r h
+    (inl (assumption (refused_free s.plan (flat_of s) k cmd (ap takes_effect (sym is) ∙ quiet.0))))
+    (by (reference_of cmd))
   where
     quiet : (takes_effect r ≡ false) × (is_word_or_done r ≡ false)
     quiet = refusal_quiet r refuses

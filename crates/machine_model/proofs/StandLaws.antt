@@ -1,14 +1,11 @@
 -- A command that takes pages or descriptors out of use isn't refused while its job is at work: what refuses it is in
 -- the tree and the numbers, which no other processor's step changes.
-use Rattle.std.proofs.Common.{◌≡◌, ℕ, is_some, if◌then◌else◌, List, [], ◌∷◌, Option, Some, None, refl, sym, ap, ◌∙◌}
+use Rattle.std.proofs.Common.{◌≡◌, ℕ, List, [], ◌∷◌, Some, None, refl, sym, ap, ◌∙◌}
 use Rattle.script.specs.declared.commands.Command.{Command}
 use Rattle.script.specs.declared.commands.Command.TheVariants as command
 use Rattle.book.specs.declared.entries.Entry.TheVariants as entry
-use Rattle.book.specs.declared.replies.Reply.TheVariants as reply
 use Rattle.assoc_mem.specs.declared.What.{What}
 use Rattle.tree_model.specs.Tree.{Node}
-use Rattle.known_segs.specs.Known.{uid_of}
-use Rattle.seg_control.specs.Control.{kst_at}
 use Rattle.flat_model.specs.Branches.{branch_at, done_at, segment_at}
 use Rattle.flat_model.specs.Commands.{reply_to_tree_command}
 use Rattle.flat_model.specs.Making.{delete_of, delete_reply}
@@ -51,8 +48,7 @@ module _ (s now : State) (keeps : Keeps s) (kept : Keeps now)
     unfolding refusal_of acl_reply terminate_reply truncate_reply delete_reply
     stands_on k (command.Acl path row m) some h =
         ap (λ (ns : List Node). refusal (acl_of row (segment_at ns path))) same_nodes ∙ h
-    stands_on k (command.Terminate n) some h = ap (λ (x : List (List (Option ℕ))). refusal
-        (if is_some (uid_of (kst_at x k) n) then reply.Done else reply.Unknown)) same_numbers ∙ h
+    stands_on k (command.Terminate n) some h = cc same_numbers
     stands_on k (command.Truncate path words) some h =
         ap (λ (ns : List Node). refusal (done_at (segment_at ns path))) same_nodes ∙ h
     stands_on k (command.Delete path) some h =

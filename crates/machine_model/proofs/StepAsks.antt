@@ -35,7 +35,6 @@ use Rattle.seg_control.specs.Moving.{next_out}
 use Rattle.flat_model.specs.Legal.{MayRelease}
 use Rattle.script.specs.References.{new_word, permits}
 use Rattle.flat_model.proofs.ZeroLaws.{words_zero}
-use Rattle.custody_model.specs.Custody.{has}
 use Rattle.machine_model.specs.declared.Aim.{Aim}
 use Rattle.machine_model.specs.declared.Aim.TheVariants as aim
 use Rattle.machine_model.specs.declared.Phase.{Phase}
@@ -164,10 +163,9 @@ release_may s f u p k bound released = record {
     active = (let at = k.store.kept.paged.bound f u p bound in active_at s.store.ast at.0 u at.1)
 
     recorded : (w : Ptw) → names w ≡ Some f → has_record w ≡ true
-    recorded ptw.Null e = absurd (none_some e)
-    recorded (ptw.Out n) e = absurd (none_some e)
     recorded (ptw.Here g) e = refl
     recorded (ptw.Leaving g) e = refl
+    recorded _ e = absurd (none_some e)
 
     zeros : (b : Bool) → are_zeros (words_in s.store.pages f) ≡ b → cond b left.Released left.Kept ≡ left.Released
         → are_zeros (words_in s.store.pages f) ≡ true
@@ -206,9 +204,8 @@ module _ (s : State) (c : ℕ) (o : Outcome) (m : IsMachine s) (there : c < leng
                 → Follows s c o (by_move s.owner r (cond b (move.Plain (word_reply 0 r.kind)) move.Fault))
             by true i = λ says. zero_asks s c m.keeps entitled cmd sp r is h held on short e i
             by false i = take_follows s.owner
-        word_follows on short (ptw.Out n) e = take_follows s.owner
         word_follows on short (ptw.Here f) e = λ says. tt
-        word_follows on short (ptw.Leaving f) e = take_follows s.owner
+        word_follows on short _ e = take_follows s.owner
 
         page_follows : permits h.mode r.kind ≡ true → nat_le (1024 * h.pages) r.offset ≡ false → (x : Option ℕ)
             → frame_of p.cpu.assoc h.uid (r.offset / 1024) ≡ x
@@ -262,8 +259,7 @@ module _ (s : State) (c : ℕ) (o : Outcome) (m : IsMachine s) (there : c < leng
       by (n ∷ ns) says = tt
   run_follows (Some n) e = cond_both (has_had_its_turn p && not (is_empty s.ready)) act.Leave
       (come_to s p.cpu n (next_command s n)) (Follows s c o) (λ h says. tt)
-      (λ h. subst (λ (j : ℕ). Follows s c o (come_to s p.cpu j (next_command s j))) (ap or_zero e)
-      (come_follows (some_again p.cpu.process n e) (next_command s k) refl))
+      (λ h. (rw (ap or_zero e) at (come_follows (some_again p.cpu.process n e) (next_command s k) refl)))
 
   -- ---- the owner looks
 
@@ -276,9 +272,7 @@ module _ (s : State) (c : ℕ) (o : Outcome) (m : IsMachine s) (there : c < leng
     takes_nothing = takes_none s k m.keeps idle what.All
 
     look_follows : (a : act.Action) → LookFinds s k cmd a → Follows s c o a
-    look_follows (act.Waits why) h says = tt
     look_follows (act.Answer r) h says = answer_asks s c o m idle cmd sp r h
-    look_follows act.GiveUp h says = tt
     look_follows (act.Activate u place) h says = activate_asks s c o m idle cmd sp u place h says
     look_follows (act.Connect n u) h says = connect_asks s c o m idle cmd sp n u h says
     look_follows (act.Create f u q r) h says = create_asks s c o m idle cmd sp f u q r h says
@@ -293,25 +287,16 @@ module _ (s : State) (c : ℕ) (o : Outcome) (m : IsMachine s) (there : c < leng
     look_follows act.Commit h says = subst (AsksCommit s c k) (sym sp.next)
         (commit_asks s c o m.keeps cmd sp (look_plainly s c m.keeps idle.frames cmd h) says
         (commit_rests s c m.keeps cmd (look_taken s c k cmd what.All [] [] m.keeps idle h takes_nothing)))
-    look_follows act.IsStopped h says = tt
-    look_follows act.HasEnded h says = tt
-    look_follows act.Online h says = tt
-    look_follows (act.Clear w) h says = tt
     look_follows (act.EndTransfer t) h says = absurd h
-    look_follows (act.Load n) h says = tt
-    look_follows act.Leave h says = tt
-    look_follows (act.FillSeg n) h says = tt
-    look_follows (act.FillPage f r) h says = tt
     look_follows (act.Through f r) h says = absurd h
     look_follows (act.Plain r) h says = absurd h
-    look_follows act.TakeSupervisor h says = tt
-    look_follows (act.Signal w) h says = tt
     look_follows (act.FinishEviction f) h says = absurd h
     look_follows (act.FinishPage f) h says = absurd h
     look_follows (act.Deactivate u) h says = absurd h
     look_follows (act.BeginMove u volume) h says = begun_says s c o m.keeps u volume says
     look_follows (act.CopyPage x n) h says = absurd h
     look_follows (act.CommitMove x) h says = absurd h
+    look_follows _ h says = tt
 
   -- ---- what was taken goes
 
@@ -319,19 +304,16 @@ module _ (s : State) (c : ℕ) (o : Outcome) (m : IsMachine s) (there : c < leng
   frame_bound : (f : ℕ) (fs : List ℕ) → frames_of_owner s.owner ≡ f ∷ fs
       → (seen s).bound f ≡ Some ((page_at (seen s) f).0, (page_at (seen s) f).1)
   frame_bound f fs e = m.keeps.book.tied.back f (page_at (seen s) f).0 (page_at (seen s) f).1
-      (ap names (going_word (seen s) f m.keeps.book (m.keeps.book.going_owned.frames f
-      ∙ (ap (λ (gs : List ℕ). has gs f) e ∙ has_head f fs))))
+      (ap names (going_word (seen s) f m.keeps.book (cc (m.keeps.book.going_owned.frames f, has_head f fs))))
 
   -- a drive's failure may be told of the owner's command
   fails_by : (a : Aim) (w : What) (x : HasWaited s c a w) → FailsBy a s.store k (next_command s k)
-  fails_by a w x = subst (λ (j : ℕ). FailsBy a s.store (process_at s j) (next_command s (process_at s j))) x.owner.same
-      (subst (λ (y : Phase). FailsIn y s.store (process_at s x.owner.owner.cpu)
+  fails_by a w x = rw x.owner.same at (subst (λ (y : Phase). FailsIn y s.store (process_at s x.owner.owner.cpu)
       (next_command s (process_at s x.owner.owner.cpu))) x.waits (working.fails x.owner.owner x.owner.mine))
 
   -- what the owner took for its command is just what it takes
   taken_by : (w : What) (x : HasWaited s c aim.Committing w) → IsTakenBy s k (next_command s k)
-  taken_by w x = subst (λ (j : ℕ). IsTakenBy s (process_at s j) (next_command s (process_at s j))) x.owner.same
-      (subst (λ (y : Phase). TakenIn y s (process_at s x.owner.owner.cpu)
+  taken_by w x = rw x.owner.same at (subst (λ (y : Phase). TakenIn y s (process_at s x.owner.owner.cpu)
       (next_command s (process_at s x.owner.owner.cpu))) x.waits (working.taken x.owner.owner x.owner.mine))
 
   write_follows : (x : Option Command) → next_command s k ≡ x → p.cpu.process ≡ Some k → MayFailBy s.store k x
@@ -360,18 +342,17 @@ module _ (s : State) (c : ℕ) (o : Outcome) (m : IsMachine s) (there : c < leng
     ill = λ h. (write_follows (next_command s k) refl its (fails_by aim.Evicting w x) h (says.counted h)
         (eviction_failed_says s c o f m.keeps h says)).0;
   }
-  finish_follows (aim.Deactivating u) w x its [] e says = record {
-    may = may_deactivate s u m.keeps working.whole (aim_of (aim.Deactivating u) w x)
-        (ap frames_of_owner x.owner.mine ∙ e)
-        (segs_are_gone s (cut_of_owner s.owner) m.keeps.book
-        (subst (λ (gs : List ℕ). GoesOn (seen s) gs (cut_of_owner s.owner)) (ap frames_of_owner x.owner.mine ∙ e)
-        (wait_goes s c o m.keeps there (aim.Deactivating u) w x
-        (λ gs ds. wait_shape s c o m.keeps there (aim.Deactivating u) w x)))) leaf.active
-        (λ v active h. leaf.inferiors v active
-        (ap (λ (ns : List Node). superior_in (node_in ns v)) (sym (ap (λ (t : Store). t.nodes)
-        (gone_is s (cut_of_owner s.owner)).flat ∙ m.keeps.faithful.tree.nodes)) ∙ h));
-    says = deactivated_says s c o u m.keeps says;
-  }
+  finish_follows (aim.Deactivating u) w x its [] e says = assumption (
+    may_deactivate s u m.keeps working.whole
+        (aim_of (aim.Deactivating u) w x) (ap frames_of_owner x.owner.mine ∙ e) (segs_are_gone s (cut_of_owner s.owner)
+        m.keeps.book (subst (λ (gs : List ℕ). GoesOn (seen s) gs (cut_of_owner s.owner))
+        (ap frames_of_owner x.owner.mine ∙ e) (wait_goes s c o m.keeps there (aim.Deactivating u) w x
+        (λ gs ds. wait_shape s c o m.keeps there (aim.Deactivating u) w x))))
+        leaf.active (λ v active h. leaf.inferiors v active
+        (ap (λ (ns : List Node). superior_in (node_in ns v))
+        (sym (ap (λ (t : Store). t.nodes) (gone_is s (cut_of_owner s.owner)).flat ∙ m.keeps.faithful.tree.nodes)) ∙ h)),
+    deactivated_says s c o u m.keeps says,
+  )
     where
       leaf : IsLeaf s.store u
       leaf = working.leaf u (aim_of (aim.Deactivating u) w x)

@@ -58,38 +58,19 @@ few_taken s k cmd fs pairs keeps finds = let a = ap (λ (x : List ℕ). length x
 module _ (s : State) (c : ℕ) (o : Outcome) (m : IsMachine s) (there : c < length s.processors) (reading : IsReading s)
   where
     pub may_schedule : (a : act.Action) → CanDo s c o a → Knows s c a → MaySchedule s c o a
-    may_schedule act.IsStopped can knows = tt
-    may_schedule act.HasEnded can knows = tt
-    may_schedule (act.Waits why) can knows = tt
-    may_schedule act.Online can knows = tt
-    may_schedule (act.Clear w) can knows = tt
     may_schedule (act.EndTransfer t) can knows =
         λ e. reads_answering s c m there (reads_for s c t m.keeps reading can.mine)
     may_schedule (act.Load n) can knows = can
     may_schedule act.Leave can knows = (can.process, can.its)
-    may_schedule (act.FillSeg n) can knows = tt
-    may_schedule (act.FillPage f r) can knows = tt
     may_schedule (act.Through f r) can knows = answering s c knows.one
     may_schedule (act.Plain r) can knows = answering s c knows.one
-    may_schedule act.TakeSupervisor can knows = tt
     may_schedule (act.Answer r) can knows = answering s c knows
-    may_schedule act.GiveUp can knows = tt
-    may_schedule (act.Activate u place) can knows = tt
-    may_schedule (act.Connect n u) can knows = tt
     may_schedule (act.Create f u p r) can knows = answering s c knows
-    may_schedule (act.Start f u p) can knows = tt
-    may_schedule (act.Evict f) can knows = tt
-    may_schedule (act.Empty u) can knows = tt
-    may_schedule (act.EmptyVictim pool chain u) can knows = tt
-    may_schedule (act.TakeAway fs pairs w) can knows = tt
-    may_schedule (act.BeginMove u volume) can knows = tt
     may_schedule (act.CopyPage x p) can knows = λ e. answering s c knows.one
-    may_schedule (act.CommitMove x) can knows = tt
-    may_schedule (act.Signal w) can knows = tt
     may_schedule (act.FinishEviction f) can knows = λ e. answering s c knows
     may_schedule (act.FinishPage f) can knows = λ e. answering s c knows.1
-    may_schedule (act.Deactivate u) can knows = tt
     may_schedule act.Commit can knows = (process_at s c, knows.speaks.its, knows.speaks.known)
+    may_schedule _ can knows = tt
 
     pub may_work : (a : act.Action) → CanDo s c o a → Knows s c a → MayWork s c o a
     may_work act.IsStopped can knows = tt
@@ -130,12 +111,9 @@ module _ (s : State) (c : ℕ) (o : Outcome) (m : IsMachine s) (there : c < leng
     )
     may_work (act.BeginMove u volume) can knows = knows
     may_work (act.CopyPage x p) can knows = knows.moving
-    may_work (act.CommitMove x) can knows = tt
     may_work (act.Signal w) can knows = can.owner
-    may_work (act.FinishEviction f) can knows = tt
     may_work (act.FinishPage f) can knows = knows.0
-    may_work (act.Deactivate u) can knows = tt
-    may_work act.Commit can knows = tt
+    may_work _ can knows = tt
 
     come_end : (t : Transfer) → (o.failed ≡ true → IsAnswering s c) → AllCome (after s c (act.EndTransfer t) o)
     unfolding after
@@ -195,34 +173,16 @@ module _ (s : State) (c : ℕ) (o : Outcome) (m : IsMachine s) (there : c < leng
 
     -- what it reads it was asked for
     pub may_read : (a : act.Action) → CanDo s c o a → Knows s c a → IsPast s c a → MayRead s c o a
-    may_read act.IsStopped can knows past = tt
-    may_read act.HasEnded can knows past = tt
-    may_read (act.Waits why) can knows past = tt
-    may_read act.Online can knows past = tt
-    may_read (act.Clear w) can knows past = tt
     may_read (act.EndTransfer t) can knows past = can.mine
     may_read (act.Load n) can knows past = past
     may_read act.Leave can knows past = past
-    may_read (act.FillSeg n) can knows past = tt
-    may_read (act.FillPage f r) can knows past = tt
     may_read (act.Through f r) can knows past = (past, knows.one.speaks.its)
     may_read (act.Plain r) can knows past = (past, knows.one.speaks.its)
-    may_read act.TakeSupervisor can knows past = tt
     may_read (act.Answer r) can knows past = (past, knows.speaks.its)
-    may_read act.GiveUp can knows past = tt
-    may_read (act.Activate u place) can knows past = tt
-    may_read (act.Connect n u) can knows past = tt
     may_read (act.Create f u p r) can knows past = (past, knows.speaks.its)
     may_read (act.Start f u p) can knows past = (knows.1.its, (knows.0, knows.1.next, knows.2))
-    may_read (act.Evict f) can knows past = tt
-    may_read (act.Empty u) can knows past = tt
-    may_read (act.EmptyVictim pool chain u) can knows past = tt
-    may_read (act.TakeAway fs pairs w) can knows past = tt
-    may_read (act.BeginMove u volume) can knows past = tt
     may_read (act.CopyPage x p) can knows past = (past, knows.one.speaks.its)
-    may_read (act.CommitMove x) can knows past = tt
-    may_read (act.Signal w) can knows past = tt
     may_read (act.FinishEviction f) can knows past = (past, knows.speaks.its)
     may_read (act.FinishPage f) can knows past = (past, knows.1.speaks.its)
-    may_read (act.Deactivate u) can knows past = tt
     may_read act.Commit can knows past = (past, knows.speaks.its)
+    may_read _ can knows past = tt

@@ -9,7 +9,6 @@ use Rattle.assoc_mem.specs.declared.What.TheVariants as what
 use Rattle.script.specs.declared.commands.Command.{Command}
 use Rattle.script.specs.declared.commands.Command.TheVariants as command
 use Rattle.script.specs.declared.commands.Reference.{Reference}
-use Rattle.book.specs.declared.entries.Entry.TheVariants as entry
 use Rattle.book.specs.declared.replies.Reply.{Reply}
 use Rattle.book.specs.declared.replies.Reply.TheVariants as reply
 use Rattle.page_control.specs.declared.Left.TheVariants as left
@@ -42,7 +41,7 @@ use Rattle.machine_model.specs.Refusal.{reply_of}
 use Rattle.machine_model.specs.Seen.{shown}
 use Rattle.machine_model.specs.State.{Owner, State}
 use Rattle.machine_model.specs.Steps.{activated_at, left_at, connected_to, fault_told, frame_lost, held_page, held_seg}
-use Rattle.machine_model.specs.Steps.{looking, old_word, page_created, page_made, pages_after, seg_filled, started}
+use Rattle.machine_model.specs.Steps.{looking, old_word, page_created, page_made, pages_after, started}
 use Rattle.machine_model.specs.Steps.{told, transfer_failed, transferred, went_through, with_faults, with_owner}
 use Rattle.machine_model.specs.Steps.{with_pages, with_store}
 use Rattle.machine_model.proofs.ActiveKept.{IsOver, activate_kept, connect_kept, created_kept, emptied_kept, looks_idle}
@@ -283,9 +282,6 @@ CanCommit s c k (Some (command.Delete path)) = CanDelete s c k path ⊎ CanDelet
 CanCommit s c k (Some cmd) = CanCommitCommand s c k cmd
 
 abbrev pub CanDo : State → ℕ → Outcome → act.Action → Type 0
-CanDo s c o act.IsStopped = Unit {0}
-CanDo s c o act.HasEnded = Unit {0}
-CanDo s c o (act.Waits why) = Unit {0}
 CanDo s c o act.Online = (processor_at s.processors c).cpu.online ≡ false
 CanDo s c o (act.Clear w) = (processor_at s.processors c).cpu.due ≡ Some w
 CanDo s c o (act.EndTransfer t) = CanEndTransfer s c t o
@@ -315,6 +311,7 @@ CanDo s c o (act.FinishEviction f) = CanFinishEviction s c f o
 CanDo s c o (act.FinishPage f) = CanFinishPage s c f o
 CanDo s c o (act.Deactivate u) = CanEmptied s c u
 CanDo s c o act.Commit = CanCommit s c (process_at s c) (next_command s (process_at s c))
+CanDo s c o _ = Unit {0}
 
 -- ---- each action
 
@@ -365,9 +362,8 @@ hand_kept s pool chain k says = kept_with (with_store s (with_hand_moved s.store
     k.few_faults k.sizes.processors k.sizes.processes k.at_work
 
 left_state : (s : State) (c : ℕ) → Keeps s → c < length s.processors → CanLeave s c → Keeps (left_at s c)
-left_state s c k there can = subst (λ (ready : List ℕ). Keeps (record (left_at s c) { ready = ready }))
-    (sym (ready_left s c can.process k.book can.its))
-    (leave_kept s c (s.spare - 1) k there can.other can.may)
+left_state s c k there can = rw (ready_left s c can.process k.book can.its) (leave_kept s c (s.spare - 1) k there
+    can.other can.may)
 
 abbrev committed_for : State → ℕ → ℕ → Option Command → State
 committed_for s c k None = s
@@ -392,9 +388,6 @@ works_mine s c k m = subst (λ (d : ℕ). IsAtWork (processor_at s.processors d)
 pub after_keeps : (s : State) (c : ℕ) (o : Outcome) (a : act.Action) → Keeps s → c < length s.processors
     → CanDo s c o a → Keeps (after s c a o)
 unfolding after
-after_keeps s c o act.IsStopped k there can = k
-after_keeps s c o act.HasEnded k there can = k
-after_keeps s c o (act.Waits why) k there can = k
 after_keeps s c o act.Online k there can = online_kept s c (s.spare - 1) k there (online_other s c k can) can
 after_keeps s c o (act.Clear w) k there can = clear_kept s c (s.spare - 1) k there (due_other s c w k can) w can
 after_keeps s c o (act.EndTransfer t) k there can =
@@ -404,17 +397,15 @@ after_keeps s c o (act.EndTransfer t) k there can =
 after_keeps s c o (act.Load n) k there can =
     load_kept s c (s.spare - 1) k there (empty_other s c k can.1) n can.0 can.1 can.2
 after_keeps s c o act.Leave k there can = left_state s c k there can
-after_keeps s c o (act.FillSeg n) k there can =
-    subst (λ (m : ℕ). Keeps (record (seg_filled s c n) { entries = s.entries ++ entry.FillSeg c m ∷ [] })) can.number
-    (fill_seg_kept s c (s.spare - 1) k there can.other can.process (to_hold s c n) can.can)
+after_keeps s c o (act.FillSeg n) k there can = rw can.number at (fill_seg_kept s c (s.spare - 1) k there can.other
+    can.process (to_hold s c n) can.can)
 after_keeps s c o (act.FillPage f r) k there can =
     fill_page_kept s c (s.spare - 1) k there can.1 (held_page (cpu_at s.processors c) f r) can.0
 after_keeps s c o (act.Through f r) k there can = through_kept s c f r k can.tell can.says
 after_keeps s c o (act.Plain r) k there can = tell_kept s c (process_at s c) None r k can.tell can.says
 after_keeps s c o act.TakeSupervisor k there can =
     owner_kept s (Some (looking c)) k (subst IsIdle (sym can.0) nobody) (looks_idle c) (ap is_pending can.0)
-    (λ q h. subst (λ (d : ℕ). IsAtWork (processor_at s.processors d))
-    (ap (λ (x : Owner). x.cpu) (let is : looking c ≡ q = cc in is)) can.1)
+    (λ q h. (rw (ap (λ (x : Owner). x.cpu) (let is : looking c ≡ q = cc in is)) at can.1))
 after_keeps s c o (act.Answer r) k there can =
     owner_kept (told s c None r) None (tell_kept s c
     (process_at s c) None r k can.tell can.says) can.idle nobody can.still
@@ -465,3 +456,4 @@ after_keeps s c o (act.FinishPage f) k there can =
 after_keeps s c o (act.Deactivate u) k there can =
     emptied_kept s c u can.owner.owner k can.owner.mine can.owner.same can.over can.may can.says
 after_keeps s c o act.Commit k there can = commit_done s c (process_at s c) (next_command s (process_at s c)) k can
+after_keeps s c o _ k there can = k

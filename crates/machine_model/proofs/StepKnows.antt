@@ -161,11 +161,10 @@ module _ (s : State) (c : ℕ) (o : Outcome) (m : IsMachine s) (there : c < leng
     take_knows (Some q) = tt
 
     move_knows : RunsAlone s c → (r : Reference) (x : Move) → Knows s c (by_move s.owner r x)
-    move_knows alone r (move.FillSeg) = tt
-    move_knows alone r (move.FillPage f) = tt
     move_knows alone r (move.Through f) = alone
     move_knows alone r (move.Plain answer) = alone
     move_knows alone r (move.Fault) = take_knows s.owner
+    move_knows alone r _ = tt
 
     come_knows : IsNoOwner s c → p.cpu.process ≡ Some k → (x : Option Command) → next_command s k ≡ x
         → Knows s c (come_to s p.cpu k x)
@@ -190,8 +189,7 @@ module _ (s : State) (c : ℕ) (o : Outcome) (m : IsMachine s) (there : c < leng
         by (n ∷ ns) = tt
     run_knows other (Some n) e = cond_both (has_had_its_turn p && not (is_empty s.ready)) act.Leave
         (come_to s p.cpu n (next_command s n)) (Knows s c) (λ h. tt)
-        (λ h. subst (λ (j : ℕ). Knows s c (come_to s p.cpu j (next_command s j))) (ap or_zero e)
-        (come_knows other (some_again p.cpu.process n e) (next_command s k) refl))
+        (λ h. (rw (ap or_zero e) at (come_knows other (some_again p.cpu.process n e) (next_command s k) refl)))
 
     -- ---- the owner looks
 
@@ -265,21 +263,17 @@ module _ (s : State) (c : ℕ) (o : Outcome) (m : IsMachine s) (there : c < leng
     finish_knows : (q : IsMine s c) → p.cpu.process ≡ Some k → (a : Aim) (w : What) → q.owner.phase ≡ phase.Waiting a w
         → (fs : List ℕ) → Knows s c (finish_of a fs)
     finish_knows q its aim.Evicting w e [] = tt
-    finish_knows q its aim.Evicting w e (f ∷ fs) = fails_knows q its
-        (subst (λ (y : Phase). FailsIn y s.store (process_at s q.owner.cpu)
-        (next_command s (process_at s q.owner.cpu))) e (working.fails q.owner q.mine))
+    finish_knows q its aim.Evicting w e (f ∷ fs) = fails_knows q its (rw e at (working.fails q.owner q.mine))
     finish_knows q its (aim.Deactivating u) w e [] = tt
     finish_knows q its (aim.Deactivating u) w e (f ∷ fs) = (
       record { owner = q; uid = u; what = w; waits = e },
       fails_knows q its
-          (subst (λ (y : Phase). FailsIn y s.store (process_at s q.owner.cpu)
-          (next_command s (process_at s q.owner.cpu))) e (working.fails q.owner q.mine)),
+          (rw e at (working.fails q.owner q.mine)),
     )
     finish_knows q its aim.Committing w e fs =
         let one = its_command its in
         let some : TakesSome (Some one.0) = subst TakesSome one.1.next
-        (subst (λ (d : ℕ). TakesSome (next_command s (process_at s d))) q.same
-        (subst (λ (y : Phase). FailsIn y s.store (process_at s q.owner.cpu)
+        (rw q.same at (subst (λ (y : Phase). FailsIn y s.store (process_at s q.owner.cpu)
         (next_command s (process_at s q.owner.cpu))) e (working.fails q.owner q.mine))) in
         record {
           owner = q;
@@ -287,8 +281,7 @@ module _ (s : State) (c : ℕ) (o : Outcome) (m : IsMachine s) (there : c < leng
           speaks = one.1;
           tree = takes_tree one.0 some;
           taken = subst (IsTakenBy s k) one.1.next
-              (subst (λ (d : ℕ). IsTakenBy s (process_at s d) (next_command s (process_at s d))) q.same
-              (subst (λ (y : Phase). TakenIn y s (process_at s q.owner.cpu)
+              (rw q.same at (subst (λ (y : Phase). TakenIn y s (process_at s q.owner.cpu)
               (next_command s (process_at s q.owner.cpu))) e (working.taken q.owner q.mine)));
           out = λ path pages is. absurd (subst TakesSome (ap (λ (x : Command). Some x) is) some);
         }
@@ -310,8 +303,7 @@ module _ (s : State) (c : ℕ) (o : Outcome) (m : IsMachine s) (there : c < leng
         moving = record { owner = q; moves = e }
 
         one : AnswersOne s c
-        one = fails_knows q its (subst (λ (y : Phase). FailsIn y s.store (process_at s q.owner.cpu)
-            (next_command s (process_at s q.owner.cpu))) e (working.fails q.owner q.mine))
+        one = fails_knows q its (rw e at (working.fails q.owner q.mine))
 
         by : (y : Option ℕ) → next_out (table_of s.store.ast x.uid) x.next ≡ y → Knows s c (copy_or_commit x y)
         by (Some n) h =

@@ -1,7 +1,7 @@
 -- What each step brings while the loop waits for it: a step of the owner, of a processor that is to clear, of one that
 -- reads a page in, and of one that has a process while nobody owns the supervisor.
 use Rattle.std.proofs.Common.{◌≡◌, ◌≢◌, ◌<◌, ℕ, zero, suc, Bool, true, false, cond, eqb, List, [], ◌∷◌, length, Option}
-use Rattle.std.proofs.Common.{is_some, refl, sym, ap, subst, ◌∙◌, inl, inr, le_refl, le_of_eq, arith}
+use Rattle.std.proofs.Common.{is_some, refl, sym, ap, ◌∙◌, inl, inr, le_refl, le_of_eq, arith}
 use Rattle.std.proofs.lemmas.Bool.Decides.{eqb_tells}
 use Rattle.std.proofs.lemmas.List.{get_or-set_other}
 use Rattle.processor.specs.declared.Transfer.{Transfer}
@@ -118,12 +118,9 @@ cleared_falls s c d x k awaits cleared =
     let rank_t = ranked (with_runner s d x) c stage awaits.waiting in
     let less : rank_of (parts_of (with_runner s d x) (runner_at (with_runner s d x).runners c) stage)
     < rank_of (parts_of s (runner_at s.runners c) stage) =
-    subst (λ (y : Runner). rank_of (parts_of (with_runner s d x) y stage) < rank_of
-    (parts_of s (runner_at s.runners c) stage))
-    (sym same)
-    (falls_due (parts_of s (runner_at s.runners c) stage) (parts_of (with_runner s d x) (runner_at s.runners c) stage)
-    (omega (arith, read, read_same)) (le_refl _) (le_refl _) (le_refl _) (le_refl _) (le_refl _) (le_refl _)
-    (omega (arith, count, was, now))) in (
+    (rw same (falls_due (parts_of s (runner_at s.runners c) stage) (parts_of (with_runner s d x) (runner_at s.runners c)
+    stage) (omega (arith, read, read_same)) (le_refl _) (le_refl _) (le_refl _) (le_refl _) (le_refl _) (le_refl _)
+    (omega (arith, count, was, now)))) in (
       omega (arith, rank_s, rank_t, less),
       record {
         stage = stage;

@@ -157,15 +157,14 @@ module _ (s : State) (k : ℕ) (keeps : Keeps s) (idle : IsIdle s.owner) where
   pub take_asks : (c : ℕ) (o : Outcome) (cmd : Command) (w : What) (fs : List ℕ) (pairs : List (ℕ × ℕ))
       → FindsTaken s k cmd fs pairs → w ≡ what_taken (uid_of_command s.store k cmd) cmd
       → Says s c o (act.TakeAway fs pairs w) → AsksTake s c w fs pairs
-  take_asks c o cmd w fs pairs finds named says = record {
-    can = can;
-    says = take_away_says s c aim.Committing w fs pairs keeps can.pairs_are o refl says;
-  }
+  take_asks c o cmd w fs pairs finds named says = assumption (
+    can,
+    take_away_says s c aim.Committing w fs pairs keeps can.pairs_are o refl says,
+  )
     where
       can : CanTook s aim.Committing w fs pairs
-      can = subst (λ (x : What). CanTook s aim.Committing x fs pairs) (sym named)
-          (subst (λ (x : List ℕ). CanTook s aim.Committing (what_taken (uid_of_command s.store k cmd) cmd) x pairs)
-          (sym finds.frames)
+      can = rw named (subst (λ (x : List ℕ). CanTook s aim.Committing (what_taken (uid_of_command s.store k cmd) cmd) x
+          pairs) (sym finds.frames)
           (subst (λ (x : List (ℕ × ℕ)). CanTook s aim.Committing (what_taken (uid_of_command s.store k cmd) cmd)
-          (frames_taken s.store (uid_of_command s.store k cmd) (first_taken cmd)) x)
-          (sym finds.descriptors) (command_takes cmd)))
+          (frames_taken s.store (uid_of_command s.store k cmd) (first_taken cmd)) x) (sym finds.descriptors)
+          (command_takes cmd)))

@@ -2,7 +2,7 @@
 -- of its trailers, each once.
 use Rattle.std.proofs.Common.{◌≡◌, ◌≤◌, ℕ, zero, suc, ◌+◌, Bool, true, false, ◌||◌, cond, eqb, count_by}
 use Rattle.std.proofs.Common.{List, [], ◌∷◌, drop, get_or, Option, Some, None, ◌⊎◌, inl, inr, refl, sym}
-use Rattle.std.proofs.Common.{ap, subst, ◌∙◌, arith}
+use Rattle.std.proofs.Common.{ap, ◌∙◌, arith}
 use Rattle.std.proofs.lemmas.Bool.Decides.{eqb_tells}
 use Rattle.std.proofs.lemmas.List.Folds.{list_any-append}
 use Rattle.std.proofs.lemmas.List.Sums.{sum_by-cons}
@@ -16,7 +16,7 @@ use Rattle.active_segs.specs.Active.{uid_at}
 use Rattle.trailers.specs.Trailer.{leads_to as is_trailer, trailers_of}
 use Rattle.seg_control.specs.Control.{leads, leads_at, place_of, table_of}
 use Rattle.seg_control.specs.Kept.{times}
-use Rattle.custody_model.specs.Custody.{has, is_uid, names_frame, uid_of_page}
+use Rattle.custody_model.specs.Custody.{has, names_frame}
 use Rattle.machine_model.specs.declared.Aim.{Aim}
 use Rattle.machine_model.specs.Chains.{page_at, page_or_zero}
 use Rattle.machine_model.specs.Custodial.{AreDistinct, IsAimed, names}
@@ -92,9 +92,7 @@ pub pages_taken : (s : State) (a : Aim) (w : What) (u low : ℕ) → Keeps s →
     → ((gs : List ℕ) (cs : List CutDescriptor) → IsAimed a w gs cs)
     → CanTakeAll (seen s) a w (frames_from s.store.ast u low)
 pages_taken s a w u low k idle named aimed = record {
-  here = λ f h. (let at = word_at f h in subst
-      (λ (x : Option (ℕ × ℕ)). (seen s).words (page_or_zero x).0 (page_or_zero x).1 ≡ ptw.Here f)
-      (sym (bound_at f h)) at.1);
+  here = λ f h. (let at = word_at f h in rw (bound_at f h) at.1);
   once = frames_once (drop low (table_of s.store.ast u)) (λ q r f a b. once q r f a b);
   named = λ f h. frame_named w named f h;
   others = idle_names (shown (seen s)) s.owner w k.book.going_owned idle.frames idle.cut;
@@ -116,15 +114,11 @@ pages_taken s a w u low k idle named aimed = record {
         let two = k.book.tied.back f u (low + r) (ap names (sym (dropped_word (table_of s.store.ast u) low r) ∙ b)) in
         let same = (page_is u (low + q) u (low + r) (sym one ∙ two)).1 in omega (arith, same)
 
-    own : (n : ℕ) → eqb n n ≡ true
-    own n = elim (eqb_tells n n) [ inl e ↦ e.0 | inr m ↦ absurd (m.1 refl) ]
-
     frame_named : (x : What) → names_uid x u ≡ true → (f : ℕ) → has (frames_from s.store.ast u low) f ≡ true
         → names_frame (shown (seen s)) x f ≡ true
     frame_named what.All e f h = refl
     frame_named (what.Page g) e f h = absurd (let no : false ≡ true = e in cc)
-    frame_named (what.Seg v) e f h = ap (λ (o : Option (ℕ × ℕ)). is_uid v (uid_of_page o))
-        (bound_shown (seen s) f ∙ bound_at f h) ∙ e
+    frame_named (what.Seg v) e f h = cc (bound_shown (seen s) f, bound_at f h)
 
 -- a frame that is listed has a page of the segment
 pub listed_bound : (s : State) (u low : ℕ) → Keeps s → (f : ℕ) → has (frames_from s.store.ast u low) f ≡ true

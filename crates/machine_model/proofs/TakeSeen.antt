@@ -18,7 +18,7 @@ use Rattle.seg_control.specs.Effects.{unlinked, worded}
 use Rattle.custody_model.specs.Custody.{has}
 use Rattle.custody_model.specs.Next.{at_put_two}
 use Rattle.machine_model.specs.declared.Aim.{Aim}
-use Rattle.machine_model.specs.Chains.{page_at, page_or_zero, takes}
+use Rattle.machine_model.specs.Chains.{page_at, takes}
 use Rattle.machine_model.specs.Changes.{cut, taken, with_descriptor_cut, with_frame_taken}
 use Rattle.machine_model.specs.Custodial.{AreDistinct}
 use Rattle.machine_model.specs.Holding.{led_to, seen}
@@ -78,10 +78,6 @@ pub tables_kept : (s : State) (f : ℕ) (o : Option (ℕ × ℕ)) → HasTables 
     → length (leaving_if s.store f o).ast.tables ≡ length (leaving_if s.store f o).ast.entries
 tables_kept s f None tables = tables
 tables_kept s f (Some page) tables = length-set s.store.ast.tables (place_of s.store.ast.entries page.0) _ ∙ tables
-
-page_is_bound : (x : Option (ℕ × ℕ)) (page : ℕ × ℕ) → page_or_zero x ≡ page → (x ≡ None → ⊥) → x ≡ Some page
-page_is_bound None page e n = absurd (n refl)
-page_is_bound (Some y) page e n = ap (λ (z : ℕ × ℕ). Some z) e
 
 pub take_all_seen : (s : State) (c : ℕ) (a : Aim) (w : What) (fs : List ℕ) → HasTables s
     → ((f : ℕ) → has fs f ≡ true → (seen s).words (page_at (seen s) f).0 (page_at (seen s) f).1 ≡ ptw.Here f)

@@ -46,9 +46,7 @@ use Rattle.laws.proofs.Numbers.{eqb_self}
 -- the frame of a page that is here is listed
 pub frame_listed : (ws : List Ptw) (q f : ℕ) → get_or ws q ptw.Null ≡ ptw.Here f → has (frames_in ws) f ≡ true
 frame_listed [] q f h = absurd (let no : ptw.Null ≡ ptw.Here f = h in cc)
-frame_listed (w ∷ ws) zero f h = list_any-append (λ y. eqb y f) (here_in w) (frames_in ws)
-    ∙ ap (λ (b : Bool). b || has (frames_in ws) f)
-    (ap (λ (x : Ptw). has (here_in x) f) h ∙ ap (λ (b : Bool). b || false) (eqb_self f))
+frame_listed (w ∷ ws) zero f h = cc (list_any-append (λ y. eqb y f) (here_in w) (frames_in ws), eqb_self f)
 frame_listed (w ∷ ws) (suc q) f h = list_any-append (λ y. eqb y f) (here_in w) (frames_in ws)
     ∙ (ap (λ (b : Bool). has (here_in w) f || b) (frame_listed ws q f h) ∙ or_true (has (here_in w) f))
 
@@ -88,8 +86,7 @@ trailer_listed s u k n keeps active linked = ap (λ (xs : List (ℕ × ℕ)). ha
         (keeps.store.kept.tree.once aste place u h (active_place s.store.ast u active).1)
 
     once : times (leads_at s.store.links.descriptors k n) place ≡ 1
-    once = ap (λ (o : Option ℕ). times o place) (by (descriptor_of s.store.links k n) refl linked)
-        ∙ ap tally (eqb_self place)
+    once = cc (by (descriptor_of s.store.links k n) refl linked, eqb_self place)
 
 -- ---- what the owner has taken
 
@@ -107,8 +104,7 @@ take_has s c a w (f ∷ fs) g h = take_has (take_one s c a w f) c a w fs g (by h
         → (has (frames_of_owner (take_one s c a w f).owner) g ≡ true) ⊎ (has fs g ≡ true)
     by (inl e) = inl (parts ∙ ap (λ (b : Bool). b || (eqb f g || false)) e)
     by (inr e) = elim (or_cases (eqb f g) (has fs g) e) [
-      | inl d ↦ inl (parts ∙ (ap (λ (b : Bool). has (frames_of_owner s.owner) g || (b || false)) d
-          ∙ or_true (has (frames_of_owner s.owner) g)))
+      | inl d ↦ inl (cc (parts, d, or_true (has (frames_of_owner s.owner) g)))
       | inr d ↦ inr d
     ]
 
@@ -222,14 +218,13 @@ took_whole s c u k idle active unread = record { pages = pages; descriptors = de
 
     frame_here : (f p : ℕ) (y : Ptw) → (seen s).bound f ≡ Some (u, p) → (seen s).words u p ≡ y → names y ≡ Some f
         → has fs f ≡ true
-    frame_here f p ptw.Null b e h = absurd (none_some h)
-    frame_here f p (ptw.Out r) b e h = absurd (none_some h)
     frame_here f p (ptw.Here g) b e h = frame_listed (table_of s.store.ast u) p f
         (e ∙ ap (λ (x : ℕ). ptw.Here x) (some_same g f h))
     frame_here f p (ptw.Leaving g) b e h = absurd (let no : true ≡ false =
         sym (ap (λ (x : Option (ℕ × ℕ)). is_going_frame (frame_use (seen s).words x ((seen s).reads f))) b
         ∙ ap (λ (x : Ptw). is_going_frame (bound_use (u, p) x)) e)
         ∙ (k.book.going_owned.frames f ∙ ap (λ (gs : List ℕ). has gs f) idle.frames) in cc)
+    frame_here f p _ b e h = absurd (none_some h)
 
     pages : (f : ℕ) → uid_of_page (page_of ((shown (seen now)).frame f)) ≡ Some u
         → is_going_frame ((shown (seen now)).frame f) ≡ true
@@ -247,8 +242,7 @@ took_whole s c u k idle active unread = record { pages = pages; descriptors = de
         by (Some page) y b r e = frame_here f page.1 ((seen s).words u page.1) is refl (k.book.tied.named f u page.1 is)
           where
             is : (seen s).bound f ≡ Some (u, page.1)
-            is = b ∙ ap (λ (v : ℕ). Some (v, page.1))
-                (some_same page.0 u (sym (ap uid_of_page (page_used page ((seen now).words page.0 page.1))) ∙ e))
+            is = rw (b, some_same page.0 u (sym (ap uid_of_page (page_used page ((seen now).words page.0 page.1))) ∙ e))
 
     descriptors : (j n : ℕ) → leads_to ((shown (seen now)).descriptor j n) ≡ Some u
         → is_going_descriptor ((shown (seen now)).descriptor j n) ≡ true
@@ -266,10 +260,9 @@ pub nothing_whole : (s : State) (c u : ℕ) → Keeps s → IsIdle s.owner → i
     → ((f p : ℕ) → (seen s).reads f ≢ Some (u, p)) → frames_from s.store.ast u 0 ≡ [] → trailers_in s.store u ≡ []
     → IsWhole (shown (seen s)) u
 nothing_whole s c u k idle active unread frames trailers =
-    subst (λ (xs : List (ℕ × ℕ)). IsWhole (shown (seen (took s c (aim.Deactivating u) (what.Seg u) [] xs))) u) trailers
-    (subst (λ (fs : List ℕ). IsWhole (shown (seen (took s c (aim.Deactivating u) (what.Seg u) fs
-    (trailers_in s.store u)))) u) frames
-    (took_whole s c u k idle active unread))
+    rw trailers at (subst
+    (λ (fs : List ℕ). IsWhole (shown (seen (took s c (aim.Deactivating u) (what.Seg u) fs (trailers_in s.store u))))
+    u) frames (took_whole s c u k idle active unread))
 
 -- ---- the step
 
@@ -312,12 +305,10 @@ begun_whole s c u k idle none active unread = by (frames_from s.store.ast u 0) (
     whole = record {
       whole = λ v h. elim goes [
         | inl e ↦ absurd (none_some (sym e ∙ h))
-        | inr e ↦ subst (λ (x : ℕ). IsWhole (shown (seen now)) x) (some_same u v (sym e ∙ h))
-            (took_whole s c u k idle active unread)
+        | inr e ↦ rw (← (some_same u v (sym e ∙ h))) (took_whole s c u k idle active unread)
       ];
     }
 
     by : (fs : List ℕ) (xs : List (ℕ × ℕ)) → TakenWhole (took s c a w fs xs) → TakenWhole (segment_taken s c u fs xs)
     by [] [] t = whole_idle (segment_taken s c u [] []) refl
-    by (f ∷ fs) xs t = t
-    by [] (x ∷ xs) t = t
+    by _ _ t = t

@@ -42,8 +42,7 @@ pub tries_of_run : (q : Progress) (run : Run) (c : Option Command) (x : Reply) �
     → progress_of s k ≡ q
     → is_try s k c x ≡ goes_on run c x
 tries_of_run q run None x is s k e = refl
-tries_of_run q run (Some c) x is s k e = ap (λ (y : Progress). tries_on y c x) e
-    ∙ tries_alike q (progress_of_run run) c x is.tries
+tries_of_run q run (Some c) x is s k e = cc (tries_alike q (progress_of_run run) c x is.tries)
 
 pub run_is : (q : Progress) (run : Run) (c : Command) (x : Reply) → IsRun q run
     → IsRun (gone_on q c x) (run_after run (Some c) x)

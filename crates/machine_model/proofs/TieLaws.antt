@@ -15,19 +15,10 @@ none_some h = cc
 pub not_there : (f : ℕ) → None ≡ Some f → ⊥
 not_there f h = cc
 
-abbrev first_or : Option (ℕ × ℕ) → ℕ
-first_or None = 0
-first_or (Some x) = x.0
-
-abbrev second_or : Option (ℕ × ℕ) → ℕ
-second_or None = 0
-second_or (Some x) = x.1
-
 pub out_none : (w : Ptw) → is_out w ≡ true → names w ≡ None
-out_none ptw.Null h = refl
-out_none (ptw.Out r) h = refl
 out_none (ptw.Here f) h = absurd (let no : false ≡ true = h in cc)
 out_none (ptw.Leaving f) h = absurd (let no : false ≡ true = h in cc)
+out_none _ h = refl
 
 out_names : (w : Ptw) (f : ℕ) → is_out w ≡ true → names w ≡ Some f → ⊥
 out_names w f h n = none_some (sym (out_none w h) ∙ n)

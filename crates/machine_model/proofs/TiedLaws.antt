@@ -92,9 +92,8 @@ tied_quiet xs c x frames lt online reading idle tied = record {
 -- ---- frames
 
 abbrev pub is_started : Frame → Bool
-is_started frame.Free = false
 is_started (frame.Started uid page) = true
-is_started (frame.Bound uid page used modified) = false
+is_started _ = false
 
 not_started : (x : Frame) (uid page : ℕ) → is_started x ≡ false → x ≢ frame.Started uid page
 not_started x uid page out h = let no : true ≡ false = sym (ap is_started h) ∙ out in cc

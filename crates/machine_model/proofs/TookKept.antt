@@ -20,7 +20,6 @@ use Rattle.machine_model.specs.Jobs.{cut_all, cut_one, note_of, take_all, take_o
 use Rattle.machine_model.specs.Keeps.{IsAtWork, Keeps, StoreSays, is_fault}
 use Rattle.machine_model.specs.Reads.{cut_of_owner, descriptor_of, frames_of_owner, or_zero, processor_at}
 use Rattle.machine_model.specs.Seen.{Seen, shown}
-use Rattle.machine_model.specs.declared.Processor.{Processor}
 use Rattle.machine_model.specs.declared.CutDescriptor.{CutDescriptor}
 use Rattle.machine_model.specs.State.{Owner, State}
 use Rattle.machine_model.proofs.ChainLaws.{CanTakeAll, HasTaken, names_linked, names_uid, takes_keep}
@@ -101,10 +100,9 @@ linked_before s c a w x u led k n v h = by_places (λ (o : Option ℕ). o ≡ So
 pub pairs_left : (s : State) (c : ℕ) (a : Aim) (w : What) (x : ℕ × ℕ) (xs : List (ℕ × ℕ))
     → ArePairs (seen s).linked w (x ∷ xs) → ArePairs (seen (cut_one s c a w x)).linked w xs
 pairs_left s c a w x xs are = let note = note_of_pair s x are.0.0 are.0.1 in
-    subst (λ (v : Seen). ArePairs v.linked w xs) (sym (cut_one_seen s c a w x are.0.0 are.0.1))
-    (subst (λ (l : ℕ → ℕ → Option ℕ). ArePairs l w xs)
-    (λ i. at_put_two (seen s).linked (sym note.0 i) (sym note.1 i) None)
-    (pairs_kept (seen s).linked w x.0 x.1 xs are.1 are.2))
+    rw (cut_one_seen s c a w x are.0.0 are.0.1) (subst (λ (l : ℕ → ℕ → Option ℕ). ArePairs l w xs)
+    (λ i. at_put_two (seen s).linked (sym note.0 i) (sym note.1 i) None) (pairs_kept (seen s).linked w x.0 x.1 xs
+    are.1 are.2))
 
 -- descriptors are cut one after the other
 pub cut_all_keeps : (s : State) (c : ℕ) (a : Aim) (w : What) (pairs : List (ℕ × ℕ)) → KeepsBook (seen s)
@@ -150,8 +148,7 @@ pub took_keeps : (s : State) (c : ℕ) (a : Aim) (w : What) (fs : List ℕ) (pai
     → HasTaken (seen (took s c a w fs pairs)) w
 took_keeps s c a w fs pairs tables k can = cut_all_keeps
     (take_all s c a w fs) c a w pairs first.book first.others first.still can.pages.aimed
-    (subst (λ (l : ℕ → ℕ → Option ℕ). ArePairs l w pairs)
-    (sym (ap (λ (v : Seen). v.linked) taken_is ∙ takes_linked (seen s) c a w fs)) can.pairs_are)
+    (rw (ap (λ (v : Seen). v.linked) taken_is ∙ takes_linked (seen s) c a w fs) can.pairs_are)
   where
     taken_is : seen (take_all s c a w fs) ≡ takes (seen s) c a w fs
     taken_is = take_all_seen s c a w fs tables can.pages.here can.bound can.pages.once
@@ -209,9 +206,8 @@ took_kept s c a w fs pairs k can own works says = kept_with (took s c a w fs pai
     (let count = rest.count in let faults = rest.faults in let few = k.few_faults in omega (arith, count, faults, few))
     (ap length rest.processors ∙ (k.sizes.processors ∙ ap (λ (p : Plan). p.processors) (sym rest.plan)))
     (ap length rest.runs ∙ (k.sizes.processes ∙ ap (λ (p : Plan). length p.processes) (sym rest.plan)))
-    (λ o h. subst (λ (ps : List Processor). IsAtWork (processor_at ps o.cpu)) (sym rest.processors)
-    (subst (λ (d : ℕ). IsAtWork (processor_at s.processors d))
-    (sym (cut_owns (take_all s c a w fs) c a w pairs (take_owns s c a w fs own) o h)) works))
+    (λ o h. (rw rest.processors (subst (λ (d : ℕ). IsAtWork (processor_at s.processors d))
+    (sym (cut_owns (take_all s c a w fs) c a w pairs (take_owns s c a w fs own) o h)) works)))
   where
     rest : IsRest s (took s c a w fs pairs)
     rest = rest_on (take_rest s c a w fs) (cut_rest (take_all s c a w fs) c a w pairs)

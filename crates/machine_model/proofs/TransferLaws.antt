@@ -1,5 +1,5 @@
 -- A page is being read into a frame, is in it, or the reading failed; a page is made in a free frame.
-use Rattle.std.proofs.Common.{◌≡◌, ◌≢◌, ◌<◌, ℕ, true, false, Option, Some, None, inl, inr, refl, sym, ap, subst, ◌∙◌}
+use Rattle.std.proofs.Common.{◌≡◌, ◌≢◌, ◌<◌, ℕ, true, false, Option, Some, None, inl, inr, refl, sym, ap, ◌∙◌}
 use Rattle.book.specs.declared.entries.Entry.TheVariants as entry
 use Rattle.page_table.specs.declared.Ptw.{Ptw}
 use Rattle.page_table.specs.declared.Ptw.TheVariants as ptw
@@ -13,7 +13,7 @@ use Rattle.custody_model.specs.Next.{at_put, at_put_two, custody_next}
 use Rattle.custody_model.proofs.FineLaws.{nobody_holds_page}
 use Rattle.machine_model.specs.Changes.{started, lost, here, brought, with_transfer}
 use Rattle.machine_model.specs.Custodial.{KeepsBook, HoldsRight, AreUnderWay, names, is_out, is_pending}
-use Rattle.machine_model.specs.Seen.{Seen, shown, seat_of, frame_use, bound_use, read_use}
+use Rattle.machine_model.specs.Seen.{Seen, shown, seat_of, frame_use, read_use}
 use Rattle.machine_model.specs.declared.Processor.{Processor}
 use Rattle.machine_model.proofs.BookNext.{book_next}
 use Rattle.machine_model.proofs.FrameLaws.{in_no_frame}
@@ -44,13 +44,7 @@ transfer_right bound descriptor processors c t right d =
 
 transfer_of : (processors : ℕ → Processor) (c : ℕ) (t : Option Transfer)
     → (at_put processors c (with_transfer (processors c) t) c).cpu.transfer ≡ t
-transfer_of processors c t = ap (λ (p : Processor). p.cpu.transfer)
-    (put_here processors c (with_transfer (processors c) t))
-
-transfer_else : (processors : ℕ → Processor) (c : ℕ) (t : Option Transfer) (d : ℕ) → d ≢ c
-    → (at_put processors c (with_transfer (processors c) t) d).cpu.transfer ≡ (processors d).cpu.transfer
-transfer_else processors c t d n = ap (λ (p : Processor). p.cpu.transfer)
-    (put_other processors c (with_transfer (processors c) t) d n)
+transfer_of processors c t = rw (put_here processors c (with_transfer (processors c) t))
 
 -- a processor begins to read into a frame into which none reads
 under_way_more : (reads : ℕ → Option (ℕ × ℕ)) (processors : ℕ → Processor) (c : ℕ) (t : Transfer)
@@ -62,9 +56,7 @@ under_way_more reads processors c t k idle unread = record {
   reading = λ d x. by_place (λ (p : Processor). p.cpu.transfer ≡ Some x
       → at_put reads t.frame (Some (t.uid, t.page)) x.frame ≡ Some (x.uid, x.page))
       processors c (with_transfer (processors c) (Some t)) d
-      (λ i h. (let same : t ≡ x = cc in subst
-      (λ (y : Transfer). at_put reads t.frame (Some (t.uid, t.page)) y.frame ≡ Some (y.uid, y.page)) same
-      (put_here reads t.frame (Some (t.uid, t.page)))))
+      (λ i h. (let same : t ≡ x = cc in rw (← same) (put_here reads t.frame (Some (t.uid, t.page)))))
       (λ n h. by_place (λ (o : Option (ℕ × ℕ)). o ≡ Some (x.uid, x.page)) reads t.frame (Some (t.uid, t.page)) x.frame
       (λ i. absurd (none_some (sym unread ∙ (ap reads (sym i) ∙ k.reading d x h)))) (λ m. k.reading d x h));
   reader = λ f u p. by_place (λ (o : Option (ℕ × ℕ)). o ≡ Some (u, p)
@@ -147,9 +139,7 @@ frames_here v f u p k nowhere = one_place (shown v).frame
     words = at_put_two v.words u p (ptw.Here f)
 
     here_is : frame_use words (at_put v.bound f (Some (u, p)) f) (at_put v.reads f None f) ≡ frame.Current u p
-    here_is = ap (λ (o : Option (ℕ × ℕ)). frame_use words o (at_put v.reads f None f))
-        (put_here v.bound f (Some (u, p)))
-        ∙ ap (bound_use (u, p)) (put_two_here v.words u p (ptw.Here f))
+    here_is = cc (put_here v.bound f (Some (u, p)), put_two_here v.words u p (ptw.Here f))
 
     other : (h : ℕ) → h ≢ f → frame_use words (at_put v.bound f (Some (u, p)) h) (at_put v.reads f None h)
         ≡ (shown v).frame h
@@ -159,21 +149,6 @@ frames_here v f u p k nowhere = one_place (shown v).frame
         ∙ other_use_here v.bound v.reads v.words k.tied f u p (ptw.Here f) nowhere h)
 
 -- ---- started
-
--- a frame that is free has no page, and none is being read into it
-free_parts : (v : Seen) (f : ℕ) → (shown v).frame f ≡ frame.Free → (v.bound f ≡ None) × (v.reads f ≡ None)
-free_parts v f h = by (v.bound f) (v.reads f) h
-  where
-    in_use : (page : ℕ × ℕ) (w : Ptw) → bound_use page w ≡ frame.Free → ⊥
-    in_use page ptw.Null e = cc
-    in_use page (ptw.Out r) e = cc
-    in_use page (ptw.Here g) e = cc
-    in_use page (ptw.Leaving g) e = cc
-
-    by : (x y : Option (ℕ × ℕ)) → frame_use v.words x y ≡ frame.Free → (x ≡ None) × (y ≡ None)
-    by None None e = (refl, refl)
-    by None (Some page) e = absurd (let no : frame.Started page.0 page.1 ≡ frame.Free = e in cc)
-    by (Some page) y e = absurd (in_use page (v.words page.0 page.1) e)
 
 -- A processor without a transfer is to read a page, which is on its record alone and read by none, into a free frame.
 pub record CanStart (v : Seen) (c : ℕ) (t : Transfer) : Type 0 where
@@ -192,12 +167,7 @@ pub start_keeps : (v : Seen) (c : ℕ) (t : Transfer) → KeepsBook v → CanSta
 unfolding IsLawful after_entry custody_next
 start_keeps v c t k can = book_next v (entry.Start t.frame t.uid t.page) (started v c t) refl refl k (record {
   lawful = tt;
-  allowed = record {
-    there = can.inside;
-    free = free;
-    nowhere = in_no_frame v t.uid t.page k (out_none (v.words t.uid t.page) can.out) can.alone;
-    active = can.active;
-  };
+  allowed = assumption (free, in_no_frame v t.uid t.page k (out_none (v.words t.uid t.page) can.out) can.alone);
   online = tt;
   next = λ i. record (shown v) {
     frame = λ g. one_place (shown v).frame (λ h. frame_use v.words (v.bound h) (reads h)) t.frame
@@ -221,8 +191,7 @@ start_keeps v c t k can = book_next v (entry.Start t.frame t.uid t.page) (starte
     free = free_is v t.frame can.unbound can.unread
 
     here : frame_use v.words (v.bound t.frame) (reads t.frame) ≡ frame.Started t.uid t.page
-    here = ap (λ (o : Option (ℕ × ℕ)). frame_use v.words o (reads t.frame)) can.unbound
-        ∙ ap read_use (put_here v.reads t.frame (Some (t.uid, t.page)))
+    here = cc (put_here v.reads t.frame (Some (t.uid, t.page)))
 
     other : (h : ℕ) → h ≢ t.frame → frame_use v.words (v.bound h) (reads h) ≡ (shown v).frame h
     other h n = ap (frame_use v.words (v.bound h)) (put_other v.reads t.frame (Some (t.uid, t.page)) h n)
@@ -310,13 +279,7 @@ pub here_keeps : (v : Seen) (f u p : ℕ) → KeepsBook v → CanMake v f u p �
 unfolding IsLawful after_entry custody_next
 here_keeps v f u p k can = book_next v (entry.Here f u p) (here v f u p) refl refl k (record {
   lawful = tt;
-  allowed = inr (record {
-    there = can.inside;
-    free = free;
-    nowhere = in_no_frame v u p k nowhere none;
-    active =
-        can.active;
-  });
+  allowed = inr (assumption (free, in_no_frame v u p k nowhere none));
   online = tt;
   next = λ i. record (shown v) { frame = λ g. frames_here v f u p k nowhere g i };
   pending = refl;

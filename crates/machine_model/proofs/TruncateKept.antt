@@ -85,17 +85,13 @@ module _ (v : Seen) (words : ℕ → ℕ → Ptw) (k : KeepsBook v) (quiet : Qui
           by (Some page) e = ap (bound_use page) (sym (bound_same f page.0 page.1 e))
 
   pub quiet_keeps : KeepsBook (record v { words = words })
-  quiet_keeps = record {
-    legal = k.legal;
-    clean = k.clean;
-    held = sym quiet_shown ∙ k.held;
-    stale_due = subst (λ (c : Custody). Fine c (is_pending v.owner)) quiet_shown k.stale_due;
-    going_owned = subst (λ (c : Custody). IsOwned c v.owner) quiet_shown k.going_owned;
-    tied = quiet_tied;
-    holding_right = k.holding_right;
-    under_way = k.under_way;
-    runs = k.runs;
-  }
+  quiet_keeps = assumption (
+    sym quiet_shown ∙ k.held,
+    subst (λ (c : Custody). Fine c (is_pending v.owner)) quiet_shown
+        k.stale_due,
+    subst (λ (c : Custody). IsOwned c v.owner) quiet_shown k.going_owned,
+    quiet_tied,
+  )
 
 -- ---- pages leave their frames, or are back
 

@@ -35,7 +35,7 @@ use Rattle.machine_model.specs.Holding.{seen}
 use Rattle.machine_model.specs.Jobs.{are_zeros, here_if, page_in, with_here}
 use Rattle.machine_model.specs.Keeps.{Keeps}
 use Rattle.machine_model.specs.Reads.{cut_of_owner, flat_of, frames_of_owner, is_active, process_at}
-use Rattle.machine_model.specs.Seen.{Seen, bound_use, read_use, shown}
+use Rattle.machine_model.specs.Seen.{Seen, shown}
 use Rattle.machine_model.specs.Seen.{frame_use as use_of}
 use Rattle.machine_model.specs.State.{State, Storage}
 use Rattle.machine_model.specs.Steps.{with_owner, with_pages}
@@ -75,8 +75,7 @@ range_has from (suc n) q low high = by (eqb_tells from q) (λ a b. range_has (fr
         → (from + 1 ≤ q → q < from + 1 + n → has (range_with_len (from + 1) n) q ≡ true)
         → (eqb from q || has (range_with_len (from + 1) n) q) ≡ true
     by (inl e) rest = ap (λ (b : Bool). b || has (range_with_len (from + 1) n) q) e.0
-    by (inr m) rest = ap (λ (b : Bool). b || has (range_with_len (from + 1) n) q) m.0
-        ∙ rest (let ne = m.1 in omega (arith, low, ne)) (omega (arith, high))
+    by (inr m) rest = cc (rest (let ne = m.1 in omega (arith, low, ne)) (omega (arith, high)))
 
 has_range : (from n q : ℕ) → has (range_with_len from n) q ≡ true → from ≤ q
 has_range from zero q h = absurd (not_both h refl)
@@ -101,15 +100,7 @@ record IsBegun (st now : Storage) (u p : ℕ) : Type 0 where
   has_places : HasPlaces now
 
 begun_same : (st : Storage) (u p : ℕ) → HasPlaces st → IsBegun st st u p
-begun_same st u p h = record {
-  words = λ v q n. refl;
-  bound = λ g n. refl;
-  reads = λ g i. refl;
-  leaving = λ g e. e;
-  places = refl;
-  links = refl;
-  has_places = h;
-}
+begun_same st u p h = assumption
 
 module _ (st : Storage) (u p at f : ℕ) (h : HasPlaces st) (leaving : word_in st u p ≡ ptw.Leaving f)
     (tie : bound_in st f ≡ Some (u, p)) where
@@ -298,11 +289,9 @@ left_bound v test (f ∷ fs) g = left_bound (leaf v f (test f)) test fs g ∙ by
     by : ((eqb f g ≡ true) × (f ≡ g)) ⊎ ((eqb f g ≡ false) × (f ≢ g))
         → cond (has fs g && not (test g)) None ((leaf v f (test f)).bound g)
         ≡ cond ((eqb f g || has fs g) && not (test g)) None (v.bound g)
-    by (inl e) = stays_or_free (test g) (has fs g) ((leaf v f (test f)).bound g)
-        (λ i. leaf_kept (test f) (ap test e.1 ∙ i)) (λ i. leaf_gone (test f) (ap test e.1 ∙ i) e.1)
-        ∙ ap (λ (b : Bool). cond ((b || has fs g) && not (test g)) None (v.bound g)) (sym e.0)
-    by (inr m) = ap (cond (has fs g && not (test g)) None) (leaf_bound v f (test f) g (λ e. m.1 (sym e)))
-        ∙ ap (λ (b : Bool). cond ((b || has fs g) && not (test g)) None (v.bound g)) (sym m.0)
+    by (inl e) = cc (stays_or_free (test g) (has fs g) ((leaf v f (test f)).bound g)
+        (λ i. leaf_kept (test f) (ap test e.1 ∙ i)) (λ i. leaf_gone (test f) (ap test e.1 ∙ i) e.1))
+    by (inr m) = cc (leaf_bound v f (test f) g (λ e. m.1 (sym e)))
 
 -- the word of a page that no frame of theirs has
 leaf_word : (v : Seen) (f : ℕ) (b : Bool) (w q : ℕ) → (w ≡ (page_at v f).0 → q ≡ (page_at v f).1 → ⊥)
@@ -449,12 +438,10 @@ module _ (s : State) (c : ℕ) (path : Path) (size : ℕ) (keeps : Keeps s)
       (sym (keeps.book.going_owned.frames f) ∙ going, its.0, its.1)
     where
       page : page_of ((shown (seen s)).frame f) ≡ Some (v, q)
-      page = ap (λ (x : Option (ℕ × ℕ)). page_of (use_of (seen s).words x ((seen s).reads f))) (word_bound v q f e)
-          ∙ page_bound (seen s).words (v, q) ((seen s).reads f)
+      page = cc (word_bound v q f e, page_bound (seen s).words (v, q) ((seen s).reads f))
 
       going : is_going_frame ((shown (seen s)).frame f) ≡ true
-      going = ap (λ (x : Option (ℕ × ℕ)). is_going_frame (use_of (seen s).words x ((seen s).reads f)))
-          (word_bound v q f e) ∙ ap (λ (x : Ptw). is_going_frame (bound_use (v, q) x)) e
+      going = cc (word_bound v q f e)
 
   frame_word : (f q : ℕ) → (seen s).bound f ≡ Some (u, q) → p ≤ q → word_in st u q ≡ ptw.Leaving f
   frame_word f q e le = subst (λ (x : Option (ℕ × ℕ)). word_in st (page_or_zero x).0 (page_or_zero x).1 ≡ ptw.Leaving f)
@@ -470,8 +457,7 @@ module _ (s : State) (c : ℕ) (path : Path) (size : ℕ) (keeps : Keeps s)
   not_read f q e le = not_both (h.just.pages f u q (ap page_of is) (refl, le)) (ap is_going_frame is)
     where
       is : (shown (seen s)).frame f ≡ frame_use.Started u q
-      is = ap (λ (x : Option (ℕ × ℕ)). use_of (seen s).words x ((seen s).reads f))
-          (keeps.book.tied.unbound f u q e) ∙ ap read_use e
+      is = cc (keeps.book.tied.unbound f u q e)
 
   -- a frame that it took
   record IsMine (f : ℕ) : Type 0 where
@@ -529,8 +515,7 @@ module _ (s : State) (c : ℕ) (path : Path) (size : ℕ) (keeps : Keeps s)
 
   -- a page past the words doesn't stay; the one that they cut does where it has a word that isn't zero then
   test_past : (f : ℕ) → has fs f ≡ true → (m : IsMine f) → first ≤ m.page → test f ≡ false
-  test_past f e m le = ap (λ (b : Bool). b && not (are_zeros (words_in (cut st.pages f at) f)))
-      (off (lt_tells (1024 * (page_in st f).1) size))
+  test_past f e m le = rw (off (lt_tells (1024 * (page_in st f).1) size))
     where
       off : ((nat_lt (1024 * (page_in st f).1) size ≡ true) × (1024 * (page_in st f).1 < size))
           ⊎ ((nat_lt (1024 * (page_in st f).1) size ≡ false) × (size ≤ 1024 * (page_in st f).1))
@@ -540,8 +525,7 @@ module _ (s : State) (c : ℕ) (path : Path) (size : ℕ) (keeps : Keeps s)
 
   test_cut : (f : ℕ) → has fs f ≡ true → (m : IsMine f) → m.page ≡ p → at ≢ 0
       → test f ≡ not (are_zeros (words_in (cut st.pages f at) f))
-  test_cut f e m is n = ap (λ (b : Bool). b && not (are_zeros (words_in (cut st.pages f at) f)))
-      (on (lt_tells (1024 * (page_in st f).1) size))
+  test_cut f e m is n = rw (on (lt_tells (1024 * (page_in st f).1) size))
     where
       on : ((nat_lt (1024 * (page_in st f).1) size ≡ true) × (1024 * (page_in st f).1 < size))
           ⊎ ((nat_lt (1024 * (page_in st f).1) size ≡ false) × (size ≤ 1024 * (page_in st f).1))
@@ -552,8 +536,7 @@ module _ (s : State) (c : ℕ) (path : Path) (size : ℕ) (keeps : Keeps s)
   -- ---- the store, once the page that the words cut is cut
 
   cut_in : at ≢ 0 → IsCut st mid u p at
-  cut_in n = subst (λ (x : Storage). IsCut st x u p at) (sym is) (page_cut st u p at has_places
-      (λ f e. word_bound u p f e))
+  cut_in n = rw is (page_cut st u p at has_places (λ f e. word_bound u p f e))
     where
       off : eqb at 0 ≡ false
       off = elim (eqb_tells at 0) [ inl e ↦ absurd (n e.1) | inr m ↦ m.0 ]
@@ -771,9 +754,8 @@ module _ (s : State) (c : ℕ) (path : Path) (size : ℕ) (keeps : Keeps s)
       none : (f : ℕ) → word_in st u q ≢ ptw.Leaving f
       none f i = let no : ptw.Out r ≡ ptw.Leaving f = sym e ∙ i in cc
   quiet_past q le (ptw.Here f) e = absurd (not_here f q e le)
-  quiet_past q le (ptw.Leaving f) e = inl (subst (λ (x : ℕ). word_in cut_off u x
-      ≡ (all_left s c (process_at s c) path size).words u x) same
-      ((is_left f listed (mine f listed)).word ∙ sym (left_its f listed (mine f listed))))
+  quiet_past q le (ptw.Leaving f) e = inl (rw same at ((is_left f listed (mine f listed)).word
+      ∙ sym (left_its f listed (mine f listed))))
     where
       listed : has fs f ≡ true
       listed = (word_taken u q f e).0
@@ -911,9 +893,7 @@ module _ (s : State) (c : ℕ) (path : Path) (size : ℕ) (keeps : Keeps s)
           → OfNode (λ n. LosesNoPage (flat_of s) (shown (seen (with_owner (effected s (process_at s c)
           (command.Truncate path size)) None))) n.uid size) x
       by (Err r) e = tt
-      by (Ok n) e = subst (λ (v : ℕ). LosesNoPage (flat_of s) (shown (seen (with_owner (effected s (process_at s c)
-          (command.Truncate path size)) None))) v size)
-          (path_uid s path n keeps (only_found (node_at (flat_of s).nodes path) n e).0) loses_none
+      by (Ok n) e = rw (← (path_uid s path n keeps (only_found (node_at (flat_of s).nodes path) n e).0)) loses_none
 
   -- So a `truncate` may take effect.
   pub truncate_rests : RestsTruncate s c path size

@@ -277,12 +277,8 @@ pool_some (a ∷ b ∷ c ∷ d ∷ []) h n = by n.directory (nat_le n.pages 4) (
 pool_some (a ∷ b ∷ c ∷ d ∷ e ∷ rest) h n = absurd h
 
 pub first_pool : (sizes : List ℕ) → ArePools sizes → 12 ≤ size_of sizes 0
-first_pool [] h = absurd h
-first_pool (a ∷ []) h = absurd h
-first_pool (a ∷ b ∷ []) h = absurd h
-first_pool (a ∷ b ∷ c ∷ []) h = absurd h
 first_pool (a ∷ b ∷ c ∷ d ∷ []) h = let one = h.0 in omega (arith, one)
-first_pool (a ∷ b ∷ c ∷ d ∷ e ∷ rest) h = absurd h
+first_pool _ h = absurd h
 
 -- a place of another pool isn't one of the first
 apart : (sizes : List ℕ) (pool q : ℕ) → pool ≢ 0 → IsInPool sizes 0 q → IsInPool sizes pool q → ⊥
@@ -342,8 +338,7 @@ module _ (s : State) (m : IsMachine s) (about wanted : ℕ) where
         by : (x : Option Node) → node_in nodes u ≡ x → is_some x ≡ true → has_directory nodes u ≡ true
             → IsInPool s.store.ast.sizes 0 q
         by None e i dir = absurd (let none : false ≡ true = i in cc)
-        by (Some y) e i dir = subst (λ (p : ℕ). IsInPool s.store.ast.sizes p q) (directory_pool u y e dir)
-            (m.keeps.store.counted.active.pools q u y here e)
+        by (Some y) e i dir = rw (directory_pool u y e dir) at (m.keeps.store.counted.active.pools q u y here e)
 
     one_off : HasOneOffChain s.store.ast (pool_of n) (chain_of nodes about)
     one_off = elim (eqb_tells (pool_of n) 0) [
@@ -358,8 +353,7 @@ module _ (s : State) (m : IsMachine s) (about wanted : ℕ) where
 
         few : pool_of n ≡ 0 → length (chain_of nodes about) < size_of s.store.ast.sizes (pool_of n)
         few e = let links = chain_few nodes whole about in let places = first_pool s.store.ast.sizes pools in
-            subst (λ (p : ℕ). length (chain_of nodes about) < size_of s.store.ast.sizes p) (sym e)
-            (omega (arith, links, places))
+            rw e (omega (arith, links, places))
 
         other_pool : pool_of n ≢ 0 → HasOneOffChain s.store.ast (pool_of n) (chain_of nodes about)
         other_pool other = record {

@@ -11,7 +11,7 @@ use Rattle.tree_model.specs.Tree.{Node}
 use Rattle.script.specs.Forms.{IsPlan}
 use Rattle.script.specs.Plans.{Plan, commands_of}
 use Rattle.processor.specs.declared.Transfer.{Transfer}
-use Rattle.flat_model.specs.Legal.{MayFault, MayRelease}
+use Rattle.flat_model.specs.Legal.{MayFault}
 use Rattle.flat_model.specs.Store.{Store}
 use Rattle.page_control.specs.Plain.{Plain, frame_in, words_in}
 use Rattle.machine_model.specs.declared.Aim.TheVariants as aim
@@ -159,8 +159,7 @@ module _ (s : State) (o : Outcome) (all : KeepsAll s) (over : is_over s ≡ true
 
   is_now : (page : ℕ × ℕ) → bound_page (frame_in s.store.pages place) ≡ Some page → (b : Bool) → o.failed ≡ b
       → after_visit s o ≡ left_with b
-  is_now page bound b e = ap (λ (x : Option (ℕ × ℕ)). record (visited_if s place o x) { visited = place + 1 }) bound
-      ∙ ap left_with e
+  is_now page bound b e = cc
 
   -- what left the place, as it was before the page was taken
   how_same : left_of (words_in before.store.pages place) ≡ left_of (words_in s.store.pages place)
@@ -220,8 +219,7 @@ module _ (s : State) (o : Outcome) (all : KeepsAll s) (over : is_over s ≡ true
     bare = over_bare s all over idle;
     well = λ e x h. (
       says.never_less,
-      λ released. subst (λ (t : Store). MayRelease t x.0 x.1) (sym (taken_flat s o))
-          (release_may s place x.0 x.1 keeps h (sym how_same ∙ released)),
+      λ released. (rw (taken_flat s o) (release_may s place x.0 x.1 keeps h (sym how_same ∙ released))),
       gone_says page bound e,
     );
     ill = λ e. (
@@ -232,8 +230,7 @@ module _ (s : State) (o : Outcome) (all : KeepsAll s) (over : is_over s ≡ true
   }
 
   visit_unbound : bound_page (frame_in s.store.pages place) ≡ None → Keeps (after_visit s o)
-  visit_unbound e = subst (λ (x : Option (ℕ × ℕ)). Keeps (record (visited_if s place o x) { visited = place + 1 }))
-      (sym e) (kept_visited s (place + 1) keeps)
+  visit_unbound e = rw e (kept_visited s (place + 1) keeps)
 
   visit_kept : Keeps (after_visit s o)
   visit_kept = by (bound_page (frame_in s.store.pages place)) refl
@@ -254,19 +251,15 @@ module _ (s : State) (o : Outcome) (all : KeepsAll s) (over : is_over s ≡ true
 
   come : AllCome (after_visit s o)
   unfolding AllCome
-  come = subst (λ (p : Plan). (k : ℕ) → k < length (after_visit s o).runs
-      → (run_at (after_visit s o).runs k).ended ≡ false
-      → Comes (commands_of p k) (run_at (after_visit s o).runs k)) (sym seats.plan)
-      (subst (λ (rs : List Run). (k : ℕ) → k < length rs → (run_at rs k).ended ≡ false
+  come = rw seats.plan (subst (λ (rs : List Run). (k : ℕ) → k < length rs → (run_at rs k).ended ≡ false
       → Comes (commands_of s.plan k) (run_at rs k)) (sym seats.runs) all.machine.come)
 
   abbrev now_is : State
   now_is = after_visit s o
 
   scheduled : IsScheduled (after_visit s o)
-  scheduled = subst (λ (p : Plan). AreScheduled p now_is.runs now_is.ready now_is.processors) (sym seats.plan)
-      (subst (λ (r : List Run). AreScheduled s.plan r now_is.ready now_is.processors) (sym seats.runs)
-      (subst (λ (q : List ℕ). AreScheduled s.plan s.runs q now_is.processors) (sym seats.ready)
+  scheduled = rw seats.plan (subst (λ (r : List Run). AreScheduled s.plan r now_is.ready now_is.processors)
+      (sym seats.runs) (subst (λ (q : List ℕ). AreScheduled s.plan s.runs q now_is.processors) (sym seats.ready)
       (subst (λ (ps : List Processor). AreScheduled s.plan s.runs s.ready ps) (sym seats.processors)
       all.machine.scheduled)))
 

@@ -19,17 +19,17 @@ use Rattle.machine_model.specs.declared.Phase.TheVariants as phase
 use Rattle.machine_model.specs.After.{Outcome}
 use Rattle.machine_model.specs.Chains.{page_or_zero}
 use Rattle.machine_model.specs.Changes.{taken}
-use Rattle.machine_model.specs.Custodial.{HoldsRight, IsOwned, KeepsBook, has_cut, names, waits_for}
+use Rattle.machine_model.specs.Custodial.{IsOwned, KeepsBook, has_cut, names, waits_for}
 use Rattle.machine_model.specs.Holding.{seen}
-use Rattle.machine_model.specs.Jobs.{entries_left, left_of, page_back, page_gone, page_in, take_one}
-use Rattle.machine_model.specs.Jobs.{with_left, without_first_frame}
+use Rattle.machine_model.specs.Jobs.{left_of, page_back, page_gone, page_in, take_one}
+use Rattle.machine_model.specs.Jobs.{without_first_frame}
 use Rattle.machine_model.specs.Keeps.{Keeps, StoreSays, is_fault}
 use Rattle.machine_model.specs.Reads.{cut_of_owner, flat_of, frames_of_owner, processor_at}
 use Rattle.machine_model.specs.Seen.{Seen, cut_uid, descriptor_use, shown}
 use Rattle.machine_model.specs.Shutdown.{after_visit, page_taken, visited_if}
 use Rattle.machine_model.specs.declared.CutDescriptor.{CutDescriptor}
 use Rattle.machine_model.specs.State.{Owner, State}
-use Rattle.machine_model.specs.Steps.{booked, fault_told, with_faults, with_owner, with_store}
+use Rattle.machine_model.specs.Steps.{fault_told, with_faults, with_owner}
 use Rattle.machine_model.proofs.AnswerLaws.{fault_keeps}
 use Rattle.machine_model.proofs.FinishKept.{left_faults, left_keeps}
 use Rattle.machine_model.proofs.FrameLaws.{CanFinish, back_keeps, take_keeps}
@@ -117,8 +117,7 @@ module _ (s : State) (f u p : ℕ) (k : Keeps s) (none : s.owner ≡ None) (bare
       shaped = (f, refl, refl, refl);
     });
     tied = taking_book.tied;
-    holding_right = λ d. subst (λ (c : Custody). HoldsRight (seen taking).bound c.descriptor
-        (processor_at s.processors d)) same (taking_book.holding_right d);
+    holding_right = λ d. (rw same at (taking_book.holding_right d));
     under_way = taking_book.under_way;
     runs = taking_book.runs;
   }
@@ -164,10 +163,7 @@ module _ (s : State) (f u p : ℕ) (k : Keeps s) (none : s.owner ≡ None) (bare
       → Keeps (record (page_gone (with_faults after_take faults) f) { visited = n })
   visit_gone faults n rose zeros says = kept_with (record (page_gone (with_faults after_take faults) f) { visited = n })
       (subst (λ (o : Option Owner). KeepsBook (seen (with_owner (page_gone after_take f) o))) (sym none)
-      (subst (λ (page : ℕ × ℕ). KeepsBook (seen
-      (with_owner (booked (with_store waited (with_left after_take.store f how page))
-      (entries_left f how page)) None)))
-      (sym page_still) (left_keeps waited f u p how None tables_still waited_book can_finish zeros))) says
+      (rw page_still (left_keeps waited f u p how None tables_still waited_book can_finish zeros))) says
       (let same = left_faults (s.entries ++ entry.Take f ∷ []) f how (page_in after_take.store f) in
       let one = taken_faults in let few = k.few_faults in omega (arith, same, one, few, rose))
       k.sizes.processors k.sizes.processes (λ o h. absurd (none_some (sym none ∙ h)))
@@ -181,11 +177,9 @@ module _ (s : State) (f u p : ℕ) (k : Keeps s) (none : s.owner ≡ None) (bare
       → Keeps (record (page_back (fault_told after_take None faults) f) { visited = n })
   visit_back faults n rose may says = kept_with
       (record (page_back (fault_told after_take None faults) f) { visited = n })
-      (subst (λ (o : Option Owner). KeepsBook
-      (seen (with_owner (page_back (fault_told after_take None faults) f) (without_first_frame o)))) (sym none)
-      (subst KeepsBook (sym (back_seen told f u p None tables_still told_book leaving_now))
-      (back_keeps (seen told) f u p None told_book can_back))) says
-      (let one = taken_faults in let two = faults_push (s.entries ++ entry.Take f ∷ []) (entry.Fault None) in
+      (rw none (subst KeepsBook (sym (back_seen told f u p None tables_still told_book leaving_now))
+      (back_keeps (seen told) f u p None told_book can_back))) says (let one = taken_faults in let two =
+      faults_push (s.entries ++ entry.Take f ∷ []) (entry.Fault None) in
       let three = faults_push ((s.entries ++ entry.Take f ∷ []) ++ entry.Fault None ∷ []) (entry.BackPage f) in
       let few = k.few_faults in omega (arith, one, two, three, few, rose))
       k.sizes.processors k.sizes.processes (λ o h. absurd (none_some (sym (ap without_first_frame none) ∙ h)))
@@ -203,17 +197,7 @@ module _ (s : State) (f u p : ℕ) (k : Keeps s) (none : s.owner ≡ None) (bare
 
 -- how many frames were visited is no part of the promise
 pub kept_visited : (s : State) (n : ℕ) → Keeps s → Keeps (record s { visited = n })
-kept_visited s n k = record {
-  book = k.book;
-  store = k.store;
-  faithful = k.faithful;
-  rights = k.rights;
-  cut = k.cut;
-  conserved = k.conserved;
-  few_faults = k.few_faults;
-  sizes = record { frames = k.sizes.frames; processors = k.sizes.processors; processes = k.sizes.processes };
-  at_work = k.at_work;
-}
+kept_visited s n k = assumption
 
 -- What a visit asks: of a frame that has a page, what the store says of the machine then.
 pub record AsksVisit (s : State) (o : Outcome) : Type 0 where

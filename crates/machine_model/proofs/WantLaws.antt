@@ -65,12 +65,7 @@ module _ (s : State) (k : ℕ) (keeps : Keeps s) (r : Reference) (u : ℕ) (insi
 
   pub refer_wants : want_of_reference (around s) k r
       ≡ Refer (chain_of s.store.accounts.nodes u) u (r.offset / 1024) (not (eqb (new_word 0 r.kind) 0))
-  refer_wants = ap (want_known s.store.accounts.nodes (who_at s.store.whos k) r) stands
-      ∙ (ap (want_in s.store.accounts.nodes (who_at s.store.whos k) r) there
-      ∙ (ap (λ (b : Bool). cond (not b) Other (cond (nat_le (1024 * inside.node.pages) r.offset) Other (refer_to
-      s.store.accounts.nodes r inside.node.uid))) allowed
-      ∙ (ap (λ (b : Bool). cond b Other (refer_to s.store.accounts.nodes r inside.node.uid)) not_past
-      ∙ ap (refer_to s.store.accounts.nodes r) (found_uid s.store.accounts.nodes u inside.node there))))
+  refer_wants = cc (stands, there, allowed, not_past, found_uid s.store.accounts.nodes u inside.node there)
 
 -- ---- the other way
 

@@ -10,7 +10,7 @@ use Rattle.script.specs.declared.commands.Reference.{Reference}
 use Rattle.book.specs.declared.replies.Reply.{Reply}
 use Rattle.book.specs.declared.replies.Reply.TheVariants as reply
 use Rattle.tree_model.specs.Access.{access_of}
-use Rattle.tree_model.specs.Tree.{Node, Walk, LeadsTo, Missing, InSegment, above, branch_in, is_branch, node_in, onward}
+use Rattle.tree_model.specs.Tree.{Node, Walk, LeadsTo, above, branch_in, is_branch, node_in, onward}
 use Rattle.tree_model.specs.Tree.{step_up, volume_in, walk_from, walk_in, with_node}
 use Rattle.dir_tree.specs.Nodes.{chain_of}
 use Rattle.known_segs.specs.Known.{uid_of}
@@ -96,17 +96,14 @@ module _ (volume : Node → ℕ) where
   walk_same : (ns : List Node) (names : List (List ℕ)) (d : ℕ) (b : Bool) → walk_from (moved ns) d b names
       ≡ walk_from ns d b names
   walk_same ns [] d b = refl
-  walk_same ns (name ∷ names) d b =
-      ap (λ (o : Option Node). onward (λ n. walk_from (moved ns) n.uid n.directory names) b o) (branch_same ns d name)
-      ∙ by b (branch_in ns d name) (walk_same ns names)
+  walk_same ns (name ∷ names) d b = cc (branch_same ns d name, by b (branch_in ns d name) (walk_same ns names))
     where
       by : (x : Bool) (o : Option Node)
           → ((e : ℕ) (y : Bool) → walk_from (moved ns) e y names ≡ walk_from ns e y names)
           → onward (λ n. walk_from (moved ns) n.uid n.directory names) x (in_option o)
           ≡ onward (λ n. walk_from ns n.uid n.directory names) x o
-      by false o on = refl
-      by true None on = refl
       by true (Some n) on = on n.uid n.directory
+      by _ _ on = refl
 
   walked_same : (ns : List Node) (w : Walk) → walked (moved ns) w ≡ in_result (walked ns w)
   walked_same ns (LeadsTo u) = ap there_or (node_same ns u) ∙ by (node_in ns u)
@@ -114,8 +111,7 @@ module _ (volume : Node → ℕ) where
       by : (o : Option Node) → there_or (in_option o) ≡ in_result (there_or o)
       by None = refl
       by (Some n) = refl
-  walked_same ns Missing = refl
-  walked_same ns InSegment = refl
+  walked_same ns _ = refl
 
   segment_same : (ns : List Node) (path : List (List ℕ)) → segment_at (moved ns) path
       ≡ in_result (segment_at ns path)
@@ -161,8 +157,7 @@ module _ (volume : Node → ℕ) where
   command_same : (ns : List Node) (c : Command) → want_of_command (moved ns) c ≡ want_of_command ns c
   command_same ns (command.Truncate path words) = ap (want_truncated (moved ns) words) (segment_same ns path)
       ∙ truncated_same ns words (segment_at ns path)
-  command_same ns (command.Length path pages) = ap want_lengthened (segment_same ns path)
-      ∙ lengthened_same (segment_at ns path)
+  command_same ns (command.Length path pages) = cc (segment_same ns path, lengthened_same (segment_at ns path))
   command_same ns _ = refl
 
   abbrev around_moved : Around → Around

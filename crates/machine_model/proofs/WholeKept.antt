@@ -3,20 +3,15 @@
 use Rattle.std.proofs.Common.{◌≡◌, ◌≢◌, ℕ, true, false}
 use Rattle.std.proofs.Common.{List, [], Option, Some, None, refl, sym, ap}
 use Rattle.std.proofs.Common.{subst, ◌∙◌}
-use Rattle.core_map.specs.CoreMap.{reads_of}
-use Rattle.page_control.specs.Plain.{binding_at, bindings}
-use Rattle.seg_control.specs.Control.{word_of}
-use Rattle.seg_control.specs.Kept.{read_at}
 use Rattle.custody_model.specs.Allowed.{MayDeactivate, superior_in}
-use Rattle.custody_model.specs.Custody.{is_going_descriptor, leads_to, page_of}
-use Rattle.custody_model.specs.Custody.{uid_of_page}
+use Rattle.custody_model.specs.Custody.{is_going_descriptor, leads_to}
 use Rattle.tree_model.specs.Tree.{node_in}
 use Rattle.machine_model.specs.Holding.{holding, led_to, seen}
 use Rattle.machine_model.specs.Jobs.{segs_gone}
 use Rattle.machine_model.specs.Keeps.{Keeps}
 use Rattle.machine_model.specs.Reads.{cut_of_owner, descriptor_of, flat_of}
 use Rattle.machine_model.specs.Reads.{frames_of_owner, is_active}
-use Rattle.machine_model.specs.Seen.{cut_uid, descriptor_use, frame_use}
+use Rattle.machine_model.specs.Seen.{cut_uid, descriptor_use}
 use Rattle.machine_model.specs.Seen.{shown}
 use Rattle.machine_model.specs.declared.CutDescriptor.{CutDescriptor}
 use Rattle.machine_model.specs.State.{State, Storage}
@@ -26,12 +21,6 @@ use Rattle.machine_model.proofs.TieLaws.{none_some}
 use Rattle.machine_model.proofs.WholeLaws.{no_page_left}
 
 -- ---- once all is gone
-
--- no page of a segment is in a frame or being read, by a store; no descriptor leads to it
-abbrev no_page_in : Storage → ℕ → Type 0
-no_page_in st u = (f : ℕ) → uid_of_page (page_of
-    (frame_use (λ a b. word_of st.ast a b) (binding_at (bindings st.pages.core) f)
-    (read_at (reads_of st.pages.core) f))) ≢ Some u
 
 abbrev no_link_in : Storage → List CutDescriptor → ℕ → Type 0
 no_link_in st ds u = (j n : ℕ) → leads_to (descriptor_use (led_to st.ast.entries (descriptor_of st.links j n))
@@ -47,11 +36,8 @@ pub whole_may : (s : State) (u : ℕ) → Keeps s → IsWhole (holding s) u
 whole_may s u k whole frames over active inferiors = record {
   active = ap (λ (st : Storage). is_active st.ast u) store ∙ active;
   inferiors = λ v h. inferiors v (sym (ap (λ (st : Storage). is_active st.ast v) store) ∙ h);
-  pages = subst (λ (st : Storage). no_page_in st u) (sym store)
-      (no_page_left (holding s) s.owner u k.book.going_owned whole frames);
-  descriptors = subst (λ (ds : List CutDescriptor). no_link_in (segs_gone s (cut_of_owner s.owner)).store ds u)
-      (sym over.cut)
-      (subst (λ (st : Storage). no_link_in st [] u) (sym store) unlinked);
+  pages = rw (← store) at (no_page_left (holding s) s.owner u k.book.going_owned whole frames);
+  descriptors = rw over.cut (subst (λ (st : Storage). no_link_in st [] u) (sym store) unlinked);
 }
   where
     store : (segs_gone s (cut_of_owner s.owner)).store ≡ s.store

@@ -10,12 +10,10 @@ use Rattle.custody_model.specs.declared.FrameUse.{FrameUse}
 use Rattle.custody_model.specs.declared.FrameUse.TheVariants as frame
 use Rattle.custody_model.specs.Custody.{Custody, cut, has, is_going_descriptor, is_going_frame, leads_to, page_of}
 use Rattle.custody_model.specs.Custody.{taken, uid_of_page}
-use Rattle.custody_model.specs.Effects.{HasNoDescriptor, HasNoPage}
+use Rattle.custody_model.specs.Effects.{HasNoPage}
 use Rattle.custody_model.specs.Next.{custody_next, with_descriptor, with_frame}
-use Rattle.machine_model.specs.Custodial.{IsOwned, has_cut}
-use Rattle.machine_model.specs.Holding.{holding}
-use Rattle.machine_model.specs.Reads.{cut_of_owner, frames_of_owner}
-use Rattle.machine_model.specs.declared.CutDescriptor.{CutDescriptor}
+use Rattle.machine_model.specs.Custodial.{IsOwned}
+use Rattle.machine_model.specs.Reads.{frames_of_owner}
 use Rattle.machine_model.specs.State.{Owner, State}
 use Rattle.machine_model.specs.Whole.{IsWhole, Spares, TakenWhole, going_for}
 use Rattle.machine_model.proofs.Places.{by_place, by_places}
@@ -45,16 +43,14 @@ descriptor_whole c u k n x w new = record {
 taken_whole : (x : FrameUse) (u : ℕ) → (uid_of_page (page_of x) ≡ Some u → is_going_frame x ≡ true)
     → uid_of_page (page_of (taken x)) ≡ Some u
     → is_going_frame (taken x) ≡ true
-taken_whole frame.Free u w h = w h
-taken_whole (frame.Started v q) u w h = w h
 taken_whole (frame.Current v q) u w h = refl
 taken_whole (frame.Going v q) u w h = refl
+taken_whole _ u w h = w h
 
 cut_whole : (x : DescriptorUse) (u : ℕ) → (leads_to x ≡ Some u → is_going_descriptor x ≡ true)
     → leads_to (cut x) ≡ Some u → is_going_descriptor (cut x) ≡ true
 cut_whole descriptor.Free u w h = w h
-cut_whole (descriptor.Current v) u w h = refl
-cut_whole (descriptor.Going v) u w h = refl
+cut_whole _ u w h = refl
 
 -- only seats, the ready list or what is active changes
 seat_whole : (c e : Custody) (u : ℕ) → e.frame ≡ c.frame → e.descriptor ≡ c.descriptor → IsWhole c u → IsWhole e u
@@ -70,9 +66,6 @@ pub whole_next : (p : Plan) (s : Store) (c : Custody) (u : ℕ) (e : Entry) → 
     → IsWhole (custody_next p s c e) u
 unfolding custody_next
 whole_next p s c u (entry.Do k i d f r) w h = seat_whole c (custody_next p s c (entry.Do k i d f r)) u refl refl w
-whole_next p s c u (entry.Release v q) w h = w
-whole_next p s c u (entry.Fault k) w h = w
-whole_next p s c u (entry.Moved k v x) w h = w
 whole_next p s c u (entry.Online d) w h = seat_whole c (custody_next p s c (entry.Online d)) u refl refl w
 whole_next p s c u (entry.Load d k) w h = seat_whole c (custody_next p s c (entry.Load d k)) u refl refl w
 whole_next p s c u (entry.Leave d) w h = seat_whole c (custody_next p s c (entry.Leave d)) u refl refl w
@@ -94,6 +87,7 @@ whole_next p s c u (entry.GonePage f) w h = frame_whole c u f frame.Free w (λ e
 whole_next p s c u (entry.BackPage f) w h = absurd h
 whole_next p s c u (entry.GoneSeg k n) w h = descriptor_whole c u k n descriptor.Free w (λ e. absurd (none_some e))
 whole_next p s c u (entry.BackSeg k n) w h = absurd h
+whole_next p s c u _ w h = w
 
 -- a page that is being read spares a segment that is whole
 pub started_spares : (c : Custody) (u f v q : ℕ) → IsWhole c u → c.frame f ≡ frame.Started v q → v ≢ u
@@ -109,30 +103,8 @@ pub no_page_left : (c : Custody) (o : Option Owner) (u : ℕ) → IsOwned c o �
 no_page_left c o u k w none f h = let no : false ≡ true =
     sym (k.frames f ∙ ap (λ (fs : List ℕ). has fs f) none) ∙ w.pages f h in cc
 
-pub no_descriptor_left : (c : Custody) (o : Option Owner) (u : ℕ) → IsOwned c o → IsWhole c u → cut_of_owner o ≡ []
-    → HasNoDescriptor c u
-no_descriptor_left c o u k w none j n h = let no : false ≡ true =
-    sym (k.cuts j n ∙ ap (λ (ds : List CutDescriptor). has_cut ds j n) none)
-    ∙ w.descriptors j n h in cc
-
 -- ---- steps
-
--- One entry more of a machine whose owner, if it still makes a segment inactive, made it inactive before.
-pub whole_step : (s now : State) (p : Plan) (t : Store) (e : Entry) → TakenWhole s
-    → holding now ≡ custody_next p t (holding s) e
-    → ((u : ℕ) → going_for now.owner ≡ Some u → (going_for s.owner ≡ Some u) × Spares u e) → TakenWhole now
-whole_step s now p t e was next spares = record {
-  whole = λ u h. (let both = spares u h in subst (λ (c : Custody). IsWhole c u) (sym next)
-      (whole_next p t (holding s) u e (was.whole u both.0) both.1));
-}
 
 -- where the owner makes no segment inactive, there is nothing to say
 pub whole_idle : (now : State) → going_for now.owner ≡ None → TakenWhole now
 whole_idle now none = record { whole = λ u h. absurd (none_some (sym none ∙ h)) }
-
--- where custody sees the same, and the owner is after the same
-pub whole_same : (s now : State) → TakenWhole s → holding now ≡ holding s → going_for now.owner ≡ going_for s.owner
-    → TakenWhole now
-whole_same s now was same owner = record {
-  whole = λ u h. subst (λ (c : Custody). IsWhole c u) (sym same) (was.whole u (sym owner ∙ h));
-}

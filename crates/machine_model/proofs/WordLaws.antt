@@ -1,5 +1,5 @@
 -- One page table word is changed: the words of all pages as a function.
-use Rattle.std.proofs.Common.{◌≡◌, ◌≢◌, ◌<◌, ℕ, Bool, true, false, not, cond, eqb, List, [], length, set, get_or}
+use Rattle.std.proofs.Common.{◌≡◌, ◌≢◌, ◌<◌, ℕ, Bool, true, false, not, List, [], length, set, get_or}
 use Rattle.std.proofs.Common.{Option, Some, None, inl, inr, refl, sym, ap, subst, ◌∙◌}
 use Rattle.std.specs.List.{position_or_len}
 use Rattle.std.proofs.lemmas.Bool.Decides.{eqb_tells, leb_tells}
@@ -37,8 +37,7 @@ pub place_only : (entries : List (Option Entry)) (u v : ℕ) → place_of entrie
     → place_of entries v ≡ place_of entries u → v ≡ u
 unfolding place_of
 place_only entries u v within same = is_for_same v u (get_or entries (position_or_len (is_for u) entries) None)
-    (ap (λ (i : ℕ). is_for v (get_or entries i None)) (sym same)
-    ∙ found (is_for v) entries None (subst (λ (i : ℕ). i < length entries) (sym same) within))
+    (cc (found (is_for v) entries None (subst (λ (i : ℕ). i < length entries) (sym same) within)))
     (found (is_for u) entries None within)
 
 -- the word of one page of an active segment is changed
@@ -47,9 +46,7 @@ pub word_put : (ast : ActiveSegs) (u p : ℕ) (w : Ptw) → place_of ast.entries
     → p < length (table_of ast u) → (v q : ℕ)
     → word_of (worded ast u p w) v q ≡ at_put_two (λ x y. word_of ast x y) u p w v q
 word_put ast u p w active there within v q = elim (eqb_tells v u) [
-  | inl e ↦ rw e.0 (ap (λ (x : ℕ). get_or (get_or now (place_of ast.entries x) []) q ptw.Null) e.1
-      ∙ (ap (λ (t : List Ptw). get_or t q ptw.Null) here ∙ (put_list (table_of ast u) p w ptw.Null q within
-      ∙ ap (λ (y : Ptw). cond (eqb q p) w y) (ap (λ (x : ℕ). word_of ast x q) (sym e.1)))))
+  | inl e ↦ rw e.0 (cc (here, put_list (table_of ast u) p w ptw.Null q within))
   | inr n ↦ rw n.0 (ap (λ (t : List Ptw). get_or t q ptw.Null) (other n.1))
 ]
   where
@@ -84,7 +81,6 @@ word_within ast u p n = (outer, inner)
 
     outer : place_of ast.entries u < length ast.tables
     outer = elim (leb_tells (length ast.tables) (place_of ast.entries u)) [
-      | inl e ↦ absurd (n (ap (λ (t : List Ptw). get_or t p ptw.Null)
-          (get_or_past ast.tables (place_of ast.entries u) [] e.1)))
+      | inl e ↦ absurd (n (rw (get_or_past ast.tables (place_of ast.entries u) [] e.1)))
       | inr m ↦ m.1
     ]

@@ -60,16 +60,14 @@ AllSpare u (e ∷ es) = Spares u e × AllSpare u es
 whole_list : (p : Plan) (es more : List Entry) (u : ℕ) → IsWhole (custody_after p es) u → AllSpare u more
     → IsWhole (custody_after p (es ++ more)) u
 whole_list p es [] u w spare = subst (λ (xs : List Entry). IsWhole (custody_after p xs) u) (sym (append-nil es)) w
-whole_list p es (e ∷ more) u w spare = subst (λ (xs : List Entry). IsWhole (custody_after p xs) u)
-    (append_assoc es (e ∷ []) more)
-    (whole_list p (es ++ e ∷ []) more u (subst (λ (c : Custody). IsWhole c u) (sym (custody_after-push p es e))
-    (whole_next p (store_after p es) (custody_after p es) u e w spare.0)) spare.1)
+whole_list p es (e ∷ more) u w spare = rw (append_assoc es (e ∷ []) more) at (whole_list p (es ++ e ∷ []) more u
+    (subst (λ (c : Custody). IsWhole c u) (sym (custody_after-push p es e)) (whole_next p (store_after p es)
+    (custody_after p es) u e w spare.0)) spare.1)
 
 -- what goes of a segment is all of it still
 pub whole_on : (s now : State) (more : List Entry) (u : ℕ) → Keeps s → Keeps now → now.plan ≡ s.plan
     → now.entries ≡ s.entries ++ more → IsWhole (holding s) u → AllSpare u more → IsWhole (holding now) u
-whole_on s now more u k kept plan entries w spare = subst (λ (c : Custody). IsWhole c u)
-    (sym (kept.book.held ∙ λ i. custody_after (plan i) (entries i)))
+whole_on s now more u k kept plan entries w spare = rw (kept.book.held ∙ λ i. custody_after (plan i) (entries i))
     (whole_list s.plan s.entries more u (subst (λ (c : Custody). IsWhole c u) k.book.held w) spare)
 
 -- ---- of which commands a failure may be told, by tables that are as before
@@ -109,9 +107,8 @@ fails_less old now k (Some c) less (inr h) = inr (by c h)
 
 fails_by_less : (a : Aim) (old now : Storage) (k : ℕ) (x : Option Command) → IsLess old now → FailsBy a old k x
     → FailsBy a now k x
-fails_by_less aim.Evicting old now k x less h = fails_less old now k x less h
-fails_by_less (aim.Deactivating u) old now k x less h = fails_less old now k x less h
 fails_by_less aim.Committing old now k x less h = h
+fails_by_less _ old now k x less h = fails_less old now k x less h
 
 pub fails_in_less : (ph : Phase) (old now : Storage) (k : ℕ) (x : Option Command) → IsLess old now → FailsIn ph old k x
     → FailsIn ph now k x
@@ -146,10 +143,8 @@ moved_on old now k m x leaves h = record {
 
 pub moves_in_on : (ph : Phase) (old now : Storage) (k : ℕ) (x : Option Command) → LeavesMove old now
     → MovesIn ph old k x → MovesIn ph now k x
-moves_in_on phase.Looking old now k x leaves h = tt
-moves_in_on (phase.Taken a w) old now k x leaves h = tt
-moves_in_on (phase.Waiting a w) old now k x leaves h = tt
 moves_in_on (phase.Moving m) old now k x leaves h = moved_on old now k m x leaves h
+moves_in_on _ old now k x leaves h = tt
 
 -- a page is copied: the move goes on past it
 past_moves : (t : Tables) (k : ℕ) (m : Mover) (p : ℕ) (x : Option Command) → MovesForNext t k m x
@@ -165,11 +160,7 @@ past_moves t k m p (Some c) h = record {
 
 pub past_moved : (st : Storage) (k : ℕ) (m : Mover) (p : ℕ) (x : Option Command) → IsMovedFor st k m x
     → IsMovedFor (with_copy st m p) k (past_page m p) x
-past_moved st k m p x h = record {
-  moves = past_moves (tables_of st) k m p x h.moves;
-  active = h.active;
-  unread = h.unread;
-}
+past_moved st k m p x h = assumption (past_moves (tables_of st) k m p x h.moves)
 
 -- the frames into which pages are being read are as they were, or fewer
 pub unread_less : (old now : Core) (u : ℕ)
@@ -253,8 +244,7 @@ module _ (s : State) (k : ℕ) (cmd : Command) (keeps : Keeps s) where
   ]
 
   pub length_fails : (u : ℕ) → FindsActive s k cmd u → MayFailBy s.store k (Some cmd)
-  length_fails u finds = subst (λ (c : Command). MayFailBy s.store k (Some c)) (sym finds.is)
-      (inr (leads.node, same_path finds.path leads.node leads.found, none_filed))
+  length_fails u finds = rw finds.is (inr (leads.node, same_path finds.path leads.node leads.found, none_filed))
     where
       stands : refusal_of s k (command.Length finds.path finds.pages) ≡ None
       stands = subst (λ (c : Command). refusal_of s k c ≡ None) finds.is finds.stands

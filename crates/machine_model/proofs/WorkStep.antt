@@ -20,7 +20,7 @@ use Rattle.script.specs.References.{alters, new_word}
 use Rattle.machine_model.specs.Jobs.{eviction_done, leaving_if, phase_signalled, with_choice, with_left}
 use Rattle.machine_model.specs.Refusal.{refusal_of, uid_of_command}
 use Rattle.machine_model.specs.Seen.{read_use}
-use Rattle.machine_model.specs.Steps.{old_word, run_after}
+use Rattle.machine_model.specs.Steps.{old_word}
 use Rattle.machine_model.proofs.CommandFacts.{LeadsToSegment, length_stands}
 use Rattle.machine_model.proofs.EmptyAsks.{hand_says}
 use Rattle.machine_model.proofs.LeafLaws.{leaf_inferiors, victim_leaf}
@@ -131,14 +131,9 @@ looking_work now q mine looks numbered few = record {
   numbered = numbered;
   whole = whole_idle now (ap going_for mine ∙ ap goes_in looks);
   leaf = λ u h. absurd (none_some (sym (ap going_for mine ∙ ap goes_in looks) ∙ h));
-  fails = λ o h. subst (λ (x : Phase). FailsIn x now.store (process_at now o.cpu)
-      (next_command now (process_at now o.cpu)))
-      (sym (ap (λ (x : Owner). x.phase) (some_same o q (sym h ∙ mine)) ∙ looks)) tt;
-  taken = λ o h. subst (λ (x : Phase). TakenIn x now (process_at now o.cpu) (next_command now (process_at now o.cpu)))
-      (sym (ap (λ (x : Owner). x.phase) (some_same o q (sym h ∙ mine)) ∙ looks)) tt;
-  moves = λ o h. subst (λ (x : Phase). MovesIn x now.store (process_at now o.cpu)
-      (next_command now (process_at now o.cpu)))
-      (sym (ap (λ (x : Owner). x.phase) (some_same o q (sym h ∙ mine)) ∙ looks)) tt;
+  fails = λ o h. (rw (ap (λ (x : Owner). x.phase) (some_same o q (sym h ∙ mine)) ∙ looks) tt);
+  taken = λ o h. (rw (ap (λ (x : Owner). x.phase) (some_same o q (sym h ∙ mine)) ∙ looks) tt);
+  moves = λ o h. (rw (ap (λ (x : Owner). x.phase) (some_same o q (sym h ∙ mine)) ∙ looks) tt);
 }
 
 -- ---- another processor's action
@@ -181,14 +176,13 @@ leaves_work s now k kept w l = record {
   };
   leaf = λ u h. leaf_like s.store now.store u less.nodes l.active (w.leaf u (ap going_for (sym l.owner) ∙ h));
   fails = λ o h. (let was = sym l.owner ∙ h in
-      subst (λ (j : ℕ). FailsIn o.phase now.store j (next_command now j)) (sym (l.process o was))
-      (subst (λ (x : Option Command). FailsIn o.phase now.store (process_at s o.cpu) x) (sym (l.next o was))
-      (fails_in_less o.phase s.store now.store (process_at s o.cpu) (next_command s (process_at s o.cpu)) less
-      (w.fails o was))));
+      rw (l.process o was) (subst (λ (x : Option Command). FailsIn o.phase now.store (process_at s o.cpu) x)
+      (sym (l.next o was)) (fails_in_less o.phase s.store now.store (process_at s o.cpu)
+      (next_command s (process_at s o.cpu)) less (w.fails o was))));
   taken = λ o h. (let was = sym l.owner ∙ h in
-      subst (λ (j : ℕ). TakenIn o.phase now j (next_command now j)) (sym (l.process o was))
-      (subst (λ (x : Option Command). TakenIn o.phase now (process_at s o.cpu) x) (sym (l.next o was))
-      (taken_in o.phase s now (process_at s o.cpu) (next_command s (process_at s o.cpu)) (record {
+      rw (l.process o was) (subst (λ (x : Option Command). TakenIn o.phase now (process_at s o.cpu) x)
+      (sym (l.next o was)) (taken_in o.phase s now (process_at s o.cpu) (next_command s (process_at s o.cpu))
+      (record {
         nodes = less.nodes;
         known = less.known;
         active = l.active;
@@ -211,8 +205,7 @@ module _ (s : State) (c : ℕ) (k : Keeps s) (w : IsWorking s) (other : IsNoOwne
   -- one processor changes alone
   pub set_process : (p : Processor) (q : Owner) → s.owner ≡ Some q → (cpu_at (set s.processors c p) q.cpu).process
       ≡ (cpu_at s.processors q.cpu).process
-  set_process p q h = ap (λ (x : Processor). x.cpu.process)
-      (get_or-set_other s.processors c q.cpu p no_processor (other q h))
+  set_process p q h = cc (get_or-set_other s.processors c q.cpu p no_processor (other q h))
 
   -- one that changes nothing but itself, the ready list and the book
   seat_work : (now : State) (p : Processor) (e : Entry) → Keeps now → now ≡ record s {
@@ -233,8 +226,7 @@ module _ (s : State) (c : ℕ) (k : Keeps s) (w : IsWorking s) (other : IsNoOwne
     spares = λ u h. spares u;
     stays = λ Page Descriptor j. stays Page;
     process = λ q h. ap or_zero (ap (λ (t : State). (cpu_at t.processors q.cpu).process) same ∙ set_process p q h);
-    next = λ q h. ap (λ (t : State). command_at t.plan (process_at s q.cpu)
-        (run_at t.runs (process_at s q.cpu)).place) same;
+    next = λ q h. rw (same);
   })
 
   -- another process than the owner's is answered
@@ -274,21 +266,20 @@ module _ (s : State) (c u : ℕ) (k : Keeps s) (idle : IsIdle s.owner) (none : g
         (leaf_like s.store now.store u (ap (λ (a : AccountMaps). a.nodes) like.accounts)
         (λ x. ap (λ (es : List (Option Segment)). list_any (is_for x) es) like.entries)
         (record { active = active; inferiors = inferiors }));
-    fails = λ q h. subst (λ (x : Owner). FailsIn x.phase now.store (process_at now x.cpu)
-        (next_command now (process_at now x.cpu))) (some_same _ q (sym has.owner ∙ h))
+    fails = λ q h. (rw (← (some_same _ q (sym has.owner ∙ h)))
         (subst (λ (j : ℕ). MayFailBy now.store j (next_command now j))
         (sym (ap (λ (ps : List Processor). or_zero (cpu_at ps c).process) like.processors))
-        (subst (λ (x : Option Command). MayFailBy now.store (process_at s c) x)
-        (λ i. command_at (sym like.plan i) (process_at s c) (run_at (sym like.runs i) (process_at s c)).place)
-        (fails_less s.store now.store (process_at s c) (next_command s (process_at s c)) (record {
+        (subst (λ (x : Option Command). MayFailBy now.store (process_at s c) x) (λ i. command_at (sym like.plan i)
+        (process_at s c) (run_at (sym like.runs i) (process_at s c)).place) (fails_less s.store now.store
+        (process_at s c) (next_command s (process_at s c))
+        (record {
           nodes = ap (λ (a : AccountMaps). a.nodes) like.accounts;
           known = like.known;
-          filed = λ v q e. (λ i. is_filed (like.accounts i) (ap (λ (x : Plain). x.vtocs) like.pages i) v q) ∙ e;
-        }) fails)));
-    taken = λ q h. subst (λ (x : Owner). TakenIn x.phase now (process_at now x.cpu)
-        (next_command now (process_at now x.cpu))) (some_same _ q (sym has.owner ∙ h)) tt;
-    moves = λ q h. subst (λ (x : Owner). MovesIn x.phase now.store (process_at now x.cpu)
-        (next_command now (process_at now x.cpu))) (some_same _ q (sym has.owner ∙ h)) tt;
+          filed =
+              λ v q e. (λ i. is_filed (like.accounts i) (ap (λ (x : Plain). x.vtocs) like.pages i) v q) ∙ e;
+        }) fails))));
+    taken = λ q h. (rw (← (some_same _ q (sym has.owner ∙ h))) tt);
+    moves = λ q h. (rw (← (some_same _ q (sym has.owner ∙ h))) tt);
   }
     where
       now : State
@@ -381,11 +372,8 @@ module _ (s : State) (c : ℕ) (k : Keeps s) (w : IsWorking s) where
           → MovesIn q.phase s.store (process_at (signalled s c what) q.cpu)
           (next_command (signalled s c what) (process_at (signalled s c what) q.cpu))
       moved None e q h = absurd (none_some h)
-      moved (Some x) e q h = subst (λ (y : Owner). MovesIn y.phase s.store (process_at (signalled s c what) y.cpu)
-          (next_command (signalled s c what) (process_at (signalled s c what) y.cpu)))
-          (some_same _ q h)
-          (subst (λ (j : ℕ). MovesIn (phase_signalled x.phase) s.store j (next_command (signalled s c what) j))
-          (sym (ap or_zero ((told_seats s c what).process x.cpu)))
+      moved (Some x) e q h = rw (← (some_same _ q h)) (subst (λ (j : ℕ). MovesIn (phase_signalled x.phase) s.store j
+          (next_command (signalled s c what) j)) (sym (ap or_zero ((told_seats s c what).process x.cpu)))
           (moves_signalled x.phase s.store (process_at s x.cpu) (next_command s (process_at s x.cpu)) (w.moves x e)))
 
       left : LeavesTaken s (signalled s c what)
@@ -403,26 +391,18 @@ module _ (s : State) (c : ℕ) (k : Keeps s) (w : IsWorking s) where
           → TakenIn q.phase (signalled s c what) (process_at (signalled s c what) q.cpu)
           (next_command (signalled s c what) (process_at (signalled s c what) q.cpu))
       takes None e q h = absurd (none_some h)
-      takes (Some x) e q h = subst (λ (y : Owner). TakenIn y.phase (signalled s c what)
-          (process_at (signalled s c what) y.cpu)
-          (next_command (signalled s c what) (process_at (signalled s c what) y.cpu)))
-          (some_same _ q h)
-          (subst (λ (j : ℕ). TakenIn (phase_signalled x.phase) (signalled s c what) j
-          (next_command (signalled s c what) j))
-          (sym (ap or_zero ((told_seats s c what).process x.cpu)))
-          (taken_signalled x.phase (signalled s c what) (process_at s x.cpu) (next_command s (process_at s x.cpu))
-          (taken_in x.phase s (signalled s c what) (process_at s x.cpu) (next_command s (process_at s x.cpu)) left
-          (w.fails x e) (w.taken x e))))
+      takes (Some x) e q h = rw (← (some_same _ q h))
+          (subst (λ (j : ℕ). TakenIn (phase_signalled x.phase) (signalled s c what) j (next_command (signalled s c what)
+          j)) (sym (ap or_zero ((told_seats s c what).process x.cpu))) (taken_signalled x.phase (signalled s c what)
+          (process_at s x.cpu) (next_command s (process_at s x.cpu)) (taken_in x.phase s (signalled s c what)
+          (process_at s x.cpu) (next_command s (process_at s x.cpu)) left (w.fails x e) (w.taken x e))))
 
       by : (o : Option Owner) → s.owner ≡ o → (q : Owner) → owner_signalled o ≡ Some q
           → FailsIn q.phase s.store (process_at (signalled s c what) q.cpu)
           (next_command (signalled s c what) (process_at (signalled s c what) q.cpu))
       by None e q h = absurd (none_some h)
-      by (Some x) e q h = subst (λ (y : Owner). FailsIn y.phase s.store (process_at (signalled s c what) y.cpu)
-          (next_command (signalled s c what) (process_at (signalled s c what) y.cpu)))
-          (some_same _ q h)
-          (subst (λ (j : ℕ). FailsIn (phase_signalled x.phase) s.store j (next_command (signalled s c what) j))
-          (sym (ap or_zero ((told_seats s c what).process x.cpu)))
+      by (Some x) e q h = rw (← (some_same _ q h)) (subst (λ (j : ℕ). FailsIn (phase_signalled x.phase) s.store j
+          (next_command (signalled s c what) j)) (sym (ap or_zero ((told_seats s c what).process x.cpu)))
           (fails_signalled x.phase s.store (process_at s x.cpu) (next_command s (process_at s x.cpu)) (w.fails x e)))
 
   -- a page has left its frame
@@ -461,18 +441,16 @@ module _ (s : State) (c : ℕ) (k : Keeps s) (w : IsWorking s) where
       moved : (o : Option Owner) → s.owner ≡ o → (q : Owner) → without_first_frame o ≡ Some q
           → MovesIn q.phase now.store (process_at s q.cpu) (next_command s (process_at s q.cpu))
       moved None e q h = absurd (none_some h)
-      moved (Some x) e q h = subst (λ (y : Owner). MovesIn y.phase now.store (process_at s y.cpu)
-          (next_command s (process_at s y.cpu))) (some_same _ q h)
-          (subst (λ (y : Phase). MovesIn y now.store (process_at s x.cpu) (next_command s (process_at s x.cpu)))
+      moved (Some x) e q h = rw (← (some_same _ q h)) (subst (λ (y : Phase). MovesIn y now.store (process_at s x.cpu)
+          (next_command s (process_at s x.cpu)))
           (sym (ap (λ (y : Owner). y.phase) (some_same x emptying.owner.owner (sym e ∙ emptying.owner.mine))
           ∙ emptying.waits)) tt)
 
       takes : (o : Option Owner) → s.owner ≡ o → (q : Owner) → without_first_frame o ≡ Some q
           → TakenIn q.phase now (process_at s q.cpu) (next_command s (process_at s q.cpu))
       takes None e q h = absurd (none_some h)
-      takes (Some x) e q h = subst (λ (y : Owner). TakenIn y.phase now (process_at s y.cpu)
-          (next_command s (process_at s y.cpu))) (some_same _ q h)
-          (subst (λ (y : Phase). TakenIn y now (process_at s x.cpu) (next_command s (process_at s x.cpu)))
+      takes (Some x) e q h = rw (← (some_same _ q h)) (subst (λ (y : Phase). TakenIn y now (process_at s x.cpu)
+          (next_command s (process_at s x.cpu)))
           (sym (ap (λ (y : Owner). y.phase) (some_same x emptying.owner.owner (sym e ∙ emptying.owner.mine))
           ∙ emptying.waits)) tt)
 
@@ -501,10 +479,8 @@ module _ (s : State) (c : ℕ) (k : Keeps s) (w : IsWorking s) where
       by : (o : Option Owner) → s.owner ≡ o → (q : Owner) → without_first_frame o ≡ Some q
           → FailsIn q.phase now.store (process_at s q.cpu) (next_command s (process_at s q.cpu))
       by None e q h = absurd (none_some h)
-      by (Some x) e q h = subst (λ (y : Owner). FailsIn y.phase now.store (process_at s y.cpu)
-          (next_command s (process_at s y.cpu))) (some_same _ q h)
-          (fails_in_less x.phase s.store now.store (process_at s x.cpu) (next_command s (process_at s x.cpu)) less
-          (w.fails x e))
+      by (Some x) e q h = rw (← (some_same _ q h)) (fails_in_less x.phase s.store now.store (process_at s x.cpu)
+          (next_command s (process_at s x.cpu)) less (w.fails x e))
 
 -- ---- each action
 
@@ -696,24 +672,19 @@ module _ (s : State) (c : ℕ) (o : Outcome) (m : IsMachine s) (w : IsWorking s)
     few = subst OwnsFew (sym mine) (omega arith);
     numbered = subst (λ (x : Option Owner). AreNumbered now.store.links.known (cut_of_owner x)) (sym mine) tt;
     leaf = λ u h. absurd (none_some (sym (ap going_for mine) ∙ h));
-    fails = λ q h. subst (λ (y : Owner). FailsIn y.phase now.store (process_at now y.cpu)
-        (next_command now (process_at now y.cpu))) (some_same _ q (sym mine ∙ h)) fails;
-    taken = λ q h. subst (λ (y : Owner). TakenIn y.phase now (process_at now y.cpu)
-        (next_command now (process_at now y.cpu))) (some_same _ q (sym mine ∙ h)) tt;
-    moves = λ q h. subst (λ (y : Owner). MovesIn y.phase now.store (process_at now y.cpu)
-        (next_command now (process_at now y.cpu))) (some_same _ q (sym mine ∙ h)) moves;
+    fails = λ q h. (rw (← (some_same _ q (sym mine ∙ h))) fails);
+    taken = λ q h. (rw (← (some_same _ q (sym mine ∙ h))) tt);
+    moves = λ q h. (rw (← (some_same _ q (sym mine ∙ h))) moves);
   }
 
   -- what the owner rests on that moves a segment
   pub moving_fails : (m : Mover) → IsMoving s c m → MayFailBy s.store (process_at s c) (next_command s (process_at s c))
-  moving_fails m x = subst (λ (j : ℕ). MayFailBy s.store (process_at s j) (next_command s (process_at s j)))
-      x.owner.same (subst (λ (y : Phase). FailsIn y s.store (process_at s x.owner.owner.cpu)
+  moving_fails m x = rw x.owner.same at (subst (λ (y : Phase). FailsIn y s.store (process_at s x.owner.owner.cpu)
       (next_command s (process_at s x.owner.owner.cpu))) x.moves (w.fails x.owner.owner x.owner.mine))
 
   pub moving_rests : (m : Mover) → IsMoving s c m
       → IsMovedFor s.store (process_at s c) m (next_command s (process_at s c))
-  moving_rests m x = subst (λ (j : ℕ). IsMovedFor s.store (process_at s j) m (next_command s (process_at s j)))
-      x.owner.same (subst (λ (y : Phase). MovesIn y s.store (process_at s x.owner.owner.cpu)
+  moving_rests m x = rw x.owner.same at (subst (λ (y : Phase). MovesIn y s.store (process_at s x.owner.owner.cpu)
       (next_command s (process_at s x.owner.owner.cpu))) x.moves (w.moves x.owner.owner x.owner.mine))
 
   commits : (x : Option Command) → IsWorking (committed_at s c x)
@@ -773,10 +744,7 @@ module _ (s : State) (c : ℕ) (o : Outcome) (m : IsMachine s) (w : IsWorking s)
         process = λ q h. ap or_zero (ap (λ (x : Processor). x.cpu.process)
             (get_or-set_other (frame_lost s c t).processors c q.cpu _ no_processor (may.0 q h))
             ∙ set_process s c keeps w may.0 _ q h);
-        next = λ q h. ap (λ (j : ℕ). command_at s.plan (process_at s q.cpu)
-            (run_at (set s.runs j (run_after (run_at s.runs j) (next_command s j) reply.Device))
-            (process_at s q.cpu)).place) (told_is t may.2 failed)
-            ∙ other_next s c keeps w may.0 q _ h m (may.2 failed);
+        next = λ q h. rw (told_is t may.2 failed, other_next s c keeps w may.0 q _ h m (may.2 failed));
       }))
   work_kept (act.Load n) may kept =
       seat_work s c keeps w may _ _ (entry.Load c n) kept refl (λ u. (tt, tt)) (λ Page. (tt, tt))
@@ -802,18 +770,14 @@ module _ (s : State) (c : ℕ) (o : Outcome) (m : IsMachine s) (w : IsWorking s)
     whole = whole_idle (eviction_begun s c f) refl;
     few = let a = ap (λ (fs : List ℕ). length fs) may.idle.frames in
         let b = ap (λ (ds : List CutDescriptor). length ds) may.idle.cut in one_few f (omega (arith, a, b));
-    numbered = subst (λ (x : List (List (Option ℕ))). AreNumbered x (cut_of_owner s.owner)) (sym (taking_less f).known)
-        w.numbered;
+    numbered = rw (taking_less f).known w.numbered;
     leaf = λ u h. absurd (none_some h);
-    fails = λ q h. subst (λ (y : Owner). FailsIn y.phase (eviction_begun s c f).store (process_at s y.cpu)
-        (next_command s (process_at s y.cpu))) (some_same _ q h)
-        (subst (MayFailBy (eviction_begun s c f).store (process_at s c)) (sym may.next)
-        (fails_less s.store (eviction_begun s c f).store (process_at s c) (Some may.command)
-        (taking_less f) (page_fails s (process_at s c) may.command keeps may.finds.uid may.finds.page may.finds.case)));
-    taken = λ q h. subst (λ (y : Owner). TakenIn y.phase (eviction_begun s c f) (process_at s y.cpu)
-        (next_command s (process_at s y.cpu))) (some_same _ q h) tt;
-    moves = λ q h. subst (λ (y : Owner). MovesIn y.phase (eviction_begun s c f).store (process_at s y.cpu)
-        (next_command s (process_at s y.cpu))) (some_same _ q h) tt;
+    fails = λ q h. (rw (← (some_same _ q h)) (subst (MayFailBy (eviction_begun s c f).store (process_at s c))
+        (sym may.next) (fails_less s.store (eviction_begun s c f).store (process_at s c) (Some may.command)
+        (taking_less f) (page_fails s (process_at s c) may.command keeps may.finds.uid may.finds.page
+        may.finds.case))));
+    taken = λ q h. (rw (← (some_same _ q h)) tt);
+    moves = λ q h. (rw (← (some_same _ q h)) tt);
   }
   work_kept (act.Empty u) may kept = begun_work s c u keeps may.idle (looking_goes s c may.looking) may.finds.active
       may.finds.unread (λ v h i. length_inferiors u may v
@@ -825,46 +789,30 @@ module _ (s : State) (c : ℕ) (o : Outcome) (m : IsMachine s) (w : IsWorking s)
       in record {
         whole = whole_idle (took s c aim.Committing v fs pairs) (ap going_for has.owner);
         few = took_few s c aim.Committing v fs pairs may.1 may.6;
-        numbered = subst (λ (x : List (List (Option ℕ))). AreNumbered x
-            (cut_of_owner (took s c aim.Committing v fs pairs).owner))
-            (sym (took_like s c aim.Committing v fs pairs).known)
-            (took_numbered s c aim.Committing v fs pairs keeps w.numbered may.4);
+        numbered = rw (took_like s c aim.Committing v fs pairs).known (took_numbered s c aim.Committing v fs pairs keeps
+            w.numbered may.4);
         leaf = λ u h. absurd (none_some (sym (ap going_for has.owner) ∙ h));
-        fails = λ q h. subst (λ (y : Owner). FailsIn y.phase (took s c aim.Committing v fs pairs).store
-            (process_at (took s c aim.Committing v fs pairs) y.cpu)
-            (next_command (took s c aim.Committing v fs pairs) (process_at (took s c aim.Committing v fs pairs) y.cpu)))
-            (some_same _ q (sym has.owner ∙ h))
+        fails = λ q h. (rw (← (some_same _ q (sym has.owner ∙ h)))
             (subst (λ (j : ℕ). TakesSome (next_command (took s c aim.Committing v fs pairs) j))
-            (sym (ap (λ (ps : List Processor). or_zero (cpu_at ps c).process)
-            (took_like s c aim.Committing v fs pairs).processors))
-            (subst TakesSome (λ i. command_at (sym (took_like s c aim.Committing v fs pairs).plan i) (process_at s c)
-            (run_at (sym (took_like s c aim.Committing v fs pairs).runs i) (process_at s c)).place) may.3));
-        taken = λ q h. subst (λ (y : Owner). TakenIn y.phase (took s c aim.Committing v fs pairs)
-            (process_at (took s c aim.Committing v fs pairs) y.cpu)
-            (next_command (took s c aim.Committing v fs pairs) (process_at (took s c aim.Committing v fs pairs) y.cpu)))
-            (some_same _ q (sym has.owner ∙ h))
+            (sym (ap (λ (ps : List Processor). or_zero (cpu_at ps c).process) (took_like s c aim.Committing v fs
+            pairs).processors)) (subst TakesSome (λ i. command_at (sym (took_like s c aim.Committing v fs pairs).plan i)
+            (process_at s c) (run_at (sym (took_like s c aim.Committing v fs pairs).runs i) (process_at s c)).place)
+            may.3)));
+        taken = λ q h. (rw (← (some_same _ q (sym has.owner ∙ h)))
             (subst (λ (j : ℕ). IsTakenBy (took s c aim.Committing v fs pairs) j
             (next_command (took s c aim.Committing v fs pairs) j))
-            (sym (ap (λ (ps : List Processor). or_zero (cpu_at ps c).process)
-            (took_like s c aim.Committing v fs pairs).processors))
-            (subst (IsTakenBy (took s c aim.Committing v fs pairs) (process_at s c))
+            (sym (ap (λ (ps : List Processor). or_zero (cpu_at ps c).process) (took_like s c aim.Committing v fs
+            pairs).processors)) (subst (IsTakenBy (took s c aim.Committing v fs pairs) (process_at s c))
             (λ i. command_at (sym (took_like s c aim.Committing v fs pairs).plan i) (process_at s c)
-            (run_at (sym (took_like s c aim.Committing v fs pairs).runs i) (process_at s c)).place) may.5));
-        moves = λ q h. subst (λ (y : Owner). MovesIn y.phase (took s c aim.Committing v fs pairs).store
-            (process_at (took s c aim.Committing v fs pairs) y.cpu)
-            (next_command (took s c aim.Committing v fs pairs) (process_at (took s c aim.Committing v fs pairs) y.cpu)))
-            (some_same _ q (sym has.owner ∙ h)) tt;
+            (run_at (sym (took_like s c aim.Committing v fs pairs).runs i) (process_at s c)).place) may.5)));
+        moves = λ q h. (rw (← (some_same _ q (sym has.owner ∙ h))) tt);
       }
   work_kept (act.BeginMove u volume) may kept = move_work (move_begun s c u volume) (mover_to s.store u volume) refl
       (fails_less s.store (with_move s.store (mover_to s.store u volume)) (process_at s c)
       (next_command s (process_at s c)) (same_less s.store (with_move s.store (mover_to s.store u volume)) refl)
       may.fails)
       (moved_on s.store (with_move s.store (mover_to s.store u volume)) (process_at s c) (mover_to s.store u volume)
-      (next_command s (process_at s c)) (record {
-        tables = refl;
-        active = λ v. refl;
-        unread = λ v h. h;
-      }) may.moves)
+      (next_command s (process_at s c)) (assumption) may.moves)
   work_kept (act.CopyPage m page) may kept = by_end o (page_copied (with_faults s o.faults) c m page)
       (copy_failed s c o.faults) kept
       (λ h. move_work (page_copied (with_faults s o.faults) c m page) (past_page m page) refl

@@ -4,7 +4,7 @@ use Rattle.std.specs.Prelude.{ℕ, List, [], ◌∷◌, Option, Some, None}
 use Rattle.assoc_mem.specs.declared.What.{What}
 use Rattle.page_table.specs.declared.Ptw.TheVariants as ptw
 use Rattle.machine_model.specs.declared.Aim.{Aim}
-use Rattle.machine_model.specs.Changes.{taken, cut, back, back_seg, gone, gone_seg}
+use Rattle.machine_model.specs.Changes.{taken, cut, gone, gone_seg}
 use Rattle.machine_model.specs.declared.CutDescriptor.{CutDescriptor}
 use Rattle.machine_model.specs.Jobs.{without_first_cut, without_first_frame}
 use Rattle.machine_model.specs.State.{Owner}
@@ -28,17 +28,9 @@ abbrev pub cuts : Seen → ℕ → Aim → What → List CutDescriptor → Seen
 cuts v c aim w [] = v
 cuts v c aim w (d ∷ ds) = cuts (cut v c aim w d) c aim w ds
 
--- the pages in some frames are back, in the order in which they were taken; so are some descriptors; or these are gone
-abbrev pub backs : Seen → List ℕ → Seen
-backs v [] = v
-backs v (f ∷ fs) = backs (back v f (page_at v f).0 (page_at v f).1 (without_first_frame v.owner)) fs
-
 abbrev pub each_seg : (Seen → CutDescriptor → Option Owner → Seen) → Seen → List CutDescriptor → Seen
 each_seg step v [] = v
 each_seg step v (d ∷ ds) = each_seg step (step v d (without_first_cut v.owner)) ds
-
-abbrev pub back_segs : Seen → List CutDescriptor → Seen
-back_segs v ds = each_seg back_seg v ds
 
 abbrev pub gone_segs : Seen → List CutDescriptor → Seen
 gone_segs v ds = each_seg gone_seg v ds

@@ -65,10 +65,6 @@ next_command s k = command_at s.plan k (run_at s.runs k).place
 abbrev pub is_due : Processor → Bool
 is_due p = p.cpu.online && is_some p.cpu.due
 
--- whether a process hasn't ended
-abbrev pub is_going_on : Run → Bool
-is_going_on run = not run.ended
-
 -- the flat store after the book
 abbrev pub flat_of : State → Store
 flat_of s = store_after s.plan s.entries
