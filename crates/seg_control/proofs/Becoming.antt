@@ -13,7 +13,6 @@ use Rattle.page_table.specs.PageTable.{ptw_at}
 use Rattle.trailers.specs.Trailer.{trailers_of, leads_to}
 use Rattle.active_segs.specs.Active.{ActiveSegs, uid_in, entry_at, uid_at, table_at, activated, deactivated, IsAway}
 use Rattle.active_segs.specs.Active.{IsTree}
-use Rattle.active_segs.specs.Victim.{hand_past}
 use Rattle.page_control.specs.declared.Home.{Home}
 use Rattle.page_control.specs.Plain.{Plain, bindings, binding_at}
 use Rattle.page_control.specs.Tied.{IsTableOf, IsMapOf, frame_of, has_record, is_out, map_at, uid_at as uid_homed}
@@ -23,7 +22,7 @@ use Rattle.seg_control.specs.Kept.{IsHomeOf, IsInactive, HasTable, IsNotRead, ti
 use Rattle.seg_control.specs.Next.{FitsIn, filed_word, table_for, made_active}
 use Rattle.seg_control.proofs.Paged.{table_same, table_other}
 use Rattle.seg_control.proofs.Linked.{times_same}
-use Rattle.seg_control.proofs.Calls.{sizes_kept, kept_with}
+use Rattle.seg_control.proofs.Calls.{sizes_kept}
 
 -- ---- the page table by a file map
 
@@ -373,10 +372,3 @@ module _ (now : Plain) (ast : ActiveSegs) (links : Links) (place : ℕ) (k : IsK
           ap (λ (n : ℕ). count_by (leads_to q m) (trailers_of links.trailers n)) same
           ∙ ap (count_by (leads_to q m)) cut in
           absurd (omega (arith, count, one, none))
-
--- ---- a hand moves
-
-pub kept_hands : (found : Option ℕ) (now : Plain) (ast : ActiveSegs) (links : Links) (pool : ℕ) → IsKept now ast links
-    → IsKept now (hand_past ast pool found) links
-kept_hands None now ast links pool k = k
-kept_hands (Some place) now ast links pool k = kept_with _ k k.paged k.linked
