@@ -70,11 +70,6 @@ core_left : (s now : Plain) (home : Home) (p f : ℕ) (left : Left) → now ≡ 
 core_left s now home p f Released is = ap (λ (x : Plain). x.core) is
 core_left s now home p f Kept is = ap (λ (x : Plain). x.core) is
 
-frames_left : (s now : Plain) (home : Home) (p f : ℕ) (left : Left) → now ≡ evicted s home p f left → now.frames
-    ≡ s.frames
-frames_left s now home p f Released is = ap (λ (x : Plain). x.frames) is
-frames_left s now home p f Kept is = ap (λ (x : Plain). x.frames) is
-
 no_frame : (left : Left) (r : ℕ) → frame_of (word_of_left left r) ≡ None
 no_frame Released r = refl
 no_frame Kept r = refl

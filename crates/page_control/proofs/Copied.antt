@@ -1,9 +1,9 @@
 -- A page that is copied to its record at another home, for the proofs of the crates above.
-use Rattle.std.proofs.Common.{◌≡◌, ◌≢◌, ℕ, ◌+◌, ◌<◌, ◌≤◌, arith, List, [], length, Some, refl, sym, ap, ◌∙◌}
+use Rattle.std.proofs.Common.{◌≡◌, ◌≢◌, ℕ, ◌+◌, ◌<◌, ◌≤◌, arith, List, [], length, Some, sym, ap, ◌∙◌}
 use Rattle.std.proofs.Common.{get_or, set, inl, inr}
 use Rattle.std.proofs.lemmas.Bool.{cases_eq}
 use Rattle.std.proofs.lemmas.Bool.Decides.{leb_tells}
-use Rattle.std.proofs.lemmas.List.{get_or-set_same, get_or-set_other, length-set}
+use Rattle.std.proofs.lemmas.List.{get_or-set_same, get_or-set_other}
 use Rattle.page_table.specs.declared.Ptw.{Ptw}
 use Rattle.page_table.specs.declared.Ptw.TheVariants.{Out}
 use Rattle.page_table.specs.PageTable.{ptw_at}
@@ -12,7 +12,7 @@ use Rattle.page_control.specs.declared.Home.{Home}
 use Rattle.page_control.specs.Plain.{Plain, disk_of, filed}
 use Rattle.page_control.specs.Tied.{vtoc_in}
 use Rattle.page_control.specs.Picture.{words_filed, words_out}
-use Rattle.page_control.specs.Moves.{IsCopied, IsWrittenAt, KeepsHome, written}
+use Rattle.page_control.specs.Moves.{IsCopied, IsWrittenAt, written}
 use Rattle.page_control.proofs.Pictures.{filed_same}
 
 -- the pages of the volume whose record is written
@@ -53,17 +53,6 @@ out_now {s = s} {to = to} {r = r} {words = words} w =
     rw w.effect (ap (words_filed (disk_of (written s to.volume r words) to.volume)) w.its
     ∙ ap (λ (disk : List (List ℕ)). get_or disk r []) (disk_here s to.volume r words w.volume)
     ∙ get_or-set_same (disk_of s to.volume) r words [] w.within)
-
--- every other home stays
-pub home_kept : {s now : Plain} {to : Home} {p r : ℕ} {words : List ℕ} → IsWrittenAt s now to p r words → (h : Home)
-    → h ≢ to → KeepsHome s now h
-home_kept {s = s} {to = to} {r = r} {words = words} w h other = rw w.effect (record {
-  uid = refl;
-  map = refl;
-  words = λ q. out_other s to.volume r q words h w.volume (apart w h q (λ same page. other same));
-  volumes = length-set s.disks to.volume (set (disk_of s to.volume) r words);
-  records = w.records;
-})
 
 -- and where the words are those of the page at the home that it has, one page more is copied
 pub page_copied : {s now : Plain} {from to : Home} {n p r : ℕ} {words : List ℕ} (t : List Ptw)

@@ -1,11 +1,10 @@
 -- What becomes of the counts of each volume.
 use Rattle.std.proofs.Common.{◌≡◌, ◌≢◌, ℕ, suc, ◌+◌, ◌-◌, ◌<◌, Bool, true, false, cond, eqb, List, [], ◌∷◌, length}
-use Rattle.std.proofs.Common.{Option, Some, None, is_some, refl, sym, ap}
-use Rattle.std.proofs.Common.{◌∙◌, arith, inl, inr, get_or, set, map, sum, sum_by, count_by}
+use Rattle.std.proofs.Common.{Option, Some, None, is_some, refl, ap}
+use Rattle.std.proofs.Common.{◌∙◌, arith, inl, inr, get_or, set, map, count_by}
 use Rattle.std.proofs.lemmas.Bool.Decides.{eqb_tells, leb_tells}
 use Rattle.std.proofs.lemmas.List.{get_or-set_same, get_or-set_other, length-set, set_past}
-use Rattle.std.proofs.lemmas.List.Sums.{sum_by-set, sum-map}
-use Rattle.std.proofs.Math.ListN.{get_or-map}
+use Rattle.std.proofs.lemmas.List.Sums.{sum_by-set}
 use Rattle.std.proofs.Math.Seq.{map-set_same}
 use Rattle.bitmap.specs.Bitmap.{in_use}
 use Rattle.vtoc.specs.Vtoc.{Entry, entry_at, uid_of, with_record, fresh_entry}
@@ -22,15 +21,6 @@ use Rattle.page_control.specs.Effects.{erased, freed, evicted, created, brought_
 use Rattle.page_control.proofs.Places.{refile, home_within}
 use Rattle.page_control.specs.Counts.{taken, used, named_on, one_more, one_less, KeepsCounts}
 use Rattle.laws.proofs.Places.{put, list_within, count_with, count_without, flag_within}
-
--- a count for each volume is told by the list of all
-pub by_list : {X : Type 0} (f : List X → ℕ) (xs ys : List (List X)) → map f xs ≡ map f ys → (v : ℕ)
-    → f (get_or xs v []) ≡ f (get_or ys v [])
-by_list f xs ys same v = sym (get_or-map f xs v []) ∙ ap (λ (counts : List ℕ). get_or counts v (f [])) same
-    ∙ get_or-map f ys v []
-
-pub by_sum : {X : Type 0} (f : List X → ℕ) (xs ys : List (List X)) → map f xs ≡ map f ys → sum_by f xs ≡ sum_by f ys
-by_sum f xs ys same = sym (sum-map f xs) ∙ ap sum same ∙ sum-map f ys
 
 -- one entry names another record
 some_with : (entry : Option Entry) (p : ℕ) (place : Option ℕ) → is_some (with_record entry p place) ≡ is_some entry

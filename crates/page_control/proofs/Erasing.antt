@@ -194,10 +194,6 @@ count_end {old = old} {s = s} {home = home} end same =
     let all = end.part.count in
     rw (same, named_here old.vtocs home) (omega (arith, none, all))
 
--- what erasing leaves to other homes
-abbrev pub erased_vtocs : Plain → Home → List (List (Option Entry))
-erased_vtocs s home = put s.vtocs home.volume home.entry None
-
 pub uid_erased : (s now : Plain) (uid : ℕ) (home : Home) → now ≡ erased s home → uid_at s.vtocs home ≡ Some uid
     → uid_at now.vtocs home ≡ None
 uid_erased s now uid home is h =

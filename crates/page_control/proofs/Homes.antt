@@ -1,5 +1,5 @@
 -- A segment that gets a home.
-use Rattle.std.proofs.Common.{◌≡◌, ◌≢◌, ℕ, zero, ◌<◌, replicate, List, [], length, Option, None, Some, refl, sym}
+use Rattle.std.proofs.Common.{◌≡◌, ◌≢◌, ℕ, ◌<◌, replicate, List, [], length, Option, None, Some, refl, sym}
 use Rattle.std.proofs.Common.{ap, ◌∙◌}
 use Rattle.std.proofs.Common.{get_or, set, is_some, inl, inr}
 use Rattle.std.specs.Prelude.{IfSome, IfNone}

@@ -1,9 +1,8 @@
 -- A segment whose pages are copied is tied to its new home, with the words that it had.
 use Rattle.std.proofs.Common.{◌≡◌, ◌⊎◌, ℕ, zero, suc, ◌<◌, ◌≤◌, arith, false, List, [], ◌∷◌, length, Option, None, Some}
-use Rattle.std.proofs.Common.{refl, sym, ap, subst, ◌∙◌, get_or, set, is_some, inl, inr}
+use Rattle.std.proofs.Common.{refl, sym, ap, subst, ◌∙◌, get_or, is_some, inl, inr}
 use Rattle.std.specs.List.{position}
-use Rattle.std.proofs.lemmas.Bool.{cases_eq}
-use Rattle.std.proofs.lemmas.List.{ext_get_or, get_or-set_same, get_or-set_other, length-set}
+use Rattle.std.proofs.lemmas.List.{ext_get_or}
 use Rattle.core_map.specs.CoreMap.{Core, frame_at, is_modified, reads_of}
 use Rattle.mword.specs.Words.{AreZero}
 use Rattle.page_table.specs.declared.Ptw.{Ptw}
@@ -46,47 +45,6 @@ pub record IsPartRehomed (old now : List Ptw) (places : List (Option ℕ)) (n : 
   pub count : length now ≡ length old
   pub done : (p : ℕ) → p < n → ptw_at now p ≡ rehomed_word (ptw_at old p) (get_or places p None)
   pub left : (p : ℕ) → n ≤ p → ptw_at now p ≡ ptw_at old p
-
-pub part_start : (t : List Ptw) (places : List (Option ℕ)) → IsPartRehomed t t places 0
-part_start t places = record { count = refl; done = λ p lt. absurd (omega (arith, lt)); left = λ p le. refl }
-
--- the next word becomes the one that it should be
-pub part_put : (old now next : List Ptw) (places : List (Option ℕ)) (n : ℕ) → IsPartRehomed old now places n
-    → length next ≡ length now → ptw_at next n ≡ rehomed_word (ptw_at old n) (get_or places n None)
-    → ((p : ℕ) → (p ≡ n → ⊥) → ptw_at next p ≡ ptw_at now p) → IsPartRehomed old next places (suc n)
-part_put old now next places n part count here others = record {
-  count = count ∙ part.count;
-  done = λ p lt. elim (cases_eq p n) [
-    | inl same ↦ ap (ptw_at next) same ∙ here
-        ∙ ap (λ (k : ℕ). rehomed_word (ptw_at old k) (get_or places k None)) (sym same)
-    | inr other ↦ others p other ∙ part.done p (omega (arith, lt, other))
-  ];
-  left = λ p le. others p (λ same. omega (arith, le, same)) ∙ part.left p (omega (arith, le));
-}
-
-pub part_set : (old now : List Ptw) (places : List (Option ℕ)) (n r q : ℕ) → IsPartRehomed old now places n
-    → n < length now → ptw_at now n ≡ Out r → get_or places n None ≡ Some q
-    → IsPartRehomed old (set now n (Out q)) places (suc n)
-part_set old now places n r q part lt out place = part_put old now (set now n (Out q)) places n part
-    (length-set now n (Out q))
-    (get_or-set_same now n (Out q) Null lt
-    ∙ sym (rw (place, sym (part.left n (omega arith)) ∙ out) refl))
-    (λ p other. get_or-set_other now n p (Out q) Null other)
-
--- or is it already
-pub part_kept : (old now : List Ptw) (places : List (Option ℕ)) (n : ℕ) → IsPartRehomed old now places n
-    → ((r q : ℕ) → ptw_at now n ≡ Out r → get_or places n None ≡ Some q → ⊥) → IsPartRehomed old now places (suc n)
-part_kept old now places n part other = part_put old now now places n part refl
-    (part.left n (omega arith) ∙ stays (ptw_at old n) (get_or places n None)
-    (λ r q out place. other r q (part.left n (omega arith) ∙ out) place))
-    (λ p n. refl)
-  where
-    stays : (w : Ptw) (place : Option ℕ) → ((r q : ℕ) → w ≡ Out r → place ≡ Some q → ⊥) → w ≡ rehomed_word w place
-    stays Null place other = refl
-    stays (Out r) None other = refl
-    stays (Out r) (Some q) other = absurd (other r q refl refl)
-    stays (Here f) place other = refl
-    stays (Leaving f) place other = refl
 
 pub part_end : (old now : List Ptw) (places : List (Option ℕ)) (n : ℕ) → IsPartRehomed old now places n
     → length old ≤ n → now ≡ rehomed old places

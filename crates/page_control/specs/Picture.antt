@@ -60,10 +60,6 @@ abbrev pub is_kept : Left → Bool
 is_kept Released = false
 is_kept Kept = true
 
-abbrev pub stored_after : (ℕ → ℕ → Bool) → ℕ → ℕ → Left → ℕ → ℕ → Bool
-stored_after stored uid p Released = changed_at stored uid p false
-stored_after stored uid p Kept = stored
-
 -- Entry h is used for segment u; and where u is segment uid, h is this home of it. While a segment moves, it has two
 -- homes and one set of frames, so a call that concerns one of them says nothing of the other.
 pub record AreHomes (vtocs : List (List (Option Entry))) (uid : ℕ) (home : Home) (u : ℕ) (h : Home) : Type 0 where

@@ -108,7 +108,3 @@ pub record HasNoFrame (bound : List (Option (ℕ × ℕ))) (uid : ℕ) : Type 0 
 -- some frame is bound to page p of segment uid
 abbrev pub IsInFrame : List (Option (ℕ × ℕ)) → ℕ → ℕ → Type 0
 IsInFrame bound uid p = (f : ℕ) × (binding_at bound f ≡ Some (uid, p))
-
--- no entry is used for segment uid
-pub record HasNoHome (vtocs : List (List (Option Entry))) (uid : ℕ) : Type 0 where
-  pub none : (home : Home) → uid_at vtocs home ≢ Some uid
