@@ -1,13 +1,12 @@
 -- How many nodes lie in each directory.
 use Rattle.std.proofs.Common.{◌≡◌, ◌≢◌, ℕ, suc, ◌+◌, ◌-◌, ◌<◌, ◌≤◌, Bool, true, false, eqb, if◌then◌else◌, List, []}
 use Rattle.std.proofs.Common.{◌∷◌, ◌++◌, length, Option, Some, None}
-use Rattle.std.proofs.Common.{refl, sym, ap, subst, ◌∙◌, arith, get_or, set, take, drop, inl, inr}
+use Rattle.std.proofs.Common.{refl, sym, ap, subst, ◌∙◌, arith, get_or, set, inl, inr}
 use Rattle.std.specs.Prelude.{count_by, ◌^◌, ◌↔◌}
 use Rattle.std.specs.List.{remove}
 use Rattle.std.proofs.lemmas.Bool.{cases_Bool, cases_eq, eq-eqb, ne_eqb, false_from_ne_true}
 use Rattle.std.proofs.lemmas.List.{ext_get_or, get_or-map, get_or-set_same, get_or-set_other, get_or_append_left}
 use Rattle.std.proofs.lemmas.List.{length-map, length-set, length_push}
-use Rattle.std.proofs.lemmas.List.{append-nil, drop_all, take_all}
 use Rattle.std.proofs.lemmas.List.Sums.{sum_by-cons, sum_by_push, sum_by-remove, count_by-le-length}
 use Rattle.std.proofs.lemmas.Option.{same_Some}
 use Rattle.dir_tree.specs.declared.node.Node.{Node}
@@ -281,13 +280,6 @@ counts_some es counted u i lt is =
     )
 
 -- ---- as the calls leave them
-
-pub seamed : {X : Type 0} (new old target : List X) (n : ℕ) → new ≡ target → length target ≡ length old → n ≡ length old
-    → take n (new ++ drop (length new) old) ≡ target
-seamed new old target n is size len =
-    let whole : drop (length new) old ≡ [] = drop_all (length new) old
-    (let a : length new ≡ length target = ap length is in omega arith) in
-    rw (whole, append-nil new) (take_all n new (let a : length new ≡ length target = ap length is in omega arith) ∙ is)
 
 pub superior_there : {nodes : List Node} {es : List Entry} {free : List ℕ} {index : Places} {next : ℕ}
     → IsKept nodes es free index next → (s : ℕ)

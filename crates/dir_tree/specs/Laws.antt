@@ -71,9 +71,6 @@ segment_not ns u is = not_both (is_directory ns u) (is_segment ns u) (kinds_apar
     not_both false b apart is = refl
     not_both true b apart is = sym is ∙ apart
 
-pub directory_not : (ns : List Node) (u : ℕ) → is_directory ns u ≡ true → is_segment ns u ≡ false
-directory_not ns u is = rw is at (kinds_apart ns u)
-
 -- what is above a node doesn't depend on quotas, nor on what may change
 pub above_any : (q : ℕ → ℕ) (ns : List Node) (u : ℕ) → above (with_quotas q ns) u ≡ above (shapes ns) u
 above_any q [] u = refl
