@@ -6,7 +6,7 @@ use Rattle.std.proofs.lemmas.List.{get_or_past, get_or-set_other, get_or-set_sam
 use Rattle.vtoc.specs.Vtoc.{Entry, with_record, HasFullMaps, NamesNoRecord}
 use Rattle.volumes.specs.Volumes.{Vols, records_at, vtoc_at, with_record_used, with_vtoc}
 use Rattle.seg_mover.specs.Homes.{entry_of, map_at, place_at}
-use Rattle.seg_mover.specs.Records.{AreKept, flags_given}
+use Rattle.seg_mover.specs.Records.{flags_given}
 use Rattle.seg_mover.specs.Moves.{given_back}
 use Rattle.seg_mover.specs.Steps.{with_place, page_given, IsPartGiven}
 use Rattle.seg_mover.proofs.Records.{given_less, given_none, kept_less}
@@ -14,11 +14,6 @@ use Rattle.seg_mover.proofs.Places.{vtoc_within, still_used, entry_placed, map_p
 use Rattle.seg_mover.proofs.Places.{flags_used, vols_same}
 use Rattle.laws.proofs.Numbers.{below_or_past}
 use Rattle.laws.proofs.Places.{put_put, flag_within}
-
-pub given_start : {D : Type 0} (old : Vols D) (home : ℕ × ℕ) → IsSome (entry_of old home)
-    → AreKept (records_at old home.0) (map_at old home) → IsPartGiven old old home 0
-given_start old home used kept =
-    record { used = used; kept = kept; rest = refl; gone = λ p lt. absurd (omega (arith, lt)) }
 
 -- one page more
 given_one : {D : Type 0} (now : Vols D) (home : ℕ × ℕ) (n r : ℕ) → place_at now home n ≡ Some r

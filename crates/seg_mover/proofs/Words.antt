@@ -191,9 +191,6 @@ one_more pages old new m n skip x p h done is = record { words = words }
     wanted_then q wanted =
         sym (ap (λ (places : List (Option ℕ)). is_to_copy places skip q) (map_kept m.from h.tables)) ∙ wanted
 
-    some_same : (a b : ℕ) → Some a ≡ Some b → a ≡ b
-    some_same a b same = cc
-
     words : (q : ℕ) → q < p + 1 → is_to_copy (map_at new m.from) skip q ≡ true
         → words_of pages new m.to q ≡ words_of pages new m.from q
     words q lt wanted = elim (cases_eq q p) [
