@@ -84,17 +84,6 @@ module _ (sizes hands : List ℕ) (used : List (List Bool)) (xs : List (Option E
         tree = tree_activated xs place uid superior lt free inactive active kept.tree;
       }
 
-  pub kept_cleared : (place : ℕ) (table : List Ptw) → IsKept sizes hands used xs (set tables place table) maps index
-  kept_cleared place table = record {
-    pools = kept.pools;
-    entry_count = kept.entry_count;
-    table_count = length-set tables place table ∙ kept.table_count;
-    marked = kept.marked;
-    inferior_maps = kept.inferior_maps;
-    indexed = kept.indexed;
-    tree = kept.tree;
-  }
-
   pub kept_deactivated : (place : ℕ) (e : Entry) (pool offset : ℕ) (used' maps' : List (List Bool)) (index' : Pairs)
       (above : Option ℕ) (table : List Ptw)
       → place < length xs → entry_at xs place ≡ Some e → HasNoInferior xs place

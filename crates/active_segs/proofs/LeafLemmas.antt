@@ -2,7 +2,7 @@
 use Rattle.std.proofs.Common.{◌≡◌, ◌≢◌, ℕ, zero, suc, ◌<◌, Bool, true, false, List, length, Option}
 use Rattle.std.proofs.Common.{Some, None, refl, ap, ◌∙◌, get_or}
 use Rattle.std.proofs.Common.{inl, inr, position}
-use Rattle.std.proofs.lemmas.Bool.{cases_order, eqb-true, eq-eqb, ne_eqb, both_ways}
+use Rattle.std.proofs.lemmas.Bool.{cases_order, eq-eqb, ne_eqb, both_ways}
 use Rattle.std.proofs.lemmas.List.Quantifiers.{position-Some}
 use Rattle.std.proofs.lemmas.Option.{none-some, same_Some}
 use Rattle.active_segs.specs.declared.Entry.{Entry}
@@ -19,10 +19,6 @@ inferior_yes u (Some s) e = eq-eqb s u (same_Some s u e)
 pub inferior_no : (u : ℕ) (o : Option ℕ) → o ≢ Some u → is_inferior_in u o ≡ false
 inferior_no u None ne = refl
 inferior_no u (Some s) ne = ne_eqb s u (λ same. ne (ap (λ (k : ℕ). Some k) same))
-
-pub is_inferior : (u : ℕ) (o : Option ℕ) → is_inferior_in u o ≡ true → o ≡ Some u
-is_inferior u None e = cc
-is_inferior u (Some s) e = ap (λ (k : ℕ). Some k) (eqb-true s u e)
 
 -- ---- the first place that passes
 
@@ -62,10 +58,6 @@ no_inferior_is xs place none = at (uid_at xs place) refl
         (λ k. inferior_no uid (superior_at xs k) (none k uid is))
 
 -- ---- steps down
-
-pub no_steps : (xs : List (Option Entry)) (place : ℕ) → leaf_below xs 0 place ≡ place
-unfolding leaf_below
-no_steps xs place = refl
 
 pub one_step_more : (xs : List (Option Entry)) (steps place q : ℕ) → IsLeastInferior xs place q
     → leaf_below xs (suc steps) place ≡ leaf_below xs steps q

@@ -8,7 +8,6 @@ use Rattle.std.specs.Ordering.{nat_cmp, ordering_index}
 use Rattle.std.proofs.lemmas.Cmp.{ranked}
 use Rattle.std.proofs.lemmas.List.Sorted.{IsNonDecreasingBy-from_default}
 use Rattle.std.proofs.lemmas.List.Edits.{length-insert, get_or-insert_below, get_or-insert_at, get_or-insert_above}
-use Rattle.std.proofs.lemmas.List.Edits.{get_or-remove_below, get_or-remove_above}
 use Rattle.std.proofs.lemmas.Bool.Decides.{nat_tests}
 use Rattle.active_segs.specs.Pairs.{place_of, uid_in, IsAscending, IsFoundAt, BelongsAt, SetsPlace}
 
@@ -110,17 +109,6 @@ module _ (l : List (ℕ × ℕ)) (ascending : IsAscending l) (uid at : ℕ) (fou
   -- the uid is found at its place
   pub place_found : place_of l uid ≡ Some (get_or l at (0, 0)).1
   place_found = place_present l uid at found not_before_found
-
-  -- without its pair the order stays
-  pub ascending_removed : length (remove l at) + 1 ≡ length l → IsAscending (remove l at)
-  ascending_removed size i j lt within =
-      let left = remove l at in
-      let key = λ (x : ℕ × ℕ). x.0 in
-      let below : (i : ℕ) → i < at → uid_in left i ≡ uid_in l i =
-      λ i lt. ap key (get_or-remove_below l at (0, 0) i lt found.within) in
-      let above : (i : ℕ) → at ≤ i → uid_in left i ≡ uid_in l (i + 1) =
-      λ i le. ap key (get_or-remove_above l at (0, 0) i le found.within) in
-      grind (arith, below i, above i, below j, above j, ascending i j, ascending i (j + 1), ascending (i + 1) (j + 1))
 
 module _ (l : List (ℕ × ℕ)) (uid at : ℕ) (gap : BelongsAt l uid at) where
   -- a uid that has a gap has no place
