@@ -2,9 +2,8 @@ use Rattle.std.proofs.Common.{◌≡◌, ℕ, zero, suc, ◌+◌, ◌<◌, ◌�
 use Rattle.std.proofs.Common.{length, Option, None, Some, refl, sym, ap}
 use Rattle.std.proofs.Common.{◌∙◌, arith, get_or, set, replicate, map, inl, inr, All, IfSome, IfNone}
 use Rattle.std.specs.List.{prefix_len, list_any}
-use Rattle.std.proofs.lemmas.Bool.{cases_eq}
 use Rattle.std.proofs.lemmas.List.{map-set, get_or-map, get_or_past, length-map, length-set, length-replicate}
-use Rattle.std.proofs.lemmas.List.{get_or-set_same, get_or-set_other}
+use Rattle.std.proofs.lemmas.List.{get_or-set_same, get_or-set_other, set-get_or}
 use Rattle.std.proofs.lemmas.List.{get_or_read, set_past}
 use Rattle.std.proofs.lemmas.List.Elements.{All-get_or, All-from_get_or}
 use Rattle.bitmap.specs.Bitmap.{in_use, least_free, IsLeastFree}
@@ -12,8 +11,7 @@ use Rattle.core_map.specs.declared.Frame.{Frame}
 use Rattle.core_map.specs.declared.Frame.TheVariants.{Free, Started, Bound}
 use Rattle.core_map.specs.CoreMap.{Core, is_free, is_taken, is_bound, started_page, after_reference, with_modified}
 use Rattle.core_map.specs.CoreMap.{least_free_frame, IsLeastFreeFrame}
-use Rattle.core_map.specs.Clock.{frame_in, is_idle, unmarked}
-use Rattle.core_map.specs.Turns.{IsUnmarked}
+use Rattle.core_map.specs.Clock.{frame_in, unmarked}
 use Rattle.core_map.specs.Taken.{IsTied}
 use Rattle.laws.proofs.Numbers.{below_or_past}
 use Rattle.laws.proofs.Places.{map_kept}
@@ -42,11 +40,6 @@ pub started_of_bound : (x : Frame) → is_bound x ≡ true → None ≡ started_
 started_of_bound Free h = cc
 started_of_bound (Started uid page) h = cc
 started_of_bound (Bound uid page used modified) h = refl
-
-pub idle_unmarked : (x : Frame) → is_idle (unmarked x) ≡ is_bound x
-idle_unmarked Free = refl
-idle_unmarked (Started uid page) = refl
-idle_unmarked (Bound uid page used modified) = refl
 
 free_from_taken : (x : Frame) → is_taken x ≡ false → x ≡ Free
 free_from_taken Free h = refl
@@ -98,21 +91,6 @@ tied_same taken frames hand f x y h read same = record {
   bits = h.bits ∙ sym (kept_by is_taken frames f x y read same);
   short = rw (length-set frames f y) h.short;
   hand_within = rw (length-set frames f y) h.hand_within;
-}
-
--- one more mark is turned off
-pub unmarked_more : (old now : List Frame) (low i : ℕ) (x y : Frame) → IsUnmarked old now low i → low ≤ i
-    → i < length now → x ≡ get_or now i x
-    → y ≡ unmarked x → IsUnmarked old (set now i y) low (i + 1)
-unmarked_more old now low i x y h above lt read is = record {
-  count = length-set now i y ∙ h.count;
-  inside = λ k over under. elim (cases_eq k i) [
-    | inl e ↦ (let read_here : x ≡ frame_in now i = get_or_read now i x lt read Free in
-        rw e (get_or-set_same now i y Free lt ∙ is ∙ ap unmarked (read_here ∙ h.after i (omega arith))))
-    | inr ne ↦ get_or-set_other now i k y Free ne ∙ h.inside k over (omega arith)
-  ];
-  before = λ k under. get_or-set_other now i k y Free (omega arith) ∙ h.before k under;
-  after = λ k over. get_or-set_other now i k y Free (omega arith) ∙ h.after k (omega arith);
 }
 
 -- some frame is bound, so not every frame isn't

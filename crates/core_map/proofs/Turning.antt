@@ -3,15 +3,14 @@ use Rattle.std.proofs.Common.{◌≡◌, ℕ, ◌+◌, ◌-◌, ◌<◌, ◌≤�
 use Rattle.std.proofs.Common.{refl, sym, ap, ◌∙◌, arith, map, inl}
 use Rattle.std.proofs.Common.{inr, ◌||◌, cond, ◌==◌}
 use Rattle.std.specs.List.{range_with_len, find, list_any}
-use Rattle.std.proofs.lemmas.Bool.{le-leb, lt-leb}
 use Rattle.std.proofs.lemmas.List.{append-nil, ext_get_or, get_or-map, length-map}
 use Rattle.core_map.specs.declared.Frame.{Frame}
 use Rattle.core_map.specs.declared.Frame.TheVariants.{Free, Started, Bound}
 use Rattle.core_map.specs.CoreMap.{Core, is_bound}
-use Rattle.core_map.specs.Clock.{frame_in, is_idle, unmarked, way, IsFirstFromHand, PassesOver, GoesRound, IsTurn}
+use Rattle.core_map.specs.Clock.{frame_in, is_idle, unmarked}
 use Rattle.core_map.specs.Clock.{round_frames, or_else, clock_choice}
 use Rattle.core_map.specs.Clock.{passed_over, after_choice}
-use Rattle.core_map.specs.Turns.{IsFirst, HasNone, IsUnmarked, PassesTo, PassesAll, IsFirstBound, StopsBehind}
+use Rattle.core_map.specs.Turns.{IsFirst, HasNone, IsUnmarked, PassesAll, IsFirstBound}
 use Rattle.core_map.specs.Turns.{GoesAround, IsTurned}
 use Rattle.core_map.proofs.Frames.{none_bound}
 use Rattle.core_map.proofs.Passing.{found_none, found_first, passed_all, passed_to}
@@ -54,35 +53,6 @@ pub turned_count : (old new : List Frame) (hand f : ℕ) → IsTurned old new ha
 turned_count old new hand f (inl h) = h.marks.count
 turned_count old new hand f (inr (inl h)) = h.behind.marks.count ∙ h.ahead.marks.count
 turned_count old new hand f (inr (inr h)) = h.behind.marks.count ∙ h.ahead.marks.count
-
-first_bound_within : (frames : List Frame) (hand f : ℕ) → hand ≤ length frames → IsFirstBound frames hand f
-    → f < length frames
-first_bound_within frames hand f fits (inl h) = h.below
-first_bound_within frames hand f fits (inr h) = omega (arith, fits, (h.1).below)
-
-pub turned_within : (old new : List Frame) (hand f : ℕ) → hand ≤ length old → IsTurned old new hand f → f < length old
-turned_within old new hand f fits (inl h) = h.first.below
-turned_within old new hand f fits (inr (inl h)) = omega (arith, fits, h.behind.first.below)
-turned_within old new hand f fits (inr (inr h)) =
-    let long : length new ≡ length old = h.behind.marks.count ∙ h.ahead.marks.count in
-    let within = first_bound_within new hand f (omega (arith, fits, long)) h.first in
-    omega (arith, within, long)
-
-idle_is_bound : (x : Frame) → is_idle x ≡ true → is_bound x ≡ true
-idle_is_bound Free h = cc
-idle_is_bound (Started uid page) h = cc
-idle_is_bound (Bound uid page used modified) h = refl
-
-first_is_bound : (frames : List Frame) (hand f : ℕ) → IsFirstBound frames hand f → is_bound (frame_in frames f) ≡ true
-first_is_bound frames hand f (inl h) = h.here
-first_is_bound frames hand f (inr h) = (h.1).here
-
-pub turned_bound : (old new : List Frame) (hand f : ℕ) → IsTurned old new hand f → is_bound (frame_in new f) ≡ true
-turned_bound old new hand f (inl h) = ap is_bound (h.marks.after f (omega arith))
-    ∙ idle_is_bound (frame_in old f) h.first.here
-turned_bound old new hand f (inr (inl h)) = ap is_bound (h.behind.marks.after f (omega arith))
-    ∙ idle_is_bound (frame_in h.middle f) h.behind.first.here
-turned_bound old new hand f (inr (inr h)) = first_is_bound new hand f h.first
 
 -- frames that a test sees alike
 first_alike : (p : Frame → Bool) (xs ys : List Frame) (low high f : ℕ)
@@ -128,134 +98,6 @@ first_bound_alike xs ys hand f long alike (inr h) =
       first_alike is_bound xs ys 0
           hand f (λ k _. alike k) h.1,
     )
-
--- the way from the hand
-way_ahead : (n hand f : ℕ) → hand ≤ f → way n hand f ≡ f - hand
-way_ahead n hand f le = rw (le-leb hand f le) refl
-
-way_behind : (n hand f : ℕ) → f < hand → way n hand f ≡ n + f - hand
-way_behind n hand f lt = rw (lt-leb hand f lt) refl
-
--- what is nearer than a frame ahead of the hand is between the two
-nearer_ahead : (n hand f i : ℕ) → hand ≤ n → hand ≤ f → f < n → i < n → way n hand i < way n hand f
-    → (hand ≤ i) × (i < f)
-nearer_ahead n hand f i fits above below lt near = elim (below_or_past i hand) [
-  | inl under ↦ absurd (omega (arith, near, way_ahead n hand f above, way_behind n hand i under))
-  | inr over ↦ (over, omega (arith, near, way_ahead n hand f above, way_ahead n hand i over))
-]
-
-first_ahead : (p : Frame → Bool) (frames : List Frame) (hand f : ℕ) → hand ≤ length frames
-    → IsFirst p frames hand (length frames) f
-    → IsFirstFromHand (core_of frames hand) p f
-first_ahead p frames hand f fits h = record {
-  within = h.below;
-  here = h.here;
-  before = λ i lt near.
-      (let between = nearer_ahead (length frames) hand f i fits h.above h.below lt near in
-      h.before i between.0 between.1);
-}
-
-first_behind : (p : Frame → Bool) (frames : List Frame) (hand f : ℕ) → hand ≤ length frames
-    → HasNone p frames hand (length frames) → IsFirst p frames 0 hand f
-    → IsFirstFromHand (core_of frames hand) p f
-first_behind p frames hand f fits none h = record {
-  within = omega (arith, fits, h.below);
-  here = h.here;
-  before = λ i lt near. elim (below_or_past i hand) [
-    | inl under ↦ h.before i (omega arith) (omega (
-      arith,
-      near,
-      fits,
-      way_behind (length frames) hand f h.below,
-      way_behind (length frames) hand i under,
-    ))
-    | inr over ↦ none.none i over lt
-  ];
-}
-
-first_round : (frames : List Frame) (hand f : ℕ) → hand ≤ length frames → IsFirstBound frames hand f
-    → IsFirstFromHand (core_of frames hand) is_bound f
-first_round frames hand f fits (inl h) = first_ahead is_bound frames hand f fits h
-first_round frames hand f fits (inr h) = first_behind is_bound frames hand f fits h.0 h.1
-
-passes_ahead : (old new : List Frame) (hand f : ℕ) → hand ≤ length old → PassesTo old new hand (length old) f
-    → PassesOver (core_of old hand) new f
-passes_ahead old new hand f fits h = record {
-  first = first_ahead is_idle old hand f fits h.first;
-  passed = λ i lt near.
-      (let between = nearer_ahead (length old) hand f i fits h.first.above h.first.below lt near in
-      h.marks.inside i between.0 between.1);
-  others = λ i lt far. elim (below_or_past i hand) [
-    | inl under ↦ h.marks.before i under
-    | inr over ↦ h.marks.after i (omega (
-      arith,
-      far,
-      h.first.above,
-      way_ahead (length old) hand f h.first.above,
-      way_ahead (length old) hand i over,
-    ))
-  ];
-}
-
-passes_behind : (old new : List Frame) (hand f : ℕ) → hand ≤ length old → StopsBehind old new hand f
-    → PassesOver (core_of old hand) new f
-passes_behind old new hand f fits h = record {
-  first = first_behind is_idle old hand f fits h.ahead.busy
-      (first_alike is_idle old h.middle 0 hand f (idle_before old h.middle hand h.ahead.marks) h.behind.first);
-  passed = λ i lt near. elim (below_or_past i hand) [
-    | inl under ↦ (let early : i < f = omega (
-      arith,
-      near,
-      fits,
-      way_behind (length old) hand f h.behind.first.below,
-      way_behind (length old) hand i under,
-    ) in
-        h.behind.marks.inside i (omega arith) early ∙ ap unmarked (h.ahead.marks.before i under))
-    | inr over ↦ h.behind.marks.after i (omega (arith, over, h.behind.first.below)) ∙ h.ahead.marks.inside i over lt
-  ];
-  others = λ i lt far. elim (below_or_past i hand) [
-    | inl under ↦ h.behind.marks.after i (omega (
-      arith,
-      far,
-      fits,
-      way_behind (length old) hand f h.behind.first.below,
-      way_behind (length old) hand i under,
-    ))
-        ∙ h.ahead.marks.before i under
-    | inr over ↦ absurd (omega (
-      arith,
-      far,
-      lt,
-      over,
-      fits,
-      h.behind.first.below,
-      way_behind (length old) hand f h.behind.first.below,
-      way_ahead (length old) hand i over,
-    ))
-  ];
-}
-
-goes_round : (old new : List Frame) (hand f : ℕ) → hand ≤ length old → GoesAround old new hand f
-    → GoesRound (core_of old hand) new f
-goes_round old new hand f fits h = record {
-  busy = λ i lt. elim (below_or_past i hand) [
-    | inl under ↦ sym (idle_before old h.middle hand h.ahead.marks i under) ∙ h.behind.busy.none i (omega arith) under
-    | inr over ↦ h.ahead.busy.none i over lt
-  ];
-  first = first_round old hand f fits
-      (first_bound_alike old new hand f (h.behind.marks.count ∙ h.ahead.marks.count) (bound_alike old new hand f h)
-      h.first);
-  passed = λ i lt. elim (below_or_past i hand) [
-    | inl under ↦ h.behind.marks.inside i (omega arith) under ∙ ap unmarked (h.ahead.marks.before i under)
-    | inr over ↦ h.behind.marks.after i over ∙ h.ahead.marks.inside i over lt
-  ];
-}
-
-pub turned_turn : (old new : List Frame) (hand f : ℕ) → hand ≤ length old → IsTurned old new hand f
-    → IsTurn (core_of old hand) new f
-turned_turn old new hand f fits (inl h) = inl (passes_ahead old new hand f fits h)
-turned_turn old new hand f fits (inr (inl h)) = inl (passes_behind old new hand f fits h)
-turned_turn old new hand f fits (inr (inr h)) = inr (goes_round old new hand f fits h)
 
 -- the choice and the marks as functions
 last_range : (hand : ℕ) → range_with_len 0 hand ≡ range_with_len 0 (hand - 0) ++ []
