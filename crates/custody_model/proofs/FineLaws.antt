@@ -210,9 +210,6 @@ pub record HoldsLess (old new : Seat) : Type 0 where
   pub due : new.due ≡ old.due
   pub idle : new.online ≡ false → (new.segs ≡ []) × (new.pages ≡ [])
 
-seat_cases : (c : Custody) (d e : ℕ) (s : Seat) (P : Seat → Type 0) → P s → P (c.seat e) → P ((with_seat c d s).seat e)
-seat_cases c d e s P here other = by_place e d s (c.seat e) P (λ i. here) (λ i. other)
-
 pub less_fine : (c : Custody) (b : Bool) (d : ℕ) (s : Seat) → Fine c b → HoldsLess (c.seat d) s
     → Fine (with_seat c d s) b
 less_fine c b d s fine less = record {
