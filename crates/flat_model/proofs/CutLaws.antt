@@ -159,9 +159,6 @@ module _ (s : Store) (u from : ℕ) where
       })
       (record s { words = w; stored = left })
 
-  cut_words : Words
-  cut_words = without_words s.words u from
-
   words_same : (v o : ℕ)
       → cond (eqb v u && (eqb (o / 1024) page && nat_le (from % 1024) (o % 1024))) 0
       (cond (eqb v u && later_page (o / 1024)) 0 (s.words v o)) ≡

@@ -1,5 +1,5 @@
 -- Laws of the stored pages: which are there once one is stored, or once some of a segment are stored no more.
-use Rattle.std.proofs.Common.{◌≡◌, ℕ, ◌+◌, Bool, true, false, not, cond, eqb, ◌&&◌, ◌||◌, List, [], ◌∷◌, length, refl}
+use Rattle.std.proofs.Common.{◌≡◌, ℕ, ◌+◌, Bool, true, false, not, cond, eqb, ◌&&◌, ◌||◌, List, [], ◌∷◌, refl}
 use Rattle.std.proofs.Common.{sym, ap, ◌∙◌, arith, filter}
 use Rattle.std.specs.Prelude.{nat_le}
 use Rattle.std.proofs.lemmas.Bool.Decides.{nat_tests}
@@ -31,15 +31,6 @@ once_with xs u p once = stored_or (is_stored xs u p) refl
     stored_or : (z : Bool) → is_stored xs u p ≡ z → IsOnce (cond z xs ((u, p) ∷ xs))
     stored_or true h = once
     stored_or false h = (h, once)
-
-pub length-with_new : (xs : List (ℕ × ℕ)) (u p : ℕ) → is_stored xs u p ≡ false → length (with_stored xs u p)
-    ≡ length xs + 1
-unfolding with_stored
-length-with_new xs u p h = rw h (omega arith)
-
-pub with_new : (xs : List (ℕ × ℕ)) (u p : ℕ) → is_stored xs u p ≡ false → with_stored xs u p ≡ (u, p) ∷ xs
-unfolding with_stored
-with_new xs u p h = rw h refl
 
 pub with_old : (xs : List (ℕ × ℕ)) (u p : ℕ) → is_stored xs u p ≡ true → with_stored xs u p ≡ xs
 unfolding with_stored
@@ -109,28 +100,6 @@ without_absent (x ∷ xs) u p h =
     let here : is_page u p x ≡ false = grind (arith, nat_tests) in
     let rest : is_stored xs u p ≡ false = grind (arith, nat_tests) in
     without_first x xs u (λ q. eqb q p) false here ∙ ap (λ (ys : List (ℕ × ℕ)). x ∷ ys) (without_absent xs u p rest)
-
-pub length-without : (xs : List (ℕ × ℕ)) (u p : ℕ) → IsOnce xs → is_stored xs u p ≡ true
-    → length (without_stored xs u (λ q. eqb q p)) + 1 ≡ length xs
-length-without [] u p once h = absurd cc
-length-without (x ∷ xs) u p once h = found (is_page u p x) refl (λ rest. length-without xs u p once.1 rest)
-  where
-    left : List (ℕ × ℕ) → List (ℕ × ℕ)
-    left ys = without_stored ys u (λ q. eqb q p)
-
-    found : (z : Bool) → is_page u p x ≡ z → (is_stored xs u p ≡ true → length (left xs) + 1 ≡ length xs)
-        → length (left (x ∷ xs)) + 1 ≡ length (x ∷ xs)
-    found true e ih =
-        let first : x.0 ≡ u = grind (arith, nat_tests) in
-        let second : x.1 ≡ p = grind (arith, nat_tests) in
-        let gone : is_stored xs u p ≡ false = sym (ap (λ a. is_stored xs a x.1) first
-        ∙ ap (λ b. is_stored xs u b) second) ∙ once.0 in
-        ap (λ (ys : List (ℕ × ℕ)). length ys + 1) (without_first x xs u (λ q. eqb q p) true e
-        ∙ without_absent xs u p gone) ∙ omega arith
-    found false e ih =
-        let rest : is_stored xs u p ≡ true = grind (arith, nat_tests) in
-        let less : length (left xs) + 1 ≡ length xs = ih rest in
-        ap (λ (ys : List (ℕ × ℕ)). length ys + 1) (without_first x xs u (λ q. eqb q p) false e) ∙ omega (arith, less)
 
 -- a stored page at or past one
 pub stored_from : (xs : List (ℕ × ℕ)) (u from q : ℕ) → is_stored xs u q ≡ true → nat_le from q ≡ true

@@ -56,10 +56,3 @@ few_pages volumes path pages volume h = grind (arith, nat_tests)
 pub command_planned : (p : Plan) (process place : ℕ) (c : Command) → IsPlan p → command_at p process place ≡ Some c
     → is_command (length p.volumes) c ≡ true
 command_planned p process place c h at = command_there (length p.volumes) p.processes process place c h.each at
-
--- the segments that a script makes are small
-pub plan_small : (p : Plan) (process place : ℕ) (path : List (List ℕ)) (pages volume : ℕ) → IsPlan p
-    → command_at p process place ≡ Some (command.MkSeg path pages volume) → pages ≤ 256
-plan_small p process place path pages volume h at =
-    few_pages (length p.volumes) path pages volume (command_planned p process place (command.MkSeg path pages volume) h
-    at)
