@@ -3,7 +3,6 @@ use Rattle.std.proofs.Common.{◌≡◌, ◌≢◌, ℕ, suc, zero, ◌+◌, ◌
 use Rattle.std.proofs.Common.{length, get_or, take, drop, Option, Some, None, map, refl, sym, ap, subst, ◌∙◌, arith, inl, inr}
 use Rattle.std.proofs.Common.{All}
 use Rattle.std.specs.List.{slice_split, position, position_or_len, before_first, after_first, join_with_byte, list_all}
-use Rattle.std.specs.List.{count_by}
 use Rattle.std.proofs.lemmas.Bool.Decides.{eqb_tells, nat_tests}
 use Rattle.std.proofs.lemmas.Grind.{common_steps}
 use Rattle.std.proofs.lemmas.List.{drop-drop, take_at, append_assoc, map-append, length-append, length-map}
@@ -214,11 +213,6 @@ pub words_of_join : (ws : List (List ℕ)) → 0 < length ws → AllLack is_spac
     → slice_split is_space (join_with_byte 32 ws) ≡ ws
 words_of_join [] some h = absurd (omega arith)
 words_of_join (w ∷ ws) some h = slice_split-join w ws h
-
--- a line has a word
-pub some_word : (line : List ℕ) → slice_split is_space line ≡ [] → ⊥
-some_word line h = let none : 0 ≡ count_by is_space line + 1 = sym (ap length h)
-    ∙ length-slice_split is_space line in omega arith
 
 -- what the proof of `read_words` is given
 pub ruleset words_taken = (taken_none, taken_byte, taken_word, taken_last, taken_full)
