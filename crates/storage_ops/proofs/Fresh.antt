@@ -1,7 +1,7 @@
 -- Volumes of which nothing is in use, and a store of nothing at all.
 use Rattle.std.proofs.Common.{◌≡◌, ◌≢◌, ℕ, zero, suc, ◌+◌, ◌<◌, ◌≤◌, ◌/◌, ◌%◌, Bool, true, false, cond, eqb, ◌&&◌}
 use Rattle.std.proofs.Common.{List, [], ◌∷◌, length, map}
-use Rattle.std.proofs.Common.{Option, Some, None, get_or, is_some, replicate, sum, refl, sym, ap, ◌∙◌, arith}
+use Rattle.std.proofs.Common.{Option, Some, None, get_or, is_some, replicate, refl, sym, ap, ◌∙◌, arith}
 use Rattle.std.proofs.Common.{inl, inr, is_none}
 use Rattle.std.specs.Prelude.{count_by, nat_le, nat_lt, slice_get}
 use Rattle.std.specs.List.{list_all}

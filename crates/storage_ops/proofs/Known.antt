@@ -44,12 +44,6 @@ under_with next kst uid None lt old = old
 under_with next kst uid (Some n) lt old =
     under_set next kst n (Some uid) (λ u e. (let same : uid ≡ u = cc in subst (λ (x : ℕ). x < next) same lt)) old
 
-pub under_without : (next : ℕ) (kst : List (Option ℕ)) (n : ℕ) → ((number u : ℕ) → uid_of kst number ≡ Some u
-    → u < next)
-    → (number u : ℕ) → uid_of (without_number kst n) number ≡ Some u → u < next
-unfolding AreUnder
-under_without next kst n old = under_set next kst n None (λ u e. cc) old
-
 pub known_set : (next : ℕ) (known : List (List (Option ℕ))) (whos : List Who) (k : ℕ) (kst : List (Option ℕ))
     → AreKnown next known whos
     → ((number u : ℕ) → uid_of kst number ≡ Some u → u < next) → AreKnown next (set known k kst) whos

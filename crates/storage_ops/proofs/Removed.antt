@@ -25,7 +25,6 @@ use Rattle.flat_model.proofs.NodeLaws.{volume_found}
 use Rattle.flat_model.proofs.PageLaws.{is_stored-without, once_without, without_first, without_none}
 use Rattle.flat_model.proofs.RemoveLaws.{directory_left, node_gone, taken_left, volume_left}
 use Rattle.flat_model.proofs.TreeLaws.{entries_less}
-use Rattle.vtoc.specs.Vtoc.{Entry as VtocEntry, entry_at, uid_of}
 use Rattle.core_map.specs.CoreMap.{Core, frame_at, started_page}
 use Rattle.core_map.specs.declared.Frame.TheVariants.{Free, Started}
 use Rattle.page_table.specs.declared.Ptw.TheVariants.{Null}
@@ -39,8 +38,8 @@ use Rattle.page_control.specs.declared.Home.{Home}
 use Rattle.page_control.specs.Counts.{entries, named_on, one_less, size, taken, used}
 use Rattle.page_control.specs.Picture.{is_filed_at, words_at}
 use Rattle.page_control.specs.Effects.{erased, freed}
-use Rattle.page_control.specs.Plain.{Plain, file_map_of, flags_of, plain, uid_of_home, uid_or_zero}
-use Rattle.page_control.specs.Tied.{IsNotStarted, map_at, uid_at, vtoc_in}
+use Rattle.page_control.specs.Plain.{Plain, file_map_of, flags_of, plain}
+use Rattle.page_control.specs.Tied.{IsNotStarted, map_at, uid_at}
 use Rattle.seg_control.specs.Control.{Links, leads_at, place_of, word_of}
 use Rattle.seg_control.specs.Kept.{AreExact, IsInactive, IsNotRead, times}
 use Rattle.storage_ops.specs.Shown.{AreCounted, AreHoused, AreInTree, AreTaken, IsCut, IsStore, Shows, Storage, home_of}
@@ -547,25 +546,6 @@ pub erased_entries : (old now : Plain) (home : Home) (v : ℕ) → now ≡ erase
     → entries now.vtocs v ≡ entries old.vtocs v
 erased_entries old now home v is =
     length_inside old.vtocs home.volume home.entry v None now.vtocs (ap (λ (x : Plain). x.vtocs) is)
-
-pub homed_uid : (now : Plain) (home : Home) (u : ℕ) → uid_at now.vtocs home ≡ Some u → uid_of_home now home ≡ u
-homed_uid now home u e = by (entry_at (vtoc_in now.vtocs home.volume) home.entry) e
-  where
-    by : (o : Option VtocEntry) → uid_of o ≡ Some u → uid_or_zero o ≡ u
-    by None e = cc
-    by (Some x) e = cc
-
--- a node's pages are counted no more, where none are counted
-pub none_recounted : (a : AccountMaps) (u : ℕ) → count_of a u ≡ 0 → Recounts a a u 0
-none_recounted a u none = record {
-  nodes = refl;
-  entries = refl;
-  next = refl;
-  counts = λ s. elim (cases_eq u s) [
-    | inl same ↦ ap (count_of a) (sym same) ∙ none ∙ ap (λ (z : Bool). cond z 0 (count_of a s)) (sym (eq-eqb u s same))
-    | inr apart ↦ ap (λ (z : Bool). cond z 0 (count_of a s)) (sym (ne_eqb u s apart))
-  ];
-}
 
 pub removed_done : (old now : Plain) (a mid b : AccountMaps) (u : ℕ) (home : Home) → home ≡ home_of a u
     → is_there a.nodes u ≡ true → Recounts a mid u 0 → Loses mid b u → now ≡ erased old home

@@ -50,31 +50,6 @@ store_still old now ast next links a whos vtocs records entries_same sizes h = r
   known = h.known;
 }
 
--- and so is the picture
-pub shown_still : {D : Type 0} (drive : D → List (List ℕ)) (p : Plan) (s : Store) (t u : Storage D)
-    → u.accounts ≡ t.accounts → u.whos ≡ t.whos
-    → u.segs.links ≡ t.segs.links → u.segs.pages.volumes.vtocs ≡ t.segs.pages.volumes.vtocs
-    → u.segs.pages.volumes.records ≡ t.segs.pages.volumes.records
-    → words_at (plain drive u.segs.pages) ≡ words_at (plain drive t.segs.pages) → Shows drive p s t → Shows drive p s u
-shown_still drive p s t u accounts whos links vtocs records words h = record {
-  tree = rw accounts h.tree;
-  known = h.known ∙ ap (λ (l : Links). l.known) (sym links);
-  pages = record {
-    stored = λ v q. h.pages.stored v q ∙ ap (λ (x : List (List (Option VtocEntry))). is_filed t.accounts x v q)
-        (sym vtocs)
-        ∙ ap (λ (x : AccountMaps). is_filed x u.segs.pages.volumes.vtocs v q) (sym accounts);
-    once = h.pages.once;
-    words = λ v o. h.pages.words v o ∙ ap (λ (ws : List ℕ). get_or ws (o % 1024) 0)
-        (ap (λ (x : ℕ → Home → ℕ → List ℕ). picture t.accounts x v (o / 1024)) (sym words)
-        ∙ ap (λ (x : AccountMaps). picture x (words_at (plain drive u.segs.pages)) v (o / 1024)) (sym accounts));
-  };
-  script = record {
-    records = λ v. h.script.records v ∙ ap (λ (f : List (List Bool)). size f v) (sym records);
-    entries = λ v. h.script.entries v ∙ ap (λ (x : List (List (Option VtocEntry))). entries x v) (sym vtocs);
-    whos = whos ∙ h.script.whos;
-  };
-}
-
 -- ---- a call that concerns one segment at its home, and keeps all words
 
 -- a home that a call takes for a segment is the node's

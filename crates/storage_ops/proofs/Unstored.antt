@@ -18,14 +18,14 @@ use Rattle.page_control.specs.Effects.{dropped}
 use Rattle.page_control.specs.declared.Home.{Home}
 use Rattle.page_control.specs.Plain.{Plain, binding_at, bindings}
 use Rattle.page_control.specs.Tied.{IsNotStarted, IsTableOf, frame_of, has_record, is_out}
-use Rattle.seg_control.specs.Control.{Control, place_of, table_of, word_of}
+use Rattle.seg_control.specs.Control.{place_of, table_of, word_of}
 use Rattle.seg_control.specs.Effects.{worded}
 use Rattle.accounts.specs.Maps.{entry_of}
 use Rattle.quota_cells.specs.Accounts.{look}
 use Rattle.tree_model.specs.Tree.{Node, volume_in}
 use Rattle.flat_model.proofs.DropLaws.{between}
 use Rattle.storage_ops.specs.Shown.{Storage, home_of}
-use Rattle.storage_ops.specs.Cut.{IsTakenFrom, IsTakenPast, Unstores, is_here, unbound}
+use Rattle.storage_ops.specs.Cut.{IsTakenPast, Unstores, is_here, unbound}
 use Rattle.storage_ops.proofs.Known.{set_told}
 use Rattle.storage_ops.proofs.Paged.{active_place}
 use Rattle.laws.proofs.Options.{page_is}
@@ -307,14 +307,6 @@ idle_still old now u q same idle = record {
       (sym (get_or-map started_page old.frames f Free)
       ∙ ap (λ (xs : List (Option (ℕ × ℕ))). get_or xs f None) (sym same)
       ∙ get_or-map started_page now.frames f Free ∙ ap started_page is));
-}
-
--- what is taken stays so, where later pages are stored no more
-pub taken_later : {D : Type 0} (segs : Control D) (u from later : ℕ) → from ≤ later → IsTakenFrom segs u from
-    → IsTakenFrom segs u later
-taken_later segs u from later le h = record {
-  taken = λ q at. h.taken q (omega (arith, le, at));
-  idle = λ q at. h.idle q (omega (arith, le, at));
 }
 
 pub taken_past : {D : Type 0} (old new : Storage D) (u words : ℕ)

@@ -30,11 +30,6 @@ module _ (u w : ℕ) where
   pub rows_on : (n : Node) → (on_volume u w n).rows ≡ n.rows
   rows_on = field_kept (λ (x : Node). x.rows) (λ n. record n { volume = w }) u (λ n. refl)
 
-  pub uids_on : (ns : List Node) → map (λ n. n.uid) (map (on_volume u w) ns) ≡ map (λ n. n.uid) ns
-  uids_on [] = refl
-  uids_on (n ∷ ns) = ap (λ (x : ℕ). x ∷ map (λ n. n.uid) (map (on_volume u w) ns)) (uid_on n)
-      ∙ ap (λ (xs : List ℕ). n.uid ∷ xs) (uids_on ns)
-
   pub directory_on : (ns : List Node) (v : ℕ) → has_directory (map (on_volume u w) ns) v ≡ has_directory ns v
   directory_on ns v = field_mapped (λ (xs : List Node). has_directory xs v) (λ (x : Node). x.directory) v
       (λ m xs. refl) (on_volume u w) uid_on kind_on ns
