@@ -79,12 +79,6 @@ pub reached_on : (p : Plan) (s : Store) (k place : ℕ) (c : Command) (r : Reply
 unfolding after_command
 reached_on p s k place c r h going at there = record { plan = h.plan; places = places; uids = uids }
   where
-    q : Progress
-    q = progress_of s k
-
-    t : Store
-    t = answered p s k c r
-
     within : k < length s.processes
     within = going_within s k going
 

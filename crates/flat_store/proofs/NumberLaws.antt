@@ -47,8 +47,3 @@ none_free kst n past before = by_answer (least_free kst) refl
         × ((k : ℕ) → k < i → is_none (get_or kst k None) ≡ false) =
         position-Some is_none kst i None e in
         let clash : true ≡ false = sym h.1 ∙ some_is (uid_of kst i) (before i (omega (arith, h.0, past))) in cc
-
-pub still_known : (kst : List (Option ℕ)) (n : ℕ) (o : Option ℕ) → o ≡ uid_of kst n → is_none o ≡ false
-    → is_some (uid_of kst n) ≡ true
-still_known kst n None at e = cc
-still_known kst n (Some u) at e = ap is_some (sym at)

@@ -1,5 +1,5 @@
 -- A word is written.
-use Rattle.std.proofs.Common.{◌≡◌, ◌≢◌, ℕ, zero, ◌+◌, ◌/◌, ◌%◌, ◌<◌, Bool, true, false, not, cond, eqb, ◌&&◌, ◌||◌}
+use Rattle.std.proofs.Common.{◌≡◌, ◌≢◌, ℕ, ◌+◌, ◌/◌, ◌%◌, ◌<◌, Bool, true, false, not, cond, eqb, ◌&&◌, ◌||◌}
 use Rattle.std.proofs.Common.{List, length, set, get_or, Option, Some, None, Result, Ok, Err, is_some, refl}
 use Rattle.std.proofs.Common.{sym, ap, subst, ◌∙◌, arith, inl, inr, ◌⊎◌}
 use Rattle.std.specs.Prelude.{count_by}
@@ -277,36 +277,6 @@ zero_unstored p s h u o holds none = holds.pages.values u o ∙ empty (page_at h
     empty : (x : Option (List ℕ)) → is_some x ≡ false → word_in x (o % 1024) ≡ 0
     empty None e = refl
     empty (Some ws) e = cc
-
--- a 0 is written where nothing is stored
-pub nothing_written : (p : Plan) (s : Store) (h : Held) (u o w : ℕ) → Holds p h s
-    → is_some (page_at h.pages u (o / 1024)) ≡ false → w ≡ 0
-    → Holds p h (written s u o w)
-nothing_written p s h u o w holds none is =
-    let here : eqb w 0 ≡ true = grind (arith, nat_tests) in
-    subst (λ (x : Store). Holds p h x) (sym (same here)) holds
-  where
-    zero_there : s.words u o ≡ 0
-    zero_there = zero_unstored p s h u o holds none
-
-    at : (v x : ℕ) → with_word s.words u o w v x ≡ s.words v x
-    at v x = ap (λ (z : Bool). cond z w (s.words v x)) (flip_word u o v x) ∙ chosen (eqb u v) (eqb o x) refl refl
-      where
-        chosen : (a b : Bool) → eqb u v ≡ a → eqb o x ≡ b → cond (a && b) w (s.words v x) ≡ s.words v x
-        chosen true true e f =
-            let uv : u ≡ v = grind (arith, nat_tests) in
-            let ox : o ≡ x = grind (arith, nat_tests) in
-            is ∙ sym zero_there ∙ ap (λ (z : ℕ). s.words z o) uv ∙ ap (s.words v) ox
-        chosen true false e f = refl
-        chosen false b e f = refl
-
-    same : eqb w 0 ≡ true → written s u o w ≡ s
-    same here =
-        ap (λ (z : Bool). record s {
-          words = with_word s.words u o w;
-          stored = cond z s.stored (with_stored s.stored u (o / 1024));
-        }) here
-        ∙ ap (λ (f : Words). record s { words = f }) (λ i. λ v. λ x. at v x i)
 
 clash : (e : Full) (r : Result (Unit {0}) Full) → r ≡ Err e → r ≡ Ok tt → ⊥
 clash e r refused charged = cc
