@@ -3,13 +3,13 @@ use Rattle.std.proofs.Common.{◌≡◌, ℕ, suc, ◌+◌, ◌*◌, ◌<◌, �
 use Rattle.std.proofs.Common.{Some, None, refl, sym, subst, ◌∙◌, arith, inl, inr}
 use Rattle.std.specs.Prelude.{IfSome, slice_index_or}
 use Rattle.std.specs.List.{list_all}
-use Rattle.std.proofs.lemmas.Bool.{cases_Bool, cases_eq}
+use Rattle.std.proofs.lemmas.Bool.{cases_eq}
 use Rattle.std.specs.Bool.{Decides}
 use Rattle.script.specs.Plans.{Plan}
-use Rattle.flat_model.specs.Legal.{MayFault, MayRelease}
-use Rattle.flat_model.specs.Pages.{is_stored, is_zero_page}
+use Rattle.flat_model.specs.Legal.{MayFault}
+use Rattle.flat_model.specs.Pages.{is_zero_page}
 use Rattle.flat_model.specs.Store.{Progress, Store, progress_of}
-use Rattle.flat_model.proofs.ZeroLaws.{words_zero, zero_words}
+use Rattle.flat_model.proofs.ZeroLaws.{words_zero}
 use Rattle.flat_store.specs.Shown.{Kept, Shows}
 use Rattle.book.specs.declared.entries.Entry.{Entry}
 use Rattle.book.specs.declared.entries.Entry.TheVariants as entry
@@ -29,14 +29,6 @@ each_ended (q ∷ qs) each =
 pub may_fault : (p : Plan) (k : Kept) (s : Store) → Shows p k s → HaveEnded p s → MayFault s None
 unfolding HaveEnded
 may_fault p k s shown all = each_ended s.processes (λ j lt. all j (subst (λ (n : ℕ). j < n) shown.shown.runners lt))
-
--- a page that is stored, and may not be given up, isn't all zeros
-pub not_zeros : (s : Store) (u q : ℕ) → is_stored s.stored u q ≡ true → (MayRelease s u q → ⊥)
-    → is_zero_page s.words u q ≡ false
-not_zeros s u q there not_ = elim (cases_Bool (is_zero_page s.words u q)) [
-  | inl e ↦ absurd (not_ (record { there = there; zeros = e }))
-  | inr e ↦ e
-]
 
 pub all_ended : (p : Plan) (s : Store) (k : ℕ) → length p.processes ≤ k
     → ((j : ℕ) → j < k → (progress_of s j).ended ≡ true) → HaveEnded p s
@@ -66,13 +58,6 @@ words_so_far s u q at r told no_ small lt all i less = elim (cases_eq i at) [
 pub all_words_zero : (s : Store) (u q at : ℕ) → 1024 ≤ at → ((i : ℕ) → i < at → s.words u (1024 * q + i) ≡ 0)
     → is_zero_page s.words u q ≡ true
 all_words_zero s u q at most all = words_zero s.words u q (λ i lt. all i (omega (arith, lt, most)))
-
--- a page of which no word was found to be other than 0 is one that no segment has
-pub found_at : (s : Store) (u q at : ℕ) → HasWordAt s u q at → at < 1024 → is_zero_page s.words u q ≡ false
-found_at s u q at there lt = elim (cases_Bool (is_zero_page s.words u q)) [
-  | inl e ↦ absurd (there.other (zero_words s.words u q at e lt))
-  | inr e ↦ e
-]
 
 -- why no failure of a drive is told of a process, or of none, as what is so of its entry
 pub fault_so : (p : Plan) (s : Store) (o : Option ℕ) (e : Entry) → e ≡ entry.Fault o → (r : Option Reason)
