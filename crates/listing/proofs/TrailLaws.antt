@@ -1,11 +1,10 @@
 -- The names from the root down to a node are those of the nodes on the way there.
 use Rattle.std.proofs.Common.{◌≡◌, ℕ, ◌+◌, ◌<◌, ◌≤◌, true, false, eqb, List, [], ◌∷◌, ◌++◌, length, reverse}
-use Rattle.std.proofs.Common.{take, get_or, is_some, Option, Some, None, refl, sym, ap, subst, ◌∙◌, arith, inl, inr}
+use Rattle.std.proofs.Common.{take, is_some, Option, Some, None, refl, sym, ap, subst, ◌∙◌, arith, inl, inr}
 use Rattle.std.specs.List.{flat_map}
 use Rattle.std.proofs.lemmas.Bool.{cases_Bool}
 use Rattle.std.proofs.lemmas.Bool.Decides.{nat_tests}
 use Rattle.std.proofs.lemmas.Grind.{common_steps}
-use Rattle.std.proofs.lemmas.List.{append-nil, take_more}
 use Rattle.std.proofs.lemmas.List.Concat.{flat_map-append}
 use mathlib.Core.List.{reverse-cons}
 use Rattle.tree_model.specs.Tree.{Node, above, node_in, step_up}
@@ -107,22 +106,6 @@ trail_is (n ∷ ns) u t there = elim (cases_Bool (eqb n.uid u)) [
 -- the names of the nodes on the way so far
 abbrev pub HasTrail : List Node → List ℕ → List (List ℕ) → Type 0
 HasTrail ns xs names = names ≡ flat_map (name_at ns) xs
-
-pub trail_start : (ns : List Node) (xs : List ℕ) (names : List (List ℕ)) → names ≡ [] → HasTrail ns (take 0 xs) names
-trail_start ns xs names e = e
-
-pub trail_more : (ns : List Node) (xs : List ℕ) (i x : ℕ) (names new : List (List ℕ)) (o : Option Node) → i < length xs
-    → x ≡ get_or xs i x
-    → HasTrail ns (take i xs) names → node_in ns x ≡ o → new ≡ names ++ name_of o → HasTrail ns (take (i + 1) xs) new
-trail_more ns xs i x names new o lt at h is add =
-    let more : take (i + 1) xs ≡ take i xs ++ x ∷ [] = take_more xs i x lt
-    ∙ ap (λ (y : ℕ). take i xs ++ y ∷ []) (sym at) in
-    add
-    ∙ ap (λ (t : List (List ℕ)). t ++ name_of o) h
-    ∙ ap (λ (t : List (List ℕ)). flat_map (name_at ns) (take i xs) ++ t)
-    (sym (append-nil (name_at ns x) ∙ ap name_of is))
-    ∙ sym (flat_map-append (name_at ns) (take i xs) (x ∷ []))
-    ∙ ap (flat_map (name_at ns)) (sym more)
 
 pub trail_end : (ns : List Node) (u : ℕ) (chain xs : List ℕ) (i : ℕ) (names : List (List ℕ)) → IsTree ns
     → is_some (node_in ns u) ≡ true
