@@ -16,14 +16,7 @@ use Rattle.book_check.specs.declared.offences.CheckFault.{CheckFault}
 use Rattle.book_check.specs.declared.offences.CheckFault.TheVariants as fault
 use Rattle.book_check.specs.declared.judge.LineFault.{LineFault}
 use Rattle.book_check.specs.declared.judge.LineFault.TheVariants as broken
-use Rattle.book_check.proofs.VerdictLaws.{judged_up, judged_down, passed, not_passed, fault_only, fault_there}
-
-pub reached_start : (j : Judged) (n : ℕ) (all : List (List ℕ)) → IsAfter j [] → IsReached j n all all
-reached_start j n all is = record {
-  entries = [];
-  after = is;
-  same = λ v. (judged_up j.script n all v, judged_down j.script n all v);
-}
+use Rattle.book_check.proofs.VerdictLaws.{passed, not_passed, fault_only, fault_there}
 
 -- each processor's count has room, since it is at most the number of entries
 pub room_there : (j : Judged) (n : ℕ) (all left : List (List ℕ)) → IsReached j n all left → j.entries < 2 ^ 31
@@ -47,9 +40,6 @@ reached_next old new n all left more line is cut before one takes =
   where
     next : IsNext old new is.entries line
     next = takes is.entries is.after
-
-    here : IsReached old n all (line ∷ more)
-    here = subst (IsReached old n all) cut is
 
     forth : (v : Result ℕ CheckFault) → IsJudged old.script n all v
         → IsJudgedFrom old.script n (is.entries ++ next.entry ∷ []) more v

@@ -13,9 +13,6 @@ pub record AreSame (all due left wanted : List (List ℕ)) (n : ℕ) : Type 0 wh
   pub forth : all ≡ due → left ≡ wanted
   pub back : left ≡ wanted → all ≡ due
 
-pub same_start : (all due : List (List ℕ)) → AreSame all due all due 0
-same_start all due = record { count = omega arith; forth = λ e. e; back = λ e. e }
-
 both_same : (line other : List ℕ) (more others : List (List ℕ)) → bytes_eq line other ≡ true
     → same_lines (line ∷ more) (other ∷ others) ≡ 1 + same_lines more others
 both_same line other more others e = rw e refl
@@ -55,9 +52,6 @@ module _ (all due left wanted : List (List ℕ)) (n : ℕ) (is : AreSame all due
           omega (arith, is.count, step),
         )
 
-  pub both_end : left ≡ [] → wanted ≡ [] → all ≡ due
-  both_end e f = is.back (e ∙ sym f)
-
   pub left_ends : left ≡ [] → wanted ≢ [] → (all ≢ due) × (n ≡ same_lines all due)
   left_ends e more =
       let step : same_lines left wanted ≡ 0 = ap (λ (t : List (List ℕ)). same_lines t wanted) e in
@@ -96,7 +90,3 @@ module _ (given due left wanted : List ℕ) (n : ℕ) (is : AreSame (lines_of gi
       × (n ≡ same_lines (lines_of given) (lines_of due))
   given_ends e some = left_ends (lines_of given) (lines_of due) (lines_of left) (lines_of wanted) n is (no_lines left e)
       (some_line wanted some)
-
-  pub texts_end : length left ≡ 0 → length wanted ≡ 0 → lines_of given ≡ lines_of due
-  texts_end e f = both_end (lines_of given) (lines_of due) (lines_of left) (lines_of wanted) n is (no_lines left e)
-      (no_lines wanted f)

@@ -15,7 +15,7 @@ use Rattle.custody_model.specs.Next.{custody_next}
 use Rattle.book_check.specs.Inputs.{entry_lines, is_summary, summary_lines}
 use Rattle.book_check.specs.Judging.{OnlyOne}
 use Rattle.book_check.specs.Going.{Finds, IsJudgedFrom}
-use Rattle.book_check.specs.Verdicts.{AreEntries, Breaks, BreaksEnd, BreaksEntry, IsJudged, IsTextOf, IsWhole}
+use Rattle.book_check.specs.Verdicts.{AreEntries, BreaksEnd, BreaksEntry, IsTextOf, IsWhole}
 use Rattle.book_check.specs.Verdicts.{MayStand, due_lines}
 use Rattle.book_check.specs.declared.offences.Rule.{Rule}
 use Rattle.book_check.specs.declared.offences.Rule.TheVariants as rule
@@ -139,60 +139,6 @@ one_end p n es summary (Err (fault.Script r)) w h k = absurd h
 one_end p n es summary (Err fault.Memory) w h k = absurd h
 one_end p n es summary v (Err (fault.Script r)) h k = absurd k
 one_end p n es summary v (Err fault.Memory) h k = absurd k
-
--- ---- a listing whose first entries were accepted
-
-pub judged_up : (p : Plan) (n : ℕ) (lines : List (List ℕ)) (v : Result ℕ CheckFault) → IsJudged p n lines v
-    → IsJudgedFrom p n [] lines v
-judged_up p n lines (Ok count) h = record {
-  entries = h.entries;
-  left = [];
-  texts = h.texts ∙ sym (append-nil (map entry_text h.entries));
-  stand = h.stand;
-  finds = (h.all, h.whole, h.summary, h.settled);
-}
-judged_up p n lines (Err (fault.Refused o)) h = up h.entries h.left h.texts h.stand h.breaks
-  where
-    up : (es : List Entry) (left : List (List ℕ)) → entry_lines lines ≡ map entry_text es ++ left → MayStand p es
-        → Breaks p es (n + length es) left (summary_lines lines) o.line o.rule
-        → IsJudgedFrom p n [] lines (Err (fault.Refused o))
-    up es [] texts stand breaks = record { entries = es; left = []; texts = texts; stand = stand; finds = breaks }
-    up es (l ∷ left) texts stand breaks = record {
-      entries = es;
-      left = l ∷ left;
-      texts = texts;
-      stand = stand;
-      finds =
-          breaks;
-    }
-judged_up p n lines (Err (fault.Script r)) h = absurd h
-judged_up p n lines (Err fault.Memory) h = absurd h
-
-pub judged_down : (p : Plan) (n : ℕ) (lines : List (List ℕ)) (v : Result ℕ CheckFault) → IsJudgedFrom p n [] lines v
-    → IsJudged p n lines v
-judged_down p n lines v h = down v h.entries h.left h.texts h.stand h.finds
-  where
-    down : (w : Result ℕ CheckFault) (es : List Entry) (left : List (List ℕ)) → entry_lines lines ≡ map entry_text es
-        ++ left → MayStand p es
-        → Finds p n es left (summary_lines lines) w → IsJudged p n lines w
-    down (Ok count) es [] texts stand finds = record {
-      entries = es;
-      texts = texts ∙ append-nil (map entry_text es);
-      all = finds.0;
-      stand = stand;
-      whole = finds.1;
-      summary = finds.2;
-      settled = finds.3;
-    }
-    down (Ok count) es (l ∷ left) texts stand finds = absurd finds
-    down (Err (fault.Refused o)) es [] texts stand finds =
-        record { entries = es; left = []; texts = texts; stand = stand; breaks = finds }
-    down (Err (fault.Refused o)) es (l ∷ left) texts stand finds =
-        record { entries = es; left = l ∷ left; texts = texts; stand = stand; breaks = finds }
-    down (Err (fault.Script r)) es [] texts stand finds = absurd finds
-    down (Err (fault.Script r)) es (l ∷ left) texts stand finds = absurd finds
-    down (Err fault.Memory) es [] texts stand finds = absurd finds
-    down (Err fault.Memory) es (l ∷ left) texts stand finds = absurd finds
 
 -- ---- a line before the summary
 

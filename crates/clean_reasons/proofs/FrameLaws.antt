@@ -1,5 +1,5 @@
 -- What it tells of a frame, a descriptor or a processor that it is looked for, or isn't.
-use Rattle.std.proofs.Common.{◌≡◌, ◌≢◌, ℕ, true, eqb, Option, Some, None, refl, sym, ap}
+use Rattle.std.proofs.Common.{◌≡◌, ◌≢◌, ℕ, true, Option, Some, None, refl, sym, ap}
 use Rattle.std.proofs.Common.{subst}
 use Rattle.std.specs.Option.{unwrap_or}
 use Rattle.custody_model.specs.Custody.{bound_page, is_uid, page_of, uid_of_page}

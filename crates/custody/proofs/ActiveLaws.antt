@@ -161,18 +161,6 @@ activates p s t u a found r is some nodes inactive h = by (node_in s.nodes u) re
               d.1 (record { superior = j.superior; room = subst (λ (x : ℕ). x < pool_size p (pool_of n)) c j.room }),
         )
 
-pub no_node : (p : Plan) (s : Store) (t : Tables) (u : ℕ) (found : Option ActiveUse) → found
-    ≡ use_in (node_in s.nodes u) → found ≡ None
-    → Decides false (MayActivate p s (custody_of t) u)
-no_node p s t u found is none = by (node_in s.nodes u) refl (sym is ∙ none)
-  where
-    by : (o : Option Node) → node_in s.nodes u ≡ o → use_in o ≡ None → Decides false (MayActivate p s (custody_of t) u)
-    by None e k = (
-      λ q. let z : false ≡ true = q in let no : ⊥ = cc in absurd no,
-      λ m. absurd (subst (λ (x : Option Node). IsSomeAnd x (MayJoin p s (custody_of t))) e m.node),
-    )
-    by (Some n) e k = absurd (some_none (record { superior = n.superior; pool = pool_of n }) (sym k))
-
 pub is_active : (p : Plan) (s : Store) (t : Tables) (u : ℕ) → is_some (active_at t.active u) ≡ true
     → Decides false (MayActivate p s (custody_of t) u)
 is_active p s t u e = (

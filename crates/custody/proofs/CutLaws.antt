@@ -1,5 +1,5 @@
 -- Which pages a truncation takes, and whether one of them is in a frame.
-use Rattle.std.proofs.Common.{◌≡◌, ◌≢◌, ◌<◌, ◌≤◌, ◌/◌, ◌%◌, ◌*◌, ℕ, suc, zero, ◌+◌, Bool, true, false, not}
+use Rattle.std.proofs.Common.{◌≡◌, ◌≢◌, ◌<◌, ◌≤◌, ◌/◌, ◌%◌, ◌*◌, ℕ, ◌+◌, Bool, true, false, not}
 use Rattle.std.proofs.Common.{List, Option, Some, None}
 use Rattle.std.proofs.Common.{refl, ap, subst, ◌∙◌, inl, inr, ◌⊎◌, arith}
 use Rattle.std.specs.Prelude.{nat_le, nat_lt}
@@ -74,17 +74,6 @@ none_from frames u k none = (λ t f q is. absurd (none f (ap uid_of_page is)), �
 
 -- ---- which pages are lost
 
-kept_at : (words : Words) (u from q : ℕ) → q < from / 1024 → is_lost words u from q ≡ false
-kept_at words u from q h =
-    let a : nat_le from (1024 * q) ≡ false = grind (arith, nat_tests) in
-    let b : nat_lt from (1024 * q + 1024) ≡ false = grind (arith, nat_tests) in
-    rw a (rw b refl)
-
-lost_at : (words : Words) (u from q : ℕ) → from ≤ 1024 * q → is_lost words u from q ≡ true
-lost_at words u from q h =
-    let a : nat_le from (1024 * q) ≡ true = grind (arith, nat_tests) in
-    rw a refl
-
 cut_at : (words : Words) (u from q : ℕ) → 1024 * q < from → from < 1024 * q + 1024 → is_lost words u from q
     ≡ is_zero_page words u q
 cut_at words u from q h g =
@@ -94,54 +83,6 @@ cut_at words u from q h g =
 
 order : (a b : ℕ) → (a < b) ⊎ ((a ≡ b) ⊎ (b < a))
 order a b = grind (arith, nat_tests)
-
-pub kept_whole : (words : Words) (u from : ℕ) → from % 1024 ≡ 0 → AreKept words u from (from / 1024)
-kept_whole words u from none q = (
-  λ h. kept_at words u from q h,
-  λ h. elim (order q (from / 1024)) [
-    | inl l ↦ l
-    | inr l ↦ absurd (not_both (lost_at words u from q (elim l
-        [ inl e ↦ omega (arith, none, e) | inr e ↦ omega (arith, none, e) ])) h)
-  ],
-)
-
-pub kept_cut : (words : Words) (u from : ℕ) → is_zero_page words u (from / 1024) ≡ true
-    → AreKept words u from (from / 1024)
-kept_cut words u from zeros q = (
-  λ h. kept_at words u from q h,
-  λ h. elim (order q (from / 1024)) [
-    | inl l ↦ l
-    | inr l ↦ elim l [
-      | inl e ↦ absurd (not_both (gone (from % 1024) refl e) h)
-      | inr e ↦ absurd (not_both (lost_at words u from q (omega (arith, e))) h)
-    ]
-  ],
-)
-  where
-    gone : (r : ℕ) → from % 1024 ≡ r → q ≡ from / 1024 → is_lost words u from q ≡ true
-    gone zero r e = lost_at words u from q (omega (arith, r, e))
-    gone (suc n) r e = cut_at words u from q (omega (arith, r, e)) (omega (arith, r, e)) ∙ ap (is_zero_page words u) e
-        ∙ zeros
-
-pub kept_more : (words : Words) (u from : ℕ) → from % 1024 ≢ 0 → is_zero_page words u (from / 1024) ≡ false
-    → AreKept words u from (from / 1024 + 1)
-kept_more words u from some words_left q = (
-  λ h. elim (order q (from / 1024)) [
-    | inl l ↦ kept_at words u from q l
-    | inr l ↦ elim l [
-      | inl e ↦ cut_at words u from q (omega (arith, some, e)) (omega (arith, some, e)) ∙ ap (is_zero_page words u) e
-          ∙ words_left
-      | inr e ↦ (let no : ⊥ = omega (arith, e, h) in absurd no)
-    ]
-  ],
-  λ h. elim (order q (from / 1024)) [
-    | inl l ↦ omega (arith, l)
-    | inr l ↦ elim l [
-      | inl e ↦ omega (arith, e)
-      | inr e ↦ absurd (not_both (lost_at words u from q (omega (arith, e))) h)
-    ]
-  ],
-)
 
 pub loses_decides : (s : Store) (t : Tables) (u from k : ℕ) (frames : List FrameUse) (r : Bool) → frames ≡ t.frames
     → AreKept (without_words s.words u from) u from k

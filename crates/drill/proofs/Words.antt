@@ -30,9 +30,6 @@ words_mono m (suc n) le = dite (ℕ_discrete m (suc n))
     (λ (here : m ≡ suc n). let w : words_to m ≡ words_to n + word_at n = ap words_to here in omega (arith, w))
     (λ (other : m ≢ suc n). let w = words_mono m n (omega arith) in omega (arith, w))
 
-pub words_more : (n : ℕ) → words_to (n + 1) ≡ words_to n + (1 + n % 7)
-words_more n = ap words_to (add-one n)
-
 pub sums_more : (frames adds seed n : ℕ) → sums_of frames adds seed (n + 1) ≡ sums_of frames adds seed n
     ++ words_to adds ∷ []
 sums_more frames adds seed n = ap (sums_of frames adds seed) (add-one n)

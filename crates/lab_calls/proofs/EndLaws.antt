@@ -107,14 +107,6 @@ bytes_fault traced bytes fault.Memory s out e h = record {
   so = subst (λ (x : Status). EndsRun traced bytes x out) (sym h.0) h.1;
 }
 
--- no input that was read ends so
-no_usage : (traced : Bool) (read : Result (Plan × List Line) ScheduleFault) (out : Change)
-    → ReadsTo traced read status.Usage out → ⊥
-no_usage traced (Ok x) out h = h
-no_usage traced (Err (fault.Script r)) out h = h
-no_usage traced (Err (fault.Schedule r)) out h = h
-no_usage traced (Err fault.Memory) out h = h
-
 no_length : (traced : Bool) (read : Result (Plan × List Line) ScheduleFault) (out : Change)
     → ReadsTo traced read status.TooLong out → ⊥
 no_length traced (Ok x) out h = h

@@ -2,7 +2,7 @@
 use Rattle.std.proofs.Common.{◌≡◌, ◌+◌, ◌-◌, ◌<◌, ◌++◌, ◌∷◌, ℕ, List, [], length, map, take, get_or, refl, sym, ap, subst}
 use Rattle.std.proofs.Common.{◌∙◌, arith}
 use Rattle.std.specs.Prelude.{sum_by}
-use Rattle.std.proofs.lemmas.List.{append_assoc, append-nil, length-append, map-append, take_more}
+use Rattle.std.proofs.lemmas.List.{append_assoc, length-append, map-append, take_more}
 use Rattle.std.proofs.lemmas.List.Sums.{sum_by-cons}
 use Rattle.bulk_store.specs.AnyDrive.{any_places}
 use Rattle.machine_model.specs.Reads.{process_at}
@@ -89,9 +89,6 @@ made_count old new (s ∷ ss) (mid, first, rest) =
     omega (arith, one, more, all)
 
 -- ---- the processors of a list
-
-pub all_start : (old : Machine) (before : List Step) (cpus : List ℕ) → MakesAll old old before before (take 0 cpus)
-all_start old before cpus = record { steps = []; made = refl; added = sym (append-nil before); cpus_are = refl }
 
 pub all_more : (old mid new : Machine) (before middle after : List Step) (cpus : List ℕ) (i : ℕ) (step : Step)
     → MakesAll old mid before middle (take i cpus) → IsMade mid new step → step.processor ≡ get_or cpus i 0

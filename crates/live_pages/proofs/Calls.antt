@@ -228,14 +228,6 @@ pub record ClearSoFar (pages : PagesModel) (old now : KeeperModel) (stamp cpu : 
   pub same : SameButWatch old.holder now.holder
   pub cleared : now.cleared ≡ old.cleared
 
-pub same_still : (old now next : Holder) (change : Watch → Watch) → SameButWatch old now
-    → next ≡ watching change now → SameButWatch old next
-same_still old now next change same is = record {
-  hand = ap (λ w. w.hand) is ∙ same.hand;
-  ended = ap (λ w. w.ended) is ∙ same.ended;
-  parts = ap (λ w. w.parts) is ∙ same.parts;
-}
-
 -- what a touch needs of the slot in hand
 pub slot_there : (m : Seat) (f : ℕ) → HasInHand m f → (old : Option Held) × (m.1 ≡ (f, old) ∷ rest m.1)
 slot_there m f (h, is, has) = (Some h, ap (λ x. x.1) is ∙ ap (λ x. (f, Some h) ∷ rest x.1) (sym is))

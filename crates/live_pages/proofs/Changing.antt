@@ -282,9 +282,6 @@ module _ (z : Size) where
 
 module _ (frames cpus : ℕ) (words : List ℕ) (w : Watch) (f : ℕ) (inside : f < frames) (k : PlanOk frames cpus words w)
   where
-    next : ℕ
-    next = 2 * (get_or w.doors f 0 / 2 + 1)
-
     door_here : get_or (set w.doors f (2 * (get_or w.doors f 0 / 2 + 1))) f 0 ≡ 2 * (get_or w.doors f 0 / 2 + 1)
     door_here = get_or-set_same w.doors f (2 * (get_or w.doors f 0 / 2 + 1)) 0 (let r = k.doors_row in omega arith)
 

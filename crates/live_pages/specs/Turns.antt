@@ -100,11 +100,6 @@ Looks s old word new = (cpu : ℕ) → s.word ≡ ack_at (length (holder_of old.
     → (slice_index (holder_of old.0).watch.noted cpu ≤ word)
     × (new ≡ (Keeping (watching (having_noted s.word cpu word) (holder_of old.0)), old.1))
 
--- the touch that lies with the page in hand, if a page is
-abbrev pub page_in_hand : List (ℕ × Option Held) → Option Held
-page_in_hand [] = None
-page_in_hand (x ∷ xs) = x.1
-
 abbrev pub binding_in : Option ℕ → ℕ
 binding_in None = 0
 binding_in (Some b) = b

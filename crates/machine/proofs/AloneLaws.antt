@@ -1,9 +1,8 @@
 -- What the tables ask of a processor that acts by itself follows from the promise and the rule.
-use Rattle.std.proofs.Common.{◌≡◌, ◌<◌, ◌≤◌, ◌+◌, ◌-◌, ◌^◌, ◌/◌, ℕ, zero, Bool, true, false, ◌||◌, ◌&&◌, cond}
+use Rattle.std.proofs.Common.{◌≡◌, ◌<◌, ◌≤◌, ◌+◌, ◌-◌, ◌^◌, ◌/◌, ℕ, Bool, true, false, ◌||◌, ◌&&◌, cond}
 use Rattle.std.proofs.Common.{eqb, length, map}
 use Rattle.std.proofs.Common.{List, [], ◌∷◌, Option, Some, None, refl, sym, ap, subst, ◌∙◌, inl, inr, arith}
 use Rattle.std.specs.List.{find}
-use Rattle.std.specs.List.{AllByRecursion}
 use Rattle.std.proofs.lemmas.Map.Steps.{length-le_from_distinct_below}
 use Rattle.std.proofs.lemmas.Bool.Decides.{eqb_tells}
 use Rattle.assoc_mem.specs.declared.HeldPage.{HeldPage}
@@ -39,25 +38,13 @@ use Rattle.machine_model.proofs.StepKept.{CanDo, CanFill, to_hold}
 use Rattle.machine_tables.specs.Parts.{Parts}
 use Rattle.machine.specs.Promise.{IsSound}
 use Rattle.machine.specs.Turns.{MayAnswer}
-use Rattle.laws.proofs.Numbers.{and_both, eqb_turned}
+use Rattle.laws.proofs.Numbers.{and_both}
 use Rattle.machine_model.proofs.OutlineSeen.{distinct_of}
 use Rattle.machine_model.proofs.CommitRests.{none_listed}
 use Rattle.std.proofs.lemmas.Bool.{or_parts}
 use Rattle.custody_model.proofs.SharedLaws.{range_length, any_turned}
 
 -- ---- ready processes
-
-has_tail : (x q : ℕ) (xs : List ℕ) → has xs q ≡ true → has (x ∷ xs) q ≡ true
-has_tail x q xs h = by (eqb x q)
-  where
-    by : (b : Bool) → (b || has xs q) ≡ true
-    by true = refl
-    by false = h
-
-apart_all : (x : ℕ) (xs : List ℕ) → has xs x ≡ false → AllByRecursion (λ y. eqb x y ≡ false) xs
-apart_all x [] h = tt
-apart_all x (y ∷ ys) h = let both = or_parts (eqb y x) (has ys x) h in
-    (eqb_turned x y ∙ both.0, apart_all x ys both.1)
 
 -- a list of distinct_of numbers below a number is no longer than that
 short : (n : ℕ) (xs : List ℕ) → AreDistinct xs → ((q : ℕ) → has xs q ≡ true → q < n) → length xs ≤ n

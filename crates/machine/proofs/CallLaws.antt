@@ -4,7 +4,6 @@ use Rattle.std.proofs.Common.{length, map, min, List, [], ◌∷◌, refl, ap, �
 use Rattle.std.specs.Prelude.{Err, IsOk, Ok, Result, count_by, sum_by}
 use Rattle.std.proofs.lemmas.Bool.{cases_lt}
 use Rattle.std.proofs.lemmas.List.Sums.{sum_by-cons}
-use Rattle.std.specs.Prelude.{sum}
 use Rattle.site_io.specs.Faults.{Rose}
 use Rattle.book.specs.declared.entries.Entry.{Entry}
 use Rattle.volumes.specs.FailLine.{IsOneMore}

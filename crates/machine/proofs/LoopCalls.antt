@@ -41,7 +41,6 @@ use Rattle.machine.specs.declared.turn.Turn.{Turn}
 use Rattle.machine.specs.declared.turn.Turn.TheVariants as turn
 use Rattle.machine.proofs.RestLaws.{rest_kept}
 use Rattle.machine.proofs.RunLaws.{round_made, run_append, run_grows, run_grows_on, run_keeps, run_keeps_on}
-use Rattle.laws.proofs.Bools.{and_first}
 
 -- ---- steps, one after another
 
@@ -442,11 +441,6 @@ module _ (s t : State) (c : ℕ) (answer : Turn) (turned : HasTurned s t c answe
 
 -- ---- the loop over a command
 
--- a processor that is at a command still has a process
-pub still_running : (s : State) (c since : ℕ) → is_still_at since (processor_at s.processors c) ≡ true
-    → is_some (cpu_at s.processors c).process ≡ true
-still_running s c since h = and_first (is_some (cpu_at s.processors c).process) _ h
-
 -- what is left of all commands, and one where the command is past
 abbrev pub IsOnWay : State → State → ℕ → ℕ → Type 0
 IsOnWay old s c since = all_rank (outline_of s) + cond (is_at (runner_at (outline_of s).runners c) since) 0 1
@@ -494,6 +488,3 @@ idle_done s t answer turned on none idle more = subst (λ (o : Outline). RoundDo
     (roomy_outline s turned.spare)
     (rounds.idle_round (with_spare s turned.spare) t (roomy_goes s t 0 answer turned on) turned.now none
     (λ d. position_none has_process s.processors no_processor d idle refl) more turned.stepped)
-
-pub first_planned : (s : State) → KeepsAll s → 0 < s.plan.processors
-first_planned s keeps = let some = keeps.machine.script.processors.0 in omega (arith, some)

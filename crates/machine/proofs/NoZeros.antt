@@ -1,6 +1,6 @@
 -- Once every frame was visited no stored page is all zeros: such a page would be in a frame, and the pages that stayed
 -- in theirs have a word other than 0.
-use Rattle.std.proofs.Common.{◌≡◌, ◌<◌, ◌≤◌, ◌+◌, ◌*◌, ℕ, zero, suc, Bool, true, false, cond, get_or, length}
+use Rattle.std.proofs.Common.{◌≡◌, ◌<◌, ◌≤◌, ◌+◌, ◌*◌, ℕ, Bool, true, false, cond, get_or, length}
 use Rattle.std.proofs.Common.{position, replicate, List, [], Option, Some, None, inl, inr, refl, sym, ap, subst}
 use Rattle.std.proofs.Common.{◌∙◌, arith}
 use Rattle.std.specs.Prelude.{◌/◌, ◌%◌, All}

@@ -43,10 +43,6 @@ pub record ShowsAs (old new : Storage) : Type 0 where
   pub places : length new.ast.entries ≡ length old.ast.entries
   pub sizes : new.ast.sizes ≡ old.ast.sizes
 
-pub same_words : (a b : Plain) → b ≡ a → (u q : ℕ) (accounts : AccountMaps) → words_at b u (home_of accounts u) q
-    ≡ words_at a u (home_of accounts u) q
-same_words a b e u q accounts = ap (λ (x : Plain). words_at x u (home_of accounts u) q) e
-
 -- one call after the other
 pub then_as : (a b c : Storage) → ShowsAs a b → ShowsAs b c → ShowsAs a c
 then_as a b c x y = record {

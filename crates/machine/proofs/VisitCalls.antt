@@ -1,12 +1,10 @@
 -- A visit of the shutdown: what it asks of the tables, and that the machine keeps its promise.
-use Rattle.std.proofs.Common.{◌≡◌, ◌<◌, ◌≤◌, ℕ, ◌++◌, ◌∷◌, [], Bool, true, false, not, cond, ◌&&◌, length, sum}
+use Rattle.std.proofs.Common.{◌≡◌, ◌<◌, ◌≤◌, ℕ, ◌++◌, ◌∷◌, [], Bool, true, false, cond, ◌&&◌, length, sum}
 use Rattle.std.proofs.Common.{List, Option, Some, None, inr, refl, sym, ap, subst, ◌∙◌, arith, append-nil}
 use Rattle.std.specs.Prelude.{Err, Ok, OnErr, Result, nat_lt}
-use Rattle.std.specs.List.{list_any}
 use Rattle.std.proofs.lemmas.Bool.Decides.{nat_tests}
 use Rattle.site_io.specs.Faults.{Rose}
 use Rattle.script.specs.Plans.{Plan}
-use Rattle.book.specs.declared.entries.Entry.{Entry}
 use Rattle.book.specs.declared.entries.Entry.TheVariants as entry
 use Rattle.core_map.specs.declared.Frame.{Frame}
 use Rattle.core_map.specs.declared.Frame.TheVariants as frame
@@ -17,7 +15,7 @@ use Rattle.page_control.specs.declared.Left.TheVariants as left
 use Rattle.page_control.specs.Drives.{CallsDrive}
 use Rattle.page_control.specs.Plain.{frame_in, words_in}
 use Rattle.active_segs.specs.declared.Entry.{Entry as Segment}
-use Rattle.machine_model.specs.Actions.{has_process, is_empty, is_over}
+use Rattle.machine_model.specs.Actions.{is_over}
 use Rattle.machine_model.specs.After.{Outcome}
 use Rattle.machine_model.specs.Holding.{seen}
 use Rattle.machine_model.specs.Jobs.{are_zeros, entries_left, here_if, leaving_if, left_of, page_back, page_gone}
@@ -244,14 +242,6 @@ module _ {D X : Type 0} (plan : D → X) (places faults : D → ℕ) (old new : 
     count = h.count;
     alike = told_alike faults old new told.more told.entries h.count told.told;
   }
-
-  pub visited_over : is_over old.state ≡ true → is_over new.state ≡ true
-  visited_over over = ap is_over h.done
-      ∙ ((λ i. is_empty (seats.ready i) && not (list_any has_process (seats.processors i))) ∙ over)
-
--- a machine that did nothing
-pub same_adds : (es : List Entry) → Appends es es 320
-same_adds es = record { more = []; entries = sym (append-nil es); few = omega arith }
 
 -- every frame was visited
 pub all_visited : (s : State) → AreVisited s → nat_lt s.visited s.plan.frames ≡ false → AllVisited s

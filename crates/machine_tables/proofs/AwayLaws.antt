@@ -1,6 +1,6 @@
 -- What a tree command must have out of use: pages that are here, and descriptors that lead to a segment.
-use Rattle.std.proofs.Common.{◌≡◌, ◌≢◌, ℕ, zero, suc, ◌+◌, ◌<◌, ◌≤◌, Bool, true, false, not, ◌||◌, cond, eqb}
-use Rattle.std.proofs.Common.{List, [], ◌∷◌, ◌++◌, map, length, get_or, drop, Some, refl, sym, ap, ◌∙◌}
+use Rattle.std.proofs.Common.{◌≡◌, ◌≢◌, ℕ, zero, suc, ◌+◌, ◌<◌, ◌≤◌, Bool, true, false, not, ◌||◌, cond}
+use Rattle.std.proofs.Common.{List, [], ◌∷◌, ◌++◌, map, length, get_or, drop, refl, sym, ap, ◌∙◌}
 use Rattle.std.proofs.Common.{arith, inl, inr}
 use Rattle.std.specs.Prelude.{◌/◌, ◌%◌}
 use Rattle.std.specs.List.{filter, range_with_len}
@@ -11,17 +11,14 @@ use Rattle.page_table.specs.declared.Ptw.{Ptw}
 use Rattle.page_table.specs.declared.Ptw.TheVariants as ptw
 use Rattle.page_control.specs.Tied.{is_out}
 use Rattle.active_segs.specs.Active.{ActiveSegs}
-use Rattle.trailers.specs.Trailer.{trailers_of}
 use Rattle.core_map.specs.CoreMap.{Core}
-use Rattle.seg_control.specs.Control.{place_of, table_of, word_of}
+use Rattle.seg_control.specs.Control.{table_of}
 use Rattle.machine_model.specs.Actions as act
 use Rattle.machine_model.specs.Actions.{bring_cut, descriptors_taken, first_taken, frames_taken, is_empty, room_for}
-use Rattle.machine_model.specs.Actions.{take_or_commit, what_taken, with_cut_page}
-use Rattle.machine_model.specs.Reads.{frames_from, frames_in, here_in, is_active, next_command, trailers_in}
-use Rattle.machine_model.specs.Refusal.{uid_of_command}
+use Rattle.machine_model.specs.Actions.{take_or_commit, what_taken}
+use Rattle.machine_model.specs.Reads.{frames_from, frames_in, here_in, is_active}
 use Rattle.machine_model.specs.State.{State, Storage}
 use Rattle.machine_model.proofs.ActiveSeen.{inactive_blank}
-use Rattle.machine_tables.specs.Meant.{taken_for}
 use Rattle.machine_tables.specs.Taken.{is_bare}
 
 -- ---- of a segment that isn't active there is nothing
@@ -37,10 +34,6 @@ pub no_frames : (ast : ActiveSegs) (u low : ℕ) → length ast.tables ≡ lengt
     → false ≡ not (is_empty (frames_from ast u low))
 no_frames ast u low tables off = sym (ap (λ (xs : List ℕ). not (is_empty xs))
     (blank_frames (table_of ast u) low (inactive_blank ast u tables off)))
-
-pub no_trailers : (st : Storage) (u : ℕ) → is_active st.ast u ≡ false → false ≡ not (is_bare [] (trailers_in st u))
-no_trailers st u off = sym (ap (λ (b : Bool). not (is_bare []
-    (cond b (trailers_of st.links.trailers (place_of st.ast.entries u)) []))) off)
 
 -- ---- the descriptors of a process
 
@@ -83,12 +76,6 @@ none_next test n before here i lt = elim (eqb_tells i n) [
 
 -- ---- taken, or done at once
 
-not_bare : (fs : List ℕ) (pairs : List (ℕ × ℕ)) → (not (is_empty fs) || not (is_bare [] pairs)) ≡ true
-    → (w : What) → act.TakeAway fs pairs w ≡ take_or_commit fs pairs w
-not_bare [] [] h w = absurd (let no : false ≡ true = h in cc)
-not_bare [] (x ∷ xs) h w = refl
-not_bare (f ∷ fs) pairs h w = refl
-
 bare : (fs : List ℕ) (pairs : List (ℕ × ℕ)) → not (is_empty fs) ≡ false → not (is_bare [] pairs) ≡ false
     → (w : What) → act.Commit ≡ take_or_commit fs pairs w
 bare [] [] a b w = refl
@@ -101,15 +88,6 @@ module _ (s : State) (k u : ℕ) (c : Command) where
 
   abbrev descriptors : List (ℕ × ℕ)
   descriptors = descriptors_taken s.store k u c
-
-  pub taken_away : u ≡ uid_of_command s.store k c → next_command s k ≡ Some c
-      → (not (is_empty frames) || not (is_bare [] descriptors)) ≡ true
-      → taken_for s.store k (next_command s k) ≡ take_or_commit frames descriptors (what_taken u c)
-  taken_away is next some =
-      ap (taken_for s.store k) next
-      ∙ ap (λ (v : ℕ). act.TakeAway (frames_taken s.store v (first_taken c)) (descriptors_taken s.store k v c)
-      (what_taken v c)) (sym is)
-      ∙ not_bare frames descriptors some (what_taken u c)
 
   pub committed : (not (is_empty frames) || not (is_bare [] descriptors)) ≡ false
       → act.Commit ≡ take_or_commit frames descriptors (what_taken u c)
@@ -141,19 +119,3 @@ module _ (st : Storage) (u words : ℕ) (otherwise : act.Action) where
   left (ptw.Out r) h = absurd (let no : true ≡ false = h in cc)
   left (ptw.Here f) h = refl
   left (ptw.Leaving f) h = refl
-
-  pub cut_brought : (words % 1024 ≢ 0) → is_out (word_of st.ast u page) ≡ true
-      → room_for core u page (λ f. act.Start f u page) ≡ with_cut_page st u words otherwise
-  cut_brought cuts out = brought (word_of st.ast u page) out
-      ∙ sym (ap (λ (b : Bool). cond b otherwise (bring_cut core u page (word_of st.ast u page) otherwise)) off)
-    where
-      off : eqb (words % 1024) 0 ≡ false
-      off = elim (eqb_tells (words % 1024) 0) [ inl e ↦ absurd (cuts e.1) | inr m ↦ m.0 ]
-
-  pub cut_left : (words % 1024 ≢ 0 → is_out (word_of st.ast u page) ≡ false)
-      → otherwise ≡ with_cut_page st u words otherwise
-  cut_left away = elim (eqb_tells (words % 1024) 0) [
-    | inl e ↦ sym (ap (λ (b : Bool). cond b otherwise (bring_cut core u page (word_of st.ast u page) otherwise)) e.0)
-    | inr m ↦ left (word_of st.ast u page) (away m.1)
-        ∙ sym (ap (λ (b : Bool). cond b otherwise (bring_cut core u page (word_of st.ast u page) otherwise)) m.0)
-  ]

@@ -1,26 +1,17 @@
 -- The command that a process comes to: its numbers are in their ranges.
-use Rattle.std.proofs.Common.{◌≡◌, ◌<◌, ℕ, true, List, length, Option, Some, None, arith}
-use Rattle.std.proofs.Common.{refl, ap, sym, subst, ◌∙◌, ◌≤◌, get_or}
-use Rattle.std.specs.Prelude.{IfSome, nat_le, slice_get}
+use Rattle.std.proofs.Common.{◌≡◌, ◌<◌, ℕ, true, length, Option, Some, None, arith}
+use Rattle.std.proofs.Common.{refl, ap, sym, subst, ◌∙◌, ◌≤◌}
+use Rattle.std.specs.Prelude.{IfSome, nat_le}
 use Rattle.std.proofs.lemmas.Bool.{and_parts}
 use Rattle.std.proofs.lemmas.Bool.Decides.{nat_tests}
-use Rattle.std.proofs.lemmas.List.{get_or_past}
 use Rattle.script.specs.Forms.{IsPlan, is_command, is_place}
-use Rattle.script.specs.Plans.{Plan, ProcessPlan, command_at}
+use Rattle.script.specs.Plans.{Plan, command_at}
 use Rattle.script.specs.References.{reference_of}
 use Rattle.script.specs.declared.commands.Command.{Command}
 use Rattle.script.specs.declared.commands.Command.TheVariants as command
 use Rattle.script.specs.declared.commands.Reference.{Reference}
-use Rattle.machine_model.specs.Actions.{come_to, refer_or_take}
-use Rattle.machine_model.specs.State.{State}
-use Rattle.machine_model.proofs.LeftLaws.{no_process}
 use Rattle.machine_tables.specs.Meant.{refers}
-use Rattle.processor.specs.declared.Cpu.{Cpu}
 use Rattle.flat_model.proofs.ScriptLaws.{command_planned}
-
-no_command : (xs : List ProcessPlan) (k place : ℕ) → length xs ≤ k → slice_get (get_or xs k no_process).commands place
-    ≡ None
-no_command xs k place le = ap (λ (x : ProcessPlan). slice_get x.commands place) (get_or_past xs k no_process le)
 
 -- the number of a reference is one of 256
 small_in : (n offset : ℕ) (x r : Reference) → is_place n offset ≡ true → x.number ≡ n → Some x ≡ Some r → r.number < 256
@@ -59,12 +50,6 @@ pub next_number : (p : Plan) (k place : ℕ) (x : Option Reference) → IsPlan p
 next_number p k place x plan is =
     subst (λ (y : Option Reference). IfSome y (λ r. r.number < 256)) (sym is)
     (by_command p k place (command_at p k place) plan refl)
-
--- what comes of the next command is what comes of its reference
-pub come_to_refers : (s : State) (cpu : Cpu) (k : ℕ) (o : Option Command)
-    → come_to s cpu k o ≡ refer_or_take s cpu k (refers o)
-come_to_refers s cpu k None = refl
-come_to_refers s cpu k (Some c) = refl
 
 pub ranges_of : (p now : Plan) (k place : ℕ) → now ≡ p → IsPlan p → (c : Command) → command_at now k place ≡ Some c
     → is_command (length p.volumes) c ≡ true

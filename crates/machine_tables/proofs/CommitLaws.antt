@@ -212,14 +212,3 @@ initiate_committed {D} drive t u k path r does rest frames = record {
   exact = λ p flat faithful takes. initiate_exact drive t u k path r does rest frames p flat faithful takes;
   drives = ap (λ (x : Stored D). x.segs.pages.volumes.drives) rest;
 }
-
--- ---- nothing is changed
-
-pub status_committed : {D : Type 0} (drive : D → List (List ℕ)) (t u : Stored D) (k : ℕ) (path : List (List ℕ))
-    (r : Reply) → Commits drive t u k (command.Status path) r → u ≡ t
-    → TakesEffect drive t u k (command.Status path) r
-status_committed drive t u k path r does rest frames = record {
-  does = does;
-  exact = λ p flat faithful takes. ap (shown drive) rest;
-  drives = ap (λ (x : Stored _). x.segs.pages.volumes.drives) rest;
-}

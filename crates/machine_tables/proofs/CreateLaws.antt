@@ -15,7 +15,7 @@ use Rattle.flat_model.specs.Store.{Store}
 use Rattle.volumes.specs.Volumes.{HasParts}
 use Rattle.page_control.specs.Plain.{plain}
 use Rattle.seg_control.specs.Control.{kst_at}
-use Rattle.storage_ops.specs.Paged.{IsKnownAs, IsPageMade, MayCreate, done_or}
+use Rattle.storage_ops.specs.Paged.{IsKnownAs, IsPageMade, done_or}
 use Rattle.storage_ops.specs.Rooms.{move_target, room_of}
 use Rattle.storage_ops.specs.Shown.{IsStore, Shows, Storage as Stored, pages_of}
 use Rattle.storage_ops.proofs.PageRoom.{full_told}
@@ -30,18 +30,6 @@ use Rattle.machine_tables.specs.Parts.{shown}
 use Rattle.machine_tables.proofs.ColumnLaws.{recounted}
 use Rattle.machine_tables.proofs.RefusalLaws.{moves_is, shows_of}
 use Rattle.tree_model.proofs.SharedLaws.{found_uid}
-
-pub may_create : {D : Type 0} (drive : D → List (List ℕ)) (t : Stored D) (k f : ℕ) (r : Reference)
-    → HasPlace (shown drive t) k f r → MayCreate t k r.number r.offset f
-may_create drive t k f r h = record {
-  uid = h.uid;
-  known = h.known;
-  active = h.active;
-  within = h.within;
-  null = h.null;
-  frame = h.frame;
-  free = h.free;
-}
 
 -- where the segment must move first, by the tables of a store, is what the flat store says
 target_told : {D : Type 0} (drive : D → List (List ℕ)) (p : Plan) (flat : Store) (t : Stored D) (u : ℕ)

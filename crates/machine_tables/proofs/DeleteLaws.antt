@@ -1,6 +1,6 @@
 -- The pages of a node that is deleted: to drop them one after the other and to give all its records back at once come
 -- to the same, where the frames that they were in are free.
-use Rattle.std.proofs.Common.{◌≡◌, ◌≢◌, ◌<◌, ◌≤◌, ◌+◌, ◌-◌, ℕ, suc, zero, Bool, true, false, ◌||◌, cond, eqb, length}
+use Rattle.std.proofs.Common.{◌≡◌, ◌≢◌, ◌<◌, ◌≤◌, ◌+◌, ◌-◌, ℕ, suc, zero, Bool, true, false, ◌||◌, cond, length}
 use Rattle.std.proofs.Common.{List, [], ◌∷◌, ◌++◌, get_or, set, ext_get_or, replicate, Option, Some, None, inl, inr}
 use Rattle.std.proofs.Common.{refl, sym, ap, ◌∙◌, arith}
 use Rattle.std.specs.List.{range_with_len}

@@ -1,12 +1,11 @@
 -- The frames of core: whether one is bound, and what the clock chooses then.
-use Rattle.std.proofs.Common.{◌≡◌, ◌<◌, ◌≤◌, ◌+◌, ◌-◌, ℕ, zero, suc, Bool, true, false, ◌||◌, cond, is_some}
+use Rattle.std.proofs.Common.{◌≡◌, ◌<◌, ◌≤◌, ◌+◌, ◌-◌, ℕ, zero, suc, Bool, true, false, ◌||◌, cond}
 use Rattle.std.proofs.Common.{List, [], ◌∷◌, ◌++◌}
-use Rattle.std.proofs.Common.{length, get_or, take, position, Option, Some, None}
+use Rattle.std.proofs.Common.{length, get_or, position, Option, Some, None}
 use Rattle.std.proofs.Common.{refl, sym, ap, ◌∙◌, arith, inl, inr}
 use Rattle.std.specs.List.{All, find, list_any, position_or_len, range_with_len}
 use Rattle.std.proofs.lemmas.Bool.{cases_lt}
 use Rattle.std.proofs.lemmas.List.Elements.{All-get_or}
-use Rattle.std.proofs.lemmas.List.Folds.{list_any_at, list_any_more}
 use Rattle.std.proofs.lemmas.List.FromFn.{get_or-range_with_len, length-range_with_len}
 use Rattle.core_map.specs.declared.Frame.{Frame}
 use Rattle.core_map.specs.declared.Frame.TheVariants.{Free, Started, Bound}
@@ -22,24 +21,6 @@ use Rattle.machine_model.proofs.TieLaws.{none_some}
 use Rattle.machine_model.proofs.WordLaws.{found}
 use Rattle.machine_tables.proofs.ReadingLaws.{position_first}
 use Rattle.machine_model.proofs.Returnable.{bound_is}
-
--- ---- whether one is bound
-
-bound_by : (x : Frame) (o : Option (ℕ × ℕ)) → o ≡ bound_page x → is_some o ≡ is_bound x
-bound_by Free o e = ap is_some e
-bound_by (Started u p) o e = ap is_some e
-bound_by (Bound u p used modified) o e = ap is_some e
-
-pub some_bound : (frames : List Frame) (f : ℕ) (o : Option (ℕ × ℕ)) → f < length frames
-    → o ≡ bound_page (get_or frames f Free) → is_some o ≡ true → list_any is_bound frames ≡ true
-some_bound frames f o lt e h = list_any_at is_bound frames f Free lt (sym (bound_by (get_or frames f Free) o e) ∙ h)
-
-pub none_more : (frames : List Frame) (f : ℕ) (o : Option (ℕ × ℕ)) → f < length frames
-    → o ≡ bound_page (get_or frames f Free) → is_some o ≡ false → list_any is_bound (take f frames) ≡ false
-    → list_any is_bound (take (f + 1) frames) ≡ false
-none_more frames f o lt e h before =
-    list_any_more is_bound frames f Free lt
-    ∙ rw (before, sym (bound_by (get_or frames f Free) o e) ∙ h) refl
 
 -- ---- the clock
 

@@ -1,5 +1,5 @@
 -- The lists of a job: what it took first, and what is left.
-use Rattle.std.proofs.Common.{◌≡◌, ◌<◌, ℕ, List, [], ◌∷◌, length, Option, Some, None, refl, sym, ap, arith}
+use Rattle.std.proofs.Common.{◌≡◌, ◌<◌, ℕ, List, [], ◌∷◌, length, Option, Some, None, sym, ap, arith}
 use Rattle.std.specs.Prelude.{slice_get}
 use Rattle.machine_model.specs.declared.CutDescriptor.{CutDescriptor}
 use Rattle.machine_model.specs.Reads.{cut_of_owner, frames_of_owner}
@@ -13,10 +13,6 @@ use Rattle.machine_tables.proofs.PartLaws.{Going}
 first_of : {A : Type 0} (xs : List A) (x : A) → slice_get xs 0 ≡ Some x → xs ≡ x ∷ rest_of xs
 first_of [] x h = absurd (none_some h)
 first_of (y ∷ ys) x h = let same : y ≡ x = cc in ap (λ z. z ∷ ys) same
-
-pub none_left : {A : Type 0} (xs : List A) → slice_get xs 0 ≡ None → xs ≡ []
-none_left [] h = refl
-none_left (x ∷ xs) h = absurd (none_some (sym h))
 
 pub frames_next : (o : Option Owner) (f : ℕ) → slice_get (frames_of_owner o) 0 ≡ Some f
     → frames_of_owner o ≡ f ∷ frames_of_owner (without_first_frame o)

@@ -1,9 +1,8 @@
 -- How a page leaves its frame, and what comes back where it can't.
 use Rattle.std.proofs.Common.{◌≡◌, ◌↔◌, ◌-◌, ◌<◌, ℕ, suc, zero, length, get_or, Bool, true, false, cond, eqb}
 use Rattle.std.proofs.Common.{List, [], ◌∷◌}
-use Rattle.std.proofs.Common.{refl, sym, ap, subst, ◌∙◌, arith, append_assoc}
+use Rattle.std.proofs.Common.{refl, sym, ap, subst, ◌∙◌, arith}
 use Rattle.std.specs.Prelude.{IfOk, OnErr, Result, Ok, Err}
-use Rattle.book.specs.declared.entries.Entry.{Entry}
 use Rattle.mword.specs.Words.{AreZero}
 use Rattle.page_control.specs.declared.Left.{Left}
 use Rattle.page_control.specs.declared.Left.TheVariants.{Kept, Released}
@@ -13,7 +12,7 @@ use Rattle.machine_model.specs.Jobs.{are_zeros, left_of, page_back, page_in, pag
 use Rattle.machine_model.specs.Reads.{cut_of_owner, frames_of_owner}
 use Rattle.machine_model.specs.State.{State, Storage}
 use Rattle.machine_model.specs.Returned.{MayRelink, with_all_here}
-use Rattle.machine_model.specs.Steps.{booked, with_store}
+use Rattle.machine_model.specs.Steps.{with_store}
 use Rattle.machine_tables.specs.Parts.{Parts, with_accounts, with_drives, with_state}
 use Rattle.machine_tables.proofs.ColumnLaws.{settled_is}
 use Rattle.laws.proofs.Bools.{and_parts}
@@ -66,14 +65,6 @@ left_exact {D} {E} old new f (Ok how) before after settled is =
     (with_left old.state.store f how (page_in old.state.store f)) a))) new.drives new.state.faults)
     (settled_is {E = E} old.state.store.accounts new.state.store.accounts (page_in old.state.store f).0 (Ok how) how
     refl before after settled)
-
--- ---- two entries
-
-pub booked_twice : (s : State) (a b : Entry) → booked (booked s (a ∷ [])) (b ∷ []) ≡ booked s (a ∷ b ∷ [])
-booked_twice s a b =
-    let entries = append_assoc s.entries (a ∷ []) (b ∷ []) in
-    let spare : s.spare - 1 - 1 ≡ s.spare - 2 = omega arith in
-    λ i. record s { entries = entries i; spare = spare i }
 
 -- ---- what comes back
 

@@ -1,6 +1,6 @@
 -- What the owner took is gone, one after the other.
 use Rattle.std.proofs.Common.{◌≡◌, ◌+◌, ◌-◌, ◌≤◌, ℕ, length, map, List, [], ◌∷◌, ◌++◌, Option, Some, None}
-use Rattle.std.proofs.Common.{refl, sym, ap, subst, ◌∙◌, arith, append_assoc, append-nil, length-append}
+use Rattle.std.proofs.Common.{sym, ap, subst, ◌∙◌, arith, append_assoc, append-nil, length-append}
 use Rattle.std.specs.Prelude.{slice_get}
 use Rattle.book.specs.declared.entries.Entry.{Entry}
 use Rattle.machine_model.specs.declared.CutDescriptor.{CutDescriptor}
@@ -12,7 +12,7 @@ use Rattle.machine_model.specs.Steps.{booked, with_owner}
 use Rattle.machine_tables.specs.Gone.{inactive_entry, left_entries, left_entry}
 use Rattle.machine_tables.specs.Owned.{HasOwner}
 use Rattle.machine_tables.specs.Parts.{Parts, with_state}
-use Rattle.machine_tables.proofs.JobLaws.{frames_next, none_left, owner_left}
+use Rattle.machine_tables.proofs.JobLaws.{frames_next, owner_left}
 use Rattle.machine_model.proofs.SaysLaws.{cut_less}
 
 -- ---- entries
@@ -41,10 +41,6 @@ pub record PagesOn (now first : State) (kept : Option ℕ) : Type 0 where
   pub cut : cut_of_owner now.owner ≡ cut_of_owner first.owner
   pub spent : now.spare + length (frames_of_owner first.owner) ≡ first.spare + length (frames_of_owner now.owner)
 
-pub pages_first : (s : State) (kept : Option ℕ) → HasOwner s.owner → length (frames_of_owner s.owner) ≤ s.spare
-    → PagesOn s s kept
-pages_first s kept owner room = record { same = refl; owner = owner; room = room; cut = refl; spent = refl }
-
 pub pages_next : (s t first : State) (kept : Option ℕ) (f : ℕ) → PagesOn s first kept
     → Some f ≡ slice_get (frames_of_owner s.owner) 0
     → t ≡ booked (with_owner s (without_first_frame s.owner)) (left_entry kept f ∷ []) → PagesOn t first kept
@@ -64,19 +60,6 @@ pages_next s t first kept f on at is = subst (λ (x : State). PagesOn x first ke
       cut = cut_less s.owner ∙ on.cut;
       spent = omega (arith, count, room, spent);
     })
-
-pub pages_end : (s first : State) (kept : Option ℕ) → PagesOn s first kept
-    → slice_get (frames_of_owner s.owner) 0 ≡ None
-    → (s ≡ with_owner (booked first (map (left_entry kept) (frames_of_owner first.owner))) s.owner)
-    × (s.spare + length (frames_of_owner first.owner) ≡ first.spare)
-pages_end s first kept on none =
-    let empty = none_left (frames_of_owner s.owner) none in
-    let count = ap length empty in
-    let spent = on.spent in (
-      ap (λ (x : State). with_owner x s.owner) (ap (λ (x : State). with_owner x None)
-          (sym (booked_none s) ∙ ap (λ (fs : List ℕ). booked s (map (left_entry kept) fs)) (sym empty)) ∙ on.same),
-      omega (arith, count, spent),
-    )
 
 -- ---- descriptors
 

@@ -9,7 +9,6 @@ use Rattle.script.specs.Forms.{ArePools}
 use Rattle.tree_model.specs.Tree.{Node}
 use Rattle.active_segs.specs.Active.{ActiveSegs, IsFull, IsLeastFree, entry_at}
 use Rattle.active_segs.specs.Pool.{first_of, size_of}
-use Rattle.storage_ops.specs.Connecting.{pool_in}
 use Rattle.machine_model.specs.Actions.{pool_of_node}
 use Rattle.machine_model.specs.Reads.{free_place}
 use Rattle.machine_model.proofs.ListSizes.{pool_small}
@@ -66,10 +65,6 @@ module _ (ast : ActiveSegs) (pool : ℕ) where
       sym (full_none (subst (λ (a : ActiveSegs). IsFull a pool) same (none.0 refl)))
 
 -- ---- the pool of a node
-
-pub pool_same : (o : Option Node) → pool_in o ≡ pool_of_node o
-pool_same None = refl
-pool_same (Some n) = refl
 
 pub pool_few : (o : Option Node) → pool_of_node o < 4
 pool_few None = omega arith

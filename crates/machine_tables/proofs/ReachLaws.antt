@@ -14,7 +14,6 @@ use Rattle.seg_control.specs.Kept.{IsKept}
 use Rattle.storage_ops.specs.Shown.{is_there, pages_of}
 use Rattle.storage_ops.proofs.PageFacts.{directory_found, room_of}
 use Rattle.storage_ops.proofs.Refusals.{long_segment}
-use Rattle.machine_model.specs.Actions.{look_at_descriptor, look_at_page}
 use Rattle.machine_model.specs.Keeps.{Keeps}
 use Rattle.machine_model.specs.Reads.{descriptor_of, is_connected, or_zero}
 use Rattle.machine_model.specs.Refusal.{outside_refusal, uid_of_number}
@@ -67,14 +66,3 @@ module _ (s : State) (k : ℕ) (r : Reference) (keeps : Keeps s) (within : outsi
       let less = inside.within in
       let few = room.0 in
       omega (arith, long, less, few)
-
--- the look by the descriptor
-pub present_looks : (s : State) (k : ℕ) (r : Reference) (u : ℕ) (x : Sdw) → is_connected x ≡ true
-    → look_at_page s k r u (r.offset / 1024) ≡ look_at_descriptor s k r u x
-present_looks s k r u sdw.Fault h = absurd (let no : false ≡ true = h in cc)
-present_looks s k r u (sdw.Present aste m pages) h = refl
-
-pub fault_looks : (s : State) (k : ℕ) (r : Reference) (u : ℕ) (x : Sdw) → is_connected x ≡ false
-    → look_at_descriptor s k r u sdw.Fault ≡ look_at_descriptor s k r u x
-fault_looks s k r u sdw.Fault h = refl
-fault_looks s k r u (sdw.Present aste m pages) h = absurd (let no : true ≡ false = h in cc)

@@ -1,6 +1,6 @@
 -- How the ready list grows by the processes that the initializer makes ready.
 use Rattle.std.proofs.Common.{◌≡◌, ◌+◌, ◌<◌, ◌≤◌, ℕ, suc, List, [], ◌∷◌, ◌++◌, length, sym, ap, ◌∙◌, arith}
-use Rattle.std.proofs.Common.{append-nil, append_assoc, length-append}
+use Rattle.std.proofs.Common.{append_assoc, length-append}
 use Rattle.custody_model.specs.Custody.{range}
 use Rattle.traffic.specs.Queue.{Queue, with_last}
 use Rattle.custody_model.proofs.SharedLaws.{range_end, range_length}
@@ -8,9 +8,6 @@ use Rattle.custody_model.proofs.SharedLaws.{range_end, range_length}
 -- the list with so many released
 abbrev pub released : Queue → ℕ → Queue
 released q n = record q { waiting = q.waiting ++ range 1 n }
-
-pub none_released : (q : Queue) → q ≡ released q 0
-none_released q = λ i. record q { waiting = sym (append-nil q.waiting) i }
 
 pub one_released : (n : ℕ) (q before after : Queue) → before ≡ released q n → after ≡ with_last before (n + 1) → after
     ≡ released q (n + 1)

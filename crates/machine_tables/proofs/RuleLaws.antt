@@ -39,12 +39,6 @@ pub owner_busy : (s : State) (c : ℕ) (h : Holder) (frames : List ℕ) (cut : L
 owner_busy s c h frames cut keeps is here = subst (λ (d : ℕ). IsSome (cpu_at s.processors d).process) here
     (keeps.at_work (owner_by h frames cut) is).busy
 
--- an owner that looks moves no segment
-pub looking_still : (s : State) (h : Holder) (frames : List ℕ) (cut : List CutDescriptor)
-    → s.store.moving ≡ mover_of s.owner → s.owner ≡ owner_of (Some h) frames cut → h.phase ≡ phase.Looking
-    → s.store.moving ≡ None
-looking_still s h frames cut moving is looks = moving ∙ (ap mover_of is ∙ ap mover_in looks)
-
 -- a segment that the owner moves is active
 pub moved_active : (s : State) (h : Holder) (frames : List ℕ) (cut : List CutDescriptor)
     → s.store.moving ≡ mover_of s.owner

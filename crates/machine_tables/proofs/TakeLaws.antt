@@ -1,16 +1,16 @@
 -- Pages of a segment that are taken one after the other.
 use Rattle.std.proofs.Common.{◌≡◌, ◌+◌, ◌<◌, ◌≤◌, ℕ, true, List, [], ◌∷◌, ◌++◌, length}
-use Rattle.std.proofs.Common.{drop, set}
+use Rattle.std.proofs.Common.{set}
 use Rattle.std.proofs.Common.{Option, Some, None, refl, sym, ap, ◌∙◌, arith, inl, inr, length-append, subst}
 use Rattle.std.proofs.lemmas.Bool.{cases_lt}
-use Rattle.std.proofs.lemmas.List.{drop-set-lt, drop_more, get_or-set_same, get_or_past, length-set}
+use Rattle.std.proofs.lemmas.List.{drop_more, get_or-set_same, get_or_past}
 use Rattle.std.proofs.Math.ListN.{drop_of_length-le}
 use Rattle.assoc_mem.specs.declared.What.{What}
 use Rattle.core_map.specs.declared.Frame.{Frame}
 use Rattle.core_map.specs.declared.Frame.TheVariants.{Free, Started, Bound}
 use Rattle.core_map.specs.CoreMap.{bound_page, is_bound}
 use Rattle.page_table.specs.declared.Ptw.{Ptw}
-use Rattle.page_table.specs.declared.Ptw.TheVariants.{Null, Here, Leaving}
+use Rattle.page_table.specs.declared.Ptw.TheVariants.{Null}
 use Rattle.active_segs.specs.declared.Entry.{Entry}
 use Rattle.active_segs.specs.Active.{ActiveSegs, IsActive, table_at}
 use Rattle.page_control.specs.Plain.{frame_in, number_in}
@@ -18,10 +18,9 @@ use Rattle.page_control.specs.Tied.{uid_in}
 use Rattle.seg_control.specs.Control.{place_of, table_of, word_of}
 use Rattle.seg_control.specs.Effects.{worded}
 use Rattle.machine_model.specs.declared.Aim.{Aim}
-use Rattle.machine_model.specs.Jobs.{leaving_if, page_in, page_or_zero, take_all, take_one, with_leaving}
+use Rattle.machine_model.specs.Jobs.{take_all, take_one}
 use Rattle.machine_model.specs.Reads.{frames_from, frames_in, frames_of_owner, here_in}
-use Rattle.machine_model.specs.State.{State, Storage}
-use Rattle.machine_model.specs.Steps.{with_word}
+use Rattle.machine_model.specs.State.{State}
 use Rattle.machine_model.proofs.MoverTied.{leaving_moving}
 use Rattle.machine_model.proofs.TieLaws.{none_some}
 use Rattle.machine_tables.specs.Owned.{HasOwner}
@@ -35,16 +34,6 @@ pub bound_parts : (x : Frame) (u p : ℕ) → bound_page x ≡ Some (u, p)
 bound_parts Free u p h = absurd (none_some h)
 bound_parts (Started v q) u p h = absurd (none_some h)
 bound_parts (Bound v q used modified) u p h = let same = page_is v q u p h in (refl, same.0, same.1)
-
-pub page_here : (st : Storage) (f u p : ℕ) → bound_page (frame_in st.pages f) ≡ Some (u, p)
-    → word_of st.ast u p ≡ Here f → word_of st.ast (page_in st f).0 (page_in st f).1 ≡ Here f
-page_here st f u p bound here = ap (λ (x : Option (ℕ × ℕ)). word_of st.ast (page_or_zero x).0 (page_or_zero x).1)
-    bound ∙ here
-
--- the page of a frame is on its way out
-pub left_in : (st : Storage) (f u p : ℕ) → bound_page (frame_in st.pages f) ≡ Some (u, p)
-    → with_word st u p (Leaving f) ≡ with_leaving st f
-left_in st f u p bound = sym (ap (leaving_if st f) bound)
 
 -- ---- the list of what is taken
 
@@ -83,21 +72,6 @@ pub table_worded : (ast : ActiveSegs) (u p : ℕ) (w : Ptw) → p < length (tabl
     → table_of (worded ast u p w) u ≡ set (table_of ast u) p w
 table_worded ast u p w lt = get_or-set_same ast.tables (place_of ast.entries u) (set (table_of ast u) p w) []
     (table_within ast.tables (place_of ast.entries u) p lt)
-
--- what a word leaves of a table
-pub past_worded : (ast : ActiveSegs) (u p : ℕ) (w : Ptw) → p < length (table_of ast u)
-    → LeavesPast ast (worded ast u p w) u p
-past_worded ast u p w lt = record {
-  entries = refl;
-  past = ap (drop (p + 1)) (table_worded ast u p w lt) ∙ drop-set-lt (p + 1) (table_of ast u) p w (omega arith);
-  long = ap length (table_worded ast u p w lt) ∙ length-set (table_of ast u) p w;
-}
-
-pub past_taken : (s : State) (c : ℕ) (a : Aim) (w : What) (f u p : ℕ)
-    → bound_page (frame_in s.store.pages f) ≡ Some (u, p) → p < length (table_of s.store.ast u)
-    → LeavesPast s.store.ast (take_one s c a w f).store.ast u p
-past_taken s c a w f u p bound lt = subst (λ (st : Storage). LeavesPast s.store.ast st.ast u p)
-    (left_in s.store f u p bound) (past_worded s.store.ast u p (Leaving f) lt)
 
 -- no segment moves while pages are taken
 takes_still : (s : State) (c : ℕ) (a : Aim) (w : What) (fs : List ℕ) → s.store.moving ≡ None

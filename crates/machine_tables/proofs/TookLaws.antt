@@ -6,7 +6,6 @@ use Rattle.std.proofs.Math.ListN.{drop_of_length-le}
 use Rattle.std.proofs.lemmas.List.{drop_more}
 use Rattle.std.specs.List.{list_any}
 use Rattle.assoc_mem.specs.declared.What.{What}
-use Rattle.assoc_mem.specs.declared.What.TheVariants.{Seg}
 use Rattle.core_map.specs.CoreMap.{bound_page}
 use Rattle.active_segs.specs.declared.Entry.{Entry}
 use Rattle.page_control.specs.Plain.{frame_in}
@@ -17,8 +16,7 @@ use Rattle.trailers.specs.Trailer.{trailers_of}
 use Rattle.active_segs.specs.Active.{IsActive}
 use Rattle.seg_control.specs.Control.{Links, is_for, place_of}
 use Rattle.machine_model.specs.declared.Aim.{Aim}
-use Rattle.machine_model.specs.declared.Aim.TheVariants.{Deactivating}
-use Rattle.machine_model.specs.Jobs.{cut_all, emptied, segment_taken, take_all, take_one, took}
+use Rattle.machine_model.specs.Jobs.{cut_all, take_all, take_one, took}
 use Rattle.machine_model.specs.Actions.{is_empty}
 use Rattle.machine_model.specs.Reads.{cut_of_owner, frames_in, here_in, trailers_in}
 use Rattle.machine_model.specs.State.{State}
@@ -50,20 +48,6 @@ pub trailers_still : (s : State) (c : ℕ) (a : Aim) (w : What) (fs : List ℕ) 
 trailers_still s c a w fs u =
     ap (λ (es : List (Option Entry)). trailers_by es (take_all s c a w fs).store.links u) (entries_still s c a w fs)
     ∙ ap (λ (ls : Links). trailers_by s.store.ast.entries ls u) (links_still s c a w fs)
-
--- ---- what is taken of a segment
-
-pub segment_bare : (s : State) (c u : ℕ) (fs : List ℕ) (pairs : List (ℕ × ℕ)) → is_bare fs pairs ≡ true
-    → segment_taken s c u fs pairs ≡ emptied s c u
-segment_bare s c u [] [] h = refl
-segment_bare s c u [] (x ∷ xs) h = let no : false ≡ true = h in absurd cc
-segment_bare s c u (f ∷ fs) pairs h = let no : false ≡ true = h in absurd cc
-
-pub segment_used : (s : State) (c u : ℕ) (fs : List ℕ) (pairs : List (ℕ × ℕ)) → is_bare fs pairs ≡ false
-    → segment_taken s c u fs pairs ≡ took s c (Deactivating u) (Seg u) fs pairs
-segment_used s c u [] [] h = let no : true ≡ false = h in absurd cc
-segment_used s c u [] (x ∷ xs) h = refl
-segment_used s c u (f ∷ fs) pairs h = refl
 
 -- ---- whether there is something to take
 

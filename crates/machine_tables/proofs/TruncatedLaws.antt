@@ -234,12 +234,6 @@ pub back_is : (ast : ActiveSegs) (uid p q f : ℕ) (w : Ptw) → w ≡ Leaving f
     → worded ast uid q (Here f) ≡ here_again ast uid p w
 back_is ast uid p q f w is at = ap (λ (k : ℕ). worded ast uid k (Here f)) at ∙ ap (here_again ast uid p) (sym is)
 
-pub none_back : (ast : ActiveSegs) (uid p : ℕ) (w : Ptw) → None ≡ frame_left w → ast ≡ here_again ast uid p w
-none_back ast uid p Null e = refl
-none_back ast uid p (Out r) e = refl
-none_back ast uid p (Here f) e = refl
-none_back ast uid p (Leaving f) e = absurd (none_some e)
-
 module _ (st : Storage) (uid : ℕ) (kept : IsKept st.pages st.ast st.links)
     (counted : IsStore st.pages st.ast st.links st.accounts st.whos) (there : is_there st.accounts.nodes uid ≡ true)
     (active : is_active st.ast uid ≡ true) where

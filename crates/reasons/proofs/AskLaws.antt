@@ -8,11 +8,9 @@ use Rattle.script.specs.Plans.{Plan}
 use Rattle.book.specs.Entries.{entry_text}
 use Rattle.book.specs.Reading.{IsEntry}
 use Rattle.book.specs.declared.entries.Entry.{Entry}
-use Rattle.flat_model.specs.Legal.{IsComplete, IsLawful, store_after}
+use Rattle.flat_model.specs.Legal.{IsComplete, store_after}
 use Rattle.flat_model.specs.Store.{Store}
 use Rattle.flat_store.specs.Shown.{Kept, Shows}
-use Rattle.custody_model.specs.Allowed.{IsAllowed}
-use Rattle.custody_model.specs.Clean.{custody_after}
 use Rattle.legal_reasons.specs.Reasons.{HaveEnded}
 use Rattle.book_check.specs.Judging.{IsAfter, Judged}
 use Rattle.book_check.specs.Verdicts.{BreaksEntry}
@@ -30,21 +28,6 @@ module _ (p : Plan) (es : List Entry) (line : List ℕ) where
 
     pub no_entry_clean : BreaksEntry p es line rule.NotClean → ⊥
     no_entry_clean (e, text, lawful, not_allowed) = let z = back e text.entry text.text in cc
-
-  module _ (f : Entry) (back : (e : Entry) → IsEntry e → entry_text e ≡ line → Some f ≡ Some e) where
-    same_entry : (e : Entry) → IsEntry e → entry_text e ≡ line → f ≡ e
-    same_entry e entry text = let z = back e entry text in cc
-
-    -- the entry of the line may stand there
-    pub entry_lawful : IsLawful p (store_after p es) f → BreaksEntry p es line rule.NotLegal → ⊥
-    entry_lawful may (e, text, not_lawful) =
-        not_lawful (subst (IsLawful p (store_after p es)) (same_entry e text.entry text.text) may)
-
-    pub entry_allowed : IsAllowed p (store_after p es) (custody_after p es) f
-        → BreaksEntry p es line rule.NotClean → ⊥
-    entry_allowed may (e, text, lawful, not_allowed) =
-        not_allowed (subst (IsAllowed p (store_after p es) (custody_after p es))
-        (same_entry e text.entry text.text) may)
 
 complete_there : (j : Judged) (es : List Entry) → IsAfter j es → HaveEnded j.script (store_after j.script es)
     → IsComplete j.script es

@@ -1,5 +1,5 @@
 -- A listing goes on line by line.
-use Rattle.std.proofs.Common.{◌≡◌, ℕ, ◌+◌, ◌<◌, ◌^◌, true, false, List, [], ◌∷◌, ◌++◌, length, Result, Ok, Err, map}
+use Rattle.std.proofs.Common.{◌≡◌, ℕ, ◌+◌, ◌<◌, ◌^◌, false, List, [], ◌∷◌, ◌++◌, length, Result, Ok, Err, map}
 use Rattle.std.proofs.Common.{Option, refl, sym, ap, subst, ◌∙◌, arith, inl, inr, append-nil as nil_after}
 use Rattle.book.specs.declared.entries.Entry.{Entry}
 use Rattle.std.proofs.lemmas.List.{append_assoc, map-append}
@@ -18,22 +18,12 @@ use Rattle.book_check.specs.declared.offences.CheckFault.TheVariants as fault
 use Rattle.book_check.specs.declared.offences.Offence.{Offence}
 use Rattle.book_check.specs.declared.offences.Rule.{Rule}
 use Rattle.book_check.proofs.GoingLaws.{ended_summary}
-use Rattle.book_check.proofs.VerdictLaws.{fault_only, judged_up, passed}
+use Rattle.book_check.proofs.VerdictLaws.{fault_only, passed}
 use Rattle.reasons.specs.Passing.{AreUpTo, EndsAt, EndsBefore, IsWatched, Looks, Passes}
 use Rattle.reasons.specs.declared.asking.Reason.{Reason}
 use Rattle.text_model.proofs.LineSteps.{lines_nil}
 use Rattle.text_model.specs.Lines.{lines_of}
 use Rattle.reasons.proofs.SinceLaws.{watched_on}
-
-pub passes_start : (j : Judged) (n : ℕ) (all : List (List ℕ)) (r : Option Reason) (line : Option ℕ) → IsAfter j []
-    → IsWatched j.script n [] r line → Passes j n all all r line
-passes_start j n all r line is watched = record {
-  entries = [];
-  after = is;
-  texts = refl;
-  since = watched;
-  judged = λ v. judged_up j.script n all v;
-}
 
 -- each processor's count has room, since it is at most the number of entries
 pub room_there : (j : Judged) (n : ℕ) (all left : List (List ℕ)) (r : Option Reason) (line : Option ℕ)
@@ -87,10 +77,6 @@ passes_next old new n number all left more text r s line next_line is cut before
 pub ends_nil : (j : Judged) (bytes : List ℕ) → length bytes ≡ 0 → EndsBefore j (lines_of bytes)
 ends_nil j [] none = subst (EndsBefore j) (sym lines_nil) tt
 ends_nil j (b ∷ bs) none = absurd (omega (arith, none))
-
-pub ends_summary : (j : Judged) (left more : List (List ℕ)) (line : List ℕ) → left ≡ line ∷ more
-    → is_summary line ≡ true → EndsBefore j left
-ends_summary j left more line cut first = subst (EndsBefore j) (sym cut) (inl first)
 
 -- a line breaks a rule, which changes nothing
 pub ends_faulty : (old new : Judged) (left more : List (List ℕ)) (line : List ℕ) (f : LineFault) (r : Rule)

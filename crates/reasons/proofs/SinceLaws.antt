@@ -118,14 +118,3 @@ pub watched_on : (p : Plan) (r : Option Reason) (n : ℕ) (es : List Entry) (e :
     → IsWatched p n (es ++ e ∷ []) r new
 watched_on p None n es e number old new is was looks = tt
 watched_on p (Some r) n es e number old new is was looks = since_on p r n es e number old new is was looks
-
--- at the line `book`
-pub watched_first : (p : Plan) (r : Reason) (n number : ℕ) (line : Option ℕ) → number + 1 ≡ n
-    → Looks p [] (Some r) number None line → IsWatched p n [] (Some r) line
-watched_first p r n number line is (inr (false_now, none)) = subst (HasSince p r n []) (sym none) false_now
-watched_first p r n number line is (inl (yes_, some)) = subst (HasSince p r n []) (sym some) (record {
-  low = omega (arith, is);
-  high = omega (arith, is);
-  so = λ k low high. subst (λ (xs : List Entry). SaysAt p xs r) (sym (take_all k [] (omega arith))) yes_;
-  not_before = λ k same h. let z : ⊥ = omega (arith, is, same) in absurd z;
-})

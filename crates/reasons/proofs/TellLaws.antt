@@ -15,22 +15,11 @@ use Rattle.book_check.specs.declared.offences.CheckFault.TheVariants as fault
 use Rattle.book_check.specs.declared.offences.Offence.{Offence}
 use Rattle.book_check.specs.declared.offences.Rule.{Rule}
 use Rattle.book_check.specs.declared.offences.Rule.TheVariants as rule
-use Rattle.reasons.specs.Passing.{AreUpTo, Begins, EndsBefore, IsRefused, IsWatched, Looks, Passes}
+use Rattle.reasons.specs.Passing.{AreUpTo, Begins, EndsBefore, IsRefused, IsWatched, Passes}
 use Rattle.reasons.specs.Reasons.{IsSince, IsWhy, first_of, is_end, why_line}
 use Rattle.reasons.specs.Told.{HasLine, HasText, IsTold, IsUnfaulted, MayLackReason, Tells, TellsOrNot}
 use Rattle.reasons.specs.declared.asking.Reason.{Reason}
 use Rattle.reasons.proofs.PassLaws.{up_to}
-use Rattle.reasons.proofs.SinceLaws.{watched_first}
-
--- the look at the line `book`
-pub watched_book : (bytes : List ℕ) (j : Judged) (r : Reason) (rs : Option Reason) (n number : ℕ)
-    (old line : Option ℕ) → Begins bytes j → rs ≡ Some r → old ≡ None → number + 1 ≡ n
-    → ((es : List Entry) → IsAfter j es → Looks j.script es rs number old line) → IsWatched j.script n [] rs line
-watched_book bytes j r rs n number old line is some none place looks =
-    subst (λ (x : Option Reason). IsWatched j.script n [] x line) (sym some)
-    (watched_first j.script r n number line place
-    (subst (λ (x : Option ℕ). Looks j.script [] (Some r) number x line) none
-    (subst (λ (x : Option Reason). Looks j.script [] x number old line) some (looks [] is.after))))
 
 -- the script of a judge is the one that was read
 pub same_script : (bytes : List ℕ) (j : Judged) (p : Plan) → Begins bytes j → script_of bytes ≡ Ok p → j.script ≡ p
@@ -66,10 +55,6 @@ module _ (bytes : List ℕ) (p : Plan) (n : ℕ) (lines : List (List ℕ)) (o : 
     pub tells : (r : Reason) → IsWhy bytes p es (first_of left) (is_end left) o.rule r → HasText p n lines o r text
         → TellsOrNot bytes p n lines o es left text
     tells r why has = inl (record { reason = r; why = why; has_text = has })
-
-    pub tells_nothing : IsUnfaulted p es (first_of left) o.rule → text ≡ []
-        → TellsOrNot bytes p n lines o es left text
-    tells_nothing unfaulted none = inr (record { none = none; unfaulted = unfaulted })
 
 -- the same of what a call answers
 module _ (A E : Type 0) (items : A → List ℕ) (result : Result A E) (bytes script : List ℕ) (n : ℕ)
