@@ -1,29 +1,5 @@
 -- What the tree and its cells show, said of the nodes with their quotas.
-use Rattle.std.proofs.Common.{◌≡◌, ◌≢◌, ◌≤◌, ℕ, true, false, cond, eqb, not, List, [], ◌∷◌, map, Option, Some, None}
-use Rattle.std.proofs.Common.{Result, Ok, Err, refl, sym, ap, subst, get_or}
-use Rattle.std.proofs.Common.{◌∙◌, arith, inl, inr, is_some, if◌then◌else◌, ◌<◌}
-use Rattle.std.specs.Prelude.{IfSome, IfNone, IfOk, OnOk, OnErr}
-use Rattle.std.proofs.lemmas.Bool.{cases_Bool, cases_eq, eq-eqb, ne_eqb}
-use Rattle.std.proofs.lemmas.List.{length-map}
-use Rattle.tree_model.specs.Access.{Row, with_row}
-use Rattle.tree_model.specs.Tree.{Node as Term, has_directory, node_in, quota_in as quota_at, with_node, without_node}
-use Rattle.tree_model.specs.Trees.{has_segment, HasChains, IsTree, AreBelow}
-use Rattle.dir_tree.specs.declared.node.Node.{Node}
-use Rattle.dir_tree.specs.declared.node.NewNode.{NewNode}
-use Rattle.dir_tree.specs.Nodes.{Branches, as_term, with_quotas, node_of, is_in, is_directory, is_segment, added}
-use Rattle.dir_tree.specs.Nodes.{removed, without, unless, with_length}
-use Rattle.dir_tree.specs.Nodes.{with_changed, with_acl, with_home, acl_of}
-use Rattle.dir_tree.specs.Shape.{shape, shapes}
-use Rattle.quota_cells.specs.Accounts.{look, has, is_an_account, with_value}
-use Rattle.quota_cells.specs.Cells.{CellMaps, IsTable, quota_in, stored_in, used_in, AreWithin, Fits, Enters, Leaves}
-use Rattle.dir_tree.specs.Laws.{directory_shown as kind_of_directory, segment_shown as kind_of_segment, uid_shown}
-use Rattle.dir_tree.specs.Laws.{segment_in, not_in_directory}
-use Rattle.dir_tree.specs.Index.{no_node}
-use Rattle.quota_cells.specs.Laws.{look_absent, on_directories, on_segments}
-use Rattle.accounts.specs.Maps.{AccountMaps, HasColumns, accounts_of, count_of, entry_of, branch_of, Recounts, Changes}
-use Rattle.accounts.specs.Maps.{Gains, Loses, Rehomes, rehomed, rows_in, with_row_in}
-use Rattle.tree_model.proofs.TreeLaws.{joined_below, quota_mapped}
-use Rattle.laws.proofs.Options.{none_there}
+use Rattle.accounts.proofs.Prelude.{◌≡◌, ◌≢◌, ◌≤◌, ℕ, true, false, cond, eqb, not, List, [], ◌∷◌, map, Option, Some, None, Result, Ok, Err, refl, sym, ap, subst, get_or, ◌∙◌, arith, inl, inr, is_some, if◌then◌else◌, ◌<◌, IfSome, IfNone, IfOk, OnOk, OnErr, cases_Bool, cases_eq, eq-eqb, ne_eqb, length-map, Row, with_row, Term, has_directory, node_in, quota_at, with_node, without_node, has_segment, HasChains, IsTree, AreBelow, Node, NewNode, Branches, as_term, with_quotas, node_of, is_in, is_directory, is_segment, added, removed, without, unless, with_length, with_changed, with_acl, with_home, acl_of, shape, shapes, look, has, is_an_account, with_value, CellMaps, IsTable, quota_in, stored_in, used_in, AreWithin, Fits, Enters, Leaves, kind_of_directory, kind_of_segment, uid_shown, segment_in, not_in_directory, no_node, look_absent, on_directories, on_segments, AccountMaps, HasColumns, accounts_of, count_of, entry_of, branch_of, Recounts, Changes, Gains, Loses, Rehomes, rehomed, rows_in, with_row_in, joined_below, quota_mapped, none_there}
 
 -- ---- uids of the tree
 

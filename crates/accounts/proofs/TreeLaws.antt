@@ -1,12 +1,5 @@
 -- The nodes with their quotas are a tree, as they are without.
-use Rattle.std.proofs.Common.{◌≡◌, ℕ, ◌<◌, Bool, true, false, cond, eqb, List, [], ◌∷◌, length, Option, Some, None}
-use Rattle.std.proofs.Common.{refl, sym, ap, subst, ◌∙◌}
-use Rattle.tree_model.specs.Tree.{Node as Term, above, branch_in, has_directory, is_branch, step_up}
-use Rattle.tree_model.specs.Trees.{AreBelow, IsTree, Joins}
-use Rattle.dir_tree.specs.declared.node.Node.{Node}
-use Rattle.dir_tree.specs.Nodes.{as_term, with_quotas}
-use Rattle.dir_tree.specs.Shape.{shape, shapes}
-use Rattle.tree_model.proofs.TreeLaws.{directory_mapped}
+use Rattle.accounts.proofs.Prelude.{◌≡◌, ℕ, ◌<◌, Bool, true, false, cond, eqb, List, [], ◌∷◌, length, Option, Some, None, refl, sym, ap, subst, ◌∙◌, Term, above, branch_in, is_branch, step_up, AreBelow, IsTree, Joins, Node, as_term, with_quotas, shape, shapes, directory_mapped}
 
 above_any : (q : ℕ → ℕ) (ns : List Node) (u : ℕ) → above (with_quotas q ns) u ≡ above (shapes ns) u
 above_any q [] u = refl

@@ -1,28 +1,9 @@
 -- What each call keeps, over plain fields.
-use Rattle.std.proofs.Common.{◌≡◌, ◌≢◌, ℕ, ◌+◌, ◌-◌, ◌<◌, ◌≤◌, Bool, true, false, List, length, Option, Some, None}
-use Rattle.std.proofs.Common.{IsSome, IfSome, All, is_some, refl, sym}
-use Rattle.std.proofs.Common.{ap, subst, ◌∙◌, arith, get_or, set, sum, take, drop, []}
-use Rattle.std.proofs.lemmas.Bool.{both_ways}
-use Rattle.std.proofs.lemmas.List.{length-set, length-drop, length-take-le, get_or-take, get_or-drop, get_or_read}
-use Rattle.std.proofs.lemmas.List.{get_or_default}
-use Rattle.bitmap.specs.Bitmap.{in_use, IsLeastFree as IsFirstFree}
-use Rattle.page_table.specs.declared.Ptw.{Ptw}
-use Rattle.active_segs.specs.declared.Entry.{Entry}
-use Rattle.active_segs.specs.Active.{ActiveSegs, entry_at, superior_in, uid_at, IsActive, HasNoInferior, HasShape}
-use Rattle.active_segs.specs.Active.{IsLeastFree, IsFull, used_in}
-use Rattle.active_segs.specs.Kept.{IsKept, IsMarked, AreNoted, IsIndexed, map_of, map_set, noted, place_of_superior}
-use Rattle.active_segs.specs.Kept.{IsActiveAt}
-use Rattle.active_segs.specs.Pairs.{Pairs, place_of, SetsPlace}
-use Rattle.active_segs.specs.Pool.{HasPools, first_of, size_of, IsInPool, IsPlaced}
-use Rattle.active_segs.proofs.InferiorLemmas.{IsSuperiorPlace, superior_placed, superior_of_active, noted_activated}
-use Rattle.active_segs.proofs.InferiorLemmas.{noted_deactivated}
-use Rattle.active_segs.specs.Victim.{leaf_below, leaf_of, victim_of, off_chain, hand_of, round_pool, first_off_chain}
-use Rattle.active_segs.specs.Victim.{StandsFor, IsVictim, HasOneOffChain}
+use Rattle.active_segs.proofs.Prelude.{◌≡◌, ◌≢◌, ℕ, ◌+◌, ◌-◌, ◌<◌, ◌≤◌, Bool, true, false, List, length, Option, Some, None, IsSome, IfSome, All, is_some, refl, sym, ap, subst, ◌∙◌, arith, get_or, set, sum, take, drop, [], both_ways, length-set, length-drop, length-take-le, get_or-take, get_or-drop, get_or_read, get_or_default, in_use, IsFirstFree, Ptw, Entry, ActiveSegs, entry_at, superior_in, uid_at, IsActive, HasNoInferior, HasShape, IsLeastFree, IsFull, used_in, IsKept, IsMarked, AreNoted, IsIndexed, map_of, map_set, noted, place_of_superior, IsActiveAt, Pairs, place_of, SetsPlace, HasPools, first_of, size_of, IsInPool, IsPlaced, leaf_below, leaf_of, victim_of, off_chain, hand_of, round_pool, first_off_chain, StandsFor, IsVictim, HasOneOffChain, find_passes}
+use Rattle.active_segs.proofs.InferiorLemmas.{IsSuperiorPlace, superior_placed, superior_of_active, noted_activated, noted_deactivated}
 use Rattle.active_segs.proofs.DescentLemmas.{round_reaches, round_found, off_is_used}
 use Rattle.active_segs.proofs.EntryLemmas.{tree_activated, tree_deactivated, used_within}
-use Rattle.active_segs.proofs.PlaceLemmas.{pool_within, not_all_used, marked_set, indexed_activated}
-use Rattle.active_segs.proofs.PlaceLemmas.{indexed_deactivated}
-use Rattle.laws.proofs.Lists.{find_passes}
+use Rattle.active_segs.proofs.PlaceLemmas.{pool_within, not_all_used, marked_set, indexed_activated, indexed_deactivated}
 
 -- ---- search
 

@@ -1,21 +1,7 @@
 -- The way down from a place to the leaf that takes its stead: it ends, it is the only one, and it stays off a chain.
-use Rattle.std.proofs.Common.{◌≡◌, ◌≢◌, ℕ, zero, suc, ◌+◌, ◌-◌, ◌<◌, ◌≤◌, Bool, true, false, cond, eqb, not, List, []}
-use Rattle.std.proofs.Common.{◌∷◌, ◌++◌, length, Option, Some, None}
-use Rattle.std.proofs.Common.{IsSome, is_some, refl, sym, ap, subst, ◌∙◌, arith, inl, inr, Contains}
-use Rattle.std.specs.List.{IsDistinct, AllByRecursion, find, list_any, range_with_len}
-use Rattle.std.proofs.lemmas.Bool.{cases_lt, cases_order, eqb-true, eq-eqb, not-true, both_ways, cases_Bool, or_cases}
-use Rattle.std.proofs.lemmas.Bool.{or_left, or_right, or_parts, false≢true}
-use Rattle.std.proofs.lemmas.Option.{none-some, same_Some}
-use Rattle.std.proofs.lemmas.Map.Steps.{length-le_from_distinct_below}
-use Rattle.active_segs.specs.declared.Entry.{Entry}
-use Rattle.active_segs.specs.Active.{ActiveSegs, entry_at, uid_in, uid_at, superior_at, HasNoInferior, IsGrounded}
-use Rattle.active_segs.specs.Victim.{leaf_below, off_chain, places_from, round_pool, IsLeastInferior, Descends}
-use Rattle.active_segs.specs.Victim.{StandsFor, IsVictim, HasItsSuperiors}
-use Rattle.active_segs.specs.Victim.{IsOffChain}
-use Rattle.active_segs.specs.Kept.{IsActiveAt}
+use Rattle.active_segs.proofs.Prelude.{◌≡◌, ◌≢◌, ℕ, zero, suc, ◌+◌, ◌-◌, ◌<◌, ◌≤◌, Bool, true, false, cond, eqb, not, List, [], ◌∷◌, ◌++◌, length, Option, Some, None, IsSome, is_some, refl, sym, ap, subst, ◌∙◌, arith, inl, inr, Contains, IsDistinct, AllByRecursion, find, list_any, range_with_len, cases_lt, cases_order, eqb-true, eq-eqb, not-true, both_ways, cases_Bool, or_cases, or_left, or_right, or_parts, false≢true, none-some, same_Some, length-le_from_distinct_below, Entry, ActiveSegs, entry_at, uid_in, uid_at, superior_at, HasNoInferior, IsGrounded, leaf_below, off_chain, places_from, round_pool, IsLeastInferior, Descends, StandsFor, IsVictim, HasItsSuperiors, IsOffChain, IsActiveAt, find_passes}
 use Rattle.active_segs.proofs.EntryLemmas.{used_within, used_since_superior}
 use Rattle.active_segs.proofs.LeafLemmas.{one_step_more, stays_at_leaf}
-use Rattle.laws.proofs.Lists.{find_passes}
 
 -- ---- the leaf
 

@@ -1,14 +1,5 @@
 -- The entries after one of them changes: what is read there, and that they are still a part of a tree.
-use Rattle.std.proofs.Common.{◌≡◌, ◌≢◌, ℕ, ◌+◌, ◌<◌, Bool, false, cond, eqb, List, length, Option, Some, None, refl}
-use Rattle.std.proofs.Common.{sym, ap, subst, ◌∙◌, arith, set, inl, inr}
-use Rattle.std.proofs.lemmas.Bool.{cases_eq, eq-eqb, ne_eqb}
-use Rattle.std.proofs.lemmas.List.{get_or-set_same, get_or-set_other}
-use Rattle.std.proofs.lemmas.Option.{none-some, same_Some}
-use Rattle.active_segs.specs.declared.Entry.{Entry}
-use Rattle.active_segs.specs.Active.{entry_at, uid_in, superior_in, uid_at, superior_at, IsActive, HasNoInferior}
-use Rattle.active_segs.specs.Active.{IsOneToOne, SuperiorsAreActive, IsGrounded}
-use Rattle.active_segs.specs.Active.{IsTree}
-use Rattle.laws.proofs.Places.{shown_within}
+use Rattle.active_segs.proofs.Prelude.{◌≡◌, ◌≢◌, ℕ, ◌+◌, ◌<◌, Bool, false, cond, eqb, List, length, Option, Some, None, refl, sym, ap, subst, ◌∙◌, arith, set, inl, inr, cases_eq, eq-eqb, ne_eqb, get_or-set_same, get_or-set_other, none-some, same_Some, Entry, entry_at, uid_in, superior_in, uid_at, superior_at, IsActive, HasNoInferior, IsOneToOne, SuperiorsAreActive, IsGrounded, IsTree, shown_within}
 
 pub entry_set : (xs : List (Option Entry)) (p : ℕ) (e : Option Entry) → p < length xs → entry_at (set xs p e) p ≡ e
 entry_set xs p e lt = get_or-set_same xs p e None lt

@@ -1,18 +1,5 @@
 -- The maps of inferiors after a segment has become active or is so no more, and what their least free number is.
-use Rattle.std.proofs.Common.{◌≡◌, ◌≢◌, ℕ, ◌<◌, ◌↔◌, Bool, true, false, List, [], length}
-use Rattle.std.proofs.Common.{Option, Some, None, IfSome}
-use Rattle.std.proofs.Common.{All, refl, sym, ap, subst, ◌∙◌, arith, set, inl, inr, get_or}
-use Rattle.std.proofs.lemmas.Bool.{cases_eq, cases_Bool, both_ways}
-use Rattle.std.proofs.lemmas.List.{get_or-set_same, get_or-set_other, length-set}
-use Rattle.std.proofs.lemmas.List.{get_or_read}
-use Rattle.std.proofs.lemmas.Option.{none-some, same_Some}
-use Rattle.bitmap.specs.Bitmap.{in_use, IsLeastFree as IsFirstFree}
-use Rattle.active_segs.specs.declared.Entry.{Entry}
-use Rattle.active_segs.specs.Active.{entry_at, uid_in, superior_in, uid_at, superior_at, IsActive, HasNoInferior}
-use Rattle.active_segs.specs.Active.{SuperiorsAreActive, IsTree}
-use Rattle.active_segs.specs.Kept.{map_of, map_set, noted, place_of_superior, HasFlag, IsInferior, AreNoted, IsIndexed}
-use Rattle.active_segs.specs.Victim.{IsLeastInferior}
-use Rattle.active_segs.specs.Pairs.{Pairs}
+use Rattle.active_segs.proofs.Prelude.{◌≡◌, ◌≢◌, ℕ, ◌<◌, ◌↔◌, Bool, true, false, List, [], length, Option, Some, None, IfSome, All, refl, sym, ap, subst, ◌∙◌, arith, set, inl, inr, get_or, cases_eq, cases_Bool, both_ways, get_or-set_same, get_or-set_other, length-set, get_or_read, none-some, same_Some, in_use, IsFirstFree, Entry, entry_at, uid_in, superior_in, uid_at, superior_at, IsActive, HasNoInferior, SuperiorsAreActive, IsTree, map_of, map_set, noted, place_of_superior, HasFlag, IsInferior, AreNoted, IsIndexed, IsLeastInferior, Pairs}
 use Rattle.active_segs.proofs.EntryLemmas.{entry_set, entry_kept, uid_set, uid_kept, used_within, superior_within}
 
 -- ---- where the superior's place is

@@ -1,16 +1,6 @@
 -- The leaf below a place as a function: the least inferior, and steps down.
-use Rattle.std.proofs.Common.{◌≡◌, ◌≢◌, ℕ, zero, suc, ◌<◌, Bool, true, false, List, length, Option}
-use Rattle.std.proofs.Common.{Some, None, refl, ap, ◌∙◌, get_or}
-use Rattle.std.proofs.Common.{inl, inr, position}
-use Rattle.std.proofs.lemmas.Bool.{cases_order, eq-eqb, ne_eqb, both_ways}
-use Rattle.std.proofs.lemmas.List.Quantifiers.{position-Some}
-use Rattle.std.proofs.lemmas.Option.{none-some, same_Some}
-use Rattle.active_segs.specs.declared.Entry.{Entry}
-use Rattle.active_segs.specs.Active.{uid_at, superior_at, HasNoInferior}
-use Rattle.active_segs.specs.Victim.{is_inferior_in, is_inferior_of, least_inferior_of, least_inferior, stead_of}
-use Rattle.active_segs.specs.Victim.{leaf_below, IsLeastInferior}
+use Rattle.active_segs.proofs.Prelude.{◌≡◌, ◌≢◌, ℕ, zero, suc, ◌<◌, Bool, true, false, List, length, Option, Some, None, refl, ap, ◌∙◌, get_or, inl, inr, position, cases_order, eq-eqb, ne_eqb, both_ways, position-Some, none-some, same_Some, Entry, uid_at, superior_at, HasNoInferior, is_inferior_in, is_inferior_of, least_inferior_of, least_inferior, stead_of, leaf_below, IsLeastInferior, position_none, position_nowhere}
 use Rattle.active_segs.proofs.EntryLemmas.{superior_within}
-use Rattle.laws.proofs.Lists.{position_none, position_nowhere}
 
 pub inferior_yes : (u : ℕ) (o : Option ℕ) → o ≡ Some u → is_inferior_in u o ≡ true
 inferior_yes u None e = absurd (none-some u e)

@@ -1,3 +1,4 @@
+mod Prelude
 pub mod AstLemmas
 pub mod DescentLemmas
 pub mod EntryLemmas

@@ -1,25 +1,6 @@
 -- A new table keeps what every table keeps.
-use Rattle.std.proofs.Common.{◌≡◌, ℕ, zero, suc, ◌+◌, ◌-◌, ◌<◌, ◌≤◌, Bool, true, false, cond, List, [], ◌∷◌, ◌++◌}
-use Rattle.std.proofs.Common.{length, Option, None, is_some, refl, sym}
-use Rattle.std.proofs.Common.{ap, ◌∙◌, arith, get_or, map, replicate, sum, count_by}
-use Rattle.std.proofs.lemmas.Bool.{both_ways}
-use Rattle.std.proofs.lemmas.List.{length-replicate, length-map, get_or-replicate}
-use Rattle.std.proofs.lemmas.List.{get_or-map, get_or_append_left, append_assoc}
-use Rattle.std.proofs.Math.Seq.{get_or-append_right}
-use Rattle.std.proofs.lemmas.List.Sums.{sum_by-cons}
-use Rattle.std.proofs.lemmas.Option.{none-some}
-use Rattle.bitmap.specs.Bitmap.{in_use}
-use Rattle.page_table.specs.declared.Ptw.{Ptw}
-use Rattle.page_table.specs.declared.Ptw.TheVariants.{Null}
-use Rattle.active_segs.specs.declared.Entry.{Entry}
-use Rattle.active_segs.specs.Active.{entry_at, uid_in, superior_in, uid_at, superior_at, table_at, null_tables}
-use Rattle.active_segs.specs.Active.{AreNullTables}
-use Rattle.active_segs.specs.Kept.{IsKept, map_of}
-use Rattle.active_segs.specs.Pairs.{Pairs, place_of}
-use Rattle.active_segs.specs.Pool.{first_of, size_of}
+use Rattle.active_segs.proofs.Prelude.{◌≡◌, ℕ, zero, suc, ◌+◌, ◌-◌, ◌<◌, ◌≤◌, Bool, true, false, cond, List, [], ◌∷◌, ◌++◌, length, Option, None, is_some, refl, sym, ap, ◌∙◌, arith, get_or, map, replicate, sum, count_by, both_ways, length-replicate, length-map, get_or-replicate, get_or-map, get_or_append_left, append_assoc, get_or-append_right, sum_by-cons, none-some, in_use, Ptw, Null, Entry, entry_at, uid_in, superior_in, uid_at, superior_at, table_at, null_tables, AreNullTables, IsKept, map_of, Pairs, place_of, first_of, size_of, length_of_four, all_same, zeros_read}
 use Rattle.active_segs.proofs.PlaceLemmas.{first_more}
-use Rattle.laws.proofs.Places.{length_of_four}
-use Rattle.laws.proofs.Lists.{all_same, zeros_read}
 
 none_used : (n : ℕ) → count_by is_some (replicate n (let none : Option Entry = None in none)) ≡ 0
 none_used zero = refl

@@ -1,15 +1,6 @@
 -- What a search finds among ascending uids, and what an edit at that place does.
-use Rattle.std.proofs.Common.{◌≡◌, ◌≢◌, ℕ, zero, suc, ◌+◌, ◌-◌, ◌<◌, ◌≤◌, eqb, List, [], ◌∷◌, length, get_or}
-use Rattle.std.proofs.Common.{if◌then◌else◌, Some, None, Result, Ok, Err}
-use Rattle.std.proofs.Common.{IfOk, IfErr, refl, sym, ap, subst, arith}
-use Rattle.std.specs.List.{insert, remove}
-use Rattle.std.specs.List.Sorted.{IsSearchInRange, IsBinarySearchResult, IsNonDecreasingBy}
-use Rattle.std.specs.Ordering.{nat_cmp, ordering_index}
-use Rattle.std.proofs.lemmas.Cmp.{ranked}
-use Rattle.std.proofs.lemmas.List.Sorted.{IsNonDecreasingBy-from_default}
-use Rattle.std.proofs.lemmas.List.Edits.{length-insert, get_or-insert_below, get_or-insert_at, get_or-insert_above}
-use Rattle.std.proofs.lemmas.Bool.Decides.{nat_tests}
-use Rattle.active_segs.specs.Pairs.{place_of, uid_in, IsAscending, IsFoundAt, BelongsAt, SetsPlace}
+use Rattle.active_segs.proofs.Prelude.{◌≡◌, ◌≢◌, ℕ, zero, suc, ◌+◌, ◌-◌, ◌<◌, ◌≤◌, eqb, List, [], ◌∷◌, length, get_or, if◌then◌else◌, Some, None, Result, Ok, Err, IfOk, IfErr, refl, sym, ap, subst, arith, insert, remove, IsSearchInRange, IsBinarySearchResult, IsNonDecreasingBy, nat_cmp, ordering_index, ranked, IsNonDecreasingBy-from_default, length-insert, get_or-insert_below, get_or-insert_at, get_or-insert_above, nat_tests, place_of, IsAscending, IsFoundAt, BelongsAt, SetsPlace}
+use Rattle.active_segs.specs.Pairs.{uid_in}
 
 -- no pair before the k-th has the uid
 abbrev pub NotBefore : List (ℕ × ℕ) → ℕ → ℕ → Type 0

@@ -1,18 +1,5 @@
 -- The places of the pools, the maps of the used ones, and the index, after the entry of a place changes.
-use Rattle.std.proofs.Common.{◌≡◌, ◌≢◌, ℕ, zero, suc, ◌+◌, ◌-◌, ◌<◌, ◌≤◌, Bool, false, cond, List, [], ◌∷◌, length}
-use Rattle.std.proofs.Common.{Option, Some, None, is_some, refl, sym}
-use Rattle.std.proofs.Common.{ap, subst, ◌∙◌, arith, set, take, inl, inr, count_by, sum}
-use Rattle.std.proofs.lemmas.Bool.{cases_eq, cases_order, eq-eqb, ne_eqb}
-use Rattle.std.proofs.lemmas.Grind.{common_steps}
-use Rattle.std.proofs.lemmas.List.{get_or-set_same, get_or-set_other, length-set, take_all}
-use Rattle.std.proofs.lemmas.List.Sums.{sum_by-set, sum_by-cons, count_by-le-length}
-use Rattle.std.proofs.lemmas.Option.{none-some, same_Some}
-use Rattle.bitmap.specs.Bitmap.{in_use}
-use Rattle.active_segs.specs.declared.Entry.{Entry}
-use Rattle.active_segs.specs.Active.{entry_at, uid_in, uid_at, IsOneToOne}
-use Rattle.active_segs.specs.Kept.{map_of, IsMarked, IsIndexed}
-use Rattle.active_segs.specs.Pairs.{Pairs, place_of, SetsPlace}
-use Rattle.active_segs.specs.Pool.{first_of, size_of, IsPlaced}
+use Rattle.active_segs.proofs.Prelude.{◌≡◌, ◌≢◌, ℕ, zero, suc, ◌+◌, ◌-◌, ◌<◌, ◌≤◌, Bool, false, cond, List, [], ◌∷◌, length, Option, Some, None, is_some, refl, sym, ap, subst, ◌∙◌, arith, set, take, inl, inr, count_by, sum, cases_eq, cases_order, eq-eqb, ne_eqb, common_steps, get_or-set_same, get_or-set_other, length-set, take_all, sum_by-set, sum_by-cons, count_by-le-length, none-some, same_Some, in_use, Entry, entry_at, uid_in, uid_at, IsOneToOne, map_of, IsMarked, IsIndexed, Pairs, place_of, SetsPlace, first_of, size_of, IsPlaced}
 use Rattle.active_segs.proofs.EntryLemmas.{uid_set, uid_kept, entry_set, entry_kept}
 
 -- ---- the places of the pools

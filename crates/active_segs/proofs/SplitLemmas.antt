@@ -1,14 +1,6 @@
 -- What the lists of an index say together: a uid is in the one of its remainder.
-use Rattle.std.proofs.Common.{◌≡◌, ◌≢◌, ℕ, zero, suc, ◌+◌, ◌<◌, ◌≤◌, ◌%◌, Bool, true, false, cond, eqb, List, [], ◌∷◌}
-use Rattle.std.proofs.Common.{◌++◌, ◌⊎◌, length, get_or, set, replicate, Option, Some, None, inl, inr, refl, sym, ap}
-use Rattle.std.proofs.Common.{subst, ◌∙◌, arith}
-use Rattle.std.proofs.lemmas.Bool.Decides.{eqb_tells}
-use Rattle.std.proofs.lemmas.List.{get_or-set_same, get_or-set_other, get_or_read, length-set, length-replicate}
-use Rattle.std.proofs.lemmas.List.{get_or-replicate}
-use Rattle.std.proofs.lemmas.List.Concat.{length-flat_map}
-use Rattle.std.proofs.lemmas.List.Sums.{sum_by-set}
+use Rattle.active_segs.proofs.Prelude.{◌≡◌, ◌≢◌, ℕ, zero, suc, ◌+◌, ◌<◌, ◌≤◌, ◌%◌, Bool, true, false, cond, eqb, List, [], ◌∷◌, ◌++◌, ◌⊎◌, length, get_or, set, replicate, Option, Some, None, inl, inr, refl, sym, ap, subst, ◌∙◌, arith, eqb_tells, get_or-set_same, get_or-set_other, get_or_read, length-set, length-replicate, get_or-replicate, length-flat_map, sum_by-set, Pairs, IsSplit, SetsPlace, empty_list, list_at, pairs_in, place_of}
 use Rattle.std.proofs.Math.Nat.{mod-lt}
-use Rattle.active_segs.specs.Pairs.{Pairs, IsSplit, SetsPlace, empty_list, list_at, pairs_in, place_of}
 
 place_past : (xs ys : List (ℕ × ℕ)) (u : ℕ) → place_of xs u ≡ None → place_of (xs ++ ys) u ≡ place_of ys u
 place_past [] ys u none = refl

@@ -1,31 +1,8 @@
 -- What is kept before the first entry and after one more (own).
-use Rattle.std.proofs.Common.{◌≡◌, ℕ, suc, zero, ◌+◌, ◌<◌, ◌↔◌, Bool, true, false, IsTrue, List, [], ◌∷◌, ◌++◌, length}
-use Rattle.std.proofs.Common.{get_or, replicate, Some, None, Ok, Err, refl, sym, ap, subst, ◌∙◌, arith}
-use Rattle.std.specs.Bool.{Decides}
-use Rattle.std.proofs.lemmas.List.{length-append}
-use Rattle.script.specs.Plans.{Plan}
-use Rattle.book.specs.declared.entries.Entry.{Entry}
-use Rattle.book.specs.Entries.{entry_text}
-use Rattle.book.specs.Reading.{IsEntry}
-use Rattle.flat_model.specs.Legal.{IsLawful, after_entry, part, store_after, store_from}
-use Rattle.flat_model.specs.Store.{Store, at_first, boot}
-use Rattle.flat_model.proofs.BookLaws.{legal_nil, legal_push, store_after-nil, store_after-push}
-use Rattle.flat_model.proofs.QuotaTotals.{boot_total, entry_total, total}
-use Rattle.tree_model.specs.Trees.{IsTree}
-use Rattle.flat_store.specs.Shown.{Kept, Shows}
-use Rattle.custody_model.specs.Allowed.{IsAllowed}
-use Rattle.custody_model.specs.Clean.{custody_after}
-use Rattle.custody_model.specs.Custody.{Custody, nothing_held}
-use Rattle.custody_model.specs.Next.{custody_next}
-use Rattle.custody_model.proofs.CleanLaws.{clean_nil, clean_push, custody_after-nil, custody_after-push}
-use Rattle.custody.specs.Tables.{AreNodes, AreTablesOf, Tables, custody_of}
-use Rattle.book_check.specs.Judging.{Allows, Breaks, Forbids, IsAfter, Judged, OnlyOne, Takes, EndsAgree}
-use Rattle.book_check.specs.Verdicts.{AreEntries, BreaksEntry, IsTextOf}
-use Rattle.book_check.specs.declared.offences.Rule.{Rule}
+use Rattle.book_check.proofs.Prelude.{◌≡◌, ℕ, suc, zero, ◌+◌, ◌<◌, ◌↔◌, Bool, true, false, IsTrue, List, [], ◌∷◌, ◌++◌, length, get_or, replicate, Some, None, Ok, Err, refl, sym, ap, subst, ◌∙◌, arith, Decides, length-append, Plan, Entry, entry_text, IsEntry, IsLawful, after_entry, part, store_after, store_from, Store, at_first, boot, legal_nil, legal_push, store_after-nil, store_after-push, boot_total, entry_total, total, IsTree, Kept, Shows, IsAllowed, custody_after, Custody, nothing_held, custody_next, clean_nil, clean_push, custody_after-nil, custody_after-push, AreNodes, AreTablesOf, Tables, custody_of, Allows, Breaks, Forbids, IsAfter, Judged, OnlyOne, Takes, EndsAgree, AreEntries, BreaksEntry, IsTextOf, Rule, count_next}
 use Rattle.book_check.specs.declared.offences.Rule.TheVariants as rule
 use Rattle.book_check.specs.declared.judge.LineFault.TheVariants as fault
 use Rattle.book_check.proofs.EndLaws.{ends_push}
-use Rattle.custody_model.proofs.TurnLaws.{count_next}
 
 -- ---- before the first entry
 

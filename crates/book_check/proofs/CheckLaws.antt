@@ -1,17 +1,6 @@
 -- The verdict on a whole input (own).
-use Rattle.std.proofs.Common.{◌≡◌, ◌↔◌, ℕ, List, [], Result, Ok, Err, sym, ap, subst, ◌∙◌}
-use Rattle.text_model.specs.Lines.{lines_of}
-use Rattle.script.specs.Grammar.{Reads, script_of}
-use Rattle.script.specs.Plans.{Plan}
-use Rattle.script.specs.declared.refusals.Refusal.{Refusal}
-use Rattle.script.specs.declared.reader.ScriptFault.{ScriptFault}
+use Rattle.book_check.proofs.Prelude.{◌≡◌, ◌↔◌, ℕ, List, [], Result, Ok, Err, sym, ap, subst, ◌∙◌, lines_of, Reads, script_of, Plan, Refusal, ScriptFault, Closes, IsOneVerdict, IsTheVerdict, OrMemory, of_script, Finds, IsReached, entry_lines, first_number, listing_lines, script_lines, script_of_lines, Judged, AreJudged, IsJudged, IsJudgedBy, CheckFault}
 use Rattle.script.specs.declared.reader.ScriptFault.TheVariants as unread
-use Rattle.book_check.specs.Closing.{Closes, IsOneVerdict, IsTheVerdict, OrMemory, of_script}
-use Rattle.book_check.specs.Going.{Finds, IsReached}
-use Rattle.book_check.specs.Inputs.{entry_lines, first_number, listing_lines, script_lines, script_of_lines}
-use Rattle.book_check.specs.Judging.{Judged}
-use Rattle.book_check.specs.Verdicts.{AreJudged, IsJudged, IsJudgedBy}
-use Rattle.book_check.specs.declared.offences.CheckFault.{CheckFault}
 use Rattle.book_check.specs.declared.offences.CheckFault.TheVariants as fault
 use Rattle.book_check.proofs.GoingLaws.{summary_all}
 use Rattle.book_check.proofs.VerdictLaws.{end_only, end_there}

@@ -1,26 +1,6 @@
 -- What follows the entries (own).
-use Rattle.std.proofs.Common.{◌≡◌, ◌≢◌, ℕ, ◌+◌, ◌<◌, ◌≤◌, Bool, true, false, List, length, Result, Ok, Err, refl, sym}
-use Rattle.std.proofs.Common.{ap, subst, ◌∙◌, arith, inl, inr}
-use Rattle.std.proofs.lemmas.Bool.{cases_Bool}
-use Rattle.std.specs.Bool.{Decides}
-use Rattle.text_model.specs.Lines.{lines_of}
-use Rattle.script.specs.Plans.{Plan}
-use Rattle.book.specs.declared.entries.Entry.{Entry}
-use Rattle.flat_model.proofs.QuotaTotals.{all_within}
-use Rattle.flat_model.specs.Legal.{IsComplete, IsSettled, store_after}
-use Rattle.flat_model.specs.Pages.{is_stored, is_zero_page}
-use Rattle.tree_model.specs.Tree.{quota_in, used_by}
-use Rattle.tree_model.specs.Trees.{IsTree}
-use Rattle.flat_model.specs.Store.{Store, progress_of}
-use Rattle.flat_store.specs.Shown.{Kept, Shows}
-use Rattle.flat_store.specs.Zeros.{HasZeroPage}
-use Rattle.custody.specs.Tables.{Tables}
-use Rattle.listing.specs.Listings.{summary_of, summary_text}
-use Rattle.book_check.specs.Closing.{Closes}
-use Rattle.book_check.specs.Judging.{HaveEnded, IsAfter, Judged}
-use Rattle.book_check.specs.Verdicts.{IsWhole, due_lines, same_lines}
+use Rattle.book_check.proofs.Prelude.{◌≡◌, ◌≢◌, ℕ, ◌+◌, ◌<◌, ◌≤◌, Bool, true, false, List, length, Result, Ok, Err, refl, sym, ap, subst, ◌∙◌, arith, inl, inr, cases_Bool, Decides, lines_of, Plan, Entry, all_within, IsComplete, IsSettled, store_after, is_stored, is_zero_page, quota_in, used_by, IsTree, Store, progress_of, Kept, Shows, HasZeroPage, Tables, summary_of, summary_text, Closes, HaveEnded, IsAfter, Judged, IsWhole, due_lines, same_lines, CheckFault}
 use Rattle.book_check.specs.declared.offences.Rule.TheVariants as rule
-use Rattle.book_check.specs.declared.offences.CheckFault.{CheckFault}
 use Rattle.book_check.specs.declared.offences.CheckFault.TheVariants as fault
 use Rattle.book_check.proofs.EndLaws.{complete_told, ended_told}
 

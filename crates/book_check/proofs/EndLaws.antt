@@ -1,22 +1,8 @@
 -- A process has ended exactly where its last command entry is that of its end (own).
-use Rattle.std.proofs.Common.{◌≡◌, ℕ, ◌+◌, ◌<◌, Bool, true, false, cond, eqb, List, [], ◌∷◌, ◌++◌, length, Option}
-use Rattle.std.proofs.Common.{Some, None, refl, sym, ap, subst, ◌∙◌, arith}
-use Rattle.std.specs.Bool.{Decides}
-use Rattle.std.proofs.lemmas.Bool.Decides.{nat_tests}
-use Rattle.script.specs.Plans.{Plan, command_at}
-use Rattle.script.specs.declared.commands.Command.{Command}
+use Rattle.book_check.proofs.Prelude.{◌≡◌, ℕ, ◌+◌, ◌<◌, Bool, true, false, cond, eqb, List, [], ◌∷◌, ◌++◌, length, Option, Some, None, refl, sym, ap, subst, ◌∙◌, arith, Decides, nat_tests, Plan, command_at, Command, Entry, Reply, gone_on, is_end, tries_on, IsAnswer, IsComplete, IsEnd, IsLawful, IsLawfulDo, MayFault, after_do, after_entry, after_fault, is_part, last_of, part, store_after, Progress, Store, progress_of, last_of-push, part-push, part-skip, store_after-push, EndsAgree, HaveEnded, going_within}
 use Rattle.script.specs.declared.commands.Command.TheVariants as command
-use Rattle.book.specs.declared.entries.Entry.{Entry}
 use Rattle.book.specs.declared.entries.Entry.TheVariants as entry
-use Rattle.book.specs.declared.replies.Reply.{Reply}
-use Rattle.flat_model.specs.Commands.{gone_on, is_end, tries_on}
-use Rattle.flat_model.specs.Legal.{IsAnswer, IsComplete, IsEnd, IsLawful, IsLawfulDo, MayFault, after_do, after_entry}
-use Rattle.flat_model.specs.Legal.{after_fault, is_part, last_of, part, store_after}
-use Rattle.flat_model.specs.Store.{Progress, Store, progress_of}
-use Rattle.flat_model.proofs.BookLaws.{last_of-push, part-push, part-skip, store_after-push}
-use Rattle.book_check.specs.Judging.{EndsAgree, HaveEnded}
 use Rattle.book_check.proofs.ProgressLaws.{progress_after, progress_with}
-use Rattle.flat_model.proofs.SharedLaws.{going_within}
 
 -- the end of a process is the one command that ends it
 ended_by : (q : Progress) (c : Command) (r : Reply) → q.ended ≡ false

@@ -1,20 +1,6 @@
 -- How a listing goes on, line by line (own).
-use Rattle.std.proofs.Common.{◌≡◌, ℕ, ◌+◌, ◌<◌, ◌^◌, Bool, true, false, List, [], ◌∷◌, ◌++◌, length, Result, Ok, Err}
-use Rattle.std.proofs.Common.{refl, sym, ap, subst, ◌∙◌, arith}
-use Rattle.text_model.proofs.LineSteps.{lines_nil}
-use Rattle.text_model.specs.Lines.{lines_of}
-use Rattle.script.specs.Plans.{Plan}
-use Rattle.custody_model.specs.Custody.{Custody}
-use Rattle.custody.specs.Tables.{AreTablesOf, HaveRoom}
-use Rattle.book_check.specs.Closing.{IsOneVerdict, OrMemory, at_line}
-use Rattle.book_check.specs.Going.{IsJudgedFrom, IsReached}
-use Rattle.book_check.specs.Inputs.{entry_lines, is_summary, summary_lines}
-use Rattle.book_check.specs.Judging.{IsAfter, IsNext, Judged, OnlyOne, Takes}
-use Rattle.book_check.specs.Verdicts.{BreaksEntry, IsJudged}
-use Rattle.book_check.specs.declared.offences.Rule.{Rule}
-use Rattle.book_check.specs.declared.offences.CheckFault.{CheckFault}
+use Rattle.book_check.proofs.Prelude.{◌≡◌, ℕ, ◌+◌, ◌<◌, ◌^◌, Bool, true, false, List, [], ◌∷◌, ◌++◌, length, Result, Ok, Err, refl, sym, ap, subst, ◌∙◌, arith, lines_nil, lines_of, Plan, Custody, AreTablesOf, HaveRoom, IsOneVerdict, OrMemory, at_line, IsJudgedFrom, IsReached, entry_lines, is_summary, summary_lines, IsAfter, IsNext, Judged, OnlyOne, Takes, BreaksEntry, IsJudged, Rule, CheckFault, LineFault}
 use Rattle.book_check.specs.declared.offences.CheckFault.TheVariants as fault
-use Rattle.book_check.specs.declared.judge.LineFault.{LineFault}
 use Rattle.book_check.specs.declared.judge.LineFault.TheVariants as broken
 use Rattle.book_check.proofs.VerdictLaws.{passed, not_passed, fault_only, fault_there}
 

@@ -1,3 +1,4 @@
+mod Prelude
 mod LineLaws
 mod ProgressLaws
 mod EndLaws

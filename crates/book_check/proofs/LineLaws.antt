@@ -1,12 +1,5 @@
 -- Laws of the spaces before a word (own).
-use Rattle.std.proofs.Common.{◌≡◌, ◌≢◌, ℕ, suc, zero, ◌+◌, ◌-◌, ◌<◌, ◌≤◌, false, eqb, List, [], ◌∷◌, ◌++◌, length}
-use Rattle.std.proofs.Common.{refl, sym, ap, ◌∙◌, arith, get_or, take, drop, add-one}
-use Rattle.std.proofs.lemmas.Bool.Decides.{nat_tests}
-use Rattle.std.proofs.lemmas.Grind.{common_steps}
-use Rattle.text_model.proofs.LineSteps.{NoFeedBefore, all_left, drop_at, line_byte, line_feed, line_last}
-use Rattle.text_model.specs.Lines.{lines_of, onto_piece}
-use Rattle.book_check.specs.Inputs.{after_spaces}
-use Rattle.laws.proofs.Lists.{length_left, rest_last, take_drop}
+use Rattle.book_check.proofs.Prelude.{◌≡◌, ◌≢◌, ℕ, ◌+◌, ◌-◌, ◌<◌, ◌≤◌, false, eqb, List, [], ◌∷◌, length, refl, sym, ap, ◌∙◌, arith, get_or, take, drop, nat_tests, common_steps, all_left, drop_at, after_spaces}
 
 after_space : (b : ℕ) (bs : List ℕ) → b ≡ 32 → after_spaces (b ∷ bs) ≡ after_spaces bs
 after_space b bs e = rw e refl

@@ -1,27 +1,6 @@
 -- How far processes have come (own): no command changes that of another process.
-use Rattle.std.proofs.Common.{◌≡◌, ◌≢◌, ℕ, ℤ, suc, zero, ◌<◌, Bool, true, false, cond, eqb, List, [], ◌∷◌, length}
-use Rattle.std.proofs.Common.{get_or, set, Option, Some, None, Result, Ok, Err, refl, sym, ap, ◌∙◌, arith}
-use Rattle.std.proofs.lemmas.Bool.Decides.{nat_tests}
-use Rattle.mnames.specs.declared.modes.Mode.{Mode}
-use Rattle.mnames.specs.declared.rows.Row.{Row as Named}
-use Rattle.script.specs.Plans.{Plan}
-use Rattle.script.specs.declared.commands.Command.{Command}
+use Rattle.book_check.proofs.Prelude.{◌≡◌, ◌≢◌, ℕ, ℤ, suc, zero, ◌<◌, Bool, true, false, cond, eqb, List, [], ◌∷◌, length, get_or, set, Option, Some, None, Result, Ok, Err, refl, sym, ap, ◌∙◌, arith, nat_tests, Mode, Named, Plan, Command, Reference, reference_of, Reply, Row, Node, branch_at, changed, directory_at, node_at, parts_of, segment_at, after_command, effect_by, effect_of, effect_of_tree_command, gone_on, takes_effect, after_delete, after_make, deleted, made_at, made_of, after_initiate, after_terminate, initiated, alters, new_word, after_reference, written, written_by, after_acl, after_move, moved, after_length, after_truncate, truncated, Progress, Store, known_uid, progress_of, with_progress}
 use Rattle.script.specs.declared.commands.Command.TheVariants as command
-use Rattle.script.specs.declared.commands.Reference.{Reference}
-use Rattle.script.specs.References.{reference_of}
-use Rattle.book.specs.declared.replies.Reply.{Reply}
-use Rattle.tree_model.specs.Access.{Row}
-use Rattle.tree_model.specs.Tree.{Node}
-use Rattle.flat_model.specs.Branches.{branch_at, changed, directory_at, node_at, parts_of, segment_at}
-use Rattle.flat_model.specs.Commands.{after_command, effect_by, effect_of, effect_of_tree_command, gone_on}
-use Rattle.flat_model.specs.Commands.{takes_effect}
-use Rattle.flat_model.specs.Making.{after_delete, after_make, deleted, made_at, made_of}
-use Rattle.flat_model.specs.Naming.{after_initiate, after_terminate, initiated}
-use Rattle.script.specs.References.{alters, new_word}
-use Rattle.flat_model.specs.References.{after_reference, written, written_by}
-use Rattle.flat_model.specs.Rights.{after_acl, after_move, moved}
-use Rattle.flat_model.specs.Sizes.{after_length, after_truncate, truncated}
-use Rattle.flat_model.specs.Store.{Progress, Store, known_uid, progress_of, with_progress}
 
 abbrev Stays : Store → Store → Type 0
 Stays s t = t.processes ≡ s.processes

@@ -1,11 +1,5 @@
 -- How many lines of two texts are the same (own).
-use Rattle.std.proofs.Common.{◌≡◌, ◌≢◌, ℕ, ◌+◌, Bool, true, false, cond, eqb, List, [], ◌∷◌, length, refl, sym, ap}
-use Rattle.std.proofs.Common.{◌∙◌, arith}
-use Rattle.std.specs.Str.{bytes_eq}
-use Rattle.std.proofs.lemmas.Slice.Eq.{bytes_eq-Decides}
-use Rattle.text_model.proofs.LineSteps.{lines_nil, no_lines}
-use Rattle.text_model.specs.Lines.{lines_of, onto_piece}
-use Rattle.book_check.specs.Verdicts.{same_lines}
+use Rattle.book_check.proofs.Prelude.{◌≡◌, ◌≢◌, ℕ, ◌+◌, Bool, true, false, cond, eqb, List, [], ◌∷◌, length, refl, sym, ap, ◌∙◌, arith, bytes_eq, bytes_eq-Decides, no_lines, lines_of, onto_piece, same_lines}
 
 -- so many lines at the front of two lists are the same, and these are left of both
 pub record AreSame (all due left wanted : List (List ℕ)) (n : ℕ) : Type 0 where

@@ -1,26 +1,6 @@
 -- How a listing is judged line by line, and that there is one verdict (own).
-use Rattle.std.proofs.Common.{◌≡◌, ℕ, ◌+◌, false, List, [], ◌∷◌, ◌++◌, length, map, Result, Ok, Err, refl, sym, ap}
-use Rattle.std.proofs.Common.{subst, ◌∙◌, append-nil}
-use Rattle.std.proofs.lemmas.List.{append_assoc}
-use Rattle.script.specs.Plans.{Plan}
-use Rattle.book.specs.declared.entries.Entry.{Entry}
-use Rattle.book.specs.Entries.{entry_text}
-use Rattle.book.specs.Reading.{IsEntry}
-use Rattle.flat_model.specs.Legal.{IsLawful, IsLegal, IsLegalFrom, after_entry, store_after, store_from}
-use Rattle.flat_model.specs.Store.{Store, boot}
-use Rattle.custody_model.specs.Allowed.{IsAllowed}
-use Rattle.custody_model.specs.Clean.{IsClean, IsCleanFrom, custody_after, custody_from}
-use Rattle.custody_model.specs.Custody.{Custody, nothing_held}
-use Rattle.custody_model.specs.Next.{custody_next}
-use Rattle.book_check.specs.Inputs.{entry_lines, is_summary, summary_lines}
-use Rattle.book_check.specs.Judging.{OnlyOne}
-use Rattle.book_check.specs.Going.{Finds, IsJudgedFrom}
-use Rattle.book_check.specs.Verdicts.{AreEntries, BreaksEnd, BreaksEntry, IsTextOf, IsWhole}
-use Rattle.book_check.specs.Verdicts.{MayStand, due_lines}
-use Rattle.book_check.specs.declared.offences.Rule.{Rule}
+use Rattle.book_check.proofs.Prelude.{◌≡◌, ℕ, ◌+◌, false, List, [], ◌∷◌, ◌++◌, length, map, Result, Ok, Err, refl, sym, ap, subst, ◌∙◌, append-nil, append_assoc, Plan, Entry, entry_text, IsEntry, IsLawful, IsLegal, IsLegalFrom, after_entry, store_after, store_from, Store, boot, IsAllowed, IsClean, IsCleanFrom, custody_after, custody_from, Custody, nothing_held, custody_next, entry_lines, is_summary, summary_lines, OnlyOne, Finds, IsJudgedFrom, AreEntries, BreaksEnd, BreaksEntry, IsTextOf, IsWhole, MayStand, due_lines, Rule, Offence, CheckFault}
 use Rattle.book_check.specs.declared.offences.Rule.TheVariants as rule
-use Rattle.book_check.specs.declared.offences.Offence.{Offence}
-use Rattle.book_check.specs.declared.offences.CheckFault.{CheckFault}
 use Rattle.book_check.specs.declared.offences.CheckFault.TheVariants as fault
 
 -- ---- one entry of those that may stand one after the other

@@ -1,17 +1,6 @@
 -- What is told of a page that a `truncate` cuts.
-use Rattle.std.proofs.Common.{◌≡◌, ◌≢◌, ℕ, ◌*◌, ◌+◌, ◌<◌, ◌≤◌, Bool, true, false, ◌||◌, ◌&&◌, refl, sym, subst}
-use Rattle.std.proofs.Common.{Some, arith, inl, inr, leb, ltb}
-use Rattle.std.proofs.lemmas.Bool.{cases_lt, lt-leb, ltb-true}
-use Rattle.flat_model.specs.Pages.{is_zero_page, without_words}
-use Rattle.flat_model.specs.Sizes.{is_lost}
-use Rattle.flat_model.specs.Store.{Store}
-use Rattle.custody_model.specs.Custody.{Custody, page_of}
-use Rattle.custody.specs.Tables.{AreKept}
-use Rattle.clean_reasons.specs.Rows.{IsCut, IsOfLoss, IsOfTruncate, IsTakenPage}
-use Rattle.clean_reasons.specs.Seeking.{LosesPage}
-use Rattle.clean_reasons.specs.declared.reasons.Loss.{Loss}
+use Rattle.clean_reasons.proofs.Prelude.{◌≡◌, ◌≢◌, ℕ, ◌*◌, ◌+◌, ◌<◌, ◌≤◌, Bool, true, false, ◌||◌, ◌&&◌, refl, sym, subst, Some, arith, inl, inr, leb, ltb, cases_lt, lt-leb, ltb-true, is_zero_page, without_words, is_lost, Store, Custody, page_of, AreKept, IsCut, IsOfLoss, IsOfTruncate, IsTakenPage, LosesPage, Loss, EffectReason}
 use Rattle.clean_reasons.specs.declared.reasons.Loss.TheVariants as loss
-use Rattle.clean_reasons.specs.declared.reasons.EffectReason.{EffectReason}
 use Rattle.clean_reasons.specs.declared.reasons.EffectReason.TheVariants as effect
 
 pub cut : (s : Store) (u from q : ℕ) (r : EffectReason) → IsCut s u from q → IsOfLoss loss.Cut u q r

@@ -1,12 +1,6 @@
 -- What it tells of a frame, a descriptor or a processor that it is looked for, or isn't.
-use Rattle.std.proofs.Common.{◌≡◌, ◌≢◌, ℕ, true, Option, Some, None, refl, sym, ap}
-use Rattle.std.proofs.Common.{subst}
-use Rattle.std.specs.Option.{unwrap_or}
-use Rattle.custody_model.specs.Custody.{bound_page, is_uid, page_of, uid_of_page}
-use Rattle.custody_model.specs.declared.FrameUse.{FrameUse}
+use Rattle.clean_reasons.proofs.Prelude.{◌≡◌, ◌≢◌, ℕ, true, Option, Some, None, refl, sym, ap, subst, unwrap_or, bound_page, is_uid, page_of, uid_of_page, FrameUse, not_both, eqb_self}
 use Rattle.custody_model.specs.declared.FrameUse.TheVariants as frame
-use Rattle.laws.proofs.Bools.{not_both}
-use Rattle.laws.proofs.Numbers.{eqb_self}
 
 -- ---- tests of pages
 

@@ -1,3 +1,4 @@
+mod Prelude
 pub mod EffectLaws
 pub mod SeekLaws
 pub mod FrameLaws

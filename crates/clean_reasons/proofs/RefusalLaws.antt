@@ -1,34 +1,7 @@
 -- A reason that is so of an entry refuses it by itself, but for one that the script hasn't what the entry names.
-use Rattle.std.proofs.Common.{◌≡◌, ℕ, true, false, sym, subst, ◌∙◌, arith, Some}
-use Rattle.std.specs.Prelude.{Result, Ok, Err}
-use Rattle.std.proofs.lemmas.Bool.{le-leb, lt-ltb}
-use Rattle.script.specs.Plans.{Plan}
-use Rattle.script.specs.declared.commands.Command.{Command}
+use Rattle.clean_reasons.proofs.Prelude.{◌≡◌, ℕ, true, false, sym, subst, ◌∙◌, arith, Some, Result, Ok, Err, le-leb, lt-ltb, Plan, Command, Entry, Reply, Node, segment_at, without_words, is_lost, Store, Custody, page_of, LosesNoPage, MayTakeEffect, OfNode, IsAllowed, ActiveSays, AreRefusals, CommandSays, DescriptorSays, EffectSays, FrameSays, ReadySays, SeatSays, IsActiveOf, IsCommandOf, IsDescriptorOf, IsEffectOf, IsFrameOf, IsOfEffect, IsOfNode, IsOfTruncate, IsReadyOf, IsSeatOf, IsTakenPage, PageOf, Loss, SeatReason, ReadyReason, ActiveReason, FrameReason, DescriptorReason, CommandReason, EffectReason}
 use Rattle.script.specs.declared.commands.Command.TheVariants as command
-use Rattle.book.specs.declared.entries.Entry.{Entry}
-use Rattle.book.specs.declared.replies.Reply.{Reply}
-use Rattle.tree_model.specs.Tree.{Node}
-use Rattle.flat_model.specs.Branches.{segment_at}
-use Rattle.flat_model.specs.Pages.{without_words}
-use Rattle.flat_model.specs.Sizes.{is_lost}
-use Rattle.flat_model.specs.Store.{Store}
-use Rattle.custody_model.specs.Custody.{Custody, page_of}
-use Rattle.custody_model.specs.Effects.{LosesNoPage, MayTakeEffect, OfNode}
-use Rattle.custody_model.specs.Allowed.{IsAllowed}
-use Rattle.clean_reasons.specs.Reasons.{ActiveSays, AreRefusals, CommandSays, DescriptorSays, EffectSays, FrameSays}
-use Rattle.clean_reasons.specs.Reasons.{ReadySays, SeatSays}
-use Rattle.clean_reasons.specs.Rows.{IsActiveOf, IsCommandOf, IsDescriptorOf, IsEffectOf, IsFrameOf, IsOfEffect}
-use Rattle.clean_reasons.specs.Rows.{IsOfNode, IsOfTruncate, IsReadyOf, IsSeatOf, IsTakenPage}
-use Rattle.clean_reasons.specs.declared.reasons.PageOf.{PageOf}
-use Rattle.clean_reasons.specs.declared.reasons.Loss.{Loss}
 use Rattle.clean_reasons.specs.declared.reasons.Loss.TheVariants as loss
-use Rattle.clean_reasons.specs.declared.reasons.SeatReason.{SeatReason}
-use Rattle.clean_reasons.specs.declared.reasons.ReadyReason.{ReadyReason}
-use Rattle.clean_reasons.specs.declared.reasons.ActiveReason.{ActiveReason}
-use Rattle.clean_reasons.specs.declared.reasons.FrameReason.{FrameReason}
-use Rattle.clean_reasons.specs.declared.reasons.DescriptorReason.{DescriptorReason}
-use Rattle.clean_reasons.specs.declared.reasons.CommandReason.{CommandReason}
-use Rattle.clean_reasons.specs.declared.reasons.EffectReason.{EffectReason}
 use Rattle.clean_reasons.specs.declared.reasons.EffectReason.TheVariants as effect
 use Rattle.clean_reasons.specs.declared.reasons.Reason.TheVariants as reason
 

@@ -1,19 +1,5 @@
 -- How what rows tell of their parts tells of the whole.
-use Rattle.std.proofs.Common.{◌≡◌, ℕ, ◌<◌, ◌≤◌, true, false, Option, Some, None}
-use Rattle.std.proofs.Common.{sym, ap, subst, ◌∙◌, leb}
-use Rattle.std.specs.Prelude.{MatchOption, IfNone, IfSome, IsSomeAnd, count_by}
-use Rattle.std.specs.Option.{unwrap_or, is_some}
-use Rattle.std.specs.Bool.{Decides}
-use Rattle.std.proofs.lemmas.Bool.{le-leb, leb-true}
-use Rattle.script.specs.Plans.{Plan}
-use Rattle.tree_model.specs.Tree.{Node, node_in, pool_of}
-use Rattle.flat_model.specs.Store.{Store}
-use Rattle.flat_store.specs.Shown.{pool_at, superior_at}
-use Rattle.custody_model.specs.Allowed.{MayActivate, MayJoin, is_active_in, pool_size}
-use Rattle.custody.specs.Tables.{AreNodes, Tables, active_at, custody_of, is_in_pool}
-use Rattle.custody.proofs.ActiveLaws.{count_active}
-use Rattle.clean_reasons.specs.Reasons.{ActiveSays}
-use Rattle.clean_reasons.specs.declared.reasons.ActiveReason.{ActiveReason}
+use Rattle.clean_reasons.proofs.Prelude.{◌≡◌, ℕ, ◌<◌, ◌≤◌, true, false, Option, Some, None, sym, ap, subst, ◌∙◌, leb, MatchOption, IfNone, IfSome, IsSomeAnd, count_by, unwrap_or, is_some, Decides, le-leb, leb-true, Plan, Node, node_in, pool_of, Store, pool_at, superior_at, MayActivate, MayJoin, is_active_in, pool_size, AreNodes, Tables, active_at, custody_of, is_in_pool, count_active, ActiveSays, ActiveReason}
 use Rattle.clean_reasons.specs.declared.reasons.ActiveReason.TheVariants as active
 
 -- ---- active segments

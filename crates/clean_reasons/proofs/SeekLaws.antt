@@ -1,14 +1,6 @@
 -- What a scan of a table tells of all of it: past its end nothing is looked for.
-use Rattle.std.proofs.Common.{◌≢◌, ℕ, ◌<◌, ◌≤◌, List, length, get_or}
-use Rattle.std.proofs.Common.{sym, subst, inl, inr, arith, Some, None, Option}
-use Rattle.std.specs.Prelude.{IfNone, MatchOption}
-use Rattle.std.proofs.lemmas.Bool.{cases_lt}
-use Rattle.std.proofs.lemmas.List.{get_or_past}
-use Rattle.script.specs.Plans.{Plan}
-use Rattle.custody_model.specs.Custody.{page_of}
+use Rattle.clean_reasons.proofs.Prelude.{◌≢◌, ℕ, ◌<◌, ◌≤◌, List, length, get_or, sym, subst, inl, inr, arith, Some, None, Option, IfNone, MatchOption, cases_lt, get_or_past, Plan, page_of, AreTablesOf, Tables, custody_of, HasLostNone, IsLostPage, LosesPage}
 use Rattle.custody_model.specs.declared.FrameUse.TheVariants as frame
-use Rattle.custody.specs.Tables.{AreTablesOf, Tables, custody_of}
-use Rattle.clean_reasons.specs.Seeking.{HasLostNone, IsLostPage, LosesPage}
 
 whole : {X : Type 0} (P : ℕ → X → Type 0) (d : X) → ((f : ℕ) → P f d) → (xs : List X) (i : ℕ) → length xs ≤ i
     → ((f : ℕ) → f < i → P f (get_or xs f d)) → (f : ℕ) → P f (get_or xs f d)

@@ -1,20 +1,5 @@
 -- How many of a pool are active, counted among the nodes or among the active segments.
-use Rattle.std.proofs.Common.{◌≡◌, ◌≢◌, ◌<◌, ℕ, suc, zero, Bool, true, false, cond, eqb, ◌&&◌, List, [], ◌∷◌, Option}
-use Rattle.std.proofs.Common.{Some, None, length, set, refl, sym, ap}
-use Rattle.std.proofs.Common.{subst, ◌∙◌, inl, inr, arith}
-use Rattle.std.specs.Prelude.{sum_by, is_some, IsSomeAnd}
-use Rattle.std.specs.Bool.{Decides}
-use Rattle.std.specs.Option.{unwrap_or}
-use Rattle.std.proofs.lemmas.Bool.Decides.{eqb_tells}
-use Rattle.std.proofs.lemmas.List.{get_or-set_same, get_or-set_other}
-use Rattle.std.proofs.lemmas.List.Sums.{sum_by-set, sum_by-cons}
-use Rattle.script.specs.Plans.{Plan}
-use Rattle.flat_model.specs.Store.{Store}
-use Rattle.tree_model.specs.Tree.{Node, node_in, pool_of}
-use Rattle.custody_model.specs.Allowed.{MayActivate, MayJoin, pool_size}
-use Rattle.custody.specs.Tables.{Tables, AreNodes, CanJoin, IsAsActivated, active_at, custody_of, is_in_pool, use_in}
-use Rattle.custody.specs.declared.active.ActiveUse.{ActiveUse}
-use Rattle.laws.proofs.Numbers.{eqb_self}
+use Rattle.custody.proofs.Prelude.{◌≡◌, ◌≢◌, ◌<◌, ℕ, suc, zero, Bool, true, false, cond, eqb, ◌&&◌, List, [], ◌∷◌, Option, Some, None, length, set, refl, sym, ap, subst, ◌∙◌, inl, inr, arith, sum_by, is_some, IsSomeAnd, Decides, unwrap_or, eqb_tells, get_or-set_same, get_or-set_other, sum_by-set, sum_by-cons, Plan, Store, Node, node_in, pool_of, MayActivate, MayJoin, pool_size, Tables, AreNodes, CanJoin, IsAsActivated, active_at, custody_of, is_in_pool, use_in, ActiveUse, eqb_self}
 
 -- ---- nodes
 

@@ -1,24 +1,8 @@
 -- What each entry makes of the tables is what it makes of custody.
-use Rattle.std.proofs.Common.{◌≡◌, ◌<◌, ◌+◌, ◌-◌, ℕ, suc, zero, Bool, true, false, not, cond, eqb, ◌&&◌, List, [], ◌∷◌}
-use Rattle.std.proofs.Common.{Option, Some, None, get_or, length, set, refl, sym, ap, ◌∙◌}
-use Rattle.std.proofs.Common.{inl, inr, arith}
-use Rattle.std.specs.Prelude.{is_some}
-use Rattle.std.specs.List.{filter}
-use Rattle.std.proofs.lemmas.Bool.Decides.{Decides-eqb, eqb_tells}
-use Rattle.std.proofs.lemmas.List.{get_or-set_same, get_or-set_other}
-use Rattle.assoc_mem.specs.declared.What.{What}
+use Rattle.custody.proofs.Prelude.{◌≡◌, ◌<◌, ◌+◌, ◌-◌, ℕ, suc, zero, Bool, true, false, not, cond, eqb, ◌&&◌, List, [], ◌∷◌, Option, Some, None, get_or, length, set, refl, sym, ap, ◌∙◌, inl, inr, arith, is_some, filter, Decides-eqb, eqb_tells, get_or-set_same, get_or-set_other, What, Seat, cleared, names_frame, names_descriptor, names_number, offline, told, with_active, with_descriptor, with_frame, with_seat, signalled, FrameUse, DescriptorUse, frame_at, descriptor_at, Tables, active_at, custody_of, row_at, seat_at, drop_at, dropped, names_held, names_lead, names_use, put_active, put_descriptor, put_frame, put_seat, put_use, warn_from, warn_others, warned, with_place, ActiveUse}
 use Rattle.assoc_mem.specs.declared.What.TheVariants as what
-use Rattle.custody_model.specs.Custody.{Seat, cleared, names_frame, names_descriptor, names_number, offline}
-use Rattle.custody_model.specs.Next.{told, with_active, with_descriptor, with_frame, with_seat, signalled}
-use Rattle.custody_model.specs.declared.FrameUse.{FrameUse}
 use Rattle.custody_model.specs.declared.FrameUse.TheVariants as frame
-use Rattle.custody_model.specs.declared.DescriptorUse.{DescriptorUse}
 use Rattle.custody_model.specs.declared.DescriptorUse.TheVariants as descriptor
-use Rattle.custody.specs.Uses.{frame_at, descriptor_at}
-use Rattle.custody.specs.Tables.{Tables, active_at, custody_of, row_at, seat_at}
-use Rattle.custody.specs.Changes.{drop_at, dropped, names_held, names_lead, names_use, put_active, put_descriptor}
-use Rattle.custody.specs.Changes.{put_frame, put_seat, put_use, warn_from, warn_others, warned, with_place}
-use Rattle.custody.specs.declared.active.ActiveUse.{ActiveUse}
 use Rattle.custody.proofs.PutLaws.{grown_at, place_there}
 
 -- ---- places that are there

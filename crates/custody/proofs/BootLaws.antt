@@ -1,21 +1,7 @@
 -- Custody before the first entry.
-use Rattle.std.proofs.Common.{◌≡◌, ◌<◌, ◌≤◌, length, ◌+◌, ℕ, suc, zero, List, [], ◌∷◌, ◌++◌, get_or, replicate, refl}
-use Rattle.std.proofs.Common.{sym, ap, subst, ◌∙◌, arith}
-use Rattle.std.specs.Prelude.{sum_by, None, is_some}
-use Rattle.std.proofs.lemmas.List.{length-replicate}
-use Rattle.std.proofs.lemmas.List.Sums.{sum_by-cons}
-use Rattle.script.specs.Plans.{Plan}
-use Rattle.custody_model.specs.Custody.{Seat, nothing_held, offline, range, ready_at_first}
-use Rattle.custody_model.specs.declared.FrameUse.{FrameUse}
+use Rattle.custody.proofs.Prelude.{◌≡◌, ◌<◌, ◌≤◌, length, ◌+◌, ℕ, suc, zero, List, [], ◌∷◌, ◌++◌, get_or, replicate, refl, sym, ap, subst, ◌∙◌, arith, sum_by, None, is_some, length-replicate, sum_by-cons, Plan, Seat, nothing_held, offline, range, ready_at_first, FrameUse, DescriptorUse, Counted, key_bit, UseCounted, AreDescriptors, AreFrames, descriptor_at, descriptor_mark, frame_at, going_key, kind_key, uid_key, AreTablesOf, Tables, custody_of, row_at, seat_at, all_same, range_end}
 use Rattle.custody_model.specs.declared.FrameUse.TheVariants as frame
-use Rattle.custody_model.specs.declared.DescriptorUse.{DescriptorUse}
 use Rattle.custody_model.specs.declared.DescriptorUse.TheVariants as descriptor
-use Rattle.custody.specs.Counts.{Counted, key_bit}
-use Rattle.custody.specs.Uses.{UseCounted, AreDescriptors, AreFrames, descriptor_at, descriptor_mark, frame_at}
-use Rattle.custody.specs.Uses.{going_key, kind_key, uid_key}
-use Rattle.custody.specs.Tables.{AreTablesOf, Tables, custody_of, row_at, seat_at}
-use Rattle.laws.proofs.Lists.{all_same}
-use Rattle.custody_model.proofs.SharedLaws.{range_end}
 
 pub none_counted : {X : Type 0} (f : X → ℕ) (d : X) (n : ℕ) → f d ≡ 0 → sum_by f (replicate n d) ≡ 0
 none_counted f d zero e = refl

@@ -1,9 +1,5 @@
 -- Counts in a table by numbers.
-use Rattle.std.proofs.Common.{◌≡◌, ◌≢◌, ◌<◌, ◌≤◌, ◌-◌, ◌+◌, ℕ, suc, zero, [], ◌∷◌, ◌++◌}
-use Rattle.std.proofs.Common.{Option, Some, None, length, set, replicate, refl, sym, inl, inr, arith}
-use Rattle.std.proofs.lemmas.Bool.Decides.{eqb_tells}
-use Rattle.std.proofs.lemmas.List.{get_or-set_same, get_or-set_other}
-use Rattle.custody.specs.Counts.{Counted, Keeps, Shifts, count_at, key_bit}
+use Rattle.custody.proofs.Prelude.{◌≡◌, ◌≢◌, ◌<◌, ◌≤◌, ◌-◌, ◌+◌, ℕ, suc, zero, [], ◌∷◌, ◌++◌, Option, Some, None, length, set, replicate, refl, sym, inl, inr, arith, eqb_tells, get_or-set_same, get_or-set_other, Counted, Keeps, Shifts, count_at, key_bit}
 
 -- ---- more places
 

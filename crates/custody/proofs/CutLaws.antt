@@ -1,23 +1,7 @@
 -- Which pages a truncation takes, and whether one of them is in a frame.
-use Rattle.std.proofs.Common.{◌≡◌, ◌≢◌, ◌<◌, ◌≤◌, ◌/◌, ◌%◌, ◌*◌, ℕ, ◌+◌, Bool, true, false, not}
-use Rattle.std.proofs.Common.{List, Option, Some, None}
-use Rattle.std.proofs.Common.{refl, ap, subst, ◌∙◌, inl, inr, ◌⊎◌, arith}
-use Rattle.std.specs.Prelude.{nat_le, nat_lt}
-use Rattle.std.specs.Bool.{Decides}
-use Rattle.std.proofs.lemmas.Bool.Decides.{eqb_tells, leb_tells, nat_tests}
-use Rattle.std.specs.List.{list_any}
-use Rattle.std.specs.Option.{unwrap_or}
-use Rattle.custody_model.specs.Custody.{page_of, uid_of_page}
-use Rattle.custody_model.specs.declared.FrameUse.{FrameUse}
+use Rattle.custody.proofs.Prelude.{◌≡◌, ◌≢◌, ◌<◌, ◌*◌, ℕ, ◌+◌, Bool, true, false, not, List, Option, Some, None, refl, ap, subst, inl, inr, ◌⊎◌, arith, nat_le, nat_lt, Decides, eqb_tells, leb_tells, nat_tests, list_any, unwrap_or, page_of, uid_of_page, FrameUse, Words, is_zero_page, without_words, is_lost, Store, LosesNoPage, Tables, AreKept, custody_of, frame_at, is_page, is_page_from, not_both}
 use Rattle.custody_model.specs.declared.FrameUse.TheVariants as frame
-use Rattle.flat_model.specs.Pages.{Words, is_zero_page, without_words}
-use Rattle.flat_model.specs.Sizes.{is_lost}
-use Rattle.flat_model.specs.Store.{Store}
-use Rattle.custody_model.specs.Effects.{LosesNoPage}
-use Rattle.custody.specs.Tables.{Tables, AreKept, custody_of}
-use Rattle.custody.specs.Uses.{frame_at, is_page, is_page_from}
 use Rattle.custody.proofs.ScanLaws.{scan_decides}
-use Rattle.laws.proofs.Bools.{not_both}
 
 -- ---- a page, and pages below a number
 

@@ -1,35 +1,11 @@
 -- What an entry that is allowed makes of the tables is the custody after it; their sizes stay, and what is active is
 -- in the tree.
-use Rattle.std.proofs.Common.{◌≡◌, ◌<◌, ◌+◌, ◌⊎◌, ℕ, Bool, true, false, List, [], ◌++◌, Option, Some, None}
-use Rattle.std.proofs.Common.{length, drop, set, refl, sym, ap, subst, ◌∙◌, inl, inr, arith}
-use Rattle.std.proofs.Common.{length-set}
-use Rattle.std.specs.Prelude.{is_some, IsSomeAnd}
-use Rattle.std.proofs.lemmas.Bool.Decides.{eqb_tells}
-use Rattle.std.proofs.lemmas.List.{get_or-set_same, get_or-set_other}
-use Rattle.assoc_mem.specs.declared.What.{What}
-use Rattle.script.specs.Plans.{Plan}
-use Rattle.book.specs.declared.entries.Entry.{Entry}
+use Rattle.custody.proofs.Prelude.{◌≡◌, ◌<◌, ◌+◌, ◌⊎◌, ℕ, Bool, true, false, List, [], ◌++◌, Option, Some, None, length, drop, set, refl, sym, ap, subst, ◌∙◌, inl, inr, arith, length-set, is_some, IsSomeAnd, eqb_tells, get_or-set_same, get_or-set_other, What, Plan, Entry, Node, node_in, uid_of, after_entry, Store, known_uid, IsAllowed, next_command, Seat, offline, is_current_descriptor, is_current_frame, is_going_descriptor, is_going_frame, is_started, custody_next, is_try, queued, released_by, with_active, with_seat, FrameUse, DescriptorUse, frame_at, descriptor_at, AreNodes, AreTablesOf, Tables, active_at, custody_of, row_at, seat_at, use_in, Advances, put_descriptor, put_frame, warn_from, ActiveUse, Kept, Shows}
 use Rattle.book.specs.declared.entries.Entry.TheVariants as entry
-use Rattle.tree_model.specs.Tree.{Node, node_in}
-use Rattle.known_segs.specs.Known.{uid_of}
-use Rattle.flat_model.specs.Legal.{after_entry}
-use Rattle.flat_model.specs.Store.{Store, known_uid}
-use Rattle.custody_model.specs.Allowed.{IsAllowed, next_command}
-use Rattle.custody_model.specs.Custody.{Seat, offline, is_current_descriptor, is_current_frame, is_going_descriptor}
-use Rattle.custody_model.specs.Custody.{is_going_frame, is_started}
-use Rattle.custody_model.specs.Next.{custody_next, is_try, queued, released_by, with_active, with_seat}
-use Rattle.custody_model.specs.declared.FrameUse.{FrameUse}
 use Rattle.custody_model.specs.declared.FrameUse.TheVariants as frame
-use Rattle.custody_model.specs.declared.DescriptorUse.{DescriptorUse}
 use Rattle.custody_model.specs.declared.DescriptorUse.TheVariants as descriptor
-use Rattle.custody.specs.Uses.{frame_at, descriptor_at}
-use Rattle.custody.specs.Tables.{AreNodes, AreTablesOf, Tables, active_at, custody_of, row_at, seat_at, use_in}
-use Rattle.custody.specs.Changes.{Advances, put_descriptor, put_frame, warn_from}
-use Rattle.custody.specs.declared.active.ActiveUse.{ActiveUse}
-use Rattle.custody.proofs.AdvanceLaws.{active_put_at, descriptor_put, dropped_is, frame_put, seat_put, signal_is}
-use Rattle.custody.proofs.AdvanceLaws.{there, use_put, warn_length}
+use Rattle.custody.proofs.AdvanceLaws.{active_put_at, descriptor_put, dropped_is, frame_put, seat_put, signal_is, there, use_put, warn_length}
 use Rattle.custody.proofs.KeptNodes.{nodes_put, use_as}
-use Rattle.flat_store.specs.Shown.{Kept, Shows}
 
 -- what follows from each of six
 pub any_of_six : {A B C D E F P : Type 0} → A ⊎ (B ⊎ (C ⊎ (D ⊎ (E ⊎ F)))) → (A → P) → (B → P) → (C → P) → (D → P)

@@ -1,43 +1,9 @@
 -- What is active is in the tree after each entry that is allowed, and lies there and needs a place as before.
-use Rattle.std.proofs.Common.{◌≡◌, ◌≢◌, ℕ, Bool, true, false, cond, eqb, List, [], ◌∷◌, Option, Some, None, Result, Ok}
-use Rattle.std.proofs.Common.{Err, map}
-use Rattle.std.proofs.Common.{ℤ, ◌+◌, ◌-◌, refl, sym, ap, subst, ◌∙◌, inl, inr}
-use Rattle.std.specs.Prelude.{is_some, IsSomeAnd}
-use Rattle.std.specs.Int.{is_positive}
-use Rattle.std.specs.Int.RustNames.{unsigned_abs}
-use Rattle.std.proofs.lemmas.Bool.Decides.{eqb_tells}
-use Rattle.script.specs.Plans.{Plan, command_at, who_of}
-use Rattle.script.specs.References.{reference_of}
-use Rattle.script.specs.declared.commands.Command.{Command}
+use Rattle.custody.proofs.Prelude.{◌≡◌, ◌≢◌, ℕ, Bool, true, false, cond, eqb, List, [], ◌∷◌, Option, Some, None, Result, Ok, Err, map, ℤ, ◌+◌, ◌-◌, refl, sym, ap, subst, ◌∙◌, inl, inr, is_some, IsSomeAnd, is_positive, unsigned_abs, eqb_tells, Plan, command_at, who_of, reference_of, Command, Reference, RefKind, Mode, Named, Entry, Reply, Row, with_row, giver_of, getter_of, with_quota_of, Node, above, node_in, pool_of, without_node, node_at, segment_at, branch_at, directory_at, changed, parts_of, effect_of, effect_by, effect_of_tree_command, after_command, takes_effect, reply_to_command, IsLawful, IsAnswer, after_do, after_entry, after_make, made_of, made_at, owner_row, after_delete, deleted, rehomed, after_initiate, initiated, after_terminate, after_reference, written_by, after_acl, after_move, moved, row_with, after_length, after_truncate, truncated, Store, known_uid, IsAllowed, MayAnswer, is_device, IsOutOfUse, MayTakeEffect, OfNode, AreApart, AreNodes, IsAsActivated, Tables, active_at, custody_of, use_in, ActiveUse, found_uid, node_without}
 use Rattle.script.specs.declared.commands.Command.TheVariants as command
-use Rattle.script.specs.declared.commands.Reference.{Reference}
-use Rattle.script.specs.declared.commands.RefKind.{RefKind}
 use Rattle.script.specs.declared.commands.RefKind.TheVariants as kind
-use Rattle.mnames.specs.declared.modes.Mode.{Mode}
-use Rattle.mnames.specs.declared.rows.Row.{Row as Named}
-use Rattle.book.specs.declared.entries.Entry.{Entry}
 use Rattle.book.specs.declared.entries.Entry.TheVariants as entry
-use Rattle.book.specs.declared.replies.Reply.{Reply}
 use Rattle.book.specs.declared.replies.Reply.TheVariants as reply
-use Rattle.tree_model.specs.Access.{Row, with_row}
-use Rattle.tree_model.specs.Quotas.{giver_of, getter_of, with_quota_of}
-use Rattle.tree_model.specs.Tree.{Node, above, node_in, pool_of, without_node}
-use Rattle.flat_model.specs.Branches.{node_at, segment_at, branch_at, directory_at, changed, parts_of}
-use Rattle.flat_model.specs.Commands.{effect_of, effect_by, effect_of_tree_command, after_command, takes_effect}
-use Rattle.flat_model.specs.Commands.{reply_to_command}
-use Rattle.flat_model.specs.Legal.{IsLawful, IsAnswer, after_do, after_entry}
-use Rattle.flat_model.specs.Making.{after_make, made_of, made_at, owner_row, after_delete, deleted}
-use Rattle.flat_model.specs.Moves.{moved as rehomed}
-use Rattle.flat_model.specs.Naming.{after_initiate, initiated, after_terminate}
-use Rattle.flat_model.specs.References.{after_reference, written_by}
-use Rattle.flat_model.specs.Rights.{after_acl, after_move, moved, row_with}
-use Rattle.flat_model.specs.Sizes.{after_length, after_truncate, truncated}
-use Rattle.flat_model.specs.Store.{Store, known_uid}
-use Rattle.custody_model.specs.Allowed.{IsAllowed, MayAnswer, is_device}
-use Rattle.custody_model.specs.Effects.{IsOutOfUse, MayTakeEffect, OfNode}
-use Rattle.custody.specs.Tables.{AreApart, AreNodes, IsAsActivated, Tables, active_at, custody_of, use_in}
-use Rattle.custody.specs.declared.active.ActiveUse.{ActiveUse}
-use Rattle.tree_model.proofs.SharedLaws.{found_uid, node_without}
 use Rattle.custody.proofs.ActiveLaws.{some_none}
 
 -- what is active isn't a node of which that isn't so

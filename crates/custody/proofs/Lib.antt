@@ -1,3 +1,4 @@
+mod Prelude
 pub mod CountLaws
 pub mod TallyLaws
 pub mod LookLaws

@@ -1,25 +1,7 @@
 -- What a count of 0, or as much as another count, tells of each element of a list.
-use Rattle.std.proofs.Common.{◌≡◌, ◌≢◌, ◌<◌, ◌≤◌, ℕ, suc, zero, ◌+◌, Bool, true, false, cond, eqb, ltb, ◌&&◌, List, []}
-use Rattle.std.proofs.Common.{◌∷◌, Option, Some, None, get_or, refl}
-use Rattle.std.proofs.Common.{sym, ap, subst, ◌∙◌, inl, inr, ◌⊎◌, arith}
-use Rattle.std.specs.Prelude.{sum_by}
-use Rattle.std.specs.Bool.{Decides}
-use Rattle.std.specs.Option.{unwrap_or}
-use Rattle.std.proofs.lemmas.Bool.Decides.{Decides-eqb, Decides-ltb, eqb_tells}
-use Rattle.std.proofs.lemmas.List.Sums.{sum_by-cons}
-use Rattle.custody_model.specs.Custody.{page_of, bound_page, uid_of_page, is_uid, is_going_frame, is_going_descriptor}
-use Rattle.custody_model.specs.Custody.{leads_to}
-use Rattle.custody_model.specs.declared.FrameUse.{FrameUse}
+use Rattle.custody.proofs.Prelude.{◌≡◌, ◌≢◌, ◌<◌, ◌≤◌, ℕ, suc, zero, ◌+◌, Bool, true, false, cond, eqb, ltb, ◌&&◌, List, [], ◌∷◌, Option, Some, None, get_or, refl, sym, ap, subst, ◌∙◌, inl, inr, ◌⊎◌, arith, sum_by, Decides, unwrap_or, Decides-eqb, Decides-ltb, eqb_tells, sum_by-cons, page_of, bound_page, uid_of_page, is_uid, is_going_frame, is_going_descriptor, leads_to, FrameUse, DescriptorUse, Counted, count_at, key_bit, AreActive, active_at, is_in_pool, pool_key, superior_of, ActiveUse, UseCounted, AreFrames, AreDescriptors, frame_at, descriptor_at, frame_mark, descriptor_mark, uid_key, going_key, kind_key, page_key, page_number, started_key, bit_le, eqb_self}
 use Rattle.custody_model.specs.declared.FrameUse.TheVariants as frame
-use Rattle.custody_model.specs.declared.DescriptorUse.{DescriptorUse}
 use Rattle.custody_model.specs.declared.DescriptorUse.TheVariants as descriptor
-use Rattle.custody.specs.Counts.{Counted, count_at, key_bit}
-use Rattle.custody.specs.Tables.{AreActive, active_at, is_in_pool, pool_key, superior_of}
-use Rattle.custody.specs.declared.active.ActiveUse.{ActiveUse}
-use Rattle.custody.specs.Uses.{UseCounted, AreFrames, AreDescriptors, frame_at, descriptor_at, frame_mark}
-use Rattle.custody.specs.Uses.{descriptor_mark, uid_key, going_key, kind_key, page_key, page_number, started_key}
-use Rattle.laws.proofs.Bools.{bit_le}
-use Rattle.laws.proofs.Numbers.{eqb_self}
 
 -- ---- sums
 

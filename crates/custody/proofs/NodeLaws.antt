@@ -1,12 +1,5 @@
 -- A fact of the node that a path leads to, by its uid.
-use Rattle.std.proofs.Common.{◌≡◌, ℕ, Bool, true, Option, Some, None, Result, Ok, Err, refl, sym, ap, subst, ◌∙◌}
-use Rattle.std.specs.Bool.{Decides}
-use Rattle.std.specs.Option.{unwrap_or}
-use Rattle.book.specs.declared.replies.Reply.{Reply}
-use Rattle.tree_model.specs.Tree.{Node}
-use Rattle.custody_model.specs.Effects.{OfNode}
-use Rattle.flat_store.specs.Shown.{uid_at, pool_at, superior_at}
-use Rattle.custody.specs.Tables.{use_in}
+use Rattle.custody.proofs.Prelude.{◌≡◌, ℕ, Bool, true, Option, Some, None, Result, Ok, Err, refl, sym, ap, subst, ◌∙◌, Decides, unwrap_or, Reply, Node, OfNode, uid_at, pool_at, superior_at, use_in}
 
 pub node_decides : (P : ℕ → Type 0) (o : Result Node Reply) (found : Option ℕ) (u : ℕ) (r : Bool) → found ≡ uid_at o
     → found ≡ Some u → Decides r (P u)

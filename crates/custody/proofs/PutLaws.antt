@@ -1,18 +1,7 @@
 -- The list of active segments once it has a place for a uid, and what is counted once one is put there.
-use Rattle.std.proofs.Common.{◌≡◌, ◌<◌, ◌≤◌, ◌+◌, ◌-◌, ◌^◌, ℕ, List, [], ◌∷◌, ◌++◌, Option, None, zero, suc}
-use Rattle.std.proofs.Common.{length, set, replicate, refl, sym, ap, subst, ◌∙◌}
-use Rattle.std.proofs.Common.{arith, length-set, length-append}
-use Rattle.std.specs.Prelude.{sum_by}
-use Rattle.std.proofs.lemmas.List.{length-replicate}
-use Rattle.std.proofs.lemmas.List.Sums.{sum_by-cons}
-use Rattle.custody.specs.Counts.{Counted, Keeps, Shifts, AreFew, key_bit}
-use Rattle.custody.specs.Uses.{IsTally}
-use Rattle.custody.specs.Tables.{AreActive, active_at, pool_key, superior_of}
-use Rattle.custody.specs.Changes.{with_place}
-use Rattle.custody.specs.declared.active.ActiveUse.{ActiveUse}
+use Rattle.custody.proofs.Prelude.{◌≡◌, ◌<◌, ◌≤◌, ◌+◌, ◌-◌, ◌^◌, ℕ, List, [], ◌∷◌, ◌++◌, Option, None, zero, suc, length, set, replicate, refl, sym, ap, subst, ◌∙◌, arith, length-set, length-append, sum_by, length-replicate, sum_by-cons, Counted, Keeps, Shifts, AreFew, key_bit, IsTally, AreActive, active_at, pool_key, superior_of, with_place, ActiveUse, all_same}
 use Rattle.custody.proofs.BootLaws.{none_counted}
 use Rattle.custody.proofs.TallyLaws.{tally_set, tally_kept, tally_few}
-use Rattle.laws.proofs.Lists.{all_same}
 
 grown_sum : {X : Type 0} (f : X → ℕ) (xs : List X) (n : ℕ) (d : X) → f d ≡ 0 → sum_by f (xs ++ replicate n d)
     ≡ sum_by f xs

@@ -1,19 +1,6 @@
 -- Lists of ready processes, of what is held, and of processors, as they are changed in place.
-use Rattle.std.proofs.Common.{◌≡◌, ◌≢◌, ◌<◌, ◌≤◌, ◌+◌, ℕ, suc, zero, Bool, true, false, not, cond, eqb, List, [], ◌∷◌}
-use Rattle.std.proofs.Common.{◌++◌, Option, None, get_or, length, set, take, refl, sym, ap, subst, ◌∙◌}
-use Rattle.std.proofs.Common.{inl, inr, arith, length-set, append-nil, append_assoc, ext_get_or}
-use Rattle.std.specs.List.{filter}
-use Rattle.std.proofs.lemmas.Bool.Decides.{eqb_tells}
-use Rattle.std.proofs.lemmas.List.{get_or-set_same, get_or-set_other}
-use Rattle.assoc_mem.specs.declared.What.{What}
-use Rattle.custody_model.specs.Custody.{Seat, offline, range}
-use Rattle.custody_model.specs.declared.FrameUse.{FrameUse}
-use Rattle.custody_model.specs.declared.DescriptorUse.{DescriptorUse}
-use Rattle.custody.specs.Uses.{frame_at}
-use Rattle.custody.specs.Tables.{seat_at}
-use Rattle.custody.specs.Changes.{dropped, names_held, names_use, warn_from, warned}
+use Rattle.custody.proofs.Prelude.{◌≡◌, ◌≢◌, ◌<◌, ◌≤◌, ◌+◌, ℕ, suc, zero, Bool, true, false, not, cond, eqb, List, [], ◌∷◌, ◌++◌, Option, None, get_or, length, set, take, refl, sym, ap, subst, ◌∙◌, inl, inr, arith, length-set, append-nil, append_assoc, ext_get_or, filter, eqb_tells, get_or-set_same, get_or-set_other, What, Seat, offline, range, FrameUse, DescriptorUse, frame_at, seat_at, dropped, names_held, names_use, warn_from, warned, range_end}
 use Rattle.custody.proofs.AdvanceLaws.{warn_at, warn_length}
-use Rattle.custody_model.proofs.SharedLaws.{range_end}
 
 -- ---- the ready list
 

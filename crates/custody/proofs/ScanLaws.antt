@@ -1,31 +1,7 @@
 -- What a scan of a list decides of its elements, and of those past its end.
-use Rattle.std.proofs.Common.{◌≡◌, ◌≢◌, ℕ, suc, zero, Bool, true, false, not, eqb, ◌&&◌, ◌||◌, List, [], ◌∷◌, Option}
-use Rattle.std.proofs.Common.{Some, None, get_or, refl, sym, ap, subst}
-use Rattle.std.proofs.Common.{◌∙◌}
-use Rattle.std.specs.List.{list_any}
-use Rattle.std.specs.Bool.{Decides}
-use Rattle.std.specs.Option.{unwrap_or, is_some}
-use Rattle.std.proofs.lemmas.Bool.Decides.{Decides-eqb, same_from_decides}
-use Rattle.custody_model.specs.Custody.{leads_to, is_uid, is_going_descriptor, is_going_frame, bound_page, uid_of_page}
-use Rattle.custody_model.specs.Effects.{HasNoDescriptor}
-use Rattle.custody_model.specs.Allowed.{NobodyHoldsPage, NobodyHoldsSeg}
-use Rattle.custody_model.specs.declared.DescriptorUse.{DescriptorUse}
+use Rattle.custody.proofs.Prelude.{◌≡◌, ◌≢◌, ℕ, suc, zero, Bool, true, false, not, eqb, ◌&&◌, ◌||◌, List, [], ◌∷◌, Option, Some, None, get_or, refl, sym, ap, subst, ◌∙◌, list_any, Decides, unwrap_or, is_some, Decides-eqb, same_from_decides, leads_to, is_uid, is_going_descriptor, is_going_frame, bound_page, uid_of_page, HasNoDescriptor, NobodyHoldsPage, NobodyHoldsSeg, DescriptorUse, descriptor_at, Tables, AreNodes, IsAsActivated, FramesAreNamed, DescriptorsAreNamed, IsUnused, active_at, superior_of, custody_of, row_at, ActiveUse, FrameUse, frame_at, GoesPage, GoesDescriptor, MayDeactivate, superior_in, Store, Node, node_in, IsSomeAnd, Seat, has, offline, What, not_both, not_true, or_parts}
 use Rattle.custody_model.specs.declared.DescriptorUse.TheVariants as descriptor
 use Rattle.assoc_mem.specs.declared.What.TheVariants as what
-use Rattle.custody.specs.Uses.{descriptor_at}
-use Rattle.custody.specs.Tables.{Tables, AreNodes, IsAsActivated, FramesAreNamed, DescriptorsAreNamed, IsUnused}
-use Rattle.custody.specs.Tables.{active_at, superior_of, custody_of, row_at}
-use Rattle.custody.specs.declared.active.ActiveUse.{ActiveUse}
-use Rattle.custody_model.specs.declared.FrameUse.{FrameUse}
-use Rattle.custody.specs.Uses.{frame_at}
-use Rattle.custody_model.specs.Allowed.{GoesPage, GoesDescriptor, MayDeactivate, superior_in}
-use Rattle.flat_model.specs.Store.{Store}
-use Rattle.tree_model.specs.Tree.{Node, node_in}
-use Rattle.std.specs.Prelude.{IsSomeAnd}
-use Rattle.custody_model.specs.Custody.{Seat, has, offline}
-use Rattle.assoc_mem.specs.declared.What.{What}
-use Rattle.laws.proofs.Bools.{not_both, not_true}
-use Rattle.std.proofs.lemmas.Bool.{or_parts}
 
 scan_to : {X : Type 0} (p : X → Bool) (d : X) → p d ≡ false → (xs : List X) → list_any p xs ≡ false → (i : ℕ)
     → p (get_or xs i d) ≡ false

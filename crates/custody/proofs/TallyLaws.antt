@@ -1,16 +1,5 @@
 -- What is counted of a list, as one element after the other changes.
-use Rattle.std.proofs.Common.{◌≡◌, ◌<◌, ◌≤◌, ◌^◌, ℕ, suc, zero, eqb, List, []}
-use Rattle.std.proofs.Common.{◌∷◌, Option, Some, None, length, get_or, set, length-set}
-use Rattle.std.proofs.Common.{◌∙◌, arith, subst, sym}
-use Rattle.std.specs.Prelude.{sum_by}
-use Rattle.std.proofs.lemmas.List.Sums.{sum_by-set, sum_by-cons}
-use Rattle.custody_model.specs.declared.FrameUse.{FrameUse}
-use Rattle.custody_model.specs.declared.DescriptorUse.{DescriptorUse}
-use Rattle.custody.specs.Counts.{AreFew, Counted, Keeps, Shifts, key_bit}
-use Rattle.custody.specs.Uses.{UseCounted, IsTally, AreFrames, AreDescriptors, KeepUses, ShiftUses, AreFewUses}
-use Rattle.custody.specs.Uses.{frame_mark, descriptor_mark, uid_key, going_key}
-use Rattle.custody.specs.Uses.{kind_key, page_key, started_key}
-use Rattle.laws.proofs.Bools.{bit_le}
+use Rattle.custody.proofs.Prelude.{◌≡◌, ◌<◌, ◌≤◌, ◌^◌, ℕ, suc, zero, eqb, List, [], ◌∷◌, Option, Some, None, length, get_or, set, length-set, ◌∙◌, arith, subst, sym, sum_by, sum_by-set, sum_by-cons, FrameUse, DescriptorUse, AreFew, Counted, Keeps, Shifts, key_bit, UseCounted, IsTally, AreFrames, AreDescriptors, KeepUses, ShiftUses, AreFewUses, frame_mark, descriptor_mark, uid_key, going_key, kind_key, page_key, started_key, bit_le}
 
 -- ---- sums
 

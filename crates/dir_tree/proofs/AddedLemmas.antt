@@ -1,24 +1,9 @@
 -- What a new branch leaves of the tables behind a tree.
-use Rattle.std.proofs.Common.{◌≡◌, ◌≢◌, ℕ, ◌+◌, ◌-◌, ◌<◌, ◌≤◌, true, eqb, if◌then◌else◌, List, [], ◌∷◌, ◌++◌, length}
-use Rattle.std.proofs.Common.{take, Option, Some, None, refl, sym, ap}
-use Rattle.std.proofs.Common.{subst, ◌∙◌, arith, get_or, inl, inr, ◌⊎◌}
-use Rattle.std.specs.Prelude.{◌↔◌}
-use Rattle.std.proofs.lemmas.Bool.{cases_eq, cases_lt, eq-eqb, ne_eqb}
-use Rattle.std.proofs.lemmas.List.{length-map, length_push, get_or_append_left, get_or_push, get_or-take}
-use Rattle.std.proofs.lemmas.List.{length-take-le}
-use Rattle.dir_tree.specs.declared.node.Node.{Node}
-use Rattle.dir_tree.specs.declared.entries.Entry.{Entry}
-use Rattle.dir_tree.specs.Index.{Places, HasPlace, IsSorted, IsOrdered, AreWithin, key_hash, key_of, key_at, node_at}
-use Rattle.dir_tree.specs.Nodes.{is_directory, add_fault_of}
-use Rattle.dir_tree.specs.Shape.{shape, shapes}
-use Rattle.tree_model.specs.Trees.{IsBranch, IsTree, Joins}
-use Rattle.dir_tree.specs.Kept.{no_entry, entry_at, newest, place_for, IsNamed, IsPlace, IsKept}
+use Rattle.dir_tree.proofs.Prelude.{◌≡◌, ◌≢◌, ℕ, ◌+◌, ◌-◌, ◌<◌, ◌≤◌, true, eqb, if◌then◌else◌, List, [], ◌∷◌, ◌++◌, length, take, Option, Some, None, refl, sym, ap, subst, ◌∙◌, arith, get_or, inl, inr, ◌⊎◌, ◌↔◌, cases_eq, cases_lt, eq-eqb, ne_eqb, length-map, length_push, get_or_append_left, get_or_push, get_or-take, length-take-le, Node, Entry, Places, HasPlace, IsSorted, IsOrdered, AreWithin, key_hash, key_of, key_at, node_at, is_directory, add_fault_of, shape, shapes, IsBranch, IsTree, Joins, no_entry, entry_at, newest, place_for, IsNamed, IsPlace, IsKept, directory_shape, branch_in}
 use Rattle.dir_tree.proofs.EditLemmas.{each_pushed}
 use Rattle.dir_tree.proofs.NewestLemmas.{node_of_entry, newest_same, newest_push, length_newest}
 use Rattle.dir_tree.proofs.KeptLemmas.{MayAdd, no_fault, below_newest, no_place, places_within}
-use Rattle.dir_tree.specs.Laws.{directory_shape}
 use Rattle.dir_tree.proofs.IndexLemmas.{key_branch}
-use Rattle.tree_model.specs.Tree.{branch_in}
 
 module _ {nodes : List Node} {es : List Entry} {free : List ℕ} {index : Places} {next : ℕ}
     (k : IsKept nodes es free index next) (place : ℕ)

@@ -1,19 +1,5 @@
 -- What a change of a node, which keeps its shape, leaves of the tables behind a tree.
-use Rattle.std.proofs.Common.{◌≡◌, ◌≢◌, ℕ, suc, ◌+◌, ◌<◌, true, false, [], ◌∷◌, ◌++◌, arith, eqb, if◌then◌else◌, List, length}
-use Rattle.std.proofs.Common.{Some, refl, sym, ap, subst, ◌∙◌, get_or}
-use Rattle.std.proofs.Common.{set, inl, inr}
-use Rattle.std.proofs.lemmas.Bool.{cases_Bool, cases_eq, eq-eqb, ne_eqb}
-use Rattle.std.proofs.lemmas.List.{get_or-set_same, get_or-set_other, length-set, map-append, get_or_read}
-use Rattle.tree_model.specs.Tree.{Node as Term}
-use Rattle.dir_tree.specs.declared.node.Node.{Node}
-use Rattle.dir_tree.specs.declared.entries.Entry.{Entry}
-use Rattle.dir_tree.specs.Index.{Places, Key, HasPlace, key_at, key_of, key_hash, node_at, no_node}
-use Rattle.dir_tree.specs.Nodes.{Branches, added, is_in, node_of_new, with_acl, with_changed, node_of, acl_of}
-use Rattle.dir_tree.specs.declared.node.NewNode.{NewNode}
-use Rattle.tree_model.specs.Access.{Row}
-use Rattle.dir_tree.specs.Shape.{shape, shapes}
-use Rattle.tree_model.specs.Trees.{IsTree}
-use Rattle.dir_tree.specs.Kept.{entry_at, newest, IsKept, HasEntry}
+use Rattle.dir_tree.proofs.Prelude.{◌≡◌, ◌≢◌, ℕ, suc, ◌+◌, ◌<◌, true, false, [], ◌∷◌, ◌++◌, arith, eqb, if◌then◌else◌, List, length, Some, refl, sym, ap, subst, ◌∙◌, get_or, set, inl, inr, cases_Bool, cases_eq, eq-eqb, ne_eqb, get_or-set_same, get_or-set_other, length-set, map-append, get_or_read, Term, Node, Entry, Places, Key, HasPlace, key_at, key_of, key_hash, node_at, no_node, Branches, added, is_in, node_of_new, with_acl, with_changed, node_of, acl_of, NewNode, Row, shape, shapes, IsTree, entry_at, newest, IsKept, HasEntry}
 use Rattle.dir_tree.proofs.NewestLemmas.{node_of_entry, newest_changed}
 use Rattle.dir_tree.proofs.KeptLemmas.{apart_places, not_of, node_read}
 

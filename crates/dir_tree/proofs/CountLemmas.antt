@@ -1,27 +1,7 @@
 -- How many nodes lie in each directory.
-use Rattle.std.proofs.Common.{◌≡◌, ◌≢◌, ℕ, suc, ◌+◌, ◌-◌, ◌<◌, ◌≤◌, Bool, true, false, eqb, if◌then◌else◌, List, []}
-use Rattle.std.proofs.Common.{◌∷◌, ◌++◌, length, Option, Some, None}
-use Rattle.std.proofs.Common.{refl, sym, ap, subst, ◌∙◌, arith, get_or, set, inl, inr}
-use Rattle.std.specs.Prelude.{count_by, ◌^◌, ◌↔◌}
-use Rattle.std.specs.List.{remove}
-use Rattle.std.proofs.lemmas.Bool.{cases_Bool, cases_eq, eq-eqb, ne_eqb, false_from_ne_true}
-use Rattle.std.proofs.lemmas.List.{ext_get_or, get_or-map, get_or-set_same, get_or-set_other, get_or_append_left}
-use Rattle.std.proofs.lemmas.List.{length-map, length-set, length_push}
-use Rattle.std.proofs.lemmas.List.Sums.{sum_by-cons, sum_by_push, sum_by-remove, count_by-le-length}
-use Rattle.std.proofs.lemmas.Option.{same_Some}
-use Rattle.dir_tree.specs.declared.node.Node.{Node}
-use Rattle.dir_tree.specs.declared.entries.Entry.{Entry}
-use Rattle.dir_tree.specs.Index.{Places, node_at}
-use Rattle.dir_tree.specs.Nodes.{is_directory}
-use Rattle.dir_tree.specs.Shape.{shapes}
-use Rattle.tree_model.specs.Trees.{IsTree}
-use Rattle.dir_tree.specs.Kept.{no_entry, entry_at, newest, lies_in, recount, recounted, HasEntry, IsAscending}
-use Rattle.dir_tree.specs.Kept.{IsCounted, IsKept, IsNamed}
-use Rattle.dir_tree.proofs.EditLemmas.{each_pushed, each_left, was, was_up, was_within, now, was_now, now_within}
-use Rattle.dir_tree.proofs.EditLemmas.{at_was}
+use Rattle.dir_tree.proofs.Prelude.{◌≡◌, ◌≢◌, ℕ, suc, ◌+◌, ◌-◌, ◌<◌, ◌≤◌, Bool, true, false, eqb, if◌then◌else◌, List, [], ◌∷◌, ◌++◌, length, Option, Some, None, refl, sym, ap, subst, ◌∙◌, arith, get_or, set, inl, inr, count_by, ◌^◌, ◌↔◌, remove, cases_Bool, cases_eq, eq-eqb, ne_eqb, false_from_ne_true, ext_get_or, get_or-map, get_or-set_same, get_or-set_other, get_or_append_left, length-map, length-set, length_push, sum_by-cons, sum_by_push, sum_by-remove, count_by-le-length, same_Some, Node, Entry, Places, node_at, is_directory, shapes, IsTree, no_entry, entry_at, newest, lies_in, recount, recounted, HasEntry, IsAscending, IsCounted, IsKept, IsNamed, directory_in, directory_shape, superior_in, superior_up, superior_is, is_superior_of, IsUp}
+use Rattle.dir_tree.proofs.EditLemmas.{each_pushed, each_left, was, was_up, was_within, now, was_now, now_within, at_was}
 use Rattle.dir_tree.proofs.KeptLemmas.{entry_present, superior_read}
-use Rattle.dir_tree.specs.Laws.{directory_in, directory_shape}
-use Rattle.tree_model.proofs.TreeLaws.{superior_in, superior_up, superior_is, is_superior_of, IsUp}
 
 -- ---- entries below a uid
 

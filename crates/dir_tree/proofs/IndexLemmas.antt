@@ -1,29 +1,6 @@
 -- What the order of keys tells, and what an edit of the index leaves.
-use Rattle.std.proofs.Common.{◌≡◌, ◌≢◌, ℕ, ◌+◌, ◌-◌, ◌<◌, ◌≤◌, true, List, length, Option, Some, None, refl, sym, ap}
-use Rattle.std.proofs.Common.{subst, ◌∙◌, arith, get_or, set, inl, inr, ◌⊎◌}
-use Rattle.std.specs.Prelude.{◌↔◌, bytes_eq}
-use Rattle.std.specs.List.{insert, remove}
-use Rattle.std.specs.declared.cmp.Ordering.{Ordering}
-use Rattle.std.specs.declared.cmp.Ordering.TheVariants.{Less, Equal, Greater}
-use Rattle.std.specs.Ordering.{nat_cmp, ordering_then, is_eq, MatchOrdering}
-use Rattle.std.specs.Option.{option_cmp}
-use Rattle.std.specs.Cmp.{IsTotalOrder, nat_cmp_is}
-use Rattle.std.specs.Cmp.Lexicographic.{slice_cmp, options_total}
-use Rattle.std.proofs.lemmas.Cmp.{tied_itself, then_total, on_total, nat_cmp_total, nat_list_cmp_total, ranked}
-use Rattle.std.proofs.lemmas.Map.Text.{is_eq-slice_cmp}
-use Rattle.std.proofs.lemmas.Slice.Eq.{bytes_eq-Decides}
-use Rattle.std.proofs.lemmas.Bool.{cases_lt, cases_eq, cases_order, and_from}
-use Rattle.std.proofs.lemmas.List.{get_or_read, get_or-set_same, get_or-set_other, length-set}
-use Rattle.std.proofs.lemmas.List.Edits.{length-insert, get_or-insert_below, get_or-insert_at, get_or-insert_above}
-use Rattle.std.proofs.lemmas.List.Edits.{get_or-remove_below, get_or-remove_above}
-use Rattle.tree_model.specs.Tree.{is_branch, is_inferior}
-use Rattle.dir_tree.specs.declared.node.Node.{Node}
-use Rattle.dir_tree.specs.Shape.{shape}
-use Rattle.dir_tree.specs.Index.{Key, HasPlace, IsSorted, IsOrdered, no_node, node_at, key_of, key_at, key_cmp}
-use Rattle.dir_tree.specs.Index.{key_hash, hash_at, AreRising}
+use Rattle.dir_tree.proofs.Prelude.{◌≡◌, ◌≢◌, ℕ, ◌+◌, ◌-◌, ◌<◌, ◌≤◌, true, List, length, Option, Some, None, refl, sym, ap, subst, ◌∙◌, arith, get_or, set, inl, inr, ◌⊎◌, ◌↔◌, bytes_eq, insert, remove, Ordering, Less, Equal, Greater, nat_cmp, ordering_then, is_eq, MatchOrdering, option_cmp, IsTotalOrder, nat_cmp_is, slice_cmp, options_total, tied_itself, then_total, on_total, nat_cmp_total, nat_list_cmp_total, ranked, is_eq-slice_cmp, bytes_eq-Decides, cases_lt, cases_eq, cases_order, and_from, get_or_read, get_or-set_same, get_or-set_other, length-set, length-insert, get_or-insert_below, get_or-insert_at, get_or-insert_above, get_or-remove_below, get_or-remove_above, is_branch, is_inferior, Node, shape, Key, HasPlace, IsSorted, IsOrdered, no_node, node_at, key_of, key_at, key_cmp, key_hash, hash_at, AreRising, lies, is_below, Where, Before, Here, After, where_is}
 use Rattle.dir_tree.proofs.EditLemmas.{was, was_other, was_up, at_was, fewer, was_within}
-use Rattle.tree_model.proofs.TreeLaws.{lies, is_below}
-use Rattle.dir_tree.specs.Laws.{Where, Before, Here, After, where_is}
 
 -- ---- the order of keys
 

@@ -1,27 +1,7 @@
 -- What a new branch, a branch less, and a change of a node leave of the tables behind a tree.
-use Rattle.std.proofs.Common.{◌≡◌, ◌≢◌, ℕ, suc, ◌<◌, Bool, true, false, eqb, leb, ◌&&◌, List, [], ◌∷◌, ◌++◌, length}
-use Rattle.std.proofs.Common.{Option, Some, None, refl, sym, ap, subst}
-use Rattle.std.proofs.Common.{◌∙◌, arith, get_or, inl, inr, is_some, IfSome}
-use Rattle.std.specs.List.{find, list_any}
-use Rattle.std.specs.Option.{option_map, option_and_then}
-use Rattle.std.proofs.lemmas.Bool.{cases_Bool, cases_lt, cases_order, both_ways, le-leb, eq-eqb, ne_eqb, eqb-true}
-use Rattle.std.proofs.lemmas.Bool.{leb-false, and_from}
-use Rattle.std.proofs.lemmas.List.{map-append, get_or_read}
-use Rattle.tree_model.specs.Tree.{Node as Term, above, branch_in, is_branch, is_inferior}
-use Rattle.dir_tree.specs.declared.node.Node.{Node}
+use Rattle.dir_tree.proofs.Prelude.{◌≡◌, ◌≢◌, ℕ, suc, ◌<◌, Bool, true, false, eqb, leb, ◌&&◌, List, [], ◌∷◌, ◌++◌, length, Option, Some, None, refl, sym, ap, subst, ◌∙◌, arith, get_or, inl, inr, is_some, IfSome, find, list_any, option_map, option_and_then, cases_Bool, cases_lt, cases_order, both_ways, le-leb, eq-eqb, ne_eqb, eqb-true, leb-false, and_from, map-append, get_or_read, Term, above, branch_in, is_branch, is_inferior, Node, Entry, Places, HasPlace, AreWithin, node_at, no_node, Branches, node_of, is_in, is_segment, add_fault_of, shape, shapes, AreBelow, directory_shape, directory_in, segment_in, entry_at, newest, IsNamed, IsKept, HasEntry, IsMember, member_parts, member_map, member_found, branch_found, any_member, any_found, find_map, found_member, superior_in, lies, only_branch, is_below, not_below, IsUp, find_passes}
 use Rattle.dir_tree.specs.declared.node.AddFault.TheVariants as add_fault
-use Rattle.dir_tree.specs.declared.entries.Entry.{Entry}
-use Rattle.dir_tree.specs.Index.{Places, HasPlace, AreWithin, node_at, no_node}
-use Rattle.dir_tree.specs.Nodes.{Branches, node_of, is_in, is_segment, add_fault_of}
-use Rattle.dir_tree.specs.Shape.{shape, shapes}
-use Rattle.tree_model.specs.Trees.{AreBelow}
-use Rattle.dir_tree.specs.Laws.{directory_shape, directory_in, segment_in}
-use Rattle.dir_tree.specs.Kept.{entry_at, newest, IsNamed, IsKept, HasEntry}
-use Rattle.tree_model.proofs.Finds.{IsMember, member_parts, member_map, member_found, branch_found, any_member}
-use Rattle.tree_model.proofs.Finds.{any_found, find_map, found_member}
 use Rattle.dir_tree.proofs.NewestLemmas.{node_of_entry, none_newest, find_newest, member_newest}
-use Rattle.tree_model.proofs.TreeLaws.{superior_in, lies, only_branch, is_below, not_below, IsUp}
-use Rattle.laws.proofs.Lists.{find_passes}
 
 -- ---- nodes and their shapes
 

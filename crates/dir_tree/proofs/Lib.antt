@@ -1,3 +1,4 @@
+mod Prelude
 pub mod AddedLemmas
 pub mod ChangedLemmas
 pub mod CountLemmas

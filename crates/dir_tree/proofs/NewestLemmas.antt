@@ -1,14 +1,5 @@
 -- The nodes of some entries, the newest first.
-use Rattle.std.proofs.Common.{◌≡◌, ◌≢◌, ℕ, suc, zero, ◌<◌, Bool, true, false, List, [], ◌∷◌, ◌++◌, length, map, Some}
-use Rattle.std.proofs.Common.{None, refl, sym, ap, ◌∙◌, arith, inl}
-use Rattle.std.specs.List.{find, filter, remove}
-use Rattle.std.proofs.lemmas.List.{length_push, map-append, append-nil}
-use Rattle.std.proofs.lemmas.List.Elements.{filter-append}
-use Rattle.dir_tree.specs.declared.node.Node.{Node}
-use Rattle.dir_tree.specs.declared.entries.Entry.{Entry}
-use Rattle.dir_tree.specs.Index.{node_at}
-use Rattle.dir_tree.specs.Kept.{entry_at, newest}
-use Rattle.tree_model.proofs.Finds.{IsMember, found_front, past_front, member_left, member_right}
+use Rattle.dir_tree.proofs.Prelude.{◌≡◌, ◌≢◌, ℕ, suc, zero, ◌<◌, Bool, true, false, List, [], ◌∷◌, ◌++◌, length, map, Some, None, refl, sym, ap, ◌∙◌, arith, inl, find, filter, remove, length_push, map-append, append-nil, filter-append, Node, Entry, node_at, entry_at, newest, IsMember, found_front, past_front, member_left, member_right}
 
 -- the node of the i-th entry
 abbrev pub node_of_entry : List Node → List Entry → ℕ → Node

@@ -1,23 +1,7 @@
 -- Where a path leads, what is above a node and what keeps a branch from being added don't depend on quotas, nor on
 -- anything but uids, superiors, names and kinds.
-use Rattle.std.proofs.Common.{◌≡◌, ℕ, ◌+◌, Bool, true, false, eqb, List, [], ◌∷◌, length, ◌||◌, Option, Some, None, Ok}
-use Rattle.std.proofs.Common.{refl, sym, ap, ◌∙◌, is_some, get_or}
-use Rattle.std.proofs.Common.{drop, ◌<◌, ◌≤◌, ◌&&◌, nat_le, cond, arith, inl, inr}
-use Rattle.std.specs.List.{find}
-use Rattle.std.specs.Option.{option_map, option_and_then}
-use Rattle.std.proofs.lemmas.Bool.{cases_Bool, eq-eqb}
-use Rattle.std.proofs.lemmas.List.{length-map, at_drop_more, at_drop_all}
-use Rattle.tree_model.specs.Tree.{Node as Term, Walk, LeadsTo, node_in, branch_in, is_branch, is_inferior, onward}
-use Rattle.tree_model.specs.Tree.{above, walk_from, walk_in}
-use Rattle.dir_tree.specs.declared.node.Node.{Node}
+use Rattle.dir_tree.proofs.Prelude.{◌≡◌, ℕ, ◌+◌, Bool, true, false, eqb, List, [], ◌∷◌, length, ◌||◌, Option, Some, None, Ok, refl, sym, ap, ◌∙◌, is_some, get_or, drop, ◌<◌, ◌≤◌, ◌&&◌, nat_le, cond, arith, inl, inr, find, option_map, option_and_then, cases_Bool, eq-eqb, length-map, at_drop_more, at_drop_all, Term, Walk, LeadsTo, node_in, branch_in, is_branch, is_inferior, onward, above, walk_from, walk_in, Node, above_any, as_term, node_of, with_quotas, add_fault_of, has_inferior, unless, shape, shapes, IsTree, Joins, superior_in, find_map, branch_found, none_mapped}
 use Rattle.dir_tree.specs.declared.node.AddFault.TheVariants as add_fault
-use Rattle.dir_tree.specs.Laws.{above_any}
-use Rattle.dir_tree.specs.Nodes.{as_term, node_of, with_quotas, add_fault_of, has_inferior, unless}
-use Rattle.dir_tree.specs.Shape.{shape, shapes}
-use Rattle.tree_model.specs.Trees.{IsTree, Joins}
-use Rattle.tree_model.proofs.TreeLaws.{superior_in}
-use Rattle.tree_model.proofs.Finds.{find_map, branch_found}
-use Rattle.laws.proofs.Options.{none_mapped}
 
 pub node_any : (q : ℕ → ℕ) (ns : List Node) (u : ℕ) → node_in (with_quotas q ns) u
     ≡ option_map (as_term q) (node_of ns u)

@@ -1,25 +1,7 @@
 -- What a branch less leaves of the tables behind a tree.
-use Rattle.std.proofs.Common.{◌≡◌, ◌≢◌, ℕ, ◌+◌, ◌<◌, ◌≤◌, false, eqb, not, List, [], ◌∷◌, ◌++◌, length, Option, Some}
-use Rattle.std.proofs.Common.{None, refl, sym, ap, subst, ◌∙◌, arith}
-use Rattle.std.proofs.Common.{get_or, inl, inr}
-use Rattle.std.specs.Prelude.{◌↔◌}
-use Rattle.std.specs.List.{find, remove, list_any}
-use Rattle.std.specs.Option.{option_map}
-use Rattle.std.proofs.lemmas.Bool.{cases_lt, eq-eqb, not_from_true, not_from_false}
-use Rattle.std.proofs.lemmas.List.{length_push, get_or_append_left, get_or_push}
-use Rattle.tree_model.specs.Tree.{is_inferior}
-use Rattle.dir_tree.specs.declared.node.Node.{Node}
-use Rattle.dir_tree.specs.declared.entries.Entry.{Entry}
-use Rattle.dir_tree.specs.Index.{Places, HasPlace, IsOrdered, node_at}
-use Rattle.dir_tree.specs.Nodes.{without, node_of}
-use Rattle.dir_tree.specs.Shape.{shape, shapes}
-use Rattle.tree_model.specs.Trees.{IsTree}
-use Rattle.dir_tree.specs.Kept.{no_entry, entry_at, newest, IsNamed, IsPlace, IsKept}
-use Rattle.dir_tree.proofs.EditLemmas.{each_pushed, each_left, was, was_up, was_other, now, was_now, at_was, fewer}
-use Rattle.dir_tree.proofs.EditLemmas.{was_within, now_within}
-use Rattle.tree_model.proofs.Finds.{filter_map_same, find_map}
+use Rattle.dir_tree.proofs.Prelude.{◌≡◌, ◌≢◌, ℕ, ◌+◌, ◌<◌, ◌≤◌, false, eqb, not, List, [], ◌∷◌, ◌++◌, length, Option, Some, None, refl, sym, ap, subst, ◌∙◌, arith, get_or, inl, inr, ◌↔◌, find, remove, list_any, option_map, cases_lt, eq-eqb, not_from_true, not_from_false, length_push, get_or_append_left, get_or_push, is_inferior, Node, Entry, Places, HasPlace, IsOrdered, node_at, without, node_of, shape, shapes, IsTree, no_entry, entry_at, newest, IsNamed, IsPlace, IsKept, filter_map_same, find_map, tree_left, root_found}
+use Rattle.dir_tree.proofs.EditLemmas.{each_pushed, each_left, was, was_up, was_other, now, was_now, at_was, fewer, was_within, now_within}
 use Rattle.dir_tree.proofs.NewestLemmas.{node_of_entry, newest_remove}
-use Rattle.tree_model.proofs.TreeLaws.{tree_left, root_found}
 use Rattle.dir_tree.proofs.KeptLemmas.{apart_places, not_of, node_found}
 
 module _ {nodes : List Node} {es : List Entry} {free : List ℕ} {index : Places} {next : ℕ}

@@ -1,20 +1,6 @@
 -- The shelves of the index, and the list of all places on them.
-use Rattle.std.proofs.Common.{◌≡◌, ◌≢◌, ℕ, zero, suc, ◌+◌, ◌-◌, ◌<◌, ◌≤◌, true, false, List, [], ◌∷◌, ◌++◌, length, Option, Some, None}
-use Rattle.std.proofs.Common.{refl, sym, ap, subst, ◌∙◌, arith, get_or, set, inl, inr, ◌⊎◌}
-use Rattle.std.specs.Prelude.{◌↔◌, IfSome, IfNone}
-use Rattle.std.specs.List.{concat, insert, remove}
-use Rattle.std.specs.declared.cmp.Ordering.TheVariants.{Less}
-use Rattle.std.proofs.lemmas.Bool.{cases_eq, cases_lt, cases_order, false_from_ne_true}
-use Rattle.std.proofs.lemmas.List.{get_or_append_left, get_or-append-add, get_or_read, get_or-set_same, get_or-set_other, length-set}
-use Rattle.std.proofs.lemmas.List.{length-append}
-use Rattle.std.proofs.lemmas.List.Edits.{length-insert, insert-append_left, insert-append_right, remove-append_left, remove-append_right}
-use Rattle.tree_model.specs.Tree.{is_branch}
-use Rattle.dir_tree.specs.declared.node.Node.{Node}
-use Rattle.dir_tree.specs.Shape.{shape}
-use Rattle.dir_tree.specs.Index.{Key, HasPlace, IsOrdered, AreWithin, AreShelved, node_at, key_of, key_at, key_cmp}
-use Rattle.dir_tree.specs.Index.{key_hash, before, shelf_at, shelf_of}
-use Rattle.dir_tree.proofs.IndexLemmas.{after_other, branch_key, hash_is, hash_less, inserted_sorted, place_inserted}
-use Rattle.dir_tree.proofs.IndexLemmas.{place_removed, ordered_more, ordered_less}
+use Rattle.dir_tree.proofs.Prelude.{◌≡◌, ◌≢◌, ℕ, zero, suc, ◌+◌, ◌-◌, ◌<◌, ◌≤◌, true, false, List, [], ◌∷◌, ◌++◌, length, Option, Some, None, refl, sym, ap, subst, ◌∙◌, arith, get_or, set, inl, inr, ◌⊎◌, ◌↔◌, IfSome, IfNone, concat, insert, remove, Less, cases_eq, cases_lt, cases_order, false_from_ne_true, get_or_append_left, get_or-append-add, get_or_read, get_or-set_same, get_or-set_other, length-set, length-append, length-insert, insert-append_left, insert-append_right, remove-append_left, remove-append_right, is_branch, Node, shape, Key, HasPlace, IsOrdered, AreWithin, AreShelved, node_at, key_of, key_at, key_cmp, key_hash, before, shelf_at, shelf_of}
+use Rattle.dir_tree.proofs.IndexLemmas.{after_other, branch_key, hash_is, hash_less, inserted_sorted, place_inserted, place_removed, ordered_more, ordered_less}
 use Rattle.dir_tree.proofs.EditLemmas.{fewer}
 
 -- ---- where a place of a shelf stands among all

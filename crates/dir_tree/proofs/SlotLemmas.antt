@@ -1,13 +1,5 @@
 -- Entries that stand in the slots of their places.
-use Rattle.std.proofs.Common.{◌≡◌, ◌≢◌, ℕ, ◌+◌, ◌<◌, List, [], ◌∷◌, ◌++◌, length, set, get_or, sym, ap}
-use Rattle.std.proofs.Common.{◌∙◌, arith, inl, inr}
-use Rattle.std.specs.List.{remove}
-use Rattle.std.proofs.lemmas.Bool.{cases_eq, cases_lt}
-use Rattle.std.proofs.lemmas.List.{ext_get_or, get_or-map, get_or-set_same, get_or-set_other}
-use Rattle.std.proofs.lemmas.List.{get_or_append_left, get_or_push, length-map}
-use Rattle.std.proofs.lemmas.List.{length-set, length_push, map-append}
-use Rattle.dir_tree.specs.declared.entries.Entry.{Entry}
-use Rattle.dir_tree.specs.Kept.{no_entry, entry_at, listed, IsListed}
+use Rattle.dir_tree.proofs.Prelude.{◌≡◌, ◌≢◌, ℕ, ◌+◌, ◌<◌, List, [], ◌∷◌, ◌++◌, length, set, get_or, sym, ap, ◌∙◌, arith, inl, inr, remove, cases_eq, cases_lt, ext_get_or, get_or-map, get_or-set_same, get_or-set_other, get_or_append_left, get_or_push, length-map, length-set, length_push, map-append, Entry, no_entry, entry_at, listed, IsListed}
 use Rattle.dir_tree.proofs.EditLemmas.{was, was_up, was_within, at_was, each_left, fewer}
 
 pub listed_at : (slots : List Entry) (order : List ℕ) (i : ℕ) → i < length order → entry_at (listed slots order) i

@@ -1,16 +1,6 @@
 -- The table of places by uid, and the places that stand in it.
-use Rattle.std.proofs.Common.{◌≡◌, ◌≢◌, ℕ, zero, suc, ◌+◌, ◌<◌, ◌≤◌, eqb, true, false, List, [], ◌∷◌, ◌++◌, length}
-use Rattle.std.proofs.Common.{set, get_or}
-use Rattle.std.proofs.Common.{replicate, refl, sym, ap, subst, ◌∙◌, arith, inl, inr}
-use Rattle.std.specs.List.{remove}
-use Rattle.std.proofs.lemmas.Bool.{cases_eq, eq-eqb, ne_eqb}
-use Rattle.std.proofs.lemmas.List.{get_or-set_same, get_or-set_other, length-set, get_or_read, get_or-replicate}
-use Rattle.std.proofs.lemmas.List.{length-replicate, length_push}
-use Rattle.dir_tree.specs.declared.entries.Entry.{Entry}
-use Rattle.dir_tree.specs.Kept.{no_entry, entry_at, listed, recounted, IsAscending, IsListed}
-use Rattle.dir_tree.specs.Uids.{taken, IsTabled, IsRemoved}
-use Rattle.dir_tree.proofs.SlotLemmas.{listed_at, length_listed, place_listed, remove_listed, set_listed, still_listed}
-use Rattle.dir_tree.proofs.SlotLemmas.{more_listed, push_listed, less_listed}
+use Rattle.dir_tree.proofs.Prelude.{◌≡◌, ◌≢◌, ℕ, zero, suc, ◌+◌, ◌<◌, ◌≤◌, eqb, true, false, List, [], ◌∷◌, ◌++◌, length, set, get_or, replicate, refl, sym, ap, subst, ◌∙◌, arith, inl, inr, remove, cases_eq, eq-eqb, ne_eqb, get_or-set_same, get_or-set_other, length-set, get_or_read, get_or-replicate, length-replicate, length_push, Entry, no_entry, entry_at, listed, recounted, IsAscending, IsListed, taken, IsTabled, IsRemoved}
+use Rattle.dir_tree.proofs.SlotLemmas.{listed_at, length_listed, place_listed, remove_listed, set_listed, still_listed, more_listed, push_listed, less_listed}
 use Rattle.dir_tree.proofs.EditLemmas.{fewer}
 use Rattle.dir_tree.proofs.CountLemmas.{count_set}
 

@@ -1,18 +1,5 @@
 -- Touches that add to the first word of a frame's page.
-use Rattle.std.proofs.Common.{◌≡◌, ℕ, zero, suc, ◌+◌, ◌/◌, ◌%◌, ◌^◌, ◌<◌, Bool, true, false, cond, eqb, List, [], ◌∷◌}
-use Rattle.std.proofs.Common.{◌++◌, map, reverse, length, get_or}
-use Rattle.std.proofs.Common.{sym, ap, subst, refl, ◌∙◌, arith, mod-lt, get_or-set_same, length-set}
-use Rattle.std.proofs.lemmas.Bool.{eq-eqb}
-use Rattle.std.proofs.lemmas.List.{reverse-append}
-use Rattle.draws.specs.Draws.{next_state, drawn}
-use Rattle.live_doors.specs.declared.views.Watch.{Watch}
-use Rattle.live_pages.specs.declared.touch.Touch.{Touch}
-use Rattle.live_pages.specs.declared.touch.Touch.TheVariants.{Add}
-use Rattle.live_pages.specs.declared.touch.Made.{Made}
-use Rattle.live_pages.specs.Touches.{Given, touched, is_of, touched_if, touching, after_all, mine, mine_if}
-use Rattle.live_pages.specs.Kept.{AreOfBindings}
-use Rattle.drill.specs.Work.{state_after, word_at, add_at, added, sum_of, deed}
-use Rattle.drill.specs.Roles.{done, words_to}
+use Rattle.drill.proofs.Prelude.{◌≡◌, ℕ, zero, suc, ◌+◌, ◌/◌, ◌%◌, ◌^◌, ◌<◌, Bool, true, false, cond, eqb, List, [], ◌∷◌, ◌++◌, map, reverse, length, get_or, sym, ap, subst, refl, ◌∙◌, arith, mod-lt, get_or-set_same, length-set, eq-eqb, reverse-append, next_state, drawn, Watch, Touch, Add, Made, Given, touched, is_of, touched_if, touching, after_all, mine, mine_if, AreOfBindings, state_after, word_at, add_at, added, sum_of, deed, done, words_to}
 use Rattle.drill.proofs.Words.{done_sum}
 
 -- each touch is an add to the first word of the page of a frame that there is

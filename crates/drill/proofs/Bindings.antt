@@ -1,18 +1,8 @@
 -- Each touch is of just one binding and by just one processor, so the sums over all of these have each touch once.
-use Rattle.std.proofs.Common.{◌≡◌, ◌≢◌, ℕ, ◌+◌, ◌<◌, ◌≤◌, Bool, true, false, cond, eqb, ◌&&◌, List, [], ◌∷◌, sym, ap}
-use Rattle.std.proofs.Common.{refl, ◌∙◌, arith}
+use Rattle.drill.proofs.Prelude.{◌≡◌, ◌≢◌, ℕ, ◌+◌, ◌<◌, ◌≤◌, Bool, true, false, cond, eqb, ◌&&◌, List, [], ◌∷◌, sym, ap, refl, ◌∙◌, arith, eq-eqb, ne_eqb, Watch, Made, Bound, ended_of, AreInTurn, mine, mine_if, current, AreOfBindings, added}
 use mathlib.Core.Logic.{dite}
 use native.Mathlib.Decide.{ℕ_discrete}
-use Rattle.std.proofs.lemmas.Bool.{eq-eqb, ne_eqb}
-use Rattle.live_doors.specs.declared.views.Watch.{Watch}
-use Rattle.live_pages.specs.declared.touch.Made.{Made}
-use Rattle.live_pages.specs.declared.touch.Bound.{Bound}
-use Rattle.live_pages.specs.Touches.{ended_of, AreInTurn, mine, mine_if}
-use Rattle.live_pages.specs.Turns.{current}
-use Rattle.live_pages.specs.Kept.{AreOfBindings}
-use Rattle.drill.specs.Work.{added}
-use Rattle.drill.proofs.Sums.{last_sum, ended_sum, last_add, last_same, last_zero, ended_add, ended_zero, at_point}
-use Rattle.drill.proofs.Sums.{at_here, at_else, point_sum}
+use Rattle.drill.proofs.Sums.{last_sum, ended_sum, last_add, last_same, last_zero, ended_add, ended_zero, at_point, at_here, at_else, point_sum}
 use Rattle.drill.proofs.Adds.{AreAdds, weigh, weight, weigh_of}
 
 weight_here : (e : Made) (f b : ℕ) → e.frame ≡ f → weight e f b ≡ at_point (added e.touch) e.binding b

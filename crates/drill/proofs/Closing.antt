@@ -1,30 +1,13 @@
 -- What is known once the pages are closed: each processor's touches are the first ones of its work, and the total is
 -- right.
-use Rattle.std.proofs.Common.{◌≡◌, ◌≢◌, ℕ, zero, suc, ◌+◌, ◌%◌, ◌^◌, ◌<◌, ◌≤◌, Bool, true, false, cond, eqb, ◌&&◌}
-use Rattle.std.proofs.Common.{List, [], ◌∷◌, ◌++◌, map, reverse, take}
-use Rattle.std.proofs.Common.{replicate, length, get_or, All, sum, sym, ap, subst, refl, ◌∙◌, arith}
+use Rattle.drill.proofs.Prelude.{◌≡◌, ◌≢◌, ℕ, zero, suc, ◌+◌, ◌%◌, ◌^◌, ◌<◌, ◌≤◌, Bool, true, false, cond, eqb, ◌&&◌, List, [], ◌∷◌, ◌++◌, map, reverse, take, replicate, length, get_or, All, sum, sym, ap, subst, refl, ◌∙◌, arith, length-reverse, reverse-append, length-append, get_or_append_left, get_or-append-add, take-append-le, take_all, length-replicate, get_or-replicate, Touch, Made, Bound, Holder, page_given, mine, current, PagesModel, PassModel, KeeperModel, IsKeeperOf, taking_all_in, in_order, made_by, pages_after, Binding, ended_bindings, last_bindings, all_bindings, IsLeftAfterAll, IsOfOneThread, add_at, work_of, added, deed, AreFirstOf, sums_of, done, words_to, words_left, TookZeros, AreDone, missing, made_count, first_words}
 use mathlib.Core.Logic.{dite}
 use native.Mathlib.Decide.{ℕ_discrete}
-use Rattle.std.proofs.lemmas.List.{length-reverse, reverse-append, length-append, get_or_append_left}
-use Rattle.std.proofs.lemmas.List.{get_or-append-add, take-append-le, take_all}
-use Rattle.std.proofs.lemmas.List.{length-replicate, get_or-replicate}
-use Rattle.live_pages.specs.declared.touch.Touch.{Touch}
-use Rattle.live_pages.specs.declared.touch.Made.{Made}
-use Rattle.live_pages.specs.declared.touch.Bound.{Bound}
-use Rattle.live_pages.specs.declared.views.Holder.{Holder}
-use Rattle.live_pages.specs.Touches.{page_given, mine}
-use Rattle.live_pages.specs.Turns.{current}
-use Rattle.live_pages.specs.Models.{PagesModel, PassModel, KeeperModel, IsKeeperOf, taking_all_in}
-use Rattle.live_pages.specs.Ending.{in_order, made_by, pages_after, Binding, ended_bindings, last_bindings}
-use Rattle.live_pages.specs.Ending.{all_bindings, IsLeftAfterAll, IsOfOneThread}
-use Rattle.drill.specs.Work.{add_at, work_of, added, deed, AreFirstOf, sums_of}
-use Rattle.drill.specs.Roles.{done, words_to, words_left, TookZeros, AreDone, missing, made_count, first_words}
 use Rattle.drill.proofs.Words.{words_few}
 use Rattle.drill.proofs.Sums.{last_sum, ended_sum, range_sum, last_same, last_range, same_few, all_sums}
 use Rattle.drill.proofs.Adds.{AreAdds, adds_reverse, done_adds, adds_all, weigh, weigh_of, weigh_reverse, first_word}
 use Rattle.drill.proofs.Bindings.{bindings_sum, cpus_sum}
-use Rattle.drill.proofs.Parts.{same_ended, touches_at, IsWorkTo, parts_work, made_by_all, parts_sum, count_all}
-use Rattle.drill.proofs.Parts.{made_missing}
+use Rattle.drill.proofs.Parts.{same_ended, touches_at, IsWorkTo, parts_work, made_by_all, parts_sum, count_all, made_missing}
 
 map_append : (xs ys : List Made) → map deed (xs ++ ys) ≡ map deed xs ++ map deed ys
 map_append [] ys = refl

@@ -1,17 +1,7 @@
 -- What the keeper has of each pass once all were taken in.
-use Rattle.std.proofs.Common.{◌≡◌, ◌≢◌, ℕ, ◌+◌, ◌<◌, ◌≤◌, List, [], ◌∷◌, map, set, length, get_or, sym, ap, subst}
-use Rattle.std.proofs.Common.{refl, ◌∙◌, arith, get_or-set_same}
-use Rattle.std.proofs.Common.{get_or-set_other}
+use Rattle.drill.proofs.Prelude.{◌≡◌, ◌≢◌, ℕ, ◌+◌, ◌<◌, ◌≤◌, List, [], ◌∷◌, map, set, length, get_or, sym, ap, subst, refl, ◌∙◌, arith, get_or-set_same, get_or-set_other, length-set, Made, Out, In, Holder, PagesModel, PassModel, taking_all_in, touches_in, deed, done, words_to, AreDone, missing, made_count}
 use mathlib.Core.Logic.{dite}
 use native.Mathlib.Decide.{ℕ_discrete}
-use Rattle.std.proofs.lemmas.List.{length-set}
-use Rattle.live_pages.specs.declared.touch.Made.{Made}
-use Rattle.live_pages.specs.declared.views.Part.TheVariants.{Out, In}
-use Rattle.live_pages.specs.declared.views.Holder.{Holder}
-use Rattle.live_pages.specs.Models.{PagesModel, PassModel, taking_all_in}
-use Rattle.live_pages.specs.Ending.{touches_in}
-use Rattle.drill.specs.Work.{deed}
-use Rattle.drill.specs.Roles.{done, words_to, AreDone, missing, made_count}
 use Rattle.drill.proofs.Words.{words_mono}
 use Rattle.drill.proofs.Sums.{last_sum, range_sum, range_same}
 use Rattle.drill.proofs.Adds.{weigh, weigh_done}

@@ -1,19 +1,7 @@
 -- The rows of roles and passes, from which the last one is taken and to which one is added.
-use Rattle.std.proofs.Common.{◌≡◌, ◌≢◌, ℕ, zero, suc, ◌+◌, ◌-◌, ◌<◌, ◌≤◌, List, [], ◌∷◌, ◌++◌, reverse, length, get_or}
-use Rattle.std.proofs.Common.{All, Option, Some, option_to_list}
-use Rattle.std.proofs.Common.{sym, ap, subst, refl, ◌∙◌, arith, add-one}
+use Rattle.drill.proofs.Prelude.{◌≡◌, ◌≢◌, ℕ, zero, suc, ◌+◌, ◌-◌, ◌<◌, ◌≤◌, List, [], ◌∷◌, ◌++◌, reverse, length, get_or, All, Option, Some, option_to_list, sym, ap, subst, refl, ◌∙◌, arith, add-one, get_or-append_seam, reverse-append, reverse-reverse, length-append, get_or_append_left, All-pop, All-push, first_walker, PagesModel, PassModel, IsPassOf, first_passes, AreAll, Worker, Role, Works, done, words_to, HasDone, AreDone, missing, made_count, IsFresh, RoleFresh, RoleDone, EachRole}
 use mathlib.Core.Logic.{dite}
 use native.Mathlib.Decide.{ℕ_discrete}
-use Rattle.std.proofs.Math.Seq.{get_or-append_seam}
-use Rattle.std.proofs.lemmas.List.{reverse-append, reverse-reverse, length-append, get_or_append_left}
-use Rattle.std.proofs.lemmas.List.Elements.{All-pop, All-push}
-use Rattle.live_pages.specs.Turns.{first_walker}
-use Rattle.live_pages.specs.Models.{PagesModel, PassModel, IsPassOf, first_passes, AreAll}
-use Rattle.drill.specs.declared.worker.Worker.{Worker}
-use Rattle.drill.specs.declared.roles.Role.{Role}
-use Rattle.drill.specs.declared.roles.Role.TheVariants.{Works}
-use Rattle.drill.specs.Roles.{done, words_to, HasDone, AreDone, missing, made_count, IsFresh, RoleFresh, RoleDone}
-use Rattle.drill.specs.Roles.{EachRole}
 use Rattle.drill.proofs.Adds.{done_count}
 
 tail_of : {X : Type 0} → List X → List X

@@ -1,13 +1,7 @@
 -- Sums over the first numbers, over a range of numbers, and over the bindings that have ended.
-use Rattle.std.proofs.Common.{◌≡◌, ◌≢◌, ℕ, zero, suc, ◌+◌, ◌*◌, ◌<◌, ◌≤◌, cond, eqb, List, [], ◌∷◌, sum, ap, refl}
-use Rattle.std.proofs.Common.{arith, add-one}
+use Rattle.drill.proofs.Prelude.{◌≡◌, ◌≢◌, ℕ, zero, suc, ◌+◌, ◌*◌, ◌<◌, ◌≤◌, cond, eqb, List, [], ◌∷◌, sum, ap, refl, arith, add-one, eq-eqb, ne_eqb, sum_by-append, Bound, sum_of, work_of, sums_of, words_to}
 use mathlib.Core.Logic.{dite}
 use native.Mathlib.Decide.{ℕ_discrete}
-use Rattle.std.proofs.lemmas.Bool.{eq-eqb, ne_eqb}
-use Rattle.std.proofs.lemmas.List.Sums.{sum_by-append}
-use Rattle.live_pages.specs.declared.touch.Bound.{Bound}
-use Rattle.drill.specs.Work.{sum_of, work_of, sums_of}
-use Rattle.drill.specs.Roles.{words_to}
 use Rattle.drill.proofs.Words.{work_sum}
 
 -- over the numbers below n

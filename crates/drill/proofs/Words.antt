@@ -1,11 +1,7 @@
 -- The sums of the words of adds.
-use Rattle.std.proofs.Common.{◌≡◌, ◌≢◌, ℕ, zero, suc, ◌+◌, ◌*◌, ◌%◌, ◌≤◌, List, [], ◌∷◌, ◌++◌, ap, refl, ◌∙◌, arith}
-use Rattle.std.proofs.Common.{add-one}
+use Rattle.drill.proofs.Prelude.{◌≡◌, ◌≢◌, ℕ, zero, suc, ◌+◌, ◌*◌, ◌≤◌, List, [], ◌∷◌, ◌++◌, ap, refl, ◌∙◌, arith, add-one, Touch, add_at, word_at, work_of, added, sum_of, sums_of, done, words_to}
 use mathlib.Core.Logic.{dite}
 use native.Mathlib.Decide.{ℕ_discrete}
-use Rattle.live_pages.specs.declared.touch.Touch.{Touch}
-use Rattle.drill.specs.Work.{add_at, word_at, work_of, added, sum_of, sums_of}
-use Rattle.drill.specs.Roles.{done, words_to}
 
 sum_of_more : (ts : List (ℕ × Touch)) (t : ℕ × Touch) → sum_of (ts ++ t ∷ []) ≡ sum_of ts + added t.1
 sum_of_more [] t = refl

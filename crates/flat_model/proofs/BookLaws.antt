@@ -1,13 +1,5 @@
 -- One more entry: what it does to a legal book, to the store after it, and to a process's part.
-use Rattle.std.proofs.Common.{◌≡◌, ℕ, suc, zero, ◌+◌, true, false, List, [], ◌∷◌, ◌++◌, take, length, get_or, ◌<◌}
-use Rattle.std.proofs.Common.{Some, refl, sym, ap, subst, ◌∙◌, arith, filter}
-use Rattle.std.specs.Prelude.{slice_get}
-use Rattle.std.proofs.lemmas.List.Elements.{filter-append}
-use Rattle.script.specs.Plans.{Plan}
-use Rattle.book.specs.declared.entries.Entry.{Entry}
-use Rattle.flat_model.specs.Store.{Store, boot}
-use Rattle.flat_model.specs.Legal.{IsLawful, IsLegalFrom, IsLegal, store_from, store_after, after_entry, part, is_part}
-use Rattle.flat_model.specs.Legal.{last_of}
+use Rattle.flat_model.proofs.Prelude.{◌≡◌, ℕ, suc, zero, ◌+◌, true, false, List, [], ◌∷◌, ◌++◌, take, length, get_or, ◌<◌, Some, refl, sym, ap, subst, ◌∙◌, arith, filter, slice_get, filter-append, Plan, Entry, Store, boot, IsLawful, IsLegalFrom, IsLegal, store_from, store_after, after_entry, part, is_part, last_of}
 
 store_from-push : (p : Plan) (s : Store) (es : List Entry) (e : Entry) → store_from p s (es ++ e ∷ [])
     ≡ after_entry p (store_from p s es) e

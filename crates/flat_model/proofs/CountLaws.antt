@@ -1,12 +1,5 @@
 -- How many stored pages pass a test, once one is stored or is stored no more.
-use Rattle.std.proofs.Common.{◌≡◌, ℕ, ◌+◌, ◌-◌, ◌≤◌, Bool, true, false, cond, eqb, ◌||◌, List, [], ◌∷◌, refl, sym, ap}
-use Rattle.std.proofs.Common.{◌∙◌, arith, inl, inr}
-use Rattle.std.specs.Prelude.{count_by}
-use Rattle.std.proofs.lemmas.Bool.{cases_eq}
-use Rattle.std.proofs.lemmas.Bool.Decides.{nat_tests}
-use Rattle.std.proofs.lemmas.List.Sums.{sum_by-cons}
-use Rattle.tree_model.specs.Tree.{Node, volume_in, taken_on}
-use Rattle.flat_model.specs.Pages.{is_page, is_stored, with_stored, without_stored, IsOnce}
+use Rattle.flat_model.proofs.Prelude.{◌≡◌, ℕ, ◌+◌, ◌-◌, ◌≤◌, Bool, true, false, cond, eqb, ◌||◌, List, [], ◌∷◌, refl, sym, ap, ◌∙◌, arith, inl, inr, count_by, cases_eq, nat_tests, sum_by-cons, Node, volume_in, taken_on, is_page, is_stored, with_stored, without_stored, IsOnce}
 use Rattle.flat_model.proofs.PageLaws.{without_absent, without_first}
 
 pub count_with : (test : ℕ × ℕ → Bool) (xs : List (ℕ × ℕ)) (u p : ℕ) → is_stored xs u p ≡ false

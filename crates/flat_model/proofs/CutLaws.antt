@@ -1,23 +1,8 @@
 -- Words that are cut off from an offset on.
-use Rattle.std.proofs.Common.{◌≡◌, ◌≢◌, ℕ, suc, zero, ◌+◌, ◌-◌, ◌*◌, ◌/◌, ◌%◌, ◌<◌, ◌≤◌, Bool, true, false, not, cond}
-use Rattle.std.proofs.Common.{eqb, ◌&&◌, ◌||◌, ◌++◌, List, [], ◌∷◌, length, take, replicate, get_or, Ok, Err, All}
-use Rattle.std.proofs.Common.{IsTrue, ◌↔◌, refl, sym, ap, ◌∙◌, arith, inl, inr}
-use Rattle.std.specs.Prelude.{nat_le, nat_lt}
-use Rattle.std.proofs.lemmas.Bool.{cases_eq, cases_lt}
-use Rattle.std.proofs.lemmas.Bool.Decides.{nat_tests}
-use Rattle.std.proofs.lemmas.List.{get_or_past, length-append, length-replicate, length-take}
-use Rattle.book.specs.declared.replies.Reply.{Reply}
-use Rattle.tree_model.specs.Tree.{Node}
-use Rattle.flat_model.specs.Branches.{segment_at}
-use Rattle.flat_model.specs.Cuts.{cleared, cut_at, cut_once, without_pages}
-use Rattle.flat_model.specs.Pages.{Words, is_stored, is_zero_page, without_stored, without_words}
-use Rattle.flat_model.specs.Sizes.{after_truncate, cut_off, is_lost, truncated}
-use Rattle.flat_model.specs.Store.{Store}
+use Rattle.flat_model.proofs.Prelude.{◌≡◌, ◌≢◌, ℕ, suc, zero, ◌+◌, ◌-◌, ◌*◌, ◌/◌, ◌%◌, ◌<◌, ◌≤◌, Bool, true, false, not, cond, eqb, ◌&&◌, ◌||◌, ◌++◌, List, [], ◌∷◌, length, take, replicate, get_or, Ok, Err, All, IsTrue, ◌↔◌, refl, sym, ap, ◌∙◌, arith, inl, inr, nat_le, nat_lt, cases_eq, cases_lt, nat_tests, get_or_past, length-append, length-replicate, length-take, Reply, Node, segment_at, cleared, cut_at, cut_once, without_pages, Words, is_stored, is_zero_page, without_stored, without_words, after_truncate, cut_off, is_lost, truncated, Store, get_or_default_zero, zeros_read}
 use Rattle.flat_model.proofs.DropLaws.{stored_fused, stored_same}
 use Rattle.flat_model.proofs.PageLaws.{is_stored-without}
 use Rattle.flat_model.proofs.ZeroLaws.{words_zero, zero_words}
-use Rattle.std.proofs.lemmas.Grind.{get_or_default_zero}
-use Rattle.laws.proofs.Lists.{zeros_read}
 
 -- a word of a page that is cut
 pub get_cut : (at i n : ℕ) (ws : List ℕ)

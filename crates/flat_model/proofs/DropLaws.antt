@@ -1,12 +1,5 @@
 -- Pages of a segment that are stored no more.
-use Rattle.std.proofs.Common.{◌≡◌, ℕ, ◌+◌, ◌/◌, ◌<◌, ◌≤◌, Bool, true, false, not, cond, eqb, ◌&&◌, ◌||◌, List, [], ◌∷◌}
-use Rattle.std.proofs.Common.{filter, refl, sym, ap, ◌∙◌, arith, inl, inr}
-use Rattle.std.specs.Prelude.{nat_le, nat_lt}
-use Rattle.std.proofs.lemmas.Bool.{cases_eq}
-use Rattle.std.proofs.lemmas.Bool.Decides.{nat_tests}
-use Rattle.flat_model.specs.Cuts.{without_pages}
-use Rattle.flat_model.specs.Pages.{Words, is_page, is_stored, without_stored}
-use Rattle.flat_model.specs.Store.{Store}
+use Rattle.flat_model.proofs.Prelude.{◌≡◌, ℕ, ◌+◌, ◌/◌, ◌<◌, ◌≤◌, Bool, true, false, not, cond, eqb, ◌&&◌, ◌||◌, List, [], ◌∷◌, filter, refl, sym, ap, ◌∙◌, arith, inl, inr, nat_le, nat_lt, cases_eq, nat_tests, without_pages, Words, is_page, is_stored, without_stored, Store}
 
 -- two tests for the same page
 pub flip_page : (u q v r : ℕ) → is_page v r (u, q) ≡ (eqb v u && eqb r q)

@@ -1,11 +1,5 @@
 -- What is read of the node that has a uid: it is found, and it stays where other nodes go and where changes keep it.
-use Rattle.std.proofs.Common.{◌≡◌, ◌≢◌, ℕ, ◌+◌, Bool, false, cond, eqb, List, [], ◌∷◌, map, Some, None, true}
-use Rattle.std.proofs.Common.{refl, sym, ap, ◌∙◌, arith, inl, inr}
-use Rattle.std.proofs.lemmas.Bool.{cases_Bool, ne_eqb}
-use Rattle.std.proofs.lemmas.Bool.Decides.{nat_tests}
-use Rattle.std.specs.Prelude.{count_by}
-use Rattle.std.proofs.lemmas.List.Sums.{sum_by-cons}
-use Rattle.tree_model.specs.Tree.{Node, entries_on, node_in, without_node}
+use Rattle.flat_model.proofs.Prelude.{◌≡◌, ◌≢◌, ℕ, ◌+◌, Bool, false, cond, eqb, List, [], ◌∷◌, map, Some, None, true, refl, sym, ap, ◌∙◌, arith, inl, inr, cases_Bool, ne_eqb, nat_tests, count_by, sum_by-cons, Node, entries_on, node_in, without_node}
 
 -- it reads a field of the first node that has the uid
 abbrev pub Reads : {X : Type 0} → (List Node → X) → (Node → X) → ℕ → Type 0

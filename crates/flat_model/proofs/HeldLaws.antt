@@ -1,23 +1,7 @@
 -- Which replies are held back until a segment has moved.
-use Rattle.std.proofs.Common.{◌≡◌, ℕ, ◌*◌, Bool, true, false, not, ◌&&◌, cond, Option, Some, None, is_some, refl, sym}
-use Rattle.std.proofs.Common.{ap, ◌∙◌}
-use Rattle.std.specs.Prelude.{is_none, nat_le}
-use Rattle.script.specs.Plans.{Plan, who_of}
-use Rattle.script.specs.References.{permits, reference_of}
-use Rattle.script.specs.declared.commands.Command.{Command}
-use Rattle.script.specs.declared.commands.Reference.{Reference}
-use Rattle.script.specs.declared.commands.RefKind.{RefKind}
+use Rattle.flat_model.proofs.Prelude.{◌≡◌, ℕ, ◌*◌, Bool, true, false, not, ◌&&◌, cond, Option, Some, None, is_some, refl, sym, ap, ◌∙◌, is_none, nat_le, Plan, who_of, permits, reference_of, Command, Reference, RefKind, Reply, access_of, Node, node_in, reply_by, reply_to_command, takes_effect, is_held_at, is_held_back, is_held_by, is_held_in, is_held_of, is_used_up, is_volume_full, reply_at, reply_in, reply_of, reply_to_reference, stores_page, word_reply, room_for, Store, known_uid}
 use Rattle.script.specs.declared.commands.RefKind.TheVariants as kind
-use Rattle.book.specs.declared.replies.Reply.{Reply}
 use Rattle.book.specs.declared.replies.Reply.TheVariants as reply
-use Rattle.tree_model.specs.Access.{access_of}
-use Rattle.tree_model.specs.Tree.{Node, node_in}
-use Rattle.flat_model.specs.Commands.{reply_by, reply_to_command, takes_effect}
-use Rattle.flat_model.specs.Moves.{is_held_at, is_held_back, is_held_by, is_held_in, is_held_of}
-use Rattle.flat_model.specs.References.{is_used_up, is_volume_full, reply_at, reply_in, reply_of}
-use Rattle.flat_model.specs.References.{reply_to_reference, stores_page, word_reply}
-use Rattle.flat_model.specs.Rooms.{room_for}
-use Rattle.flat_model.specs.Store.{Store, known_uid}
 
 module _ (p : Plan) (s : Store) (k : ℕ) where
   -- ---- by the command, by what its number stands for, and by the node of that

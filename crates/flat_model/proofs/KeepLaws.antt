@@ -1,9 +1,5 @@
 -- Nodes are changed, but for what they are and where they lie.
-use Rattle.std.proofs.Common.{◌≡◌, ℕ, ◌+◌, ◌-◌, Bool, true, false, cond, eqb, not, List, map, refl, ap, ◌∙◌}
-use Rattle.tree_model.specs.Access.{Row}
-use Rattle.tree_model.specs.Quotas.{with_quota_of}
-use Rattle.tree_model.specs.Tree.{Node, has_directory, volume_in}
-use Rattle.tree_model.specs.Trees.{has_segment}
+use Rattle.flat_model.proofs.Prelude.{◌≡◌, ℕ, ◌+◌, ◌-◌, Bool, true, false, cond, eqb, not, List, map, refl, ap, ◌∙◌, Row, with_quota_of, Node, has_directory, volume_in, has_segment}
 use Rattle.flat_model.proofs.FieldLaws.{field_kept, field_mapped}
 
 -- a change of a node keeps what it is and where it lies

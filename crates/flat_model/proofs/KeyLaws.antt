@@ -1,10 +1,5 @@
 -- Keys of two numbers in an ordered map.
-use Rattle.std.proofs.Common.{◌≡◌, ℕ, Bool, eqb, ◌&&◌, refl, ap, ◌∙◌}
-use Rattle.std.specs.Ordering.{nat_cmp, ordering_then, is_eq}
-use Rattle.std.specs.Cmp.{unsigned_tied}
-use Rattle.std.specs.BTreeMap.{is_at}
-use Rattle.std.specs.declared.cmp.Ordering.{Ordering}
-use Rattle.std.specs.declared.cmp.Ordering.TheVariants.{Less, Equal, Greater}
+use Rattle.flat_model.proofs.Prelude.{◌≡◌, ℕ, Bool, eqb, ◌&&◌, refl, ap, ◌∙◌, nat_cmp, ordering_then, is_eq, unsigned_tied, is_at, Ordering, Less, Equal, Greater}
 
 then_eq : (a b : Ordering) → is_eq (ordering_then a b) ≡ (is_eq a && is_eq b)
 then_eq Less b = refl

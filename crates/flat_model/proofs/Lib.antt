@@ -1,3 +1,4 @@
+mod Prelude
 pub mod BookLaws
 pub mod CountLaws
 pub mod CutLaws

@@ -1,9 +1,5 @@
 -- What is read of a node that is there.
-use Rattle.std.proofs.Common.{◌≡◌, ℕ, Bool, true, false, not, eqb, List, [], ◌∷◌, Some, None, refl}
-use Rattle.std.proofs.Common.{inl, inr}
-use Rattle.std.proofs.lemmas.Bool.{cases_Bool}
-use Rattle.tree_model.specs.Tree.{Node, has_directory, node_in, volume_in}
-use Rattle.tree_model.specs.Trees.{has_segment}
+use Rattle.flat_model.proofs.Prelude.{◌≡◌, ℕ, Bool, true, false, not, eqb, List, [], ◌∷◌, Some, None, refl, inl, inr, cases_Bool, Node, has_directory, node_in, volume_in, has_segment}
 use Rattle.flat_model.proofs.FieldLaws.{field_found, field_none}
 
 pub volume_found : (ns : List Node) (u : ℕ) (n : Node) → node_in ns u ≡ Some n → n.volume ≡ volume_in ns u

@@ -1,10 +1,5 @@
 -- Where no number is free, each stands for something.
-use Rattle.std.proofs.Common.{◌≡◌, ℕ, ◌<◌, ◌≤◌, Bool, true, false, cond, ltb, not, List, length, Option, Some, None}
-use Rattle.std.proofs.Common.{is_none, refl, arith}
-use Rattle.std.specs.List.{position_or_len}
-use Rattle.std.proofs.lemmas.Bool.{ltb-false, not-true}
-use Rattle.std.proofs.lemmas.List.Sums.{prefix_len_passes}
-use Rattle.known_segs.specs.Known.{least_free, uid_of}
+use Rattle.flat_model.proofs.Prelude.{◌≡◌, ℕ, ◌<◌, ◌≤◌, Bool, true, false, cond, ltb, not, List, length, Option, Some, None, is_none, refl, arith, position_or_len, ltb-false, not-true, prefix_len_passes, least_free, uid_of}
 
 pub free_none : (kst : List (Option ℕ)) (k : ℕ) → least_free kst ≡ None → k < length kst
     → is_none (uid_of kst k) ≡ false

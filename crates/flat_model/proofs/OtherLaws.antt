@@ -1,26 +1,6 @@
 -- What no command changes but its own.
-use Rattle.std.proofs.Common.{◌≡◌, ℕ, ℤ, ◌+◌, ◌≤◌, Bool, true, false, cond, List, Option, Some, None, Result, Ok, Err}
-use Rattle.std.proofs.Common.{refl, arith}
-use Rattle.mnames.specs.declared.modes.Mode.{Mode}
-use Rattle.mnames.specs.declared.rows.Row.{Row as Named}
-use Rattle.script.specs.Plans.{Plan}
-use Rattle.script.specs.declared.commands.Command.{Command}
+use Rattle.flat_model.proofs.Prelude.{◌≡◌, ℕ, ℤ, ◌+◌, ◌≤◌, Bool, true, false, cond, List, Option, Some, None, Result, Ok, Err, refl, arith, Mode, Named, Plan, Command, RefKind, Reference, reference_of, Reply, Row, Node, branch_at, changed, directory_at, node_at, parts_of, segment_at, effect_by, effect_of, effect_of_tree_command, after_delete, after_make, deleted, made_at, made_of, after_initiate, after_terminate, initiated, alters, new_word, after_reference, written, written_by, after_acl, after_move, moved, after_length, after_truncate, truncated, Store, known_uid}
 use Rattle.script.specs.declared.commands.Command.TheVariants as command
-use Rattle.script.specs.declared.commands.RefKind.{RefKind}
-use Rattle.script.specs.declared.commands.Reference.{Reference}
-use Rattle.script.specs.References.{reference_of}
-use Rattle.book.specs.declared.replies.Reply.{Reply}
-use Rattle.tree_model.specs.Access.{Row}
-use Rattle.tree_model.specs.Tree.{Node}
-use Rattle.flat_model.specs.Branches.{branch_at, changed, directory_at, node_at, parts_of, segment_at}
-use Rattle.flat_model.specs.Commands.{effect_by, effect_of, effect_of_tree_command}
-use Rattle.flat_model.specs.Making.{after_delete, after_make, deleted, made_at, made_of}
-use Rattle.flat_model.specs.Naming.{after_initiate, after_terminate, initiated}
-use Rattle.script.specs.References.{alters, new_word}
-use Rattle.flat_model.specs.References.{after_reference, written, written_by}
-use Rattle.flat_model.specs.Rights.{after_acl, after_move, moved}
-use Rattle.flat_model.specs.Sizes.{after_length, after_truncate, truncated}
-use Rattle.flat_model.specs.Store.{Store, known_uid}
 
 -- what numbers stand for, and how far processes have come, stay; at most one uid is given
 pub record KeepsOthers (s t : Store) : Type 0 where

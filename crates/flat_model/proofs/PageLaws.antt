@@ -1,10 +1,5 @@
 -- Laws of the stored pages: which are there once one is stored, or once some of a segment are stored no more.
-use Rattle.std.proofs.Common.{◌≡◌, ℕ, ◌+◌, Bool, true, false, not, cond, eqb, ◌&&◌, ◌||◌, List, [], ◌∷◌, refl}
-use Rattle.std.proofs.Common.{sym, ap, ◌∙◌, arith, filter}
-use Rattle.std.specs.Prelude.{nat_le}
-use Rattle.std.proofs.lemmas.Bool.Decides.{nat_tests}
-use Rattle.flat_model.specs.Pages.{is_page, is_stored, is_stored_from, with_stored, without_stored, IsOnce}
-use Rattle.laws.proofs.Bools.{and_false}
+use Rattle.flat_model.proofs.Prelude.{◌≡◌, ℕ, Bool, true, false, not, cond, eqb, ◌&&◌, ◌||◌, List, [], ◌∷◌, refl, sym, ap, ◌∙◌, arith, filter, nat_le, nat_tests, is_page, is_stored, is_stored_from, with_stored, without_stored, IsOnce, and_false}
 
 pub is_stored-with : (xs : List (ℕ × ℕ)) (u p v q : ℕ) → is_stored (with_stored xs u p) v q
     ≡ (is_page v q (u, p) || is_stored xs v q)

@@ -1,12 +1,5 @@
 -- Pairs of numbers in order, by the first and then the second, as keys of an ordered map are.
-use Rattle.std.proofs.Common.{◌≡◌, ◌<◌, ◌≤◌, ◌⊎◌, ℕ, suc, Bool, false, cond, eqb}
-use Rattle.std.proofs.Common.{ap, ◌∙◌, arith, inl, inr}
-use Rattle.std.specs.BTreeMap.Range.{IsLeBy}
-use Rattle.std.specs.Ordering.{is_gt, nat_cmp, ordering_then}
-use Rattle.std.specs.declared.cmp.Ordering.{Ordering}
-use Rattle.std.specs.declared.cmp.Ordering.TheVariants.{Less, Equal, Greater}
-use Rattle.std.proofs.lemmas.Bool.Decides.{eqb_tells, leb_tells}
-use Rattle.laws.proofs.Bools.{not_both}
+use Rattle.flat_model.proofs.Prelude.{◌≡◌, ◌<◌, ◌≤◌, ◌⊎◌, ℕ, suc, Bool, false, cond, eqb, ap, ◌∙◌, arith, inl, inr, IsLeBy, is_gt, nat_cmp, ordering_then, Ordering, Less, Equal, Greater, eqb_tells, leb_tells, not_both}
 
 abbrev pub by_both : ℕ × ℕ → ℕ × ℕ → Ordering
 by_both x y = ordering_then (nat_cmp x.0 y.0) (nat_cmp x.1 y.1)

@@ -1,12 +1,6 @@
 -- What refuses a path: a test of replies that says the same of each refusal says it of what refuses a path.
-use Rattle.std.proofs.Common.{◌≡◌, ℕ, Bool, true, false, cond, List, [], ◌∷◌, Option, Some, None, Result, Ok, Err, ap}
-use Rattle.std.proofs.Common.{refl, sym, ◌∙◌}
-use Rattle.book.specs.declared.replies.Reply.{Reply}
+use Rattle.flat_model.proofs.Prelude.{◌≡◌, ℕ, Bool, true, false, cond, List, [], ◌∷◌, Option, Some, None, Result, Ok, Err, ap, refl, sym, ◌∙◌, Reply, Node, Walk, LeadsTo, Missing, InSegment, node_in, walk_in, branch_at, directory_at, node_at, only_directory, only_segment, segment_at, there_or, walked, takes_effect}
 use Rattle.book.specs.declared.replies.Reply.TheVariants as reply
-use Rattle.tree_model.specs.Tree.{Node, Walk, LeadsTo, Missing, InSegment, node_in, walk_in}
-use Rattle.flat_model.specs.Branches.{branch_at, directory_at, node_at, only_directory, only_segment, segment_at}
-use Rattle.flat_model.specs.Branches.{there_or, walked}
-use Rattle.flat_model.specs.Commands.{takes_effect}
 
 module _ {X : Type 0} (says : Reply → X) (x : X) (missing : says reply.NoPath ≡ x)
     (in_segment : says reply.NotDir ≡ x)

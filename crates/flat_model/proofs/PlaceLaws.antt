@@ -1,13 +1,5 @@
 -- How far a process may come: to one of its commands, of which a script has few.
-use Rattle.std.proofs.Common.{◌≡◌, ℕ, suc, zero, ◌+◌, ◌<◌, ◌≤◌, ◌^◌, true, List, [], ◌∷◌, length, get_or, Some, arith}
-use Rattle.std.specs.Prelude.{sum_by, slice_get}
-use Rattle.std.specs.List.{list_all}
-use Rattle.std.proofs.lemmas.Bool.{and_parts}
-use Rattle.std.proofs.lemmas.Bool.Decides.{nat_tests}
-use Rattle.std.proofs.lemmas.List.Sums.{sum_by-cons}
-use Rattle.script.specs.Forms.{IsPlan, is_command, is_process, weight, weight_of}
-use Rattle.script.specs.Plans.{Plan, ProcessPlan, command_at, commands_of, nobody}
-use Rattle.script.specs.declared.commands.Command.{Command}
+use Rattle.flat_model.proofs.Prelude.{◌≡◌, ℕ, suc, zero, ◌+◌, ◌<◌, ◌≤◌, ◌^◌, true, List, [], ◌∷◌, length, get_or, Some, arith, sum_by, slice_get, list_all, and_parts, nat_tests, sum_by-cons, IsPlan, is_command, is_process, weight, weight_of, Plan, ProcessPlan, command_at, commands_of, nobody, Command}
 use Rattle.script.specs.declared.commands.Command.TheVariants as command
 
 pub heavy : (volumes : ℕ) (c : Command) → is_command volumes c ≡ true → 1 ≤ weight c

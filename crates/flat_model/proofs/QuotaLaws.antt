@@ -1,17 +1,6 @@
 -- No quota is moved.
-use Rattle.std.proofs.Common.{◌≡◌, ℕ, ℤ, pos, ◌+◌, ◌-◌, ◌≤◌, Bool, true, false, cond, eqb, not, ◌&&◌, ◌||◌, List, []}
-use Rattle.std.proofs.Common.{◌∷◌, map, None, Ok, refl, sym, ap, ◌∙◌, arith}
-use Rattle.std.specs.Prelude.{nat_lt}
-use Rattle.std.specs.Int.{is_positive}
-use Rattle.std.proofs.lemmas.Bool.Decides.{nat_tests}
+use Rattle.flat_model.proofs.Prelude.{◌≡◌, ℕ, ℤ, pos, ◌+◌, ◌-◌, ◌≤◌, Bool, true, false, cond, eqb, not, ◌&&◌, ◌||◌, List, [], ◌∷◌, map, None, Ok, refl, sym, ap, ◌∙◌, arith, nat_lt, is_positive, nat_tests, getter_of, giver_of, is_over, over_in, tree_moved, with_moved, with_quota_of, Node, above, has_directory, quota_in, used_by, directory_at, done_or_over, move_reply, Store, least_none}
 use Rattle.book.specs.declared.replies.Reply.TheVariants as reply
-use Rattle.tree_model.specs.Quotas.{getter_of, giver_of, is_over, over_in, tree_moved, with_moved}
-use Rattle.tree_model.specs.Quotas.{with_quota_of}
-use Rattle.tree_model.specs.Tree.{Node, above, has_directory, quota_in, used_by}
-use Rattle.flat_model.specs.Branches.{directory_at}
-use Rattle.flat_model.specs.Rights.{done_or_over, move_reply}
-use Rattle.flat_model.specs.Store.{Store}
-use Rattle.tree_model.proofs.SharedLaws.{least_none}
 
 quota_same : (u : ℕ) (change : ℕ → ℕ) (n : Node) → ((q : ℕ) → change q ≡ q) → with_quota_of u change n ≡ n
 quota_same u change n same = here (eqb n.uid u)

@@ -1,47 +1,11 @@
 -- The quotas of the tree sum to the same whatever entry is lawful, and what each account is charged for is within its
 -- quota where the counts say so.
-use Rattle.std.proofs.Common.{◌≡◌, ◌≢◌, ◌≤◌, ◌<◌, ℕ, suc, ◌+◌, ◌-◌, Bool, true, false, not, cond, eqb, is_some, List}
-use Rattle.std.proofs.Common.{[]}
-use Rattle.std.proofs.Common.{◌∷◌, map, sum, length, Option, Some, None, inl, inr, refl, sym, ap, subst, ◌∙◌, arith}
-use Rattle.std.specs.Prelude.{◌||◌, nat_lt, Result, Ok, Err, ℤ, slice_index}
-use Rattle.std.specs.Int.{is_positive}
-use Rattle.std.specs.Int.RustNames.{unsigned_abs}
-use Rattle.std.specs.List.{list_all, list_any}
-use Rattle.std.proofs.lemmas.Bool.Decides.{eqb_tells, leb_tells}
-use Rattle.std.proofs.lemmas.List.Sums.{sum_by-cons}
-use Rattle.script.specs.Plans.{Plan, who_of}
-use Rattle.script.specs.declared.commands.Command.{Command}
+use Rattle.flat_model.proofs.Prelude.{◌≡◌, ◌≢◌, ◌≤◌, ◌<◌, ℕ, suc, ◌+◌, ◌-◌, Bool, true, false, not, cond, eqb, is_some, List, [], ◌∷◌, map, sum, length, Option, Some, None, inl, inr, refl, sym, ap, subst, ◌∙◌, arith, ◌||◌, nat_lt, Result, Ok, Err, ℤ, slice_index, is_positive, unsigned_abs, list_all, list_any, eqb_tells, leb_tells, sum_by-cons, Plan, who_of, Command, Reply, giver_of, tree_moved, with_moved, with_quota_of, Row, Node, Walk, LeadsTo, Missing, InSegment, above, is_inferior, node_in, is_account, quota_in, used_by, walk_in, with_node, without_node, AreBelow, AreDirectories, AreUnder, EndsAtRoot, HasChains, IsTree, Joins, has_chains, IsMember, branch_at, changed, directory_at, node_at, only_directory, only_segment, parts_of, segment_at, there_or, walked, effect_of_tree_command, reply_to_tree_command, takes_effect, after_delete, after_make, delete_of, delete_reply, deleted, made_at, made_of, made_in, owner_row, after_initiate, after_terminate, initiated, after_acl, after_move, move_of, move_reply, moved, after_length, after_truncate, truncated, Store, boot, known_uid, root_of, Entry, alters, new_word, reference_of, command_at, Reference, after_command, effect_by, effect_of, reply_by, reply_to_command, IsAnswer, IsLawful, after_do, after_entry, after_fault, is_within, after_reference, written, written_by, directory_there, found_uid, or_true}
 use Rattle.script.specs.declared.commands.Command.TheVariants as command
-use Rattle.book.specs.declared.replies.Reply.{Reply}
 use Rattle.book.specs.declared.replies.Reply.TheVariants as reply
-use Rattle.tree_model.specs.Quotas.{giver_of, tree_moved, with_moved, with_quota_of}
-use Rattle.tree_model.specs.Access.{Row}
-use Rattle.tree_model.specs.Tree.{Node, Walk, LeadsTo, Missing, InSegment, above, is_inferior, node_in}
-use Rattle.tree_model.specs.Tree.{is_account, quota_in, used_by, walk_in, with_node, without_node}
-use Rattle.tree_model.specs.Trees.{AreBelow, AreDirectories, AreUnder, EndsAtRoot, HasChains, IsTree, Joins}
-use Rattle.tree_model.proofs.ChainLaws.{has_chains}
-use Rattle.tree_model.proofs.Finds.{IsMember}
 use Rattle.flat_model.proofs.FieldLaws.{field_found}
-use Rattle.flat_model.specs.Branches.{branch_at, changed, directory_at, node_at, only_directory, only_segment, parts_of}
-use Rattle.flat_model.specs.Branches.{segment_at, there_or, walked}
-use Rattle.flat_model.specs.Commands.{effect_of_tree_command, reply_to_tree_command, takes_effect}
-use Rattle.flat_model.specs.Making.{after_delete, after_make, delete_of, delete_reply, deleted, made_at, made_of}
-use Rattle.flat_model.specs.Making.{made_in, owner_row}
-use Rattle.flat_model.specs.Naming.{after_initiate, after_terminate, initiated}
-use Rattle.flat_model.specs.Rights.{after_acl, after_move, move_of, move_reply, moved}
-use Rattle.flat_model.specs.Sizes.{after_length, after_truncate, truncated}
-use Rattle.flat_model.specs.Store.{Store, boot, known_uid, root_of}
 use Rattle.flat_model.proofs.TreeLaws.{path_apart}
-use Rattle.book.specs.declared.entries.Entry.{Entry}
 use Rattle.book.specs.declared.entries.Entry.TheVariants as entry
-use Rattle.script.specs.References.{alters, new_word, reference_of}
-use Rattle.script.specs.Plans.{command_at}
-use Rattle.script.specs.declared.commands.Reference.{Reference}
-use Rattle.flat_model.specs.Commands.{after_command, effect_by, effect_of, reply_by, reply_to_command}
-use Rattle.flat_model.specs.Legal.{IsAnswer, IsLawful, after_do, after_entry, after_fault, is_within}
-use Rattle.flat_model.specs.References.{after_reference, written, written_by}
-use Rattle.tree_model.proofs.SharedLaws.{directory_there, found_uid}
-use Rattle.laws.proofs.Bools.{or_true}
 
 -- ---- the nodes of a tree
 

@@ -1,21 +1,8 @@
 -- Which stores the commands of a script may come to.
-use Rattle.std.proofs.Common.{◌≡◌, ℕ, suc, zero, ◌+◌, ◌<◌, ◌≤◌, Bool, true, false, cond, List, [], ◌∷◌, length}
-use Rattle.std.proofs.Common.{set, get_or, replicate, Option, Some, None, refl, sym, subst, arith}
-use Rattle.std.specs.Prelude.{sum_by}
-use Rattle.std.specs.List.{list_all}
-use Rattle.std.proofs.lemmas.Bool.{and_parts}
-use Rattle.std.proofs.lemmas.List.Sums.{sum_by-cons, sum_by-set}
-use Rattle.script.specs.Forms.{IsPlan, is_process, weight_of}
-use Rattle.script.specs.Plans.{Plan, ProcessPlan, command_at, commands_of, nobody}
-use Rattle.script.specs.declared.commands.Command.{Command}
+use Rattle.flat_model.proofs.Prelude.{◌≡◌, ℕ, suc, zero, ◌+◌, ◌<◌, ◌≤◌, Bool, true, false, cond, List, [], ◌∷◌, length, set, get_or, replicate, Option, Some, None, refl, sym, subst, arith, sum_by, list_all, and_parts, sum_by-cons, sum_by-set, IsPlan, is_process, weight_of, Plan, ProcessPlan, command_at, commands_of, nobody, Command, Reply, after_command, effect_of, gone_on, takes_effect, tries_on, after_reference, written_by, Progress, Store, at_first, boot, known_uid, progress_of, with_progress, ArePlaces, IsReached, answered}
 use Rattle.script.specs.declared.commands.Command.TheVariants as command
 use Rattle.script.specs.declared.commands.RefKind.TheVariants as kind
-use Rattle.book.specs.declared.replies.Reply.{Reply}
-use Rattle.flat_model.specs.Commands.{after_command, effect_of, gone_on, takes_effect, tries_on}
-use Rattle.flat_model.specs.References.{after_reference, written_by}
-use Rattle.flat_model.specs.Store.{Progress, Store, at_first, boot, known_uid, progress_of, with_progress}
 use Rattle.flat_model.proofs.PlaceLaws.{place_within, process_weighs}
-use Rattle.flat_model.specs.Reached.{ArePlaces, IsReached, answered}
 use Rattle.flat_model.proofs.OtherLaws.{Advances, effect_advances}
 use Rattle.flat_model.proofs.SharedLaws.{going_within}
 

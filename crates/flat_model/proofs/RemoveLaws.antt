@@ -1,24 +1,8 @@
 -- A directory or a segment is taken out.
-use Rattle.std.proofs.Common.{◌≡◌, ◌≢◌, ℕ, ◌+◌, ◌/◌, Bool, true, false, cond, eqb, not, ◌&&◌, List, [], ◌∷◌}
-use Rattle.std.proofs.Common.{Some, None, Ok, Err, refl, sym, ap, ◌∙◌, arith, inl, inr}
-use Rattle.std.specs.Prelude.{count_by, nat_le}
-use Rattle.std.specs.List.{list_any}
-use Rattle.std.proofs.lemmas.Bool.{cases_Bool, or_parts}
-use Rattle.std.proofs.lemmas.Bool.Decides.{nat_tests}
-use Rattle.std.proofs.lemmas.List.Sums.{sum_by-cons}
-use Rattle.book.specs.declared.replies.Reply.{Reply}
+use Rattle.flat_model.proofs.Prelude.{◌≡◌, ◌≢◌, ℕ, ◌+◌, ◌/◌, Bool, true, false, cond, eqb, not, ◌&&◌, List, [], ◌∷◌, Some, None, Ok, Err, refl, sym, ap, ◌∙◌, arith, inl, inr, count_by, nat_le, list_any, cases_Bool, or_parts, nat_tests, sum_by-cons, Reply, Node, has_directory, is_inferior, node_in, taken_on, volume_in, without_node, has_segment, branch_at, takes_effect, without_branch, without_pages, after_delete, delete_reply, deleted, Words, is_page, is_stored, without_stored, Store, from_first}
 use Rattle.book.specs.declared.replies.Reply.TheVariants as reply
-use Rattle.tree_model.specs.Tree.{Node, has_directory, is_inferior, node_in, taken_on, volume_in, without_node}
-use Rattle.tree_model.specs.Trees.{has_segment}
-use Rattle.flat_model.specs.Branches.{branch_at}
-use Rattle.flat_model.specs.Commands.{takes_effect}
-use Rattle.flat_model.specs.Cuts.{without_branch, without_pages}
-use Rattle.flat_model.specs.Making.{after_delete, delete_reply, deleted}
-use Rattle.flat_model.specs.Pages.{Words, is_page, is_stored, without_stored}
-use Rattle.flat_model.specs.Store.{Store}
 use Rattle.flat_model.proofs.FieldLaws.{field_left}
 use Rattle.flat_model.proofs.TreeReplies.{not_first}
-use Rattle.laws.proofs.Numbers.{from_first}
 
 -- ---- what is left of the nodes
 

@@ -1,15 +1,5 @@
 -- The least number that passes a test, and the volumes that have room.
-use Rattle.std.proofs.Common.{◌≡◌, ◌<◌, ◌≤◌, ℕ, zero, suc, Bool, true, false, not, eqb, Some, None, refl}
-use Rattle.std.proofs.Common.{sym, ap, subst, ◌∙◌, arith, inl, inr, length, ◌-◌}
-use Rattle.std.specs.Prelude.{nat_lt}
-use Rattle.std.proofs.lemmas.Bool.{cases_eq}
-use Rattle.std.proofs.lemmas.Bool.Decides.{leb_tells}
-use Rattle.std.proofs.lemmas.Option.{slice_get_past}
-use Rattle.script.specs.Plans.{Plan}
-use Rattle.flat_model.specs.Rooms.{first_below, has_room, pages_stored, room_for}
-use Rattle.flat_model.specs.Store.{Store, records_in, records_of}
-use Rattle.tree_model.specs.Tree.{taken_on}
-use Rattle.laws.proofs.Bools.{and_false}
+use Rattle.flat_model.proofs.Prelude.{◌≡◌, ◌<◌, ◌≤◌, ℕ, zero, suc, Bool, true, false, not, eqb, Some, None, refl, sym, ap, subst, ◌∙◌, arith, inl, inr, length, ◌-◌, nat_lt, cases_eq, leb_tells, slice_get_past, Plan, first_below, has_room, pages_stored, room_for, Store, records_in, records_of, taken_on, and_false}
 
 -- ---- the least number that passes a test
 

@@ -1,15 +1,6 @@
 -- What each script promises of its segments and of its first volume.
-use Rattle.std.proofs.Common.{◌≡◌, ℕ, suc, zero, ◌≤◌, true, List, [], ◌∷◌, length, get_or, Some, arith}
-use Rattle.std.specs.Prelude.{slice_get}
-use Rattle.std.specs.List.{list_all}
-use Rattle.std.proofs.lemmas.Bool.{and_parts}
-use Rattle.std.proofs.lemmas.Bool.Decides.{nat_tests}
-use Rattle.script.specs.Plans.{Plan, ProcessPlan, nobody, command_at}
-use Rattle.script.specs.Forms.{IsPlan, is_command, is_process, is_volume}
-use Rattle.script.specs.declared.plan.VolumeLine.{VolumeLine}
-use Rattle.script.specs.declared.commands.Command.{Command}
+use Rattle.flat_model.proofs.Prelude.{◌≡◌, ℕ, suc, zero, ◌≤◌, true, List, [], ◌∷◌, length, get_or, Some, arith, slice_get, list_all, and_parts, nat_tests, Plan, ProcessPlan, nobody, command_at, IsPlan, is_command, is_process, is_volume, VolumeLine, Command, entries_in, entries_of}
 use Rattle.script.specs.declared.commands.Command.TheVariants as command
-use Rattle.flat_model.specs.Store.{entries_in, entries_of}
 
 entries_some : (v : VolumeLine) → is_volume v ≡ true → 1 ≤ v.entries
 unfolding is_volume

@@ -1,14 +1,5 @@
 -- Laws that several crates cite.
-use Rattle.std.proofs.Common.{List, [], ap, arith, drop, eqb, false, inl, inr, length, refl, sum, sym, true, ℕ, ◌++◌}
-use Rattle.std.proofs.Common.{◌+◌, ◌<◌, ◌∙◌, ◌∷◌, ◌≡◌, ◌≤◌}
-use Rattle.std.proofs.lemmas.Bool.Decides.{leb_tells}
-use Rattle.std.proofs.lemmas.Grind.{common_steps}
-use Rattle.std.proofs.lemmas.List.{get_or_past}
-use Rattle.book.specs.declared.entries.Entry.{Entry}
-use Rattle.flat_model.specs.Store.{Progress, Store, progress_of}
-use Rattle.script.specs.Forms.{ArePools}
-use Rattle.script.specs.References.{alters, new_word}
-use Rattle.script.specs.declared.commands.RefKind.{RefKind}
+use Rattle.flat_model.proofs.Prelude.{List, [], ap, arith, drop, eqb, false, inl, inr, length, refl, sum, sym, true, ℕ, ◌++◌, ◌+◌, ◌<◌, ◌∙◌, ◌∷◌, ◌≡◌, ◌≤◌, leb_tells, common_steps, get_or_past, Entry, Progress, Store, progress_of, ArePools, alters, new_word, RefKind}
 use Rattle.script.specs.declared.commands.RefKind.TheVariants as kind
 
 pub going_within : (t : Store) (k : ℕ) → (progress_of t k).ended ≡ false → k < length t.processes

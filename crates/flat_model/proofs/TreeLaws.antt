@@ -1,20 +1,5 @@
 -- What holds of a tree: no path with a name leads to the root, and a uid is that of one node.
-use Rattle.std.proofs.Common.{◌≡◌, ◌≢◌, ℕ, ◌+◌, ◌<◌, Bool, true, false, cond, eqb, List, [], ◌∷◌, length, Option, Some}
-use Rattle.std.proofs.Common.{None, Result, Ok, Err, IfOk, refl, sym, ap, subst, ◌∙◌, arith, inl, inr}
-use Rattle.std.specs.Prelude.{count_by}
-use Rattle.std.proofs.lemmas.Bool.{cases_Bool}
-use Rattle.std.proofs.lemmas.Bool.Decides.{nat_tests}
-use Rattle.std.proofs.lemmas.List.Sums.{sum_by-cons}
-use Rattle.book.specs.declared.replies.Reply.{Reply}
-use Rattle.tree_model.specs.Tree.{Node, Walk, LeadsTo, Missing, InSegment, branch_in, entries_on, is_branch, node_in}
-use Rattle.tree_model.specs.Tree.{onward, walk_from, walk_in, without_node}
-use Rattle.tree_model.specs.Trees.{AreBelow, IsBranch, IsTree, Joins}
-use Rattle.tree_model.proofs.TreeLaws.{lies}
-use Rattle.flat_model.specs.Branches.{node_at, walked, there_or}
-use Rattle.tree_model.proofs.SharedLaws.{without_absent, older, found_uid}
-use Rattle.tree_model.specs.Access.{Row}
-use Rattle.flat_model.specs.Making.{made_in, new_branch}
-use Rattle.flat_model.specs.Store.{Store}
+use Rattle.flat_model.proofs.Prelude.{◌≡◌, ◌≢◌, ℕ, ◌+◌, ◌<◌, Bool, true, false, cond, eqb, List, [], ◌∷◌, length, Option, Some, None, Result, Ok, Err, IfOk, refl, sym, ap, subst, ◌∙◌, arith, inl, inr, count_by, cases_Bool, nat_tests, sum_by-cons, Reply, Node, Walk, LeadsTo, Missing, InSegment, branch_in, entries_on, is_branch, node_in, onward, walk_from, walk_in, without_node, AreBelow, IsBranch, IsTree, Joins, lies, node_at, walked, there_or, without_absent, older, found_uid, Row, made_in, new_branch, Store}
 
 -- the oldest node is the root
 above_one : (m : Node) (ms : List Node) (u : ℕ) → IsTree (m ∷ ms) → AreBelow u (m ∷ ms) → 1 < u

@@ -1,25 +1,6 @@
 -- What tree commands are answered, by what the path leads to.
-use Rattle.std.proofs.Common.{◌≡◌, ℕ, ℤ, Bool, true, false, cond, eqb, List, [], ◌∷◌, ◌++◌, Some, Result}
-use Rattle.std.proofs.Common.{Ok, Err, refl, sym, ap, ◌∙◌}
-use Rattle.std.specs.Prelude.{count_by, nat_lt}
-use Rattle.std.specs.Int.{is_positive}
-use Rattle.std.specs.Int.RustNames.{unsigned_abs}
-use Rattle.std.specs.List.{list_any}
-use Rattle.mnames.specs.declared.rows.Row.{Row as Named}
-use Rattle.script.specs.Plans.{Plan}
-use Rattle.book.specs.declared.replies.Reply.{Reply}
+use Rattle.flat_model.proofs.Prelude.{◌≡◌, ℕ, ℤ, Bool, true, false, cond, eqb, List, [], ◌∷◌, ◌++◌, Some, Result, Ok, Err, refl, sym, ap, ◌∙◌, count_by, nat_lt, is_positive, unsigned_abs, list_any, Named, Plan, Reply, takes_row, giver_of, over_in, tree_moved, Node, above, is_inferior, quota_in, used_by, takes_effect, branch_at, directory_at, node_at, parts_of, before_parts, segment_at, delete_reply, make_in, make_reply, status_reply, is_stored_from, acl_reply, done_or_over, move_reply, length_reply, truncate_reply, Store}
 use Rattle.book.specs.declared.replies.Reply.TheVariants as reply
-use Rattle.tree_model.specs.Access.{takes_row}
-use Rattle.tree_model.specs.Quotas.{giver_of, over_in, tree_moved}
-use Rattle.tree_model.specs.Tree.{Node, above, is_inferior, quota_in, used_by}
-use Rattle.flat_model.specs.Commands.{takes_effect}
-use Rattle.flat_model.specs.Branches.{branch_at, directory_at, node_at, parts_of, before_parts, segment_at}
-use Rattle.flat_model.specs.Making.{delete_reply, make_in, make_reply}
-use Rattle.flat_model.specs.Naming.{status_reply}
-use Rattle.flat_model.specs.Pages.{is_stored_from}
-use Rattle.flat_model.specs.Rights.{acl_reply, done_or_over, move_reply}
-use Rattle.flat_model.specs.Sizes.{length_reply, truncate_reply}
-use Rattle.flat_model.specs.Store.{Store}
 
 -- a command that takes effect wasn't refused
 pub not_first : (b : Bool) (x y : Reply) → takes_effect x ≡ false → takes_effect (cond b x y) ≡ true

@@ -1,8 +1,5 @@
 -- A page is all zeros exactly where each of its words is 0.
-use Rattle.std.proofs.Common.{◌≡◌, ℕ, suc, zero, ◌+◌, ◌*◌, ◌<◌, Bool, true, eqb, refl, sym, subst, arith, inl, inr}
-use Rattle.std.proofs.lemmas.Bool.{cases_eq, and_parts}
-use Rattle.std.proofs.lemmas.Bool.Decides.{nat_tests}
-use Rattle.flat_model.specs.Pages.{Words, all_below, is_zero_page}
+use Rattle.flat_model.proofs.Prelude.{◌≡◌, ℕ, suc, zero, ◌+◌, ◌*◌, ◌<◌, Bool, true, eqb, refl, sym, subst, arith, inl, inr, cases_eq, and_parts, nat_tests, Words, all_below, is_zero_page}
 
 pub below_each : (test : ℕ → Bool) (n i : ℕ) → all_below test n ≡ true → i < n → test i ≡ true
 below_each test zero i h lt = absurd (omega arith)

@@ -1,20 +1,6 @@
 -- What is kept at the boot shows the flat store at the boot.
-use Rattle.std.proofs.Common.{◌≡◌, ℕ, suc, zero, ◌+◌, ◌≤◌, Bool, true, false, cond, eqb, List, [], ◌∷◌, length, map}
-use Rattle.std.proofs.Common.{set, replicate, Option, None, refl, sym, ap, subst, ◌∙◌, arith}
-use Rattle.std.specs.Prelude.{slice_get}
-use Rattle.std.proofs.lemmas.Bool.Decides.{nat_tests}
-use Rattle.std.proofs.lemmas.List.{length-replicate}
-use Rattle.accounts.specs.Maps.{root_alone}
-use Rattle.script.specs.Forms.{IsPlan}
-use Rattle.script.specs.Plans.{Plan}
-use Rattle.script.specs.declared.plan.VolumeLine.{VolumeLine}
-use Rattle.tree_model.specs.Tree.{entries_on, taken_on}
-use Rattle.flat_model.specs.Store.{Progress, at_first, boot, entries_in, entries_of, records_in, records_of, root_of}
-use Rattle.flat_model.proofs.ScriptLaws.{root_there}
-use Rattle.flat_store.specs.Shown.{Gauge, gauge_at, filled, entries_gauge, records_gauge, Held, Holds, Kept, Shows}
-use Rattle.flat_store.specs.Shown.{pages_in}
+use Rattle.flat_store.proofs.Prelude.{◌≡◌, ℕ, suc, zero, ◌+◌, ◌≤◌, Bool, true, false, cond, eqb, List, [], ◌∷◌, length, map, set, replicate, Option, None, refl, sym, ap, subst, ◌∙◌, arith, slice_get, nat_tests, length-replicate, root_alone, IsPlan, Plan, VolumeLine, entries_on, taken_on, Progress, at_first, boot, entries_in, entries_of, records_in, records_of, root_of, root_there, Gauge, gauge_at, filled, entries_gauge, records_gauge, Held, Holds, Kept, Shows, pages_in, reached_boot}
 use Rattle.flat_store.proofs.GaugeLaws.{counts_more, gauge}
-use Rattle.flat_model.proofs.ReachLaws.{reached_boot}
 
 records_here : (vs : List VolumeLine) (v : ℕ)
     → gauge_at (map records_gauge vs) v ≡ gauge 0 (records_in (slice_get vs v))

@@ -1,23 +1,5 @@
 -- Nodes are changed, but for where they lie and what they are.
-use Rattle.std.proofs.Common.{◌≡◌, ◌≢◌, ℕ, ◌+◌, ◌-◌, ◌<◌, Bool, true, false, cond, eqb, not, List, [], ◌∷◌, map}
-use Rattle.std.proofs.Common.{refl, sym, ap, subst, ◌∙◌, arith, inl, inr}
-use Rattle.std.specs.Prelude.{count_by, nat_le}
-use Rattle.std.proofs.lemmas.Bool.{cases_Bool, cases_eq}
-use Rattle.std.proofs.lemmas.Bool.Decides.{nat_tests}
-use Rattle.accounts.specs.Maps.{Changes}
-use Rattle.script.specs.Plans.{Plan}
-use Rattle.tree_model.specs.Access.{Row}
-use Rattle.tree_model.specs.Quotas.{with_quota_of, with_moved}
-use Rattle.tree_model.specs.Tree.{Node, entries_on, has_directory, taken_on, volume_in, with_node}
-use Rattle.tree_model.specs.Trees.{has_segment}
-use Rattle.flat_model.specs.Pages.{is_stored, is_stored_from}
-use Rattle.flat_model.specs.Store.{Store, records_of, entries_of}
-use Rattle.flat_model.proofs.FieldLaws.{entries_mapped, field_kept, field_mapped}
-use Rattle.flat_model.proofs.NodeLaws.{no_directory}
-use Rattle.flat_model.proofs.PageLaws.{stored_from}
-use Rattle.flat_store.specs.Shown.{AreFlat, AreInside, Held, Holds, pages_in}
-use Rattle.flat_model.proofs.KeepLaws.{Keeps, directory_map, keeps_moved, moved_else, quota_moved, segment_map, volume_map}
-use Rattle.flat_model.proofs.KeepLaws.{keeps_length, keeps_one}
+use Rattle.flat_store.proofs.Prelude.{◌≡◌, ◌≢◌, ℕ, ◌<◌, Bool, true, false, cond, eqb, List, [], ◌∷◌, map, refl, sym, ap, subst, ◌∙◌, arith, inl, inr, count_by, nat_le, cases_Bool, cases_eq, nat_tests, Changes, Plan, with_moved, Node, entries_on, has_directory, taken_on, volume_in, with_node, has_segment, is_stored, is_stored_from, Store, records_of, entries_of, entries_mapped, field_mapped, no_directory, stored_from, AreFlat, AreInside, Held, Holds, pages_in, Keeps, directory_map, keeps_moved, moved_else, quota_moved, segment_map, volume_map, keeps_length, keeps_one}
 
 -- nodes that lie on the same volumes and are of the same kinds
 pub record AreAlike (ns ms : List Node) : Type 0 where

@@ -1,8 +1,6 @@
 -- A reply is told by its code.
-use Rattle.std.proofs.Common.{◌≡◌, ℕ, eqb, if◌then◌else◌, List, [], ◌∷◌, get_or, refl, sym, ap, ◌∙◌}
-use Rattle.book.specs.declared.replies.Reply.{Reply}
+use Rattle.flat_store.proofs.Prelude.{◌≡◌, ℕ, eqb, if◌then◌else◌, List, [], ◌∷◌, get_or, refl, sym, ap, ◌∙◌, Reply, reply_code}
 use Rattle.book.specs.declared.replies.Reply.TheVariants as reply
-use Rattle.flat_store.specs.Replies.{reply_code}
 
 -- the replies of one word by their codes, with another where a reply has a number
 abbrev bare_replies : List Reply

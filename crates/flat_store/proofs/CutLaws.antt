@@ -1,18 +1,5 @@
 -- A segment is truncated.
-use Rattle.std.proofs.Common.{◌≡◌, ℕ, ◌+◌, ◌-◌, ◌*◌, ◌/◌, ◌%◌, ◌<◌, ◌≤◌, Bool, true, false, cond}
-use Rattle.std.proofs.Common.{eqb, ◌&&◌, List, length, get_or, Option, Some, None}
-use Rattle.std.proofs.Common.{is_some, IsTrue, ◌↔◌, refl, sym, ap, subst, ◌∙◌, arith}
-use Rattle.std.specs.Prelude.{nat_le}
-use Rattle.std.proofs.lemmas.Bool.Decides.{nat_tests}
-use Rattle.mword.specs.Words.{AreZero}
-use Rattle.script.specs.Plans.{Plan}
-use Rattle.flat_model.specs.Pages.{Words, is_stored, is_zero_page}
-use Rattle.flat_model.specs.Store.{Store}
-use Rattle.flat_model.proofs.CutLaws.{cleared_absent, cut_size, get_cut, zero_words_told}
-use Rattle.flat_model.proofs.DropLaws.{flip_page}
-use Rattle.flat_model.specs.Cuts.{cleared, cut_at, has_cleared}
-use Rattle.flat_store.specs.Shown.{Held, HoldPages, Holds, Paged, Cuts, page_at}
-use Rattle.flat_store.specs.Shown.{word_in}
+use Rattle.flat_store.proofs.Prelude.{◌≡◌, ℕ, ◌+◌, ◌-◌, ◌*◌, ◌/◌, ◌%◌, ◌<◌, ◌≤◌, Bool, true, false, cond, eqb, ◌&&◌, List, length, get_or, Option, Some, None, is_some, IsTrue, ◌↔◌, refl, sym, ap, subst, ◌∙◌, arith, nat_le, nat_tests, AreZero, Plan, Words, is_stored, is_zero_page, Store, cleared_absent, cut_size, get_cut, zero_words_told, flip_page, cleared, cut_at, has_cleared, Held, HoldPages, Holds, Paged, Cuts, page_at, word_in}
 
 -- ---- one page is cleared from a place on
 

@@ -1,24 +1,5 @@
 -- A page is stored no more.
-use Rattle.std.proofs.Common.{◌≡◌, ℕ, ◌+◌, ◌-◌, ◌/◌, ◌%◌, ◌<◌, ◌≤◌, Bool, true, false, not, cond, eqb, ◌&&◌, List}
-use Rattle.std.proofs.Common.{length, set, Option, Some, None, Result, is_some, refl, sym, ap, subst, ◌∙◌}
-use Rattle.std.proofs.Common.{arith}
-use Rattle.std.specs.Prelude.{nat_le}
-use Rattle.accounts.specs.Maps.{AccountMaps, Counts, count_of, Recounts}
-use Rattle.script.specs.Plans.{Plan}
-use Rattle.tree_model.specs.Tree.{Node, volume_in, taken_on}
-use Rattle.tree_model.specs.Trees.{has_segment}
-use Rattle.book.specs.declared.replies.Reply.{Reply}
-use Rattle.flat_model.specs.Branches.{segment_at}
-use Rattle.flat_model.specs.Pages.{Words, is_stored, without_stored, IsOnce}
-use Rattle.flat_model.specs.Store.{Store, records_of}
-use Rattle.flat_model.proofs.PageLaws.{is_stored-without, once_without}
-use Rattle.flat_model.proofs.CountLaws.{count_some, count_without, counted_less}
-use Rattle.flat_model.proofs.DropLaws.{IsBlank, all_between, between, flip_page}
-use Rattle.flat_model.proofs.DropLaws.{none_missing}
-use Rattle.flat_store.specs.Shown.{Gauge, gauge_at, drained, Paged, page_at, word_in, Puts, Held, pages_in, HoldPages}
-use Rattle.flat_model.specs.Cuts.{without_pages}
-use Rattle.flat_store.specs.Shown.{AreInside, Holds}
-use Rattle.tree_commands.specs.Shown.{ShowsTree}
+use Rattle.flat_store.proofs.Prelude.{◌≡◌, ℕ, ◌+◌, ◌-◌, ◌/◌, ◌%◌, ◌<◌, ◌≤◌, Bool, true, false, not, cond, eqb, ◌&&◌, List, length, set, Option, Some, None, Result, is_some, refl, sym, ap, subst, ◌∙◌, arith, nat_le, AccountMaps, Counts, count_of, Recounts, Plan, Node, volume_in, taken_on, has_segment, Reply, segment_at, Words, is_stored, without_stored, IsOnce, Store, records_of, is_stored-without, once_without, count_some, count_without, counted_less, IsBlank, all_between, between, flip_page, none_missing, Gauge, gauge_at, drained, Paged, page_at, word_in, Puts, Held, pages_in, HoldPages, without_pages, AreInside, Holds, ShowsTree}
 use Rattle.flat_store.proofs.GaugeLaws.{counts_less}
 
 -- the same holdings, as a function has them inside

@@ -1,32 +1,8 @@
 -- What a tree command does to the holdings that isn't refused.
-use Rattle.std.proofs.Common.{◌≡◌, ℕ, ℤ, Bool, true, false, cond, eqb, List, Ok, Err, refl, sym, ap, subst}
-use Rattle.std.proofs.Common.{◌∙◌, inl, inr}
-use Rattle.std.proofs.lemmas.Bool.{cases_Bool}
-use Rattle.std.specs.Int.{is_positive}
-use Rattle.std.specs.Int.RustNames.{unsigned_abs}
-use Rattle.mnames.specs.declared.modes.Mode.{Mode}
-use Rattle.mnames.specs.declared.rows.Row.{Row as Named}
-use Rattle.accounts.specs.Maps.{AccountMaps, Changes, with_row_in}
-use Rattle.script.specs.Plans.{Plan}
-use Rattle.book.specs.declared.replies.Reply.{Reply}
+use Rattle.flat_store.proofs.Prelude.{◌≡◌, ℕ, ℤ, Bool, true, false, cond, eqb, List, Ok, Err, refl, sym, ap, subst, ◌∙◌, inl, inr, cases_Bool, is_positive, unsigned_abs, Mode, Named, AccountMaps, Changes, with_row_in, Plan, Reply, Row, with_row, giver_of, getter_of, Node, above, has_segment, directory_at, segment_at, changed, takes_effect, is_stored_from, after_acl, after_move, nodes_moved, row_with, after_length, length_reply, Store, HasMoved, HasRowSet, Held, Holds, pages_in, not_first, keeps_length, keeps_one, keeps_rows}
 use Rattle.book.specs.declared.replies.Reply.TheVariants as reply
-use Rattle.tree_model.specs.Access.{Row, with_row}
-use Rattle.tree_model.specs.Quotas.{giver_of, getter_of}
-use Rattle.tree_model.specs.Tree.{Node, above}
-use Rattle.tree_model.specs.Trees.{has_segment}
-use Rattle.flat_model.specs.Branches.{directory_at, segment_at, changed}
-use Rattle.flat_model.specs.Commands.{takes_effect}
-use Rattle.flat_model.specs.Pages.{is_stored_from}
-use Rattle.flat_model.specs.Rights.{after_acl, after_move, moved, nodes_moved, row_with}
-use Rattle.flat_model.specs.Sizes.{after_length, length_reply}
-use Rattle.flat_model.specs.Store.{Store}
-use Rattle.tree_commands.specs.Shown.{HasMoved, HasRowSet}
-use Rattle.flat_store.specs.Shown.{Held, Holds, pages_in}
-use Rattle.flat_store.proofs.ChangeLaws.{alike_map, changed_shown, flat_alike, inside_alike}
-use Rattle.flat_store.proofs.ChangeLaws.{length_flat, length_inside, moved_alike, moved_pages}
-use Rattle.flat_store.proofs.ChangeLaws.{pages_map, with_length}
-use Rattle.flat_model.proofs.TreeReplies.{not_first}
-use Rattle.flat_model.proofs.KeepLaws.{keeps_length, keeps_one, keeps_rows}
+use Rattle.flat_model.specs.Rights.{moved}
+use Rattle.flat_store.proofs.ChangeLaws.{alike_map, changed_shown, flat_alike, inside_alike, length_flat, length_inside, moved_alike, moved_pages, pages_map, with_length}
 
 -- holdings whose accounts are as they were
 same_shown : (p : Plan) (s : Store) (h k : Held) → Holds p h s → k.accounts ≡ h.accounts

@@ -1,21 +1,6 @@
 -- Entries of a map that lie in a range leave it, one after the other.
-use Rattle.std.proofs.Common.{◌≡◌, ℕ, suc, ◌+◌, Bool, true, false, not, cond, List, [], ◌∷◌, ◌++◌, length}
-use Rattle.std.proofs.Common.{take, drop}
-use Rattle.std.proofs.Common.{filter, Option, Some, None, Bor, MutBor, All, refl, sym, ap, subst, ◌∙◌, arith}
+use Rattle.flat_store.proofs.Prelude.{◌≡◌, ℕ, suc, ◌+◌, Bool, true, false, not, cond, List, [], ◌∷◌, ◌++◌, length, take, drop, filter, Option, Some, None, Bor, MutBor, All, refl, sym, ap, subst, ◌∙◌, arith, MatchBool, Ordering, Bound, BTreeMap, keys_of, CalledAtPair, RemovesKey, MatchOption, option_to_list, Yields, ExtractsNext, ExtractsIf, extract_if_rest, ExtractIf, take-append-drop, drop-drop, length-append, filter-append, filter_passes, All-head, All-tail}
 use denote.Param.Members.{Mut}
-use Rattle.std.specs.Bool.{MatchBool}
-use Rattle.std.specs.declared.cmp.Ordering.{Ordering}
-use Rattle.std.specs.declared.ops.Bound.{Bound}
-use Rattle.std.specs.BTreeMap.{BTreeMap}
-use Rattle.std.specs.Map.{keys_of}
-use Rattle.std.specs.Map.Calls.{CalledAtPair, RemovesKey}
-use Rattle.std.specs.Option.{MatchOption, option_to_list}
-use Rattle.std.specs.Iterator.{Yields}
-use Rattle.std.specs.List.Retain.{ExtractsNext}
-use Rattle.std.specs.BTreeMap.ExtractIf.{ExtractsIf, extract_if_rest}
-use Rattle.std.specs.declared.collections.btree_map.ExtractIf.{ExtractIf}
-use Rattle.std.proofs.lemmas.List.{take-append-drop, drop-drop, length-append}
-use Rattle.std.proofs.lemmas.List.Elements.{filter-append, filter_passes, All-head, All-tail}
 
 -- ---- what a closure that picks each entry is asked of
 

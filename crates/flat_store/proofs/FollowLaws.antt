@@ -1,21 +1,6 @@
 -- What an entry does to the store that is shown.
-use Rattle.std.proofs.Common.{◌≡◌, ℕ, ◌+◌, ◌<◌, ◌^◌, Bool, true, false, eqb, List, set, Option, Some, None, IsTrue, ◌↔◌}
-use Rattle.std.proofs.Common.{◌⊎◌, refl, sym, ap, subst, ◌∙◌, inl, inr}
-use Rattle.std.proofs.lemmas.List.{length-set}
-use Rattle.script.specs.Plans.{Plan, command_at}
-use Rattle.script.specs.declared.commands.Command.{Command}
-use Rattle.book.specs.declared.entries.Entry.{Entry}
+use Rattle.flat_store.proofs.Prelude.{◌≡◌, ℕ, ◌+◌, ◌<◌, ◌^◌, Bool, true, false, eqb, List, set, Option, Some, None, IsTrue, ◌↔◌, ◌⊎◌, refl, sym, ap, subst, ◌∙◌, inl, inr, length-set, Plan, command_at, Command, Entry, Reply, after_command, gone_on, reply_to_command, takes_effect, IsAnswer, IsLawful, IsLawfulDo, MayAnswerDevice, MayAnswerDue, MayFault, MayRelease, after_do, after_entry, after_fault, MayMove, is_held_back, moved, without_stored, Progress, Store, progress_of, with_progress, Holds, IsReached, IsShown, Kept, Shows, answered, progress_at, place_fits, place_within, answered_advances, reached_fault, reached_on}
 use Rattle.book.specs.declared.entries.Entry.TheVariants as entry
-use Rattle.book.specs.declared.replies.Reply.{Reply}
-use Rattle.flat_model.specs.Commands.{after_command, gone_on, reply_to_command, takes_effect}
-use Rattle.flat_model.specs.Legal.{IsAnswer, IsLawful, IsLawfulDo, MayAnswerDevice, MayAnswerDue, MayFault, MayRelease}
-use Rattle.flat_model.specs.Legal.{after_do, after_entry, after_fault}
-use Rattle.flat_model.specs.Moves.{MayMove, is_held_back, moved}
-use Rattle.flat_model.specs.Pages.{without_stored}
-use Rattle.flat_model.specs.Store.{Progress, Store, progress_of, with_progress}
-use Rattle.flat_store.specs.Shown.{Holds, IsReached, IsShown, Kept, Shows, answered, progress_at}
-use Rattle.flat_model.proofs.PlaceLaws.{place_fits, place_within}
-use Rattle.flat_model.proofs.ReachLaws.{answered_advances, reached_fault, reached_on}
 use Rattle.flat_store.proofs.StoreLaws.{holds_beside}
 
 -- an answer that took effect is the flat store's, and wasn't held back

@@ -1,9 +1,5 @@
 -- Gauges by their number.
-use Rattle.std.proofs.Common.{◌≡◌, ℕ, suc, zero, ◌+◌, ◌-◌, Bool, true, false, cond, eqb, List, [], ◌∷◌, set, get_or}
-use Rattle.std.proofs.Common.{refl, sym, ap, ◌∙◌, arith, inl, inr}
-use Rattle.std.proofs.lemmas.Bool.{cases_eq}
-use Rattle.std.proofs.lemmas.Bool.Decides.{nat_tests}
-use Rattle.flat_store.specs.Shown.{Gauge, gauge_at, filled, drained}
+use Rattle.flat_store.proofs.Prelude.{◌≡◌, ℕ, suc, zero, ◌+◌, ◌-◌, Bool, true, false, cond, eqb, List, [], ◌∷◌, set, get_or, refl, sym, ap, ◌∙◌, arith, inl, inr, cases_eq, nat_tests, Gauge, gauge_at, filled, drained}
 
 -- what stands at a place once one is changed, also where none is there
 pub set_here : {A : Type 0} (f : A → A) (d : A) (xs : List A) (i j : ℕ) → f d ≡ d

@@ -1,3 +1,4 @@
+mod Prelude
 pub mod BootLaws
 pub mod ChangeLaws
 pub mod CodeLaws

@@ -1,27 +1,7 @@
 -- A directory or a segment is made.
-use Rattle.std.proofs.Common.{◌≡◌, ℕ, ◌+◌, Bool, true, false, cond, eqb, List, [], ◌∷◌, ◌++◌, set, Some, None, Ok, Err}
-use Rattle.std.proofs.Common.{refl, sym, ap, subst, ◌∙◌, arith, inl, inr}
-use Rattle.std.proofs.lemmas.Bool.{cases_Bool}
-use Rattle.std.proofs.lemmas.Bool.Decides.{nat_tests}
-use Rattle.std.proofs.lemmas.List.Sums.{sum_by-cons}
-use Rattle.accounts.specs.Maps.{Gains, branch_of}
-use Rattle.dir_tree.specs.declared.node.NewNode.{NewNode}
-use Rattle.script.specs.Plans.{Plan}
-use Rattle.book.specs.declared.replies.Reply.{Reply}
+use Rattle.flat_store.proofs.Prelude.{◌≡◌, ℕ, ◌+◌, Bool, true, false, cond, eqb, List, [], ◌∷◌, ◌++◌, set, Some, None, Ok, Err, refl, sym, ap, subst, ◌∙◌, arith, inl, inr, cases_Bool, nat_tests, sum_by-cons, Gains, Plan, Reply, Row, Node, entries_on, has_directory, node_in, has_segment, node_at, parts_of, takes_effect, after_make, made_at, made_in, made_of, make_at, make_in, make_reply, is_stored, Store, entries_of, records_of, taken_new, AreFlat, AreInside, Gauge, gauge_at, filled, is_full, Held, HoldPages, Holds, pages_in, parts_are}
 use Rattle.book.specs.declared.replies.Reply.TheVariants as reply
-use Rattle.tree_model.specs.Access.{Row}
-use Rattle.tree_model.specs.Tree.{Node, entries_on, has_directory, node_in}
-use Rattle.tree_model.specs.Trees.{has_segment}
-use Rattle.flat_model.specs.Branches.{node_at, parts_of}
-use Rattle.flat_model.specs.Commands.{takes_effect}
-use Rattle.flat_model.specs.Making.{after_make, made_at, made_in, made_of, make_at, make_in, make_reply}
-use Rattle.flat_model.specs.Pages.{is_stored}
-use Rattle.flat_model.specs.Store.{Store, entries_of, records_of}
-use Rattle.flat_model.proofs.CountLaws.{taken_new}
-use Rattle.flat_store.specs.Shown.{AreFlat, AreInside, Gauge, gauge_at, filled, is_full, Held, HoldPages, Holds}
-use Rattle.flat_store.specs.Shown.{pages_in}
 use Rattle.flat_store.proofs.GaugeLaws.{counts_more}
-use Rattle.flat_model.proofs.TreeReplies.{parts_are}
 
 -- no segment where there is no node
 pub no_segment : (ns : List Node) (u : ℕ) → node_in ns u ≡ None → has_segment ns u ≡ false

@@ -1,33 +1,8 @@
 -- A segment moves to another volume.
-use Rattle.std.proofs.Common.{◌≡◌, ◌≢◌, ℕ, ◌+◌, ◌*◌, ◌/◌, ◌-◌, ◌<◌, ◌≤◌, Bool, true, false, not, ◌&&◌, cond}
-use Rattle.std.proofs.Common.{eqb, List, [], ◌∷◌, Option, Some, None, Result, Ok, Err, is_ok, refl, sym, ap, subst}
-use Rattle.std.proofs.Common.{◌∙◌, arith, inl, inr, is_some, length}
-use Rattle.std.specs.Prelude.{count_by, nat_le, nat_lt}
-use Rattle.std.proofs.lemmas.Bool.{cases_Bool, cases_eq}
-use Rattle.std.proofs.lemmas.Bool.Decides.{nat_tests}
-use Rattle.std.proofs.lemmas.List.Sums.{sum_by-cons}
-use Rattle.accounts.specs.Maps.{Rehomes, count_of}
-use Rattle.quota_cells.specs.declared.Full.{Full}
-use Rattle.quota_cells.specs.Scratch.{charge_answer}
-use Rattle.script.specs.Plans.{Plan, command_at, who_of}
-use Rattle.script.specs.References.{permits, reference_of}
-use Rattle.script.specs.declared.commands.Command.{Command}
-use Rattle.script.specs.declared.commands.Reference.{Reference}
-use Rattle.script.specs.declared.commands.RefKind.{RefKind}
-use Rattle.tree_model.specs.Access.{access_of}
-use Rattle.tree_model.specs.Tree.{Node, account_of, entries_on, has_directory, node_in, taken_on, volume_in, with_node}
-use Rattle.tree_model.specs.Trees.{AreBelow, IsTree, has_segment}
-use Rattle.flat_model.specs.Moves.{MayMove, awaits_by, awaits_in, awaits_move, is_held_at, is_uid, lacks_at, moved}
-use Rattle.flat_model.specs.References.{is_used_up, is_volume_full, stores_page}
-use Rattle.flat_model.specs.Rooms.{has_room, room_for}
-use Rattle.flat_model.specs.Store.{Store, entries_of, known_uid, progress_of, records_of}
-use Rattle.flat_model.proofs.FieldLaws.{field_found, field_kept, field_mapped}
-use Rattle.flat_store.specs.Roomy.{is_roomy, shifted}
-use Rattle.flat_store.specs.Shown.{AreFlat, Gauge, Held, HoldPages, Holds, gauge_at, is_full, pages_in}
+use Rattle.flat_store.proofs.Prelude.{◌≡◌, ◌≢◌, ℕ, ◌+◌, ◌*◌, ◌/◌, ◌-◌, ◌<◌, ◌≤◌, Bool, true, false, not, ◌&&◌, cond, eqb, List, [], ◌∷◌, Option, Some, None, Result, Ok, Err, is_ok, refl, sym, ap, subst, ◌∙◌, arith, inl, inr, is_some, length, count_by, nat_le, nat_lt, cases_Bool, cases_eq, nat_tests, sum_by-cons, Rehomes, count_of, Full, charge_answer, Plan, command_at, who_of, permits, reference_of, Command, Reference, RefKind, access_of, Node, account_of, entries_on, has_directory, node_in, taken_on, volume_in, with_node, AreBelow, IsTree, has_segment, MayMove, awaits_by, awaits_in, awaits_move, is_held_at, is_uid, lacks_at, moved, is_used_up, is_volume_full, stores_page, room_for, Store, entries_of, known_uid, progress_of, records_of, field_found, field_kept, field_mapped, is_roomy, shifted, AreFlat, Gauge, Held, HoldPages, Holds, gauge_at, is_full, pages_in, older, found_uid, room_parts, and_right}
+use Rattle.flat_model.specs.Rooms.{has_room}
 use Rattle.flat_store.proofs.NodeLaws.{has_pages}
 use Rattle.flat_store.proofs.RoomyLaws.{counts_shifted, first_told}
-use Rattle.tree_model.proofs.SharedLaws.{older, found_uid}
-use Rattle.laws.proofs.Bools.{room_parts, and_right}
 
 -- ---- the nodes
 

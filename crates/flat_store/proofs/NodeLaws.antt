@@ -1,12 +1,5 @@
 -- What is read of a node that is there.
-use Rattle.std.proofs.Common.{◌≡◌, ℕ, Bool, true, false, List, Some, None, not, ◌<◌, arith, refl, ap}
-use Rattle.std.proofs.Common.{◌∙◌, subst}
-use Rattle.script.specs.Plans.{Plan}
-use Rattle.tree_model.specs.Tree.{Node, has_directory, node_in}
-use Rattle.tree_model.specs.Trees.{has_segment}
-use Rattle.flat_model.specs.Store.{Store}
-use Rattle.flat_model.proofs.FieldLaws.{field_found, field_none}
-use Rattle.flat_store.specs.Shown.{AreFlat, Held, Holds, pages_in}
+use Rattle.flat_store.proofs.Prelude.{◌≡◌, ℕ, Bool, true, false, List, Some, None, not, ◌<◌, arith, refl, ap, ◌∙◌, subst, Plan, Node, has_directory, node_in, has_segment, Store, field_found, field_none, AreFlat, Held, Holds, pages_in}
 
 pub pages_found : (ns : List Node) (u : ℕ) (n : Node) → node_in ns u ≡ Some n → n.pages ≡ pages_in ns u
 pages_found ns u n = field_found (λ (xs : List Node). pages_in xs u) (λ (x : Node). x.pages) u (λ m xs. refl) ns n

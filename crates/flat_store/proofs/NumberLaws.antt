@@ -1,10 +1,5 @@
 -- The least number that stands for nothing.
-use Rattle.std.proofs.Common.{◌≡◌, ℕ, ◌<◌, ◌≤◌, true, false, List, length, Option, Some, None}
-use Rattle.std.proofs.Common.{get_or, is_some, is_none, refl, sym, ap, ◌∙◌, arith, inl, inr}
-use Rattle.std.proofs.lemmas.Bool.{cases_eq, cases_lt}
-use Rattle.std.proofs.lemmas.List.Quantifiers.{position-Some}
-use Rattle.known_segs.specs.Known.{least_free, uid_of}
-use Rattle.flat_model.proofs.NumberLaws.{free_none}
+use Rattle.flat_store.proofs.Prelude.{◌≡◌, ℕ, ◌<◌, ◌≤◌, true, false, List, length, Option, Some, None, get_or, is_some, is_none, refl, sym, ap, ◌∙◌, arith, inl, inr, cases_eq, cases_lt, position-Some, least_free, uid_of, free_none}
 
 some_is : (o : Option ℕ) → is_some o ≡ true → is_none o ≡ false
 some_is None e = cc

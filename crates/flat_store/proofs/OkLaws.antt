@@ -1,5 +1,5 @@
 -- What follows from a fact on success.
-use Rattle.std.proofs.Common.{◌≡◌, true, Result, Ok, Err, OnOk, is_ok}
+use Rattle.flat_store.proofs.Prelude.{◌≡◌, true, Result, Ok, Err, OnOk, is_ok}
 
 pub ok_of : {T E : Type 0} (r : Result T E) (P : Type 0) → OnOk r P → is_ok r ≡ true → P
 ok_of (Ok x) P h e = h

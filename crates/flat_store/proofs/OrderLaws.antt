@@ -1,24 +1,5 @@
 -- Keys of two numbers in the order of a map: which lie in a range, and what the first one from a key on tells.
-use Rattle.std.proofs.Common.{◌≡◌, ◌≤◌, ℕ, Bool, true, false, not, cond, eqb, leb, ltb}
-use Rattle.std.proofs.Common.{◌&&◌, ◌||◌, List, [], ◌∷◌}
-use Rattle.std.proofs.Common.{Option, Some, None, is_some, refl, sym, ap, subst, ◌∙◌, arith, inl, inr, IsSome}
-use Rattle.std.specs.Bool.{Decides}
-use Rattle.std.specs.BTreeMap.{BTreeMap, get}
-use Rattle.std.specs.BTreeMap.Range.{IsLeBy, IsRangeOf, range_contains}
-use Rattle.std.specs.List.{AllByRecursion, slice_get}
-use Rattle.std.specs.List.Sorted.{IsStrictlySortedBy}
-use Rattle.std.specs.Map.{keys_of, lookup}
-use Rattle.std.specs.Option.{IfSome}
-use Rattle.std.specs.Ordering.{is_eq, is_le, nat_cmp, ordering_then}
-use Rattle.std.specs.declared.cmp.Ordering.TheVariants.{Less}
-use Rattle.std.specs.declared.ops.Bound.TheVariants.{Included, Excluded, Unbounded}
-use Rattle.std.proofs.lemmas.Bool.Decides.{Decides-eqb, nat_tests}
-use Rattle.std.proofs.lemmas.Map.Keys.{sorted_head, sorted_tail}
-use Rattle.flat_model.proofs.DropLaws.{flip_page}
-use Rattle.flat_model.proofs.KeyLaws.{key_is}
-use Rattle.flat_model.proofs.PairLaws.{by_both, compare, first_le, same_le, second_le}
-use Rattle.flat_model.specs.Pages.{is_page, is_stored, IsOnce}
-use Rattle.flat_store.specs.Shown.{Paged, is_key, page_at}
+use Rattle.flat_store.proofs.Prelude.{◌≡◌, ◌≤◌, ℕ, Bool, true, false, not, cond, eqb, leb, ltb, ◌&&◌, ◌||◌, List, [], ◌∷◌, Option, Some, None, is_some, refl, sym, ap, subst, ◌∙◌, arith, inl, inr, IsSome, Decides, BTreeMap, get, IsLeBy, IsRangeOf, range_contains, AllByRecursion, slice_get, IsStrictlySortedBy, keys_of, lookup, IfSome, is_eq, is_le, nat_cmp, ordering_then, Less, Included, Excluded, Unbounded, Decides-eqb, nat_tests, sorted_head, sorted_tail, flip_page, key_is, by_both, compare, first_le, same_le, second_le, is_page, is_stored, IsOnce, Paged, is_key, page_at}
 
 -- ---- a range of pages of one segment
 

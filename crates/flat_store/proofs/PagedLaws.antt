@@ -1,12 +1,5 @@
 -- Pages in a map by uid and number.
-use Rattle.std.proofs.Common.{◌≡◌, ℕ, Bool, cond, List, Option, Some, None, IfSome, IsSome, IsTrue, set}
-use Rattle.std.proofs.Common.{replicate, ◌↔◌, Bor, MutBor, refl, sym, ap, subst, ◌∙◌}
-use Rattle.std.specs.Option.{option_copied, option_copied_mut}
-use Rattle.std.specs.Map.{lookup}
-use Rattle.mword.specs.Words.{AreZero}
-use Rattle.flat_model.specs.Cuts.{cut_at}
-use Rattle.flat_model.proofs.KeyLaws.{key_is}
-use Rattle.flat_store.specs.Shown.{Paged, is_key, page_at, words_in, Puts, Cuts}
+use Rattle.flat_store.proofs.Prelude.{◌≡◌, ℕ, Bool, cond, List, Option, Some, None, IfSome, IsSome, IsTrue, set, replicate, ◌↔◌, Bor, MutBor, refl, sym, ap, subst, ◌∙◌, option_copied, option_copied_mut, lookup, AreZero, cut_at, key_is, Paged, is_key, page_at, words_in, Puts, Cuts}
 
 pub puts : (old new : Paged) (u q : ℕ) (w : Option (List ℕ))
     → ((y : ℕ × ℕ) → lookup (is_key y.0 y.1) new ≡ cond (is_key u q y) w (lookup (is_key y.0 y.1) old))

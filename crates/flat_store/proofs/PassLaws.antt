@@ -1,13 +1,5 @@
 -- How many stored pages pass a test.
-use Rattle.std.proofs.Common.{◌≡◌, ◌<◌, ◌≤◌, ℕ, zero, suc, ◌+◌, Bool, true, false, not, cond, eqb, leb, ltb, ◌&&◌, ◌||◌}
-use Rattle.std.proofs.Common.{List, [], ◌∷◌, refl, sym, ap, ◌∙◌, arith, inl, inr}
-use Rattle.std.specs.Prelude.{count_by}
-use Rattle.std.proofs.lemmas.Bool.Decides.{eqb_tells, nat_tests}
-use Rattle.std.proofs.lemmas.List.Sums.{sum_by-cons}
-use Rattle.flat_model.proofs.CountLaws.{count_without}
-use Rattle.flat_model.proofs.DropLaws.{flip_page}
-use Rattle.flat_model.proofs.PageLaws.{is_stored-without, once_without, without_first, without_none}
-use Rattle.flat_model.specs.Pages.{is_page, is_stored, without_stored, IsOnce}
+use Rattle.flat_store.proofs.Prelude.{◌≡◌, ◌<◌, ◌≤◌, ℕ, zero, suc, ◌+◌, Bool, true, false, not, cond, eqb, leb, ltb, ◌&&◌, ◌||◌, List, [], ◌∷◌, refl, sym, ap, ◌∙◌, arith, inl, inr, count_by, eqb_tells, nat_tests, sum_by-cons, count_without, flip_page, is_stored-without, once_without, without_first, without_none, is_page, is_stored, without_stored, IsOnce}
 
 count-cons : (t : ℕ × ℕ → Bool) (x : ℕ × ℕ) (xs : List (ℕ × ℕ)) → count_by t (x ∷ xs)
     ≡ cond {A = ℕ} (t x) 1 0 + count_by t xs

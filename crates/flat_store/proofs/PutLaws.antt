@@ -1,28 +1,6 @@
 -- A word is written.
-use Rattle.std.proofs.Common.{◌≡◌, ◌≢◌, ℕ, ◌+◌, ◌/◌, ◌%◌, ◌<◌, Bool, true, false, not, cond, eqb, ◌&&◌, ◌||◌}
-use Rattle.std.proofs.Common.{List, length, set, get_or, Option, Some, None, Result, Ok, Err, is_some, refl}
-use Rattle.std.proofs.Common.{sym, ap, subst, ◌∙◌, arith, inl, inr, ◌⊎◌}
-use Rattle.std.specs.Prelude.{count_by}
-use Rattle.std.proofs.lemmas.Bool.{cases_eq}
-use Rattle.std.proofs.lemmas.Bool.Decides.{nat_tests}
-use Rattle.std.proofs.lemmas.List.{get_or-set_same, get_or-set_other, length-set}
-use Rattle.accounts.specs.Maps.{AccountMaps, Counts, count_of, Recounts}
-use Rattle.quota_cells.specs.declared.Full.{Full}
-use Rattle.quota_cells.specs.Scratch.{charge_answer}
-use Rattle.script.specs.Plans.{Plan}
-use Rattle.script.specs.References.{new_word}
-use Rattle.script.specs.declared.commands.RefKind.{RefKind}
-use Rattle.tree_model.specs.Tree.{Node, volume_in, taken_on}
-use Rattle.tree_model.specs.Trees.{has_segment}
-use Rattle.flat_model.specs.Pages.{Words, is_page, is_stored, with_stored, with_word}
-use Rattle.flat_model.specs.References.{is_used_up, is_volume_full, written}
-use Rattle.flat_model.specs.Store.{Store, records_of}
-use Rattle.flat_model.proofs.PageLaws.{is_stored-with, once_with, with_old}
-use Rattle.flat_model.proofs.CountLaws.{count_with}
-use Rattle.flat_store.specs.Shown.{Gauge, gauge_at, filled, Paged, page_at, word_in, words_in, Puts, Held, pages_in}
-use Rattle.flat_store.specs.Shown.{HoldPages, AreInside, Holds, IsHeld, has_room}
+use Rattle.flat_store.proofs.Prelude.{◌≡◌, ◌≢◌, ℕ, ◌+◌, ◌/◌, ◌%◌, ◌<◌, Bool, true, false, not, cond, eqb, ◌&&◌, ◌||◌, List, length, set, get_or, Option, Some, None, Result, Ok, Err, is_some, refl, sym, ap, subst, ◌∙◌, arith, inl, inr, ◌⊎◌, count_by, cases_eq, nat_tests, get_or-set_same, get_or-set_other, length-set, AccountMaps, Counts, count_of, Recounts, Full, charge_answer, Plan, new_word, RefKind, Node, volume_in, taken_on, has_segment, Words, is_page, is_stored, with_stored, with_word, is_used_up, is_volume_full, written, Store, records_of, is_stored-with, once_with, with_old, count_with, Gauge, gauge_at, filled, Paged, page_at, word_in, words_in, Puts, Held, pages_in, HoldPages, AreInside, Holds, IsHeld, has_room, zeros_read}
 use Rattle.flat_store.proofs.GaugeLaws.{counts_more}
-use Rattle.laws.proofs.Lists.{zeros_read}
 
 -- two tests for the same word
 flip_word : (u o v x : ℕ) → (eqb v u && eqb x o) ≡ (eqb u v && eqb o x)

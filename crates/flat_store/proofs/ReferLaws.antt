@@ -1,25 +1,6 @@
 -- What a reference does that isn't refused.
-use Rattle.std.proofs.Common.{◌≡◌, ℕ, ◌*◌, ◌/◌, Bool, true, false, not, cond, eqb, ◌&&◌, ◌||◌, Option, Some, None}
-use Rattle.std.proofs.Common.{is_some, refl, sym, ap, subst, ◌∙◌}
-use Rattle.std.specs.Prelude.{is_none, nat_le}
-use Rattle.script.specs.Plans.{Plan, who_of}
-use Rattle.script.specs.declared.commands.RefKind.{RefKind}
-use Rattle.book.specs.declared.replies.Reply.{Reply}
+use Rattle.flat_store.proofs.Prelude.{◌≡◌, ℕ, ◌*◌, ◌/◌, Bool, true, false, not, cond, eqb, ◌&&◌, ◌||◌, Option, Some, None, is_some, refl, sym, ap, subst, ◌∙◌, is_none, nat_le, Plan, who_of, RefKind, Reply, access_of, Node, node_in, volume_in, takes_effect, is_held_at, is_held_in, is_stored, alters, new_word, permits, is_out_of_room, is_used_up, is_volume_full, reply_at, reply_in, room_reply, stores_page, word_reply, written, written_by, room_for, Store, Held, Holds, has_room, may_write, volume_found, not_first, found_uid}
 use Rattle.book.specs.declared.replies.Reply.TheVariants as reply
-use Rattle.tree_model.specs.Access.{access_of}
-use Rattle.tree_model.specs.Tree.{Node, node_in, volume_in}
-use Rattle.flat_model.specs.Commands.{takes_effect}
-use Rattle.flat_model.specs.Moves.{is_held_at, is_held_in}
-use Rattle.flat_model.specs.Pages.{is_stored}
-use Rattle.script.specs.References.{alters, new_word, permits}
-use Rattle.flat_model.specs.References.{is_out_of_room, is_used_up, is_volume_full, reply_at, reply_in}
-use Rattle.flat_model.specs.References.{room_reply, stores_page, word_reply, written, written_by}
-use Rattle.flat_model.specs.Rooms.{room_for}
-use Rattle.flat_model.specs.Store.{Store}
-use Rattle.flat_store.specs.Shown.{Held, Holds, has_room, may_write}
-use Rattle.flat_model.proofs.NodeLaws.{volume_found}
-use Rattle.flat_model.proofs.TreeReplies.{not_first}
-use Rattle.tree_model.proofs.SharedLaws.{found_uid}
 
 -- a volume isn't full where that would be answered, or hold the answer back
 not_full : (full : Bool) (room : Option ℕ) → (full && is_none room) ≡ false → (full && is_some room) ≡ false

@@ -1,18 +1,5 @@
 -- A page of zeros is given up; the zeros of a page that is cut.
-use Rattle.std.proofs.Common.{◌≡◌, ℕ, ◌+◌, ◌*◌, ◌/◌, ◌%◌, ◌<◌, ◌≤◌, Bool, true, false, cond, eqb, ◌&&◌, List, Some, Option}
-use Rattle.std.proofs.Common.{None, get_or, IsTrue, ◌↔◌, is_some, refl, sym, ap, ◌∙◌, arith, inl, inr}
-use Rattle.std.specs.Bool.{Decides}
-use Rattle.std.specs.Prelude.{nat_le, slice_index}
-use Rattle.std.proofs.lemmas.Bool.{cases_Bool}
-use Rattle.std.proofs.lemmas.Bool.Decides.{nat_tests}
-use Rattle.mword.specs.Words.{AreZero}
-use Rattle.script.specs.Plans.{Plan}
-use Rattle.flat_model.specs.Legal.{MayRelease}
-use Rattle.flat_model.specs.Pages.{Words, is_zero_page, without_stored, without_words}
-use Rattle.flat_model.specs.Store.{Store}
-use Rattle.flat_model.proofs.ZeroLaws.{words_zero, zero_words}
-use Rattle.flat_model.specs.Cuts.{without_pages}
-use Rattle.flat_store.specs.Shown.{Held, Holds, page_at, word_in}
+use Rattle.flat_store.proofs.Prelude.{◌≡◌, ℕ, ◌+◌, ◌*◌, ◌/◌, ◌%◌, ◌<◌, ◌≤◌, Bool, true, false, cond, eqb, ◌&&◌, List, Some, Option, None, get_or, IsTrue, ◌↔◌, is_some, refl, sym, ap, ◌∙◌, arith, inl, inr, Decides, nat_le, slice_index, cases_Bool, nat_tests, AreZero, Plan, MayRelease, Words, is_zero_page, without_stored, without_words, Store, words_zero, zero_words, without_pages, Held, Holds, page_at, word_in}
 use Rattle.flat_store.proofs.CutLaws.{no_words, zero_told}
 
 pub may_release : (p : Plan) (s : Store) (h : Held) (u q : ℕ) (ws : List ℕ) (r : Bool) → Holds p h s

@@ -1,25 +1,6 @@
 -- A directory or a segment is deleted.
-use Rattle.std.proofs.Common.{◌≡◌, ◌≢◌, ℕ, ◌<◌, Bool, true, false, eqb, not, ◌&&◌, List}
-use Rattle.std.proofs.Common.{set, Some, is_some, refl, sym, ap, subst, ◌∙◌, arith, inl, inr}
-use Rattle.std.specs.Prelude.{nat_le}
-use Rattle.std.proofs.lemmas.Bool.{cases_eq}
-use Rattle.std.proofs.lemmas.Bool.Decides.{nat_tests}
-use Rattle.accounts.specs.Maps.{count_of, Loses}
-use Rattle.script.specs.Plans.{Plan}
-use Rattle.tree_model.specs.Tree.{Node, entries_on, has_directory, node_in, volume_in}
-use Rattle.tree_model.specs.Tree.{without_node}
-use Rattle.tree_model.specs.Trees.{IsTree}
-use Rattle.flat_model.specs.Pages.{is_stored}
-use Rattle.flat_model.specs.Store.{Store, entries_of, records_of}
-use Rattle.flat_model.proofs.PageLaws.{is_stored-without}
-use Rattle.flat_store.specs.Shown.{AreFlat, AreInside, Gauge, gauge_at, drained, Held, Holds, page_at, pages_in}
-use Rattle.flat_model.specs.Cuts.{without_pages}
+use Rattle.flat_store.proofs.Prelude.{◌≡◌, ◌≢◌, ℕ, ◌<◌, Bool, true, false, eqb, not, ◌&&◌, List, set, Some, is_some, refl, sym, ap, subst, ◌∙◌, arith, inl, inr, nat_le, cases_eq, nat_tests, count_of, Loses, Plan, Node, entries_on, has_directory, node_in, volume_in, without_node, IsTree, is_stored, Store, entries_of, records_of, is_stored-without, AreFlat, AreInside, Gauge, gauge_at, drained, Held, Holds, page_at, pages_in, without_pages, field_left, volume_found, directory_gone, directory_left, none_counted, segment_left, taken_left, entries_less, some_there}
 use Rattle.flat_store.proofs.GaugeLaws.{counts_less}
-use Rattle.flat_model.proofs.FieldLaws.{field_left}
-use Rattle.flat_model.proofs.NodeLaws.{volume_found}
-use Rattle.flat_model.proofs.RemoveLaws.{directory_gone, directory_left, none_counted, segment_left, taken_left}
-use Rattle.flat_model.proofs.TreeLaws.{entries_less}
-use Rattle.tree_model.proofs.SharedLaws.{some_there}
 
 -- ---- what is left of the nodes
 

@@ -1,20 +1,5 @@
 -- What a reference is answered.
-use Rattle.std.proofs.Common.{◌≡◌, ℕ, ◌*◌, ◌/◌, ◌<◌, ◌==◌, Bool, true, false, not, ◌&&◌, Some, List, refl, sym, ap}
-use Rattle.std.proofs.Common.{◌∙◌, arith}
-use Rattle.std.specs.Prelude.{nat_le}
-use Rattle.std.proofs.lemmas.Bool.Decides.{nat_tests}
-use Rattle.script.specs.Plans.{Plan, who_of}
-use Rattle.script.specs.declared.commands.RefKind.{RefKind}
-use Rattle.book.specs.declared.replies.Reply.{Reply}
-use Rattle.tree_model.specs.Access.{access_of}
-use Rattle.tree_model.specs.Tree.{Node, node_in, quota_in}
-use Rattle.dir_tree.specs.Nodes.{as_term}
-use Rattle.dir_tree.specs.declared.node.Node.{Node as Branch}
-use Rattle.flat_model.specs.Pages.{is_stored}
-use Rattle.script.specs.References.{alters, new_word, permits}
-use Rattle.flat_model.specs.References.{reply_at, room_reply, stores_page, word_reply}
-use Rattle.flat_model.specs.Store.{Store}
-use Rattle.flat_store.specs.Shown.{page_reply}
+use Rattle.flat_store.proofs.Prelude.{◌≡◌, ℕ, ◌*◌, ◌/◌, ◌<◌, ◌==◌, Bool, true, false, not, ◌&&◌, Some, List, refl, sym, ap, ◌∙◌, arith, nat_le, nat_tests, Plan, who_of, RefKind, Reply, access_of, Node, node_in, quota_in, as_term, Branch, is_stored, alters, new_word, permits, reply_at, room_reply, stores_page, word_reply, Store, page_reply}
 
 -- whether a page is stored anew, by its word and whether it is stored
 pub stores_looked : (s : Store) (u o : ℕ) (how : RefKind) (w : ℕ) (stored r : Bool) → w ≡ s.words u o

@@ -1,20 +1,6 @@
 -- Gauges from one of which so much goes over to another, and which volume is the first with room.
-use Rattle.std.proofs.Common.{◌≡◌, ◌≢◌, ℕ, suc, zero, ◌+◌, ◌-◌, ◌<◌, ◌≤◌, Bool, true, false, cond, eqb}
-use Rattle.std.proofs.Common.{List, length, Option, Some, None, refl, sym, ap, ◌∙◌, arith, inl, inr}
-use Rattle.std.specs.Prelude.{IfNone, IfSome, nat_le, nat_lt}
-use Rattle.std.proofs.lemmas.Bool.{cases_eq}
-use Rattle.std.proofs.lemmas.Bool.Decides.{nat_tests}
-use Rattle.std.proofs.lemmas.List.{get_or_past}
-use Rattle.accounts.specs.Maps.{AccountMaps, HasColumns, count_of}
-use Rattle.quota_cells.specs.Laws.{look_absent}
-use Rattle.script.specs.Plans.{Plan}
-use Rattle.tree_model.specs.Tree.{volume_in}
-use Rattle.tree_model.specs.Trees.{has_segment}
-use Rattle.flat_model.specs.Rooms.{first_below, has_room, room_for}
-use Rattle.flat_model.specs.Store.{Store, records_of}
-use Rattle.flat_model.proofs.RoomLaws.{room_is, room_none}
-use Rattle.flat_store.specs.Roomy.{IsLeast, drained_by, filled_by, is_roomy, shifted, with_drained, with_filled}
-use Rattle.flat_store.specs.Shown.{Gauge, Held, Holds, gauge_at}
+use Rattle.flat_store.proofs.Prelude.{◌≡◌, ◌≢◌, ℕ, suc, zero, ◌+◌, ◌-◌, ◌<◌, ◌≤◌, Bool, true, false, cond, eqb, List, length, Option, Some, None, refl, sym, ap, ◌∙◌, arith, inl, inr, IfNone, IfSome, nat_le, nat_lt, cases_eq, nat_tests, get_or_past, AccountMaps, HasColumns, count_of, look_absent, Plan, volume_in, has_segment, first_below, room_for, Store, records_of, room_is, room_none, IsLeast, drained_by, filled_by, is_roomy, shifted, with_drained, with_filled, Gauge, Held, Holds, gauge_at}
+use Rattle.flat_model.specs.Rooms.{has_room}
 use Rattle.flat_store.proofs.GaugeLaws.{gauge, set_here}
 
 -- ---- gauges

@@ -1,33 +1,8 @@
 -- The pages of a segment that pass a test are stored no more, all at once.
-use Rattle.std.proofs.Common.{◌≡◌, ◌<◌, ◌≤◌, ℕ, ◌+◌, ◌-◌, ◌/◌, ◌%◌, Bool, true, false, not, cond, eqb, leb, ltb}
-use Rattle.std.proofs.Common.{◌&&◌, List, filter, length, set, Option, Some, None, is_some, refl, sym, ap, subst, ◌∙◌}
-use Rattle.std.proofs.Common.{arith, inl, inr}
-use Rattle.std.specs.Prelude.{count_by}
-use Rattle.std.specs.BTreeMap.Range.{range_contains}
-use Rattle.std.specs.List.Sorted.{IsStrictlySortedBy}
-use Rattle.std.specs.Map.{keys_of}
-use Rattle.std.specs.declared.ops.Bound.TheVariants.{Included, Excluded}
-use Rattle.std.proofs.lemmas.Bool.{cases_eq}
-use Rattle.std.proofs.lemmas.Bool.Decides.{leb_tells, nat_tests}
-use Rattle.std.proofs.lemmas.List.Elements.{filter_agree}
-use Rattle.std.proofs.lemmas.List.Filters.{length-filter_both}
-use Rattle.std.proofs.lemmas.List.Sums.{length-filter}
-use Rattle.std.proofs.lemmas.Map.Entries.{lookup-filter-keys}
-use Rattle.accounts.specs.Maps.{AccountMaps, Counts, count_of, Recounts}
-use Rattle.script.specs.Plans.{Plan}
-use Rattle.tree_model.specs.Tree.{Node, volume_in, taken_on}
-use Rattle.tree_model.specs.Trees.{has_segment}
-use Rattle.flat_model.specs.Cuts.{without_pages}
-use Rattle.flat_model.specs.Pages.{Words, is_stored, without_stored}
-use Rattle.flat_model.specs.Store.{Store, records_of}
-use Rattle.flat_model.proofs.KeyLaws.{key_is}
-use Rattle.flat_model.proofs.PageLaws.{is_stored-without, once_without}
-use Rattle.flat_store.specs.Shown.{Gauge, gauge_at, drained, Paged, is_key, page_at, pages_in, word_in, Sheds, Held}
-use Rattle.flat_store.specs.Shown.{HoldPages, Holds}
+use Rattle.flat_store.proofs.Prelude.{◌≡◌, ◌<◌, ◌≤◌, ℕ, ◌+◌, ◌-◌, ◌/◌, ◌%◌, Bool, true, false, not, cond, eqb, leb, ltb, ◌&&◌, List, filter, length, set, Option, Some, None, is_some, refl, sym, ap, subst, ◌∙◌, arith, inl, inr, count_by, range_contains, IsStrictlySortedBy, keys_of, Included, Excluded, cases_eq, leb_tells, nat_tests, filter_agree, length-filter_both, length-filter, lookup-filter-keys, AccountMaps, Counts, count_of, Recounts, Plan, Node, volume_in, taken_on, has_segment, without_pages, Words, is_stored, without_stored, Store, records_of, key_is, is_stored-without, once_without, Gauge, gauge_at, drained, Paged, is_key, page_at, pages_in, word_in, Sheds, Held, HoldPages, Holds, by_both}
 use Rattle.flat_store.proofs.DropLaws.{all_done, inside_without}
 use Rattle.flat_store.proofs.ExtractLaws.{length_passing}
 use Rattle.flat_store.proofs.GaugeLaws.{counts_less}
-use Rattle.flat_model.proofs.PairLaws.{by_both}
 use Rattle.flat_store.proofs.OrderLaws.{in_range, keys_once, keys_stored}
 use Rattle.flat_store.proofs.PassLaws.{count_less, few, none_counted, one_there, same_count}
 

@@ -1,14 +1,5 @@
 -- Stored pages from one on, and the length of a segment.
-use Rattle.std.proofs.Common.{◌≡◌, ℕ, Bool, true, false, refl, sym, ◌∙◌, arith, inl, inr}
-use Rattle.std.specs.Bool.{Decides}
-use Rattle.std.specs.Prelude.{nat_le}
-use Rattle.std.proofs.lemmas.Bool.{cases_Bool}
-use Rattle.std.proofs.lemmas.Bool.Decides.{nat_tests}
-use Rattle.script.specs.Plans.{Plan}
-use Rattle.flat_model.specs.Pages.{is_stored, is_stored_from}
-use Rattle.flat_model.specs.Store.{Store}
-use Rattle.flat_model.proofs.PageLaws.{stored_from, none_from}
-use Rattle.flat_store.specs.Shown.{Held, Holds}
+use Rattle.flat_store.proofs.Prelude.{◌≡◌, ℕ, Bool, true, false, refl, sym, ◌∙◌, arith, inl, inr, Decides, nat_le, cases_Bool, nat_tests, Plan, is_stored, is_stored_from, Store, stored_from, none_from, Held, Holds}
 use Rattle.flat_store.proofs.OrderLaws.{IsReached}
 
 stored_here : (p : Plan) (s : Store) (h : Held) (u from : ℕ) → Holds p h s → IsReached h.pages u from

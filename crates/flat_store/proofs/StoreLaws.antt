@@ -1,26 +1,6 @@
 -- What a process is answered, by what it knows.
-use Rattle.std.proofs.Common.{◌≡◌, ℕ, Bool, true, false, cond, zero, suc, ◌≤◌, [], ◌∷◌, arith, List, Option, Some, None}
-use Rattle.std.proofs.Common.{Result, Ok, Err, is_some, length, set, get_or, refl, sym, ap, subst, ◌∙◌}
-use Rattle.std.proofs.lemmas.List.{length-set}
-use Rattle.script.specs.Plans.{Plan}
-use Rattle.script.specs.References.{reference_of}
-use Rattle.script.specs.declared.commands.Command.{Command}
-use Rattle.script.specs.declared.commands.Reference.{Reference}
-use Rattle.book.specs.declared.replies.Reply.{Reply}
+use Rattle.flat_store.proofs.Prelude.{◌≡◌, ℕ, Bool, true, false, cond, zero, suc, ◌≤◌, [], ◌∷◌, arith, List, Option, Some, None, Result, Ok, Err, is_some, length, set, get_or, refl, sym, ap, subst, ◌∙◌, length-set, Plan, reference_of, Command, Reference, Reply, number_for, uid_of, with_number, without_number, Node, node_in, AccountMaps, ShowsTree, segment_at, after_initiate, after_terminate, initiated, initiate_of, initiate_reply, known_or_full, terminate_reply, is_held_back, is_held_by, is_held_of, after_reference, reply_at, reply_of, reply_to_reference, written_by, Store, known_uid, numbers_of, with_numbers, Progress, Holds, IsShown, Kept, numbers_at, Held, takes_effect, effect_of_tree_command, reply_to_tree_command, KeepsOthers}
 use Rattle.book.specs.declared.replies.Reply.TheVariants as reply
-use Rattle.known_segs.specs.Known.{number_for, uid_of, with_number, without_number}
-use Rattle.tree_model.specs.Tree.{Node, node_in}
-use Rattle.accounts.specs.Maps.{AccountMaps}
-use Rattle.tree_commands.specs.Shown.{ShowsTree}
-use Rattle.flat_model.specs.Branches.{segment_at}
-use Rattle.flat_model.specs.Naming.{after_initiate, after_terminate, initiated, initiate_of, initiate_reply}
-use Rattle.flat_model.specs.Naming.{known_or_full, terminate_reply}
-use Rattle.flat_model.specs.Moves.{is_held_back, is_held_by, is_held_of}
-use Rattle.flat_model.specs.References.{after_reference, reply_at, reply_of, reply_to_reference, written_by}
-use Rattle.flat_model.specs.Store.{Store, known_uid, numbers_of, with_numbers, Progress}
-use Rattle.flat_store.specs.Shown.{Holds, IsShown, Kept, numbers_at, Held}
-use Rattle.flat_model.specs.Commands.{takes_effect, effect_of_tree_command, reply_to_tree_command}
-use Rattle.flat_model.proofs.OtherLaws.{KeepsOthers}
 
 module _ (p : Plan) (k : Kept) (s : Store) (h : IsShown p k s) where
   pub numbers_are : (process : ℕ) → numbers_of s process ≡ numbers_at k.known process

@@ -1,17 +1,5 @@
 -- Whether a stored page is all zeros.
-use Rattle.std.proofs.Common.{◌≡◌, ℕ, suc, zero, ◌+◌, ◌*◌, ◌/◌, ◌%◌, ◌<◌, length, get_or, arith, Bool, true, false}
-use Rattle.std.proofs.Common.{cond, List, [], ◌∷◌, Option, Some, None, IsTrue, ◌↔◌, is_some, All, refl, sym, ap, subst}
-use Rattle.std.proofs.Common.{◌∙◌}
-use Rattle.std.specs.Prelude.{IfNone, IfSome, IsSomeAnd, slice_get}
-use Rattle.std.specs.Bool.{Decides}
-use Rattle.mword.specs.Words.{AreZero}
-use Rattle.script.specs.Plans.{Plan}
-use Rattle.flat_model.specs.Legal.{MayRelease}
-use Rattle.flat_model.specs.Store.{Store}
-use Rattle.flat_store.specs.Shown.{Held, HoldPages, Holds, Paged, is_key, page_at, word_in}
-use Rattle.flat_store.specs.Zeros.{HasZeroPage, KeepsZeroPage}
-use Rattle.flat_model.specs.Pages.{is_zero_page}
-use Rattle.flat_model.proofs.ZeroLaws.{zero_words}
+use Rattle.flat_store.proofs.Prelude.{◌≡◌, ℕ, suc, zero, ◌+◌, ◌*◌, ◌/◌, ◌%◌, ◌<◌, length, get_or, arith, Bool, true, false, cond, List, [], ◌∷◌, Option, Some, None, IsTrue, ◌↔◌, is_some, All, refl, sym, ap, subst, ◌∙◌, IfNone, IfSome, IsSomeAnd, slice_get, Decides, AreZero, Plan, MayRelease, Store, Held, HoldPages, Holds, Paged, is_key, page_at, word_in, HasZeroPage, KeepsZeroPage, is_zero_page, zero_words}
 use Rattle.flat_store.proofs.ReleaseLaws.{may_release}
 
 -- a page of zeros is among those that are still to come

@@ -1,24 +1,5 @@
 -- Laws of the runs of a script by schedules that are drawn.
-use Rattle.std.proofs.Common.{◌≡◌, ◌+◌, ℕ, suc, List, map, length, Err, sym, subst, ap, ◌∙◌, arith}
-use Rattle.std.specs.Prelude.{sum_by, Result, Ok, IfOk, OnOk}
-use Rattle.book.specs.declared.entries.Entry.{Entry}
-use Rattle.bulk_store.specs.AnyDrive.{any_places}
-use Rattle.machine.proofs.CallLaws.{counted_on}
-use Rattle.machine.specs.Turns.{HaveCounted, KeepsParts}
-use Rattle.runner.proofs.DriveLaws.{told_still}
-use Rattle.runner.specs.Drives.{AreTold, faults_in, plan_of}
-use Rattle.runner.specs.Runs.{IsBooted, Machine}
-use Rattle.script.specs.Grammar.{script_of}
-use Rattle.script.specs.Plans.{Plan}
-use Rattle.outcomes.specs.Tables.{Table, added}
-use Rattle.lab_runs.specs.Drawn.{DrawsOut, HasDrawn}
-use Rattle.lab_runs.specs.Orders.{drawn_cpus}
-use Rattle.lab_runs.specs.Outcomes.{AddsDrawn, AddsRun, Gathers}
-use Rattle.lab_runs.specs.Outcomes.{accounts_after, replies_of}
-use Rattle.lab_runs.specs.Runs.{EndsRan}
-use Rattle.lab_runs.specs.Steps.{Runs, moves_of, processor_of}
-use Rattle.lab_runs.specs.declared.running.Ran.{Ran}
-use Rattle.lab_runs.specs.declared.steps.Step.{Step}
+use Rattle.lab_runs.proofs.Prelude.{◌≡◌, ◌+◌, ℕ, suc, List, map, length, Err, sym, subst, ap, ◌∙◌, arith, sum_by, Result, Ok, IfOk, OnOk, Entry, any_places, counted_on, HaveCounted, KeepsParts, told_still, AreTold, faults_in, plan_of, IsBooted, Machine, script_of, Plan, Table, added, DrawsOut, HasDrawn, drawn_cpus, AddsDrawn, AddsRun, Gathers, accounts_after, replies_of, EndsRan, Runs, moves_of, processor_of, Ran, Step}
 use Rattle.lab_runs.proofs.StepLaws.{made_keeps, made_run}
 
 -- the machine of a script has made the steps that were drawn

@@ -1,24 +1,7 @@
 -- Laws of steps that are made by processors that are drawn.
-use Rattle.std.proofs.Common.{◌≡◌, ◌<◌, ◌≤◌, ◌+◌, ◌-◌, ◌^◌, ◌++◌, ◌∷◌, ℕ, zero, suc, Bool, true, false, List, []}
-use Rattle.std.proofs.Common.{drop, length, map, refl, sym, ap, ◌∙◌, arith, inl, inr}
-use Rattle.std.proofs.lemmas.Bool.{false≢true}
-use Rattle.std.specs.List.{list_any}
-use Rattle.std.proofs.lemmas.Grind.{common_steps}
-use Rattle.std.proofs.lemmas.List.{append_assoc, append-nil, length-append, map-append}
-use Rattle.std.proofs.lemmas.List.Folds.{list_any-append}
-use Rattle.book.specs.declared.entries.Entry.{Entry}
-use Rattle.draws.specs.Draws.{drawn, next_state}
-use Rattle.machine.specs.Schedules.{Grows}
-use Rattle.runner.specs.Runs.{Machine}
-use Rattle.lab_runs.specs.Drawn.{AreAnswered, AreLast, AreTo, Draws, DrawsOne, DrawsOut, DrawsUntil, IsAnswering}
-use Rattle.lab_runs.specs.Drawn.{IsEnding, answers, found_end, is_answer}
-use Rattle.lab_runs.specs.Orders.{drawn_cpus, is_end, state_after}
-use Rattle.lab_runs.specs.Steps.{IsMade, processor_of}
-use Rattle.lab_runs.specs.declared.following.Trial.{Trial}
+use Rattle.lab_runs.proofs.Prelude.{◌≡◌, ◌<◌, ◌≤◌, ◌+◌, ◌-◌, ◌^◌, ◌++◌, ◌∷◌, ℕ, zero, suc, Bool, true, false, List, [], drop, length, map, refl, sym, ap, ◌∙◌, arith, inl, inr, false≢true, list_any, common_steps, append_assoc, append-nil, length-append, map-append, list_any-append, Entry, drawn, next_state, Grows, Machine, AreAnswered, AreLast, AreTo, Draws, DrawsOne, DrawsOut, DrawsUntil, IsAnswering, IsEnding, answers, found_end, is_answer, drawn_cpus, is_end, state_after, IsMade, processor_of, Trial, Step, front_dropped}
 use Rattle.lab_runs.specs.declared.following.Trial.TheVariants as trial
-use Rattle.lab_runs.specs.declared.steps.Step.{Step}
 use Rattle.lab_runs.proofs.StepLaws.{made_append, made_grows}
-use Rattle.flat_model.proofs.SharedLaws.{front_dropped}
 
 -- ---- what is drawn
 

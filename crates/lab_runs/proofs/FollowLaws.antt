@@ -1,21 +1,7 @@
 -- Laws of lines that are followed one after the other.
-use Rattle.std.proofs.Common.{◌≡◌, ◌+◌, ◌<◌, ◌≤◌, ◌/◌, ◌^◌, ◌++◌, ◌∷◌, ℕ, zero, suc, List, [], length, take, drop}
-use Rattle.std.proofs.Common.{get_or, refl, sym, ap, subst, ◌∙◌, arith}
-use Rattle.std.specs.Prelude.{All}
-use Rattle.std.proofs.lemmas.Grind.{common_steps}
-use Rattle.std.proofs.lemmas.List.{append_assoc, append-nil, take_more}
-use Rattle.std.proofs.lemmas.List.Elements.{All-append, All-nil, All-push, All-same}
-use Rattle.std.proofs.lemmas.Nat.{mod_below}
-use Rattle.draws.specs.Draws.{drawn}
-use Rattle.runner.specs.Runs.{Machine}
-use Rattle.schedule.specs.declared.orders.Line.{Line}
+use Rattle.lab_runs.proofs.Prelude.{◌≡◌, ◌+◌, ◌<◌, ◌≤◌, ◌/◌, ◌^◌, ◌++◌, ◌∷◌, ℕ, zero, suc, List, [], length, take, drop, get_or, refl, sym, ap, subst, ◌∙◌, arith, All, common_steps, append_assoc, append-nil, take_more, All-append, All-nil, All-push, All-same, mod_below, drawn, Machine, Line, AreFollowed, FollowsOrder, IsAstray, IsFollowed, Strays, StraysIn, drawn_cpus, numbers, rounds, state_after, AreMade, Astray, Step}
 use Rattle.schedule.specs.declared.orders.Order.TheVariants as order
-use Rattle.lab_runs.specs.Orders.{AreFollowed, FollowsOrder, IsAstray, IsFollowed, Strays}
-use Rattle.lab_runs.specs.Orders.{StraysIn, drawn_cpus, numbers, rounds, state_after}
-use Rattle.lab_runs.specs.Steps.{AreMade}
-use Rattle.lab_runs.specs.declared.following.Astray.{Astray}
 use Rattle.lab_runs.specs.declared.following.Astray.TheVariants as astray
-use Rattle.lab_runs.specs.declared.steps.Step.{Step}
 use Rattle.lab_runs.proofs.StepLaws.{made_append}
 
 -- one line more

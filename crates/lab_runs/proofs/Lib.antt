@@ -1,3 +1,4 @@
+mod Prelude
 pub mod CountLaws
 pub mod DrawLaws
 pub mod EndTexts

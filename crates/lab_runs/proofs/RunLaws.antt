@@ -1,20 +1,6 @@
 -- Laws of a machine that follows a schedule from its boot on.
-use Rattle.std.proofs.Common.{◌≡◌, List, sym, subst, ◌∙◌}
-use Rattle.bulk_store.specs.AnyDrive.{any_places}
-use Rattle.machine.proofs.CallLaws.{counted_on}
-use Rattle.machine.specs.Turns.{HaveCounted, KeepsParts}
-use Rattle.runner.proofs.DriveLaws.{told_still}
-use Rattle.runner.specs.Drives.{AreTold, faults_in, plan_of}
-use Rattle.runner.specs.Runs.{IsBooted, Machine}
-use Rattle.schedule.specs.declared.orders.Line.{Line}
-use Rattle.script.specs.Plans.{Plan}
-use Rattle.lab_runs.specs.Orders.{AreFollowed, StraysIn}
-use Rattle.lab_runs.specs.Runs.{EndsRan, HasRunBy, RunsAstray}
-use Rattle.lab_runs.specs.Steps.{AreMade}
-use Rattle.lab_runs.specs.declared.following.Astray.{Astray}
+use Rattle.lab_runs.proofs.Prelude.{◌≡◌, List, sym, subst, ◌∙◌, any_places, counted_on, HaveCounted, KeepsParts, told_still, AreTold, faults_in, plan_of, IsBooted, Machine, Line, Plan, AreFollowed, StraysIn, EndsRan, HasRunBy, RunsAstray, AreMade, Astray, Ran, Step}
 use Rattle.lab_runs.specs.declared.following.Astray.TheVariants as astray
-use Rattle.lab_runs.specs.declared.running.Ran.{Ran}
-use Rattle.lab_runs.specs.declared.steps.Step.{Step}
 use Rattle.lab_runs.proofs.FollowLaws.{followed_made}
 use Rattle.lab_runs.proofs.StepLaws.{made_keeps, made_run}
 

@@ -1,19 +1,5 @@
 -- Laws of steps that are made one after the other.
-use Rattle.std.proofs.Common.{◌≡◌, ◌+◌, ◌-◌, ◌<◌, ◌++◌, ◌∷◌, ℕ, List, [], length, map, take, get_or, refl, sym, ap, subst}
-use Rattle.std.proofs.Common.{◌∙◌, arith}
-use Rattle.std.specs.Prelude.{sum_by}
-use Rattle.std.proofs.lemmas.List.{append_assoc, length-append, map-append, take_more}
-use Rattle.std.proofs.lemmas.List.Sums.{sum_by-cons}
-use Rattle.bulk_store.specs.AnyDrive.{any_places}
-use Rattle.machine_model.specs.Reads.{process_at}
-use Rattle.machine.specs.Schedules.{Grows, is_moved, tally, with_room}
-use Rattle.machine.specs.Turns.{Appends, IsTurn, KeepsParts, TellsFaults}
-use Rattle.machine.specs.declared.turn.Turn.{Turn}
-use Rattle.machine.proofs.RunLaws.{round_made, run_grows, run_keeps}
-use Rattle.runner.specs.Drives.{faults_in, plan_of}
-use Rattle.runner.specs.Runs.{Machine}
-use Rattle.lab_runs.specs.Steps.{AreMade, IsMade, MakesAll, Runs, entries_in, moves_of, processor_of}
-use Rattle.lab_runs.specs.declared.steps.Step.{Step}
+use Rattle.lab_runs.proofs.Prelude.{◌≡◌, ◌+◌, ◌-◌, ◌<◌, ◌++◌, ◌∷◌, ℕ, List, [], length, map, take, get_or, refl, sym, ap, subst, ◌∙◌, arith, sum_by, append_assoc, length-append, map-append, take_more, sum_by-cons, any_places, process_at, Grows, is_moved, tally, with_room, Appends, IsTurn, KeepsParts, TellsFaults, Turn, round_made, run_grows, run_keeps, faults_in, plan_of, Machine, AreMade, IsMade, MakesAll, Runs, entries_in, moves_of, processor_of, Step}
 
 -- room was made for a step, and it was made
 pub step_made : (old mid new : Machine) (c n before : ℕ) (answer : Turn) → mid ≡ with_room old mid.state.spare

@@ -1,20 +1,5 @@
 -- Laws of a trace.
-use Rattle.std.proofs.Common.{◌≡◌, ◌+◌, ◌<◌, ◌≤◌, ◌++◌, ◌∷◌, ℕ, List, [], length, take, drop, get_or, refl, sym, ap}
-use Rattle.std.proofs.Common.{◌∙◌, arith, drop-cons, add-one}
-use Rattle.std.proofs.lemmas.Grind.{common_steps}
-use Rattle.std.proofs.lemmas.List.{append_assoc, append-nil, length-append}
-use Rattle.std.proofs.lemmas.List.Sums.{sum_by-cons}
-use Rattle.book.specs.declared.entries.Entry.{Entry}
-use Rattle.bulk_store.specs.AnyDrive.{any_places}
-use Rattle.machine.proofs.RunLaws.{run_grows}
-use Rattle.runner.specs.Drives.{faults_in, plan_of}
-use Rattle.schedule.specs.declared.orders.Line.{Line}
-use Rattle.script.specs.Plans.{Plan}
-use Rattle.lab_runs.specs.Runs.{HasRunBy, IsTraceable}
-use Rattle.lab_runs.specs.Steps.{entries_in}
-use Rattle.lab_runs.specs.Traces.{entry_lines, step_line, steps_text}
-use Rattle.lab_runs.specs.declared.running.Ran.{Ran}
-use Rattle.lab_runs.specs.declared.steps.Step.{Step}
+use Rattle.lab_runs.proofs.Prelude.{◌≡◌, ◌+◌, ◌<◌, ◌≤◌, ◌++◌, ◌∷◌, ℕ, List, [], length, take, drop, get_or, refl, sym, ap, ◌∙◌, arith, drop-cons, add-one, common_steps, append_assoc, append-nil, length-append, sum_by-cons, Entry, any_places, run_grows, faults_in, plan_of, Line, Plan, HasRunBy, IsTraceable, entries_in, entry_lines, step_line, steps_text, Ran, Step}
 use Rattle.lab_runs.proofs.StepLaws.{made_count}
 
 one_left : (steps : List Step) (i : ℕ) (d : Step) → i < length steps

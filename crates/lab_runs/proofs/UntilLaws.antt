@@ -1,22 +1,9 @@
 -- Laws of steps that are made until an entry begins so.
-use Rattle.std.proofs.Common.{◌≡◌, ◌≤◌, ◌+◌, ◌++◌, ◌∷◌, ℕ, Bool, true, false, List, [], drop, length, refl, sym, ap}
-use Rattle.std.proofs.Common.{◌∙◌, arith, inl, inr}
-use Rattle.std.specs.Prelude.{replicate}
-use Rattle.std.specs.List.{list_any}
-use Rattle.std.proofs.lemmas.Grind.{common_steps}
-use Rattle.std.proofs.lemmas.List.{append_assoc, append-nil, length-append, map-append, replicate_more}
-use Rattle.std.proofs.lemmas.List.Folds.{list_any-append}
-use Rattle.book.specs.declared.entries.Entry.{Entry}
-use Rattle.machine.specs.Schedules.{Grows}
+use Rattle.lab_runs.proofs.Prelude.{◌≡◌, ◌≤◌, ◌+◌, ◌++◌, ◌∷◌, ℕ, Bool, true, false, List, [], drop, length, refl, sym, ap, ◌∙◌, arith, inl, inr, replicate, list_any, common_steps, append_assoc, append-nil, length-append, map-append, replicate_more, list_any-append, Entry, Grows, Machine, Adds, Tries, TriesOne, appends, entry_begins, AreMade, IsMade, processor_of, Step, front_dropped}
 use Rattle.machine.specs.declared.turn.Turn.TheVariants as turn
-use Rattle.runner.specs.Runs.{Machine}
-use Rattle.lab_runs.specs.Orders.{Adds, Tries, TriesOne, appends, entry_begins}
-use Rattle.lab_runs.specs.Steps.{AreMade, IsMade, processor_of}
 use Rattle.lab_runs.specs.declared.following.Trial.TheVariants as trial
-use Rattle.lab_runs.specs.declared.steps.Step.{Step}
 use Rattle.lab_runs.proofs.StepLaws.{made_grows, made_on}
 use Rattle.lab_runs.proofs.DrawLaws.{added}
-use Rattle.flat_model.proofs.SharedLaws.{front_dropped}
 
 -- so many steps were made, and no entry that they appended begins so
 pub record IsTrying (c : ℕ) (text : List (List ℕ)) (old new : Machine) (before after : List Step) (tried : ℕ) : Type 0

@@ -1,29 +1,6 @@
 -- The accounts in order of uid, the volumes in order, and the summary and the listing of them.
-use Rattle.std.proofs.Common.{◌≡◌, ℕ, ◌+◌, ◌<◌, ◌≤◌, Bool, true, false, cond, eqb, List, [], ◌∷◌, ◌++◌, length}
-use Rattle.std.proofs.Common.{reverse, take, get_or, Option, Some, None, refl, sym, ap, subst, ◌∙◌, arith}
-use Rattle.std.proofs.Common.{inl, inr}
-use Rattle.std.specs.Prelude.{nat_lt, not, ◌&&◌, ◌||◌, if◌then◌else◌}
-use Rattle.std.specs.List.{flat_map}
-use Rattle.std.proofs.lemmas.Bool.{cases_Bool}
-use Rattle.std.proofs.lemmas.Bool.Decides.{nat_tests}
-use Rattle.std.proofs.lemmas.Grind.{common_steps}
-use Rattle.std.proofs.lemmas.List.{append-nil, take_more}
-use Rattle.std.proofs.lemmas.List.Concat.{flat_map-append}
+use Rattle.listing.proofs.Prelude.{◌≡◌, ℕ, ◌+◌, ◌<◌, ◌≤◌, Bool, true, false, cond, eqb, List, [], ◌∷◌, ◌++◌, length, reverse, take, get_or, Option, Some, None, refl, sym, ap, subst, ◌∙◌, arith, inl, inr, nat_lt, not, ◌&&◌, ◌||◌, if◌then◌else◌, flat_map, cases_Bool, nat_tests, common_steps, append-nil, take_more, flat_map-append, Plan, VolumeLine, Entry, Node, node_in, quota_in, used_by, AreBelow, IsTree, Joins, Branch, as_term, Store, store_after, Kept, Shows, AccountCount, VolumeCount, Summary, account_count, accounts_of, volumes_of, summary_of, summary_text, body_of, listing_of, trail_of, account_at, as_list, volume_of, below_joined, found_uid}
 use mathlib.Core.List.{reverse-cons}
-use Rattle.script.specs.Plans.{Plan}
-use Rattle.script.specs.declared.plan.VolumeLine.{VolumeLine}
-use Rattle.book.specs.declared.entries.Entry.{Entry}
-use Rattle.tree_model.specs.Tree.{Node, node_in, quota_in, used_by}
-use Rattle.tree_model.specs.Trees.{AreBelow, IsTree, Joins}
-use Rattle.dir_tree.specs.declared.node.Node.{Node as Branch}
-use Rattle.dir_tree.specs.Nodes.{as_term}
-use Rattle.flat_model.specs.Store.{Store}
-use Rattle.flat_model.specs.Legal.{store_after}
-use Rattle.flat_store.specs.Shown.{Kept, Shows}
-use Rattle.listing.specs.Listings.{AccountCount, VolumeCount, Summary, account_count, accounts_of, volumes_of}
-use Rattle.listing.specs.Listings.{summary_of, summary_text, body_of, listing_of, trail_of}
-use Rattle.listing.specs.Gathered.{account_at, as_list, volume_of}
-use Rattle.tree_model.proofs.SharedLaws.{older as below_joined, found_uid}
 
 -- the nodes from the first with a uid below this one on
 abbrev pub older : ℕ → List Node → List Node

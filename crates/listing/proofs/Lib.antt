@@ -1,3 +1,4 @@
+mod Prelude
 pub mod LineLaws
 pub mod TrailLaws
 pub mod CountLaws

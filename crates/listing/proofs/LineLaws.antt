@@ -1,17 +1,6 @@
 -- Laws of the lines of a listing.
-use Rattle.std.proofs.Common.{◌≡◌, ℕ, ◌+◌, ◌<◌, ◌≤◌, Bool, true, false, cond, eqb, List, [], ◌∷◌, ◌++◌, length, take}
-use Rattle.std.proofs.Common.{get_or, refl, sym, ap, ◌∙◌, arith, filter, append-nil}
-use Rattle.std.specs.List.{flat_map}
-use Rattle.std.proofs.lemmas.Bool.Decides.{nat_tests}
-use Rattle.std.proofs.lemmas.Grind.{common_steps}
-use Rattle.std.proofs.lemmas.List.{take_more, flat_map_more, append_assoc}
-use Rattle.mnames.specs.Names.{names_text}
-use Rattle.mnames.specs.declared.principals.Who.{Who}
-use Rattle.script.specs.Plans.{Plan, ProcessPlan, nobody, who_of, command_at}
-use Rattle.book.specs.declared.entries.Entry.{Entry}
+use Rattle.listing.proofs.Prelude.{◌≡◌, ℕ, ◌+◌, ◌<◌, ◌≤◌, Bool, true, false, cond, eqb, List, [], ◌∷◌, ◌++◌, length, take, get_or, refl, sym, ap, ◌∙◌, arith, filter, append-nil, flat_map, nat_tests, common_steps, take_more, flat_map_more, append_assoc, names_text, Who, Plan, ProcessPlan, nobody, who_of, command_at, Entry, part, is_part, answer_line, entry_line, own_line, process_line, process_lines, processes_lines}
 use Rattle.book.specs.declared.entries.Entry.TheVariants as entry
-use Rattle.flat_model.specs.Legal.{part, is_part}
-use Rattle.listing.specs.Listings.{answer_line, entry_line, own_line, process_line, process_lines, processes_lines}
 
 own_lines : (p : Plan) (k : ℕ) (es : List Entry) → flat_map (own_line p k) es ≡ flat_map (entry_line p) (part k es)
 unfolding part

@@ -1,18 +1,6 @@
 -- The names from the root down to a node are those of the nodes on the way there.
-use Rattle.std.proofs.Common.{◌≡◌, ℕ, ◌+◌, ◌<◌, ◌≤◌, true, false, eqb, List, [], ◌∷◌, ◌++◌, length, reverse}
-use Rattle.std.proofs.Common.{take, is_some, Option, Some, None, refl, sym, ap, subst, ◌∙◌, arith, inl, inr}
-use Rattle.std.specs.List.{flat_map}
-use Rattle.std.proofs.lemmas.Bool.{cases_Bool}
-use Rattle.std.proofs.lemmas.Bool.Decides.{nat_tests}
-use Rattle.std.proofs.lemmas.Grind.{common_steps}
-use Rattle.std.proofs.lemmas.List.Concat.{flat_map-append}
+use Rattle.listing.proofs.Prelude.{◌≡◌, ℕ, ◌+◌, ◌<◌, ◌≤◌, true, false, eqb, List, [], ◌∷◌, ◌++◌, length, reverse, take, is_some, Option, Some, None, refl, sym, ap, subst, ◌∙◌, arith, inl, inr, flat_map, cases_Bool, nat_tests, common_steps, flat_map-append, Node, above, node_in, step_up, AreBelow, AreUnder, IsTree, Joins, has_chains, under_more, trail_of, trail_up, rest_of, later_joined, directory_there}
 use mathlib.Core.List.{reverse-cons}
-use Rattle.tree_model.specs.Tree.{Node, above, node_in, step_up}
-use Rattle.tree_model.specs.Trees.{AreBelow, AreUnder, IsTree, Joins}
-use Rattle.tree_model.proofs.ChainLaws.{has_chains, under_more}
-use Rattle.listing.specs.Listings.{trail_of, trail_up}
-use Rattle.listing.specs.Gathered.{rest_of}
-use Rattle.tree_model.proofs.SharedLaws.{older as later_joined, directory_there}
 
 -- the name of a node, where there is one
 abbrev pub name_of : Option Node → List (List ℕ)

@@ -1,12 +1,5 @@
 -- How much of each volume is used: one volume after the other, and the counts of the volumes that it gives.
-use Rattle.std.proofs.Common.{◌≡◌, ℕ, suc, zero, ◌+◌, ◌<◌, ◌≤◌, List, ◌∷◌, [], ◌++◌, length, refl, sym, ap, ◌∙◌, arith}
-use Rattle.std.proofs.Common.{get_or, take, add-one, inl, inr, min}
-use Rattle.std.proofs.lemmas.Bool.{cases_eq}
-use Rattle.std.proofs.lemmas.List.{get_or_append_left, get_or_push, length_push, take_all}
-use Rattle.script.specs.declared.plan.VolumeLine.{VolumeLine}
-use Rattle.flat_model.specs.Store.{Store}
-use Rattle.listing.specs.declared.counts.VolumeUse.{VolumeUse}
-use Rattle.listing.specs.Listings.{VolumeCount, use_of, uses_of, volumes_of}
+use Rattle.listing.proofs.Prelude.{◌≡◌, ℕ, suc, zero, ◌+◌, ◌<◌, ◌≤◌, List, ◌∷◌, [], ◌++◌, length, refl, sym, ap, ◌∙◌, arith, get_or, take, add-one, inl, inr, min, cases_eq, get_or_append_left, get_or_push, length_push, take_all, VolumeLine, Store, VolumeUse, VolumeCount, use_of, uses_of, volumes_of}
 use Rattle.listing.proofs.CountLaws.{volumes_more}
 
 -- a loop's step

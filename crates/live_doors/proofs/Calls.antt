@@ -1,22 +1,5 @@
 -- What a call leaves, from what its step told.
-use Rattle.std.proofs.Common.{◌≡◌, ◌≢◌, ℕ, suc, zero, ◌+◌, ◌<◌, ◌≤◌, List, [], ◌∷◌, ◌++◌, length, None, refl}
-use Rattle.std.proofs.Common.{sym, ap, subst, ◌∙◌, arith, get_or}
-use Rattle.std.proofs.Common.{take, drop, All}
-use native.Mathlib.Decide.{ℕ_discrete}
-use Rattle.std.proofs.lemmas.List.Elements.{All-append}
-use Rattle.std.proofs.lemmas.List.{length-replicate}
-use Rattle.std.proofs.lemmas.Grind.{common_steps}
-use Rattle.atomic_table.specs.Table.{Me}
-use Rattle.atomic_table.specs.Seated.{TableId}
-use Rattle.live_doors.specs.declared.views.Walk.{Walk}
-use Rattle.live_doors.specs.declared.views.Watch.{Watch}
-use Rattle.live_doors.specs.declared.views.View.{View}
-use Rattle.live_doors.specs.declared.views.View.TheVariants.{Walking, Keeping}
-use Rattle.live_doors.specs.Doors.{blank, first_watch, first_passes, AreNew, DoorsModel, PassModel}
-use Rattle.live_doors.specs.Doors.{KeeperModel, IsPassOf, IsKeeperOf}
-use Rattle.live_doors.specs.Doors.{OnlyNoted, HasNoted, having_noted}
-use Rattle.live_doors.specs.Beside.{EntryRows, KeeperRows, AreEntriesOf, AreRowsOf}
-use Rattle.live_doors.specs.Steps.{PassFits, KeeperFits, walk_of, watch_of}
+use Rattle.live_doors.proofs.Prelude.{◌≡◌, ℕ, suc, zero, ◌+◌, ◌<◌, ◌≤◌, List, [], ◌∷◌, ◌++◌, length, None, refl, sym, ap, subst, ◌∙◌, arith, get_or, take, drop, All, All-append, length-replicate, common_steps, Me, TableId, Walk, Watch, View, Walking, Keeping, blank, first_watch, first_passes, AreNew, DoorsModel, PassModel, KeeperModel, IsPassOf, IsKeeperOf, OnlyNoted, HasNoted, having_noted, EntryRows, KeeperRows, AreEntriesOf, AreRowsOf, PassFits, KeeperFits, walk_of, watch_of}
 
 -- a pass whose fields are those of its view
 pub pass_fits : (m : Me (Unit {0}) View) (q : Walk) (e : EntryRows) → m ≡ (Walking q, []) → AreEntriesOf e q

@@ -1,28 +1,7 @@
 -- Each kind of step keeps the rule, and the laws that rest on it.
-use Rattle.std.proofs.Common.{◌≡◌, ◌≢◌, ℕ, suc, zero, ◌+◌, ◌%◌, ◌<◌, ◌≤◌, ◌⊎◌, Bool, true, false, cond, eqb, List, []}
-use Rattle.std.proofs.Common.{◌∷◌, ◌++◌, length, replicate, Option}
-use Rattle.std.proofs.Common.{Some, None, refl, sym, ap, subst, ◌∙◌, arith, get_or, set, inl, inr, ⊎_elim}
+use Rattle.live_doors.proofs.Prelude.{◌≡◌, ◌≢◌, ℕ, suc, zero, ◌+◌, ◌%◌, ◌<◌, ◌≤◌, ◌⊎◌, Bool, true, false, eqb, List, [], ◌∷◌, ◌++◌, length, replicate, Option, Some, None, refl, sym, ap, subst, ◌∙◌, arith, get_or, set, inl, inr, ⊎_elim, set-get_or, length-replicate, length-append, get_or-replicate, get_or_append_left, get_or-append-add, ext_get_or, State, Me, step, keeps, Allows, Splits, Joins, Final, Seen, Size, Walk, Watch, View, Walking, Keeping, Spent, IsShut, blank, first_watch, forgotten, acknowledged, shut, raised, having_noted, door_at, ack_at, first_words, filled_if, filled, walk_of, watch_of, Fills, Forgets, Acknowledges, Closes, Raises, Looks, keeper_with_pass, pass_of_keeper, PlanOk, PassOk, SeatOk, Kept, NotedIsClear, NeverBoundHasNoHolder, MayBindHasNoHolder, filled_ok, forgotten_ok, plan_acknowledged, acknowledged_ok, pass_stays, plan_shut, pass_shut, plan_raised, pass_raised, plan_noted, plan_admits, pass_admits, blank_ok, entry_gone, entry_never, seats_stay, valued, valued_else, valued_here}
 use mathlib.Core.Option.{some, none, some-injective, some-ne-none}
 use lib.ListN.{get_elem?}
-use Rattle.std.proofs.lemmas.List.{set-get_or, length-replicate, length-append, get_or-replicate, get_or_append_left}
-use Rattle.std.proofs.lemmas.List.{get_or-append-add, ext_get_or}
-use Rattle.std.proofs.lemmas.Bool.{eq-eqb, ne_eqb}
-use Rattle.atomic_table.specs.Table.{State, Me, step, keeps, Allows, Splits, Joins, Final, Seen}
-use Rattle.live_doors.specs.declared.rule.Size.{Size}
-use Rattle.live_doors.specs.declared.views.Walk.{Walk}
-use Rattle.live_doors.specs.declared.views.Watch.{Watch}
-use Rattle.live_doors.specs.declared.views.View.{View}
-use Rattle.live_doors.specs.declared.views.View.TheVariants.{Walking, Keeping, Spent}
-use Rattle.live_doors.specs.Doors.{IsShut, blank, first_watch, forgotten, acknowledged, shut, raised, having_noted}
-use Rattle.live_doors.specs.Steps.{door_at, ack_at, first_words, filled_if, filled, walk_of, watch_of, Fills, Forgets}
-use Rattle.live_doors.specs.Steps.{Acknowledges, Closes, Raises, Looks}
-use Rattle.live_doors.specs.Steps.{keeper_with_pass, pass_of_keeper}
-use Rattle.live_doors.specs.Kept.{PlanOk, PassOk, SeatOk, Kept, NotedIsClear, NeverBoundHasNoHolder, MayBindHasNoHolder}
-use Rattle.live_doors.specs.Laws.{filled_ok, forgotten_ok, plan_acknowledged, acknowledged_ok, pass_stays, plan_shut}
-use Rattle.live_doors.specs.Laws.{pass_shut, plan_raised, pass_raised}
-use Rattle.live_doors.specs.Laws.{plan_noted, plan_admits, pass_admits, blank_ok, entry_gone, entry_never}
-use Rattle.live_doors.specs.Laws.{seats_stay}
-use Rattle.laws.proofs.Places.{valued, valued_else, valued_here}
 
 abbrev Board : Type 0
 Board = State (Unit {0}) View

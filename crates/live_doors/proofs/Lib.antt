@@ -1,2 +1,3 @@
+mod Prelude
 pub mod Keeps
 pub mod Calls

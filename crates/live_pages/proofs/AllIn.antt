@@ -1,30 +1,9 @@
 -- What the end hands out.
-use Rattle.std.proofs.Common.{◌≡◌, ◌≢◌, ℕ, suc, zero, ◌+◌, ◌<◌, ◌≤◌, List, [], ◌∷◌, ◌++◌, length, Option, Some, None}
-use Rattle.std.proofs.Common.{refl, sym, ap, subst, ◌∙◌, arith}
-use Rattle.std.proofs.Common.{get_or, set, Bool, false, IsTrue, option_to_list, All}
+use Rattle.live_pages.proofs.Prelude.{◌≡◌, ◌≢◌, ℕ, suc, zero, ◌+◌, ◌<◌, ◌≤◌, List, [], ◌∷◌, ◌++◌, length, Option, Some, None, refl, sym, ap, subst, ◌∙◌, arith, get_or, set, Bool, false, IsTrue, option_to_list, All, get_or-set_same, get_or-set_other, length-set, length-append, get_or-append-add, get_or_append_left, All-append, none-some, Final, Seen, Splits, Joins, Held, Size, Made, Free, Out, In, Holder, View, Passing, Keeping, Spent, Seat, first_holder, holder_of, walker_of, shown, taken_in, page_given, AllIn, ended_bindings, last_bindings, all_bindings, IsLeftAfterAll, IsOfOneThread, EndIsLegal, PagesModel, PassModel, KeeperModel, AreAll, HavePages, taking_in, taking_all_in}
 use mathlib.Core.Logic.{dite}
 use mathlib.Core.Option as M
 use native.Mathlib.Decide.{ℕ_discrete}
 use lib.ListN.{get_elem?}
-use Rattle.std.proofs.lemmas.List.{get_or-set_same, get_or-set_other, length-set, length-append, get_or-append-add}
-use Rattle.std.proofs.lemmas.List.{get_or_append_left}
-use Rattle.std.proofs.lemmas.List.Elements.{All-append}
-use Rattle.std.proofs.lemmas.Option.{none-some}
-use Rattle.atomic_table.specs.Table.{Final, Seen, Splits, Joins}
-use Rattle.live_pages.specs.declared.rule.Held.{Held}
-use Rattle.live_pages.specs.declared.rule.Size.{Size}
-use Rattle.live_pages.specs.declared.touch.Made.{Made}
-use Rattle.live_pages.specs.declared.views.Hand.TheVariants.{Free}
-use Rattle.live_pages.specs.declared.views.Part.TheVariants.{Out, In}
-use Rattle.live_pages.specs.declared.views.Holder.{Holder}
-use Rattle.live_pages.specs.declared.views.View.{View}
-use Rattle.live_pages.specs.declared.views.View.TheVariants.{Passing, Keeping, Spent}
-use Rattle.live_pages.specs.Turns.{Seat, first_holder, holder_of, walker_of, shown, taken_in}
-use Rattle.live_pages.specs.Touches.{page_given}
-use Rattle.live_pages.specs.Kept.{AllIn}
-use Rattle.live_pages.specs.Ending.{ended_bindings, last_bindings, all_bindings, IsLeftAfterAll, IsOfOneThread}
-use Rattle.live_pages.specs.Ending.{EndIsLegal}
-use Rattle.live_pages.specs.Models.{PagesModel, PassModel, KeeperModel, AreAll, HavePages, taking_in, taking_all_in}
 use Rattle.live_pages.proofs.ByTicket.{last_are_left}
 use Rattle.live_pages.proofs.Quiet.{InOrder}
 use Rattle.live_pages.proofs.Ends.{takes_in, shows, all_in_is_legal}

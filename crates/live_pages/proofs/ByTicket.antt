@@ -1,26 +1,7 @@
 -- By their tickets the touches of the processors give the one list of all touches.
-use Rattle.std.proofs.Common.{◌≡◌, ◌≢◌, ℕ, suc, zero, ◌+◌, ◌<◌, ◌≤◌, Bool, true, false, eqb, ◌&&◌, List, [], ◌∷◌, ◌++◌}
-use Rattle.std.proofs.Common.{length, reverse, refl, sym, ap, subst}
-use Rattle.std.proofs.Common.{◌∙◌, arith, get_or, All}
+use Rattle.live_pages.proofs.Prelude.{◌≡◌, ◌≢◌, ℕ, suc, zero, ◌+◌, ◌<◌, ◌≤◌, Bool, true, false, eqb, ◌&&◌, List, [], ◌∷◌, ◌++◌, length, reverse, refl, sym, ap, subst, ◌∙◌, arith, get_or, All, eq-eqb, ne_eqb, append-nil, length-append, length-reverse, reverse-append, All-nil, All-cons, All-append, Watch, Made, Bound, Part, Out, Holder, answer, Given, page_given, is_of, touched_if, after, IsLegal, AreBelow, mine, mine_if, with_ticket, by_ticket, touching, after_all, AreOfOneThread, current, AreOfBindings, HaveLeft, BookOk, AllIn, touches_in, touches_in_first, all_touches, in_order, pages_after, ended_bindings, last_bindings, IsLeftAfterAll, HasNext, IsOfOneThread}
 use mathlib.Core.Logic.{dite}
 use native.Mathlib.Decide.{ℕ_discrete}
-use Rattle.std.proofs.lemmas.Bool.{eq-eqb, ne_eqb}
-use Rattle.std.proofs.lemmas.List.{append-nil, length-append, length-reverse, reverse-append}
-use Rattle.std.proofs.lemmas.List.Elements.{All-nil, All-cons, All-append}
-use Rattle.live_doors.specs.declared.views.Watch.{Watch}
-use Rattle.live_pages.specs.declared.touch.Made.{Made}
-use Rattle.live_pages.specs.declared.touch.Bound.{Bound}
-use Rattle.live_pages.specs.declared.views.Part.{Part}
-use Rattle.live_pages.specs.declared.views.Part.TheVariants.{Out}
-use Rattle.live_pages.specs.declared.views.Holder.{Holder}
-use Rattle.live_pages.specs.Touches.{answer, Given, page_given, is_of, touched_if, after, IsLegal, AreBelow, mine}
-use Rattle.live_pages.specs.Touches.{mine_if, with_ticket, by_ticket, touching}
-use Rattle.live_pages.specs.Touches.{after_all, AreOfOneThread}
-use Rattle.live_pages.specs.Turns.{current}
-use Rattle.live_pages.specs.Kept.{AreOfBindings, HaveLeft, BookOk, AllIn}
-use Rattle.live_pages.specs.Ending.{touches_in, touches_in_first, all_touches, in_order, pages_after, ended_bindings}
-use Rattle.live_pages.specs.Ending.{last_bindings, IsLeftAfterAll, HasNext}
-use Rattle.live_pages.specs.Ending.{IsOfOneThread}
 use Rattle.live_pages.proofs.Replay.{mine_here, mine_else, all_below, count_below, count_all}
 
 reverse_more : (e : Made) (es : List Made) → reverse (e ∷ es) ≡ reverse es ++ e ∷ []

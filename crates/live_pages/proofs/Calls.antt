@@ -1,48 +1,14 @@
 -- The steps at seats that are known to be a pass's or the keeper's, and what a call leaves.
-use Rattle.std.proofs.Common.{◌≡◌, ◌≢◌, ℕ, suc, zero, ◌+◌, ◌*◌, ◌%◌, ◌^◌, ◌<◌, ◌≤◌, eqb, List, [], ◌∷◌, ◌++◌, length}
-use Rattle.std.proofs.Common.{replicate, Option, Some, None, refl}
-use Rattle.std.proofs.Common.{sym, ap, subst, ◌∙◌, arith, get_or, set, All, map, ◌/◌}
+use Rattle.live_pages.proofs.Prelude.{◌≡◌, ◌≢◌, ℕ, suc, zero, ◌+◌, ◌*◌, ◌%◌, ◌^◌, ◌<◌, ◌≤◌, eqb, List, [], ◌∷◌, ◌++◌, length, replicate, Option, Some, None, refl, sym, ap, subst, ◌∙◌, arith, get_or, set, All, map, ◌/◌, none-some, length-append, length-replicate, length-set, get_or-append-add, get_or_append_left, step, rest, Allows, Splits, at_last, at_longer, All-append, TableId, HasNoted, MayBind, ack_at, EntryRows, KeeperRows, AreEntriesOf, AreRowsOf, Held, Size, Touch, Free, Has, Walker, Holder, View, Passing, Keeping, touched, answer, Seat, Told, opening_words, first_holder, first_walker, keeper_with_pass, pass_of_keeper, admitted, bound_anew, having_made, turn_at, ticket_at, current, watching, walker_of, holder_of, Fills, Forgets, Acknowledges, Closes, Raises, Looks, Takes, Draws, Gives, KeeperTakes, Binds, KeeperGives, PassFits, KeeperFits, PagesModel, PassModel, KeeperModel, IsPassOf, IsKeeperOf, SameButWatch, HasInHand, touched_in_hand, rebound, HaveZeroPages, first_passes, AreAll, AreNew, Out, Kept, NotedSoFar, Watch}
 use mathlib.Core.Option as M
 use mathlib.Core.Logic.{dite}
 use native.Mathlib.Decide.{ℕ_discrete}
-use Rattle.std.proofs.lemmas.Option.{none-some}
-use Rattle.std.proofs.lemmas.List.{length-append, length-replicate, length-set}
-use Rattle.std.proofs.lemmas.List.{get_or-append-add, get_or_append_left}
 use prog.Atomic.{either}
-use Rattle.atomic_table.specs.Table.{step, rest, Allows, Splits}
-use Rattle.atomic_table.proofs.Lists.{at_last, at_longer}
 use lib.ListN.{get_elem?}
-use Rattle.std.proofs.lemmas.List.Elements.{All-append}
-use Rattle.atomic_table.specs.Seated.{TableId}
-use Rattle.live_doors.specs.Doors.{HasNoted, MayBind}
-use Rattle.live_doors.specs.Steps.{ack_at}
-use Rattle.live_doors.specs.Beside.{EntryRows, KeeperRows, AreEntriesOf, AreRowsOf}
-use Rattle.live_pages.specs.declared.rule.Held.{Held}
-use Rattle.live_pages.specs.declared.rule.Size.{Size}
-use Rattle.live_pages.specs.declared.touch.Touch.{Touch}
-use Rattle.live_pages.specs.declared.views.Hand.TheVariants.{Free, Has}
-use Rattle.live_pages.specs.declared.views.Walker.{Walker}
-use Rattle.live_pages.specs.declared.views.Holder.{Holder}
-use Rattle.live_pages.specs.declared.views.View.{View}
-use Rattle.live_pages.specs.declared.views.View.TheVariants.{Passing, Keeping}
-use Rattle.live_pages.specs.Touches.{touched, answer}
-use Rattle.live_pages.specs.Turns.{Seat, Told, opening_words, first_holder, first_walker, keeper_with_pass}
-use Rattle.live_pages.specs.Turns.{pass_of_keeper}
-use Rattle.live_pages.specs.Turns.{admitted, bound_anew, having_made, turn_at}
-use Rattle.live_pages.specs.Turns.{ticket_at, current, watching, walker_of, holder_of, Fills, Forgets, Acknowledges}
-use Rattle.live_pages.specs.Turns.{Closes, Raises, Looks, Takes, Draws}
-use Rattle.live_pages.specs.Turns.{Gives, KeeperTakes, Binds, KeeperGives}
-use Rattle.live_pages.specs.Models.{PassFits, KeeperFits, PagesModel, PassModel, KeeperModel, IsPassOf, IsKeeperOf}
-use Rattle.live_pages.specs.Models.{SameButWatch, HasInHand, touched_in_hand}
-use Rattle.live_pages.specs.Models.{rebound, HaveZeroPages, first_passes, AreAll, AreNew}
-use Rattle.live_pages.specs.declared.views.Part.TheVariants.{Out}
 use Rattle.live_pages.proofs.Quiet.{InOrder, fills, forgets, acknowledges, closes, raises, looks}
 use Rattle.live_pages.proofs.Turning.{with_hand, takes_turn, gives_turn, keeper_takes, keeper_gives}
 use Rattle.live_pages.proofs.Changing.{draws, binds}
 use Rattle.live_pages.proofs.Ends.{admits, opens}
-use Rattle.live_pages.specs.Kept.{Kept}
-use Rattle.live_doors.proofs.Calls.{NotedSoFar}
-use Rattle.live_doors.specs.declared.views.Watch.{Watch}
 
 module _ (z : Size) (slots id : ℕ) (m : Seat) where
   pub fills_at : (f : ℕ) → m ≡ (Passing (walker_of m.0), []) → (walker_of m.0).hand ≡ Free → f < z.frames

@@ -1,40 +1,10 @@
 -- The steps that change a page: a touch draws its ticket, and a frame is bound anew.
-use Rattle.std.proofs.Common.{◌≡◌, ◌≢◌, ℕ, suc, ◌+◌, ◌*◌, ◌/◌, ◌%◌, ◌^◌, ◌<◌, ◌≤◌, cond, eqb, ◌&&◌, List, [], ◌∷◌}
-use Rattle.std.proofs.Common.{length, Option, Some, None, refl, sym, ap}
-use Rattle.std.proofs.Common.{subst, ◌∙◌, arith, get_or, set, inl, inr, ⊎_elim}
+use Rattle.live_pages.proofs.Prelude.{◌≡◌, ◌≢◌, ℕ, suc, ◌+◌, ◌*◌, ◌/◌, ◌%◌, ◌^◌, ◌<◌, ◌≤◌, cond, eqb, ◌&&◌, List, [], ◌∷◌, length, Option, Some, None, refl, sym, ap, subst, ◌∙◌, arith, get_or, set, inl, inr, ⊎_elim, eq-eqb, ne_eqb, get_or-set_same, get_or-set_other, length-set, Me, step, keeps, Allows, set_else, Walk, Watch, HasNoted, MayBind, door_at, PlanOk, PassOk, plan_stored, pass_stored, seats_stay, Held, Size, Made, Bound, Hand, Free, Has, Out, In, Walker, Holder, View, Passing, Keeping, Spent, touched, answer, Given, ended_of, after, mine, turn_at, ticket_at, current, hand_of, binding_in, binding_at, having_made, page_of, admitted, bound_anew, Draws, Binds, BookOk, TurnsOk, HandOk, HoldsHand, SeatOk}
 use mathlib.Core.Logic.{dite}
 use mathlib.Core.Option as M
 use native.Mathlib.Decide.{ℕ_discrete}
 use lib.ListN.{get_elem?}
-use Rattle.std.proofs.lemmas.Bool.{eq-eqb, ne_eqb}
-use Rattle.std.proofs.lemmas.List.{get_or-set_same, get_or-set_other, length-set}
-use Rattle.atomic_table.specs.Table.{Me, step, keeps, Allows}
-use Rattle.atomic_table.proofs.Lists.{set_else}
-use Rattle.live_doors.specs.declared.views.Walk.{Walk}
-use Rattle.live_doors.specs.declared.views.Watch.{Watch}
-use Rattle.live_doors.specs.Doors.{HasNoted, MayBind}
-use Rattle.live_doors.specs.Steps.{door_at}
-use Rattle.live_doors.specs.Kept.{PlanOk, PassOk}
-use Rattle.live_doors.specs.Laws.{plan_stored, pass_stored, seats_stay}
-use Rattle.live_pages.specs.declared.rule.Held.{Held}
-use Rattle.live_pages.specs.declared.rule.Size.{Size}
-use Rattle.live_pages.specs.declared.touch.Made.{Made}
-use Rattle.live_pages.specs.declared.touch.Bound.{Bound}
-use Rattle.live_pages.specs.declared.views.Hand.{Hand}
-use Rattle.live_pages.specs.declared.views.Hand.TheVariants.{Free, Has}
-use Rattle.live_pages.specs.declared.views.Part.TheVariants.{Out, In}
-use Rattle.live_pages.specs.declared.views.Walker.{Walker}
-use Rattle.live_pages.specs.declared.views.Holder.{Holder}
-use Rattle.live_pages.specs.declared.views.View.{View}
-use Rattle.live_pages.specs.declared.views.View.TheVariants.{Passing, Keeping, Spent}
-use Rattle.live_pages.specs.Touches.{touched, answer, Given, ended_of, after, mine}
-use Rattle.live_pages.specs.Turns.{turn_at, ticket_at, current, hand_of, binding_in, binding_at, having_made, page_of}
-use Rattle.live_pages.specs.Turns.{admitted, bound_anew, Draws, Binds}
-use Rattle.live_pages.specs.Kept.{BookOk, TurnsOk, HandOk, HoldsHand, SeatOk}
-use Rattle.live_pages.proofs.Replay.{own_below, regiven_here, after_here, after_frame, after_else, after_next, regiven}
-use Rattle.live_pages.proofs.Replay.{regiven_binding, legal_next}
-use Rattle.live_pages.proofs.Replay.{left_next, bindings_stay, left_stays, left_touched, mine_here, mine_else}
-use Rattle.live_pages.proofs.Replay.{tickets_fit}
+use Rattle.live_pages.proofs.Replay.{own_below, regiven_here, after_here, after_frame, after_else, after_next, regiven, regiven_binding, legal_next, left_next, bindings_stay, left_stays, left_touched, mine_here, mine_else, tickets_fit}
 use Rattle.live_pages.proofs.Quiet.{set_at, InOrder}
 use Rattle.live_pages.proofs.Turning.{has_frame, plan_above, pass_above, holder_stands}
 

@@ -1,44 +1,14 @@
 -- The start, the making of passes, and the end.
-use Rattle.std.proofs.Common.{◌≡◌, ◌≢◌, ℕ, suc, zero, ◌+◌, ◌/◌, ◌<◌, ◌≤◌, ◌⊎◌, List, [], ◌∷◌, ◌++◌, length, replicate}
-use Rattle.std.proofs.Common.{Option, Some, None, refl, sym, ap}
-use Rattle.std.proofs.Common.{subst, ◌∙◌, arith, get_or, set, inl, inr, ⊎_elim, map}
+use Rattle.live_pages.proofs.Prelude.{◌≡◌, ◌≢◌, ℕ, suc, zero, ◌+◌, ◌/◌, ◌<◌, ◌≤◌, ◌⊎◌, List, [], ◌∷◌, ◌++◌, length, replicate, Option, Some, None, refl, sym, ap, subst, ◌∙◌, arith, get_or, set, inl, inr, ⊎_elim, map, length-replicate, length-append, get_or-replicate, get_or_append_left, get_or-append-add, get_or-set_same, get_or-set_other, length-set, Splits, Joins, set_again, at_set, set_else, at_map, blank, first_watch, HasNoted, HoldsEntry, MayBind, door_at, ack_at, first_words, PassOk, plan_admits, pass_admits, blank_ok, seats_stay, Walk, Held, Size, Made, Hand, Free, Has, Out, In, Walker, Holder, View, Passing, Keeping, Spent, Given, page_given, after, mine, first_holder, opening_words, keeper_with_pass, pass_of_keeper, taken_in, turn_at, current, hand_of, watching, binding_in, binding_at, IsClearOf, BookOk, SlotsOk, HandOk, SeatOk, Kept, AllIn, IsCurrent, EntryIsCurrent, MayBindHasNoHolder, AllInIsLegal, valued, valued_else, valued_here}
 use mathlib.Core.Logic.{dite}
 use mathlib.Core.Option as M
 use native.Mathlib.Decide.{ℕ_discrete}
 use lib.ListN.{get_elem?}
-use Rattle.std.proofs.lemmas.List.{length-replicate, length-append, get_or-replicate, get_or_append_left}
-use Rattle.std.proofs.lemmas.List.{get_or-append-add, get_or-set_same}
-use Rattle.std.proofs.lemmas.List.{get_or-set_other, length-set}
-use Rattle.atomic_table.specs.Table.{Splits, Joins}
-use Rattle.atomic_table.proofs.Lists.{set_again, at_set, set_else, at_map}
-use Rattle.live_doors.specs.Doors.{blank, first_watch, HasNoted, HoldsEntry, MayBind}
-use Rattle.live_doors.specs.Steps.{door_at, ack_at, first_words}
-use Rattle.live_doors.specs.Kept.{PassOk}
-use Rattle.live_doors.specs.Laws.{plan_admits, pass_admits, blank_ok, seats_stay}
-use Rattle.live_doors.specs.declared.views.Walk.{Walk}
-use Rattle.live_pages.specs.declared.rule.Held.{Held}
-use Rattle.live_pages.specs.declared.rule.Size.{Size}
-use Rattle.live_pages.specs.declared.touch.Made.{Made}
-use Rattle.live_pages.specs.declared.views.Hand.{Hand}
-use Rattle.live_pages.specs.declared.views.Hand.TheVariants.{Free, Has}
-use Rattle.live_pages.specs.declared.views.Part.TheVariants.{Out, In}
-use Rattle.live_pages.specs.declared.views.Walker.{Walker}
-use Rattle.live_pages.specs.declared.views.Holder.{Holder}
-use Rattle.live_pages.specs.declared.views.View.{View}
-use Rattle.live_pages.specs.declared.views.View.TheVariants.{Passing, Keeping, Spent}
-use Rattle.live_pages.specs.Touches.{Given, page_given, after, mine}
-use Rattle.live_pages.specs.Turns.{first_holder, opening_words, keeper_with_pass, pass_of_keeper, taken_in, turn_at}
-use Rattle.live_pages.specs.Turns.{current, hand_of, watching, binding_in}
-use Rattle.live_pages.specs.Turns.{binding_at}
-use Rattle.live_pages.specs.Kept.{IsClearOf, BookOk, SlotsOk, HandOk, SeatOk, Kept, AllIn, IsCurrent, EntryIsCurrent}
-use Rattle.live_pages.specs.Kept.{MayBindHasNoHolder}
-use Rattle.live_pages.specs.Ending.{AllInIsLegal}
 use Rattle.live_pages.proofs.Replay.{bindings_stay, left_stays}
 use Rattle.live_pages.proofs.Changing.{entry_is_current}
 use Rattle.live_pages.proofs.ByTicket.{pages_are, all_of_one_thread, all_ended_left}
 use Rattle.live_pages.proofs.Quiet.{set_at, InOrder}
 use Rattle.live_pages.proofs.Turning.{free_has, holder_stands}
-use Rattle.laws.proofs.Places.{valued, valued_else, valued_here}
 
 -- where the last of a longer list stands
 snoc_place : {V : Type 0} (l : List V) (a b : V) (j : ℕ) → get_elem? (l ++ a ∷ []) j ≡ M.some b

@@ -1,3 +1,4 @@
+mod Prelude
 pub mod Replay
 pub mod Quiet
 pub mod Turning

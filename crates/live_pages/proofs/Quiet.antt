@@ -1,35 +1,9 @@
 -- The steps that leave turns, tickets and pages alone: they keep the rule as they keep that of the doors.
-use Rattle.std.proofs.Common.{◌≡◌, ◌≢◌, ℕ, suc, zero, ◌+◌, ◌/◌, ◌%◌, ◌<◌, ◌≤◌, Bool, true, false, eqb, List, [], ◌∷◌}
-use Rattle.std.proofs.Common.{length, Option, refl, sym, ap, subst}
-use Rattle.std.proofs.Common.{◌∙◌, arith, get_or, set}
+use Rattle.live_pages.proofs.Prelude.{◌≡◌, ◌≢◌, ℕ, suc, zero, ◌+◌, ◌/◌, ◌%◌, ◌<◌, ◌≤◌, Bool, true, false, eqb, List, [], ◌∷◌, length, Option, refl, sym, ap, subst, ◌∙◌, arith, get_or, set, set-get_or, get_or-set_same, get_or-set_other, length-set, State, step, keeps, Allows, set_else, Walk, Watch, having_noted, forgotten, acknowledged, shut, raised, door_at, ack_at, filled_if, filled, PlanOk, PassOk, filled_ok, forgotten_ok, plan_acknowledged, acknowledged_ok, pass_stays, plan_shut, pass_shut, plan_raised, pass_raised, plan_noted, seats_stay, Held, Size, Made, Hand, Free, Has, Walker, Holder, View, Passing, Keeping, Spent, Given, after, mine, turn_at, ticket_at, current, hand_of, walking, watching, Fills, Forgets, Acknowledges, Closes, Raises, Looks, BookOk, SlotsOk, TurnsOk, HandOk, HoldsHand, WalkerOk, SeatOk, Kept}
 use mathlib.Core.Logic.{dite}
 use mathlib.Core.Option as M
 use native.Mathlib.Decide.{ℕ_discrete}
 use lib.ListN.{get_elem?}
-use Rattle.std.proofs.lemmas.List.{set-get_or, get_or-set_same, get_or-set_other, length-set}
-use Rattle.atomic_table.specs.Table.{State, step, keeps, Allows}
-use Rattle.atomic_table.proofs.Lists.{set_else}
-use Rattle.live_doors.specs.declared.views.Walk.{Walk}
-use Rattle.live_doors.specs.declared.views.Watch.{Watch}
-use Rattle.live_doors.specs.Doors.{having_noted, forgotten, acknowledged, shut, raised}
-use Rattle.live_doors.specs.Steps.{door_at, ack_at, filled_if, filled}
-use Rattle.live_doors.specs.Kept.{PlanOk, PassOk}
-use Rattle.live_doors.specs.Laws.{filled_ok, forgotten_ok, plan_acknowledged, acknowledged_ok, pass_stays, plan_shut}
-use Rattle.live_doors.specs.Laws.{pass_shut, plan_raised, pass_raised}
-use Rattle.live_doors.specs.Laws.{plan_noted, seats_stay}
-use Rattle.live_pages.specs.declared.rule.Held.{Held}
-use Rattle.live_pages.specs.declared.rule.Size.{Size}
-use Rattle.live_pages.specs.declared.touch.Made.{Made}
-use Rattle.live_pages.specs.declared.views.Hand.{Hand}
-use Rattle.live_pages.specs.declared.views.Hand.TheVariants.{Free, Has}
-use Rattle.live_pages.specs.declared.views.Walker.{Walker}
-use Rattle.live_pages.specs.declared.views.Holder.{Holder}
-use Rattle.live_pages.specs.declared.views.View.{View}
-use Rattle.live_pages.specs.declared.views.View.TheVariants.{Passing, Keeping, Spent}
-use Rattle.live_pages.specs.Touches.{Given, after, mine}
-use Rattle.live_pages.specs.Turns.{turn_at, ticket_at, current, hand_of, walking, watching, Fills, Forgets}
-use Rattle.live_pages.specs.Turns.{Acknowledges, Closes, Raises, Looks}
-use Rattle.live_pages.specs.Kept.{BookOk, SlotsOk, TurnsOk, HandOk, HoldsHand, WalkerOk, SeatOk, Kept}
 use Rattle.live_pages.proofs.Replay.{bindings_stay, left_stays}
 
 pub set_at : {V : Type 0} (l : List V) (i : ℕ) (a b : V) → get_elem? l i ≡ M.some a → get_elem? (set l i b) i ≡ M.some b

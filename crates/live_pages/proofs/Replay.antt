@@ -1,17 +1,7 @@
 -- Touches replayed: what one more touch, or one more binding, changes.
-use Rattle.std.proofs.Common.{◌≡◌, ◌≢◌, ℕ, suc, zero, ◌+◌, ◌*◌, ◌^◌, ◌<◌, ◌≤◌, ◌⊎◌, Bool, true, false, cond, eqb, ◌&&◌}
-use Rattle.std.proofs.Common.{List, [], ◌∷◌, length, refl, sym, ap}
-use Rattle.std.proofs.Common.{subst, ◌∙◌, arith, inl, inr, ⊎_elim, suc-mul, mul-le-mul_right}
+use Rattle.live_pages.proofs.Prelude.{◌≡◌, ◌≢◌, ℕ, suc, zero, ◌+◌, ◌*◌, ◌^◌, ◌<◌, ◌≤◌, ◌⊎◌, Bool, true, false, cond, eqb, ◌&&◌, List, [], ◌∷◌, length, refl, sym, ap, subst, ◌∙◌, arith, inl, inr, ⊎_elim, suc-mul, mul-le-mul_right, eq-eqb, ne_eqb, Watch, Made, Bound, touched, answer, Given, is_of, touched_if, after, IsLegal, AreBelow, mine, mine_if, current, AreOfBindings, HaveLeft, and_false}
 use mathlib.Core.Logic.{dite}
 use native.Mathlib.Decide.{ℕ_discrete}
-use Rattle.std.proofs.lemmas.Bool.{eq-eqb, ne_eqb}
-use Rattle.live_doors.specs.declared.views.Watch.{Watch}
-use Rattle.live_pages.specs.declared.touch.Made.{Made}
-use Rattle.live_pages.specs.declared.touch.Bound.{Bound}
-use Rattle.live_pages.specs.Touches.{touched, answer, Given, is_of, touched_if, after, IsLegal, AreBelow, mine, mine_if}
-use Rattle.live_pages.specs.Turns.{current}
-use Rattle.live_pages.specs.Kept.{AreOfBindings, HaveLeft}
-use Rattle.laws.proofs.Bools.{and_false}
 
 -- a touch of this binding
 pub after_here : (given : Given) (f b : ℕ) (e : Made) (es : List Made) → e.frame ≡ f → e.binding ≡ b

@@ -1,38 +1,11 @@
 -- The steps that take a turn, touch the page in hand, and give the turn back.
-use Rattle.std.proofs.Common.{◌≡◌, ◌≢◌, ℕ, ◌+◌, ◌<◌, ◌≤◌, cond, eqb, List, [], ◌∷◌, length, Option, Some, None, refl}
-use Rattle.std.proofs.Common.{sym, ap, subst, ◌∙◌, arith, get_or, set}
-use Rattle.std.proofs.Common.{⊎_elim}
+use Rattle.live_pages.proofs.Prelude.{◌≡◌, ◌≢◌, ℕ, ◌+◌, ◌<◌, ◌≤◌, eqb, List, [], ◌∷◌, length, Option, Some, None, refl, sym, ap, subst, ◌∙◌, arith, get_or, set, ⊎_elim, set-get_or, get_or-set_same, get_or-set_other, length-set, State, Me, Act, Valid, step, keeps, takes, gives, homes_after, carried_after, Allows, set_here, set_else, exchanged, Walk, Watch, having_read, HasNoted, IsShut, MayBind, door_at, ack_at, PlanOk, PassOk, pass_stays, entry_gone, entry_never, seats_stay, Held, Size, Made, Hand, Free, Has, Walker, Holder, View, Passing, Keeping, Spent, Given, after, mine, turn_at, turn_of, ticket_at, current, hand_of, walking, taken, page_of, Takes, Gives, KeeperTakes, KeeperGives, BookOk, TurnsOk, HandOk, HoldsHand, WalkerOk, SeatOk, Kept, valued, valued_else, valued_here}
 use mathlib.Core.Logic.{dite}
 use mathlib.Core.Option as M
 use native.Mathlib.Decide.{ℕ_discrete}
 use prog.Atomic.{either}
 use lib.ListN.{get_elem?}
-use Rattle.std.proofs.lemmas.List.{set-get_or, get_or-set_same, get_or-set_other, length-set}
-use Rattle.std.proofs.lemmas.Bool.{eq-eqb, ne_eqb}
-use Rattle.atomic_table.specs.Table.{State, Me, Act, Valid, step, keeps, takes, gives, homes_after, carried_after}
-use Rattle.atomic_table.specs.Table.{Allows}
-use Rattle.atomic_table.proofs.Lists.{set_here, set_else, exchanged}
-use Rattle.live_doors.specs.declared.views.Walk.{Walk}
-use Rattle.live_doors.specs.declared.views.Watch.{Watch}
-use Rattle.live_doors.specs.Doors.{having_read, HasNoted, IsShut, MayBind}
-use Rattle.live_doors.specs.Steps.{door_at, ack_at}
-use Rattle.live_doors.specs.Kept.{PlanOk, PassOk}
-use Rattle.live_doors.specs.Laws.{pass_stays, entry_gone, entry_never, seats_stay}
-use Rattle.live_pages.specs.declared.rule.Held.{Held}
-use Rattle.live_pages.specs.declared.rule.Size.{Size}
-use Rattle.live_pages.specs.declared.touch.Made.{Made}
-use Rattle.live_pages.specs.declared.views.Hand.{Hand}
-use Rattle.live_pages.specs.declared.views.Hand.TheVariants.{Free, Has}
-use Rattle.live_pages.specs.declared.views.Walker.{Walker}
-use Rattle.live_pages.specs.declared.views.Holder.{Holder}
-use Rattle.live_pages.specs.declared.views.View.{View}
-use Rattle.live_pages.specs.declared.views.View.TheVariants.{Passing, Keeping, Spent}
-use Rattle.live_pages.specs.Touches.{Given, after, mine}
-use Rattle.live_pages.specs.Turns.{turn_at, turn_of, ticket_at, current, hand_of, walking, taken, page_of, Takes}
-use Rattle.live_pages.specs.Turns.{Gives, KeeperTakes, KeeperGives}
-use Rattle.live_pages.specs.Kept.{BookOk, TurnsOk, HandOk, HoldsHand, WalkerOk, SeatOk, Kept}
 use Rattle.live_pages.proofs.Quiet.{set_at, InOrder, pass_stepped}
-use Rattle.laws.proofs.Places.{valued, valued_else, valued_here}
 
 one_zero : (x y : ℕ) → x ≡ 1 → y ≡ 0 → x ≡ y → ⊥
 one_zero x y a b e = omega arith

@@ -1,8 +1,6 @@
 -- What the definitions of the end say of a worked row, with one frame and two processors: a page is bound; processor 0
 -- adds 5 at place 3, processor 1 reads there, processor 0 puts 7; then another page is bound, and touched by nobody.
-use Rattle.std.proofs.Common.{◌≡◌, [], ◌∷◌}
-use Rattle.live_pages.specs.declared.touch.Touch.TheVariants.{Get, Put, Add}
-use Rattle.live_pages.specs.declared.touch.Made.{Made}
+use Rattle.live_pages.proofs.Prelude.{Get, Put, Add, Made}
 
 abbrev pub adds : Made
 adds = record { ticket = 0; cpu = 0; frame = 0; binding = 1; touch = Add 3 5; word = 5 }

@@ -1,15 +1,7 @@
 -- The accounts of a machine that keeps its promise, and what of its volumes is in use, are those of the flat store
 -- after the book; and the book tells at most as many failures as the drives have counted.
-use Rattle.std.proofs.Common.{◌≡◌, ◌<◌, ◌≤◌, ◌^◌, ℕ, Bool, length, List, Option, sym, ap, subst, ◌∙◌, arith}
-use Rattle.std.specs.Prelude.{count_by}
-use Rattle.std.proofs.lemmas.List.Sums.{count_by-le-length}
-use Rattle.tree_model.specs.Tree.{Node, entries_on, taken_on}
-use Rattle.accounts.specs.Maps.{AccountMaps, Counts}
+use Rattle.machine.proofs.Prelude.{◌≡◌, ◌<◌, ◌≤◌, ◌^◌, ℕ, Bool, length, List, Option, sym, ap, subst, ◌∙◌, arith, count_by, count_by-le-length, Node, entries_on, taken_on, AccountMaps, Counts, taken, used, Keeps, is_fault, flat_of, State}
 use Rattle.vtoc.specs.Vtoc.{Entry}
-use Rattle.page_control.specs.Counts.{taken, used}
-use Rattle.machine_model.specs.Keeps.{Keeps, is_fault}
-use Rattle.machine_model.specs.Reads.{flat_of}
-use Rattle.machine_model.specs.State.{State}
 
 module _ (s : State) (keeps : Keeps s) where
   pub shown_nodes : (a : AccountMaps) → a ≡ s.store.accounts → (flat_of s).nodes ≡ a.nodes

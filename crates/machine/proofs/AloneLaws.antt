@@ -1,48 +1,8 @@
 -- What the tables ask of a processor that acts by itself follows from the promise and the rule.
-use Rattle.std.proofs.Common.{◌≡◌, ◌<◌, ◌≤◌, ◌+◌, ◌-◌, ◌^◌, ◌/◌, ℕ, Bool, true, false, ◌||◌, ◌&&◌, cond}
-use Rattle.std.proofs.Common.{eqb, length, map}
-use Rattle.std.proofs.Common.{List, [], ◌∷◌, Option, Some, None, refl, sym, ap, subst, ◌∙◌, inl, inr, arith}
-use Rattle.std.specs.List.{find}
-use Rattle.std.proofs.lemmas.Map.Steps.{length-le_from_distinct_below}
-use Rattle.std.proofs.lemmas.Bool.Decides.{eqb_tells}
-use Rattle.assoc_mem.specs.declared.HeldPage.{HeldPage}
-use Rattle.assoc_mem.specs.declared.HeldSeg.{HeldSeg}
-use Rattle.assoc_mem.specs.Held.{is_number, is_page, page_of, seg_of}
-use Rattle.script.specs.declared.commands.Command.{Command}
-use Rattle.flat_model.specs.Commands.{is_end}
-use Rattle.flat_model.proofs.PlaceLaws.{place_fits, place_within}
-use Rattle.custody_model.specs.Clean.{custody_after}
-use Rattle.custody_model.specs.Custody.{Custody, Seat, has, range}
-use Rattle.custody_model.specs.Next.{released_by}
+use Rattle.machine.proofs.Prelude.{◌≡◌, ◌<◌, ◌≤◌, ◌+◌, ◌-◌, ◌^◌, ◌/◌, ℕ, Bool, true, false, ◌||◌, ◌&&◌, cond, eqb, length, map, List, [], ◌∷◌, Option, Some, None, refl, sym, ap, subst, ◌∙◌, inl, inr, arith, find, length-le_from_distinct_below, eqb_tells, HeldPage, HeldSeg, is_number, is_page, page_of, seg_of, Command, is_end, place_fits, place_within, custody_after, Custody, Seat, has, range, released_by, Action, action_of, no_call, AreDistinct, AreHeldPages, names, held_page, Reference, cpu_at, descriptor_of, next_command, processor_at, run_at, shown, speaks, led_to, seen, Who, sdws_at, leb_tells, length-map, get_or_past, none_some, State, Asks, action_can, CanDo, CanFill, to_hold, Parts, IsSound, MayAnswer, and_both, distinct_of, none_listed, or_parts, range_length, any_turned}
 use Rattle.machine_model.specs.Actions as act
-use Rattle.machine_model.specs.Actions.{Action, action_of}
-use Rattle.machine_model.specs.After.{no_call}
-use Rattle.machine_model.specs.Custodial.{AreDistinct, AreHeldPages, names}
-use Rattle.machine_model.specs.Steps.{held_page}
-use Rattle.script.specs.declared.commands.Reference.{Reference}
-use Rattle.machine_model.specs.Reads.{cpu_at, descriptor_of, next_command, processor_at, run_at}
-use Rattle.machine_model.specs.Seen.{shown}
-use Rattle.machine_model.proofs.SpeakLaws.{speaks}
 use Rattle.machine.proofs.CountedLaws.{counted_after}
-use Rattle.machine_model.specs.Holding.{led_to, seen}
-use Rattle.mnames.specs.declared.principals.Who.{Who}
 use Rattle.descriptor_seg.specs.declared.Sdw.TheVariants as sdw
-use Rattle.seg_control.specs.Control.{sdws_at}
-use Rattle.std.proofs.lemmas.Bool.Decides.{leb_tells}
-use Rattle.std.proofs.lemmas.List.{length-map, get_or_past}
-use Rattle.machine_model.proofs.TieLaws.{none_some}
-use Rattle.machine_model.specs.State.{State}
-use Rattle.machine_model.proofs.RuleKept.{Asks}
-use Rattle.machine_model.proofs.RulesKept.{action_can}
-use Rattle.machine_model.proofs.StepKept.{CanDo, CanFill, to_hold}
-use Rattle.machine_tables.specs.Parts.{Parts}
-use Rattle.machine.specs.Promise.{IsSound}
-use Rattle.machine.specs.Turns.{MayAnswer}
-use Rattle.laws.proofs.Numbers.{and_both}
-use Rattle.machine_model.proofs.OutlineSeen.{distinct_of}
-use Rattle.machine_model.proofs.CommitRests.{none_listed}
-use Rattle.std.proofs.lemmas.Bool.{or_parts}
-use Rattle.custody_model.proofs.SharedLaws.{range_length, any_turned}
 
 -- ---- ready processes
 

@@ -1,13 +1,5 @@
 -- What comes back where the drive failed isn't seen in the flat store.
-use Rattle.std.proofs.Common.{ℕ, List, [], ◌∷◌, Option, Some, None, refl}
-use Rattle.core_map.specs.CoreMap.{bound_page}
-use Rattle.page_control.specs.Plain.{frame_in}
-use Rattle.machine_model.specs.declared.CutDescriptor.{CutDescriptor}
-use Rattle.machine_model.specs.Jobs.{here_if, page_back, pages_back, seg_back, segs_back, with_here, with_relink}
-use Rattle.machine_model.specs.Jobs.{write_failed}
-use Rattle.machine_model.specs.Reads.{cut_of_owner, frames_of_owner, process_at}
-use Rattle.machine_model.specs.State.{State, Storage}
-use Rattle.machine_model.specs.Steps.{fault_told}
+use Rattle.machine.proofs.Prelude.{ℕ, List, [], ◌∷◌, Option, Some, None, refl, bound_page, frame_in, CutDescriptor, here_if, page_back, pages_back, seg_back, segs_back, with_here, with_relink, write_failed, cut_of_owner, frames_of_owner, process_at, State, Storage, fault_told}
 use Rattle.machine.proofs.Stays.{ShowsAs, same_as, tables_as, then_as}
 
 -- a page that is here again

@@ -1,25 +1,6 @@
 -- A processor that does more than take part, drop and load has a process.
-use Rattle.std.proofs.Common.{◌≡◌, ◌<◌, ℕ, length, true, false, eqb, List, [], ◌∷◌, Option, Some, None}
-use Rattle.std.proofs.Common.{inl, inr, refl, sym, ap, subst, ◌∙◌}
-use Rattle.std.proofs.lemmas.Bool.{cond_both}
-use Rattle.std.proofs.lemmas.Bool.Decides.{eqb_tells}
-use Rattle.assoc_mem.specs.declared.What.{What}
-use Rattle.processor.specs.declared.Transfer.{Transfer}
-use Rattle.machine_model.specs.declared.Processor.{Processor}
+use Rattle.machine.proofs.Prelude.{◌≡◌, ◌<◌, ℕ, length, true, false, eqb, List, [], ◌∷◌, Option, Some, None, inl, inr, refl, sym, ap, subst, ◌∙◌, cond_both, eqb_tells, What, Transfer, Processor, action_of, clear_or, go_on_with, load_or_idle, own_or_run, run_process, transfer_or, no_call, Keeps, IsReading, or_zero, process_at, processor_at, Owner, State, action_by, process_here, reads_for, Parts, IsSound, IsBusy, is_of_process}
 use Rattle.machine_model.specs.Actions as act
-use Rattle.machine_model.specs.Actions.{action_of, clear_or, go_on_with, load_or_idle, own_or_run, run_process}
-use Rattle.machine_model.specs.Actions.{transfer_or}
-use Rattle.machine_model.specs.After.{no_call}
-use Rattle.machine_model.specs.Keeps.{Keeps}
-use Rattle.machine_model.specs.Reading.{IsReading}
-use Rattle.machine_model.specs.Reads.{or_zero, process_at, processor_at}
-use Rattle.machine_model.specs.State.{Owner, State}
-use Rattle.machine_model.proofs.ActionCases.{action_by}
-use Rattle.machine_model.proofs.RuleKept.{process_here}
-use Rattle.machine_model.proofs.StepAsks.{reads_for}
-use Rattle.machine_tables.specs.Parts.{Parts}
-use Rattle.machine.specs.Promise.{IsSound}
-use Rattle.machine.specs.Turns.{IsBusy, is_of_process}
 
 -- what its action tells of a processor
 abbrev pub Busy : State → ℕ → act.Action → Type 0

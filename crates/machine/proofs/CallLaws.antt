@@ -1,29 +1,7 @@
 -- What a step's call of a drive comes to: which drive counts a failure more, and how many all of them do.
-use Rattle.std.proofs.Common.{◌≡◌, ◌≢◌, ◌⊎◌, ◌≤◌, ◌<◌, ◌+◌, ◌^◌, ◌++◌, ℕ, zero, suc, Bool, true, false}
-use Rattle.std.proofs.Common.{length, map, min, List, [], ◌∷◌, refl, ap, ◌∙◌, arith, inl, inr}
-use Rattle.std.specs.Prelude.{Err, IsOk, Ok, Result, count_by, sum_by}
-use Rattle.std.proofs.lemmas.Bool.{cases_lt}
-use Rattle.std.proofs.lemmas.List.Sums.{sum_by-cons}
-use Rattle.site_io.specs.Faults.{Rose}
-use Rattle.book.specs.declared.entries.Entry.{Entry}
-use Rattle.volumes.specs.FailLine.{IsOneMore}
-use Rattle.volumes.specs.Volumes.{faults_at}
-use Rattle.page_control.specs.Drives.{CallsDrive}
-use Rattle.seg_mover.specs.Copies.{CallsDrives, FailedAt}
+use Rattle.machine.proofs.Prelude.{◌≡◌, ◌≢◌, ◌⊎◌, ◌≤◌, ◌<◌, ◌+◌, ◌^◌, ◌++◌, ℕ, zero, suc, Bool, true, false, length, map, min, List, [], ◌∷◌, refl, ap, ◌∙◌, arith, inl, inr, Err, IsOk, Ok, Result, count_by, sum_by, cases_lt, sum_by-cons, Rose, Entry, IsOneMore, faults_at, CallsDrive, CallsDrives, FailedAt, page_in, is_fault, home_in, State, calls_drive, Parts, SparesCall, outcome_of, AreTold, CallsAs, CallsNone, CallsOne, CountsAlike, HaveCounted, KeepsParts, LetsGo, CallsTwo, RoseAtOne, count_on, not_both, sum_of_map, seen_same}
 use Rattle.machine_model.specs.Actions as act
-use Rattle.machine_model.specs.Jobs.{page_in}
-use Rattle.machine_model.specs.Keeps.{is_fault}
-use Rattle.machine_model.specs.Reads.{home_in}
-use Rattle.machine_model.specs.State.{State}
-use Rattle.machine_model.specs.Turns.{calls_drive}
-use Rattle.machine_tables.specs.Parts.{Parts, SparesCall, outcome_of}
-use Rattle.machine.specs.Turns.{AreTold, CallsAs, CallsNone, CallsOne, CountsAlike, HaveCounted, KeepsParts, LetsGo}
-use Rattle.machine.specs.Turns.{CallsTwo, RoseAtOne}
 use Rattle.machine.proofs.DriveCounts.{rose_sum, same_sum}
-use Rattle.machine_model.proofs.FaultsBooked.{count_on}
-use Rattle.laws.proofs.Bools.{not_both}
-use Rattle.laws.proofs.Lists.{sum_of_map}
-use Rattle.laws.proofs.Places.{seen_same}
 
 -- ---- a call by its result
 

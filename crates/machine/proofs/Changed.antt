@@ -1,17 +1,7 @@
 -- Actions that change what is shown, with no call of a drive: where the store says what it shows then, the machine
 -- keeps its promise.
-use Rattle.std.proofs.Common.{◌≡◌, ◌<◌, ℕ, length, sum, true, false, sym, subst, arith}
-use Rattle.flat_model.specs.Store.{Store}
-use Rattle.seg_control.specs.Kept.{IsKept}
-use Rattle.storage_ops.specs.Shown.{IsStore}
+use Rattle.machine.proofs.Prelude.{◌≡◌, ◌<◌, ℕ, length, sum, true, false, sym, subst, arith, Store, IsKept, IsStore, action_of, after, no_call, AreAccounts, IsFaithful, StoreKept, shown_after, State, Storage, Parts, IsSound}
 use Rattle.machine_model.specs.Actions as act
-use Rattle.machine_model.specs.Actions.{action_of}
-use Rattle.machine_model.specs.After.{after, no_call}
-use Rattle.machine_model.specs.Keeps.{AreAccounts, IsFaithful, StoreKept}
-use Rattle.machine_model.specs.Said.{shown_after}
-use Rattle.machine_model.specs.State.{State, Storage}
-use Rattle.machine_tables.specs.Parts.{Parts}
-use Rattle.machine.specs.Promise.{IsSound}
 use Rattle.machine.proofs.Steps.{sound_after}
 
 -- what the tables say of the store that a call leaves

@@ -1,36 +1,6 @@
 -- What the choice of a processor's action asks follows from the promise.
-use Rattle.std.proofs.Common.{◌≡◌, ◌<◌, ◌≤◌, ℕ, true, false, is_some, length, List, [], Option, Some, None}
-use Rattle.std.proofs.Common.{refl, sym, ap, subst, ◌∙◌, arith}
-use Rattle.std.specs.Prelude.{IfSome}
-use Rattle.std.specs.List.{find}
-use Rattle.assoc_mem.specs.declared.HeldSeg.{HeldSeg}
-use Rattle.assoc_mem.specs.Held.{is_number}
-use Rattle.seg_mover.specs.declared.Mover.{Mover}
-use Rattle.tree_model.specs.Tree.{Node, node_in, pool_of}
-use Rattle.active_segs.specs.Active.{IsActive, table_at, uid_at}
-use Rattle.custody_model.specs.Custody.{leads_to}
-use Rattle.seg_control.specs.Control.{place_of}
-use Rattle.storage_ops.specs.Shown.{pages_of}
-use Rattle.storage_ops.proofs.PageFacts.{directory_found, room_of}
-use Rattle.processor.specs.Moves.{IsLongEnough}
-use Rattle.machine_model.specs.Custodial.{AreHeldSegs, AreOfProcess}
-use Rattle.machine_model.specs.Entitled.{IsEntitled}
-use Rattle.machine_model.specs.Holding.{seen}
-use Rattle.machine_model.specs.Keeps.{Keeps}
-use Rattle.machine_model.specs.Lacking.{MovesIn}
-use Rattle.machine_model.specs.Movers.{mover_in, mover_of}
-use Rattle.machine_model.specs.declared.Phase.{Phase}
+use Rattle.machine.proofs.Prelude.{◌≡◌, ◌<◌, ◌≤◌, ℕ, true, false, is_some, length, List, [], Option, Some, None, refl, sym, ap, subst, ◌∙◌, arith, IfSome, find, HeldSeg, is_number, Mover, Node, node_in, pool_of, IsActive, table_at, uid_at, leads_to, place_of, pages_of, directory_found, room_of, IsLongEnough, AreHeldSegs, AreOfProcess, IsEntitled, seen, Keeps, MovesIn, mover_in, mover_of, Phase, cpu_at, is_active, next_command, process_at, shown, Owner, State, active_place, descriptor_active, entitled_all, leads_all, seg_found, active_there, none_some, AreLong, MayChoose, Parts, IsSound}
 use Rattle.machine_model.specs.declared.Phase.TheVariants as phase
-use Rattle.machine_model.specs.Reads.{cpu_at, is_active, next_command, process_at}
-use Rattle.machine_model.specs.Seen.{shown}
-use Rattle.machine_model.specs.State.{Owner, State}
-use Rattle.machine_model.proofs.ActiveSeen.{active_place}
-use Rattle.machine_model.proofs.MoveAsks.{descriptor_active, entitled_all, leads_all, seg_found}
-use Rattle.machine_model.proofs.PageShown.{active_there}
-use Rattle.machine_model.proofs.TieLaws.{none_some}
-use Rattle.machine_tables.specs.Held.{AreLong, MayChoose}
-use Rattle.machine_tables.specs.Parts.{Parts}
-use Rattle.machine.specs.Promise.{IsSound}
 use Rattle.machine.proofs.AloneLaws.{process_known, run_there}
 
 module _ {D : Type 0} (t : Parts D) (c : ℕ) (sound : IsSound t) (there : c < length t.state.processors) where

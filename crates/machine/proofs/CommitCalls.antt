@@ -1,34 +1,11 @@
 -- What the call asks that has a tree command take effect, and that the machine keeps its promise through it.
-use Rattle.std.proofs.Common.{◌≡◌, ◌<◌, ◌≤◌, ◌+◌, ◌^◌, ℕ, true, length, map, sum, List, Some, refl, sym, ap, subst, ◌∙◌}
-use Rattle.std.proofs.Common.{arith}
-use Rattle.script.specs.Forms.{is_command}
-use Rattle.script.specs.declared.commands.Command.{Command}
-use Rattle.flat_model.specs.Store.{Store}
-use Rattle.volumes.specs.Volumes.{HasParts}
+use Rattle.machine.proofs.Prelude.{◌≡◌, ◌<◌, ◌≤◌, ◌+◌, ◌^◌, ℕ, true, length, map, sum, List, Some, refl, sym, ap, subst, ◌∙◌, arith, is_command, Command, Store, HasParts, action_of, Outcome, after, no_call, committed_at, IsFaithful, Keeps, cpu_at, next_command, or_zero, process_at, processor_at, run_at, with_command, State, IsCommitting, committing, pools_kept, Knows, step_knows, few_uids, Parts, with_state, IsApplicable, MayCommit, effect_had, drive_each, more_volumes, IsSound, IsBusy, command_planned}
 use Rattle.machine_model.specs.Actions as act
-use Rattle.machine_model.specs.Actions.{action_of}
-use Rattle.machine_model.specs.After.{Outcome, after, no_call}
-use Rattle.machine_model.specs.Commits.{committed_at}
-use Rattle.machine_model.specs.Keeps.{IsFaithful, Keeps}
-use Rattle.machine_model.specs.Reads.{cpu_at, next_command, or_zero, process_at, processor_at, run_at}
-use Rattle.machine_model.specs.Said.{with_command}
-use Rattle.machine_model.specs.State.{State}
-use Rattle.machine_model.proofs.CommitReady.{IsCommitting, committing}
-use Rattle.machine_model.proofs.PoolsKept.{pools_kept}
-use Rattle.machine_model.proofs.StepKnows.{Knows, step_knows}
-use Rattle.machine_model.proofs.UidsFew.{few_uids}
-use Rattle.machine_tables.specs.Parts.{Parts, with_state}
-use Rattle.machine_tables.specs.Ready.{IsApplicable, MayCommit}
-use Rattle.machine_tables.proofs.EffectLaws.{effect_had}
-use Rattle.machine_tables.proofs.RangeLaws.{drive_each, more_volumes}
-use Rattle.machine.specs.Promise.{IsSound}
-use Rattle.machine.specs.Turns.{IsBusy}
 use Rattle.machine.proofs.AloneLaws.{leaving_room, place_room, process_known, run_there}
 use Rattle.machine.proofs.Busy.{busy_for}
 use Rattle.machine.proofs.Changed.{HasPlaces, IsStoreOf, changed_sound}
 use Rattle.machine.proofs.CommitStays.{commit_counts}
 use Rattle.machine.proofs.OwnerCalls.{owned, still_for}
-use Rattle.flat_model.proofs.ScriptLaws.{command_planned}
 
 -- There are as many places as the pools have, still.
 pub commit_places : (s : State) (c : ℕ) (o : Outcome) → HasPlaces s.store → HasPlaces (after s c act.Commit o).store

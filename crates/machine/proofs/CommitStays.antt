@@ -1,26 +1,9 @@
 -- What stays where a tree command takes effect: how many places and drives there are, and how many calls have failed.
-use Rattle.std.proofs.Common.{◌≡◌, ◌%◌, ◌/◌, ℕ, Bool, true, false, cond, eqb, length, List, [], ◌∷◌, Option, Some}
-use Rattle.std.proofs.Common.{None, refl, ap, ◌∙◌}
-use Rattle.std.proofs.lemmas.List.{length-set}
-use Rattle.script.specs.declared.commands.Command.{Command}
+use Rattle.machine.proofs.Prelude.{◌≡◌, ◌%◌, ◌/◌, ℕ, Bool, true, false, cond, eqb, length, List, [], ◌∷◌, Option, Some, None, refl, ap, ◌∙◌, length-set, Command, Row, bound_page, Ptw, cut, erased, framed, Plain, frame_in, words_in, place_of, word_of, committed, committed_at, frames_freed, gone_entries, left_after, pages_past, with_cut, with_cut_in, with_deleted, with_effect, with_made, with_truncated, without_page, without_pages, are_zeros, here_if, with_here, with_inactive, frames_of_owner, home_in, is_active, process_at, reply_of, uid_of_command, State, Storage, booked, told, with_pages, with_store}
 use Rattle.script.specs.declared.commands.Command.TheVariants as command
-use Rattle.tree_model.specs.Access.{Row}
 use Rattle.flat_model.specs.Branches.{parts_of}
-use Rattle.core_map.specs.CoreMap.{bound_page}
 use Rattle.core_map.specs.declared.Frame.TheVariants as frame
-use Rattle.page_table.specs.declared.Ptw.{Ptw}
 use Rattle.page_table.specs.declared.Ptw.TheVariants as ptw
-use Rattle.page_control.specs.Effects.{cut, erased, framed}
-use Rattle.page_control.specs.Plain.{Plain, frame_in, words_in}
-use Rattle.seg_control.specs.Control.{place_of, word_of}
-use Rattle.machine_model.specs.Commits.{committed, committed_at, frames_freed, gone_entries, left_after, pages_past}
-use Rattle.machine_model.specs.Commits.{with_cut, with_cut_in, with_deleted, with_effect, with_made, with_truncated}
-use Rattle.machine_model.specs.Commits.{without_page, without_pages}
-use Rattle.machine_model.specs.Jobs.{are_zeros, here_if, with_here, with_inactive}
-use Rattle.machine_model.specs.Reads.{frames_of_owner, home_in, is_active, process_at}
-use Rattle.machine_model.specs.Refusal.{reply_of, uid_of_command}
-use Rattle.machine_model.specs.State.{State, Storage}
-use Rattle.machine_model.specs.Steps.{booked, told, with_pages, with_store}
 
 -- how many places the active segment table has, and how many drives there are
 abbrev pub counts : Storage → ℕ × ℕ

@@ -1,19 +1,7 @@
 -- How many commands a processor has answered since it loaded its process, and where a process's next command stands.
-use Rattle.std.proofs.Common.{◌≡◌, ◌<◌, ◌+◌, ℕ, eqb, List, [], ◌∷◌, length}
-use Rattle.std.proofs.Common.{Some, refl, sym, ap, ◌∙◌, arith}
-use Rattle.std.proofs.lemmas.Bool.{cond_both}
-use Rattle.assoc_mem.specs.declared.What.{What}
-use Rattle.script.specs.Plans.{Plan}
-use Rattle.book.specs.declared.entries.Entry.{Entry}
+use Rattle.machine.proofs.Prelude.{◌≡◌, ◌<◌, ◌+◌, ℕ, eqb, List, [], ◌∷◌, length, Some, refl, sym, ap, ◌∙◌, arith, cond_both, What, Plan, Entry, after_entry, Store, boot, custody_after, custody_from, Custody, Seat, nothing_held, at_put, custody_next, count_next, by_place, none_some}
 use Rattle.book.specs.declared.entries.Entry.TheVariants as entry
-use Rattle.flat_model.specs.Legal.{after_entry}
-use Rattle.flat_model.specs.Store.{Store, boot}
-use Rattle.custody_model.specs.Clean.{custody_after, custody_from}
-use Rattle.custody_model.specs.Custody.{Custody, Seat, nothing_held}
-use Rattle.custody_model.specs.Next.{at_put, custody_next, told}
-use Rattle.custody_model.proofs.TurnLaws.{count_next}
-use Rattle.machine_model.proofs.Places.{by_place}
-use Rattle.machine_model.proofs.TieLaws.{none_some}
+use Rattle.custody_model.specs.Next.{told}
 
 -- of each processor that has a process: it has answered fewer commands since than there are entries
 abbrev AreCounted : Custody → ℕ → Type 0

@@ -1,48 +1,13 @@
 -- What the call asks that makes a page for a reference, and that the machine keeps its promise through it.
-use Rattle.std.proofs.Common.{◌≡◌, ◌≢◌, ◌<◌, ◌*◌, ℕ, Bool, true, false, not, ◌&&◌, cond, eqb, length, Option, Some}
-use Rattle.std.proofs.Common.{None}
-use Rattle.std.proofs.Common.{List, refl, sym, ap, subst, ◌∙◌, inl, inr}
-use Rattle.std.specs.Prelude.{◌/◌}
-use Rattle.std.proofs.lemmas.Bool.Decides.{eqb_tells}
-use Rattle.script.specs.References.{alters, new_word}
+use Rattle.machine.proofs.Prelude.{◌≡◌, ◌≢◌, ◌<◌, ◌*◌, ℕ, Bool, true, false, not, ◌&&◌, cond, eqb, length, Option, Some, None, List, refl, sym, ap, subst, ◌∙◌, inl, inr, ◌/◌, eqb_tells, alters, new_word, Reference, Reply, Node, node_in, frame_at, is_free, uid_of, has_record, IsActive, kst_at, leads, word_of, IsKnownAt, pages_of, is_stored, after_reference, is_out_of_room, is_used_up, room_reply, stores_page, word_reply, Store, action_of, after, IsFaithful, Keeps, cpu_at, flat_of, is_active, or_zero, process_at, is_of_room, only, room_refusal, State, page_created, free_frame, position_at, free_is, due_is, inside_is, IsInside, null_word, stored_is, active_at, HasPlace, IsMakeable, page_reference, Parts, with_state, IsSound, nonzero_alters}
 use Rattle.script.specs.declared.commands.RefKind.TheVariants as kind
-use Rattle.script.specs.declared.commands.Reference.{Reference}
-use Rattle.book.specs.declared.replies.Reply.{Reply}
 use Rattle.book.specs.declared.replies.Reply.TheVariants as reply
-use Rattle.tree_model.specs.Tree.{Node, node_in}
 use Rattle.core_map.specs.declared.Frame.TheVariants as frame
-use Rattle.core_map.specs.CoreMap.{frame_at, is_free}
-use Rattle.known_segs.specs.Known.{uid_of}
 use Rattle.page_table.specs.declared.Ptw.TheVariants as ptw
-use Rattle.page_control.specs.Tied.{has_record}
-use Rattle.active_segs.specs.Active.{IsActive}
-use Rattle.seg_control.specs.Control.{kst_at, leads, word_of}
-use Rattle.seg_control.specs.Kept.{IsKnownAt}
-use Rattle.storage_ops.specs.Shown.{pages_of}
-use Rattle.flat_model.specs.Pages.{is_stored}
-use Rattle.flat_model.specs.References.{after_reference, is_out_of_room, is_used_up, room_reply, stores_page}
-use Rattle.flat_model.specs.References.{word_reply}
-use Rattle.flat_model.specs.Store.{Store}
 use Rattle.machine_model.specs.Actions as act
-use Rattle.machine_model.specs.Actions.{action_of}
-use Rattle.machine_model.specs.After.{after}
-use Rattle.machine_model.specs.Keeps.{IsFaithful, Keeps}
-use Rattle.machine_model.specs.Reads.{cpu_at, flat_of, is_active, or_zero, process_at}
-use Rattle.machine_model.specs.Refusal.{is_of_room, only, room_refusal}
-use Rattle.machine_model.specs.State.{State}
-use Rattle.machine_model.specs.Steps.{page_created}
-use Rattle.machine_model.proofs.FindLaws.{free_frame, position_at, free_is}
-use Rattle.machine_model.proofs.InsideLaws.{due_is, inside_is}
-use Rattle.machine_model.proofs.LookFacts.{IsInside}
-use Rattle.machine_model.proofs.PageShown.{null_word, stored_is}
-use Rattle.machine_model.proofs.TransferKept.{active_at}
-use Rattle.machine_tables.specs.Made.{HasPlace, IsMakeable, page_reference}
-use Rattle.machine_tables.specs.Parts.{Parts, with_state}
-use Rattle.machine.specs.Promise.{IsSound}
 use Rattle.machine.proofs.AloneLaws.{process_known}
 use Rattle.machine.proofs.Changed.{IsStoreOf, changed_sound}
 use Rattle.machine.proofs.Found.{Looked, found_of}
-use Rattle.flat_model.proofs.SharedLaws.{nonzero_alters}
 
 module _ {D : Type 0} (t : Parts D) (c : ℕ) (sound : IsSound t) (there : c < length t.state.processors) (f u p : ℕ)
     (r : Reference) (doing : action_of t.state c ≡ act.Create f u p r) where

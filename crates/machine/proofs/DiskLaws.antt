@@ -1,31 +1,9 @@
 -- The volumes of a machine that keeps its promise hold the flat store after the book.
-use Rattle.std.proofs.Common.{◌≡◌, ◌≢◌, ◌&&◌, cond, ℕ, Bool, true, false, eqb, is_some, get_or, position, replicate}
-use Rattle.std.proofs.Common.{List, [], ◌∷◌, Option, Some, None, refl, sym, ap, subst, ◌∙◌}
-use Rattle.std.specs.Prelude.{◌/◌, ◌%◌}
-use Rattle.tree_model.specs.Tree.{Node, node_in, volume_in}
-use Rattle.flat_model.specs.Pages.{is_stored}
-use Rattle.custody_model.specs.Clean.{custody_after}
-use Rattle.custody_model.specs.Custody.{Custody, bound_page}
-use Rattle.vtoc.specs.Vtoc.{Entry, record_at}
-use Rattle.volumes.specs.Volumes.{Vols}
-use Rattle.page_table.specs.declared.Ptw.{Ptw}
+use Rattle.machine.proofs.Prelude.{◌≡◌, ◌≢◌, ◌&&◌, cond, ℕ, Bool, true, false, eqb, is_some, get_or, position, replicate, List, [], ◌∷◌, Option, Some, None, refl, sym, ap, subst, ◌∙◌, ◌/◌, ◌%◌, Node, node_in, volume_in, is_stored, custody_after, Custody, record_at, Vols, Ptw, Home, is_binding, is_filed_at, words_at, words_filed, words_held, words_of_page, bindings, vtoc_in, Mover, in_move, home_of, is_filed, is_there, picture, seen, Keeps, flat_of, bound_use, frame_use, State, position_at, none_some, HasHome, HasNode, IsOnDisk, bound_tells}
+use Rattle.custody_model.specs.Custody.{bound_page}
+use Rattle.vtoc.specs.Vtoc.{Entry}
 use Rattle.page_table.specs.declared.Ptw.TheVariants as ptw
-use Rattle.page_control.specs.declared.Home.{Home}
-use Rattle.page_control.specs.Picture.{is_binding, is_filed_at, words_at, words_filed, words_held, words_of_page}
-use Rattle.page_control.specs.Plain.{bindings}
-use Rattle.page_control.specs.Tied.{uid_at, vtoc_in}
-use Rattle.seg_mover.specs.declared.Mover.{Mover}
-use Rattle.seg_control.specs.Moving.{in_move}
-use Rattle.storage_ops.specs.Shown.{home_of, is_filed, is_there, picture}
-use Rattle.machine_model.specs.Holding.{seen}
-use Rattle.machine_model.specs.Keeps.{Keeps}
-use Rattle.machine_model.specs.Reads.{flat_of}
-use Rattle.machine_model.specs.Seen.{bound_use, frame_use}
-use Rattle.machine_model.specs.State.{State}
-use Rattle.machine_model.proofs.FindLaws.{position_at}
-use Rattle.machine_model.proofs.TieLaws.{none_some}
-use Rattle.machine.specs.OnDisk.{HasHome, HasNode, IsOnDisk}
-use Rattle.machine_model.proofs.PageShown.{bound_tells}
+use Rattle.page_control.specs.Tied.{uid_at}
 
 -- a frame that is bound shows its page
 bound_shows : (words : ℕ → ℕ → Ptw) (page : ℕ × ℕ) (x read : Option (ℕ × ℕ)) → x ≡ Some page

@@ -1,35 +1,9 @@
 -- There are as many drives after each action, and after a visit of the shutdown, as before.
-use Rattle.std.proofs.Common.{◌≡◌, ◌%◌, ℕ, Bool, true, false, cond, length, List, [], ◌∷◌, Option, Some, None, get_or}
-use Rattle.std.proofs.Common.{ap, refl, set, ◌∙◌}
-use Rattle.std.proofs.lemmas.List.{length-set}
-use Rattle.script.specs.declared.commands.Command.{Command}
-use Rattle.script.specs.declared.commands.Reference.{Reference}
-use Rattle.script.specs.References.{alters, new_word}
-use Rattle.assoc_mem.specs.declared.What.{What}
+use Rattle.machine.proofs.Prelude.{◌≡◌, ◌%◌, ℕ, Bool, true, false, cond, length, List, [], ◌∷◌, Option, Some, None, get_or, ap, refl, set, ◌∙◌, length-set, Command, Reference, alters, new_word, What, bound_page, is_modified, Home, Left, evicted, referred, word_put, Plain, frame_in, record_of, words_in, Aim, CutDescriptor, Outcome, after, committed_at, cut_all, cut_one, eviction_done, leaving_if, left_of, page_back, page_done, page_gone, page_in, pages_back, seg_back, seg_gone, segment_taken, segs_back, segs_gone, take_all, take_one, took, with_choice, with_hand_moved, with_here, write_failed, copy_failed, page_copied, cut_of_owner, frames_from, frames_of_owner, home_in, next_command, process_at, trailers_in, after_visit, page_taken, visited_if, State, Storage, fault_told, old_word, pages_after, transfer_failed, transferred, with_faults, with_store}
 use Rattle.assoc_mem.specs.declared.What.TheVariants as what
-use Rattle.core_map.specs.CoreMap.{bound_page, is_modified}
-use Rattle.page_control.specs.declared.Home.{Home}
-use Rattle.page_control.specs.declared.Left.{Left}
 use Rattle.page_control.specs.declared.Left.TheVariants as left
-use Rattle.page_control.specs.Effects.{evicted, referred, word_put}
-use Rattle.page_control.specs.Plain.{Plain, frame_in, record_of, words_in}
-use Rattle.machine_model.specs.declared.Aim.{Aim}
 use Rattle.machine_model.specs.declared.Aim.TheVariants as aim
-use Rattle.machine_model.specs.declared.CutDescriptor.{CutDescriptor}
 use Rattle.machine_model.specs.Actions as act
-use Rattle.machine_model.specs.After.{Outcome, after}
-use Rattle.machine_model.specs.Commits.{committed_at}
-use Rattle.machine_model.specs.Jobs.{cut_all, cut_one, eviction_done, leaving_if, left_of}
-use Rattle.machine_model.specs.Jobs.{page_back, page_done, page_gone, page_in, pages_back, seg_back}
-use Rattle.machine_model.specs.Jobs.{seg_gone, segment_taken, segs_back, segs_gone, take_all, take_one, took}
-use Rattle.machine_model.specs.Jobs.{with_choice, with_hand_moved, with_here, write_failed}
-use Rattle.machine_model.specs.Moves.{copy_failed, page_copied}
-use Rattle.machine_model.specs.Reads.{cut_of_owner, frames_from, frames_of_owner, home_in, next_command}
-use Rattle.machine_model.specs.Reads.{process_at, trailers_in}
-use Rattle.machine_model.specs.Shutdown.{after_visit, page_taken, visited_if}
-use Rattle.machine_model.specs.State.{State, Storage}
-use Rattle.machine_model.specs.Steps.{fault_told, old_word, pages_after, transfer_failed, transferred, with_faults}
-use Rattle.machine_model.specs.Steps.{with_store}
 use Rattle.machine.proofs.CommitStays.{commit_counts, here}
 
 -- how many drives there are

@@ -1,13 +1,5 @@
 -- The count of one drive's failures rises, and those of the others stay: so the count of all rises.
-use Rattle.std.proofs.Common.{◌≡◌, ◌≢◌, ◌≤◌, ℕ, zero, suc, length, List, [], ◌∷◌, Option, Some, None, refl, sym, ap}
-use Rattle.std.proofs.Common.{◌∙◌, arith}
-use Rattle.std.specs.Prelude.{OnErr, Result, Ok, Err, slice_get, sum_by}
-use Rattle.std.proofs.lemmas.List.Sums.{sum_by-cons}
-use Rattle.site_io.specs.Faults.{Rose}
-use Rattle.volumes.specs.Volumes.{faults_at}
-use Rattle.page_control.specs.Drives.{CallsDrive}
-use Rattle.seg_mover.specs.Copies.{CallsDrives}
-use Rattle.laws.proofs.Places.{seen_same}
+use Rattle.machine.proofs.Prelude.{◌≡◌, ◌≢◌, ◌≤◌, ℕ, zero, suc, length, List, [], ◌∷◌, refl, arith, OnErr, Result, Ok, Err, sum_by, sum_by-cons, Rose, faults_at, CallsDrive, CallsDrives, seen_same}
 
 pub same_sum : {D : Type 0} (faults : D → ℕ) (old new : List D) → length new ≡ length old
     → ((w : ℕ) → faults_at faults new w ≡ faults_at faults old w) → sum_by faults new ≡ sum_by faults old

@@ -1,34 +1,10 @@
 -- A segment that was taken whole is empty once its pages have left: no page of it is in a frame or being read, no
 -- descriptor leads to it, and it has no active inferior.
-use Rattle.std.proofs.Common.{◌≡◌, ◌≢◌, ◌<◌, ℕ, zero, suc, Bool, true, false, eqb, get_or, List, [], ◌∷◌, Option, Some}
-use Rattle.std.proofs.Common.{cond, is_some, length, arith, None, inl, inr, refl, sym, ap, ◌∙◌}
-use Rattle.std.specs.Prelude.{All}
-use Rattle.std.proofs.lemmas.Bool.Decides.{eqb_tells}
+use Rattle.machine.proofs.Prelude.{◌≡◌, ◌≢◌, ◌<◌, ℕ, zero, suc, Bool, true, false, eqb, get_or, List, [], ◌∷◌, Option, Some, cond, is_some, length, arith, None, inl, inr, refl, sym, ap, ◌∙◌, All, eqb_tells, Node, node_in, Ptw, HasNoInferior, IsAway, entry_at, superior_of, uid_at, uid_in, trailers_of, place_of, table_of, is_there, superior_in, is_going_descriptor, is_uid, leads_to, uid_of_page, names, holding, seen, Keeps, cut_of_owner, frames_of_owner, is_active, trailers_in, bound_use, cut_uid, descriptor_use, frame_use, read_use, State, IsWhole, active_place, trailers_taken, none_some, ArePairs, active_at, no_page_left, IsEmptied}
 use Rattle.assoc_mem.specs.declared.What.TheVariants as what
-use Rattle.tree_model.specs.Tree.{Node, node_in}
-use Rattle.page_table.specs.declared.Ptw.{Ptw}
 use Rattle.page_table.specs.declared.Ptw.TheVariants as ptw
 use Rattle.active_segs.specs.declared.Entry.{Entry}
-use Rattle.active_segs.specs.Active.{HasNoInferior, IsAway, entry_at, superior_in as superior_of, uid_at, uid_in}
-use Rattle.trailers.specs.Trailer.{trailers_of}
-use Rattle.seg_control.specs.Control.{place_of, table_of}
-use Rattle.storage_ops.specs.Shown.{is_there}
-use Rattle.custody_model.specs.Allowed.{superior_in}
-use Rattle.custody_model.specs.Custody.{is_going_descriptor, is_uid, leads_to, page_of, uid_of_page}
-use Rattle.machine_model.specs.Custodial.{names}
-use Rattle.machine_model.specs.Holding.{holding, seen}
-use Rattle.machine_model.specs.Keeps.{Keeps}
-use Rattle.machine_model.specs.Reads.{cut_of_owner, frames_of_owner, is_active, trailers_in}
-use Rattle.machine_model.specs.Seen.{bound_use, cut_uid, descriptor_use, frame_use, read_use}
-use Rattle.machine_model.specs.State.{State}
-use Rattle.machine_model.specs.Whole.{IsWhole}
-use Rattle.machine_model.proofs.ActiveSeen.{active_place}
-use Rattle.machine_model.proofs.TakeLists.{trailers_taken}
-use Rattle.machine_model.proofs.TieLaws.{none_some}
-use Rattle.machine_model.proofs.TookKept.{ArePairs}
-use Rattle.machine_model.proofs.TransferKept.{active_at}
-use Rattle.machine_model.proofs.WholeLaws.{no_page_left}
-use Rattle.machine_tables.specs.Taken.{IsEmptied}
+use Rattle.custody_model.specs.Custody.{page_of}
 
 -- a word that names no frame is of a page that is away
 word_away : (w : Ptw) → ((f : ℕ) → names w ≢ Some f) → IsAway w

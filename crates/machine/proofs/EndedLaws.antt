@@ -1,18 +1,5 @@
 -- No process is ready or running just where every one has ended.
-use Rattle.std.proofs.Common.{◌≡◌, ℕ, suc, Bool, true, false, not, ◌||◌, ◌&&◌, is_some, List}
-use Rattle.std.proofs.Common.{[], ◌∷◌, Option, Some, None, refl, sym, ap, ◌∙◌}
-use Rattle.std.specs.Prelude.{◌↔◌}
-use Rattle.std.specs.List.{list_any}
-use Rattle.custody_model.specs.Custody.{has}
-use Rattle.machine_model.specs.Actions.{has_process, is_empty, is_over}
-use Rattle.machine_model.specs.Promise.{KeepsAll}
-use Rattle.machine_model.specs.Reads.{cpu_at}
-use Rattle.machine_model.specs.Scheduled.{MayRun}
-use Rattle.machine_model.specs.State.{State}
-use Rattle.machine_model.specs.declared.Processor.{Processor}
-use Rattle.machine_model.proofs.AllEnded.{flat_ended}
-use Rattle.machine.specs.Turns.{HaveEnded}
-use Rattle.custody_model.proofs.SharedLaws.{has_head}
+use Rattle.machine.proofs.Prelude.{◌≡◌, ℕ, suc, Bool, true, false, not, ◌||◌, ◌&&◌, is_some, List, [], ◌∷◌, Option, Some, None, refl, sym, ap, ◌∙◌, ◌↔◌, list_any, has, has_process, is_empty, is_over, KeepsAll, cpu_at, MayRun, State, Processor, flat_ended, HaveEnded, has_head}
 
 -- a processor of a list has a process, where one has
 busy_found : (ps : List Processor) → list_any has_process ps ≡ true

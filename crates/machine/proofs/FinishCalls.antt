@@ -1,32 +1,8 @@
 -- What the calls ask that let a page go, and that the machine keeps its promise through them, however the call of the
 -- drive ended.
-use Rattle.std.proofs.Common.{◌≡◌, ◌<◌, ◌≤◌, ℕ, true, false, length, sum, List, ◌∷◌, refl, sym, ap}
-use Rattle.std.proofs.Common.{subst, ◌∙◌, arith}
-use Rattle.std.specs.Prelude.{Err, IfOk, Ok, OnErr, Result}
-use Rattle.site_io.specs.Faults.{Rose}
-use Rattle.script.specs.Plans.{Plan}
-use Rattle.flat_model.specs.Store.{Store}
-use Rattle.page_control.specs.declared.Left.{Left}
-use Rattle.page_control.specs.Plain.{words_in}
-use Rattle.seg_control.specs.Kept.{IsKept}
-use Rattle.storage_ops.specs.Shown.{IsStore}
+use Rattle.machine.proofs.Prelude.{◌≡◌, ◌<◌, ◌≤◌, ℕ, true, false, length, sum, List, ◌∷◌, refl, sym, ap, subst, ◌∙◌, arith, Err, IfOk, Ok, OnErr, Result, Rose, Plan, Store, Left, words_in, IsKept, IsStore, action_of, Outcome, after, by_outcome, eviction_done, left_of, page_done, page_in, with_left, write_failed, IsFaithful, Keeps, StoreKept, frames_of_owner, IsLeaving, MayComeBack, left_page, shown_after, without_left, State, Storage, with_faults, descriptors_return, pages_return, HasOwner, Parts, outcome_of, MayFail, IsSound, MayAnswer}
 use Rattle.machine_model.specs.declared.Aim.TheVariants as aim
 use Rattle.machine_model.specs.Actions as act
-use Rattle.machine_model.specs.Actions.{action_of}
-use Rattle.machine_model.specs.After.{Outcome, after, by_outcome}
-use Rattle.machine_model.specs.Jobs.{eviction_done, left_of, page_done, page_in, with_left, write_failed}
-use Rattle.machine_model.specs.Keeps.{IsFaithful, Keeps, StoreKept}
-use Rattle.machine_model.specs.Reads.{frames_of_owner}
-use Rattle.machine_model.specs.Returned.{IsLeaving, MayComeBack}
-use Rattle.machine_model.specs.Said.{left_page, shown_after, without_left}
-use Rattle.machine_model.specs.State.{State, Storage}
-use Rattle.machine_model.specs.Steps.{with_faults}
-use Rattle.machine_model.proofs.Returnable.{descriptors_return, pages_return}
-use Rattle.machine_tables.specs.Owned.{HasOwner}
-use Rattle.machine_tables.specs.Parts.{Parts, outcome_of}
-use Rattle.machine_tables.specs.Returned.{MayFail}
-use Rattle.machine.specs.Promise.{IsSound}
-use Rattle.machine.specs.Turns.{MayAnswer}
 use Rattle.machine.proofs.BackStays.{failed_as}
 use Rattle.machine.proofs.Found.{Waited, found_of}
 use Rattle.machine.proofs.OwnerCalls.{owned}

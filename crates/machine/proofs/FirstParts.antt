@@ -1,20 +1,6 @@
 -- Volumes as they are made of a script's lines and their drives: nothing of them is in use.
-use Rattle.std.proofs.Common.{◌≡◌, ◌<◌, ℕ, zero, suc, false, List, [], ◌∷◌, ◌++◌, length, get_or, map, replicate}
-use Rattle.std.proofs.Common.{Option, Some, None, refl, sym, ap, ◌∙◌, arith}
-use Rattle.std.specs.Prelude.{IfSome, slice_get}
-use Rattle.std.proofs.lemmas.List.{length-map, length-replicate}
-use Rattle.script.specs.Plans.{Plan}
-use Rattle.script.specs.declared.plan.VolumeLine.{VolumeLine}
-use Rattle.flat_model.specs.Store.{entries_in, records_in}
+use Rattle.machine.proofs.Prelude.{◌≡◌, ◌<◌, ℕ, zero, suc, false, List, [], ◌∷◌, ◌++◌, length, get_or, map, replicate, Option, Some, None, refl, sym, ap, ◌∙◌, arith, IfSome, slice_get, length-map, length-replicate, Plan, VolumeLine, entries_in, records_in, in_use, Part, Vols, made_of, size, flags_in, vtoc_in, AreFresh, none_some, parts_of}
 use Rattle.vtoc.specs.Vtoc.{Entry, entry_at}
-use Rattle.record_map.specs.Bitmap.{in_use}
-use Rattle.volumes.specs.declared.Part.{Part}
-use Rattle.volumes.specs.Volumes.{Vols, made_of}
-use Rattle.page_control.specs.Counts.{size}
-use Rattle.page_control.specs.Tied.{flags_in, vtoc_in}
-use Rattle.storage_ops.specs.Shown.{AreFresh}
-use Rattle.machine_model.proofs.TieLaws.{none_some}
-use Rattle.machine.specs.Starts.{parts_of}
 
 -- there is one at each place
 get_some : (lines : List VolumeLine) (place : ℕ) → place < length lines

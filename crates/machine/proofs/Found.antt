@@ -1,55 +1,12 @@
 -- What the rules found where they choose an action of the supervisor's owner, or the end of a transfer.
-use Rattle.std.proofs.Common.{◌≡◌, ◌<◌, ℕ, ◌*◌, length, Bool, true, false, not, ◌&&◌, cond, eqb, List, [], ◌∷◌}
-use Rattle.std.proofs.Common.{position, Option, Some}
-use Rattle.std.proofs.Common.{None, inl, inr, refl, sym, ap, subst, ◌∙◌}
-use Rattle.std.specs.Prelude.{◌/◌, nat_le}
-use Rattle.std.specs.List.{find}
-use Rattle.std.specs.Option.{option_map}
-use Rattle.std.proofs.lemmas.Bool.{cond_both}
-use Rattle.std.proofs.lemmas.Bool.Decides.{eqb_tells}
-use Rattle.assoc_mem.specs.declared.HeldPage.{HeldPage}
-use Rattle.assoc_mem.specs.declared.HeldSeg.{HeldSeg}
-use Rattle.assoc_mem.specs.Held.{frame_of, is_page, seg_of}
+use Rattle.machine.proofs.Prelude.{◌≡◌, ◌<◌, ℕ, ◌*◌, length, Bool, true, false, not, ◌&&◌, cond, eqb, List, [], ◌∷◌, position, Option, Some, None, inl, inr, refl, sym, ap, subst, ◌∙◌, ◌/◌, nat_le, find, option_map, cond_both, eqb_tells, HeldPage, HeldSeg, frame_of, is_page, seg_of, Sdw, Ptw, word_reply, new_word, permits, sdws_at, table_of, word_of, next_out, by_descriptor, by_held, by_page, by_seg, by_word, reference_of, Command, Reference, What, Transfer, Aim, Phase, Processor, action_of, by_move, clear_or, come_to, copy_or_commit, finish_of, go_on_with, has_had_its_turn, is_empty, load_or_idle, look_of, move_of, once_cleared, own_or_run, refer_or_take, run_process, take_or_wait, transfer_or, no_call, IsMachine, AreHeldPages, seen, descriptor_of, is_due, next_command, process_at, processor_at, Owner, State, action_by, LookFinds, look_finds, HasWaited, IsLooking, look_idle, process_here, speaks, IsMine, none_some, Looks, and_both}
 use Rattle.book.specs.declared.replies.Reply.TheVariants as reply
-use Rattle.descriptor_seg.specs.declared.Sdw.{Sdw}
 use Rattle.descriptor_seg.specs.declared.Sdw.TheVariants as sdw
-use Rattle.page_table.specs.declared.Ptw.{Ptw}
 use Rattle.page_table.specs.declared.Ptw.TheVariants as ptw
-use Rattle.flat_model.specs.References.{word_reply}
-use Rattle.script.specs.References.{new_word, permits}
-use Rattle.seg_control.specs.Control.{sdws_at, table_of, word_of}
-use Rattle.seg_control.specs.Moving.{next_out}
-use Rattle.processor.specs.Moves.{by_descriptor, by_held, by_page, by_seg, by_word}
-use Rattle.script.specs.References.{reference_of}
-use Rattle.script.specs.declared.commands.Command.{Command}
-use Rattle.script.specs.declared.commands.Reference.{Reference}
-use Rattle.assoc_mem.specs.declared.What.{What}
 use Rattle.processor.specs.declared.Move.TheVariants as move
-use Rattle.processor.specs.declared.Transfer.{Transfer}
-use Rattle.machine_model.specs.declared.Aim.{Aim}
 use Rattle.machine_model.specs.declared.Aim.TheVariants as aim
-use Rattle.machine_model.specs.declared.Phase.{Phase}
 use Rattle.machine_model.specs.declared.Phase.TheVariants as phase
-use Rattle.machine_model.specs.declared.Processor.{Processor}
 use Rattle.machine_model.specs.Actions as act
-use Rattle.machine_model.specs.Actions.{action_of, by_move, clear_or, come_to, copy_or_commit, finish_of}
-use Rattle.machine_model.specs.Actions.{go_on_with, has_had_its_turn}
-use Rattle.machine_model.specs.Actions.{is_empty, load_or_idle, look_of, move_of, once_cleared, own_or_run}
-use Rattle.machine_model.specs.Actions.{refer_or_take, run_process, take_or_wait, transfer_or}
-use Rattle.machine_model.specs.After.{no_call}
-use Rattle.machine_model.specs.Promise.{IsMachine}
-use Rattle.machine_model.specs.Custodial.{AreHeldPages}
-use Rattle.machine_model.specs.Holding.{seen}
-use Rattle.machine_model.specs.Reads.{descriptor_of, is_due, next_command, process_at, processor_at}
-use Rattle.machine_model.specs.State.{Owner, State}
-use Rattle.machine_model.proofs.ActionCases.{action_by}
-use Rattle.machine_model.proofs.LookFacts.{LookFinds, look_finds}
-use Rattle.machine_model.proofs.RuleKept.{HasWaited, IsLooking, look_idle, process_here}
-use Rattle.machine_model.proofs.SpeakLaws.{speaks}
-use Rattle.machine_model.proofs.StepKept.{IsMine}
-use Rattle.machine_model.proofs.TieLaws.{none_some}
-use Rattle.machine_model.proofs.WorkStep.{Looks}
-use Rattle.laws.proofs.Numbers.{and_both}
 
 -- the owner looks, and the look comes to this action
 abbrev pub Looked : State → ℕ → act.Action → Type 0

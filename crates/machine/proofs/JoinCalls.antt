@@ -1,37 +1,6 @@
 -- What the calls ask that bring a segment of a chain nearer: it becomes active, or the victim of its pool is emptied.
-use Rattle.std.proofs.Common.{◌≡◌, ◌<◌, ℕ, true, is_some, length, List, Option, Some, None, refl}
-use Rattle.std.proofs.Common.{sym}
-use Rattle.std.proofs.Common.{ap, subst, ◌∙◌}
-use Rattle.std.specs.Prelude.{IsSome}
-use Rattle.std.proofs.lemmas.List.{length-set}
-use Rattle.script.specs.Forms.{ArePools}
-use Rattle.script.specs.declared.commands.Command.{Command}
-use Rattle.tree_model.specs.Tree.{node_in}
-use Rattle.dir_tree.specs.Nodes.{chain_of}
-use Rattle.active_segs.specs.Active.{HasNoInferior, uid_at}
-use Rattle.active_segs.specs.Victim.{HasOneOffChain, first_off_chain, hand_past}
-use Rattle.storage_ops.specs.Shown.{is_there}
+use Rattle.machine.proofs.Prelude.{◌≡◌, ◌<◌, ℕ, true, is_some, length, List, Option, Some, None, refl, sym, ap, subst, ◌∙◌, IsSome, length-set, ArePools, Command, node_in, chain_of, HasNoInferior, uid_at, HasOneOffChain, first_off_chain, hand_past, is_there, action_of, pool_of_node, after, no_call, victim_taken, with_hand_moved, Keeps, first_inactive, free_place, or_zero, process_at, State, Storage, activated_at, with_active, with_store, first_there, about_there, IsAbout, leaf_inferiors, victim_leaf, Speaks, speaks, active_at, all_used, Looks, wanted_pool, Parts, with_state, chain_end, chain_one_off, own_chain, IsSound, IsBusy}
 use Rattle.machine_model.specs.Actions as act
-use Rattle.machine_model.specs.Actions.{action_of, pool_of_node}
-use Rattle.machine_model.specs.After.{after, no_call}
-use Rattle.machine_model.specs.Jobs.{victim_taken, with_hand_moved}
-use Rattle.machine_model.specs.Keeps.{Keeps}
-use Rattle.machine_model.specs.Reads.{first_inactive, free_place, or_zero, process_at}
-use Rattle.machine_model.specs.State.{State, Storage}
-use Rattle.machine_model.specs.Steps.{activated_at, with_active, with_store}
-use Rattle.machine_model.proofs.ChainFacts.{first_there}
-use Rattle.machine_model.proofs.LookAsks.{about_there}
-use Rattle.machine_model.proofs.LookFacts.{IsAbout}
-use Rattle.machine_model.proofs.LeafLaws.{leaf_inferiors, victim_leaf}
-use Rattle.machine_model.proofs.SpeakLaws.{Speaks, speaks}
-use Rattle.machine_model.proofs.TransferKept.{active_at}
-use Rattle.machine_model.proofs.VictimLaws.{all_used}
-use Rattle.machine_model.proofs.WorkStep.{Looks}
-use Rattle.machine_tables.specs.Activated.{wanted_pool}
-use Rattle.machine_tables.specs.Parts.{Parts, with_state}
-use Rattle.machine_tables.proofs.VictimLaws.{chain_end, chain_one_off, own_chain}
-use Rattle.machine.specs.Promise.{IsSound}
-use Rattle.machine.specs.Turns.{IsBusy}
 use Rattle.machine.proofs.Busy.{busy_for}
 use Rattle.machine.proofs.Found.{Looked, found_of}
 use Rattle.machine.proofs.OwnerCalls.{IsEmptiable, SoundIn, emptiable_by, kept_through, owned, still_for}

@@ -1,43 +1,10 @@
 -- What the loops that make a machine end come to, turn by turn.
-use Rattle.std.proofs.Common.{◌≡◌, ◌≤◌, ◌<◌, ℕ, ◌+◌, ◌++◌, ◌∷◌, [], true, false, cond, eqb, ◌&&◌, length, is_some}
-use Rattle.std.proofs.Common.{List, Option, Some, None, position, refl, sym, ap, subst, ◌∙◌, arith, inl, inr}
-use Rattle.std.proofs.lemmas.Bool.{cases_lt}
-use Rattle.std.proofs.lemmas.Bool.Decides.{eqb_tells}
-use Rattle.std.proofs.lemmas.List.{append-nil, get_or_past}
-use Rattle.std.specs.Prelude.{Err, Ok, OnErr, OnOk, Result}
-use Rattle.script.specs.Plans.{Plan}
-use Rattle.site_io.specs.declared.gate.Point.{Point}
-use Rattle.processor.specs.declared.Transfer.{Transfer}
+use Rattle.machine.proofs.Prelude.{◌≡◌, ◌≤◌, ◌<◌, ℕ, ◌+◌, ◌++◌, ◌∷◌, [], true, false, cond, eqb, ◌&&◌, length, is_some, List, Option, Some, None, position, refl, sym, ap, subst, ◌∙◌, arith, inl, inr, cases_lt, eqb_tells, append-nil, get_or_past, Err, Ok, OnErr, OnOk, Result, Plan, Point, Transfer, action_of, has_process, is_over, AwaitsClear, AwaitsTransfer, CommandDone, Goes, HasTaken, IsReader, JobDone, JobFell, RoundDone, command_gauge, is_at, all_rank, Outline, Runner, runner_at, around, keeper_of, outline_of, stage_of, KeepsAll, cpu_at, no_processor, process_at, processor_at, HasStepped, IsGoing, IsOwnedBy, Owner, State, Processor, position_at, position_none, round_done, way_falls, way_next, kept_of, in_job, at_outline, long_outline, seen_reading, no_owner, pools_kept, Parts, Why, HasGone, HasMoved, HasStalled, HasTurned, MayWait, OwnerTurned, WaitsFor, is_into, is_still_at, reads_into, with_spare, Grows, HasRun, HasStood, is_moved, tally, with_room, Appends, IfStill, IsTurn, KeepsParts, TellsFaults, turn_of, why_by, Turn}
 use Rattle.machine_model.specs.Actions as act
-use Rattle.machine_model.specs.Actions.{action_of, has_process, is_over}
-use Rattle.machine_model.specs.Looping.{AwaitsClear, AwaitsTransfer, CommandDone, Goes, HasTaken, IsReader, JobDone}
-use Rattle.machine_model.specs.Looping.{JobFell, RoundDone, command_gauge, is_at}
-use Rattle.machine_model.specs.Measures.{all_rank}
-use Rattle.machine_model.specs.Outline.{Outline, Runner, runner_at}
 use Rattle.machine_model.specs.Outline as outline
-use Rattle.machine_model.specs.Outlined.{around, keeper_of, outline_of, stage_of}
-use Rattle.machine_model.specs.Promise.{KeepsAll}
-use Rattle.machine_model.specs.Reads.{cpu_at, no_processor, process_at, processor_at}
-use Rattle.machine_model.specs.Rounds.{HasStepped, IsGoing, IsOwnedBy}
-use Rattle.machine_model.specs.State.{Owner, State}
 use Rattle.machine_model.specs.Turns as model
-use Rattle.machine_model.specs.declared.Processor.{Processor}
-use Rattle.machine_model.proofs.FindLaws.{position_at, position_none}
-use Rattle.machine_model.proofs.LoopLaws.{round_done, way_falls, way_next}
 use Rattle.machine_model.proofs.MachineRounds as rounds
-use Rattle.machine_model.proofs.MachineRounds.{kept_of}
-use Rattle.machine_model.proofs.OutlineJob.{in_job}
-use Rattle.machine_model.proofs.OutlineReads.{at_outline, long_outline, seen_reading}
-use Rattle.machine_model.proofs.OutlineSeen.{no_owner}
-use Rattle.machine_model.proofs.PoolsKept.{pools_kept}
-use Rattle.machine_tables.specs.Parts.{Parts}
-use Rattle.machine_tables.specs.declared.action.Why.{Why}
 use Rattle.machine_tables.specs.declared.action.Why.TheVariants as why
-use Rattle.machine.specs.Looped.{HasGone, HasMoved, HasStalled, HasTurned, MayWait, OwnerTurned, WaitsFor, is_into}
-use Rattle.machine.specs.Looped.{is_still_at, reads_into, with_spare}
-use Rattle.machine.specs.Schedules.{Grows, HasRun, HasStood, is_moved, tally, with_room}
-use Rattle.machine.specs.Turns.{Appends, IfStill, IsTurn, KeepsParts, TellsFaults, turn_of, why_by}
-use Rattle.machine.specs.declared.turn.Turn.{Turn}
 use Rattle.machine.specs.declared.turn.Turn.TheVariants as turn
 use Rattle.machine.proofs.RestLaws.{rest_kept}
 use Rattle.machine.proofs.RunLaws.{round_made, run_append, run_grows, run_grows_on, run_keeps, run_keeps_on}

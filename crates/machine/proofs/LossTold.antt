@@ -1,37 +1,10 @@
 -- What the shutdown tells of drives that fail: at a visit one failure at the most, of no process; and at the end one
 -- for each page that is still in a frame.
-use Rattle.std.proofs.Common.{◌≡◌, ◌<◌, ◌≤◌, ℕ, ◌+◌, ◌++◌, ◌∷◌, [], Bool, true, false, cond, List, Option, Some, None}
-use Rattle.std.proofs.Common.{inl, inr, refl, sym, ap, subst, ◌∙◌, arith, append-nil}
-use Rattle.std.specs.Prelude.{◌⊎◌, count_by, map}
-use Rattle.std.specs.List.{list_all}
-use Rattle.std.proofs.lemmas.Bool.{and_parts}
-use Rattle.book.specs.declared.entries.Entry.{Entry}
+use Rattle.machine.proofs.Prelude.{◌≡◌, ◌<◌, ◌≤◌, ℕ, ◌+◌, ◌++◌, ◌∷◌, [], Bool, true, false, cond, List, Option, Some, None, inl, inr, refl, sym, ap, subst, ◌∙◌, arith, append-nil, ◌⊎◌, count_by, map, list_all, and_parts, Entry, bound_page, Left, frame_in, words_in, Ptw, Custody, page_held, Outcome, seen, entries_left, left_of, page_back, page_gone, page_in, Keeps, is_fault, frame_use, after_visit, page_taken, visited_if, State, fault_told, with_faults, TellsBack, WasVisited, append_assoc, binding_is, none_some, Parts, home_in, AllVisited, AreToldBack, CallsAtVisit, HasVisited, TellsLoss, RoseAtOne, seen_same}
 use Rattle.book.specs.declared.entries.Entry.TheVariants as entry
-use Rattle.core_map.specs.CoreMap.{bound_page}
-use Rattle.page_control.specs.declared.Left.{Left}
 use Rattle.page_control.specs.declared.Left.TheVariants as left
-use Rattle.page_control.specs.Plain.{frame_in, words_in}
-use Rattle.page_table.specs.declared.Ptw.{Ptw}
-use Rattle.custody_model.specs.Custody.{Custody, bound_page as page_held}
-use Rattle.machine_model.specs.After.{Outcome}
-use Rattle.machine_model.specs.Holding.{seen}
-use Rattle.machine_model.specs.Jobs.{entries_left, left_of, page_back, page_gone, page_in}
-use Rattle.machine_model.specs.Keeps.{Keeps, is_fault}
-use Rattle.machine_model.specs.Seen.{frame_use}
-use Rattle.machine_model.specs.Shutdown.{after_visit, page_taken, visited_if}
-use Rattle.machine_model.specs.State.{State}
-use Rattle.machine_model.specs.Steps.{fault_told, with_faults}
-use Rattle.machine_model.specs.Visits.{TellsBack, WasVisited}
-use Rattle.machine_model.proofs.FlatAlike.{append_assoc}
-use Rattle.machine_model.proofs.TakeSeen.{binding_is}
-use Rattle.machine_model.proofs.TieLaws.{none_some}
-use Rattle.machine_tables.specs.Parts.{Parts}
-use Rattle.machine_model.specs.Reads.{home_in}
-use Rattle.machine.specs.Shut.{AllVisited, AreToldBack, CallsAtVisit, HasVisited, TellsLoss}
-use Rattle.machine.specs.Turns.{RoseAtOne}
 use Rattle.machine.proofs.CallLaws.{are_told}
 use Rattle.machine.proofs.VisitNext.{bound_there}
-use Rattle.laws.proofs.Places.{seen_same}
 
 -- ---- the entries of a visit
 

@@ -1,42 +1,8 @@
 -- What the calls of a move ask, and that the machine keeps its promise through them.
-use Rattle.std.proofs.Common.{◌≡◌, ◌<◌, ◌≤◌, ◌-◌, ◌&&◌, ℕ, Bool, true, false, not, eqb, ltb, length, sum, count_by}
-use Rattle.std.proofs.Common.{is_some, List, Option, Some, None, inl, inr, refl, sym, ap, subst, arith}
-use Rattle.std.specs.Prelude.{Err, Ok, OnErr, Result}
-use Rattle.std.proofs.lemmas.Bool.{cases_lt}
-use Rattle.std.proofs.lemmas.Bool.Decides.{Decides-ltb}
-use Rattle.std.proofs.lemmas.Option.{slice_get_past}
-use Rattle.script.specs.declared.commands.Command.{Command}
-use Rattle.tree_model.specs.Trees.{has_segment}
-use Rattle.accounts.specs.Maps.{count_of}
+use Rattle.machine.proofs.Prelude.{◌≡◌, ◌<◌, ◌≤◌, ◌-◌, ◌&&◌, ℕ, Bool, true, false, not, eqb, ltb, length, sum, count_by, is_some, List, Option, Some, None, inl, inr, refl, sym, ap, subst, arith, Err, Ok, OnErr, Result, cases_lt, Decides-ltb, slice_get_past, Command, has_segment, count_of, records_in, records_of, flags_in, vtoc_in, IsUnread, volumes_of, is_roomy, long_segment, MovesFor, MovesForNext, tables_of, mover_to, home_in, next_command, process_at, moving_fits, Rose, moved, Store, Mover, IsActive, action_of, Outcome, after, by_outcome, no_call, IsFaithful, Keeps, StoreKept, copy_failed, move_begun, move_committed, page_copied, State, with_faults, CopiesNext, EndsMove, Knows, step_knows, BeginsMove, MayCopy, Parts, outcome_of, with_state, IsSound, MayAnswer}
 use Rattle.vtoc.specs.Vtoc.{Entry}
-use Rattle.flat_model.specs.Store.{records_in, records_of}
-use Rattle.page_control.specs.Tied.{flags_in, vtoc_in}
-use Rattle.seg_control.specs.Moving.{IsUnread, volumes_of}
-use Rattle.storage_ops.specs.Rooms.{is_roomy}
-use Rattle.storage_ops.proofs.Refusals.{long_segment}
-use Rattle.machine_model.specs.Lacking.{MovesFor, MovesForNext, tables_of}
-use Rattle.machine_model.specs.Moves.{mover_to}
-use Rattle.machine_model.specs.Reads.{home_in, next_command, process_at}
-use Rattle.machine_model.proofs.MoverTied.{moving_fits}
 use Rattle.machine.proofs.OwnerCalls.{active_there}
-use Rattle.site_io.specs.Faults.{Rose}
-use Rattle.flat_model.specs.Moves.{moved}
-use Rattle.flat_model.specs.Store.{Store}
-use Rattle.seg_mover.specs.declared.Mover.{Mover}
-use Rattle.active_segs.specs.Active.{IsActive}
 use Rattle.machine_model.specs.Actions as act
-use Rattle.machine_model.specs.Actions.{action_of}
-use Rattle.machine_model.specs.After.{Outcome, after, by_outcome, no_call}
-use Rattle.machine_model.specs.Keeps.{IsFaithful, Keeps, StoreKept}
-use Rattle.machine_model.specs.Moves.{copy_failed, move_begun, move_committed, page_copied}
-use Rattle.machine_model.specs.State.{State}
-use Rattle.machine_model.specs.Steps.{with_faults}
-use Rattle.machine_model.proofs.StepKnows.{CopiesNext, EndsMove, Knows, step_knows}
-use Rattle.machine_model.proofs.WorkStep.{BeginsMove}
-use Rattle.machine_tables.specs.Moved.{MayCopy}
-use Rattle.machine_tables.specs.Parts.{Parts, outcome_of, with_state}
-use Rattle.machine.specs.Promise.{IsSound}
-use Rattle.machine.specs.Turns.{MayAnswer}
 use Rattle.machine.proofs.Changed.{IsStoreOf, changed_sound}
 use Rattle.machine.proofs.Steps.{sound_after}
 

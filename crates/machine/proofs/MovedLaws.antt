@@ -1,46 +1,13 @@
 -- A step that moves lengthens the book, or changes the owner of the supervisor or how far the owner's job has come.
-use Rattle.std.proofs.Common.{◌≡◌, ◌≢◌, ◌⊎◌, ◌<◌, ◌≤◌, ◌+◌, ◌-◌, ℕ, Bool, true, false, cond, length, List, [], ◌∷◌}
-use Rattle.std.proofs.Common.{◌++◌, Option, Some, None, inl, inr, refl, sym, subst, ◌∙◌, arith}
-use Rattle.std.proofs.lemmas.List.{length-append}
-use Rattle.script.specs.declared.commands.Command.{Command}
+use Rattle.machine.proofs.Prelude.{◌≡◌, ◌≢◌, ◌⊎◌, ◌<◌, ◌≤◌, ◌+◌, ◌-◌, ℕ, Bool, true, false, cond, length, List, [], ◌∷◌, ◌++◌, Option, Some, None, inl, inr, refl, sym, subst, ◌∙◌, arith, length-append, Command, Entry, What, Transfer, Left, words_in, Aim, CutDescriptor, Phase, copy_failed, move_begun, page_copied, without_move, action_of, Outcome, after, by_outcome, committed, committed_at, gone_entries, left_after, with_effect, cut_all, cut_one, emptied, entries_left, eviction_done, left_of, page_back, page_done, page_in, pages_back, seg_back, seg_gone, segment_taken, segs_back, segs_gone, take_all, take_one, took, with_hand_moved, write_failed, KeepsAll, Mover, table_of, cut_of_owner, frames_from, frames_of_owner, process_at, run_at, trailers_in, reply_of, uid_of_command, Owner, State, booked, fault_told, frame_lost, told, transfer_failed, transferred, with_faults, with_store, moves, first_past, CopiesNext, Knows, step_knows, BeginsMove, none_some, Changes}
 use Rattle.script.specs.declared.commands.Command.TheVariants as command
-use Rattle.book.specs.declared.entries.Entry.{Entry}
 use Rattle.book.specs.declared.entries.Entry.TheVariants as entry
 use Rattle.book.specs.declared.replies.Reply.TheVariants as reply
-use Rattle.assoc_mem.specs.declared.What.{What}
 use Rattle.assoc_mem.specs.declared.What.TheVariants as what
-use Rattle.processor.specs.declared.Transfer.{Transfer}
-use Rattle.page_control.specs.declared.Left.{Left}
 use Rattle.page_control.specs.declared.Left.TheVariants as left
-use Rattle.page_control.specs.Plain.{words_in}
-use Rattle.machine_model.specs.declared.Aim.{Aim}
 use Rattle.machine_model.specs.declared.Aim.TheVariants as aim
-use Rattle.machine_model.specs.declared.CutDescriptor.{CutDescriptor}
-use Rattle.machine_model.specs.declared.Phase.{Phase}
 use Rattle.machine_model.specs.declared.Phase.TheVariants as phase
-use Rattle.machine_model.specs.Moves.{copy_failed, move_begun, page_copied, without_move}
 use Rattle.machine_model.specs.Actions as act
-use Rattle.machine_model.specs.Actions.{action_of}
-use Rattle.machine_model.specs.After.{Outcome, after, by_outcome}
-use Rattle.machine_model.specs.Commits.{committed, committed_at, gone_entries, left_after, with_effect}
-use Rattle.machine_model.specs.Jobs.{cut_all, cut_one, emptied, entries_left, eviction_done, left_of, page_back}
-use Rattle.machine_model.specs.Jobs.{page_done, page_in, pages_back, seg_back, seg_gone, segment_taken, segs_back}
-use Rattle.machine_model.specs.Jobs.{segs_gone, take_all, take_one, took, with_hand_moved, write_failed}
-use Rattle.machine_model.specs.Promise.{KeepsAll}
-use Rattle.seg_mover.specs.declared.Mover.{Mover}
-use Rattle.seg_control.specs.Control.{table_of}
-use Rattle.machine_model.specs.Reads.{cut_of_owner, frames_from, frames_of_owner, process_at, run_at}
-use Rattle.machine_model.specs.Reads.{trailers_in}
-use Rattle.machine_model.specs.Refusal.{reply_of, uid_of_command}
-use Rattle.machine_model.specs.State.{Owner, State}
-use Rattle.machine_model.specs.Steps.{booked, fault_told, frame_lost, told, transfer_failed}
-use Rattle.machine_model.specs.Steps.{transferred, with_faults, with_store}
-use Rattle.machine_model.specs.Turns.{moves}
-use Rattle.machine_model.proofs.OutlineMove.{first_past}
-use Rattle.machine_model.proofs.StepKnows.{CopiesNext, Knows, step_knows}
-use Rattle.machine_model.proofs.WorkStep.{BeginsMove}
-use Rattle.machine_model.proofs.TieLaws.{none_some}
-use Rattle.machine.specs.Turns.{Changes}
 use Rattle.machine.proofs.Found.{Found, step_found}
 
 -- how many entries the book has

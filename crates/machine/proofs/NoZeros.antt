@@ -1,38 +1,7 @@
 -- Once every frame was visited no stored page is all zeros: such a page would be in a frame, and the pages that stayed
 -- in theirs have a word other than 0.
-use Rattle.std.proofs.Common.{◌≡◌, ◌<◌, ◌≤◌, ◌+◌, ◌*◌, ℕ, Bool, true, false, cond, get_or, length}
-use Rattle.std.proofs.Common.{position, replicate, List, [], Option, Some, None, inl, inr, refl, sym, ap, subst}
-use Rattle.std.proofs.Common.{◌∙◌, arith}
-use Rattle.std.specs.Prelude.{◌/◌, ◌%◌, All}
-use Rattle.std.proofs.lemmas.Bool.{and_parts, cases_lt}
-use Rattle.std.proofs.lemmas.List.{get_or_past, length-replicate}
-use Rattle.std.proofs.lemmas.List.Elements.{All-get_or, All-nil}
-use Rattle.mword.specs.Words.{AreZero}
-use Rattle.core_map.specs.CoreMap.{bound_page}
-use Rattle.flat_model.specs.Pages.{is_stored, is_zero_page}
-use Rattle.flat_model.proofs.ZeroLaws.{zero_words}
-use Rattle.vtoc.specs.Vtoc.{record_at}
-use Rattle.volumes.specs.FullPages.{HaveFullPages}
-use Rattle.page_control.specs.Picture.{is_binding, is_stored as is_stored_at, words_filed, words_held}
-use Rattle.page_control.specs.Picture.{words_of_page}
-use Rattle.page_control.specs.Plain.{bindings, frame_in, words_in}
-use Rattle.page_control.specs.Tied.{IsInFrame, vtoc_in}
-use Rattle.seg_control.specs.Control.{place_of}
-use Rattle.seg_control.specs.Kept.{IsHomeOf}
-use Rattle.storage_ops.specs.Shown.{is_filed, is_there, picture}
-use Rattle.machine_model.specs.Keeps.{Keeps}
-use Rattle.machine_model.specs.Reads.{flat_of, home_in, is_active}
-use Rattle.machine_model.specs.State.{State}
-use Rattle.machine_model.specs.Visits.{WasVisited}
-use Rattle.machine_model.proofs.ActiveSeen.{active_place}
-use Rattle.machine_model.proofs.PageShown.{frame_words}
-use Rattle.machine_model.proofs.TakeSeen.{binding_is}
-use Rattle.machine_model.proofs.TieLaws.{none_some}
-use Rattle.machine_model.proofs.TransferKept.{active_at}
-use Rattle.machine.specs.Shut.{AllVisited, HasNoZeros, words_of}
+use Rattle.machine.proofs.Prelude.{◌≡◌, ◌<◌, ◌≤◌, ◌+◌, ◌*◌, ℕ, Bool, true, false, cond, get_or, length, position, replicate, List, [], Option, Some, None, inl, inr, refl, sym, ap, subst, ◌∙◌, arith, ◌/◌, ◌%◌, All, and_parts, cases_lt, get_or_past, length-replicate, All-get_or, All-nil, AreZero, bound_page, is_stored, is_zero_page, zero_words, record_at, HaveFullPages, is_binding, is_stored_at, words_filed, words_held, words_of_page, bindings, frame_in, words_in, IsInFrame, vtoc_in, place_of, IsHomeOf, is_filed, is_there, picture, Keeps, flat_of, home_in, is_active, State, WasVisited, active_place, frame_words, binding_is, none_some, active_at, AllVisited, HasNoZeros, words_of, get_or_default_zero, zeros_to}
 use Rattle.machine.proofs.VisitNext.{bound_there}
-use Rattle.std.proofs.lemmas.Grind.{get_or_default_zero}
-use Rattle.machine_model.proofs.SharedLaws.{zeros_to}
 
 -- ---- pages of 1024 words
 

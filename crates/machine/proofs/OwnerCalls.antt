@@ -1,75 +1,12 @@
 -- What the calls of the owner's looks ask, of a page that is read in and of a descriptor that is connected, and that
 -- the machine keeps its promise through them.
-use Rattle.std.proofs.Common.{◌≡◌, ◌<◌, ℕ, true, false, length, List, [], Option, Some, None, refl, sym, ap}
-use Rattle.std.proofs.Common.{arith, subst, ◌∙◌}
-use Rattle.core_map.specs.declared.Frame.{Frame}
+use Rattle.machine.proofs.Prelude.{◌≡◌, ◌<◌, ℕ, true, false, length, List, [], Option, Some, None, refl, sym, ap, arith, subst, ◌∙◌, Frame, bound_page, frame_at, is_free, started_page, with_frame, IsActive, uid_of, Ptw, IsNotStarted, is_out, kst_at, leads, leads_at, place_of, table_of, word_of, IsKept, IsStore, Action, action_of, after, no_call, is_away, Keeps, any_page, cpu_at, flat_of, frame_reading, is_active, or_zero, process_at, IsIdle, uid_of_number, shown_after, State, Storage, connected_to, started, active_place, within_some, chain_active, free_frame, position_at, unread_page, free_is, inside_is, AsksMover, moving_fits, map_list, within_by, IsInside, none_some, word_within, is_for, known_uid, is_bound, list_any, clock_choice, binding_at, bindings, seen, segment_emptied, eviction_begun, with_choice, with_leaving, frames_of_owner, goes_in, going_for, IsLeaf, any_at, choice_bound, bound_here, IsMine, HasOwner, AreHere, IsEmptied, is_bare, Command, Node, node_in, superior_in, deactivation_begun, cut_of_owner, frames_from, trailers_in, refusal_of, uid_of_command, LeadsToSegment, length_stands, segment_inferiors, unread_any, nothing_whole, descriptors_few, pages_few, ◌∷◌, ◌≤◌, ◌+◌, ◌≢◌, Parts, with_state, IsSound}
 use Rattle.core_map.specs.declared.Frame.TheVariants as frame
-use Rattle.core_map.specs.CoreMap.{bound_page, frame_at, is_free, started_page, with_frame}
-use Rattle.active_segs.specs.Active.{IsActive}
-use Rattle.known_segs.specs.Known.{uid_of}
-use Rattle.page_table.specs.declared.Ptw.{Ptw}
 use Rattle.page_table.specs.declared.Ptw.TheVariants as ptw
-use Rattle.page_control.specs.Tied.{IsNotStarted, is_out}
-use Rattle.seg_control.specs.Control.{kst_at, leads, leads_at, place_of, table_of, word_of}
-use Rattle.seg_control.specs.Kept.{IsKept}
-use Rattle.storage_ops.specs.Shown.{IsStore}
 use Rattle.machine_model.specs.Actions as act
-use Rattle.machine_model.specs.Actions.{Action, action_of}
-use Rattle.machine_model.specs.After.{after, no_call}
-use Rattle.machine_model.specs.Custodial.{is_out as is_away}
-use Rattle.machine_model.specs.Keeps.{Keeps}
-use Rattle.machine_model.specs.Actions.{any_page}
-use Rattle.machine_model.specs.Reads.{cpu_at, flat_of, frame_reading, is_active, or_zero, process_at}
-use Rattle.machine_model.proofs.OwnedLaws.{IsIdle}
-use Rattle.machine_model.specs.Refusal.{uid_of_number}
-use Rattle.machine_model.specs.Said.{shown_after}
-use Rattle.machine_model.specs.State.{State, Storage}
-use Rattle.machine_model.specs.Steps.{connected_to, started}
-use Rattle.machine_model.proofs.ActiveSeen.{active_place, within_some}
-use Rattle.machine_model.proofs.ChainFacts.{chain_active}
-use Rattle.machine_model.proofs.FindLaws.{free_frame, position_at, unread_page, free_is}
-use Rattle.machine_model.proofs.InsideLaws.{inside_is}
-use Rattle.machine_model.specs.Movers.{AsksMover}
-use Rattle.machine_model.proofs.MoverTied.{moving_fits}
-use Rattle.machine_model.proofs.ListLaws.{map_list, within_by}
-use Rattle.machine_model.proofs.LookFacts.{IsInside}
-use Rattle.machine_model.proofs.TieLaws.{none_some}
-use Rattle.machine_model.proofs.WordLaws.{word_within}
-use Rattle.seg_control.specs.Control.{is_for}
-use Rattle.flat_model.specs.Store.{known_uid}
-use Rattle.core_map.specs.CoreMap.{is_bound}
-use Rattle.std.specs.List.{list_any}
-use Rattle.core_map.specs.Clock.{clock_choice}
-use Rattle.page_control.specs.Plain.{binding_at, bindings}
 use Rattle.machine_model.specs.declared.Aim.TheVariants as aim
-use Rattle.machine_model.specs.Holding.{seen}
-use Rattle.machine_model.specs.Jobs.{emptied as segment_emptied, eviction_begun, with_choice, with_leaving}
-use Rattle.machine_model.specs.Reads.{frames_of_owner}
-use Rattle.machine_model.specs.Whole.{goes_in, going_for}
-use Rattle.machine_model.specs.Working.{IsLeaf}
-use Rattle.machine_model.proofs.ActiveSeen.{any_at}
-use Rattle.machine_model.proofs.FindLaws.{choice_bound}
-use Rattle.machine_model.proofs.OwnerLaws.{bound_here}
-use Rattle.machine_model.proofs.StepKept.{IsMine}
-use Rattle.machine_tables.specs.Owned.{HasOwner}
-use Rattle.machine_tables.specs.Taken.{AreHere, IsEmptied}
-use Rattle.machine_tables.specs.Taken.{is_bare}
-use Rattle.script.specs.declared.commands.Command.{Command}
-use Rattle.tree_model.specs.Tree.{Node, node_in}
-use Rattle.custody_model.specs.Allowed.{superior_in}
-use Rattle.machine_model.specs.Jobs.{deactivation_begun}
-use Rattle.machine_model.specs.Reads.{cut_of_owner, frames_from, trailers_in}
-use Rattle.machine_model.specs.Refusal.{refusal_of, uid_of_command}
-use Rattle.machine_model.proofs.CommandFacts.{LeadsToSegment, length_stands}
-use Rattle.machine_model.proofs.EmptyAsks.{segment_inferiors, unread_any}
-use Rattle.machine_model.proofs.TakeWhole.{nothing_whole}
-use Rattle.machine_model.proofs.ListSizes.{descriptors_few, pages_few}
-use Rattle.machine.proofs.TakingStays.{begun_as}
-use Rattle.std.proofs.Common.{◌∷◌, ◌≤◌, ◌+◌, ◌≢◌}
-use Rattle.machine_tables.specs.Parts.{Parts, with_state}
+use Rattle.machine.proofs.TakingStays.{begun_as, choice_as, emptied_as, leaving_as}
 use Rattle.machine.proofs.EmptiedFacts.{emptied}
-use Rattle.machine.proofs.TakingStays.{choice_as, emptied_as, leaving_as}
-use Rattle.machine.specs.Promise.{IsSound}
 use Rattle.machine.proofs.Found.{Looked, Waited, found_of}
 use Rattle.machine.proofs.Stays.{ShowsAs, core_as, stays_sound, tables_as, then_as, unbound_put}
 

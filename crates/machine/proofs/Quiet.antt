@@ -1,20 +1,7 @@
 -- Actions that leave the store as it is: it keeps its promise and shows the same, so the machine keeps its own.
-use Rattle.std.proofs.Common.{◌≡◌, ℕ, true, false, refl, sym, ap, subst, arith}
+use Rattle.machine.proofs.Prelude.{◌≡◌, ℕ, true, false, refl, sym, ap, subst, arith, Action, after, no_call, IsFaithful, StoreKept, shown_after, State, answered, told, told_by, with_owner, cpu_at, or_zero, Reply, Parts, with_state, IsSound, MayDo, Store, Some, None}
 use Rattle.machine_model.specs.Actions as act
-use Rattle.machine_model.specs.Actions.{Action}
-use Rattle.machine_model.specs.After.{after, no_call}
-use Rattle.machine_model.specs.Keeps.{IsFaithful, StoreKept}
-use Rattle.machine_model.specs.Said.{shown_after}
-use Rattle.machine_model.specs.State.{State}
-use Rattle.machine_model.specs.Steps.{answered, told, told_by, with_owner}
-use Rattle.machine_model.specs.Reads.{cpu_at, or_zero}
-use Rattle.book.specs.declared.replies.Reply.{Reply}
-use Rattle.machine_tables.specs.Parts.{Parts, with_state}
-use Rattle.machine.specs.Promise.{IsSound}
-use Rattle.machine.specs.Turns.{MayDo}
 use Rattle.machine.proofs.Steps.{sound_after}
-use Rattle.flat_model.specs.Store.{Store}
-use Rattle.std.specs.Prelude.{Some, None}
 
 module _ {D : Type 0} (t : Parts D) (c : ℕ) (sound : IsSound t) where
   abbrev s : State

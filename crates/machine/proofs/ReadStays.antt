@@ -1,36 +1,10 @@
 -- A page that comes into its frame, or a frame that is free again where the drive failed, isn't seen in the flat store.
-use Rattle.std.proofs.Common.{◌≡◌, ◌≢◌, ◌<◌, ℕ, true, false, set, length, [], Some, None, refl}
-use Rattle.std.proofs.Common.{sym, ap, ◌∙◌}
-use Rattle.std.proofs.lemmas.List.{get_or-set_other, get_or-set_same}
-use Rattle.core_map.specs.declared.Frame.{Frame}
+use Rattle.machine.proofs.Prelude.{◌≡◌, ◌≢◌, ◌<◌, ℕ, true, false, set, length, [], Some, None, refl, sym, ap, ◌∙◌, get_or-set_other, get_or-set_same, Frame, bound_page, frame_at, is_modified, started_page, with_frame, Ptw, Home, framed, KeepsWords, words_at, Plain, binding_at, bindings, frame_in, IsTied, shown_in, shown_out, Touches, page_none, page_some, words_kept, IsActive, table_at, table_of, word_of, IsHomeOf, IsKept, IsOutAt, home_of, Transfer, names, seen, Keeps, home_in, is_active, processor_at, State, brought, with_pages, map_list, within_by, none_some, active_at, word_within, some_same}
 use Rattle.core_map.specs.declared.Frame.TheVariants as frame
-use Rattle.core_map.specs.CoreMap.{bound_page, frame_at, is_modified, started_page, with_frame}
-use Rattle.page_table.specs.declared.Ptw.{Ptw}
 use Rattle.page_table.specs.declared.Ptw.TheVariants as ptw
-use Rattle.page_control.specs.declared.Home.{Home}
-use Rattle.page_control.specs.Effects.{framed}
-use Rattle.page_control.specs.Picture.{KeepsWords, words_at}
-use Rattle.page_control.specs.Plain.{Plain, binding_at, bindings, frame_in}
-use Rattle.page_control.specs.Ties.{IsTied}
-use Rattle.page_control.proofs.Pictures.{shown_in, shown_out}
-use Rattle.page_control.proofs.Touching.{Touches, moves, page_none, page_some, words_kept}
-use Rattle.active_segs.specs.Active.{IsActive, table_at}
-use Rattle.seg_control.specs.Control.{table_of, word_of}
-use Rattle.seg_control.specs.Kept.{IsHomeOf, IsKept, IsOutAt}
-use Rattle.storage_ops.specs.Shown.{home_of}
-use Rattle.processor.specs.declared.Transfer.{Transfer}
-use Rattle.machine_model.specs.Custodial.{is_out, names}
-use Rattle.machine_model.specs.Holding.{seen}
-use Rattle.machine_model.specs.Keeps.{Keeps}
-use Rattle.machine_model.specs.Reads.{home_in, is_active, processor_at}
-use Rattle.machine_model.specs.State.{State}
-use Rattle.machine_model.specs.Steps.{brought, with_pages}
-use Rattle.machine_model.proofs.ListLaws.{map_list, within_by}
-use Rattle.machine_model.proofs.TieLaws.{none_some}
-use Rattle.machine_model.proofs.TransferKept.{active_at}
-use Rattle.machine_model.proofs.WordLaws.{word_within}
+use Rattle.page_control.proofs.Touching.{moves}
+use Rattle.machine_model.specs.Custodial.{is_out}
 use Rattle.machine.proofs.Stays.{ShowsAs, core_as, pages_as, tables_as, then_as, unbound_put}
-use Rattle.laws.proofs.Options.{some_same}
 
 started_is : (x : Frame) (u p : ℕ) → started_page x ≡ Some (u, p) → x ≡ frame.Started u p
 started_is frame.Free u p h = absurd (none_some h)

@@ -1,22 +1,7 @@
 -- The promise reads neither how much room the book has nor whether the machine was stopped.
-use Rattle.std.proofs.Common.{ℕ, Bool, Option, Some, None}
-use Rattle.script.specs.declared.commands.Command.{Command}
-use Rattle.machine_model.specs.declared.Aim.{Aim}
+use Rattle.machine.proofs.Prelude.{ℕ, Bool, Option, Some, None, Command, Aim, Phase, IsFitting, AllCome, Keeps, outline_of, IsMachine, KeepsAll, next_command, process_at, refusal_of, State, IsTakenBy, TakenIn, TakenTo, IsWorking, Parts, with_state, IsSound}
 use Rattle.machine_model.specs.declared.Aim.TheVariants as aim
-use Rattle.machine_model.specs.declared.Phase.{Phase}
 use Rattle.machine_model.specs.declared.Phase.TheVariants as phase
-use Rattle.machine_model.specs.Fitting.{IsFitting}
-use Rattle.machine_model.specs.Foreseen.{AllCome}
-use Rattle.machine_model.specs.Keeps.{Keeps}
-use Rattle.machine_model.specs.Outlined.{outline_of}
-use Rattle.machine_model.specs.Promise.{IsMachine, KeepsAll}
-use Rattle.machine_model.specs.Reads.{next_command, process_at}
-use Rattle.machine_model.specs.Refusal.{refusal_of}
-use Rattle.machine_model.specs.State.{State}
-use Rattle.machine_model.specs.Taking.{IsTakenBy, TakenIn, TakenTo}
-use Rattle.machine_model.specs.Working.{IsWorking}
-use Rattle.machine_tables.specs.Parts.{Parts, with_state}
-use Rattle.machine.specs.Promise.{IsSound}
 
 module _ (s : State) (spare : ℕ) (stopped : Bool) where
   abbrev now : State

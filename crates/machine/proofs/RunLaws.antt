@@ -1,21 +1,5 @@
 -- What processors come to that make their steps one after the other.
-use Rattle.std.proofs.Common.{◌≡◌, ◌≤◌, ◌+◌, ◌||◌, ℕ, Bool, true, false, length, List, [], ◌∷◌, ◌++◌, drop, append-nil}
-use Rattle.std.proofs.Common.{◌<◌, get_or, take, Some, refl, sym, ap, subst, ◌∙◌, arith}
-use Rattle.std.specs.Prelude.{◌↔◌, Result, Ok, Err, IfOk, OnErr, count_by}
-use Rattle.std.specs.List.{list_any}
-use Rattle.std.proofs.lemmas.Bool.{or_parts}
-use Rattle.std.proofs.lemmas.List.{take-append-drop, take_more}
-use Rattle.book.specs.declared.entries.Entry.{Entry}
-use Rattle.machine_model.specs.Actions.{action_of}
-use Rattle.machine_model.specs.Reads.{process_at}
-use Rattle.machine_model.specs.Refusal.{move_to, outside_refusal, refusal_of, room_refusal}
-use Rattle.machine_model.specs.Turns.{moves}
-use Rattle.machine_model.proofs.FlatAlike.{append_assoc}
-use Rattle.machine_tables.specs.Parts.{Parts}
-use Rattle.machine.specs.Schedules.{Grows, HasRun, HasStood, IsRound, is_moved, tally, with_room, would_move}
-use Rattle.machine.specs.Turns.{Appends, AreTold, IsTurn, KeepsParts, TellsFaults}
-use Rattle.machine.specs.declared.turn.Turn.{Turn}
-use Rattle.machine_model.specs.Keeps.{is_fault}
+use Rattle.machine.proofs.Prelude.{◌≡◌, ◌≤◌, ◌+◌, ◌||◌, ℕ, Bool, true, false, length, List, [], ◌∷◌, ◌++◌, drop, append-nil, ◌<◌, get_or, take, Some, refl, sym, ap, subst, ◌∙◌, arith, ◌↔◌, Result, Ok, Err, IfOk, OnErr, count_by, list_any, or_parts, take-append-drop, take_more, Entry, action_of, process_at, move_to, outside_refusal, refusal_of, room_refusal, moves, append_assoc, Parts, Grows, HasRun, HasStood, IsRound, is_moved, tally, with_room, would_move, Appends, AreTold, IsTurn, KeepsParts, TellsFaults, Turn, is_fault}
 use Rattle.machine.proofs.CallLaws.{keeps_on, keeps_same}
 use Rattle.machine.proofs.TurnLaws.{still_of, told_moves}
 

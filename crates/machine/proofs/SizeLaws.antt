@@ -1,13 +1,5 @@
 -- Each drive has as many records as the script gives its volume.
-use Rattle.std.proofs.Common.{◌≡◌, ℕ, zero, suc, Bool, length, map, List, [], ◌∷◌, get_or, Option, Some, sym, ap, ◌∙◌}
-use Rattle.std.specs.Prelude.{slice_get}
-use Rattle.script.specs.Plans.{Plan}
-use Rattle.flat_model.specs.Store.{records_of}
-use Rattle.volumes.specs.Volumes.{HasParts}
-use Rattle.page_control.specs.Counts.{size}
-use Rattle.machine_model.proofs.ListLaws.{map_list}
-use Rattle.machine_model.proofs.TieLaws.{none_some}
-use Rattle.machine.specs.Sizes.{HaveSizes}
+use Rattle.machine.proofs.Prelude.{◌≡◌, ℕ, zero, suc, Bool, length, map, List, [], ◌∷◌, get_or, Option, Some, sym, ap, ◌∙◌, slice_get, Plan, records_of, HasParts, size, map_list, none_some, HaveSizes}
 
 size_at : {D : Type 0} (pages : D → List (List ℕ)) (drives : List D) (v : ℕ) (d : D) → slice_get drives v ≡ Some d
     → get_or (map length (map pages drives)) v 0 ≡ length (pages d)

@@ -1,34 +1,9 @@
 -- A store after a call that isn't seen in the flat store: it shows what it showed.
-use Rattle.std.proofs.Common.{◌≡◌, ◌<◌, ℕ, Bool, true, false, cond, get_or, length, map, replicate, set, sum, List, []}
-use Rattle.std.proofs.Common.{◌∷◌, Option, None, refl, sym, ap, subst, ◌∙◌, arith}
-use Rattle.std.specs.Prelude.{◌/◌, ◌%◌}
-use Rattle.std.proofs.Math.Seq.{map-set_same}
-use Rattle.script.specs.Plans.{Plan}
-use Rattle.accounts.specs.Maps.{AccountMaps}
-use Rattle.core_map.specs.declared.Frame.{Frame}
+use Rattle.machine.proofs.Prelude.{◌≡◌, ◌<◌, ℕ, Bool, true, false, cond, get_or, length, map, replicate, set, sum, List, [], ◌∷◌, Option, None, refl, sym, ap, subst, ◌∙◌, arith, ◌/◌, ◌%◌, map-set_same, Plan, AccountMaps, Frame, Core, bound_page, with_frame, after_choice, is_idle, passed_over, round_frames, unmarked, ActiveSegs, Plain, bindings, words_at, entries, size, picture_by, Links, IsKept, IsStore, ShowsTree, home_of, is_filed, is_there, picture, Store, Action, action_of, after, no_call, AreAccounts, IsFaithful, StoreKept, shown_after, State, Storage, with_pages, Parts, IsSound, bound_unmarked}
 use Rattle.core_map.specs.declared.Frame.TheVariants as frame
-use Rattle.core_map.specs.CoreMap.{Core, bound_page, with_frame}
-use Rattle.core_map.specs.Clock.{after_choice, frame_in, is_idle, passed_over, round_frames, unmarked}
+use Rattle.core_map.specs.Clock.{frame_in}
 use Rattle.vtoc.specs.Vtoc.{Entry}
-use Rattle.active_segs.specs.Active.{ActiveSegs}
-use Rattle.page_control.specs.Plain.{Plain, bindings}
-use Rattle.page_control.specs.Picture.{words_at}
-use Rattle.page_control.specs.Counts.{entries, size}
-use Rattle.page_control.proofs.Pictures.{picture_by}
-use Rattle.seg_control.specs.Control.{Links}
-use Rattle.seg_control.specs.Kept.{IsKept}
-use Rattle.storage_ops.specs.Shown.{IsStore, ShowsTree, home_of, is_filed, is_there, picture}
-use Rattle.flat_model.specs.Store.{Store}
-use Rattle.machine_model.specs.Actions.{Action, action_of}
-use Rattle.machine_model.specs.After.{after, no_call}
-use Rattle.machine_model.specs.Keeps.{AreAccounts, IsFaithful, StoreKept}
-use Rattle.machine_model.specs.Said.{shown_after}
-use Rattle.machine_model.specs.State.{State, Storage}
-use Rattle.machine_model.specs.Steps.{with_pages}
-use Rattle.machine_tables.specs.Parts.{Parts}
-use Rattle.machine.specs.Promise.{IsSound}
 use Rattle.machine.proofs.Steps.{sound_after}
-use Rattle.machine_model.proofs.JobKept.{bound_unmarked}
 
 -- The tree with its accounts, what numbers stand for, the volumes, and the words of each page are as before; and so
 -- are the pools.

@@ -1,41 +1,11 @@
 -- What a step has done, by what the call for its action says.
-use Rattle.std.proofs.Common.{◌≡◌, ◌≤◌, ℕ, true, false, length, map, List, [], ◌∷◌, Some, None, refl}
-use Rattle.std.proofs.Common.{sym, ap, subst, ◌∙◌, arith}
-use Rattle.std.specs.Prelude.{Err, Ok, OnErr, Result}
-use Rattle.site_io.specs.Faults.{Rose}
-use Rattle.site_io.specs.declared.gate.Point.{Point}
+use Rattle.machine.proofs.Prelude.{◌≡◌, ◌≤◌, ℕ, true, false, length, map, List, [], ◌∷◌, Some, None, refl, sym, ap, subst, ◌∙◌, arith, Err, Ok, OnErr, Result, Rose, Point, Transfer, What, Reply, Reference, CallsDrive, CallsDrives, Mover, Aim, action_of, after, no_call, committed_at, cut_all, cut_one, deactivation_begun, emptied, eviction_begun, segment_taken, signalled, take_all, take_one, took, victim_taken, with_hand_moved, page_in, move_begun, move_committed, cpu_at, cut_of_owner, frames_from, home_in, next_command, or_zero, process_at, trailers_in, State, activated_at, answered, came_online, cleared_at, connected_to, left_at, loaded, looking, page_created, page_filled, with_store, seg_filled, started, told, told_by, went_through, with_owner, segs_gone_rest, frames_for, pairs_for, took_for, what_for, Parts, SparesCall, outcome_of, with_state, CallsAs, CallsNone, IfStill, IsStep, IsTurn, MayDo, turn_of, why_by, Turn}
 use Rattle.site_io.specs.declared.gate.Point.TheVariants as point
-use Rattle.processor.specs.declared.Transfer.{Transfer}
-use Rattle.assoc_mem.specs.declared.What.{What}
 use Rattle.assoc_mem.specs.declared.What.TheVariants as what
-use Rattle.book.specs.declared.replies.Reply.{Reply}
-use Rattle.script.specs.declared.commands.Reference.{Reference}
-use Rattle.page_control.specs.Drives.{CallsDrive}
-use Rattle.seg_mover.specs.Copies.{CallsDrives}
-use Rattle.seg_mover.specs.declared.Mover.{Mover}
-use Rattle.machine_model.specs.declared.Aim.{Aim}
 use Rattle.machine_model.specs.declared.Aim.TheVariants as aim
 use Rattle.machine_model.specs.Actions as act
-use Rattle.machine_model.specs.Actions.{action_of}
-use Rattle.machine_model.specs.After.{after, no_call}
-use Rattle.machine_model.specs.Commits.{committed_at}
-use Rattle.machine_model.specs.Jobs.{cut_all, cut_one, deactivation_begun, emptied, eviction_begun}
-use Rattle.machine_model.specs.Jobs.{segment_taken, signalled, take_all, take_one, took, victim_taken, with_hand_moved}
-use Rattle.machine_model.specs.Jobs.{page_in}
-use Rattle.machine_model.specs.Moves.{move_begun, move_committed}
-use Rattle.machine_model.specs.Reads.{cpu_at, cut_of_owner, frames_from, home_in, next_command, or_zero, process_at, trailers_in}
-use Rattle.machine_model.specs.State.{State}
-use Rattle.machine_model.specs.Steps.{activated_at, answered, came_online, cleared_at, connected_to, left_at, loaded}
-use Rattle.machine_model.specs.Steps.{looking}
-use Rattle.machine_model.specs.Steps.{page_created, page_filled, with_store, seg_filled, started, told, told_by}
-use Rattle.machine_model.specs.Steps.{went_through, with_owner}
-use Rattle.machine_model.proofs.ActiveKept.{segs_gone_rest}
-use Rattle.machine_tables.specs.Claimed.{frames_for, pairs_for, took_for, what_for}
-use Rattle.machine_tables.specs.Parts.{Parts, SparesCall, outcome_of, with_state}
-use Rattle.machine.specs.Turns.{CallsAs, CallsNone, IfStill, IsStep, IsTurn, MayDo, turn_of, why_by}
 use Rattle.machine.proofs.CallLaws.{one_called, page_let_go, two_called}
 use Rattle.machine.proofs.CommitStays.{commit_faults}
-use Rattle.machine.specs.declared.turn.Turn.{Turn}
 use Rattle.machine.specs.declared.turn.Turn.TheVariants as turn
 
 -- ---- the drives' count stays

@@ -1,24 +1,7 @@
 -- What is told of a step, by its turn.
-use Rattle.std.proofs.Common.{◌≡◌, ◌<◌, ℕ, Bool, true, length, sym, ap, subst, ◌∙◌, arith}
-use Rattle.std.specs.Prelude.{count_by}
+use Rattle.machine.proofs.Prelude.{◌≡◌, ◌<◌, ℕ, Bool, true, length, sym, ap, subst, ◌∙◌, arith, count_by, action_of, after, State, is_fault, calls_drive, moves, process_at, HasBooked, entries_after, HasTold, faults_after, pools_kept, Parts, why_of, Why, IsSound, is_moved, Appends, Changes, IfMoved, IsTurn, KeepsParts, TellsFaults, Turn}
 use Rattle.machine_model.specs.Actions as act
-use Rattle.machine_model.specs.Actions.{action_of}
-use Rattle.machine_model.specs.After.{after}
-use Rattle.machine_model.specs.State.{State}
-use Rattle.machine_model.specs.Keeps.{is_fault}
-use Rattle.machine_model.specs.Turns.{calls_drive, moves}
-use Rattle.machine_model.specs.Reads.{process_at}
-use Rattle.machine_model.proofs.BookAfter.{HasBooked, entries_after}
-use Rattle.machine_model.proofs.FaultsBooked.{HasTold, faults_after}
-use Rattle.machine_model.proofs.PoolsKept.{pools_kept}
-use Rattle.machine_tables.specs.Parts.{Parts}
-use Rattle.machine_tables.specs.Meant.{why_of}
-use Rattle.machine_tables.specs.declared.action.Why.{Why}
 use Rattle.machine_tables.specs.declared.action.Why.TheVariants as why
-use Rattle.machine.specs.Promise.{IsSound}
-use Rattle.machine.specs.Schedules.{is_moved}
-use Rattle.machine.specs.Turns.{Appends, Changes, IfMoved, IsTurn, KeepsParts, TellsFaults}
-use Rattle.machine.specs.declared.turn.Turn.{Turn}
 use Rattle.machine.specs.declared.turn.Turn.TheVariants as turn
 use Rattle.machine.proofs.CallLaws.{are_told, calls_called, calls_rose, calls_same, told_alike}
 use Rattle.machine.proofs.MovedLaws.{moved_changes}

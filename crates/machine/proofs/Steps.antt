@@ -1,18 +1,5 @@
 -- A machine keeps its promise through an action of a step, where the calls of its store do what they say.
-use Rattle.std.proofs.Common.{◌≡◌, ◌<◌, ℕ, length, refl, sym, ap, subst, ◌∙◌}
-use Rattle.script.specs.Plans.{Plan}
-use Rattle.machine_model.specs.Actions.{Action, FillPage, FillSeg, action_of}
-use Rattle.machine_model.specs.After.{Outcome, after}
-use Rattle.machine_model.specs.Promise.{KeepsAll}
-use Rattle.machine_model.specs.Said.{Says}
-use Rattle.machine_model.specs.State.{State}
-use Rattle.machine_model.specs.Visits.{AreVisited}
-use Rattle.machine_model.proofs.IdleKept.{FillsBusy}
-use Rattle.machine_model.proofs.MachineKept.{step_keeps_all}
-use Rattle.machine_model.proofs.PoolsKept.{pools_kept}
-use Rattle.machine_model.proofs.TieLaws.{none_some}
-use Rattle.machine_tables.specs.Parts.{Parts}
-use Rattle.machine.specs.Promise.{IsSound}
+use Rattle.machine.proofs.Prelude.{◌≡◌, ◌<◌, ℕ, length, refl, sym, ap, subst, ◌∙◌, Plan, Action, FillPage, FillSeg, action_of, Outcome, after, KeepsAll, Says, State, AreVisited, FillsBusy, step_keeps_all, pools_kept, none_some, Parts, IsSound}
 use Rattle.machine.proofs.Busy.{Busy, busy_of}
 use Rattle.machine.proofs.DisksKept.{disks_kept}
 use Rattle.machine.proofs.VisitNext.{visited_after}

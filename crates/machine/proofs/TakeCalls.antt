@@ -1,33 +1,9 @@
 -- What the call asks that takes what a tree command must have out of use, and that the machine keeps its promise
 -- through it.
-use Rattle.std.proofs.Common.{◌≡◌, ◌≢◌, ◌<◌, ◌≤◌, ◌+◌, ℕ, zero, suc, Bool, true, false, cond, length, List, [], ◌∷◌}
-use Rattle.std.proofs.Common.{drop}
-use Rattle.std.proofs.Common.{Option, Some, None, ◌⊎◌, inl, inr, refl, sym, ap, subst, ◌∙◌, arith}
-use Rattle.script.specs.declared.commands.Command.{Command}
+use Rattle.machine.proofs.Prelude.{◌≡◌, ◌≢◌, ◌<◌, ◌≤◌, ◌+◌, ℕ, zero, suc, Bool, true, false, cond, length, List, [], ◌∷◌, drop, Option, Some, None, ◌⊎◌, inl, inr, refl, sym, ap, subst, ◌∙◌, arith, Command, trailers_of, Ptw, IsActive, place_of, action_of, descriptors_taken, first_taken, frames_taken, after, no_call, Keeps, cpu_at, cut_of_owner, frames_in, frames_of_owner, is_active, is_connected, descriptor_of, next_command, or_zero, process_at, trailers_in, uid_of_command, State, Storage, active_place, command_few, connected_few, frames_from_few, trailers_few, no_table, Knows, step_knows, none_some, HasItsSegment, frames_for, of_segment, pairs_for, took_for, what_for, taken_for, HasOwner, Parts, IsSound, is_of_process}
 use Rattle.script.specs.declared.commands.Command.TheVariants as command
-use Rattle.trailers.specs.Trailer.{trailers_of}
-use Rattle.page_table.specs.declared.Ptw.{Ptw}
-use Rattle.active_segs.specs.Active.{IsActive}
-use Rattle.seg_control.specs.Control.{place_of}
 use Rattle.machine_model.specs.declared.Aim.TheVariants as aim
 use Rattle.machine_model.specs.Actions as act
-use Rattle.machine_model.specs.Actions.{action_of, descriptors_taken, first_taken, frames_taken}
-use Rattle.machine_model.specs.After.{after, no_call}
-use Rattle.machine_model.specs.Keeps.{Keeps}
-use Rattle.machine_model.specs.Reads.{cpu_at, cut_of_owner, frames_in, frames_of_owner, is_active}
-use Rattle.machine_model.specs.Reads.{is_connected, descriptor_of, next_command, or_zero, process_at, trailers_in}
-use Rattle.machine_model.specs.Refusal.{uid_of_command}
-use Rattle.machine_model.specs.State.{State, Storage}
-use Rattle.machine_model.proofs.ActiveSeen.{active_place}
-use Rattle.machine_model.proofs.ListSizes.{command_few, connected_few, frames_from_few, trailers_few, no_table}
-use Rattle.machine_model.proofs.StepKnows.{Knows, step_knows}
-use Rattle.machine_model.proofs.TieLaws.{none_some}
-use Rattle.machine_tables.specs.Claimed.{HasItsSegment, frames_for, of_segment, pairs_for, took_for, what_for}
-use Rattle.machine_tables.specs.Meant.{taken_for}
-use Rattle.machine_tables.specs.Owned.{HasOwner}
-use Rattle.machine_tables.specs.Parts.{Parts}
-use Rattle.machine.specs.Promise.{IsSound}
-use Rattle.machine.specs.Turns.{is_of_process}
 use Rattle.machine.proofs.AloneLaws.{process_known, run_there}
 use Rattle.machine.proofs.Found.{Looked, found_of}
 use Rattle.machine.proofs.OwnerCalls.{SoundIn, kept_through, owned, still_for}

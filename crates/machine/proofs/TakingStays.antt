@@ -1,20 +1,7 @@
 -- What a job takes and lets go isn't seen in the flat store.
-use Rattle.std.proofs.Common.{ℕ, List, [], ◌∷◌, Option, Some, None, refl, sym, subst}
-use Rattle.std.proofs.lemmas.List.{length-set}
-use Rattle.assoc_mem.specs.declared.What.{What}
+use Rattle.machine.proofs.Prelude.{ℕ, List, [], ◌∷◌, Option, Some, None, refl, sym, subst, length-set, What, after_choice, bound_page, frame_in, leads_at, place_of, unlinked, Aim, cut_all, cut_one, deactivation_begun, emptied, leaving_if, segment_taken, take_all, take_one, took, with_choice, with_inactive, with_leaving, cut_of_owner, frames_from, trailers_in, State, Storage, segs_gone_rest}
 use Rattle.assoc_mem.specs.declared.What.TheVariants as what
-use Rattle.core_map.specs.Clock.{after_choice}
-use Rattle.core_map.specs.CoreMap.{bound_page}
-use Rattle.page_control.specs.Plain.{frame_in}
-use Rattle.seg_control.specs.Control.{leads_at, place_of}
-use Rattle.seg_control.specs.Effects.{unlinked}
-use Rattle.machine_model.specs.declared.Aim.{Aim}
 use Rattle.machine_model.specs.declared.Aim.TheVariants as aim
-use Rattle.machine_model.specs.Jobs.{cut_all, cut_one, deactivation_begun, emptied, leaving_if, segment_taken}
-use Rattle.machine_model.specs.Jobs.{take_all, take_one, took, with_choice, with_inactive, with_leaving}
-use Rattle.machine_model.specs.Reads.{cut_of_owner, frames_from, trailers_in}
-use Rattle.machine_model.specs.State.{State, Storage}
-use Rattle.machine_model.proofs.ActiveKept.{segs_gone_rest}
 use Rattle.machine.proofs.Stays.{ShowsAs, choice_bindings, core_as, same_as, tables_as, then_as}
 
 -- the clock's choice, with the marks and the hand as they are then

@@ -1,26 +1,7 @@
 -- What a reference through a frame asks, and that the machine keeps its promise through it.
-use Rattle.std.proofs.Common.{◌≡◌, ◌<◌, ℕ, true, length, Some, sym, ap, subst, ◌∙◌}
-use Rattle.std.specs.Prelude.{◌/◌}
-use Rattle.script.specs.Plans.{Plan}
-use Rattle.script.specs.declared.commands.Reference.{Reference}
-use Rattle.book.specs.declared.replies.Reply.{Reply}
+use Rattle.machine.proofs.Prelude.{◌≡◌, ◌<◌, ℕ, true, length, Some, sym, ap, subst, ◌∙◌, ◌/◌, Plan, Reference, Reply, bound_page, frame_at, is_bound, word_reply, Store, bound_from_page, action_of, after, seen, IsFaithful, Keeps, cpu_at, or_zero, through, State, old_word, pages_after, told_by, went_through, with_pages, with_store, map_list, Parts, with_pages_of, with_state, IsSound}
 use Rattle.core_map.specs.declared.Frame.TheVariants as frame
-use Rattle.core_map.specs.CoreMap.{bound_page, frame_at, is_bound}
-use Rattle.flat_model.specs.References.{word_reply}
-use Rattle.flat_model.specs.Store.{Store}
-use Rattle.page_control.proofs.Facts.{bound_from_page}
 use Rattle.machine_model.specs.Actions as act
-use Rattle.machine_model.specs.Actions.{action_of}
-use Rattle.machine_model.specs.After.{after}
-use Rattle.machine_model.specs.Holding.{seen}
-use Rattle.machine_model.specs.Keeps.{IsFaithful, Keeps}
-use Rattle.machine_model.specs.Reads.{cpu_at, or_zero}
-use Rattle.machine_model.specs.Said.{through}
-use Rattle.machine_model.specs.State.{State}
-use Rattle.machine_model.specs.Steps.{old_word, pages_after, told_by, went_through, with_pages, with_store}
-use Rattle.machine_model.proofs.ListLaws.{map_list}
-use Rattle.machine_tables.specs.Parts.{Parts, with_pages_of, with_state}
-use Rattle.machine.specs.Promise.{IsSound}
 use Rattle.machine.proofs.Changed.{IsStoreOf, changed_sound}
 use Rattle.machine.proofs.Found.{found_of}
 

@@ -1,24 +1,8 @@
 -- What the end of a transfer asks, and that the machine keeps its promise through it, however the call of the drive
 -- ended.
-use Rattle.std.proofs.Common.{◌≡◌, ◌<◌, ◌≤◌, ℕ, Bool, true, false, cond, length, Some, subst}
-use Rattle.std.specs.Prelude.{Err, Ok, OnErr, Result}
-use Rattle.site_io.specs.Faults.{Rose}
+use Rattle.machine.proofs.Prelude.{◌≡◌, ◌<◌, ◌≤◌, ℕ, Bool, true, false, cond, length, Some, subst, Err, Ok, OnErr, Result, Rose, frame_at, IsActive, table_of, IsKept, IsStore, Transfer, action_of, Outcome, after, by_outcome, Keeps, processor_at, State, Storage, transfer_failed, transferred, with_faults, Parts, outcome_of, IsSound}
 use Rattle.core_map.specs.declared.Frame.TheVariants as frame
-use Rattle.core_map.specs.CoreMap.{frame_at}
-use Rattle.active_segs.specs.Active.{IsActive}
-use Rattle.seg_control.specs.Control.{table_of}
-use Rattle.seg_control.specs.Kept.{IsKept}
-use Rattle.storage_ops.specs.Shown.{IsStore}
-use Rattle.processor.specs.declared.Transfer.{Transfer}
 use Rattle.machine_model.specs.Actions as act
-use Rattle.machine_model.specs.Actions.{action_of}
-use Rattle.machine_model.specs.After.{Outcome, after, by_outcome}
-use Rattle.machine_model.specs.Keeps.{Keeps}
-use Rattle.machine_model.specs.Reads.{processor_at}
-use Rattle.machine_model.specs.State.{State, Storage}
-use Rattle.machine_model.specs.Steps.{transfer_failed, transferred, with_faults}
-use Rattle.machine_tables.specs.Parts.{Parts, outcome_of}
-use Rattle.machine.specs.Promise.{IsSound}
 use Rattle.machine.proofs.Found.{found_of}
 use Rattle.machine.proofs.ReadStays.{active_there, brought_as, lost_as, page_within, started}
 use Rattle.machine.proofs.Stays.{ShowsAs, faithful_as, kept_as}

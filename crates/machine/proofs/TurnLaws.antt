@@ -1,11 +1,6 @@
 -- What an answer tells.
-use Rattle.std.proofs.Common.{◌≡◌, ℕ, true, false, refl}
+use Rattle.machine.proofs.Prelude.{◌≡◌, ℕ, true, false, refl, State, moves, is_moved, IfStill, turn_of, Turn}
 use Rattle.machine_model.specs.Actions as act
-use Rattle.machine_model.specs.State.{State}
-use Rattle.machine_model.specs.Turns.{moves}
-use Rattle.machine.specs.Schedules.{is_moved}
-use Rattle.machine.specs.Turns.{IfStill, turn_of}
-use Rattle.machine.specs.declared.turn.Turn.{Turn}
 use Rattle.machine.specs.declared.turn.Turn.TheVariants as turn
 
 -- an answer tells of a move just where something is done

@@ -1,18 +1,7 @@
 -- Some processor goes on just where the machine wasn't stopped and some process hasn't ended.
-use Rattle.std.proofs.Common.{◌≡◌, ◌≤◌, ◌<◌, ◌+◌, ℕ, Bool, true, false, cond, List, refl, sym, ap, subst, ◌∙◌, inl, inr, le_refl, arith}
-use Rattle.std.specs.Prelude.{◌↔◌, Contains, Result, Ok, Err, IfOk}
-use Rattle.std.specs.List.{list_any}
-use Rattle.std.proofs.lemmas.List.Folds.{list_any_at}
-use Rattle.std.proofs.lemmas.Bool.{cases_lt}
+use Rattle.machine.proofs.Prelude.{◌≡◌, ◌≤◌, ◌<◌, ◌+◌, ℕ, Bool, true, false, cond, List, refl, sym, ap, subst, ◌∙◌, inl, inr, le_refl, arith, ◌↔◌, Contains, Result, Ok, Err, IfOk, list_any, list_any_at, cases_lt, action_of, is_over, KeepsAll, State, moves, IsDone, NamesAll, would_move, some_moves}
 use Rattle.machine_model.specs.Actions as act
-use Rattle.machine_model.specs.Actions.{action_of, is_over}
-use Rattle.machine_model.specs.Promise.{KeepsAll}
-use Rattle.machine_model.specs.State.{State}
-use Rattle.machine_model.specs.Turns.{moves}
-use Rattle.machine.specs.Unstuck.{IsDone, NamesAll}
-use Rattle.machine.specs.Schedules.{would_move}
 use Rattle.machine.proofs.EndedLaws.{over_ended}
-use Rattle.machine_model.proofs.Unstuck.{some_moves}
 
 stopped_still : (s : State) (c : ℕ) → s.stopped ≡ true → would_move s c ≡ false
 unfolding action_of

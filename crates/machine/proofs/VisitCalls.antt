@@ -1,45 +1,8 @@
 -- A visit of the shutdown: what it asks of the tables, and that the machine keeps its promise.
-use Rattle.std.proofs.Common.{◌≡◌, ◌<◌, ◌≤◌, ℕ, ◌++◌, ◌∷◌, [], Bool, true, false, cond, ◌&&◌, length, sum}
-use Rattle.std.proofs.Common.{List, Option, Some, None, inr, refl, sym, ap, subst, ◌∙◌, arith, append-nil}
-use Rattle.std.specs.Prelude.{Err, Ok, OnErr, Result, nat_lt}
-use Rattle.std.proofs.lemmas.Bool.Decides.{nat_tests}
-use Rattle.site_io.specs.Faults.{Rose}
-use Rattle.script.specs.Plans.{Plan}
+use Rattle.machine.proofs.Prelude.{◌≡◌, ◌<◌, ◌≤◌, ℕ, ◌++◌, ◌∷◌, [], Bool, true, false, cond, length, sum, List, Option, Some, None, inr, refl, sym, ap, subst, ◌∙◌, arith, append-nil, Err, Ok, OnErr, Result, nat_lt, nat_tests, Rose, Plan, Frame, bound_page, frame_at, is_modified, Store, Left, CallsDrive, frame_in, words_in, Segment, is_over, Outcome, seen, are_zeros, entries_left, here_if, leaving_if, left_of, page_back, page_gone, page_in, IsFaithful, Keeps, StoreKept, mover_of, KeepsAll, frames_of_owner, home_in, left_page, after_visit, page_taken, visited_if, State, fault_told, with_faults, AreVisited, append_assoc, over_free, bound_here, none_some, SameSeats, VisitSays, same_seats, visit_keeps_all, Parts, SparesCall, outcome_of, AreHere, shown_visited, IsSound, AllVisited, CallsAtVisit, HasVisited, TellsLoss, Appends, KeepsParts, LetsGo}
 use Rattle.book.specs.declared.entries.Entry.TheVariants as entry
-use Rattle.core_map.specs.declared.Frame.{Frame}
 use Rattle.core_map.specs.declared.Frame.TheVariants as frame
-use Rattle.core_map.specs.CoreMap.{bound_page, frame_at, is_modified}
-use Rattle.flat_model.specs.Store.{Store}
-use Rattle.page_control.specs.declared.Left.{Left}
 use Rattle.page_control.specs.declared.Left.TheVariants as left
-use Rattle.page_control.specs.Drives.{CallsDrive}
-use Rattle.page_control.specs.Plain.{frame_in, words_in}
-use Rattle.active_segs.specs.declared.Entry.{Entry as Segment}
-use Rattle.machine_model.specs.Actions.{is_over}
-use Rattle.machine_model.specs.After.{Outcome}
-use Rattle.machine_model.specs.Holding.{seen}
-use Rattle.machine_model.specs.Jobs.{are_zeros, entries_left, here_if, leaving_if, left_of, page_back, page_gone}
-use Rattle.machine_model.specs.Jobs.{page_in}
-use Rattle.machine_model.specs.Keeps.{IsFaithful, Keeps, StoreKept}
-use Rattle.machine_model.specs.Movers.{mover_of}
-use Rattle.machine_model.specs.Promise.{KeepsAll}
-use Rattle.machine_model.specs.Reads.{frames_of_owner, home_in}
-use Rattle.machine_model.specs.Said.{left_page}
-use Rattle.machine_model.specs.Shutdown.{after_visit, page_taken, visited_if}
-use Rattle.machine_model.specs.State.{State}
-use Rattle.machine_model.specs.Steps.{fault_told, with_faults}
-use Rattle.machine_model.specs.Visits.{AreVisited}
-use Rattle.machine_model.proofs.FlatAlike.{append_assoc}
-use Rattle.machine_model.proofs.OverLaws.{over_free}
-use Rattle.machine_model.proofs.OwnerLaws.{bound_here}
-use Rattle.machine_model.proofs.TieLaws.{none_some}
-use Rattle.machine_model.proofs.VisitAll.{SameSeats, VisitSays, same_seats, visit_keeps_all}
-use Rattle.machine_tables.specs.Parts.{Parts, SparesCall, outcome_of}
-use Rattle.machine_tables.specs.Taken.{AreHere}
-use Rattle.machine_tables.specs.Visited.{shown_visited}
-use Rattle.machine.specs.Promise.{IsSound}
-use Rattle.machine.specs.Shut.{AllVisited, CallsAtVisit, HasVisited, TellsLoss}
-use Rattle.machine.specs.Turns.{Appends, KeepsParts, LetsGo}
 use Rattle.machine.proofs.CallLaws.{page_let_go, told_alike}
 use Rattle.machine.proofs.Changed.{IsStoreOf}
 use Rattle.machine.proofs.DisksKept.{visit_disks}

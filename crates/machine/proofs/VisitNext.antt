@@ -1,36 +1,10 @@
 -- What holds of the frames that the shutdown has visited holds after each visit, and one frame more was.
-use Rattle.std.proofs.Common.{◌≡◌, ◌≢◌, ◌<◌, ℕ, zero, suc, ◌+◌, ◌++◌, ◌∷◌, [], Bool, true, false, cond, length}
-use Rattle.std.proofs.Common.{not, replicate, List, Option, Some, None, inl, inr, refl, sym, ap, subst, ◌∙◌, arith}
-use Rattle.std.proofs.lemmas.Bool.{cases_lt}
-use Rattle.std.proofs.lemmas.List.{get_or-set_other, get_or-set_same, get_or_past}
-use Rattle.book.specs.declared.entries.Entry.{Entry}
+use Rattle.machine.proofs.Prelude.{◌≡◌, ◌≢◌, ◌<◌, ℕ, zero, suc, ◌+◌, ◌++◌, ◌∷◌, [], Bool, true, false, cond, length, not, replicate, List, Option, Some, None, inl, inr, refl, sym, ap, subst, ◌∙◌, arith, cases_lt, get_or-set_other, get_or-set_same, get_or_past, Entry, bound_page, Plan, Left, Home, evicted, Plain, frame_in, words_in, Processor, action_of, clear_or, is_over, Outcome, after, entries_left, are_zeros, here_if, leaving_if, left_of, page_back, page_gone, page_in, with_here, KeepsAll, cpu_at, home_in, no_processor, processor_at, after_visit, page_taken, visited_if, State, fault_told, with_faults, AreIdle, AreVisited, WasVisited, append_assoc, FillsBusy, idle_kept, pools_kept, none_some, SameSeats, VisitSays, same_seats, visit_over}
 use Rattle.book.specs.declared.entries.Entry.TheVariants as entry
-use Rattle.core_map.specs.CoreMap.{bound_page}
 use Rattle.core_map.specs.declared.Frame.TheVariants as frame
-use Rattle.script.specs.Plans.{Plan}
-use Rattle.page_control.specs.declared.Left.{Left}
 use Rattle.page_control.specs.declared.Left.TheVariants as left
-use Rattle.page_control.specs.declared.Home.{Home}
-use Rattle.page_control.specs.Effects.{evicted}
-use Rattle.page_control.specs.Plain.{Plain, frame_in, words_in}
-use Rattle.machine_model.specs.declared.Processor.{Processor}
 use Rattle.assoc_mem.specs.Held.{nothing_held}
 use Rattle.machine_model.specs.Actions as act
-use Rattle.machine_model.specs.Actions.{action_of, clear_or, is_over}
-use Rattle.machine_model.specs.After.{Outcome, after}
-use Rattle.machine_model.specs.Jobs.{entries_left, are_zeros, here_if, leaving_if, left_of, page_back}
-use Rattle.machine_model.specs.Jobs.{page_gone, page_in, with_here}
-use Rattle.machine_model.specs.Promise.{KeepsAll}
-use Rattle.machine_model.specs.Reads.{cpu_at, home_in, no_processor, processor_at}
-use Rattle.machine_model.specs.Shutdown.{after_visit, page_taken, visited_if}
-use Rattle.machine_model.specs.State.{State}
-use Rattle.machine_model.specs.Steps.{fault_told, with_faults}
-use Rattle.machine_model.specs.Visits.{AreIdle, AreVisited, WasVisited}
-use Rattle.machine_model.proofs.FlatAlike.{append_assoc}
-use Rattle.machine_model.proofs.IdleKept.{FillsBusy, idle_kept}
-use Rattle.machine_model.proofs.PoolsKept.{pools_kept}
-use Rattle.machine_model.proofs.TieLaws.{none_some}
-use Rattle.machine_model.proofs.VisitAll.{SameSeats, VisitSays, same_seats, visit_over}
 
 -- a frame that was visited, where its page and its words are as before and the book has entries more
 carried : (old new : Plain) (es more : List Entry) (g : ℕ) → frame_in new g ≡ frame_in old g

@@ -1,14 +1,10 @@
 -- A directory with a quota of its own, and one below the root: each page is charged where it belongs, and a page of
 -- zeros is given back as it leaves its frame.
-use Rattle.std.proofs.Common.{◌≡◌, [], ◌∷◌, Some, None, refl}
-use Rattle.std.specs.Prelude.{codes, pos}
-use Rattle.script.specs.Plans.{ProcessPlan}
+use Rattle.machine_model.proofs.Prelude.{◌≡◌, [], ◌∷◌, Some, None, refl, codes, pos, ProcessPlan, State, book_of, machine_with, process_for, until}
 use Rattle.script.specs.declared.commands.Command.TheVariants as command
 use Rattle.book.specs.declared.entries.Entry.TheVariants as entry
 use Rattle.book.specs.declared.replies.Reply.TheVariants as reply
 use Rattle.assoc_mem.specs.declared.What.TheVariants as what
-use Rattle.machine_model.specs.State.{State}
-use Rattle.machine_model.specs.Runs.{book_of, machine_with, process_for, until}
 
 abbrev script : ProcessPlan
 script = process_for (codes "Smith") (

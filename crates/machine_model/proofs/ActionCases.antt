@@ -1,10 +1,6 @@
 -- What is true of the action of a step, by the rules in their order.
-use Rattle.std.proofs.Common.{◌≡◌, ℕ, true, false, not}
-use Rattle.std.proofs.lemmas.Bool.{cond_both}
+use Rattle.machine_model.proofs.Prelude.{◌≡◌, ℕ, true, false, not, cond_both, action_of, clear_or, is_over, processor_at, State}
 use Rattle.machine_model.specs.Actions as act
-use Rattle.machine_model.specs.Actions.{action_of, clear_or, is_over}
-use Rattle.machine_model.specs.Reads.{processor_at}
-use Rattle.machine_model.specs.State.{State}
 
 -- a stopped machine, one whose processes have ended, a processor that comes online, and one that takes part
 pub action_by : (P : act.Action → Type 0) (s : State) (c : ℕ) → P act.IsStopped → P act.HasEnded

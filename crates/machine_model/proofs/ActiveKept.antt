@@ -1,42 +1,14 @@
 -- The machine keeps its promise where a segment becomes active, is connected, or is active no more, where a page is
 -- made, and where a word is reached through a frame.
-use Rattle.std.proofs.Common.{◌≡◌, ◌≢◌, ◌<◌, ℕ, ◌%◌, Bool, true, false, cond, count_by, List, [], ◌∷◌, ◌++◌, length}
-use Rattle.std.proofs.Common.{Option, Some, None, refl, sym, ap, subst, ◌∙◌, arith}
-use Rattle.std.proofs.lemmas.List.{length-set}
-use Rattle.script.specs.Plans.{Plan}
-use Rattle.script.specs.declared.commands.Reference.{Reference}
+use Rattle.machine_model.proofs.Prelude.{◌≡◌, ◌≢◌, ◌<◌, ℕ, ◌%◌, Bool, true, false, cond, count_by, List, [], ◌∷◌, ◌++◌, length, Option, Some, None, refl, sym, ap, subst, ◌∙◌, arith, length-set, Plan, Reference, binding_at, frame_in, referred, word_put, Frame, after_reference, bound_page, started_page, IsOneToOne, entry_at, uid_at, leads_at, place_of, sdws_at, table_of, read_at, alters, new_word, word_reply, MayActivate, MayDeactivate, NoneDue, gone_seg, KeepsBook, is_pending, seen, deactivated_one, emptied, seg_gone, segs_gone, IsAtWork, Keeps, StoreSays, is_fault, cut_of_owner, flat_of, frames_of_owner, process_at, processor_at, run_at, Seen, shown, CutDescriptor, Owner, State, Storage, activated_at, connected_to, looking, old_word, page_created, page_made, pages_after, told, went_through, with_owner, with_pages, with_store, without_first_cut, map_kept}
 use Rattle.book.specs.declared.entries.Entry.TheVariants as entry
-use Rattle.page_control.specs.Plain.{binding_at, frame_in}
-use Rattle.page_control.specs.Effects.{referred, word_put}
-use Rattle.core_map.specs.declared.Frame.{Frame}
 use Rattle.core_map.specs.declared.Frame.TheVariants as frame
-use Rattle.core_map.specs.CoreMap.{after_reference, bound_page, started_page}
-use Rattle.active_segs.specs.Active.{IsOneToOne, entry_at, uid_at}
-use Rattle.seg_control.specs.Control.{leads_at, place_of, sdws_at, table_of}
-use Rattle.seg_control.specs.Kept.{read_at}
-use Rattle.script.specs.References.{alters, new_word}
-use Rattle.flat_model.specs.References.{word_reply}
-use Rattle.custody_model.specs.Allowed.{MayActivate, MayDeactivate}
-use Rattle.custody_model.specs.Fine.{NoneDue}
-use Rattle.machine_model.specs.Changes.{gone_seg}
-use Rattle.machine_model.specs.Custodial.{KeepsBook, is_pending}
-use Rattle.machine_model.specs.Holding.{seen}
-use Rattle.machine_model.specs.Jobs.{deactivated_one, emptied, seg_gone, segs_gone}
-use Rattle.machine_model.specs.Keeps.{IsAtWork, Keeps, StoreSays, is_fault}
-use Rattle.machine_model.specs.Reads.{cut_of_owner, flat_of, frames_of_owner, process_at, processor_at, run_at}
-use Rattle.machine_model.specs.Seen.{Seen, shown}
-use Rattle.machine_model.specs.declared.CutDescriptor.{CutDescriptor}
-use Rattle.machine_model.specs.State.{Owner, State, Storage}
-use Rattle.machine_model.specs.Steps.{activated_at, connected_to, looking, old_word, page_created, page_made}
-use Rattle.machine_model.specs.Steps.{pages_after, told, went_through, with_owner, with_pages, with_store}
-use Rattle.machine_model.specs.Jobs.{without_first_cut}
 use Rattle.machine_model.proofs.ActiveLaws.{activate_keeps, deactivate_keeps}
-use Rattle.machine_model.proofs.ActiveSeen.{activate_seen, blank_less, deactivate_seen, inactive_blank, names_table}
-use Rattle.machine_model.proofs.ActiveSeen.{words_less, words_more, words_new}
+use Rattle.machine_model.proofs.ActiveSeen.{activate_seen, blank_less, deactivate_seen, inactive_blank, names_table, words_less, words_more, words_new}
 use Rattle.machine_model.proofs.AnswerLaws.{owner_keeps}
 use Rattle.machine_model.proofs.ChainLaws.{GoesOn, first_finish_seg, uncut_on}
 use Rattle.machine_model.proofs.DescriptorLaws.{CanConnect, connect_keeps, gone_seg_keeps}
-use Rattle.machine_model.proofs.KeepLaws.{faults_push}
+use Rattle.machine_model.proofs.KeepLaws.{faults_push, quiet_push}
 use Rattle.machine_model.proofs.MoveSeen.{connect_seen, made_seen}
 use Rattle.machine_model.proofs.OwnedLaws.{IsIdle, nobody}
 use Rattle.machine_model.proofs.OwnerLaws.{job_over}
@@ -44,8 +16,6 @@ use Rattle.machine_model.proofs.TellKept.{CanTell, told_keeps, works_counted}
 use Rattle.machine_model.proofs.TieLaws.{none_some}
 use Rattle.machine_model.proofs.TransferKept.{kept_with, quiet_faults}
 use Rattle.machine_model.proofs.TransferLaws.{CanMake, here_keeps}
-use Rattle.machine_model.proofs.KeepLaws.{quiet_push}
-use Rattle.laws.proofs.Places.{map_kept}
 
 -- ---- a segment becomes active
 

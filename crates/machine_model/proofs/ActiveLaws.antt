@@ -1,25 +1,10 @@
 -- A segment becomes active, or is it no more.
-use Rattle.std.proofs.Common.{◌≡◌, ◌≢◌, ℕ, Bool, true, false, [], ◌∷◌, ◌++◌, Option, Some, None, inl, inr}
-use Rattle.std.proofs.Common.{refl, sym, ap, subst, ◌∙◌}
-use Rattle.std.proofs.lemmas.Bool.Decides.{eqb_tells}
-use Rattle.book.specs.declared.entries.Entry.{Entry}
+use Rattle.machine_model.proofs.Prelude.{◌≡◌, ◌≢◌, ℕ, Bool, true, false, [], ◌∷◌, ◌++◌, Option, Some, None, inl, inr, refl, sym, ap, subst, ◌∙◌, eqb_tells, Entry, Ptw, IsLawful, after_entry, IsAllowed, MayActivate, MayDeactivate, Custody, page_of, uid_of_page, HasNoPage, at_put, custody_next, activated, deactivated, KeepsBook, IsOwned, IsRun, IsTied, is_pending, names, is_out, Seen, flat, shown, frame_use, bound_use, progress_of, FillsOnline, pending_after}
 use Rattle.book.specs.declared.entries.Entry.TheVariants as entry
-use Rattle.page_table.specs.declared.Ptw.{Ptw}
 use Rattle.page_table.specs.declared.Ptw.TheVariants as ptw
-use Rattle.flat_model.specs.Legal.{IsLawful, after_entry}
-use Rattle.custody_model.specs.Allowed.{IsAllowed, MayActivate, MayDeactivate}
-use Rattle.custody_model.specs.Custody.{Custody, page_of, uid_of_page}
-use Rattle.custody_model.specs.Effects.{HasNoPage}
-use Rattle.custody_model.specs.Next.{at_put, custody_next}
-use Rattle.machine_model.specs.Changes.{activated, deactivated}
-use Rattle.machine_model.specs.Custodial.{KeepsBook, IsOwned, IsRun, IsTied, is_pending, names, is_out}
-use Rattle.machine_model.specs.Seen.{Seen, flat, shown, frame_use, bound_use}
 use Rattle.machine_model.proofs.BookNext.{book_next}
 use Rattle.machine_model.proofs.OwnedLaws.{like_active, owned_like}
-use Rattle.machine_model.proofs.TieLaws.{not_there}
-use Rattle.flat_model.specs.Store.{progress_of}
-use Rattle.custody_model.specs.Fine.{FillsOnline, pending_after}
-use Rattle.machine_model.proofs.TieLaws.{page_used}
+use Rattle.machine_model.proofs.TieLaws.{not_there, page_used}
 
 -- The words of one segment are others, which name no frame, as those before didn't; no page of it is being read.
 pub record ChangesSegment (v : Seen) (u : ℕ) (words : ℕ → ℕ → Ptw) : Type 0 where

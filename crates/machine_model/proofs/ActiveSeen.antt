@@ -1,32 +1,14 @@
 -- What custody sees of a machine where a segment becomes active, or is it no more.
-use Rattle.std.proofs.Common.{◌≡◌, ◌≢◌, ◌<◌, ℕ, zero, suc, ◌+◌, Bool, true, false, not, ◌||◌, cond, eqb, List, [], ◌∷◌}
-use Rattle.std.proofs.Common.{◌++◌, length, set, get_or, replicate, Option, Some, None, inl, inr, refl, sym, ap, subst}
-use Rattle.std.proofs.Common.{◌∙◌, arith}
-use Rattle.std.specs.List.{list_any, position_or_len}
-use Rattle.std.proofs.lemmas.Bool.{cases_Bool, or_parts, eqb-true}
-use Rattle.std.proofs.lemmas.Bool.Decides.{eqb_tells, leb_tells}
-use Rattle.std.proofs.lemmas.List.{get_or_past, get_or-set_same, get_or-set_other, length-set}
-use Rattle.std.proofs.lemmas.List.Folds.{position_or_len-set}
-use Rattle.page_table.specs.declared.Ptw.{Ptw}
+use Rattle.machine_model.proofs.Prelude.{◌≡◌, ◌≢◌, ◌<◌, ℕ, zero, suc, ◌+◌, Bool, true, false, not, ◌||◌, cond, eqb, List, [], ◌∷◌, ◌++◌, length, set, get_or, replicate, Option, Some, None, inl, inr, refl, sym, ap, subst, ◌∙◌, arith, list_any, position_or_len, cases_Bool, or_parts, eqb-true, eqb_tells, leb_tells, get_or_past, get_or-set_same, get_or-set_other, length-set, position_or_len-set, Ptw, ActiveSegs, IsOneToOne, entry_at, table_at, uid_at, uid_in, Sdw, is_for, leads, leads_at, place_of, word_of, filed_word, made_active, table_for, at_put, activated, no_more_active, names, led_to, seen, descriptor_of, is_active, State, passed_there}
 use Rattle.page_table.specs.declared.Ptw.TheVariants as ptw
 use Rattle.active_segs.specs.declared.Entry.{Entry}
-use Rattle.active_segs.specs.Active.{ActiveSegs, IsOneToOne, deactivated, entry_at, table_at, uid_at, uid_in}
-use Rattle.descriptor_seg.specs.declared.Sdw.{Sdw}
+use Rattle.active_segs.specs.Active.{deactivated}
 use Rattle.descriptor_seg.specs.declared.Sdw.TheVariants as sdw
 use Rattle.book.specs.declared.entries.Entry.TheVariants as entry
-use Rattle.seg_control.specs.Control.{is_for, leads, leads_at, place_of, word_of}
-use Rattle.seg_control.specs.Next.{filed_word, made_active, table_for}
-use Rattle.custody_model.specs.Next.{at_put}
-use Rattle.machine_model.specs.Changes.{activated, deactivated as no_more_active}
-use Rattle.machine_model.specs.Custodial.{names}
-use Rattle.machine_model.specs.Holding.{led_to, seen}
-use Rattle.machine_model.specs.Reads.{descriptor_of, is_active}
-use Rattle.machine_model.specs.State.{State}
 use Rattle.machine_model.proofs.Places.{by_place}
 use Rattle.machine_model.proofs.TieLaws.{none_some}
 use Rattle.machine_model.proofs.WordLaws.{found}
 use Rattle.machine_model.proofs.CountLaws.{any_set}
-use Rattle.laws.proofs.Options.{passed_there}
 
 -- ---- where something is found
 

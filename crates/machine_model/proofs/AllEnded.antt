@@ -1,32 +1,8 @@
 -- Once no process is ready or running each has ended, and the book is complete.
-use Rattle.std.proofs.Common.{◌≡◌, ◌≢◌, ◌<◌, ℕ, zero, suc, ◌+◌, Bool, true, false, not, ◌||◌, cond, eqb, length}
-use Rattle.std.proofs.Common.{List, []}
-use Rattle.std.proofs.Common.{◌∷◌, get_or, set, Option, Some, None, is_some, inl, inr, refl, sym, ap, subst, ◌∙◌}
-use Rattle.std.proofs.Common.{arith, replicate}
-use Rattle.std.specs.List.{filter, list_any}
-use Rattle.std.proofs.lemmas.Bool.Decides.{eqb_tells}
-use Rattle.std.proofs.lemmas.List.{get_or-set_other, get_or-set_same}
-use Rattle.script.specs.Plans.{Plan, command_at}
-use Rattle.script.specs.declared.commands.Command.{Command}
+use Rattle.machine_model.proofs.Prelude.{◌≡◌, ◌≢◌, ◌<◌, ℕ, zero, suc, ◌+◌, Bool, true, false, not, ◌||◌, cond, eqb, length, List, [], ◌∷◌, get_or, set, Option, Some, None, is_some, inl, inr, refl, sym, ap, subst, ◌∙◌, arith, replicate, filter, list_any, eqb_tells, get_or-set_other, get_or-set_same, Plan, command_at, Command, Entry, Reply, has, after_command, effect_of, gone_on, is_end, takes_effect, tries_on, IsAnswer, IsComplete, IsEnd, IsLawful, IsLegal, IsLegalFrom, MayFault, after_do, after_entry, after_fault, is_part, last_of, part, store_after, store_from, Progress, Store, at_first, boot, progress_of, with_progress, has_process, is_empty, is_over, KeepsAll, cpu_at, flat_of, run_at, HasTurn, MayRun, State, Processor, effect_advances, and_parts, not_both, going_within}
 use Rattle.script.specs.declared.commands.Command.TheVariants as command
-use Rattle.book.specs.declared.entries.Entry.{Entry}
 use Rattle.book.specs.declared.entries.Entry.TheVariants as entry
-use Rattle.book.specs.declared.replies.Reply.{Reply}
-use Rattle.custody_model.specs.Custody.{has}
-use Rattle.flat_model.specs.Commands.{after_command, effect_of, gone_on, is_end, takes_effect, tries_on}
-use Rattle.flat_model.specs.Legal.{IsAnswer, IsComplete, IsEnd, IsLawful, IsLegal, IsLegalFrom, MayFault, after_do}
-use Rattle.flat_model.specs.Legal.{after_entry, after_fault, is_part, last_of, part, store_after, store_from}
-use Rattle.flat_model.specs.Store.{Progress, Store, at_first, boot, progress_of, with_progress}
-use Rattle.machine_model.specs.Actions.{has_process, is_empty, is_over}
-use Rattle.machine_model.specs.Promise.{KeepsAll}
-use Rattle.machine_model.specs.Reads.{cpu_at, flat_of, run_at}
-use Rattle.machine_model.specs.Scheduled.{HasTurn, MayRun}
-use Rattle.machine_model.specs.State.{State}
-use Rattle.machine_model.specs.declared.Processor.{Processor}
-use Rattle.flat_model.proofs.OtherLaws.{effect_advances}
 use Rattle.machine_model.proofs.TieLaws.{none_some}
-use Rattle.laws.proofs.Bools.{and_parts, not_both}
-use Rattle.flat_model.proofs.SharedLaws.{going_within}
 
 -- ---- nobody is ready or running
 

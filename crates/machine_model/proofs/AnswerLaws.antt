@@ -1,20 +1,8 @@
 -- A command is answered, a drive's failure is told, or the owner of the supervisor changes.
-use Rattle.std.proofs.Common.{◌≡◌, ℕ, List, ◌++◌, Option, Some, refl, sym, ap, ◌∙◌}
-use Rattle.script.specs.Plans.{command_at}
-use Rattle.script.specs.declared.commands.Command.{Command}
+use Rattle.machine_model.proofs.Prelude.{◌≡◌, ℕ, List, ◌++◌, Option, Some, refl, sym, ap, ◌∙◌, command_at, Command, Reply, gone_on, IsLawful, IsLawfulDo, MayFault, after_entry, progress_of, MayDo, at_put, custody_next, is_try, released_by, with_seat, answered, counted, KeepsBook, HoldsRight, IsRun, is_pending, Seen, flat, shown, seat_of, Processor, Run, Owner}
 use Rattle.book.specs.declared.entries.Entry.TheVariants as entry
-use Rattle.book.specs.declared.replies.Reply.{Reply}
-use Rattle.flat_model.specs.Commands.{gone_on}
-use Rattle.flat_model.specs.Legal.{IsLawful, IsLawfulDo, MayFault, after_entry}
-use Rattle.flat_model.specs.Store.{progress_of}
-use Rattle.custody_model.specs.Allowed.{MayDo, next_command}
-use Rattle.custody_model.specs.Next.{at_put, custody_next, is_try, released_by, with_seat}
-use Rattle.machine_model.specs.Changes.{answered, counted, failed}
-use Rattle.machine_model.specs.Custodial.{KeepsBook, HoldsRight, IsRun, is_pending}
-use Rattle.machine_model.specs.Seen.{Seen, flat, shown, seat_of}
-use Rattle.machine_model.specs.declared.Processor.{Processor}
-use Rattle.machine_model.specs.declared.Run.{Run}
-use Rattle.machine_model.specs.State.{Owner}
+use Rattle.custody_model.specs.Allowed.{next_command}
+use Rattle.machine_model.specs.Changes.{failed}
 use Rattle.machine_model.proofs.BookNext.{book_apart, book_next}
 use Rattle.machine_model.proofs.HeldLaws.{right_like, under_way_alike}
 use Rattle.machine_model.proofs.OwnedLaws.{IsIdle, like_seat, owned_like, owned_idle}

@@ -1,35 +1,13 @@
 -- The machine keeps its promise where a write failed: all that was still going comes back, and the process is told.
-use Rattle.std.proofs.Common.{◌≡◌, ◌<◌, ◌≤◌, ℕ, zero, suc, count_by, List, [], ◌∷◌, ◌++◌, length, set, get_or, Option}
-use Rattle.std.proofs.Common.{Some, None, refl, sym, ap, subst, ◌∙◌, arith}
-use Rattle.std.proofs.lemmas.List.{length-set}
-use Rattle.std.specs.Prelude.{◌^◌, min}
-use Rattle.site_io.specs.Faults.{Rose}
+use Rattle.machine_model.proofs.Prelude.{◌≡◌, ◌<◌, ◌≤◌, ℕ, zero, suc, count_by, List, [], ◌∷◌, ◌++◌, length, set, get_or, Option, Some, None, refl, sym, ap, subst, ◌∙◌, arith, length-set, ◌^◌, min, Rose, bound_page, frame_in, Sdw, place_of, sdws_at, MayFault, page_at, back, back_seg, KeepsBook, seen, here_if, page_back, pages_back, seg_back, segs_back, with_relink, write_failed, AreThere, Keeps, StoreSays, is_fault, cut_of_owner, flat_of, frames_of_owner, process_at, run_at, Seen, CutDescriptor, State, Storage, fault_told, looking, told, with_owner, without_first_cut, without_first_frame}
 use Rattle.book.specs.declared.entries.Entry.TheVariants as entry
 use Rattle.book.specs.declared.replies.Reply.TheVariants as reply
-use Rattle.core_map.specs.CoreMap.{bound_page}
-use Rattle.page_control.specs.Plain.{frame_in}
-use Rattle.descriptor_seg.specs.declared.Sdw.{Sdw}
-use Rattle.seg_control.specs.Control.{place_of, sdws_at}
-use Rattle.flat_model.specs.Legal.{MayFault}
-use Rattle.machine_model.specs.Chains.{page_at}
-use Rattle.machine_model.specs.Changes.{back, back_seg}
-use Rattle.machine_model.specs.Custodial.{KeepsBook}
-use Rattle.machine_model.specs.Holding.{seen}
-use Rattle.machine_model.specs.Jobs.{here_if, page_back, pages_back, seg_back, segs_back, with_relink}
-use Rattle.machine_model.specs.Jobs.{write_failed}
-use Rattle.machine_model.specs.Keeps.{AreThere, Keeps, StoreSays, is_fault}
-use Rattle.machine_model.specs.Reads.{cut_of_owner, flat_of, frames_of_owner, process_at, run_at}
-use Rattle.machine_model.specs.Seen.{Seen}
-use Rattle.machine_model.specs.declared.CutDescriptor.{CutDescriptor}
-use Rattle.machine_model.specs.State.{State, Storage}
-use Rattle.machine_model.specs.Steps.{fault_told, looking, told, with_owner}
-use Rattle.machine_model.specs.Jobs.{without_first_cut, without_first_frame}
 use Rattle.machine_model.proofs.ActiveSeen.{active_place}
 use Rattle.machine_model.proofs.AnswerLaws.{fault_keeps}
-use Rattle.machine_model.proofs.ChainLaws.{GoesOn, back_on, first_finish, first_finish_seg, uncut_on}
+use Rattle.machine_model.proofs.ChainLaws.{GoesOn, back_on, first_finish, first_finish_seg, uncut_on, goes_with}
 use Rattle.machine_model.proofs.DescriptorLaws.{back_seg_keeps}
-use Rattle.machine_model.proofs.FrameLaws.{CanFinish, back_keeps}
-use Rattle.machine_model.proofs.KeepLaws.{faults_push}
+use Rattle.machine_model.proofs.FrameLaws.{CanFinish, back_keeps, finish_with}
+use Rattle.machine_model.proofs.KeepLaws.{faults_push, quiet_push}
 use Rattle.machine_model.proofs.LeaveSeen.{back_seen}
 use Rattle.machine_model.proofs.MoveSeen.{back_seg_seen}
 use Rattle.machine_model.proofs.OwnedLaws.{nobody}
@@ -38,9 +16,6 @@ use Rattle.machine_model.proofs.TakeSeen.{HasTables}
 use Rattle.machine_model.proofs.TellKept.{CanTell, told_keeps}
 use Rattle.machine_model.proofs.TieLaws.{none_some}
 use Rattle.machine_model.proofs.TransferKept.{kept_with}
-use Rattle.machine_model.proofs.KeepLaws.{quiet_push}
-use Rattle.machine_model.proofs.ChainLaws.{goes_with}
-use Rattle.machine_model.proofs.FrameLaws.{finish_with}
 
 -- ---- pages come back
 

@@ -1,56 +1,18 @@
 -- A step appends 320 entries to the book at the most, in room that was there.
-use Rattle.std.proofs.Common.{not, ◌&&◌, ◌⊎◌, inl, inr}
-use Rattle.std.specs.List.{list_all}
-use Rattle.std.proofs.Common.{◌≡◌, ◌≤◌, ◌<◌, ℕ, ◌+◌, ◌-◌, Bool, true, false, cond, List, [], ◌∷◌, ◌++◌, length, map}
-use Rattle.std.proofs.Common.{Option}
-use Rattle.std.proofs.Common.{Some, None, refl, sym, ap, ◌∙◌, arith}
-use Rattle.std.proofs.lemmas.List.{length-append, length-map}
-use Rattle.script.specs.declared.commands.Command.{Command}
+use Rattle.machine_model.proofs.Prelude.{not, ◌&&◌, ◌⊎◌, inl, inr, list_all, ◌≡◌, ◌≤◌, ◌<◌, ℕ, ◌+◌, ◌-◌, Bool, true, false, cond, List, [], ◌∷◌, ◌++◌, length, map, Option, Some, None, refl, sym, ap, ◌∙◌, arith, length-append, length-map, Command, What, Entry, Reply, Transfer, Left, words_in, first_off_chain, hand_past, Aim, CutDescriptor, action_of, Outcome, after, committed, committed_at, cut_entry, frame_entry, gone_entries, inactive_entries, left_after, with_effect, cut_all, cut_one, deactivation_begun, emptied, entries_left, eviction_done, left_of, page_back, page_done, page_in, pages_back, seg_back, seg_gone, segment_taken, segs_back, segs_gone, take_all, take_one, took, victim_taken, write_failed, Keeps, is_fault, copy_failed, page_copied, without_move, KeepsAll, flat_of, run_at, cut_of_owner, frames_from, frames_of_owner, is_active, next_command, process_at, trailers_in, reply_of, uid_of_command, State, Storage, calls_drive, booked, fault_told, frame_lost, page_created, page_made, told, transfer_failed, old_word, transferred, with_faults, with_store, OwnsFew, append-nil, append_assoc, suc}
 use Rattle.script.specs.declared.commands.Command.TheVariants as command
-use Rattle.assoc_mem.specs.declared.What.{What}
 use Rattle.assoc_mem.specs.declared.What.TheVariants as what
-use Rattle.book.specs.declared.entries.Entry.{Entry}
 use Rattle.book.specs.declared.entries.Entry.TheVariants as entry
-use Rattle.book.specs.declared.replies.Reply.{Reply}
 use Rattle.book.specs.declared.replies.Reply.TheVariants as reply
-use Rattle.processor.specs.declared.Transfer.{Transfer}
-use Rattle.page_control.specs.declared.Left.{Left}
 use Rattle.page_control.specs.declared.Left.TheVariants as left
-use Rattle.page_control.specs.Plain.{words_in}
-use Rattle.active_segs.specs.Victim.{first_off_chain, hand_past}
-use Rattle.machine_model.specs.declared.Aim.{Aim}
 use Rattle.machine_model.specs.declared.Aim.TheVariants as aim
-use Rattle.machine_model.specs.declared.CutDescriptor.{CutDescriptor}
 use Rattle.machine_model.specs.Actions as act
-use Rattle.machine_model.specs.Actions.{action_of}
-use Rattle.machine_model.specs.After.{Outcome, after}
-use Rattle.machine_model.specs.Commits.{committed, committed_at, cut_entry, frame_entry, gone_entries, inactive_entries}
-use Rattle.machine_model.specs.Commits.{left_after, with_effect}
-use Rattle.machine_model.specs.Jobs.{cut_all, cut_one, deactivation_begun, emptied, entries_left, eviction_done}
-use Rattle.machine_model.specs.Jobs.{left_of}
-use Rattle.machine_model.specs.Jobs.{page_back, page_done}
-use Rattle.machine_model.specs.Jobs.{page_in, pages_back, seg_back, seg_gone, segment_taken, segs_back, segs_gone}
-use Rattle.machine_model.specs.Jobs.{take_all, take_one, took, victim_taken, write_failed}
-use Rattle.machine_model.specs.Keeps.{Keeps, is_fault}
-use Rattle.machine_model.specs.Moves.{copy_failed, page_copied, without_move}
-use Rattle.machine_model.specs.Promise.{KeepsAll}
-use Rattle.machine_model.specs.Reads.{flat_of, run_at}
-use Rattle.machine_model.specs.Reads.{cut_of_owner, frames_from, frames_of_owner, is_active, next_command, process_at}
-use Rattle.machine_model.specs.Reads.{trailers_in}
-use Rattle.machine_model.specs.Refusal.{reply_of, uid_of_command}
-use Rattle.machine_model.specs.State.{State, Storage}
-use Rattle.machine_model.specs.Turns.{calls_drive}
-use Rattle.machine_model.specs.Steps.{booked, fault_told, frame_lost, page_created, page_made, told, transfer_failed}
-use Rattle.machine_model.specs.Steps.{old_word, transferred, with_faults, with_store}
-use Rattle.machine_model.specs.Working.{OwnsFew}
 use Rattle.machine_model.proofs.ListSizes.{frames_from_few, trailers_few}
 use Rattle.machine_model.proofs.PlainAction.{IsPlainly, plain_action}
 use Rattle.machine_model.proofs.PlainReplies.{is_device, tree_plain, word_plain}
 use Rattle.machine_model.proofs.StepGoes.{few_taken}
 use Rattle.machine_model.proofs.StepKnows.{Knows, step_knows}
-use Rattle.std.proofs.lemmas.List.{append-nil, append_assoc}
 use Rattle.machine_model.proofs.EffectLaws.{frame_entry_has}
-use Rattle.std.proofs.Common.{suc}
 
 -- ---- what entries tell
 

@@ -1,18 +1,5 @@
 -- One more entry: what of the machine's promise it keeps by the laws of books and custody alone.
-use Rattle.std.proofs.Common.{◌≡◌, ℕ, [], ◌∷◌, ◌++◌, sym, ap, subst, ◌∙◌}
-use Rattle.book.specs.declared.entries.Entry.{Entry}
-use Rattle.flat_model.specs.Legal.{IsLawful, after_entry}
-use Rattle.flat_model.specs.Store.{Store, progress_of}
-use Rattle.flat_model.proofs.BookLaws.{legal_push, store_after-push}
-use Rattle.custody_model.specs.Allowed.{IsAllowed}
-use Rattle.custody_model.specs.Custody.{Custody}
-use Rattle.custody_model.specs.Fine.{FillsOnline, pending_after}
-use Rattle.custody_model.specs.Next.{custody_next}
-use Rattle.custody_model.proofs.CleanLaws.{clean_push, custody_after-push}
-use Rattle.custody_model.proofs.FineLaws.{fine_next}
-use Rattle.machine_model.specs.Custodial.{KeepsBook, IsOwned, IsTied, HoldsRight, AreUnderWay, IsRun, is_pending}
-use Rattle.machine_model.specs.Seen.{Seen, flat, shown}
-use Rattle.std.proofs.Common.{refl}
+use Rattle.machine_model.proofs.Prelude.{◌≡◌, ℕ, [], ◌∷◌, ◌++◌, sym, ap, subst, ◌∙◌, Entry, IsLawful, after_entry, Store, progress_of, legal_push, store_after-push, IsAllowed, Custody, FillsOnline, pending_after, custody_next, clean_push, custody_after-push, fine_next, KeepsBook, IsOwned, IsTied, HoldsRight, AreUnderWay, IsRun, is_pending, Seen, flat, shown, refl}
 
 -- A machine after one more entry, by what the entry is and what its tables show then.
 pub record Books (v : Seen) (e : Entry) (now : Seen) : Type 0 where

@@ -1,28 +1,8 @@
 -- The machine keeps its promise at first, where its store does.
-use Rattle.std.proofs.Common.{◌≡◌, ℕ, zero, suc, Bool, true, false, List, [], length, get_or, replicate}
-use Rattle.std.proofs.Common.{None, refl, sym, ap, subst, ◌∙◌, arith}
-use Rattle.std.specs.Prelude.{sum}
-use Rattle.std.specs.List.{list_any}
-use Rattle.std.proofs.lemmas.List.{length-replicate}
-use Rattle.script.specs.Plans.{Plan}
+use Rattle.machine_model.proofs.Prelude.{◌≡◌, ℕ, zero, suc, Bool, true, false, List, [], length, get_or, replicate, None, refl, sym, ap, subst, ◌∙◌, arith, sum, list_any, length-replicate, Plan, bound_page, started_page, no_segments, is_for, Progress, at_first, boot, progress_of, legal_nil, store_after-nil, ready_at_first, clean_nil, custody_after-nil, fine_first, booted, first_run, IsRun, KeepsBook, led_to, seen, Keeps, StoreSays, is_active, no_processor, no_run, Seen, Run}
 use Rattle.core_map.specs.declared.Frame.TheVariants as frame
-use Rattle.core_map.specs.CoreMap.{bound_page, started_page}
 use Rattle.page_table.specs.declared.Ptw.TheVariants as ptw
-use Rattle.active_segs.specs.Active.{no_segments}
 use Rattle.descriptor_seg.specs.declared.Sdw.TheVariants as sdw
-use Rattle.seg_control.specs.Control.{is_for}
-use Rattle.flat_model.specs.Store.{Progress, at_first, boot, progress_of}
-use Rattle.flat_model.proofs.BookLaws.{legal_nil, store_after-nil}
-use Rattle.custody_model.specs.Custody.{ready_at_first}
-use Rattle.custody_model.proofs.CleanLaws.{clean_nil, custody_after-nil}
-use Rattle.custody_model.proofs.FineLaws.{fine_first}
-use Rattle.machine_model.specs.Boot.{booted, first_run}
-use Rattle.machine_model.specs.Custodial.{IsRun, KeepsBook}
-use Rattle.machine_model.specs.Holding.{led_to, seen}
-use Rattle.machine_model.specs.Keeps.{Keeps, StoreSays}
-use Rattle.machine_model.specs.Reads.{is_active, no_processor, no_run}
-use Rattle.machine_model.specs.Seen.{Seen}
-use Rattle.machine_model.specs.declared.Run.{Run}
 use Rattle.machine_model.proofs.ActiveSeen.{inactive_blank}
 use Rattle.machine_model.proofs.ListLaws.{map_list}
 use Rattle.machine_model.proofs.TieLaws.{none_some}

@@ -1,22 +1,7 @@
 -- The chain of directories down to a node: which of its links are active, and what is above the first that isn't.
-use Rattle.std.proofs.Common.{◌≡◌, ℕ, Bool, true, false, not, cond, eqb, is_some, List, [], ◌∷◌, ◌++◌, Option, Some}
-use Rattle.std.proofs.Common.{None}
-use Rattle.std.proofs.Common.{inl, inr, refl, sym, ap, subst, ◌∙◌, reverse}
-use Rattle.std.specs.Prelude.{IfSome}
-use Rattle.std.specs.List.{find}
-use Rattle.std.specs.Option.{option_and_then}
-use Rattle.std.proofs.lemmas.Grind.{reverse_onto}
-use Rattle.tree_model.specs.Tree.{Node, above, node_in, step_up}
-use Rattle.tree_model.specs.Trees.{AreDirectories, HasChains, IsChain, IsTree}
-use Rattle.tree_model.proofs.ChainLaws.{has_chains}
-use Rattle.tree_model.proofs.Finds.{IsMember, found_front, found_member, member_parts, past_front}
-use Rattle.tree_model.proofs.TreeLaws.{above_once, superior_in}
-pub use Rattle.tree_model.proofs.TreeLaws.{superior_found}
-use Rattle.dir_tree.specs.Nodes.{chain_of}
-use Rattle.active_segs.specs.Active.{ActiveSegs}
-use Rattle.machine_model.specs.Reads.{first_inactive, is_active}
+use Rattle.machine_model.proofs.Prelude.{◌≡◌, ℕ, Bool, true, false, not, cond, is_some, List, [], ◌∷◌, ◌++◌, Option, Some, None, inl, inr, refl, sym, ap, subst, ◌∙◌, reverse, IfSome, find, reverse_onto, Node, above, node_in, step_up, AreDirectories, HasChains, IsChain, IsTree, has_chains, IsMember, found_front, found_member, member_parts, past_front, above_once, superior_found, chain_of, ActiveSegs, first_inactive, is_active, directory_there}
+use Rattle.tree_model.proofs.TreeLaws.{superior_in}
 use Rattle.machine_model.proofs.TieLaws.{none_some}
-use Rattle.tree_model.proofs.SharedLaws.{directory_there}
 
 -- ---- the first of a list turned round
 

@@ -1,32 +1,14 @@
 -- Pages are taken and descriptors cut one after the other; what was taken is back, or gone.
-use Rattle.std.proofs.Common.{◌≡◌, ℕ, Bool, true, false, List, [], ◌∷◌, ◌++◌, Option, Some, None}
-use Rattle.std.proofs.Common.{refl, sym, ap, subst, ◌∙◌}
-use Rattle.assoc_mem.specs.declared.What.{What}
+use Rattle.machine_model.proofs.Prelude.{◌≡◌, ℕ, Bool, true, false, List, [], ◌∷◌, ◌++◌, Option, Some, None, refl, sym, ap, subst, ◌∙◌, What, Ptw, NamesAllGoing, has, is_going_frame, is_uid, names_descriptor, names_frame, NoneDue, Aim, page_at, page_or_zero, takes, each_seg, gone_segs, gones, taken, cut, back, gone, gone_seg, AreDistinct, IsAimed, IsShaped, FitsPhase, KeepsBook, is_pending, names, says, waits_for, cut_of_owner, frames_of_owner, Seen, bound_use, frame_use, read_use, shown, CutDescriptor, Owner, rest_of, without_first_cut, without_first_frame, has_head, has_tail, not_both}
 use Rattle.assoc_mem.specs.declared.What.TheVariants as what
-use Rattle.page_table.specs.declared.Ptw.{Ptw}
 use Rattle.page_table.specs.declared.Ptw.TheVariants as ptw
-use Rattle.custody_model.specs.Allowed.{NamesAllGoing}
-use Rattle.custody_model.specs.Custody.{bound_page, has, is_going_frame, is_uid, names_descriptor, names_frame}
-use Rattle.custody_model.specs.Fine.{NoneDue}
-use Rattle.machine_model.specs.declared.Aim.{Aim}
-use Rattle.machine_model.specs.Chains.{page_at, page_or_zero, takes, each_seg, gone_segs, gones}
-use Rattle.machine_model.specs.Changes.{taken, cut, back, gone, gone_seg}
-use Rattle.machine_model.specs.Custodial.{AreDistinct, IsAimed, IsShaped, FitsPhase, KeepsBook}
-use Rattle.machine_model.specs.Custodial.{is_pending, names, says, waits_for}
-use Rattle.machine_model.specs.Reads.{cut_of_owner, frames_of_owner}
-use Rattle.machine_model.specs.Seen.{Seen, bound_use, frame_use, read_use, shown}
-use Rattle.machine_model.specs.declared.CutDescriptor.{CutDescriptor}
-use Rattle.machine_model.specs.State.{Owner}
-use Rattle.machine_model.specs.Jobs.{rest_of, without_first_cut, without_first_frame}
+use Rattle.custody_model.specs.Custody.{bound_page}
 use Rattle.machine_model.proofs.DescriptorLaws.{CanFinishSeg, gone_seg_keeps}
-use Rattle.machine_model.proofs.DueLaws.{HasLeft, HasLeftCut, none_due}
+use Rattle.machine_model.proofs.DueLaws.{HasLeft, HasLeftCut, none_due, LeavesFirst}
 use Rattle.machine_model.proofs.FrameLaws.{CanFinish, gone_keeps, take_keeps}
 use Rattle.machine_model.proofs.OwnedLaws.{IsIdle}
 use Rattle.machine_model.proofs.Places.{by_places}
-use Rattle.machine_model.proofs.DueLaws.{LeavesFirst}
 use Rattle.machine_model.proofs.TieLaws.{bound_used}
-use Rattle.custody_model.proofs.SharedLaws.{has_head, has_tail}
-use Rattle.laws.proofs.Bools.{not_both}
 
 -- ---- what is named, by the page in a frame
 

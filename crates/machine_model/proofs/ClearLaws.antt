@@ -1,34 +1,16 @@
 -- The signal of what was taken is given, and a processor clears.
-use Rattle.std.proofs.Common.{◌≡◌, ℕ, Bool, true, false, cond, not, eqb, List, [], ◌∷◌, map, filter, Option, Some, None}
-use Rattle.std.proofs.Common.{refl, sym, ap, subst, ◌∙◌, arith}
-use Rattle.assoc_mem.specs.declared.HeldPage.{HeldPage}
-use Rattle.assoc_mem.specs.declared.HeldSeg.{HeldSeg}
-use Rattle.assoc_mem.specs.declared.What.{What}
+use Rattle.machine_model.proofs.Prelude.{◌≡◌, ℕ, Bool, true, false, cond, not, eqb, List, [], ◌∷◌, map, filter, Option, Some, None, refl, sym, ap, subst, ◌∙◌, arith, HeldPage, HeldSeg, What, names_seg, names_page, IsLawful, after_entry, DescriptorUse, SomethingGoes, NamesAllGoing, NoneDue, Seat, leads_to, is_uid, names_frame, names_descriptor, names_number, cleared, at_put, custody_next, cleared_at, told_at, dropped, warned, done_dropping, Phase, KeepsBook, HoldsRight, AreHeldPages, AreHeldSegs, AreOfProcess, is_pending, says, waits_for, Seen, shown, seat_of, descriptor_use, cut_uid, Processor, Owner, few_kept}
 use Rattle.assoc_mem.specs.declared.What.TheVariants as what
-use Rattle.assoc_mem.specs.Held.{names_seg, names_page}
 use Rattle.book.specs.declared.entries.Entry.TheVariants as entry
-use Rattle.flat_model.specs.Legal.{IsLawful, after_entry}
-use Rattle.custody_model.specs.declared.DescriptorUse.{DescriptorUse}
-use Rattle.custody_model.specs.Allowed.{SomethingGoes, NamesAllGoing}
-use Rattle.custody_model.specs.Fine.{NoneDue}
-use Rattle.custody_model.specs.Custody.{Seat, bound_page, leads_to, is_uid, names_frame, names_descriptor}
-use Rattle.custody_model.specs.Custody.{names_number, cleared}
-use Rattle.custody_model.specs.Next.{at_put, custody_next, told}
-use Rattle.machine_model.specs.Changes.{signalled, cleared_at, told_at, dropped, warned, done_dropping}
-use Rattle.machine_model.specs.declared.Phase.{Phase}
+use Rattle.custody_model.specs.Custody.{bound_page}
+use Rattle.custody_model.specs.Next.{told}
+use Rattle.machine_model.specs.Changes.{signalled}
 use Rattle.machine_model.specs.declared.Phase.TheVariants as phase
-use Rattle.machine_model.specs.Custodial.{KeepsBook, HoldsRight, AreHeldPages, AreHeldSegs, AreOfProcess, is_pending}
-use Rattle.machine_model.specs.Custodial.{says, waits_for}
-use Rattle.machine_model.specs.Seen.{Seen, shown, seat_of, descriptor_use, cut_uid}
-use Rattle.machine_model.specs.declared.Processor.{Processor}
-use Rattle.machine_model.specs.State.{Owner}
 use Rattle.machine_model.proofs.BookNext.{book_next}
 use Rattle.machine_model.proofs.DueLaws.{HasSaid, none_due, owned_signal, owned_clear}
 use Rattle.machine_model.proofs.HeldLaws.{pages_kept, right_like, segs_kept, under_way_alike, kept_step}
 use Rattle.machine_model.proofs.Places.{by_place, put_map}
-use Rattle.machine_model.proofs.TieLaws.{none_some}
-use Rattle.machine_model.proofs.TieLaws.{bound_used}
-use Rattle.laws.proofs.Lists.{few_kept}
+use Rattle.machine_model.proofs.TieLaws.{none_some, bound_used}
 
 -- ---- what custody sees of what is dropped
 

@@ -1,37 +1,11 @@
 -- After each action each process that hasn't ended still comes to a command next.
-use Rattle.std.proofs.Common.{◌≡◌, ◌⊎◌, ◌<◌, ℕ, Bool, true, false, List, [], ◌∷◌, length, Option, Some, None, set}
-use Rattle.std.proofs.Common.{if◌then◌else◌, refl, sym, ap, subst, ◌∙◌, inl, inr}
-use Rattle.std.proofs.lemmas.List.{get_or-set_same}
-use Rattle.script.specs.Forms.{IsPlan}
-use Rattle.script.specs.Plans.{Plan, command_at, commands_of}
-use Rattle.script.specs.declared.commands.Command.{Command}
+use Rattle.machine_model.proofs.Prelude.{◌≡◌, ◌⊎◌, ◌<◌, ℕ, Bool, true, false, List, [], ◌∷◌, length, Option, Some, None, set, if◌then◌else◌, refl, sym, ap, subst, ◌∙◌, inl, inr, get_or-set_same, IsPlan, Plan, command_at, commands_of, Command, Reply, What, word_reply, Processor, Run, CutDescriptor, copy_failed, page_copied, State, Transfer, cut_of_owner, frames_of_owner, frames_from, next_command, no_processor, or_zero, cpu_at, process_at, run_at, trailers_in, Aim, booked, fault_told, frame_lost, old_word, run_after, told, told_by, transferred, transfer_failed, with_faults, with_store, cut_all, cut_one, emptied, page_back, pages_back, seg_back, seg_gone, segment_taken, segs_back, segs_gone, take_all, take_one, took, with_hand_moved, eviction_done, page_done, victim_taken, write_failed, committed, committed_at, gone_entries, left_after, with_effect, reply_of, uid_of_command, Outcome, after, AllCome, MayAnswer}
 use Rattle.script.specs.declared.commands.Command.TheVariants as command
-use Rattle.book.specs.declared.replies.Reply.{Reply}
 use Rattle.book.specs.declared.replies.Reply.TheVariants as reply
-use Rattle.assoc_mem.specs.declared.What.{What}
 use Rattle.assoc_mem.specs.declared.What.TheVariants as what
-use Rattle.flat_model.specs.References.{word_reply}
-use Rattle.machine_model.specs.declared.Processor.{Processor}
-use Rattle.machine_model.specs.declared.Run.{Run}
-use Rattle.machine_model.specs.declared.CutDescriptor.{CutDescriptor}
-use Rattle.machine_model.specs.Moves.{copy_failed, page_copied}
-use Rattle.machine_model.specs.State.{State}
-use Rattle.processor.specs.declared.Transfer.{Transfer}
-use Rattle.machine_model.specs.Reads.{cut_of_owner, frames_of_owner, frames_from, next_command, no_processor, or_zero}
-use Rattle.machine_model.specs.Reads.{cpu_at, process_at, run_at, trailers_in}
 use Rattle.machine_model.specs.Actions as act
-use Rattle.machine_model.specs.declared.Aim.{Aim}
 use Rattle.machine_model.specs.declared.Aim.TheVariants as aim
-use Rattle.machine_model.specs.Steps.{booked, fault_told, frame_lost, old_word, run_after, told, told_by, transferred}
-use Rattle.machine_model.specs.Steps.{transfer_failed, with_faults, with_store}
-use Rattle.machine_model.specs.Jobs.{cut_all, cut_one, emptied, page_back, pages_back, seg_back, seg_gone}
-use Rattle.machine_model.specs.Jobs.{segment_taken}
-use Rattle.machine_model.specs.Jobs.{segs_back, segs_gone, take_all, take_one, took, with_hand_moved}
-use Rattle.machine_model.specs.Jobs.{eviction_done, page_done, victim_taken, write_failed}
-use Rattle.machine_model.specs.Commits.{committed, committed_at, gone_entries, left_after, with_effect}
-use Rattle.machine_model.specs.Refusal.{reply_of, uid_of_command}
-use Rattle.machine_model.specs.After.{Outcome, after}
-use Rattle.machine_model.specs.Foreseen.{AllCome, Comes, MayAnswer}
+use Rattle.machine_model.specs.Foreseen.{Comes}
 use Rattle.machine_model.proofs.ComingLaws.{told_come}
 
 -- nobody was answered

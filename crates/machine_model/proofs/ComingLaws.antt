@@ -1,29 +1,11 @@
 -- Each process that hasn't ended comes to a command next: at first, and after each answer.
-use Rattle.std.proofs.Common.{◌≡◌, ◌<◌, ℕ, zero, suc, ◌+◌, Bool, true, false, cond, List, [], ◌∷◌, length}
-use Rattle.std.proofs.Common.{slice_get, get_or, replicate, Option, Some, set, not, refl, sym, subst, inl, inr, arith}
-use Rattle.std.specs.Prelude.{◌≢◌, ◌==◌, nat_lt}
-use Rattle.std.specs.List.{list_all}
+use Rattle.machine_model.proofs.Prelude.{◌≡◌, ◌<◌, ℕ, zero, suc, ◌+◌, Bool, true, false, cond, List, [], ◌∷◌, length, slice_get, get_or, replicate, Option, Some, set, not, refl, sym, subst, inl, inr, arith, ◌≢◌, ◌==◌, nat_lt, list_all, eqb_tells, nat_tests, get_or-replicate, get_or-set_other, get_or-set_same, length-replicate, length-set, IsPlan, ends_once, is_command, is_process, weight, Plan, ProcessPlan, commands_of, process_of, Command, Reply, Progress, is_end, tries_on, Run, State, next_command, no_run, run_at, goes_on, is_its_end, progress_of_run, run_after, told_by, GoesOn, AllCome, booted, first_run, command_of, heavy}
 use Rattle.std.proofs.lemmas.Bool.{and_parts}
-use Rattle.std.proofs.lemmas.Bool.Decides.{eqb_tells, nat_tests}
-use Rattle.std.proofs.lemmas.List.{get_or-replicate, get_or-set_other, get_or-set_same, length-replicate, length-set}
-use Rattle.script.specs.Forms.{IsPlan, ends_once, is_command, is_process, weight}
 use Rattle.script.specs.Forms as script
-use Rattle.script.specs.Plans.{Plan, ProcessPlan, commands_of, process_of}
-use Rattle.script.specs.declared.commands.Command.{Command}
 use Rattle.script.specs.declared.commands.Command.TheVariants as command
-use Rattle.book.specs.declared.replies.Reply.{Reply}
 use Rattle.book.specs.declared.replies.Reply.TheVariants as reply
-use Rattle.flat_model.specs.Store.{Progress}
-use Rattle.flat_model.specs.Commands.{is_end, tries_on}
-use Rattle.machine_model.specs.declared.Run.{Run}
-use Rattle.machine_model.specs.State.{State}
-use Rattle.machine_model.specs.Reads.{next_command, no_run, run_at}
-use Rattle.machine_model.specs.Steps.{goes_on, is_its_end, progress_of_run, run_after, told_by}
-use Rattle.machine_model.specs.Foreseen.{GoesOn, AllCome, Comes}
-use Rattle.machine_model.specs.Boot.{booted, first_run}
+use Rattle.machine_model.specs.Foreseen.{Comes}
 use Rattle.machine_model.proofs.LeftLaws.{no_process}
-use Rattle.flat_model.proofs.ScriptLaws.{command_of}
-use Rattle.flat_model.proofs.PlaceLaws.{heavy}
 
 -- a try that doesn't end an `await` leaves another
 tries_less : (q : Progress) (c : Command) (r : Reply) → tries_on q c r ≡ true → q.tries + 1 < weight c

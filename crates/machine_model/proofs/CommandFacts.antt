@@ -1,24 +1,7 @@
 -- What a tree command is about, where nothing refuses it.
-use Rattle.std.proofs.Common.{◌≡◌, ℕ, Bool, true, false, cond, eqb, List, [], ◌∷◌, Option, Some, None, inl, inr}
-use Rattle.std.proofs.Common.{refl, sym, ap, ◌∙◌}
-use Rattle.std.specs.Prelude.{Result, Ok, Err}
-use Rattle.std.specs.List.{list_any}
-use Rattle.std.proofs.lemmas.Bool.Decides.{eqb_tells}
+use Rattle.machine_model.proofs.Prelude.{◌≡◌, ℕ, Bool, true, false, cond, eqb, List, Some, None, inl, inr, refl, sym, ap, ◌∙◌, Result, Ok, Err, list_any, eqb_tells, Reply, Node, is_inferior, node_in, branch_at, done_at, node_at, only_segment, segment_at, delete_of, delete_reply, length_of, length_reply, truncate_reply, is_refusal, refusal, Keeps, flat_of, refusal_of, uid_at_path, uid_of_node, State, branch_found, node_found, segment_found, not_both, branch_says, segment_says}
 use Rattle.script.specs.declared.commands.Command.TheVariants as command
-use Rattle.book.specs.declared.replies.Reply.{Reply}
 use Rattle.book.specs.declared.replies.Reply.TheVariants as reply
-use Rattle.tree_model.specs.Tree.{Node, Walk, LeadsTo, Missing, InSegment, is_inferior, node_in, walk_in}
-use Rattle.flat_model.specs.Branches.{branch_at, done_at, node_at, only_segment, segment_at, there_or, walked}
-use Rattle.flat_model.specs.Making.{delete_of, delete_reply}
-use Rattle.flat_model.specs.Sizes.{length_of, length_reply, truncate_reply}
-use Rattle.storage_ops.specs.Shown.{is_refusal, refusal}
-use Rattle.machine_model.specs.Keeps.{Keeps}
-use Rattle.machine_model.specs.Reads.{flat_of}
-use Rattle.machine_model.specs.Refusal.{refusal_of, uid_at_path, uid_of_node}
-use Rattle.machine_model.specs.State.{State}
-use Rattle.flat_model.proofs.QuotaTotals.{branch_found, node_found, segment_found}
-use Rattle.laws.proofs.Bools.{not_both}
-use Rattle.flat_model.proofs.PathRefusals.{branch_says, segment_says}
 
 -- ---- a path that can't be followed refuses
 

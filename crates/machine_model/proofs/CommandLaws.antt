@@ -1,27 +1,14 @@
 -- What a step of a processor brings that has a process while nobody owns the supervisor, and of one that has none
 -- while no processor has.
-use Rattle.std.proofs.Common.{◌≡◌, ◌≢◌, ◌<◌, ℕ, ◌+◌, ◌-◌, Bool, true, false, not, cond, ◌&&◌, nat_lt, List, length}
-use Rattle.std.proofs.Common.{Option, Some, None, is_some, set, refl, sym, ap, subst, ◌∙◌, inl, inr, arith}
-use Rattle.std.proofs.lemmas.List.{get_or-set_same}
+use Rattle.machine_model.proofs.Prelude.{◌≡◌, ◌≢◌, ◌<◌, ℕ, ◌+◌, ◌-◌, Bool, true, false, not, cond, ◌&&◌, nat_lt, List, length, Option, Some, None, is_some, set, refl, sym, ap, subst, ◌∙◌, inl, inr, arith, get_or-set_same, Transfer, Want, Refer, Runner, no_runner, Keeper, Outline, Turn, runner_at, want_at, with_runner, with_frame, is_of, wanted_fits, want_lack, lack, all_rank, command_rank, command_left, Comes, Clears, Works, Loads, Leaves, Commands, rule_of, owns, Step, ends, comes, clears, reads, loses, works, awaits_clear, awaits_transfer, loads, idles, leaves, fills, replies, faults, enters, waits, IsEnded, HasLost, HasLoaded, HasLeft, IsFilled, IsReplied, with_bound, not_reading, IsKept, IsReference, IsPast, IsNearer, CommandStep, not_both}
 use Rattle.core_map.specs.declared.Frame.TheVariants as frame
-use Rattle.processor.specs.declared.Transfer.{Transfer}
-use Rattle.machine_model.specs.Outline.{Want, Refer, Runner, no_runner, Keeper, Outline, Turn}
-use Rattle.machine_model.specs.Outline.{runner_at, want_at, with_runner, with_frame, frame_in}
-use Rattle.machine_model.specs.Measures.{is_of, wanted_fits, want_lack, lack, all_rank, command_rank}
-use Rattle.machine_model.specs.Measures.{command_left, is_over}
-use Rattle.machine_model.specs.Finishing.{Comes, Clears, Works, Loads, Leaves, Commands, rule_of, owns, Step, ends}
-use Rattle.machine_model.specs.Finishing.{comes, clears, reads, loses, works, awaits_clear, awaits_transfer, loads}
-use Rattle.machine_model.specs.Finishing.{idles, leaves, fills, replies, faults, enters, waits, IsEnded, HasLost}
-use Rattle.machine_model.specs.Finishing.{HasLoaded, HasLeft, IsFilled, IsReplied, with_bound, not_reading}
-use Rattle.machine_model.specs.OutlineKept.{IsKept}
-use Rattle.machine_model.specs.Looping.{IsReference, IsPast, IsNearer, CommandStep}
+use Rattle.machine_model.specs.Outline.{frame_in}
+use Rattle.machine_model.specs.Measures.{is_over}
 use Rattle.machine_model.proofs.LackLaws.{lack_le, wanted_more, here_more, here_now}
-use Rattle.machine_model.proofs.OuterLaws.{over_set, offline_set, over_same, all_fewer, all_turn, all_loaded}
-use Rattle.machine_model.proofs.OuterLaws.{all_online}
+use Rattle.machine_model.proofs.OuterLaws.{over_set, offline_set, over_same, all_fewer, all_turn, all_loaded, all_online}
 use Rattle.machine_model.proofs.GoesLaws.{all_set, gone_from}
 use Rattle.machine_model.proofs.RuleLaws.{tells}
 use Rattle.machine_model.proofs.StepLaws.{inside, none_due}
-use Rattle.laws.proofs.Bools.{not_both}
 
 -- nothing is due while nobody owns the supervisor, so a processor that has a process neither comes online nor clears
 not_comes : (s : Outline) (c : ℕ) → IsKept s → (runner_at s.runners c).running ≡ true → rule_of s c ≡ Comes → ⊥

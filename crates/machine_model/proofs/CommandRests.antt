@@ -1,11 +1,6 @@
 -- What is left of a command's premises follows from what its job took.
-use Rattle.script.specs.declared.commands.Command.{Command}
+use Rattle.machine_model.proofs.Prelude.{Command, ℕ, Some, Keeps, process_at, State, IsTakenFor}
 use Rattle.script.specs.declared.commands.Command.TheVariants as command
-use Rattle.std.specs.Prelude.{ℕ, Some}
-use Rattle.machine_model.specs.Keeps.{Keeps}
-use Rattle.machine_model.specs.Reads.{process_at}
-use Rattle.machine_model.specs.State.{State}
-use Rattle.machine_model.specs.Taking.{IsTakenFor}
 use Rattle.machine_model.proofs.CommitAsks.{RestsCommit}
 use Rattle.machine_model.proofs.CommitRests.{acl_rests, delete_rests, end_rests, terminate_rests}
 use Rattle.machine_model.proofs.TruncateRests.{truncate_rests}

@@ -1,63 +1,23 @@
 -- What the step asks of a command that takes effect: what the store says after it, and that it may be answered.
-use Rattle.std.proofs.Common.{◌≡◌, ℕ, Bool, true, false, ◌&&◌, cond, length, map, List, [], ◌∷◌, ◌++◌}
-use Rattle.std.proofs.Common.{◌⊎◌, Option, Some, None, inl, inr, refl, sym, ap, subst, ◌∙◌}
-use Rattle.std.proofs.lemmas.List.{length-set}
-use Rattle.std.specs.List.{list_all}
-use Rattle.script.specs.References.{reference_of}
-use Rattle.script.specs.declared.commands.Command.{Command}
+use Rattle.machine_model.proofs.Prelude.{◌≡◌, ℕ, Bool, true, false, ◌&&◌, cond, length, map, List, [], ◌∷◌, ◌++◌, ◌⊎◌, Option, Some, None, inl, inr, refl, sym, ap, subst, ◌∙◌, length-set, list_all, reference_of, Command, Reference, Entry, IsTree, Ptw, erased, effect_by, effect_of, effect_of_tree_command, reply_by, reply_to_command, reply_to_tree_command, takes_effect, store_after, Store, progress_of, MayTakeEffect, CutDescriptor, Outcome, after, committed, committed_at, cut_entry, frame_entry, frames_freed, gone_entries, inactive_entries, left_after, with_deleted, with_effect, with_truncated, without_page, IsRun, seen, with_inactive, Keeps, StoreSays, cut_of_owner, flat_of, frames_of_owner, home_in, is_active, process_at, run_at, reply_of, uid_of_command, Says, with_command, shown, State, Storage, told, with_owner, with_pages, tree_free, effect_total, OfNode, refusal_of, TakesSome}
 use Rattle.script.specs.declared.commands.Command.TheVariants as command
-use Rattle.script.specs.declared.commands.Reference.{Reference}
-use Rattle.book.specs.declared.entries.Entry.{Entry}
 use Rattle.book.specs.declared.entries.Entry.TheVariants as entry
-use Rattle.tree_model.specs.Trees.{IsTree}
 use Rattle.core_map.specs.declared.Frame.TheVariants as frame
-use Rattle.page_table.specs.declared.Ptw.{Ptw}
 use Rattle.page_table.specs.declared.Ptw.TheVariants as ptw
-use Rattle.page_control.specs.Effects.{erased}
-use Rattle.flat_model.specs.Commands.{effect_by, effect_of, effect_of_tree_command, reply_by, reply_to_command}
-use Rattle.flat_model.specs.Commands.{reply_to_tree_command, takes_effect}
-use Rattle.flat_model.specs.Legal.{store_after}
-use Rattle.flat_model.specs.Store.{Store, progress_of}
 use Rattle.storage_ops.specs.Shown.{answered}
-use Rattle.custody_model.specs.Effects.{MayTakeEffect}
-use Rattle.machine_model.specs.declared.CutDescriptor.{CutDescriptor}
 use Rattle.machine_model.specs.Actions as act
-use Rattle.machine_model.specs.After.{Outcome, after}
-use Rattle.machine_model.specs.Commits.{committed, committed_at, cut_entry, frame_entry, frames_freed, gone_entries}
-use Rattle.machine_model.specs.Commits.{inactive_entries, left_after}
-use Rattle.machine_model.specs.Commits.{with_deleted}
-use Rattle.machine_model.specs.Commits.{with_effect, with_truncated, without_page}
-use Rattle.machine_model.specs.Custodial.{IsRun}
-use Rattle.machine_model.specs.Holding.{seen}
-use Rattle.machine_model.specs.Jobs.{with_inactive}
-use Rattle.machine_model.specs.Keeps.{Keeps, StoreSays}
-use Rattle.machine_model.specs.Reads.{cut_of_owner, flat_of, frames_of_owner, home_in, is_active, process_at}
-use Rattle.machine_model.specs.Reads.{run_at}
-use Rattle.machine_model.specs.Refusal.{reply_of, uid_of_command}
-use Rattle.machine_model.specs.Said.{Says, with_command}
-use Rattle.machine_model.specs.Seen.{shown}
-use Rattle.machine_model.specs.State.{State, Storage}
-use Rattle.machine_model.specs.Steps.{told, with_owner, with_pages}
 use Rattle.machine_model.proofs.CommitKept.{effected}
 use Rattle.machine_model.proofs.FlatAlike.{IsAlike, all_still, alike_by, done_alike, is_still, one_still, refused_alike}
-use Rattle.flat_model.proofs.HeldLaws.{tree_free}
-use Rattle.flat_model.proofs.QuotaTotals.{effect_total}
 use Rattle.machine_model.proofs.SaysLaws.{none_rest, quotas, says_is}
-use Rattle.machine_model.proofs.SpeakLaws.{Speaks, can_tell}
-use Rattle.custody_model.specs.Effects.{OfNode}
-use Rattle.machine_model.specs.Refusal.{refusal_of}
-use Rattle.machine_model.specs.Working.{TakesSome}
+use Rattle.machine_model.proofs.SpeakLaws.{Speaks, can_tell, speaks_like}
 use Rattle.machine_model.proofs.CommandFacts.{LeadsToSegment, length_stands}
 use Rattle.machine_model.proofs.LookFacts.{FindsTaken}
 use Rattle.machine_model.proofs.RuleKept.{AsksCommit}
-use Rattle.machine_model.proofs.DeleteKept.{freed_length}
+use Rattle.machine_model.proofs.DeleteKept.{freed_length, GoesWhole}
 use Rattle.machine_model.proofs.TellKept.{CanTell}
 use Rattle.machine_model.proofs.TieLaws.{none_some}
-use Rattle.machine_model.proofs.EffectLaws.{effect_has, truncated_has}
-use Rattle.machine_model.proofs.EffectLaws.{frame_entry_has}
-use Rattle.machine_model.proofs.SpeakLaws.{speaks_like}
+use Rattle.machine_model.proofs.EffectLaws.{effect_has, truncated_has, frame_entry_has}
 use Rattle.machine_model.proofs.TruncateKept.{LeavesCut}
-use Rattle.machine_model.proofs.DeleteKept.{GoesWhole}
 
 -- ---- a command leaves as many frames
 

@@ -1,36 +1,11 @@
 -- The machine keeps its promise where a tree command takes effect.
-use Rattle.std.proofs.Common.{◌≡◌, ◌<◌, ℕ, Bool, true, false, cond, count_by, List, [], ◌∷◌, ◌++◌, map, length, set}
-use Rattle.std.proofs.Common.{Option, Some, None, inl, refl, sym, ap, subst, ◌∙◌, arith}
-use Rattle.std.proofs.lemmas.List.{get_or-set_same, length-set}
-use Rattle.script.specs.declared.commands.Command.{Command}
+use Rattle.machine_model.proofs.Prelude.{◌≡◌, ◌<◌, ℕ, Bool, true, false, cond, count_by, List, [], ◌∷◌, ◌++◌, map, length, set, Option, Some, None, inl, refl, sym, ap, subst, ◌∙◌, arith, get_or-set_same, length-set, Command, Entry, Row, parts_of, Store, progress_of, MayLeave, queued_by, gone_segs, counted, gone_seg, left, committed, cut_entry, gone_entries, inactive_entries, left_after, with_effect, with_made, IsRun, KeepsBook, is_pending, seen, Keeps, StoreSays, is_fault, cut_of_owner, flat_of, frames_of_owner, next_command, no_processor, no_run, or_zero, process_at, processor_at, run_at, reply_of, uid_of_command, Seen, shown, Processor, Run, CutDescriptor, Owner, State, Storage, booked, left_at, queued, run_after, told, told_by, with_owner, with_store, without_first_cut, append-nil, append_assoc}
 use Rattle.script.specs.declared.commands.Command.TheVariants as command
-use Rattle.book.specs.declared.entries.Entry.{Entry}
 use Rattle.book.specs.declared.entries.Entry.TheVariants as entry
-use Rattle.tree_model.specs.Access.{Row}
-use Rattle.flat_model.specs.Branches.{parts_of}
-use Rattle.flat_model.specs.Store.{Store, progress_of}
-use Rattle.custody_model.specs.Allowed.{MayLeave}
-use Rattle.custody_model.specs.Next.{queued as queued_by}
-use Rattle.machine_model.specs.Chains.{gone_segs}
-use Rattle.machine_model.specs.Changes.{counted, emptied, gone_seg, left}
-use Rattle.machine_model.specs.Commits.{committed, cut_entry, gone_entries, inactive_entries, left_after}
-use Rattle.machine_model.specs.Commits.{with_effect, with_made}
-use Rattle.machine_model.specs.Custodial.{IsRun, KeepsBook, is_pending}
-use Rattle.machine_model.specs.Holding.{seen}
-use Rattle.machine_model.specs.Keeps.{Keeps, StoreSays, is_fault}
-use Rattle.machine_model.specs.Reads.{cut_of_owner, flat_of, frames_of_owner, next_command, no_processor, no_run}
-use Rattle.machine_model.specs.Reads.{or_zero, process_at, processor_at, run_at}
-use Rattle.machine_model.specs.Refusal.{reply_of, uid_of_command}
-use Rattle.machine_model.specs.Seen.{Seen, shown}
-use Rattle.machine_model.specs.declared.Processor.{Processor}
-use Rattle.machine_model.specs.declared.Run.{Run}
-use Rattle.machine_model.specs.declared.CutDescriptor.{CutDescriptor}
-use Rattle.machine_model.specs.State.{Owner, State, Storage}
-use Rattle.machine_model.specs.Steps.{booked, left_at, queued, run_after, told, told_by, with_owner, with_store}
-use Rattle.machine_model.specs.Jobs.{without_first_cut}
+use Rattle.machine_model.specs.Changes.{emptied}
 use Rattle.machine_model.proofs.AnswerLaws.{owner_keeps}
 use Rattle.machine_model.proofs.ChainLaws.{GoesOn, gone_segs_keep}
-use Rattle.machine_model.proofs.KeepLaws.{faults_push}
+use Rattle.machine_model.proofs.KeepLaws.{faults_push, quiet_push}
 use Rattle.machine_model.proofs.OwnedLaws.{IsIdle, nobody}
 use Rattle.machine_model.proofs.OwnerLaws.{job_over}
 use Rattle.machine_model.proofs.SeatLaws.{leave_keeps}
@@ -38,8 +13,6 @@ use Rattle.machine_model.proofs.SeenLaws.{reseated_seen}
 use Rattle.machine_model.proofs.TellKept.{CanTell, told_keeps}
 use Rattle.machine_model.proofs.TieLaws.{none_some}
 use Rattle.machine_model.proofs.TransferKept.{kept_with}
-use Rattle.std.proofs.lemmas.List.{append-nil, append_assoc}
-use Rattle.machine_model.proofs.KeepLaws.{quiet_push}
 
 -- ---- a process leaves its processor
 

@@ -1,15 +1,6 @@
 -- Where a step has the effect of a tree command, the command isn't refused, and what it must have out of use is so.
-use Rattle.std.proofs.Common.{◌≡◌, ◌<◌, ℕ, length, Some, None, sym, subst, ◌∙◌}
-use Rattle.script.specs.References.{reference_of}
-use Rattle.script.specs.declared.commands.Command.{Command}
+use Rattle.machine_model.proofs.Prelude.{◌≡◌, ◌<◌, ℕ, length, Some, None, sym, subst, ◌∙◌, reference_of, Command, action_of, no_call, KeepsAll, IsReadyFor, OwnsFor, frames_of_owner, next_command, process_at, refusal_of, State}
 use Rattle.machine_model.specs.Actions as act
-use Rattle.machine_model.specs.Actions.{action_of}
-use Rattle.machine_model.specs.After.{no_call}
-use Rattle.machine_model.specs.Promise.{KeepsAll}
-use Rattle.machine_model.specs.Ready.{IsReadyFor, OwnsFor}
-use Rattle.machine_model.specs.Reads.{frames_of_owner, next_command, process_at}
-use Rattle.machine_model.specs.Refusal.{refusal_of}
-use Rattle.machine_model.specs.State.{State}
 use Rattle.machine_model.proofs.ReadyLaws.{ready_by}
 use Rattle.machine_model.proofs.SpeakLaws.{Speaks}
 use Rattle.machine_model.proofs.StepKept.{IsMine}

@@ -1,72 +1,22 @@
 -- What a tree command must have out of use is so where it takes effect: its job took just that.
-use Rattle.std.proofs.Common.{◌≡◌, ◌≢◌, ◌<◌, ℕ, Bool, true, false, ◌||◌, cond, eqb, List, [], ◌∷◌, ◌++◌, map, length}
-use Rattle.std.proofs.Common.{Option, Some, None, ◌⊎◌, inl, inr, refl, sym, ap, subst, ◌∙◌}
-use Rattle.std.specs.Prelude.{Result, Ok, Err}
-use Rattle.std.specs.List.{list_all, list_any}
-use Rattle.std.proofs.lemmas.Bool.Decides.{eqb_tells}
-use Rattle.script.specs.declared.commands.Command.{Command}
+use Rattle.machine_model.proofs.Prelude.{◌≡◌, ◌≢◌, ◌<◌, ℕ, Bool, true, false, ◌||◌, cond, eqb, List, [], ◌∷◌, ◌++◌, map, length, Option, Some, None, ◌⊎◌, inl, inr, refl, sym, ap, subst, ◌∙◌, Result, Ok, Err, list_all, list_any, eqb_tells, Command, Path, Named, Mode, Entry, Reply, Node, is_inferior, node_in, branch_at, node_at, segment_at, Store, store_after, Ptw, Sdw, reads_of, erased, Plain, binding_at, bindings, read_at, DescriptorUse, FrameUse, MayDeactivate, superior_in, has, is_going_descriptor, is_going_frame, leads_to, page_of, uid_of_page, HasNoDescriptor, HasNoPage, IsOutOfUse, OfNode, at_put, CutDescriptor, gone_segs, gones, page_at, gone, gone_seg, cut_entry, frames_freed, inactive_if, has_cut, names, led_to, seen, with_inactive, Keeps, cut_of_owner, descriptor_of, flat_of, frames_of_owner, home_in, is_active, process_at, uid_at_path, Seen, bound_use, cut_uid, descriptor_use, flat, frame_use, shown, Owner, State, Storage, with_owner, with_pages, IsTakenFor, rest_of, without_first_cut, without_first_frame, branch_found, only_found, has_head, not_both, some_same}
 use Rattle.script.specs.declared.commands.Command.TheVariants as command
-use Rattle.mnames.specs.declared.paths.Path.{Path}
-use Rattle.mnames.specs.declared.rows.Row.{Row as Named}
-use Rattle.mnames.specs.declared.modes.Mode.{Mode}
-use Rattle.book.specs.declared.entries.Entry.{Entry}
-use Rattle.book.specs.declared.replies.Reply.{Reply}
-use Rattle.tree_model.specs.Tree.{Node, is_inferior, node_in}
-use Rattle.flat_model.specs.Branches.{branch_at, node_at, segment_at}
-use Rattle.flat_model.specs.Store.{Store}
-use Rattle.flat_model.specs.Legal.{store_after}
-use Rattle.page_table.specs.declared.Ptw.{Ptw}
 use Rattle.page_table.specs.declared.Ptw.TheVariants as ptw
-use Rattle.descriptor_seg.specs.declared.Sdw.{Sdw}
 use Rattle.descriptor_seg.specs.declared.Sdw.TheVariants as sdw
-use Rattle.core_map.specs.CoreMap.{reads_of}
-use Rattle.page_control.specs.Effects.{erased}
-use Rattle.page_control.specs.Plain.{Plain, binding_at, bindings}
-use Rattle.seg_control.specs.Kept.{read_at}
-use Rattle.custody_model.specs.declared.DescriptorUse.{DescriptorUse}
 use Rattle.custody_model.specs.declared.DescriptorUse.TheVariants as descriptor
-use Rattle.custody_model.specs.declared.FrameUse.{FrameUse}
 use Rattle.custody_model.specs.declared.FrameUse.TheVariants as frame
-use Rattle.custody_model.specs.Allowed.{MayDeactivate, superior_in}
-use Rattle.custody_model.specs.Custody.{has, is_going_descriptor, is_going_frame, leads_to, page_of, uid_of_page}
-use Rattle.custody_model.specs.Effects.{HasNoDescriptor, HasNoPage, IsOutOfUse, OfNode}
-use Rattle.custody_model.specs.Next.{at_put}
-use Rattle.machine_model.specs.declared.CutDescriptor.{CutDescriptor}
-use Rattle.machine_model.specs.Chains.{gone_segs, gones, page_at}
-use Rattle.machine_model.specs.Changes.{gone, gone_seg}
-use Rattle.machine_model.specs.Commits.{cut_entry, frames_freed, inactive_if}
-use Rattle.machine_model.specs.Custodial.{has_cut, names}
-use Rattle.machine_model.specs.Holding.{led_to, seen}
-use Rattle.machine_model.specs.Jobs.{with_inactive}
-use Rattle.machine_model.specs.Keeps.{Keeps}
-use Rattle.machine_model.specs.Reads.{cut_of_owner, descriptor_of, flat_of, frames_of_owner, home_in, is_active}
-use Rattle.machine_model.specs.Reads.{process_at}
-use Rattle.machine_model.specs.Refusal.{uid_at_path}
-use Rattle.machine_model.specs.Seen.{Seen, bound_use, cut_uid, descriptor_use, flat, frame_use}
-use Rattle.machine_model.specs.Seen.{shown}
-use Rattle.machine_model.specs.State.{Owner, State, Storage}
-use Rattle.machine_model.specs.Steps.{with_owner, with_pages}
-use Rattle.machine_model.specs.Taking.{IsTakenFor}
-use Rattle.machine_model.specs.Jobs.{rest_of, without_first_cut, without_first_frame}
 use Rattle.machine_model.proofs.ActiveSeen.{active_less}
-use Rattle.machine_model.proofs.ChainLaws.{going_word}
+use Rattle.machine_model.proofs.ChainLaws.{going_word, LeavesRest}
 use Rattle.machine_model.proofs.CommitAsks.{IsOut, RestsDelete, RestsDeleteInactive, RestsDescriptors, cuts_still}
 use Rattle.machine_model.proofs.CommitKept.{effected}
-use Rattle.machine_model.proofs.DeleteKept.{all_gone, chain_leaves, freed, freed_bound, freed_reads, gone_entry}
-use Rattle.machine_model.proofs.DeleteKept.{gones_bound, gones_entries, node, segs_bound, segs_entries}
+use Rattle.machine_model.proofs.DeleteKept.{all_gone, chain_leaves, freed, freed_bound, freed_reads, gone_entry, gones_bound, gones_entries, node, segs_bound, segs_entries}
 use Rattle.machine_model.proofs.FinishKept.{bound_within}
 use Rattle.machine_model.proofs.FlatAlike.{all_still, is_still}
 use Rattle.machine_model.proofs.OwnedLaws.{cut_at_same}
 use Rattle.machine_model.proofs.Places.{by_place}
-use Rattle.flat_model.proofs.QuotaTotals.{branch_found, only_found}
-use Rattle.machine_model.proofs.TieLaws.{none_some}
+use Rattle.machine_model.proofs.TieLaws.{none_some, page_used}
 use Rattle.machine_model.proofs.TransferKept.{active_at}
-use Rattle.machine_model.proofs.ChainLaws.{LeavesRest}
-use Rattle.machine_model.proofs.TieLaws.{page_used}
 use Rattle.machine_model.proofs.MoveAsks.{cut_active}
-use Rattle.custody_model.proofs.SharedLaws.{has_head}
-use Rattle.laws.proofs.Bools.{not_both}
-use Rattle.laws.proofs.Options.{some_same}
 
 -- ---- what goes
 

@@ -1,64 +1,13 @@
 -- What processors hold stays what their processes may do where a command leaves the access lists, the lengths and the
 -- numbers of what it doesn't take away.
-use Rattle.std.proofs.Common.{◌≡◌, ◌≢◌, ◌⊎◌, ◌<◌, ℕ, Bool, true, false, cond, eqb, length, set, List, [], ◌∷◌, Option}
-use Rattle.std.proofs.Common.{Some, None, refl, sym}
-use Rattle.std.proofs.Common.{inl, inr, ap, subst, ◌∙◌, arith}
-use Rattle.std.proofs.lemmas.Bool.Decides.{eqb_tells}
-use Rattle.std.proofs.lemmas.List.{length-set}
-use Rattle.mnames.specs.declared.principals.Who.{Who}
-use Rattle.assoc_mem.specs.declared.HeldSeg.{HeldSeg}
-use Rattle.known_segs.specs.Known.{uid_of}
-use Rattle.tree_model.specs.Tree.{Node, above, node_in, without_node}
-use Rattle.tree_model.specs.Quotas.{getter_of, giver_of, with_quota_of}
-use Rattle.flat_model.specs.Rights.{nodes_moved}
-use Rattle.std.proofs.Common.{◌+◌, ◌-◌, ℤ, map}
-use Rattle.std.specs.Int.{is_positive}
-use Rattle.std.specs.Int.RustNames.{unsigned_abs}
-use Rattle.seg_control.specs.Control.{kst_at}
-use Rattle.flat_model.proofs.RemoveLaws.{node_gone}
-use Rattle.tree_model.specs.Access.{access_of}
-use Rattle.storage_ops.specs.Shown.{who_at}
-use Rattle.seg_mover.specs.declared.Mover.{Mover}
-use Rattle.machine_model.specs.Entitled.{AreEntitled, HoldEntitled, IsEntitled}
-use Rattle.machine_model.specs.Moves.{move_committed}
-use Rattle.machine_model.specs.Reads.{cpu_at}
-use Rattle.machine_model.specs.declared.Processor.{Processor}
-use Rattle.script.specs.declared.commands.Command.{Command}
+use Rattle.machine_model.proofs.Prelude.{◌≡◌, ◌≢◌, ◌⊎◌, ◌<◌, ℕ, Bool, true, false, cond, eqb, length, set, List, [], ◌∷◌, Option, Some, None, refl, sym, inl, inr, ap, subst, ◌∙◌, arith, eqb_tells, length-set, Who, HeldSeg, uid_of, Node, above, node_in, without_node, getter_of, giver_of, with_quota_of, nodes_moved, ◌+◌, ◌-◌, ℤ, map, is_positive, unsigned_abs, kst_at, node_gone, access_of, who_at, Mover, AreEntitled, HoldEntitled, IsEntitled, move_committed, cpu_at, Processor, Command, Row, Ptw, erased, parts_of, Cpu, committed, committed_at, with_made, with_truncated, frames_freed, inactive_if, with_deleted, without_page, IsEntitledToAll, with_inactive, Keeps, frames_of_owner, home_in, is_active, process_at, reply_of, uid_of_command, State, Storage, told, with_pages, Sdw, leads, leads_to, AreHeldSegs, led_to, seen, descriptor_of, descriptor_use, shown, slice_index_or, with_node, uid_at, Segment, sdw_at, node_without}
 use Rattle.script.specs.declared.commands.Command.TheVariants as command
-use Rattle.tree_model.specs.Access.{Row}
-use Rattle.page_table.specs.declared.Ptw.{Ptw}
 use Rattle.page_table.specs.declared.Ptw.TheVariants as ptw
-use Rattle.page_control.specs.Effects.{erased}
-use Rattle.flat_model.specs.Branches.{parts_of}
-use Rattle.processor.specs.declared.Cpu.{Cpu}
-use Rattle.machine_model.specs.Commits.{committed, committed_at, with_made}
-use Rattle.machine_model.specs.Commits.{with_truncated}
-use Rattle.machine_model.specs.Commits.{frames_freed, inactive_if, with_deleted, without_page}
-use Rattle.machine_model.specs.Entitled.{IsEntitledToAll}
-use Rattle.machine_model.specs.Jobs.{with_inactive}
-use Rattle.machine_model.specs.Keeps.{Keeps}
-use Rattle.machine_model.specs.Reads.{frames_of_owner, home_in, is_active, process_at}
-use Rattle.machine_model.specs.Refusal.{reply_of, uid_of_command}
-use Rattle.machine_model.specs.State.{State, Storage}
-use Rattle.machine_model.specs.Steps.{told, with_pages}
 use Rattle.machine_model.proofs.CommitKept.{effected}
 use Rattle.machine_model.proofs.EntitledKept.{set_entitled}
-use Rattle.descriptor_seg.specs.declared.Sdw.{Sdw}
 use Rattle.descriptor_seg.specs.declared.Sdw.TheVariants as sdw
-use Rattle.seg_control.specs.Control.{leads}
-use Rattle.custody_model.specs.Custody.{leads_to}
-use Rattle.machine_model.specs.Custodial.{AreHeldSegs}
-use Rattle.machine_model.specs.Holding.{led_to, seen}
-use Rattle.machine_model.specs.Reads.{descriptor_of}
-use Rattle.machine_model.specs.Seen.{descriptor_use, shown}
-use Rattle.std.specs.Prelude.{slice_index_or}
-use Rattle.tree_model.specs.Tree.{with_node}
-use Rattle.active_segs.specs.Active.{uid_at}
-use Rattle.active_segs.specs.declared.Entry.{Entry as Segment}
-use Rattle.descriptor_seg.specs.Descriptors.{sdw_at}
 use Rattle.machine_model.proofs.TieLaws.{none_some}
 use Rattle.machine_model.proofs.EffectLaws.{truncated_has}
-use Rattle.tree_model.proofs.SharedLaws.{node_without}
 
 -- each older node that is there now was there, with these rows and pages
 pub record HaveFrom (old now : List Node) (next : ℕ) : Type 0 where

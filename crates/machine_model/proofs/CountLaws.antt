@@ -1,24 +1,8 @@
 -- How counts over the lists of an outline change as one element changes.
-use Rattle.std.proofs.Common.{◌≡◌, ◌≤◌, ◌<◌, ℕ, ◌+◌, zero, suc, Bool, true, false, not, cond, ◌||◌, eqb, List, [], ◌∷◌}
-use Rattle.std.proofs.Common.{length, Option, Some, None, is_some, set, get_or, count_by, Contains, refl, sym, ap, ◌∙◌}
-use Rattle.std.proofs.Common.{arith}
-use Rattle.std.specs.List.{list_any}
-use Rattle.std.proofs.lemmas.Bool.Decides.{nat_tests}
-use Rattle.std.proofs.lemmas.List.{get_or-set_same, length-set}
-use Rattle.std.proofs.lemmas.List.Elements.{Contains-get_or}
-use Rattle.std.proofs.lemmas.List.Folds.{list_any_at}
-use Rattle.std.proofs.lemmas.List.Sums.{sum_by-set, sum_by-cons, count_by-le-length}
-use Rattle.core_map.specs.declared.Frame.{Frame}
+use Rattle.machine_model.proofs.Prelude.{◌≡◌, ◌≤◌, ◌<◌, ℕ, ◌+◌, zero, suc, Bool, true, false, not, cond, ◌||◌, eqb, List, [], ◌∷◌, length, Option, Some, None, is_some, set, get_or, count_by, Contains, refl, sym, ap, ◌∙◌, arith, list_any, nat_tests, get_or-set_same, length-set, Contains-get_or, list_any_at, sum_by-set, sum_by-cons, count_by-le-length, Frame, is_free, entry_at, off_chain, IsOffChain, is_for, Transfer, Runner, runner_at, no_runner, idle_links, off_links, readers, dues, has_free, eqb_self}
 use Rattle.core_map.specs.declared.Frame.TheVariants as frame
-use Rattle.core_map.specs.CoreMap.{is_free}
 use Rattle.active_segs.specs.declared.Entry.{Entry}
-use Rattle.active_segs.specs.Active.{entry_at}
-use Rattle.active_segs.specs.Victim.{off_chain, IsOffChain}
-use Rattle.seg_control.specs.Control.{is_for}
-use Rattle.processor.specs.declared.Transfer.{Transfer}
-use Rattle.machine_model.specs.Outline.{Runner, runner_at, no_runner}
-use Rattle.machine_model.specs.Measures.{is_active, idle_links, off_links, readers, dues, has_free}
-use Rattle.laws.proofs.Numbers.{eqb_self}
+use Rattle.machine_model.specs.Measures.{is_active}
 
 -- ---- any list
 

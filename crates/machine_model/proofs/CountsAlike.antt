@@ -1,10 +1,5 @@
 -- Where two lists of stored pages have as many pages of each segment, they have as many of any segments.
-use Rattle.std.proofs.Common.{◌≡◌, ◌<◌, ℕ, ◌+◌, Bool, cond, eqb, List, [], ◌∷◌, refl, sym, ap, ◌∙◌, arith}
-use Rattle.std.proofs.Common.{inl, inr}
-use Rattle.std.specs.Prelude.{count_by}
-use Rattle.std.proofs.lemmas.Bool.Decides.{eqb_tells}
-use Rattle.std.proofs.lemmas.List.Sums.{sum_by-cons}
-use Rattle.tree_model.specs.Tree.{Node, account_of, used_by}
+use Rattle.machine_model.proofs.Prelude.{◌≡◌, ◌<◌, ℕ, ◌+◌, Bool, cond, eqb, List, [], ◌∷◌, refl, sym, ap, ◌∙◌, arith, inl, inr, count_by, eqb_tells, sum_by-cons, Node, account_of, used_by}
 
 -- how many stored pages are of segments that pass a test
 abbrev pages_of : (ℕ → Bool) → List (ℕ × ℕ) → ℕ

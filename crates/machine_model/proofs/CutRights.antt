@@ -1,35 +1,9 @@
 -- What a job has cut had the right mode and length, and the store says so of a job that takes pages and descriptors.
-use Rattle.std.proofs.Common.{◌≡◌, ◌≢◌, ◌<◌, ℕ, zero, suc, true, List, [], ◌∷◌, ◌++◌, length}
-use Rattle.std.proofs.Common.{get_or, set, Option, Some, None, ◌⊎◌, inl, inr, refl, sym, ap, subst, ◌∙◌}
-use Rattle.std.specs.Prelude.{slice_get}
-use Rattle.std.proofs.lemmas.Bool.Decides.{eqb_tells}
-use Rattle.std.proofs.lemmas.List.{get_or-set_other, get_or-set_same, length-set}
-use Rattle.mnames.specs.declared.modes.Mode.{Mode}
-use Rattle.mnames.specs.declared.principals.Who.{Who}
-use Rattle.assoc_mem.specs.declared.What.{What}
+use Rattle.machine_model.proofs.Prelude.{◌≡◌, ◌≢◌, ◌<◌, ℕ, zero, suc, true, List, [], ◌∷◌, ◌++◌, length, get_or, set, Option, Some, None, ◌⊎◌, inl, inr, refl, sym, ap, subst, ◌∙◌, slice_get, eqb_tells, get_or-set_other, get_or-set_same, length-set, Mode, Who, What, access_of, Node, node_in, bound_page, Plain, frame_in, uid_at, Sdw, Links, leads, sdws_at, unlinked, HaveRights, who_at, store_after, Aim, CutDescriptor, Outcome, after, led_to, seen, cut_all, cut_one, leaving_if, note_of, take_all, take_one, took, AreThere, HadRights, IsFaithful, Keeps, StoreKept, StoreSays, cut_of_owner, descriptor_of, flat_of, is_active, or_zero, Says, State, Storage}
 use Rattle.book.specs.declared.entries.Entry.TheVariants as entry
-use Rattle.tree_model.specs.Access.{access_of}
-use Rattle.tree_model.specs.Tree.{Node, node_in}
-use Rattle.core_map.specs.CoreMap.{bound_page}
-use Rattle.page_control.specs.Plain.{Plain, frame_in}
-use Rattle.active_segs.specs.Active.{uid_at}
-use Rattle.descriptor_seg.specs.declared.Sdw.{Sdw}
 use Rattle.descriptor_seg.specs.declared.Sdw.TheVariants as sdw
-use Rattle.seg_control.specs.Control.{Links, leads, sdws_at}
-use Rattle.seg_control.specs.Effects.{unlinked}
-use Rattle.storage_ops.specs.Shown.{HaveRights, who_at}
-use Rattle.flat_model.specs.Legal.{store_after}
-use Rattle.machine_model.specs.declared.Aim.{Aim}
 use Rattle.machine_model.specs.declared.Aim.TheVariants as aim
-use Rattle.machine_model.specs.declared.CutDescriptor.{CutDescriptor}
 use Rattle.machine_model.specs.Actions as act
-use Rattle.machine_model.specs.After.{Outcome, after}
-use Rattle.machine_model.specs.Holding.{led_to, seen}
-use Rattle.machine_model.specs.Jobs.{cut_all, cut_one, leaving_if, note_of, take_all, take_one, took}
-use Rattle.machine_model.specs.Keeps.{AreThere, HadRights, IsFaithful, Keeps, StoreKept, StoreSays}
-use Rattle.machine_model.specs.Reads.{cut_of_owner, descriptor_of, flat_of, is_active, or_zero}
-use Rattle.machine_model.specs.Said.{Says}
-use Rattle.machine_model.specs.State.{State, Storage}
 use Rattle.machine_model.proofs.FlatAlike.{alike, alike_by, one_still}
 use Rattle.machine_model.proofs.Places.{by_places}
 use Rattle.machine_model.proofs.SaysLaws.{says_by, there_still, leaving_pages}

@@ -1,43 +1,17 @@
 -- The machine keeps its promise where a `delete` takes effect: the pages of the node have left their frames, its
 -- descriptors are gone, and it is active no more.
-use Rattle.std.proofs.Common.{◌≡◌, ◌≢◌, ◌<◌, ℕ, Bool, true, false, cond, if◌then◌else◌, count_by, List, [], ◌∷◌, ◌++◌}
-use Rattle.std.proofs.Common.{map, length, Option, Some, None, refl, sym, ap, subst, ◌∙◌, arith}
-use Rattle.std.proofs.lemmas.List.{length-set}
+use Rattle.machine_model.proofs.Prelude.{◌≡◌, ◌≢◌, ◌<◌, ℕ, Bool, true, false, cond, if◌then◌else◌, count_by, List, [], ◌∷◌, ◌++◌, map, length, Option, Some, None, refl, sym, ap, subst, ◌∙◌, arith, length-set, Path, Entry, reads_of, Ptw, erased, framed, Plain, binding_at, bindings, word_of, read_at, MayDeactivate, has, at_put, gone_segs, gones, page_at, page_or_zero, no_more_active, gone, gone_seg, committed, cut_entry, frames_freed, gone_entries, AreDistinct, KeepsBook, is_pending, names, seen, with_inactive, Keeps, StoreSays, is_fault, cut_of_owner, frames_of_owner, home_in, is_active, process_at, run_at, reply_of, uid_of_command, Seen, flat, shown, CutDescriptor, State, Storage, booked, with_owner, with_pages, with_store, without_first_cut, without_first_frame, append-nil, append_assoc, Core, has_head, has_tail}
 use Rattle.script.specs.declared.commands.Command.TheVariants as command
-use Rattle.mnames.specs.declared.paths.Path.{Path}
-use Rattle.book.specs.declared.entries.Entry.{Entry}
 use Rattle.book.specs.declared.entries.Entry.TheVariants as entry
 use Rattle.core_map.specs.declared.Frame.TheVariants as frame
-use Rattle.core_map.specs.CoreMap.{reads_of}
-use Rattle.page_table.specs.declared.Ptw.{Ptw}
 use Rattle.page_table.specs.declared.Ptw.TheVariants as ptw
-use Rattle.page_control.specs.Effects.{erased, framed}
-use Rattle.page_control.specs.Plain.{Plain, binding_at, bindings}
-use Rattle.seg_control.specs.Control.{word_of}
-use Rattle.seg_control.specs.Kept.{read_at}
-use Rattle.custody_model.specs.Allowed.{MayDeactivate}
-use Rattle.custody_model.specs.Custody.{has}
-use Rattle.custody_model.specs.Next.{at_put}
-use Rattle.machine_model.specs.Chains.{gone_segs, gones, page_at, page_or_zero}
-use Rattle.machine_model.specs.Changes.{deactivated as no_more_active, gone, gone_seg}
-use Rattle.machine_model.specs.Commits.{committed, cut_entry, frames_freed, gone_entries, lost}
-use Rattle.machine_model.specs.Custodial.{AreDistinct, KeepsBook, is_pending, names}
-use Rattle.machine_model.specs.Holding.{seen}
-use Rattle.machine_model.specs.Jobs.{with_inactive}
-use Rattle.machine_model.specs.Keeps.{Keeps, StoreSays, is_fault}
-use Rattle.machine_model.specs.Reads.{cut_of_owner, frames_of_owner, home_in, is_active, process_at, run_at}
-use Rattle.machine_model.specs.Refusal.{reply_of, uid_of_command}
-use Rattle.machine_model.specs.Seen.{Seen, flat, shown}
-use Rattle.machine_model.specs.declared.CutDescriptor.{CutDescriptor}
-use Rattle.machine_model.specs.State.{State, Storage}
-use Rattle.machine_model.specs.Steps.{booked, with_owner, with_pages, with_store}
-use Rattle.machine_model.specs.Jobs.{without_first_cut, without_first_frame}
+use Rattle.machine_model.specs.Commits.{lost}
 use Rattle.machine_model.proofs.ActiveLaws.{deactivate_keeps}
 use Rattle.machine_model.proofs.ActiveSeen.{active_less, blank_less, deactivate_seen, words_less}
-use Rattle.machine_model.proofs.ChainLaws.{GoesOn, IsDone, gone_done, idle_done, going_word, gone_segs_keep, gones_keep}
+use Rattle.machine_model.proofs.ChainLaws.{GoesOn, IsDone, gone_done, idle_done, going_word, gone_segs_keep, gones_keep, LeavesRest}
 use Rattle.machine_model.proofs.CommitKept.{cut_faults, effected}
 use Rattle.machine_model.proofs.FinishKept.{bound_within}
-use Rattle.machine_model.proofs.KeepLaws.{faults_push}
+use Rattle.machine_model.proofs.KeepLaws.{faults_push, quiet_push}
 use Rattle.machine_model.proofs.LeaveSeen.{unread_put}
 use Rattle.machine_model.proofs.OwnedLaws.{IsIdle, nobody}
 use Rattle.machine_model.proofs.OwnerLaws.{job_over}
@@ -46,11 +20,7 @@ use Rattle.machine_model.proofs.SeenLaws.{bound_put, reads_put}
 use Rattle.machine_model.proofs.TellKept.{CanTell, told_keeps}
 use Rattle.machine_model.proofs.TieLaws.{none_some}
 use Rattle.machine_model.proofs.TransferKept.{kept_with}
-use Rattle.machine_model.proofs.ChainLaws.{LeavesRest}
-use Rattle.std.proofs.lemmas.List.{append-nil, append_assoc}
-use Rattle.machine_model.proofs.KeepLaws.{quiet_push}
-use Rattle.core_map.specs.CoreMap.{Core, with_frame}
-use Rattle.custody_model.proofs.SharedLaws.{has_head, has_tail}
+use Rattle.core_map.specs.CoreMap.{with_frame}
 
 -- ---- frames that are freed
 

@@ -1,37 +1,13 @@
 -- A descriptor is connected, cut, gone, or back.
-use Rattle.std.proofs.Common.{◌≡◌, ℕ, Bool, true, false, cond, List, [], ◌∷◌, ◌++◌, Option, Some, None, refl, sym}
-use Rattle.std.proofs.Common.{ap, subst, ◌∙◌}
-use Rattle.assoc_mem.specs.declared.What.{What}
+use Rattle.machine_model.proofs.Prelude.{◌≡◌, ℕ, Bool, true, false, cond, List, [], ◌∷◌, ◌++◌, Option, Some, None, refl, sym, ap, subst, ◌∙◌, What, IsLawful, after_entry, known_uid, DescriptorUse, NamesAllGoing, NobodyHoldsSeg, is_current_descriptor, is_going_descriptor, names_descriptor, leads_to, reconnected, Fine, NoneDue, at_put_two, custody_next, nobody_holds_seg, nobody_holds_going_seg, cut, gone_seg, back_seg, connected, Aim, KeepsBook, HoldsRight, IsAimed, AreApart, has_cut, is_pending, waits_for, Seen, flat, shown, descriptor_use, cut_uid, cut_use, is_cut_at, frames_of_owner, cut_of_owner, CutDescriptor, Owner, Entry, IsAllowed, FillsOnline, pending_after, IsRun, progress_of, or_parts}
 use Rattle.book.specs.declared.entries.Entry.TheVariants as entry
-use Rattle.flat_model.specs.Legal.{IsLawful, after_entry}
-use Rattle.flat_model.specs.Store.{known_uid}
-use Rattle.custody_model.specs.declared.DescriptorUse.{DescriptorUse}
 use Rattle.custody_model.specs.declared.DescriptorUse.TheVariants as descriptor
-use Rattle.custody_model.specs.Allowed.{NamesAllGoing, NobodyHoldsSeg}
-use Rattle.custody_model.specs.Custody.{is_current_descriptor, is_going_descriptor, names_descriptor, leads_to}
-use Rattle.custody_model.specs.Custody.{cut as descriptor_cut, reconnected}
-use Rattle.custody_model.specs.Fine.{Fine, NoneDue}
-use Rattle.custody_model.specs.Next.{at_put_two, custody_next}
-use Rattle.custody_model.proofs.FineLaws.{nobody_holds_seg, nobody_holds_going_seg}
-use Rattle.machine_model.specs.Changes.{cut, gone_seg, back_seg, connected}
-use Rattle.machine_model.specs.declared.Aim.{Aim}
-use Rattle.machine_model.specs.Custodial.{KeepsBook, HoldsRight, IsAimed, AreApart, has_cut, is_pending, waits_for}
-use Rattle.machine_model.specs.Seen.{Seen, flat, shown, descriptor_use, cut_uid, cut_use, is_cut_at}
-use Rattle.machine_model.specs.Reads.{frames_of_owner, cut_of_owner}
-use Rattle.machine_model.specs.declared.CutDescriptor.{CutDescriptor}
-use Rattle.machine_model.specs.State.{Owner}
+use Rattle.custody_model.specs.Custody.{cut as descriptor_cut}
 use Rattle.machine_model.proofs.BookNext.{book_next}
 use Rattle.machine_model.proofs.DueLaws.{HasLeftCut, owned_left_cut}
 use Rattle.machine_model.proofs.HeldLaws.{right_alike, right_descriptor}
-use Rattle.machine_model.proofs.OwnedLaws.{owned_cut, owned_like, like_descriptor, cut_at_same, cut_at_other}
-use Rattle.machine_model.proofs.OwnedLaws.{current_descriptor_is_not_going}
+use Rattle.machine_model.proofs.OwnedLaws.{owned_cut, owned_like, like_descriptor, cut_at_same, cut_at_other, current_descriptor_is_not_going}
 use Rattle.machine_model.proofs.Places.{by_places, one_place_of_two, put_two_here}
-use Rattle.book.specs.declared.entries.Entry.{Entry}
-use Rattle.custody_model.specs.Allowed.{IsAllowed}
-use Rattle.custody_model.specs.Fine.{FillsOnline, pending_after}
-use Rattle.machine_model.specs.Custodial.{IsRun}
-use Rattle.flat_model.specs.Store.{progress_of}
-use Rattle.std.proofs.lemmas.Bool.{or_parts}
 
 -- ---- what was cut
 

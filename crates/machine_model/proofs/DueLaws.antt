@@ -1,20 +1,6 @@
 -- What goes is the owner's alone where its signal is given, a processor clears, and what went is gone or back.
-use Rattle.std.proofs.Common.{◌≡◌, ◌≢◌, ℕ, Bool, true, false, cond, ◌||◌, eqb, List, ◌∷◌, Option, Some, None, inl, inr}
-use Rattle.std.proofs.Common.{refl, sym, ap, subst, ◌∙◌}
-use Rattle.std.proofs.lemmas.Bool.Decides.{eqb_tells}
-use Rattle.assoc_mem.specs.declared.What.{What}
-use Rattle.custody_model.specs.declared.FrameUse.{FrameUse}
-use Rattle.custody_model.specs.declared.DescriptorUse.{DescriptorUse}
-use Rattle.custody_model.specs.Allowed.{SomethingGoes}
-use Rattle.custody_model.specs.Custody.{Custody, Seat, has, is_going_frame, is_going_descriptor, names_frame}
-use Rattle.custody_model.specs.Custody.{names_descriptor, cleared}
-use Rattle.custody_model.specs.Fine.{NoneDue}
-use Rattle.custody_model.specs.Next.{with_frame, with_descriptor, signalled, answered_clear}
-use Rattle.machine_model.specs.Custodial.{IsOwned, IsShaped, AreDistinct, AreApart, has_cut, says, waits_for}
-use Rattle.machine_model.specs.Seen.{is_cut_at}
-use Rattle.machine_model.specs.Reads.{frames_of_owner, cut_of_owner}
-use Rattle.machine_model.specs.declared.CutDescriptor.{CutDescriptor}
-use Rattle.machine_model.specs.State.{Owner}
+use Rattle.machine_model.proofs.Prelude.{◌≡◌, ◌≢◌, ℕ, Bool, true, false, cond, ◌||◌, eqb, List, ◌∷◌, Option, Some, None, inl, inr, refl, sym, ap, subst, ◌∙◌, eqb_tells, What, FrameUse, DescriptorUse, SomethingGoes, Custody, Seat, has, is_going_frame, is_going_descriptor, names_frame, names_descriptor, cleared, NoneDue, with_descriptor, answered_clear, IsOwned, IsShaped, AreDistinct, AreApart, has_cut, says, waits_for, is_cut_at, frames_of_owner, cut_of_owner, CutDescriptor, Owner}
+use Rattle.custody_model.specs.Next.{with_frame, signalled}
 use Rattle.machine_model.proofs.Places.{by_place, by_places}
 use Rattle.machine_model.proofs.TieLaws.{none_some}
 use Rattle.machine_model.proofs.OwnedLaws.{cut_at_tells}

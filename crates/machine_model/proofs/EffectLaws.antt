@@ -1,29 +1,9 @@
 -- What a store has still once a job takes something, and once a command takes effect.
-use Rattle.std.proofs.Common.{ℕ, Bool, true, false, ◌%◌, ◌/◌, cond, eqb, List, [], ◌∷◌, Option, Some, None}
-use Rattle.script.specs.declared.commands.Command.{Command}
+use Rattle.machine_model.proofs.Prelude.{ℕ, Bool, true, false, ◌%◌, ◌/◌, cond, eqb, List, [], ◌∷◌, Option, Some, None, Command, Entry, What, Row, Node, AccountMaps, parts_of, bound_page, Ptw, frame_in, words_in, Links, word_of, descriptor_cut, Aim, frame_entry, pages_past, stays, with_branch, with_cut, with_cut_in, with_deleted, with_effect, with_made, with_truncated, without_page, without_pages, are_zeros, cut_all, cut_one, here_if, leaving_if, take_all, take_one, took, with_here, State, Storage, with_pages, with_word}
 use Rattle.script.specs.declared.commands.Command.TheVariants as command
-use Rattle.book.specs.declared.entries.Entry.{Entry}
 use Rattle.book.specs.declared.entries.Entry.TheVariants as entry
-use Rattle.assoc_mem.specs.declared.What.{What}
-use Rattle.tree_model.specs.Access.{Row}
-use Rattle.tree_model.specs.Tree.{Node}
-use Rattle.accounts.specs.Maps.{AccountMaps}
-use Rattle.flat_model.specs.Branches.{parts_of}
-use Rattle.core_map.specs.CoreMap.{bound_page}
-use Rattle.page_table.specs.declared.Ptw.{Ptw}
 use Rattle.page_table.specs.declared.Ptw.TheVariants as ptw
 use Rattle.page_control.specs.Effects.{cut}
-use Rattle.page_control.specs.Plain.{frame_in, words_in}
-use Rattle.seg_control.specs.Control.{Links, word_of}
-use Rattle.seg_control.specs.Effects.{cut_one as descriptor_cut}
-use Rattle.machine_model.specs.declared.Aim.{Aim}
-use Rattle.machine_model.specs.Commits.{frame_entry, pages_past, stays, with_branch, with_cut, with_cut_in}
-use Rattle.machine_model.specs.Commits.{with_deleted, with_effect, with_made, with_truncated, without_page}
-use Rattle.machine_model.specs.Commits.{without_pages}
-use Rattle.machine_model.specs.Jobs.{are_zeros, cut_all, cut_one, here_if, leaving_if, take_all, take_one, took}
-use Rattle.machine_model.specs.Jobs.{with_here}
-use Rattle.machine_model.specs.State.{State, Storage}
-use Rattle.machine_model.specs.Steps.{with_pages, with_word}
 
 -- ---- a segment is cut off
 

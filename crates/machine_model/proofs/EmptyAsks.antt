@@ -1,41 +1,19 @@
 -- What a look asks that makes a segment inactive, for its length or as the victim of a pool.
-use Rattle.std.proofs.Common.{◌≡◌, ◌≢◌, ℕ, Bool, true, false, cond, eqb, List, [], ◌∷◌, Option}
-use Rattle.std.proofs.Common.{Some, None, refl, sym, ap, subst, ◌∙◌}
-use Rattle.script.specs.declared.commands.Command.{Command}
+use Rattle.machine_model.proofs.Prelude.{◌≡◌, ◌≢◌, ℕ, Bool, true, false, cond, eqb, List, [], ◌∷◌, Option, Some, None, refl, sym, ap, subst, ◌∙◌, Command, Node, has_directory, node_in, IsUp, superior_up, superior_found, Core, frame_at, reads_of, started_page, HasNoInferior, uid_at, first_off_chain, hand_past, read_at, MayDeactivate, node_superior, any_page, Outcome, after, is_pending, seen, deactivation_begun, emptied, segment_taken, segs_gone, with_hand_moved, IsFaithful, Keeps, StoreKept, StoreSays, cut_of_owner, flat_of, frame_reading, frames_from, is_active, is_page_of, or_zero, trailers_in, Says, shown, State, with_store, refusal_of, uid_of_command, eqb_self}
 use Rattle.assoc_mem.specs.declared.What.TheVariants as what
-use Rattle.tree_model.specs.Tree.{Node, has_directory, node_in}
-use Rattle.tree_model.proofs.TreeLaws.{IsUp, superior_up, superior_found}
 use Rattle.core_map.specs.declared.Frame.TheVariants as frame
-use Rattle.core_map.specs.CoreMap.{Core, frame_at, reads_of, started_page}
-use Rattle.active_segs.specs.Active.{HasNoInferior, uid_at}
-use Rattle.active_segs.specs.Victim.{first_off_chain, hand_past}
-use Rattle.seg_control.specs.Kept.{read_at}
-use Rattle.custody_model.specs.Allowed.{MayDeactivate, superior_in as node_superior}
 use Rattle.machine_model.specs.declared.Aim.TheVariants as aim
 use Rattle.machine_model.specs.Actions as act
-use Rattle.machine_model.specs.Actions.{any_page}
-use Rattle.machine_model.specs.After.{Outcome, after}
-use Rattle.machine_model.specs.Custodial.{is_pending}
-use Rattle.machine_model.specs.Holding.{seen}
-use Rattle.machine_model.specs.Jobs.{deactivation_begun, emptied, segment_taken, segs_gone, with_hand_moved}
-use Rattle.machine_model.specs.Keeps.{IsFaithful, Keeps, StoreKept, StoreSays}
-use Rattle.machine_model.specs.Reads.{cut_of_owner, flat_of, frame_reading, frames_from, is_active}
-use Rattle.machine_model.specs.Reads.{is_page_of, or_zero, trailers_in}
-use Rattle.machine_model.specs.Said.{Says}
-use Rattle.machine_model.specs.Seen.{shown}
-use Rattle.machine_model.specs.State.{State}
-use Rattle.machine_model.specs.Steps.{with_store}
 use Rattle.machine_model.proofs.ActiveKept.{IsOver}
 use Rattle.machine_model.proofs.CommandFacts.{LeadsToSegment, length_stands}
-use Rattle.machine_model.specs.Refusal.{refusal_of, uid_of_command}
 use Rattle.machine_model.proofs.CutRights.{took_says}
 use Rattle.machine_model.proofs.FindLaws.{position_none}
 use Rattle.machine_model.proofs.LeafLaws.{leaf_inferiors, victim_leaf}
 use Rattle.machine_model.proofs.ListLaws.{map_list}
 use Rattle.machine_model.proofs.LookFacts.{FindsActive, FindsVictim}
 use Rattle.machine_model.proofs.OwnedLaws.{IsIdle}
-use Rattle.machine_model.proofs.RuleKept.{AsksEmpty, AsksSegment, AsksVictim}
-use Rattle.machine_model.proofs.SaysLaws.{emptied_says}
+use Rattle.machine_model.proofs.RuleKept.{AsksEmpty, AsksSegment, AsksVictim, nothing_over}
+use Rattle.machine_model.proofs.SaysLaws.{emptied_says, is_same, same_rest, says_by}
 use Rattle.machine_model.proofs.StepKept.{hand_kept}
 use Rattle.machine_model.proofs.TakeLists.{trailers_taken}
 use Rattle.machine_model.proofs.TakeWhole.{nothing_whole}
@@ -43,10 +21,7 @@ use Rattle.machine_model.proofs.TieLaws.{none_some}
 use Rattle.machine_model.proofs.TookKept.{ArePairs}
 use Rattle.machine_model.proofs.TransferKept.{active_at}
 use Rattle.machine_model.proofs.WholeKept.{whole_may}
-use Rattle.machine_model.proofs.RuleKept.{nothing_over}
-use Rattle.machine_model.proofs.SaysLaws.{is_same, same_rest, says_by}
 use Rattle.machine_model.proofs.FlatAlike.{alike}
-use Rattle.laws.proofs.Numbers.{eqb_self}
 
 -- no page of a segment is being read
 pub unread_any : (core : Core) (u : ℕ) → frame_reading core u any_page ≡ None → (f p : ℕ)

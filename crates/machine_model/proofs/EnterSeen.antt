@@ -1,41 +1,10 @@
 -- A processor that takes the supervisor needs it: its command is no reference, or the tables lack something for it.
-use Rattle.std.proofs.Common.{◌≡◌, ◌<◌, ℕ, Bool, true, false, not, cond, ◌&&◌, ◌||◌, eqb, length, List, Option, Some}
-use Rattle.std.proofs.Common.{None, is_some, inl, inr, refl, sym, ap, subst, ◌∙◌, nat_le, ◌*◌}
-use Rattle.std.specs.Prelude.{◌/◌}
-use Rattle.script.specs.References.{new_word, permits, reference_of}
-use Rattle.script.specs.declared.commands.Command.{Command}
-use Rattle.script.specs.declared.commands.Reference.{Reference}
-use Rattle.assoc_mem.specs.Held.{frame_of, seg_of}
-use Rattle.assoc_mem.specs.declared.HeldSeg.{HeldSeg}
-use Rattle.known_segs.specs.Known.{uid_of}
-use Rattle.page_table.specs.declared.Ptw.{Ptw}
+use Rattle.machine_model.proofs.Prelude.{◌≡◌, ◌<◌, ℕ, Bool, true, false, not, cond, ◌&&◌, ◌||◌, eqb, length, List, Option, Some, None, is_some, inl, inr, refl, sym, ap, subst, ◌∙◌, nat_le, ◌*◌, ◌/◌, new_word, permits, reference_of, Command, Reference, frame_of, seg_of, HeldSeg, uid_of, Ptw, has_record, Sdw, kst_at, sdws_at, word_of, Move, Transfer, by_descriptor, by_held, by_page, by_seg, by_word, word_reply, names, IsEntitledToAll, MayAnswer, MayEnter, MayLose, seen, Keeps, page_fits, want_lack, Want, Refer, Other, Runner, runner_at, want_at, around, outline_of, runner_by, want_by, want_of, want_of_reference, IsMachine, IsReading, cpu_at, descriptor_of, flat_of, frames_of_owner, is_active, is_connected, next_command, or_zero, process_at, processor_at, Owner, State, MayFailBy}
 use Rattle.page_table.specs.declared.Ptw.TheVariants as ptw
-use Rattle.page_control.specs.Tied.{has_record}
-use Rattle.descriptor_seg.specs.declared.Sdw.{Sdw}
 use Rattle.descriptor_seg.specs.declared.Sdw.TheVariants as sdw
-use Rattle.seg_control.specs.Control.{kst_at, sdws_at, word_of}
-use Rattle.processor.specs.declared.Move.{Move}
 use Rattle.processor.specs.declared.Move.TheVariants as move
-use Rattle.processor.specs.declared.Transfer.{Transfer}
-use Rattle.processor.specs.Moves.{by_descriptor, by_held, by_page, by_seg, by_word}
 use Rattle.book.specs.declared.replies.Reply.TheVariants as reply
-use Rattle.flat_model.specs.References.{word_reply}
 use Rattle.machine_model.specs.Actions as act
-use Rattle.machine_model.specs.Custodial.{names}
-use Rattle.machine_model.specs.Entitled.{IsEntitledToAll}
-use Rattle.machine_model.specs.Foreseen.{MayAnswer, MayEnter, MayLose}
-use Rattle.machine_model.specs.Holding.{seen}
-use Rattle.machine_model.specs.Keeps.{Keeps}
-use Rattle.machine_model.specs.Measures.{page_fits, want_lack}
-use Rattle.machine_model.specs.Outline.{Want, Refer, Other, Runner, runner_at, want_at}
-use Rattle.machine_model.specs.Outlined.{around, outline_of, runner_by, want_by, want_of}
-use Rattle.machine_model.specs.Outlined.{want_of_reference}
-use Rattle.machine_model.specs.Promise.{IsMachine}
-use Rattle.machine_model.specs.Reading.{IsReading}
-use Rattle.machine_model.specs.Reads.{cpu_at, descriptor_of, flat_of, frames_of_owner, is_active, is_connected}
-use Rattle.machine_model.specs.Reads.{next_command, or_zero, process_at, processor_at}
-use Rattle.machine_model.specs.State.{Owner, State}
-use Rattle.machine_model.specs.Working.{MayFailBy}
 use Rattle.machine_model.proofs.FailLaws.{fails_more}
 use Rattle.machine_model.proofs.FrameSeen.{not_here, stored_outlined}
 use Rattle.machine_model.proofs.MoveAsks.{held_active, known}

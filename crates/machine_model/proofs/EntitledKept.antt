@@ -1,49 +1,15 @@
 -- What processors hold stays what their processes may do, through every action that no command ends.
-use Rattle.std.proofs.Common.{◌≡◌, ◌≢◌, ◌<◌, ℕ, Bool, true, false, not, cond, eqb, List, [], ◌∷◌, ◌++◌, drop, filter}
-use Rattle.std.proofs.Common.{length, set}
-use Rattle.std.proofs.Common.{◌+◌, Option, Some, None, ◌⊎◌, inl, inr, refl, sym, ap, subst, ◌∙◌}
-use Rattle.std.proofs.lemmas.Bool.Decides.{eqb_tells}
-use Rattle.std.proofs.lemmas.List.{get_or-set_other, get_or-set_same, length-set}
-use Rattle.mnames.specs.declared.principals.Who.{Who}
-use Rattle.assoc_mem.specs.Held.{filled, names_seg}
-use Rattle.assoc_mem.specs.declared.HeldSeg.{HeldSeg}
-use Rattle.assoc_mem.specs.declared.What.{What}
+use Rattle.machine_model.proofs.Prelude.{◌≡◌, ◌≢◌, ◌<◌, ℕ, Bool, true, false, not, cond, eqb, List, [], ◌∷◌, ◌++◌, drop, filter, length, set, ◌+◌, Option, Some, None, ◌⊎◌, inl, inr, refl, sym, ap, subst, ◌∙◌, eqb_tells, get_or-set_other, get_or-set_same, length-set, Who, filled, names_seg, HeldSeg, What, Sdw, bound_page, frame_in, words_in, Left, first_off_chain, hand_past, leads, Node, node_in, Aim, CutDescriptor, Processor, Outcome, after, AreEntitled, HoldEntitled, IsEntitled, IsEntitledToAll, led_to, emptied, eviction_begun, eviction_done, here_if, leaving_if, left_of, page_back, page_done, page_in, pages_back, seg_back, seg_gone, segment_taken, segs_back, segs_gone, take_one, told_from, took, victim_taken, with_choice, with_hand_moved, with_left, write_failed, Keeps, copy_failed, move_committed, page_copied, cpu_at, cut_of_owner, descriptor_of, frames_from, frames_of_owner, no_processor, or_zero, process_at, processor_at, trailers_in, State, fault_told, frame_lost, held_seg, transfer_failed, transferred, with_faults, with_store, AccountMaps}
 use Rattle.assoc_mem.specs.declared.What.TheVariants as what
-use Rattle.descriptor_seg.specs.declared.Sdw.{Sdw}
 use Rattle.descriptor_seg.specs.declared.Sdw.TheVariants as sdw
-use Rattle.core_map.specs.CoreMap.{bound_page}
-use Rattle.page_control.specs.Plain.{frame_in, words_in}
-use Rattle.page_control.specs.declared.Left.{Left}
 use Rattle.page_control.specs.declared.Left.TheVariants as left
-use Rattle.active_segs.specs.Victim.{first_off_chain, hand_past}
-use Rattle.seg_control.specs.Control.{leads}
-use Rattle.tree_model.specs.Tree.{Node, node_in}
-use Rattle.machine_model.specs.declared.Aim.{Aim}
 use Rattle.machine_model.specs.declared.Aim.TheVariants as aim
-use Rattle.machine_model.specs.declared.CutDescriptor.{CutDescriptor}
-use Rattle.machine_model.specs.declared.Processor.{Processor}
 use Rattle.machine_model.specs.Actions as act
-use Rattle.machine_model.specs.After.{Outcome, after}
-use Rattle.machine_model.specs.Entitled.{AreEntitled, HoldEntitled, IsEntitled, IsEntitledToAll}
-use Rattle.machine_model.specs.Holding.{led_to}
-use Rattle.machine_model.specs.Jobs.{emptied, eviction_begun, eviction_done, here_if, leaving_if, left_of}
-use Rattle.machine_model.specs.Jobs.{page_back, page_done, page_in, pages_back, seg_back, seg_gone, segment_taken}
-use Rattle.machine_model.specs.Jobs.{segs_back}
-use Rattle.machine_model.specs.Jobs.{segs_gone, take_one, told_at, told_from, took, victim_taken}
-use Rattle.machine_model.specs.Jobs.{with_choice, with_hand_moved, with_left, write_failed}
-use Rattle.machine_model.specs.Keeps.{Keeps}
-use Rattle.machine_model.specs.Moves.{copy_failed, move_committed, page_copied}
-use Rattle.machine_model.specs.Reads.{cpu_at, cut_of_owner, descriptor_of, frames_from, frames_of_owner, no_processor}
-use Rattle.machine_model.specs.Reads.{or_zero, process_at, processor_at, trailers_in}
-use Rattle.machine_model.specs.State.{State}
-use Rattle.machine_model.specs.Steps.{fault_told, frame_lost, held_seg, transfer_failed, transferred, with_faults}
-use Rattle.machine_model.specs.Steps.{with_store}
-use Rattle.accounts.specs.Maps.{AccountMaps}
+use Rattle.machine_model.specs.Jobs.{told_at}
 use Rattle.machine_model.proofs.OutlineTake.{took_like}
-use Rattle.machine_model.proofs.LeaveSeen.{told_reads}
+use Rattle.machine_model.proofs.LeaveSeen.{told_reads, told_has, told_process}
 use Rattle.machine_model.proofs.StepKept.{CanDo, CanFill}
 use Rattle.machine_model.proofs.TieLaws.{none_some}
-use Rattle.machine_model.proofs.LeaveSeen.{told_has, told_process}
 
 -- ---- the entries of one processor
 

@@ -1,15 +1,10 @@
 -- What several examples of a machine's book share: scripts, and the entries with which their books begin.
-use Rattle.std.proofs.Common.{ℕ, List, [], ◌∷◌, None}
-use Rattle.std.specs.Prelude.{codes}
+use Rattle.machine_model.proofs.Prelude.{ℕ, List, [], ◌∷◌, None, codes, ProcessPlan, Command, Entry, process_for, row_for}
 use Rattle.mnames.specs.declared.modes.Mode.TheVariants as mode
-use Rattle.script.specs.Plans.{ProcessPlan}
-use Rattle.script.specs.declared.commands.Command.{Command}
 use Rattle.script.specs.declared.commands.Command.TheVariants as command
-use Rattle.book.specs.declared.entries.Entry.{Entry}
 use Rattle.book.specs.declared.entries.Entry.TheVariants as entry
 use Rattle.book.specs.declared.replies.Reply.TheVariants as reply
 use Rattle.assoc_mem.specs.declared.What.TheVariants as what
-use Rattle.machine_model.specs.Runs.{process_for, row_for}
 
 -- ---- scripts
 

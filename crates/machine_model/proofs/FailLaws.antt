@@ -1,34 +1,9 @@
 -- A drive's failure may be told of a command that its page was looked for.
-use Rattle.std.proofs.Common.{◌≡◌, ◌≤◌, ℕ, ◌*◌, Bool, true, false, not, cond, List}
-use Rattle.std.proofs.Common.{Option, Some, None, inl, inr, refl, sym, ap, ◌∙◌, arith}
-use Rattle.std.specs.Prelude.{nat_le, Ok}
-use Rattle.std.proofs.lemmas.Bool.Decides.{leb_tells}
-use Rattle.script.specs.References.{reference_of}
-use Rattle.script.specs.Plans.{who_of}
-use Rattle.script.specs.declared.commands.Command.{Command}
+use Rattle.machine_model.proofs.Prelude.{◌≡◌, ◌≤◌, ℕ, ◌*◌, Bool, true, false, not, cond, List, Option, Some, None, inl, inr, refl, sym, ap, ◌∙◌, arith, nat_le, Ok, leb_tells, reference_of, who_of, Command, RefKind, Reference, Reply, access_of, Node, node_in, uid_of, kst_at, segment_at, is_end, reply_to_command, is_early, may_fail, permits, is_used_up, is_out_of_room, reply_at, reply_to_reference, stores_page, word_reply, length_reply, truncate_reply, Store, known_uid, none_from, IsFaithful, State, IsReached, MayChange, MayFailBy, is_filed}
 use Rattle.script.specs.declared.commands.Command.TheVariants as command
-use Rattle.script.specs.declared.commands.RefKind.{RefKind}
 use Rattle.script.specs.declared.commands.RefKind.TheVariants as kind
-use Rattle.script.specs.declared.commands.Reference.{Reference}
-use Rattle.book.specs.declared.replies.Reply.{Reply}
 use Rattle.book.specs.declared.replies.Reply.TheVariants as reply
-use Rattle.tree_model.specs.Access.{access_of}
-use Rattle.tree_model.specs.Tree.{Node, node_in}
-use Rattle.known_segs.specs.Known.{uid_of}
-use Rattle.seg_control.specs.Control.{kst_at}
-use Rattle.flat_model.specs.Branches.{segment_at}
-use Rattle.flat_model.specs.Commands.{is_end, reply_to_command}
-use Rattle.flat_model.specs.Legal.{is_early, may_fail}
-use Rattle.script.specs.References.{permits}
-use Rattle.flat_model.specs.References.{is_used_up, is_out_of_room, reply_at, reply_of, reply_to_reference}
-use Rattle.flat_model.specs.References.{stores_page, word_reply}
-use Rattle.flat_model.specs.Sizes.{length_reply, truncate_reply}
-use Rattle.flat_model.specs.Store.{Store, known_uid}
-use Rattle.flat_model.proofs.PageLaws.{none_from}
-use Rattle.machine_model.specs.Keeps.{IsFaithful}
-use Rattle.machine_model.specs.State.{State}
-use Rattle.machine_model.specs.Working.{IsReached, MayChange, MayFailBy}
-use Rattle.storage_ops.specs.Shown.{is_filed}
+use Rattle.flat_model.specs.References.{reply_of}
 
 word_late : (w : ℕ) (how : RefKind) → is_early (word_reply w how) ≡ false
 word_late w kind.Read = refl

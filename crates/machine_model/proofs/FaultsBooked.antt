@@ -1,22 +1,9 @@
 -- What the entries of a step tell of the drives: one failure at the most, of the processor's process, just where a call
 -- failed, and before a process is told of one.
-use Rattle.std.proofs.Common.{◌≡◌, ◌≤◌, ◌<◌, ℕ, ◌+◌, Bool, true, false, cond, List, [], ◌∷◌, ◌++◌, count_by}
-use Rattle.std.proofs.Common.{length}
-use Rattle.std.proofs.Common.{Option, Some, None, inl, inr, ◌⊎◌, refl, sym, ap, subst, ◌∙◌, arith}
-use Rattle.std.specs.List.{list_all}
-use Rattle.std.proofs.lemmas.List.Sums.{sum_by-cons}
-use Rattle.book.specs.declared.entries.Entry.{Entry}
+use Rattle.machine_model.proofs.Prelude.{◌≡◌, ◌≤◌, ◌<◌, ℕ, ◌+◌, Bool, true, false, cond, List, [], ◌∷◌, ◌++◌, count_by, length, Option, Some, None, inl, inr, ◌⊎◌, refl, sym, ap, subst, ◌∙◌, arith, list_all, sum_by-cons, Entry, action_of, Outcome, after, is_fault, KeepsAll, process_at, State, calls_drive, not_both, and_parts}
 use Rattle.book.specs.declared.entries.Entry.TheVariants as entry
 use Rattle.book.specs.declared.replies.Reply.TheVariants as reply
-use Rattle.machine_model.specs.Actions.{action_of}
-use Rattle.machine_model.specs.After.{Outcome, after}
-use Rattle.machine_model.specs.Keeps.{is_fault}
-use Rattle.machine_model.specs.Promise.{KeepsAll}
-use Rattle.machine_model.specs.Reads.{process_at}
-use Rattle.machine_model.specs.State.{State}
-use Rattle.machine_model.specs.Turns.{calls_drive}
 use Rattle.machine_model.proofs.BookAfter.{AreQuiet, HasBooked, TellsFailure, is_quiet, told_after}
-use Rattle.laws.proofs.Bools.{not_both, and_parts}
 
 abbrev tally : Bool → ℕ
 tally b = cond b 1 0

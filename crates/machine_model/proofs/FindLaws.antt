@@ -1,30 +1,10 @@
 -- What is found in lists of frames, of places and of what a processor holds.
-use Rattle.std.proofs.Common.{◌≡◌, ◌≢◌, ◌<◌, ℕ, suc, Bool, true, false, ◌||◌, cond, eqb, List, [], ◌∷◌, map, length}
-use Rattle.std.proofs.Common.{get_or, not, position, Option, Some, None, inl, inr, refl, sym, ap, subst, ◌∙◌, arith}
-use Rattle.std.specs.List.{find, list_any, position_or_len}
-use Rattle.std.proofs.lemmas.Bool.Decides.{eqb_tells, leb_tells, nat_tests}
-use Rattle.assoc_mem.specs.declared.HeldPage.{HeldPage}
-use Rattle.assoc_mem.specs.declared.HeldSeg.{HeldSeg}
-use Rattle.assoc_mem.specs.Held.{is_number, is_page}
-use Rattle.core_map.specs.declared.Frame.{Frame}
+use Rattle.machine_model.proofs.Prelude.{◌≡◌, ◌≢◌, ◌<◌, ℕ, suc, Bool, true, false, ◌||◌, cond, eqb, List, [], ◌∷◌, map, length, get_or, not, position, Option, Some, None, inl, inr, refl, sym, ap, subst, ◌∙◌, arith, find, list_any, position_or_len, eqb_tells, leb_tells, nat_tests, HeldPage, HeldSeg, is_number, is_page, Frame, Core, bound_page, frame_at, is_bound, is_free, least_free_frame, reads_of, started_page, clock_choice, is_idle, or_else, round_frames, binding_at, bindings, read_at, has, AreHeldPages, frame_reading, is_page_of, not-true, first_inactive, is_active, ActiveSegs, not_both, page_is}
 use Rattle.core_map.specs.declared.Frame.TheVariants as frame
-use Rattle.core_map.specs.CoreMap.{Core, bound_page, frame_at, is_bound, is_free, least_free_frame, reads_of}
-use Rattle.core_map.specs.CoreMap.{started_page}
-use Rattle.core_map.specs.Clock.{clock_choice, is_idle, or_else, round_frames}
-use Rattle.page_control.specs.Plain.{binding_at, bindings}
-use Rattle.seg_control.specs.Kept.{read_at}
-use Rattle.custody_model.specs.Custody.{has}
-use Rattle.machine_model.specs.Custodial.{AreHeldPages}
-use Rattle.machine_model.specs.Reads.{frame_reading, is_page_of}
 use Rattle.machine_model.proofs.ActiveSeen.{any_at, some_within}
 use Rattle.machine_model.proofs.ListLaws.{map_list}
 use Rattle.machine_model.proofs.TieLaws.{none_some}
 use Rattle.machine_model.proofs.WordLaws.{found}
-use Rattle.std.proofs.lemmas.Bool.{not-true}
-use Rattle.machine_model.specs.Reads.{first_inactive, is_active}
-use Rattle.active_segs.specs.Active.{ActiveSegs}
-use Rattle.laws.proofs.Bools.{not_both}
-use Rattle.laws.proofs.Options.{page_is}
 
 module _ {X : Type 0} (p : X → Bool) where
   -- what is found passes

@@ -1,31 +1,9 @@
 -- The machine keeps its promise where a page leaves its frame, where a write failed, and where a segment is inactive at
 -- last.
-use Rattle.std.proofs.Common.{◌≡◌, ◌≢◌, ◌<◌, ◌≤◌, ℕ, true, false, count_by, List, [], ◌∷◌, ◌++◌, map, length, Option}
-use Rattle.std.proofs.Common.{Some, None, refl, sym, ap, subst, ◌∙◌, arith}
-use Rattle.script.specs.Plans.{Plan}
-use Rattle.book.specs.declared.entries.Entry.{Entry}
+use Rattle.machine_model.proofs.Prelude.{◌≡◌, ◌≢◌, ◌<◌, ◌≤◌, ℕ, true, false, count_by, List, [], ◌∷◌, ◌++◌, map, length, Option, Some, None, refl, sym, ap, subst, ◌∙◌, arith, Plan, Entry, bound_page, Left, word_of_left, record_of, words_in, MayRelease, after_entry, Store, IsInNoFrame, page_at, page_or_zero, gone, released, KeepsBook, is_out, names, seen, entries_left, eviction_done, left_of, page_done, page_gone, page_in, with_left, IsAtWork, Keeps, StoreSays, is_fault, flat_of, home_in, processor_at, Seen, flat, shown, CutDescriptor, Owner, State, booked, looking, with_faults, with_owner, with_store, rest_of, without_first_frame}
 use Rattle.book.specs.declared.entries.Entry.TheVariants as entry
-use Rattle.core_map.specs.CoreMap.{bound_page}
 use Rattle.page_table.specs.declared.Ptw.TheVariants as ptw
-use Rattle.page_control.specs.declared.Left.{Left}
 use Rattle.page_control.specs.declared.Left.TheVariants as left
-use Rattle.page_control.specs.Effects.{word_of_left}
-use Rattle.page_control.specs.Plain.{record_of, words_in}
-use Rattle.flat_model.specs.Legal.{MayRelease, after_entry}
-use Rattle.flat_model.specs.Store.{Store}
-use Rattle.custody_model.specs.Effects.{IsInNoFrame}
-use Rattle.machine_model.specs.Chains.{page_at, page_or_zero}
-use Rattle.machine_model.specs.Changes.{gone, released}
-use Rattle.machine_model.specs.Custodial.{KeepsBook, is_out, names}
-use Rattle.machine_model.specs.Holding.{seen}
-use Rattle.machine_model.specs.Jobs.{entries_left, eviction_done, left_of, page_done, page_gone, page_in, with_left}
-use Rattle.machine_model.specs.Keeps.{IsAtWork, Keeps, StoreSays, is_fault}
-use Rattle.machine_model.specs.Reads.{flat_of, home_in, processor_at}
-use Rattle.machine_model.specs.Seen.{Seen, flat, shown}
-use Rattle.machine_model.specs.declared.CutDescriptor.{CutDescriptor}
-use Rattle.machine_model.specs.State.{Owner, State}
-use Rattle.machine_model.specs.Steps.{booked, looking, with_faults, with_owner, with_store}
-use Rattle.machine_model.specs.Jobs.{rest_of, without_first_frame}
 use Rattle.machine_model.proofs.ChainLaws.{GoesOn, first_finish}
 use Rattle.machine_model.proofs.FrameLaws.{CanFinish, gone_keeps, in_no_frame, release_keeps}
 use Rattle.machine_model.proofs.KeepLaws.{faults_push, flat_still}

@@ -1,10 +1,5 @@
 -- Two processors and one process, then two: the second processor waits for work, or for the supervisor.
-use Rattle.std.proofs.Common.{◌≡◌, [], ◌∷◌, refl}
-use Rattle.std.specs.Prelude.{true}
-use Rattle.machine_model.specs.State.{State}
-use Rattle.machine_model.specs.Actions.{action_of, HasEnded, IsStopped, Online, Load, TakeSupervisor, Waits, WhileIdle}
-use Rattle.machine_model.specs.Actions.{ForOwner}
-use Rattle.machine_model.specs.Runs.{book_of, finished, machine_with, stepped}
+use Rattle.machine_model.proofs.Prelude.{◌≡◌, [], ◌∷◌, refl, true, State, action_of, HasEnded, IsStopped, Online, Load, TakeSupervisor, Waits, WhileIdle, ForOwner, book_of, finished, machine_with, stepped}
 use Rattle.machine_model.proofs.Examples.{one_page}
 
 abbrev one : State

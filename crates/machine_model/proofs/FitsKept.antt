@@ -1,70 +1,22 @@
 -- What a job has taken isn't what its command wants, after each step.
-use Rattle.std.proofs.Common.{◌≡◌, ◌<◌, ℕ, suc, Bool, true, false, not, ◌&&◌, cond, eqb, is_some, length}
-use Rattle.std.proofs.Common.{List, [], ◌∷◌, get_or, map, set, Option, Some, None, inl, inr, refl, sym, ap, subst, ◌∙◌}
-use Rattle.std.proofs.Common.{arith}
-use Rattle.std.proofs.lemmas.Bool.{cond_both}
-use Rattle.std.proofs.lemmas.Bool.Decides.{eqb_tells}
-use Rattle.script.specs.Plans.{command_at}
-use Rattle.script.specs.References.{alters, reference_of}
-use Rattle.script.specs.declared.commands.Command.{Command}
-use Rattle.script.specs.declared.commands.Reference.{Reference}
-use Rattle.book.specs.declared.replies.Reply.{Reply}
-use Rattle.assoc_mem.specs.declared.What.{What}
-use Rattle.tree_model.specs.Tree.{Node}
-use Rattle.known_segs.specs.Known.{uid_of}
-use Rattle.seg_control.specs.Control.{kst_at}
-use Rattle.storage_ops.specs.Shown.{who_at}
-use Rattle.core_map.specs.CoreMap.{after_reference}
-use Rattle.core_map.specs.declared.Frame.{Frame}
+use Rattle.machine_model.proofs.Prelude.{◌≡◌, ◌<◌, ℕ, Bool, true, false, not, ◌&&◌, cond, eqb, is_some, length, List, [], ◌∷◌, get_or, map, set, Option, Some, None, inl, inr, refl, sym, ap, subst, ◌∙◌, arith, cond_both, eqb_tells, command_at, alters, reference_of, Command, Reference, Reply, What, Node, uid_of, kst_at, who_at, after_reference, Frame, Segment, Move, Transfer, Aim, Phase, Processor, action_of, is_over, Outcome, after, waits_for, waits_in, IsEntitledToAll, Commands, IsReplied, rule_of, IsFitting, Keeps, Other, Runner, want_at, around, bare, outline_of, runner_by, stage_of, want_by, want_known, want_of, want_of_command, work_of, FitsStage, FitsWork, IsKept, IsMachine, IsReading, turn_of, cpu_at, next_command, or_zero, process_at, processor_at, run_at, Owner, State, Storage, ActiveSegs, old_word, pages_after, told, with_pages, with_store, IsWorking, referred, word_put, new_word, ◌%◌, not_both, map_kept}
 use Rattle.core_map.specs.declared.Frame.TheVariants as frame
-use Rattle.active_segs.specs.declared.Entry.{Entry as Segment}
-use Rattle.processor.specs.declared.Move.{Move}
 use Rattle.processor.specs.declared.Move.TheVariants as move
-use Rattle.processor.specs.declared.Transfer.{Transfer}
-use Rattle.machine_model.specs.declared.Aim.{Aim}
-use Rattle.machine_model.specs.declared.Phase.{Phase}
 use Rattle.machine_model.specs.declared.Phase.TheVariants as phase
-use Rattle.machine_model.specs.declared.Processor.{Processor}
 use Rattle.machine_model.specs.Actions as act
-use Rattle.machine_model.specs.Actions.{action_of, is_over}
-use Rattle.machine_model.specs.After.{Outcome, after}
-use Rattle.machine_model.specs.Custodial.{waits_for, waits_in}
-use Rattle.machine_model.specs.Entitled.{IsEntitledToAll}
-use Rattle.machine_model.specs.Finishing.{Commands, IsReplied, rule_of}
-use Rattle.machine_model.specs.Fitting.{IsFitting}
-use Rattle.machine_model.specs.Keeps.{Keeps}
-use Rattle.machine_model.specs.Outline.{Other, Runner, want_at}
-use Rattle.machine_model.specs.Outlined.{around, bare, outline_of, runner_by, stage_of, want_by, want_known}
-use Rattle.machine_model.specs.Outlined.{want_of}
-use Rattle.machine_model.specs.Outlined.{want_of_command, work_of}
-use Rattle.machine_model.specs.OutlineKept.{FitsStage, FitsWork, IsKept}
-use Rattle.machine_model.specs.Promise.{IsMachine}
-use Rattle.machine_model.specs.Reading.{IsReading}
-use Rattle.machine_model.specs.Turns.{turn_of}
-use Rattle.machine_model.specs.Reads.{cpu_at, next_command, or_zero, process_at, processor_at, run_at}
-use Rattle.machine_model.specs.State.{Owner, State, Storage}
-use Rattle.active_segs.specs.Active.{ActiveSegs}
-use Rattle.machine_model.specs.Steps.{old_word, pages_after, told, with_pages, with_store}
-use Rattle.machine_model.specs.Working.{IsWorking}
 use Rattle.machine_model.proofs.ActionCases.{action_by}
 use Rattle.machine_model.proofs.WorkStep.{other_next, set_process}
-use Rattle.page_control.specs.Effects.{referred, word_put}
-use Rattle.script.specs.References.{new_word}
-use Rattle.std.specs.Prelude.{◌%◌}
 use Rattle.machine_model.proofs.ForeseeAll.{foresees}
 use Rattle.machine_model.proofs.KeepLaws.{IsNoOwner}
 use Rattle.machine_model.proofs.KeptLaws.{fits_alike, step_keeps}
-use Rattle.machine_model.proofs.ListLaws.{map_list}
 use Rattle.machine_model.proofs.OutlineJob.{in_job}
 use Rattle.machine_model.proofs.OutlineOwner.{step_outlined}
-use Rattle.machine_model.proofs.OutlineReads.{at_outline, is_owner, long_outline, seen_owns, set_map}
+use Rattle.machine_model.proofs.OutlineReads.{at_outline, is_owner, long_outline, seen_owns}
 use Rattle.machine_model.proofs.OutlineSeen.{kept_seen, no_owner, none_due, reading_is, sizes_seen}
 use Rattle.machine_model.proofs.RuleLaws.{tells}
 use Rattle.machine_model.proofs.TieLaws.{none_some}
 use Rattle.machine_model.proofs.WantLaws.{want_here}
-use Rattle.laws.proofs.Bools.{not_both}
 use Rattle.machine_model.proofs.OutlineAlone.{owner_none}
-use Rattle.laws.proofs.Places.{map_kept}
 
 -- ---- what stays
 

@@ -1,24 +1,6 @@
 -- Flat stores that no store tells apart, and what the accounts of a store say of the one that it shows.
-use Rattle.std.proofs.Common.{◌≡◌, ℕ, Bool, true, false, cond, eqb, count_by, List, [], ◌∷◌, ◌++◌}
-use Rattle.std.proofs.Common.{map, sum, Option, Some, None, refl, sym, ap, subst, ◌∙◌, append-nil}
-use Rattle.std.specs.List.{list_all}
-use Rattle.script.specs.Plans.{Plan, command_at}
-use Rattle.script.specs.declared.commands.Command.{Command}
-use Rattle.book.specs.declared.entries.Entry.{Entry}
+use Rattle.machine_model.proofs.Prelude.{◌≡◌, ℕ, Bool, true, false, cond, eqb, count_by, List, [], ◌∷◌, ◌++◌, map, sum, Option, Some, None, refl, sym, ap, subst, ◌∙◌, append-nil, list_all, Plan, command_at, Command, Entry, Reply, IsTree, AccountMaps, after_command, effect_of, gone_on, takes_effect, after_do, after_entry, after_fault, is_within, store_after, IsOnce, is_stored, Store, progress_of, with_progress, store_after-push, all_within, ShowsTree, AreAccounts, IsConserved, IsFaithful, Storage, and_parts}
 use Rattle.book.specs.declared.entries.Entry.TheVariants as entry
-use Rattle.book.specs.declared.replies.Reply.{Reply}
-use Rattle.tree_model.specs.Trees.{IsTree}
-use Rattle.accounts.specs.Maps.{AccountMaps}
-use Rattle.flat_model.specs.Commands.{after_command, effect_of, gone_on, takes_effect}
-use Rattle.flat_model.specs.Legal.{after_do, after_entry, after_fault, is_within, store_after}
-use Rattle.flat_model.specs.Pages.{IsOnce, is_stored}
-use Rattle.flat_model.specs.Store.{Store, progress_of, with_progress}
-use Rattle.flat_model.proofs.BookLaws.{store_after-push}
-use Rattle.flat_model.proofs.QuotaTotals.{all_within}
-use Rattle.storage_ops.specs.Shown.{ShowsTree}
-use Rattle.machine_model.specs.Keeps.{AreAccounts, IsConserved, IsFaithful}
-use Rattle.machine_model.specs.State.{Storage}
-use Rattle.laws.proofs.Bools.{and_parts}
 
 -- ---- flat stores that no store tells apart
 

@@ -1,23 +1,8 @@
 -- A machine that keeps its promise finds what its actions ask of its outline.
-use Rattle.std.proofs.Common.{◌≡◌, ◌≢◌, ◌<◌, ℕ, length, suc, List, [], Some, sym, ap, subst, ◌∙◌}
-use Rattle.std.proofs.Common.{arith}
-use Rattle.assoc_mem.specs.declared.What.{What}
-use Rattle.seg_mover.specs.declared.Mover.{Mover}
+use Rattle.machine_model.proofs.Prelude.{◌≡◌, ◌≢◌, ◌<◌, ℕ, length, suc, List, [], Some, sym, ap, subst, ◌∙◌, arith, What, Mover, Phase, FitsPhase, IsShaped, IsEntitledToAll, HasMoved, IsFitting, Foresees, IsLook, full_there, IsMovedFor, MovesForNext, MovesIn, tables_of, outline_of, IsMachine, IsReading, cpu_at, next_command, process_at, processor_at, Owner, State, IsAtWork, IsWorking, some_unwrapped}
 use Rattle.machine_model.specs.declared.Aim.TheVariants as aim
-use Rattle.machine_model.specs.declared.Phase.{Phase}
 use Rattle.machine_model.specs.declared.Phase.TheVariants as phase
 use Rattle.machine_model.specs.Actions as act
-use Rattle.machine_model.specs.Custodial.{FitsPhase, IsShaped}
-use Rattle.machine_model.specs.Entitled.{IsEntitledToAll}
-use Rattle.machine_model.specs.Finishing.{HasMoved}
-use Rattle.machine_model.specs.Fitting.{IsFitting}
-use Rattle.machine_model.specs.Foreseen.{Foresees, IsLook, full_there}
-use Rattle.machine_model.specs.Lacking.{IsMovedFor, MovesForNext, MovesIn, tables_of}
-use Rattle.machine_model.specs.Outlined.{outline_of}
-use Rattle.machine_model.specs.Promise.{IsMachine}
-use Rattle.machine_model.specs.Reading.{IsReading}
-use Rattle.machine_model.specs.Reads.{cpu_at, next_command, process_at, processor_at}
-use Rattle.machine_model.specs.State.{Owner, State}
 use Rattle.machine_model.proofs.EnterSeen.{may_enter, may_lose}
 use Rattle.machine_model.proofs.ForeseeLaws.{has_answer, looks_empty, off_quiet}
 use Rattle.machine_model.proofs.LookSeen.{look_seen}
@@ -25,9 +10,6 @@ use Rattle.machine_model.proofs.MovedSeen.{moved_seen}
 use Rattle.machine_model.proofs.OutlineSeen.{kept_seen}
 use Rattle.machine_model.proofs.ReleaseSeen.{leaves_may}
 use Rattle.machine_model.proofs.SpeakLaws.{speaks}
-use Rattle.machine_model.specs.Keeps.{IsAtWork}
-use Rattle.machine_model.specs.Working.{IsWorking}
-use Rattle.laws.proofs.Options.{some_unwrapped}
 
 module _ (s : State) (c : ℕ) (m : IsMachine s) (entitled : IsEntitledToAll s) (reading : IsReading s)
     (working : IsWorking s) (fitting : IsFitting s) (there : c < length s.processors) where

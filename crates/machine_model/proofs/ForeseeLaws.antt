@@ -1,25 +1,12 @@
 -- What a step must find of the machine, as far as it follows from the whole promise alone.
-use Rattle.std.proofs.Common.{◌≡◌, ◌<◌, ℕ, true, false, is_some, length, [], Option, Some, None, refl, sym}
-use Rattle.std.proofs.Common.{subst, ◌∙◌}
-use Rattle.script.specs.declared.commands.Command.{Command}
-use Rattle.assoc_mem.specs.declared.What.{What}
-use Rattle.core_map.specs.CoreMap.{started_page}
-use Rattle.core_map.specs.declared.Frame.{Frame}
+use Rattle.machine_model.proofs.Prelude.{◌≡◌, ◌<◌, ℕ, true, false, is_some, length, [], Option, Some, None, refl, sym, subst, ◌∙◌, Command, What, started_page, Frame, IsOwned, MayAnswer, seen, Keeps, IsMachine, cpu_at, or_zero, process_at, shown, Owner, State, frame_in}
 use Rattle.core_map.specs.declared.Frame.TheVariants as frame
 use Rattle.machine_model.specs.declared.Phase.TheVariants as phase
 use Rattle.machine_model.specs.Actions as act
-use Rattle.machine_model.specs.Custodial.{IsOwned}
-use Rattle.machine_model.specs.Foreseen.{IsReading, MayAnswer}
-use Rattle.machine_model.specs.Holding.{seen}
-use Rattle.machine_model.specs.Keeps.{Keeps}
-use Rattle.machine_model.specs.Promise.{IsMachine}
-use Rattle.machine_model.specs.Reads.{cpu_at, or_zero, process_at}
-use Rattle.machine_model.specs.Seen.{shown}
-use Rattle.machine_model.specs.State.{Owner, State}
+use Rattle.machine_model.specs.Foreseen.{IsReading}
 use Rattle.machine_model.proofs.LookFacts.{LookFinds}
 use Rattle.machine_model.proofs.OwnerLaws.{looking_idle}
 use Rattle.machine_model.proofs.StepGoes.{may_answer}
-use Rattle.page_control.specs.Plain.{frame_in}
 
 -- what doesn't take part has nothing to drop
 pub off_quiet : (s : State) → Keeps s → (d : ℕ) → (cpu_at s.processors d).online ≡ false

@@ -1,33 +1,15 @@
 -- A page is taken, has left its frame, is stored no more, or is back.
-use Rattle.std.proofs.Common.{◌≡◌, ◌≢◌, ℕ, true, false, [], ◌∷◌, ◌++◌, Option, Some, None, refl, sym, ap, subst, ◌∙◌}
-use Rattle.assoc_mem.specs.declared.What.{What}
+use Rattle.machine_model.proofs.Prelude.{◌≡◌, ◌≢◌, ℕ, true, false, [], ◌∷◌, ◌++◌, Option, Some, None, refl, sym, ap, subst, ◌∙◌, What, Ptw, IsLawful, after_entry, MayRelease, DescriptorUse, FrameUse, NamesAllGoing, NobodyHoldsPage, is_current_frame, is_going_frame, names_frame, page_of, given_back, IsInNoFrame, Fine, NoneDue, at_put, at_put_two, custody_next, nobody_holds_going_page, taken, gone, released, back, Aim, KeepsBook, HoldsRight, IsAimed, names, is_pending, waits_for, Seen, flat, shown, frame_use, bound_use, read_use, descriptor_use, cut_uid, frames_of_owner, cut_of_owner, Owner}
 use Rattle.book.specs.declared.entries.Entry.TheVariants as entry
-use Rattle.page_table.specs.declared.Ptw.{Ptw}
 use Rattle.page_table.specs.declared.Ptw.TheVariants as ptw
-use Rattle.flat_model.specs.Legal.{IsLawful, after_entry, MayRelease}
-use Rattle.custody_model.specs.declared.DescriptorUse.{DescriptorUse}
-use Rattle.custody_model.specs.declared.FrameUse.{FrameUse}
 use Rattle.custody_model.specs.declared.FrameUse.TheVariants as frame
-use Rattle.custody_model.specs.Allowed.{NamesAllGoing, NobodyHoldsPage}
-use Rattle.custody_model.specs.Custody.{is_current_frame, is_going_frame, names_frame, page_of, taken as page_taken}
-use Rattle.custody_model.specs.Custody.{given_back}
-use Rattle.custody_model.specs.Effects.{IsInNoFrame}
-use Rattle.custody_model.specs.Fine.{Fine, NoneDue}
-use Rattle.custody_model.specs.Next.{at_put, at_put_two, custody_next}
-use Rattle.custody_model.proofs.FineLaws.{nobody_holds_going_page}
-use Rattle.machine_model.specs.Changes.{taken, gone, released, back}
-use Rattle.machine_model.specs.declared.Aim.{Aim}
-use Rattle.machine_model.specs.Custodial.{KeepsBook, HoldsRight, IsAimed, names, is_pending, waits_for}
-use Rattle.machine_model.specs.Seen.{Seen, flat, shown, frame_use, bound_use, read_use, descriptor_use, cut_uid}
-use Rattle.machine_model.specs.Reads.{frames_of_owner, cut_of_owner}
-use Rattle.machine_model.specs.State.{Owner}
+use Rattle.custody_model.specs.Custody.{taken as page_taken}
 use Rattle.machine_model.proofs.BookNext.{book_apart, book_next}
 use Rattle.machine_model.proofs.DueLaws.{HasLeft, owned_left}
 use Rattle.machine_model.proofs.HeldLaws.{right_frame}
 use Rattle.machine_model.proofs.OwnedLaws.{owned_take}
 use Rattle.machine_model.proofs.Places.{one_place, put_here, put_other, put_two_here}
-use Rattle.machine_model.proofs.TieLaws.{none_some, use_bound, other_use, tied_word, tied_gone}
-use Rattle.machine_model.proofs.TieLaws.{page_used}
+use Rattle.machine_model.proofs.TieLaws.{none_some, use_bound, other_use, tied_word, tied_gone, page_used}
 
 -- the frame that a word names is that of its page, and is used as the word says
 tied_at : (v : Seen) (f u p : ℕ) (w : Ptw) → KeepsBook v → names w ≡ Some f → v.words u p ≡ w

@@ -1,30 +1,13 @@
 -- What the outline of a machine shows of a page: whether it is in a frame, and whether it is stored.
-use Rattle.std.proofs.Common.{◌≡◌, ℕ, Bool, true, false, ◌&&◌, eqb, Some, None, inl, inr, refl}
-use Rattle.std.proofs.Common.{sym, ap, ◌∙◌}
-use Rattle.std.specs.List.{position_or_len}
-use Rattle.std.proofs.lemmas.Bool.Decides.{eqb_tells}
-use Rattle.core_map.specs.CoreMap.{bound_page}
-use Rattle.core_map.specs.declared.Frame.{Frame}
+use Rattle.machine_model.proofs.Prelude.{◌≡◌, ℕ, Bool, true, false, ◌&&◌, eqb, Some, None, inl, inr, refl, sym, ap, ◌∙◌, position_or_len, eqb_tells, bound_page, Frame, store_frame, has_record, word_of, names, seen, Keeps, is_here, is_of, bare, outline_of, is_active, State, not_both, page_is}
 use Rattle.core_map.specs.declared.Frame.TheVariants as frame
-use Rattle.page_control.specs.Plain.{frame_in as store_frame}
-use Rattle.page_control.specs.Tied.{has_record}
-use Rattle.seg_control.specs.Control.{word_of}
-use Rattle.machine_model.specs.Custodial.{names}
 use Rattle.machine_model.specs.Finishing.{page_of}
-use Rattle.machine_model.specs.Holding.{seen}
-use Rattle.machine_model.specs.Keeps.{Keeps}
-use Rattle.machine_model.specs.Measures.{is_here, is_of}
 use Rattle.machine_model.specs.Outline.{frame_in}
-use Rattle.machine_model.specs.Outlined.{bare, outline_of}
-use Rattle.machine_model.specs.Reads.{is_active}
-use Rattle.machine_model.specs.State.{State}
 use Rattle.machine_model.proofs.ActiveSeen.{any_at, some_within}
 use Rattle.machine_model.proofs.OutlineReads.{map_at}
 use Rattle.machine_model.proofs.PageShown.{stored_is}
 use Rattle.machine_model.proofs.TieLaws.{none_some}
 use Rattle.machine_model.proofs.WordLaws.{found}
-use Rattle.laws.proofs.Bools.{not_both}
-use Rattle.laws.proofs.Options.{page_is}
 
 of_page : (u p : ℕ) (x : Frame) → is_of u p x ≡ true → page_of x ≡ Some (u, p)
 of_page u p frame.Free h = absurd (let none : false ≡ true = h in cc)

@@ -1,28 +1,11 @@
 -- What each step of the owner brings: the job goes on with the same command, the command is past, or what it lacked is
 -- there.
-use Rattle.std.proofs.Common.{◌≡◌, ◌≤◌, ◌<◌, ℕ, ◌+◌, Bool, true, false, not, cond, ◌||◌, ◌&&◌, eqb, ◌∷◌, length, Some}
-use Rattle.std.proofs.Common.{None, set, refl, sym, ap, subst, ◌∙◌, inl, inr, le_refl, le_of_eq, arith}
-use Rattle.std.proofs.lemmas.Bool.Decides.{eqb_tells}
-use Rattle.std.proofs.lemmas.List.{get_or-set_same}
+use Rattle.machine_model.proofs.Prelude.{◌≡◌, ◌≤◌, ◌<◌, ℕ, ◌+◌, Bool, true, false, not, cond, ◌||◌, ◌&&◌, eqb, ◌∷◌, length, Some, None, set, refl, sym, ap, subst, ◌∙◌, inl, inr, le_refl, le_of_eq, arith, eqb_tells, get_or-set_same, Transfer, Want, Refer, Truncate, Runner, no_runner, EvictFrame, EmptyPlace, CommitCommand, Stage, Look, Taken, Waiting, Copying, Outline, runner_at, want_at, at_stage, with_entry, with_frame, is_here, page_fits, reads_page, wanted_fits, wanted_link, want_lack, all_rank, lack, offline, over, IsIn, JobStep, activates, connects, takes_segment, takes_frame, takes_for_commit, signals, frees_frame, frees_page, empties, empties_at_once, begins_move, copies, commits_move, HasMoved, gives_up, starts, answers, AreAlike, CanStart, IsWantedPage, IsAnswered, with_link, with_runners, with_stored, without_owner, now_reading, entry_for, IsKept, lack_at, is_at, IsReference, IsSameCommand, IsPast, IsMended, Goes}
 use Rattle.core_map.specs.declared.Frame.TheVariants as frame
-use Rattle.processor.specs.declared.Transfer.{Transfer}
-use Rattle.machine_model.specs.Outline.{Want, Refer, Truncate, Runner, no_runner, EvictFrame}
-use Rattle.machine_model.specs.Outline.{EmptyPlace, CommitCommand, Stage, Look, Taken, Waiting, Copying, Outline}
-use Rattle.machine_model.specs.Outline.{runner_at}
-use Rattle.machine_model.specs.Outline.{want_at, at_stage, with_entry, with_frame}
-use Rattle.machine_model.specs.Measures.{is_here, page_fits, reads_page, wanted_fits, wanted_link, want_lack}
-use Rattle.machine_model.specs.Measures.{all_rank, is_over, lack, offline, over}
-use Rattle.machine_model.specs.Finishing.{IsIn, JobStep, activates, connects, takes_segment, takes_frame}
-use Rattle.machine_model.specs.Finishing.{takes_for_commit, signals, frees_frame, frees_page, empties, empties_at_once}
-use Rattle.machine_model.specs.Finishing.{begins_move, copies, commits_move, HasMoved}
-use Rattle.machine_model.specs.Finishing.{gives_up, starts, answers, AreAlike, CanStart, IsWantedPage, IsAnswered}
-use Rattle.machine_model.specs.Finishing.{with_link, with_runners, with_stored, without_owner, now_reading, entry_for}
-use Rattle.machine_model.specs.OutlineKept.{IsKept}
-use Rattle.machine_model.specs.Looping.{lack_at, is_at, IsReference, IsSameCommand, IsPast, IsMended, Goes}
+use Rattle.machine_model.specs.Measures.{is_over}
 use Rattle.machine_model.proofs.JobLaws.{alike_self}
 use Rattle.machine_model.proofs.LackLaws.{lack_le, freed_fits}
-use Rattle.machine_model.proofs.OuterLaws.{over_set, offline_set, over_same, over_like, offline_like, all_le}
-use Rattle.machine_model.proofs.OuterLaws.{all_fewer}
+use Rattle.machine_model.proofs.OuterLaws.{over_set, offline_set, over_same, over_like, offline_like, all_le, all_fewer}
 
 -- ---- the same command
 

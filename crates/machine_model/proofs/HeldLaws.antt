@@ -1,20 +1,7 @@
 -- What processors hold agrees with frames and descriptors, where an entry is filled in or dropped, and where a frame or
 -- a descriptor that nobody holds is used otherwise.
-use Rattle.std.proofs.Common.{◌≡◌, ◌≢◌, ℕ, suc, ◌+◌, ◌≤◌, Bool, true, false, cond, eqb, leb, List, [], ◌∷◌, ◌++◌}
-use Rattle.std.proofs.Common.{map, filter, length, drop, Option, Some, None, inl, inr, refl, sym, ap, subst, ◌∙◌, arith}
-use Rattle.std.proofs.lemmas.Bool.Decides.{eqb_tells, nat_tests}
-use Rattle.assoc_mem.specs.declared.HeldPage.{HeldPage}
-use Rattle.assoc_mem.specs.declared.HeldSeg.{HeldSeg}
-use Rattle.assoc_mem.specs.declared.What.{What}
-use Rattle.assoc_mem.specs.Held.{Held, filled}
-use Rattle.custody_model.specs.declared.DescriptorUse.{DescriptorUse}
-use Rattle.custody_model.specs.Custody.{has, leads_to}
-use Rattle.custody_model.specs.Custody.{filled as filled_in}
-use Rattle.custody_model.specs.Next.{at_put, at_put_two}
-use Rattle.machine_model.specs.Custodial.{AreHeldPages, AreHeldSegs, AreOfProcess, HoldsRight, AreUnderWay}
-use Rattle.machine_model.specs.declared.Processor.{Processor}
+use Rattle.machine_model.proofs.Prelude.{◌≡◌, ◌≢◌, ℕ, suc, ◌+◌, ◌≤◌, Bool, true, false, cond, eqb, leb, List, [], ◌∷◌, ◌++◌, map, filter, length, drop, Option, Some, None, inl, inr, refl, sym, ap, subst, ◌∙◌, arith, eqb_tells, nat_tests, HeldPage, HeldSeg, What, Held, filled, DescriptorUse, has, leads_to, filled_in, at_put, at_put_two, AreHeldPages, AreHeldSegs, AreOfProcess, HoldsRight, AreUnderWay, Processor, or_parts}
 use Rattle.machine_model.proofs.Places.{by_place, by_places}
-use Rattle.std.proofs.lemmas.Bool.{or_parts}
 
 -- ---- a fill
 

@@ -1,33 +1,14 @@
 -- A processor without a process holds nothing, and after each action of a step too.
-use Rattle.std.proofs.Common.{◌≡◌, ◌≢◌, ◌<◌, ℕ, ◌+◌, Bool, true, false, cond, eqb, set, length, List, Option, Some}
-use Rattle.std.proofs.Common.{None, ◌⊎◌, inl, inr, refl, sym, ap, subst, ◌∙◌}
-use Rattle.std.proofs.lemmas.Bool.Decides.{eqb_tells}
-use Rattle.std.proofs.lemmas.List.{get_or-set_other, get_or-set_same, length-set}
-use Rattle.assoc_mem.specs.declared.What.{What}
+use Rattle.machine_model.proofs.Prelude.{◌≡◌, ◌≢◌, ◌<◌, ℕ, ◌+◌, Bool, true, false, cond, eqb, set, length, List, Option, Some, None, ◌⊎◌, inl, inr, refl, sym, ap, subst, ◌∙◌, eqb_tells, get_or-set_other, get_or-set_same, length-set, What, Held, nothing_held, Command, Processor, Outcome, after, committed_at, emptied, eviction_begun, eviction_done, page_done, told_from, victim_taken, with_choice, with_hand_moved, write_failed, copy_failed, page_copied, cpu_at, frames_from, next_command, no_processor, process_at, processor_at, trailers_in, AreIdle, State, frame_lost, transfer_failed, transferred, with_faults, with_store}
 use Rattle.assoc_mem.specs.declared.What.TheVariants as what
-use Rattle.assoc_mem.specs.Held.{Held, cleared, nothing_held}
-use Rattle.script.specs.declared.commands.Command.{Command}
+use Rattle.assoc_mem.specs.Held.{cleared}
 use Rattle.script.specs.declared.commands.Command.TheVariants as command
 use Rattle.machine_model.specs.declared.Aim.TheVariants as aim
-use Rattle.machine_model.specs.declared.Processor.{Processor}
 use Rattle.machine_model.specs.Actions as act
-use Rattle.machine_model.specs.After.{Outcome, after}
-use Rattle.machine_model.specs.Commits.{committed_at}
-use Rattle.machine_model.specs.Jobs.{emptied, eviction_begun, eviction_done, page_done, told_at}
-use Rattle.machine_model.specs.Jobs.{told_from, victim_taken, with_choice, with_hand_moved, write_failed}
-use Rattle.machine_model.specs.Moves.{copy_failed, page_copied}
-use Rattle.machine_model.specs.Reads.{cpu_at, frames_from, next_command, no_processor}
-use Rattle.machine_model.specs.Reads.{process_at, processor_at, trailers_in}
-use Rattle.machine_model.specs.Visits.{AreIdle}
-use Rattle.machine_model.specs.State.{State}
-use Rattle.machine_model.specs.Steps.{frame_lost, transfer_failed, transferred, with_faults, with_store}
-use Rattle.machine_model.proofs.EntitledKept.{all_taken, evicted, hand, is_emptied, on}
-use Rattle.machine_model.proofs.EntitledKept.{SameNames, one_taken, page_left, segment}
-use Rattle.machine_model.proofs.LeaveSeen.{told_reads}
+use Rattle.machine_model.specs.Jobs.{told_at}
+use Rattle.machine_model.proofs.EntitledKept.{all_taken, evicted, hand, is_emptied, on, SameNames, one_taken, page_left, segment, all_back, failed_names, names_stay}
+use Rattle.machine_model.proofs.LeaveSeen.{told_reads, told_has, told_process}
 use Rattle.machine_model.proofs.TieLaws.{none_some}
-use Rattle.machine_model.proofs.LeaveSeen.{told_has, told_process}
-use Rattle.machine_model.proofs.EntitledKept.{all_back, failed_names}
-use Rattle.machine_model.proofs.EntitledKept.{names_stay}
 
 -- ---- one processor is another
 

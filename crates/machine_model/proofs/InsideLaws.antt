@@ -1,31 +1,8 @@
 -- What the flat store answers a reference that isn't refused before its page is looked at.
-use Rattle.std.proofs.Common.{◌≡◌, ◌<◌, ℕ, ◌*◌, Bool, true, false, not, ◌&&◌, cond, eqb, Option, Some, None}
-use Rattle.std.proofs.Common.{inl, inr, refl, sym, ap, subst, ◌∙◌, arith, is_some}
-use Rattle.std.specs.Prelude.{◌/◌, nat_le}
-use Rattle.std.proofs.lemmas.Bool.Decides.{leb_tells}
-use Rattle.script.specs.Plans.{who_of}
-use Rattle.script.specs.declared.commands.Command.{Command}
-use Rattle.script.specs.declared.commands.Reference.{Reference}
-use Rattle.book.specs.declared.replies.Reply.{Reply}
+use Rattle.machine_model.proofs.Prelude.{◌≡◌, ◌<◌, ℕ, ◌*◌, Bool, true, false, not, ◌&&◌, cond, eqb, Option, Some, None, inl, inr, refl, sym, ap, subst, ◌∙◌, arith, is_some, ◌/◌, nat_le, leb_tells, who_of, Command, Reference, Reply, access_of, Node, node_in, is_held_back, is_held_in, is_stored, alters, new_word, permits, reference_of, is_used_up, is_out_of_room, reply_at, reply_to_reference, room_reply, stores_page, word_reply, is_volume_full, room_for, Store, known_uid, Keeps, flat_of, is_of_room, is_outside, only, outside_refusal, room_refusal, uid_of_number, move_to, State, held_by, held_in, held_of, held_parts, volume_found, found_uid}
 use Rattle.book.specs.declared.replies.Reply.TheVariants as reply
-use Rattle.tree_model.specs.Access.{access_of}
-use Rattle.tree_model.specs.Tree.{Node, node_in}
-use Rattle.flat_model.specs.Moves.{is_held_back, is_held_in}
-use Rattle.flat_model.specs.Pages.{is_stored}
-use Rattle.script.specs.References.{alters, new_word, permits, reference_of}
-use Rattle.flat_model.specs.References.{is_used_up, is_out_of_room, reply_at, reply_of}
-use Rattle.flat_model.specs.References.{reply_to_reference, room_reply, stores_page, word_reply, is_volume_full}
-use Rattle.flat_model.specs.Rooms.{room_for}
-use Rattle.flat_model.specs.Store.{Store, known_uid}
-use Rattle.machine_model.specs.Keeps.{Keeps}
-use Rattle.machine_model.specs.Reads.{flat_of}
-use Rattle.machine_model.specs.Refusal.{is_of_room, is_outside, only, outside_refusal, room_refusal, uid_of_number}
-use Rattle.machine_model.specs.Refusal.{move_to}
-use Rattle.machine_model.specs.State.{State}
+use Rattle.flat_model.specs.References.{reply_of}
 use Rattle.machine_model.proofs.LookFacts.{IsInside}
-use Rattle.flat_model.proofs.HeldLaws.{held_by, held_in, held_of, held_parts}
-use Rattle.flat_model.proofs.NodeLaws.{volume_found}
-use Rattle.tree_model.proofs.SharedLaws.{found_uid}
 
 module _ (s : State) (k : ℕ) (r : Reference) (keeps : Keeps s) where
   abbrev t : Store

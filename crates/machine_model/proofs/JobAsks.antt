@@ -1,53 +1,17 @@
 -- What the owner's job asks where a write fails, and where a segment becomes inactive, follows from what it rests on.
-use Rattle.std.proofs.Common.{◌≡◌, ◌<◌, ℕ, Bool, true, false, ◌&&◌, List, [], ◌∷◌, ◌++◌, length, Option, Some}
-use Rattle.std.proofs.Common.{None, inl, inr, refl, sym, ap, subst, ◌∙◌}
-use Rattle.std.proofs.lemmas.List.{get_or-set_same}
-use Rattle.script.specs.References.{reference_of}
-use Rattle.script.specs.declared.commands.Command.{Command}
-use Rattle.script.specs.declared.commands.Reference.{Reference}
+use Rattle.machine_model.proofs.Prelude.{◌≡◌, ◌<◌, ℕ, Bool, true, false, ◌&&◌, List, [], ◌∷◌, ◌++◌, length, Option, Some, None, inl, inr, refl, sym, ap, subst, ◌∙◌, get_or-set_same, reference_of, Command, Reference, reply_to_command, takes_effect, after_entry, after_fault, may_fail, store_after, Progress, Store, progress_of, store_after-push, MayAnswerBy, Outcome, IsRun, seen, pages_back, write_failed, IsFaithful, Keeps, StoreSays, copy_failed, cpu_at, cut_of_owner, flat_of, frames_of_owner, next_command, process_at, processor_at, or_zero, run_at, shown, State, fault_told, with_owner, MayFailBy, Processor, length-set, Rose, Cpu, Transfer, frame_lost, transfer_failed, no_processor, Run, HasTurn, is_its_end, going_within}
 use Rattle.book.specs.declared.entries.Entry.TheVariants as entry
 use Rattle.book.specs.declared.replies.Reply.TheVariants as reply
-use Rattle.flat_model.specs.Commands.{reply_to_command, takes_effect}
-use Rattle.flat_model.specs.Legal.{after_entry, after_fault, may_fail, store_after}
-use Rattle.flat_model.specs.Store.{Progress, Store, progress_of}
-use Rattle.flat_model.proofs.BookLaws.{store_after-push}
-use Rattle.custody_model.specs.Allowed.{MayAnswer as MayAnswerBy}
-use Rattle.machine_model.specs.After.{Outcome}
-use Rattle.machine_model.specs.Custodial.{IsRun}
-use Rattle.machine_model.specs.Holding.{seen}
-use Rattle.machine_model.specs.Jobs.{pages_back, write_failed}
-use Rattle.machine_model.specs.Keeps.{IsFaithful, Keeps, StoreSays}
-use Rattle.machine_model.specs.Moves.{copy_failed}
-use Rattle.machine_model.specs.Reads.{cpu_at, cut_of_owner, flat_of, frames_of_owner, next_command, process_at}
-use Rattle.machine_model.specs.Reads.{processor_at}
-use Rattle.machine_model.specs.Reads.{or_zero, run_at}
-use Rattle.machine_model.specs.Seen.{shown}
-use Rattle.machine_model.specs.State.{State}
-use Rattle.machine_model.specs.Steps.{fault_told, with_owner}
-use Rattle.machine_model.specs.Working.{MayFailBy}
-use Rattle.machine_model.specs.declared.Processor.{Processor}
-use Rattle.std.proofs.lemmas.List.{length-set}
-use Rattle.site_io.specs.Faults.{Rose}
-use Rattle.processor.specs.declared.Cpu.{Cpu}
-use Rattle.processor.specs.declared.Transfer.{Transfer}
-use Rattle.machine_model.specs.Steps.{frame_lost, transfer_failed}
-use Rattle.machine_model.specs.Reads.{cpu_at, no_processor}
-use Rattle.machine_model.proofs.FlatAlike.{one_still}
+use Rattle.machine_model.proofs.FlatAlike.{one_still, IsAlike, alike_shown, fault_alike}
 use Rattle.machine_model.proofs.MovingKept.{copy_failing}
-use Rattle.machine_model.proofs.StepKept.{CanLose}
-use Rattle.machine_model.specs.declared.Run.{Run}
+use Rattle.machine_model.proofs.StepKept.{CanLose, CanFailWrite, CanFailCopy}
 use Rattle.machine_model.proofs.BackKept.{all_back}
 use Rattle.machine_model.proofs.FailLaws.{fails_more, may_fail_is}
-use Rattle.machine_model.proofs.FlatAlike.{IsAlike, alike_shown, fault_alike}
-use Rattle.machine_model.specs.Scheduled.{HasTurn}
-use Rattle.machine_model.specs.Steps.{is_its_end}
 use Rattle.machine_model.proofs.RunLaws.{runs_failed}
 use Rattle.machine_model.proofs.SaysLaws.{back_on, pages_are_back, segs_are_back}
 use Rattle.machine_model.proofs.ScheduleKept.{IsAnswering, Sits, all_pages_back, all_segs_back, sits_on, still}
 use Rattle.machine_model.proofs.SpeakLaws.{Speaks, can_tell}
-use Rattle.machine_model.proofs.StepKept.{CanFailWrite, CanFailCopy}
 use Rattle.machine_model.proofs.TellKept.{CanTell}
-use Rattle.flat_model.proofs.SharedLaws.{going_within}
 
 -- ---- a failure is told
 

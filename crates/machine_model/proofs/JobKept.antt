@@ -1,37 +1,13 @@
 -- The machine keeps its promise through the phases of a job: a page is evicted, a segment's pages and descriptors are
 -- taken, the signal is given, and what was taken goes, or comes back where a drive failed.
-use Rattle.std.proofs.Common.{◌≡◌, ℕ, zero, suc, ◌+◌, Bool, true, false, cond, eqb, List, [], ◌∷◌, ◌++◌, map, length}
-use Rattle.std.proofs.Common.{set, Option, Some, None, inl, inr, refl, sym, ap, subst, ◌∙◌, arith}
-use Rattle.std.proofs.lemmas.Bool.Decides.{eqb_tells}
-use Rattle.assoc_mem.specs.declared.What.{What}
+use Rattle.machine_model.proofs.Prelude.{◌≡◌, ℕ, suc, ◌+◌, Bool, true, false, cond, eqb, List, [], ◌∷◌, ◌++◌, map, length, set, Option, Some, None, inl, inr, refl, sym, ap, subst, ◌∙◌, arith, eqb_tells, What, Plan, after_entry, store_after, Store, Frame, is_idle, passed_over, round_frames, unmarked, bound_page, started_page, binding_at, read_at, Aim, Phase, dropped, told_at, FitsPhase, IsShaped, KeepsBook, is_pending, is_pending_in, says, says_in, waits_in, seen, eviction_begun, owner_signalled, phase_signalled, signalled, told_from, with_choice, AreThere, HadRights, IsAtWork, IsConserved, IsFaithful, Keeps, StoreSays, cut_of_owner, frames_of_owner, processor_at, Seen, shown, Processor, Owner, State, with_store, map_kept}
 use Rattle.assoc_mem.specs.declared.What.TheVariants as what
 use Rattle.book.specs.declared.entries.Entry.TheVariants as entry
-use Rattle.script.specs.Plans.{Plan}
-use Rattle.flat_model.specs.Legal.{after_entry, store_after}
-use Rattle.flat_model.specs.Store.{Store}
 use Rattle.page_table.specs.declared.Ptw.TheVariants as ptw
-use Rattle.core_map.specs.declared.Frame.{Frame}
 use Rattle.core_map.specs.declared.Frame.TheVariants as frame
-use Rattle.core_map.specs.Clock.{frame_in, is_idle, passed_over, round_frames, unmarked}
-use Rattle.core_map.specs.CoreMap.{bound_page, started_page}
-use Rattle.page_control.specs.Plain.{binding_at}
-use Rattle.seg_control.specs.Kept.{read_at}
-use Rattle.machine_model.specs.declared.Aim.{Aim}
+use Rattle.core_map.specs.Clock.{frame_in}
 use Rattle.machine_model.specs.declared.Aim.TheVariants as aim
-use Rattle.machine_model.specs.declared.Phase.{Phase}
 use Rattle.machine_model.specs.declared.Phase.TheVariants as phase
-use Rattle.machine_model.specs.Changes.{dropped, told_at}
-use Rattle.machine_model.specs.Custodial.{FitsPhase, IsShaped, KeepsBook, is_pending, is_pending_in, says, says_in}
-use Rattle.machine_model.specs.Custodial.{waits_in}
-use Rattle.machine_model.specs.Holding.{seen}
-use Rattle.machine_model.specs.Jobs.{eviction_begun, owner_signalled, phase_signalled, signalled, told_from}
-use Rattle.machine_model.specs.Jobs.{with_choice}
-use Rattle.machine_model.specs.Keeps.{AreThere, HadRights, IsAtWork, IsConserved, IsFaithful, Keeps, StoreSays}
-use Rattle.machine_model.specs.Reads.{cut_of_owner, frames_of_owner, processor_at}
-use Rattle.machine_model.specs.Seen.{Seen, shown}
-use Rattle.machine_model.specs.declared.Processor.{Processor}
-use Rattle.machine_model.specs.State.{Owner, State}
-use Rattle.machine_model.specs.Steps.{with_store}
 use Rattle.machine_model.proofs.ClearLaws.{signal_keeps}
 use Rattle.machine_model.proofs.DueLaws.{HasSaid}
 use Rattle.machine_model.proofs.FrameLaws.{take_keeps}
@@ -41,7 +17,6 @@ use Rattle.machine_model.proofs.OwnedLaws.{IsIdle}
 use Rattle.machine_model.proofs.OwnerLaws.{bound_here, idle_names}
 use Rattle.machine_model.proofs.TakeSeen.{take_one_seen}
 use Rattle.machine_model.proofs.TransferKept.{kept_with, quiet_faults}
-use Rattle.laws.proofs.Places.{map_kept}
 
 -- ---- the clock
 

@@ -1,25 +1,9 @@
 -- Each step of the owner makes the measure of its job fall.
-use Rattle.std.proofs.Common.{◌≡◌, ◌≤◌, ◌<◌, ℕ, ◌+◌, Bool, true, false, cond, List, [], ◌∷◌, length, Option, None, set}
-use Rattle.std.proofs.Common.{◌&&◌}
-use Rattle.std.proofs.Common.{refl, ap, le_refl, le_of_eq, arith}
-use Rattle.std.proofs.lemmas.List.{get_or-set_same}
-use Rattle.core_map.specs.declared.Frame.{Frame}
+use Rattle.machine_model.proofs.Prelude.{◌≡◌, ◌≤◌, ◌<◌, ℕ, ◌+◌, Bool, true, false, cond, List, [], ◌∷◌, length, Option, None, set, ◌&&◌, refl, ap, le_refl, le_of_eq, arith, get_or-set_same, Frame, Want, Refer, Truncate, Length, Other, Runner, no_runner, Work, EvictFrame, EmptyPlace, CommitCommand, Stage, Look, Taken, Waiting, Copying, Keeper, Outline, runner_at, want_at, at_stage, IsSmall, idle_links, off_links, readers, has_free, frame_lack, room_lack, work_left, stage_left, rank_of, job_left, job_rank, IsIn, JobStep, activates, connects, takes_segment, takes_frame, takes_for_commit, signals, frees_frame, frees_page, empties, empties_at_once, begins_move, copies, commits_move, HasMoved, gives_up, starts, answers, AreAlike, with_link, with_runners, IsKept, FitsStage, FitsWork}
 use Rattle.core_map.specs.declared.Frame.TheVariants as frame
 use Rattle.active_segs.specs.declared.Entry.{Entry}
-use Rattle.machine_model.specs.Outline.{Want, Refer, Truncate, Length, Other, Runner, no_runner, Work, EvictFrame}
-use Rattle.machine_model.specs.Outline.{EmptyPlace, CommitCommand, Stage, Look, Taken, Waiting, Copying, Keeper}
-use Rattle.machine_model.specs.Outline.{Outline}
-use Rattle.machine_model.specs.Outline.{runner_at, want_at, at_stage}
-use Rattle.machine_model.specs.Measures.{IsSmall, chain_of, idle_links, off_links, readers, has_free, unlinked}
-use Rattle.machine_model.specs.Measures.{frame_lack, room_lack, work_left, stage_left, parts_of, rank_of, job_left}
-use Rattle.machine_model.specs.Measures.{job_rank}
-use Rattle.machine_model.specs.Finishing.{IsIn, JobStep, activates, connects, takes_segment, takes_frame}
-use Rattle.machine_model.specs.Finishing.{takes_for_commit, signals, frees_frame, frees_page, empties, empties_at_once}
-use Rattle.machine_model.specs.Finishing.{begins_move, copies, commits_move, HasMoved}
-use Rattle.machine_model.specs.Finishing.{gives_up, starts, answers, AreAlike, with_link, with_runners}
-use Rattle.machine_model.specs.OutlineKept.{IsKept, FitsStage, FitsWork}
-use Rattle.machine_model.proofs.CountLaws.{activation_falls, emptying_off, emptying_idle, freed_is_free, readers_like}
-use Rattle.machine_model.proofs.CountLaws.{readers_set, dues_few, idle_few, off_few}
+use Rattle.machine_model.specs.Measures.{chain_of, unlinked, parts_of}
+use Rattle.machine_model.proofs.CountLaws.{activation_falls, emptying_off, emptying_idle, freed_is_free, readers_like, readers_set, dues_few, idle_few, off_few}
 use Rattle.machine_model.proofs.RankLaws.{falls_idle, falls_off, falls_link, falls_room, falls_frame, falls_stage}
 
 -- the measure of a job by its owner and stage

@@ -1,42 +1,14 @@
 -- What a command's job has taken stays just what it takes, entry by entry, while the others go on.
-use Rattle.std.proofs.Common.{◌≡◌, ℕ, true, false, List, [], ◌∷◌, ◌++◌, Option, Some, None, refl, sym, ap, subst, ◌∙◌}
-use Rattle.script.specs.Plans.{Plan}
-use Rattle.script.specs.declared.commands.Command.{Command}
+use Rattle.machine_model.proofs.Prelude.{◌≡◌, ℕ, true, false, List, [], ◌∷◌, ◌++◌, Option, Some, None, refl, sym, ap, subst, ◌∙◌, Plan, Command, Entry, Node, node_at, store_after, Store, uid_of, kst_at, DescriptorUse, FrameUse, custody_after, Custody, is_going_descriptor, is_going_frame, leads_to, page_of, custody_next, custody_after-push, Aim, Phase, holding, Keeps, or_zero, refusal_of, uid_of_command, uid_of_node, State, Storage, GoesJust, IsAlone, IsTakenBy, IsTakenFor, TakenIn, TakenTo, TakesDescriptor, TakesPage, WasBrought, FailsBy, FailsIn, TakesSome, is_active, ◌/◌, append-nil, append_assoc, page_is}
 use Rattle.script.specs.declared.commands.Command.TheVariants as command
-use Rattle.book.specs.declared.entries.Entry.{Entry}
 use Rattle.book.specs.declared.entries.Entry.TheVariants as entry
-use Rattle.tree_model.specs.Tree.{Node}
-use Rattle.flat_model.specs.Branches.{node_at}
-use Rattle.flat_model.specs.Legal.{store_after}
-use Rattle.flat_model.specs.Store.{Store}
-use Rattle.known_segs.specs.Known.{uid_of}
-use Rattle.seg_control.specs.Control.{kst_at}
-use Rattle.custody_model.specs.declared.DescriptorUse.{DescriptorUse}
-use Rattle.custody_model.specs.declared.FrameUse.{FrameUse}
 use Rattle.custody_model.specs.declared.FrameUse.TheVariants as frame
-use Rattle.custody_model.specs.Clean.{custody_after}
-use Rattle.custody_model.specs.Custody.{Custody, is_going_descriptor, is_going_frame, leads_to, page_of}
-use Rattle.custody_model.specs.Next.{custody_next, with_frame}
-use Rattle.custody_model.proofs.CleanLaws.{custody_after-push}
-use Rattle.machine_model.specs.declared.Aim.{Aim}
+use Rattle.custody_model.specs.Next.{with_frame}
 use Rattle.machine_model.specs.declared.Aim.TheVariants as aim
-use Rattle.machine_model.specs.declared.Phase.{Phase}
 use Rattle.machine_model.specs.declared.Phase.TheVariants as phase
-use Rattle.machine_model.specs.Holding.{holding}
-use Rattle.machine_model.specs.Keeps.{Keeps}
-use Rattle.machine_model.specs.Reads.{or_zero}
-use Rattle.machine_model.specs.Refusal.{refusal_of, uid_of_command, uid_of_node}
-use Rattle.machine_model.specs.State.{State, Storage}
-use Rattle.machine_model.specs.Taking.{GoesJust, IsAlone, IsTakenBy, IsTakenFor, TakenIn, TakenTo, TakesDescriptor}
-use Rattle.machine_model.specs.Taking.{TakesPage, WasBrought}
-use Rattle.machine_model.specs.Working.{FailsBy, FailsIn, TakesSome}
 use Rattle.machine_model.proofs.OutLaws.{NoneOut}
-use Rattle.machine_model.specs.Reads.{is_active}
-use Rattle.std.specs.Prelude.{◌/◌}
 use Rattle.machine_model.proofs.Places.{by_place}
 use Rattle.machine_model.proofs.TieLaws.{none_some}
-use Rattle.std.proofs.lemmas.List.{append-nil, append_assoc}
-use Rattle.laws.proofs.Options.{page_is}
 
 -- an entry takes nothing, lets nothing go, and brings no page that is taken
 abbrev pub Stays : (ℕ → ℕ → Type 0) → Entry → Type 0

@@ -1,73 +1,29 @@
 -- A look takes for a tree command just what the command takes.
-use Rattle.std.proofs.Common.{◌≡◌, ◌≢◌, ◌<◌, ◌≤◌, ℕ, zero, suc, ◌+◌, ◌-◌, ◌/◌, Bool, true, false, ◌||◌, cond, eqb}
-use Rattle.std.proofs.Common.{List, [], ◌∷◌, ◌++◌, map, length, drop, get_or, Option, Some, None, ◌⊎◌, inl, inr, refl}
-use Rattle.std.proofs.Common.{sym}
-use Rattle.std.proofs.Common.{ap, subst, ◌∙◌, arith}
-use Rattle.std.specs.Prelude.{nat_le}
-use Rattle.std.specs.List.{filter, list_any, range_with_len}
-use Rattle.std.proofs.lemmas.Bool.Decides.{eqb_tells, leb_tells}
-use Rattle.std.proofs.lemmas.List.Folds.{list_any-append}
-use Rattle.script.specs.declared.commands.Command.{Command}
+use Rattle.machine_model.proofs.Prelude.{◌≡◌, ◌≢◌, ◌<◌, ◌≤◌, ℕ, zero, suc, ◌+◌, ◌-◌, ◌/◌, Bool, true, false, ◌||◌, cond, eqb, List, [], ◌∷◌, ◌++◌, map, length, drop, get_or, Option, Some, None, ◌⊎◌, inl, inr, refl, sym, ap, subst, ◌∙◌, arith, nat_le, filter, list_any, range_with_len, eqb_tells, leb_tells, list_any-append, Command, AccountMaps, is_inferior, What, Ptw, Sdw, Core, frame_at, reads_of, started_page, Plain, binding_at, bindings, is_for, sdws_at, table_of, read_at, has, is_going_descriptor, is_going_frame, leads_to, page_of, Aim, CutDescriptor, descriptors_taken, first_taken, frame_read_from, frames_taken, KeepsBook, has_cut, names, led_to, seen, cut_all, cut_one, note_of, take_all, take_one, took, Keeps, cut_of_owner, descriptor_of, frame_reading, frames_from, frames_of_owner, is_active, is_connected, is_page_of, trailers_in, refusal_of, uid_of_command, bound_use, cut_uid, descriptor_use, frame_use, is_cut_at, shown, State, GoesJust, IsAlone, IsTakenFor, TakesDescriptor, TakesPage, WasBrought, Segment, not_both, or_cases, none_has, eqb_self, page_is, some_same}
 use Rattle.script.specs.declared.commands.Command.TheVariants as command
-use Rattle.accounts.specs.Maps.{AccountMaps}
-use Rattle.tree_model.specs.Tree.{is_inferior}
-use Rattle.assoc_mem.specs.declared.What.{What}
 use Rattle.assoc_mem.specs.declared.What.TheVariants as what
-use Rattle.page_table.specs.declared.Ptw.{Ptw}
 use Rattle.page_table.specs.declared.Ptw.TheVariants as ptw
-use Rattle.descriptor_seg.specs.declared.Sdw.{Sdw}
 use Rattle.descriptor_seg.specs.declared.Sdw.TheVariants as sdw
-use Rattle.core_map.specs.CoreMap.{Core, frame_at, reads_of, started_page}
 use Rattle.core_map.specs.declared.Frame.TheVariants as frame
-use Rattle.page_control.specs.Plain.{Plain, binding_at, bindings}
-use Rattle.seg_control.specs.Control.{is_for, sdws_at, table_of}
-use Rattle.seg_control.specs.Kept.{read_at}
-use Rattle.custody_model.specs.Custody.{has, is_going_descriptor, is_going_frame, leads_to, page_of}
-use Rattle.machine_model.specs.declared.Aim.{Aim}
 use Rattle.machine_model.specs.declared.Aim.TheVariants as aim
-use Rattle.machine_model.specs.declared.CutDescriptor.{CutDescriptor}
-use Rattle.machine_model.specs.Actions.{descriptors_taken, first_taken, frame_read_from, frames_taken}
-use Rattle.machine_model.specs.Custodial.{KeepsBook, has_cut, names}
-use Rattle.machine_model.specs.Holding.{led_to, seen}
-use Rattle.machine_model.specs.Jobs.{cut_all, cut_one, note_of, take_all, take_one, took}
-use Rattle.machine_model.specs.Keeps.{Keeps}
-use Rattle.machine_model.specs.Reads.{cut_of_owner, descriptor_of, frame_reading, frames_from, frames_of_owner}
-use Rattle.machine_model.specs.Reads.{is_active, is_connected, is_page_of, trailers_in}
-use Rattle.machine_model.specs.Refusal.{refusal_of, uid_of_command}
-use Rattle.machine_model.specs.Seen.{bound_use, cut_uid, descriptor_use, frame_use, is_cut_at, shown}
-use Rattle.machine_model.specs.State.{State}
-use Rattle.machine_model.specs.Taking.{GoesJust, IsAlone, IsTakenFor, TakesDescriptor, TakesPage}
-use Rattle.machine_model.specs.Taking.{WasBrought}
-use Rattle.active_segs.specs.declared.Entry.{Entry as Segment}
 use Rattle.machine_model.proofs.ChainFacts.{chain_active}
-use Rattle.machine_model.proofs.JustLaws.{brought_on}
-use Rattle.machine_model.proofs.LookFacts.{IsBrought}
+use Rattle.machine_model.proofs.JustLaws.{brought_on, same_uid}
+use Rattle.machine_model.proofs.LookFacts.{IsBrought, FindsTaken}
 use Rattle.machine_model.proofs.OutLaws.{took_out}
 use Rattle.machine_model.proofs.ChainLaws.{names_uid}
 use Rattle.machine_model.proofs.CommandFacts.{delete_stands}
 use Rattle.machine_model.proofs.FindLaws.{position_none}
-use Rattle.machine_model.proofs.JustLaws.{same_uid}
 use Rattle.machine_model.proofs.ListLaws.{map_list}
-use Rattle.machine_model.proofs.LookFacts.{FindsTaken}
 use Rattle.machine_model.proofs.OutlineTake.{LooksLike, took_like}
 use Rattle.machine_model.proofs.OwnedLaws.{IsIdle, cut_at_tells}
 use Rattle.machine_model.proofs.StandLaws.{took_stands}
 use Rattle.machine_model.proofs.TakeLists.{dropped_word, frame_word, trailers_taken}
 use Rattle.machine_model.proofs.TakeSeen.{linked_within}
-use Rattle.machine_model.proofs.TakeWhole.{cut_pages, frame_listed, note_at, take_rest}
-use Rattle.machine_model.proofs.TakeWhole.{trailer_listed}
-use Rattle.machine_model.proofs.TieLaws.{none_some}
-use Rattle.machine_model.proofs.TookKept.{ArePairs, CanTook, has_pair, is_pair, linked_before, noted, noted_has}
-use Rattle.machine_model.proofs.TookKept.{pairs_left, took_keeps}
+use Rattle.machine_model.proofs.TakeWhole.{cut_pages, frame_listed, note_at, take_rest, trailer_listed, take_linked, took_linked, cut_frames}
+use Rattle.machine_model.proofs.TieLaws.{none_some, page_used}
+use Rattle.machine_model.proofs.TookKept.{ArePairs, CanTook, has_pair, is_pair, linked_before, noted, noted_has, pairs_left, took_keeps}
 use Rattle.machine_model.proofs.TransferKept.{active_at}
-use Rattle.machine_model.proofs.TakeWhole.{take_linked, took_linked}
-use Rattle.machine_model.proofs.TakeWhole.{cut_frames}
 use Rattle.machine_model.proofs.NumberLaws.{take_cut}
-use Rattle.machine_model.proofs.TieLaws.{page_used}
-use Rattle.laws.proofs.Bools.{not_both, or_cases}
-use Rattle.custody_model.proofs.FineLaws.{none_has}
-use Rattle.laws.proofs.Numbers.{eqb_self}
-use Rattle.laws.proofs.Options.{page_is, some_same}
 
 or_moved : (a b c : Bool) → ((a || (b || false)) || c) ≡ (a || (b || c))
 or_moved true b c = refl

@@ -1,33 +1,11 @@
 -- The machine keeps its promise where its store is as it was.
-use Rattle.std.proofs.Common.{◌≡◌, ◌≢◌, ◌<◌, ℕ, ◌+◌, Bool, true, false, cond, count_by, List, [], ◌∷◌, ◌++◌, drop}
-use Rattle.std.proofs.Common.{length, set, Some, None, refl, sym, ap, subst, ◌∙◌, arith}
-use Rattle.std.proofs.lemmas.List.{length-set, get_or-set_other}
-use Rattle.std.proofs.lemmas.List.Sums.{sum_by-cons}
-use Rattle.script.specs.Plans.{Plan}
-use Rattle.assoc_mem.specs.declared.HeldPage.{HeldPage}
-use Rattle.assoc_mem.specs.declared.HeldSeg.{HeldSeg}
-use Rattle.assoc_mem.specs.declared.What.{What}
-use Rattle.book.specs.declared.entries.Entry.{Entry}
+use Rattle.machine_model.proofs.Prelude.{◌≡◌, ◌≢◌, ◌<◌, ℕ, ◌+◌, Bool, true, false, cond, count_by, List, [], ◌∷◌, ◌++◌, drop, length, set, Some, None, refl, sym, ap, subst, ◌∙◌, arith, length-set, get_or-set_other, sum_by-cons, Plan, HeldPage, HeldSeg, What, Entry, after_entry, store_after, Store, store_after-push, MayLeave, IsFront, reseated, taking_part, running, with_held_seg, with_held_page, done_dropping, KeepsBook, seen, Keeps, IsAtWork, IsConserved, IsFaithful, is_fault, flat_of, no_processor, processor_at, shown, Processor, Owner, State, add-zero}
 use Rattle.book.specs.declared.entries.Entry.TheVariants as entry
-use Rattle.flat_model.specs.Legal.{after_entry, store_after}
-use Rattle.flat_model.specs.Store.{Store}
-use Rattle.flat_model.proofs.BookLaws.{store_after-push}
-use Rattle.custody_model.specs.Allowed.{MayLeave, IsFront}
 use Rattle.custody_model.specs.Next.{queued}
-use Rattle.machine_model.specs.Changes.{reseated, taking_part, running, emptied, with_held_seg, with_held_page}
-use Rattle.machine_model.specs.Changes.{done_dropping}
-use Rattle.machine_model.specs.Custodial.{KeepsBook}
-use Rattle.machine_model.specs.Holding.{seen}
-use Rattle.machine_model.specs.Keeps.{Keeps, IsAtWork, IsConserved, IsFaithful, is_fault}
-use Rattle.machine_model.specs.Reads.{flat_of, no_processor, processor_at}
-use Rattle.machine_model.specs.Seen.{shown}
-use Rattle.machine_model.specs.declared.Processor.{Processor}
-use Rattle.machine_model.specs.State.{Owner, State}
+use Rattle.machine_model.specs.Changes.{emptied}
 use Rattle.machine_model.proofs.ClearLaws.{clear_keeps}
-use Rattle.machine_model.proofs.SeatLaws.{CanFillPage, CanFillSeg, fill_page_keeps, fill_seg_keeps, leave_keeps}
-use Rattle.machine_model.proofs.SeatLaws.{load_keeps, online_keeps}
+use Rattle.machine_model.proofs.SeatLaws.{CanFillPage, CanFillSeg, fill_page_keeps, fill_seg_keeps, leave_keeps, load_keeps, online_keeps}
 use Rattle.machine_model.proofs.SeenLaws.{reseated_seen}
-use Rattle.std.proofs.Common.{add-zero}
 
 -- one entry more tells one failure more, or none
 pub faults_push : (es : List Entry) (e : Entry)

@@ -1,40 +1,15 @@
 -- Each step keeps what is true of an outline, where its sizes stay, and where what a command's effect leaves is kept.
-use Rattle.std.proofs.Common.{◌≡◌, ◌≢◌, ◌≤◌, ◌<◌, ℕ, zero, suc, ◌+◌, ◌-◌, Bool, true, false, not, cond, ◌&&◌}
-use Rattle.std.proofs.Common.{eqb, List, [], ◌∷◌, length, Option, Some, None, is_some, set, get_or, Contains, refl}
-use Rattle.std.proofs.Common.{sym, ap, subst, ◌∙◌, inl, inr, arith}
-use Rattle.std.specs.List.{list_any}
-use Rattle.std.proofs.lemmas.Bool.Decides.{eqb_tells}
-use Rattle.std.proofs.lemmas.List.{get_or-set_other, length-set}
-use Rattle.std.proofs.lemmas.List.Folds.{list_any_at}
-use Rattle.core_map.specs.declared.Frame.{Frame}
+use Rattle.machine_model.proofs.Prelude.{◌≡◌, ◌≢◌, ◌≤◌, ◌<◌, ℕ, zero, suc, ◌+◌, ◌-◌, Bool, true, false, not, cond, ◌&&◌, eqb, List, [], ◌∷◌, length, Option, Some, None, is_some, set, get_or, Contains, refl, sym, ap, subst, ◌∙◌, inl, inr, arith, list_any, eqb_tells, get_or-set_other, length-set, list_any_at, Frame, entry_at, uid_in, off_chain, IsOffChain, Transfer, Want, Refer, Truncate, Runner, no_runner, Work, EvictFrame, EmptyPlace, CommitCommand, Stage, Look, Taken, Waiting, Copying, Keeper, Outline, Turn, runner_at, want_at, at_stage, with_runner, with_frame, with_entry, is_of, is_here, dues, Comes, Clears, Loads, Leaves, Commands, rule_of, owns, IsIn, JobStep, activates, connects, takes_segment, takes_frame, takes_for_commit, signals, frees_frame, frees_page, empties, empties_at_once, gives_up, starts, answers, begins_move, copies, commits_move, AreAlike, AreOf, CanStart, is_wanted_here, with_link, with_runners, with_stored, without_owner, now_reading, entry_for, IsAnswered, Step, comes, clears, reads, loses, works, loads, leaves, fills, replies, faults, enters, IsReplied, with_bound, not_reading, IsKept, HasSizes, AreTied, HasJob, FitsStage, FitsWork, AreSpared, EndsChain, is_wanted, is_spared, first_false, not_both, second_false}
 use Rattle.core_map.specs.declared.Frame.TheVariants as frame
 use Rattle.active_segs.specs.declared.Entry.{Entry}
-use Rattle.active_segs.specs.Active.{entry_at, uid_in}
-use Rattle.active_segs.specs.Victim.{off_chain, IsOffChain}
-use Rattle.processor.specs.declared.Transfer.{Transfer}
-use Rattle.machine_model.specs.Outline.{Want, Refer, Truncate, Runner, no_runner, Work, EvictFrame}
-use Rattle.machine_model.specs.Outline.{EmptyPlace, CommitCommand, Stage, Look, Taken, Waiting, Copying, Keeper}
-use Rattle.machine_model.specs.Outline.{Outline}
-use Rattle.machine_model.specs.Outline.{Turn}
-use Rattle.machine_model.specs.Outline.{runner_at, want_at, at_stage, with_runner, with_frame, with_entry, frame_in}
-use Rattle.machine_model.specs.Measures.{chain_of, is_of, is_here, dues}
-use Rattle.machine_model.specs.Finishing.{Comes, Clears, Loads, Leaves, Commands, rule_of, owns, IsIn, JobStep}
-use Rattle.machine_model.specs.Finishing.{activates, connects, takes_segment, takes_frame, takes_for_commit, signals}
-use Rattle.machine_model.specs.Finishing.{frees_frame, frees_page, empties, empties_at_once, gives_up, starts, answers}
-use Rattle.machine_model.specs.Finishing.{begins_move, copies, commits_move}
-use Rattle.machine_model.specs.Finishing.{AreAlike, AreOf, CanStart, is_bound, is_wanted_here, page_of, uid_of}
-use Rattle.machine_model.specs.Finishing.{with_link, with_runners, with_stored, without_owner, now_reading, entry_for}
-use Rattle.machine_model.specs.Finishing.{IsAnswered, Step, comes, clears, reads, loses, works}
-use Rattle.machine_model.specs.Finishing.{loads, leaves, fills, replies, faults, enters}
-use Rattle.machine_model.specs.Finishing.{IsReplied, with_bound, not_reading}
-use Rattle.machine_model.specs.OutlineKept.{IsKept, HasSizes, AreTied, HasJob, IsAtWork, FitsStage, FitsWork}
-use Rattle.machine_model.specs.OutlineKept.{AreSpared, EndsChain, is_wanted, is_spared}
+use Rattle.machine_model.specs.Outline.{frame_in}
+use Rattle.machine_model.specs.Measures.{chain_of}
+use Rattle.machine_model.specs.Finishing.{is_bound, page_of, uid_of}
+use Rattle.machine_model.specs.OutlineKept.{IsAtWork}
 use Rattle.machine_model.proofs.CountLaws.{dues_set}
 use Rattle.machine_model.proofs.RuleLaws.{tells}
 use Rattle.machine_model.proofs.StepLaws.{inside, none_due}
-use Rattle.machine_model.proofs.TiedLaws.{ties_alike, ties_set, at_set, tied_same, tied_frame, tied_started}
-use Rattle.machine_model.proofs.TiedLaws.{tied_ended, tied_quiet, is_started, frame_at_set}
-use Rattle.laws.proofs.Bools.{first_false, not_both, second_false}
+use Rattle.machine_model.proofs.TiedLaws.{ties_alike, ties_set, at_set, tied_same, tied_frame, tied_started, tied_ended, tied_quiet, is_started, frame_at_set}
 
 -- ---- the owner
 

@@ -1,21 +1,10 @@
 -- What the tables lack for a command, as frames, transfers and stored pages change.
-use Rattle.std.proofs.Common.{◌≡◌, ◌≢◌, ◌≤◌, ◌<◌, ℕ, Bool, true, false, not, cond, ◌||◌, ◌&&◌, eqb, List, length}
-use Rattle.std.proofs.Common.{Option, Some, None, set, refl, sym, ap, ◌∙◌, ◌⊎◌, inl, inr, le_refl, arith}
-use Rattle.std.specs.List.{list_any}
-use Rattle.std.proofs.lemmas.Bool.Decides.{eqb_tells}
-use Rattle.std.proofs.lemmas.Option.{none-some}
-use Rattle.core_map.specs.declared.Frame.{Frame}
+use Rattle.machine_model.proofs.Prelude.{◌≡◌, ◌≢◌, ◌≤◌, ◌<◌, ℕ, Bool, true, false, not, cond, ◌||◌, ◌&&◌, eqb, List, length, Option, Some, None, set, refl, sym, ap, ◌∙◌, ◌⊎◌, inl, inr, le_refl, arith, list_any, eqb_tells, none-some, Frame, Transfer, Want, Refer, Truncate, Length, Other, Outline, Runner, with_frame, is_of, is_here, reads_page, page_fits, wanted_fits, wanted_link, want_lack, lack, with_stored, is_wanted, is_spared, and_from, or_left, and_parts}
 use Rattle.core_map.specs.declared.Frame.TheVariants as frame
-use Rattle.processor.specs.declared.Transfer.{Transfer}
 use Rattle.machine_model.specs.Jobs.{page_or_zero}
-use Rattle.machine_model.specs.Outline.{Want, Refer, Truncate, Length, Other, Outline, Runner, frame_in, with_frame}
-use Rattle.machine_model.specs.Measures.{is_of, is_here, reads_page, page_fits, wanted_fits, wanted_link, want_lack}
-use Rattle.machine_model.specs.Measures.{lack}
-use Rattle.machine_model.specs.Finishing.{MayRelease, page_of, with_stored}
-use Rattle.machine_model.specs.OutlineKept.{is_wanted, is_spared}
+use Rattle.machine_model.specs.Outline.{frame_in}
+use Rattle.machine_model.specs.Finishing.{MayRelease, page_of}
 use Rattle.machine_model.proofs.CountLaws.{any_set}
-use Rattle.std.proofs.lemmas.Bool.{and_from, or_left}
-use Rattle.laws.proofs.Bools.{and_parts}
 
 -- ---- less lacks where more fits
 

@@ -1,45 +1,12 @@
 -- What a move rests on by the tables is what the flat store and custody ask of it.
-use Rattle.std.proofs.Common.{◌≡◌, ◌≢◌, ◌*◌, ℕ, true, false, eqb, List, Option, Some}
-use Rattle.std.proofs.Common.{None, inl, inr, refl, sym, ap, subst, ◌∙◌, arith}
-use Rattle.std.specs.Prelude.{◌/◌, nat_le}
-use Rattle.std.proofs.lemmas.Bool.Decides.{eqb_tells, leb_tells}
-use Rattle.mnames.specs.declared.principals.Who.{Who}
-use Rattle.script.specs.Plans.{command_at, who_of}
-use Rattle.script.specs.References.{permits}
-use Rattle.script.specs.declared.commands.Command.{Command}
-use Rattle.script.specs.declared.commands.Reference.{Reference}
-use Rattle.tree_model.specs.Access.{access_of}
-use Rattle.tree_model.specs.Tree.{Node, entries_on, node_in, taken_on, volume_in}
-use Rattle.flat_model.specs.Moves.{MayMove, awaits_by, awaits_in, awaits_move, is_uid, lacks_record}
-use Rattle.flat_model.specs.Pages.{is_stored}
-use Rattle.flat_model.specs.References.{is_used_up, is_volume_full, stores_page}
-use Rattle.flat_model.specs.Rooms.{room_for, has_room as has_room_flat}
-use Rattle.flat_model.specs.Store.{Store, known_uid}
-use Rattle.flat_model.proofs.NodeLaws.{volume_found}
-use Rattle.flat_model.proofs.RoomLaws.{room_is}
-use Rattle.known_segs.specs.Known.{uid_of}
-use Rattle.page_table.specs.declared.Ptw.{Ptw}
+use Rattle.machine_model.proofs.Prelude.{◌≡◌, ◌≢◌, ◌*◌, ℕ, true, false, eqb, List, Option, Some, None, inl, inr, refl, sym, ap, subst, ◌∙◌, arith, ◌/◌, nat_le, eqb_tells, leb_tells, Who, command_at, who_of, permits, Command, Reference, access_of, Node, entries_on, node_in, taken_on, volume_in, MayMove, awaits_by, awaits_in, awaits_move, is_stored, is_used_up, is_volume_full, stores_page, room_for, has_room_flat, Store, known_uid, volume_found, room_is, uid_of, Ptw, is_full, size, has_record, Mover, kst_at, word_of, MayRehome, seen, Keeps, IsFirstWithRoom, IsMovedFor, LacksRecord, MovesFor, MovesForNext, has_room, tables_of, flat_of, is_active, next_command, bound_use, frame_use, shown, State, nonzero_alters, found_uid, not_both}
+use Rattle.flat_model.specs.Moves.{is_uid, lacks_record}
 use Rattle.page_table.specs.declared.Ptw.TheVariants as ptw
-use Rattle.page_control.specs.Counts.{is_full, size}
-use Rattle.page_control.specs.Tied.{has_record}
-use Rattle.seg_mover.specs.declared.Mover.{Mover}
-use Rattle.seg_control.specs.Control.{kst_at, word_of}
-use Rattle.custody_model.specs.Allowed.{MayRehome}
 use Rattle.custody_model.specs.declared.FrameUse.TheVariants as frame
-use Rattle.machine_model.specs.Holding.{seen}
-use Rattle.machine_model.specs.Keeps.{Keeps}
-use Rattle.machine_model.specs.Lacking.{IsFirstWithRoom, IsMovedFor, LacksRecord, MovesFor, MovesForNext, has_room}
-use Rattle.machine_model.specs.Lacking.{tables_of}
-use Rattle.machine_model.specs.Reads.{flat_of, is_active, next_command}
-use Rattle.machine_model.specs.Seen.{bound_use, frame_use, shown}
-use Rattle.machine_model.specs.State.{State}
 use Rattle.machine_model.proofs.LookFacts.{IsInside}
 use Rattle.machine_model.proofs.MoveAsks.{who_is}
 use Rattle.machine_model.proofs.PageShown.{null_word, stored_is}
 use Rattle.machine_model.proofs.SpeakLaws.{Speaks, turn_is}
-use Rattle.flat_model.proofs.SharedLaws.{nonzero_alters}
-use Rattle.tree_model.proofs.SharedLaws.{found_uid}
-use Rattle.laws.proofs.Bools.{not_both}
 
 module _ (s : State) (keeps : Keeps s) where
   abbrev t : Store

@@ -1,28 +1,11 @@
 -- The victim of a pool has no active inferior: the ways down from a segment come to an end.
-use Rattle.std.proofs.Common.{◌≡◌, ◌≢◌, ◌<◌, ◌≤◌, ℕ, zero, suc, ◌+◌, Bool, true, false, count_by, List, eqb, not}
-use Rattle.std.proofs.Common.{length, Option, Some, None, inl, inr, refl, sym, ap, subst, ◌∙◌, arith}
-use Rattle.std.specs.Prelude.{nat_lt}
-use Rattle.std.specs.List.{range_with_len, list_any}
-use Rattle.std.proofs.lemmas.Bool.Decides.{eqb_tells, leb_tells}
-use Rattle.tree_model.specs.Tree.{Node, node_in}
+use Rattle.machine_model.proofs.Prelude.{◌≡◌, ◌≢◌, ◌<◌, ◌≤◌, ℕ, zero, suc, ◌+◌, Bool, true, false, count_by, List, eqb, not, length, Option, Some, None, inl, inr, refl, sym, ap, subst, ◌∙◌, arith, nat_lt, range_with_len, list_any, eqb_tells, leb_tells, Node, node_in, ActiveSegs, HasNoInferior, entry_at, superior_at, uid_at, uid_in, first_off_chain, is_inferior_in, is_inferior_of, leaf_below, leaf_of, least_inferior, least_inferior_of, off_chain, round_pool, stead_of, victim_of, place_of, node_superior, Keeps, flat_of, is_active, State, lt_from, not_both, passed_there}
 use Rattle.active_segs.specs.declared.Entry.{Entry}
-use Rattle.active_segs.specs.Active.{ActiveSegs, HasNoInferior, IsTree, entry_at, superior_at, superior_in, uid_at}
-use Rattle.active_segs.specs.Active.{uid_in}
-use Rattle.active_segs.specs.Victim.{first_off_chain, is_inferior_in, is_inferior_of, leaf_below}
-use Rattle.active_segs.specs.Victim.{leaf_of, least_inferior, least_inferior_of, off_chain, round_pool, stead_of}
-use Rattle.active_segs.specs.Victim.{victim_of}
-use Rattle.seg_control.specs.Control.{place_of}
-use Rattle.custody_model.specs.Allowed.{superior_in as node_superior}
-use Rattle.machine_model.specs.Keeps.{Keeps}
-use Rattle.machine_model.specs.Reads.{flat_of, is_active}
-use Rattle.machine_model.specs.State.{State}
+use Rattle.active_segs.specs.Active.{IsTree, superior_in}
 use Rattle.machine_model.proofs.ActiveSeen.{active_place}
 use Rattle.machine_model.proofs.FindLaws.{find_true, position_at, position_none}
 use Rattle.machine_model.proofs.PoolRoom.{count_all, count_new, range_has, range_length}
 use Rattle.machine_model.proofs.TieLaws.{none_some}
-use Rattle.laws.proofs.Numbers.{lt_from}
-use Rattle.laws.proofs.Bools.{not_both}
-use Rattle.laws.proofs.Options.{passed_there}
 
 tells_less : (a b : ℕ) → a < b → nat_lt a b ≡ true
 tells_less a b h = elim (leb_tells (suc a) b) [

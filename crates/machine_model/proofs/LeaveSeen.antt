@@ -1,25 +1,10 @@
 -- What custody sees of a machine whose job signals, and where a page leaves its frame or stays.
-use Rattle.std.proofs.Common.{◌≡◌, ◌<◌, ℕ, zero, suc, ◌+◌, Bool, true, false, cond, eqb, List, [], ◌∷◌, ◌++◌, length}
-use Rattle.std.proofs.Common.{Option, Some, None, inr, refl, sym, ap, ◌∙◌, arith}
-use Rattle.assoc_mem.specs.declared.What.{What}
+use Rattle.machine_model.proofs.Prelude.{◌≡◌, ◌<◌, ℕ, zero, suc, ◌+◌, Bool, true, false, cond, eqb, List, [], ◌∷◌, ◌++◌, length, Option, Some, None, inr, refl, sym, ap, ◌∙◌, arith, What, Core, bound_page, reads_of, Left, evicted, word_of_left, Plain, binding_at, bindings, frame_in, record_of, read_at, at_put, back, dropped, gone, signal_given, told_at, warned, KeepsBook, names, seen, here_if, told_from, with_left, home_in, no_processor, processor_at, Processor, Owner, State, with_word}
 use Rattle.book.specs.declared.entries.Entry.TheVariants as entry
 use Rattle.core_map.specs.declared.Frame.TheVariants as frame
-use Rattle.core_map.specs.CoreMap.{Core, bound_page, reads_of, with_frame}
+use Rattle.core_map.specs.CoreMap.{with_frame}
 use Rattle.page_table.specs.declared.Ptw.TheVariants as ptw
-use Rattle.page_control.specs.declared.Left.{Left}
 use Rattle.page_control.specs.declared.Left.TheVariants as left
-use Rattle.page_control.specs.Effects.{evicted, word_of_left}
-use Rattle.page_control.specs.Plain.{Plain, binding_at, bindings, frame_in, record_of}
-use Rattle.seg_control.specs.Kept.{read_at}
-use Rattle.custody_model.specs.Next.{at_put}
-use Rattle.machine_model.specs.Changes.{back, dropped, gone, signalled as signal_given, told_at, warned}
-use Rattle.machine_model.specs.Custodial.{KeepsBook, names}
-use Rattle.machine_model.specs.Holding.{seen}
-use Rattle.machine_model.specs.Jobs.{here_if, told_from, with_left}
-use Rattle.machine_model.specs.Reads.{home_in, no_processor, processor_at}
-use Rattle.machine_model.specs.declared.Processor.{Processor}
-use Rattle.machine_model.specs.State.{Owner, State}
-use Rattle.machine_model.specs.Steps.{with_word}
 use Rattle.machine_model.proofs.Places.{by_place}
 use Rattle.machine_model.proofs.SeenLaws.{bound_put, reads_put}
 use Rattle.machine_model.proofs.TakeSeen.{HasTables, binding_is, not_null, words_put}

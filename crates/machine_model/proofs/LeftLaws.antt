@@ -1,18 +1,7 @@
 -- Each answer leaves a command, or a try of an `await`, less to come.
-use Rattle.std.proofs.Common.{◌≡◌, ◌<◌, ℕ, zero, suc, ◌+◌, ◌-◌, Bool, true, false, cond, List, [], ◌∷◌, length, drop}
-use Rattle.std.proofs.Common.{sum_by, slice_get, Some, set, get_or, ap, ◌∙◌, arith}
-use Rattle.std.proofs.lemmas.List.Sums.{sum_by-drop_more}
-use Rattle.std.proofs.lemmas.Option.{get_or_from_slice_get, slice_get_within}
-use Rattle.script.specs.Forms.{weight}
-use Rattle.script.specs.Plans.{ProcessPlan, nobody}
-use Rattle.script.specs.declared.commands.Command.{Command}
+use Rattle.machine_model.proofs.Prelude.{◌≡◌, ◌<◌, ℕ, zero, suc, ◌+◌, ◌-◌, Bool, true, false, cond, List, [], ◌∷◌, length, drop, sum_by, slice_get, Some, set, get_or, ap, ◌∙◌, arith, sum_by-drop_more, get_or_from_slice_get, slice_get_within, weight, ProcessPlan, nobody, Command, Reply, Run, run_at, goes_on, is_its_end, run_after, left_in, GoesOn}
 use Rattle.script.specs.declared.commands.Command.TheVariants as command
-use Rattle.book.specs.declared.replies.Reply.{Reply}
-use Rattle.machine_model.specs.declared.Run.{Run}
-use Rattle.machine_model.specs.Reads.{run_at}
-use Rattle.machine_model.specs.Steps.{goes_on, is_its_end, run_after}
-use Rattle.machine_model.specs.Outlined.{left_in, left_of}
-use Rattle.machine_model.specs.Foreseen.{GoesOn}
+use Rattle.machine_model.specs.Outlined.{left_of}
 
 -- what is to come begins with the next command
 rest_of : (commands : List Command) (place : ℕ) (c : Command) → slice_get commands place ≡ Some c

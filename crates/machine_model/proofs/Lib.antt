@@ -1,3 +1,4 @@
+mod Prelude
 pub mod AccessTakenAway
 pub mod Accounts
 pub mod ActionCases

@@ -1,26 +1,8 @@
 -- Whether the descriptor of a processor's next command is connected, while a job takes pages and descriptors.
-use Rattle.std.proofs.Common.{◌≡◌, ℕ, false, List, [], ◌∷◌, Some, None, refl, sym, ap, ◌∙◌}
-use Rattle.script.specs.References.{reference_of}
-use Rattle.script.specs.declared.commands.Command.{Command}
-use Rattle.script.specs.declared.commands.Reference.{Reference}
-use Rattle.script.specs.Plans.{command_at}
-use Rattle.assoc_mem.specs.declared.What.{What}
+use Rattle.machine_model.proofs.Prelude.{◌≡◌, ℕ, false, List, [], ◌∷◌, Some, None, refl, sym, ap, ◌∙◌, reference_of, Command, Reference, command_at, What, Sdw, Links, leads, descriptor_cut, unlinked, trailer_gone, Aim, CutDescriptor, KeepsLink, seg_gone, segment_taken, segs_gone, took, around, is_linked, reference_in, runner_by, cpu_at, cut_of_owner, descriptor_of, next_command, processor_at, run_at, State}
 use Rattle.assoc_mem.specs.declared.What.TheVariants as what
-use Rattle.descriptor_seg.specs.declared.Sdw.{Sdw}
 use Rattle.descriptor_seg.specs.declared.Sdw.TheVariants as sdw
-use Rattle.seg_control.specs.Control.{Links, leads}
-use Rattle.seg_control.specs.Effects.{cut_one as descriptor_cut, unlinked}
-use Rattle.trailers.specs.Trailer.{cut_off as trailer_gone}
-use Rattle.machine_model.specs.declared.Aim.{Aim}
 use Rattle.machine_model.specs.declared.Aim.TheVariants as aim
-use Rattle.machine_model.specs.declared.CutDescriptor.{CutDescriptor}
-use Rattle.machine_model.specs.Foreseen.{KeepsLink}
-use Rattle.machine_model.specs.Jobs.{seg_gone, segment_taken, segs_gone}
-use Rattle.machine_model.specs.Jobs.{took}
-use Rattle.machine_model.specs.Outlined.{around, is_linked, reference_in, runner_by}
-use Rattle.machine_model.specs.Reads.{cpu_at, cut_of_owner, descriptor_of, next_command, processor_at}
-use Rattle.machine_model.specs.Reads.{run_at}
-use Rattle.machine_model.specs.State.{State}
 use Rattle.machine_model.proofs.ComingKept.{SameRuns}
 use Rattle.machine_model.proofs.Places.{by_places}
 use Rattle.machine_model.proofs.TakeSeen.{descriptors_put, linked_within}

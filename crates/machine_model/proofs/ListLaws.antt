@@ -1,9 +1,5 @@
 -- Lists that are changed in place, read as functions.
-use Rattle.std.proofs.Common.{◌≡◌, ◌≢◌, ◌<◌, ℕ, suc, List, [], ◌∷◌, map, length, set, get_or, inl, inr}
-use Rattle.std.proofs.Common.{refl, sym, ap, ◌∙◌}
-use Rattle.std.proofs.lemmas.Bool.Decides.{eqb_tells, leb_tells}
-use Rattle.std.proofs.lemmas.List.{get_or-set_same, get_or-set_other, get_or_past}
-use Rattle.custody_model.specs.Next.{at_put, at_put_two}
+use Rattle.machine_model.proofs.Prelude.{◌≡◌, ◌≢◌, ◌<◌, ℕ, suc, List, [], ◌∷◌, map, length, set, get_or, inl, inr, refl, sym, ap, ◌∙◌, eqb_tells, leb_tells, get_or-set_same, get_or-set_other, get_or_past, at_put, at_put_two}
 use Rattle.machine_model.proofs.Places.{by_place, put_map}
 
 module _ {A : Type 0} where

@@ -1,44 +1,15 @@
 -- How much a job takes at the most of a segment: each of its pages, 256 at the most, and a descriptor of each process,
 -- 32 at the most.
-use Rattle.std.proofs.Common.{◌≡◌, ◌<◌, ◌≤◌, ℕ, Bool, true, false, ◌||◌, cond, eqb, is_some, length, map}
-use Rattle.std.proofs.Common.{List, [], ◌∷◌, Option, Some, None, inl, inr, refl, sym, ap, subst, ◌∙◌, arith}
-use Rattle.std.proofs.Common.{◌+◌, ◌/◌, suc, drop}
-use Rattle.std.specs.List.{filter, position_or_len, range_with_len}
-use Rattle.std.proofs.lemmas.List.{get_or_past}
-use Rattle.std.proofs.lemmas.List.FromFn.{length-range_with_len}
-use Rattle.script.specs.declared.commands.Command.{Command}
+use Rattle.machine_model.proofs.Prelude.{◌≡◌, ◌<◌, ◌≤◌, ℕ, Bool, true, false, ◌||◌, cond, eqb, is_some, length, map, List, [], ◌∷◌, Option, Some, None, inl, inr, refl, sym, ap, subst, ◌∙◌, arith, ◌+◌, ◌/◌, suc, drop, filter, position_or_len, range_with_len, get_or_past, length-range_with_len, Command, trailers_of, descriptors_taken, first_taken, frames_taken, AllByRecursion, IsDistinct, list_any, nat_le, eqb_tells, length-map, length-le_from_distinct_below, Node, node_in, pool_for, pool_of, uid_of, Ptw, Sdw, uid_at, Links, is_for, kst_at, leads, place_of, table_of, IsKnownAt, words_few, is_there, is_uid, led_to, seen, Keeps, connected_of, descriptor_of, frames_from, frames_in, is_active, is_connected, trailers_in, State, few_kept}
 use Rattle.script.specs.declared.commands.Command.TheVariants as command
-use Rattle.trailers.specs.Trailer.{trailers_of}
-use Rattle.machine_model.specs.Actions.{descriptors_taken, first_taken, frames_taken}
-use Rattle.std.specs.List.{AllByRecursion, IsDistinct, list_any}
-use Rattle.std.specs.Prelude.{nat_le}
-use Rattle.std.proofs.lemmas.Bool.Decides.{eqb_tells}
-use Rattle.std.proofs.lemmas.List.{length-map}
-use Rattle.std.proofs.lemmas.Map.Steps.{length-le_from_distinct_below}
 use Rattle.assoc_mem.specs.declared.What.TheVariants as what
-use Rattle.tree_model.specs.Tree.{Node, node_in, pool_for, pool_of}
-use Rattle.known_segs.specs.Known.{uid_of}
-use Rattle.page_table.specs.declared.Ptw.{Ptw}
 use Rattle.page_table.specs.declared.Ptw.TheVariants as ptw
-use Rattle.descriptor_seg.specs.declared.Sdw.{Sdw}
 use Rattle.descriptor_seg.specs.declared.Sdw.TheVariants as sdw
-use Rattle.active_segs.specs.Active.{uid_at}
-use Rattle.seg_control.specs.Control.{Links, is_for, kst_at, leads, place_of, table_of}
-use Rattle.seg_control.specs.Kept.{IsKnownAt}
-use Rattle.seg_control.proofs.Chains.{words_few}
-use Rattle.storage_ops.specs.Shown.{is_there}
-use Rattle.custody_model.specs.Custody.{is_uid}
-use Rattle.machine_model.specs.Holding.{led_to, seen}
-use Rattle.machine_model.specs.Keeps.{Keeps}
-use Rattle.machine_model.specs.Reads.{connected_of, descriptor_of, frames_from, frames_in, is_active, is_connected}
-use Rattle.machine_model.specs.Reads.{trailers_in}
-use Rattle.machine_model.specs.State.{State}
 use Rattle.machine_model.proofs.ActiveSeen.{active_place, none_length}
 use Rattle.machine_model.proofs.ListLaws.{within_by}
 use Rattle.machine_model.proofs.TakeLists.{trailers_taken}
 use Rattle.machine_model.proofs.TieLaws.{none_some}
 use Rattle.machine_model.proofs.TookKept.{ArePairs, has_pair, is_pair}
-use Rattle.laws.proofs.Lists.{few_kept}
 
 -- ---- pages
 

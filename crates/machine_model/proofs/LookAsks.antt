@@ -1,71 +1,28 @@
 -- What the actions of a look ask follows from the promise, from what the look finds, and from what the calls of the
 -- store say.
-use Rattle.std.proofs.Common.{◌≡◌, ◌<◌, ◌≤◌, ℕ, zero, suc, ◌+◌, ◌^◌, Bool, true, false, ◌&&◌, cond, eqb, List}
-use Rattle.std.proofs.Common.{count_by, is_some, is_none, sum, take, [], ◌∷◌, length, get_or, Option, Some, None}
-use Rattle.std.proofs.Common.{inl, inr, refl, sym, ap, subst, ◌∙◌, arith}
-use Rattle.std.specs.Prelude.{◌/◌, nat_le, slice_index, IsSomeAnd, IfSome}
-use Rattle.std.specs.List.{range_with_len}
-use Rattle.std.proofs.lemmas.Bool.Decides.{eqb_tells, leb_tells}
-use Rattle.std.proofs.lemmas.List.Sums.{sum_by-cons}
-use Rattle.script.specs.References.{reference_of}
-use Rattle.script.specs.declared.commands.Command.{Command}
-use Rattle.script.specs.declared.commands.Reference.{Reference}
+use Rattle.machine_model.proofs.Prelude.{◌≡◌, ◌<◌, ◌≤◌, ℕ, zero, suc, ◌+◌, ◌^◌, Bool, true, false, ◌&&◌, cond, eqb, List, count_by, is_some, is_none, sum, take, [], ◌∷◌, length, get_or, Option, Some, None, inl, inr, refl, sym, ap, subst, ◌∙◌, arith, ◌/◌, nat_le, slice_index, IsSomeAnd, IfSome, range_with_len, eqb_tells, leb_tells, sum_by-cons, reference_of, Command, Reference, Reply, Node, has_directory, node_in, pool_for, pool_of, IsTree, IsMember, found_member, chain_of, uid_of, entry_at, IsInPool, first_of, kst_at, leads, place_of, table_of, word_of, IsKnownAt, reply_to_command, is_held_back, word_reply, Store, known_uid, MayActivate, MayAnswerBy, MayJoin, stores, pages_of, pool_of_node, Outcome, has_cut, led_to, seen, Keeps, IsMachine, flat_of, free_place, is_active, or_zero, first_inactive, places_in, process_at, refusal_of, uid_of_command, uid_of_number, Says, shown, State, page_made, CutDescriptor, older}
 use Rattle.book.specs.declared.entries.Entry.TheVariants as entry
-use Rattle.book.specs.declared.replies.Reply.{Reply}
-use Rattle.tree_model.specs.Tree.{Node, has_directory, node_in, pool_for, pool_of}
-use Rattle.tree_model.specs.Trees.{IsTree}
-use Rattle.tree_model.proofs.Finds.{IsMember, found_member}
-use Rattle.dir_tree.specs.Nodes.{chain_of}
-use Rattle.known_segs.specs.Known.{uid_of}
 use Rattle.page_table.specs.declared.Ptw.TheVariants as ptw
 use Rattle.active_segs.specs.declared.Entry.{Entry}
-use Rattle.active_segs.specs.Active.{entry_at}
-use Rattle.active_segs.specs.Pool.{IsInPool, first_of}
-use Rattle.seg_control.specs.Control.{kst_at, leads, place_of, table_of, word_of}
-use Rattle.seg_control.specs.Kept.{IsKnownAt}
-use Rattle.flat_model.specs.Commands.{reply_to_command}
-use Rattle.flat_model.specs.Moves.{is_held_back}
-use Rattle.flat_model.specs.References.{word_reply}
-use Rattle.flat_model.specs.Store.{Store, known_uid}
-use Rattle.custody_model.specs.Allowed.{MayActivate, MayAnswer as MayAnswerBy, MayJoin, stores}
-use Rattle.storage_ops.specs.Shown.{pages_of}
 use Rattle.machine_model.specs.Actions as act
-use Rattle.machine_model.specs.Actions.{pool_of_node}
-use Rattle.machine_model.specs.After.{Outcome}
-use Rattle.machine_model.specs.Custodial.{has_cut}
-use Rattle.machine_model.specs.Holding.{led_to, seen}
-use Rattle.machine_model.specs.Keeps.{Keeps}
-use Rattle.machine_model.specs.Promise.{IsMachine}
-use Rattle.machine_model.specs.Reads.{flat_of, free_place, is_active, or_zero}
-use Rattle.machine_model.specs.Reads.{first_inactive, places_in, process_at}
-use Rattle.machine_model.specs.Refusal.{refusal_of, uid_of_command, uid_of_number}
-use Rattle.machine_model.specs.Said.{Says}
-use Rattle.machine_model.specs.Seen.{shown}
-use Rattle.machine_model.specs.State.{State}
-use Rattle.machine_model.specs.Steps.{page_made}
-use Rattle.machine_model.specs.declared.CutDescriptor.{CutDescriptor}
 use Rattle.machine_model.proofs.ActiveSeen.{active_place}
 use Rattle.machine_model.proofs.ChainFacts.{chain_active, first_there, superior_active}
 use Rattle.machine_model.proofs.CommandFacts.{truncate_stands}
-use Rattle.machine_model.proofs.FindLaws.{find_true}
+use Rattle.machine_model.proofs.FindLaws.{find_true, first_idle}
 use Rattle.machine_model.proofs.FlatAlike.{one_still}
 use Rattle.machine_model.proofs.InsideLaws.{inside_is, room_due, stays_free}
 use Rattle.machine_model.proofs.ListLaws.{within_by}
-use Rattle.machine_model.proofs.LookFacts.{FindsLink, FindsPage, FindsPlace, FindsRoom, IsAbout}
-use Rattle.machine_model.proofs.LookFacts.{IsInside, IsRefused}
+use Rattle.machine_model.proofs.LookFacts.{FindsLink, FindsPage, FindsPlace, FindsRoom, IsAbout, IsInside, IsRefused}
 use Rattle.machine_model.proofs.OwnedLaws.{IsIdle}
 use Rattle.machine_model.proofs.PageShown.{null_word, stored_is}
 use Rattle.machine_model.proofs.PoolRoom.{has_room, is_its}
 use Rattle.machine_model.proofs.RuleKept.{AsksCreate}
 use Rattle.machine_model.proofs.SaysLaws.{activated_says, connected_says, created_says, refused_says}
-use Rattle.machine_model.proofs.SpeakLaws.{Speaks, can_refuse, can_tell, refusal_quiet}
+use Rattle.machine_model.proofs.SpeakLaws.{Speaks, can_refuse, can_tell, refusal_quiet, speaks_like}
 use Rattle.machine_model.proofs.StepKept.{CanActivateAt, CanConnectTo, CanReply}
 use Rattle.machine_model.proofs.TieLaws.{none_some}
 use Rattle.machine_model.proofs.TransferKept.{active_at}
 use Rattle.machine_model.proofs.ListSizes.{pool_small}
-use Rattle.flat_model.proofs.QuotaTotals.{older}
-use Rattle.machine_model.proofs.SpeakLaws.{speaks_like}
-use Rattle.machine_model.proofs.FindLaws.{first_idle}
 
 -- ---- nodes and places
 

@@ -1,52 +1,13 @@
 -- What a look of the owner finds for the command of its process, when it comes to each of its actions.
-use Rattle.std.proofs.Common.{◌≡◌, ◌≢◌, ◌<◌, ℕ, ◌*◌, Bool, true, false, cond, eqb, is_some, List, []}
-use Rattle.std.proofs.Common.{position, Option, Some, None, ◌⊎◌, inl, inr, refl, sym, ap, ◌∙◌}
-use Rattle.std.specs.Prelude.{◌%◌, ◌/◌}
-use Rattle.mnames.specs.declared.modes.Mode.{Mode}
-use Rattle.script.specs.Plans.{who_of}
-use Rattle.script.specs.References.{reference_of}
-use Rattle.script.specs.declared.commands.Command.{Command}
+use Rattle.machine_model.proofs.Prelude.{◌≡◌, ◌≢◌, ◌<◌, ℕ, ◌*◌, Bool, true, false, cond, eqb, is_some, List, [], position, Option, Some, None, ◌⊎◌, inl, inr, refl, sym, ap, ◌∙◌, ◌%◌, ◌/◌, Mode, who_of, reference_of, Command, Reference, Reply, access_of, Node, node_in, chain_of, Frame, Core, frame_at, is_started, least_free_frame, started_page, clock_choice, Ptw, Sdw, frame_in, uid_at, victim_of, word_of, reply_by, reply_to_command, new_word, permits, reply_to_reference, known_uid, is_refusal, activate_first, activate_in, any_page, bring_cut, create_unless, descriptors_taken, empty_victim, empty_when_read, evict_or_wait, first_taken, frame_read_from, frames_taken, into_frame, look_at_descriptor, look_at_word, look_for, look_for_reference, look_inside, look_of, look_to_change, look_to_take, look_unless, pool_of_node, take_or_commit, unless_read, what_taken, with_chain, with_cut_page, look_to_create, move_or, is_out, descriptor_of, first_inactive, flat_of, frame_reading, free_place, is_active, is_page_of, or_zero, is_of_room, is_outside, only, outside_refusal, refusal_of, room_refusal, uid_of_command, uid_of_number, move_to, State, reply_to_tree_command, ◌∷◌, subst, nat_le}
 use Rattle.script.specs.declared.commands.Command.TheVariants as command
-use Rattle.script.specs.declared.commands.Reference.{Reference}
-use Rattle.book.specs.declared.replies.Reply.{Reply}
 use Rattle.book.specs.declared.replies.Reply.TheVariants as reply
-use Rattle.tree_model.specs.Access.{access_of}
-use Rattle.tree_model.specs.Tree.{Node, node_in}
-use Rattle.dir_tree.specs.Nodes.{chain_of}
-use Rattle.core_map.specs.declared.Frame.{Frame}
 use Rattle.core_map.specs.declared.Frame.TheVariants as frame
-use Rattle.core_map.specs.CoreMap.{Core, frame_at, is_started, least_free_frame, started_page}
-use Rattle.core_map.specs.Clock.{clock_choice}
-use Rattle.page_table.specs.declared.Ptw.{Ptw}
 use Rattle.page_table.specs.declared.Ptw.TheVariants as ptw
-use Rattle.descriptor_seg.specs.declared.Sdw.{Sdw}
 use Rattle.descriptor_seg.specs.declared.Sdw.TheVariants as sdw
-use Rattle.page_control.specs.Plain.{frame_in}
-use Rattle.active_segs.specs.Active.{uid_at}
-use Rattle.active_segs.specs.Victim.{victim_of}
-use Rattle.seg_control.specs.Control.{word_of}
-use Rattle.flat_model.specs.Commands.{reply_by, reply_to_command}
-use Rattle.script.specs.References.{new_word, permits}
-use Rattle.flat_model.specs.References.{reply_to_reference}
-use Rattle.flat_model.specs.Store.{known_uid}
-use Rattle.storage_ops.specs.Shown.{is_refusal}
 use Rattle.machine_model.specs.Actions as act
-use Rattle.machine_model.specs.Actions.{activate_first, activate_in, any_page, bring_cut, create_unless}
-use Rattle.machine_model.specs.Actions.{descriptors_taken, empty_victim, empty_when_read, evict_or_wait, first_taken}
-use Rattle.machine_model.specs.Actions.{frame_read_from, frames_taken, into_frame, look_at_descriptor, look_at_word}
-use Rattle.machine_model.specs.Actions.{look_for, look_for_reference, look_inside, look_of}
-use Rattle.machine_model.specs.Actions.{look_to_change, look_to_take, look_unless, pool_of_node, room_for}
-use Rattle.machine_model.specs.Actions.{take_or_commit, unless_read, what_taken, with_chain, with_cut_page}
-use Rattle.machine_model.specs.Actions.{look_to_create, move_or}
-use Rattle.machine_model.specs.Custodial.{is_out}
-use Rattle.machine_model.specs.Reads.{descriptor_of, first_inactive, flat_of, frame_reading, free_place, is_active}
-use Rattle.machine_model.specs.Reads.{is_page_of, or_zero}
-use Rattle.machine_model.specs.Refusal.{is_of_room, is_outside, only, outside_refusal, refusal_of, room_refusal}
-use Rattle.machine_model.specs.Refusal.{uid_of_command, uid_of_number, move_to}
-use Rattle.machine_model.specs.State.{State}
+use Rattle.machine_model.specs.Actions.{room_for}
 use Rattle.machine_model.proofs.FindLaws.{position_at}
-use Rattle.flat_model.specs.Commands.{reply_to_tree_command}
-use Rattle.std.proofs.Common.{◌∷◌, subst, nat_le}
 
 -- ---- what is found
 

@@ -1,37 +1,10 @@
 -- What a look of the owner comes to, and what is true then of the frames and of the active segments.
-use Rattle.std.proofs.Common.{◌≡◌, ℕ, Bool, true, false, not, ◌==◌, cond, List, [], ◌∷◌, position, Option, Some, None}
-use Rattle.std.proofs.Common.{refl, ap, subst}
-use Rattle.std.specs.Prelude.{◌%◌, ◌/◌}
-use Rattle.script.specs.References.{reference_of}
-use Rattle.script.specs.declared.commands.Command.{Command}
+use Rattle.machine_model.proofs.Prelude.{◌≡◌, ℕ, Bool, true, false, not, ◌==◌, cond, List, [], ◌∷◌, position, Option, Some, None, refl, ap, subst, ◌%◌, ◌/◌, reference_of, Command, Reference, Reply, What, Core, is_started, least_free_frame, clock_choice, Ptw, Sdw, victim_of, chain_of, new_word, word_of, node_in, activate_first, activate_in, any_page, bring_cut, create_unless, descriptors_taken, empty_victim, empty_when_read, evict_or_wait, first_taken, frame_read_from, frames_taken, into_frame, look_at_descriptor, look_at_word, look_for, look_for_command, look_for_reference, look_inside, look_of, look_to_change, look_to_take, look_unless, pool_of_node, take_or_commit, unless_read, what_taken, with_chain, with_cut_page, look_to_create, move_or, is_out, first_inactive, frame_reading, free_place, is_active, descriptor_of, outside_refusal, refusal_of, room_refusal, uid_of_command, uid_of_number, move_to, State}
 use Rattle.script.specs.declared.commands.Command.TheVariants as command
-use Rattle.script.specs.declared.commands.Reference.{Reference}
-use Rattle.book.specs.declared.replies.Reply.{Reply}
-use Rattle.assoc_mem.specs.declared.What.{What}
-use Rattle.core_map.specs.CoreMap.{Core, is_started, least_free_frame}
-use Rattle.core_map.specs.Clock.{clock_choice}
-use Rattle.page_table.specs.declared.Ptw.{Ptw}
 use Rattle.page_table.specs.declared.Ptw.TheVariants as ptw
-use Rattle.descriptor_seg.specs.declared.Sdw.{Sdw}
 use Rattle.descriptor_seg.specs.declared.Sdw.TheVariants as sdw
-use Rattle.active_segs.specs.Victim.{victim_of}
-use Rattle.dir_tree.specs.Nodes.{chain_of}
-use Rattle.script.specs.References.{new_word}
-use Rattle.seg_control.specs.Control.{word_of}
-use Rattle.tree_model.specs.Tree.{node_in}
 use Rattle.machine_model.specs.Actions as act
-use Rattle.machine_model.specs.Actions.{activate_first, activate_in, any_page, bring_cut, create_unless}
-use Rattle.machine_model.specs.Actions.{descriptors_taken, empty_victim, empty_when_read, evict_or_wait, first_taken}
-use Rattle.machine_model.specs.Actions.{frame_read_from, frames_taken, into_frame, look_at_descriptor, look_at_word}
-use Rattle.machine_model.specs.Actions.{look_for, look_for_command, look_for_reference, look_inside, look_of}
-use Rattle.machine_model.specs.Actions.{look_to_change, look_to_take, look_unless, pool_of_node, room_for}
-use Rattle.machine_model.specs.Actions.{take_or_commit, unless_read, what_taken, with_chain, with_cut_page}
-use Rattle.machine_model.specs.Actions.{look_to_create, move_or}
-use Rattle.machine_model.specs.Custodial.{is_out}
-use Rattle.machine_model.specs.Reads.{first_inactive, frame_reading, free_place, is_active, descriptor_of}
-use Rattle.machine_model.specs.Refusal.{outside_refusal, refusal_of, room_refusal, uid_of_command, uid_of_number}
-use Rattle.machine_model.specs.Refusal.{move_to}
-use Rattle.machine_model.specs.State.{State}
+use Rattle.machine_model.specs.Actions.{room_for}
 
 -- An action that a look may come to. A page is read into the least free frame where it is read into none, and made in
 -- it where it has no record; the clock's choice is evicted; a segment that isn't active takes a free place.

@@ -1,64 +1,19 @@
 -- A look of the owner finds what its outline asks of its actions.
-use Rattle.std.proofs.Common.{◌≡◌, ◌<◌, ℕ, zero, suc, Bool, true, false, not, cond, ◌&&◌, ◌||◌, eqb, List, []}
-use Rattle.std.proofs.Common.{◌∷◌, length, get_or, map, is_some, Option, Some, None, Ok}
-use Rattle.std.proofs.Common.{◌⊎◌, inl, inr, refl, sym, ap, subst, ◌∙◌, arith}
-use Rattle.std.specs.Prelude.{◌/◌}
-use Rattle.std.specs.List.{list_any}
-use Rattle.std.proofs.lemmas.List.{length-map}
-use Rattle.script.specs.References.{new_word, reference_of}
-use Rattle.script.specs.declared.commands.Command.{Command}
+use Rattle.machine_model.proofs.Prelude.{◌≡◌, ◌<◌, ℕ, zero, suc, Bool, true, false, not, cond, ◌&&◌, ◌||◌, eqb, List, [], ◌∷◌, length, get_or, map, is_some, Option, Some, None, Ok, ◌⊎◌, inl, inr, refl, sym, ap, subst, ◌∙◌, arith, ◌/◌, list_any, length-map, new_word, reference_of, Command, Reference, Node, node_in, found_member, chain_of, segment_at, is_free, least_free_frame, Frame, Ptw, store_frame, has_record, entry_at, uid_at, uid_in, off_chain, victim_of, known_of, known_uid, kst_at, place_of, word_of, has, pool_of_node, no_call, IsOwned, is_out, names, AreOf, CanActivate, CanEmpty, CanEvict, CanStart, IsIn, IsWantedPage, is_wanted_here, IsLook, KeepsLink, MayAnswer, MayConnect, MayEmpty, WantsPage, lack_of, seen, deactivation_begun, took, victim_taken, with_hand_moved, Keeps, has_free, is_here, page_fits, want_lack, wanted_chain, Want, Refer, Truncate, Length, Runner, Look, runner_at, want_at, around, bare, cut_page, is_linked, outline_of, reference_in, want_by, want_lengthened, want_of, want_truncated, IsMachine, cpu_at, descriptor_of, first_inactive, flat_of, frames_from, free_place, is_active, is_connected, next_command, or_zero, process_at, processor_at, trailers_in, outside_refusal, refusal_of, uid_of_command, uid_of_number, shown, Owner, State, with_store, has_head, has_tail, not_both}
 use Rattle.script.specs.declared.commands.Command.TheVariants as command
-use Rattle.script.specs.declared.commands.Reference.{Reference}
-use Rattle.tree_model.specs.Tree.{Node, node_in}
-use Rattle.tree_model.proofs.Finds.{found_member}
-use Rattle.dir_tree.specs.Nodes.{chain_of}
-use Rattle.flat_model.specs.Branches.{segment_at}
-use Rattle.core_map.specs.CoreMap.{is_free, least_free_frame}
-use Rattle.core_map.specs.declared.Frame.{Frame}
 use Rattle.core_map.specs.declared.Frame.TheVariants as frame
-use Rattle.page_table.specs.declared.Ptw.{Ptw}
 use Rattle.page_table.specs.declared.Ptw.TheVariants as ptw
-use Rattle.page_control.specs.Plain.{frame_in as store_frame}
-use Rattle.page_control.specs.Tied.{has_record}
 use Rattle.active_segs.specs.declared.Entry.{Entry}
-use Rattle.active_segs.specs.Active.{entry_at, uid_at, uid_in}
-use Rattle.active_segs.specs.Victim.{off_chain, victim_of}
-use Rattle.known_segs.specs.Known.{uid_of as known_of}
-use Rattle.flat_model.specs.Store.{known_uid}
-use Rattle.seg_control.specs.Control.{kst_at, place_of, word_of}
-use Rattle.custody_model.specs.Custody.{has}
 use Rattle.machine_model.specs.declared.Aim.TheVariants as aim
 use Rattle.machine_model.specs.declared.Phase.TheVariants as phase
 use Rattle.machine_model.specs.Actions as act
-use Rattle.machine_model.specs.Actions.{pool_of_node}
-use Rattle.machine_model.specs.After.{no_call}
-use Rattle.machine_model.specs.Custodial.{IsOwned, is_out, names}
-use Rattle.machine_model.specs.Finishing.{AreOf, CanActivate, CanEmpty, CanEvict, CanStart, IsIn, IsWantedPage}
-use Rattle.machine_model.specs.Finishing.{is_bound, is_wanted_here, page_of, uid_of}
-use Rattle.machine_model.specs.Foreseen.{IsLook, KeepsLink, MayAnswer, MayConnect, MayEmpty, WantsPage}
-use Rattle.machine_model.specs.Foreseen.{lack_of}
-use Rattle.machine_model.specs.Holding.{seen}
-use Rattle.machine_model.specs.Jobs.{deactivation_begun, took, victim_taken, with_hand_moved}
-use Rattle.machine_model.specs.Keeps.{Keeps}
-use Rattle.machine_model.specs.Measures.{has_free, is_here, page_fits, want_lack}
-use Rattle.machine_model.specs.Measures.{chain_of as wanted_chain}
-use Rattle.machine_model.specs.Outline.{Want, Refer, Truncate, Length, Runner, Look, frame_in, runner_at, want_at}
-use Rattle.machine_model.specs.Outlined.{around, bare, cut_page, is_linked, outline_of, reference_in, want_by}
-use Rattle.machine_model.specs.Outlined.{want_lengthened, want_of, want_truncated}
-use Rattle.machine_model.specs.Promise.{IsMachine}
-use Rattle.machine_model.specs.Reads.{cpu_at, descriptor_of, first_inactive, flat_of, frames_from, free_place}
-use Rattle.machine_model.specs.Reads.{is_active}
-use Rattle.machine_model.specs.Reads.{is_connected}
-use Rattle.machine_model.specs.Reads.{next_command, or_zero, process_at, processor_at, trailers_in}
-use Rattle.machine_model.specs.Refusal.{outside_refusal, refusal_of, uid_of_command, uid_of_number}
-use Rattle.machine_model.specs.Seen.{shown}
-use Rattle.machine_model.specs.State.{Owner, State}
-use Rattle.machine_model.specs.Steps.{with_store}
+use Rattle.machine_model.specs.Finishing.{is_bound, page_of, uid_of}
+use Rattle.machine_model.specs.Outline.{frame_in}
 use Rattle.machine_model.proofs.ActiveSeen.{active_place}
 use Rattle.machine_model.proofs.ChainFacts.{chain_active, first_there}
 use Rattle.machine_model.proofs.ComingKept.{SameRuns, all_taken, segment}
 use Rattle.machine_model.proofs.CommandFacts.{LeadsToSegment, length_stands, truncate_stands}
-use Rattle.machine_model.proofs.FindLaws.{choice_bound, free_frame, position_at, position_none}
+use Rattle.machine_model.proofs.FindLaws.{choice_bound, free_frame, position_at, position_none, first_idle}
 use Rattle.machine_model.proofs.ForeseeLaws.{has_answer, waits_reading}
 use Rattle.machine_model.proofs.FrameSeen.{bound_outlined, frame_outlined, named_here, not_here, stored_outlined}
 use Rattle.machine_model.proofs.InsideLaws.{inside_is}
@@ -66,9 +21,7 @@ use Rattle.machine_model.proofs.LinkSeen.{fault_link, segment_faults, tree_link}
 use Rattle.machine_model.proofs.ListLaws.{within_by}
 use Rattle.machine_model.proofs.ListSizes.{frames_from_few}
 use Rattle.machine_model.proofs.LookAsks.{about_there, free_is, free_within, known_within, page_active}
-use Rattle.machine_model.proofs.LookFacts.{FindsActive, FindsAll, FindsCut, FindsFull, FindsLink, FindsNoFrame}
-use Rattle.machine_model.proofs.LookFacts.{FindsNoVictim, FindsOut}
-use Rattle.machine_model.proofs.LookFacts.{FindsPage, FindsPlace, FindsVictim, IsAbout, IsInside, LookFinds, look_finds}
+use Rattle.machine_model.proofs.LookFacts.{FindsActive, FindsAll, FindsCut, FindsFull, FindsLink, FindsNoFrame, FindsNoVictim, FindsOut, FindsPage, FindsPlace, FindsVictim, IsAbout, IsInside, LookFinds, look_finds}
 use Rattle.machine_model.proofs.OutlineJob.{in_look}
 use Rattle.machine_model.proofs.OutlineReads.{at_outline, seen_reading}
 use Rattle.machine_model.proofs.OwnedLaws.{IsIdle}
@@ -79,9 +32,6 @@ use Rattle.machine_model.proofs.TieLaws.{none_some}
 use Rattle.machine_model.proofs.TransferKept.{active_at}
 use Rattle.machine_model.proofs.VictimLaws.{has_victim, member_contains, one_read, victim_is_off}
 use Rattle.machine_model.proofs.WantLaws.{linked_here, refer_wants, want_here}
-use Rattle.machine_model.proofs.FindLaws.{first_idle}
-use Rattle.custody_model.proofs.SharedLaws.{has_head, has_tail}
-use Rattle.laws.proofs.Bools.{not_both}
 
 -- ---- frames
 

@@ -1,15 +1,5 @@
 -- How the turns of the loop that makes the machine end join: turns of a job, of a command, and rounds.
-use Rattle.std.proofs.Common.{◌≡◌, ◌≤◌, ◌<◌, ℕ, ◌+◌, Bool, true, false, cond, ◌&&◌, eqb, None, is_some, refl}
-use Rattle.std.proofs.Common.{sym, ap, subst, ◌∙◌, ◌⊎◌, inl, inr, le_refl, le_trans, arith}
-use Rattle.std.proofs.lemmas.Bool.Decides.{eqb_tells}
-use Rattle.std.proofs.lemmas.Option.{none-some}
-use Rattle.machine_model.specs.Outline.{Runner, Stage, Look, Outline, runner_at, want_at, at_stage}
-use Rattle.machine_model.specs.Measures.{missing, all_rank, job_rank, command_rank}
-use Rattle.machine_model.specs.Finishing.{IsIn}
-use Rattle.machine_model.specs.OutlineKept.{IsKept}
-use Rattle.machine_model.specs.Looping.{lack_at, is_at, IsReference, IsSameCommand, IsUnderWay, IsPast, Goes, JobFell}
-use Rattle.machine_model.specs.Looping.{JobDone, AwaitsTransfer, IsReader, CommandDone, HasTaken, command_gauge}
-use Rattle.machine_model.specs.Looping.{RoundDone}
+use Rattle.machine_model.proofs.Prelude.{◌≡◌, ◌≤◌, ◌<◌, ℕ, ◌+◌, Bool, true, false, cond, ◌&&◌, eqb, None, is_some, refl, sym, ap, subst, ◌∙◌, ◌⊎◌, inl, inr, le_refl, le_trans, arith, eqb_tells, none-some, Runner, Stage, Look, Outline, runner_at, want_at, at_stage, missing, all_rank, job_rank, command_rank, IsIn, IsKept, lack_at, is_at, IsReference, IsSameCommand, IsUnderWay, IsPast, Goes, JobFell, JobDone, AwaitsTransfer, IsReader, CommandDone, HasTaken, command_gauge, RoundDone}
 
 -- ---- a job
 

@@ -1,21 +1,5 @@
 -- The whole promise holds of the machine at first.
-use Rattle.std.proofs.Common.{◌≡◌, ◌≢◌, ◌⊎◌, ◌<◌, ℕ, Bool, true, false, ◌||◌, cond, eqb, List, [], ◌∷◌, length}
-use Rattle.std.proofs.Common.{replicate}
-use Rattle.std.proofs.Common.{Some, inl, inr, refl, sym, ap, subst, ◌∙◌, arith}
-use Rattle.std.proofs.lemmas.Bool.Decides.{eqb_tells}
-use Rattle.std.proofs.lemmas.List.{get_or-replicate}
-use Rattle.script.specs.Forms.{BeginsWithInitializer, IsPlan}
-use Rattle.script.specs.Plans.{Plan, ProcessPlan}
-use Rattle.processor.specs.declared.Transfer.{Transfer}
-use Rattle.custody_model.specs.Custody.{has, range}
-use Rattle.machine_model.specs.Boot.{booted, first_run}
-use Rattle.machine_model.specs.Custodial.{AreDistinct}
-use Rattle.machine_model.specs.Keeps.{StoreSays}
-use Rattle.machine_model.specs.Promise.{KeepsAll}
-use Rattle.machine_model.specs.Reads.{cpu_at, no_processor, no_run, run_at}
-use Rattle.machine_model.specs.Scheduled.{HasTurn, IsScheduled, MayRun}
-use Rattle.machine_model.specs.declared.Processor.{Processor}
-use Rattle.machine_model.specs.declared.Run.{Run}
+use Rattle.machine_model.proofs.Prelude.{◌≡◌, ◌≢◌, ◌⊎◌, ◌<◌, ℕ, Bool, true, false, ◌||◌, cond, eqb, List, [], ◌∷◌, length, replicate, Some, inl, inr, refl, sym, ap, subst, ◌∙◌, arith, eqb_tells, get_or-replicate, BeginsWithInitializer, IsPlan, Plan, ProcessPlan, Transfer, has, range, booted, first_run, AreDistinct, StoreSays, KeepsAll, cpu_at, no_processor, no_run, run_at, HasTurn, IsScheduled, MayRun, Processor, Run}
 use Rattle.machine_model.proofs.FitsKept.{none_fits}
 use Rattle.machine_model.proofs.BootKept.{at_fill, boot_keeps}
 use Rattle.machine_model.proofs.ComingLaws.{booted_come}

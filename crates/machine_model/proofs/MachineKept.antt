@@ -1,27 +1,14 @@
 -- A machine that keeps its promise keeps it through each step, where the calls of its store do what they say.
-use Rattle.std.proofs.Common.{◌<◌, ℕ, length, sym, ap, subst, ◌∙◌}
-use Rattle.script.specs.Forms.{IsPlan}
-use Rattle.script.specs.Plans.{Plan}
+use Rattle.machine_model.proofs.Prelude.{◌<◌, ℕ, length, sym, ap, subst, ◌∙◌, IsPlan, Plan, action_of, Outcome, after, Keeps, AsksMover, mover_of, IsMachine, KeepsAll, Says, State, next_command, process_at, IsEntitledToAll, IsReading, IsWorking}
 use Rattle.machine_model.specs.Actions as act
-use Rattle.machine_model.specs.Actions.{action_of}
-use Rattle.machine_model.specs.After.{Outcome, after}
-use Rattle.machine_model.specs.Keeps.{Keeps}
-use Rattle.machine_model.specs.Movers.{AsksMover, mover_of}
-use Rattle.machine_model.specs.Promise.{IsMachine, KeepsAll}
-use Rattle.machine_model.specs.Said.{Says}
-use Rattle.machine_model.specs.State.{State}
 use Rattle.machine_model.proofs.EntitledKept.{MayEntitle, entitled_kept}
 use Rattle.machine_model.proofs.CommitRights.{commit_entitled, moved_entitled}
-use Rattle.machine_model.specs.Reads.{next_command, process_at}
 use Rattle.machine_model.proofs.MoverTied.{action_asks, tie_kept}
 use Rattle.machine_model.proofs.PoolsKept.{SamePools, pools_kept}
 use Rattle.machine_model.proofs.RulesKept.{action_can}
 use Rattle.machine_model.proofs.ScheduleKept.{schedule_kept}
 use Rattle.machine_model.proofs.FitsKept.{fits_kept}
 use Rattle.machine_model.proofs.StepAsks.{step_asks}
-use Rattle.machine_model.specs.Entitled.{IsEntitledToAll}
-use Rattle.machine_model.specs.Reading.{IsReading}
-use Rattle.machine_model.specs.Working.{IsWorking}
 use Rattle.machine_model.proofs.ReadKept.{IsPast, is_past, reading_kept}
 use Rattle.machine_model.proofs.StepGoes.{comes, may_read, may_schedule, may_work}
 use Rattle.machine_model.proofs.StepKept.{CanDo, after_keeps}

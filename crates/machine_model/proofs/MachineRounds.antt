@@ -1,23 +1,5 @@
 -- How the turns of the loop that makes the machine end join, said of machines.
-use Rattle.std.proofs.Common.{◌≡◌, ◌≢◌, ◌≤◌, ◌<◌, ℕ, zero, suc, ◌+◌, Bool, true, false, not, cond, ◌&&◌, ◌||◌, eqb}
-use Rattle.std.proofs.Common.{length, List, []}
-use Rattle.std.proofs.Common.{◌∷◌, Option, Some, None, is_some, ◌⊎◌, inl, inr, refl, sym, ap, subst, ◌∙◌, arith}
-use Rattle.std.specs.List.{list_any}
-use Rattle.machine_model.specs.Actions.{ForClear, ForOwner, ForTransfer, WhileIdle, action_of, has_process, is_empty}
-use Rattle.machine_model.specs.Actions.{is_over}
-use Rattle.machine_model.specs.Finishing.{IsEnded, IsIn, Step}
-use Rattle.machine_model.specs.Looping.{AwaitsClear, AwaitsTransfer, CommandDone, CommandStep, Goes, HasTaken}
-use Rattle.machine_model.specs.Looping.{IsReader, JobDone, IsUnderWay, JobFell, OwnerStep, RoundDone, is_at}
-use Rattle.machine_model.specs.Measures.{all_rank}
-use Rattle.machine_model.specs.Outline.{Ended, Keeper, Moved, Outline, Runner, Stage, Look, Turn, WaitsFor, runner_at}
-use Rattle.machine_model.specs.Outlined.{around, outline_of, stage_of}
-use Rattle.machine_model.specs.OutlineKept.{IsKept}
-use Rattle.machine_model.specs.Promise.{KeepsAll}
-use Rattle.machine_model.specs.Reads.{cpu_at, processor_at}
-use Rattle.machine_model.specs.Rounds.{HasStepped, IsGoing, IsOwnedBy}
-use Rattle.machine_model.specs.State.{Owner, State}
-use Rattle.machine_model.specs.Turns.{turn_of}
-use Rattle.machine_model.specs.declared.Processor.{Processor}
+use Rattle.machine_model.proofs.Prelude.{◌≡◌, ◌≢◌, ◌≤◌, ◌<◌, ℕ, zero, suc, ◌+◌, Bool, true, false, not, cond, ◌&&◌, ◌||◌, eqb, length, List, [], ◌∷◌, Option, Some, None, is_some, ◌⊎◌, inl, inr, refl, sym, ap, subst, ◌∙◌, arith, list_any, ForClear, ForOwner, ForTransfer, WhileIdle, action_of, has_process, is_empty, is_over, IsEnded, IsIn, Step, AwaitsClear, AwaitsTransfer, CommandDone, CommandStep, Goes, HasTaken, IsReader, JobDone, IsUnderWay, JobFell, OwnerStep, RoundDone, is_at, all_rank, Ended, Keeper, Moved, Outline, Runner, Stage, Look, Turn, WaitsFor, runner_at, around, outline_of, stage_of, IsKept, KeepsAll, cpu_at, processor_at, HasStepped, IsGoing, IsOwnedBy, Owner, State, turn_of, Processor}
 use Rattle.machine_model.proofs.CommandLaws.{command_step, idle_step}
 use Rattle.machine_model.proofs.ForeseeAll.{foresees}
 use Rattle.machine_model.proofs.LackLaws.{lack_few}

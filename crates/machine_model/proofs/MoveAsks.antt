@@ -1,57 +1,13 @@
 -- What a reference that a processor makes by itself asks follows from the promise, and from what it holds.
-use Rattle.std.proofs.Common.{◌≡◌, ◌<◌, ℕ, ◌*◌, Bool, true, false, ◌&&◌, ◌||◌, cond, eqb, is_some, suc}
-use Rattle.std.proofs.Common.{List, [], ◌∷◌, map}
-use Rattle.std.proofs.Common.{get_or, Option, Some, None, inl, inr, refl, sym, ap, subst, ◌∙◌, arith}
-use Rattle.std.specs.Prelude.{◌/◌, nat_le}
-use Rattle.std.specs.List.{find}
-use Rattle.std.specs.Option.{option_map}
-use Rattle.std.proofs.lemmas.Bool.Decides.{eqb_tells, leb_tells}
-use Rattle.mnames.specs.declared.modes.Mode.{Mode}
-use Rattle.mnames.specs.declared.principals.Who.{Who}
-use Rattle.script.specs.Plans.{ProcessPlan, nobody, who_of}
-use Rattle.script.specs.References.{reference_of}
-use Rattle.script.specs.declared.commands.Command.{Command}
-use Rattle.script.specs.declared.commands.RefKind.{RefKind}
+use Rattle.machine_model.proofs.Prelude.{◌≡◌, ◌<◌, ℕ, ◌*◌, Bool, true, false, ◌&&◌, ◌||◌, cond, eqb, is_some, suc, List, [], ◌∷◌, map, get_or, Option, Some, None, inl, inr, refl, sym, ap, subst, ◌∙◌, arith, ◌/◌, nat_le, find, option_map, eqb_tells, leb_tells, Mode, Who, ProcessPlan, nobody, who_of, reference_of, Command, RefKind, Reference, Reply, HeldPage, HeldSeg, frame_of, is_number, is_page, seg_of, access_of, Node, node_in, Ptw, Sdw, uid_at, has_record, word_of, who_at, reply_by, reply_to_command, is_stored, alters, new_word, permits, reply_to_reference, room_reply, stores_page, word_reply, written, written_by, Store, known_uid, DescriptorUse, IsPageAt, MayAnswerBy, MayDo, is_word_or_done, stores, has, leads_to, Outcome, AreHeldPages, AreHeldSegs, names, AreEntitled, IsEntitled, IsEntitledToAll, led_to, seen, page_in, AreThere, Keeps, cpu_at, cut_of_owner, descriptor_of, flat_of, is_active, process_at, Says, Seen, cut_uid, cut_use, descriptor_use, is_cut_at, shown, State, Storage, old_word, CutDescriptor, not_both}
 use Rattle.script.specs.declared.commands.RefKind.TheVariants as kind
-use Rattle.script.specs.declared.commands.Reference.{Reference}
-use Rattle.book.specs.declared.replies.Reply.{Reply}
 use Rattle.book.specs.declared.replies.Reply.TheVariants as reply
-use Rattle.assoc_mem.specs.declared.HeldPage.{HeldPage}
-use Rattle.assoc_mem.specs.declared.HeldSeg.{HeldSeg}
-use Rattle.assoc_mem.specs.Held.{frame_of, is_number, is_page, seg_of}
-use Rattle.tree_model.specs.Access.{access_of}
-use Rattle.tree_model.specs.Tree.{Node, node_in}
-use Rattle.page_table.specs.declared.Ptw.{Ptw}
 use Rattle.page_table.specs.declared.Ptw.TheVariants as ptw
-use Rattle.descriptor_seg.specs.declared.Sdw.{Sdw}
 use Rattle.descriptor_seg.specs.declared.Sdw.TheVariants as sdw
-use Rattle.active_segs.specs.Active.{uid_at}
-use Rattle.page_control.specs.Tied.{has_record}
-use Rattle.seg_control.specs.Control.{word_of}
-use Rattle.storage_ops.specs.Shown.{who_at}
-use Rattle.flat_model.specs.Commands.{reply_by, reply_to_command}
-use Rattle.flat_model.specs.Pages.{is_stored}
-use Rattle.script.specs.References.{alters, new_word, permits}
 use Rattle.flat_model.specs.References.{after_reference}
-use Rattle.flat_model.specs.References.{reply_to_reference}
-use Rattle.flat_model.specs.References.{room_reply, stores_page, word_reply, written, written_by}
-use Rattle.flat_model.specs.Store.{Store, known_uid}
-use Rattle.custody_model.specs.declared.DescriptorUse.{DescriptorUse}
-use Rattle.custody_model.specs.Allowed.{IsPageAt, MayAnswer as MayAnswerBy, MayDo, is_word_or_done, stores}
-use Rattle.custody_model.specs.Custody.{bound_page, has, leads_to}
+use Rattle.custody_model.specs.Custody.{bound_page}
 use Rattle.machine_model.specs.Actions as act
-use Rattle.machine_model.specs.After.{Outcome}
-use Rattle.machine_model.specs.Custodial.{AreHeldPages, AreHeldSegs, names}
-use Rattle.machine_model.specs.Entitled.{AreEntitled, IsEntitled, IsEntitledToAll}
-use Rattle.machine_model.specs.Holding.{led_to, seen}
-use Rattle.machine_model.specs.Jobs.{page_in, page_or_zero}
-use Rattle.machine_model.specs.Keeps.{AreThere, Keeps}
-use Rattle.machine_model.specs.Reads.{cpu_at, cut_of_owner, descriptor_of, flat_of, is_active, process_at}
-use Rattle.machine_model.specs.Said.{Says}
-use Rattle.machine_model.specs.Seen.{Seen, cut_uid, cut_use, descriptor_use, is_cut_at, shown}
-use Rattle.machine_model.specs.State.{State, Storage}
-use Rattle.machine_model.specs.Steps.{old_word}
-use Rattle.machine_model.specs.declared.CutDescriptor.{CutDescriptor}
+use Rattle.machine_model.specs.Jobs.{page_or_zero}
 use Rattle.machine_model.proofs.ActiveKept.{through_seen}
 use Rattle.machine_model.proofs.ChainLaws.{bound_shown}
 use Rattle.machine_model.proofs.FindLaws.{find_true}
@@ -66,7 +22,6 @@ use Rattle.machine_model.proofs.TakeSeen.{binding_is}
 use Rattle.machine_model.proofs.TellKept.{CanTell}
 use Rattle.machine_model.proofs.TieLaws.{none_some}
 use Rattle.machine_model.proofs.TransferKept.{active_at}
-use Rattle.laws.proofs.Bools.{not_both}
 
 -- ---- what is held
 

@@ -1,32 +1,6 @@
 -- What a move rests on holds where a look finds that a segment moves.
-use Rattle.std.proofs.Common.{◌≡◌, ◌<◌, ℕ, zero, suc, Bool, true, false, cond, eqb, List, Option, Some, None}
-use Rattle.std.proofs.Common.{refl, sym, ap, subst, ◌∙◌, arith, inl, inr, length}
-use Rattle.std.specs.Prelude.{◌/◌}
-use Rattle.std.proofs.lemmas.Bool.{cases_eq}
-use Rattle.mnames.specs.declared.principals.Who.{Who}
-use Rattle.script.specs.References.{permits}
-use Rattle.script.specs.declared.commands.Command.{Command}
-use Rattle.script.specs.declared.commands.Reference.{Reference}
-use Rattle.book.specs.declared.replies.Reply.{Reply}
+use Rattle.machine_model.proofs.Prelude.{◌≡◌, ◌<◌, ℕ, zero, suc, Bool, true, false, cond, eqb, List, Option, Some, None, refl, sym, ap, subst, ◌∙◌, arith, inl, inr, length, ◌/◌, cases_eq, Who, permits, Command, Reference, Reply, access_of, Node, account_of, node_in, quota_in, volume_in, Counts, is_stored, is_out_of_room, is_used_up, is_volume_full, stores_page, word_reply, first_below, has_room_flat, room_for, Store, uid_of, has_record, kst_at, is_spent, Keeps, IsFirstWithRoom, IsMovedFor, LacksRecord, MovesFor, MovesForNext, tables_of, mover_to, flat_of, is_active, is_of_room, move_to, only, room_refusal, State, nonzero_alters, found_uid}
 use Rattle.book.specs.declared.replies.Reply.TheVariants as reply
-use Rattle.tree_model.specs.Access.{access_of}
-use Rattle.tree_model.specs.Tree.{Node, account_of, node_in, quota_in, volume_in}
-use Rattle.accounts.specs.Maps.{Counts}
-use Rattle.flat_model.specs.Pages.{is_stored}
-use Rattle.flat_model.specs.References.{is_out_of_room, is_used_up, is_volume_full, stores_page, word_reply}
-use Rattle.flat_model.specs.Rooms.{first_below, has_room as has_room_flat, room_for}
-use Rattle.flat_model.specs.Store.{Store}
-use Rattle.known_segs.specs.Known.{uid_of}
-use Rattle.page_control.specs.Tied.{has_record}
-use Rattle.seg_control.specs.Control.{kst_at}
-use Rattle.storage_ops.specs.References.{is_spent}
-use Rattle.machine_model.specs.Keeps.{Keeps}
-use Rattle.machine_model.specs.Lacking.{IsFirstWithRoom, IsMovedFor, LacksRecord, MovesFor, MovesForNext}
-use Rattle.machine_model.specs.Lacking.{tables_of}
-use Rattle.machine_model.specs.Moves.{mover_to}
-use Rattle.machine_model.specs.Reads.{flat_of, is_active}
-use Rattle.machine_model.specs.Refusal.{is_of_room, move_to, only, room_refusal}
-use Rattle.machine_model.specs.State.{State}
 use Rattle.machine_model.proofs.CountsAlike.{charged_alike}
 use Rattle.machine_model.proofs.EmptyAsks.{unread_any}
 use Rattle.machine_model.proofs.InsideLaws.{due_is, inside_is}
@@ -34,8 +8,6 @@ use Rattle.machine_model.proofs.LackingLaws.{full_is, room_same}
 use Rattle.machine_model.proofs.LookFacts.{FindsMove, IsInside}
 use Rattle.machine_model.proofs.MoveAsks.{who_is}
 use Rattle.machine_model.proofs.PageShown.{null_word, stored_is}
-use Rattle.flat_model.proofs.SharedLaws.{nonzero_alters}
-use Rattle.tree_model.proofs.SharedLaws.{found_uid}
 
 -- ---- the first that passes a test
 

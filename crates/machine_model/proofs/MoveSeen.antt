@@ -1,28 +1,10 @@
 -- What custody sees of a machine where a page is being read, is there, isn't, or is made, and where a descriptor is
 -- connected.
-use Rattle.std.proofs.Common.{◌≡◌, ◌≢◌, ◌<◌, ℕ, true, false, List, [], ◌∷◌, ◌++◌, length, set, Option, Some, None, sym}
-use Rattle.std.proofs.Common.{ap, ◌∙◌}
+use Rattle.machine_model.proofs.Prelude.{◌≡◌, ◌≢◌, ◌<◌, ℕ, true, false, List, [], ◌∷◌, ◌++◌, length, set, Option, Some, None, sym, ap, ◌∙◌, Mode, Ptw, framed, uid_at, Transfer, place_of, sdws_at, table_of, linked, at_put, at_put_two, back_seg, page_brought, connected, here, lost, page_started, with_transfer, is_out, led_to, seen, descriptor_of, no_processor, processor_at, Processor, CutDescriptor, Owner, State, brought, with_created, with_pages}
 use Rattle.book.specs.declared.entries.Entry.TheVariants as entry
-use Rattle.mnames.specs.declared.modes.Mode.{Mode}
 use Rattle.core_map.specs.declared.Frame.TheVariants as frame
-use Rattle.page_table.specs.declared.Ptw.{Ptw}
 use Rattle.page_table.specs.declared.Ptw.TheVariants as ptw
-use Rattle.page_control.specs.Effects.{framed}
-use Rattle.active_segs.specs.Active.{uid_at}
 use Rattle.descriptor_seg.specs.declared.Sdw.TheVariants as sdw
-use Rattle.processor.specs.declared.Transfer.{Transfer}
-use Rattle.seg_control.specs.Control.{place_of, sdws_at, table_of}
-use Rattle.seg_control.specs.Effects.{linked}
-use Rattle.custody_model.specs.Next.{at_put, at_put_two}
-use Rattle.machine_model.specs.Changes.{back_seg, brought as page_brought, connected, here, lost}
-use Rattle.machine_model.specs.Changes.{started as page_started, with_transfer}
-use Rattle.machine_model.specs.Custodial.{is_out}
-use Rattle.machine_model.specs.Holding.{led_to, seen}
-use Rattle.machine_model.specs.Reads.{descriptor_of, no_processor, processor_at}
-use Rattle.machine_model.specs.declared.Processor.{Processor}
-use Rattle.machine_model.specs.declared.CutDescriptor.{CutDescriptor}
-use Rattle.machine_model.specs.State.{Owner, State}
-use Rattle.machine_model.specs.Steps.{brought, with_created, with_pages}
 use Rattle.machine_model.proofs.LeaveSeen.{unread_put as none_put}
 use Rattle.machine_model.proofs.ListLaws.{put_list}
 use Rattle.machine_model.proofs.Places.{put_two_map}

@@ -1,36 +1,10 @@
 -- A segment that has moved gives its command the record that it lacks: on the volume where it lies one is free.
-use Rattle.std.proofs.Common.{◌≡◌, ◌≢◌, ◌<◌, ℕ, ◌+◌, ◌-◌, Bool, true, false, not, ◌&&◌, eqb, List, []}
-use Rattle.std.proofs.Common.{Option, Some, get_or, is_some, length, inl, inr, refl, sym, ap, ◌∙◌, arith}
-use Rattle.std.proofs.Common.{◌⊎◌}
-use Rattle.std.specs.Prelude.{◌/◌, count_by, nat_lt}
-use Rattle.std.proofs.lemmas.Bool.{ne_eqb}
-use Rattle.std.proofs.lemmas.Bool.Decides.{Decides-ltb, eqb_tells}
-use Rattle.std.proofs.lemmas.List.{get_or-set_other, get_or-set_same}
-use Rattle.script.specs.declared.commands.Command.{Command}
-use Rattle.tree_model.specs.Tree.{Node, volume_in}
-use Rattle.dir_tree.specs.Nodes.{chain_of}
-use Rattle.accounts.specs.Maps.{count_of}
-use Rattle.page_control.specs.Counts.{is_full, size, taken}
-use Rattle.seg_mover.specs.declared.Mover.{Mover}
-use Rattle.seg_mover.specs.Homes.{map_at}
-use Rattle.seg_mover.specs.Moves.{begun}
-use Rattle.seg_mover.specs.Records.{flags_taken}
-use Rattle.seg_mover.proofs.Records.{HasTaken, has_taken}
-use Rattle.seg_control.specs.Moving.{pair_of, volumes_of}
-use Rattle.storage_ops.specs.Shown.{home_of}
-use Rattle.machine_model.specs.Finishing.{HasMoved}
-use Rattle.machine_model.specs.Foreseen.{full_there}
-use Rattle.machine_model.specs.Keeps.{Keeps}
-use Rattle.machine_model.specs.Lacking.{LacksRecord, MovesFor, tables_of}
-use Rattle.machine_model.specs.Moves.{with_moved}
-use Rattle.machine_model.specs.Outline.{Refer}
-use Rattle.machine_model.specs.Outlined.{around, outline_of, want_by, want_of}
-use Rattle.machine_model.specs.Reads.{cpu_at, is_active, next_command}
-use Rattle.machine_model.specs.State.{State}
+use Rattle.machine_model.proofs.Prelude.{◌≡◌, ◌≢◌, ◌<◌, ℕ, ◌+◌, ◌-◌, Bool, true, false, not, ◌&&◌, eqb, List, [], Option, Some, get_or, is_some, length, inl, inr, refl, sym, ap, ◌∙◌, arith, ◌⊎◌, ◌/◌, count_by, nat_lt, ne_eqb, Decides-ltb, eqb_tells, get_or-set_other, get_or-set_same, Command, Node, volume_in, chain_of, count_of, is_full, size, Mover, map_at, begun, flags_taken, has_taken, pair_of, volumes_of, home_of, HasMoved, full_there, Keeps, LacksRecord, MovesFor, tables_of, with_moved, Refer, around, outline_of, want_by, want_of, cpu_at, is_active, next_command, State, within_from}
+use Rattle.page_control.specs.Counts.{taken}
+use Rattle.seg_mover.proofs.Records.{HasTaken}
 use Rattle.machine_model.proofs.LackingLaws.{inside}
 use Rattle.machine_model.proofs.WantLaws.{refer_wants, want_here}
 use Rattle.machine_model.proofs.WantMoved.{put_is, put_there}
-use Rattle.laws.proofs.Lists.{within_from}
 
 -- a volume that has room for a segment is another than its own, and has records free for more than its stored pages
 record IsRoomy (own volume pages used records : ℕ) : Type 0 where

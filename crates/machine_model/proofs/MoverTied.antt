@@ -1,51 +1,12 @@
 -- The move that segment control has under way is that of the supervisor's owner, after each action.
-use Rattle.std.proofs.Common.{◌≡◌, ℕ, Bool, true, false, cond, eqb, not, ◌&&◌, List, [], ◌∷◌, position, Option, Some}
-use Rattle.std.proofs.Common.{None}
-use Rattle.std.proofs.Common.{refl, sym, ap, subst, ◌∙◌}
-use Rattle.std.proofs.lemmas.Bool.{cond_both}
-use Rattle.script.specs.References.{reference_of}
-use Rattle.script.specs.declared.commands.Command.{Command}
+use Rattle.machine_model.proofs.Prelude.{◌≡◌, ℕ, Bool, true, false, cond, eqb, not, ◌&&◌, List, [], ◌∷◌, position, Option, Some, None, refl, sym, ap, subst, ◌∙◌, cond_both, reference_of, Command, Reference, What, Ptw, bound_page, erased, frame_in, Move, Transfer, table_of, next_out, Aim, CutDescriptor, Phase, Processor, action_of, by_move, clear_or, come_to, copy_or_commit, finish_of, go_on_with, has_had_its_turn, is_empty, load_or_idle, look_of, once_cleared, own_or_run, refer_or_take, run_process, take_or_wait, transfer_or, Outcome, after, committed, committed_at, frames_freed, with_deleted, with_effect, with_truncated, without_page, cut_all, cut_one, emptied, here_if, leaving_if, owner_signalled, page_back, page_done, pages_back, seg_back, seg_gone, segment_taken, segs_back, segs_gone, take_all, take_one, took, with_choice, with_hand_moved, with_here, with_inactive, without_first_frame, write_failed, phase_signalled, eviction_done, AsksMover, mover_in, mover_of, copy_failed, page_copied, IsMachine, cut_of_owner, frames_from, frames_of_owner, home_in, is_active, is_due, next_command, process_at, processor_at, trailers_in, uid_of_command, Owner, State, Storage, fault_told, with_pages, with_store, with_faults, transferred, transfer_failed}
 use Rattle.script.specs.declared.commands.Command.TheVariants as command
-use Rattle.script.specs.declared.commands.Reference.{Reference}
-use Rattle.assoc_mem.specs.declared.What.{What}
 use Rattle.assoc_mem.specs.declared.What.TheVariants as what
-use Rattle.page_table.specs.declared.Ptw.{Ptw}
 use Rattle.page_table.specs.declared.Ptw.TheVariants as ptw
-use Rattle.core_map.specs.CoreMap.{bound_page}
-use Rattle.page_control.specs.Effects.{erased}
-use Rattle.page_control.specs.Plain.{frame_in}
-use Rattle.processor.specs.declared.Move.{Move}
 use Rattle.processor.specs.declared.Move.TheVariants as move
-use Rattle.processor.specs.declared.Transfer.{Transfer}
-use Rattle.seg_control.specs.Control.{table_of}
-use Rattle.seg_control.specs.Moving.{next_out}
-use Rattle.machine_model.specs.declared.Aim.{Aim}
 use Rattle.machine_model.specs.declared.Aim.TheVariants as aim
-use Rattle.machine_model.specs.declared.CutDescriptor.{CutDescriptor}
-use Rattle.machine_model.specs.declared.Phase.{Phase}
 use Rattle.machine_model.specs.declared.Phase.TheVariants as phase
-use Rattle.machine_model.specs.declared.Processor.{Processor}
 use Rattle.machine_model.specs.Actions as act
-use Rattle.machine_model.specs.Actions.{action_of, by_move, clear_or, come_to, copy_or_commit, finish_of, go_on_with}
-use Rattle.machine_model.specs.Actions.{has_had_its_turn, is_empty, load_or_idle, look_of, once_cleared, own_or_run}
-use Rattle.machine_model.specs.Actions.{refer_or_take, run_process, take_or_wait, transfer_or}
-use Rattle.machine_model.specs.After.{Outcome, after}
-use Rattle.machine_model.specs.Commits.{committed, committed_at, frames_freed, with_deleted, with_effect}
-use Rattle.machine_model.specs.Commits.{with_truncated}
-use Rattle.machine_model.specs.Commits.{without_page}
-use Rattle.machine_model.specs.Jobs.{cut_all, cut_one, emptied, here_if, leaving_if, owner_signalled}
-use Rattle.machine_model.specs.Jobs.{page_back, page_done, pages_back, seg_back, seg_gone, segment_taken, segs_back}
-use Rattle.machine_model.specs.Jobs.{segs_gone, take_all, take_one, took, with_choice, with_hand_moved, with_here}
-use Rattle.machine_model.specs.Jobs.{with_inactive, without_first_frame, write_failed, phase_signalled, eviction_done}
-use Rattle.machine_model.specs.Movers.{AsksMover, mover_in, mover_of}
-use Rattle.machine_model.specs.Moves.{copy_failed, page_copied}
-use Rattle.machine_model.specs.Promise.{IsMachine}
-use Rattle.machine_model.specs.Reads.{cut_of_owner, frames_from, frames_of_owner, home_in, is_active, is_due}
-use Rattle.machine_model.specs.Reads.{next_command}
-use Rattle.machine_model.specs.Reads.{process_at, processor_at, trailers_in}
-use Rattle.machine_model.specs.Refusal.{uid_of_command}
-use Rattle.machine_model.specs.State.{Owner, State, Storage}
-use Rattle.machine_model.specs.Steps.{fault_told, with_pages, with_store, with_faults, transferred, transfer_failed}
 use Rattle.machine_model.proofs.ActionCases.{action_by}
 use Rattle.machine_model.proofs.EffectLaws.{effect_has, truncated_has}
 use Rattle.machine_model.proofs.LookLaws.{IsLook, look_is}

@@ -1,37 +1,8 @@
 -- The machine keeps its promise through the steps of a move.
-use Rattle.std.proofs.Common.{◌≡◌, ◌≤◌, ℕ, false, List, [], ◌∷◌, ◌++◌, Option, Some, None, ◌⊎◌, inl}
-use Rattle.std.proofs.Common.{inr, refl, sym, ap, subst, ◌∙◌, arith, count_by, suc, zero}
-use Rattle.std.specs.Prelude.{◌^◌, min}
-use Rattle.site_io.specs.Faults.{Rose}
+use Rattle.machine_model.proofs.Prelude.{◌≡◌, ◌≤◌, ℕ, false, List, [], ◌∷◌, ◌++◌, Option, Some, None, ◌⊎◌, inl, inr, refl, sym, ap, subst, ◌∙◌, arith, count_by, suc, zero, ◌^◌, min, Rose, IsLawful, MayFault, after_entry, MayMove, MayRehome, Custody, Fine, custody_next, Ptw, ptw_at, rehomed, rehomed_word, binding_at, bindings_modified, reads_modified, ActiveSegs, table_at, Mover, map_at, place_of, table_of, word_of, tabled, read_at, KeepsBook, is_out, is_pending, names, IsOwned, seen, IsAtWork, Keeps, StoreSays, is_fault, copy_failed, move_begun, move_committed, mover_to, moving, page_copied, past_page, volumes_in, without_move, flat_of, process_at, processor_at, run_at, Seen, bound_use, frame_use, shown, Owner, State, fault_told, looking, told, with_faults, with_store, length-set}
 use Rattle.book.specs.declared.entries.Entry.TheVariants as entry
 use Rattle.book.specs.declared.replies.Reply.TheVariants as reply
-use Rattle.flat_model.specs.Legal.{IsLawful, MayFault, after_entry}
-use Rattle.flat_model.specs.Moves.{MayMove}
-use Rattle.custody_model.specs.Allowed.{MayRehome}
-use Rattle.custody_model.specs.Custody.{Custody}
-use Rattle.custody_model.specs.Fine.{Fine}
-use Rattle.custody_model.specs.Next.{custody_next}
-use Rattle.page_table.specs.declared.Ptw.{Ptw}
 use Rattle.page_table.specs.declared.Ptw.TheVariants as ptw
-use Rattle.page_table.specs.PageTable.{ptw_at}
-use Rattle.page_control.specs.Moves.{rehomed, rehomed_word}
-use Rattle.page_control.specs.Plain.{binding_at}
-use Rattle.page_control.proofs.Modified.{bindings_modified, reads_modified}
-use Rattle.active_segs.specs.Active.{ActiveSegs, table_at}
-use Rattle.seg_mover.specs.declared.Mover.{Mover}
-use Rattle.seg_mover.specs.Homes.{map_at}
-use Rattle.seg_control.specs.Control.{place_of, table_of, word_of}
-use Rattle.seg_control.specs.Effects.{tabled}
-use Rattle.seg_control.specs.Kept.{read_at}
-use Rattle.machine_model.specs.Custodial.{KeepsBook, is_out, is_pending, names, IsOwned}
-use Rattle.machine_model.specs.Holding.{seen}
-use Rattle.machine_model.specs.Keeps.{IsAtWork, Keeps, StoreSays, is_fault}
-use Rattle.machine_model.specs.Moves.{copy_failed, move_begun, move_committed, mover_to, moving, page_copied}
-use Rattle.machine_model.specs.Moves.{past_page, volumes_in, without_move}
-use Rattle.machine_model.specs.Reads.{flat_of, process_at, processor_at, run_at}
-use Rattle.machine_model.specs.Seen.{Seen, bound_use, frame_use, shown}
-use Rattle.machine_model.specs.State.{Owner, State}
-use Rattle.machine_model.specs.Steps.{fault_told, looking, told, with_faults, with_store}
 use Rattle.machine_model.proofs.AnswerLaws.{fault_keeps, owner_keeps}
 use Rattle.machine_model.proofs.BookNext.{book_apart}
 use Rattle.machine_model.proofs.KeepLaws.{faults_push}
@@ -40,7 +11,6 @@ use Rattle.machine_model.proofs.ReleaseSeen.{set_either}
 use Rattle.machine_model.proofs.TellKept.{CanTell, told_keeps}
 use Rattle.machine_model.proofs.TieLaws.{none_some}
 use Rattle.machine_model.proofs.TransferKept.{kept_with, quiet_faults}
-use Rattle.std.proofs.lemmas.List.{length-set}
 use Rattle.machine_model.proofs.ActiveKept.{looks_idle}
 
 -- ---- owners that have taken nothing

@@ -1,24 +1,8 @@
 -- What the store says after each step of a move, by what its calls say of it.
-use Rattle.std.proofs.Common.{◌≡◌, ℕ, Bool, true, false, cond, Some, refl, sym, ap}
-use Rattle.std.proofs.Common.{subst, ◌∙◌, None}
-use Rattle.std.proofs.lemmas.List.{length-map}
+use Rattle.machine_model.proofs.Prelude.{◌≡◌, ℕ, Bool, true, false, cond, Some, refl, sym, ap, subst, ◌∙◌, None, length-map, IsTree, IsLawful, after_entry, MayMove, moved, store_after-push, entry_total, modified_of, Mover, Outcome, after, Keeps, StoreSays, copy_failed, move_begun, move_committed, page_copied, without_move, flat_of, process_at, run_at, Says, State, fault_told, with_faults, with_store}
 use Rattle.book.specs.declared.entries.Entry.TheVariants as entry
 use Rattle.book.specs.declared.replies.Reply.TheVariants as reply
-use Rattle.tree_model.specs.Trees.{IsTree}
-use Rattle.flat_model.specs.Legal.{IsLawful, after_entry}
-use Rattle.flat_model.specs.Moves.{MayMove, moved}
-use Rattle.flat_model.proofs.BookLaws.{store_after-push}
-use Rattle.flat_model.proofs.QuotaTotals.{entry_total}
-use Rattle.page_control.specs.Moves.{modified_of}
-use Rattle.seg_mover.specs.declared.Mover.{Mover}
 use Rattle.machine_model.specs.Actions as act
-use Rattle.machine_model.specs.After.{Outcome, after}
-use Rattle.machine_model.specs.Keeps.{Keeps, StoreSays}
-use Rattle.machine_model.specs.Moves.{copy_failed, move_begun, move_committed, page_copied, without_move}
-use Rattle.machine_model.specs.Reads.{flat_of, process_at, run_at}
-use Rattle.machine_model.specs.Said.{Says}
-use Rattle.machine_model.specs.State.{State}
-use Rattle.machine_model.specs.Steps.{fault_told, with_faults, with_store}
 use Rattle.machine_model.proofs.FlatAlike.{alike, alike_by, alike_on, fault_alike, refused_alike}
 use Rattle.machine_model.proofs.SaysLaws.{none_rest, says_is}
 

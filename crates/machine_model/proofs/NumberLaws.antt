@@ -1,26 +1,10 @@
 -- What a job cuts is known by its number to its process, and is so still once it is cut.
-use Rattle.std.proofs.Common.{◌≡◌, ◌≤◌, ◌+◌, ℕ, arith, length, List, [], ◌∷◌, ◌++◌, Option, Some, None, refl, sym, ap}
-use Rattle.std.proofs.Common.{subst, ◌∙◌}
-use Rattle.std.proofs.lemmas.List.{length-append}
-use Rattle.assoc_mem.specs.declared.What.{What}
-use Rattle.descriptor_seg.specs.declared.Sdw.{Sdw}
+use Rattle.machine_model.proofs.Prelude.{◌≡◌, ◌≤◌, ◌+◌, ℕ, arith, length, List, [], ◌∷◌, ◌++◌, Option, Some, None, refl, sym, ap, subst, ◌∙◌, length-append, What, Sdw, uid_of, kst_at, leads, Aim, CutDescriptor, led_to, seen, cut_all, cut_one, note_of, owner_signalled, take_all, take_one, took, without_first_frame, Keeps, cut_of_owner, descriptor_of, frames_of_owner, Owner, State, AreNumbered, OwnsFew}
 use Rattle.descriptor_seg.specs.declared.Sdw.TheVariants as sdw
-use Rattle.known_segs.specs.Known.{uid_of}
-use Rattle.seg_control.specs.Control.{kst_at, leads}
-use Rattle.machine_model.specs.declared.Aim.{Aim}
-use Rattle.machine_model.specs.declared.CutDescriptor.{CutDescriptor}
-use Rattle.machine_model.specs.Holding.{led_to, seen}
-use Rattle.machine_model.specs.Jobs.{cut_all, cut_one, note_of, owner_signalled, take_all, take_one, took}
-use Rattle.machine_model.specs.Jobs.{without_first_frame}
-use Rattle.machine_model.specs.Keeps.{Keeps}
-use Rattle.machine_model.specs.Reads.{cut_of_owner, descriptor_of, frames_of_owner}
-use Rattle.machine_model.specs.State.{Owner, State}
-use Rattle.machine_model.specs.Working.{AreNumbered, OwnsFew}
 use Rattle.machine_model.proofs.OwnedLaws.{IsIdle}
-use Rattle.machine_model.proofs.TakeWhole.{take_linked}
+use Rattle.machine_model.proofs.TakeWhole.{take_linked, cut_frames}
 use Rattle.machine_model.proofs.TieLaws.{none_some}
 use Rattle.machine_model.proofs.TookKept.{ArePairs, linked_before, noted, noted_has, pairs_left}
-use Rattle.machine_model.proofs.TakeWhole.{cut_frames}
 
 -- the number of a descriptor that leads to a segment stands for it
 abbrev KnowsLinked : (ℕ → ℕ → Option ℕ) → List (List (Option ℕ)) → Type 0

@@ -1,15 +1,6 @@
 -- A pool with more places than a chain has links has a segment off the chain, once each of its places is used.
-use Rattle.std.proofs.Common.{◌≡◌, ◌<◌, ℕ, zero, suc, ◌+◌, Bool, true, false, not, ◌||◌, eqb, List, [], ◌∷◌, length}
-use Rattle.std.proofs.Common.{Option, Some, None, is_some, refl, sym, ap, subst, ◌∙◌, ◌⊎◌, inl, inr, add-zero, arith}
-use Rattle.std.specs.List.{list_any, AllByRecursion, IsDistinct}
-use Rattle.std.specs.Cmp.{nat_eq_equiv}
-use Rattle.std.proofs.lemmas.Bool.Decides.{eqb_tells}
-use Rattle.std.proofs.lemmas.Map.Made.{length-le_from_is_member}
+use Rattle.machine_model.proofs.Prelude.{◌≡◌, ◌<◌, ℕ, zero, suc, ◌+◌, Bool, true, false, not, ◌||◌, eqb, List, [], ◌∷◌, length, Option, Some, None, is_some, refl, sym, ap, subst, ◌∙◌, ◌⊎◌, inl, inr, add-zero, arith, list_any, AllByRecursion, IsDistinct, nat_eq_equiv, eqb_tells, length-le_from_is_member, ActiveSegs, IsOneToOne, entry_at, uid_at, uid_in, first_of, size_of, HasOneOffChain, off_chain, or_zero}
 use Rattle.active_segs.specs.declared.Entry.{Entry}
-use Rattle.active_segs.specs.Active.{ActiveSegs, IsOneToOne, entry_at, uid_at, uid_in}
-use Rattle.active_segs.specs.Pool.{first_of, size_of}
-use Rattle.active_segs.specs.Victim.{HasOneOffChain, off_chain}
-use Rattle.machine_model.specs.Reads.{or_zero}
 
 -- ---- a search
 

@@ -1,16 +1,6 @@
 -- A page that isn't on its record alone stays so while other pages come into frames and are on their way out.
-use Rattle.std.proofs.Common.{◌≡◌, ℕ, false, List, [], get_or, set, inl, inr, refl, sym}
-use Rattle.std.proofs.Common.{ap, ◌∙◌}
-use Rattle.assoc_mem.specs.declared.What.{What}
-use Rattle.page_table.specs.declared.Ptw.{Ptw}
+use Rattle.machine_model.proofs.Prelude.{◌≡◌, ℕ, false, List, [], get_or, set, inl, inr, refl, sym, ap, ◌∙◌, What, Ptw, ActiveSegs, table_at, place_of, table_of, word_of, worded, Aim, is_out, took, State}
 use Rattle.page_table.specs.declared.Ptw.TheVariants as ptw
-use Rattle.active_segs.specs.Active.{ActiveSegs, table_at}
-use Rattle.seg_control.specs.Control.{place_of, table_of, word_of}
-use Rattle.seg_control.specs.Effects.{worded}
-use Rattle.machine_model.specs.declared.Aim.{Aim}
-use Rattle.machine_model.specs.Custodial.{is_out}
-use Rattle.machine_model.specs.Jobs.{took}
-use Rattle.machine_model.specs.State.{State}
 use Rattle.machine_model.proofs.ReleaseSeen.{set_either}
 use Rattle.machine_model.proofs.EffectLaws.{took_has}
 

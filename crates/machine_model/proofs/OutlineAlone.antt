@@ -1,37 +1,10 @@
 -- In the outline of the machine, the steps that a processor makes without the supervisor are steps of the outline.
-use Rattle.std.proofs.Common.{◌≡◌, ◌≢◌, ◌<◌, ℕ, ◌+◌, ◌-◌, ◌/◌, Bool, true, false, cond, ◌&&◌, eqb, List, [], ◌∷◌, ◌++◌}
-use Rattle.std.proofs.Common.{length, drop, Option, Some, None, is_some, option_map, refl, sym, ap, subst}
-use Rattle.std.proofs.Common.{◌∙◌, arith}
-use Rattle.std.specs.List.{find}
-use Rattle.script.specs.declared.commands.Reference.{Reference}
-use Rattle.assoc_mem.specs.declared.What.{What}
-use Rattle.assoc_mem.specs.declared.HeldSeg.{HeldSeg}
-use Rattle.assoc_mem.specs.declared.HeldPage.{HeldPage}
-use Rattle.assoc_mem.specs.Held.{Held, cleared, frame_of, is_number, is_page, nothing_held, page_of, seg_of, with_page}
-use Rattle.assoc_mem.specs.Held.{with_seg}
-use Rattle.processor.specs.declared.Transfer.{Transfer}
-use Rattle.descriptor_seg.specs.declared.Sdw.{Sdw}
+use Rattle.machine_model.proofs.Prelude.{◌≡◌, ◌≢◌, ◌<◌, ℕ, ◌+◌, ◌-◌, ◌/◌, Bool, true, false, cond, ◌&&◌, eqb, List, [], ◌∷◌, ◌++◌, length, drop, Option, Some, None, is_some, option_map, refl, sym, ap, subst, ◌∙◌, arith, find, Reference, What, HeldSeg, HeldPage, Held, frame_of, is_number, is_page, nothing_held, seg_of, with_page, with_seg, Transfer, Sdw, ForOwner, WhileIdle, Processor, Run, State, Owner, processor_at, cpu_at, process_at, run_at, descriptor_of, came_online, held_page, held_seg, left_at, loaded, looking, page_filled, queued, seg_filled, transferred, uid_of_held, with_faults, with_owner, Refer, Runner, Look, Outline, Turn, Moved, WaitsFor, runner_at, want_at, with_runner, at_stage, lack, missing, Comes, Clears, Reads, Loads, Leaves, Commands, rule_of, Step, comes, clears, reads, loads, idles, leaves, fills, faults, enters, waits, IsCleared, HasLoaded, HasLeft, IsFilled, with_bound, not_reading, Around, around, reference_in, holds_seg, holds_page, bare, runner_by, runner_of, keeper_of, stage_of, outline_of, eqb_self}
+use Rattle.assoc_mem.specs.Held.{cleared, page_of}
 use Rattle.descriptor_seg.specs.declared.Sdw.TheVariants as sdw
 use Rattle.core_map.specs.declared.Frame.TheVariants as frame
-use Rattle.machine_model.specs.Actions.{ForOwner, WhileIdle}
-use Rattle.machine_model.specs.declared.Processor.{Processor}
-use Rattle.machine_model.specs.declared.Run.{Run}
-use Rattle.machine_model.specs.State.{State, Owner}
-use Rattle.machine_model.specs.Reads.{processor_at, cpu_at, process_at, run_at, descriptor_of}
-use Rattle.machine_model.specs.Steps.{came_online, cleared_at, held_page, held_seg, left_at, loaded, looking}
-use Rattle.machine_model.specs.Steps.{page_filled, queued, seg_filled, transferred, uid_of_held, with_faults}
-use Rattle.machine_model.specs.Steps.{with_owner}
-use Rattle.machine_model.specs.Outline.{Refer, Runner, Look, Outline, Turn, Moved, WaitsFor, runner_at, want_at}
-use Rattle.machine_model.specs.Outline.{with_runner, at_stage}
-use Rattle.machine_model.specs.Measures.{lack, missing}
-use Rattle.machine_model.specs.Finishing.{Comes, Clears, Reads, Loads, Leaves, Commands, rule_of, Step, comes, clears}
-use Rattle.machine_model.specs.Finishing.{reads, loads, idles, leaves, fills, faults, enters, waits, IsCleared}
-use Rattle.machine_model.specs.Finishing.{HasLoaded, HasLeft, IsFilled, with_bound, not_reading}
-use Rattle.machine_model.specs.Outlined.{Around, around, reference_in, holds_seg, holds_page, bare, runner_by}
-use Rattle.machine_model.specs.Outlined.{runner_of, keeper_of, stage_of, outline_of}
-use Rattle.machine_model.proofs.OutlineReads.{at_outline, one_outlined, set_map, seen_online, seen_running, seen_due}
-use Rattle.machine_model.proofs.OutlineReads.{seen_reading, seen_since, seen_tried, ready_seen}
-use Rattle.laws.proofs.Numbers.{eqb_self}
+use Rattle.machine_model.specs.Steps.{cleared_at}
+use Rattle.machine_model.proofs.OutlineReads.{at_outline, one_outlined, set_map, seen_online, seen_running, seen_due, seen_reading, seen_since, seen_tried, ready_seen}
 
 -- a step to an outline that is the same
 pub step_to : (s t u : Outline) (c : ℕ) (turn : Turn) → t ≡ u → Step s c turn t → Step s c turn u

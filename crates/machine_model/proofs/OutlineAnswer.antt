@@ -1,34 +1,11 @@
 -- In the outline of the machine, what answers a command is a step that leaves less to come.
-use Rattle.std.proofs.Common.{◌≡◌, ◌<◌, ℕ, ◌+◌, true, false, List, [], ◌∷◌, length, slice_get, Option, Some, None}
-use Rattle.std.proofs.Common.{is_some, refl, sym, ap, subst, ◌∙◌, inl, inr, ◌⊎◌, arith}
-use Rattle.std.proofs.lemmas.List.{get_or-set_same, length-set}
-use Rattle.script.specs.Forms.{weight}
-use Rattle.script.specs.Plans.{Plan, commands_of}
-use Rattle.script.specs.declared.commands.Command.{Command}
+use Rattle.machine_model.proofs.Prelude.{◌≡◌, ◌<◌, ℕ, ◌+◌, true, false, List, [], ◌∷◌, length, slice_get, Option, Some, None, is_some, refl, sym, ap, subst, ◌∙◌, inl, inr, ◌⊎◌, arith, get_or-set_same, length-set, weight, Plan, commands_of, Command, Reference, Reply, Processor, Run, CutDescriptor, State, or_zero, no_processor, next_command, processor_at, cpu_at, process_at, run_at, frames_of_owner, cut_of_owner, with_store, with_pages, pages_after, fault_told, left_at, page_created, page_made, run_after, told, went_through, with_owner, page_back, pages_back, seg_back, segs_back, write_failed, committed, left_after, Runner, Stage, Moved, runner_at, dues, Commands, rule_of, IsIn, IsAnswered, IsReplied, JobStep, answers, Step, replies, around, left_in, outline_of, CanTell, Plain, not_both}
 use Rattle.script.specs.declared.commands.Command.TheVariants as command
-use Rattle.script.specs.declared.commands.Reference.{Reference}
-use Rattle.book.specs.declared.replies.Reply.{Reply}
 use Rattle.book.specs.declared.replies.Reply.TheVariants as reply
-use Rattle.machine_model.specs.declared.Processor.{Processor}
-use Rattle.machine_model.specs.declared.Run.{Run}
-use Rattle.machine_model.specs.declared.CutDescriptor.{CutDescriptor}
-use Rattle.machine_model.specs.State.{State}
-use Rattle.machine_model.specs.Reads.{or_zero, no_processor, next_command, processor_at, cpu_at, process_at, run_at}
-use Rattle.machine_model.specs.Reads.{frames_of_owner, cut_of_owner}
-use Rattle.machine_model.specs.Steps.{answered, with_store, with_pages, pages_after, fault_told, left_at}
-use Rattle.machine_model.specs.Steps.{page_created, page_made, run_after, told, went_through, with_owner}
-use Rattle.machine_model.specs.Jobs.{page_back, pages_back, seg_back, segs_back, write_failed}
-use Rattle.machine_model.specs.Commits.{committed, left_after}
-use Rattle.machine_model.specs.Outline.{Runner, Stage, Moved, runner_at}
-use Rattle.machine_model.specs.Measures.{dues}
-use Rattle.machine_model.specs.Finishing.{Commands, rule_of, IsIn, IsAnswered, IsReplied, JobStep, answers, Step}
-use Rattle.machine_model.specs.Finishing.{replies}
-use Rattle.machine_model.specs.Outlined.{around, left_in, left_of, outline_of}
-use Rattle.machine_model.specs.Foreseen.{CanTell}
+use Rattle.machine_model.specs.Steps.{answered}
+use Rattle.machine_model.specs.Outlined.{left_of}
 use Rattle.machine_model.proofs.LeftLaws.{answer_falls, left_falls}
-use Rattle.page_control.specs.Plain.{Plain}
 use Rattle.machine_model.proofs.OutlineReads.{at_outline, seen_running, seen_since}
-use Rattle.laws.proofs.Bools.{not_both}
 use Rattle.machine_model.proofs.OutlineAlone.{owner_none}
 
 -- what is to come, of a machine

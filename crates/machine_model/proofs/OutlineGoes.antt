@@ -1,19 +1,10 @@
 -- In an outline that is kept and hasn't ended, some processor moves: the owner of the supervisor, or who it waits for;
 -- where nobody owns it a processor that has a process, or else processor 0.
-use Rattle.std.proofs.Common.{◌≡◌, ◌<◌, ℕ, true, false, eqb, length, position, Option, Some, None, is_some}
-use Rattle.std.proofs.Common.{refl, sym, ap, ◌∙◌, inl, inr}
-use Rattle.std.proofs.lemmas.Bool.Decides.{eqb_tells}
-use Rattle.processor.specs.declared.Transfer.{Transfer}
-use Rattle.machine_model.specs.Outline.{Runner, no_runner, Stage, Keeper, Outline, Turn, Moved, runner_at}
-use Rattle.machine_model.specs.Finishing.{Works, Loads, Commands, rule_of, owns, IsEnded, IsIn}
-use Rattle.machine_model.specs.Finishing.{Step, ends, awaits_clear}
-use Rattle.machine_model.specs.Finishing.{awaits_transfer, idles, waits}
-use Rattle.machine_model.specs.OutlineKept.{IsKept}
+use Rattle.machine_model.proofs.Prelude.{◌≡◌, ◌<◌, ℕ, true, false, eqb, length, position, Option, Some, None, is_some, refl, sym, ap, ◌∙◌, inl, inr, eqb_tells, Transfer, Runner, no_runner, Stage, Keeper, Outline, Turn, Moved, runner_at, Works, Loads, Commands, rule_of, owns, IsEnded, IsIn, Step, ends, awaits_clear, awaits_transfer, idles, waits, IsKept, HaveSteps, not_both}
 use Rattle.machine_model.proofs.FindLaws.{position_at, position_none}
 use Rattle.machine_model.proofs.RuleLaws.{tells}
 use Rattle.machine_model.proofs.StepLaws.{inside}
-use Rattle.machine_model.specs.Unstuck.{Goes, HaveSteps}
-use Rattle.laws.proofs.Bools.{not_both}
+use Rattle.machine_model.specs.Unstuck.{Goes}
 
 module _ (s : Outline) (k : IsKept s) (more : IsEnded s → ⊥) (all : HaveSteps s) where
   -- a step waits for the owner, for work, or as the owner; any other moves

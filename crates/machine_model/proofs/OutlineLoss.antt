@@ -1,27 +1,8 @@
 -- In the outline of the machine, a transfer that fails is a step that frees its frame and leaves less to come.
-use Rattle.std.proofs.Common.{◌≡◌, ◌≢◌, ◌<◌, ℕ, zero, suc, ◌+◌, Bool, false, List, [], ◌∷◌}
-use Rattle.std.proofs.Common.{◌++◌, length, map, Option, Some, None, is_some, set, refl, sym, ap, subst, ◌∙◌}
-use Rattle.std.proofs.Common.{append-nil}
-use Rattle.std.proofs.lemmas.List.{get_or-set_same, get_or-set_other, length-set}
-use Rattle.script.specs.Plans.{Plan}
-use Rattle.script.specs.declared.commands.Command.{Command}
+use Rattle.machine_model.proofs.Prelude.{◌≡◌, ◌≢◌, ◌<◌, ℕ, zero, suc, ◌+◌, Bool, false, List, [], ◌∷◌, ◌++◌, length, map, Option, Some, None, is_some, set, refl, sym, ap, subst, ◌∙◌, append-nil, get_or-set_same, get_or-set_other, length-set, Plan, Command, is_end, released_by, Transfer, Processor, State, or_zero, no_processor, no_run, next_command, processor_at, cpu_at, process_at, run_at, fault_told, frame_lost, goes_on, run_after, transfer_failed, Runner, Moved, runner_at, with_runner, with_frame, Reads, rule_of, HasLost, Step, loses, Around, around, bare, runner_by, runner_of, outline_of, CanTell, IsPlaced}
 use Rattle.book.specs.declared.replies.Reply.TheVariants as reply
-use Rattle.flat_model.specs.Commands.{is_end}
-use Rattle.custody_model.specs.Next.{released_by}
 use Rattle.core_map.specs.declared.Frame.TheVariants as frame
-use Rattle.processor.specs.declared.Transfer.{Transfer}
-use Rattle.machine_model.specs.declared.Processor.{Processor}
-use Rattle.machine_model.specs.State.{State}
-use Rattle.machine_model.specs.Reads.{or_zero, no_processor, no_run, next_command, processor_at, cpu_at, process_at}
-use Rattle.machine_model.specs.Reads.{run_at}
-use Rattle.machine_model.specs.Steps.{fault_told, frame_lost, goes_on, run_after, transfer_failed}
-use Rattle.machine_model.specs.Outline.{Runner, Moved, runner_at, with_runner, with_frame}
-use Rattle.machine_model.specs.Finishing.{Reads, rule_of, HasLost, Step, loses}
-use Rattle.machine_model.specs.Outlined.{Around, around, bare}
-use Rattle.machine_model.specs.Outlined.{runner_by, runner_of, outline_of}
-use Rattle.machine_model.specs.Foreseen.{CanTell, IsPlaced}
-use Rattle.machine_model.proofs.OutlineReads.{at_outline, set_map, seen_online, seen_running, seen_due, seen_reading}
-use Rattle.machine_model.proofs.OutlineReads.{seen_since}
+use Rattle.machine_model.proofs.OutlineReads.{at_outline, set_map, seen_online, seen_running, seen_due, seen_reading, seen_since}
 use Rattle.machine_model.proofs.OutlineAlone.{step_to}
 use Rattle.machine_model.proofs.OutlineJob.{map_change}
 use Rattle.machine_model.proofs.OutlineAnswer.{told_left, outline_left, left_is}

@@ -1,34 +1,13 @@
 -- In the outline of the machine, each step of a move is a step of the owner's job.
-use Rattle.std.proofs.Common.{◌≡◌, ◌<◌, ◌≤◌, ℕ, zero, suc, ◌+◌, ◌-◌, Bool, true, false, cond, List, [], ◌∷◌, map}
-use Rattle.std.proofs.Common.{Some, None, refl, sym, subst, le_refl, arith, length}
-use Rattle.script.specs.declared.commands.Command.{Command}
+use Rattle.machine_model.proofs.Prelude.{◌≡◌, ◌<◌, ◌≤◌, ℕ, zero, suc, ◌+◌, ◌-◌, Bool, true, false, cond, List, [], ◌∷◌, map, Some, None, refl, sym, subst, le_refl, arith, length, Command, Frame, Ptw, ptw_at, modified_of, Mover, table_of, first_out, next_out, is_filed, State, Owner, process_at, fault_told, with_faults, with_store, copy_failed, move_begun, move_committed, page_copied, with_moved, without_move, Copying, Look, at_stage, dues, HasMoved, JobStep, answers, begins_move, commits_move, copies, with_stored, around, bare, outline_of, runner_of, CanTell, full_there, Processor}
 use Rattle.book.specs.declared.replies.Reply.TheVariants as reply
-use Rattle.core_map.specs.declared.Frame.{Frame}
 use Rattle.core_map.specs.declared.Frame.TheVariants as frame
-use Rattle.page_table.specs.declared.Ptw.{Ptw}
-use Rattle.page_table.specs.PageTable.{ptw_at}
-use Rattle.page_control.specs.Moves.{modified_of}
 use Rattle.page_control.specs.Tied.{is_out}
-use Rattle.seg_mover.specs.declared.Mover.{Mover}
-use Rattle.seg_control.specs.Control.{table_of}
-use Rattle.seg_control.specs.Moving.{first_out, next_out}
-use Rattle.storage_ops.specs.Shown.{is_filed}
 use Rattle.machine_model.specs.declared.Phase.TheVariants as phase
-use Rattle.machine_model.specs.State.{State, Owner}
-use Rattle.machine_model.specs.Reads.{process_at}
-use Rattle.machine_model.specs.Steps.{fault_told, with_faults, with_store}
-use Rattle.machine_model.specs.Moves.{copy_failed, move_begun, move_committed, page_copied, with_moved, without_move}
-use Rattle.machine_model.specs.Outline.{Copying, Look, at_stage}
-use Rattle.machine_model.specs.Measures.{dues}
-use Rattle.machine_model.specs.Finishing.{HasMoved, JobStep, answers, begins_move, commits_move, copies}
-use Rattle.machine_model.specs.Finishing.{with_stored}
-use Rattle.machine_model.specs.Outlined.{around, bare, outline_of, runner_of}
-use Rattle.machine_model.specs.Foreseen.{CanTell, full_there}
 use Rattle.machine_model.proofs.OutlineAnswer.{ends_job}
 use Rattle.machine_model.proofs.OutlineEnd.{in_stage}
 use Rattle.machine_model.proofs.OutlineJob.{in_look}
 use Rattle.machine_model.proofs.WantMoved.{put_is, put_on, runner_same}
-use Rattle.machine_model.specs.declared.Processor.{Processor}
 
 -- ---- it begins
 

@@ -1,56 +1,20 @@
 -- Each step of the owner of the supervisor is a step of the outline, where it finds what its actions ask; and so each
 -- step of the machine is.
-use Rattle.std.proofs.Common.{◌≡◌, ◌≢◌, ◌≤◌, ℕ, zero, suc, Bool, true, false, not, cond, ◌&&◌, eqb, List, [], ◌∷◌}
-use Rattle.std.proofs.Common.{length, position, count_by, Option, Some, None, is_some, get_or, refl, sym, ap, subst}
-use Rattle.std.proofs.Common.{◌∙◌, inl, inr, arith, ◌-◌}
-use Rattle.std.specs.List.{position_or_len}
-use Rattle.std.proofs.lemmas.Bool.{cases_lt}
-use Rattle.std.proofs.lemmas.Bool.Decides.{Decides-ltb, eqb_tells}
-use Rattle.std.proofs.lemmas.List.{get_or_past}
-use Rattle.std.proofs.lemmas.List.Quantifiers.{position-Some}
-use Rattle.std.proofs.lemmas.List.Sums.{fails_before_first}
-use Rattle.script.specs.declared.commands.Command.{Command}
-use Rattle.assoc_mem.specs.declared.What.{What}
+use Rattle.machine_model.proofs.Prelude.{◌≡◌, ◌≢◌, ◌≤◌, ℕ, zero, suc, Bool, true, false, not, cond, ◌&&◌, eqb, List, [], ◌∷◌, length, position, count_by, Option, Some, None, is_some, get_or, refl, sym, ap, subst, ◌∙◌, inl, inr, arith, ◌-◌, position_or_len, cases_lt, Decides-ltb, eqb_tells, get_or_past, position-Some, fails_before_first, Command, What, first_off_chain, hand_past, place_of, table_of, next_out, Transfer, Mover, Aim, Phase, copy_failed, page_copied, State, Owner, or_zero, no_processor, is_due, next_command, processor_at, cpu_at, process_at, frames_of_owner, frames_from, trailers_in, action_of, is_over, Outcome, after, turn_of, with_faults, with_store, deactivation_begun, eviction_done, page_done, segment_taken, took, write_failed, committed, committed_at, Moved, Runner, no_runner, Stage, Look, Copying, dues, Works, rule_of, IsIn, JobStep, Step, works, AreOf, CanEmpty, around, stage_of, outline_of, Foresees, HasDescriptor, IsLook, KeepsLink, MayAnswer, MayEmpty}
 use Rattle.assoc_mem.specs.declared.What.TheVariants as what
-use Rattle.active_segs.specs.Victim.{first_off_chain, hand_past}
-use Rattle.seg_control.specs.Control.{place_of, table_of}
-use Rattle.seg_control.specs.Moving.{next_out}
-use Rattle.processor.specs.declared.Transfer.{Transfer}
-use Rattle.seg_mover.specs.declared.Mover.{Mover}
-use Rattle.machine_model.specs.declared.Aim.{Aim}
 use Rattle.machine_model.specs.declared.Aim.TheVariants as aim
-use Rattle.machine_model.specs.declared.Phase.{Phase}
 use Rattle.machine_model.specs.declared.Phase.TheVariants as phase
-use Rattle.machine_model.specs.Moves.{copy_failed, page_copied}
-use Rattle.machine_model.specs.State.{State, Owner}
-use Rattle.machine_model.specs.Reads.{or_zero, no_processor, is_due, next_command, processor_at, cpu_at, process_at}
-use Rattle.machine_model.specs.Reads.{frames_of_owner, frames_from, trailers_in}
 use Rattle.machine_model.specs.Actions as act
-use Rattle.machine_model.specs.Actions.{action_of, is_over}
-use Rattle.machine_model.specs.After.{Outcome, after}
-use Rattle.machine_model.specs.Turns.{turn_of}
-use Rattle.machine_model.specs.Steps.{with_faults, with_store}
-use Rattle.machine_model.specs.Jobs.{deactivation_begun, eviction_done, page_done, segment_taken, took, write_failed}
-use Rattle.machine_model.specs.Commits.{committed, committed_at}
-use Rattle.machine_model.specs.Outline.{Moved, Runner, no_runner, Stage, Look, Copying}
-use Rattle.machine_model.specs.Measures.{dues}
-use Rattle.machine_model.specs.Finishing.{Works, rule_of, IsIn, JobStep, Step, works, AreOf, CanEmpty}
-use Rattle.machine_model.specs.Outlined.{around, stage_of, outline_of}
-use Rattle.machine_model.specs.Foreseen.{Foresees, HasDescriptor, IsLook, KeepsLink, MayAnswer, MayEmpty}
 use Rattle.machine_model.proofs.CountLaws.{count_cons}
 use Rattle.machine_model.proofs.OutlineMove.{copy_failed_outlined, copy_outlined, move_outlined, begin_outlined}
 use Rattle.machine_model.proofs.OutlineReads.{at_outline, is_owner, seen_due}
 use Rattle.machine_model.proofs.OutlineAlone.{clear_outlined, online_outlined}
 use Rattle.machine_model.proofs.OutlineJob.{activate_outlined, connect_outlined, in_job, in_look}
-use Rattle.machine_model.proofs.OutlineTake.{evict_outlined, signal_outlined, take_away_outlined}
-use Rattle.machine_model.proofs.OutlineTake.{take_segment_outlined, took_like, took_owner}
-use Rattle.machine_model.proofs.OutlineEnd.{deactivate_at_once_outlined, deactivate_outlined, eviction_outlined}
-use Rattle.machine_model.proofs.OutlineEnd.{give_up_outlined, in_stage, page_outlined, start_outlined}
-use Rattle.machine_model.proofs.OutlineAnswer.{answer_outlined, commit_outlined, create_outlined, failed_outlined}
-use Rattle.machine_model.proofs.OutlineAnswer.{running_at}
+use Rattle.machine_model.proofs.OutlineTake.{evict_outlined, signal_outlined, take_away_outlined, take_segment_outlined, took_like, took_owner}
+use Rattle.machine_model.proofs.OutlineEnd.{deactivate_at_once_outlined, deactivate_outlined, eviction_outlined, give_up_outlined, in_stage, page_outlined, start_outlined}
+use Rattle.machine_model.proofs.OutlineAnswer.{answer_outlined, commit_outlined, create_outlined, failed_outlined, running_at}
 use Rattle.machine_model.proofs.OutlineWaits.{awaits_clear_outlined, awaits_transfer_outlined, end_outlined}
-use Rattle.machine_model.proofs.OutlineStep.{Goal, IsAtRest, clears_rule, comes_rule, reads_rule, run_goal}
-use Rattle.machine_model.proofs.OutlineStep.{transfer_goal, works_seen}
+use Rattle.machine_model.proofs.OutlineStep.{Goal, IsAtRest, clears_rule, comes_rule, reads_rule, run_goal, transfer_goal, works_seen}
 
 -- ---- a segment is taken
 

@@ -1,16 +1,5 @@
 -- What is read of the outline of a machine.
-use Rattle.std.proofs.Common.{◌≡◌, ℕ, suc, Bool, false, ◌&&◌, eqb, nat_lt, List, [], ◌∷◌, length, map, Option}
-use Rattle.std.proofs.Common.{Some, None, is_some, set, get_or, refl, ap}
-use Rattle.machine_model.specs.declared.Processor.{Processor}
-use Rattle.machine_model.specs.State.{State, Owner}
-use Rattle.machine_model.specs.Reads.{no_processor, processor_at}
-use Rattle.machine_model.specs.Steps.{booked, with_processor}
-use Rattle.machine_model.specs.Actions.{has_had_its_turn}
-use Rattle.book.specs.declared.entries.Entry.{Entry}
-use Rattle.active_segs.specs.declared.Entry.{Entry as Active}
-use Rattle.machine_model.specs.Outline.{Runner, runner_at, with_runner}
-use Rattle.machine_model.specs.Finishing.{rule_by, rule_of, owns}
-use Rattle.machine_model.specs.Outlined.{Around, around, runner_by, runner_of, keeper_of, outline_of}
+use Rattle.machine_model.proofs.Prelude.{◌≡◌, ℕ, suc, Bool, false, ◌&&◌, eqb, nat_lt, List, [], ◌∷◌, length, map, Option, Some, None, is_some, set, get_or, refl, ap, Processor, State, Owner, no_processor, processor_at, booked, with_processor, has_had_its_turn, Entry, Active, Runner, runner_at, with_runner, rule_by, rule_of, owns, Around, around, runner_by, runner_of, keeper_of, outline_of}
 
 -- ---- lists
 

@@ -1,60 +1,15 @@
 -- The outline of a machine that keeps its promise is kept: its sizes, and whoever is waited for is there.
-use Rattle.std.proofs.Common.{◌≡◌, ◌<◌, ◌≤◌, ℕ, Bool, true, false, ◌||◌, eqb, length, List, [], ◌∷◌, sum}
-use Rattle.std.proofs.Common.{Option, Some, None, Result, Ok, Err, is_some, inl, inr, refl, sym, ap}
-use Rattle.std.proofs.Common.{subst, ◌∙◌, arith, cond, not, nat_le, ◌*◌}
-use Rattle.std.specs.List.{IsDistinct, AllByRecursion}
-use Rattle.std.proofs.lemmas.Bool.Decides.{eqb_tells}
-use Rattle.std.proofs.lemmas.Map.Steps.{length-le_from_distinct_below}
-use Rattle.script.specs.References.{permits, reference_of}
-use Rattle.script.specs.declared.commands.Command.{Command}
+use Rattle.machine_model.proofs.Prelude.{◌≡◌, ◌<◌, ◌≤◌, ℕ, Bool, true, false, ◌||◌, eqb, length, List, [], ◌∷◌, sum, Option, Some, None, Result, Ok, Err, is_some, inl, inr, refl, sym, ap, subst, ◌∙◌, arith, cond, not, nat_le, ◌*◌, IsDistinct, AllByRecursion, eqb_tells, length-le_from_distinct_below, permits, reference_of, Command, Reference, Reply, What, Who, access_of, Node, node_in, IsTree, uid_of, kst_at, segment_at, who_at, started_page, Frame, has, Transfer, store_frame, AreDistinct, waits_for, IsIn, IsFitting, seen, Keeps, AtWork, dues, Want, Refer, Other, Runner, Stage, no_runner, runner_at, want_at, around, bare, keeper_of, outline_of, runner_by, stage_of, want_by, want_in, want_known, want_lengthened, want_of, want_of_command, want_truncated, AreTied, EndsChain, FitsStage, HasJob, HasSizes, IsKept, IsMachine, IsReading, cpu_at, next_command, no_processor, processor_at, Owner, State, Processor, any_turned, not_both, page_is, pools_few}
 use Rattle.script.specs.declared.commands.Command.TheVariants as command
-use Rattle.script.specs.declared.commands.Reference.{Reference}
-use Rattle.book.specs.declared.replies.Reply.{Reply}
-use Rattle.assoc_mem.specs.declared.What.{What}
-use Rattle.mnames.specs.declared.principals.Who.{Who}
-use Rattle.tree_model.specs.Access.{access_of}
-use Rattle.tree_model.specs.Tree.{Node, node_in}
-use Rattle.tree_model.specs.Trees.{IsTree}
-use Rattle.known_segs.specs.Known.{uid_of}
-use Rattle.seg_control.specs.Control.{kst_at}
-use Rattle.flat_model.specs.Branches.{segment_at}
-use Rattle.storage_ops.specs.Shown.{who_at}
-use Rattle.core_map.specs.CoreMap.{started_page}
-use Rattle.core_map.specs.declared.Frame.{Frame}
 use Rattle.core_map.specs.declared.Frame.TheVariants as frame
-use Rattle.custody_model.specs.Custody.{has}
-use Rattle.processor.specs.declared.Transfer.{Transfer}
-use Rattle.page_control.specs.Plain.{frame_in as store_frame}
-use Rattle.machine_model.specs.Custodial.{AreDistinct, waits_for}
-use Rattle.machine_model.specs.Finishing.{IsIn}
-use Rattle.machine_model.specs.Fitting.{IsFitting}
-use Rattle.machine_model.specs.Holding.{seen}
-use Rattle.machine_model.specs.Keeps.{Keeps}
-use Rattle.machine_model.specs.Keeps.{IsAtWork as AtWork}
-use Rattle.machine_model.specs.Measures.{chain_of, dues}
-use Rattle.machine_model.specs.Outline.{Want, Refer, Other, Runner, Stage, no_runner}
-use Rattle.machine_model.specs.Outline.{runner_at}
-use Rattle.machine_model.specs.Outline.{want_at}
-use Rattle.machine_model.specs.Outlined.{around, bare, keeper_of, outline_of, runner_by, stage_of, want_by, want_in}
-use Rattle.machine_model.specs.Outlined.{want_known, want_lengthened, want_of, want_of_command, want_truncated}
-use Rattle.machine_model.specs.OutlineKept.{AreTied, EndsChain, FitsStage, HasJob, HasSizes, IsKept}
-use Rattle.machine_model.specs.Promise.{IsMachine}
-use Rattle.machine_model.specs.Reading.{IsReading}
-use Rattle.machine_model.specs.Reads.{cpu_at, next_command, no_processor, processor_at}
-use Rattle.machine_model.specs.State.{Owner, State}
-use Rattle.machine_model.specs.declared.Processor.{Processor}
+use Rattle.machine_model.specs.Measures.{chain_of}
 use Rattle.machine_model.proofs.FrameSeen.{frame_outlined}
 use Rattle.machine_model.proofs.ListLaws.{map_list, within_by}
 use Rattle.machine_model.proofs.OutlineOwner.{count_zero}
-use Rattle.machine_model.proofs.OutlineReads.{at_outline, long_outline, seen_due, seen_online, seen_reading}
-use Rattle.machine_model.proofs.OutlineReads.{seen_running}
+use Rattle.machine_model.proofs.OutlineReads.{at_outline, long_outline, seen_due, seen_online, seen_reading, seen_running}
 use Rattle.machine_model.proofs.TieLaws.{none_some}
 use Rattle.machine_model.proofs.VictimLaws.{chain_ends, chain_few}
 use Rattle.machine_model.proofs.KeptLaws.{keeper_cpu, keeper_stage}
-use Rattle.custody_model.proofs.SharedLaws.{any_turned}
-use Rattle.laws.proofs.Bools.{not_both}
-use Rattle.laws.proofs.Options.{page_is}
-use Rattle.flat_model.proofs.SharedLaws.{pools_few}
 
 -- ---- sizes
 

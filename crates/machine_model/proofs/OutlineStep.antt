@@ -1,43 +1,12 @@
 -- Each step of the machine is a step of its outline, where the machine finds what its actions ask.
-use Rattle.std.proofs.Common.{◌≡◌, ◌<◌, ℕ, ◌*◌, ◌/◌, Bool, true, false, not, cond, ◌&&◌, eqb, nat_lt, nat_le, List, []}
-use Rattle.std.proofs.Common.{◌∷◌, length, count_by, Option, Some, None, is_some, refl, sym, ap, subst, ◌∙◌, inl, inr}
-use Rattle.std.proofs.Common.{arith}
-use Rattle.std.proofs.lemmas.Bool.Decides.{Decides-ltb}
-use Rattle.script.specs.References.{reference_of}
-use Rattle.script.specs.declared.commands.Command.{Command}
-use Rattle.script.specs.declared.commands.Reference.{Reference}
-use Rattle.script.specs.declared.commands.RefKind.{RefKind}
-use Rattle.assoc_mem.specs.declared.What.{What}
-use Rattle.assoc_mem.specs.declared.HeldSeg.{HeldSeg}
-use Rattle.assoc_mem.specs.Held.{Held, frame_of, seg_of}
-use Rattle.page_table.specs.declared.Ptw.{Ptw}
+use Rattle.machine_model.proofs.Prelude.{◌≡◌, ◌<◌, ℕ, ◌*◌, ◌/◌, Bool, true, false, not, cond, ◌&&◌, eqb, nat_lt, nat_le, List, [], ◌∷◌, length, count_by, Option, Some, None, is_some, refl, sym, ap, subst, ◌∙◌, inl, inr, arith, Decides-ltb, reference_of, Command, Reference, RefKind, What, HeldSeg, Held, frame_of, seg_of, Ptw, Sdw, sdw_at, new_word, permits, word_reply, Transfer, Move, by_descriptor, by_held, by_page, by_seg, by_word, State, Owner, or_zero, next_command, processor_at, cpu_at, process_at, run_at, sdws_at, word_of, transfer_failed, transferred, uid_of_held, with_faults, has_had_its_turn, is_empty, Outcome, after, turn_of, Moved, Comes, Clears, Reads, Works, Loads, Leaves, Commands, rule_of, Step, reference_in, holds_page, outline_of, Foresees, MayAnswer, MayEnter, MayLose}
 use Rattle.page_table.specs.declared.Ptw.TheVariants as ptw
-use Rattle.descriptor_seg.specs.declared.Sdw.{Sdw}
 use Rattle.descriptor_seg.specs.declared.Sdw.TheVariants as sdw
-use Rattle.descriptor_seg.specs.Descriptors.{sdw_at}
 use Rattle.book.specs.declared.replies.Reply.TheVariants as reply
-use Rattle.script.specs.References.{new_word, permits}
-use Rattle.flat_model.specs.References.{word_reply}
-use Rattle.processor.specs.declared.Transfer.{Transfer}
-use Rattle.processor.specs.declared.Move.{Move}
 use Rattle.processor.specs.declared.Move.TheVariants as move
-use Rattle.processor.specs.Moves.{by_descriptor, by_held, by_page, by_seg, by_word}
-use Rattle.machine_model.specs.State.{State, Owner}
-use Rattle.machine_model.specs.Reads.{or_zero, next_command, processor_at, cpu_at, process_at, run_at}
-use Rattle.seg_control.specs.Control.{sdws_at, word_of}
-use Rattle.machine_model.specs.Steps.{transfer_failed, transferred, uid_of_held, with_faults}
 use Rattle.machine_model.specs.Actions as act
-use Rattle.machine_model.specs.Actions.{has_had_its_turn, is_empty}
-use Rattle.machine_model.specs.After.{Outcome, after}
-use Rattle.machine_model.specs.Turns.{turn_of}
-use Rattle.machine_model.specs.Outline.{Moved}
-use Rattle.machine_model.specs.Finishing.{Comes, Clears, Reads, Works, Loads, Leaves, Commands, rule_of, Step}
-use Rattle.machine_model.specs.Outlined.{reference_in, holds_page, outline_of}
-use Rattle.machine_model.specs.Foreseen.{Foresees, MayAnswer, MayEnter, MayLose}
 use Rattle.machine_model.proofs.OutlineReads.{is_owner, rule_seen}
-use Rattle.machine_model.proofs.OutlineAlone.{IsFree, enter_outlined, fault_outlined, fill_page_outlined}
-use Rattle.machine_model.proofs.OutlineAlone.{fill_seg_outlined, idle_outlined, leave_outlined, load_outlined}
-use Rattle.machine_model.proofs.OutlineAlone.{owned_outlined, transfer_outlined}
+use Rattle.machine_model.proofs.OutlineAlone.{IsFree, enter_outlined, fault_outlined, fill_page_outlined, fill_seg_outlined, idle_outlined, leave_outlined, load_outlined, owned_outlined, transfer_outlined}
 use Rattle.machine_model.proofs.OutlineAnswer.{plain_outlined, through_outlined}
 use Rattle.machine_model.proofs.OutlineLoss.{loss_outlined}
 

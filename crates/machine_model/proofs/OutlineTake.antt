@@ -1,44 +1,14 @@
 -- In the outline of the machine, taking, signalling and finishing are steps of the owner's job.
-use Rattle.std.proofs.Common.{◌≡◌, ◌≢◌, ◌≤◌, ℕ, zero, suc, ◌+◌, Bool, true, false, cond, eqb, List, [], ◌∷◌, ◌++◌}
-use Rattle.std.proofs.Common.{length, map, Option, Some, None, is_some, set, get_or, refl, sym, ap, subst, ◌∙◌, inl}
-use Rattle.std.proofs.Common.{inr, ◌⊎◌, append_assoc, zero-add}
-use Rattle.std.proofs.lemmas.Bool.Decides.{eqb_tells}
-use Rattle.assoc_mem.specs.declared.What.{What}
-use Rattle.core_map.specs.declared.Frame.{Frame}
+use Rattle.machine_model.proofs.Prelude.{◌≡◌, ◌≢◌, ◌≤◌, ℕ, suc, ◌+◌, Bool, true, false, cond, eqb, List, [], ◌∷◌, ◌++◌, length, map, Option, Some, None, is_some, set, refl, sym, ap, subst, ◌∙◌, inl, inr, ◌⊎◌, append_assoc, zero-add, eqb_tells, What, Frame, bound_page, core_frame, is_idle, unmarked, round_frames, passed_over, command_at, AccountMaps, Plain, Active, Links, leads_at, place_of, unlinked, is_filed, Aim, Phase, Processor, CutDescriptor, State, Storage, Owner, next_command, no_processor, run_at, processor_at, frames_of_owner, cut_of_owner, cut_all, cut_one, eviction_begun, leaving_if, owner_signalled, phase_signalled, signalled, take_all, take_one, told_from, took, with_choice, with_leaving, Runner, EvictFrame, Look, Taken, Waiting, runner_at, at_stage, IsIn, JobStep, takes_segment, takes_frame, takes_for_commit, signals, CanEmpty, CanEvict, AreAlike, AreOf, with_runners, Around, around, bare, lacks_record, left_in, want_of, runner_by, runner_of, first_frame, work_of, stage_of, keeper_of, outline_of, map_kept}
 use Rattle.core_map.specs.declared.Frame.TheVariants as frame
-use Rattle.core_map.specs.CoreMap.{bound_page}
-use Rattle.core_map.specs.Clock.{frame_in as core_frame, is_idle, unmarked, round_frames, passed_over}
-use Rattle.script.specs.Plans.{command_at}
-use Rattle.accounts.specs.Maps.{AccountMaps}
-use Rattle.page_control.specs.Plain.{Plain}
-use Rattle.active_segs.specs.declared.Entry.{Entry as Active}
-use Rattle.seg_control.specs.Control.{Links, leads_at, place_of}
-use Rattle.seg_control.specs.Effects.{unlinked}
-use Rattle.storage_ops.specs.Shown.{is_filed}
-use Rattle.machine_model.specs.declared.Aim.{Aim}
 use Rattle.machine_model.specs.declared.Aim.TheVariants as aim
-use Rattle.machine_model.specs.declared.Phase.{Phase}
 use Rattle.machine_model.specs.declared.Phase.TheVariants as phase
-use Rattle.machine_model.specs.declared.Processor.{Processor}
-use Rattle.machine_model.specs.declared.CutDescriptor.{CutDescriptor}
-use Rattle.machine_model.specs.State.{State, Storage, Owner}
-use Rattle.machine_model.specs.Reads.{next_command, no_processor, run_at, processor_at, frames_of_owner, cut_of_owner}
-use Rattle.machine_model.specs.Jobs.{cut_all, cut_one, eviction_begun, leaving_if, owner_signalled, phase_signalled}
-use Rattle.machine_model.specs.Jobs.{signalled, take_all, take_one, told_at, told_from, took, with_choice}
-use Rattle.machine_model.specs.Jobs.{with_leaving}
-use Rattle.machine_model.specs.Outline.{Runner, EvictFrame, Look, Taken, Waiting, runner_at}
-use Rattle.machine_model.specs.Outline.{at_stage}
-use Rattle.machine_model.specs.Finishing.{IsIn, JobStep, takes_segment, takes_frame, takes_for_commit, signals}
-use Rattle.machine_model.specs.Finishing.{CanEmpty, CanEvict, AreAlike, AreOf, with_runners}
-use Rattle.machine_model.specs.Outlined.{Around, around, bare, lacks_record, left_in, want_of, runner_by}
-use Rattle.machine_model.specs.Outlined.{runner_of, first_frame, work_of, stage_of, keeper_of, outline_of}
-use Rattle.machine_model.proofs.OutlineReads.{map_at, seen_online, seen_running, seen_due, seen_reading, seen_since}
-use Rattle.machine_model.proofs.OutlineReads.{seen_tried}
+use Rattle.machine_model.specs.Jobs.{told_at}
+use Rattle.machine_model.proofs.OutlineReads.{map_at, seen_online, seen_running, seen_due, seen_reading, seen_since, seen_tried}
 use Rattle.machine_model.proofs.OutlineJob.{job_to, in_job}
 use Rattle.machine_model.proofs.LeaveSeen.{told_has, told_online, told_process, told_reads}
 use Rattle.machine_model.proofs.SaysLaws.{leaving_pages}
 use Rattle.machine_model.proofs.ClearLaws.{told_transfer}
-use Rattle.laws.proofs.Places.{map_kept}
 
 -- ---- the clock's choice
 

@@ -1,23 +1,12 @@
 -- In the outline of the machine, what the owner waits for is there; and where the machine has ended, so has its
 -- outline.
-use Rattle.std.proofs.Common.{◌≡◌, ℕ, zero, suc, Bool, true, false, not, ◌||◌, List, [], ◌∷◌, length, Some}
-use Rattle.std.proofs.Common.{is_some, get_or, refl, ap, ◌∙◌}
-use Rattle.std.specs.List.{list_any}
+use Rattle.machine_model.proofs.Prelude.{◌≡◌, ℕ, zero, suc, Bool, true, false, not, ◌||◌, List, [], ◌∷◌, length, Some, is_some, get_or, refl, ap, ◌∙◌, list_any, What, Aim, Processor, State, Owner, is_due, processor_at, cpu_at, ForClear, ForTransfer, has_process, is_empty, is_over, Runner, Ended, WaitsFor, Works, rule_of, IsEnded, Step, ends, awaits_clear, awaits_transfer, around, bare, work_of, outline_of, and_parts, not_true}
 use Rattle.core_map.specs.declared.Frame.TheVariants as frame
-use Rattle.assoc_mem.specs.declared.What.{What}
-use Rattle.machine_model.specs.declared.Aim.{Aim}
 use Rattle.machine_model.specs.declared.Phase.TheVariants as phase
-use Rattle.machine_model.specs.declared.Processor.{Processor}
-use Rattle.machine_model.specs.State.{State, Owner}
-use Rattle.machine_model.specs.Reads.{is_due, processor_at, cpu_at}
-use Rattle.machine_model.specs.Actions.{ForClear, ForTransfer, has_process, is_empty, is_over}
-use Rattle.machine_model.specs.Outline.{Runner, Ended, WaitsFor, frame_in}
-use Rattle.machine_model.specs.Finishing.{Works, rule_of, IsEnded, Step, ends, awaits_clear, awaits_transfer}
-use Rattle.machine_model.specs.Outlined.{around, bare, work_of, outline_of}
+use Rattle.machine_model.specs.Outline.{frame_in}
 use Rattle.machine_model.proofs.OutlineReads.{at_outline, map_at, seen_online, seen_running, seen_due}
 use Rattle.machine_model.proofs.OutlineJob.{in_look}
 use Rattle.machine_model.proofs.OutlineEnd.{in_stage}
-use Rattle.laws.proofs.Bools.{and_parts, not_true}
 
 -- the owner waits for a clear
 pub awaits_clear_outlined : (s : State) (o : Owner) (a : Aim) (w : What) (d : ℕ) → rule_of (outline_of s) o.cpu ≡ Works

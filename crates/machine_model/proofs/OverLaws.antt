@@ -1,20 +1,6 @@
 -- Once no process is ready or running nobody owns the supervisor, and no processor holds anything, is to drop anything,
 -- or reads a page; and a drive's failure may be told of no process.
-use Rattle.std.proofs.Common.{◌≡◌, ◌≢◌, ℕ, zero, suc, true, false, length, is_some, List, [], ◌∷◌}
-use Rattle.std.proofs.Common.{get_or, Option, Some, None, inl, inr, refl, sym, ap, ◌∙◌, arith}
-use Rattle.std.proofs.lemmas.Bool.{cases_lt}
-use Rattle.std.proofs.lemmas.List.{get_or_past}
-use Rattle.assoc_mem.specs.declared.What.{What}
-use Rattle.processor.specs.declared.Transfer.{Transfer}
-use Rattle.flat_model.specs.Legal.{MayFault, have_ended}
-use Rattle.flat_model.specs.Store.{Progress, progress_of}
-use Rattle.machine_model.specs.Actions.{is_over}
-use Rattle.machine_model.specs.Custodial.{waits_for}
-use Rattle.machine_model.specs.Promise.{KeepsAll}
-use Rattle.machine_model.specs.Reads.{cpu_at, flat_of, no_run, processor_at}
-use Rattle.machine_model.specs.State.{Owner, State}
-use Rattle.machine_model.specs.Visits.{AreIdle}
-use Rattle.machine_model.specs.declared.Run.{Run}
+use Rattle.machine_model.proofs.Prelude.{◌≡◌, ◌≢◌, ℕ, zero, suc, true, false, length, is_some, List, [], ◌∷◌, get_or, Option, Some, None, inl, inr, refl, sym, ap, ◌∙◌, arith, cases_lt, get_or_past, What, Transfer, MayFault, have_ended, Progress, progress_of, is_over, waits_for, KeepsAll, cpu_at, flat_of, no_run, processor_at, Owner, State, AreIdle, Run}
 use Rattle.machine_model.proofs.AllEnded.{over_ended, over_idle}
 use Rattle.machine_model.proofs.TieLaws.{none_some}
 use Rattle.machine_model.proofs.VisitKept.{AreBare}

@@ -1,30 +1,13 @@
 -- What goes is the owner's alone, entry by entry.
-use Rattle.std.proofs.Common.{◌≡◌, ◌≢◌, ℕ, Bool, true, false, ◌||◌, eqb, List, [], ◌∷◌, ◌++◌, Option, Some, None, ◌⊎◌}
-use Rattle.std.proofs.Common.{inl, inr, refl, sym, ap, subst, ◌∙◌}
-use Rattle.std.proofs.lemmas.Bool.Decides.{eqb_tells}
-use Rattle.std.proofs.lemmas.List.Folds.{list_any-append}
-use Rattle.assoc_mem.specs.declared.What.{What}
+use Rattle.machine_model.proofs.Prelude.{◌≡◌, ◌≢◌, ℕ, Bool, true, false, ◌||◌, eqb, List, [], ◌∷◌, ◌++◌, Option, Some, None, ◌⊎◌, inl, inr, refl, sym, ap, subst, ◌∙◌, eqb_tells, list_any-append, What, FrameUse, DescriptorUse, SomethingGoes, NamesAllGoing, Custody, Seat, has, leads_to, is_uid, uid_of_page, is_going_frame, is_current_frame, is_going_descriptor, is_current_descriptor, names_frame, names_descriptor, with_descriptor, with_seat, Aim, IsOwned, IsShaped, IsAimed, AreDistinct, AreApart, has_cut, says, waits_for, is_cut_at, frames_of_owner, cut_of_owner, CutDescriptor, Owner, going_cut, going_taken, names_descriptor_same, names_same, not_both}
 use Rattle.assoc_mem.specs.declared.What.TheVariants as what
-use Rattle.custody_model.specs.declared.FrameUse.{FrameUse}
 use Rattle.custody_model.specs.declared.FrameUse.TheVariants as frame
-use Rattle.custody_model.specs.declared.DescriptorUse.{DescriptorUse}
 use Rattle.custody_model.specs.declared.DescriptorUse.TheVariants as descriptor
-use Rattle.custody_model.specs.Allowed.{SomethingGoes, NamesAllGoing}
-use Rattle.custody_model.specs.Custody.{Custody, Seat, has, bound_page, leads_to, is_uid, uid_of_page, is_going_frame}
-use Rattle.custody_model.specs.Custody.{is_current_frame, is_going_descriptor, is_current_descriptor, taken, cut}
-use Rattle.custody_model.specs.Custody.{names_frame, names_descriptor}
-use Rattle.custody_model.specs.Next.{with_frame, with_descriptor, with_seat}
-use Rattle.machine_model.specs.declared.Aim.{Aim}
+use Rattle.custody_model.specs.Custody.{bound_page, taken, cut}
+use Rattle.custody_model.specs.Next.{with_frame}
 use Rattle.machine_model.specs.declared.Phase.TheVariants as phase
-use Rattle.machine_model.specs.Custodial.{IsOwned, IsShaped, IsAimed, AreDistinct, AreApart, has_cut, says, waits_for}
-use Rattle.machine_model.specs.Seen.{is_cut_at}
-use Rattle.machine_model.specs.Reads.{frames_of_owner, cut_of_owner}
-use Rattle.machine_model.specs.declared.CutDescriptor.{CutDescriptor}
-use Rattle.machine_model.specs.State.{Owner}
 use Rattle.machine_model.proofs.Places.{by_place, by_places, put_here, put_two_here}
 use Rattle.machine_model.proofs.TieLaws.{none_some}
-use Rattle.custody_model.proofs.FineLaws.{going_cut, going_taken, names_descriptor_same, names_same}
-use Rattle.laws.proofs.Bools.{not_both}
 
 -- ---- what goes stays as it is
 

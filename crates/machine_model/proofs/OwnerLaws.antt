@@ -1,20 +1,7 @@
 -- The owner of the supervisor begins a job or ends one.
-use Rattle.std.proofs.Common.{◌≡◌, ℕ, true, false, List, [], Option, Some, sym, ap, subst, ◌∙◌}
-use Rattle.assoc_mem.specs.declared.What.{What}
-use Rattle.page_table.specs.declared.Ptw.{Ptw}
+use Rattle.machine_model.proofs.Prelude.{◌≡◌, ℕ, true, false, List, [], Option, Some, sym, ap, subst, ◌∙◌, What, Ptw, NamesAllGoing, Custody, has, is_going_frame, Fine, NoneDue, Mover, Phase, FitsPhase, IsOwned, KeepsBook, has_cut, is_pending, names, says_in, waits_in, cut_of_owner, frames_of_owner, Seen, bound_use, cut_uid, descriptor_use, shown, CutDescriptor, Owner}
 use Rattle.page_table.specs.declared.Ptw.TheVariants as ptw
-use Rattle.custody_model.specs.Allowed.{NamesAllGoing}
-use Rattle.custody_model.specs.Custody.{Custody, has, is_going_frame}
-use Rattle.custody_model.specs.Fine.{Fine, NoneDue}
-use Rattle.seg_mover.specs.declared.Mover.{Mover}
-use Rattle.machine_model.specs.declared.Phase.{Phase}
 use Rattle.machine_model.specs.declared.Phase.TheVariants as phase
-use Rattle.machine_model.specs.Custodial.{FitsPhase, IsOwned, KeepsBook, has_cut, is_pending, names}
-use Rattle.machine_model.specs.Custodial.{says_in, waits_in}
-use Rattle.machine_model.specs.Reads.{cut_of_owner, frames_of_owner}
-use Rattle.machine_model.specs.Seen.{Seen, bound_use, cut_uid, descriptor_use, shown}
-use Rattle.machine_model.specs.declared.CutDescriptor.{CutDescriptor}
-use Rattle.machine_model.specs.State.{Owner}
 use Rattle.machine_model.proofs.OwnedLaws.{IsIdle}
 use Rattle.machine_model.proofs.TieLaws.{none_some}
 

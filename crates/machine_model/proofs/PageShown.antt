@@ -1,30 +1,10 @@
 -- What the flat store says of a page, by the word of the page: whether it is stored, and which words it has.
-use Rattle.std.proofs.Common.{◌≡◌, ℕ, true, false, ◌&&◌, eqb, is_some, []}
-use Rattle.std.proofs.Common.{get_or, position, replicate, Option, Some, None, inl, inr, refl, sym, ap, ◌∙◌}
-use Rattle.std.specs.Prelude.{◌/◌, ◌%◌}
-use Rattle.std.proofs.lemmas.Bool.Decides.{eqb_tells}
+use Rattle.machine_model.proofs.Prelude.{◌≡◌, ℕ, true, false, ◌&&◌, eqb, is_some, [], get_or, position, replicate, Option, Some, None, inl, inr, refl, sym, ap, ◌∙◌, ◌/◌, ◌%◌, eqb_tells, uid_at, is_binding, is_filed_at, words_at, words_filed, words_held, words_of_page, bindings, words_in, has_record, vtoc_in, place_of, table_of, word_of, IsHomeOf, record_at, is_stored, is_filed, is_there, picture, names, seen, Keeps, flat_of, home_in, is_active, State, not_both, and_both, zeros_read}
 use Rattle.page_table.specs.declared.Ptw.TheVariants as ptw
-use Rattle.active_segs.specs.Active.{uid_at}
-use Rattle.page_control.specs.Picture.{is_binding, is_filed_at, words_at, words_filed, words_held, words_of_page}
-use Rattle.page_control.specs.Plain.{bindings, words_in}
-use Rattle.page_control.specs.Tied.{has_record, vtoc_in}
 use Rattle.page_control.specs.Ties.{IsTied}
-use Rattle.seg_control.specs.Control.{place_of, table_of, word_of}
-use Rattle.seg_control.specs.Kept.{IsHomeOf}
-use Rattle.vtoc.specs.Vtoc.{record_at}
-use Rattle.flat_model.specs.Pages.{is_stored}
-use Rattle.storage_ops.specs.Shown.{is_filed, is_there, picture}
-use Rattle.machine_model.specs.Custodial.{names}
-use Rattle.machine_model.specs.Holding.{seen}
-use Rattle.machine_model.specs.Keeps.{Keeps}
-use Rattle.machine_model.specs.Reads.{flat_of, home_in, is_active}
-use Rattle.machine_model.specs.State.{State}
 use Rattle.machine_model.proofs.ActiveSeen.{active_place}
 use Rattle.machine_model.proofs.FindLaws.{position_at, position_none}
 use Rattle.machine_model.proofs.TieLaws.{none_some}
-use Rattle.laws.proofs.Bools.{not_both}
-use Rattle.laws.proofs.Numbers.{and_both}
-use Rattle.laws.proofs.Lists.{zeros_read}
 
 both_same : (a b c d : ℕ) → a ≡ c → b ≡ d → (eqb a c && eqb b d) ≡ true
 both_same a b c d x y = elim (eqb_tells a c) [

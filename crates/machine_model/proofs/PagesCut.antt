@@ -1,26 +1,12 @@
 -- Pages are cut off one after the other: which frames are bound then, which pages are being read into them, and which
 -- words the pages have.
-use Rattle.std.proofs.Common.{◌≡◌, ◌≢◌, ◌<◌, ℕ, Bool, true, false, ◌||◌, cond, eqb, List, [], ◌∷◌, length, Option, None}
-use Rattle.std.proofs.Common.{◌⊎◌, inl, inr, refl, sym, ap, subst, ◌∙◌}
-use Rattle.std.proofs.lemmas.Bool.Decides.{eqb_tells}
-use Rattle.std.proofs.lemmas.List.{length-set}
+use Rattle.machine_model.proofs.Prelude.{◌≡◌, ◌≢◌, ◌<◌, ℕ, Bool, true, false, ◌||◌, cond, eqb, List, [], ◌∷◌, length, Option, None, ◌⊎◌, inl, inr, refl, sym, ap, subst, ◌∙◌, eqb_tells, length-set, reads_of, Ptw, binding_at, bindings, place_of, word_of, read_at, has, at_put_two, without_page, without_pages, Storage, has_head, has_tail, not_both}
 use Rattle.core_map.specs.declared.Frame.TheVariants as frame
-use Rattle.core_map.specs.CoreMap.{reads_of}
-use Rattle.page_table.specs.declared.Ptw.{Ptw}
 use Rattle.page_table.specs.declared.Ptw.TheVariants as ptw
-use Rattle.page_control.specs.Plain.{binding_at, bindings}
 use Rattle.active_segs.specs.declared.Entry.{Entry}
-use Rattle.seg_control.specs.Control.{place_of, word_of}
-use Rattle.seg_control.specs.Kept.{read_at}
-use Rattle.custody_model.specs.Custody.{has}
-use Rattle.custody_model.specs.Next.{at_put_two}
-use Rattle.machine_model.specs.Commits.{without_page, without_pages}
-use Rattle.machine_model.specs.State.{Storage}
 use Rattle.machine_model.proofs.Places.{by_places}
 use Rattle.machine_model.proofs.SeenLaws.{bound_put, reads_put}
 use Rattle.machine_model.proofs.TakeSeen.{words_put}
-use Rattle.custody_model.proofs.SharedLaws.{has_head, has_tail}
-use Rattle.laws.proofs.Bools.{not_both}
 
 -- what is seen of a store
 abbrev pub bound_in : Storage → ℕ → Option (ℕ × ℕ)

@@ -1,22 +1,9 @@
 -- A path that leads to a segment leads to it still where other nodes come or go, and where what is changed of a node is
 -- neither its place nor its name.
-use Rattle.std.proofs.Common.{◌≡◌, ◌≢◌, ◌<◌, ℕ, Bool, true, false, not, cond, eqb, List, [], ◌∷◌, map}
-use Rattle.std.proofs.Common.{Option, Some, None, ◌⊎◌, inl, inr, refl, sym, ap, subst, ◌∙◌, arith}
-use Rattle.std.specs.Prelude.{Ok, Err}
-use Rattle.std.proofs.lemmas.Bool.Decides.{eqb_tells}
+use Rattle.machine_model.proofs.Prelude.{◌≡◌, ◌≢◌, ◌<◌, ℕ, Bool, true, false, not, cond, eqb, List, [], ◌∷◌, map, Option, Some, None, ◌⊎◌, inl, inr, refl, sym, ap, subst, ◌∙◌, arith, Ok, Err, eqb_tells, Node, Walk, LeadsTo, Missing, InSegment, branch_in, has_directory, is_branch, node_in, onward, walk_from, walk_in, without_node, AreBelow, IsTree, Joins, IsMember, found_member, lies, only_branch, node_at, only_segment, segment_at, there_or, walked, directory_gone, only_found, there_found, find_passes, found_uid, joined_below, uid_below, node_without, not_both}
 use Rattle.book.specs.declared.replies.Reply.TheVariants as reply
-use Rattle.tree_model.specs.Tree.{Node, Walk, LeadsTo, Missing, InSegment, branch_in, has_directory, is_branch, node_in}
-use Rattle.tree_model.specs.Tree.{onward, walk_from, walk_in, without_node}
-use Rattle.tree_model.specs.Trees.{AreBelow, IsTree, Joins}
-use Rattle.tree_model.proofs.Finds.{IsMember, branch_found, found_member}
-use Rattle.tree_model.proofs.TreeLaws.{lies, only_branch}
-use Rattle.flat_model.specs.Branches.{node_at, only_segment, segment_at, there_or, walked}
-use Rattle.flat_model.proofs.RemoveLaws.{directory_gone}
-use Rattle.flat_model.proofs.QuotaTotals.{only_found, there_found}
+use Rattle.tree_model.proofs.Finds.{branch_found}
 use Rattle.machine_model.proofs.TieLaws.{none_some}
-use Rattle.laws.proofs.Lists.{find_passes}
-use Rattle.tree_model.proofs.SharedLaws.{found_uid, joined_below, uid_below, node_without}
-use Rattle.laws.proofs.Bools.{not_both}
 
 -- a path that led to a segment leads to it
 pub record PathsStay (old now : List Node) (u : ℕ) : Type 0 where

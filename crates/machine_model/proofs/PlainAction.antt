@@ -1,25 +1,9 @@
 -- No action answers by itself that a drive failed.
-use Rattle.std.proofs.Common.{◌≡◌, ℕ, false, not, ◌&&◌, eqb, List, [], ◌∷◌, position}
-use Rattle.std.proofs.Common.{Option, Some, None, ap, ◌∙◌}
-use Rattle.std.proofs.lemmas.Bool.{cond_both}
-use Rattle.script.specs.References.{reference_of}
-use Rattle.script.specs.declared.commands.Command.{Command}
-use Rattle.script.specs.declared.commands.Reference.{Reference}
-use Rattle.assoc_mem.specs.declared.What.{What}
-use Rattle.processor.specs.declared.Move.{Move}
+use Rattle.machine_model.proofs.Prelude.{◌≡◌, ℕ, false, not, ◌&&◌, eqb, List, [], ◌∷◌, position, Option, Some, None, ap, ◌∙◌, cond_both, reference_of, Command, Reference, What, Move, Transfer, sdws_at, table_of, word_of, next_out, Aim, Phase, Processor, action_of, flat_of, is_due, next_command, or_zero, processor_at, Owner, State}
 use Rattle.processor.specs.declared.Move.TheVariants as move
-use Rattle.processor.specs.declared.Transfer.{Transfer}
-use Rattle.seg_control.specs.Control.{sdws_at, table_of, word_of}
-use Rattle.seg_control.specs.Moving.{next_out}
-use Rattle.machine_model.specs.declared.Aim.{Aim}
 use Rattle.machine_model.specs.declared.Aim.TheVariants as aim
-use Rattle.machine_model.specs.declared.Phase.{Phase}
 use Rattle.machine_model.specs.declared.Phase.TheVariants as phase
-use Rattle.machine_model.specs.declared.Processor.{Processor}
 use Rattle.machine_model.specs.Actions as act
-use Rattle.machine_model.specs.Actions.{action_of}
-use Rattle.machine_model.specs.Reads.{flat_of, is_due, next_command, or_zero, processor_at}
-use Rattle.machine_model.specs.State.{Owner, State}
 use Rattle.machine_model.proofs.ActionCases.{action_by}
 use Rattle.machine_model.proofs.LookFacts.{LookFinds, look_finds}
 use Rattle.machine_model.proofs.PlainReplies.{command_plain, is_device, move_plainly, tells_device}

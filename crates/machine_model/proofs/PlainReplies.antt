@@ -1,50 +1,13 @@
 -- What the flat store answers a command is never that a drive failed.
-use Rattle.std.proofs.Common.{◌≡◌, ℕ, ℤ, Bool, true, false, not, ◌&&◌, cond, eqb, List, [], ◌∷◌, Option, Some, None}
-use Rattle.std.proofs.Common.{Result}
-use Rattle.std.proofs.Common.{Ok, Err, refl, nat_le, ◌*◌, length, is_some}
-use Rattle.std.specs.Prelude.{◌/◌}
-use Rattle.mnames.specs.declared.rows.Row.{Row as Named}
-use Rattle.script.specs.Plans.{Plan}
-use Rattle.script.specs.References.{new_word, permits, reference_of}
-use Rattle.script.specs.declared.commands.Command.{Command}
+use Rattle.machine_model.proofs.Prelude.{◌≡◌, ℕ, ℤ, Bool, true, false, not, ◌&&◌, cond, eqb, List, [], ◌∷◌, Option, Some, None, Result, Ok, Err, refl, nat_le, ◌*◌, length, is_some, ◌/◌, Named, Plan, new_word, permits, reference_of, Command, Reference, RefKind, Reply, access_of, takes_row, giver_of, over_in, above, branch_in, entries_on, is_inferior, quota_in, Node, Walk, LeadsTo, node_in, walk_in, branch_at, directory_at, done_at, node_at, only_directory, only_segment, parts_of, segment_at, there_or, walked, reply_by, reply_to_command, reply_to_tree_command, delete_of, delete_reply, make_at, make_of, make_reply, initiate_of, initiate_reply, known_or_full, status_of, status_reply, terminate_reply, is_used_up, is_out_of_room, stores_page, reply_at, reply_in, reply_to_reference, word_reply, acl_of, acl_reply, done_or_over, move_reply, nodes_moved, is_stored_from, number_for, who_of, is_positive, unsigned_abs, list_any, nat_lt, length_of, length_reply, truncate_reply, Store, entries_of, known_uid, numbers_of, Held, frame_of, seg_of, HeldSeg, Ptw, Sdw, sdw_at, Move, by_descriptor, by_page, by_seg, by_word, next_move}
 use Rattle.script.specs.declared.commands.Command.TheVariants as command
-use Rattle.script.specs.declared.commands.Reference.{Reference}
-use Rattle.script.specs.declared.commands.RefKind.{RefKind}
 use Rattle.script.specs.declared.commands.RefKind.TheVariants as kind
-use Rattle.book.specs.declared.replies.Reply.{Reply}
 use Rattle.book.specs.declared.replies.Reply.TheVariants as reply
-use Rattle.tree_model.specs.Access.{access_of, takes_row}
-use Rattle.tree_model.specs.Quotas.{giver_of, over_in}
-use Rattle.tree_model.specs.Tree.{above, branch_in, entries_on, is_inferior, quota_in}
-use Rattle.tree_model.specs.Tree.{Node, Walk, LeadsTo, node_in, walk_in}
-use Rattle.flat_model.specs.Branches.{branch_at, directory_at, done_at, node_at, only_directory, only_segment, parts_of}
-use Rattle.flat_model.specs.Branches.{segment_at, there_or, walked}
-use Rattle.flat_model.specs.Commands.{reply_by, reply_to_command, reply_to_tree_command}
-use Rattle.flat_model.specs.Making.{delete_of, delete_reply, make_at, make_of, make_reply}
-use Rattle.flat_model.specs.Naming.{initiate_of, initiate_reply, known_or_full, status_of, status_reply}
-use Rattle.flat_model.specs.Naming.{terminate_reply}
-use Rattle.flat_model.specs.References.{is_used_up, is_out_of_room, stores_page}
-use Rattle.flat_model.specs.References.{reply_at, reply_in, reply_of, reply_to_reference, word_reply}
-use Rattle.flat_model.specs.Rights.{acl_of, acl_reply, done_or_over, move_of, move_reply, nodes_moved}
-use Rattle.flat_model.specs.Pages.{is_stored_from}
-use Rattle.known_segs.specs.Known.{number_for}
-use Rattle.script.specs.Plans.{who_of}
-use Rattle.std.specs.Int.{is_positive}
-use Rattle.std.specs.Int.RustNames.{unsigned_abs}
-use Rattle.std.specs.List.{list_any}
-use Rattle.std.specs.Prelude.{nat_lt}
-use Rattle.flat_model.specs.Sizes.{length_of, length_reply, truncate_reply}
-use Rattle.flat_model.specs.Store.{Store, entries_of, known_uid, numbers_of}
-use Rattle.assoc_mem.specs.Held.{Held, frame_of, seg_of}
-use Rattle.assoc_mem.specs.declared.HeldSeg.{HeldSeg}
-use Rattle.page_table.specs.declared.Ptw.{Ptw}
+use Rattle.flat_model.specs.References.{reply_of}
+use Rattle.flat_model.specs.Rights.{move_of}
 use Rattle.page_table.specs.declared.Ptw.TheVariants as ptw
-use Rattle.descriptor_seg.specs.declared.Sdw.{Sdw}
 use Rattle.descriptor_seg.specs.declared.Sdw.TheVariants as sdw
-use Rattle.descriptor_seg.specs.Descriptors.{sdw_at}
-use Rattle.processor.specs.declared.Move.{Move}
 use Rattle.processor.specs.declared.Move.TheVariants as move
-use Rattle.processor.specs.Moves.{by_descriptor, by_page, by_seg, by_word, next_move}
 
 abbrev pub is_device : Reply → Bool
 is_device reply.Device = true

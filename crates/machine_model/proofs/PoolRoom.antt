@@ -1,19 +1,6 @@
 -- A pool with a free place has room: fewer segments of its nodes are active than it has places.
-use Rattle.std.proofs.Common.{◌≡◌, ◌<◌, ◌≤◌, ℕ, zero, suc, ◌+◌, ◌-◌, Bool, true, false, ◌&&◌, ◌||◌, cond, eqb, count_by}
-use Rattle.std.proofs.Common.{is_some, is_none, List, [], ◌∷◌, length, Option, Some, None, inl, inr, refl, sym, ap}
-use Rattle.std.proofs.Common.{subst}
-use Rattle.std.proofs.Common.{◌∙◌, arith}
-use Rattle.std.specs.List.{list_any, range_with_len}
-use Rattle.std.proofs.lemmas.Bool.Decides.{eqb_tells}
-use Rattle.std.proofs.lemmas.List.Sums.{sum_by-cons}
-use Rattle.tree_model.specs.Tree.{Node, pool_of}
-use Rattle.tree_model.specs.Trees.{AreBelow, IsTree, Joins}
-use Rattle.tree_model.proofs.Finds.{IsMember, found_member}
+use Rattle.machine_model.proofs.Prelude.{◌≡◌, ◌<◌, ◌≤◌, ℕ, zero, suc, ◌+◌, ◌-◌, Bool, true, false, ◌&&◌, ◌||◌, cond, eqb, count_by, is_some, is_none, List, [], ◌∷◌, length, Option, Some, None, inl, inr, refl, sym, ap, subst, ◌∙◌, arith, list_any, range_with_len, eqb_tells, sum_by-cons, Node, pool_of, AreBelow, IsTree, Joins, IsMember, found_member, ActiveSegs, entry_at, uid_in, IsInPool, first_of, size_of, is_for, place_of, free_place, is_active, places_in}
 use Rattle.active_segs.specs.declared.Entry.{Entry}
-use Rattle.active_segs.specs.Active.{ActiveSegs, entry_at, uid_in}
-use Rattle.active_segs.specs.Pool.{IsInPool, first_of, size_of}
-use Rattle.seg_control.specs.Control.{is_for, place_of}
-use Rattle.machine_model.specs.Reads.{free_place, is_active, places_in}
 use Rattle.machine_model.proofs.ActiveSeen.{active_place}
 use Rattle.machine_model.proofs.FindLaws.{find_true}
 

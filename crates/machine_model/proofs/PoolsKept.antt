@@ -1,35 +1,10 @@
 -- The pools of the active segment table stay those of the script through every action.
-use Rattle.std.proofs.Common.{◌≡◌, ℕ, Bool, true, false, cond, List, [], ◌∷◌, Option, Some, None, refl}
-use Rattle.std.proofs.Common.{◌∙◌}
-use Rattle.script.specs.declared.commands.Command.{Command}
+use Rattle.machine_model.proofs.Prelude.{◌≡◌, ℕ, Bool, true, false, cond, List, [], ◌∷◌, Option, Some, None, refl, ◌∙◌, Command, What, Ptw, erased, bound_page, frame_in, here_if, first_off_chain, hand_past, Aim, CutDescriptor, Outcome, after, committed, committed_at, frames_freed, with_deleted, with_effect, with_truncated, without_page, cut_all, cut_one, emptied, eviction_begun, eviction_done, leaving_if, page_back, page_done, pages_back, seg_back, seg_gone, segment_taken, segs_back, segs_gone, take_all, take_one, took, victim_taken, with_choice, with_hand_moved, copy_failed, page_copied, uid_of_command, with_inactive, with_here, write_failed, cut_of_owner, frames_from, frames_of_owner, home_in, is_active, next_command, process_at, trailers_in, State, Storage, fault_told, transfer_failed, transferred, with_faults, with_pages, with_store}
 use Rattle.script.specs.declared.commands.Command.TheVariants as command
-use Rattle.assoc_mem.specs.declared.What.{What}
 use Rattle.assoc_mem.specs.declared.What.TheVariants as what
-use Rattle.page_table.specs.declared.Ptw.{Ptw}
 use Rattle.page_table.specs.declared.Ptw.TheVariants as ptw
-use Rattle.page_control.specs.Effects.{erased}
-use Rattle.core_map.specs.CoreMap.{bound_page}
-use Rattle.page_control.specs.Plain.{frame_in}
-use Rattle.machine_model.specs.Jobs.{here_if}
-use Rattle.active_segs.specs.Victim.{first_off_chain, hand_past}
-use Rattle.machine_model.specs.declared.Aim.{Aim}
 use Rattle.machine_model.specs.declared.Aim.TheVariants as aim
-use Rattle.machine_model.specs.declared.CutDescriptor.{CutDescriptor}
 use Rattle.machine_model.specs.Actions as act
-use Rattle.machine_model.specs.After.{Outcome, after}
-use Rattle.machine_model.specs.Commits.{committed, committed_at, frames_freed}
-use Rattle.machine_model.specs.Commits.{with_deleted, with_effect, with_truncated}
-use Rattle.machine_model.specs.Commits.{without_page}
-use Rattle.machine_model.specs.Jobs.{cut_all, cut_one, emptied, eviction_begun, eviction_done, leaving_if}
-use Rattle.machine_model.specs.Jobs.{page_back, page_done, pages_back, seg_back, seg_gone, segment_taken, segs_back}
-use Rattle.machine_model.specs.Jobs.{segs_gone, take_all, take_one, took, victim_taken, with_choice, with_hand_moved}
-use Rattle.machine_model.specs.Moves.{copy_failed, page_copied}
-use Rattle.machine_model.specs.Refusal.{uid_of_command}
-use Rattle.machine_model.specs.Jobs.{with_inactive, with_here, write_failed}
-use Rattle.machine_model.specs.Reads.{cut_of_owner, frames_from, frames_of_owner, home_in, is_active, next_command}
-use Rattle.machine_model.specs.Reads.{process_at, trailers_in}
-use Rattle.machine_model.specs.State.{State, Storage}
-use Rattle.machine_model.specs.Steps.{fault_told, transfer_failed, transferred, with_faults, with_pages, with_store}
 use Rattle.machine_model.proofs.EffectLaws.{effect_has, truncated_has}
 
 -- the script, the sizes of the pools, whether the machine was stopped, and how many frames were visited are as before

@@ -1,6 +1,5 @@
 -- The measure of a job falls where one of its parts falls and none before it rises.
-use Rattle.std.proofs.Common.{◌≤◌, ◌<◌, arith}
-use Rattle.machine_model.specs.Measures.{Parts, IsSmall, rank_of}
+use Rattle.machine_model.proofs.Prelude.{◌≤◌, ◌<◌, arith, Parts, IsSmall, rank_of}
 
 pub falls_reading : (p q : Parts) → IsSmall q → q.reading < p.reading → rank_of q < rank_of p
 falls_reading p q small less =

@@ -1,63 +1,19 @@
 -- What a processor reads into a frame is for the next command of its process through every action, until it is read.
-use Rattle.std.proofs.Common.{◌≡◌, ◌≢◌, ◌<◌, ℕ, ◌+◌, Bool, true, false, ◌&&◌, cond, eqb, is_some, length, List, []}
-use Rattle.std.proofs.Common.{map, set, Option, Some, None, ◌⊎◌, inl, inr, refl, sym, ap, subst, ◌∙◌, arith}
-use Rattle.std.proofs.Common.{ℤ}
-use Rattle.std.proofs.lemmas.Bool.Decides.{eqb_tells}
-use Rattle.std.proofs.lemmas.List.{get_or-set_other, get_or-set_same, length-set}
-use Rattle.script.specs.Plans.{Plan, command_at}
-use Rattle.script.specs.declared.commands.Command.{Command}
+use Rattle.machine_model.proofs.Prelude.{◌≡◌, ◌≢◌, ◌<◌, ℕ, ◌+◌, Bool, true, false, ◌&&◌, cond, eqb, is_some, length, List, [], map, set, Option, Some, None, ◌⊎◌, inl, inr, refl, sym, ap, subst, ◌∙◌, arith, ℤ, eqb_tells, get_or-set_other, get_or-set_same, length-set, Plan, command_at, Command, Reference, Reply, What, Row, Node, node_in, without_node, IsTree, uid_of, Ptw, erased, has_record, kst_at, word_of, Cpu, Transfer, parts_of, segment_at, word_reply, node_gone, is_filed, is_there, pages_in, pages_of, Processor, Run, action_of, clear_or, own_or_run, transfer_or, Outcome, after, committed, committed_at, frames_freed, inactive_if, with_deleted, with_made, with_truncated, is_out, emptied, eviction_begun, eviction_done, page_done, pages_back, segs_back, told_from, took, victim_taken, with_choice, with_hand_moved, write_failed, Keeps, copy_failed, page_copied, without_move, IsMachine, AllRead, IsReadFor, IsReading, Refers, Truncates, Wants, cpu_at, cut_of_owner, frames_from, frames_of_owner, home_in, is_active, next_command, no_processor, no_run, or_zero, process_at, processor_at, run_at, trailers_in, refusal_of, reply_of, uid_of_command, State, Storage, fault_told, frame_lost, old_word, page_made, pages_after, started, told, transfer_failed, transferred, with_faults, with_pages, with_store, IsReached, MayFailBy, not_both}
 use Rattle.script.specs.declared.commands.Command.TheVariants as command
-use Rattle.script.specs.declared.commands.Reference.{Reference}
-use Rattle.book.specs.declared.replies.Reply.{Reply}
 use Rattle.book.specs.declared.replies.Reply.TheVariants as reply
-use Rattle.assoc_mem.specs.declared.What.{What}
 use Rattle.assoc_mem.specs.declared.What.TheVariants as what
-use Rattle.tree_model.specs.Access.{Row}
-use Rattle.tree_model.specs.Tree.{Node, node_in, without_node}
-use Rattle.tree_model.specs.Trees.{IsTree}
-use Rattle.known_segs.specs.Known.{uid_of}
-use Rattle.page_table.specs.declared.Ptw.{Ptw}
 use Rattle.page_table.specs.declared.Ptw.TheVariants as ptw
-use Rattle.page_control.specs.Effects.{erased}
-use Rattle.page_control.specs.Tied.{has_record}
-use Rattle.seg_control.specs.Control.{kst_at, word_of}
-use Rattle.processor.specs.declared.Cpu.{Cpu}
-use Rattle.processor.specs.declared.Transfer.{Transfer}
-use Rattle.flat_model.specs.Branches.{parts_of, segment_at}
-use Rattle.flat_model.specs.References.{word_reply}
-use Rattle.flat_model.proofs.RemoveLaws.{node_gone}
-use Rattle.storage_ops.specs.Shown.{is_filed, is_there, pages_in, pages_of}
 use Rattle.machine_model.specs.declared.Aim.TheVariants as aim
-use Rattle.machine_model.specs.declared.Processor.{Processor}
-use Rattle.machine_model.specs.declared.Run.{Run}
 use Rattle.machine_model.specs.Actions as act
-use Rattle.machine_model.specs.Actions.{action_of, clear_or, own_or_run, transfer_or}
-use Rattle.machine_model.specs.After.{Outcome, after}
-use Rattle.machine_model.specs.Commits.{committed, committed_at, frames_freed, inactive_if, with_deleted, with_made}
-use Rattle.machine_model.specs.Commits.{with_truncated}
-use Rattle.machine_model.specs.Custodial.{is_out}
-use Rattle.machine_model.specs.Jobs.{emptied, eviction_begun, eviction_done, page_done, pages_back, segs_back}
-use Rattle.machine_model.specs.Jobs.{told_from, took, victim_taken, with_choice, with_hand_moved, write_failed}
-use Rattle.machine_model.specs.Keeps.{Keeps}
-use Rattle.machine_model.specs.Moves.{copy_failed, page_copied, without_move}
-use Rattle.machine_model.specs.Promise.{IsMachine}
-use Rattle.machine_model.specs.Reading.{AllRead, IsReadFor, IsReading, Refers, Truncates, Wants}
-use Rattle.machine_model.specs.Reads.{cpu_at, cut_of_owner, frames_from, frames_of_owner, home_in, is_active}
-use Rattle.machine_model.specs.Reads.{next_command, no_processor, no_run, or_zero, process_at, processor_at, run_at}
-use Rattle.machine_model.specs.Reads.{trailers_in}
-use Rattle.machine_model.specs.Refusal.{refusal_of, reply_of, uid_of_command}
-use Rattle.machine_model.specs.State.{State, Storage}
-use Rattle.machine_model.specs.Steps.{fault_told, frame_lost, old_word, page_made, pages_after, started, told}
-use Rattle.machine_model.specs.Steps.{transfer_failed, transferred, with_faults, with_pages, with_store}
-use Rattle.machine_model.specs.Working.{IsReached, MayFailBy}
 use Rattle.machine_model.proofs.ActionCases.{action_by}
 use Rattle.machine_model.proofs.CommandFacts.{LeadsToSegment, truncate_stands}
 use Rattle.machine_model.proofs.CommitKept.{effected}
-use Rattle.machine_model.proofs.CommitRights.{LeavesNames, inactive_names, truncated_names}
+use Rattle.machine_model.proofs.CommitRights.{LeavesNames, inactive_names, truncated_names, quota_moves, node_moved}
 use Rattle.machine_model.proofs.EntitledKept.{SameNames, names_stay}
 use Rattle.machine_model.proofs.EntitledKept as names
 use Rattle.machine_model.proofs.InsideLaws.{inside_is}
-use Rattle.machine_model.proofs.LeaveSeen.{told_reads}
+use Rattle.machine_model.proofs.LeaveSeen.{told_reads, told_process}
 use Rattle.machine_model.proofs.LookFacts.{FindsCut, FindsOut, FindsPage}
 use Rattle.machine_model.proofs.PageShown.{active_there, stored_is}
 use Rattle.machine_model.proofs.PathsKept.{KeepsName, PathsStay, paths_changed, paths_less, paths_more, paths_same}
@@ -65,10 +21,6 @@ use Rattle.machine_model.proofs.ScheduleKept.{Sits}
 use Rattle.machine_model.proofs.ScheduleKept as seats
 use Rattle.machine_model.proofs.TieLaws.{none_some}
 use Rattle.machine_model.proofs.TransferKept.{active_at}
-use Rattle.machine_model.proofs.CommitRights.{quota_moves}
-use Rattle.machine_model.proofs.LeaveSeen.{told_process}
-use Rattle.machine_model.proofs.CommitRights.{node_moved}
-use Rattle.laws.proofs.Bools.{not_both}
 use Rattle.machine_model.proofs.ClearLaws.{told_transfer}
 
 -- one node changes

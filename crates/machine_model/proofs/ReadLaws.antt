@@ -1,28 +1,15 @@
 -- What a step of a processor brings that reads a page in, while the owner waits for that.
-use Rattle.std.proofs.Common.{◌≡◌, ◌≢◌, ◌≤◌, ◌<◌, ℕ, Bool, true, false, cond, List, Option, Some, None, is_some, set}
-use Rattle.std.proofs.Common.{refl, sym, ap, subst, ◌∙◌, inr, arith}
-use Rattle.std.proofs.lemmas.List.{get_or-set_other}
+use Rattle.machine_model.proofs.Prelude.{◌≡◌, ◌≢◌, ◌≤◌, ◌<◌, ℕ, Bool, true, false, cond, List, Option, Some, None, is_some, set, refl, sym, ap, subst, ◌∙◌, inr, arith, get_or-set_other, Transfer, Want, Runner, no_runner, Look, Outline, Turn, runner_at, want_at, with_runner, with_frame, is_of, wanted_fits, lack, over, dues, readers, all_rank, job_rank, Reads, rule_of, IsIn, Step, ends, comes, clears, reads, loses, works, awaits_clear, awaits_transfer, loads, idles, leaves, fills, replies, faults, enters, waits, HasLost, with_bound, not_reading, IsKept, lack_at, IsUnderWay, AwaitsTransfer, IsReader, Rule, not_both}
 use Rattle.core_map.specs.declared.Frame.TheVariants as frame
-use Rattle.processor.specs.declared.Transfer.{Transfer}
-use Rattle.machine_model.specs.Outline.{Want, Runner, no_runner, Look, Outline, Turn, runner_at, want_at, with_runner}
-use Rattle.machine_model.specs.Outline.{with_frame, frame_in}
-use Rattle.machine_model.specs.Measures.{parts_of, is_of, wanted_fits, lack, over, dues, readers, all_rank, job_rank}
-use Rattle.machine_model.specs.Finishing.{Reads, rule_of, IsIn, Step}
-use Rattle.machine_model.specs.Finishing.{ends, comes, clears, reads, loses, works, awaits_clear, awaits_transfer}
-use Rattle.machine_model.specs.Finishing.{loads, idles, leaves, fills, replies, faults, enters, waits, HasLost}
-use Rattle.machine_model.specs.Finishing.{with_bound, not_reading}
-use Rattle.machine_model.specs.OutlineKept.{IsKept}
-use Rattle.machine_model.specs.Looping.{lack_at, IsUnderWay, AwaitsTransfer, IsReader}
+use Rattle.machine_model.specs.Outline.{frame_in}
+use Rattle.machine_model.specs.Measures.{parts_of}
 use Rattle.machine_model.proofs.CountLaws.{readers_set}
 use Rattle.machine_model.proofs.RankLaws.{falls_reading}
 use Rattle.machine_model.proofs.JobLaws.{ranked, small_of}
 use Rattle.machine_model.proofs.LackLaws.{lack_le, wanted_more, here_same, here_more}
 use Rattle.machine_model.proofs.OuterLaws.{all_fewer}
-use Rattle.machine_model.proofs.GoesLaws.{all_set}
+use Rattle.machine_model.proofs.GoesLaws.{all_set, same_command}
 use Rattle.machine_model.proofs.StepLaws.{inside, none_due, other_than}
-use Rattle.machine_model.proofs.GoesLaws.{same_command}
-use Rattle.machine_model.specs.Finishing.{Rule}
-use Rattle.laws.proofs.Bools.{not_both}
 
 -- the rule that applies to a processor that reads, while the owner looks
 reads_rule : (s : Outline) (d : ℕ) (r : Transfer) → IsKept s → dues s.runners ≡ 0

@@ -1,43 +1,17 @@
 -- What a tree command must have out of use is so where it takes effect, as the tables are asked.
-use Rattle.std.proofs.Common.{◌≡◌, ◌<◌, ◌≤◌, ℕ, Bool, true, false, ◌&&◌, List, [], Option, Some, None}
-use Rattle.std.proofs.Common.{Ok, inl, inr, refl, sym, ap, subst, ◌∙◌, arith}
-use Rattle.std.specs.Prelude.{◌/◌, ◌%◌}
-use Rattle.std.proofs.lemmas.Bool.Decides.{eqb_tells}
-use Rattle.script.specs.declared.commands.Command.{Command}
+use Rattle.machine_model.proofs.Prelude.{◌≡◌, ◌<◌, ◌≤◌, ℕ, Bool, true, false, ◌&&◌, List, [], Option, Some, None, Ok, inl, inr, refl, sym, ap, subst, ◌∙◌, arith, ◌/◌, ◌%◌, eqb_tells, Command, Node, branch_at, node_at, segment_at, bound_page, frame_at, started_page, Ptw, has_record, is_out_word, Sdw, IsActive, uid_at, leads, leads_at, place_of, word_of, IsCut, is_filed, is_there, pages_in, has, is_going_frame, page_of, is_out, names, holding, led_to, seen, Keeps, IsReadyFor, IsRemovable, IsTakenFrom, IsTakenPast, OwnsAll, OwnsFor, OwnsFrom, descriptor_of, frames_of_owner, is_active, uid_of_command, uid_of_node, bound_use, frame_use, read_use, State, IsTakenFor, TakesDescriptor, TakesPage, branch_found, only_found, not_both}
 use Rattle.script.specs.declared.commands.Command.TheVariants as command
-use Rattle.tree_model.specs.Tree.{Node}
-use Rattle.flat_model.specs.Branches.{branch_at, node_at, segment_at}
-use Rattle.core_map.specs.CoreMap.{bound_page, frame_at, started_page}
 use Rattle.core_map.specs.declared.Frame.TheVariants as core_frame
-use Rattle.page_table.specs.declared.Ptw.{Ptw}
 use Rattle.page_table.specs.declared.Ptw.TheVariants as ptw
-use Rattle.page_control.specs.Tied.{has_record}
-use Rattle.page_control.specs.Tied.{is_out as is_out_word}
-use Rattle.descriptor_seg.specs.declared.Sdw.{Sdw}
 use Rattle.descriptor_seg.specs.declared.Sdw.TheVariants as sdw
-use Rattle.active_segs.specs.Active.{IsActive, uid_at}
-use Rattle.seg_control.specs.Control.{leads, leads_at, place_of, word_of}
 use Rattle.storage_ops.specs.Cut.{is_here}
-use Rattle.storage_ops.specs.Shown.{IsCut, is_filed, is_there, pages_in}
-use Rattle.custody_model.specs.Custody.{has, is_going_frame, page_of}
-use Rattle.machine_model.specs.Custodial.{is_out, names}
-use Rattle.machine_model.specs.Holding.{holding, led_to, seen}
-use Rattle.machine_model.specs.Keeps.{Keeps}
-use Rattle.machine_model.specs.Ready.{IsReadyFor, IsRemovable, IsTakenFrom, IsTakenPast, OwnsAll, OwnsFor, OwnsFrom}
-use Rattle.machine_model.specs.Reads.{descriptor_of, frames_of_owner, is_active}
-use Rattle.machine_model.specs.Refusal.{uid_of_command, uid_of_node}
-use Rattle.machine_model.specs.Seen.{bound_use, frame_use, read_use}
-use Rattle.machine_model.specs.State.{State}
-use Rattle.machine_model.specs.Taking.{IsTakenFor, TakesDescriptor, TakesPage}
 use Rattle.machine_model.proofs.ActiveSeen.{active_place}
 use Rattle.machine_model.proofs.CommitRests.{linked_on, none_listed, page_bound}
 use Rattle.machine_model.proofs.JustLaws.{started_free}
 use Rattle.machine_model.proofs.ListLaws.{map_list}
 use Rattle.machine_model.proofs.PageShown.{stored_is}
-use Rattle.flat_model.proofs.QuotaTotals.{branch_found, only_found}
 use Rattle.machine_model.proofs.TieLaws.{none_some}
 use Rattle.machine_model.proofs.TransferKept.{active_at}
-use Rattle.laws.proofs.Bools.{not_both}
 
 -- ---- what goes
 

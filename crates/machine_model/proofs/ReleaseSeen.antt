@@ -1,39 +1,14 @@
 -- Once a page has left its frame, just that page may be stored no more, and no volume has fewer free records.
-use Rattle.std.proofs.Common.{◌≡◌, ◌≢◌, ℕ, zero, suc, Bool, true, false, ◌&&◌, is_some, List, [], ◌∷◌}
-use Rattle.std.proofs.Common.{get_or, set, Option, Some, None, ◌⊎◌, inl, inr, refl, sym, ap, ◌∙◌}
-use Rattle.std.proofs.Common.{◌≤◌, arith, cond, count_by, eqb, le_refl, length}
-use Rattle.std.proofs.lemmas.Bool.Decides.{eqb_tells}
-use Rattle.std.proofs.lemmas.List.{length-set}
-use Rattle.std.proofs.lemmas.List.Sums.{count_by-le-length, sum_by-cons}
-use Rattle.tree_model.specs.Tree.{volume_in}
-use Rattle.page_control.specs.Counts.{is_full}
-use Rattle.vtoc.specs.Vtoc.{Entry, entry_at, record_at, records_in, with_record}
-use Rattle.page_control.specs.declared.Home.{Home}
-use Rattle.page_control.specs.declared.Left.{Left}
+use Rattle.machine_model.proofs.Prelude.{◌≡◌, ◌≢◌, ℕ, zero, suc, Bool, true, false, ◌&&◌, is_some, List, [], ◌∷◌, get_or, set, Option, Some, None, ◌⊎◌, inl, inr, refl, sym, ap, ◌∙◌, ◌≤◌, arith, cond, count_by, eqb, le_refl, length, eqb_tells, length-set, count_by-le-length, sum_by-cons, volume_in, is_full, record_at, records_in, with_record, Home, Left, is_filed_at, record_of, words_in, flags_in, vtoc_in, home_of, is_filed, is_there, is_going_frame, full_then, stored_then, seen, left_of, page_in, with_left, Keeps, lacks_record, outline_of, home_in, shown, State, Owner, frame_use, read_use, bound_page, has_head, not_both}
+use Rattle.vtoc.specs.Vtoc.{Entry, entry_at}
 use Rattle.page_control.specs.declared.Left.TheVariants as left
-use Rattle.page_control.specs.Picture.{is_filed_at}
-use Rattle.page_control.specs.Plain.{record_of, words_in}
-use Rattle.page_control.specs.Tied.{flags_in, uid_at, vtoc_in}
-use Rattle.storage_ops.specs.Shown.{home_of, is_filed, is_there}
-use Rattle.custody_model.specs.Custody.{is_going_frame}
+use Rattle.page_control.specs.Tied.{uid_at}
 use Rattle.machine_model.specs.Finishing.{MayRelease, page_of}
-use Rattle.machine_model.specs.Foreseen.{full_then, stored_then}
-use Rattle.machine_model.specs.Holding.{seen}
-use Rattle.machine_model.specs.Jobs.{left_of, page_in, page_or_zero, with_left}
-use Rattle.machine_model.specs.Keeps.{Keeps}
+use Rattle.machine_model.specs.Jobs.{page_or_zero}
 use Rattle.machine_model.specs.Outline.{frame_in}
-use Rattle.machine_model.specs.Outlined.{lacks_record, outline_of}
-use Rattle.machine_model.specs.Reads.{home_in}
-use Rattle.machine_model.specs.Seen.{shown}
-use Rattle.machine_model.specs.State.{State}
 use Rattle.machine_model.proofs.FrameSeen.{bound_outlined}
-use Rattle.machine_model.specs.State.{Owner}
-use Rattle.machine_model.specs.Seen.{frame_use, read_use}
-use Rattle.core_map.specs.CoreMap.{bound_page}
 use Rattle.core_map.specs.declared.Frame.TheVariants as frame
 use Rattle.machine_model.proofs.ListLaws.{map_list}
-use Rattle.custody_model.proofs.SharedLaws.{has_head}
-use Rattle.laws.proofs.Bools.{not_both}
 
 -- an element of a list after one of them changed is as it was, or it is that one
 pub set_either : {A : Type 0} (xs : List A) (i : ℕ) (y : A) (j : ℕ) (d : A)

@@ -1,28 +1,9 @@
 -- What the owner's job has taken may come back: its pages one after the other, and then its descriptors.
-use Rattle.std.proofs.Common.{◌≡◌, ◌<◌, ℕ, suc, Bool, true, false, ◌||◌, List, [], ◌∷◌, length, Option, Some, None}
-use Rattle.std.proofs.Common.{inr, refl, sym, ap, subst, ◌∙◌}
-use Rattle.std.proofs.lemmas.List.{length-set}
-use Rattle.core_map.specs.declared.Frame.{Frame}
+use Rattle.machine_model.proofs.Prelude.{◌≡◌, ◌<◌, ℕ, suc, Bool, true, false, ◌||◌, List, [], ◌∷◌, length, Option, Some, None, inr, refl, sym, ap, subst, ◌∙◌, length-set, Frame, bound_page, frame_at, is_bound, Ptw, frame_in, Sdw, leads, leads_at, place_of, sdws_at, word_of, has, is_going_descriptor, CutDescriptor, page_at, AreApart, AreDistinct, has_cut, names, led_to, seen, here_if, with_here, with_relink, AreThere, HadRights, Keeps, cut_of_owner, descriptor_of, frames_of_owner, IsLeaving, IsRelinkable, MayComeBack, MayRelink, with_all_here, cut_uid, descriptor_use, is_cut_at, State, Storage, AreNumbered, IsWorking, has_head, has_tail, not_both, or_parts}
 use Rattle.core_map.specs.declared.Frame.TheVariants as frame
-use Rattle.core_map.specs.CoreMap.{bound_page, frame_at, is_bound}
-use Rattle.page_table.specs.declared.Ptw.{Ptw}
 use Rattle.page_table.specs.declared.Ptw.TheVariants as ptw
-use Rattle.page_control.specs.Plain.{frame_in}
-use Rattle.descriptor_seg.specs.declared.Sdw.{Sdw}
 use Rattle.descriptor_seg.specs.declared.Sdw.TheVariants as sdw
-use Rattle.seg_control.specs.Control.{leads, leads_at, place_of, sdws_at, word_of}
-use Rattle.custody_model.specs.Custody.{has, is_going_descriptor}
-use Rattle.machine_model.specs.declared.CutDescriptor.{CutDescriptor}
-use Rattle.machine_model.specs.Chains.{page_at}
-use Rattle.machine_model.specs.Custodial.{AreApart, AreDistinct, has_cut, names}
-use Rattle.machine_model.specs.Holding.{led_to, seen}
-use Rattle.machine_model.specs.Jobs.{here_if, page_or_zero, with_here, with_relink}
-use Rattle.machine_model.specs.Keeps.{AreThere, HadRights, Keeps}
-use Rattle.machine_model.specs.Reads.{cut_of_owner, descriptor_of, frames_of_owner}
-use Rattle.machine_model.specs.Returned.{IsLeaving, IsRelinkable, MayComeBack, MayRelink, with_all_here}
-use Rattle.machine_model.specs.Seen.{cut_uid, descriptor_use, is_cut_at}
-use Rattle.machine_model.specs.State.{State, Storage}
-use Rattle.machine_model.specs.Working.{AreNumbered, IsWorking}
+use Rattle.machine_model.specs.Jobs.{page_or_zero}
 use Rattle.machine_model.proofs.ActiveSeen.{active_place}
 use Rattle.machine_model.proofs.BackKept.{relink_there}
 use Rattle.machine_model.proofs.ChainLaws.{going_word}
@@ -31,9 +12,6 @@ use Rattle.machine_model.proofs.OwnedLaws.{cut_at_same}
 use Rattle.machine_model.proofs.Places.{by_places}
 use Rattle.machine_model.proofs.TakeSeen.{descriptors_put, not_null, words_put}
 use Rattle.machine_model.proofs.TieLaws.{none_some}
-use Rattle.custody_model.proofs.SharedLaws.{has_head, has_tail}
-use Rattle.laws.proofs.Bools.{not_both}
-use Rattle.std.proofs.lemmas.Bool.{or_parts}
 
 or_right : (a b : Bool) → b ≡ true → (a || b) ≡ true
 or_right true b h = refl

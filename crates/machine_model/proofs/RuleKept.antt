@@ -1,79 +1,28 @@
 -- Each step of each processor keeps the machine's promise: along the rules in their order, what an action asks follows
 -- from the promise, but for what the store says and for what the flat store answers.
-use Rattle.std.proofs.Common.{◌≡◌, ◌<◌, ◌≤◌, ℕ, Bool, true, false, is_some, List, [], ◌∷◌, length, position}
-use Rattle.std.proofs.Common.{Option, Some, None, refl, sym, ap, subst, ◌∙◌}
-use Rattle.assoc_mem.specs.declared.What.{What}
+use Rattle.machine_model.proofs.Prelude.{◌≡◌, ◌<◌, ◌≤◌, ℕ, Bool, true, false, List, [], ◌∷◌, length, position, Option, Some, None, refl, sym, ap, subst, ◌∙◌, What, Command, Reference, words_in, Transfer, is_for, place_of, table_of, word_of, MayRelease, MayMove, word_reply, has, is_going_frame, NoneDue, MayDeactivate, MayRehome, Mover, Aim, Phase, finish_of, copy_or_commit, Outcome, gone_segs, gones, page_at, Path, move_begun, move_committed, page_copied, is_active, uid_of_command, stays, ◌⊎◌, inl, inr, committed, FitsPhase, IsOwned, IsShaped, KeepsBook, is_out, is_pending, is_pending_in, says, says_in, seen, eviction_begun, eviction_done, emptied, left_of, page_done, segs_gone, took, IsAtWork, Keeps, StoreSays, cut_of_owner, flat_of, frames_of_owner, is_due, next_command, no_processor, or_zero, process_at, processor_at, reply_of, shown, CutDescriptor, Owner, State, page_created, page_made, started, transferred, with_faults, with_owner, with_hand_moved, frames_from, trailers_in, with_store, eqb_tells, eqb, has_head, not_both, some_unwrapped}
 use Rattle.assoc_mem.specs.declared.What.TheVariants as what
-use Rattle.script.specs.declared.commands.Command.{Command}
 use Rattle.script.specs.declared.commands.Command.TheVariants as command
-use Rattle.script.specs.declared.commands.Reference.{Reference}
 use Rattle.page_control.specs.declared.Left.TheVariants as left
-use Rattle.page_control.specs.Plain.{words_in}
-use Rattle.processor.specs.declared.Transfer.{Transfer}
-use Rattle.seg_control.specs.Control.{is_for, place_of, table_of, word_of}
-use Rattle.flat_model.specs.Legal.{MayRelease}
-use Rattle.flat_model.specs.Moves.{MayMove}
-use Rattle.flat_model.specs.References.{word_reply}
-use Rattle.custody_model.specs.Custody.{has, is_going_frame}
-use Rattle.custody_model.specs.Fine.{NoneDue}
-use Rattle.custody_model.specs.Allowed.{MayDeactivate, MayRehome}
-use Rattle.seg_mover.specs.declared.Mover.{Mover}
-use Rattle.machine_model.specs.declared.Aim.{Aim}
 use Rattle.machine_model.specs.declared.Aim.TheVariants as aim
-use Rattle.machine_model.specs.declared.Phase.{Phase}
 use Rattle.machine_model.specs.declared.Phase.TheVariants as phase
 use Rattle.machine_model.specs.Actions as act
-use Rattle.machine_model.specs.Actions.{finish_of, copy_or_commit}
-use Rattle.machine_model.specs.After.{Outcome}
-use Rattle.machine_model.specs.Chains.{gone_segs, gones, page_at}
-use Rattle.mnames.specs.declared.paths.Path.{Path}
-use Rattle.machine_model.specs.Moves.{move_begun, move_committed, page_copied}
-use Rattle.machine_model.specs.Reads.{is_active}
-use Rattle.machine_model.specs.Refusal.{uid_of_command}
-use Rattle.machine_model.specs.Commits.{stays}
-use Rattle.std.proofs.Common.{◌⊎◌, inl, inr}
-use Rattle.machine_model.specs.Commits.{committed}
-use Rattle.machine_model.specs.Custodial.{FitsPhase, IsOwned, IsShaped, KeepsBook, is_out, is_pending, is_pending_in}
-use Rattle.machine_model.specs.Custodial.{says, says_in}
-use Rattle.machine_model.specs.Holding.{seen}
-use Rattle.machine_model.specs.Jobs.{eviction_begun, eviction_done, emptied, left_of, page_done, segs_gone, took}
-use Rattle.machine_model.specs.Keeps.{IsAtWork, Keeps, StoreSays}
-use Rattle.machine_model.specs.Reads.{cut_of_owner, flat_of, frames_of_owner, is_due, next_command, no_processor}
-use Rattle.machine_model.specs.Reads.{or_zero, process_at, processor_at}
-use Rattle.machine_model.specs.Refusal.{reply_of}
-use Rattle.machine_model.specs.Seen.{shown}
-use Rattle.machine_model.specs.declared.CutDescriptor.{CutDescriptor}
-use Rattle.machine_model.specs.State.{Owner, State}
-use Rattle.machine_model.specs.Steps.{page_created, page_made, started, transferred, with_faults, with_owner}
 use Rattle.machine_model.proofs.ActiveKept.{IsOver, segs_are_gone}
 use Rattle.machine_model.proofs.ActiveSeen.{within_some}
 use Rattle.machine_model.proofs.ChainLaws.{IsDone, GoesOn, IsSteady, going_word}
 use Rattle.machine_model.proofs.CommitKept.{effected, idle_over, segs_over}
-use Rattle.machine_model.proofs.DeleteKept.{gones_done, gones_idle}
+use Rattle.machine_model.proofs.DeleteKept.{gones_done, gones_idle, GoesWhole}
 use Rattle.machine_model.proofs.DueLaws.{none_due}
 use Rattle.machine_model.proofs.FindLaws.{choice_bound, free_frame, position_none, unread_page}
 use Rattle.machine_model.proofs.LookLaws.{IsLook}
 use Rattle.machine_model.proofs.OwnedLaws.{IsIdle}
 use Rattle.machine_model.proofs.OwnerLaws.{looking_idle, moves_idle}
-use Rattle.machine_model.proofs.StepKept.{CanTakeSegment, hand_kept, CanActivateAt, CanCommit, CanDo, CanEmpty}
-use Rattle.machine_model.proofs.StepKept.{CanConnectTo, works_mine}
-use Rattle.machine_model.proofs.StepKept.{CanFailWrite, CanGoThrough, CanLose, CanReply, IsCommitted, IsMine}
-use Rattle.machine_model.proofs.StepKept.{CanFailCopy}
+use Rattle.machine_model.proofs.StepKept.{CanTakeSegment, hand_kept, CanActivateAt, CanCommit, CanDo, CanEmpty, CanConnectTo, works_mine, CanFailWrite, CanGoThrough, CanLose, CanReply, IsCommitted, IsMine, CanFailCopy}
 use Rattle.machine_model.proofs.TakeLists.{segment_takes}
-use Rattle.machine_model.specs.Jobs.{with_hand_moved}
-use Rattle.machine_model.specs.Reads.{frames_from, trailers_in}
-use Rattle.machine_model.specs.Steps.{with_store}
-use Rattle.std.proofs.lemmas.Bool.Decides.{eqb_tells}
-use Rattle.std.proofs.Common.{eqb}
 use Rattle.machine_model.proofs.TellKept.{CanTell}
-use Rattle.machine_model.proofs.TruncateKept.{leaves, leaves_done, leaves_idle}
+use Rattle.machine_model.proofs.TruncateKept.{leaves, leaves_done, leaves_idle, LeavesCut}
 use Rattle.machine_model.proofs.TookKept.{CanTook, Owns}
 use Rattle.machine_model.proofs.WordLaws.{word_within}
-use Rattle.machine_model.proofs.TruncateKept.{LeavesCut}
-use Rattle.machine_model.proofs.DeleteKept.{GoesWhole}
-use Rattle.custody_model.proofs.SharedLaws.{has_head}
-use Rattle.laws.proofs.Bools.{not_both}
-use Rattle.laws.proofs.Options.{some_unwrapped}
 
 head_same : (x y : ℕ) (xs ys : List ℕ) → x ∷ xs ≡ y ∷ ys → x ≡ y
 head_same x y xs ys h = cc

@@ -1,9 +1,6 @@
 -- Which rule applies to a processor, and what it tells of it.
-use Rattle.std.proofs.Common.{◌≡◌, ℕ, Bool, true, false, ◌&&◌, is_some, refl, nat_lt}
-use Rattle.machine_model.specs.Outline.{Runner, Outline, runner_at}
+use Rattle.machine_model.proofs.Prelude.{◌≡◌, ℕ, Bool, true, false, ◌&&◌, is_some, refl, nat_lt, Runner, Outline, runner_at, Rule, Comes, Clears, Reads, Works, Loads, Leaves, Commands, rule_by, rule_of, owns}
 use Rattle.machine_model.specs.Measures.{is_over}
-use Rattle.machine_model.specs.Finishing.{Rule, Comes, Clears, Reads, Works, Loads, Leaves, Commands, rule_by, rule_of}
-use Rattle.machine_model.specs.Finishing.{owns}
 
 -- what the rules ask of six facts
 abbrev pub Tells : Rule → Bool → Bool → Bool → Bool → Bool → Bool → Type 0

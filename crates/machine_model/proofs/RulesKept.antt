@@ -1,47 +1,13 @@
 -- Each step of each processor keeps the machine's promise: along the rules in their order, what an action asks follows
 -- from the promise, but for what the store says and for what the flat store answers.
-use Rattle.std.proofs.Common.{◌≡◌, ◌≢◌, ◌<◌, ℕ, ◌/◌, ◌*◌, Bool, true, false, not, ◌&&◌, ◌||◌, ◌==◌, cond, eqb, is_some}
-use Rattle.std.proofs.Common.{List, [], ◌∷◌, length, position, Option, Some, None, inl, inr, refl, sym, ap, subst, ◌∙◌}
-use Rattle.std.specs.Prelude.{IsSomeAnd, nat_le, option_map}
-use Rattle.std.proofs.lemmas.Bool.Decides.{eqb_tells, leb_tells}
-use Rattle.assoc_mem.specs.declared.HeldPage.{HeldPage}
-use Rattle.assoc_mem.specs.declared.HeldSeg.{HeldSeg}
-use Rattle.assoc_mem.specs.declared.What.{What}
-use Rattle.assoc_mem.specs.Held.{frame_of, page_of, seg_of}
-use Rattle.script.specs.References.{reference_of}
-use Rattle.script.specs.declared.commands.Command.{Command}
-use Rattle.script.specs.declared.commands.Reference.{Reference}
+use Rattle.machine_model.proofs.Prelude.{◌≡◌, ◌≢◌, ◌<◌, ℕ, ◌/◌, ◌*◌, Bool, true, false, not, ◌&&◌, ◌||◌, ◌==◌, cond, eqb, is_some, List, [], ◌∷◌, length, position, Option, Some, None, inl, inr, refl, sym, ap, subst, ◌∙◌, IsSomeAnd, nat_le, option_map, eqb_tells, leb_tells, HeldPage, HeldSeg, What, frame_of, seg_of, reference_of, Command, Reference, Ptw, Sdw, uid_at, by_descriptor, by_page, by_seg, by_word, Move, Transfer, leads, sdws_at, word_of, table_of, next_out, new_word, permits, word_reply, HasHadItsTurn, IsFront, MayGo, Phase, action_of, by_move, clear_or, come_to, finish_of, go_on_with, has_had_its_turn, is_empty, load_or_idle, look_of, once_cleared, own_or_run, refer_or_take, run_process, take_or_wait, transfer_or, Outcome, names, led_to, seen, IsAtWork, Keeps, cpu_at, descriptor_of, flat_of, is_due, next_command, or_zero, process_at, processor_at, shown, Processor, Owner, State, held_page, held_seg, uid_of_held, cond_both, not-true, not-false, and_parts}
+use Rattle.assoc_mem.specs.Held.{page_of}
 use Rattle.book.specs.declared.replies.Reply.TheVariants as reply
-use Rattle.page_table.specs.declared.Ptw.{Ptw}
 use Rattle.page_table.specs.declared.Ptw.TheVariants as ptw
-use Rattle.descriptor_seg.specs.declared.Sdw.{Sdw}
 use Rattle.descriptor_seg.specs.declared.Sdw.TheVariants as sdw
-use Rattle.active_segs.specs.Active.{uid_at}
-use Rattle.processor.specs.Moves.{by_descriptor, by_page, by_seg, by_word}
-use Rattle.processor.specs.declared.Move.{Move}
 use Rattle.processor.specs.declared.Move.TheVariants as move
-use Rattle.processor.specs.declared.Transfer.{Transfer}
-use Rattle.seg_control.specs.Control.{leads, sdws_at, word_of, table_of}
-use Rattle.seg_control.specs.Moving.{next_out}
-use Rattle.script.specs.References.{new_word, permits}
-use Rattle.flat_model.specs.References.{word_reply}
-use Rattle.custody_model.specs.Allowed.{HasHadItsTurn, IsFront, MayGo}
-use Rattle.machine_model.specs.declared.Phase.{Phase}
 use Rattle.machine_model.specs.declared.Phase.TheVariants as phase
 use Rattle.machine_model.specs.Actions as act
-use Rattle.machine_model.specs.Actions.{action_of, by_move, clear_or, come_to, finish_of, go_on_with, has_had_its_turn}
-use Rattle.machine_model.specs.Actions.{is_empty, load_or_idle, look_of, once_cleared, own_or_run}
-use Rattle.machine_model.specs.Actions.{refer_or_take, run_process, take_or_wait, transfer_or}
-use Rattle.machine_model.specs.After.{Outcome}
-use Rattle.machine_model.specs.Custodial.{names}
-use Rattle.machine_model.specs.Holding.{led_to, seen}
-use Rattle.machine_model.specs.Keeps.{IsAtWork, Keeps}
-use Rattle.machine_model.specs.Reads.{cpu_at, descriptor_of, flat_of, is_due, next_command, or_zero, process_at}
-use Rattle.machine_model.specs.Reads.{processor_at}
-use Rattle.machine_model.specs.Seen.{shown}
-use Rattle.machine_model.specs.declared.Processor.{Processor}
-use Rattle.machine_model.specs.State.{Owner, State}
-use Rattle.machine_model.specs.Steps.{held_page, held_seg, uid_of_held}
 use Rattle.machine_model.proofs.ActionCases.{action_by}
 use Rattle.machine_model.proofs.FindLaws.{number_new, page_new}
 use Rattle.machine_model.proofs.KeepLaws.{IsNoOwner}
@@ -50,8 +16,6 @@ use Rattle.machine_model.proofs.RuleKept.{Asks, finish_can, look_can, move_can}
 use Rattle.machine_model.proofs.SeatLaws.{CanFillPage, CanFillSeg}
 use Rattle.machine_model.proofs.StepKept.{CanDo, CanLeave, IsMine, to_hold}
 use Rattle.machine_model.proofs.TieLaws.{none_some}
-use Rattle.std.proofs.lemmas.Bool.{cond_both, not-true, not-false}
-use Rattle.laws.proofs.Bools.{and_parts}
 
 -- an action can be done whose conditions hold
 abbrev Can : State → ℕ → Outcome → act.Action → Type 0

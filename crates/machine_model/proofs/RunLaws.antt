@@ -1,34 +1,6 @@
 -- How far each process has come by the flat store, once a command was answered or a drive's failure was told.
-use Rattle.std.proofs.Common.{◌≡◌, ◌<◌, ◌≤◌, ℕ, zero, suc, ℤ, Bool, true, false, cond, List, [], ◌∷◌, length, set}
-use Rattle.std.proofs.Common.{get_or, Option, Some, None, Result, Ok, Err, inl, inr, if◌then◌else◌, refl, sym, ap}
-use Rattle.std.proofs.Common.{subst, ◌∙◌, arith}
-use Rattle.std.proofs.lemmas.Bool.Decides.{eqb_tells, leb_tells}
-use Rattle.std.proofs.lemmas.List.{get_or-set_same, get_or-set_other}
-use Rattle.script.specs.Plans.{Plan}
-use Rattle.script.specs.References.{reference_of}
-use Rattle.script.specs.declared.commands.Command.{Command}
-use Rattle.script.specs.declared.commands.Command.TheVariants as command
-use Rattle.script.specs.declared.commands.Reference.{Reference}
-use Rattle.book.specs.declared.replies.Reply.{Reply}
-use Rattle.tree_model.specs.Tree.{Node}
-use Rattle.tree_model.specs.Access.{Row}
-use Rattle.flat_model.specs.Branches.{changed, node_at, segment_at, branch_at, directory_at, parts_of}
-use Rattle.flat_model.specs.Commands.{effect_of, effect_by, effect_of_tree_command, after_command, gone_on}
-use Rattle.flat_model.specs.Commands.{takes_effect}
-use Rattle.flat_model.specs.Legal.{after_fault}
-use Rattle.flat_model.specs.Making.{after_make, made_of, made_at, after_delete, deleted}
-use Rattle.flat_model.specs.Naming.{after_initiate, initiated, after_terminate}
-use Rattle.script.specs.References.{alters, new_word}
-use Rattle.flat_model.specs.References.{after_reference, written, written_by}
-use Rattle.flat_model.specs.Rights.{after_acl, after_move, moved}
-use Rattle.flat_model.specs.Sizes.{after_length, after_truncate, truncated}
-use Rattle.flat_model.specs.Store.{Store, Progress, progress_of, with_progress, known_uid}
-use Rattle.custody_model.specs.Next.{at_put}
-use Rattle.machine_model.specs.Custodial.{IsRun}
-use Rattle.machine_model.specs.declared.Run.{Run}
+use Rattle.machine_model.proofs.Prelude.{◌≡◌, ◌<◌, ◌≤◌, ℕ, zero, suc, Bool, true, false, cond, List, [], ◌∷◌, length, set, get_or, Option, Some, None, inl, inr, if◌then◌else◌, refl, sym, ap, subst, ◌∙◌, arith, eqb_tells, leb_tells, get_or-set_same, get_or-set_other, Plan, Command, Reply, effect_of, after_command, gone_on, takes_effect, after_fault, Store, Progress, progress_of, with_progress, at_put, IsRun, Run, going_within, effect_advances}
 use Rattle.machine_model.proofs.Places.{by_place}
-use Rattle.flat_model.proofs.SharedLaws.{going_within}
-use Rattle.flat_model.proofs.OtherLaws.{effect_advances}
 
 -- ---- one process has come to another place
 

@@ -1,56 +1,14 @@
 -- What the store says after each action, by what its calls say of it.
-use Rattle.std.proofs.Common.{◌≡◌, ◌<◌, ℕ, ◌+◌, ◌*◌, Bool, true, false, cond, eqb, List, [], ◌∷◌, ◌++◌, map, length}
-use Rattle.std.proofs.Common.{set}
-use Rattle.std.proofs.Common.{sum, Option, Some, None, refl, sym, ap, subst, ◌∙◌, arith}
-use Rattle.std.specs.Prelude.{◌/◌, ◌%◌}
-use Rattle.std.proofs.lemmas.List.{length-set}
-use Rattle.mnames.specs.declared.principals.Who.{Who}
-use Rattle.script.specs.Plans.{Plan}
-use Rattle.script.specs.References.{reference_of}
-use Rattle.script.specs.declared.commands.Command.{Command}
-use Rattle.script.specs.declared.commands.RefKind.{RefKind}
+use Rattle.machine_model.proofs.Prelude.{◌≡◌, ◌<◌, ℕ, ◌+◌, ◌*◌, Bool, true, false, cond, eqb, List, [], ◌∷◌, ◌++◌, map, length, set, sum, Option, Some, None, refl, sym, ap, subst, ◌∙◌, arith, ◌/◌, ◌%◌, length-set, Who, Plan, reference_of, Command, RefKind, Reference, Entry, Reply, Node, Frame, is_idle, passed_over, round_frames, unmarked, bound_page, Left, Home, evicted, referred, word_put, Plain, frame_in_pages, words_in, Transfer, Sdw, sdws_at, effect_by, effect_of, takes_effect, after_entry, store_after, store_after-push, alters, new_word, word_reply, written, written_by, Store, known_uid, Outcome, after, emptied, entries_left, eviction_begun, eviction_done, here_if, leaving_if, left_of, page_back, page_done, page_in, pages_back, seg_back, seg_gone, segs_back, segs_gone, with_choice, without_first_frame, write_failed, AreThere, HadRights, IsConserved, IsFaithful, Keeps, StoreKept, StoreSays, cut_of_owner, flat_of, frames_of_owner, home_in, is_active, next_command, process_at, run_at, Says, left_page, shown_after, through, with_made_page, without_left, CutDescriptor, Owner, State, Storage, activated_at, connected_to, fault_told, frame_lost, old_word, page_created, pages_after, started, told, told_by, transfer_failed, transferred, went_through, with_faults, append_assoc}
 use Rattle.script.specs.declared.commands.RefKind.TheVariants as kind
-use Rattle.script.specs.declared.commands.Reference.{Reference}
-use Rattle.book.specs.declared.entries.Entry.{Entry}
 use Rattle.book.specs.declared.entries.Entry.TheVariants as entry
-use Rattle.book.specs.declared.replies.Reply.{Reply}
 use Rattle.book.specs.declared.replies.Reply.TheVariants as reply
-use Rattle.tree_model.specs.Tree.{Node}
-use Rattle.core_map.specs.declared.Frame.{Frame}
-use Rattle.core_map.specs.Clock.{frame_in, is_idle, passed_over, round_frames, unmarked}
-use Rattle.core_map.specs.CoreMap.{bound_page}
-use Rattle.page_control.specs.declared.Left.{Left}
+use Rattle.core_map.specs.Clock.{frame_in}
 use Rattle.page_control.specs.declared.Left.TheVariants as left
-use Rattle.page_control.specs.declared.Home.{Home}
-use Rattle.page_control.specs.Effects.{evicted, referred, word_put}
-use Rattle.page_control.specs.Plain.{Plain, frame_in as frame_in_pages, words_in}
-use Rattle.processor.specs.declared.Transfer.{Transfer}
-use Rattle.descriptor_seg.specs.declared.Sdw.{Sdw}
-use Rattle.seg_control.specs.Control.{sdws_at}
-use Rattle.flat_model.specs.Commands.{effect_by, effect_of, takes_effect}
-use Rattle.flat_model.specs.Legal.{after_entry, store_after}
-use Rattle.flat_model.proofs.BookLaws.{store_after-push}
-use Rattle.script.specs.References.{alters, new_word}
-use Rattle.flat_model.specs.References.{after_reference, word_reply, written, written_by}
-use Rattle.flat_model.specs.Store.{Store, known_uid}
+use Rattle.flat_model.specs.References.{after_reference}
 use Rattle.machine_model.specs.Actions as act
-use Rattle.machine_model.specs.After.{Outcome, after}
-use Rattle.machine_model.specs.Jobs.{emptied, entries_left, eviction_begun, eviction_done, here_if}
-use Rattle.machine_model.specs.Jobs.{leaving_if, left_of, page_back, page_done, page_in, pages_back, seg_back, seg_gone}
-use Rattle.machine_model.specs.Jobs.{segs_back, segs_gone, with_choice, without_first_frame, write_failed}
-use Rattle.machine_model.specs.Keeps.{AreThere, HadRights, IsConserved, IsFaithful, Keeps, StoreKept, StoreSays}
-use Rattle.machine_model.specs.Reads.{cut_of_owner, flat_of, frames_of_owner, home_in, is_active, next_command}
-use Rattle.machine_model.specs.Reads.{process_at, run_at}
-use Rattle.machine_model.specs.Said.{Says, left_page, shown_after, through, with_made_page, without_left}
-use Rattle.machine_model.specs.declared.CutDescriptor.{CutDescriptor}
-use Rattle.machine_model.specs.State.{Owner, State, Storage}
-use Rattle.machine_model.specs.Steps.{activated_at, connected_to, fault_told, frame_lost, old_word, page_created}
-use Rattle.machine_model.specs.Steps.{pages_after, started, told, told_by, transfer_failed, transferred, went_through}
-use Rattle.machine_model.specs.Steps.{with_faults}
-use Rattle.machine_model.proofs.FlatAlike.{IsAlike, alike, alike_by, alike_on, alike_shown, conserved_by}
-use Rattle.machine_model.proofs.FlatAlike.{done_alike, fault_alike, is_still, one_still, refused_alike}
+use Rattle.machine_model.proofs.FlatAlike.{IsAlike, alike, alike_by, alike_on, alike_shown, conserved_by, done_alike, fault_alike, is_still, one_still, refused_alike}
 use Rattle.machine_model.proofs.TieLaws.{none_some}
-use Rattle.std.proofs.lemmas.List.{append_assoc}
 use Rattle.machine_model.proofs.OutlineEnd.{left_nodes as account_nodes}
 
 -- the quotas of a flat store together

@@ -1,48 +1,13 @@
 -- After each action each process that goes on is at one processor, ready, or kept back by the initializer.
-use Rattle.std.proofs.Common.{◌≡◌, ◌<◌, ℕ, ◌+◌, ◌-◌, Bool, true, false, ◌&&◌, cond, eqb, List, [], ◌∷◌, ◌++◌, drop}
-use Rattle.std.proofs.Common.{length}
-use Rattle.std.proofs.Common.{set, Option, Some, None, refl, sym, ap, subst, ◌∙◌}
-use Rattle.std.proofs.lemmas.List.{length-set, get_or-set_same}
-use Rattle.script.specs.Plans.{Plan}
-use Rattle.script.specs.declared.commands.Command.{Command}
+use Rattle.machine_model.proofs.Prelude.{◌≡◌, ◌<◌, ℕ, ◌+◌, ◌-◌, Bool, true, false, ◌&&◌, cond, eqb, List, [], ◌∷◌, ◌++◌, drop, length, set, Option, Some, None, refl, sym, ap, subst, ◌∙◌, length-set, get_or-set_same, Plan, Command, Reply, What, is_end, word_reply, IsFront, range, released_by, Aim, CutDescriptor, Processor, Run, Outcome, after, committed_at, cut_all, cut_one, emptied, page_back, pages_back, seg_back, seg_gone, segment_taken, segs_back, segs_gone, take_all, take_one, told_from, took, with_hand_moved, write_failed, copy_failed, without_move, cpu_at, cut_of_owner, frames_from, frames_of_owner, next_command, no_processor, or_zero, process_at, processor_at, run_at, trailers_in, reply_of, AreScheduled, IsScheduled, State, fault_told, frame_lost, goes_on, is_its_end, left_at, old_word, page_made, run_after, told, told_by, transfer_failed, with_store, pages_after, with_pages, no_run, append-nil}
 use Rattle.script.specs.declared.commands.Command.TheVariants as command
-use Rattle.book.specs.declared.replies.Reply.{Reply}
 use Rattle.book.specs.declared.replies.Reply.TheVariants as reply
-use Rattle.assoc_mem.specs.declared.What.{What}
 use Rattle.assoc_mem.specs.declared.What.TheVariants as what
-use Rattle.flat_model.specs.Commands.{is_end}
-use Rattle.flat_model.specs.References.{word_reply}
-use Rattle.custody_model.specs.Allowed.{IsFront}
-use Rattle.custody_model.specs.Custody.{range}
-use Rattle.custody_model.specs.Next.{released_by}
-use Rattle.machine_model.specs.declared.Aim.{Aim}
 use Rattle.machine_model.specs.declared.Aim.TheVariants as aim
-use Rattle.machine_model.specs.declared.CutDescriptor.{CutDescriptor}
-use Rattle.machine_model.specs.declared.Processor.{Processor}
-use Rattle.machine_model.specs.declared.Run.{Run}
 use Rattle.machine_model.specs.Actions as act
-use Rattle.machine_model.specs.After.{Outcome, after}
-use Rattle.machine_model.specs.Commits.{committed_at}
-use Rattle.machine_model.specs.Jobs.{cut_all, cut_one, emptied, page_back, pages_back}
-use Rattle.machine_model.specs.Jobs.{seg_back, seg_gone, segment_taken, segs_back, segs_gone, take_all}
-use Rattle.machine_model.specs.Jobs.{take_one, told_from, took, with_hand_moved, write_failed}
-use Rattle.machine_model.specs.Moves.{copy_failed, without_move}
-use Rattle.machine_model.specs.Reads.{cpu_at, cut_of_owner, frames_from, frames_of_owner, next_command, no_processor}
-use Rattle.machine_model.specs.Reads.{or_zero, process_at, processor_at, run_at, trailers_in}
-use Rattle.machine_model.specs.Refusal.{reply_of}
-use Rattle.machine_model.specs.Scheduled.{AreScheduled, IsScheduled}
-use Rattle.machine_model.specs.State.{State}
-use Rattle.machine_model.specs.Steps.{fault_told, frame_lost, goes_on, is_its_end, left_at, old_word, page_made}
-use Rattle.machine_model.specs.Steps.{run_after, told, told_by, transfer_failed}
-use Rattle.machine_model.specs.Steps.{with_store}
 use Rattle.machine_model.proofs.CommitKept.{effected}
-use Rattle.machine_model.specs.Steps.{pages_after, with_pages}
-use Rattle.machine_model.proofs.LeaveSeen.{told_reads}
-use Rattle.machine_model.specs.Reads.{no_run}
-use Rattle.machine_model.proofs.ScheduleLaws.{SameSeats, end_kept, leave_kept, load_kept, one_run}
-use Rattle.machine_model.proofs.ScheduleLaws.{one_seat, runs_kept, seats_kept}
-use Rattle.machine_model.proofs.LeaveSeen.{told_online, told_process}
-use Rattle.std.proofs.lemmas.List.{append-nil}
+use Rattle.machine_model.proofs.LeaveSeen.{told_reads, told_online, told_process}
+use Rattle.machine_model.proofs.ScheduleLaws.{SameSeats, end_kept, leave_kept, load_kept, one_run, one_seat, runs_kept, seats_kept}
 
 -- ---- nobody's process and run changes
 

@@ -1,26 +1,9 @@
 -- Which processes run and which are ready, where a process is loaded, leaves its processor, is answered or ends.
-use Rattle.std.proofs.Common.{◌≡◌, ◌≢◌, ◌<◌, ◌≤◌, ℕ, zero, suc, ◌+◌, ◌-◌, Bool, true, false, ◌||◌, ◌&&◌, cond, eqb}
-use Rattle.std.proofs.Common.{List, []}
-use Rattle.std.proofs.Common.{◌∷◌, ◌++◌, length, set, Some, None, ◌⊎◌, inl, inr, refl, sym, ap, subst, ◌∙◌}
-use Rattle.std.proofs.Common.{arith}
-use Rattle.std.proofs.lemmas.Bool.Decides.{eqb_tells}
-use Rattle.std.proofs.lemmas.List.{get_or-set_other, get_or-set_same}
-use Rattle.script.specs.Plans.{Plan}
-use Rattle.custody_model.specs.Custody.{has, range}
-use Rattle.machine_model.specs.Custodial.{AreDistinct}
-use Rattle.machine_model.specs.Reads.{cpu_at, no_processor, no_run, processor_at, run_at}
-use Rattle.machine_model.specs.Scheduled.{AreScheduled, HasTurn, MayRun}
-use Rattle.machine_model.specs.declared.Processor.{Processor}
-use Rattle.machine_model.specs.declared.Run.{Run}
+use Rattle.machine_model.proofs.Prelude.{◌≡◌, ◌≢◌, ◌<◌, ◌≤◌, ℕ, zero, suc, ◌+◌, ◌-◌, Bool, true, false, ◌||◌, ◌&&◌, cond, eqb, List, [], ◌∷◌, ◌++◌, length, set, Some, None, ◌⊎◌, inl, inr, refl, sym, ap, subst, ◌∙◌, arith, eqb_tells, get_or-set_other, get_or-set_same, Plan, has, range, AreDistinct, cpu_at, no_processor, no_run, processor_at, run_at, AreScheduled, HasTurn, MayRun, Processor, Run, append-nil, not_both, or_parts, eqb_self, some_same}
 use Rattle.machine_model.proofs.ListLaws.{put_list}
 use Rattle.machine_model.proofs.OwnedLaws.{distinct_push, push_other, push_same}
 use Rattle.machine_model.proofs.Places.{by_place}
 use Rattle.machine_model.proofs.TieLaws.{none_some}
-use Rattle.std.proofs.lemmas.List.{append-nil}
-use Rattle.laws.proofs.Bools.{not_both}
-use Rattle.std.proofs.lemmas.Bool.{or_parts}
-use Rattle.laws.proofs.Numbers.{eqb_self}
-use Rattle.laws.proofs.Options.{some_same}
 
 -- ---- nobody's process changes
 

@@ -1,29 +1,12 @@
 -- A processor takes part, loads a process, loses it, or fills in a descriptor or a page table word.
-use Rattle.std.proofs.Common.{◌≡◌, ℕ, ◌<◌, true, false, List, [], drop, Option, Some, None, refl, sym, ap, subst, ◌∙◌}
-use Rattle.std.proofs.Common.{arith}
-use Rattle.std.specs.Prelude.{IsSomeAnd}
-use Rattle.assoc_mem.specs.declared.HeldPage.{HeldPage}
-use Rattle.assoc_mem.specs.declared.HeldSeg.{HeldSeg}
-use Rattle.assoc_mem.specs.declared.What.{What}
-use Rattle.book.specs.declared.entries.Entry.{Entry}
+use Rattle.machine_model.proofs.Prelude.{◌≡◌, ℕ, ◌<◌, true, false, List, [], drop, Option, Some, None, refl, sym, ap, subst, ◌∙◌, arith, IsSomeAnd, HeldPage, HeldSeg, What, Entry, IsLawful, after_entry, progress_of, IsAllowed, MayLeave, MayTakeSeg, IsFront, Seat, has, is_current_frame, is_current_descriptor, leads_to, FillsOnline, pending_after, at_put, custody_next, with_seat, reseated, taking_part, running, left, with_held_seg, with_held_page, KeepsBook, HoldsRight, IsRun, AreOfProcess, names, is_pending, Seen, flat, shown, seat_of, descriptor_use, cut_uid, cut_of_owner, Processor}
 use Rattle.book.specs.declared.entries.Entry.TheVariants as entry
 use Rattle.page_table.specs.declared.Ptw.TheVariants as ptw
-use Rattle.flat_model.specs.Legal.{IsLawful, after_entry}
-use Rattle.flat_model.specs.Store.{progress_of}
 use Rattle.custody_model.specs.declared.DescriptorUse.TheVariants as descriptor
-use Rattle.custody_model.specs.Allowed.{IsAllowed, MayLeave, MayTakeSeg, IsFront}
-use Rattle.custody_model.specs.Custody.{Seat, has, is_current_frame, is_current_descriptor, leads_to}
-use Rattle.custody_model.specs.Fine.{FillsOnline, pending_after}
-use Rattle.custody_model.specs.Next.{at_put, custody_next, with_seat, queued}
-use Rattle.machine_model.specs.Changes.{reseated, came_online, taking_part, loaded, running, left, emptied, seg_filled}
-use Rattle.machine_model.specs.Changes.{with_held_seg, page_filled, with_held_page}
-use Rattle.machine_model.specs.Custodial.{KeepsBook, HoldsRight, IsRun, AreOfProcess, names, is_pending}
-use Rattle.machine_model.specs.Seen.{Seen, flat, shown, seat_of, descriptor_use, cut_uid}
-use Rattle.machine_model.specs.Reads.{cut_of_owner}
-use Rattle.machine_model.specs.declared.Processor.{Processor}
+use Rattle.custody_model.specs.Next.{queued}
+use Rattle.machine_model.specs.Changes.{came_online, loaded, emptied, seg_filled, page_filled}
 use Rattle.machine_model.proofs.BookNext.{book_next}
-use Rattle.machine_model.proofs.HeldLaws.{map_filled, filled_few, pages_filled, right_like, segs_filled}
-use Rattle.machine_model.proofs.HeldLaws.{under_way_alike}
+use Rattle.machine_model.proofs.HeldLaws.{map_filled, filled_few, pages_filled, right_like, segs_filled, under_way_alike}
 use Rattle.machine_model.proofs.OwnedLaws.{like_seat, owned_like}
 use Rattle.machine_model.proofs.Places.{by_place, put_map}
 use Rattle.machine_model.proofs.TieLaws.{none_some, use_bound}

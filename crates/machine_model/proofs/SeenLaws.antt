@@ -1,17 +1,7 @@
 -- What custody sees of a machine once its lists are changed in place.
-use Rattle.std.proofs.Common.{◌≡◌, ◌<◌, ℕ, List, [], ◌∷◌, ◌++◌, length, set}
-use Rattle.book.specs.declared.entries.Entry.{Entry}
-use Rattle.core_map.specs.declared.Frame.{Frame}
+use Rattle.machine_model.proofs.Prelude.{◌≡◌, ◌<◌, ℕ, List, [], ◌∷◌, ◌++◌, length, set, Entry, Frame, Core, bound_page, started_page, reads_of, bindings, binding_at, read_at, at_put, reseated, seen, no_processor, Processor, State}
 use Rattle.core_map.specs.declared.Frame.TheVariants as frame
-use Rattle.core_map.specs.CoreMap.{Core, with_frame, bound_page, started_page, reads_of}
-use Rattle.page_control.specs.Plain.{bindings, binding_at}
-use Rattle.seg_control.specs.Kept.{read_at}
-use Rattle.custody_model.specs.Next.{at_put}
-use Rattle.machine_model.specs.Changes.{reseated}
-use Rattle.machine_model.specs.Holding.{seen}
-use Rattle.machine_model.specs.Reads.{no_processor}
-use Rattle.machine_model.specs.declared.Processor.{Processor}
-use Rattle.machine_model.specs.State.{State}
+use Rattle.core_map.specs.CoreMap.{with_frame}
 use Rattle.machine_model.proofs.ListLaws.{put_list, put_mapped}
 
 -- one processor is otherwise, with the ready list and the book

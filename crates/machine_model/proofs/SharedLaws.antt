@@ -1,11 +1,6 @@
 -- Laws that several crates cite.
-use Rattle.std.proofs.Common.{Bool, List, None, Option, Some, [], ap, arith, false, inl, inr, is_none, refl, suc}
-use Rattle.std.proofs.Common.{true, zero, ℕ, ◌&&◌, ◌∙◌, ◌∷◌, ◌≡◌}
-use Rattle.std.proofs.lemmas.Bool.Decides.{eqb_tells}
-use Rattle.std.specs.Prelude.{IsSome}
+use Rattle.machine_model.proofs.Prelude.{Bool, List, None, Option, Some, [], ap, arith, false, inl, inr, is_none, refl, suc, true, zero, ℕ, ◌&&◌, ◌∙◌, ◌∷◌, ◌≡◌, eqb_tells, IsSome, are_zeros, AreZero}
 use Rattle.active_segs.specs.declared.Entry.{Entry}
-use Rattle.machine_model.specs.Jobs.{are_zeros}
-use Rattle.mword.specs.Words.{AreZero}
 
 pub zeros_to : (ws : List ℕ) → AreZero ws → are_zeros ws ≡ true
 zeros_to [] h = refl

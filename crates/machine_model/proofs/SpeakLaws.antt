@@ -1,32 +1,8 @@
 -- A processor speaks for its process: what the flat store and custody ask of the answer to its next command.
-use Rattle.std.proofs.Common.{◌≡◌, ◌<◌, ℕ, Bool, true, false, not, ◌||◌, ◌&&◌, eqb, length, Option, Some, None}
-use Rattle.std.proofs.Common.{inl, inr, refl, sym, ap, subst, ◌∙◌}
-use Rattle.std.specs.Prelude.{IsSomeAnd}
-use Rattle.std.proofs.lemmas.Bool.Decides.{eqb_tells}
-use Rattle.script.specs.Plans.{Plan, command_at, commands_of}
-use Rattle.script.specs.References.{reference_of}
-use Rattle.script.specs.declared.commands.Command.{Command}
-use Rattle.script.specs.declared.commands.Reference.{Reference}
-use Rattle.book.specs.declared.replies.Reply.{Reply}
+use Rattle.machine_model.proofs.Prelude.{◌≡◌, ◌<◌, ℕ, Bool, true, false, not, ◌||◌, ◌&&◌, eqb, length, Option, Some, None, inl, inr, refl, sym, ap, subst, ◌∙◌, IsSomeAnd, eqb_tells, Plan, command_at, commands_of, reference_of, Command, Reference, Reply, reply_to_command, takes_effect, IsAnswer, is_turn, progress_of, refused_free, is_refusal, MayAnswerBy, is_word_or_done, IsRun, AllCome, seen, IsMachine, flat_of, next_command, processor_at, run_at, HasTurn, MayRun, shown, State, List, Processor, Run}
 use Rattle.book.specs.declared.replies.Reply.TheVariants as reply
-use Rattle.flat_model.specs.Commands.{reply_to_command, takes_effect}
-use Rattle.flat_model.specs.Legal.{IsAnswer}
-use Rattle.flat_model.specs.Store.{is_turn, progress_of}
-use Rattle.flat_model.proofs.HeldLaws.{refused_free}
-use Rattle.storage_ops.specs.Shown.{is_refusal}
-use Rattle.custody_model.specs.Allowed.{MayAnswer as MayAnswerBy, is_word_or_done}
-use Rattle.machine_model.specs.Custodial.{IsRun}
-use Rattle.machine_model.specs.Foreseen.{AllCome, Comes}
-use Rattle.machine_model.specs.Holding.{seen}
-use Rattle.machine_model.specs.Promise.{IsMachine}
-use Rattle.machine_model.specs.Reads.{flat_of, next_command, processor_at, run_at}
-use Rattle.machine_model.specs.Scheduled.{HasTurn, MayRun}
-use Rattle.machine_model.specs.Seen.{shown}
-use Rattle.machine_model.specs.State.{State}
+use Rattle.machine_model.specs.Foreseen.{Comes}
 use Rattle.machine_model.proofs.TellKept.{CanTell}
-use Rattle.std.proofs.Common.{List}
-use Rattle.machine_model.specs.declared.Processor.{Processor}
-use Rattle.machine_model.specs.declared.Run.{Run}
 
 -- A processor has a process that goes on, and this is its next command.
 pub record Speaks (s : State) (c k : ℕ) (cmd : Command) : Type 0 where

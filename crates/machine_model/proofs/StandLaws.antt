@@ -1,26 +1,8 @@
 -- A command that takes pages or descriptors out of use isn't refused while its job is at work: what refuses it is in
 -- the tree and the numbers, which no other processor's step changes.
-use Rattle.std.proofs.Common.{◌≡◌, ℕ, List, [], ◌∷◌, Some, None, refl, sym, ap, ◌∙◌}
-use Rattle.script.specs.declared.commands.Command.{Command}
+use Rattle.machine_model.proofs.Prelude.{◌≡◌, ℕ, List, [], ◌∷◌, Some, None, refl, sym, ap, ◌∙◌, Command, What, Node, branch_at, done_at, segment_at, reply_to_tree_command, delete_of, delete_reply, terminate_reply, acl_of, acl_reply, truncate_reply, reference_of, refusal, Aim, cut_all, cut_one, take_all, take_one, took, Keeps, flat_of, refusal_of, State, TakesSome}
 use Rattle.script.specs.declared.commands.Command.TheVariants as command
 use Rattle.book.specs.declared.entries.Entry.TheVariants as entry
-use Rattle.assoc_mem.specs.declared.What.{What}
-use Rattle.tree_model.specs.Tree.{Node}
-use Rattle.flat_model.specs.Branches.{branch_at, done_at, segment_at}
-use Rattle.flat_model.specs.Commands.{reply_to_tree_command}
-use Rattle.flat_model.specs.Making.{delete_of, delete_reply}
-use Rattle.flat_model.specs.Naming.{terminate_reply}
-use Rattle.flat_model.specs.Rights.{acl_of, acl_reply}
-use Rattle.flat_model.specs.Sizes.{truncate_reply}
-use Rattle.script.specs.References.{reference_of}
-use Rattle.storage_ops.specs.Shown.{refusal}
-use Rattle.machine_model.specs.declared.Aim.{Aim}
-use Rattle.machine_model.specs.Jobs.{cut_all, cut_one, take_all, take_one, took}
-use Rattle.machine_model.specs.Keeps.{Keeps}
-use Rattle.machine_model.specs.Reads.{flat_of}
-use Rattle.machine_model.specs.Refusal.{refusal_of}
-use Rattle.machine_model.specs.State.{State}
-use Rattle.machine_model.specs.Working.{TakesSome}
 use Rattle.machine_model.proofs.FlatAlike.{one_still}
 use Rattle.machine_model.proofs.OutlineTake.{took_like}
 

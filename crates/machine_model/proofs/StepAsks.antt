@@ -1,65 +1,17 @@
 -- What a step asks, along the rules in their order, follows from the whole promise and from what the calls of the store
 -- say.
-use Rattle.std.proofs.Common.{◌≡◌, ◌<◌, ℕ, ◌+◌, ◌*◌, Bool, true, false, not, ◌&&◌, cond, eqb, List, [], ◌∷◌}
-use Rattle.std.proofs.Common.{get_or, length, position, Option, Some, None, inl, inr, refl, sym, ap, subst, ◌∙◌}
-use Rattle.std.proofs.Common.{arith, zero, suc}
-use Rattle.std.specs.Prelude.{◌/◌, ◌%◌, nat_le}
-use Rattle.std.proofs.lemmas.Bool.{cond_both}
-use Rattle.std.proofs.lemmas.Bool.Decides.{eqb_tells}
-use Rattle.site_io.specs.Faults.{Rose}
-use Rattle.script.specs.References.{reference_of}
-use Rattle.script.specs.declared.commands.Command.{Command}
-use Rattle.script.specs.declared.commands.Reference.{Reference}
-use Rattle.assoc_mem.specs.declared.HeldSeg.{HeldSeg}
-use Rattle.assoc_mem.specs.declared.What.{What}
+use Rattle.machine_model.proofs.Prelude.{◌≡◌, ◌<◌, ℕ, ◌+◌, ◌*◌, Bool, true, false, not, ◌&&◌, cond, eqb, List, [], ◌∷◌, get_or, length, position, Option, Some, None, inl, inr, refl, sym, ap, subst, ◌∙◌, arith, zero, suc, ◌/◌, ◌%◌, nat_le, cond_both, eqb_tells, Rose, reference_of, Command, Reference, HeldSeg, What, frame_of, seg_of, Ptw, Sdw, words_in, has_record, by_descriptor, by_held, by_page, by_seg, by_word, Transfer, MayMove, word_reply, Mover, IsMovedFor, is_active, sdws_at, word_of, table_of, next_out, MayRelease, new_word, permits, words_zero, Aim, Phase, Processor, action_of, by_move, clear_or, come_to, finish_of, go_on_with, has_had_its_turn, is_empty, load_or_idle, look_of, move_of, once_cleared, own_or_run, refer_or_take, run_process, take_or_wait, transfer_or, copy_or_commit, Outcome, page_at, names, IsEntitledToAll, seen, are_zeros, left_of, Keeps, IsMachine, IsReading, Wants, cpu_at, cut_of_owner, descriptor_of, flat_of, frames_of_owner, is_due, next_command, or_zero, process_at, processor_at, Says, Owner, State, Node, node_in, superior_in, Store, write_failed, StoreSays, aimed_at, goes_in, going_for, IsTakenBy, TakenIn, FailsBy, FailsIn, IsLeaf, IsWorking, MayFailBy, TakesSome, is_its_end, has_head}
 use Rattle.assoc_mem.specs.declared.What.TheVariants as what
-use Rattle.assoc_mem.specs.Held.{frame_of, seg_of}
-use Rattle.page_table.specs.declared.Ptw.{Ptw}
 use Rattle.page_table.specs.declared.Ptw.TheVariants as ptw
-use Rattle.descriptor_seg.specs.declared.Sdw.{Sdw}
 use Rattle.descriptor_seg.specs.declared.Sdw.TheVariants as sdw
 use Rattle.page_control.specs.declared.Left.TheVariants as left
-use Rattle.page_control.specs.Plain.{words_in}
-use Rattle.page_control.specs.Tied.{has_record}
-use Rattle.processor.specs.Moves.{by_descriptor, by_held, by_page, by_seg, by_word}
 use Rattle.processor.specs.declared.Move.TheVariants as move
-use Rattle.processor.specs.declared.Transfer.{Transfer}
 use Rattle.book.specs.declared.replies.Reply.TheVariants as reply
-use Rattle.flat_model.specs.Moves.{MayMove}
-use Rattle.flat_model.specs.References.{word_reply}
-use Rattle.seg_mover.specs.declared.Mover.{Mover}
-use Rattle.machine_model.specs.Lacking.{IsMovedFor}
-use Rattle.machine_model.specs.Reads.{is_active}
-use Rattle.seg_control.specs.Control.{sdws_at, word_of, table_of}
-use Rattle.seg_control.specs.Moving.{next_out}
-use Rattle.flat_model.specs.Legal.{MayRelease}
-use Rattle.script.specs.References.{new_word, permits}
-use Rattle.flat_model.proofs.ZeroLaws.{words_zero}
-use Rattle.machine_model.specs.declared.Aim.{Aim}
 use Rattle.machine_model.specs.declared.Aim.TheVariants as aim
-use Rattle.machine_model.specs.declared.Phase.{Phase}
 use Rattle.machine_model.specs.declared.Phase.TheVariants as phase
-use Rattle.machine_model.specs.declared.Processor.{Processor}
 use Rattle.machine_model.specs.Actions as act
-use Rattle.machine_model.specs.Actions.{action_of, by_move, clear_or, come_to, finish_of, go_on_with, has_had_its_turn}
-use Rattle.machine_model.specs.Actions.{is_empty, load_or_idle, look_of, move_of, once_cleared, own_or_run}
-use Rattle.machine_model.specs.Actions.{refer_or_take, run_process, take_or_wait, transfer_or, copy_or_commit}
-use Rattle.machine_model.specs.After.{Outcome}
-use Rattle.machine_model.specs.Chains.{page_at}
-use Rattle.machine_model.specs.Custodial.{names}
-use Rattle.machine_model.specs.Entitled.{IsEntitledToAll}
-use Rattle.machine_model.specs.Holding.{seen}
-use Rattle.machine_model.specs.Jobs.{are_zeros, left_of}
-use Rattle.machine_model.specs.Keeps.{Keeps}
-use Rattle.machine_model.specs.Promise.{IsMachine}
-use Rattle.machine_model.specs.Reading.{IsReading, Wants}
-use Rattle.machine_model.specs.Reads.{cpu_at, cut_of_owner, descriptor_of, flat_of, frames_of_owner, is_due}
-use Rattle.machine_model.specs.Reads.{next_command}
-use Rattle.machine_model.specs.Reads.{or_zero, process_at, processor_at}
-use Rattle.machine_model.specs.Said.{Says}
-use Rattle.machine_model.specs.State.{Owner, State}
 use Rattle.machine_model.proofs.ActionCases.{action_by}
-use Rattle.machine_model.proofs.ChainLaws.{going_word}
+use Rattle.machine_model.proofs.ChainLaws.{going_word, GoesOn}
 use Rattle.machine_model.proofs.EmptyAsks.{length_asks, victim_asks}
 use Rattle.machine_model.proofs.LackingLaws.{may_move, may_rehome}
 use Rattle.machine_model.proofs.LookAsks.{activate_asks, answer_asks, connect_asks, create_asks}
@@ -68,43 +20,24 @@ use Rattle.machine_model.proofs.MoveAsks.{length_asks as too_long_asks, no_acces
 use Rattle.machine_model.proofs.MovingSays.{copied_says, copy_failed_says, moved_says, begun_says}
 use Rattle.machine_model.proofs.OwnedLaws.{IsIdle}
 use Rattle.machine_model.proofs.PageShown.{bound_word, stored_is}
-use Rattle.machine_model.proofs.RuleKept.{Asks, AsksCommit, IsLooking, look_idle, look_still}
-use Rattle.machine_model.proofs.RuleKept.{process_here}
-use Rattle.machine_model.proofs.SaysLaws.{deactivated_says, eviction_failed_says, evicted_says, evicting_says}
-use Rattle.machine_model.proofs.SaysLaws.{page_failed_says}
-use Rattle.machine_model.proofs.SaysLaws.{page_left_says, read_says, started_says}
+use Rattle.machine_model.proofs.RuleKept.{Asks, AsksCommit, IsLooking, look_idle, look_still, process_here, HasWaited, wait_goes, wait_shape, IsMoving}
+use Rattle.machine_model.proofs.SaysLaws.{deactivated_says, eviction_failed_says, evicted_says, evicting_says, page_failed_says, page_left_says, read_says, started_says, failed_says, gone_is}
 use Rattle.machine_model.proofs.ReadKept.{read_fails}
 use Rattle.machine_model.proofs.ScheduleKept.{IsAnswering}
-use Rattle.tree_model.specs.Tree.{Node, node_in}
-use Rattle.custody_model.specs.Allowed.{superior_in}
-use Rattle.flat_model.specs.Store.{Store}
-use Rattle.machine_model.specs.Jobs.{write_failed}
-use Rattle.machine_model.specs.Keeps.{StoreSays}
-use Rattle.machine_model.specs.Whole.{aimed_at, goes_in, going_for}
-use Rattle.machine_model.specs.Taking.{IsTakenBy, TakenIn}
-use Rattle.machine_model.specs.Working.{FailsBy, FailsIn, IsLeaf, IsWorking, MayFailBy, TakesSome}
 use Rattle.machine_model.proofs.ActiveKept.{segs_are_gone}
-use Rattle.machine_model.proofs.ChainLaws.{GoesOn}
 use Rattle.machine_model.proofs.CommandRests.{commit_rests}
 use Rattle.machine_model.proofs.CommitAsks.{commit_asks, look_plainly, taken_plainly}
 use Rattle.machine_model.proofs.JobAsks.{read_asks, write_asks, copy_asks}
 use Rattle.machine_model.proofs.JustTaken.{look_taken}
-use Rattle.machine_model.specs.Steps.{is_its_end}
 use Rattle.machine_model.proofs.FailLaws.{fails_more}
-use Rattle.machine_model.proofs.SaysLaws.{failed_says}
-use Rattle.machine_model.proofs.RuleKept.{HasWaited, wait_goes, wait_shape, IsMoving}
-use Rattle.machine_model.proofs.SaysLaws.{gone_is}
 use Rattle.machine_model.proofs.WholeKept.{may_deactivate}
-use Rattle.machine_model.proofs.SpeakLaws.{Speaks, speaks}
+use Rattle.machine_model.proofs.SpeakLaws.{Speaks, speaks, speaks_of}
 use Rattle.machine_model.proofs.StepKept.{CanFailWrite, IsMine}
-use Rattle.machine_model.proofs.TakeAsks.{take_asks}
+use Rattle.machine_model.proofs.TakeAsks.{take_asks, takes_none}
 use Rattle.machine_model.proofs.TookKept.{CanTook}
 use Rattle.machine_model.proofs.TieLaws.{none_some}
 use Rattle.machine_model.proofs.TransferKept.{active_at}
-use Rattle.machine_model.proofs.SpeakLaws.{speaks_of}
-use Rattle.machine_model.proofs.TakeAsks.{takes_none}
 use Rattle.machine_model.proofs.WorkStep.{moving_fails, moving_rests}
-use Rattle.custody_model.proofs.SharedLaws.{has_head}
 use Rattle.machine_model.proofs.RulesKept.{some_again}
 
 -- ---- a page is read

@@ -1,22 +1,7 @@
 -- What the rules know of their action gives what the job, the processes and the script ask of it.
-use Rattle.std.proofs.Common.{◌≡◌, ◌<◌, ℕ, Bool, true, false, cond, length, Some, refl, sym, ap}
-use Rattle.std.proofs.Common.{subst, ◌∙◌}
-use Rattle.processor.specs.declared.Transfer.{Transfer}
+use Rattle.machine_model.proofs.Prelude.{◌≡◌, ◌<◌, ℕ, Bool, true, false, cond, length, Some, refl, sym, ap, subst, ◌∙◌, Transfer, Outcome, after, AllCome, MayAnswer, IsMachine, IsReading, cpu_at, process_at, State, is_its_end, transfer_failed, transferred, with_faults, took, IsTakenBy, ◌+◌, ◌≤◌, List, arith, Command, Keeps, uid_of_command}
 use Rattle.machine_model.specs.Actions as act
-use Rattle.machine_model.specs.After.{Outcome, after}
-use Rattle.machine_model.specs.Foreseen.{AllCome, MayAnswer}
-use Rattle.machine_model.specs.Promise.{IsMachine}
-use Rattle.machine_model.specs.Reading.{IsReading}
-use Rattle.machine_model.specs.Reads.{cpu_at, process_at}
-use Rattle.machine_model.specs.State.{State}
-use Rattle.machine_model.specs.Steps.{is_its_end, transfer_failed, transferred, with_faults}
-use Rattle.machine_model.specs.Jobs.{took}
-use Rattle.machine_model.specs.Taking.{IsTakenBy}
 use Rattle.machine_model.specs.declared.Aim.TheVariants as aim
-use Rattle.std.proofs.Common.{◌+◌, ◌≤◌, List, arith}
-use Rattle.script.specs.declared.commands.Command.{Command}
-use Rattle.machine_model.specs.Keeps.{Keeps}
-use Rattle.machine_model.specs.Refusal.{uid_of_command}
 use Rattle.machine_model.proofs.ListSizes.{command_few}
 use Rattle.machine_model.proofs.LookFacts.{FindsTaken}
 use Rattle.machine_model.proofs.ComingKept.{all_come, come_same, tells}

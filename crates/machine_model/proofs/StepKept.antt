@@ -1,51 +1,13 @@
 -- Each action of a processor keeps the machine's promise.
-use Rattle.std.proofs.Common.{◌≡◌, ◌<◌, ◌≤◌, ℕ, ◌-◌, Bool, true, false, cond, is_some, map, List, [], ◌∷◌, ◌++◌, length}
-use Rattle.std.proofs.Common.{◌⊎◌, inl, inr}
-use Rattle.std.proofs.Common.{Option, Some, None, refl, sym, ap, subst, ◌∙◌}
-use Rattle.site_io.specs.Faults.{Rose}
-use Rattle.assoc_mem.specs.declared.HeldSeg.{HeldSeg}
-use Rattle.assoc_mem.specs.declared.What.{What}
+use Rattle.machine_model.proofs.Prelude.{◌≡◌, ◌<◌, ◌≤◌, ℕ, ◌-◌, Bool, true, false, cond, is_some, map, List, [], ◌∷◌, ◌++◌, length, ◌⊎◌, inl, inr, Option, Some, None, refl, sym, ap, subst, ◌∙◌, Rose, HeldSeg, What, Command, Reference, Reply, words_in, entry_at, uid_at, first_off_chain, hand_past, Transfer, place_of, sdws_at, table_of, MayFault, MayRelease, MayMove, word_reply, IsFront, MayActivate, MayDeactivate, MayLeave, MayRehome, Mover, Aim, Outcome, after, by_outcome, page_at, committed, cut_entry, left_after, KeepsBook, is_pending, seen, emptied, eviction_begun, eviction_done, left_of, page_done, segment_taken, segs_gone, took, with_hand_moved, write_failed, IsAtWork, Keeps, StoreSays, copy_failed, move_begun, move_committed, page_copied, cpu_at, cut_of_owner, descriptor_of, flat_of, frames_from, frames_of_owner, next_command, process_at, processor_at, trailers_in, reply_of, shown, Owner, State, activated_at, left_at, connected_to, fault_told, frame_lost, held_page, held_seg, looking, old_word, page_created, page_made, pages_after, started, told, transfer_failed, transferred, went_through, with_faults, with_owner, with_pages, with_store}
 use Rattle.assoc_mem.specs.declared.What.TheVariants as what
-use Rattle.script.specs.declared.commands.Command.{Command}
 use Rattle.script.specs.declared.commands.Command.TheVariants as command
-use Rattle.script.specs.declared.commands.Reference.{Reference}
-use Rattle.book.specs.declared.replies.Reply.{Reply}
 use Rattle.book.specs.declared.replies.Reply.TheVariants as reply
 use Rattle.page_control.specs.declared.Left.TheVariants as left
-use Rattle.page_control.specs.Plain.{words_in}
-use Rattle.active_segs.specs.Active.{entry_at, uid_at}
-use Rattle.active_segs.specs.Victim.{first_off_chain, hand_past}
-use Rattle.processor.specs.declared.Transfer.{Transfer}
-use Rattle.seg_control.specs.Control.{place_of, sdws_at, table_of}
-use Rattle.flat_model.specs.Legal.{MayFault, MayRelease}
-use Rattle.flat_model.specs.Moves.{MayMove}
-use Rattle.flat_model.specs.References.{word_reply}
-use Rattle.custody_model.specs.Allowed.{IsFront, MayActivate, MayDeactivate, MayLeave, MayRehome}
-use Rattle.seg_mover.specs.declared.Mover.{Mover}
-use Rattle.machine_model.specs.declared.Aim.{Aim}
 use Rattle.machine_model.specs.declared.Aim.TheVariants as aim
 use Rattle.machine_model.specs.declared.Phase.TheVariants as phase
 use Rattle.machine_model.specs.Actions as act
-use Rattle.machine_model.specs.After.{Outcome, after, by_outcome}
-use Rattle.machine_model.specs.Chains.{page_at}
-use Rattle.machine_model.specs.Commits.{committed, cut_entry, left_after}
-use Rattle.machine_model.specs.Custodial.{KeepsBook, is_pending}
-use Rattle.machine_model.specs.Holding.{seen}
-use Rattle.machine_model.specs.Jobs.{emptied, eviction_begun, eviction_done, left_of, page_done, segment_taken}
-use Rattle.machine_model.specs.Jobs.{segs_gone, took, with_hand_moved, write_failed}
-use Rattle.machine_model.specs.Keeps.{IsAtWork, Keeps, StoreSays}
-use Rattle.machine_model.specs.Moves.{copy_failed, move_begun, move_committed, page_copied}
-use Rattle.machine_model.specs.Reads.{cpu_at, cut_of_owner, descriptor_of, flat_of, frames_from, frames_of_owner}
-use Rattle.machine_model.specs.Reads.{next_command, process_at, processor_at, trailers_in}
-use Rattle.machine_model.specs.Refusal.{reply_of}
-use Rattle.machine_model.specs.Seen.{shown}
-use Rattle.machine_model.specs.State.{Owner, State}
-use Rattle.machine_model.specs.Steps.{activated_at, left_at, connected_to, fault_told, frame_lost, held_page, held_seg}
-use Rattle.machine_model.specs.Steps.{looking, old_word, page_created, page_made, pages_after, started}
-use Rattle.machine_model.specs.Steps.{told, transfer_failed, transferred, went_through, with_faults, with_owner}
-use Rattle.machine_model.specs.Steps.{with_pages, with_store}
-use Rattle.machine_model.proofs.ActiveKept.{IsOver, activate_kept, connect_kept, created_kept, emptied_kept, looks_idle}
-use Rattle.machine_model.proofs.ActiveKept.{through_kept}
+use Rattle.machine_model.proofs.ActiveKept.{IsOver, activate_kept, connect_kept, created_kept, emptied_kept, looks_idle, through_kept}
 use Rattle.machine_model.proofs.BackKept.{all_back, all_failed_kept, eviction_failed_kept}
 use Rattle.machine_model.proofs.ChainLaws.{GoesOn}
 use Rattle.machine_model.proofs.CommitKept.{TakesNoPage, commit_kept, effected, end_kept, ready_left}
@@ -54,8 +16,7 @@ use Rattle.machine_model.proofs.DescriptorLaws.{CanConnect}
 use Rattle.machine_model.proofs.FinishKept.{eviction_kept, page_kept}
 use Rattle.machine_model.proofs.FrameLaws.{CanFinish}
 use Rattle.machine_model.proofs.JobKept.{evict_kept, signal_kept}
-use Rattle.machine_model.proofs.KeepLaws.{IsNoOwner, clear_kept, fill_page_kept, fill_seg_kept, leave_kept, load_kept}
-use Rattle.machine_model.proofs.KeepLaws.{online_kept}
+use Rattle.machine_model.proofs.KeepLaws.{IsNoOwner, clear_kept, fill_page_kept, fill_seg_kept, leave_kept, load_kept, online_kept}
 use Rattle.machine_model.proofs.MovingKept.{begun_kept, copied_kept, copy_failed_kept, copy_failing, moved_kept}
 use Rattle.machine_model.proofs.OwnedLaws.{IsIdle, nobody}
 use Rattle.machine_model.proofs.SeatLaws.{CanFillPage, CanFillSeg}

@@ -1,19 +1,6 @@
 -- What the rules know where they choose an action: who owns the supervisor, and whose command it is.
-use Rattle.std.proofs.Common.{◌≡◌, ◌≢◌, ◌<◌, ℕ, true, false, not, ◌&&◌, eqb, List, [], ◌∷◌}
-use Rattle.std.proofs.Common.{length, position, Option, Some, None, inl, inr, refl, sym, ap, subst, ◌∙◌}
-use Rattle.std.proofs.Common.{◌⊎◌, ◌/◌}
-use Rattle.std.proofs.lemmas.Bool.{cond_both}
-use Rattle.std.proofs.lemmas.Bool.Decides.{eqb_tells}
-use Rattle.script.specs.References.{reference_of}
-use Rattle.script.specs.declared.commands.Command.{Command}
-use Rattle.script.specs.declared.commands.Reference.{Reference}
-use Rattle.assoc_mem.specs.declared.What.{What}
+use Rattle.machine_model.proofs.Prelude.{◌≡◌, ◌≢◌, ◌<◌, ℕ, true, false, not, ◌&&◌, eqb, List, [], ◌∷◌, length, position, Option, Some, None, inl, inr, refl, sym, ap, subst, ◌∙◌, ◌⊎◌, ◌/◌, cond_both, eqb_tells, reference_of, Command, Reference, What, Mover, table_of, next_out, IsMovedFor, IsTakenBy, IsTakenFor, TakenIn, Transfer, Aim, Phase, Processor, action_of, by_move, clear_or, come_to, finish_of, go_on_with, has_had_its_turn, is_empty, load_or_idle, look_of, move_of, once_cleared, own_or_run, refer_or_take, run_process, take_or_wait, transfer_or, copy_or_commit, Outcome, IsMachine, flat_of, is_due, next_command, or_zero, process_at, processor_at, Owner, State, FailsIn, IsWorking, MayFailBy, TakesSome, Reply, is_end, reply_to_command, is_refusal, Move}
 use Rattle.assoc_mem.specs.declared.What.TheVariants as what
-use Rattle.seg_mover.specs.declared.Mover.{Mover}
-use Rattle.seg_control.specs.Control.{table_of}
-use Rattle.seg_control.specs.Moving.{next_out}
-use Rattle.machine_model.specs.Lacking.{IsMovedFor}
-use Rattle.machine_model.specs.Taking.{IsTakenBy, IsTakenFor, TakenIn}
 use Rattle.machine_model.proofs.ActionCases.{action_by}
 use Rattle.machine_model.proofs.JustTaken.{look_taken}
 use Rattle.machine_model.proofs.LookAsks.{page_active}
@@ -21,41 +8,21 @@ use Rattle.machine_model.proofs.MoveFound.{move_found}
 use Rattle.machine_model.proofs.ReadyLaws.{IsOutOfUse}
 use Rattle.machine_model.proofs.TookKept.{CanTook}
 use Rattle.processor.specs.declared.Move.TheVariants as move
-use Rattle.processor.specs.declared.Transfer.{Transfer}
-use Rattle.machine_model.specs.declared.Aim.{Aim}
 use Rattle.machine_model.specs.declared.Aim.TheVariants as aim
-use Rattle.machine_model.specs.declared.Phase.{Phase}
 use Rattle.machine_model.specs.declared.Phase.TheVariants as phase
-use Rattle.machine_model.specs.declared.Processor.{Processor}
 use Rattle.machine_model.specs.Actions as act
-use Rattle.machine_model.specs.Actions.{action_of, by_move, clear_or, come_to, finish_of, go_on_with, has_had_its_turn}
-use Rattle.machine_model.specs.Actions.{is_empty, load_or_idle, look_of, move_of, once_cleared, own_or_run}
-use Rattle.machine_model.specs.Actions.{refer_or_take, run_process, take_or_wait, transfer_or, copy_or_commit}
-use Rattle.machine_model.specs.After.{Outcome}
-use Rattle.machine_model.specs.Promise.{IsMachine}
-use Rattle.machine_model.specs.Reads.{flat_of, is_due, next_command}
-use Rattle.machine_model.specs.Reads.{or_zero, process_at, processor_at}
-use Rattle.machine_model.specs.State.{Owner, State}
-use Rattle.machine_model.proofs.LookFacts.{LookFinds, look_finds}
+use Rattle.machine_model.proofs.LookFacts.{LookFinds, look_finds, FindsActive, FindsFull, FindsOut, FindsTaken, FindsVictim}
 use Rattle.machine_model.proofs.OwnedLaws.{IsIdle}
-use Rattle.machine_model.proofs.RuleKept.{IsLooking, look_idle}
-use Rattle.machine_model.proofs.RuleKept.{process_here, IsMoving}
-use Rattle.machine_model.specs.Working.{FailsIn, IsWorking, MayFailBy, TakesSome}
-use Rattle.machine_model.proofs.SpeakLaws.{Speaks, speaks}
+use Rattle.machine_model.proofs.RuleKept.{IsLooking, look_idle, process_here, IsMoving}
+use Rattle.machine_model.proofs.SpeakLaws.{Speaks, speaks, speaks_of}
 use Rattle.machine_model.proofs.StandLaws.{takes_tree}
 use Rattle.machine_model.proofs.StepKept.{IsMine}
 use Rattle.machine_model.proofs.TieLaws.{none_some}
 use Rattle.script.specs.declared.commands.Command.TheVariants as command
-use Rattle.book.specs.declared.replies.Reply.{Reply}
-use Rattle.flat_model.specs.Commands.{is_end, reply_to_command}
-use Rattle.storage_ops.specs.Shown.{is_refusal}
-use Rattle.processor.specs.declared.Move.{Move}
 use Rattle.machine_model.proofs.FailLaws.{fails_more}
 use Rattle.machine_model.proofs.KeepLaws.{IsNoOwner}
-use Rattle.machine_model.proofs.LookFacts.{FindsActive, FindsFull, FindsOut, FindsTaken, FindsVictim}
 use Rattle.machine_model.proofs.WorkKept.{page_fails}
 use Rattle.machine_model.proofs.WorkStep.{IsEmptying, Looks, BeginsMove, moving_rests}
-use Rattle.machine_model.proofs.SpeakLaws.{speaks_of}
 use Rattle.machine_model.proofs.TakeAsks.{takes_none}
 use Rattle.machine_model.proofs.RulesKept.{some_again}
 

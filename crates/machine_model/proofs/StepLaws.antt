@@ -1,26 +1,12 @@
 -- What each step brings while the loop waits for it: a step of the owner, of a processor that is to clear, of one that
 -- reads a page in, and of one that has a process while nobody owns the supervisor.
-use Rattle.std.proofs.Common.{◌≡◌, ◌≢◌, ◌<◌, ℕ, zero, suc, Bool, true, false, cond, eqb, List, [], ◌∷◌, length, Option}
-use Rattle.std.proofs.Common.{is_some, refl, sym, ap, ◌∙◌, inl, inr, le_refl, le_of_eq, arith}
-use Rattle.std.proofs.lemmas.Bool.Decides.{eqb_tells}
-use Rattle.std.proofs.lemmas.List.{get_or-set_other}
-use Rattle.processor.specs.declared.Transfer.{Transfer}
-use Rattle.machine_model.specs.Outline.{Runner, no_runner, Stage, Waiting, Keeper, Outline, Turn, runner_at}
-use Rattle.machine_model.specs.Outline.{with_runner}
-use Rattle.machine_model.specs.Measures.{rank_of, parts_of, lack, dues, job_rank}
-use Rattle.machine_model.specs.Finishing.{Clears, Works, rule_of, owns, IsIn}
-use Rattle.machine_model.specs.Finishing.{Step, ends, comes, clears, reads, loses, works, awaits_clear}
-use Rattle.machine_model.specs.Finishing.{awaits_transfer, loads, idles, leaves, fills, replies, faults, enters, waits}
-use Rattle.machine_model.specs.Finishing.{IsCleared}
-use Rattle.machine_model.specs.OutlineKept.{IsKept}
-use Rattle.machine_model.specs.Looping.{IsUnderWay, AwaitsClear, OwnerStep}
+use Rattle.machine_model.proofs.Prelude.{◌≡◌, ◌≢◌, ◌<◌, ℕ, zero, suc, Bool, true, false, cond, eqb, List, [], ◌∷◌, length, Option, is_some, refl, sym, ap, ◌∙◌, inl, inr, le_refl, le_of_eq, arith, eqb_tells, get_or-set_other, Transfer, Runner, no_runner, Stage, Waiting, Keeper, Outline, Turn, runner_at, with_runner, rank_of, lack, dues, job_rank, Clears, Works, rule_of, owns, IsIn, Step, ends, comes, clears, reads, loses, works, awaits_clear, awaits_transfer, loads, idles, leaves, fills, replies, faults, enters, waits, IsCleared, IsKept, IsUnderWay, AwaitsClear, OwnerStep, Rule, not_both}
+use Rattle.machine_model.specs.Measures.{parts_of}
 use Rattle.machine_model.proofs.CountLaws.{readers_set, dues_set}
 use Rattle.machine_model.proofs.RankLaws.{falls_due}
 use Rattle.machine_model.proofs.JobLaws.{ranked, job_falls}
 use Rattle.machine_model.proofs.OuterLaws.{over_same}
 use Rattle.machine_model.proofs.GoesLaws.{goes, all_set}
-use Rattle.machine_model.specs.Finishing.{Rule}
-use Rattle.laws.proofs.Bools.{not_both}
 
 -- ---- processors
 

@@ -1,28 +1,10 @@
 -- What a look that takes asks: what a tree command must have out of use, and what is taken of a segment.
-use Rattle.std.proofs.Common.{◌≡◌, ◌<◌, ℕ, zero, suc, ◌+◌, Bool, true, false, ◌||◌, ◌&&◌, cond, eqb, List, [], ◌∷◌}
-use Rattle.std.proofs.Common.{map, Some, inl, inr, refl, sym, ap, subst, ◌∙◌, arith}
-use Rattle.std.specs.Prelude.{◌/◌}
-use Rattle.std.specs.List.{filter, range_with_len}
-use Rattle.std.proofs.lemmas.Bool.Decides.{eqb_tells}
-use Rattle.script.specs.declared.commands.Command.{Command}
+use Rattle.machine_model.proofs.Prelude.{◌≡◌, ◌<◌, ℕ, zero, suc, ◌+◌, Bool, true, false, ◌||◌, ◌&&◌, cond, eqb, List, [], ◌∷◌, map, Some, inl, inr, refl, sym, ap, subst, ◌∙◌, arith, ◌/◌, filter, range_with_len, eqb_tells, Command, What, Sdw, leads, IsKnownAt, descriptors_taken, first_taken, frames_taken, what_taken, Outcome, led_to, seen, Keeps, descriptor_of, is_connected, or_zero, uid_of_command, uid_of_number, Says, shown, State, and-false, eqb_self}
 use Rattle.script.specs.declared.commands.Command.TheVariants as command
-use Rattle.assoc_mem.specs.declared.What.{What}
 use Rattle.assoc_mem.specs.declared.What.TheVariants as what
-use Rattle.descriptor_seg.specs.declared.Sdw.{Sdw}
 use Rattle.descriptor_seg.specs.declared.Sdw.TheVariants as sdw
-use Rattle.seg_control.specs.Control.{leads}
-use Rattle.seg_control.specs.Kept.{IsKnownAt}
 use Rattle.machine_model.specs.declared.Aim.TheVariants as aim
 use Rattle.machine_model.specs.Actions as act
-use Rattle.machine_model.specs.Actions.{descriptors_taken, first_taken, frames_taken, what_taken}
-use Rattle.machine_model.specs.After.{Outcome}
-use Rattle.machine_model.specs.Holding.{led_to, seen}
-use Rattle.machine_model.specs.Keeps.{Keeps}
-use Rattle.machine_model.specs.Reads.{descriptor_of, is_connected, or_zero}
-use Rattle.machine_model.specs.Refusal.{uid_of_command, uid_of_number}
-use Rattle.machine_model.specs.Said.{Says}
-use Rattle.machine_model.specs.Seen.{shown}
-use Rattle.machine_model.specs.State.{State}
 use Rattle.machine_model.proofs.ChainLaws.{CanTakeAll}
 use Rattle.machine_model.proofs.CutRights.{take_away_says}
 use Rattle.machine_model.proofs.LookFacts.{FindsTaken}
@@ -31,8 +13,6 @@ use Rattle.machine_model.proofs.OwnerLaws.{idle_names}
 use Rattle.machine_model.proofs.RuleKept.{AsksTake}
 use Rattle.machine_model.proofs.TakeLists.{pages_bound, pages_taken, trailers_taken}
 use Rattle.machine_model.proofs.TookKept.{ArePairs, CanTook, has_pair, is_pair}
-use Rattle.std.proofs.Math.Bool.{and-false}
-use Rattle.laws.proofs.Numbers.{eqb_self}
 
 module _ (s : State) (k : ℕ) (keeps : Keeps s) (idle : IsIdle s.owner) where
   -- where no page is taken

@@ -1,39 +1,15 @@
 -- What a job takes of a segment: the pages of its table that are here, each in a frame of its own, and the descriptors
 -- of its trailers, each once.
-use Rattle.std.proofs.Common.{◌≡◌, ◌≤◌, ℕ, zero, suc, ◌+◌, Bool, true, false, ◌||◌, cond, eqb, count_by}
-use Rattle.std.proofs.Common.{List, [], ◌∷◌, drop, get_or, Option, Some, None, ◌⊎◌, inl, inr, refl, sym}
-use Rattle.std.proofs.Common.{ap, ◌∙◌, arith}
-use Rattle.std.proofs.lemmas.Bool.Decides.{eqb_tells}
-use Rattle.std.proofs.lemmas.List.Folds.{list_any-append}
-use Rattle.std.proofs.lemmas.List.Sums.{sum_by-cons}
-use Rattle.assoc_mem.specs.declared.What.{What}
+use Rattle.machine_model.proofs.Prelude.{◌≡◌, ◌≤◌, ℕ, zero, suc, ◌+◌, Bool, true, false, ◌||◌, cond, eqb, count_by, List, [], ◌∷◌, drop, get_or, Option, Some, ◌⊎◌, inl, inr, refl, sym, ap, ◌∙◌, arith, eqb_tells, list_any-append, sum_by-cons, What, Ptw, Sdw, uid_at, is_trailer, trailers_of, leads, leads_at, place_of, table_of, times, has, names_frame, Aim, page_at, page_or_zero, AreDistinct, IsAimed, names, led_to, seen, Keeps, descriptor_of, frames_from, frames_in, here_in, is_active, trailers_in, shown, CutDescriptor, State, or_cases, page_is, times_few, times_one}
 use Rattle.assoc_mem.specs.declared.What.TheVariants as what
-use Rattle.page_table.specs.declared.Ptw.{Ptw}
 use Rattle.page_table.specs.declared.Ptw.TheVariants as ptw
-use Rattle.descriptor_seg.specs.declared.Sdw.{Sdw}
 use Rattle.descriptor_seg.specs.declared.Sdw.TheVariants as sdw
-use Rattle.active_segs.specs.Active.{uid_at}
-use Rattle.trailers.specs.Trailer.{leads_to as is_trailer, trailers_of}
-use Rattle.seg_control.specs.Control.{leads, leads_at, place_of, table_of}
-use Rattle.seg_control.specs.Kept.{times}
-use Rattle.custody_model.specs.Custody.{has, names_frame}
-use Rattle.machine_model.specs.declared.Aim.{Aim}
-use Rattle.machine_model.specs.Chains.{page_at, page_or_zero}
-use Rattle.machine_model.specs.Custodial.{AreDistinct, IsAimed, names}
-use Rattle.machine_model.specs.Holding.{led_to, seen}
-use Rattle.machine_model.specs.Keeps.{Keeps}
-use Rattle.machine_model.specs.Reads.{descriptor_of, frames_from, frames_in, here_in, is_active, trailers_in}
-use Rattle.machine_model.specs.Seen.{shown}
-use Rattle.machine_model.specs.declared.CutDescriptor.{CutDescriptor}
-use Rattle.machine_model.specs.State.{State}
 use Rattle.machine_model.proofs.ActiveSeen.{active_place}
 use Rattle.machine_model.proofs.ChainLaws.{CanTakeAll, bound_shown, names_uid}
 use Rattle.machine_model.proofs.OwnedLaws.{IsIdle}
 use Rattle.machine_model.proofs.OwnerLaws.{idle_names}
 use Rattle.machine_model.proofs.TieLaws.{none_some}
 use Rattle.machine_model.proofs.TookKept.{ArePairs, CanTook, has_pair}
-use Rattle.laws.proofs.Bools.{or_cases}
-use Rattle.laws.proofs.Options.{page_is, times_few, times_one}
 
 -- ---- pages
 

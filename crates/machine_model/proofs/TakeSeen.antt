@@ -1,38 +1,14 @@
 -- What custody sees of a machine whose job takes pages and cuts descriptors.
-use Rattle.std.proofs.Common.{◌≡◌, ◌≢◌, ◌<◌, ℕ, true, List, [], ◌∷◌, ◌++◌, length, set, get_or, Option, Some, None, ◌⊎◌}
-use Rattle.std.proofs.Common.{inl, inr, refl, sym, ap, subst, ◌∙◌}
-use Rattle.std.proofs.lemmas.Bool.Decides.{leb_tells}
-use Rattle.std.proofs.lemmas.List.{get_or_past, length-set}
-use Rattle.assoc_mem.specs.declared.What.{What}
+use Rattle.machine_model.proofs.Prelude.{◌≡◌, ◌≢◌, ◌<◌, ℕ, true, List, [], ◌∷◌, ◌++◌, length, set, get_or, Option, Some, None, ◌⊎◌, inl, inr, refl, sym, ap, subst, ◌∙◌, leb_tells, get_or_past, length-set, What, bound_page, Ptw, frame_in, ActiveSegs, Sdw, Links, leads, place_of, sdws_at, word_of, unlinked, worded, has, at_put_two, Aim, page_at, takes, cut, taken, with_descriptor_cut, with_frame_taken, AreDistinct, led_to, seen, cut_one, leaving_if, note_of, take_all, take_one, descriptor_of, Seen, State, with_word, has_head, has_tail}
 use Rattle.book.specs.declared.entries.Entry.TheVariants as entry
 use Rattle.core_map.specs.declared.Frame.TheVariants as frame
-use Rattle.core_map.specs.CoreMap.{bound_page}
-use Rattle.page_table.specs.declared.Ptw.{Ptw}
 use Rattle.page_table.specs.declared.Ptw.TheVariants as ptw
-use Rattle.page_control.specs.Plain.{frame_in}
-use Rattle.active_segs.specs.Active.{ActiveSegs}
-use Rattle.descriptor_seg.specs.declared.Sdw.{Sdw}
 use Rattle.descriptor_seg.specs.declared.Sdw.TheVariants as sdw
-use Rattle.seg_control.specs.Control.{Links, leads, place_of, sdws_at, word_of}
-use Rattle.seg_control.specs.Effects.{unlinked, worded}
-use Rattle.custody_model.specs.Custody.{has}
-use Rattle.custody_model.specs.Next.{at_put_two}
-use Rattle.machine_model.specs.declared.Aim.{Aim}
-use Rattle.machine_model.specs.Chains.{page_at, takes}
-use Rattle.machine_model.specs.Changes.{cut, taken, with_descriptor_cut, with_frame_taken}
-use Rattle.machine_model.specs.Custodial.{AreDistinct}
-use Rattle.machine_model.specs.Holding.{led_to, seen}
-use Rattle.machine_model.specs.Jobs.{cut_one, leaving_if, note_of, take_all, take_one}
-use Rattle.machine_model.specs.Reads.{descriptor_of}
-use Rattle.machine_model.specs.Seen.{Seen}
-use Rattle.machine_model.specs.State.{State}
-use Rattle.machine_model.specs.Steps.{with_word}
 use Rattle.machine_model.proofs.ChainLaws.{here_after}
 use Rattle.machine_model.proofs.ListLaws.{map_list, put_lists, within_by}
 use Rattle.machine_model.proofs.Places.{put_two_map}
 use Rattle.machine_model.proofs.TieLaws.{none_some}
 use Rattle.machine_model.proofs.WordLaws.{word_put, word_within}
-use Rattle.custody_model.proofs.SharedLaws.{has_head, has_tail}
 
 -- ---- pages
 

@@ -1,45 +1,16 @@
 -- A job that makes a segment inactive takes it whole: each of its pages that is in a frame, where none is being read
 -- into one, and each descriptor that leads to it.
-use Rattle.std.proofs.Common.{◌≡◌, ◌≢◌, ◌≤◌, ℕ, zero, suc, ◌+◌, Bool, true, false, ◌||◌, cond, eqb, count_by}
-use Rattle.std.proofs.Common.{List, [], ◌∷◌, get_or, Option, Some, None, ◌⊎◌, inl, inr, refl, sym}
-use Rattle.std.proofs.Common.{ap, subst, ◌∙◌, arith}
-use Rattle.std.proofs.lemmas.List.Folds.{list_any-append}
-use Rattle.std.proofs.lemmas.List.Sums.{sum_by-cons}
-use Rattle.assoc_mem.specs.declared.What.{What}
+use Rattle.machine_model.proofs.Prelude.{◌≡◌, ◌≢◌, ◌≤◌, ℕ, zero, suc, ◌+◌, Bool, true, false, ◌||◌, cond, eqb, count_by, List, [], ◌∷◌, get_or, Option, Some, None, ◌⊎◌, inl, inr, refl, sym, ap, subst, ◌∙◌, arith, list_any-append, sum_by-cons, What, Ptw, Plain, binding_at, bindings, frame_in, bound_page, reads_of, Sdw, is_trailer, trailers_of, leads, leads_at, place_of, table_of, read_at, times, has, is_going_descriptor, is_going_frame, leads_to, page_of, uid_of_page, Aim, KeepsBook, has_cut, names, led_to, seen, cut_all, cut_one, deactivation_begun, leaving_if, note_of, segment_taken, take_all, take_one, took, Keeps, cut_of_owner, descriptor_of, frames_from, frames_in, frames_of_owner, here_in, is_active, trailers_in, bound_use, cut_uid, descriptor_use, frame_use, is_cut_at, shown, CutDescriptor, State, Storage, IsWhole, TakenWhole, aimed_at, going_for, some_same, or_cases, or_true, eqb_self}
 use Rattle.assoc_mem.specs.declared.What.TheVariants as what
-use Rattle.page_table.specs.declared.Ptw.{Ptw}
 use Rattle.page_table.specs.declared.Ptw.TheVariants as ptw
-use Rattle.page_control.specs.Plain.{Plain, binding_at, bindings, frame_in}
-use Rattle.core_map.specs.CoreMap.{bound_page, reads_of}
-use Rattle.descriptor_seg.specs.declared.Sdw.{Sdw}
 use Rattle.descriptor_seg.specs.declared.Sdw.TheVariants as sdw
-use Rattle.trailers.specs.Trailer.{leads_to as is_trailer, trailers_of}
-use Rattle.seg_control.specs.Control.{leads, leads_at, place_of, table_of}
-use Rattle.seg_control.specs.Kept.{read_at, times}
-use Rattle.custody_model.specs.Custody.{has, is_going_descriptor, is_going_frame, leads_to, page_of, uid_of_page}
-use Rattle.machine_model.specs.declared.Aim.{Aim}
 use Rattle.machine_model.specs.declared.Aim.TheVariants as aim
-use Rattle.machine_model.specs.Custodial.{KeepsBook, has_cut, names}
-use Rattle.machine_model.specs.Holding.{led_to, seen}
-use Rattle.machine_model.specs.Jobs.{cut_all, cut_one, deactivation_begun, leaving_if, note_of, segment_taken, take_all}
-use Rattle.machine_model.specs.Jobs.{take_one, took}
-use Rattle.machine_model.specs.Keeps.{Keeps}
-use Rattle.machine_model.specs.Reads.{cut_of_owner, descriptor_of, frames_from, frames_in, frames_of_owner, here_in}
-use Rattle.machine_model.specs.Reads.{is_active, trailers_in}
-use Rattle.machine_model.specs.Seen.{bound_use, cut_uid, descriptor_use, frame_use, is_cut_at, shown}
-use Rattle.machine_model.specs.declared.CutDescriptor.{CutDescriptor}
-use Rattle.machine_model.specs.State.{State, Storage}
-use Rattle.machine_model.specs.Whole.{IsWhole, TakenWhole, aimed_at, going_for}
 use Rattle.machine_model.proofs.ActiveSeen.{active_place}
 use Rattle.machine_model.proofs.OwnedLaws.{IsIdle}
 use Rattle.machine_model.proofs.TakeLists.{segment_takes}
-use Rattle.machine_model.proofs.TieLaws.{none_some}
+use Rattle.machine_model.proofs.TieLaws.{none_some, page_used}
 use Rattle.machine_model.proofs.TookKept.{ArePairs, CanTook, has_pair, is_pair, linked_before, pairs_left, took_keeps}
 use Rattle.machine_model.proofs.WholeLaws.{whole_idle}
-use Rattle.machine_model.proofs.TieLaws.{page_used}
-use Rattle.laws.proofs.Options.{some_same}
-use Rattle.laws.proofs.Bools.{or_cases, or_true}
-use Rattle.laws.proofs.Numbers.{eqb_self}
 
 -- ---- what is listed
 

@@ -1,31 +1,8 @@
 -- A command is answered, with what the store says of it, and the owner of the supervisor changes.
-use Rattle.std.proofs.Common.{◌≡◌, ◌<◌, ℕ, ◌+◌, Bool, true, false, cond, List, [], ◌∷◌, ◌++◌, length, set, Option, Some}
-use Rattle.std.proofs.Common.{None, inl, inr, refl, sym, ap, subst, ◌∙◌, arith}
-use Rattle.std.specs.Prelude.{slice_get}
-use Rattle.std.proofs.lemmas.List.{length-set}
-use Rattle.std.proofs.lemmas.Bool.Decides.{eqb_tells}
-use Rattle.script.specs.Plans.{command_at}
-use Rattle.script.specs.declared.commands.Command.{Command}
+use Rattle.machine_model.proofs.Prelude.{◌≡◌, ◌<◌, ℕ, ◌+◌, Bool, true, false, cond, List, [], ◌∷◌, ◌++◌, length, set, Option, Some, None, inl, inr, refl, sym, ap, subst, ◌∙◌, arith, slice_get, length-set, eqb_tells, command_at, Command, Reply, gone_on, is_end, tries_on, IsLawfulDo, Progress, Store, progress_of, MayDo, next_of, at_put, is_try, released_by, answered, counted, IsRun, KeepsBook, is_pending, seen, IsAtWork, Keeps, StoreSays, cut_of_owner, flat_of, next_command, no_processor, no_run, processor_at, run_at, shown, Processor, Run, CutDescriptor, Owner, State, goes_on, progress_of_run, run_after, told_by, with_owner}
 use Rattle.script.specs.declared.commands.Command.TheVariants as command
 use Rattle.book.specs.declared.entries.Entry.TheVariants as entry
-use Rattle.book.specs.declared.replies.Reply.{Reply}
 use Rattle.book.specs.declared.replies.Reply.TheVariants as reply
-use Rattle.flat_model.specs.Commands.{gone_on, is_end, tries_on}
-use Rattle.flat_model.specs.Legal.{IsLawfulDo}
-use Rattle.flat_model.specs.Store.{Progress, Store, progress_of}
-use Rattle.custody_model.specs.Allowed.{MayDo, next_command as next_of}
-use Rattle.custody_model.specs.Next.{at_put, is_try, released_by}
-use Rattle.machine_model.specs.Changes.{answered, counted}
-use Rattle.machine_model.specs.Custodial.{IsRun, KeepsBook, is_pending}
-use Rattle.machine_model.specs.Holding.{seen}
-use Rattle.machine_model.specs.Keeps.{IsAtWork, Keeps, StoreSays}
-use Rattle.machine_model.specs.Reads.{cut_of_owner, flat_of, next_command, no_processor, no_run, processor_at, run_at}
-use Rattle.machine_model.specs.Seen.{shown}
-use Rattle.machine_model.specs.declared.Processor.{Processor}
-use Rattle.machine_model.specs.declared.Run.{Run}
-use Rattle.machine_model.specs.declared.CutDescriptor.{CutDescriptor}
-use Rattle.machine_model.specs.State.{Owner, State}
-use Rattle.machine_model.specs.Steps.{goes_on, progress_of_run, run_after, told_by, with_owner}
 use Rattle.machine_model.proofs.AnswerLaws.{answer_keeps, owner_keeps}
 use Rattle.machine_model.proofs.KeepLaws.{faults_push}
 use Rattle.machine_model.proofs.ListLaws.{put_list}

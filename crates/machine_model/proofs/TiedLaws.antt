@@ -1,16 +1,8 @@
 -- What ties processors and frames together goes on as they change.
-use Rattle.std.proofs.Common.{◌≡◌, ◌≢◌, ◌<◌, ℕ, Bool, true, false, List, length, Option, Some, None, is_some, set}
-use Rattle.std.proofs.Common.{refl, sym, ap, subst, ◌∙◌, ◌⊎◌, inl, inr}
-use Rattle.std.proofs.lemmas.Bool.{cases_eq}
-use Rattle.std.proofs.lemmas.List.{get_or-set_same, get_or-set_other, length-set}
-use Rattle.core_map.specs.declared.Frame.{Frame}
+use Rattle.machine_model.proofs.Prelude.{◌≡◌, ◌≢◌, ◌<◌, ℕ, Bool, true, false, List, length, Option, Some, None, is_some, set, refl, sym, ap, subst, ◌∙◌, ◌⊎◌, inl, inr, cases_eq, get_or-set_same, get_or-set_other, length-set, Frame, started_page, Transfer, Runner, no_runner, runner_at, AreAlike, AreTied}
 use Rattle.core_map.specs.declared.Frame.TheVariants as frame
-use Rattle.core_map.specs.CoreMap.{started_page}
-use Rattle.processor.specs.declared.Transfer.{Transfer}
 use Rattle.machine_model.specs.Jobs.{page_or_zero}
-use Rattle.machine_model.specs.Outline.{Runner, no_runner, runner_at, frame_in}
-use Rattle.machine_model.specs.Finishing.{AreAlike}
-use Rattle.machine_model.specs.OutlineKept.{AreTied}
+use Rattle.machine_model.specs.Outline.{frame_in}
 
 -- two lists of processors in which the same take part, have a process, and read
 pub record SameTies (xs ys : List Runner) : Type 0 where

@@ -1,27 +1,7 @@
 -- The machine keeps its promise where a job takes pages and cuts descriptors.
-use Rattle.std.proofs.Common.{◌≡◌, ℕ, Bool, true, false, ◌&&◌, eqb, count_by, List, [], ◌∷◌, ◌++◌, length, Option}
-use Rattle.std.proofs.Common.{Some, None, inl, inr, refl, sym, ap, subst, ◌∙◌, arith}
-use Rattle.std.specs.List.{list_any}
-use Rattle.std.proofs.lemmas.Bool.Decides.{eqb_tells}
-use Rattle.script.specs.Plans.{Plan}
-use Rattle.assoc_mem.specs.declared.What.{What}
+use Rattle.machine_model.proofs.Prelude.{◌≡◌, ℕ, Bool, true, false, ◌&&◌, eqb, count_by, List, [], ◌∷◌, ◌++◌, length, Option, Some, None, inl, inr, refl, sym, ap, subst, ◌∙◌, arith, list_any, eqb_tells, Plan, What, Sdw, NamesAllGoing, has, at_put_two, Aim, taken, page_at, takes, IsAimed, KeepsBook, waits_for, led_to, seen, cut_all, cut_one, note_of, take_all, take_one, took, IsAtWork, Keeps, StoreSays, is_fault, cut_of_owner, descriptor_of, frames_of_owner, or_zero, processor_at, Seen, shown, CutDescriptor, Owner, State, not_both, or_parts}
 use Rattle.book.specs.declared.entries.Entry.TheVariants as entry
-use Rattle.descriptor_seg.specs.declared.Sdw.{Sdw}
 use Rattle.descriptor_seg.specs.declared.Sdw.TheVariants as sdw
-use Rattle.custody_model.specs.Allowed.{NamesAllGoing}
-use Rattle.custody_model.specs.Custody.{has}
-use Rattle.custody_model.specs.Next.{at_put_two}
-use Rattle.machine_model.specs.declared.Aim.{Aim}
-use Rattle.machine_model.specs.Changes.{taken}
-use Rattle.machine_model.specs.Chains.{page_at, takes}
-use Rattle.machine_model.specs.Custodial.{IsAimed, KeepsBook, waits_for}
-use Rattle.machine_model.specs.Holding.{led_to, seen}
-use Rattle.machine_model.specs.Jobs.{cut_all, cut_one, note_of, take_all, take_one, took}
-use Rattle.machine_model.specs.Keeps.{IsAtWork, Keeps, StoreSays, is_fault}
-use Rattle.machine_model.specs.Reads.{cut_of_owner, descriptor_of, frames_of_owner, or_zero, processor_at}
-use Rattle.machine_model.specs.Seen.{Seen, shown}
-use Rattle.machine_model.specs.declared.CutDescriptor.{CutDescriptor}
-use Rattle.machine_model.specs.State.{Owner, State}
 use Rattle.machine_model.proofs.ChainLaws.{CanTakeAll, HasTaken, names_linked, names_uid, takes_keep}
 use Rattle.machine_model.proofs.DescriptorLaws.{cut_keeps}
 use Rattle.machine_model.proofs.KeepLaws.{quiet_push}
@@ -29,8 +9,6 @@ use Rattle.machine_model.proofs.Places.{by_places}
 use Rattle.machine_model.proofs.TakeSeen.{HasTables, cut_one_seen, take_all_seen}
 use Rattle.machine_model.proofs.TieLaws.{none_some}
 use Rattle.machine_model.proofs.TransferKept.{kept_with}
-use Rattle.laws.proofs.Bools.{not_both}
-use Rattle.std.proofs.lemmas.Bool.{or_parts}
 
 -- ---- descriptors
 

@@ -1,26 +1,7 @@
 -- The machine keeps its promise where a transfer begins and ends, and where a page is made.
-use Rattle.std.proofs.Common.{◌≡◌, ◌<◌, ◌≤◌, ℕ, Bool, true, false, cond, count_by, List, [], ◌∷◌, ◌++◌, map, length}
-use Rattle.std.proofs.Common.{set, Option, Some, None, inl, inr, refl, sym, ap, subst, ◌∙◌, arith}
-use Rattle.std.proofs.lemmas.Bool.Decides.{eqb_tells}
-use Rattle.std.proofs.lemmas.List.{get_or-set_other, length-set}
-use Rattle.std.specs.Prelude.{◌^◌, min}
-use Rattle.site_io.specs.Faults.{Rose}
-use Rattle.book.specs.declared.entries.Entry.{Entry}
+use Rattle.machine_model.proofs.Prelude.{◌≡◌, ◌<◌, ◌≤◌, ℕ, Bool, true, false, cond, count_by, List, [], ◌∷◌, ◌++◌, map, length, set, Option, Some, None, inl, inr, refl, sym, ap, subst, ◌∙◌, arith, eqb_tells, get_or-set_other, length-set, ◌^◌, min, Rose, Entry, started_page, ActiveSegs, entry_at, uid_at, uid_in, Segment, Transfer, is_for, MayFault, KeepsBook, is_pending, seen, IsAtWork, Keeps, StoreSays, is_fault, flat_of, is_active, no_processor, process_at, processor_at, run_at, Processor, Owner, State, fault_told, frame_lost, started, transfer_failed, transferred, with_faults}
 use Rattle.book.specs.declared.entries.Entry.TheVariants as entry
 use Rattle.book.specs.declared.replies.Reply.TheVariants as reply
-use Rattle.core_map.specs.CoreMap.{started_page}
-use Rattle.active_segs.specs.Active.{ActiveSegs, entry_at, uid_at, uid_in}
-use Rattle.active_segs.specs.declared.Entry.{Entry as Segment}
-use Rattle.processor.specs.declared.Transfer.{Transfer}
-use Rattle.seg_control.specs.Control.{is_for}
-use Rattle.flat_model.specs.Legal.{MayFault}
-use Rattle.machine_model.specs.Custodial.{KeepsBook, is_pending}
-use Rattle.machine_model.specs.Holding.{seen}
-use Rattle.machine_model.specs.Keeps.{IsAtWork, Keeps, StoreSays, is_fault}
-use Rattle.machine_model.specs.Reads.{flat_of, is_active, no_processor, process_at, processor_at, run_at}
-use Rattle.machine_model.specs.declared.Processor.{Processor}
-use Rattle.machine_model.specs.State.{Owner, State}
-use Rattle.machine_model.specs.Steps.{fault_told, frame_lost, started, transfer_failed, transferred, with_faults}
 use Rattle.machine_model.proofs.ActiveSeen.{any_at}
 use Rattle.machine_model.proofs.AnswerLaws.{fault_keeps, owner_keeps}
 use Rattle.machine_model.proofs.KeepLaws.{IsNoOwner, faults_push}

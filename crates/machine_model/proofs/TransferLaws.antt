@@ -1,27 +1,16 @@
 -- A page is being read into a frame, is in it, or the reading failed; a page is made in a free frame.
-use Rattle.std.proofs.Common.{◌≡◌, ◌≢◌, ◌<◌, ℕ, true, false, Option, Some, None, inl, inr, refl, sym, ap, ◌∙◌}
+use Rattle.machine_model.proofs.Prelude.{◌≡◌, ◌≢◌, ◌<◌, ℕ, true, false, Option, Some, None, inl, inr, refl, sym, ap, ◌∙◌, Ptw, Transfer, IsLawful, after_entry, DescriptorUse, NobodyHoldsPage, is_current_frame, is_going_frame, at_put, at_put_two, custody_next, nobody_holds_page, lost, here, with_transfer, KeepsBook, HoldsRight, AreUnderWay, names, is_out, is_pending, Seen, shown, seat_of, frame_use, read_use, Processor, page_is}
 use Rattle.book.specs.declared.entries.Entry.TheVariants as entry
-use Rattle.page_table.specs.declared.Ptw.{Ptw}
 use Rattle.page_table.specs.declared.Ptw.TheVariants as ptw
-use Rattle.processor.specs.declared.Transfer.{Transfer}
-use Rattle.flat_model.specs.Legal.{IsLawful, after_entry}
-use Rattle.custody_model.specs.declared.DescriptorUse.{DescriptorUse}
 use Rattle.custody_model.specs.declared.FrameUse.TheVariants as frame
-use Rattle.custody_model.specs.Allowed.{NobodyHoldsPage}
-use Rattle.custody_model.specs.Custody.{is_current_frame, is_going_frame, is_started}
-use Rattle.custody_model.specs.Next.{at_put, at_put_two, custody_next}
-use Rattle.custody_model.proofs.FineLaws.{nobody_holds_page}
-use Rattle.machine_model.specs.Changes.{started, lost, here, brought, with_transfer}
-use Rattle.machine_model.specs.Custodial.{KeepsBook, HoldsRight, AreUnderWay, names, is_out, is_pending}
-use Rattle.machine_model.specs.Seen.{Seen, shown, seat_of, frame_use, read_use}
-use Rattle.machine_model.specs.declared.Processor.{Processor}
+use Rattle.custody_model.specs.Custody.{is_started}
+use Rattle.machine_model.specs.Changes.{started, brought}
 use Rattle.machine_model.proofs.BookNext.{book_next}
 use Rattle.machine_model.proofs.FrameLaws.{in_no_frame}
 use Rattle.machine_model.proofs.HeldLaws.{right_frame, right_like}
 use Rattle.machine_model.proofs.OwnedLaws.{like_frame, owned_like}
 use Rattle.machine_model.proofs.Places.{by_place, one_place, put_here, put_other, put_two_here}
 use Rattle.machine_model.proofs.TieLaws.{none_some, out_none, tied_start, tied_lost, tied_here, other_use_here}
-use Rattle.laws.proofs.Options.{page_is}
 
 -- ---- processors with their transfers
 

@@ -1,49 +1,18 @@
 -- The machine keeps its promise where a `truncate` takes effect: the pages that are cut off have left their frames, and
 -- a page that keeps a word is here again.
-use Rattle.std.proofs.Common.{◌≡◌, ◌≢◌, ℕ, Bool, true, false, if◌then◌else◌, count_by}
-use Rattle.std.proofs.Common.{List, [], ◌∷◌, ◌++◌, map, Option, Some, None, ◌⊎◌, inl, inr, refl, sym, ap, subst}
-use Rattle.std.proofs.Common.{◌∙◌, arith}
-use Rattle.std.proofs.lemmas.List.{length-set}
+use Rattle.machine_model.proofs.Prelude.{◌≡◌, ◌≢◌, ℕ, Bool, true, false, if◌then◌else◌, count_by, List, [], ◌∷◌, ◌++◌, map, Option, Some, None, ◌⊎◌, inl, inr, refl, sym, ap, subst, ◌∙◌, arith, length-set, Path, Entry, Ptw, binding_at, bindings, reads_of, list_any, Segment, is_for, word_of, read_at, Custody, Fine, page_at, back, gone, committed, cut_entry, gone_entries, stays, with_truncated, IsOwned, IsTied, KeepsBook, is_out, is_pending, names, led_to, seen, Keeps, StoreSays, is_fault, cut_of_owner, descriptor_of, frames_of_owner, process_at, run_at, reply_of, uid_of_command, Seen, bound_use, frame_use, shown, CutDescriptor, State, Storage, with_owner, without_first_frame, append-nil, append_assoc}
 use Rattle.script.specs.declared.commands.Command.TheVariants as command
-use Rattle.mnames.specs.declared.paths.Path.{Path}
-use Rattle.book.specs.declared.entries.Entry.{Entry}
 use Rattle.book.specs.declared.entries.Entry.TheVariants as entry
-use Rattle.page_table.specs.declared.Ptw.{Ptw}
 use Rattle.page_table.specs.declared.Ptw.TheVariants as ptw
-use Rattle.page_control.specs.Plain.{binding_at, bindings}
-use Rattle.core_map.specs.CoreMap.{reads_of}
-use Rattle.std.specs.List.{list_any}
-use Rattle.active_segs.specs.declared.Entry.{Entry as Segment}
-use Rattle.seg_control.specs.Control.{is_for, word_of}
-use Rattle.seg_control.specs.Kept.{read_at}
-use Rattle.custody_model.specs.Custody.{Custody}
-use Rattle.custody_model.specs.Fine.{Fine}
-use Rattle.machine_model.specs.Chains.{page_at}
-use Rattle.machine_model.specs.Changes.{back, gone}
-use Rattle.machine_model.specs.Commits.{committed, cut_entry, gone_entries, stays, with_truncated}
-use Rattle.machine_model.specs.Custodial.{IsOwned, IsTied, KeepsBook, is_out, is_pending, names}
-use Rattle.machine_model.specs.Holding.{led_to, seen}
-use Rattle.machine_model.specs.Keeps.{Keeps, StoreSays, is_fault}
-use Rattle.machine_model.specs.Reads.{cut_of_owner, descriptor_of, frames_of_owner, process_at, run_at}
-use Rattle.machine_model.specs.Refusal.{reply_of, uid_of_command}
-use Rattle.machine_model.specs.Seen.{Seen, bound_use, frame_use, shown}
-use Rattle.machine_model.specs.declared.CutDescriptor.{CutDescriptor}
-use Rattle.machine_model.specs.State.{State, Storage}
-use Rattle.machine_model.specs.Steps.{with_owner}
-use Rattle.machine_model.specs.Jobs.{without_first_frame}
-use Rattle.machine_model.proofs.ChainLaws.{GoesOn, HasGone, IsDone, gone_done, idle_done, back_on, first_finish}
+use Rattle.machine_model.proofs.ChainLaws.{GoesOn, HasGone, IsDone, gone_done, idle_done, back_on, first_finish, LeavesRest, goes_with}
 use Rattle.machine_model.proofs.CommitKept.{effected}
 use Rattle.machine_model.proofs.FrameLaws.{back_keeps, gone_keeps}
-use Rattle.machine_model.proofs.KeepLaws.{faults_push}
+use Rattle.machine_model.proofs.KeepLaws.{faults_push, quiet_push}
 use Rattle.machine_model.proofs.OwnedLaws.{IsIdle, nobody}
 use Rattle.machine_model.proofs.OwnerLaws.{job_over}
 use Rattle.machine_model.proofs.TellKept.{CanTell, told_keeps}
 use Rattle.machine_model.proofs.TieLaws.{none_some, not_there}
 use Rattle.machine_model.proofs.TransferKept.{kept_with}
-use Rattle.machine_model.proofs.ChainLaws.{LeavesRest}
-use Rattle.std.proofs.lemmas.List.{append-nil, append_assoc}
-use Rattle.machine_model.proofs.KeepLaws.{quiet_push}
-use Rattle.machine_model.proofs.ChainLaws.{goes_with}
 
 -- ---- words that custody doesn't see
 

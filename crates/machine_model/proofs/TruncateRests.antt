@@ -1,69 +1,26 @@
 -- What a `truncate` must have out of use is so where it takes effect: the pages that it cuts off are those that its job
 -- took, and the one that keeps a word is here again.
-use Rattle.std.proofs.Common.{◌≡◌, ◌≢◌, ◌<◌, ◌≤◌, ◌*◌, ℕ, zero, suc, ◌+◌, ◌-◌, ◌/◌, ◌%◌, Bool, true, false, not, ◌&&◌}
-use Rattle.std.proofs.Common.{◌||◌}
-use Rattle.std.proofs.Common.{cond, eqb, List, [], ◌∷◌, ◌++◌, length, take, replicate, get_or, set, Option, Some, None}
-use Rattle.std.proofs.Common.{◌⊎◌}
-use Rattle.std.proofs.Common.{inl, inr, refl, sym, ap, subst, ◌∙◌, arith}
-use Rattle.std.specs.Prelude.{nat_le, nat_lt, Result, Ok, Err}
-use Rattle.std.specs.List.{range_with_len}
-use Rattle.std.proofs.lemmas.Bool.Decides.{eqb_tells, leb_tells}
-use Rattle.std.proofs.lemmas.List.{get_or-set_same, get_or_past, length-set}
-use Rattle.mnames.specs.declared.paths.Path.{Path}
+use Rattle.machine_model.proofs.Prelude.{◌≡◌, ◌≢◌, ◌<◌, ◌≤◌, ◌*◌, ℕ, zero, suc, ◌+◌, ◌-◌, ◌/◌, ◌%◌, Bool, true, false, not, ◌&&◌, ◌||◌, cond, eqb, List, [], ◌∷◌, ◌++◌, length, take, replicate, get_or, set, Option, Some, None, ◌⊎◌, inl, inr, refl, sym, ap, subst, ◌∙◌, arith, nat_le, nat_lt, Result, Ok, Err, range_with_len, eqb_tells, leb_tells, get_or-set_same, get_or_past, length-set, Path, Reply, Node, after_reference, bound_page, started_page, Ptw, frame_in, words_in, place_of, table_of, node_at, segment_at, is_zero_page, without_words, is_lost, zero_words, has, is_going_frame, page_of, LosesNoPage, OfNode, at_put_two, page_at, page_or_zero, first_past, pages_past, stays, with_cut, without_page, AreDistinct, names, seen, are_zeros, here_if, page_in, with_here, Keeps, cut_of_owner, flat_of, frames_of_owner, is_active, process_at, Seen, shown, use_of, State, Storage, with_owner, with_pages, IsTakenFor, only_found, and-false, binding_at, read_at, has_head, has_tail, not_both, page_is, map_kept}
 use Rattle.script.specs.declared.commands.Command.TheVariants as command
-use Rattle.book.specs.declared.replies.Reply.{Reply}
-use Rattle.tree_model.specs.Tree.{Node}
 use Rattle.core_map.specs.declared.Frame.TheVariants as frame
-use Rattle.core_map.specs.CoreMap.{after_reference, bound_page, started_page}
-use Rattle.page_table.specs.declared.Ptw.{Ptw}
 use Rattle.page_table.specs.declared.Ptw.TheVariants as ptw
 use Rattle.page_control.specs.Effects.{cut}
-use Rattle.page_control.specs.Plain.{frame_in, words_in}
-use Rattle.seg_control.specs.Control.{place_of, table_of}
-use Rattle.flat_model.specs.Branches.{node_at, segment_at}
-use Rattle.flat_model.specs.Pages.{is_zero_page, without_words}
-use Rattle.flat_model.specs.Sizes.{is_lost}
-use Rattle.flat_model.proofs.ZeroLaws.{zero_words}
 use Rattle.custody_model.specs.declared.FrameUse.TheVariants as frame_use
-use Rattle.custody_model.specs.Custody.{has, is_going_frame, page_of}
-use Rattle.custody_model.specs.Effects.{LosesNoPage, OfNode}
-use Rattle.custody_model.specs.Next.{at_put_two}
-use Rattle.machine_model.specs.Chains.{page_at, page_or_zero}
-use Rattle.machine_model.specs.Commits.{first_past, pages_past, stays, with_cut, without_page}
-use Rattle.machine_model.specs.Custodial.{AreDistinct, names}
-use Rattle.machine_model.specs.Holding.{seen}
-use Rattle.machine_model.specs.Jobs.{are_zeros, here_if, page_in, with_here}
-use Rattle.machine_model.specs.Keeps.{Keeps}
-use Rattle.machine_model.specs.Reads.{cut_of_owner, flat_of, frames_of_owner, is_active, process_at}
-use Rattle.machine_model.specs.Seen.{Seen, shown}
-use Rattle.machine_model.specs.Seen.{frame_use as use_of}
-use Rattle.machine_model.specs.State.{State, Storage}
-use Rattle.machine_model.specs.Steps.{with_owner, with_pages}
-use Rattle.machine_model.specs.Taking.{IsTakenFor}
 use Rattle.machine_model.proofs.ChainLaws.{going_word}
 use Rattle.machine_model.proofs.CommitAsks.{IsOut, RestsTruncate}
 use Rattle.machine_model.proofs.CommitKept.{effected}
 use Rattle.machine_model.proofs.CommitRests.{cut_led, none_cut, page_bound, path_uid}
 use Rattle.machine_model.proofs.FinishKept.{bound_within}
 use Rattle.machine_model.proofs.ListLaws.{map_list}
-use Rattle.machine_model.proofs.PagesCut.{AreCutOff, HasPlaces, IsCutOff, bound_in, cut_places, page_cut_off}
-use Rattle.machine_model.proofs.PagesCut.{pages_cut_off, read_in, word_in}
+use Rattle.machine_model.proofs.PagesCut.{AreCutOff, HasPlaces, IsCutOff, bound_in, cut_places, page_cut_off, pages_cut_off, read_in, word_in}
 use Rattle.machine_model.proofs.PageShown.{bound_word}
 use Rattle.machine_model.proofs.Places.{by_place, by_places}
-use Rattle.flat_model.proofs.QuotaTotals.{only_found}
 use Rattle.machine_model.proofs.TakeSeen.{binding_is, words_put}
 use Rattle.machine_model.proofs.TieLaws.{none_some}
 use Rattle.machine_model.proofs.TruncateKept.{QuietWords, all_left, cut_store, leaf, leaves, segment}
 use Rattle.machine_model.proofs.TransferKept.{active_at}
 use Rattle.machine_model.proofs.WordLaws.{word_within}
 use Rattle.machine_model.proofs.ActiveKept.{bound_after, started_after}
-use Rattle.std.proofs.Math.Bool.{and-false}
-use Rattle.page_control.specs.Plain.{binding_at}
-use Rattle.seg_control.specs.Kept.{read_at}
-use Rattle.custody_model.proofs.SharedLaws.{has_head, has_tail}
-use Rattle.laws.proofs.Bools.{not_both}
-use Rattle.laws.proofs.Options.{page_is}
-use Rattle.laws.proofs.Places.{map_kept}
 
 -- ---- numbers in a row
 

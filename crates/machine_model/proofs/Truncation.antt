@@ -1,14 +1,10 @@
 -- A segment is truncated, then deleted: what was taken goes in the order in which it was taken, and the cut page
 -- stays.
-use Rattle.std.proofs.Common.{◌≡◌, [], ◌∷◌, None, refl}
-use Rattle.std.specs.Prelude.{codes}
-use Rattle.script.specs.Plans.{ProcessPlan}
+use Rattle.machine_model.proofs.Prelude.{◌≡◌, [], ◌∷◌, None, refl, codes, ProcessPlan, State, book_of, machine_with, until}
 use Rattle.script.specs.declared.commands.Command.TheVariants as command
 use Rattle.book.specs.declared.entries.Entry.TheVariants as entry
 use Rattle.book.specs.declared.replies.Reply.TheVariants as reply
 use Rattle.assoc_mem.specs.declared.What.TheVariants as what
-use Rattle.machine_model.specs.State.{State}
-use Rattle.machine_model.specs.Runs.{book_of, machine_with, until}
 use Rattle.machine_model.proofs.Examples.{four_pages, four_written}
 
 abbrev script : ProcessPlan

@@ -1,16 +1,7 @@
 -- A machine makes few uids: one in each command that makes a directory or a segment.
-use Rattle.std.proofs.Common.{◌≡◌, ◌<◌, ℕ, List, [], ◌∷◌, Option, Some, None, refl, sym, ap, ◌∙◌, arith}
-use Rattle.script.specs.Plans.{Plan, command_at}
-use Rattle.script.specs.declared.commands.Command.{Command}
-use Rattle.book.specs.declared.entries.Entry.{Entry}
+use Rattle.machine_model.proofs.Prelude.{◌≡◌, ◌<◌, ℕ, List, [], ◌∷◌, Option, Some, None, refl, arith, Plan, command_at, Command, Entry, IsAnswer, IsLawful, IsLegal, IsLegalFrom, MayFault, after_do, after_entry, after_fault, store_after, store_from, Store, boot, few_reached, reached_boot, reached_fault, reached_on, KeepsAll, State}
 use Rattle.book.specs.declared.entries.Entry.TheVariants as entry
-use Rattle.flat_model.specs.Legal.{IsAnswer, IsLawful, IsLegal, IsLegalFrom, MayFault, after_do, after_entry}
-use Rattle.flat_model.specs.Legal.{after_fault, store_after, store_from}
 use Rattle.flat_model.specs.Reached.{IsReached}
-use Rattle.flat_model.specs.Store.{Store, boot}
-use Rattle.flat_model.proofs.ReachLaws.{few_uids as few_reached, reached_boot, reached_fault, reached_on}
-use Rattle.machine_model.specs.Promise.{KeepsAll}
-use Rattle.machine_model.specs.State.{State}
 
 entry_reached : (p : Plan) (s : Store) (e : Entry) → IsReached p s → IsLawful p s e → IsReached p (after_entry p s e)
 unfolding after_entry IsLawful

@@ -1,17 +1,9 @@
 -- No state of a machine is stuck: where it wasn't stopped and some process hasn't ended, some processor moves.
-use Rattle.std.proofs.Common.{◌≡◌, ◌<◌, ℕ, true, false, refl, subst}
+use Rattle.machine_model.proofs.Prelude.{◌≡◌, ◌<◌, ℕ, true, false, refl, subst, action_of, is_over, after, no_call, Ended, Moved, WaitsFor, outline_of, KeepsAll, IsGoing, State, moves, turn_of, HaveSteps, SomeMoves}
 use Rattle.machine_model.specs.Actions as act
-use Rattle.machine_model.specs.Actions.{action_of, is_over}
-use Rattle.machine_model.specs.After.{after, no_call}
-use Rattle.machine_model.specs.Outline.{Ended, Moved, WaitsFor}
-use Rattle.machine_model.specs.Outlined.{outline_of}
-use Rattle.machine_model.specs.Promise.{KeepsAll}
-use Rattle.machine_model.specs.Rounds.{IsGoing}
-use Rattle.machine_model.specs.State.{State}
-use Rattle.machine_model.specs.Turns.{moves, turn_of}
 use Rattle.machine_model.proofs.MachineRounds.{kept_of, machine_step, not_ended}
 use Rattle.machine_model.proofs.OutlineReads.{long_outline}
-use Rattle.machine_model.specs.Unstuck.{Goes, HaveSteps, SomeMoves}
+use Rattle.machine_model.specs.Unstuck.{Goes}
 use Rattle.machine_model.proofs.OutlineGoes.{outline_goes}
 
 moves_by : (a : act.Action) → turn_of a ≡ Moved → moves a ≡ true

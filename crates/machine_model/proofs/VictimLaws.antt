@@ -1,46 +1,15 @@
 -- The victim of a full pool: there is one, and it isn't a link of the chain for which the pool is to have room.
-use Rattle.std.proofs.Common.{◌≡◌, ◌≢◌, ◌<◌, ◌≤◌, ℕ, zero, suc, ◌+◌, ◌-◌, Bool, true, false, not, cond, eqb, List, []}
-use Rattle.std.proofs.Common.{◌∷◌}
-use Rattle.std.proofs.Common.{◌||◌, get_or, length, reverse, is_some, is_none, Option, Some, None, ◌⊎◌, inl, inr, refl}
-use Rattle.std.proofs.Common.{sym}
-use Rattle.std.proofs.Common.{ap, subst, ◌∙◌, arith, Contains}
-use Rattle.std.specs.Prelude.{take, position, nat_le}
-use Rattle.std.specs.List.{list_any}
-use Rattle.std.proofs.lemmas.Bool.{cases_lt}
-use Rattle.std.proofs.lemmas.Bool.Decides.{eqb_tells}
-use Rattle.std.proofs.lemmas.List.{length-reverse}
-use Rattle.std.proofs.lemmas.List.Sums.{sum_by-cons}
-use Rattle.script.specs.Forms.{ArePools}
-use Rattle.tree_model.specs.Tree.{Node, above, has_directory, node_in, pool_for, pool_of, step_up}
-use Rattle.tree_model.specs.Trees.{AreDirectories, IsChain, IsTree}
-use Rattle.tree_model.proofs.Finds.{IsMember, found_member, member_found, member_left, member_parts, member_right}
-use Rattle.tree_model.proofs.ChainLaws.{has_chains}
-use Rattle.tree_model.proofs.TreeLaws.{above_once, depth, superior_in, superior_found}
-use Rattle.dir_tree.specs.Nodes.{chain_of}
-use Rattle.core_map.specs.CoreMap.{Core, frame_at, is_bound, is_free, is_started, least_free_frame}
-use Rattle.core_map.specs.Clock.{clock_choice, or_else, round_frames}
-use Rattle.core_map.specs.declared.Frame.{Frame}
+use Rattle.machine_model.proofs.Prelude.{◌≡◌, ◌≢◌, ◌<◌, ◌≤◌, ℕ, zero, suc, ◌+◌, ◌-◌, Bool, true, false, not, cond, eqb, List, [], ◌∷◌, ◌||◌, get_or, length, reverse, is_some, is_none, Option, Some, None, ◌⊎◌, inl, inr, refl, sym, ap, subst, ◌∙◌, arith, Contains, take, position, nat_le, list_any, cases_lt, eqb_tells, length-reverse, sum_by-cons, ArePools, Node, above, has_directory, node_in, pool_for, pool_of, step_up, AreDirectories, IsChain, IsTree, IsMember, found_member, member_found, member_left, member_parts, member_right, has_chains, above_once, depth, superior_found, chain_of, Core, frame_at, is_bound, is_free, is_started, least_free_frame, clock_choice, or_else, round_frames, Frame, ActiveSegs, entry_at, uid_at, uid_in, IsInPool, first_of, size_of, HasOneOffChain, first_off_chain, hand_of, is_inferior_in, is_inferior_of, leaf_below, leaf_of, least_inferior, least_inferior_of, off_chain, places_from, round_pool, stead_of, victim_of, Keeps, IsMachine, first_inactive, free_place, is_active, places_in, State, not_both, passed_there}
+use Rattle.tree_model.proofs.TreeLaws.{superior_in}
 use Rattle.core_map.specs.declared.Frame.TheVariants as frame
 use Rattle.active_segs.specs.declared.Entry.{Entry}
-use Rattle.active_segs.specs.Active.{ActiveSegs, entry_at, uid_at, uid_in}
 use Rattle.active_segs.specs.Active as active
-use Rattle.active_segs.specs.Pool.{IsInPool, first_of, size_of}
-use Rattle.active_segs.specs.Victim.{HasOneOffChain, first_off_chain, hand_of, is_inferior_in, is_inferior_of}
-use Rattle.active_segs.specs.Victim.{leaf_below, leaf_of}
-use Rattle.active_segs.specs.Victim.{least_inferior, least_inferior_of, off_chain, places_from, round_pool, stead_of}
-use Rattle.active_segs.specs.Victim.{victim_of}
-use Rattle.machine_model.specs.Keeps.{Keeps}
-use Rattle.machine_model.specs.Promise.{IsMachine}
-use Rattle.machine_model.specs.Reads.{first_inactive, free_place, is_active, places_in}
-use Rattle.machine_model.specs.State.{State}
 use Rattle.machine_model.proofs.ChainFacts.{turned}
 use Rattle.machine_model.proofs.FindLaws.{find_true, position_at, position_none}
 use Rattle.machine_model.proofs.OffChain.{pool_one_off}
 use Rattle.machine_model.proofs.PoolRoom.{range_has}
 use Rattle.machine_model.proofs.TieLaws.{none_some}
 use Rattle.machine_model.proofs.TransferKept.{active_at}
-use Rattle.laws.proofs.Bools.{not_both}
-use Rattle.laws.proofs.Options.{passed_there}
 
 -- ---- links
 

@@ -1,10 +1,8 @@
 -- Two segments share the one place of their pool: each is emptied for the other.
-use Rattle.std.proofs.Common.{◌≡◌, [], ◌∷◌, Some, None, refl}
+use Rattle.machine_model.proofs.Prelude.{◌≡◌, [], ◌∷◌, Some, None, refl, State, book_of, machine_with, until}
 use Rattle.book.specs.declared.entries.Entry.TheVariants as entry
 use Rattle.book.specs.declared.replies.Reply.TheVariants as reply
 use Rattle.assoc_mem.specs.declared.What.TheVariants as what
-use Rattle.machine_model.specs.State.{State}
-use Rattle.machine_model.specs.Runs.{book_of, machine_with, until}
 use Rattle.machine_model.proofs.Examples.{two_segments, room_wanted}
 
 abbrev machine : State

@@ -1,38 +1,10 @@
 -- A visit of the shutdown keeps the whole promise, where the call of the store does what it says; and what holds of the
 -- frames that were visited.
-use Rattle.std.proofs.Common.{◌≡◌, ◌<◌, ◌≤◌, ℕ, ◌+◌, ◌++◌, ◌∷◌, [], Bool, true, false, not, cond, ◌&&◌, length}
-use Rattle.std.proofs.Common.{map, sum, List, Option, Some, None, refl, sym, ap, subst, ◌∙◌}
-use Rattle.std.specs.List.{list_any}
-use Rattle.site_io.specs.Faults.{Rose}
+use Rattle.machine_model.proofs.Prelude.{◌≡◌, ◌<◌, ◌≤◌, ℕ, ◌+◌, ◌++◌, ◌∷◌, [], Bool, true, false, not, cond, ◌&&◌, length, map, sum, List, Option, Some, None, refl, sym, ap, subst, ◌∙◌, list_any, Rose, bound_page, Node, IsPlan, Plan, commands_of, Transfer, MayFault, Store, Plain, frame_in, words_in, Processor, Run, has_process, is_empty, is_over, Outcome, AllCome, are_zeros, here_if, leaving_if, left_of, page_back, page_gone, page_in, with_here, without_first_frame, IsFaithful, Keeps, StoreKept, StoreSays, mover_of, KeepsAll, cpu_at, cut_of_owner, flat_of, home_in, run_at, AreScheduled, IsScheduled, page_or_zero, left_page, without_left, after_visit, page_taken, visited_if, Owner, State, fault_told, with_faults, AreIdle}
 use Rattle.assoc_mem.specs.declared.What.TheVariants as what
 use Rattle.book.specs.declared.entries.Entry.TheVariants as entry
-use Rattle.core_map.specs.CoreMap.{bound_page}
-use Rattle.tree_model.specs.Tree.{Node}
-use Rattle.script.specs.Forms.{IsPlan}
-use Rattle.script.specs.Plans.{Plan, commands_of}
-use Rattle.processor.specs.declared.Transfer.{Transfer}
-use Rattle.flat_model.specs.Legal.{MayFault}
-use Rattle.flat_model.specs.Store.{Store}
-use Rattle.page_control.specs.Plain.{Plain, frame_in, words_in}
 use Rattle.machine_model.specs.declared.Aim.TheVariants as aim
-use Rattle.machine_model.specs.declared.Processor.{Processor}
-use Rattle.machine_model.specs.declared.Run.{Run}
-use Rattle.machine_model.specs.Actions.{has_process, is_empty, is_over}
-use Rattle.machine_model.specs.After.{Outcome}
-use Rattle.machine_model.specs.Foreseen.{AllCome, Comes}
-use Rattle.machine_model.specs.Jobs.{are_zeros, here_if, leaving_if, left_of, page_back, page_gone, page_in, with_here}
-use Rattle.machine_model.specs.Jobs.{without_first_frame}
-use Rattle.machine_model.specs.Keeps.{IsFaithful, Keeps, StoreKept, StoreSays}
-use Rattle.machine_model.specs.Movers.{mover_of}
-use Rattle.machine_model.specs.Promise.{KeepsAll}
-use Rattle.machine_model.specs.Reads.{cpu_at, cut_of_owner, flat_of, home_in, run_at}
-use Rattle.machine_model.specs.Scheduled.{AreScheduled, IsScheduled}
-use Rattle.machine_model.specs.Chains.{page_or_zero}
-use Rattle.machine_model.specs.Said.{left_page, without_left}
-use Rattle.machine_model.specs.Shutdown.{after_visit, page_taken, visited_if}
-use Rattle.machine_model.specs.State.{Owner, State}
-use Rattle.machine_model.specs.Steps.{fault_told, with_faults}
-use Rattle.machine_model.specs.Visits.{AreIdle}
+use Rattle.machine_model.specs.Foreseen.{Comes}
 use Rattle.machine_model.proofs.FlatAlike.{IsAlike, alike, alike_by, alike_on, fault_alike, one_still}
 use Rattle.machine_model.proofs.MoverTied.{here_moving, leaving_moving}
 use Rattle.machine_model.proofs.OutlineTake.{took_like}
@@ -40,9 +12,8 @@ use Rattle.machine_model.proofs.OverLaws.{over_bare, over_faults, over_free, ove
 use Rattle.machine_model.proofs.SaysLaws.{left_count, left_flat, left_nodes, none_rest, says_by}
 use Rattle.machine_model.proofs.StepAsks.{release_may}
 use Rattle.machine_model.proofs.TieLaws.{none_some}
-use Rattle.machine_model.proofs.VisitKept.{AsksVisit, visit_keeps}
+use Rattle.machine_model.proofs.VisitKept.{AsksVisit, visit_keeps, kept_visited}
 use Rattle.machine_model.proofs.WorkStep.{none_work}
-use Rattle.machine_model.proofs.VisitKept.{kept_visited}
 
 -- ---- what the call of the store says
 

@@ -1,38 +1,14 @@
 -- The machine keeps its promise where the shutdown visits a frame.
-use Rattle.std.proofs.Common.{◌≡◌, ◌≤◌, ℕ, ◌+◌, Bool, true, false, cond, eqb, count_by, List, [], ◌∷◌, ◌++◌}
-use Rattle.std.proofs.Common.{map, Option, Some, None, inl, inr, refl, sym, ap, subst, ◌∙◌, arith}
-use Rattle.std.proofs.lemmas.Bool.Decides.{eqb_tells}
-use Rattle.site_io.specs.Faults.{Rose}
+use Rattle.machine_model.proofs.Prelude.{◌≡◌, ◌≤◌, ℕ, ◌+◌, Bool, true, false, cond, eqb, count_by, List, [], ◌∷◌, ◌++◌, map, Option, Some, None, inl, inr, refl, sym, ap, subst, ◌∙◌, arith, eqb_tells, Rose, Held, nothing_held, bound_page, Left, frame_in, words_in, MayFault, MayRelease, Custody, has, Fine, Outcome, page_or_zero, taken, IsOwned, KeepsBook, has_cut, names, waits_for, seen, left_of, page_back, page_gone, page_in, take_one, without_first_frame, Keeps, StoreSays, is_fault, cut_of_owner, flat_of, frames_of_owner, processor_at, Seen, cut_uid, descriptor_use, shown, after_visit, page_taken, visited_if, CutDescriptor, Owner, State, fault_told, with_faults, with_owner}
 use Rattle.assoc_mem.specs.declared.What.TheVariants as what
-use Rattle.assoc_mem.specs.Held.{Held, nothing_held}
 use Rattle.book.specs.declared.entries.Entry.TheVariants as entry
-use Rattle.core_map.specs.CoreMap.{bound_page}
 use Rattle.page_table.specs.declared.Ptw.TheVariants as ptw
-use Rattle.page_control.specs.declared.Left.{Left}
 use Rattle.page_control.specs.declared.Left.TheVariants as left
-use Rattle.page_control.specs.Plain.{frame_in, words_in}
-use Rattle.flat_model.specs.Legal.{MayFault, MayRelease}
-use Rattle.custody_model.specs.Custody.{Custody, has}
-use Rattle.custody_model.specs.Fine.{Fine}
 use Rattle.machine_model.specs.declared.Aim.TheVariants as aim
 use Rattle.machine_model.specs.declared.Phase.TheVariants as phase
-use Rattle.machine_model.specs.After.{Outcome}
-use Rattle.machine_model.specs.Chains.{page_or_zero}
-use Rattle.machine_model.specs.Changes.{taken}
-use Rattle.machine_model.specs.Custodial.{IsOwned, KeepsBook, has_cut, names, waits_for}
-use Rattle.machine_model.specs.Holding.{seen}
-use Rattle.machine_model.specs.Jobs.{left_of, page_back, page_gone, page_in, take_one}
-use Rattle.machine_model.specs.Jobs.{without_first_frame}
-use Rattle.machine_model.specs.Keeps.{Keeps, StoreSays, is_fault}
-use Rattle.machine_model.specs.Reads.{cut_of_owner, flat_of, frames_of_owner, processor_at}
-use Rattle.machine_model.specs.Seen.{Seen, cut_uid, descriptor_use, shown}
-use Rattle.machine_model.specs.Shutdown.{after_visit, page_taken, visited_if}
-use Rattle.machine_model.specs.declared.CutDescriptor.{CutDescriptor}
-use Rattle.machine_model.specs.State.{Owner, State}
-use Rattle.machine_model.specs.Steps.{fault_told, with_faults, with_owner}
 use Rattle.machine_model.proofs.AnswerLaws.{fault_keeps}
 use Rattle.machine_model.proofs.FinishKept.{left_faults, left_keeps}
-use Rattle.machine_model.proofs.FrameLaws.{CanFinish, back_keeps, take_keeps}
+use Rattle.machine_model.proofs.FrameLaws.{CanFinish, back_keeps, take_keeps, finish_with}
 use Rattle.machine_model.proofs.KeepLaws.{faults_push}
 use Rattle.machine_model.proofs.LeaveSeen.{back_seen}
 use Rattle.machine_model.proofs.OwnerLaws.{bound_here, idle_names}
@@ -40,7 +16,6 @@ use Rattle.machine_model.proofs.Places.{put_two_here}
 use Rattle.machine_model.proofs.TakeSeen.{HasTables, binding_is, tables_kept, take_one_seen}
 use Rattle.machine_model.proofs.TieLaws.{none_some}
 use Rattle.machine_model.proofs.TransferKept.{kept_with}
-use Rattle.machine_model.proofs.FrameLaws.{finish_with}
 
 -- no processor holds anything, or is to drop anything
 pub record AreBare (s : State) : Type 0 where

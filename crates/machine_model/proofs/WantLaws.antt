@@ -1,33 +1,9 @@
 -- What the next command of a process wants of the tables, by what a look finds for it.
-use Rattle.std.proofs.Common.{◌≡◌, ℕ, ◌*◌, Bool, true, false, not, cond, eqb, List, Option, Some, None}
-use Rattle.std.proofs.Common.{Result, Ok, Err, inl, inr, refl, sym, ap, ◌∙◌, arith, nat_le, []}
-use Rattle.std.specs.Prelude.{◌/◌}
-use Rattle.std.proofs.lemmas.Bool.Decides.{leb_tells}
-use Rattle.script.specs.References.{new_word, permits}
-use Rattle.script.specs.declared.commands.Command.{Command}
+use Rattle.machine_model.proofs.Prelude.{◌≡◌, ℕ, ◌*◌, Bool, true, false, not, cond, eqb, List, Option, Some, None, Result, Ok, Err, inl, inr, refl, sym, ap, ◌∙◌, arith, nat_le, [], ◌/◌, leb_tells, new_word, permits, Command, Reference, Who, Reply, access_of, Node, node_in, chain_of, uid_of, kst_at, segment_at, who_at, Keeps, Want, Refer, Other, Runner, runner_at, want_at, around, is_linked, outline_of, reference_in, runner_by, want_in, want_known, want_lengthened, want_of, want_of_command, want_of_reference, want_truncated, cpu_at, next_command, processor_at, State, found_uid, not_both}
 use Rattle.script.specs.declared.commands.Command.TheVariants as command
-use Rattle.script.specs.declared.commands.Reference.{Reference}
-use Rattle.mnames.specs.declared.principals.Who.{Who}
-use Rattle.book.specs.declared.replies.Reply.{Reply}
-use Rattle.tree_model.specs.Access.{access_of}
-use Rattle.tree_model.specs.Tree.{Node, node_in}
-use Rattle.dir_tree.specs.Nodes.{chain_of}
-use Rattle.known_segs.specs.Known.{uid_of}
-use Rattle.seg_control.specs.Control.{kst_at}
-use Rattle.flat_model.specs.Branches.{segment_at}
-use Rattle.storage_ops.specs.Shown.{who_at}
-use Rattle.machine_model.specs.Keeps.{Keeps}
-use Rattle.machine_model.specs.Outline.{Want, Refer, Other, Runner, runner_at, want_at}
-use Rattle.machine_model.specs.Outlined.{around, is_linked, outline_of, reference_in, runner_by}
-use Rattle.machine_model.specs.Outlined.{want_in, want_known, want_lengthened, want_of, want_of_command}
-use Rattle.machine_model.specs.Outlined.{want_of_reference, want_truncated}
-use Rattle.machine_model.specs.Reads.{cpu_at, next_command, processor_at}
-use Rattle.machine_model.specs.State.{State}
 use Rattle.machine_model.proofs.LookFacts.{IsInside}
 use Rattle.machine_model.proofs.MoveAsks.{who_is}
 use Rattle.machine_model.proofs.OutlineReads.{at_outline}
-use Rattle.tree_model.proofs.SharedLaws.{found_uid}
-use Rattle.laws.proofs.Bools.{not_both}
 
 -- ---- a processor that has a process
 

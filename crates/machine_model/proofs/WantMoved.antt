@@ -1,27 +1,7 @@
 -- What commands want of the tree is the same where segments lie on other volumes.
-use Rattle.std.proofs.Common.{◌≡◌, ℕ, Bool, true, false, cond, eqb, List, [], ◌∷◌, map, Option, Some, None, refl, ap}
-use Rattle.std.proofs.Common.{◌∙◌}
-use Rattle.std.specs.Prelude.{◌*◌, ◌/◌, ◌==◌, nat_le, not, reverse, Result, Ok, Err}
-use Rattle.mnames.specs.declared.principals.Who.{Who}
-use Rattle.script.specs.References.{new_word, permits, reference_of}
-use Rattle.script.specs.declared.commands.Command.{Command}
+use Rattle.machine_model.proofs.Prelude.{◌≡◌, ℕ, Bool, true, false, cond, eqb, List, [], ◌∷◌, map, Option, Some, None, refl, ap, ◌∙◌, ◌*◌, ◌/◌, ◌==◌, nat_le, not, reverse, Result, Ok, Err, Who, new_word, permits, reference_of, Command, Reference, Reply, access_of, Node, Walk, LeadsTo, above, branch_in, is_branch, node_in, onward, step_up, volume_in, walk_from, walk_in, with_node, chain_of, uid_of, node_at, only_segment, segment_at, there_or, walked, kst_at, who_at, Want, Refer, Truncate, Other, Around, cut_page, runner_by, runner_of, want_by, want_in, want_known, want_lengthened, want_of, want_of_command, want_truncated, Processor}
 use Rattle.script.specs.declared.commands.Command.TheVariants as command
-use Rattle.script.specs.declared.commands.Reference.{Reference}
-use Rattle.book.specs.declared.replies.Reply.{Reply}
 use Rattle.book.specs.declared.replies.Reply.TheVariants as reply
-use Rattle.tree_model.specs.Access.{access_of}
-use Rattle.tree_model.specs.Tree.{Node, Walk, LeadsTo, above, branch_in, is_branch, node_in, onward}
-use Rattle.tree_model.specs.Tree.{step_up, volume_in, walk_from, walk_in, with_node}
-use Rattle.dir_tree.specs.Nodes.{chain_of}
-use Rattle.known_segs.specs.Known.{uid_of}
-use Rattle.flat_model.specs.Branches.{node_at, only_segment, segment_at, there_or, walked}
-use Rattle.seg_control.specs.Control.{kst_at}
-use Rattle.storage_ops.specs.Shown.{who_at}
-use Rattle.machine_model.specs.Outline.{Want, Refer, Truncate, Other}
-use Rattle.machine_model.specs.Outlined.{Around, cut_page, runner_by, runner_of, want_by, want_in, want_known}
-use Rattle.machine_model.specs.Outlined.{want_lengthened}
-use Rattle.machine_model.specs.Outlined.{want_of, want_of_command, want_truncated}
-use Rattle.machine_model.specs.declared.Processor.{Processor}
 
 -- a node on another volume
 abbrev placed : (Node → ℕ) → Node → Node

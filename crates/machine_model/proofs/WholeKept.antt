@@ -1,21 +1,6 @@
 -- A job that makes a segment inactive takes it whole, and once all that it took is gone the segment may become
 -- inactive.
-use Rattle.std.proofs.Common.{◌≡◌, ◌≢◌, ℕ, true, false}
-use Rattle.std.proofs.Common.{List, [], Option, Some, None, refl, sym, ap}
-use Rattle.std.proofs.Common.{subst, ◌∙◌}
-use Rattle.custody_model.specs.Allowed.{MayDeactivate, superior_in}
-use Rattle.custody_model.specs.Custody.{is_going_descriptor, leads_to}
-use Rattle.tree_model.specs.Tree.{node_in}
-use Rattle.machine_model.specs.Holding.{holding, led_to, seen}
-use Rattle.machine_model.specs.Jobs.{segs_gone}
-use Rattle.machine_model.specs.Keeps.{Keeps}
-use Rattle.machine_model.specs.Reads.{cut_of_owner, descriptor_of, flat_of}
-use Rattle.machine_model.specs.Reads.{frames_of_owner, is_active}
-use Rattle.machine_model.specs.Seen.{cut_uid, descriptor_use}
-use Rattle.machine_model.specs.Seen.{shown}
-use Rattle.machine_model.specs.declared.CutDescriptor.{CutDescriptor}
-use Rattle.machine_model.specs.State.{State, Storage}
-use Rattle.machine_model.specs.Whole.{IsWhole, TakenWhole, going_for}
+use Rattle.machine_model.proofs.Prelude.{◌≡◌, ◌≢◌, ℕ, true, false, List, [], Option, Some, None, refl, sym, ap, subst, ◌∙◌, MayDeactivate, superior_in, is_going_descriptor, leads_to, node_in, holding, led_to, seen, segs_gone, Keeps, cut_of_owner, descriptor_of, flat_of, frames_of_owner, is_active, cut_uid, descriptor_use, shown, CutDescriptor, State, Storage, IsWhole, TakenWhole, going_for}
 use Rattle.machine_model.proofs.ActiveKept.{IsOver, segs_gone_rest}
 use Rattle.machine_model.proofs.TieLaws.{none_some}
 use Rattle.machine_model.proofs.WholeLaws.{no_page_left}

@@ -1,24 +1,12 @@
 -- What was taken whole stays so, entry by entry; and what of it is no more to go is gone.
-use Rattle.std.proofs.Common.{◌≡◌, ◌≢◌, ℕ, true, false, List, [], Option, Some, None, refl, sym, ap, subst, ◌∙◌}
-use Rattle.script.specs.Plans.{Plan}
-use Rattle.book.specs.declared.entries.Entry.{Entry}
+use Rattle.machine_model.proofs.Prelude.{◌≡◌, ◌≢◌, ℕ, true, false, List, [], Option, Some, None, refl, sym, ap, subst, ◌∙◌, Plan, Entry, Store, DescriptorUse, FrameUse, Custody, has, is_going_descriptor, is_going_frame, leads_to, page_of, uid_of_page, HasNoPage, custody_next, with_descriptor, IsOwned, frames_of_owner, Owner, State, IsWhole, Spares, TakenWhole, going_for, some_same}
 use Rattle.book.specs.declared.entries.Entry.TheVariants as entry
-use Rattle.flat_model.specs.Store.{Store}
-use Rattle.custody_model.specs.declared.DescriptorUse.{DescriptorUse}
 use Rattle.custody_model.specs.declared.DescriptorUse.TheVariants as descriptor
-use Rattle.custody_model.specs.declared.FrameUse.{FrameUse}
 use Rattle.custody_model.specs.declared.FrameUse.TheVariants as frame
-use Rattle.custody_model.specs.Custody.{Custody, cut, has, is_going_descriptor, is_going_frame, leads_to, page_of}
-use Rattle.custody_model.specs.Custody.{taken, uid_of_page}
-use Rattle.custody_model.specs.Effects.{HasNoPage}
-use Rattle.custody_model.specs.Next.{custody_next, with_descriptor, with_frame}
-use Rattle.machine_model.specs.Custodial.{IsOwned}
-use Rattle.machine_model.specs.Reads.{frames_of_owner}
-use Rattle.machine_model.specs.State.{Owner, State}
-use Rattle.machine_model.specs.Whole.{IsWhole, Spares, TakenWhole, going_for}
+use Rattle.custody_model.specs.Custody.{cut, taken}
+use Rattle.custody_model.specs.Next.{with_frame}
 use Rattle.machine_model.proofs.Places.{by_place, by_places}
 use Rattle.machine_model.proofs.TieLaws.{none_some}
-use Rattle.laws.proofs.Options.{some_same}
 
 -- one frame is used otherwise: for nothing of the segment, or for what is going
 frame_whole : (c : Custody) (u f : ℕ) (x : FrameUse) → IsWhole c u

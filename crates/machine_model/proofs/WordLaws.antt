@@ -1,20 +1,9 @@
 -- One page table word is changed: the words of all pages as a function.
-use Rattle.std.proofs.Common.{◌≡◌, ◌≢◌, ◌<◌, ℕ, Bool, true, false, not, List, [], length, set, get_or}
-use Rattle.std.proofs.Common.{Option, Some, None, inl, inr, refl, sym, ap, subst, ◌∙◌}
-use Rattle.std.specs.List.{position_or_len}
-use Rattle.std.proofs.lemmas.Bool.Decides.{eqb_tells, leb_tells}
-use Rattle.std.proofs.lemmas.List.{get_or_past}
-use Rattle.std.proofs.lemmas.List.Sums.{prefix_len_stops}
-use Rattle.page_table.specs.declared.Ptw.{Ptw}
+use Rattle.machine_model.proofs.Prelude.{◌≡◌, ◌≢◌, ◌<◌, ℕ, Bool, true, false, not, List, [], length, set, get_or, Option, Some, None, inl, inr, refl, sym, ap, subst, ◌∙◌, position_or_len, eqb_tells, leb_tells, get_or_past, prefix_len_stops, Ptw, ActiveSegs, is_for, place_of, word_of, table_of, worded, at_put_two, by_not}
 use Rattle.page_table.specs.declared.Ptw.TheVariants as ptw
 use Rattle.active_segs.specs.declared.Entry.{Entry}
-use Rattle.active_segs.specs.Active.{ActiveSegs}
-use Rattle.seg_control.specs.Control.{is_for, place_of, word_of, table_of}
-use Rattle.seg_control.specs.Effects.{worded}
-use Rattle.custody_model.specs.Next.{at_put_two}
 use Rattle.machine_model.proofs.ListLaws.{put_list}
 use Rattle.machine_model.proofs.Places.{put_other}
-use Rattle.laws.proofs.Bools.{by_not}
 
 -- what is found passes the test
 pub found : {X : Type 0} (p : X → Bool) (xs : List X) (d : X) → position_or_len p xs < length xs

@@ -1,55 +1,17 @@
 -- What the owner's job rests on stays so through every action.
-use Rattle.std.proofs.Common.{◌≡◌, ◌≤◌, ℕ, Bool, true, false, cond, List, [], ◌∷◌, ◌++◌}
-use Rattle.std.proofs.Common.{Option, Some, None, ◌⊎◌, inl, inr, refl, sym, ap, subst, ◌∙◌, arith, get_or, set}
-use Rattle.std.specs.Prelude.{nat_le, Result, Ok}
-use Rattle.std.proofs.lemmas.Bool.Decides.{leb_tells}
-use Rattle.script.specs.Plans.{Plan}
-use Rattle.script.specs.References.{reference_of}
-use Rattle.script.specs.declared.commands.Command.{Command}
+use Rattle.machine_model.proofs.Prelude.{◌≡◌, ◌≤◌, ℕ, Bool, true, false, cond, List, [], ◌∷◌, ◌++◌, Option, Some, None, ◌⊎◌, inl, inr, refl, sym, ap, subst, ◌∙◌, arith, get_or, set, nat_le, Result, Ok, leb_tells, Plan, reference_of, Command, Reference, Entry, Reply, Node, node_in, segment_at, store_after, is_stored, is_stored_from, length_of, length_reply, stored_from, is_filed, refusal, custody_after, Custody, custody_after-push, Mover, Core, reads_of, after_reference, frame_at, started_page, Aim, Phase, holding, Keeps, IsMovedFor, MovesForNext, MovesIn, Tables, tables_of, past_page, with_copy, flat_of, is_active, outside_refusal, refusal_of, uid_of_number, uid_of, kst_at, read_at, IsUnread, State, Storage, IsWhole, Spares, FailsBy, FailsIn, MayChange, MayFailBy, append-nil, append_assoc, Frame, not_both}
 use Rattle.script.specs.declared.commands.Command.TheVariants as command
-use Rattle.script.specs.declared.commands.Reference.{Reference}
-use Rattle.book.specs.declared.entries.Entry.{Entry}
-use Rattle.book.specs.declared.replies.Reply.{Reply}
 use Rattle.book.specs.declared.replies.Reply.TheVariants as reply
-use Rattle.tree_model.specs.Tree.{Node, node_in}
-use Rattle.flat_model.specs.Branches.{segment_at}
-use Rattle.flat_model.specs.Legal.{store_after}
-use Rattle.flat_model.specs.Pages.{is_stored, is_stored_from}
-use Rattle.flat_model.specs.Sizes.{length_of, length_reply}
-use Rattle.flat_model.proofs.PageLaws.{stored_from}
-use Rattle.storage_ops.specs.Shown.{is_filed, refusal}
-use Rattle.custody_model.specs.Clean.{custody_after}
-use Rattle.custody_model.specs.Custody.{Custody}
-use Rattle.custody_model.proofs.CleanLaws.{custody_after-push}
-use Rattle.seg_mover.specs.declared.Mover.{Mover}
-use Rattle.core_map.specs.CoreMap.{Core, reads_of, after_reference, frame_at, started_page, with_frame}
-use Rattle.machine_model.specs.declared.Aim.{Aim}
+use Rattle.core_map.specs.CoreMap.{with_frame}
 use Rattle.machine_model.specs.declared.Aim.TheVariants as aim
-use Rattle.machine_model.specs.declared.Phase.{Phase}
 use Rattle.machine_model.specs.declared.Phase.TheVariants as phase
-use Rattle.machine_model.specs.Holding.{holding}
-use Rattle.machine_model.specs.Keeps.{Keeps}
-use Rattle.machine_model.specs.Lacking.{IsMovedFor, MovesForNext, MovesIn, Tables, tables_of}
-use Rattle.machine_model.specs.Moves.{past_page, with_copy}
-use Rattle.machine_model.specs.Reads.{flat_of, is_active}
-use Rattle.machine_model.specs.Refusal.{outside_refusal, refusal_of, uid_of_number}
-use Rattle.known_segs.specs.Known.{uid_of}
-use Rattle.seg_control.specs.Control.{kst_at}
-use Rattle.seg_control.specs.Kept.{read_at}
-use Rattle.seg_control.specs.Moving.{IsUnread}
-use Rattle.machine_model.specs.State.{State, Storage}
-use Rattle.machine_model.specs.Whole.{IsWhole, Spares}
-use Rattle.machine_model.specs.Working.{FailsBy, FailsIn, MayChange, MayFailBy}
 use Rattle.machine_model.proofs.CommandFacts.{LeadsToSegment, length_stands, truncate_stands}
 use Rattle.machine_model.proofs.InsideLaws.{inside_is}
 use Rattle.machine_model.proofs.ListLaws.{map_list}
 use Rattle.machine_model.proofs.LookFacts.{FindsActive, FindsCut, FindsPage, IsAbout}
 use Rattle.machine_model.proofs.ReleaseSeen.{set_either}
 use Rattle.machine_model.proofs.WholeLaws.{whole_next}
-use Rattle.std.proofs.lemmas.List.{append-nil, append_assoc}
-use Rattle.core_map.specs.declared.Frame.{Frame}
 use Rattle.core_map.specs.declared.Frame.TheVariants as frame
-use Rattle.laws.proofs.Bools.{not_both}
 
 -- ---- entries that spare a segment
 

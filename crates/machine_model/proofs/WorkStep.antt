@@ -1,114 +1,38 @@
 -- After each action the owner's job rests on what it rested on, or has another.
-use Rattle.std.proofs.Common.{◌≡◌, ◌≢◌, ℕ, Bool, true, false, not, ◌&&◌, cond, eqb, is_some, List, [], ◌∷◌, ◌++◌}
-use Rattle.std.proofs.Common.{set, Option, Some, None, ◌⊎◌, inl, inr, refl, sym, ap, subst, ◌∙◌}
-use Rattle.std.proofs.lemmas.Bool.Decides.{eqb_tells}
-use Rattle.std.proofs.lemmas.List.{get_or-set_other, get_or-set_same, length-append}
-use Rattle.std.proofs.Common.{◌≤◌, ◌+◌, arith, length}
-use Rattle.seg_mover.specs.declared.Mover.{Mover}
-use Rattle.core_map.specs.CoreMap.{frame_at}
-use Rattle.core_map.specs.declared.Frame.TheVariants.{Bound, Free}
-use Rattle.machine_model.specs.declared.CutDescriptor.{CutDescriptor}
-use Rattle.machine_model.specs.Lacking.{IsMovedFor, MovesIn, tables_of}
-use Rattle.machine_model.specs.Moves.{copy_failed, move_begun, mover_to, moving, page_copied, past_page}
-use Rattle.machine_model.specs.Moves.{with_copy, with_move}
-use Rattle.machine_model.specs.Reads.{frames_of_owner}
-use Rattle.std.specs.Prelude.{◌%◌}
-use Rattle.script.specs.declared.commands.Reference.{Reference}
-use Rattle.page_control.specs.Effects.{referred, word_put}
-use Rattle.active_segs.specs.Active.{HasNoInferior, uid_at}
-use Rattle.script.specs.References.{alters, new_word}
-use Rattle.machine_model.specs.Jobs.{eviction_done, leaving_if, phase_signalled, with_choice, with_left}
-use Rattle.machine_model.specs.Refusal.{refusal_of, uid_of_command}
-use Rattle.machine_model.specs.Seen.{read_use}
-use Rattle.machine_model.specs.Steps.{old_word}
+use Rattle.machine_model.proofs.Prelude.{◌≡◌, ◌≢◌, ℕ, Bool, true, false, not, ◌&&◌, cond, eqb, is_some, List, [], ◌∷◌, ◌++◌, set, Option, Some, None, ◌⊎◌, inl, inr, refl, sym, ap, subst, ◌∙◌, eqb_tells, get_or-set_other, get_or-set_same, length-append, ◌≤◌, ◌+◌, arith, length, Mover, frame_at, Bound, Free, CutDescriptor, IsMovedFor, MovesIn, tables_of, copy_failed, move_begun, mover_to, moving, page_copied, past_page, with_copy, with_move, frames_of_owner, ◌%◌, Reference, referred, word_put, HasNoInferior, uid_at, alters, new_word, eviction_done, leaving_if, phase_signalled, with_choice, with_left, refusal_of, uid_of_command, read_use, old_word, command_at, Command, What, Entry, Reply, Node, node_in, Transfer, Left, words_in, Segment, AccountMaps, Plain, is_for, word_of, IsUnread, is_out, list_any, first_off_chain, hand_past, is_stored, word_reply, Store, is_stored-without, is_filed, superior_in, Phase, Processor, Run, any_page, Outcome, after, committed_at, holding, seen, deactivation_begun, emptied, entries_left, eviction_begun, left_of, owner_signalled, page_done, page_in, segment_taken, signalled, took, victim_taken, with_hand_moved, without_first_frame, write_failed, Keeps, IsMachine, cpu_at, cut_of_owner, flat_of, frame_reading, frames_from, is_active, next_command, no_processor, no_run, or_zero, process_at, run_at, trailers_in, without_left, frame_use, Owner, State, Storage, fault_told, frame_lost, looking, pages_after, told, transfer_failed, transferred, with_faults, with_pages, with_store, TakenWhole, goes_in, going_for, GoesJust, IsTakenBy, TakenIn, AreNumbered, OwnsFew, FailsIn, IsLeaf, IsWorking, MayFailBy, TakesSome, append_assoc, some_same}
 use Rattle.machine_model.proofs.CommandFacts.{LeadsToSegment, length_stands}
-use Rattle.machine_model.proofs.EmptyAsks.{hand_says}
+use Rattle.machine_model.proofs.EmptyAsks.{hand_says, segment_inferiors, unread_any}
 use Rattle.machine_model.proofs.LeafLaws.{leaf_inferiors, victim_leaf}
 use Rattle.machine_model.proofs.ListLaws.{within_by}
 use Rattle.machine_model.proofs.LookFacts.{FindsActive, FindsFull, FindsVictim}
-use Rattle.machine_model.proofs.StepKept.{hand_kept}
+use Rattle.machine_model.proofs.StepKept.{hand_kept, IsMine}
 use Rattle.machine_model.proofs.TransferKept.{active_at}
-use Rattle.machine_model.proofs.WorkKept.{about_fails, length_fails, page_fails}
-use Rattle.script.specs.Plans.{command_at}
-use Rattle.script.specs.declared.commands.Command.{Command}
-use Rattle.assoc_mem.specs.declared.What.{What}
+use Rattle.machine_model.proofs.WorkKept.{about_fails, length_fails, page_fails, AllSpare, IsLess, fails_in_less, fails_less, whole_on, frame_less, moved_on, moves_in_on, past_moved, referred_less, same_less, unread_less}
 use Rattle.assoc_mem.specs.declared.What.TheVariants as what
-use Rattle.book.specs.declared.entries.Entry.{Entry}
 use Rattle.book.specs.declared.entries.Entry.TheVariants as entry
-use Rattle.book.specs.declared.replies.Reply.{Reply}
 use Rattle.book.specs.declared.replies.Reply.TheVariants as reply
-use Rattle.tree_model.specs.Tree.{Node, node_in}
-use Rattle.processor.specs.declared.Transfer.{Transfer}
-use Rattle.page_control.specs.declared.Left.{Left}
 use Rattle.page_control.specs.declared.Left.TheVariants as left
-use Rattle.page_control.specs.Plain.{words_in}
-use Rattle.active_segs.specs.declared.Entry.{Entry as Segment}
-use Rattle.accounts.specs.Maps.{AccountMaps}
-use Rattle.page_control.specs.Plain.{Plain}
-use Rattle.seg_control.specs.Control.{is_for, word_of}
-use Rattle.seg_control.specs.Moving.{IsUnread}
 use Rattle.page_table.specs.declared.Ptw.TheVariants as ptw
-use Rattle.machine_model.specs.Custodial.{is_out}
 use Rattle.machine_model.proofs.OutLaws.{NoneOut, word_out}
-use Rattle.std.specs.List.{list_any}
-use Rattle.active_segs.specs.Victim.{first_off_chain, hand_past}
-use Rattle.flat_model.specs.Pages.{is_stored}
-use Rattle.flat_model.specs.References.{word_reply}
-use Rattle.flat_model.specs.Store.{Store}
-use Rattle.flat_model.proofs.PageLaws.{is_stored-without}
-use Rattle.storage_ops.specs.Shown.{is_filed}
-use Rattle.custody_model.specs.Allowed.{superior_in}
 use Rattle.custody_model.specs.declared.FrameUse.TheVariants as frame
 use Rattle.machine_model.specs.declared.Aim.TheVariants as aim
-use Rattle.machine_model.specs.declared.Phase.{Phase}
 use Rattle.machine_model.specs.declared.Phase.TheVariants as phase
-use Rattle.machine_model.specs.declared.Processor.{Processor}
-use Rattle.machine_model.specs.declared.Run.{Run}
 use Rattle.machine_model.specs.Actions as act
-use Rattle.machine_model.specs.Actions.{any_page}
-use Rattle.machine_model.specs.After.{Outcome, after}
-use Rattle.machine_model.specs.Commits.{committed_at}
-use Rattle.machine_model.specs.Holding.{holding, seen}
-use Rattle.machine_model.specs.Jobs.{deactivation_begun, emptied, entries_left, eviction_begun, left_of}
-use Rattle.machine_model.specs.Jobs.{owner_signalled}
-use Rattle.machine_model.specs.Jobs.{page_done, page_in, segment_taken, signalled, took}
-use Rattle.machine_model.specs.Jobs.{victim_taken, with_hand_moved, without_first_frame, write_failed}
-use Rattle.machine_model.specs.Keeps.{Keeps}
-use Rattle.machine_model.specs.Promise.{IsMachine}
-use Rattle.machine_model.specs.Reads.{cpu_at, cut_of_owner, flat_of, frame_reading, frames_from, is_active}
-use Rattle.machine_model.specs.Reads.{next_command, no_processor, no_run, or_zero, process_at, run_at}
-use Rattle.machine_model.specs.Reads.{trailers_in}
-use Rattle.machine_model.specs.Said.{without_left}
-use Rattle.machine_model.specs.Seen.{frame_use}
-use Rattle.machine_model.specs.State.{Owner, State, Storage}
-use Rattle.machine_model.specs.Steps.{fault_told, frame_lost, looking, pages_after, told, transfer_failed}
-use Rattle.machine_model.specs.Steps.{transferred, with_faults, with_pages, with_store}
-use Rattle.machine_model.specs.Whole.{TakenWhole, goes_in, going_for}
-use Rattle.machine_model.specs.Taking.{GoesJust, IsTakenBy, TakenIn}
-use Rattle.machine_model.specs.Working.{AreNumbered, OwnsFew, FailsIn, IsLeaf, IsWorking, MayFailBy, TakesSome}
-use Rattle.machine_model.proofs.EmptyAsks.{segment_inferiors, unread_any}
 use Rattle.machine_model.proofs.JustLaws.{AllStay, LeavesTaken, just_on, started_free, taken_in}
 use Rattle.machine_model.proofs.KeepLaws.{IsNoOwner}
 use Rattle.machine_model.proofs.ListSizes.{frames_from_few, trailers_few}
-use Rattle.machine_model.proofs.NumberLaws.{cut_signalled, less_few, signalled_few, took_few}
-use Rattle.machine_model.proofs.NumberLaws.{took_numbered}
+use Rattle.machine_model.proofs.NumberLaws.{cut_signalled, less_few, signalled_few, took_few, took_numbered}
 use Rattle.machine_model.proofs.OutlineTake.{HasTakenFrames, LooksLike, took_like, took_owner}
 use Rattle.machine_model.proofs.OwnedLaws.{IsIdle}
 use Rattle.machine_model.proofs.RuleKept.{IsLooking, IsMoving}
 use Rattle.machine_model.proofs.SaysLaws.{left_flat, cut_less}
 use Rattle.machine_model.proofs.ScheduleKept.{told_seats}
 use Rattle.machine_model.proofs.StandLaws.{stands_on}
-use Rattle.machine_model.proofs.StepKept.{IsMine}
 use Rattle.machine_model.proofs.TakeLists.{segment_takes}
 use Rattle.machine_model.proofs.TakeWhole.{begun_whole}
 use Rattle.machine_model.proofs.TieLaws.{none_some}
 use Rattle.machine_model.proofs.TookKept.{ArePairs}
 use Rattle.machine_model.proofs.WholeLaws.{started_spares, whole_idle}
-use Rattle.machine_model.proofs.WorkKept.{AllSpare, IsLess, fails_in_less, fails_less, whole_on}
-use Rattle.machine_model.proofs.WorkKept.{frame_less, moved_on, moves_in_on, past_moved, referred_less, same_less}
-use Rattle.machine_model.proofs.WorkKept.{unread_less}
-use Rattle.std.proofs.lemmas.List.{append_assoc}
-use Rattle.laws.proofs.Options.{some_same}
 
 -- ---- the owner makes nothing inactive
 

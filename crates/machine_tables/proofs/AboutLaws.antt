@@ -1,12 +1,5 @@
 -- What a path leads to, by its walk.
-use Rattle.std.proofs.Common.{◌≡◌, ℕ, true, false, is_some, List, Option, Some, None, refl, sym, ap, ◌∙◌}
-use Rattle.std.specs.Prelude.{Ok, Err}
-use Rattle.dir_tree.specs.Nodes.{path_answer}
-use Rattle.dir_tree.specs.declared.node.PathFault.{PathFault}
-use Rattle.tree_model.specs.Tree.{InSegment, LeadsTo, Missing, Node, Walk, node_in, walk_in}
-use Rattle.flat_model.specs.Branches.{node_at, there_or, walked}
-use Rattle.machine_model.specs.Refusal.{uid_of_node}
-use Rattle.tree_model.proofs.SharedLaws.{found_uid}
+use Rattle.machine_tables.proofs.Prelude.{◌≡◌, ℕ, true, false, is_some, List, Option, Some, None, refl, sym, ap, ◌∙◌, Ok, Err, path_answer, PathFault, InSegment, LeadsTo, Missing, Node, Walk, node_in, walk_in, node_at, there_or, walked, uid_of_node, found_uid}
 
 led_to : (ns : List Node) (w : Walk) (u : ℕ) → Ok u ≡ path_answer w → is_some (node_in ns u) ≡ true
     → u ≡ uid_of_node (walked ns w)

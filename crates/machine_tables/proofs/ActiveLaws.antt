@@ -1,14 +1,5 @@
 -- A segment is active where a search finds it.
-use Rattle.std.proofs.Common.{◌≡◌, ℕ, Bool, true, false, is_some, List, Option, Some, None, refl, sym, ap, ◌∙◌}
-use Rattle.std.specs.Prelude.{◌↔◌}
-use Rattle.active_segs.specs.Active.{ActiveSegs, uid_at}
-use Rattle.seg_control.specs.Control.{place_of}
-use Rattle.machine_model.specs.Actions.{EmptyVictim, any_page, empty_victim, unless_read}
-use Rattle.machine_model.specs.Reads.{frame_reading, is_active, or_zero}
-use Rattle.machine_model.specs.State.{Storage}
-use Rattle.machine_model.proofs.ActiveSeen.{active_place}
-use Rattle.machine_model.proofs.TieLaws.{none_some}
-use Rattle.machine_model.proofs.TransferKept.{active_at}
+use Rattle.machine_tables.proofs.Prelude.{◌≡◌, ℕ, Bool, true, false, is_some, List, Option, Some, None, refl, sym, ap, ◌∙◌, ◌↔◌, ActiveSegs, uid_at, place_of, EmptyVictim, any_page, empty_victim, unless_read, frame_reading, is_active, or_zero, Storage, active_place, none_some, active_at}
 
 pub search_tells : (ast : ActiveSegs) (u : ℕ) (o : Option ℕ)
     → ((place : ℕ) → (o ≡ Some place) ↔ (uid_at ast.entries place ≡ Some u)) → is_some o ≡ is_active ast u

@@ -1,25 +1,6 @@
 -- The next command of a process takes effect in the store of the tables.
-use Rattle.std.proofs.Common.{◌≡◌, ℕ, List, map, Option, Some, sym, ap, subst, ◌∙◌}
-use Rattle.script.specs.declared.commands.Command.{Command}
+use Rattle.machine_tables.proofs.Prelude.{◌≡◌, ℕ, List, map, Option, Some, sym, ap, subst, ◌∙◌, Command, Reference, Reply, effect_by, effect_of_tree_command, Store, IsReady, Shows, Stored, answered, frame_entry, IsFaithful, flat_of, frames_of_owner, next_command, reply_of, with_command, State, Storage, HasEffect, IsCommitted, effect_for, reply_for, left_entry, next_frame_entry, Parts, shown, IsApplicable, IsCommittedBut, IsReadyFor, OwnsFor}
 use Rattle.script.specs.declared.commands.Command.TheVariants as command
-use Rattle.script.specs.declared.commands.Reference.{Reference}
-use Rattle.book.specs.declared.replies.Reply.{Reply}
-use Rattle.flat_model.specs.Commands.{effect_by, effect_of_tree_command}
-use Rattle.flat_model.specs.Store.{Store}
-use Rattle.storage_ops.specs.Cut.{IsReady}
-use Rattle.storage_ops.specs.Shown.{Shows, Storage as Stored, answered}
-use Rattle.machine_model.specs.Commits.{frame_entry}
-use Rattle.machine_model.specs.Keeps.{IsFaithful}
-use Rattle.machine_model.specs.Reads.{flat_of, frames_of_owner, next_command}
-use Rattle.machine_model.specs.Refusal.{reply_of}
-use Rattle.machine_model.specs.Said.{with_command}
-use Rattle.machine_model.specs.State.{State, Storage}
-use Rattle.machine_tables.specs.Committed.{HasEffect, IsCommitted, effect_for, reply_for}
-use Rattle.machine_tables.specs.Gone.{left_entry, next_frame_entry}
-use Rattle.machine_tables.specs.Parts.{Parts, shown}
-use Rattle.machine_tables.specs.Ready.{IsApplicable}
-use Rattle.machine_tables.specs.Truncated.{IsCommittedBut}
-use Rattle.machine_model.specs.Ready.{IsReadyFor, OwnsFor}
 use Rattle.machine_tables.proofs.RefusalLaws.{shows_of}
 
 pub same_some : {X : Type 0} {x y : X} → Some x ≡ Some y → x ≡ y

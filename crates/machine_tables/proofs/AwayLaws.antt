@@ -1,25 +1,8 @@
 -- What a tree command must have out of use: pages that are here, and descriptors that lead to a segment.
-use Rattle.std.proofs.Common.{◌≡◌, ◌≢◌, ℕ, zero, suc, ◌+◌, ◌<◌, ◌≤◌, Bool, true, false, not, ◌||◌, cond}
-use Rattle.std.proofs.Common.{List, [], ◌∷◌, ◌++◌, map, length, get_or, drop, refl, sym, ap, ◌∙◌}
-use Rattle.std.proofs.Common.{arith, inl, inr}
-use Rattle.std.specs.Prelude.{◌/◌, ◌%◌}
-use Rattle.std.specs.List.{filter, range_with_len}
-use Rattle.std.proofs.lemmas.Bool.Decides.{eqb_tells}
-use Rattle.script.specs.declared.commands.Command.{Command}
-use Rattle.assoc_mem.specs.declared.What.{What}
-use Rattle.page_table.specs.declared.Ptw.{Ptw}
+use Rattle.machine_tables.proofs.Prelude.{◌≡◌, ℕ, zero, suc, ◌+◌, ◌<◌, ◌≤◌, Bool, true, false, not, ◌||◌, cond, List, [], ◌∷◌, ◌++◌, map, length, get_or, drop, refl, sym, ap, ◌∙◌, arith, inl, inr, ◌/◌, filter, range_with_len, eqb_tells, Command, What, Ptw, is_out, ActiveSegs, Core, table_of, bring_cut, descriptors_taken, first_taken, frames_taken, is_empty, take_or_commit, what_taken, frames_from, frames_in, here_in, is_active, State, Storage, inactive_blank, is_bare}
 use Rattle.page_table.specs.declared.Ptw.TheVariants as ptw
-use Rattle.page_control.specs.Tied.{is_out}
-use Rattle.active_segs.specs.Active.{ActiveSegs}
-use Rattle.core_map.specs.CoreMap.{Core}
-use Rattle.seg_control.specs.Control.{table_of}
 use Rattle.machine_model.specs.Actions as act
-use Rattle.machine_model.specs.Actions.{bring_cut, descriptors_taken, first_taken, frames_taken, is_empty, room_for}
-use Rattle.machine_model.specs.Actions.{take_or_commit, what_taken}
-use Rattle.machine_model.specs.Reads.{frames_from, frames_in, here_in, is_active}
-use Rattle.machine_model.specs.State.{State, Storage}
-use Rattle.machine_model.proofs.ActiveSeen.{inactive_blank}
-use Rattle.machine_tables.specs.Taken.{is_bare}
+use Rattle.machine_model.specs.Actions.{room_for}
 
 -- ---- of a segment that isn't active there is nothing
 

@@ -1,20 +1,6 @@
 -- What the owner took comes back, one after the other, or is gone.
-use Rattle.std.proofs.Common.{◌≡◌, ◌+◌, ◌-◌, ◌≤◌, ℕ, List, ◌∷◌, length, Option, Some, None, refl, sym, ap}
-use Rattle.std.proofs.Common.{subst, ◌∙◌, arith}
-use Rattle.std.specs.Prelude.{slice_get}
-use Rattle.machine_model.specs.declared.CutDescriptor.{CutDescriptor}
-use Rattle.machine_model.specs.Jobs.{page_back, pages_back, seg_back, seg_gone, segs_back, segs_gone}
-use Rattle.machine_model.specs.Jobs.{without_first_cut, without_first_frame}
-use Rattle.machine_model.specs.Reads.{cut_of_owner, frames_of_owner}
-use Rattle.machine_model.specs.State.{Owner, State}
-use Rattle.machine_tables.specs.Owned.{HasOwner}
-use Rattle.machine_tables.specs.Parts.{KeepsSeats}
-use Rattle.machine_model.specs.Returned.{MayComeBack, MayRelink}
-use Rattle.machine_model.proofs.MoverTied.{here_moving}
-use Rattle.machine_tables.proofs.JobLaws.{cuts_after, frames_next}
-use Rattle.machine_tables.proofs.JobLaws.{owner_left}
-use Rattle.machine_tables.proofs.JobLaws.{owner_less}
-use Rattle.machine_model.proofs.SaysLaws.{cut_less}
+use Rattle.machine_tables.proofs.Prelude.{◌≡◌, ◌+◌, ◌-◌, ◌≤◌, ℕ, List, ◌∷◌, length, Option, Some, None, refl, sym, ap, subst, ◌∙◌, arith, slice_get, CutDescriptor, page_back, pages_back, seg_back, seg_gone, segs_back, segs_gone, without_first_cut, without_first_frame, cut_of_owner, frames_of_owner, Owner, State, HasOwner, KeepsSeats, MayComeBack, MayRelink, here_moving, cut_less}
+use Rattle.machine_tables.proofs.JobLaws.{cuts_after, frames_next, owner_left, owner_less}
 
 -- what the owner took is gone through, one after the other: what is done to all that is left comes to the same
 pub record Empties {A : Type 0} (items : Option Owner → List A) (all : State → List A → State) (now first : State)

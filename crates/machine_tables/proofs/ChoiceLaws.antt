@@ -1,16 +1,5 @@
 -- The clock's choice, where no page is on its way out.
-use Rattle.std.proofs.Common.{◌≡◌, ℕ, true, false, List, Option, Some, refl, sym, ap, ◌∙◌}
-use Rattle.std.proofs.Math.ListN.{get_or-map}
-use Rattle.core_map.specs.declared.Frame.{Frame}
-use Rattle.core_map.specs.declared.Frame.TheVariants.{Free, Started, Bound}
-use Rattle.core_map.specs.CoreMap.{bound_page, is_bound}
-use Rattle.page_table.specs.declared.Ptw.TheVariants.{Here}
-use Rattle.active_segs.specs.Active.{ActiveSegs}
-use Rattle.page_control.specs.Plain.{binding_at, bindings, frame_in}
-use Rattle.seg_control.specs.Control.{word_of}
-use Rattle.machine_model.specs.Jobs.{page_in, page_or_zero}
-use Rattle.machine_model.specs.State.{Storage}
-use Rattle.machine_tables.specs.Taken.{AreHere}
+use Rattle.machine_tables.proofs.Prelude.{◌≡◌, ℕ, true, false, List, Option, Some, refl, sym, ap, ◌∙◌, get_or-map, Frame, Free, Started, Bound, bound_page, is_bound, Here, ActiveSegs, binding_at, bindings, frame_in, word_of, page_in, page_or_zero, Storage, AreHere}
 
 pub bound_is : (x : Frame) → is_bound x ≡ true → bound_page x ≡ Some (page_or_zero (bound_page x))
 bound_is Free h = absurd (let no : false ≡ true = h in cc)

@@ -1,36 +1,10 @@
 -- What a claim of a tree command names stays while pages are taken, and the descriptors of a process are cut in order.
-use Rattle.std.proofs.Common.{◌≡◌, ◌≢◌, ◌+◌, ◌-◌, ◌<◌, ◌≤◌, ℕ, suc, zero, Bool, true, false, cond}
-use Rattle.std.proofs.Common.{length}
-use Rattle.std.proofs.Common.{List, [], ◌∷◌, ◌++◌, map, set, Option, Some, None, refl, sym, ap, subst, ◌∙◌}
-use Rattle.std.proofs.Common.{arith}
-use Rattle.std.proofs.Common.{inl, inr, length-append}
-use Rattle.std.specs.Prelude.{filter, nat_le}
-use Rattle.std.specs.List.{range_with_len}
-use Rattle.std.proofs.lemmas.Bool.Decides.{nat_tests}
-use Rattle.std.proofs.lemmas.Bool.{cases_lt}
-use Rattle.std.proofs.lemmas.List.{get_or-set_other, get_or-set_same, get_or_past, length-set}
-use Rattle.assoc_mem.specs.declared.What.{What}
-use Rattle.script.specs.Forms.{is_command}
+use Rattle.machine_tables.proofs.Prelude.{◌≡◌, ◌≢◌, ◌+◌, ◌-◌, ◌<◌, ◌≤◌, ℕ, suc, zero, Bool, true, false, cond, length, List, [], ◌∷◌, ◌++◌, map, set, Option, Some, None, refl, sym, ap, subst, ◌∙◌, arith, inl, inr, length-append, filter, nat_le, range_with_len, nat_tests, cases_lt, get_or-set_other, get_or-set_same, get_or_past, length-set, What, is_command, Sdw, Fault, sdw_at, Links, leads_at, sdws_at, unlinked, Aim, cut_all, cut_one, take_all, took, connected_of, cut_of_owner, descriptor_of, is_connected, State, none_some, Cuts, cuts_in, HasOwner, Parts, with_state, take_cut, cut_long, cut_known}
 use Rattle.script.specs.declared.commands.Command.TheVariants as command
-use Rattle.descriptor_seg.specs.declared.Sdw.{Sdw}
-use Rattle.descriptor_seg.specs.declared.Sdw.TheVariants.{Fault}
-use Rattle.descriptor_seg.specs.Descriptors.{sdw_at}
-use Rattle.seg_control.specs.Control.{Links, leads_at, sdws_at}
-use Rattle.seg_control.specs.Effects.{unlinked}
-use Rattle.machine_model.specs.declared.Aim.{Aim}
-use Rattle.machine_model.specs.Jobs.{cut_all, cut_one, take_all, took}
-use Rattle.machine_model.specs.Reads.{connected_of, cut_of_owner, descriptor_of, is_connected}
-use Rattle.machine_model.specs.State.{State}
-use Rattle.machine_model.proofs.TieLaws.{none_some}
-use Rattle.machine_tables.specs.declared.claiming.Cuts.{Cuts}
 use Rattle.machine_tables.specs.declared.claiming.Cuts.TheVariants as cuts
-use Rattle.machine_tables.specs.Claimed.{cuts_in, number_in}
-use Rattle.machine_tables.specs.Owned.{HasOwner}
-use Rattle.machine_tables.specs.Parts.{Parts, with_state}
+use Rattle.machine_tables.specs.Claimed.{number_in}
 use Rattle.machine_tables.proofs.TakeLaws.{owner_still, room_less}
 use Rattle.machine_tables.proofs.TookLaws.{links_still, trailers_still}
-use Rattle.machine_model.proofs.NumberLaws.{take_cut, cut_long}
-use Rattle.machine_model.proofs.OutlineTake.{cut_known}
 
 -- ---- while pages are taken
 

@@ -1,20 +1,5 @@
 -- The accounts' lists, by what is told of each segment.
-use Rattle.std.proofs.Common.{◌≡◌, ◌≢◌, ℕ, suc, ◌<◌, true, false, eqb, List, [], ◌∷◌, length, get_or, ext_get_or}
-use Rattle.std.proofs.Common.{if◌then◌else◌, inl, inr, refl, sym, ap, subst, ◌∙◌, arith}
-use Rattle.std.specs.Prelude.{Result, Ok}
-use Rattle.std.proofs.lemmas.Bool.{cases_Bool, cases_eq, ne_eqb}
-use Rattle.accounts.specs.Maps.{AccountMaps, HasColumns, Recounts, count_of}
-use Rattle.tree_model.specs.Tree.{Node}
-use Rattle.tree_model.specs.Trees.{has_segment}
-use Rattle.quota_cells.specs.Accounts.{has, look, with_value}
-use Rattle.quota_cells.specs.Cells.{IsRising}
-use Rattle.quota_cells.proofs.ColumnLaws.{length_with, look_with, look_with_other}
-use Rattle.quota_cells.proofs.PlaceLaws.{has_at, look_at}
-use Rattle.page_control.specs.declared.Left.{Left}
-use Rattle.page_control.specs.declared.Left.TheVariants.{Kept, Released}
-use Rattle.storage_ops.specs.Paged.{IsSettled}
-use Rattle.machine_model.specs.Jobs.{accounts_left}
-use Rattle.laws.proofs.Rising.{first_less, first_once, place_there, rest_rises}
+use Rattle.machine_tables.proofs.Prelude.{◌≡◌, ◌≢◌, ℕ, ◌<◌, true, false, eqb, List, [], ◌∷◌, length, get_or, ext_get_or, if◌then◌else◌, inl, inr, refl, sym, ap, subst, ◌∙◌, arith, Result, Ok, cases_eq, ne_eqb, AccountMaps, HasColumns, Recounts, count_of, Node, has_segment, has, look, with_value, IsRising, length_with, look_with, look_with_other, has_at, look_at, Left, Kept, Released, IsSettled, accounts_left, first_less, first_once, rest_rises}
 
 -- ---- rising uids
 

@@ -1,17 +1,6 @@
 -- The command that a process comes to: its numbers are in their ranges.
-use Rattle.std.proofs.Common.{◌≡◌, ◌<◌, ℕ, true, length, Option, Some, None, arith}
-use Rattle.std.proofs.Common.{refl, ap, sym, subst, ◌∙◌, ◌≤◌}
-use Rattle.std.specs.Prelude.{IfSome, nat_le}
-use Rattle.std.proofs.lemmas.Bool.{and_parts}
-use Rattle.std.proofs.lemmas.Bool.Decides.{nat_tests}
-use Rattle.script.specs.Forms.{IsPlan, is_command, is_place}
-use Rattle.script.specs.Plans.{Plan, command_at}
-use Rattle.script.specs.References.{reference_of}
-use Rattle.script.specs.declared.commands.Command.{Command}
+use Rattle.machine_tables.proofs.Prelude.{◌≡◌, ◌<◌, ℕ, true, length, Option, Some, None, arith, refl, ap, sym, subst, ◌∙◌, IfSome, nat_le, and_parts, nat_tests, IsPlan, is_command, is_place, Plan, command_at, reference_of, Command, Reference, refers, command_planned}
 use Rattle.script.specs.declared.commands.Command.TheVariants as command
-use Rattle.script.specs.declared.commands.Reference.{Reference}
-use Rattle.machine_tables.specs.Meant.{refers}
-use Rattle.flat_model.proofs.ScriptLaws.{command_planned}
 
 -- the number of a reference is one of 256
 small_in : (n offset : ℕ) (x r : Reference) → is_place n offset ≡ true → x.number ≡ n → Some x ≡ Some r → r.number < 256

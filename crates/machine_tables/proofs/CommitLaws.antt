@@ -1,40 +1,10 @@
 -- What a tree command changes of a store, exactly.
-use Rattle.std.proofs.Common.{◌≡◌, ℕ, Bool, true, false, not, cond, eqb, List, [], ◌∷◌, length, map, set}
-use Rattle.std.proofs.Common.{Option, None, refl, sym, ap, subst, ◌∙◌}
-use Rattle.std.specs.Prelude.{ℤ, Result, Ok, Err}
-use Rattle.std.specs.Int.{is_positive}
-use Rattle.std.specs.Int.RustNames.{unsigned_abs}
-use Rattle.mnames.specs.declared.modes.Mode.{Mode}
-use Rattle.mnames.specs.declared.rows.Row.{Row as Named}
-use Rattle.script.specs.Plans.{Plan}
-use Rattle.script.specs.declared.commands.Command.{Command}
+use Rattle.machine_tables.proofs.Prelude.{◌≡◌, ℕ, Bool, true, false, cond, List, [], ◌∷◌, length, map, set, Option, None, refl, sym, ap, subst, ◌∙◌, ℤ, Result, Ok, Err, is_positive, unsigned_abs, Mode, Named, Plan, Command, Reply, AccountMaps, Changes, HasColumns, look, number_for, with_number, getter_of, giver_of, Node, above, has_segment, branch_at, directory_at, node_at, only_directory, only_segment, segment_at, takes_effect, after_initiate, after_terminate, initiate_of, initiate_reply, initiated, row_with, Store, kst_at, Commits, HasLengthSet, HasMoved, HasRowSet, Shows, Stored, answered, with_known, segment_refuses, with_row_of, with_effect, IsFaithful, uid_at_path, uid_of_command, uid_of_node, HasEffect, IsCommitted, TakesEffect, shown, keeps_length, keeps_moved, keeps_one, keeps_rows, segment_map}
 use Rattle.script.specs.declared.commands.Command.TheVariants as command
-use Rattle.book.specs.declared.replies.Reply.{Reply}
 use Rattle.book.specs.declared.replies.Reply.TheVariants as reply
-use Rattle.accounts.specs.Maps.{AccountMaps, Changes, HasColumns}
-use Rattle.quota_cells.specs.Accounts.{look}
-use Rattle.known_segs.specs.Known.{number_for, with_number}
-use Rattle.tree_model.specs.Quotas.{getter_of, giver_of}
-use Rattle.tree_model.specs.Tree.{Node, above}
-use Rattle.tree_model.specs.Trees.{has_segment}
-use Rattle.flat_model.specs.Branches.{branch_at, directory_at, node_at, only_directory, only_segment, segment_at}
-use Rattle.flat_model.specs.Commands.{takes_effect}
-use Rattle.flat_model.specs.Naming.{after_initiate, after_terminate, initiate_of, initiate_reply, initiated}
-use Rattle.flat_model.specs.Rights.{row_with}
-use Rattle.flat_model.specs.Store.{Store}
-use Rattle.seg_control.specs.Control.{kst_at}
-use Rattle.storage_ops.specs.Cut.{Commits, HasLengthSet}
-use Rattle.storage_ops.specs.Shown.{HasMoved, HasRowSet, Shows, Storage as Stored, answered, with_known}
-use Rattle.flat_model.proofs.PathRefusals.{segment_refuses}
-use Rattle.tree_model.specs.Access.{with_row as with_row_of}
-use Rattle.machine_model.specs.Commits.{with_effect}
-use Rattle.machine_model.specs.Keeps.{IsFaithful}
-use Rattle.machine_model.specs.Refusal.{uid_at_path, uid_of_command, uid_of_node}
-use Rattle.machine_tables.specs.Committed.{HasEffect, IsCommitted, TakesEffect}
-use Rattle.machine_tables.specs.Parts.{shown}
 use Rattle.machine_tables.proofs.ColumnLaws.{columns_same, maps_same, rising_same}
 use Rattle.machine_tables.proofs.RefusalLaws.{shows_of}
-use Rattle.flat_model.proofs.KeepLaws.{Keeps, keeps_length, keeps_moved, keeps_one, keeps_rows, segment_map}
+use Rattle.flat_model.proofs.KeepLaws.{Keeps}
 
 -- ---- what a path leads to
 

@@ -1,22 +1,8 @@
 -- A tree command takes effect: the steps of the whole come to the model's.
-use Rattle.std.proofs.Common.{◌≡◌, ℕ, Bool, true, false, if◌then◌else◌, List, [], ◌∷◌, ◌++◌, map, Option, Some, None}
-use Rattle.std.proofs.Common.{refl, sym, ap, ◌∙◌}
-use Rattle.script.specs.declared.commands.Command.{Command}
+use Rattle.machine_tables.proofs.Prelude.{◌≡◌, ℕ, Bool, true, false, if◌then◌else◌, List, [], ◌∷◌, ◌++◌, map, Option, Some, None, refl, sym, ap, ◌∙◌, Command, Reply, committed_at, cut_entry, frame_entry, gone_entries, inactive_entries, left_after, with_effect, cpu_at, cut_of_owner, frames_of_owner, is_active, next_command, or_zero, process_at, reply_of, uid_of_command, Owner, State, Storage, booked, left_at, told_by, with_owner, with_store, effect_for, reply_for, ends_in, goes_inactive, inactive_entry, left_entries, left_entry, next_frame_entry, Parts, with_state}
 use Rattle.script.specs.declared.commands.Command.TheVariants as command
 use Rattle.book.specs.declared.entries.Entry.{Entry}
 use Rattle.book.specs.declared.entries.Entry.TheVariants as entry
-use Rattle.book.specs.declared.replies.Reply.{Reply}
-use Rattle.machine_model.specs.Commits.{committed_at, cut_entry, frame_entry, gone_entries}
-use Rattle.machine_model.specs.Commits.{inactive_entries, left_after, with_effect}
-use Rattle.machine_model.specs.Reads.{cpu_at, cut_of_owner, frames_of_owner, is_active, next_command, or_zero}
-use Rattle.machine_model.specs.Reads.{process_at}
-use Rattle.machine_model.specs.Refusal.{reply_of, uid_of_command}
-use Rattle.machine_model.specs.State.{Owner, State, Storage}
-use Rattle.machine_model.specs.Steps.{booked, left_at, told_by, with_owner, with_store}
-use Rattle.machine_tables.specs.Committed.{effect_for, reply_for}
-use Rattle.machine_tables.specs.Gone.{ends_in, goes_inactive, inactive_entry, left_entries, left_entry}
-use Rattle.machine_tables.specs.Gone.{next_frame_entry}
-use Rattle.machine_tables.specs.Parts.{Parts, with_state}
 
 -- ---- entries
 

@@ -1,35 +1,8 @@
 -- A page that is made: what the store asks, and what the tables have then.
-use Rattle.std.proofs.Common.{◌≡◌, ℕ, ◌+◌, Bool, cond, map, List, Option, Some, None, refl, sym, ap, subst}
-use Rattle.std.proofs.Common.{◌∙◌, arith}
-use Rattle.std.specs.Prelude.{Result, Ok}
-use Rattle.script.specs.Plans.{Plan}
-use Rattle.script.specs.declared.commands.Reference.{Reference}
-use Rattle.book.specs.declared.replies.Reply.{Reply}
+use Rattle.machine_tables.proofs.Prelude.{◌≡◌, ℕ, ◌+◌, Bool, cond, map, List, Option, Some, None, refl, sym, ap, subst, ◌∙◌, arith, Result, Ok, Plan, Reference, Reply, HasColumns, count_of, uid_of, Node, node_in, volume_in, is_volume_full, room_reply, room_for, Store, HasParts, plain, kst_at, IsKnownAs, IsPageMade, done_or, move_target, room_of, IsStore, Shows, Stored, pages_of, full_told, room_shown, IsFaithful, charged, with_created, flat_of, move_to, State, Storage, HasPlace, IsMakeable, shown, found_uid}
 use Rattle.book.specs.declared.replies.Reply.TheVariants as reply
-use Rattle.accounts.specs.Maps.{HasColumns, count_of}
-use Rattle.known_segs.specs.Known.{uid_of}
-use Rattle.tree_model.specs.Tree.{Node, node_in, volume_in}
-use Rattle.flat_model.specs.References.{is_volume_full, room_reply}
-use Rattle.flat_model.specs.Rooms.{room_for}
-use Rattle.flat_model.specs.Store.{Store}
-use Rattle.volumes.specs.Volumes.{HasParts}
-use Rattle.page_control.specs.Plain.{plain}
-use Rattle.seg_control.specs.Control.{kst_at}
-use Rattle.storage_ops.specs.Paged.{IsKnownAs, IsPageMade, done_or}
-use Rattle.storage_ops.specs.Rooms.{move_target, room_of}
-use Rattle.storage_ops.specs.Shown.{IsStore, Shows, Storage as Stored, pages_of}
-use Rattle.storage_ops.proofs.PageRoom.{full_told}
-use Rattle.storage_ops.proofs.RoomsFound.{room_shown}
-use Rattle.machine_model.specs.Keeps.{IsFaithful}
-use Rattle.machine_model.specs.Steps.{charged, with_created}
-use Rattle.machine_model.specs.Reads.{flat_of}
-use Rattle.machine_model.specs.Refusal.{move_to}
-use Rattle.machine_model.specs.State.{State, Storage}
-use Rattle.machine_tables.specs.Made.{HasPlace, IsMakeable}
-use Rattle.machine_tables.specs.Parts.{shown}
 use Rattle.machine_tables.proofs.ColumnLaws.{recounted}
 use Rattle.machine_tables.proofs.RefusalLaws.{moves_is, shows_of}
-use Rattle.tree_model.proofs.SharedLaws.{found_uid}
 
 -- where the segment must move first, by the tables of a store, is what the flat store says
 target_told : {D : Type 0} (drive : D → List (List ℕ)) (p : Plan) (flat : Store) (t : Stored D) (u : ℕ)

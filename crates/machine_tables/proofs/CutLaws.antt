@@ -1,33 +1,5 @@
 -- Descriptors of a segment that are cut one after the other.
-use Rattle.std.proofs.Common.{◌≡◌, ◌+◌, ◌<◌, ◌≤◌, ℕ, Bool, true, false, not, cond, count_by}
-use Rattle.std.proofs.Common.{List, [], ◌∷◌, length, get_or, Option, Some, None, refl, sym, ap, subst, ◌∙◌}
-use Rattle.std.proofs.Common.{arith, inl, inr, length-append}
-use Rattle.std.specs.Prelude.{nat_lt, slice_get}
-use Rattle.std.specs.List.{position_or_len}
-use Rattle.std.proofs.lemmas.Bool.{cases_lt, lt-ltb}
-use Rattle.std.proofs.lemmas.List.{get_or-set_same, get_or_past, nil_from_length}
-use Rattle.std.proofs.lemmas.List.Sums.{sum_by-cons}
-use Rattle.assoc_mem.specs.declared.What.{What}
-use Rattle.active_segs.specs.declared.Entry.{Entry}
-use Rattle.active_segs.specs.Active.{IsActive}
-use Rattle.descriptor_seg.specs.declared.Sdw.{Sdw}
-use Rattle.descriptor_seg.specs.declared.Sdw.TheVariants.{Fault}
-use Rattle.trailers.specs.Trailer.{leads_to, trailers_of, without_place, without_trailer}
-use Rattle.seg_control.specs.Control.{Links, leads, leads_at, place_of, sdws_at}
-use Rattle.seg_control.specs.Effects.{unlinked}
-use Rattle.seg_control.specs.Kept.{AreLinked}
-use Rattle.machine_model.specs.declared.Aim.{Aim}
-use Rattle.machine_model.specs.declared.CutDescriptor.{CutDescriptor}
-use Rattle.machine_model.specs.Jobs.{cut_all, cut_one, note_of}
-use Rattle.machine_model.specs.Reads.{cut_of_owner, descriptor_of, is_active, trailers_in}
-use Rattle.machine_model.specs.State.{State, Storage}
-use Rattle.machine_model.proofs.TieLaws.{none_some}
-use Rattle.machine_model.proofs.TransferKept.{active_at}
-use Rattle.machine_tables.specs.Owned.{HasOwner}
-use Rattle.machine_tables.specs.Taken.{IsOldest}
-use Rattle.laws.proofs.Numbers.{eqb_self}
-use Rattle.laws.proofs.Places.{shown_within}
-use Rattle.laws.proofs.Options.{times_one}
+use Rattle.machine_tables.proofs.Prelude.{◌≡◌, ◌+◌, ◌<◌, ◌≤◌, ℕ, Bool, true, false, not, cond, count_by, List, [], ◌∷◌, length, get_or, Option, Some, None, refl, sym, ap, subst, ◌∙◌, arith, inl, inr, length-append, nat_lt, slice_get, position_or_len, cases_lt, lt-ltb, get_or-set_same, get_or_past, nil_from_length, sum_by-cons, What, Entry, IsActive, Sdw, Fault, leads_to, trailers_of, without_place, without_trailer, Links, leads, leads_at, place_of, sdws_at, unlinked, AreLinked, Aim, CutDescriptor, cut_all, cut_one, note_of, cut_of_owner, descriptor_of, is_active, trailers_in, State, Storage, none_some, active_at, HasOwner, IsOldest, eqb_self, shown_within, times_one}
 
 -- ---- the oldest trailer
 

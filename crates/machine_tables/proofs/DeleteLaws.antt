@@ -1,38 +1,10 @@
 -- The pages of a node that is deleted: to drop them one after the other and to give all its records back at once come
 -- to the same, where the frames that they were in are free.
-use Rattle.std.proofs.Common.{◌≡◌, ◌≢◌, ◌<◌, ◌≤◌, ◌+◌, ◌-◌, ℕ, suc, zero, Bool, true, false, ◌||◌, cond, length}
-use Rattle.std.proofs.Common.{List, [], ◌∷◌, ◌++◌, get_or, set, ext_get_or, replicate, Option, Some, None, inl, inr}
-use Rattle.std.proofs.Common.{refl, sym, ap, ◌∙◌, arith}
-use Rattle.std.specs.List.{range_with_len}
-use Rattle.std.proofs.lemmas.Bool.{cases_eq, cases_lt, eq-eqb, ne_eqb}
-use Rattle.std.proofs.lemmas.List.{get_or-set_other, get_or-set_same, length-set, set-set}
+use Rattle.machine_tables.proofs.Prelude.{◌≡◌, ◌≢◌, ◌<◌, ◌≤◌, ◌+◌, ◌-◌, ℕ, suc, zero, Bool, true, false, ◌||◌, cond, length, List, [], ◌∷◌, ◌++◌, get_or, set, ext_get_or, replicate, Option, Some, None, inl, inr, refl, sym, ap, ◌∙◌, arith, range_with_len, cases_eq, cases_lt, eq-eqb, ne_eqb, get_or-set_other, get_or-set_same, length-set, set-set, Ptw, Here, Leaving, Null, Out, ptw_at, Frame, Free, Core, with_record, ActiveSegs, deactivated, table_at, Home, erased, framed, freed, unstored, Plain, entry_of, file_map_of, filed, flags_of, number_or_zero, record_of, vtoc_of, place_of, table_of, word_of, worded, Paged, page_cut, pages_cut, pages_in, frames_freed, Storage, none_some, word_within, OwnsAll, freed_length, given_twice, has_append}
 use lib.Seq.{set_out}
-use Rattle.page_table.specs.declared.Ptw.{Ptw}
-use Rattle.page_table.specs.declared.Ptw.TheVariants.{Here, Leaving, Null, Out}
-use Rattle.page_table.specs.PageTable.{ptw_at}
-use Rattle.core_map.specs.declared.Frame.{Frame}
-use Rattle.core_map.specs.declared.Frame.TheVariants.{Free}
-use Rattle.core_map.specs.CoreMap.{Core}
 use Rattle.custody_model.specs.Custody.{has}
-use Rattle.vtoc.specs.Vtoc.{Entry, records_in, with_record}
-use Rattle.active_segs.specs.Active.{ActiveSegs, deactivated, table_at}
-use Rattle.page_control.specs.declared.Home.{Home}
-use Rattle.page_control.specs.Effects.{erased, framed, freed, unstored}
-use Rattle.page_control.specs.Plain.{Plain, entry_of, file_map_of, filed, flags_of, number_or_zero}
-use Rattle.page_control.specs.Plain.{record_of, vtoc_of}
-use Rattle.seg_control.specs.Control.{place_of, table_of, word_of}
-use Rattle.seg_control.specs.Effects.{worded}
-use Rattle.storage_ops.specs.CutOff.{Paged, page_cut, pages_cut}
-use Rattle.storage_ops.specs.Shown.{pages_in}
-use Rattle.machine_model.specs.Commits.{frames_freed}
-use Rattle.machine_model.specs.State.{Storage}
-use Rattle.machine_model.proofs.TieLaws.{none_some}
-use Rattle.machine_model.proofs.WordLaws.{word_within}
-use Rattle.machine_model.specs.Ready.{OwnsAll}
+use Rattle.vtoc.specs.Vtoc.{Entry, records_in}
 use Rattle.machine_tables.proofs.TakeLaws.{table_worded}
-use Rattle.machine_model.proofs.DeleteKept.{freed_length}
-use Rattle.laws.proofs.Lists.{given_twice}
-use Rattle.custody_model.proofs.SharedLaws.{has_append}
 
 -- ---- flags
 

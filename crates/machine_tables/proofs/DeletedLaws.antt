@@ -1,60 +1,15 @@
 -- A node that is deleted, exactly.
-use Rattle.std.proofs.Common.{◌≡◌, ◌≢◌, ◌<◌, ℕ, ◌-◌, Bool, true, false, not, ◌&&◌, cond, eqb, is_some, length, map}
-use Rattle.std.proofs.Common.{count_by}
-use Rattle.std.proofs.Common.{List, [], ◌∷◌, get_or, Option, Some, None, refl, sym, ap, subst, ◌∙◌, arith, inl, inr}
-use Rattle.std.specs.Prelude.{Result, Ok, Err, filter}
-use Rattle.std.specs.List.{range_with_len}
-use Rattle.std.proofs.lemmas.Bool.{cases_eq, cases_lt, ne_eqb, eq-eqb}
-use Rattle.std.proofs.lemmas.List.{get_or_past, length-map}
-use Rattle.std.proofs.lemmas.List.Sums.{sum_by-cons}
-use Rattle.script.specs.Plans.{Plan}
+use Rattle.machine_tables.proofs.Prelude.{◌≡◌, ◌≢◌, ◌<◌, ℕ, ◌-◌, Bool, true, false, not, ◌&&◌, cond, eqb, is_some, length, map, count_by, List, [], ◌∷◌, get_or, Option, Some, None, refl, sym, ap, subst, ◌∙◌, arith, inl, inr, Result, Ok, Err, filter, range_with_len, cases_eq, cases_lt, ne_eqb, eq-eqb, get_or_past, length-map, sum_by-cons, Plan, Reply, HasColumns, count_of, InSegment, LeadsTo, Missing, Node, Walk, node_in, walk_in, without_node, branch_at, node_at, there_or, walked, takes_effect, after_delete, delete_of, delete_reply, deleted, without_stored, Store, Ptw, Leaving, Null, HasParts, Home, erased, Plain, filed, plain, vtoc_of, has_record, IsTied, is_for, place_of, table_of, word_of, IsKept, Commits, KeepsRest, Erases, paged, pages_cut, pages_from, IsStore, Shows, Stored, home_of, is_there, pages_in, branch_refuses, frames_freed, inactive_if, lost, with_deleted, with_effect, with_inactive, IsFaithful, is_active, uid_at_path, Storage, with_pages, active_place, within_some, none_some, active_at, word_within, IsCommitted, shown, OwnsAll, OwnsFor, found_uid}
 use Rattle.script.specs.declared.commands.Command.TheVariants as command
-use Rattle.book.specs.declared.replies.Reply.{Reply}
 use Rattle.book.specs.declared.replies.Reply.TheVariants as reply
-use Rattle.accounts.specs.Maps.{HasColumns, count_of}
-use Rattle.tree_model.specs.Tree.{InSegment, LeadsTo, Missing, Node, Walk, node_in, walk_in, without_node}
 use Rattle.tree_model.specs.Trees.{IsTree}
 use Rattle.custody_model.specs.Custody.{has}
-use Rattle.flat_model.specs.Branches.{branch_at, node_at, there_or, walked}
-use Rattle.flat_model.specs.Commands.{takes_effect}
-use Rattle.flat_model.specs.Making.{after_delete, delete_of, delete_reply, deleted}
-use Rattle.flat_model.specs.Pages.{without_stored}
-use Rattle.flat_model.specs.Store.{Store}
-use Rattle.page_table.specs.declared.Ptw.{Ptw}
-use Rattle.page_table.specs.declared.Ptw.TheVariants.{Leaving, Null}
 use Rattle.vtoc.specs.Vtoc.{Entry, uid_of}
-use Rattle.volumes.specs.Volumes.{HasParts}
-use Rattle.page_control.specs.declared.Home.{Home}
-use Rattle.page_control.specs.Effects.{erased}
-use Rattle.page_control.specs.Plain.{Plain, filed, plain, vtoc_of}
-use Rattle.page_control.specs.Tied.{has_record, uid_at}
-use Rattle.page_control.specs.Ties.{IsTied}
-use Rattle.seg_control.specs.Control.{is_for, place_of, table_of, word_of}
-use Rattle.seg_control.specs.Kept.{IsKept}
-use Rattle.storage_ops.specs.Cut.{Commits, KeepsRest}
-use Rattle.storage_ops.specs.CutOff.{Erases, paged, pages_cut, pages_from}
-use Rattle.storage_ops.specs.Shown.{IsStore, Shows, Storage as Stored, home_of, is_there, pages_in}
-use Rattle.flat_model.proofs.PathRefusals.{branch_refuses}
-use Rattle.machine_model.specs.Commits.{frames_freed, inactive_if, lost, with_deleted, with_effect}
-use Rattle.machine_model.specs.Jobs.{with_inactive}
-use Rattle.machine_model.specs.Keeps.{IsFaithful}
-use Rattle.machine_model.specs.Reads.{is_active}
-use Rattle.machine_model.specs.Refusal.{uid_at_path}
-use Rattle.machine_model.specs.State.{Storage}
-use Rattle.machine_model.specs.Steps.{with_pages}
-use Rattle.machine_model.proofs.ActiveSeen.{active_place, within_some}
-use Rattle.machine_model.proofs.TieLaws.{none_some}
-use Rattle.machine_model.proofs.TransferKept.{active_at}
-use Rattle.machine_model.proofs.WordLaws.{word_within}
-use Rattle.machine_tables.specs.Committed.{IsCommitted}
-use Rattle.machine_tables.specs.Parts.{shown}
-use Rattle.machine_model.specs.Ready.{OwnsAll, OwnsFor}
+use Rattle.page_control.specs.Tied.{uid_at}
 use Rattle.machine_tables.proofs.CommitLaws.{branch_node, branch_uid, flat_after}
-use Rattle.machine_tables.proofs.DeleteLaws.{IsNamed, IsUsed, cut_erased, cut_inactive, freed_alike}
-use Rattle.machine_tables.proofs.DeleteLaws.{freed_rest, owned_alike}
+use Rattle.machine_tables.proofs.DeleteLaws.{IsNamed, IsUsed, cut_erased, cut_inactive, freed_alike, freed_rest, owned_alike}
 use Rattle.machine_tables.proofs.GoneLaws.{entry_kept, lost_is}
 use Rattle.machine_tables.proofs.RefusalLaws.{shows_of}
-use Rattle.tree_model.proofs.SharedLaws.{found_uid}
 
 -- ---- stored pages of other segments
 

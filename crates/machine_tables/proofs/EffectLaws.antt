@@ -1,33 +1,7 @@
 -- A tree command that isn't refused takes effect, or tells what a node is like.
-use Rattle.std.proofs.Common.{◌≡◌, ℕ, ℤ, Bool, true, false, ◌&&◌, ◌==◌, nat_le, is_some, if◌then◌else◌, length}
-use Rattle.std.proofs.Common.{List, [], ◌∷◌, Option, Some, None, refl, sym, ◌∙◌}
-use Rattle.std.specs.Prelude.{Result, Ok, Err}
-use Rattle.std.specs.List.{list_any}
-use Rattle.mnames.specs.declared.rows.Row.{Row as Named}
-use Rattle.script.specs.Plans.{Plan}
-use Rattle.script.specs.declared.commands.Command.{Command}
+use Rattle.machine_tables.proofs.Prelude.{◌≡◌, ℕ, ℤ, Bool, true, false, ◌&&◌, ◌==◌, nat_le, is_some, if◌then◌else◌, length, List, [], ◌∷◌, Option, Some, None, refl, sym, ◌∙◌, Result, Ok, Err, list_any, Named, Plan, Command, Reply, takes_row, over_in, Node, Walk, LeadsTo, Missing, InSegment, above, branch_in, entries_on, is_inferior, node_in, walk_in, number_for, branch_at, done_at, node_at, only_directory, only_segment, parts_of, segment_at, directory_at, there_or, walked, reply_to_tree_command, takes_effect, delete_of, delete_reply, make_at, make_of, make_reply, initiate_of, initiate_reply, known_or_full, terminate_reply, is_stored_from, acl_of, acl_reply, done_or_over, move_of, move_reply, nodes_moved, length_of, length_reply, truncate_reply, Store, entries_of, known_uid, numbers_of, is_refusal, refusal, flat_of, refusal_of, reply_of, State, HasEffect}
 use Rattle.script.specs.declared.commands.Command.TheVariants as command
-use Rattle.book.specs.declared.replies.Reply.{Reply}
 use Rattle.book.specs.declared.replies.Reply.TheVariants as reply
-use Rattle.tree_model.specs.Access.{takes_row}
-use Rattle.tree_model.specs.Quotas.{over_in}
-use Rattle.tree_model.specs.Tree.{Node, Walk, LeadsTo, Missing, InSegment, above, branch_in, entries_on, is_inferior}
-use Rattle.tree_model.specs.Tree.{node_in, walk_in}
-use Rattle.known_segs.specs.Known.{number_for}
-use Rattle.flat_model.specs.Branches.{branch_at, done_at, node_at, only_directory, only_segment, parts_of, segment_at}
-use Rattle.flat_model.specs.Branches.{directory_at, there_or, walked}
-use Rattle.flat_model.specs.Commands.{reply_to_tree_command, takes_effect}
-use Rattle.flat_model.specs.Making.{delete_of, delete_reply, make_at, make_of, make_reply}
-use Rattle.flat_model.specs.Naming.{initiate_of, initiate_reply, known_or_full, terminate_reply}
-use Rattle.flat_model.specs.Pages.{is_stored_from}
-use Rattle.flat_model.specs.Rights.{acl_of, acl_reply, done_or_over, move_of, move_reply, nodes_moved}
-use Rattle.flat_model.specs.Sizes.{length_of, length_reply, truncate_reply}
-use Rattle.flat_model.specs.Store.{Store, entries_of, known_uid, numbers_of}
-use Rattle.storage_ops.specs.Shown.{is_refusal, refusal}
-use Rattle.machine_model.specs.Reads.{flat_of}
-use Rattle.machine_model.specs.Refusal.{refusal_of, reply_of}
-use Rattle.machine_model.specs.State.{State}
-use Rattle.machine_tables.specs.Committed.{HasEffect}
 
 -- it is a refusal, or takes effect
 record Does (r : Reply) : Type 0 where

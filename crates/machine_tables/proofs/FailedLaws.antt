@@ -1,14 +1,5 @@
 -- The write of a page failed: what was taken is back.
-use Rattle.std.proofs.Common.{◌≡◌, ℕ, List, [], ◌∷◌, Some, refl, sym, ap, ◌∙◌}
-use Rattle.std.specs.Prelude.{Result, Err}
-use Rattle.page_control.specs.declared.Left.{Left}
-use Rattle.machine_model.specs.declared.CutDescriptor.{CutDescriptor}
-use Rattle.machine_model.specs.After.{by_outcome}
-use Rattle.machine_model.specs.Jobs.{page_back, pages_back, seg_back, segs_back, write_failed}
-use Rattle.machine_model.specs.Reads.{cut_of_owner, frames_of_owner, process_at}
-use Rattle.machine_model.specs.State.{State}
-use Rattle.machine_model.specs.Steps.{fault_told}
-use Rattle.machine_tables.specs.Parts.{Parts, outcome_of, with_drives, with_state}
+use Rattle.machine_tables.proofs.Prelude.{◌≡◌, ℕ, List, [], ◌∷◌, Some, refl, sym, ap, ◌∙◌, Result, Err, Left, CutDescriptor, by_outcome, page_back, pages_back, seg_back, segs_back, write_failed, cut_of_owner, frames_of_owner, process_at, State, fault_told, Parts, outcome_of, with_drives, with_state}
 
 faults_pages : (s : State) (fs : List ℕ) → (pages_back s fs).faults ≡ s.faults
 faults_pages s [] = refl

@@ -1,39 +1,7 @@
 -- The tables at first: a store of the root alone on volumes of which nothing is in use.
-use Rattle.std.proofs.Common.{◌≡◌, ℕ, zero, suc, Bool, false, List, [], ◌∷◌, map, length, get_or, set, sum}
-use Rattle.std.proofs.Common.{replicate, Option, Some, None, refl, sym, ap, subst, ◌∙◌, arith}
-use Rattle.std.specs.Prelude.{slice_get}
-use Rattle.std.proofs.lemmas.List.{length-map, length-replicate}
-use Rattle.script.specs.Forms.{IsPlan}
-use Rattle.script.specs.Plans.{Plan}
-use Rattle.script.specs.declared.plan.VolumeLine.{VolumeLine}
-use Rattle.accounts.specs.Maps.{root_alone}
-use Rattle.flat_model.specs.Store.{Store, boot, entries_in, records_in}
-use Rattle.flat_model.proofs.BookLaws.{store_after-nil}
-use Rattle.vtoc.specs.Vtoc.{Entry as VtocEntry, entry_at, fresh_entry}
-use Rattle.bitmap.specs.Bitmap.{in_use}
+use Rattle.machine_tables.proofs.Prelude.{◌≡◌, ℕ, zero, suc, Bool, false, List, [], ◌∷◌, map, length, get_or, set, sum, replicate, Option, Some, None, refl, sym, ap, subst, ◌∙◌, arith, slice_get, length-map, length-replicate, IsPlan, Plan, VolumeLine, root_alone, Store, boot, entries_in, records_in, store_after-nil, VtocEntry, fresh_entry, in_use, HasParts, Vols, Entry, ActiveSegs, no_segments, after_asked, Plain, plain, vtoc_in, no_links, IsKept, AreFresh, IsStore, Shows, Stored, empty_frames, booted, first_pages, first_state, first_store, first_vtocs, unused_entries, unused_records, AllCome, AreAccounts, IsConserved, IsFaithful, StoreSays, KeepsAll, State, Storage, none_fits, conserved_by, boot_keeps_all, none_some, kept_with, none_work, first_words, shown}
+use Rattle.vtoc.specs.Vtoc.{entry_at}
 use Rattle.core_map.specs.declared.Frame.TheVariants as frame
-use Rattle.volumes.specs.Volumes.{HasParts, Vols}
-use Rattle.active_segs.specs.declared.Entry.{Entry}
-use Rattle.active_segs.specs.Active.{ActiveSegs, no_segments}
-use Rattle.page_control.specs.Effects.{after_asked}
-use Rattle.page_control.specs.Plain.{Plain, plain}
-use Rattle.page_control.specs.Tied.{vtoc_in}
-use Rattle.seg_control.specs.Effects.{no_links}
-use Rattle.seg_control.specs.Kept.{IsKept}
-use Rattle.storage_ops.specs.Shown.{AreFresh, IsStore, Shows, Storage as Stored, empty_frames}
-use Rattle.machine_model.specs.Boot.{booted, first_pages, first_state, first_store, first_vtocs, unused_entries}
-use Rattle.machine_model.specs.Boot.{unused_records}
-use Rattle.machine_model.specs.Foreseen.{AllCome}
-use Rattle.machine_model.specs.Keeps.{AreAccounts, IsConserved, IsFaithful, StoreSays}
-use Rattle.machine_model.specs.Promise.{KeepsAll}
-use Rattle.machine_model.specs.State.{State, Storage}
-use Rattle.machine_model.proofs.FitsKept.{none_fits}
-use Rattle.machine_model.proofs.FlatAlike.{conserved_by}
-use Rattle.machine_model.proofs.MachineBoot.{boot_keeps_all}
-use Rattle.machine_model.proofs.TieLaws.{none_some}
-use Rattle.machine_model.proofs.TransferKept.{kept_with}
-use Rattle.machine_model.proofs.WorkStep.{none_work}
-use Rattle.machine_tables.specs.Parts.{first_words, shown}
 
 -- ---- lists of nothing
 

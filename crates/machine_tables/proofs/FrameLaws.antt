@@ -1,26 +1,7 @@
 -- The frames of core: whether one is bound, and what the clock chooses then.
-use Rattle.std.proofs.Common.{◌≡◌, ◌<◌, ◌≤◌, ◌+◌, ◌-◌, ℕ, zero, suc, Bool, true, false, ◌||◌, cond}
-use Rattle.std.proofs.Common.{List, [], ◌∷◌, ◌++◌}
-use Rattle.std.proofs.Common.{length, get_or, position, Option, Some, None}
-use Rattle.std.proofs.Common.{refl, sym, ap, ◌∙◌, arith, inl, inr}
-use Rattle.std.specs.List.{All, find, list_any, position_or_len, range_with_len}
-use Rattle.std.proofs.lemmas.Bool.{cases_lt}
-use Rattle.std.proofs.lemmas.List.Elements.{All-get_or}
-use Rattle.std.proofs.lemmas.List.FromFn.{get_or-range_with_len, length-range_with_len}
-use Rattle.core_map.specs.declared.Frame.{Frame}
-use Rattle.core_map.specs.declared.Frame.TheVariants.{Free, Started, Bound}
-use Rattle.core_map.specs.CoreMap.{Core, bound_page, frame_at, is_bound, is_free, is_started}
-use Rattle.core_map.specs.Clock.{clock_choice, is_idle, or_else, round_frames}
+use Rattle.machine_tables.proofs.Prelude.{◌≡◌, ◌<◌, ◌≤◌, ◌+◌, ◌-◌, ℕ, zero, suc, Bool, true, false, ◌||◌, cond, List, [], ◌∷◌, ◌++◌, length, get_or, position, Option, Some, None, refl, sym, ap, ◌∙◌, arith, inl, inr, All, find, list_any, position_or_len, range_with_len, cases_lt, All-get_or, get_or-range_with_len, length-range_with_len, Frame, Free, Started, Bound, Core, bound_page, frame_at, is_bound, is_free, is_started, clock_choice, is_idle, or_else, round_frames, evict_or_wait, unless_read, or_zero, any_at, some_within, choice_bound, map_list, none_some, found, bound_is}
 use Rattle.machine_model.specs.Actions as act
-use Rattle.machine_model.specs.Actions.{evict_or_wait, unless_read}
-use Rattle.machine_model.specs.Reads.{or_zero}
-use Rattle.machine_model.proofs.ActiveSeen.{any_at, some_within}
-use Rattle.machine_model.proofs.FindLaws.{choice_bound}
-use Rattle.machine_model.proofs.ListLaws.{map_list}
-use Rattle.machine_model.proofs.TieLaws.{none_some}
-use Rattle.machine_model.proofs.WordLaws.{found}
 use Rattle.machine_tables.proofs.ReadingLaws.{position_first}
-use Rattle.machine_model.proofs.Returnable.{bound_is}
 
 -- ---- the clock
 

@@ -1,17 +1,5 @@
 -- The accounts' lists once a node is added, or is taken out.
-use Rattle.std.proofs.Common.{◌≡◌, ℕ, Bool, true, false, not, ◌||◌, cond, eqb, List, [], ◌∷◌, length}
-use Rattle.std.proofs.Common.{inl, inr, refl, sym, ap, subst, ◌∙◌, arith}
-use Rattle.std.specs.List.{insert}
-use Rattle.std.proofs.lemmas.Bool.{cases_eq, eq-eqb, ne_eqb}
-use Rattle.std.proofs.lemmas.List.Edits.{length-insert}
-use Rattle.accounts.specs.Maps.{AccountMaps, HasColumns, count_of}
-use Rattle.tree_model.specs.Tree.{Node}
-use Rattle.tree_model.specs.Trees.{AreBelow, has_segment}
-use Rattle.quota_cells.specs.Accounts.{has, look, with_beside}
-use Rattle.quota_cells.specs.Cells.{IsRising}
-use Rattle.quota_cells.specs.Columns.{IsGap}
-use Rattle.quota_cells.proofs.EditLaws.{has_insert, look_insert, rising_insert}
-use Rattle.quota_cells.proofs.RowLaws.{gap_of, insert_beside}
+use Rattle.machine_tables.proofs.Prelude.{◌≡◌, ℕ, Bool, true, false, not, ◌||◌, cond, eqb, List, [], ◌∷◌, length, inl, inr, refl, sym, ap, subst, ◌∙◌, arith, insert, cases_eq, eq-eqb, ne_eqb, length-insert, AccountMaps, HasColumns, count_of, Node, AreBelow, has_segment, has, look, with_beside, IsRising, IsGap, has_insert, look_insert, rising_insert, gap_of, insert_beside}
 use Rattle.machine_tables.proofs.ColumnLaws.{columns_same, rising_same}
 
 -- ---- a uid more

@@ -1,29 +1,11 @@
 -- The accounts' lists once a node is taken out.
-use Rattle.std.proofs.Common.{◌≡◌, ◌≢◌, ℕ, ◌<◌, Bool, true, false, not, ◌&&◌, ◌||◌, cond, eqb, is_some, length}
-use Rattle.std.proofs.Common.{map}
-use Rattle.std.proofs.Common.{List, [], ◌∷◌, get_or, set, Option, Some, None, inl, inr, ◌⊎◌, refl, sym, ap, subst, ◌∙◌}
-use Rattle.std.proofs.Common.{arith}
-use Rattle.std.specs.List.{remove}
-use Rattle.std.proofs.lemmas.Bool.{cases_Bool, cases_eq, cases_lt, eq-eqb, eqb-true, ne_eqb}
-use Rattle.std.proofs.lemmas.List.{get_or-set_other, get_or-set_same}
-use Rattle.std.proofs.lemmas.List.Edits.{length-remove}
+use Rattle.machine_tables.proofs.Prelude.{◌≡◌, ◌≢◌, ℕ, ◌<◌, Bool, true, false, not, ◌&&◌, ◌||◌, cond, eqb, is_some, length, map, List, [], ◌∷◌, get_or, set, Option, Some, None, inl, inr, ◌⊎◌, refl, sym, ap, subst, ◌∙◌, arith, remove, cases_Bool, cases_eq, cases_lt, eq-eqb, eqb-true, ne_eqb, get_or-set_other, get_or-set_same, length-remove, AccountMaps, HasColumns, count_of, Node, node_in, without_node, AreBelow, has_segment, has, look, without_beside, IsRising, has_remove, look_remove, rising_remove, remove_beside, Home, vtoc_in, AreHoused, home_of, is_there, lost, none_some, all_left, joined_below, place_there}
 use lib.Seq.{set_out}
-use Rattle.accounts.specs.Maps.{AccountMaps, HasColumns, count_of, entry_of}
-use Rattle.tree_model.specs.Tree.{Node, node_in, without_node}
-use Rattle.tree_model.specs.Trees.{AreBelow, IsTree, has_segment}
-use Rattle.quota_cells.specs.Accounts.{has, look, without_beside}
-use Rattle.quota_cells.specs.Cells.{IsRising}
-use Rattle.quota_cells.proofs.EditLaws.{has_remove, look_remove, rising_remove}
-use Rattle.quota_cells.proofs.RowLaws.{remove_beside}
+use Rattle.accounts.specs.Maps.{entry_of}
+use Rattle.tree_model.specs.Trees.{IsTree}
 use Rattle.vtoc.specs.Vtoc.{Entry, uid_of}
-use Rattle.page_control.specs.declared.Home.{Home}
-use Rattle.page_control.specs.Tied.{uid_at, vtoc_in}
-use Rattle.storage_ops.specs.Shown.{AreHoused, home_of, is_there}
-use Rattle.machine_model.specs.Commits.{lost}
-use Rattle.machine_model.proofs.TieLaws.{none_some}
+use Rattle.page_control.specs.Tied.{uid_at}
 use Rattle.machine_tables.proofs.ColumnLaws.{columns_same, rising_same}
-use Rattle.tree_model.proofs.SharedLaws.{without_absent as all_left, joined_below}
-use Rattle.laws.proofs.Rising.{place_there}
 
 -- ---- a uid less
 

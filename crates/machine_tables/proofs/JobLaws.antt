@@ -1,13 +1,5 @@
 -- The lists of a job: what it took first, and what is left.
-use Rattle.std.proofs.Common.{◌≡◌, ◌<◌, ℕ, List, [], ◌∷◌, length, Option, Some, None, sym, ap, arith}
-use Rattle.std.specs.Prelude.{slice_get}
-use Rattle.machine_model.specs.declared.CutDescriptor.{CutDescriptor}
-use Rattle.machine_model.specs.Reads.{cut_of_owner, frames_of_owner}
-use Rattle.machine_model.specs.State.{Owner, State}
-use Rattle.machine_model.specs.Jobs.{rest_of, without_first_cut, without_first_frame}
-use Rattle.machine_model.proofs.TieLaws.{none_some}
-use Rattle.machine_tables.specs.Owned.{HasOwner}
-use Rattle.machine_tables.specs.Parts.{Parts}
+use Rattle.machine_tables.proofs.Prelude.{◌≡◌, ◌<◌, ℕ, List, [], ◌∷◌, length, Option, Some, None, sym, ap, arith, slice_get, CutDescriptor, cut_of_owner, frames_of_owner, Owner, State, rest_of, without_first_cut, without_first_frame, none_some, HasOwner, Parts}
 use Rattle.machine_tables.proofs.PartLaws.{Going}
 
 first_of : {A : Type 0} (xs : List A) (x : A) → slice_get xs 0 ≡ Some x → xs ≡ x ∷ rest_of xs

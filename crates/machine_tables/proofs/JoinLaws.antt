@@ -1,44 +1,8 @@
 -- The next segment of the chain of a node: which it is, its pool, and what becomes of it.
-use Rattle.std.proofs.Common.{◌≡◌, ℕ, suc, zero, ◌+◌, ◌-◌, ◌<◌, ◌≤◌, Bool, true, false, not, cond, is_none}
-use Rattle.std.proofs.Common.{List, [], ◌∷◌, length, map, get_or, Option, Some, None, refl, sym, ap, subst, ◌∙◌, arith}
-use Rattle.std.proofs.Common.{◌⊎◌, inl, inr}
-use Rattle.std.specs.Prelude.{IsSome}
-use Rattle.std.specs.List.{find, range_with_len}
-use Rattle.std.proofs.lemmas.List.{get_or-map, length-map}
-use Rattle.std.proofs.lemmas.List.FromFn.{get_or-range_with_len, length-range_with_len}
-use Rattle.accounts.specs.Maps.{AccountMaps}
-use Rattle.dir_tree.specs.Nodes.{chain_of}
-use Rattle.tree_model.specs.Tree.{Node, node_in}
+use Rattle.machine_tables.proofs.Prelude.{◌≡◌, ℕ, suc, zero, ◌+◌, ◌-◌, ◌<◌, ◌≤◌, Bool, true, false, not, cond, is_none, List, [], ◌∷◌, length, map, get_or, Option, Some, None, refl, sym, ap, subst, ◌∙◌, arith, ◌⊎◌, inl, inr, IsSome, find, range_with_len, length-map, get_or-range_with_len, length-range_with_len, AccountMaps, chain_of, Node, node_in, Entry, ActiveSegs, IsFull, IsLeastFree, entry_at, first_of, size_of, HasOneOffChain, first_off_chain, hand_moved, hand_past, map_at, Link, Next, Activated, Victim, Whole, place_of, IsInactive, AreActive, IsFirstInactive, link_at, made_active, no_link, superior_of, table_for, uids_of, HasOneToGo, IsChainDown, link_of, IsStore, home_of, is_there, link_pool, link_superior, link_there, found_there, pool_of_node, with_hand_moved, first_inactive, frames_from, free_place, is_active, or_zero, superior_of_node, trailers_in, Storage, with_active, active_place, find_true, none_some, active_at, FindsFull, Joins, JoinsAt, NeedsVictim, links_of, wanted_pool, IsEmptied, is_bare, some_not_none}
+use Rattle.std.proofs.lemmas.List.{get_or-map}
 use Rattle.tree_model.specs.Trees.{IsTree}
-use Rattle.active_segs.specs.declared.Entry.{Entry}
-use Rattle.active_segs.specs.Active.{ActiveSegs, IsFull, IsLeastFree, entry_at}
-use Rattle.active_segs.specs.Pool.{first_of, size_of}
-use Rattle.active_segs.specs.Victim.{HasOneOffChain, first_off_chain, hand_moved, hand_past}
-use Rattle.page_control.specs.Tied.{map_at}
-use Rattle.seg_control.specs.declared.Link.{Link}
-use Rattle.seg_control.specs.declared.Next.{Next}
-use Rattle.seg_control.specs.declared.Next.TheVariants.{Activated, Victim, Whole}
-use Rattle.seg_control.specs.Control.{place_of}
-use Rattle.seg_control.specs.Kept.{IsInactive}
-use Rattle.seg_control.specs.Next.{AreActive, IsFirstInactive, link_at, made_active, no_link, superior_of}
-use Rattle.seg_control.specs.Next.{table_for, uids_of, words_in}
-use Rattle.storage_ops.specs.Connecting.{HasOneToGo, IsChainDown, link_of}
-use Rattle.storage_ops.specs.Shown.{IsStore, home_of, is_there}
-use Rattle.storage_ops.proofs.ChainDown.{link_pool, link_superior, link_there}
-use Rattle.storage_ops.proofs.NodeLaws.{found_there}
-use Rattle.machine_model.specs.Actions.{pool_of_node}
-use Rattle.machine_model.specs.Jobs.{with_hand_moved}
-use Rattle.machine_model.specs.Reads.{first_inactive, frames_from, free_place, is_active, or_zero}
-use Rattle.machine_model.specs.Reads.{superior_of_node, trailers_in}
-use Rattle.machine_model.specs.State.{Storage}
-use Rattle.machine_model.specs.Steps.{with_active}
-use Rattle.machine_model.proofs.ActiveSeen.{active_place}
-use Rattle.machine_model.proofs.FindLaws.{find_true}
-use Rattle.machine_model.proofs.TieLaws.{none_some}
-use Rattle.machine_model.proofs.TransferKept.{active_at}
-use Rattle.machine_tables.specs.Activated.{FindsFull, Joins, JoinsAt, NeedsVictim, links_of, wanted_pool}
-use Rattle.machine_tables.specs.Taken.{IsEmptied, is_bare}
-use Rattle.machine_model.proofs.SharedLaws.{some_not_none}
+use Rattle.seg_control.specs.Next.{words_in}
 
 -- ---- what is found in a list
 

@@ -1,23 +1,7 @@
 -- How a page leaves its frame, and what comes back where it can't.
-use Rattle.std.proofs.Common.{◌≡◌, ◌↔◌, ◌-◌, ◌<◌, ℕ, suc, zero, length, get_or, Bool, true, false, cond, eqb}
-use Rattle.std.proofs.Common.{List, [], ◌∷◌}
-use Rattle.std.proofs.Common.{refl, sym, ap, subst, ◌∙◌, arith}
-use Rattle.std.specs.Prelude.{IfOk, OnErr, Result, Ok, Err}
-use Rattle.mword.specs.Words.{AreZero}
-use Rattle.page_control.specs.declared.Left.{Left}
-use Rattle.page_control.specs.declared.Left.TheVariants.{Kept, Released}
-use Rattle.accounts.specs.Maps.{AccountMaps, HasColumns}
-use Rattle.storage_ops.specs.Paged.{IsSettled}
-use Rattle.machine_model.specs.Jobs.{are_zeros, left_of, page_back, page_in, pages_back, with_left}
-use Rattle.machine_model.specs.Reads.{cut_of_owner, frames_of_owner}
-use Rattle.machine_model.specs.State.{State, Storage}
-use Rattle.machine_model.specs.Returned.{MayRelink, with_all_here}
-use Rattle.machine_model.specs.Steps.{with_store}
-use Rattle.machine_tables.specs.Parts.{Parts, with_accounts, with_drives, with_state}
+use Rattle.machine_tables.proofs.Prelude.{◌≡◌, ◌↔◌, ◌<◌, ℕ, suc, zero, length, get_or, Bool, true, false, cond, eqb, List, [], ◌∷◌, refl, sym, ap, subst, ◌∙◌, arith, IfOk, OnErr, Result, Ok, Err, AreZero, Left, Kept, Released, AccountMaps, HasColumns, IsSettled, are_zeros, left_of, page_back, page_in, pages_back, with_left, cut_of_owner, frames_of_owner, State, Storage, MayRelink, with_all_here, with_store, Parts, with_accounts, with_drives, with_state, zero_word, zeros_to}
 use Rattle.machine_tables.proofs.ColumnLaws.{settled_is}
 use Rattle.laws.proofs.Bools.{and_parts}
-use Rattle.laws.proofs.Numbers.{zero_word}
-use Rattle.machine_model.proofs.SharedLaws.{zeros_to}
 
 -- ---- pages of zeros
 

@@ -1,19 +1,7 @@
 -- What the owner took is gone, one after the other.
-use Rattle.std.proofs.Common.{◌≡◌, ◌+◌, ◌-◌, ◌≤◌, ℕ, length, map, List, [], ◌∷◌, ◌++◌, Option, Some, None}
-use Rattle.std.proofs.Common.{sym, ap, subst, ◌∙◌, arith, append_assoc, append-nil, length-append}
-use Rattle.std.specs.Prelude.{slice_get}
+use Rattle.machine_tables.proofs.Prelude.{◌≡◌, ◌+◌, ◌-◌, ◌≤◌, ℕ, length, map, List, [], ◌∷◌, ◌++◌, Option, Some, None, sym, ap, subst, ◌∙◌, arith, append_assoc, append-nil, length-append, slice_get, CutDescriptor, cut_entry, seg_gone, segs_gone, without_first_cut, without_first_frame, cut_of_owner, frames_of_owner, State, booked, with_owner, inactive_entry, left_entries, left_entry, HasOwner, Parts, with_state, cut_less}
 use Rattle.book.specs.declared.entries.Entry.{Entry}
-use Rattle.machine_model.specs.declared.CutDescriptor.{CutDescriptor}
-use Rattle.machine_model.specs.Commits.{cut_entry}
-use Rattle.machine_model.specs.Jobs.{seg_gone, segs_gone, without_first_cut, without_first_frame}
-use Rattle.machine_model.specs.Reads.{cut_of_owner, frames_of_owner}
-use Rattle.machine_model.specs.State.{State}
-use Rattle.machine_model.specs.Steps.{booked, with_owner}
-use Rattle.machine_tables.specs.Gone.{inactive_entry, left_entries, left_entry}
-use Rattle.machine_tables.specs.Owned.{HasOwner}
-use Rattle.machine_tables.specs.Parts.{Parts, with_state}
 use Rattle.machine_tables.proofs.JobLaws.{frames_next, owner_left}
-use Rattle.machine_model.proofs.SaysLaws.{cut_less}
 
 -- ---- entries
 

@@ -1,3 +1,4 @@
+mod Prelude
 pub mod AboutLaws
 pub mod ActiveLaws
 pub mod AwayLaws

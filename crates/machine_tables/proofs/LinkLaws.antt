@@ -1,21 +1,6 @@
 -- Where a descriptor leads, where a segment is active, and which page is in a frame.
-use Rattle.std.proofs.Common.{◌≡◌, ◌<◌, ℕ, List, Option, Some, None, length, sym, ap, subst, ◌∙◌, inl, inr, refl}
-use Rattle.std.proofs.Math.ListN.{get_or-map}
-use Rattle.std.proofs.lemmas.Bool.{cases_lt}
-use Rattle.std.proofs.lemmas.Option.{none-some}
-use Rattle.std.proofs.lemmas.List.{get_or_past}
-use Rattle.active_segs.specs.declared.Entry.{Entry}
-use Rattle.core_map.specs.declared.Frame.TheVariants.{Free}
-use Rattle.core_map.specs.CoreMap.{bound_page}
-use Rattle.page_table.specs.declared.Ptw.TheVariants.{Here}
-use Rattle.page_control.specs.Plain.{Plain, frame_in}
-use Rattle.page_control.specs.Tied.{frame_of}
-use Rattle.active_segs.specs.Active.{ActiveSegs, IsActive, IsTree, uid_at, uid_in}
-use Rattle.seg_control.specs.Control.{Links, leads_at, place_of, word_of}
-use Rattle.seg_control.specs.Kept.{AreLinked, IsKept}
-use Rattle.machine_model.proofs.ActiveSeen.{active_place}
-use Rattle.machine_model.proofs.TransferKept.{active_at}
-use Rattle.laws.proofs.Places.{shown_within}
+use Rattle.machine_tables.proofs.Prelude.{◌≡◌, ◌<◌, ℕ, List, Option, Some, None, length, sym, ap, subst, ◌∙◌, refl, get_or-map, Entry, Free, bound_page, Here, Plain, frame_in, frame_of, ActiveSegs, IsActive, IsTree, uid_at, Links, leads_at, place_of, word_of, AreLinked, IsKept, active_place, active_at, shown_within}
+use Rattle.active_segs.specs.Active.{uid_in}
 
 -- a descriptor leads to a place of the table
 pub leads_within : (entries : List (Option Entry)) (links : Links) (k n place : ℕ) → AreLinked entries links

@@ -1,16 +1,5 @@
 -- What a look asks of the chain of a node: its first link that isn't active is there, and a full pool has a victim.
-use Rattle.std.proofs.Common.{◌≡◌, ℕ, true, Some, sym, subst}
-use Rattle.script.specs.Forms.{ArePools}
-use Rattle.tree_model.specs.Tree.{node_in}
-use Rattle.dir_tree.specs.Nodes.{chain_of}
-use Rattle.active_segs.specs.Active.{IsFull}
-use Rattle.active_segs.specs.Victim.{HasItsSuperiors, HasOneOffChain}
-use Rattle.storage_ops.specs.Shown.{is_there}
-use Rattle.machine_model.specs.Actions.{pool_of_node}
-use Rattle.machine_model.specs.Reads.{first_inactive}
-use Rattle.machine_model.specs.State.{State, Storage}
-use Rattle.machine_model.proofs.ChainFacts.{first_there}
-use Rattle.machine_tables.specs.Held.{MayLook}
+use Rattle.machine_tables.proofs.Prelude.{◌≡◌, ℕ, true, Some, sym, subst, ArePools, node_in, chain_of, IsFull, HasItsSuperiors, HasOneOffChain, is_there, pool_of_node, first_inactive, State, Storage, first_there, MayLook}
 use Rattle.machine_tables.proofs.VictimLaws.{chain_one_off, chain_superiors}
 
 module _ (s : State) (u : ℕ) where

@@ -1,37 +1,7 @@
 -- A directory or a segment that is made, exactly.
-use Rattle.std.proofs.Common.{◌≡◌, ℕ, ◌+◌, Bool, true, false, cond, List, [], ◌∷◌, Option, Some, None, get_or}
-use Rattle.std.proofs.Common.{refl, sym, ap, subst, ◌∙◌}
-use Rattle.std.specs.Prelude.{Result, Ok, Err}
-use Rattle.std.proofs.Math.ListN.{get_or-map}
-use Rattle.mnames.specs.declared.principals.Who.{Who}
-use Rattle.script.specs.Plans.{Plan, ProcessPlan, nobody, who_of}
+use Rattle.machine_tables.proofs.Prelude.{◌≡◌, ℕ, ◌+◌, Bool, true, false, cond, List, [], ◌∷◌, Option, Some, None, get_or, refl, sym, ap, subst, ◌∙◌, Result, Ok, Err, get_or-map, Who, Plan, ProcessPlan, nobody, who_of, Reply, HasColumns, count_of, with_beside, Row, Node, AreBelow, node_at, only_directory, parts_of, takes_effect, after_make, made_at, made_in, made_of, make_at, make_of, make_reply, owner_row, Store, allocated, vtoc_of, least_free_entry, Commits, TakesHome, Shows, Stored, who_at, with_vtocs, node_refuses, branch_of, gained, with_branch, with_made, IsFaithful, or_zero, uid_at_path, uid_of_node, Storage, TakesEffect, shown}
 use Rattle.script.specs.declared.commands.Command.TheVariants as command
-use Rattle.book.specs.declared.replies.Reply.{Reply}
 use Rattle.book.specs.declared.replies.Reply.TheVariants as reply
-use Rattle.accounts.specs.Maps.{HasColumns, count_of}
-use Rattle.quota_cells.specs.Accounts.{with_beside}
-use Rattle.tree_model.specs.Access.{Row}
-use Rattle.tree_model.specs.Tree.{Node}
-use Rattle.tree_model.specs.Trees.{AreBelow}
-use Rattle.flat_model.specs.Branches.{node_at, only_directory, parts_of}
-use Rattle.flat_model.specs.Commands.{takes_effect}
-use Rattle.flat_model.specs.Making.{after_make, made_at, made_in, made_of, make_at, make_of, make_reply}
-use Rattle.flat_model.specs.Making.{owner_row}
-use Rattle.flat_model.specs.Store.{Store}
-use Rattle.page_control.specs.Effects.{allocated}
-use Rattle.page_control.specs.Plain.{vtoc_of}
-use Rattle.vtoc.specs.Vtoc.{least_free_entry}
-use Rattle.storage_ops.specs.Cut.{Commits}
-use Rattle.storage_ops.specs.CutOff.{TakesHome}
-use Rattle.storage_ops.specs.Shown.{Shows, Storage as Stored, who_at, with_vtocs}
-use Rattle.flat_model.proofs.PathRefusals.{node_refuses}
-use Rattle.machine_model.specs.Commits.{branch_of, gained, with_branch, with_made}
-use Rattle.machine_model.specs.Keeps.{IsFaithful}
-use Rattle.machine_model.specs.Reads.{or_zero}
-use Rattle.machine_model.specs.Refusal.{uid_at_path, uid_of_node}
-use Rattle.machine_model.specs.State.{Storage}
-use Rattle.machine_tables.specs.Committed.{TakesEffect}
-use Rattle.machine_tables.specs.Parts.{shown}
 use Rattle.machine_tables.proofs.CommitLaws.{flat_after}
 use Rattle.machine_tables.proofs.GainLaws.{directory_gained, segment_gained}
 use Rattle.machine_tables.proofs.RefusalLaws.{shows_of}

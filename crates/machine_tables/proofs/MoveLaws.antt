@@ -1,20 +1,6 @@
 -- What a processor does by itself with a reference, by the tables.
-use Rattle.std.proofs.Common.{◌≡◌, ℕ, List, ap, subst, sym, ◌∙◌}
-use Rattle.std.specs.Prelude.{IfSome}
-use Rattle.assoc_mem.specs.Held.{seg_of}
-use Rattle.active_segs.specs.Active.{ActiveSegs, IsTree, table_at}
-use Rattle.descriptor_seg.specs.declared.Sdw.{Sdw}
-use Rattle.page_table.specs.PageTable.{ptw_at}
-use Rattle.seg_control.specs.Control.{sdws_at, word_of}
-use Rattle.seg_control.proofs.Places.{place_is}
-use Rattle.processor.specs.declared.Cpu.{Cpu}
-use Rattle.processor.specs.declared.Move.{Move}
-use Rattle.processor.specs.Moves.{AreWords, IsLongEnough, next_move}
-use Rattle.script.specs.declared.commands.Reference.{Reference}
-use Rattle.page_table.specs.declared.Ptw.{Ptw}
+use Rattle.machine_tables.proofs.Prelude.{◌≡◌, ℕ, List, ap, subst, sym, ◌∙◌, IfSome, seg_of, ActiveSegs, IsTree, table_at, Sdw, ptw_at, sdws_at, word_of, place_is, Cpu, Move, AreWords, IsLongEnough, next_move, Reference, Ptw, State, AreLong}
 use Rattle.machine_model.specs.Actions.{move_of}
-use Rattle.machine_model.specs.State.{State}
-use Rattle.machine_tables.specs.Held.{AreLong}
 
 -- the words of the active segments are those of their places
 pub words_are : (ast : ActiveSegs) → IsTree ast.entries → AreWords ast (word_of ast)

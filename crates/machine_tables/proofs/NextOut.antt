@@ -1,12 +1,6 @@
 -- The page that is copied next is found by a walk up the page table.
-use Rattle.std.proofs.Common.{◌≡◌, ◌<◌, ◌≤◌, ◌+◌, ◌-◌, ℕ, zero, suc, Bool, true, false, cond, length, List}
-use Rattle.std.proofs.Common.{Some, None, refl, ap, ◌∙◌, arith}
-use Rattle.std.proofs.lemmas.List.{get_or_past}
-use Rattle.page_table.specs.declared.Ptw.{Ptw}
+use Rattle.machine_tables.proofs.Prelude.{◌≡◌, ◌<◌, ◌≤◌, ◌+◌, ◌-◌, ℕ, zero, suc, Bool, true, false, cond, length, List, Some, None, refl, ap, ◌∙◌, arith, get_or_past, Ptw, ptw_at, is_out, first_out, next_out}
 use Rattle.page_table.specs.declared.Ptw.TheVariants as ptw
-use Rattle.page_table.specs.PageTable.{ptw_at}
-use Rattle.page_control.specs.Tied.{is_out}
-use Rattle.seg_control.specs.Moving.{first_out, next_out}
 
 -- past the end of a page table there is no page
 none_past : (table : List Ptw) (count p : ℕ) → length table ≤ p → first_out table count p ≡ None

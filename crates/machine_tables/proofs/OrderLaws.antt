@@ -1,29 +1,8 @@
 -- Pages that are cut off: to drop those past the page that is cut before it is cut, or after, comes to the same.
-use Rattle.std.proofs.Common.{◌≡◌, ◌≢◌, ◌<◌, ◌≤◌, ◌+◌, ◌-◌, ℕ, suc, zero, Bool, true, false, cond, length}
-use Rattle.std.proofs.Common.{List, [], get_or, set, Option, Some, None, inl, inr, refl, sym, ap, ◌∙◌, arith}
-use Rattle.std.specs.List.{range_with_len}
-use Rattle.std.proofs.lemmas.Bool.{cases_eq}
-use Rattle.std.proofs.lemmas.List.{get_or-set_other, get_or-set_same, set-set, set_comm}
-use Rattle.page_table.specs.declared.Ptw.{Ptw}
-use Rattle.page_table.specs.declared.Ptw.TheVariants.{Here, Leaving, Null, Out}
-use Rattle.page_table.specs.PageTable.{ptw_at}
-use Rattle.core_map.specs.declared.Frame.{Frame}
-use Rattle.core_map.specs.declared.Frame.TheVariants.{Free}
-use Rattle.core_map.specs.CoreMap.{Core, after_reference}
-use Rattle.vtoc.specs.Vtoc.{Entry, with_record}
-use Rattle.active_segs.specs.Active.{ActiveSegs}
-use Rattle.page_control.specs.declared.Home.{Home}
-use Rattle.page_control.specs.Effects.{unstored}
-use Rattle.page_control.specs.Plain.{Plain, entry_of, filed, flags_of, frame_in, number_or_zero, vtoc_of}
-use Rattle.seg_control.specs.Control.{place_of, table_of, word_of}
-use Rattle.seg_control.specs.Effects.{worded}
-use Rattle.storage_ops.specs.CutOff.{Paged, is_cleared, page_cleared, page_cut, pages_cut}
-use Rattle.machine_model.proofs.WordLaws.{word_within}
-use Rattle.machine_tables.specs.Truncated.{here_again}
-use Rattle.machine_tables.proofs.DeleteLaws.{Drops, IsNamed, IsUsed, entry_less, filed_less, flags_less}
-use Rattle.machine_tables.proofs.DeleteLaws.{page_drops, table_in, vtoc_less, word_gone}
+use Rattle.machine_tables.proofs.Prelude.{◌≡◌, ◌≢◌, ◌<◌, ◌≤◌, ◌+◌, ◌-◌, ℕ, suc, zero, Bool, true, false, cond, length, List, [], get_or, set, Option, Some, None, inl, inr, refl, sym, ap, ◌∙◌, arith, range_with_len, cases_eq, get_or-set_other, get_or-set_same, set-set, set_comm, Ptw, Here, Leaving, Null, Out, ptw_at, Frame, Free, Core, after_reference, with_record, ActiveSegs, Home, unstored, Plain, entry_of, filed, flags_of, frame_in, number_or_zero, vtoc_of, place_of, table_of, word_of, worded, Paged, is_cleared, page_cleared, page_cut, pages_cut, word_within, here_again, given_twice}
+use Rattle.vtoc.specs.Vtoc.{Entry}
+use Rattle.machine_tables.proofs.DeleteLaws.{Drops, IsNamed, IsUsed, entry_less, filed_less, flags_less, page_drops, table_in, vtoc_less, word_gone}
 use Rattle.machine_tables.proofs.TakeLaws.{table_worded}
-use Rattle.laws.proofs.Lists.{given_twice}
 
 -- ---- words
 

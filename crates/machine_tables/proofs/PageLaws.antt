@@ -1,16 +1,6 @@
 -- A word that is read and then written through a frame.
-use Rattle.std.proofs.Common.{◌≡◌, ◌<◌, ◌%◌, ℕ, Bool, true, false, cond, set, length, refl, sym, ap, ◌∙◌, inl, inr}
-use Rattle.std.proofs.lemmas.Bool.{cases_lt}
-use Rattle.std.proofs.lemmas.List.{get_or-set_same, get_or_past, set-set}
-use Rattle.core_map.specs.declared.Frame.{Frame}
-use Rattle.core_map.specs.declared.Frame.TheVariants.{Free, Started, Bound}
-use Rattle.core_map.specs.CoreMap.{after_reference, is_bound}
-use Rattle.page_control.specs.Plain.{Plain, frame_in, words_in}
-use Rattle.page_control.specs.Effects.{framed, referred, word_put, worded}
-use Rattle.script.specs.declared.commands.Reference.{Reference}
-use Rattle.script.specs.References.{alters, new_word}
-use Rattle.machine_model.specs.Steps.{old_word, pages_after}
-use Rattle.machine_tables.specs.Parts.{Parts, with_pages_of}
+use Rattle.machine_tables.proofs.Prelude.{◌≡◌, ◌<◌, ◌%◌, ℕ, Bool, true, false, cond, set, length, refl, sym, ap, ◌∙◌, inl, inr, cases_lt, get_or-set_same, get_or_past, set-set, Frame, Free, Started, Bound, after_reference, is_bound, Plain, frame_in, words_in, framed, referred, word_put, Reference, alters, new_word, old_word, pages_after, Parts, with_pages_of}
+use Rattle.page_control.specs.Effects.{worded}
 
 -- a reference that writes leaves the marks as it does where one that reads came before
 twice : (x : Frame) → after_reference (after_reference x false) true ≡ after_reference x true

@@ -1,10 +1,5 @@
 -- Tables of which a loop changes the machine's state alone.
-use Rattle.std.proofs.Common.{◌≡◌, ℕ, List, sym, ap, ◌∙◌}
-use Rattle.std.specs.Prelude.{sum_by}
-use Rattle.storage_ops.specs.Shown.{Storage as Stored}
-use Rattle.machine_model.specs.State.{State, Storage}
-use Rattle.machine_model.specs.Steps.{with_store}
-use Rattle.machine_tables.specs.Parts.{Parts, shown, with_state, with_stored}
+use Rattle.machine_tables.proofs.Prelude.{◌≡◌, ℕ, List, sym, ap, ◌∙◌, sum_by, Stored, State, Storage, with_store, Parts, shown, with_state, with_stored}
 
 pub rest_next : {D : Type 0} (s t first : Parts D) (x : State) → s ≡ with_state first s.state → t ≡ with_state s x
     → t ≡ with_state first t.state

@@ -1,18 +1,6 @@
 -- Pools of the active segment table: the least free place of one, which pool a node's page table is of, and what the
 -- pools of a script have.
-use Rattle.std.proofs.Common.{◌≡◌, ◌≢◌, ℕ, zero, suc, ◌+◌, ◌-◌, ◌<◌, ◌≤◌, Bool, true, false, cond, is_none, List, []}
-use Rattle.std.proofs.Common.{◌∷◌, Option, Some, None, refl, sym, ap, subst, ◌∙◌, arith, inl, inr}
-use Rattle.std.specs.Prelude.{IfSome, IsNone, ◌↔◌}
-use Rattle.std.specs.List.{find, range_with_len}
-use Rattle.std.proofs.lemmas.Bool.Decides.{eqb_tells}
-use Rattle.script.specs.Forms.{ArePools}
-use Rattle.tree_model.specs.Tree.{Node}
-use Rattle.active_segs.specs.Active.{ActiveSegs, IsFull, IsLeastFree, entry_at}
-use Rattle.active_segs.specs.Pool.{first_of, size_of}
-use Rattle.machine_model.specs.Actions.{pool_of_node}
-use Rattle.machine_model.specs.Reads.{free_place}
-use Rattle.machine_model.proofs.ListSizes.{pool_small}
-use Rattle.machine_model.proofs.SharedLaws.{some_not_none}
+use Rattle.machine_tables.proofs.Prelude.{◌≡◌, ◌≢◌, ℕ, zero, suc, ◌+◌, ◌-◌, ◌<◌, ◌≤◌, Bool, true, false, cond, is_none, List, [], ◌∷◌, Option, Some, None, refl, sym, ap, subst, ◌∙◌, arith, inl, inr, IfSome, IsNone, ◌↔◌, find, range_with_len, eqb_tells, ArePools, Node, ActiveSegs, IsFull, IsLeastFree, entry_at, first_of, size_of, pool_of_node, free_place, pool_small, some_not_none}
 
 -- ---- what is found among numbers in order
 

@@ -1,21 +1,6 @@
 -- A command of the script is in its ranges by the drives that there are.
-use Rattle.std.proofs.Common.{◌≡◌, ℕ, zero, suc, ◌-◌, ◌<◌, ◌≤◌, Bool, true, false, ◌&&◌, List, [], ◌∷◌}
-use Rattle.std.proofs.Common.{map, length, Option, sym, ap, ◌∙◌, arith}
-use Rattle.std.proofs.Common.{inl, inr}
-use Rattle.std.specs.Prelude.{nat_lt, slice_get}
-use Rattle.std.specs.List.{list_all}
-use Rattle.std.proofs.lemmas.Bool.{and_parts, cases_lt}
-use Rattle.std.proofs.lemmas.Bool.Decides.{leb_tells, nat_tests}
-use Rattle.std.proofs.lemmas.List.{get_or_past, length-map}
-use Rattle.script.specs.Forms.{IsPlan, is_command, is_from, is_path, is_volume}
-use Rattle.script.specs.Plans.{Plan}
-use Rattle.script.specs.declared.commands.Command.{Command}
+use Rattle.machine_tables.proofs.Prelude.{◌≡◌, ℕ, zero, suc, ◌-◌, ◌<◌, ◌≤◌, Bool, true, false, ◌&&◌, List, [], ◌∷◌, map, length, Option, sym, ap, ◌∙◌, arith, inl, inr, nat_lt, slice_get, list_all, and_parts, cases_lt, leb_tells, nat_tests, get_or_past, length-map, IsPlan, is_command, is_from, is_path, is_volume, Plan, Command, VolumeLine, records_in, records_of, HasParts, size, not_both}
 use Rattle.script.specs.declared.commands.Command.TheVariants as command
-use Rattle.script.specs.declared.plan.VolumeLine.{VolumeLine}
-use Rattle.flat_model.specs.Store.{records_in, records_of}
-use Rattle.volumes.specs.Volumes.{HasParts}
-use Rattle.page_control.specs.Counts.{size}
-use Rattle.laws.proofs.Bools.{not_both}
 
 and_more : (a b d : Bool) → (b ≡ true → d ≡ true) → (a && b) ≡ true → (a && d) ≡ true
 and_more true b d more h = more h

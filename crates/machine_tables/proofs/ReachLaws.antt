@@ -1,25 +1,8 @@
 -- What a reference goes to that nothing refuses before its page is looked at: its segment is there, and where its
 -- number is connected the segment is active, with a word for the page in its page table.
-use Rattle.std.proofs.Common.{◌≡◌, ℕ, true, false, is_some, length, ◌<◌, ◌≤◌, Option, Some, None, refl, sym}
-use Rattle.std.proofs.Common.{ap, subst, ◌∙◌, arith}
-use Rattle.std.specs.Prelude.{◌/◌}
-use Rattle.script.specs.declared.commands.Reference.{Reference}
-use Rattle.tree_model.specs.Tree.{Node, node_in, pool_of}
-use Rattle.tree_model.specs.Trees.{has_segment}
-use Rattle.descriptor_seg.specs.declared.Sdw.{Sdw}
+use Rattle.machine_tables.proofs.Prelude.{◌≡◌, ℕ, true, false, is_some, length, ◌<◌, ◌≤◌, Option, Some, None, refl, sym, ap, subst, ◌∙◌, arith, ◌/◌, Reference, Node, node_in, pool_of, has_segment, Sdw, IsActive, uid_at, leads, place_of, table_of, IsKept, is_there, pages_of, directory_found, long_segment, Keeps, descriptor_of, is_connected, or_zero, outside_refusal, uid_of_number, State, Storage, inside_is, IsInside}
 use Rattle.descriptor_seg.specs.declared.Sdw.TheVariants as sdw
-use Rattle.active_segs.specs.Active.{IsActive, uid_at}
-use Rattle.seg_control.specs.Control.{leads, place_of, table_of}
-use Rattle.seg_control.specs.Kept.{IsKept}
-use Rattle.storage_ops.specs.Shown.{is_there, pages_of}
-use Rattle.storage_ops.proofs.PageFacts.{directory_found, room_of}
-use Rattle.storage_ops.proofs.Refusals.{long_segment}
-use Rattle.machine_model.specs.Keeps.{Keeps}
-use Rattle.machine_model.specs.Reads.{descriptor_of, is_connected, or_zero}
-use Rattle.machine_model.specs.Refusal.{outside_refusal, uid_of_number}
-use Rattle.machine_model.specs.State.{State, Storage}
-use Rattle.machine_model.proofs.InsideLaws.{inside_is}
-use Rattle.machine_model.proofs.LookFacts.{IsInside}
+use Rattle.storage_ops.proofs.PageFacts.{room_of}
 use Rattle.machine_tables.proofs.LinkLaws.{place_found}
 
 -- a number that is connected stands for an active segment

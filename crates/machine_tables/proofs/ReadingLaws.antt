@@ -1,23 +1,5 @@
 -- The least frame into which a page of a segment is being read, by the processors that read.
-use Rattle.std.proofs.Common.{◌≡◌, ◌+◌, ◌<◌, ◌≤◌, ℕ, zero, suc, Bool, true, false, not, ◌&&◌, cond, eqb}
-use Rattle.std.proofs.Common.{List, [], ◌∷◌, length, get_or, position, Option, Some, None}
-use Rattle.std.proofs.Common.{◌⊎◌, inl, inr, refl, sym, ap, subst}
-use Rattle.std.proofs.Common.{◌∙◌, arith}
-use Rattle.std.specs.Prelude.{nat_le, nat_lt}
-use Rattle.std.specs.List.{position_or_len}
-use Rattle.std.proofs.lemmas.Bool.{cases_lt, lt-ltb}
-use Rattle.std.proofs.lemmas.Bool.Decides.{eqb_tells, leb_tells}
-use Rattle.std.proofs.lemmas.List.{get_or_past}
-use Rattle.core_map.specs.declared.Frame.{Frame}
-use Rattle.core_map.specs.declared.Frame.TheVariants.{Free}
-use Rattle.core_map.specs.CoreMap.{Core, frame_at, reads_of, started_page}
-use Rattle.seg_control.specs.Kept.{read_at}
-use Rattle.processor.specs.declared.Transfer.{Transfer}
-use Rattle.machine_model.specs.declared.Processor.{Processor}
-use Rattle.machine_model.specs.Reads.{frame_reading, is_page_of, no_processor, processor_at}
-use Rattle.machine_model.proofs.ListLaws.{map_list}
-use Rattle.machine_model.proofs.TieLaws.{none_some}
-use Rattle.machine_tables.specs.Reading.{AreRead, least_from, lesser, read_by}
+use Rattle.machine_tables.proofs.Prelude.{◌≡◌, ◌+◌, ◌<◌, ◌≤◌, ℕ, zero, suc, Bool, true, false, not, ◌&&◌, cond, eqb, List, [], ◌∷◌, length, get_or, position, Option, Some, None, ◌⊎◌, inl, inr, refl, sym, ap, subst, ◌∙◌, arith, nat_le, nat_lt, position_or_len, cases_lt, lt-ltb, eqb_tells, leb_tells, get_or_past, Frame, Free, Core, frame_at, reads_of, started_page, read_at, Transfer, Processor, frame_reading, is_page_of, no_processor, processor_at, map_list, none_some, AreRead, least_from, lesser, read_by}
 
 -- ---- where something is found first
 

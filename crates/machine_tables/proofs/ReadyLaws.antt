@@ -1,9 +1,5 @@
 -- How the ready list grows by the processes that the initializer makes ready.
-use Rattle.std.proofs.Common.{◌≡◌, ◌+◌, ◌<◌, ◌≤◌, ℕ, suc, List, [], ◌∷◌, ◌++◌, length, sym, ap, ◌∙◌, arith}
-use Rattle.std.proofs.Common.{append_assoc, length-append}
-use Rattle.custody_model.specs.Custody.{range}
-use Rattle.traffic.specs.Queue.{Queue, with_last}
-use Rattle.custody_model.proofs.SharedLaws.{range_end, range_length}
+use Rattle.machine_tables.proofs.Prelude.{◌≡◌, ◌+◌, ◌<◌, ◌≤◌, ℕ, suc, List, [], ◌∷◌, ◌++◌, length, sym, ap, ◌∙◌, arith, append_assoc, length-append, range, Queue, with_last, range_end, range_length}
 
 -- the list with so many released
 abbrev pub released : Queue → ℕ → Queue

@@ -1,23 +1,8 @@
 -- What the store refuses is what the model refuses by the flat store after the book.
-use Rattle.std.proofs.Common.{◌≡◌, ℕ, cond, List, Option, None, refl, ap}
-use Rattle.script.specs.Plans.{Plan}
-use Rattle.script.specs.References.{reference_of}
-use Rattle.script.specs.declared.commands.Command.{Command}
-use Rattle.script.specs.declared.commands.Reference.{Reference}
-use Rattle.book.specs.declared.replies.Reply.{Reply}
+use Rattle.machine_tables.proofs.Prelude.{◌≡◌, ℕ, cond, List, Option, None, refl, ap, Plan, reference_of, Command, Reference, Reply, reply_by, reply_to_command, volume_in, is_volume_full, reply_to_reference, room_for, Store, Shows, Stored, refusal, IsFaithful, flat_of, State, shown}
 use Rattle.book.specs.declared.replies.Reply.TheVariants as reply
-use Rattle.flat_model.specs.Commands.{reply_by, reply_to_command}
-use Rattle.tree_model.specs.Tree.{volume_in}
-use Rattle.flat_model.specs.References.{is_volume_full, reply_to_reference}
-use Rattle.flat_model.specs.Rooms.{room_for}
-use Rattle.flat_model.specs.Store.{Store}
 use Rattle.storage_ops.specs.References as stored
-use Rattle.storage_ops.specs.Shown.{Shows, Storage as Stored, refusal}
-use Rattle.machine_model.specs.Keeps.{IsFaithful}
-use Rattle.machine_model.specs.Reads.{flat_of}
 use Rattle.machine_model.specs.Refusal as model
-use Rattle.machine_model.specs.State.{State}
-use Rattle.machine_tables.specs.Parts.{shown}
 
 -- where a segment moves to before a page more of it is made
 pub moves_is : (s : State) (u : ℕ)

@@ -1,16 +1,5 @@
 -- The right of a process to a segment that is in the tree.
-use Rattle.std.proofs.Common.{◌≡◌, ℕ, true, List, Some}
-use Rattle.std.proofs.Common.{refl, sym, ap}
-use Rattle.std.proofs.Common.{◌∙◌}
-use Rattle.mnames.specs.declared.modes.Mode.{Mode}
-use Rattle.mnames.specs.declared.principals.Who.{Who}
-use Rattle.accounts.specs.Maps.{rows_in}
-use Rattle.tree_model.specs.Access.{Row, access_of}
-use Rattle.tree_model.specs.Tree.{Node, node_in}
-use Rattle.flat_model.proofs.FieldLaws.{field_found}
-use Rattle.storage_ops.specs.Connecting.{IsRight}
-use Rattle.storage_ops.specs.Shown.{is_there, pages_in, pages_of, who_at}
-use Rattle.tree_model.proofs.SharedLaws.{some_there}
+use Rattle.machine_tables.proofs.Prelude.{◌≡◌, ℕ, true, List, refl, sym, ap, ◌∙◌, Mode, Who, rows_in, Row, access_of, Node, node_in, field_found, IsRight, is_there, pages_in, pages_of, who_at, some_there}
 
 pub right_is : (ns : List Node) (whos : List Who) (k u : ℕ) (m : Mode) (pages : ℕ) → is_there ns u ≡ true
     → IsRight ns whos k u m pages → (m ≡ access_of (who_at whos k) (rows_in ns u)) × (pages ≡ pages_in ns u)

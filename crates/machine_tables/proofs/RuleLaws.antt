@@ -1,24 +1,7 @@
 -- The rules of a step, in their order.
-use Rattle.std.proofs.Common.{◌≡◌, ◌≢◌, ◌≤◌, ℕ, Bool, true, false, is_some, length, List, Option, Some, None, refl, ap}
-use Rattle.std.proofs.Common.{subst, ◌∙◌}
-use Rattle.std.specs.Prelude.{IsSome}
+use Rattle.machine_tables.proofs.Prelude.{◌≡◌, ◌≢◌, ◌≤◌, ℕ, Bool, true, false, is_some, length, List, Option, Some, None, refl, ap, subst, ◌∙◌, IsSome, action_of, has_process, is_over, IsActive, Mover, table_of, Keeps, mover_in, mover_of, cpu_at, processor_at, State, CutDescriptor, over_idle, table_few, active_at, rule_of, owner_by, owner_of, Holder}
 use Rattle.machine_model.specs.Actions as act
-use Rattle.machine_model.specs.Actions.{action_of, has_process, is_over}
-use Rattle.active_segs.specs.Active.{IsActive}
-use Rattle.seg_mover.specs.declared.Mover.{Mover}
-use Rattle.seg_control.specs.Control.{table_of}
-use Rattle.machine_model.specs.Keeps.{Keeps}
-use Rattle.machine_model.specs.Movers.{mover_in, mover_of}
-use Rattle.machine_model.specs.Reads.{cpu_at, processor_at}
-use Rattle.machine_model.specs.State.{State}
-use Rattle.machine_model.specs.declared.CutDescriptor.{CutDescriptor}
 use Rattle.machine_model.specs.declared.Phase.TheVariants as phase
-use Rattle.machine_model.proofs.AllEnded.{over_idle}
-use Rattle.machine_model.proofs.ListSizes.{table_few}
-use Rattle.machine_model.proofs.TransferKept.{active_at}
-use Rattle.machine_tables.specs.Meant.{rule_of}
-use Rattle.machine_tables.specs.Owned.{owner_by, owner_of}
-use Rattle.machine_tables.specs.declared.owner.Holder.{Holder}
 
 pub stopped_rule : (s : State) (c : ℕ) → s.stopped ≡ true → act.IsStopped ≡ action_of s c
 unfolding action_of

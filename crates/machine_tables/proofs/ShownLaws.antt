@@ -1,28 +1,5 @@
 -- What the calls on pages make of the flat store that is shown.
-use Rattle.std.proofs.Common.{◌≡◌, ◌+◌, ◌*◌, ℕ, Bool, true, false, cond, refl, sym, ap, subst, ◌∙◌}
-use Rattle.std.specs.Prelude.{◌%◌, List, IfOk, Result, Ok, Err}
-use Rattle.script.specs.Plans.{Plan}
-use Rattle.script.specs.declared.commands.Reference.{Reference}
-use Rattle.script.specs.References.{alters, new_word}
-use Rattle.flat_model.specs.References.{written}
-use Rattle.flat_model.specs.Store.{Store}
-use Rattle.core_map.specs.declared.Frame.{Frame}
-use Rattle.core_map.specs.declared.Frame.TheVariants.{Free, Started, Bound}
-use Rattle.core_map.specs.CoreMap.{after_reference, bound_page, frame_at, is_bound}
-use Rattle.page_control.specs.declared.Left.{Left}
-use Rattle.page_control.specs.declared.Left.TheVariants.{Kept, Released}
-use Rattle.page_control.specs.Plain.{Plain, frame_in, number_in}
-use Rattle.page_control.specs.Effects.{referred}
-use Rattle.page_control.specs.Tied.{uid_in}
-use Rattle.std.proofs.lemmas.List.{get_or-set_same}
-use Rattle.storage_ops.specs.Paged.{page_left}
-use Rattle.storage_ops.specs.Shown.{Shows, Storage as Stored}
-use Rattle.machine_model.specs.Jobs.{page_in, page_or_zero}
-use Rattle.machine_model.specs.Keeps.{IsFaithful}
-use Rattle.machine_model.specs.Said.{through, without_left}
-use Rattle.machine_model.specs.State.{Storage}
-use Rattle.machine_model.specs.Steps.{old_word}
-use Rattle.machine_tables.specs.Parts.{Parts, shown, with_pages_of}
+use Rattle.machine_tables.proofs.Prelude.{◌≡◌, ◌+◌, ◌*◌, ℕ, Bool, true, false, cond, refl, sym, ap, subst, ◌∙◌, ◌%◌, List, IfOk, Result, Ok, Err, Plan, Reference, alters, new_word, written, Store, Frame, Free, Started, Bound, after_reference, bound_page, frame_at, is_bound, Left, Kept, Released, Plain, frame_in, number_in, referred, uid_in, get_or-set_same, page_left, Shows, Stored, page_in, page_or_zero, IsFaithful, through, without_left, Storage, old_word, Parts, shown, with_pages_of}
 use Rattle.machine_tables.proofs.PageLaws.{bound_within}
 use Rattle.machine_tables.proofs.RefusalLaws.{shows_of}
 

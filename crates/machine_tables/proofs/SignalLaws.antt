@@ -1,8 +1,5 @@
 -- Processors that are told one after the other.
-use Rattle.std.proofs.Common.{◌≡◌, ◌+◌, ◌<◌, ℕ, suc, zero, List, [], ◌∷◌, length, get_or, set, refl, ap, ◌∙◌, arith}
-use Rattle.assoc_mem.specs.declared.What.{What}
-use Rattle.machine_model.specs.declared.Processor.{Processor}
-use Rattle.machine_model.specs.Jobs.{told_at, told_from}
+use Rattle.machine_tables.proofs.Prelude.{◌≡◌, ◌+◌, ◌<◌, ℕ, suc, zero, List, [], ◌∷◌, length, get_or, set, refl, ap, ◌∙◌, arith, What, Processor, told_at, told_from}
 
 -- the first n of a list are told
 unfoldable pub told_first : ℕ → What → ℕ → ℕ → List Processor → List Processor

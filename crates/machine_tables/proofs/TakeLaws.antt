@@ -1,32 +1,5 @@
 -- Pages of a segment that are taken one after the other.
-use Rattle.std.proofs.Common.{◌≡◌, ◌+◌, ◌<◌, ◌≤◌, ℕ, true, List, [], ◌∷◌, ◌++◌, length}
-use Rattle.std.proofs.Common.{set}
-use Rattle.std.proofs.Common.{Option, Some, None, refl, sym, ap, ◌∙◌, arith, inl, inr, length-append, subst}
-use Rattle.std.proofs.lemmas.Bool.{cases_lt}
-use Rattle.std.proofs.lemmas.List.{drop_more, get_or-set_same, get_or_past}
-use Rattle.std.proofs.Math.ListN.{drop_of_length-le}
-use Rattle.assoc_mem.specs.declared.What.{What}
-use Rattle.core_map.specs.declared.Frame.{Frame}
-use Rattle.core_map.specs.declared.Frame.TheVariants.{Free, Started, Bound}
-use Rattle.core_map.specs.CoreMap.{bound_page, is_bound}
-use Rattle.page_table.specs.declared.Ptw.{Ptw}
-use Rattle.page_table.specs.declared.Ptw.TheVariants.{Null}
-use Rattle.active_segs.specs.declared.Entry.{Entry}
-use Rattle.active_segs.specs.Active.{ActiveSegs, IsActive, table_at}
-use Rattle.page_control.specs.Plain.{frame_in, number_in}
-use Rattle.page_control.specs.Tied.{uid_in}
-use Rattle.seg_control.specs.Control.{place_of, table_of, word_of}
-use Rattle.seg_control.specs.Effects.{worded}
-use Rattle.machine_model.specs.declared.Aim.{Aim}
-use Rattle.machine_model.specs.Jobs.{take_all, take_one}
-use Rattle.machine_model.specs.Reads.{frames_from, frames_in, frames_of_owner, here_in}
-use Rattle.machine_model.specs.State.{State}
-use Rattle.machine_model.proofs.MoverTied.{leaving_moving}
-use Rattle.machine_model.proofs.TieLaws.{none_some}
-use Rattle.machine_tables.specs.Owned.{HasOwner}
-use Rattle.machine_tables.specs.Taken.{LeavesPast}
-use Rattle.machine_model.proofs.NumberLaws.{take_long}
-use Rattle.laws.proofs.Options.{page_is}
+use Rattle.machine_tables.proofs.Prelude.{◌≡◌, ◌+◌, ◌<◌, ◌≤◌, ℕ, true, List, [], ◌∷◌, ◌++◌, length, set, Option, Some, None, refl, sym, ap, ◌∙◌, arith, inl, inr, length-append, subst, cases_lt, drop_more, get_or-set_same, get_or_past, drop_of_length-le, What, Frame, Free, Started, Bound, bound_page, is_bound, Ptw, Null, Entry, ActiveSegs, IsActive, table_at, frame_in, number_in, uid_in, place_of, table_of, word_of, worded, Aim, take_all, take_one, frames_from, frames_in, frames_of_owner, here_in, State, leaving_moving, none_some, HasOwner, LeavesPast, take_long, page_is}
 
 -- what a frame that a page is in is bound to
 pub bound_parts : (x : Frame) (u p : ℕ) → bound_page x ≡ Some (u, p)

@@ -1,31 +1,6 @@
 -- What stays while pages are taken, and what is taken of a segment.
-use Rattle.std.proofs.Common.{◌≡◌, ◌+◌, ◌<◌, ◌≤◌, ℕ, true, false, not, cond, List, [], ◌∷◌, ◌++◌, length}
-use Rattle.std.proofs.Common.{Option, refl, sym, ap}
-use Rattle.std.proofs.Common.{subst, ◌∙◌, arith, drop}
-use Rattle.std.proofs.Math.ListN.{drop_of_length-le}
-use Rattle.std.proofs.lemmas.List.{drop_more}
-use Rattle.std.specs.List.{list_any}
-use Rattle.assoc_mem.specs.declared.What.{What}
-use Rattle.core_map.specs.CoreMap.{bound_page}
-use Rattle.active_segs.specs.declared.Entry.{Entry}
-use Rattle.page_control.specs.Plain.{frame_in}
-use Rattle.page_table.specs.PageTable.{ptw_at}
-use Rattle.page_table.specs.declared.Ptw.{Ptw}
-use Rattle.page_table.specs.declared.Ptw.TheVariants.{Null}
-use Rattle.trailers.specs.Trailer.{trailers_of}
-use Rattle.active_segs.specs.Active.{IsActive}
-use Rattle.seg_control.specs.Control.{Links, is_for, place_of}
-use Rattle.machine_model.specs.declared.Aim.{Aim}
-use Rattle.machine_model.specs.Jobs.{cut_all, take_all, take_one, took}
-use Rattle.machine_model.specs.Actions.{is_empty}
-use Rattle.machine_model.specs.Reads.{cut_of_owner, frames_in, here_in, trailers_in}
-use Rattle.machine_model.specs.State.{State}
-use Rattle.machine_tables.specs.Owned.{HasOwner}
-use Rattle.machine_tables.specs.Parts.{Parts, with_state}
-use Rattle.machine_tables.specs.Taken.{is_bare}
+use Rattle.machine_tables.proofs.Prelude.{◌≡◌, ◌+◌, ◌<◌, ◌≤◌, ℕ, true, false, not, cond, List, [], ◌∷◌, ◌++◌, length, Option, refl, sym, ap, subst, ◌∙◌, arith, drop, drop_of_length-le, drop_more, list_any, What, bound_page, Entry, frame_in, ptw_at, Ptw, Null, trailers_of, IsActive, Links, is_for, place_of, Aim, cut_all, take_all, take_one, took, is_empty, cut_of_owner, frames_in, here_in, trailers_in, State, HasOwner, Parts, with_state, is_bare, take_cut, leaving_entries, leaving_links}
 use Rattle.machine_tables.proofs.TakeLaws.{owner_still, room_less}
-use Rattle.machine_model.proofs.NumberLaws.{take_cut}
-use Rattle.machine_model.proofs.OutlineTake.{leaving_entries, leaving_links}
 
 pub entries_still : (s : State) (c : ℕ) (a : Aim) (w : What) (fs : List ℕ)
     → (take_all s c a w fs).store.ast.entries ≡ s.store.ast.entries

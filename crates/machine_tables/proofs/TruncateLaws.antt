@@ -1,28 +1,6 @@
 -- What a truncation changes of a store, by page control, the active segments and one count.
-use Rattle.std.proofs.Common.{◌≡◌, ◌≢◌, ◌<◌, ◌-◌, ◌/◌, ◌%◌, ℕ, Bool, true, false, cond, length}
-use Rattle.std.proofs.Common.{List, [], ◌∷◌, Some, inl, inr, refl, sym, ap, subst, ◌∙◌, arith}
-use Rattle.std.proofs.lemmas.Bool.{cases_eq, cases_lt, eq-eqb, ne_eqb}
-use Rattle.std.proofs.lemmas.List.{get_or-set_same, get_or_past}
-use Rattle.accounts.specs.Maps.{AccountMaps, count_of}
-use Rattle.quota_cells.specs.Accounts.{look, with_value}
-use Rattle.quota_cells.proofs.ColumnLaws.{length_with, look_with_other}
-use Rattle.core_map.specs.declared.Frame.TheVariants.{Free}
-use Rattle.core_map.specs.CoreMap.{after_reference, bound_page}
-use Rattle.page_table.specs.declared.Ptw.{Ptw}
-use Rattle.page_table.specs.declared.Ptw.TheVariants.{Here, Leaving, Null, Out}
-use Rattle.page_control.specs.declared.Home.{Home}
-use Rattle.page_control.specs.Effects.{cut}
-use Rattle.page_control.specs.Plain.{frame_in, words_in}
-use Rattle.seg_control.specs.Control.{word_of}
-use Rattle.storage_ops.specs.CutOff.{Paged, is_cleared, page_cut, pages_cut}
-use Rattle.machine_model.specs.Commits.{with_cut, with_truncated, without_page, without_pages, pages_past}
-use Rattle.machine_model.specs.Jobs.{are_zeros, here_if, with_here}
-use Rattle.machine_model.specs.Reads.{home_in}
-use Rattle.machine_model.specs.State.{Storage}
-use Rattle.machine_model.specs.Steps.{with_pages}
-use Rattle.machine_model.proofs.TieLaws.{none_some}
+use Rattle.machine_tables.proofs.Prelude.{◌≡◌, ◌≢◌, ◌<◌, ◌-◌, ◌/◌, ◌%◌, ℕ, Bool, true, false, cond, length, List, [], ◌∷◌, Some, inl, inr, refl, sym, ap, subst, ◌∙◌, arith, cases_eq, cases_lt, eq-eqb, ne_eqb, get_or-set_same, get_or_past, AccountMaps, count_of, look, with_value, length_with, look_with_other, Free, after_reference, bound_page, Ptw, Here, Leaving, Null, Out, Home, cut, frame_in, words_in, word_of, Paged, is_cleared, page_cut, pages_cut, with_cut, with_truncated, without_page, without_pages, pages_past, are_zeros, here_if, with_here, home_in, Storage, with_pages, none_some, bound_after}
 use Rattle.machine_tables.proofs.OrderLaws.{cut_first}
-use Rattle.machine_model.proofs.ActiveKept.{bound_after}
 
 -- what is told of a segment
 abbrev pub told_of : Storage → ℕ → Paged

@@ -1,73 +1,18 @@
 -- A segment that is truncated, exactly.
-use Rattle.std.proofs.Common.{◌≡◌, ◌≢◌, ◌<◌, ◌≤◌, ◌+◌, ◌-◌, ◌*◌, ◌/◌, ◌%◌, ℕ, suc, zero, Bool, true, false, not}
-use Rattle.std.proofs.Common.{◌&&◌, ◌||◌, cond, eqb, length, map, List, [], ◌∷◌, Option, Some, None, inl, inr}
-use Rattle.std.proofs.Common.{refl, sym, ap, subst, ◌∙◌, arith}
-use Rattle.std.specs.Prelude.{Result, Ok, Err, nat_lt}
-use Rattle.std.specs.List.{range_with_len}
-use Rattle.std.proofs.lemmas.Bool.{cases_eq, cases_lt, eq-eqb, le-ltb, lt-ltb, ne_eqb}
-use Rattle.std.proofs.lemmas.List.{get_or_past}
-use Rattle.script.specs.Plans.{Plan}
+use Rattle.machine_tables.proofs.Prelude.{◌≡◌, ◌≢◌, ◌<◌, ◌≤◌, ◌+◌, ◌-◌, ◌*◌, ◌/◌, ◌%◌, ℕ, suc, zero, Bool, true, false, not, ◌&&◌, ◌||◌, cond, eqb, length, map, List, [], ◌∷◌, Option, Some, None, inl, inr, refl, sym, ap, subst, ◌∙◌, arith, Result, Ok, Err, nat_lt, range_with_len, cases_eq, cases_lt, eq-eqb, le-ltb, lt-ltb, ne_eqb, get_or_past, Plan, Reply, InSegment, LeadsTo, Missing, Node, Walk, node_in, walk_in, PathFault, path_answer, HasColumns, count_of, look, done_at, node_at, only_segment, segment_at, there_or, walked, takes_effect, after_truncate, truncate_reply, Store, Free, bound_page, frame_at, is_bound, Ptw, Here, Leaving, Null, Out, Segment, ActiveSegs, IsActive, Home, cut, frame_in, number_in, plain, words_in, is_filed_at, frame_of, has_record, is_out, uid_in, IsTied, place_of, table_of, word_of, worded, IsKept, HasParts, CutsPages, IsTakenPast, IsTakenPastAt, KeepsRest, is_here, frame_left, CountsOthers, Paged, cut_at, cut_by, is_cleared, page_cleared, page_cut, paged, pages_cut, pages_from, IsStore, Shows, Stored, answered, home_of, is_there, pages_in, segment_refuses, first_past, frame_entry, stays, with_effect, with_truncated, are_zeros, page_or_zero, IsFaithful, is_active, OwnsFor, OwnsFrom, Storage, active_place, map_list, none_some, active_at, is_kept, left_entry, shown, IsCommittedBut, here_again, uid_found, found_uid, page_is}
 use Rattle.script.specs.declared.commands.Command.TheVariants as command
 use Rattle.book.specs.declared.entries.Entry.{Entry}
 use Rattle.book.specs.declared.entries.Entry.TheVariants as entry
-use Rattle.book.specs.declared.replies.Reply.{Reply}
 use Rattle.book.specs.declared.replies.Reply.TheVariants as reply
-use Rattle.tree_model.specs.Tree.{InSegment, LeadsTo, Missing, Node, Walk, node_in, walk_in}
-use Rattle.dir_tree.specs.declared.node.PathFault.{PathFault}
-use Rattle.dir_tree.specs.Nodes.{path_answer}
-use Rattle.accounts.specs.Maps.{HasColumns, count_of}
-use Rattle.quota_cells.specs.Accounts.{look}
 use Rattle.custody_model.specs.Custody.{has}
-use Rattle.flat_model.specs.Branches.{done_at, node_at, only_segment, segment_at, there_or, walked}
-use Rattle.flat_model.specs.Commands.{takes_effect}
-use Rattle.flat_model.specs.Sizes.{after_truncate, truncate_reply}
-use Rattle.flat_model.specs.Store.{Store}
-use Rattle.core_map.specs.declared.Frame.TheVariants.{Free}
-use Rattle.core_map.specs.CoreMap.{bound_page, frame_at, is_bound}
-use Rattle.page_table.specs.declared.Ptw.{Ptw}
-use Rattle.page_table.specs.declared.Ptw.TheVariants.{Here, Leaving, Null, Out}
-use Rattle.active_segs.specs.declared.Entry.{Entry as Segment}
-use Rattle.active_segs.specs.Active.{ActiveSegs, IsActive}
-use Rattle.page_control.specs.declared.Home.{Home}
-use Rattle.page_control.specs.Effects.{cut}
-use Rattle.page_control.specs.Plain.{frame_in, number_in, plain, words_in}
-use Rattle.page_control.specs.Picture.{is_filed_at}
-use Rattle.page_control.specs.Tied.{frame_of, has_record, is_out, uid_in}
-use Rattle.page_control.specs.Ties.{IsTied}
-use Rattle.seg_control.specs.Control.{place_of, table_of, word_of}
-use Rattle.seg_control.specs.Effects.{worded}
-use Rattle.seg_control.specs.Kept.{IsKept}
-use Rattle.volumes.specs.Volumes.{HasParts}
-use Rattle.storage_ops.specs.Cut.{CutsPages, IsTakenPast, IsTakenPastAt, KeepsRest, is_here}
-use Rattle.storage_ops.specs.Cut.{leaves as frame_left}
-use Rattle.storage_ops.specs.CutOff.{CountsOthers, Paged, cut_at, cut_by, is_cleared, page_cleared, page_cut, paged}
-use Rattle.storage_ops.specs.CutOff.{pages_cut, pages_from}
-use Rattle.storage_ops.specs.Shown.{IsStore, Shows, Storage as Stored, answered, home_of, is_there, pages_in}
-use Rattle.flat_model.proofs.PathRefusals.{segment_refuses}
-use Rattle.machine_model.specs.Commits.{first_past, frame_entry, stays, with_effect, with_truncated}
-use Rattle.machine_model.specs.Jobs.{are_zeros, page_or_zero}
-use Rattle.machine_model.specs.Keeps.{IsFaithful}
-use Rattle.machine_model.specs.Reads.{is_active}
-use Rattle.machine_model.specs.Ready.{OwnsFor, OwnsFrom}
-use Rattle.machine_model.specs.State.{Storage}
-use Rattle.machine_model.proofs.ActiveSeen.{active_place}
-use Rattle.machine_model.proofs.ListLaws.{map_list}
-use Rattle.machine_model.proofs.TieLaws.{none_some}
-use Rattle.machine_model.proofs.TransferKept.{active_at}
-use Rattle.machine_tables.specs.Gone.{is_kept, left_entry}
-use Rattle.machine_tables.specs.Parts.{shown}
-use Rattle.machine_tables.specs.Truncated.{IsCommittedBut, here_again, uid_found}
 use Rattle.machine_tables.proofs.ColumnLaws.{columns_same, segments_same}
 use Rattle.machine_tables.proofs.CommitLaws.{segment_node, segment_uid}
 use Rattle.machine_tables.proofs.DeleteLaws.{IsNamed, page_drops}
 use Rattle.machine_tables.proofs.DeletedLaws.{names, node_there}
-use Rattle.machine_tables.proofs.OrderLaws.{IsAlone, IsNullFrom, again, cleared_same, cut_first, cut_gone, null_more}
-use Rattle.machine_tables.proofs.OrderLaws.{some_order}
+use Rattle.machine_tables.proofs.OrderLaws.{IsAlone, IsNullFrom, again, cleared_same, cut_first, cut_gone, null_more, some_order}
 use Rattle.machine_tables.proofs.RefusalLaws.{shows_of}
 use Rattle.machine_tables.proofs.TakeLaws.{bound_parts}
 use Rattle.machine_tables.proofs.TruncateLaws.{IsCuttable, KeepsOthers, even_told, odd_told, told_of, truncated_keeps}
-use Rattle.tree_model.proofs.SharedLaws.{found_uid}
-use Rattle.laws.proofs.Options.{page_is}
 
 -- ---- the page that is cut
 

@@ -1,44 +1,7 @@
 -- Where a pool is full something of it isn't of the chain that becomes active, and the chain goes up to the root.
-use Rattle.std.proofs.Common.{◌≡◌, ◌≢◌, ℕ, zero, suc, ◌+◌, ◌-◌, ◌<◌, ◌≤◌, Bool, true, false, not, cond, eqb, List, []}
-use Rattle.std.proofs.Common.{◌∷◌, length, get_or, Option, Some, None, refl, sym, ap, subst, ◌∙◌, arith}
-use Rattle.std.proofs.Common.{inl, inr}
-use Rattle.std.proofs.Common.{◌⊎◌, ◌++◌, reverse}
-use Rattle.std.specs.Prelude.{IsSome}
-use Rattle.std.specs.List.{find, list_any, position_or_len}
-use Rattle.std.proofs.lemmas.Bool.{cases_lt}
-use Rattle.std.proofs.lemmas.Bool.Decides.{eqb_tells}
-use Rattle.std.proofs.lemmas.Grind.{reverse_onto}
-use Rattle.std.proofs.lemmas.List.{get_or_default, get_or-reverse, length-reverse, reverse-reverse}
-use Rattle.mnames.specs.declared.principals.Who.{Who}
-use Rattle.script.specs.Forms.{ArePools}
-use Rattle.accounts.specs.Maps.{AccountMaps}
-use Rattle.tree_model.specs.Tree.{Node, above, has_directory, node_in, pool_for, pool_of}
-use Rattle.tree_model.specs.Trees.{HasChains, IsChain, IsTree as IsNodeTree}
-use Rattle.tree_model.proofs.ChainLaws.{has_chains}
-use Rattle.tree_model.proofs.Finds.{IsMember, found_front, found_member, past_front}
-use Rattle.tree_model.proofs.TreeLaws.{IsUp, superior_in, superior_up, superior_found}
-use Rattle.dir_tree.specs.Nodes.{chain_of}
-use Rattle.active_segs.specs.declared.Entry.{Entry}
-use Rattle.active_segs.specs.Active.{ActiveSegs, IsFull, IsTree, entry_at, uid_at, uid_in}
-use Rattle.active_segs.specs.Pool.{IsInPool, first_of, size_of}
-use Rattle.active_segs.specs.Victim.{HasItsSuperiors, HasOneOffChain, off_chain}
-use Rattle.page_control.specs.Plain.{Plain}
-use Rattle.seg_control.specs.Control.{Links}
-use Rattle.storage_ops.specs.Shown.{IsStore, is_there}
-use Rattle.storage_ops.proofs.ChainDown.{chain_first, chain_length, chain_next}
-use Rattle.storage_ops.proofs.NodeLaws.{found_there}
-use Rattle.storage_ops.proofs.PageFacts.{directory_found}
-use Rattle.machine_model.specs.Actions.{pool_of_node}
-use Rattle.machine_model.specs.Reads.{first_inactive, is_active}
-use Rattle.machine_model.proofs.ActiveSeen.{some_within}
-use Rattle.machine_model.proofs.ChainFacts.{AllFail, first_there}
-use Rattle.machine_model.proofs.FindLaws.{find_true}
-use Rattle.machine_model.proofs.OffChain.{pool_one_off}
-use Rattle.machine_model.proofs.TieLaws.{none_some}
-use Rattle.machine_model.proofs.TransferKept.{active_at}
-use Rattle.machine_model.proofs.WordLaws.{found}
+use Rattle.machine_tables.proofs.Prelude.{◌≡◌, ◌≢◌, ℕ, zero, suc, ◌+◌, ◌-◌, ◌<◌, ◌≤◌, Bool, true, false, not, cond, eqb, List, [], ◌∷◌, length, get_or, Option, Some, None, refl, sym, ap, subst, ◌∙◌, arith, inl, inr, ◌⊎◌, ◌++◌, reverse, IsSome, find, list_any, position_or_len, cases_lt, eqb_tells, reverse_onto, get_or_default, get_or-reverse, length-reverse, reverse-reverse, Who, ArePools, AccountMaps, Node, above, has_directory, node_in, pool_for, pool_of, HasChains, IsChain, IsNodeTree, has_chains, IsMember, found_front, found_member, past_front, IsUp, superior_in, superior_up, superior_found, chain_of, Entry, ActiveSegs, IsFull, IsTree, entry_at, uid_at, IsInPool, first_of, size_of, HasItsSuperiors, HasOneOffChain, off_chain, Plain, Links, IsStore, is_there, chain_first, chain_length, chain_next, found_there, directory_found, pool_of_node, first_inactive, is_active, some_within, AllFail, first_there, find_true, pool_one_off, none_some, active_at, found, first_pool}
+use Rattle.active_segs.specs.Active.{uid_in}
 use Rattle.machine_tables.proofs.PoolLaws.{others_some, pool_few}
-use Rattle.machine_model.proofs.VictimLaws.{first_pool}
 
 -- a number of a list has a place in it
 abbrev IsAt : List ℕ → ℕ → Type 0

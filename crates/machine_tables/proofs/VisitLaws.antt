@@ -1,19 +1,5 @@
 -- A page that the shutdown takes: what is true of it then, and what stays.
-use Rattle.std.proofs.Common.{◌≡◌, ℕ, true, List, Option, Some, refl, sym, ap, subst, ◌∙◌}
-use Rattle.std.proofs.lemmas.List.{get_or-set_same}
-use Rattle.core_map.specs.CoreMap.{bound_page, is_bound}
-use Rattle.page_table.specs.declared.Ptw.{Ptw}
-use Rattle.page_table.specs.declared.Ptw.TheVariants.{Here, Leaving, Null}
-use Rattle.page_table.specs.PageTable.{ptw_at}
-use Rattle.active_segs.specs.Active.{ActiveSegs}
-use Rattle.page_control.specs.Plain.{frame_in}
-use Rattle.seg_control.specs.Control.{table_of, word_of}
-use Rattle.seg_control.specs.Effects.{worded}
-use Rattle.machine_model.specs.Jobs.{leaving_if, page_in, page_or_zero, with_leaving}
-use Rattle.machine_model.specs.State.{Storage}
-use Rattle.machine_model.proofs.WordLaws.{word_within}
-use Rattle.machine_model.specs.Returned.{IsLeaving}
-use Rattle.machine_tables.specs.Taken.{AreHere}
+use Rattle.machine_tables.proofs.Prelude.{◌≡◌, ℕ, true, List, Option, Some, refl, sym, ap, subst, ◌∙◌, get_or-set_same, bound_page, is_bound, Ptw, Here, Leaving, Null, ptw_at, ActiveSegs, frame_in, table_of, word_of, worded, leaving_if, page_in, page_or_zero, with_leaving, Storage, word_within, IsLeaving, AreHere}
 use Rattle.machine_tables.proofs.ChoiceLaws.{bound_is, chosen_here}
 use Rattle.machine_tables.proofs.TakeLaws.{table_worded}
 

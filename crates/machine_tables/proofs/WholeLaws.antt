@@ -1,27 +1,5 @@
 -- The superiors of an active node are active, all of them.
-use Rattle.std.proofs.Common.{◌≡◌, ℕ, suc, zero, ◌+◌, ◌-◌, ◌<◌, Bool, true, false, not, cond, List, [], ◌∷◌, length}
-use Rattle.std.proofs.Common.{◌++◌, get_or, reverse, Some, None, refl, sym, ap, subst, ◌∙◌, arith}
-use Rattle.std.specs.List.{find}
-use Rattle.std.proofs.lemmas.List.{get_or-reverse, length-reverse}
-use Rattle.mnames.specs.declared.principals.Who.{Who}
-use Rattle.accounts.specs.Maps.{AccountMaps}
-use Rattle.tree_model.specs.Tree.{above, node_in, step_up}
-use Rattle.tree_model.specs.Trees.{IsTree as IsNodeTree}
-use Rattle.tree_model.proofs.Finds.{past_front}
-use Rattle.tree_model.proofs.TreeLaws.{above_once, superior_in, superior_found}
-use Rattle.dir_tree.specs.Nodes.{chain_of}
-use Rattle.active_segs.specs.Active.{ActiveSegs, IsTree}
-use Rattle.page_control.specs.Plain.{Plain}
-use Rattle.seg_control.specs.Control.{Links, place_of}
-use Rattle.storage_ops.specs.Shown.{IsStore, is_there}
-use Rattle.storage_ops.proofs.ChainDown.{chain_next}
-use Rattle.storage_ops.proofs.NodeLaws.{found_there}
-use Rattle.machine_model.specs.Reads.{first_inactive, is_active, superior_of_node}
-use Rattle.machine_model.specs.State.{State}
-use Rattle.machine_model.proofs.ActiveSeen.{active_place}
-use Rattle.machine_model.proofs.ChainFacts.{turned}
-use Rattle.machine_model.proofs.TransferKept.{active_at}
-use Rattle.machine_tables.specs.Held.{MayLook}
+use Rattle.machine_tables.proofs.Prelude.{◌≡◌, ℕ, suc, zero, ◌+◌, ◌-◌, ◌<◌, Bool, true, false, not, cond, List, [], ◌∷◌, length, ◌++◌, get_or, reverse, Some, None, refl, sym, ap, subst, ◌∙◌, arith, find, get_or-reverse, length-reverse, Who, AccountMaps, above, node_in, step_up, IsNodeTree, past_front, above_once, superior_in, superior_found, chain_of, ActiveSegs, IsTree, Plain, Links, place_of, IsStore, is_there, chain_next, found_there, first_inactive, is_active, superior_of_node, State, active_place, turned, active_at, MayLook}
 
 -- nothing of a list is found whose numbers all fail
 module _ (p : ℕ → Bool) where

@@ -1,51 +1,12 @@
 -- What the calls that move pages promise, by what their steps leave.
-use Rattle.std.proofs.Common.{◌≡◌, ℕ, ◌<◌, ◌↔◌, Bool, true, false, cond, IsTrue, List, [], length, Option, None, Some}
-use Rattle.std.proofs.Common.{refl, sym, ap, ◌∙◌, arith, get_or}
-use Rattle.std.proofs.Common.{set, replicate, is_some, inl, inr, subst}
-use Rattle.std.specs.Prelude.{Result, Ok, Err, IfOk, OnOk, OnErr}
-use Rattle.std.proofs.lemmas.Bool.{cases_eq}
-use Rattle.std.proofs.lemmas.Grind.{same_number_lists}
-use Rattle.std.proofs.lemmas.List.{length-set, length-map, length-replicate, get_or-replicate, get_or-set_same}
-use Rattle.std.proofs.lemmas.List.{get_or-set_other, set_past, get_or_past}
-use Rattle.std.proofs.lemmas.List.Elements.{All-get_or}
-use Rattle.mword.specs.Words.{AreZero}
-use Rattle.core_map.specs.declared.Frame.{Frame}
-use Rattle.core_map.specs.declared.Frame.TheVariants.{Free, Started, Bound}
-use Rattle.core_map.specs.CoreMap.{reads_of, Core, frame_at, with_frame, is_modified, bound_page, started_page}
-use Rattle.page_table.specs.declared.Ptw.{Ptw}
-use Rattle.page_table.specs.declared.Ptw.TheVariants.{Null, Out, Here, Leaving}
-use Rattle.page_table.specs.PageTable.{ptw_at}
-use Rattle.vtoc.specs.Vtoc.{Entry}
-use Rattle.volumes.specs.Volumes.{with_page}
-use Rattle.page_control.specs.declared.Home.{Home}
-use Rattle.page_control.specs.declared.Left.{Left}
-use Rattle.page_control.specs.declared.Left.TheVariants.{Released, Kept}
-use Rattle.page_control.specs.Plain.{Plain, bindings, binding_at, frame_in, words_in, words_on, disk_of, filed}
-use Rattle.page_control.specs.Plain.{record_of}
-use Rattle.page_control.specs.Effects.{evicted, word_of_left, dropped, next_record}
-use Rattle.page_control.specs.Steps.{HasLeft, HasRead, HasCreated}
-use Rattle.page_control.specs.Counts.{taken, one_more, one_less, taken_after, KeepsCounts}
-use Rattle.page_control.specs.Picture.{words_at, words_out, words_filed, is_filed_at, is_stored, is_kept, KeepsWords}
-use Rattle.page_control.specs.Picture.{ChangesWords, ChangesStored}
-use Rattle.page_control.specs.Tied.{frame_of, has_record, is_away, is_out, map_at, IsTableOf, IsMapOf}
-use Rattle.page_control.specs.Ties.{IsTied, KeepsOthers}
-use Rattle.page_control.proofs.Facts.{binding_is, bindings_lost, bindings_with, starts_with, seen_same, bound_idle}
-use Rattle.page_control.proofs.Facts.{filed_in_use, record_is}
-use Rattle.page_control.proofs.Facts.{tied_filed, leaving_within}
-use Rattle.page_control.proofs.Ties.{frame_same, map_place, map_word, map_read, table_word, table_left}
-use Rattle.page_control.proofs.Ties.{table_read, table_lost, table_created}
-use Rattle.page_control.proofs.Ties.{frame_within}
+use Rattle.page_control.proofs.Prelude.{◌≡◌, ℕ, ◌<◌, ◌↔◌, Bool, true, false, cond, IsTrue, List, [], length, Option, None, Some, refl, sym, ap, ◌∙◌, arith, get_or, set, replicate, is_some, inl, inr, subst, Result, Ok, Err, IfOk, OnOk, OnErr, cases_eq, same_number_lists, length-set, length-map, length-replicate, get_or-replicate, get_or-set_same, get_or-set_other, set_past, get_or_past, All-get_or, AreZero, Frame, Free, Started, Bound, reads_of, Core, frame_at, with_frame, is_modified, bound_page, started_page, Ptw, Null, Out, Here, Leaving, ptw_at, Entry, with_page, Home, Left, Released, Kept, Plain, bindings, binding_at, frame_in, words_in, words_on, disk_of, filed, record_of, evicted, word_of_left, dropped, next_record, HasLeft, HasRead, HasCreated, taken, one_more, one_less, taken_after, KeepsCounts, words_at, words_out, words_filed, is_filed_at, is_stored, is_kept, KeepsWords, ChangesWords, ChangesStored, frame_of, has_record, is_away, is_out, map_at, IsTableOf, IsMapOf, IsTied, KeepsOthers, none_put, within_from, not_none, off_and_on, put}
+use Rattle.page_control.proofs.Facts.{binding_is, bindings_lost, bindings_with, starts_with, seen_same, bound_idle, filed_in_use, record_is, tied_filed, leaving_within}
+use Rattle.page_control.proofs.Ties.{frame_same, map_place, map_word, map_read, table_word, table_left, table_read, table_lost, table_created, frame_within}
 use Rattle.page_control.proofs.Pictures.{shown_in, shown_out, bound_now}
 use Rattle.page_control.proofs.Places.{refile, map_refiled}
 use Rattle.page_control.proofs.Naming.{filed_unstored, filed_stored}
-use Rattle.page_control.proofs.Counting.{counts_evicted, counts_read, counts_created, counts_lost, counts_same}
-use Rattle.page_control.proofs.Counting.{counts_dropped, taken_more, taken_less}
-use Rattle.page_control.proofs.Touching.{Touches, IsPage, page_none, page_some, refiles, moves, others_of, tie_own}
-use Rattle.page_control.proofs.Touching.{words_kept, words_other, stored_other}
-use Rattle.laws.proofs.Lists.{none_put, within_from}
-use Rattle.laws.proofs.Options.{not_none}
-use Rattle.laws.proofs.Bools.{off_and_on}
-use Rattle.laws.proofs.Places.{put}
+use Rattle.page_control.proofs.Counting.{counts_evicted, counts_read, counts_created, counts_lost, counts_same, counts_dropped, taken_more, taken_less}
+use Rattle.page_control.proofs.Touching.{Touches, IsPage, page_none, page_some, refiles, moves, others_of, tie_own, words_kept, words_other, stored_other}
 
 -- where nothing has changed
 others_same : (s now : Plain) (uid : ℕ) (home : Home) → now ≡ s → KeepsOthers s now uid home

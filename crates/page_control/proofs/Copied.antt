@@ -1,18 +1,5 @@
 -- A page that is copied to its record at another home, for the proofs of the crates above.
-use Rattle.std.proofs.Common.{◌≡◌, ◌≢◌, ℕ, ◌+◌, ◌<◌, ◌≤◌, arith, List, [], length, Some, sym, ap, ◌∙◌}
-use Rattle.std.proofs.Common.{get_or, set, inl, inr}
-use Rattle.std.proofs.lemmas.Bool.{cases_eq}
-use Rattle.std.proofs.lemmas.Bool.Decides.{leb_tells}
-use Rattle.std.proofs.lemmas.List.{get_or-set_same, get_or-set_other}
-use Rattle.page_table.specs.declared.Ptw.{Ptw}
-use Rattle.page_table.specs.declared.Ptw.TheVariants.{Out}
-use Rattle.page_table.specs.PageTable.{ptw_at}
-use Rattle.vtoc.specs.Vtoc.{record_at}
-use Rattle.page_control.specs.declared.Home.{Home}
-use Rattle.page_control.specs.Plain.{Plain, disk_of, filed}
-use Rattle.page_control.specs.Tied.{vtoc_in}
-use Rattle.page_control.specs.Picture.{words_filed, words_out}
-use Rattle.page_control.specs.Moves.{IsCopied, IsWrittenAt, written}
+use Rattle.page_control.proofs.Prelude.{◌≡◌, ◌≢◌, ℕ, ◌+◌, ◌<◌, ◌≤◌, arith, List, [], length, Some, sym, ap, ◌∙◌, get_or, set, inl, inr, cases_eq, leb_tells, get_or-set_same, get_or-set_other, Ptw, Out, ptw_at, record_at, Home, Plain, disk_of, filed, vtoc_in, words_filed, words_out, IsCopied, IsWrittenAt, written}
 use Rattle.page_control.proofs.Pictures.{filed_same}
 
 -- the pages of the volume whose record is written

@@ -1,26 +1,6 @@
 -- What becomes of the counts of each volume.
-use Rattle.std.proofs.Common.{◌≡◌, ◌≢◌, ℕ, suc, ◌+◌, ◌-◌, ◌<◌, Bool, true, false, cond, eqb, List, [], ◌∷◌, length}
-use Rattle.std.proofs.Common.{Option, Some, None, is_some, refl, ap}
-use Rattle.std.proofs.Common.{◌∙◌, arith, inl, inr, get_or, set, map, count_by}
-use Rattle.std.proofs.lemmas.Bool.Decides.{eqb_tells, leb_tells}
-use Rattle.std.proofs.lemmas.List.{get_or-set_same, get_or-set_other, length-set, set_past}
-use Rattle.std.proofs.lemmas.List.Sums.{sum_by-set}
-use Rattle.std.proofs.Math.Seq.{map-set_same}
-use Rattle.bitmap.specs.Bitmap.{in_use}
-use Rattle.vtoc.specs.Vtoc.{Entry, entry_at, uid_of, with_record, fresh_entry}
-use Rattle.page_control.specs.Tied.{flags_in, vtoc_in, uid_at, map_at}
-use Rattle.page_control.specs.Plain.{Plain, flags_of, file_map_of}
-use Rattle.page_control.specs.declared.Home.{Home}
-use Rattle.page_control.specs.declared.Left.{Left}
-use Rattle.page_control.specs.declared.Left.TheVariants.{Released, Kept}
-use Rattle.core_map.specs.declared.Frame.TheVariants.{Free}
-use Rattle.core_map.specs.CoreMap.{Core}
-use Rattle.page_table.specs.declared.Ptw.{Ptw}
-use Rattle.page_table.specs.declared.Ptw.TheVariants.{Null, Out, Here, Leaving}
-use Rattle.page_control.specs.Effects.{erased, freed, evicted, created, brought_in, framed, dropped}
+use Rattle.page_control.proofs.Prelude.{◌≡◌, ◌≢◌, ℕ, suc, ◌+◌, ◌-◌, ◌<◌, Bool, true, false, cond, eqb, List, [], ◌∷◌, length, Option, Some, None, is_some, refl, ap, ◌∙◌, arith, inl, inr, get_or, set, map, count_by, eqb_tells, leb_tells, get_or-set_same, get_or-set_other, length-set, set_past, sum_by-set, map-set_same, in_use, Entry, entry_at, uid_of, with_record, fresh_entry, flags_in, vtoc_in, uid_at, map_at, Plain, flags_of, file_map_of, Home, Left, Released, Kept, Free, Core, Ptw, Null, Out, Here, Leaving, erased, freed, evicted, created, brought_in, framed, dropped, taken, used, named_on, one_more, one_less, KeepsCounts, put, list_within, count_with, count_without, flag_within}
 use Rattle.page_control.proofs.Places.{refile, home_within}
-use Rattle.page_control.specs.Counts.{taken, used, named_on, one_more, one_less, KeepsCounts}
-use Rattle.laws.proofs.Places.{put, list_within, count_with, count_without, flag_within}
 
 -- one entry names another record
 some_with : (entry : Option Entry) (p : ℕ) (place : Option ℕ) → is_some (with_record entry p place) ≡ is_some entry

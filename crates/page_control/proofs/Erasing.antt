@@ -1,33 +1,11 @@
 -- A segment that is erased.
-use Rattle.std.proofs.Common.{◌≡◌, ◌≢◌, ℕ, suc, ◌+◌, ◌<◌, Bool, true, false, List, [], ◌∷◌, length, Option, None, Some}
-use Rattle.std.proofs.Common.{refl, sym, ap, ◌∙◌, arith, get_or, set, drop}
-use Rattle.std.proofs.Common.{is_some, count_by, replicate, inl, inr, subst}
-use Rattle.std.proofs.lemmas.Bool.{cases_eq}
-use Rattle.std.proofs.lemmas.Bool.Decides.{leb_tells}
-use Rattle.std.proofs.lemmas.List.{get_or-set_same, get_or-set_other, get_or_past, set-set, set-get_or, at_drop_all}
-use Rattle.std.proofs.lemmas.List.{at_drop_more, drop-set-lt, get_or-drop}
-use Rattle.vtoc.specs.Vtoc.{Entry, entry_at, records_in, uid_of, with_record, HasFullMaps, NamesNoRecord}
-use Rattle.bitmap.specs.Bitmap.{in_use}
-use Rattle.page_table.specs.declared.Ptw.{Ptw}
-use Rattle.page_control.specs.declared.Home.{Home}
-use Rattle.page_control.specs.Plain.{Plain, bindings, flags_of, file_map_of, filed, record_of, disk_of}
-use Rattle.page_control.specs.Effects.{freed, erased, unstored}
-use Rattle.page_control.specs.Erasing.{IsPartErased}
-use Rattle.page_control.specs.Tied.{vtoc_in, flags_in, uid_at, map_at, HasNoFrame, AreFiled}
-use Rattle.page_control.specs.Picture.{words_at, words_filed, is_filed_at, is_stored}
-use Rattle.page_control.specs.Ties.{IsTied}
+use Rattle.page_control.proofs.Prelude.{◌≡◌, ◌≢◌, ℕ, suc, ◌+◌, ◌<◌, Bool, true, false, List, [], ◌∷◌, length, Option, None, Some, refl, sym, ap, ◌∙◌, arith, get_or, set, drop, is_some, count_by, replicate, inl, inr, subst, cases_eq, leb_tells, get_or-set_same, get_or-set_other, get_or_past, set-set, set-get_or, at_drop_all, at_drop_more, drop-set-lt, get_or-drop, Entry, entry_at, records_in, uid_of, with_record, HasFullMaps, NamesNoRecord, in_use, Ptw, Home, Plain, bindings, flags_of, file_map_of, filed, record_of, disk_of, freed, erased, unstored, IsPartErased, vtoc_in, flags_in, uid_at, map_at, HasNoFrame, AreFiled, words_at, words_filed, is_filed_at, is_stored, IsTied, taken, named_on, none_put, within_from, not_none, off_and_on, put, put_other, put_here, put_put}
 use Rattle.page_control.proofs.Pictures.{shown_out, words_by}
-use Rattle.page_control.proofs.Places.{volume_within, home_within, refile, map_refiled}
-use Rattle.page_control.proofs.Places.{uids_refiled, other_home}
+use Rattle.page_control.proofs.Places.{volume_within, home_within, refile, map_refiled, uids_refiled, other_home}
 use Rattle.page_control.proofs.Naming.{filed_unstored, filed_freed, maps_freed}
 use Rattle.page_control.proofs.Marks.{tie_mapped}
 use Rattle.page_control.proofs.Homes.{no_record}
 use Rattle.page_control.proofs.Counting.{fewer_at, named_less, none_named, named_here}
-use Rattle.page_control.specs.Counts.{taken, named_on}
-use Rattle.laws.proofs.Lists.{none_put, within_from}
-use Rattle.laws.proofs.Options.{not_none}
-use Rattle.laws.proofs.Bools.{off_and_on}
-use Rattle.laws.proofs.Places.{put, put_other, put_here, put_put}
 
 freed_some : (flags : List Bool) (places : List (Option ℕ)) (place : Option ℕ) (r : ℕ) → place ≡ Some r
     → freed flags (place ∷ places) ≡ freed (set flags r false) places

@@ -1,27 +1,4 @@
-use Rattle.std.proofs.Common.{◌≡◌, ℕ, ◌<◌, arith, Bool, true, false, List, [], ◌∷◌, ◌++◌, length, Option, None, Some}
-use Rattle.std.proofs.Common.{refl, sym, ap, ◌∙◌, get_or, set}
-use Rattle.std.proofs.Common.{replicate, take, map, All, IsSome, is_some}
-use Rattle.std.proofs.lemmas.List.{get_or-set_same, set-set, map-set, length-map}
-use Rattle.std.proofs.Math.ListN.{get_or-map}
-use Rattle.std.proofs.Math.Seq.{map-set_same}
-use Rattle.std.proofs.lemmas.List.Elements.{All-get_or}
-use Rattle.bitmap.specs.Bitmap.{in_use, IsLeastFree}
-use Rattle.core_map.specs.declared.Frame.{Frame}
-use Rattle.core_map.specs.declared.Frame.TheVariants.{Free, Started, Bound}
-use Rattle.core_map.specs.CoreMap.{reads_of, Core, frame_at, with_frame, is_bound, bound_page, started_page}
-use Rattle.core_map.specs.CoreMap.{after_reference}
-use Rattle.page_table.specs.declared.Ptw.{Ptw}
-use Rattle.page_table.specs.declared.Ptw.TheVariants.{Null, Out, Here, Leaving}
-use Rattle.page_table.specs.PageTable.{ptw_at}
-use Rattle.vtoc.specs.Vtoc.{Entry, uid_of}
-use Rattle.page_control.specs.declared.Home.{Home}
-use Rattle.page_control.specs.Plain.{Plain, Paging, plain, bindings, binding_at, flags_of, file_map_of, filed}
-use Rattle.page_control.specs.Plain.{entry_of, record_of, number_in, number_or_zero}
-use Rattle.page_control.specs.Tied.{frame_of, has_record, uid_in, uid_at, IsTableOf, IsMapOf, AreFiled}
-use Rattle.page_control.specs.Ties.{IsTied}
-use Rattle.laws.proofs.Lists.{within_from}
-use Rattle.laws.proofs.Places.{flag_within}
-use Rattle.laws.proofs.Options.{some_unwrapped, map_some}
+use Rattle.page_control.proofs.Prelude.{◌≡◌, ℕ, ◌<◌, arith, Bool, true, false, List, [], ◌∷◌, ◌++◌, length, None, Some, refl, sym, ap, ◌∙◌, get_or, set, replicate, take, map, All, IsSome, get_or-set_same, set-set, map-set, length-map, get_or-map, map-set_same, All-get_or, in_use, IsLeastFree, Frame, Free, Started, Bound, reads_of, Core, frame_at, with_frame, is_bound, bound_page, started_page, after_reference, Ptw, Null, Out, Here, Leaving, ptw_at, Entry, Home, Plain, Paging, plain, bindings, binding_at, flags_of, file_map_of, filed, entry_of, record_of, number_in, number_or_zero, frame_of, has_record, uid_in, uid_at, IsTableOf, IsMapOf, AreFiled, IsTied, within_from, flag_within, some_unwrapped, map_some}
 
 pub home_used : (s : Plain) (uid : ℕ) (home : Home) → uid_at s.vtocs home ≡ Some uid → IsSome (entry_of s home)
 home_used s uid home h = map_some (λ (e : Entry). e.uid) (entry_of s home) uid h

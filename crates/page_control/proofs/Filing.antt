@@ -1,17 +1,6 @@
 -- The records that file maps name stay in use and named once, whatever a call does to them.
-use Rattle.std.proofs.Common.{◌≡◌, ◌⊎◌, ℕ, ◌<◌, Bool, true, false, List, [], length, Option, None, Some, refl, sym, ap}
-use Rattle.std.proofs.Common.{◌∙◌, get_or, inl, inr}
-use Rattle.std.proofs.lemmas.Bool.{cases_eq}
-use Rattle.record_map.specs.Bitmap.{in_use}
-use Rattle.vtoc.specs.Vtoc.{Entry, entry_at, record_at, records_in, with_record}
-use Rattle.page_control.specs.declared.Home.{Home}
-use Rattle.page_control.specs.Tied.{vtoc_in, flags_in, uid_at, map_at, AreFiled}
-use Rattle.page_control.proofs.Places.{some_put, refile, map_refiled}
-use Rattle.page_control.proofs.Places.{volume_within, home_within, same_record}
-use Rattle.laws.proofs.Lists.{none_put, within_from}
-use Rattle.laws.proofs.Options.{not_none}
-use Rattle.laws.proofs.Bools.{off_and_on}
-use Rattle.laws.proofs.Places.{put, put_here, put_other}
+use Rattle.page_control.proofs.Prelude.{◌≡◌, ◌⊎◌, ℕ, ◌<◌, Bool, true, false, List, [], length, Option, None, Some, refl, sym, ap, ◌∙◌, get_or, inl, inr, cases_eq, in_use, Entry, entry_at, record_at, records_in, with_record, Home, vtoc_in, flags_in, uid_at, map_at, AreFiled, none_put, within_from, not_none, off_and_on, put, put_here, put_other}
+use Rattle.page_control.proofs.Places.{some_put, refile, map_refiled, volume_within, home_within, same_record}
 
 -- the records that file maps name are in use, and each is named once
 pub record AreUsed (records : List (List Bool)) (vtocs : List (List (Option Entry))) : Type 0 where

@@ -1,32 +1,10 @@
 -- A segment that gets a home.
-use Rattle.std.proofs.Common.{◌≡◌, ◌≢◌, ℕ, ◌<◌, replicate, List, [], length, Option, None, Some, refl, sym}
-use Rattle.std.proofs.Common.{ap, ◌∙◌}
-use Rattle.std.proofs.Common.{get_or, set, is_some, inl, inr}
-use Rattle.std.specs.Prelude.{IfSome, IfNone}
-use Rattle.std.proofs.lemmas.List.{set-get_or}
-use Rattle.vtoc.specs.FileMap.{no_records}
-use Rattle.vtoc.specs.Vtoc.{Entry, records_in, uid_of, fresh_entry}
-use Rattle.page_table.specs.declared.Ptw.{Ptw}
-use Rattle.page_table.specs.declared.Ptw.TheVariants.{Null, Out}
-use Rattle.page_table.specs.PageTable.{ptw_at}
-use Rattle.page_control.specs.declared.Home.{Home}
-use Rattle.page_control.specs.Counts.{used, one_more}
-use Rattle.page_control.specs.Effects.{after_asked}
-use Rattle.page_control.specs.Steps.{HasAsked}
-use Rattle.page_control.specs.Plain.{Plain, bindings, binding_at, disk_of}
-use Rattle.page_control.specs.Tied.{vtoc_in, frame_of, has_record, uid_at, map_at, IsTableOf, IsMapOf, AreFiled}
-use Rattle.page_control.specs.Tied.{HasNoFrame, IsBlank}
-use Rattle.page_control.specs.Picture.{words_at, words_filed, is_filed_at, is_stored}
-use Rattle.page_control.specs.Ties.{IsTied, KeepsTies}
+use Rattle.page_control.proofs.Prelude.{◌≡◌, ◌≢◌, ℕ, ◌<◌, replicate, List, [], length, Option, None, Some, refl, sym, ap, ◌∙◌, get_or, set, is_some, inl, inr, IfSome, IfNone, set-get_or, no_records, Entry, records_in, uid_of, fresh_entry, Ptw, Null, Out, ptw_at, Home, used, one_more, after_asked, HasAsked, Plain, bindings, binding_at, disk_of, vtoc_in, frame_of, has_record, uid_at, map_at, IsTableOf, IsMapOf, AreFiled, HasNoFrame, IsBlank, words_at, words_filed, is_filed_at, is_stored, IsTied, KeepsTies, all_same, not_none, off_and_on, put, list_within, put_here, put_other}
 use Rattle.page_control.proofs.Places.{at_or_other, other_home}
 use Rattle.page_control.proofs.Pictures.{shown_out, words_by}
 use Rattle.page_control.proofs.Marks.{tie_mapped}
 use Rattle.page_control.proofs.Naming.{filed_mapped}
 use Rattle.page_control.proofs.Counting.{used_more}
-use Rattle.laws.proofs.Lists.{all_same}
-use Rattle.laws.proofs.Options.{not_none}
-use Rattle.laws.proofs.Bools.{off_and_on}
-use Rattle.laws.proofs.Places.{put, list_within, put_here, put_other}
 
 -- an empty file map names no record
 pub no_record : (q : ℕ) → get_or no_records q None ≡ None

@@ -1,3 +1,4 @@
+mod Prelude
 pub mod Facts
 pub mod Ties
 pub mod Firsts

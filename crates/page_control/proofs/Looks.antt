@@ -1,21 +1,9 @@
 -- What a word that names a frame tells of the frame and of the page.
-use Rattle.std.proofs.Common.{◌≡◌, ℕ, true, false, List, Option, None, Some, refl, sym, ap, ◌∙◌, arith, is_some}
-use Rattle.core_map.specs.declared.Frame.{Frame}
-use Rattle.core_map.specs.CoreMap.{Core, frame_at, bound_page}
-use Rattle.mword.specs.Words.{AreZero}
-use Rattle.page_table.specs.declared.Ptw.{Ptw}
-use Rattle.page_table.specs.declared.Ptw.TheVariants.{Null, Out, Here, Leaving}
-use Rattle.page_table.specs.PageTable.{ptw_at}
-use Rattle.page_control.specs.declared.Home.{Home}
-use Rattle.page_control.specs.Plain.{Plain, bindings, number_in, words_in, disk_of, filed, record_of}
-use Rattle.page_control.specs.Tied.{frame_of, has_record, is_out, uid_in, IsTableOf, IsBoundTo}
-use Rattle.page_control.specs.Picture.{words_at, words_filed, is_filed_at, is_stored}
-use Rattle.page_control.specs.Ties.{IsTied, IsSeen}
+use Rattle.page_control.proofs.Prelude.{◌≡◌, ℕ, true, false, List, Option, None, Some, refl, sym, ap, ◌∙◌, arith, is_some, Frame, Core, frame_at, bound_page, AreZero, Ptw, Null, Out, Here, Leaving, ptw_at, Home, Plain, bindings, number_in, words_in, disk_of, filed, record_of, frame_of, has_record, is_out, uid_in, IsTableOf, IsBoundTo, words_at, words_filed, is_filed_at, is_stored, IsTied, IsSeen, not_none}
 use Rattle.page_control.proofs.Facts.{binding_is, bound_from_page, bound_to, tied_filed, filed_in_use}
 use Rattle.page_control.proofs.Ties.{number_of, frame_same}
 use Rattle.page_control.proofs.Pictures.{uid_part, shown_in, shown_out}
 use Rattle.page_control.proofs.Counting.{fewer_at}
-use Rattle.laws.proofs.Options.{not_none}
 
 told : (frame : Frame) (uid p : ℕ) → bound_page frame ≡ Some (uid, p)
     → ◌≡◌ {A = Option (ℕ × ℕ)} (Some (uid_in frame, number_in frame)) (Some (uid, p))

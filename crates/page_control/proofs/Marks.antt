@@ -1,35 +1,9 @@
 -- Calls that change marks and words in frames alone, and calls that change VTOCs alone.
-use Rattle.std.proofs.Common.{◌≡◌, ◌≢◌, ℕ, ◌<◌, Bool, true, false, cond, List, [], length, Option, None, Some, refl}
-use Rattle.std.proofs.Common.{sym, ap, ◌∙◌, arith, get_or, set, is_some}
-use Rattle.std.proofs.Common.{inl, inr, subst}
-use Rattle.std.specs.List.{position}
-use Rattle.std.proofs.lemmas.Bool.{cases_eq}
-use Rattle.std.proofs.lemmas.List.{get_or-set_same, get_or-set_other, length-set}
-use Rattle.std.proofs.lemmas.List.Quantifiers.{position-Some}
-use Rattle.core_map.specs.declared.Frame.{Frame}
-use Rattle.core_map.specs.declared.Frame.TheVariants.{Free, Started, Bound}
-use Rattle.core_map.specs.CoreMap.{Core, frame_at, with_frame, is_bound, is_modified, bound_page, after_reference}
-use Rattle.core_map.specs.Clock.{IsClockChoice, unmarked}
-use Rattle.mword.specs.Words.{AreZero}
-use Rattle.page_table.specs.declared.Ptw.{Ptw}
-use Rattle.page_table.specs.declared.Ptw.TheVariants.{Here, Leaving}
-use Rattle.page_table.specs.PageTable.{ptw_at}
-use Rattle.vtoc.specs.Vtoc.{Entry, record_at}
-use Rattle.page_control.specs.declared.Home.{Home}
-use Rattle.page_control.specs.Plain.{Plain, bindings, binding_at, frame_in, words_in, number_in}
-use Rattle.page_control.specs.Effects.{worded, referred}
-use Rattle.page_control.specs.Tied.{vtoc_in, uid_at, uid_in, map_at, IsTableOf, IsMapOf, AreFiled, IsBoundOnce}
-use Rattle.page_control.specs.Picture.{is_binding, words_held, words_of_page, words_at, is_filed_at, is_stored}
-use Rattle.page_control.specs.Picture.{changed_at, changed_page}
-use Rattle.page_control.specs.Ties.{IsTied, KeepsTies}
+use Rattle.page_control.proofs.Prelude.{◌≡◌, ◌≢◌, ℕ, ◌<◌, Bool, true, false, cond, List, [], length, Option, None, Some, refl, sym, ap, ◌∙◌, arith, get_or, set, is_some, inl, inr, subst, position, cases_eq, get_or-set_same, get_or-set_other, length-set, position-Some, Frame, Free, Started, Bound, Core, frame_at, with_frame, is_bound, is_modified, bound_page, after_reference, IsClockChoice, unmarked, AreZero, Ptw, Here, Leaving, ptw_at, Entry, record_at, Home, Plain, bindings, binding_at, frame_in, words_in, number_in, worded, referred, vtoc_in, uid_at, uid_in, map_at, IsTableOf, IsMapOf, AreFiled, IsBoundOnce, is_binding, words_held, words_of_page, words_at, is_filed_at, is_stored, changed_at, changed_page, IsTied, KeepsTies, not_none, off_and_on, within_from}
 use Rattle.page_control.proofs.Facts.{binding_is, bound_to, bindings_referred, here_within, leaving_within}
 use Rattle.page_control.proofs.Ties.{number_of, table_taken, table_back, map_taken, map_back}
-use Rattle.page_control.proofs.Pictures.{page, uid_part, binding_tells, found_at, in_frame_or_out}
-use Rattle.page_control.proofs.Pictures.{words_by, out_by}
+use Rattle.page_control.proofs.Pictures.{page, uid_part, binding_tells, found_at, in_frame_or_out, words_by, out_by}
 use Rattle.page_control.proofs.Turns.{bindings_chosen, kept_chosen, inside_from, bound_inside}
-use Rattle.laws.proofs.Options.{not_none}
-use Rattle.laws.proofs.Bools.{off_and_on}
-use Rattle.laws.proofs.Lists.{within_from}
 
 stored_by : (s now : Plain) (h : Home) (q : ℕ) → map_at now.vtocs h ≡ map_at s.vtocs h → is_stored now h q
     ≡ is_stored s h q

@@ -1,27 +1,10 @@
 -- The modified marks of a segment's frames are turned on, page by page.
-use Rattle.std.proofs.Common.{◌≡◌, ◌⊎◌, ℕ, suc, ◌+◌, ◌<◌, ◌≤◌, ◌||◌, ◌&&◌, eqb, ltb, Bool, true, false, List, []}
-use Rattle.std.proofs.Common.{◌∷◌, length, map, Option, None, Some, refl, sym, ap, ◌∙◌, arith, get_or, set, inl, inr}
-use Rattle.std.proofs.Common.{eq-eqb}
-use Rattle.std.proofs.lemmas.Bool.{cases_eq}
-use Rattle.std.proofs.lemmas.Bool.Decides.{eqb_tells, leb_tells}
-use Rattle.std.proofs.lemmas.List.{ext_get_or, get_or-map, get_or-set_same, get_or-set_other, length-map, length-set}
-use Rattle.core_map.specs.declared.Frame.{Frame}
-use Rattle.core_map.specs.declared.Frame.TheVariants.{Free, Started, Bound}
-use Rattle.core_map.specs.CoreMap.{Core, frame_at, with_frame, with_modified, is_bound, is_modified, bound_page}
-use Rattle.core_map.specs.CoreMap.{started_page, reads_of}
-use Rattle.page_table.specs.declared.Ptw.{Ptw}
-use Rattle.page_table.specs.declared.Ptw.TheVariants.{Null, Out, Here, Leaving}
-use Rattle.page_table.specs.PageTable.{ptw_at}
-use Rattle.page_control.specs.Plain.{Plain, bindings, binding_at, frame_in}
-use Rattle.page_control.specs.Tied.{frame_of, IsTableOf}
-use Rattle.page_control.specs.Moves.{modified_of, modified_before, all_modified, part_modified}
+use Rattle.page_control.proofs.Prelude.{◌≡◌, ◌⊎◌, ℕ, suc, ◌+◌, ◌<◌, ◌≤◌, ◌||◌, ◌&&◌, eqb, ltb, Bool, true, false, List, [], ◌∷◌, length, map, Option, None, Some, refl, sym, ap, ◌∙◌, arith, get_or, set, inl, inr, eq-eqb, cases_eq, eqb_tells, leb_tells, ext_get_or, get_or-set_same, get_or-set_other, length-map, length-set, Frame, Free, Started, Bound, Core, frame_at, with_frame, with_modified, is_bound, is_modified, bound_page, started_page, reads_of, Ptw, Null, Out, Here, Leaving, ptw_at, Plain, bindings, binding_at, frame_in, frame_of, IsTableOf, modified_of, modified_before, all_modified, part_modified, below, not_none, within_from}
+use Rattle.std.proofs.lemmas.List.{get_or-map}
 use Rattle.page_control.proofs.Facts.{binding_is, bound_from_page}
 use Rattle.page_control.proofs.Ties.{frame_same}
 use Rattle.page_control.proofs.Turns.{bound_inside}
 use Rattle.page_control.proofs.Marks.{Marks}
-use Rattle.laws.proofs.Numbers.{below}
-use Rattle.laws.proofs.Options.{not_none}
-use Rattle.laws.proofs.Lists.{within_from}
 
 -- ---- one frame
 

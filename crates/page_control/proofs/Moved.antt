@@ -1,27 +1,9 @@
 -- A segment whose pages are copied is tied to its new home, with the words that it had.
-use Rattle.std.proofs.Common.{◌≡◌, ◌⊎◌, ℕ, zero, suc, ◌<◌, ◌≤◌, arith, false, List, [], ◌∷◌, length, Option, None, Some}
-use Rattle.std.proofs.Common.{refl, sym, ap, subst, ◌∙◌, get_or, is_some, inl, inr}
-use Rattle.std.specs.List.{position}
-use Rattle.std.proofs.lemmas.List.{ext_get_or}
-use Rattle.core_map.specs.CoreMap.{Core, frame_at, is_modified, reads_of}
-use Rattle.mword.specs.Words.{AreZero}
-use Rattle.page_table.specs.declared.Ptw.{Ptw}
-use Rattle.page_table.specs.declared.Ptw.TheVariants.{Null, Out, Here, Leaving}
-use Rattle.page_table.specs.PageTable.{ptw_at}
-use Rattle.page_control.specs.declared.Home.{Home}
-use Rattle.page_control.specs.Plain.{Plain, bindings, binding_at, disk_of, filed, frame_in}
-use Rattle.page_control.specs.Tied.{frame_of, has_record, map_at, IsMapOf, IsTableOf}
-use Rattle.page_control.specs.Picture.{is_binding, is_filed_at, is_stored, words_at, words_filed, words_held}
-use Rattle.page_control.specs.Picture.{words_of_page, words_out}
-use Rattle.page_control.specs.Ties.{IsTied, KeepsTies}
-use Rattle.page_control.specs.Moves.{IsHomeFor, IsCopied, KeepsHome, rehomed_word, rehomed}
+use Rattle.page_control.proofs.Prelude.{◌≡◌, ◌⊎◌, ℕ, zero, suc, ◌<◌, ◌≤◌, arith, false, List, [], ◌∷◌, length, Option, None, Some, refl, sym, ap, subst, ◌∙◌, get_or, is_some, inl, inr, position, ext_get_or, Core, frame_at, is_modified, reads_of, AreZero, Ptw, Null, Out, Here, Leaving, ptw_at, Home, Plain, bindings, binding_at, disk_of, filed, frame_in, frame_of, has_record, map_at, IsMapOf, IsTableOf, is_binding, is_filed_at, is_stored, words_at, words_filed, words_held, words_of_page, words_out, IsTied, KeepsTies, IsHomeFor, IsCopied, KeepsHome, rehomed_word, rehomed, none_there, not_none, off_and_on, within_from}
 use Rattle.page_control.proofs.Ties.{frame_same}
 use Rattle.page_control.proofs.Pictures.{found_at, words_by}
 use Rattle.page_control.proofs.Marks.{ties_marked, words_marked}
 use Rattle.page_control.proofs.Modified.{remarked, bindings_modified, reads_modified, marks_modified, all_on}
-use Rattle.laws.proofs.Options.{none_there, not_none}
-use Rattle.laws.proofs.Bools.{off_and_on}
-use Rattle.laws.proofs.Lists.{within_from}
 
 -- ---- the page table
 

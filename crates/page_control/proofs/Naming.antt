@@ -1,19 +1,8 @@
 -- The records in use stay those that file maps name, whatever a call does to them.
-use Rattle.std.proofs.Common.{◌≡◌, ◌⊎◌, ℕ, ◌<◌, Bool, true, false, List, length, Option, None, Some, sym, ap, ◌∙◌}
-use Rattle.std.proofs.Common.{get_or, set, inl, inr}
-use Rattle.std.proofs.lemmas.Bool.{cases_eq}
-use Rattle.bitmap.specs.Bitmap.{IsLeastFree}
-use Rattle.record_map.specs.Bitmap.{in_use}
-use Rattle.vtoc.specs.Vtoc.{Entry, record_at, records_in}
-use Rattle.page_control.specs.declared.Home.{Home}
-use Rattle.page_control.specs.Tied.{vtoc_in, flags_in, uid_at, map_at, AreFiled, IsNamed}
+use Rattle.page_control.proofs.Prelude.{◌≡◌, ◌⊎◌, ℕ, ◌<◌, Bool, true, false, List, length, Option, None, Some, sym, ap, ◌∙◌, get_or, set, inl, inr, cases_eq, IsLeastFree, in_use, Entry, record_at, records_in, Home, vtoc_in, flags_in, uid_at, map_at, AreFiled, IsNamed, not_none, off_and_on, put, put_here, put_other, list_within, flag_within}
 use Rattle.page_control.proofs.Ties.{frame_same}
-use Rattle.page_control.proofs.Places.{refile, volume_within, home_within}
-use Rattle.page_control.proofs.Places.{map_refiled, at_or_other}
+use Rattle.page_control.proofs.Places.{refile, volume_within, home_within, map_refiled, at_or_other}
 use Rattle.page_control.proofs.Filing.{AreUsed, used_of, refiled_cases, used_unstored, used_stored, used_fewer}
-use Rattle.laws.proofs.Options.{not_none}
-use Rattle.laws.proofs.Bools.{off_and_on}
-use Rattle.laws.proofs.Places.{put, put_here, put_other, list_within, flag_within}
 
 -- each record in use is named by some file map
 abbrev AreNamed : List (List Bool) → List (List (Option Entry)) → Type 0

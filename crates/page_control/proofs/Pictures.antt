@@ -1,21 +1,7 @@
 -- What the words of a page are, where it is in a frame and where it is in none.
-use Rattle.std.proofs.Common.{◌≡◌, ◌≢◌, ◌⊎◌, ℕ, Bool, true, false, List, [], length, Option, None, Some, refl, sym, ap}
-use Rattle.std.proofs.Common.{◌∙◌, get_or, set, eq-eqb, inl, inr}
-use Rattle.std.specs.List.{position}
-use Rattle.std.proofs.lemmas.Bool.Decides.{eqb_tells, leb_tells}
-use Rattle.std.proofs.lemmas.Bool.{cases_eq}
-use Rattle.std.proofs.lemmas.List.{get_or-set_same, get_or-set_other, get_or_past, set_past}
-use Rattle.std.proofs.lemmas.List.Quantifiers.{position-Some}
-use Rattle.vtoc.specs.Vtoc.{Entry}
-use Rattle.page_control.specs.declared.Home.{Home}
-use Rattle.page_control.specs.Plain.{Plain, bindings, binding_at, words_in, disk_of, filed}
-use Rattle.page_control.specs.Tied.{IsInFrame, map_at}
-use Rattle.page_control.specs.Picture.{is_binding, words_filed, words_out, words_held, words_of_page, words_at}
+use Rattle.page_control.proofs.Prelude.{◌≡◌, ◌≢◌, ◌⊎◌, ℕ, Bool, true, false, List, [], length, Option, None, Some, refl, sym, ap, ◌∙◌, get_or, set, eq-eqb, inl, inr, position, eqb_tells, leb_tells, cases_eq, get_or-set_same, get_or-set_other, get_or_past, set_past, position-Some, Entry, Home, Plain, bindings, binding_at, words_in, disk_of, filed, IsInFrame, map_at, is_binding, words_filed, words_out, words_held, words_of_page, words_at, not_none, position_nowhere, off_and_on}
 use Rattle.page_control.proofs.Ties.{bound_within}
 use Rattle.page_control.proofs.Firsts.{position_at_one}
-use Rattle.laws.proofs.Options.{not_none}
-use Rattle.laws.proofs.Lists.{position_nowhere}
-use Rattle.laws.proofs.Bools.{off_and_on}
 
 -- the picture is that of its parts
 pub picture_by : (bound old_bound : List (Option (ℕ × ℕ))) (frames old_frames : List (List ℕ))

@@ -1,16 +1,6 @@
 -- A change of one place of a list of lists, and of one entry of the VTOCs.
-use Rattle.std.proofs.Common.{◌≡◌, ◌≢◌, ◌⊎◌, ℕ, ◌<◌, List, [], length, Option, None, Some, refl, ap, ◌∙◌, arith}
-use Rattle.std.proofs.Common.{get_or, set, inl, inr}
-use Rattle.std.proofs.lemmas.Bool.{cases_eq}
-use Rattle.std.proofs.lemmas.Bool.Decides.{leb_tells}
-use Rattle.std.proofs.lemmas.List.{get_or-set_same, get_or-set_other, get_or_past, set_past}
-use Rattle.vtoc.specs.Vtoc.{Entry, entry_at, records_in, uid_of, with_record}
-use Rattle.page_control.specs.declared.Home.{Home}
-use Rattle.page_control.specs.Tied.{vtoc_in, uid_at, map_at}
+use Rattle.page_control.proofs.Prelude.{◌≡◌, ◌≢◌, ◌⊎◌, ℕ, ◌<◌, List, [], length, Option, None, Some, refl, ap, ◌∙◌, get_or, set, inl, inr, cases_eq, leb_tells, get_or-set_same, get_or-set_other, get_or_past, set_past, Entry, entry_at, records_in, uid_of, with_record, Home, vtoc_in, uid_at, map_at, not_none, within_from, put, put_here, put_other}
 use Rattle.page_control.proofs.Ties.{frame_same}
-use Rattle.laws.proofs.Options.{not_none}
-use Rattle.laws.proofs.Lists.{within_from}
-use Rattle.laws.proofs.Places.{put, put_here, put_other}
 
 pub some_put : (xs : List (Option ℕ)) (p r s : ℕ) → get_or (set xs p (Some r)) p None ≡ Some s → s ≡ r
 some_put xs p r s is = elim (leb_tells (length xs) p) [

@@ -1,20 +1,6 @@
 -- What a change of a word and a frame does to the ties between tables, file maps and frames.
-use Rattle.std.proofs.Common.{◌≡◌, ◌≢◌, ℕ, ◌<◌, true, false, List, length, Option, None, Some, sym, ap, ◌∙◌, get_or}
-use Rattle.std.proofs.Common.{set, is_some, inl, inr}
-use Rattle.std.proofs.lemmas.Bool.{cases_eq}
-use Rattle.std.proofs.lemmas.List.{get_or-set_same, get_or-set_other}
-use Rattle.page_table.specs.declared.Ptw.{Ptw}
-use Rattle.page_table.specs.declared.Ptw.TheVariants.{Null, Out, Here, Leaving}
-use Rattle.page_table.specs.PageTable.{ptw_at}
-use Rattle.core_map.specs.declared.Frame.TheVariants.{Free, Started, Bound}
-use Rattle.core_map.specs.CoreMap.{Core, frame_at, with_frame, bound_page}
-use Rattle.page_control.specs.Plain.{binding_at, bindings}
-use Rattle.page_control.proofs.Facts.{binding_is, bindings_with, seen_same, here_within}
-use Rattle.page_control.proofs.Facts.{leaving_within, out_within}
-use Rattle.std.proofs.lemmas.List.{length-map}
-use Rattle.page_control.specs.Tied.{frame_of, has_record, IsTableOf, IsMapOf}
-use Rattle.laws.proofs.Options.{not_none}
-use Rattle.laws.proofs.Lists.{within_from}
+use Rattle.page_control.proofs.Prelude.{◌≡◌, ◌≢◌, ℕ, ◌<◌, true, false, List, length, Option, None, Some, sym, ap, ◌∙◌, get_or, set, is_some, inl, inr, cases_eq, get_or-set_same, get_or-set_other, Ptw, Null, Out, Here, Leaving, ptw_at, Free, Started, Bound, Core, frame_at, with_frame, bound_page, binding_at, bindings, length-map, frame_of, has_record, IsTableOf, IsMapOf, not_none, within_from}
+use Rattle.page_control.proofs.Facts.{binding_is, bindings_with, seen_same, here_within, leaving_within, out_within}
 
 abbrev pub number_of : Option (ℕ × ℕ) → ℕ
 number_of None = 0

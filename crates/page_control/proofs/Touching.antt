@@ -1,31 +1,10 @@
 -- A call that concerns one page of a segment at its home, and what it leaves to all other pages.
-use Rattle.std.proofs.Common.{◌≡◌, ◌≢◌, ℕ, true, false, List, [], length, Option, None, Some, refl, sym, ap, ◌∙◌}
-use Rattle.std.proofs.Common.{arith, get_or, set, is_some, inl, inr}
-use Rattle.std.proofs.Common.{subst}
-use Rattle.std.specs.List.{position}
-use Rattle.std.proofs.lemmas.List.{get_or-set_other}
-use Rattle.std.proofs.lemmas.List.Quantifiers.{position-Some}
-use Rattle.std.proofs.lemmas.Bool.{cases_eq}
-use Rattle.core_map.specs.declared.Frame.{Frame}
-use Rattle.core_map.specs.declared.Frame.TheVariants.{Free}
-use Rattle.core_map.specs.CoreMap.{Core, frame_at, with_frame, is_modified, bound_page}
-use Rattle.mword.specs.Words.{AreZero}
-use Rattle.page_table.specs.declared.Ptw.{Ptw}
-use Rattle.vtoc.specs.Vtoc.{Entry, record_at}
-use Rattle.page_control.specs.declared.Home.{Home}
-use Rattle.page_control.specs.Plain.{Plain, bindings, binding_at, frame_in, words_in, disk_of, filed}
-use Rattle.page_control.specs.Tied.{vtoc_in, uid_at, map_at, IsTableOf, IsMapOf, AreFiled, IsInFrame}
-use Rattle.page_control.specs.Picture.{is_binding, words_filed, words_held, words_of_page, words_at, words_out}
-use Rattle.page_control.specs.Picture.{is_filed_at, is_stored, KeepsWords}
-use Rattle.page_control.specs.Ties.{IsTied, KeepsOthers}
+use Rattle.page_control.proofs.Prelude.{◌≡◌, ◌≢◌, ℕ, true, false, List, [], length, Option, None, Some, refl, sym, ap, ◌∙◌, arith, get_or, set, is_some, inl, inr, subst, position, get_or-set_other, position-Some, cases_eq, Frame, Free, Core, frame_at, with_frame, is_modified, bound_page, AreZero, Ptw, Entry, record_at, Home, Plain, bindings, binding_at, frame_in, words_in, disk_of, filed, vtoc_in, uid_at, map_at, IsTableOf, IsMapOf, AreFiled, IsInFrame, is_binding, words_filed, words_held, words_of_page, words_at, words_out, is_filed_at, is_stored, KeepsWords, IsTied, KeepsOthers, not_none, off_and_on}
 use Rattle.page_control.proofs.Facts.{bindings_with}
 use Rattle.page_control.proofs.Ties.{number_of}
 use Rattle.page_control.proofs.Firsts.{position_kept}
 use Rattle.page_control.proofs.Pictures.{uid_part, off_from, filed_same, bound_now, in_frame_kept}
-use Rattle.page_control.proofs.Places.{refile, map_refiled, maps_refiled, uids_refiled, one_home, one_uid}
-use Rattle.page_control.proofs.Places.{same_or_other}
-use Rattle.laws.proofs.Options.{not_none}
-use Rattle.laws.proofs.Bools.{off_and_on}
+use Rattle.page_control.proofs.Places.{refile, map_refiled, maps_refiled, uids_refiled, one_home, one_uid, same_or_other}
 
 -- a frame is bound to page p of segment uid, or to none
 abbrev pub IsPage : Option (ℕ × ℕ) → ℕ → ℕ → Type 0

@@ -1,15 +1,7 @@
 -- What a turn of the clock keeps of the frames.
-use Rattle.std.proofs.Common.{◌≡◌, ℕ, ◌<◌, true, false, List, length, Option, None, Some, refl, sym, ap, ◌∙◌, arith}
-use Rattle.std.proofs.Common.{inl, inr}
-use Rattle.std.proofs.lemmas.Bool.Decides.{leb_tells}
-use Rattle.std.proofs.lemmas.List.{ext_get_or, length-map}
-use Rattle.core_map.specs.declared.Frame.{Frame}
-use Rattle.core_map.specs.declared.Frame.TheVariants.{Free, Started, Bound}
-use Rattle.core_map.specs.CoreMap.{Core, frame_at, is_bound, bound_page}
-use Rattle.core_map.specs.Clock.{IsClockChoice, PassesOver, frame_in, unmarked, way}
-use Rattle.page_control.specs.Plain.{bindings, binding_at}
+use Rattle.page_control.proofs.Prelude.{◌≡◌, ℕ, ◌<◌, true, false, List, length, Option, None, Some, refl, sym, ap, ◌∙◌, arith, inl, inr, leb_tells, ext_get_or, length-map, Frame, Free, Started, Bound, Core, frame_at, is_bound, bound_page, IsClockChoice, PassesOver, unmarked, way, bindings, binding_at, within_from}
+use Rattle.core_map.specs.Clock.{frame_in}
 use Rattle.page_control.proofs.Facts.{binding_is, bound_from_page}
-use Rattle.laws.proofs.Lists.{within_from}
 
 -- a bound frame is within the core
 bound_not_free : (frame : Frame) → frame ≡ Free → is_bound frame ≡ true → ⊥

@@ -1,11 +1,5 @@
 -- The laws of accounts: what a page more, and another quota, do to the loads from scratch.
-use Rattle.std.proofs.Common.{◌≡◌, ◌≢◌, ℕ, ◌+◌, ◌<◌, true, false, cond, eqb, not, if◌then◌else◌, List, [], ◌∷◌, refl}
-use Rattle.std.proofs.Common.{sym, ap, ◌∙◌, arith, inl, inr}
-use Rattle.std.proofs.lemmas.Bool.{cases_Bool, cases_eq, both_ways, eqb-true, eq-eqb, ne_eqb, or_cases, and_parts}
-use Rattle.std.proofs.lemmas.Bool.{or_right, or_left, not-true, not_from_false}
-use Rattle.tree_model.specs.Tree.{account}
-use Rattle.tree_model.specs.Trees.{AreUnder, IsChain, EndsAtRoot}
-use Rattle.quota_cells.specs.Accounts.{covers, load, is_an_account}
+use Rattle.quota_cells.proofs.Prelude.{◌≡◌, ◌≢◌, ℕ, ◌+◌, ◌<◌, true, false, cond, eqb, not, if◌then◌else◌, List, [], ◌∷◌, refl, sym, ap, ◌∙◌, arith, inl, inr, cases_Bool, cases_eq, both_ways, eqb-true, eq-eqb, ne_eqb, or_cases, and_parts, or_right, or_left, not-true, not_from_false, account, AreUnder, IsChain, EndsAtRoot, covers, load, is_an_account}
 use Rattle.quota_cells.proofs.ColumnLaws.{weigh_same}
 use Rattle.quota_cells.proofs.PlaceLaws.{covers_under, covers_not}
 

@@ -1,11 +1,5 @@
 -- Values beside uids: one set, all of some changed, one more and one less.
-use Rattle.std.proofs.Common.{◌≡◌, ◌≢◌, ℕ, suc, zero, ◌+◌, ◌<◌, ◌≤◌, Bool, true, false, eqb, if◌then◌else◌, List, []}
-use Rattle.std.proofs.Common.{◌∷◌, length, refl, ap, arith, get_or}
-use Rattle.std.proofs.Common.{inl, inr}
-use Rattle.std.specs.List.{sum}
-use Rattle.std.proofs.lemmas.Bool.{cases_Bool, cases_eq, eq-eqb, ne_eqb, or_right, or_left}
-use Rattle.std.proofs.lemmas.List.Sums.{sum_by-cons}
-use Rattle.quota_cells.specs.Accounts.{look, has, with_value, weigh, changed_where}
+use Rattle.quota_cells.proofs.Prelude.{◌≡◌, ◌≢◌, ℕ, suc, zero, ◌+◌, ◌<◌, ◌≤◌, Bool, true, false, eqb, if◌then◌else◌, List, [], ◌∷◌, length, refl, ap, arith, get_or, inl, inr, sum, cases_Bool, cases_eq, eq-eqb, ne_eqb, or_right, or_left, sum_by-cons, look, has, with_value, weigh, changed_where}
 
 -- one value set
 pub look_with : (ks vs : List ℕ) (u v w : ℕ) → length vs ≡ length ks → has ks u ≡ true

@@ -1,19 +1,7 @@
 -- What a move is refused for, by the numbers of three directories.
-use Rattle.std.proofs.Common.{◌≡◌, ◌≢◌, ℕ, ◌+◌, ◌-◌, ◌<◌, Bool, true, false, cond, eqb, ltb, not, ◌&&◌, List, ◌∷◌, Ok}
-use Rattle.std.proofs.Common.{Err, refl, sym, ap, ◌∙◌, inl, inr}
-use Rattle.std.proofs.lemmas.Bool.{cases_Bool, cases_lt, le-ltb, lt-ltb}
-use Rattle.tree_model.specs.Tree.{above, account}
-use Rattle.tree_model.specs.Trees.{HasChains}
-use Rattle.tree_model.specs.Quotas.{superior_of}
-use Rattle.dir_tree.specs.declared.node.Node.{Node}
-use Rattle.dir_tree.specs.Shape.{shapes}
+use Rattle.quota_cells.proofs.Prelude.{◌≡◌, ◌≢◌, ℕ, ◌+◌, ◌-◌, ◌<◌, Bool, true, false, cond, eqb, ltb, not, ◌&&◌, List, ◌∷◌, Ok, Err, refl, sym, ap, ◌∙◌, inl, inr, cases_Bool, cases_lt, le-ltb, lt-ltb, above, account, HasChains, superior_of, Node, shapes, has, CellMaps, quota_in, load_in, Fits, IsTable, over_answer, move_answer, cell_in, load_grown, is_account_over, is_giver_over, refusal_down, refusal_up}
 use Rattle.quota_cells.specs.declared.MoveFault.TheVariants as fault
-use Rattle.quota_cells.specs.Accounts.{has}
-use Rattle.quota_cells.specs.Cells.{CellMaps, quota_in, load_in, Fits, IsTable, over_answer, move_answer}
-use Rattle.quota_cells.specs.Moves.{cell_in, load_grown, is_account_over, is_giver_over, refusal_down, refusal_up}
-use Rattle.quota_cells.proofs.TransferLaws.{above_yes, above_no, over_s, over_d, first_is_s, first_is_d, none_down}
-use Rattle.quota_cells.proofs.TransferLaws.{down_is, up_is, up_over_s, up_over_d}
-use Rattle.quota_cells.proofs.TransferLaws.{up_first_s, up_first_d, up_none}
+use Rattle.quota_cells.proofs.TransferLaws.{above_yes, above_no, over_s, over_d, first_is_s, first_is_d, none_down, down_is, up_is, up_over_s, up_over_d, up_first_s, up_first_d, up_none}
 
 module _ (nodes : List Node) (c : CellMaps) (table : IsTable c) (fits : Fits nodes c)
     (chains : HasChains (shapes nodes)) (d s n : ℕ)

@@ -1,19 +1,5 @@
 -- One more value beside a uid, 0, and one less.
-use Rattle.std.proofs.Common.{◌≡◌, ◌≢◌, ℕ, suc, zero, ◌+◌, ◌<◌, ◌≤◌, Bool, true, false, eqb, not, ◌&&◌, ◌||◌}
-use Rattle.std.proofs.Common.{if◌then◌else◌, List, [], ◌∷◌, length, refl, sym}
-use Rattle.std.proofs.Common.{ap, ◌∙◌, arith, get_or, inl, inr}
-use Rattle.std.specs.List.{insert, remove}
-use Rattle.std.proofs.lemmas.Bool.{cases_Bool, cases_eq, cases_lt, eq-eqb, ne_eqb}
-use Rattle.std.proofs.lemmas.List.Edits.{length-insert, get_or-insert_below, get_or-insert_at, get_or-insert_above}
-use Rattle.std.proofs.lemmas.List.Edits.{length-remove, get_or-remove_below}
-use Rattle.std.proofs.lemmas.List.Edits.{get_or-remove_above}
-use Rattle.quota_cells.specs.Accounts.{look, has, weigh}
-use Rattle.quota_cells.specs.Cells.{IsRising}
-use Rattle.quota_cells.specs.Columns.{IsGap}
-use Rattle.quota_cells.proofs.PlaceLaws.{absent}
-use Rattle.quota_cells.specs.Laws.{look_absent}
-use Rattle.dir_tree.specs.Laws.{Where, Before, Here, After, where_is}
-use Rattle.laws.proofs.Rising.{first_once, rest_rises}
+use Rattle.quota_cells.proofs.Prelude.{◌≡◌, ◌≢◌, ℕ, suc, zero, ◌+◌, ◌<◌, ◌≤◌, Bool, true, false, eqb, not, ◌&&◌, ◌||◌, if◌then◌else◌, List, [], ◌∷◌, length, refl, sym, ap, ◌∙◌, arith, get_or, inl, inr, insert, remove, cases_Bool, cases_eq, cases_lt, eq-eqb, ne_eqb, length-insert, get_or-insert_below, get_or-insert_at, get_or-insert_above, length-remove, get_or-remove_below, get_or-remove_above, look, has, weigh, IsRising, IsGap, look_absent, Where, Before, Here, After, where_is, first_once, rest_rises}
 
 pub has_insert : (ks : List ℕ) (i u v : ℕ) → has (insert ks i u) v ≡ (eqb u v || has ks v)
 has_insert ks zero u v = refl

@@ -1,35 +1,10 @@
 -- What a new cell, and a cell less, leave.
-use Rattle.std.proofs.Common.{◌≡◌, ◌≢◌, ℕ, ◌+◌, ◌<◌, ◌≤◌, ◌^◌, Bool, true, false, eqb, not, ◌&&◌, if◌then◌else◌, List}
-use Rattle.std.proofs.Common.{[], ◌∷◌, length, refl, sym, ap, subst}
-use Rattle.std.proofs.Common.{◌∙◌, arith, get_or, inl, inr}
-use Rattle.std.specs.List.{insert, remove, sum}
-use Rattle.std.proofs.lemmas.Bool.{cases_Bool, cases_eq, both_ways, eqb-true, eq-eqb, ne_eqb, or_parts, or_cases}
-use Rattle.std.proofs.lemmas.Bool.{and_parts, or_right, or_left}
-use Rattle.std.proofs.lemmas.Bool.{false_from_ne_true}
-use Rattle.std.proofs.lemmas.List.{length-map}
-use Rattle.std.proofs.lemmas.List.Edits.{length-insert, length-remove}
-use Rattle.std.proofs.lemmas.List.Sums.{sum_by-insert, sum_by-remove}
-use Rattle.tree_model.specs.Tree.{above}
-use Rattle.dir_tree.specs.declared.node.Node.{Node}
-use Rattle.dir_tree.specs.Nodes.{is_directory, is_segment, is_in, without}
-use Rattle.dir_tree.specs.Shape.{shape, shapes}
-use Rattle.tree_model.specs.Trees.{HasChains}
-use Rattle.quota_cells.specs.Accounts.{look, has, covers, weigh, load, is_an_account}
-use Rattle.quota_cells.specs.Cells.{CellMaps, quota_in, load_in, stored_in, Fits, IsTable, Enters, Leaves, has_cell}
-use Rattle.quota_cells.specs.Cells.{with_directory, with_segment}
-use Rattle.quota_cells.specs.Cells.{without_directory, without_segment, entered, left}
-use Rattle.quota_cells.specs.Columns.{IsGap}
-use Rattle.dir_tree.specs.Laws.{not_in_directory, not_in_segment}
+use Rattle.quota_cells.proofs.Prelude.{◌≡◌, ◌≢◌, ℕ, ◌+◌, ◌<◌, ◌≤◌, ◌^◌, Bool, true, false, eqb, not, ◌&&◌, if◌then◌else◌, List, [], ◌∷◌, length, refl, sym, ap, subst, ◌∙◌, arith, get_or, inl, inr, insert, remove, sum, cases_Bool, cases_eq, both_ways, eqb-true, eq-eqb, ne_eqb, or_parts, or_cases, and_parts, or_right, or_left, false_from_ne_true, length-map, length-insert, length-remove, sum_by-insert, sum_by-remove, above, Node, is_directory, is_segment, is_in, without, shape, shapes, HasChains, look, has, covers, weigh, load, is_an_account, CellMaps, quota_in, load_in, stored_in, Fits, IsTable, Enters, Leaves, has_cell, with_directory, with_segment, without_directory, without_segment, entered, left, IsGap, not_in_directory, not_in_segment, directory_shape, segment_shape, look_absent, on_directories, on_segments, and_false, place_there}
 use Rattle.quota_cells.proofs.ColumnLaws.{weigh_same}
 use Rattle.quota_cells.proofs.PlaceLaws.{look_at}
 use Rattle.quota_cells.proofs.FitLaws.{all_there, covered_there}
 use Rattle.quota_cells.proofs.RowLaws.{insert_beside, remove_beside, gap_of}
-use Rattle.quota_cells.proofs.EditLaws.{has_insert, look_insert, weigh_insert, has_remove, look_remove, look_gone}
-use Rattle.quota_cells.proofs.EditLaws.{weigh_remove, rising_insert, rising_remove}
-use Rattle.dir_tree.specs.Laws.{directory_shape, segment_shape}
-use Rattle.quota_cells.specs.Laws.{look_absent, on_directories, on_segments}
-use Rattle.laws.proofs.Bools.{and_false}
-use Rattle.laws.proofs.Rising.{place_there}
+use Rattle.quota_cells.proofs.EditLaws.{has_insert, look_insert, weigh_insert, has_remove, look_remove, look_gone, weigh_remove, rising_insert, rising_remove}
 
 -- what no uid passes weighs nothing
 pub no_weight : (t : ℕ → Bool) (ks ws : List ℕ) → ((k : ℕ) → has ks k ≡ true → t k ≡ false) → weigh t ks ws ≡ 0

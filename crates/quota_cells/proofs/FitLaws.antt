@@ -1,21 +1,6 @@
 -- What keeps the cells fit for a tree.
-use Rattle.std.proofs.Common.{◌≡◌, ◌≢◌, ℕ, ◌+◌, ◌-◌, ◌<◌, ◌≤◌, ◌^◌, true, eqb, List, [], ◌∷◌, refl, sym, subst, ◌∙◌}
-use Rattle.std.proofs.Common.{arith, inl, inr, Ok}
-use Rattle.std.specs.List.{sum}
-use Rattle.std.proofs.lemmas.Bool.{cases_Bool, cases_eq, eqb-true, eq-eqb, ne_eqb, and_parts}
-use Rattle.tree_model.specs.Tree.{above, account}
-use Rattle.dir_tree.specs.declared.node.Node.{Node}
-use Rattle.dir_tree.specs.Nodes.{is_segment}
-use Rattle.dir_tree.specs.Shape.{shapes}
-use Rattle.tree_model.specs.Trees.{HasChains, IsChain, AreDirectories, EndsAtRoot}
-use Rattle.quota_cells.specs.Accounts.{look, has, with_value, covers, load, is_an_account, changed_where}
-use Rattle.quota_cells.specs.Cells.{CellMaps, quota_in, load_in, stored_in, Fits, IsTable, charged, credited}
-use Rattle.quota_cells.specs.Cells.{charge_fault, CountsUsed}
-use Rattle.dir_tree.specs.Laws.{directory_shape, uid_shape, segment_in, segment_not}
-use Rattle.quota_cells.specs.Laws.{on_segments}
-use Rattle.quota_cells.specs.Columns.{AreThere, IsFalling}
-use Rattle.quota_cells.proofs.ColumnLaws.{look_changed, length_with, length_changed, weigh_with, weigh_same}
-use Rattle.quota_cells.proofs.ColumnLaws.{weigh_le_on, look_le_weigh, look_le_sum}
+use Rattle.quota_cells.proofs.Prelude.{◌≡◌, ◌≢◌, ℕ, ◌+◌, ◌-◌, ◌<◌, ◌≤◌, ◌^◌, true, eqb, List, [], ◌∷◌, refl, sym, subst, ◌∙◌, arith, inl, inr, Ok, sum, cases_Bool, cases_eq, eqb-true, eq-eqb, ne_eqb, and_parts, above, account, Node, is_segment, shapes, HasChains, IsChain, AreDirectories, EndsAtRoot, look, has, with_value, covers, load, is_an_account, changed_where, CellMaps, quota_in, load_in, stored_in, Fits, IsTable, charged, credited, charge_fault, CountsUsed, directory_shape, uid_shape, segment_in, segment_not, on_segments, AreThere, IsFalling}
+use Rattle.quota_cells.proofs.ColumnLaws.{look_changed, length_with, length_changed, weigh_with, weigh_same, weigh_le_on, look_le_weigh, look_le_sum}
 use Rattle.quota_cells.proofs.AccountLaws.{account_covers, account_through, account_is, account_from, account_of_chain}
 
 pub falling : (f : ℕ → List ℕ) (xs : List ℕ) → IsChain f xs → IsFalling xs

@@ -1,3 +1,4 @@
+mod Prelude
 pub mod AccountLaws
 pub mod ColumnLaws
 pub mod DecisionLaws

@@ -1,14 +1,5 @@
 -- What another quota of a directory, and quota that moves, do to the loads and to the accounts.
-use Rattle.std.proofs.Common.{◌≡◌, ◌≢◌, ℕ, ◌+◌, ◌-◌, ◌≤◌, Bool, true, false, eqb, if◌then◌else◌, List, length, refl}
-use Rattle.std.proofs.Common.{sym, ap, subst, ◌∙◌, arith, inl, inr}
-use Rattle.std.specs.List.{sum}
-use Rattle.std.proofs.lemmas.Bool.{cases_Bool, cases_eq, eqb-true, eqb-false, eq-eqb, ne_eqb}
-use Rattle.tree_model.specs.Tree.{above}
-use Rattle.dir_tree.specs.declared.node.Node.{Node}
-use Rattle.dir_tree.specs.Shape.{shapes}
-use Rattle.tree_model.specs.Trees.{HasChains}
-use Rattle.quota_cells.specs.Accounts.{look, has, covers, load}
-use Rattle.quota_cells.specs.Cells.{CellMaps, quota_in, load_in, Fits, loads_then, with_quota}
+use Rattle.quota_cells.proofs.Prelude.{◌≡◌, ◌≢◌, ℕ, ◌+◌, ◌-◌, ◌≤◌, Bool, true, false, eqb, if◌then◌else◌, List, length, refl, sym, ap, subst, ◌∙◌, arith, inl, inr, sum, cases_Bool, cases_eq, eqb-true, eqb-false, eq-eqb, ne_eqb, above, Node, shapes, HasChains, look, has, covers, load, CellMaps, quota_in, load_in, Fits, loads_then, with_quota}
 use Rattle.quota_cells.proofs.ColumnLaws.{look_with, look_changed, length_with, length_changed, sum_with}
 use Rattle.quota_cells.proofs.AccountLaws.{appears, appears_own, covers_above, load_same}
 

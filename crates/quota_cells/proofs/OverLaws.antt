@@ -1,26 +1,9 @@
 -- Which accounts can be above their quotas once quota has moved.
-use Rattle.std.proofs.Common.{◌≡◌, ◌≢◌, ℕ, suc, ◌+◌, ◌-◌, ◌<◌, ◌≤◌, ◌^◌, Bool, true, false, cond, eqb, ltb, not, ◌||◌}
-use Rattle.std.proofs.Common.{if◌then◌else◌, List, [], ◌∷◌, length}
-use Rattle.std.proofs.Common.{Some, None, refl, sym, ap, subst, ◌∙◌, arith, get_or, inl, inr, ◌⊎◌}
-use Rattle.std.specs.List.{sum, find}
-use Rattle.std.proofs.lemmas.Bool.{cases_Bool, cases_eq, cases_lt, both_ways, eqb-true, eq-eqb, ne_eqb, or_cases}
-use Rattle.std.proofs.lemmas.Bool.{and_parts, or_right, or_left, and_from}
-use Rattle.std.proofs.lemmas.Bool.{lt-ltb, ltb-true, false_from_ne_true}
-use Rattle.tree_model.specs.Tree.{above}
-use Rattle.dir_tree.specs.declared.node.Node.{Node}
-use Rattle.dir_tree.specs.Shape.{shapes}
-use Rattle.tree_model.specs.Trees.{HasChains, EndsAtRoot}
-use Rattle.quota_cells.specs.Accounts.{has, covers, is_an_account}
-use Rattle.quota_cells.specs.Cells.{CellMaps, quota_in, load_in, Fits, IsTable, with_quota, IsRising, is_over}
-use Rattle.quota_cells.specs.Cells.{first_over}
-use Rattle.quota_cells.specs.Columns.{IsPlaced, CanGive, directories_of}
+use Rattle.quota_cells.proofs.Prelude.{◌≡◌, ◌≢◌, ℕ, suc, ◌+◌, ◌-◌, ◌<◌, ◌≤◌, ◌^◌, Bool, true, false, cond, eqb, ltb, not, ◌||◌, if◌then◌else◌, List, [], ◌∷◌, length, Some, None, refl, sym, ap, subst, ◌∙◌, arith, get_or, inl, inr, ◌⊎◌, sum, find, cases_Bool, cases_eq, cases_lt, both_ways, eqb-true, eq-eqb, ne_eqb, or_cases, and_parts, or_right, or_left, and_from, lt-ltb, ltb-true, false_from_ne_true, above, Node, shapes, HasChains, EndsAtRoot, has, covers, is_an_account, CellMaps, quota_in, load_in, Fits, IsTable, with_quota, IsRising, is_over, first_over, IsPlaced, CanGive, directories_of, uid_shape, directory_in, on_directories}
 use Rattle.quota_cells.proofs.AccountLaws.{covers_above}
 use Rattle.quota_cells.proofs.ColumnLaws.{two_le_sum}
-use Rattle.dir_tree.specs.Laws.{uid_shape, directory_in}
 use Rattle.quota_cells.proofs.FitLaws.{load_bound, all_there, covered_there, falling}
-use Rattle.quota_cells.proofs.MoveLaws.{AreEven, covers_more, fits_quota, even_quota, quota_own, quota_other}
-use Rattle.quota_cells.proofs.MoveLaws.{load_falls, load_rises, load_stays, total_quota}
-use Rattle.quota_cells.specs.Laws.{on_directories}
+use Rattle.quota_cells.proofs.MoveLaws.{AreEven, covers_more, fits_quota, even_quota, quota_own, quota_other, load_falls, load_rises, load_stays, total_quota}
 
 -- ---- the least that passes
 

@@ -1,16 +1,6 @@
 -- Rising uids: what stands beside a uid stands at its place; and a walk up a chain that changes the loads that cover.
-use Rattle.std.proofs.Common.{◌≡◌, ◌≢◌, ℕ, suc, zero, ◌<◌, true, false, cond, eqb, ◌&&◌, List, [], ◌∷◌, length}
-use Rattle.std.proofs.Common.{refl, sym, ap}
-use Rattle.std.proofs.Common.{subst, ◌∙◌, arith, get_or, set, inl, inr}
-use Rattle.std.proofs.lemmas.Bool.{cases_Bool, cases_eq, cases_order, eqb-true, eq-eqb, ne_eqb, or_cases}
-use Rattle.std.proofs.lemmas.Bool.{and_parts, or_right, or_left}
-use Rattle.std.proofs.lemmas.List.{get_or-set_same, get_or-set_other, length-set, ext_get_or}
-use Rattle.tree_model.specs.Trees.{AreUnder}
-use Rattle.quota_cells.specs.Accounts.{look, has, with_value, covers, changed_where}
-use Rattle.quota_cells.specs.Cells.{IsRising}
-use Rattle.quota_cells.specs.Columns.{AreThere, IsFalling}
+use Rattle.quota_cells.proofs.Prelude.{◌≡◌, ◌≢◌, ℕ, suc, zero, ◌<◌, true, false, cond, eqb, ◌&&◌, List, [], ◌∷◌, length, refl, sym, ap, subst, ◌∙◌, arith, get_or, set, inl, inr, cases_Bool, cases_eq, cases_order, eqb-true, eq-eqb, ne_eqb, or_cases, and_parts, or_right, or_left, get_or-set_same, get_or-set_other, length-set, ext_get_or, AreUnder, look, has, with_value, covers, changed_where, IsRising, AreThere, IsFalling, rest_rises}
 use Rattle.quota_cells.proofs.ColumnLaws.{look_with, length_changed, get_changed}
-use Rattle.laws.proofs.Rising.{rest_rises}
 
 pub look_at : (ks vs : List ℕ) (i : ℕ) → IsRising ks → i < length ks → look ks vs (get_or ks i 0) ≡ get_or vs i 0
 look_at [] vs i up lt = absurd (omega arith)

@@ -1,14 +1,6 @@
 -- Columns of numbers in the order of uids: one more and one less, and a walk up a chain.
-use Rattle.std.proofs.Common.{◌≡◌, ◌≢◌, ℕ, suc, zero, ◌+◌, ◌<◌, ◌≤◌, true, false, eqb, List, [], ◌∷◌, length}
-use Rattle.std.proofs.Common.{drop, refl, sym, ap, subst, ◌∙◌, arith, get_or, set, inl, inr}
-use Rattle.std.specs.List.{insert, remove}
-use Rattle.std.proofs.lemmas.List.{drop_more}
-use Rattle.std.proofs.lemmas.Bool.{cases_order, eq-eqb, ne_eqb, lt-ltb, le-ltb, or_cases, eqb-true}
-use Rattle.quota_cells.specs.Accounts.{has, with_value, with_beside, without_beside, covers, changed_where}
-use Rattle.quota_cells.specs.Cells.{CellMaps, IsRising, quota_in, load_in, with_loads}
-use Rattle.quota_cells.specs.Columns.{AreThere, IsGap}
+use Rattle.quota_cells.proofs.Prelude.{◌≡◌, ◌≢◌, ℕ, suc, zero, ◌+◌, ◌<◌, ◌≤◌, true, false, List, [], ◌∷◌, length, drop, refl, sym, ap, subst, ◌∙◌, arith, get_or, set, inl, inr, insert, remove, drop_more, cases_order, eq-eqb, ne_eqb, lt-ltb, le-ltb, has, with_value, with_beside, without_beside, covers, changed_where, CellMaps, IsRising, quota_in, load_in, with_loads, AreThere, IsGap, place_there, rest_rises}
 use Rattle.quota_cells.proofs.PlaceLaws.{Going, going_here, going_next, going_ends, changed_none, look_at, set_there}
-use Rattle.laws.proofs.Rising.{place_there, rest_rises}
 
 -- ---- one more, and one less
 

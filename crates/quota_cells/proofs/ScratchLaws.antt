@@ -1,29 +1,5 @@
 -- The counts that the cells keep are the counts from scratch over the stored pages.
-use Rattle.std.proofs.Common.{◌≡◌, ◌≢◌, ℕ, suc, ◌+◌, ◌-◌, ◌<◌, ◌≤◌, Bool, true, false, cond, eqb, leb, ◌&&◌}
-use Rattle.std.proofs.Common.{if◌then◌else◌, List, [], ◌∷◌, length, map}
-use Rattle.std.proofs.Common.{Option, Some, None, Result, Ok, Err, refl, sym, ap, subst, ◌∙◌, arith, get_or, inl, inr}
-use Rattle.std.specs.Prelude.{count_by, OnOk, OnErr}
-use Rattle.std.specs.List.{find, sum}
-use Rattle.std.proofs.lemmas.Bool.{cases_Bool, cases_eq, cases_lt, both_ways, eqb-true, eq-eqb, ne_eqb, or_cases}
-use Rattle.std.proofs.lemmas.Bool.{and_parts, or_right, or_left, and_from}
-use Rattle.std.proofs.lemmas.Bool.{le-leb, lt-leb, lt-ltb, le-ltb, true_from_ne_false, false_from_ne_true}
-use Rattle.std.proofs.lemmas.List.Sums.{sum_by-cons}
-use Rattle.tree_model.specs.Tree.{Node as Term, above, account, account_of, has_directory, quota_in as quota_at}
-use Rattle.tree_model.specs.Tree.{used_by}
-use Rattle.tree_model.specs.Quotas.{superior_of, getter_of, giver_of, with_quota_of, with_moved, tree_moved}
-use Rattle.tree_model.specs.Quotas.{is_over as is_over_at, lesser, least_where}
-use Rattle.tree_model.specs.Quotas.{over_in}
-use Rattle.dir_tree.specs.declared.node.Node.{Node}
-use Rattle.dir_tree.specs.Nodes.{as_term, with_quotas, is_in, is_directory, is_segment}
-use Rattle.dir_tree.specs.Shape.{shapes, shape}
-use Rattle.tree_model.specs.Trees.{HasChains}
-use Rattle.quota_cells.specs.declared.Full.{Full}
-use Rattle.quota_cells.specs.declared.MoveFault.{MoveFault}
-use Rattle.quota_cells.specs.Accounts.{look, has, with_value, weigh, charged_to, is_an_account}
-use Rattle.quota_cells.specs.Cells.{CellMaps, quota_in, load_in, stored_in, used_in, Fits, IsTable, IsRising}
-use Rattle.quota_cells.specs.Cells.{charge_fault, with_quota, moved, is_over}
-use Rattle.quota_cells.specs.Cells.{first_over, over_answer, move_answer}
-use Rattle.quota_cells.specs.Scratch.{HoldCounts, charge_answer, scratch_answer}
+use Rattle.quota_cells.proofs.Prelude.{◌≡◌, ◌≢◌, ℕ, suc, ◌+◌, ◌-◌, ◌<◌, ◌≤◌, Bool, true, false, cond, eqb, leb, ◌&&◌, if◌then◌else◌, List, [], ◌∷◌, length, map, Option, Some, None, Result, Ok, Err, refl, sym, ap, subst, ◌∙◌, arith, get_or, inl, inr, count_by, OnOk, OnErr, find, sum, cases_Bool, cases_eq, cases_lt, both_ways, eqb-true, eq-eqb, ne_eqb, or_cases, and_parts, or_right, or_left, and_from, le-leb, lt-leb, lt-ltb, le-ltb, true_from_ne_false, false_from_ne_true, sum_by-cons, Term, above, account, account_of, has_directory, quota_at, used_by, superior_of, getter_of, giver_of, with_quota_of, with_moved, tree_moved, is_over_at, lesser, least_where, over_in, Node, as_term, with_quotas, is_directory, is_segment, shapes, shape, HasChains, Full, MoveFault, look, has, with_value, weigh, charged_to, is_an_account, CellMaps, quota_in, load_in, stored_in, used_in, Fits, IsTable, IsRising, charge_fault, with_quota, moved, is_over, first_over, over_answer, move_answer, HoldCounts, charge_answer, scratch_answer, above_any, directory_shape, not_in_directory, segment_in, segment_not, uid_shape, look_absent, on_directories, on_segments, least_none, directory_mapped, quota_mapped}
 use Rattle.quota_cells.proofs.ColumnLaws.{look_with, length_with, weigh_with}
 use Rattle.quota_cells.proofs.PlaceLaws.{look_at}
 use Rattle.quota_cells.proofs.AccountLaws.{account_of_chain}
@@ -31,10 +7,6 @@ use Rattle.quota_cells.proofs.FitLaws.{account_there, all_there, counts_used}
 use Rattle.quota_cells.proofs.EnterLaws.{no_weight}
 use Rattle.quota_cells.proofs.OverLaws.{passes, later, fits2, conserved, q2_g, q2_v, q2_other}
 use Rattle.quota_cells.proofs.TransferLaws.{IsBelow, top, answer_ok}
-use Rattle.dir_tree.specs.Laws.{above_any, directory_shape, not_in_directory, segment_in, segment_not, uid_shape}
-use Rattle.quota_cells.specs.Laws.{look_absent, on_directories, on_segments}
-use Rattle.tree_model.proofs.SharedLaws.{least_none}
-use Rattle.tree_model.proofs.TreeLaws.{directory_mapped, quota_mapped}
 
 -- ---- counts of pages beside uids are counts over the pages
 

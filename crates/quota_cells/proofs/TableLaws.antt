@@ -1,12 +1,5 @@
 -- Tables by uid: the uids that are there, and what stands beside them.
-use Rattle.std.proofs.Common.{◌≡◌, ℕ, suc, zero, ◌+◌, ◌<◌, ◌≤◌, Bool, true, false, eqb, List, [], ◌∷◌}
-use Rattle.std.proofs.Common.{length, replicate, refl, sym, ap, subst, ◌∙◌, arith, get_or, set, inl, inr}
-use Rattle.std.proofs.lemmas.Bool.{cases_Bool, cases_eq, cases_lt, eq-eqb, ne_eqb, lt-ltb, le-ltb}
-use Rattle.std.proofs.lemmas.Bool.{false_from_ne_true}
-use Rattle.std.proofs.lemmas.List.{get_or-set_same, get_or-set_other}
-use Rattle.quota_cells.specs.Accounts.{look, has, with_value, with_beside, without_beside}
-use Rattle.quota_cells.specs.Cells.{IsRising}
-use Rattle.quota_cells.specs.Columns.{NumberMap, beside, no_numbers, numbers_of, uids_from, with_uid, without_uid}
+use Rattle.quota_cells.proofs.Prelude.{◌≡◌, ℕ, suc, zero, ◌+◌, ◌<◌, ◌≤◌, Bool, true, false, eqb, List, [], ◌∷◌, length, replicate, refl, sym, ap, subst, ◌∙◌, arith, get_or, set, inl, inr, cases_Bool, cases_eq, cases_lt, eq-eqb, ne_eqb, lt-ltb, le-ltb, false_from_ne_true, get_or-set_same, get_or-set_other, look, has, with_value, with_beside, without_beside, IsRising, NumberMap, beside, no_numbers, numbers_of, uids_from, with_uid, without_uid}
 
 -- ---- uids in order, none below this one
 

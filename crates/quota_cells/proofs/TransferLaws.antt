@@ -1,31 +1,10 @@
 -- The first account above its quota once quota has moved down to a directory, or up from it.
-use Rattle.std.proofs.Common.{◌≡◌, ◌≢◌, ℕ, ◌+◌, ◌-◌, ◌<◌, ◌≤◌, Bool, true, false, cond, eqb, ltb, not, ◌&&◌, ◌||◌}
-use Rattle.std.proofs.Common.{if◌then◌else◌, List, [], ◌∷◌, length}
-use Rattle.std.proofs.Common.{Option, Some, None, Result, Ok, Err, refl, sym, ap, subst, ◌∙◌, arith, get_or, inl, inr}
-use Rattle.std.proofs.Common.{◌⊎◌}
-use Rattle.std.proofs.lemmas.Bool.{cases_Bool, cases_eq, cases_lt, both_ways, eqb-true, eq-eqb, ne_eqb, and_parts}
-use Rattle.std.proofs.lemmas.Bool.{or_left, false_from_ne_true, le-ltb, lt-ltb}
-use Rattle.tree_model.specs.Tree.{above, account}
-use Rattle.dir_tree.specs.declared.node.Node.{Node}
-use Rattle.dir_tree.specs.Nodes.{is_directory}
-use Rattle.dir_tree.specs.Shape.{shapes}
-use Rattle.tree_model.specs.Trees.{HasChains, AreUnder, IsChain, EndsAtRoot, AreDirectories}
-use Rattle.quota_cells.specs.Accounts.{has, covers, is_an_account}
-use Rattle.quota_cells.specs.Cells.{CellMaps, quota_in, load_in, Fits, IsTable, is_over, first_over, move_answer}
-use Rattle.quota_cells.specs.Cells.{over_answer, moved}
-use Rattle.tree_model.specs.Quotas.{superior_of, giver_of}
-use Rattle.quota_cells.specs.declared.MoveFault.{MoveFault}
+use Rattle.quota_cells.proofs.Prelude.{◌≡◌, ◌≢◌, ℕ, ◌+◌, ◌-◌, ◌<◌, ◌≤◌, Bool, true, false, cond, eqb, ltb, not, ◌&&◌, ◌||◌, if◌then◌else◌, List, [], ◌∷◌, length, Option, Some, None, Result, Ok, Err, refl, sym, ap, subst, ◌∙◌, arith, get_or, inl, inr, ◌⊎◌, cases_Bool, cases_eq, cases_lt, both_ways, eqb-true, eq-eqb, ne_eqb, and_parts, or_left, false_from_ne_true, le-ltb, lt-ltb, above, account, Node, is_directory, shapes, HasChains, AreUnder, IsChain, EndsAtRoot, AreDirectories, has, covers, is_an_account, CellMaps, quota_in, load_in, Fits, IsTable, is_over, first_over, move_answer, over_answer, moved, superior_of, giver_of, MoveFault, uid_shape, directory_in, directory_shape, on_directories, under_more}
 use Rattle.quota_cells.specs.declared.MoveFault.TheVariants as fault
 use Rattle.quota_cells.proofs.PlaceLaws.{covers_under, covers_not}
 use Rattle.quota_cells.proofs.AccountLaws.{account_is, account_covers, account_of_chain}
-use Rattle.dir_tree.specs.Laws.{uid_shape, directory_in}
 use Rattle.quota_cells.proofs.FitLaws.{all_there, account_there}
-use Rattle.quota_cells.proofs.OverLaws.{none_passes, first_passes, c1, c2, q1_g, q1_other, q2_g, q2_v, q2_other}
-use Rattle.quota_cells.proofs.OverLaws.{load1_falls, load1_stays, load2_rises}
-use Rattle.quota_cells.proofs.OverLaws.{load2_stays, over_who}
-use Rattle.dir_tree.specs.Laws.{directory_shape}
-use Rattle.quota_cells.specs.Laws.{on_directories}
-use Rattle.tree_model.proofs.ChainLaws.{under_more}
+use Rattle.quota_cells.proofs.OverLaws.{none_passes, first_passes, c1, c2, q1_g, q1_other, q2_g, q2_v, q2_other, load1_falls, load1_stays, load2_rises, load2_stays, over_who}
 
 account_above : (q r : ℕ → ℕ) (x : ℕ) (xs : List ℕ) → ((y : ℕ) → y ≢ x → r y ≡ q y) → AreUnder x xs → account r xs
     ≡ account q xs

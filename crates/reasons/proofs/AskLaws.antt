@@ -1,23 +1,6 @@
 -- Where no reason is found, the rule isn't broken.
-use Rattle.std.proofs.Common.{◌≡◌, ◌==◌, Bool, true, false, if◌then◌else◌, List, [], ◌∷◌, ℕ, Option, Some, None, length, refl}
-use Rattle.std.proofs.Common.{sym, subst, ◌∙◌, arith}
-use Rattle.std.proofs.lemmas.Bool.Decides.{nat_tests}
-use Rattle.std.specs.Prelude.{IfSome}
-use Rattle.text_model.specs.Lines.{lines_of, onto_piece}
-use Rattle.script.specs.Plans.{Plan}
-use Rattle.book.specs.Entries.{entry_text}
-use Rattle.book.specs.Reading.{IsEntry}
-use Rattle.book.specs.declared.entries.Entry.{Entry}
-use Rattle.flat_model.specs.Legal.{IsComplete, store_after}
-use Rattle.flat_model.specs.Store.{Store}
-use Rattle.flat_store.specs.Shown.{Kept, Shows}
-use Rattle.legal_reasons.specs.Reasons.{HaveEnded}
-use Rattle.book_check.specs.Judging.{IsAfter, Judged}
-use Rattle.book_check.specs.Verdicts.{BreaksEntry}
-use Rattle.book_check.specs.declared.offences.Rule.{Rule}
+use Rattle.reasons.proofs.Prelude.{◌≡◌, ◌==◌, Bool, true, false, if◌then◌else◌, List, [], ◌∷◌, ℕ, Option, Some, None, length, refl, sym, subst, ◌∙◌, arith, nat_tests, IfSome, lines_of, onto_piece, Plan, entry_text, IsEntry, Entry, IsComplete, store_after, Store, Kept, Shows, HaveEnded, IsAfter, Judged, BreaksEntry, Rule, IsWhy, is_end, Reason}
 use Rattle.book_check.specs.declared.offences.Rule.TheVariants as rule
-use Rattle.reasons.specs.Reasons.{IsWhy, is_end}
-use Rattle.reasons.specs.declared.asking.Reason.{Reason}
 use Rattle.reasons.proofs.SinceLaws.{shown_there}
 
 module _ (p : Plan) (es : List Entry) (line : List ℕ) where

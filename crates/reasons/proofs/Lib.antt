@@ -1,3 +1,4 @@
+mod Prelude
 pub mod LineLaws
 pub mod SinceLaws
 pub mod PassLaws

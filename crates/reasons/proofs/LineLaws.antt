@@ -1,10 +1,5 @@
 -- Lines of an input, one after the other.
-use Rattle.std.proofs.Common.{◌≡◌, ◌≤◌, ℕ, Bool, true, false, if◌then◌else◌, List, ◌∷◌, [], length, arith, refl, sym, ap}
-use Rattle.std.proofs.Common.{◌∙◌, ◌+◌, ◌==◌, subst}
-use Rattle.text_model.proofs.LineSteps.{lines_nil}
-use Rattle.text_model.specs.Lines.{lines_of, onto_piece}
-use Rattle.std.specs.List.{list_any}
-use Rattle.reasons.specs.Reasons.{first_of}
+use Rattle.reasons.proofs.Prelude.{◌≡◌, ◌≤◌, ℕ, Bool, true, false, if◌then◌else◌, List, ◌∷◌, [], length, arith, refl, sym, ap, ◌∙◌, ◌+◌, ◌==◌, subst, lines_nil, lines_of, onto_piece, list_any, first_of}
 
 pub any_later : (P : List ℕ → Bool) (lines more : List (List ℕ)) (line : List ℕ) → lines ≡ line ∷ more
     → P line ≡ false → list_any P lines ≡ list_any P more

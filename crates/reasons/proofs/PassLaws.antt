@@ -1,28 +1,7 @@
 -- A listing goes on line by line.
-use Rattle.std.proofs.Common.{◌≡◌, ℕ, ◌+◌, ◌<◌, ◌^◌, false, List, [], ◌∷◌, ◌++◌, length, Result, Ok, Err, map}
-use Rattle.std.proofs.Common.{Option, refl, sym, ap, subst, ◌∙◌, arith, inl, inr, append-nil as nil_after}
-use Rattle.book.specs.declared.entries.Entry.{Entry}
-use Rattle.std.proofs.lemmas.List.{append_assoc, map-append}
-use Rattle.book.specs.Entries.{entry_text}
-use Rattle.script.specs.Plans.{Plan}
-use Rattle.custody.specs.Tables.{AreTablesOf, HaveRoom}
-use Rattle.custody_model.specs.Custody.{Custody}
-use Rattle.book_check.specs.Going.{Finds, IsJudgedFrom}
-use Rattle.book_check.specs.Inputs.{entry_lines, is_summary, summary_lines}
-use Rattle.book_check.specs.Judging.{IsAfter, IsNext, Judged, Meets, OnlyOne, Stays, Takes}
-use Rattle.book_check.specs.Verdicts.{Breaks, BreaksEntry, IsJudged, MayStand}
-use Rattle.book_check.specs.declared.judge.LineFault.{LineFault}
+use Rattle.reasons.proofs.Prelude.{◌≡◌, ℕ, ◌+◌, ◌<◌, ◌^◌, false, List, [], ◌∷◌, ◌++◌, length, Result, Ok, Err, map, Option, refl, sym, ap, subst, ◌∙◌, arith, inl, inr, nil_after, Entry, append_assoc, map-append, entry_text, Plan, AreTablesOf, HaveRoom, Custody, Finds, IsJudgedFrom, entry_lines, is_summary, summary_lines, IsAfter, IsNext, Judged, Meets, OnlyOne, Stays, Takes, Breaks, BreaksEntry, IsJudged, MayStand, LineFault, CheckFault, Offence, Rule, ended_summary, fault_only, passed, AreUpTo, EndsAt, EndsBefore, IsWatched, Looks, Passes, Reason, lines_nil, lines_of}
 use Rattle.book_check.specs.declared.judge.LineFault.TheVariants as broken
-use Rattle.book_check.specs.declared.offences.CheckFault.{CheckFault}
 use Rattle.book_check.specs.declared.offences.CheckFault.TheVariants as fault
-use Rattle.book_check.specs.declared.offences.Offence.{Offence}
-use Rattle.book_check.specs.declared.offences.Rule.{Rule}
-use Rattle.book_check.proofs.GoingLaws.{ended_summary}
-use Rattle.book_check.proofs.VerdictLaws.{fault_only, passed}
-use Rattle.reasons.specs.Passing.{AreUpTo, EndsAt, EndsBefore, IsWatched, Looks, Passes}
-use Rattle.reasons.specs.declared.asking.Reason.{Reason}
-use Rattle.text_model.proofs.LineSteps.{lines_nil}
-use Rattle.text_model.specs.Lines.{lines_of}
 use Rattle.reasons.proofs.SinceLaws.{watched_on}
 
 -- each processor's count has room, since it is at most the number of entries

@@ -1,27 +1,5 @@
 -- Since when a sentence has been true.
-use Rattle.std.proofs.Common.{◌≡◌, ℕ, ◌+◌, ◌≤◌, ◌<◌, Bool, List, [], ◌∷◌, ◌++◌, length, take, Option, Some, None, refl, sym}
-use Rattle.std.proofs.Common.{ap, subst, ◌∙◌, inl, inr, ◌⊎◌, leb, true, false, arith}
-use Rattle.std.specs.Bool.{Decides}
-use Rattle.std.proofs.lemmas.Bool.Decides.{leb_tells}
-use Rattle.std.proofs.lemmas.List.{length-append, take-append-le, take_all}
-use Rattle.book.specs.declared.entries.Entry.{Entry}
-use Rattle.script.specs.Plans.{Plan}
-use Rattle.flat_model.specs.Legal.{store_after}
-use Rattle.flat_model.specs.Store.{Store}
-use Rattle.flat_store.specs.Shown.{Kept, Shows}
-use Rattle.custody.specs.Tables.{AreNodes, Tables, custody_of}
-use Rattle.custody_model.specs.Clean.{custody_after}
-use Rattle.custody_model.specs.Custody.{Custody}
-use Rattle.book_check.specs.Judging.{IsAfter, Judged}
-use Rattle.legal_reasons.specs.Reasons.{Says as LegalSays}
-use Rattle.legal_reasons.specs.declared.reasons.Reason.{Reason as LegalReason}
-use Rattle.clean_reasons.specs.Reasons.{Says as CleanSays}
-use Rattle.clean_reasons.specs.declared.reasons.Reason.{Reason as CleanReason}
-use Rattle.line_reasons.specs.DueLines.{is_still_so}
-use Rattle.line_reasons.specs.declared.sum_reasons.SumReason.{SumReason}
-use Rattle.reasons.specs.Passing.{IsWatched, Looks}
-use Rattle.reasons.specs.Reasons.{HasSince, IsSince, SaysAt}
-use Rattle.reasons.specs.declared.asking.Reason.{Reason}
+use Rattle.reasons.proofs.Prelude.{◌≡◌, ℕ, ◌+◌, ◌≤◌, ◌<◌, Bool, List, [], ◌∷◌, ◌++◌, length, take, Option, Some, None, refl, sym, ap, subst, ◌∙◌, inl, inr, ◌⊎◌, leb, true, false, arith, Decides, leb_tells, length-append, take-append-le, take_all, Entry, Plan, store_after, Store, Kept, Shows, AreNodes, Tables, custody_of, custody_after, Custody, IsAfter, Judged, LegalSays, LegalReason, CleanSays, CleanReason, is_still_so, SumReason, IsWatched, Looks, HasSince, IsSince, SaysAt, Reason}
 use Rattle.reasons.specs.declared.asking.Reason.TheVariants as reason
 
 -- ---- a judge stands after some entries

@@ -1,24 +1,7 @@
 -- What is told of a listing.
-use Rattle.std.proofs.Common.{◌≡◌, ℕ, ◌+◌, Bool, true, false, List, [], ◌∷◌, length, Option, Some, None, Result, Ok, Err, refl}
-use Rattle.std.proofs.Common.{sym, ap, subst, ◌∙◌, inl, inr}
-use Rattle.std.specs.Prelude.{IfOk}
-use Rattle.text_model.specs.Lines.{lines_of}
-use Rattle.script.specs.Grammar.{script_of}
-use Rattle.script.specs.Plans.{Plan}
-use Rattle.script.specs.declared.refusals.Refusal.{Refusal}
-use Rattle.book.specs.declared.entries.Entry.{Entry}
-use Rattle.book_check.specs.Closing.{IsTheVerdict}
-use Rattle.book_check.specs.Inputs.{entry_lines, first_number, is_summary, listing_lines, script_lines, script_of_lines, summary_lines}
-use Rattle.book_check.specs.Judging.{IsAfter, Judged}
-use Rattle.book_check.specs.Verdicts.{AreJudged, Breaks, BreaksEntry, IsJudged, IsJudgedBy}
+use Rattle.reasons.proofs.Prelude.{◌≡◌, ℕ, ◌+◌, Bool, true, false, List, [], ◌∷◌, length, Option, Some, None, Result, Ok, Err, refl, sym, ap, subst, ◌∙◌, inl, inr, IfOk, lines_of, script_of, Plan, Refusal, Entry, IsTheVerdict, entry_lines, first_number, is_summary, listing_lines, script_lines, script_of_lines, summary_lines, IsAfter, Judged, AreJudged, Breaks, BreaksEntry, IsJudged, IsJudgedBy, Offence, Rule, AreUpTo, Begins, EndsBefore, IsRefused, IsWatched, Passes, IsSince, IsWhy, first_of, is_end, why_line, HasLine, HasText, IsTold, IsUnfaulted, MayLackReason, Tells, TellsOrNot, Reason}
 use Rattle.book_check.specs.declared.offences.CheckFault.TheVariants as fault
-use Rattle.book_check.specs.declared.offences.Offence.{Offence}
-use Rattle.book_check.specs.declared.offences.Rule.{Rule}
 use Rattle.book_check.specs.declared.offences.Rule.TheVariants as rule
-use Rattle.reasons.specs.Passing.{AreUpTo, Begins, EndsBefore, IsRefused, IsWatched, Passes}
-use Rattle.reasons.specs.Reasons.{IsSince, IsWhy, first_of, is_end, why_line}
-use Rattle.reasons.specs.Told.{HasLine, HasText, IsTold, IsUnfaulted, MayLackReason, Tells, TellsOrNot}
-use Rattle.reasons.specs.declared.asking.Reason.{Reason}
 use Rattle.reasons.proofs.PassLaws.{up_to}
 
 -- the script of a judge is the one that was read

@@ -1,33 +1,5 @@
 -- The drives of a script: how they are made, what of them stays, and how many of their calls fail.
-use Rattle.std.proofs.Common.{◌≡◌, ◌≢◌, ℕ, suc, ◌+◌, ◌-◌, ◌^◌, ◌<◌, ◌≤◌, ◌⊎◌, min, inl, inr, Bool, true, false, cond, length, map}
-use Rattle.std.proofs.Common.{List, [], ◌∷◌, ◌++◌, Option, Some, None, refl, sym, ap, subst, ◌∙◌, arith}
-use Rattle.std.specs.Prelude.{Err, IfOk, Ok, Result, ◌||◌, ◌==◌, count_by, filter, nat_lt, replicate, slice_get, sum_by}
-use Rattle.std.proofs.lemmas.List.{length-replicate, length_push}
-use Rattle.std.specs.List.{list_any}
-use Rattle.std.proofs.lemmas.Bool.{cases_eq, or_parts}
-use Rattle.std.proofs.lemmas.Bool.Decides.{nat_tests}
-use Rattle.std.proofs.lemmas.List.Sums.{count_by-le-length, length-filter, sum_by-cons}
-use Rattle.std.proofs.lemmas.Option.{get_or_from_slice_get, slice_get-map, slice_get_within}
-use Rattle.std.specs.Option.{option_map}
-use Rattle.circular_buffer.proofs.Places.{slice_get-last, slice_get-push}
-use Rattle.machine_model.proofs.CountLaws.{count_cons}
-use Rattle.machine_model.proofs.ListLaws.{map_length}
-use Rattle.machine_model.proofs.TieLaws.{none_some}
-use Rattle.script.specs.Plans.{Plan}
-use Rattle.script.specs.declared.plan.Fail.{Fail}
-use Rattle.volumes.specs.FailLine.{HasFewFaults, named_calls}
-use Rattle.volumes.specs.Volumes.{HaveFewFaults}
-use Rattle.volumes.specs.declared.drive.FailLine.{FailLine}
-use Rattle.book.specs.declared.entries.Entry.{Entry}
-use Rattle.flat_model.specs.Store.{records_in, records_of}
-use Rattle.bulk_store.specs.AnyDrive.{any_pages, any_places, disk_of}
-use Rattle.bulk_store.specs.declared.any_drive.AnyDrive.{AnyDrive}
-use Rattle.machine_model.specs.Keeps.{is_fault}
-use Rattle.machine_model.specs.Boot.{first_state, first_store}
-use Rattle.machine_tables.specs.Parts.{first_words}
-use Rattle.machine.specs.Turns.{HaveCounted}
-use Rattle.runner.specs.Runs.{IsBooted, Machine}
-use Rattle.runner.specs.Drives.{AreTold, IsFresh, TellsFaults, faults_in, is_on, line_of, lines_in, places_in, plan_of}
+use Rattle.runner.proofs.Prelude.{◌≡◌, ◌≢◌, ℕ, suc, ◌+◌, ◌-◌, ◌^◌, ◌<◌, ◌≤◌, ◌⊎◌, min, inl, inr, Bool, true, false, cond, length, map, List, [], ◌∷◌, ◌++◌, Option, Some, None, refl, sym, ap, subst, ◌∙◌, arith, Err, IfOk, Ok, Result, ◌||◌, ◌==◌, count_by, filter, nat_lt, replicate, slice_get, sum_by, length-replicate, length_push, list_any, cases_eq, or_parts, nat_tests, count_by-le-length, length-filter, sum_by-cons, get_or_from_slice_get, slice_get-map, slice_get_within, option_map, slice_get-last, slice_get-push, count_cons, map_length, none_some, Plan, Fail, HasFewFaults, named_calls, HaveFewFaults, FailLine, Entry, records_in, records_of, any_pages, any_places, disk_of, AnyDrive, is_fault, first_state, first_store, first_words, HaveCounted, IsBooted, Machine, AreTold, IsFresh, TellsFaults, faults_in, is_on, line_of, lines_in, places_in, plan_of}
 
 -- ---- each of a list, at its place
 

@@ -1,23 +1,7 @@
 -- How each way out of a call ends. (own)
-use Rattle.std.proofs.Common.{◌≡◌, ℕ, ◌+◌, ◌<◌, List, [], length, Option, Some, None, IfSome, is_some, true, refl}
-use Rattle.std.proofs.Common.{sym, ap, subst, arith}
-use Rattle.std.specs.Prelude.{IsSomeAnd}
-use Rattle.std.specs.Io.KnownBytes.{Appends, Keeps}
-use Rattle.std.proofs.KnownBytes.{Keeps-refl, Consumes-nil}
-use Rattle.site_io.specs.Streams.{AppendsFront, ConsumesFront}
-use Rattle.site_io.specs.declared.whole.Unread.{Unread}
+use Rattle.runner.proofs.Prelude.{◌≡◌, ℕ, ◌+◌, ◌<◌, List, [], length, Option, Some, None, IfSome, is_some, true, refl, sym, ap, subst, arith, IsSomeAnd, Appends, Keeps, Keeps-refl, Consumes-nil, AppendsFront, ConsumesFront, Unread, Plan, made, drill_text, Change, Ends, EndsSo, Failed, IsReading, LeavesRun, MayHaveRun, Printed, PrintsIfRun, Runs, Unreads, Writes, cut, limit_of, whole, IsRun, Machine, usage_text, Finished, Status, Form}
 use Rattle.site_io.specs.declared.whole.Unread.TheVariants as unread
-use Rattle.script.specs.Plans.{Plan}
-use Rattle.make_work.specs.Day.{made}
-use Rattle.drill.specs.Texts.{drill_text}
-use Rattle.runner.specs.Endings.{Change, Ends, EndsSo, Failed, IsReading, LeavesRun, MayHaveRun, Printed, PrintsIfRun}
-use Rattle.runner.specs.Endings.{Runs, Unreads, Writes, cut, limit_of, whole}
-use Rattle.runner.specs.Runs.{IsRun, Machine}
-use Rattle.runner.specs.Texts.{usage_text}
-use Rattle.runner.specs.declared.finished.Finished.{Finished}
-use Rattle.runner.specs.declared.finished.Status.{Status}
 use Rattle.runner.specs.declared.finished.Status.TheVariants as status
-use Rattle.runner.specs.declared.words.Form.{Form}
 use Rattle.runner.specs.declared.words.Form.TheVariants as form
 
 -- a text was written whole, or cut where a write failed

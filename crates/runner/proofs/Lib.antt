@@ -1,3 +1,4 @@
+mod Prelude
 pub mod DriveLaws
 pub mod Ends
 pub mod Fresh

@@ -1,9 +1,5 @@
 -- The summary of a machine, by its own counts.
-use Rattle.std.proofs.Common.{◌≡◌, List, ◌++◌, ap}
-use Rattle.script.specs.Plans.{Plan}
-use Rattle.book.specs.declared.entries.Entry.{Entry}
-use Rattle.flat_model.specs.Legal.{store_after}
-use Rattle.listing.specs.Listings.{Summary, body_of, listing_of, summary_of, summary_text}
+use Rattle.runner.proofs.Prelude.{◌≡◌, List, ◌++◌, ap, Plan, Entry, store_after, Summary, body_of, listing_of, summary_of, summary_text}
 
 -- the listing that ends with the summary of the store after a book
 pub listed_by : (p : Plan) (entries : List Entry) (s : Summary) → s ≡ summary_of p (store_after p entries)

@@ -1,26 +1,7 @@
 -- What an ending says of its cause. (own)
-use Rattle.std.proofs.Common.{◌≡◌, ℕ, ◌<◌, ◌≤◌, ◌⊎◌, inl, inr, List, length, Option, Some, None, Result}
-use Rattle.std.proofs.Common.{Ok, Err, IfSome, refl, sym, ap, subst, ◌∙◌, arith}
-use Rattle.std.specs.Prelude.{IsSomeAnd}
-use Rattle.script.specs.Grammar.{script_of}
-use Rattle.script.specs.Plans.{Plan}
-use Rattle.script.specs.declared.refusals.Refusal.{Refusal}
-use Rattle.listing.specs.Listings.{listing_of}
-use Rattle.make_work.specs.Day.{made}
-use Rattle.drill.specs.Texts.{drill_text}
-use Rattle.book_check.specs.Closing.{IsTheVerdict}
-use Rattle.book_check.specs.Verdicts.{IsVerdict}
-use Rattle.book_check.specs.declared.offences.CheckFault.{CheckFault}
+use Rattle.runner.proofs.Prelude.{◌≡◌, ℕ, ◌<◌, ◌≤◌, ◌⊎◌, inl, inr, List, length, Option, Some, None, Result, Ok, Err, IfSome, refl, sym, ap, subst, ◌∙◌, arith, IsSomeAnd, script_of, Plan, Refusal, listing_of, made, drill_text, IsTheVerdict, IsVerdict, CheckFault, Offence, Change, Ends, EndsSo, Failed, HasPrinted, IsJudgedSo, IsReading, IsRefused, IsStatusOf, Printed, Prints, Runs, Says, WritesAll, WritesFront, limit_of, IsShutDown, Machine, accepted_text, Finished, Status, Form}
 use Rattle.book_check.specs.declared.offences.CheckFault.TheVariants as fault
-use Rattle.book_check.specs.declared.offences.Offence.{Offence}
-use Rattle.runner.specs.Endings.{Change, Ends, EndsSo, Failed, HasPrinted, IsJudgedSo, IsReading, IsRefused, IsStatusOf}
-use Rattle.runner.specs.Endings.{Printed, Prints, Runs, Says, WritesAll, WritesFront, limit_of}
-use Rattle.runner.specs.Runs.{IsShutDown, Machine}
-use Rattle.runner.specs.Texts.{accepted_text}
-use Rattle.runner.specs.declared.finished.Finished.{Finished}
-use Rattle.runner.specs.declared.finished.Status.{Status}
 use Rattle.runner.specs.declared.finished.Status.TheVariants as status
-use Rattle.runner.specs.declared.words.Form.{Form}
 use Rattle.runner.specs.declared.words.Form.TheVariants as form
 
 -- an ending of this status

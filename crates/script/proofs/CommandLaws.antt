@@ -1,32 +1,9 @@
 -- What a line says as a command is in its ranges (own).
-use Rattle.std.proofs.Common.{◌≡◌, ℕ, zero, suc, ◌+◌, ◌-◌, ◌*◌, ◌^◌, ◌<◌, ◌≤◌, Bool, true, false, ◌&&◌, nat_le, nat_lt}
-use Rattle.std.proofs.Common.{cond, eqb, List, [], ◌∷◌, length, fold, Option, Some, None, Result, Ok, Err, codes, ℤ}
-use Rattle.std.proofs.Common.{pos, neg_ℤ, refl, sym, subst, arith}
-use Rattle.std.proofs.lemmas.Bool.Decides.{nat_tests}
-use Rattle.std.proofs.lemmas.Slice.Eq.{bytes_eq-Decides}
-use Rattle.std.specs.Int.RustNames.{unsigned_abs}
-use Rattle.std.specs.List.{list_all}
-use Rattle.std.specs.Str.{bytes_eq}
-use Rattle.mnames.specs.declared.rows.Row.{Row}
-use Rattle.mword.proofs.OctalLaws.{octal_below, octal_bound_more}
-use Rattle.mword.specs.Octal.{is_octal, is_octal_digit, octal_number, octal_value}
+use Rattle.script.proofs.Prelude.{◌≡◌, ℕ, zero, suc, ◌+◌, ◌-◌, ◌*◌, ◌^◌, ◌<◌, ◌≤◌, Bool, true, false, ◌&&◌, nat_le, nat_lt, cond, eqb, List, [], ◌∷◌, length, fold, Option, Some, None, Result, Ok, Err, codes, ℤ, pos, neg_ℤ, refl, sym, subst, arith, nat_tests, bytes_eq-Decides, unsigned_abs, list_all, bytes_eq, Row, octal_below, octal_bound_more, is_octal, is_octal_digit, octal_number, octal_value, path_alone, path_and_number, place_in, place_and_word, mkdir_of, mkseg_of, initiate_of, terminate_of, read_of, write_of, add_of, await_of, acl_of, length_of, truncate_of, delete_of, move_of, status_of, end_of, other_command_of, reference_or, command_of, decimal_value, path_of, has_name, is_command, is_end, is_from, is_path, is_place, is_row, is_word, ◌>>=◌, found_or, only_if, one_field, two_fields, three_fields, four_fields, in_range, number_in, word_in, row_in, path_in, mode_in, number_from, name_in, volume_in, amount_in, Command, VolumeLine, Cause, and_from, and_parts}
 use Rattle.script.proofs.PathLaws.{path_only}
 use Rattle.script.proofs.PrincipalLaws.{row_read}
-use Rattle.script.specs.Commands.{path_alone, path_and_number, place_in, place_and_word}
-use Rattle.script.specs.Commands.{mkdir_of, mkseg_of, initiate_of, terminate_of, read_of, write_of, add_of}
-use Rattle.script.specs.Commands.{await_of, acl_of, length_of, truncate_of, delete_of, move_of, status_of}
-use Rattle.script.specs.Commands.{end_of, other_command_of, reference_or, command_of}
-use Rattle.script.specs.Fields.{decimal_value, path_of}
-use Rattle.script.specs.Forms.{has_name, is_command, is_end, is_from, is_path, is_place, is_row, is_word}
-use Rattle.script.specs.Lines.{◌>>=◌, found_or, only_if, one_field, two_fields, three_fields, four_fields, in_range}
-use Rattle.script.specs.Lines.{number_in, word_in, row_in, path_in, mode_in, number_from, name_in, volume_in, amount_in}
-use Rattle.script.specs.declared.commands.Command.{Command}
 use Rattle.script.specs.declared.commands.Command.TheVariants as command
-use Rattle.script.specs.declared.plan.VolumeLine.{VolumeLine}
-use Rattle.script.specs.declared.refusals.Cause.{Cause}
 use Rattle.script.specs.declared.refusals.Cause.TheVariants as cause
-use Rattle.std.proofs.lemmas.Bool.{and_from}
-use Rattle.laws.proofs.Bools.{and_parts}
 
 -- ---- a rule that holds of what is read
 

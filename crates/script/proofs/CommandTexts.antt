@@ -1,35 +1,11 @@
 -- The text of each command is a line of fields, which is read back as the command (own).
-use Rattle.std.proofs.Common.{◌≡◌, ℕ, ◌<◌, ◌≤◌, true, false, ◌&&◌, nat_le, nat_lt, List, [], ◌∷◌, ◌++◌, length, Ok}
-use Rattle.std.proofs.Common.{codes, refl, arith, ℤ}
-use Rattle.std.proofs.lemmas.Bool.Decides.{nat_tests}
-use Rattle.std.specs.Fmt.{decimal}
-use Rattle.std.specs.Int.{is_negative}
-use Rattle.std.specs.Int.RustNames.{unsigned_abs}
-use Rattle.mnames.specs.Names.{path_text}
-use Rattle.mnames.specs.Principals.{row_text}
-use Rattle.mnames.specs.declared.modes.Mode.{Mode}
-use Rattle.mnames.specs.declared.rows.Row.{Row}
-use Rattle.mword.specs.Octal.{octal_digits}
+use Rattle.script.proofs.Prelude.{◌≡◌, ℕ, ◌<◌, ◌≤◌, true, false, ◌&&◌, nat_le, nat_lt, List, [], ◌∷◌, ◌++◌, length, Ok, codes, refl, arith, ℤ, nat_tests, decimal, is_negative, unsigned_abs, path_text, row_text, Mode, Row, octal_digits, acl_of, add_of, await_of, command_of, delete_of, end_of, initiate_of, length_of, mkdir_of, mkseg_of, move_of, other_command_of, read_of, reference_or, status_of, path_alone, path_and_number, place_and_word, place_in, terminate_of, truncate_of, write_of, is_command, is_from, is_path, is_place, is_row, is_word, is_comment, four_fields, next_field, no_fields, one_field, three_fields, two_fields, arguments_text, command_text, mode_text, path_fields_text, reference_text, sign_text, volume_name, word_text, Command, VolumeLine, and_parts, lt_from}
 use Rattle.script.proofs.FieldTexts.{IsField, HasFields, front_field, last_field}
 use Rattle.script.proofs.PrincipalLaws.{row_field, row_in_again}
 use Rattle.script.proofs.ValueTexts.{decimal_field, number_again, path_field, path_in_again, word_again, word_field}
-use Rattle.script.proofs.VolumeTexts.{AreVolumes, amount_again, amount_field, mode_again, mode_field, volume_again}
-use Rattle.script.proofs.VolumeTexts.{volume_field}
+use Rattle.script.proofs.VolumeTexts.{AreVolumes, amount_again, amount_field, mode_again, mode_field, volume_again, volume_field}
 use Rattle.script.proofs.SmallLaws.{at_most, within}
-use Rattle.script.specs.Commands.{acl_of, add_of, await_of, command_of, delete_of, end_of, initiate_of, length_of}
-use Rattle.script.specs.Commands.{mkdir_of, mkseg_of, move_of, other_command_of, read_of, reference_or, status_of}
-use Rattle.script.specs.Commands.{path_alone, path_and_number, place_and_word, place_in, terminate_of, truncate_of}
-use Rattle.script.specs.Commands.{write_of}
-use Rattle.script.specs.Forms.{is_command, is_from, is_path, is_place, is_row, is_word}
-use Rattle.script.specs.Grammar.{is_comment}
-use Rattle.script.specs.Lines.{four_fields, next_field, no_fields, one_field, three_fields, two_fields}
-use Rattle.script.specs.Texts.{arguments_text, command_text, mode_text, path_fields_text, reference_text, sign_text}
-use Rattle.script.specs.Texts.{volume_name, word_text}
-use Rattle.script.specs.declared.commands.Command.{Command}
 use Rattle.script.specs.declared.commands.Command.TheVariants as command
-use Rattle.script.specs.declared.plan.VolumeLine.{VolumeLine}
-use Rattle.laws.proofs.Bools.{and_parts}
-use Rattle.laws.proofs.Numbers.{lt_from}
 
 -- the fields of a command's text, after its word
 abbrev pub fields_text : List VolumeLine → Command → List (List ℕ)

@@ -1,38 +1,11 @@
 -- Laws of drafts (own).
-use Rattle.std.proofs.Common.{◌≡◌, ℕ, ◌+◌, ◌<◌, ◌≤◌, true, false, not, nat_le, ◌&&◌, List, [], ◌∷◌, ◌++◌}
-use Rattle.std.proofs.Common.{length, Bool, codes, refl, sym, ap, subst, ◌∙◌, arith, sum_by, Result, Ok, Err}
-use Rattle.std.proofs.lemmas.Bool.Decides.{nat_tests}
-use Rattle.mnames.specs.declared.principals.Who.{Who}
-use Rattle.std.specs.List.{list_all, list_any}
-use Rattle.std.specs.Str.{bytes_eq}
-use Rattle.script.specs.CommandLists.{ListPlan, Lists, listed, longer}
-use Rattle.script.specs.Commands.{command_of, end_of}
-use Rattle.script.specs.Drafts.{AreBulks, AreFails, DraftPlan, IsAt, IsDraft, begun, begun_at, blank, has_volume}
-use Rattle.script.specs.Drafts.{goes_on, is_early, is_head, is_inside}
-use Rattle.script.specs.Forms.{BeginsWithInitializer, IsPlan, has_name, is_before}
-use Rattle.script.specs.Forms.{is_bulk, is_command, is_end, is_fail, is_process, is_volume, is_who}
-use Rattle.script.specs.Forms.{ends_once, records_of, weight, weight_of}
-use Rattle.script.specs.Grammar.{is_whole}
-use Rattle.script.specs.Heads.{added, command_line, with_command}
-use Rattle.script.specs.Lines.{no_fields, only_if}
-use Rattle.script.specs.Plans.{Plan, ProcessPlan}
-use Rattle.script.specs.Readers.{Steps}
-use Rattle.script.specs.declared.commands.Command.{Command}
+use Rattle.script.proofs.Prelude.{◌≡◌, ℕ, ◌+◌, ◌<◌, ◌≤◌, true, false, not, nat_le, ◌&&◌, List, [], ◌∷◌, ◌++◌, length, Bool, codes, refl, sym, ap, subst, ◌∙◌, arith, sum_by, Result, Ok, Err, nat_tests, Who, list_all, list_any, bytes_eq, ListPlan, Lists, listed, longer, command_of, end_of, AreBulks, AreFails, DraftPlan, IsAt, IsDraft, begun, begun_at, blank, has_volume, goes_on, is_early, is_head, is_inside, BeginsWithInitializer, IsPlan, has_name, is_before, is_bulk, is_command, is_end, is_fail, is_process, is_volume, is_who, ends_once, records_of, weight, weight_of, is_whole, added, command_line, with_command, no_fields, only_if, Plan, ProcessPlan, Steps, Command, LineFault, Stage, Bulk, Fail, VolumeLine, Cause, and_from, length_push}
 use Rattle.script.specs.declared.commands.Command.TheVariants as command
-use Rattle.script.specs.declared.drafts.LineFault.{LineFault}
 use Rattle.script.specs.declared.drafts.LineFault.TheVariants as fault
-use Rattle.script.specs.declared.drafts.Stage.{Stage}
 use Rattle.script.specs.declared.drafts.Stage.TheVariants as stage
-use Rattle.script.specs.declared.plan.Bulk.{Bulk}
-use Rattle.script.specs.declared.plan.Fail.{Fail}
-use Rattle.script.specs.declared.plan.VolumeLine.{VolumeLine}
-use Rattle.script.specs.declared.refusals.Cause.{Cause}
 use Rattle.script.specs.declared.refusals.Cause.TheVariants as cause
 use Rattle.script.proofs.CommandLaws.{command_keeps, end_again}
-use Rattle.script.proofs.PushLaws.{all_push, apart_none, begins_same, bulks_push}
-use Rattle.script.proofs.PushLaws.{end_push, names_push, sum_push}
-use Rattle.std.proofs.lemmas.Bool.{and_from}
-use Rattle.laws.proofs.Lists.{length_push}
+use Rattle.script.proofs.PushLaws.{all_push, apart_none, begins_same, bulks_push, end_push, names_push, sum_push}
 
 false_not_true : false ≡ true → ⊥
 false_not_true e = cc

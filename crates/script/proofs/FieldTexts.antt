@@ -1,16 +1,5 @@
 -- Texts of fields with a space between them, and of lines with a line feed after each, read back (own).
-use Rattle.std.proofs.Common.{◌≡◌, ◌≢◌, ℕ, ◌≤◌, Bool, true, false, ◌&&◌, nat_le, eqb, List, [], ◌∷◌, ◌++◌, length}
-use Rattle.std.proofs.Common.{refl, ap}
-use Rattle.std.proofs.Common.{◌∙◌, arith}
-use Rattle.std.proofs.lemmas.Bool.Decides.{nat_tests}
-use Rattle.std.proofs.lemmas.List.Folds.{list_all-append}
-use Rattle.std.specs.List.{list_all}
-use Rattle.text_model.proofs.LineSteps.{line_byte, line_feed}
-use Rattle.text_model.specs.Lines.{lines_of, onto_piece, fields_of, onto_field}
-use Rattle.script.specs.Fields.{is_printable, is_printable_byte}
-use Rattle.std.proofs.lemmas.Bool.{and_from}
-use Rattle.laws.proofs.Bools.{and_parts}
-use Rattle.text_model.proofs.FieldLaws.{fields_nil}
+use Rattle.script.proofs.Prelude.{◌≡◌, ◌≢◌, ℕ, ◌≤◌, Bool, true, false, ◌&&◌, nat_le, eqb, List, [], ◌∷◌, ◌++◌, length, refl, ap, ◌∙◌, arith, nat_tests, list_all-append, list_all, line_byte, line_feed, lines_of, onto_piece, fields_of, onto_field, is_printable, is_printable_byte, and_from, and_parts, fields_nil}
 
 -- a printable byte that isn't a space
 abbrev pub is_field_byte : ℕ → Bool

@@ -1,40 +1,13 @@
 -- The text of what stands before the processes is read back (own).
-use Rattle.std.proofs.Common.{◌≡◌, ℕ, ◌+◌, ◌<◌, ◌≤◌, Bool, true, false, ◌&&◌, nat_le, nat_lt, List, [], ◌∷◌}
-use Rattle.std.proofs.Common.{◌++◌, length, map, flat_map, sum_by, Ok, codes, refl, sym, ap, subst, ◌∙◌, arith}
-use Rattle.std.proofs.Common.{append_assoc}
-use Rattle.std.proofs.lemmas.Bool.Decides.{nat_tests}
-use Rattle.std.proofs.lemmas.List.{length-append}
-use Rattle.std.proofs.lemmas.List.Sums.{sum_by-append}
-use Rattle.std.specs.Fmt.{decimal}
-use Rattle.std.specs.List.{list_all, list_any, AllByRecursion}
-use Rattle.mnames.specs.Names.{is_name}
+use Rattle.script.proofs.Prelude.{◌≡◌, ℕ, ◌+◌, ◌<◌, ◌≤◌, Bool, true, false, ◌&&◌, nat_le, nat_lt, List, [], ◌∷◌, ◌++◌, length, map, flat_map, sum_by, Ok, codes, refl, sym, ap, subst, ◌∙◌, arith, append_assoc, nat_tests, length-append, sum_by-append, decimal, list_all, list_any, AllByRecursion, is_name, DraftPlan, blank, reach, ArePools, has_name, have_own_names, have_own_volumes, is_before, is_bulk, is_fail, is_from, is_volume, IsPlan, records_of, bulk_line, fail_line, later_at, line_at, fail_in, new_volume_in, pools_in, volume_line, four_fields, next_field, no_fields, one_field, print_in, six_fields, three_fields, two_fields, Plan, bulk_text, call_text, ended, fail_text, head_text, machine_text, numbers_text, onward_text, print_text, quota_text, volume_text, volume_name, Stage, Bulk, Fail, Print, VolumeLine, and_false, and_parts, lt_from}
 use Rattle.script.proofs.FieldTexts.{IsField, HasFields, front_field, last_field}
 use Rattle.script.proofs.PushLaws.{other_volumes, others_before}
 use Rattle.script.proofs.Reaching.{Reaches, reaches_both, reaches_line, reaches_nothing}
 use Rattle.script.proofs.ValueTexts.{decimal_field, name_field, number_again}
-use Rattle.script.proofs.VolumeTexts.{AreVolumes, call_again, call_field, new_name_again, volume_again}
-use Rattle.script.proofs.VolumeTexts.{volume_field, write_again, write_field}
+use Rattle.script.proofs.VolumeTexts.{AreVolumes, call_again, call_field, new_name_again, volume_again, volume_field, write_again, write_field}
 use Rattle.script.proofs.SmallLaws.{nil_after, outside, within}
-use Rattle.script.specs.Drafts.{DraftPlan, blank, reach}
-use Rattle.script.specs.Forms.{ArePools, has_name, have_own_names, have_own_volumes, is_before, is_bulk, is_fail}
-use Rattle.script.specs.Forms.{is_from, is_volume, IsPlan, records_of}
-use Rattle.script.specs.Heads.{bulk_line, fail_line, later_at, line_at}
-use Rattle.script.specs.Heads.{fail_in, new_volume_in, pools_in, volume_line}
-use Rattle.script.specs.Lines.{four_fields, next_field, no_fields, one_field}
-use Rattle.script.specs.Lines.{print_in, six_fields, three_fields, two_fields}
-use Rattle.script.specs.Plans.{Plan}
-use Rattle.script.specs.Scripts.{bulk_text, call_text, ended, fail_text, head_text, machine_text, numbers_text}
-use Rattle.script.specs.Scripts.{onward_text, print_text, quota_text, volume_text}
-use Rattle.script.specs.Texts.{volume_name}
-use Rattle.script.specs.declared.drafts.Stage.{Stage}
 use Rattle.script.specs.declared.drafts.Stage.TheVariants as stage
-use Rattle.script.specs.declared.plan.Bulk.{Bulk}
-use Rattle.script.specs.declared.plan.Fail.{Fail}
-use Rattle.script.specs.declared.plan.Print.{Print}
 use Rattle.script.specs.declared.plan.Print.TheVariants as print
-use Rattle.script.specs.declared.plan.VolumeLine.{VolumeLine}
-use Rattle.laws.proofs.Bools.{and_false, and_parts}
-use Rattle.laws.proofs.Numbers.{lt_from}
 
 -- ---- the machine
 

@@ -1,16 +1,7 @@
 -- The printable front of a text, sixteen bytes at a time.
-use Rattle.std.proofs.Common.{◌≡◌, ◌≢◌, ℕ, ◌+◌, ◌%◌, ◌^◌, ◌<◌, ◌≤◌, Bool, true, false, List, [], ◌∷◌, zero, suc, length, take}
-use Rattle.std.proofs.Common.{get_or, map, not, Fits, w8, refl, sym, ap, subst, ◌∙◌, arith, inl, inr, ◌⊎◌}
-use Rattle.std.proofs.lemmas.Bool.{agree_below, agree_below_at, cases_lt, not-false, not-true}
-use Rattle.std.proofs.lemmas.Bool.Decides.{nat_tests}
-use Rattle.std.proofs.lemmas.List.{length-map}
-use Rattle.std.proofs.lemmas.Simd.{leading_from_mask_l, length-chunk, map-map, mask_l-mod, run_in_chunk_fails}
-use Rattle.std.proofs.lemmas.Simd.{run_in_chunk_le, run_in_chunk_stops, trailing_mask_l}
-use Rattle.std.specs.List.{prefix_len}
+use Rattle.script.proofs.Prelude.{◌≡◌, ◌≢◌, ℕ, ◌+◌, ◌%◌, ◌^◌, ◌<◌, ◌≤◌, Bool, true, false, List, [], ◌∷◌, zero, suc, length, take, get_or, map, not, Fits, w8, refl, sym, ap, subst, ◌∙◌, arith, inl, inr, ◌⊎◌, agree_below, agree_below_at, cases_lt, not-false, not-true, nat_tests, length-map, leading_from_mask_l, length-chunk, map-map, mask_l-mod, run_in_chunk_fails, run_in_chunk_le, run_in_chunk_stops, trailing_mask_l, prefix_len, NoFeedBefore, IsFront, IsPrintableTo, is_printable, is_printable_byte}
 use lib.Count.{count_trailing_zeros}
 use lib.Lanes.{chunk, mask_l, top}
-use Rattle.text_model.proofs.LineSteps.{NoFeedBefore}
-use Rattle.script.specs.Fields.{IsFront, IsPrintableTo, is_printable, is_printable_byte}
 
 -- the bytes before a place are a printable line
 pub front_whole : (bs : List ℕ) (n : ℕ) → n ≤ length bs → IsPrintableTo bs n → is_printable (take n bs) ≡ true

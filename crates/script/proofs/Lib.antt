@@ -1,3 +1,4 @@
+mod Prelude
 mod CommandLaws
 mod CommandTexts
 mod DraftLaws

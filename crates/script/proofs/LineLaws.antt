@@ -1,14 +1,6 @@
 -- Laws of printable lines (own).
-use Rattle.std.proofs.Common.{◌≡◌, ℕ, ◌+◌, ◌<◌, ◌≤◌, true, false, ◌&&◌, List, [], length, refl, sym, ap, ◌∙◌, arith}
-use Rattle.std.proofs.Common.{Bool, get_or, take}
-use Rattle.std.proofs.lemmas.Bool.Decides.{nat_tests}
-use Rattle.std.proofs.lemmas.Grind.{common_steps}
-use Rattle.std.proofs.lemmas.List.{take_all}
-use Rattle.std.proofs.lemmas.List.Folds.{list_all_more}
-use Rattle.text_model.proofs.LineLaws.{line_found, line_unfed}
-use Rattle.text_model.proofs.LineSteps.{line_last}
+use Rattle.script.proofs.Prelude.{◌≡◌, ℕ, ◌+◌, ◌<◌, ◌≤◌, true, false, ◌&&◌, List, [], length, refl, sym, ap, ◌∙◌, arith, Bool, get_or, take, nat_tests, common_steps, take_all, list_all_more, line_found, line_unfed, line_last, is_printable, is_printable_byte}
 use Rattle.script.proofs.LaneLaws.{front_read}
-use Rattle.script.specs.Fields.{is_printable, is_printable_byte}
 
 pub none_printable : true ≡ is_printable []
 unfolding is_printable

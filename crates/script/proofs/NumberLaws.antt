@@ -1,13 +1,6 @@
 -- Laws of decimal numbers.
-use Rattle.std.proofs.Common.{◌≡◌, ℕ, ◌+◌, ◌-◌, ◌*◌, ◌^◌, ◌<◌, ◌≤◌, Bool, true, false, ◌&&◌, nat_le, cond, List, []}
-use Rattle.std.proofs.Common.{◌∷◌, length, Option, Some, None, refl, sym, ap, ◌∙◌, arith, get_or, drop}
-use Rattle.std.proofs.lemmas.Bool.Decides.{nat_tests}
-use Rattle.std.proofs.lemmas.Grind.{common_steps}
-use Rattle.std.proofs.lemmas.Nat.{pow-add}
+use Rattle.script.proofs.Prelude.{◌≡◌, ℕ, ◌+◌, ◌-◌, ◌*◌, ◌^◌, ◌<◌, ◌≤◌, Bool, true, false, ◌&&◌, nat_le, cond, List, [], ◌∷◌, length, Option, Some, None, refl, sym, ap, ◌∙◌, arith, get_or, drop, nat_tests, common_steps, pow-add, is_ascii_digit, decimal_value, decimal_value_from, drop_at}
 use Rattle.std.proofs.Math.Nat.{pow-le-pow_right}
-use Rattle.std.specs.Char.{is_ascii_digit}
-use Rattle.script.specs.Fields.{decimal_value, decimal_value_from}
-use Rattle.text_model.proofs.LineSteps.{drop_at}
 
 digit_step : (before d : ℕ) (ds : List ℕ) → 48 ≤ d → d ≤ 57 → decimal_value_from before (d ∷ ds)
     ≡ decimal_value_from (before * 10 + (d - 48)) ds

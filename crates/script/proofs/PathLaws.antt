@@ -1,17 +1,6 @@
 -- Laws of the texts of paths (own).
-use Rattle.std.proofs.Common.{◌≡◌, ℕ, ◌≤◌, Bool, true, false, cond, ◌&&◌, nat_le, eqb, List, [], ◌∷◌, ◌++◌, length}
-use Rattle.std.proofs.Common.{Option, Some, None, Ok, Err, refl, sym, ap, subst, ◌∙◌, arith}
-use Rattle.std.proofs.lemmas.Bool.Decides.{nat_tests}
-use Rattle.std.proofs.lemmas.Grind.{common_steps}
-use Rattle.std.specs.List.{list_all, AllByRecursion}
-use Rattle.mnames.specs.Names.{is_name, is_name_byte, names_text, path_text, IsName, IsPath}
-use Rattle.text_model.specs.Lines.{onto_piece}
-use Rattle.script.specs.Fields.{path_of, pieces_of, if_path}
-use Rattle.script.specs.Forms.{is_path}
-use Rattle.script.specs.Lines.{path_in}
+use Rattle.script.proofs.Prelude.{◌≡◌, ℕ, ◌≤◌, Bool, true, false, cond, ◌&&◌, nat_le, eqb, List, [], ◌∷◌, ◌++◌, length, Option, Some, None, Ok, Err, refl, sym, ap, subst, ◌∙◌, arith, nat_tests, common_steps, list_all, AllByRecursion, is_name, is_name_byte, names_text, path_text, IsName, IsPath, onto_piece, path_of, pieces_of, if_path, is_path, path_in, and_from, and_parts}
 use Rattle.script.specs.declared.refusals.Cause.TheVariants as cause
-use Rattle.std.proofs.lemmas.Bool.{and_from}
-use Rattle.laws.proofs.Bools.{and_parts}
 
 pieces_nil : pieces_of [] ≡ [] ∷ []
 unfolding pieces_of

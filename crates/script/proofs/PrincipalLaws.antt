@@ -1,21 +1,6 @@
 -- The texts of principals and of rows are fields, and are read back as what they are the texts of (own).
-use Rattle.std.proofs.Common.{◌≡◌, ℕ, ◌≤◌, Bool, true, false, cond, List, [], ◌∷◌, ◌++◌, length, Option}
-use Rattle.std.proofs.Common.{Some, None, Ok, refl, sym, ap, subst, ◌∙◌, arith}
-use Rattle.std.specs.Prelude.{IfSome}
-use Rattle.std.specs.List.{list_all}
-use Rattle.std.specs.Str.{bytes_eq}
-use Rattle.std.proofs.lemmas.Bool.Decides.{nat_tests}
-use Rattle.mnames.proofs.PrincipalTexts.{who_again, row_again}
-use Rattle.mnames.specs.Names.{is_label, is_label_byte, IsLabel}
-use Rattle.mnames.specs.Principals.{default_project, before_dot, after_dot, IsWho, who_of, who_text, parts_text, IsRow}
-use Rattle.mnames.specs.Principals.{any_text, part_of, row_alone, row_of, row_or, row_parts_text, row_text, row_with}
-use Rattle.mnames.specs.declared.principals.Who.{Who}
-use Rattle.mnames.specs.declared.rows.Row.{Row}
+use Rattle.script.proofs.Prelude.{◌≡◌, ℕ, ◌≤◌, Bool, true, false, cond, List, [], ◌∷◌, ◌++◌, length, Option, Some, None, Ok, refl, sym, ap, subst, ◌∙◌, arith, IfSome, list_all, bytes_eq, nat_tests, who_again, row_again, is_label, is_label_byte, IsLabel, default_project, before_dot, after_dot, IsWho, who_of, who_text, parts_text, IsRow, any_text, part_of, row_alone, row_of, row_or, row_parts_text, row_text, row_with, Who, Row, is_who, is_part, is_row, who_in, row_in, and_from, and_parts}
 use Rattle.script.proofs.FieldTexts.{is_field_byte, IsField, all_both, short_field}
-use Rattle.script.specs.Forms.{is_who, is_part, is_row}
-use Rattle.script.specs.Lines.{who_in, row_in}
-use Rattle.std.proofs.lemmas.Bool.{and_from}
-use Rattle.laws.proofs.Bools.{and_parts}
 
 -- ---- labels
 

@@ -1,23 +1,5 @@
 -- Laws of lists with one more element at the end (own).
-use Rattle.std.proofs.Common.{◌≡◌, ℕ, ◌+◌, Bool, true, false, eqb, not, List, [], ◌∷◌, ◌++◌, refl}
-use Rattle.std.proofs.Common.{sym, ap, ◌∙◌, arith, sum_by}
-use Rattle.std.proofs.lemmas.Bool.Decides.{nat_tests}
-use Rattle.std.proofs.lemmas.Grind.{common_steps}
-use Rattle.std.proofs.lemmas.List.Folds.{list_any-append}
-use Rattle.std.proofs.lemmas.List.Sums.{sum_by-append}
-use Rattle.std.proofs.lemmas.Slice.Eq.{bytes_eq-Decides}
-use Rattle.std.specs.List.{list_all, list_any}
-use Rattle.std.specs.Str.{bytes_eq}
-use Rattle.script.specs.Drafts.{goes_on}
-use Rattle.script.specs.Forms.{BeginsWithInitializer, are_apart, ends_once}
-use Rattle.script.specs.Forms.{has_name, have_own_names, have_own_volumes, is_before}
-use Rattle.script.specs.Forms.{is_end}
-use Rattle.script.specs.Plans.{ProcessPlan}
-use Rattle.script.specs.declared.commands.Command.{Command}
-use Rattle.script.specs.declared.plan.Bulk.{Bulk}
-use Rattle.script.specs.declared.plan.VolumeLine.{VolumeLine}
-use Rattle.std.proofs.lemmas.Bool.{and_from, false_from_ne_true, or_from, or_parts}
-use Rattle.laws.proofs.Bools.{and_parts, not_true as is_false}
+use Rattle.script.proofs.Prelude.{◌≡◌, ℕ, ◌+◌, Bool, true, false, eqb, not, List, [], ◌∷◌, ◌++◌, refl, sym, ap, ◌∙◌, arith, sum_by, nat_tests, common_steps, list_any-append, sum_by-append, bytes_eq-Decides, list_all, list_any, bytes_eq, goes_on, BeginsWithInitializer, are_apart, ends_once, has_name, have_own_names, have_own_volumes, is_before, is_end, ProcessPlan, Command, Bulk, VolumeLine, and_from, false_from_ne_true, or_from, or_parts, and_parts, is_false}
 
 pub all_push : {A : Type 0} (f : A → Bool) (xs : List A) (x : A) → list_all f xs ≡ true → f x ≡ true
     → list_all f (xs ++ x ∷ []) ≡ true

@@ -1,13 +1,6 @@
 -- A text of lines takes a draft to another (own).
-use Rattle.std.proofs.Common.{◌≡◌, ℕ, ◌+◌, false, List, [], ◌∷◌, ◌++◌, fold, Result, Ok, refl, ap, ◌∙◌, append_assoc}
+use Rattle.script.proofs.Prelude.{◌≡◌, ℕ, ◌+◌, false, List, [], ◌∷◌, ◌++◌, fold, Result, Ok, refl, ap, ◌∙◌, append_assoc, DraftPlan, lines_of, finished, is_comment, line_after, numbered, text_after, line_at, Plan, ended, Refusal}
 use Rattle.script.proofs.FieldTexts.{HasFields, line_first}
-use Rattle.script.specs.Drafts.{DraftPlan}
-use Rattle.text_model.specs.Lines.{lines_of}
-use Rattle.script.specs.Grammar.{finished, is_comment, line_after, numbered, text_after}
-use Rattle.script.specs.Heads.{line_at}
-use Rattle.script.specs.Plans.{Plan}
-use Rattle.script.specs.Scripts.{ended}
-use Rattle.script.specs.declared.refusals.Refusal.{Refusal}
 
 -- the script of a text from its line of that number on, after a draft
 abbrev pub read_from : ℕ → DraftPlan → List ℕ → Result Plan Refusal

@@ -1,12 +1,5 @@
 -- Laws of reading line by line (own).
-use Rattle.std.proofs.Common.{◌≡◌, ℕ, ◌+◌, List, [], ◌∷◌, length, fold, Result, Ok, Err, refl, sym, ap, ◌∙◌}
-use Rattle.script.specs.Drafts.{DraftPlan, blank}
-use Rattle.text_model.specs.Lines.{lines_of}
-use Rattle.script.specs.Grammar.{finished, numbered, script_of, text_after, whole_or_missing, after_number}
-use Rattle.script.specs.Plans.{Plan}
-use Rattle.script.specs.declared.refusals.Cause.{Cause}
-use Rattle.script.specs.declared.refusals.Refusal.{Refusal}
-use Rattle.text_model.proofs.LineSteps.{no_lines}
+use Rattle.script.proofs.Prelude.{◌≡◌, ℕ, ◌+◌, List, [], ◌∷◌, length, fold, Result, Ok, Err, refl, sym, ap, ◌∙◌, DraftPlan, blank, lines_of, finished, numbered, script_of, text_after, whole_or_missing, after_number, Plan, Cause, Refusal, no_lines}
 
 -- a line after so many others
 line_read : (n : ℕ) (d : DraftPlan) (line : List ℕ) → numbered (Ok (n, d)) line ≡ after_number n (text_after d line)

@@ -1,11 +1,6 @@
 -- Steps of writing the processes of a script (own).
-use Rattle.std.proofs.Common.{◌≡◌, ℕ, suc, ◌+◌, ◌<◌, ◌≤◌, Bool, false, List, [], ◌∷◌, ◌++◌, length, refl, sym, ap, ◌∙◌}
-use Rattle.std.proofs.Common.{arith, drop, drop-cons, add-one, append_assoc, slice_index_or}
-use Rattle.std.proofs.lemmas.Grind.{common_steps}
+use Rattle.script.proofs.Prelude.{◌≡◌, ℕ, suc, ◌+◌, ◌<◌, ◌≤◌, Bool, false, List, [], ◌∷◌, ◌++◌, length, refl, sym, ap, ◌∙◌, arith, drop, drop-cons, add-one, append_assoc, slice_index_or, common_steps, ProcessPlan, process_text, processes_text, VolumeLine}
 use Rattle.script.proofs.SmallLaws.{nil_after}
-use Rattle.script.specs.Plans.{ProcessPlan}
-use Rattle.script.specs.Scripts.{process_text, processes_text}
-use Rattle.script.specs.declared.plan.VolumeLine.{VolumeLine}
 
 process_at : (xs : List ProcessPlan) (i : ℕ) (x : ProcessPlan) → i < length xs → x ≡ slice_index_or xs i x → drop i xs
     ≡ x ∷ drop (i + 1) xs

@@ -1,36 +1,13 @@
 -- The text of a script is read back as the script (own).
-use Rattle.std.proofs.Common.{◌≡◌, ℕ, ◌+◌, ◌<◌, ◌≤◌, Bool, true, false, not, ◌&&◌, nat_le, nat_lt, List, [], ◌∷◌, ◌++◌}
-use Rattle.std.proofs.Common.{length, sum_by, Ok, codes, refl, sym, ap, subst, ◌∙◌, arith, append_assoc}
-use Rattle.std.proofs.lemmas.Bool.Decides.{nat_tests}
-use Rattle.std.proofs.lemmas.List.{length-append}
-use Rattle.std.proofs.lemmas.List.Sums.{sum_by-append}
-use Rattle.std.specs.List.{list_all}
-use Rattle.mnames.specs.Principals.{who_text}
-use Rattle.mnames.specs.declared.principals.Who.{Who}
+use Rattle.script.proofs.Prelude.{◌≡◌, ℕ, ◌+◌, ◌<◌, ◌≤◌, Bool, true, false, not, ◌&&◌, nat_le, nat_lt, List, [], ◌∷◌, ◌++◌, length, sum_by, Ok, codes, refl, sym, ap, subst, ◌∙◌, arith, append_assoc, nat_tests, length-append, sum_by-append, list_all, who_text, Who, longer, DraftPlan, has_volume, initializer_who, is_inside, lines_of, BeginsWithInitializer, ends_once, IsPlan, is_command, is_end, is_process, is_who, weight, weight_of, finished, is_whole, script_of, command_line, later_at, line_at, process_line, next_field, no_fields, one_field, Plan, ProcessPlan, begin_text, commands_text, ended, process_text, processes_text, script_text, command_text, word_text, Command, Stage, and_false, and_parts, not_true}
 use Rattle.script.proofs.CommandTexts.{command_again, command_fields, fields_text, word_is_no_comment}
 use Rattle.script.proofs.FieldTexts.{front_field, last_field}
-use Rattle.script.proofs.HeadTexts.{after_head, are_volumes, head_reaches, stage_after_fails, takes_after_fails}
-use Rattle.script.proofs.HeadTexts.{takes_fail}
+use Rattle.script.proofs.HeadTexts.{after_head, are_volumes, head_reaches, stage_after_fails, takes_after_fails, takes_fail}
 use Rattle.script.proofs.PrincipalLaws.{who_field, who_in_again}
 use Rattle.script.proofs.Reaching.{Reaches, read_from, reaches_both, reaches_line, reaches_nothing}
 use Rattle.script.proofs.VolumeTexts.{AreVolumes}
 use Rattle.script.proofs.SmallLaws.{nil_after, outside}
-use Rattle.script.specs.CommandLists.{longer}
-use Rattle.script.specs.Drafts.{DraftPlan, has_volume, initializer_who, is_inside}
-use Rattle.text_model.specs.Lines.{lines_of}
-use Rattle.script.specs.Forms.{BeginsWithInitializer, ends_once, IsPlan, is_command, is_end, is_process, is_who}
-use Rattle.script.specs.Forms.{weight, weight_of}
-use Rattle.script.specs.Grammar.{finished, is_whole, script_of}
-use Rattle.script.specs.Heads.{command_line, later_at, line_at}
-use Rattle.script.specs.Heads.{process_line}
-use Rattle.script.specs.Lines.{next_field, no_fields, one_field}
-use Rattle.script.specs.Plans.{Plan, ProcessPlan}
-use Rattle.script.specs.Scripts.{begin_text, commands_text, ended, process_text, processes_text, script_text}
-use Rattle.script.specs.Texts.{command_text, word_text}
-use Rattle.script.specs.declared.commands.Command.{Command}
-use Rattle.script.specs.declared.drafts.Stage.{Stage}
 use Rattle.script.specs.declared.drafts.Stage.TheVariants as stage
-use Rattle.laws.proofs.Bools.{and_false, and_parts, not_true}
 use Rattle.script.proofs.ScriptSteps.{text_nil, text_cons}
 
 -- ---- the commands of a process

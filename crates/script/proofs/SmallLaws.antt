@@ -1,10 +1,5 @@
 -- Small laws of tests and lists (own).
-use Rattle.std.proofs.Common.{◌≡◌, ℕ, ◌<◌, ◌≤◌, true, false, nat_le, List, [], ◌∷◌, ◌++◌}
-use Rattle.std.proofs.Common.{refl, ap, arith}
-use Rattle.std.proofs.lemmas.Bool.Decides.{nat_tests}
-use Rattle.script.specs.Drafts.{is_inside, reach}
-use Rattle.script.specs.Forms.{is_from}
-use Rattle.script.specs.declared.drafts.Stage.{Stage}
+use Rattle.script.proofs.Prelude.{◌≡◌, ℕ, ◌<◌, ◌≤◌, true, false, nat_le, List, [], ◌∷◌, ◌++◌, refl, ap, arith, nat_tests, is_inside, reach, is_from, Stage}
 
 pub nil_after : {X : Type 0} → (xs : List X) → xs ++ [] ≡ xs
 nil_after [] = refl

@@ -1,21 +1,7 @@
 -- The texts of values: each is a field, and is read back as the value (own).
-use Rattle.std.proofs.Common.{◌≡◌, ℕ, ◌+◌, ◌-◌, ◌*◌, ◌/◌, ◌%◌, ◌^◌, ◌<◌, ◌≤◌, true, nat_le, List, [], ◌∷◌, ◌++◌}
-use Rattle.std.proofs.Common.{length, Some, Ok, refl, sym, ap, ◌∙◌, arith}
-use Rattle.std.proofs.lemmas.Bool.Decides.{nat_tests}
-use Rattle.std.proofs.lemmas.Fmt.{decimal_by_steps, decimal_nonempty, length-decimal-le}
-use Rattle.std.specs.Char.{is_ascii_digit}
-use Rattle.std.specs.Fmt.{decimal}
-use Rattle.std.specs.List.{list_all}
-use Rattle.mnames.specs.Names.{is_name, is_name_byte, names_text, path_text}
-use Rattle.mword.specs.Octal.{octal_digits, is_octal_digit}
-use Rattle.mword.proofs.OctalLaws.{octal_digits_all, length-octal_digits, octal_reads_back}
+use Rattle.script.proofs.Prelude.{◌≡◌, ℕ, ◌+◌, ◌-◌, ◌*◌, ◌/◌, ◌%◌, ◌^◌, ◌<◌, ◌≤◌, true, nat_le, List, [], ◌∷◌, ◌++◌, length, Some, Ok, refl, sym, ap, ◌∙◌, arith, nat_tests, decimal_by_steps, decimal_nonempty, length-decimal-le, is_ascii_digit, decimal, list_all, is_name, is_name_byte, names_text, path_text, octal_digits, is_octal_digit, octal_digits_all, length-octal_digits, octal_reads_back, decimal_value, decimal_value_from, is_path, number_in, word_in, path_in, and_from, and_parts}
 use Rattle.script.proofs.FieldTexts.{is_field_byte, IsField, all_from, all_both, short_field}
 use Rattle.script.proofs.PathLaws.{path_again}
-use Rattle.script.specs.Fields.{decimal_value, decimal_value_from}
-use Rattle.script.specs.Forms.{is_path}
-use Rattle.script.specs.Lines.{number_in, word_in, path_in}
-use Rattle.std.proofs.lemmas.Bool.{and_from}
-use Rattle.laws.proofs.Bools.{and_parts}
 use Rattle.script.proofs.NumberLaws.{nil_step}
 
 -- ---- decimal numbers

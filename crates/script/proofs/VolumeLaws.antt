@@ -1,11 +1,5 @@
 -- Laws of the names of volumes (own).
-use Rattle.std.proofs.Common.{◌≡◌, ℕ, suc, ◌+◌, ◌<◌, ◌≤◌, Bool, true, false, List, [], ◌∷◌, length, drop, drop-cons}
-use Rattle.std.proofs.Common.{add-one, Option, Some, None, refl, sym, ap, ◌∙◌, arith, slice_index_or}
-use Rattle.std.proofs.lemmas.Grind.{common_steps}
-use Rattle.std.specs.List.{list_any}
-use Rattle.script.specs.Forms.{has_name}
-use Rattle.script.specs.Lines.{number_from}
-use Rattle.script.specs.declared.plan.VolumeLine.{VolumeLine}
+use Rattle.script.proofs.Prelude.{◌≡◌, ℕ, suc, ◌+◌, ◌<◌, ◌≤◌, Bool, true, false, List, [], ◌∷◌, length, drop, drop-cons, add-one, Option, Some, None, refl, sym, ap, ◌∙◌, arith, slice_index_or, common_steps, list_any, has_name, number_from, VolumeLine}
 
 from_nil : (n : ℕ) (name : List ℕ) → number_from n [] name ≡ None
 unfolding number_from

@@ -1,31 +1,12 @@
 -- The names of volumes, modes, amounts and calls that fail: each is a field, and is read back (own).
-use Rattle.std.proofs.Common.{◌≡◌, ℕ, suc, zero, ◌+◌, ◌-◌, ◌<◌, ◌≤◌, Bool, true, false, ◌&&◌, eqb, ltb, List, []}
-use Rattle.std.proofs.Common.{◌∷◌, ◌++◌, length, take, Some, Ok, refl, sym, ap, subst, ◌∙◌, arith, get_or, ℤ, pos}
-use Rattle.std.proofs.Common.{negsuc}
-use Rattle.std.proofs.lemmas.Bool.Decides.{nat_tests}
-use Rattle.std.proofs.lemmas.List.{length_push, take_at}
-use Rattle.std.proofs.lemmas.Slice.Eq.{bytes_eq-Decides}
-use Rattle.std.specs.Char.{is_ascii_digit}
-use Rattle.std.specs.Fmt.{decimal}
-use Rattle.std.specs.Int.{is_negative}
-use Rattle.std.specs.Int.RustNames.{unsigned_abs}
-use Rattle.std.specs.List.{list_all, list_any}
-use Rattle.std.specs.Str.{bytes_eq}
-use Rattle.mnames.specs.Names.{is_name}
-use Rattle.mnames.specs.declared.modes.Mode.{Mode}
+use Rattle.script.proofs.Prelude.{◌≡◌, ℕ, suc, zero, ◌+◌, ◌-◌, ◌<◌, ◌≤◌, Bool, true, false, ◌&&◌, eqb, ltb, List, [], ◌∷◌, ◌++◌, length, take, Some, Ok, refl, sym, ap, subst, ◌∙◌, arith, get_or, ℤ, pos, negsuc, nat_tests, take_at, bytes_eq-Decides, is_ascii_digit, decimal, is_negative, unsigned_abs, list_all, list_any, bytes_eq, is_name, Mode, has_name, have_own_names, is_from, is_volume, amount_in, call_in, ends_with_plus, is_write_in, mode_in, new_name_in, number_from, volume_in, call_text, onward_text, mode_text, sign_text, volume_name, VolumeLine, and_parts, first_false, second_false}
+use Rattle.std.proofs.lemmas.List.{length_push}
 use Rattle.mnames.specs.declared.modes.Mode.TheVariants as mode
 use Rattle.script.proofs.FieldTexts.{is_field_byte, IsField, all_both}
 use Rattle.script.proofs.PushLaws.{apart_parts, names_apart}
 use Rattle.script.proofs.ValueTexts.{decimal_digits, decimal_field, name_field, number_again}
 use Rattle.script.proofs.VolumeLaws.{from_found, from_other}
 use Rattle.script.proofs.SmallLaws.{nil_after}
-use Rattle.script.specs.Forms.{has_name, have_own_names, is_from, is_volume}
-use Rattle.script.specs.Lines.{amount_in, call_in, ends_with_plus, is_write_in, mode_in, new_name_in, number_from}
-use Rattle.script.specs.Lines.{volume_in}
-use Rattle.script.specs.Scripts.{call_text, onward_text}
-use Rattle.script.specs.Texts.{mode_text, sign_text, volume_name}
-use Rattle.script.specs.declared.plan.VolumeLine.{VolumeLine}
-use Rattle.laws.proofs.Bools.{and_parts, first_false, second_false}
 
 -- ---- volumes
 

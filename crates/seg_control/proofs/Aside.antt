@@ -1,29 +1,6 @@
 -- Volumes that agree but for one home, which the one has free, and which the other uses.
-use Rattle.std.proofs.Common.{◌≡◌, ◌≢◌, ◌⊎◌, ℕ, Bool, true, List, [], ◌∷◌, Option, None, Some, refl, sym, ap}
-use Rattle.std.proofs.Common.{◌∙◌, length, get_or, set, inl, inr}
-use Rattle.std.proofs.lemmas.Bool.{cases_eq, cases_lt}
-use Rattle.std.proofs.lemmas.List.{get_or-set_same, get_or-set_other, get_or_past, set_past}
-use Rattle.bitmap.specs.Bitmap.{in_use}
-use Rattle.page_table.specs.declared.Ptw.{Ptw}
-use Rattle.vtoc.specs.Vtoc.{Entry as VtocEntry, entry_at, record_at, records_in, uid_of}
-use Rattle.volumes.specs.Volumes.{Vols, records_at}
-use Rattle.page_control.specs.declared.Home.{Home}
-use Rattle.page_control.specs.Plain.{Plain}
-use Rattle.page_control.specs.Moves.{KeepsHome}
-use Rattle.page_control.specs.Picture.{words_at, words_filed, words_out}
-use Rattle.page_control.specs.Tied.{AreFiled, IsNamed, flags_in, map_at, uid_at as uid_homed, vtoc_in}
-use Rattle.page_control.specs.Ties.{IsTied}
-use Rattle.page_control.proofs.Moved.{tie_of_home, words_of_home}
-use Rattle.seg_mover.specs.declared.Mover.{Mover}
-use Rattle.seg_mover.specs.Homes.{entry_of, map_at as mover_map, uid_at as mover_uid}
-use Rattle.seg_mover.specs.Moves.{IsMoving, given_back, undone}
-use Rattle.seg_mover.specs.Records.{AddsRecords, AreKept, flags_given}
-use Rattle.seg_mover.proofs.Places.{no_record, entry_within, vtoc_within}
-use Rattle.seg_mover.proofs.Records.{gives}
-use Rattle.seg_control.specs.Moving.{home_at}
-use Rattle.laws.proofs.Options.{not_none, map_some}
-use Rattle.laws.proofs.Bools.{off_and_on}
-use Rattle.laws.proofs.Places.{put_here, put_other}
+use Rattle.seg_control.proofs.Prelude.{◌≡◌, ◌≢◌, ◌⊎◌, ℕ, Bool, true, List, [], ◌∷◌, Option, None, Some, refl, sym, ap, ◌∙◌, length, get_or, set, inl, inr, cases_eq, cases_lt, get_or-set_same, get_or-set_other, get_or_past, set_past, in_use, Ptw, VtocEntry, record_at, records_in, Vols, records_at, Home, Plain, KeepsHome, words_at, words_filed, words_out, AreFiled, IsNamed, flags_in, map_at, uid_homed, vtoc_in, IsTied, tie_of_home, words_of_home, Mover, entry_of, mover_map, mover_uid, IsMoving, given_back, undone, AddsRecords, AreKept, flags_given, no_record, entry_within, vtoc_within, gives, home_at, not_none, map_some, off_and_on, put_here, put_other}
+use Rattle.vtoc.specs.Vtoc.{entry_at, uid_of}
 
 -- ---- records and VTOCs
 

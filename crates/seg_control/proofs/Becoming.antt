@@ -1,25 +1,5 @@
 -- A segment becomes active, or inactive: what is kept.
-use Rattle.std.proofs.Common.{◌≡◌, ◌≢◌, ℕ, suc, zero, ◌<◌, ◌≤◌, List, [], ◌∷◌, ◌++◌, length, Option, None, Some}
-use Rattle.std.proofs.Common.{is_some, All, replicate, count_by}
-use Rattle.std.proofs.Common.{refl, sym, ap, subst, ◌∙◌, arith, set, get_or, inl, inr}
-use Rattle.std.proofs.lemmas.Bool.{cases_eq, cases_lt}
-use Rattle.std.proofs.lemmas.List.{get_or-set_same, get_or-set_other, get_or_past, get_or-replicate, length-set}
-use Rattle.std.proofs.lemmas.List.{length-append, length-replicate}
-use Rattle.std.proofs.lemmas.List.Elements.{All-get_or}
-use Rattle.std.proofs.lemmas.Option.{none-some, same_Some}
-use Rattle.page_table.specs.declared.Ptw.{Ptw}
-use Rattle.page_table.specs.declared.Ptw.TheVariants.{Null, Out, Here, Leaving}
-use Rattle.page_table.specs.PageTable.{ptw_at}
-use Rattle.trailers.specs.Trailer.{trailers_of, leads_to}
-use Rattle.active_segs.specs.Active.{ActiveSegs, uid_in, entry_at, uid_at, table_at, activated, deactivated, IsAway}
-use Rattle.active_segs.specs.Active.{IsTree}
-use Rattle.page_control.specs.declared.Home.{Home}
-use Rattle.page_control.specs.Plain.{Plain, bindings, binding_at}
-use Rattle.page_control.specs.Tied.{IsTableOf, IsMapOf, frame_of, has_record, is_out, map_at, uid_at as uid_homed}
-use Rattle.page_control.specs.Ties.{IsTied}
-use Rattle.seg_control.specs.Control.{Links, leads_at}
-use Rattle.seg_control.specs.Kept.{IsHomeOf, IsInactive, HasTable, IsNotRead, times, IsKept}
-use Rattle.seg_control.specs.Next.{FitsIn, filed_word, table_for, made_active}
+use Rattle.seg_control.proofs.Prelude.{◌≡◌, ◌≢◌, ℕ, suc, zero, ◌<◌, ◌≤◌, List, [], ◌∷◌, ◌++◌, length, Option, None, Some, is_some, All, replicate, count_by, refl, sym, ap, subst, ◌∙◌, arith, set, get_or, inl, inr, cases_eq, cases_lt, get_or-set_same, get_or-set_other, get_or_past, get_or-replicate, length-set, length-append, length-replicate, All-get_or, none-some, same_Some, Ptw, Null, Out, Here, Leaving, ptw_at, trailers_of, leads_to, ActiveSegs, uid_in, entry_at, uid_at, table_at, activated, deactivated, IsAway, IsTree, Home, Plain, bindings, binding_at, IsTableOf, IsMapOf, frame_of, has_record, is_out, map_at, uid_homed, IsTied, Links, leads_at, IsHomeOf, IsInactive, HasTable, IsNotRead, times, IsKept, FitsIn, filed_word, table_for, made_active}
 use Rattle.seg_control.proofs.Paged.{table_same, table_other}
 use Rattle.seg_control.proofs.Linked.{times_same}
 use Rattle.seg_control.proofs.Calls.{sizes_kept}

@@ -1,17 +1,6 @@
 -- A segment begins to move.
-use Rattle.std.proofs.Common.{◌≡◌, ℕ, arith, List, Some, sym, ap, subst}
-use Rattle.core_map.specs.CoreMap.{Core}
-use Rattle.volumes.specs.Volumes.{Vols, KeepsTables, records_at}
-use Rattle.active_segs.specs.Active.{ActiveSegs, IsActive}
-use Rattle.page_control.specs.Plain.{Paging, plain, with_volumes}
-use Rattle.page_control.specs.Tied.{AreFiled}
-use Rattle.seg_mover.specs.declared.Mover.{Mover}
+use Rattle.seg_control.proofs.Prelude.{◌≡◌, ℕ, arith, List, Some, sym, ap, subst, Core, Vols, KeepsTables, records_at, ActiveSegs, IsActive, Paging, plain, with_volumes, AreFiled, Mover, CanBegin, IsMoving, begun, mover_for, undone, AreKept, Links, IsHomeOf, IsKept, IsKeptAtRest, IsOnItsWay, IsUnread, at_rest, home_at, volumes_of}
 use Rattle.seg_mover.specs.Homes.{map_at}
-use Rattle.seg_mover.specs.Moves.{CanBegin, IsMoving, begun, mover_for, undone}
-use Rattle.seg_mover.specs.Records.{AreKept}
-use Rattle.seg_control.specs.Control.{Links}
-use Rattle.seg_control.specs.Kept.{IsHomeOf, IsKept}
-use Rattle.seg_control.specs.Moving.{IsKeptAtRest, IsOnItsWay, IsUnread, at_rest, home_at, volumes_of}
 use Rattle.seg_control.proofs.Under.{can_plain, moving_plain}
 
 -- the records that the old home names are in use, each once

@@ -1,23 +1,6 @@
 -- What is kept after a call of page control.
-use Rattle.std.proofs.Common.{◌≡◌, ◌≢◌, ◌⊎◌, ℕ, ◌<◌, true, false, List, [], length, Option, None, Some, Result, Ok}
-use Rattle.std.proofs.Common.{Err, sym, ap, subst, ◌∙◌}
-use Rattle.std.proofs.Common.{arith, set, inl, inr, OnOk, OnErr}
-use Rattle.std.proofs.lemmas.Bool.{cases_eq}
-use Rattle.std.proofs.lemmas.List.{get_or-set_other, length-set, set-get_or}
-use Rattle.core_map.specs.CoreMap.{reads_of}
-use Rattle.page_table.specs.declared.Ptw.{Ptw}
-use Rattle.page_table.specs.declared.Ptw.TheVariants.{Null, Here, Leaving}
-use Rattle.page_table.specs.PageTable.{ptw_at}
-use Rattle.active_segs.specs.Active.{ActiveSegs, uid_at, table_at, with_table}
-use Rattle.page_control.specs.declared.Home.{Home}
-use Rattle.page_control.specs.declared.Left.{Left}
-use Rattle.page_control.specs.Plain.{Plain, bindings, binding_at}
-use Rattle.page_control.specs.Tied.{is_out}
-use Rattle.page_control.specs.Ties.{IsTied, KeepsOthers}
-use Rattle.page_control.specs.Effects.{words_left, words_here, word_of_left, after_evict}
-use Rattle.seg_control.specs.Control.{Links, place_of, table_of}
-use Rattle.seg_control.specs.Effects.{worded, table_here, table_left}
-use Rattle.seg_control.specs.Kept.{read_at, IsHomeFor, HaveSizes, ArePaged, AreLinked, IsKept}
+use Rattle.seg_control.proofs.Prelude.{◌≡◌, ◌≢◌, ◌⊎◌, ℕ, ◌<◌, true, false, List, [], length, Option, None, Some, Result, Ok, Err, sym, ap, subst, ◌∙◌, arith, set, inl, inr, OnOk, OnErr, cases_eq, get_or-set_other, length-set, set-get_or, reads_of, Ptw, Null, Here, Leaving, ptw_at, ActiveSegs, uid_at, table_at, with_table, Home, Left, Plain, bindings, binding_at, is_out, IsTied, KeepsOthers, words_left, words_here, word_of_left, after_evict, Links, place_of, table_of, table_here, table_left, read_at, IsHomeFor, HaveSizes, ArePaged, AreLinked, IsKept}
+use Rattle.seg_control.specs.Effects.{worded}
 use Rattle.seg_control.proofs.Paged.{set_cases, none_read, table_same, table_other, IsCall, paged_call}
 
 -- a table of the same length

@@ -1,20 +1,6 @@
 -- A chain of superiors, and its first segment that is not active.
-use Rattle.std.proofs.Common.{◌≡◌, ℕ, suc, zero, ◌<◌, ◌≤◌, ◌+◌, true, List, [], ◌∷◌, ◌++◌, length, Option, None, Some}
-use Rattle.std.proofs.Common.{is_some, IfNone, Contains}
-use Rattle.std.proofs.Common.{refl, sym, ap, subst, ◌∙◌, arith, set, get_or, inl, inr, take}
-use Rattle.std.specs.Prelude.{◌↔◌}
-use Rattle.std.proofs.Math.Seq.{take-suc-set}
-use Rattle.std.proofs.lemmas.Bool.{cases_eq, cases_lt}
-use Rattle.std.proofs.lemmas.List.{get_or-map, length-map}
-use Rattle.std.proofs.lemmas.Option.{same_Some}
-use Rattle.page_table.specs.declared.Ptw.{Ptw}
-use Rattle.vtoc.specs.Vtoc.{Entry as VtocEntry}
-use Rattle.active_segs.specs.declared.Entry.{Entry}
-use Rattle.active_segs.specs.Active.{ActiveSegs, uid_at, IsActive, IsFull}
-use Rattle.active_segs.specs.Victim.{IsVictim, HasItsSuperiors}
-use Rattle.seg_control.specs.declared.Link.{Link}
-use Rattle.seg_control.specs.Next.{uids_of, no_link, link_at, superior_of, words_in, filed_word, table_for}
-use Rattle.seg_control.specs.Next.{IsFirstInactive, AreActive, MayActivate, IsStuck, IsGoing}
+use Rattle.seg_control.proofs.Prelude.{◌≡◌, ℕ, suc, zero, ◌<◌, ◌≤◌, ◌+◌, true, List, [], ◌∷◌, ◌++◌, length, Option, None, Some, is_some, IfNone, Contains, refl, sym, ap, subst, ◌∙◌, arith, set, get_or, inl, inr, take, ◌↔◌, take-suc-set, cases_eq, cases_lt, length-map, same_Some, Ptw, VtocEntry, Entry, ActiveSegs, uid_at, IsActive, IsFull, IsVictim, HasItsSuperiors, Link, uids_of, no_link, link_at, superior_of, words_in, filed_word, table_for, IsFirstInactive, AreActive, MayActivate, IsStuck, IsGoing}
+use Rattle.std.proofs.lemmas.List.{get_or-map}
 use Rattle.seg_control.proofs.Becoming.{table_suc}
 
 -- ---- superiors

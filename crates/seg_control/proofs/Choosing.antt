@@ -1,15 +1,5 @@
 -- The page of a segment that moves that is copied next.
-use Rattle.std.proofs.Common.{◌≡◌, ℕ, zero, suc, ◌+◌, ◌<◌, ◌≤◌, Bool, true, false, ◌&&◌, not, cond, List}
-use Rattle.std.proofs.Common.{length, Option, Some, replicate, refl, sym, ap, ◌∙◌, arith, get_or, set, inl, inr}
-use Rattle.std.proofs.lemmas.Bool.{cases_eq, cases_lt}
-use Rattle.std.proofs.lemmas.List.{get_or-set_same, get_or-set_other, get_or-replicate, get_or_past, length-replicate}
-use Rattle.std.proofs.lemmas.List.{length-set}
-use Rattle.page_table.specs.declared.Ptw.{Ptw}
-use Rattle.page_table.specs.declared.Ptw.TheVariants.{Null, Out, Here, Leaving}
-use Rattle.page_table.specs.PageTable.{ptw_at}
-use Rattle.page_control.specs.Tied.{IsMapOf, has_record, is_out}
-use Rattle.seg_mover.specs.Copies.{first_to_copy, is_to_copy}
-use Rattle.seg_control.specs.Moving.{first_out, is_framed}
+use Rattle.seg_control.proofs.Prelude.{◌≡◌, ℕ, zero, suc, ◌+◌, ◌<◌, ◌≤◌, Bool, true, false, ◌&&◌, not, cond, List, length, Option, Some, replicate, refl, sym, ap, ◌∙◌, arith, get_or, set, inl, inr, cases_eq, cases_lt, get_or-set_same, get_or-set_other, get_or-replicate, get_or_past, length-replicate, length-set, Ptw, Null, Out, Here, Leaving, ptw_at, IsMapOf, has_record, is_out, first_to_copy, is_to_copy, first_out, is_framed}
 
 -- ---- the pages in frames
 

@@ -1,33 +1,9 @@
 -- The move of a segment is committed.
-use Rattle.std.proofs.Common.{◌≡◌, ◌≢◌, ℕ, zero, suc, ◌+◌, ◌-◌, ◌<◌, ◌≤◌, Bool, true, false, cond, List, []}
-use Rattle.std.proofs.Common.{length, Option, None, Some, refl, sym, ap, subst, ◌∙◌, arith, count_by, get_or, is_some}
-use Rattle.std.proofs.Common.{map, set, inl, inr}
-use Rattle.std.proofs.lemmas.Bool.{cases_eq, cases_lt}
-use Rattle.std.proofs.lemmas.List.{get_or-set_other, length-set}
-use Rattle.std.proofs.lemmas.Option.{none-some, same_Some}
-use Rattle.core_map.specs.CoreMap.{reads_of}
-use Rattle.page_table.specs.declared.Ptw.{Ptw}
-use Rattle.page_table.specs.PageTable.{ptw_at}
+use Rattle.seg_control.proofs.Prelude.{◌≡◌, ◌≢◌, ℕ, zero, suc, ◌+◌, ◌-◌, ◌<◌, ◌≤◌, Bool, true, false, cond, List, [], length, Option, None, Some, refl, sym, ap, subst, ◌∙◌, arith, count_by, get_or, is_some, map, set, inl, inr, cases_eq, cases_lt, get_or-set_other, length-set, none-some, same_Some, reads_of, Ptw, ptw_at, Vols, ActiveSegs, entry_at, table_at, uid_at, uid_in, with_table, Home, named_on, taken, used, IsCopied, all_modified, is_filed_at, is_stored, words_at, Paging, Plain, binding_at, bindings, plain, with_volumes, IsTableOf, is_out, map_at, uid_homed, IsTied, KeepsTies, named_here, Mover, IsMoving, given_back, Links, table_of, ArePaged, HasTable, IsHomeOf, IsOutAt, read_at, IsKeptAtRest, at_rest, first_out, home_at, next_out, volumes_of}
 use Rattle.vtoc.specs.Vtoc.{uid_of}
-use Rattle.volumes.specs.Volumes.{Vols}
-use Rattle.active_segs.specs.Active.{ActiveSegs, entry_at, table_at, uid_at, uid_in, with_table}
-use Rattle.page_control.specs.declared.Home.{Home}
-use Rattle.page_control.specs.Counts.{named_on, taken, used}
-use Rattle.page_control.specs.Moves.{IsCopied, all_modified}
-use Rattle.page_control.specs.Picture.{is_filed_at, is_stored, words_at}
-use Rattle.page_control.specs.Plain.{Paging, Plain, binding_at, bindings, plain, with_volumes}
-use Rattle.page_control.specs.Tied.{IsTableOf, is_out, map_at, uid_at as uid_homed}
-use Rattle.page_control.specs.Ties.{IsTied, KeepsTies}
-use Rattle.page_control.proofs.Counting.{named_here}
-use Rattle.seg_mover.specs.declared.Mover.{Mover}
-use Rattle.seg_mover.specs.Moves.{IsMoving, given_back}
-use Rattle.seg_control.specs.Control.{Links, table_of}
-use Rattle.seg_control.specs.Kept.{ArePaged, HasTable, IsHomeOf, IsOutAt, read_at}
-use Rattle.seg_control.specs.Moving.{IsKeptAtRest, at_rest, first_out, home_at, next_out, volumes_of}
 use Rattle.seg_control.proofs.Paged.{table_other, table_same}
 use Rattle.seg_control.proofs.Calls.{sizes_kept}
-use Rattle.seg_control.proofs.Aside.{AreAside, IsAside, filed_less, home_adds, map_same, not_free, tie_less, tie_more}
-use Rattle.seg_control.proofs.Aside.{uid_same, words_same}
+use Rattle.seg_control.proofs.Aside.{AreAside, IsAside, filed_less, home_adds, map_same, not_free, tie_less, tie_more, uid_same, words_same}
 use Rattle.seg_control.proofs.Resting.{aside_of}
 use Rattle.seg_control.proofs.Copying.{tie_here}
 use Rattle.seg_control.proofs.Totals.{count_same, named_elsewhere, taken_given, used_given}

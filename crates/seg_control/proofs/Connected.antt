@@ -1,31 +1,7 @@
 -- Descriptors, trailers and known segment tables after one descriptor or number has changed.
-use Rattle.std.proofs.Common.{◌≡◌, ◌≢◌, ℕ, ◌<◌, ◌+◌, Bool, true, false, cond, eqb, List, [], ◌∷◌, ◌++◌, length, Option}
-use Rattle.std.proofs.Common.{None, Some, IsSome, refl, sym}
-use Rattle.std.proofs.Common.{ap, subst, ◌∙◌, arith, set, get_or, inl, inr, count_by, Contains, remove}
-use Rattle.std.proofs.lemmas.Bool.{cases_eq, cases_lt, ne_eqb}
-use Rattle.std.proofs.lemmas.List.{get_or-set_same, get_or-set_other, get_or_past, length-set}
-use Rattle.std.proofs.lemmas.List.Edits.{length-remove}
-use Rattle.std.proofs.lemmas.List.Quantifiers.{position-Some}
-use Rattle.std.proofs.lemmas.Option.{none-some, same_Some}
-use Rattle.mnames.specs.declared.modes.Mode.{Mode}
-use Rattle.descriptor_seg.specs.declared.Sdw.{Sdw}
-use Rattle.descriptor_seg.specs.declared.Sdw.TheVariants.{Fault, Present}
-use Rattle.descriptor_seg.specs.Descriptors.{sdw_at}
-use Rattle.trailers.specs.Trailer.{trailers_of, leads_to, place_in, without_place, without_trailer}
-use Rattle.known_segs.specs.Known.{uid_of, without_number, HasOneNumberEach}
-use Rattle.active_segs.specs.declared.Entry.{Entry}
-use Rattle.active_segs.specs.Active.{uid_at, uid_in}
-use Rattle.seg_control.specs.Control.{Links, kst_at, sdws_at, leads, leads_at}
-use Rattle.seg_control.specs.Effects.{linked, unlinked, with_kst}
-use Rattle.seg_control.specs.Kept.{times, AreExact, IsKnownAt, AreLinked}
+use Rattle.seg_control.proofs.Prelude.{◌≡◌, ◌≢◌, ℕ, ◌<◌, ◌+◌, Bool, true, false, cond, eqb, List, [], ◌∷◌, ◌++◌, length, Option, None, Some, IsSome, refl, sym, ap, subst, ◌∙◌, arith, set, get_or, inl, inr, count_by, Contains, remove, cases_eq, cases_lt, ne_eqb, get_or-set_same, get_or-set_other, get_or_past, length-set, length-remove, position-Some, none-some, same_Some, Mode, Sdw, Fault, Present, sdw_at, trailers_of, leads_to, place_in, without_place, without_trailer, uid_of, without_number, HasOneNumberEach, Entry, uid_at, uid_in, Links, kst_at, sdws_at, leads, leads_at, linked, unlinked, with_kst, times, AreExact, IsKnownAt, AreLinked, length_push, position_there, same_test, some_number, shown_within}
 use Rattle.seg_control.proofs.Counts.{weight, count_push, count_remove, count_some}
-use Rattle.seg_control.proofs.Linked.{pair_cases, leads_within, leads_this, leads_other, words_kept, leads_to_itself}
-use Rattle.seg_control.proofs.Linked.{leads_to_is, leads_to_not, times_same}
-use Rattle.seg_control.proofs.Linked.{most_trailers}
-use Rattle.laws.proofs.Lists.{length_push, position_there}
-use Rattle.laws.proofs.Numbers.{same_test}
-use Rattle.laws.proofs.Options.{some_number}
-use Rattle.laws.proofs.Places.{shown_within}
+use Rattle.seg_control.proofs.Linked.{pair_cases, leads_within, leads_this, leads_other, words_kept, leads_to_itself, leads_to_is, leads_to_not, times_same, most_trailers}
 
 list_same : (trailers : List (List (ℕ × ℕ))) (place : ℕ) (xs : List (ℕ × ℕ)) → place < length trailers
     → trailers_of (set trailers place xs) place ≡ xs

@@ -1,29 +1,5 @@
 -- A page of a segment that moves is copied.
-use Rattle.std.proofs.Common.{◌≡◌, ℕ, Bool, true, false, ◌&&◌, List, [], length, Option, None, Some, IfSome, Result, Ok}
-use Rattle.std.proofs.Common.{Err, refl, sym, ap, subst, ◌∙◌, get_or, map, set, is_some, inl, inr}
-use Rattle.std.proofs.lemmas.Bool.{cases_eq, cases_lt}
-use Rattle.std.proofs.lemmas.List.{get_or-set_same, get_or-set_other, length-set, set_past}
-use Rattle.bitmap.specs.Bitmap.{in_use}
-use Rattle.page_table.specs.PageTable.{ptw_at}
-use Rattle.vtoc.specs.Vtoc.{Entry as VtocEntry, record_at}
-use Rattle.volumes.specs.Volumes.{Vols, KeepsTables, with_page}
-use Rattle.active_segs.specs.Active.{ActiveSegs, table_at}
-use Rattle.page_control.specs.declared.Home.{Home}
-use Rattle.page_control.specs.Moves.{IsCopied, KeepsHome}
-use Rattle.page_control.specs.Picture.{words_at, words_filed, words_out}
-use Rattle.page_control.specs.Plain.{Paging, Plain, filed, plain, with_volumes}
-use Rattle.page_control.specs.Tied.{flags_in, is_out, map_at, uid_at as uid_homed, vtoc_in}
-use Rattle.page_control.specs.Ties.{IsTied, KeepsTies}
-use Rattle.page_control.proofs.Moved.{tie_of_home, words_of_home}
-use Rattle.page_control.proofs.Pictures.{filed_same}
-use Rattle.seg_mover.specs.declared.Mover.{Mover}
-use Rattle.seg_mover.specs.Copies.{AreCopied, IsLeastToCopy, after_copy, is_to_copy, moved_on, page_to_copy}
-use Rattle.seg_mover.specs.Homes.{map_at as mover_map, place_at, words_filed as mover_words, words_of}
-use Rattle.seg_mover.specs.Moves.{CanBegin, IsMoving, begun, number_or_zero, undone}
-use Rattle.seg_mover.proofs.Places.{vols_same}
-use Rattle.seg_control.specs.Control.{Links, table_of}
-use Rattle.seg_control.specs.Kept.{IsHomeOf}
-use Rattle.seg_control.specs.Moving.{IsKeptAtRest, IsOnItsWay, at_rest, home_at, is_framed, next_out, volumes_of}
+use Rattle.seg_control.proofs.Prelude.{◌≡◌, ℕ, Bool, true, false, ◌&&◌, List, [], length, Option, None, Some, IfSome, Result, Ok, Err, refl, sym, ap, subst, ◌∙◌, get_or, map, set, inl, inr, cases_eq, cases_lt, get_or-set_same, get_or-set_other, length-set, set_past, in_use, ptw_at, VtocEntry, record_at, Vols, KeepsTables, with_page, ActiveSegs, table_at, Home, IsCopied, KeepsHome, words_at, words_filed, words_out, Paging, Plain, filed, plain, with_volumes, flags_in, is_out, map_at, uid_homed, vtoc_in, IsTied, KeepsTies, tie_of_home, words_of_home, filed_same, Mover, AreCopied, IsLeastToCopy, after_copy, is_to_copy, moved_on, page_to_copy, mover_map, place_at, mover_words, words_of, CanBegin, IsMoving, begun, number_or_zero, undone, vols_same, Links, table_of, IsHomeOf, IsKeptAtRest, IsOnItsWay, at_rest, home_at, is_framed, next_out, volumes_of, off_and_on, some_unwrapped}
 use Rattle.seg_control.proofs.Places.{place_is}
 use Rattle.seg_control.proofs.Paged.{paged_same}
 use Rattle.seg_control.proofs.Calls.{kept_paged}
@@ -31,8 +7,6 @@ use Rattle.seg_control.proofs.Aside.{move_adds, tie_more}
 use Rattle.seg_control.proofs.Resting.{aside_of}
 use Rattle.seg_control.proofs.Under.{moving_plain, now_is}
 use Rattle.seg_control.proofs.Choosing.{first_same, out_from, to_copy_out}
-use Rattle.laws.proofs.Bools.{off_and_on}
-use Rattle.laws.proofs.Options.{some_unwrapped}
 
 -- ---- the segment that moves
 

@@ -1,10 +1,5 @@
 -- How often a list has an element that passes a test.
-use Rattle.std.proofs.Common.{◌≡◌, ℕ, suc, zero, ◌<◌, ◌≤◌, ◌+◌, Bool, true, false, cond, eqb, List, [], ◌∷◌}
-use Rattle.std.proofs.Common.{◌++◌, length, refl}
-use Rattle.std.proofs.Common.{sym, ap, ◌∙◌, ◌||◌, arith, get_or, count_by, map, remove}
-use Rattle.std.specs.List.{list_any}
-use Rattle.std.proofs.lemmas.Bool.{eqb-true}
-use Rattle.std.proofs.lemmas.List.Sums.{sum_by_push, sum_by-remove, sum_by-cons}
+use Rattle.seg_control.proofs.Prelude.{◌≡◌, ℕ, suc, zero, ◌<◌, ◌≤◌, ◌+◌, Bool, true, false, cond, eqb, List, [], ◌∷◌, ◌++◌, length, refl, sym, ap, ◌∙◌, ◌||◌, arith, get_or, count_by, map, remove, list_any, eqb-true, sum_by_push, sum_by-remove, sum_by-cons}
 
 abbrev pub weight : Bool → ℕ
 weight b = cond b 1 0

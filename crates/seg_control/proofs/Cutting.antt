@@ -1,28 +1,8 @@
 -- All descriptors of a place are cut, or connected again.
-use Rattle.std.proofs.Common.{◌≡◌, ◌≢◌, ℕ, suc, zero, ◌<◌, ◌≤◌, ◌+◌, Bool, cond, List, [], ◌∷◌, ◌++◌, length, Option}
-use Rattle.std.proofs.Common.{None, Some, map, drop, count_by}
-use Rattle.std.proofs.Common.{refl, sym, ap, subst, ◌∙◌, arith, set, get_or, slice_get}
-use Rattle.std.proofs.Math.Seq.{map-set_same}
-use Rattle.std.proofs.Math.ListN.{get_or-map}
-use Rattle.std.proofs.lemmas.Bool.{eq-eqb, ne_eqb}
-use Rattle.std.proofs.lemmas.List.{set-set, set-get_or, get_or-set_same, length-set, append-nil, append_assoc}
-use Rattle.std.proofs.lemmas.Option.{get_or_from_slice_get}
-use Rattle.mnames.specs.declared.modes.Mode.{Mode}
-use Rattle.descriptor_seg.specs.declared.Sdw.{Sdw}
-use Rattle.descriptor_seg.specs.declared.Sdw.TheVariants.{Fault, Present}
-use Rattle.descriptor_seg.specs.Descriptors.{sdw_at}
-use Rattle.trailers.specs.Trailer.{trailers_of, leads_to, without_trailer}
-use Rattle.known_segs.specs.Known.{uid_of}
-use Rattle.active_segs.specs.declared.Entry.{Entry}
-use Rattle.active_segs.specs.Active.{uid_at}
-use Rattle.seg_control.specs.Control.{Links, Control, kst_at, sdws_at, leads, leads_at}
-use Rattle.seg_control.specs.Effects.{linked, unlinked, cut_one, faulting, all_cut, reconnected}
-use Rattle.seg_control.specs.Kept.{times, AreLinked, pair_at, MayReconnect}
+use Rattle.seg_control.proofs.Prelude.{◌≡◌, ◌≢◌, ℕ, suc, zero, ◌<◌, ◌≤◌, ◌+◌, Bool, cond, List, [], ◌∷◌, ◌++◌, length, Option, None, Some, map, drop, count_by, refl, sym, ap, subst, ◌∙◌, arith, set, get_or, slice_get, map-set_same, get_or-map, eq-eqb, ne_eqb, set-set, set-get_or, get_or-set_same, length-set, append-nil, append_assoc, get_or_from_slice_get, Mode, Sdw, Fault, Present, sdw_at, trailers_of, leads_to, without_trailer, uid_of, Entry, uid_at, Links, Control, kst_at, sdws_at, leads, leads_at, linked, unlinked, cut_one, faulting, all_cut, reconnected, times, AreLinked, pair_at, MayReconnect, one_left, times_few}
 use Rattle.seg_control.proofs.Counts.{count_two}
 use Rattle.seg_control.proofs.Linked.{trailer_leads, leads_within, leads_to_itself, times_same}
 use Rattle.seg_control.proofs.Connected.{without_shorter}
-use Rattle.laws.proofs.Lists.{one_left}
-use Rattle.laws.proofs.Options.{times_few}
 
 -- ---- the oldest trailer
 

@@ -1,16 +1,6 @@
 -- What frames are bound to, and what is being read into them.
-use Rattle.std.proofs.Common.{◌≡◌, ◌≢◌, ℕ, true, Some, refl, sym, ap, ◌∙◌}
-use Rattle.std.proofs.Math.ListN.{get_or-map}
-use Rattle.std.proofs.lemmas.Option.{same_Some}
-use Rattle.core_map.specs.CoreMap.{Core, reads_of, frame_at, is_bound, bound_page, started_page}
-use Rattle.core_map.specs.declared.Frame.{Frame}
-use Rattle.core_map.specs.declared.Frame.TheVariants.{Free, Started, Bound}
-use Rattle.volumes.specs.Volumes.{Vols}
-use Rattle.active_segs.specs.Active.{ActiveSegs, IsActive}
-use Rattle.page_control.specs.Plain.{Plain, bindings, binding_at, number_in}
-use Rattle.page_control.specs.Tied.{IsBoundOnce, IsNotStarted, uid_in}
-use Rattle.seg_control.specs.Control.{Links}
-use Rattle.seg_control.specs.Kept.{read_at, IsKept}
+use Rattle.seg_control.proofs.Prelude.{◌≡◌, ◌≢◌, ℕ, true, Some, refl, sym, ap, ◌∙◌, get_or-map, same_Some, Core, reads_of, frame_at, is_bound, bound_page, started_page, Frame, Free, Started, Bound, Vols, ActiveSegs, IsActive, Plain, bindings, binding_at, number_in, IsBoundOnce, IsNotStarted, Links, read_at, IsKept}
+use Rattle.page_control.specs.Tied.{uid_in}
 
 pub read_is : (core : Core) (f : ℕ) → read_at (reads_of core) f ≡ started_page (frame_at core f)
 read_is core f = get_or-map started_page core.frames f Free

@@ -1,19 +1,5 @@
 -- What is kept after a home is taken, or given up.
-use Rattle.std.proofs.Common.{◌≡◌, ◌≢◌, ◌⊎◌, ℕ, List, [], Option, None, Some, refl, sym, ap, subst, ◌∙◌}
-use Rattle.std.proofs.Common.{arith, inl, inr, IfSome}
-use Rattle.std.proofs.lemmas.Bool.{cases_eq}
-use Rattle.std.proofs.lemmas.Option.{none-some, same_Some}
-use Rattle.page_table.specs.declared.Ptw.{Ptw}
-use Rattle.vtoc.specs.Vtoc.{least_free_entry}
-use Rattle.active_segs.specs.declared.Entry.{Entry}
-use Rattle.active_segs.specs.Active.{ActiveSegs, uid_at, table_at, IsActive}
-use Rattle.page_control.specs.declared.Home.{Home}
-use Rattle.page_control.specs.Plain.{Plain, bindings, vtoc_of, uid_of_home}
-use Rattle.page_control.specs.Tied.{IsTableOf, AreFiled, HasNoFrame, IsBlank, uid_at as uid_homed}
-use Rattle.page_control.specs.Ties.{IsTied, KeepsTies}
-use Rattle.page_control.specs.Effects.{after_asked, erased}
-use Rattle.seg_control.specs.Control.{Links}
-use Rattle.seg_control.specs.Kept.{IsHomeOf, IsInactive, HasTable, ArePaged, IsKept}
+use Rattle.seg_control.proofs.Prelude.{◌≡◌, ◌≢◌, ◌⊎◌, ℕ, List, [], Option, None, Some, refl, sym, ap, subst, ◌∙◌, arith, inl, inr, IfSome, cases_eq, none-some, same_Some, Ptw, least_free_entry, Entry, ActiveSegs, uid_at, table_at, IsActive, Home, Plain, bindings, vtoc_of, uid_of_home, IsTableOf, AreFiled, HasNoFrame, IsBlank, uid_homed, IsTied, KeepsTies, after_asked, erased, Links, IsHomeOf, IsInactive, HasTable, ArePaged, IsKept}
 use Rattle.seg_control.proofs.Calls.{kept_paged}
 
 home_cases : (a b : Home) → (a ≡ b) ⊎ (a ≢ b)

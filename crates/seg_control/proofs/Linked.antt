@@ -1,26 +1,6 @@
 -- Descriptors, trailers and known segment tables after a call.
-use Rattle.std.proofs.Common.{◌≡◌, ◌≢◌, ◌⊎◌, ℕ, ◌<◌, ◌≤◌, Bool, true, false, eqb, List, [], length}
-use Rattle.std.proofs.Common.{Option, None, Some, refl, sym}
-use Rattle.std.proofs.Common.{ap, ◌∙◌, arith, set, get_or, inl, inr, map}
-use Rattle.std.proofs.lemmas.Bool.{cases_eq, cases_lt, eq-eqb, eqb-true, ne_eqb, and_from}
-use Rattle.std.proofs.lemmas.List.{get_or-set_same, get_or-set_other, get_or_past, length-set, length-map}
-use Rattle.std.proofs.lemmas.Map.Keys.{IsDistinct-from_apart}
-use Rattle.std.proofs.lemmas.Map.Steps.{length-le_from_distinct_below}
-use Rattle.std.proofs.lemmas.Option.{none-some, same_Some}
-use Rattle.std.proofs.Math.ListN.{get_or-map}
-use Rattle.descriptor_seg.specs.declared.Sdw.{Sdw}
-use Rattle.descriptor_seg.specs.declared.Sdw.TheVariants.{Fault}
-use Rattle.descriptor_seg.specs.Descriptors.{sdw_at}
-use Rattle.trailers.specs.Trailer.{trailers_of, leads_to}
-use Rattle.known_segs.specs.Known.{uid_of}
-use Rattle.active_segs.specs.declared.Entry.{Entry}
-use Rattle.seg_control.specs.Control.{Links, kst_at, sdws_at, leads, leads_at}
-use Rattle.seg_control.specs.Kept.{times, AreExact, AreLinked}
+use Rattle.seg_control.proofs.Prelude.{◌≡◌, ◌≢◌, ◌⊎◌, ℕ, ◌<◌, ◌≤◌, Bool, true, false, eqb, List, [], length, Option, Some, refl, sym, ap, ◌∙◌, arith, set, get_or, inl, inr, map, cases_eq, eq-eqb, eqb-true, ne_eqb, and_from, get_or-set_same, get_or-set_other, length-set, length-map, IsDistinct-from_apart, length-le_from_distinct_below, same_Some, get_or-map, Sdw, Fault, sdw_at, trailers_of, leads_to, uid_of, Entry, Links, kst_at, sdws_at, leads, leads_at, times, AreExact, AreLinked, and_parts, get_or_any, shown_within, times_few, times_one}
 use Rattle.seg_control.proofs.Counts.{weight, count_one, count_two, any_at}
-use Rattle.laws.proofs.Bools.{and_parts}
-use Rattle.laws.proofs.Lists.{get_or_any}
-use Rattle.laws.proofs.Places.{shown_within}
-use Rattle.laws.proofs.Options.{times_few, times_one}
 
 -- ---- descriptors
 

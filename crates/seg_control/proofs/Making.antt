@@ -1,29 +1,9 @@
 -- What is kept after a page is made, dropped, taken or given back.
-use Rattle.std.proofs.Common.{◌≡◌, ◌≢◌, ℕ, ◌<◌, true, false, List, length, Option, None, Some, Result, Ok, Err, sym}
-use Rattle.std.proofs.Common.{ap, subst, ◌∙◌}
-use Rattle.std.proofs.Common.{arith, set, inl, inr, OnOk, OnErr}
-use Rattle.std.proofs.lemmas.Bool.{cases_eq}
-use Rattle.std.proofs.lemmas.List.{get_or-set_other, length-set, map-set}
-use Rattle.std.proofs.lemmas.Option.{none-some, same_Some}
-use Rattle.core_map.specs.CoreMap.{Core, reads_of, frame_at, with_frame, bound_page}
-use Rattle.core_map.specs.declared.Frame.TheVariants.{Free}
-use Rattle.page_table.specs.declared.Ptw.{Ptw}
-use Rattle.page_table.specs.declared.Ptw.TheVariants.{Null, Out, Here, Leaving}
-use Rattle.page_table.specs.PageTable.{ptw_at}
-use Rattle.vtoc.specs.Vtoc.{Entry as VtocEntry, uid_of}
-use Rattle.active_segs.specs.declared.Entry.{Entry}
-use Rattle.active_segs.specs.Active.{ActiveSegs, uid_in, entry_at, uid_at, table_at, with_table}
-use Rattle.page_control.specs.declared.Home.{Home}
-use Rattle.page_control.specs.Plain.{Paging, Plain, plain, bindings, binding_at, number_in, uid_or_zero, uid_of_home}
-use Rattle.page_control.specs.Tied.{IsTableOf, IsNotStarted, is_out, uid_in as uid_framed, uid_at as uid_homed}
-use Rattle.page_control.specs.Ties.{IsTied, KeepsOthers}
-use Rattle.page_control.specs.Effects.{words_here, after_create, dropped}
-use Rattle.seg_control.specs.Control.{Links, place_of, table_of, word_of}
-use Rattle.seg_control.specs.Kept.{read_at, IsHomeFor, IsOutAt, ArePaged, IsKept}
+use Rattle.seg_control.proofs.Prelude.{◌≡◌, ◌≢◌, ℕ, ◌<◌, true, false, List, length, Option, None, Some, Result, Ok, Err, sym, ap, subst, ◌∙◌, arith, set, inl, inr, OnOk, OnErr, cases_eq, get_or-set_other, length-set, map-set, none-some, same_Some, Core, reads_of, frame_at, with_frame, bound_page, Free, Ptw, Null, Out, Here, Leaving, ptw_at, VtocEntry, Entry, ActiveSegs, uid_in, entry_at, uid_at, table_at, with_table, Home, Paging, Plain, plain, bindings, binding_at, number_in, uid_or_zero, uid_of_home, IsTableOf, IsNotStarted, is_out, uid_framed, uid_homed, IsTied, KeepsOthers, words_here, after_create, dropped, Links, place_of, table_of, word_of, read_at, IsHomeFor, IsOutAt, ArePaged, IsKept}
+use Rattle.vtoc.specs.Vtoc.{uid_of}
 use Rattle.seg_control.proofs.Frames.{none_started}
 use Rattle.seg_control.proofs.Paged.{set_cases, table_same, table_other}
-use Rattle.seg_control.proofs.Calls.{sizes_kept, kept_call, length_here, words_here_other, marks_here, reads_kept}
-use Rattle.seg_control.proofs.Calls.{tied_home}
+use Rattle.seg_control.proofs.Calls.{sizes_kept, kept_call, length_here, words_here_other, marks_here, reads_kept, tied_home}
 
 -- ---- a page is made
 

@@ -1,34 +1,6 @@
 -- Segment control where nothing is active, known or connected.
-use Rattle.std.proofs.Common.{◌≡◌, ◌≢◌, ℕ, suc, zero, ◌<◌, ◌≤◌, ◌+◌, ◌^◌, List, [], ◌∷◌, ◌++◌, length, Option, None}
-use Rattle.std.proofs.Common.{Some, sum, replicate, count_by}
-use Rattle.std.proofs.Common.{refl, sym, ap, subst, ◌∙◌, arith, get_or, inl, inr}
-use Rattle.std.proofs.lemmas.Bool.{cases_lt}
-use Rattle.std.proofs.lemmas.List.{get_or-replicate, get_or_past, length-append, length-replicate}
-use Rattle.std.proofs.lemmas.Option.{none-some}
-use Rattle.std.proofs.lemmas.Grind.{common_steps}
-use Rattle.core_map.specs.CoreMap.{reads_of, bound_page, started_page}
-use Rattle.page_table.specs.declared.Ptw.{Ptw}
-use Rattle.page_table.specs.declared.Ptw.TheVariants.{Null}
-use Rattle.page_table.specs.PageTable.{ptw_at}
-use Rattle.trailers.specs.Trailer.{leads_to}
-use Rattle.descriptor_seg.specs.declared.Sdw.{Sdw}
-use Rattle.descriptor_seg.specs.declared.Sdw.TheVariants.{Fault}
-use Rattle.descriptor_seg.specs.Descriptors.{sdw_at, all_faults}
-use Rattle.known_segs.specs.Known.{uid_of}
-use Rattle.active_segs.specs.declared.Entry.{Entry}
-use Rattle.active_segs.specs.Active.{ActiveSegs, uid_in, superior_in, entry_at, uid_at, superior_at, table_at}
-use Rattle.active_segs.specs.Active.{null_tables, no_segments, IsTree, AreNullTables}
-use Rattle.active_segs.specs.Pool.{size_of}
-use Rattle.page_control.specs.Plain.{Plain, bindings, binding_at}
-use Rattle.page_control.specs.Tied.{AreFiled}
-use Rattle.seg_control.specs.Control.{Links, kst_at, leads, leads_at}
-use Rattle.seg_control.specs.Effects.{no_links}
-use Rattle.seg_control.specs.Kept.{read_at, times, AreFree, AreAtRest, AreLinked, IsKept}
+use Rattle.seg_control.proofs.Prelude.{◌≡◌, ◌≢◌, ℕ, suc, zero, ◌<◌, ◌≤◌, ◌+◌, ◌^◌, List, [], ◌∷◌, ◌++◌, length, Option, None, Some, sum, replicate, count_by, refl, sym, ap, subst, ◌∙◌, arith, get_or, inl, inr, cases_lt, get_or-replicate, get_or_past, length-replicate, none-some, reads_of, bound_page, started_page, Ptw, Null, ptw_at, leads_to, Sdw, Fault, sdw_at, all_faults, uid_of, ActiveSegs, uid_in, superior_in, uid_at, superior_at, table_at, null_tables, no_segments, IsTree, AreNullTables, size_of, Plain, bindings, binding_at, AreFiled, Links, kst_at, leads, leads_at, no_links, read_at, times, AreFree, AreAtRest, AreLinked, IsKept, Free, get_or-map, all_same, length_of_four}
 use Rattle.seg_control.proofs.Frames.{read_is}
-use Rattle.core_map.specs.declared.Frame.TheVariants.{Free}
-use Rattle.std.proofs.Math.ListN.{get_or-map}
-use Rattle.laws.proofs.Lists.{all_same}
-use Rattle.laws.proofs.Places.{length_of_four}
 
 -- one of many equal ones, or the default past their end
 one_of : {X : Type 0} (n i : ℕ) (x d : X) (P : X → Type 0) → P x → P d → P (get_or (replicate n x) i d)

@@ -1,22 +1,5 @@
 -- Page tables, frames and file maps after a call of page control.
-use Rattle.std.proofs.Common.{◌≡◌, ◌≢◌, ◌⊎◌, ℕ, ◌<◌, Bool, true, false, List, [], length, Option, None, Some, sym, ap}
-use Rattle.std.proofs.Common.{subst, ◌∙◌}
-use Rattle.std.proofs.Common.{arith, set, get_or, inl, inr}
-use Rattle.std.proofs.lemmas.Bool.{cases_eq, cases_lt}
-use Rattle.std.proofs.lemmas.List.{get_or-set_same, get_or-set_other, get_or_past, length-set}
-use Rattle.std.proofs.lemmas.Option.{none-some, same_Some}
-use Rattle.core_map.specs.CoreMap.{reads_of}
-use Rattle.page_table.specs.declared.Ptw.{Ptw}
-use Rattle.page_table.specs.declared.Ptw.TheVariants.{Null}
-use Rattle.page_table.specs.PageTable.{ptw_at}
-use Rattle.vtoc.specs.Vtoc.{Entry as VtocEntry}
-use Rattle.active_segs.specs.declared.Entry.{Entry}
-use Rattle.active_segs.specs.Active.{uid_in, entry_at, uid_at, table_at, IsActive, IsTree}
-use Rattle.page_control.specs.declared.Home.{Home}
-use Rattle.page_control.specs.Plain.{Plain, bindings, binding_at}
-use Rattle.page_control.specs.Tied.{IsTableOf, AreFiled, is_out, uid_at as uid_homed}
-use Rattle.page_control.specs.Ties.{IsTied, KeepsOthers, KeepsTies}
-use Rattle.seg_control.specs.Kept.{IsHomeOf, IsInactive, HasTable, read_at, IsOutAt, ArePaged}
+use Rattle.seg_control.proofs.Prelude.{◌≡◌, ◌≢◌, ◌⊎◌, ℕ, ◌<◌, Bool, true, false, List, [], length, Option, None, Some, sym, ap, subst, ◌∙◌, arith, set, get_or, inl, inr, cases_eq, cases_lt, get_or-set_same, get_or-set_other, get_or_past, length-set, none-some, same_Some, reads_of, Ptw, Null, ptw_at, VtocEntry, Entry, uid_in, entry_at, uid_at, table_at, IsActive, IsTree, Home, Plain, bindings, binding_at, IsTableOf, AreFiled, is_out, uid_homed, IsTied, KeepsOthers, KeepsTies, IsHomeOf, IsInactive, HasTable, read_at, IsOutAt, ArePaged}
 
 -- ---- lists
 

@@ -1,15 +1,5 @@
 -- The place in which a segment is active.
-use Rattle.std.proofs.Common.{◌≡◌, ℕ, ◌<◌, Bool, true, false, List, [], ◌∷◌, length, Option, None, Some, refl, sym, ap}
-use Rattle.std.proofs.Common.{◌∙◌, arith, get_or, inl, inr, suc, zero}
-use Rattle.std.specs.List.{position_or_len}
-use Rattle.std.proofs.lemmas.Bool.{eqb-true, eq-eqb, cases_lt}
-use Rattle.std.proofs.lemmas.List.{get_or_past}
-use Rattle.std.proofs.lemmas.Option.{none-some, same_Some}
-use Rattle.std.proofs.lemmas.Grind.{common_steps}
-use Rattle.active_segs.specs.declared.Entry.{Entry}
-use Rattle.active_segs.specs.Active.{uid_in, uid_at, entry_at, IsTree}
-use Rattle.seg_control.specs.Control.{is_for, place_of}
-use Rattle.laws.proofs.Places.{shown_within}
+use Rattle.seg_control.proofs.Prelude.{◌≡◌, ℕ, ◌<◌, Bool, true, false, List, [], ◌∷◌, length, Option, None, Some, refl, ap, arith, get_or, suc, zero, position_or_len, eqb-true, eq-eqb, same_Some, common_steps, Entry, uid_in, uid_at, entry_at, IsTree, is_for, place_of, shown_within}
 
 -- the first element that passes
 first_is : {X : Type 0} (p : X → Bool) (xs : List X) (k : ℕ) (d : X) → k < length xs → p (get_or xs k d) ≡ true

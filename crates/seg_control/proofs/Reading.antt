@@ -1,24 +1,6 @@
 -- A page comes into its frame, while another segment may move.
-use Rattle.std.proofs.Common.{◌≡◌, ◌≢◌, ℕ, ◌<◌, Bool, List, length, Option, None, Some, Result, Ok, Err, OnOk, OnErr}
-use Rattle.std.proofs.Common.{refl, sym, ap, ◌∙◌, false, map, get_or, set, count_by, is_some, inl, inr}
-use Rattle.std.proofs.lemmas.Option.{same_Some}
-use Rattle.core_map.specs.declared.Frame.TheVariants.{Bound}
-use Rattle.core_map.specs.CoreMap.{reads_of, with_frame}
-use Rattle.page_table.specs.declared.Ptw.{Ptw}
-use Rattle.vtoc.specs.Vtoc.{Entry as VtocEntry}
-use Rattle.volumes.specs.Volumes.{Vols, KeepsTables}
-use Rattle.active_segs.specs.Active.{ActiveSegs, uid_at, table_at, with_table, IsActive, IsTree}
-use Rattle.page_control.specs.declared.Home.{Home}
-use Rattle.page_control.specs.Counts.{KeepsCounts}
-use Rattle.page_control.specs.Effects.{after_read, words_here}
-use Rattle.page_control.specs.Picture.{KeepsWords}
-use Rattle.page_control.specs.Plain.{Paging, Plain, plain, bindings, number_or_zero, words_on}
-use Rattle.page_control.specs.Tied.{map_at, uid_at as uid_homed}
-use Rattle.page_control.specs.Ties.{IsTied, KeepsOthers}
-use Rattle.seg_mover.specs.declared.Mover.{Mover}
-use Rattle.seg_control.specs.Control.{Links, place_of, table_of}
-use Rattle.seg_control.specs.Kept.{read_at}
-use Rattle.seg_control.specs.Moving.{IsKeptAtRest, IsOnItsWay, at_rest, home_at, volumes_of}
+use Rattle.seg_control.proofs.Prelude.{◌≡◌, ◌≢◌, ℕ, ◌<◌, Bool, List, length, Option, None, Some, Result, Ok, Err, OnOk, OnErr, refl, sym, ap, ◌∙◌, false, map, get_or, set, count_by, is_some, inl, inr, same_Some, Bound, reads_of, with_frame, Ptw, VtocEntry, Vols, KeepsTables, ActiveSegs, uid_at, table_at, with_table, IsActive, IsTree, Home, KeepsCounts, after_read, words_here, KeepsWords, Paging, Plain, plain, bindings, words_on, map_at, uid_homed, IsTied, KeepsOthers, Mover, Links, place_of, table_of, read_at, IsKeptAtRest, IsOnItsWay, at_rest, home_at, volumes_of}
+use Rattle.page_control.specs.Plain.{number_or_zero}
 use Rattle.seg_control.proofs.Places.{place_is}
 use Rattle.seg_control.proofs.Paged.{set_cases, table_other}
 use Rattle.seg_control.proofs.Calls.{kept_read}

@@ -1,31 +1,8 @@
 -- What is kept of the volumes at rest: where no segment moves, and where the volumes stay while one does.
-use Rattle.std.proofs.Common.{◌≡◌, ℕ, Bool, true, false, ◌&&◌, cond, eqb, List, [], Option, None, Some, IfSome, is_some}
-use Rattle.std.proofs.Common.{get_or, refl, sym, ap, subst, ◌∙◌}
-use Rattle.std.specs.List.{position}
-use Rattle.core_map.specs.CoreMap.{reads_of}
-use Rattle.page_table.specs.declared.Ptw.{Ptw}
-use Rattle.page_table.specs.PageTable.{ptw_at}
-use Rattle.vtoc.specs.Vtoc.{record_at}
-use Rattle.volumes.specs.Volumes.{Vols}
-use Rattle.active_segs.specs.Active.{ActiveSegs}
-use Rattle.page_control.specs.declared.Home.{Home}
-use Rattle.page_control.specs.Plain.{Paging, Plain, plain, bindings, binding_at, disk_of, filed}
-use Rattle.page_control.specs.Tied.{vtoc_in}
-use Rattle.page_control.specs.Picture.{is_binding, words_filed, words_held, words_of_page, words_out, words_at}
-use Rattle.page_control.specs.Picture.{changed_at, changed_page}
-use Rattle.page_control.specs.Ties.{KeepsTies}
-use Rattle.page_control.proofs.Marks.{words_marked}
-use Rattle.page_control.proofs.Ties.{bound_within}
-use Rattle.seg_mover.specs.declared.Mover.{Mover}
-use Rattle.seg_mover.specs.Moves.{CanBegin, IsMoving, begun, undone}
-use Rattle.seg_control.specs.Control.{Links, table_of}
-use Rattle.seg_control.specs.Kept.{AreLinked, IsHomeOf, IsKept, read_at}
-use Rattle.seg_control.specs.Moving.{IsKeptAtRest, IsOnItsWay, at_rest, home_at, volumes_of}
+use Rattle.seg_control.proofs.Prelude.{◌≡◌, ℕ, Bool, true, false, ◌&&◌, cond, eqb, List, [], Option, None, Some, IfSome, is_some, get_or, refl, sym, ap, subst, ◌∙◌, position, reads_of, Ptw, ptw_at, record_at, Vols, ActiveSegs, Home, Paging, Plain, plain, bindings, binding_at, disk_of, filed, vtoc_in, is_binding, words_filed, words_held, words_of_page, words_out, words_at, changed_at, changed_page, KeepsTies, words_marked, bound_within, Mover, CanBegin, IsMoving, begun, undone, Links, table_of, AreLinked, IsHomeOf, IsKept, read_at, IsKeptAtRest, IsOnItsWay, at_rest, home_at, volumes_of, off_and_on, position_there}
 use Rattle.seg_control.proofs.Paged.{paged_same}
 use Rattle.seg_control.proofs.Calls.{kept_paged, kept_with}
 use Rattle.seg_control.proofs.Aside.{AreAside, IsAside, move_aside, not_free, tie_less, tie_more}
-use Rattle.laws.proofs.Bools.{off_and_on}
-use Rattle.laws.proofs.Lists.{position_there}
 
 -- ---- no segment moves
 

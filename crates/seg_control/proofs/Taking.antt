@@ -1,17 +1,5 @@
 -- A page table whose pages are taken from a number on.
-use Rattle.std.proofs.Common.{◌≡◌, ◌⊎◌, ℕ, suc, zero, ◌<◌, ◌≤◌, ◌+◌, List, [], ◌∷◌, length, Option, map}
-use Rattle.std.proofs.Common.{refl, sym, ap, ◌∙◌, arith, set, inl, inr}
-use Rattle.std.proofs.Math.ListN.{get_or-map}
-use Rattle.std.proofs.lemmas.List.{length-map, length-set, set-get_or}
-use Rattle.page_table.specs.declared.Ptw.{Ptw}
-use Rattle.page_table.specs.declared.Ptw.TheVariants.{Null, Out, Here, Leaving}
-use Rattle.page_table.specs.PageTable.{ptw_at}
-use Rattle.active_segs.specs.Active.{ActiveSegs, table_at}
-use Rattle.page_control.specs.Plain.{Plain, bindings}
-use Rattle.page_control.specs.Tied.{IsTableOf, IsMapOf, frame_of, has_record, is_out, map_at}
-use Rattle.seg_control.specs.Control.{Links}
-use Rattle.seg_control.specs.Effects.{gone, taken_from, all_taken}
-use Rattle.seg_control.specs.Kept.{IsKept}
+use Rattle.seg_control.proofs.Prelude.{◌≡◌, ◌⊎◌, ℕ, suc, zero, ◌<◌, ◌≤◌, ◌+◌, List, [], ◌∷◌, length, Option, map, refl, sym, ap, ◌∙◌, arith, set, inl, inr, get_or-map, length-map, length-set, set-get_or, Ptw, Null, Out, Here, Leaving, ptw_at, ActiveSegs, table_at, Plain, bindings, IsTableOf, IsMapOf, frame_of, has_record, is_out, map_at, Links, gone, taken_from, all_taken, IsKept}
 use Rattle.seg_control.proofs.Calls.{sizes_kept}
 use Rattle.seg_control.proofs.Becoming.{retied}
 use Rattle.seg_control.proofs.Making.{paged_words}

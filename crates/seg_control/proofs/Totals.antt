@@ -1,22 +1,7 @@
 -- How much of each volume is in use after a move is committed.
-use Rattle.std.proofs.Common.{◌≡◌, ◌≢◌, ℕ, suc, ◌+◌, ◌<◌, Bool, false, cond, List, [], ◌∷◌, length}
-use Rattle.std.proofs.Common.{Option, None, Some, IsSome, is_some, refl, sym, ap, ◌∙◌, arith, get_or, set, count_by}
-use Rattle.std.proofs.Common.{inl, inr}
-use Rattle.std.proofs.lemmas.Bool.Decides.{eqb_tells}
-use Rattle.std.proofs.lemmas.List.{get_or-set_same}
-use Rattle.std.proofs.lemmas.List.Sums.{sum_by-cons, sum_by-set}
-use Rattle.vtoc.specs.Vtoc.{Entry as VtocEntry, entry_at}
-use Rattle.volumes.specs.Volumes.{Vols, records_at, vtoc_at}
-use Rattle.page_control.specs.declared.Home.{Home}
-use Rattle.page_control.specs.Counts.{named_on, taken, used}
-use Rattle.page_control.specs.Tied.{map_at}
-use Rattle.seg_mover.specs.Homes.{entry_of, map_at as mover_map, uid_at as mover_uid}
-use Rattle.seg_mover.specs.Moves.{given_back}
-use Rattle.seg_mover.specs.Records.{AreKept}
-use Rattle.seg_mover.proofs.Places.{entry_within, vtoc_within}
-use Rattle.seg_mover.proofs.Records.{count_given}
+use Rattle.seg_control.proofs.Prelude.{◌≡◌, ◌≢◌, ℕ, suc, ◌+◌, ◌<◌, Bool, false, cond, List, [], ◌∷◌, length, Option, None, Some, IsSome, is_some, refl, sym, ap, ◌∙◌, arith, get_or, set, count_by, inl, inr, eqb_tells, get_or-set_same, sum_by-cons, sum_by-set, VtocEntry, Vols, records_at, vtoc_at, Home, named_on, taken, used, map_at, entry_of, mover_map, mover_uid, given_back, AreKept, entry_within, vtoc_within, count_given, map_some}
+use Rattle.vtoc.specs.Vtoc.{entry_at}
 use Rattle.seg_control.proofs.Aside.{given_here}
-use Rattle.laws.proofs.Options.{map_some}
 
 -- ---- file maps that name the same pages
 

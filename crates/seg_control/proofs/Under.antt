@@ -1,17 +1,6 @@
 -- What is seen of a move that is under way.
-use Rattle.std.proofs.Common.{◌≡◌, ℕ, ◌<◌, Bool, false, List, [], length, Option, None, Some, IfSome, refl}
-use Rattle.std.proofs.Common.{sym, ap, ◌∙◌, ◌∷◌, get_or, map, set}
-use Rattle.std.proofs.Math.ListN.{get_or-map}
-use Rattle.std.proofs.lemmas.List.{length-map, length-set, map-set, set-get_or}
-use Rattle.volumes.specs.Volumes.{Vols, HasParts}
-use Rattle.active_segs.specs.Active.{ActiveSegs}
-use Rattle.page_control.specs.Plain.{Paging, plain}
-use Rattle.seg_mover.specs.declared.Mover.{Mover}
+use Rattle.seg_control.proofs.Prelude.{◌≡◌, ℕ, ◌<◌, Bool, false, List, [], length, Option, None, Some, IfSome, refl, sym, ap, ◌∙◌, ◌∷◌, get_or, map, set, get_or-map, length-map, length-set, map-set, set-get_or, Vols, HasParts, ActiveSegs, Paging, plain, Mover, CanBegin, IsMoving, flags_given, Links, IsKeptAtRest, IsUnderWay, at_rest, in_move, volumes_of}
 use Rattle.seg_mover.specs.Homes.{map_at}
-use Rattle.seg_mover.specs.Moves.{CanBegin, IsMoving}
-use Rattle.seg_mover.specs.Records.{flags_given}
-use Rattle.seg_control.specs.Control.{Links}
-use Rattle.seg_control.specs.Moving.{IsKeptAtRest, IsUnderWay, at_rest, in_move, volumes_of}
 use Rattle.seg_control.proofs.Resting.{if_moves}
 
 -- ---- drives, and their pages in place of them

@@ -1,23 +1,7 @@
 -- A move that begins, page by page.
-use Rattle.std.proofs.Common.{◌≡◌, ◌≢◌, ℕ, ◌+◌, ◌<◌, Bool, true, cond, List, [], ◌∷◌, ◌++◌, length, Option}
-use Rattle.std.proofs.Common.{None, Some, IsSome, is_some, refl, sym, ap, ◌∙◌, arith, get_or, set, subst, take}
-use Rattle.std.proofs.Common.{drop, count_by, append_assoc}
-use Rattle.std.proofs.lemmas.List.{get_or-set_other, set-set, set-get_or, length-set}
-use Rattle.std.proofs.lemmas.List.{at_drop_more, drop_all, take_more, take_more_set, take_all, append-nil}
-use Rattle.std.proofs.lemmas.List.Sums.{sum_by-cons}
-use Rattle.bitmap.specs.Bitmap.{least_free, IsLeastFree}
-use Rattle.vtoc.specs.FileMap.{no_records}
-use Rattle.vtoc.specs.Vtoc.{Entry, records_in, with_record, fresh_entry, HasFullMaps, IsLeastFreeEntry}
-use Rattle.volumes.specs.Volumes.{Vols, records_at, used_at, vtoc_at, with_record_used}
-use Rattle.seg_mover.specs.Homes.{entry_of, map_at, place_at}
-use Rattle.seg_mover.specs.Records.{with_taken, flags_taken, map_taken}
-use Rattle.seg_mover.specs.Moves.{CanBegin, begun, entry_for}
-use Rattle.seg_mover.specs.Steps.{with_place, page_stored, entry_taken, IsPartBegun}
+use Rattle.seg_mover.proofs.Prelude.{◌≡◌, ◌≢◌, ℕ, ◌+◌, ◌<◌, Bool, true, cond, List, [], ◌∷◌, ◌++◌, length, Option, None, Some, IsSome, is_some, refl, sym, ap, ◌∙◌, arith, get_or, set, subst, take, drop, count_by, append_assoc, get_or-set_other, set-set, set-get_or, length-set, at_drop_more, drop_all, take_more, take_more_set, take_all, append-nil, sum_by-cons, least_free, IsLeastFree, no_records, Entry, records_in, with_record, fresh_entry, HasFullMaps, IsLeastFreeEntry, Vols, records_at, used_at, vtoc_at, with_record_used, entry_of, map_at, place_at, with_taken, flags_taken, map_taken, CanBegin, begun, entry_for, with_place, page_stored, entry_taken, IsPartBegun, some_number, put, put_here, put_put, list_within, count_with}
 use Rattle.seg_mover.proofs.Records.{least_there, least_is}
-use Rattle.seg_mover.proofs.Places.{no_record, length_no_records}
-use Rattle.seg_mover.proofs.Places.{map_placed, records_within, flags_used, vols_same}
-use Rattle.laws.proofs.Options.{some_number}
-use Rattle.laws.proofs.Places.{put, put_here, put_put, list_within, count_with}
+use Rattle.seg_mover.proofs.Places.{no_record, length_no_records, map_placed, records_within, flags_used, vols_same}
 
 -- the home that was taken is there, on another volume than the old one
 pub record CanStore {D : Type 0} (old : Vols D) (from to : ℕ × ℕ) : Type 0 where

@@ -1,15 +1,6 @@
 -- What a move that began leaves.
-use Rattle.std.proofs.Common.{◌≡◌, ℕ, ◌+◌, ◌<◌, Bool, cond, List, [], length, Option, None, Some}
-use Rattle.std.proofs.Common.{is_some, refl, sym, ap, ◌∙◌, arith, get_or, set, subst, count_by, map}
-use Rattle.std.proofs.lemmas.List.{get_or-set_same, get_or-set_other, set-set, set-get_or, length-map}
-use Rattle.std.proofs.lemmas.List.Sums.{sum_by-set}
-use Rattle.vtoc.specs.Vtoc.{Entry, uid_of, records_in, IsLeastFreeEntry}
-use Rattle.volumes.specs.Volumes.{Vols, HasParts, records_at, used_at, vtoc_at, KeepsTables}
-use Rattle.seg_mover.specs.Homes.{entry_of, uid_at, map_at, place_at}
-use Rattle.seg_mover.specs.Records.{AreKept, AddsRecords, flags_taken, map_taken, flags_given}
-use Rattle.seg_mover.specs.Moves.{CanBegin, IsMoving, KeepsOthersThan, begun, entry_for, given_back}
+use Rattle.seg_mover.proofs.Prelude.{◌≡◌, ℕ, ◌+◌, ◌<◌, Bool, cond, List, [], length, Option, None, Some, is_some, refl, sym, ap, ◌∙◌, arith, get_or, set, subst, count_by, map, get_or-set_same, get_or-set_other, set-set, set-get_or, length-map, sum_by-set, Entry, uid_of, records_in, IsLeastFreeEntry, Vols, HasParts, records_at, used_at, vtoc_at, KeepsTables, entry_of, uid_at, map_at, place_at, AreKept, AddsRecords, flags_taken, map_taken, flags_given, CanBegin, IsMoving, KeepsOthersThan, begun, entry_for, given_back, put, put_here, put_other, put_put, list_within}
 use Rattle.seg_mover.proofs.Records.{HasTaken, has_taken}
-use Rattle.laws.proofs.Places.{put, put_here, put_other, put_put, list_within}
 
 -- each volume has a map of its records
 pub records_there : {D : Type 0} (pages : D → List (List ℕ)) (vols : Vols D) (v : ℕ)

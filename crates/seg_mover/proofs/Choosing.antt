@@ -1,12 +1,5 @@
 -- The page that is copied next.
-use Rattle.std.proofs.Common.{◌≡◌, ℕ, zero, suc, ◌+◌, ◌-◌, ◌<◌, ◌≤◌, Bool, true, false, cond, ◌&&◌, List}
-use Rattle.std.proofs.Common.{Option, None, Some, IfSome, IsSome, is_some, refl, sym, ap, ◌∙◌, arith, inl, inr}
-use Rattle.std.proofs.lemmas.Bool.{cases_eq}
-use Rattle.volumes.specs.Volumes.{Vols}
-use Rattle.seg_mover.specs.declared.Mover.{Mover}
-use Rattle.seg_mover.specs.Homes.{map_at}
-use Rattle.seg_mover.specs.Copies.{is_to_copy, first_to_copy, page_to_copy, IsLeastToCopy}
-use Rattle.laws.proofs.Options.{some_same}
+use Rattle.seg_mover.proofs.Prelude.{◌≡◌, ℕ, zero, suc, ◌+◌, ◌-◌, ◌<◌, ◌≤◌, Bool, true, false, cond, ◌&&◌, List, Option, None, Some, IfSome, IsSome, is_some, refl, sym, ap, ◌∙◌, arith, inl, inr, cases_eq, Vols, Mover, map_at, is_to_copy, first_to_copy, page_to_copy, IsLeastToCopy, some_same}
 
 -- one page on
 first_suc : (places : List (Option ℕ)) (skip : List Bool) (count p : ℕ) → first_to_copy places skip (suc count) p

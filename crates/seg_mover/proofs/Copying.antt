@@ -1,13 +1,5 @@
 -- What one copy does: a read of one drive, and a write of another.
-use Rattle.std.proofs.Common.{◌≡◌, ◌⊎◌, ℕ, ◌≤◌, List}
-use Rattle.std.proofs.Common.{length, Result, Ok, Err, ap, ◌∙◌, arith}
-use Rattle.std.proofs.Common.{get_or, map, inl, inr, sum_by, OnOk, OnErr, subst}
-use Rattle.site_io.specs.Faults.{Rose}
-use Rattle.volumes.specs.FailLine.{IsOneMore}
-use Rattle.volumes.specs.Volumes.{faults_at, KeepsOthers}
-use Rattle.seg_mover.specs.Copies.{FailedAt, CallsDrives}
-use Rattle.laws.proofs.Lists.{sum_of_map}
-use Rattle.laws.proofs.Places.{seen_same}
+use Rattle.seg_mover.proofs.Prelude.{◌≡◌, ◌⊎◌, ℕ, ◌≤◌, List, length, Result, Ok, Err, ap, ◌∙◌, arith, get_or, map, inl, inr, sum_by, OnOk, OnErr, subst, Rose, IsOneMore, faults_at, KeepsOthers, FailedAt, CallsDrives, sum_of_map, seen_same}
 
 -- the read failed
 pub read_failed : {D Plan T E : Type 0} (plan : D → Plan) (places faults : D → ℕ) (old new : List D) (v w : ℕ)

@@ -1,17 +1,7 @@
 -- What giving a home up leaves.
-use Rattle.std.proofs.Common.{◌≡◌, ℕ, ◌+◌, ◌<◌, Bool, cond, List, [], length, Option, None, Some, IsSome}
-use Rattle.std.proofs.Common.{is_some, refl, ap, ◌∙◌, arith, get_or, set, count_by}
-use Rattle.std.proofs.lemmas.List.{get_or-set_same, get_or-set_other}
-use Rattle.std.proofs.lemmas.List.Sums.{sum_by-set}
-use Rattle.vtoc.specs.Vtoc.{Entry, entry_at}
-use Rattle.volumes.specs.Volumes.{Vols, records_at, used_at, vtoc_at}
-use Rattle.seg_mover.specs.Homes.{entry_of, uid_at, map_at}
-use Rattle.seg_mover.specs.Records.{AreKept, AddsRecords, flags_given}
-use Rattle.seg_mover.specs.Moves.{KeepsOthersThan, given_back}
+use Rattle.seg_mover.proofs.Prelude.{◌≡◌, ℕ, ◌+◌, ◌<◌, Bool, cond, List, [], length, Option, None, Some, IsSome, is_some, refl, ap, ◌∙◌, arith, get_or, set, count_by, get_or-set_same, get_or-set_other, sum_by-set, Entry, entry_at, Vols, records_at, used_at, vtoc_at, entry_of, uid_at, map_at, AreKept, AddsRecords, flags_given, KeepsOthersThan, given_back, put_here, put_other, map_some}
 use Rattle.seg_mover.proofs.Records.{gives, count_given}
 use Rattle.seg_mover.proofs.Places.{vtoc_within, entry_within}
-use Rattle.laws.proofs.Places.{put_here, put_other}
-use Rattle.laws.proofs.Options.{map_some}
 
 -- what the volumes were, and what they are now
 pub record Gives {D : Type 0} (old now : Vols D) (home : ℕ × ℕ) : Type 0 where

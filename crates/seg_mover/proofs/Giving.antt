@@ -1,19 +1,7 @@
 -- A home that is given up, page by page.
-use Rattle.std.proofs.Common.{◌≡◌, ◌≢◌, ℕ, ◌+◌, ◌<◌, Bool, false, List, [], length, Option, None, Some, IsSome}
-use Rattle.std.proofs.Common.{refl, sym, ap, ◌∙◌, arith, get_or, set, subst, inl, inr}
-use Rattle.std.proofs.lemmas.Bool.{cases_eq}
-use Rattle.std.proofs.lemmas.List.{get_or_past, get_or-set_other, get_or-set_same, set_past, set-set, set-get_or}
-use Rattle.vtoc.specs.Vtoc.{Entry, with_record, HasFullMaps, NamesNoRecord}
-use Rattle.volumes.specs.Volumes.{Vols, records_at, vtoc_at, with_record_used, with_vtoc}
-use Rattle.seg_mover.specs.Homes.{entry_of, map_at, place_at}
-use Rattle.seg_mover.specs.Records.{flags_given}
-use Rattle.seg_mover.specs.Moves.{given_back}
-use Rattle.seg_mover.specs.Steps.{with_place, page_given, IsPartGiven}
+use Rattle.seg_mover.proofs.Prelude.{◌≡◌, ◌≢◌, ℕ, ◌+◌, ◌<◌, Bool, false, List, [], length, Option, None, Some, IsSome, refl, sym, ap, ◌∙◌, arith, get_or, set, subst, inl, inr, cases_eq, get_or_past, get_or-set_other, get_or-set_same, set_past, set-set, set-get_or, Entry, with_record, HasFullMaps, NamesNoRecord, Vols, records_at, vtoc_at, with_record_used, with_vtoc, entry_of, map_at, place_at, flags_given, given_back, with_place, page_given, IsPartGiven, below_or_past, put_put, flag_within}
 use Rattle.seg_mover.proofs.Records.{given_less, given_none, kept_less}
-use Rattle.seg_mover.proofs.Places.{vtoc_within, still_used, entry_placed, map_placed, records_within}
-use Rattle.seg_mover.proofs.Places.{flags_used, vols_same}
-use Rattle.laws.proofs.Numbers.{below_or_past}
-use Rattle.laws.proofs.Places.{put_put, flag_within}
+use Rattle.seg_mover.proofs.Places.{vtoc_within, still_used, entry_placed, map_placed, records_within, flags_used, vols_same}
 
 -- one page more
 given_one : {D : Type 0} (now : Vols D) (home : ℕ × ℕ) (n r : ℕ) → place_at now home n ≡ Some r

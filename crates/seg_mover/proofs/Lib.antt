@@ -1,3 +1,4 @@
+mod Prelude
 pub mod Records
 pub mod Places
 pub mod Giving

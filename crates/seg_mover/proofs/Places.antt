@@ -1,16 +1,5 @@
 -- One place of a list of lists, and one entry of the VTOCs.
-use Rattle.std.proofs.Common.{◌≡◌, ℕ, ◌<◌, Bool, [], length, Option, None, Some, IsSome}
-use Rattle.std.proofs.Common.{is_some}
-use Rattle.std.proofs.Common.{refl, ap, ◌∙◌, get_or, set, inl, inr, replicate}
-use Rattle.std.proofs.lemmas.List.{get_or-set_same, get_or_past, get_or-replicate}
-use Rattle.std.proofs.lemmas.List.{length-replicate}
-use Rattle.vtoc.specs.FileMap.{no_records}
-use Rattle.vtoc.specs.Vtoc.{Entry, records_in, with_record}
-use Rattle.volumes.specs.Volumes.{Vols, records_at, vtoc_at, with_record_used}
-use Rattle.seg_mover.specs.Homes.{entry_of, map_at}
-use Rattle.seg_mover.specs.Steps.{with_place}
-use Rattle.laws.proofs.Numbers.{below_or_past}
-use Rattle.laws.proofs.Places.{put_here, list_within, some_within}
+use Rattle.seg_mover.proofs.Prelude.{◌≡◌, ℕ, ◌<◌, Bool, [], length, Option, None, Some, IsSome, is_some, refl, ap, ◌∙◌, get_or, set, inl, inr, replicate, get_or-set_same, get_or_past, get_or-replicate, length-replicate, no_records, Entry, records_in, with_record, Vols, records_at, vtoc_at, with_record_used, entry_of, map_at, with_place, below_or_past, put_here, list_within, some_within}
 
 -- a file map that names no record
 pub no_record : (p : ℕ) → get_or no_records p None ≡ None

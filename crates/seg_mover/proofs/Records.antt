@@ -1,22 +1,5 @@
 -- The records that file maps name: those that are taken, and those that are given back.
-use Rattle.std.proofs.Common.{◌≡◌, ◌≢◌, ◌⊎◌, ℕ, zero, suc, ◌+◌, ◌<◌, ◌≤◌, Bool, true, false, not, cond, List, [], ◌∷◌}
-use Rattle.std.proofs.Common.{length, Option, None, Some, refl, sym, ap, ◌∙◌, arith, get_or, set, inl, inr, is_some}
-use Rattle.std.proofs.Common.{count_by, All}
-use Rattle.std.specs.List.{position_or_len}
-use Rattle.std.proofs.lemmas.Bool.{cases_eq, lt-ltb}
-use Rattle.std.proofs.lemmas.List.{get_or-set_same, get_or-set_other, get_or_past, set_past, set-set}
-use Rattle.std.proofs.lemmas.List.{set-get_or}
-use Rattle.std.proofs.lemmas.List.{length-set}
-use Rattle.std.proofs.lemmas.List.Elements.{All-head, All-tail}
-use Rattle.std.proofs.lemmas.List.Sums.{sum_by-cons, fails_before_first}
-use Rattle.std.proofs.lemmas.List.Quantifiers.{position-Some}
-use Rattle.bitmap.specs.Bitmap.{in_use, least_free, IsLeastFree}
-use Rattle.seg_mover.specs.Records.{with_taken, flags_taken, map_taken, flags_given, AreKept, AddsRecords}
-use Rattle.laws.proofs.Numbers.{below_or_past}
-use Rattle.laws.proofs.Lists.{none_put, given_twice}
-use Rattle.laws.proofs.Options.{not_none, some_same}
-use Rattle.laws.proofs.Bools.{off_and_on, not_true, by_not}
-use Rattle.laws.proofs.Places.{count_with, count_without}
+use Rattle.seg_mover.proofs.Prelude.{◌≡◌, ◌≢◌, ◌⊎◌, ℕ, zero, suc, ◌+◌, ◌<◌, ◌≤◌, Bool, true, false, not, cond, List, [], ◌∷◌, length, Option, None, Some, refl, sym, ap, ◌∙◌, arith, get_or, set, inl, inr, is_some, count_by, All, position_or_len, cases_eq, lt-ltb, get_or-set_same, get_or-set_other, get_or_past, set_past, set-set, set-get_or, length-set, All-head, All-tail, sum_by-cons, fails_before_first, position-Some, in_use, least_free, IsLeastFree, with_taken, flags_taken, map_taken, flags_given, AreKept, AddsRecords, below_or_past, none_put, given_twice, not_none, some_same, off_and_on, not_true, by_not, count_with, count_without}
 
 -- each passes the test that is counted
 pub all_counted : {X : Type 0} (p : X → Bool) (xs : List X) → All (λ x. p x ≡ true) xs → count_by p xs ≡ length xs

@@ -1,22 +1,7 @@
 -- The words of a segment that moves, after one more page was copied or not.
-use Rattle.std.proofs.Common.{◌≡◌, ◌≢◌, ◌⊎◌, ℕ, ◌+◌, ◌<◌, Bool, true, false, List, [], length, Option, None, Some}
-use Rattle.std.proofs.Common.{Result, Ok, Err, IsSome, is_some, refl, sym, ap, ◌∙◌, arith, get_or, map, subst, inl, inr}
-use Rattle.std.proofs.Common.{OnOk, IfOk}
-use Rattle.std.proofs.lemmas.Bool.{cases_eq}
-use Rattle.std.proofs.lemmas.List.{get_or-set_other, length-map, get_or-map}
-use Rattle.vtoc.specs.Vtoc.{Entry, entry_at, records_in}
-use Rattle.volumes.specs.Volumes.{Vols, HasParts, records_at, pages_at, with_page, KeepsTables}
-use Rattle.seg_mover.specs.declared.Mover.{Mover}
-use Rattle.seg_mover.specs.Homes.{map_at, place_at, words_filed, words_of}
-use Rattle.seg_mover.specs.Moves.{IsMoving, number_or_zero}
-use Rattle.seg_mover.specs.Copies.{page_to_copy, is_to_copy, copied, after_copy, moved_on, HasCopied}
-use Rattle.seg_mover.specs.Copies.{AreCopied}
+use Rattle.seg_mover.proofs.Prelude.{◌≡◌, ◌≢◌, ◌⊎◌, ℕ, ◌+◌, ◌<◌, Bool, true, false, List, [], length, Option, None, Some, Result, Ok, Err, IsSome, is_some, refl, sym, ap, ◌∙◌, arith, get_or, map, subst, inl, inr, OnOk, IfOk, cases_eq, get_or-set_other, length-map, get_or-map, Entry, entry_at, records_in, Vols, HasParts, records_at, pages_at, with_page, KeepsTables, Mover, map_at, place_at, words_filed, words_of, IsMoving, number_or_zero, page_to_copy, is_to_copy, copied, after_copy, moved_on, HasCopied, AreCopied, below_or_past, off_and_on, some_number, put_here, put_other, flag_within}
 use Rattle.seg_mover.proofs.Begun.{records_there}
 use Rattle.seg_mover.proofs.Choosing.{least_to_copy, none_to_copy, named_from}
-use Rattle.laws.proofs.Numbers.{below_or_past}
-use Rattle.laws.proofs.Bools.{off_and_on}
-use Rattle.laws.proofs.Options.{some_number}
-use Rattle.laws.proofs.Places.{put_here, put_other, flag_within}
 
 -- a volume has as many records as its drive has pages
 sizes_same : {D : Type 0} (pages : D → List (List ℕ)) (vols : Vols D) (v : ℕ)

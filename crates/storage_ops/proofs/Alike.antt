@@ -1,29 +1,5 @@
 -- Nodes are changed, but for where they lie, what they are and where they are kept.
-use Rattle.std.proofs.Common.{◌≡◌, ℕ, ◌+◌, ◌-◌, ◌<◌, ◌≤◌, Bool, true, false, cond, eqb, ◌&&◌, List, [], ◌∷◌, map}
-use Rattle.std.proofs.Common.{replicate, Option, Some, None, is_some, refl, sym, ap, subst, ◌∙◌}
-use Rattle.std.specs.Prelude.{count_by}
-use Rattle.mnames.specs.declared.modes.Mode.{Mode}
-use Rattle.mnames.specs.declared.principals.Who.{Who}
-use Rattle.accounts.specs.Maps.{AccountMaps, Changes, count_of, entry_of}
-use Rattle.quota_cells.specs.Accounts.{look}
-use Rattle.tree_model.specs.Access.{Row, access_of}
-use Rattle.tree_model.specs.Quotas.{with_quota_of}
-use Rattle.tree_model.specs.Tree.{Node, entries_on, has_directory, node_in, pool_of, taken_on, volume_in}
-use Rattle.flat_model.proofs.FieldLaws.{entries_mapped, field_kept, field_mapped}
-use Rattle.descriptor_seg.specs.declared.Sdw.TheVariants.{Present}
-use Rattle.descriptor_seg.specs.Descriptors.{sdw_at}
-use Rattle.vtoc.specs.Vtoc.{Entry as VtocEntry}
-use Rattle.active_segs.specs.declared.Entry.{Entry}
-use Rattle.active_segs.specs.Active.{ActiveSegs, uid_at as uid_in_place}
-use Rattle.active_segs.specs.Pool.{IsInPool}
-use Rattle.page_control.specs.declared.Home.{Home}
-use Rattle.page_control.specs.Tied.{uid_at}
-use Rattle.page_control.specs.Picture.{is_filed_at}
-use Rattle.seg_control.specs.Control.{Links, sdws_at}
-use Rattle.storage_ops.specs.Shown.{AreHoused, AreCounted, AreTaken, AreInTree, HaveRights, home_of, is_filed, is_there}
-use Rattle.storage_ops.specs.Shown.{named_at, pages_in, picture, who_at}
-use Rattle.flat_model.proofs.KeepLaws.{directory_map, volume_map}
-pub use Rattle.flat_model.proofs.KeepLaws.{Keeps, keeps_length, keeps_moved, keeps_one, keeps_rows}
+use Rattle.storage_ops.proofs.Prelude.{◌≡◌, ℕ, ◌<◌, ◌≤◌, Bool, true, false, cond, eqb, ◌&&◌, List, [], ◌∷◌, map, replicate, Option, Some, None, is_some, refl, sym, ap, subst, ◌∙◌, count_by, Mode, Who, AccountMaps, Changes, count_of, entry_of, look, access_of, Node, entries_on, has_directory, node_in, pool_of, taken_on, volume_in, entries_mapped, Present, sdw_at, VtocEntry, Entry, ActiveSegs, uid_in_place, IsInPool, Home, uid_at, is_filed_at, Links, sdws_at, AreHoused, AreCounted, AreTaken, AreInTree, HaveRights, home_of, is_filed, is_there, named_at, pages_in, picture, who_at, directory_map, volume_map, Keeps}
 
 -- two trees have the same nodes, of the same kinds, at the same homes, with the same counts
 pub record AreAlike (a b : AccountMaps) : Type 0 where

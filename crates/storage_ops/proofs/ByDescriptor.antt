@@ -1,17 +1,5 @@
 -- What the descriptor of a number refuses is what the access control list of its segment, and its length, refuse.
-use Rattle.std.proofs.Common.{◌≡◌, ℕ, true, List, Option, Some, None, is_some, refl, sym, ap, ◌∙◌}
-use Rattle.mnames.specs.declared.modes.Mode.{Mode}
-use Rattle.script.specs.declared.commands.Reference.{Reference}
-use Rattle.book.specs.declared.replies.Reply.{Reply}
-use Rattle.tree_model.specs.Access.{access_of}
-use Rattle.tree_model.specs.Tree.{Node, node_in}
-use Rattle.descriptor_seg.specs.declared.Sdw.TheVariants.{Present}
-use Rattle.descriptor_seg.specs.Descriptors.{sdw_at}
-use Rattle.page_control.specs.Plain.{Plain}
-use Rattle.seg_control.specs.Control.{leads, sdws_at}
-use Rattle.seg_control.specs.Kept.{AreLinked}
-use Rattle.storage_ops.specs.References.{outside_by, refusal_by, refusal_in, target, unless}
-use Rattle.storage_ops.specs.Shown.{IsStore, Storage, who_at}
+use Rattle.storage_ops.proofs.Prelude.{◌≡◌, ℕ, true, List, Option, Some, None, is_some, refl, sym, ap, ◌∙◌, Mode, Reference, Reply, access_of, Node, node_in, Present, sdw_at, Plain, leads, sdws_at, AreLinked, outside_by, refusal_by, refusal_in, target, unless, IsStore, Storage, who_at}
 use Rattle.storage_ops.proofs.Refusals.{target_found}
 
 -- what is there, where something is

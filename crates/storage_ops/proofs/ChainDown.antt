@@ -1,39 +1,9 @@
 -- The chain of a node, and the next segment of it that becomes active.
-use Rattle.std.proofs.Common.{◌≡◌, ◌≢◌, ℕ, zero, suc, ◌-◌, ◌<◌, ◌≤◌, true, eqb, List, []}
-use Rattle.std.proofs.Common.{◌∷◌, length, Option, Some, None, get_or, set, is_some, refl, sym, ap, subst}
-use Rattle.std.proofs.Common.{◌∙◌, arith, inl, inr}
-use Rattle.std.proofs.lemmas.Bool.{cases_Bool, cases_eq}
-use Rattle.std.proofs.lemmas.List.{get_or-map, get_or-reverse, get_or-set_other, length-map, length-reverse}
-use Rattle.accounts.specs.Maps.{AccountMaps}
-use Rattle.dir_tree.specs.Nodes.{chain_of}
-use Rattle.mnames.specs.declared.modes.Mode.{Mode}
-use Rattle.mnames.specs.declared.principals.Who.{Who}
-use Rattle.script.specs.Plans.{Plan}
-use Rattle.flat_model.specs.Store.{Store}
-use Rattle.tree_model.specs.Tree.{Node, above, has_directory, node_in, pool_of, step_up}
-use Rattle.tree_model.specs.Trees.{IsTree}
-use Rattle.tree_model.proofs.TreeLaws.{IsUp, above_once, depth, superior_in, superior_up, superior_found}
-use Rattle.descriptor_seg.specs.declared.Sdw.TheVariants.{Present}
-use Rattle.descriptor_seg.specs.Descriptors.{sdw_at}
-use Rattle.active_segs.specs.declared.Entry.{Entry}
-use Rattle.active_segs.specs.Active.{ActiveSegs, entry_at, superior_in as superior_of_entry}
-use Rattle.active_segs.specs.Active.{uid_at as uid_in_place, uid_in}
-use Rattle.active_segs.specs.Pool.{IsInPool}
-use Rattle.active_segs.specs.Victim.{first_off_chain, hand_past}
-use Rattle.page_control.specs.declared.Home.{Home}
-use Rattle.page_control.specs.Plain.{Plain, plain}
-use Rattle.page_control.specs.Picture.{is_filed_at}
-use Rattle.page_control.specs.Tied.{map_at, uid_at as uid_homed}
-use Rattle.seg_control.specs.declared.Link.{Link}
-use Rattle.seg_control.specs.declared.Next.{Next}
-use Rattle.seg_control.specs.declared.Next.TheVariants.{Activated, Victim, Whole}
-use Rattle.seg_control.specs.Control.{Control, Links, leads, sdws_at}
-use Rattle.seg_control.specs.Kept.{AreLinked}
-use Rattle.seg_control.specs.Next.{IsNext, MayActivate, link_at, no_link, superior_of, uids_of}
+use Rattle.storage_ops.proofs.Prelude.{◌≡◌, ◌≢◌, ℕ, zero, suc, ◌-◌, ◌<◌, ◌≤◌, true, eqb, List, [], ◌∷◌, length, Option, Some, None, get_or, set, is_some, refl, sym, ap, subst, ◌∙◌, arith, inl, inr, cases_Bool, cases_eq, get_or-reverse, get_or-set_other, length-map, length-reverse, AccountMaps, chain_of, Mode, Who, Plan, Store, Node, above, has_directory, node_in, pool_of, step_up, IsTree, IsUp, above_once, depth, superior_up, superior_found, Present, sdw_at, Entry, ActiveSegs, superior_of_entry, uid_in_place, uid_in, IsInPool, first_off_chain, hand_past, Home, Plain, plain, is_filed_at, map_at, uid_homed, Link, Next, Activated, Victim, Whole, Control, Links, leads, sdws_at, AreLinked, IsNext, MayActivate, link_at, no_link, superior_of, uids_of, HasOneToGo, IsChainDown, link_of, pool_in, AreInTree, IsStore, Shows, Storage, home_of, is_there, pages_in, pages_of}
+use Rattle.std.proofs.lemmas.List.{get_or-map}
+use Rattle.tree_model.proofs.TreeLaws.{superior_in}
+use Rattle.active_segs.specs.Active.{entry_at}
 use Rattle.seg_control.specs.Next.{words_in}
-use Rattle.storage_ops.specs.Connecting.{HasOneToGo, IsChainDown, link_of, pool_in}
-use Rattle.storage_ops.specs.Shown.{AreInTree, IsStore, Shows, Storage, home_of, is_there, pages_in}
-use Rattle.storage_ops.specs.Shown.{pages_of}
 use Rattle.storage_ops.proofs.Homes.{filed_map}
 use Rattle.storage_ops.proofs.Known.{set_told}
 use Rattle.storage_ops.proofs.NodeLaws.{found_there}

@@ -1,39 +1,6 @@
 -- A store whose nodes are changed, but for where they lie and what they are.
-use Rattle.std.proofs.Common.{◌≡◌, ℕ, ℤ, ◌/◌, ◌%◌, Bool, true, false, cond, eqb, List, map, Option, Some}
-use Rattle.std.proofs.Common.{None}
-use Rattle.std.proofs.Common.{Ok, get_or, refl, sym, ap, subst, ◌∙◌, ◌<◌, arith, inl, inr}
-use Rattle.std.proofs.lemmas.Bool.{cases_Bool}
-use Rattle.std.proofs.lemmas.Bool.Decides.{nat_tests}
-use Rattle.std.specs.Int.{is_positive}
-use Rattle.std.specs.Int.RustNames.{unsigned_abs}
-use Rattle.mnames.specs.declared.modes.Mode.{Mode}
-use Rattle.mnames.specs.declared.principals.Who.{Who}
-use Rattle.mnames.specs.declared.rows.Row.{Row as Named}
-use Rattle.script.specs.Plans.{Plan}
-use Rattle.book.specs.declared.replies.Reply.{Reply}
-use Rattle.accounts.specs.Maps.{AccountMaps, Changes, Counts}
-use Rattle.tree_model.specs.Access.{Row, with_row}
-use Rattle.tree_model.specs.Quotas.{getter_of, giver_of}
-use Rattle.tree_model.specs.Tree.{Node, above, node_in, pool_for, pool_of}
-use Rattle.flat_model.specs.Branches.{changed, directory_at}
-use Rattle.flat_model.specs.Branches.{segment_at}
-use Rattle.flat_model.specs.Commands.{takes_effect}
-use Rattle.flat_model.specs.Rights.{after_acl, after_move, moved, nodes_moved, row_with}
-use Rattle.flat_model.specs.Store.{Store}
-use Rattle.descriptor_seg.specs.declared.Sdw.TheVariants.{Present}
-use Rattle.descriptor_seg.specs.Descriptors.{sdw_at}
-use Rattle.active_segs.specs.Active.{ActiveSegs, uid_at as uid_in_place}
-use Rattle.page_control.specs.Plain.{Plain, plain}
-use Rattle.page_control.specs.Picture.{words_at}
-use Rattle.seg_control.specs.Control.{Links, leads, leads_at, sdws_at}
-use Rattle.storage_ops.specs.Shown.{HasMoved, HasRowSet, IsCut, IsStore, Shows, Storage}
-use Rattle.storage_ops.specs.Shown.{answered, is_filed, pages_in, pages_of, picture}
-use Rattle.flat_model.specs.Pages.{is_stored}
-use Rattle.storage_ops.proofs.Alike.{active_alike, alike_changed, counted_alike, filed_alike}
-use Rattle.storage_ops.proofs.Alike.{housed_alike, map_node, node_map}
-use Rattle.storage_ops.proofs.Alike.{picture_alike, rights_alike, taken_alike}
-use Rattle.tree_model.proofs.SharedLaws.{found_uid}
-use Rattle.flat_model.proofs.KeepLaws.{Keeps, keeps_moved, keeps_one, keeps_rows, moved_else, quota_moved}
+use Rattle.storage_ops.proofs.Prelude.{◌≡◌, ℕ, ℤ, ◌/◌, ◌%◌, Bool, true, false, cond, eqb, List, map, Option, Some, None, Ok, get_or, refl, sym, ap, subst, ◌∙◌, ◌<◌, arith, inl, inr, cases_Bool, nat_tests, is_positive, unsigned_abs, Mode, Who, Named, Plan, Reply, AccountMaps, Changes, Counts, Row, with_row, getter_of, giver_of, Node, above, node_in, pool_for, pool_of, changed, directory_at, segment_at, takes_effect, after_acl, after_move, moved, nodes_moved, row_with, Store, Present, sdw_at, ActiveSegs, uid_in_place, Plain, plain, words_at, Links, leads, leads_at, sdws_at, HasMoved, HasRowSet, IsCut, IsStore, Shows, Storage, answered, is_filed, pages_in, pages_of, picture, is_stored, found_uid, Keeps, keeps_moved, keeps_one, keeps_rows, moved_else, quota_moved}
+use Rattle.storage_ops.proofs.Alike.{active_alike, alike_changed, counted_alike, filed_alike, housed_alike, map_node, node_map, picture_alike, rights_alike, taken_alike}
 
 -- ---- a change of all nodes
 

@@ -1,30 +1,5 @@
 -- What pages that are cut off leave, exactly.
-use Rattle.std.proofs.Common.{◌≡◌, ◌≢◌, ◌<◌, ◌≤◌, ◌+◌, ◌-◌, ◌/◌, ◌%◌, ℕ, suc, zero, Bool, true, false, ◌&&◌, cond, eqb}
-use Rattle.std.proofs.Common.{List, [], ◌∷◌, ◌++◌, Option, length, get_or, refl, sym, ap, ◌∙◌, arith}
-use Rattle.std.proofs.Common.{inl, inr, ◌↔◌, IsTrue, Result, Ok, Err}
-use Rattle.std.specs.List.{list_all, range_with_len}
-use Rattle.std.proofs.lemmas.Bool.{ne_eqb}
-use Rattle.std.proofs.lemmas.Bool.Decides.{eqb_tells}
-use Rattle.mword.specs.Words.{AreZero}
-use Rattle.book.specs.declared.replies.Reply.{Reply}
-use Rattle.tree_model.specs.Tree.{Node}
-use Rattle.accounts.specs.Maps.{AccountMaps, Recounts, count_of}
-use Rattle.page_table.specs.declared.Ptw.{Ptw}
-use Rattle.page_table.specs.declared.Ptw.TheVariants.{Here, Leaving, Null, Out}
-use Rattle.active_segs.specs.declared.Entry.{Entry}
-use Rattle.active_segs.specs.Active.{IsActive, deactivated}
-use Rattle.page_control.specs.declared.Home.{Home}
-use Rattle.page_control.specs.Effects.{cut, dropped, erased}
-use Rattle.page_control.specs.Plain.{Plain, plain, words_in}
-use Rattle.page_control.specs.Tied.{is_away}
-use Rattle.seg_control.specs.Control.{place_of, word_of}
-use Rattle.seg_control.specs.Effects.{worded}
-use Rattle.seg_control.specs.Kept.{IsInactive}
-use Rattle.storage_ops.specs.CutOff.{CountsOthers, Paged, cut_by, is_cleared, page_cleared, page_cut, paged, pages_cut}
-use Rattle.storage_ops.specs.CutOff.{Erases, cut_at, cut_within, pages_from, put_out}
-use Rattle.storage_ops.specs.Shown.{Storage, home_of, pages_in}
-use Rattle.laws.proofs.Bools.{and_parts}
-use Rattle.laws.proofs.Numbers.{zero_word}
+use Rattle.storage_ops.proofs.Prelude.{◌≡◌, ◌≢◌, ◌<◌, ◌≤◌, ◌+◌, ◌-◌, ◌/◌, ◌%◌, ℕ, suc, zero, Bool, true, false, ◌&&◌, cond, eqb, List, [], ◌∷◌, ◌++◌, Option, length, get_or, refl, sym, ap, ◌∙◌, arith, inl, inr, ◌↔◌, IsTrue, Result, Ok, Err, list_all, range_with_len, ne_eqb, eqb_tells, AreZero, Reply, Node, AccountMaps, Recounts, count_of, Ptw, Here, Leaving, Null, Out, Entry, IsActive, deactivated, Home, cut, dropped, erased, Plain, plain, words_in, is_away, place_of, word_of, worded, IsInactive, CountsOthers, Paged, cut_by, is_cleared, page_cleared, page_cut, paged, pages_cut, Erases, cut_at, cut_within, pages_from, put_out, Storage, home_of, pages_in, and_parts, zero_word}
 
 -- ---- one page
 

@@ -1,31 +1,5 @@
 -- A page is stored no more, and its account is credited.
-use Rattle.std.proofs.Common.{◌≡◌, ◌≢◌, ℕ, zero, suc, ◌+◌, ◌-◌, ◌<◌, ◌≤◌, Bool, true, false, cond, eqb}
-use Rattle.std.proofs.Common.{List, []}
-use Rattle.std.proofs.Common.{◌∷◌, get_or, length, map, Option, Some, None, is_some, replicate, refl, sym, ap}
-use Rattle.std.proofs.Common.{subst}
-use Rattle.std.proofs.Common.{◌∙◌, arith, inl, inr}
-use Rattle.std.specs.Prelude.{count_by}
-use Rattle.std.proofs.lemmas.Bool.{cases_eq, ne_eqb}
-use Rattle.std.proofs.lemmas.Bool.Decides.{nat_tests}
-use Rattle.std.proofs.lemmas.List.Sums.{sum_by-cons}
-use Rattle.std.proofs.Math.ListN.{get_or-map}
-use Rattle.mnames.specs.declared.principals.Who.{Who}
-use Rattle.accounts.specs.Maps.{AccountMaps, Counts, Recounts, count_of, entry_of}
-use Rattle.quota_cells.specs.Accounts.{look}
-use Rattle.tree_model.specs.Tree.{Node, entries_on, has_directory, taken_on, volume_in}
-use Rattle.vtoc.specs.Vtoc.{Entry as VtocEntry}
-use Rattle.active_segs.specs.Active.{ActiveSegs}
-use Rattle.page_table.specs.declared.Ptw.{Ptw}
-use Rattle.page_table.specs.declared.Ptw.TheVariants.{Here, Leaving, Null, Out}
-use Rattle.page_control.specs.declared.Home.{Home}
-use Rattle.page_control.specs.Counts.{KeepsCounts, entries, one_less, size, taken, used}
-use Rattle.page_control.specs.Effects.{dropped, unstored}
-use Rattle.page_control.specs.Picture.{ChangesStored, ChangesWords, is_filed_at}
-use Rattle.page_control.specs.Plain.{Plain}
-use Rattle.page_control.specs.Tied.{map_at, uid_at}
-use Rattle.seg_control.specs.Control.{Links}
-use Rattle.storage_ops.specs.Shown.{AreCounted, AreHoused, AreInTree, AreTaken, HaveRights, IsStore}
-use Rattle.storage_ops.specs.Shown.{home_of, is_filed, is_there, named_at, pages_in}
+use Rattle.storage_ops.proofs.Prelude.{◌≡◌, ◌≢◌, ℕ, zero, suc, ◌+◌, ◌-◌, ◌<◌, ◌≤◌, Bool, true, false, cond, eqb, List, [], ◌∷◌, get_or, length, map, Option, Some, None, is_some, replicate, refl, sym, ap, subst, ◌∙◌, arith, inl, inr, count_by, cases_eq, ne_eqb, nat_tests, sum_by-cons, get_or-map, Who, AccountMaps, Counts, Recounts, count_of, entry_of, look, Node, entries_on, has_directory, taken_on, volume_in, VtocEntry, ActiveSegs, Ptw, Here, Leaving, Null, Out, Home, KeepsCounts, entries, one_less, size, taken, used, dropped, unstored, ChangesStored, ChangesWords, is_filed_at, Plain, map_at, uid_at, Links, AreCounted, AreHoused, AreInTree, AreTaken, HaveRights, IsStore, home_of, is_filed, is_there, named_at, pages_in}
 use Rattle.storage_ops.proofs.Entries.{one_named, put_here, put_other, put_uid}
 use Rattle.storage_ops.proofs.Homes.{filed_map, home_cases}
 use Rattle.storage_ops.proofs.Lengths.{filed_there}

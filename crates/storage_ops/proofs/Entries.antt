@@ -1,13 +1,6 @@
 -- A VTOC entry at a home is changed.
-use Rattle.std.proofs.Common.{◌≡◌, ◌≢◌, ℕ, zero, suc, ◌+◌, Bool, true, cond, List, [], ◌∷◌, set, get_or, Option}
-use Rattle.std.proofs.Common.{Some, None, is_some, refl, sym, ap, subst, ◌∙◌, arith, inl, inr}
-use Rattle.std.specs.Prelude.{count_by}
-use Rattle.std.proofs.lemmas.Bool.{cases_eq}
-use Rattle.std.proofs.lemmas.List.{get_or-set_other, get_or-set_same}
-use Rattle.std.proofs.lemmas.List.Sums.{sum_by-cons}
-use Rattle.vtoc.specs.Vtoc.{Entry, entry_at, records_in, uid_of, with_record}
-use Rattle.page_control.specs.declared.Home.{Home}
-use Rattle.page_control.specs.Tied.{map_at, uid_at, vtoc_in}
+use Rattle.storage_ops.proofs.Prelude.{◌≡◌, ◌≢◌, ℕ, zero, suc, ◌+◌, Bool, true, cond, List, [], ◌∷◌, set, get_or, Option, Some, None, is_some, refl, sym, ap, subst, ◌∙◌, arith, inl, inr, count_by, cases_eq, get_or-set_other, get_or-set_same, sum_by-cons, entry_at, records_in, with_record, Home, map_at, uid_at, vtoc_in}
+use Rattle.vtoc.specs.Vtoc.{Entry, uid_of}
 use Rattle.storage_ops.proofs.Tables.{homed_entry, homed_volume}
 
 -- the entry at a home becomes this

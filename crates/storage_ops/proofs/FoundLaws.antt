@@ -1,10 +1,5 @@
 -- What a tree command is found to be about.
-use Rattle.std.proofs.Common.{◌≡◌, ◌≢◌, ℕ, List, refl}
-use Rattle.std.specs.Prelude.{Ok}
-use Rattle.tree_model.specs.Tree.{Node}
-use Rattle.flat_model.specs.Branches.{branch_at, segment_at, node_at}
-use Rattle.flat_model.proofs.QuotaTotals.{branch_found, only_found}
-use Rattle.storage_ops.specs.Found.{Leads}
+use Rattle.storage_ops.proofs.Prelude.{◌≡◌, ℕ, List, refl, Ok, Node, branch_at, segment_at, node_at, branch_found, only_found, Leads}
 
 pub leads_segment : (ns : List Node) (path : List (List ℕ)) (n : Node) → segment_at ns path ≡ Ok n
     → Leads ns path n.uid

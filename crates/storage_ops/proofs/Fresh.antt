@@ -1,39 +1,8 @@
 -- Volumes of which nothing is in use, and a store of nothing at all.
-use Rattle.std.proofs.Common.{◌≡◌, ◌≢◌, ℕ, zero, suc, ◌+◌, ◌<◌, ◌≤◌, ◌/◌, ◌%◌, Bool, true, false, cond, eqb, ◌&&◌}
-use Rattle.std.proofs.Common.{List, [], ◌∷◌, length, map}
-use Rattle.std.proofs.Common.{Option, Some, None, get_or, is_some, replicate, refl, sym, ap, ◌∙◌, arith}
-use Rattle.std.proofs.Common.{inl, inr, is_none}
-use Rattle.std.specs.Prelude.{count_by, nat_le, nat_lt, slice_get}
-use Rattle.std.specs.List.{list_all}
-use Rattle.std.proofs.lemmas.Bool.{cases_lt}
-use Rattle.std.proofs.lemmas.Bool.Decides.{nat_tests}
-use Rattle.std.proofs.lemmas.List.{get_or-replicate, get_or_past, length-replicate}
-use Rattle.std.proofs.lemmas.List.Quantifiers.{position-Some}
-use Rattle.std.proofs.lemmas.List.Sums.{sum_by-cons}
-use Rattle.mnames.specs.declared.principals.Who.{Who}
-use Rattle.script.specs.Plans.{Plan}
-use Rattle.script.specs.Forms.{is_command, is_from, is_path, is_volume}
+use Rattle.storage_ops.proofs.Prelude.{◌≡◌, ◌≢◌, ℕ, zero, suc, ◌+◌, ◌<◌, ◌≤◌, ◌/◌, ◌%◌, Bool, true, false, cond, eqb, ◌&&◌, List, [], ◌∷◌, length, map, Option, Some, None, get_or, is_some, replicate, refl, sym, ap, ◌∙◌, arith, inl, inr, is_none, count_by, nat_le, nat_lt, slice_get, list_all, cases_lt, nat_tests, get_or-replicate, get_or_past, length-replicate, position-Some, sum_by-cons, Who, Plan, is_command, is_from, is_path, is_volume, VolumeLine, is_name, AccountMaps, Gains, count_of, root_alone, entries_on, taken_on, volume_in, Store, at_first, boot, entries_in, sizes_in, root_of, VtocEntry, entry_at, least_free_entry, record_at, records_in, no_records, in_use, ActiveSegs, uid_in_place, uid_in, Home, Plain, plain, AreFiled, flags_in, uid_at, vtoc_in, size, words_at, Links, kst_at, AreAtRest, AreFresh, IsStore, Shows, Storage, is_filed, picture, and_parts, all_same}
 use Rattle.script.specs.declared.commands.Command.TheVariants as command
-use Rattle.script.specs.declared.plan.VolumeLine.{VolumeLine}
-use Rattle.mnames.specs.Names.{is_name}
-use Rattle.accounts.specs.Maps.{AccountMaps, Gains, count_of, root_alone}
-use Rattle.tree_model.specs.Tree.{entries_on, taken_on, volume_in}
-use Rattle.flat_model.specs.Store.{Store, at_first, boot, entries_in, records_in as sizes_in, root_of}
-use Rattle.vtoc.specs.Vtoc.{Entry as VtocEntry, entry_at, least_free_entry, record_at, records_in, uid_of}
-use Rattle.vtoc.specs.FileMap.{no_records}
-use Rattle.record_map.specs.Bitmap.{in_use}
-use Rattle.active_segs.specs.Active.{ActiveSegs, uid_at as uid_in_place, uid_in}
+use Rattle.vtoc.specs.Vtoc.{uid_of}
 use Rattle.known_segs.specs.Known.{uid_of as known_uid}
-use Rattle.page_control.specs.declared.Home.{Home}
-use Rattle.page_control.specs.Plain.{Plain, plain}
-use Rattle.page_control.specs.Tied.{AreFiled, flags_in, uid_at, vtoc_in}
-use Rattle.page_control.specs.Counts.{size}
-use Rattle.page_control.specs.Picture.{words_at}
-use Rattle.seg_control.specs.Control.{Links, kst_at}
-use Rattle.seg_control.specs.Kept.{AreAtRest}
-use Rattle.storage_ops.specs.Shown.{AreFresh, IsStore, Shows, Storage, is_filed, picture}
-use Rattle.laws.proofs.Bools.{and_parts}
-use Rattle.laws.proofs.Lists.{all_same}
 
 -- ---- volumes of which nothing is used
 

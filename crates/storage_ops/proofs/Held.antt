@@ -1,18 +1,6 @@
 -- What the fields of a store hold in a call of its own is what is told of the store: facts of the one are facts of the
 -- other.
-use Rattle.std.proofs.Common.{◌≡◌, ◌<◌, ℕ, true, List, Option, sym, ap, subst, ◌∙◌}
-use Rattle.mnames.specs.declared.principals.Who.{Who}
-use Rattle.accounts.specs.Maps.{AccountMaps}
-use Rattle.script.specs.Plans.{Plan}
-use Rattle.flat_model.specs.Store.{Store}
-use Rattle.active_segs.specs.Active.{IsActive}
-use Rattle.page_table.specs.declared.Ptw.TheVariants.{Leaving}
-use Rattle.core_map.specs.CoreMap.{frame_at, is_bound}
-use Rattle.page_control.specs.declared.Home.{Home}
-use Rattle.page_control.specs.Plain.{number_in, plain}
-use Rattle.seg_control.specs.Control.{Control, table_of, word_of}
-use Rattle.seg_control.specs.Kept.{IsHomeFor}
-use Rattle.storage_ops.specs.Shown.{IsStore, Shows, ShowsTree, Storage, home_of, is_there, pages_in}
+use Rattle.storage_ops.proofs.Prelude.{◌≡◌, ◌<◌, ℕ, true, List, Option, sym, ap, subst, ◌∙◌, Who, AccountMaps, Plan, Store, IsActive, Leaving, frame_at, is_bound, Home, number_in, plain, Control, table_of, word_of, IsHomeFor, IsStore, Shows, ShowsTree, Storage, home_of, is_there, pages_in}
 
 -- what the fields hold, where they hold what is told
 abbrev pub held : {A : Type 0} {fields told : A} → fields ≡ told → A

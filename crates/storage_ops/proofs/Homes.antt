@@ -1,36 +1,6 @@
 -- A node is added, with a home of its own.
-use Rattle.std.proofs.Common.{◌≡◌, ◌≢◌, ◌⊎◌, ℕ, ◌+◌, ◌<◌, ◌≤◌, ◌/◌, ◌%◌, Bool, true, false, cond, eqb, ◌&&◌}
-use Rattle.std.proofs.Common.{List, [], ◌∷◌, map}
-use Rattle.std.proofs.Common.{Option, Some, None, get_or, is_some, is_none, replicate, refl}
-use Rattle.std.proofs.Common.{sym, ap}
-use Rattle.std.proofs.Common.{subst, ◌∙◌, arith, inl, inr, length}
-use Rattle.std.specs.Prelude.{count_by, position}
-use Rattle.std.proofs.lemmas.Bool.{cases_eq, cases_lt, ne_eqb}
-use Rattle.std.proofs.lemmas.Bool.Decides.{nat_tests}
-use Rattle.std.proofs.lemmas.List.{get_or-replicate, get_or_past}
-use Rattle.std.proofs.lemmas.List.Sums.{sum_by-cons}
-use Rattle.std.proofs.lemmas.List.Quantifiers.{position-Some}
-use Rattle.mnames.specs.declared.principals.Who.{Who}
-use Rattle.script.specs.Plans.{Plan}
-use Rattle.accounts.specs.Maps.{AccountMaps, Counts, Gains, count_of, entry_of}
-use Rattle.quota_cells.specs.Accounts.{look}
-use Rattle.tree_model.specs.Tree.{Node, entries_on, has_directory, node_in, taken_on, volume_in}
-use Rattle.flat_model.specs.Pages.{is_stored}
-use Rattle.flat_model.specs.Store.{Store}
-use Rattle.flat_model.proofs.CountLaws.{taken_new}
-use Rattle.vtoc.specs.Vtoc.{Entry as VtocEntry, entry_at, least_free_entry, record_at, records_in, uid_of}
-use Rattle.vtoc.specs.FileMap.{no_records}
-use Rattle.active_segs.specs.Active.{ActiveSegs, uid_at as uid_in_place}
-use Rattle.page_control.specs.declared.Home.{Home}
-use Rattle.page_control.specs.Plain.{Plain, bindings, binding_at, plain}
-use Rattle.page_control.specs.Tied.{map_at, uid_at, vtoc_in}
-use Rattle.page_control.specs.Counts.{entries, one_more, size, taken, used}
-use Rattle.page_control.specs.Picture.{is_binding, is_filed_at, words_at, words_of_page, words_held}
-use Rattle.seg_control.specs.Control.{Links}
-use Rattle.seg_control.specs.Kept.{IsKept}
-use Rattle.storage_ops.specs.Shown.{AreCounted, AreHoused, IsStore, Shows, Storage, home_of, is_filed, is_there}
-use Rattle.storage_ops.specs.Shown.{named_at}
-use Rattle.storage_ops.specs.Shown.{pages_in, pages_of, picture}
+use Rattle.storage_ops.proofs.Prelude.{◌≡◌, ◌≢◌, ◌⊎◌, ℕ, ◌+◌, ◌<◌, ◌≤◌, ◌/◌, ◌%◌, Bool, true, false, cond, eqb, ◌&&◌, List, [], ◌∷◌, map, Option, Some, None, get_or, is_some, is_none, replicate, refl, sym, ap, subst, ◌∙◌, arith, inl, inr, length, count_by, position, cases_eq, cases_lt, ne_eqb, nat_tests, get_or-replicate, get_or_past, sum_by-cons, position-Some, Who, Plan, AccountMaps, Counts, Gains, count_of, entry_of, look, Node, entries_on, has_directory, node_in, taken_on, volume_in, is_stored, Store, taken_new, VtocEntry, entry_at, least_free_entry, record_at, records_in, no_records, ActiveSegs, uid_in_place, Home, Plain, bindings, binding_at, plain, map_at, uid_at, vtoc_in, entries, one_more, size, taken, used, is_binding, is_filed_at, words_at, words_of_page, words_held, Links, IsKept, AreCounted, AreHoused, IsStore, Shows, Storage, home_of, is_filed, is_there, named_at, pages_in, pages_of, picture}
+use Rattle.vtoc.specs.Vtoc.{uid_of}
 
 pub home_cases : (a b : Home) → (a ≡ b) ⊎ (a ≢ b)
 home_cases a b = elim (cases_eq a.volume b.volume) [

@@ -1,20 +1,5 @@
 -- What the numbers of a process stand for is changed.
-use Rattle.std.proofs.Common.{◌≡◌, ℕ, zero, suc, ◌<◌, List, [], ◌∷◌, Option, Some, None, Ok}
-use Rattle.std.proofs.Common.{set, get_or, refl, sym, ap, subst, ◌∙◌}
-use Rattle.std.proofs.lemmas.List.{length-set, set-get_or}
-use Rattle.mnames.specs.declared.principals.Who.{Who}
-use Rattle.script.specs.Plans.{Plan}
-use Rattle.book.specs.declared.replies.Reply.{Reply}
-use Rattle.known_segs.specs.Known.{number_for, uid_of, with_number, without_number}
-use Rattle.accounts.specs.Maps.{AccountMaps}
-use Rattle.tree_model.specs.Tree.{Node}
-use Rattle.flat_model.specs.Branches.{segment_at}
-use Rattle.flat_model.specs.Naming.{after_initiate, after_terminate, initiated, known_or_full}
-use Rattle.flat_model.specs.Store.{Store}
-use Rattle.active_segs.specs.Active.{ActiveSegs}
-use Rattle.page_control.specs.Plain.{Plain}
-use Rattle.seg_control.specs.Control.{Links, kst_at}
-use Rattle.storage_ops.specs.Shown.{AreKnown, IsStore, Shows, Storage, answered, with_known}
+use Rattle.storage_ops.proofs.Prelude.{◌≡◌, ℕ, zero, suc, ◌<◌, List, [], ◌∷◌, Option, Some, None, Ok, set, get_or, refl, sym, ap, subst, ◌∙◌, length-set, set-get_or, Who, Plan, Reply, number_for, uid_of, with_number, without_number, AccountMaps, Node, segment_at, after_initiate, after_terminate, initiated, known_or_full, Store, ActiveSegs, Plain, Links, kst_at, AreKnown, IsStore, Shows, Storage, answered, with_known}
 
 -- what holds of all elements holds of them once one is changed to such
 pub set_told : {A : Type 0} (P : A → Type 0) (xs : List A) (i j : ℕ) (x d : A) → P x → P (get_or xs j d)

@@ -1,40 +1,10 @@
 -- Stored pages from one on, and the length of a segment.
-use Rattle.std.proofs.Common.{◌≡◌, ◌≢◌, ℕ, ◌<◌, ◌≤◌, Bool, true, false, cond, eqb, ◌&&◌, List}
-use Rattle.std.proofs.Common.{Option, Some, None, Ok, is_some}
-use Rattle.std.proofs.Common.{refl, sym, ap, subst, ◌∙◌, arith, inl, inr}
-use Rattle.std.specs.Prelude.{nat_le}
-use Rattle.std.proofs.lemmas.Bool.{cases_Bool, cases_eq, cases_lt, ne_eqb}
-use Rattle.std.proofs.lemmas.Bool.Decides.{nat_tests}
-use Rattle.mnames.specs.declared.principals.Who.{Who}
-use Rattle.script.specs.Plans.{Plan}
+use Rattle.storage_ops.proofs.Prelude.{◌≡◌, ◌≢◌, ℕ, ◌<◌, ◌≤◌, Bool, true, false, cond, eqb, ◌&&◌, List, Option, Some, None, Ok, is_some, refl, sym, ap, subst, ◌∙◌, arith, inl, inr, nat_le, cases_Bool, cases_eq, cases_lt, ne_eqb, nat_tests, Who, Plan, AccountMaps, Changes, Node, has_directory, node_in, pool_of, with_node, has_segment, changed, segment_at, is_stored, is_stored_from, after_length, length_reply, Store, none_from, stored_from, record_at, ActiveSegs, uid_in_place, Home, Plain, is_filed_at, vtoc_in, Links, IsInactive, AreCounted, IsStore, Shows, Storage, home_of, is_filed, is_there, named_at, pages_in, pages_of, no_directory, length_told, found_uid, Keeps, keeps_length, keeps_one}
 use Rattle.book.specs.declared.replies.Reply.TheVariants as reply
-use Rattle.accounts.specs.Maps.{AccountMaps, Changes}
-use Rattle.tree_model.specs.Tree.{Node, has_directory, node_in, pool_of, with_node}
-use Rattle.tree_model.specs.Trees.{has_segment}
-use Rattle.flat_model.specs.Branches.{changed, segment_at}
-use Rattle.flat_model.specs.Pages.{is_stored, is_stored_from}
-use Rattle.flat_model.specs.Sizes.{after_length, length_reply}
-use Rattle.flat_model.specs.Store.{Store}
-use Rattle.flat_model.proofs.PageLaws.{none_from, stored_from}
-use Rattle.vtoc.specs.Vtoc.{Entry, record_at}
-use Rattle.active_segs.specs.Active.{ActiveSegs, uid_at as uid_in_place}
-use Rattle.page_control.specs.declared.Home.{Home}
-use Rattle.page_control.specs.Plain.{Plain}
-use Rattle.page_control.specs.Picture.{is_filed_at}
-use Rattle.page_control.specs.Tied.{vtoc_in}
-use Rattle.seg_control.specs.Control.{Links}
-use Rattle.seg_control.specs.Kept.{IsInactive}
-use Rattle.storage_ops.specs.Shown.{AreCounted, IsStore, Shows, Storage, home_of, is_filed, is_there}
-use Rattle.storage_ops.specs.Shown.{named_at, pages_in, pages_of}
-use Rattle.storage_ops.proofs.Alike.{active_alike, alike_changed, housed_alike}
-use Rattle.storage_ops.proofs.Alike.{map_node}
-use Rattle.storage_ops.proofs.Alike.{node_map, rights_alike, taken_alike}
+use Rattle.vtoc.specs.Vtoc.{Entry}
+use Rattle.storage_ops.proofs.Alike.{active_alike, alike_changed, housed_alike, map_node, node_map, rights_alike, taken_alike}
 use Rattle.storage_ops.proofs.Changed.{shown_changed}
 use Rattle.storage_ops.proofs.Held.{tree_held}
-use Rattle.flat_model.proofs.NodeLaws.{no_directory}
-use Rattle.flat_model.proofs.TreeReplies.{length_told}
-use Rattle.tree_model.proofs.SharedLaws.{found_uid}
-use Rattle.flat_model.proofs.KeepLaws.{Keeps, keeps_length, keeps_one}
 
 -- whether a page is filed, of a node that is there
 pub filed_there : (a : AccountMaps) (vtocs : List (List (Option Entry))) (u q : ℕ) → is_there a.nodes u ≡ true

@@ -1,24 +1,5 @@
 -- A store of which fewer descriptors are connected, or fewer segments active.
-use Rattle.std.proofs.Common.{◌≡◌, ℕ, Bool, true, false, cond, eqb, List, [], map, Option, Some, None, set}
-use Rattle.std.proofs.Common.{refl, sym, ap, ◌∙◌}
-use Rattle.std.proofs.Common.{inl, inr}
-use Rattle.std.proofs.lemmas.Bool.{cases_eq}
-use Rattle.std.proofs.lemmas.List.{get_or-set_other}
-use Rattle.std.proofs.Math.ListN.{get_or-map}
-use Rattle.mnames.specs.declared.modes.Mode.{Mode}
-use Rattle.mnames.specs.declared.principals.Who.{Who}
-use Rattle.script.specs.Plans.{Plan}
-use Rattle.accounts.specs.Maps.{AccountMaps}
-use Rattle.flat_model.specs.Store.{Store}
-use Rattle.descriptor_seg.specs.declared.Sdw.{Sdw}
-use Rattle.descriptor_seg.specs.declared.Sdw.TheVariants.{Fault, Present}
-use Rattle.descriptor_seg.specs.Descriptors.{sdw_at}
-use Rattle.active_segs.specs.declared.Entry.{Entry}
-use Rattle.active_segs.specs.Active.{ActiveSegs, deactivated, superior_in, uid_at as uid_in_place, uid_in}
-use Rattle.page_control.specs.Plain.{Plain}
-use Rattle.seg_control.specs.Control.{Links, sdws_at}
-use Rattle.seg_control.specs.Effects.{all_cut, faulting, unlinked}
-use Rattle.storage_ops.specs.Shown.{IsStore, Shows, Storage}
+use Rattle.storage_ops.proofs.Prelude.{◌≡◌, ℕ, Bool, true, false, cond, eqb, List, [], map, Option, Some, None, set, refl, sym, ap, ◌∙◌, inl, inr, cases_eq, get_or-set_other, get_or-map, Mode, Who, Plan, AccountMaps, Store, Sdw, Fault, Present, sdw_at, Entry, ActiveSegs, deactivated, superior_in, uid_in_place, uid_in, Plain, Links, sdws_at, all_cut, faulting, unlinked, IsStore, Shows, Storage}
 use Rattle.storage_ops.proofs.Known.{set_told}
 
 -- each descriptor that is connected was so before

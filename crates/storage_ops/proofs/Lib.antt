@@ -1,3 +1,4 @@
+mod Prelude
 pub mod Alike
 pub mod ByDescriptor
 pub mod ChainDown

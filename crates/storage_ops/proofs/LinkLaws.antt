@@ -1,26 +1,6 @@
 -- Descriptors are connected, with the rights of their processes.
-use Rattle.std.proofs.Common.{◌≡◌, ℕ, suc, ◌<◌, List, [], ◌∷◌, length}
-use Rattle.std.proofs.Common.{Option, Some, get_or, set, refl, sym, ap, subst, ◌∙◌, arith, inl, inr}
-use Rattle.std.proofs.lemmas.Bool.{cases_eq}
-use Rattle.std.proofs.lemmas.List.{get_or-set_other}
-use Rattle.mnames.specs.declared.modes.Mode.{Mode}
+use Rattle.storage_ops.proofs.Prelude.{◌≡◌, ℕ, suc, ◌<◌, List, [], ◌∷◌, length, Option, Some, get_or, set, refl, sym, ap, subst, ◌∙◌, arith, inl, inr, cases_eq, get_or-set_other, Mode, Who, Plan, AccountMaps, access_of, Node, node_in, Store, Sdw, Fault, Present, sdw_at, ActiveSegs, uid_in_place, Plain, Links, sdws_at, linked, reconnected, pair_at, IsRight, IsStore, Shows, Storage, who_at}
 use Rattle.mnames.specs.declared.modes.Mode.TheVariants as mode
-use Rattle.mnames.specs.declared.principals.Who.{Who}
-use Rattle.script.specs.Plans.{Plan}
-use Rattle.accounts.specs.Maps.{AccountMaps}
-use Rattle.tree_model.specs.Access.{access_of}
-use Rattle.tree_model.specs.Tree.{Node, node_in}
-use Rattle.flat_model.specs.Store.{Store}
-use Rattle.descriptor_seg.specs.declared.Sdw.{Sdw}
-use Rattle.descriptor_seg.specs.declared.Sdw.TheVariants.{Fault, Present}
-use Rattle.descriptor_seg.specs.Descriptors.{sdw_at}
-use Rattle.active_segs.specs.Active.{ActiveSegs, uid_at as uid_in_place}
-use Rattle.page_control.specs.Plain.{Plain}
-use Rattle.seg_control.specs.Control.{Links, sdws_at}
-use Rattle.seg_control.specs.Effects.{linked, reconnected}
-use Rattle.seg_control.specs.Kept.{pair_at}
-use Rattle.storage_ops.specs.Connecting.{IsRight}
-use Rattle.storage_ops.specs.Shown.{IsStore, Shows, Storage, who_at}
 use Rattle.storage_ops.proofs.Known.{set_told}
 
 same_place : (p q m n : ℕ) (x y : Mode) → ◌≡◌ {A = Sdw} (Present p x m) (Present q y n)

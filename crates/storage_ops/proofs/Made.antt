@@ -1,28 +1,9 @@
 -- What the making of a directory or a segment in a directory is answered, and what it leaves.
-use Rattle.std.proofs.Common.{◌≡◌, ℕ, ◌+◌, ◌<◌, Bool, true, false, cond, List, [], ◌∷◌, ◌++◌, is_none, Option}
-use Rattle.std.proofs.Common.{Some, None, Result, Ok, All, IsSome}
-use Rattle.std.proofs.Common.{set, get_or, is_some, ◌&&◌, length, sym, ap, ◌∙◌, arith, inl, inr}
-use Rattle.std.specs.Prelude.{nat_le}
-use Rattle.std.proofs.lemmas.Bool.{cases_eq, cases_lt}
-use Rattle.std.proofs.lemmas.Bool.Decides.{nat_tests}
-use Rattle.std.proofs.lemmas.List.{get_or-set_other, get_or-set_same, get_or_past, length-set}
-use Rattle.std.proofs.lemmas.List.Quantifiers.{position-Some}
-use Rattle.script.specs.Plans.{Plan}
+use Rattle.storage_ops.proofs.Prelude.{◌≡◌, ℕ, ◌+◌, ◌<◌, Bool, true, false, cond, List, [], ◌∷◌, ◌++◌, is_none, Option, Some, None, Result, Ok, All, IsSome, set, get_or, is_some, ◌&&◌, length, sym, ap, ◌∙◌, arith, inl, inr, nat_le, cases_eq, cases_lt, nat_tests, get_or-set_other, get_or-set_same, get_or_past, length-set, position-Some, Plan, AddFault, add_fault_of, Node, above, branch_in, entries_on, node_at, after_make, made_at, made_in, made_of, make_in, Row, parts_are, Store, entries_of, least_free_entry, entries, used, vtoc_in}
 use Rattle.book.specs.declared.replies.Reply.TheVariants as reply
-use Rattle.accounts.specs.Maps.{branch_of}
-use Rattle.dir_tree.specs.declared.node.AddFault.{AddFault}
 use Rattle.dir_tree.specs.declared.node.AddFault.TheVariants as add_fault
-use Rattle.dir_tree.specs.declared.node.NewNode.{NewNode}
-use Rattle.dir_tree.specs.Nodes.{add_fault_of, unless}
-use Rattle.tree_model.specs.Tree.{Node, above, branch_in, entries_on}
-use Rattle.flat_model.specs.Branches.{node_at}
-use Rattle.flat_model.specs.Making.{after_make, made_at, made_in, made_of, make_in}
-use Rattle.tree_model.specs.Access.{Row}
-use Rattle.flat_model.proofs.TreeReplies.{parts_are}
-use Rattle.flat_model.specs.Store.{Store, entries_of}
-use Rattle.vtoc.specs.Vtoc.{Entry, least_free_entry}
-use Rattle.page_control.specs.Counts.{entries, used}
-use Rattle.page_control.specs.Tied.{vtoc_in}
+use Rattle.dir_tree.specs.Nodes.{unless}
+use Rattle.vtoc.specs.Vtoc.{Entry}
 use Rattle.storage_ops.proofs.NamingLaws.{count_full, count_less}
 
 told : (x y z w full : Bool) (n : ℕ)

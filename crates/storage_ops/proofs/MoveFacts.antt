@@ -1,28 +1,8 @@
 -- What the calls of a move ask and leave, by what is true of a store.
-use Rattle.std.proofs.Common.{◌≡◌, ℕ, ◌+◌, ◌-◌, ◌<◌, ◌≤◌, Bool, true, false, List, [], ◌∷◌}
-use Rattle.std.proofs.Common.{Option, Some, None, get_or, length, map, set, refl, sym, ap, ◌∙◌, arith, inl, inr}
-use Rattle.std.specs.Prelude.{nat_lt}
-use Rattle.std.proofs.lemmas.Bool.{cases_eq, cases_lt, eq-eqb}
-use Rattle.std.proofs.lemmas.Bool.Decides.{nat_tests}
-use Rattle.std.proofs.lemmas.List.{get_or-set_other, get_or-set_same, get_or_past, length-set}
-use Rattle.bitmap.specs.Bitmap.{least_free}
-use Rattle.volumes.specs.Volumes.{HasParts, Vols, records_at, used_at, vtoc_at}
-use Rattle.active_segs.specs.Active.{IsActive}
-use Rattle.accounts.specs.Maps.{count_of}
-use Rattle.page_control.specs.Plain.{plain}
-use Rattle.page_control.specs.Counts.{entries, size}
-use Rattle.seg_mover.specs.declared.Mover.{Mover}
+use Rattle.storage_ops.proofs.Prelude.{◌≡◌, ℕ, ◌+◌, ◌-◌, ◌<◌, ◌≤◌, Bool, true, false, List, [], ◌∷◌, Option, Some, None, get_or, length, map, set, refl, sym, ap, ◌∙◌, arith, inl, inr, nat_lt, cases_eq, cases_lt, eq-eqb, nat_tests, get_or-set_other, get_or-set_same, get_or_past, length-set, least_free, HasParts, Vols, records_at, used_at, vtoc_at, IsActive, count_of, plain, entries, size, Mover, CanBegin, begun, flags_given, flags_taken, with_taken, Control, IsKept, move_committed, pair_of, is_roomy, IsStore, Storage, home_of, is_there, named_at, room_parts}
 use Rattle.seg_mover.specs.Homes.{map_at}
-use Rattle.seg_mover.specs.Moves.{CanBegin, begun}
-use Rattle.seg_mover.specs.Records.{flags_given, flags_taken, with_taken}
-use Rattle.seg_control.specs.Control.{Control}
-use Rattle.seg_control.specs.Kept.{IsKept}
-use Rattle.seg_control.specs.Moving.{move_committed, pair_of}
-use Rattle.storage_ops.specs.Rooms.{is_roomy}
-use Rattle.storage_ops.specs.Shown.{IsStore, Storage, home_of, is_there, named_at}
 use Rattle.storage_ops.proofs.Paged.{active_there}
 use Rattle.storage_ops.proofs.Tables.{all_drives, homed_volume}
-use Rattle.laws.proofs.Bools.{room_parts}
 
 -- ---- a move may begin
 

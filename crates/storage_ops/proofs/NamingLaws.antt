@@ -1,20 +1,7 @@
 -- What a process knows by numbers, and whether there is a number for one segment more.
-use Rattle.std.proofs.Common.{◌≡◌, ◌↔◌, ℕ, zero, suc, ◌+◌, ◌<◌, ◌≤◌, Bool, true, false, cond, List, [], ◌∷◌}
-use Rattle.std.proofs.Common.{length, Option, Some, None, Ok, Err, get_or, is_some, is_none, IsTrue, refl, sym, ap}
-use Rattle.std.proofs.Common.{◌∙◌, arith}
-use Rattle.std.specs.Prelude.{count_by}
-use Rattle.std.proofs.lemmas.List.Sums.{sum_by-cons}
-use Rattle.std.proofs.lemmas.List.Quantifiers.{position-Some}
-use Rattle.known_segs.specs.Known.{first_of_two, known_count, least_free, number_for, number_of, uid_of}
-use Rattle.book.specs.declared.replies.Reply.{Reply}
+use Rattle.storage_ops.proofs.Prelude.{◌≡◌, ◌↔◌, ℕ, zero, suc, ◌+◌, ◌<◌, ◌≤◌, Bool, true, false, cond, List, [], ◌∷◌, length, Option, Some, None, Ok, Err, get_or, is_some, is_none, IsTrue, refl, sym, ap, ◌∙◌, arith, count_by, sum_by-cons, position-Some, first_of_two, known_count, number_for, number_of, uid_of, Reply, Node, segment_at, initiate_of, initiate_reply, known_or_full, terminate_reply, Store, numbers_of, free_none, kst_at, refusal}
+use Rattle.known_segs.specs.Known.{least_free}
 use Rattle.book.specs.declared.replies.Reply.TheVariants as reply
-use Rattle.tree_model.specs.Tree.{Node}
-use Rattle.flat_model.specs.Branches.{segment_at}
-use Rattle.flat_model.specs.Naming.{initiate_of, initiate_reply, known_or_full, terminate_reply}
-use Rattle.flat_model.specs.Store.{Store, numbers_of}
-use Rattle.flat_model.proofs.NumberLaws.{free_none}
-use Rattle.seg_control.specs.Control.{kst_at}
-use Rattle.storage_ops.specs.Shown.{refusal}
 
 -- ---- the least free number
 

@@ -1,9 +1,5 @@
 -- What is read of a node that is there.
-use Rattle.std.proofs.Common.{Option, is_some, true, ◌≡◌, ℕ, List, [], ◌∷◌, Some, None, eqb, inl, inr, refl}
-use Rattle.std.proofs.lemmas.Bool.{cases_Bool}
-use Rattle.storage_ops.specs.Shown.{is_there}
-use Rattle.tree_model.specs.Tree.{Node, node_in}
-use Rattle.tree_model.specs.Trees.{has_segment}
+use Rattle.storage_ops.proofs.Prelude.{Option, is_some, true, ◌≡◌, ℕ, List, [], ◌∷◌, Some, None, eqb, inl, inr, refl, cases_Bool, is_there, Node, node_in, has_segment}
 
 -- where a node lies that is there
 pub found_there : (ns : List Node) (u : ℕ) → is_there ns u ≡ true → (n : Node) × (node_in ns u ≡ Some n)

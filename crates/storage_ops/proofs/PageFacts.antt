@@ -1,26 +1,6 @@
 -- What is known of a page of an active segment: its home, its page table, and whether the file map names it.
-use Rattle.std.proofs.Common.{◌≡◌, ℕ, zero, suc, ◌+◌, ◌^◌, ◌<◌, ◌≤◌, Bool, true, false, cond, eqb, not, List, []}
-use Rattle.std.proofs.Common.{◌∷◌, length, Option, Some, None, get_or, is_some, refl, sym, ap, subst, ◌∙◌, arith}
-use Rattle.std.proofs.Common.{inl, inr}
-use Rattle.std.specs.Prelude.{count_by, nat_le}
-use Rattle.std.proofs.lemmas.Bool.{cases_Bool, cases_lt}
-use Rattle.std.proofs.lemmas.Bool.Decides.{nat_tests}
-use Rattle.std.proofs.lemmas.List.{get_or_past}
-use Rattle.std.proofs.lemmas.List.Sums.{sum_by-cons}
-use Rattle.mnames.specs.declared.principals.Who.{Who}
-use Rattle.accounts.specs.Maps.{AccountMaps, count_of}
-use Rattle.tree_model.specs.Tree.{Node, has_directory, node_in, pool_for, pool_of}
-use Rattle.tree_model.specs.Trees.{has_segment}
-use Rattle.page_table.specs.declared.Ptw.{Ptw}
-use Rattle.active_segs.specs.declared.Entry.{Entry}
-use Rattle.active_segs.specs.Active.{ActiveSegs, IsActive, IsTree, table_at, uid_at as uid_in_place}
-use Rattle.page_control.specs.Plain.{Plain}
-use Rattle.page_control.specs.Picture.{is_filed_at}
-use Rattle.page_control.specs.Tied.{has_record, map_at}
-use Rattle.seg_control.specs.Control.{Links, place_of, table_of, word_of}
-use Rattle.seg_control.specs.Kept.{IsKept}
-use Rattle.flat_model.proofs.FieldLaws.{field_found}
-use Rattle.storage_ops.specs.Shown.{IsStore, home_of, is_there, pages_in, pages_of}
+use Rattle.storage_ops.proofs.Prelude.{◌≡◌, ℕ, zero, suc, ◌+◌, ◌^◌, ◌<◌, ◌≤◌, Bool, true, false, cond, eqb, not, List, [], ◌∷◌, length, Option, Some, None, get_or, is_some, refl, sym, ap, subst, ◌∙◌, arith, inl, inr, count_by, nat_le, cases_Bool, cases_lt, nat_tests, get_or_past, sum_by-cons, Who, AccountMaps, count_of, Node, has_directory, node_in, pool_for, pool_of, has_segment, Ptw, Entry, ActiveSegs, IsActive, table_at, uid_in_place, Plain, is_filed_at, has_record, map_at, Links, place_of, table_of, word_of, IsKept, field_found, IsStore, home_of, is_there, pages_in, pages_of}
+use Rattle.active_segs.specs.Active.{IsTree}
 use Rattle.storage_ops.proofs.Homes.{filed_map}
 use Rattle.storage_ops.proofs.Lengths.{filed_there}
 use Rattle.storage_ops.proofs.NodeLaws.{found_there}

@@ -1,38 +1,6 @@
 -- A page has left its frame: it is on its record, or it was all zeros and is stored no more.
-use Rattle.std.proofs.Common.{◌≡◌, ◌≢◌, ℕ, ◌+◌, ◌-◌, ◌<◌, ◌≤◌, ◌/◌, ◌%◌, Bool, true, false, cond, eqb, ◌&&◌, not}
-use Rattle.std.proofs.Common.{List, Option, Some, None, Result, Ok, Err, IfOk, get_or, refl, replicate, sym, ap, subst}
-use Rattle.std.proofs.Common.{◌∙◌, arith, inl, inr, length}
-use Rattle.std.specs.Prelude.{count_by}
-use Rattle.std.proofs.lemmas.Bool.{cases_eq, cases_lt, eq-eqb, ne_eqb}
-use Rattle.std.proofs.lemmas.List.{get_or_past}
-use Rattle.mnames.specs.declared.principals.Who.{Who}
-use Rattle.script.specs.Plans.{Plan}
-use Rattle.accounts.specs.Maps.{AccountMaps, Counts, Recounts, count_of}
-use Rattle.flat_model.specs.Pages.{IsOnce, is_stored, without_stored}
-use Rattle.flat_model.specs.Legal.{MayRelease}
-use Rattle.flat_model.specs.Store.{Store}
-use Rattle.flat_model.proofs.CountLaws.{count_without}
-use Rattle.flat_model.proofs.PageLaws.{is_stored-without, once_without}
-use Rattle.flat_model.proofs.ZeroLaws.{words_zero}
-use Rattle.mword.specs.Words.{AreZero}
-use Rattle.vtoc.specs.Vtoc.{Entry as VtocEntry}
-use Rattle.active_segs.specs.Active.{ActiveSegs, IsActive}
-use Rattle.page_control.specs.declared.Home.{Home}
-use Rattle.page_control.specs.declared.Left.{Left}
-use Rattle.page_control.specs.declared.Left.TheVariants.{Released, Kept}
-use Rattle.page_control.specs.Plain.{Plain, plain}
-use Rattle.page_control.specs.Counts.{KeepsCounts, taken, taken_after}
-use Rattle.page_control.specs.Effects.{after_evict}
-use Rattle.page_control.specs.Picture.{ChangesStored, KeepsWords, is_filed_at, is_kept, words_at}
-use Rattle.page_control.specs.Tied.{has_record, map_at, uid_at}
-use Rattle.seg_control.specs.Control.{Links, word_of}
-use Rattle.seg_control.specs.Effects.{table_left}
-use Rattle.seg_control.specs.Kept.{IsKept}
-use Rattle.storage_ops.specs.Paged.{IsSettled, page_left}
-use Rattle.storage_ops.specs.Shown.{AreHoused, IsStore, Shows, Storage, home_of, is_filed, is_there, named_at, pages_in}
-use Rattle.storage_ops.specs.Shown.{picture}
-use Rattle.storage_ops.proofs.Dropped.{recount_here, recount_homes, recount_other, recount_there, same_entries}
-use Rattle.storage_ops.proofs.Dropped.{same_sizes}
+use Rattle.storage_ops.proofs.Prelude.{◌≡◌, ◌≢◌, ℕ, ◌+◌, ◌-◌, ◌<◌, ◌≤◌, ◌/◌, ◌%◌, Bool, true, false, cond, eqb, ◌&&◌, not, List, Option, Some, None, Result, Ok, Err, IfOk, get_or, refl, replicate, sym, ap, subst, ◌∙◌, arith, inl, inr, length, count_by, cases_eq, cases_lt, eq-eqb, ne_eqb, get_or_past, Who, Plan, AccountMaps, Counts, Recounts, count_of, IsOnce, is_stored, without_stored, MayRelease, Store, count_without, is_stored-without, once_without, words_zero, AreZero, VtocEntry, ActiveSegs, IsActive, Home, Left, Released, Kept, Plain, plain, KeepsCounts, taken, taken_after, after_evict, ChangesStored, KeepsWords, is_filed_at, is_kept, words_at, has_record, map_at, uid_at, Links, word_of, table_left, IsKept, IsSettled, page_left, AreHoused, IsStore, Shows, Storage, home_of, is_filed, is_there, named_at, pages_in, picture}
+use Rattle.storage_ops.proofs.Dropped.{recount_here, recount_homes, recount_other, recount_there, same_entries, same_sizes}
 use Rattle.storage_ops.proofs.Entries.{map_put, put_other, put_uid}
 use Rattle.storage_ops.proofs.PageFacts.{filed_word, page_counted}
 use Rattle.storage_ops.proofs.PageMoves.{named_less, records_less, store_recounted, weight}

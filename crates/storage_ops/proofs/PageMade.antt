@@ -1,32 +1,5 @@
 -- A page of a segment is made, with one word in it, and is stored from then on.
-use Rattle.std.proofs.Common.{◌≡◌, ℕ, ◌+◌, ◌<◌, ◌/◌, ◌%◌, Bool, true, false, cond, eqb, ◌&&◌, ◌||◌}
-use Rattle.std.proofs.Common.{List, Option, Some, get_or, refl, replicate, set, sym, ap, subst}
-use Rattle.std.proofs.Common.{◌∙◌, arith, inl, inr}
-use Rattle.std.specs.Prelude.{count_by}
-use Rattle.std.proofs.lemmas.Bool.{cases_eq, eq-eqb, ne_eqb}
-use Rattle.std.proofs.lemmas.List.{length-replicate}
-use Rattle.mnames.specs.declared.principals.Who.{Who}
-use Rattle.script.specs.Plans.{Plan}
-use Rattle.accounts.specs.Maps.{AccountMaps, Counts, Recounts, count_of}
-use Rattle.flat_model.specs.Pages.{is_page, is_stored, with_stored}
-use Rattle.flat_model.specs.Store.{Store}
-use Rattle.flat_model.proofs.CountLaws.{count_with}
-use Rattle.flat_model.proofs.PageLaws.{is_stored-with, once_with}
-use Rattle.vtoc.specs.Vtoc.{Entry as VtocEntry}
-use Rattle.active_segs.specs.Active.{ActiveSegs, IsActive}
-use Rattle.page_table.specs.declared.Ptw.TheVariants.{Here, Null}
-use Rattle.page_control.specs.declared.Home.{Home}
-use Rattle.page_control.specs.Plain.{Plain, plain}
-use Rattle.page_control.specs.Counts.{KeepsCounts, one_more, taken}
-use Rattle.page_control.specs.Effects.{created, next_record}
-use Rattle.page_control.specs.Picture.{ChangesStored, ChangesWords, is_filed_at, words_at}
-use Rattle.page_control.specs.Tied.{has_record, map_at, uid_at}
-use Rattle.seg_control.specs.Control.{Links, word_of}
-use Rattle.seg_control.specs.Effects.{worded}
-use Rattle.seg_control.specs.Kept.{IsKept}
-use Rattle.storage_ops.specs.Paged.{page_made}
-use Rattle.storage_ops.specs.Shown.{AreHoused, IsStore, Shows, Storage, home_of, is_filed, is_there, named_at, pages_in}
-use Rattle.storage_ops.specs.Shown.{picture}
+use Rattle.storage_ops.proofs.Prelude.{◌≡◌, ℕ, ◌+◌, ◌<◌, ◌/◌, ◌%◌, Bool, true, false, cond, eqb, ◌&&◌, ◌||◌, List, Option, Some, get_or, refl, replicate, set, sym, ap, subst, ◌∙◌, arith, inl, inr, count_by, cases_eq, eq-eqb, ne_eqb, length-replicate, Who, Plan, AccountMaps, Counts, Recounts, count_of, is_page, is_stored, with_stored, Store, count_with, is_stored-with, once_with, VtocEntry, ActiveSegs, IsActive, Here, Null, Home, Plain, plain, KeepsCounts, one_more, taken, created, next_record, ChangesStored, ChangesWords, is_filed_at, words_at, has_record, map_at, uid_at, Links, word_of, worded, IsKept, page_made, AreHoused, IsStore, Shows, Storage, home_of, is_filed, is_there, named_at, pages_in, picture, eqb_turned}
 use Rattle.storage_ops.proofs.Dropped.{recount_here, recount_other, same_entries, same_sizes}
 use Rattle.storage_ops.proofs.Entries.{map_put, put_other, put_uid}
 use Rattle.storage_ops.proofs.PageFacts.{filed_word}
@@ -35,7 +8,6 @@ use Rattle.storage_ops.proofs.Paged.{active_home, active_there, picture_none, pi
 use Rattle.storage_ops.proofs.Lengths.{filed_there}
 use Rattle.storage_ops.proofs.PageLeft.{filed_changed, filed_recounted, picture_recounted}
 use Rattle.storage_ops.proofs.PageWords.{IsPageChanged, words_told}
-use Rattle.laws.proofs.Numbers.{eqb_turned}
 
 -- ---- what is stored
 

@@ -1,28 +1,6 @@
 -- A page of a segment is stored, or is stored no more.
-use Rattle.std.proofs.Common.{◌≡◌, ◌≢◌, ℕ, ◌+◌, ◌-◌, ◌<◌, ◌≤◌, Bool, true, false, cond, eqb}
-use Rattle.std.proofs.Common.{List, [], ◌∷◌, length, Option, Some, None, get_or, is_some, refl, sym}
-use Rattle.std.proofs.Common.{ap, subst, ◌∙◌, arith, inl, inr}
-use Rattle.std.specs.Prelude.{count_by}
-use Rattle.std.proofs.lemmas.Bool.{cases_eq, eqb-true, ne_eqb}
-use Rattle.std.proofs.lemmas.Bool.Decides.{nat_tests}
-use Rattle.std.proofs.lemmas.List.{length-set}
-use Rattle.std.proofs.lemmas.List.Sums.{sum_by-cons, sum_by-set}
-use Rattle.mnames.specs.declared.principals.Who.{Who}
-use Rattle.accounts.specs.Maps.{AccountMaps, Counts, Recounts, count_of}
-use Rattle.tree_model.specs.Tree.{Node, entries_on, has_directory, taken_on, volume_in}
-use Rattle.vtoc.specs.Vtoc.{Entry as VtocEntry}
-use Rattle.active_segs.specs.declared.Entry.{Entry}
-use Rattle.active_segs.specs.Active.{ActiveSegs}
-use Rattle.page_control.specs.declared.Home.{Home}
-use Rattle.page_control.specs.Plain.{Plain}
-use Rattle.page_control.specs.Counts.{KeepsCounts, entries, one_less, one_more, taken}
-use Rattle.page_control.specs.Picture.{is_filed_at}
-use Rattle.page_control.specs.Tied.{map_at, uid_at}
-use Rattle.seg_control.specs.Control.{Links}
-use Rattle.storage_ops.specs.Shown.{AreCounted, AreHoused, AreInTree, HaveRights, IsStore, home_of, is_there}
-use Rattle.storage_ops.specs.Shown.{named_at, pages_in}
-use Rattle.storage_ops.proofs.Dropped.{recount_here, recount_homes, recount_other, recount_there, same_sizes}
-use Rattle.storage_ops.proofs.Dropped.{same_used}
+use Rattle.storage_ops.proofs.Prelude.{◌≡◌, ◌≢◌, ℕ, ◌+◌, ◌-◌, ◌<◌, ◌≤◌, Bool, true, false, cond, eqb, List, [], ◌∷◌, length, Option, Some, None, get_or, is_some, refl, sym, ap, subst, ◌∙◌, arith, inl, inr, count_by, cases_eq, eqb-true, ne_eqb, nat_tests, length-set, sum_by-cons, sum_by-set, Who, AccountMaps, Counts, Recounts, count_of, Node, entries_on, has_directory, taken_on, volume_in, VtocEntry, Entry, ActiveSegs, Home, Plain, KeepsCounts, entries, one_less, one_more, taken, is_filed_at, map_at, uid_at, Links, AreCounted, AreHoused, AreInTree, HaveRights, IsStore, home_of, is_there, named_at, pages_in}
+use Rattle.storage_ops.proofs.Dropped.{recount_here, recount_homes, recount_other, recount_there, same_sizes, same_used}
 use Rattle.storage_ops.proofs.Entries.{map_put, put_here}
 use Rattle.storage_ops.proofs.Homes.{filed_map}
 use Rattle.storage_ops.proofs.PageFacts.{within_some}

@@ -1,26 +1,7 @@
 -- Whether there is room for a page more of a segment: quota of its account, and a record of its volume.
-use Rattle.std.proofs.Common.{◌≡◌, ◌≢◌, ℕ, suc, ◌+◌, ◌*◌, ◌/◌, ◌%◌, Bool, true, false, cond, eqb, ◌&&◌, List, []}
-use Rattle.std.proofs.Common.{◌∷◌, All, OnOk, length, Some, Result, Ok, Err, is_err, refl, sym, ap, ◌∙◌, arith}
-use Rattle.std.specs.Prelude.{count_by, is_none}
-use Rattle.std.proofs.lemmas.Bool.{ne_eqb}
-use Rattle.std.proofs.lemmas.List.Sums.{sum_by-cons}
-use Rattle.script.specs.Plans.{Plan}
+use Rattle.storage_ops.proofs.Prelude.{◌≡◌, ◌≢◌, ℕ, suc, ◌+◌, ◌*◌, ◌/◌, ◌%◌, Bool, true, false, cond, eqb, ◌&&◌, List, [], ◌∷◌, All, OnOk, length, Some, Result, Ok, Err, is_err, refl, sym, ap, ◌∙◌, arith, count_by, is_none, ne_eqb, sum_by-cons, Plan, AccountMaps, Counts, Full, charge_answer, Node, account_of, taken_on, with_stored, with_word, after_reference, is_out_of_room, is_used_up, is_volume_full, room_reply, written_by, room_for, Store, known_uid, plain, is_full, size, done_or, page_made, is_spent, IsStore, Shows, ShowsTree, Storage}
 use Rattle.script.specs.declared.commands.RefKind.TheVariants as kind
 use Rattle.book.specs.declared.replies.Reply.TheVariants as reply
-use Rattle.accounts.specs.Maps.{AccountMaps, Counts}
-use Rattle.quota_cells.specs.declared.Full.{Full}
-use Rattle.quota_cells.specs.Scratch.{charge_answer}
-use Rattle.tree_model.specs.Tree.{Node, account_of, taken_on}
-use Rattle.flat_model.specs.Pages.{with_stored, with_word}
-use Rattle.flat_model.specs.References.{after_reference, is_out_of_room, is_used_up, is_volume_full, room_reply}
-use Rattle.flat_model.specs.References.{written_by}
-use Rattle.flat_model.specs.Rooms.{room_for}
-use Rattle.flat_model.specs.Store.{Store, known_uid}
-use Rattle.page_control.specs.Plain.{plain}
-use Rattle.page_control.specs.Counts.{is_full, size}
-use Rattle.storage_ops.specs.Paged.{done_or, page_made}
-use Rattle.storage_ops.specs.References.{is_spent}
-use Rattle.storage_ops.specs.Shown.{IsStore, Shows, ShowsTree, Storage}
 
 pub on_ok : {E P : Type 0} (r : Result (Unit {0}) E) → false ≡ is_err r → OnOk r P → P
 on_ok (Ok x) e p = p

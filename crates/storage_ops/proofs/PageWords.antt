@@ -1,31 +1,6 @@
 -- One word of a page in a frame is written.
-use Rattle.std.proofs.Common.{◌≡◌, ◌≢◌, ℕ, ◌+◌, ◌*◌, ◌<◌, ◌/◌, ◌%◌, Bool, true, false, cond, eqb, ◌&&◌, List, []}
-use Rattle.std.proofs.Common.{length, get_or, set, replicate, Some, refl, sym, ap, subst, ◌∙◌, arith, inl, inr}
-use Rattle.std.proofs.lemmas.Bool.{cases_eq, ne_eqb, eq-eqb}
-use Rattle.std.proofs.lemmas.Bool.Decides.{nat_tests}
-use Rattle.std.proofs.lemmas.List.{get_or-set_other, get_or-set_same}
-use Rattle.std.proofs.lemmas.Option.{same_Some}
-use Rattle.std.proofs.Math.ListN.{get_or-map}
-use Rattle.script.specs.Plans.{Plan}
-use Rattle.accounts.specs.Maps.{AccountMaps}
-use Rattle.flat_model.specs.Pages.{is_stored, with_stored, with_word}
-use Rattle.flat_model.specs.References.{written}
-use Rattle.flat_model.specs.Store.{Store}
-use Rattle.flat_model.proofs.PageLaws.{with_old}
-use Rattle.core_map.specs.declared.Frame.{Frame}
-use Rattle.core_map.specs.declared.Frame.TheVariants.{Free, Started, Bound}
-use Rattle.core_map.specs.CoreMap.{bound_page, frame_at, is_bound}
-use Rattle.mnames.specs.declared.principals.Who.{Who}
-use Rattle.page_table.specs.PageTable.{ptw_at}
-use Rattle.active_segs.specs.Active.{ActiveSegs, IsActive, table_at}
-use Rattle.page_control.specs.declared.Home.{Home}
-use Rattle.page_control.specs.Plain.{Plain, binding_at, bindings, number_in, plain, words_in}
-use Rattle.page_control.specs.Picture.{changed_at, changed_page, words_at}
-use Rattle.page_control.specs.Tied.{IsTableOf, frame_of, uid_in}
-use Rattle.seg_control.specs.Control.{Links, word_of}
-use Rattle.seg_control.specs.Kept.{IsKept}
-use Rattle.volumes.specs.Volumes.{Vols}
-use Rattle.storage_ops.specs.Shown.{IsStore, Shows, ShowsTree, Storage, home_of, is_filed, is_there, picture}
+use Rattle.storage_ops.proofs.Prelude.{◌≡◌, ◌≢◌, ℕ, ◌+◌, ◌*◌, ◌<◌, ◌/◌, ◌%◌, Bool, true, false, cond, eqb, ◌&&◌, List, [], length, get_or, set, replicate, Some, refl, sym, ap, subst, ◌∙◌, arith, inl, inr, cases_eq, ne_eqb, eq-eqb, nat_tests, get_or-set_other, get_or-set_same, same_Some, get_or-map, Plan, AccountMaps, is_stored, with_stored, with_word, written, Store, with_old, Frame, Free, Started, Bound, bound_page, frame_at, is_bound, Who, ptw_at, ActiveSegs, IsActive, table_at, Home, Plain, binding_at, bindings, number_in, plain, words_in, changed_at, changed_page, words_at, IsTableOf, frame_of, Links, word_of, IsKept, Vols, IsStore, Shows, ShowsTree, Storage, home_of, is_filed, is_there, picture}
+use Rattle.page_control.specs.Tied.{uid_in}
 use Rattle.storage_ops.proofs.Paged.{active_tie, picture_there, word_filed, framed_recorded}
 use Rattle.storage_ops.proofs.PagesLess.{words_bound}
 

@@ -1,35 +1,7 @@
 -- An active segment: its home, its page table, and which of its pages are stored.
-use Rattle.std.proofs.Common.{◌≡◌, ◌≢◌, ℕ, zero, suc, ◌/◌, ◌%◌, ◌<◌, ◌≤◌, Bool, true, false, cond, ◌&&◌, ◌↔◌, List, []}
-use Rattle.std.proofs.Common.{eqb}
-use Rattle.std.proofs.Common.{◌∷◌, get_or, Option}
-use Rattle.std.proofs.Common.{Some, None, replicate, refl, sym, ap, ◌∙◌, arith, inl, inr}
-use Rattle.std.specs.List.{position_or_len}
-use Rattle.std.proofs.lemmas.Bool.{cases_Bool, eqb-true}
-use Rattle.std.proofs.lemmas.Bool.Decides.{nat_tests}
-use Rattle.std.proofs.lemmas.Grind.{common_steps}
-use Rattle.std.proofs.lemmas.Option.{same_Some}
-use Rattle.mnames.specs.declared.principals.Who.{Who}
-use Rattle.script.specs.Plans.{Plan}
-use Rattle.accounts.specs.Maps.{AccountMaps}
-use Rattle.flat_model.specs.Store.{Store}
-use Rattle.flat_model.proofs.DropLaws.{IsBlank}
-use Rattle.vtoc.specs.Vtoc.{Entry as VtocEntry}
-use Rattle.active_segs.specs.declared.Entry.{Entry}
-use Rattle.active_segs.specs.Active.{ActiveSegs, IsActive, uid_at as uid_in_place, uid_in}
-use Rattle.page_table.specs.declared.Ptw.{Ptw}
-use Rattle.page_table.specs.declared.Ptw.TheVariants.{Here, Leaving, Null, Out}
-use Rattle.page_control.specs.declared.Home.{Home}
-use Rattle.page_control.specs.Plain.{Plain, binding_at, bindings, plain}
-use Rattle.page_control.specs.Tied.{frame_of, has_record}
-use Rattle.page_control.specs.Ties.{IsTied}
-use Rattle.page_control.specs.Picture.{is_filed_at, words_at}
-use Rattle.seg_control.specs.Control.{Links, is_for, place_of, table_of, word_of}
-use Rattle.seg_control.specs.Kept.{IsHomeOf, IsKept}
-use Rattle.storage_ops.specs.Shown.{IsStore, Shows, Storage, home_of, is_filed, is_there, pages_in, picture}
+use Rattle.storage_ops.proofs.Prelude.{◌≡◌, ◌≢◌, ℕ, zero, suc, ◌/◌, ◌%◌, ◌<◌, ◌≤◌, Bool, true, false, cond, ◌&&◌, ◌↔◌, List, [], eqb, ◌∷◌, get_or, Option, Some, None, replicate, refl, sym, ap, ◌∙◌, arith, inl, inr, position_or_len, cases_Bool, eqb-true, nat_tests, common_steps, same_Some, Who, Plan, AccountMaps, Store, IsBlank, VtocEntry, Entry, ActiveSegs, IsActive, uid_in_place, uid_in, Ptw, Here, Leaving, Null, Out, Home, Plain, binding_at, bindings, plain, frame_of, has_record, IsTied, is_filed_at, words_at, Links, is_for, place_of, table_of, word_of, IsHomeOf, IsKept, IsStore, Shows, Storage, home_of, is_filed, is_there, pages_in, picture, all_same, passed_there}
 use Rattle.storage_ops.proofs.Homes.{filed_map, words_none}
 use Rattle.storage_ops.proofs.Lengths.{filed_there}
-use Rattle.laws.proofs.Lists.{all_same}
-use Rattle.laws.proofs.Options.{passed_there}
 
 not_for : (u : ℕ) (e : Option Entry) → is_for u e ≡ false → uid_in e ≢ Some u
 not_for u None h is = cc

@@ -1,62 +1,12 @@
 -- What is shown once a page is stored no more, and once one is cut.
-use Rattle.std.proofs.Common.{◌≡◌, ℕ, zero, suc, ◌+◌, ◌-◌, ◌*◌, ◌/◌, ◌%◌, ◌<◌, ◌≤◌, Bool, true, false, cond, eqb}
-use Rattle.std.proofs.Common.{not}
-use Rattle.std.proofs.Common.{◌&&◌, ◌++◌, ◌↔◌, IsTrue, List, [], ◌∷◌, get_or, length, take, Option, Some, None}
-use Rattle.std.proofs.Common.{is_some}
-use Rattle.std.proofs.Common.{All, replicate, set, refl, sym, ap, subst, ◌∙◌, arith, inl, inr}
-use Rattle.std.specs.Prelude.{count_by, nat_le, position}
-use Rattle.std.specs.List.{position_or_len}
-use Rattle.std.proofs.lemmas.Bool.{cases_Bool, cases_lt, eq-eqb, eqb-true}
-use Rattle.std.proofs.lemmas.Grind.{common_steps}
-use Rattle.std.proofs.lemmas.List.{get_or-replicate, get_or_past, length-append, length-replicate, length-take}
-use Rattle.std.proofs.lemmas.List.Sums.{fails_before_first}
-use Rattle.std.proofs.lemmas.Option.{same_Some}
-use Rattle.std.proofs.Math.ListN.{get_or-map}
-use Rattle.mword.specs.Words.{AreZero}
-use Rattle.script.specs.Plans.{Plan}
-use Rattle.mnames.specs.declared.principals.Who.{Who}
-use Rattle.accounts.specs.Maps.{AccountMaps, Recounts, count_of}
-use Rattle.tree_model.specs.Tree.{has_directory}
-use Rattle.tree_model.specs.Trees.{has_segment}
-use Rattle.flat_model.specs.Cuts.{cleared, has_cleared, without_pages}
-use Rattle.flat_model.specs.Pages.{is_stored, is_zero_page}
-use Rattle.flat_model.specs.Store.{Store}
-use Rattle.flat_model.proofs.CountLaws.{counted_less}
-use Rattle.flat_model.proofs.CutLaws.{get_cut, zero_words_told}
-use Rattle.flat_model.proofs.PageLaws.{is_stored-without, once_without}
-use Rattle.core_map.specs.CoreMap.{Core, bound_page, frame_at, is_bound, reads_of}
-use Rattle.core_map.specs.declared.Frame.{Frame}
-use Rattle.core_map.specs.declared.Frame.TheVariants.{Bound, Free, Started}
-use Rattle.vtoc.specs.Vtoc.{Entry as VtocEntry, record_at}
-use Rattle.page_control.specs.declared.Home.{Home}
-use Rattle.active_segs.specs.Active.{ActiveSegs, IsActive, table_at}
-use Rattle.page_control.specs.Counts.{KeepsCounts, entries, one_less, size, taken}
-use Rattle.page_control.specs.Effects.{cut, dropped, unstored}
-use Rattle.volumes.specs.Volumes.{Vols}
-use Rattle.page_control.specs.Picture.{ChangesStored, ChangesWords, changed_at, changed_page, is_binding, is_filed_at}
-use Rattle.page_control.specs.Picture.{words_at, words_held, words_of_page}
-use Rattle.page_control.specs.Plain.{Plain, binding_at, bindings, number_in, plain, words_in}
-use Rattle.page_control.specs.Tied.{IsTableOf, frame_of, has_record, is_away, is_out, map_at, uid_at, uid_in, vtoc_in}
-use Rattle.page_table.specs.declared.Ptw.{Ptw}
-use Rattle.page_table.specs.declared.Ptw.TheVariants.{Here, Leaving, Null, Out}
-use Rattle.seg_control.specs.Control.{Links, table_of, word_of}
-use Rattle.seg_control.specs.Effects.{worded}
-use Rattle.seg_control.specs.Kept.{IsHomeOf, IsKept}
-use Rattle.storage_ops.specs.Cut.{Unstores, is_here, leaves}
-use Rattle.storage_ops.specs.Shown.{AreHoused, IsStore, ShowsPages, ShowsTree, Shows, Storage, home_of, is_filed}
-use Rattle.storage_ops.specs.Shown.{is_there}
-use Rattle.storage_ops.specs.Shown.{named_at, pages_in, picture}
+use Rattle.storage_ops.proofs.Prelude.{◌≡◌, ℕ, zero, suc, ◌+◌, ◌-◌, ◌*◌, ◌/◌, ◌%◌, ◌<◌, ◌≤◌, Bool, true, false, cond, eqb, not, ◌&&◌, ◌++◌, ◌↔◌, IsTrue, List, [], ◌∷◌, get_or, length, take, Option, Some, None, is_some, All, replicate, set, refl, sym, ap, subst, ◌∙◌, arith, inl, inr, count_by, nat_le, position, position_or_len, cases_Bool, cases_lt, eq-eqb, eqb-true, common_steps, get_or-replicate, get_or_past, length-append, length-replicate, length-take, fails_before_first, same_Some, get_or-map, AreZero, Plan, Who, AccountMaps, Recounts, count_of, has_directory, has_segment, cleared, has_cleared, without_pages, is_stored, is_zero_page, Store, counted_less, get_cut, zero_words_told, is_stored-without, once_without, Core, bound_page, frame_at, is_bound, reads_of, Frame, Bound, Free, Started, VtocEntry, record_at, Home, ActiveSegs, IsActive, table_at, KeepsCounts, entries, one_less, size, taken, cut, dropped, unstored, Vols, ChangesStored, ChangesWords, changed_at, changed_page, is_binding, is_filed_at, words_at, words_held, words_of_page, Plain, binding_at, bindings, number_in, plain, words_in, IsTableOf, frame_of, has_record, is_away, is_out, map_at, uid_at, vtoc_in, Ptw, Here, Leaving, Null, Out, Links, table_of, word_of, worded, IsHomeOf, IsKept, Unstores, is_here, leaves, AreHoused, IsStore, ShowsPages, ShowsTree, Shows, Storage, home_of, is_filed, is_there, named_at, pages_in, picture, all_same, page_is}
+use Rattle.page_control.specs.Tied.{uid_in}
 use Rattle.storage_ops.proofs.Entries.{one_named}
-use Rattle.storage_ops.proofs.Dropped.{HasDropped, dropped_vtocs, recount_homes, recount_there, same_entries}
-use Rattle.storage_ops.proofs.Dropped.{same_sizes}
+use Rattle.storage_ops.proofs.Dropped.{HasDropped, dropped_vtocs, recount_homes, recount_there, same_entries, same_sizes}
 use Rattle.storage_ops.proofs.Homes.{bound_of, filed_map}
 use Rattle.storage_ops.proofs.Lengths.{filed_there}
-use Rattle.storage_ops.proofs.Paged.{active_home, active_there, active_tie, filed_absent, picture_absent, picture_there}
-use Rattle.storage_ops.proofs.Paged.{word_filed}
-use Rattle.storage_ops.proofs.Unstored.{bound_dropped, bound_none, none_bound, word_within, worded_here}
-use Rattle.storage_ops.proofs.Unstored.{unstores_still, worded_other, worded_table}
-use Rattle.laws.proofs.Lists.{all_same}
-use Rattle.laws.proofs.Options.{page_is}
+use Rattle.storage_ops.proofs.Paged.{active_home, active_there, active_tie, filed_absent, picture_absent, picture_there, word_filed}
+use Rattle.storage_ops.proofs.Unstored.{bound_dropped, bound_none, none_bound, word_within, worded_here, unstores_still, worded_other, worded_table}
 use Rattle.storage_ops.proofs.PageFacts.{segment_of}
 
 -- ---- a page is stored no more

@@ -1,12 +1,5 @@
 -- A path that can't be followed refuses a command.
-use Rattle.std.proofs.Common.{◌≡◌, ℕ, Bool, true, false, cond, List, [], ◌∷◌, Option, Some, None, refl, sym, ap, ◌∙◌}
-use Rattle.std.specs.Prelude.{Result, Ok, Err}
-use Rattle.book.specs.declared.replies.Reply.{Reply}
-use Rattle.book.specs.declared.replies.Reply.TheVariants as reply
-use Rattle.tree_model.specs.Tree.{Node, Walk, LeadsTo, Missing, InSegment, node_in, walk_in}
-use Rattle.flat_model.specs.Branches.{branch_at, node_at, only_segment, segment_at, there_or, walked}
-use Rattle.storage_ops.specs.Shown.{is_refusal, refusal}
-use Rattle.flat_model.proofs.PathRefusals.{branch_says, segment_says}
+use Rattle.storage_ops.proofs.Prelude.{◌≡◌, ℕ, Bool, true, false, cond, List, Option, Some, None, refl, Err, Reply, Node, branch_at, segment_at, is_refusal, refusal, branch_says, segment_says}
 
 pub segment_refuses : (ns : List Node) (path : List (List ℕ)) (e : Reply) → segment_at ns path ≡ Err e
     → is_refusal e ≡ true

@@ -1,36 +1,8 @@
 -- What refuses a reference, by the tables and by the flat store that they show.
-use Rattle.std.proofs.Common.{◌≡◌, ℕ, ◌*◌, ◌<◌, ◌/◌, Bool, true, false, cond, eqb, not, ◌&&◌, List, [], Option, Some}
-use Rattle.std.proofs.Common.{None, Result, Ok, Err, get_or, is_some, map, refl, sym, ap, subst, ◌∙◌, arith, inl, inr}
-use Rattle.std.specs.Prelude.{is_none, nat_le}
-use Rattle.std.proofs.lemmas.Bool.{cases_Bool}
-use Rattle.std.proofs.lemmas.Bool.Decides.{nat_tests}
-use Rattle.std.proofs.Math.ListN.{get_or-map}
-use Rattle.mnames.specs.declared.principals.Who.{Who}
-use Rattle.script.specs.Plans.{Plan, ProcessPlan, nobody, who_of}
-use Rattle.script.specs.declared.commands.RefKind.{RefKind}
+use Rattle.storage_ops.proofs.Prelude.{◌≡◌, ℕ, ◌*◌, ◌<◌, ◌/◌, Bool, true, false, cond, eqb, not, ◌&&◌, List, [], Option, Some, None, Result, Ok, Err, get_or, is_some, map, refl, sym, ap, subst, ◌∙◌, arith, inl, inr, is_none, nat_le, cases_Bool, nat_tests, get_or-map, Who, Plan, ProcessPlan, nobody, who_of, RefKind, Reference, Reply, uid_of, access_of, Node, has_directory, node_in, has_segment, AccountMaps, HasParts, is_stored, new_word, permits, is_out_of_room, is_used_up, is_volume_full, reply_at, reply_of, reply_to_reference, stores_page, word_reply, Store, plain, IsKept, brings_word, is_of_room, is_outside, only, outside_by, outside_refusal, refusal_in, refused_by, room_by, room_in, room_refusal, target, target_at, has_no_room, is_spent, target_of, unless, want_of_room, room_of, AreCounted, IsStore, Shows, Storage, is_filed, pages_in, pages_of, refusal, who_at}
 use Rattle.script.specs.declared.commands.RefKind.TheVariants as kind
-use Rattle.script.specs.declared.commands.Reference.{Reference}
-use Rattle.book.specs.declared.replies.Reply.{Reply}
 use Rattle.book.specs.declared.replies.Reply.TheVariants as reply
-use Rattle.known_segs.specs.Known.{uid_of}
-use Rattle.tree_model.specs.Access.{access_of}
-use Rattle.tree_model.specs.Tree.{Node, has_directory, node_in}
-use Rattle.tree_model.specs.Trees.{has_segment}
-use Rattle.accounts.specs.Maps.{AccountMaps}
 use Rattle.vtoc.specs.Vtoc.{Entry}
-use Rattle.volumes.specs.Volumes.{HasParts}
-use Rattle.flat_model.specs.Pages.{is_stored}
-use Rattle.script.specs.References.{new_word, permits}
-use Rattle.flat_model.specs.References.{is_out_of_room, is_used_up, is_volume_full, reply_at, reply_of}
-use Rattle.flat_model.specs.References.{reply_to_reference, stores_page, word_reply}
-use Rattle.flat_model.specs.Store.{Store}
-use Rattle.page_control.specs.Plain.{plain}
-use Rattle.seg_control.specs.Kept.{IsKept}
-use Rattle.storage_ops.specs.References.{brings_word, is_of_room, is_outside, only, outside_by, outside_refusal}
-use Rattle.storage_ops.specs.References.{refusal_in, refused_by, room_by, room_in, room_refusal, target, target_at}
-use Rattle.storage_ops.specs.References.{is_out_of_room as has_no_room, is_spent, target_of, unless, want_of_room}
-use Rattle.storage_ops.specs.Rooms.{room_of}
-use Rattle.storage_ops.specs.Shown.{AreCounted, IsStore, Shows, Storage, is_filed, pages_in, pages_of, refusal, who_at}
 use Rattle.storage_ops.proofs.Held.{shown_held}
 use Rattle.storage_ops.proofs.PageFacts.{segment_of}
 use Rattle.storage_ops.proofs.PageRoom.{full_told}

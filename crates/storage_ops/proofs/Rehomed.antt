@@ -1,31 +1,11 @@
 -- A segment has another home, on another volume, with what was filed at its old one.
-use Rattle.std.proofs.Common.{◌≡◌, ◌≢◌, ℕ, ◌+◌, ◌<◌, ◌≤◌, ◌/◌, ◌%◌, Bool, true, false, cond, eqb, ◌&&◌, List, Option}
-use Rattle.std.proofs.Common.{Some, None, get_or, is_some, map, replicate, refl, sym, ap, subst, ◌∙◌, arith, inl, inr}
-use Rattle.std.specs.Prelude.{count_by}
-use Rattle.std.proofs.lemmas.Bool.{cases_eq, eq-eqb, ne_eqb}
-use Rattle.mnames.specs.declared.principals.Who.{Who}
-use Rattle.script.specs.Plans.{Plan}
-use Rattle.accounts.specs.Maps.{AccountMaps, Counts, Rehomes, entry_of}
-use Rattle.tree_model.specs.Tree.{Node, entries_on, has_directory, node_in, pool_for, pool_of, taken_on, volume_in}
-use Rattle.tree_model.specs.Trees.{IsTree}
+use Rattle.storage_ops.proofs.Prelude.{◌≡◌, ◌≢◌, ℕ, ◌+◌, ◌<◌, ◌≤◌, ◌/◌, ◌%◌, Bool, true, false, cond, eqb, ◌&&◌, List, Option, Some, None, get_or, is_some, map, replicate, refl, sym, ap, subst, ◌∙◌, arith, inl, inr, count_by, cases_eq, eq-eqb, ne_eqb, Who, Plan, AccountMaps, Counts, Rehomes, entry_of, Node, entries_on, has_directory, node_in, pool_for, pool_of, taken_on, volume_in, IsTree, Store, volume_found, ActiveSegs, Home, Plain, plain, map_at, uid_at, entries, named_on, size, taken, used, is_filed_at, words_at, Links, AreCounted, AreHoused, AreTaken, IsStore, Shows, Storage, home_of, is_filed, is_there, named_at, pages_in, pages_of, picture}
 use Rattle.flat_model.specs.Moves.{moved}
-use Rattle.flat_model.specs.Store.{Store}
-use Rattle.flat_model.proofs.NodeLaws.{volume_found}
-use Rattle.active_segs.specs.Active.{ActiveSegs}
-use Rattle.page_control.specs.declared.Home.{Home}
-use Rattle.page_control.specs.Plain.{Plain, plain}
-use Rattle.page_control.specs.Tied.{map_at, uid_at}
-use Rattle.page_control.specs.Counts.{entries, named_on, size, taken, used}
-use Rattle.page_control.specs.Picture.{is_filed_at, words_at}
-use Rattle.seg_control.specs.Control.{Links}
-use Rattle.storage_ops.specs.Shown.{AreCounted, AreHoused, AreTaken, IsStore, Shows, Storage, home_of, is_filed}
-use Rattle.storage_ops.specs.Shown.{is_there, named_at, pages_in, pages_of, picture}
 use Rattle.storage_ops.proofs.Alike.{active_alike, map_node, node_map, rights_alike, there_map}
 use Rattle.storage_ops.proofs.Homes.{filed_map, home_cases}
 use Rattle.storage_ops.proofs.NodeLaws.{found_there}
 use Rattle.storage_ops.proofs.Still.{tree_still}
-use Rattle.storage_ops.proofs.VolumeMoved.{directory_on, entries_moved, on_volume, pages_on, rows_on, superior_on}
-use Rattle.storage_ops.proofs.VolumeMoved.{kind_on, taken_moved, uid_on, volume_else, volume_here}
+use Rattle.storage_ops.proofs.VolumeMoved.{directory_on, entries_moved, on_volume, pages_on, rows_on, superior_on, kind_on, taken_moved, uid_on, volume_else, volume_here}
 
 -- A segment has this home in place of the one `from`: what its old file map named is named there, and the records and
 -- entries in use go with it. All other homes are as before, and so are the sizes of the volumes.

@@ -1,50 +1,5 @@
 -- A node is taken out, with its home and its pages.
-use Rattle.std.proofs.Common.{◌≡◌, ◌≢◌, ℕ, zero, suc, ◌+◌, ◌-◌, ◌/◌, ◌%◌, ◌<◌, ◌≤◌, Bool, true, false, cond, eqb, not}
-use Rattle.std.proofs.Common.{◌&&◌, ◌||◌}
-use Rattle.std.proofs.Common.{List, [], ◌∷◌, get_or, length, set, Option, Some, None, is_some}
-use Rattle.std.proofs.Common.{refl, sym, ap}
-use Rattle.std.proofs.Common.{All, subst, ◌∙◌, arith, inl, inr}
-use Rattle.std.specs.Prelude.{count_by, nat_le}
-use Rattle.std.specs.List.{list_any}
-use Rattle.std.proofs.lemmas.Bool.{cases_Bool, cases_eq, cases_lt, eq-eqb, eqb-true, ne_eqb}
-use Rattle.std.proofs.lemmas.Bool.Decides.{nat_tests}
-use Rattle.std.proofs.lemmas.List.{get_or-set_other, get_or-set_same, get_or_past, length-set}
-use Rattle.std.proofs.lemmas.List.Sums.{sum_by-cons}
-use Rattle.std.proofs.Math.ListN.{get_or-map}
-use Rattle.mnames.specs.declared.principals.Who.{Who}
-use Rattle.script.specs.Plans.{Plan}
-use Rattle.accounts.specs.Maps.{AccountMaps, Loses, Recounts, count_of, entry_of}
-use Rattle.tree_model.specs.Tree.{Node, entries_on, has_directory, is_inferior, node_in, taken_on, volume_in}
-use Rattle.tree_model.specs.Tree.{without_node}
-use Rattle.tree_model.specs.Trees.{IsTree}
-use Rattle.flat_model.specs.Cuts.{without_branch, without_pages}
-use Rattle.flat_model.specs.Pages.{Words, is_stored, without_stored}
-use Rattle.flat_model.specs.Store.{Store}
-use Rattle.flat_model.proofs.DropLaws.{stored_fused}
-use Rattle.flat_model.proofs.NodeLaws.{volume_found}
-use Rattle.flat_model.proofs.PageLaws.{is_stored-without, once_without, without_first, without_none}
-use Rattle.flat_model.proofs.RemoveLaws.{directory_left, node_gone, taken_left, volume_left}
-use Rattle.flat_model.proofs.TreeLaws.{entries_less}
-use Rattle.core_map.specs.CoreMap.{Core, frame_at, started_page}
-use Rattle.core_map.specs.declared.Frame.TheVariants.{Free, Started}
-use Rattle.page_table.specs.declared.Ptw.TheVariants.{Null}
-use Rattle.page_table.specs.PageTable.{ptw_at}
-use Rattle.trailers.specs.Trailer.{leads_to, trailers_of}
-use Rattle.active_segs.specs.declared.Entry.{Entry}
-use Rattle.active_segs.specs.Active.{ActiveSegs, HasNoInferior, IsAway, IsOneToOne, entry_at as entry_in_place}
-use Rattle.active_segs.specs.Active.{superior_in}
-use Rattle.active_segs.specs.Active.{table_at, uid_at as uid_in_place, uid_in}
-use Rattle.page_control.specs.declared.Home.{Home}
-use Rattle.page_control.specs.Counts.{entries, named_on, one_less, size, taken, used}
-use Rattle.page_control.specs.Picture.{is_filed_at, words_at}
-use Rattle.page_control.specs.Effects.{erased, freed}
-use Rattle.page_control.specs.Plain.{Plain, file_map_of, flags_of, plain}
-use Rattle.page_control.specs.Tied.{IsNotStarted, map_at, uid_at}
-use Rattle.seg_control.specs.Control.{Links, leads_at, place_of, word_of}
-use Rattle.seg_control.specs.Kept.{AreExact, IsInactive, IsNotRead, times}
-use Rattle.storage_ops.specs.Shown.{AreCounted, AreHoused, AreInTree, AreTaken, IsCut, IsStore, Shows, Storage, home_of}
-use Rattle.storage_ops.specs.Shown.{is_filed}
-use Rattle.storage_ops.specs.Shown.{is_there, named_at, pages_in, pages_of, picture}
+use Rattle.storage_ops.proofs.Prelude.{◌≡◌, ◌≢◌, ℕ, zero, suc, ◌+◌, ◌-◌, ◌/◌, ◌%◌, ◌<◌, ◌≤◌, Bool, true, false, cond, eqb, not, ◌&&◌, ◌||◌, List, [], ◌∷◌, get_or, length, set, Option, Some, None, is_some, refl, sym, ap, All, subst, ◌∙◌, arith, inl, inr, count_by, nat_le, list_any, cases_Bool, cases_eq, cases_lt, eq-eqb, eqb-true, ne_eqb, nat_tests, get_or-set_other, get_or-set_same, get_or_past, length-set, sum_by-cons, get_or-map, Who, Plan, AccountMaps, Loses, Recounts, count_of, entry_of, Node, entries_on, has_directory, is_inferior, node_in, taken_on, volume_in, without_node, IsTree, without_branch, without_pages, Words, is_stored, without_stored, Store, stored_fused, volume_found, is_stored-without, once_without, without_first, without_none, directory_left, node_gone, taken_left, volume_left, entries_less, Core, frame_at, started_page, Free, Started, Null, ptw_at, leads_to, trailers_of, Entry, ActiveSegs, HasNoInferior, IsAway, IsOneToOne, entry_in_place, superior_in, table_at, uid_in_place, uid_in, Home, entries, named_on, one_less, size, taken, used, is_filed_at, words_at, erased, freed, Plain, file_map_of, flags_of, plain, IsNotStarted, map_at, uid_at, Links, leads_at, place_of, word_of, AreExact, IsInactive, IsNotRead, times, AreCounted, AreHoused, AreInTree, AreTaken, IsCut, IsStore, Shows, Storage, home_of, is_filed, is_there, named_at, pages_in, pages_of, picture, node_without, all_same, get_or_any}
 use Rattle.storage_ops.proofs.Dropped.{counts_more, recount_here, recount_homes, recount_other, taken_more, with_more}
 use Rattle.storage_ops.proofs.Homes.{filed_map, none_counted}
 use Rattle.storage_ops.proofs.Lengths.{filed_there}
@@ -52,8 +7,6 @@ use Rattle.storage_ops.proofs.Made.{length_inside}
 use Rattle.storage_ops.proofs.NodeLaws.{found_there}
 use Rattle.storage_ops.proofs.Unstored.{started_is}
 use Rattle.storage_ops.proofs.Paged.{active_place, filed_absent, picture_absent, picture_there}
-use Rattle.tree_model.proofs.SharedLaws.{node_without}
-use Rattle.laws.proofs.Lists.{all_same, get_or_any}
 
 -- a node is taken out whose pages are counted no more and whose home is free
 pub record HasRemoved (old now : Plain) (a mid b : AccountMaps) (u : ℕ) : Type 0 where

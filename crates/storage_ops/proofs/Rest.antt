@@ -1,23 +1,6 @@
 -- What tree commands leave as it is.
-use Rattle.std.proofs.lemmas.List.{get_or-set_other}
-use Rattle.std.proofs.lemmas.Bool.Decides.{nat_tests}
-use Rattle.std.proofs.lemmas.Bool.{cases_eq, ne_eqb}
-use Rattle.std.proofs.Common.{◌≢◌, ◌+◌, ◌*◌, ◌/◌, ◌%◌, ◌≤◌, nat_le, ◌||◌, [], set, arith, inl, inr}
-use Rattle.std.proofs.Common.{◌≡◌, ℕ, Bool, true, false, cond, eqb, ◌&&◌, List, Option, Some, None, refl, sym, ap}
-use Rattle.std.proofs.Common.{subst, ◌∙◌}
-use Rattle.accounts.specs.Maps.{AccountMaps}
-use Rattle.vtoc.specs.Vtoc.{Entry as VtocEntry}
-use Rattle.core_map.specs.CoreMap.{Core, reads_of}
-use Rattle.active_segs.specs.declared.Entry.{Entry}
-use Rattle.active_segs.specs.Active.{ActiveSegs, IsOneToOne, deactivated, entry_at, table_at, uid_at as uid_in_place}
-use Rattle.page_table.specs.declared.Ptw.{Ptw}
-use Rattle.page_control.specs.declared.Home.{Home}
-use Rattle.page_control.specs.Effects.{erased}
-use Rattle.page_control.specs.Plain.{Plain, binding_at, bindings, plain}
-use Rattle.seg_control.specs.Control.{Links}
-use Rattle.seg_control.specs.Kept.{IsInactive}
-use Rattle.storage_ops.specs.Cut.{CutsPages, KeepsRest, TakesOut, Unstores, unbound}
-use Rattle.storage_ops.specs.Shown.{Storage, with_known, with_vtocs}
+use Rattle.storage_ops.proofs.Prelude.{get_or-set_other, nat_tests, cases_eq, ne_eqb, ◌≢◌, ◌+◌, ◌*◌, ◌/◌, ◌%◌, ◌≤◌, nat_le, ◌||◌, [], set, arith, inl, inr, ◌≡◌, ℕ, Bool, true, false, cond, eqb, ◌&&◌, List, Option, Some, None, refl, sym, ap, subst, ◌∙◌, AccountMaps, VtocEntry, Core, reads_of, Entry, ActiveSegs, IsOneToOne, deactivated, table_at, uid_in_place, Ptw, Home, erased, Plain, binding_at, bindings, plain, Links, IsInactive, CutsPages, KeepsRest, TakesOut, Unstores, unbound, Storage, with_known, with_vtocs}
+use Rattle.active_segs.specs.Active.{entry_at}
 use Rattle.storage_ops.proofs.Less.{was_active}
 use Rattle.storage_ops.proofs.Removed.{inactive_now}
 use Rattle.storage_ops.proofs.Unstored.{unstores_both}

@@ -1,20 +1,5 @@
 -- The volume that has room in the tables is the one that has it in the flat store that is shown.
-use Rattle.std.proofs.Common.{◌≡◌, ◌⊎◌, ◌<◌, ◌≤◌, ℕ, zero, suc, Bool, true, false, cond, List, [], Some, None, refl, sym, ap}
-use Rattle.std.proofs.Common.{◌∙◌, arith, inl, inr, length, map, count_by}
-use Rattle.std.proofs.lemmas.Bool.{cases_Bool, cases_eq}
-use Rattle.std.proofs.lemmas.List.{get_or_past, length-map}
-use Rattle.std.proofs.lemmas.List.Sums.{count_by-le-length}
-use Rattle.script.specs.Plans.{Plan}
-use Rattle.tree_model.specs.Tree.{entries_on, taken_on, volume_in}
-use Rattle.accounts.specs.Maps.{count_of}
-use Rattle.flat_model.specs.Rooms.{has_room, room_for}
-use Rattle.flat_model.specs.Store.{Store, records_of}
-use Rattle.flat_model.proofs.RoomLaws.{first_is, first_none, room_is, room_none}
-use Rattle.page_control.specs.Counts.{is_full}
-use Rattle.page_control.specs.Plain.{plain}
-use Rattle.volumes.specs.Volumes.{HasParts, Vols}
-use Rattle.storage_ops.specs.Rooms.{first_roomy, is_roomy, move_target, room_of}
-use Rattle.storage_ops.specs.Shown.{IsStore, Shows, Storage}
+use Rattle.storage_ops.proofs.Prelude.{◌≡◌, ◌⊎◌, ◌<◌, ◌≤◌, ℕ, zero, suc, Bool, true, false, cond, List, [], Some, None, refl, sym, ap, ◌∙◌, arith, inl, inr, length, map, count_by, cases_Bool, cases_eq, get_or_past, length-map, count_by-le-length, Plan, entries_on, taken_on, volume_in, count_of, has_room, room_for, Store, records_of, first_is, first_none, room_is, room_none, is_full, plain, HasParts, Vols, first_roomy, is_roomy, move_target, room_of, IsStore, Shows, Storage}
 
 -- no volume has more records in use than it has
 pub few_used : (flags : List Bool) → count_by (λ flag. flag) flags ≤ length flags

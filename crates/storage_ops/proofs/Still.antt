@@ -1,27 +1,5 @@
 -- A store of which frames, marks or words of page tables alone have changed.
-use Rattle.std.proofs.Common.{◌≡◌, ℕ, ◌<◌, ◌/◌, ◌%◌, Bool, true, false, cond, List, Option, Result, Ok, Err, get_or}
-use Rattle.std.proofs.Common.{replicate, refl, sym}
-use Rattle.std.proofs.Common.{ap, subst, ◌∙◌, inl, inr}
-use Rattle.mnames.specs.declared.principals.Who.{Who}
-use Rattle.script.specs.Plans.{Plan}
-use Rattle.tree_model.specs.Tree.{Node}
-use Rattle.accounts.specs.Maps.{AccountMaps}
-use Rattle.flat_model.specs.Store.{Store}
-use Rattle.vtoc.specs.Vtoc.{Entry as VtocEntry}
-use Rattle.active_segs.specs.declared.Entry.{Entry}
-use Rattle.active_segs.specs.Active.{ActiveSegs}
-use Rattle.page_control.specs.declared.Home.{Home}
-use Rattle.page_control.specs.Plain.{Plain, plain}
-use Rattle.page_control.specs.Counts.{entries, size, taken, used}
-use Rattle.page_control.specs.Picture.{KeepsWords, words_at}
-use Rattle.seg_control.specs.Control.{Links}
-use Rattle.storage_ops.specs.Shown.{home_of, is_there}
-use Rattle.seg_control.specs.Effects.{table_here}
-use Rattle.seg_control.specs.Kept.{IsHomeFor}
-use Rattle.page_table.specs.declared.Ptw.{Ptw}
-use Rattle.volumes.specs.Volumes.{KeepsTables}
-use Rattle.storage_ops.specs.Shown.{AreCounted, AreHoused, AreInTree, HaveRights, IsStore, Shows, Storage, is_filed}
-use Rattle.storage_ops.specs.Shown.{picture}
+use Rattle.storage_ops.proofs.Prelude.{◌≡◌, ℕ, ◌<◌, ◌/◌, ◌%◌, Bool, true, false, cond, List, Option, Result, Ok, Err, get_or, replicate, refl, sym, ap, subst, ◌∙◌, inl, inr, Who, Plan, Node, AccountMaps, Store, VtocEntry, Entry, ActiveSegs, Home, Plain, plain, entries, size, taken, used, KeepsWords, words_at, Links, home_of, is_there, table_here, IsHomeFor, Ptw, KeepsTables, AreCounted, AreHoused, AreInTree, HaveRights, IsStore, Shows, Storage, is_filed, picture}
 
 -- the places and the pools of what is active are as before
 pub tree_still : (nodes : List Node) (ast next : ActiveSegs) → next.entries ≡ ast.entries → next.sizes ≡ ast.sizes

@@ -1,13 +1,6 @@
 -- Tables of tables: what stands at a volume and a place there, once one is changed.
-use Rattle.std.proofs.Common.{◌≤◌, ◌≡◌, ℕ, ◌<◌, List, [], length, map}
-use Rattle.std.proofs.Common.{Option, Some, None}
-use Rattle.std.proofs.Common.{sym, ap, ◌∙◌, arith, inl, inr}
-use Rattle.std.proofs.lemmas.Bool.{cases_lt}
-use Rattle.std.proofs.lemmas.List.{get_or_past, length-map}
-use Rattle.vtoc.specs.Vtoc.{Entry, entry_at, uid_of}
-use Rattle.volumes.specs.Volumes.{HasParts, Vols}
-use Rattle.page_control.specs.declared.Home.{Home}
-use Rattle.page_control.specs.Tied.{uid_at, vtoc_in}
+use Rattle.storage_ops.proofs.Prelude.{◌≤◌, ◌≡◌, ℕ, ◌<◌, List, [], length, map, Option, Some, None, sym, ap, ◌∙◌, arith, inl, inr, cases_lt, get_or_past, length-map, entry_at, HasParts, Vols, Home, uid_at, vtoc_in}
+use Rattle.vtoc.specs.Vtoc.{Entry, uid_of}
 
 -- a home that is used is on a volume that is there
 pub homed_volume : (vtocs : List (List (Option Entry))) (home : Home) (u : ℕ) → uid_at vtocs home ≡ Some u

@@ -1,37 +1,7 @@
 -- What stays where pages of an active segment are stored no more.
-use Rattle.std.proofs.Common.{◌≡◌, ◌≢◌, ℕ, ◌+◌, ◌/◌, ◌<◌, ◌≤◌, Bool, true, false, cond, eqb, ◌&&◌, ◌||◌, List, []}
-use Rattle.std.proofs.Common.{get_or, length, map}
-use Rattle.std.proofs.Common.{nat_le, nat_lt, set, Option, Some, None, refl, sym, ap, subst, ◌∙◌, arith, inl, inr}
-use Rattle.std.proofs.lemmas.Bool.{cases_eq, cases_lt, eq-eqb, eqb-true, ne_eqb, or_parts}
-use Rattle.std.proofs.lemmas.Bool.Decides.{nat_tests}
-use Rattle.std.proofs.lemmas.List.{get_or-set_other, get_or-set_same, get_or_past, length-set}
-use Rattle.std.proofs.Math.ListN.{get_or-map}
-use Rattle.core_map.specs.CoreMap.{Core, bound_page, frame_at, reads_of, started_page, with_frame}
-use Rattle.core_map.specs.declared.Frame.{Frame}
-use Rattle.core_map.specs.declared.Frame.TheVariants.{Bound, Free, Started}
-use Rattle.page_table.specs.declared.Ptw.{Ptw}
-use Rattle.page_table.specs.declared.Ptw.TheVariants.{Here, Leaving, Null, Out}
-use Rattle.page_table.specs.PageTable.{ptw_at}
-use Rattle.active_segs.specs.declared.Entry.{Entry}
-use Rattle.active_segs.specs.Active.{ActiveSegs, IsActive, table_at, uid_at as uid_in_place, uid_in}
-use Rattle.page_control.specs.Effects.{dropped}
-use Rattle.page_control.specs.declared.Home.{Home}
-use Rattle.page_control.specs.Plain.{Plain, binding_at, bindings}
-use Rattle.page_control.specs.Tied.{IsNotStarted, IsTableOf, frame_of, has_record, is_out}
-use Rattle.seg_control.specs.Control.{place_of, table_of, word_of}
-use Rattle.seg_control.specs.Effects.{worded}
-use Rattle.accounts.specs.Maps.{entry_of}
-use Rattle.quota_cells.specs.Accounts.{look}
-use Rattle.tree_model.specs.Tree.{Node, volume_in}
-use Rattle.flat_model.proofs.DropLaws.{between}
-use Rattle.storage_ops.specs.Shown.{Storage, home_of}
-use Rattle.storage_ops.specs.Cut.{IsTakenPast, Unstores, is_here, unbound}
+use Rattle.storage_ops.proofs.Prelude.{◌≡◌, ◌≢◌, ℕ, ◌+◌, ◌/◌, ◌<◌, ◌≤◌, Bool, true, false, cond, eqb, ◌&&◌, ◌||◌, List, [], get_or, length, map, nat_le, nat_lt, set, Option, Some, None, refl, sym, ap, subst, ◌∙◌, arith, inl, inr, cases_eq, cases_lt, eq-eqb, eqb-true, ne_eqb, or_parts, nat_tests, get_or-set_other, get_or-set_same, get_or_past, length-set, get_or-map, Core, bound_page, frame_at, reads_of, started_page, with_frame, Frame, Bound, Free, Started, Ptw, Here, Leaving, Null, Out, ptw_at, Entry, ActiveSegs, IsActive, table_at, uid_in_place, uid_in, dropped, Home, Plain, binding_at, bindings, IsNotStarted, IsTableOf, frame_of, has_record, is_out, place_of, table_of, word_of, worded, entry_of, look, Node, volume_in, between, Storage, home_of, IsTakenPast, Unstores, is_here, unbound, page_is, shown_within, within_from, off_and_on}
 use Rattle.storage_ops.proofs.Known.{set_told}
 use Rattle.storage_ops.proofs.Paged.{active_place}
-use Rattle.laws.proofs.Options.{page_is}
-use Rattle.laws.proofs.Places.{shown_within}
-use Rattle.laws.proofs.Lists.{within_from}
-use Rattle.laws.proofs.Bools.{off_and_on}
 
 -- ---- the words of a segment's page table
 

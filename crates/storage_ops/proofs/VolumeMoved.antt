@@ -1,14 +1,5 @@
 -- A node gets another volume: what is read of the nodes, and counted on each volume.
-use Rattle.std.proofs.Common.{◌≡◌, ◌≢◌, ℕ, ◌+◌, ◌<◌, Bool, true, false, cond, eqb, List, [], ◌∷◌, map, Option, Some}
-use Rattle.std.proofs.Common.{refl, sym, ap, subst, ◌∙◌, arith, inl, inr}
-use Rattle.std.specs.Prelude.{count_by}
-use Rattle.std.proofs.lemmas.Bool.{cases_Bool, cases_eq, eq-eqb, eqb-true, ne_eqb}
-use Rattle.std.proofs.lemmas.List.Sums.{sum_by-cons}
-use Rattle.tree_model.specs.Tree.{Node, entries_on, has_directory, node_in, taken_on, volume_in}
-use Rattle.tree_model.specs.Trees.{AreBelow, IsTree}
-use Rattle.flat_model.proofs.FieldLaws.{field_kept, field_mapped}
-use Rattle.storage_ops.specs.Shown.{is_there}
-use Rattle.tree_model.proofs.SharedLaws.{joined_below}
+use Rattle.storage_ops.proofs.Prelude.{◌≡◌, ◌≢◌, ℕ, ◌+◌, ◌<◌, Bool, true, false, cond, eqb, List, [], ◌∷◌, map, Option, Some, refl, sym, ap, subst, ◌∙◌, arith, inl, inr, count_by, cases_Bool, cases_eq, eq-eqb, eqb-true, ne_eqb, sum_by-cons, Node, entries_on, has_directory, node_in, taken_on, volume_in, AreBelow, IsTree, field_kept, field_mapped, is_there, joined_below}
 
 -- a node, on another volume where it has this uid
 abbrev pub on_volume : ℕ → ℕ → Node → Node

@@ -1,3 +1,4 @@
+mod Prelude
 mod MoveReplies
 mod NodeLaws
 mod PathLaws

@@ -1,21 +1,7 @@
 -- What the move of quota is answered, by the answer of the quota cells.
-use Rattle.std.proofs.Common.{◌≡◌, ℕ, ℤ, Bool, true, false, cond, List, Option, Some, None, Result, Ok, Err, refl, ◌∙◌}
-use Rattle.std.proofs.Common.{◌≤◌, pos, ap, subst, sym}
-use Rattle.std.specs.Prelude.{nat_lt}
-use Rattle.std.specs.Int.{is_positive}
-use Rattle.std.specs.Int.RustNames.{unsigned_abs}
-use Rattle.book.specs.declared.replies.Reply.{Reply}
+use Rattle.tree_commands.proofs.Prelude.{◌≡◌, ℕ, ℤ, Bool, true, false, cond, List, Option, Some, None, Result, Ok, Err, refl, ◌∙◌, ◌≤◌, pos, ap, subst, sym, nat_lt, is_positive, unsigned_abs, Reply, giver_of, over_in, tree_moved, Node, above, quota_in, used_by, MoveFault, over_answer, scratch_answer, directory_at, done_or_over, move_reply, Store, move_of_none}
 use Rattle.book.specs.declared.replies.Reply.TheVariants as reply
-use Rattle.tree_model.specs.Quotas.{giver_of, over_in, tree_moved}
-use Rattle.tree_model.specs.Tree.{Node, above, quota_in, used_by}
-use Rattle.quota_cells.specs.declared.MoveFault.{MoveFault}
 use Rattle.quota_cells.specs.declared.MoveFault.TheVariants as fault
-use Rattle.quota_cells.specs.Cells.{over_answer}
-use Rattle.quota_cells.specs.Scratch.{scratch_answer}
-use Rattle.flat_model.specs.Branches.{directory_at}
-use Rattle.flat_model.specs.Rights.{done_or_over, move_reply}
-use Rattle.flat_model.specs.Store.{Store}
-use Rattle.flat_model.proofs.QuotaLaws.{move_of_none}
 use Rattle.flat_model.proofs.TreeReplies as replies
 
 abbrev pub move_told : Result (Unit {0}) MoveFault → Reply

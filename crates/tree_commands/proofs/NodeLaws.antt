@@ -1,9 +1,5 @@
 -- What is read of a node that is there.
-use Rattle.std.proofs.Common.{◌≡◌, ℕ, List, Some, None, sym, ap, refl}
-use Rattle.accounts.specs.Maps.{rows_in}
-use Rattle.tree_model.specs.Tree.{Node, node_in}
-use Rattle.tree_commands.specs.Shown.{pages_in, pages_of}
-use Rattle.flat_model.proofs.FieldLaws.{field_found}
+use Rattle.tree_commands.proofs.Prelude.{◌≡◌, ℕ, List, Some, None, sym, ap, refl, rows_in, Node, node_in, pages_in, pages_of, field_found}
 
 pub rows_found : (ns : List Node) (u : ℕ) (n : Node) → node_in ns u ≡ Some n → rows_in ns u ≡ n.rows
 rows_found ns u n e = sym (field_found (λ ms. rows_in ms u) (λ x. x.rows) u (λ m ms. refl) ns n e)

@@ -1,11 +1,7 @@
 -- What a path leads to, by the walk along it.
-use Rattle.std.proofs.Common.{◌≡◌, ℕ, List, Some, Ok, Err, refl, sym, ap, ◌∙◌}
+use Rattle.tree_commands.proofs.Prelude.{◌≡◌, ℕ, List, Some, Ok, Err, refl, sym, ap, ◌∙◌, Node, Walk, LeadsTo, Missing, InSegment, node_in, walk_in, path_answer, walked, node_at, there_or, found_uid}
 use Rattle.book.specs.declared.replies.Reply.TheVariants as reply
-use Rattle.tree_model.specs.Tree.{Node, Walk, LeadsTo, Missing, InSegment, node_in, walk_in}
 use Rattle.dir_tree.specs.declared.node.PathFault.TheVariants as path_fault
-use Rattle.dir_tree.specs.Nodes.{path_answer}
-use Rattle.flat_model.specs.Branches.{walked, node_at, there_or}
-use Rattle.tree_model.proofs.SharedLaws.{found_uid}
 
 leads : (nodes : List Node) (w : Walk) (u : ℕ) (n : Node) → Ok u ≡ path_answer w → node_in nodes u ≡ Some n
     → walked nodes w ≡ Ok n

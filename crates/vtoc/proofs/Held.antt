@@ -1,13 +1,5 @@
 -- A list of slots of which the first are held, and the rest are free.
-use Rattle.std.proofs.Common.{◌≡◌, ℕ, suc, ◌+◌, ◌-◌, ◌≤◌, ◌<◌, true, List, [], ◌∷◌, ◌++◌, length, refl, sym}
-use Rattle.std.proofs.Common.{ap, ◌∙◌, arith, get_or, set, replicate, Option, None, Some, is_some, inl, inr}
-use Rattle.std.proofs.lemmas.List.{append_assoc, get_or-append_right, get_or-replicate, get_or_append_left}
-use Rattle.std.proofs.lemmas.List.{get_or_past, get_or_read, length-append, length-replicate, length-set, length_push}
-use Rattle.std.proofs.lemmas.List.{set-append_left, set-append_right}
-use Rattle.vtoc.specs.FileMap.{no_records}
-use Rattle.vtoc.specs.declared.slots.Slot.{Slot}
-use Rattle.vtoc.specs.Slots.{free_slot, slot_at, slots_of, AreRoomy}
-use Rattle.laws.proofs.Numbers.{below_or_past}
+use Rattle.vtoc.proofs.Prelude.{◌≡◌, ℕ, suc, ◌+◌, ◌-◌, ◌≤◌, ◌<◌, true, List, [], ◌∷◌, ◌++◌, length, refl, sym, ap, ◌∙◌, arith, get_or, set, replicate, Option, None, Some, is_some, inl, inr, append_assoc, get_or-append_right, get_or-replicate, get_or_append_left, get_or_past, get_or_read, length-append, length-replicate, length-set, length_push, set-append_left, set-append_right, no_records, Slot, free_slot, slot_at, slots_of, AreRoomy, below_or_past}
 
 abbrev rest : ℕ → List Slot
 rest count = replicate count free_slot

@@ -1,23 +1,4 @@
-use Rattle.std.proofs.Common.{◌≡◌, ℕ, zero, suc, ◌+◌, ◌<◌, ◌≤◌, ◌^◌, Bool, true, false, not, cond, List, [], ◌∷◌}
-use Rattle.std.proofs.Common.{length, Option, None, Some, refl, sym, ap}
-use Rattle.std.proofs.Common.{◌∙◌, arith, get_or, set, replicate, map, inl, inr, IsSome, is_some, is_none}
-use Rattle.std.proofs.Common.{count_by, All, IsTrue, ◌↔◌}
-use Rattle.std.specs.List.{prefix_len}
-use Rattle.std.proofs.lemmas.Bool.{cases_eq}
-use Rattle.std.proofs.lemmas.List.{map-set, get_or-map, get_or_past, length-map, length-set, length-replicate}
-use Rattle.std.proofs.lemmas.List.{get_or-set_same, get_or-set_other, set-get_or}
-use Rattle.std.proofs.lemmas.List.{get_or_default, get_or_read, get_or-replicate, ext_get_or}
-use Rattle.std.proofs.lemmas.List.Elements.{All-get_or, All-from_get_or}
-use Rattle.std.proofs.lemmas.List.Sums.{sum_by-cons, sum_by-set}
-use Rattle.bitmap.specs.Bitmap.{in_use, least_free, IsLeastFree}
-use Rattle.vtoc.specs.FileMap.{no_records}
-use Rattle.vtoc.specs.Vtoc.{Entry, entry_at, uid_of, records_in, record_at, fresh_entry, with_record, least_free_entry}
-use Rattle.vtoc.specs.Vtoc.{IsLeastFreeEntry, NamesNoRecord}
-use Rattle.vtoc.specs.declared.slots.Slot.{Slot}
-use Rattle.vtoc.specs.Slots.{seen_as, entry_of, table_of, free_slot, slot_at, IsMarked}
-use Rattle.laws.proofs.Numbers.{below_or_past}
-use Rattle.laws.proofs.Options.{none_there}
-use Rattle.laws.proofs.Lists.{blank}
+use Rattle.vtoc.proofs.Prelude.{◌≡◌, ℕ, zero, suc, ◌+◌, ◌<◌, ◌≤◌, ◌^◌, Bool, true, false, not, cond, List, [], ◌∷◌, length, Option, None, Some, refl, sym, ap, ◌∙◌, arith, get_or, set, replicate, map, inl, inr, IsSome, is_some, is_none, count_by, All, IsTrue, ◌↔◌, prefix_len, cases_eq, map-set, get_or-map, get_or_past, length-map, length-set, length-replicate, get_or-set_same, get_or-set_other, set-get_or, get_or_default, get_or_read, get_or-replicate, ext_get_or, All-get_or, All-from_get_or, sum_by-cons, sum_by-set, in_use, least_free, IsLeastFree, no_records, Entry, entry_at, uid_of, records_in, record_at, fresh_entry, with_record, least_free_entry, IsLeastFreeEntry, NamesNoRecord, Slot, seen_as, entry_of, table_of, free_slot, slot_at, IsMarked, below_or_past, none_there, blank}
 
 pub length_table : (slots : List Slot) → length (table_of slots) ≡ length slots
 unfolding table_of

@@ -1,6 +1,4 @@
-use Rattle.std.proofs.Common.{◌≡◌, ◌++◌}
-use Rattle.std.proofs.lemmas.Result.{IfOk-weaker}
-use Rattle.listing.specs.Listings.{body_of, listing_of, summary_text}
+use Rattle.listing.proofs.Prelude.{◌≡◌, ◌++◌, IfOk-weaker, body_of, listing_of, summary_text}
 use Rattle.listing.proofs.CountLaws.{listing_whole}
 use Rattle.listing.proofs.listing_text.Goals as goal
 

@@ -1,9 +1,6 @@
-use Rattle.std.proofs.Common.{◌≡◌, ℕ, List, get_or, sym, ap, subst, ◌∙◌}
-use Rattle.tree_model.specs.Tree.{above}
-use Rattle.dir_tree.specs.Shape.{shapes}
+use Rattle.quota_cells.proofs.Prelude.{◌≡◌, ℕ, List, get_or, sym, ap, subst, ◌∙◌, above, shapes, directory_in}
 use Rattle.quota_cells.proofs.TransferLaws.{IsBelow, top, not_empty}
 use Rattle.quota_cells.proofs.superior_of.Goals as goal
-use Rattle.dir_tree.specs.Laws.{directory_in}
 
 pub superiors-up-requires : goal.superiors-up-requires
 superiors-up-requires c = directory_in c.args.t.now.nodes c.args.dir c.requires.directory

@@ -1,4 +1,4 @@
-use Rattle.std.proofs.lemmas.Result.{err_from_is_err_and}
+use Rattle.seg_mover.proofs.Prelude.{err_from_is_err_and}
 use Rattle.seg_mover.proofs.Copying.{read_failed, read_then}
 use Rattle.seg_mover.proofs.copy_record.Goals as goal
 

@@ -1,7 +1,6 @@
-use Rattle.std.proofs.Common.{rules, arith, List, Option, subst, sym}
+use Rattle.seg_mover.proofs.Prelude.{rules, arith, List, Option, subst, sym, Entry, NamesNoRecord}
 use Rattle.seg_mover.proofs.Giving.{given_more, given_end, all_given, full_same, names_none}
 use Rattle.seg_mover.proofs.give_back.Goals as goal
-use Rattle.vtoc.specs.Vtoc.{Entry, NamesNoRecord}
 
 pub loop-p-preserved : goal.loop-p-preserved
 loop-p-preserved g c = given_more c.give_record.new.v c.loop-p.invariant c.give_record.ensures

@@ -1,4 +1,4 @@
-use Rattle.seg_mover.specs.Steps.{IsPartGiven}
+use Rattle.seg_mover.proofs.Prelude.{IsPartGiven}
 use Rattle.seg_mover.proofs.give_back.Given as goal
 
 abbrev pub invariant-loop-p : goal.invariant-loop-p

@@ -1,7 +1,5 @@
-use Rattle.std.proofs.Common.{rules, arith}
-use Rattle.volumes.specs.Volumes.{records_at}
+use Rattle.seg_mover.proofs.Prelude.{rules, arith, records_at, flag_within}
 use Rattle.seg_mover.proofs.record_of.Goals as goal
-use Rattle.laws.proofs.Places.{flag_within}
 
 pub prove-unreachable-requires : goal.prove-unreachable-requires
 prove-unreachable-requires g c =

@@ -1,4 +1,4 @@
-use Rattle.seg_mover.specs.Steps.{IsPartBegun}
+use Rattle.seg_mover.proofs.Prelude.{IsPartBegun}
 use Rattle.seg_mover.proofs.take_home.Given as goal
 
 abbrev pub invariant-loop-p : goal.invariant-loop-p

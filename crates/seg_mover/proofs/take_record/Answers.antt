@@ -1,5 +1,4 @@
-use Rattle.std.proofs.Common.{rules}
-use Rattle.volumes.specs.Volumes.{records_at}
+use Rattle.seg_mover.proofs.Prelude.{rules, records_at}
 use Rattle.seg_mover.proofs.Records.{not_all}
 use Rattle.seg_mover.proofs.take_record.Goals as goal
 

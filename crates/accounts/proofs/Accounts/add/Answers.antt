@@ -1,7 +1,4 @@
-use Rattle.std.proofs.Common.{◌≡◌, false, subst, sym, ap, ◌∙◌, arith}
-use Rattle.dir_tree.specs.Nodes.{is_in}
-use Rattle.quota_cells.specs.Laws.{on_nodes}
-use Rattle.accounts.specs.Maps.{AccountMaps, Gains, accounts_of, branch_of}
+use Rattle.accounts.proofs.Prelude.{◌≡◌, false, subst, sym, ap, ◌∙◌, arith, is_in, on_nodes, AccountMaps, Gains, accounts_of, branch_of}
 use Rattle.accounts.proofs.Laws.{directory_of, unless_ok, enters_fit, gained}
 use Rattle.accounts.proofs.Accounts.add.Goals as goal
 

@@ -1,9 +1,4 @@
-use Rattle.std.proofs.Common.{◌≡◌, None, false, subst, sym, ap, ◌∙◌, arith}
-use Rattle.dir_tree.specs.Nodes.{add_fault_of, as_node, is_in}
-use Rattle.dir_tree.proofs.QuotaLemmas.{fault_any}
-use Rattle.quota_cells.specs.Cells.{quota_in}
-use Rattle.quota_cells.specs.Laws.{on_nodes}
-use Rattle.accounts.specs.Maps.{AccountMaps, Gains, accounts_of, branch_of}
+use Rattle.accounts.proofs.Prelude.{◌≡◌, None, false, subst, sym, ap, ◌∙◌, arith, add_fault_of, as_node, is_in, fault_any, quota_in, on_nodes, AccountMaps, Gains, accounts_of, branch_of}
 use Rattle.accounts.proofs.Laws.{directory_of, enters_fit, gained}
 use Rattle.accounts.proofs.Accounts.attach.Goals as goal
 

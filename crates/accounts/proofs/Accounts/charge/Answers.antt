@@ -1,8 +1,4 @@
-use Rattle.std.proofs.Common.{◌≡◌, ◌+◌, ℕ, List, subst}
-use Rattle.std.specs.Prelude.{OnOk}
-use Rattle.quota_cells.specs.Cells.{stored_in}
-use Rattle.quota_cells.specs.Scratch.{charge_answer}
-use Rattle.accounts.specs.Maps.{AccountMaps, Counts, Recounts, accounts_of, count_of}
+use Rattle.accounts.proofs.Prelude.{◌≡◌, ◌+◌, ℕ, List, subst, OnOk, stored_in, charge_answer, AccountMaps, Counts, Recounts, accounts_of, count_of}
 use Rattle.accounts.proofs.Laws.{segment_of, charged_shown}
 use Rattle.accounts.proofs.Accounts.charge.Goals as goal
 

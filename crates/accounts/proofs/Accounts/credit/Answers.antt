@@ -1,6 +1,4 @@
-use Rattle.std.proofs.Common.{◌-◌, subst}
-use Rattle.quota_cells.specs.Cells.{stored_in}
-use Rattle.accounts.specs.Maps.{AccountMaps, Recounts, accounts_of, count_of}
+use Rattle.accounts.proofs.Prelude.{◌-◌, subst, stored_in, AccountMaps, Recounts, accounts_of, count_of}
 use Rattle.accounts.proofs.Laws.{segment_of, recounted}
 use Rattle.accounts.proofs.Accounts.credit.Goals as goal
 

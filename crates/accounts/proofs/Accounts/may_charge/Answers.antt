@@ -1,6 +1,4 @@
-use Rattle.std.proofs.Common.{◌≡◌, ℕ, List, subst}
-use Rattle.quota_cells.specs.Scratch.{charge_answer}
-use Rattle.accounts.specs.Maps.{AccountMaps, Counts}
+use Rattle.accounts.proofs.Prelude.{◌≡◌, ℕ, List, subst, charge_answer, AccountMaps, Counts}
 use Rattle.accounts.proofs.Laws.{segment_of}
 use Rattle.accounts.proofs.Accounts.may_charge.Goals as goal
 

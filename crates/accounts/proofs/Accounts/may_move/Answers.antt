@@ -1,9 +1,4 @@
-use Rattle.std.proofs.Common.{◌≡◌, ℕ, List, subst, w32}
-use Rattle.std.proofs.lemmas.Int.{to_z-of_z}
-use Rattle.std.specs.Int.{is_positive}
-use Rattle.std.specs.Int.RustNames.{unsigned_abs}
-use Rattle.quota_cells.specs.Scratch.{scratch_answer}
-use Rattle.accounts.specs.Maps.{AccountMaps, Counts}
+use Rattle.accounts.proofs.Prelude.{◌≡◌, ℕ, List, subst, w32, to_z-of_z, is_positive, unsigned_abs, scratch_answer, AccountMaps, Counts}
 use Rattle.accounts.proofs.Laws.{directory_of}
 use Rattle.accounts.proofs.Accounts.may_move.Goals as goal
 

@@ -1,13 +1,4 @@
-use Rattle.std.proofs.Common.{◌≡◌, ℕ, List, subst, w32}
-use Rattle.std.specs.Prelude.{OnOk}
-use Rattle.std.proofs.lemmas.Int.{to_z-of_z}
-use Rattle.std.specs.Int.{is_positive}
-use Rattle.std.specs.Int.RustNames.{unsigned_abs}
-use Rattle.tree_model.specs.Quotas.{tree_moved}
-use Rattle.dir_tree.specs.Nodes.{with_quotas}
-use Rattle.quota_cells.specs.Cells.{quota_in}
-use Rattle.quota_cells.specs.Scratch.{scratch_answer}
-use Rattle.accounts.specs.Maps.{AccountMaps, Changes, Counts, accounts_of}
+use Rattle.accounts.proofs.Prelude.{◌≡◌, ℕ, List, subst, w32, OnOk, to_z-of_z, is_positive, unsigned_abs, tree_moved, with_quotas, quota_in, scratch_answer, AccountMaps, Changes, Counts, accounts_of}
 use Rattle.accounts.proofs.Laws.{directory_of, moved_shown}
 use Rattle.accounts.proofs.Accounts.move_quota.Goals as goal
 

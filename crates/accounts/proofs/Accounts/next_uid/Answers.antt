@@ -1,7 +1,4 @@
-use Rattle.std.proofs.Common.{subst}
-use Rattle.quota_cells.specs.Cells.{quota_in}
-use Rattle.tree_model.specs.Trees.{AreBelow}
-use Rattle.accounts.specs.Maps.{AccountMaps}
+use Rattle.accounts.proofs.Prelude.{subst, quota_in, AreBelow, AccountMaps}
 use Rattle.accounts.proofs.Laws.{fresh_of}
 use Rattle.accounts.proofs.TreeLaws.{later_any}
 use Rattle.accounts.proofs.Accounts.next_uid.Goals as goal

@@ -1,10 +1,4 @@
-use Rattle.std.proofs.Common.{◌≡◌, Some, subst, not}
-use Rattle.std.specs.Prelude.{IfSome}
-use Rattle.tree_model.specs.Tree.{has_directory, node_in, quota_in as quota_at}
-use Rattle.tree_model.specs.Trees.{has_segment}
-use Rattle.dir_tree.specs.Nodes.{as_term}
-use Rattle.quota_cells.specs.Cells.{quota_in}
-use Rattle.accounts.specs.Maps.{AccountMaps, entry_of}
+use Rattle.accounts.proofs.Prelude.{◌≡◌, Some, subst, not, IfSome, has_directory, node_in, quota_at, has_segment, as_term, quota_in, AccountMaps, entry_of}
 use Rattle.accounts.proofs.Laws.{node_shown, entry_shown, directory_shown, segment_shown}
 use Rattle.accounts.proofs.Accounts.node.Goals as goal
 

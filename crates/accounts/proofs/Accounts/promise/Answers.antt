@@ -1,9 +1,4 @@
-use Rattle.std.proofs.Common.{◌≤◌, ℕ, List, ap, subst}
-use Rattle.tree_model.specs.Tree.{used_by, quota_in as quota_at}
-use Rattle.tree_model.specs.Trees.{AreBelow}
-use Rattle.quota_cells.specs.Cells.{quota_in}
-use Rattle.quota_cells.proofs.ScratchLaws.{used_same}
-use Rattle.accounts.specs.Maps.{AccountMaps, Counts, accounts_of}
+use Rattle.accounts.proofs.Prelude.{◌≤◌, ℕ, List, ap, subst, used_by, quota_at, AreBelow, quota_in, used_same, AccountMaps, Counts, accounts_of}
 use Rattle.accounts.proofs.Laws.{columns, no_pages, no_quota, used_within}
 use Rattle.accounts.proofs.TreeLaws.{later_any, tree_shown}
 use Rattle.accounts.proofs.Accounts.promise.Goals as goal

@@ -1,6 +1,4 @@
-use Rattle.std.proofs.Common.{◌≡◌, sym, ◌∙◌, subst}
-use Rattle.tree_model.specs.Tree.{quota_in as quota_at}
-use Rattle.accounts.specs.Maps.{AccountMaps}
+use Rattle.accounts.proofs.Prelude.{◌≡◌, sym, ◌∙◌, subst, quota_at, AccountMaps}
 use Rattle.accounts.proofs.Laws.{directory_cell, quota_shown}
 use Rattle.accounts.proofs.Accounts.quota.Goals as goal
 

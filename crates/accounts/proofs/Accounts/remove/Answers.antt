@@ -1,7 +1,4 @@
-use Rattle.std.proofs.Common.{◌≡◌, sym, ◌∙◌, subst}
-use Rattle.tree_model.specs.Tree.{quota_in as quota_at}
-use Rattle.accounts.specs.Maps.{AccountMaps, Loses, accounts_of}
-use Rattle.quota_cells.specs.Laws.{on_nodes}
+use Rattle.accounts.proofs.Prelude.{◌≡◌, sym, ◌∙◌, subst, quota_at, AccountMaps, Loses, accounts_of, on_nodes}
 use Rattle.accounts.proofs.Laws.{there_of, quota_shown, lost}
 use Rattle.accounts.proofs.Accounts.remove.Goals as goal
 

@@ -1,5 +1,4 @@
-use Rattle.std.proofs.Common.{◌≡◌, subst}
-use Rattle.accounts.specs.Maps.{AccountMaps, Rehomes, accounts_of, rehomed}
+use Rattle.accounts.proofs.Prelude.{◌≡◌, subst, AccountMaps, Rehomes, accounts_of, rehomed}
 use Rattle.accounts.proofs.Laws.{home_exact, home_shown, segment_of}
 use Rattle.accounts.proofs.Accounts.set_home.Goals as goal
 

@@ -1,6 +1,4 @@
-use Rattle.std.proofs.Common.{subst}
-use Rattle.tree_model.specs.Tree.{with_node}
-use Rattle.accounts.specs.Maps.{AccountMaps, Changes, accounts_of}
+use Rattle.accounts.proofs.Prelude.{subst, with_node, AccountMaps, Changes, accounts_of}
 use Rattle.accounts.proofs.Laws.{segment_of, length_shown}
 use Rattle.accounts.proofs.Accounts.set_length.Goals as goal
 

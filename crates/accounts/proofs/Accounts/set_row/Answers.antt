@@ -1,8 +1,4 @@
-use Rattle.std.proofs.Common.{◌≡◌, sym, subst, ap, ◌∙◌}
-use Rattle.std.specs.Prelude.{◌↔◌, IsOk, IsTrue, OnOk, OnErr, List}
-use Rattle.tree_model.specs.Access.{Row, takes_row}
-use Rattle.dir_tree.specs.Nodes.{with_acl}
-use Rattle.accounts.specs.Maps.{AccountMaps, Changes, accounts_of, rows_in, with_row_in}
+use Rattle.accounts.proofs.Prelude.{◌≡◌, sym, subst, ap, ◌∙◌, ◌↔◌, IsOk, IsTrue, OnOk, OnErr, List, Row, takes_row, with_acl, AccountMaps, Changes, accounts_of, rows_in, with_row_in}
 use Rattle.accounts.proofs.Laws.{segment_of, segment_found, rows_shown, row_set, row_refused}
 use Rattle.accounts.proofs.Accounts.set_row.Goals as goal
 

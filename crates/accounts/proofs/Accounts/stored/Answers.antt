@@ -1,6 +1,4 @@
-use Rattle.std.proofs.Common.{◌≡◌, ◌∙◌, subst}
-use Rattle.tree_model.specs.Tree.{quota_in as quota_at}
-use Rattle.accounts.specs.Maps.{AccountMaps}
+use Rattle.accounts.proofs.Prelude.{◌≡◌, ◌∙◌, subst, quota_at, AccountMaps}
 use Rattle.accounts.proofs.Laws.{segment_cell, quota_shown}
 use Rattle.accounts.proofs.Accounts.stored.Goals as goal
 

@@ -1,6 +1,4 @@
-use Rattle.std.proofs.Common.{◌≡◌, ◌≤◌, ℕ, List, sym, subst}
-use Rattle.tree_model.specs.Tree.{used_by, quota_in as quota_at}
-use Rattle.accounts.specs.Maps.{AccountMaps, Counts, accounts_of}
+use Rattle.accounts.proofs.Prelude.{◌≡◌, ◌≤◌, ℕ, List, sym, subst, used_by, quota_at, AccountMaps, Counts, accounts_of}
 use Rattle.accounts.proofs.Laws.{used_within}
 use Rattle.accounts.proofs.Accounts.used.Goals as goal
 

@@ -1,8 +1,4 @@
-use Rattle.std.proofs.Common.{◌≡◌, true, subst, is_some}
-use Rattle.std.specs.Prelude.{IfOk}
-use Rattle.tree_model.specs.Tree.{node_in}
-use Rattle.quota_cells.specs.Cells.{quota_in}
-use Rattle.accounts.specs.Maps.{AccountMaps}
+use Rattle.accounts.proofs.Prelude.{◌≡◌, true, subst, is_some, IfOk, node_in, quota_in, AccountMaps}
 use Rattle.accounts.proofs.Laws.{walked}
 use Rattle.accounts.proofs.Accounts.walk_down.Goals as goal
 

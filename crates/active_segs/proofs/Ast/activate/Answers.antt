@@ -1,6 +1,4 @@
-use Rattle.std.proofs.Common.{◌≡◌, ◌≢◌, ◌<◌, List, Option, ℕ, Some, None, length, sym, subst}
-use Rattle.active_segs.specs.declared.Entry.{Entry}
-use Rattle.active_segs.specs.Active.{ActiveSegs, entry_at, uid_at, IsActive}
+use Rattle.active_segs.proofs.Prelude.{◌≡◌, ◌≢◌, ◌<◌, List, Option, ℕ, Some, None, length, sym, subst, Entry, ActiveSegs, entry_at, uid_at, IsActive}
 use Rattle.active_segs.proofs.AstLemmas.{kept_activated}
 use Rattle.active_segs.proofs.InferiorLemmas.{IsSuperiorPlace, superior_placed, may_note}
 use Rattle.active_segs.proofs.PlaceLemmas.{index_has_room, index_lacks}

@@ -1,6 +1,4 @@
-use Rattle.std.proofs.Common.{List, Option, is_some, sym, ap, subst}
-use Rattle.active_segs.specs.declared.Entry.{Entry}
-use Rattle.active_segs.specs.Active.{ActiveSegs, uid_in, superior_in, HasNoInferior}
+use Rattle.active_segs.proofs.Prelude.{List, Option, is_some, sym, ap, subst, Entry, ActiveSegs, uid_in, superior_in, HasNoInferior}
 use Rattle.active_segs.proofs.AstLemmas.{kept_deactivated, used_entry}
 use Rattle.active_segs.proofs.InferiorLemmas.{IsSuperiorPlace, superior_of_active, may_forget}
 use Rattle.active_segs.proofs.Ast.deactivate.Goals as goal

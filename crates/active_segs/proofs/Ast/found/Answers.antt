@@ -1,8 +1,4 @@
-use Rattle.std.proofs.Common.{◌≡◌, ◌≤◌, ◌+◌, Some, length, sum, sym, ap, subst, arith}
-use Rattle.active_segs.specs.Active.{ActiveSegs}
-use Rattle.active_segs.specs.Kept.{IsActiveAt}
-use Rattle.active_segs.specs.Pool.{HasPools, first_of, size_of, IsInPool}
-use Rattle.active_segs.specs.Victim.{first_off_chain, HasOneOffChain}
+use Rattle.active_segs.proofs.Prelude.{◌≡◌, ◌≤◌, ◌+◌, Some, length, sum, sym, ap, subst, arith, ActiveSegs, IsActiveAt, HasPools, first_of, size_of, IsInPool, first_off_chain, HasOneOffChain}
 use Rattle.active_segs.proofs.PlaceLemmas.{pool_within}
 use Rattle.active_segs.proofs.AstLemmas.{segs_of, place_found, found_in_pool, found_active}
 use Rattle.active_segs.proofs.Ast.found.Goals as goal

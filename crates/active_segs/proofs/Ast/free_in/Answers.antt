@@ -1,11 +1,5 @@
-use Rattle.std.proofs.Common.{◌≡◌, ◌+◌, List, Bool, true, ap, subst, is_some, All}
-use Rattle.std.proofs.lemmas.Bool.{true≢false}
-use Rattle.bitmap.specs.Bitmap.{IsLeastFree as IsFirstFree}
-use Rattle.active_segs.specs.Active.{ActiveSegs, HasShape, IsLeastFree, IsFull}
-use Rattle.active_segs.specs.Kept.{map_of}
-use Rattle.active_segs.proofs.AstLemmas.{segs_of, marked_map, full_since_marked, least_since_marked, not_full}
-use Rattle.active_segs.proofs.AstLemmas.{room_since_free}
-use Rattle.active_segs.proofs.AstLemmas.{free_within}
+use Rattle.active_segs.proofs.Prelude.{◌≡◌, ◌+◌, List, Bool, true, ap, subst, is_some, All, true≢false, IsFirstFree, ActiveSegs, HasShape, IsLeastFree, IsFull, map_of}
+use Rattle.active_segs.proofs.AstLemmas.{segs_of, marked_map, full_since_marked, least_since_marked, not_full, room_since_free, free_within}
 use Rattle.active_segs.proofs.Ast.free_in.Goals as goal
 
 pub returns-in_err-offset-clause-full : goal.returns-in_err-offset-clause-full

@@ -1,6 +1,4 @@
-use Rattle.std.proofs.Common.{◌≡◌, ◌∙◌, ℕ, List, sym, subst, sum, replicate, true, None, ap, arith, rules}
-use Rattle.page_table.specs.declared.Ptw.{Ptw}
-use Rattle.active_segs.specs.Active.{AreNullTables}
+use Rattle.active_segs.proofs.Prelude.{◌≡◌, ◌∙◌, ℕ, List, sym, subst, sum, replicate, true, None, ap, arith, rules, Ptw, AreNullTables}
 use Rattle.active_segs.proofs.NewLemmas.{kept_new, are_null}
 use Rattle.active_segs.proofs.Ast.new.Goals as goal
 

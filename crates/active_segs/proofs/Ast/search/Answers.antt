@@ -1,7 +1,5 @@
-use Rattle.std.proofs.Common.{◌<◌, length, subst}
-use Rattle.active_segs.specs.Active.{ActiveSegs, HasShape}
+use Rattle.active_segs.proofs.Prelude.{◌<◌, length, subst, ActiveSegs, HasShape, IfSome}
 use Rattle.active_segs.proofs.AstLemmas.{searched_within}
-use Rattle.std.specs.Option.{IfSome}
 use Rattle.active_segs.proofs.Ast.search.Goals as goal
 
 pub returns-clause-within : goal.returns-clause-within

@@ -1,8 +1,4 @@
-use Rattle.std.proofs.Common.{◌≡◌, List, Option, length, sym, ap, subst, ◌∙◌}
-use Rattle.active_segs.specs.declared.Entry.{Entry}
-use Rattle.active_segs.specs.Active.{ActiveSegs}
-use Rattle.active_segs.specs.Kept.{IsActiveAt}
-use Rattle.active_segs.specs.Victim.{leaf_below, StandsFor}
+use Rattle.active_segs.proofs.Prelude.{◌≡◌, List, Option, length, sym, ap, subst, ◌∙◌, Entry, ActiveSegs, IsActiveAt, leaf_below, StandsFor}
 use Rattle.active_segs.proofs.AstLemmas.{is_victim, is_victim_of}
 use Rattle.active_segs.proofs.DescentLemmas.{victim_once, victim_is_leaf, victim_off, victim_within}
 use Rattle.active_segs.proofs.Ast.way_down.Goals as goal

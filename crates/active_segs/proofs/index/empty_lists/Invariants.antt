@@ -1,5 +1,4 @@
-use Rattle.std.proofs.Common.{◌≡◌, ◌≤◌, replicate, vec_len, vec_capacity}
-use Rattle.active_segs.specs.Pairs.{empty_list}
+use Rattle.active_segs.proofs.Prelude.{◌≡◌, ◌≤◌, replicate, vec_len, vec_capacity, empty_list}
 use Rattle.active_segs.proofs.index.empty_lists.Given as goal
 
 abbrev pub invariant-loop-list : goal.invariant-loop-list

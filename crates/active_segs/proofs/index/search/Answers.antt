@@ -1,5 +1,4 @@
-use Rattle.std.proofs.Common.{rules}
-use Rattle.std.proofs.lemmas.List.Sorted.{answers_always}
+use Rattle.active_segs.proofs.Prelude.{rules, answers_always}
 use Rattle.active_segs.proofs.PairLemmas.{searched}
 use Rattle.active_segs.proofs.index.search.Goals as goal
 

@@ -1,4 +1,4 @@
-use Rattle.std.proofs.Common.{◌≡◌, ◌≤◌, true, replicate, vec_len, vec_capacity}
+use Rattle.active_segs.proofs.Prelude.{◌≡◌, ◌≤◌, true, replicate, vec_len, vec_capacity}
 use Rattle.active_segs.proofs.inferiors.no_inferiors.Given as goal
 
 abbrev pub invariant-loop-place : goal.invariant-loop-place

@@ -1,5 +1,4 @@
-use Rattle.std.proofs.Common.{◌≡◌, ◌≤◌, ◌+◌, ◌++◌, replicate, vec_len, vec_capacity}
-use Rattle.page_table.specs.declared.Ptw.TheVariants.{Null}
+use Rattle.active_segs.proofs.Prelude.{◌≡◌, ◌≤◌, ◌+◌, ◌++◌, replicate, vec_len, vec_capacity, Null}
 use Rattle.active_segs.proofs.pools.add_tables.Given as goal
 
 abbrev pub invariant-loop-table : goal.invariant-loop-table

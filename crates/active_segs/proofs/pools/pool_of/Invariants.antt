@@ -1,4 +1,4 @@
-use Rattle.std.proofs.Common.{◌≡◌, ◌+◌, take, sum}
+use Rattle.active_segs.proofs.Prelude.{◌≡◌, ◌+◌, take, sum}
 use Rattle.active_segs.proofs.pools.pool_of.Given as goal
 
 abbrev pub invariant-loop-pool : goal.invariant-loop-pool

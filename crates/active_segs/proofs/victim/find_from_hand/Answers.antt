@@ -1,7 +1,4 @@
-use Rattle.std.proofs.Common.{sym, ap, ◌∙◌, is_some}
-use Rattle.std.proofs.lemmas.Bool.{both_ways}
-use Rattle.active_segs.specs.Active.{entry_at}
-use Rattle.active_segs.specs.Victim.{off_chain, places_from}
+use Rattle.active_segs.proofs.Prelude.{sym, ap, ◌∙◌, is_some, both_ways, entry_at, off_chain, places_from}
 use Rattle.active_segs.proofs.DescentLemmas.{find_first, find_second}
 use Rattle.active_segs.proofs.victim.find_from_hand.Goals as goal
 

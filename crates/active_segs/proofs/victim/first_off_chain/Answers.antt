@@ -1,6 +1,4 @@
-use Rattle.std.proofs.Common.{sym, ◌∙◌}
-use Rattle.active_segs.specs.Active.{entry_at}
-use Rattle.active_segs.specs.Victim.{off_chain}
+use Rattle.active_segs.proofs.Prelude.{sym, ◌∙◌, entry_at, off_chain}
 use Rattle.active_segs.proofs.DescentLemmas.{finds_later}
 use Rattle.active_segs.proofs.victim.first_off_chain.Goals as goal
 

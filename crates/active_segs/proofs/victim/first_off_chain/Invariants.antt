@@ -1,7 +1,4 @@
-use Rattle.std.proofs.Common.{◌≡◌}
-use Rattle.std.specs.List.{find}
-use Rattle.active_segs.specs.Active.{entry_at}
-use Rattle.active_segs.specs.Victim.{off_chain, places_from}
+use Rattle.active_segs.proofs.Prelude.{◌≡◌, find, entry_at, off_chain, places_from}
 use Rattle.active_segs.proofs.victim.first_off_chain.Given as goal
 
 abbrev pub invariant-loop-place : goal.invariant-loop-place

@@ -1,6 +1,4 @@
-use Rattle.std.proofs.Common.{◌≡◌, ◌<◌, List, Bool, length, subst, arith}
-use Rattle.bitmap.specs.Bitmap.{IsLeastFree as IsFirstFree}
-use Rattle.active_segs.specs.Victim.{IsLeastInferior}
+use Rattle.active_segs.proofs.Prelude.{◌≡◌, ◌<◌, List, Bool, length, subst, arith, IsFirstFree, IsLeastInferior}
 use Rattle.active_segs.proofs.EntryLemmas.{used_within}
 use Rattle.active_segs.proofs.InferiorLemmas.{noted_map, least_since_noted, leaf_read}
 use Rattle.active_segs.proofs.DescentLemmas.{stays, way_begins, way_goes_on, way_ends, way_comes_to}

@@ -1,5 +1,4 @@
-use Rattle.std.proofs.Common.{◌∙◌}
-use Rattle.text_model.specs.Lines.{lines_of}
+use Rattle.book_check.proofs.Prelude.{◌∙◌, lines_of}
 use Rattle.book_check.proofs.CheckLaws.{closed_told}
 use Rattle.book_check.proofs.check.judge_listing.Goals as goal
 

@@ -1,5 +1,4 @@
-use Rattle.std.proofs.Common.{arith}
-use Rattle.std.proofs.lemmas.Bool.Decides.{nat_tests}
+use Rattle.book_check.proofs.Prelude.{arith, nat_tests}
 use Rattle.book_check.proofs.SameLaws.{due_ends, given_ends}
 use Rattle.book_check.proofs.closing.first_other.Goals as goal
 

@@ -1,5 +1,4 @@
-use Rattle.std.proofs.Common.{◌+◌, ◌≤◌, length}
-use Rattle.text_model.specs.Lines.{lines_of}
+use Rattle.book_check.proofs.Prelude.{◌+◌, ◌≤◌, length, lines_of}
 use Rattle.book_check.proofs.SameLaws.{AreSame}
 use Rattle.book_check.proofs.closing.first_other.Given as goal
 

@@ -1,4 +1,4 @@
-use Rattle.std.proofs.Common.{arith}
+use Rattle.book_check.proofs.Prelude.{arith}
 use Rattle.book_check.proofs.CloseLaws.{not_ended, all_ended}
 use Rattle.book_check.proofs.closing.have_ended.Goals as goal
 

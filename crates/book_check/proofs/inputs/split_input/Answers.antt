@@ -1,6 +1,4 @@
-use Rattle.std.proofs.Common.{rules, arith}
-use Rattle.book_check.specs.Inputs.{is_book}
-use Rattle.text_model.proofs.PartLaws.{end_after, end_before, end_first, line_passed, stop_after, stop_before, stop_first}
+use Rattle.book_check.proofs.Prelude.{rules, arith, is_book, end_after, end_before, end_first, line_passed, stop_after, stop_before, stop_first}
 use Rattle.book_check.proofs.inputs.split_input.Goals as goal
 
 pub returns-then-is_book-clause-script : goal.returns-then-is_book-clause-script

@@ -1,6 +1,4 @@
-use Rattle.std.proofs.Common.{◌+◌, ◌-◌, ◌≤◌, length}
-use Rattle.text_model.specs.Parts.{IsAtLine}
-use Rattle.book_check.specs.Inputs.{is_book}
+use Rattle.book_check.proofs.Prelude.{◌+◌, ◌-◌, ◌≤◌, length, IsAtLine, is_book}
 use Rattle.book_check.proofs.inputs.split_input.Given as goal
 
 -- the lines up to here are passed, and none of them is the line `book`

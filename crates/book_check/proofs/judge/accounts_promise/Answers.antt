@@ -1,6 +1,4 @@
-use Rattle.std.proofs.Common.{◌≤◌, List, subst, sym}
-use Rattle.tree_model.specs.Tree.{Node, quota_in, used_by}
-use Rattle.tree_model.specs.Trees.{IsTree}
+use Rattle.book_check.proofs.Prelude.{◌≤◌, List, subst, sym, Node, quota_in, used_by, IsTree}
 use Rattle.book_check.proofs.judge.accounts_promise.Goals as goal
 
 pub returns-clause-tree : goal.returns-clause-tree

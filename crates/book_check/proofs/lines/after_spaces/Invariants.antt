@@ -1,5 +1,4 @@
-use Rattle.std.proofs.Common.{◌≡◌, drop}
-use Rattle.book_check.specs.Inputs.{after_spaces}
+use Rattle.book_check.proofs.Prelude.{◌≡◌, drop, after_spaces}
 use Rattle.book_check.proofs.lines.after_spaces.Given as goal
 
 -- only spaces came so far

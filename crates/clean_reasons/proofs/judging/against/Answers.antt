@@ -1,4 +1,4 @@
-use Rattle.std.proofs.Common.{rules}
+use Rattle.clean_reasons.proofs.Prelude.{rules}
 use Rattle.clean_reasons.proofs.judging.against.Goals as goal
 
 pub returns-in-Release : goal.returns-in-Release

@@ -1,5 +1,4 @@
-use Rattle.std.proofs.Common.{ℕ, sym, ap, ◌∙◌}
-use Rattle.script.specs.Plans.{command_at}
+use Rattle.clean_reasons.proofs.Prelude.{ℕ, sym, ap, ◌∙◌, command_at}
 use Rattle.clean_reasons.proofs.row_commands.against_next.Goals as goal
 
 pub returns-in_default : goal.returns-in_default

@@ -1,6 +1,4 @@
-use Rattle.std.proofs.Common.{sym, ◌∙◌}
-use Rattle.clean_reasons.specs.Answers.{HoldsBoth}
-use Rattle.custody.specs.Tables.{seat_at}
+use Rattle.clean_reasons.proofs.Prelude.{sym, ◌∙◌, HoldsBoth, seat_at}
 use Rattle.clean_reasons.proofs.row_commands.against_through.Goals as goal
 
 pub returns-then-is_word_or_done : goal.returns-then-is_word_or_done

@@ -1,5 +1,4 @@
-use Rattle.std.proofs.Common.{sym, ◌∙◌, rules}
-use Rattle.custody.specs.Tables.{custody_of}
+use Rattle.clean_reasons.proofs.Prelude.{sym, ◌∙◌, rules, custody_of}
 use Rattle.clean_reasons.proofs.row_descriptors.against_connect.Goals as goal
 
 pub returns-in-Free : goal.returns-in-Free

@@ -1,5 +1,5 @@
+use Rattle.clean_reasons.proofs.Prelude.{custody_of}
 use Rattle.clean_reasons.proofs.EffectLaws.{cut, is_cut, not_past}
-use Rattle.custody.specs.Tables.{custody_of}
 use Rattle.clean_reasons.proofs.row_effects.against_loss.Goals as goal
 
 pub returns-in-Some-least_page : goal.returns-in-Some-least_page

@@ -1,8 +1,5 @@
-use Rattle.std.proofs.Common.{◌≡◌, ◌∙◌, inr, rules, sym, true, false}
+use Rattle.clean_reasons.proofs.Prelude.{◌≡◌, ◌∙◌, inr, rules, sym, true, false, custody_of, MayBeHere, MayStart, IsSo}
 use Rattle.clean_reasons.proofs.RowLaws.{maps}
-use Rattle.custody.specs.Tables.{custody_of}
-use Rattle.custody_model.specs.Allowed.{MayBeHere, MayStart}
-use Rattle.clean_reasons.specs.Reasons.{IsSo}
 use Rattle.book.specs.declared.entries.Entry.TheVariants as entry
 use Rattle.clean_reasons.proofs.row_frames.against_here.Goals as goal
 

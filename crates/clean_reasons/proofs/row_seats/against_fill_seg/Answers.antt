@@ -1,8 +1,5 @@
-use Rattle.std.proofs.Common.{sym, ◌∙◌}
+use Rattle.clean_reasons.proofs.Prelude.{sym, ◌∙◌, custody_of, seat_at, MayTakeSeg, IsOfCut}
 use Rattle.clean_reasons.proofs.RowLaws.{and_some}
-use Rattle.custody.specs.Tables.{custody_of, seat_at}
-use Rattle.custody_model.specs.Allowed.{MayTakeSeg}
-use Rattle.clean_reasons.specs.Rows.{IsOfCut}
 use Rattle.clean_reasons.proofs.row_seats.against_fill_seg.Goals as goal
 
 pub returns : goal.returns

@@ -1,8 +1,5 @@
-use Rattle.std.proofs.Common.{◌≡◌, Some, sym, ◌∙◌}
+use Rattle.clean_reasons.proofs.Prelude.{◌≡◌, Some, sym, ◌∙◌, custody_of, seat_at, MayGo, MayLeave, IsSo}
 use Rattle.clean_reasons.proofs.RowLaws.{and_some, maps}
-use Rattle.custody.specs.Tables.{custody_of, seat_at}
-use Rattle.custody_model.specs.Allowed.{MayGo, MayLeave}
-use Rattle.clean_reasons.specs.Reasons.{IsSo}
 use Rattle.book.specs.declared.entries.Entry.TheVariants as entry
 use Rattle.clean_reasons.proofs.row_seats.against_leave.Goals as goal
 

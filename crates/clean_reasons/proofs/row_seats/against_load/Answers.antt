@@ -1,4 +1,4 @@
-use Rattle.std.proofs.Common.{sym, ◌∙◌, rules}
+use Rattle.clean_reasons.proofs.Prelude.{sym, ◌∙◌, rules}
 use Rattle.clean_reasons.proofs.row_seats.against_load.Goals as goal
 
 pub returns-in-None : goal.returns-in-None

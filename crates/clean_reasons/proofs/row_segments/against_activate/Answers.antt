@@ -1,8 +1,5 @@
-use Rattle.std.proofs.Common.{◌≡◌, true, sym, ◌∙◌, arith, rules}
-use Rattle.std.specs.Prelude.{IfSome, is_some}
+use Rattle.clean_reasons.proofs.Prelude.{◌≡◌, true, sym, ◌∙◌, arith, rules, IfSome, is_some, active_at, node_in}
 use Rattle.clean_reasons.proofs.RowLaws.{activates, full, if_none, if_some, in_pool}
-use Rattle.custody.specs.Tables.{active_at}
-use Rattle.tree_model.specs.Tree.{node_in}
 use Rattle.clean_reasons.proofs.row_segments.against_activate.Goals.{in-Some-superior+else-not-is_active, in_default-superior}
 use Rattle.clean_reasons.proofs.row_segments.against_activate.Goals as goal
 

@@ -1,10 +1,5 @@
-use Rattle.std.proofs.Common.{◌≡◌, ◌≢◌, ℕ, Some, true, sym, ◌∙◌, rules}
+use Rattle.clean_reasons.proofs.Prelude.{◌≡◌, ◌≢◌, ℕ, Some, true, sym, ◌∙◌, rules, custody_of, MayDeactivate, superior_in, HasNoDescriptor, HasNoPage, node_in, IsSo}
 use Rattle.clean_reasons.proofs.RowLaws.{both_tell}
-use Rattle.custody.specs.Tables.{custody_of}
-use Rattle.custody_model.specs.Allowed.{MayDeactivate, superior_in}
-use Rattle.custody_model.specs.Effects.{HasNoDescriptor, HasNoPage}
-use Rattle.tree_model.specs.Tree.{node_in}
-use Rattle.clean_reasons.specs.Reasons.{IsSo}
 use Rattle.book.specs.declared.entries.Entry.TheVariants as entry
 use Rattle.clean_reasons.proofs.row_segments.against_deactivate.Goals as goal
 

@@ -1,5 +1,5 @@
+use Rattle.clean_reasons.proofs.Prelude.{frame_at}
 use Rattle.clean_reasons.proofs.FrameLaws.{no_pages}
-use Rattle.custody.specs.Uses.{frame_at}
 use Rattle.clean_reasons.proofs.row_segments.against_no_page.Goals as goal
 
 pub returns-in-None : goal.returns-in-None

@@ -1,10 +1,4 @@
-use Rattle.std.proofs.Common.{◌≡◌, ◌≢◌, ◌<◌, ℕ, true, Some}
-use Rattle.script.specs.Plans.{Plan}
-use Rattle.tree_model.specs.Tree.{node_in}
-use Rattle.flat_model.specs.Store.{Store}
-use Rattle.flat_store.specs.Shown.{Shows}
-use Rattle.custody_model.specs.Allowed.{superior_in}
-use Rattle.custody.specs.Tables.{custody_of}
+use Rattle.clean_reasons.proofs.Prelude.{◌≡◌, ◌≢◌, ◌<◌, ℕ, true, Some, Plan, node_in, Store, Shows, superior_in, custody_of}
 use Rattle.clean_reasons.proofs.row_segments.least_inferior.Given as goal
 
 -- none so far is an active inferior

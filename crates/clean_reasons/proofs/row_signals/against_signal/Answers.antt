@@ -1,8 +1,5 @@
-use Rattle.std.proofs.Common.{sym, ◌∙◌, rules}
+use Rattle.clean_reasons.proofs.Prelude.{sym, ◌∙◌, rules, custody_of, MaySignal, NamesAllGoing, IsSo}
 use Rattle.clean_reasons.proofs.RowLaws.{maps}
-use Rattle.custody.specs.Tables.{custody_of}
-use Rattle.custody_model.specs.Allowed.{MaySignal, NamesAllGoing}
-use Rattle.clean_reasons.specs.Reasons.{IsSo}
 use Rattle.book.specs.declared.entries.Entry.TheVariants as entry
 use Rattle.clean_reasons.proofs.row_signals.against_signal.Goals as goal
 

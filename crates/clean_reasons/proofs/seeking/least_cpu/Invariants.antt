@@ -1,6 +1,4 @@
-use Rattle.std.proofs.Common.{◌≡◌, ◌<◌, ℕ, false}
-use Rattle.custody.specs.Tables.{custody_of}
-use Rattle.clean_reasons.specs.Seeking.{seat_passes}
+use Rattle.clean_reasons.proofs.Prelude.{◌≡◌, ◌<◌, ℕ, false, custody_of, seat_passes}
 use Rattle.clean_reasons.proofs.seeking.least_cpu.Given as goal
 
 -- no processor so far is looked for

@@ -1,6 +1,4 @@
-use Rattle.std.proofs.Common.{◌≡◌, ◌<◌, ℕ, false}
-use Rattle.custody.specs.Tables.{custody_of}
-use Rattle.clean_reasons.specs.Seeking.{lead_passes}
+use Rattle.clean_reasons.proofs.Prelude.{◌≡◌, ◌<◌, ℕ, false, custody_of, lead_passes}
 use Rattle.clean_reasons.proofs.seeking.least_descriptor.Given as goal
 
 -- no descriptor of the processes so far is looked for

@@ -1,6 +1,4 @@
-use Rattle.std.proofs.Common.{◌≡◌, ◌<◌, ℕ, false}
-use Rattle.custody.specs.Tables.{custody_of}
-use Rattle.clean_reasons.specs.Seeking.{frame_passes}
+use Rattle.clean_reasons.proofs.Prelude.{◌≡◌, ◌<◌, ℕ, false, custody_of, frame_passes}
 use Rattle.clean_reasons.proofs.seeking.least_frame.Given as goal
 
 -- no frame so far is looked for

@@ -1,7 +1,5 @@
-use Rattle.std.proofs.Common.{arith}
+use Rattle.clean_reasons.proofs.Prelude.{arith, custody_of, IsLostPage}
 use Rattle.clean_reasons.proofs.SeekLaws.{no_lost_page}
-use Rattle.custody.specs.Tables.{custody_of}
-use Rattle.clean_reasons.specs.Seeking.{IsLostPage}
 use Rattle.clean_reasons.proofs.seeking.least_page.Goals as goal
 
 pub returns-clause-none : goal.returns-clause-none

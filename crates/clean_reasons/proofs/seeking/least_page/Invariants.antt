@@ -1,6 +1,4 @@
-use Rattle.std.specs.Prelude.{MatchOption}
-use Rattle.custody.specs.Tables.{custody_of}
-use Rattle.clean_reasons.specs.Seeking.{HasLostNone, IsLostPage}
+use Rattle.clean_reasons.proofs.Prelude.{MatchOption, custody_of, HasLostNone, IsLostPage}
 use Rattle.clean_reasons.proofs.seeking.least_page.Given as goal
 
 -- the page is in its frame, or no page that is looked for was in one so far

@@ -1,4 +1,4 @@
-use Rattle.std.proofs.Common.{◌≡◌, replicate}
+use Rattle.custody.proofs.Prelude.{◌≡◌, replicate}
 use Rattle.custody_model.specs.declared.DescriptorUse.TheVariants as descriptor
 use Rattle.custody.proofs.boot.descriptors.Given as goal
 

@@ -1,4 +1,4 @@
-use Rattle.std.proofs.Common.{rules}
+use Rattle.custody.proofs.Prelude.{rules}
 use Rattle.custody.proofs.BootLaws.{range_more}
 use Rattle.custody.proofs.boot.in_order.Goals as goal
 

@@ -1,5 +1,4 @@
-use Rattle.std.proofs.Common.{◌≡◌, replicate}
-use Rattle.custody_model.specs.Custody.{offline}
+use Rattle.custody.proofs.Prelude.{◌≡◌, replicate, offline}
 use Rattle.custody.proofs.boot.seats.Given as goal
 
 abbrev pub invariant-loop-cpu : goal.invariant-loop-cpu

@@ -1,7 +1,4 @@
-use Rattle.std.proofs.Common.{rules, not}
-use Rattle.arrayvec.proofs.ArrayVecLemmas.{filter-from_retain}
-use Rattle.custody.specs.Changes.{names_use}
-use Rattle.custody.specs.Uses.{frame_at}
+use Rattle.custody.proofs.Prelude.{rules, not, filter-from_retain, names_use, frame_at}
 use Rattle.custody.proofs.naming.drop_pages.Goals as goal
 
 pub returns : goal.returns

@@ -1,8 +1,4 @@
-use Rattle.std.proofs.Common.{rules, not}
-use Rattle.arrayvec.proofs.ArrayVecLemmas.{filter-from_retain}
-use Rattle.custody.specs.Changes.{names_lead}
-use Rattle.custody.specs.Tables.{row_at}
-use Rattle.custody.specs.Uses.{descriptor_at}
+use Rattle.custody.proofs.Prelude.{rules, not, filter-from_retain, names_lead, row_at, descriptor_at}
 use Rattle.custody.proofs.naming.drop_segs.Goals as goal
 
 pub returns : goal.returns

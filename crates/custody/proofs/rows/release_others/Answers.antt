@@ -1,5 +1,4 @@
-use Rattle.std.proofs.Common.{◌≡◌, ◌++◌, ap, ◌∙◌, arith}
-use Rattle.custody_model.specs.Custody.{range}
+use Rattle.custody.proofs.Prelude.{◌≡◌, ◌++◌, ap, ◌∙◌, arith, range}
 use Rattle.custody.proofs.RowLaws.{cut_back, none_released, one_released, pushed, unpushed}
 use Rattle.custody.proofs.rows.release_others.Goals as goal
 

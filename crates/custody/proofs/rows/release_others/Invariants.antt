@@ -1,5 +1,4 @@
-use Rattle.std.proofs.Common.{◌≡◌, ◌++◌}
-use Rattle.custody_model.specs.Custody.{range}
+use Rattle.custody.proofs.Prelude.{◌≡◌, ◌++◌, range}
 use Rattle.custody.proofs.rows.release_others.Given as goal
 
 abbrev pub invariant-loop-process : goal.invariant-loop-process

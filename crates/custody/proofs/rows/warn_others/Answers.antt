@@ -1,7 +1,4 @@
-use Rattle.std.proofs.Common.{length, drop, sym, ap, ◌∙◌, refl, arith}
-use Rattle.std.proofs.lemmas.List.{set-get_or}
-use Rattle.custody_model.specs.Custody.{Seat}
-use Rattle.custody.specs.Changes.{warned}
+use Rattle.custody.proofs.Prelude.{length, drop, sym, ap, ◌∙◌, refl, arith, set-get_or, Seat, warned}
 use Rattle.custody.proofs.RowLaws.{all_warned, cut_back, none_warned, one_passed, one_warned}
 use Rattle.custody.proofs.rows.warn_others.Goals as goal
 use Rattle.custody.proofs.rows.warn_others.Goals.{then-cpu-but, else-cpu-but}

@@ -1,4 +1,4 @@
-use Rattle.tree_model.specs.Tree.{node_in}
+use Rattle.custody.proofs.Prelude.{node_in}
 use Rattle.custody.proofs.NodeLaws.{node_found, no_node}
 use Rattle.custody.proofs.store_rows.node.Goals as goal
 

@@ -1,8 +1,5 @@
-use Rattle.std.proofs.Common.{◌≡◌, List, true, refl, sym, ap, subst}
-use Rattle.dir_tree.specs.declared.node.Node.{Node}
-use Rattle.dir_tree.specs.Nodes.{Branches, is_in}
+use Rattle.dir_tree.proofs.Prelude.{◌≡◌, List, true, refl, sym, ap, subst, Node, Branches, is_in, segment_in}
 use Rattle.dir_tree.proofs.KeptLemmas.{entry_present}
-use Rattle.dir_tree.specs.Laws.{segment_in}
 use Rattle.dir_tree.proofs.ChangedLemmas.{set_kept, acl_read, shapes_changed, others_kept}
 use Rattle.dir_tree.proofs.Tree.acl_mut.Goals as goal
 

@@ -1,11 +1,6 @@
-use Rattle.std.proofs.Common.{◌≡◌, ℕ, [], ◌<◌, length, sym, ap, ◌∙◌, arith}
-use Rattle.dir_tree.specs.Nodes.{Branches, added, with_acl}
+use Rattle.dir_tree.proofs.Prelude.{◌≡◌, ℕ, [], ◌<◌, length, sym, ap, ◌∙◌, arith, Branches, added, with_acl, newest, has_chains, shape, shapes, length-map}
 use Rattle.dir_tree.proofs.ChangedLemmas.{rows_added}
-use Rattle.dir_tree.specs.Kept.{newest}
-use Rattle.tree_model.proofs.ChainLaws.{has_chains}
 use Rattle.dir_tree.proofs.KeptLemmas.{next_missing, MayAdd, no_fault}
-use Rattle.dir_tree.specs.Shape.{shape, shapes}
-use Rattle.std.proofs.lemmas.List.{length-map}
 use Rattle.dir_tree.proofs.QuotaLemmas.{fault_any, unless_none}
 use Rattle.dir_tree.proofs.Tree.add_branch.Goals as goal
 

@@ -1,16 +1,6 @@
-use Rattle.std.proofs.Common.{◌≡◌, ◌+◌, ◌<◌, ℕ, List, [], ◌∷◌, ◌++◌, Bool, length, true, None, Some, refl, sym, ap}
-use Rattle.std.proofs.Common.{subst, ◌∙◌, arith}
-use Rattle.std.proofs.lemmas.List.{length-map}
-use Rattle.dir_tree.specs.declared.node.Node.{Node}
-use Rattle.dir_tree.specs.declared.entries.Entry.{Entry}
-use Rattle.dir_tree.specs.Nodes.{Branches, is_directory, add_fault_of, node_of_new, as_node}
-use Rattle.dir_tree.specs.Index.{IsOrdered, AreWithin}
-use Rattle.dir_tree.specs.Shape.{shape, shapes}
-use Rattle.dir_tree.specs.Kept.{newest, recounted, IsCounted, IsKept}
-use Rattle.dir_tree.proofs.AddedLemmas.{place_unused, place_room, asked, new_key}
-use Rattle.dir_tree.proofs.AddedLemmas.{added}
+use Rattle.dir_tree.proofs.Prelude.{◌≡◌, ◌+◌, ◌<◌, ℕ, List, [], ◌∷◌, ◌++◌, Bool, length, true, None, Some, refl, sym, ap, subst, ◌∙◌, arith, length-map, Node, Entry, Branches, is_directory, add_fault_of, node_of_new, as_node, IsOrdered, AreWithin, shape, shapes, newest, recounted, IsCounted, IsKept, has_chains}
+use Rattle.dir_tree.proofs.AddedLemmas.{place_unused, place_room, asked, new_key, added}
 use Rattle.dir_tree.proofs.CountLemmas.{superior_there, pushed_few, counted_with, newest_recounted, kept_recounted}
-use Rattle.tree_model.proofs.ChainLaws.{has_chains}
 use Rattle.dir_tree.proofs.KeptLemmas.{next_missing, no_fault}
 use Rattle.dir_tree.proofs.NewestLemmas.{length_newest}
 use Rattle.dir_tree.proofs.Tree.attach.Goals as goal

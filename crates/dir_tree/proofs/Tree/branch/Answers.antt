@@ -1,10 +1,4 @@
-use Rattle.std.proofs.Common.{◌≡◌, Some, sym, ap, ◌∙◌}
-use Rattle.tree_model.specs.Tree.{branch_in}
-use Rattle.dir_tree.specs.declared.node.Node.{Node}
-use Rattle.dir_tree.specs.Index.{node_at}
-use Rattle.dir_tree.specs.Kept.{newest}
-use Rattle.dir_tree.specs.Nodes.{is_in}
-use Rattle.dir_tree.specs.Shape.{shape, shapes}
+use Rattle.dir_tree.proofs.Prelude.{◌≡◌, Some, sym, ap, ◌∙◌, branch_in, Node, node_at, newest, is_in, shape, shapes}
 use Rattle.dir_tree.proofs.KeptLemmas.{branch_read, branch_missing, places_within, place_read, place_there}
 use Rattle.dir_tree.proofs.Tree.branch.Goals as goal
 

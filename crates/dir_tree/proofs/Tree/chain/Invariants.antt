@@ -1,4 +1,4 @@
-use Rattle.std.proofs.Common.{◌≡◌, ◌∷◌, take}
+use Rattle.dir_tree.proofs.Prelude.{◌≡◌, ◌∷◌, take}
 use Rattle.dir_tree.proofs.Tree.chain.Given as goal
 
 abbrev pub invariant-loop-directory : goal.invariant-loop-directory

@@ -1,16 +1,6 @@
-use Rattle.std.proofs.Common.{◌≡◌, ◌+◌, ◌-◌, ◌<◌, ◌≤◌, List, [], ◌∷◌, ◌++◌, length, true, false, sym, ap}
-use Rattle.std.proofs.Common.{subst, ◌∙◌, arith}
-use Rattle.dir_tree.specs.declared.node.Node.{Node}
-use Rattle.dir_tree.specs.declared.entries.Entry.{Entry}
-use Rattle.dir_tree.specs.Kept.{newest, recounted, IsKept}
-use Rattle.std.specs.List.{list_any, remove}
-use Rattle.tree_model.specs.Tree.{is_inferior}
-use Rattle.dir_tree.specs.Nodes.{Branches, is_in, without}
-use Rattle.dir_tree.specs.Shape.{shapes}
+use Rattle.dir_tree.proofs.Prelude.{◌≡◌, ◌+◌, ◌-◌, ◌<◌, ◌≤◌, List, [], ◌∷◌, ◌++◌, length, true, false, sym, ap, subst, ◌∙◌, arith, Node, Entry, newest, recounted, IsKept, list_any, remove, is_inferior, Branches, is_in, without, shapes, length-remove}
 use Rattle.dir_tree.proofs.KeptLemmas.{entry_present, places_within}
-use Rattle.std.proofs.lemmas.List.Edits.{length-remove}
-use Rattle.dir_tree.proofs.CountLemmas.{removed_rising, superior_left, some_left, counted_removed, length_recounted}
-use Rattle.dir_tree.proofs.CountLemmas.{newest_recounted, kept_recounted}
+use Rattle.dir_tree.proofs.CountLemmas.{removed_rising, superior_left, some_left, counted_removed, length_recounted, newest_recounted, kept_recounted}
 use Rattle.dir_tree.proofs.NewestLemmas.{length_newest}
 use Rattle.dir_tree.proofs.RemovedLemmas.{removed_at, not_root, named_at}
 use Rattle.dir_tree.proofs.Tree.detach.Goals as goal

@@ -1,7 +1,4 @@
-use Rattle.std.proofs.Common.{◌≡◌, length, nat_le, ap, ◌∙◌}
-use Rattle.tree_model.specs.Tree.{above}
-use Rattle.dir_tree.specs.Shape.{shapes}
-use Rattle.dir_tree.specs.Laws.{above_any}
+use Rattle.dir_tree.proofs.Prelude.{◌≡◌, length, nat_le, ap, ◌∙◌, above, shapes, above_any}
 use Rattle.dir_tree.proofs.Tree.is_too_deep.Goals as goal
 
 pub returns-then-dir : goal.returns-then-dir

@@ -1,6 +1,4 @@
-use Rattle.std.proofs.Common.{Option, refl, sym, ap, ◌∙◌}
-use Rattle.dir_tree.specs.declared.node.AddFault.{AddFault}
-use Rattle.dir_tree.specs.Nodes.{unless}
+use Rattle.dir_tree.proofs.Prelude.{Option, refl, sym, ap, ◌∙◌, AddFault, unless}
 use Rattle.dir_tree.proofs.QuotaLemmas.{fault_by}
 use Rattle.dir_tree.proofs.Tree.may_add.Goals as goal
 

@@ -1,8 +1,4 @@
-use Rattle.std.proofs.Common.{◌≡◌, ◌≢◌, ℕ, ◌<◌, length, true, false, Some, refl, sym, subst, ◌∙◌}
-use Rattle.std.proofs.lemmas.Bool.{both_ways}
-use Rattle.dir_tree.specs.Nodes.{Branches, is_in, has_inferior}
-use Rattle.dir_tree.specs.Shape.{shapes}
-use Rattle.dir_tree.specs.Kept.{newest, entry_at}
+use Rattle.dir_tree.proofs.Prelude.{◌≡◌, ◌≢◌, ℕ, ◌<◌, length, true, false, Some, refl, sym, subst, ◌∙◌, both_ways, Branches, is_in, has_inferior, shapes, newest, entry_at}
 use Rattle.dir_tree.proofs.KeptLemmas.{entry_present, inferior_since, no_inferior}
 use Rattle.dir_tree.proofs.QuotaLemmas.{inferior_any}
 use Rattle.dir_tree.proofs.Tree.may_remove.Goals as goal

@@ -1,13 +1,6 @@
-use Rattle.std.proofs.Common.{ap, ◌∙◌}
-use Rattle.std.specs.Option.{option_map}
-use Rattle.tree_model.specs.Tree.{above, step_up}
-use Rattle.dir_tree.specs.Nodes.{as_term}
-use Rattle.dir_tree.specs.Shape.{shapes}
-use Rattle.dir_tree.specs.Kept.{newest}
-use Rattle.tree_model.proofs.ChainLaws.{has_chains}
+use Rattle.dir_tree.proofs.Prelude.{ap, ◌∙◌, option_map, above, step_up, as_term, shapes, newest, has_chains, above_once}
 use Rattle.dir_tree.proofs.KeptLemmas.{node_read, node_missing}
 use Rattle.dir_tree.proofs.QuotaLemmas.{node_any, superior_is}
-use Rattle.tree_model.proofs.TreeLaws.{above_once}
 use Rattle.dir_tree.proofs.Tree.node.Goals as goal
 
 pub returns-in_err-entry-clause-none : goal.returns-in_err-entry-clause-none

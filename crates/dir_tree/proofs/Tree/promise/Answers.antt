@@ -1,7 +1,4 @@
-use Rattle.std.proofs.Common.{◌<◌, subst, sym}
-use Rattle.dir_tree.specs.Kept.{newest}
-use Rattle.dir_tree.specs.Shape.{shapes}
-use Rattle.tree_model.proofs.ChainLaws.{has_chains}
+use Rattle.dir_tree.proofs.Prelude.{◌<◌, subst, sym, newest, shapes, has_chains}
 use Rattle.dir_tree.proofs.KeptLemmas.{below_newest}
 use Rattle.dir_tree.proofs.Tree.promise.Goals as goal
 

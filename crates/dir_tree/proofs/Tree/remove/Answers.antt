@@ -1,11 +1,5 @@
-use Rattle.std.proofs.Common.{◌≡◌, List, false, eqb, not, refl, sym, ap, ◌∙◌}
-use Rattle.std.proofs.lemmas.Bool.{false_from_ne_true, both_ways}
-use Rattle.tree_model.specs.Tree.{Node as Term, above}
-use Rattle.dir_tree.specs.Nodes.{Branches, has_inferior}
-use Rattle.dir_tree.specs.Shape.{shape, shapes}
-use Rattle.tree_model.proofs.Finds.{filter_map_same}
+use Rattle.dir_tree.proofs.Prelude.{◌≡◌, List, false, eqb, not, refl, sym, ap, ◌∙◌, false_from_ne_true, both_ways, Term, above, Branches, has_inferior, shape, shapes, filter_map_same, above_left}
 use Rattle.dir_tree.proofs.QuotaLemmas.{inferior_any}
-use Rattle.tree_model.proofs.TreeLaws.{above_left}
 use Rattle.dir_tree.proofs.Tree.remove.Goals as goal
 
 pub detach-requires-clause-leaf : goal.detach-requires-clause-leaf

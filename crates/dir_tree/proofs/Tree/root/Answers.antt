@@ -1,5 +1,4 @@
-use Rattle.std.proofs.Common.{◌<◌, length, arith}
-use Rattle.dir_tree.specs.Kept.{newest}
+use Rattle.dir_tree.proofs.Prelude.{◌<◌, length, arith, newest}
 use Rattle.dir_tree.proofs.NewestLemmas.{length_newest}
 use Rattle.dir_tree.proofs.QuotaLemmas.{root_there}
 use Rattle.dir_tree.proofs.Tree.root.Goals as goal

@@ -1,4 +1,4 @@
-use Rattle.std.proofs.Common.{refl}
+use Rattle.dir_tree.proofs.Prelude.{refl}
 use Rattle.dir_tree.proofs.KeptLemmas.{segment_present}
 use Rattle.dir_tree.proofs.ChangedLemmas.{set_kept, set_seen}
 use Rattle.dir_tree.proofs.Tree.set_home.Goals as goal

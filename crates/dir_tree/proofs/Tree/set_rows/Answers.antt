@@ -1,5 +1,4 @@
-use Rattle.std.proofs.Common.{◌≡◌, true, refl, sym, subst}
-use Rattle.dir_tree.specs.Nodes.{Branches, is_in}
+use Rattle.dir_tree.proofs.Prelude.{◌≡◌, true, refl, sym, subst, Branches, is_in}
 use Rattle.dir_tree.proofs.KeptLemmas.{entry_present}
 use Rattle.dir_tree.proofs.ChangedLemmas.{set_kept, set_seen}
 use Rattle.dir_tree.proofs.Tree.set_rows.Goals as goal

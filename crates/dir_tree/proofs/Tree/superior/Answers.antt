@@ -1,11 +1,5 @@
-use Rattle.std.proofs.Common.{◌≡◌, true, None, sym, ap, subst, ◌∙◌, is_some}
-use Rattle.std.proofs.lemmas.Bool.{both_ways}
-use Rattle.tree_model.specs.Tree.{above, step_up}
-use Rattle.dir_tree.specs.Nodes.{Branches, is_in, node_of}
-use Rattle.dir_tree.specs.Kept.{newest}
-use Rattle.dir_tree.specs.Shape.{shapes}
+use Rattle.dir_tree.proofs.Prelude.{◌≡◌, true, None, sym, ap, subst, ◌∙◌, is_some, both_ways, above, step_up, Branches, is_in, node_of, newest, shapes, superior_in, above_once, superior_up, IsUp}
 use Rattle.dir_tree.proofs.KeptLemmas.{superior_read, node_missing, up_in}
-use Rattle.tree_model.proofs.TreeLaws.{superior_in, above_once, superior_up, IsUp}
 use Rattle.dir_tree.proofs.Tree.superior.Goals as goal
 
 pub unreachable-requires : goal.unreachable-requires

@@ -1,10 +1,4 @@
-use Rattle.std.proofs.Common.{◌≡◌, ◌++◌, ◌+◌, ◌≤◌, length, [], ◌∷◌, ℕ, List, sym, ap, ◌∙◌, arith}
-use Rattle.std.proofs.lemmas.List.{length-append, append-nil}
-use Rattle.tree_model.specs.Tree.{above}
-use Rattle.dir_tree.specs.Shape.{shapes}
-use Rattle.tree_model.proofs.ChainLaws.{has_chains}
-use Rattle.dir_tree.specs.Laws.{above_any}
-use Rattle.tree_model.proofs.TreeLaws.{depth}
+use Rattle.dir_tree.proofs.Prelude.{◌≡◌, ◌++◌, ◌+◌, ◌≤◌, length, [], ◌∷◌, ℕ, List, sym, ap, ◌∙◌, arith, length-append, append-nil, above, shapes, has_chains, above_any, depth}
 use Rattle.dir_tree.proofs.Tree.superiors.Goals as goal
 
 pub push-requires : goal.push-requires

@@ -1,7 +1,4 @@
-use Rattle.std.proofs.Common.{◌≡◌, ◌++◌, true}
-use Rattle.tree_model.specs.Tree.{above}
-use Rattle.dir_tree.specs.Nodes.{is_in}
-use Rattle.dir_tree.specs.Shape.{shapes}
+use Rattle.dir_tree.proofs.Prelude.{◌≡◌, ◌++◌, true, above, is_in, shapes}
 use Rattle.dir_tree.proofs.Tree.superiors.Given as goal
 
 abbrev pub invariant-loop-superior : goal.invariant-loop-superior

@@ -1,7 +1,4 @@
-use Rattle.std.proofs.Common.{◌≡◌, ◌+◌, ℕ, List, drop, true, false, sym, ap, ◌∙◌}
-use Rattle.tree_model.specs.Tree.{Node as Term, Walk, InSegment, Missing, branch_in, onward, walk_from}
-use Rattle.dir_tree.specs.Nodes.{path_answer}
-use Rattle.dir_tree.specs.Shape.{shapes}
+use Rattle.dir_tree.proofs.Prelude.{◌≡◌, ◌+◌, ℕ, List, drop, true, false, sym, ap, ◌∙◌, Term, Walk, InSegment, Missing, branch_in, onward, walk_from, path_answer, shapes}
 use Rattle.dir_tree.proofs.QuotaLemmas.{walk_any, walk_next, walk_ends}
 use Rattle.dir_tree.proofs.Tree.walk.Goals as goal
 

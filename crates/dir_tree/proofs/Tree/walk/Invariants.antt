@@ -1,7 +1,4 @@
-use Rattle.std.proofs.Common.{◌≡◌, drop, true}
-use Rattle.tree_model.specs.Tree.{walk_from}
-use Rattle.dir_tree.specs.Nodes.{is_in}
-use Rattle.dir_tree.specs.Shape.{shapes}
+use Rattle.dir_tree.proofs.Prelude.{◌≡◌, drop, true, walk_from, is_in, shapes}
 use Rattle.dir_tree.proofs.Tree.walk.Given as goal
 
 abbrev pub invariant-loop-name : goal.invariant-loop-name

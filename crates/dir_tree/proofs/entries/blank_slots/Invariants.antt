@@ -1,4 +1,4 @@
-use Rattle.std.proofs.Common.{◌≡◌, length, vec_capacity}
+use Rattle.dir_tree.proofs.Prelude.{◌≡◌, length, vec_capacity}
 use Rattle.dir_tree.proofs.entries.blank_slots.Given as goal
 
 abbrev pub invariant-loop : goal.invariant-loop

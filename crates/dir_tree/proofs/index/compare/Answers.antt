@@ -1,8 +1,4 @@
-use Rattle.std.proofs.Common.{◌≡◌, arith, refl, sym}
-use Rattle.std.specs.Cmp.{nat_cmp_is}
-use Rattle.std.specs.Ordering.{nat_cmp}
-use Rattle.std.specs.declared.cmp.Ordering.TheVariants.{Less, Equal, Greater}
-use Rattle.dir_tree.specs.Index.{key_cmp}
+use Rattle.dir_tree.proofs.Prelude.{◌≡◌, arith, refl, sym, nat_cmp_is, nat_cmp, Less, Equal, Greater, key_cmp}
 use Rattle.dir_tree.proofs.index.compare.Goals as goal
 
 pub returns-then-own-hash : goal.returns-then-own-hash

@@ -1,8 +1,4 @@
-use Rattle.std.proofs.Common.{sym, ◌∙◌}
-use Rattle.std.specs.Cmp.{Equal-is}
-use Rattle.std.specs.Cmp.Lexicographic.{slice_cmp}
-use Rattle.std.specs.Ordering.{nat_cmp}
-use Rattle.std.proofs.lemmas.Map.Text.{is_eq-slice_cmp}
+use Rattle.dir_tree.proofs.Prelude.{sym, ◌∙◌, Equal-is, slice_cmp, nat_cmp, is_eq-slice_cmp}
 use Rattle.dir_tree.proofs.index.compare_names.Goals as goal
 
 pub returns-then-eq : goal.returns-then-eq

@@ -1,5 +1,4 @@
-use Rattle.std.proofs.Common.{◌≡◌, ℕ, [], length, vec_capacity}
-use Rattle.dir_tree.specs.Index.{shelf_at}
+use Rattle.dir_tree.proofs.Prelude.{◌≡◌, ℕ, [], length, vec_capacity, shelf_at}
 use Rattle.dir_tree.proofs.index.empty_shelves.Given as goal
 
 abbrev pub invariant-loop : goal.invariant-loop

@@ -1,9 +1,5 @@
-use Rattle.std.proofs.Common.{◌≡◌, ◌≢◌, ◌<◌, ℕ, Some, length, get_or, refl, sym, ap, ◌∙◌, arith}
-use Rattle.std.proofs.lemmas.Bool.{false_from_ne_true}
-use Rattle.std.specs.declared.cmp.Ordering.TheVariants.{Less, Greater}
-use Rattle.dir_tree.specs.Index.{Key, key_at, key_cmp, key_of, key_hash, hash_at, node_at}
-use Rattle.dir_tree.proofs.IndexLemmas.{are_rising, before_hash, branch_key, compared, first_place, halved_above}
-use Rattle.dir_tree.proofs.IndexLemmas.{key_branch, not_after, tied_same}
+use Rattle.dir_tree.proofs.Prelude.{◌≡◌, ◌≢◌, ◌<◌, ℕ, Some, length, get_or, refl, sym, ap, ◌∙◌, arith, false_from_ne_true, Less, Greater, Key, key_at, key_cmp, key_of, key_hash, hash_at, node_at}
+use Rattle.dir_tree.proofs.IndexLemmas.{are_rising, before_hash, branch_key, compared, first_place, halved_above, key_branch, not_after, tied_same}
 use Rattle.dir_tree.proofs.index.find.Goals as goal
 
 pub from_hash-at-requires : goal.from_hash-at-requires

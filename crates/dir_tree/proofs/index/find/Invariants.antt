@@ -1,6 +1,4 @@
-use Rattle.std.proofs.Common.{◌≡◌, ℕ, ◌<◌, ◌≤◌, ◌-◌, length, Some}
-use Rattle.std.specs.declared.cmp.Ordering.TheVariants.{Less}
-use Rattle.dir_tree.specs.Index.{key_cmp, key_at}
+use Rattle.dir_tree.proofs.Prelude.{◌≡◌, ℕ, ◌<◌, ◌≤◌, ◌-◌, length, Some, Less, key_cmp, key_at}
 use Rattle.dir_tree.proofs.index.find.Given as goal
 
 abbrev pub invariant-loop-at : goal.invariant-loop-at

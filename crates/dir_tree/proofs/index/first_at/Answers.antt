@@ -1,6 +1,4 @@
-use Rattle.std.proofs.Common.{◌≡◌, ◌≢◌, ◌<◌, ℕ, length, sym, ◌∙◌, arith, inl, inr}
-use Rattle.std.specs.declared.cmp.Ordering.TheVariants.{Less, Equal, Greater}
-use Rattle.dir_tree.specs.Index.{Key, key_at, key_cmp, key_hash, hash_at}
+use Rattle.dir_tree.proofs.Prelude.{◌≡◌, ◌≢◌, ◌<◌, ℕ, length, sym, ◌∙◌, arith, inl, inr, Less, Equal, Greater, Key, key_at, key_cmp, key_hash, hash_at}
 use Rattle.dir_tree.proofs.IndexLemmas.{are_rising, before_hash, compared, halved_above}
 use Rattle.dir_tree.proofs.index.first_at.Goals as goal
 

@@ -1,5 +1,4 @@
-use Rattle.std.proofs.Common.{ℕ, ◌<◌, ◌≤◌, ◌+◌, length}
-use Rattle.dir_tree.specs.Index.{hash_at}
+use Rattle.dir_tree.proofs.Prelude.{ℕ, ◌<◌, ◌≤◌, ◌+◌, length, hash_at}
 use Rattle.dir_tree.proofs.index.from_hash.Given as goal
 
 abbrev pub invariant-loop-left : goal.invariant-loop-left

@@ -1,5 +1,4 @@
-use Rattle.std.proofs.Common.{◌≡◌, take}
-use Rattle.dir_tree.specs.Index.{last_word}
+use Rattle.dir_tree.proofs.Prelude.{◌≡◌, take, last_word}
 use Rattle.dir_tree.proofs.index.last_word.Given as goal
 
 abbrev pub invariant-loop-byte : goal.invariant-loop-byte

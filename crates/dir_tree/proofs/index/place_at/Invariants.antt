@@ -1,5 +1,4 @@
-use Rattle.std.proofs.Common.{◌≡◌, ℕ, ◌<◌, ◌≤◌, ◌-◌, length}
-use Rattle.std.specs.Prelude.{slice_index}
+use Rattle.dir_tree.proofs.Prelude.{◌≡◌, ℕ, ◌<◌, ◌≤◌, ◌-◌, length, slice_index}
 use Rattle.dir_tree.proofs.index.place_at.Given as goal
 
 abbrev pub invariant-loop-at : goal.invariant-loop-at

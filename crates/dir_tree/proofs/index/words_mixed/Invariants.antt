@@ -1,5 +1,4 @@
-use Rattle.std.proofs.Common.{◌≡◌, take}
-use Rattle.dir_tree.specs.Index.{words_mixed}
+use Rattle.dir_tree.proofs.Prelude.{◌≡◌, take, words_mixed}
 use Rattle.dir_tree.proofs.index.words_mixed.Given as goal
 
 abbrev pub invariant-loop-word : goal.invariant-loop-word

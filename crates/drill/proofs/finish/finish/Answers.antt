@@ -1,7 +1,4 @@
-use Rattle.std.proofs.Common.{rules, ◌≡◌, ℕ, ◌+◌, ◌%◌, ◌^◌, length, sum, sym, ap, subst, ◌∙◌, arith}
-use Rattle.live_pages.specs.Ending.{made_by}
-use Rattle.drill.specs.Work.{work_of, AreFirstOf, sums_of}
-use Rattle.drill.specs.Roles.{first_words}
+use Rattle.drill.proofs.Prelude.{rules, ◌≡◌, ℕ, ◌+◌, ◌%◌, ◌^◌, length, sum, sym, ap, subst, ◌∙◌, arith, made_by, work_of, AreFirstOf, sums_of, first_words}
 use Rattle.drill.proofs.Rows.{done_all}
 use Rattle.drill.proofs.Closing.{AtClose, front, ended_is, touches, total}
 use Rattle.drill.proofs.finish.finish.Goals as goal

@@ -1,5 +1,4 @@
-use Rattle.std.proofs.Common.{◌≡◌, ◌+◌, ◌%◌, ◌^◌}
-use Rattle.drill.specs.Roles.{first_words}
+use Rattle.drill.proofs.Prelude.{◌≡◌, ◌+◌, ◌%◌, ◌^◌, first_words}
 use Rattle.drill.proofs.finish.with_pages.Given as goal
 
 abbrev pub invariant-loop-page : goal.invariant-loop-page

@@ -1,5 +1,4 @@
-use Rattle.live_doors.specs.Doors.{OnlyNoted}
-use Rattle.live_pages.specs.Models.{IsKeeperOf, SameButWatch}
+use Rattle.drill.proofs.Prelude.{OnlyNoted, IsKeeperOf, SameButWatch}
 use Rattle.drill.proofs.kept.ask.Given as goal
 
 abbrev pub invariant-loop : goal.invariant-loop

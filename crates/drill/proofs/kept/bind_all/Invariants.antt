@@ -1,5 +1,4 @@
-use Rattle.std.proofs.Common.{◌≡◌, ℕ, ◌<◌, ◌≤◌, slice_index}
-use Rattle.drill.specs.Roles.{IsKept}
+use Rattle.drill.proofs.Prelude.{◌≡◌, ℕ, ◌<◌, ◌≤◌, slice_index, IsKept}
 use Rattle.drill.proofs.kept.bind_all.Given as goal
 
 abbrev pub invariant-loop-f : goal.invariant-loop-f

@@ -1,5 +1,4 @@
-use Rattle.std.proofs.Common.{◌≡◌}
-use Rattle.drill.specs.Roles.{IsKept}
+use Rattle.drill.proofs.Prelude.{◌≡◌, IsKept}
 use Rattle.drill.proofs.kept.keep.Given as goal
 
 abbrev pub invariant-loop-r : goal.invariant-loop-r

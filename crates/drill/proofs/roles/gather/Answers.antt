@@ -1,4 +1,4 @@
-use Rattle.std.proofs.Common.{rules, ◌+◌, ◌≡◌, length, vec_len, arith}
+use Rattle.drill.proofs.Prelude.{rules, ◌+◌, ◌≡◌, length, vec_len, arith}
 use Rattle.drill.proofs.Rows.{done_push}
 use Rattle.drill.proofs.roles.gather.Goals as goal
 

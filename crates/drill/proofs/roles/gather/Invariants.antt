@@ -1,6 +1,4 @@
-use Rattle.std.proofs.Common.{◌≡◌, ◌+◌, ◌*◌, ◌%◌, ◌^◌, ◌≤◌, All, vec_len, vec_capacity}
-use Rattle.live_pages.specs.Models.{IsPassOf}
-use Rattle.drill.specs.Roles.{RoleDone, EachRole, AreDone, missing, made_count}
+use Rattle.drill.proofs.Prelude.{◌≡◌, ◌+◌, ◌*◌, ◌%◌, ◌^◌, ◌≤◌, All, vec_len, vec_capacity, IsPassOf, RoleDone, EachRole, AreDone, missing, made_count}
 use Rattle.drill.proofs.roles.gather.Given as goal
 
 abbrev pub invariant-loop-role : goal.invariant-loop-role

@@ -1,5 +1,4 @@
-use Rattle.std.proofs.Common.{rules, ℕ, ◌+◌, ◌≡◌, length, vec_len, sym, ap, ◌∙◌, arith}
-use Rattle.live_pages.specs.Models.{first_passes}
+use Rattle.drill.proofs.Prelude.{rules, ℕ, ◌+◌, ◌≡◌, length, vec_len, sym, ap, ◌∙◌, arith, first_passes}
 use Rattle.drill.proofs.Rows.{fresh_push, first_count}
 use Rattle.drill.proofs.roles.seat.Goals as goal
 

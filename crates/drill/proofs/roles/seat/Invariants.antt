@@ -1,6 +1,4 @@
-use Rattle.std.proofs.Common.{◌≡◌, ◌+◌, ◌≤◌, All, vec_len, vec_capacity}
-use Rattle.live_pages.specs.Models.{IsPassOf, first_passes}
-use Rattle.drill.specs.Roles.{RoleFresh, EachRole}
+use Rattle.drill.proofs.Prelude.{◌≡◌, ◌+◌, ◌≤◌, All, vec_len, vec_capacity, IsPassOf, first_passes, RoleFresh, EachRole}
 use Rattle.drill.proofs.roles.seat.Given as goal
 
 abbrev pub invariant-loop-pass : goal.invariant-loop-pass

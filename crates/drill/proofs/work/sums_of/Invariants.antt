@@ -1,5 +1,4 @@
-use Rattle.std.proofs.Common.{◌≡◌}
-use Rattle.drill.specs.Work.{sums_of}
+use Rattle.drill.proofs.Prelude.{◌≡◌, sums_of}
 use Rattle.drill.proofs.work.sums_of.Given as goal
 
 abbrev pub invariant-loop : goal.invariant-loop

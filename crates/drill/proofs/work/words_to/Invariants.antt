@@ -1,5 +1,4 @@
-use Rattle.std.proofs.Common.{◌≡◌, ◌*◌, ◌≤◌}
-use Rattle.drill.specs.Roles.{words_to}
+use Rattle.drill.proofs.Prelude.{◌≡◌, ◌*◌, ◌≤◌, words_to}
 use Rattle.drill.proofs.work.words_to.Given as goal
 
 abbrev pub invariant-loop-i : goal.invariant-loop-i

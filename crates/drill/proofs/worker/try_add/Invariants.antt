@@ -1,5 +1,4 @@
-use Rattle.std.proofs.Common.{◌≡◌}
-use Rattle.live_pages.specs.Models.{IsPassOf}
+use Rattle.drill.proofs.Prelude.{◌≡◌, IsPassOf}
 use Rattle.drill.proofs.worker.try_add.Given as goal
 
 abbrev pub invariant-loop : goal.invariant-loop

@@ -1,4 +1,4 @@
-use Rattle.std.proofs.Common.{◌+◌, arith}
+use Rattle.drill.proofs.Prelude.{◌+◌, arith}
 use Rattle.drill.proofs.Adds.{done_count}
 use Rattle.drill.proofs.worker.work.Goals as goal
 

@@ -1,7 +1,4 @@
-use Rattle.std.proofs.Common.{◌≡◌, ◌+◌, ◌≤◌, map}
-use Rattle.live_pages.specs.Models.{IsPassOf}
-use Rattle.drill.specs.Work.{state_after, deed}
-use Rattle.drill.specs.Roles.{done}
+use Rattle.drill.proofs.Prelude.{◌≡◌, ◌+◌, ◌≤◌, map, IsPassOf, state_after, deed, done}
 use Rattle.drill.proofs.worker.work.Given as goal
 
 abbrev pub invariant-loop-i : goal.invariant-loop-i

@@ -1,5 +1,4 @@
-use Rattle.std.proofs.Common.{◌≡◌, replicate, None}
-use Rattle.flat_model.specs.Store.{at_first}
+use Rattle.flat_store.proofs.Prelude.{◌≡◌, replicate, None, at_first}
 use Rattle.flat_store.proofs.boot.at_first.Given as goal
 
 abbrev pub invariant-loop-process : goal.invariant-loop-process

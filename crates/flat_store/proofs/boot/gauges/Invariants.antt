@@ -1,5 +1,4 @@
-use Rattle.std.proofs.Common.{◌≡◌, map, take}
-use Rattle.flat_store.specs.Shown.{entries_gauge, records_gauge}
+use Rattle.flat_store.proofs.Prelude.{◌≡◌, map, take, entries_gauge, records_gauge}
 use Rattle.flat_store.proofs.boot.gauges.Given as goal
 
 -- the gauges of the volumes so far

@@ -1,5 +1,4 @@
-use Rattle.std.proofs.Common.{◌≡◌, ◌<◌, ℕ, false}
-use Rattle.flat_store.specs.Roomy.{is_roomy}
+use Rattle.flat_store.proofs.Prelude.{◌≡◌, ◌<◌, ℕ, false, is_roomy}
 use Rattle.flat_store.proofs.moving.first_roomy.Given as goal
 
 -- no volume before has been found roomy

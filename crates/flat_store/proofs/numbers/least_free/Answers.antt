@@ -1,4 +1,4 @@
-use Rattle.std.proofs.Common.{◌∙◌, ap, not, arith}
+use Rattle.flat_store.proofs.Prelude.{◌∙◌, ap, not, arith}
 use Rattle.flat_store.proofs.NumberLaws.{free_found, none_free}
 use Rattle.flat_store.proofs.numbers.least_free.Goals as goal
 

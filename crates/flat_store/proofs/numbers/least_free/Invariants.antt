@@ -1,5 +1,4 @@
-use Rattle.std.proofs.Common.{◌≡◌, ℕ, ◌<◌, true, is_some}
-use Rattle.known_segs.specs.Known.{uid_of}
+use Rattle.flat_store.proofs.Prelude.{◌≡◌, ℕ, ◌<◌, true, is_some, uid_of}
 use Rattle.flat_store.proofs.numbers.least_free.Given as goal
 
 abbrev pub invariant-loop-number : goal.invariant-loop-number

@@ -1,5 +1,4 @@
-use Rattle.std.proofs.Common.{◌≡◌, ℕ, ◌<◌}
-use Rattle.std.specs.Prelude.{slice_index}
+use Rattle.flat_store.proofs.Prelude.{◌≡◌, ℕ, ◌<◌, slice_index}
 use Rattle.flat_store.proofs.releases.is_zero_below.Given as goal
 
 abbrev pub invariant-loop-i : goal.invariant-loop-i

@@ -1,4 +1,4 @@
-use Rattle.machine_model.specs.Reads.{flat_of}
+use Rattle.lab_runs.proofs.Prelude.{flat_of}
 use Rattle.lab_runs.proofs.CountLaws.{adds_by}
 use Rattle.lab_runs.proofs.counting.add_end.Goals as goal
 

@@ -1,4 +1,4 @@
-use Rattle.lab_runs.specs.Outcomes.{Gathers}
+use Rattle.lab_runs.proofs.Prelude.{Gathers}
 use Rattle.lab_runs.proofs.counting.outcomes_text.Given as goal
 
 -- the table of so many runs

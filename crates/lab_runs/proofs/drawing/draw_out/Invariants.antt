@@ -1,4 +1,4 @@
-use Rattle.std.proofs.Common.{◌≡◌, ◌-◌, ◌^◌, length}
+use Rattle.lab_runs.proofs.Prelude.{◌≡◌, ◌-◌, ◌^◌, length}
 use Rattle.lab_runs.proofs.DrawLaws.{HaveDrawn}
 use Rattle.lab_runs.proofs.drawing.draw_out.Given as goal
 

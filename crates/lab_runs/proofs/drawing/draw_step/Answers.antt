@@ -1,5 +1,4 @@
-use Rattle.std.proofs.Common.{Bool, rules, subst, ◌∙◌}
-use Rattle.lab_runs.specs.Orders.{CameTo}
+use Rattle.lab_runs.proofs.Prelude.{Bool, rules, subst, ◌∙◌, CameTo}
 use Rattle.lab_runs.proofs.DrawLaws.{answered_is}
 use Rattle.lab_runs.proofs.drawing.draw_step.Goals as goal
 

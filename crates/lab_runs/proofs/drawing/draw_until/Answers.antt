@@ -1,4 +1,4 @@
-use Rattle.std.proofs.Common.{◌∙◌, arith, refl}
+use Rattle.lab_runs.proofs.Prelude.{◌∙◌, arith, refl}
 use Rattle.lab_runs.proofs.DrawLaws.{drawing_ended, drawing_missed, drawing_on, drawing_seen, drawing_start}
 use Rattle.lab_runs.proofs.drawing.draw_until.Goals as goal
 

@@ -1,4 +1,4 @@
-use Rattle.std.proofs.Common.{◌≡◌, ◌<◌, ◌^◌, length}
+use Rattle.lab_runs.proofs.Prelude.{◌≡◌, ◌<◌, ◌^◌, length}
 use Rattle.lab_runs.proofs.DrawLaws.{IsDrawing}
 use Rattle.lab_runs.proofs.drawing.draw_until.Given as goal
 

@@ -1,6 +1,4 @@
-use Rattle.std.proofs.Common.{ap, ◌∙◌}
-use Rattle.std.specs.List.{flat_map}
-use Rattle.listing.specs.Listings.{account_text}
+use Rattle.lab_runs.proofs.Prelude.{ap, ◌∙◌, flat_map, account_text}
 use Rattle.lab_runs.proofs.ends.accounts_text.Goals as goal
 
 pub returns : goal.returns

@@ -1,6 +1,4 @@
-use Rattle.std.proofs.Common.{◌∙◌, length, subst}
-use Rattle.script.specs.Plans.{Plan}
-use Rattle.lab_runs.specs.Orders.{FollowsOrder, IsAstray, Strays}
+use Rattle.lab_runs.proofs.Prelude.{◌∙◌, length, subst, Plan, FollowsOrder, IsAstray, Strays}
 use Rattle.lab_runs.proofs.FollowLaws.{followed_next, strays_next}
 use Rattle.lab_runs.proofs.following.follow.Goals as goal
 

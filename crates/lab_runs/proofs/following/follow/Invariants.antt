@@ -1,5 +1,4 @@
-use Rattle.std.proofs.Common.{◌≡◌, take}
-use Rattle.lab_runs.specs.Orders.{AreFollowed}
+use Rattle.lab_runs.proofs.Prelude.{◌≡◌, take, AreFollowed}
 use Rattle.lab_runs.proofs.following.follow.Given as goal
 
 -- the lines so far were followed

@@ -1,6 +1,4 @@
-use Rattle.std.proofs.Common.{◌<◌, ℕ, subst}
-use Rattle.std.specs.Prelude.{All}
-use Rattle.std.proofs.lemmas.List.Elements.{All-same}
+use Rattle.lab_runs.proofs.Prelude.{◌<◌, ℕ, subst, All, All-same}
 use Rattle.lab_runs.proofs.following.follow_line.Goals as goal
 
 pub follow_list-requires-in-Round : goal.follow_list-requires-in-Round

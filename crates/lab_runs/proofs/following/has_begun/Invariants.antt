@@ -1,6 +1,4 @@
-use Rattle.std.proofs.Common.{◌≡◌, false, take}
-use Rattle.std.specs.List.{list_any}
-use Rattle.lab_runs.specs.Orders.{entry_begins}
+use Rattle.lab_runs.proofs.Prelude.{◌≡◌, false, take, list_any, entry_begins}
 use Rattle.lab_runs.proofs.following.has_begun.Given as goal
 
 -- none of those so far begins so

@@ -1,4 +1,4 @@
-use Rattle.std.proofs.Common.{◌∙◌, arith, refl}
+use Rattle.lab_runs.proofs.Prelude.{◌∙◌, arith, refl}
 use Rattle.lab_runs.proofs.UntilLaws.{go_on, missed_all, stop_ended, stop_seen, trying_start}
 use Rattle.lab_runs.proofs.following.make_until.Goals as goal
 

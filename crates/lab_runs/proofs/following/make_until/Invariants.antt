@@ -1,4 +1,4 @@
-use Rattle.std.proofs.Common.{◌≡◌}
+use Rattle.lab_runs.proofs.Prelude.{◌≡◌}
 use Rattle.lab_runs.proofs.UntilLaws.{IsTrying}
 use Rattle.lab_runs.proofs.following.make_until.Given as goal
 

@@ -1,9 +1,4 @@
-use Rattle.std.proofs.Common.{sym, subst, rules, ◌∙◌}
-use Rattle.script.specs.Plans.{Plan}
-use Rattle.bulk_store.specs.AnyDrive.{any_places}
-use Rattle.machine.proofs.CallLaws.{counted_on, keeps_on}
-use Rattle.runner.specs.Drives.{AreTold, faults_in, plan_of}
-use Rattle.runner.proofs.DriveLaws.{told_still}
+use Rattle.lab_runs.proofs.Prelude.{sym, subst, rules, ◌∙◌, Plan, any_places, counted_on, keeps_on, AreTold, faults_in, plan_of, told_still}
 use Rattle.lab_runs.proofs.running.finish.Goals as goal
 
 pub promise-requires-clause-told : goal.promise-requires-clause-told

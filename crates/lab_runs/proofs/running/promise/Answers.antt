@@ -1,4 +1,4 @@
-use Rattle.runner.proofs.DriveLaws.{all_counted, told_faults}
+use Rattle.lab_runs.proofs.Prelude.{all_counted, told_faults}
 use Rattle.lab_runs.proofs.running.promise.Goals as goal
 
 pub returns : goal.returns

@@ -1,4 +1,4 @@
-use Rattle.std.proofs.Common.{rules}
+use Rattle.lab_runs.proofs.Prelude.{rules}
 use Rattle.lab_runs.proofs.StepLaws.{step_made}
 use Rattle.lab_runs.proofs.steps.make_step.Goals as goal
 

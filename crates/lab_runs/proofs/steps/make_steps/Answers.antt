@@ -1,4 +1,4 @@
-use Rattle.std.proofs.Common.{◌∙◌}
+use Rattle.lab_runs.proofs.Prelude.{◌∙◌}
 use Rattle.lab_runs.proofs.StepLaws.{all_more}
 use Rattle.lab_runs.proofs.steps.make_steps.Goals as goal
 

@@ -1,5 +1,4 @@
-use Rattle.std.proofs.Common.{◌≡◌, take}
-use Rattle.lab_runs.specs.Steps.{MakesAll}
+use Rattle.lab_runs.proofs.Prelude.{◌≡◌, take, MakesAll}
 use Rattle.lab_runs.proofs.steps.make_steps.Given as goal
 
 -- those of the list so far have made their steps

@@ -1,7 +1,4 @@
-use Rattle.std.proofs.Common.{take}
-use Rattle.std.specs.Prelude.{string_bytes}
-use Rattle.listing.proofs.LineLaws.{HasEach}
-use Rattle.lab_runs.specs.Traces.{entry_line}
+use Rattle.lab_runs.proofs.Prelude.{take, string_bytes, HasEach, entry_line}
 use Rattle.lab_runs.proofs.tracing.push_entries.Given as goal
 
 -- the lines of the entries so far

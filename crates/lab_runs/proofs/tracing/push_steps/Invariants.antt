@@ -1,7 +1,4 @@
-use Rattle.std.proofs.Common.{◌≡◌, ◌≤◌, ◌++◌, drop, length}
-use Rattle.std.specs.Prelude.{string_bytes}
-use Rattle.lab_runs.specs.Steps.{entries_in}
-use Rattle.lab_runs.specs.Traces.{steps_text}
+use Rattle.lab_runs.proofs.Prelude.{◌≡◌, ◌≤◌, ◌++◌, drop, length, string_bytes, entries_in, steps_text}
 use Rattle.lab_runs.proofs.tracing.push_steps.Given as goal
 
 -- the text so far, and that of the steps that are left with the entries that are left

@@ -1,4 +1,4 @@
-use Rattle.std.proofs.Common.{arith, ap, length}
+use Rattle.listing.proofs.Prelude.{arith, ap, length}
 use Rattle.listing.proofs.LineLaws.{lines_end}
 use Rattle.listing.proofs.answers.push_part.Goals as goal
 

@@ -1,5 +1,4 @@
-use Rattle.std.proofs.Common.{take, string_bytes}
-use Rattle.listing.specs.Listings.{own_line}
+use Rattle.listing.proofs.Prelude.{take, string_bytes, own_line}
 use Rattle.listing.proofs.LineLaws.{HasEach}
 use Rattle.listing.proofs.answers.push_part.Given as goal
 

@@ -1,4 +1,4 @@
-use Rattle.std.proofs.Common.{string_bytes}
+use Rattle.listing.proofs.Prelude.{string_bytes}
 use Rattle.listing.proofs.LineLaws.{HasProcesses}
 use Rattle.listing.proofs.answers.push_processes.Given as goal
 

@@ -1,5 +1,4 @@
-use Rattle.std.proofs.Common.{take, string_bytes}
-use Rattle.listing.specs.Listings.{account_text}
+use Rattle.listing.proofs.Prelude.{take, string_bytes, account_text}
 use Rattle.listing.proofs.LineLaws.{HasEach}
 use Rattle.listing.proofs.lines.push_accounts.Given as goal
 

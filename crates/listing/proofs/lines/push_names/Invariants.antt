@@ -1,4 +1,4 @@
-use Rattle.std.proofs.Common.{take, string_bytes}
+use Rattle.listing.proofs.Prelude.{take, string_bytes}
 use Rattle.listing.proofs.LineLaws.{HasNames}
 use Rattle.listing.proofs.lines.push_names.Given as goal
 

@@ -1,5 +1,4 @@
-use Rattle.std.proofs.Common.{take, string_bytes}
-use Rattle.listing.specs.Listings.{volume_text}
+use Rattle.listing.proofs.Prelude.{take, string_bytes, volume_text}
 use Rattle.listing.proofs.LineLaws.{HasEach}
 use Rattle.listing.proofs.lines.push_volumes.Given as goal
 

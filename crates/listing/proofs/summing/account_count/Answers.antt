@@ -1,4 +1,4 @@
-use Rattle.std.proofs.Common.{sym, ◌∙◌}
+use Rattle.listing.proofs.Prelude.{sym, ◌∙◌}
 use Rattle.listing.proofs.CountLaws.{account_none, account_one}
 use Rattle.listing.proofs.summing.account_count.Goals as goal
 

@@ -1,6 +1,4 @@
-use Rattle.std.proofs.Common.{◌≡◌}
-use Rattle.accounts.specs.Maps.{Counts}
-use Rattle.flat_model.specs.Store.{Store}
+use Rattle.listing.proofs.Prelude.{◌≡◌, Counts, Store}
 use Rattle.listing.proofs.CountLaws.{gathered}
 use Rattle.listing.proofs.summing.accounts_by_uid.Given as goal
 

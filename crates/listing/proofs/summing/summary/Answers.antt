@@ -1,10 +1,4 @@
-use Rattle.std.proofs.Common.{ap, ◌≡◌, ◌∙◌, List, length}
-use Rattle.std.proofs.lemmas.Result.{IfOk-weaker}
-use Rattle.script.specs.declared.plan.VolumeLine.{VolumeLine}
-use Rattle.accounts.specs.Maps.{Counts}
-use Rattle.flat_model.specs.Store.{Store}
-use Rattle.flat_store.specs.Shown.{Shows}
-use Rattle.listing.specs.Listings.{Summary, summary_of, uses_of}
+use Rattle.listing.proofs.Prelude.{ap, ◌≡◌, ◌∙◌, List, length, IfOk-weaker, VolumeLine, Counts, Store, Shows, Summary, summary_of, uses_of}
 use Rattle.listing.proofs.summing.summary.Goals as goal
 
 pub returns : goal.returns

@@ -1,6 +1,4 @@
-use Rattle.std.proofs.Common.{ap, sym, ◌≡◌, ◌∙◌, List, length}
-use Rattle.script.specs.declared.plan.VolumeLine.{VolumeLine}
-use Rattle.listing.specs.Listings.{uses_of, volumes_of}
+use Rattle.listing.proofs.Prelude.{ap, sym, ◌≡◌, ◌∙◌, List, length, VolumeLine, uses_of, volumes_of}
 use Rattle.listing.proofs.CountLaws.{summary_whole}
 use Rattle.listing.proofs.summing.summary_of_counts.Goals as goal
 

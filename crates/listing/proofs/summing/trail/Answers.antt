@@ -1,5 +1,4 @@
-use Rattle.std.proofs.Common.{ap, ◌∙◌}
-use Rattle.listing.specs.Gathered.{rest_of}
+use Rattle.listing.proofs.Prelude.{ap, ◌∙◌, rest_of}
 use Rattle.listing.proofs.TrailLaws.{trail_end}
 use Rattle.listing.proofs.summing.trail.Goals as goal
 

@@ -1,4 +1,4 @@
-use Rattle.std.proofs.Common.{take}
+use Rattle.listing.proofs.Prelude.{take}
 use Rattle.listing.proofs.TrailLaws.{HasTrail}
 use Rattle.listing.proofs.summing.trail.Given as goal
 

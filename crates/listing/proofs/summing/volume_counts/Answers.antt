@@ -1,7 +1,4 @@
-use Rattle.std.proofs.Common.{sym, subst, ℕ, ◌≡◌, length, take}
-use Rattle.std.proofs.lemmas.List.{length_push}
-use Rattle.std.proofs.lemmas.Slice.Zip.{zip_turn, zip_end}
-use Rattle.listing.specs.Listings.{volumes_of}
+use Rattle.listing.proofs.Prelude.{sym, subst, ℕ, ◌≡◌, length, take, length_push, zip_turn, zip_end, volumes_of}
 use Rattle.listing.proofs.UseLaws.{counts_more, counts_end}
 use Rattle.listing.proofs.summing.volume_counts.Goals as goal
 

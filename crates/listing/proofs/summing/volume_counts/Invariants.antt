@@ -1,6 +1,4 @@
-use Rattle.std.proofs.Common.{◌≡◌, length, take}
-use Rattle.flat_model.specs.Store.{Store}
-use Rattle.listing.specs.Listings.{uses_of, volumes_of}
+use Rattle.listing.proofs.Prelude.{◌≡◌, length, take, Store, uses_of, volumes_of}
 use Rattle.listing.proofs.summing.volume_counts.Given as goal
 
 -- the volumes so far

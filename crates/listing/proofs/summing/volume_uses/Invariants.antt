@@ -1,8 +1,4 @@
-use Rattle.std.proofs.Common.{◌≡◌}
-use Rattle.script.specs.Plans.{Plan}
-use Rattle.flat_model.specs.Store.{Store}
-use Rattle.flat_store.specs.Shown.{Shows}
-use Rattle.listing.specs.Listings.{uses_of}
+use Rattle.listing.proofs.Prelude.{◌≡◌, Plan, Store, Shows, uses_of}
 use Rattle.listing.proofs.summing.volume_uses.Given as goal
 
 -- the volumes so far

@@ -1,5 +1,4 @@
-use Rattle.std.proofs.Common.{◌≡◌, ℕ, ◌+◌, ◌<◌, length, slice_index}
-use Rattle.std.specs.Mem.Slots.{slots_items}
+use Rattle.live_doors.proofs.Prelude.{◌≡◌, ℕ, ◌+◌, ◌<◌, length, slice_index, slots_items}
 use mathlib.Core.Option.{some}
 use lib.ListN.{get_elem?}
 use Rattle.live_doors.proofs.doors.read_doors.Given as goal

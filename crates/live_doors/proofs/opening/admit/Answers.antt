@@ -1,4 +1,4 @@
-use Rattle.std.proofs.Common.{rules}
+use Rattle.live_doors.proofs.Prelude.{rules}
 use Rattle.live_doors.proofs.Keeps.{admits_at}
 use Rattle.live_doors.proofs.opening.admit.Goals as goal
 

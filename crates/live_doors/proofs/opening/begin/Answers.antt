@@ -1,4 +1,4 @@
-use Rattle.std.proofs.Common.{rules}
+use Rattle.live_doors.proofs.Prelude.{rules}
 use Rattle.live_doors.proofs.Calls.{opened}
 use Rattle.live_doors.proofs.opening.begin.Goals as goal
 

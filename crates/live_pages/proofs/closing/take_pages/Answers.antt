@@ -1,5 +1,4 @@
-use Rattle.std.proofs.Common.{rules, ◌∙◌}
-use Rattle.std.specs.Mem.Slots.{slots_items, slots_filled}
+use Rattle.live_pages.proofs.Prelude.{rules, ◌∙◌, slots_items, slots_filled}
 use Rattle.live_pages.proofs.AllIn.{not_empty, pages_push, taken_more, still_there}
 use Rattle.live_pages.proofs.closing.take_pages.Goals as goal
 

@@ -1,6 +1,4 @@
-use Rattle.std.proofs.Common.{◌≡◌, ℕ, ◌<◌, ◌≤◌, length, vec_capacity, slice_index_or, IsTrue, false}
-use Rattle.std.specs.Mem.Slots.{slots_items, slots_filled, slots_len}
-use Rattle.live_pages.specs.Models.{HavePages}
+use Rattle.live_pages.proofs.Prelude.{◌≡◌, ℕ, ◌<◌, ◌≤◌, length, vec_capacity, slice_index_or, IsTrue, false, slots_items, slots_filled, slots_len, HavePages}
 use Rattle.live_pages.proofs.closing.take_pages.Given as goal
 
 abbrev pub invariant-loop-f : goal.invariant-loop-f

@@ -1,4 +1,4 @@
-use Rattle.std.proofs.Common.{rules}
+use Rattle.live_pages.proofs.Prelude.{rules}
 use Rattle.live_pages.proofs.Calls.{admits_at}
 use Rattle.live_pages.proofs.opening.admit.Goals as goal
 

@@ -1,6 +1,4 @@
-use Rattle.std.proofs.Common.{◌≡◌, ◌≤◌}
-use Rattle.live_pages.specs.Turns.{watching}
-use Rattle.live_pages.specs.Models.{first_passes}
+use Rattle.live_pages.proofs.Prelude.{◌≡◌, ◌≤◌, watching, first_passes}
 use Rattle.live_pages.proofs.opening.admit_all.Given as goal
 
 abbrev pub invariant-loop-cpu : goal.invariant-loop-cpu

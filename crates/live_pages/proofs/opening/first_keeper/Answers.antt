@@ -1,4 +1,4 @@
-use Rattle.std.proofs.Common.{rules}
+use Rattle.live_pages.proofs.Prelude.{rules}
 use Rattle.live_pages.proofs.Calls.{opens_at}
 use Rattle.live_pages.proofs.opening.first_keeper.Goals as goal
 

@@ -1,5 +1,4 @@
-use Rattle.std.proofs.Common.{rules, ◌≡◌, [], ◌∷◌, ◌++◌, Some, sym, subst}
-use Rattle.live_pages.specs.Models.{HaveZeroPages}
+use Rattle.live_pages.proofs.Prelude.{rules, ◌≡◌, [], ◌∷◌, ◌++◌, Some, sym, subst, HaveZeroPages}
 use Rattle.live_pages.proofs.Calls.{zero_pages_push}
 use Rattle.live_pages.proofs.opening.first_slots.Goals as goal
 

@@ -1,5 +1,4 @@
-use Rattle.std.proofs.Common.{◌≡◌, length}
-use Rattle.live_pages.specs.Models.{HaveZeroPages}
+use Rattle.live_pages.proofs.Prelude.{◌≡◌, length, HaveZeroPages}
 use Rattle.live_pages.proofs.opening.first_slots.Given as goal
 
 abbrev pub invariant-loop : goal.invariant-loop

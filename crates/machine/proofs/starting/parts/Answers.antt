@@ -1,5 +1,4 @@
-use Rattle.std.proofs.Common.{◌<◌, ◌∙◌, ap, arith, length, sym}
-use Rattle.std.proofs.lemmas.Grind.{common_steps}
+use Rattle.machine.proofs.Prelude.{◌<◌, ◌∙◌, ap, arith, length, sym, common_steps}
 use Rattle.machine.proofs.FirstParts.{part_told, parts_none}
 use Rattle.machine.proofs.starting.parts.Given.{Over}
 use Rattle.machine.proofs.starting.parts.Goals.{After-len}

@@ -1,5 +1,4 @@
-use Rattle.std.proofs.Common.{◌≡◌, ◌+◌, length}
-use Rattle.machine.specs.Starts.{parts_of}
+use Rattle.machine.proofs.Prelude.{◌≡◌, ◌+◌, length, parts_of}
 use Rattle.machine.proofs.starting.parts.Given as goal
 
 abbrev pub invariant-loop-drive : goal.invariant-loop-drive

@@ -1,4 +1,4 @@
-use Rattle.std.proofs.Common.{◌≡◌}
+use Rattle.machine_tables.proofs.Prelude.{◌≡◌}
 use Rattle.machine_tables.proofs.ReadyLaws.{released}
 use Rattle.machine_tables.proofs.answering.release.Given as goal
 

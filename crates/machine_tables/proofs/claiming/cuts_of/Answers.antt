@@ -1,6 +1,4 @@
-use Rattle.std.proofs.Common.{◌≡◌, true, subst}
-use Rattle.script.specs.Forms.{is_command}
-use Rattle.script.specs.declared.commands.Command.{Command}
+use Rattle.machine_tables.proofs.Prelude.{◌≡◌, true, subst, is_command, Command}
 use Rattle.machine_tables.proofs.ClaimLaws.{terminate_small}
 use Rattle.machine_tables.proofs.claiming.cuts_of.Goals as goal
 

@@ -1,18 +1,5 @@
-use Rattle.std.proofs.Common.{◌≡◌, ◌<◌, ℕ, List, None, map, true, refl, sym, subst}
-use Rattle.script.specs.Forms.{is_command}
-use Rattle.script.specs.declared.commands.Command.{Command}
-use Rattle.book.specs.declared.replies.Reply.{Reply}
-use Rattle.storage_ops.specs.Cut.{IsReady}
-use Rattle.storage_ops.specs.Shown.{Storage as Stored}
-use Rattle.storage_ops.proofs.Fresh.{dir_volume, new_length, seg_volume}
-use Rattle.machine_model.specs.Commits.{frame_entry}
-use Rattle.machine_model.specs.Ready.{OwnsFor}
-use Rattle.machine_tables.specs.Committed.{IsCommitted}
-use Rattle.machine_tables.specs.Gone.{left_entry}
-use Rattle.machine_tables.specs.Parts.{shown}
-use Rattle.machine_tables.specs.Truncated.{IsCommittedBut}
+use Rattle.machine_tables.proofs.Prelude.{◌≡◌, ◌<◌, ℕ, List, None, map, true, refl, sym, subst, is_command, Command, Reply, IsReady, Stored, dir_volume, new_length, seg_volume, frame_entry, OwnsFor, IsCommitted, left_entry, shown, IsCommittedBut, few_pages}
 use Rattle.machine_tables.proofs.commit.take_effect.Goals as goal
-use Rattle.flat_model.proofs.ScriptLaws.{few_pages}
 
 -- the command that was matched is in its ranges
 ranges : {x y : Command} (drives : ℕ) → x ≡ y → is_command drives x ≡ true → is_command drives y ≡ true

@@ -1,10 +1,4 @@
-use Rattle.std.proofs.Common.{◌≡◌, ◌∙◌, ℕ, List, Some, ap}
-use Rattle.page_control.specs.Plain.{plain}
-use Rattle.active_segs.specs.Active.{ActiveSegs, IsActive}
-use Rattle.seg_control.specs.Control.{Control, word_of}
-use Rattle.seg_control.specs.Kept.{IsKept}
-use Rattle.storage_ops.specs.Cut.{leaves}
-use Rattle.storage_ops.specs.Shown.{Storage as Stored}
+use Rattle.machine_tables.proofs.Prelude.{◌≡◌, ◌∙◌, ℕ, List, Some, ap, plain, ActiveSegs, IsActive, Control, word_of, IsKept, leaves, Stored}
 use Rattle.machine_tables.proofs.TruncatedLaws.{ComesBack, back_is, comes_back}
 use Rattle.machine_tables.proofs.committing.bring_back.Goals as goal
 

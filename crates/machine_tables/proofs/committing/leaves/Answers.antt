@@ -1,10 +1,4 @@
-use Rattle.std.proofs.Common.{◌∙◌, ℕ, List, ap, arith, sym}
-use Rattle.std.proofs.lemmas.List.{get_or_past}
-use Rattle.page_table.specs.declared.Ptw.{Ptw}
-use Rattle.page_table.specs.declared.Ptw.TheVariants.{Null}
-use Rattle.page_table.specs.PageTable.{ptw_at}
-use Rattle.active_segs.specs.Active.{table_at}
-use Rattle.storage_ops.specs.Cut.{leaves}
+use Rattle.machine_tables.proofs.Prelude.{◌∙◌, ℕ, List, ap, arith, sym, get_or_past, Ptw, Null, ptw_at, table_at, leaves}
 use Rattle.machine_tables.proofs.LinkLaws.{place_found}
 use Rattle.machine_tables.proofs.TruncatedLaws.{not_leaving}
 use Rattle.machine_tables.proofs.committing.leaves.Goals as goal

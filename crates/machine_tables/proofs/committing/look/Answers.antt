@@ -1,8 +1,4 @@
-use Rattle.std.proofs.Common.{map, subst}
-use Rattle.page_control.specs.Plain.{plain}
-use Rattle.seg_control.specs.Control.{Control}
-use Rattle.seg_control.specs.Kept.{IsKept}
-use Rattle.volumes.specs.Volumes.{HasParts}
+use Rattle.machine_tables.proofs.Prelude.{map, subst, plain, Control, IsKept, HasParts}
 use Rattle.machine_tables.proofs.committing.look.Goals as goal
 
 pub returns-clause-kept : goal.returns-clause-kept

@@ -1,9 +1,6 @@
+use Rattle.machine_tables.proofs.Prelude.{rules, subst, w32, ℤ, to_z-of_z, TakesEffect}
 use mir.Val.{SFits, of_z, to_z}
-use Rattle.std.proofs.Common.{rules, subst, w32}
-use Rattle.std.specs.Prelude.{ℤ}
-use Rattle.std.proofs.lemmas.Int.{to_z-of_z}
 use Rattle.script.specs.declared.commands.Command.TheVariants.{Move}
-use Rattle.machine_tables.specs.Committed.{TakesEffect}
 use Rattle.machine_tables.proofs.CommitLaws.{move_committed}
 use Rattle.machine_tables.proofs.committing.move_quota.Goals as goal
 

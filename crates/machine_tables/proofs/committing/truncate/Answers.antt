@@ -1,7 +1,4 @@
-use Rattle.std.proofs.Common.{◌∙◌, ap, sym}
-use Rattle.accounts.specs.Maps.{AccountMaps}
-use Rattle.flat_model.specs.Branches.{segment_at}
-use Rattle.machine_tables.specs.Truncated.{uid_found}
+use Rattle.machine_tables.proofs.Prelude.{◌∙◌, ap, sym, AccountMaps, segment_at, uid_found}
 use Rattle.machine_tables.proofs.TruncatedLaws.{still_active, truncate_committed, truncate_refused}
 use Rattle.machine_tables.proofs.committing.truncate.Goals as goal
 

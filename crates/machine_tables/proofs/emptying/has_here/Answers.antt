@@ -1,4 +1,4 @@
-use Rattle.std.proofs.Common.{◌<◌, ◌≤◌, length, arith, rules, sym}
+use Rattle.machine_tables.proofs.Prelude.{◌<◌, ◌≤◌, length, arith, rules, sym}
 use Rattle.machine_tables.proofs.TookLaws.{next_here, none_here, some_here}
 use Rattle.machine_tables.proofs.emptying.has_here.Goals as goal
 

@@ -1,5 +1,4 @@
-use Rattle.std.proofs.Common.{◌≡◌, drop}
-use Rattle.machine_model.specs.Reads.{frames_in}
+use Rattle.machine_tables.proofs.Prelude.{◌≡◌, drop, frames_in}
 use Rattle.machine_tables.proofs.emptying.has_here.Given as goal
 
 abbrev pub invariant-loop-p : goal.invariant-loop-p

@@ -1,5 +1,4 @@
-use Rattle.std.proofs.Common.{rules}
-use Rattle.machine_tables.specs.Reading.{test_of}
+use Rattle.machine_tables.proofs.Prelude.{rules, test_of}
 use Rattle.machine_tables.proofs.ReadingLaws.{least_first, least_step}
 use Rattle.machine_tables.proofs.reading.least_read.Goals as goal
 

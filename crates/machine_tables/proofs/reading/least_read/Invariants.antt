@@ -1,5 +1,4 @@
-use Rattle.std.proofs.Common.{◌≡◌}
-use Rattle.machine_tables.specs.Reading.{least_from, test_of}
+use Rattle.machine_tables.proofs.Prelude.{◌≡◌, least_from, test_of}
 use Rattle.machine_tables.proofs.reading.least_read.Given as goal
 
 abbrev pub invariant-loop-place : goal.invariant-loop-place

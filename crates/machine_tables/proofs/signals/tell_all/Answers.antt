@@ -1,4 +1,4 @@
-use Rattle.std.proofs.Common.{arith}
+use Rattle.machine_tables.proofs.Prelude.{arith}
 use Rattle.machine_tables.proofs.SignalLaws.{next_told, none_told, told_all}
 use Rattle.machine_tables.proofs.signals.tell_all.Goals as goal
 

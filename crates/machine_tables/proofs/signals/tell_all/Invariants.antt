@@ -1,4 +1,4 @@
-use Rattle.std.proofs.Common.{◌≡◌}
+use Rattle.machine_tables.proofs.Prelude.{◌≡◌}
 use Rattle.machine_tables.proofs.SignalLaws.{told_first}
 use Rattle.machine_tables.proofs.signals.tell_all.Given as goal
 

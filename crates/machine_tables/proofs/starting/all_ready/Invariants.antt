@@ -1,4 +1,4 @@
-use Rattle.std.proofs.Common.{◌≡◌}
+use Rattle.machine_tables.proofs.Prelude.{◌≡◌}
 use Rattle.machine_tables.proofs.ReadyLaws.{first_of}
 use Rattle.machine_tables.proofs.starting.all_ready.Given as goal
 

@@ -1,6 +1,4 @@
-use Rattle.std.proofs.Common.{◌≡◌}
-use Rattle.std.specs.Prelude.{replicate}
-use Rattle.machine_model.specs.Reads.{no_processor}
+use Rattle.machine_tables.proofs.Prelude.{◌≡◌, replicate, no_processor}
 use Rattle.machine_tables.proofs.starting.first_processors.Given as goal
 
 abbrev pub invariant-loop-place : goal.invariant-loop-place

@@ -1,6 +1,4 @@
-use Rattle.std.proofs.Common.{ap, sym}
-use Rattle.script.specs.declared.commands.Command.{Command}
-use Rattle.machine_model.specs.Actions.{look_to_change}
+use Rattle.machine_tables.proofs.Prelude.{ap, sym, Command, look_to_change}
 use Rattle.machine_tables.proofs.tree_looks.is_done_at_once.Goals as goal
 
 pub returns-in-MkDir : goal.returns-in-MkDir

@@ -1,6 +1,4 @@
-use Rattle.std.proofs.Common.{◌∙◌, arith, true, sym, ap}
-use Rattle.core_map.specs.CoreMap.{Core, frame_at, with_frame, with_modified}
-use Rattle.page_control.specs.Tied.{frame_of}
+use Rattle.page_control.proofs.Prelude.{◌∙◌, arith, true, sym, ap, Core, frame_at, with_frame, with_modified, frame_of}
 use Rattle.page_control.proofs.Modified.{part_none, part_other, part_marked, part_all, part_bound, named_by, none_by}
 use Rattle.page_control.proofs.pages.mark_all.Goals as goal
 use Rattle.page_control.proofs.pages.mark_all.Goals.{in-Null, in-Here2}

@@ -1,5 +1,4 @@
-use Rattle.std.proofs.Common.{arith}
-use Rattle.vtoc.specs.Vtoc.{entry_at, records_in}
+use Rattle.page_control.proofs.Prelude.{arith, entry_at, records_in}
 use Rattle.page_control.proofs.Moved.{part_end}
 use Rattle.page_control.proofs.pages.rename.Goals as goal
 

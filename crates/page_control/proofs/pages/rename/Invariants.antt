@@ -1,4 +1,4 @@
-use Rattle.vtoc.specs.Vtoc.{entry_at, records_in}
+use Rattle.page_control.proofs.Prelude.{entry_at, records_in}
 use Rattle.page_control.proofs.Moved.{IsPartRehomed}
 use Rattle.page_control.proofs.pages.rename.Given as goal
 

@@ -1,6 +1,4 @@
-use Rattle.std.proofs.Common.{◌≡◌, true, false, sym, subst}
-use Rattle.quota_cells.specs.Cells.{CellMaps, IsTable, has_cell}
-use Rattle.quota_cells.specs.Columns.{NumberMap, both_maps}
+use Rattle.quota_cells.proofs.Prelude.{◌≡◌, true, false, sym, subst, CellMaps, IsTable, has_cell, NumberMap, both_maps}
 use Rattle.quota_cells.proofs.EnterLaws.{table_entered}
 use Rattle.quota_cells.proofs.Cells.add_cell.Goals as goal
 

@@ -1,7 +1,4 @@
-use Rattle.std.proofs.Common.{◌≡◌, ◌<◌, ◌+◌, ◌^◌, ℕ, true, sym, ap, subst}
-use Rattle.quota_cells.specs.Accounts.{covers}
-use Rattle.quota_cells.specs.Cells.{CellMaps, quota_in, load_in, IsTable, charged}
-use Rattle.quota_cells.specs.Columns.{both_maps}
+use Rattle.quota_cells.proofs.Prelude.{◌≡◌, ◌<◌, ◌+◌, ◌^◌, ℕ, true, sym, ap, subst, covers, CellMaps, quota_in, load_in, IsTable, charged, both_maps}
 use Rattle.quota_cells.proofs.Cells.add_page.Goals as goal
 
 pub count-requires-clause-room : goal.count-requires-clause-room

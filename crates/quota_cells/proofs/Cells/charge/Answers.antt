@@ -1,17 +1,8 @@
-use Rattle.std.proofs.Common.{◌≡◌, ◌+◌, ℕ, List, Result, Ok, sym, ap, subst, ◌∙◌}
-use Rattle.tree_model.specs.Tree.{above}
-use Rattle.dir_tree.specs.Shape.{shapes}
-use Rattle.quota_cells.specs.Cells.{CellMaps, quota_in, stored_in, Fits, IsTable, charged, charge_fault}
-use Rattle.quota_cells.specs.declared.Full.{Full}
-use Rattle.dir_tree.specs.declared.node.Node.{Node}
-use Rattle.tree_model.specs.Trees.{HasChains}
-use Rattle.quota_cells.specs.Scratch.{HoldCounts, charge_answer}
-use Rattle.dir_tree.specs.Nodes.{with_quotas}
+use Rattle.quota_cells.proofs.Prelude.{◌≡◌, ◌+◌, ℕ, List, Result, Ok, sym, ap, subst, ◌∙◌, above, shapes, CellMaps, quota_in, stored_in, Fits, IsTable, charged, charge_fault, Full, Node, HasChains, HoldCounts, charge_answer, with_quotas, on_segments}
 use Rattle.quota_cells.proofs.ColumnLaws.{look_with}
 use Rattle.quota_cells.proofs.FitLaws.{there, falls, room_charged, stored_room, fits_charged, table_charged, not_full}
 use Rattle.quota_cells.proofs.ScratchLaws.{charge_same}
 use Rattle.quota_cells.proofs.Cells.charge.Goals as goal
-use Rattle.quota_cells.specs.Laws.{on_segments}
 
 pub add_page-requires : goal.add_page-requires
 add_page-requires c =

@@ -1,11 +1,7 @@
-use Rattle.std.proofs.Common.{◌≡◌, ◌-◌, ℕ, List, sym, ap, subst, ◌∙◌}
-use Rattle.tree_model.specs.Tree.{above}
-use Rattle.dir_tree.specs.Shape.{shapes}
-use Rattle.quota_cells.specs.Cells.{quota_in, stored_in, Fits, IsTable, credited}
+use Rattle.quota_cells.proofs.Prelude.{◌≡◌, ◌-◌, ℕ, List, sym, ap, subst, ◌∙◌, above, shapes, quota_in, stored_in, Fits, IsTable, credited, on_segments}
 use Rattle.quota_cells.proofs.ColumnLaws.{look_with}
 use Rattle.quota_cells.proofs.FitLaws.{there, falls, room_credited, fits_credited, table_credited}
 use Rattle.quota_cells.proofs.Cells.credit_pages.Goals as goal
-use Rattle.quota_cells.specs.Laws.{on_segments}
 
 pub take_pages-requires : goal.take_pages-requires
 take_pages-requires c =

@@ -1,7 +1,4 @@
-use Rattle.std.proofs.Common.{◌≡◌, ℕ, true, false, sym, subst, ◌∙◌}
-use Rattle.quota_cells.specs.Accounts.{has}
-use Rattle.quota_cells.specs.Cells.{CellMaps, IsTable, has_cell, left, quota_in, stored_in}
-use Rattle.quota_cells.specs.Columns.{NumberMap, both_maps}
+use Rattle.quota_cells.proofs.Prelude.{◌≡◌, ℕ, true, false, sym, subst, ◌∙◌, has, CellMaps, IsTable, has_cell, left, quota_in, stored_in, NumberMap, both_maps}
 use Rattle.quota_cells.proofs.EnterLaws.{table_left}
 use Rattle.quota_cells.proofs.Cells.drop_cell.Goals as goal
 

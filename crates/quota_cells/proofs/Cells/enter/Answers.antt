@@ -1,9 +1,4 @@
-use Rattle.std.proofs.Common.{◌≡◌, ℕ, Bool, false, List, ◌∷◌, sym, subst}
-use Rattle.dir_tree.specs.declared.node.Node.{Node}
-use Rattle.dir_tree.specs.Nodes.{is_in}
-use Rattle.dir_tree.specs.Shape.{shapes}
-use Rattle.tree_model.specs.Trees.{HasChains}
-use Rattle.quota_cells.specs.Cells.{CellMaps, Enters, Fits}
+use Rattle.quota_cells.proofs.Prelude.{◌≡◌, ℕ, Bool, false, List, ◌∷◌, sym, subst, Node, is_in, shapes, HasChains, CellMaps, Enters, Fits}
 use Rattle.quota_cells.proofs.EnterLaws.{enters_entered, fits_entered}
 use Rattle.quota_cells.proofs.Cells.enter.Goals as goal
 

@@ -1,6 +1,4 @@
-use Rattle.std.proofs.Common.{◌∙◌, sym, ap, subst}
-use Rattle.quota_cells.specs.Columns.{CanGive, both_maps, directories_of}
-use Rattle.quota_cells.specs.Cells.{CellMaps, IsTable, given}
+use Rattle.quota_cells.proofs.Prelude.{◌∙◌, sym, ap, subst, CanGive, both_maps, directories_of, CellMaps, IsTable, given}
 use Rattle.quota_cells.proofs.Cells.give.Goals as goal
 
 pub give-requires : goal.give-requires

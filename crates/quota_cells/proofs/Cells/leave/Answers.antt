@@ -1,5 +1,4 @@
-use Rattle.std.proofs.Common.{sym, subst}
-use Rattle.quota_cells.specs.Cells.{CellMaps, Leaves}
+use Rattle.quota_cells.proofs.Prelude.{sym, subst, CellMaps, Leaves}
 use Rattle.quota_cells.proofs.EnterLaws.{leaves_left, fits_left}
 use Rattle.quota_cells.proofs.Cells.leave.Goals as goal
 

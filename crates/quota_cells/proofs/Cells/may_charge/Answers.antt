@@ -1,7 +1,4 @@
-use Rattle.std.proofs.Common.{◌≡◌, ap, ◌∙◌}
-use Rattle.tree_model.specs.Tree.{above}
-use Rattle.dir_tree.specs.Shape.{shapes}
-use Rattle.quota_cells.specs.Cells.{charge_fault}
+use Rattle.quota_cells.proofs.Prelude.{◌≡◌, ap, ◌∙◌, above, shapes, charge_fault}
 use Rattle.quota_cells.proofs.ScratchLaws.{charge_same}
 use Rattle.quota_cells.proofs.Cells.may_charge.Goals as goal
 

@@ -1,10 +1,4 @@
-use Rattle.std.proofs.Common.{◌≡◌, ◌∙◌, w32}
-use Rattle.std.proofs.lemmas.Int.{to_z-of_z}
-use Rattle.std.specs.Int.{is_positive}
-use Rattle.std.specs.Int.RustNames.{unsigned_abs}
-use Rattle.tree_model.specs.Tree.{above}
-use Rattle.dir_tree.specs.Shape.{shapes}
-use Rattle.quota_cells.specs.Cells.{move_answer}
+use Rattle.quota_cells.proofs.Prelude.{◌≡◌, ◌∙◌, w32, to_z-of_z, is_positive, unsigned_abs, above, shapes, move_answer}
 use Rattle.quota_cells.proofs.ScratchLaws.{answer_same}
 use Rattle.quota_cells.proofs.Cells.may_move.Goals as goal
 

@@ -1,12 +1,4 @@
-use Rattle.std.proofs.Common.{◌≡◌, ◌≤◌, true, false, None, sym, ◌∙◌, w32, arith}
-use Rattle.std.proofs.lemmas.Int.{to_z-of_z}
-use Rattle.std.specs.Int.{is_positive}
-use Rattle.std.specs.Int.RustNames.{unsigned_abs}
-use Rattle.std.proofs.lemmas.Grind.{common_steps}
-use Rattle.tree_model.specs.Tree.{above}
-use Rattle.tree_model.specs.Quotas.{giver_of}
-use Rattle.dir_tree.specs.Shape.{shapes}
-use Rattle.quota_cells.specs.Cells.{first_over, move_answer, moved, quota_in}
+use Rattle.quota_cells.proofs.Prelude.{◌≡◌, ◌≤◌, true, false, None, sym, ◌∙◌, w32, arith, to_z-of_z, is_positive, unsigned_abs, common_steps, above, giver_of, shapes, first_over, move_answer, moved, quota_in}
 use Rattle.quota_cells.proofs.TransferLaws.{may_go}
 use Rattle.quota_cells.proofs.Cells.move_between.Goals as goal
 

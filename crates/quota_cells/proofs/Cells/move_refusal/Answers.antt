@@ -1,5 +1,4 @@
-use Rattle.std.proofs.Common.{w32}
-use Rattle.std.proofs.lemmas.Int.{to_z-of_z}
+use Rattle.quota_cells.proofs.Prelude.{w32, to_z-of_z}
 use Rattle.quota_cells.proofs.Cells.move_refusal.Goals as goal
 
 pub returns-clause-answer : goal.returns-clause-answer

@@ -1,8 +1,5 @@
-use Rattle.std.proofs.Common.{◌≡◌, true, sym, subst}
-use Rattle.quota_cells.specs.Accounts.{has}
-use Rattle.quota_cells.specs.Cells.{CellMaps}
+use Rattle.quota_cells.proofs.Prelude.{◌≡◌, true, sym, subst, has, CellMaps, look_absent}
 use Rattle.quota_cells.proofs.Cells.quota.Goals as goal
-use Rattle.quota_cells.specs.Laws.{look_absent}
 
 pub returns-clause-pages : goal.returns-clause-pages
 returns-clause-pages c =

@@ -1,13 +1,8 @@
-use Rattle.std.proofs.Common.{rules, ◌≡◌, ℕ, List, true, false, ap, sym, ◌∙◌}
-use Rattle.tree_model.specs.Tree.{above, account}
-use Rattle.dir_tree.specs.Shape.{shapes}
-use Rattle.quota_cells.specs.Cells.{CellMaps, quota_in, move_answer}
-use Rattle.quota_cells.specs.Moves.{cell_in}
+use Rattle.quota_cells.proofs.Prelude.{rules, ◌≡◌, ℕ, List, true, false, ap, sym, ◌∙◌, above, account, shapes, CellMaps, quota_in, move_answer, cell_in, on_directories}
 use Rattle.quota_cells.proofs.MoveLaws.{covers_more}
 use Rattle.quota_cells.proofs.TransferLaws.{top_covers}
 use Rattle.quota_cells.proofs.DecisionLaws.{down_decided, up_decided}
 use Rattle.quota_cells.proofs.Cells.refusal.Goals as goal
-use Rattle.quota_cells.specs.Laws.{on_directories}
 
 pub refusal_down-requires : goal.refusal_down-requires
 refusal_down-requires c =

@@ -1,9 +1,5 @@
-use Rattle.std.proofs.Common.{◌≡◌, true, sym, subst}
-use Rattle.std.proofs.lemmas.Bool.{both_ways, false_from_ne_true}
-use Rattle.quota_cells.specs.Accounts.{has}
-use Rattle.quota_cells.specs.Cells.{CellMaps}
+use Rattle.quota_cells.proofs.Prelude.{◌≡◌, true, sym, subst, both_ways, false_from_ne_true, has, CellMaps, look_absent}
 use Rattle.quota_cells.proofs.Cells.stored.Goals as goal
-use Rattle.quota_cells.specs.Laws.{look_absent}
 
 pub returns-clause-quota : goal.returns-clause-quota
 returns-clause-quota c =

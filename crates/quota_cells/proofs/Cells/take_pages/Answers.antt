@@ -1,7 +1,4 @@
-use Rattle.std.proofs.Common.{◌≡◌, ◌≤◌, ℕ, true, sym, ap, subst}
-use Rattle.quota_cells.specs.Accounts.{covers}
-use Rattle.quota_cells.specs.Cells.{CellMaps, quota_in, load_in, IsTable, credited}
-use Rattle.quota_cells.specs.Columns.{both_maps}
+use Rattle.quota_cells.proofs.Prelude.{◌≡◌, ◌≤◌, ℕ, true, sym, ap, subst, covers, CellMaps, quota_in, load_in, IsTable, credited, both_maps}
 use Rattle.quota_cells.proofs.Cells.take_pages.Goals as goal
 
 pub count-requires-clause-room : goal.count-requires-clause-room

@@ -1,10 +1,6 @@
-use Rattle.std.proofs.Common.{subst, ◌∙◌}
-use Rattle.quota_cells.specs.Cells.{IsTable, given}
-use Rattle.quota_cells.specs.Columns.{CanGive, directories_of}
+use Rattle.quota_cells.proofs.Prelude.{subst, ◌∙◌, IsTable, given, CanGive, directories_of, directory_in, on_directories}
 use Rattle.quota_cells.proofs.OverLaws.{gives}
 use Rattle.quota_cells.proofs.Cells.transfer.Goals as goal
-use Rattle.dir_tree.specs.Laws.{directory_in}
-use Rattle.quota_cells.specs.Laws.{on_directories}
 
 pub superiors-above_getter-requires : goal.superiors-above_getter-requires
 superiors-above_getter-requires c = directory_in c.args.t.now.nodes c.args.getter c.requires.getter

@@ -1,4 +1,4 @@
-use Rattle.std.proofs.Common.{◌∙◌}
+use Rattle.quota_cells.proofs.Prelude.{◌∙◌}
 use Rattle.quota_cells.proofs.ScratchLaws.{used_same}
 use Rattle.quota_cells.proofs.Cells.used.Goals as goal
 

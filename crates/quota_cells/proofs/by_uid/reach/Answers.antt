@@ -1,4 +1,4 @@
-use Rattle.std.proofs.Common.{◌≤◌, ◌∙◌, length, arith}
+use Rattle.quota_cells.proofs.Prelude.{◌≤◌, ◌∙◌, length, arith}
 use Rattle.quota_cells.proofs.PadLaws.{zeros_next}
 use Rattle.quota_cells.proofs.by_uid.reach.Goals as goal
 

@@ -1,4 +1,4 @@
-use Rattle.std.proofs.Common.{◌≡◌, ◌≤◌, ◌-◌, ◌++◌, length, replicate, vec_capacity}
+use Rattle.quota_cells.proofs.Prelude.{◌≡◌, ◌≤◌, ◌-◌, ◌++◌, length, replicate, vec_capacity}
 use Rattle.quota_cells.proofs.by_uid.reach.Given as goal
 
 abbrev pub invariant-loop : goal.invariant-loop

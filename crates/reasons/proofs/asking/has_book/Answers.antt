@@ -1,6 +1,4 @@
-use Rattle.std.proofs.Common.{arith}
-use Rattle.std.proofs.lemmas.Bool.Decides.{nat_tests}
-use Rattle.book_check.specs.Inputs.{is_book}
+use Rattle.reasons.proofs.Prelude.{arith, nat_tests, is_book}
 use Rattle.reasons.proofs.LineLaws.{no_line}
 use Rattle.reasons.proofs.asking.has_book.Goals as goal
 

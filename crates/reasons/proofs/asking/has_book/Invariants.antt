@@ -1,7 +1,4 @@
-use Rattle.std.proofs.Common.{◌≡◌, length}
-use Rattle.std.specs.List.{list_any}
-use Rattle.text_model.specs.Lines.{lines_of}
-use Rattle.book_check.specs.Inputs.{is_book}
+use Rattle.reasons.proofs.Prelude.{◌≡◌, length, list_any, lines_of, is_book}
 use Rattle.reasons.proofs.asking.has_book.Given as goal
 
 -- none of the lines so far is the line `book`

@@ -1,8 +1,4 @@
-use Rattle.std.proofs.Common.{sym, subst}
-use Rattle.std.specs.Prelude.{IfOk, IfSome}
-use Rattle.book_check.specs.declared.offences.Rule.{Rule}
-use Rattle.text_model.specs.Lines.{lines_of}
-use Rattle.reasons.specs.Reasons.{IsWhy, first_of, is_end}
+use Rattle.reasons.proofs.Prelude.{sym, subst, IfOk, IfSome, Rule, lines_of, IsWhy, first_of, is_end}
 use Rattle.reasons.proofs.AskLaws.{incomplete_at, why_at}
 use Rattle.reasons.proofs.asking.why.Goals as goal
 

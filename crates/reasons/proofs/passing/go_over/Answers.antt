@@ -1,6 +1,4 @@
-use Rattle.std.proofs.Common.{arith, ◌∙◌}
-use Rattle.std.proofs.lemmas.Bool.Decides.{nat_tests}
-use Rattle.text_model.specs.Lines.{lines_of}
+use Rattle.reasons.proofs.Prelude.{arith, ◌∙◌, nat_tests, lines_of}
 use Rattle.reasons.proofs.PassLaws.{ends_faulty, ends_nil, passes_next, room_there, tables_there}
 use Rattle.reasons.proofs.passing.go_over.Goals as goal
 

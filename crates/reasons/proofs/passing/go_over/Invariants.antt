@@ -1,6 +1,4 @@
-use Rattle.std.proofs.Common.{◌≡◌, ◌+◌, ◌≤◌, length}
-use Rattle.text_model.specs.Lines.{lines_of}
-use Rattle.reasons.specs.Passing.{Passes}
+use Rattle.reasons.proofs.Prelude.{◌≡◌, ◌+◌, ◌≤◌, length, lines_of, Passes}
 use Rattle.reasons.proofs.passing.go_over.Given as goal
 
 -- the lines so far were accepted

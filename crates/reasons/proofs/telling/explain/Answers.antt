@@ -1,8 +1,4 @@
-use Rattle.std.proofs.Common.{Option, subst}
-use Rattle.std.specs.Prelude.{IfSome}
-use Rattle.text_model.specs.Lines.{lines_of}
-use Rattle.reasons.specs.Reasons.{IsWhy, first_of, is_end}
-use Rattle.reasons.specs.declared.asking.Reason.{Reason}
+use Rattle.reasons.proofs.Prelude.{Option, subst, IfSome, lines_of, IsWhy, first_of, is_end, Reason}
 use Rattle.reasons.proofs.TellLaws.{tells_ok}
 use Rattle.reasons.proofs.telling.explain.Goals as goal
 

@@ -1,8 +1,4 @@
-use Rattle.std.proofs.Common.{Option, subst, ◌∙◌}
-use Rattle.std.specs.Prelude.{IfSome}
-use Rattle.text_model.specs.Lines.{lines_of}
-use Rattle.book_check.specs.Judging.{Judged}
-use Rattle.reasons.specs.Passing.{Begins}
+use Rattle.reasons.proofs.Prelude.{Option, subst, ◌∙◌, IfSome, lines_of, Judged, Begins}
 use Rattle.reasons.proofs.TellLaws.{since_told}
 use Rattle.reasons.proofs.telling.since_line.Goals as goal
 

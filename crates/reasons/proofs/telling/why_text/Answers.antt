@@ -1,7 +1,4 @@
-use Rattle.std.proofs.Common.{Option, subst}
-use Rattle.std.specs.Prelude.{IfNone, IfSome}
-use Rattle.book_check.specs.Judging.{Judged}
-use Rattle.reasons.specs.Passing.{Begins, IsRefused}
+use Rattle.reasons.proofs.Prelude.{Option, subst, IfNone, IfSome, Judged, Begins, IsRefused}
 use Rattle.reasons.proofs.TellLaws.{is_told_ok, not_refused}
 use Rattle.reasons.proofs.telling.why_text.Goals as goal
 

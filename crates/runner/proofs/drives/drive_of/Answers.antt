@@ -1,7 +1,4 @@
-use Rattle.std.proofs.Common.{ap, ◌∙◌}
-use Rattle.volumes.specs.CoreDrive.{faults_of}
-use Rattle.flat_model.specs.Store.{records_of}
-use Rattle.runner.specs.Drives.{lines_in}
+use Rattle.runner.proofs.Prelude.{ap, ◌∙◌, faults_of, records_of, lines_in}
 use Rattle.runner.proofs.Fresh.{no_faults}
 use Rattle.runner.proofs.drives.drive_of.Goals as goal
 

@@ -1,4 +1,4 @@
-use Rattle.std.proofs.Common.{◌≡◌, ◌≤◌, ℕ, ap, arith, length, rules}
+use Rattle.runner.proofs.Prelude.{◌≡◌, ◌≤◌, ℕ, ap, arith, length, rules}
 use Rattle.runner.proofs.DriveLaws.{fresh_faults, fresh_more, fresh_sizes, fresh_told}
 use Rattle.runner.proofs.drives.drives_of.Goals as goal
 

@@ -1,7 +1,4 @@
-use Rattle.std.proofs.Common.{◌≡◌, ℕ, length, Some}
-use Rattle.std.specs.Prelude.{slice_get}
-use Rattle.bulk_store.specs.declared.any_drive.AnyDrive.{AnyDrive}
-use Rattle.runner.specs.Drives.{IsFresh}
+use Rattle.runner.proofs.Prelude.{◌≡◌, ℕ, length, Some, slice_get, AnyDrive, IsFresh}
 use Rattle.runner.proofs.drives.drives_of.Given as goal
 
 -- the drives of the volumes gone over

@@ -1,5 +1,4 @@
-use Rattle.std.proofs.Common.{◌≡◌, take}
-use Rattle.runner.specs.Drives.{lines_in}
+use Rattle.runner.proofs.Prelude.{◌≡◌, take, lines_in}
 use Rattle.runner.proofs.drives.lines_of.Given as goal
 
 -- the lines of the volume among those gone over

@@ -1,5 +1,4 @@
-use Rattle.std.proofs.Common.{◌≡◌, drop}
-use Rattle.runner.specs.Drives.{places_in}
+use Rattle.runner.proofs.Prelude.{◌≡◌, drop, places_in}
 use Rattle.runner.proofs.drives.places_of.Given as goal
 
 -- none of the lines gone over is the volume's

@@ -1,9 +1,4 @@
-use Rattle.std.proofs.Common.{◌≡◌, ◌≤◌, ◌-◌, true}
-use Rattle.bulk_store.specs.AnyDrive.{any_places}
-use Rattle.machine_model.specs.Actions.{is_over}
-use Rattle.machine.specs.Schedules.{Grows}
-use Rattle.machine.specs.Turns.{KeepsParts}
-use Rattle.runner.specs.Drives.{faults_in, plan_of}
+use Rattle.runner.proofs.Prelude.{◌≡◌, ◌≤◌, ◌-◌, true, any_places, is_over, Grows, KeepsParts, faults_in, plan_of}
 use Rattle.runner.proofs.ending.visit_frames.Given as goal
 
 -- what stands before each visit

@@ -1,5 +1,4 @@
-use Rattle.std.proofs.Common.{Err, ap, refl}
-use Rattle.site_io.specs.declared.whole.Unread.{Unread}
+use Rattle.runner.proofs.Prelude.{Err, ap, refl, Unread}
 use Rattle.runner.proofs.Ends.{ends_unread}
 use Rattle.runner.proofs.reading.read_and_run.Goals as goal
 

@@ -1,7 +1,4 @@
-use Rattle.std.proofs.Common.{sym, subst, ◌∙◌}
-use Rattle.script.specs.Plans.{Plan}
-use Rattle.machine.proofs.CallLaws.{counted_on}
-use Rattle.runner.specs.Drives.{AreTold, faults_in}
+use Rattle.runner.proofs.Prelude.{sym, subst, ◌∙◌, Plan, counted_on, AreTold, faults_in}
 use Rattle.runner.proofs.DriveLaws.{told_still}
 use Rattle.runner.proofs.running.run_machine.Goals as goal
 

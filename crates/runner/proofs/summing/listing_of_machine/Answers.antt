@@ -1,4 +1,4 @@
-use Rattle.std.proofs.Common.{◌∙◌}
+use Rattle.runner.proofs.Prelude.{◌∙◌}
 use Rattle.runner.proofs.SumLaws.{listed_by}
 use Rattle.runner.proofs.summing.listing_of_machine.Goals as goal
 

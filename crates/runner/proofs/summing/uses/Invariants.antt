@@ -1,6 +1,4 @@
-use Rattle.std.proofs.Common.{◌≡◌}
-use Rattle.flat_model.specs.Legal.{store_after}
-use Rattle.listing.specs.Listings.{uses_of}
+use Rattle.runner.proofs.Prelude.{◌≡◌, store_after, uses_of}
 use Rattle.runner.proofs.summing.uses.Given as goal
 
 -- those of the volumes gone over

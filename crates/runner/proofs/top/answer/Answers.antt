@@ -1,5 +1,4 @@
-use Rattle.std.proofs.Common.{sym, subst, ◌∙◌}
-use Rattle.runner.specs.Endings.{IsReading}
+use Rattle.runner.proofs.Prelude.{sym, subst, ◌∙◌, IsReading}
 use Rattle.runner.proofs.Ends.{asked_none, asks, reads_nothing}
 use Rattle.runner.proofs.top.answer.Goals as goal
 

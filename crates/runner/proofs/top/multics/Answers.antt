@@ -1,7 +1,5 @@
 -- Each clause of the top call, by what the ending says. (own)
-use Rattle.runner.proofs.Verdicts.{accepted_so, by_verdict, drilled_so, ended, found_accepted, found_checked_long}
-use Rattle.runner.proofs.Verdicts.{found_done, found_fault, found_long, found_refused, listed_so, made_so, of_run}
-use Rattle.runner.proofs.Verdicts.{offence_so, refused_so, said_so, shut_down, usage_there, verdict}
+use Rattle.runner.proofs.Verdicts.{accepted_so, by_verdict, drilled_so, ended, found_accepted, found_checked_long, found_done, found_fault, found_long, found_refused, listed_so, made_so, of_run, offence_so, refused_so, said_so, shut_down, usage_there, verdict}
 use Rattle.runner.specs.declared.finished.Status.TheVariants as status
 use Rattle.runner.proofs.top.multics.Goals as goal
 

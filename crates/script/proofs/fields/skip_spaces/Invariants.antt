@@ -1,5 +1,4 @@
-use Rattle.std.proofs.Common.{◌≡◌, drop}
-use Rattle.text_model.specs.Lines.{fields_of}
+use Rattle.script.proofs.Prelude.{◌≡◌, drop, fields_of}
 use Rattle.script.proofs.fields.skip_spaces.Given as goal
 
 -- only spaces came so far

@@ -1,5 +1,4 @@
-use Rattle.std.proofs.Common.{◌∷◌, ◌∙◌, List, ap, arith, sym, ℕ}
-use Rattle.text_model.proofs.FieldLaws.{field_last, fields_nil}
+use Rattle.script.proofs.Prelude.{◌∷◌, ◌∙◌, List, ap, arith, sym, ℕ, field_last, fields_nil}
 use Rattle.script.proofs.fields.split_field.Goals as goal
 
 pub returns-clause-some : goal.returns-clause-some

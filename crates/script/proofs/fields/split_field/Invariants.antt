@@ -1,4 +1,4 @@
-use Rattle.text_model.proofs.FieldLaws.{NoSpaceBefore}
+use Rattle.script.proofs.Prelude.{NoSpaceBefore}
 use Rattle.script.proofs.fields.split_field.Given as goal
 
 -- no space came so far

@@ -1,5 +1,4 @@
-use Rattle.std.proofs.Common.{arith}
-use Rattle.text_model.proofs.LineLaws.{front_closes}
+use Rattle.script.proofs.Prelude.{arith, front_closes}
 use Rattle.script.proofs.lines.line_from.Goals as goal
 
 pub returns-then-bytes-i-eq10-clause-closes : goal.returns-then-bytes-i-eq10-clause-closes

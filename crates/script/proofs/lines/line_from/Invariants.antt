@@ -1,6 +1,4 @@
-use Rattle.std.proofs.Common.{◌≡◌, false, take}
-use Rattle.text_model.proofs.LineSteps.{NoFeedBefore}
-use Rattle.script.specs.Fields.{is_printable}
+use Rattle.script.proofs.Prelude.{◌≡◌, false, take, NoFeedBefore, is_printable}
 use Rattle.script.proofs.lines.line_from.Given as goal
 
 -- no line feed came so far, and one byte was not printable

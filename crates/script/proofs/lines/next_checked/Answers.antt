@@ -1,6 +1,5 @@
-use Rattle.std.proofs.Common.{arith}
+use Rattle.script.proofs.Prelude.{arith, front_closes, line_found}
 use Rattle.script.proofs.LaneLaws.{front_clear}
-use Rattle.text_model.proofs.LineLaws.{front_closes, line_found}
 use Rattle.script.proofs.lines.next_checked.Goals as goal
 
 pub returns-then-bytes-front-eq10-clause-lines : goal.returns-then-bytes-front-eq10-clause-lines

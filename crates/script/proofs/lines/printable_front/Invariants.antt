@@ -1,5 +1,4 @@
-use Rattle.std.proofs.Common.{◌-◌, ◌≤◌, length}
-use Rattle.script.specs.Fields.{IsPrintableTo}
+use Rattle.script.proofs.Prelude.{◌-◌, ◌≤◌, length, IsPrintableTo}
 use Rattle.script.proofs.lines.printable_front.Given as goal
 
 -- all bytes before it are printable

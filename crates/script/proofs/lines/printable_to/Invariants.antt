@@ -1,4 +1,4 @@
-use Rattle.script.specs.Fields.{IsPrintableTo}
+use Rattle.script.proofs.Prelude.{IsPrintableTo}
 use Rattle.script.proofs.lines.printable_to.Given as goal
 
 -- all bytes before it are printable

@@ -1,6 +1,4 @@
-use Rattle.std.proofs.Common.{◌≡◌, ◌+◌, ◌≤◌, length, fold, Ok}
-use Rattle.text_model.specs.Lines.{lines_of}
-use Rattle.script.specs.Grammar.{numbered}
+use Rattle.script.proofs.Prelude.{◌≡◌, ◌+◌, ◌≤◌, length, fold, Ok, lines_of, numbered}
 use Rattle.script.proofs.reader.read_lines.Given as goal
 
 -- the lines that are left, after those so far, give what all give

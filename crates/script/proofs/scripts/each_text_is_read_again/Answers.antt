@@ -1,6 +1,5 @@
-use Rattle.std.proofs.Common.{refl}
+use Rattle.script.proofs.Prelude.{refl, script_text}
 use Rattle.script.proofs.ScriptTexts.{text_read_again}
-use Rattle.script.specs.Scripts.{script_text}
 use Rattle.script.proofs.scripts.each_text_is_read_again.Goals as goal
 
 pub returns : goal.returns

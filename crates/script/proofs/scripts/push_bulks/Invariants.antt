@@ -1,5 +1,4 @@
-use Rattle.std.proofs.Common.{◌≡◌, ◌++◌, take, flat_map, string_bytes}
-use Rattle.script.specs.Scripts.{bulk_text, ended}
+use Rattle.script.proofs.Prelude.{◌≡◌, ◌++◌, take, flat_map, string_bytes, bulk_text, ended}
 use Rattle.script.proofs.scripts.push_bulks.Given as goal
 
 abbrev pub invariant-loop-bulk : goal.invariant-loop-bulk

@@ -1,6 +1,4 @@
-use Rattle.std.proofs.Common.{◌≡◌, ◌++◌, take, flat_map, string_bytes}
-use Rattle.script.specs.Scripts.{ended}
-use Rattle.script.specs.Texts.{command_text}
+use Rattle.script.proofs.Prelude.{◌≡◌, ◌++◌, take, flat_map, string_bytes, ended, command_text}
 use Rattle.script.proofs.scripts.push_commands.Given as goal
 
 abbrev pub invariant-loop-command : goal.invariant-loop-command

@@ -1,5 +1,4 @@
-use Rattle.std.proofs.Common.{◌≡◌, ◌++◌, take, flat_map, string_bytes}
-use Rattle.script.specs.Scripts.{ended, fail_text}
+use Rattle.script.proofs.Prelude.{◌≡◌, ◌++◌, take, flat_map, string_bytes, ended, fail_text}
 use Rattle.script.proofs.scripts.push_fails.Given as goal
 
 abbrev pub invariant-loop-fail : goal.invariant-loop-fail

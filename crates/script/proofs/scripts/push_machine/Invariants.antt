@@ -1,5 +1,4 @@
-use Rattle.std.proofs.Common.{◌≡◌, ◌++◌, drop, string_bytes}
-use Rattle.script.specs.Scripts.{machine_text, numbers_text}
+use Rattle.script.proofs.Prelude.{◌≡◌, ◌++◌, drop, string_bytes, machine_text, numbers_text}
 use Rattle.script.proofs.scripts.push_machine.Given as goal
 
 abbrev pub invariant-loop-places : goal.invariant-loop-places

@@ -1,5 +1,4 @@
-use Rattle.std.proofs.Common.{◌++◌, string_bytes}
-use Rattle.script.specs.Scripts.{processes_text}
+use Rattle.script.proofs.Prelude.{◌++◌, string_bytes, processes_text}
 use Rattle.script.proofs.ScriptSteps.{process_next, processes_end}
 use Rattle.script.proofs.scripts.push_processes.Goals as goal
 

@@ -1,5 +1,4 @@
-use Rattle.std.proofs.Common.{◌≡◌, ◌++◌, drop, string_bytes}
-use Rattle.script.specs.Scripts.{processes_text}
+use Rattle.script.proofs.Prelude.{◌≡◌, ◌++◌, drop, string_bytes, processes_text}
 use Rattle.script.proofs.scripts.push_processes.Given as goal
 
 abbrev pub invariant-loop-process : goal.invariant-loop-process

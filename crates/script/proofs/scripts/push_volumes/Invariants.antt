@@ -1,5 +1,4 @@
-use Rattle.std.proofs.Common.{◌≡◌, ◌++◌, take, flat_map, string_bytes}
-use Rattle.script.specs.Scripts.{ended, volume_text}
+use Rattle.script.proofs.Prelude.{◌≡◌, ◌++◌, take, flat_map, string_bytes, ended, volume_text}
 use Rattle.script.proofs.scripts.push_volumes.Given as goal
 
 abbrev pub invariant-loop-volume : goal.invariant-loop-volume

@@ -1,5 +1,4 @@
-use Rattle.std.proofs.Common.{◌≡◌, ◌<◌, ◌^◌, drop}
-use Rattle.script.specs.Fields.{decimal_value_from}
+use Rattle.script.proofs.Prelude.{◌≡◌, ◌<◌, ◌^◌, drop, decimal_value_from}
 use Rattle.script.proofs.values.decimal.Given as goal
 
 -- the digits so far, and those that are left, give the number

@@ -1,5 +1,4 @@
-use Rattle.std.proofs.Common.{◌≡◌, drop}
-use Rattle.script.specs.Lines.{number_from}
+use Rattle.script.proofs.Prelude.{◌≡◌, drop, number_from}
 use Rattle.script.proofs.volumes.number_of.Given as goal
 
 -- no volume so far has the name

@@ -1,4 +1,4 @@
-use Rattle.std.proofs.Common.{◌≡◌, rules, true, is_some}
+use Rattle.seg_control.proofs.Prelude.{◌≡◌, rules, true, is_some}
 use Rattle.seg_control.proofs.Chains.{active_from, one_more}
 use Rattle.seg_control.proofs.activating.first_inactive.Goals as goal
 

@@ -1,6 +1,4 @@
-use Rattle.std.proofs.Common.{ℕ, ◌<◌}
-use Rattle.active_segs.specs.Active.{IsActive}
-use Rattle.seg_control.specs.Next.{link_at}
+use Rattle.seg_control.proofs.Prelude.{ℕ, ◌<◌, IsActive, link_at}
 use Rattle.seg_control.proofs.activating.first_inactive.Given as goal
 
 abbrev pub invariant-loop-i : goal.invariant-loop-i

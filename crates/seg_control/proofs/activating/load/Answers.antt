@@ -1,6 +1,5 @@
-use Rattle.std.proofs.Common.{◌≡◌, ◌∙◌, None, refl, sym, ap, rules, get_or}
-use Rattle.vtoc.specs.Vtoc.{entry_at, records_in}
-use Rattle.seg_control.specs.Next.{filed_word}
+use Rattle.seg_control.proofs.Prelude.{◌≡◌, ◌∙◌, None, refl, sym, ap, rules, get_or, records_in, filed_word}
+use Rattle.vtoc.specs.Vtoc.{entry_at}
 use Rattle.seg_control.proofs.Becoming.{table_zero}
 use Rattle.seg_control.proofs.Chains.{load_step}
 use Rattle.seg_control.proofs.activating.load.Goals as goal

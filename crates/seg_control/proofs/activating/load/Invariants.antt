@@ -1,6 +1,5 @@
-use Rattle.std.proofs.Common.{◌≡◌, take, length}
-use Rattle.vtoc.specs.Vtoc.{entry_at, records_in}
-use Rattle.seg_control.specs.Next.{table_for}
+use Rattle.seg_control.proofs.Prelude.{◌≡◌, take, length, records_in, table_for}
+use Rattle.vtoc.specs.Vtoc.{entry_at}
 use Rattle.seg_control.proofs.activating.load.Given as goal
 
 abbrev pub invariant-loop-p : goal.invariant-loop-p

@@ -1,5 +1,4 @@
-use Rattle.std.proofs.Common.{◌≡◌, ◌≤◌, take, length}
-use Rattle.seg_control.specs.Next.{uids_of}
+use Rattle.seg_control.proofs.Prelude.{◌≡◌, ◌≤◌, take, length, uids_of}
 use Rattle.seg_control.proofs.activating.uids_in.Given as goal
 
 abbrev pub invariant-loop-link : goal.invariant-loop-link

@@ -1,5 +1,4 @@
-use Rattle.std.proofs.Common.{◌≡◌, ◌≤◌, replicate, vec_len, vec_capacity}
-use Rattle.descriptor_seg.specs.Descriptors.{all_faults}
+use Rattle.seg_control.proofs.Prelude.{◌≡◌, ◌≤◌, replicate, vec_len, vec_capacity, all_faults}
 use Rattle.seg_control.proofs.links.faulting.Given as goal
 
 abbrev pub invariant-loop-process : goal.invariant-loop-process

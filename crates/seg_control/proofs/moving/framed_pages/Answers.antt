@@ -1,4 +1,4 @@
-use Rattle.std.proofs.Common.{◌≤◌, length, rules}
+use Rattle.seg_control.proofs.Prelude.{◌≤◌, length, rules}
 use Rattle.seg_control.proofs.Choosing.{framed_start, framed_more, framed_end}
 use Rattle.seg_control.proofs.moving.framed_pages.Goals as goal
 

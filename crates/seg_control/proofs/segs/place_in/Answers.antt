@@ -1,4 +1,4 @@
-use Rattle.std.proofs.Common.{sym, refl}
+use Rattle.seg_control.proofs.Prelude.{sym, refl}
 use Rattle.seg_control.proofs.Places.{place_is}
 use Rattle.seg_control.proofs.segs.place_in.Goals as goal
 

@@ -1,7 +1,4 @@
-use Rattle.std.proofs.Common.{◌≡◌, ◌<◌, ◌≤◌, ◌∙◌, length, ap, sym, set, rules}
-use Rattle.std.proofs.lemmas.List.{length-set}
-use Rattle.page_table.specs.PageTable.{ptw_at}
-use Rattle.seg_control.specs.Effects.{gone}
+use Rattle.seg_control.proofs.Prelude.{◌≡◌, ◌<◌, ◌≤◌, ◌∙◌, length, ap, sym, set, rules, length-set, ptw_at, gone}
 use Rattle.seg_control.proofs.Taking.{taken_step, taken_skip, taken_end}
 use Rattle.seg_control.proofs.segs.take_from.Goals as goal
 use Rattle.seg_control.proofs.segs.take_from.Goals.{in-Here, in_default}

@@ -1,5 +1,4 @@
-use Rattle.std.proofs.Common.{◌≡◌, length}
-use Rattle.seg_control.specs.Effects.{taken_from}
+use Rattle.seg_control.proofs.Prelude.{◌≡◌, length, taken_from}
 use Rattle.seg_control.proofs.segs.take_from.Given as goal
 
 abbrev pub invariant-loop-p : goal.invariant-loop-p

@@ -1,5 +1,4 @@
-use Rattle.seg_mover.proofs.Begun.{records_there, begins, begun_others, begun_uid, begun_same, begun_adds, begun_count}
-use Rattle.seg_mover.proofs.Begun.{begun_entries, begun_moving, begun_back}
+use Rattle.seg_mover.proofs.Begun.{records_there, begins, begun_others, begun_uid, begun_same, begun_adds, begun_count, begun_entries, begun_moving, begun_back}
 use Rattle.seg_mover.proofs.Mover.begin.Goals as goal
 
 pub returns-clause-uid : goal.returns-clause-uid

@@ -1,5 +1,4 @@
-use Rattle.std.proofs.Common.{rules, arith}
-use Rattle.seg_mover.specs.Homes.{place_at}
+use Rattle.seg_mover.proofs.Prelude.{rules, arith, place_at}
 use Rattle.seg_mover.proofs.Choosing.{least_to_copy, named_from}
 use Rattle.seg_mover.proofs.Mover.copy_step.Goals as goal
 

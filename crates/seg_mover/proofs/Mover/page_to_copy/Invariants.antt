@@ -1,6 +1,4 @@
-use Rattle.std.proofs.Common.{◌≡◌, ◌-◌}
-use Rattle.seg_mover.specs.Homes.{map_at}
-use Rattle.seg_mover.specs.Copies.{page_to_copy, first_to_copy}
+use Rattle.seg_mover.proofs.Prelude.{◌≡◌, ◌-◌, map_at, page_to_copy, first_to_copy}
 use Rattle.seg_mover.proofs.Mover.page_to_copy.Given as goal
 
 abbrev pub invariant-loop-p : goal.invariant-loop-p

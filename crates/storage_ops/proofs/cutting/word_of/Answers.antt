@@ -1,9 +1,4 @@
-use Rattle.std.proofs.Common.{ℕ, List, sym, ap, ◌∙◌, arith}
-use Rattle.std.proofs.lemmas.List.{get_or_past}
-use Rattle.page_table.specs.declared.Ptw.{Ptw}
-use Rattle.page_table.specs.declared.Ptw.TheVariants.{Null}
-use Rattle.page_table.specs.PageTable.{ptw_at}
-use Rattle.active_segs.specs.Active.{table_at}
+use Rattle.storage_ops.proofs.Prelude.{ℕ, List, sym, ap, ◌∙◌, arith, get_or_past, Ptw, Null, ptw_at, table_at}
 use Rattle.storage_ops.proofs.Paged.{place_found}
 use Rattle.storage_ops.proofs.cutting.word_of.Goals as goal
 

@@ -1,8 +1,4 @@
-use Rattle.std.proofs.Common.{true, false, ap, sym, ◌∙◌}
-use Rattle.tree_model.specs.Tree.{quota_in}
-use Rattle.dir_tree.specs.Nodes.{as_term}
-use Rattle.flat_model.proofs.TreeReplies.{acl_refused, acl_told}
-use Rattle.storage_ops.specs.Shown.{refusal}
+use Rattle.storage_ops.proofs.Prelude.{true, false, ap, sym, ◌∙◌, quota_in, as_term, acl_refused, acl_told, refusal}
 use Rattle.storage_ops.proofs.FoundLaws.{leads_segment}
 use Rattle.storage_ops.proofs.PathRefusals.{refusal_told, segment_refuses}
 use Rattle.storage_ops.proofs.finding.for_acl.Goals as goal

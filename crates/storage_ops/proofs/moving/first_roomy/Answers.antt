@@ -1,5 +1,4 @@
-use Rattle.std.proofs.Common.{◌≡◌, ◌<◌, ℕ, false, true, length, rules}
-use Rattle.storage_ops.specs.Rooms.{is_roomy}
+use Rattle.storage_ops.proofs.Prelude.{◌≡◌, ◌<◌, ℕ, false, true, length, rules, is_roomy}
 use Rattle.storage_ops.proofs.RoomsFound.{first_here, first_nowhere}
 use Rattle.storage_ops.proofs.moving.first_roomy.Goals as goal
 

@@ -1,5 +1,4 @@
-use Rattle.std.proofs.Common.{◌≡◌, ◌<◌, ℕ, false}
-use Rattle.storage_ops.specs.Rooms.{is_roomy}
+use Rattle.storage_ops.proofs.Prelude.{◌≡◌, ◌<◌, ℕ, false, is_roomy}
 use Rattle.storage_ops.proofs.moving.first_roomy.Given as goal
 
 abbrev pub invariant-loop-volume : goal.invariant-loop-volume

@@ -1,5 +1,4 @@
-use Rattle.std.proofs.Common.{◌≡◌, ◌≤◌, ◌<◌, ℕ, is_some, false}
-use Rattle.vtoc.specs.Vtoc.{record_at}
+use Rattle.storage_ops.proofs.Prelude.{◌≡◌, ◌≤◌, ◌<◌, ℕ, is_some, false, record_at}
 use Rattle.storage_ops.proofs.sizes.names_from.Given as goal
 
 abbrev pub invariant-loop-page : goal.invariant-loop-page

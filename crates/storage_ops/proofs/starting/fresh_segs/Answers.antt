@@ -1,14 +1,8 @@
-use Rattle.std.proofs.Common.{ℕ, sym, ap, subst, ◌∙◌, ◌≤◌, sum, List, None}
-use Rattle.active_segs.specs.Active.{no_segments}
-use Rattle.page_control.specs.Plain.{Paging, plain}
-use Rattle.seg_control.specs.Control.{Control}
-use Rattle.seg_control.specs.Effects.{no_links}
-use Rattle.storage_ops.specs.Shown.{AreFresh, empty_frames}
+use Rattle.storage_ops.proofs.Prelude.{ℕ, sym, ap, subst, ◌∙◌, ◌≤◌, sum, List, None, no_segments, Paging, plain, Control, no_links, AreFresh, empty_frames, pools_few}
 use Rattle.storage_ops.proofs.Fresh.{filed_fresh, rest_fresh}
 use Rattle.storage_ops.proofs.starting.fresh_segs.Given.{Over}
 use Rattle.storage_ops.proofs.starting.fresh_segs.Goals.{In_ok-pages}
 use Rattle.storage_ops.proofs.starting.fresh_segs.Goals as goal
-use Rattle.flat_model.proofs.SharedLaws.{pools_few}
 
 -- the volumes that pages are given are fresh
 fresh_pages : (g : Over) (c : In_ok-pages g)

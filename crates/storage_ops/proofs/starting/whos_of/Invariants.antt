@@ -1,4 +1,4 @@
-use Rattle.std.proofs.Common.{◌≡◌, map, take}
+use Rattle.storage_ops.proofs.Prelude.{◌≡◌, map, take}
 use Rattle.storage_ops.proofs.starting.whos_of.Given as goal
 
 abbrev pub invariant-loop-process : goal.invariant-loop-process

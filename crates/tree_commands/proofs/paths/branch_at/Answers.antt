@@ -1,7 +1,4 @@
-use Rattle.std.proofs.Common.{ℕ, List, length, eqb, sym, ap, ◌∙◌}
-use Rattle.tree_model.specs.Tree.{quota_in}
-use Rattle.dir_tree.specs.Nodes.{as_term}
-use Rattle.flat_model.proofs.TreeLaws.{apart_shown}
+use Rattle.tree_commands.proofs.Prelude.{ℕ, List, length, eqb, sym, ap, ◌∙◌, quota_in, as_term, apart_shown}
 use Rattle.tree_commands.proofs.paths.branch_at.Goals as goal
 
 pub returns-clause-branch : goal.returns-clause-branch

@@ -1,7 +1,4 @@
-use Rattle.std.proofs.Common.{true, false, sym, ◌∙◌}
-use Rattle.tree_model.specs.Tree.{quota_in}
-use Rattle.dir_tree.specs.Nodes.{as_term}
-use Rattle.flat_model.proofs.TreeReplies.{acl_refused, acl_told}
+use Rattle.tree_commands.proofs.Prelude.{true, false, sym, ◌∙◌, quota_in, as_term, acl_refused, acl_told}
 use Rattle.tree_commands.proofs.replies.acl_reply.Goals as goal
 
 pub returns-then-takes : goal.returns-then-takes

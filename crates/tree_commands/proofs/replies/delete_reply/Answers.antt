@@ -1,9 +1,4 @@
-use Rattle.std.proofs.Common.{◌≡◌, ℕ, true, false, refl, sym, ap, ◌∙◌, eqb}
-use Rattle.std.proofs.lemmas.Bool.{ne_eqb}
-use Rattle.std.specs.Result.{is_err}
-use Rattle.tree_model.specs.Tree.{quota_in}
-use Rattle.dir_tree.specs.Nodes.{as_term, has_inferior}
-use Rattle.flat_model.proofs.TreeReplies.{delete_refused, delete_told, from_false}
+use Rattle.tree_commands.proofs.Prelude.{◌≡◌, ℕ, true, false, refl, sym, ap, ◌∙◌, eqb, ne_eqb, is_err, quota_in, as_term, has_inferior, delete_refused, delete_told, from_false}
 use Rattle.tree_commands.proofs.replies.delete_reply.Goals as goal
 
 pub returns-in-Err : goal.returns-in-Err

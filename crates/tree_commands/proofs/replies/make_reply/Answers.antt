@@ -1,7 +1,4 @@
-use Rattle.std.proofs.Common.{refl}
-use Rattle.tree_model.specs.Tree.{quota_in}
-use Rattle.dir_tree.specs.Nodes.{as_term}
-use Rattle.flat_model.proofs.TreeReplies.{make_root, make_refused, make_in_segment, make_told}
+use Rattle.tree_commands.proofs.Prelude.{refl, quota_in, as_term, make_root, make_refused, make_in_segment, make_told}
 use Rattle.tree_commands.proofs.replies.make_reply.Goals as goal
 
 pub returns-in_default : goal.returns-in_default

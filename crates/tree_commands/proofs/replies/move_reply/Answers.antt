@@ -1,13 +1,5 @@
-use Rattle.std.proofs.Common.{Err, ap, ◌∙◌, w32, ◌≡◌, Result}
-use Rattle.std.proofs.lemmas.Int.{to_z-of_z}
+use Rattle.tree_commands.proofs.Prelude.{Err, ap, ◌∙◌, w32, ◌≡◌, Result, to_z-of_z, quota_in, as_term, MoveFault, move_refused, Store, move_reply, ShowsTree}
 use mir.Val.{to_z}
-use Rattle.tree_model.specs.Tree.{quota_in}
-use Rattle.dir_tree.specs.Nodes.{as_term}
-use Rattle.quota_cells.specs.declared.MoveFault.{MoveFault}
-use Rattle.flat_model.proofs.TreeReplies.{move_refused}
-use Rattle.flat_model.specs.Store.{Store}
-use Rattle.flat_model.specs.Rights.{move_reply}
-use Rattle.tree_commands.specs.Shown.{ShowsTree}
 use Rattle.tree_commands.proofs.MoveReplies.{move_given, move_nothing, move_told}
 use Rattle.tree_commands.proofs.replies.move_reply.Goals.{After-may_move}
 use Rattle.tree_commands.proofs.replies.move_reply.Goals as goal

@@ -1,7 +1,4 @@
-use Rattle.std.proofs.Common.{List, sym, ap, ◌∙◌}
-use Rattle.tree_model.specs.Tree.{Node, quota_in, used_by}
-use Rattle.dir_tree.specs.Nodes.{as_term}
-use Rattle.flat_model.proofs.TreeReplies.{status_refused, status_directory, status_segment}
+use Rattle.tree_commands.proofs.Prelude.{List, sym, ap, ◌∙◌, Node, quota_in, used_by, as_term, status_refused, status_directory, status_segment}
 use Rattle.tree_commands.proofs.replies.status_reply.Goals as goal
 
 pub returns-in-Err : goal.returns-in-Err

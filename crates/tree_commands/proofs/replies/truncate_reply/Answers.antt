@@ -1,6 +1,4 @@
-use Rattle.tree_model.specs.Tree.{quota_in}
-use Rattle.dir_tree.specs.Nodes.{as_term}
-use Rattle.flat_model.proofs.TreeReplies.{truncate_refused, truncate_told}
+use Rattle.tree_commands.proofs.Prelude.{quota_in, as_term, truncate_refused, truncate_told}
 use Rattle.tree_commands.proofs.replies.truncate_reply.Goals as goal
 
 pub returns-in-Ok : goal.returns-in-Ok

@@ -1,16 +1,5 @@
-use Rattle.std.proofs.Common.{◌≡◌, ℤ, pos, Err, true, false, refl, sym, ap, ◌∙◌, w32, Result}
-use Rattle.std.proofs.lemmas.Int.{to_z-of_z}
+use Rattle.tree_commands.proofs.Prelude.{◌≡◌, ℤ, pos, Err, true, false, refl, sym, ap, ◌∙◌, w32, Result, to_z-of_z, is_positive, Node, quota_in, as_term, MoveFault, nodes_moved, move_reply, Store, ShowsTree, directory_refuses, nothing_moved, move_refused}
 use mir.Val.{to_z}
-use Rattle.std.specs.Int.{is_positive}
-use Rattle.tree_model.specs.Tree.{Node, quota_in}
-use Rattle.dir_tree.specs.Nodes.{as_term}
-use Rattle.quota_cells.specs.declared.MoveFault.{MoveFault}
-use Rattle.flat_model.specs.Rights.{nodes_moved, move_reply}
-use Rattle.flat_model.specs.Store.{Store}
-use Rattle.tree_commands.specs.Shown.{ShowsTree}
-use Rattle.flat_model.proofs.PathRefusals.{directory_refuses}
-use Rattle.flat_model.proofs.QuotaLaws.{nothing_moved}
-use Rattle.flat_model.proofs.TreeReplies.{move_refused}
 use Rattle.tree_commands.proofs.MoveReplies.{move_given, move_nothing, move_told}
 use Rattle.tree_commands.proofs.rights.move_quota.Goals.{After-move_quota}
 use Rattle.tree_commands.proofs.rights.move_quota.Goals as goal

@@ -1,12 +1,5 @@
-use Rattle.std.proofs.Common.{◌≡◌, ℕ, List, true, false, not, is_ok, sym, ap, ◌∙◌}
-use Rattle.mnames.specs.declared.rows.Row.{Row as Named}
-use Rattle.accounts.specs.Maps.{rows_in}
-use Rattle.tree_model.specs.Access.{takes_row}
-use Rattle.tree_model.specs.Tree.{Node, quota_in}
-use Rattle.dir_tree.specs.Nodes.{as_term}
-use Rattle.flat_model.proofs.PathRefusals.{segment_refuses}
+use Rattle.tree_commands.proofs.Prelude.{◌≡◌, ℕ, List, true, false, not, is_ok, sym, ap, ◌∙◌, Named, rows_in, takes_row, Node, quota_in, as_term, segment_refuses, acl_refused, acl_told, from_false}
 use Rattle.tree_commands.proofs.NodeLaws.{rows_found}
-use Rattle.flat_model.proofs.TreeReplies.{acl_refused, acl_told, from_false}
 use Rattle.tree_commands.proofs.rights.set_row.Goals as goal
 
 pub returns-in-Err-clause-answer : goal.returns-in-Err-clause-answer

@@ -1,7 +1,5 @@
-use Rattle.std.proofs.Common.{◌∙◌, ap, sym}
-use Rattle.vtoc.specs.Slots.{table_of}
-use Rattle.vtoc.proofs.Table.{least_same, least_entry, all_used, allocate_marked, allocate_table, allocate_empty}
-use Rattle.vtoc.proofs.Table.{bit_is, count_taken, least_slot, read_self}
+use Rattle.vtoc.proofs.Prelude.{◌∙◌, ap, sym, table_of}
+use Rattle.vtoc.proofs.Table.{least_same, least_entry, all_used, allocate_marked, allocate_table, allocate_empty, bit_is, count_taken, least_slot, read_self}
 use Rattle.vtoc.proofs.Vtoc.allocate.Goals as goal
 
 pub give-requires-clause-within : goal.give-requires-clause-within

@@ -1,5 +1,4 @@
-use Rattle.std.proofs.Common.{◌∙◌, ℕ, List, Option, None, ap, sym, get_or}
-use Rattle.vtoc.specs.declared.slots.Slot.{Slot}
+use Rattle.vtoc.proofs.Prelude.{◌∙◌, ℕ, List, Option, None, ap, sym, get_or, Slot}
 use Rattle.vtoc.proofs.Table.{has_uid, kept}
 use Rattle.vtoc.proofs.Vtoc.file_map.Goals as goal
 

@@ -1,5 +1,4 @@
-use Rattle.std.proofs.Common.{◌∙◌, ap}
-use Rattle.vtoc.specs.Slots.{slot_at, table_of}
+use Rattle.vtoc.proofs.Prelude.{◌∙◌, ap, slot_at, table_of}
 use Rattle.vtoc.proofs.Table.{count_freed, free_marked, free_table, has_uid, read_self, used_bit, used_slot}
 use Rattle.vtoc.proofs.Vtoc.free.Goals as goal
 

@@ -1,4 +1,4 @@
-use Rattle.std.proofs.Common.{arith}
+use Rattle.vtoc.proofs.Prelude.{arith}
 use Rattle.vtoc.proofs.Table.{table_new, marked_new}
 use Rattle.vtoc.proofs.Vtoc.new.Goals as goal
 

@@ -1,5 +1,4 @@
-use Rattle.std.proofs.Common.{◌∙◌, ap, refl}
-use Rattle.vtoc.specs.Slots.{table_of}
+use Rattle.vtoc.proofs.Prelude.{◌∙◌, ap, refl, table_of}
 use Rattle.vtoc.proofs.Table.{has_uid, put_marked, put_placed, put_table, read_self, used_slot}
 use Rattle.vtoc.proofs.Vtoc.put_file_map.Goals as goal
 

@@ -1,4 +1,4 @@
-use Rattle.std.proofs.Common.{◌∙◌}
+use Rattle.vtoc.proofs.Prelude.{◌∙◌}
 use Rattle.vtoc.proofs.Table.{count_same}
 use Rattle.vtoc.proofs.Vtoc.used.Goals as goal
 

@@ -1,5 +1,4 @@
-use Rattle.std.proofs.Common.{◌≡◌, ◌==◌, take}
-use Rattle.std.specs.List.{list_all}
+use Rattle.vtoc.proofs.Prelude.{◌≡◌, ◌==◌, take, list_all}
 use Rattle.vtoc.proofs.file_map.name_no_record.Given as goal
 
 abbrev pub invariant-loop-p : goal.invariant-loop-p

@@ -1,5 +1,4 @@
-use Rattle.std.proofs.Common.{◌+◌, ◌<◌, Some, ap, length, set, subst, sym, ◌%◌, ◌∙◌, ◌≡◌}
-use Rattle.active_segs.specs.Pairs.{Pairs, SetsPlace, pairs_in, place_of}
+use Rattle.active_segs.proofs.Prelude.{◌+◌, ◌<◌, Some, ap, length, set, subst, sym, ◌%◌, ◌∙◌, Pairs, SetsPlace, pairs_in, place_of}
 use Rattle.active_segs.proofs.SplitLemmas.{finds_list, list_has_room, list_more, list_sets, list_split}
 use Rattle.active_segs.proofs.index.Index.insert.Goals as goal
 

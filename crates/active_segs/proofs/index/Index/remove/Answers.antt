@@ -1,6 +1,4 @@
-use Rattle.std.proofs.Common.{ℕ, None, Option, ap, length, set, subst, sym, ◌%◌, ◌∙◌}
-use Rattle.std.specs.Prelude.{IsSome}
-use Rattle.active_segs.specs.Pairs.{Pairs, SetsPlace, pairs_in, place_of}
+use Rattle.active_segs.proofs.Prelude.{ℕ, None, Option, ap, length, set, subst, sym, ◌%◌, ◌∙◌, IsSome, Pairs, SetsPlace, pairs_in, place_of}
 use Rattle.active_segs.proofs.SplitLemmas.{finds_list, list_less, list_sets, list_split}
 use Rattle.active_segs.proofs.index.Index.remove.Goals as goal
 

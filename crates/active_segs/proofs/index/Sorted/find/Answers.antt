@@ -1,6 +1,4 @@
-use Rattle.std.proofs.Common.{◌≡◌, ℕ, List, ap, sym, subst, ◌∙◌, Some}
-use Rattle.std.proofs.lemmas.List.{get_or_default}
-use Rattle.active_segs.specs.Pairs.{Pairs, place_of, IsFoundAt, BelongsAt}
+use Rattle.active_segs.proofs.Prelude.{◌≡◌, ℕ, List, ap, sym, subst, ◌∙◌, Some, get_or_default, Pairs, place_of, IsFoundAt, BelongsAt}
 use Rattle.active_segs.proofs.PairLemmas.{place_found, place_in_gap}
 use Rattle.active_segs.proofs.index.Sorted.find.Goals as goal
 

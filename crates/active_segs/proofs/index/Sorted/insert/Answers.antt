@@ -1,5 +1,4 @@
-use Rattle.std.proofs.Common.{◌≡◌, ℕ, List, length, ap, sym, subst, ◌∙◌, None, Some, arith, ◌<◌}
-use Rattle.active_segs.specs.Pairs.{Pairs, place_of, IsAscending, IsFoundAt, BelongsAt, SetsPlace}
+use Rattle.active_segs.proofs.Prelude.{◌≡◌, ℕ, List, length, ap, sym, subst, ◌∙◌, None, Some, arith, ◌<◌, Pairs, place_of, IsAscending, IsFoundAt, BelongsAt, SetsPlace}
 use Rattle.active_segs.proofs.PairLemmas.{place_found, sets_inserted, ascending_inserted}
 use Rattle.active_segs.proofs.index.Sorted.insert.Goals as goal
 

@@ -1,6 +1,4 @@
-use Rattle.std.proofs.Common.{◌≡◌, ℕ, List, ap, sym, subst, ◌∙◌, None, is_some, true, false}
-use Rattle.std.proofs.lemmas.Bool.{both_ways}
-use Rattle.active_segs.specs.Pairs.{Pairs, place_of, IsFoundAt, BelongsAt, SetsPlace}
+use Rattle.active_segs.proofs.Prelude.{◌≡◌, ℕ, List, ap, sym, subst, ◌∙◌, None, is_some, true, false, both_ways, Pairs, place_of, IsFoundAt, BelongsAt, SetsPlace}
 use Rattle.active_segs.proofs.PairLemmas.{place_in_gap, place_removed}
 use Rattle.active_segs.proofs.index.Sorted.remove.Goals as goal
 

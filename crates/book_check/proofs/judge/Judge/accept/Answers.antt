@@ -1,4 +1,4 @@
-use Rattle.std.proofs.Common.{rules}
+use Rattle.book_check.proofs.Prelude.{rules}
 use Rattle.book_check.proofs.AfterLaws.{no_entry, broken, taken, no_memory, one_found, none_found}
 use Rattle.book_check.proofs.judge.Judge.accept.Goals as goal
 

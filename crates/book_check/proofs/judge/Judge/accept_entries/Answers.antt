@@ -1,7 +1,4 @@
-use Rattle.std.proofs.Common.{arith, ap, ◌∙◌, ◌+◌}
-use Rattle.std.proofs.lemmas.Bool.Decides.{nat_tests}
-use Rattle.text_model.specs.Lines.{lines_of}
-use Rattle.book_check.specs.Judging.{Judged}
+use Rattle.book_check.proofs.Prelude.{arith, ap, ◌∙◌, ◌+◌, nat_tests, lines_of, Judged}
 use Rattle.book_check.proofs.GoingLaws.{room_there, tables_there, reached_next, fault_told, ended_nil, ended_summary}
 use Rattle.book_check.proofs.judge.Judge.accept_entries.Goals as goal
 

@@ -1,6 +1,4 @@
-use Rattle.std.proofs.Common.{◌≡◌, ◌+◌, ◌≤◌, length}
-use Rattle.text_model.specs.Lines.{lines_of}
-use Rattle.book_check.specs.Going.{IsReached}
+use Rattle.book_check.proofs.Prelude.{◌≡◌, ◌+◌, ◌≤◌, length, lines_of, IsReached}
 use Rattle.book_check.proofs.judge.Judge.accept_entries.Given as goal
 
 -- the lines so far were accepted, and those that are left are judged as all are

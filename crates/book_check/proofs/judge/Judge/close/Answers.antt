@@ -1,6 +1,4 @@
-use Rattle.std.proofs.Common.{string_bytes, List, ℕ, ap, sym, ◌∙◌}
-use Rattle.book_check.specs.Verdicts.{same_lines}
-use Rattle.text_model.specs.Lines.{lines_of}
+use Rattle.book_check.proofs.Prelude.{string_bytes, List, ℕ, ap, sym, ◌∙◌, same_lines, lines_of}
 use Rattle.book_check.proofs.CloseLaws.{closed_early, closed_zeros, closed_well, closed_wrong, closed_short}
 use Rattle.book_check.proofs.judge.Judge.close.Goals as goal
 

@@ -1,5 +1,4 @@
-use Rattle.std.proofs.Common.{sym}
-use Rattle.clean_reasons.specs.Texts.{active_text}
+use Rattle.clean_reasons.proofs.Prelude.{sym, active_text}
 use Rattle.clean_reasons.proofs.texts.ActiveReasonDisplay.fmt.Goals as goal
 
 pub returns-in-NoNode-clause-writes : goal.returns-in-NoNode-clause-writes

@@ -1,4 +1,4 @@
-use Rattle.clean_reasons.specs.Texts.{command_text}
+use Rattle.clean_reasons.proofs.Prelude.{command_text}
 use Rattle.clean_reasons.proofs.texts.CommandReasonDisplay.fmt.Goals as goal
 
 pub returns-in-NoneLeft-clause-writes : goal.returns-in-NoneLeft-clause-writes

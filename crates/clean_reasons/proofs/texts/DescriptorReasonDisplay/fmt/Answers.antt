@@ -1,4 +1,4 @@
-use Rattle.clean_reasons.specs.Texts.{descriptor_text}
+use Rattle.clean_reasons.proofs.Prelude.{descriptor_text}
 use Rattle.clean_reasons.proofs.texts.DescriptorReasonDisplay.fmt.Goals as goal
 
 pub returns-in-Leads-clause-writes : goal.returns-in-Leads-clause-writes

@@ -1,4 +1,4 @@
-use Rattle.clean_reasons.specs.Texts.{effect_text}
+use Rattle.clean_reasons.proofs.Prelude.{effect_text}
 use Rattle.clean_reasons.proofs.texts.EffectReasonDisplay.fmt.Goals as goal
 
 pub returns-in-Connected-clause-writes : goal.returns-in-Connected-clause-writes

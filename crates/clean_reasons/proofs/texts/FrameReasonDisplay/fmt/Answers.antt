@@ -1,4 +1,4 @@
-use Rattle.clean_reasons.specs.Texts.{frame_text}
+use Rattle.clean_reasons.proofs.Prelude.{frame_text}
 use Rattle.clean_reasons.proofs.texts.FrameReasonDisplay.fmt.Goals as goal
 
 pub returns-in-HasPage-clause-writes : goal.returns-in-HasPage-clause-writes

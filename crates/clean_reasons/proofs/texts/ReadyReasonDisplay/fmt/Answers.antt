@@ -1,4 +1,4 @@
-use Rattle.clean_reasons.specs.Texts.{ready_text}
+use Rattle.clean_reasons.proofs.Prelude.{ready_text}
 use Rattle.clean_reasons.proofs.texts.ReadyReasonDisplay.fmt.Goals as goal
 
 pub returns-in-Empty-clause-writes : goal.returns-in-Empty-clause-writes

@@ -1,4 +1,4 @@
-use Rattle.clean_reasons.specs.Texts.{seat_text}
+use Rattle.clean_reasons.proofs.Prelude.{seat_text}
 use Rattle.clean_reasons.proofs.texts.SeatReasonDisplay.fmt.Goals as goal
 
 pub returns-in-Online-clause-writes : goal.returns-in-Online-clause-writes

@@ -1,4 +1,4 @@
-use Rattle.std.proofs.Common.{rules}
+use Rattle.custody.proofs.Prelude.{rules}
 use Rattle.custody.proofs.PutLaws.{active_few, active_kept, active_put}
 use Rattle.custody.proofs.active.Active.put.Goals as goal
 

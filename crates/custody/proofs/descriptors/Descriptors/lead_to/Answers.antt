@@ -1,6 +1,6 @@
+use Rattle.custody.proofs.Prelude.{eqb}
 use Rattle.custody.proofs.LookLaws.{row_of_decides}
 use Rattle.custody.proofs.ScanLaws.{leads_is}
-use Rattle.std.proofs.Common.{eqb}
 use Rattle.custody.proofs.descriptors.Descriptors.lead_to.Goals as goal
 
 pub returns : goal.returns

@@ -1,6 +1,6 @@
+use Rattle.custody.proofs.Prelude.{ltb}
 use Rattle.custody.proofs.LookLaws.{row_goes_decides}
 use Rattle.custody.proofs.ScanLaws.{goes_is}
-use Rattle.std.proofs.Common.{ltb}
 use Rattle.custody.proofs.descriptors.Descriptors.some_goes.Goals as goal
 
 pub returns : goal.returns

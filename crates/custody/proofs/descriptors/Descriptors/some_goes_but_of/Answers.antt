@@ -1,6 +1,6 @@
+use Rattle.custody.proofs.Prelude.{eqb}
 use Rattle.custody.proofs.LookLaws.{row_only_of_decides}
 use Rattle.custody.proofs.ScanLaws.{elsewhere_is}
-use Rattle.std.proofs.Common.{eqb}
 use Rattle.custody.proofs.descriptors.Descriptors.some_goes_but_of.Goals as goal
 
 pub returns : goal.returns

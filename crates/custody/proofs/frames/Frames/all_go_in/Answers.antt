@@ -1,7 +1,4 @@
-use Rattle.std.proofs.Common.{ap, ◌∙◌}
-use Rattle.custody_model.specs.declared.FrameUse.{FrameUse}
-use Rattle.custody.specs.Counts.{key_bit}
-use Rattle.custody.specs.Uses.{frame_mark, kind_key}
+use Rattle.custody.proofs.Prelude.{ap, ◌∙◌, FrameUse, key_bit, frame_mark, kind_key}
 use Rattle.custody.proofs.LookLaws.{frames_only_in_decide}
 use Rattle.custody.proofs.frames.Frames.all_go_in.Goals as goal
 

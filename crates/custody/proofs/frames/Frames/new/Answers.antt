@@ -1,4 +1,4 @@
-use Rattle.std.proofs.Common.{rules}
+use Rattle.custody.proofs.Prelude.{rules}
 use Rattle.custody.proofs.BootLaws.{frames_made}
 use Rattle.custody.proofs.frames.Frames.new.Goals as goal
 

@@ -1,6 +1,4 @@
-use Rattle.std.proofs.Common.{ap, ◌∙◌}
-use Rattle.custody_model.specs.Custody.{Seat}
-use Rattle.custody.specs.Changes.{dropped}
+use Rattle.custody.proofs.Prelude.{ap, ◌∙◌, Seat, dropped}
 use Rattle.custody.specs.contracts.seats.SeatRow.{the_view}
 use Rattle.custody.proofs.RowLaws.{dropped_idle}
 use Rattle.custody.proofs.seats.SeatRow.drop_named.Goals as goal

@@ -1,9 +1,7 @@
-use Rattle.std.proofs.Common.{◌≡◌, true, ap}
-use Rattle.custody.specs.Changes.{is_of_frame, is_of_seat}
+use Rattle.custody.proofs.Prelude.{◌≡◌, true, ap, is_of_frame, is_of_seat, on_ok}
 use Rattle.custody.proofs.FollowLaws.{any_of_six}
 use Rattle.custody.proofs.tables.Custody.advance.Goals.{In-Online, In-Start}
 use Rattle.custody.proofs.tables.Custody.advance.Goals as goal
-use Rattle.laws.proofs.Options.{on_ok}
 
 -- the entries that are of a frame, and those of a processor alone
 of_frame : (c : In-Start) → is_of_frame c.args.e ≡ true

@@ -1,8 +1,4 @@
-use Rattle.std.proofs.Common.{sym, subst}
-use Rattle.std.specs.Bool.{Decides}
-use Rattle.book.specs.declared.entries.Entry.{Entry}
-use Rattle.custody_model.specs.Allowed.{IsAllowed}
-use Rattle.custody.specs.Tables.{custody_of}
+use Rattle.custody.proofs.Prelude.{sym, subst, Decides, Entry, IsAllowed, custody_of}
 use Rattle.custody.proofs.tables.Custody.allows.Goals as goal
 
 pub returns-in-Deactivate : goal.returns-in-Deactivate

@@ -1,8 +1,5 @@
-use Rattle.std.proofs.Common.{◌≡◌, ℕ, List, sym, subst}
-use Rattle.std.specs.Bool.{Decides}
-use Rattle.custody_model.specs.declared.DescriptorUse.{DescriptorUse}
+use Rattle.custody.proofs.Prelude.{◌≡◌, ℕ, List, sym, subst, Decides, DescriptorUse, descriptor_at}
 use Rattle.custody_model.specs.declared.DescriptorUse.TheVariants as descriptor
-use Rattle.custody.specs.Uses.{descriptor_at}
 use Rattle.custody.proofs.tables.Custody.are_all_free.Goals as goal
 
 pub returns-in-Some : goal.returns-in-Some

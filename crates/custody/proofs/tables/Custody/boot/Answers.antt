@@ -1,4 +1,4 @@
-use Rattle.custody.specs.Tables.{Tables}
+use Rattle.custody.proofs.Prelude.{Tables}
 use Rattle.custody.proofs.BootLaws.{booted, booted_sizes}
 use Rattle.custody.proofs.tables.Custody.boot.Goals.{After-new-2}
 use Rattle.custody.proofs.tables.Custody.boot.Goals as goal

@@ -1,7 +1,7 @@
+use Rattle.custody.proofs.Prelude.{on_ok}
 use Rattle.custody.proofs.FollowLaws.{active_advanced, custody_advanced, of_advanced}
 use Rattle.custody.proofs.KeptNodes.{nodes_kept}
 use Rattle.custody.proofs.tables.Custody.follow.Goals as goal
-use Rattle.laws.proofs.Options.{on_ok}
 
 pub returns-clause-custody : goal.returns-clause-custody
 returns-clause-custody c = on_ok c.advance.result _ _ (λ advances s shows nodes.

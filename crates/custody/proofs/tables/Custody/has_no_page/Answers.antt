@@ -1,7 +1,4 @@
-use Rattle.std.proofs.Common.{subst}
-use Rattle.std.specs.Bool.{Decides}
-use Rattle.custody.specs.Tables.{Tables, custody_of}
-use Rattle.custody_model.specs.Effects.{HasNoPage}
+use Rattle.custody.proofs.Prelude.{subst, Decides, Tables, custody_of, HasNoPage}
 use Rattle.custody.proofs.tables.Custody.has_no_page.Goals as goal
 
 pub returns : goal.returns

@@ -1,7 +1,5 @@
-use Rattle.std.proofs.Common.{◌≢◌, ℕ, subst}
-use Rattle.std.specs.Bool.{Decides}
+use Rattle.custody.proofs.Prelude.{◌≢◌, ℕ, subst, Decides, Tables, custody_of}
 use Rattle.custody_model.specs.declared.FrameUse.TheVariants as frame
-use Rattle.custody.specs.Tables.{Tables, custody_of}
 use Rattle.custody.proofs.tables.Custody.has_no_started.Goals as goal
 
 pub returns : goal.returns

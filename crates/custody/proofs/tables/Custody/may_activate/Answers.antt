@@ -1,4 +1,4 @@
-use Rattle.std.proofs.Common.{sym, ◌∙◌}
+use Rattle.custody.proofs.Prelude.{sym, ◌∙◌}
 use Rattle.custody.proofs.ActiveLaws.{activates}
 use Rattle.custody.proofs.tables.Custody.may_activate.Goals as goal
 

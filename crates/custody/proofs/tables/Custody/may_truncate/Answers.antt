@@ -1,6 +1,4 @@
-use Rattle.flat_model.specs.Branches.{segment_at}
-use Rattle.custody_model.specs.Effects.{LosesNoPage}
-use Rattle.custody.specs.Tables.{custody_of}
+use Rattle.custody.proofs.Prelude.{segment_at, LosesNoPage, custody_of}
 use Rattle.custody.proofs.NodeLaws.{node_decides, no_node_decides}
 use Rattle.custody.proofs.tables.Custody.may_truncate.Goals as goal
 

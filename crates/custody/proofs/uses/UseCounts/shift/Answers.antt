@@ -1,6 +1,4 @@
-use Rattle.std.proofs.Common.{sym, subst}
-use Rattle.custody.specs.Counts.{AreFew}
-use Rattle.custody.specs.Uses.{UseCounted}
+use Rattle.custody.proofs.Prelude.{sym, subst, AreFew, UseCounted}
 use Rattle.custody.proofs.uses.UseCounts.shift.Goals as goal
 
 pub shift-requires-clause-few : goal.shift-requires-clause-few

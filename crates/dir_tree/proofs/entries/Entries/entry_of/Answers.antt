@@ -1,6 +1,4 @@
-use Rattle.std.proofs.Common.{◌≡◌, ◌<◌, length, sym, ap, ◌∙◌, arith}
-use Rattle.dir_tree.specs.declared.entries.Entry.{Entry}
-use Rattle.dir_tree.specs.Kept.{entry_at}
+use Rattle.dir_tree.proofs.Prelude.{◌≡◌, ◌<◌, length, sym, ap, ◌∙◌, arith, Entry, entry_at}
 use Rattle.dir_tree.proofs.UidLemmas.{slot_there, entry_there}
 use Rattle.dir_tree.proofs.entries.Entries.entry_of.Goals as goal
 

@@ -1,5 +1,4 @@
-use Rattle.std.proofs.Common.{length, sym, ap, ◌∙◌}
-use Rattle.dir_tree.specs.Uids.{taken}
+use Rattle.dir_tree.proofs.Prelude.{length, sym, ap, ◌∙◌, taken}
 use Rattle.dir_tree.proofs.SlotLemmas.{length_listed}
 use Rattle.dir_tree.proofs.entries.Entries.len.Goals as goal
 

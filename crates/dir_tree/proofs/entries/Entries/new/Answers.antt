@@ -1,5 +1,4 @@
-use Rattle.std.proofs.Common.{◌≡◌, length, replicate, sym, ap}
-use Rattle.dir_tree.specs.Kept.{listed}
+use Rattle.dir_tree.proofs.Prelude.{◌≡◌, length, replicate, sym, ap, listed}
 use Rattle.dir_tree.proofs.UidLemmas.{blank_listed, blank_tabled, blank_taken}
 use Rattle.dir_tree.proofs.entries.Entries.new.Goals as goal
 

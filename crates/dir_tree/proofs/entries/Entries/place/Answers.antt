@@ -1,5 +1,4 @@
-use Rattle.std.proofs.Common.{◌≡◌, sym, ◌∙◌, arith}
-use Rattle.std.proofs.lemmas.List.{get_or_read}
+use Rattle.dir_tree.proofs.Prelude.{◌≡◌, sym, ◌∙◌, arith, get_or_read}
 use Rattle.dir_tree.proofs.UidLemmas.{place_given, place_absent}
 use Rattle.dir_tree.proofs.entries.Entries.place.Goals as goal
 

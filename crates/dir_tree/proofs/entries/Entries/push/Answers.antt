@@ -1,5 +1,4 @@
-use Rattle.std.proofs.Common.{length, rules, ap, arith}
-use Rattle.dir_tree.specs.Uids.{taken}
+use Rattle.dir_tree.proofs.Prelude.{length, rules, ap, arith, taken}
 use Rattle.dir_tree.proofs.SlotLemmas.{length_listed}
 use Rattle.dir_tree.proofs.UidLemmas.{pushed}
 use Rattle.dir_tree.proofs.entries.Entries.push.Goals as goal

@@ -1,7 +1,5 @@
-use Rattle.std.proofs.Common.{◌<◌, length, rules, arith}
-use Rattle.dir_tree.specs.Uids.{taken}
-use Rattle.dir_tree.proofs.UidLemmas.{in_table, left_listed, left_removed, left_tabled, left_taken, slot_there}
-use Rattle.dir_tree.proofs.UidLemmas.{some_taken}
+use Rattle.dir_tree.proofs.Prelude.{◌<◌, length, rules, arith, taken}
+use Rattle.dir_tree.proofs.UidLemmas.{in_table, left_listed, left_removed, left_tabled, left_taken, slot_there, some_taken}
 use Rattle.dir_tree.proofs.entries.Entries.remove.Goals as goal
 
 pub index_mut-requires : goal.index_mut-requires

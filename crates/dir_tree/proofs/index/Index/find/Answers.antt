@@ -1,10 +1,4 @@
-use Rattle.std.proofs.Common.{◌≡◌, ℕ, true, false, List, sym, ap, subst, ◌∙◌, Some}
-use Rattle.std.specs.Prelude.{IfSome}
-use Rattle.std.specs.List.{concat}
-use Rattle.dir_tree.specs.Index.{Places, HasPlace, IsOrdered, AreWithin, key_hash, node_at, shelf_at, shelf_of}
-use Rattle.tree_model.specs.Tree.{is_branch}
-use Rattle.dir_tree.specs.Shape.{shape}
-use Rattle.dir_tree.specs.declared.node.Node.{Node}
+use Rattle.dir_tree.proofs.Prelude.{◌≡◌, ℕ, true, false, List, sym, ap, subst, ◌∙◌, Some, IfSome, concat, Places, HasPlace, IsOrdered, AreWithin, key_hash, node_at, shelf_at, shelf_of, is_branch, shape, Node}
 use Rattle.dir_tree.proofs.ShelfLemmas.{found_all, none_elsewhere, none_then, shelf_ordered, shelf_read, shelf_within}
 use Rattle.dir_tree.proofs.index.Index.find.Goals as goal
 

@@ -1,9 +1,4 @@
-use Rattle.std.proofs.Common.{◌≡◌, ◌≢◌, ◌<◌, ◌+◌, ℕ, List, length, set, sym, ap, subst, ◌∙◌, arith}
-use Rattle.std.specs.Prelude.{◌↔◌, ◌⊎◌}
-use Rattle.std.specs.List.{concat, insert}
-use Rattle.std.proofs.lemmas.List.{get_or_read}
-use Rattle.dir_tree.specs.declared.node.Node.{Node}
-use Rattle.dir_tree.specs.Index.{Places, HasPlace, IsOrdered, AreWithin, node_at, no_node, key_of, key_at, shelf_at}
+use Rattle.dir_tree.proofs.Prelude.{◌≡◌, ◌≢◌, ◌<◌, ◌+◌, ℕ, List, length, set, sym, ap, subst, ◌∙◌, arith, ◌↔◌, ◌⊎◌, concat, insert, get_or_read, Node, Places, HasPlace, IsOrdered, AreWithin, node_at, no_node, key_of, key_at, shelf_at}
 use Rattle.dir_tree.proofs.ShelfLemmas.{Inserted, all_within, inserted, shelf_ordered, shelf_read, shelf_within}
 use Rattle.dir_tree.proofs.index.Index.insert.Goals as goal
 

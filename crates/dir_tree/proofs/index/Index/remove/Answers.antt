@@ -1,8 +1,4 @@
-use Rattle.std.proofs.Common.{◌≡◌, ◌≢◌, ℕ, List, get_or, length, set, sym, ap, subst, ◌∙◌, arith}
-use Rattle.std.specs.Prelude.{◌↔◌}
-use Rattle.std.specs.List.{concat, remove}
-use Rattle.std.proofs.lemmas.List.{get_or_read}
-use Rattle.dir_tree.specs.Index.{Places, HasPlace, IsOrdered, shelf_at, shelf_of}
+use Rattle.dir_tree.proofs.Prelude.{◌≡◌, ◌≢◌, ℕ, List, get_or, length, set, sym, ap, subst, ◌∙◌, arith, ◌↔◌, concat, remove, get_or_read, Places, HasPlace, IsOrdered, shelf_at, shelf_of}
 use Rattle.dir_tree.proofs.IndexLemmas.{are_rising}
 use Rattle.dir_tree.proofs.ShelfLemmas.{Removed, on_own, removed, shelf_ordered, shelf_read}
 use Rattle.dir_tree.proofs.index.Index.remove.Goals as goal

@@ -1,16 +1,10 @@
-use Rattle.std.proofs.Common.{◌+◌, ◌∷◌, List, refl, sym, ap, subst, ◌∙◌}
-use Rattle.tree_model.specs.Tree.{Node}
-use Rattle.accounts.specs.Maps.{Gains, branch_of}
-use Rattle.flat_model.specs.Store.{Store}
+use Rattle.flat_store.proofs.Prelude.{◌+◌, ◌∷◌, List, refl, sym, ap, subst, ◌∙◌, Node, Gains, branch_of, Store, Gauge, gauge_at, is_full, Held, Holds, Plan, branch_made}
 use Rattle.flat_store.specs.contracts.holdings.Holdings.{the_view}
-use Rattle.flat_store.specs.Shown.{Gauge, gauge_at, is_full, Held, Holds}
-use Rattle.script.specs.Plans.{Plan}
 use Rattle.flat_store.proofs.DropLaws.{held_inside}
 use Rattle.flat_store.proofs.MakeLaws.{added_shown}
 use Rattle.flat_store.proofs.OkLaws.{ok_of}
 use Rattle.flat_store.proofs.holdings.Holdings.add.Goals.{After-fill_at}
 use Rattle.flat_store.proofs.holdings.Holdings.add.Goals as goal
-use Rattle.flat_model.proofs.TreeLaws.{branch_made}
 
 -- the new branch is held
 shown : (c : After-fill_at) (p : Plan) (s : Store) → Holds p (the_view c.self.inside) s

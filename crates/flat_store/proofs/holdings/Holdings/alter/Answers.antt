@@ -1,6 +1,5 @@
-use Rattle.std.proofs.Common.{◌/◌, is_some, refl, sym, ap, ◌∙◌}
+use Rattle.flat_store.proofs.Prelude.{refl, sym, ◌∙◌, Held}
 use Rattle.flat_store.specs.contracts.holdings.Holdings.{the_view}
-use Rattle.flat_store.specs.Shown.{Held, page_at}
 use Rattle.flat_store.proofs.DropLaws.{held_inside}
 use Rattle.flat_store.proofs.PutLaws.{alter_shown, held_altered}
 use Rattle.flat_store.proofs.holdings.Holdings.alter.Goals as goal

@@ -1,5 +1,4 @@
-use Rattle.flat_model.specs.Store.{boot}
-use Rattle.flat_store.specs.Shown.{Held, Holds}
+use Rattle.flat_store.proofs.Prelude.{boot, Held, Holds}
 use Rattle.flat_store.proofs.BootLaws.{built, held_boot}
 use Rattle.flat_store.proofs.holdings.Holdings.boot.Goals.{After-new-pages}
 use Rattle.flat_store.proofs.holdings.Holdings.boot.Goals as goal

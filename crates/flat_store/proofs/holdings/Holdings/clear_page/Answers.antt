@@ -1,7 +1,5 @@
-use Rattle.std.proofs.Common.{refl}
+use Rattle.flat_store.proofs.Prelude.{refl, cleared, Held}
 use Rattle.flat_store.specs.contracts.holdings.Holdings.{the_view}
-use Rattle.flat_model.specs.Cuts.{cleared}
-use Rattle.flat_store.specs.Shown.{Held}
 use Rattle.flat_store.proofs.CutLaws.{clear_shown, clear_told}
 use Rattle.flat_store.proofs.DropLaws.{held_inside}
 use Rattle.flat_store.proofs.holdings.Holdings.clear_page.Goals as goal

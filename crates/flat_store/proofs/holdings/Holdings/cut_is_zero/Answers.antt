@@ -1,5 +1,5 @@
+use Rattle.flat_store.proofs.Prelude.{Held}
 use Rattle.flat_store.specs.contracts.holdings.Holdings.{the_view}
-use Rattle.flat_store.specs.Shown.{Held}
 use Rattle.flat_store.proofs.DropLaws.{held_inside}
 use Rattle.flat_store.proofs.ReleaseLaws.{cut_absent, cut_told}
 use Rattle.flat_store.proofs.holdings.Holdings.cut_is_zero.Goals as goal

@@ -1,6 +1,4 @@
-use Rattle.std.proofs.Common.{◌≡◌, ℕ, ◌/◌, ◌%◌, Bool, true, false, cond, eqb, sym, subst, ◌∙◌}
-use Rattle.flat_model.specs.Cuts.{cleared, has_cleared, without_pages}
-use Rattle.flat_store.specs.Shown.{Holds}
+use Rattle.flat_store.proofs.Prelude.{◌≡◌, ℕ, ◌/◌, ◌%◌, Bool, true, false, cond, eqb, sym, subst, ◌∙◌, cleared, has_cleared, without_pages, Holds}
 use Rattle.flat_store.proofs.holdings.Holdings.cut_page.Goals as goal
 
 pub returns-then-clear_page : goal.returns-then-clear_page

@@ -1,10 +1,4 @@
-use Rattle.std.proofs.Common.{◌≡◌, ℕ, true, false, List, sym, ap, ◌∙◌, eqb}
-use Rattle.std.proofs.lemmas.Bool.{ne_eqb}
-use Rattle.tree_model.specs.Tree.{Node, quota_in}
-use Rattle.dir_tree.specs.Nodes.{as_term, has_inferior}
-use Rattle.flat_model.specs.Branches.{branch_at}
-use Rattle.flat_store.specs.Shown.{Held}
-use Rattle.flat_model.proofs.RemoveLaws.{delete_asked, delete_done, delete_refused}
+use Rattle.flat_store.proofs.Prelude.{◌≡◌, ℕ, true, false, List, sym, ap, ◌∙◌, eqb, ne_eqb, Node, quota_in, as_term, has_inferior, branch_at, Held, delete_asked, delete_done, delete_refused}
 use Rattle.flat_store.proofs.holdings.Holdings.deletable.Goals as goal
 
 -- the nodes that are held are those inside

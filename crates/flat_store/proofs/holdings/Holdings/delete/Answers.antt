@@ -1,11 +1,4 @@
-use Rattle.std.proofs.Common.{List, is_some, sym, ap, subst, ◌∙◌, ◌≡◌}
-use Rattle.std.specs.Prelude.{nat_le}
-use Rattle.tree_model.specs.Tree.{Node, node_in, quota_in}
-use Rattle.dir_tree.specs.Nodes.{has_inferior}
-use Rattle.flat_model.specs.Store.{Store}
-use Rattle.flat_model.specs.Cuts.{without_pages}
-use Rattle.flat_store.specs.Shown.{Held, Holds}
-use Rattle.flat_model.proofs.RemoveLaws.{deleted_is}
+use Rattle.flat_store.proofs.Prelude.{List, is_some, sym, ap, subst, ◌∙◌, ◌≡◌, nat_le, Node, node_in, quota_in, has_inferior, Store, without_pages, Held, Holds, deleted_is}
 use Rattle.flat_store.proofs.RemoveLaws.{all_gone}
 use Rattle.flat_store.proofs.holdings.Holdings.delete.Goals.{After-drop_from}
 use Rattle.flat_store.proofs.holdings.Holdings.delete.Goals as goal

@@ -1,10 +1,7 @@
-use Rattle.std.proofs.Common.{refl, arith}
-use Rattle.flat_model.specs.Cuts.{without_pages}
+use Rattle.flat_store.proofs.Prelude.{refl, arith, without_pages, Held}
 use Rattle.flat_store.specs.contracts.holdings.Holdings.{the_view}
-use Rattle.flat_store.specs.Shown.{Held}
 use Rattle.flat_store.proofs.DropLaws.{held_inside, with_pages}
-use Rattle.flat_store.proofs.ShedLaws.{ShedsAll, between, counted_most, from_there, none_shed, segment_shed, shed_done}
-use Rattle.flat_store.proofs.ShedLaws.{shed_shown}
+use Rattle.flat_store.proofs.ShedLaws.{ShedsAll, between, counted_most, from_there, none_shed, segment_shed, shed_done, shed_shown}
 use Rattle.flat_store.proofs.holdings.Holdings.drop_from.Goals.{After-drain_at, Else-pages-gt0}
 use Rattle.flat_store.proofs.holdings.Holdings.drop_from.Goals as goal
 

@@ -1,9 +1,6 @@
-use Rattle.std.proofs.Common.{is_some, refl, sym, ap, ◌∙◌, eqb}
+use Rattle.flat_store.proofs.Prelude.{is_some, refl, sym, ap, ◌∙◌, eqb, without_pages, Held, page_at}
 use Rattle.flat_store.specs.contracts.holdings.Holdings.{the_view}
-use Rattle.flat_model.specs.Cuts.{without_pages}
-use Rattle.flat_store.specs.Shown.{Held, page_at}
-use Rattle.flat_store.proofs.DropLaws.{held_inside, count_there, drop_done, drop_shown, missing, segment_there}
-use Rattle.flat_store.proofs.DropLaws.{with_pages, Drops}
+use Rattle.flat_store.proofs.DropLaws.{held_inside, count_there, drop_done, drop_shown, missing, segment_there, with_pages, Drops}
 use Rattle.flat_store.proofs.holdings.Holdings.drop_page.Goals.{After-drain_at}
 use Rattle.flat_store.proofs.holdings.Holdings.drop_page.Goals as goal
 

@@ -1,6 +1,4 @@
-use Rattle.std.proofs.Common.{subst}
-use Rattle.std.specs.Bool.{Decides}
-use Rattle.flat_store.specs.Shown.{Held}
+use Rattle.flat_store.proofs.Prelude.{subst, Decides, Held}
 use Rattle.flat_store.proofs.OrderLaws.{IsReached}
 use Rattle.flat_store.proofs.SizeLaws.{reached_told}
 use Rattle.flat_store.proofs.holdings.Holdings.is_stored_from.Goals as goal

@@ -1,6 +1,5 @@
-use Rattle.std.proofs.Common.{ap, ◌∙◌, List}
+use Rattle.flat_store.proofs.Prelude.{ap, ◌∙◌, List, Gauge, Held, gauge_at, is_full}
 use Rattle.flat_store.specs.contracts.holdings.Holdings.{the_view}
-use Rattle.flat_store.specs.Shown.{Gauge, Held, gauge_at, is_full}
 use Rattle.flat_store.proofs.DropLaws.{held_inside}
 use Rattle.flat_store.proofs.holdings.Holdings.is_volume_full.Goals as goal
 

@@ -1,16 +1,8 @@
-use Rattle.std.proofs.Common.{ap, sym, refl, ◌∙◌, arith}
-use Rattle.dir_tree.specs.Nodes.{as_term}
-use Rattle.mnames.specs.declared.modes.Mode.{Mode}
-use Rattle.mnames.specs.declared.principals.Who.{Who}
-use Rattle.script.specs.References.{permits}
-use Rattle.tree_model.specs.Access.{access_of}
-use Rattle.tree_model.specs.Tree.{Node, quota_in}
-use Rattle.flat_store.specs.Shown.{Held}
+use Rattle.flat_store.proofs.Prelude.{ap, sym, refl, ◌∙◌, arith, as_term, Mode, Who, permits, access_of, Node, quota_in, Held, found_uid}
 use Rattle.flat_store.proofs.MoveLaws.{lacks_none, lacks_nothing, lacks_within}
 use Rattle.flat_store.proofs.NodeLaws.{pages_held}
 use Rattle.flat_store.proofs.ReplyLaws.{node_shown}
 use Rattle.flat_store.proofs.holdings.Holdings.lacks_at.Goals as goal
-use Rattle.tree_model.proofs.SharedLaws.{found_uid}
 
 pub lacks_record-requires : goal.lacks_record-requires
 lacks_record-requires c =

@@ -1,10 +1,8 @@
-use Rattle.std.proofs.Common.{ap, sym, ◌∙◌}
+use Rattle.flat_store.proofs.Prelude.{ap, sym, ◌∙◌, Gauge, Held, gauge_at, is_full, List}
 use Rattle.flat_store.specs.contracts.holdings.Holdings.{the_view}
-use Rattle.flat_store.specs.Shown.{Gauge, Held, gauge_at, is_full}
 use Rattle.flat_store.proofs.DropLaws.{held_inside}
 use Rattle.flat_store.proofs.MoveLaws.{lacks_told, none_lacked}
 use Rattle.flat_store.proofs.holdings.Holdings.lacks_record.Goals as goal
-use Rattle.std.proofs.Common.{List}
 
 pub returns-then-is_ok : goal.returns-then-is_ok
 returns-then-is_ok c = λ p s h.

@@ -1,13 +1,6 @@
-use Rattle.std.proofs.Common.{◌≡◌, Bool, true, false, cond, sym, ◌∙◌}
+use Rattle.flat_store.proofs.Prelude.{◌≡◌, Bool, true, false, cond, sym, ◌∙◌, quota_in, as_term, Plan, length_refused, length_told, length_reply, Store, Holds}
 use Rattle.book.specs.declared.replies.Reply.TheVariants as reply
-use Rattle.tree_model.specs.Tree.{quota_in}
-use Rattle.dir_tree.specs.Nodes.{as_term}
-use Rattle.script.specs.Plans.{Plan}
-use Rattle.flat_model.proofs.TreeReplies.{length_refused, length_told}
-use Rattle.flat_model.specs.Sizes.{length_reply}
-use Rattle.flat_model.specs.Store.{Store}
 use Rattle.flat_store.specs.contracts.holdings.Holdings.{the_view}
-use Rattle.flat_store.specs.Shown.{Holds}
 use Rattle.flat_store.proofs.DropLaws.{tree_inside}
 use Rattle.flat_store.proofs.holdings.Holdings.length_reply.Goals.{After-is_stored_from}
 use Rattle.flat_store.proofs.holdings.Holdings.length_reply.Goals as goal

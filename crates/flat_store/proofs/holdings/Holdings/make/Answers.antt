@@ -1,12 +1,5 @@
-use Rattle.std.proofs.Common.{◌≡◌, ℕ, true, false, List, refl, sym, ap, subst, ◌∙◌}
-use Rattle.tree_model.specs.Tree.{Node, quota_in}
-use Rattle.dir_tree.specs.Nodes.{as_term}
-use Rattle.flat_model.specs.Branches.{node_at}
-use Rattle.flat_model.specs.Commands.{takes_effect}
-use Rattle.flat_model.specs.Making.{made_in, make_in}
-use Rattle.flat_model.specs.Store.{Store}
+use Rattle.flat_store.proofs.Prelude.{◌≡◌, ℕ, true, false, List, refl, sym, ap, subst, ◌∙◌, Node, quota_in, as_term, node_at, takes_effect, made_in, make_in, Store, Holds}
 use Rattle.flat_store.specs.contracts.holdings.Holdings.{the_view}
-use Rattle.flat_store.specs.Shown.{Holds}
 use Rattle.flat_store.proofs.DropLaws.{tree_inside}
 use Rattle.flat_store.proofs.MakeLaws.{after_make_is, make_asked, make_refused, make_stays}
 use Rattle.flat_store.proofs.holdings.Holdings.make.Goals as goal

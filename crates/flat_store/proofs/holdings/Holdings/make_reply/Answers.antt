@@ -1,9 +1,5 @@
-use Rattle.std.proofs.Common.{◌≡◌, List, ap, ◌∙◌}
-use Rattle.std.specs.Prelude.{nat_le}
-use Rattle.flat_model.specs.Store.{entries_of}
-use Rattle.tree_model.specs.Tree.{entries_on}
+use Rattle.flat_store.proofs.Prelude.{◌≡◌, List, ap, ◌∙◌, nat_le, entries_of, entries_on, Gauge, Held, gauge_at}
 use Rattle.flat_store.specs.contracts.holdings.Holdings.{the_view}
-use Rattle.flat_store.specs.Shown.{Gauge, Held, gauge_at}
 use Rattle.flat_store.proofs.DropLaws.{held_inside, tree_inside}
 use Rattle.flat_store.proofs.holdings.Holdings.make_reply.Goals as goal
 

@@ -1,5 +1,5 @@
+use Rattle.flat_store.proofs.Prelude.{Held}
 use Rattle.flat_store.specs.contracts.holdings.Holdings.{the_view}
-use Rattle.flat_store.specs.Shown.{Held}
 use Rattle.flat_store.proofs.DropLaws.{held_inside}
 use Rattle.flat_store.proofs.ReleaseLaws.{may_release, not_there}
 use Rattle.flat_store.proofs.holdings.Holdings.may_release.Goals as goal

@@ -1,11 +1,5 @@
-use Rattle.std.proofs.Common.{◌≡◌, Bool, true, cond, refl, ap, subst, ◌∙◌, w32}
-use Rattle.std.proofs.lemmas.Int.{to_z-of_z}
-use Rattle.flat_model.specs.Commands.{takes_effect}
-use Rattle.flat_model.specs.Rights.{after_move}
-use Rattle.flat_model.specs.Store.{Store}
-use Rattle.script.specs.Plans.{Plan}
+use Rattle.flat_store.proofs.Prelude.{◌≡◌, Bool, true, cond, refl, ap, subst, ◌∙◌, w32, to_z-of_z, takes_effect, after_move, Store, Plan, Held, Holds}
 use Rattle.flat_store.specs.contracts.holdings.Holdings.{the_view}
-use Rattle.flat_store.specs.Shown.{Held, Holds}
 use Rattle.flat_store.proofs.DropLaws.{held_inside, tree_inside}
 use Rattle.flat_store.proofs.EffectLaws.{move_shown}
 use Rattle.flat_store.proofs.holdings.Holdings.move_quota.Goals.{After-move_quota-reply}

@@ -1,7 +1,6 @@
+use Rattle.flat_store.proofs.Prelude.{ap, ◌∙◌, ℕ, word_reply}
 use Rattle.flat_store.proofs.ReplyLaws.{crowded, roomy, stores_looked}
 use Rattle.flat_store.proofs.holdings.Holdings.page_reply.Goals as goal
-use Rattle.std.proofs.Common.{ap, ◌∙◌, ℕ}
-use Rattle.flat_model.specs.References.{word_reply}
 
 pub returns-then-brings_word : goal.returns-then-brings_word
 returns-then-brings_word c = λ p s n h at place.

@@ -1,21 +1,10 @@
-use Rattle.std.proofs.Common.{◌≡◌, ◌<◌, ◌/◌, ℕ, true, false, is_some, Some, refl, sym, ap, subst, arith, ◌∙◌}
-use Rattle.script.specs.Plans.{Plan}
-use Rattle.tree_model.specs.Tree.{Node, node_in, quota_in}
-use Rattle.dir_tree.specs.Nodes.{as_term}
-use Rattle.flat_model.specs.Commands.{takes_effect}
-use Rattle.flat_model.specs.Moves.{is_held_at}
-use Rattle.script.specs.References.{new_word}
-use Rattle.flat_model.specs.References.{reply_at, written, written_by}
-use Rattle.flat_model.specs.Store.{Store}
-use Rattle.flat_store.specs.Shown.{Held, Holds, may_write, page_at, pages_in}
-use Rattle.tree_model.specs.Trees.{has_segment}
+use Rattle.flat_store.proofs.Prelude.{◌≡◌, ◌<◌, ◌/◌, ℕ, true, false, is_some, Some, refl, sym, ap, subst, arith, ◌∙◌, Plan, Node, node_in, quota_in, as_term, takes_effect, is_held_at, new_word, reply_at, written, written_by, Store, Held, Holds, may_write, page_at, pages_in, has_segment, on_ok}
 use Rattle.flat_store.proofs.PutLaws.{zero_unstored}
 use Rattle.flat_store.proofs.NodeLaws.{pages_held, pages_found}
 use Rattle.flat_store.proofs.ReferLaws.{may_refer, refer_shown}
 use Rattle.flat_store.proofs.ReplyLaws.{node_shown}
 use Rattle.flat_store.proofs.holdings.Holdings.refer.Goals as goal
 use Rattle.flat_store.proofs.holdings.Holdings.refer.Goals.{After-alter}
-use Rattle.laws.proofs.Options.{on_ok}
 
 -- what is held where the page isn't stored
 same : (c : After-alter) → c.alter.result ≡ false → c.args.self.now ≡ c.alter.new.self

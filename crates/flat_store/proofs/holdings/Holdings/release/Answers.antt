@@ -1,6 +1,4 @@
-use Rattle.std.proofs.Common.{subst}
-use Rattle.flat_model.specs.Store.{Store}
-use Rattle.flat_store.specs.Shown.{Holds}
+use Rattle.flat_store.proofs.Prelude.{subst, Store, Holds}
 use Rattle.flat_store.proofs.ReleaseLaws.{released_is}
 use Rattle.flat_store.proofs.holdings.Holdings.release.Goals as goal
 

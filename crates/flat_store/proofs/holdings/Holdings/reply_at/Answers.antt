@@ -1,15 +1,7 @@
+use Rattle.flat_store.proofs.Prelude.{ap, sym, ◌∙◌, refl, arith, Mode, Node, quota_in, access_of, Who, permits, as_term, Held, found_uid}
 use Rattle.flat_store.proofs.ReplyLaws.{within, node_shown}
 use Rattle.flat_store.proofs.NodeLaws.{pages_held}
 use Rattle.flat_store.proofs.holdings.Holdings.reply_at.Goals as goal
-use Rattle.std.proofs.Common.{ap, sym, ◌∙◌, refl, arith}
-use Rattle.mnames.specs.declared.modes.Mode.{Mode}
-use Rattle.tree_model.specs.Tree.{Node, quota_in}
-use Rattle.tree_model.specs.Access.{access_of}
-use Rattle.mnames.specs.declared.principals.Who.{Who}
-use Rattle.script.specs.References.{permits}
-use Rattle.dir_tree.specs.Nodes.{as_term}
-use Rattle.flat_store.specs.Shown.{Held}
-use Rattle.tree_model.proofs.SharedLaws.{found_uid}
 
 pub page_reply-requires : goal.page_reply-requires
 page_reply-requires c =

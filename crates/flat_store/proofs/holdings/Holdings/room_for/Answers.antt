@@ -1,5 +1,5 @@
+use Rattle.flat_store.proofs.Prelude.{Held}
 use Rattle.flat_store.specs.contracts.holdings.Holdings.{the_view}
-use Rattle.flat_store.specs.Shown.{Held}
 use Rattle.flat_store.proofs.DropLaws.{held_inside}
 use Rattle.flat_store.proofs.RoomyLaws.{room_found}
 use Rattle.flat_store.proofs.holdings.Holdings.room_for.Goals as goal

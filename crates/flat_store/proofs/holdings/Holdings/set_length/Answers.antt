@@ -1,9 +1,5 @@
-use Rattle.std.proofs.Common.{◌≡◌, true, false, refl, sym, subst, ◌∙◌}
-use Rattle.flat_model.specs.Store.{Store}
+use Rattle.flat_store.proofs.Prelude.{◌≡◌, true, false, refl, sym, subst, ◌∙◌, Store, Held, Holds, Plan, is_stored_from}
 use Rattle.flat_store.specs.contracts.holdings.Holdings.{the_view}
-use Rattle.flat_store.specs.Shown.{Held, Holds}
-use Rattle.script.specs.Plans.{Plan}
-use Rattle.flat_model.specs.Pages.{is_stored_from}
 use Rattle.flat_store.proofs.ChangeLaws.{with_length}
 use Rattle.flat_store.proofs.DropLaws.{held_inside, segment_inside}
 use Rattle.flat_store.proofs.EffectLaws.{after_length_is, length_asked, length_shown, length_stays}

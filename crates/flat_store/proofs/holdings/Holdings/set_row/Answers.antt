@@ -1,10 +1,5 @@
-use Rattle.std.proofs.Common.{◌≡◌, Bool, true, cond, refl, ap, subst, ◌∙◌}
-use Rattle.flat_model.specs.Commands.{takes_effect}
-use Rattle.flat_model.specs.Rights.{after_acl}
-use Rattle.flat_model.specs.Store.{Store}
-use Rattle.script.specs.Plans.{Plan}
+use Rattle.flat_store.proofs.Prelude.{◌≡◌, Bool, true, cond, refl, ap, subst, ◌∙◌, takes_effect, after_acl, Store, Plan, Held, Holds}
 use Rattle.flat_store.specs.contracts.holdings.Holdings.{the_view}
-use Rattle.flat_store.specs.Shown.{Held, Holds}
 use Rattle.flat_store.proofs.DropLaws.{held_inside, tree_inside}
 use Rattle.flat_store.proofs.EffectLaws.{row_shown}
 use Rattle.flat_store.proofs.holdings.Holdings.set_row.Goals.{After-set_row-reply}

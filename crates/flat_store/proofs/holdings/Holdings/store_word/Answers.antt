@@ -1,10 +1,5 @@
-use Rattle.std.proofs.Common.{◌<◌, ◌/◌, is_some, refl, sym, ap, subst, ◌∙◌, ◌≡◌, true}
-use Rattle.tree_model.specs.Trees.{has_segment}
-use Rattle.flat_model.specs.References.{written}
+use Rattle.flat_store.proofs.Prelude.{◌<◌, ◌/◌, is_some, refl, sym, ap, subst, ◌∙◌, ◌≡◌, true, has_segment, written, Held, Holds, page_at, pages_in, has_room, Plan, Store}
 use Rattle.flat_store.specs.contracts.holdings.Holdings.{the_view}
-use Rattle.flat_store.specs.Shown.{Held, Holds, page_at, pages_in, has_room}
-use Rattle.script.specs.Plans.{Plan}
-use Rattle.flat_model.specs.Store.{Store}
 use Rattle.flat_store.proofs.DropLaws.{held_inside, with_pages}
 use Rattle.flat_store.proofs.PutLaws.{store_done, store_shown, never_full}
 use Rattle.flat_store.proofs.holdings.Holdings.store_word.Goals.{After-fill_at}

@@ -1,13 +1,5 @@
-use Rattle.std.proofs.Common.{refl, ap, sym, ◌∙◌}
-use Rattle.script.specs.Plans.{Plan}
-use Rattle.tree_model.specs.Tree.{volume_in}
-use Rattle.tree_model.specs.Trees.{has_segment}
-use Rattle.accounts.specs.Maps.{count_of}
-use Rattle.flat_model.specs.Moves.{moved}
-use Rattle.flat_model.specs.Store.{Store}
+use Rattle.flat_store.proofs.Prelude.{refl, ap, sym, ◌∙◌, Plan, volume_in, has_segment, count_of, moved, Store, is_roomy, Held, Holds}
 use Rattle.flat_store.specs.contracts.holdings.Holdings.{the_view}
-use Rattle.flat_store.specs.Roomy.{is_roomy}
-use Rattle.flat_store.specs.Shown.{Held, Holds}
 use Rattle.flat_store.proofs.DropLaws.{held_inside}
 use Rattle.flat_store.proofs.MoveLaws.{moved_held}
 use Rattle.flat_store.proofs.holdings.Holdings.take_home.Goals.{After-shift-2}

@@ -1,7 +1,5 @@
-use Rattle.std.proofs.Common.{is_some, refl, ap, ◌∙◌}
-use Rattle.tree_model.specs.Tree.{node_in, without_node}
+use Rattle.flat_store.proofs.Prelude.{is_some, refl, ap, ◌∙◌, node_in, without_node, Held, page_at}
 use Rattle.flat_store.specs.contracts.holdings.Holdings.{the_view}
-use Rattle.flat_store.specs.Shown.{Held, page_at}
 use Rattle.flat_store.proofs.DropLaws.{held_inside}
 use Rattle.flat_store.proofs.RemoveLaws.{no_count, removed_shown}
 use Rattle.flat_store.proofs.holdings.Holdings.take_out.Goals as goal

@@ -1,14 +1,6 @@
-use Rattle.std.proofs.Common.{ℕ, ◌+◌, ◌/◌, List, sym, ap, subst, ◌∙◌}
-use Rattle.std.specs.Prelude.{nat_le}
-use Rattle.tree_model.specs.Tree.{Node, quota_in}
-use Rattle.dir_tree.specs.Nodes.{as_term}
-use Rattle.flat_model.specs.Branches.{segment_at}
-use Rattle.flat_model.specs.Store.{Store}
-use Rattle.flat_model.specs.Cuts.{without_pages}
+use Rattle.flat_store.proofs.Prelude.{ℕ, ◌+◌, ◌/◌, List, sym, ap, subst, ◌∙◌, nat_le, Node, quota_in, as_term, segment_at, Store, without_pages, Holds, truncate_done, truncate_refused, whole_cut}
 use Rattle.flat_store.specs.contracts.holdings.Holdings.{the_view}
-use Rattle.flat_store.specs.Shown.{Holds}
 use Rattle.flat_store.proofs.DropLaws.{tree_inside}
-use Rattle.flat_model.proofs.CutLaws.{truncate_done, truncate_refused, whole_cut}
 use Rattle.flat_store.proofs.holdings.Holdings.truncate.Goals as goal
 
 pub returns-in-Err : goal.returns-in-Err

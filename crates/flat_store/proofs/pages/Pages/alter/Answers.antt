@@ -1,6 +1,4 @@
-use Rattle.std.proofs.Common.{ap, subst, sym, set, ◌∙◌, ◌≡◌, ℕ, List, Option, Some}
-use Rattle.script.specs.References.{new_word}
-use Rattle.flat_store.specs.Shown.{Paged, Puts, page_at, word_in, words_in}
+use Rattle.flat_store.proofs.Prelude.{ap, subst, sym, set, ◌∙◌, ◌≡◌, ℕ, List, Option, Some, new_word, Paged, Puts, page_at, word_in, words_in}
 use Rattle.flat_store.proofs.PagedLaws.{got_mut, put_through}
 use Rattle.flat_store.proofs.pages.Pages.alter.Goals as goal
 

@@ -1,6 +1,4 @@
-use Rattle.std.proofs.Common.{sym, ap, ◌∙◌}
-use Rattle.std.specs.Option.{option_copied_mut}
-use Rattle.flat_store.specs.Shown.{page_at}
+use Rattle.flat_store.proofs.Prelude.{sym, ap, ◌∙◌, option_copied_mut, page_at}
 use Rattle.flat_store.specs.contracts.pages.Pages.{the_view}
 use Rattle.flat_store.proofs.PagedLaws.{got_mut, cut_through, cut_missed, cut_nowhere}
 use Rattle.flat_store.proofs.pages.Pages.cut.Goals as goal

@@ -1,6 +1,4 @@
-use Rattle.std.proofs.Common.{subst, eqb, false}
-use Rattle.std.specs.Bool.{Decides}
-use Rattle.flat_store.specs.Shown.{Paged}
+use Rattle.flat_store.proofs.Prelude.{subst, eqb, false, Decides, Paged}
 use Rattle.flat_store.proofs.OrderLaws.{IsReached, first_tells, none_tells}
 use Rattle.flat_store.proofs.pages.Pages.has_from.Goals as goal
 

@@ -1,4 +1,4 @@
-use Rattle.flat_store.specs.Shown.{page_at}
+use Rattle.flat_store.proofs.Prelude.{page_at}
 use Rattle.flat_store.proofs.PagedLaws.{got_mut, put_through}
 use Rattle.flat_store.proofs.pages.Pages.put.Goals as goal
 

@@ -1,4 +1,4 @@
-use Rattle.std.proofs.Common.{None}
+use Rattle.flat_store.proofs.Prelude.{None}
 use Rattle.flat_store.proofs.PagedLaws.{puts_from}
 use Rattle.flat_store.proofs.pages.Pages.remove.Goals as goal
 

@@ -1,10 +1,5 @@
-use Rattle.std.proofs.Common.{rules, ◌≡◌, ◌-◌, not, ap, subst, ◌∙◌, filter, arith}
-use Rattle.std.specs.declared.ops.Bound.TheVariants.{Included, Excluded}
-use Rattle.std.specs.BTreeMap.ExtractIf.{extract_if_rest}
-use Rattle.std.specs.BTreeMap.Range.{range_contains}
-use Rattle.flat_store.specs.Shown.{Paged, Sheds}
+use Rattle.flat_store.proofs.Prelude.{rules, ◌≡◌, ◌-◌, not, ap, subst, ◌∙◌, filter, arith, Included, Excluded, extract_if_rest, range_contains, Paged, Sheds, by_both}
 use Rattle.flat_store.proofs.ExtractLaws.{extracted}
-use Rattle.flat_model.proofs.PairLaws.{by_both}
 use Rattle.flat_store.proofs.ShedLaws.{between, gone, gone_few, sheds}
 use Rattle.flat_store.proofs.pages.Pages.remove_between.Goals.{After-len}
 use Rattle.flat_store.proofs.pages.Pages.remove_between.Goals as goal

@@ -1,7 +1,4 @@
-use Rattle.std.proofs.Common.{rules, length, ◌≡◌, Some}
-use Rattle.std.specs.Map.Iter.{deref_pair}
-use Rattle.std.proofs.lemmas.Map.Iter.{iter_turn}
-use Rattle.flat_store.specs.Shown.{page_at}
+use Rattle.flat_store.proofs.Prelude.{rules, length, ◌≡◌, Some, deref_pair, iter_turn, page_at}
 use Rattle.flat_store.proofs.ZeroPages.{all_at, found_zero}
 use Rattle.flat_store.proofs.pages.Pages.zero_page.Goals as goal
 

@@ -1,7 +1,4 @@
-use Rattle.std.proofs.Common.{IsTrue, ◌↔◌, refl, sym, subst}
-use Rattle.book.specs.declared.entries.Entry.{Entry}
-use Rattle.flat_model.specs.Legal.{IsLawful}
-use Rattle.flat_store.specs.Shown.{Kept, Shows}
+use Rattle.flat_store.proofs.Prelude.{IsTrue, ◌↔◌, refl, sym, subst, Entry, IsLawful, Kept, Shows}
 use Rattle.flat_store.proofs.FollowLaws.{do_allowed, fault_allowed, moved_allowed, quiet_lawful, release_allowed}
 use Rattle.flat_store.proofs.store.FlatStore.allows.Goals as goal
 

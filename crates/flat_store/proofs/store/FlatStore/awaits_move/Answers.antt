@@ -1,6 +1,4 @@
-use Rattle.std.proofs.Common.{◌≡◌, List, None, Some, refl, sym, ap, subst, ◌∙◌}
-use Rattle.flat_model.specs.Store.{Progress, Store, progress_of}
-use Rattle.flat_store.specs.Shown.{IsShown, Kept, progress_at}
+use Rattle.flat_store.proofs.Prelude.{◌≡◌, List, None, Some, refl, sym, ap, subst, ◌∙◌, Progress, Store, progress_of, IsShown, Kept, progress_at}
 use Rattle.flat_store.proofs.MoveLaws.{awaits_none, awaits_told}
 use Rattle.flat_store.proofs.store.FlatStore.awaits_move.Goals.{After-place_of-place}
 use Rattle.flat_store.proofs.store.FlatStore.awaits_move.Goals as goal

@@ -1,6 +1,4 @@
-use Rattle.std.proofs.Common.{ℕ, None, replicate, ap, ◌∙◌}
-use Rattle.flat_model.specs.Store.{at_first}
-use Rattle.flat_store.specs.Shown.{Kept}
+use Rattle.flat_store.proofs.Prelude.{ℕ, None, replicate, ap, ◌∙◌, at_first, Kept}
 use Rattle.flat_store.proofs.BootLaws.{shown_boot}
 use Rattle.flat_store.proofs.store.FlatStore.boot.Goals as goal
 

@@ -1,14 +1,6 @@
-use Rattle.std.proofs.Common.{◌≡◌, ℕ, Some, sym, subst}
-use Rattle.script.specs.Plans.{command_at}
-use Rattle.book.specs.declared.entries.Entry.{Entry}
-use Rattle.flat_model.specs.Commands.{after_command}
-use Rattle.flat_model.specs.Legal.{IsLawful, IsLawfulDo, after_entry}
-use Rattle.flat_model.specs.Store.{Store}
-use Rattle.flat_store.specs.Shown.{Shows}
-use Rattle.flat_store.proofs.FollowLaws.{after_do_is, after_fault_is, after_moved_is, after_release_is}
-use Rattle.flat_store.proofs.FollowLaws.{do_lawful, fault_lawful, moved_lawful, no_command, quiet, release_lawful}
+use Rattle.flat_store.proofs.Prelude.{◌≡◌, ℕ, Some, sym, subst, command_at, Entry, after_command, IsLawful, IsLawfulDo, after_entry, Store, Shows, on_ok}
+use Rattle.flat_store.proofs.FollowLaws.{after_do_is, after_fault_is, after_moved_is, after_release_is, do_lawful, fault_lawful, moved_lawful, no_command, quiet, release_lawful}
 use Rattle.flat_store.proofs.store.FlatStore.follow.Goals as goal
-use Rattle.laws.proofs.Options.{on_ok}
 
 pub returns-in-Some-clause-ok : goal.returns-in-Some-clause-ok
 returns-in-Some-clause-ok c =

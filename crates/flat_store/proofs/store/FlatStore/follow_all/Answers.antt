@@ -1,11 +1,4 @@
-use Rattle.std.proofs.Common.{◌≡◌, List, sym, subst, take, Some, arith}
-use Rattle.std.specs.Prelude.{slice_get}
-use Rattle.script.specs.Plans.{Plan}
-use Rattle.book.specs.declared.entries.Entry.{Entry}
-use Rattle.flat_model.specs.Store.{Store, boot}
-use Rattle.flat_model.specs.Legal.{IsLegal, store_after}
-use Rattle.flat_store.specs.Shown.{Shows}
-use Rattle.flat_model.proofs.BookLaws.{store_after-nil, legal_at, store_next, entry_there}
+use Rattle.flat_store.proofs.Prelude.{◌≡◌, List, sym, subst, take, Some, arith, slice_get, Plan, Entry, Store, boot, IsLegal, store_after, Shows, store_after-nil, legal_at, store_next, entry_there}
 use Rattle.flat_store.proofs.store.FlatStore.follow_all.Goals as goal
 
 pub loop-e-init : goal.loop-e-init

@@ -1,6 +1,4 @@
-use Rattle.std.proofs.Common.{take}
-use Rattle.flat_model.specs.Legal.{store_after}
-use Rattle.flat_store.specs.Shown.{Shows}
+use Rattle.flat_store.proofs.Prelude.{take, store_after, Shows}
 use Rattle.flat_store.proofs.store.FlatStore.follow_all.Given as goal
 
 -- the store is the one after the entries so far

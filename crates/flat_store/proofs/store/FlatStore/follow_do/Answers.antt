@@ -1,9 +1,6 @@
-use Rattle.std.proofs.Common.{refl, subst, sym, ◌∙◌}
-use Rattle.flat_model.specs.Commands.{effect_of}
+use Rattle.flat_store.proofs.Prelude.{refl, subst, sym, ◌∙◌, effect_of, IsShown, Kept, answered, few_uids}
 use Rattle.flat_store.specs.contracts.store.FlatStore.{the_view}
-use Rattle.flat_store.specs.Shown.{IsShown, Kept, answered}
 use Rattle.flat_store.proofs.FollowLaws.{effect_due, go_shown}
-use Rattle.flat_model.proofs.ReachLaws.{few_uids}
 use Rattle.flat_store.proofs.store.FlatStore.follow_do.Goals.{then-takes_effect+in_ok-take_effect, else-takes_effect}
 use Rattle.flat_store.proofs.store.FlatStore.follow_do.Goals as goal
 

@@ -1,7 +1,5 @@
-use Rattle.std.proofs.Common.{ℕ, Option, refl, subst, sym}
-use Rattle.flat_model.specs.Legal.{MayFault, after_fault}
+use Rattle.flat_store.proofs.Prelude.{ℕ, Option, refl, subst, sym, MayFault, after_fault, Kept, Shows}
 use Rattle.flat_store.specs.contracts.store.FlatStore.{the_view}
-use Rattle.flat_store.specs.Shown.{Kept, Shows}
 use Rattle.flat_store.proofs.FollowLaws.{fault_shown}
 use Rattle.flat_store.proofs.store.FlatStore.follow_fault.Goals as goal
 

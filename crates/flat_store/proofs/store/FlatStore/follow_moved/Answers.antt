@@ -1,6 +1,5 @@
-use Rattle.std.proofs.Common.{refl, subst, sym}
+use Rattle.flat_store.proofs.Prelude.{refl, subst, sym, Kept, Shows}
 use Rattle.flat_store.specs.contracts.store.FlatStore.{the_view}
-use Rattle.flat_store.specs.Shown.{Kept, Shows}
 use Rattle.flat_store.proofs.FollowLaws.{moved_shown}
 use Rattle.flat_store.proofs.MoveLaws.{awaited, room_there}
 use Rattle.flat_store.proofs.store.FlatStore.follow_moved.Goals as goal

@@ -1,6 +1,4 @@
-use Rattle.std.proofs.Common.{Bool, subst, sym}
-use Rattle.std.specs.Bool.{Decides}
-use Rattle.flat_store.specs.Zeros.{HasZeroPage}
+use Rattle.flat_store.proofs.Prelude.{Bool, subst, sym, Decides, HasZeroPage}
 use Rattle.flat_store.proofs.ZeroPages.{zero_decides}
 use Rattle.flat_store.proofs.store.FlatStore.has_zero_page.Goals as goal
 

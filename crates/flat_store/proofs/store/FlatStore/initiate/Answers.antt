@@ -1,10 +1,5 @@
-use Rattle.std.proofs.Common.{ℕ, List, Option, Ok, Err, refl, sym, ap, subst}
-use Rattle.tree_model.specs.Tree.{Node, quota_in}
-use Rattle.dir_tree.specs.Nodes.{as_term}
-use Rattle.flat_model.specs.Store.{Store, numbers_of}
-use Rattle.known_segs.specs.Known.{number_for, with_number}
+use Rattle.flat_store.proofs.Prelude.{ℕ, List, Option, Ok, Err, refl, sym, ap, subst, Node, quota_in, as_term, Store, numbers_of, number_for, with_number, Kept, IsShown, numbers_at}
 use Rattle.flat_store.specs.contracts.store.FlatStore.{the_view}
-use Rattle.flat_store.specs.Shown.{Kept, IsShown, numbers_at}
 use Rattle.flat_store.proofs.StoreLaws.{after_initiate_is, initiate_stays, numbers_are, numbers_shown, segment_is}
 use Rattle.flat_store.proofs.store.FlatStore.initiate.Goals as goal
 

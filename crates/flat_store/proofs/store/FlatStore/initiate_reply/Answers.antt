@@ -1,12 +1,5 @@
-use Rattle.std.proofs.Common.{ℕ, List, Option, Some, None, sym, ap, subst, ◌∙◌, ◌≡◌}
-use Rattle.tree_model.specs.Tree.{quota_in}
-use Rattle.dir_tree.specs.Nodes.{as_term}
+use Rattle.flat_store.proofs.Prelude.{ℕ, List, Option, Some, None, sym, ap, subst, ◌∙◌, ◌≡◌, quota_in, as_term, Kept, IsShown, numbers_at, number_for, Plan, Store, initiate_reply, known_or_full}
 use Rattle.flat_store.specs.contracts.store.FlatStore.{the_view}
-use Rattle.flat_store.specs.Shown.{Kept, IsShown, numbers_at}
-use Rattle.known_segs.specs.Known.{number_for}
-use Rattle.script.specs.Plans.{Plan}
-use Rattle.flat_model.specs.Store.{Store}
-use Rattle.flat_model.specs.Naming.{initiate_reply, known_or_full}
 use Rattle.flat_store.proofs.StoreLaws.{initiate_refused, initiate_told}
 use Rattle.flat_store.proofs.store.FlatStore.initiate_reply.Goals.{After-deref}
 use Rattle.flat_store.proofs.store.FlatStore.initiate_reply.Goals as goal

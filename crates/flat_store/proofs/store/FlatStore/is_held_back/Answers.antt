@@ -1,4 +1,4 @@
-use Rattle.std.proofs.Common.{None, Some, refl, sym, ◌∙◌}
+use Rattle.flat_store.proofs.Prelude.{None, Some, refl, sym, ◌∙◌}
 use Rattle.flat_store.proofs.StoreLaws.{held_command}
 use Rattle.flat_store.proofs.store.FlatStore.is_held_back.Goals as goal
 

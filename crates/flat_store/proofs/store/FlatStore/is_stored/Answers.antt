@@ -1,5 +1,4 @@
-use Rattle.std.proofs.Common.{subst, sym}
-use Rattle.flat_store.specs.Shown.{Kept, Shows}
+use Rattle.flat_store.proofs.Prelude.{subst, sym, Kept, Shows}
 use Rattle.flat_store.proofs.store.FlatStore.is_stored.Goals as goal
 
 pub returns : goal.returns

@@ -1,12 +1,7 @@
-use Rattle.std.proofs.Common.{◌≡◌, ℤ, true, rules, refl, sym, subst, w32}
-use Rattle.std.proofs.lemmas.Int.{to_z-of_z}
+use Rattle.flat_store.proofs.Prelude.{◌≡◌, ℤ, true, rules, refl, sym, subst, w32, to_z-of_z, takes_effect, after_move, move_reply, Holds, Kept, IsShown, move_keeps}
 use mir.Val.{SFits}
-use Rattle.flat_model.specs.Commands.{takes_effect}
-use Rattle.flat_model.specs.Rights.{after_move, move_reply}
 use Rattle.flat_store.specs.contracts.store.FlatStore.{the_view}
-use Rattle.flat_store.specs.Shown.{Holds, Kept, IsShown}
 use Rattle.flat_store.proofs.StoreLaws.{effect_shown}
-use Rattle.flat_model.proofs.OtherLaws.{move_keeps}
 use Rattle.flat_store.proofs.store.FlatStore.move_quota.Goals as goal
 
 pub returns : goal.returns

@@ -1,9 +1,6 @@
-use Rattle.std.proofs.Common.{ℤ, rules, sym, ap, subst, ◌∙◌, w32}
-use Rattle.std.proofs.lemmas.Int.{to_z-of_z}
+use Rattle.flat_store.proofs.Prelude.{ℤ, rules, sym, ap, subst, ◌∙◌, w32, to_z-of_z, move_reply, Kept, IsShown}
 use mir.Val.{SFits}
-use Rattle.flat_model.specs.Rights.{move_reply}
 use Rattle.flat_store.specs.contracts.store.FlatStore.{the_view}
-use Rattle.flat_store.specs.Shown.{Kept, IsShown}
 use Rattle.flat_store.proofs.StoreLaws.{tree_shown}
 use Rattle.flat_store.proofs.store.FlatStore.move_reply.Goals as goal
 

@@ -1,10 +1,5 @@
-use Rattle.std.proofs.Common.{ℕ, List, Option, Some, None, refl, sym, ap, subst, ◌∙◌}
-use Rattle.flat_model.specs.Store.{Store}
-use Rattle.known_segs.specs.Known.{uid_of}
+use Rattle.flat_store.proofs.Prelude.{ℕ, List, Option, Some, None, refl, sym, ap, subst, ◌∙◌, Store, uid_of, Kept, IsShown, numbers_at, written_by, written_keeps}
 use Rattle.flat_store.specs.contracts.store.FlatStore.{the_view}
-use Rattle.flat_store.specs.Shown.{Kept, IsShown, numbers_at}
-use Rattle.flat_model.specs.References.{written_by}
-use Rattle.flat_model.proofs.OtherLaws.{written_keeps}
 use Rattle.flat_store.proofs.StoreLaws.{after_reference_is, effect_shown, held_asked, reference_asked, uid_known}
 use Rattle.flat_store.proofs.store.FlatStore.refer.Goals as goal
 

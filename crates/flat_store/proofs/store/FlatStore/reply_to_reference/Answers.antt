@@ -1,9 +1,5 @@
-use Rattle.std.proofs.Common.{ℕ, List, Option, Some, None, sym, ap, subst, ◌∙◌, arith, ◌≡◌}
+use Rattle.flat_store.proofs.Prelude.{ℕ, List, Option, Some, None, sym, ap, subst, ◌∙◌, arith, ◌≡◌, Kept, IsShown, numbers_at, uid_of, Store, reply_of, reply_to_reference}
 use Rattle.flat_store.specs.contracts.store.FlatStore.{the_view}
-use Rattle.flat_store.specs.Shown.{Kept, IsShown, numbers_at}
-use Rattle.known_segs.specs.Known.{uid_of}
-use Rattle.flat_model.specs.Store.{Store}
-use Rattle.flat_model.specs.References.{reply_of, reply_to_reference}
 use Rattle.flat_store.proofs.StoreLaws.{nobody_knows, reference_told}
 use Rattle.flat_store.proofs.store.FlatStore.reply_to_reference.Goals.{After-deref}
 use Rattle.flat_store.proofs.store.FlatStore.reply_to_reference.Goals as goal

@@ -1,12 +1,5 @@
-use Rattle.std.proofs.Common.{sym, ap, subst, ◌∙◌, ◌≡◌, ℕ}
+use Rattle.flat_store.proofs.Prelude.{sym, ap, subst, ◌∙◌, ◌≡◌, ℕ, Kept, IsShown, Plan, Command, Reply, reply_to_tree_command, Store, ShowsTree}
 use Rattle.flat_store.specs.contracts.store.FlatStore.{the_view}
-use Rattle.flat_store.specs.Shown.{Kept, IsShown}
-use Rattle.script.specs.Plans.{Plan}
-use Rattle.script.specs.declared.commands.Command.{Command}
-use Rattle.book.specs.declared.replies.Reply.{Reply}
-use Rattle.flat_model.specs.Commands.{reply_to_tree_command}
-use Rattle.flat_model.specs.Store.{Store}
-use Rattle.tree_commands.specs.Shown.{ShowsTree}
 use Rattle.flat_store.proofs.StoreLaws.{tree_shown}
 use Rattle.flat_store.proofs.store.FlatStore.reply_to_tree_command.Goals.{After-tree-tree}
 use Rattle.flat_store.proofs.store.FlatStore.reply_to_tree_command.Goals as goal

@@ -1,10 +1,5 @@
-use Rattle.std.proofs.Common.{Option, Some, sym, subst, ap, ◌∙◌}
-use Rattle.script.specs.declared.commands.Reference.{Reference}
-use Rattle.flat_model.specs.Commands.{effect_by, reply_by, takes_effect}
-use Rattle.flat_model.proofs.HeldLaws.{held_by}
-use Rattle.flat_store.specs.Shown.{IsShown}
+use Rattle.flat_store.proofs.Prelude.{Option, Some, sym, subst, ap, ◌∙◌, Reference, effect_by, reply_by, takes_effect, held_by, IsShown, on_ok}
 use Rattle.flat_store.proofs.store.FlatStore.take_effect.Goals as goal
-use Rattle.laws.proofs.Options.{on_ok}
 
 pub returns-in-Some-clause-ok : goal.returns-in-Some-clause-ok
 returns-in-Some-clause-ok c =

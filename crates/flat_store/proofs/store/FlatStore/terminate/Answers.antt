@@ -1,8 +1,5 @@
-use Rattle.std.proofs.Common.{ℕ, List, Option, is_some, refl, sym, ap, subst, ◌∙◌}
-use Rattle.flat_model.specs.Store.{Store, numbers_of}
-use Rattle.known_segs.specs.Known.{uid_of, without_number}
+use Rattle.flat_store.proofs.Prelude.{ℕ, List, Option, is_some, refl, sym, ap, subst, ◌∙◌, Store, numbers_of, uid_of, without_number, Kept, IsShown, numbers_at}
 use Rattle.flat_store.specs.contracts.store.FlatStore.{the_view}
-use Rattle.flat_store.specs.Shown.{Kept, IsShown, numbers_at}
 use Rattle.flat_store.proofs.StoreLaws.{after_terminate_is, numbers_are, numbers_shown, terminate_asked}
 use Rattle.flat_store.proofs.store.FlatStore.terminate.Goals as goal
 

@@ -1,11 +1,6 @@
-use Rattle.std.proofs.Common.{ℕ, List, Option, Some, None, sym, ap, subst, ◌∙◌, ◌≡◌, cond, is_some}
+use Rattle.flat_store.proofs.Prelude.{ℕ, List, Option, Some, None, sym, ap, subst, ◌∙◌, ◌≡◌, cond, is_some, Kept, IsShown, numbers_at, uid_of, Plan, Store, terminate_reply}
 use Rattle.book.specs.declared.replies.Reply.TheVariants as reply
 use Rattle.flat_store.specs.contracts.store.FlatStore.{the_view}
-use Rattle.flat_store.specs.Shown.{Kept, IsShown, numbers_at}
-use Rattle.known_segs.specs.Known.{uid_of}
-use Rattle.script.specs.Plans.{Plan}
-use Rattle.flat_model.specs.Store.{Store}
-use Rattle.flat_model.specs.Naming.{terminate_reply}
 use Rattle.flat_store.proofs.StoreLaws.{terminate_told}
 use Rattle.flat_store.proofs.store.FlatStore.terminate_reply.Goals.{After-deref}
 use Rattle.flat_store.proofs.store.FlatStore.terminate_reply.Goals as goal

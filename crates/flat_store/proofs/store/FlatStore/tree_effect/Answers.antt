@@ -1,10 +1,4 @@
-use Rattle.std.proofs.Common.{◌∷◌, [], true, false, List, ap, subst, ◌∙◌}
-use Rattle.mnames.specs.declared.principals.Who.{Who}
-use Rattle.script.specs.Plans.{who_of}
-use Rattle.tree_model.specs.Access.{Row}
-use Rattle.flat_model.specs.Making.{after_make, owner_row}
-use Rattle.flat_store.specs.Shown.{Holds}
-use Rattle.flat_model.proofs.OtherLaws.{make_keeps, acl_keeps, length_keeps, truncate_keeps, delete_keeps}
+use Rattle.flat_store.proofs.Prelude.{◌∷◌, [], true, false, List, ap, subst, ◌∙◌, Who, who_of, Row, after_make, owner_row, Holds, make_keeps, acl_keeps, length_keeps, truncate_keeps, delete_keeps}
 use Rattle.flat_store.proofs.StoreLaws.{effect_done}
 use Rattle.flat_store.proofs.store.FlatStore.tree_effect.Goals as goal
 

@@ -1,5 +1,4 @@
-use Rattle.std.proofs.Common.{subst, sym}
-use Rattle.flat_store.specs.Shown.{Holds, Kept}
+use Rattle.flat_store.proofs.Prelude.{subst, sym, Holds, Kept}
 use Rattle.flat_store.proofs.store.FlatStore.zero_page.Goals as goal
 
 pub returns-clause-some : goal.returns-clause-some

@@ -1,4 +1,4 @@
-use Rattle.std.proofs.Common.{rules, ap, ◌∙◌}
+use Rattle.live_doors.proofs.Prelude.{rules, ap, ◌∙◌}
 use Rattle.live_doors.proofs.Keeps.{acknowledges_at}
 use Rattle.live_doors.proofs.doors.LiveDoors.acknowledge.Goals as goal
 

@@ -1,4 +1,4 @@
-use Rattle.std.proofs.Common.{rules}
+use Rattle.live_doors.proofs.Prelude.{rules}
 use Rattle.live_doors.proofs.Keeps.{noted_is_clear}
 use Rattle.live_doors.proofs.doors.LiveDoors.all_clear.Goals as goal
 

@@ -1,4 +1,4 @@
-use Rattle.std.proofs.Common.{◌≤◌}
+use Rattle.live_doors.proofs.Prelude.{◌≤◌}
 use Rattle.live_doors.proofs.Calls.{ClearSoFar}
 use Rattle.live_doors.proofs.doors.LiveDoors.all_clear.Given as goal
 

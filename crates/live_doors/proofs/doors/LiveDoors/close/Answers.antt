@@ -1,4 +1,4 @@
-use Rattle.std.proofs.Common.{rules, ap, ◌∙◌}
+use Rattle.live_doors.proofs.Prelude.{rules, ap, ◌∙◌}
 use Rattle.live_doors.proofs.Keeps.{ended_request, ended_doors}
 use Rattle.live_doors.proofs.Calls.{written_whole}
 use Rattle.live_doors.proofs.doors.LiveDoors.close.Goals as goal

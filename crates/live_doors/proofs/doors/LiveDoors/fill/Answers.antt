@@ -1,7 +1,4 @@
-use Rattle.std.proofs.Common.{rules, ap, ◌∙◌}
-use Rattle.live_doors.specs.declared.views.Walk.{Walk}
-use Rattle.live_doors.specs.Steps.{walk_of, filled}
-use Rattle.live_doors.specs.Laws.{filled_row, entries_filled, when_bound, when_admitted, when_closed}
+use Rattle.live_doors.proofs.Prelude.{rules, ap, ◌∙◌, Walk, walk_of, filled, filled_row, entries_filled, when_bound, when_admitted, when_closed}
 use Rattle.live_doors.proofs.Keeps.{fills_at}
 use Rattle.live_doors.proofs.Calls.{pass_fits, pass_stays_of}
 use Rattle.live_doors.proofs.doors.LiveDoors.fill.Goals as goal

@@ -1,4 +1,4 @@
-use Rattle.std.proofs.Common.{rules}
+use Rattle.live_doors.proofs.Prelude.{rules}
 use Rattle.live_doors.proofs.Keeps.{forgets_at}
 use Rattle.live_doors.proofs.doors.LiveDoors.forget.Goals as goal
 

@@ -1,9 +1,6 @@
-use Rattle.std.proofs.Common.{rules, refl}
-use Rattle.std.proofs.lemmas.List.{length-set}
-use Rattle.live_doors.specs.Steps.{watch_of}
+use Rattle.live_doors.proofs.Prelude.{rules, refl, length-set, watch_of, noted_still, rows_noted}
 use Rattle.live_doors.proofs.Keeps.{looks_at}
 use Rattle.live_doors.proofs.Calls.{keeper_fits, keeper_stays_of}
-use Rattle.live_doors.specs.Laws.{noted_still, rows_noted}
 use Rattle.live_doors.proofs.doors.LiveDoors.look.Goals as goal
 
 pub load-requires : goal.load-requires

@@ -1,4 +1,4 @@
-use Rattle.std.proofs.Common.{rules}
+use Rattle.live_doors.proofs.Prelude.{rules}
 use Rattle.live_doors.proofs.Keeps.{raises_at}
 use Rattle.live_doors.proofs.doors.LiveDoors.raise.Goals as goal
 

@@ -1,5 +1,4 @@
-use Rattle.std.proofs.Common.{◌≡◌, All, vec_len}
-use Rattle.live_doors.specs.Doors.{IsPassOf}
+use Rattle.live_doors.proofs.Prelude.{◌≡◌, All, vec_len, IsPassOf}
 use Rattle.live_doors.proofs.doors.LiveDoors.take_all_in.Given as goal
 
 abbrev pub decreases-loop-pass : goal.decreases-loop-pass

@@ -1,5 +1,4 @@
-use Rattle.std.proofs.Common.{ℕ, Some, None, ◌≡◌, get_or, subst, sym, ap, IsTrue, ◌↔◌}
-use Rattle.live_doors.specs.Laws.{holds_entry}
+use Rattle.live_doors.proofs.Prelude.{ℕ, Some, None, ◌≡◌, get_or, subst, sym, ap, IsTrue, ◌↔◌, holds_entry}
 use Rattle.live_doors.proofs.entries.Entries.holds.Goals as goal
 
 pub returns : goal.returns

@@ -1,7 +1,4 @@
-use Rattle.std.proofs.Common.{subst}
-use Rattle.live_doors.specs.Doors.{HasNoted, MayBind}
-use Rattle.live_doors.specs.Laws.{may_bind_by}
-use Rattle.live_pages.specs.Turns.{holder_of}
+use Rattle.live_pages.proofs.Prelude.{subst, HasNoted, MayBind, may_bind_by, holder_of}
 use Rattle.live_pages.proofs.Ends.{may_bind_is_free}
 use Rattle.live_pages.proofs.keeper.Keeper.may_bind.Goals as goal
 

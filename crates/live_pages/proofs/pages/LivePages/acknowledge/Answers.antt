@@ -1,4 +1,4 @@
-use Rattle.std.proofs.Common.{rules, ap, ◌∙◌}
+use Rattle.live_pages.proofs.Prelude.{rules, ap, ◌∙◌}
 use Rattle.live_pages.proofs.Calls.{acknowledges_at}
 use Rattle.live_pages.proofs.pages.LivePages.acknowledge.Goals as goal
 

@@ -1,4 +1,4 @@
-use Rattle.std.proofs.Common.{◌≤◌}
+use Rattle.live_pages.proofs.Prelude.{◌≤◌}
 use Rattle.live_pages.proofs.Calls.{ClearSoFar}
 use Rattle.live_pages.proofs.pages.LivePages.all_clear.Given as goal
 

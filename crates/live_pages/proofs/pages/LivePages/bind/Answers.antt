@@ -1,13 +1,6 @@
-use Rattle.std.proofs.Common.{rules, ◌≡◌, ◌+◌, ◌*◌, ◌/◌, [], Some, sym, ap, refl, ◌∙◌, subst, get_or, set}
-use Rattle.std.proofs.lemmas.List.{length-set}
-use Rattle.live_doors.specs.Doors.{HasNoted, MayBind}
-use Rattle.live_pages.specs.declared.views.View.TheVariants.{Keeping}
-use Rattle.live_pages.specs.Turns.{holder_of}
-use Rattle.live_pages.specs.Models.{rebound}
+use Rattle.live_pages.proofs.Prelude.{rules, ◌≡◌, ◌+◌, ◌*◌, ◌/◌, [], Some, sym, ap, refl, ◌∙◌, subst, get_or, set, length-set, HasNoted, MayBind, Keeping, holder_of, rebound}
 use Rattle.live_pages.proofs.Ends.{may_bind_is_free}
-use Rattle.live_pages.proofs.Calls.{told_with, swapped, keeper_takes_at, binds_in_hand}
-use Rattle.live_pages.proofs.Calls.{keeper_gives_in_hand, bound_now, rebound_now, keeper_fits, keeper_stays_of}
-use Rattle.live_pages.proofs.Calls.{rows_admitted}
+use Rattle.live_pages.proofs.Calls.{told_with, swapped, keeper_takes_at, binds_in_hand, keeper_gives_in_hand, bound_now, rebound_now, keeper_fits, keeper_stays_of, rows_admitted}
 use Rattle.live_pages.proofs.pages.LivePages.bind.Goals as goal
 
 pub compare_exchange-requires : goal.compare_exchange-requires

@@ -1,6 +1,4 @@
-use Rattle.std.proofs.Common.{ap, sym, subst, ◌∙◌}
-use Rattle.std.specs.Mem.Slots.{slots_items}
-use Rattle.live_pages.specs.Kept.{AllIn}
+use Rattle.live_pages.proofs.Prelude.{ap, sym, subst, ◌∙◌, slots_items, AllIn}
 use Rattle.live_pages.proofs.AllIn.{AtEnd, all_are_in, ended, slots_held, told_at_end, pages_left}
 use Rattle.live_pages.proofs.pages.LivePages.close.Goals as goal
 

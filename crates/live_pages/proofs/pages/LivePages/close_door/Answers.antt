@@ -1,4 +1,4 @@
-use Rattle.std.proofs.Common.{rules, ◌+◌, get_or, ap, ◌∙◌}
+use Rattle.live_pages.proofs.Prelude.{rules, ◌+◌, get_or, ap, ◌∙◌}
 use Rattle.live_pages.proofs.Calls.{closes_at}
 use Rattle.live_pages.proofs.pages.LivePages.close_door.Goals as goal
 

@@ -1,9 +1,4 @@
-use Rattle.std.proofs.Common.{rules, [], refl, ap, ◌≡◌, ◌∙◌}
-use Rattle.live_doors.specs.declared.views.Walk.{Walk}
-use Rattle.live_doors.specs.Steps.{filled}
-use Rattle.live_doors.specs.Laws.{filled_row, entries_filled, when_bound, when_admitted, when_closed}
-use Rattle.live_pages.specs.declared.views.View.TheVariants.{Passing}
-use Rattle.live_pages.specs.Turns.{walking, walker_of}
+use Rattle.live_pages.proofs.Prelude.{rules, [], refl, ap, ◌≡◌, ◌∙◌, Walk, filled, filled_row, entries_filled, when_bound, when_admitted, when_closed, Passing, walking, walker_of}
 use Rattle.live_pages.proofs.Calls.{told_alone, fills_at, pass_fits, pass_stays_of}
 use Rattle.live_pages.proofs.pages.LivePages.fill.Goals as goal
 

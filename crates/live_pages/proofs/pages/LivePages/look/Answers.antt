@@ -1,7 +1,4 @@
-use Rattle.std.proofs.Common.{rules, refl}
-use Rattle.std.proofs.lemmas.List.{length-set}
-use Rattle.live_doors.specs.Laws.{noted_still, rows_noted}
-use Rattle.live_pages.specs.Turns.{holder_of}
+use Rattle.live_pages.proofs.Prelude.{rules, refl, length-set, noted_still, rows_noted, holder_of}
 use Rattle.live_pages.proofs.Calls.{looks_at, keeper_fits, keeper_stays_of, told_alone}
 use Rattle.live_pages.proofs.pages.LivePages.look.Goals as goal
 

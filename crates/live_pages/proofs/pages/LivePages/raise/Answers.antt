@@ -1,4 +1,4 @@
-use Rattle.std.proofs.Common.{rules}
+use Rattle.live_pages.proofs.Prelude.{rules}
 use Rattle.live_pages.proofs.Calls.{raises_at}
 use Rattle.live_pages.proofs.pages.LivePages.raise.Goals as goal
 

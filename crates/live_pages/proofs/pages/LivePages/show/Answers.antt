@@ -1,4 +1,4 @@
-use Rattle.std.proofs.Common.{rules}
+use Rattle.live_pages.proofs.Prelude.{rules}
 use Rattle.live_pages.proofs.AllIn.{shows_at}
 use Rattle.live_pages.proofs.pages.LivePages.show.Goals as goal
 

@@ -1,5 +1,4 @@
-use Rattle.std.proofs.Common.{rules, sym, ap, ◌∙◌}
-use Rattle.live_pages.specs.declared.rule.Held.{Held}
+use Rattle.live_pages.proofs.Prelude.{rules, sym, ap, ◌∙◌, Held}
 use Rattle.live_pages.proofs.Calls.{slot_in_hand, none_is, exchanged_twice, found_in_slot, same_held, with_slots}
 use Rattle.live_pages.proofs.pages.LivePages.swap_page.Goals as goal
 

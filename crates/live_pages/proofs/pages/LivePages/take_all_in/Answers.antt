@@ -1,5 +1,4 @@
-use Rattle.std.proofs.lemmas.List.Elements.{All-pop}
-use Rattle.live_pages.specs.Models.{IsPassOf}
+use Rattle.live_pages.proofs.Prelude.{All-pop, IsPassOf}
 use Rattle.live_pages.proofs.AllIn.{taking_goes_on}
 use Rattle.live_pages.proofs.pages.LivePages.take_all_in.Goals as goal
 

@@ -1,5 +1,4 @@
-use Rattle.std.proofs.Common.{◌≡◌, All, vec_len}
-use Rattle.live_pages.specs.Models.{IsPassOf, IsKeeperOf, taking_all_in}
+use Rattle.live_pages.proofs.Prelude.{◌≡◌, All, vec_len, IsPassOf, IsKeeperOf, taking_all_in}
 use Rattle.live_pages.proofs.pages.LivePages.take_all_in.Given as goal
 
 abbrev pub decreases-loop-pass : goal.decreases-loop-pass

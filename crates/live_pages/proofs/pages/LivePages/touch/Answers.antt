@@ -1,10 +1,4 @@
-use Rattle.std.proofs.Common.{rules, ◌≡◌, ◌^◌, ◌<◌, length, [], ◌∷◌, Some, None, sym, ap, refl, ◌∙◌, subst, get_or}
-use Rattle.live_doors.specs.Doors.{having_read}
-use Rattle.live_pages.specs.declared.rule.Held.{Held}
-use Rattle.live_pages.specs.declared.views.View.TheVariants.{Passing}
-use Rattle.live_pages.specs.Turns.{taken, walking, walker_of}
-use Rattle.live_pages.specs.Touches.{AreBelow}
-use Rattle.live_pages.specs.Models.{having_touched, touched_in_hand}
+use Rattle.live_pages.proofs.Prelude.{rules, ◌≡◌, ◌^◌, ◌<◌, length, [], ◌∷◌, Some, None, sym, ap, refl, ◌∙◌, subst, get_or, having_read, Held, Passing, taken, walking, walker_of, AreBelow, having_touched, touched_in_hand}
 use Rattle.live_pages.proofs.Ends.{held_is_current}
 use Rattle.live_pages.proofs.Calls.{told_alone, told_with, self_form, takes_turn_at, pass_fits, pass_stays_of}
 use Rattle.live_pages.proofs.pages.LivePages.touch.Goals as goal

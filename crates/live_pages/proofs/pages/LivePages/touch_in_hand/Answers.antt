@@ -1,10 +1,5 @@
-use Rattle.std.proofs.Common.{rules, ◌≡◌, [], ◌∷◌, Some, sym, ap, refl, ◌∙◌, subst}
-use Rattle.live_pages.specs.declared.rule.Held.{Held}
-use Rattle.live_pages.specs.declared.views.View.TheVariants.{Passing}
-use Rattle.live_pages.specs.Touches.{touched, answer, AreBelow}
-use Rattle.live_pages.specs.Turns.{having_made, walker_of}
-use Rattle.live_pages.proofs.Calls.{slot_there, exchanged_twice, found_in_slot, same_held, draws_in_hand}
-use Rattle.live_pages.proofs.Calls.{gives_in_hand, drawn, given_back}
+use Rattle.live_pages.proofs.Prelude.{rules, ◌≡◌, [], ◌∷◌, Some, sym, ap, refl, ◌∙◌, subst, Held, Passing, touched, answer, AreBelow, having_made, walker_of}
+use Rattle.live_pages.proofs.Calls.{slot_there, exchanged_twice, found_in_slot, same_held, draws_in_hand, gives_in_hand, drawn, given_back}
 use Rattle.live_pages.proofs.pages.LivePages.touch_in_hand.Goals as goal
 
 pub exchange-requires : goal.exchange-requires

@@ -1,5 +1,4 @@
-use Rattle.std.proofs.Common.{◌∙◌, ap}
-use Rattle.machine_model.specs.State.{Storage}
+use Rattle.machine.proofs.Prelude.{◌∙◌, ap, Storage}
 use Rattle.machine.proofs.AccountLaws.{shown_counts, shown_nodes}
 use Rattle.machine.proofs.machine.Machine.accounts.Goals as goal
 

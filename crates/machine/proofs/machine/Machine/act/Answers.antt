@@ -1,6 +1,4 @@
-use Rattle.std.proofs.Common.{refl, ap, ◌∙◌}
-use Rattle.machine_model.specs.Reads.{process_at}
-use Rattle.machine_tables.specs.Meant.{meant}
+use Rattle.machine.proofs.Prelude.{refl, ap, ◌∙◌, process_at, meant}
 use Rattle.machine.proofs.StepDone.{ended_turn, stopped_turn}
 use Rattle.machine.proofs.StepLaws.{waits_told}
 use Rattle.machine.proofs.machine.Machine.act.Goals as goal

@@ -1,8 +1,4 @@
-use Rattle.std.proofs.Common.{refl, subst, sym}
-use Rattle.machine_model.proofs.MachineRounds.{reader_seen}
-use Rattle.machine_tables.specs.declared.action.Why.{Why}
-use Rattle.machine.specs.declared.turn.Turn.TheVariants.{Waits}
-use Rattle.machine.specs.Looped.{MayWait, WaitsFor}
+use Rattle.machine.proofs.Prelude.{refl, subst, sym, reader_seen, Why, Waits, MayWait, WaitsFor}
 use Rattle.machine.proofs.machine.Machine.awaited_by.Goals as goal
 
 pub reader_of-requires : goal.reader_of-requires

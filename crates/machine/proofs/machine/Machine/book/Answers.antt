@@ -1,5 +1,4 @@
-use Rattle.std.proofs.Common.{◌<◌, ◌^◌, ◌∙◌, List, ap, arith, length, rules}
-use Rattle.book.specs.declared.entries.Entry.{Entry}
+use Rattle.machine.proofs.Prelude.{◌<◌, ◌^◌, ◌∙◌, List, ap, arith, length, rules, Entry}
 use Rattle.machine.proofs.AccountLaws.{few_told}
 use Rattle.machine.proofs.machine.Machine.book.Goals as goal
 

@@ -1,13 +1,4 @@
-use Rattle.std.proofs.Common.{◌∙◌, ap, length, List, map, subst, sum_by, sym}
-use Rattle.std.proofs.lemmas.List.{length-map}
-use Rattle.script.specs.declared.plan.VolumeLine.{VolumeLine}
-use Rattle.volumes.specs.Volumes.{Vols, made_of}
-use Rattle.storage_ops.specs.Shown.{AreFresh}
-use Rattle.machine_model.specs.Boot.{first_state, first_store}
-use Rattle.machine_model.specs.State.{State}
-use Rattle.machine_tables.specs.Parts.{first_words}
-use Rattle.machine_tables.proofs.FirstLaws.{first_keeps}
-use Rattle.machine.specs.Starts.{parts_of}
+use Rattle.machine.proofs.Prelude.{◌∙◌, ap, length, List, map, subst, sum_by, sym, length-map, VolumeLine, Vols, made_of, AreFresh, first_state, first_store, State, first_words, first_keeps, parts_of}
 use Rattle.machine.proofs.FirstParts.{are_fresh, as_many, drives_are}
 use Rattle.machine.proofs.VisitNext.{visited_first}
 use Rattle.machine.proofs.machine.Machine.boot.Goals as goal

@@ -1,6 +1,4 @@
-use Rattle.std.proofs.Common.{arith}
-use Rattle.std.proofs.lemmas.Grind.{common_steps}
-use Rattle.machine.specs.Turns.{IsBusy}
+use Rattle.machine.proofs.Prelude.{arith, common_steps, IsBusy}
 use Rattle.machine.proofs.Busy.{busy_for}
 use Rattle.machine.proofs.machine.Machine.busy.Goals as goal
 

@@ -1,5 +1,4 @@
-use Rattle.std.proofs.Common.{refl}
-use Rattle.machine_model.specs.After.{after}
+use Rattle.machine.proofs.Prelude.{refl, after}
 use Rattle.machine.proofs.Quiet.{quiet_sound}
 use Rattle.machine.proofs.StepDone.{clear_turn, turned}
 use Rattle.machine.proofs.machine.Machine.clear.Goals as goal

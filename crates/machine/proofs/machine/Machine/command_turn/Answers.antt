@@ -1,4 +1,4 @@
-use Rattle.std.proofs.lemmas.Result.{on_err_weaker, on_ok_weaker}
+use Rattle.machine.proofs.Prelude.{on_err_weaker, on_ok_weaker}
 use Rattle.machine.proofs.LoopCalls.{gone_on, stalled_on, turn_free, turn_job}
 use Rattle.machine.proofs.machine.Machine.command_turn.Goals as goal
 

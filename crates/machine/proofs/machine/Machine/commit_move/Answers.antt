@@ -1,4 +1,4 @@
-use Rattle.std.proofs.Common.{◌≤◌, arith}
+use Rattle.machine.proofs.Prelude.{◌≤◌, arith}
 use Rattle.machine.proofs.MoveCalls.{ended_mover, ended_segment, ends, move_sound}
 use Rattle.machine.proofs.StepDone.{move_turn}
 use Rattle.machine.proofs.machine.Machine.commit_move.Goals as goal

@@ -1,4 +1,4 @@
-use Rattle.std.proofs.Common.{◌<◌, ◌≤◌, arith, rules}
+use Rattle.machine.proofs.Prelude.{◌<◌, ◌≤◌, arith, rules}
 use Rattle.machine.proofs.OwnerCalls.{connect_sound, connectable}
 use Rattle.machine.proofs.StepDone.{connect_turn}
 use Rattle.machine.proofs.machine.Machine.connect.Goals as goal

@@ -1,4 +1,4 @@
-use Rattle.std.proofs.Common.{◌≤◌, arith}
+use Rattle.machine.proofs.Prelude.{◌≤◌, arith}
 use Rattle.machine_model.specs.Actions as act
 use Rattle.machine.proofs.OwnerCalls.{deactivate_sound, inactive_emptied, inactive_owner, still_for}
 use Rattle.machine.proofs.StepDone.{deactivate_turn}

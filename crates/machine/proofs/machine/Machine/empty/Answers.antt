@@ -1,4 +1,4 @@
-use Rattle.std.proofs.Common.{rules}
+use Rattle.machine.proofs.Prelude.{rules}
 use Rattle.machine.proofs.OwnerCalls.{empty_sound, emptiable}
 use Rattle.machine.proofs.StepDone.{empty_turn}
 use Rattle.machine.proofs.machine.Machine.empty.Goals as goal

@@ -1,4 +1,4 @@
-use Rattle.std.proofs.Common.{rules}
+use Rattle.machine.proofs.Prelude.{rules}
 use Rattle.machine.proofs.JoinCalls.{victim_call, victim_is, victim_keeps}
 use Rattle.machine.proofs.StepDone.{victim_turn}
 use Rattle.machine.proofs.machine.Machine.empty_victim.Goals as goal

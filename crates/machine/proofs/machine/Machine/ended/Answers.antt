@@ -1,4 +1,4 @@
-use Rattle.machine_model.proofs.AllEnded.{over_complete}
+use Rattle.machine.proofs.Prelude.{over_complete}
 use Rattle.machine.proofs.EndedLaws.{over_ended}
 use Rattle.machine.proofs.VisitCalls.{over_still}
 use Rattle.machine.proofs.machine.Machine.ended.Goals as goal

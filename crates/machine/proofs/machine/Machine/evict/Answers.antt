@@ -1,4 +1,4 @@
-use Rattle.std.proofs.Common.{◌<◌, ◌≤◌, arith, rules}
+use Rattle.machine.proofs.Prelude.{◌<◌, ◌≤◌, arith, rules}
 use Rattle.machine.proofs.OwnerCalls.{evict_doing, evict_sound, evictable}
 use Rattle.machine.proofs.StepDone.{evict_turn}
 use Rattle.machine.proofs.machine.Machine.evict.Goals as goal

@@ -1,5 +1,4 @@
-use Rattle.std.proofs.Common.{◌∙◌}
-use Rattle.std.proofs.lemmas.Result.{on_err_weaker, on_ok_weaker}
+use Rattle.machine.proofs.Prelude.{◌∙◌, on_err_weaker, on_ok_weaker}
 use Rattle.machine.proofs.LoopCalls.{gone_run, loop_grows, loop_keeps, loop_stopped, stalled_stood}
 use Rattle.machine.proofs.machine.Machine.finish.Goals as goal
 

@@ -1,4 +1,4 @@
-use Rattle.std.proofs.Common.{rules}
+use Rattle.machine.proofs.Prelude.{rules}
 use Rattle.machine.proofs.LoopCalls.{gone_on, round_freed, stalled_on}
 use Rattle.machine.proofs.machine.Machine.finish_all.Goals as goal
 

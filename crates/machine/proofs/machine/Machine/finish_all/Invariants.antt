@@ -1,7 +1,4 @@
-use Rattle.std.proofs.Common.{◌≡◌, None}
-use Rattle.machine_model.specs.Measures.{all_rank}
-use Rattle.machine_model.specs.Outlined.{outline_of}
-use Rattle.machine.specs.Looped.{HasGone}
+use Rattle.machine.proofs.Prelude.{◌≡◌, None, all_rank, outline_of, HasGone}
 use Rattle.machine.proofs.machine.Machine.finish_all.Given as goal
 
 abbrev pub invariant-loop-self : goal.invariant-loop-self

@@ -1,5 +1,4 @@
-use Rattle.std.proofs.Common.{sym, ◌∙◌, rules}
-use Rattle.machine_model.proofs.MachineRounds.{command_freed}
+use Rattle.machine.proofs.Prelude.{sym, ◌∙◌, rules, command_freed}
 use Rattle.machine.proofs.LoopCalls.{gauge_falls, gone_on, gone_planned, gone_self, running_planned, stalled_on, way_begins, way_ends, way_goes}
 use Rattle.machine.proofs.machine.Machine.finish_command.Goals as goal
 

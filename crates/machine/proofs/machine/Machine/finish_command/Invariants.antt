@@ -1,7 +1,4 @@
-use Rattle.std.proofs.Common.{◌≡◌, None}
-use Rattle.machine_model.specs.Looping.{command_gauge}
-use Rattle.machine_model.specs.Outlined.{outline_of}
-use Rattle.machine.specs.Looped.{HasGone}
+use Rattle.machine.proofs.Prelude.{◌≡◌, None, command_gauge, outline_of, HasGone}
 use Rattle.machine.proofs.LoopCalls.{IsOnWay}
 use Rattle.machine.proofs.machine.Machine.finish_command.Given as goal
 

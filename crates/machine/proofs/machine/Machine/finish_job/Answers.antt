@@ -1,5 +1,4 @@
-use Rattle.std.proofs.Common.{rules}
-use Rattle.machine_model.proofs.MachineRounds.{job_end, job_start}
+use Rattle.machine.proofs.Prelude.{rules, job_end, job_start}
 use Rattle.machine.proofs.LoopCalls.{gone_on, gone_self, job_goes_on, stalled_on}
 use Rattle.machine.proofs.machine.Machine.finish_job.Goals as goal
 

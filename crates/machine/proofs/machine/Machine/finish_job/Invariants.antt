@@ -1,7 +1,4 @@
-use Rattle.machine_model.specs.Looping.{Goes}
-use Rattle.machine_model.specs.Measures.{job_rank}
-use Rattle.machine_model.specs.Outlined.{outline_of}
-use Rattle.machine.specs.Looped.{HasGone}
+use Rattle.machine.proofs.Prelude.{Goes, job_rank, outline_of, HasGone}
 use Rattle.machine.proofs.machine.Machine.finish_job.Given as goal
 
 abbrev pub invariant-loop-owner : goal.invariant-loop-owner

@@ -1,4 +1,4 @@
-use Rattle.std.proofs.Common.{sym, ◌∙◌}
+use Rattle.machine.proofs.Prelude.{sym, ◌∙◌}
 use Rattle.machine.proofs.LoopCalls.{first_runs, idle_done}
 use Rattle.machine.proofs.machine.Machine.finish_round.Goals as goal
 

@@ -1,11 +1,4 @@
-use Rattle.std.proofs.Common.{◌∙◌, ap, map, subst}
-use Rattle.std.specs.Prelude.{All}
-use Rattle.std.proofs.lemmas.List.Elements.{All-map}
-use Rattle.volumes.specs.FullPages.{HaveFullPages}
-use Rattle.volumes.specs.Volumes.{Vols}
-use Rattle.page_control.specs.Plain.{Paging}
-use Rattle.seg_control.specs.Control.{Control}
-use Rattle.machine_model.specs.State.{Storage}
+use Rattle.machine.proofs.Prelude.{◌∙◌, ap, map, subst, All, All-map, HaveFullPages, Vols, Paging, Control, Storage}
 use Rattle.machine.proofs.DiskLaws.{drives_in_move}
 use Rattle.machine.proofs.LossTold.{told_back}
 use Rattle.machine.proofs.NoZeros.{has_no_zeros}

@@ -1,6 +1,5 @@
-use Rattle.std.proofs.Common.{◌∙◌, rules}
-use Rattle.machine.proofs.LoopCalls.{awaited_fell, awaited_planned, may_wait, moved_alone, owner_planned, owner_there}
-use Rattle.machine.proofs.LoopCalls.{gone_on, owner_turned, stalled_on}
+use Rattle.machine.proofs.Prelude.{◌∙◌, rules}
+use Rattle.machine.proofs.LoopCalls.{awaited_fell, awaited_planned, may_wait, moved_alone, owner_planned, owner_there, gone_on, owner_turned, stalled_on}
 use Rattle.machine.proofs.machine.Machine.job_turn.Goals as goal
 
 pub turn-requires : goal.turn-requires

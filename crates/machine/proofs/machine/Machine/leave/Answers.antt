@@ -1,5 +1,4 @@
-use Rattle.std.proofs.Common.{refl}
-use Rattle.machine_model.specs.After.{after}
+use Rattle.machine.proofs.Prelude.{refl, after}
 use Rattle.machine.proofs.AloneLaws.{ready_room, run_there}
 use Rattle.machine.proofs.Quiet.{quiet_sound}
 use Rattle.machine.proofs.StepDone.{leave_turn, turned}

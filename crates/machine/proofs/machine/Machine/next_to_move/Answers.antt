@@ -1,6 +1,4 @@
-use Rattle.std.proofs.Common.{◌<◌, ℕ, sym, ap, subst, ◌∙◌, arith}
-use Rattle.script.specs.Plans.{Plan}
-use Rattle.machine_tables.specs.Parts.{Parts}
+use Rattle.machine.proofs.Prelude.{◌<◌, ℕ, sym, ap, subst, ◌∙◌, arith, Plan, Parts}
 use Rattle.machine.proofs.UnstuckLaws.{moves_not, one_more, still_done}
 use Rattle.machine.proofs.machine.Machine.next_to_move.Goals as goal
 

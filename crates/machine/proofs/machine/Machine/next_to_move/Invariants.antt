@@ -1,5 +1,4 @@
-use Rattle.std.proofs.Common.{◌≡◌, ◌<◌, ℕ, false}
-use Rattle.machine.specs.Schedules.{would_move}
+use Rattle.machine.proofs.Prelude.{◌≡◌, ◌<◌, ℕ, false, would_move}
 use Rattle.machine.proofs.machine.Machine.next_to_move.Given as goal
 
 abbrev pub invariant-loop-c : goal.invariant-loop-c

@@ -1,4 +1,4 @@
-use Rattle.std.proofs.Common.{sym, ◌∙◌}
+use Rattle.machine.proofs.Prelude.{sym, ◌∙◌}
 use Rattle.machine.proofs.LoopCalls.{reader_found, reader_is}
 use Rattle.machine.proofs.machine.Machine.reader_of.Goals as goal
 

@@ -1,4 +1,4 @@
-use Rattle.std.proofs.Common.{refl}
+use Rattle.machine.proofs.Prelude.{refl}
 use Rattle.machine.proofs.Quiet.{refuse_sound}
 use Rattle.machine.proofs.StepDone.{answer_turn}
 use Rattle.machine.proofs.machine.Machine.refuse.Goals as goal

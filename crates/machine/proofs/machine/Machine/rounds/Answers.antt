@@ -1,4 +1,4 @@
-use Rattle.std.proofs.Common.{◌∙◌, arith, rules}
+use Rattle.machine.proofs.Prelude.{◌∙◌, arith, rules}
 use Rattle.machine.proofs.RunLaws.{round_few, run_next, stood_at}
 use Rattle.machine.proofs.machine.Machine.rounds.Goals as goal
 

@@ -1,5 +1,4 @@
-use Rattle.std.proofs.Common.{◌≡◌, ◌≤◌, take}
-use Rattle.machine.specs.Schedules.{HasRun}
+use Rattle.machine.proofs.Prelude.{◌≡◌, ◌≤◌, take, HasRun}
 use Rattle.machine.proofs.machine.Machine.rounds.Given as goal
 
 abbrev pub invariant-loop-c : goal.invariant-loop-c

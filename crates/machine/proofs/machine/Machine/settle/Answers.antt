@@ -1,5 +1,4 @@
-use Rattle.std.proofs.lemmas.Result.{on_ok_weaker}
-use Rattle.machine_model.proofs.MachineRounds.{job_freed}
+use Rattle.machine.proofs.Prelude.{on_ok_weaker, job_freed}
 use Rattle.machine.proofs.LoopCalls.{gone_self}
 use Rattle.machine.proofs.machine.Machine.settle.Goals as goal
 

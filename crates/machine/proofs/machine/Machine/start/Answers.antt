@@ -1,4 +1,4 @@
-use Rattle.std.proofs.Common.{◌<◌, ◌≤◌, arith, rules}
+use Rattle.machine.proofs.Prelude.{◌<◌, ◌≤◌, arith, rules}
 use Rattle.machine.proofs.OwnerCalls.{readable, start_sound}
 use Rattle.machine.proofs.StepDone.{start_turn}
 use Rattle.machine.proofs.machine.Machine.start.Goals as goal

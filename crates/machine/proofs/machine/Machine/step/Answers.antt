@@ -1,5 +1,4 @@
-use Rattle.std.proofs.Common.{rules}
-use Rattle.machine.specs.Promise.{IsSound}
+use Rattle.machine.proofs.Prelude.{rules, IsSound}
 use Rattle.machine.proofs.StepLaws.{processor_there, step_appends, step_changes, step_faults, step_keeps}
 use Rattle.machine.proofs.machine.Machine.step.Goals as goal
 

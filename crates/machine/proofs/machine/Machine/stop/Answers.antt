@@ -1,6 +1,4 @@
-use Rattle.std.proofs.Common.{sym, subst}
-use Rattle.machine_tables.specs.Parts.{Parts}
-use Rattle.machine.specs.Promise.{IsSound}
+use Rattle.machine.proofs.Prelude.{sym, subst, Parts, IsSound}
 use Rattle.machine.proofs.RestLaws.{rest_sound}
 use Rattle.machine.proofs.machine.Machine.stop.Goals as goal
 

@@ -1,5 +1,4 @@
-use Rattle.std.proofs.Common.{rules}
-use Rattle.machine_model.specs.Reads.{next_command, process_at}
+use Rattle.machine.proofs.Prelude.{rules, next_command, process_at}
 use Rattle.machine.proofs.StepDone.{take_away_turn}
 use Rattle.machine.proofs.TakeCalls.{take_busy, take_doing, take_sound, takeable}
 use Rattle.machine.proofs.machine.Machine.take_away.Goals as goal

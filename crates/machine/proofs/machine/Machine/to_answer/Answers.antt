@@ -1,5 +1,4 @@
-use Rattle.std.proofs.Common.{List, ap, length, ◌∙◌, arith}
-use Rattle.book.specs.declared.entries.Entry.{Entry}
+use Rattle.machine.proofs.Prelude.{List, ap, length, ◌∙◌, arith, Entry}
 use Rattle.machine.proofs.AloneLaws.{count_room, may_answer}
 use Rattle.machine.proofs.machine.Machine.to_answer.Goals as goal
 

@@ -1,4 +1,4 @@
-use Rattle.std.proofs.Common.{rules}
+use Rattle.machine.proofs.Prelude.{rules}
 use Rattle.machine.proofs.LoopCalls.{gone_round, stalled_at, turned_by}
 use Rattle.machine.proofs.machine.Machine.turn.Goals as goal
 

@@ -1,8 +1,7 @@
-use Rattle.std.proofs.Common.{◌≤◌, arith}
+use Rattle.machine.proofs.Prelude.{◌≤◌, arith}
 use Rattle.machine.proofs.DriveCounts.{call_counts}
 use Rattle.machine.proofs.LossTold.{visited_tells}
-use Rattle.machine.proofs.VisitCalls.{frames_planned, over_owner, over_still, visit_done, visit_here, visit_sound}
-use Rattle.machine.proofs.VisitCalls.{visit_within, visited_adds}
+use Rattle.machine.proofs.VisitCalls.{frames_planned, over_owner, over_still, visit_done, visit_here, visit_sound, visit_within, visited_adds}
 use Rattle.machine.proofs.machine.Machine.visit.Goals as goal
 
 pub visit-visited-requires-clause-count : goal.visit-visited-requires-clause-count

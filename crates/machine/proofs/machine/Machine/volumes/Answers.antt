@@ -1,6 +1,4 @@
-use Rattle.std.proofs.Common.{◌∙◌, ap, length, map, sym}
-use Rattle.std.proofs.lemmas.List.{length-map}
-use Rattle.machine_model.specs.State.{Storage}
+use Rattle.machine.proofs.Prelude.{◌∙◌, ap, length, map, sym, length-map, Storage}
 use Rattle.machine.proofs.AccountLaws.{entries_taken, records_taken}
 use Rattle.machine.proofs.DiskLaws.{on_volumes, records_still, vtocs_still}
 use Rattle.machine.proofs.SizeLaws.{drive_size}

@@ -1,4 +1,4 @@
-use Rattle.std.proofs.Common.{◌∙◌}
+use Rattle.machine.proofs.Prelude.{◌∙◌}
 use Rattle.machine.proofs.DiskLaws.{records_still, vtocs_still}
 use Rattle.machine.proofs.machine.Machine.volumes_at_rest.Goals as goal
 

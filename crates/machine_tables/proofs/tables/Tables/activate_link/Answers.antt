@@ -1,4 +1,4 @@
-use Rattle.std.proofs.Common.{rules}
+use Rattle.machine_tables.proofs.Prelude.{rules}
 use Rattle.machine_tables.proofs.LookLaws.{link_superiors, link_there, link_victim}
 use Rattle.machine_tables.proofs.tables.Tables.activate_link.Goals as goal
 

@@ -1,10 +1,4 @@
-use Rattle.std.proofs.Common.{◌≡◌, ◌<◌, ℕ, List, length, get_or, ap, subst, ◌∙◌}
-use Rattle.accounts.specs.Maps.{AccountMaps}
-use Rattle.dir_tree.specs.Nodes.{chain_of}
-use Rattle.storage_ops.specs.Shown.{is_there}
-use Rattle.storage_ops.proofs.ChainDown.{chain_there}
-use Rattle.machine_model.specs.State.{Storage}
-use Rattle.machine_tables.specs.Parts.{Parts}
+use Rattle.machine_tables.proofs.Prelude.{◌≡◌, ◌<◌, ℕ, List, length, get_or, ap, subst, ◌∙◌, AccountMaps, chain_of, is_there, chain_there, Storage, Parts}
 use Rattle.machine_tables.proofs.tables.Tables.add_links.Goals as goal
 
 pub link-requires : goal.link-requires

@@ -1,5 +1,4 @@
-use Rattle.std.proofs.Common.{◌≡◌, map, take}
-use Rattle.storage_ops.specs.Connecting.{link_of}
+use Rattle.machine_tables.proofs.Prelude.{◌≡◌, map, take, link_of}
 use Rattle.machine_tables.proofs.tables.Tables.add_links.Given as goal
 
 abbrev pub invariant-loop-uid : goal.invariant-loop-uid

@@ -1,13 +1,5 @@
-use Rattle.std.proofs.Common.{◌≡◌, ◌∙◌, Some, ap, refl, rules, subst, sym}
-use Rattle.script.specs.Plans.{command_at}
-use Rattle.machine_model.specs.Reads.{frames_of_owner, next_command, run_at}
-use Rattle.machine_model.specs.Ready.{IsReadyFor}
-use Rattle.machine_model.specs.State.{Storage}
-use Rattle.machine_tables.specs.Committed.{effect_for}
-use Rattle.machine_tables.specs.Parts.{Parts, shown}
-use Rattle.machine_tables.specs.Ready.{IsApplicable}
-use Rattle.machine_tables.proofs.ApplyLaws.{applied_drives, applied_left, applied_reply, applied_shown, applied_store}
-use Rattle.machine_tables.proofs.ApplyLaws.{applies, ready_of}
+use Rattle.machine_tables.proofs.Prelude.{◌≡◌, ◌∙◌, Some, ap, refl, rules, subst, sym, command_at, frames_of_owner, next_command, run_at, IsReadyFor, Storage, effect_for, Parts, shown, IsApplicable}
+use Rattle.machine_tables.proofs.ApplyLaws.{applied_drives, applied_left, applied_reply, applied_shown, applied_store, applies, ready_of}
 use Rattle.machine_tables.proofs.PartLaws.{stored_is}
 use Rattle.machine_tables.proofs.tables.Tables.apply.Goals as goal
 

@@ -1,6 +1,4 @@
-use Rattle.std.proofs.Common.{◌∙◌}
-use Rattle.core_map.specs.CoreMap.{least_free_frame}
-use Rattle.machine_model.specs.Actions.{Start, into_frame}
+use Rattle.machine_tables.proofs.Prelude.{◌∙◌, least_free_frame, Start, into_frame}
 use Rattle.machine_tables.proofs.tables.Tables.begin_reading.Goals as goal
 
 pub returns-in-Some : goal.returns-in-Some

@@ -1,8 +1,4 @@
-use Rattle.std.proofs.Common.{List, ap, map, ◌∙◌}
-use Rattle.std.specs.List.{sum_by}
-use Rattle.machine_model.specs.Boot.{first_state, first_store}
-use Rattle.machine_model.specs.State.{Storage}
-use Rattle.machine_tables.specs.Parts.{first_words}
+use Rattle.machine_tables.proofs.Prelude.{List, ap, map, ◌∙◌, sum_by, first_state, first_store, Storage, first_words}
 use Rattle.machine_tables.proofs.FirstLaws.{says_boot, store_first}
 use Rattle.machine_tables.proofs.tables.Tables.boot.Goals as goal
 

@@ -1,10 +1,5 @@
-use Rattle.std.proofs.Common.{◌≡◌, Some, length, refl, subst, sym}
-use Rattle.active_segs.specs.Active.{IsActive}
-use Rattle.machine_model.specs.Reads.{next_command, run_at}
-use Rattle.machine_model.specs.State.{State}
-use Rattle.machine_tables.specs.Claimed.{HasItsSegment}
+use Rattle.machine_tables.proofs.Prelude.{◌≡◌, Some, length, refl, subst, sym, IsActive, next_command, run_at, State, HasItsSegment, command_planned}
 use Rattle.machine_tables.proofs.tables.Tables.claim.Goals as goal
-use Rattle.flat_model.proofs.ScriptLaws.{command_planned}
 
 pub returns-clause-active : goal.returns-clause-active
 returns-clause-active g c = λ needs.

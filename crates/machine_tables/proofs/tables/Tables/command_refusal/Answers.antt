@@ -1,6 +1,4 @@
-use Rattle.std.proofs.Common.{◌∙◌, ap, length}
-use Rattle.machine_model.specs.Reads.{flat_of}
-use Rattle.machine_tables.specs.Parts.{Parts}
+use Rattle.machine_tables.proofs.Prelude.{◌∙◌, ap, length, flat_of, Parts}
 use Rattle.machine_tables.proofs.InsideLaws.{inside_faithful, inside_shows}
 use Rattle.machine_tables.proofs.RangeLaws.{drive_each, more_volumes}
 use Rattle.machine_tables.proofs.RefusalLaws.{command_is}

@@ -1,4 +1,4 @@
-use Rattle.std.proofs.Common.{◌∙◌}
+use Rattle.machine_tables.proofs.Prelude.{◌∙◌}
 use Rattle.machine_tables.proofs.CommittedLaws.{committed_leaves, committed_stays}
 use Rattle.machine_tables.proofs.tables.Tables.commit.Goals as goal
 use Rattle.machine_tables.proofs.tables.Tables.commit.Goals.{then-ends, else-ends}

@@ -1,6 +1,4 @@
-use Rattle.std.proofs.Common.{ap, subst, sym}
-use Rattle.machine_model.specs.Keeps.{IsFaithful}
-use Rattle.machine_tables.specs.Parts.{Parts}
+use Rattle.machine_tables.proofs.Prelude.{ap, subst, sym, IsFaithful, Parts}
 use Rattle.machine_tables.proofs.tables.Tables.copy_page.Goals as goal
 
 pub returns-in-Ok-clause-shown : goal.returns-in-Ok-clause-shown

@@ -1,5 +1,4 @@
-use Rattle.std.proofs.Common.{length}
-use Rattle.machine_model.specs.Reads.{trailers_in}
+use Rattle.machine_tables.proofs.Prelude.{length, trailers_in}
 use Rattle.machine_tables.proofs.CutLaws.{CutsOn}
 use Rattle.machine_tables.proofs.PartLaws.{Going}
 use Rattle.machine_tables.proofs.tables.Tables.cut_trailers.Given as goal

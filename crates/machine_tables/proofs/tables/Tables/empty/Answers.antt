@@ -1,4 +1,4 @@
-use Rattle.std.proofs.Common.{arith}
+use Rattle.machine_tables.proofs.Prelude.{arith}
 use Rattle.machine_tables.proofs.tables.Tables.empty.Goals as goal
 
 pub take_segment-requires-clause-takes : goal.take_segment-requires-clause-takes

@@ -1,8 +1,4 @@
-use Rattle.std.proofs.Common.{◌≡◌, false, subst, ap, rules}
-use Rattle.std.specs.Prelude.{IfOk, OnErr}
-use Rattle.page_control.specs.Plain.{words_in}
-use Rattle.machine_model.specs.Jobs.{are_zeros, left_of}
-use Rattle.machine_tables.specs.Parts.{Parts}
+use Rattle.machine_tables.proofs.Prelude.{◌≡◌, false, subst, ap, rules, IfOk, OnErr, words_in, are_zeros, left_of, Parts}
 use Rattle.machine_tables.proofs.LeftLaws.{left_is, left_stays}
 use Rattle.machine_tables.proofs.ShownLaws.{left_shown}
 use Rattle.machine_tables.proofs.tables.Tables.empty_frame.Goals as goal

@@ -1,6 +1,4 @@
-use Rattle.std.proofs.Common.{◌∙◌}
-use Rattle.dir_tree.specs.Nodes.{chain_of}
-use Rattle.machine_model.specs.Actions.{EmptyVictim}
+use Rattle.machine_tables.proofs.Prelude.{◌∙◌, chain_of, EmptyVictim}
 use Rattle.machine_tables.proofs.ActiveLaws.{victim_read}
 use Rattle.machine_tables.proofs.tables.Tables.empty_victim.Goals as goal
 

@@ -1,4 +1,4 @@
-use Rattle.std.proofs.Common.{rules}
+use Rattle.machine_tables.proofs.Prelude.{rules}
 use Rattle.machine_tables.proofs.ChoiceLaws.{chosen_here}
 use Rattle.machine_tables.proofs.tables.Tables.evict.Goals as goal
 

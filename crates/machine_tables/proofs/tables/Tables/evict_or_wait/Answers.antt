@@ -1,4 +1,4 @@
-use Rattle.std.proofs.Common.{rules}
+use Rattle.machine_tables.proofs.Prelude.{rules}
 use Rattle.machine_tables.proofs.FrameLaws.{bound_goes, first_waits}
 use Rattle.machine_tables.proofs.tables.Tables.evict_or_wait.Goals as goal
 

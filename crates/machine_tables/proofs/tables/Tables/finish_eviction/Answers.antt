@@ -1,4 +1,4 @@
-use Rattle.std.proofs.Common.{rules}
+use Rattle.machine_tables.proofs.Prelude.{rules}
 use Rattle.machine_tables.proofs.FailedLaws.{failed_outcome}
 use Rattle.machine_tables.proofs.tables.Tables.finish_eviction.Goals as goal
 

@@ -1,11 +1,6 @@
-use Rattle.std.proofs.Common.{Option, ap, rules, sym, ℕ}
-use Rattle.dir_tree.specs.Nodes.{chain_of}
-use Rattle.machine_model.specs.Actions.{activate_first}
-use Rattle.machine_model.specs.State.{State}
-use Rattle.machine_model.proofs.ChainFacts.{chain_active}
+use Rattle.machine_tables.proofs.Prelude.{Option, ap, rules, sym, ℕ, chain_of, activate_first, State, chain_active, when_none}
 use Rattle.machine_tables.proofs.WholeLaws.{active_whole}
 use Rattle.machine_tables.proofs.tables.Tables.first_link.Goals as goal
-use Rattle.laws.proofs.Options.{when_none}
 
 pub returns-then-is_active-clause-first : goal.returns-then-is_active-clause-first
 returns-then-is_active-clause-first g c = λ k otherwise.

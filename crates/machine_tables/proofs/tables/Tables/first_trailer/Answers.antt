@@ -1,4 +1,4 @@
-use Rattle.std.proofs.Common.{rules}
+use Rattle.machine_tables.proofs.Prelude.{rules}
 use Rattle.machine_tables.proofs.CutLaws.{no_trailers, oldest_is}
 use Rattle.machine_tables.proofs.tables.Tables.first_trailer.Goals as goal
 

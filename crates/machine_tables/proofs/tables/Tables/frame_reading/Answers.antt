@@ -1,5 +1,4 @@
-use Rattle.std.proofs.Common.{◌∙◌, rules, sym}
-use Rattle.machine_tables.specs.Reading.{test_of}
+use Rattle.machine_tables.proofs.Prelude.{◌∙◌, rules, sym, test_of}
 use Rattle.machine_tables.proofs.ReadingLaws.{reading_is}
 use Rattle.machine_tables.proofs.tables.Tables.frame_reading.Goals as goal
 

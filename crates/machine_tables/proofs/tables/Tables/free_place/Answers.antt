@@ -1,4 +1,4 @@
-use Rattle.std.proofs.Common.{rules}
+use Rattle.machine_tables.proofs.Prelude.{rules}
 use Rattle.machine_tables.proofs.PoolLaws.{free_told}
 use Rattle.machine_tables.proofs.tables.Tables.free_place.Goals as goal
 

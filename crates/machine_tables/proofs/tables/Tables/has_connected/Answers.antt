@@ -1,5 +1,4 @@
-use Rattle.std.proofs.Common.{arith, rules, sym}
-use Rattle.machine_model.specs.Reads.{descriptor_of, is_connected}
+use Rattle.machine_tables.proofs.Prelude.{arith, rules, sym, descriptor_of, is_connected}
 use Rattle.machine_tables.proofs.AwayLaws.{none_next, no_pairs, some_pair}
 use Rattle.machine_tables.proofs.tables.Tables.has_connected.Goals as goal
 

@@ -1,5 +1,4 @@
-use Rattle.std.proofs.Common.{◌≡◌, ◌<◌, ℕ, false}
-use Rattle.machine_model.specs.Reads.{descriptor_of, is_connected}
+use Rattle.machine_tables.proofs.Prelude.{◌≡◌, ◌<◌, ℕ, false, descriptor_of, is_connected}
 use Rattle.machine_tables.proofs.tables.Tables.has_connected.Given as goal
 
 abbrev pub invariant-loop-number : goal.invariant-loop-number

@@ -1,4 +1,4 @@
-use Rattle.std.proofs.Common.{◌≡◌, ◌∙◌, false, rules}
+use Rattle.machine_tables.proofs.Prelude.{◌≡◌, ◌∙◌, false, rules}
 use Rattle.machine_tables.proofs.AwayLaws.{no_frames}
 use Rattle.machine_tables.proofs.tables.Tables.has_pages_from.Goals as goal
 

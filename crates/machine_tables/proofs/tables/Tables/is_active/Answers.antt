@@ -1,6 +1,4 @@
-use Rattle.std.proofs.Common.{rules}
-use Rattle.seg_control.specs.Control.{place_of}
-use Rattle.machine_model.proofs.ActiveSeen.{active_place}
+use Rattle.machine_tables.proofs.Prelude.{rules, place_of, active_place}
 use Rattle.machine_tables.proofs.tables.Tables.is_active.Goals as goal
 
 pub returns-clause-active : goal.returns-clause-active

@@ -1,4 +1,4 @@
-use Rattle.std.proofs.Common.{rules, sym}
+use Rattle.machine_tables.proofs.Prelude.{rules, sym}
 use Rattle.machine_tables.proofs.TookLaws.{bare_none, bare_pages, bare_trailers}
 use Rattle.machine_tables.proofs.tables.Tables.is_bare.Goals as goal
 

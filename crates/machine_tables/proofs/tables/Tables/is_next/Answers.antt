@@ -1,4 +1,4 @@
-use Rattle.std.proofs.Common.{sym, ◌∙◌}
+use Rattle.machine_tables.proofs.Prelude.{sym, ◌∙◌}
 use Rattle.machine_tables.proofs.WholeLaws.{next_first}
 use Rattle.machine_tables.proofs.tables.Tables.is_next.Goals as goal
 

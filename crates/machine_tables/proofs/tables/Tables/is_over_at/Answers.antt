@@ -1,4 +1,4 @@
-use Rattle.std.proofs.Common.{rules, sym}
+use Rattle.machine_tables.proofs.Prelude.{rules, sym}
 use Rattle.machine_tables.proofs.RuleLaws.{busy_goes_on}
 use Rattle.machine_tables.proofs.tables.Tables.is_over_at.Goals as goal
 

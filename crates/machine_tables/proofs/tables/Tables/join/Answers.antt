@@ -1,7 +1,4 @@
-use Rattle.std.proofs.Common.{ap, ◌∙◌}
-use Rattle.machine_model.specs.State.{Storage}
-use Rattle.machine_model.specs.Steps.{with_store}
-use Rattle.machine_tables.specs.Parts.{with_state}
+use Rattle.machine_tables.proofs.Prelude.{ap, ◌∙◌, Storage, with_store, with_state}
 use Rattle.machine_tables.proofs.JoinLaws.{free_to_go, joined_is, joined_place, must_join}
 use Rattle.machine_tables.proofs.tables.Tables.join.Goals as goal
 

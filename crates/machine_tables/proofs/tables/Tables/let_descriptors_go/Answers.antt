@@ -1,4 +1,4 @@
-use Rattle.std.proofs.Common.{rules}
+use Rattle.machine_tables.proofs.Prelude.{rules}
 use Rattle.machine_tables.proofs.BackLaws.{goes_next}
 use Rattle.machine_tables.proofs.JobLaws.{cut_smaller}
 use Rattle.machine_tables.proofs.PartLaws.{going}

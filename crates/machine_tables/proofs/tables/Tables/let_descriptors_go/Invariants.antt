@@ -1,5 +1,4 @@
-use Rattle.std.proofs.Common.{length}
-use Rattle.machine_model.specs.Reads.{cut_of_owner}
+use Rattle.machine_tables.proofs.Prelude.{length, cut_of_owner}
 use Rattle.machine_tables.proofs.BackLaws.{GoesOn}
 use Rattle.machine_tables.proofs.PartLaws.{Going}
 use Rattle.machine_tables.proofs.tables.Tables.let_descriptors_go.Given as goal

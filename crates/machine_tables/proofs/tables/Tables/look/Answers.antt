@@ -1,6 +1,4 @@
-use Rattle.std.proofs.Common.{rules}
-use Rattle.std.specs.Prelude.{IsSome}
-use Rattle.machine_model.specs.Reads.{cpu_at}
+use Rattle.machine_tables.proofs.Prelude.{rules, IsSome, cpu_at}
 use Rattle.machine_tables.proofs.tables.Tables.look.Goals as goal
 
 pub unreachable-requires : goal.unreachable-requires

@@ -1,7 +1,4 @@
-use Rattle.std.proofs.Common.{◌≡◌, ℕ, subst, sym}
-use Rattle.std.proofs.Common.{true}
-use Rattle.storage_ops.specs.Shown.{is_there}
-use Rattle.machine_model.specs.Actions.{Connect}
+use Rattle.machine_tables.proofs.Prelude.{◌≡◌, ℕ, subst, sym, true, is_there, Connect}
 use Rattle.machine_tables.proofs.ReachLaws.{segment_there}
 use Rattle.machine_tables.proofs.tables.Tables.look_at_fault.Goals as goal
 

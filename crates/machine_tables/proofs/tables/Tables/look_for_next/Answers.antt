@@ -1,4 +1,4 @@
-use Rattle.std.proofs.Common.{rules}
+use Rattle.machine_tables.proofs.Prelude.{rules}
 use Rattle.machine_tables.proofs.CommandLaws.{number_small}
 use Rattle.machine_tables.proofs.tables.Tables.look_for_next.Goals as goal
 

@@ -1,10 +1,4 @@
-use Rattle.std.proofs.Common.{◌≡◌, ◌<◌, ℕ, length, rules, subst, sym, true}
-use Rattle.std.specs.Prelude.{◌/◌}
-use Rattle.tree_model.specs.Trees.{has_segment}
-use Rattle.active_segs.specs.Active.{IsActive}
-use Rattle.seg_control.specs.Control.{table_of}
-use Rattle.machine_model.specs.Refusal.{uid_of_number}
-use Rattle.machine_model.specs.State.{State}
+use Rattle.machine_tables.proofs.Prelude.{◌≡◌, ◌<◌, ℕ, length, rules, subst, sym, true, ◌/◌, has_segment, IsActive, table_of, uid_of_number, State}
 use Rattle.machine_tables.proofs.ReachLaws.{connected_active, page_there, segment_is}
 use Rattle.machine_tables.proofs.tables.Tables.look_inside.Goals as goal
 

@@ -1,5 +1,4 @@
-use Rattle.machine_model.specs.Refusal.{uid_of_command}
-use Rattle.machine_model.specs.State.{State}
+use Rattle.machine_tables.proofs.Prelude.{uid_of_command, State}
 use Rattle.machine_tables.proofs.tables.Tables.look_to_change.Goals as goal
 
 pub returns-then-is_done_at_once : goal.returns-then-is_done_at_once

@@ -1,4 +1,4 @@
-use Rattle.std.proofs.Common.{◌∙◌}
+use Rattle.machine_tables.proofs.Prelude.{◌∙◌}
 use Rattle.machine_tables.proofs.ChangeLooks.{changes_else, changes_length, changes_truncate, truncate_there}
 use Rattle.machine_tables.proofs.tables.Tables.look_to_clear.Goals as goal
 

@@ -1,6 +1,4 @@
-use Rattle.std.proofs.Common.{◌∙◌}
-use Rattle.machine_model.specs.Actions.{descriptors_taken, first_taken, frames_taken, take_or_commit, what_taken}
-use Rattle.machine_model.specs.State.{Storage}
+use Rattle.machine_tables.proofs.Prelude.{◌∙◌, descriptors_taken, first_taken, frames_taken, take_or_commit, what_taken, Storage}
 use Rattle.machine_tables.proofs.tables.Tables.look_to_take.Goals as goal
 
 pub returns-in-None : goal.returns-in-None

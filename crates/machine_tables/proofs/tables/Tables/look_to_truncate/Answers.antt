@@ -1,8 +1,4 @@
-use Rattle.std.proofs.Common.{◌∙◌}
-use Rattle.seg_control.specs.Control.{place_of}
-use Rattle.machine_model.specs.Actions.{Action, look_to_take, with_cut_page}
-use Rattle.machine_model.specs.State.{Storage}
-use Rattle.machine_model.proofs.ActiveSeen.{active_place}
+use Rattle.machine_tables.proofs.Prelude.{◌∙◌, place_of, Action, look_to_take, with_cut_page, Storage, active_place}
 use Rattle.machine_tables.proofs.tables.Tables.look_to_truncate.Goals as goal
 
 pub returns-in-Some : goal.returns-in-Some

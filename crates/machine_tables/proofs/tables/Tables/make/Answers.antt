@@ -1,11 +1,4 @@
-use Rattle.std.proofs.Common.{◌≡◌, ℕ, Some, refl, ap, subst, sym, ◌∙◌}
-use Rattle.std.specs.Prelude.{◌/◌, ◌%◌}
-use Rattle.known_segs.specs.Known.{uid_of}
-use Rattle.seg_control.specs.Control.{kst_at}
-use Rattle.machine_model.specs.Reads.{flat_of}
-use Rattle.machine_model.specs.State.{State, Storage}
-use Rattle.machine_model.specs.Steps.{with_created, with_store}
-use Rattle.machine_tables.specs.Parts.{Parts, shown, with_state}
+use Rattle.machine_tables.proofs.Prelude.{◌≡◌, ℕ, Some, refl, ap, subst, sym, ◌∙◌, ◌/◌, ◌%◌, uid_of, kst_at, flat_of, State, Storage, with_created, with_store, Parts, shown, with_state}
 use Rattle.machine_tables.proofs.CreateLaws.{created_is, made_surely, stays}
 use Rattle.machine_tables.proofs.InsideLaws.{inside_shows}
 use Rattle.machine_tables.proofs.PartLaws.{stored_is}

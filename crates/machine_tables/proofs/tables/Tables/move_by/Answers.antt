@@ -1,6 +1,4 @@
-use Rattle.std.proofs.Common.{rules}
-use Rattle.processor.specs.declared.Cpu.{Cpu}
-use Rattle.machine_model.specs.Reads.{cpu_at}
+use Rattle.machine_tables.proofs.Prelude.{rules, Cpu, cpu_at}
 use Rattle.machine_tables.proofs.MoveLaws.{long_for, move_is}
 use Rattle.machine_tables.proofs.tables.Tables.move_by.Goals as goal
 

@@ -1,4 +1,4 @@
-use Rattle.std.proofs.Common.{rules}
+use Rattle.machine_tables.proofs.Prelude.{rules}
 use Rattle.machine_tables.proofs.CommandLaws.{if_some_then, ranges_of}
 use Rattle.machine_tables.proofs.tables.Tables.next_command.Goals as goal
 

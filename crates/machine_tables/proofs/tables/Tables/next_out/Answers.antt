@@ -1,6 +1,4 @@
-use Rattle.std.proofs.Common.{◌∙◌, ap, sym}
-use Rattle.page_control.specs.Tied.{is_out}
-use Rattle.seg_control.specs.Control.{table_of}
+use Rattle.machine_tables.proofs.Prelude.{◌∙◌, ap, sym, is_out, table_of}
 use Rattle.machine_tables.proofs.NextOut.{out_end, out_here, out_later}
 use Rattle.machine_tables.proofs.tables.Tables.next_out.Goals as goal
 

@@ -1,6 +1,4 @@
-use Rattle.std.proofs.Common.{◌≡◌}
-use Rattle.seg_control.specs.Control.{table_of}
-use Rattle.seg_control.specs.Moving.{next_out}
+use Rattle.machine_tables.proofs.Prelude.{◌≡◌, table_of, next_out}
 use Rattle.machine_tables.proofs.tables.Tables.next_out.Given as goal
 
 abbrev pub invariant-loop-page : goal.invariant-loop-page

@@ -1,5 +1,4 @@
-use Rattle.std.proofs.Common.{rules}
-use Rattle.machine_model.specs.Reads.{run_at}
+use Rattle.machine_tables.proofs.Prelude.{rules, run_at}
 use Rattle.machine_tables.proofs.CommandLaws.{next_number}
 use Rattle.machine_tables.proofs.tables.Tables.next_reference.Goals as goal
 

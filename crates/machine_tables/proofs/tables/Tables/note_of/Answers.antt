@@ -1,5 +1,4 @@
-use Rattle.std.proofs.Common.{◌<◌, length, rules, subst, sym}
-use Rattle.active_segs.specs.Active.{ActiveSegs}
+use Rattle.machine_tables.proofs.Prelude.{◌<◌, length, rules, subst, sym, ActiveSegs}
 use Rattle.machine_tables.proofs.LinkLaws.{leads_within}
 use Rattle.machine_tables.proofs.tables.Tables.note_of.Goals as goal
 

@@ -1,6 +1,4 @@
-use Rattle.std.proofs.Common.{◌∙◌, ap}
-use Rattle.machine_model.specs.Reads.{flat_of}
-use Rattle.machine_tables.specs.Parts.{Parts}
+use Rattle.machine_tables.proofs.Prelude.{◌∙◌, ap, flat_of, Parts}
 use Rattle.machine_tables.proofs.InsideLaws.{inside_shows}
 use Rattle.machine_tables.proofs.RefusalLaws.{outside_is}
 use Rattle.machine_tables.proofs.tables.Tables.outside_refusal.Goals as goal

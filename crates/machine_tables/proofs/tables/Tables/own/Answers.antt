@@ -1,4 +1,4 @@
-use Rattle.machine_model.specs.Reads.{cut_of_owner, frames_of_owner}
+use Rattle.machine_tables.proofs.Prelude.{cut_of_owner, frames_of_owner}
 use Rattle.machine_tables.proofs.RuleLaws.{moved_active, moved_short, owner_busy}
 use Rattle.machine_tables.proofs.tables.Tables.own.Goals as goal
 

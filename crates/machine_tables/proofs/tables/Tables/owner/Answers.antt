@@ -1,6 +1,4 @@
-use Rattle.std.proofs.Common.{refl}
-use Rattle.machine_model.specs.Reads.{cut_of_owner, frames_of_owner}
-use Rattle.machine_tables.specs.Owned.{owner_by}
+use Rattle.machine_tables.proofs.Prelude.{refl, cut_of_owner, frames_of_owner, owner_by}
 use Rattle.machine_tables.proofs.tables.Tables.owner.Goals as goal
 
 pub returns-in-Some-clause-some : goal.returns-in-Some-clause-some

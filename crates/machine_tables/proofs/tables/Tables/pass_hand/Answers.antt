@@ -1,7 +1,4 @@
-use Rattle.std.proofs.Common.{ap, ◌∙◌}
-use Rattle.machine_model.specs.State.{Storage}
-use Rattle.machine_model.specs.Steps.{with_store}
-use Rattle.machine_tables.specs.Parts.{with_state}
+use Rattle.machine_tables.proofs.Prelude.{ap, ◌∙◌, Storage, with_store, with_state}
 use Rattle.machine_tables.proofs.JoinLaws.{must_pass, off_to_go, passed_is}
 use Rattle.machine_tables.proofs.tables.Tables.pass_hand.Goals as goal
 

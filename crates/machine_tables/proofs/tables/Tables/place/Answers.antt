@@ -1,4 +1,4 @@
-use Rattle.std.proofs.Common.{rules, sym}
+use Rattle.machine_tables.proofs.Prelude.{rules, sym}
 use Rattle.machine_tables.proofs.LinkLaws.{place_found}
 use Rattle.machine_tables.proofs.tables.Tables.place.Goals as goal
 

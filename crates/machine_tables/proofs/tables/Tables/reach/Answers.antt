@@ -1,4 +1,4 @@
-use Rattle.std.proofs.Common.{rules}
+use Rattle.machine_tables.proofs.Prelude.{rules}
 use Rattle.machine_tables.proofs.PageLaws.{reached}
 use Rattle.machine_tables.proofs.ShownLaws.{not_through, through_shown}
 use Rattle.machine_tables.proofs.tables.Tables.reach.Goals as goal

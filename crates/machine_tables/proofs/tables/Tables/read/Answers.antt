@@ -1,5 +1,4 @@
-use Rattle.std.proofs.Common.{ap}
-use Rattle.machine_tables.specs.Parts.{Parts}
+use Rattle.machine_tables.proofs.Prelude.{ap, Parts}
 use Rattle.machine_tables.proofs.ShownLaws.{shown_by}
 use Rattle.machine_tables.proofs.tables.Tables.read.Goals as goal
 

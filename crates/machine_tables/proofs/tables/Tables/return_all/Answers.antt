@@ -1,4 +1,4 @@
-use Rattle.std.proofs.Common.{refl}
+use Rattle.machine_tables.proofs.Prelude.{refl}
 use Rattle.machine_tables.proofs.LeftLaws.{relink_after}
 use Rattle.machine_tables.proofs.tables.Tables.return_all.Goals as goal
 

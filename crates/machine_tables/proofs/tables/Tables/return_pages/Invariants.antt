@@ -1,5 +1,4 @@
-use Rattle.std.proofs.Common.{length}
-use Rattle.machine_model.specs.Reads.{frames_of_owner}
+use Rattle.machine_tables.proofs.Prelude.{length, frames_of_owner}
 use Rattle.machine_tables.proofs.BackLaws.{BacksOn}
 use Rattle.machine_tables.proofs.PartLaws.{Going}
 use Rattle.machine_tables.proofs.tables.Tables.return_pages.Given as goal

@@ -1,4 +1,4 @@
-use Rattle.std.proofs.Common.{rules}
+use Rattle.machine_tables.proofs.Prelude.{rules}
 use Rattle.machine_tables.proofs.RightLaws.{right_is}
 use Rattle.machine_tables.proofs.tables.Tables.right.Goals as goal
 

@@ -1,7 +1,4 @@
-use Rattle.std.proofs.Common.{ap, sym, ◌∙◌}
-use Rattle.accounts.specs.Maps.{AccountMaps}
-use Rattle.tree_model.specs.Tree.{node_in}
-use Rattle.machine_model.specs.Reads.{superior_of_node}
+use Rattle.machine_tables.proofs.Prelude.{ap, sym, ◌∙◌, AccountMaps, node_in, superior_of_node}
 use Rattle.machine_tables.proofs.tables.Tables.superior.Goals as goal
 
 pub returns-in-Some : goal.returns-in-Some

@@ -1,9 +1,4 @@
-use Rattle.std.proofs.Common.{List, Option, subst, sym}
-use Rattle.active_segs.specs.declared.Entry.{Entry}
-use Rattle.active_segs.specs.Active.{IsActive}
-use Rattle.machine_model.specs.Actions.{frames_taken}
-use Rattle.machine_model.specs.State.{State}
-use Rattle.machine_model.specs.declared.Aim.TheVariants.{Committing}
+use Rattle.machine_tables.proofs.Prelude.{List, Option, subst, sym, Entry, IsActive, frames_taken, State, Committing}
 use Rattle.machine_tables.proofs.ClaimLaws.{claim_after, claim_is}
 use Rattle.machine_tables.proofs.PartLaws.{state_of}
 use Rattle.machine_tables.proofs.TookLaws.{entries_still}

@@ -1,7 +1,4 @@
-use Rattle.std.proofs.Common.{◌≡◌, refl, rules, subst, sym}
-use Rattle.machine_model.specs.Shutdown.{page_taken}
-use Rattle.machine_tables.specs.Parts.{Parts, with_state}
-use Rattle.machine_model.specs.Returned.{IsLeaving}
+use Rattle.machine_tables.proofs.Prelude.{◌≡◌, refl, rules, subst, sym, page_taken, Parts, with_state, IsLeaving}
 use Rattle.machine_tables.proofs.ChoiceLaws.{chosen_here}
 use Rattle.machine_tables.proofs.VisitLaws.{taken_leaving}
 use Rattle.machine_tables.proofs.tables.Tables.take_out.Goals as goal

@@ -1,4 +1,4 @@
-use Rattle.std.proofs.Common.{◌≡◌, ◌<◌, ◌≤◌, ℕ, arith}
+use Rattle.machine_tables.proofs.Prelude.{◌≡◌, ◌<◌, ◌≤◌, ℕ, arith}
 use Rattle.machine_tables.proofs.PartLaws.{rest_end, rest_next, state_of}
 use Rattle.machine_tables.proofs.TakeLaws.{here_few, takes_end, takes_next}
 use Rattle.machine_tables.proofs.tables.Tables.take_pages.Goals as goal

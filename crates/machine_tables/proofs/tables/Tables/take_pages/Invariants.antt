@@ -1,5 +1,4 @@
-use Rattle.std.proofs.Common.{◌≡◌}
-use Rattle.machine_tables.specs.Parts.{with_state}
+use Rattle.machine_tables.proofs.Prelude.{◌≡◌, with_state}
 use Rattle.machine_tables.proofs.TakeLaws.{TakesOn}
 use Rattle.machine_tables.proofs.tables.Tables.take_pages.Given as goal
 

@@ -1,7 +1,4 @@
-use Rattle.std.proofs.Common.{rules}
-use Rattle.assoc_mem.specs.declared.What.TheVariants.{Seg}
-use Rattle.machine_model.specs.declared.Aim.TheVariants.{Deactivating}
-use Rattle.machine_model.specs.Reads.{frames_from}
+use Rattle.machine_tables.proofs.Prelude.{rules, Seg, Deactivating, frames_from}
 use Rattle.machine_tables.proofs.PartLaws.{state_of}
 use Rattle.machine_tables.proofs.TookLaws.{after_pages, took_is}
 use Rattle.machine_tables.proofs.tables.Tables.take_segment.Goals as goal

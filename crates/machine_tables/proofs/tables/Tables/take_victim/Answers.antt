@@ -1,9 +1,4 @@
-use Rattle.std.proofs.Common.{◌≡◌, true, subst, sym}
-use Rattle.dir_tree.specs.Nodes.{chain_of}
-use Rattle.machine_model.specs.Reads.{frames_from, trailers_in}
-use Rattle.machine_tables.specs.Activated.{wanted_pool}
-use Rattle.machine_tables.specs.Parts.{Parts}
-use Rattle.machine_tables.specs.Taken.{IsEmptied, is_bare}
+use Rattle.machine_tables.proofs.Prelude.{◌≡◌, true, subst, sym, chain_of, frames_from, trailers_in, wanted_pool, Parts, IsEmptied, is_bare}
 use Rattle.machine_tables.proofs.JoinLaws.{bare_after}
 use Rattle.machine_tables.proofs.tables.Tables.take_victim.Goals as goal
 

@@ -1,4 +1,4 @@
-use Rattle.std.proofs.Common.{rules}
+use Rattle.machine_tables.proofs.Prelude.{rules}
 use Rattle.machine_tables.proofs.ReadyLaws.{room_for}
 use Rattle.machine_tables.proofs.tables.Tables.tell.Goals as goal
 

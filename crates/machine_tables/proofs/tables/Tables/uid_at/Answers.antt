@@ -1,8 +1,4 @@
-use Rattle.std.proofs.Common.{ap, ◌∙◌}
-use Rattle.accounts.specs.Maps.{AccountMaps}
-use Rattle.flat_model.specs.Branches.{node_at}
-use Rattle.machine_model.specs.Refusal.{uid_of_node}
-use Rattle.machine_tables.specs.Parts.{Parts}
+use Rattle.machine_tables.proofs.Prelude.{ap, ◌∙◌, AccountMaps, node_at, uid_of_node, Parts}
 use Rattle.machine_tables.proofs.AboutLaws.{path_fails, path_leads}
 use Rattle.machine_tables.proofs.tables.Tables.uid_at.Goals as goal
 

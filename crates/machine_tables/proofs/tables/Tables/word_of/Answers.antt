@@ -1,4 +1,4 @@
-use Rattle.std.proofs.Common.{rules}
+use Rattle.machine_tables.proofs.Prelude.{rules}
 use Rattle.machine_tables.proofs.LinkLaws.{bound_in}
 use Rattle.machine_tables.proofs.tables.Tables.word_of.Goals as goal
 

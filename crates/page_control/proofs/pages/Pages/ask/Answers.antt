@@ -1,5 +1,4 @@
-use Rattle.std.proofs.Common.{rules}
-use Rattle.page_control.specs.Plain.{plain}
+use Rattle.page_control.proofs.Prelude.{rules, plain}
 use Rattle.page_control.proofs.Homes.{asks}
 use Rattle.page_control.proofs.pages.Pages.ask.Goals as goal
 

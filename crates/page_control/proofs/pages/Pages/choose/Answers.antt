@@ -1,5 +1,4 @@
-use Rattle.std.proofs.Common.{rules}
-use Rattle.page_control.specs.Plain.{plain}
+use Rattle.page_control.proofs.Prelude.{rules, plain}
 use Rattle.page_control.proofs.Pictures.{picture_by}
 use Rattle.page_control.proofs.Turns.{bindings_chosen}
 use Rattle.page_control.proofs.Marks.{marks_chosen, ties_marked}

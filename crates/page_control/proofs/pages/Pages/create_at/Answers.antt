@@ -1,5 +1,4 @@
-use Rattle.std.proofs.Common.{arith}
-use Rattle.std.proofs.lemmas.Grind.{common_steps}
+use Rattle.page_control.proofs.Prelude.{arith, common_steps}
 use Rattle.page_control.proofs.Facts.{page_made}
 use Rattle.page_control.proofs.pages.Pages.create_at.Goals as goal
 

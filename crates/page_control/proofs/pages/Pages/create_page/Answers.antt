@@ -1,8 +1,6 @@
-use Rattle.std.proofs.Common.{rules}
-use Rattle.page_control.specs.Plain.{plain}
+use Rattle.page_control.proofs.Prelude.{rules, plain}
 use Rattle.page_control.proofs.Facts.{tied_volume}
-use Rattle.page_control.proofs.Calls.{Creates, tie_created, others_of_created, words_created, stored_created}
-use Rattle.page_control.proofs.Calls.{bound_created, starts_created, taken_created, counts_of_created}
+use Rattle.page_control.proofs.Calls.{Creates, tie_created, others_of_created, words_created, stored_created, bound_created, starts_created, taken_created, counts_of_created}
 use Rattle.page_control.proofs.pages.Pages.create_page.Goals as goal
 
 -- what it was called with, and what its steps left

@@ -1,5 +1,4 @@
-use Rattle.std.proofs.Common.{arith}
-use Rattle.std.proofs.lemmas.Grind.{common_steps}
+use Rattle.page_control.proofs.Prelude.{arith, common_steps}
 use Rattle.page_control.proofs.Facts.{bindings_referred}
 use Rattle.page_control.proofs.pages.Pages.cut_at.Goals as goal
 

@@ -1,4 +1,4 @@
-use Rattle.std.proofs.Common.{rules}
+use Rattle.page_control.proofs.Prelude.{rules}
 use Rattle.page_control.proofs.Marks.{written}
 use Rattle.page_control.proofs.pages.Pages.cut_from.Goals as goal
 

@@ -1,8 +1,5 @@
-use Rattle.std.proofs.lemmas.Grind.{common_steps}
-use Rattle.page_control.proofs.Facts.{page_dropped}
-use Rattle.std.proofs.Common.{◌∙◌, arith, ap, sym, Some}
-use Rattle.page_control.specs.Plain.{plain}
-use Rattle.page_control.proofs.Facts.{tied_volume, tied_filed}
+use Rattle.page_control.proofs.Prelude.{common_steps, ◌∙◌, arith, ap, sym, Some, plain}
+use Rattle.page_control.proofs.Facts.{page_dropped, tied_volume, tied_filed}
 use Rattle.page_control.proofs.Calls.{stored_away}
 use Rattle.page_control.proofs.pages.Pages.drop_at.Goals as goal
 

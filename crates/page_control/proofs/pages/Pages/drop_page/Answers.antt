@@ -1,7 +1,5 @@
-use Rattle.std.proofs.Common.{rules}
-use Rattle.page_control.specs.Plain.{plain, uid_of_home}
-use Rattle.page_control.proofs.Calls.{Drops, tie_dropped, others_of_dropped, words_dropped, stored_dropped}
-use Rattle.page_control.proofs.Calls.{starts_dropped, taken_dropped, counts_of_dropped}
+use Rattle.page_control.proofs.Prelude.{rules, plain, uid_of_home}
+use Rattle.page_control.proofs.Calls.{Drops, tie_dropped, others_of_dropped, words_dropped, stored_dropped, starts_dropped, taken_dropped, counts_of_dropped}
 use Rattle.page_control.proofs.pages.Pages.drop_page.Goals as goal
 
 -- what it was called with, and what its steps left

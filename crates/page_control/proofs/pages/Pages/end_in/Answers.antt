@@ -1,7 +1,5 @@
-use Rattle.std.proofs.Common.{rules}
-use Rattle.page_control.specs.Plain.{plain}
-use Rattle.page_control.proofs.Calls.{Reads, tie_read, others_of_read, words_of_read, bound_read, lost_read}
-use Rattle.page_control.proofs.Calls.{starts_read, counts_of_read}
+use Rattle.page_control.proofs.Prelude.{rules, plain}
+use Rattle.page_control.proofs.Calls.{Reads, tie_read, others_of_read, words_of_read, bound_read, lost_read, starts_read, counts_of_read}
 use Rattle.page_control.proofs.pages.Pages.end_in.Goals as goal
 
 -- what it was called with, and what its steps left

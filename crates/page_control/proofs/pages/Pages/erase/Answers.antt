@@ -1,7 +1,5 @@
-use Rattle.page_control.specs.Plain.{Plain, plain}
-use Rattle.std.proofs.Common.{ap}
-use Rattle.page_control.proofs.Erasing.{uid_erased, uids_erased, maps_erased, stored_erased, zeros_erased}
-use Rattle.page_control.proofs.Erasing.{words_erased, ties_erased}
+use Rattle.page_control.proofs.Prelude.{Plain, plain, ap}
+use Rattle.page_control.proofs.Erasing.{uid_erased, uids_erased, maps_erased, stored_erased, zeros_erased, words_erased, ties_erased}
 use Rattle.page_control.proofs.Counting.{used_erased, taken_erased}
 use Rattle.page_control.proofs.pages.Pages.erase.Goals as goal
 

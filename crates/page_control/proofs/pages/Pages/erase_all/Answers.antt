@@ -1,7 +1,5 @@
-use Rattle.std.proofs.Common.{arith}
-use Rattle.std.proofs.lemmas.Grind.{common_steps}
+use Rattle.page_control.proofs.Prelude.{arith, common_steps, refl, rules}
 use Rattle.page_control.proofs.Facts.{home_used}
-use Rattle.std.proofs.Common.{refl, rules}
 use Rattle.page_control.proofs.Erasing.{ended, names_same, names_none, all_erased, filed_erased, count_end}
 use Rattle.page_control.proofs.pages.Pages.erase_all.Goals as goal
 

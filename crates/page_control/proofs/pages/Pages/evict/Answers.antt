@@ -1,9 +1,5 @@
-use Rattle.std.proofs.Common.{rules}
-use Rattle.core_map.specs.CoreMap.{frame_at}
-use Rattle.page_control.specs.Plain.{plain, number_in}
-use Rattle.page_control.specs.Tied.{uid_in}
-use Rattle.page_control.proofs.Calls.{Evicts, tie_left, others_left, words_of_left, stored_left, freed_left}
-use Rattle.page_control.proofs.Calls.{starts_left, taken_left, counts_left}
+use Rattle.page_control.proofs.Prelude.{rules, frame_at, plain, number_in, uid_in}
+use Rattle.page_control.proofs.Calls.{Evicts, tie_left, others_left, words_of_left, stored_left, freed_left, starts_left, taken_left, counts_left}
 use Rattle.page_control.proofs.pages.Pages.evict.Goals as goal
 
 -- what it was called with, and what its steps left

@@ -1,4 +1,4 @@
-use Rattle.page_control.specs.Plain.{plain}
+use Rattle.page_control.proofs.Prelude.{plain}
 use Rattle.page_control.proofs.Looks.{frame_named, words_named}
 use Rattle.page_control.proofs.pages.Pages.frames.Goals as goal
 

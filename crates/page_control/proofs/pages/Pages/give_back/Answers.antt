@@ -1,10 +1,6 @@
-use Rattle.std.proofs.Common.{arith}
-use Rattle.std.proofs.lemmas.Grind.{common_steps}
-use Rattle.std.proofs.Common.{rules}
-use Rattle.page_control.specs.Plain.{plain, filed}
+use Rattle.page_control.proofs.Prelude.{arith, common_steps, rules, plain, filed, some_unwrapped}
 use Rattle.page_control.proofs.Erasing.{part_some}
 use Rattle.page_control.proofs.pages.Pages.give_back.Goals as goal
-use Rattle.laws.proofs.Options.{some_unwrapped}
 
 pub returns-in-Some-clause-part : goal.returns-in-Some-clause-part
 returns-in-Some-clause-part g c = λ old uid part.

@@ -1,5 +1,4 @@
-use Rattle.std.proofs.Common.{rules}
-use Rattle.page_control.specs.Plain.{plain, uid_of_home}
+use Rattle.page_control.proofs.Prelude.{rules, plain, uid_of_home}
 use Rattle.page_control.proofs.Erasing.{part_empty}
 use Rattle.page_control.proofs.pages.Pages.give_back_all.Goals as goal
 

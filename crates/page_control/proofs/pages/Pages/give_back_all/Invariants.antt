@@ -1,6 +1,4 @@
-use Rattle.std.proofs.Common.{◌≡◌}
-use Rattle.page_control.specs.Plain.{plain, uid_of_home}
-use Rattle.page_control.specs.Erasing.{IsPartErased}
+use Rattle.page_control.proofs.Prelude.{◌≡◌, plain, uid_of_home, IsPartErased}
 use Rattle.page_control.proofs.pages.Pages.give_back_all.Given as goal
 
 abbrev pub invariant-loop-p : goal.invariant-loop-p

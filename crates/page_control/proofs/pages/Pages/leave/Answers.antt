@@ -1,9 +1,5 @@
-use Rattle.std.proofs.lemmas.Grind.{common_steps}
-use Rattle.page_control.proofs.Facts.{page_leaves}
-use Rattle.std.proofs.Common.{rules, arith, ap, refl, inl, inr}
-use Rattle.page_control.specs.Plain.{plain}
-use Rattle.page_control.specs.Tied.{has_record}
-use Rattle.page_control.proofs.Facts.{tied_volume, tied_filed, leaving_within}
+use Rattle.page_control.proofs.Prelude.{common_steps, rules, arith, ap, refl, inl, inr, plain, has_record}
+use Rattle.page_control.proofs.Facts.{page_leaves, tied_volume, tied_filed, leaving_within}
 use Rattle.page_control.proofs.Calls.{not_zero}
 use Rattle.page_control.proofs.pages.Pages.leave.Goals as goal
 

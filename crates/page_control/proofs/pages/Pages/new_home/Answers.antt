@@ -1,8 +1,6 @@
-use Rattle.std.proofs.Common.{rules}
+use Rattle.page_control.proofs.Prelude.{rules}
 use Rattle.page_control.proofs.Facts.{plain_volume}
-use Rattle.page_control.proofs.Homes.{maps_asked, home_asked, homes_asked, uids_asked, filed_asked, stored_asked}
-use Rattle.page_control.proofs.Homes.{words_asked, ties_asked, tie_asked}
-use Rattle.page_control.proofs.Homes.{used_asked, zeros_asked}
+use Rattle.page_control.proofs.Homes.{maps_asked, home_asked, homes_asked, uids_asked, filed_asked, stored_asked, words_asked, ties_asked, tie_asked, used_asked, zeros_asked}
 use Rattle.page_control.proofs.pages.Pages.new_home.Goals as goal
 
 pub returns : goal.returns

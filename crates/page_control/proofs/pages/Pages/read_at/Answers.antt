@@ -1,10 +1,7 @@
-use Rattle.std.proofs.Common.{◌≡◌, ◌<◌, rules, arith, refl, length}
-use Rattle.std.proofs.lemmas.Grind.{common_steps}
-use Rattle.page_control.specs.Plain.{plain, record_of, flags_of}
+use Rattle.page_control.proofs.Prelude.{◌≡◌, ◌<◌, rules, arith, refl, length, common_steps, plain, record_of, flags_of, flag_within}
 use Rattle.page_control.proofs.Facts.{tied_volume}
 use Rattle.page_control.proofs.Calls.{out_record}
 use Rattle.page_control.proofs.pages.Pages.read_at.Goals as goal
-use Rattle.laws.proofs.Places.{flag_within}
 
 pub size-requires : goal.size-requires
 size-requires g c =

@@ -1,7 +1,5 @@
-use Rattle.std.proofs.Common.{rules, ◌≡◌, ◌<◌, length, arith}
-use Rattle.page_control.specs.Plain.{plain, flags_of, record_of}
+use Rattle.page_control.proofs.Prelude.{rules, ◌≡◌, ◌<◌, length, arith, plain, flags_of, record_of, flag_within}
 use Rattle.page_control.proofs.pages.Pages.record_in.Goals as goal
-use Rattle.laws.proofs.Places.{flag_within}
 
 pub prove-unreachable-requires : goal.prove-unreachable-requires
 prove-unreachable-requires g c =

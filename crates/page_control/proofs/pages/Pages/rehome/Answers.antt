@@ -1,7 +1,5 @@
-use Rattle.std.proofs.Common.{ap}
-use Rattle.page_control.specs.Plain.{plain}
-use Rattle.page_control.proofs.Moved.{Rehomes, size_rehomed, word_rehomed, tie_moved, page_moved, words_same, ties_same}
-use Rattle.page_control.proofs.Moved.{bindings_same, reads_same, table_now, map_now}
+use Rattle.page_control.proofs.Prelude.{ap, plain}
+use Rattle.page_control.proofs.Moved.{Rehomes, size_rehomed, word_rehomed, tie_moved, page_moved, words_same, ties_same, bindings_same, reads_same, table_now, map_now}
 use Rattle.page_control.proofs.pages.Pages.rehome.Goals as goal
 
 -- what its steps left

@@ -1,5 +1,4 @@
-use Rattle.std.proofs.Common.{arith}
-use Rattle.std.proofs.lemmas.Grind.{common_steps}
+use Rattle.page_control.proofs.Prelude.{arith, common_steps}
 use Rattle.page_control.proofs.pages.Pages.save.Goals as goal
 
 pub returns-in_ok-write_page-clause-ok : goal.returns-in_ok-write_page-clause-ok

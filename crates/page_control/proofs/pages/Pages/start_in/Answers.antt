@@ -1,7 +1,4 @@
-use Rattle.std.proofs.Common.{rules, ap}
-use Rattle.core_map.specs.CoreMap.{bound_page}
-use Rattle.core_map.specs.declared.Frame.TheVariants.{Started}
-use Rattle.page_control.specs.Plain.{plain}
+use Rattle.page_control.proofs.Prelude.{rules, ap, bound_page, Started, plain}
 use Rattle.page_control.proofs.Facts.{bindings_started}
 use Rattle.page_control.proofs.Marks.{marks_moved, ties_marked}
 use Rattle.page_control.proofs.pages.Pages.start_in.Goals as goal

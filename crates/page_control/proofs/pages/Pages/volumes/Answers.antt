@@ -1,4 +1,4 @@
-use Rattle.page_control.specs.Plain.{plain}
+use Rattle.page_control.proofs.Prelude.{plain}
 use Rattle.page_control.proofs.Pictures.{shown_out}
 use Rattle.page_control.proofs.pages.Pages.volumes.Goals as goal
 

@@ -1,5 +1,4 @@
-use Rattle.std.proofs.Common.{refl, ap}
-use Rattle.page_control.specs.Plain.{Paging, plain, with_volumes}
+use Rattle.page_control.proofs.Prelude.{refl, ap, Paging, plain, with_volumes}
 use Rattle.page_control.proofs.Moved.{words_of_home, tie_of_home}
 use Rattle.page_control.proofs.pages.Pages.volumes_mut.Goals as goal
 

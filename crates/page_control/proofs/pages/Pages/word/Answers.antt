@@ -1,7 +1,4 @@
-use Rattle.std.proofs.Common.{arith}
-use Rattle.std.proofs.lemmas.Grind.{common_steps}
-use Rattle.std.proofs.Common.{rules}
-use Rattle.page_control.specs.Plain.{plain}
+use Rattle.page_control.proofs.Prelude.{arith, common_steps, rules, plain}
 use Rattle.page_control.proofs.Facts.{bindings_referred}
 use Rattle.page_control.proofs.Marks.{marks_read, ties_marked}
 use Rattle.page_control.proofs.pages.Pages.word.Goals as goal

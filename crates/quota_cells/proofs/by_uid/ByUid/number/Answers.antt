@@ -1,6 +1,4 @@
-use Rattle.std.proofs.Common.{◌≡◌, ◌≤◌, ◌∙◌, ℕ, List, length, get_or, ap, sym, arith}
-use Rattle.std.proofs.lemmas.Grind.{common_steps}
-use Rattle.std.proofs.lemmas.List.{get_or_past}
+use Rattle.quota_cells.proofs.Prelude.{◌≡◌, ◌≤◌, ◌∙◌, ℕ, List, length, get_or, ap, sym, arith, common_steps, get_or_past}
 use Rattle.quota_cells.proofs.PadLaws.{padded_read}
 use Rattle.quota_cells.proofs.by_uid.ByUid.number.Goals as goal
 

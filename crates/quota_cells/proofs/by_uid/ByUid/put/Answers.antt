@@ -1,6 +1,4 @@
-use Rattle.std.proofs.Common.{◌<◌, ◌≤◌, ◌∙◌, ℕ, List, length, set, ap, sym, arith}
-use Rattle.std.proofs.lemmas.Grind.{common_steps}
-use Rattle.quota_cells.specs.Tables.{padded}
+use Rattle.quota_cells.proofs.Prelude.{◌<◌, ◌≤◌, ◌∙◌, ℕ, List, length, set, ap, sym, arith, common_steps, padded}
 use Rattle.quota_cells.proofs.PadLaws.{padded_long, padded_put, padded_set}
 use Rattle.quota_cells.proofs.by_uid.ByUid.put.Goals as goal
 

@@ -1,6 +1,4 @@
-use Rattle.std.proofs.Common.{◌≡◌, drop}
-use Rattle.tree_model.specs.Tree.{account}
-use Rattle.quota_cells.specs.Cells.{quota_in}
+use Rattle.quota_cells.proofs.Prelude.{◌≡◌, drop, account, quota_in}
 use Rattle.quota_cells.proofs.directories.Directories.account.Given as goal
 
 abbrev pub invariant-loop-directory : goal.invariant-loop-directory

@@ -1,7 +1,4 @@
-use Rattle.std.proofs.Common.{◌≡◌, false, sym, ◌∙◌}
-use Rattle.quota_cells.specs.Accounts.{has}
-use Rattle.quota_cells.specs.Cells.{CellMaps}
-use Rattle.quota_cells.specs.Laws.{look_absent}
+use Rattle.quota_cells.proofs.Prelude.{◌≡◌, false, sym, ◌∙◌, has, CellMaps, look_absent}
 use Rattle.quota_cells.proofs.directories.Directories.cell.Goals as goal
 
 pub returns-then-not-has : goal.returns-then-not-has

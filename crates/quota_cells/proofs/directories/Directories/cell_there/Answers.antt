@@ -1,8 +1,4 @@
-use Rattle.std.proofs.Common.{◌≡◌, true, get_or, sym, ap, subst, ◌∙◌}
-use Rattle.quota_cells.specs.Accounts.{has, look}
-use Rattle.quota_cells.specs.Cells.{CellMaps}
-use Rattle.quota_cells.specs.Columns.{NumberMap, beside}
-use Rattle.quota_cells.specs.Moves.{cell_in}
+use Rattle.quota_cells.proofs.Prelude.{◌≡◌, true, get_or, sym, ap, subst, ◌∙◌, has, look, CellMaps, NumberMap, beside, cell_in}
 use Rattle.quota_cells.proofs.TableLaws.{look_beside}
 use Rattle.quota_cells.proofs.directories.Directories.cell_there.Goals as goal
 

@@ -1,11 +1,4 @@
-use Rattle.std.proofs.Common.{◌≡◌, ℕ, ◌+◌, drop, sym, ap, subst, ◌∙◌, arith}
-use Rattle.std.proofs.lemmas.List.{drop_all}
-use Rattle.quota_cells.specs.Accounts.{with_value}
-use Rattle.quota_cells.specs.declared.directories.Cell.{Cell}
-use Rattle.quota_cells.specs.declared.directories.Pages.{Pages}
-use Rattle.quota_cells.specs.Cells.{CellMaps, load_in, with_loads}
-use Rattle.quota_cells.specs.Columns.{HasRoom, counted_on}
-use Rattle.quota_cells.specs.Moves.{cell_in}
+use Rattle.quota_cells.proofs.Prelude.{◌≡◌, ℕ, ◌+◌, drop, sym, ap, subst, ◌∙◌, arith, drop_all, with_value, Cell, Pages, CellMaps, load_in, with_loads, HasRoom, counted_on, cell_in}
 use Rattle.quota_cells.proofs.RowLaws.{Walks, load_ends, load_fits, load_next, walk_done, walk_there}
 use Rattle.quota_cells.proofs.directories.Directories.count.Goals as goal
 

@@ -1,5 +1,4 @@
-use Rattle.std.proofs.Common.{drop}
-use Rattle.quota_cells.specs.Columns.{counted_on, HasRoom}
+use Rattle.quota_cells.proofs.Prelude.{drop, counted_on, HasRoom}
 use Rattle.quota_cells.proofs.RowLaws.{Walks}
 use Rattle.quota_cells.proofs.directories.Directories.count.Given as goal
 

@@ -1,7 +1,4 @@
-use Rattle.std.proofs.Common.{◌≡◌, ℕ, List, false, set, sym, ap, subst, ◌∙◌, arith}
-use Rattle.quota_cells.specs.Accounts.{has}
-use Rattle.quota_cells.specs.Cells.{CellMaps, with_directory}
-use Rattle.quota_cells.specs.Columns.{NumberMap, beside, directory_maps, with_uid}
+use Rattle.quota_cells.proofs.Prelude.{◌≡◌, ℕ, List, false, set, sym, ap, subst, ◌∙◌, arith, has, CellMaps, with_directory, NumberMap, beside, directory_maps, with_uid}
 use Rattle.quota_cells.proofs.TableLaws.{entered_in_order}
 use Rattle.quota_cells.proofs.directories.Directories.enter.Goals as goal
 

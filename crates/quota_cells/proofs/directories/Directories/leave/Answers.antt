@@ -1,6 +1,4 @@
-use Rattle.std.proofs.Common.{ap, ◌∙◌}
-use Rattle.quota_cells.specs.Cells.{CellMaps, without_directory}
-use Rattle.quota_cells.specs.Columns.{NumberMap, beside, directory_maps, without_uid}
+use Rattle.quota_cells.proofs.Prelude.{ap, ◌∙◌, CellMaps, without_directory, NumberMap, beside, directory_maps, without_uid}
 use Rattle.quota_cells.proofs.TableLaws.{left_beside}
 use Rattle.quota_cells.proofs.directories.Directories.leave.Goals as goal
 

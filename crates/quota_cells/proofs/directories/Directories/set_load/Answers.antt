@@ -1,7 +1,4 @@
-use Rattle.std.proofs.Common.{◌≡◌, ℕ, List, true, set, sym, ap, subst, ◌∙◌, arith}
-use Rattle.quota_cells.specs.Accounts.{has, with_value}
-use Rattle.quota_cells.specs.Cells.{CellMaps, with_loads}
-use Rattle.quota_cells.specs.Columns.{NumberMap, beside, directory_maps}
+use Rattle.quota_cells.proofs.Prelude.{◌≡◌, ℕ, List, true, set, sym, ap, subst, ◌∙◌, arith, has, with_value, CellMaps, with_loads, NumberMap, beside, directory_maps}
 use Rattle.quota_cells.proofs.TableLaws.{set_in_order}
 use Rattle.quota_cells.proofs.directories.Directories.set_load.Goals as goal
 

@@ -1,5 +1,4 @@
-use Rattle.std.proofs.Common.{ℕ, List, true, set, ap, ◌∙◌, arith}
-use Rattle.quota_cells.specs.Columns.{numbers_of}
+use Rattle.quota_cells.proofs.Prelude.{ℕ, List, true, set, ap, ◌∙◌, arith, numbers_of}
 use Rattle.quota_cells.proofs.TableLaws.{now_rises, number_entered}
 use Rattle.quota_cells.proofs.numbers.Numbers.enter.Goals as goal
 

@@ -1,7 +1,4 @@
-use Rattle.std.proofs.Common.{false, sym, ap, ◌∙◌, arith}
-use Rattle.std.proofs.lemmas.List.{get_or_read}
-use Rattle.quota_cells.specs.Accounts.{has}
-use Rattle.quota_cells.specs.Columns.{NumberMap}
+use Rattle.quota_cells.proofs.Prelude.{false, sym, ap, ◌∙◌, arith, get_or_read, has, NumberMap}
 use Rattle.quota_cells.proofs.TableLaws.{is_there, past_absent}
 use Rattle.quota_cells.proofs.numbers.Numbers.has.Goals as goal
 

@@ -1,4 +1,4 @@
-use Rattle.std.proofs.Common.{arith}
+use Rattle.quota_cells.proofs.Prelude.{arith}
 use Rattle.quota_cells.proofs.TableLaws.{number_left}
 use Rattle.quota_cells.proofs.numbers.Numbers.leave.Goals as goal
 

@@ -1,5 +1,4 @@
-use Rattle.std.proofs.Common.{ap, ◌∙◌, arith, List, ℕ}
-use Rattle.quota_cells.specs.Columns.{numbers_of}
+use Rattle.quota_cells.proofs.Prelude.{ap, ◌∙◌, arith, List, ℕ, numbers_of}
 use Rattle.quota_cells.proofs.TableLaws.{number_set}
 use Rattle.quota_cells.proofs.numbers.Numbers.set.Goals as goal
 

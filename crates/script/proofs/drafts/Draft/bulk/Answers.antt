@@ -1,6 +1,5 @@
-use Rattle.std.proofs.Common.{◌∙◌, ap}
+use Rattle.script.proofs.Prelude.{◌∙◌, ap, DraftPlan, has_volume, is_head}
 use Rattle.script.proofs.DraftLaws.{bulk_added}
-use Rattle.script.specs.Drafts.{DraftPlan, has_volume, is_head}
 use Rattle.script.proofs.drafts.Draft.bulk.Goals as goal
 
 pub invariant_of-self-2 : goal.invariant_of-self-2

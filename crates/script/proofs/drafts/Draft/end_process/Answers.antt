@@ -1,6 +1,5 @@
-use Rattle.std.proofs.Common.{◌∙◌, ap, refl}
+use Rattle.script.proofs.Prelude.{◌∙◌, ap, refl, DraftPlan, is_inside}
 use Rattle.script.proofs.DraftLaws.{process_listed}
-use Rattle.script.specs.Drafts.{DraftPlan, is_inside}
 use Rattle.script.proofs.drafts.Draft.end_process.Goals as goal
 
 pub invariant_of-self-2 : goal.invariant_of-self-2

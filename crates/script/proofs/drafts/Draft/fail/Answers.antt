@@ -1,7 +1,5 @@
-use Rattle.std.proofs.Common.{◌∙◌, ap, arith}
-use Rattle.std.proofs.lemmas.Grind.{common_steps}
+use Rattle.script.proofs.Prelude.{◌∙◌, ap, arith, common_steps, DraftPlan, has_volume, is_head}
 use Rattle.script.proofs.DraftLaws.{fail_added}
-use Rattle.script.specs.Drafts.{DraftPlan, has_volume, is_head}
 use Rattle.script.proofs.drafts.Draft.fail.Goals as goal
 
 pub invariant_of-self-2 : goal.invariant_of-self-2

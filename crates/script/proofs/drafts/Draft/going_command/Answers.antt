@@ -1,6 +1,5 @@
-use Rattle.std.proofs.Common.{◌∙◌, ap}
+use Rattle.script.proofs.Prelude.{◌∙◌, ap, DraftPlan, is_inside}
 use Rattle.script.proofs.DraftLaws.{listed_kept, listed_steps}
-use Rattle.script.specs.Drafts.{DraftPlan, is_inside}
 use Rattle.script.proofs.drafts.Draft.going_command.Goals as goal
 
 pub invariant_of-self : goal.invariant_of-self

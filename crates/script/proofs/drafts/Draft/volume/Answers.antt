@@ -1,7 +1,5 @@
-use Rattle.std.proofs.Common.{◌∙◌, ap, arith}
-use Rattle.std.proofs.lemmas.Grind.{common_steps}
+use Rattle.script.proofs.Prelude.{◌∙◌, ap, arith, common_steps, DraftPlan, is_early}
 use Rattle.script.proofs.DraftLaws.{volume_added}
-use Rattle.script.specs.Drafts.{DraftPlan, is_early}
 use Rattle.script.proofs.drafts.Draft.volume.Goals as goal
 
 pub invariant_of-self-2 : goal.invariant_of-self-2

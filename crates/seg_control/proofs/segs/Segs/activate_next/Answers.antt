@@ -1,7 +1,4 @@
-use Rattle.std.proofs.Common.{◌≡◌, ◌∙◌, ℕ, List, length, ap, subst, sym, rules}
-use Rattle.active_segs.specs.Victim.{IsVictim}
-use Rattle.seg_control.specs.declared.Next.TheVariants.{Victim}
-use Rattle.seg_control.specs.Next.{link_at}
+use Rattle.seg_control.proofs.Prelude.{◌≡◌, ◌∙◌, ℕ, List, length, ap, subst, sym, rules, IsVictim, Victim, link_at}
 use Rattle.seg_control.proofs.Chains.{superior_active, given_superiors, going_whole, going_free, going_is}
 use Rattle.seg_control.proofs.segs.Segs.activate_next.Goals as goal
 

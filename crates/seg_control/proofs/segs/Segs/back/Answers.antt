@@ -1,5 +1,4 @@
-use Rattle.std.proofs.Common.{refl, rules}
-use Rattle.page_table.specs.declared.Ptw.TheVariants.{Here, Leaving}
+use Rattle.seg_control.proofs.Prelude.{refl, rules, Here, Leaving}
 use Rattle.seg_control.proofs.Making.{moved_word}
 use Rattle.seg_control.proofs.Resting.{kept_still, still_kept}
 use Rattle.seg_control.proofs.segs.Segs.back.Goals as goal

@@ -1,6 +1,4 @@
-use Rattle.std.proofs.Common.{ap}
-use Rattle.page_control.specs.Plain.{Paging, plain}
-use Rattle.seg_control.specs.Moving.{volumes_of}
+use Rattle.seg_control.proofs.Prelude.{ap, Paging, plain, volumes_of}
 use Rattle.seg_control.proofs.Resting.{kept_rest, words_rest}
 use Rattle.seg_control.proofs.segs.Segs.choose.Goals as goal
 

@@ -1,4 +1,4 @@
-use Rattle.std.proofs.Common.{◌<◌, rules, length, arith}
+use Rattle.seg_control.proofs.Prelude.{◌<◌, rules, length, arith}
 use Rattle.seg_control.proofs.Connected.{may_connect, linked_connected, others_connected, room, connected_number}
 use Rattle.seg_control.proofs.Resting.{kept_linked}
 use Rattle.seg_control.proofs.segs.Segs.connect_to.Goals as goal

@@ -1,9 +1,4 @@
-use Rattle.std.proofs.Common.{rules, ◌≡◌, ◌∙◌, ap, List}
-use Rattle.page_table.specs.declared.Ptw.{Ptw}
-use Rattle.page_table.specs.declared.Ptw.TheVariants.{Null}
-use Rattle.page_table.specs.PageTable.{ptw_at}
-use Rattle.active_segs.specs.Active.{table_at}
-use Rattle.page_control.specs.Plain.{plain}
+use Rattle.seg_control.proofs.Prelude.{rules, ◌≡◌, ◌∙◌, ap, List, Ptw, Null, ptw_at, table_at, plain}
 use Rattle.seg_control.proofs.Calls.{tied_home, table_is_here}
 use Rattle.seg_control.proofs.Making.{kept_created, lost_created}
 use Rattle.seg_control.proofs.Resting.{kept_still, still_kept}

@@ -1,6 +1,4 @@
-use Rattle.std.proofs.Common.{◌≡◌, length}
-use Rattle.trailers.specs.Trailer.{trailers_of}
-use Rattle.seg_control.specs.Effects.{all_cut}
+use Rattle.seg_control.proofs.Prelude.{◌≡◌, length, trailers_of, all_cut}
 use Rattle.seg_control.proofs.segs.Segs.cut_all.Given as goal
 
 abbrev pub invariant-loop-process : goal.invariant-loop-process

@@ -1,10 +1,6 @@
-use Rattle.std.proofs.Common.{ap, true}
-use Rattle.std.specs.Prelude.{◌-◌, ◌++◌, replicate, take}
-use Rattle.core_map.specs.CoreMap.{frame_at}
-use Rattle.page_control.specs.Effects.{referred, worded}
-use Rattle.page_control.specs.Plain.{number_in, plain, words_in}
+use Rattle.seg_control.proofs.Prelude.{ap, true, ◌-◌, ◌++◌, replicate, take, frame_at, referred, worded, number_in, plain, volumes_of}
+use Rattle.page_control.specs.Plain.{words_in}
 use Rattle.page_control.specs.Tied.{uid_in}
-use Rattle.seg_control.specs.Moving.{volumes_of}
 use Rattle.seg_control.proofs.Frames.{bound_once, bound_to}
 use Rattle.seg_control.proofs.Resting.{kept_rest, plain_rest, volumes_rest, words_put}
 use Rattle.seg_control.proofs.segs.Segs.cut_from.Goals as goal

@@ -1,8 +1,4 @@
-use Rattle.std.proofs.Common.{◌≡◌, ◌<◌, [], All, length, rules}
-use Rattle.trailers.specs.Trailer.{trailers_of}
-use Rattle.active_segs.specs.Active.{table_at, deactivated, IsAway, IsTree}
-use Rattle.page_control.specs.Plain.{plain}
-use Rattle.seg_control.specs.Kept.{IsNotRead}
+use Rattle.seg_control.proofs.Prelude.{◌≡◌, ◌<◌, [], All, length, rules, trailers_of, table_at, deactivated, IsAway, IsTree, plain, IsNotRead}
 use Rattle.seg_control.proofs.Becoming.{kept_deactivated}
 use Rattle.seg_control.proofs.Resting.{kept_still, still_kept}
 use Rattle.seg_control.proofs.segs.Segs.deactivate.Goals as goal

@@ -1,13 +1,4 @@
-use Rattle.std.proofs.Common.{rules, sym, ℕ, subst, ap, ◌∙◌, List, replicate}
-use Rattle.page_table.specs.declared.Ptw.{Ptw}
-use Rattle.page_table.specs.declared.Ptw.TheVariants.{Null}
-use Rattle.page_table.specs.PageTable.{ptw_at}
-use Rattle.active_segs.specs.Active.{table_at}
-use Rattle.page_control.specs.Plain.{plain}
-use Rattle.page_control.specs.Tied.{is_away}
-use Rattle.page_control.specs.Effects.{dropped}
-use Rattle.page_control.specs.Picture.{ChangesWords}
-use Rattle.page_control.specs.Ties.{IsTied, KeepsOthers}
+use Rattle.seg_control.proofs.Prelude.{rules, sym, ℕ, subst, ap, ◌∙◌, List, replicate, Ptw, Null, ptw_at, table_at, plain, is_away, dropped, ChangesWords, IsTied, KeepsOthers}
 use Rattle.seg_control.proofs.Calls.{tied_home, table_is_set}
 use Rattle.seg_control.proofs.Making.{kept_dropped, homed_active}
 use Rattle.seg_control.proofs.Resting.{kept_still, still_kept}

@@ -1,6 +1,4 @@
-use Rattle.std.proofs.Common.{rules}
-use Rattle.page_control.specs.Plain.{plain}
-use Rattle.seg_control.specs.Moving.{at_rest}
+use Rattle.seg_control.proofs.Prelude.{rules, plain, at_rest}
 use Rattle.seg_control.proofs.Frames.{started_for}
 use Rattle.seg_control.proofs.Calls.{tied_home, out_of, table_is_here}
 use Rattle.seg_control.proofs.Reading.{Reads, tied_now, effect_read, words_read, tables_read, counts_read, kept_at_rest}

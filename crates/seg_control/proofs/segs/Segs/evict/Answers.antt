@@ -1,12 +1,4 @@
-use Rattle.std.proofs.Common.{rules, ◌≡◌, ◌∙◌, ap, sym, ℕ, List, subst}
-use Rattle.page_table.specs.declared.Ptw.{Ptw}
-use Rattle.page_table.specs.declared.Ptw.TheVariants.{Leaving}
-use Rattle.page_table.specs.PageTable.{ptw_at}
-use Rattle.core_map.specs.CoreMap.{frame_at}
-use Rattle.active_segs.specs.Active.{table_at}
-use Rattle.page_control.specs.Plain.{plain, number_in, record_of}
-use Rattle.page_control.specs.Ties.{IsTied, KeepsOthers}
-use Rattle.page_control.specs.Picture.{KeepsWords}
+use Rattle.seg_control.proofs.Prelude.{rules, ◌≡◌, ◌∙◌, ap, sym, ℕ, List, subst, Ptw, Leaving, ptw_at, frame_at, table_at, plain, number_in, record_of, IsTied, KeepsOthers, KeepsWords}
 use Rattle.seg_control.proofs.Calls.{tied_home, kept_evicted, table_is_left, lost_bindings}
 use Rattle.seg_control.proofs.Resting.{kept_still, still_kept}
 use Rattle.seg_control.proofs.segs.Segs.evict.Goals as goal

@@ -1,5 +1,4 @@
-use Rattle.std.proofs.Common.{◌≡◌, ◌<◌, ℕ, Some, length, rules, arith, slice_get}
-use Rattle.trailers.specs.Trailer.{trailers_of}
+use Rattle.seg_control.proofs.Prelude.{◌≡◌, ◌<◌, ℕ, Some, length, rules, arith, slice_get, trailers_of}
 use Rattle.seg_control.proofs.Linked.{leads_within}
 use Rattle.seg_control.proofs.Cutting.{first_leads, none_left}
 use Rattle.seg_control.proofs.segs.Segs.first_trailer.Goals as goal

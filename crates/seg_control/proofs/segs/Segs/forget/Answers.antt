@@ -1,6 +1,4 @@
-use Rattle.std.proofs.Common.{◌≡◌, ◌<◌, ◌∙◌, rules, None, length}
-use Rattle.known_segs.specs.Known.{without_number}
-use Rattle.seg_control.specs.Control.{kst_at, leads_at}
+use Rattle.seg_control.proofs.Prelude.{◌≡◌, ◌<◌, ◌∙◌, rules, None, length, without_number, kst_at, leads_at}
 use Rattle.seg_control.proofs.Connected.{linked_known, size_without, known_without}
 use Rattle.seg_control.proofs.Resting.{kept_linked}
 use Rattle.seg_control.proofs.segs.Segs.forget.Goals as goal

@@ -1,11 +1,4 @@
-use Rattle.std.proofs.Common.{◌≡◌, ◌≤◌, ◌<◌, ◌∙◌, List, Option, Some, length, ap, subst, sym, rules}
-use Rattle.page_table.specs.declared.Ptw.{Ptw}
-use Rattle.vtoc.specs.Vtoc.{Entry as VtocEntry, entry_at as vtoc_entry, records_in}
-use Rattle.active_segs.specs.Active.{ActiveSegs, table_at, with_table, activated, IsTree, IsLeastFree}
-use Rattle.page_control.specs.Plain.{plain}
-use Rattle.page_control.specs.Tied.{map_at, vtoc_in, uid_at as uid_homed}
-use Rattle.seg_control.specs.Kept.{IsInactive, IsKept}
-use Rattle.seg_control.specs.Next.{FitsIn, words_in, table_for}
+use Rattle.seg_control.proofs.Prelude.{◌≡◌, ◌≤◌, ◌<◌, ◌∙◌, List, Option, Some, length, ap, subst, sym, rules, Ptw, VtocEntry, vtoc_entry, records_in, ActiveSegs, table_at, with_table, activated, IsTree, IsLeastFree, plain, map_at, vtoc_in, uid_homed, IsInactive, IsKept, FitsIn, words_in, table_for}
 use Rattle.seg_control.proofs.Becoming.{kept_activated}
 use Rattle.seg_control.proofs.Chains.{words_few}
 use Rattle.seg_control.proofs.Resting.{kept_still, still_kept}

@@ -1,6 +1,4 @@
-use Rattle.std.proofs.Common.{◌<◌, ◌∙◌, rules, length}
-use Rattle.known_segs.specs.Known.{with_number}
-use Rattle.seg_control.specs.Control.{kst_at}
+use Rattle.seg_control.proofs.Prelude.{◌<◌, ◌∙◌, rules, length, with_number, kst_at}
 use Rattle.seg_control.proofs.Connected.{linked_known}
 use Rattle.seg_control.proofs.Resting.{kept_linked}
 use Rattle.seg_control.proofs.segs.Segs.make_known.Goals as goal

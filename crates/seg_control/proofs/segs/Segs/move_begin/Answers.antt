@@ -1,5 +1,4 @@
-use Rattle.std.proofs.Common.{refl, ap}
-use Rattle.page_control.specs.Plain.{with_volumes}
+use Rattle.seg_control.proofs.Prelude.{refl, ap, with_volumes}
 use Rattle.seg_control.proofs.Resting.{kept_still}
 use Rattle.seg_control.proofs.Beginning.{kept_begun, kept_from}
 use Rattle.seg_control.proofs.segs.Segs.move_begin.Goals as goal

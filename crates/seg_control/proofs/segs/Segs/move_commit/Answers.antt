@@ -1,18 +1,9 @@
-use Rattle.std.proofs.Common.{◌≡◌, ◌≤◌, ◌∙◌, ℕ, List, Option, None, Some, ap, length, refl, subst, sym}
-use Rattle.page_table.specs.declared.Ptw.{Ptw}
-use Rattle.page_table.specs.declared.Ptw.TheVariants.{Null, Out, Here, Leaving}
-use Rattle.page_table.specs.PageTable.{ptw_at}
-use Rattle.active_segs.specs.Active.{table_at}
-use Rattle.page_control.specs.Moves.{IsHomeFor, rehomed_word}
-use Rattle.page_control.specs.Plain.{bindings, plain}
-use Rattle.page_control.specs.Tied.{IsTableOf, is_out}
-use Rattle.seg_control.specs.Control.{table_of}
-use Rattle.seg_control.specs.Moving.{home_at}
+use Rattle.seg_control.proofs.Prelude.{◌≡◌, ◌≤◌, ◌∙◌, ℕ, List, Option, None, Some, ap, length, refl, subst, sym, Ptw, Null, Out, Here, Leaving, ptw_at, table_at, rehomed_word, bindings, plain, IsTableOf, is_out, table_of, home_at}
+use Rattle.page_control.specs.Moves.{IsHomeFor}
 use Rattle.seg_control.proofs.Resting.{kept_moving}
 use Rattle.seg_control.proofs.Under.{is_moving}
 use Rattle.seg_control.proofs.Copying.{tie_here}
-use Rattle.seg_control.proofs.Committing.{Commits, kept_committed, new_free, uid_new, map_new, words_moved}
-use Rattle.seg_control.proofs.Committing.{words_others, stored_moved, named_moved, taken_moved, gained}
+use Rattle.seg_control.proofs.Committing.{Commits, kept_committed, new_free, uid_new, map_new, words_moved, words_others, stored_moved, named_moved, taken_moved, gained}
 use Rattle.seg_control.proofs.segs.Segs.move_commit.Goals as goal
 
 pub rehome-requires-clause-pages : goal.rehome-requires-clause-pages

@@ -1,12 +1,7 @@
-use Rattle.std.proofs.Common.{◌≤◌, ◌∙◌, List, ap, length, subst, sym}
-use Rattle.page_table.specs.declared.Ptw.{Ptw}
-use Rattle.page_table.specs.PageTable.{ptw_at}
-use Rattle.active_segs.specs.Active.{table_at}
-use Rattle.seg_control.specs.Moving.{is_framed}
+use Rattle.seg_control.proofs.Prelude.{◌≤◌, ◌∙◌, List, ap, length, subst, sym, Ptw, ptw_at, table_at, is_framed}
 use Rattle.seg_control.proofs.Resting.{kept_moving}
 use Rattle.seg_control.proofs.Under.{is_moving}
-use Rattle.seg_control.proofs.Copying.{Copies, tie_moving, page_is, kept_copied, tables_copied, words_copied}
-use Rattle.seg_control.proofs.Copying.{disks_copied}
+use Rattle.seg_control.proofs.Copying.{Copies, tie_moving, page_is, kept_copied, tables_copied, words_copied, disks_copied}
 use Rattle.seg_control.proofs.segs.Segs.move_next.Goals as goal
 
 pub framed_pages-framed-requires : goal.framed_pages-framed-requires

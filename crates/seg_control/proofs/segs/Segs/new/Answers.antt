@@ -1,5 +1,4 @@
-use Rattle.std.proofs.Common.{arith}
-use Rattle.page_control.specs.Plain.{plain}
+use Rattle.seg_control.proofs.Prelude.{arith, plain}
 use Rattle.seg_control.proofs.New.{kept_new}
 use Rattle.seg_control.proofs.segs.Segs.new.Goals as goal
 

@@ -1,4 +1,4 @@
-use Rattle.page_control.specs.Plain.{plain}
+use Rattle.seg_control.proofs.Prelude.{plain}
 use Rattle.seg_control.proofs.Homes.{kept_homed}
 use Rattle.seg_control.proofs.Resting.{kept_still, still_kept}
 use Rattle.seg_control.proofs.segs.Segs.new_home.Goals as goal

@@ -1,5 +1,4 @@
-use Rattle.std.proofs.Common.{◌∙◌, length, rules}
-use Rattle.seg_control.specs.Moving.{at_rest}
+use Rattle.seg_control.proofs.Prelude.{◌∙◌, length, rules, at_rest}
 use Rattle.seg_control.proofs.Chains.{given_superiors, not_stuck_active, not_stuck_free, if_none}
 use Rattle.seg_control.proofs.segs.Segs.next_victim.Goals as goal
 

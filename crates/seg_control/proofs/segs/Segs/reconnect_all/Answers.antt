@@ -1,6 +1,4 @@
-use Rattle.std.proofs.Common.{◌<◌, ◌≤◌, ◌∙◌, length, ap, sym, rules}
-use Rattle.active_segs.specs.Active.{uid_at}
-use Rattle.seg_control.specs.Control.{Control}
+use Rattle.seg_control.proofs.Prelude.{◌<◌, ◌≤◌, ◌∙◌, length, ap, sym, rules, uid_at, Control}
 use Rattle.seg_control.proofs.Cutting.{reconnect_step, reconnect_end, may_here, may_next}
 use Rattle.seg_control.proofs.segs.Segs.reconnect_all.Goals as goal
 

@@ -1,7 +1,4 @@
-use Rattle.std.proofs.Common.{◌≡◌, drop}
-use Rattle.active_segs.specs.Active.{uid_at}
-use Rattle.seg_control.specs.Effects.{reconnected}
-use Rattle.seg_control.specs.Kept.{MayReconnect}
+use Rattle.seg_control.proofs.Prelude.{◌≡◌, drop, uid_at, reconnected, MayReconnect}
 use Rattle.seg_control.proofs.segs.Segs.reconnect_all.Given as goal
 
 abbrev pub invariant-loop-i : goal.invariant-loop-i

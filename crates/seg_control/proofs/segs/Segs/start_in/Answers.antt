@@ -1,7 +1,4 @@
-use Rattle.std.proofs.Common.{◌∙◌, ap, ℕ}
-use Rattle.page_table.specs.PageTable.{ptw_at}
-use Rattle.active_segs.specs.Active.{table_at}
-use Rattle.page_control.specs.Tied.{is_out}
+use Rattle.seg_control.proofs.Prelude.{◌∙◌, ap, ℕ, ptw_at, table_at, is_out}
 use Rattle.seg_control.proofs.Paged.{paged_started}
 use Rattle.seg_control.proofs.Frames.{same_vtocs, same_records, none_started}
 use Rattle.seg_control.proofs.Calls.{kept_paged}

@@ -1,9 +1,4 @@
-use Rattle.std.proofs.Common.{◌≡◌, ◌<◌, ◌∙◌, List, ap, length, rules, subst, sym}
-use Rattle.page_table.specs.declared.Ptw.{Ptw}
-use Rattle.active_segs.specs.Active.{table_at, with_table}
-use Rattle.page_control.specs.Plain.{plain}
-use Rattle.seg_control.specs.Effects.{taken_from}
-use Rattle.seg_control.specs.Kept.{IsKept}
+use Rattle.seg_control.proofs.Prelude.{◌≡◌, ◌<◌, ◌∙◌, List, ap, length, rules, subst, sym, Ptw, table_at, with_table, plain, taken_from, IsKept}
 use Rattle.seg_control.proofs.Taking.{kept_taken}
 use Rattle.seg_control.proofs.Resting.{kept_still, still_kept}
 use Rattle.seg_control.proofs.segs.Segs.take_all.Goals as goal

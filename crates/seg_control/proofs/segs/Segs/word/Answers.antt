@@ -1,7 +1,4 @@
-use Rattle.std.proofs.Common.{ap, false}
-use Rattle.page_control.specs.Effects.{referred}
-use Rattle.page_control.specs.Plain.{Plain, plain}
-use Rattle.seg_control.specs.Moving.{volumes_of}
+use Rattle.seg_control.proofs.Prelude.{ap, false, referred, Plain, plain, volumes_of}
 use Rattle.seg_control.proofs.Resting.{kept_rest, plain_rest, volumes_rest, words_rest}
 use Rattle.seg_control.proofs.segs.Segs.word.Goals as goal
 

@@ -1,9 +1,5 @@
-use Rattle.std.proofs.Common.{◌≡◌, ℕ, length, sym, subst}
-use Rattle.page_control.specs.Plain.{plain}
+use Rattle.storage_ops.proofs.Prelude.{◌≡◌, ℕ, length, sym, subst, plain, IsGoing, IsNext, HasOneToGo, IsChainDown, Storage}
 use Rattle.seg_control.specs.declared.Next.TheVariants as Next
-use Rattle.seg_control.specs.Next.{IsGoing, IsNext}
-use Rattle.storage_ops.specs.Connecting.{HasOneToGo, IsChainDown}
-use Rattle.storage_ops.specs.Shown.{Storage}
 use Rattle.storage_ops.proofs.Held.{held, shown_held}
 use Rattle.storage_ops.proofs.ChainDown.{may_activate, shown_next, store_next}
 use Rattle.storage_ops.proofs.Tables.{all_drives}

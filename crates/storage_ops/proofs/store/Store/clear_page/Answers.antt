@@ -1,26 +1,8 @@
-use Rattle.std.proofs.Common.{◌≡◌, ◌&&◌, Bool, false, refl, sym, true, Some, take, replicate, ◌++◌, ◌-◌}
-use Rattle.std.proofs.Common.{ap, subst, ◌∙◌}
-use Rattle.flat_model.specs.Cuts.{cleared}
-use Rattle.flat_model.specs.Pages.{is_stored, is_zero_page}
-use Rattle.flat_model.specs.Store.{Store as Flat}
-use Rattle.flat_model.proofs.CutLaws.{cleared_absent}
-use Rattle.active_segs.specs.Active.{ActiveSegs}
-use Rattle.page_control.specs.Picture.{words_at, changed_page}
-use Rattle.page_control.specs.Plain.{plain, words_in, binding_at, bindings}
-use Rattle.page_control.specs.Tied.{has_record, is_out}
-use Rattle.seg_control.specs.Control.{word_of}
-use Rattle.storage_ops.specs.Cut.{Unstores, is_here, leaves}
-use Rattle.storage_ops.specs.Shown.{Shows, Storage, is_there, picture}
-use Rattle.page_table.specs.declared.Ptw.TheVariants.{Leaving, Null}
-use Rattle.script.specs.Plans.{Plan}
+use Rattle.storage_ops.proofs.Prelude.{◌≡◌, ◌&&◌, Bool, false, refl, sym, true, Some, take, replicate, ◌++◌, ◌-◌, ap, subst, ◌∙◌, cleared, is_stored, is_zero_page, Flat, cleared_absent, ActiveSegs, words_at, changed_page, plain, words_in, binding_at, bindings, has_record, is_out, word_of, Unstores, is_here, leaves, Shows, Storage, is_there, picture, Leaving, Null, Plan, is_cleared, page_cleared, paged, count_of}
 use Rattle.storage_ops.proofs.Held.{active_held, held, shown_held, word_held}
-use Rattle.storage_ops.proofs.PagesLess.{cut_told, frame_bound, frame_is_bound, frame_told, leaving_bound}
-use Rattle.storage_ops.proofs.PagesLess.{picture_bound}
-use Rattle.storage_ops.proofs.PagesLess.{leaving_is, not_leaving, page_words, shown_cut, unstores_cut}
+use Rattle.storage_ops.proofs.PagesLess.{cut_told, frame_bound, frame_is_bound, frame_told, leaving_bound, picture_bound, leaving_is, not_leaving, page_words, shown_cut, unstores_cut}
 use Rattle.storage_ops.proofs.Paged.{active_there, blank_shown, word_filed}
 use Rattle.storage_ops.proofs.Unstored.{unstores_none}
-use Rattle.storage_ops.specs.CutOff.{is_cleared, page_cleared, paged}
-use Rattle.accounts.specs.Maps.{count_of}
 use Rattle.storage_ops.proofs.CutExactly.{cleared_exactly, cleared_told, null_cleared}
 use Rattle.storage_ops.proofs.store.Store.clear_page.Given.{Over}
 use Rattle.storage_ops.proofs.store.Store.clear_page.Goals.{After-cut_from, In-None, In-Some}

@@ -1,8 +1,5 @@
-use Rattle.std.proofs.Common.{ℤ, rules, ap, subst, ◌∙◌, w32}
-use Rattle.std.proofs.lemmas.Int.{to_z-of_z}
+use Rattle.storage_ops.proofs.Prelude.{ℤ, rules, ap, subst, ◌∙◌, w32, to_z-of_z, after_move, move_reply, Shows, answered}
 use mir.Val.{SFits}
-use Rattle.flat_model.specs.Rights.{after_move, move_reply}
-use Rattle.storage_ops.specs.Shown.{Shows, answered}
 use Rattle.storage_ops.proofs.store.Store.commit_move.Goals as goal
 
 pub returns-clause-answer : goal.returns-clause-answer

@@ -1,11 +1,7 @@
-use Rattle.std.proofs.Common.{◌≡◌, ◌<◌, ℕ, length, true, sym, subst}
-use Rattle.script.specs.Forms.{is_command}
-use Rattle.script.specs.declared.commands.Command.{Command}
-use Rattle.storage_ops.specs.Cut.{IsReady}
+use Rattle.storage_ops.proofs.Prelude.{◌≡◌, ◌<◌, ℕ, length, true, sym, subst, is_command, Command, IsReady, few_pages}
 use Rattle.storage_ops.proofs.Fresh.{dir_volume, new_length, seg_volume}
 use Rattle.storage_ops.proofs.Rest.{rest_accounts, rest_known, rest_made, rest_none}
 use Rattle.storage_ops.proofs.store.Store.commit_tree.Goals as goal
-use Rattle.flat_model.proofs.ScriptLaws.{few_pages}
 
 pub make_dir-requires-clause-volume : goal.make_dir-requires-clause-volume
 make_dir-requires-clause-volume g c =

@@ -1,9 +1,4 @@
-use Rattle.std.proofs.Common.{refl, sym, subst}
-use Rattle.page_control.specs.Plain.{plain}
-use Rattle.seg_control.specs.Control.{Control, place_of}
-use Rattle.seg_control.specs.Effects.{linked}
-use Rattle.storage_ops.specs.Connecting.{IsRight}
-use Rattle.storage_ops.specs.Shown.{Shows, Storage}
+use Rattle.storage_ops.proofs.Prelude.{refl, sym, subst, plain, Control, place_of, linked, IsRight, Shows, Storage}
 use Rattle.storage_ops.proofs.Held.{active_held, held, shown_held, store_after}
 use Rattle.storage_ops.proofs.LinkLaws.{shown_linked, store_linked}
 use Rattle.storage_ops.proofs.Paged.{active_place}

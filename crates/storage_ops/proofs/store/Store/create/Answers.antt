@@ -1,7 +1,4 @@
-use Rattle.std.proofs.Common.{◌≡◌, ℕ, List, [], Option, Some, get_or, sym, ap, subst, ◌∙◌}
-use Rattle.known_segs.specs.Known.{uid_of}
-use Rattle.flat_model.specs.Store.{Store as Flat, known_uid}
-use Rattle.storage_ops.specs.Shown.{Shows}
+use Rattle.storage_ops.proofs.Prelude.{◌≡◌, ℕ, List, [], Option, Some, get_or, sym, ap, subst, ◌∙◌, uid_of, Flat, known_uid, Shows}
 use Rattle.storage_ops.proofs.Held.{shown_held}
 use Rattle.storage_ops.proofs.PageRoom.{ok_then, written_made}
 use Rattle.storage_ops.proofs.store.Store.create.Goals as goal

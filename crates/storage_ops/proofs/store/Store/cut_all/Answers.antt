@@ -1,7 +1,4 @@
-use Rattle.std.proofs.Common.{sym, subst}
-use Rattle.page_control.specs.Plain.{plain}
-use Rattle.seg_control.specs.Control.{Control}
-use Rattle.storage_ops.specs.Shown.{Shows}
+use Rattle.storage_ops.proofs.Prelude.{sym, subst, plain, Control, Shows}
 use Rattle.storage_ops.proofs.Held.{held, shown_held, store_after}
 use Rattle.storage_ops.proofs.Less.{shown_all_cut, store_all_cut}
 use Rattle.storage_ops.proofs.store.Store.cut_all.Goals as goal

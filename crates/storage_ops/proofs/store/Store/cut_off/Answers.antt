@@ -1,14 +1,6 @@
-use Rattle.std.proofs.Common.{◌≡◌, ◌+◌, ◌/◌, ◌%◌, subst}
-use Rattle.std.specs.Prelude.{nat_le}
-use Rattle.flat_model.specs.Cuts.{without_pages}
-use Rattle.flat_model.specs.Store.{Store as Flat}
-use Rattle.flat_model.proofs.CutLaws.{even_cut, whole_cut}
-use Rattle.storage_ops.specs.Shown.{Shows, home_of, pages_in}
+use Rattle.storage_ops.proofs.Prelude.{◌≡◌, ◌+◌, ◌/◌, ◌%◌, subst, nat_le, without_pages, Flat, even_cut, whole_cut, Shows, home_of, pages_in, Home, word_of, cut_by, paged}
 use Rattle.storage_ops.proofs.Rest.{cuts_even, cuts_odd}
 use Rattle.storage_ops.proofs.Unstored.{home_still, taken_past}
-use Rattle.page_control.specs.declared.Home.{Home}
-use Rattle.seg_control.specs.Control.{word_of}
-use Rattle.storage_ops.specs.CutOff.{cut_by, paged}
 use Rattle.storage_ops.proofs.CutExactly.{cut_evenly, cut_oddly, others_both}
 use Rattle.storage_ops.proofs.store.Store.cut_off.Goals as goal
 

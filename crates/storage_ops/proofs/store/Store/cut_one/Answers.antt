@@ -1,5 +1,4 @@
-use Rattle.page_control.specs.Plain.{plain}
-use Rattle.seg_control.specs.Control.{leads_at}
+use Rattle.storage_ops.proofs.Prelude.{plain, leads_at}
 use Rattle.storage_ops.proofs.Held.{store_after}
 use Rattle.storage_ops.proofs.Less.{store_cut}
 use Rattle.storage_ops.proofs.store.Store.cut_one.Goals as goal

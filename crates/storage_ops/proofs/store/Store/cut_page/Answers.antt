@@ -1,16 +1,6 @@
-use Rattle.std.proofs.Common.{◌≡◌, ℕ, ◌/◌, ◌%◌, Bool, true, false, cond, eqb, refl, sym, ap, subst, ◌∙◌, arith}
-use Rattle.flat_model.specs.Cuts.{cleared, has_cleared, without_pages}
-use Rattle.active_segs.specs.Active.{IsActive}
-use Rattle.page_control.specs.Plain.{plain}
-use Rattle.page_control.specs.Tied.{is_away}
-use Rattle.storage_ops.specs.Shown.{Shows, Storage, home_of, is_there}
+use Rattle.storage_ops.proofs.Prelude.{◌≡◌, ℕ, ◌/◌, ◌%◌, Bool, true, false, cond, eqb, refl, sym, ap, subst, ◌∙◌, arith, cleared, has_cleared, without_pages, IsActive, plain, is_away, Shows, Storage, home_of, is_there, Home, word_of, page_cut, paged}
 use Rattle.storage_ops.proofs.Paged.{active_there}
-use Rattle.storage_ops.proofs.Unstored.{idle_still}
-use Rattle.storage_ops.proofs.Unstored.{unstores_both}
-use Rattle.storage_ops.proofs.Unstored.{active_still, home_still}
-use Rattle.page_control.specs.declared.Home.{Home}
-use Rattle.seg_control.specs.Control.{word_of}
-use Rattle.storage_ops.specs.CutOff.{page_cut, paged}
+use Rattle.storage_ops.proofs.Unstored.{idle_still, unstores_both, active_still, home_still}
 use Rattle.storage_ops.proofs.CutExactly.{cut_dropped, cut_kept, others_both}
 use Rattle.storage_ops.proofs.store.Store.cut_page.Goals as goal
 

@@ -1,4 +1,4 @@
-use Rattle.page_control.specs.Plain.{plain}
+use Rattle.storage_ops.proofs.Prelude.{plain}
 use Rattle.storage_ops.proofs.Held.{store_after}
 use Rattle.storage_ops.proofs.Less.{store_inactive}
 use Rattle.storage_ops.proofs.store.Store.deactivate.Goals as goal

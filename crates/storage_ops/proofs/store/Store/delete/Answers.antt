@@ -1,19 +1,6 @@
-use Rattle.std.proofs.Common.{◌≡◌, ◌<◌, ℕ, is_some, List, true, false, eqb, refl, sym, ap, subst, ◌∙◌}
-use Rattle.std.proofs.Common.{arith}
-use Rattle.std.specs.Result.{is_err}
-use Rattle.std.proofs.lemmas.Bool.{ne_eqb}
-use Rattle.tree_model.specs.Tree.{Node, quota_in}
-use Rattle.dir_tree.specs.Nodes.{as_term, has_inferior}
-use Rattle.flat_model.specs.Branches.{branch_at}
-use Rattle.flat_model.specs.Store.{Store as Flat}
-use Rattle.flat_model.proofs.RemoveLaws.{delete_done}
-use Rattle.flat_model.proofs.TreeReplies.{delete_refused, delete_told, from_false}
-use Rattle.storage_ops.specs.Cut.{IsRemovable, IsRemovableAt, TakesOut}
-use Rattle.storage_ops.specs.Shown.{Shows, Storage, is_there}
+use Rattle.storage_ops.proofs.Prelude.{◌≡◌, ◌<◌, ℕ, is_some, List, true, false, eqb, refl, sym, ap, subst, ◌∙◌, arith, is_err, ne_eqb, Node, quota_in, as_term, has_inferior, branch_at, Flat, delete_done, delete_refused, delete_told, from_false, IsRemovable, IsRemovableAt, TakesOut, Shows, Storage, is_there, branch_refuses, Erases}
 use Rattle.storage_ops.proofs.Held.{tree_held}
-use Rattle.flat_model.proofs.PathRefusals.{branch_refuses}
 use Rattle.storage_ops.proofs.Rest.{out_still, rest_both, rest_none}
-use Rattle.storage_ops.specs.CutOff.{Erases}
 use Rattle.storage_ops.proofs.CutExactly.{erased_exactly, same_uid}
 use Rattle.storage_ops.proofs.store.Store.delete.Goals as goal
 

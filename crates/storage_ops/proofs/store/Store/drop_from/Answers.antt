@@ -1,20 +1,8 @@
-use Rattle.std.proofs.Common.{◌≡◌, ◌≤◌, ◌<◌, ◌≢◌, ◌+◌, ◌-◌, ℕ, refl, Some, false, eqb, sym, ap, subst, ◌∙◌, arith}
-use Rattle.flat_model.specs.Cuts.{without_pages}
-use Rattle.flat_model.specs.Store.{Store as Flat}
-use Rattle.flat_model.proofs.DropLaws.{all_between, between, more_between, none_between}
-use Rattle.page_control.specs.Plain.{binding_at, bindings, plain}
-use Rattle.seg_control.specs.Control.{word_of}
-use Rattle.storage_ops.specs.Cut.{is_here}
-use Rattle.storage_ops.specs.Shown.{Shows, Storage, home_of, is_there, pages_in}
+use Rattle.storage_ops.proofs.Prelude.{◌≡◌, ◌≤◌, ◌<◌, ◌≢◌, ◌+◌, ◌-◌, ℕ, refl, Some, false, eqb, sym, ap, subst, ◌∙◌, arith, without_pages, Flat, all_between, between, more_between, none_between, binding_at, bindings, plain, word_of, is_here, Shows, Storage, home_of, is_there, pages_in, Home, range_with_len, page_cut, paged, pages_cut}
 use Rattle.storage_ops.proofs.Held.{active_held, held, shown_held}
 use Rattle.storage_ops.proofs.Lengths.{filed_there}
 use Rattle.storage_ops.proofs.Paged.{active_there, blank_shown, past_unfiled, unfiled_unframed, word_filed}
-use Rattle.storage_ops.proofs.Unstored.{idle_still}
-use Rattle.storage_ops.proofs.Unstored.{active_still, between_more, between_none, between_past, home_still}
-use Rattle.storage_ops.proofs.Unstored.{unrecorded, unstores_both, unstores_none, unstores_past, unstores_same}
-use Rattle.page_control.specs.declared.Home.{Home}
-use Rattle.std.specs.List.{range_with_len}
-use Rattle.storage_ops.specs.CutOff.{page_cut, paged, pages_cut}
+use Rattle.storage_ops.proofs.Unstored.{idle_still, active_still, between_more, between_none, between_past, home_still, unrecorded, unstores_both, unstores_none, unstores_past, unstores_same}
 use Rattle.storage_ops.proofs.CutExactly.{cut_next, none_from, others_both}
 use Rattle.storage_ops.proofs.store.Store.drop_from.Goals as goal
 

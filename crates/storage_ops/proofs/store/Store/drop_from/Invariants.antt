@@ -1,11 +1,4 @@
-use Rattle.std.proofs.Common.{◌≡◌, ◌≤◌, ◌-◌}
-use Rattle.script.specs.Plans.{Plan}
-use Rattle.flat_model.specs.Cuts.{without_pages}
-use Rattle.flat_model.specs.Store.{Store as Flat}
-use Rattle.flat_model.proofs.DropLaws.{between}
-use Rattle.storage_ops.specs.Cut.{Unstores}
-use Rattle.storage_ops.specs.CutOff.{CountsOthers, paged, pages_cut, pages_from}
-use Rattle.storage_ops.specs.Shown.{Shows, home_of, pages_in}
+use Rattle.storage_ops.proofs.Prelude.{◌≡◌, ◌≤◌, ◌-◌, Plan, without_pages, Flat, between, Unstores, CountsOthers, paged, pages_cut, pages_from, Shows, home_of, pages_in}
 use Rattle.storage_ops.proofs.store.Store.drop_from.Given as goal
 
 -- the pages before the next one are stored no more

@@ -1,16 +1,7 @@
-use Rattle.std.proofs.Common.{◌≡◌, ◌-◌, refl, sym, ap, subst, ◌∙◌, inl, true}
-use Rattle.active_segs.specs.Active.{ActiveSegs}
-use Rattle.page_control.specs.declared.Home.{Home}
-use Rattle.page_control.specs.Plain.{plain}
-use Rattle.page_control.specs.Tied.{is_away}
-use Rattle.seg_control.specs.Control.{Links, word_of}
-use Rattle.seg_control.specs.Kept.{IsHomeOf}
-use Rattle.storage_ops.specs.Shown.{IsStore, Storage}
+use Rattle.storage_ops.proofs.Prelude.{◌≡◌, ◌-◌, refl, sym, ap, subst, ◌∙◌, inl, true, ActiveSegs, Home, plain, is_away, Links, word_of, IsHomeOf, IsStore, Storage, LosesPage, count_of}
 use Rattle.storage_ops.proofs.Held.{active_held, held, home_held, word_held}
 use Rattle.storage_ops.proofs.PagesLess.{drop_done, may_drop, shown_dropped, unstores_one, MayDrop}
 use Rattle.storage_ops.proofs.Dropped.{store_dropped, HasDropped}
-use Rattle.storage_ops.specs.CutOff.{LosesPage}
-use Rattle.accounts.specs.Maps.{count_of}
 use Rattle.storage_ops.proofs.CutExactly.{dropped_exactly, other_counts}
 use Rattle.storage_ops.proofs.store.Store.drop_page.Given.{Over}
 use Rattle.storage_ops.proofs.store.Store.drop_page.Goals.{After-credit, After-look}

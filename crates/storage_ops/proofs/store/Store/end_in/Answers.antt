@@ -1,8 +1,4 @@
-use Rattle.std.proofs.Common.{refl, sym, ap, subst, ◌∙◌}
-use Rattle.active_segs.specs.Active.{ActiveSegs}
-use Rattle.page_control.specs.Plain.{plain}
-use Rattle.seg_control.specs.Control.{Links}
-use Rattle.storage_ops.specs.Shown.{IsStore}
+use Rattle.storage_ops.proofs.Prelude.{refl, sym, ap, subst, ◌∙◌, ActiveSegs, plain, Links, IsStore}
 use Rattle.storage_ops.proofs.Held.{held, home_for_held, shown_held}
 use Rattle.storage_ops.proofs.Still.{here_entries, own_home, shown_kept, store_still}
 use Rattle.storage_ops.proofs.store.Store.end_in.Goals as goal

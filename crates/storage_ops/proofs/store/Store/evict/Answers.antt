@@ -1,15 +1,4 @@
-use Rattle.std.proofs.Common.{◌≡◌, IsOk, refl, sym, ap, subst, ◌≤◌, true}
-use Rattle.core_map.specs.CoreMap.{frame_at}
-use Rattle.page_table.specs.declared.Ptw.TheVariants.{Leaving}
-use Rattle.page_control.specs.Plain.{number_in, plain, record_of, words_in}
-use Rattle.page_control.specs.Effects.{NeedsNoWrite}
-use Rattle.page_control.specs.Tied.{has_record}
-use Rattle.seg_control.specs.Control.{Links, word_of}
-use Rattle.flat_model.specs.Legal.{MayRelease}
-use Rattle.storage_ops.specs.Paged.{page_left}
-use Rattle.storage_ops.specs.Shown.{IsStore, Shows, Storage}
-use Rattle.tree_model.specs.Trees.{has_segment}
-use Rattle.accounts.specs.Maps.{count_of}
+use Rattle.storage_ops.proofs.Prelude.{◌≡◌, IsOk, refl, sym, ap, subst, ◌≤◌, true, frame_at, Leaving, number_in, plain, record_of, words_in, NeedsNoWrite, has_record, Links, word_of, MayRelease, page_left, IsStore, Shows, Storage, has_segment, count_of}
 use Rattle.storage_ops.proofs.Held.{active_held, held, home_for_held, leaving_held, shown_held}
 use Rattle.storage_ops.proofs.PageFacts.{page_counted, page_segment}
 use Rattle.storage_ops.proofs.PageLeft.{may_release, shown_left, store_left}

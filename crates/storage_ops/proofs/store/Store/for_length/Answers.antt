@@ -1,10 +1,4 @@
-use Rattle.std.proofs.Common.{true, false, ap, subst, sym, ◌∙◌}
-use Rattle.accounts.specs.Maps.{AccountMaps}
-use Rattle.tree_model.specs.Tree.{quota_in}
-use Rattle.dir_tree.specs.Nodes.{as_term}
-use Rattle.flat_model.proofs.TreeReplies.{length_refused, length_told}
-use Rattle.storage_ops.specs.Found.{Leads}
-use Rattle.storage_ops.specs.Shown.{refusal}
+use Rattle.storage_ops.proofs.Prelude.{true, false, ap, subst, sym, ◌∙◌, AccountMaps, quota_in, as_term, length_refused, length_told, Leads, refusal}
 use Rattle.storage_ops.proofs.FoundLaws.{leads_segment}
 use Rattle.storage_ops.proofs.PathRefusals.{refusal_told, segment_refuses}
 use Rattle.storage_ops.proofs.store.Store.for_length.Goals as goal

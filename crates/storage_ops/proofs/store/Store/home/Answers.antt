@@ -1,6 +1,4 @@
-use Rattle.std.proofs.Common.{◌<◌, length, sym, subst, ℕ, arith}
-use Rattle.storage_ops.specs.Shown.{Storage, home_of}
-use Rattle.flat_model.proofs.NodeLaws.{volume_found}
+use Rattle.storage_ops.proofs.Prelude.{◌<◌, length, sym, subst, ℕ, arith, Storage, home_of, volume_found}
 use Rattle.storage_ops.proofs.Held.{there_held}
 use Rattle.storage_ops.proofs.Tables.{all_drives, homed_volume}
 use Rattle.storage_ops.proofs.store.Store.home.Goals as goal

@@ -1,17 +1,8 @@
-use Rattle.std.proofs.Common.{ℕ, List, Option, sym, subst, ◌∙◌}
-use Rattle.known_segs.specs.Known.{with_number}
-use Rattle.tree_model.specs.Tree.{quota_in}
-use Rattle.dir_tree.specs.Nodes.{as_term}
-use Rattle.page_control.specs.Plain.{plain}
-use Rattle.seg_control.specs.Control.{Control, kst_at}
-use Rattle.storage_ops.specs.Shown.{Shows, answered}
-use Rattle.flat_model.specs.Naming.{after_initiate}
+use Rattle.storage_ops.proofs.Prelude.{ℕ, List, Option, sym, subst, ◌∙◌, with_number, quota_in, as_term, plain, Control, kst_at, Shows, answered, after_initiate, segment_refuses, uid_below}
 use Rattle.storage_ops.proofs.Held.{held, shown_held, store_after}
-use Rattle.flat_model.proofs.PathRefusals.{segment_refuses}
 use Rattle.storage_ops.proofs.Known.{initiate_answered, known_store, under_with}
 use Rattle.storage_ops.proofs.NamingLaws.{initiate_refused, initiate_told}
 use Rattle.storage_ops.proofs.store.Store.initiate.Goals as goal
-use Rattle.tree_model.proofs.SharedLaws.{uid_below}
 
 pub returns-in-Err-clause-answer : goal.returns-in-Err-clause-answer
 returns-in-Err-clause-answer g c = λ p s h.

@@ -1,12 +1,5 @@
-use Rattle.std.proofs.Common.{true, false, List, Option, ℕ, is_some, sym, ap, ◌∙◌, ◌≡◌, Bool, cond, Some, None}
-use Rattle.known_segs.specs.Known.{number_for}
+use Rattle.storage_ops.proofs.Prelude.{true, false, List, Option, ℕ, is_some, sym, ap, ◌∙◌, ◌≡◌, Bool, cond, Some, None, number_for, quota_in, as_term, refusal, Shows, Plan, Flat, initiate_reply}
 use Rattle.book.specs.declared.replies.Reply.TheVariants as reply
-use Rattle.tree_model.specs.Tree.{quota_in}
-use Rattle.dir_tree.specs.Nodes.{as_term}
-use Rattle.storage_ops.specs.Shown.{refusal, Shows}
-use Rattle.script.specs.Plans.{Plan}
-use Rattle.flat_model.specs.Store.{Store as Flat}
-use Rattle.flat_model.specs.Naming.{initiate_reply}
 use Rattle.storage_ops.proofs.Held.{tree_held, known_held}
 use Rattle.storage_ops.proofs.NamingLaws.{initiate_free, initiate_refused}
 use Rattle.storage_ops.proofs.store.Store.initiate_refusal.Given.{Over}

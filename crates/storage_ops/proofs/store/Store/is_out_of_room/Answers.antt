@@ -1,11 +1,4 @@
-use Rattle.std.proofs.Common.{◌≡◌, ◌&&◌, Bool, true, false, not, refl, sym, ap, ◌∙◌}
-use Rattle.std.specs.Prelude.{is_none}
-use Rattle.tree_model.specs.Tree.{quota_in}
-use Rattle.dir_tree.specs.Nodes.{as_term}
-use Rattle.flat_model.proofs.NodeLaws.{volume_found}
-use Rattle.page_control.specs.declared.Home.{Home}
-use Rattle.page_control.specs.Counts.{is_full}
-use Rattle.storage_ops.specs.Rooms.{room_of}
+use Rattle.storage_ops.proofs.Prelude.{◌≡◌, ◌&&◌, Bool, true, false, not, refl, sym, ap, ◌∙◌, is_none, quota_in, as_term, volume_found, Home, is_full, room_of}
 use Rattle.storage_ops.proofs.store.Store.is_out_of_room.Given.{Over}
 use Rattle.storage_ops.proofs.store.Store.is_out_of_room.Goals.{After-is_full}
 use Rattle.storage_ops.proofs.store.Store.is_out_of_room.Goals as goal

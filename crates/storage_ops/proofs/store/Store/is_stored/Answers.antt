@@ -1,6 +1,4 @@
-use Rattle.std.proofs.Common.{is_some, ap, ◌∙◌}
-use Rattle.volumes.specs.Volumes.{Vols, vtoc_at}
-use Rattle.storage_ops.specs.Shown.{Storage, is_filed}
+use Rattle.storage_ops.proofs.Prelude.{is_some, ap, ◌∙◌, Vols, vtoc_at, Storage, is_filed}
 use Rattle.storage_ops.proofs.Held.{home_held, there_held}
 use Rattle.storage_ops.proofs.Lengths.{record_told}
 use Rattle.storage_ops.proofs.store.Store.is_stored.Goals as goal

@@ -1,8 +1,4 @@
-use Rattle.std.proofs.Common.{true, false, ap, ◌∙◌}
-use Rattle.tree_model.specs.Tree.{quota_in}
-use Rattle.dir_tree.specs.Nodes.{as_term}
-use Rattle.storage_ops.specs.Shown.{refusal}
-use Rattle.flat_model.proofs.TreeReplies.{length_refused}
+use Rattle.storage_ops.proofs.Prelude.{true, false, ap, ◌∙◌, quota_in, as_term, refusal, length_refused}
 use Rattle.storage_ops.proofs.Held.{tree_held}
 use Rattle.storage_ops.proofs.Lengths.{length_answered}
 use Rattle.storage_ops.proofs.store.Store.length_refusal.Goals as goal

@@ -1,8 +1,4 @@
-use Rattle.std.proofs.Common.{ℕ, sym, ap, ◌∙◌}
-use Rattle.tree_model.specs.Tree.{node_in, quota_in}
-use Rattle.page_control.specs.declared.Home.{Home}
-use Rattle.storage_ops.specs.Connecting.{pool_in}
-use Rattle.storage_ops.specs.Shown.{Storage, home_of}
+use Rattle.storage_ops.proofs.Prelude.{ℕ, sym, ap, ◌∙◌, node_in, quota_in, Home, pool_in, Storage, home_of}
 use Rattle.storage_ops.proofs.store.Store.link.Goals as goal
 
 pub returns : goal.returns

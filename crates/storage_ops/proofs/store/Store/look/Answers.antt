@@ -1,11 +1,4 @@
-use Rattle.std.proofs.Common.{◌≡◌, ◌<◌, ℕ, List, length, replicate, refl, sym, ap, subst, ◌∙◌, true}
-use Rattle.std.proofs.lemmas.List.{get_or-replicate}
-use Rattle.page_table.specs.declared.Ptw.{Ptw}
-use Rattle.page_table.specs.PageTable.{ptw_at}
-use Rattle.page_control.specs.Plain.{plain}
-use Rattle.page_control.specs.Tied.{has_record}
-use Rattle.seg_control.specs.Control.{word_of, table_of}
-use Rattle.storage_ops.specs.Shown.{is_there}
+use Rattle.storage_ops.proofs.Prelude.{◌≡◌, ◌<◌, ℕ, List, length, replicate, refl, sym, ap, subst, ◌∙◌, true, get_or-replicate, Ptw, ptw_at, plain, has_record, word_of, table_of, is_there}
 use Rattle.storage_ops.proofs.Held.{active_held, held, length_held, shown_held, word_held}
 use Rattle.storage_ops.proofs.PageFacts.{table_told, word_within}
 use Rattle.storage_ops.proofs.Paged.{active_there, word_filed}

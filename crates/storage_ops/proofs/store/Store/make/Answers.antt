@@ -1,13 +1,6 @@
-use Rattle.std.proofs.Common.{◌≡◌, ℕ, true, false, List, refl, sym, ap, subst, ◌∙◌}
-use Rattle.tree_model.specs.Tree.{Node, quota_in}
-use Rattle.dir_tree.specs.Nodes.{as_term, maker_rows}
-use Rattle.flat_model.specs.Making.{made_in, make_in}
-use Rattle.flat_model.specs.Store.{Store as Flat}
-use Rattle.storage_ops.specs.Shown.{Shows, answered}
+use Rattle.storage_ops.proofs.Prelude.{◌≡◌, ℕ, true, false, List, refl, sym, ap, subst, ◌∙◌, Node, quota_in, as_term, maker_rows, made_in, make_in, Flat, Shows, answered, node_refuses, make_in_segment, make_refused, make_root, make_told}
 use Rattle.storage_ops.proofs.Held.{shown_held, tree_held}
-use Rattle.flat_model.proofs.PathRefusals.{node_refuses}
 use Rattle.storage_ops.proofs.Made.{after_make_is}
-use Rattle.flat_model.proofs.TreeReplies.{make_in_segment, make_refused, make_root, make_told}
 use Rattle.storage_ops.proofs.store.Store.make.Goals as goal
 
 pub returns-in_default-clause-answer : goal.returns-in_default-clause-answer

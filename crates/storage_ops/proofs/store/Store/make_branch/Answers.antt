@@ -1,23 +1,11 @@
-use Rattle.std.proofs.Common.{◌≡◌, ℕ, Some, true, false, List, is_some, refl, sym, ap, subst, ◌∙◌}
+use Rattle.storage_ops.proofs.Prelude.{◌≡◌, ℕ, Some, true, false, List, is_some, refl, sym, ap, subst, ◌∙◌, branch_of, as_node, unless_none, Flat, Node, entries_on, ActiveSegs, allocated, Plain, plain, Links, TakesHome, IsStore, Shows, Storage, branch_made}
 use Rattle.book.specs.declared.replies.Reply.TheVariants as reply
-use Rattle.accounts.specs.Maps.{branch_of}
-use Rattle.dir_tree.specs.Nodes.{as_node}
-use Rattle.dir_tree.proofs.QuotaLemmas.{unless_none}
-use Rattle.flat_model.specs.Store.{Store as Flat}
-use Rattle.tree_model.specs.Tree.{Node, entries_on}
-use Rattle.active_segs.specs.Active.{ActiveSegs}
-use Rattle.page_control.specs.Effects.{allocated}
-use Rattle.page_control.specs.Plain.{Plain, plain}
-use Rattle.seg_control.specs.Control.{Links}
-use Rattle.storage_ops.specs.CutOff.{TakesHome}
-use Rattle.storage_ops.specs.Shown.{IsStore, Shows, Storage}
 use Rattle.storage_ops.proofs.Held.{held, shown_held}
 use Rattle.storage_ops.proofs.Homes.{HasNewHome, shown_new, store_new}
 use Rattle.storage_ops.proofs.Made.{all_used, length_inside, made_told, some_free}
 use Rattle.storage_ops.proofs.store.Store.make_branch.Given.{Over}
 use Rattle.storage_ops.proofs.store.Store.make_branch.Goals.{After-attach}
 use Rattle.storage_ops.proofs.store.Store.make_branch.Goals as goal
-use Rattle.flat_model.proofs.TreeLaws.{branch_made}
 
 pub attach-requires-clause-may : goal.attach-requires-clause-may
 attach-requires-clause-may g c = unless_none _ _ _ (sym c.may_add.ensures ∙ c.in-Ok.is)

@@ -1,25 +1,12 @@
-use Rattle.std.proofs.Common.{◌≡◌, ℕ, Some, None}
-use Rattle.std.proofs.Common.{List, Option, sym, ap, subst, ◌∙◌, arith}
-use Rattle.std.specs.Prelude.{nat_le}
-use Rattle.dir_tree.specs.Nodes.{has_inferior}
-use Rattle.flat_model.specs.Cuts.{without_pages}
-use Rattle.trailers.specs.Trailer.{trailers_of}
-use Rattle.active_segs.specs.declared.Entry.{Entry}
-use Rattle.active_segs.specs.Active.{ActiveSegs, HasNoInferior, IsOneToOne, uid_at as uid_in_place}
-use Rattle.seg_control.specs.Control.{Links}
-use Rattle.storage_ops.specs.Cut.{TakesOut}
-use Rattle.seg_control.specs.Kept.{IsInactive}
-use Rattle.storage_ops.specs.Shown.{IsCut, Storage, home_of, pages_in}
+use Rattle.storage_ops.proofs.Prelude.{◌≡◌, ℕ, Some, None, List, Option, sym, ap, subst, ◌∙◌, arith, nat_le, has_inferior, without_pages, trailers_of, Entry, ActiveSegs, HasNoInferior, IsOneToOne, uid_in_place, Links, TakesOut, IsInactive, IsCut, Storage, home_of, pages_in, place_of, from_first}
 use Rattle.storage_ops.proofs.Removed.{branch_same, leaf_place, place_away, place_cut, place_idle}
 use Rattle.storage_ops.proofs.Rest.{out_active, out_inactive, rest_both, rest_inactive, rest_none, rest_unstored}
 use Rattle.storage_ops.proofs.Unstored.{home_still, idle_still}
-use Rattle.seg_control.specs.Control.{place_of}
 use Rattle.storage_ops.proofs.CutExactly.{put_out_exactly}
 use Rattle.storage_ops.proofs.Paged.{place_found}
 use Rattle.storage_ops.proofs.store.Store.make_inactive.Given.{Over}
 use Rattle.storage_ops.proofs.store.Store.make_inactive.Goals.{After-drop_from, In-Some}
 use Rattle.storage_ops.proofs.store.Store.make_inactive.Goals as goal
-use Rattle.laws.proofs.Numbers.{from_first}
 
 -- the segment was in the place that was found, and its pages are dropped where it is
 place : (g : Over) (c : In-Some g)

@@ -1,9 +1,4 @@
-use Rattle.std.proofs.Common.{◌≡◌, ◌<◌, ℕ, true, length, sym, ap, subst, ◌∙◌}
-use Rattle.accounts.specs.Maps.{count_of}
-use Rattle.seg_mover.specs.Moves.{CanBegin}
-use Rattle.seg_control.specs.Moving.{pair_of}
-use Rattle.storage_ops.specs.Rooms.{is_roomy}
-use Rattle.storage_ops.specs.Shown.{Storage, home_of}
+use Rattle.storage_ops.proofs.Prelude.{◌≡◌, ◌<◌, ℕ, true, length, sym, ap, subst, ◌∙◌, count_of, CanBegin, pair_of, is_roomy, Storage, home_of}
 use Rattle.storage_ops.proofs.Held.{active_held, held}
 use Rattle.storage_ops.proofs.MoveFacts.{may_begin}
 use Rattle.storage_ops.proofs.store.Store.move_begin.Goals as goal

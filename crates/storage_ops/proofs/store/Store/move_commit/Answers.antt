@@ -1,13 +1,4 @@
-use Rattle.std.proofs.Common.{◌≡◌, Option, Some, refl, sym, ap, subst, ◌∙◌}
-use Rattle.std.specs.Prelude.{IfSome}
-use Rattle.tree_model.specs.Trees.{has_segment}
-use Rattle.page_control.specs.declared.Home.{Home}
-use Rattle.page_control.specs.Counts.{entries, size}
-use Rattle.page_control.specs.Plain.{plain}
-use Rattle.seg_mover.specs.declared.Mover.{Mover}
-use Rattle.seg_control.specs.Control.{Control, Links}
-use Rattle.seg_control.specs.Moving.{IsUnderWay, home_at}
-use Rattle.storage_ops.specs.Shown.{IsStore, Storage, home_of}
+use Rattle.storage_ops.proofs.Prelude.{◌≡◌, Option, Some, refl, sym, ap, subst, ◌∙◌, IfSome, has_segment, Home, entries, size, plain, Mover, Control, Links, IsUnderWay, home_at, IsStore, Storage, home_of}
 use Rattle.storage_ops.proofs.Held.{held, shown_held}
 use Rattle.storage_ops.proofs.MoveFacts.{committed_entries, committed_sizes}
 use Rattle.storage_ops.proofs.NodeLaws.{segment_there}

@@ -1,6 +1,4 @@
-use Rattle.std.proofs.Common.{w32}
-use Rattle.std.proofs.lemmas.Int.{to_z-of_z}
-use Rattle.page_control.specs.Plain.{plain}
+use Rattle.storage_ops.proofs.Prelude.{w32, to_z-of_z, plain}
 use Rattle.storage_ops.proofs.Held.{held, shown_held}
 use Rattle.storage_ops.proofs.Changed.{move_shown, move_store}
 use Rattle.storage_ops.proofs.store.Store.move_quota.Goals as goal

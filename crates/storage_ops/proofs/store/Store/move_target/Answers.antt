@@ -1,11 +1,4 @@
-use Rattle.std.proofs.Common.{◌≡◌, Bool, cond, List, None, sym, ap, ◌∙◌}
-use Rattle.script.specs.Plans.{Plan}
-use Rattle.tree_model.specs.Tree.{Node, volume_in}
-use Rattle.flat_model.specs.References.{is_volume_full}
-use Rattle.flat_model.specs.Rooms.{room_for}
-use Rattle.flat_model.specs.Store.{Store as Flat}
-use Rattle.page_control.specs.declared.Home.{Home}
-use Rattle.storage_ops.specs.Shown.{Shows}
+use Rattle.storage_ops.proofs.Prelude.{◌≡◌, Bool, cond, List, None, sym, ap, ◌∙◌, Plan, Node, volume_in, is_volume_full, room_for, Flat, Home, Shows}
 use Rattle.storage_ops.proofs.NodeLaws.{segment_there}
 use Rattle.storage_ops.proofs.PageRoom.{full_told}
 use Rattle.storage_ops.proofs.store.Store.move_target.Given.{Over}

@@ -1,18 +1,5 @@
-use Rattle.std.proofs.Common.{◌≡◌, ℕ, None, Some, true, false, length, is_some, replicate}
-use Rattle.std.proofs.Common.{refl, sym, ap, subst, ◌∙◌, arith, ◌<◌}
-use Rattle.std.proofs.lemmas.List.{length-replicate, length-map}
-use Rattle.script.specs.Plans.{Plan, ProcessPlan}
-use Rattle.accounts.specs.Maps.{root_alone}
-use Rattle.active_segs.specs.Active.{ActiveSegs, uid_at as uid_in_place}
-use Rattle.flat_model.specs.Store.{Store as Flat, root_of}
-use Rattle.page_control.specs.Effects.{after_asked}
-use Rattle.page_control.specs.Plain.{Plain, plain}
-use Rattle.seg_control.specs.Control.{Control, Links}
-use Rattle.storage_ops.specs.Shown.{AreFresh, IsStore, Shows, Storage}
-use Rattle.storage_ops.proofs.Fresh.{blank, boot_is, entries_some, entry_first, none_active, none_known}
-use Rattle.storage_ops.proofs.Fresh.{nothing}
-use Rattle.storage_ops.proofs.Fresh.{records_most}
-use Rattle.storage_ops.proofs.Fresh.{root_gains, shown_nothing, store_nothing}
+use Rattle.storage_ops.proofs.Prelude.{◌≡◌, ℕ, None, Some, true, false, length, is_some, replicate, refl, sym, ap, subst, ◌∙◌, arith, ◌<◌, length-replicate, length-map, Plan, ProcessPlan, root_alone, ActiveSegs, uid_in_place, Flat, root_of, after_asked, Plain, plain, Control, Links, AreFresh, IsStore, Shows, Storage}
+use Rattle.storage_ops.proofs.Fresh.{blank, boot_is, entries_some, entry_first, none_active, none_known, nothing, records_most, root_gains, shown_nothing, store_nothing}
 use Rattle.storage_ops.proofs.Homes.{HasNewHome, shown_new, store_new}
 use Rattle.storage_ops.proofs.Made.{length_inside}
 use Rattle.storage_ops.proofs.store.Store.new.Given.{Over}

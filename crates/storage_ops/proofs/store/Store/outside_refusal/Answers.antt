@@ -1,4 +1,4 @@
-use Rattle.std.proofs.Common.{◌∙◌}
+use Rattle.storage_ops.proofs.Prelude.{◌∙◌}
 use Rattle.storage_ops.proofs.Refusals.{outside_shown}
 use Rattle.storage_ops.proofs.store.Store.outside_refusal.Goals as goal
 

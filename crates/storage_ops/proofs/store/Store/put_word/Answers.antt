@@ -1,10 +1,5 @@
-use Rattle.std.proofs.Common.{◌+◌, ◌*◌, refl, subst, ◌∙◌}
-use Rattle.core_map.specs.CoreMap.{frame_at}
-use Rattle.page_control.specs.Plain.{number_in, plain, words_in}
+use Rattle.storage_ops.proofs.Prelude.{◌+◌, ◌*◌, refl, subst, ◌∙◌, frame_at, number_in, plain, words_in, written, Flat, Shows, Storage, home_of}
 use Rattle.page_control.specs.Tied.{uid_in}
-use Rattle.flat_model.specs.References.{written}
-use Rattle.flat_model.specs.Store.{Store as Flat}
-use Rattle.storage_ops.specs.Shown.{Shows, Storage, home_of}
 use Rattle.storage_ops.proofs.Held.{bound_held, held, shown_held}
 use Rattle.storage_ops.proofs.Paged.{active_there}
 use Rattle.storage_ops.proofs.PageWords.{bound_active, bound_filed, bound_words, shown_put, written_there}

@@ -1,14 +1,8 @@
-use Rattle.std.proofs.Common.{IsSome, sym, subst}
+use Rattle.storage_ops.proofs.Prelude.{IsSome, sym, subst, plain, Control, reconnected, AreRights, Shows, Storage, some_number}
 use Rattle.active_segs.specs.Active.{uid_at}
-use Rattle.page_control.specs.Plain.{plain}
-use Rattle.seg_control.specs.Control.{Control}
-use Rattle.seg_control.specs.Effects.{reconnected}
-use Rattle.storage_ops.specs.Connecting.{AreRights}
-use Rattle.storage_ops.specs.Shown.{Shows, Storage}
 use Rattle.storage_ops.proofs.Held.{held, shown_held, store_after}
 use Rattle.storage_ops.proofs.LinkLaws.{known_reconnected, shown_linked, store_reconnected}
 use Rattle.storage_ops.proofs.store.Store.reconnect_all.Goals as goal
-use Rattle.laws.proofs.Options.{some_number}
 
 pub invariant_of-self : goal.invariant_of-self
 invariant_of-self g c =

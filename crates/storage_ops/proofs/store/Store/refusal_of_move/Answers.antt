@@ -1,8 +1,5 @@
-use Rattle.std.proofs.Common.{ℤ, rules, ap, ◌∙◌, w32}
-use Rattle.std.proofs.lemmas.Int.{to_z-of_z}
+use Rattle.storage_ops.proofs.Prelude.{ℤ, rules, ap, ◌∙◌, w32, to_z-of_z, move_reply, refusal}
 use mir.Val.{SFits}
-use Rattle.flat_model.specs.Rights.{move_reply}
-use Rattle.storage_ops.specs.Shown.{refusal}
 use Rattle.storage_ops.proofs.store.Store.refusal_of_move.Goals as goal
 
 pub returns : goal.returns

@@ -1,16 +1,8 @@
-use Rattle.std.proofs.Common.{◌≡◌, refl, sym, ap, subst, ◌∙◌}
-use Rattle.active_segs.specs.Active.{ActiveSegs}
-use Rattle.page_control.specs.Plain.{Plain, plain}
-use Rattle.seg_control.specs.Control.{Links}
-use Rattle.seg_control.specs.Kept.{IsInactive}
-use Rattle.storage_ops.specs.Cut.{KeepsRest}
-use Rattle.storage_ops.specs.Shown.{IsStore, Storage, home_of}
+use Rattle.storage_ops.proofs.Prelude.{◌≡◌, refl, sym, ap, subst, ◌∙◌, ActiveSegs, Plain, plain, Links, IsInactive, KeepsRest, IsStore, Storage, home_of, Home, erased}
 use Rattle.storage_ops.proofs.Held.{held, home_held, shown_held, there_held}
 use Rattle.storage_ops.proofs.NodeLaws.{found_there}
 use Rattle.storage_ops.proofs.Removed.{removed_done, shown_removed, store_removed}
 use Rattle.storage_ops.proofs.Rest.{rest_erased}
-use Rattle.page_control.specs.declared.Home.{Home}
-use Rattle.page_control.specs.Effects.{erased}
 use Rattle.storage_ops.proofs.store.Store.remove.Goals as goal
 
 pub invariant_of-self : goal.invariant_of-self

@@ -1,8 +1,4 @@
-use Rattle.std.proofs.Common.{ℕ, List, ap, subst, sym, ◌∙◌}
-use Rattle.descriptor_seg.specs.declared.Sdw.{Sdw}
-use Rattle.descriptor_seg.specs.Descriptors.{sdw_at}
-use Rattle.seg_control.specs.Control.{Control, sdws_at}
-use Rattle.seg_control.specs.Kept.{AreLinked}
+use Rattle.storage_ops.proofs.Prelude.{ℕ, List, ap, subst, sym, ◌∙◌, Sdw, sdw_at, Control, sdws_at, AreLinked}
 use Rattle.storage_ops.proofs.ByDescriptor.{held_refuses}
 use Rattle.storage_ops.proofs.store.Store.right_held.Goals as goal
 

@@ -1,7 +1,4 @@
-use Rattle.std.proofs.Common.{◌≡◌, rules, ◌∙◌}
-use Rattle.accounts.specs.Maps.{count_of}
-use Rattle.tree_model.specs.Tree.{volume_in}
-use Rattle.storage_ops.specs.Rooms.{first_roomy}
+use Rattle.storage_ops.proofs.Prelude.{◌≡◌, rules, ◌∙◌, count_of, volume_in, first_roomy}
 use Rattle.storage_ops.proofs.RoomsFound.{room_shown}
 use Rattle.storage_ops.proofs.store.Store.room_for.Goals as goal
 

@@ -1,5 +1,4 @@
-use Rattle.tree_model.specs.Tree.{quota_in}
-use Rattle.dir_tree.specs.Nodes.{as_term}
+use Rattle.storage_ops.proofs.Prelude.{quota_in, as_term}
 use Rattle.storage_ops.proofs.Refusals.{long_segment}
 use Rattle.storage_ops.proofs.store.Store.room_in.Goals as goal
 

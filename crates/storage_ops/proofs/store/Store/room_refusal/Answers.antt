@@ -1,4 +1,4 @@
-use Rattle.std.proofs.Common.{◌∙◌}
+use Rattle.storage_ops.proofs.Prelude.{◌∙◌}
 use Rattle.storage_ops.proofs.Refusals.{room_found}
 use Rattle.storage_ops.proofs.store.Store.room_refusal.Goals as goal
 

@@ -1,7 +1,4 @@
-use Rattle.std.proofs.Common.{sym, subst}
-use Rattle.flat_model.specs.Rights.{row_with}
-use Rattle.page_control.specs.Plain.{plain}
-use Rattle.storage_ops.specs.Shown.{IsCutAt, Storage}
+use Rattle.storage_ops.proofs.Prelude.{sym, subst, row_with, plain, IsCutAt, Storage}
 use Rattle.storage_ops.proofs.Held.{held, shown_held}
 use Rattle.storage_ops.proofs.Changed.{acl_shown, acl_store}
 use Rattle.storage_ops.proofs.store.Store.set_acl.Goals as goal

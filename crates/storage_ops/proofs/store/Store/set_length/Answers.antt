@@ -1,13 +1,6 @@
-use Rattle.std.proofs.Common.{◌≡◌, true, false, refl, sym, ap, subst, ◌∙◌}
-use Rattle.tree_model.specs.Tree.{Node, quota_in}
-use Rattle.dir_tree.specs.Nodes.{as_term}
-use Rattle.page_control.specs.Plain.{plain}
-use Rattle.storage_ops.specs.Cut.{HasLengthSet}
-use Rattle.storage_ops.specs.Shown.{IsInactiveAt, Storage, is_filed}
+use Rattle.storage_ops.proofs.Prelude.{◌≡◌, true, false, refl, sym, ap, subst, ◌∙◌, Node, quota_in, as_term, plain, HasLengthSet, IsInactiveAt, Storage, is_filed, segment_refuses, length_refused}
 use Rattle.storage_ops.proofs.Held.{held, shown_held, tree_held}
-use Rattle.flat_model.proofs.PathRefusals.{segment_refuses}
 use Rattle.storage_ops.proofs.Lengths.{length_answered, length_shown, length_store}
-use Rattle.flat_model.proofs.TreeReplies.{length_refused}
 use Rattle.storage_ops.proofs.store.Store.set_length.Goals as goal
 
 pub returns-in-Err-clause-answer : goal.returns-in-Err-clause-answer

@@ -1,23 +1,5 @@
-use Rattle.std.proofs.Common.{◌≡◌, ℕ, Bool, true, false, cond, ◌&&◌, List, Err, set, replicate, refl, sym, ap, subst, ◌∙◌, Some}
-use Rattle.std.specs.Prelude.{is_none}
+use Rattle.storage_ops.proofs.Prelude.{◌≡◌, ℕ, Bool, true, false, cond, ◌&&◌, List, Err, set, replicate, refl, sym, ap, subst, ◌∙◌, Some, is_none, eq-eqb, Node, volume_in, node_in, is_out_of_room, is_used_up, is_volume_full, room_for, Home, plain, is_full, one_more, size, taken, created, next_record, ChangesStored, ChangesWords, Links, IsPageMade, move_target, IsStore, Shows, Storage, volume_found, Plan, Flat, has_segment, found_uid}
 use Rattle.book.specs.declared.replies.Reply.TheVariants as reply
-use Rattle.std.proofs.lemmas.Bool.{eq-eqb}
-use Rattle.tree_model.specs.Tree.{Node, volume_in, node_in}
-use Rattle.flat_model.specs.References.{is_out_of_room, is_used_up, is_volume_full}
-use Rattle.flat_model.specs.Rooms.{room_for}
-use Rattle.page_control.specs.declared.Home.{Home}
-use Rattle.page_control.specs.Plain.{plain}
-use Rattle.page_control.specs.Counts.{is_full, one_more, size, taken}
-use Rattle.page_control.specs.Effects.{created, next_record}
-use Rattle.page_control.specs.Picture.{ChangesStored, ChangesWords}
-use Rattle.seg_control.specs.Control.{Links}
-use Rattle.storage_ops.specs.Paged.{IsPageMade}
-use Rattle.storage_ops.specs.Rooms.{move_target}
-use Rattle.storage_ops.specs.Shown.{IsStore, Shows, Storage}
-use Rattle.flat_model.proofs.NodeLaws.{volume_found}
-use Rattle.script.specs.Plans.{Plan}
-use Rattle.flat_model.specs.Store.{Store as Flat}
-use Rattle.tree_model.specs.Trees.{has_segment}
 use Rattle.storage_ops.proofs.Held.{active_held, held, home_held, length_held, shown_held, word_held}
 use Rattle.storage_ops.proofs.PageFacts.{node_segment, word_within}
 use Rattle.storage_ops.proofs.PageMade.{shown_made, store_made}
@@ -26,7 +8,6 @@ use Rattle.storage_ops.proofs.PageRoom.{all_taken, full_told, no_quota, no_recor
 use Rattle.storage_ops.proofs.store.Store.store_page.Given.{Over}
 use Rattle.storage_ops.proofs.store.Store.store_page.Goals.{After-is_full, After-look}
 use Rattle.storage_ops.proofs.store.Store.store_page.Goals as goal
-use Rattle.tree_model.proofs.SharedLaws.{found_uid}
 
 -- whether the volume of the node is full
 full : (g : Over) (c : After-is_full g) (p : Plan) (s : Flat) (n : Node)

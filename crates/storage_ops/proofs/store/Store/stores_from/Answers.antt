@@ -1,7 +1,4 @@
-use Rattle.std.proofs.Common.{◌≡◌, ◌≤◌, ◌<◌, ℕ, is_some, false, ap, subst, ◌∙◌}
-use Rattle.vtoc.specs.Vtoc.{record_at}
-use Rattle.volumes.specs.Volumes.{Vols, vtoc_at}
-use Rattle.storage_ops.specs.Shown.{Storage, is_filed}
+use Rattle.storage_ops.proofs.Prelude.{◌≡◌, ◌≤◌, ◌<◌, ℕ, is_some, false, ap, subst, ◌∙◌, record_at, Vols, vtoc_at, Storage, is_filed}
 use Rattle.storage_ops.proofs.Held.{held, home_held, shown_held, there_held}
 use Rattle.storage_ops.proofs.Lengths.{from_told, within_told}
 use Rattle.storage_ops.proofs.store.Store.stores_from.Goals as goal

@@ -1,20 +1,10 @@
-use Rattle.std.proofs.Common.{◌≡◌, ◌<◌, ℕ, List, Option, Err, length, sym, ap, subst, ◌∙◌}
-use Rattle.std.proofs.lemmas.List.{get_or_read}
-use Rattle.mnames.specs.declared.principals.Who.{Who}
-use Rattle.script.specs.Plans.{nobody}
-use Rattle.book.specs.declared.replies.Reply.{Reply}
+use Rattle.storage_ops.proofs.Prelude.{◌≡◌, ◌<◌, ℕ, List, Option, Err, length, sym, ap, subst, ◌∙◌, get_or_read, Who, nobody, Reply, uid_of, node_in, quota_in, as_term, refusal_in, target, unless, IsFound, IsThere, Storage, who_at, found_uid}
 use Rattle.book.specs.declared.replies.Reply.TheVariants as reply
-use Rattle.known_segs.specs.Known.{uid_of}
-use Rattle.tree_model.specs.Tree.{node_in, quota_in}
-use Rattle.dir_tree.specs.Nodes.{as_term}
-use Rattle.storage_ops.specs.References.{refusal_in, target, unless}
-use Rattle.storage_ops.specs.Shown.{IsFound, IsThere, Storage, who_at}
 use Rattle.storage_ops.proofs.Held.{held}
 use Rattle.storage_ops.proofs.Refusals.{target_found, target_gone, target_unknown, within_told}
 use Rattle.storage_ops.proofs.store.Store.target.Given.{Over}
 use Rattle.storage_ops.proofs.store.Store.target.Goals.{After-refusal_in}
 use Rattle.storage_ops.proofs.store.Store.target.Goals as goal
-use Rattle.tree_model.proofs.SharedLaws.{found_uid}
 
 -- the segment that a number stands for is there, and what refuses the reference is told of it
 found : (g : Over) (c : After-refusal_in g)

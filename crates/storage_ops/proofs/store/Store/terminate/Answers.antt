@@ -1,10 +1,5 @@
-use Rattle.std.proofs.Common.{◌≡◌, Bool, true, false, not, ℕ, List, Option, cond, is_some, refl, sym, ap, subst, ◌∙◌}
+use Rattle.storage_ops.proofs.Prelude.{◌≡◌, Bool, true, false, not, ℕ, List, Option, cond, is_some, refl, sym, ap, subst, ◌∙◌, uid_of, after_terminate, terminate_reply, Control, Shows, Flat}
 use Rattle.book.specs.declared.replies.Reply.TheVariants as reply
-use Rattle.known_segs.specs.Known.{uid_of}
-use Rattle.flat_model.specs.Naming.{after_terminate, terminate_reply}
-use Rattle.seg_control.specs.Control.{Control}
-use Rattle.storage_ops.specs.Shown.{Shows}
-use Rattle.flat_model.specs.Store.{Store as Flat}
 use Rattle.storage_ops.proofs.Held.{held, shown_held, known_held}
 use Rattle.storage_ops.proofs.Known.{terminate_shown}
 use Rattle.storage_ops.proofs.NamingLaws.{terminate_told}

@@ -1,6 +1,4 @@
-use Rattle.std.proofs.Common.{List, Option, Some, None, ℕ, refl, sym, ap, ◌∙◌}
-use Rattle.known_segs.specs.Known.{uid_of}
-use Rattle.storage_ops.specs.Shown.{Storage, refusal}
+use Rattle.storage_ops.proofs.Prelude.{List, Option, Some, None, ℕ, refl, sym, ap, ◌∙◌, uid_of, Storage, refusal}
 use Rattle.storage_ops.proofs.NamingLaws.{terminate_told}
 use Rattle.storage_ops.proofs.store.Store.terminate_refusal.Goals as goal
 

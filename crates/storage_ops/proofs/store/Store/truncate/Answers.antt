@@ -1,17 +1,6 @@
-use Rattle.std.proofs.Common.{◌≡◌, ℕ, Ok}
-use Rattle.std.proofs.Common.{List, sym, ap, subst, ◌∙◌}
-use Rattle.tree_model.specs.Tree.{Node, quota_in}
-use Rattle.dir_tree.specs.Nodes.{as_term}
-use Rattle.flat_model.specs.Branches.{segment_at}
-use Rattle.flat_model.specs.Store.{Store as Flat}
-use Rattle.flat_model.proofs.CutLaws.{truncate_done}
-use Rattle.flat_model.proofs.TreeReplies.{truncate_refused, truncate_told}
-use Rattle.storage_ops.specs.Cut.{CutsPages, IsTakenPast, IsTakenPastAt}
-use Rattle.storage_ops.specs.Shown.{Shows, Storage, home_of, pages_in}
+use Rattle.storage_ops.proofs.Prelude.{◌≡◌, ℕ, Ok, List, sym, ap, subst, ◌∙◌, Node, quota_in, as_term, segment_at, Flat, truncate_done, truncate_refused, truncate_told, CutsPages, IsTakenPast, IsTakenPastAt, Shows, Storage, home_of, pages_in, segment_refuses, CountsOthers, cut_at, paged}
 use Rattle.storage_ops.proofs.Held.{tree_held}
-use Rattle.flat_model.proofs.PathRefusals.{segment_refuses}
 use Rattle.storage_ops.proofs.Rest.{rest_none, rest_unstored}
-use Rattle.storage_ops.specs.CutOff.{CountsOthers, cut_at, paged}
 use Rattle.storage_ops.proofs.CutExactly.{not_both_found, same_uid}
 use Rattle.storage_ops.proofs.store.Store.truncate.Given.{Over}
 use Rattle.storage_ops.proofs.store.Store.truncate.Goals.{In-Ok}

@@ -1,16 +1,7 @@
-use Rattle.std.proofs.Common.{sym, ap, subst, ◌∙◌, refl}
-use Rattle.flat_model.specs.Store.{Store as Flat}
-use Rattle.flat_model.proofs.DropLaws.{none_missing}
-use Rattle.active_segs.specs.Active.{ActiveSegs}
-use Rattle.page_control.specs.Plain.{plain}
-use Rattle.page_control.specs.Tied.{has_record, is_away}
-use Rattle.seg_control.specs.Control.{word_of}
-use Rattle.storage_ops.specs.Cut.{is_here}
-use Rattle.storage_ops.specs.Shown.{Shows, Storage, home_of}
+use Rattle.storage_ops.proofs.Prelude.{sym, ap, subst, ◌∙◌, refl, Flat, none_missing, ActiveSegs, plain, has_record, is_away, word_of, is_here, Shows, Storage, home_of, page_cut, paged, LosesPage}
 use Rattle.storage_ops.proofs.Held.{active_held, held, word_held}
 use Rattle.storage_ops.proofs.PagesLess.{null_of, unstores_null}
 use Rattle.storage_ops.proofs.Paged.{active_tie, blank_shown, word_filed}
-use Rattle.storage_ops.specs.CutOff.{page_cut, paged, LosesPage}
 use Rattle.storage_ops.proofs.store.Store.unstore.Goals as goal
 
 pub drop_page-requires-clause-away : goal.drop_page-requires-clause-away

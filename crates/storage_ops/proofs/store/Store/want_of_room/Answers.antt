@@ -1,12 +1,5 @@
-use Rattle.std.proofs.Common.{◌≡◌, true, false, sym, ap, subst, ◌∙◌, ℕ, List, Bool, cond, Some, None}
-use Rattle.accounts.specs.Maps.{Counts}
-use Rattle.quota_cells.specs.Scratch.{charge_answer}
+use Rattle.storage_ops.proofs.Prelude.{◌≡◌, true, false, sym, ap, subst, ◌∙◌, ℕ, List, Bool, cond, Some, None, Counts, charge_answer, quota_in, as_term, is_spent, want_of_room, Storage, is_err}
 use Rattle.book.specs.declared.replies.Reply.TheVariants as reply
-use Rattle.tree_model.specs.Tree.{quota_in}
-use Rattle.dir_tree.specs.Nodes.{as_term}
-use Rattle.storage_ops.specs.References.{is_spent, want_of_room}
-use Rattle.storage_ops.specs.Shown.{Storage}
-use Rattle.std.specs.Result.{is_err}
 use Rattle.storage_ops.proofs.PageRoom.{spent_told}
 use Rattle.storage_ops.proofs.Refusals.{want_told}
 use Rattle.storage_ops.proofs.store.Store.want_of_room.Given.{Over}

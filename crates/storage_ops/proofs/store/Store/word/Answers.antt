@@ -1,8 +1,5 @@
-use Rattle.std.proofs.Common.{◌≡◌, ◌+◌, ◌*◌, sym, subst, ◌∙◌}
-use Rattle.core_map.specs.CoreMap.{frame_at}
-use Rattle.page_control.specs.Plain.{number_in, plain, words_in}
+use Rattle.storage_ops.proofs.Prelude.{◌≡◌, ◌+◌, ◌*◌, sym, subst, ◌∙◌, frame_at, number_in, plain, words_in, Storage, home_of}
 use Rattle.page_control.specs.Tied.{uid_in}
-use Rattle.storage_ops.specs.Shown.{Storage, home_of}
 use Rattle.storage_ops.proofs.Held.{bound_held, held, shown_held}
 use Rattle.storage_ops.proofs.Paged.{active_there}
 use Rattle.storage_ops.proofs.PageWords.{bound_active, bound_words, word_at}

@@ -1,4 +1,4 @@
-use Rattle.std.proofs.Common.{◌∙◌, ℕ, List, Option, ap, set}
+use Rattle.vtoc.proofs.Prelude.{◌∙◌, ℕ, List, Option, ap, set}
 use Rattle.vtoc.proofs.Codes.{write_code}
 use Rattle.vtoc.proofs.file_map.FileMap.put.Goals as goal
 

@@ -1,5 +1,4 @@
-use Rattle.std.proofs.Common.{None, ap, arith}
-use Rattle.vtoc.specs.declared.slots.Slot.{Slot}
+use Rattle.vtoc.proofs.Prelude.{None, ap, arith, Slot}
 use Rattle.vtoc.proofs.Held.{used_held, held_read, set_held, roomy_set, slot_with}
 use Rattle.vtoc.proofs.slots.Slots.clear.Goals as goal
 

@@ -1,6 +1,4 @@
-use Rattle.std.proofs.Common.{◌<◌, ◌≤◌, Some, ap, refl, length, arith}
-use Rattle.std.proofs.lemmas.Grind.{common_steps}
-use Rattle.vtoc.specs.declared.slots.Slot.{Slot}
+use Rattle.vtoc.proofs.Prelude.{◌<◌, ◌≤◌, Some, ap, refl, length, arith, common_steps, Slot}
 use Rattle.vtoc.proofs.Held.{at_end, held_read, push_held, roomy_push, set_held, size_slots, slot_with}
 use Rattle.vtoc.proofs.slots.Slots.give.Goals as goal
 

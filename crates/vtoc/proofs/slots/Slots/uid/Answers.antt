@@ -1,6 +1,4 @@
-use Rattle.std.proofs.Common.{◌≡◌, ◌<◌, ◌≤◌, ap, length, get_or, arith}
-use Rattle.std.proofs.lemmas.Grind.{common_steps}
-use Rattle.vtoc.specs.declared.slots.Slot.{Slot}
+use Rattle.vtoc.proofs.Prelude.{◌≡◌, ◌<◌, ◌≤◌, ap, length, get_or, arith, common_steps, Slot}
 use Rattle.vtoc.proofs.Held.{held_read, past_read}
 use Rattle.vtoc.proofs.slots.Slots.uid.Goals as goal
 

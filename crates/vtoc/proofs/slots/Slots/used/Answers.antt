@@ -1,4 +1,4 @@
-use Rattle.std.proofs.Common.{arith}
+use Rattle.vtoc.proofs.Prelude.{arith}
 use Rattle.vtoc.proofs.Held.{used_held, held_read}
 use Rattle.vtoc.proofs.slots.Slots.used.Goals as goal
 
