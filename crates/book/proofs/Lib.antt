@@ -1,3 +1,4 @@
+pub mod AnswerLaws
 pub mod Numbers
 pub mod ReadingLaws
 pub mod TextLaws

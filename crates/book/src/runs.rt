@@ -1,4 +1,6 @@
-ghost use Rattle.std.specs.Prelude.{◌≡◌, ◌+◌, ◌<◌, ◌≤◌, [], ◌∷◌, ◌++◌, length, IfOk, OnOk, ◌==◌, slice_get, Some};
+ghost use Rattle.std.specs.Prelude.{◌≡◌, ◌+◌, ◌<◌, ◌≤◌, [], ◌∷◌, ◌++◌, drop, length, IfOk, OnOk, ◌==◌, slice_get, Some};
+ghost use Rattle.std.specs.List.{list_any};
+ghost use Rattle.book.specs.Books.{is_answer};
 
 use crate::entries::Entry;
 use crate::replies::Reply;
@@ -13,11 +15,13 @@ use std::marker::Model;
 pub struct Book {
     script: Script,
     entries: Vec<Entry>,
+    /// How many entries there are up to the last one that answers a command, with it.
+    answered: usize,
 }
 
 impl Model for Book {
     ghost use Rattle.std.specs.Prelude.{◌-◌, vec_len, vec_capacity};
-    ghost use Rattle.book.specs.Books.{Ledger};
+    ghost use Rattle.book.specs.Books.{AnswersUpTo, Ledger};
 
     ghost Value = { Ledger };
 
@@ -26,6 +30,8 @@ impl Model for Book {
       entries = b.entries.items;
       spare = vec_capacity b.entries - vec_len b.entries;
     } };
+
+    ghost invariant = { λ b. AnswersUpTo b.entries.items b.answered };
 }
 
 impl Book {
@@ -37,6 +43,7 @@ impl Book {
         Ok(Book {
             script,
             entries: Vec::new(alloc),
+            answered: 0,
         })
     }
 
@@ -50,6 +57,7 @@ impl Book {
     }
 
     /// Appends an entry, for which there must be room. It takes no memory.
+    #[tactic(auto, using(crate::proofs::AnswerLaws::answer_more, crate::proofs::AnswerLaws::other_more))]
     pub fn push(&mut self, e: Entry)
         requires { 0 < self.old.spare }
         ensures entries { self.new.entries ≡ self.old.entries ++ e ∷ [] }
@@ -58,7 +66,17 @@ impl Book {
     {
         // A check of this call wants the type of an entry's reply named.
         let _named: Option<Reply> = None;
+        if matches!(e, Entry::Do { .. }) {
+            self.answered = self.entries.len() + 1;
+        }
         self.entries.push_reserved(e);
+    }
+
+    /// Whether an entry from place `n` on answers a command, or a try of one. Costs one comparison.
+    pub fn answers_from(&self, n: usize) -> bool
+        ensures { result ≡ list_any is_answer (drop n self.now.entries) }
+    {
+        n < self.answered
     }
 
     /// How many entries there are.

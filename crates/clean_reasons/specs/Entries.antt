@@ -1,12 +1,7 @@
--- The entries that answer commands, and those of the processors, of the frames, and of the segments (own).
+-- The entries of the processors, of the frames, and of the segments (own).
 use Rattle.std.specs.Prelude.{Bool, true, false}
 use Rattle.book.specs.declared.entries.Entry.{Entry}
 use Rattle.book.specs.declared.entries.Entry.TheVariants as entry
-
--- an entry is the answer to a command
-abbrev pub is_answer : Entry → Bool
-is_answer (entry.Do k i d f r) = true
-is_answer _ = false
 
 abbrev pub is_of_seats : Entry → Bool
 is_of_seats (entry.Online d) = true

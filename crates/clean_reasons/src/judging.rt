@@ -3,7 +3,8 @@ ghost use Rattle.flat_model.specs.Store.{Store};
 ghost use Rattle.flat_store.specs.Shown.{Shows};
 ghost use Rattle.custody_model.specs.Allowed.{IsAllowed};
 ghost use Rattle.custody.specs.Tables.{AreNodes, AreTablesOf, custody_of};
-ghost use Rattle.clean_reasons.specs.Entries.{is_answer, is_of_frames, is_of_seats, is_of_segments};
+ghost use Rattle.book.specs.Books.{is_answer};
+ghost use Rattle.clean_reasons.specs.Entries.{is_of_frames, is_of_seats, is_of_segments};
 ghost use Rattle.clean_reasons.specs.Reasons.{AreRefusals, IsSo, Tells};
 
 use crate::reasons::Reason;

@@ -12,6 +12,7 @@ pub use Rattle.std.specs.Prelude.{All, IfOk, Ok, OnOk, Result, replicate, string
 unfoldable pub use Rattle.draws.specs.Draws.{drawn, next_state}
 unfoldable pub use Rattle.script.specs.Grammar.{script_of}
 pub use Rattle.script.specs.Plans.{Plan}
+pub use Rattle.book.specs.Books.{is_answer}
 pub use Rattle.book.specs.declared.entries.Entry.{Entry}
 pub use Rattle.outcomes.specs.Tables.{Table}
 unfoldable pub use Rattle.outcomes.specs.Tables.{added}
@@ -30,7 +31,7 @@ pub use Rattle.runner.proofs.DriveLaws.{all_counted, told_faults, told_still}
 pub use Rattle.runner.specs.Drives.{AreTold, faults_in, plan_of}
 pub use Rattle.runner.specs.Runs.{IsBooted, Machine}
 pub use Rattle.schedule.specs.declared.orders.Line.{Line}
-pub use Rattle.lab_runs.specs.Drawn.{AreAnswered, AreLast, AreTo, Draws, DrawsOne, DrawsOut, DrawsUntil, HasDrawn, IsAnswering, IsEnding, answers, found_end, is_answer}
+pub use Rattle.lab_runs.specs.Drawn.{AreAnswered, AreLast, AreTo, Draws, DrawsOne, DrawsOut, DrawsUntil, HasDrawn, IsAnswering, IsEnding, answers, found_end}
 pub use Rattle.lab_runs.specs.Orders.{Adds, AreFollowed, CameTo, FollowsOrder, IsAstray, IsFollowed, Strays, StraysIn, Tries, TriesOne, appends, drawn_cpus, entry_begins, is_end, numbers, rounds, state_after}
 pub use Rattle.lab_runs.specs.Outcomes.{AddsDrawn, AddsRun, Gathers, accounts_after, replies_of}
 pub use Rattle.lab_runs.specs.Runs.{EndsRan, HasRunBy, IsTraceable, RunsAstray}

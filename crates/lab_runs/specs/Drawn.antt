@@ -2,8 +2,8 @@
 use Rattle.std.specs.Prelude.{◌≡◌, ◌⊎◌, ◌≤◌, ◌++◌, ℕ, zero, suc, Bool, true, false, List, [], ◌∷◌, drop, length, map}
 use Rattle.std.specs.Prelude.{sum_by}
 use Rattle.std.specs.List.{list_any}
+use Rattle.book.specs.Books.{is_answer}
 use Rattle.book.specs.declared.entries.Entry.{Entry}
-use Rattle.book.specs.declared.entries.Entry.TheVariants as entry
 use Rattle.draws.specs.Draws.{drawn, next_state}
 use Rattle.runner.specs.Runs.{IsBooted, Machine}
 use Rattle.script.specs.Plans.{Plan}
@@ -14,11 +14,6 @@ use Rattle.lab_runs.specs.Steps.{AreMade, IsMade, Runs, moves_of, processor_of}
 use Rattle.lab_runs.specs.declared.following.Trial.{Trial}
 use Rattle.lab_runs.specs.declared.following.Trial.TheVariants as trial
 use Rattle.lab_runs.specs.declared.steps.Step.{Step}
-
--- whether an entry answers a command
-abbrev pub is_answer : Entry → Bool
-is_answer (entry.Do process place cpu frame reply) = true
-is_answer _ = false
 
 -- whether one of the entries that were appended answers a command
 abbrev pub answers : Machine → Machine → Bool

@@ -1,14 +1,12 @@
 //! A machine makes the steps of a drawn schedule until all processes have ended.
 
-ghost use Rattle.std.specs.Prelude.{◌≡◌, ◌<◌, ◌≤◌, ◌^◌, IfOk, OnOk, drop, length};
-ghost use Rattle.std.specs.List.{list_any};
-ghost use Rattle.lab_runs.specs.Drawn.{DrawsOne, DrawsOut, DrawsUntil, HasDrawn, is_answer};
+ghost use Rattle.std.specs.Prelude.{◌≡◌, ◌<◌, ◌≤◌, ◌^◌, IfOk, OnOk, length};
+ghost use Rattle.lab_runs.specs.Drawn.{DrawsOne, DrawsOut, DrawsUntil, HasDrawn};
 
 use crate::NoMemory;
 use crate::following::{Trial, came_of};
 use crate::running::{Ran, end};
 use crate::steps::{make_step, processors_of};
-use book::{Book, Entry};
 use bulk_store::AnyDrive;
 use draws::Draws;
 use machine::Machine;
@@ -18,22 +16,6 @@ use std::alloc::Global;
 
 /// After so many steps in a row of which none answered a command no more are drawn.
 const IDLE: u32 = 100_000;
-
-/// Whether an entry answers a command.
-fn is_answer(entry: &Entry) -> bool
-    ensures { result ≡ is_answer entry.now }
-{
-    matches!(entry, Entry::Do { .. })
-}
-
-/// Whether one of the entries of a book from a place on answers a command.
-fn has_answered_since(book: &Book, place: usize) -> bool
-    requires { place ≤ length book.now.entries }
-    ensures { result ≡ list_any is_answer (drop place book.now.entries) }
-{
-    let (_, entries) = book.entries().split_at(place);
-    entries.iter().any(|entry| is_answer(entry))
-}
 
 /// A processor that is drawn makes its next step.
 fn draw_step(machine: &mut Machine<AnyDrive>, draws: &mut Draws) -> Result<Trial, NoMemory>
@@ -45,7 +27,7 @@ fn draw_step(machine: &mut Machine<AnyDrive>, draws: &mut Draws) -> Result<Trial
     let before = machine.book().len();
     let c = draws.draw(processors_of(machine));
     let step = make_step(machine, c)?;
-    let answered = has_answered_since(machine.book(), before);
+    let answered = machine.book().answers_from(before);
     Ok(came_of(answered, step.answer))
 }
 

@@ -1,17 +1,12 @@
 -- How many steps in a row of a machine answered no command (own).
-use Rattle.std.specs.Prelude.{ℕ, ◌+◌, Bool, true, false, if◌then◌else◌, drop, length, List}
+use Rattle.std.specs.Prelude.{ℕ, ◌+◌, if◌then◌else◌, drop, length, List}
 use Rattle.std.specs.List.{list_any}
+use Rattle.book.specs.Books.{is_answer}
 use Rattle.book.specs.declared.entries.Entry.{Entry}
-use Rattle.book.specs.declared.entries.Entry.TheVariants as entry
 
 -- so many at the most
 abbrev pub most_unanswered : ℕ
 most_unanswered = 1000000
-
--- whether an entry answers a command, or a try of one
-abbrev pub is_answer : Entry → Bool
-is_answer (entry.Do process place cpu frame reply) = true
-is_answer _ = false
 
 -- the count after a step, by the book before it and after it: none where the step answered a command, else one more
 abbrev pub unanswered_after : List Entry → List Entry → ℕ → ℕ

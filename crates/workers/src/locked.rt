@@ -1,32 +1,16 @@
 //! What the lock round a machine holds.
 
 ghost use Rattle.std.specs.Prelude.{◌≡◌, ◌<◌, ◌≤◌, map, IfNone, IfSome};
-ghost use Rattle.std.specs.List.{list_any};
 ghost use Rattle.machine.specs.Turns.{HaveCounted, IsTurn};
-ghost use Rattle.workers.specs.Answers.{is_answer, most_unanswered, unanswered_after};
+ghost use Rattle.workers.specs.Answers.{most_unanswered, unanswered_after};
 ghost use Rattle.workers.specs.Holds.{IsHold};
 
-use book::Entry;
 use machine::{Machine, Turn};
 use std::marker::PhantomData;
 use volumes::Drive;
 
 /// How many steps in a row of a machine answer no command at the most: then its workers leave it. (Source: own.)
 const MOST_UNANSWERED: u32 = 1_000_000;
-
-/// Whether an entry answers a command, or a try of one.
-fn is_answer(entry: &Entry) -> bool
-    ensures { result ≡ is_answer entry.now }
-{
-    matches!(entry, Entry::Do { .. })
-}
-
-/// Whether one of these entries does.
-fn has_answer(entries: &[Entry]) -> bool
-    ensures { result ≡ list_any is_answer entries.now }
-{
-    entries.iter().any(|entry| is_answer(entry))
-}
 
 /// Which run a machine belongs to: the script of its book, how many processors it has, and what is told of each drive
 /// from its boot on: the lines that name its failing calls, and how many pages the fast store before it holds; and how
@@ -102,9 +86,9 @@ impl<N: Run, D: Drive> Locked<N, D> {
         ensures counted { self.new.unanswered
             ≡ unanswered_after self.old.machine.state.entries self.new.machine.state.entries self.old.unanswered }
     {
-        let before = self.machine.book().entries().len();
+        let before = self.machine.book().len();
         let turn = self.machine.step(cpu);
-        if has_answer(&self.machine.book().entries()[before..]) {
+        if self.machine.book().answers_from(before) {
             self.unanswered = 0;
         } else {
             self.unanswered += 1;

@@ -9,6 +9,6 @@ returns-clause-drawn c = record {
   state = c.draw-c.ensures.state;
   its = c.in_ok-step.ensures.processor ∙ c.draw-c.ensures.value ∙ search rules;
   came = subst (λ (b : Bool). CameTo c.came_of.result b c.in_ok-step.step.answer)
-      (answered_is c.args.machine.now c.make_step.new.machine c.len-before.result _ c.has_answered_since-answered.result
-      (search rules) (search rules) c.has_answered_since-answered.ensures) c.came_of.ensures;
+      (answered_is c.args.machine.now c.make_step.new.machine c.len-before.result _ c.answers_from-answered.result
+      (search rules) (search rules) c.answers_from-answered.ensures) c.came_of.ensures;
 }
