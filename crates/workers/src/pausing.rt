@@ -3,9 +3,6 @@
 use std::sync::atomic::{AtomicU32, Ordering};
 use std::thread;
 
-/// The most turns that a worker gives way before it looks again.
-const MOST_TURNS: u32 = 64;
-
 /// What ends the rest of the workers: it is rung where each processor has something to drop.
 #[derive(Drop)]
 pub(crate) struct Bell {
@@ -43,17 +40,9 @@ impl Pause {
         Pause { turns: 1 }
     }
 
-    /// Lets other threads go first, so many times, and the next time twice as often.
-    pub(crate) fn give_way(&mut self) {
-        for _ in 0..self.turns {
-            thread::yield_now();
-        }
-        self.turns = self.turns.saturating_mul(2).min(MOST_TURNS);
-    }
-
-    /// The same, but for a bell that was heard so often: once it is rung again the rest is over, and the next one has
-    /// one turn.
-    pub(crate) fn rest(&mut self, bell: &Bell, heard: u32) {
+    /// Lets other threads go first, so many times, and the next time twice as often, up to `most`. Once a bell is rung
+    /// that was heard so often the rest is over, and the next one has one turn.
+    pub(crate) fn rest(&mut self, bell: &Bell, heard: u32, most: u32) {
         for _ in 0..self.turns {
             thread::yield_now();
             if bell.rings() != heard {
@@ -61,6 +50,6 @@ impl Pause {
                 return;
             }
         }
-        self.turns = self.turns.saturating_mul(2).min(MOST_TURNS);
+        self.turns = self.turns.saturating_mul(2).min(most);
     }
 }

@@ -13,21 +13,37 @@ use volumes::Drive;
 /// How often a worker looks whether the lock is free, before it waits for it.
 const LOOKS: u32 = 64;
 
+/// The most turns that a worker gives way before it looks again whether the lock is free.
+const TURNS_FOR_LOCK: u32 = 256;
+
+/// The most turns that a worker gives way before it makes a step again that waited.
+const TURNS_FOR_STEP: u32 = 64;
+
 /// The most steps of a worker. No run comes to so many: at most 100,000 commands are answered in it, and before each,
 /// and after the last, at most 1,000,000 steps in a row answer none.
 const MOST_STEPS: u64 = 100_001_000_000;
 
-/// Takes the lock. Where it isn't free, other threads go first, for longer each time; and after some looks the worker
-/// waits for it.
-fn hold<'a, T, R: Wait>(rt: &R, lock: &'a Mutex<T>) -> MutexGuard<'a, T> {
+/// Waits for a lock that isn't free: other threads go first, for longer each time, until a signal asks each processor to
+/// drop something; and after some looks the worker waits for it.
+#[inline(never)]
+fn wait_for<'a, T, R: Wait>(rt: &R, lock: &'a Mutex<T>, bell: &Bell) -> MutexGuard<'a, T> {
     let mut pause = Pause::new();
     for _ in 0..LOOKS {
+        let heard = bell.rings();
+        pause.rest(bell, heard, TURNS_FOR_LOCK);
         if let Some(guard) = lock.try_lock() {
             return guard;
         }
-        pause.give_way();
     }
     lock.lock(rt)
+}
+
+/// Takes the lock, at once where it is free.
+fn hold<'a, T, R: Wait>(rt: &R, lock: &'a Mutex<T>, bell: &Bell) -> MutexGuard<'a, T> {
+    match lock.try_lock() {
+        Some(guard) => guard,
+        None => wait_for(rt, lock, bell),
+    }
 }
 
 /// Makes steps of processor `cpu`, one a hold of the lock, until its processes have ended, the machine is stopped, or
@@ -43,9 +59,9 @@ pub(crate) fn work<N: Run, D: Drive, G: Gate, R: Threads + Wait + Sync>(
     requires { cpu < N.cpus }
 {
     let mut pause = Pause::new();
+    let mut heard = bell.rings();
     for _ in 0..MOST_STEPS {
-        let heard = bell.rings();
-        let Some(turn) = hold(rt, locked).turn(cpu) else {
+        let Some(turn) = hold(rt, locked, bell).turn(cpu) else {
             break;
         };
         match turn {
@@ -58,7 +74,8 @@ pub(crate) fn work<N: Run, D: Drive, G: Gate, R: Threads + Wait + Sync>(
             }
             Turn::Waits(_) => {
                 gate.hold(rt, cpu, Point::Other);
-                pause.rest(bell, heard);
+                pause.rest(bell, heard, TURNS_FOR_STEP);
+                heard = bell.rings();
             }
             Turn::Ended | Turn::Stopped => break,
         }
