@@ -1,5 +1,17 @@
 -- A number for each uid, of which the first are held and all others are 0.
-use Rattle.quota_cells.proofs.Prelude.{◌≡◌, ℕ, suc, zero, ◌+◌, ◌-◌, ◌<◌, ◌≤◌, List, [], ◌∷◌, ◌++◌, length, replicate, get_or, set, refl, sym, ap, ◌∙◌, arith, append_assoc, length-append, length-replicate, length-set, padded}
+use Rattle.quota_cells.proofs.Prelude.{◌≡◌, ℕ, suc, zero, ◌+◌, ◌-◌, ◌<◌, ◌≤◌, List, [], ◌∷◌, ◌++◌, length, replicate, get_or, set, refl, sym, ap, ◌∙◌, arith, append_assoc, replicate-append-replicate, length-append, length-replicate, length-set, padded}
+
+-- ---- blanks
+
+-- one blank more at the end
+pub blanks_next : {X : Type 0} (xs ys : List X) (n : ℕ) (blank : X)
+    → ys ≡ xs ++ replicate (n - length xs) blank → length xs ≤ n
+    → ys ++ blank ∷ [] ≡ xs ++ replicate (n + 1 - length xs) blank
+blanks_next {X} xs ys n blank is le =
+    let one : (n - length xs) + 1 ≡ n + 1 - length xs = omega (arith, le) in
+    ap (λ (zs : List X). zs ++ blank ∷ []) is ∙ append_assoc xs (replicate (n - length xs) blank) (blank ∷ [])
+    ∙ ap (λ (zs : List X). xs ++ zs) (replicate-append-replicate (n - length xs) 1 blank
+    ∙ ap (λ (k : ℕ). replicate k blank) one)
 
 -- ---- zeros
 
@@ -22,20 +34,6 @@ past_zeros [] n i = zero_at n i
 past_zeros (x ∷ xs) n zero = refl
 past_zeros (x ∷ xs) n (suc i) = past_zeros xs n i
 
-zeros_more : (k m : ℕ) → zeros k ++ zeros m ≡ zeros (k + m)
-zeros_more zero m = let none : m ≡ 0 + m = omega arith in ap zeros none
-zeros_more (suc k) m =
-    let next : suc (k + m) ≡ suc k + m = omega arith in
-    ap (λ (xs : List ℕ). 0 ∷ xs) (zeros_more k m) ∙ ap (λ (n : ℕ). zeros n) next
-
--- one zero more at the end
-pub zeros_next : (xs ys : List ℕ) (n : ℕ) → ys ≡ xs ++ zeros (n - length xs) → length xs ≤ n
-    → ys ++ alone 0 ≡ xs ++ zeros (n + 1 - length xs)
-zeros_next xs ys n is le =
-    let one : (n - length xs) + 1 ≡ n + 1 - length xs = omega (arith, le) in
-    ap (λ (zs : List ℕ). zs ++ alone 0) is ∙ append_assoc xs (zeros (n - length xs)) (alone 0)
-    ∙ ap (λ (zs : List ℕ). xs ++ zs) (zeros_more (n - length xs) 1 ∙ ap (λ (k : ℕ). zeros k) one)
-
 -- ---- what is held is changed
 
 set_front : (xs ys : List ℕ) (i v : ℕ) → i < length xs → set (xs ++ ys) i v ≡ set xs i v ++ ys
@@ -43,11 +41,12 @@ set_front [] ys i v lt = absurd (omega (arith, lt))
 set_front (x ∷ xs) ys zero v lt = refl
 set_front (x ∷ xs) ys (suc i) v lt = ap (λ (zs : List ℕ). x ∷ zs) (set_front xs ys i v (omega (arith, lt)))
 
-set_end : (xs : List ℕ) (p v : ℕ) → p ≡ length xs → set (xs ++ alone 0) p v ≡ xs ++ alone v
-set_end [] zero v e = refl
-set_end [] (suc p) v e = absurd (omega (arith, e))
-set_end (x ∷ xs) zero v e = absurd (omega (arith, e))
-set_end (x ∷ xs) (suc p) v e = ap (λ (zs : List ℕ). x ∷ zs) (set_end xs p v (omega (arith, e)))
+pub set_end : {X : Type 0} (xs : List X) (p : ℕ) (blank v : X) → p ≡ length xs
+    → set (xs ++ blank ∷ []) p v ≡ xs ++ v ∷ []
+set_end [] zero blank v e = refl
+set_end [] (suc p) blank v e = absurd (omega (arith, e))
+set_end (x ∷ xs) zero blank v e = absurd (omega (arith, e))
+set_end {X} (x ∷ xs) (suc p) blank v e = ap (λ (zs : List X). x ∷ zs) (set_end xs p blank v (omega (arith, e)))
 
 pub padded_long : (held : List ℕ) → length held ≤ 100003 → length (padded held) ≡ 100003
 unfolding padded
@@ -65,7 +64,7 @@ pub padded_more : (held : List ℕ) (k : ℕ) → length held + k ≤ 100003 →
 unfolding padded
 padded_more held k le =
     append_assoc held (zeros k) (zeros (100003 - length (held ++ zeros k)))
-    ∙ ap (λ (xs : List ℕ). held ++ xs) (zeros_more k (100003 - length (held ++ zeros k))
+    ∙ ap (λ (xs : List ℕ). held ++ xs) (replicate-append-replicate k (100003 - length (held ++ zeros k)) 0
     ∙ ap (λ (n : ℕ). zeros n) count)
   where
     count : k + (100003 - length (held ++ zeros k)) ≡ 100003 - length held
@@ -84,7 +83,7 @@ padded_set held i v lt = ap (λ (n : ℕ). set held i v ++ zeros (100003 - n)) (
 pub padded_put : (held front : List ℕ) (p v : ℕ) → length held ≤ p → p < 100003
     → front ≡ held ++ zeros (p - length held) → padded (front ++ alone v) ≡ set (padded held) p v
 padded_put held front p v past lt is =
-    ap padded (sym (set_end front p v (sym long))) ∙ padded_set (front ++ alone 0) p v inside
+    ap padded (sym (set_end front p 0 v (sym long))) ∙ padded_set (front ++ alone 0) p v inside
     ∙ ap (λ (xs : List ℕ). set xs p v) (padded_more front 1 (omega (arith, long, lt)) ∙ ap padded is
     ∙ padded_more held (p - length held) (omega (arith, past, lt)))
   where

@@ -1,5 +1,6 @@
 -- Tables by uid: the uids that are there, and what stands beside them.
-use Rattle.quota_cells.proofs.Prelude.{◌≡◌, ℕ, suc, zero, ◌+◌, ◌<◌, ◌≤◌, Bool, true, false, eqb, List, [], ◌∷◌, length, replicate, refl, sym, ap, subst, ◌∙◌, arith, get_or, set, inl, inr, cases_Bool, cases_eq, cases_lt, eq-eqb, ne_eqb, lt-ltb, le-ltb, false_from_ne_true, get_or-set_same, get_or-set_other, look, has, with_value, with_beside, without_beside, IsRising, NumberMap, beside, no_numbers, numbers_of, uids_from, with_uid, without_uid}
+use Rattle.quota_cells.proofs.Prelude.{◌≡◌, ℕ, suc, zero, ◌+◌, ◌-◌, ◌<◌, ◌≤◌, Bool, true, false, eqb, List, [], ◌∷◌, ◌++◌, length, length-append, length-replicate, replicate, refl, sym, ap, subst, ◌∙◌, arith, get_or, set, inl, inr, cases_Bool, cases_eq, cases_lt, eq-eqb, ne_eqb, lt-ltb, le-ltb, false_from_ne_true, get_or-set_same, get_or-set_other, look, has, with_value, with_beside, without_beside, IsRising, NumberMap, beside, no_numbers, numbers_of, uids_from, with_uid, without_uid}
+use Rattle.quota_cells.proofs.PadLaws.{blanks_next, set_end}
 
 -- ---- uids in order, none below this one
 
@@ -67,10 +68,13 @@ pub past_absent : (bs : List Bool) (u : ℕ) → length bs ≤ u → has (uids_f
 past_absent bs u le = false_from_ne_true (has (uids_from 0 bs) u)
     (λ is. (let lt : u < length bs = there_within bs u is in omega arith))
 
-none_from : (n f : ℕ) → uids_from f (replicate n false) ≡ []
+-- no uid is there after those that the table holds
+none_past : (bs : List Bool) (f n : ℕ) → uids_from f (bs ++ replicate n false) ≡ uids_from f bs
 unfolding uids_from
-none_from zero f = refl
-none_from (suc n) f = none_from n (f + 1)
+none_past [] f zero = refl
+none_past [] f (suc n) = none_past [] (f + 1) n
+none_past (true ∷ bs) f n = ap (λ (ks : List ℕ). f ∷ ks) (none_past bs (f + 1) n)
+none_past (false ∷ bs) f n = none_past bs (f + 1) n
 
 first_beside : (f x : ℕ) (ks : List ℕ) → Rises f ks → x < f → x ∷ ks ≡ with_beside ks ks x x
 first_beside f x [] r lt = refl
@@ -191,8 +195,9 @@ module _ (table ks : List ℕ) (up : IsRising ks) where
 abbrev both : List ℕ → List ℕ → NumberMap
 both uids values = record { uids = uids; values = values }
 
-pub blank : (bs : List Bool) (values : List ℕ) → bs ≡ replicate 100003 false → numbers_of bs values ≡ no_numbers
-blank bs values is = ap (λ (ks : List ℕ). both ks (beside values ks)) (ap (uids_from 0) is ∙ none_from 100003 0)
+pub blank : (bs : List Bool) (values : List ℕ) → bs ≡ [] → numbers_of bs values ≡ no_numbers
+unfolding uids_from
+blank bs values is = ap (λ (ks : List ℕ). both ks (beside values ks)) (ap (uids_from 0) is)
 
 module _ (bs : List Bool) (values : List ℕ) (now : NumberMap) (view : numbers_of bs values ≡ now) where
   abbrev us : List ℕ
@@ -223,6 +228,36 @@ module _ (bs : List Bool) (values : List ℕ) (now : NumberMap) (view : numbers_
       (uid_entered bs u lt (absent_now u off))
       ∙ ap (both (with_beside us us u u)) (entered_in_order values us (uids_rise bs) u (absent_now u off) in_values)
       ∙ ap (λ (m : NumberMap). with_uid m u) view
+
+  -- of a uid after those that the table holds
+  pub number_reached : (front : List Bool) (u : ℕ) → has now.uids u ≡ false → length bs ≤ u
+      → front ≡ bs ++ replicate (u - length bs) false → u < length values
+      → numbers_of (front ++ true ∷ []) (set values u 0) ≡ with_uid now u
+  number_reached front u off past is in_values = ap (λ (ks : List ℕ). both ks (beside (set values u 0) ks))
+      (ap (uids_from 0) grown ∙ uid_entered wide u in_wide (ap (λ (ks : List ℕ). has ks u) same ∙ absent_now u off)
+      ∙ ap (λ (ks : List ℕ). with_beside ks ks u u) same)
+      ∙ ap (both (with_beside us us u u)) (entered_in_order values us (uids_rise bs) u (absent_now u off) in_values)
+      ∙ ap (λ (m : NumberMap). with_uid m u) view
+    where
+      wide : List Bool
+      wide = front ++ false ∷ []
+
+      long : length front ≡ u
+      long =
+          let all = ap length is ∙ length-append bs (replicate (u - length bs) false) in
+          let many = length-replicate (u - length bs) false in
+          omega (arith, all, many, past)
+
+      in_wide : u < length wide
+      in_wide =
+          let all : length wide ≡ length front + 1 = length-append front (false ∷ []) in
+          omega (arith, all, long)
+
+      same : uids_from 0 wide ≡ us
+      same = ap (uids_from 0) (blanks_next bs front u false is past) ∙ none_past bs 0 (u + 1 - length bs)
+
+      grown : front ++ true ∷ [] ≡ set wide u true
+      grown = sym (set_end front u false true (sym long))
 
   pub number_left : (p u : ℕ) → p ≡ u → has now.uids u ≡ true → numbers_of (set bs p false) values
       ≡ without_uid now u

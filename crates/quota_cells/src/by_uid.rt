@@ -54,21 +54,21 @@ impl ByUid {
         if uid < self.held.len() {
             self.held[uid] = number;
         } else {
-            reach(&mut self.held, uid);
+            reach(&mut self.held, uid, 0);
             self.held.push_reserved(number);
         }
     }
 }
 
-/// Holds the numbers before a uid: each that wasn't is 0.
-fn reach(held: &mut Vec<u32>, uid: usize)
+/// Holds what stands before a uid: each that wasn't held is blank.
+pub(crate) fn reach<T: Copy>(held: &mut Vec<T>, uid: usize, blank: T)
     requires few { length held.old.items ≤ uid }
     requires room { uid < vec_capacity held.old }
-    ensures numbers { held.new.items ≡ held.old.items ++ replicate (uid - length held.old.items) 0 }
+    ensures items { held.new.items ≡ held.old.items ++ replicate (uid - length held.old.items) blank }
     ensures size { vec_len held.new ≡ uid }
     ensures capacity { vec_capacity held.new ≡ vec_capacity held.old }
 {
     for _ in held.len()..uid {
-        held.push_reserved(0);
+        held.push_reserved(blank);
     }
 }

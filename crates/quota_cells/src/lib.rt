@@ -7,7 +7,8 @@
 //! or added there, and no page is counted again.
 //!
 //! Costs: `new` takes all memory, once: room for 100,003 uids, 9 bytes for each as a directory and 5 as a segment, in
-//! tables by uid. Of these it writes whether a uid is there; a number is written once it or that of a later uid is set.
+//! tables by uid. It writes none of it but what is the root's; what stands beside a uid is written once it or that of a
+//! later uid is set.
 //! A look-up reads a table or two. To go up is to read the directories above a node from the tree, at most 9 with one
 //! look-up each, and to look their cells up to the first account. `credit` goes up once from the segment, for one page
 //! or for many, and `charge` reads what is above it once, and looks it up twice: to see whether the account is full,

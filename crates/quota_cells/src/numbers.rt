@@ -5,7 +5,7 @@ ghost use Rattle.quota_cells.specs.Accounts.{has, look, with_value};
 ghost use Rattle.quota_cells.specs.Cells.{IsRising};
 ghost use Rattle.quota_cells.specs.Columns.{no_numbers, with_uid, without_uid};
 
-use crate::by_uid::ByUid;
+use crate::by_uid::{ByUid, reach};
 use dir_tree::UIDS;
 use std::alloc::{AllocError, Global};
 use std::marker::Model;
@@ -13,21 +13,21 @@ use std::marker::Model;
 /// Some of the uids that a tree can have, and a number beside each.
 #[derive(Drop)]
 pub(crate) struct Numbers {
-    /// Whether a uid is one of them.
+    /// Whether a uid is one of them, for those up to the last that ever was.
     there: Vec<bool>,
     /// The number of each; what stands beside any other uid means nothing.
     values: ByUid,
 }
 
 impl Model for Numbers {
-    ghost use Rattle.std.specs.Prelude.{◌≡◌, vec_len};
+    ghost use Rattle.std.specs.Prelude.{◌≤◌, vec_capacity, vec_len};
     ghost use Rattle.quota_cells.specs.Columns.{NumberMap, numbers_of};
 
     ghost Value = { NumberMap };
 
     ghost view = { λ n. numbers_of n.there.items n.values };
 
-    ghost invariant = { λ n. vec_len n.there ≡ 100003 };
+    ghost invariant = { λ n. (vec_len n.there ≤ 100003) × (100003 ≤ vec_capacity n.there) };
 }
 
 impl Numbers {
@@ -35,7 +35,7 @@ impl Numbers {
     pub(crate) fn new(alloc: Global) -> Result<Numbers, AllocError>
         ensures { IfOk result (λ n. n ≡ no_numbers) }
     {
-        let there = vec![in alloc; false; UIDS as usize]?;
+        let there = Vec::with_capacity(alloc, UIDS as usize)?;
         let values = ByUid::new(alloc)?;
         Ok(Numbers { there, values })
     }
@@ -44,11 +44,10 @@ impl Numbers {
     pub(crate) fn has(&self, uid: u32) -> bool
         ensures { result ≡ has self.now.uids uid }
     {
-        let there = &self.there;
-        if uid >= UIDS {
-            return false;
+        match self.there.get(uid as usize) {
+            Some(there) => *there,
+            None => false,
         }
-        there[uid as usize]
     }
 
     /// Where what is kept of a uid stands in a table by uid.
@@ -97,8 +96,14 @@ impl Numbers {
         ensures numbers { self.new ≡ with_uid self.old uid }
         ensures rising { IsRising self.old.uids }
     {
-        self.there[uid as usize] = true;
-        self.values.put(uid as usize, 0);
+        let place = uid as usize;
+        self.values.put(place, 0);
+        if place < self.there.len() {
+            self.there[place] = true;
+        } else {
+            reach(&mut self.there, place, false);
+            self.there.push_reserved(true);
+        }
     }
 
     /// Drops a uid and its number.

@@ -1,11 +1,11 @@
 use Rattle.quota_cells.proofs.Prelude.{◌≤◌, ◌∙◌, length, arith}
-use Rattle.quota_cells.proofs.PadLaws.{zeros_next}
+use Rattle.quota_cells.proofs.PadLaws.{blanks_next}
 use Rattle.quota_cells.proofs.by_uid.reach.Goals as goal
 
 pub loop-preserved : goal.loop-preserved
-loop-preserved c =
+loop-preserved g c =
     let past : length c.args.held.now.items ≤ c.loop.counter = c.loop.invariant.2 in (
-      c.push_reserved.ensures.items ∙ zeros_next _ _ c.loop.counter c.loop.invariant.0 past,
+      c.push_reserved.ensures.items ∙ blanks_next _ _ c.loop.counter c.args.blank c.loop.invariant.0 past,
       c.push_reserved.ensures.capacity ∙ c.loop.invariant.1,
       omega (arith, past),
     )

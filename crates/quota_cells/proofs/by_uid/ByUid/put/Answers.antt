@@ -17,7 +17,7 @@ returns-else-uid-len-clause-number c =
     let past : length c.self.inside.held.items ≤ c.args.uid = grind (arith, common_steps) in
     ap padded c.push_reserved.ensures.items
     ∙ padded_put c.self.inside.held.items c.reach.new.held.items c.args.uid c.args.number past c.requires
-    c.reach.ensures.numbers
+    c.reach.ensures.items
     ∙ ap (λ (xs : List ℕ). set xs c.args.uid c.args.number) c.self.view_is
 
 pub returns-else-uid-len-clause-size : goal.returns-else-uid-len-clause-size

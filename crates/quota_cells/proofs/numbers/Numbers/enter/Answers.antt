@@ -1,16 +1,27 @@
-use Rattle.quota_cells.proofs.Prelude.{ℕ, List, true, set, ap, ◌∙◌, arith, numbers_of}
-use Rattle.quota_cells.proofs.TableLaws.{now_rises, number_entered}
+use Rattle.quota_cells.proofs.Prelude.{◌<◌, ◌≤◌, ◌++◌, ◌∷◌, [], Bool, ℕ, List, length, true, set, ap, ◌∙◌, arith, common_steps, numbers_of}
+use Rattle.quota_cells.proofs.TableLaws.{now_rises, number_entered, number_reached}
 use Rattle.quota_cells.proofs.numbers.Numbers.enter.Goals as goal
 
-pub index_mut-requires : goal.index_mut-requires
-index_mut-requires c = omega (arith, c.requires.bound, c.self.invariant, c.self.inside.there.ok.0)
-
-pub returns-clause-numbers : goal.returns-clause-numbers
-returns-clause-numbers c =
+pub returns-then-place-len-clause-numbers : goal.returns-then-place-len-clause-numbers
+returns-then-place-len-clause-numbers c =
+    let lt : c.args.uid < length c.self.inside.there.items = grind (arith, common_steps) in
     ap (λ (v : List ℕ). numbers_of (set c.self.inside.there.items c.args.uid true) v) c.put.ensures.number
     ∙ number_entered c.self.inside.there.items c.self.inside.values c.args.self.now c.self.view_is c.args.uid
-    c.requires.absent (omega (arith, c.requires.bound, c.self.invariant, c.self.inside.there.ok.0))
+    c.requires.absent lt (omega (arith, c.requires.bound, c.put.ensures.size))
+
+pub returns-then-place-len-clause-rising : goal.returns-then-place-len-clause-rising
+returns-then-place-len-clause-rising c =
+    now_rises c.self.inside.there.items c.self.inside.values c.args.self.now c.self.view_is
+
+pub returns-else-place-len-clause-numbers : goal.returns-else-place-len-clause-numbers
+returns-else-place-len-clause-numbers c =
+    let past : length c.self.inside.there.items ≤ c.args.uid = grind (arith, common_steps) in
+    ap (λ (bs : List Bool). numbers_of bs c.put.new.self) c.push_reserved.ensures.items
+    ∙ ap (λ (v : List ℕ). numbers_of (c.reach.new.held.items ++ true ∷ []) v) c.put.ensures.number
+    ∙ number_reached c.self.inside.there.items c.self.inside.values c.args.self.now c.self.view_is
+    c.reach.new.held.items c.args.uid c.requires.absent past c.reach.ensures.items
     (omega (arith, c.requires.bound, c.put.ensures.size))
 
-pub returns-clause-rising : goal.returns-clause-rising
-returns-clause-rising c = now_rises c.self.inside.there.items c.self.inside.values c.args.self.now c.self.view_is
+pub returns-else-place-len-clause-rising : goal.returns-else-place-len-clause-rising
+returns-else-place-len-clause-rising c =
+    now_rises c.self.inside.there.items c.self.inside.values c.args.self.now c.self.view_is

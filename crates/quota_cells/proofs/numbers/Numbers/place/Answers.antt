@@ -8,7 +8,7 @@ returns-clause-within c =
     there_within c.self.inside.there.items c.args.uid
     (there_now c.self.inside.there.items c.self.inside.values c.args.self.now c.self.view_is c.args.uid
     c.requires) in
-    omega (arith, within, c.self.invariant, c.self.inside.there.ok.0)
+    omega (arith, within, c.self.invariant.0, c.self.inside.there.ok.0)
 
 pub returns-clause-rising : goal.returns-clause-rising
 returns-clause-rising c = now_rises c.self.inside.there.items c.self.inside.values c.args.self.now c.self.view_is
