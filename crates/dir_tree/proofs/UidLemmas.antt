@@ -1,15 +1,20 @@
 -- The table of places by uid, and the places that stand in it.
-use Rattle.dir_tree.proofs.Prelude.{◌≡◌, ◌≢◌, ℕ, zero, suc, ◌+◌, ◌<◌, ◌≤◌, eqb, true, false, List, [], ◌∷◌, ◌++◌, length, set, get_or, replicate, refl, sym, ap, subst, ◌∙◌, arith, inl, inr, remove, cases_eq, eq-eqb, ne_eqb, get_or-set_same, get_or-set_other, length-set, get_or_read, get_or-replicate, length-replicate, length_push, Entry, no_entry, entry_at, listed, recounted, IsAscending, IsListed, taken, IsTabled, IsRemoved}
+use Rattle.dir_tree.proofs.Prelude.{◌≡◌, ◌≢◌, ℕ, zero, suc, ◌+◌, ◌-◌, ◌<◌, ◌≤◌, eqb, true, false, List, [], ◌∷◌, ◌++◌, length, set, get_or, replicate, refl, sym, ap, subst, ◌∙◌, arith, inl, inr, ◌⊎◌, remove, cases_eq, eq-eqb, ne_eqb, cases_lt, get_or_append_left, get_or-set_same, get_or-set_other, length-set, get_or_read, append_assoc, replicate-append-replicate, get_or-replicate, length-append, length-replicate, length_push, Entry, no_entry, entry_at, listed, recounted, IsAscending, IsListed, taken, IsTabled, IsRemoved}
 use Rattle.dir_tree.proofs.SlotLemmas.{listed_at, length_listed, place_listed, remove_listed, set_listed, still_listed, more_listed, push_listed, less_listed}
 use Rattle.dir_tree.proofs.EditLemmas.{fewer}
 use Rattle.dir_tree.proofs.CountLemmas.{count_set}
 
 -- ---- what is taken
 
-pub taken_blank : (n : ℕ) → taken (replicate n 65535) ≡ []
+-- nothing is taken past the uids that the table holds
+pub taken_past : (t : List ℕ) (n : ℕ) → taken (t ++ replicate n 65535) ≡ taken t
 unfolding taken
-taken_blank zero = refl
-taken_blank (suc n) = taken_blank n
+taken_past [] zero = refl
+taken_past [] (suc n) = taken_past [] n
+taken_past (p ∷ t) n = elim (cases_eq p 65535) [
+  | inl none ↦ rw (eq-eqb p 65535 none) (taken_past t n)
+  | inr is ↦ rw (ne_eqb p 65535 is) (ap (λ (ps : List ℕ). p ∷ ps) (taken_past t n))
+]
 
 taken_none : (t : List ℕ) → ((v : ℕ) → v < length t → get_or t v 0 ≡ 65535) → taken t ≡ []
 unfolding taken
@@ -257,24 +262,62 @@ module _ {slots : List Entry} {table : List ℕ} (l : IsListed slots (taken tabl
 
 -- ---- as the calls leave them
 
-blank_at : (n u none : ℕ) → u < length (replicate n none) → get_or (replicate n none) u 0 ≡ none
-blank_at n u none lt = (let m = length-replicate n none in get_or-replicate n u none 0 (omega arith))
+-- a uid more that is nowhere
+pub nowhere_next : (xs ys : List ℕ) (n : ℕ) → ys ≡ xs ++ replicate (n - length xs) 65535 → length xs ≤ n
+    → ys ++ 65535 ∷ [] ≡ xs ++ replicate (n + 1 - length xs) 65535
+nowhere_next xs ys n is le =
+    let one : (n - length xs) + 1 ≡ n + 1 - length xs = omega (arith, le) in
+    ap (λ (zs : List ℕ). zs ++ 65535 ∷ []) is ∙ append_assoc xs (replicate (n - length xs) 65535) (65535 ∷ [])
+    ∙ ap (λ (zs : List ℕ). xs ++ zs) (replicate-append-replicate (n - length xs) 1 65535
+    ∙ ap (λ (k : ℕ). replicate k 65535) one)
 
-pub blank_listed : (slots : List Entry) (table : List ℕ) → length slots ≡ 4097 → table ≡ replicate 100003 65535
+-- how many uids the table holds by then
+pub reached : (table wide : List ℕ) (uid : ℕ) → wide ≡ table ++ replicate (uid + 1 - length table) 65535
+    → length wide ≡ length table + (uid + 1 - length table)
+reached table wide uid is =
+    let all = ap length is ∙ length-append table (replicate (uid + 1 - length table) 65535) in
+    let many = length-replicate {A = ℕ} (uid + 1 - length table) 65535 in
+    omega (arith, all, many)
+
+pub blank_taken : (table : List ℕ) → table ≡ [] → taken table ≡ []
+unfolding taken
+blank_taken table is = ap taken is
+
+pub blank_listed : (slots : List Entry) (table : List ℕ) → length slots ≡ 4097 → table ≡ []
     → IsListed slots (taken table)
-blank_listed slots table size is = subst (IsListed slots) (sym (ap taken is ∙ taken_blank 100003)) (record {
+blank_listed slots table size is = subst (IsListed slots) (sym (blank_taken table is)) (record {
   size = size;
   within = λ i lt. absurd (omega arith);
   places = λ i lt. absurd (omega arith);
   apart = λ i j lt in_j. absurd (omega arith);
 })
 
-pub blank_tabled : (slots : List Entry) (table : List ℕ) → table ≡ replicate 100003 65535 → IsTabled slots table
-blank_tabled slots table is = subst (IsTabled slots) (sym is)
-    (record { uids = λ u lt some. absurd (some (blank_at 100003 u 65535 lt)) })
+pub blank_tabled : (slots : List Entry) (table : List ℕ) → table ≡ [] → IsTabled slots table
+blank_tabled slots table is = subst (IsTabled slots) (sym is) (record { uids = λ u lt some. absurd (omega arith) })
 
-pub blank_taken : (table : List ℕ) → table ≡ replicate 100003 65535 → taken table ≡ []
-blank_taken table is = ap taken is ∙ taken_blank 100003
+-- the uids that the table holds from then on are nowhere
+past_tabled : (slots : List Entry) (table : List ℕ) (n : ℕ) → IsTabled slots table
+    → IsTabled slots (table ++ replicate n 65535)
+past_tabled slots table n t = record { uids = λ u lt some. held u lt some (cases_lt u (length table)) }
+  where
+    blanks : List ℕ
+    blanks = replicate n 65535
+
+    blank_at : (m u none : ℕ) → u < length (replicate m none) → get_or (replicate m none) u 0 ≡ none
+    blank_at m u none lt = (let l = length-replicate m none in get_or-replicate m u none 0 (omega arith))
+
+    nowhere : (ps : List ℕ) (u : ℕ) → length ps ≤ u → u < length (ps ++ blanks) → get_or (ps ++ blanks) u 0 ≡ 65535
+    nowhere [] u past lt = blank_at n u 65535 lt
+    nowhere (p ∷ ps) zero past lt = absurd (omega (arith, past))
+    nowhere (p ∷ ps) (suc u) past lt = nowhere ps u (omega (arith, past)) (omega (arith, lt))
+
+    held : (u : ℕ) → u < length (table ++ blanks) → get_or (table ++ blanks) u 0 ≢ 65535
+        → (u < length table) ⊎ (length table ≤ u)
+        → (entry_at slots (get_or (table ++ blanks) u 0)).uid ≡ u
+    held u lt some (inl within) =
+        let same : get_or (table ++ blanks) u 0 ≡ get_or table u 0 = get_or_append_left table blanks 0 u within in
+        ap (λ p. (entry_at slots p).uid) same ∙ t.uids u within (λ z. some (same ∙ z))
+    held u lt some (inr past) = absurd (some (nowhere table u past lt))
 
 module _ {slots : List Entry} {table : List ℕ} (l : IsListed slots (taken table)) (t : IsTabled slots table)
     (now : List Entry) (view : listed slots (taken table) ≡ now) where
@@ -343,3 +386,22 @@ module _ {slots : List Entry} {table : List ℕ} (l : IsListed slots (taken tabl
         ∙ ap (entry_at slots) (sym here.2) in
         subst (λ (es : List Entry). IsRemoved es uid x (listed slots (taken (set table uid 65535)))) view
         (removed_entry l t uid here.0 here.1 x own)
+
+-- an entry of a uid that the table holds by then
+module _ {slots : List Entry} {table : List ℕ} (l : IsListed slots (taken table)) (t : IsTabled slots table)
+    (now : List Entry) (view : listed slots (taken table) ≡ now) (n : ℕ) (wide : List ℕ)
+    (is : wide ≡ table ++ replicate n 65535) where
+  same : taken wide ≡ taken table
+  same = ap taken is ∙ taken_past table n
+
+  pub pushed_past : (e : Entry) → e.place < 4097 → ((i : ℕ) → i < length now → (entry_at now i).place ≢ e.place)
+      → e.uid < length wide → ((i : ℕ) → i < length now → (entry_at now i).uid < e.uid)
+      → IsListed (set slots e.place e) (taken (set wide e.uid e.place))
+      × IsTabled (set slots e.place e) (set wide e.uid e.place)
+      × (length (taken (set wide e.uid e.place)) ≡ length (taken table) + 1)
+      × (listed (set slots e.place e) (taken (set wide e.uid e.place)) ≡ now ++ e ∷ [])
+  pushed_past e room new in_table later =
+      let wide_listed = subst (IsListed slots) (sym same) l in
+      let wide_tabled = subst (IsTabled slots) (sym is) (past_tabled slots table n t) in
+      let p = pushed wide_listed wide_tabled now (ap (listed slots) same ∙ view) e room new in_table later in
+      (p.0, p.1, p.2 ∙ ap (λ (ps : List ℕ). length ps + 1) same, p.3)

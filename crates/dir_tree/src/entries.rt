@@ -1,6 +1,6 @@
 //! The nodes by uid: a table of their places, and an entry for each in the slot of its place.
 
-ghost use Rattle.std.specs.Prelude.{◌≡◌, ◌≢◌, ℕ, ◌<◌, ◌≤◌, ◌+◌, ◌-◌, ◌++◌, [], ◌∷◌, length, IsTrue, ◌↔◌, take};
+ghost use Rattle.std.specs.Prelude.{◌≡◌, ◌≢◌, ℕ, ◌<◌, ◌≤◌, ◌+◌, ◌-◌, ◌++◌, [], ◌∷◌, length, replicate, IsTrue, ◌↔◌, take};
 ghost use Rattle.std.specs.Prelude.{if◌then◌else◌, ◌==◌, Option, IfOk, IfSome, IfNone, Some, slice_index};
 ghost use Rattle.std.specs.Prelude.{vec_len, vec_capacity, ◌^◌};
 ghost use Rattle.dir_tree.specs.Index.{node_at};
@@ -38,7 +38,7 @@ const NO_ENTRY: Entry = Entry {
 const NOWHERE: u16 = u16::MAX;
 
 /// Entries in the order of uids: one for each of at most 4097 nodes. An entry stays in the slot of its node's place,
-/// and a table has the place of each uid.
+/// and a table has the place of each uid up to the last that a node ever had.
 #[derive(Drop)]
 pub(crate) struct Entries {
     slots: Vec<Entry>,
@@ -47,7 +47,7 @@ pub(crate) struct Entries {
 }
 
 impl Model for Entries {
-    ghost use Rattle.std.specs.Prelude.{◌≡◌, List, length, vec_len};
+    ghost use Rattle.std.specs.Prelude.{◌≡◌, ◌≤◌, List, length, vec_capacity, vec_len};
     ghost use Rattle.dir_tree.specs.declared.entries.Entry.{Entry};
     ghost use Rattle.dir_tree.specs.Kept.{listed, IsListed};
     ghost use Rattle.dir_tree.specs.Uids.{taken, IsTabled};
@@ -57,7 +57,8 @@ impl Model for Entries {
     ghost view = { λ e. listed e.slots.items (taken e.places.items) };
 
     ghost invariant = { λ e. IsListed e.slots.items (taken e.places.items) × IsTabled e.slots.items e.places.items
-        × (vec_len e.places ≡ 100003) × (e.count ≡ length (taken e.places.items)) };
+        × (vec_len e.places ≤ 100003) × (e.count ≡ length (taken e.places.items))
+        × (100003 ≤ vec_capacity e.places) };
 }
 
 /// Slots that no node has yet, one for each place.
@@ -71,13 +72,24 @@ fn blank_slots(alloc: Global) -> Result<Vec<Entry>, AllocError>
     Ok(slots)
 }
 
+/// Holds a place for each uid up to this one: a uid that had none is nowhere.
+fn reach(places: &mut Vec<u16>, uid: usize)
+    requires { uid < vec_capacity places.old }
+    ensures places { places.new.items ≡ places.old.items ++ replicate (uid + 1 - length places.old.items) 65535 }
+    ensures capacity { vec_capacity places.new ≡ vec_capacity places.old }
+{
+    for _ in places.len()..uid + 1 {
+        places.push_reserved(NOWHERE);
+    }
+}
+
 impl Entries {
     /// No entries, with room for all.
     pub(crate) fn new(alloc: Global) -> Result<Entries, AllocError>
         ensures { IfOk result (λ entries. entries ≡ []) }
     {
         let slots = blank_slots(alloc)?;
-        let places = vec![in alloc; NOWHERE; UIDS as usize]?;
+        let places = Vec::with_capacity(alloc, UIDS as usize)?;
         Ok(Entries {
             slots,
             places,
@@ -98,15 +110,10 @@ impl Entries {
             × ((entry_at self.now i).place ≡ p)) }
         ensures none { IfNone result ((i : ℕ) → i < length self.now → (entry_at self.now i).uid ≢ uid) }
     {
-        let places = &self.places;
-        if uid >= UIDS {
-            return None;
+        match self.places.get(uid as usize) {
+            Some(place) if *place != NOWHERE => Some(*place),
+            _ => None,
         }
-        let place = places[uid as usize];
-        if place == NOWHERE {
-            return None;
-        }
-        Some(place)
     }
 
     /// The entry of `uid`.
@@ -152,6 +159,7 @@ impl Entries {
         ensures { self.new ≡ self.old ++ entry ∷ [] }
     {
         self.slots[entry.place as usize] = entry;
+        reach(&mut self.places, entry.uid as usize);
         self.places[entry.uid as usize] = entry.place;
         self.count += 1;
     }

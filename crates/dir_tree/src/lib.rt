@@ -1,17 +1,17 @@
 //! The directory tree: directories and segments, each a branch of one directory, down from one root (Bensoussan,
 //! Clingen and Daley 1972; Organick 1972). The limits of 4096 branches and eight directories below the root are own.
 //!
-//! Costs: `new` takes all memory, once: room for 4097 nodes, an entry of 20 bytes and a hash of 4 for each, 64 shelves
-//! with room for 4096 places of 2 bytes by superior and name, and a table of the places of 100,003 uids, of 2 bytes
-//! each. A look-up by uid reads the table and the entry. One by superior and name halves one shelf by the hashes of
-//! these: a 64th of the branches stands there as a rule, all of them at most, so it takes about 7 looks, and 13 at
-//! most, whatever the names are. It compares names only where two hashes are the same: for nearly all names once, at
-//! its end. `walk` makes one such look-up for each name. `superiors`, `chain` and the test of depth look one uid up for
-//! each directory above, of which there are at most 9. Each entry counts the nodes that lie in its own, so `may_remove`
-//! makes one look-up by uid. `attach` writes one node in its place, one hash, one entry and its place, counts it in the
-//! entry of its superior, and moves up a part of one shelf; `add_branch` does the same after the look-up of `may_add`.
-//! `remove` takes it from that count, and moves down a part of one shelf, at most 8 KiB: the place of the node is free
-//! from then on. None but `new` takes memory.
+//! Costs: `new` takes all memory, once: room for 4097 nodes, an entry of 20 bytes and a hash of 4 for each, and 64
+//! shelves with room for 4096 places of 2 bytes by superior and name. A table has room for the places of 100,003 uids,
+//! of 2 bytes each, and is written as the uids come. A look-up by uid reads the table and the entry. One by superior
+//! and name halves one shelf by the hashes of these: a 64th of the branches stands there as a rule, all of them at
+//! most, so it takes about 7 looks, and 13 at most, whatever the names are. It compares names only where two hashes are
+//! the same: for nearly all names once, at its end. `walk` makes one such look-up for each name. `superiors`, `chain`
+//! and the test of depth look one uid up for each directory above, of which there are at most 9. Each entry counts the
+//! nodes that lie in its own, so `may_remove` makes one look-up by uid. `attach` writes one node in its place, one
+//! hash, one entry and its place, counts it in the entry of its superior, and moves up a part of one shelf;
+//! `add_branch` does the same after the look-up of `may_add`. `remove` takes it from that count, and moves down a part
+//! of one shelf, at most 8 KiB: the place of the node is free from then on. None but `new` takes memory.
 #![tactic(auto)]
 
 ghost use Rattle.std.specs.Prelude.{◌≡◌, ◌≢◌, ◌<◌, ◌≤◌, ◌+◌, ℕ, Bool, ◌&&◌, nat_le, is_some, true, false, ◌↔◌};

@@ -22,7 +22,7 @@ invariant_of-self c =
     let left = inferiors_changed c.self.invariant.0 c.self.invariant.1 c.args.self.now c.self.view_is c.requires.rising
     c.args.uid c.place_of-place.result c.place_of-place.ensures (λ n. n + 1) c.index_mut.result.now
     c.index_mut.ensures.value in
-    (left.0, left.1, c.self.invariant.2, c.self.invariant.3)
+    (left.0, left.1, c.self.invariant.2, c.self.invariant.3, c.self.invariant.4)
 
 pub returns : goal.returns
 returns c =

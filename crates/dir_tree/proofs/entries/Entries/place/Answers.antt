@@ -1,23 +1,24 @@
-use Rattle.dir_tree.proofs.Prelude.{◌≡◌, sym, ◌∙◌, arith, get_or_read}
+use Rattle.dir_tree.proofs.Prelude.{◌≡◌, ◌<◌, ◌≤◌, length, get_or, sym, ◌∙◌, arith, common_steps, get_or_read}
 use Rattle.dir_tree.proofs.UidLemmas.{place_given, place_absent}
 use Rattle.dir_tree.proofs.entries.Entries.place.Goals as goal
 
-pub index-place-requires : goal.index-place-requires
-index-place-requires c = omega (arith, c.self.invariant.2, c.self.inside.places.ok.0)
+pub returns-in-Some-clause-some : goal.returns-in-Some-clause-some
+returns-in-Some-clause-some c =
+    let within : c.args.uid < length c.self.inside.places.items = grind (arith, common_steps) in
+    let read : c.in-Some.place.now ≡ get_or c.self.inside.places.items c.args.uid c.in-Some.place.now =
+    grind (arith, common_steps) in
+    place_given c.self.invariant.0 c.self.invariant.1 c.args.self.now c.self.view_is c.args.uid c.in-Some.place.now read
+    within c.if-place.true
 
-pub returns-then-uid-ge-UIDS-clause-none : goal.returns-then-uid-ge-UIDS-clause-none
-returns-then-uid-ge-UIDS-clause-none c =
+pub returns-in_default-clause-none : goal.returns-in_default-clause-none
+returns-in_default-clause-none c =
+    let read : c.in-Some.place.now ≡ get_or c.self.inside.places.items c.args.uid c.in-Some.place.now =
+    grind (arith, common_steps) in
+    place_absent c.self.invariant.0 c.self.invariant.1 c.args.self.now c.self.view_is c.args.uid (λ lt.
+    sym (get_or_read c.self.inside.places.items c.args.uid c.in-Some.place.now lt read 0) ∙ c.if-place.false)
+
+pub returns-in_default-2-clause-none : goal.returns-in_default-2-clause-none
+returns-in_default-2-clause-none c =
+    let past : length c.self.inside.places.items ≤ c.args.uid = grind (arith, common_steps) in
     place_absent c.self.invariant.0 c.self.invariant.1 c.args.self.now c.self.view_is c.args.uid
-    (λ lt. absurd (omega (arith, lt, c.self.invariant.2, c.self.inside.places.ok.0)))
-
-pub returns-then-place-clause-none : goal.returns-then-place-clause-none
-returns-then-place-clause-none c =
-    place_absent c.self.invariant.0 c.self.invariant.1 c.args.self.now c.self.view_is c.args.uid
-    (λ lt. (let none : c.index-place.result.now ≡ 65535 = omega arith in
-    sym (get_or_read c.self.inside.places.items c.args.uid c.index-place.result.now lt c.index-place.ensures 0) ∙ none))
-
-pub returns-clause-some : goal.returns-clause-some
-returns-clause-some c =
-    place_given c.self.invariant.0 c.self.invariant.1 c.args.self.now c.self.view_is c.args.uid
-    c.index-place.result.now c.index-place.ensures (omega (arith, c.self.invariant.2, c.self.inside.places.ok.0))
-    (λ z. omega arith)
+    (λ lt. absurd (omega (arith, lt, past)))

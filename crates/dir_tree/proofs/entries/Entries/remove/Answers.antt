@@ -34,6 +34,7 @@ invariant_of-self c =
           c.place_of-place.result at,
       search rules,
       omega (arith, n, c.self.invariant.3),
+      search rules,
     )
 
 pub returns : goal.returns
