@@ -1,8 +1,9 @@
 -- Laws of lines that are followed one after the other.
-use Rattle.lab_runs.proofs.Prelude.{◌≡◌, ◌+◌, ◌<◌, ◌≤◌, ◌/◌, ◌^◌, ◌++◌, ◌∷◌, ℕ, zero, suc, List, [], length, take, drop, get_or, refl, sym, ap, subst, ◌∙◌, arith, All, common_steps, append_assoc, append-nil, take_more, All-append, All-nil, All-push, All-same, mod_below, drawn, Machine, Line, AreFollowed, FollowsOrder, IsAstray, IsFollowed, Strays, StraysIn, drawn_cpus, numbers, rounds, state_after, AreMade, Astray, Step}
+use Rattle.lab_runs.proofs.Prelude.{◌≡◌, ◌+◌, ◌<◌, ◌≤◌, ◌++◌, ◌∷◌, ℕ, zero, suc, List, [], length, take, drop, get_or, refl, sym, ap, subst, ◌∙◌, arith, All, common_steps, append_assoc, append-nil, take_more, All-append, All-nil, All-push, All-same, drawn, Machine, Line, AreFollowed, FollowsOrder, IsAstray, IsFollowed, Strays, StraysIn, drawn_cpus, numbers, rounds, state_after, AreMade, Astray, Step}
 use Rattle.schedule.specs.declared.orders.Order.TheVariants as order
 use Rattle.lab_runs.specs.declared.following.Astray.TheVariants as astray
 use Rattle.lab_runs.proofs.StepLaws.{made_append}
+use Rattle.draws.proofs.Bounds.{drawn_below}
 
 -- one line more
 followed_on : (p : ℕ) (lines : List Line) (line : Line) (old mid new : Machine) (steps more : List Step)
@@ -76,10 +77,6 @@ rounds_below : (p n : ℕ) → All (λ c. c < p) (rounds p n)
 rounds_below p zero = All-nil (λ c. c < p)
 rounds_below p (suc n) = All-append (λ c. c < p) (rounds p n) (numbers p) (rounds_below p n)
     (numbers_below p p (omega arith))
-
-drawn_below : (p x : ℕ) → 0 < p → drawn p x < p
-unfolding drawn
-drawn_below p x pos = mod_below (x / 2 ^ 33) p pos
 
 draws_below : (p seed n : ℕ) → 0 < p → All (λ c. c < p) (drawn_cpus p seed n)
 draws_below p seed zero pos = All-nil (λ c. c < p)

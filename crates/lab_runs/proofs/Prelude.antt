@@ -1,12 +1,11 @@
 -- The names that the proofs of this crate take from elsewhere.
-pub use Rattle.std.proofs.Common.{Bool, Err, List, [], add-one, ap, arith, drop, drop-cons, false, get_or, inl, inr, length, map, refl, rules, subst, suc, sym, take, true, zero, ℕ, ◌++◌, ◌+◌, ◌-◌, ◌/◌, ◌<◌, ◌^◌, ◌∙◌, ◌∷◌, ◌≡◌, ◌≤◌}
+pub use Rattle.std.proofs.Common.{Bool, Err, List, [], add-one, ap, arith, drop, drop-cons, false, get_or, inl, inr, length, map, refl, rules, subst, suc, sym, take, true, zero, ℕ, ◌++◌, ◌+◌, ◌-◌, ◌<◌, ◌^◌, ◌∙◌, ◌∷◌, ◌≡◌, ◌≤◌}
 pub use Rattle.std.proofs.lemmas.Bool.{false≢true}
 pub use Rattle.std.proofs.lemmas.Grind.{common_steps}
 pub use Rattle.std.proofs.lemmas.List.{append-nil, append_assoc, length-append, map-append, replicate_more, take_more}
 pub use Rattle.std.proofs.lemmas.List.Elements.{All-append, All-nil, All-push, All-same}
 pub use Rattle.std.proofs.lemmas.List.Folds.{list_any-append}
 pub use Rattle.std.proofs.lemmas.List.Sums.{sum_by-cons}
-pub use Rattle.std.proofs.lemmas.Nat.{mod_below}
 pub use Rattle.std.specs.List.{flat_map, list_any}
 pub use Rattle.std.specs.Prelude.{All, IfOk, Ok, OnOk, Result, replicate, string_bytes, sum_by}
 unfoldable pub use Rattle.draws.specs.Draws.{drawn, next_state}

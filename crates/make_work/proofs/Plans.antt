@@ -5,7 +5,7 @@ use Rattle.std.proofs.lemmas.Bool.Decides.{nat_tests}
 use Rattle.std.proofs.lemmas.Bool.{and_parts, and_from}
 use Rattle.std.proofs.lemmas.List.Sums.{sum_by-append, sum_by-cons}
 use Rattle.std.specs.List.{list_all}
-use Rattle.draws.specs.Draws.{drawn}
+use Rattle.draws.proofs.Bounds.{drawn_below}
 use Rattle.mnames.specs.Names.{is_label, is_label_byte, is_name, is_name_byte}
 use Rattle.mnames.specs.Principals.{default_project}
 use Rattle.script.specs.Forms.{IsPlan, are_apart, ends_once, is_command, is_end, is_path}
@@ -19,10 +19,6 @@ use Rattle.make_work.specs.Day.{counter, numbered, day_of, initializer, made, ow
 use Rattle.make_work.specs.Day.{user_name, users}
 use Rattle.make_work.specs.References.{reference_at, references, second, third, state_at}
 use Rattle.make_work.proofs.Drawing.{of_each}
-
-drawn_below : (m x : ℕ) → 0 < m → drawn m x < m
-unfolding drawn
-drawn_below m x some = omega arith
 
 -- ---- what holds of each reference
 
