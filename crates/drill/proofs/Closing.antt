@@ -8,6 +8,7 @@ use Rattle.drill.proofs.Sums.{last_sum, ended_sum, range_sum, last_same, last_ra
 use Rattle.drill.proofs.Adds.{AreAdds, adds_reverse, done_adds, adds_all, weigh, weigh_of, weigh_reverse, first_word}
 use Rattle.drill.proofs.Bindings.{bindings_sum, cpus_sum}
 use Rattle.drill.proofs.Parts.{same_ended, touches_at, IsWorkTo, parts_work, made_by_all, parts_sum, count_all, made_missing}
+use Rattle.live_doors.specs.declared.rule.TheConstants.{MOST_CPUS}
 
 map_append : (xs ys : List Made) → map deed (xs ++ ys) ≡ map deed xs ++ map deed ys
 map_append [] ys = refl
@@ -88,7 +89,7 @@ pub record AtClose (pages : PagesModel) (seed adds : ℕ) (ps : List PassModel) 
   pub done : AreDone pages seed adds 0 ps
   pub all : length ps ≡ pages.cpus
   pub some : 0 < pages.frames
-  pub few : (pages.cpus ≤ 8) × (adds ≤ 10000)
+  pub few : (pages.cpus ≤ MOST_CPUS) × (adds ≤ 10000)
   pub count : length left ≡ pages.frames
   pub one_thread : IsOfOneThread pages.cpus shown
   pub after : All (IsLeftAfterAll shown) (all_bindings left shown)

@@ -1,18 +1,15 @@
 -- What the keeper has of each pass once all were taken in.
-use Rattle.drill.proofs.Prelude.{◌≡◌, ◌≢◌, ℕ, ◌+◌, ◌<◌, ◌≤◌, List, [], ◌∷◌, map, set, length, get_or, sym, ap, subst, refl, ◌∙◌, arith, get_or-set_same, get_or-set_other, length-set, Made, Out, In, Holder, PagesModel, PassModel, taking_all_in, touches_in, deed, done, words_to, AreDone, missing, made_count}
+use Rattle.drill.proofs.Prelude.{◌≡◌, ◌≢◌, ℕ, ◌+◌, ◌<◌, ◌≤◌, List, [], ◌∷◌, map, set, length, get_or, sym, ap, subst, refl, ◌∙◌, arith, get_or-set_same, get_or-set_other, Made, Out, In, Holder, PagesModel, PassModel, taking_all_in, touches_in, deed, done, words_to, AreDone, missing, made_count}
 use mathlib.Core.Logic.{dite}
 use native.Mathlib.Decide.{ℕ_discrete}
 use Rattle.drill.proofs.Words.{words_mono}
 use Rattle.drill.proofs.Sums.{last_sum, range_sum, range_same}
 use Rattle.drill.proofs.Adds.{weigh, weigh_done}
+use Rattle.live_pages.proofs.AllIn.{parts_stay}
 
 pub same_ended : (ps : List PassModel) (k : Holder) → (taking_all_in ps k).ended ≡ k.ended
 same_ended [] k = refl
 same_ended (p ∷ ps) k = same_ended ps k
-
-pub same_parts : (ps : List PassModel) (k : Holder) → length (taking_all_in ps k).parts ≡ length k.parts
-same_parts [] k = refl
-same_parts (p ∷ ps) k = length-set (taking_all_in ps k).parts p.walker.walk.cpu (In p.walker.made) ∙ same_parts ps k
 
 -- the touches that the keeper has of a processor
 abbrev pub touches_at : List PassModel → Holder → ℕ → List Made
@@ -21,7 +18,7 @@ touches_at ps k c = touches_in (get_or (taking_all_in ps k).parts c Out)
 part_here : (p : PassModel) (ps : List PassModel) (k : Holder) (c : ℕ) → p.walker.walk.cpu ≡ c → c < length k.parts
     → touches_at (p ∷ ps) k c ≡ p.walker.made
 part_here p ps k c is below =
-    let room : c < length (taking_all_in ps k).parts = (let s = same_parts ps k in omega arith) in
+    let room : c < length (taking_all_in ps k).parts = (let s = parts_stay ps k in omega arith) in
     ap (λ i. touches_in (get_or (set (taking_all_in ps k).parts i (In p.walker.made)) c Out)) is
     ∙ ap touches_in (get_or-set_same (taking_all_in ps k).parts c (In p.walker.made) Out room)
 

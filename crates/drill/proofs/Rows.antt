@@ -149,11 +149,3 @@ done_all pages seed adds ps all count cpu below = (
   λ d.
       (let e = done_at pages seed adds 0 ps all cpu d (omega arith) in omega (arith, e)),
 )
-
-pub first_count : (pages : PagesModel) (n : ℕ) → length (first_passes pages n) ≡ n
-unfolding new_pass
-first_count pages zero = refl
-first_count pages (suc n) =
-    let l = length-append (first_passes pages n) (new_pass pages n ∷ []) in
-    let rest = first_count pages n in
-    omega (arith, l, rest)

@@ -1,5 +1,6 @@
 //! The end of the drill.
 ghost use Rattle.std.specs.Prelude.{◌≡◌, ◌+◌, ◌%◌, ◌^◌, ◌<◌, ◌≤◌, All, length};
+ghost use Rattle.live_doors.specs.declared.rule.TheConstants.{MOST_CPUS};
 ghost use Rattle.live_pages.specs.Models.{IsPassOf};
 ghost use Rattle.drill.specs.Roles.{IsKept, AreDone, IsEnd, missing, first_words, made_count};
 
@@ -31,7 +32,7 @@ pub(crate) fn finish(
     sums: Vec<Word>,
 ) -> Drilled
     requires size { (size.cpus ≡ pages.cpus) × (size.frames ≡ pages.frames) }
-    requires few { (size.cpus ≤ 8) × (size.adds ≤ 10000) × (0 < size.frames) }
+    requires few { (size.cpus ≤ MOST_CPUS) × (size.adds ≤ 10000) × (0 < size.frames) }
     requires kept { IsKept pages kept }
     requires passes { All (IsPassOf pages) row.items }
     requires row { AreDone pages size.seed size.adds 0 row.items × (length row.items ≡ size.cpus) }

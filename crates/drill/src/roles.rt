@@ -1,5 +1,6 @@
 //! The threads of the drill.
 ghost use Rattle.std.specs.Prelude.{◌≡◌, ◌+◌, ◌%◌, ◌^◌, ◌-◌, ◌<◌, ◌≤◌, [], All, vec_len, vec_capacity, IfOk};
+ghost use Rattle.live_doors.specs.declared.rule.TheConstants.{MOST_CPUS};
 ghost use Rattle.live_pages.specs.Models.{IsPassOf, first_passes};
 ghost use Rattle.drill.specs.Roles.{IsKept, RoleFresh, RoleDone, EachRole, AreDone, words_to, missing};
 ghost use Rattle.drill.specs.Roles.{made_count};
@@ -30,7 +31,7 @@ pub(crate) fn seat(
     mut passes: Vec<Pass>,
     kept: Kept,
 ) -> Result<Vec<Role>, AllocError>
-    requires cpus { pages.now.cpus ≤ 8 }
+    requires cpus { pages.now.cpus ≤ MOST_CPUS }
     requires passes { passes.items ≡ first_passes pages.now pages.now.cpus }
     requires passes_of { All (IsPassOf pages.now) passes.items }
     requires kept { IsKept pages.now kept × (kept.keeper.holder.watch.request ≡ 0) }
@@ -134,7 +135,7 @@ pub(crate) fn gather(
     mut roles: Vec<Role>,
     row: &mut Vec<Pass>,
 ) -> (Word, u64)
-    requires size { (size.cpus ≡ pages.now.cpus) × (size.cpus ≤ 8) × (size.adds ≤ 10000) }
+    requires size { (size.cpus ≡ pages.now.cpus) × (size.cpus ≤ MOST_CPUS) × (size.adds ≤ 10000) }
     requires roles { EachRole (RoleDone pages.now size.seed size.adds size.cpus) roles.items }
     requires count { vec_len roles ≡ size.cpus }
     requires row { (row.old.items ≡ []) × (size.cpus ≤ vec_capacity row.old) }

@@ -1,5 +1,6 @@
 //! The whole drill.
 ghost use Rattle.std.specs.Prelude.{◌≡◌, ℕ, ◌+◌, ◌<◌, ◌≤◌, [], All, length, sum, IfOk, vec_len, vec_capacity};
+ghost use Rattle.live_doors.specs.declared.rule.TheConstants.{MOST_CPUS};
 ghost use Rattle.live_pages.specs.Models.{IsKeeperOf, opening_holder};
 ghost use Rattle.live_pages.specs.Ending.{IsOfOneThread, IsLeftAfterAll, all_bindings, in_order, made_by};
 ghost use Rattle.drill.specs.Work.{work_of, AreFirstOf, sums_of};
@@ -50,7 +51,7 @@ fn first_kept(alloc: Global, pages: &LivePages, keeper: Keeper) -> Result<Kept, 
 
 // New pages, to each of which its frame is bound, and the roles of the drill over them.
 fn set_out(alloc: Global, size: Size) -> Result<(LivePages, Vec<Role>), NoMemory>
-    requires cpus { (1 ≤ size.cpus) × (size.cpus ≤ 8) }
+    requires cpus { (1 ≤ size.cpus) × (size.cpus ≤ MOST_CPUS) }
     requires frames { (1 ≤ size.frames) × (size.frames ≤ 64) }
     ensures size { IfOk result (λ made. (made.0.frames ≡ size.frames) × (made.0.cpus ≡ size.cpus)) }
     ensures roles { IfOk result (λ made. EachRole (RoleFresh made.0 size.cpus) made.1.items) }
@@ -74,7 +75,7 @@ fn play_out<R: Threads + Wait + Sync, G: Gate + Sync>(
     sums: Vec<Word>,
 ) -> Drilled
     requires size { (size.cpus ≡ pages.cpus) × (size.frames ≡ pages.frames) }
-    requires few { (size.cpus ≤ 8) × (4 ≤ size.frames) × (size.frames ≤ 64) × (size.adds ≤ 10000) }
+    requires few { (size.cpus ≤ MOST_CPUS) × (4 ≤ size.frames) × (size.frames ≤ 64) × (size.adds ≤ 10000) }
     requires roles { EachRole (RoleFresh pages size.cpus) roles.items × (vec_len roles ≡ size.cpus + 1) }
     requires row { (row.items ≡ []) × (size.cpus ≤ vec_capacity row) }
     ensures end { IsEnd size.cpus size.frames size.adds size.seed result.total result.bindings result.touches
@@ -109,7 +110,7 @@ pub fn drill<R: Threads + Wait + Sync, G: Gate + Sync>(
     seed: u32,
     gate: &G,
 ) -> Result<Drilled, NoMemory>
-    requires cpus { (1 ≤ p) × (p ≤ 8) }
+    requires cpus { (1 ≤ p) × (p ≤ MOST_CPUS) }
     requires frames { (4 ≤ f) × (f ≤ 64) }
     requires adds { (1 ≤ n) × (n ≤ 10000) }
     ensures front { IfOk result (λ d. (cpu : ℕ) → cpu < p →

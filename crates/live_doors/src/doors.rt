@@ -8,6 +8,7 @@ ghost use Rattle.live_doors.specs.Kept.{IsClearOf};
 ghost use Rattle.live_doors.specs.Doors.{IsPassOf, IsKeeperOf, IsAdmitted, OnlyNoted, HasNoted, having_read, holding};
 ghost use Rattle.live_doors.specs.Doors.{forgotten, acknowledged, shut, raised, having_noted, AreNew};
 ghost use Rattle.live_doors.specs.Steps.{door_at, ack_at};
+ghost use Rattle.live_doors.specs.declared.rule.TheConstants.{MOST_CPUS};
 
 use crate::errors::{Behind, Closed, NoMemory};
 use crate::keeper::Keeper;
@@ -61,7 +62,7 @@ impl LiveDoors {
         cpus: u32,
     ) -> Result<(LiveDoors, Keeper, Vec<Pass>), NoMemory>
         requires frames { (1 ≤ frames) × (frames ≤ 1024) }
-        requires cpus { (1 ≤ cpus) × (cpus ≤ 8) }
+        requires cpus { (1 ≤ cpus) × (cpus ≤ MOST_CPUS) }
         ensures { IfOk result (λ made. AreNew frames cpus 1 made.0 made.1 made.2.items) }
     {
         begin(alloc, frames, cpus, 1)
@@ -74,7 +75,7 @@ impl LiveDoors {
         cpus: u32,
     ) -> Result<(LiveDoors, Keeper, Vec<Pass>), NoMemory>
         requires frames { (1 ≤ frames) × (frames ≤ 1024) }
-        requires cpus { (1 ≤ cpus) × (cpus ≤ 8) }
+        requires cpus { (1 ≤ cpus) × (cpus ≤ MOST_CPUS) }
         ensures { IfOk result (λ made. AreNew frames cpus 2 made.0 made.1 made.2.items) }
     {
         begin(alloc, frames, cpus, 2)

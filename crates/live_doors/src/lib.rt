@@ -23,7 +23,7 @@ pub use errors::{Behind, Closed, NoMemory};
 pub use keeper::Keeper;
 pub use pass::Pass;
 pub use rows::Rows;
-pub use rule::{Revocation, Size};
+pub use rule::{MOST_CPUS, Revocation, Size};
 pub use theorems::{may_bind_has_no_holder, never_bound_has_no_holder, noted_is_clear};
 pub use views::{View, Walk, Watch};
 pub use words::{REQUEST, acknowledgement_word, door_word};

@@ -5,6 +5,9 @@ use crate::views::View;
 use atomic_table::{Join, Play, Seat, Split, Table, TableRule};
 use std::alloc::Global;
 
+/// The most processors that share doors. (Source: own.)
+pub const MOST_CPUS: usize = 8;
+
 /// How many frames and processors there are, and the word with which every door begins.
 #[derive(Clone, Copy)]
 pub struct Size {

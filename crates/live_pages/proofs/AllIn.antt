@@ -14,7 +14,7 @@ pub taking_last : (ps : List PassModel) (p : PassModel) (k : Holder) → taking_
 taking_last [] p k = refl
 taking_last (q ∷ qs) p k = ap (taking_in q) (taking_last qs p k)
 
-parts_stay : (ps : List PassModel) (k : Holder) → length (taking_all_in ps k).parts ≡ length k.parts
+pub parts_stay : (ps : List PassModel) (k : Holder) → length (taking_all_in ps k).parts ≡ length k.parts
 parts_stay [] k = refl
 parts_stay (p ∷ ps) k = length-set (taking_all_in ps k).parts p.walker.walk.cpu (In p.walker.made) ∙ parts_stay ps k
 

@@ -9,6 +9,7 @@ use Rattle.live_pages.proofs.Quiet.{InOrder, fills, forgets, acknowledges, close
 use Rattle.live_pages.proofs.Turning.{with_hand, takes_turn, gives_turn, keeper_takes, keeper_gives}
 use Rattle.live_pages.proofs.Changing.{draws, binds}
 use Rattle.live_pages.proofs.Ends.{admits, opens}
+use Rattle.live_doors.specs.declared.rule.TheConstants.{MOST_CPUS}
 
 module _ (z : Size) (slots id : ℕ) (m : Seat) where
   pub fills_at : (f : ℕ) → m ≡ (Passing (walker_of m.0), []) → (walker_of m.0).hand ≡ Free → f < z.frames
@@ -99,7 +100,8 @@ module _ (z : Size) (slots id : ℕ) (m : Seat) (all : slots ≡ z.frames) where
       subst (λ (k : ℕ × ℕ × Seat). Allows (InOrder z) k.0 id k.2 k.1 (λ _. 0)
       (λ _. T (step k.0 k.1 0 0 M.none) k.2 0)) (λ j. (sym all j, sym place j, sym is j))
 
-  pub draws_at : (i f : ℕ) (hd : Held) (page : List ℕ) → m ≡ (Passing (walker_of m.0), (f, Some hd) ∷ []) → z.cpus ≤ 8
+  pub draws_at : (i f : ℕ) (hd : Held) (page : List ℕ) → m ≡ (Passing (walker_of m.0), (f, Some hd) ∷ [])
+      → z.cpus ≤ MOST_CPUS
       → (walker_of m.0).hand ≡ Has f page
       → hd.page ≡ touched hd.touch page → hd.word ≡ answer hd.touch page → length (walker_of m.0).made < 2 ^ 32
       → i ≡ ticket_at z.frames z.cpus → Allows (InOrder z) slots id m i (λ n. (n + 1) % 2 ^ 64)
@@ -249,7 +251,7 @@ same_held {a} {b} e = ap (held_in a) e
 
 module _ (z : Size) (slots id : ℕ) (m : Seat) (all : slots ≡ z.frames) where
   pub draws_in_hand : (i f : ℕ) (w : Walker) (hd : Held) (page : List ℕ) → m ≡ (Passing w, (f, Some hd) ∷ [])
-      → z.cpus ≤ 8 → w.hand ≡ Has f page
+      → z.cpus ≤ MOST_CPUS → w.hand ≡ Has f page
       → hd.page ≡ touched hd.touch page → hd.word ≡ answer hd.touch page → length w.made < 2 ^ 32
       → i ≡ ticket_at z.frames z.cpus → Allows (InOrder z) slots id m i (λ n. (n + 1) % 2 ^ 64)
       (Draws (step slots i 1 0 M.none) m)
@@ -365,7 +367,7 @@ all_first pages (suc n) few = All-append (IsPassOf pages) (first_passes pages n)
     ∷ []) j d)) (sym at) record
     { table = refl; frames = length-replicate pages.frames None; cpu = omega arith; cpus = refl })
 
-first_count : (pages : PagesModel) (n : ℕ) → length (first_passes pages n) ≡ n
+pub first_count : (pages : PagesModel) (n : ℕ) → length (first_passes pages n) ≡ n
 first_count pages zero = refl
 first_count pages (suc n) = let l = length-append (first_passes pages n)
     (record { table = pages.table; walker = first_walker pages.frames pages.cpus n } ∷ [])

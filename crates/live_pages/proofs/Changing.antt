@@ -7,6 +7,7 @@ use lib.ListN.{get_elem?}
 use Rattle.live_pages.proofs.Replay.{own_below, regiven_here, after_here, after_frame, after_else, after_next, regiven, regiven_binding, legal_next, left_next, bindings_stay, left_stays, left_touched, mine_here, mine_else, tickets_fit}
 use Rattle.live_pages.proofs.Quiet.{set_at, InOrder}
 use Rattle.live_pages.proofs.Turning.{has_frame, plan_above, pass_above, holder_stands}
+use Rattle.live_doors.specs.declared.rule.TheConstants.{MOST_CPUS}
 
 module _ (frames cpus : ℕ) (words : List ℕ) where
   -- the touch of the pass in hand goes behind all others
@@ -26,7 +27,7 @@ module _ (frames cpus : ℕ) (words : List ℕ) where
               ∙ sym (after_frame given g (current plan.watch g) e log other),
         )
 
-    pub book_touched : (n : ℕ) → cpus ≤ 8 → n ≡ get_or words (ticket_at frames cpus) 0 → e.ticket ≡ n
+    pub book_touched : (n : ℕ) → cpus ≤ MOST_CPUS → n ≡ get_or words (ticket_at frames cpus) 0 → e.ticket ≡ n
         → e.cpu < plan.watch.made
         → e.binding ≡ current plan.watch e.frame → e.word ≡ answer e.touch (after given e.frame e.binding log)
         → length (mine e.cpu log) < 2 ^ 32 → get_or plan.parts e.cpu Out ≡ Out → (page : List ℕ) (hand : Hand)
@@ -112,7 +113,7 @@ module _ (z : Size) where
       odd : get_or plan.doors f 0 ≡ 2 * b + 1 → b ≡ current plan f
       odd t = omega arith
 
-  pub draws : (id f : ℕ) (w : Walker) (hd : Held) (page : List ℕ) → z.cpus ≤ 8 → w.hand ≡ Has f page → hd.page
+  pub draws : (id f : ℕ) (w : Walker) (hd : Held) (page : List ℕ) → z.cpus ≤ MOST_CPUS → w.hand ≡ Has f page → hd.page
       ≡ touched hd.touch page
       → hd.word ≡ answer hd.touch page → length w.made < 2 ^ 32
       → Allows (InOrder z) z.frames id (Passing w, (f, Some hd) ∷ []) (ticket_at z.frames z.cpus)

@@ -2,6 +2,7 @@
 use Rattle.live_pages.proofs.Prelude.{◌≡◌, ◌≢◌, ℕ, suc, zero, ◌+◌, ◌*◌, ◌^◌, ◌<◌, ◌≤◌, ◌⊎◌, Bool, true, false, cond, eqb, ◌&&◌, List, [], ◌∷◌, length, refl, sym, ap, subst, ◌∙◌, arith, inl, inr, ⊎_elim, suc-mul, mul-le-mul_right, eq-eqb, ne_eqb, Watch, Made, Bound, touched, answer, Given, is_of, touched_if, after, IsLegal, AreBelow, mine, mine_if, current, AreOfBindings, HaveLeft, and_false}
 use mathlib.Core.Logic.{dite}
 use native.Mathlib.Decide.{ℕ_discrete}
+use Rattle.live_doors.specs.declared.rule.TheConstants.{MOST_CPUS}
 
 -- a touch of this binding
 pub after_here : (given : Given) (f b : ℕ) (e : Made) (es : List Made) → e.frame ≡ f → e.binding ≡ b
@@ -223,11 +224,11 @@ count_few zero m es few = omega arith
 count_few (suc n) m es few = let a = count_few n m es few in let b = few n in let c = suc-mul n m in omega arith
 
 -- so the tickets do not wrap
-pub tickets_fit : (cpus : ℕ) (plan : Watch) (es : List Made) → cpus ≤ 8 → AreOfBindings cpus plan es
+pub tickets_fit : (cpus : ℕ) (plan : Watch) (es : List Made) → cpus ≤ MOST_CPUS → AreOfBindings cpus plan es
     → ((cpu : ℕ) → length (mine cpu es) ≤ 2 ^ 32)
-    → length es ≤ 8 * 2 ^ 32
+    → length es ≤ MOST_CPUS * 2 ^ 32
 tickets_fit cpus plan es low ok few =
     let a : count_below cpus es ≤ cpus * 2 ^ 32 = count_few cpus (2 ^ 32) es few in
     let b = count_all cpus plan es ok in
-    let c : cpus * 2 ^ 32 ≤ 8 * 2 ^ 32 = mul-le-mul_right (2 ^ 32) low in
-    let d = le_both c a in subst (λ k. k ≤ 8 * 2 ^ 32) b d
+    let c : cpus * 2 ^ 32 ≤ MOST_CPUS * 2 ^ 32 = mul-le-mul_right (2 ^ 32) low in
+    let d = le_both c a in subst (λ k. k ≤ MOST_CPUS * 2 ^ 32) b d

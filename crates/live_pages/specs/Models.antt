@@ -9,6 +9,7 @@ use Rattle.live_pages.specs.declared.views.Hand.TheVariants.{Free, Has}
 use Rattle.live_pages.specs.declared.views.Part.TheVariants.{In}
 use Rattle.live_pages.specs.declared.views.View.TheVariants.{Passing, Keeping}
 use Rattle.live_doors.specs.Doors.{HasNoted}
+use Rattle.live_doors.specs.declared.rule.TheConstants.{MOST_CPUS}
 use Rattle.live_doors.specs.Beside.{EntryRows, KeeperRows, AreEntriesOf, AreRowsOf}
 use Rattle.live_pages.specs.declared.rule.Held.{Held}
 use Rattle.live_pages.specs.declared.rule.Size.{Size}
@@ -70,7 +71,7 @@ pub record PagesFit (key : Size) (table : TableId) (f c : ℕ) (left : List (Lis
   pub cpus : key.cpus ≡ c
   pub words : table.words ≡ 1 + f + c + (f + 1)
   pub slots : table.slots ≡ f
-  pub few : c ≤ 8
+  pub few : c ≤ MOST_CPUS
   pub empty : left ≡ []
   pub room : f ≤ capacity
 

@@ -1,5 +1,6 @@
 //! The making of pages, keeper and passes.
 ghost use Rattle.std.specs.Prelude.{◌≡◌, ◌+◌, ◌<◌, ◌≤◌, length, replicate, IfOk, OnOk};
+ghost use Rattle.live_doors.specs.declared.rule.TheConstants.{MOST_CPUS};
 ghost use Rattle.live_pages.specs.Turns.{opening_words, first_holder, first_walker, watching};
 ghost use Rattle.live_pages.specs.Models.{HaveZeroPages, IsKeeperOf, first_passes, AreNew};
 
@@ -56,7 +57,7 @@ fn first_slots(alloc: Global, frames: u32) -> Result<Vec<Option<Held>>, AllocErr
 
 // The pages and the keeper, before any pass.
 fn first_keeper(alloc: Global, frames: u32, cpus: u32) -> Result<(LivePages, Keeper), AllocError>
-    requires { cpus ≤ 8 }
+    requires { cpus ≤ MOST_CPUS }
     ensures size { IfOk result (λ made. (made.0.frames ≡ frames) × (made.0.cpus ≡ cpus)) }
     ensures keeper { IfOk result (λ made. made.1
         ≡ record { table = made.0.table; holder = first_holder frames cpus; cleared = 0 }) }
@@ -125,7 +126,7 @@ pub(crate) fn begin(
     frames: u32,
     cpus: u32,
 ) -> Result<(LivePages, Keeper, Vec<Pass>), NoMemory>
-    requires { cpus ≤ 8 }
+    requires { cpus ≤ MOST_CPUS }
     ensures { IfOk result (λ made. AreNew frames cpus made.0 made.1 made.2.items) }
 {
     let (pages, mut keeper) = first_keeper(alloc, frames, cpus)?;

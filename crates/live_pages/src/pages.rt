@@ -5,6 +5,7 @@ ghost use Rattle.live_pages.specs.declared.rule.Held.{Held};
 ghost use Rattle.live_doors.specs.Doors.{HoldsEntry, IsAdmitted, OnlyNoted, HasNoted, MayBind, having_read, holding};
 ghost use Rattle.live_doors.specs.Doors.{forgotten, acknowledged, shut, raised, having_noted};
 ghost use Rattle.live_doors.specs.Steps.{door_at, ack_at};
+ghost use Rattle.live_doors.specs.declared.rule.TheConstants.{MOST_CPUS};
 ghost use Rattle.live_pages.specs.Kept.{IsClearOf, IsCurrent, HasNoHolder};
 ghost use Rattle.live_pages.specs.Touches.{place_of, AreBelow};
 ghost use Rattle.live_pages.specs.Turns.{walking, watching, walker_of, current, binding_at, turn_at, ticket_at};
@@ -61,7 +62,7 @@ impl LivePages {
         cpus: u32,
     ) -> Result<(LivePages, Keeper, Vec<Pass>), NoMemory>
         requires frames { (1 ≤ frames) × (frames ≤ 1024) }
-        requires cpus { (1 ≤ cpus) × (cpus ≤ 8) }
+        requires cpus { (1 ≤ cpus) × (cpus ≤ MOST_CPUS) }
         ensures { IfOk result (λ made. AreNew frames cpus made.0 made.1 made.2.items) }
     {
         begin(alloc, frames, cpus)

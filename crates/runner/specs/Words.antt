@@ -1,6 +1,7 @@
 -- What the program's words ask for. (own)
 use Rattle.std.specs.Prelude.{ℕ, ◌≤◌, ◌&&◌, nat_le, if◌then◌else◌, List, [], ◌∷◌, Option, Some, None, codes}
 use Rattle.std.specs.Str.{bytes_eq}
+use Rattle.live_doors.specs.declared.rule.TheConstants.{MOST_CPUS}
 use Rattle.script.specs.Fields.{number_of}
 use Rattle.runner.specs.declared.words.Form.{Form}
 use Rattle.runner.specs.declared.words.Form.TheVariants as form
@@ -29,12 +30,13 @@ form_of (word ∷ []) =
 form_of (word ∷ number ∷ []) = if bytes_eq word (codes "make") then make_of (number_of number) else None
 form_of (word ∷ p ∷ f ∷ n ∷ seed ∷ []) =
     if bytes_eq word (codes "drill")
-    then drill_of (within 1 8 (number_of p)) (within 4 64 (number_of f)) (within 1 10000 (number_of n)) (number_of seed)
+    then drill_of (within 1 MOST_CPUS (number_of p)) (within 4 64 (number_of f)) (within 1 10000 (number_of n))
+    (number_of seed)
     else None
 form_of _ = None
 
 -- the numbers of a drill are in their ranges
 abbrev pub IsInRange : Form → Type 0
 IsInRange (form.Drill p f n seed) =
-    ((1 ≤ p) × (p ≤ 8)) × ((4 ≤ f) × (f ≤ 64)) × ((1 ≤ n) × (n ≤ 10000))
+    ((1 ≤ p) × (p ≤ MOST_CPUS)) × ((4 ≤ f) × (f ≤ 64)) × ((1 ≤ n) × (n ≤ 10000))
 IsInRange _ = Unit {0}

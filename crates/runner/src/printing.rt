@@ -1,5 +1,6 @@
 ghost use Rattle.std.specs.Prelude.{◌≡◌, ◌≤◌, None, IfOk};
 ghost use Rattle.drill.specs.Texts.{drill_text};
+ghost use Rattle.live_doors.specs.declared.rule.TheConstants.{MOST_CPUS};
 ghost use Rattle.make_work.specs.Day.{made};
 ghost use Rattle.runner.specs.Endings.{change, HasPrinted, Printed, Refuses, Writes};
 ghost use Rattle.runner.specs.Texts.{refusal_text};
@@ -70,7 +71,7 @@ pub(crate) fn run_drill<R: Threads + Wait + Sync, K: Sink, G: Gate + Sync>(
     out: &mut K,
     gate: &G,
 ) -> Finished
-    requires processors { (1 ≤ size.0) × (size.0 ≤ 8) }
+    requires processors { (1 ≤ size.0) × (size.0 ≤ MOST_CPUS) }
     requires frames { (4 ≤ size.1) × (size.1 ≤ 64) }
     requires adds { (1 ≤ size.2) × (size.2 ≤ 10000) }
     ensures printed { Printed result.status

@@ -2,6 +2,7 @@ ghost use Rattle.std.specs.Prelude.{◌≡◌, ◌≤◌, map, IfSome};
 ghost use Rattle.script.specs.Fields.{number_of};
 ghost use Rattle.runner.specs.Words.{form_of, within, IsInRange};
 
+use live_doors::MOST_CPUS;
 use script::read_number;
 use std::marker::Model;
 
@@ -69,7 +70,7 @@ impl Words {
             }
             [word, processors, frames, adds, seed] if word.as_slice() == b"drill".as_slice() => {
                 Some(Form::Drill {
-                    processors: number_within(processors, 1, 8)?,
+                    processors: number_within(processors, 1, MOST_CPUS as u32)?,
                     frames: number_within(frames, 4, 64)?,
                     adds: number_within(adds, 1, 10_000)?,
                     seed: read_number(seed)?,

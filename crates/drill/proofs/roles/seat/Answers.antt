@@ -1,5 +1,6 @@
 use Rattle.drill.proofs.Prelude.{rules, ℕ, ◌+◌, ◌≡◌, length, vec_len, sym, ap, ◌∙◌, arith, first_passes}
-use Rattle.drill.proofs.Rows.{fresh_push, first_count}
+use Rattle.drill.proofs.Rows.{fresh_push}
+use Rattle.live_pages.proofs.Calls.{first_count}
 use Rattle.drill.proofs.roles.seat.Goals as goal
 
 pub loop-pass-init : goal.loop-pass-init
