@@ -4,7 +4,7 @@ use Rattle.page_control.proofs.Pictures.{shown_out, words_by}
 use Rattle.page_control.proofs.Places.{volume_within, home_within, refile, map_refiled, uids_refiled, other_home}
 use Rattle.page_control.proofs.Naming.{filed_unstored, filed_freed, maps_freed}
 use Rattle.page_control.proofs.Marks.{tie_mapped}
-use Rattle.page_control.proofs.Homes.{no_record}
+use Rattle.vtoc.proofs.Table.{no_record}
 use Rattle.page_control.proofs.Counting.{fewer_at, named_less, none_named, named_here}
 
 freed_some : (flags : List Bool) (places : List (Option ℕ)) (place : Option ℕ) (r : ℕ) → place ≡ Some r

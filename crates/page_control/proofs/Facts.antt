@@ -63,7 +63,7 @@ pub seen_same : {X : Type 0} (see : Frame → X) (core : Core) (f : ℕ) (frame 
 seen_same see core f frame same = map-set_same see core.frames f frame Free same
 
 -- a reference through a frame leaves it bound to the same page, or to none
-page_referred : (frame : Frame) (wrote : Bool) → bound_page (after_reference frame wrote) ≡ bound_page frame
+pub page_referred : (frame : Frame) (wrote : Bool) → bound_page (after_reference frame wrote) ≡ bound_page frame
 page_referred Free wrote = refl
 page_referred (Started u q) wrote = refl
 page_referred (Bound u q used modified) wrote = refl

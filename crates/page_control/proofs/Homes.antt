@@ -1,15 +1,11 @@
 -- A segment that gets a home.
-use Rattle.page_control.proofs.Prelude.{◌≡◌, ◌≢◌, ℕ, ◌<◌, replicate, List, [], length, Option, None, Some, refl, sym, ap, ◌∙◌, get_or, set, is_some, inl, inr, IfSome, IfNone, set-get_or, no_records, Entry, records_in, uid_of, fresh_entry, Ptw, Null, Out, ptw_at, Home, used, one_more, after_asked, HasAsked, Plain, bindings, binding_at, disk_of, vtoc_in, frame_of, has_record, uid_at, map_at, IsTableOf, IsMapOf, AreFiled, HasNoFrame, IsBlank, words_at, words_filed, is_filed_at, is_stored, IsTied, KeepsTies, all_same, not_none, off_and_on, put, list_within, put_here, put_other}
+use Rattle.page_control.proofs.Prelude.{◌≡◌, ◌≢◌, ℕ, ◌<◌, replicate, List, [], length, Option, None, Some, refl, sym, ap, ◌∙◌, get_or, set, is_some, inl, inr, IfSome, IfNone, set-get_or, no_records, Entry, records_in, uid_of, fresh_entry, Ptw, Null, Out, ptw_at, Home, used, one_more, after_asked, HasAsked, Plain, bindings, binding_at, disk_of, vtoc_in, frame_of, has_record, uid_at, map_at, IsTableOf, IsMapOf, AreFiled, HasNoFrame, IsBlank, words_at, words_filed, is_filed_at, is_stored, IsTied, KeepsTies, not_none, off_and_on, put, list_within, put_here, put_other}
 use Rattle.page_control.proofs.Places.{at_or_other, other_home}
 use Rattle.page_control.proofs.Pictures.{shown_out, words_by}
 use Rattle.page_control.proofs.Marks.{tie_mapped}
 use Rattle.page_control.proofs.Naming.{filed_mapped}
 use Rattle.page_control.proofs.Counting.{used_more}
-
--- an empty file map names no record
-pub no_record : (q : ℕ) → get_or no_records q None ≡ None
-unfolding no_records
-no_record q = (let none : Option ℕ = None in all_same 256 q none)
+use Rattle.vtoc.proofs.Table.{no_record}
 
 uid_here : (vtocs : List (List (Option Entry))) (v e : ℕ) (x : Option Entry) (other : Home) → v < length vtocs
     → e < length (vtoc_in vtocs v)

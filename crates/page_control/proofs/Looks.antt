@@ -47,7 +47,7 @@ out_full s uid p home t (Out r) tie is out stored all =
     let there = tie.zeros p stored all in
     not_none (frame_of (ptw_at t p)) there.0 (ap frame_of is) (tie.table.named there.0 p there.1)
 
-stored_out : (w : Ptw) → is_out w ≡ true → has_record w ≡ true
+pub stored_out : (w : Ptw) → is_out w ≡ true → has_record w ≡ true
 stored_out Null out = cc
 stored_out (Out r) out = refl
 stored_out (Here f) out = cc

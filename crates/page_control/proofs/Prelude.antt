@@ -13,7 +13,7 @@ pub use Rattle.std.proofs.lemmas.List.Sums.{sum_by-set}
 pub use Rattle.std.specs.List.{position, position_or_len}
 pub use Rattle.std.specs.Prelude.{Err, IfNone, IfOk, IfSome, Ok, OnErr, OnOk, Result}
 pub use Rattle.laws.proofs.Bools.{off_and_on}
-pub use Rattle.laws.proofs.Lists.{all_same, none_put, position_nowhere, within_from}
+pub use Rattle.laws.proofs.Lists.{none_put, position_nowhere, within_from}
 pub use Rattle.laws.proofs.Numbers.{below}
 pub use Rattle.laws.proofs.Options.{map_some, none_there, not_none, some_unwrapped}
 pub use Rattle.laws.proofs.Places.{count_with, count_without, flag_within, list_within, put, put_here, put_other, put_put}

@@ -33,7 +33,7 @@ kept_chosen t old new f i same choice lt = elim choice.turn [
 ]
 
 -- the clock turns off marks, and binds nothing
-page_unmarked : (frame : Frame) → bound_page (unmarked frame) ≡ bound_page frame
+pub page_unmarked : (frame : Frame) → bound_page (unmarked frame) ≡ bound_page frame
 page_unmarked Free = refl
 page_unmarked (Started u q) = refl
 page_unmarked (Bound u q used modified) = refl

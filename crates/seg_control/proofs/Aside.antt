@@ -1,6 +1,7 @@
 -- Volumes that agree but for one home, which the one has free, and which the other uses.
-use Rattle.seg_control.proofs.Prelude.{◌≡◌, ◌≢◌, ◌⊎◌, ℕ, Bool, true, List, [], ◌∷◌, Option, None, Some, refl, sym, ap, ◌∙◌, length, get_or, set, inl, inr, cases_eq, cases_lt, get_or-set_same, get_or-set_other, get_or_past, set_past, in_use, Ptw, VtocEntry, record_at, records_in, Vols, records_at, Home, Plain, KeepsHome, words_at, words_filed, words_out, AreFiled, IsNamed, flags_in, map_at, uid_homed, vtoc_in, IsTied, tie_of_home, words_of_home, Mover, entry_of, mover_map, mover_uid, IsMoving, given_back, undone, AddsRecords, AreKept, flags_given, no_record, entry_within, vtoc_within, gives, home_at, not_none, map_some, off_and_on, put_here, put_other}
+use Rattle.seg_control.proofs.Prelude.{◌≡◌, ◌≢◌, ◌⊎◌, ℕ, Bool, true, List, [], ◌∷◌, Option, None, Some, refl, sym, ap, ◌∙◌, length, get_or, set, inl, inr, cases_eq, cases_lt, get_or-set_same, get_or-set_other, get_or_past, set_past, in_use, Ptw, VtocEntry, record_at, records_in, Vols, records_at, Home, Plain, KeepsHome, words_at, AreFiled, IsNamed, flags_in, map_at, uid_homed, vtoc_in, IsTied, tie_of_home, words_of_home, Mover, entry_of, mover_map, mover_uid, IsMoving, given_back, undone, AddsRecords, AreKept, flags_given, no_record, entry_within, vtoc_within, gives, home_at, not_none, map_some, off_and_on, put_here, put_other}
 use Rattle.vtoc.specs.Vtoc.{entry_at, uid_of}
+use Rattle.page_control.proofs.Pictures.{out_by}
 
 -- ---- records and VTOCs
 
@@ -210,19 +211,12 @@ not_free {less = less} {home = home} a other uid used same =
     not_none (uid_homed less.vtocs home) uid (ap uid_of a.tables.adds.free)
     (ap (uid_homed less.vtocs) (sym same) ∙ used)
 
-out_same : (less more : Plain) (other : Home) (p : ℕ) → more.disks ≡ less.disks
-    → map_at more.vtocs other ≡ map_at less.vtocs other → words_out more other p ≡ words_out less other p
-out_same less more other p disks map =
-    ap (λ (all : List (List (List ℕ))). words_filed (get_or all other.volume [])
-    (get_or (map_at more.vtocs other) p None)) disks
-    ∙ ap (λ (places : List (Option ℕ)). words_filed (get_or less.disks other.volume []) (get_or places p None)) map
-
 pub keeps_more : {less more : Plain} {home : Home} → IsAside less more home → (other : Home) → other ≢ home
     → KeepsHome less more other
 keeps_more {less = less} {more = more} a other ne = record {
   uid = uid_same a other ne;
   map = map_same a other ne;
-  words = λ p. out_same less more other p a.disks (map_same a other ne);
+  words = λ p. out_by less more other p a.disks (map_same a other ne);
   volumes = ap length a.disks;
   records = a.tables.more_filed;
 }
@@ -232,7 +226,7 @@ pub keeps_less : {less more : Plain} {home : Home} → IsAside less more home �
 keeps_less {less = less} {more = more} a other ne = record {
   uid = sym (uid_same a other ne);
   map = sym (map_same a other ne);
-  words = λ p. sym (out_same less more other p a.disks (map_same a other ne));
+  words = λ p. sym (out_by less more other p a.disks (map_same a other ne));
   volumes = ap length (sym a.disks);
   records = a.tables.less_filed;
 }

@@ -1,14 +1,10 @@
 -- What frames are bound to, and what is being read into them.
-use Rattle.seg_control.proofs.Prelude.{◌≡◌, ◌≢◌, ℕ, true, Some, refl, sym, ap, ◌∙◌, get_or-map, same_Some, Core, reads_of, frame_at, is_bound, bound_page, started_page, Frame, Free, Started, Bound, Vols, ActiveSegs, IsActive, Plain, bindings, binding_at, number_in, IsBoundOnce, IsNotStarted, Links, read_at, IsKept}
+use Rattle.seg_control.proofs.Prelude.{◌≡◌, ◌≢◌, ℕ, true, Some, sym, ap, ◌∙◌, get_or-map, same_Some, Core, reads_of, frame_at, is_bound, bound_page, started_page, Frame, Free, Started, Bound, Vols, ActiveSegs, IsActive, Plain, bindings, binding_at, number_in, IsBoundOnce, IsNotStarted, Links, read_at, IsKept}
 use Rattle.page_control.specs.Tied.{uid_in}
+use Rattle.page_control.proofs.Facts.{bound_to as page_of_bound}
 
 pub read_is : (core : Core) (f : ℕ) → read_at (reads_of core) f ≡ started_page (frame_at core f)
 read_is core f = get_or-map started_page core.frames f Free
-
-page_of_bound : (frame : Frame) → is_bound frame ≡ true → bound_page frame ≡ Some (uid_in frame, number_in frame)
-page_of_bound Free e = cc
-page_of_bound (Started u q) e = cc
-page_of_bound (Bound u q used modified) e = refl
 
 -- a bound frame has its page
 pub bound_to : (core : Core) (f : ℕ) → is_bound (frame_at core f) ≡ true → binding_at (bindings core) f
@@ -27,7 +23,7 @@ bound_once {now = now} {ast = ast} {f = f} kept e =
     let table = k.tables active.0 u active.1 in
     record { only = λ g same. same_Some _ _ (sym (table.named g p (same ∙ at)) ∙ table.named f p at) }
 
-started_from : (frame : Frame) (uid p : ℕ) → started_page frame ≡ Some (uid, p) → frame ≡ Started uid p
+pub started_from : (frame : Frame) (uid p : ℕ) → started_page frame ≡ Some (uid, p) → frame ≡ Started uid p
 started_from Free uid p e = cc
 started_from (Started u q) uid p e = same_page u q (same_Some _ _ e)
   where

@@ -2,7 +2,7 @@
 use Rattle.seg_control.proofs.Prelude.{◌≡◌, ◌≢◌, ◌⊎◌, ℕ, List, [], Option, None, Some, refl, sym, ap, subst, ◌∙◌, arith, inl, inr, IfSome, cases_eq, none-some, same_Some, Ptw, least_free_entry, Entry, ActiveSegs, uid_at, table_at, IsActive, Home, Plain, bindings, vtoc_of, uid_of_home, IsTableOf, AreFiled, HasNoFrame, IsBlank, uid_homed, IsTied, KeepsTies, after_asked, erased, Links, IsHomeOf, IsInactive, HasTable, ArePaged, IsKept}
 use Rattle.seg_control.proofs.Calls.{kept_paged}
 
-home_cases : (a b : Home) → (a ≡ b) ⊎ (a ≢ b)
+pub home_cases : (a b : Home) → (a ≡ b) ⊎ (a ≢ b)
 home_cases a b = elim (cases_eq a.volume b.volume) [
   | inl v ↦ elim (cases_eq a.entry b.entry) [
     | inl e ↦ inl (same_home a.volume a.entry b.volume b.entry v e)

@@ -31,7 +31,8 @@ pub use Rattle.core_map.specs.CoreMap.{Core, bound_page, frame_at, is_bound, rea
 pub use Rattle.core_map.specs.declared.Frame.{Frame}
 pub use Rattle.core_map.specs.declared.Frame.TheVariants.{Bound, Free, Started}
 pub use Rattle.volumes.specs.Volumes.{HasParts, KeepsTables, Vols, records_at, vtoc_at, with_page}
-pub use Rattle.seg_mover.proofs.Places.{entry_within, no_record, vols_same, vtoc_within}
+pub use Rattle.seg_mover.proofs.Places.{entry_within, vols_same, vtoc_within}
+pub use Rattle.vtoc.proofs.Table.{no_record}
 pub use Rattle.seg_mover.proofs.Records.{count_given, gives}
 pub use Rattle.seg_mover.specs.Copies.{AreCopied, IsLeastToCopy, after_copy, is_to_copy, moved_on, page_to_copy}
 unfoldable pub use Rattle.seg_mover.specs.Copies.{first_to_copy}

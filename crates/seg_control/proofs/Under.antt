@@ -1,7 +1,8 @@
 -- What is seen of a move that is under way.
-use Rattle.seg_control.proofs.Prelude.{◌≡◌, ℕ, ◌<◌, Bool, false, List, [], length, Option, None, Some, IfSome, refl, sym, ap, ◌∙◌, ◌∷◌, get_or, map, set, get_or-map, length-map, length-set, map-set, set-get_or, Vols, HasParts, ActiveSegs, Paging, plain, Mover, CanBegin, IsMoving, flags_given, Links, IsKeptAtRest, IsUnderWay, at_rest, in_move, volumes_of}
+use Rattle.seg_control.proofs.Prelude.{◌≡◌, ℕ, ◌<◌, Bool, List, [], length, Option, None, Some, IfSome, refl, sym, ap, ◌∙◌, get_or, map, set, get_or-map, length-map, length-set, map-set, set-get_or, Vols, HasParts, ActiveSegs, Paging, plain, Mover, CanBegin, IsMoving, Links, IsKeptAtRest, IsUnderWay, at_rest, in_move, volumes_of}
 use Rattle.seg_mover.specs.Homes.{map_at}
 use Rattle.seg_control.proofs.Resting.{if_moves}
+use Rattle.seg_mover.proofs.Records.{length_given}
 
 -- ---- drives, and their pages in place of them
 
@@ -76,11 +77,6 @@ now_is pages s ast links (Some m) k = λ i. record s {
     vtocs = ap (λ (vols : Vols (List (List ℕ))). vols.vtocs) k.way.begun i;
   };
 }
-
-length_given : (flags : List Bool) (places : List (Option ℕ)) → length (flags_given flags places) ≡ length flags
-length_given flags [] = refl
-length_given flags (None ∷ places) = length_given flags places
-length_given flags (Some r ∷ places) = length_given (set flags r false) places ∙ length-set flags r false
 
 sizes_same : (all : List (List Bool)) (v : ℕ) (flags : List Bool) → length flags ≡ length (get_or all v [])
     → map length (set all v flags) ≡ map length all

@@ -1,7 +1,8 @@
 -- A move that begins, page by page.
 use Rattle.seg_mover.proofs.Prelude.{◌≡◌, ◌≢◌, ℕ, ◌+◌, ◌<◌, Bool, true, cond, List, [], ◌∷◌, ◌++◌, length, Option, None, Some, IsSome, is_some, refl, sym, ap, ◌∙◌, arith, get_or, set, subst, take, drop, count_by, append_assoc, get_or-set_other, set-set, set-get_or, length-set, at_drop_more, drop_all, take_more, take_more_set, take_all, append-nil, sum_by-cons, least_free, IsLeastFree, no_records, Entry, records_in, with_record, fresh_entry, HasFullMaps, IsLeastFreeEntry, Vols, records_at, used_at, vtoc_at, with_record_used, entry_of, map_at, place_at, with_taken, flags_taken, map_taken, CanBegin, begun, entry_for, with_place, page_stored, entry_taken, IsPartBegun, some_number, put, put_here, put_put, list_within, count_with}
 use Rattle.seg_mover.proofs.Records.{least_there, least_is}
-use Rattle.seg_mover.proofs.Places.{no_record, length_no_records, map_placed, records_within, flags_used, vols_same}
+use Rattle.vtoc.proofs.Table.{length_no_records, no_record}
+use Rattle.seg_mover.proofs.Places.{map_placed, records_within, flags_used, vols_same}
 
 -- the home that was taken is there, on another volume than the old one
 pub record CanStore {D : Type 0} (old : Vols D) (from to : ℕ × ℕ) : Type 0 where

@@ -1,17 +1,5 @@
 -- One place of a list of lists, and one entry of the VTOCs.
-use Rattle.seg_mover.proofs.Prelude.{◌≡◌, ℕ, ◌<◌, Bool, [], length, Option, None, Some, IsSome, is_some, refl, ap, ◌∙◌, get_or, set, inl, inr, replicate, get_or-set_same, get_or_past, get_or-replicate, length-replicate, no_records, Entry, records_in, with_record, Vols, records_at, vtoc_at, with_record_used, entry_of, map_at, with_place, below_or_past, put_here, list_within, some_within}
-
--- a file map that names no record
-pub no_record : (p : ℕ) → get_or no_records p None ≡ None
-unfolding no_records
-no_record p = elim (below_or_past p 256) [
-  | inl lt ↦ get_or-replicate 256 p None None lt
-  | inr past ↦ get_or_past (replicate 256 None) p None (rw (length-replicate {A = Option ℕ} 256 None) past)
-]
-
-pub length_no_records : length no_records ≡ 256
-unfolding no_records
-length_no_records = length-replicate {A = Option ℕ} 256 None
+use Rattle.seg_mover.proofs.Prelude.{◌≡◌, ℕ, ◌<◌, Bool, [], length, Option, None, Some, IsSome, is_some, refl, ap, ◌∙◌, set, get_or-set_same, Entry, records_in, with_record, Vols, records_at, vtoc_at, with_record_used, entry_of, map_at, with_place, put_here, list_within, some_within}
 
 pub entry_within : {D : Type 0} (vols : Vols D) (home : ℕ × ℕ) → IsSome (entry_of vols home)
     → home.1 < length (vtoc_at vols home.0)

@@ -1,7 +1,7 @@
 -- The names that the proofs of this crate take from elsewhere.
-pub use Rattle.std.proofs.Common.{All, Bool, Err, IfOk, IfSome, IsSome, List, None, Ok, OnErr, OnOk, Option, Result, Some, [], ap, append_assoc, arith, cond, count_by, drop, false, get_or, inl, inr, is_some, length, map, not, refl, replicate, rules, set, subst, suc, sum_by, sym, take, true, zero, ℕ, ◌&&◌, ◌++◌, ◌+◌, ◌-◌, ◌<◌, ◌∙◌, ◌∷◌, ◌≡◌, ◌≢◌, ◌≤◌, ◌⊎◌}
+pub use Rattle.std.proofs.Common.{All, Bool, Err, IfOk, IfSome, IsSome, List, None, Ok, OnErr, OnOk, Option, Result, Some, [], ap, append_assoc, arith, cond, count_by, drop, false, get_or, inl, inr, is_some, length, map, not, refl, rules, set, subst, suc, sum_by, sym, take, true, zero, ℕ, ◌&&◌, ◌++◌, ◌+◌, ◌-◌, ◌<◌, ◌∙◌, ◌∷◌, ◌≡◌, ◌≢◌, ◌≤◌, ◌⊎◌}
 pub use Rattle.std.proofs.lemmas.Bool.{cases_eq, lt-ltb}
-pub use Rattle.std.proofs.lemmas.List.{append-nil, at_drop_more, drop_all, get_or-map, get_or-replicate, get_or-set_other, get_or-set_same, get_or_past, length-map, length-replicate, length-set, set-get_or, set-set, set_past, take_all, take_more, take_more_set}
+pub use Rattle.std.proofs.lemmas.List.{append-nil, at_drop_more, drop_all, get_or-map, get_or-set_other, get_or-set_same, get_or_past, length-map, length-set, set-get_or, set-set, set_past, take_all, take_more, take_more_set}
 pub use Rattle.std.proofs.lemmas.List.Elements.{All-head, All-tail}
 pub use Rattle.std.proofs.lemmas.List.Quantifiers.{position-Some}
 pub use Rattle.std.proofs.lemmas.List.Sums.{fails_before_first, sum_by-cons, sum_by-set}

@@ -208,7 +208,7 @@ given_at flags (Some s ∷ places) r = elim (given_at (set flags s false) places
     none other n zero is = n (sym (some_same s r is))
     none other n (suc p) is = other p is
 
-length_given : (flags : List Bool) (places : List (Option ℕ)) → length (flags_given flags places) ≡ length flags
+pub length_given : (flags : List Bool) (places : List (Option ℕ)) → length (flags_given flags places) ≡ length flags
 length_given flags [] = refl
 length_given flags (None ∷ places) = length_given flags places
 length_given flags (Some r ∷ places) = length_given (set flags r false) places ∙ length-set flags r false

@@ -38,7 +38,7 @@ named_split line lines write (suc n) =
     let one = either (names write (suc n) line) (list_any (names write (suc n)) lines) in
     omega (arith, ih, one)
 
-named_none : (write : Bool) (n : ℕ) → named_calls [] write n ≡ 0
+pub named_none : (write : Bool) (n : ℕ) → named_calls [] write n ≡ 0
 unfolding named_calls
 named_none write zero = refl
 named_none write (suc n) = let ih = named_none write n in omega (arith, ih)

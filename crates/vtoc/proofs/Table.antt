@@ -158,9 +158,9 @@ map_is_empty records long none =
     (λ p lt. let below : p < 256 = omega (arith, long) in none p
     ∙ sym (get_or-replicate {A = Option ℕ} 256 p None None below))
 
-pub none_named : (p : ℕ) → get_or no_records p None ≡ None
+pub no_record : (p : ℕ) → get_or no_records p None ≡ None
 unfolding no_records
-none_named p = blank 256 p
+no_record p = blank 256 p
 
 pub length_no_records : length no_records ≡ 256
 unfolding no_records
@@ -402,7 +402,7 @@ allocate_empty flags slots table e uid h view least =
     ) in
     record {
       none = λ p. ap (λ (entry : Option Entry). get_or (records_in entry) p None)
-          (get_or-set_same table e (fresh_entry uid) None lt) ∙ none_named p;
+          (get_or-set_same table e (fresh_entry uid) None lt) ∙ no_record p;
     }
 
 -- an entry names no record where its slot's map doesn't
