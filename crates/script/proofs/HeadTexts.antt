@@ -8,6 +8,7 @@ use Rattle.script.proofs.VolumeTexts.{AreVolumes, call_again, call_field, new_na
 use Rattle.script.proofs.SmallLaws.{nil_after, outside, within}
 use Rattle.script.specs.declared.drafts.Stage.TheVariants as stage
 use Rattle.script.specs.declared.plan.Print.TheVariants as print
+use Rattle.script.specs.declared.plan.TheConstants.{MOST_PROCESSORS}
 
 -- ---- the machine
 
@@ -28,15 +29,15 @@ after_machine processors frames pools = record blank {
   plan = record blank.plan { processors = processors; frames = frames; pools = pools };
 }
 
-machine_again : (processors frames a b c d : ℕ) → 1 ≤ processors → processors ≤ 8 → 4 ≤ frames → frames ≤ 1024
-    → ArePools (a ∷ b ∷ c ∷ d ∷ []) → line_at stage.Machine blank (codes "machine")
+machine_again : (processors frames a b c d : ℕ) → 1 ≤ processors → processors ≤ MOST_PROCESSORS → 4 ≤ frames
+    → frames ≤ 1024 → ArePools (a ∷ b ∷ c ∷ d ∷ []) → line_at stage.Machine blank (codes "machine")
     (map decimal (processors ∷ frames ∷ a ∷ b ∷ c ∷ d ∷ []))
     ≡ Ok (after_machine processors frames (a ∷ b ∷ c ∷ d ∷ []))
 unfolding line_at later_at pools_in six_fields four_fields three_fields two_fields one_field next_field no_fields
 machine_again processors frames a b c d p0 p1 f0 f1 h =
     let many : nat_le (a + b + c + d) 1024 ≡ true = grind (arith, nat_tests) in
     rw (
-      number_again 1 8 processors (omega arith) p0 p1,
+      number_again 1 MOST_PROCESSORS processors (omega arith) p0 p1,
       number_again 4 1024 frames (omega arith) f0 f1,
       number_again
           12 1024 a (omega arith) (omega (arith, h)) (omega (arith, h)),
@@ -48,8 +49,8 @@ machine_again processors frames a b c d p0 p1 f0 f1 h =
       many,
     ) refl
 
-pub machine_reaches : (processors frames : ℕ) (pools : List ℕ) → 1 ≤ processors → processors ≤ 8 → 4 ≤ frames
-    → frames ≤ 1024 → ArePools pools → Reaches blank (ended (machine_text processors frames pools))
+pub machine_reaches : (processors frames : ℕ) (pools : List ℕ) → 1 ≤ processors → processors ≤ MOST_PROCESSORS
+    → 4 ≤ frames → frames ≤ 1024 → ArePools pools → Reaches blank (ended (machine_text processors frames pools))
     (after_machine processors frames pools)
 unfolding machine_text
 machine_reaches processors frames [] p0 p1 f0 f1 h = absurd h

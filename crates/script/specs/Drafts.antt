@@ -17,6 +17,7 @@ use Rattle.script.specs.declared.plan.Fail.{Fail}
 use Rattle.script.specs.declared.plan.Print.TheVariants as print
 use Rattle.script.specs.declared.plan.Parts.{Parts}
 use Rattle.script.specs.declared.plan.VolumeLine.{VolumeLine}
+use Rattle.script.specs.declared.plan.TheConstants.{MOST_PROCESSORS}
 
 -- what may stand next; the plan so far; for whom the process runs whose commands stand next, or stood last; and its
 -- commands before its end
@@ -100,7 +101,7 @@ begun d = record { who = d.who; commands = d.list.commands }
 
 -- what the line of the machine and that of the quota give
 pub record AreSizes (cores pages : ℕ) (places : List ℕ) (root : ℕ) : Type 0 where
-  pub processors : (1 ≤ cores) × (cores ≤ 8)
+  pub processors : (1 ≤ cores) × (cores ≤ MOST_PROCESSORS)
   pub frames : (4 ≤ pages) × (pages ≤ 1024)
   pub pools : ArePools places
   pub quota : root ≤ 16384

@@ -12,6 +12,7 @@ use Rattle.script.specs.Plans.{Plan, ProcessPlan}
 use Rattle.script.specs.declared.plan.Bulk.{Bulk}
 use Rattle.script.specs.declared.plan.Fail.{Fail}
 use Rattle.script.specs.declared.plan.VolumeLine.{VolumeLine}
+use Rattle.script.specs.declared.plan.TheConstants.{MOST_PROCESSORS}
 use Rattle.script.specs.declared.commands.Command.{Command}
 use Rattle.script.specs.declared.commands.Command.TheVariants as command
 
@@ -123,7 +124,7 @@ abbrev pub records_of : VolumeLine → ℕ
 records_of v = v.records
 
 pub record IsPlan (p : Plan) : Type 0 where
-  pub processors : (1 ≤ p.processors) × (p.processors ≤ 8)
+  pub processors : (1 ≤ p.processors) × (p.processors ≤ MOST_PROCESSORS)
   pub frames : (4 ≤ p.frames) × (p.frames ≤ 1024)
   pub pools : ArePools p.pools
   pub quota : p.quota ≤ 16384

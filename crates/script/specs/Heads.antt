@@ -15,6 +15,7 @@ use Rattle.script.specs.declared.commands.Command.{Command}
 use Rattle.script.specs.declared.drafts.Stage.{Stage}
 use Rattle.script.specs.declared.drafts.Stage.TheVariants as stage
 use Rattle.script.specs.declared.plan.Fail.{Fail}
+use Rattle.script.specs.declared.plan.TheConstants.{MOST_PROCESSORS}
 use Rattle.script.specs.declared.plan.VolumeLine.{VolumeLine}
 use Rattle.script.specs.declared.refusals.Cause.{Cause}
 use Rattle.script.specs.declared.refusals.Cause.TheVariants as cause
@@ -32,7 +33,7 @@ pools_in first second third last = do
 abbrev pub machine_line : DraftPlan → List (List ℕ) → Result DraftPlan Cause
 machine_line d fields = do
   f ← six_fields fields
-  processors ← number_in 1 8 f.0
+  processors ← number_in 1 MOST_PROCESSORS f.0
   frames ← number_in 4 1024 f.1
   pools ← pools_in f.2 f.3 f.4 f.5
   Ok (record d {

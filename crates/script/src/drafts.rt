@@ -14,7 +14,7 @@ ghost use Rattle.script.specs.declared.commands.Command.TheVariants.{End};
 use crate::command_list::CommandList;
 use crate::commands::{Command, Process};
 use crate::fields::{no_fields, one_field, six_fields, split_field, two_fields};
-use crate::plan::{Bulk, Parts, Print, Script, VolumeLine};
+use crate::plan::{Bulk, MOST_PROCESSORS, Parts, Print, Script, VolumeLine};
 use crate::refusals::{Cause, Refusal};
 use crate::values::{number_in, pools_in, print_in, who_in};
 use crate::volumes::{fail_in, new_volume_in, volume_in};
@@ -161,7 +161,7 @@ impl Draft {
         ensures { Steps self.new result (machine_line self.old (fields_of line.now)) }
     {
         let (processors, frames, four, sixteen, sixty_four, most) = six_fields(line)?;
-        let processors = number_in(processors, 1, 8)?;
+        let processors = number_in(processors, 1, MOST_PROCESSORS as u32)?;
         let frames = number_in(frames, 4, 1024)?;
         let pools = pools_in(four, sixteen, sixty_four, most)?;
         self.parts.processors = processors;

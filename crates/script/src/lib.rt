@@ -18,7 +18,7 @@ mod volumes;
 pub use commands::{Command, Process, RefKind, Reference};
 pub use fields::split_field;
 pub use lines::next_line;
-pub use plan::{Bulk, Fail, Print, Script, VolumeLine};
+pub use plan::{Bulk, Fail, MOST_PROCESSORS, Print, Script, VolumeLine};
 pub use reader::{ScriptFault, read_script};
 pub use refusals::{Cause, Refusal};
 pub use scripts::{NoMemory, each_text_is_read_again, script_text};

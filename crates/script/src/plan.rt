@@ -4,6 +4,9 @@ use crate::commands::{Command, Process};
 use mnames::{Name, Who};
 use std::marker::Model;
 
+/// The most processors of a machine (own).
+pub const MOST_PROCESSORS: usize = 8;
+
 /// A volume of the machine, which keeps segments on a disk (Bensoussan, Clingen and Daley 1972; the
 /// names are those of the later Multics storage system).
 #[derive(Drop)]
